@@ -1050,6 +1050,28 @@ static inline uint32_t linker_utils_get_save_restore_routines(
         machine, index, LINKER_UTILS_SLICE(uint8_t, prefix), prefix_len, prefix_used, run);
 }
 
+uint32_t linker_utils_write_relr_nonnull(
+    const uint64_t *addresses, size_t addresses_len, uint64_t *words, size_t words_len,
+    size_t *needed);
+static inline uint32_t linker_utils_write_relr(
+    const uint64_t *addresses, size_t addresses_len, uint64_t *words, size_t words_len,
+    size_t *needed) {
+    return linker_utils_write_relr_nonnull(
+        LINKER_UTILS_SLICE(const uint64_t, addresses), addresses_len,
+        LINKER_UTILS_SLICE(uint64_t, words), words_len, needed);
+}
+
+uint32_t linker_utils_read_relr_nonnull(
+    const uint64_t *words, size_t words_len, uint64_t *addresses, size_t addresses_len,
+    size_t *needed);
+static inline uint32_t linker_utils_read_relr(
+    const uint64_t *words, size_t words_len, uint64_t *addresses, size_t addresses_len,
+    size_t *needed) {
+    return linker_utils_read_relr_nonnull(
+        LINKER_UTILS_SLICE(const uint64_t, words), words_len,
+        LINKER_UTILS_SLICE(uint64_t, addresses), addresses_len, needed);
+}
+
 uint32_t linker_utils_write_lazy_header_nonnull(
     uint16_t machine, uint64_t header, uint64_t words, uint8_t *bytes, size_t bytes_len);
 static inline uint32_t linker_utils_write_lazy_header(

@@ -36,8 +36,9 @@
            "2^64 - 1 or past the section.") \
     STATUS(NOT_MERGEABLE, 15, \
            "Two deletions overlap or begin at one offset, or one ends past 2^64 - 1.") \
-    STATUS(TOO_LARGE, 17, "The input offset would be past 2^64 - 1.") \
-    STATUS(NOT_ASCENDING, 18, "The queries, or the boundaries, decrease somewhere.") \
+    STATUS(TOO_LARGE, 17, "The input offset, or a bitmap's address, would be past 2^64 - 1.") \
+    STATUS(NOT_ASCENDING, 18, \
+           "The queries, or the boundaries, decrease somewhere, or the addresses do not ascend.") \
     STATUS(DIFFERENT_LENGTHS, 19, "An output array does not have the length that the call takes.") \
     STATUS(OUT_OF_MEMORY, 20, "`malloc` or `realloc` returned null.") \
     STATUS(ULEB128_ENDED, 21, "The bytes end before the ULEB128 number does.") \
@@ -93,7 +94,7 @@
            "No bits are known, or some above bit 63, or there are more bits than are known.") \
     STATUS(NO_ADDRESS, 50, \
            "The relocation's value has no address, or the address is a page's and known from " \
-           "below bit 12.") \
+           "below bit 12, or no address is before the first bitmap.") \
     STATUS(NOT_HALVES, 51, \
            "The low half does not have all bits below those of the high half, without rounding.") \
     STATUS(WINDOW_TOO_LONG, 52, "The original bytes are more than 64.") \
@@ -151,7 +152,8 @@
     STATUS(FACTS_CHANGED, 79, \
            "The facts of the relocation's symbol, or of the output, are not those that were kept.") \
     STATUS(NOT_ALIGNED, 80, \
-           "The code after the nops of an alignment is not aligned: the section was not packed.") \
+           "The code after the nops of an alignment is not aligned: the section was not packed. " \
+           "Or the address is not a multiple of 8.") \
     STATUS(NEEDS_STUB, 81, \
            "The function may return with another TOC pointer, and its symbol has no stub that " \
            "keeps the caller's.") \

@@ -2,7 +2,7 @@
 //! What the library's errors print, and which error is the cause of another.
 
 use crate::elf::{ApplyError, FormulaError, RelocateError, Uleb128PairError, WriteError};
-use crate::output::{RouteError, StubError};
+use crate::output::{RelrError, RouteError, StubError};
 use crate::placement::PlaceError;
 use crate::relaxation::{OutOfMemory, SectionRelaxDeltas};
 use crate::rewriting::{RewritingError, WritingError};
@@ -89,6 +89,20 @@ impl Display for StubError {
         })
     }
 }
+
+impl Display for RelrError {
+    fn fmt(&self, f: &mut Formatter<'_>) -> Result {
+        match self {
+            RelrError::Unaligned => f.write_str("an address is not a multiple of 8"),
+            RelrError::NotAscending => f.write_str("an address is not above the one before it"),
+            RelrError::NoAddress => f.write_str("no address is before the first bitmap"),
+            RelrError::Wraps => f.write_str("an address of a bitmap is past 2^64 - 1"),
+            RelrError::TooShort(needed) => write!(f, "the slice has fewer than {needed}"),
+        }
+    }
+}
+
+impl Error for RelrError {}
 
 impl Display for PlaceError {
     fn fmt(&self, f: &mut Formatter<'_>) -> Result {

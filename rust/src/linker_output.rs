@@ -2,7 +2,7 @@
 // Made by tools/generate of crates/linker_output/src/lib.rt.
 //! What a linker adds to an output, by architecture: the types of dynamic relocations, words of the
 //! GOT, origins of thread-local storage, `e_flags`, lazy PLTs, and the code of stubs; how a branch
-//! goes, and where stubs stand.
+//! goes, and where stubs stand; the words of packed relative relocations.
 
 #[cfg(feature = "aarch64")]
 mod aarch64;
@@ -22,6 +22,7 @@ pub mod placement;
 mod ppc64;
 #[cfg(feature = "riscv64")]
 mod riscv64;
+pub mod relr;
 pub mod routes;
 pub mod stubs;
 #[cfg(feature = "x86_64")]

@@ -2,7 +2,7 @@
 //! What errors print, and their causes.
 
 use linker_utils::elf::{Architecture, RelocateError, Uleb128PairError, WriteError};
-use linker_utils::output::{RouteError, StubError};
+use linker_utils::output::{RelrError, RouteError, StubError};
 use linker_utils::readers::{self, ReadError};
 use linker_utils::relaxation::{OutOfMemory, PackError, RejectedCall, SectionRelaxDeltas};
 use linker_utils::rewriting::{RewritingError, WritingError};
@@ -84,6 +84,15 @@ fn errors_of_stubs_are_printed() {
     let far = StubError::Field(RelocateError::OutOfReach);
     let cause = "the value is out of the relocation's reach";
     assert_eq!(texts(far), ["the stub does not lead to the target", cause]);
+}
+
+#[test]
+fn errors_of_packed_relocations_are_printed() {
+    assert_eq!(texts(RelrError::Unaligned), ["an address is not a multiple of 8"]);
+    assert_eq!(texts(RelrError::NotAscending), ["an address is not above the one before it"]);
+    assert_eq!(texts(RelrError::NoAddress), ["no address is before the first bitmap"]);
+    assert_eq!(texts(RelrError::Wraps), ["an address of a bitmap is past 2^64 - 1"]);
+    assert_eq!(texts(RelrError::TooShort(3)), ["the slice has fewer than 3"]);
 }
 
 #[test]

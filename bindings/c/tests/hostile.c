@@ -1475,6 +1475,51 @@ static void call_join_flags(void) {
     finish_with(status, 0 UNKNOWN OR(DIFFERENT_FLAGS));
 }
 
+/* `needed` is written with LINKER_UTILS_TOO_SHORT too. */
+static void finish_needed(uint32_t status, const size_t *needed, statuses allowed) {
+    struct buffer *buffer = &buffers[used - 1];
+    expect((const void *)needed == buffer->given, "`needed` is the last buffer");
+    if (status == LINKER_UTILS_TOO_SHORT) memcpy(buffer->was, filled(buffer), sizeof *needed);
+    finish_with(status, allowed);
+}
+
+static void call_write_relr(void) {
+    size_t count = any_count();
+    struct buffer *addresses = place(READ, count, sizeof(uint64_t));
+    uint64_t *address = filled(addresses), next = any_number() & ~(uint64_t)7;
+    for (size_t i = 0; i < count; i++) {
+        address[i] = once_in(200) ? any_number() : next;
+        next += 8 + 8 * below(once_in(4) ? 200 : 4);
+    }
+    size_t words_len = once_in(4) ? any_count() : count;
+    struct buffer *words = place(WRITTEN, words_len, sizeof(uint64_t));
+    size_t *needed = output(sizeof *needed);
+    uint32_t status = CALL(write_relr, addresses->given, LEN(addresses, uint64_t), words->given,
+                           LEN(words, uint64_t), needed);
+    if (status == LINKER_UTILS_OK) words->changes_to = *needed * sizeof(uint64_t);
+    expect(status || *needed <= count, "more words than addresses");
+    expect(status != LINKER_UTILS_TOO_SHORT || *needed > words_len, "too short, but for none");
+    finish_needed(status, needed, 0 OR(NOT_ALIGNED) OR(NOT_ASCENDING) OR(TOO_SHORT));
+}
+
+static void call_read_relr(void) {
+    size_t count = any_count();
+    struct buffer *words = place(READ, count, sizeof(uint64_t));
+    uint64_t *word = filled(words);
+    for (size_t i = 0; i < count; i++)
+        word[i] = i == 0 || once_in(4) ? any_number() & ~(uint64_t)(once_in(100) ? 0 : 7)
+                                       : any_number() | 1;
+    size_t most = count < 8 ? 63 * count : any_count();
+    size_t addresses_len = once_in(2) ? any_count() : most;
+    struct buffer *addresses = place(WRITTEN, addresses_len, sizeof(uint64_t));
+    size_t *needed = output(sizeof *needed);
+    uint32_t status = CALL(read_relr, words->given, LEN(words, uint64_t), addresses->given,
+                           LEN(addresses, uint64_t), needed);
+    if (status == LINKER_UTILS_OK) addresses->changes_to = *needed * sizeof(uint64_t);
+    expect(status || *needed <= 63 * count, "more addresses than bits");
+    finish_needed(status, needed, 0 OR(NO_ADDRESS) OR(NOT_ALIGNED) OR(TOO_LARGE) OR(TOO_SHORT));
+}
+
 static void call_output_facts(void) {
     uint16_t machine = any_machine();
     uint32_t flags = (uint32_t)any_number();
@@ -2626,7 +2671,8 @@ static void (*const all[])(void) = {
     call_survey_toc_loads, call_rewrite_toc_loads,
     call_survey_global_pointer, call_rewrite_global_pointer, call_finish_gp_relaxation,
     call_rewrite_placed_section, call_dynamic_types, call_dynamic_name, call_dynamic_words,
-    call_entry_words, call_origins, call_static_words, call_got, call_join_flags,
+    call_entry_words, call_origins, call_static_words, call_got, call_join_flags, call_write_relr,
+    call_read_relr,
     call_output_facts, call_interpreter, call_address_section, call_entry_relocation,
     call_provided_symbol, call_save_restore_routines, call_provided_word, call_stub, call_write_stub,
     call_lazy_plt, call_write_lazy_header, call_write_lazy_entry, call_lazy_words, call_route_at,

@@ -1719,6 +1719,36 @@ pub fn output_flags(architecture: Architecture, joined: u32) -> u32 {
     unsafe { raw::linker_utils_output_flags(architecture.machine(), joined) }
 }
 
+/// The words of a section of type `SHT_RELR` that relocate ascending addresses, multiples of 8: no
+/// fewer words relocate the same.
+pub fn relr_words(addresses: &[u64]) -> Result<Vec<u64>, Status> {
+    let (at, len) = (addresses.as_ptr(), addresses.len());
+    filled_by(|words, room, needed| unsafe {
+        raw::linker_utils_write_relr_nonnull(at, len, words, room, needed)
+    })
+}
+
+/// The addresses that the words of a section of type `SHT_RELR` relocate, in the order of the words.
+pub fn relr_addresses(words: &[u64]) -> Result<Vec<u64>, Status> {
+    let (at, len) = (words.as_ptr(), words.len());
+    filled_by(|addresses, room, needed| unsafe {
+        raw::linker_utils_read_relr_nonnull(at, len, addresses, room, needed)
+    })
+}
+
+/// What a call writes that first says how many numbers it needs.
+fn filled_by(call: impl Fn(*mut u64, usize, &mut usize) -> u32) -> Result<Vec<u64>, Status> {
+    let mut needed = 0;
+    let mut numbers = Vec::new();
+    let status = call(numbers.as_mut_ptr(), 0, &mut needed);
+    if status == Status::TooShort as u32 {
+        numbers.resize(needed, 0);
+        let status = call(numbers.as_mut_ptr(), needed, &mut needed);
+        return result_of(status, numbers);
+    }
+    result_of(status, numbers)
+}
+
 /// The largest page, in bytes, for which an output has to be right.
 pub fn page(architecture: Architecture) -> u64 {
     unsafe { raw::linker_utils_page(architecture.machine()) }

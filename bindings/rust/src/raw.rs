@@ -985,6 +985,20 @@ extern "C" {
         run: *mut SaveRestoreRoutines,
     ) -> u32;
     pub fn linker_utils_provided_word(machine: u16, run: usize, index: u64, word: *mut u32) -> u32;
+    pub fn linker_utils_write_relr_nonnull(
+        addresses: *const u64,
+        addresses_len: usize,
+        words: *mut u64,
+        words_len: usize,
+        needed: *mut usize,
+    ) -> u32;
+    pub fn linker_utils_read_relr_nonnull(
+        words: *const u64,
+        words_len: usize,
+        addresses: *mut u64,
+        addresses_len: usize,
+        needed: *mut usize,
+    ) -> u32;
     pub fn linker_utils_get_lazy_plt(machine: u16, plt: *mut LazyPlt) -> u32;
     pub fn linker_utils_write_lazy_header_nonnull(
         machine: u16,

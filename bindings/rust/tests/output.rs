@@ -51,6 +51,21 @@ fn entries_lead_to_their_symbols() {
 }
 
 #[test]
+fn words_of_packed_relocations_are_those_of_lld() {
+    // ld.lld --pack-dyn-relocs=relr, and llvm-readelf -r
+    let words = [0x2260, 3, 0x8000_0000_0000_0001, 0x8000_0000_0000_0001, 3];
+    let addresses = [0x2260, 0x2268, 0x2650, 0x2848, 0x2850];
+    assert_eq!(relr_words(&addresses).as_deref(), Ok(&words[..]));
+    assert_eq!(relr_addresses(&words).as_deref(), Ok(&addresses[..]));
+    assert_eq!(relr_words(&[]), Ok(vec![]));
+    assert_eq!(relr_words(&[8, 12]), Err(Status::NotAligned));
+    assert_eq!(relr_words(&[16, 8]), Err(Status::NotAscending));
+    assert_eq!(relr_addresses(&[3]), Err(Status::NoAddress));
+    assert_eq!(relr_addresses(&[8, 12]), Err(Status::NotAligned));
+    assert_eq!(relr_addresses(&[0_u64.wrapping_sub(8), 3]), Err(Status::TooLarge));
+}
+
+#[test]
 fn flags_are_joined_or_kept_apart() {
     // EF_RISCV_RVC, and EF_RISCV_FLOAT_ABI_DOUBLE beside none
     assert_eq!(join_flags(RISCV, 5, 4), Ok(5));

@@ -18,6 +18,10 @@ pub mod Ppc64SaveLaws
 pub mod Ppc64StubLaws
 pub mod Ppc64VectorLaws
 pub mod Products
+pub mod RelrFewest
+pub mod RelrLists
+pub mod RelrPacked
+pub mod RelrWords
 pub mod RiscVLazyLaws
 pub mod RiscVStubLaws
 pub mod RouteCases

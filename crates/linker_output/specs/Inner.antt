@@ -1,2 +1,3 @@
 pub mod Placement
+pub mod Relr
 pub mod Routes

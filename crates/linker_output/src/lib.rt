@@ -1,6 +1,6 @@
 //! What a linker adds to an output, by architecture: the types of dynamic relocations, words of the
 //! GOT, origins of thread-local storage, `e_flags`, lazy PLTs, and the code of stubs; how a branch
-//! goes, and where stubs stand.
+//! goes, and where stubs stand; the words of packed relative relocations.
 #![tactic(auto)]
 
 mod aarch64;
@@ -19,6 +19,7 @@ mod loongarch64;
 pub mod placement;
 mod ppc64;
 mod riscv64;
+pub mod relr;
 pub mod routes;
 pub mod stubs;
 mod x86_64;

@@ -21,6 +21,7 @@ mod recognising;
 mod relaxing;
 mod relocate;
 mod relocations;
+mod relr;
 mod rewrites;
 mod rewriting;
 mod routes;

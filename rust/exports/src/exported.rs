@@ -1811,6 +1811,42 @@ unsafe extern "C" fn linker_utils_relocation_name_nonnull(
 }
 
 #[unsafe(no_mangle)]
+unsafe extern "C" fn linker_utils_write_relr_nonnull(
+    addresses: *const u64,
+    addresses_len: usize,
+    words: *mut u64,
+    words_len: usize,
+    needed: *mut usize,
+) -> u32 {
+    // SAFETY: the arguments are as the head of the header says.
+    unsafe {
+        crate::relr::linker_utils_write_relr_nonnull(
+            from_raw_parts(addresses, addresses_len),
+            from_raw_parts_mut(words, words_len),
+            &mut *needed,
+        )
+    }
+}
+
+#[unsafe(no_mangle)]
+unsafe extern "C" fn linker_utils_read_relr_nonnull(
+    words: *const u64,
+    words_len: usize,
+    addresses: *mut u64,
+    addresses_len: usize,
+    needed: *mut usize,
+) -> u32 {
+    // SAFETY: the arguments are as the head of the header says.
+    unsafe {
+        crate::relr::linker_utils_read_relr_nonnull(
+            from_raw_parts(words, words_len),
+            from_raw_parts_mut(addresses, addresses_len),
+            &mut *needed,
+        )
+    }
+}
+
+#[unsafe(no_mangle)]
 unsafe extern "C" fn linker_utils_can_apply_nonnull(
     machine: u16,
     rewrite: u32,

@@ -40,6 +40,7 @@ pub mod recognising;
 pub mod relaxing;
 pub mod relocate;
 pub mod relocations;
+pub mod relr;
 pub mod rewrites;
 pub mod rewriting;
 pub mod routes;

@@ -37,9 +37,9 @@ pub enum Status {
     InvalidDeletions,
     /// Two deletions overlap or begin at one offset, or one ends past 2^64 - 1.
     NotMergeable,
-    /// The input offset would be past 2^64 - 1.
+    /// The input offset, or a bitmap's address, would be past 2^64 - 1.
     TooLarge = 17,
-    /// The queries, or the boundaries, decrease somewhere.
+    /// The queries, or the boundaries, decrease somewhere, or the addresses do not ascend.
     NotAscending,
     /// An output array does not have the length that the call takes.
     DifferentLengths,
@@ -107,7 +107,7 @@ pub enum Status {
     /// No bits are known, or some above bit 63, or there are more bits than are known.
     BadFieldValue,
     /// The relocation's value has no address, or the address is a page's and known from below bit
-    /// 12.
+    /// 12, or no address is before the first bitmap.
     NoAddress,
     /// The low half does not have all bits below those of the high half, without rounding.
     NotHalves,
@@ -170,7 +170,8 @@ pub enum Status {
     StubTooFar,
     /// The facts of the relocation's symbol, or of the output, are not those that were kept.
     FactsChanged,
-    /// The code after the nops of an alignment is not aligned: the section was not packed.
+    /// The code after the nops of an alignment is not aligned: the section was not packed. Or the
+    /// address is not a multiple of 8.
     NotAligned,
     /// The function may return with another TOC pointer, and its symbol has no stub that keeps the
     /// caller's.
