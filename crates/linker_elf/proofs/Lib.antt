@@ -20,6 +20,7 @@ pub mod Reached
 pub mod Readings
 pub mod Relocated
 pub mod RiscV
+pub mod NameTables
 pub mod RowTables
 pub mod RowsAgree
 pub mod RowsFit

@@ -1,6 +1,8 @@
 -- Entries of the tables of rows.
 use Rattle.std.specs.Prelude.{◌≡◌, ℕ, ◌-◌, Bool, true, false, ◌&&◌, ◌||◌, Option, Some, None}
-use Rattle.std.specs.Prelude.{if◌then◌else◌, ◌==◌, ◌^◌, bit_and, ℤ, Result, Ok, Err}
+use Rattle.std.specs.Prelude.{if◌then◌else◌, ◌==◌, ◌^◌, bit_and, ℤ, Result, Ok, Err, List, []}
+use Rattle.std.specs.Prelude.{map, slice_index_or}
+use Rattle.std.specs.Borrow.{Bor}
 use Rattle.std.specs.Int.{w64, cast_signed, cast_unsigned}
 use Rattle.linker_elf.specs.Agrees.{RowFits}
 use Rattle.linker_elf.specs.Bounds.{least_within, last_within}
@@ -199,3 +201,7 @@ entry_in is_own (Some row) = Some (entry_of is_own row)
 pub record IsEntryOf (row : Option RelocationKindInfo) (entry : Option TableRow) : Type 0 where
   pub row_is : info_in entry ≡ row
   pub entry_is : entry ≡ entry_in (is_own_in entry) (info_in entry)
+
+-- the text at an index of a table
+abbrev pub nth_text : List (Bor (List ℕ)) → ℕ → List ℕ
+nth_text texts index = slice_index_or (map (λ text. text.now) texts) index []

@@ -9,7 +9,7 @@ ghost use Rattle.linker_elf.specs.AArch64Relocations.{aarch64_name, aarch64_row}
 ghost use Rattle.linker_elf.specs.contracts.aarch64.relocations.AArch64Relocation as names;
 
 use crate::elf::choice_table::RelocationName;
-use crate::elf::rows::{TableRow, info_in, listed, row_in};
+use crate::elf::rows::{TableRow, info_in, listed, row_in, text_at};
 use crate::elf::{RelocationKindInfo, Row};
 use std::fmt;
 
@@ -282,16 +282,26 @@ impl AArch64Relocation {
     pub fn elf_code(self) -> u32
         ensures { result ≡ code_of (aarch64_name self) }
     {
-        relocations!(code_of AArch64Relocation, self)
+        match self {
+            AArch64Relocation::Other(code) => code,
+            _ => CODES[index(self)],
+        }
     }
 
     /// The name, as "R_AARCH64_CALL26"; "unknown relocation" for `Other`.
     pub fn name(self) -> &'static str
         ensures { result.now ≡ text_of (aarch64_name self) }
     {
-        relocations!(text_of AArch64Relocation, self)
+        match self {
+            AArch64Relocation::Other(_) => "unknown relocation",
+            _ => text_at(TEXTS, index(self)),
+        }
     }
 }
+
+static CODES: &[u32] = &relocations!(codes);
+
+static TEXTS: &[&str] = &relocations!(texts);
 
 static ROWS: &[Option<TableRow>] = &relocations!(table [AArch64 AArch64Instruction EM_AARCH64]);
 

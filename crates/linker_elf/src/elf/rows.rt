@@ -14,7 +14,7 @@ ghost use Rattle.linker_elf.specs.Numbers.{numbers_of};
 ghost use Rattle.linker_elf.specs.Reach.{reach_of};
 ghost use Rattle.linker_elf.specs.Value.{value_of, value_given, completed, lacks};
 ghost use Rattle.linker_elf.specs.Inner.RowTables.{info_in, info_of, raw_info_in, IsSound};
-ghost use Rattle.linker_elf.specs.Inner.RowTables.{tests_of, takes_all, is_unit};
+ghost use Rattle.linker_elf.specs.Inner.RowTables.{tests_of, takes_all, is_unit, nth_text};
 
 use crate::elf::entries::{is_of_high_part, names_plt_entry};
 use crate::elf::relocate::{
@@ -527,17 +527,11 @@ macro_rules! listed {
     ($made:tt $($(below $end:literal)? { $($relocation:tt)* })+) => {
         $crate::elf::rows::listed!(@ $made $($($relocation)*)+)
     };
-    (@ (code_of $names:ident, $value:expr) $($number:literal $name:ident $row:tt)*) => {
-        match $value {
-            $($names::$name => $number,)*
-            $names::Other(code) => code,
-        }
+    (@ (codes) $($number:literal $name:ident $row:tt)*) => {
+        [$($number,)*]
     };
-    (@ (text_of $names:ident, $value:expr) $($number:literal $name:ident $row:tt)*) => {
-        match $value {
-            $($names::$name => stringify!($name),)*
-            $names::Other(_) => "unknown relocation",
-        }
+    (@ (texts) $($number:literal $name:ident $row:tt)*) => {
+        [$(stringify!($name),)*]
     };
     (@ (table $forms:tt) $($number:literal $name:ident $row:tt)*) => {
         [$(Some($crate::elf::rows::row!($forms $row)),)* None]
@@ -563,6 +557,15 @@ macro_rules! listed {
     (@ $names:ident, $value:expr, [] [$($arms:tt)*] $number:literal $($numbers:literal)*) => {
         match $value { $($arms)* $names::Other(_) => $number }
     };
+}
+
+/// The text at an index.
+#[inline(always)]
+pub(crate) fn text_at(texts: &[&'static str], index: usize) -> &'static str
+    requires { index < length texts.now }
+    ensures { result.now ≡ nth_text texts.now index }
+{
+    texts[index]
 }
 
 /// A row of an architecture: its kind; where its value goes, `4 bytes`, or as `12..33 Adr` the

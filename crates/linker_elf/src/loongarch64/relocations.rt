@@ -11,7 +11,7 @@ ghost use Rattle.linker_elf.specs.Inner.RowTables.{with_raw_kind};
 ghost use Rattle.linker_elf.specs.contracts.loongarch64.relocations.LoongArch64Relocation as names;
 
 use crate::elf::choice_table::RelocationName;
-use crate::elf::rows::{TableRow, listed, raw_info_in, row_in};
+use crate::elf::rows::{TableRow, listed, raw_info_in, row_in, text_at};
 use crate::elf::{RelocationKind, RelocationKindInfo, Row, SIZE_2KB, Uleb128Role};
 use std::fmt;
 
@@ -202,14 +202,20 @@ impl LoongArch64Relocation {
     pub fn elf_code(self) -> u32
         ensures { result ≡ code_of (loongarch_name self) }
     {
-        relocations!(code_of LoongArch64Relocation, self)
+        match self {
+            LoongArch64Relocation::Other(code) => code,
+            _ => CODES[index(self)],
+        }
     }
 
     /// The name, as "R_LARCH_32"; "unknown relocation" for `Other`.
     pub fn name(self) -> &'static str
         ensures { result.now ≡ text_of (loongarch_name self) }
     {
-        relocations!(text_of LoongArch64Relocation, self)
+        match self {
+            LoongArch64Relocation::Other(_) => "unknown relocation",
+            _ => text_at(TEXTS, index(self)),
+        }
     }
 
     /// What a relocation of a ULEB128 number does; `None` for all others.
@@ -223,6 +229,10 @@ impl LoongArch64Relocation {
         }
     }
 }
+
+static CODES: &[u32] = &relocations!(codes);
+
+static TEXTS: &[&str] = &relocations!(texts);
 
 static ROWS: &[Option<TableRow>] =
     &relocations!(table [LoongArch64 LoongArch64Instruction EM_LOONGARCH]);

@@ -10,7 +10,7 @@ ghost use Rattle.linker_elf.specs.Rows.{raw_row};
 ghost use Rattle.linker_elf.specs.contracts.ppc64.relocations.Ppc64Relocation as names;
 
 use crate::elf::choice_table::RelocationName;
-use crate::elf::rows::{TableRow, listed, raw_info_in, row_in};
+use crate::elf::rows::{TableRow, listed, raw_info_in, row_in, text_at};
 use crate::elf::{RelocationKindInfo, Row};
 use std::fmt;
 
@@ -255,16 +255,26 @@ impl Ppc64Relocation {
     pub fn elf_code(self) -> u32
         ensures { result ≡ code_of (ppc64_name self) }
     {
-        relocations!(code_of Ppc64Relocation, self)
+        match self {
+            Ppc64Relocation::Other(code) => code,
+            _ => CODES[index(self)],
+        }
     }
 
     /// The name, as "R_PPC64_REL24"; "unknown relocation" for `Other`.
     pub fn name(self) -> &'static str
         ensures { result.now ≡ text_of (ppc64_name self) }
     {
-        relocations!(text_of Ppc64Relocation, self)
+        match self {
+            Ppc64Relocation::Other(_) => "unknown relocation",
+            _ => text_at(TEXTS, index(self)),
+        }
     }
 }
+
+static CODES: &[u32] = &relocations!(codes);
+
+static TEXTS: &[&str] = &relocations!(texts);
 
 static ROWS: &[Option<TableRow>] = &relocations!(table [Ppc64 Ppc64Instruction EM_PPC64]);
 

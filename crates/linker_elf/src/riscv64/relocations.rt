@@ -10,7 +10,7 @@ ghost use Rattle.linker_elf.specs.RiscVRelocations.{riscv_uleb128_role, clui_row
 ghost use Rattle.linker_elf.specs.contracts.riscv64.relocations.RiscVRelocation as names;
 
 use crate::elf::choice_table::RelocationName;
-use crate::elf::rows::{TableRow, listed, raw_info_in, row_in};
+use crate::elf::rows::{TableRow, listed, raw_info_in, row_in, text_at};
 use crate::elf::{RelocationKindInfo, Row, Uleb128Role};
 use std::fmt;
 
@@ -152,14 +152,20 @@ impl RiscVRelocation {
     pub fn elf_code(self) -> u32
         ensures { result ≡ code_of (riscv_name self) }
     {
-        relocations!(code_of RiscVRelocation, self)
+        match self {
+            RiscVRelocation::Other(code) => code,
+            _ => CODES[index(self)],
+        }
     }
 
     /// The name, as "R_RISCV_32"; "unknown relocation" for `Other`.
     pub fn name(self) -> &'static str
         ensures { result.now ≡ text_of (riscv_name self) }
     {
-        relocations!(text_of RiscVRelocation, self)
+        match self {
+            RiscVRelocation::Other(_) => "unknown relocation",
+            _ => text_at(TEXTS, index(self)),
+        }
     }
 
     /// What a relocation of a ULEB128 number does; `None` for all others.
@@ -173,6 +179,10 @@ impl RiscVRelocation {
         }
     }
 }
+
+static CODES: &[u32] = &relocations!(codes);
+
+static TEXTS: &[&str] = &relocations!(texts);
 
 static ROWS: &[Option<TableRow>] = &relocations!(table [RiscV RiscVInstruction EM_RISCV]);
 

@@ -8,7 +8,7 @@ ghost use Rattle.linker_elf.specs.X86Relocations.{x86_64_name, x86_64_relocation
 ghost use Rattle.linker_elf.specs.contracts.x86_64.relocations.X86_64Relocation as names;
 
 use crate::elf::choice_table::RelocationName;
-use crate::elf::rows::{TableRow, listed, raw_info_in, row_in};
+use crate::elf::rows::{TableRow, listed, raw_info_in, row_in, text_at};
 use crate::elf::{RelocationKindInfo, Row};
 use std::fmt;
 
@@ -132,16 +132,26 @@ impl X86_64Relocation {
     pub fn elf_code(self) -> u32
         ensures { result ≡ code_of (x86_64_name self) }
     {
-        relocations!(code_of X86_64Relocation, self)
+        match self {
+            X86_64Relocation::Other(code) => code,
+            _ => CODES[index(self)],
+        }
     }
 
     /// The name, as "R_X86_64_64"; "unknown relocation" for `Other`.
     pub fn name(self) -> &'static str
         ensures { result.now ≡ text_of (x86_64_name self) }
     {
-        relocations!(text_of X86_64Relocation, self)
+        match self {
+            X86_64Relocation::Other(_) => "unknown relocation",
+            _ => text_at(TEXTS, index(self)),
+        }
     }
 }
+
+static CODES: &[u32] = &relocations!(codes);
+
+static TEXTS: &[&str] = &relocations!(texts);
 
 /// A constant, from which LLVM knows which codes have a row, and what all rows share.
 const ROWS: &[Option<TableRow>] = &relocations!(table []);

@@ -440,17 +440,11 @@ macro_rules! listed {
     ($made:tt $($(below $end:literal)? { $($relocation:tt)* })+) => {
         $crate::linker_elf::elf::rows::listed!(@ $made $($($relocation)*)+)
     };
-    (@ (code_of $names:ident, $value:expr) $($number:literal $name:ident $row:tt)*) => {
-        match $value {
-            $($names::$name => $number,)*
-            $names::Other(code) => code,
-        }
+    (@ (codes) $($number:literal $name:ident $row:tt)*) => {
+        [$($number,)*]
     };
-    (@ (text_of $names:ident, $value:expr) $($number:literal $name:ident $row:tt)*) => {
-        match $value {
-            $($names::$name => stringify!($name),)*
-            $names::Other(_) => "unknown relocation",
-        }
+    (@ (texts) $($number:literal $name:ident $row:tt)*) => {
+        [$(stringify!($name),)*]
     };
     (@ (table $forms:tt) $($number:literal $name:ident $row:tt)*) => {
         [$(Some($crate::linker_elf::elf::rows::row!($forms $row)),)* None]
@@ -476,6 +470,12 @@ macro_rules! listed {
     (@ $names:ident, $value:expr, [] [$($arms:tt)*] $number:literal $($numbers:literal)*) => {
         match $value { $($arms)* $names::Other(_) => $number }
     };
+}
+
+/// The text at an index.
+#[inline(always)]
+pub(crate) const fn text_at(texts: &[&'static str], index: usize) -> &'static str {
+    texts[index]
 }
 
 /// A row of an architecture: its kind; where its value goes, `4 bytes`, or as `12..33 Adr` the

@@ -3,7 +3,7 @@
 //! What the relocations of LoongArch mean.
 
 use crate::linker_elf::elf::choice_table::RelocationName;
-use crate::linker_elf::elf::rows::{TableRow, listed, raw_info_in, row_in};
+use crate::linker_elf::elf::rows::{TableRow, listed, raw_info_in, row_in, text_at};
 use crate::linker_elf::elf::{RelocationKind, RelocationKindInfo, Row, SIZE_2KB, Uleb128Role};
 use core::fmt;
 
@@ -193,13 +193,19 @@ impl LoongArch64Relocation {
     #[must_use]
     #[inline]
     pub const fn elf_code(self) -> u32 {
-        relocations!(code_of LoongArch64Relocation, self)
+        match self {
+            LoongArch64Relocation::Other(code) => code,
+            _ => CODES[index(self)],
+        }
     }
 
     /// The name, as "R_LARCH_32"; "unknown relocation" for `Other`.
     #[must_use]
     pub const fn name(self) -> &'static str {
-        relocations!(text_of LoongArch64Relocation, self)
+        match self {
+            LoongArch64Relocation::Other(_) => "unknown relocation",
+            _ => text_at(TEXTS, index(self)),
+        }
     }
 
     /// What a relocation of a ULEB128 number does; `None` for all others.
@@ -212,6 +218,10 @@ impl LoongArch64Relocation {
         }
     }
 }
+
+static CODES: &[u32] = &relocations!(codes);
+
+static TEXTS: &[&str] = &relocations!(texts);
 
 static ROWS: &[Option<TableRow>] =
     &relocations!(table [LoongArch64 LoongArch64Instruction EM_LOONGARCH]);

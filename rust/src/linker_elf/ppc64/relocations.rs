@@ -3,7 +3,7 @@
 //! What the relocations of PowerPC64 mean.
 
 use crate::linker_elf::elf::choice_table::RelocationName;
-use crate::linker_elf::elf::rows::{TableRow, listed, raw_info_in, row_in};
+use crate::linker_elf::elf::rows::{TableRow, listed, raw_info_in, row_in, text_at};
 use crate::linker_elf::elf::{RelocationKindInfo, Row};
 use core::fmt;
 
@@ -247,15 +247,25 @@ impl Ppc64Relocation {
     #[must_use]
     #[inline]
     pub const fn elf_code(self) -> u32 {
-        relocations!(code_of Ppc64Relocation, self)
+        match self {
+            Ppc64Relocation::Other(code) => code,
+            _ => CODES[index(self)],
+        }
     }
 
     /// The name, as "R_PPC64_REL24"; "unknown relocation" for `Other`.
     #[must_use]
     pub const fn name(self) -> &'static str {
-        relocations!(text_of Ppc64Relocation, self)
+        match self {
+            Ppc64Relocation::Other(_) => "unknown relocation",
+            _ => text_at(TEXTS, index(self)),
+        }
     }
 }
+
+static CODES: &[u32] = &relocations!(codes);
+
+static TEXTS: &[&str] = &relocations!(texts);
 
 static ROWS: &[Option<TableRow>] = &relocations!(table [Ppc64 Ppc64Instruction EM_PPC64]);
 

@@ -3,7 +3,7 @@
 //! What the relocations of RISC-V mean.
 
 use crate::linker_elf::elf::choice_table::RelocationName;
-use crate::linker_elf::elf::rows::{TableRow, listed, raw_info_in, row_in};
+use crate::linker_elf::elf::rows::{TableRow, listed, raw_info_in, row_in, text_at};
 use crate::linker_elf::elf::{RelocationKindInfo, Row, Uleb128Role};
 use core::fmt;
 
@@ -144,13 +144,19 @@ impl RiscVRelocation {
     #[must_use]
     #[inline]
     pub const fn elf_code(self) -> u32 {
-        relocations!(code_of RiscVRelocation, self)
+        match self {
+            RiscVRelocation::Other(code) => code,
+            _ => CODES[index(self)],
+        }
     }
 
     /// The name, as "R_RISCV_32"; "unknown relocation" for `Other`.
     #[must_use]
     pub const fn name(self) -> &'static str {
-        relocations!(text_of RiscVRelocation, self)
+        match self {
+            RiscVRelocation::Other(_) => "unknown relocation",
+            _ => text_at(TEXTS, index(self)),
+        }
     }
 
     /// What a relocation of a ULEB128 number does; `None` for all others.
@@ -163,6 +169,10 @@ impl RiscVRelocation {
         }
     }
 }
+
+static CODES: &[u32] = &relocations!(codes);
+
+static TEXTS: &[&str] = &relocations!(texts);
 
 static ROWS: &[Option<TableRow>] = &relocations!(table [RiscV RiscVInstruction EM_RISCV]);
 

@@ -3,7 +3,7 @@
 //! What the relocations of x86-64 mean.
 
 use crate::linker_elf::elf::choice_table::RelocationName;
-use crate::linker_elf::elf::rows::{TableRow, listed, raw_info_in, row_in};
+use crate::linker_elf::elf::rows::{TableRow, listed, raw_info_in, row_in, text_at};
 use crate::linker_elf::elf::{RelocationKindInfo, Row};
 use core::fmt;
 
@@ -126,15 +126,25 @@ impl X86_64Relocation {
     #[must_use]
     #[inline]
     pub const fn elf_code(self) -> u32 {
-        relocations!(code_of X86_64Relocation, self)
+        match self {
+            X86_64Relocation::Other(code) => code,
+            _ => CODES[index(self)],
+        }
     }
 
     /// The name, as "R_X86_64_64"; "unknown relocation" for `Other`.
     #[must_use]
     pub const fn name(self) -> &'static str {
-        relocations!(text_of X86_64Relocation, self)
+        match self {
+            X86_64Relocation::Other(_) => "unknown relocation",
+            _ => text_at(TEXTS, index(self)),
+        }
     }
 }
+
+static CODES: &[u32] = &relocations!(codes);
+
+static TEXTS: &[&str] = &relocations!(texts);
 
 /// A constant, from which LLVM knows which codes have a row, and what all rows share.
 const ROWS: &[Option<TableRow>] = &relocations!(table []);
