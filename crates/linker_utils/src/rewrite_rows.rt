@@ -190,18 +190,19 @@ impl RewriteRow {
 }
 
 /// What a row is used for, in an arm for each rewrite, and there of a constant row. Each row has
-/// the length of the instructions, the tests, the bits kept and set, and where 4 bytes are deleted.
+/// the length of the instructions, their tests, of which the macro `$tests` makes an array, the bits
+/// kept and set, and where 4 bytes are deleted.
 macro_rules! by_row {
     (
-        $value:expr, $row:ident => $use:expr;
-        $($kind:ident: $len:literal [$($test:ident)*] $(keep $keep:literal set $set:literal)?
+        $tests:ident, $value:expr, $row:ident => $use:expr;
+        $($kind:ident: $len:literal $of:tt $(keep $keep:literal set $set:literal)?
             $(delete $start:literal)?;)*
     ) => {
         match $value {
             $(RelaxationKind::$kind => {
                 let $row = $crate::rewrite_rows::RewriteRow {
                     len: $len,
-                    tests: &[$($test),*],
+                    tests: &$tests! $of,
                     edit: $crate::rewrite_rows::optional!(
                         $($crate::rewrite_rows::WordEdit { keep: $keep, set: $set })?
                     ),

@@ -2,7 +2,9 @@
 // Made by tools/generate of crates/linker_utils/src/loongarch64/rewrites.rt.
 //! LoongArch: relaxation rewrites.
 
-use crate::rewrite_rows::{WordBits, WordTest, by_row};
+use crate::rewrite_rows::WordBits::{Field, Top};
+use crate::rewrite_rows::WordTest::{AreSame, DifferWhere, Is, IsEither, IsEitherOrWithin, IsNot};
+use crate::rewrite_rows::by_row;
 use crate::linker_base::relaxation::RelocationModifier;
 use crate::linker_base::rewrite::{DeletedBytes, RewriteWindow, window_is_in};
 use crate::linker_elf::elf::InstructionRewrite;
@@ -55,90 +57,65 @@ pub enum RelaxationKind {
     DeleteAddi,
 }
 
-/// `pcalau12i`, `pcaddu18i` and `lu12i.w`.
-pub(super) const PCALAU12I: WordTest = WordTest::Is(OPCODE_7, 0x0d);
+/// A test of an instruction, or of the second one of two: its opcode, and its registers.
+macro_rules! test {
+    (pcalau12i) => { Is(Top(0, 25), 0x0d) };
+    (pcaddu18i) => { Is(Top(0, 25), 0x0f) };
+    (lu12i_w) => { Is(Top(0, 25), 0x0a) };
+    (addi_d) => { Is(Top(0, 22), 0x00b) };
+    (ld_d) => { Is(Top(0, 22), 0x0a3) };
+    (addi_d_or_ld_d) => { IsEither(Top(0, 22), 0x00b, 0x0a3) };
+    // what adds a signed immediate of 12 bits to its first source register
+    (adds_low) => { IsEitherOrWithin(Top(0, 22), 0x00a, 0x00b, 0x0a0, 0x0b3) };
+    // no `st.b`, `st.h`, `st.w` or `st.d` of its own base
+    (stores_other) => { DifferWhere(Top(0, 22), 0x0a4, 0x0a7, Field(0, 0, 5), Field(0, 5, 10)) };
+    (add_d_of_tp) => { Is(Top(0, 10), 0x422) };
+    (ld_d_ra_a0_0) => { Is(Top(0, 0), 0x28c0_0081) };
+    (jirl_ra_ra_0) => { Is(Top(0, 0), 0x4c00_0021) };
+    (from_itself) => { AreSame(Field(0, 5, 10), Field(0, 0, 5)) };
+    (into $register:literal) => { Is(Field(0, 0, 5), $register) };
+    (from $register:literal) => { Is(Field(0, 5, 10), $register) };
+    (not_into_zero) => { IsNot(Field(0, 0, 5), 0) };
+    (then_addi_d) => { Is(Top(4, 22), 0x00b) };
+    (then_ld_d) => { Is(Top(4, 22), 0x0a3) };
+    (then_addi_d_or_ld_d) => { IsEither(Top(4, 22), 0x00b, 0x0a3) };
+    (then_jirl) => { Is(Top(4, 26), 0x13) };
+    (then_from_itself) => { AreSame(Field(4, 5, 10), Field(4, 0, 5)) };
+    (then_from_it) => { AreSame(Field(4, 5, 10), Field(0, 0, 5)) };
+    (then_into_it) => { AreSame(Field(0, 0, 5), Field(4, 0, 5)) };
+    (then_into $register:literal) => { Is(Field(4, 0, 5), $register) };
+    (then_not_into_zero) => { IsNot(Field(4, 0, 5), 0) };
+}
 
-const PCADDU18I: WordTest = WordTest::Is(OPCODE_7, 0x0f);
+macro_rules! tests {
+    (pair_with $second:ident) => {
+        tests![pcalau12i, $second, then_from_itself, then_not_into_zero, then_into_it]
+    };
+    ($($test:ident $($register:literal)?),*) => { [$(test!($test $($register)?)),*] };
+}
 
-pub(super) const LU12I: WordTest = WordTest::Is(OPCODE_7, 0x0a);
+pub(super) use test;
+pub(super) use tests;
 
-/// `addi.d`, `ld.d`, and one of both.
-pub(super) const ADDI: WordTest = WordTest::Is(OPCODE, 0x00b);
-
-pub(super) const LD: WordTest = WordTest::Is(OPCODE, 0x0a3);
-
-const LOW: WordTest = WordTest::IsEither(OPCODE, 0x00b, 0x0a3);
-
-/// What adds a signed immediate of 12 bits to its first source register.
-pub(super) const ADDS_LOW: WordTest = WordTest::IsEitherOrWithin(
-    OPCODE, 0x00a, 0x00b, 0x0a0, 0x0b3,
-);
-
-/// No `st.b`, `st.h`, `st.w` or `st.d` of its own base.
-pub(super) const STORES_OTHER: WordTest = WordTest::DifferWhere(OPCODE, 0x0a4, 0x0a7, RD, RJ);
-
-/// From its destination register, which isn't `zero`.
-const FROM_ITSELF: WordTest = WordTest::AreSame(RJ, RD);
-
-const NOT_ZERO: WordTest = WordTest::IsNot(RD, 0);
-
-/// `addi.d`, `ld.d`, one of both, or `jirl`, as the second instruction.
-pub(super) const THEN_ADDI: WordTest = WordTest::Is(SECOND_OPCODE, 0x00b);
-
-pub(super) const THEN_LD: WordTest = WordTest::Is(SECOND_OPCODE, 0x0a3);
-
-const THEN_LOW: WordTest = WordTest::IsEither(SECOND_OPCODE, 0x00b, 0x0a3);
-
-const THEN_JIRL: WordTest = WordTest::Is(WordBits::Top(4, 26), 0x13);
-
-/// The second one is from its destination register, which isn't `zero`, and is the first one's.
-pub(super) const THEN_FROM_ITSELF: WordTest = WordTest::AreSame(SECOND_RJ, SECOND_RD);
-
-pub(super) const THEN_NOT_ZERO: WordTest = WordTest::IsNot(SECOND_RD, 0);
-
-pub(super) const INTO_SAME: WordTest = WordTest::AreSame(RD, SECOND_RD);
-
-/// The second one is from the first one's destination register, and into `ra` or `zero`.
-const FROM_FIRST: WordTest = WordTest::AreSame(SECOND_RJ, RD);
-
-const LINKS_RA: WordTest = WordTest::Is(SECOND_RD, 1);
-
-const LINKS_NONE: WordTest = WordTest::Is(SECOND_RD, 0);
-
-const OPCODE_7: WordBits = WordBits::Top(0, 25);
-
-const OPCODE: WordBits = WordBits::Top(0, 22);
-
-const SECOND_OPCODE: WordBits = WordBits::Top(4, 22);
-
-pub(super) const RD: WordBits = WordBits::Field(0, 0, 5);
-
-pub(super) const RJ: WordBits = WordBits::Field(0, 5, 10);
-
-const SECOND_RD: WordBits = WordBits::Field(4, 0, 5);
-
-const SECOND_RJ: WordBits = WordBits::Field(4, 5, 10);
-
-/// The rewrites.
+/// The rewrites. Register 1 is `ra`.
 macro_rules! rewrites {
     ($kind:expr, $row:ident => $use:expr) => {
-        by_row! { $kind, $row => $use;
+        by_row! { tests, $kind, $row => $use;
             NoOp: 0 [];
             ReplaceWithNop: 4 [] keep 0 set 0x0340_0000;
-            LdToAddi: 4 [LD FROM_ITSELF NOT_ZERO] keep 0x003f_ffff set 0x02c0_0000;
-            AddiToLd: 4 [ADDI FROM_ITSELF NOT_ZERO] keep 0x003f_ffff set 0x28c0_0000;
-            PcalaToPcaddi: 8 [PCALAU12I THEN_LOW THEN_FROM_ITSELF THEN_NOT_ZERO INTO_SAME]
-                keep 0x1f set 0x1800_0000;
-            CallToBl: 8 [PCADDU18I NOT_ZERO THEN_JIRL FROM_FIRST LINKS_RA]
+            LdToAddi: 4 [ld_d, from_itself, not_into_zero] keep 0x003f_ffff set 0x02c0_0000;
+            AddiToLd: 4 [addi_d, from_itself, not_into_zero] keep 0x003f_ffff set 0x28c0_0000;
+            PcalaToPcaddi: 8 [pair_with then_addi_d_or_ld_d] keep 0x1f set 0x1800_0000;
+            CallToBl: 8 [pcaddu18i, not_into_zero, then_jirl, then_from_it, then_into 1]
                 keep 0 set 0x5400_0000 delete 4;
-            CallToB: 8 [PCADDU18I NOT_ZERO THEN_JIRL FROM_FIRST LINKS_NONE]
+            CallToB: 8 [pcaddu18i, not_into_zero, then_jirl, then_from_it, then_into 0]
                 keep 0 set 0x5000_0000 delete 4;
-            PcalaToLu12i: 4 [PCALAU12I] keep 0x1f set 0x1400_0000;
-            LowToOri: 4 [LOW] keep 0x3ff set 0x0380_0000;
-            LowToOriZero: 4 [LOW] keep 0x1f set 0x0380_0000;
-            BaseToTp: 4 [ADDS_LOW] keep 0xffff_fc1f set 0x40;
+            PcalaToLu12i: 4 [pcalau12i] keep 0x1f set 0x1400_0000;
+            LowToOri: 4 [addi_d_or_ld_d] keep 0x3ff set 0x0380_0000;
+            LowToOriZero: 4 [addi_d_or_ld_d] keep 0x1f set 0x0380_0000;
+            BaseToTp: 4 [adds_low] keep 0xffff_fc1f set 0x40;
             Delete: 4 [] delete 0;
-            DeleteAddi: 4 [ADDI FROM_ITSELF NOT_ZERO] delete 0;
+            DeleteAddi: 4 [addi_d, from_itself, not_into_zero] delete 0;
         }
     };
 }

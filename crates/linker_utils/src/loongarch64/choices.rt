@@ -9,30 +9,15 @@ ghost use Rattle.linker_utils.specs.Inner.LoongArchPattern.{matches_pattern, loo
 ghost use Rattle.linker_utils.specs.LoongArchRewrites as rewrites;
 ghost use Rattle.linker_utils.specs.declared.loongarch64.rewrites.RelaxationKind.TheVariants as kinds;
 
-use super::rewrites::{
-    ADDI, ADDS_LOW, INTO_SAME, LD, LU12I, PCALAU12I, RD, RJ, RelaxationKind, STORES_OTHER,
-    THEN_ADDI, THEN_FROM_ITSELF, THEN_LD, THEN_NOT_ZERO,
-};
-use crate::rewrite_rows::{WordBits, WordTest, are_at};
+use super::rewrites::{RelaxationKind, test, tests};
+use crate::rewrite_rows::WordBits::{Field, Top};
+use crate::rewrite_rows::WordTest::{AreSame, DifferWhere, Is, IsEitherOrWithin, IsNot};
+use crate::rewrite_rows::are_at;
 use linker_elf::elf::choice_table::{
     ChoiceTable, Chosen, RewriteSet, SIGNED_12, Table, by_table, choice_by, conditions,
 };
 use linker_elf::elf::{Choice, LinkFacts, Operands};
 use linker_elf::loongarch64::{LoongArch64Relocation, LoongArch64Relocation as Names};
-
-/// Into and from `a0`.
-const INTO_A0: WordTest = WordTest::Is(RD, 4);
-
-const FROM_A0: WordTest = WordTest::Is(RJ, 4);
-
-/// `ld.d ra, a0, 0`, `jirl ra, ra, 0` and `add.d` of `tp`.
-const LD_RA_A0: WordTest = WordTest::Is(WORD, 0x28c0_0081);
-
-const JIRL_RA_RA: WordTest = WordTest::Is(WORD, 0x4c00_0021);
-
-const ADD_TP: WordTest = WordTest::Is(WordBits::Top(0, 10), 0x422);
-
-const WORD: WordBits = WordBits::Top(0, 0);
 
 /// The instructions that an entry is for, where its relocation is at the first one, if no other is
 /// named.
@@ -82,55 +67,23 @@ impl RewriteSet for RelaxationKind {
     fn matches_at(self, originals: &Pattern, section: &[u8], offset: u64) -> bool {
         match *originals {
             Pattern::OfRewrite => self.matches(section, offset),
-            Pattern::Load => {
-                let pair = &[
-                    PCALAU12I,
-                    THEN_LD,
-                    THEN_FROM_ITSELF,
-                    THEN_NOT_ZERO,
-                    INTO_SAME,
-                ];
-                are_at(pair, section, offset, 8)
-            }
+            Pattern::Load => are_at(&tests![pair_with then_ld_d], section, offset, 8),
             Pattern::LowOfLoad => {
-                let pair = &[
-                    PCALAU12I,
-                    THEN_LD,
-                    THEN_FROM_ITSELF,
-                    THEN_NOT_ZERO,
-                    INTO_SAME,
-                ];
-                4 <= offset && are_at(pair, section, offset - 4, 8)
+                4 <= offset && are_at(&tests![pair_with then_ld_d], section, offset - 4, 8)
             }
-            Pattern::Sum => {
-                let pair = &[
-                    PCALAU12I,
-                    THEN_ADDI,
-                    THEN_FROM_ITSELF,
-                    THEN_NOT_ZERO,
-                    INTO_SAME,
-                ];
-                are_at(pair, section, offset, 8)
-            }
+            Pattern::Sum => are_at(&tests![pair_with then_addi_d], section, offset, 8),
             Pattern::LowOfSum => {
-                let pair = &[
-                    PCALAU12I,
-                    THEN_ADDI,
-                    THEN_FROM_ITSELF,
-                    THEN_NOT_ZERO,
-                    INTO_SAME,
-                ];
-                4 <= offset && are_at(pair, section, offset - 4, 8)
+                4 <= offset && are_at(&tests![pair_with then_addi_d], section, offset - 4, 8)
             }
-            Pattern::Pcalau12i => are_at(&[PCALAU12I], section, offset, 4),
-            Pattern::Ld => are_at(&[LD], section, offset, 4),
-            Pattern::PageOfDescriptor => are_at(&[PCALAU12I, INTO_A0], section, offset, 4),
-            Pattern::LowOfDescriptor => are_at(&[ADDI, INTO_A0, FROM_A0], section, offset, 4),
-            Pattern::LoadOfDescriptor => are_at(&[LD_RA_A0], section, offset, 4),
-            Pattern::CallOfDescriptor => are_at(&[JIRL_RA_RA], section, offset, 4),
-            Pattern::Lu12i => are_at(&[LU12I], section, offset, 4),
-            Pattern::AddTp => are_at(&[ADD_TP], section, offset, 4),
-            Pattern::LowOverOther => are_at(&[ADDS_LOW, STORES_OTHER], section, offset, 4),
+            Pattern::Pcalau12i => are_at(&tests![pcalau12i], section, offset, 4),
+            Pattern::Ld => are_at(&tests![ld_d], section, offset, 4),
+            Pattern::PageOfDescriptor => are_at(&tests![pcalau12i, into 4], section, offset, 4),
+            Pattern::LowOfDescriptor => are_at(&tests![addi_d, into 4, from 4], section, offset, 4),
+            Pattern::LoadOfDescriptor => are_at(&tests![ld_d_ra_a0_0], section, offset, 4),
+            Pattern::CallOfDescriptor => are_at(&tests![jirl_ra_ra_0], section, offset, 4),
+            Pattern::Lu12i => are_at(&tests![lu12i_w], section, offset, 4),
+            Pattern::AddTp => are_at(&tests![add_d_of_tp], section, offset, 4),
+            Pattern::LowOverOther => are_at(&tests![adds_low, stores_other], section, offset, 4),
         }
     }
 
