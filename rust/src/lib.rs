@@ -211,6 +211,7 @@ pub mod loongarch64;
 #[cfg(feature = "ppc64")]
 pub mod ppc64;
 pub mod relaxation;
+mod rewrite_rows;
 #[cfg(feature = "riscv64")]
 pub mod riscv64;
 #[cfg(feature = "x86_64")]

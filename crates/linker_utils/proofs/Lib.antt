@@ -7,11 +7,13 @@ pub mod Handles
 pub mod Jumps
 pub mod LoongArchAlike
 pub mod LoongArchChoices
+pub mod LoongArchRows
 pub mod Packed
 pub mod Ppc64Alike
 pub mod Ppc64Choices
 pub mod Ppc64Rewrites
 pub mod RelocationNames
+pub mod RewriteRows
 pub mod RiscVAlike
 pub mod RiscVChoices
 pub mod RiscVRewrites

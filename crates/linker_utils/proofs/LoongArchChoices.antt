@@ -13,15 +13,10 @@ use Rattle.linker_utils.specs.LoongArchRewrites.{loongarch_rewrite}
 use Rattle.linker_utils.specs.declared.loongarch64.rewrites.RelaxationKind.{RelaxationKind}
 use Rattle.linker_utils.specs.declared.loongarch64.rewrites.RelaxationKind.TheVariants as kinds
 
-pub first_after : (P : List ℕ → ℕ → Type 0) (s : List ℕ) (o : ℕ) → IsAfter 0 P s o ↔ P s o
-first_after P s o =
-    let e : o - 0 ≡ o = omega arith in
-    (λ h. subst (P s) e h.1, λ h. (omega arith, subst (P s) (sym e) h))
-
-pub first_pattern : (name known : LoongArch64Relocation) (kind : RelaxationKind) → name ≡ known → (s : List ℕ) (o : ℕ)
-    → IsAfter 0 (HasPattern known kind) s o ↔ HasPattern name kind s o
-first_pattern name known kind e s o =
-    subst (λ x. IsAfter 0 (HasPattern known kind) s o ↔ HasPattern x kind s o) (sym e) (first_after (HasPattern known kind) s o)
+pub same_pattern : (name known : LoongArch64Relocation) (kind : RelaxationKind) → name ≡ known → (s : List ℕ) (o : ℕ)
+    → HasPattern known kind s o ↔ HasPattern name kind s o
+same_pattern name known kind e s o =
+    subst (λ x. HasPattern known kind s o ↔ HasPattern x kind s o) (sym e) (λ h. h, λ h. h)
 
 -- ---- what a relocation requires is what its rewrites are meant for
 

@@ -8,6 +8,7 @@ pub mod elf;
 pub mod loongarch64;
 pub mod ppc64;
 pub mod relaxation;
+mod rewrite_rows;
 pub mod riscv64;
 pub mod x86_64;
 

@@ -2,9 +2,11 @@
 // Made by tools/generate of crates/linker_utils/src/loongarch64/rewrites.rt.
 //! LoongArch: relaxation rewrites.
 
+use crate::rewrite_rows::WordBits::{Field, Top};
+use crate::rewrite_rows::WordTest::{AreSame, DifferWhere, Is, IsEither, IsEitherOrWithin, IsNot};
+use crate::rewrite_rows::by_row;
 use crate::linker_base::relaxation::RelocationModifier;
-use crate::linker_base::rewrite::{DeletedBytes, RewriteWindow, has_window, overwrite, window_is_in};
-use crate::linker_base::utils::u32_from_slice;
+use crate::linker_base::rewrite::{DeletedBytes, RewriteWindow, window_is_in};
 use crate::linker_elf::elf::InstructionRewrite;
 
 /// A rewrite of one instruction, or of a pair whose second instruction is then deleted. The window
@@ -27,9 +29,9 @@ pub enum RelaxationKind {
     NoOp,
     /// Turns the instruction into `nop`.
     ReplaceWithNop,
-    /// Turns `ld.d` into `addi.d`. Bits 0 to 21 are unchanged.
+    /// Turns `ld.d` into `addi.d`. WordBits 0 to 21 are unchanged.
     LdToAddi,
-    /// Turns `addi.d` into `ld.d`. Bits 0 to 21 are unchanged.
+    /// Turns `addi.d` into `ld.d`. WordBits 0 to 21 are unchanged.
     AddiToLd,
     /// Turns the `pcalau12i` of a pair into `pcaddi` of distance 0, with its destination register.
     /// The pair's second instruction is deleted for its own relocation.
@@ -55,109 +57,67 @@ pub enum RelaxationKind {
     DeleteAddi,
 }
 
-/// The instruction at an offset of the section.
-#[inline(always)]
-pub(super) fn word_at(section: &[u8], offset: u64) -> u32 {
-    u32_from_slice(&section[offset as usize..])
+/// A test of an instruction, or of the second one of two: its opcode, and its registers.
+macro_rules! test {
+    (pcalau12i) => { Is(Top(0, 25), 0x0d) };
+    (pcaddu18i) => { Is(Top(0, 25), 0x0f) };
+    (lu12i_w) => { Is(Top(0, 25), 0x0a) };
+    (addi_d) => { Is(Top(0, 22), 0x00b) };
+    (ld_d) => { Is(Top(0, 22), 0x0a3) };
+    (addi_d_or_ld_d) => { IsEither(Top(0, 22), 0x00b, 0x0a3) };
+    // what adds a signed immediate of 12 bits to its first source register
+    (adds_low) => { IsEitherOrWithin(Top(0, 22), 0x00a, 0x00b, 0x0a0, 0x0b3) };
+    // no `st.b`, `st.h`, `st.w` or `st.d` of its own base
+    (stores_other) => { DifferWhere(Top(0, 22), 0x0a4, 0x0a7, Field(0, 0, 5), Field(0, 5, 10)) };
+    (add_d_of_tp) => { Is(Top(0, 10), 0x422) };
+    (ld_d_ra_a0_0) => { Is(Top(0, 0), 0x28c0_0081) };
+    (jirl_ra_ra_0) => { Is(Top(0, 0), 0x4c00_0021) };
+    (from_itself) => { AreSame(Field(0, 5, 10), Field(0, 0, 5)) };
+    (into $register:literal) => { Is(Field(0, 0, 5), $register) };
+    (from $register:literal) => { Is(Field(0, 5, 10), $register) };
+    (not_into_zero) => { IsNot(Field(0, 0, 5), 0) };
+    (then_addi_d) => { Is(Top(4, 22), 0x00b) };
+    (then_ld_d) => { Is(Top(4, 22), 0x0a3) };
+    (then_addi_d_or_ld_d) => { IsEither(Top(4, 22), 0x00b, 0x0a3) };
+    (then_jirl) => { Is(Top(4, 26), 0x13) };
+    (then_from_itself) => { AreSame(Field(4, 5, 10), Field(4, 0, 5)) };
+    (then_from_it) => { AreSame(Field(4, 5, 10), Field(0, 0, 5)) };
+    (then_into_it) => { AreSame(Field(0, 0, 5), Field(4, 0, 5)) };
+    (then_into $register:literal) => { Is(Field(4, 0, 5), $register) };
+    (then_not_into_zero) => { IsNot(Field(4, 0, 5), 0) };
 }
 
-/// The number of the four bytes alone.
-#[inline(always)]
-fn window_at(section: &[u8], offset: u64) -> u32 {
-    u32_from_slice(&section[offset as usize..])
+macro_rules! tests {
+    (pair_with $second:ident) => {
+        tests![pcalau12i, $second, then_from_itself, then_not_into_zero, then_into_it]
+    };
+    ($($test:ident $($register:literal)?),*) => { [$(test!($test $($register)?)),*] };
 }
 
-/// Writes an instruction at an offset of the section.
-#[inline(always)]
-fn put_word(section: &mut [u8], offset: u64, word: u32) {
-    overwrite(section, offset, &word.to_le_bytes());
-}
+pub(super) use test;
+pub(super) use tests;
 
-#[inline(always)]
-pub(super) fn destination(word: u32) -> u32 {
-    word & 0x1f
-}
-
-#[inline(always)]
-pub(super) fn source(word: u32) -> u32 {
-    word >> 5 & 0x1f
-}
-
-/// `pcalau12i`.
-#[inline(always)]
-pub(super) fn is_pcalau12i(word: u32) -> bool {
-    word >> 25 == 0x0d
-}
-
-/// `addi.d`.
-#[inline(always)]
-pub(super) fn is_addi(word: u32) -> bool {
-    word >> 22 == 0x00b
-}
-
-/// `ld.d`.
-#[inline(always)]
-pub(super) fn is_ld(word: u32) -> bool {
-    word >> 22 == 0x0a3
-}
-
-/// Whether an instruction adds a signed immediate of 12 bits to its first source register.
-#[inline]
-fn adds_immediate(word: u32) -> bool {
-    let opcode = word >> 22;
-    opcode == 0x00a || opcode == 0x00b || 0x0a0 <= opcode && opcode <= 0x0b3
-}
-
-/// Whether an instruction is a store of the register that is its base: `st.b`, `st.h`, `st.w` or
-/// `st.d`.
-#[inline(always)]
-fn stores_base(word: u32) -> bool {
-    let opcode = word >> 22;
-    0x0a4 <= opcode && opcode <= 0x0a7 && destination(word) == source(word)
-}
-
-/// Whether an instruction adds a signed immediate of 12 bits to a register that another one can
-/// replace.
-#[inline(always)]
-pub(super) fn is_low_over_other(word: u32) -> bool {
-    adds_immediate(word) && !stores_base(word)
-}
-
-/// Whether the source register is the destination register, and isn't `zero`.
-#[inline(always)]
-fn is_into_own_source(word: u32) -> bool {
-    source(word) == destination(word) && destination(word) != 0
-}
-
-/// Whether the words are `pcalau12i rd` and an instruction from rd into rd.
-#[inline(always)]
-pub(super) fn are_of_one_register(pcala: u32, word: u32) -> bool {
-    is_pcalau12i(pcala) && is_into_own_source(word) && destination(pcala) == destination(word)
-}
-
-/// Whether `pcaddu18i` and a `jirl` from its register, which links another one, are at an offset.
-#[inline]
-fn is_call(section: &[u8], offset: u64, link: u32) -> bool {
-    if !has_window(section, offset, 0, 8) {
-        return false;
-    }
-    let pcaddu18i = word_at(section, offset);
-    let jirl = word_at(section, offset + 4);
-    pcaddu18i >> 25 == 0x0f
-        && destination(pcaddu18i) != 0
-        && jirl >> 26 == 0x13
-        && source(jirl) == destination(pcaddu18i)
-        && destination(jirl) == link
-}
-
-/// Whether a pair of `pcalau12i` and `addi.d` or `ld.d`, all of one register, is at an offset.
-#[inline]
-fn is_low_pair(section: &[u8], offset: u64) -> bool {
-    if !has_window(section, offset, 0, 8) {
-        return false;
-    }
-    let word = word_at(section, offset + 4);
-    (is_addi(word) || is_ld(word)) && are_of_one_register(word_at(section, offset), word)
+/// The rewrites. Register 1 is `ra`.
+macro_rules! rewrites {
+    ($kind:expr, $row:ident => $use:expr) => {
+        by_row! { tests, $kind, $row => $use;
+            NoOp: 0 [];
+            ReplaceWithNop: 4 [] keep 0 set 0x0340_0000;
+            LdToAddi: 4 [ld_d, from_itself, not_into_zero] keep 0x003f_ffff set 0x02c0_0000;
+            AddiToLd: 4 [addi_d, from_itself, not_into_zero] keep 0x003f_ffff set 0x28c0_0000;
+            PcalaToPcaddi: 8 [pair_with then_addi_d_or_ld_d] keep 0x1f set 0x1800_0000;
+            CallToBl: 8 [pcaddu18i, not_into_zero, then_jirl, then_from_it, then_into 1]
+                keep 0 set 0x5400_0000 delete 4;
+            CallToB: 8 [pcaddu18i, not_into_zero, then_jirl, then_from_it, then_into 0]
+                keep 0 set 0x5000_0000 delete 4;
+            PcalaToLu12i: 4 [pcalau12i] keep 0x1f set 0x1400_0000;
+            LowToOri: 4 [addi_d_or_ld_d] keep 0x3ff set 0x0380_0000;
+            LowToOriZero: 4 [addi_d_or_ld_d] keep 0x1f set 0x0380_0000;
+            BaseToTp: 4 [adds_low] keep 0xffff_fc1f set 0x40;
+            Delete: 4 [] delete 0;
+            DeleteAddi: 4 [addi_d, from_itself, not_into_zero] delete 0;
+        }
+    };
 }
 
 impl RelaxationKind {
@@ -203,40 +163,7 @@ impl RelaxationKind {
         debug_assert!(self.can_apply(section_bytes, *offset_in_section));
         let _ = addend;
         let offset = *offset_in_section;
-        match self {
-            RelaxationKind::NoOp | RelaxationKind::Delete | RelaxationKind::DeleteAddi => {}
-            RelaxationKind::ReplaceWithNop => put_word(section_bytes, offset, 0x0340_0000),
-            RelaxationKind::LdToAddi => {
-                let ld = window_at(section_bytes, offset);
-                put_word(section_bytes, offset, ld & 0x003f_ffff | 0x02c0_0000);
-            }
-            RelaxationKind::AddiToLd => {
-                let addi = window_at(section_bytes, offset);
-                put_word(section_bytes, offset, addi & 0x003f_ffff | 0x28c0_0000);
-            }
-            RelaxationKind::PcalaToPcaddi => {
-                let rd = destination(window_at(section_bytes, offset));
-                put_word(section_bytes, offset, 0x1800_0000 | rd);
-            }
-            RelaxationKind::CallToBl => put_word(section_bytes, offset, 0x5400_0000),
-            RelaxationKind::CallToB => put_word(section_bytes, offset, 0x5000_0000),
-            RelaxationKind::PcalaToLu12i => {
-                let rd = destination(window_at(section_bytes, offset));
-                put_word(section_bytes, offset, 0x1400_0000 | rd);
-            }
-            RelaxationKind::LowToOri => {
-                let low = window_at(section_bytes, offset);
-                put_word(section_bytes, offset, low & 0x3ff | 0x0380_0000);
-            }
-            RelaxationKind::LowToOriZero => {
-                let rd = destination(window_at(section_bytes, offset));
-                put_word(section_bytes, offset, 0x0380_0000 | rd);
-            }
-            RelaxationKind::BaseToTp => {
-                let word = window_at(section_bytes, offset);
-                put_word(section_bytes, offset, word - source(word) * 32 + 64);
-            }
-        }
+        rewrites!(self, row => row.apply(section_bytes, offset))
     }
 
     /// Whether `apply` may be called at an offset of a section: the bytes that it rewrites lie in
@@ -252,11 +179,7 @@ impl RelaxationKind {
     #[must_use]
     #[inline]
     pub fn window(self) -> RewriteWindow {
-        let len = match self {
-            RelaxationKind::NoOp | RelaxationKind::Delete | RelaxationKind::DeleteAddi => 0,
-            _ => 4,
-        };
-        RewriteWindow { back: 0, len }
+        rewrites!(self, row => row.window())
     }
 
     /// Whether the instruction that begins at an offset of a section, or the pair, is one that the
@@ -267,28 +190,7 @@ impl RelaxationKind {
     #[must_use]
     #[inline]
     pub fn matches(self, section: &[u8], offset: u64) -> bool {
-        if let RelaxationKind::NoOp = self {
-            return true;
-        }
-        if !has_window(section, offset, 0, 4) {
-            return false;
-        }
-        let word = word_at(section, offset);
-        match self {
-            RelaxationKind::NoOp | RelaxationKind::ReplaceWithNop | RelaxationKind::Delete => true,
-            RelaxationKind::LdToAddi => is_ld(word) && is_into_own_source(word),
-            RelaxationKind::AddiToLd | RelaxationKind::DeleteAddi => {
-                is_addi(word) && is_into_own_source(word)
-            }
-            RelaxationKind::PcalaToPcaddi => is_low_pair(section, offset),
-            RelaxationKind::CallToBl => is_call(section, offset, 1),
-            RelaxationKind::CallToB => is_call(section, offset, 0),
-            RelaxationKind::PcalaToLu12i => is_pcalau12i(word),
-            RelaxationKind::LowToOri | RelaxationKind::LowToOriZero => {
-                is_addi(word) || is_ld(word)
-            }
-            RelaxationKind::BaseToTp => adds_immediate(word),
-        }
+        rewrites!(self, row => row.is_for(section, offset))
     }
 
     /// What happens to the next relocation: it is applied as usual.
@@ -311,15 +213,7 @@ impl RelaxationKind {
     #[must_use]
     #[inline]
     pub fn deleted(self) -> Option<DeletedBytes> {
-        match self {
-            RelaxationKind::CallToBl | RelaxationKind::CallToB => {
-                Some(DeletedBytes { start: 4, count: 4 })
-            }
-            RelaxationKind::Delete | RelaxationKind::DeleteAddi => {
-                Some(DeletedBytes { start: 0, count: 4 })
-            }
-            _ => None,
-        }
+        rewrites!(self, row => row.deleted)
     }
 }
 

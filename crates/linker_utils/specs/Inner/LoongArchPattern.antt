@@ -15,8 +15,10 @@ use Rattle.linker_elf.specs.declared.loongarch64.relocations.LoongArch64Relocati
 
 abbrev pub matches_pattern : Pattern → RelaxationKind → List ℕ → ℕ → Type 0
 matches_pattern pattern.OfRewrite kind = loongarch_matches kind
-matches_pattern (pattern.Load back) kind = IsAfter back (IsPair IsLd)
-matches_pattern (pattern.Sum back) kind = IsAfter back (IsPair IsAddi)
+matches_pattern pattern.Load kind = IsPair IsLd
+matches_pattern pattern.LowOfLoad kind = IsAfter 4 (IsPair IsLd)
+matches_pattern pattern.Sum kind = IsPair IsAddi
+matches_pattern pattern.LowOfSum kind = IsAfter 4 (IsPair IsAddi)
 matches_pattern pattern.Pcalau12i kind = IsSingle IsPcalau12i
 matches_pattern pattern.Ld kind = IsSingle IsLd
 matches_pattern pattern.PageOfDescriptor kind = IsSingle IsPageOfDescriptor

@@ -9,39 +9,29 @@ ghost use Rattle.linker_utils.specs.Inner.LoongArchPattern.{matches_pattern, loo
 ghost use Rattle.linker_utils.specs.LoongArchRewrites as rewrites;
 ghost use Rattle.linker_utils.specs.declared.loongarch64.rewrites.RelaxationKind.TheVariants as kinds;
 
-use super::rewrites::{
-    RelaxationKind, are_of_one_register, destination, is_addi, is_ld, is_low_over_other,
-    is_pcalau12i, source, word_at,
-};
-use linker_base::rewrite::has_window;
+use super::rewrites::{RelaxationKind, test, tests};
+use crate::rewrite_rows::WordBits::{Field, Top};
+use crate::rewrite_rows::WordTest::{AreSame, DifferWhere, Is, IsEitherOrWithin, IsNot};
+use crate::rewrite_rows::are_at;
 use linker_elf::elf::choice_table::{
     ChoiceTable, Chosen, RewriteSet, SIGNED_12, Table, by_table, choice_by, conditions,
 };
 use linker_elf::elf::{Choice, LinkFacts, Operands};
 use linker_elf::loongarch64::{LoongArch64Relocation, LoongArch64Relocation as Names};
 
-/// Whether `pcalau12i rd`, at an offset, and an instruction of an opcode from rd into rd stand next
-/// to each other.
-#[inline]
-fn is_pair(section: &[u8], offset: u64, opcode: u32) -> bool
-    ensures { IsTrue result
-        ↔ rewrites.IsPair (λ word. word / 2 ^ 22 ≡ opcode) section.now offset }
-{
-    if !has_window(section, offset, 0, 8) {
-        return false;
-    }
-    let second = word_at(section, offset + 4);
-    second >> 22 == opcode && are_of_one_register(word_at(section, offset), second)
-}
-
-/// The instructions that an entry is for, of which the first is n bytes before the offset.
+/// The instructions that an entry is for, where its relocation is at the first one, if no other is
+/// named.
 pub enum Pattern {
     /// Those that its rewrite is meant for.
     OfRewrite,
     /// `pcalau12i rd` and `ld.d rd, rd`.
-    Load(u64),
+    Load,
+    /// The same at the `ld.d`.
+    LowOfLoad,
     /// `pcalau12i rd` and `addi.d rd, rd`.
-    Sum(u64),
+    Sum,
+    /// The same at the `addi.d`.
+    LowOfSum,
     /// `pcalau12i`.
     Pcalau12i,
     /// `ld.d`.
@@ -77,24 +67,23 @@ impl RewriteSet for RelaxationKind {
     fn matches_at(self, originals: &Pattern, section: &[u8], offset: u64) -> bool {
         match *originals {
             Pattern::OfRewrite => self.matches(section, offset),
-            Pattern::Load(back) => back <= offset && is_pair(section, offset - back, 0x0a3),
-            Pattern::Sum(back) => back <= offset && is_pair(section, offset - back, 0x00b),
-            _ if !has_window(section, offset, 0, 4) => false,
-            Pattern::Pcalau12i => is_pcalau12i(word_at(section, offset)),
-            Pattern::Ld => is_ld(word_at(section, offset)),
-            Pattern::PageOfDescriptor => {
-                let word = word_at(section, offset);
-                is_pcalau12i(word) && destination(word) == 4
+            Pattern::Load => are_at(&tests![pair_with then_ld_d], section, offset, 8),
+            Pattern::LowOfLoad => {
+                4 <= offset && are_at(&tests![pair_with then_ld_d], section, offset - 4, 8)
             }
-            Pattern::LowOfDescriptor => {
-                let word = word_at(section, offset);
-                is_addi(word) && destination(word) == 4 && source(word) == 4
+            Pattern::Sum => are_at(&tests![pair_with then_addi_d], section, offset, 8),
+            Pattern::LowOfSum => {
+                4 <= offset && are_at(&tests![pair_with then_addi_d], section, offset - 4, 8)
             }
-            Pattern::LoadOfDescriptor => word_at(section, offset) == 0x28c0_0081,
-            Pattern::CallOfDescriptor => word_at(section, offset) == 0x4c00_0021,
-            Pattern::Lu12i => word_at(section, offset) >> 25 == 0x0a,
-            Pattern::AddTp => word_at(section, offset) >> 10 == 0x422,
-            Pattern::LowOverOther => is_low_over_other(word_at(section, offset)),
+            Pattern::Pcalau12i => are_at(&tests![pcalau12i], section, offset, 4),
+            Pattern::Ld => are_at(&tests![ld_d], section, offset, 4),
+            Pattern::PageOfDescriptor => are_at(&tests![pcalau12i, into 4], section, offset, 4),
+            Pattern::LowOfDescriptor => are_at(&tests![addi_d, into 4, from 4], section, offset, 4),
+            Pattern::LoadOfDescriptor => are_at(&tests![ld_d_ra_a0_0], section, offset, 4),
+            Pattern::CallOfDescriptor => are_at(&tests![jirl_ra_ra_0], section, offset, 4),
+            Pattern::Lu12i => are_at(&tests![lu12i_w], section, offset, 4),
+            Pattern::AddTp => are_at(&tests![add_d_of_tp], section, offset, 4),
+            Pattern::LowOverOther => are_at(&tests![adds_low, stores_other], section, offset, 4),
         }
     }
 
@@ -176,23 +165,23 @@ macro_rules! choices {
         $make! {
             $arguments
             R_LARCH_GOT_PC_HI20: [
-                PcalaToPcaddi at Load(0) => R_LARCH_PCREL20_S2, bound_by_pcaddi(0);
-                NoOp at Load(0) => R_LARCH_PCALA_HI20, bound_by_pages(0);
+                PcalaToPcaddi at Load => R_LARCH_PCREL20_S2, bound_by_pcaddi(0);
+                NoOp at Load => R_LARCH_PCALA_HI20, bound_by_pages(0);
             ]
             R_LARCH_GOT_PC_LO12: [
-                Delete at Load(4) => R_LARCH_NONE, bound_by_pcaddi(4);
-                LdToAddi at Load(4) => R_LARCH_PCALA_LO12, bound_by_pages(4);
-                DeleteAddi at Sum(4) => R_LARCH_NONE,
+                Delete at LowOfLoad => R_LARCH_NONE, bound_by_pcaddi(4);
+                LdToAddi at LowOfLoad => R_LARCH_PCALA_LO12, bound_by_pages(4);
+                DeleteAddi at LowOfSum => R_LARCH_NONE,
                     entry_by_pcaddi(R_LARCH_TLS_GD_PCREL20_S2, 4);
             ]
-            R_LARCH_PCALA_HI20: [PcalaToPcaddi at Sum(0) => R_LARCH_PCREL20_S2, by_pcaddi(0)]
-            R_LARCH_PCALA_LO12: [Delete at Sum(4) => R_LARCH_NONE, by_pcaddi(4)]
+            R_LARCH_PCALA_HI20: [PcalaToPcaddi at Sum => R_LARCH_PCREL20_S2, by_pcaddi(0)]
+            R_LARCH_PCALA_LO12: [Delete at LowOfSum => R_LARCH_NONE, by_pcaddi(4)]
             R_LARCH_TLS_GD_PC_HI20: [
-                PcalaToPcaddi at Sum(0) => R_LARCH_TLS_GD_PCREL20_S2,
+                PcalaToPcaddi at Sum => R_LARCH_TLS_GD_PCREL20_S2,
                     entry_by_pcaddi(R_LARCH_TLS_GD_PCREL20_S2, 0)
             ]
             R_LARCH_TLS_LD_PC_HI20: [
-                PcalaToPcaddi at Sum(0) => R_LARCH_TLS_LD_PCREL20_S2,
+                PcalaToPcaddi at Sum => R_LARCH_TLS_LD_PCREL20_S2,
                     entry_by_pcaddi(R_LARCH_TLS_LD_PCREL20_S2, 0)
             ]
             R_LARCH_CALL36: [

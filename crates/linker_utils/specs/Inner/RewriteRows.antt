@@ -1,0 +1,77 @@
+-- What the rows of rewrites mean.
+use Rattle.std.specs.Prelude.{ℕ, zero, suc, List, [], ◌∷◌, ◌≡◌, ◌≢◌, ◌≤◌, ◌<◌, ◌+◌, ◌/◌, ◌^◌, ◌⊎◌, ⊤, length, drop}
+use Rattle.std.specs.Prelude.{Option, None, Some, bit_and, bit_or, IsTrue, not, nat_le, ◌&&◌, ◌||◌, ◌==◌}
+use Rattle.std.specs.Int.{w32, from_le_bytes, to_le_bytes}
+use Rattle.linker_base.specs.Bits.{field}
+use Rattle.linker_base.specs.Rewrite.{Rewrite, replaces}
+use Rattle.linker_utils.specs.declared.rewrite_rows.WordBits.{WordBits}
+use Rattle.linker_utils.specs.declared.rewrite_rows.WordBits.TheVariants as bits
+use Rattle.linker_utils.specs.declared.rewrite_rows.WordEdit.{WordEdit}
+use Rattle.linker_utils.specs.declared.rewrite_rows.RewriteRow.{RewriteRow}
+use Rattle.linker_utils.specs.declared.rewrite_rows.WordTest.{WordTest}
+use Rattle.linker_utils.specs.declared.rewrite_rows.WordTest.TheVariants as test
+
+-- so many bytes after an offset
+abbrev pub place : ℕ → ℕ → ℕ
+place o zero = o
+place o (suc n) = o + suc n
+
+-- the number in bits of an instruction, where the first instruction is at an offset
+abbrev pub bits_at : List ℕ → ℕ → WordBits → ℕ
+bits_at section o (bits.Top at from) = from_le_bytes w32 (drop (place o at) section) / 2 ^ from
+bits_at section o (bits.Field at from to) =
+    field (from_le_bytes w32 (drop (place o at) section)) from to
+
+-- bits are of an instruction that lies in `len` bytes
+abbrev pub AreBits : ℕ → WordBits → Type 0
+AreBits len (bits.Top at from) = (at + 4 ≤ len) × (from < 32)
+AreBits len (bits.Field at from to) = (at + 4 ≤ len) × (from < to) × (to ≤ 32)
+
+abbrev pub IsInside : ℕ → WordTest → Type 0
+IsInside len (test.Is some n) = AreBits len some
+IsInside len (test.IsNot some n) = AreBits len some
+IsInside len (test.IsEither some m n) = AreBits len some
+IsInside len (test.IsEitherOrWithin some m n from to) = AreBits len some
+IsInside len (test.AreSame some others) = AreBits len some × AreBits len others
+IsInside len (test.DifferWhere some from to one other) =
+    AreBits len some × AreBits len one × AreBits len other
+
+-- a test holds
+abbrev pub Holds : List ℕ → ℕ → WordTest → Type 0
+Holds section o (test.Is some n) = bits_at section o some ≡ n
+Holds section o (test.IsNot some n) = bits_at section o some ≢ n
+Holds section o (test.IsEither some m n) =
+    (bits_at section o some ≡ m) ⊎ (bits_at section o some ≡ n)
+Holds section o (test.IsEitherOrWithin some m n from to) =
+    IsTrue (bits_at section o some == m || bits_at section o some == n
+    || nat_le from (bits_at section o some) && nat_le (bits_at section o some) to)
+Holds section o (test.AreSame some others) = bits_at section o some ≡ bits_at section o others
+Holds section o (test.DifferWhere some from to one other) =
+    IsTrue (not (nat_le from (bits_at section o some) && nat_le (bits_at section o some) to
+    && bits_at section o one == bits_at section o other))
+
+abbrev pub AreInside : ℕ → List WordTest → Type 0
+AreInside len [] = ⊤
+AreInside len (t ∷ ts) = IsInside len t × AreInside len ts
+
+abbrev pub AllHold : List ℕ → ℕ → List WordTest → Type 0
+AllHold section o [] = ⊤
+AllHold section o (t ∷ ts) = Holds section o t × AllHold section o ts
+
+-- Instructions for which all tests hold are at an offset.
+abbrev pub AreAt : List ℕ → ℕ → ℕ → List WordTest → Type 0
+AreAt section o len tests = (o + len ≤ length section) × AllHold section o tests
+
+-- Those of a row are.
+abbrev pub IsFor : RewriteRow → List ℕ → ℕ → Type 0
+IsFor row section o = (row.len ≡ 0) ⊎ AreAt section o row.len row.tests.now
+
+abbrev pub edits : Option WordEdit → Option Rewrite
+edits None = None
+edits (Some edit) =
+    Some (replaces 0 4 (λ window.
+    to_le_bytes w32 (bit_or (bit_and (from_le_bytes w32 window) edit.keep) edit.set)))
+
+-- a row's rewrite
+abbrev pub row_rewrite : RewriteRow → Option Rewrite
+row_rewrite row = edits row.edit
