@@ -152,8 +152,7 @@
     STATUS(FACTS_CHANGED, 79, \
            "The facts of the relocation's symbol, or of the output, are not those that were kept.") \
     STATUS(NOT_ALIGNED, 80, \
-           "The code after the nops of an alignment is not aligned: the section was not packed. " \
-           "Or the address is not a multiple of 8.") \
+           "The code after the nops of an alignment is not aligned: the section was not packed.") \
     STATUS(NEEDS_STUB, 81, \
            "The function may return with another TOC pointer, and its symbol has no stub that " \
            "keeps the caller's.") \
@@ -164,7 +163,8 @@
            "and weak, or `other` is not the same.") \
     STATUS(NO_TLS_BASE, 84, \
            "The value counts from an origin of thread-local offsets, and the output has no TLS " \
-           "segment.")
+           "segment.") \
+    STATUS(UNALIGNED_ADDRESS, 85, "An address is not a multiple of 8.")
 
 enum linker_utils_status {
 #define LINKER_UTILS_STATUS(name, number, text) LINKER_UTILS_##name = number,

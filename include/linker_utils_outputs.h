@@ -119,10 +119,10 @@ LINKER_UTILS_MUST_USE uint32_t linker_utils_provided_word(
  * word is an address. An odd word is a bitmap of the 63 words of 8 bytes that begin 8 bytes above
  * the address before it, or after those of the bitmap before it. Both calls take O(n). */
 
-/* Writes the words that relocate `addresses` to the beginning of `words`: no fewer words relocate the
- * same. `needed` becomes how many they are, with LINKER_UTILS_TOO_SHORT too. Of the first address
- * that is no multiple of 8 LINKER_UTILS_NOT_ALIGNED, or that isn't above the one before it
- * LINKER_UTILS_NOT_ASCENDING; LINKER_UTILS_TOO_SHORT, of `words`. */
+/* Writes the words that relocate `addresses` to the beginning of `words`: no fewer words relocate
+ * the same. `needed` becomes how many they are, with LINKER_UTILS_TOO_SHORT too. Of the first
+ * address that is no multiple of 8 LINKER_UTILS_UNALIGNED_ADDRESS, or that isn't above the one
+ * before it LINKER_UTILS_NOT_ASCENDING; LINKER_UTILS_TOO_SHORT, of `words`. */
 LINKER_UTILS_MUST_USE static inline uint32_t linker_utils_write_relr(
     const uint64_t *addresses, size_t addresses_len, uint64_t *words, size_t words_len,
     size_t *needed);
@@ -130,7 +130,7 @@ LINKER_UTILS_MUST_USE static inline uint32_t linker_utils_write_relr(
 /* Writes the addresses that `words` relocate to the beginning of `addresses`, in the order of the
  * words. `needed` becomes how many they are, with LINKER_UTILS_TOO_SHORT too; SIZE_MAX if those are
  * more. LINKER_UTILS_NO_ADDRESS, where the first word is a bitmap. Of the first word that isn't
- * well-formed LINKER_UTILS_NOT_ALIGNED, if it is even, or LINKER_UTILS_TOO_LARGE.
+ * well-formed LINKER_UTILS_UNALIGNED_ADDRESS, if it is even, or LINKER_UTILS_TOO_LARGE.
  * LINKER_UTILS_TOO_SHORT, of `addresses`. */
 LINKER_UTILS_MUST_USE static inline uint32_t linker_utils_read_relr(
     const uint64_t *words, size_t words_len, uint64_t *addresses, size_t addresses_len,

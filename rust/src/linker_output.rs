@@ -20,9 +20,9 @@ mod loongarch64;
 pub mod placement;
 #[cfg(feature = "ppc64")]
 mod ppc64;
+pub mod relr;
 #[cfg(feature = "riscv64")]
 mod riscv64;
-pub mod relr;
 pub mod routes;
 pub mod stubs;
 #[cfg(feature = "x86_64")]

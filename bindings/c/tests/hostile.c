@@ -1499,7 +1499,7 @@ static void call_write_relr(void) {
     if (status == LINKER_UTILS_OK) words->changes_to = *needed * sizeof(uint64_t);
     expect(status || *needed <= count, "more words than addresses");
     expect(status != LINKER_UTILS_TOO_SHORT || *needed > words_len, "too short, but for none");
-    finish_needed(status, needed, 0 OR(NOT_ALIGNED) OR(NOT_ASCENDING) OR(TOO_SHORT));
+    finish_needed(status, needed, 0 OR(UNALIGNED_ADDRESS) OR(NOT_ASCENDING) OR(TOO_SHORT));
 }
 
 static void call_read_relr(void) {
@@ -1517,7 +1517,7 @@ static void call_read_relr(void) {
                            LEN(addresses, uint64_t), needed);
     if (status == LINKER_UTILS_OK) addresses->changes_to = *needed * sizeof(uint64_t);
     expect(status || *needed <= 63 * count, "more addresses than bits");
-    finish_needed(status, needed, 0 OR(NO_ADDRESS) OR(NOT_ALIGNED) OR(TOO_LARGE) OR(TOO_SHORT));
+    finish_needed(status, needed, 0 OR(NO_ADDRESS) OR(UNALIGNED_ADDRESS) OR(TOO_LARGE) OR(TOO_SHORT));
 }
 
 static void call_output_facts(void) {

@@ -312,7 +312,7 @@ fn forms_of(architecture: &str, of_enum: &str) -> Numbers {
 
 /// The rewrites of an architecture of the proved library's, by their numbers.
 fn rewrites_of(architecture: &str) -> Numbers {
-    let source = format!("linker_{architecture}/src/rewrites");
+    let source = format!("linker_utils/src/{architecture}/rewrites");
     arms(&source, "RelaxationKind")
 }
 

@@ -58,10 +58,10 @@ fn words_of_packed_relocations_are_those_of_lld() {
     assert_eq!(relr_words(&addresses).as_deref(), Ok(&words[..]));
     assert_eq!(relr_addresses(&words).as_deref(), Ok(&addresses[..]));
     assert_eq!(relr_words(&[]), Ok(vec![]));
-    assert_eq!(relr_words(&[8, 12]), Err(Status::NotAligned));
+    assert_eq!(relr_words(&[8, 12]), Err(Status::UnalignedAddress));
     assert_eq!(relr_words(&[16, 8]), Err(Status::NotAscending));
     assert_eq!(relr_addresses(&[3]), Err(Status::NoAddress));
-    assert_eq!(relr_addresses(&[8, 12]), Err(Status::NotAligned));
+    assert_eq!(relr_addresses(&[8, 12]), Err(Status::UnalignedAddress));
     assert_eq!(relr_addresses(&[0_u64.wrapping_sub(8), 3]), Err(Status::TooLarge));
 }
 

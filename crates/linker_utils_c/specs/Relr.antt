@@ -5,13 +5,13 @@ use Rattle.linker_output.specs.declared.relr.RelrError.{RelrError}
 use Rattle.linker_output.specs.declared.relr.RelrError.TheVariants as errors
 use Rattle.linker_utils_c.specs.Status.{code}
 use Rattle.linker_utils_c.specs.declared.status.Status.{Status}
-use Rattle.linker_utils_c.specs.declared.status.Status.TheVariants.{Success, NotAligned}
+use Rattle.linker_utils_c.specs.declared.status.Status.TheVariants.{Success, UnalignedAddress}
 use Rattle.linker_utils_c.specs.declared.status.Status.TheVariants.{NotAscending, NoAddress}
 use Rattle.linker_utils_c.specs.declared.status.Status.TheVariants.{TooLarge, TooShort}
 
 abbrev pub relr_status : Result ℕ RelrError → Status
 relr_status (Ok count) = Success
-relr_status (Err errors.Unaligned) = NotAligned
+relr_status (Err errors.Unaligned) = UnalignedAddress
 relr_status (Err errors.NotAscending) = NotAscending
 relr_status (Err errors.NoAddress) = NoAddress
 relr_status (Err errors.Wraps) = TooLarge

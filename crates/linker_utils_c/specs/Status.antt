@@ -50,7 +50,7 @@ use Rattle.linker_utils_c.specs.declared.status.Status.TheVariants.{CodeTooLong,
 use Rattle.linker_utils_c.specs.declared.status.Status.TheVariants.{StubTooFar, FactsChanged}
 use Rattle.linker_utils_c.specs.declared.status.Status.TheVariants.{NotAligned, NeedsStub}
 use Rattle.linker_utils_c.specs.declared.status.Status.TheVariants.{OtherLength, FactsContradict}
-use Rattle.linker_utils_c.specs.declared.status.Status.TheVariants.{NoTlsBase}
+use Rattle.linker_utils_c.specs.declared.status.Status.TheVariants.{NoTlsBase, UnalignedAddress}
 
 abbrev pub code : Status → ℕ
 code Success = 0
@@ -136,6 +136,7 @@ code NeedsStub = 81
 code OtherLength = 82
 code FactsContradict = 83
 code NoTlsBase = 84
+code UnalignedAddress = 85
 
 -- the status is one of these
 abbrev pub IsOneOf : List Status → ℕ → Type 0

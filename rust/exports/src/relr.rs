@@ -12,7 +12,7 @@ fn status_of(written: Result<usize, RelrError>, needed: &mut usize) -> u32 {
             *needed = count;
             Status::Success.number()
         }
-        Err(RelrError::Unaligned) => Status::NotAligned.number(),
+        Err(RelrError::Unaligned) => Status::UnalignedAddress.number(),
         Err(RelrError::NotAscending) => Status::NotAscending.number(),
         Err(RelrError::NoAddress) => Status::NoAddress.number(),
         Err(RelrError::Wraps) => Status::TooLarge.number(),
@@ -24,7 +24,7 @@ fn status_of(written: Result<usize, RelrError>, needed: &mut usize) -> u32 {
 }
 
 /// Writes the words that relocate addresses to the beginning of `words`, as `write_relr`, and how
-/// many they are to `needed`, with `TooShort` too. The first that applies of `NotAligned` and
+/// many they are to `needed`, with `TooShort` too. The first that applies of `UnalignedAddress` and
 /// `NotAscending`, of an address; `TooShort`. Then `words` are unchanged.
 pub fn linker_utils_write_relr_nonnull(
     addresses: &[u64],
@@ -36,7 +36,7 @@ pub fn linker_utils_write_relr_nonnull(
 
 /// Writes the addresses that words relocate to the beginning of `addresses`, as `read_relr`, and
 /// how many they are to `needed`, with `TooShort` too, `usize::MAX` if those are more. The first
-/// that applies of `NoAddress`; `NotAligned` and `TooLarge`, of a word; `TooShort`. Then
+/// that applies of `NoAddress`; `UnalignedAddress` and `TooLarge`, of a word; `TooShort`. Then
 /// `addresses` are unchanged.
 pub fn linker_utils_read_relr_nonnull(
     words: &[u64],

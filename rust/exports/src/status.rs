@@ -170,8 +170,7 @@ pub enum Status {
     StubTooFar,
     /// The facts of the relocation's symbol, or of the output, are not those that were kept.
     FactsChanged,
-    /// The code after the nops of an alignment is not aligned: the section was not packed. Or the
-    /// address is not a multiple of 8.
+    /// The code after the nops of an alignment is not aligned: the section was not packed.
     NotAligned,
     /// The function may return with another TOC pointer, and its symbol has no stub that keeps the
     /// caller's.
@@ -183,6 +182,8 @@ pub enum Status {
     FactsContradict,
     /// The value counts from an origin of thread-local offsets, and the output has no TLS segment.
     NoTlsBase,
+    /// An address is not a multiple of 8.
+    UnalignedAddress,
 }
 
 impl Status {

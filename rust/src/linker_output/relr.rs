@@ -4,8 +4,9 @@
 //! bytes. The dynamic linker adds the load address to the word of 8 bytes at each address that they
 //! relocate.
 //!
-//! An even word is an address. An odd word is a bitmap of the 63 words of 8 bytes that begin 8 bytes
-//! above the address before it, or after those of the bitmap before it; bit 1 is that of the first.
+//! An even word is an address. An odd word is a bitmap of the 63 words of 8 bytes that begin 8
+//! bytes above the address before it, or after those of the bitmap before it; bit 1 is that of the
+//! first.
 
 /// Why addresses aren't packed, or words aren't read.
 #[cfg_attr(not(exhaustive), non_exhaustive)]
@@ -145,11 +146,11 @@ fn decode(words: &[u64], addresses: &mut [u64]) -> Result<usize, RelrError> {
     Ok(count)
 }
 
-/// Writes the addresses that words relocate to the beginning of a slice, in their order, and returns
-/// how many they are. Addresses after those are left, and with an error all are.
+/// Writes the addresses that words relocate to the beginning of a slice, in their order, and
+/// returns how many they are. Addresses after those are left, and with an error all are.
 ///
-/// `NoAddress`, `Unaligned` and `Wraps` are of the first word that isn't well-formed. `TooShort` has
-/// how many addresses there are: with an empty slice the call counts them.
+/// `NoAddress`, `Unaligned` and `Wraps` are of the first word that isn't well-formed. `TooShort`
+/// has how many addresses there are: with an empty slice the call counts them.
 ///
 /// ```
 /// use linker_utils::output::read_relr;
