@@ -15,6 +15,8 @@ struct dynamic_row {
     int64_t addend;
 };
 
+struct output *relr; /* null where relative relocations aren't packed */
+
 static struct dynamic_row *rows;
 static size_t rows_len, rows_room, listed_len = 1, imports_len;
 static struct symbol **listed; /* by their numbers in the table, first those of other files */
@@ -221,6 +223,55 @@ static void list_dynamic(void) {
     if (verneed->len) make_room(versym, 2, 2 * listed_len);
 }
 
+/* Whether a row only adds the load address to a word that can be packed. */
+static bool is_packed(const struct dynamic_row *row) {
+    return relr && row->type == types.relative && !(row->offset % 8 || row->output->align % 8);
+}
+
+static int by_number(const void *left, const void *right) {
+    return order(*(const uint64_t *)left, *(const uint64_t *)right);
+}
+
+/* The addresses of a section's packed rows in order, or of all sections'; how many they are. */
+static size_t packed_places(const struct output *o, uint64_t *places) {
+    size_t len = 0;
+    for (const struct dynamic_row *row = rows; row < rows + rows_len; row++)
+        if (is_packed(row) && (!o || row->output == o))
+            places[len++] = (o ? 0 : row->output->address) + row->offset;
+    if (len) qsort(places, len, sizeof *places, by_number);
+    return len;
+}
+
+/* Makes room for the words of each section's packed rows; sections that meet need no more. */
+static void make_packed(void) {
+    uint64_t *places = zeros(rows_len, sizeof *places);
+    size_t needed = 0;
+    EACH_OUTPUT(o) {
+        uint32_t status = linker_utils_write_relr(places, packed_places(o, places), NULL, 0, &needed);
+        if (status != LINKER_UTILS_TOO_SHORT) expect_ok(status);
+        make_room(relr, 8, 8 * needed);
+    }
+    free(places);
+    for (struct library *l = libraries; l && relr->len; l = l->next) /* glibc requires it */
+        for (size_t i = 0; i <= MOST_VERSIONS; i++)
+            l->versions[i].number |= l->versions[i].name &&
+                                     !strcmp(l->versions[i].name, "GLIBC_ABI_DT_RELR");
+}
+
+/* Writes the words, and bitmaps without a bit after them; what is added stands in each place. */
+static void write_packed(void) {
+    uint64_t *places = zeros(rows_len, sizeof *places), *words = (uint64_t *)relr->bytes;
+    size_t len = packed_places(NULL, places), used = 0;
+    expect_ok(linker_utils_write_relr(places, len, words, relr->len / 8, &used));
+    while (used < relr->len / 8) words[used++] = 1;
+    free(places);
+    for (const struct dynamic_row *row = rows; row < rows + rows_len; row++) {
+        const struct symbol *s = row->symbol;
+        uint64_t value = address_of(s->output, s->offset) + (uint64_t)row->addend;
+        if (is_packed(row)) memcpy(row->output->bytes + row->offset, &value, sizeof value);
+    }
+}
+
 static void put_entry(int64_t tag, uint64_t value) {
     Elf64_Dyn entry = {.d_tag = tag, .d_un.d_val = value};
     append(dynamic, 8, &entry, sizeof entry);
@@ -266,6 +317,7 @@ static void put_entries(void) {
     put_table(dynstr, DT_STRTAB, DT_STRSZ, 0);
     put_table(dynsym, DT_SYMTAB, 0, DT_SYMENT);
     put_table(rela, DT_RELA, DT_RELASZ, DT_RELAENT);
+    if (relr) put_table(relr, DT_RELR, DT_RELRSZ, DT_RELRENT);
     put_table(versym, DT_VERSYM, 0, 0);
     put_table(verneed, DT_VERNEED, 0, 0);
     if (verneed->len) put_entry(DT_VERNEEDNUM, verneed->info);
@@ -280,7 +332,10 @@ static void put_entries(void) {
 void make_dynamic(void) {
     uint8_t path[LINKER_UTILS_NAME_SIZE + 1] = {0};
     size_t used = 0, most = sizeof path - 1;
-    if (rows_len) make_room(rela, 8, rows_len * sizeof(Elf64_Rela));
+    size_t rela_len = 0;
+    for (size_t i = 0; i < rows_len; i++) rela_len += !is_packed(&rows[i]);
+    if (rela_len) make_room(rela, 8, rela_len * sizeof(Elf64_Rela));
+    if (relr) make_packed();
     if (!is_dynamic) return;
     if (interpreter && linker_utils_interpreter(machine, machine_flags, path, most, &used))
         fail("no dynamic linker is known for such objects");
@@ -304,7 +359,9 @@ static int by_symbol(const void *left, const void *right) {
 bool write_dynamic(void) {
     bool is_of_gnu = false;
     Elf64_Rela *to = (Elf64_Rela *)rela->bytes;
-    for (const struct dynamic_row *row = rows; row < rows + rows_len; row++, to++) {
+    if (relr && relr->len) write_packed();
+    for (const struct dynamic_row *row = rows; row < rows + rows_len; row++) {
+        if (is_packed(row)) continue;
         const struct symbol *s = row->symbol;
         bool is_looked_up = s->is_imported || row->type == types.copy;
         bool is_of_copy = row->type == types.word && !is_looked_up; /* which came later */
@@ -316,8 +373,9 @@ bool write_dynamic(void) {
                                   is_of_copy ? types.relative : row->type);
         to->r_addend = (int64_t)((uint64_t)row->addend + (is_looked_up ? 0 : at));
         if (row->type == types.module_number) to->r_addend = 0;
+        to++;
     }
-    if (rows_len) qsort(rela->bytes, rows_len, sizeof(Elf64_Rela), by_symbol);
+    if (rela->len) qsort(rela->bytes, rela->len / sizeof *to, sizeof *to, by_symbol);
     if (!is_dynamic) return false;
     Elf64_Sym *elf = (Elf64_Sym *)dynsym->bytes + 1;
     for (size_t i = 1; i < listed_len; i++, elf++) {

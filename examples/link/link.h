@@ -223,7 +223,7 @@ extern struct symbol module;         /* has the entry of the GOT that is the mod
 extern struct output *outputs[MOST_OUTPUTS + 3]; /* null after them */
 extern struct output *headers, *got, *stubs, *slots, *rela, *frames, *index_of, *bss;
 /* null where there is none: */
-extern struct output *interpreter, *dynamic, *dynsym, *dynstr, *hash_table, *versym, *verneed;
+extern struct output *relr, *interpreter, *dynamic, *dynsym, *dynstr, *hash_table, *versym, *verneed;
 extern size_t symbols_len, outputs_len;
 extern bool has_far_symbols;
 extern uint64_t span; /* of the linked file's addresses */

@@ -1,6 +1,7 @@
 /* SPDX-License-Identifier: MIT OR Apache-2.0 */
 /* usage: link [-s] [--no-relax | --short-offsets | --relax-gp] [-pie | -shared [-soname NAME]]
- *             [-z now | -z relro]... -o OUTPUT [--section-start=NAME=ADDRESS]... FILE...
+ *             [--pack-dyn-relocs=relr] [-z now | -z relro]... -o OUTPUT
+ *             [--section-start=NAME=ADDRESS]... FILE...
  * A file is an object, an archive or a shared library. The output is a static executable; with
  * shared libraries an executable that they are loaded for, with `-pie` at any address; and with
  * `-shared` a shared library. A member of an archive is linked if it defines a symbol that is
@@ -21,9 +22,10 @@ struct output *bss, *dynsym, *dynstr, *hash_table, *versym, *verneed;
 
 static const char usage[] =
     "usage: link [-s] [--no-relax | --short-offsets | --relax-gp] [-pie | -shared [-soname NAME]]"
-    " -o OUTPUT [--section-start=NAME=ADDRESS]... FILE...";
+    " [--pack-dyn-relocs=relr] -o OUTPUT [--section-start=NAME=ADDRESS]... FILE...";
 static const char *path; /* of the output */
-static bool has_symbols = true, is_placed = false;
+static bool has_symbols = true, is_placed = false, packs = false;
+
 /* Ends a line of an error, or clears the one that names an object. */
 void end_line(const char *end) {
     fprintf(stderr, "%s%s", isatty(STDERR_FILENO) ? "\033[K" : "", end);
@@ -112,6 +114,7 @@ static void make_sections(void) {
     }
     const char *name = is_dynamic ? ".rela.dyn" : ".rela_iplt";
     rela = own_section(name, 0, SHT_RELA, sizeof(Elf64_Rela), dynsym);
+    if (is_dynamic && packs) relr = own_section(".relr.dyn", 0, SHT_RELR, 8, NULL);
     module.output = got;
     list_symbol(&module);
 }
@@ -139,6 +142,7 @@ static void read_arguments(char **argument) {
         else if (!strcmp(it, "--relax-gp")) relaxes_near = true;
         else if (!strcmp(it, "-pie")) linked.is_fixed = false;
         else if (!strcmp(it, "-shared")) linked.is_fixed = linked.is_executable = false;
+        else if (!strcmp(it, "--pack-dyn-relocs=relr")) packs = true;
         else if (!strcmp(it, "-z") && protects) argument++;
         else if (!strcmp(it, "-o") && argument[1]) path = *++argument;
         else if (!strcmp(it, "-soname") && argument[1]) own_name = *++argument;

@@ -1,6 +1,6 @@
 -- Each name but `Other` has the code and the text that stand at its index: by computation, name by
 -- name.
-use Rattle.std.proofs.Common.{◌≡◌, ℕ, List, [], refl, slice_index_or}
+use Rattle.std.proofs.Common.{◌≡◌, ℕ, [], refl, slice_index_or}
 use denote.Enum.Declared.{tag_of}
 use Rattle.std.specs.Prelude.{map}
 use Rattle.linker_elf.specs.ElfNames.{code_of, text_of}
