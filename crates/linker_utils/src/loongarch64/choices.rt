@@ -1,6 +1,6 @@
 //! LoongArch: which rewrite a linker chooses for a relocation.
 
-ghost use Rattle.std.specs.Prelude.{◌==◌, ◌/◌, ◌^◌, ◌≡◌, ◌↔◌, IsTrue};
+ghost use Rattle.std.specs.Prelude.{◌==◌, ◌↔◌, IsTrue};
 ghost use Rattle.linker_base.specs.Rewrite.{CanRewrite};
 ghost use Rattle.linker_elf.specs.Choices.{Fits, choice};
 ghost use Rattle.linker_elf.proofs.SameNames.{equalities, exact_code};
