@@ -190,10 +190,10 @@ fn instructions(architecture: Architecture, originals: &str) -> String {
         (Architecture::RiscV | Architecture::LoongArch64, "LowOverOther", []) => {
             "any but an integer store of its own base".into()
         }
-        (Architecture::LoongArch64, "Load", [0]) => "`pcalau12i rd` before `ld.d rd, rd`".into(),
-        (Architecture::LoongArch64, "Load", [4]) => "`ld.d rd, rd` after `pcalau12i rd`".into(),
-        (Architecture::LoongArch64, "Sum", [0]) => "`pcalau12i rd` before `addi.d rd, rd`".into(),
-        (Architecture::LoongArch64, "Sum", [4]) => "`addi.d rd, rd` after `pcalau12i rd`".into(),
+        (Architecture::LoongArch64, "Load", []) => "`pcalau12i rd` before `ld.d rd, rd`".into(),
+        (Architecture::LoongArch64, "LowOfLoad", []) => "`ld.d rd, rd` after `pcalau12i rd`".into(),
+        (Architecture::LoongArch64, "Sum", []) => "`pcalau12i rd` before `addi.d rd, rd`".into(),
+        (Architecture::LoongArch64, "LowOfSum", []) => "`addi.d rd, rd` after `pcalau12i rd`".into(),
         (Architecture::LoongArch64, "Pcalau12i", []) => "`pcalau12i`".into(),
         (Architecture::LoongArch64, "Ld", []) => "`ld.d`".into(),
         (Architecture::LoongArch64, "PageOfDescriptor", []) => "`pcalau12i a0`".into(),

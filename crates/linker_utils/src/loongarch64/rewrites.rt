@@ -36,9 +36,9 @@ pub enum RelaxationKind {
     NoOp,
     /// Turns the instruction into `nop`.
     ReplaceWithNop,
-    /// Turns `ld.d` into `addi.d`. WordBits 0 to 21 are unchanged.
+    /// Turns `ld.d` into `addi.d`. Bits 0 to 21 are unchanged.
     LdToAddi,
-    /// Turns `addi.d` into `ld.d`. WordBits 0 to 21 are unchanged.
+    /// Turns `addi.d` into `ld.d`. Bits 0 to 21 are unchanged.
     AddiToLd,
     /// Turns the `pcalau12i` of a pair into `pcaddi` of distance 0, with its destination register.
     /// The pair's second instruction is deleted for its own relocation.
