@@ -1,7 +1,7 @@
 //! The sixth architecture: what its relocations mean. Its instructions are those of AArch64.
 
 use crate::linker_elf::elf::choice_table::RelocationName;
-use crate::linker_elf::elf::rows::{TableRow, info_in, listed, row_in};
+use crate::linker_elf::elf::rows::{TableRow, info_in, listed, row_in, text_at};
 use crate::linker_elf::elf::{RelocationKindInfo, Row};
 use core::fmt;
 
@@ -84,14 +84,24 @@ impl SixthRelocation {
     #[must_use]
     #[inline]
     pub const fn elf_code(self) -> u32 {
-        relocations!(code_of SixthRelocation, self)
+        match self {
+            SixthRelocation::Other(code) => code,
+            _ => CODES[index(self)],
+        }
     }
 
     #[must_use]
     pub const fn name(self) -> &'static str {
-        relocations!(text_of SixthRelocation, self)
+        match self {
+            SixthRelocation::Other(_) => "unknown relocation",
+            _ => text_at(TEXTS, index(self)),
+        }
     }
 }
+
+static CODES: &[u32] = &relocations!(codes);
+
+static TEXTS: &[&str] = &relocations!(texts);
 
 static ROWS: &[Option<TableRow>] = &relocations!(table [AArch64 AArch64Instruction EM_AARCH64]);
 
