@@ -1,8 +1,8 @@
 //! The value of a relocation, from the addresses that a linker knows.
 
 ghost use Rattle.std.specs.Prelude.{◌≡◌, false};
-ghost use Rattle.linker_elf.specs.Inner.RowTables.{terms_of};
-ghost use Rattle.linker_elf.specs.Inner.RowTables.{symbol_of, entry_of_terms, plt_of, signed_in, as_given};
+ghost use Rattle.linker_elf.specs.Inner.RowTables.{terms_of, symbol_of, entry_of_terms, plt_of};
+ghost use Rattle.linker_elf.specs.Inner.RowTables.{signed_in, as_given};
 ghost use Rattle.linker_elf.specs.Value.{sum_64, sequence_pc, completed, is_offset};
 ghost use Rattle.linker_elf.specs.Value.{loads_plt_word, value_given};
 

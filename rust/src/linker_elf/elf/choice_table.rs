@@ -258,8 +258,8 @@ impl<R: RelocationName> ValueCondition<R> {
     }
 }
 
-/// Whether all conditions on values hold. By reference, so that LLVM sees those of a constant entry,
-/// and doesn't compile each kind of condition for each entry.
+/// Whether all conditions on values hold. By reference, so that LLVM sees those of a constant
+/// entry, and doesn't compile each kind of condition for each entry.
 #[inline(always)]
 fn all_hold<R: RelocationName>(
     values: &ValueConditions<R>,

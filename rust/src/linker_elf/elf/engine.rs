@@ -53,8 +53,8 @@ pub(crate) const UNSIGNED: Encoding = Encoding {
 /// and as many that move nothing as are left; with `variant` and the forms' enum its variant; with
 /// `window` the length of its window in bytes. With `by`, what is done with a form, in an arm for
 /// each. A form is its name, its window, which bits of its number the immediate has, its steps and
-/// how it is read. A step is its runs, each a bit of the value, one of the window, and their length;
-/// with `or` a run is only ORed.
+/// how it is read. A step is its runs, each a bit of the value, one of the window, and their
+/// length; with `or` a run is only ORed.
 macro_rules! forms {
     ([by $forms:ident $value:expr, $form:ident: $done:expr] $(($name:ident $($part:tt)+))+) => {
         match $value {

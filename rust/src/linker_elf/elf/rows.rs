@@ -424,7 +424,8 @@ impl RelocationKindInfo {
 /// table, each below a number, and the rest. `name_of` makes the name with a code; `code_of` and
 /// `text_of` the code and the text of a name; `index_of` its index in the list. `table` makes the
 /// table of rows by these indices, whose last entry is that of `Other`. It is given the variant of
-/// `RelocationInstruction`, the enum of the forms and the `e_machine` of the architecture.
+/// `RelocationInstruction`, the enum of the forms and the `e_machine` of the architecture. A list
+/// has at most 124 names, since calls of macros nest at most 128 deep.
 macro_rules! listed {
     (
         (name_of $names:ident, $code:ident)
@@ -456,7 +457,7 @@ macro_rules! listed {
             32 33 34 35 36 37 38 39 40 41 42 43 44 45 46 47 48 49 50 51 52 53 54 55 56 57 58 59 60
             61 62 63 64 65 66 67 68 69 70 71 72 73 74 75 76 77 78 79 80 81 82 83 84 85 86 87 88 89
             90 91 92 93 94 95 96 97 98 99 100 101 102 103 104 105 106 107 108 109 110 111 112 113
-            114 115 116 117 118 119 120 121 122 123 124 125 126 127
+            114 115 116 117 118 119 120 121 122 123 124
         )
     };
     (
@@ -571,8 +572,8 @@ macro_rules! row {
 }
 
 /// A bound of a range, or of a reach: `any`; `signed`, `unsigned` or `signed_or_unsigned` numbers
-/// of n bits; those `within a..b`; or those of a `pair` of RISC-V, whose low part is signed, so that
-/// it reaches 0x800 less than 32 signed bits.
+/// of n bits; those `within a..b`, `b` excluded; or `signed_or_unsigned` ones of 32 bits of a
+/// `pair` of RISC-V, whose low part is signed, so that it reaches 0x800 less than 32 signed bits.
 macro_rules! bound {
     (has_range any) => { 0 };
     (has_range $range:ident) => { 1 };
@@ -599,10 +600,11 @@ macro_rules! mask {
     (PLACE_PAGES) => { $crate::linker_elf::elf::rows::mask!(@ SymbolPlusAddendAndPosition) };
     (ENTRY_PAGES) => { $crate::linker_elf::elf::rows::mask!(@ GotEntryAndPosition) };
     (GOT_PAGE) => { $crate::linker_elf::elf::rows::mask!(@ GotBase) };
-    (@ $mask:ident) => { Some($crate::linker_elf::elf::PageMask::$mask($crate::linker_elf::elf::PageMaskPattern::Size4KB)) };
+    (@ $of:ident) => { Some($crate::linker_elf::elf::PageMask::$of($crate::linker_elf::elf::PageMaskPattern::Size4KB)) };
 }
 
-/// The number of a mask; or the bits of a term that count: all, those of its page of 4 KiB, or none.
+/// The number of a mask; or the bits of a term that count: all, those of its page of 4 KiB, or
+/// none.
 macro_rules! bits {
     (number) => { 0 };
     (number PLACE_PAGES) => { 1 };
@@ -619,10 +621,11 @@ macro_rules! bits {
     ($term:ident $($given:tt)*) => { u64::MAX };
 }
 
-// The macros below take a row as its form, the form's architecture, its kind, its first bit, its end
-// bit and its bytes. Where its value goes into bytes, its form and architecture are `Bytes`.
+// The macros below take a row as its form, the form's architecture, its kind, its first bit, its
+// end bit and its bytes. Where its value goes into bytes, its form and architecture are `Bytes`.
 
-/// A fact of a row: what a write of it tests, and `facts_of` of `specs/`.
+/// A fact of a row: what a write of it tests (`WriteTests`), and what a linker asks (`RowFacts`,
+/// `facts_of` of `specs/`).
 macro_rules! fact {
     // `write` doesn't take those of ULEB128 numbers and of `Call30`
     (rejected Bytes Bytes Relative 0 0 0) => { true };

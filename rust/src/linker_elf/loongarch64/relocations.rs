@@ -253,8 +253,8 @@ impl RelocationName for LoongArch64Relocation {
     }
 }
 
-/// The row with the kind that the crate `linker-utils` has: there `R_LARCH_ALIGN` has no kind of its
-/// own. Not by the name: LLVM compiles a match of it to a jump by the code.
+/// The row with the kind that the crate `linker-utils` has: there `R_LARCH_ALIGN` has no kind of
+/// its own. Not by the name: LLVM compiles a match of it to a jump by the code.
 #[inline(always)]
 const fn with_raw_kind(row: Option<RelocationKindInfo>) -> Option<RelocationKindInfo> {
     match row {
