@@ -1,6 +1,6 @@
 -- AArch64's stubs to anywhere go there.
 use Rattle.std.proofs.Common.{◌≡◌, ℕ, ◌+◌, ◌*◌, ◌%◌, ◌^◌, ◌<◌, Bool, true, false, refl, sym, ◌∙◌, ap, subst, arith}
-use Rattle.std.proofs.Common.{List, [], ◌∷◌, ◌++◌, eqb, cond, Some, None, Option, drop, pos, ◌+ℤ◌}
+use Rattle.std.proofs.Common.{List, [], ◌∷◌, ◌++◌, eqb, cond, Some, None, drop, pos, ◌+ℤ◌}
 use Rattle.std.specs.Prelude.{IsSomeAnd, ◌||◌}
 use Rattle.std.specs.Int.{w64, cast_unsigned}
 use Rattle.std.proofs.lemmas.Bool.{eq-eqb, cond-true}
