@@ -896,7 +896,11 @@ enum linker_utils_stub_kind {
     /* It jumps to the address that a word of 8 bytes has: to a function of another output, whose
      * address the dynamic linker puts there, or to what an indirect function returns. */
     LINKER_UTILS_STUB_LOAD = 0,
-    LINKER_UTILS_STUB_JUMP = 1 /* to its target, which branches may not reach */
+    LINKER_UTILS_STUB_JUMP = 1, /* to its target, which branches may not reach */
+    /* To its target wherever that is, by the address in its last 8 bytes. In an output whose load
+     * address isn't fixed that address takes a dynamic relocation. */
+    LINKER_UTILS_STUB_FAR = 2,
+    LINKER_UTILS_STUB_FAR_RELATIVE = 3 /* the same by a distance, for any load address */
 };
 
 /* Which address a relocation's value is computed from, in the letters of `enum

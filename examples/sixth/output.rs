@@ -111,6 +111,8 @@ pub(crate) static TARGET: Target = Target {
         origin: 0,
         addend: 0,
     }),
+    far_stub: None,
+    far_relative_stub: None,
 };
 
 /// A field at an offset, with the value of a relocation.

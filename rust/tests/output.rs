@@ -352,6 +352,33 @@ fn bytes(hex: &str) -> Vec<u8> {
     (0..hex.len()).step_by(2).map(digits).collect()
 }
 
+/// The first is ld.lld 19's `__AArch64AbsLongThunk_far`, the second GNU ld 2.40's `__far_veneer`, both
+/// linked with `--defsym far=0x123456789abcdef0`.
+#[test]
+fn stubs_to_anywhere_are_those_of_linkers() {
+    let (target, far) = (Target::of(Architecture::AArch64), 0x1234_5678_9abc_def0);
+    for (kind, place, hex) in [
+        (StubKind::Far, 0x21_0004, "5000005800021fd6f0debc9a78563412"),
+        (
+            StubKind::FarRelative,
+            0x21_0010,
+            "90000058110000101002118b00021fd6dcde9b9a78563412",
+        ),
+    ] {
+        let expected = bytes(hex);
+        let mut out = vec![0x55; expected.len()];
+        assert_eq!(target.write_stub(kind, place, far, &mut out), Ok(()));
+        assert_eq!(out, expected);
+        for other in ALL.into_iter().filter(|other| *other != Architecture::AArch64) {
+            assert_eq!(Target::of(other).stub(kind), None);
+        }
+    }
+    // to an address below the stub's
+    let mut out = [0; 24];
+    assert_eq!(target.write_stub(StubKind::FarRelative, 0x10_0000, 0x1000, &mut out), Ok(()));
+    assert_eq!(out[16..], 0x1000_u64.wrapping_sub(0x10_0004).to_le_bytes());
+}
+
 #[test]
 fn stubs_are_what_assemblers_make_of_their_instructions() {
     for (architecture, kind, hex) in STUBS {
@@ -508,6 +535,8 @@ fn a_further_architecture_is_a_value() {
             addend: 0,
         },
         jump_stub: None,
+        far_stub: None,
+        far_relative_stub: None,
     };
     assert_eq!(
         sixth.dynamic_words(EntryClass::Address, false, true),

@@ -1594,7 +1594,7 @@ static void call_provided_word(void) {
 
 static void call_stub(void) {
     struct linker_utils_stub *stub = output(sizeof *stub);
-    uint32_t kind = once_in(8) ? (uint32_t)any_number() : (uint32_t)below(2);
+    uint32_t kind = once_in(8) ? (uint32_t)any_number() : (uint32_t)below(4);
     uint32_t status = CALL(get_stub, any_machine(), kind, stub);
     expect(status || (stub->len <= 64 && stub->entry < stub->len), "no stub");
     finish_with(status, 0 UNKNOWN OR(UNKNOWN_STUB));
@@ -1602,7 +1602,7 @@ static void call_stub(void) {
 
 static void call_write_stub(void) {
     struct buffer *code = bytes(WRITTEN, any_len(48));
-    uint32_t kind = once_in(8) ? (uint32_t)any_number() : (uint32_t)below(2);
+    uint32_t kind = once_in(8) ? (uint32_t)any_number() : (uint32_t)below(4);
     uint64_t at = any_number(), target = once_in(4) ? any_number() : at + 4 * below(1 << 20);
     changes(code, 0, 36);
     uint32_t status = CALL(write_stub, any_machine(), kind, at, target, code->given, code->len);

@@ -134,6 +134,14 @@ fn stubs_go_to_their_targets() {
     assert_eq!(stub(PPC64, StubKind::Load), Ok(Stub { len, entry }));
     // RISC-V's calls reach 2 GiB
     assert_eq!(stub(RISCV, StubKind::Jump), Err(Status::UnknownStub));
+    assert_eq!(stub(RISCV, StubKind::Far), Err(Status::UnknownStub));
+    // as ld.lld and GNU ld write them
+    let (far, mut long) = (0x1234_5678_9abc_def0_u64, [0; 24]);
+    assert_eq!(write_stub(AARCH64, StubKind::Far, 0x21_0004, far, &mut long), Ok(()));
+    assert_eq!(long[..8], [0x50, 0, 0, 0x58, 0, 2, 0x1f, 0xd6]);
+    assert_eq!(long[8..16], far.to_le_bytes());
+    assert_eq!(write_stub(AARCH64, StubKind::FarRelative, 0x21_0010, far, &mut long), Ok(()));
+    assert_eq!(long[16..], (far - 0x21_0014).to_le_bytes());
     let mut code = [7; 8];
     let far = write_stub(X86_64, StubKind::Load, 0, 1 << 40, &mut code);
     assert_eq!((far, code), (Err(Status::OutOfReach), [7; 8]));

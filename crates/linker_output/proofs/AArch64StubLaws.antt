@@ -50,7 +50,7 @@ twice_on : (p : ℕ) → sum_64 (sum_64 p 4) 4 ≡ sum_64 p 8
 twice_on p = omega arith
 
 -- the code of a stub
-abbrev some_or : StubCode → Option StubCode → StubCode
+abbrev pub some_or : StubCode → Option StubCode → StubCode
 some_or other None = other
 some_or other (Some stub) = stub
 

@@ -1,3 +1,4 @@
+pub mod AArch64FarLaws
 pub mod AArch64LazyLaws
 pub mod AArch64StubLaws
 pub mod Adding

@@ -1,11 +1,11 @@
 -- AArch64: what a linker adds to an output (ELF for the Arm 64-bit Architecture, "Relocation";
 -- System V ABI for the Arm 64-bit Architecture; paths as glibc has them). ELF for the Arm 64-bit
 -- Architecture leaves 1028 and 1029 to the platform, and glibc has the module's number first.
-use Rattle.std.specs.Prelude.{codes, [], None, Some, ◌∷◌}
+use Rattle.std.specs.Prelude.{codes, [], None, Some, ◌∷◌, pos}
 use Rattle.linker_elf.specs.AArch64Relocations.{aarch64_name}
 use Rattle.linker_elf.specs.declared.aarch64.relocations.AArch64Relocation.TheVariants as r
 use Rattle.linker_output.specs.Tables.{field_of, kind, kind_of, units_of, no_flags, only}
-use Rattle.linker_output.specs.Tables.{four, plain_stub}
+use Rattle.linker_output.specs.Tables.{four, plain_stub, data_stub}
 use Rattle.linker_output.specs.View.{Description}
 use Rattle.linker_output.specs.declared.got.ThreadPointer.TheVariants.{BelowImage}
 use Rattle.linker_utils.specs.declared.elf.Architecture.TheVariants.{AArch64}
@@ -51,4 +51,14 @@ aarch64_output =
           Some
           (plain_stub 0x90000010 0x91000210 (field_of 0 (aarch64_name r.R_AARCH64_ADR_PREL_PG_HI21))
           (Some (field_of 4 (aarch64_name r.R_AARCH64_ADD_ABS_LO12_NC))) (0xd61f0200 ∷ []));
+      -- `ldr x16, 8`, `br x16`, and the address
+      far_stub =
+          Some
+          (data_stub (0x58000050 ∷ 0xd61f0200 ∷ []) 8 (field_of 0 (aarch64_name r.R_AARCH64_ABS64))
+          (pos 0));
+      -- `ldr x16, 16`, `adr x17, 0`, `add x16, x16, x17`, `br x16`, and the distance from `adr`
+      far_relative_stub =
+          Some
+          (data_stub (0x58000090 ∷ 0x10000011 ∷ 0x8b110210 ∷ 0xd61f0200 ∷ []) 16
+          (field_of 0 (aarch64_name r.R_AARCH64_PREL64)) (pos 12));
     }

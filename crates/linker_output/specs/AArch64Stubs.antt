@@ -1,10 +1,15 @@
 -- AArch64: stubs go to their targets (Arm Architecture Reference Manual for A-profile, DDI 0487,
 -- C6.2).
 use Rattle.std.specs.Prelude.{◌≡◌, ◌==◌, ◌&&◌, ◌||◌, ◌/◌, ◌^◌, ◌<◌, ◌∷◌, [], ℕ, List, Bool, false}
-use Rattle.std.specs.Prelude.{Option, Some, None, IsSomeAnd, if◌then◌else◌, drop}
+use Rattle.std.specs.Prelude.{Option, Some, None, IsSomeAnd, if◌then◌else◌, drop, pos, ◌+ℤ◌, ◌*ℤ◌}
 use Rattle.linker_utils.specs.AArch64Rewrites.{rd_of, rn_of}
 use Rattle.linker_elf.specs.Value.{sum_64}
-use Rattle.linker_laws.specs.AArch64Machine.{State, read_x, go_to, load_64, run}
+use Rattle.linker_base.specs.Bits.{field}
+use Rattle.linker_elf.specs.AArch64.{aarch64_form}
+use Rattle.linker_elf.specs.Relocate.{number_of_bytes}
+use Rattle.linker_elf.specs.declared.aarch64.forms.AArch64Instruction.TheVariants.{Ldr}
+use Rattle.linker_laws.specs.AArch64Machine.{State, read_x, write_x, go_to, go_on, next_pc, load_64}
+use Rattle.linker_laws.specs.AArch64Machine.{in_64_bits, step, run, continue}
 use Rattle.linker_laws.specs.AArch64RewriteLaws.{word_of}
 use Rattle.linker_output.specs.AArch64Output.{aarch64_output}
 use Rattle.linker_output.specs.Stubs.{IsStub}
@@ -29,6 +34,37 @@ run_stub code s =
     then_jumped (word_of (drop 8 code)) (sum_64 s.pc 8)
     (run (word_of code ∷ word_of (drop 4 code) ∷ []) s)
 
+-- ---- the instructions of stubs to anywhere
+
+-- "LDR (literal)" of 64 bits: the immediate, in units of 4 bytes, is added to the address of the
+-- instruction.
+abbrev pub is_literal_ldr : ℕ → Bool
+is_literal_ldr word = word / 2 ^ 24 == 0x58
+
+abbrev pub literal : ℕ → State → ℕ
+literal word s =
+    load_64 s.memory (in_64_bits (pos s.pc +ℤ ((aarch64_form Ldr).machine word *ℤ pos 4)))
+
+-- "ADD (shifted register)" of 64 bits, without a shift
+abbrev pub is_register_add : ℕ → Bool
+is_register_add word = field word 21 32 == 0x458 && field word 10 16 == 0
+
+abbrev pub registers_added : ℕ → State → ℕ
+registers_added word s = sum_64 (read_x (rn_of word) s) (read_x (field word 16 21) s)
+
+-- an instruction that the machine has, or one of these or BR
+abbrev pub stub_step : ℕ → State → Option State
+stub_step word s =
+    if is_literal_ldr word then Some (go_on (write_x (rd_of word) (literal word s) s)) else (
+    if is_register_add word then Some (go_on (write_x (rd_of word) (registers_added word s) s)) else (
+    if is_br word then jumped word s else step word s))
+
+-- words that stand one after the other from the state's address up
+abbrev pub run_far : List ℕ → State → Option State
+run_far [] s = Some s
+run_far (word ∷ []) s = stub_step word s
+run_far (word ∷ words) s = continue (next_pc s) (run_far words) (stub_step word s)
+
 -- ---- the laws
 
 -- It goes to the target, and changes only x16 and x17, which a call may change on its way.
@@ -50,3 +86,24 @@ Jumps =
     (place target : ℕ) → place < 2 ^ 64 → target < 2 ^ 64 → (code : List ℕ)
     → IsSomeAnd aarch64_output.jump_stub (λ stub. IsStub AArch64 stub place target code)
     → (s : State) → s.pc ≡ place → IsSomeAnd (run_stub code s) (GoesTo target s)
+
+-- To anywhere. The stub is memory too: it loads its last 8 bytes.
+abbrev pub Reaches : Type 0
+Reaches =
+    (place target : ℕ) → place < 2 ^ 64 → target < 2 ^ 64 → (code : List ℕ)
+    → IsSomeAnd aarch64_output.far_stub (λ stub. IsStub AArch64 stub place target code)
+    → (s : State) → s.pc ≡ place
+    → load_64 s.memory (sum_64 place 8) ≡ number_of_bytes 8 (drop 8 code)
+    → IsSomeAnd (run_far (word_of code ∷ word_of (drop 4 code) ∷ []) s) (GoesTo target s)
+
+-- the same wherever the code is loaded
+abbrev pub ReachesRelative : Type 0
+ReachesRelative =
+    (place target : ℕ) → place < 2 ^ 64 → target < 2 ^ 64 → (code : List ℕ)
+    → IsSomeAnd aarch64_output.far_relative_stub (λ stub. IsStub AArch64 stub place target code)
+    → (s : State) → s.pc ≡ place
+    → load_64 s.memory (sum_64 place 16) ≡ number_of_bytes 8 (drop 16 code)
+    → IsSomeAnd
+    (run_far
+    (word_of code ∷ word_of (drop 4 code) ∷ word_of (drop 8 code) ∷ word_of (drop 12 code) ∷ []) s)
+    (GoesTo target s)

@@ -67,4 +67,6 @@ loongarch_output =
           Some
           (plain_stub 0x1e00000f 0x4c0001e0 (field_of 0 (loongarch_name r.R_LARCH_CALL36))
           None []);
+      far_stub = None;
+      far_relative_stub = None;
     }

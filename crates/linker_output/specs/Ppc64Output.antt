@@ -138,4 +138,6 @@ ppc64_output =
       load_stub = through_r12 0xe98c0000 (ppc64_name r.R_PPC64_TOC16_LO_DS);
       -- `addis 12, 12`, `addi 12, 12`
       jump_stub = Some (through_r12 0x398c0000 (ppc64_name r.R_PPC64_TOC16_LO));
+      far_stub = None;
+      far_relative_stub = None;
     }

@@ -68,4 +68,6 @@ riscv_output =
           plain_stub 0x00000e17 0x000e3e03 (field_of 0 (riscv_name r.R_RISCV_PCREL_HI20))
           (Some (field_of 4 (riscv_name r.R_RISCV_PCREL_LO12_I))) (0x000e0067 ∷ []);
       jump_stub = None;
+      far_stub = None;
+      far_relative_stub = None;
     }

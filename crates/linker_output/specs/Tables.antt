@@ -1,5 +1,5 @@
 -- The vocabulary of the architectures' tables.
-use Rattle.std.specs.Prelude.{ℕ, List, [], ◌∷◌, ◌++◌, Option, Some, None, pos}
+use Rattle.std.specs.Prelude.{ℕ, ℤ, List, [], ◌∷◌, ◌++◌, Option, Some, None, pos}
 use Rattle.std.specs.Int.{w32, to_le_bytes}
 use Rattle.linker_elf.specs.Elf.{bit_bounds}
 use Rattle.linker_elf.specs.ElfNames.{ElfName, code_of, text_of}
@@ -77,4 +77,18 @@ plain_stub one two first second tail =
       entry = 0;
       origin = 0;
       addend = pos 0;
+    }
+
+-- a stub of instructions, of so many bytes, and of 8 bytes with the field after them
+abbrev pub data_stub : List ℕ → ℕ → StubField → ℤ → StubCode
+data_stub words at field addend =
+    record {
+      head = code_of_words words;
+      pair = 0 ∷ 0 ∷ 0 ∷ 0 ∷ 0 ∷ 0 ∷ 0 ∷ 0 ∷ [];
+      first = field;
+      second = None;
+      tail = [];
+      entry = 0;
+      origin = at;
+      addend = addend;
     }

@@ -18,6 +18,7 @@ use Rattle.linker_output.specs.declared.layout.SymbolPlace.{SymbolPlace}
 use Rattle.linker_output.specs.declared.stubs.Stub.{Stub}
 use Rattle.linker_output.specs.declared.stubs.StubKind.{StubKind}
 use Rattle.linker_output.specs.declared.stubs.StubKind.TheVariants.{Load, Jump}
+use Rattle.linker_output.specs.declared.stubs.StubKind.TheVariants.{Far, FarRelative}
 use Rattle.linker_output.specs.declared.description.Target.{Target}
 use Rattle.linker_utils.specs.declared.elf.Architecture.{Architecture}
 
@@ -47,6 +48,8 @@ pub record Description : Type 0 where
   pub instructions : Architecture
   pub load_stub : StubCode
   pub jump_stub : Option StubCode
+  pub far_stub : Option StubCode
+  pub far_relative_stub : Option StubCode
 
 -- ---- of the code
 
@@ -118,14 +121,16 @@ view_stub s =
       addend = s.addend;
     }
 
-abbrev pub view_jump : Option Stub → Option StubCode
-view_jump None = None
-view_jump (Some s) = Some (view_stub s)
+abbrev pub view_some : Option Stub → Option StubCode
+view_some None = None
+view_some (Some s) = Some (view_stub s)
 
 -- the stub of a kind
 abbrev pub stub_of : Target → StubKind → Option StubCode
 stub_of t Load = Some (view_stub t.load_stub)
-stub_of t Jump = view_jump t.jump_stub
+stub_of t Jump = view_some t.jump_stub
+stub_of t Far = view_some t.far_stub
+stub_of t FarRelative = view_some t.far_relative_stub
 
 abbrev pub view : Target → Description
 view t =
@@ -145,5 +150,7 @@ view t =
       paths = view_paths t.interpreters.now;
       instructions = t.instructions;
       load_stub = view_stub t.load_stub;
-      jump_stub = view_jump t.jump_stub;
+      jump_stub = view_some t.jump_stub;
+      far_stub = view_some t.far_stub;
+      far_relative_stub = view_some t.far_relative_stub;
     }

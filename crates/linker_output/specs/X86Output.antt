@@ -53,4 +53,6 @@ x86_64_output =
             addend = negsuc 3;
           };
       jump_stub = None;
+      far_stub = None;
+      far_relative_stub = None;
     }

@@ -78,4 +78,33 @@ pub(crate) static TARGET: Target = Target {
         origin: 0,
         addend: 0,
     }),
+    far_stub: Some(Stub {
+        head: &[
+            0x50, 0, 0, 0x58, // ldr x16, 8
+            0, 2, 0x1f, 0xd6, // br x16
+        ],
+        pair: [0, 0, 0, 0, 0, 0, 0, 0],
+        first: field!(0, R_AARCH64_ABS64),
+        second: None,
+        tail: &[],
+        entry: 0,
+        origin: 8,
+        addend: 0,
+    }),
+    far_relative_stub: Some(Stub {
+        head: &[
+            0x90, 0, 0, 0x58, // ldr x16, 16
+            0x11, 0, 0, 0x10, // adr x17, 0
+            0x10, 2, 0x11, 0x8b, // add x16, x16, x17
+            0, 2, 0x1f, 0xd6, // br x16
+        ],
+        pair: [0, 0, 0, 0, 0, 0, 0, 0],
+        first: field!(0, R_AARCH64_PREL64),
+        second: None,
+        tail: &[],
+        entry: 0,
+        origin: 16,
+        // from `adr`
+        addend: 12,
+    }),
 };

@@ -57,6 +57,10 @@ pub struct Target {
     pub load_stub: Stub,
     /// The stub to a far target, if the architecture has one.
     pub jump_stub: Option<Stub>,
+    /// The stub to a target anywhere that has its address, if branches may need it.
+    pub far_stub: Option<Stub>,
+    /// The same with the distance to the target.
+    pub far_relative_stub: Option<Stub>,
 }
 
 impl Target {

@@ -3,7 +3,7 @@
 //! The functions do nothing, and the contract of each has the laws of one architecture, over the
 //! machine that `linker_laws` has of it. From the address at which a stub of `Target::of` stands,
 //! with any registers, its code ends at the address that the word at its target has (`Load`), or at
-//! its target (`Jump`), and has changed only the registers that a call may change on its way.
+//! its target (else), and has changed only the registers that a call may change on its way.
 
 ghost use Rattle.linker_output.specs.AArch64Stubs as aarch64_stubs;
 ghost use Rattle.linker_output.specs.LoongArchStubs as loongarch_stubs;
@@ -14,11 +14,14 @@ ghost use Rattle.linker_output.specs.RiscVStubs as riscv_stubs;
 ghost use Rattle.linker_output.specs.Routes.{StubsServe};
 ghost use Rattle.linker_output.specs.X86Stubs as x86_stubs;
 
-/// AArch64: x16 and x17 change. BR, which the machine of `linker_laws` has not, is defined with the
-/// laws.
+/// AArch64: x16 and x17 change. BR, LDR of a literal and ADD of registers, which the machine of
+/// `linker_laws` has not, are defined with the laws. The stubs of the kinds `Far` and `FarRelative`
+/// read their own code as memory.
 pub fn aarch64()
     ensures loads { aarch64_stubs.Loads }
     ensures jumps { aarch64_stubs.Jumps }
+    ensures reaches { aarch64_stubs.Reaches }
+    ensures reaches_relative { aarch64_stubs.ReachesRelative }
 {
     linker_laws::relocations::aarch64();
 }

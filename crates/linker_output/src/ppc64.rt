@@ -166,4 +166,6 @@ pub(crate) static TARGET: Target = Target {
         ],
         R_PPC64_TOC16_LO
     )),
+    far_stub: None,
+    far_relative_stub: None,
 };

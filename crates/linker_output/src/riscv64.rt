@@ -82,4 +82,6 @@ pub(crate) static TARGET: Target = Target {
         addend: 0,
     },
     jump_stub: None,
+    far_stub: None,
+    far_relative_stub: None,
 };

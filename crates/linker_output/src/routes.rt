@@ -10,7 +10,7 @@ ghost use Rattle.linker_output.specs.Routes.{stub_target, can_restore, HasRoom, 
 ghost use Rattle.linker_output.specs.Routes.{IsObstacle, is_served, by_reach, route_by, IsRouteOf};
 ghost use Rattle.linker_output.specs.Routes.{IsValueOf, IsRoute, IsWordRoute};
 ghost use Rattle.linker_output.specs.Inner.Routes.{IsServedRow};
-ghost use Rattle.linker_output.specs.View.{view, view_jump};
+ghost use Rattle.linker_output.specs.View.{view, view_some};
 ghost use Rattle.linker_section.specs.Values.{local_entry};
 
 use crate::description::Target;
@@ -244,7 +244,7 @@ fn by_jump(
     has_room: bool,
     target: u64,
 ) -> Result<Route, RouteError>
-    ensures { result ≡ by_jump (view_jump stub.now) loses_toc has_room target }
+    ensures { result ≡ by_jump (view_some stub.now) loses_toc has_room target }
 {
     match stub {
         None => Err(RouteError::NoStub),

@@ -13,6 +13,7 @@ use Rattle.linker_output.specs.declared.stubs.StubError.{StubError}
 use Rattle.linker_output.specs.declared.stubs.StubError.TheVariants as errors
 use Rattle.linker_output.specs.declared.stubs.StubKind.{StubKind}
 use Rattle.linker_output.specs.declared.stubs.StubKind.TheVariants.{Load, Jump}
+use Rattle.linker_output.specs.declared.stubs.StubKind.TheVariants.{Far, FarRelative}
 use Rattle.linker_section.specs.declared.needed.EntryClass.{EntryClass}
 use Rattle.linker_section.specs.declared.needed.EntryClass.TheVariants.{Address, ThreadOffset}
 use Rattle.linker_section.specs.declared.needed.EntryClass.TheVariants.{ModuleOffset, Module}
@@ -166,12 +167,16 @@ abbrev pub stub_kind_of : ℕ → Option StubKind
 stub_kind_of number =
     if number == 0 then Some Load
     else if number == 1 then Some Jump
+    else if number == 2 then Some Far
+    else if number == 3 then Some FarRelative
     else None
 
 abbrev pub stub_in : Description → Option StubKind → Option StubCode
 stub_in target None = None
 stub_in target (Some Load) = Some target.load_stub
 stub_in target (Some Jump) = target.jump_stub
+stub_in target (Some Far) = target.far_stub
+stub_in target (Some FarRelative) = target.far_relative_stub
 
 abbrev pub IsStubReturned : Option StubCode → StubNumbers → StubNumbers → ℕ → Type 0
 IsStubReturned None old new status = (status ≡ code UnknownStub) × (new ≡ old)

@@ -32,6 +32,8 @@ fn kind_number(kind: StubKind) -> u32 {
     match kind {
         StubKind::Load => 0,
         StubKind::Jump => 1,
+        StubKind::Far => 2,
+        StubKind::FarRelative => 3,
     }
 }
 

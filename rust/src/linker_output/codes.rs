@@ -5,6 +5,8 @@
 
 /// The code of a name.
 macro_rules! code {
+    (R_AARCH64_ABS64) => { 257 };
+    (R_AARCH64_PREL64) => { 260 };
     (R_AARCH64_ADR_PREL_PG_HI21) => { 275 };
     (R_AARCH64_ADD_ABS_LO12_NC) => { 277 };
     (R_AARCH64_LDST64_ABS_LO12_NC) => { 286 };

@@ -88,4 +88,6 @@ pub(crate) static TARGET: Target = Target {
         origin: 0,
         addend: 0,
     }),
+    far_stub: None,
+    far_relative_stub: None,
 };

@@ -14,6 +14,11 @@ pub enum StubKind {
     Load,
     /// It jumps to its target, which branches may not reach.
     Jump,
+    /// It jumps to its target wherever that is, by the address in its last 8 bytes. In an output
+    /// whose load address isn't fixed that address takes a dynamic relocation.
+    Far,
+    /// The same by the distance in its last 8 bytes, for any load address.
+    FarRelative,
 }
 
 /// Why a stub isn't written.
@@ -153,11 +158,13 @@ impl Target {
         match kind {
             StubKind::Load => Some(&self.load_stub),
             StubKind::Jump => self.jump_stub.as_ref(),
+            StubKind::Far => self.far_stub.as_ref(),
+            StubKind::FarRelative => self.far_relative_stub.as_ref(),
         }
     }
 
     /// Writes the stub of a kind that stands at an address: to the word at `target` (`Load`) or to
-    /// the address `target` (`Jump`). Bytes after the stub are left, and with an error all are.
+    /// the address `target` (else). Bytes after the stub are left, and with an error all are.
     ///
     /// What a call changes on its way through a stub are registers that a function may change, in
     /// which no argument is: x16 and x17 of AArch64, t3 of RISC-V and LoongArch, and r0, r12 and

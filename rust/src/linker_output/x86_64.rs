@@ -66,4 +66,6 @@ pub(crate) static TARGET: Target = Target {
         addend: -4,
     },
     jump_stub: None,
+    far_stub: None,
+    far_relative_stub: None,
 };

@@ -1,3 +1,4 @@
+use Rattle.linker_output.proofs.AArch64FarLaws.{reaches_go, reaches_relative_go}
 use Rattle.linker_output.proofs.AArch64StubLaws.{loads_go, jumps_go}
 use Rattle.linker_output.proofs.laws.aarch64.Goals as goal
 
@@ -6,3 +7,9 @@ returns-clause-loads c = loads_go c.aarch64.ensures.relative
 
 pub returns-clause-jumps : goal.returns-clause-jumps
 returns-clause-jumps c = jumps_go c.aarch64.ensures.relative
+
+pub returns-clause-reaches : goal.returns-clause-reaches
+returns-clause-reaches c = reaches_go c.aarch64.ensures.fields
+
+pub returns-clause-reaches_relative : goal.returns-clause-reaches_relative
+returns-clause-reaches_relative c = reaches_relative_go c.aarch64.ensures.fields
