@@ -421,10 +421,10 @@ impl RelocationKindInfo {
 
 /// What is made of the relocations of an architecture. Its `relocations!` lists them as `code NAME
 /// (row)` in the order of the enum of names. Codes are split into parts that are dense enough for a
-/// table, each below a number, and the rest. `name_of` makes the name with a code; `code_of` and
-/// `text_of` the code and the text of a name; `index_of` its index in the list. `table` makes the
-/// table of rows by these indices, whose last entry is that of `Other`. It is given the variant of
-/// `RelocationInstruction`, the enum of the forms and the `e_machine` of the architecture. A list
+/// table, each below a number, and the rest. `name_of` makes the name with a code, and `index_of`
+/// the index of a name in the list. `codes`, `texts` and `table` make tables by these indices: of
+/// codes, of the names' texts, and of rows, where the last entry is that of `Other`. `table` is
+/// given the variant of `RelocationInstruction`, the enum of the forms and the `e_machine`. A list
 /// has at most 124 names, since calls of macros nest at most 128 deep.
 macro_rules! listed {
     (
