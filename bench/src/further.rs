@@ -651,6 +651,23 @@ fn lists(report: &mut Report, random: &mut Random) {
         COUNT,
         || unsafe { linker_utils_deltas_heads_nonnull(at, len, heads.as_mut_ptr(), heads.len()) },
     );
+    // two of three words of 8 bytes are relocated
+    let addresses: Vec<u64> = (0..COUNT as u64).map(|k| 8 * (k + k / 2)).collect();
+    let (mut words, mut read, mut needed) = (vec![0; COUNT], vec![0; COUNT], 0);
+    let (from, to) = (addresses.as_ptr(), words.as_mut_ptr());
+    whole(
+        report,
+        "`linker_utils_write_relr`, 100000 addresses",
+        COUNT,
+        || unsafe { linker_utils_write_relr_nonnull(from, COUNT, to, COUNT, &mut needed) },
+    );
+    let (from, used, to) = (words.as_ptr(), needed, read.as_mut_ptr());
+    whole(
+        report,
+        "`linker_utils_read_relr`, 100000 addresses",
+        COUNT,
+        || unsafe { linker_utils_read_relr_nonnull(from, used, to, COUNT, &mut needed) },
+    );
     let lens: Vec<usize> = (0..CALLS).map(|k| COUNT - k).collect();
     numbers(
         report,
