@@ -297,15 +297,12 @@ fn arms(source: &str, of_enum: &str) -> Numbers {
     found
 }
 
-/// The forms of an architecture in the proved library's table, by their places.
-fn forms_of(architecture: &str, of_enum: &str) -> Numbers {
+/// The forms of an architecture in the proved library's list, by their places.
+fn forms_of(architecture: &str) -> Numbers {
     let source = repository(&format!("crates/linker_elf/src/{architecture}/forms.rt"));
-    let (_, table) = source.split_once("const FORMS").expect("the table");
-    let (table, _) = table.split_once("];").expect("its end");
-    let start = format!("{of_enum}::");
-    let names = table
-        .lines()
-        .filter_map(|line| line.trim().strip_prefix(&start)?.strip_suffix(','));
+    let (_, list) = source.split_once("=> { forms! {").expect("the list");
+    let (list, _) = list.split_once("} };").expect("its end");
+    let names = list.lines().filter_map(|line| line.strip_prefix("        (")?.split(' ').next());
     let numbered = names.zip(0..).map(|(name, at)| (name.to_string(), at));
     numbered.collect()
 }
@@ -399,19 +396,19 @@ fn the_numbers_are_those_of_the_library() {
 
     assert_eq!(
         numbers(AArch64Form::ALL, AArch64Form::number),
-        forms_of("aarch64", "AArch64Instruction")
+        forms_of("aarch64")
     );
     assert_eq!(
         numbers(RiscVForm::ALL, RiscVForm::number),
-        forms_of("riscv64", "RiscVInstruction")
+        forms_of("riscv64")
     );
     assert_eq!(
         numbers(LoongArch64Form::ALL, LoongArch64Form::number),
-        forms_of("loongarch64", "LoongArch64Instruction")
+        forms_of("loongarch64")
     );
     assert_eq!(
         numbers(Ppc64Form::ALL, Ppc64Form::number),
-        forms_of("ppc64", "Ppc64Instruction")
+        forms_of("ppc64")
     );
 
     assert_eq!(
