@@ -1,4 +1,4 @@
-use Rattle.linker_utils.proofs.elf.Architecture.uleb128_role.Goals as goal
+use Rattle.linker_elf.proofs.elf.architecture.Architecture.uleb128_role.Goals as goal
 
 pub returns-in-RiscV : goal.returns-in-RiscV
 returns-in-RiscV c =

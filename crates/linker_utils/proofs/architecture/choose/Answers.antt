@@ -1,5 +1,5 @@
 use Rattle.std.proofs.Common.{refl}
-use Rattle.linker_utils.proofs.elf.Architecture.choose.Goals as goal
+use Rattle.linker_utils.proofs.architecture.choose.Goals as goal
 
 pub returns-in-AArch64-clause-chosen : goal.returns-in-AArch64-clause-chosen
 returns-in-AArch64-clause-chosen c =

@@ -1,4 +1,4 @@
-use Rattle.linker_utils.proofs.elf.Architecture.row.Goals as goal
+use Rattle.linker_elf.proofs.elf.architecture.Architecture.row.Goals as goal
 
 pub returns-in-AArch64 : goal.returns-in-AArch64
 returns-in-AArch64 c =

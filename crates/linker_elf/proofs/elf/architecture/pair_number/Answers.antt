@@ -1,5 +1,5 @@
 use Rattle.std.proofs.Common.{refl}
-use Rattle.linker_utils.proofs.architecture.pair_number.Goals as goal
+use Rattle.linker_elf.proofs.elf.architecture.pair_number.Goals as goal
 
 pub returns-in-Adds : goal.returns-in-Adds
 returns-in-Adds c =

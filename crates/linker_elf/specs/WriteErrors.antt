@@ -6,7 +6,7 @@ use Rattle.linker_elf.specs.Rows.{Bounds}
 use Rattle.linker_elf.specs.Value.{difference_64}
 use Rattle.linker_elf.specs.declared.elf.RelocationKindInfo.{RelocationKindInfo}
 use Rattle.linker_elf.specs.declared.elf.relocate.RelocateError.{RelocateError}
-use Rattle.linker_utils.specs.declared.elf.WriteError.{WriteError}
+use Rattle.linker_elf.specs.declared.elf.relocate.WriteError.{WriteError}
 
 -- the least number within bounds, and the last one, which is before their end; of no bounds those
 -- of 64 bits

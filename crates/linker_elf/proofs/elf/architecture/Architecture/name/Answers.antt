@@ -4,8 +4,8 @@ use Rattle.linker_elf.specs.RiscVRelocations.{riscv_name}
 use Rattle.linker_elf.specs.LoongArchRelocations.{loongarch_name}
 use Rattle.linker_elf.specs.Ppc64Relocations.{ppc64_name}
 use Rattle.linker_elf.specs.X86Relocations.{x86_64_name}
-use Rattle.linker_utils.proofs.RelocationNames.{of_named, of_unnamed, aarch64_is_short, riscv64_is_short, loongarch64_is_short, ppc64_is_short, x86_64_is_short, aarch64_is_named, riscv64_is_named, loongarch64_is_named, ppc64_is_named, x86_64_is_named}
-use Rattle.linker_utils.proofs.elf.Architecture.name.Goals as goal
+use Rattle.linker_elf.proofs.RelocationNames.{of_named, of_unnamed, aarch64_is_short, riscv64_is_short, loongarch64_is_short, ppc64_is_short, x86_64_is_short, aarch64_is_named, riscv64_is_named, loongarch64_is_named, ppc64_is_named, x86_64_is_named}
+use Rattle.linker_elf.proofs.elf.architecture.Architecture.name.Goals as goal
 
 pub returns-in-Other-clause-unknown : goal.returns-in-Other-clause-unknown
 returns-in-Other-clause-unknown c =

@@ -1,4 +1,4 @@
-use Rattle.linker_utils.proofs.elf.Architecture.may_be_skipped.Goals as goal
+use Rattle.linker_utils.proofs.architecture.may_be_skipped.Goals as goal
 
 pub returns-in-RiscV : goal.returns-in-RiscV
 returns-in-RiscV c =

@@ -1,40 +1,35 @@
--- What an architecture's codes and numbers name.
-use Rattle.std.specs.Prelude.{◌≡◌, ◌↔◌, ℕ, Bool, IsTrue, List, slice_get, Option, Some, None, false}
+-- The rewrites of all architectures, and what is chosen.
+use Rattle.std.specs.Prelude.{◌≡◌, ◌↔◌, ℕ, Bool, IsTrue, List, slice_get, Option, None, false}
 use Rattle.linker_base.specs.Rewrite.{Rewrite}
 use Rattle.linker_base.specs.declared.relaxation.RelocationModifier.{RelocationModifier}
 use Rattle.linker_utils.specs.AArch64Rewrites.{aarch64_rewrite, aarch64_modifier, aarch64_other}
-use Rattle.linker_elf.specs.AArch64.{aarch64_forms}
 use Rattle.linker_utils.specs.AArch64Rewrites.{aarch64_rewrites}
 use Rattle.linker_utils.specs.AArch64Rewrites.{IsAArch64Choice}
 use Rattle.linker_utils.specs.AArch64Rewrites.{aarch64_matches}
-use Rattle.linker_elf.specs.AArch64Relocations.{aarch64_name, aarch64_row}
+use Rattle.linker_elf.specs.AArch64Relocations.{aarch64_name}
 use Rattle.linker_elf.specs.Choices.{with_group}
 use Rattle.linker_elf.specs.ElfNames.{ElfName, IsNameOf, code_of}
-use Rattle.linker_elf.specs.LoongArch.{loongarch64_forms}
 use Rattle.linker_utils.specs.LoongArchRewrites.{IsLoongArchChoice}
 use Rattle.linker_utils.specs.LoongArchRewrites.{loongarch_matches}
-use Rattle.linker_elf.specs.LoongArchRelocations.{loongarch_name, loongarch_row}
-use Rattle.linker_elf.specs.LoongArchRelocations.{loongarch_uleb128_role}
+use Rattle.linker_elf.specs.LoongArchRelocations.{loongarch_name}
 use Rattle.linker_utils.specs.LoongArchRewrites.{loongarch_rewrite, loongarch_modifier}
 use Rattle.linker_utils.specs.LoongArchRewrites.{loongarch_deleted, loongarch64_rewrites}
-use Rattle.linker_elf.specs.Ppc64.{ppc64_forms}
 use Rattle.linker_utils.specs.Ppc64Rewrites.{IsPpc64Choice}
 use Rattle.linker_utils.specs.Ppc64Rewrites.{ppc64_matches}
 use Rattle.linker_utils.specs.Ppc64Rewrites.{ppc64_skipped, ppc64_may_be_skipped}
-use Rattle.linker_elf.specs.Ppc64Relocations.{ppc64_name, ppc64_row}
+use Rattle.linker_elf.specs.Ppc64Relocations.{ppc64_name}
 use Rattle.linker_utils.specs.Ppc64Rewrites.{ppc64_rewrites, ppc64_rewrite, ppc64_modifier}
-use Rattle.linker_elf.specs.RiscV.{riscv_forms}
 use Rattle.linker_utils.specs.RiscVRewrites.{riscv_rewrites, riscv_rewrite, riscv_modifier}
 use Rattle.linker_utils.specs.RiscVRewrites.{riscv_deleted}
 use Rattle.linker_utils.specs.RiscVRewrites.{IsRiscVChoice}
 use Rattle.linker_utils.specs.RiscVRewrites.{riscv_matches}
 use Rattle.linker_utils.specs.RiscVRewrites.{riscv_skipped, riscv_may_be_skipped}
-use Rattle.linker_elf.specs.RiscVRelocations.{riscv_relocation, riscv_name, riscv_uleb128_role}
+use Rattle.linker_elf.specs.RiscVRelocations.{riscv_name}
 use Rattle.linker_utils.specs.X86Rewrites.{x86_64_rewrites, x86_64_rewrite, x86_64_modifier}
 use Rattle.linker_utils.specs.X86Rewrites.{IsX86Choice}
 use Rattle.linker_utils.specs.X86Rewrites.{x86_64_matches}
 use Rattle.linker_utils.specs.X86Rewrites.{x86_64_skipped, x86_64_may_be_skipped}
-use Rattle.linker_elf.specs.X86Relocations.{x86_64_name, x86_64_row}
+use Rattle.linker_elf.specs.X86Relocations.{x86_64_name}
 use Rattle.linker_utils.specs.declared.aarch64.rewrites.RelaxationKind.TheVariants as aarch64
 use Rattle.linker_utils.specs.declared.loongarch64.rewrites.RelaxationKind.TheVariants as loongarch64
 use Rattle.linker_utils.specs.declared.ppc64.rewrites.RelaxationKind.TheVariants as ppc64
@@ -42,70 +37,14 @@ use Rattle.linker_utils.specs.declared.riscv64.rewrites.RelaxationKind.TheVarian
 use Rattle.linker_utils.specs.declared.x86_64.rewrites.RelaxationKind.TheVariants as x86_64
 use Rattle.linker_utils.specs.declared.architecture.Relaxation.{Relaxation}
 use Rattle.linker_utils.specs.declared.architecture.Relaxation.TheVariants as relaxations
-use Rattle.linker_utils.specs.declared.elf.Architecture.{Architecture}
-use Rattle.linker_utils.specs.declared.elf.Architecture.TheVariants.{AArch64, RiscV, LoongArch64}
-use Rattle.linker_utils.specs.declared.elf.Architecture.TheVariants.{Ppc64, X86_64}
+use Rattle.linker_elf.specs.declared.elf.architecture.Architecture.{Architecture}
+use Rattle.linker_elf.specs.declared.elf.architecture.Architecture.TheVariants.{AArch64, RiscV, LoongArch64}
+use Rattle.linker_elf.specs.declared.elf.architecture.Architecture.TheVariants.{Ppc64, X86_64}
 use Rattle.linker_elf.specs.declared.elf.choice.Choice.{Choice}
 use Rattle.linker_elf.specs.declared.aarch64.relocations.AArch64Relocation.{AArch64Relocation}
 use Rattle.linker_elf.specs.declared.elf.choice.LinkFacts.{LinkFacts}
 use Rattle.linker_elf.specs.declared.elf.choice.OtherRelocation.{OtherRelocation}
-use Rattle.linker_elf.specs.declared.elf.RelocationInstruction.{RelocationInstruction}
-use Rattle.linker_elf.specs.declared.elf.RelocationInstruction.TheVariants as insns
-use Rattle.linker_elf.specs.declared.elf.RelocationKindInfo.{RelocationKindInfo}
-use Rattle.linker_elf.specs.declared.elf.Uleb128Role.{Uleb128Role}
 use Rattle.linker_base.specs.declared.rewrite.DeletedBytes.{DeletedBytes}
-
--- ---- relocations, by their codes
-
--- a value, as the row or the code and text, of the name that a code has among names
-pub record IsNamedValue {Name A : Type 0} (elf : Name → ElfName) (value_of : Name → A) (code : ℕ)
-    (value : A) : Type 0 where
-  pub name : Name
-  pub is_name : IsNameOf elf code name
-  pub value_is : value ≡ value_of name
-
--- what the relocation with a code means
-abbrev pub IsRow : Architecture → ℕ → Option RelocationKindInfo → Type 0
-IsRow AArch64 = IsNamedValue aarch64_name aarch64_row
-IsRow RiscV = IsNamedValue riscv_name (λ name. (riscv_relocation name).row)
-IsRow LoongArch64 = IsNamedValue loongarch_name loongarch_row
-IsRow Ppc64 = IsNamedValue ppc64_name ppc64_row
-IsRow X86_64 = IsNamedValue x86_64_name x86_64_row
-
--- how ELF names it
-abbrev pub IsElfName : Architecture → ℕ → ElfName → Type 0
-IsElfName AArch64 = IsNamedValue aarch64_name aarch64_name
-IsElfName RiscV = IsNamedValue riscv_name riscv_name
-IsElfName LoongArch64 = IsNamedValue loongarch_name loongarch_name
-IsElfName Ppc64 = IsNamedValue ppc64_name ppc64_name
-IsElfName X86_64 = IsNamedValue x86_64_name x86_64_name
-
--- what it does with a ULEB128 number
-abbrev pub IsRole : Architecture → ℕ → Option Uleb128Role → Type 0
-IsRole RiscV = IsNamedValue riscv_name riscv_uleb128_role
-IsRole LoongArch64 = IsNamedValue loongarch_name loongarch_uleb128_role
-IsRole architecture = λ code role. role ≡ None
-
--- whether it may be skipped after a rewrite
-abbrev pub IsSkippable : Architecture → ℕ → Bool → Type 0
-IsSkippable RiscV = IsNamedValue riscv_name riscv_may_be_skipped
-IsSkippable Ppc64 = IsNamedValue ppc64_name ppc64_may_be_skipped
-IsSkippable X86_64 = IsNamedValue x86_64_name x86_64_may_be_skipped
-IsSkippable architecture = λ code answer. answer ≡ false
-
--- ---- forms and rewrites, by their numbers
-
-abbrev pub of_some : {A B : Type 0} → (A → B) → Option A → Option B
-of_some of None = None
-of_some of (Some x) = Some (of x)
-
--- the form with a number
-abbrev pub form_of_number : Architecture → ℕ → Option RelocationInstruction
-form_of_number AArch64 n = of_some insns.AArch64 (slice_get aarch64_forms n)
-form_of_number RiscV n = of_some insns.RiscV (slice_get riscv_forms n)
-form_of_number LoongArch64 n = of_some insns.LoongArch64 (slice_get loongarch64_forms n)
-form_of_number Ppc64 n = of_some insns.Ppc64 (slice_get ppc64_forms n)
-form_of_number X86_64 n = None
 
 -- the rewrite with a number, and with a count of bytes before the field
 abbrev pub rewrite_of_number : Architecture → ℕ → ℕ → Option Relaxation
@@ -217,3 +156,10 @@ IsFit architecture code section o facts fits =
     (chosen : Choice Relaxation ℕ)
     × IsArchitectureChoice architecture code section o (with_group facts) chosen
     × (IsTrue fits ↔ ¬ IsUnchanged code chosen)
+
+-- whether it may be skipped after a rewrite
+abbrev pub IsSkippable : Architecture → ℕ → Bool → Type 0
+IsSkippable RiscV = IsNamedValue riscv_name riscv_may_be_skipped
+IsSkippable Ppc64 = IsNamedValue ppc64_name ppc64_may_be_skipped
+IsSkippable X86_64 = IsNamedValue x86_64_name x86_64_may_be_skipped
+IsSkippable architecture = λ code answer. answer ≡ false

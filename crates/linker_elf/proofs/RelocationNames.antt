@@ -16,7 +16,7 @@ use Rattle.linker_elf.specs.declared.ppc64.relocations.Ppc64Relocation.TheVarian
 use Rattle.linker_elf.specs.X86Relocations.{x86_64_name}
 use Rattle.linker_elf.specs.declared.x86_64.relocations.X86_64Relocation.{X86_64Relocation}
 use Rattle.linker_elf.specs.declared.x86_64.relocations.X86_64Relocation.TheVariants as x86_64_names
-use Rattle.linker_utils.specs.Architectures.{IsNamedValue}
+use Rattle.linker_elf.specs.Architectures.{IsNamedValue}
 
 named_is : (elf : ElfName) (r_type : ℕ) (text : List ℕ) → IsNamed elf → code_of elf ≡ r_type → text ≡ text_of elf → named r_type text ≡ elf
 named_is (named r t) r_type text is code_is text_is = ap (λ k. named k text) (sym code_is) ∙ ap (λ k. named r k) text_is

@@ -6,8 +6,8 @@ use Rattle.linker_base.specs.Uleb.{Uleb, IsUlebWritten, IsUlebCause}
 use Rattle.linker_elf.specs.Value.{sum_64, difference_64}
 use Rattle.linker_elf.specs.declared.elf.Uleb128Role.{Uleb128Role}
 use Rattle.linker_elf.specs.declared.elf.Uleb128Role.TheVariants.{Sets, Adds}
-use Rattle.linker_utils.specs.declared.elf.Uleb128PairError.{Uleb128PairError}
-use Rattle.linker_utils.specs.declared.elf.Uleb128PairError.TheVariants.{NotFirst, Number}
+use Rattle.linker_elf.specs.declared.elf.architecture.Uleb128PairError.{Uleb128PairError}
+use Rattle.linker_elf.specs.declared.elf.architecture.Uleb128PairError.TheVariants.{NotFirst, Number}
 
 -- the number that the values of both make, modulo 2 ^ 64: their difference, which the first of
 -- LoongArch adds to the existing number

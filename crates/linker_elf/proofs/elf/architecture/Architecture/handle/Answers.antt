@@ -1,7 +1,7 @@
 use Rattle.std.proofs.Common.{Some, subst}
-use Rattle.linker_utils.specs.Architectures.{IsRow}
-use Rattle.linker_utils.proofs.Handles.{found}
-use Rattle.linker_utils.proofs.elf.Architecture.handle.Goals as goal
+use Rattle.linker_elf.specs.Architectures.{IsRow}
+use Rattle.linker_elf.proofs.Handles.{found}
+use Rattle.linker_elf.proofs.elf.architecture.Architecture.handle.Goals as goal
 
 pub returns-in-Some : goal.returns-in-Some
 returns-in-Some c =
