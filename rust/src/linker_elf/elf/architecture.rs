@@ -350,7 +350,7 @@ impl Architecture {
 /// The ULEB128 number that bytes begin with; 0 if they begin with none.
 fn number_or_zero(bytes: &[u8]) -> u64 {
     let mut content = bytes;
-    utils::read_uleb128(&mut content).unwrap_or(0)
+    crate::readers::read_uleb128(&mut content).unwrap_or(0)
 }
 
 /// The number that the values of a pair make of the existing one, by the role
