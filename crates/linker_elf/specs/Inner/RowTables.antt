@@ -144,6 +144,7 @@ entry_of is_own row =
       mask = row.mask;
       numbers = numbers_of row;
       tests = tests_of row;
+      reach = record { bounds = reach_of row };
       terms = terms_of row;
       facts = facts_of row;
       is_own = is_own;

@@ -37,6 +37,8 @@ pub(crate) struct TableRow {
     pub(crate) mask: Option<PageMask>,
     pub(crate) numbers: RelocationNumbers,
     pub(crate) tests: WriteTests,
+    /// Which values can be written.
+    pub(crate) reach: AllowedRange,
     pub(crate) terms: FormulaTerms,
     pub(crate) facts: RowFacts,
     /// Whether the crate `linker-utils` has no such row.
@@ -224,7 +226,7 @@ impl Row {
     pub fn reach(&self) -> AllowedRange
         ensures { result.bounds ≡ reach_of self.now }
     {
-        self.info().reach()
+        self.entry.reach
     }
 
     /// The relocation's value: the formula of its kind, with the bias added first and the page mask
@@ -637,6 +639,12 @@ macro_rules! row {
                     $range $($number $(.. $end)?)?
                 ),
             },
+            reach: $crate::elf::AllowedRange {
+                bounds: $crate::elf::rows::bound!(
+                    reach [$($reach $reach_number $(.. $reach_end)?)?]
+                    $range $($number $(.. $end)?)?
+                ),
+            },
             terms: $crate::elf::value::FormulaTerms {
                 bias: 0 $(+ $bias)?,
                 symbol: $crate::elf::rows::bits!(symbol $($mask)?),
@@ -667,6 +675,11 @@ macro_rules! row {
 macro_rules! bound {
     (has_range any) => { 0 };
     (has_range $range:ident) => { 1 };
+    (reach [] any) => { None };
+    (reach [] pair) => { $crate::elf::rows::bound!(reach [] within -0x80000800..0x7ffff800) };
+    (reach [] $($range:tt)+) => {
+        Some(($crate::elf::rows::bound!(min $($range)+), $crate::elf::rows::bound!(max $($range)+)))
+    };
     (least [] any) => { i64::MIN };
     (last [] any) => { i64::MAX };
     (least [] pair) => { -0x80000800 };

@@ -24,6 +24,8 @@ pub(crate) struct TableRow {
     pub(crate) mask: Option<PageMask>,
     pub(crate) numbers: RelocationNumbers,
     pub(crate) tests: WriteTests,
+    /// Which values can be written.
+    pub(crate) reach: AllowedRange,
     pub(crate) terms: FormulaTerms,
     pub(crate) facts: RowFacts,
     /// Whether the crate `linker-utils` has no such row.
@@ -181,7 +183,7 @@ impl Row {
     #[must_use]
     #[inline(always)]
     pub fn reach(&self) -> AllowedRange {
-        self.info().reach()
+        self.entry.reach
     }
 
     /// The relocation's value: the formula of its kind, with the bias added first and the page mask
@@ -547,6 +549,12 @@ macro_rules! row {
                     $range $($number $(.. $end)?)?
                 ),
             },
+            reach: $crate::linker_elf::elf::AllowedRange {
+                bounds: $crate::linker_elf::elf::rows::bound!(
+                    reach [$($reach $reach_number $(.. $reach_end)?)?]
+                    $range $($number $(.. $end)?)?
+                ),
+            },
             terms: $crate::linker_elf::elf::value::FormulaTerms {
                 bias: 0 $(+ $bias)?,
                 symbol: $crate::linker_elf::elf::rows::bits!(symbol $($mask)?),
@@ -577,6 +585,11 @@ macro_rules! row {
 macro_rules! bound {
     (has_range any) => { 0 };
     (has_range $range:ident) => { 1 };
+    (reach [] any) => { None };
+    (reach [] pair) => { $crate::linker_elf::elf::rows::bound!(reach [] within -0x80000800..0x7ffff800) };
+    (reach [] $($range:tt)+) => {
+        Some(($crate::linker_elf::elf::rows::bound!(min $($range)+), $crate::linker_elf::elf::rows::bound!(max $($range)+)))
+    };
     (least [] any) => { i64::MIN };
     (last [] any) => { i64::MAX };
     (least [] pair) => { -0x80000800 };
