@@ -11,7 +11,6 @@ mod entries;
 mod facts;
 mod instruction;
 mod numbers;
-mod reach;
 mod relocate;
 pub(crate) mod rows;
 pub(crate) mod value;
