@@ -23,7 +23,8 @@
            "The architecture has no relocation of this type, or its meaning is not known.") \
     STATUS(TOO_SHORT, 5, "There are fewer bytes than the call reads or writes.") \
     STATUS(DOES_NOT_FIT, 6, \
-           "The value does not fit the form, the existing ULEB128 number or the type of properties.") \
+           "The value does not fit the form, the existing ULEB128 number or the type of " \
+           "properties.") \
     STATUS(CANNOT_APPLY, 7, "The rewrite cannot be applied there.") \
     STATUS(BAD_REGISTER, 8, "The register is not one of 0 to 30.") \
     STATUS(OUT_OF_SECTION, 9, \
@@ -38,8 +39,8 @@
     STATUS(NOT_MERGEABLE, 15, \
            "Two deletions overlap or begin at one offset, or one ends past 2^64 - 1.") \
     STATUS(TOO_LARGE, 17, \
-           "The input offset, or a bitmap's address, would be past 2^64 - 1, or a note would be too " \
-           "long.") \
+           "The input offset, or a bitmap's address, would be past 2^64 - 1, or a note would be " \
+           "too long.") \
     STATUS(NOT_ASCENDING, 18, \
            "The queries, or the boundaries, decrease somewhere, or the addresses or types do not " \
            "ascend.") \

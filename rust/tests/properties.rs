@@ -91,8 +91,8 @@ const LINKS: &[(Architecture, &[Properties], Properties)] = &[
 
 /// The bytes of a note.
 fn note(properties: Properties) -> Vec<u8> {
-    let described: Vec<u32> =
-        properties.iter().flat_map(|(kind, size, value)| [&[*kind, *size], *value].concat()).collect();
+    let words = properties.iter().flat_map(|(kind, size, value)| [&[*kind, *size], *value].concat());
+    let described: Vec<u32> = words.collect();
     let header = [4, 4 * described.len() as u32, 5, u32::from_le_bytes(*b"GNU\0")];
     let words = if properties.is_empty() { vec![] } else { [&header[..], &described].concat() };
     words.iter().flat_map(|word| word.to_le_bytes()).collect()
@@ -150,8 +150,9 @@ fn types_have_the_rules_of_their_psabi() {
         let rule = |kind| property_rule(architecture, kind);
         assert_eq!(rule(STACK_SIZE), Some(PropertyRule::Largest));
         assert_eq!(rule(NO_COPY_ON_PROTECTED), Some(PropertyRule::Present));
-        assert_eq!([rule(0xb000_7fff), rule(0xb000_8000)], [Some(PropertyRule::All), Some(PropertyRule::Any)]);
-        assert_eq!([rule(0), rule(3), rule(0xb001_0000), rule(0xc001_8000), rule(0xe000_0000)], [None; 5]);
+        assert_eq!(rule(0xb000_7fff), Some(PropertyRule::All));
+        assert_eq!(rule(0xb000_8000), Some(PropertyRule::Any));
+        assert_eq!([0, 3, 0xb001_0000, 0xc001_8000, 0xe000_0000].map(rule), [None; 5]);
     }
     assert_eq!(property_rule(RiscV, 0xc000_0000), Some(PropertyRule::All));
     assert_eq!(property_rule(Ppc64, 0xc000_0000), None);
@@ -183,7 +184,6 @@ fn notes_that_are_not_well_formed_are_rejected() {
     // pr_datasz, and pr_type
     assert_eq!(changed(16 + 4, 8), Err(PropertyError::WrongSize(16)));
     assert_eq!(changed(48 + 4, 9), Err(PropertyError::CutOff(48)));
-    assert_eq!(changed(32, 2), read(X86_64, &whole).map(|mut read| { read[1].kind = 0xc000_8002; read }));
     assert_eq!(changed(32 + 1, 0), Err(PropertyError::NotAscending(32)));
     assert_eq!(read(X86_64, &whole[..15]), Err(PropertyError::CutOff(0)));
     // two notes in a section, whose types ascend or not
@@ -193,7 +193,8 @@ fn notes_that_are_not_well_formed_are_rejected() {
     assert_eq!(read(X86_64, &again), Err(PropertyError::NotAscending(48 + 16)));
     // a type without a rule, of any size, is read and then dropped
     let unknown = read(Ppc64, &whole).unwrap();
-    assert_eq!(unknown, [X86_FEATURE_1_AND, X86_ISA_1_NEEDED, X86_ISA_1_USED].map(|kind| of(kind, 0, 0)));
+    let kinds = [X86_FEATURE_1_AND, X86_ISA_1_NEEDED, X86_ISA_1_USED];
+    assert_eq!(unknown, kinds.map(|kind| of(kind, 0, 0)));
     assert_eq!(merge(Ppc64, &unknown, &unknown), Ok(vec![]));
 }
 
@@ -208,7 +209,8 @@ fn properties_that_have_no_note_are_rejected() {
     let feature = of(X86_FEATURE_1_AND, 3, 0);
     assert_eq!(rejected(&[feature, of(7, 0, 0)]), PropertyError::NotAscending(1));
     assert_eq!(rejected(&[of(7, 0, 0)]), PropertyError::Unknown(7));
-    assert_eq!(rejected(&[of(X86_FEATURE_1_AND, 1 << 32, 0)]), PropertyError::TooLarge(X86_FEATURE_1_AND));
+    let large = of(X86_FEATURE_1_AND, 1 << 32, 0);
+    assert_eq!(rejected(&[large]), PropertyError::TooLarge(X86_FEATURE_1_AND));
     assert_eq!(rejected(&[of(STACK_SIZE, 1 << 32, 1)]), PropertyError::TooLarge(STACK_SIZE));
     assert_eq!(rejected(&[of(2, 1, 0)]), PropertyError::TooLarge(2));
     assert_eq!(rejected(&[of(STACK_SIZE, 1 << 32, 0), feature]), PropertyError::TooShort(48));

@@ -1583,7 +1583,8 @@ static void call_merge_properties(void) {
     size_t *number = output(sizeof *number);
     uint32_t status = CALL(merge_properties, any_machine(), inputs, merged->given,
                            LEN(merged, struct linker_utils_property), number);
-    if (status == LINKER_UTILS_OK) merged->changes_to = *number * sizeof(struct linker_utils_property);
+    if (status == LINKER_UTILS_OK)
+        merged->changes_to = *number * sizeof(struct linker_utils_property);
     expect(status || *number <= first_len + second_len, "more than there were");
     finish_number(status, number, 0 UNKNOWN OR(DIFFERENT_VALUES) OR(TOO_SHORT));
 }

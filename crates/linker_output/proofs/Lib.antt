@@ -36,3 +36,4 @@ pub mod MergedProperties
 pub mod ReadProperties
 pub mod WrittenProperties
 pub mod MergingLaws
+pub mod ReadBack

@@ -5,7 +5,7 @@ use Rattle.std.proofs.lemmas.List.{append-nil, take-append-drop, take_at, drop_a
 use Rattle.std.proofs.Math.Seq.{drop-append-add}
 use Rattle.std.proofs.lemmas.Bool.Decides.{nat_tests}
 use Rattle.linker_output.specs.Properties.{bytes_of, words_from, words_by, with_words, list_words, property_words, rule_of, note_words}
-use Rattle.linker_output.specs.Inner.Properties.{Puts, IsWritable}
+use Rattle.linker_output.specs.Inner.Properties.{Puts, IsWritable, AreSlim}
 use Rattle.linker_utils.specs.declared.elf.Architecture.{Architecture}
 use Rattle.linker_output.specs.declared.properties.Property.{Property}
 use Rattle.linker_output.specs.declared.properties.PropertyRule.{PropertyRule}
@@ -91,13 +91,14 @@ other_words Same p one two = absurd (two refl)
 -- the words so far, before those of what is left
 pub record Words (a : Architecture) (all : List Property) (done : List ℕ) (least index : ℕ) (left : List Property) : Type 0 where
   pub whole : list_words a all ≡ with_words done (words_from a least index left)
+  pub slim : AreSlim left → AreSlim all
 
 no_words : (r : Result (List ℕ) PropertyError) → r ≡ with_words [] r
 no_words (Ok ws) = refl
 no_words (Err e) = refl
 
 pub none_yet : (a : Architecture) (all : List Property) → Words a all [] 0 0 all
-none_yet a all = record { whole = no_words (list_words a all) }
+none_yet a all = record { whole = no_words (list_words a all); slim = λ s. s }
 
 more_words : (ws vs : List ℕ) (r : Result (List ℕ) PropertyError)
     → with_words ws (with_words vs r) ≡ with_words (ws ++ vs) r
@@ -117,6 +118,7 @@ pub one_more : (a : Architecture) (all : List Property) (done : List ℕ) (least
 one_more a all done least index p rule left w h = record {
   whole = h.whole ∙ ap (with_words done) (one_step a least index p rule left w)
       ∙ more_words done (property_words rule p) (words_from a (p.kind + 1) (index + 1) left);
+  slim = λ s. h.slim (w.slim, s);
 }
 
 pub at_fault : (a : Architecture) (all : List Property) (done : List ℕ) (least index : ℕ) (p : Property) (left : List Property) (error : PropertyError)

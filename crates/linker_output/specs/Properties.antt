@@ -1,7 +1,9 @@
 -- Notes of program properties (Linux extensions to the generic ABI, "Program property"; the psABIs'
 -- processor-specific types).
-use Rattle.std.specs.Prelude.{◌≡◌, ℕ, ◌+◌, ◌-◌, ◌*◌, ◌/◌, ◌^◌, ◌%◌, ◌==◌, ◌&&◌, ◌||◌, ◌<◌, ◌≤◌, ◌++◌, ◌⊎◌}
-use Rattle.std.specs.Prelude.{if◌then◌else◌, nat_le, nat_lt, not, Bool, true, List, [], ◌∷◌, length, drop, max}
+use Rattle.std.specs.Prelude.{◌≡◌, ℕ, ◌+◌, ◌-◌, ◌*◌, ◌/◌, ◌^◌, ◌%◌, ◌==◌, ◌&&◌, ◌||◌, ◌<◌, ◌≤◌}
+use Rattle.std.specs.Prelude.{◌++◌, ◌⊎◌}
+use Rattle.std.specs.Prelude.{if◌then◌else◌, nat_le, nat_lt, not, Bool, true, List, [], ◌∷◌, length}
+use Rattle.std.specs.Prelude.{drop, max}
 use Rattle.std.specs.Prelude.{suc, zero, Option, Some, None, Result, Ok, Err, bit_and, bit_or}
 use Rattle.std.specs.Int.{w64, from_le_bytes, to_le_bytes}
 use Rattle.linker_utils.specs.declared.elf.Architecture.{Architecture}
@@ -9,11 +11,15 @@ use Rattle.linker_utils.specs.declared.elf.Architecture.TheVariants.{AArch64, Ri
 use Rattle.linker_output.specs.declared.properties.Property.{Property}
 use Rattle.linker_output.specs.declared.properties.Reading.{Reading}
 use Rattle.linker_output.specs.declared.properties.PropertyRule.{PropertyRule}
-use Rattle.linker_output.specs.declared.properties.PropertyRule.TheVariants.{All, Any, AnyOfAll, Largest, Present, Same}
+use Rattle.linker_output.specs.declared.properties.PropertyRule.TheVariants.{All, Any, AnyOfAll}
+use Rattle.linker_output.specs.declared.properties.PropertyRule.TheVariants.{Largest, Present, Same}
 use Rattle.linker_output.specs.declared.properties.PropertyError.{PropertyError}
-use Rattle.linker_output.specs.declared.properties.PropertyError.TheVariants.{NotProperties, CutOff, WrongSize}
-use Rattle.linker_output.specs.declared.properties.PropertyError.TheVariants.{NotAscending, Differs, Unknown}
-use Rattle.linker_output.specs.declared.properties.PropertyError.TheVariants.{TooLarge, TooMany, TooShort}
+use Rattle.linker_output.specs.declared.properties.PropertyError.TheVariants.{NotProperties, CutOff}
+use Rattle.linker_output.specs.declared.properties.PropertyError.TheVariants.{WrongSize}
+use Rattle.linker_output.specs.declared.properties.PropertyError.TheVariants.{NotAscending, Differs}
+use Rattle.linker_output.specs.declared.properties.PropertyError.TheVariants.{Unknown}
+use Rattle.linker_output.specs.declared.properties.PropertyError.TheVariants.{TooLarge, TooMany}
+use Rattle.linker_output.specs.declared.properties.PropertyError.TheVariants.{TooShort}
 
 -- ---- which rule a type has
 
@@ -122,7 +128,8 @@ abbrev pub merged_kind : Architecture → List Property → List Property → �
 merged_kind architecture first second kind =
     merged_by (rule_of architecture kind) kind (of_kind kind first) (of_kind kind second)
 
-pub record Merges (architecture : Architecture) (first second properties : List Property) : Type 0 where
+pub record Merges (architecture : Architecture) (first second properties : List Property)
+    : Type 0 where
   pub ascending : are_ascending 0 properties ≡ true
   pub exact : (kind : ℕ) → merged_kind architecture first second kind ≡ Ok (of_kind kind properties)
 
@@ -294,7 +301,8 @@ abbrev pub with_words : List ℕ → Result (List ℕ) PropertyError → Result 
 with_words words (Ok rest) = Ok (words ++ rest)
 with_words words (Err error) = Err error
 
--- What follows a note's header. An error has the index of the property from an index on, or the type.
+-- What follows a note's header. An error has the index of the property, from an index on, or its
+-- type.
 abbrev pub words_by : Option PropertyRule → Property → Result (List ℕ) PropertyError
     → Result (List ℕ) PropertyError
 words_by None property rest = Err (Unknown property.kind)
@@ -321,7 +329,8 @@ unfoldable pub bytes_of : List ℕ → List ℕ
 bytes_of [] = []
 bytes_of (word ∷ words) = to_le_bytes w64 word ++ bytes_of words
 
-pub record WritesNote (architecture : Architecture) (properties : List Property) (before after : List ℕ) (len : ℕ) : Type 0 where
+pub record WritesNote (architecture : Architecture) (properties : List Property)
+    (before after : List ℕ) (len : ℕ) : Type 0 where
   pub words : List ℕ
   pub sound : list_words architecture properties ≡ Ok words
   pub len_is : len ≡ 8 * length (note_words words)

@@ -8,14 +8,20 @@
 //! The output's properties are those of the first input, merged with themselves and then with those
 //! of each other input, in any order. An input without a section has none.
 
-ghost use Rattle.std.specs.Prelude.{◌≡◌, ◌≤◌, ◌<◌, ◌^◌, ◌+◌, ◌*◌, ◌∷◌, [], ℕ, IfOk, IfErr, None, Ok, Err, List, length, set};
-ghost use Rattle.linker_output.specs.Properties.{rule_of, processor_rule, of_value, unless_zero, value_of, merged};
+ghost use Rattle.std.specs.Prelude.{◌≡◌, ◌≤◌, ◌<◌, ◌^◌, ◌+◌, ◌*◌, ◌∷◌, [], ℕ, IfOk, IfErr, None};
+ghost use Rattle.std.specs.Prelude.{Ok, Err, List, length, set, take};
+ghost use Rattle.linker_output.specs.Properties.{rule_of, processor_rule, of_value, unless_zero};
+ghost use Rattle.linker_output.specs.Properties.{value_of, merged};
 ghost use Rattle.linker_output.specs.Properties.{of_kind, Merges, MergesToOne, MergesAlike};
-ghost use Rattle.linker_output.specs.Properties.{merged_kind, WritesMerged, RejectsMerge, DiffersAt};
-ghost use Rattle.linker_output.specs.Properties.{word_at, size_of, padded, property_at, visit_note, visit_property, visit};
+ghost use Rattle.linker_output.specs.Properties.{merged_kind, WritesMerged, RejectsMerge};
+ghost use Rattle.linker_output.specs.Properties.{DiffersAt};
+ghost use Rattle.linker_output.specs.Properties.{word_at, size_of, padded, property_at, visit_note};
+ghost use Rattle.linker_output.specs.Properties.{visit_property, visit};
 ghost use Rattle.linker_output.specs.Properties.{properties_of, WritesRead, RejectsRead};
-ghost use Rattle.linker_output.specs.Properties.{fits, property_words, list_words, WritesNote, RejectsNote};
+ghost use Rattle.linker_output.specs.Properties.{fits, property_words, list_words, WritesNote};
+ghost use Rattle.linker_output.specs.Properties.{RejectsNote};
 ghost use Rattle.linker_output.specs.Inner.Properties.{put_all, IsWritable, IsNotWritable, Puts};
+ghost use Rattle.linker_output.specs.Inner.Properties.{AreSlim};
 
 use linker_base::rewrite::overwrite;
 use linker_base::utils::u64_from_slice;
@@ -265,7 +271,8 @@ fn merge_into(
 ) -> Result<usize, PropertyError>
     ensures ok { IfOk result (λ count. (merged : List Property)
         × Merges architecture first.now second.now merged
-        × (count ≡ length merged) × (count ≤ 2 ^ 32) × (properties.new ≡ put_all merged properties.old)) }
+        × (count ≡ length merged) × (count ≤ 2 ^ 32)
+        × (properties.new ≡ put_all merged properties.old)) }
     ensures err { IfErr result (λ error. DiffersAt architecture first.now second.now error) }
 {
     let mut count = 0;
@@ -552,10 +559,10 @@ fn writable(
     architecture: Architecture,
     least: u64,
     index: usize,
-    property: &Property,
+    property: Property,
 ) -> Result<PropertyRule, PropertyError>
-    ensures ok { IfOk result (IsWritable architecture least property.now) }
-    ensures err { IfErr result (IsNotWritable architecture least index property.now) }
+    ensures ok { IfOk result (IsWritable architecture least property) }
+    ensures err { IfErr result (IsNotWritable architecture least index property) }
 {
     if u64::from(property.kind) < least {
         return Err(PropertyError::NotAscending(index));
@@ -563,7 +570,7 @@ fn writable(
     match property_rule(architecture, property.kind) {
         None => Err(PropertyError::Unknown(property.kind)),
         Some(rule) => {
-            if rule.fits(property) {
+            if rule.fits(&property) {
                 Ok(rule)
             } else {
                 Err(PropertyError::TooLarge(property.kind))
@@ -613,13 +620,13 @@ fn encode(
     ensures ok { IfOk result (λ len. (words : List ℕ)
         × (list_words architecture properties.now ≡ Ok words)
         × (len ≡ 16 + 8 * length words) × Puts 16 words note.old note.new
-        × (len ≤ 16 + 24 * length properties.now)) }
+        × (len ≤ 16 + 24 * length properties.now) × AreSlim properties.now) }
     ensures err { IfErr result (λ error. list_words architecture properties.now ≡ Err error) }
 {
     let mut at = 16;
     let mut least = 0;
     for (index, property) in properties.iter().enumerate() {
-        let rule = writable(architecture, least, index, property)?;
+        let rule = writable(architecture, least, index, *property)?;
         at = put_property(note, at, rule, property);
         least = u64::from(property.kind) + 1;
     }
@@ -651,6 +658,8 @@ pub fn write_properties(
     note: &mut [u8],
 ) -> Result<usize, PropertyError>
     ensures ok { IfOk result (WritesNote architecture properties.now note.old note.new) }
+    ensures read_back { IfOk result (λ len.
+        properties_of architecture (take len note.new) ≡ Ok properties.now) }
     ensures err { IfErr result (RejectsNote architecture properties.now (length note.old)) }
     ensures unchanged { IfErr result (λ _. note.new ≡ note.old) }
 {

@@ -12,7 +12,8 @@ use Rattle.linker_utils_c.specs.Status.{code}
 use Rattle.linker_utils_c.specs.declared.status.Status.{Status}
 use Rattle.linker_utils_c.specs.declared.status.Status.TheVariants.{Success, NotProperties, CutOff}
 use Rattle.linker_utils_c.specs.declared.status.Status.TheVariants.{WrongSize, NotAscending}
-use Rattle.linker_utils_c.specs.declared.status.Status.TheVariants.{DifferentValues, UnknownProperty}
+use Rattle.linker_utils_c.specs.declared.status.Status.TheVariants.{DifferentValues}
+use Rattle.linker_utils_c.specs.declared.status.Status.TheVariants.{UnknownProperty}
 use Rattle.linker_utils_c.specs.declared.status.Status.TheVariants.{DoesNotFit, TooLarge, TooShort}
 
 abbrev pub is_rule : Option PropertyRule → Bool

@@ -51,8 +51,10 @@ use Rattle.linker_utils_c.specs.declared.status.Status.TheVariants.{StubTooFar, 
 use Rattle.linker_utils_c.specs.declared.status.Status.TheVariants.{NotAligned, NeedsStub}
 use Rattle.linker_utils_c.specs.declared.status.Status.TheVariants.{OtherLength, FactsContradict}
 use Rattle.linker_utils_c.specs.declared.status.Status.TheVariants.{NoTlsBase, UnalignedAddress}
-use Rattle.linker_utils_c.specs.declared.status.Status.TheVariants.{NotProperties, CutOff, WrongSize}
-use Rattle.linker_utils_c.specs.declared.status.Status.TheVariants.{DifferentValues, UnknownProperty}
+use Rattle.linker_utils_c.specs.declared.status.Status.TheVariants.{NotProperties, CutOff}
+use Rattle.linker_utils_c.specs.declared.status.Status.TheVariants.{WrongSize}
+use Rattle.linker_utils_c.specs.declared.status.Status.TheVariants.{DifferentValues}
+use Rattle.linker_utils_c.specs.declared.status.Status.TheVariants.{UnknownProperty}
 
 abbrev pub code : Status → ℕ
 code Success = 0

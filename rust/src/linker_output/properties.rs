@@ -483,7 +483,7 @@ fn writable(
     architecture: Architecture,
     least: u64,
     index: usize,
-    property: &Property,
+    property: Property,
 ) -> Result<PropertyRule, PropertyError> {
     if u64::from(property.kind) < least {
         return Err(PropertyError::NotAscending(index));
@@ -491,7 +491,7 @@ fn writable(
     match property_rule(architecture, property.kind) {
         None => Err(PropertyError::Unknown(property.kind)),
         Some(rule) => {
-            if rule.fits(property) {
+            if rule.fits(&property) {
                 Ok(rule)
             } else {
                 Err(PropertyError::TooLarge(property.kind))
@@ -532,7 +532,7 @@ fn encode(
     let mut at = 16;
     let mut least = 0;
     for (index, property) in properties.iter().enumerate() {
-        let rule = writable(architecture, least, index, property)?;
+        let rule = writable(architecture, least, index, *property)?;
         at = put_property(note, at, rule, property);
         least = u64::from(property.kind) + 1;
     }

@@ -1,5 +1,6 @@
 -- How the code writes properties.
-use Rattle.std.specs.Prelude.{◌≡◌, ◌≤◌, ℕ, ◌+◌, ◌&&◌, ◌*◌, ◌++◌, nat_le, length, take, drop, Bool, true, List, [], ◌∷◌, Some, Err}
+use Rattle.std.specs.Prelude.{◌≡◌, ◌≤◌, ◌<◌, ◌^◌, ℕ, ◌+◌, ◌&&◌, ◌*◌, ◌++◌, nat_le, length, take}
+use Rattle.std.specs.Prelude.{drop, Bool, true, List, [], ◌∷◌, Some, Err}
 use Rattle.linker_output.specs.declared.properties.Property.{Property}
 use Rattle.linker_utils.specs.declared.elf.Architecture.{Architecture}
 use Rattle.linker_output.specs.declared.properties.PropertyRule.{PropertyRule}
@@ -18,11 +19,23 @@ is_chain least [] bound = nat_le least bound
 is_chain least (property ∷ properties) bound =
     nat_le least property.kind && is_chain (property.kind + 1) properties bound
 
+-- a property's numbers have its fields' widths, and so have all of a list
+pub record IsSlim (property : Property) : Type 0 where
+  pub kind : property.kind < 2 ^ 32
+  pub value : property.value < 2 ^ 64
+  pub version : property.version < 2 ^ 64
+
+abbrev pub AreSlim : List Property → Type 0
+AreSlim [] = Unit {0}
+AreSlim (property ∷ properties) = IsSlim property × AreSlim properties
+
 -- a property can be written by a rule after types below the least one, or not
-pub record IsWritable (architecture : Architecture) (least : ℕ) (property : Property) (rule : PropertyRule) : Type 0 where
+pub record IsWritable (architecture : Architecture) (least : ℕ) (property : Property)
+    (rule : PropertyRule) : Type 0 where
   pub above : least ≤ property.kind
   pub known : rule_of architecture property.kind ≡ Some rule
   pub fit : fits rule property ≡ true
+  pub slim : IsSlim property
 
 abbrev pub IsNotWritable : Architecture → ℕ → ℕ → Property → PropertyError → Type 0
 IsNotWritable architecture least index property error =

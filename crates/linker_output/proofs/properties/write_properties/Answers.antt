@@ -4,6 +4,7 @@ use Rattle.linker_output.specs.Properties.{bytes_of, note_words}
 use Rattle.linker_output.specs.Inner.Properties.{Puts}
 use Rattle.linker_output.proofs.WrittenProperties.{with_header, header_put, empty_note}
 use Rattle.linker_output.specs.declared.properties.PropertyError.TheVariants as PropertyError
+use Rattle.linker_output.proofs.ReadBack.{read_back, nothing_back}
 use Rattle.linker_output.proofs.properties.write_properties.Goals as goal
 
 pub returns-then-is_empty-clause-ok : goal.returns-then-is_empty-clause-ok
@@ -18,6 +19,11 @@ returns-then-note-len-clause-err c =
     let lens = ap length (with_header c.args.architecture c.args.properties.now e.0 some e.1) in
     let len : c.in_ok-len.len ≡ 8 * length (note_words e.0) = omega arith in
     inr (inr (e.0, omega arith, e.1, omega arith, ap PropertyError.TooShort len))
+
+pub returns-then-is_empty-clause-read_back : goal.returns-then-is_empty-clause-read_back
+returns-then-is_empty-clause-read_back c =
+    let len : length c.args.properties.now ≡ 0 = grind (arith, nat_tests) in
+    nothing_back c.args.architecture c.args.properties.now len
 
 pub returns-clause-ok : goal.returns-clause-ok
 returns-clause-ok c =
@@ -49,3 +55,9 @@ returns-clause-ok c =
       written = written ∙ ap (λ n. bytes_of ((4 + 2 ^ 32 * (8 * length f.0)) ∷ 0x00554e4700000005 ∷ f.0) ++ drop n before) (sym len)
           ∙ ap (λ ws. bytes_of ws ++ drop c.in_ok-len.len before) (sym header);
     }
+
+pub returns-clause-read_back : goal.returns-clause-read_back
+returns-clause-read_back c =
+    let f = c.in_ok-encode.ensures.ok in
+    read_back c.args.architecture c.args.properties.now c.args.note.now c.put_word.new.note c.in_ok-len.len f.5
+    (omega arith) (returns-clause-ok c)
