@@ -1072,6 +1072,43 @@ static inline uint32_t linker_utils_read_relr(
         LINKER_UTILS_SLICE(uint64_t, addresses), addresses_len, needed);
 }
 
+uint32_t linker_utils_read_properties_nonnull(
+    uint16_t machine, const uint8_t *notes, size_t notes_len,
+    struct linker_utils_property *properties, size_t properties_len, size_t *number);
+static inline uint32_t linker_utils_read_properties(
+    uint16_t machine, const uint8_t *notes, size_t notes_len,
+    struct linker_utils_property *properties, size_t properties_len, size_t *number) {
+    return linker_utils_read_properties_nonnull(
+        machine, LINKER_UTILS_SLICE(const uint8_t, notes), notes_len,
+        LINKER_UTILS_SLICE(struct linker_utils_property, properties), properties_len, number);
+}
+
+uint32_t linker_utils_merge_properties_nonnull(
+    uint16_t machine, const struct linker_utils_property *first, size_t first_len,
+    const struct linker_utils_property *second, size_t second_len,
+    struct linker_utils_property *properties, size_t properties_len, size_t *number);
+static inline uint32_t linker_utils_merge_properties(
+    uint16_t machine, const struct linker_utils_property_inputs *property_inputs,
+    struct linker_utils_property *properties, size_t properties_len, size_t *number) {
+    return linker_utils_merge_properties_nonnull(
+        machine, LINKER_UTILS_SLICE(const struct linker_utils_property, property_inputs->first),
+        property_inputs->first_len,
+        LINKER_UTILS_SLICE(const struct linker_utils_property, property_inputs->second),
+        property_inputs->second_len, LINKER_UTILS_SLICE(struct linker_utils_property, properties),
+        properties_len, number);
+}
+
+uint32_t linker_utils_write_properties_nonnull(
+    uint16_t machine, const struct linker_utils_property *properties, size_t properties_len,
+    uint8_t *note, size_t note_len, size_t *number);
+static inline uint32_t linker_utils_write_properties(
+    uint16_t machine, const struct linker_utils_property *properties, size_t properties_len,
+    uint8_t *note, size_t note_len, size_t *number) {
+    return linker_utils_write_properties_nonnull(
+        machine, LINKER_UTILS_SLICE(const struct linker_utils_property, properties), properties_len,
+        LINKER_UTILS_SLICE(uint8_t, note), note_len, number);
+}
+
 uint32_t linker_utils_write_lazy_header_nonnull(
     uint16_t machine, uint64_t header, uint64_t words, uint8_t *bytes, size_t bytes_len);
 static inline uint32_t linker_utils_write_lazy_header(

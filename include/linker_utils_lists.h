@@ -22,7 +22,9 @@
     STATUS(UNKNOWN_RELOCATION, 4, \
            "The architecture has no relocation of this type, or its meaning is not known.") \
     STATUS(TOO_SHORT, 5, "There are fewer bytes than the call reads or writes.") \
-    STATUS(DOES_NOT_FIT, 6, "The value does not fit the form, or the existing ULEB128 number.") \
+    STATUS(DOES_NOT_FIT, 6, \
+           "The value does not fit the form, the existing ULEB128 number or the type of " \
+           "properties.") \
     STATUS(CANNOT_APPLY, 7, "The rewrite cannot be applied there.") \
     STATUS(BAD_REGISTER, 8, "The register is not one of 0 to 30.") \
     STATUS(OUT_OF_SECTION, 9, \
@@ -36,9 +38,12 @@
            "2^64 - 1 or past the section.") \
     STATUS(NOT_MERGEABLE, 15, \
            "Two deletions overlap or begin at one offset, or one ends past 2^64 - 1.") \
-    STATUS(TOO_LARGE, 17, "The input offset, or a bitmap's address, would be past 2^64 - 1.") \
+    STATUS(TOO_LARGE, 17, \
+           "The input offset, or a bitmap's address, would be past 2^64 - 1, or a note would be " \
+           "too long.") \
     STATUS(NOT_ASCENDING, 18, \
-           "The queries, or the boundaries, decrease somewhere, or the addresses do not ascend.") \
+           "The queries, or the boundaries, decrease somewhere, or the addresses or types do not " \
+           "ascend.") \
     STATUS(DIFFERENT_LENGTHS, 19, "An output array does not have the length that the call takes.") \
     STATUS(OUT_OF_MEMORY, 20, "`malloc` or `realloc` returned null.") \
     STATUS(ULEB128_ENDED, 21, "The bytes end before the ULEB128 number does.") \
@@ -164,7 +169,14 @@
     STATUS(NO_TLS_BASE, 84, \
            "The value counts from an origin of thread-local offsets, and the output has no TLS " \
            "segment.") \
-    STATUS(UNALIGNED_ADDRESS, 85, "An address is not a multiple of 8.")
+    STATUS(UNALIGNED_ADDRESS, 85, "An address is not a multiple of 8.") \
+    STATUS(NOT_PROPERTIES, 86, "What begins at the offset is not a note of properties.") \
+    STATUS(CUT_OFF, 87, \
+           "The section ends in the note, or the note in the property, that begins at the offset.") \
+    STATUS(WRONG_SIZE, 88, "The property at the offset has another size than its type.") \
+    STATUS(DIFFERENT_VALUES, 89, \
+           "The inputs have different values of the property of the type.") \
+    STATUS(UNKNOWN_PROPERTY, 90, "The type of the property has no rule.")
 
 enum linker_utils_status {
 #define LINKER_UTILS_STATUS(name, number, text) LINKER_UTILS_##name = number,

@@ -1,6 +1,6 @@
 /* SPDX-License-Identifier: MIT OR Apache-2.0 */
 /* Further calls of linker_utils.h, which includes this file, on outputs: what a linker adds to one,
- * packed relative relocations, lazy PLTs, and places of stubs. */
+ * packed relative relocations, program properties, lazy PLTs, and places of stubs. */
 #ifndef LINKER_UTILS_OUTPUTS_H
 #define LINKER_UTILS_OUTPUTS_H
 
@@ -135,6 +135,54 @@ LINKER_UTILS_MUST_USE static inline uint32_t linker_utils_write_relr(
 LINKER_UTILS_MUST_USE static inline uint32_t linker_utils_read_relr(
     const uint64_t *words, size_t words_len, uint64_t *addresses, size_t addresses_len,
     size_t *needed);
+
+/* ---- Program properties: the notes of `.note.gnu.property` (Linux extensions to the generic ABI),
+ * with `namesz` 4, `n_type` 5 and the name "GNU". The output's properties are those of the first
+ * input, merged with themselves and then with those of each other input, in any order. An input
+ * without the section has none. In `number` is what the call returns: with LINKER_UTILS_OK, and
+ * with LINKER_UTILS_TOO_SHORT, how many there are or have to be. */
+
+/* A property of a note. */
+struct linker_utils_property {
+    uint32_t kind;    /* its type, `pr_type` */
+    uint64_t value;   /* 0 of a type without a value, or without a rule */
+    uint64_t version; /* the value's second 8 bytes, which only AArch64's PAuth has; else 0 */
+};
+
+/* Whether a type has a rule by which its values go together. `linker_utils_merge_properties` drops
+ * others, which a linker may report. False where the library has no such machine. */
+bool linker_utils_is_property_known(uint16_t machine, uint32_t kind);
+
+/* Writes the properties of a section's `notes` to the beginning of `properties`. Of the first note or
+ * property that isn't well-formed, with its offset in `number`, LINKER_UTILS_NOT_PROPERTIES,
+ * LINKER_UTILS_CUT_OFF, LINKER_UTILS_WRONG_SIZE, or LINKER_UTILS_NOT_ASCENDING, where its type isn't
+ * above the one before it; LINKER_UTILS_TOO_SHORT, of `properties`. O(n). */
+LINKER_UTILS_MUST_USE static inline uint32_t linker_utils_read_properties(
+    uint16_t machine, const uint8_t *notes, size_t notes_len,
+    struct linker_utils_property *properties, size_t properties_len, size_t *number);
+
+/* The properties of two inputs, or of all inputs so far and of one more. Of several of one type in a
+ * list the first counts. */
+struct linker_utils_property_inputs {
+    const struct linker_utils_property *first; size_t first_len;
+    const struct linker_utils_property *second; size_t second_len;
+};
+
+/* Writes what the properties of two inputs make to the beginning of `properties`, with ascending
+ * types: the order of inputs doesn't matter. LINKER_UTILS_DIFFERENT_VALUES, with the type in
+ * `number`; LINKER_UTILS_TOO_SHORT, of `properties`. O(n^2). */
+LINKER_UTILS_MUST_USE static inline uint32_t linker_utils_merge_properties(
+    uint16_t machine, const struct linker_utils_property_inputs *property_inputs,
+    struct linker_utils_property *properties, size_t properties_len, size_t *number);
+
+/* Writes the note of `properties` to the beginning of `note`, and its length to `number`: a multiple
+ * of 8, and 0 of no properties. LINKER_UTILS_TOO_LARGE, with 2^27 properties or more; of the first
+ * that can't be written LINKER_UTILS_NOT_ASCENDING, with its index in `number`, or with its type
+ * LINKER_UTILS_UNKNOWN_PROPERTY or LINKER_UTILS_DOES_NOT_FIT; LINKER_UTILS_TOO_SHORT, of `note`.
+ * O(n). */
+LINKER_UTILS_MUST_USE static inline uint32_t linker_utils_write_properties(
+    uint16_t machine, const struct linker_utils_property *properties, size_t properties_len,
+    uint8_t *note, size_t note_len, size_t *number);
 
 /* ---- Lazy PLTs: functions of other outputs that the dynamic linker looks up at their first
  * call. */

@@ -2,7 +2,7 @@
 //! What the library's errors print, and which error is the cause of another.
 
 use crate::elf::{ApplyError, FormulaError, RelocateError, Uleb128PairError, WriteError};
-use crate::output::{RelrError, RouteError, StubError};
+use crate::output::{PropertyError, RelrError, RouteError, StubError};
 use crate::placement::PlaceError;
 use crate::relaxation::{OutOfMemory, SectionRelaxDeltas};
 use crate::rewriting::{RewritingError, WritingError};
@@ -103,6 +103,26 @@ impl Display for RelrError {
 }
 
 impl Error for RelrError {}
+
+impl Display for PropertyError {
+    fn fmt(&self, f: &mut Formatter<'_>) -> Result {
+        match self {
+            PropertyError::NotProperties(at) => write!(f, "no note of properties begins at {at:#x}"),
+            PropertyError::CutOff(at) => write!(f, "the note or property at {at:#x} has no end"),
+            PropertyError::WrongSize(at) => write!(f, "the property at {at:#x} has another size"),
+            PropertyError::NotAscending(at) => {
+                write!(f, "the type of the property at {at:#x} does not ascend")
+            }
+            PropertyError::Differs(kind) => write!(f, "the values of type {kind:#x} differ"),
+            PropertyError::Unknown(kind) => write!(f, "the type {kind:#x} has no rule"),
+            PropertyError::TooLarge(kind) => write!(f, "the value of type {kind:#x} does not fit"),
+            PropertyError::TooMany => f.write_str("a note has at most 2^27 - 1 properties"),
+            PropertyError::TooShort(needed) => write!(f, "the slice has fewer than {needed}"),
+        }
+    }
+}
+
+impl Error for PropertyError {}
 
 impl Display for PlaceError {
     fn fmt(&self, f: &mut Formatter<'_>) -> Result {

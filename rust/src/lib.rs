@@ -189,6 +189,10 @@ pub mod output {
     pub use crate::linker_output::lazy_plt::{
         LazyEntry, LazyField, LazyPiece, LazyPlt, LazyTarget, LazyWord,
     };
+    pub use crate::linker_output::properties::{
+        Property, PropertyError, PropertyRule, merge_properties, property_rule, read_properties,
+        write_properties,
+    };
     pub use crate::linker_output::relr::{RelrError, read_relr, write_relr};
     pub use crate::linker_output::routes::{Route, RouteError};
     pub use crate::linker_output::stubs::{Stub, StubError, StubField, StubKind};

@@ -2,7 +2,8 @@
 // Made by tools/generate of crates/linker_output/src/lib.rt.
 //! What a linker adds to an output, by architecture: the types of dynamic relocations, words of the
 //! GOT, origins of thread-local storage, `e_flags`, lazy PLTs, and the code of stubs; how a branch
-//! goes, and where stubs stand; the words of packed relative relocations.
+//! goes, and where stubs stand; the words of packed relative relocations;
+//! notes of program properties.
 
 #[cfg(feature = "aarch64")]
 mod aarch64;
@@ -20,6 +21,7 @@ mod loongarch64;
 pub mod placement;
 #[cfg(feature = "ppc64")]
 mod ppc64;
+pub mod properties;
 pub mod relr;
 #[cfg(feature = "riscv64")]
 mod riscv64;

@@ -2,7 +2,7 @@
 //! What errors print, and their causes.
 
 use linker_utils::elf::{Architecture, RelocateError, Uleb128PairError, WriteError};
-use linker_utils::output::{RelrError, RouteError, StubError};
+use linker_utils::output::{PropertyError, RelrError, RouteError, StubError};
 use linker_utils::readers::{self, ReadError};
 use linker_utils::relaxation::{OutOfMemory, PackError, RejectedCall, SectionRelaxDeltas};
 use linker_utils::rewriting::{RewritingError, WritingError};
@@ -93,6 +93,21 @@ fn errors_of_packed_relocations_are_printed() {
     assert_eq!(texts(RelrError::NoAddress), ["no address is before the first bitmap"]);
     assert_eq!(texts(RelrError::Wraps), ["an address of a bitmap is past 2^64 - 1"]);
     assert_eq!(texts(RelrError::TooShort(3)), ["the slice has fewer than 3"]);
+}
+
+#[test]
+fn errors_of_properties_are_printed() {
+    let at = PropertyError::NotProperties(0x30);
+    assert_eq!(texts(at), ["no note of properties begins at 0x30"]);
+    assert_eq!(texts(PropertyError::CutOff(16)), ["the note or property at 0x10 has no end"]);
+    assert_eq!(texts(PropertyError::WrongSize(16)), ["the property at 0x10 has another size"]);
+    let order = "the type of the property at 0x10 does not ascend";
+    assert_eq!(texts(PropertyError::NotAscending(16)), [order]);
+    assert_eq!(texts(PropertyError::Differs(0xc000_0001)), ["the values of type 0xc0000001 differ"]);
+    assert_eq!(texts(PropertyError::Unknown(7)), ["the type 0x7 has no rule"]);
+    assert_eq!(texts(PropertyError::TooLarge(2)), ["the value of type 0x2 does not fit"]);
+    assert_eq!(texts(PropertyError::TooMany), ["a note has at most 2^27 - 1 properties"]);
+    assert_eq!(texts(PropertyError::TooShort(3)), ["the slice has fewer than 3"]);
 }
 
 #[test]

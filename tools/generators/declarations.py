@@ -73,6 +73,7 @@ PASSED = {
                                  "deltas": "deltas: &[RelaxDelta]"}),
     "relaxed": ("", {"shapes": "shapes: &mut [u8]", "kept": "kept: &[u64], kept: &mut [u64]",
                      "places": "places: &mut [usize]", "freed": "freed: &mut [u64]"}),
+    "property_inputs": ("second", {"first": "first: &[Property]", "second": "second: &[Property]"}),
     "windows": ("original", {"original": "original: &[u8]", "offset": "offset: u64",
                              "others": "others: &[FieldBits]", "linked": "linked: &[u8]"}),
 }

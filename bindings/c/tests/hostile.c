@@ -1520,6 +1520,95 @@ static void call_read_relr(void) {
     finish_needed(status, needed, 0 OR(NO_ADDRESS) OR(UNALIGNED_ADDRESS) OR(TOO_LARGE) OR(TOO_SHORT));
 }
 
+static const uint32_t property_kinds[] = {1, 2, 0xb0000000, 0xb0008000, 0xc0000000, 0xc0000001,
+                                          0xc0000002, 0xc0008002, 0xc0010002};
+enum { PROPERTY_KINDS = sizeof property_kinds / sizeof *property_kinds };
+
+/* Properties with ascending types, mostly. */
+static struct buffer *properties(enum use use, size_t count) {
+    struct buffer *made = place(use, count, sizeof(struct linker_utils_property));
+    struct linker_utils_property *property = filled(made);
+    size_t next = 0;
+    for (size_t i = 0; i < count; i++) {
+        if (!once_in(3) && next + 1 < PROPERTY_KINDS) next++;
+        property[i] = (struct linker_utils_property){
+            .kind = once_in(50) ? (uint32_t)any_number() : property_kinds[next],
+            .value = once_in(20) ? any_number() : below(8), .version = once_in(20)};
+    }
+    return made;
+}
+
+/* `number` is written with all of these but LINKER_UTILS_TOO_LARGE and an unknown machine. */
+static void finish_number(uint32_t status, const size_t *number, statuses allowed) {
+    struct buffer *buffer = &buffers[used - 1];
+    expect((const void *)number == buffer->given, "`number` is the last buffer");
+    if (status != LINKER_UTILS_TOO_LARGE && status != LINKER_UTILS_UNKNOWN_ARCHITECTURE)
+        memcpy(buffer->was, filled(buffer), sizeof *number);
+    finish_with(status, allowed);
+}
+
+static void call_read_properties(void) {
+    size_t count = below(8), len = once_in(4) ? any_count() : 16 + 16 * count;
+    struct buffer *notes = place(READ, len, 1);
+    uint8_t *byte = filled(notes);
+    for (size_t at = 0; at + 4 <= len; at += 4) {
+        uint32_t word = (uint32_t)any_number();
+        if (!once_in(100)) {
+            size_t part = at / 4;
+            uint32_t header[] = {4, (uint32_t)(16 * count), 5, 0x554e47};
+            uint32_t kind = property_kinds[part / 4 % PROPERTY_KINDS];
+            word = part < 4 ? header[part] : part % 4 == 0 ? kind : part % 4 == 1 ? 4 : below(8);
+        }
+        memcpy(byte + at, &word, 4);
+    }
+    size_t room = once_in(4) ? below(8) : count;
+    struct buffer *read = place(WRITTEN, room, sizeof(struct linker_utils_property));
+    size_t *number = output(sizeof *number);
+    uint32_t status = CALL(read_properties, any_machine(), notes->given, len, read->given,
+                           LEN(read, struct linker_utils_property), number);
+    if (status == LINKER_UTILS_OK) read->changes_to = *number * sizeof(struct linker_utils_property);
+    expect(status == LINKER_UTILS_UNKNOWN_ARCHITECTURE || *number <= len, "more than bytes");
+    finish_number(status, number, 0 UNKNOWN OR(NOT_PROPERTIES) OR(CUT_OFF) OR(WRONG_SIZE)
+                  OR(NOT_ASCENDING) OR(TOO_SHORT));
+}
+
+static void call_merge_properties(void) {
+    size_t first_len = below(8), second_len = below(8);
+    struct buffer *first = properties(READ, first_len), *second = properties(READ, second_len);
+    const struct linker_utils_property_inputs *inputs = INPUT(
+        property_inputs, .first = first->given, .first_len = first_len, .second = second->given,
+        .second_len = second_len);
+    size_t room = once_in(4) ? below(8) : first_len + second_len;
+    struct buffer *merged = place(WRITTEN, room, sizeof(struct linker_utils_property));
+    size_t *number = output(sizeof *number);
+    uint32_t status = CALL(merge_properties, any_machine(), inputs, merged->given,
+                           LEN(merged, struct linker_utils_property), number);
+    if (status == LINKER_UTILS_OK)
+        merged->changes_to = *number * sizeof(struct linker_utils_property);
+    expect(status || *number <= first_len + second_len, "more than there were");
+    finish_number(status, number, 0 UNKNOWN OR(DIFFERENT_VALUES) OR(TOO_SHORT));
+}
+
+static void call_write_properties(void) {
+    size_t count = below(8);
+    struct buffer *given = properties(READ, count);
+    struct buffer *note = place(WRITTEN, once_in(4) ? any_count() : 16 + 24 * count, 1);
+    size_t *number = output(sizeof *number);
+    uint32_t status = CALL(write_properties, any_machine(), given->given,
+                           LEN(given, struct linker_utils_property), note->given, note->len, number);
+    if (status == LINKER_UTILS_OK) note->changes_to = *number;
+    expect(status || *number <= 16 + 24 * count, "a longer note");
+    finish_number(status, number, 0 UNKNOWN OR(NOT_ASCENDING) OR(UNKNOWN_PROPERTY) OR(DOES_NOT_FIT)
+                  OR(TOO_LARGE) OR(TOO_SHORT));
+}
+
+static void call_is_property_known(void) {
+    uint16_t machine = any_machine();
+    bool known = CALL(is_property_known, machine, property_kinds[below(PROPERTY_KINDS)]);
+    expect(!CALL(is_property_known, machine, 0), "type 0 has no rule");
+    finish(known);
+}
+
 static void call_output_facts(void) {
     uint16_t machine = any_machine();
     uint32_t flags = (uint32_t)any_number();
@@ -2672,7 +2761,8 @@ static void (*const all[])(void) = {
     call_survey_global_pointer, call_rewrite_global_pointer, call_finish_gp_relaxation,
     call_rewrite_placed_section, call_dynamic_types, call_dynamic_name, call_dynamic_words,
     call_entry_words, call_origins, call_static_words, call_got, call_join_flags, call_write_relr,
-    call_read_relr,
+    call_read_relr, call_read_properties, call_merge_properties, call_write_properties,
+    call_is_property_known,
     call_output_facts, call_interpreter, call_address_section, call_entry_relocation,
     call_provided_symbol, call_save_restore_routines, call_provided_word, call_stub, call_write_stub,
     call_lazy_plt, call_write_lazy_header, call_write_lazy_entry, call_lazy_words, call_route_at,

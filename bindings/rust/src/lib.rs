@@ -1723,30 +1723,116 @@ pub fn output_flags(architecture: Architecture, joined: u32) -> u32 {
 /// fewer words relocate the same.
 pub fn relr_words(addresses: &[u64]) -> Result<Vec<u64>, Status> {
     let (at, len) = (addresses.as_ptr(), addresses.len());
-    filled_by(|words, room, needed| unsafe {
+    let words = filled_by(|words, room, needed| unsafe {
         raw::linker_utils_write_relr_nonnull(at, len, words, room, needed)
-    })
+    });
+    words.map_err(|error| error.status)
 }
 
 /// The addresses that the words of a section of type `SHT_RELR` relocate, in the order of the words.
 pub fn relr_addresses(words: &[u64]) -> Result<Vec<u64>, Status> {
     let (at, len) = (words.as_ptr(), words.len());
-    filled_by(|addresses, room, needed| unsafe {
+    let addresses = filled_by(|addresses, room, needed| unsafe {
         raw::linker_utils_read_relr_nonnull(at, len, addresses, room, needed)
+    });
+    addresses.map_err(|error| error.status)
+}
+
+/// A property that objects have in a note of a section `.note.gnu.property`.
+#[repr(C)]
+#[derive(Debug, Clone, Copy, Default, PartialEq, Eq)]
+pub struct Property {
+    /// Its type, `pr_type`.
+    pub kind: u32,
+    /// Its value.
+    pub value: u64,
+    /// The value's second 8 bytes, which only AArch64's PAuth has.
+    pub version: u64,
+}
+
+/// Why properties aren't read, merged or written.
+#[derive(Debug, Clone, Copy, PartialEq, Eq)]
+pub struct PropertyError {
+    pub status: Status,
+    /// What the status is about: an offset of a section, the index of a property, or a type.
+    pub number: usize,
+}
+
+/// Whether a type of properties has a rule by which its values go together.
+pub fn is_property_known(architecture: Architecture, kind: u32) -> bool {
+    unsafe { raw::linker_utils_is_property_known(architecture.machine(), kind) }
+}
+
+/// The properties of a section `.note.gnu.property`, also those whose type has no rule.
+pub fn read_properties(
+    architecture: Architecture,
+    notes: &[u8],
+) -> Result<Vec<Property>, PropertyError> {
+    let (machine, at, len) = (architecture.machine(), notes.as_ptr(), notes.len());
+    filled_by(|properties, room, number| unsafe {
+        raw::linker_utils_read_properties_nonnull(machine, at, len, properties, room, number)
     })
 }
 
-/// What a call writes that first says how many numbers it needs.
-fn filled_by(call: impl Fn(*mut u64, usize, &mut usize) -> u32) -> Result<Vec<u64>, Status> {
-    let mut needed = 0;
-    let mut numbers = Vec::new();
-    let status = call(numbers.as_mut_ptr(), 0, &mut needed);
-    if status == Status::TooShort as u32 {
-        numbers.resize(needed, 0);
-        let status = call(numbers.as_mut_ptr(), needed, &mut needed);
-        return result_of(status, numbers);
+/// What the properties of two inputs make, with ascending types. Those without a rule are dropped.
+pub fn merge_properties(
+    architecture: Architecture,
+    first: &[Property],
+    second: &[Property],
+) -> Result<Vec<Property>, PropertyError> {
+    let machine = architecture.machine();
+    filled_by(|properties, room, number| unsafe {
+        raw::linker_utils_merge_properties_nonnull(
+            machine,
+            first.as_ptr(),
+            first.len(),
+            second.as_ptr(),
+            second.len(),
+            properties,
+            room,
+            number,
+        )
+    })
+}
+
+/// The note of properties, and nothing of none.
+pub fn write_properties(
+    architecture: Architecture,
+    properties: &[Property],
+) -> Result<Vec<u8>, PropertyError> {
+    let (machine, at, len) = (architecture.machine(), properties.as_ptr(), properties.len());
+    filled_by(|note, room, number| unsafe {
+        raw::linker_utils_write_properties_nonnull(machine, at, len, note, room, number)
+    })
+}
+
+/// The note of an output of inputs with these sections `.note.gnu.property`, of which an input
+/// without the section has an empty one. With an error also the index of the input.
+pub fn merge_notes(
+    architecture: Architecture,
+    sections: &[&[u8]],
+) -> Result<Vec<u8>, (usize, PropertyError)> {
+    let mut merged = Vec::new();
+    for (index, section) in sections.iter().enumerate() {
+        let read = read_properties(architecture, section).map_err(|error| (index, error))?;
+        let first = if index == 0 { &read } else { &merged };
+        merged = merge_properties(architecture, first, &read).map_err(|error| (index, error))?;
     }
-    result_of(status, numbers)
+    write_properties(architecture, &merged).map_err(|error| (sections.len(), error))
+}
+
+/// What a call writes that first says how much it needs.
+fn filled_by<T: Default + Clone>(
+    call: impl Fn(*mut T, usize, &mut usize) -> u32,
+) -> Result<Vec<T>, PropertyError> {
+    let mut number = 0;
+    let mut filled = Vec::new();
+    let mut status = call(filled.as_mut_ptr(), 0, &mut number);
+    if status == Status::TooShort as u32 {
+        filled.resize(number, T::default());
+        status = call(filled.as_mut_ptr(), number, &mut number);
+    }
+    result_of(status, filled).map_err(|status| PropertyError { status, number })
 }
 
 /// The largest page, in bytes, for which an output has to be right.

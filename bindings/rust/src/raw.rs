@@ -5,8 +5,8 @@
 
 pub use crate::{
     Addresses, BlockHead, Branch, Call, Deletion, Delta, DynamicTypes, FactsSnapshot, FieldBits,
-    FieldValue, Item, LazyEntry, LazyPlt, Operands, Origins, OutputFacts, PlacedStub, Rela,
-    Relocation, RewriteWindow, Shape, Shapes, Stub, StubShape, Symbol, SymbolFacts,
+    FieldValue, Item, LazyEntry, LazyPlt, Operands, Origins, OutputFacts, PlacedStub, Property,
+    Rela, Relocation, RewriteWindow, Shape, Shapes, Stub, StubShape, Symbol, SymbolFacts,
     UnrelaxableGroups,
 };
 use std::ffi::c_char;
@@ -998,6 +998,33 @@ extern "C" {
         addresses: *mut u64,
         addresses_len: usize,
         needed: *mut usize,
+    ) -> u32;
+    pub fn linker_utils_is_property_known(machine: u16, kind: u32) -> bool;
+    pub fn linker_utils_read_properties_nonnull(
+        machine: u16,
+        notes: *const u8,
+        notes_len: usize,
+        properties: *mut Property,
+        properties_len: usize,
+        number: *mut usize,
+    ) -> u32;
+    pub fn linker_utils_merge_properties_nonnull(
+        machine: u16,
+        first: *const Property,
+        first_len: usize,
+        second: *const Property,
+        second_len: usize,
+        properties: *mut Property,
+        properties_len: usize,
+        number: *mut usize,
+    ) -> u32;
+    pub fn linker_utils_write_properties_nonnull(
+        machine: u16,
+        properties: *const Property,
+        properties_len: usize,
+        note: *mut u8,
+        note_len: usize,
+        number: *mut usize,
     ) -> u32;
     pub fn linker_utils_get_lazy_plt(machine: u16, plt: *mut LazyPlt) -> u32;
     pub fn linker_utils_write_lazy_header_nonnull(

@@ -65,6 +65,42 @@ fn words_of_packed_relocations_are_those_of_lld() {
     assert_eq!(relr_addresses(&[0_u64.wrapping_sub(8), 3]), Err(Status::TooLarge));
 }
 
+/// A note of properties of 4 bytes.
+fn note(properties: &[(u32, u32)]) -> Vec<u8> {
+    let mut words = vec![4, 16 * properties.len() as u32, 5, u32::from_le_bytes(*b"GNU\0")];
+    words.extend(properties.iter().flat_map(|(kind, value)| [*kind, 4, *value, 0]));
+    words.iter().flat_map(|word| word.to_le_bytes()).collect()
+}
+
+#[test]
+fn properties_are_merged() {
+    // X86_FEATURE_1_AND, X86_ISA_1_NEEDED, X86_ISA_1_USED
+    let (feature, needed, used) = (0xc000_0002, 0xc000_8002, 0xc001_0002);
+    let first = note(&[(feature, 3), (needed, 1), (used, 1)]);
+    let second = note(&[(feature, 1), (needed, 2), (used, 4)]);
+    // as GNU ld 2.40 writes it of such inputs
+    let merged = note(&[(feature, 1), (needed, 3), (used, 5)]);
+    assert_eq!(merge_notes(X86_64, &[&first, &second]), Ok(merged));
+    assert_eq!(merge_notes(X86_64, &[&first, &second, &[]]), Ok(note(&[(needed, 3)])));
+    assert_eq!(merge_notes(X86_64, &[&[]]), Ok(vec![]));
+    assert!(is_property_known(X86_64, feature) && !is_property_known(PPC64, feature));
+    let unknown = note(&[(0xc002_0000, 1)]);
+    let read = read_properties(X86_64, &unknown);
+    assert_eq!(read, Ok(vec![Property { kind: 0xc002_0000, value: 0, version: 0 }]));
+    assert_eq!(merge_notes(X86_64, &[&unknown]), Ok(vec![]));
+    let rejected = |status, number| PropertyError { status, number };
+    let cut = merge_notes(X86_64, &[&first, &second[..40]]);
+    assert_eq!(cut, Err((1, rejected(Status::CutOff, 0))));
+    let written = write_properties(X86_64, &[Property { kind: 7, ..Property::default() }]);
+    assert_eq!(written, Err(rejected(Status::UnknownProperty, 7)));
+    // AARCH64_FEATURE_PAUTH, of a platform and a version
+    let pauth = |version| Property { kind: 0xc000_0001, value: 2, version };
+    let same = merge_properties(AARCH64, &[pauth(1)], &[pauth(1)]);
+    assert_eq!(same, Ok(vec![pauth(1)]));
+    let differs = merge_properties(AARCH64, &[pauth(1)], &[pauth(2)]);
+    assert_eq!(differs, Err(rejected(Status::DifferentValues, 0xc000_0001)));
+}
+
 #[test]
 fn flags_are_joined_or_kept_apart() {
     // EF_RISCV_RVC, and EF_RISCV_FLOAT_ABI_DOUBLE beside none

@@ -32,3 +32,8 @@ pub mod Stuck
 pub mod Writable
 pub mod X86LazyLaws
 pub mod X86StubLaws
+pub mod MergedProperties
+pub mod ReadProperties
+pub mod WrittenProperties
+pub mod MergingLaws
+pub mod ReadBack

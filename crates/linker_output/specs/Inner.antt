@@ -1,3 +1,4 @@
 pub mod Placement
+pub mod Properties
 pub mod Relr
 pub mod Routes

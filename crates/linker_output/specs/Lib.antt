@@ -19,6 +19,7 @@ pub mod Ppc64Output
 pub mod Ppc64Saves
 pub mod Ppc64Stubs
 pub mod Ppc64Vectors
+pub mod Properties
 pub mod Relr
 pub mod RiscVLazyPlt
 pub mod RiscVOutput

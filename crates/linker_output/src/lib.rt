@@ -1,6 +1,7 @@
 //! What a linker adds to an output, by architecture: the types of dynamic relocations, words of the
 //! GOT, origins of thread-local storage, `e_flags`, lazy PLTs, and the code of stubs; how a branch
-//! goes, and where stubs stand; the words of packed relative relocations.
+//! goes, and where stubs stand; the words of packed relative relocations;
+//! notes of program properties.
 #![tactic(auto)]
 
 mod aarch64;
@@ -18,6 +19,7 @@ mod lazy_plts;
 mod loongarch64;
 pub mod placement;
 mod ppc64;
+pub mod properties;
 pub mod relr;
 mod riscv64;
 pub mod routes;

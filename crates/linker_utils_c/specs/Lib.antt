@@ -14,6 +14,7 @@ pub mod Recognising
 pub mod Relaxing
 pub mod Relocate
 pub mod Relocations
+pub mod Properties
 pub mod Relr
 pub mod Rewrites
 pub mod Rewriting

@@ -51,6 +51,10 @@ use Rattle.linker_utils_c.specs.declared.status.Status.TheVariants.{StubTooFar, 
 use Rattle.linker_utils_c.specs.declared.status.Status.TheVariants.{NotAligned, NeedsStub}
 use Rattle.linker_utils_c.specs.declared.status.Status.TheVariants.{OtherLength, FactsContradict}
 use Rattle.linker_utils_c.specs.declared.status.Status.TheVariants.{NoTlsBase, UnalignedAddress}
+use Rattle.linker_utils_c.specs.declared.status.Status.TheVariants.{NotProperties, CutOff}
+use Rattle.linker_utils_c.specs.declared.status.Status.TheVariants.{WrongSize}
+use Rattle.linker_utils_c.specs.declared.status.Status.TheVariants.{DifferentValues}
+use Rattle.linker_utils_c.specs.declared.status.Status.TheVariants.{UnknownProperty}
 
 abbrev pub code : Status → ℕ
 code Success = 0
@@ -137,6 +141,11 @@ code OtherLength = 82
 code FactsContradict = 83
 code NoTlsBase = 84
 code UnalignedAddress = 85
+code NotProperties = 86
+code CutOff = 87
+code WrongSize = 88
+code DifferentValues = 89
+code UnknownProperty = 90
 
 -- the status is one of these
 abbrev pub IsOneOf : List Status → ℕ → Type 0

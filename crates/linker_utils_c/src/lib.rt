@@ -15,6 +15,7 @@ mod output;
 mod pack_runs;
 mod packing;
 mod placement;
+mod properties;
 mod readers;
 mod reading;
 mod recognising;

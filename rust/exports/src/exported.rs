@@ -34,6 +34,7 @@ use linker_utils::relaxation::RelaxDelta;
 use linker_utils::riscv64::Call;
 use linker_utils::source::output::LazyEntry;
 use linker_utils::source::output::Origins;
+use linker_utils::source::output::Property;
 use linker_utils::source::placement::Branch;
 use linker_utils::source::placement::StubShape;
 use linker_utils::source::recognise::FieldBits;
@@ -1241,6 +1242,80 @@ unsafe extern "C" fn linker_utils_place_stubs_nonnull(
             from_raw_parts_mut(ways, ways_len),
             from_raw_parts_mut(before, before_len),
             &mut *faulty,
+        )
+    }
+}
+
+#[unsafe(no_mangle)]
+extern "C" fn linker_utils_is_property_known(
+    machine: u16,
+    kind: u32,
+) -> bool {
+    crate::properties::linker_utils_is_property_known(
+        machine,
+        kind,
+    )
+}
+
+#[unsafe(no_mangle)]
+unsafe extern "C" fn linker_utils_read_properties_nonnull(
+    machine: u16,
+    notes: *const u8,
+    notes_len: usize,
+    properties: *mut Property,
+    properties_len: usize,
+    number: *mut usize,
+) -> u32 {
+    // SAFETY: the arguments are as the head of the header says.
+    unsafe {
+        crate::properties::linker_utils_read_properties_nonnull(
+            machine,
+            from_raw_parts(notes, notes_len),
+            from_raw_parts_mut(properties, properties_len),
+            &mut *number,
+        )
+    }
+}
+
+#[unsafe(no_mangle)]
+unsafe extern "C" fn linker_utils_merge_properties_nonnull(
+    machine: u16,
+    first: *const Property,
+    first_len: usize,
+    second: *const Property,
+    second_len: usize,
+    properties: *mut Property,
+    properties_len: usize,
+    number: *mut usize,
+) -> u32 {
+    // SAFETY: the arguments are as the head of the header says.
+    unsafe {
+        crate::properties::linker_utils_merge_properties_nonnull(
+            machine,
+            from_raw_parts(first, first_len),
+            from_raw_parts(second, second_len),
+            from_raw_parts_mut(properties, properties_len),
+            &mut *number,
+        )
+    }
+}
+
+#[unsafe(no_mangle)]
+unsafe extern "C" fn linker_utils_write_properties_nonnull(
+    machine: u16,
+    properties: *const Property,
+    properties_len: usize,
+    note: *mut u8,
+    note_len: usize,
+    number: *mut usize,
+) -> u32 {
+    // SAFETY: the arguments are as the head of the header says.
+    unsafe {
+        crate::properties::linker_utils_write_properties_nonnull(
+            machine,
+            from_raw_parts(properties, properties_len),
+            from_raw_parts_mut(note, note_len),
+            &mut *number,
         )
     }
 }

@@ -34,6 +34,7 @@ pub mod output;
 pub mod pack_runs;
 pub mod packing;
 pub mod placement;
+pub mod properties;
 pub mod readers;
 pub mod reading;
 pub mod recognising;

@@ -17,7 +17,7 @@ pub enum Status {
     UnknownRelocation,
     /// There are fewer bytes than the call reads or writes.
     TooShort,
-    /// The value does not fit the form, or the existing ULEB128 number.
+    /// The value does not fit the form, the existing ULEB128 number or the type of properties.
     DoesNotFit,
     /// The rewrite cannot be applied there.
     CannotApply,
@@ -37,9 +37,9 @@ pub enum Status {
     InvalidDeletions,
     /// Two deletions overlap or begin at one offset, or one ends past 2^64 - 1.
     NotMergeable,
-    /// The input offset, or a bitmap's address, would be past 2^64 - 1.
+    /// The input offset, or a bitmap's address, would be past 2^64 - 1, or a note would be too long.
     TooLarge = 17,
-    /// The queries, or the boundaries, decrease somewhere, or the addresses do not ascend.
+    /// The queries, or the boundaries, decrease somewhere, or the addresses or types do not ascend.
     NotAscending,
     /// An output array does not have the length that the call takes.
     DifferentLengths,
@@ -184,6 +184,16 @@ pub enum Status {
     NoTlsBase,
     /// An address is not a multiple of 8.
     UnalignedAddress,
+    /// What begins at the offset is not a note of properties.
+    NotProperties,
+    /// The section ends in the note, or the note in the property, that begins at the offset.
+    CutOff,
+    /// The property at the offset has another size than its type.
+    WrongSize,
+    /// The inputs have different values of the property of the type.
+    DifferentValues,
+    /// The type of the property has no rule.
+    UnknownProperty,
 }
 
 impl Status {

@@ -106,6 +106,9 @@ layout! {
     "linker_utils_save_restore_routines": raw::SaveRestoreRoutines {
         len, first, count, spacing,
     }
+    "linker_utils_property": raw::Property {
+        kind, value, version,
+    }
     "linker_utils_lazy_plt": raw::LazyPlt {
         header_len, entry_len, alignment, header_words,
     }

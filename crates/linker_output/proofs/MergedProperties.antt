@@ -1,0 +1,257 @@
+-- Properties that are merged type by type.
+use Rattle.std.proofs.Common.{◌≡◌, ◌≢◌, ℕ, ◌+◌, ◌<◌, ◌≤◌, ◌^◌, true, List, [], ◌∷◌, ◌++◌, length, set, drop, refl, sym, ◌∙◌, ap, subst, arith, Option, Some, None, Ok, Err, ◌⊎◌, inl, inr}
+use Rattle.std.proofs.lemmas.Bool.Decides.{nat_tests}
+use Rattle.linker_output.specs.Properties.{rule_of, merged, merged_by, merged_kind, of_kind, are_ascending, Merges, DiffersAt, RejectsMerge}
+use Rattle.linker_output.specs.declared.properties.PropertyError.{PropertyError}
+use Rattle.linker_output.specs.declared.properties.PropertyError.TheVariants.{NotProperties, CutOff, WrongSize, NotAscending, Differs, Unknown, TooLarge, TooMany, TooShort}
+use Rattle.linker_output.specs.Inner.Properties.{put_all, is_chain}
+use Rattle.linker_elf.specs.declared.elf.architecture.Architecture.{Architecture}
+use Rattle.linker_elf.specs.declared.elf.architecture.Architecture.TheVariants.{AArch64, RiscV, LoongArch64, Ppc64, X86_64}
+use Rattle.linker_output.specs.declared.properties.Property.{Property}
+use Rattle.linker_output.specs.declared.properties.PropertyRule.{PropertyRule}
+use Rattle.linker_output.specs.declared.properties.PropertyRule.TheVariants.{All, Any, AnyOfAll, Largest, Present, Same}
+
+-- ---- lists
+
+pub of_kind_is : (kind : ℕ) (ps : List Property) (p : Property) → of_kind kind ps ≡ Some p → p.kind ≡ kind
+of_kind_is kind [] p e = absurd (cc)
+of_kind_is kind (q ∷ ps) p e = (let h = of_kind_is kind ps p in grind (arith, nat_tests))
+
+of_kind_other : (kind : ℕ) (ps : List Property) (p : Property) → p.kind ≢ kind → of_kind kind (ps ++ p ∷ []) ≡ of_kind kind ps
+of_kind_other kind [] p ne = grind (arith, nat_tests)
+of_kind_other kind (q ∷ ps) p ne = (let h = of_kind_other kind ps p ne in grind (arith, nat_tests))
+
+of_kind_last : (kind : ℕ) (ps : List Property) (p : Property) → p.kind ≡ kind → of_kind kind ps ≡ None → of_kind kind (ps ++ p ∷ []) ≡ Some p
+of_kind_last kind [] p same e = grind (arith, nat_tests)
+of_kind_last kind (q ∷ ps) p same e = (let h = of_kind_last kind ps p same in grind (arith, nat_tests))
+
+chain_more : (ps : List Property) (least bound next : ℕ) → is_chain least ps bound ≡ true → bound ≤ next → is_chain least ps next ≡ true
+chain_more [] least bound next h le = grind (arith, nat_tests)
+chain_more (q ∷ ps) least bound next h le = (let k = chain_more ps (q.kind + 1) bound next in grind (arith, nat_tests))
+
+chain_low : (ps : List Property) (least bound : ℕ) → is_chain least ps bound ≡ true → least ≤ bound
+chain_low [] least bound h = grind (arith, nat_tests)
+chain_low (q ∷ ps) least bound h = (let k = chain_low ps (q.kind + 1) bound in grind (arith, nat_tests))
+
+pub chain_none : (ps : List Property) (least bound kind : ℕ) → is_chain least ps bound ≡ true → bound ≤ kind → of_kind kind ps ≡ None
+chain_none [] least bound kind h le = refl
+chain_none (q ∷ ps) least bound kind h le = (let k = chain_none ps (q.kind + 1) bound kind in let l = chain_low ps (q.kind + 1) bound in grind (arith, nat_tests))
+
+chain_last : (ps : List Property) (least bound : ℕ) (p : Property) → is_chain least ps bound ≡ true → p.kind ≡ bound → is_chain least (ps ++ p ∷ []) (bound + 1) ≡ true
+chain_last [] least bound p h e = grind (arith, nat_tests)
+chain_last (q ∷ ps) least bound p h e = (let k = chain_last ps (q.kind + 1) bound p in grind (arith, nat_tests))
+
+pub chain_ascends : (ps : List Property) (least bound : ℕ) → is_chain least ps bound ≡ true → are_ascending least ps ≡ true
+chain_ascends [] least bound h = refl
+chain_ascends (q ∷ ps) least bound h = (let k = chain_ascends ps (q.kind + 1) bound in grind (arith, nat_tests))
+
+-- ---- properties in a slice
+
+pub put_more : (done before : List Property) (p : Property) → set (put_all done before) (length done) p ≡ put_all (done ++ p ∷ []) before
+put_more [] [] p = refl
+put_more [] (q ∷ qs) p = refl
+put_more (d ∷ ds) [] p = refl
+put_more (d ∷ ds) (q ∷ qs) p = ap (λ xs. d ∷ xs) (put_more ds qs p)
+
+pub put_within : (done before : List Property) → length done ≤ length before → put_all done before ≡ done ++ drop (length done) before
+put_within [] before le = refl
+put_within (d ∷ ds) [] le = absurd (omega arith)
+put_within (d ∷ ds) (q ∷ qs) le = ap (λ xs. d ∷ xs) (put_within ds qs (omega arith))
+
+-- ---- what is merged
+
+none_made : (rule : Option PropertyRule) (kind : ℕ) → merged_by rule kind None None ≡ Ok None
+none_made None kind = refl
+none_made (Some All) kind = refl
+none_made (Some Any) kind = refl
+none_made (Some AnyOfAll) kind = refl
+none_made (Some Largest) kind = refl
+none_made (Some Present) kind = refl
+none_made (Some Same) kind = refl
+
+-- the merged properties so far
+pub record SoFar (architecture : Architecture) (first second done : List Property) (bound : ℕ) : Type 0 where
+  pub chain : is_chain 0 done bound ≡ true
+  pub exact : (kind : ℕ) → kind < bound → merged_kind architecture first second kind ≡ Ok (of_kind kind done)
+
+order : (k n : ℕ) → (k < n) ⊎ (n ≤ k)
+order k n = grind arith
+
+pub skip : (architecture : Architecture) (first second done : List Property) (bound next : ℕ) → bound ≤ next
+    → ((k : ℕ) → bound ≤ k → k < next → of_kind k first ≡ None)
+    → ((k : ℕ) → bound ≤ k → k < next → of_kind k second ≡ None)
+    → SoFar architecture first second done bound → SoFar architecture first second done next
+skip architecture first second done bound next le one two s = record {
+  chain = chain_more done 0 bound next s.chain le;
+  exact = λ kind lt. elim (order kind bound) [
+    | inl below ↦ s.exact kind below
+    | inr above ↦
+        rw (one kind above lt, two kind above lt, chain_none done 0 bound kind s.chain above)
+        (none_made (rule_of architecture kind) kind)
+  ];
+}
+
+pub begun : (architecture : Architecture) (first second : List Property) → SoFar architecture first second [] 0
+begun architecture first second = record { chain = refl; exact = λ kind lt. absurd (omega arith) }
+
+pub without : (architecture : Architecture) (first second done : List Property) (kind : ℕ)
+    → merged_kind architecture first second kind ≡ Ok None
+    → SoFar architecture first second done kind → SoFar architecture first second done (kind + 1)
+without architecture first second done kind e s = record {
+  chain = chain_more done 0 kind (kind + 1) s.chain (omega arith);
+  exact = λ k lt. elim (order k kind) [
+    | inl below ↦ s.exact k below
+    | inr above ↦
+        let same : k ≡ kind = omega arith in
+        rw (same, chain_none done 0 kind kind s.chain (omega arith)) e
+  ];
+}
+
+pub with : (architecture : Architecture) (first second done : List Property) (kind : ℕ) (p : Property)
+    → merged_kind architecture first second kind ≡ Ok (Some p) → p.kind ≡ kind
+    → SoFar architecture first second done kind → SoFar architecture first second (done ++ p ∷ []) (kind + 1)
+with architecture first second done kind p e is s = record {
+  chain = chain_last done 0 kind p s.chain is;
+  exact = λ k lt. elim (order k kind) [
+    | inl below ↦ s.exact k below ∙ sym (ap Ok (of_kind_other k done p (λ h. (omega arith))))
+    | inr above ↦
+        let same : k ≡ kind = omega arith in
+        rw (same, of_kind_last kind done p is (chain_none done 0 kind kind s.chain (omega arith))) e
+  ];
+}
+
+-- a merged property has its type
+made_kind : (rule : PropertyRule) (kind : ℕ) (first second : Option Property) (p : Property)
+    → ((q : Property) → first ≡ Some q → q.kind ≡ kind) → ((q : Property) → second ≡ Some q → q.kind ≡ kind)
+    → merged rule kind first second ≡ Ok (Some p) → p.kind ≡ kind
+made_kind All kind first second p one two e = grind (arith, nat_tests)
+made_kind Any kind first second p one two e = grind (arith, nat_tests)
+made_kind AnyOfAll kind (Some a) (Some b) p one two e = grind (arith, nat_tests)
+made_kind AnyOfAll kind None second p one two e = absurd (cc)
+made_kind AnyOfAll kind (Some a) None p one two e = absurd (cc)
+made_kind Largest kind None second p one two e = two p (cc)
+made_kind Largest kind (Some a) None p one two e = one p (cc)
+made_kind Largest kind (Some a) (Some b) p one two e = grind (arith, nat_tests)
+made_kind Present kind None second p one two e = two p (cc)
+made_kind Present kind (Some a) None p one two e = one p (cc)
+made_kind Present kind (Some a) (Some b) p one two e = grind (arith, nat_tests)
+made_kind Same kind None second p one two e = two p (cc)
+made_kind Same kind (Some a) None p one two e = one p (cc)
+made_kind Same kind (Some a) (Some b) p one two e = grind (arith, nat_tests)
+
+pub merged_is : (rule : PropertyRule) (kind : ℕ) (first second : List Property) (p : Property)
+    → merged rule kind (of_kind kind first) (of_kind kind second) ≡ Ok (Some p) → p.kind ≡ kind
+merged_is rule kind first second p e =
+    made_kind rule kind (of_kind kind first) (of_kind kind second) p
+    (of_kind_is kind first) (of_kind_is kind second) e
+
+-- a type of more than 32 bits has no rule
+no_rule : (architecture : Architecture) (kind : ℕ) → 2 ^ 32 ≤ kind → rule_of architecture kind ≡ None
+no_rule X86_64 kind le = grind (arith, nat_tests)
+no_rule AArch64 kind le = grind (arith, nat_tests)
+no_rule RiscV kind le = grind (arith, nat_tests)
+no_rule LoongArch64 kind le = grind (arith, nat_tests)
+no_rule Ppc64 kind le = grind (arith, nat_tests)
+
+pub whole : (architecture : Architecture) (first second done : List Property) (bound : ℕ) → 2 ^ 32 ≤ bound
+    → SoFar architecture first second done bound → Merges architecture first second done
+whole architecture first second done bound le s = record {
+  ascending = chain_ascends done 0 bound s.chain;
+  exact = λ kind. elim (order kind bound) [
+    | inl below ↦ s.exact kind below
+    | inr above ↦
+        rw (no_rule architecture kind (omega arith), chain_none done 0 bound kind s.chain above) refl
+  ];
+}
+
+-- ---- errors
+
+never_short : (rule : Option PropertyRule) (kind : ℕ) (first second : Option Property) (n : ℕ)
+    → merged_by rule kind first second ≡ Err (TooShort n) → ⊥
+never_short None kind first second n e = absurd (cc)
+never_short (Some All) kind first second n e = absurd (cc)
+never_short (Some Any) kind first second n e = absurd (cc)
+never_short (Some AnyOfAll) kind first second n e = absurd (cc)
+never_short (Some Largest) kind None second n e = absurd (cc)
+never_short (Some Largest) kind (Some a) None n e = absurd (cc)
+never_short (Some Largest) kind (Some a) (Some b) n e = absurd (cc)
+never_short (Some Present) kind None second n e = absurd (cc)
+never_short (Some Present) kind (Some a) None n e = absurd (cc)
+never_short (Some Present) kind (Some a) (Some b) n e = absurd (cc)
+never_short (Some Same) kind None second n e = absurd (cc)
+never_short (Some Same) kind (Some a) None n e = absurd (cc)
+never_short (Some Same) kind (Some a) (Some b) n e = grind (arith, nat_tests)
+
+pub refused : (architecture : Architecture) (first second : List Property) (room : ℕ) (error : PropertyError)
+    → DiffersAt architecture first second error → RejectsMerge architecture first second room error
+refused architecture first second room (NotProperties at) d = d
+refused architecture first second room (CutOff at) d = d
+refused architecture first second room (WrongSize at) d = d
+refused architecture first second room (NotAscending at) d = d
+refused architecture first second room (Differs kind) d = d
+refused architecture first second room (Unknown kind) d = d
+refused architecture first second room (TooLarge kind) d = d
+refused architecture first second room TooMany d = d
+refused architecture first second room (TooShort needed) d =
+    absurd (never_short (rule_of architecture d.0) d.0 (of_kind d.0 first) (of_kind d.0 second) needed d.1)
+
+pub never : (architecture : Architecture) (first second properties : List Property) (error : PropertyError)
+    → Merges architecture first second properties → DiffersAt architecture first second error → ⊥
+never architecture first second properties error m d = let e = m.exact d.0 in let h = d.1 in cc
+
+-- ---- what merges is one list
+
+low_none : (xs : List Property) (least kind : ℕ) → are_ascending least xs ≡ true → kind < least → of_kind kind xs ≡ None
+low_none [] least kind h lt = refl
+low_none (p ∷ xs) least kind h lt = (let k = low_none xs (p.kind + 1) kind in grind (arith, nat_tests))
+
+of_own : (p : Property) (xs : List Property) → of_kind p.kind (p ∷ xs) ≡ Some p
+of_own p xs = grind (arith, nat_tests)
+
+-- two lists' heads have one type
+heads : (p q : Property) (xs ys : List Property) (one two : ℕ)
+    → are_ascending one (p ∷ xs) ≡ true → are_ascending two (q ∷ ys) ≡ true
+    → ((kind : ℕ) → of_kind kind (p ∷ xs) ≡ of_kind kind (q ∷ ys)) → q.kind ≤ p.kind
+heads p q xs ys one two h k same =
+    elim (order p.kind q.kind) [
+      | inr le ↦ le
+      | inl lt ↦
+          let e : of_kind p.kind (q ∷ ys) ≡ Some p = sym (same p.kind) ∙ of_own p xs in
+          let ascends : are_ascending (q.kind) (q ∷ ys) ≡ true = grind (arith, nat_tests) in
+          let n : of_kind p.kind (q ∷ ys) ≡ None = low_none (q ∷ ys) q.kind p.kind ascends lt in
+          absurd (cc)
+    ]
+
+tails : (p : Property) (xs ys : List Property) (one two : ℕ)
+    → are_ascending one (p ∷ xs) ≡ true → are_ascending two (p ∷ ys) ≡ true
+    → ((kind : ℕ) → of_kind kind (p ∷ xs) ≡ of_kind kind (p ∷ ys))
+    → (kind : ℕ) → of_kind kind xs ≡ of_kind kind ys
+tails p xs ys one two h k same kind =
+    let a = low_none xs (p.kind + 1) kind in
+    let b = low_none ys (p.kind + 1) kind in
+    let e = same kind in
+    grind (arith, nat_tests)
+
+pub same_lists : (xs ys : List Property) (one two : ℕ)
+    → are_ascending one xs ≡ true → are_ascending two ys ≡ true
+    → ((kind : ℕ) → of_kind kind xs ≡ of_kind kind ys) → xs ≡ ys
+same_lists [] [] one two h k same = refl
+same_lists [] (q ∷ ys) one two h k same = (let e : None ≡ Some q = same q.kind ∙ of_own q ys in absurd (cc))
+same_lists (p ∷ xs) [] one two h k same = (let e : None ≡ Some p = sym (same p.kind) ∙ of_own p xs in absurd (cc))
+same_lists (p ∷ xs) (q ∷ ys) one two h k same =
+    let le : q.kind ≤ p.kind = heads p q xs ys one two h k same in
+    let ge : p.kind ≤ q.kind = heads q p ys xs two one k h (λ kind. sym (same kind)) in
+    let kinds : q.kind ≡ p.kind = omega arith in
+    let e : Some p ≡ Some q = sym (of_own p xs) ∙ same p.kind ∙ subst (λ k. of_kind k (q ∷ ys) ≡ Some q) kinds (of_own q ys) in
+    let one_head : p ≡ q = cc in
+    let after_p : are_ascending (p.kind + 1) xs ≡ true = grind (arith, nat_tests) in
+    let after_q : are_ascending (q.kind + 1) ys ≡ true = grind (arith, nat_tests) in
+    let same_p : (kind : ℕ) → of_kind kind (p ∷ xs) ≡ of_kind kind (p ∷ ys) = subst (λ r. (kind : ℕ) → of_kind kind (p ∷ xs) ≡ of_kind kind (r ∷ ys)) (sym one_head) same in
+    let k_p : are_ascending two (p ∷ ys) ≡ true = subst (λ r. are_ascending two (r ∷ ys) ≡ true) (sym one_head) k in
+    let rest : xs ≡ ys = same_lists xs ys (p.kind + 1) (q.kind + 1) after_p after_q (tails p xs ys one two h k_p same_p) in
+    cc
+
+pub one_merged : (architecture : Architecture) (first second : List Property) (x y : List Property)
+    → Merges architecture first second x → Merges architecture first second y → x ≡ y
+one_merged architecture first second x y m n =
+    same_lists x y 0 0 m.ascending n.ascending (λ kind. (let a = m.exact kind in let b = n.exact kind in cc))

@@ -1,0 +1,124 @@
+-- The order in which properties are merged doesn't matter.
+use Rattle.std.proofs.Common.{◌≡◌, ℕ, refl, sym, ◌∙◌, ap, arith, Option, Some, None, Ok, bit_and, bit_or, max}
+use Rattle.std.proofs.lemmas.Bool.Decides.{nat_tests}
+use Rattle.std.proofs.lemmas.Nat.{and_comm, and_assoc, or_comm}
+use Rattle.std.proofs.lemmas.Nat.Bits.{bit_at_or, same_from_bits}
+use Rattle.std.proofs.Common.{List}
+use Rattle.linker_elf.specs.declared.elf.architecture.Architecture.{Architecture}
+use Rattle.linker_output.specs.Properties.{rule_of, of_kind, merged_kind, MergesAlike}
+use Rattle.linker_output.specs.Properties.{merged_by, merged_to, merged_with, value_of, unless_zero, of_value, same_value}
+use Rattle.linker_output.specs.declared.properties.Property.{Property}
+use Rattle.linker_output.specs.declared.properties.PropertyRule.{PropertyRule}
+use Rattle.linker_output.specs.declared.properties.PropertyRule.TheVariants.{All, Any, AnyOfAll, Largest, Present, Same}
+
+or_assoc : (a b c : ℕ) → bit_or (bit_or a b) c ≡ bit_or a (bit_or b c)
+or_assoc a b c =
+    same_from_bits _ _ (λ i.
+    let e = bit_at_or (bit_or a b) c i in
+    let e2 = bit_at_or a b i in
+    let e3 = bit_at_or a (bit_or b c) i in
+    let e4 = bit_at_or b c i in
+    omega arith)
+
+max_comm : (a b : ℕ) → max a b ≡ max b a
+max_comm a b = omega arith
+
+max_assoc : (a b c : ℕ) → max (max a b) c ≡ max a (max b c)
+max_assoc a b c = omega arith
+
+pub commutes : (rule : Option PropertyRule) (kind : ℕ) (a b : Option Property)
+    → merged_by rule kind a b ≡ merged_by rule kind b a
+commutes None kind a b = refl
+commutes (Some All) kind a b = ap (λ n. Ok (unless_zero kind n)) (and_comm (value_of a) (value_of b))
+commutes (Some Any) kind a b = ap (λ n. Ok (unless_zero kind n)) (or_comm (value_of a) (value_of b))
+commutes (Some AnyOfAll) kind None None = refl
+commutes (Some AnyOfAll) kind None (Some b) = refl
+commutes (Some AnyOfAll) kind (Some a) None = refl
+commutes (Some AnyOfAll) kind (Some a) (Some b) = ap (λ n. Ok (Some (of_value kind n))) (or_comm a.value b.value)
+commutes (Some Largest) kind None None = refl
+commutes (Some Largest) kind None (Some b) = refl
+commutes (Some Largest) kind (Some a) None = refl
+commutes (Some Largest) kind (Some a) (Some b) = ap (λ n. Ok (Some (of_value kind n))) (max_comm a.value b.value)
+commutes (Some Present) kind None None = refl
+commutes (Some Present) kind None (Some b) = refl
+commutes (Some Present) kind (Some a) None = refl
+commutes (Some Present) kind (Some a) (Some b) = refl
+commutes (Some Same) kind None None = refl
+commutes (Some Same) kind None (Some b) = refl
+commutes (Some Same) kind (Some a) None = refl
+commutes (Some Same) kind (Some a) (Some b) = grind (arith, nat_tests)
+
+unless_value : (kind n : ℕ) → value_of (unless_zero kind n) ≡ n
+unless_value kind n = grind (arith, nat_tests)
+
+-- of PAuth's values
+
+-- with no property before those of two, and after
+none_first : (kind : ℕ) (b c : Property)
+    → same_value kind b c ≡ merged_with (Some Same) kind None (same_value kind b c)
+none_first kind b c = grind (arith, nat_tests)
+
+none_last : (kind : ℕ) (a b : Property)
+    → merged_to (Some Same) kind (same_value kind a b) None ≡ same_value kind a b
+none_last kind a b = grind (arith, nat_tests)
+
+three_same : (kind : ℕ) (a b c : Property)
+    → merged_to (Some Same) kind (same_value kind a b) (Some c)
+    ≡ merged_with (Some Same) kind (Some a) (same_value kind b c)
+three_same kind a b c = grind (arith, nat_tests)
+
+pub associates : (rule : Option PropertyRule) (kind : ℕ) (a b c : Option Property)
+    → merged_to rule kind (merged_by rule kind a b) c ≡ merged_with rule kind a (merged_by rule kind b c)
+associates None kind a b c = refl
+associates (Some All) kind a b c =
+    ap (λ n. Ok (unless_zero kind n))
+    (ap (λ n. bit_and n (value_of c)) (unless_value kind (bit_and (value_of a) (value_of b)))
+    ∙ and_assoc (value_of c) (value_of a) (value_of b)
+    ∙ sym (ap (bit_and (value_of a)) (unless_value kind (bit_and (value_of b) (value_of c)))))
+associates (Some Any) kind a b c =
+    ap (λ n. Ok (unless_zero kind n))
+    (ap (λ n. bit_or n (value_of c)) (unless_value kind (bit_or (value_of a) (value_of b)))
+    ∙ or_assoc (value_of a) (value_of b) (value_of c)
+    ∙ sym (ap (bit_or (value_of a)) (unless_value kind (bit_or (value_of b) (value_of c)))))
+associates (Some AnyOfAll) kind None None None = refl
+associates (Some AnyOfAll) kind None None (Some c) = refl
+associates (Some AnyOfAll) kind None (Some b) None = refl
+associates (Some AnyOfAll) kind None (Some b) (Some c) = refl
+associates (Some AnyOfAll) kind (Some a) None None = refl
+associates (Some AnyOfAll) kind (Some a) None (Some c) = refl
+associates (Some AnyOfAll) kind (Some a) (Some b) None = refl
+associates (Some AnyOfAll) kind (Some a) (Some b) (Some c) = ap (λ n. Ok (Some (of_value kind n))) (or_assoc a.value b.value c.value)
+associates (Some Largest) kind None None None = refl
+associates (Some Largest) kind None None (Some c) = refl
+associates (Some Largest) kind None (Some b) None = refl
+associates (Some Largest) kind None (Some b) (Some c) = refl
+associates (Some Largest) kind (Some a) None None = refl
+associates (Some Largest) kind (Some a) None (Some c) = refl
+associates (Some Largest) kind (Some a) (Some b) None = refl
+associates (Some Largest) kind (Some a) (Some b) (Some c) = ap (λ n. Ok (Some (of_value kind n))) (max_assoc a.value b.value c.value)
+associates (Some Present) kind None None None = refl
+associates (Some Present) kind None None (Some c) = refl
+associates (Some Present) kind None (Some b) None = refl
+associates (Some Present) kind None (Some b) (Some c) = refl
+associates (Some Present) kind (Some a) None None = refl
+associates (Some Present) kind (Some a) None (Some c) = refl
+associates (Some Present) kind (Some a) (Some b) None = refl
+associates (Some Present) kind (Some a) (Some b) (Some c) = refl
+associates (Some Same) kind None None None = refl
+associates (Some Same) kind None None (Some c) = refl
+associates (Some Same) kind None (Some b) None = refl
+associates (Some Same) kind None (Some b) (Some c) = none_first kind b c
+associates (Some Same) kind (Some a) None None = refl
+associates (Some Same) kind (Some a) None (Some c) = refl
+associates (Some Same) kind (Some a) (Some b) None = none_last kind a b
+associates (Some Same) kind (Some a) (Some b) (Some c) = three_same kind a b c
+
+pub commutative : (architecture : Architecture) (first second : List Property) (kind : ℕ)
+    → merged_kind architecture first second kind ≡ merged_kind architecture second first kind
+commutative architecture first second kind =
+    commutes (rule_of architecture kind) kind (of_kind kind first) (of_kind kind second)
+
+pub associative : (architecture : Architecture) (first second third : List Property) (kind : ℕ)
+    → MergesAlike architecture first second third kind
+associative architecture first second third kind =
+    associates (rule_of architecture kind) kind (of_kind kind first) (of_kind kind second) (of_kind kind third)

@@ -1,0 +1,12 @@
+use Rattle.std.proofs.Common.{◌≡◌, ◌≤◌, ◌<◌, ℕ, drop}
+use Rattle.linker_output.specs.Properties.{of_kind}
+use Rattle.linker_output.proofs.properties.least_kind.Given as goal
+
+abbrev pub invariant-loop-property : goal.invariant-loop-property
+invariant-loop-property l =
+    record {
+      above : l.from ≤ l.least;
+      known : l.least ≤ l.known;
+      same : (kind : ℕ) → l.from ≤ kind → kind < l.least
+          → of_kind kind l.properties ≡ of_kind kind (drop l.property-index l.properties);
+    }

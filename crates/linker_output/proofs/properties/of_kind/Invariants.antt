@@ -1,0 +1,7 @@
+use Rattle.std.proofs.Common.{◌≡◌, drop}
+use Rattle.linker_output.specs.Properties.{of_kind}
+use Rattle.linker_output.proofs.properties.of_kind.Given as goal
+
+abbrev pub invariant-loop-property : goal.invariant-loop-property
+invariant-loop-property l =
+    of_kind l.kind l.properties ≡ of_kind l.kind (drop l.property-index l.properties)

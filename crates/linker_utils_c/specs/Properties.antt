@@ -1,0 +1,77 @@
+-- Program properties, in the numbers that C sees.
+use Rattle.std.specs.Prelude.{◌≡◌, ◌⊎◌, ℕ, List, length, Result, Ok, Err, Option, Some, None}
+use Rattle.std.specs.Prelude.{Bool, true, false}
+use Rattle.linker_output.specs.Properties.{rule_of, WritesRead, RejectsRead, WritesMerged}
+use Rattle.linker_output.specs.Properties.{RejectsMerge, WritesNote, RejectsNote}
+use Rattle.linker_output.specs.declared.properties.Property.{Property}
+use Rattle.linker_output.specs.declared.properties.PropertyError.{PropertyError}
+use Rattle.linker_output.specs.declared.properties.PropertyError.TheVariants as errors
+use Rattle.linker_output.specs.declared.properties.PropertyRule.{PropertyRule}
+use Rattle.linker_elf.specs.declared.elf.architecture.Architecture.{Architecture}
+use Rattle.linker_utils_c.specs.Status.{code}
+use Rattle.linker_utils_c.specs.declared.status.Status.{Status}
+use Rattle.linker_utils_c.specs.declared.status.Status.TheVariants.{Success, NotProperties, CutOff}
+use Rattle.linker_utils_c.specs.declared.status.Status.TheVariants.{WrongSize, NotAscending}
+use Rattle.linker_utils_c.specs.declared.status.Status.TheVariants.{DifferentValues}
+use Rattle.linker_utils_c.specs.declared.status.Status.TheVariants.{UnknownProperty}
+use Rattle.linker_utils_c.specs.declared.status.Status.TheVariants.{DoesNotFit, TooLarge, TooShort}
+
+abbrev pub is_rule : Option PropertyRule → Bool
+is_rule None = false
+is_rule (Some rule) = true
+
+-- a property's type has a rule
+abbrev pub has_rule : Option Architecture → ℕ → Bool
+has_rule None kind = false
+has_rule (Some architecture) kind = is_rule (rule_of architecture kind)
+
+abbrev pub property_status : Result ℕ PropertyError → Status
+property_status (Ok count) = Success
+property_status (Err (errors.NotProperties at)) = NotProperties
+property_status (Err (errors.CutOff at)) = CutOff
+property_status (Err (errors.WrongSize at)) = WrongSize
+property_status (Err (errors.NotAscending at)) = NotAscending
+property_status (Err (errors.Differs kind)) = DifferentValues
+property_status (Err (errors.Unknown kind)) = UnknownProperty
+property_status (Err (errors.TooLarge kind)) = DoesNotFit
+property_status (Err errors.TooMany) = TooLarge
+property_status (Err (errors.TooShort needed)) = TooShort
+
+-- how many there are, or are needed, or what an error is about
+abbrev pub number_by : Result ℕ PropertyError → ℕ → ℕ
+number_by (Ok count) before = count
+number_by (Err (errors.NotProperties at)) before = at
+number_by (Err (errors.CutOff at)) before = at
+number_by (Err (errors.WrongSize at)) before = at
+number_by (Err (errors.NotAscending at)) before = at
+number_by (Err (errors.Differs kind)) before = kind
+number_by (Err (errors.Unknown kind)) before = kind
+number_by (Err (errors.TooLarge kind)) before = kind
+number_by (Err errors.TooMany) before = before
+number_by (Err (errors.TooShort needed)) before = needed
+
+-- properties are read, or the error is returned and none is
+abbrev pub ArePropertiesRead : Architecture → List ℕ → List Property → List Property → ℕ → ℕ → ℕ
+    → Type 0
+ArePropertiesRead architecture section before after number_before number status =
+    ((status ≡ code Success) × WritesRead architecture section before after number)
+    ⊎ ((error : PropertyError) × (status ≡ code (property_status (Err error))) × (after ≡ before)
+    × (number ≡ number_by (Err error) number_before)
+    × RejectsRead architecture section (length before) error)
+
+-- the same of merged ones
+abbrev pub ArePropertiesMerged : Architecture → List Property → List Property → List Property
+    → List Property → ℕ → ℕ → ℕ → Type 0
+ArePropertiesMerged architecture first second before after number_before number status =
+    ((status ≡ code Success) × WritesMerged architecture first second before after number)
+    ⊎ ((error : PropertyError) × (status ≡ code (property_status (Err error))) × (after ≡ before)
+    × (number ≡ number_by (Err error) number_before)
+    × RejectsMerge architecture first second (length before) error)
+
+-- the same of a note
+abbrev pub IsNoteWritten : Architecture → List Property → List ℕ → List ℕ → ℕ → ℕ → ℕ → Type 0
+IsNoteWritten architecture properties before after number_before number status =
+    ((status ≡ code Success) × WritesNote architecture properties before after number)
+    ⊎ ((error : PropertyError) × (status ≡ code (property_status (Err error))) × (after ≡ before)
+    × (number ≡ number_by (Err error) number_before)
+    × RejectsNote architecture properties (length before) error)
