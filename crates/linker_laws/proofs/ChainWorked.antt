@@ -1,9 +1,9 @@
 -- The worked chain.
-use Rattle.std.proofs.Common.{◌≡◌, ◌≢◌, ℕ, suc, ◌+◌, ◌-◌, ◌*◌, ◌^◌, ◌<◌, ◌≤◌, Bool, true, false, refl, true≢false}
-use Rattle.std.proofs.Common.{Option, Some, None, arith, ap, ap₂, sym, ◌∙◌, subst, lit<, eqb-true, leb-true}
+use Rattle.std.proofs.Common.{◌≡◌, ◌≢◌, ℕ, ◌+◌, ◌-◌, ◌^◌, ◌<◌, ◌≤◌, Bool, true, false, refl, true≢false}
+use Rattle.std.proofs.Common.{Some, arith, ap, ap₂, sym, ◌∙◌, subst, lit<, leb-true}
 use Rattle.std.proofs.lemmas.Bool.{ne_eqb, cond-false, eq-eqb}
 use Rattle.std.specs.Prelude.{IsSomeAnd, if◌then◌else◌, ◌==◌, nat_le}
-use Rattle.linker_laws.specs.Simulation.{State, Link, Kind, Kinds, AreOf, AreStored, Agree, run, same}
+use Rattle.linker_laws.specs.Simulation.{State, Link, Kinds, AreStored, Agree, run, same}
 use Rattle.linker_laws.specs.Simulation.{half, anything, Other, Group, Covered, ends, other, group, of_link}
 use Rattle.linker_laws.specs.Changes.{put, go_to, with_register}
 use Rattle.linker_laws.specs.SimulationWorked.{machine, put_out, with_byte}
@@ -202,9 +202,11 @@ last =
       where
         not_below : (a : ℕ) → a ≤ 0x13 → a ≡ 0xf0 → ⊥
         not_below a small is = omega arith
+
         not_next : (a : ℕ) → a ≤ 0x13 → a - 1 ≡ 0xf0 → ⊥
         not_next a small is = omega arith
     by a false false e f = refl
+
     apart_alike : (a : ℕ) → (a == 0xf0) ≡ (packed.moved a == 0xf0)
     apart_alike a = by a (nat_le a 0x11) (nat_le a 0x13) refl refl
 

@@ -2,12 +2,12 @@
 use Rattle.std.proofs.Common.{◌≡◌, ℕ, zero, suc, ◌+◌, ◌*◌, ◌^◌, ◌<◌, ◌≤◌, sym, ◌∙◌, ap, subst, refl}
 use Rattle.std.proofs.Common.{Option, Some, None, arith, zero-add, suc-add, le_refl, subst₂, inl, inr, add_assoc}
 use Rattle.std.proofs.Common.{add-one, true≢false, pred, ◌-◌, suc-le-suc}
-use Rattle.std.specs.Prelude.{◌⊎◌, IsSomeAnd, option_and_then, is_some, true, IsSome, ⊤, unwrap_or, Bool, false}
+use Rattle.std.specs.Prelude.{◌⊎◌, IsSomeAnd, option_and_then, is_some, true, IsSome, unwrap_or, false}
 use Rattle.linker_laws.specs.Simulation.{State, Program, Comparison, run, Covered, ends, other, group}
-use Rattle.linker_laws.specs.Simulation.{Other, Group, Stops, IsRun, Follows, StopsToo, GoesOnToo}
+use Rattle.linker_laws.specs.Simulation.{Stops, IsRun, Follows, StopsToo, GoesOnToo}
 use Rattle.linker_laws.specs.Simulation.{Simulates, CoversRuns, Following, IsCovered, Next, by_other}
 use Rattle.linker_laws.specs.Simulation.{by_group, stopping, uncovered}
-use Rattle.linker_laws.specs.Chains.{both, AreCovered, Compose}
+use Rattle.linker_laws.specs.Chains.{both, Compose}
 
 -- ---- what an option holds
 
@@ -180,6 +180,7 @@ covers_runs c k s next (suc m) = go (covers_runs c k s next m)
           covered = i.covered;
           far = inr rest;
         }
+
     go : IsCovered c k s next m → IsCovered c k s next (suc m)
     go i = by i i.far
 
@@ -250,7 +251,6 @@ runs_alike p r same (suc m) u = go (p u) refl (runs_alike p r same m)
     go (Some v) e later =
         ap (option_and_then (run m p)) e ∙ later v
         ∙ sym (ap (option_and_then (run m r)) (sym (same u) ∙ e))
-
 
 pub composes : (c d : Comparison) → Compose c d
 composes c d same n k k' h h' s s' are =

@@ -1,15 +1,14 @@
 -- The worked program.
-use Rattle.std.proofs.Common.{◌≡◌, ◌≢◌, ℕ, suc, ◌+◌, ◌-◌, ◌*◌, ◌%◌, ◌^◌, ◌<◌, ◌≤◌, Bool, true, false, refl}
-use Rattle.std.proofs.Common.{Option, Some, None, arith, ap, ap₂, sym, ◌∙◌, subst, subst₂, true≢false, lit<, lit≤, add-zero, pos, ◌+ℤ◌, ◌-ℤ◌}
-use Rattle.std.proofs.Common.{unsigned_abs, eqb-true, eqb, leb, leb-true, leb-false, cond, List, map, sum}
+use Rattle.std.proofs.Common.{◌≡◌, ◌≢◌, ℕ, ◌+◌, ◌-◌, ◌%◌, ◌^◌, ◌<◌, Bool, true, false, refl}
+use Rattle.std.proofs.Common.{arith, ap, ap₂, sym, ◌∙◌, subst, subst₂, true≢false, lit<, add-zero}
+use Rattle.std.proofs.Common.{unsigned_abs, eqb-true, leb-true, leb-false}
 use Rattle.std.proofs.lemmas.Bool.{ne_eqb, cond-false, cond-true, eq-eqb}
-use Rattle.std.specs.Prelude.{IsSomeAnd, if◌then◌else◌, ◌==◌, nat_le, ⊤, [], ◌∷◌}
-use Rattle.std.specs.Int.{int_rem_euclid}
+use Rattle.std.specs.Prelude.{IsSomeAnd, if◌then◌else◌, ◌==◌, nat_le, [], ◌∷◌}
 use Rattle.linker_laws.specs.Machine.{Memory, loaded}
-use Rattle.linker_laws.specs.Simulation.{State, Link, Kind, Kinds, AreOf, AreStored, Agree, run, same}
+use Rattle.linker_laws.specs.Simulation.{State, Kind, Kinds, AreOf, AreStored, Agree, run, same}
 use Rattle.linker_laws.specs.Simulation.{half, code, anything, Other, Group, Covered, ends, other, group}
-use Rattle.linker_laws.specs.Simulation.{Stops, of_link, Code}
-use Rattle.linker_laws.specs.SimulationWorked.{IsWorked, Ends, machine, link, first_old, first_new}
+use Rattle.linker_laws.specs.Simulation.{Stops, of_link}
+use Rattle.linker_laws.specs.SimulationWorked.{IsWorked, machine, link, first_old, first_new}
 use Rattle.linker_laws.specs.Changes.{put, go_to, with_register}
 use Rattle.linker_laws.specs.SimulationWorked.{put_byte, put_out, with_byte}
 use Rattle.linker_laws.specs.SimulationWorked.{first_known, of_byte, new_address}
@@ -68,6 +67,7 @@ agree_byte k s t kind x y next next' agree small at bytes are =
     here : AreStored link (of_byte kind) (put_byte 0xf8 x next s).memory
         (put_byte 0xf8 y next' t).memory 0xf8
     here = subst₂ (AreOf link 1 kind) (sym (add-zero (x % 0x100))) (sym (add-zero (y % 0x100))) are
+
     there : (a : ℕ) → a < 2 ^ 64 → a ≢ 0xf8
         → AreStored link (of_byte (k.memory a).kind) (put_byte 0xf8 x next s).memory
         (put_byte 0xf8 y next' t).memory a
@@ -78,6 +78,7 @@ agree_byte k s t kind x y next next' agree small at bytes are =
         subst₂ (AreOf link 1 (k.memory a).kind) (other_byte s.memory (x % 0x100) (a - 0) old)
         (other_byte t.memory (y % 0x100) (new_address (a - 0)) new)
         (subst (λ c. AreStored link c s.memory t.memory a) (bytes a) (agree.memory a below))
+
     by : (a : ℕ) → a < 2 ^ 64 → (b : Bool) → (a == 0xf8) ≡ b
         → AreStored link (if a == 0xf8 then of_byte kind else k.memory a)
         (put_byte 0xf8 x next s).memory (put_byte 0xf8 y next' t).memory a
@@ -362,6 +363,7 @@ agree =
         → AreOf link 8 (if b then anything else same) r (if b then 0x77 else r)
     of_register r true = tt
     of_register r false = refl
+
     of_other : (a b : ℕ) → a ≢ 0xf0 → b ≢ 0xf0 → (c : Bool) → (a == 0x20) ≡ c
         → (b ≡ 0x1e → a ≡ 0x20) → (a ≡ 0x20 → b ≡ 0x1e)
         → first_old.memory a ≡ first_new.memory b
@@ -377,6 +379,7 @@ agree =
         in_code false e =
             cond-false _ 0x55 0 e
             ∙ sym (cond-false _ 0x55 0 (ne_eqb b 0x1e (λ is. apart a 0x20 e (from is))))
+
     of_memory : (a : ℕ) (b : Bool) → (a == 0xf0) ≡ b
         → AreStored link (if b then of_byte anything else of_byte same) first_old.memory
         first_new.memory a

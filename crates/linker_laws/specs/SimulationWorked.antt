@@ -1,9 +1,9 @@
 -- A small program of which every premise holds: groups and numbers of each kind, and both runs
 -- computed to the end.
-use Rattle.std.specs.Prelude.{◌≡◌, ℕ, suc, ◌+◌, ◌-◌, ◌*◌, ◌/◌, ◌%◌, ◌==◌, nat_le, if◌then◌else◌, ◌&&◌}
+use Rattle.std.specs.Prelude.{◌≡◌, ℕ, ◌+◌, ◌-◌, ◌/◌, ◌%◌, ◌==◌, nat_le, if◌then◌else◌, ◌&&◌}
 use Rattle.std.specs.Prelude.{List, [], ◌∷◌, Option, Some, None, IsSomeAnd, slice_get}
 use Rattle.std.specs.Option.{unwrap_or}
-use Rattle.linker_laws.specs.Simulation.{State, Program, Machine, Link, Code, Kind, same, code, half}
+use Rattle.linker_laws.specs.Simulation.{State, Program, Machine, Link, Kind, same}
 use Rattle.linker_laws.specs.Simulation.{anything, Stored, Kinds, Agree, of_link, run, Covered, Stops}
 use Rattle.linker_laws.specs.Changes.{put, go_to, with_register}
 use Rattle.linker_laws.specs.Chains.{Chain, one, followed_by, of_chain}

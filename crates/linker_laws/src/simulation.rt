@@ -13,10 +13,8 @@ ghost use Rattle.linker_laws.specs.SimulationWorked as worked;
 /// link covers, and the next one too, is a group of both.
 pub fn runs()
     ensures simulates { (c : chains.Chain) → simulation.Simulates (chains.of_chain c) }
-    ensures compose {
-        (c : chains.Chain) (l : simulation.Link)
-        → chains.Compose (chains.of_chain c) (simulation.of_link l)
-    }
+    ensures compose { (c : chains.Chain) (l : simulation.Link)
+        → chains.Compose (chains.of_chain c) (simulation.of_link l) }
 {}
 
 /// A small program, and a chain of two links, of which every premise holds. Their runs are computed
