@@ -1,4 +1,6 @@
 pub mod AArch64Descriptors
+pub mod AArch64GotLoads
+pub mod AArch64Groups
 pub mod AArch64Halves
 pub mod AArch64Moves
 pub mod AArch64Near

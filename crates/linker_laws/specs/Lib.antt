@@ -1,3 +1,4 @@
+pub mod AArch64Groups
 pub mod AArch64Machine
 pub mod AArch64RelocationLaws
 pub mod AArch64RewriteLaws

@@ -4,6 +4,7 @@
 //! code and any chain of links (`specs/Simulation`, `specs/Chains`). What is left for a link of an
 //! architecture is that its rewritten instructions are groups.
 
+ghost use Rattle.linker_laws.specs.AArch64Groups as aarch64_groups;
 ghost use Rattle.linker_laws.specs.Chains as chains;
 ghost use Rattle.linker_laws.specs.Simulation as simulation;
 ghost use Rattle.linker_laws.specs.SimulationWorked as worked;
@@ -23,3 +24,12 @@ pub fn worked()
     ensures worked { worked.IsWorked }
     ensures chain { worked.IsChainWorked }
 {}
+
+/// AArch64: rewritten instructions are groups, whatever the machine's other instructions do: loads of
+/// addresses from the GOT, and each half of initial-exec, whatever stands between them. An
+/// instruction that has the same word in both is another one, if the object's keeps agreement.
+pub fn aarch64()
+    ensures groups { aarch64_groups.Groups }
+{
+    crate::relocations::aarch64();
+}
