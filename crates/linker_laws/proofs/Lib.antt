@@ -1,6 +1,7 @@
 pub mod AArch64Descriptors
 pub mod AArch64GotLoads
 pub mod AArch64Groups
+pub mod AArch64GroupsWorked
 pub mod AArch64Halves
 pub mod AArch64Moves
 pub mod AArch64Near

@@ -1,4 +1,5 @@
 pub mod AArch64Groups
+pub mod AArch64GroupsWorked
 pub mod AArch64Machine
 pub mod AArch64RelocationLaws
 pub mod AArch64RewriteLaws

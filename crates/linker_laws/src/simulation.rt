@@ -5,6 +5,7 @@
 //! architecture is that its rewritten instructions are groups.
 
 ghost use Rattle.linker_laws.specs.AArch64Groups as aarch64_groups;
+ghost use Rattle.linker_laws.specs.AArch64GroupsWorked as aarch64_worked;
 ghost use Rattle.linker_laws.specs.Chains as chains;
 ghost use Rattle.linker_laws.specs.Simulation as simulation;
 ghost use Rattle.linker_laws.specs.SimulationWorked as worked;
@@ -32,4 +33,12 @@ pub fn aarch64()
     ensures groups { aarch64_groups.Groups }
 {
     crate::relocations::aarch64();
+}
+
+/// AArch64: a program with three groups, of which every premise holds. Both of its runs are computed
+/// to the end.
+pub fn aarch64_worked()
+    ensures worked { aarch64_worked.IsWorked }
+{
+    aarch64();
 }
