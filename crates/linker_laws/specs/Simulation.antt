@@ -42,7 +42,7 @@ pub record Link : Type 0 where
   pub new : ℕ → ℕ
   -- the new address of a byte of old, or of the next kept byte; elsewhere it is the old one
   pub moved : ℕ → ℕ
-  -- by a high part and its rewrite: the numbers that the instructions of old and of new make
+  -- of a high part, by its index: whether it makes one number in old, and the other in new
   pub halves : ℕ → ℕ → ℕ → Bool
 
 -- ---- kinds of numbers

@@ -3,7 +3,7 @@
 use Rattle.std.specs.Prelude.{◌≡◌, ℕ, ◌+◌, ◌-◌, ◌/◌, ◌%◌, ◌==◌, nat_le, if◌then◌else◌, ◌&&◌}
 use Rattle.std.specs.Prelude.{List, [], ◌∷◌, Option, Some, None, IsSomeAnd, slice_get}
 use Rattle.std.specs.Option.{unwrap_or}
-use Rattle.linker_laws.specs.Simulation.{State, Program, Machine, Link, Kind, same}
+use Rattle.linker_laws.specs.Simulation.{State, Program, Machine, Link, Kind, code, same}
 use Rattle.linker_laws.specs.Simulation.{anything, Stored, Kinds, Agree, of_link, run, Covered, Stops}
 use Rattle.linker_laws.specs.Changes.{put, go_to, with_register}
 use Rattle.linker_laws.specs.Chains.{Chain, one, followed_by, of_chain}
@@ -43,12 +43,13 @@ machine bytes s =
 abbrev pub placed : List ℕ → ℕ → ℕ
 placed words a = unwrap_or (slice_get words (a - 0x10)) 0
 
--- The instructions at 0x15 and at 0x18 are deleted.
+-- The instructions at 0x15, 0x18 and 0x1d are deleted.
 abbrev pub new_address : ℕ → ℕ
 new_address a =
     if nat_le a 0x15 then a else (
     if nat_le a 0x18 then a - 1 else (
-    if nat_le a 0x20 then a - 2 else a))
+    if nat_le a 0x1d then a - 2 else (
+    if nat_le a 0x24 then a - 3 else a)))
 
 abbrev pub link : Link
 link =
@@ -63,12 +64,16 @@ link =
           ∷ 0x44305  -- add r4, r3, 5: its low part
           ∷ 0x37000  -- set r7, 0: high part 1
           ∷ 0x48703  -- add r8, r7, 3: its low part
-          ∷ 0x3501c  -- set r5, f
+          ∷ 0x35020  -- set r5, f
           ∷ 0x66500  -- call r5, which links r6
-          ∷ 0x54100  -- add r4, r1
-          ∷ 0x94000  -- put out r4
+          ∷ 0x54100  -- base: add r4, r1
+          ∷ 0x190f3  -- load r9, [0xf3]: case less base
+          ∷ 0x59600  -- add r9, r6
+          ∷ 0x89000  -- jump to r9
+          ∷ 0x37000  -- set r7, 0
+          ∷ 0x94000  -- case: put out r4
           ∷ 0x00000  -- stop
-          ∷ 0x39020  -- f: set r9, the address of the byte after f
+          ∷ 0x39024  -- f: set r9, the address of the byte after f
           ∷ 0xa9900  -- load r9, [r9]
           ∷ 0x54900  -- add r4, r9
           ∷ 0x86000  -- return over r6
@@ -81,11 +86,14 @@ link =
           ∷ 0x130f8  -- load r3, [0xf8]
           ∷ 0x44315  -- add r4, r3, 0x15
           ∷ 0x38003  -- set r8, 3
-          ∷ 0x7601a  -- call f, which links r6
-          ∷ 0x54100  -- add r4, r1
-          ∷ 0x94000  -- put out r4
+          ∷ 0x7601d  -- call f, which links r6
+          ∷ 0x54100  -- base: add r4, r1
+          ∷ 0x190f3  -- load r9, [0xf3]: case less base
+          ∷ 0x59600  -- add r9, r6
+          ∷ 0x89000  -- jump to r9
+          ∷ 0x94000  -- case: put out r4
           ∷ 0x00000  -- stop
-          ∷ 0x3901e  -- f: set r9, the address of the byte after f
+          ∷ 0x39021  -- f: set r9, the address of the byte after f
           ∷ 0xa9900  -- load r9, [r9]
           ∷ 0x54900  -- add r4, r9
           ∷ 0x86000  -- return over r6
@@ -104,28 +112,35 @@ abbrev pub with_byte : ℕ → Kind → Kinds → Kinds
 with_byte a kind k =
     record k { memory = λ m. if m == a then of_byte kind else k.memory m }
 
--- old alone reads the entry at 0xf0
+-- what counts from base to case
+abbrev pub case_less_base : Kind
+case_less_base = code (record { number = 0; added = 0x1e ∷ []; subtracted = 0x19 ∷ [] })
+
+-- Old alone reads the entry at 0xf0. At 0xf3 is a jump table.
 abbrev pub first_known : Kinds
 first_known =
     with_byte 0xf0 anything
-    (with_register 2 anything (record { registers = λ r. same; memory = λ a. of_byte same }))
+    (with_byte 0xf3 case_less_base
+    (with_register 2 anything (record { registers = λ r. same; memory = λ a. of_byte same })))
 
 abbrev pub first_old : State
 first_old =
     record {
       pc = 0x10;
       registers = λ r. r;
-      memory = λ a. if a == 0xf0 then 7 else (if a == 0x20 then 0x55 else 0);
+      memory = λ a.
+          if a == 0xf0 then 7 else (if a == 0xf3 then 5 else (if a == 0x24 then 0x55 else 0));
       outside = λ n. 0;
     }
 
--- the register and the entry that may differ do
+-- the register and the entry that may differ do, and the jump table and the byte after f moved
 abbrev pub first_new : State
 first_new =
     record {
       pc = 0x10;
       registers = λ r. if r == 2 then 0x77 else r;
-      memory = λ a. if a == 0xf0 then 0x99 else (if a == 0x1e then 0x55 else 0);
+      memory = λ a.
+          if a == 0xf0 then 0x99 else (if a == 0xf3 then 4 else (if a == 0x21 then 0x55 else 0));
       outside = λ n. 0;
     }
 
@@ -134,15 +149,15 @@ Ends n pc p s =
     IsSomeAnd (run n p s) (λ s.
     (s.pc ≡ pc) × (s.registers 4 ≡ 0x91) × (s.outside 0 ≡ 0x91))
 
--- Old executes 15 instructions in 6 groups and 8 others, and new 13.
+-- Old executes 18 instructions in 6 groups and 11 others, and new 16.
 pub record IsWorked : Type 0 where
   pub known : Kinds
   pub state : State
   pub agree : Agree link first_known first_old first_new
-  pub covered : Covered (of_link link) 14 13 first_known first_old known state
+  pub covered : Covered (of_link link) 17 16 first_known first_old known state
   pub stops : Stops (of_link link) known state
-  pub old_ends : Ends 15 0x1b (machine link.old) first_old
-  pub new_ends : Ends 13 0x19 (machine link.new) first_new
+  pub old_ends : Ends 18 0x1f (machine link.old) first_old
+  pub new_ends : Ends 16 0x1c (machine link.new) first_new
 
 -- ---- a chain of two links
 
