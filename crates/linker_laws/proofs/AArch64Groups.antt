@@ -1,25 +1,28 @@
 -- AArch64's groups.
-use Rattle.std.proofs.Common.{◌≡◌, ◌≢◌, ℕ, ◌^◌, ◌<◌, Bool, true, false, refl, sym, ◌∙◌, ap, subst, arith}
-use Rattle.std.proofs.Common.{Some, eqb, cond, [], ◌∷◌, ◌/◌, eqb-true, true≢false}
+use Rattle.std.proofs.Common.{◌≡◌, ◌≢◌, ℕ, ◌^◌, ◌<◌, Bool, true, false, refl, sym, ◌∙◌, ap, ap₂, subst, arith}
+use Rattle.std.proofs.Common.{List, Some, eqb, cond, [], ◌∷◌, ◌/◌, eqb-true, true≢false}
 use Rattle.std.proofs.lemmas.Bool.{cond-false, eq-eqb, ne_eqb}
 use Rattle.std.specs.Prelude.{IsSomeAnd, ◌==◌, ◌&&◌}
 use Rattle.linker_elf.specs.LoongArch.{page}
 use Rattle.linker_elf.specs.Value.{sum_64}
 use Rattle.linker_laws.specs.AArch64Groups.{seen, executed, machine, link, HaveWords, Others}
 use Rattle.linker_laws.specs.AArch64Groups as groups
-use Rattle.linker_laws.specs.AArch64Machine.{moved, step}
+use Rattle.linker_laws.specs.AArch64Machine.{branch_target, execute, moved, step}
 use Rattle.linker_laws.specs.AArch64RelocationLaws as relocation_laws
-use Rattle.linker_laws.specs.AArch64RewriteLaws.{HasHigh, word_of, thread_offset}
-use Rattle.linker_laws.specs.Changes.{put}
+use Rattle.linker_laws.specs.AArch64RewriteLaws.{HasHigh, IsRewritten, word_of, thread_offset}
+use Rattle.linker_laws.specs.Changes.{go_to, put}
 use Rattle.linker_laws.specs.Machine.{loaded}
 use Rattle.linker_laws.specs.Schemes.{symbol_address}
-use Rattle.linker_laws.specs.Simulation.{State, Program, Agree, AreOf, run, half, same}
+use Rattle.linker_laws.specs.Simulation.{State, Program, Agree, AreOf, anything, run, half, same}
 use Rattle.linker_laws.proofs.AArch64GotLoads.{got_loads, got_adds}
 use Rattle.linker_laws.proofs.AArch64Halves.{high_steps, low_steps}
-use Rattle.linker_laws.proofs.AArch64Steps.{set}
-use Rattle.linker_laws.proofs.Agreement.{agree_put}
+use Rattle.linker_laws.proofs.AArch64Pairs.{word_is}
+use Rattle.linker_laws.proofs.AArch64Steps.{branch_leads, set}
+use Rattle.linker_laws.proofs.AArch64Words.{branch_after, decodes_b, decodes_bl}
+use Rattle.linker_laws.proofs.Agreement.{agree_go, agree_put, agree_put_old}
 use Rattle.linker_laws.proofs.CoveredRuns.{run_first, holds_of}
 use Rattle.linker_utils.specs.AArch64Rewrites.{rd_of}
+use Rattle.linker_utils.specs.declared.aarch64.rewrites.RelaxationKind.TheVariants.{ReplaceWithNop}
 
 -- ---- runs
 
@@ -169,6 +172,61 @@ are_low_halves c h o k s ldr movk small at entry offset is own made holds known 
               (t.registers n / 2 ^ 16 == c.offset h / 2 ^ 16) halves)
               ∙ ap (λ d. d / 2 ^ 16) offset;
         }
+
+-- ---- branches
+
+-- `nop`
+goes_on : (others : ℕ → Program) (bytes : ℕ → ℕ) (t : State) (place : ℕ) (branch made : List ℕ)
+    → t.pc ≡ place → IsRewritten ReplaceWithNop branch made
+    → HaveWords bytes place (word_of made ∷ [])
+    → run 1 (machine others bytes) t ≡ Some (go_to (sum_64 place 4) t)
+goes_on others bytes t place branch made at is words =
+    run_first 0 (machine others bytes) t (go_to (sum_64 t.pc 4) t) _
+    (ap (λ w. executed others w t (step w (seen t)))
+    (ap (loaded 4 bytes) at ∙ words.0 ∙ word_is 0xd503201f made (omega arith) is))
+    (ap (λ a. Some (go_to (sum_64 a 4) t)) at)
+
+pub are_branches : relocation_laws.Branches → groups.Branches
+are_branches laws c o k s branch made small at next is rewritten branch_on a old new =
+    let x = word_of branch_on in
+    let op = branch_after _ _ branch branch_on a.written ∙ eqb-true _ _ is in
+    record {
+      more = 0;
+      old_goes =
+          run_first 0 (machine c.others c.old) s (go_to (branch_target x (seen s)) s) _
+          (ap (λ w. executed c.others w s (step w (seen s))) (ap (loaded 4 c.old) at ∙ old.0)
+          ∙ ap (λ i. executed c.others x s (execute i x (seen s))) (decodes_b x op))
+          (ap (λ p. Some (go_to p s)) (branch_leads o x (seen s) at
+          (laws.1 o small o.place branch branch_on a tt) ∙ next));
+      new_goes = λ t agree.
+          holds_of (run 1 (machine c.others c.new) t) _ (go_to (sum_64 o.place 4) t)
+          (goes_on c.others c.new t o.place branch made (agree.pc ∙ at) rewritten new)
+          (agree_go (link c) k s t (sum_64 o.place 4) (sum_64 o.place 4) agree (below_64 o.place 4)
+          refl);
+      forward = λ none. omega arith;
+    }
+
+pub are_calls : relocation_laws.Branches → groups.Calls
+are_calls laws c o k s branch made small at next is rewritten branch_on a old new =
+    let x = word_of branch_on in
+    let n = sum_64 o.place 4 in
+    let op = branch_after _ _ branch branch_on a.written ∙ eqb-true _ _ is in
+    record {
+      more = 0;
+      old_goes =
+          run_first 0 (machine c.others c.old) s
+          (put 30 (sum_64 s.pc 4) (branch_target x (seen s)) s) _
+          (ap (λ w. executed c.others w s (step w (seen s))) (ap (loaded 4 c.old) at ∙ old.0)
+          ∙ ap (λ i. executed c.others x s (execute i x (seen s))) (decodes_bl x op))
+          (ap₂ (λ r p. Some (put 30 (sum_64 r 4) p s)) at (branch_leads o x (seen s) at
+          (laws.0 o small o.place branch branch_on a tt) ∙ next));
+      new_goes = λ t agree.
+          holds_of (run 1 (machine c.others c.new) t) _ (go_to n t)
+          (goes_on c.others c.new t o.place branch made (agree.pc ∙ at) rewritten new)
+          (agree_put_old (link c) k (go_to n s) (go_to n t) 30 anything n n
+          (agree_go (link c) k s t n n agree (below_64 o.place 4) refl) (below_64 o.place 4) refl tt);
+      forward = λ none. omega arith;
+    }
 
 pub are_others : Others
 are_others c k k' s s' word goes keeps =

@@ -1,20 +1,21 @@
 -- AArch64: rewritten instructions are groups of the simulation. No code moves.
-use Rattle.std.specs.Prelude.{◌≡◌, ◌≢◌, ℕ, ◌/◌, ◌^◌, ◌==◌, ◌&&◌, List, [], ◌∷◌, Option, Some, None, ⊤, IsSomeAnd}
+use Rattle.std.specs.Prelude.{◌≡◌, ◌≢◌, ℕ, true, ◌/◌, ◌^◌, ◌==◌, ◌&&◌, List, [], ◌∷◌, Option, Some, None, ⊤, IsSomeAnd}
 use Rattle.linker_elf.specs.LoongArch.{page}
 use Rattle.linker_elf.specs.Value.{sum_64}
 use Rattle.linker_elf.specs.declared.aarch64.relocations.AArch64Relocation.TheVariants as names
 use Rattle.linker_elf.specs.declared.elf.value.Operands.{Operands}
 use Rattle.linker_laws.specs.AArch64Machine as aarch64_machine
-use Rattle.linker_laws.specs.AArch64Machine.{load_64, step}
+use Rattle.linker_laws.specs.AArch64Machine.{is_b, is_bl, load_64, step}
 use Rattle.linker_laws.specs.AArch64RewriteLaws.{IsPair, IsRelocated, IsRewritten, following, pair}
 use Rattle.linker_laws.specs.AArch64RewriteLaws.{thread_offset, word_of}
-use Rattle.linker_laws.specs.Changes.{put, with_register}
+use Rattle.linker_laws.specs.Changes.{go_to, put, with_register}
 use Rattle.linker_laws.specs.Machine.{loaded}
-use Rattle.linker_laws.specs.Schemes.{AreAddresses, symbol_address}
+use Rattle.linker_laws.specs.Schemes.{AreAddresses, plt_address, symbol_address}
 use Rattle.linker_laws.specs.Simulation.{State, Program, Machine, Link, Kinds, Agree, Other, Group}
-use Rattle.linker_laws.specs.Simulation.{half, of_link, same}
+use Rattle.linker_laws.specs.Simulation.{anything, half, of_link, same}
 use Rattle.linker_utils.specs.AArch64Rewrites.{IsAdrp, IsIntoOwnSource, IsLdr64, rd_of}
 use Rattle.linker_utils.specs.declared.aarch64.rewrites.RelaxationKind.TheVariants.{LdrToAdd}
+use Rattle.linker_utils.specs.declared.aarch64.rewrites.RelaxationKind.TheVariants.{ReplaceWithNop}
 use Rattle.linker_utils.specs.declared.aarch64.rewrites.RelaxationKind.TheVariants.{MovkXn, MovzXnLsl16}
 
 -- ---- the machine
@@ -118,6 +119,29 @@ LowHalves =
     → Group (of_link (link c)) 1 k s (with_register (rd_of (word_of ldr)) same k)
     (put (rd_of (word_of ldr)) (thread_offset o) (sum_64 o.place 4) s)
 
+-- ---- branches to undefined weak symbols
+
+-- `b` goes on after itself, as the address of such a symbol says, and becomes `nop`.
+abbrev pub Branches : Type 0
+Branches =
+    (c : Code) (o : Operands) (k : Kinds) (s : State) (branch made : List ℕ)
+    → AreAddresses o → s.pc ≡ o.place → plt_address o ≡ sum_64 o.place 4
+    → is_b (word_of branch) ≡ true → IsRewritten ReplaceWithNop branch made
+    → (branch_on : List ℕ) → IsRelocated names.R_AARCH64_JUMP26 o branch branch_on
+    → HaveWords c.old o.place (word_of branch_on ∷ []) → HaveWords c.new o.place (word_of made ∷ [])
+    → Group (of_link (link c)) 1 k s k (go_to (sum_64 o.place 4) s)
+
+-- So does `bl`, which leaves the next address in X30.
+abbrev pub Calls : Type 0
+Calls =
+    (c : Code) (o : Operands) (k : Kinds) (s : State) (branch made : List ℕ)
+    → AreAddresses o → s.pc ≡ o.place → plt_address o ≡ sum_64 o.place 4
+    → is_bl (word_of branch) ≡ true → IsRewritten ReplaceWithNop branch made
+    → (branch_on : List ℕ) → IsRelocated names.R_AARCH64_CALL26 o branch branch_on
+    → HaveWords c.old o.place (word_of branch_on ∷ []) → HaveWords c.new o.place (word_of made ∷ [])
+    → Group (of_link (link c)) 1 k s (with_register 30 anything k)
+    (put 30 (sum_64 o.place 4) (sum_64 o.place 4) s)
+
 -- ---- other instructions
 
 -- One that has the same word in both. In old's code alone: whatever state agrees before it, it leaves
@@ -134,4 +158,6 @@ pub record Groups : Type 0 where
   pub loads : Loads
   pub high_halves : HighHalves
   pub low_halves : LowHalves
+  pub branches : Branches
+  pub calls : Calls
   pub others : Others

@@ -27,8 +27,9 @@ pub fn worked()
 {}
 
 /// AArch64: rewritten instructions are groups, whatever the machine's other instructions do: loads of
-/// addresses from the GOT, and each half of initial-exec, whatever stands between them. An
-/// instruction that has the same word in both is another one, if the object's keeps agreement.
+/// addresses from the GOT, each half of initial-exec, whatever stands between them, and branches to
+/// undefined weak symbols. An instruction that has the same word in both is another one, if the
+/// object's keeps agreement.
 pub fn aarch64()
     ensures groups { aarch64_groups.Groups }
 {

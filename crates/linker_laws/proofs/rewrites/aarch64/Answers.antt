@@ -1,6 +1,6 @@
 -- The laws of AArch64.
-use Rattle.std.proofs.Common.{◌≡◌, ◌≢◌, ℕ, ◌+◌, refl, sym, ◌∙◌, ap, arith, pos, ◌+ℤ◌, drop, [], ◌∷◌, eqb}
-use Rattle.std.proofs.Common.{◌*ℤ◌, ℤ, take, length, ◌++◌, subst, Some, ◌-◌, List, ◌<◌, ◌/◌, ◌^◌}
+use Rattle.std.proofs.Common.{◌≡◌, ◌≢◌, ℕ, ◌+◌, refl, sym, ◌∙◌, ap, arith, drop, [], ◌∷◌, eqb}
+use Rattle.std.proofs.Common.{ℤ, take, length, ◌++◌, subst, Some, ◌-◌, List, ◌<◌, ◌/◌, ◌^◌}
 use Rattle.std.specs.Prelude.{bit_and}
 use Rattle.std.specs.Int.{bit_at, w64, cast_signed}
 use Rattle.std.proofs.Math.Seq.{drop-append_seam, take-append_seam}
@@ -11,12 +11,10 @@ use Rattle.linker_base.specs.Bits.{field}
 use Rattle.linker_base.specs.Form.{place_sum}
 use Rattle.linker_base.specs.Rewrite.{Rewrite, rewrite_window}
 use Rattle.linker_utils.specs.AArch64Rewrites.{rd_of}
-use Rattle.linker_elf.specs.AArch64.{aarch64_form}
 use Rattle.linker_elf.specs.Elf.{IsWithin, bit_bounds}
 use Rattle.linker_elf.specs.LoongArch.{page}
 use Rattle.linker_elf.specs.Value.{sum_64, difference_64}
 use Rattle.linker_elf.specs.declared.elf.Sign.TheVariants.{Signed}
-use Rattle.linker_elf.specs.declared.aarch64.forms.AArch64Instruction.TheVariants.{JumpCall}
 use Rattle.linker_utils.specs.declared.aarch64.rewrites.RelaxationKind.TheVariants.{NoOp}
 use Rattle.linker_utils.specs.declared.aarch64.rewrites.RelaxationKind.TheVariants.{ReplaceWithNop}
 use Rattle.linker_utils.specs.declared.aarch64.rewrites.RelaxationKind.TheVariants.{MovzX0Lsl16}
@@ -31,11 +29,11 @@ use Rattle.linker_utils.specs.declared.aarch64.rewrites.RelaxationKind.TheVarian
 use Rattle.linker_utils.specs.declared.aarch64.rewrites.RelaxationKind.TheVariants.{AdrpAddToNopAdr}
 use Rattle.linker_elf.specs.declared.elf.value.Operands.{Operands}
 use Rattle.linker_laws.specs.AArch64RelocationLaws as relocation_laws
-use Rattle.linker_laws.specs.Schemes.{AreAddresses, symbol_address, IsAddress, plt_address}
+use Rattle.linker_laws.specs.Schemes.{AreAddresses, symbol_address, IsAddress}
 use Rattle.linker_laws.proofs.Sums.{sum_below}
 use Rattle.linker_laws.specs.AArch64RewriteLaws.{word_of, pair, following, BeginsRewrittenAt}
 use Rattle.linker_laws.specs.AArch64RewriteLaws as aarch64_laws
-use Rattle.linker_laws.specs.AArch64Machine.{in_64_bits, adr_address, go_on, go_to, branch_target}
+use Rattle.linker_laws.specs.AArch64Machine.{adr_address, go_on, go_to, branch_target}
 use Rattle.linker_laws.specs.AArch64Machine.{execute, step, write_x, next_pc, State, adrp_address}
 use Rattle.linker_laws.specs.AArch64Machine.{loaded, added}
 use Rattle.linker_laws.proofs.AArch64Descriptors.{to_local_exec, to_initial_exec}
@@ -44,8 +42,8 @@ use Rattle.linker_laws.proofs.AArch64Halves.{high_half, low_half}
 use Rattle.linker_laws.proofs.AArch64Pairs.{word_is, adds_pair, word_made, pair_made}
 use Rattle.linker_laws.proofs.AArch64Pairs.{adr_is, page_added, entry_loaded}
 use Rattle.linker_laws.proofs.AArch64Steps.{run_pair, alike_runs, alike_twice, set, step_adr}
-use Rattle.linker_laws.proofs.AArch64Steps.{address_is, alike_once, alike_before, alike_itself}
-use Rattle.linker_laws.proofs.AArch64Steps.{step_adrp, step_add}
+use Rattle.linker_laws.proofs.AArch64Steps.{alike_once, alike_before, alike_itself}
+use Rattle.linker_laws.proofs.AArch64Steps.{branch_leads, step_adrp, step_add}
 use Rattle.linker_laws.proofs.AArch64Words.{adr_of_register, of_registers, adrp_after, ldr_after}
 use Rattle.linker_laws.proofs.AArch64Words.{add_after, masked_field}
 use Rattle.linker_laws.proofs.AArch64Words.{adr_after, decodes_adr, decodes_b, decodes_bl}
@@ -315,7 +313,7 @@ branches laws = (
       (ap (λ w. step w s) (word_is 0xd503201f nop (omega arith) made))
       (record {
         registers = λ n any. refl;
-        pc = goes_to o x s at (laws.1 o small o.place branch after a tt) ∙ goes;
+        pc = branch_leads o x s at (laws.1 o small o.place branch after a tt) ∙ goes;
         memory = refl;
         thread_pointer = refl;
       }),
@@ -328,18 +326,11 @@ branches laws = (
       (ap (λ w. step w s) (word_is 0xd503201f nop (omega arith) made))
       (record {
         registers = λ n other. cond-false (eqb n 30) (next_pc s) (s.registers n) other;
-        pc = goes_to o x s at (laws.0 o small o.place branch after a tt) ∙ goes;
+        pc = branch_leads o x s at (laws.0 o small o.place branch after a tt) ∙ goes;
         memory = refl;
         thread_pointer = refl;
       }),
 )
-  where
-    goes_to : (o : Operands) (x : ℕ) (s : State) → s.pc ≡ o.place
-        → IsAddress (pos o.place +ℤ ((aarch64_form JumpCall).machine x *ℤ pos 4)) (plt_address o)
-        → branch_target x s ≡ plt_address o
-    goes_to o x s at leads =
-        ap (λ p. in_64_bits (pos p +ℤ ((aarch64_form JumpCall).machine x *ℤ pos 4))) at
-        ∙ address_is _ _ leads
 
 -- ---- sections
 

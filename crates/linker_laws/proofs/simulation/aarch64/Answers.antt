@@ -1,4 +1,5 @@
-use Rattle.linker_laws.proofs.AArch64Groups.{are_loads, are_high_halves, are_low_halves, are_others}
+use Rattle.linker_laws.proofs.AArch64Groups.{are_loads, are_high_halves, are_low_halves, are_branches}
+use Rattle.linker_laws.proofs.AArch64Groups.{are_calls, are_others}
 use Rattle.linker_laws.proofs.simulation.aarch64.Goals as goal
 
 pub returns : goal.returns
@@ -9,6 +10,8 @@ returns c =
         loads = are_loads laws.relative laws.entries;
         high_halves = are_high_halves;
         low_halves = are_low_halves;
+        branches = are_branches laws.branches;
+        calls = are_calls laws.branches;
         others = are_others;
       };
     }
