@@ -5,7 +5,7 @@
 use crate::measure::{Beside, Report, Side};
 use crate::table::{AARCH64, RISCV, X86_64};
 use erased_crate::aarch64::{self, AArch64Relocation};
-use erased_crate::architecture::Relaxation;
+use erased_crate::architecture::{Relaxation, choose};
 use erased_crate::elf::{Architecture, InstructionRewrite, LinkFacts, Operands};
 use erased_crate::riscv64::{self, RiscVRelocation};
 use erased_crate::x86_64::{self, X86_64Relocation};
@@ -229,7 +229,7 @@ fn by_crate(machine: u16, sites: &[Site], section: &mut [u8], chooses: bool) -> 
         let (mut offset, mut r_type) = (site.offset, site.r_type);
         let mut of = operands(site);
         if chooses {
-            let chosen = architecture.choose(r_type, section, offset, &facts(site));
+            let chosen = choose(architecture, r_type, section, offset, &facts(site));
             let kind: Relaxation = chosen.kind;
             kind.apply(section, &mut offset, &mut of.addend);
             r_type = chosen.relocation;

@@ -10,6 +10,7 @@
 //! where it isn't.
 
 use linker_utils::aarch64::{self, AArch64Relocation};
+use linker_utils::architecture::choose;
 use linker_utils::choice_table::ChoiceTable;
 use linker_utils::elf::{Architecture, LinkFacts, Operands};
 use linker_utils::loongarch64::{self, LoongArch64Relocation};
@@ -69,7 +70,7 @@ fn facts(addend: i64) -> LinkFacts {
 /// Whether a rewrite is chosen for the bytes at an offset, with an addend that is asked for.
 fn is_chosen(architecture: Architecture, code: u32, section: &[u8], offset: u64) -> bool {
     [0, -4, 4].into_iter().any(|addend| {
-        let choice = architecture.choose(code, section, offset, &facts(addend));
+        let choice = choose(architecture, code, section, offset, &facts(addend));
         !choice.is_unchanged(code)
     })
 }

@@ -2,6 +2,7 @@
 //! Rewrites the instructions of a section as a linker does: which rewrites it makes, by what it knows of
 //! the symbols, and the values that it then writes.
 
+use linker_utils::architecture::{choose, fits, may_be_skipped};
 use linker_utils::elf::{Architecture, InstructionRewrite, LinkFacts, Operands};
 use linker_utils::relaxation::RelocationModifier;
 use linker_utils::x86_64::X86_64Relocation::*;
@@ -53,18 +54,18 @@ fn main() {
         // a sequence is rewritten as a whole: if each of its relocations can be, and the one that is
         // skipped then is that of its call
         let all = LinkFacts { group_fits: true, ..facts };
-        let if_all = architecture.choose(*code, &section, *offset, &all);
-        let group_fits = architecture.fits(*code, &section, *offset, &facts)
+        let if_all = choose(architecture, *code, &section, *offset, &all);
+        let group_fits = fits(architecture, *code, &section, *offset, &facts)
             && if_all.kind.skipped_offset().is_none_or(|behind| {
                 relocations.iter().any(|call| {
                     call.offset == offset + behind
-                        && architecture.may_be_skipped(call.code)
+                        && may_be_skipped(architecture, call.code)
                         && call.symbol == "__tls_get_addr"
                 })
             });
         let facts = LinkFacts { group_fits, ..facts };
 
-        let choice = architecture.choose(*code, &section, *offset, &facts);
+        let choice = choose(architecture, *code, &section, *offset, &facts);
         if choice.kind.next_modifier() == RelocationModifier::SkipNextRelocation {
             skipped.extend(choice.kind.skipped_offset().map(|behind| offset + behind));
         }

@@ -2,6 +2,7 @@
 //! Lists what the library knows of each architecture, by `e_machine` of its files: each relocation
 //! with its code, its name and whether it has a row, and each rewrite. `tools/statistics/census.py` reads it.
 
+use linker_utils::architecture::Relaxation;
 use linker_utils::elf::Architecture;
 use std::io::{self, Write};
 
@@ -15,7 +16,7 @@ fn main() -> io::Result<()> {
             let row = if architecture.row(code).is_some() { "row" } else { "none" };
             writeln!(out, "relocation {machine} {code} {name} {row}")?;
         }
-        for kind in (0..).map_while(|number| architecture.rewrite(number, 3)) {
+        for kind in (0..).map_while(|number| Relaxation::from_number(architecture, number, 3)) {
             // as `X86_64(TlsDescToLocalExec(3))`
             let text = format!("{kind:?}");
             let name = text.split(['(', ')']).nth(1).expect("a variant in parentheses");

@@ -11,7 +11,8 @@
 //! # Ok::<(), linker_utils::names::UnknownName>(())
 //! ```
 
-use crate::elf::{Architecture, Row, architectures};
+use crate::elf::{Architecture, Row};
+use crate::linker_elf::elf::architecture::architectures;
 use core::error::Error;
 use core::fmt::{Display, Formatter, Result as FmtResult};
 use core::str::FromStr;

@@ -5,15 +5,18 @@ use Rattle.std.proofs.lemmas.Nat.{and_mask}
 use Rattle.std.proofs.lemmas.Nat.Bits.{and_high_mask}
 use Rattle.std.specs.Int.{w64, cast_signed, cast_unsigned}
 use Rattle.std.specs.Int.Bits.{and_zero_r}
-use Rattle.linker_elf.specs.Inner.RowTables.{bits_of, addend_bits, is_set, terms_of, symbol_of, entry_of_terms, signed_in}
-use Rattle.linker_elf.specs.LoongArch.{page}
-use Rattle.linker_elf.specs.Value.{sum_64, difference_64, page_if, masks_symbol, masks_entry, masks_place, masks_got, bias_number, entry_addend, symbol_term, entry_term, place_term, got_term, relative_term, formula, read_signed, names_got_entry, names_plt_entry, is_offset, loads_plt_word, completed, or_no_value, value_given, value_of, lacks, lacks_entry, lacks_tls_base}
+use Rattle.linker_elf.specs.Inner.RowTables.{bits_of, addend_bits, formula_of, is_set, terms_of, symbol_of, entry_of_terms, plt_of, signed_in}
+use Rattle.linker_elf.specs.LoongArch.{high_distance, page}
+use Rattle.linker_elf.specs.Value.{sum_64, difference_64, page_if, masks_symbol, masks_entry, masks_place, masks_got, bias_number, entry_addend, symbol_term, entry_term, place_term, got_term, plt_term, size_term, sequence_pc, relative_term, formula, read_signed, names_got_entry, names_plt_entry, is_offset, loads_plt_word, completed, or_no_value, value_given, value_of, lacks, lacks_entry, lacks_tls_base}
 use Rattle.linker_elf.specs.declared.elf.RelocationInstruction.TheVariants.{RiscV, Ppc64, LoongArch64, AArch64}
 use Rattle.linker_elf.specs.declared.elf.RelocationKind.{RelocationKind}
 use Rattle.linker_elf.specs.declared.elf.RelocationKind.TheVariants.{Relative}
+use Rattle.linker_elf.specs.declared.elf.RelocationKind.TheVariants as kinds
 use Rattle.linker_elf.specs.declared.elf.RelocationKindInfo.{RelocationKindInfo}
 use Rattle.linker_elf.specs.declared.elf.RelocationSize.{RelocationSize}
 use Rattle.linker_elf.specs.declared.elf.RelocationSize.TheVariants.{ByteSize, BitMasking}
+use Rattle.linker_elf.specs.declared.elf.value.Formula.{Formula}
+use Rattle.linker_elf.specs.declared.elf.value.Formula.TheVariants as formulas
 use Rattle.linker_elf.specs.declared.elf.value.FormulaError.{FormulaError}
 use Rattle.linker_elf.specs.declared.elf.value.FormulaError.TheVariants.{NoEntry, NoTlsBase, NoValue}
 use Rattle.linker_elf.specs.declared.elf.value.Operands.{Operands}
@@ -108,13 +111,19 @@ no_word : (size : RelocationSize) (kind : RelocationKind) → names_plt_entry ki
 no_word (BitMasking bits (Ppc64 insn)) kind none = none
 no_word size kind none = refl
 
-lacks_none : (row : RelocationKindInfo) (o : Operands) (n : ℕ) (got : Bool) → names_got_entry row.kind ≡ got
-    → (got && not o.has_got_entry) ≡ false → names_plt_entry row.kind ≡ false → is_offset row.kind ≡ false
+-- L isn't the word that a call loads, or there is one
+abbrev pub Loaded : RelocationKindInfo → Operands → Type 0
+Loaded row o = (loads_plt_word row.size row.kind && not o.has_plt_entry) ≡ false
+
+no_load : (row : RelocationKindInfo) (o : Operands) → names_plt_entry row.kind ≡ false → Loaded row o
+no_load row o none = ap (λ b. b && not o.has_plt_entry) (no_word row.size row.kind none)
+
+pub lacks_none : (row : RelocationKindInfo) (o : Operands) (n : ℕ) (got : Bool) → names_got_entry row.kind ≡ got
+    → (got && not o.has_got_entry) ≡ false → Loaded row o → is_offset row.kind ≡ false
     → formula row.kind row (completed o) ≡ Some n → value_given row o ≡ Ok (cast_signed w64 n)
-lacks_none row o n got is there no_plt no_offset found =
+lacks_none row o n got is there loaded no_offset found =
     let entry = ap (λ b. (b && not o.has_got_entry) || (loads_plt_word row.size row.kind && not o.has_plt_entry)) is
-    ∙ (ap (λ b. b || (loads_plt_word row.size row.kind && not o.has_plt_entry)) there
-    ∙ ap (λ b. b && not o.has_plt_entry) (no_word row.size row.kind no_plt)) in
+    ∙ (ap (λ b. b || (loads_plt_word row.size row.kind && not o.has_plt_entry)) there ∙ loaded) in
     cond-false _ (Err NoEntry) _ entry
     ∙ (cond-false _ (Err NoTlsBase) _ (ap (λ b. b && not o.has_tls_base) no_offset)
     ∙ ap (λ x. or_no_value (read_signed x)) found)
@@ -123,7 +132,7 @@ lacks_none row o n got is there no_plt no_offset found =
 pub relative_value : (row : RelocationKindInfo) (o : Operands) → row.kind ≡ Relative
     → value_given row o ≡ Ok (cast_signed w64 (relative_term row.size row o))
 relative_value row o is =
-    lacks_none row o (relative_term row.size row o) false (ap names_got_entry is) refl (ap names_plt_entry is)
+    lacks_none row o (relative_term row.size row o) false (ap names_got_entry is) refl (no_load row o (ap names_plt_entry is))
     (ap is_offset is) (ap (λ k. formula k row (completed o)) is ∙ ap Some (same row.size))
   where
     same : (size : RelocationSize) → relative_term size row (completed o) ≡ relative_term size row o
@@ -133,13 +142,13 @@ relative_value row o is =
 -- a kind without an entry
 pub plain_value : (row : RelocationKindInfo) (o : Operands) (term : RelocationKindInfo → Operands → ℕ)
     → HasTerm term false row.kind → value_given row o ≡ Ok (cast_signed w64 (term row o))
-plain_value row o term has = lacks_none row o (term row o) false has.got_is refl has.no_plt has.no_offset (has.formula_is row o)
+plain_value row o term has = lacks_none row o (term row o) false has.got_is refl (no_load row o has.no_plt) has.no_offset (has.formula_is row o)
 
 -- a kind with one that is there
 pub entry_value : (row : RelocationKindInfo) (o : Operands) (term : RelocationKindInfo → Operands → ℕ)
     → HasTerm term true row.kind → o.has_got_entry ≡ true → value_given row o ≡ Ok (cast_signed w64 (term row o))
 entry_value row o term has there =
-    lacks_none row o (term row o) true has.got_is (ap not there) has.no_plt has.no_offset (has.formula_is row o)
+    lacks_none row o (term row o) true has.got_is (ap not there) (no_load row o has.no_plt) has.no_offset (has.formula_is row o)
 
 pub no_entry_value : (row : RelocationKindInfo) (o : Operands) (term : RelocationKindInfo → Operands → ℕ)
     → HasTerm term true row.kind → o.has_got_entry ≡ false → value_given row o ≡ Err NoEntry
@@ -148,12 +157,39 @@ no_entry_value row o term has none =
     (ap (λ b. (b && not o.has_got_entry) || (loads_plt_word row.size row.kind && not o.has_plt_entry)) has.got_is
     ∙ ap (λ b. not b || (loads_plt_word row.size row.kind && not o.has_plt_entry)) none)
 
--- ---- one of several kinds
+-- ---- formulas
 
-pub one_of : {Rest : Type 0} (P : RelocationKind → Type 0) (kind is : RelocationKind) → P is → (Rest → P kind)
-    → (kind ≡ is) ⊎ Rest → P kind
-one_of P kind is holds rest (inl same) = subst P (sym same) holds
-one_of P kind is holds rest (inr others) = rest others
+-- what holds of a kind with a formula
+abbrev pub Has : Formula → RelocationKind → Type 0
+Has formulas.Without kind = (kind ≡ kinds.None) ⊎ ((kind ≡ kinds.Alignment) ⊎ (kind ≡ kinds.TlsDescCall))
+Has formulas.Symbol kind = HasTerm symbol_term false kind
+Has formulas.SymbolLessPlace kind = (kind ≡ Relative) ⊎ (kind ≡ kinds.RelativeRiscVLow12)
+Has formulas.LoongArchHigh kind = HasTerm (λ r o. high_distance (symbol_term r o) (sequence_pc r.size o.place)) false kind
+Has formulas.EntryLessPlace kind = HasTerm (λ r o. difference_64 (entry_term r o) (place_term r o)) true kind
+Has formulas.LoongArchEntry kind = HasTerm (λ r o. high_distance (entry_term r o) (sequence_pc r.size o.place)) true kind
+Has formulas.EntryLessGot kind = HasTerm (λ r o. difference_64 (entry_term r o) (got_term r o)) true kind
+Has formulas.Entry kind = HasTerm entry_term true kind
+Has formulas.SymbolLessGot kind = HasTerm (λ r o. difference_64 (symbol_term r o) (got_term r o)) false kind
+Has formulas.PltLessGot kind = kind ≡ kinds.PltRelGotBase
+Has formulas.PltLessPlace kind = kind ≡ kinds.PltRelative
+Has formulas.Size kind = HasTerm size_term false kind
+Has formulas.Offset kind = (kind ≡ kinds.DtpOff) ⊎ (kind ≡ kinds.TpOff)
+
+has : (kind : RelocationKind) → Has (formula_of kind) kind
+has kinds.None = inl refl
+has kinds.Alignment = inr (inl refl)
+has kinds.TlsDescCall = inr (inr refl)
+has Relative = inl refl
+has kinds.RelativeRiscVLow12 = inr refl
+has kinds.PltRelGotBase = refl
+has kinds.PltRelative = refl
+has kinds.DtpOff = inl refl
+has kinds.TpOff = inr refl
+has kind = record { formula_is = λ r o. refl; got_is = refl; no_plt = refl; no_offset = refl; unset = λ size. refl }
+
+pub has_formula : (row : RelocationKindInfo) (terms : FormulaTerms) (f : Formula) → terms ≡ terms_of row → terms.formula ≡ f
+    → Has f row.kind
+has_formula row terms f given is = subst (λ g. Has g row.kind) (sym (ap (λ t. t.formula) given) ∙ is) (has row.kind)
 
 -- ---- an entry that was found
 
@@ -174,6 +210,36 @@ found row o terms e is given =
     elim (cases_Bool o.has_got_entry) [
       | inl there ↦ (there, ap (ok_or 0) (sym ours ∙ cond-true o.has_got_entry _ (Err NoEntry) there) ∙ entry_is row o)
       | inr none ↦ absurd (subst (λ x. IsFine x) (sym ours ∙ cond-false o.has_got_entry _ (Err NoEntry) none) tt)
+    ]
+
+and_false : (b : Bool) → (b && false) ≡ false
+and_false true = refl
+and_false false = refl
+
+-- L is there
+pub plt_found : (row : RelocationKindInfo) (o : Operands) (terms : FormulaTerms) (e : ℕ) → terms ≡ terms_of row
+    → plt_of terms o ≡ Ok e → Loaded row o × (e ≡ plt_term row (completed o))
+unfolding ok_or
+plt_found row o terms e is given =
+    let ours : plt_of (terms_of row) o ≡ Ok e = sym (ap (λ t. plt_of t o) is) ∙ given in
+    let word = loads_plt_word row.size row.kind in
+    let sum : ℕ → ℕ = λ base. sum_64 (sum_64 base (cast_unsigned w64 o.addend)) (bias_number row.bias) in
+    elim (cases_Bool o.has_plt_entry) [
+      | inl there ↦ (
+        ap (λ b. word && not b) there ∙ and_false word,
+        ap (ok_or 0) (sym ours ∙ cond-true o.has_plt_entry _ _ there)
+            ∙ ap sum (sym (cond-true o.has_plt_entry o.plt_entry o.symbol there)),
+      )
+      | inr none ↦ elim (cases_Bool word) [
+        | inl loads ↦
+            absurd (subst (λ x. IsFine x) (sym ours
+            ∙ (cond-false o.has_plt_entry _ _ none ∙ cond-true word (Err NoEntry) _ loads)) tt)
+        | inr plain ↦ (
+          ap (λ b. b && not o.has_plt_entry) plain,
+          ap (ok_or 0) (sym ours ∙ (cond-false o.has_plt_entry _ _ none ∙ cond-false word (Err NoEntry) _ plain))
+              ∙ ap sum (sym (cond-false o.has_plt_entry o.plt_entry o.symbol none)),
+        )
+      ]
     ]
 
 -- the entry, or that there is none

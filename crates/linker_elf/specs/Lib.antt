@@ -3,6 +3,7 @@ pub mod AArch64Relocations
 pub mod Agrees
 pub mod Applied
 pub mod AppliedRows
+pub mod Architectures
 pub mod Bounds
 pub mod Choices
 pub mod Elf
@@ -10,9 +11,11 @@ pub mod ElfNames
 pub mod Entries
 pub mod Facts
 pub mod Forms
+pub mod Handles
 pub mod Inner
 pub mod LoongArch
 pub mod LoongArchRelocations
+pub mod Machines
 pub mod Numbers
 pub mod Originals
 pub mod Ppc64
@@ -23,5 +26,7 @@ pub mod Relocate
 pub mod RiscV
 pub mod RiscVRelocations
 pub mod Rows
+pub mod Uleb128
 pub mod Value
+pub mod WriteErrors
 pub mod X86Relocations

@@ -1,6 +1,7 @@
 //! The vocabulary of relocations, the forms of instructions that hold a value, the interfaces of
-//! forms and of rewrites, and what a linker knows when it chooses a rewrite.
+//! forms and of rewrites, the architectures, and what a linker knows when it chooses a rewrite.
 
+pub mod architecture;
 mod choice;
 pub mod choice_table;
 pub(crate) mod engine;
@@ -8,7 +9,6 @@ mod entries;
 mod facts;
 mod instruction;
 mod numbers;
-mod reach;
 mod relocate;
 pub(crate) mod rows;
 pub(crate) mod value;
@@ -29,13 +29,14 @@ pub use crate::aarch64::AArch64Instruction;
 pub use crate::loongarch64::LoongArch64Instruction;
 pub use crate::ppc64::Ppc64Instruction;
 pub use crate::riscv64::RiscVInstruction;
+pub use architecture::{Architecture, HANDLE_UNIT, Uleb128PairError};
 pub use choice::{Choice, LinkFacts, OtherRelocation};
 pub use facts::{EntryUse, Length, RowFacts, Way};
 use linker_base::bit_misc::BitRange;
 use linker_base::relaxation::RelocationModifier;
 pub use linker_base::rewrite::RewriteWindow;
 pub use numbers::RelocationNumbers;
-pub use relocate::{ApplyError, RelocateError};
+pub use relocate::{ApplyError, RelocateError, WriteError};
 pub use rows::Row;
 use std::marker::Model;
 pub use value::{FormulaError, Operands};

@@ -24,7 +24,7 @@ use Rattle.linker_rewriting.specs.declared.decisions.Decision.TheVariants.{Rewri
 use Rattle.linker_section.specs.Relocations.{relocation_in}
 use Rattle.linker_section.specs.Values.{operands_with}
 use Rattle.linker_utils.specs.declared.architecture.Relaxation.{Relaxation}
-use Rattle.linker_utils.specs.declared.elf.Architecture.TheVariants.{AArch64}
+use Rattle.linker_elf.specs.declared.elf.architecture.Architecture.TheVariants.{AArch64}
 use Rattle.linker_final.proofs.AArch64Written.{IsAfter, applied_so, applied_there, becomes, becomes_nop, left_alone, named_after}
 use Rattle.linker_final.proofs.Written.{are_rewritten, word_same}
 use Rattle.linker_laws.specs.AArch64Machine.{is_b, is_bl}

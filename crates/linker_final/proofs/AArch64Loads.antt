@@ -26,8 +26,8 @@ use Rattle.linker_section.specs.Values.{operands_with}
 use Rattle.linker_section.specs.declared.facts.Addresses.{Addresses}
 use Rattle.linker_section.specs.declared.facts.Symbol.{Symbol}
 use Rattle.linker_section.specs.declared.relocations.Rela.{Rela}
-use Rattle.linker_utils.specs.Architectures.{relaxation_rewrite}
-use Rattle.linker_utils.specs.declared.elf.Architecture.TheVariants.{AArch64}
+use Rattle.linker_utils.specs.Relaxations.{relaxation_rewrite}
+use Rattle.linker_elf.specs.declared.elf.architecture.Architecture.TheVariants.{AArch64}
 use Rattle.linker_final.proofs.AArch64Written.{IsAfter, applied_so, applied_there, becomes, named_after}
 use Rattle.linker_final.proofs.Written.{are_rewritten, rela, stays, word_same}
 

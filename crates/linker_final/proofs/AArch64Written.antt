@@ -30,10 +30,11 @@ use Rattle.linker_section.specs.Values.{entry_address, is_there, operands_by, op
 use Rattle.linker_section.specs.declared.facts.Symbol.{Symbol}
 use Rattle.linker_section.specs.declared.needed.Entry.{Entry}
 use Rattle.linker_section.specs.declared.relocations.Rela.{Rela}
-use Rattle.linker_utils.specs.Architectures.{IsRow, relaxation_rewrite}
+use Rattle.linker_elf.specs.Architectures.{IsRow}
+use Rattle.linker_utils.specs.Relaxations.{relaxation_rewrite}
 use Rattle.linker_utils.specs.declared.architecture.Relaxation.{Relaxation}
 use Rattle.linker_utils.specs.declared.architecture.Relaxation.TheVariants as relaxations
-use Rattle.linker_utils.specs.declared.elf.Architecture.TheVariants.{AArch64}
+use Rattle.linker_elf.specs.declared.elf.architecture.Architecture.TheVariants.{AArch64}
 
 -- ---- relocations that rewrites leave
 

@@ -3,7 +3,7 @@ use Rattle.std.proofs.Common.{◌≡◌, ℕ, List, [], ◌∷◌, sym, ap, subs
 use Rattle.linker_elf.specs.Choices.{Entry, IsFirst, choice}
 use Rattle.linker_elf.specs.ElfNames.{ElfName, IsNamed, IsNameOf, code_of}
 use Rattle.linker_elf.specs.declared.elf.choice.Choice.{Choice}
-use Rattle.linker_utils.specs.Architectures.{IsChosenBy, IsUnchanged, relaxation_no_op}
+use Rattle.linker_utils.specs.Relaxations.{IsChosenBy, IsUnchanged, relaxation_no_op}
 use Rattle.linker_utils.specs.declared.architecture.Relaxation.{Relaxation}
 
 -- It is that of an entry that is meant for what is there.

@@ -15,8 +15,8 @@ use Rattle.linker_section.specs.Values.{has_value, offset_at, operands_of}
 use Rattle.linker_section.specs.WrittenFields.{AreWritten, HoldsValue, HoldsNumber, composed, field_bytes}
 use Rattle.linker_section.specs.declared.facts.Addresses.{Addresses}
 use Rattle.linker_section.specs.declared.facts.Symbol.{Symbol}
-use Rattle.linker_utils.specs.Architectures.{IsRow}
-use Rattle.linker_utils.specs.declared.elf.Architecture.{Architecture}
+use Rattle.linker_elf.specs.Architectures.{IsRow}
+use Rattle.linker_elf.specs.declared.elf.architecture.Architecture.{Architecture}
 
 -- ---- bytes that hold a number
 

@@ -22,10 +22,10 @@ use Rattle.linker_rewriting.specs.declared.groups.Scope.TheVariants.{Labelled, N
 use Rattle.linker_rewriting.specs.declared.phases.Phase.{Phase}
 use Rattle.linker_rewriting.specs.declared.phases.Phase.TheVariants as phases
 use Rattle.linker_section.specs.Relocations.{relocation_in}
-use Rattle.linker_utils.specs.Architectures.{IsArchitectureChoice}
+use Rattle.linker_utils.specs.Relaxations.{IsArchitectureChoice}
 use Rattle.linker_utils.specs.declared.architecture.Relaxation.{Relaxation}
 use Rattle.linker_utils.specs.declared.architecture.Relaxation.TheVariants as relaxations
-use Rattle.linker_utils.specs.declared.elf.Architecture.TheVariants.{LoongArch64, Ppc64}
+use Rattle.linker_elf.specs.declared.elf.architecture.Architecture.TheVariants.{LoongArch64, Ppc64}
 
 -- ---- scopes
 

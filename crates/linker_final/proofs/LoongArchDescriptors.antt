@@ -32,9 +32,9 @@ use Rattle.linker_section.specs.Values.{operands_by, operands_in, operands_with}
 use Rattle.linker_section.specs.declared.facts.Addresses.{Addresses}
 use Rattle.linker_section.specs.declared.facts.Symbol.{Symbol}
 use Rattle.linker_section.specs.declared.relocations.Rela.{Rela}
-use Rattle.linker_utils.specs.Architectures.{relaxation_rewrite}
+use Rattle.linker_utils.specs.Relaxations.{relaxation_rewrite}
 use Rattle.linker_utils.specs.declared.architecture.Relaxation.{Relaxation}
-use Rattle.linker_utils.specs.declared.elf.Architecture.TheVariants.{LoongArch64}
+use Rattle.linker_elf.specs.declared.elf.architecture.Architecture.TheVariants.{LoongArch64}
 
 -- ---- rows
 

@@ -26,8 +26,8 @@ use Rattle.linker_section.specs.Relocations.{relocation_in}
 use Rattle.linker_section.specs.Values.{entry_address, operands_by, operands_in, operands_with}
 use Rattle.linker_section.specs.declared.facts.Symbol.{Symbol}
 use Rattle.linker_section.specs.declared.relocations.Rela.{Rela}
-use Rattle.linker_utils.specs.Architectures.{IsRow}
-use Rattle.linker_utils.specs.declared.elf.Architecture.TheVariants.{LoongArch64}
+use Rattle.linker_elf.specs.Architectures.{IsRow}
+use Rattle.linker_elf.specs.declared.elf.architecture.Architecture.TheVariants.{LoongArch64}
 
 -- ---- an instruction that stays
 

@@ -31,9 +31,9 @@ use Rattle.linker_section.specs.Needed.{entry_of}
 use Rattle.linker_section.specs.Values.{entry_address, is_there, operands_by, operands_with}
 use Rattle.linker_section.specs.declared.facts.Symbol.{Symbol}
 use Rattle.linker_section.specs.declared.needed.EntryClass.TheVariants.{ThreadOffset}
-use Rattle.linker_utils.specs.Architectures.{relaxation_rewrite}
+use Rattle.linker_utils.specs.Relaxations.{relaxation_rewrite}
 use Rattle.linker_utils.specs.declared.architecture.Relaxation.{Relaxation}
-use Rattle.linker_utils.specs.declared.elf.Architecture.TheVariants.{Ppc64}
+use Rattle.linker_elf.specs.declared.elf.architecture.Architecture.TheVariants.{Ppc64}
 
 -- ---- wherever the section goes
 

@@ -38,8 +38,9 @@ use Rattle.linker_section.specs.Relocations.{relocation_in}
 use Rattle.linker_section.specs.Values.{offset_at, operands_in, operands_of, operands_with}
 use Rattle.linker_section.specs.declared.facts.Symbol.{Symbol}
 use Rattle.linker_section.specs.declared.relocations.Rela.{Rela}
-use Rattle.linker_utils.specs.Architectures.{IsRow, relaxation_rewrite}
-use Rattle.linker_utils.specs.declared.elf.Architecture.TheVariants.{RiscV}
+use Rattle.linker_elf.specs.Architectures.{IsRow}
+use Rattle.linker_utils.specs.Relaxations.{relaxation_rewrite}
+use Rattle.linker_elf.specs.declared.elf.architecture.Architecture.TheVariants.{RiscV}
 
 -- ---- rows
 

@@ -4,7 +4,7 @@ use Rattle.linker_final.proofs.Phases.{left_alone_is_the_same}
 use Rattle.linker_final.specs.Final.{UntouchedBytes, Linked, count}
 use Rattle.linker_final.specs.Twice.{AreTwoCalls}
 use Rattle.linker_section.specs.Relocations.{relocation_in}
-use Rattle.linker_utils.specs.declared.elf.Architecture.{Architecture}
+use Rattle.linker_elf.specs.declared.elf.architecture.Architecture.{Architecture}
 
 module _ (architecture : Architecture) (l m : Linked) (calls : AreTwoCalls architecture l m)
     (i : ℕ) (below : i < count l) (start len : ℕ) (left : UntouchedBytes l i start len) where

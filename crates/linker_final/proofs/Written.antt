@@ -32,9 +32,10 @@ use Rattle.linker_section.specs.declared.needed.Entry.{Entry}
 use Rattle.linker_section.specs.declared.relocations.Rela.{Rela}
 use Rattle.linker_section.specs.declared.values.ValueError.{ValueError}
 use Rattle.linker_section.specs.declared.values.ValueError.TheVariants.{NoEntry}
-use Rattle.linker_utils.specs.Architectures.{IsNamedValue, IsRow, relaxation_rewrite}
+use Rattle.linker_elf.specs.Architectures.{IsNamedValue, IsRow}
+use Rattle.linker_utils.specs.Relaxations.{relaxation_rewrite}
 use Rattle.linker_utils.specs.declared.architecture.Relaxation.{Relaxation}
-use Rattle.linker_utils.specs.declared.elf.Architecture.{Architecture}
+use Rattle.linker_elf.specs.declared.elf.architecture.Architecture.{Architecture}
 
 -- ---- words
 

@@ -12,7 +12,7 @@ use Rattle.linker_rewriting.specs.declared.groups.Scope.TheVariants.{Labelled}
 use Rattle.linker_rewriting.specs.declared.phases.Phase.{Phase}
 use Rattle.linker_rewriting.specs.declared.phases.Phase.TheVariants as phases
 use Rattle.linker_section.specs.Values.{is_of_got}
-use Rattle.linker_utils.specs.declared.elf.Architecture.TheVariants.{X86_64}
+use Rattle.linker_elf.specs.declared.elf.architecture.Architecture.TheVariants.{X86_64}
 
 -- a code of its own, which isn't that of the GOT's address
 pub record IsGotName (name : X86_64Relocation) : Type 0 where

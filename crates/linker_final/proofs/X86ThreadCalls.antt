@@ -32,10 +32,10 @@ use Rattle.linker_section.specs.Relocations.{relocation_in}
 use Rattle.linker_section.specs.Values.{is_of_got, operands_with}
 use Rattle.linker_section.specs.declared.facts.Symbol.{Symbol}
 use Rattle.linker_section.specs.declared.relocations.Rela.{Rela}
-use Rattle.linker_utils.specs.Architectures.{relaxation_skipped}
+use Rattle.linker_utils.specs.Relaxations.{relaxation_skipped}
 use Rattle.linker_utils.specs.declared.architecture.Relaxation.{Relaxation}
 use Rattle.linker_utils.specs.declared.architecture.Relaxation.TheVariants as relaxations
-use Rattle.linker_utils.specs.declared.elf.Architecture.TheVariants.{X86_64}
+use Rattle.linker_elf.specs.declared.elf.architecture.Architecture.TheVariants.{X86_64}
 use Rattle.linker_utils.specs.X86Rewrites.{HasPattern, Original, general_dynamic_table, local_dynamic_table, original, puts, x86_64_matches, x86_64_originals, x86_64_rewrite, x86_64_skipped}
 use Rattle.linker_utils.specs.declared.x86_64.rewrites.RelaxationKind.{RelaxationKind}
 use Rattle.linker_utils.specs.declared.x86_64.rewrites.RelaxationKind.TheVariants as kinds

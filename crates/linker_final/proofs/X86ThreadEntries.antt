@@ -25,7 +25,7 @@ use Rattle.linker_section.specs.declared.needed.Entry.{Entry}
 use Rattle.linker_section.specs.declared.needed.EntryClass.TheVariants.{ThreadOffset}
 use Rattle.linker_section.specs.declared.relocations.Rela.{Rela}
 use Rattle.linker_section.specs.declared.values.ValueError.TheVariants.{NoEntry}
-use Rattle.linker_utils.specs.declared.elf.Architecture.TheVariants.{X86_64}
+use Rattle.linker_elf.specs.declared.elf.architecture.Architecture.TheVariants.{X86_64}
 use Rattle.linker_utils.specs.X86Rewrites.{x86_64_rewrite}
 use Rattle.linker_utils.specs.declared.x86_64.rewrites.RelaxationKind.{RelaxationKind}
 

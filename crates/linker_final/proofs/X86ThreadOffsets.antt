@@ -40,10 +40,11 @@ use Rattle.linker_section.specs.Values.{entry_address, is_of_got, offset_at, ope
 use Rattle.linker_section.specs.declared.facts.Addresses.{Addresses}
 use Rattle.linker_section.specs.declared.facts.Symbol.{Symbol}
 use Rattle.linker_section.specs.declared.relocations.Rela.{Rela}
-use Rattle.linker_utils.specs.Architectures.{IsRow, relaxation_rewrite}
+use Rattle.linker_elf.specs.Architectures.{IsRow}
+use Rattle.linker_utils.specs.Relaxations.{relaxation_rewrite}
 use Rattle.linker_utils.specs.declared.architecture.Relaxation.{Relaxation}
 use Rattle.linker_utils.specs.declared.architecture.Relaxation.TheVariants as relaxations
-use Rattle.linker_utils.specs.declared.elf.Architecture.TheVariants.{X86_64}
+use Rattle.linker_elf.specs.declared.elf.architecture.Architecture.TheVariants.{X86_64}
 use Rattle.linker_utils.specs.declared.x86_64.rewrites.RelaxationKind.TheVariants as kinds
 
 -- ---- fields that overlap none

@@ -31,7 +31,7 @@ use Rattle.linker_runs.specs.declared.packing.Machine.TheVariants.{RiscV64, Loon
 use Rattle.linker_section.specs.Relocations.{relocation_in}
 use Rattle.linker_section.specs.Values.{offset_at, operands_with}
 use Rattle.linker_section.specs.declared.facts.Symbol.{Symbol}
-use Rattle.linker_utils.specs.Architectures.{IsRow}
+use Rattle.linker_elf.specs.Architectures.{IsRow}
 
 -- The relocation at an index, whose place is in the section, has a row where it is written.
 pub record IsOfRow (p : Packed) (i : ℕ) (row : RelocationKindInfo) : Type 0 where

@@ -29,7 +29,7 @@ use Rattle.linker_runs.specs.declared.relaxation.Site.{Site as site}
 use Rattle.linker_section.specs.Relocations.{relocation_in}
 use Rattle.linker_section.specs.Values.{offset_at, operands_with}
 use Rattle.linker_section.specs.declared.facts.Symbol.{Symbol}
-use Rattle.linker_utils.specs.declared.elf.Architecture.TheVariants as architectures
+use Rattle.linker_elf.specs.declared.elf.architecture.Architecture.TheVariants as architectures
 
 -- the words of n bytes of a site: one instruction, or both
 abbrev pub words_in : ℕ → List ℕ → List ℕ

@@ -31,9 +31,9 @@ use Rattle.linker_section.specs.Values.{has_value, names_label, offset_at, opera
 use Rattle.linker_section.specs.WrittenFields.{AreWritten, IsFirstFault}
 use Rattle.linker_section.specs.declared.facts.Addresses.{Addresses}
 use Rattle.linker_section.specs.declared.facts.Symbol.{Symbol}
-use Rattle.linker_utils.specs.Architectures.{IsRow}
-use Rattle.linker_utils.specs.declared.elf.Architecture.{Architecture}
-use Rattle.linker_utils.specs.declared.elf.Architecture.TheVariants as architectures
+use Rattle.linker_elf.specs.Architectures.{IsRow}
+use Rattle.linker_elf.specs.declared.elf.architecture.Architecture.{Architecture}
+use Rattle.linker_elf.specs.declared.elf.architecture.Architecture.TheVariants as architectures
 
 -- What is passed to `pack_run` and then to `relocate_section`, and what they leave.
 pub record Packed : Type 0 where

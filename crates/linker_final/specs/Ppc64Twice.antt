@@ -34,7 +34,7 @@ use Rattle.linker_section.specs.Values.{operands_with}
 use Rattle.linker_section.specs.declared.facts.Symbol.{Symbol}
 use Rattle.linker_utils.specs.declared.architecture.Relaxation.{Relaxation}
 use Rattle.linker_utils.specs.declared.architecture.Relaxation.TheVariants as relaxations
-use Rattle.linker_utils.specs.declared.elf.Architecture.TheVariants.{Ppc64}
+use Rattle.linker_elf.specs.declared.elf.architecture.Architecture.TheVariants.{Ppc64}
 
 -- Both calls rewrite at the relocation at an index, which has a name in the object. Phases between
 -- leave it and n bytes from its offset on alone.

@@ -34,7 +34,7 @@ use Rattle.linker_section.specs.Values.{operands_with}
 use Rattle.linker_section.specs.declared.facts.Symbol.{Symbol}
 use Rattle.linker_utils.specs.declared.architecture.Relaxation.{Relaxation}
 use Rattle.linker_utils.specs.declared.architecture.Relaxation.TheVariants as relaxations
-use Rattle.linker_utils.specs.declared.elf.Architecture.TheVariants.{RiscV}
+use Rattle.linker_elf.specs.declared.elf.architecture.Architecture.TheVariants.{RiscV}
 
 -- what the formula of the relocation at an index takes in the final section
 abbrev pub final_operands : Packed → ℕ → RelocationKindInfo → Symbol → Operands

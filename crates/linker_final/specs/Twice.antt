@@ -1,7 +1,7 @@
 -- A section that two calls rewrite, one after the other.
 use Rattle.std.specs.Prelude.{◌≡◌, length}
 use Rattle.linker_final.specs.Final.{ArePhases, AreRewritten, Linked}
-use Rattle.linker_utils.specs.declared.elf.Architecture.{Architecture}
+use Rattle.linker_elf.specs.declared.elf.architecture.Architecture.{Architecture}
 
 -- The second is passed what the phases between them left, which are `l.later`, or the first. The
 -- bytes between, once values are written there, are `l.final`.

@@ -20,9 +20,9 @@ use Rattle.linker_rewriting.specs.declared.decisions.Decision.TheVariants.{Rewri
 use Rattle.linker_section.specs.Relocations.{relocation_in}
 use Rattle.linker_section.specs.Values.{operands_with}
 use Rattle.linker_section.specs.declared.facts.Symbol.{Symbol}
-use Rattle.linker_utils.specs.Architectures.{IsRow}
+use Rattle.linker_elf.specs.Architectures.{IsRow}
 use Rattle.linker_utils.specs.declared.architecture.Relaxation.{Relaxation}
-use Rattle.linker_utils.specs.declared.elf.Architecture.TheVariants.{X86_64}
+use Rattle.linker_elf.specs.declared.elf.architecture.Architecture.TheVariants.{X86_64}
 
 -- The operand of an instruction that is in the GOT: how many bytes of the instruction are before
 -- the field of its distance, and what the entry holds.

@@ -29,7 +29,7 @@ use Rattle.linker_output.specs.LoongArchLazyPlt as laws
 use Rattle.linker_output.specs.Tables.{field_of, field_of_32, code_of_words}
 use Rattle.linker_output.specs.declared.lazy_plt.LazyEntry.{LazyEntry}
 use Rattle.linker_output.specs.declared.lazy_plt.LazyTarget.TheVariants.{Word}
-use Rattle.linker_utils.specs.declared.elf.Architecture.TheVariants.{LoongArch64}
+use Rattle.linker_elf.specs.declared.elf.architecture.Architecture.TheVariants.{LoongArch64}
 
 -- ---- steps
 

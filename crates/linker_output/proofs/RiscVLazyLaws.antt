@@ -31,7 +31,7 @@ use Rattle.linker_output.specs.RiscVLazyPlt as laws
 use Rattle.linker_output.specs.declared.lazy_plt.LazyEntry.{LazyEntry}
 use Rattle.linker_output.specs.declared.lazy_plt.LazyTarget.TheVariants.{Word}
 use Rattle.linker_output.specs.Tables.{field_of, code_of_words}
-use Rattle.linker_utils.specs.declared.elf.Architecture.TheVariants.{RiscV}
+use Rattle.linker_elf.specs.declared.elf.architecture.Architecture.TheVariants.{RiscV}
 
 -- ---- steps
 

@@ -4,8 +4,8 @@ use Rattle.linker_elf.specs.declared.elf.RelocationKindInfo.{RelocationKindInfo}
 use Rattle.linker_section.proofs.Rows.{one_row}
 use Rattle.linker_section.specs.Needed.{may_use_stub, needs_in, needs_of}
 use Rattle.linker_section.specs.declared.needed.Requirements.{Requirements}
-use Rattle.linker_utils.specs.Architectures.{IsRow}
-use Rattle.linker_utils.specs.declared.elf.Architecture.{Architecture}
+use Rattle.linker_elf.specs.Architectures.{IsRow}
+use Rattle.linker_elf.specs.declared.elf.architecture.Architecture.{Architecture}
 
 -- what `needs` says of a code with a row
 pub needs_is : (architecture : Architecture) (code : ℕ) (row : RelocationKindInfo)

@@ -14,8 +14,8 @@ use Rattle.linker_elf.specs.declared.elf.relocate.RelocateError.TheVariants.{Out
 use Rattle.linker_elf.specs.declared.elf.value.Operands.{Operands}
 use Rattle.linker_output.specs.Stubs.{IsValueCause, WritesField, RejectsField, AppliesAt, offset_in}
 use Rattle.linker_output.specs.declared.stubs.StubField.{StubField}
-use Rattle.linker_utils.specs.Architectures.{IsRow}
-use Rattle.linker_utils.specs.declared.elf.Architecture.{Architecture}
+use Rattle.linker_elf.specs.Architectures.{IsRow}
+use Rattle.linker_elf.specs.declared.elf.architecture.Architecture.{Architecture}
 
 -- ---- a field
 

@@ -11,7 +11,7 @@ use Rattle.linker_elf.specs.declared.elf.value.Operands.{Operands}
 use Rattle.linker_laws.specs.Schemes.{AreAddresses}
 use Rattle.linker_output.specs.Stubs.{AppliesAt, StubCode, operands_of}
 use Rattle.linker_output.specs.declared.stubs.StubField.{StubField}
-use Rattle.linker_utils.specs.Architectures.{IsNamedValue}
+use Rattle.linker_elf.specs.Architectures.{IsNamedValue}
 
 abbrev pub word : List ℕ → ℕ
 word bytes = from_le_bytes w32 bytes

@@ -15,7 +15,7 @@ use Rattle.linker_output.specs.LazyPlt.{IsCode, header_places}
 use Rattle.linker_output.specs.LazyPlts.{aarch64_entry, aarch64_header}
 use Rattle.linker_output.specs.LazyRuns.{words, or_else, run_by}
 use Rattle.linker_output.specs.declared.lazy_plt.LazyEntry.{LazyEntry}
-use Rattle.linker_utils.specs.declared.elf.Architecture.TheVariants.{AArch64}
+use Rattle.linker_elf.specs.declared.elf.architecture.Architecture.TheVariants.{AArch64}
 
 -- ---- "STP", pre-indexed, of 64 bits
 

@@ -8,7 +8,7 @@ use Rattle.linker_output.specs.Tables.{field_of, kind, kind_of, units_of, no_fla
 use Rattle.linker_output.specs.Tables.{four, plain_stub, data_stub}
 use Rattle.linker_output.specs.View.{Description}
 use Rattle.linker_output.specs.declared.got.ThreadPointer.TheVariants.{BelowImage}
-use Rattle.linker_utils.specs.declared.elf.Architecture.TheVariants.{AArch64}
+use Rattle.linker_elf.specs.declared.elf.architecture.Architecture.TheVariants.{AArch64}
 
 abbrev pub aarch64_output : Description
 aarch64_output =

@@ -13,7 +13,7 @@ use Rattle.linker_laws.specs.AArch64Machine.{in_64_bits, step, run, continue}
 use Rattle.linker_laws.specs.AArch64RewriteLaws.{word_of}
 use Rattle.linker_output.specs.AArch64Output.{aarch64_output}
 use Rattle.linker_output.specs.Stubs.{IsStub}
-use Rattle.linker_utils.specs.declared.elf.Architecture.TheVariants.{AArch64}
+use Rattle.linker_elf.specs.declared.elf.architecture.Architecture.TheVariants.{AArch64}
 
 -- ---- "BR"
 

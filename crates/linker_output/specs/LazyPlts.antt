@@ -20,9 +20,9 @@ use Rattle.linker_output.specs.declared.lazy_plt.LazyTarget.TheVariants.{Word, H
 use Rattle.linker_output.specs.declared.lazy_plt.LazyWord.{LazyWord}
 use Rattle.linker_output.specs.declared.lazy_plt.LazyWord.TheVariants as word
 use Rattle.linker_output.specs.declared.stubs.StubField.{StubField}
-use Rattle.linker_utils.specs.declared.elf.Architecture.{Architecture}
-use Rattle.linker_utils.specs.declared.elf.Architecture.TheVariants.{AArch64, RiscV, LoongArch64}
-use Rattle.linker_utils.specs.declared.elf.Architecture.TheVariants.{Ppc64, X86_64}
+use Rattle.linker_elf.specs.declared.elf.architecture.Architecture.{Architecture}
+use Rattle.linker_elf.specs.declared.elf.architecture.Architecture.TheVariants.{AArch64, RiscV, LoongArch64}
+use Rattle.linker_elf.specs.declared.elf.architecture.Architecture.TheVariants.{Ppc64, X86_64}
 
 -- at most 8 bytes, and zeros after them
 abbrev pub padded : List ℕ → List ℕ

@@ -7,7 +7,7 @@ use Rattle.linker_output.specs.Tables.{field_of, field_of_32, kind, kind_of, uni
 use Rattle.linker_output.specs.Tables.{four, plain_stub}
 use Rattle.linker_output.specs.View.{Description}
 use Rattle.linker_output.specs.declared.got.ThreadPointer.TheVariants.{BelowImage}
-use Rattle.linker_utils.specs.declared.elf.Architecture.TheVariants.{LoongArch64}
+use Rattle.linker_elf.specs.declared.elf.architecture.Architecture.TheVariants.{LoongArch64}
 
 -- `e_flags`: the base ABI, of three bits, and the version of the object file ABI, of two
 abbrev pub base_abi : ℕ

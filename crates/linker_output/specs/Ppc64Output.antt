@@ -12,7 +12,7 @@ use Rattle.linker_output.specs.View.{Description}
 use Rattle.linker_output.specs.declared.got.ThreadPointer.TheVariants.{BelowImage}
 use Rattle.linker_output.specs.declared.got.GotHeader.TheVariants.{Base}
 use Rattle.linker_output.specs.declared.layout.SymbolPlace.TheVariants.{Got}
-use Rattle.linker_utils.specs.declared.elf.Architecture.TheVariants.{Ppc64}
+use Rattle.linker_elf.specs.declared.elf.architecture.Architecture.TheVariants.{Ppc64}
 
 -- `e_flags`: the version of the ABI
 abbrev pub version_2 : ℕ

@@ -10,7 +10,7 @@ use Rattle.linker_laws.specs.Ppc64RewriteLaws.{word_of}
 use Rattle.linker_output.specs.Ppc64Output.{ppc64_output}
 use Rattle.linker_output.specs.Stubs.{IsStub}
 use Rattle.linker_utils.specs.Ppc64Rewrites.{opcode_of, rt_of}
-use Rattle.linker_utils.specs.declared.elf.Architecture.TheVariants.{Ppc64}
+use Rattle.linker_elf.specs.declared.elf.architecture.Architecture.TheVariants.{Ppc64}
 
 -- ---- instructions of the link and the count register
 

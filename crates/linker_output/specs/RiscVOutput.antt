@@ -8,7 +8,7 @@ use Rattle.linker_output.specs.View.{Description}
 use Rattle.linker_output.specs.declared.got.ThreadPointer.TheVariants.{BelowImage}
 use Rattle.linker_output.specs.declared.got.GotHeader.TheVariants.{Dynamic}
 use Rattle.linker_output.specs.declared.layout.SymbolPlace.TheVariants.{SmallData}
-use Rattle.linker_utils.specs.declared.elf.Architecture.TheVariants.{RiscV}
+use Rattle.linker_elf.specs.declared.elf.architecture.Architecture.TheVariants.{RiscV}
 
 -- `e_flags`: the C extension; the float ABI, of two bits; the E extension; RVTSO
 abbrev pub has_c : ℕ

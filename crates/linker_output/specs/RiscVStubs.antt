@@ -4,7 +4,7 @@ use Rattle.linker_laws.specs.Machine.{loaded}
 use Rattle.linker_laws.specs.RiscVMachine.{Hart, register, Runs}
 use Rattle.linker_output.specs.RiscVOutput.{riscv_output}
 use Rattle.linker_output.specs.Stubs.{IsStub}
-use Rattle.linker_utils.specs.declared.elf.Architecture.TheVariants.{RiscV}
+use Rattle.linker_elf.specs.declared.elf.architecture.Architecture.TheVariants.{RiscV}
 
 -- It goes to the target, and changes only t3, which a call may change on its way.
 pub record GoesTo (target : ℕ) (h t : Hart) : Type 0 where

@@ -20,7 +20,7 @@ use Rattle.linker_output.specs.declared.stubs.StubKind.{StubKind}
 use Rattle.linker_output.specs.declared.stubs.StubKind.TheVariants.{Load, Jump}
 use Rattle.linker_output.specs.declared.stubs.StubKind.TheVariants.{Far, FarRelative}
 use Rattle.linker_output.specs.declared.description.Target.{Target}
-use Rattle.linker_utils.specs.declared.elf.Architecture.{Architecture}
+use Rattle.linker_elf.specs.declared.elf.architecture.Architecture.{Architecture}
 
 -- a symbol that a linker defines: its name, and how far it is above a place
 pub record Symbol : Type 0 where

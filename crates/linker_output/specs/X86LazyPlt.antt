@@ -13,7 +13,7 @@ use Rattle.linker_output.specs.LazyPlt.{IsCode, header_places}
 use Rattle.linker_output.specs.LazyPlts.{x86_64_entry, x86_64_header}
 use Rattle.linker_output.specs.LazyRuns.{or_else}
 use Rattle.linker_output.specs.declared.lazy_plt.LazyEntry.{LazyEntry}
-use Rattle.linker_utils.specs.declared.elf.Architecture.TheVariants.{X86_64}
+use Rattle.linker_elf.specs.declared.elf.architecture.Architecture.TheVariants.{X86_64}
 
 -- ---- "PUSH"
 

@@ -8,7 +8,7 @@ use Rattle.linker_output.specs.Tables.{four}
 use Rattle.linker_output.specs.View.{Description}
 use Rattle.linker_output.specs.declared.got.ThreadPointer.TheVariants.{AboveImage}
 use Rattle.linker_output.specs.declared.layout.SymbolPlace.TheVariants.{ThreadLocal}
-use Rattle.linker_utils.specs.declared.elf.Architecture.TheVariants.{X86_64}
+use Rattle.linker_elf.specs.declared.elf.architecture.Architecture.TheVariants.{X86_64}
 
 abbrev pub x86_64_output : Description
 x86_64_output =

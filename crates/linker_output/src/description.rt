@@ -10,7 +10,7 @@ use crate::flags::FlagRules;
 use crate::got::{GotLayout, ThreadPointer};
 use crate::layout::{CodeUnit, Interpreter, ProvidedSymbol, SaveRestoreRoutines};
 use crate::stubs::Stub;
-use linker_utils::architecture::by_architecture;
+use linker_elf::elf::architecture::by_architecture;
 use linker_utils::elf::Architecture;
 
 macro_rules! target_of {

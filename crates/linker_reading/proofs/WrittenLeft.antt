@@ -6,7 +6,7 @@ use Rattle.std.proofs.lemmas.Bool.{cases_lt, lt-ltb, le-ltb}
 use Rattle.std.proofs.lemmas.List.{get_or_append_left, get_or-append_right, get_or-take, get_or-drop, length-take-le}
 use Rattle.linker_base.specs.Rewrite.{rewritten, offset_after}
 use Rattle.linker_elf.specs.declared.elf.RelocationKindInfo.{RelocationKindInfo}
-use Rattle.linker_utils.specs.Architectures.{relaxation_rewrite, relaxation_deleted}
+use Rattle.linker_utils.specs.Relaxations.{relaxation_rewrite, relaxation_deleted}
 use Rattle.linker_reading.specs.FieldsOfBytes.{is_in_field, is_in_one, kept_index, AreSameBut}
 use Rattle.linker_reading.specs.Recognised.{Recogniser, DifferOnlyInFields, deleted_start, deleted_count}
 use Rattle.linker_reading.specs.WrittenRows.{WrittenIsLeft, without_deleted}

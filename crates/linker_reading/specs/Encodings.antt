@@ -17,8 +17,8 @@ use Rattle.linker_reading.specs.Ppc64Encodings.{ppc64_encodings, ppc64_scale}
 use Rattle.linker_reading.specs.Reading.{number_held}
 use Rattle.linker_reading.specs.Recognised.{IsOneOf}
 use Rattle.linker_reading.specs.RiscVEncodings.{riscv_encodings}
-use Rattle.linker_utils.specs.declared.elf.Architecture.{Architecture}
-use Rattle.linker_utils.specs.declared.elf.Architecture.TheVariants as architectures
+use Rattle.linker_elf.specs.declared.elf.architecture.Architecture.{Architecture}
+use Rattle.linker_elf.specs.declared.elf.architecture.Architecture.TheVariants as architectures
 
 -- ---- the forms of an instruction
 

@@ -12,11 +12,11 @@ use Rattle.linker_reading.specs.Ppc64Recogniser.{ppc64}
 use Rattle.linker_reading.specs.X86Recogniser.{x86_64}
 use Rattle.linker_reading.specs.declared.recognise.engine.Recognised.{Recognised}
 use Rattle.linker_reading.specs.declared.recognise.fields.FieldBits.{FieldBits}
-use Rattle.linker_utils.specs.Architectures.{of_some}
+use Rattle.linker_elf.specs.Architectures.{of_some}
 use Rattle.linker_utils.specs.declared.architecture.Relaxation.{Relaxation}
-use Rattle.linker_utils.specs.declared.elf.Architecture.TheVariants.{AArch64, RiscV, LoongArch64}
-use Rattle.linker_utils.specs.declared.elf.Architecture.TheVariants.{Ppc64, X86_64}
-use Rattle.linker_utils.specs.declared.elf.Architecture.{Architecture}
+use Rattle.linker_elf.specs.declared.elf.architecture.Architecture.TheVariants.{AArch64, RiscV, LoongArch64}
+use Rattle.linker_elf.specs.declared.elf.architecture.Architecture.TheVariants.{Ppc64, X86_64}
+use Rattle.linker_elf.specs.declared.elf.architecture.Architecture.{Architecture}
 
 -- the same with the rewrite as one of all architectures', and the relocation's code
 abbrev pub by_code : {K R : Type 0} → Recogniser K R → Recognised K R → Recognised Relaxation ℕ

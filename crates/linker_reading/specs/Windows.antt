@@ -27,11 +27,12 @@ use Rattle.linker_reading.specs.declared.fields.FieldValue.{FieldValue}
 use Rattle.linker_reading.specs.declared.solving.Reference.TheVariants as references
 use Rattle.linker_reading.specs.declared.solving.Reference.{Reference}
 use Rattle.linker_reading.specs.declared.windows.Destination.{Destination}
-use Rattle.linker_utils.specs.Architectures.{of_some, relaxation_matches, relaxation_rewrite}
-use Rattle.linker_utils.specs.Architectures.{relaxation_deleted}
+use Rattle.linker_elf.specs.Architectures.{of_some}
+use Rattle.linker_utils.specs.Relaxations.{relaxation_matches, relaxation_rewrite}
+use Rattle.linker_utils.specs.Relaxations.{relaxation_deleted}
 use Rattle.linker_utils.specs.declared.architecture.Relaxation.{Relaxation}
-use Rattle.linker_utils.specs.declared.elf.Architecture.TheVariants as architectures
-use Rattle.linker_utils.specs.declared.elf.Architecture.{Architecture}
+use Rattle.linker_elf.specs.declared.elf.architecture.Architecture.TheVariants as architectures
+use Rattle.linker_elf.specs.declared.elf.architecture.Architecture.{Architecture}
 
 -- ---- the window of all choices
 

@@ -8,7 +8,7 @@ use Rattle.linker_reading.specs.FieldsOfBytes.{AreSameButFor}
 use Rattle.linker_reading.specs.Recognised.{Recogniser, DiffersOnlyInFields, deleted_start, deleted_count}
 use Rattle.linker_reading.specs.declared.recognise.fields.FieldBits.{FieldBits}
 use Rattle.linker_elf.specs.declared.elf.choice.Choice.{Choice}
-use Rattle.linker_utils.specs.Architectures.{relaxation_rewrite, relaxation_deleted}
+use Rattle.linker_utils.specs.Relaxations.{relaxation_rewrite, relaxation_deleted}
 use Rattle.linker_base.specs.declared.rewrite.DeletedBytes.{DeletedBytes}
 
 -- both are bytes, and as many

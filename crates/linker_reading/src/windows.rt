@@ -9,7 +9,8 @@ ghost use Rattle.linker_reading.specs.Windows.{IsRecognisable, HasEach, IsLeastW
 ghost use Rattle.linker_reading.specs.Windows.{is_of_symbol, is_local_entry, local_entry_of};
 ghost use Rattle.linker_reading.specs.Windows.{entry_distance, symbol_of};
 ghost use Rattle.linker_elf.specs.declared.elf.RelocationKindInfo.{RelocationKindInfo};
-ghost use Rattle.linker_utils.specs.Architectures.{IsRow, relaxation_rewrite};
+ghost use Rattle.linker_elf.specs.Architectures.{IsRow};
+ghost use Rattle.linker_utils.specs.Relaxations.{relaxation_rewrite};
 
 use crate::fields::FieldValue;
 use crate::recognise::{

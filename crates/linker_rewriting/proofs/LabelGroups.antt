@@ -29,8 +29,8 @@ use Rattle.linker_section.specs.Relocations.{relocation_in}
 use Rattle.linker_section.specs.Values.{IsAscending, offset_at}
 use Rattle.linker_section.specs.declared.relocations.Rela.{Rela}
 use Rattle.linker_utils.specs.declared.architecture.Relaxation.{Relaxation}
-use Rattle.linker_utils.specs.declared.elf.Architecture.{Architecture}
-use Rattle.linker_utils.specs.declared.elf.Architecture.TheVariants.{AArch64, RiscV, LoongArch64, Ppc64, X86_64}
+use Rattle.linker_elf.specs.declared.elf.architecture.Architecture.{Architecture}
+use Rattle.linker_elf.specs.declared.elf.architecture.Architecture.TheVariants.{AArch64, RiscV, LoongArch64, Ppc64, X86_64}
 
 -- ---- one high part
 

@@ -8,7 +8,7 @@ use Rattle.linker_rewriting.specs.Decisions.{CanBeMade, AllCanBeMade, decision_a
 use Rattle.linker_rewriting.specs.declared.decisions.Decision.{Decision}
 use Rattle.linker_rewriting.specs.declared.decisions.Decision.TheVariants.{Kept, Rewritten, RewrittenWithSymbol, Consumed}
 use Rattle.linker_section.specs.Relocations.{relocation_in}
-use Rattle.linker_utils.specs.Architectures.{relaxation_deleted}
+use Rattle.linker_utils.specs.Relaxations.{relaxation_deleted}
 
 pub record AreListed (bytes : List ℕ) (decisions : List Decision) (old now : List (ℕ × ℕ))
     (len k : ℕ) : Type 0 where

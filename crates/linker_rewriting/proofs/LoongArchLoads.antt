@@ -29,10 +29,10 @@ use Rattle.linker_rewriting.specs.declared.groups.Scope.TheVariants.{Independent
 use Rattle.linker_rewriting.specs.declared.phases.Phase.TheVariants.{PreLayout}
 use Rattle.linker_section.specs.Relocations.{relocation_in, relocation_at}
 use Rattle.linker_section.specs.declared.relocations.Rela.{Rela}
-use Rattle.linker_utils.specs.Architectures.{IsArchitectureChoice, IsUnchanged, relaxation_skipped, relaxation_deleted, relaxation_no_op}
+use Rattle.linker_utils.specs.Relaxations.{IsArchitectureChoice, IsUnchanged, relaxation_skipped, relaxation_deleted, relaxation_no_op}
 use Rattle.linker_utils.specs.declared.architecture.Relaxation.{Relaxation}
 use Rattle.linker_utils.specs.declared.architecture.Relaxation.TheVariants as relaxations
-use Rattle.linker_utils.specs.declared.elf.Architecture.TheVariants.{LoongArch64}
+use Rattle.linker_elf.specs.declared.elf.architecture.Architecture.TheVariants.{LoongArch64}
 
 -- ---- the choices of both
 

@@ -12,7 +12,7 @@ use Rattle.linker_rewriting.proofs.Windows.{IsReplaced, in_window, IsStep, step_
 use Rattle.linker_section.specs.Relocations.{relocation_in}
 use Rattle.linker_section.specs.declared.relocations.Rela.{Rela}
 use Rattle.std.proofs.lemmas.List.{get_or_default}
-use Rattle.linker_utils.specs.Architectures.{relaxation_rewrite, relaxation_deleted}
+use Rattle.linker_utils.specs.Relaxations.{relaxation_rewrite, relaxation_deleted}
 use borrow.Author.Count.{below_more}
 
 -- ---- one rewrite

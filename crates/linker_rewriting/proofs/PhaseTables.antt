@@ -3,8 +3,8 @@ use Rattle.std.proofs.Common.{◌≡◌, Bool, subst, sym}
 use Rattle.linker_rewriting.specs.Groups.{has_rewrites, IsNotRelaxableUnless}
 use Rattle.linker_rewriting.specs.declared.phases.Phase.{Phase}
 use Rattle.linker_rewriting.specs.declared.phases.Phase.TheVariants.{PreLayout, TlsLocalExec, GotToPcRel, ShortPcRel}
-use Rattle.linker_utils.specs.declared.elf.Architecture.{Architecture}
-use Rattle.linker_utils.specs.declared.elf.Architecture.TheVariants.{AArch64, RiscV, LoongArch64, Ppc64, X86_64}
+use Rattle.linker_elf.specs.declared.elf.architecture.Architecture.{Architecture}
+use Rattle.linker_elf.specs.declared.elf.architecture.Architecture.TheVariants.{AArch64, RiscV, LoongArch64, Ppc64, X86_64}
 
 by_table : (architecture : Architecture) (phase : Phase)
     → IsNotRelaxableUnless architecture phase (has_rewrites architecture phase)

@@ -10,7 +10,7 @@ use Rattle.linker_rewriting.specs.declared.decisions.Decision.{Decision}
 use Rattle.linker_rewriting.specs.declared.decisions.Decision.TheVariants.{Kept, Consumed}
 use Rattle.linker_section.specs.Fields.{IsField, field_end}
 use Rattle.linker_section.specs.Values.{offset_at}
-use Rattle.linker_utils.specs.declared.elf.Architecture.{Architecture}
+use Rattle.linker_elf.specs.declared.elf.architecture.Architecture.{Architecture}
 use borrow.Author.Count.{below_more}
 
 pub no_more : (n : ℕ) → n ≤ n

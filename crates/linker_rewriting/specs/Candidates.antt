@@ -9,10 +9,10 @@ use Rattle.linker_rewriting.specs.Sequences.{IsWhole, is_marked_in}
 use Rattle.linker_rewriting.specs.declared.facts.SymbolFacts.{SymbolFacts}
 use Rattle.linker_section.specs.Relocations.{relocation_at}
 use Rattle.linker_section.specs.declared.relocations.Rela.{Rela}
-use Rattle.linker_utils.specs.Architectures.{IsArchitectureChoice, IsSkippable, IsUnchanged}
-use Rattle.linker_utils.specs.Architectures.{relaxation_skipped, relaxation_deleted}
+use Rattle.linker_utils.specs.Relaxations.{IsArchitectureChoice, IsSkippable, IsUnchanged}
+use Rattle.linker_utils.specs.Relaxations.{relaxation_skipped, relaxation_deleted}
 use Rattle.linker_utils.specs.declared.architecture.Relaxation.{Relaxation}
-use Rattle.linker_utils.specs.declared.elf.Architecture.{Architecture}
+use Rattle.linker_elf.specs.declared.elf.architecture.Architecture.{Architecture}
 
 abbrev pub calls_tls_get_addr : Option SymbolFacts → Bool
 calls_tls_get_addr None = false

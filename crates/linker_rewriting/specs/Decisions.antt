@@ -37,10 +37,10 @@ use Rattle.linker_section.specs.Relocations.{relocation_in, relocation_at}
 use Rattle.linker_section.specs.Values.{offset_at}
 use Rattle.linker_section.specs.declared.facts.Symbol.{Symbol}
 use Rattle.linker_section.specs.declared.relocations.Rela.{Rela}
-use Rattle.linker_utils.specs.Architectures.{relaxation_rewrite, relaxation_skipped}
-use Rattle.linker_utils.specs.Architectures.{relaxation_deleted}
+use Rattle.linker_utils.specs.Relaxations.{relaxation_rewrite, relaxation_skipped}
+use Rattle.linker_utils.specs.Relaxations.{relaxation_deleted}
 use Rattle.linker_utils.specs.declared.architecture.Relaxation.{Relaxation}
-use Rattle.linker_utils.specs.declared.elf.Architecture.{Architecture}
+use Rattle.linker_elf.specs.declared.elf.architecture.Architecture.{Architecture}
 
 -- ---- one decision
 

@@ -28,10 +28,10 @@ use Rattle.linker_rewriting.specs.declared.groups.Scope.TheVariants.{FirstOfPair
 use Rattle.linker_rewriting.specs.declared.phases.Phase.{Phase}
 use Rattle.linker_rewriting.specs.declared.phases.Phase.TheVariants.{PreLayout, TlsLocalExec}
 use Rattle.linker_rewriting.specs.declared.phases.Phase.TheVariants.{GotToPcRel, ShortPcRel}
-use Rattle.linker_utils.specs.Architectures.{IsNamedValue}
-use Rattle.linker_utils.specs.declared.elf.Architecture.{Architecture}
-use Rattle.linker_utils.specs.declared.elf.Architecture.TheVariants.{AArch64, RiscV, LoongArch64}
-use Rattle.linker_utils.specs.declared.elf.Architecture.TheVariants.{Ppc64, X86_64}
+use Rattle.linker_elf.specs.Architectures.{IsNamedValue}
+use Rattle.linker_elf.specs.declared.elf.architecture.Architecture.{Architecture}
+use Rattle.linker_elf.specs.declared.elf.architecture.Architecture.TheVariants.{AArch64, RiscV, LoongArch64}
+use Rattle.linker_elf.specs.declared.elf.architecture.Architecture.TheVariants.{Ppc64, X86_64}
 
 -- ---- scopes before addresses are known
 

@@ -24,10 +24,10 @@ use Rattle.linker_rewriting.specs.declared.sequences.Sequence.TheVariants.{Descr
 use Rattle.linker_rewriting.specs.declared.sequences.Sequence.TheVariants.{PageAndOffset}
 use Rattle.linker_section.specs.Relocations.{relocation_at}
 use Rattle.linker_section.specs.declared.relocations.Rela.{Rela}
-use Rattle.linker_utils.specs.Architectures.{IsNamedValue}
-use Rattle.linker_utils.specs.declared.elf.Architecture.{Architecture}
-use Rattle.linker_utils.specs.declared.elf.Architecture.TheVariants.{AArch64, RiscV, LoongArch64}
-use Rattle.linker_utils.specs.declared.elf.Architecture.TheVariants.{Ppc64}
+use Rattle.linker_elf.specs.Architectures.{IsNamedValue}
+use Rattle.linker_elf.specs.declared.elf.architecture.Architecture.{Architecture}
+use Rattle.linker_elf.specs.declared.elf.architecture.Architecture.TheVariants.{AArch64, RiscV, LoongArch64}
+use Rattle.linker_elf.specs.declared.elf.architecture.Architecture.TheVariants.{Ppc64}
 
 -- ---- marks
 

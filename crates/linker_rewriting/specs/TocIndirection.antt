@@ -30,8 +30,8 @@ use Rattle.linker_section.specs.declared.facts.Addresses.{Addresses}
 use Rattle.linker_section.specs.declared.facts.Symbol.{Symbol}
 use Rattle.linker_section.specs.declared.relocations.Rela.{Rela}
 use Rattle.linker_utils.specs.declared.architecture.Relaxation.{Relaxation}
-use Rattle.linker_utils.specs.declared.elf.Architecture.{Architecture}
-use Rattle.linker_utils.specs.declared.elf.Architecture.TheVariants.{Ppc64}
+use Rattle.linker_elf.specs.declared.elf.architecture.Architecture.{Architecture}
+use Rattle.linker_elf.specs.declared.elf.architecture.Architecture.TheVariants.{Ppc64}
 
 -- ---- loads
 

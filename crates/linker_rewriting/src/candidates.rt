@@ -2,8 +2,8 @@
 
 ghost use Rattle.std.specs.Prelude.{◌≡◌, ◌+◌, ◌<◌, ◌≤◌, slice_get, IfSome, true};
 ghost use Rattle.linker_base.specs.Rewrite.{CanRewrite};
-ghost use Rattle.linker_utils.specs.Architectures.{relaxation_rewrite, relaxation_skipped};
-ghost use Rattle.linker_utils.specs.Architectures.{relaxation_deleted};
+ghost use Rattle.linker_utils.specs.Relaxations.{relaxation_rewrite, relaxation_skipped};
+ghost use Rattle.linker_utils.specs.Relaxations.{relaxation_deleted};
 ghost use Rattle.linker_section.specs.Relocations.{relocation_at};
 ghost use Rattle.linker_rewriting.specs.Candidates.{IsCallIn, IsTaken, IsCandidate, IsCandidateBy};
 ghost use Rattle.linker_rewriting.specs.Candidates.{calls_tls_get_addr, deletes_within};
@@ -16,7 +16,7 @@ use crate::sequences::{is_marked_in, is_whole};
 use linker_base::rewrite::DeletedBytes;
 use linker_section::facts::{Addresses, Symbol};
 use linker_section::relocations::{Rela, relocation_at};
-use linker_utils::architecture::Relaxation;
+use linker_utils::architecture::{Relaxation, choose, may_be_skipped};
 use linker_utils::elf::{Architecture, Choice, LinkFacts, Operands};
 
 /// Whether the symbol at an index is `__tls_get_addr`.
@@ -44,7 +44,7 @@ fn is_call(
     let Some(next) = next else {
         return false;
     };
-    let is_of_call = architecture.may_be_skipped(next.code);
+    let is_of_call = may_be_skipped(architecture, next.code);
     let is_there = next.offset.checked_sub(offset) == Some(distance);
     is_there && is_of_call && is_tls_get_addr(symbols, next.symbol)
 }
@@ -108,7 +108,13 @@ pub(crate) fn candidate_by(
     ensures deletes { IfSome result (λ chosen. deletes_within section.now relocation.now.offset
         (relaxation_deleted chosen.kind) ≡ true) }
 {
-    let chosen = architecture.choose(relocation.code, section, relocation.offset, facts);
+    let chosen = choose(
+        architecture,
+        relocation.code,
+        section,
+        relocation.offset,
+        facts,
+    );
     if chosen.is_unchanged(relocation.code) {
         return None;
     }

@@ -15,7 +15,7 @@ use linker_utils::elf::Architecture;
 /// A call for an architecture and a phase, which is compiled for each pair by itself.
 macro_rules! of_each {
     ($architecture:expr, $phase:expr, $call:ident $given:tt) => {
-        linker_utils::architecture::by_architecture!($architecture, of_each($phase, $call $given))
+        linker_elf::elf::architecture::by_architecture!($architecture, of_each($phase, $call $given))
     };
     ($of:ident $module:ident $names:ident ($phase:expr, $call:ident $given:tt)) => {
         match $phase {

@@ -20,7 +20,7 @@ ghost use Rattle.linker_rewriting.specs.TocIndirection.{AreLoadsRejected, MeansW
 ghost use Rattle.linker_rewriting.specs.TocIndirection.{AreLoadsRejectedFirst};
 ghost use Rattle.linker_rewriting.specs.TocIndirection.{WordsAreWhole};
 ghost use Rattle.linker_section.specs.Relocations.{relocation_in};
-ghost use Rattle.linker_utils.specs.Architectures.{relaxation_rewrite, relaxation_deleted};
+ghost use Rattle.linker_utils.specs.Relaxations.{relaxation_rewrite, relaxation_deleted};
 
 use crate::agreement::contradiction;
 use crate::candidates::candidate_by;

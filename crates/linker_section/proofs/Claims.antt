@@ -8,14 +8,14 @@ use Rattle.linker_section.proofs.Rows.{one_info}
 use Rattle.linker_section.specs.Fields.{IsField, continues, field_end, begins_pair, ends_pair, is_of_pair, Overlap, Composes, of_number, of_pair, AreApart, IsOverlapped}
 use Rattle.linker_section.specs.Relocations.{relocation_in}
 use Rattle.linker_section.specs.Sections.{BeginsPair}
-use Rattle.linker_utils.specs.Architectures.{IsRow}
+use Rattle.linker_elf.specs.Architectures.{IsRow}
 use Rattle.linker_section.specs.Inner.Claims.{continues_at, is_clear_of, IsContinued, IsLastField, AreClaimed, HasField}
 use Rattle.linker_section.specs.Inner.Order.{ApartIn}
 use Rattle.linker_section.specs.declared.relocations.Rela.{Rela}
 use Rattle.std.specs.Prelude.{IfSome, is_some, Option, None}
 use Rattle.linker_section.specs.Values.{offset_at}
 use Rattle.linker_section.specs.declared.fields.Field.{Field}
-use Rattle.linker_utils.specs.declared.elf.Architecture.{Architecture}
+use Rattle.linker_elf.specs.declared.elf.architecture.Architecture.{Architecture}
 
 -- ---- what the test says
 

@@ -27,7 +27,7 @@ use Rattle.linker_section.specs.Values.{has_value, offset_at}
 use Rattle.linker_section.specs.WrittenFields.{Found, AreFound, composed, composed_by, composed_with, field_bytes, HoldsNumber, HoldsValue, IsHeld, AreWritten, MakePair, OfPair, HoldsPair, PairFits, IsAcceptedAt, AreAccepted}
 use Rattle.linker_section.specs.declared.facts.Addresses.{Addresses}
 use Rattle.linker_section.specs.declared.facts.Symbol.{Symbol}
-use Rattle.linker_utils.specs.declared.elf.Architecture.{Architecture}
+use Rattle.linker_elf.specs.declared.elf.architecture.Architecture.{Architecture}
 
 -- ---- what is composed
 

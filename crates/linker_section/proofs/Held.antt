@@ -19,7 +19,7 @@ use Rattle.linker_section.specs.Values.{offset_at}
 use Rattle.linker_section.specs.WrittenFields.{field_bytes}
 use Rattle.linker_section.specs.declared.facts.Addresses.{Addresses}
 use Rattle.linker_section.specs.declared.facts.Symbol.{Symbol}
-use Rattle.linker_utils.specs.declared.elf.Architecture.{Architecture}
+use Rattle.linker_elf.specs.declared.elf.architecture.Architecture.{Architecture}
 
 -- ---- two fields
 

@@ -30,7 +30,7 @@ use Rattle.linker_section.specs.Sections.{IsWritten, IsPairWritten}
 use Rattle.linker_section.specs.declared.facts.Addresses.{Addresses}
 use Rattle.linker_section.specs.declared.facts.Symbol.{Symbol}
 use Rattle.linker_section.specs.declared.relocations.Rela.{Rela}
-use Rattle.linker_utils.specs.declared.elf.Architecture.{Architecture}
+use Rattle.linker_elf.specs.declared.elf.architecture.Architecture.{Architecture}
 
 -- of a section only the bytes from an offset on change, as many as a field has
 pub record IsLocal (offset len : ℕ) (before after : List ℕ) : Type 0 where

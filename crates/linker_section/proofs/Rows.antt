@@ -17,10 +17,10 @@ use Rattle.linker_elf.specs.declared.riscv64.relocations.RiscVRelocation.{RiscVR
 use Rattle.linker_elf.specs.declared.riscv64.relocations.RiscVRelocation.TheVariants as riscv64_names
 use Rattle.linker_elf.specs.declared.x86_64.relocations.X86_64Relocation.{X86_64Relocation}
 use Rattle.linker_elf.specs.declared.x86_64.relocations.X86_64Relocation.TheVariants as x86_64_names
-use Rattle.linker_utils.specs.Architectures.{IsNamedValue, IsRow}
-use Rattle.linker_utils.specs.declared.elf.Architecture.{Architecture}
-use Rattle.linker_utils.specs.declared.elf.Architecture.TheVariants.{AArch64, RiscV, LoongArch64}
-use Rattle.linker_utils.specs.declared.elf.Architecture.TheVariants.{Ppc64, X86_64}
+use Rattle.linker_elf.specs.Architectures.{IsNamedValue, IsRow}
+use Rattle.linker_elf.specs.declared.elf.architecture.Architecture.{Architecture}
+use Rattle.linker_elf.specs.declared.elf.architecture.Architecture.TheVariants.{AArch64, RiscV, LoongArch64}
+use Rattle.linker_elf.specs.declared.elf.architecture.Architecture.TheVariants.{Ppc64, X86_64}
 
 -- ---- names without a text have no row
 

@@ -30,10 +30,10 @@ use Rattle.linker_section.proofs.Composing.{no}
 use Rattle.linker_section.proofs.Numbers.{is_word6}
 use Rattle.linker_section.specs.Fields.{changes_number, changes_bits, continues, IsField, field_len, is_of_pair, uleb_len}
 use Rattle.linker_section.specs.Values.{has_value, is_auipc, offset_at}
-use Rattle.linker_utils.specs.Architectures.{IsNamedValue, IsRow}
-use Rattle.linker_utils.specs.declared.elf.Architecture.{Architecture}
-use Rattle.linker_utils.specs.declared.elf.Architecture.TheVariants.{AArch64, RiscV, LoongArch64}
-use Rattle.linker_utils.specs.declared.elf.Architecture.TheVariants.{Ppc64, X86_64}
+use Rattle.linker_elf.specs.Architectures.{IsNamedValue, IsRow}
+use Rattle.linker_elf.specs.declared.elf.architecture.Architecture.{Architecture}
+use Rattle.linker_elf.specs.declared.elf.architecture.Architecture.TheVariants.{AArch64, RiscV, LoongArch64}
+use Rattle.linker_elf.specs.declared.elf.architecture.Architecture.TheVariants.{Ppc64, X86_64}
 
 -- the kinds whose values compose
 abbrev pub is_composing : RelocationKind → Bool

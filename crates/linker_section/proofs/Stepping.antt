@@ -31,8 +31,8 @@ use Rattle.linker_section.specs.declared.facts.Addresses.{Addresses}
 use Rattle.linker_section.specs.declared.facts.Symbol.{Symbol}
 use Rattle.std.specs.Prelude.{Ok, IfNone}
 use Rattle.linker_section.specs.declared.fields.Field.{Field}
-use Rattle.linker_utils.specs.Architectures.{IsRow}
-use Rattle.linker_utils.specs.declared.elf.Architecture.{Architecture}
+use Rattle.linker_elf.specs.Architectures.{IsRow}
+use Rattle.linker_elf.specs.declared.elf.architecture.Architecture.{Architecture}
 
 -- ---- the length of a field
 

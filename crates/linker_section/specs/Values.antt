@@ -27,9 +27,9 @@ use Rattle.linker_section.specs.declared.values.ValueError.{ValueError}
 use Rattle.linker_section.specs.declared.values.ValueError.TheVariants.{UnknownType, NoSymbol}
 use Rattle.linker_section.specs.declared.values.ValueError.TheVariants.{NoEntry, NoHighPart}
 use Rattle.linker_section.specs.declared.values.ValueError.TheVariants.{NoTlsBase}
-use Rattle.linker_utils.specs.Architectures.{IsRow}
-use Rattle.linker_utils.specs.declared.elf.Architecture.{Architecture}
-use Rattle.linker_utils.specs.declared.elf.Architecture.TheVariants as architectures
+use Rattle.linker_elf.specs.Architectures.{IsRow}
+use Rattle.linker_elf.specs.declared.elf.architecture.Architecture.{Architecture}
+use Rattle.linker_elf.specs.declared.elf.architecture.Architecture.TheVariants as architectures
 
 -- ---- the entry of the GOT
 

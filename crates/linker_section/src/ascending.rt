@@ -21,8 +21,8 @@ use crate::saved::whole_word_at;
 use crate::sections::{
     FIRST_STEP, NO_FIELD, SectionError, Step, Stopped, write_held_at, write_one,
 };
-use linker_utils::architecture::by_architecture;
-use linker_utils::elf::Architecture;
+use linker_elf::elf::Architecture;
+use linker_elf::elf::architecture::by_architecture;
 
 /// Writes the value of the relocation at an index, if it is found and accepted with few
 /// tests, and keeps the bytes that were there before. Its offset has to be `end` at least.

@@ -15,13 +15,13 @@ ghost use Rattle.linker_section.specs.Inner.Facts.{shows_lengths, word_shows};
 use crate::facts::{Addresses, Symbol};
 use crate::relocations::{Rela, first_from, relocation_in, relocations_len};
 use linker_base::utils::u32_from_slice;
-use linker_utils::elf::{
+use linker_elf::elf::{
     Architecture, Length, LoongArch64Instruction, RelocationInstruction, RelocationKind,
     RelocationSize, RiscVInstruction, Row,
 };
-use linker_utils::loongarch64::LoongArch64Relocation;
-use linker_utils::ppc64::Ppc64Relocation;
-use linker_utils::riscv64::RiscVRelocation;
+use linker_elf::loongarch64::LoongArch64Relocation;
+use linker_elf::ppc64::Ppc64Relocation;
+use linker_elf::riscv64::RiscVRelocation;
 
 /// Whether a symbol is a function of the output that may return with another TOC pointer, and has
 /// no stub that keeps the caller's.

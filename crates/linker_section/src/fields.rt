@@ -6,7 +6,7 @@ ghost use Rattle.linker_section.specs.Fields.{changes_number, changes_bits, cont
 ghost use Rattle.linker_section.specs.Inner.Claims.{continues_at, is_clear_of, next_field};
 
 use crate::values::has_value;
-use linker_utils::elf::{RelocationKind, RelocationKindInfo, RelocationSize};
+use linker_elf::elf::{RelocationKind, RelocationKindInfo, RelocationSize};
 
 /// Whether a row is that of the first of a pair at a ULEB128 number.
 #[inline(always)]

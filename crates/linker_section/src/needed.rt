@@ -4,9 +4,9 @@ ghost use Rattle.std.specs.Prelude.{◌≡◌, Option};
 ghost use Rattle.linker_elf.specs.declared.elf.RelocationKindInfo.{RelocationKindInfo};
 ghost use Rattle.linker_section.specs.Inner.Facts.{class_by, entry_by, requirements_by};
 ghost use Rattle.linker_section.specs.Needed.{needs_in};
-ghost use Rattle.linker_utils.specs.Architectures.{IsRow};
+ghost use Rattle.linker_elf.specs.Architectures.{IsRow};
 
-use linker_utils::elf::{Architecture, EntryUse, RowFacts};
+use linker_elf::elf::{Architecture, EntryUse, RowFacts};
 
 /// What an entry of the GOT holds.
 #[derive(Clone, Copy)]

@@ -14,7 +14,7 @@ use crate::fields::{Field, is_of_pair};
 use crate::relocations::{Rela, offset_at, relocation_at, relocation_in, relocations_len};
 use crate::sections::{field_at, second_of_pair};
 use crate::values::has_value;
-use linker_utils::elf::{Architecture, RelocationKind};
+use linker_elf::elf::{Architecture, RelocationKind};
 
 /// The least index of a relocation whose field overlaps that of an earlier one with which it
 /// doesn't compose; as many as there are relocations if there is none. `order` is memory for its

@@ -13,14 +13,14 @@ ghost use Rattle.linker_section.specs.Inner.Quick.{IsPlainValue, IsQuickValue};
 ghost use Rattle.linker_section.specs.Needed.{entry_of};
 ghost use Rattle.linker_section.specs.Values.{address_of, entry_address, is_of_got};
 ghost use Rattle.linker_section.specs.Values.{operands_with, target_of};
-ghost use Rattle.linker_utils.specs.Architectures.{IsRow};
+ghost use Rattle.linker_elf.specs.Architectures.{IsRow};
 
 use crate::conditions::{lacks_stub, needs_upper};
 use crate::facts::{Addresses, Symbol};
 use crate::needed::entry_by;
 use crate::relocations::Rela;
 use crate::values::{entry_address, is_of_got, local_entry, target_of};
-use linker_utils::elf::{Architecture, EntryUse, Operands, Row, RowFacts, Way};
+use linker_elf::elf::{Architecture, EntryUse, Operands, Row, RowFacts, Way};
 
 /// A high part of RISC-V, whose value low parts take.
 #[derive(Clone, Copy)]

@@ -7,7 +7,7 @@ ghost use Rattle.linker_section.specs.Inner.Saved.{IsSavedAt, with_word, saved_p
 use crate::fields::ends_pair;
 use crate::relocations::relocation_in;
 use linker_base::utils::u64_from_slice;
-use linker_utils::elf::{Architecture, Row};
+use linker_elf::elf::{Architecture, Row};
 
 /// The 8 bytes from an offset on as a word; none where there are fewer.
 #[inline(always)]

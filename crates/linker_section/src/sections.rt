@@ -15,7 +15,7 @@ ghost use Rattle.linker_section.specs.Inner.Saved.{Restores};
 ghost use Rattle.linker_section.specs.Inner.Steps.{IsPairOutcome, Reached, IsStep};
 ghost use Rattle.linker_section.specs.Values.{has_value, offset_at};
 ghost use Rattle.linker_section.specs.WrittenFields.{AreWritten, CanBeWritten, IsFirstFault};
-ghost use Rattle.linker_utils.specs.Architectures.{IsRow};
+ghost use Rattle.linker_elf.specs.Architectures.{IsRow};
 ghost use Rattle.linker_elf.specs.declared.elf.RelocationKindInfo.{RelocationKindInfo};
 
 use crate::ascending::{write_ascending_of, write_second_run};
@@ -27,7 +27,7 @@ use crate::relocations::{Rela, is_ascending, relocation_in, relocations_len};
 use crate::saved::{restore, word_at};
 use crate::values::{ValueError, value_of};
 use linker_base::utils::{self, Uleb128Error};
-use linker_utils::elf::{Architecture, RelocateError, RelocationKind, Row};
+use linker_elf::elf::{Architecture, RelocateError, RelocationKind, Row};
 
 /// Why a relocation's value isn't written.
 #[derive(Clone, Copy)]

@@ -13,16 +13,16 @@ ghost use Rattle.linker_section.specs.Values.{is_defined, lacks_origin};
 ghost use Rattle.linker_section.specs.Values.{names_label, is_auipc, is_high_kind, is_high_part};
 ghost use Rattle.linker_section.specs.Values.{IsHighPart, IsHighPartAt, IsNoHighPart, low_operands};
 ghost use Rattle.linker_section.specs.Values.{low_value, IsValueBy, IsValue};
-ghost use Rattle.linker_utils.specs.Architectures.{IsRow};
+ghost use Rattle.linker_elf.specs.Architectures.{IsRow};
 
 use crate::facts::{Addresses, Symbol};
 use crate::needed::{Entry, EntryClass, entry_by};
 use crate::relocations::{Rela, first_from, offset_at, relocation_in, relocations_len};
-use linker_utils::elf::{
+use linker_elf::elf::{
     Architecture, Operands, RelocationInstruction, RelocationKind, RelocationKindInfo,
     RelocationSize, RiscVInstruction, Row,
 };
-use linker_utils::x86_64::X86_64Relocation;
+use linker_elf::x86_64::X86_64Relocation;
 
 /// Why a relocation has no value.
 #[derive(Clone, Copy)]

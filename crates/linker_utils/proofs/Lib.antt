@@ -3,7 +3,6 @@ pub mod AArch64Choices
 pub mod AArch64Moves
 pub mod AArch64Rewrites
 pub mod CallSites
-pub mod Handles
 pub mod Jumps
 pub mod LoongArchAlike
 pub mod LoongArchChoices
@@ -12,7 +11,6 @@ pub mod Packed
 pub mod Ppc64Alike
 pub mod Ppc64Choices
 pub mod Ppc64Rewrites
-pub mod RelocationNames
 pub mod RewriteRows
 pub mod RiscVAlike
 pub mod RiscVChoices

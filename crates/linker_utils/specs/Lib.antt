@@ -1,16 +1,12 @@
 pub mod AArch64Rewrites
-pub mod Architectures
-pub mod Handles
 pub mod Inner
 pub mod LoongArchRewrites
-pub mod Machines
 pub mod Packing
 pub mod Ppc64Rewrites
+pub mod Relaxations
 pub mod RiscVCalls
 pub mod RiscVRewrites
 pub mod Shrinking
-pub mod Uleb128
-pub mod WriteErrors
 pub mod X86RelocationsAfter
 pub mod X86Rewrites
 -- the definitions that public contracts of the crates below cite
@@ -34,14 +30,17 @@ pub use Rattle.linker_elf.specs.AArch64Relocations
 pub use Rattle.linker_elf.specs.Agrees
 pub use Rattle.linker_elf.specs.Applied
 pub use Rattle.linker_elf.specs.AppliedRows
+pub use Rattle.linker_elf.specs.Architectures
 pub use Rattle.linker_elf.specs.Bounds
 pub use Rattle.linker_elf.specs.Choices
 pub use Rattle.linker_elf.specs.Elf
 pub use Rattle.linker_elf.specs.ElfNames
 pub use Rattle.linker_elf.specs.Entries
 pub use Rattle.linker_elf.specs.Forms
+pub use Rattle.linker_elf.specs.Handles
 pub use Rattle.linker_elf.specs.LoongArch
 pub use Rattle.linker_elf.specs.LoongArchRelocations
+pub use Rattle.linker_elf.specs.Machines
 pub use Rattle.linker_elf.specs.Numbers
 pub use Rattle.linker_elf.specs.Originals
 pub use Rattle.linker_elf.specs.Ppc64
@@ -52,7 +51,9 @@ pub use Rattle.linker_elf.specs.Relocate
 pub use Rattle.linker_elf.specs.RiscV
 pub use Rattle.linker_elf.specs.RiscVRelocations
 pub use Rattle.linker_elf.specs.Rows
+pub use Rattle.linker_elf.specs.Uleb128
 pub use Rattle.linker_elf.specs.Value
+pub use Rattle.linker_elf.specs.WriteErrors
 pub use Rattle.linker_elf.specs.X86Relocations
 -- the types whose values these definitions and contracts name
 pub use Rattle.linker_base.specs.declared.bit_misc.BitRange
@@ -68,6 +69,8 @@ pub use Rattle.linker_elf.specs.declared.elf.RelocationKindInfo
 pub use Rattle.linker_elf.specs.declared.elf.RelocationSize
 pub use Rattle.linker_elf.specs.declared.elf.Sign
 pub use Rattle.linker_elf.specs.declared.elf.value.Operands
+pub use Rattle.linker_elf.specs.declared.elf.architecture.Architecture
+pub use Rattle.linker_elf.specs.declared.elf.architecture.Uleb128PairError
 pub use Rattle.linker_elf.specs.declared.aarch64.forms.AArch64Instruction
 pub use Rattle.linker_elf.specs.declared.loongarch64.forms.LoongArch64Instruction
 pub use Rattle.linker_elf.specs.declared.ppc64.forms.Ppc64Instruction

@@ -1,44 +1,27 @@
-//! What the codes and numbers of an ELF file's architecture name: relocations by `r_type`, and
-//! forms and rewrites by their places in their enums.
+//! A rewrite of any architecture, and which one a linker makes at the relocation with a code
+//! (`r_type`).
 
-ghost use Rattle.std.specs.Prelude.{◌≡◌, ◌≤◌, ◌↔◌, ℕ, IsTrue, List};
-ghost use Rattle.std.specs.Prelude.{Option, Some, IfSome, IfNone, length};
+ghost use Rattle.std.specs.Prelude.{◌≡◌, ◌≤◌, ◌↔◌, IsTrue, Some, IfSome, IfNone};
 ghost use Rattle.linker_base.specs.Rewrite.{CanRewrite};
-ghost use Rattle.linker_utils.specs.Architectures.{IsRow, IsElfName, IsRole};
-ghost use Rattle.linker_utils.specs.Architectures.{form_of_number};
-ghost use Rattle.linker_utils.specs.Handles.{IsFound, architecture_in, first_handle};
-ghost use Rattle.linker_utils.specs.Architectures.{rewrite_of_number, relaxation_rewrite};
-ghost use Rattle.linker_utils.specs.Architectures.{relaxation_modifier, relaxation_matches};
-ghost use Rattle.linker_utils.specs.Architectures.{relaxation_architecture, relaxation_deleted};
-ghost use Rattle.linker_utils.specs.Architectures.{relaxation_other, relaxation_no_op};
-ghost use Rattle.linker_utils.specs.Architectures.{relaxation_skipped, IsSkippable};
 ghost use Rattle.linker_base.specs.declared.relaxation.RelocationModifier.TheVariants.{Normal};
 ghost use Rattle.linker_base.specs.declared.relaxation.RelocationModifier.TheVariants.{SkipNextRelocation};
 ghost use Rattle.linker_utils.specs.Inner.NoOps.{relaxation_stays};
-ghost use Rattle.linker_utils.specs.Architectures.{IsArchitectureChoice, IsFit};
-ghost use Rattle.linker_base.specs.Uleb.{Uleb};
-ghost use Rattle.linker_elf.specs.AppliedRows.{IsAppliedIfKnown};
-ghost use Rattle.linker_elf.specs.ElfNames.{named, unnamed};
-ghost use Rattle.linker_elf.specs.Entries.{IsAnswerOf, IsGotAnswer, IsPltAnswer};
-ghost use Rattle.linker_elf.specs.declared.elf.RelocationKindInfo.{RelocationKindInfo};
-ghost use Rattle.linker_elf.specs.declared.elf.Uleb128Role.{Uleb128Role};
-ghost use Rattle.linker_utils.specs.Uleb128.{IsNumberWritten, IsPairNumber, IsPairWritten};
-ghost use Rattle.linker_utils.specs.Uleb128.{IsPairOutcome};
+ghost use Rattle.linker_utils.specs.Relaxations.{IsArchitectureChoice, IsFit, IsSkippable};
+ghost use Rattle.linker_utils.specs.Relaxations.{relaxation_architecture, relaxation_deleted};
+ghost use Rattle.linker_utils.specs.Relaxations.{relaxation_modifier, relaxation_matches};
+ghost use Rattle.linker_utils.specs.Relaxations.{relaxation_other, relaxation_no_op};
+ghost use Rattle.linker_utils.specs.Relaxations.{relaxation_skipped};
+ghost use Rattle.linker_utils.specs.Relaxations.{rewrite_of_number, relaxation_rewrite};
 
 use crate::elf::{
-    AArch64Instruction, ApplyError, Architecture, Choice, InstructionRewrite, LinkFacts,
-    LoongArch64Instruction, Operands, OtherRelocation, Ppc64Instruction, RelocationInstruction,
-    RewriteWindow, RiscVInstruction, Row, Uleb128PairError, Uleb128Role, architectures,
+    Architecture, Choice, InstructionRewrite, LinkFacts, OtherRelocation, RewriteWindow,
 };
-use crate::loongarch64::{self, LoongArch64Relocation};
 use crate::ppc64::{self, Ppc64Relocation};
 use crate::relaxation::RelocationModifier;
 use crate::riscv64::{self, DeletedBytes, RiscVRelocation};
 use crate::x86_64::{self, X86_64Relocation};
-use crate::{aarch64, utils};
-
-/// How many handles an architecture has: one for each code below.
-pub const HANDLE_UNIT: u32 = 0x1_0000;
+use crate::{aarch64, loongarch64};
+use linker_elf::elf::architecture::{architectures, by_architecture};
 
 /// A rewrite of one of the architectures.
 #[derive(Debug, Clone, Copy, PartialEq, Eq)]
@@ -65,27 +48,6 @@ macro_rules! of_kind {
     };
 }
 
-/// What a macro makes of an architecture's variant, of its module, of the enum of its relocations,
-/// and of what it is given.
-#[macro_export]
-macro_rules! by_architecture {
-    (
-        ($architecture:expr, $make:ident $given:tt)
-        $($of:ident $module:ident $names:ident $handles:literal,)*
-    ) => {
-        match $architecture {
-            $(Architecture::$of => $make!($of $module $names $given),)*
-        }
-    };
-    ($architecture:expr, $($made:tt)+) => {
-        $crate::elf::architectures!(
-            [$crate::architecture::by_architecture] ($architecture, $($made)+)
-        )
-    };
-}
-
-pub use by_architecture;
-
 macro_rules! chosen {
     ($of:ident $module:ident $names:ident
         ($code:expr, $section:expr, $offset:expr, $facts:expr)) => {{
@@ -98,21 +60,6 @@ macro_rules! chosen {
     }};
 }
 
-macro_rules! row_of {
-    ($of:ident $module:ident $names:ident ($code:expr)) => {
-        crate::$module::row(crate::$module::$names::from_elf($code))
-    };
-}
-
-macro_rules! text_of {
-    ($of:ident $module:ident $names:ident ($code:expr)) => {
-        match crate::$module::$names::from_elf($code) {
-            crate::$module::$names::Other(_) => None,
-            name => Some(name.name()),
-        }
-    };
-}
-
 macro_rules! rewrite_of {
     (X86_64 $module:ident $names:ident ($number:expr, $opcode_len:expr)) => {
         crate::$module::RelaxationKind::from_number($number, $opcode_len).map(Relaxation::X86_64)
@@ -122,28 +69,21 @@ macro_rules! rewrite_of {
     };
 }
 
-/// The first of an architecture's handles.
-macro_rules! first_of {
-    (($architecture:expr) $($of:ident $module:ident $names:ident $handles:literal,)*) => {
-        match $architecture {
-            $(Architecture::$of => $handles * HANDLE_UNIT,)*
-        }
-    };
-}
-
-/// The architecture of a handle.
-macro_rules! of_handle {
-    (($handle:expr) $($of:ident $module:ident $names:ident $handles:literal,)*) => {{
-        $(if $handle / HANDLE_UNIT == $handles {
-            return Some(Architecture::$of);
-        })*
-        None
-    }};
-}
-
 impl Relaxation {
-    /// The rewrite's number and its count of bytes before the field, which `Architecture::rewrite`
-    /// takes. The count is 0 except for the rewrites of x86-64 that have one.
+    /// The architecture's rewrite with a number, its place in the enum of its rewrites. None above
+    /// the last. Those of x86-64 that have a number of bytes before the field take `opcode_len`.
+    #[inline(always)]
+    pub fn from_number(
+        architecture: Architecture,
+        number: u32,
+        opcode_len: u8,
+    ) -> Option<Relaxation>
+        ensures { result ≡ rewrite_of_number architecture number opcode_len }
+    {
+        by_architecture!(architecture, rewrite_of(number, opcode_len))
+    }
+
+    /// The rewrite's number and its count of bytes before the field, which `from_number` takes. The count is 0 except for the rewrites of x86-64 that have one.
     #[inline]
     pub fn number(self) -> (u32, u8)
         ensures { rewrite_of_number (relaxation_architecture self) (result.0) (result.1)
@@ -213,10 +153,11 @@ impl Relaxation {
     /// `ppc64` and `x86_64` says. `None` where none is skipped, and for all other architectures.
     ///
     /// Skip the relocation at that offset, and not whichever is the next. For PowerPC64 and x86-64
-    /// it is that of a call: the rewrite needs one there whose type `Architecture::may_be_skipped`
+    /// it is that of a call: the rewrite needs one there whose type `may_be_skipped`
     /// and whose symbol is `__tls_get_addr`, which a linker tests before it sets `group_fits`.
     ///
     /// ```
+    /// use linker_utils::architecture::{choose, may_be_skipped};
     /// use linker_utils::elf::{Architecture, LinkFacts, Operands};
     ///
     /// // lea x@tlsld(%rip), %rdi; call __tls_get_addr@PLT, with R_X86_64_TLSLD and R_X86_64_PLT32
@@ -227,9 +168,9 @@ impl Relaxation {
     ///     operands: Operands { addend: -4, ..Operands::default() },
     ///     ..LinkFacts::default()
     /// };
-    /// let chosen = Architecture::X86_64.choose(20, &sequence, 3, &facts);
+    /// let chosen = choose(Architecture::X86_64, 20, &sequence, 3, &facts);
     /// assert_eq!(chosen.kind.skipped_offset(), Some(5));
-    /// assert!(Architecture::X86_64.may_be_skipped(4));
+    /// assert!(may_be_skipped(Architecture::X86_64, 4));
     /// ```
     #[inline]
     pub fn skipped_offset(self) -> Option<u64>
@@ -282,360 +223,93 @@ impl InstructionRewrite for Relaxation {
     }
 }
 
-impl Architecture {
-    /// Which rewrite a linker makes at the relocation with a code, `r_type` in ELF files, and the
-    /// code of the relocation after it, as `choose` of `aarch64`, `riscv64`, `loongarch64`, `ppc64`
-    /// and `x86_64` says.
-    ///
-    /// ```
-    /// use linker_utils::architecture::Relaxation;
-    /// use linker_utils::elf::{Architecture, LinkFacts, Operands};
-    /// use linker_utils::x86_64::RelaxationKind;
-    ///
-    /// // call *x@GOTPCREL(%rip), with R_X86_64_GOTPCRELX
-    /// let call = [0xff, 0x15, 0, 0, 0, 0];
-    /// let facts = LinkFacts {
-    ///     is_local: true,
-    ///     is_pcrel_link_time_constant: true,
-    ///     operands: Operands { addend: -4, ..Operands::default() },
-    ///     ..LinkFacts::default()
-    /// };
-    /// let chosen = Architecture::X86_64.choose(41, &call, 2, &facts);
-    /// assert_eq!(chosen.kind, Relaxation::X86_64(RelaxationKind::CallIndirectToRelative));
-    /// assert_eq!(Architecture::X86_64.name(chosen.relocation), Some("R_X86_64_PC32"));
-    /// ```
-    pub fn choose(
-        self,
-        code: u32,
-        section: &[u8],
-        offset: u64,
-        facts: &LinkFacts,
-    ) -> Choice<Relaxation, u32>
-        ensures chosen { IsArchitectureChoice self code section.now offset facts.now result }
-        ensures own { relaxation_architecture result.kind ≡ self }
-        ensures matches { relaxation_matches result.kind section.now offset }
-        ensures rewritable { CanRewrite (relaxation_rewrite result.kind) section.now offset }
-    {
-        by_architecture!(self, chosen(code, section, offset, facts))
-    }
-
-    /// Whether the relocation with a code, `r_type` in ELF files, can be rewritten if each other
-    /// one of its sequence can: whether `choose` changes something with `group_fits`. A linker
-    /// calls it for each relocation of the sequence before it chooses, with the facts that it
-    /// chooses by, and sets `group_fits` for all of them if all fit, as `fits` of `aarch64`,
-    /// `riscv64`, `loongarch64`, `ppc64` and `x86_64` says.
-    ///
-    /// ```
-    /// use linker_utils::elf::{Architecture, LinkFacts};
-    ///
-    /// // ld 9,x@got@tprel@l(9), with R_PPC64_GOT_TPREL16_LO_DS, in an executable that defines x
-    /// let facts = LinkFacts { is_local: true, is_executable: true, ..LinkFacts::default() };
-    /// assert!(Architecture::Ppc64.fits(88, &0xe929_0000_u32.to_le_bytes(), 0, &facts));
-    /// // lwz 9,x@got@tprel@l(9), which is none of its instructions
-    /// assert!(!Architecture::Ppc64.fits(88, &0x8129_0000_u32.to_le_bytes(), 0, &facts));
-    /// ```
-    pub fn fits(self, code: u32, section: &[u8], offset: u64, facts: &LinkFacts) -> bool
-        ensures { IsFit self code section.now offset facts.now result }
-    {
-        let facts = LinkFacts {
-            group_fits: true,
-            ..*facts
-        };
-        !self
-            .choose(code, section, offset, &facts)
-            .is_unchanged(code)
-    }
-
-    /// What the relocation with a code, `r_type` in ELF files, means. None of a code without a
-    /// name, and of names without a row.
-    ///
-    /// ```
-    /// use linker_utils::elf::Architecture;
-    ///
-    /// let call26 = Architecture::AArch64.row(283).unwrap();
-    /// assert_eq!(call26.info().alignment, 4);
-    /// ```
-    #[inline(always)]
-    pub fn row(self, code: u32) -> Option<Row>
-        ensures { IsRow self code result }
-    {
-        by_architecture!(self, row_of(code))
-    }
-
-    /// Computes the value of the relocation with a code and writes it, as `Row::apply` does. None of
-    /// a code without a row, and nothing is written.
-    ///
-    /// ```
-    /// use linker_utils::elf::{Architecture, Operands};
-    ///
-    /// // bl, with R_AARCH64_CALL26, at 0x401000 for a function at 0x402000
-    /// let mut bl = [0x00, 0x00, 0x00, 0x94];
-    /// let operands = Operands::new(0x402000, 0, 0x401000);
-    /// assert_eq!(Architecture::AArch64.apply(283, &operands, &mut bl), Some(Ok(())));
-    /// assert_eq!(bl, [0x00, 0x04, 0x00, 0x94]);
-    /// ```
-    #[inline(always)]
-    pub fn apply(
-        self,
-        code: u32,
-        operands: &Operands,
-        dest: &mut [u8],
-    ) -> Option<Result<(), ApplyError>>
-        ensures { (row : Option RelocationKindInfo) × IsRow self code row
-            × IsAppliedIfKnown row operands.now dest.old dest.new result }
-    {
-        match self.row(code) {
-            Some(row) => Some(row.apply(operands, dest)),
-            None => None,
-        }
-    }
-
-    /// The handle of the relocation with a code: a number that names both, by which the library
-    /// for C looks it up. 0 of a code without a row.
-    ///
-    /// ```
-    /// use linker_utils::architecture::HANDLE_UNIT;
-    /// use linker_utils::elf::Architecture;
-    ///
-    /// // R_AARCH64_CALL26
-    /// let handle = Architecture::AArch64.handle(283);
-    /// assert_eq!(Architecture::of_handle(handle), Some(Architecture::AArch64));
-    /// assert_eq!(handle % HANDLE_UNIT, 283);
-    /// assert_eq!(Architecture::X86_64.handle(5), 0);
-    /// ```
-    pub fn handle(self, code: u32) -> u32
-        ensures { (meaning : Option RelocationKindInfo) × IsRow self code meaning
-            × IsFound self code meaning result }
-    {
-        match self.row(code) {
-            // codes with a row are below the unit
-            Some(_) => self.first_handle() + code % HANDLE_UNIT,
-            None => 0,
-        }
-    }
-
-    #[inline(always)]
-    fn first_handle(self) -> u32
-        ensures { result ≡ first_handle self }
-    {
-        architectures!([first_of](self))
-    }
-
-    /// The architecture of a handle, whose code is the rest by `HANDLE_UNIT`. None of a number that
-    /// is no handle.
-    #[inline(always)]
-    pub fn of_handle(handle: u32) -> Option<Architecture>
-        ensures { result ≡ architecture_in handle }
-    {
-        // without this test the others become a jump by the quotient, which takes more instructions
-        if handle < HANDLE_UNIT {
-            return None;
-        }
-        architectures!([of_handle](handle))
-    }
-
-    /// The name of a relocation in its psABI, as "R_AARCH64_CALL26", of at most 39 bytes. None of a
-    /// code without a name.
-    pub fn name(self, code: u32) -> Option<&'static str>
-        ensures known { IfSome result (λ text. IsElfName self code (named code text.now)) }
-        ensures short { IfSome result (λ text. length text.now ≤ 39) }
-        ensures unknown { IfNone result (IsElfName self code (unnamed code)) }
-    {
-        by_architecture!(self, text_of(code))
-    }
-
-    /// Whether the relocation with a code requires a GOT entry, as
-    /// `Row::asks_for_got` says. False of a code without a row.
-    ///
-    /// ```
-    /// use linker_utils::elf::Architecture;
-    ///
-    /// // R_X86_64_GOTPCREL, and R_X86_64_GOTPC32, which only counts from the GOT's address
-    /// assert!(Architecture::X86_64.asks_for_got(9));
-    /// assert!(!Architecture::X86_64.asks_for_got(26));
-    /// ```
-    pub fn asks_for_got(self, code: u32) -> bool
-        ensures { (meaning : Option RelocationKindInfo) × IsRow self code meaning
-            × IsAnswerOf IsGotAnswer meaning result }
-    {
-        match self.row(code) {
-            Some(row) => row.asks_for_got(),
-            None => false,
-        }
-    }
-
-    /// Whether an entry of the PLT may serve as the target of the relocation with a code, as
-    /// `Row::may_use_plt` says. False of a code without a row.
-    ///
-    /// ```
-    /// use linker_utils::elf::Architecture;
-    ///
-    /// // R_AARCH64_CALL26, and R_AARCH64_ABS64
-    /// assert!(Architecture::AArch64.may_use_plt(283));
-    /// assert!(!Architecture::AArch64.may_use_plt(257));
-    /// ```
-    pub fn may_use_plt(self, code: u32) -> bool
-        ensures { (meaning : Option RelocationKindInfo) × IsRow self code meaning
-            × IsAnswerOf IsPltAnswer meaning result }
-    {
-        match self.row(code) {
-            Some(row) => row.may_use_plt(),
-            None => false,
-        }
-    }
-
-    /// Whether the relocation with a code has a type that one skipped after a rewrite has, where
-    /// `skipped_offset` says: of a call of `__tls_get_addr`, and of RISC-V `R_RISCV_RELAX`. False
-    /// of architectures whose rewrites skip none.
-    ///
-    /// ```
-    /// use linker_utils::elf::Architecture;
-    ///
-    /// // R_X86_64_PLT32, and R_X86_64_64
-    /// assert!(Architecture::X86_64.may_be_skipped(4));
-    /// assert!(!Architecture::X86_64.may_be_skipped(1));
-    /// ```
-    pub fn may_be_skipped(self, code: u32) -> bool
-        ensures { IsSkippable self code result }
-    {
-        match self {
-            Architecture::RiscV => riscv64::may_be_skipped(RiscVRelocation::from_elf(code)),
-            Architecture::Ppc64 => ppc64::may_be_skipped(Ppc64Relocation::from_elf(code)),
-            Architecture::X86_64 => x86_64::may_be_skipped(X86_64Relocation::from_elf(code)),
-            _ => false,
-        }
-    }
-
-    /// What a relocation of a ULEB128 number does; `None` for all others. There are two of them at
-    /// one number: `write_uleb128_pair` writes what both make of it.
-    pub fn uleb128_role(self, code: u32) -> Option<Uleb128Role>
-        ensures { IsRole self code result }
-    {
-        match self {
-            Architecture::RiscV => RiscVRelocation::from_elf(code).uleb128_role(),
-            Architecture::LoongArch64 => LoongArch64Relocation::from_elf(code).uleb128_role(),
-            _ => None,
-        }
-    }
-
-    /// Writes what two relocations make of the ULEB128 number that `dest` begins with, in as many
-    /// bytes: `code` is that of the first, and `first` and `second` are their values, S + A. With
-    /// `R_RISCV_SET_ULEB128` and `R_RISCV_SUB_ULEB128` it is the difference of both, and with
-    /// `R_LARCH_ADD_ULEB128` and `R_LARCH_SUB_ULEB128` the existing number plus that, modulo 2^64.
-    /// Bytes after the number are unchanged, and it is padded as `utils::write_uleb128` does.
-    ///
-    /// ```
-    /// use linker_utils::elf::Architecture;
-    ///
-    /// // .uleb128 end - start, of three bytes, with R_RISCV_SET_ULEB128 and R_RISCV_SUB_ULEB128
-    /// let mut bytes = [0x80, 0x80, 0x00, 0x07];
-    /// Architecture::RiscV.write_uleb128_pair(60, &mut bytes, 0x1234, 0x1000).unwrap();
-    /// assert_eq!(bytes, [0xb4, 0x84, 0x00, 0x07]);
-    /// ```
-    ///
-    /// # Errors
-    ///
-    /// `NotFirst` if the relocation with the code is neither of those that set or add. Else
-    /// `Number` with the error of `utils::write_uleb128`: a difference below 0 is one of 64 bits,
-    /// which fits ten bytes alone. Nothing is written then.
-    pub fn write_uleb128_pair(
-        self,
-        code: u32,
-        dest: &mut [u8],
-        first: u64,
-        second: u64,
-    ) -> Result<(), Uleb128PairError>
-        ensures { (role : Option Uleb128Role) × IsRole self code role
-            × IsPairOutcome role dest.old first second dest.new result }
-    {
-        write_pair(self.uleb128_role(code), dest, first, second)
-    }
-
-    /// The form with a number, its place in the enum of its architecture's forms. None above the
-    /// last, and of x86-64, whose fields are whole bytes.
-    #[inline(always)]
-    pub fn form(self, number: u32) -> Option<RelocationInstruction>
-        ensures { result ≡ form_of_number self number }
-    {
-        match self {
-            Architecture::AArch64 => {
-                AArch64Instruction::from_number(number).map(RelocationInstruction::AArch64)
-            }
-            Architecture::RiscV => {
-                RiscVInstruction::from_number(number).map(RelocationInstruction::RiscV)
-            }
-            Architecture::LoongArch64 => {
-                LoongArch64Instruction::from_number(number).map(RelocationInstruction::LoongArch64)
-            }
-            Architecture::Ppc64 => {
-                Ppc64Instruction::from_number(number).map(RelocationInstruction::Ppc64)
-            }
-            Architecture::X86_64 => None,
-        }
-    }
-
-    /// The rewrite with a number, its place in the enum of its architecture's rewrites. None above
-    /// the last. Those of x86-64 that have a number of bytes before the field take `opcode_len`.
-    #[inline(always)]
-    pub fn rewrite(self, number: u32, opcode_len: u8) -> Option<Relaxation>
-        ensures { result ≡ rewrite_of_number self number opcode_len }
-    {
-        by_architecture!(self, rewrite_of(number, opcode_len))
-    }
+/// Which rewrite a linker makes at the relocation with a code, `r_type` in ELF files, and the
+/// code of the relocation after it, as `choose` of `aarch64`, `riscv64`, `loongarch64`, `ppc64`
+/// and `x86_64` says.
+///
+/// ```
+/// use linker_utils::architecture::{Relaxation, choose};
+/// use linker_utils::elf::{Architecture, LinkFacts, Operands};
+/// use linker_utils::x86_64::RelaxationKind;
+///
+/// // call *x@GOTPCREL(%rip), with R_X86_64_GOTPCRELX
+/// let call = [0xff, 0x15, 0, 0, 0, 0];
+/// let facts = LinkFacts {
+///     is_local: true,
+///     is_pcrel_link_time_constant: true,
+///     operands: Operands { addend: -4, ..Operands::default() },
+///     ..LinkFacts::default()
+/// };
+/// let chosen = choose(Architecture::X86_64, 41, &call, 2, &facts);
+/// assert_eq!(chosen.kind, Relaxation::X86_64(RelaxationKind::CallIndirectToRelative));
+/// assert_eq!(Architecture::X86_64.name(chosen.relocation), Some("R_X86_64_PC32"));
+/// ```
+pub fn choose(
+    architecture: Architecture,
+    code: u32,
+    section: &[u8],
+    offset: u64,
+    facts: &LinkFacts,
+) -> Choice<Relaxation, u32>
+    ensures chosen { IsArchitectureChoice architecture code section.now offset facts.now result }
+    ensures own { relaxation_architecture result.kind ≡ architecture }
+    ensures matches { relaxation_matches result.kind section.now offset }
+    ensures rewritable { CanRewrite (relaxation_rewrite result.kind) section.now offset }
+{
+    by_architecture!(architecture, chosen(code, section, offset, facts))
 }
 
-/// The ULEB128 number that bytes begin with; 0 if they begin with none.
-fn number_or_zero(bytes: &[u8]) -> u64
-    ensures { (n : ℕ) (rest : List ℕ) → Uleb bytes.now n rest → result ≡ n }
+/// Whether the relocation with a code, `r_type` in ELF files, can be rewritten if each other
+/// one of its sequence can: whether `choose` changes something with `group_fits`. A linker
+/// calls it for each relocation of the sequence before it chooses, with the facts that it
+/// chooses by, and sets `group_fits` for all of them if all fit, as `fits` of `aarch64`,
+/// `riscv64`, `loongarch64`, `ppc64` and `x86_64` says.
+///
+/// ```
+/// use linker_utils::architecture::fits;
+/// use linker_utils::elf::{Architecture, LinkFacts};
+///
+/// // ld 9,x@got@tprel@l(9), with R_PPC64_GOT_TPREL16_LO_DS, in an executable that defines x
+/// let facts = LinkFacts { is_local: true, is_executable: true, ..LinkFacts::default() };
+/// assert!(fits(Architecture::Ppc64, 88, &0xe929_0000_u32.to_le_bytes(), 0, &facts));
+/// // lwz 9,x@got@tprel@l(9), which is none of its instructions
+/// assert!(!fits(Architecture::Ppc64, 88, &0x8129_0000_u32.to_le_bytes(), 0, &facts));
+/// ```
+pub fn fits(
+    architecture: Architecture,
+    code: u32,
+    section: &[u8],
+    offset: u64,
+    facts: &LinkFacts,
+) -> bool
+    ensures { IsFit architecture code section.now offset facts.now result }
 {
-    let mut content = bytes;
-    utils::read_uleb128(&mut content).unwrap_or(0)
+    let facts = LinkFacts {
+        group_fits: true,
+        ..*facts
+    };
+    !choose(architecture, code, section, offset, &facts).is_unchanged(code)
 }
 
-/// The number that the values of a pair make of the existing one, by the role
-/// of its first relocation.
-fn pair_number(role: Uleb128Role, bytes: &[u8], first: u64, second: u64) -> u64
-    ensures { IsPairNumber role bytes.now first second result }
+/// Whether the relocation with a code has a type that one skipped after a rewrite has, where
+/// `skipped_offset` says: of a call of `__tls_get_addr`, and of RISC-V `R_RISCV_RELAX`. False
+/// of architectures whose rewrites skip none.
+///
+/// ```
+/// use linker_utils::architecture::may_be_skipped;
+/// use linker_utils::elf::Architecture;
+///
+/// // R_X86_64_PLT32, and R_X86_64_64
+/// assert!(may_be_skipped(Architecture::X86_64, 4));
+/// assert!(!may_be_skipped(Architecture::X86_64, 1));
+/// ```
+pub fn may_be_skipped(architecture: Architecture, code: u32) -> bool
+    ensures { IsSkippable architecture code result }
 {
-    let difference = first.wrapping_sub(second);
-    match role {
-        Uleb128Role::Adds => number_or_zero(bytes).wrapping_add(difference),
-        _ => difference,
+    match architecture {
+        Architecture::RiscV => riscv64::may_be_skipped(RiscVRelocation::from_elf(code)),
+        Architecture::Ppc64 => ppc64::may_be_skipped(Ppc64Relocation::from_elf(code)),
+        Architecture::X86_64 => x86_64::may_be_skipped(X86_64Relocation::from_elf(code)),
+        _ => false,
     }
-}
-
-/// Writes that number.
-fn write_pair_number(
-    role: Uleb128Role,
-    dest: &mut [u8],
-    first: u64,
-    second: u64,
-) -> Result<(), Uleb128PairError>
-    ensures { IsPairWritten role dest.old first second dest.new result }
-{
-    let number = pair_number(role, dest, first, second);
-    write_number(number, dest)
-}
-
-/// Writes it if the role is one of a first relocation.
-fn write_pair(
-    role: Option<Uleb128Role>,
-    dest: &mut [u8],
-    first: u64,
-    second: u64,
-) -> Result<(), Uleb128PairError>
-    ensures { IsPairOutcome role dest.old first second dest.new result }
-{
-    match role {
-        Some(Uleb128Role::Sets) => write_pair_number(Uleb128Role::Sets, dest, first, second),
-        Some(Uleb128Role::Adds) => write_pair_number(Uleb128Role::Adds, dest, first, second),
-        _ => Err(Uleb128PairError::NotFirst),
-    }
-}
-
-/// Writes a number over the ULEB128 number that `dest` begins with.
-fn write_number(number: u64, dest: &mut [u8]) -> Result<(), Uleb128PairError>
-    ensures { IsNumberWritten number dest.old dest.new result }
-{
-    utils::write_uleb128(dest, number).map_err(Uleb128PairError::Number)
 }

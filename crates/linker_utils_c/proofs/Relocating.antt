@@ -1,7 +1,7 @@
 -- A write's outcome, and relocations one after the other.
 use Rattle.std.proofs.Common.{ℕ, List, [], ◌∷◌, ◌++◌, refl, sym, ℤ, Result, Ok, Err, OnOk, IfErr}
 use Rattle.linker_elf.specs.Relocate.{WritesRow, RejectsValue}
-use Rattle.linker_utils.specs.declared.elf.Architecture.{Architecture}
+use Rattle.linker_elf.specs.declared.elf.architecture.Architecture.{Architecture}
 use Rattle.linker_elf.specs.declared.elf.RelocationKindInfo.{RelocationKindInfo}
 use Rattle.linker_elf.specs.declared.elf.relocate.RelocateError.{RelocateError}
 use Rattle.linker_utils_c.specs.Relocate.{IsOutcome, IsApplied, AreRelocated}

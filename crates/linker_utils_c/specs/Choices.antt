@@ -1,11 +1,11 @@
 -- What a linker knows, and what it chooses, in the numbers that C sees.
 use Rattle.std.specs.Prelude.{◌≡◌, ℕ, ◌==◌, not, Option, None, Some, Bool, pos, Result, Ok, Err}
-use Rattle.linker_utils.specs.Architectures.{rewrite_of_number, relaxation_modifier}
-use Rattle.linker_utils.specs.Architectures.{relaxation_no_op}
-use Rattle.linker_utils.specs.Architectures.{relaxation_deleted, relaxation_other}
-use Rattle.linker_utils.specs.Architectures.{relaxation_skipped}
+use Rattle.linker_utils.specs.Relaxations.{rewrite_of_number, relaxation_modifier}
+use Rattle.linker_utils.specs.Relaxations.{relaxation_no_op}
+use Rattle.linker_utils.specs.Relaxations.{relaxation_deleted, relaxation_other}
+use Rattle.linker_utils.specs.Relaxations.{relaxation_skipped}
 use Rattle.linker_utils.specs.declared.architecture.Relaxation.{Relaxation}
-use Rattle.linker_utils.specs.declared.elf.Architecture.{Architecture}
+use Rattle.linker_elf.specs.declared.elf.architecture.Architecture.{Architecture}
 use Rattle.linker_elf.specs.declared.elf.choice.Choice.{Choice}
 use Rattle.linker_elf.specs.declared.elf.choice.LinkFacts.{LinkFacts}
 use Rattle.linker_elf.specs.declared.elf.choice.OtherRelocation.{OtherRelocation}

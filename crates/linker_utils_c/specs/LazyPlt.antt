@@ -4,7 +4,7 @@ use Rattle.linker_output.specs.LazyPlt.{PltCode, capped_len, WritesCode, Rejects
 use Rattle.linker_output.specs.declared.lazy_plt.LazyEntry.{LazyEntry}
 use Rattle.linker_output.specs.declared.lazy_plt.LazyPiece.{LazyPiece}
 use Rattle.linker_output.specs.declared.stubs.StubError.{StubError}
-use Rattle.linker_utils.specs.declared.elf.Architecture.{Architecture}
+use Rattle.linker_elf.specs.declared.elf.architecture.Architecture.{Architecture}
 use Rattle.linker_utils_c.specs.Output.{stub_status}
 use Rattle.linker_utils_c.specs.Status.{code}
 use Rattle.linker_utils_c.specs.declared.lazy_plt.LazyPltNumbers.{LazyPltNumbers}

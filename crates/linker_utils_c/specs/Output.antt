@@ -18,7 +18,7 @@ use Rattle.linker_section.specs.declared.needed.EntryClass.{EntryClass}
 use Rattle.linker_section.specs.declared.needed.EntryClass.TheVariants.{Address, ThreadOffset}
 use Rattle.linker_section.specs.declared.needed.EntryClass.TheVariants.{ModuleOffset, Module}
 use Rattle.linker_section.specs.declared.needed.EntryClass.TheVariants.{Descriptor}
-use Rattle.linker_utils.specs.declared.elf.Architecture.{Architecture}
+use Rattle.linker_elf.specs.declared.elf.architecture.Architecture.{Architecture}
 use Rattle.linker_utils_c.specs.Relocate.{write_status}
 use Rattle.linker_utils_c.specs.Relocations.{IsCopied}
 use Rattle.linker_utils_c.specs.Status.{code}

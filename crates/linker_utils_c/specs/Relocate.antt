@@ -4,14 +4,14 @@ use Rattle.std.specs.Prelude.{slice_index_or, Option, None, Some, Result, Ok, Er
 use Rattle.linker_base.specs.Uleb.{IsUlebWritten, IsUlebCause}
 use Rattle.linker_base.specs.declared.utils.Uleb128Error.{Uleb128Error}
 use Rattle.linker_base.specs.declared.utils.Uleb128Error.TheVariants as uleb_errors
-use Rattle.linker_utils.specs.Architectures.{IsRow}
+use Rattle.linker_elf.specs.Architectures.{IsRow}
 use Rattle.linker_elf.specs.Reach.{reach_of}
 use Rattle.linker_elf.specs.Relocate.{WritesRow, RejectsValue}
 use Rattle.linker_elf.specs.Value.{value_given}
-use Rattle.linker_utils.specs.Uleb128.{IsPairOutcome}
-use Rattle.linker_utils.specs.declared.elf.Architecture.{Architecture}
-use Rattle.linker_utils.specs.declared.elf.Uleb128PairError.{Uleb128PairError}
-use Rattle.linker_utils.specs.declared.elf.Uleb128PairError.TheVariants as pair_errors
+use Rattle.linker_elf.specs.Uleb128.{IsPairOutcome}
+use Rattle.linker_elf.specs.declared.elf.architecture.Architecture.{Architecture}
+use Rattle.linker_elf.specs.declared.elf.architecture.Uleb128PairError.{Uleb128PairError}
+use Rattle.linker_elf.specs.declared.elf.architecture.Uleb128PairError.TheVariants as pair_errors
 use Rattle.linker_elf.specs.declared.elf.RelocationKindInfo.{RelocationKindInfo}
 use Rattle.linker_elf.specs.declared.elf.Uleb128Role.{Uleb128Role}
 use Rattle.linker_elf.specs.declared.elf.Uleb128Role.TheVariants as roles

@@ -5,10 +5,10 @@ use Rattle.linker_base.specs.Rewrite.{Rewrite, CanRewrite, rewritten, offset_aft
 use Rattle.linker_base.specs.declared.relaxation.RelocationModifier.{RelocationModifier}
 use Rattle.linker_base.specs.declared.relaxation.RelocationModifier.TheVariants.{Normal}
 use Rattle.linker_base.specs.declared.relaxation.RelocationModifier.TheVariants.{SkipNextRelocation}
-use Rattle.linker_utils.specs.Architectures.{rewrite_of_number, relaxation_matches}
-use Rattle.linker_utils.specs.Machines.{architecture_of}
+use Rattle.linker_utils.specs.Relaxations.{rewrite_of_number, relaxation_matches}
+use Rattle.linker_elf.specs.Machines.{architecture_of}
 use Rattle.linker_utils.specs.declared.architecture.Relaxation.{Relaxation}
-use Rattle.linker_utils.specs.declared.elf.Architecture.{Architecture}
+use Rattle.linker_elf.specs.declared.elf.architecture.Architecture.{Architecture}
 use Rattle.linker_utils_c.specs.declared.status.Status.{Status}
 use Rattle.linker_utils_c.specs.declared.status.Status.TheVariants.{Success, UnknownArchitecture}
 use Rattle.linker_utils_c.specs.declared.status.Status.TheVariants.{UnknownRewrite, CannotApply}

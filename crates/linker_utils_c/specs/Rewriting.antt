@@ -19,10 +19,10 @@ use Rattle.linker_rewriting.specs.declared.groups.UnrelaxableGroups.{Unrelaxable
 use Rattle.linker_rewriting.specs.declared.phases.Phase.{Phase}
 use Rattle.linker_rewriting.specs.declared.phases.Phase.TheVariants.{PreLayout, TlsLocalExec}
 use Rattle.linker_rewriting.specs.declared.phases.Phase.TheVariants.{GotToPcRel, ShortPcRel}
-use Rattle.linker_utils.specs.Architectures.{rewrite_of_number}
-use Rattle.linker_utils.specs.Machines.{architecture_of}
+use Rattle.linker_utils.specs.Relaxations.{rewrite_of_number}
+use Rattle.linker_elf.specs.Machines.{architecture_of}
 use Rattle.linker_utils.specs.declared.architecture.Relaxation.{Relaxation}
-use Rattle.linker_utils.specs.declared.elf.Architecture.{Architecture}
+use Rattle.linker_elf.specs.declared.elf.architecture.Architecture.{Architecture}
 use Rattle.linker_utils_c.specs.Deltas.{pairs_in}
 use Rattle.linker_utils_c.specs.Status.{code}
 use Rattle.linker_utils_c.specs.declared.deltas.Deletion.{Deletion}

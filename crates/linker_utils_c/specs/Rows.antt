@@ -19,11 +19,12 @@ use Rattle.linker_elf.specs.declared.elf.relocate.ApplyError.TheVariants.{Formul
 use Rattle.linker_elf.specs.declared.elf.value.Operands.{Operands}
 use Rattle.linker_section.specs.Needed.{needs_in}
 use Rattle.linker_section.specs.declared.needed.Requirements.{Requirements}
-use Rattle.linker_utils.specs.Architectures.{IsArchitectureChoice, IsElfName, IsFit, IsRow}
-use Rattle.linker_utils.specs.Handles.{architecture_in, handle_unit}
-use Rattle.linker_utils.specs.Machines.{machine_of}
+use Rattle.linker_elf.specs.Architectures.{IsElfName, IsRow}
+use Rattle.linker_utils.specs.Relaxations.{IsArchitectureChoice, IsFit}
+use Rattle.linker_elf.specs.Handles.{architecture_in, handle_unit}
+use Rattle.linker_elf.specs.Machines.{machine_of}
 use Rattle.linker_utils.specs.declared.architecture.Relaxation.{Relaxation}
-use Rattle.linker_utils.specs.declared.elf.Architecture.{Architecture}
+use Rattle.linker_elf.specs.declared.elf.architecture.Architecture.{Architecture}
 use Rattle.linker_utils_c.specs.Choices.{IsChoiceInNumbers}
 use Rattle.linker_utils_c.specs.Relocate.{AreBounds, value_status, write_status}
 use Rattle.linker_utils_c.specs.Sections.{requirements_in}

@@ -20,7 +20,7 @@ use Rattle.linker_section.specs.declared.sections.RelocationError.TheVariants.{O
 use Rattle.linker_section.specs.declared.sections.SectionError.{SectionError}
 use Rattle.linker_section.specs.declared.values.ValueError.{ValueError}
 use Rattle.linker_section.specs.declared.values.ValueError.TheVariants as value_errors
-use Rattle.linker_utils.specs.declared.elf.Architecture.{Architecture}
+use Rattle.linker_elf.specs.declared.elf.architecture.Architecture.{Architecture}
 use Rattle.linker_utils_c.specs.Relocate.{write_status, uleb_status}
 use Rattle.linker_utils_c.specs.Status.{code}
 use Rattle.linker_utils_c.specs.declared.sections.RequirementNumbers.{RequirementNumbers}

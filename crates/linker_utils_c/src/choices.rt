@@ -1,9 +1,9 @@
 //! Which rewrite a linker chooses, by `e_machine` and `r_type` of ELF files.
 
 ghost use Rattle.std.specs.Prelude.{◌≡◌, ℕ, ◌↔◌, IfSome, IfNone, IsTrue, Some, false};
-ghost use Rattle.linker_utils.specs.Architectures.{IsArchitectureChoice, IsFit};
-ghost use Rattle.linker_utils.specs.Architectures.{relaxation_architecture};
-ghost use Rattle.linker_utils.specs.Machines.{architecture_of};
+ghost use Rattle.linker_utils.specs.Relaxations.{IsArchitectureChoice, IsFit};
+ghost use Rattle.linker_utils.specs.Relaxations.{relaxation_architecture};
+ghost use Rattle.linker_elf.specs.Machines.{architecture_of};
 ghost use Rattle.linker_utils.specs.declared.architecture.Relaxation.{Relaxation};
 ghost use Rattle.linker_elf.specs.declared.elf.choice.Choice.{Choice};
 ghost use Rattle.linker_utils_c.specs.Choices.{facts_of, IsChoiceInNumbers, IsUnchanged};
@@ -12,7 +12,7 @@ ghost use Rattle.linker_utils_c.specs.Status.{code};
 use crate::architectures::by_architecture;
 use crate::rewrites::number_of;
 use crate::status::Status;
-use linker_utils::architecture::Relaxation;
+use linker_utils::architecture::{Relaxation, fits};
 use linker_utils::elf::{Architecture, Choice, InstructionRewrite, LinkFacts, Operands};
 
 /// What a linker knows of a relocation's symbol and of its output: `LinkFacts`. A fact holds where
@@ -196,7 +196,7 @@ pub extern "C" fn linker_utils_relocation_fits_nonnull(
     let Some(architecture) = Architecture::from_machine(machine) else {
         return false;
     };
-    architecture.fits(r_type, section, offset, &facts.facts())
+    fits(architecture, r_type, section, offset, &facts.facts())
 }
 
 /// Whether a choice at the relocation with `r_type` leaves it and its instruction as they are.
@@ -212,7 +212,7 @@ pub extern "C" fn linker_utils_is_unchanged(
     let Some(architecture) = Architecture::from_machine(machine) else {
         return false;
     };
-    let Some(kind) = architecture.rewrite(choice.rewrite, choice.opcode_len) else {
+    let Some(kind) = Relaxation::from_number(architecture, choice.rewrite, choice.opcode_len) else {
         return false;
     };
     let relocation = choice.relocation;

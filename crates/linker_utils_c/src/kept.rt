@@ -2,7 +2,7 @@
 
 ghost use Rattle.std.specs.Prelude.{◌≡◌, ◌≢◌, length, IfSome, IfNone};
 ghost use Rattle.linker_rewriting.specs.Kept.{AreKept};
-ghost use Rattle.linker_utils.specs.Machines.{architecture_of};
+ghost use Rattle.linker_elf.specs.Machines.{architecture_of};
 ghost use Rattle.linker_utils_c.specs.Kept.{IsRewrittenReturned};
 ghost use Rattle.linker_utils_c.specs.Status.{code};
 

@@ -3,7 +3,7 @@
 ghost use Rattle.std.specs.Prelude.{◌≡◌, IfSome, IfNone};
 ghost use Rattle.linker_output.specs.LazyPlt.{view_plt, word_by, word_in, header_places};
 ghost use Rattle.linker_output.specs.LazyPlts.{lazy_plt_of};
-ghost use Rattle.linker_utils.specs.Machines.{architecture_of};
+ghost use Rattle.linker_elf.specs.Machines.{architecture_of};
 ghost use Rattle.linker_utils_c.specs.LazyPlt.{numbers_of, written_status, IsCodeWritten};
 ghost use Rattle.linker_utils_c.specs.Output.{IsFoundWord};
 ghost use Rattle.linker_utils_c.specs.Status.{code};

@@ -11,7 +11,7 @@ ghost use Rattle.linker_output.specs.Got.{origins_of, entry_words, static_words,
 ghost use Rattle.linker_output.specs.Layout.{unit_by, path_of};
 ghost use Rattle.linker_output.specs.Targets.{target_of};
 ghost use Rattle.linker_output.specs.View.{view};
-ghost use Rattle.linker_utils.specs.Machines.{architecture_of};
+ghost use Rattle.linker_elf.specs.Machines.{architecture_of};
 ghost use Rattle.linker_utils_c.specs.Output.{codes_of, class_of, number_or_none, stub_kind_of};
 ghost use Rattle.linker_utils_c.specs.Output.{stub_in};
 ghost use Rattle.linker_utils_c.specs.Output.{place_number, IsTextReturned, IsHeader};

@@ -3,8 +3,8 @@
 
 ghost use Rattle.std.specs.Prelude.{◌≡◌, Option, Some, IfOk, IfErr, IfSome, IfNone};
 ghost use Rattle.linker_elf.specs.declared.elf.RelocationKindInfo.{RelocationKindInfo};
-ghost use Rattle.linker_utils.specs.Architectures.{IsRow};
-ghost use Rattle.linker_utils.specs.Machines.{architecture_of};
+ghost use Rattle.linker_elf.specs.Architectures.{IsRow};
+ghost use Rattle.linker_elf.specs.Machines.{architecture_of};
 ghost use Rattle.linker_utils_c.specs.Reading.{field_of, reference_number, IsValueRead};
 ghost use Rattle.linker_utils_c.specs.Reading.{IsAddress, IsRowSolved, IsValueSolved};
 ghost use Rattle.linker_utils_c.specs.Forms.{named_form};

@@ -3,8 +3,9 @@
 ghost use Rattle.std.specs.Prelude.{◌≡◌, ◌≤◌, IfSome, IfNone, Option, Some, false, length};
 ghost use Rattle.linker_elf.specs.Entries.{IsAnswerOf};
 ghost use Rattle.linker_elf.specs.declared.elf.RelocationKindInfo.{RelocationKindInfo};
-ghost use Rattle.linker_utils.specs.Architectures.{IsRow, rewrite_of_number};
-ghost use Rattle.linker_utils.specs.Machines.{architecture_of};
+ghost use Rattle.linker_elf.specs.Architectures.{IsRow};
+ghost use Rattle.linker_utils.specs.Relaxations.{rewrite_of_number};
+ghost use Rattle.linker_elf.specs.Machines.{architecture_of};
 ghost use Rattle.linker_utils_c.specs.Choices.{facts_of};
 ghost use Rattle.linker_utils_c.specs.Reading.{field_of, reference_number};
 ghost use Rattle.linker_utils_c.specs.Recognising.{AreBitsOf, IsSameness, field_or_none};
@@ -352,7 +353,7 @@ fn put_destination_of(
         destination.old destination.new result }
 {
     let choice = &made.choice;
-    let Some(kind) = architecture.rewrite(choice.rewrite, choice.opcode_len) else {
+    let Some(kind) = Relaxation::from_number(architecture, choice.rewrite, choice.opcode_len) else {
         return Status::UnknownRewrite.number();
     };
     let made = Recognised {

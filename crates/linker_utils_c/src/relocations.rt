@@ -3,14 +3,16 @@
 ghost use Rattle.std.specs.Prelude.{◌≡◌, ◌≢◌, ◌≤◌, Option, IfSome, IfNone, length, false};
 ghost use Rattle.linker_elf.specs.Entries.{IsAnswerOf, IsGotAnswer, IsPltAnswer};
 ghost use Rattle.linker_elf.specs.declared.elf.RelocationKindInfo.{RelocationKindInfo};
-ghost use Rattle.linker_utils.specs.Architectures.{IsRow, IsElfName, IsSkippable};
-ghost use Rattle.linker_utils.specs.Machines.{architecture_of};
+ghost use Rattle.linker_elf.specs.Architectures.{IsRow, IsElfName};
+ghost use Rattle.linker_utils.specs.Relaxations.{IsSkippable};
+ghost use Rattle.linker_elf.specs.Machines.{architecture_of};
 ghost use Rattle.linker_elf.specs.ElfNames.{ElfName};
 ghost use Rattle.linker_elf.specs.RiscVRelocations.{clui_row};
 ghost use Rattle.linker_utils_c.specs.Relocations.{InNumbers, IsReturned, IsNameCopied};
 ghost use Rattle.linker_utils_c.specs.Status.{code};
 
 use crate::status::Status;
+use linker_utils::architecture::may_be_skipped;
 use linker_utils::elf::{Architecture, RelocationNumbers};
 use linker_utils::riscv64;
 
@@ -87,7 +89,7 @@ pub extern "C" fn linker_utils_may_be_skipped(machine: u16, r_type: u32) -> bool
     ensures unknown { IfNone (architecture_of machine) (result ≡ false) }
 {
     match Architecture::from_machine(machine) {
-        Some(architecture) => architecture.may_be_skipped(r_type),
+        Some(architecture) => may_be_skipped(architecture, r_type),
         None => false,
     }
 }

@@ -3,7 +3,7 @@
 ghost use Rattle.std.specs.Prelude.{◌≡◌, ◌≢◌, IfOk, IfErr, IfSome, IfNone, slice_get};
 ghost use Rattle.linker_base.specs.Rewrite.{CanRewrite};
 ghost use Rattle.linker_utils.specs.RiscVRewrites.{riscv_rewrite, riscv_rewrites};
-ghost use Rattle.linker_utils.specs.Architectures.{relaxation_rewrite, relaxation_modifier};
+ghost use Rattle.linker_utils.specs.Relaxations.{relaxation_rewrite, relaxation_modifier};
 ghost use Rattle.linker_utils_c.specs.Rewrites.{named_rewrite, modifier_number, TakesRewrite};
 ghost use Rattle.linker_utils_c.specs.Rewrites.{IsRewritten, MatchesRewrite};
 ghost use Rattle.linker_base.specs.RewriteWindow.{window_of_rewrite};
@@ -11,6 +11,7 @@ ghost use Rattle.linker_utils_c.specs.Status.{code};
 
 use crate::architectures::{by_architecture, known};
 use crate::status::Status;
+use linker_utils::architecture::Relaxation;
 use linker_utils::elf::{Architecture, EM_X86_64, InstructionRewrite, RewriteWindow};
 use linker_utils::relaxation::RelocationModifier;
 use linker_utils::{riscv64, x86_64};
@@ -143,7 +144,7 @@ fn apply_of(
         Architecture::RiscV => apply_riscv(rewrite, section, offset, addend),
         Architecture::X86_64 => apply_x86_64(opcode_len, rewrite, section, addend, offset),
         _ => by_architecture!(architecture, known(of => {
-            apply_by(of.rewrite(rewrite, opcode_len), section, offset, addend).number()
+            apply_by(Relaxation::from_number(of, rewrite, opcode_len), section, offset, addend).number()
         })),
     }
 }
@@ -201,7 +202,7 @@ pub extern "C" fn linker_utils_can_apply_nonnull(
         return Status::UnknownArchitecture.number();
     };
     by_architecture!(architecture, known(of => {
-        test_by(of.rewrite(rewrite, opcode_len), section, offset).number()
+        test_by(Relaxation::from_number(of, rewrite, opcode_len), section, offset).number()
     }))
 }
 
@@ -227,7 +228,7 @@ pub extern "C" fn linker_utils_matches_nonnull(
     let Some(architecture) = Architecture::from_machine(machine) else {
         return Status::UnknownArchitecture.number();
     };
-    let Some(named) = architecture.rewrite(rewrite, opcode_len) else {
+    let Some(named) = Relaxation::from_number(architecture, rewrite, opcode_len) else {
         return Status::UnknownRewrite.number();
     };
     if !named.matches(section, offset) {
@@ -289,7 +290,7 @@ pub extern "C" fn linker_utils_rewrite_window(
     let Some(architecture) = Architecture::from_machine(machine) else {
         return Status::UnknownArchitecture.number();
     };
-    let Some(named) = architecture.rewrite(rewrite, opcode_len) else {
+    let Some(named) = Relaxation::from_number(architecture, rewrite, opcode_len) else {
         return Status::UnknownRewrite.number();
     };
     *window = named.window();
@@ -315,7 +316,7 @@ pub extern "C" fn linker_utils_next_modifier(
     let Some(architecture) = Architecture::from_machine(machine) else {
         return Status::UnknownArchitecture.number();
     };
-    let Some(named) = architecture.rewrite(rewrite, opcode_len) else {
+    let Some(named) = Relaxation::from_number(architecture, rewrite, opcode_len) else {
         return Status::UnknownRewrite.number();
     };
     *modifier = number_of(named.next_modifier());

@@ -8,8 +8,8 @@ ghost use Rattle.linker_rewriting.specs.Facts.{pre_layout, context};
 ghost use Rattle.linker_rewriting.specs.Groups.{has_rewrites};
 ghost use Rattle.linker_rewriting.specs.Surveys.{IsSurveyed, IsSurveyedIn};
 ghost use Rattle.linker_rewriting.specs.TocIndirection.{AreLoadsSurveyed, entry_code};
-ghost use Rattle.linker_utils.specs.Architectures.{relaxation_architecture};
-ghost use Rattle.linker_utils.specs.Machines.{architecture_of, machine_of};
+ghost use Rattle.linker_utils.specs.Relaxations.{relaxation_architecture};
+ghost use Rattle.linker_elf.specs.Machines.{architecture_of, machine_of};
 ghost use Rattle.linker_utils_c.specs.AddressLoads.{AreLoadsReturned};
 ghost use Rattle.linker_utils_c.specs.Rewriting.{phase_of, of_fate, choice_in, subject_in};
 ghost use Rattle.linker_utils_c.specs.Rewriting.{IsRewriteReturned, IsPlacedReturned};
@@ -90,7 +90,7 @@ impl DecisionNumbers {
         ensures { result ≡ choice_in self }
     {
         let architecture = Architecture::from_machine(self.machine)?;
-        let kind = architecture.rewrite(self.rewrite, self.opcode_len)?;
+        let kind = Relaxation::from_number(architecture, self.rewrite, self.opcode_len)?;
         Some(Choice {
             kind,
             relocation: self.relocation,

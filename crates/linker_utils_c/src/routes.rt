@@ -4,7 +4,7 @@ ghost use Rattle.std.specs.Prelude.{◌≡◌, IfSome, IfNone};
 ghost use Rattle.linker_output.specs.Targets.{target_of};
 ghost use Rattle.linker_output.specs.View.{view};
 ghost use Rattle.linker_section.specs.Relocations.{relocation_at};
-ghost use Rattle.linker_utils.specs.Machines.{architecture_of};
+ghost use Rattle.linker_elf.specs.Machines.{architecture_of};
 ghost use Rattle.linker_utils_c.specs.Routes.{kind_number, route_in, route_status, IsRouteReturned};
 ghost use Rattle.linker_utils_c.specs.Routes.{IsRouteAt, IsWordRouteAt};
 ghost use Rattle.linker_utils_c.specs.Status.{code};

@@ -5,9 +5,9 @@ ghost use Rattle.linker_elf.specs.AppliedRows.{IsAppliedIfKnown};
 ghost use Rattle.linker_elf.specs.ElfNames.{ElfName};
 ghost use Rattle.linker_elf.specs.declared.elf.RelocationKindInfo.{RelocationKindInfo};
 ghost use Rattle.linker_section.specs.Needed.{needs_in};
-ghost use Rattle.linker_utils.specs.Architectures.{IsElfName, IsRow};
-ghost use Rattle.linker_utils.specs.Handles.{IsFound, IsRowOf, architecture_in, handle_unit};
-ghost use Rattle.linker_utils.specs.Machines.{architecture_of};
+ghost use Rattle.linker_elf.specs.Architectures.{IsElfName, IsRow};
+ghost use Rattle.linker_elf.specs.Handles.{IsFound, IsRowOf, architecture_in, handle_unit};
+ghost use Rattle.linker_elf.specs.Machines.{architecture_of};
 ghost use Rattle.linker_utils_c.specs.Choices.{facts_of};
 ghost use Rattle.linker_utils_c.specs.Relocate.{IsReachOf, IsRelocatedAs, IsValueOf};
 ghost use Rattle.linker_utils_c.specs.Rows.{AreNeeded, InRowNumbers, IsAppliedAs, IsChosenOf};
@@ -21,8 +21,10 @@ use crate::relocate::{Reach, reach_by, reach_in, status_of, value_by, value_stat
 use crate::sections::{RequirementNumbers, in_numbers, needs_by};
 use crate::status::Status;
 use linker_section::needed::needs;
-use linker_utils::architecture::HANDLE_UNIT;
-use linker_utils::elf::{ApplyError, Architecture, Operands, RelocationKind, RelocationSize, Row};
+use linker_utils::architecture::fits;
+use linker_utils::elf::{
+    ApplyError, Architecture, HANDLE_UNIT, Operands, RelocationKind, RelocationSize, Row,
+};
 
 /// The row of a handle, if it is one.
 #[inline(always)]
@@ -185,7 +187,7 @@ pub extern "C" fn linker_utils_row_fits_nonnull(
     };
     let r_type = handle % HANDLE_UNIT;
     match architecture.row(r_type) {
-        Some(_) => architecture.fits(r_type, section, offset, &facts.facts()),
+        Some(_) => fits(architecture, r_type, section, offset, &facts.facts()),
         None => false,
     }
 }

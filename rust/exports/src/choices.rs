@@ -5,7 +5,7 @@
 use crate::architectures::by_architecture;
 use crate::rewrites::number_of;
 use crate::status::Status;
-use linker_utils::architecture::Relaxation;
+use linker_utils::architecture::{Relaxation, fits};
 use linker_utils::elf::{Architecture, Choice, InstructionRewrite, LinkFacts, Operands};
 
 /// What a linker knows of a relocation's symbol and of its output: `LinkFacts`. A fact holds where
@@ -168,7 +168,7 @@ pub fn linker_utils_relocation_fits_nonnull(
     let Some(architecture) = Architecture::from_machine(machine) else {
         return false;
     };
-    architecture.fits(r_type, section, offset, &facts.facts())
+    fits(architecture, r_type, section, offset, &facts.facts())
 }
 
 /// Whether a choice at the relocation with `r_type` leaves it and its instruction as they are.
@@ -181,7 +181,7 @@ pub fn linker_utils_is_unchanged(
     let Some(architecture) = Architecture::from_machine(machine) else {
         return false;
     };
-    let Some(kind) = architecture.rewrite(choice.rewrite, choice.opcode_len) else {
+    let Some(kind) = Relaxation::from_number(architecture, choice.rewrite, choice.opcode_len) else {
         return false;
     };
     let relocation = choice.relocation;

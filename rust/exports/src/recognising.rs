@@ -284,7 +284,7 @@ fn put_destination_of(
     destination: &mut DestinationNumbers,
 ) -> u32 {
     let choice = &made.choice;
-    let Some(kind) = architecture.rewrite(choice.rewrite, choice.opcode_len) else {
+    let Some(kind) = Relaxation::from_number(architecture, choice.rewrite, choice.opcode_len) else {
         return Status::UnknownRewrite.number();
     };
     let made = Recognised {

@@ -3,6 +3,7 @@
 //! What relocations mean, and their names, by `e_machine` and `r_type` of ELF files.
 
 use crate::status::Status;
+use linker_utils::architecture::may_be_skipped;
 use linker_utils::elf::{Architecture, RelocationNumbers};
 use linker_utils::riscv64;
 
@@ -52,7 +53,7 @@ pub fn linker_utils_may_use_plt(machine: u16, r_type: u32) -> bool {
 /// with `e_machine` `machine`. False where either is unknown.
 pub fn linker_utils_may_be_skipped(machine: u16, r_type: u32) -> bool {
     match Architecture::from_machine(machine) {
-        Some(architecture) => architecture.may_be_skipped(r_type),
+        Some(architecture) => may_be_skipped(architecture, r_type),
         None => false,
     }
 }

@@ -4,6 +4,7 @@
 
 use crate::architectures::{by_architecture, known};
 use crate::status::Status;
+use linker_utils::architecture::Relaxation;
 use linker_utils::elf::{Architecture, EM_X86_64, InstructionRewrite, RewriteWindow};
 use linker_utils::relaxation::RelocationModifier;
 use linker_utils::{riscv64, x86_64};
@@ -87,7 +88,7 @@ fn apply_of(
         Architecture::RiscV => apply_riscv(rewrite, section, offset, addend),
         Architecture::X86_64 => apply_x86_64(opcode_len, rewrite, section, addend, offset),
         _ => by_architecture!(architecture, known(of => {
-            apply_by(of.rewrite(rewrite, opcode_len), section, offset, addend).number()
+            apply_by(Relaxation::from_number(of, rewrite, opcode_len), section, offset, addend).number()
         })),
     }
 }
@@ -125,7 +126,7 @@ pub fn linker_utils_can_apply_nonnull(
         return Status::UnknownArchitecture.number();
     };
     by_architecture!(architecture, known(of => {
-        test_by(of.rewrite(rewrite, opcode_len), section, offset).number()
+        test_by(Relaxation::from_number(of, rewrite, opcode_len), section, offset).number()
     }))
 }
 
@@ -142,7 +143,7 @@ pub fn linker_utils_matches_nonnull(
     let Some(architecture) = Architecture::from_machine(machine) else {
         return Status::UnknownArchitecture.number();
     };
-    let Some(named) = architecture.rewrite(rewrite, opcode_len) else {
+    let Some(named) = Relaxation::from_number(architecture, rewrite, opcode_len) else {
         return Status::UnknownRewrite.number();
     };
     if !named.matches(section, offset) {
@@ -184,7 +185,7 @@ pub fn linker_utils_rewrite_window(
     let Some(architecture) = Architecture::from_machine(machine) else {
         return Status::UnknownArchitecture.number();
     };
-    let Some(named) = architecture.rewrite(rewrite, opcode_len) else {
+    let Some(named) = Relaxation::from_number(architecture, rewrite, opcode_len) else {
         return Status::UnknownRewrite.number();
     };
     *window = named.window();
@@ -203,7 +204,7 @@ pub fn linker_utils_next_modifier(
     let Some(architecture) = Architecture::from_machine(machine) else {
         return Status::UnknownArchitecture.number();
     };
-    let Some(named) = architecture.rewrite(rewrite, opcode_len) else {
+    let Some(named) = Relaxation::from_number(architecture, rewrite, opcode_len) else {
         return Status::UnknownRewrite.number();
     };
     *modifier = number_of(named.next_modifier());

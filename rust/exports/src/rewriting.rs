@@ -69,7 +69,7 @@ impl DecisionNumbers {
     #[inline(always)]
     fn choice(self) -> Option<Choice<Relaxation, u32>> {
         let architecture = Architecture::from_machine(self.machine)?;
-        let kind = architecture.rewrite(self.rewrite, self.opcode_len)?;
+        let kind = Relaxation::from_number(architecture, self.rewrite, self.opcode_len)?;
         Some(Choice {
             kind,
             relocation: self.relocation,

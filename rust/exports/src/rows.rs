@@ -7,8 +7,10 @@ use crate::relocate::{Reach, reach_by, reach_in, status_of, value_by, value_stat
 use crate::sections::{RequirementNumbers, in_numbers, needs_by};
 use crate::status::Status;
 use linker_utils::source::section::needs;
-use linker_utils::architecture::HANDLE_UNIT;
-use linker_utils::elf::{ApplyError, Architecture, Operands, RelocationKind, RelocationSize, Row};
+use linker_utils::architecture::fits;
+use linker_utils::elf::{
+    ApplyError, Architecture, HANDLE_UNIT, Operands, RelocationKind, RelocationSize, Row,
+};
 
 /// The row of a handle, if it is one.
 #[inline(always)]
@@ -128,7 +130,7 @@ pub fn linker_utils_row_fits_nonnull(
     };
     let r_type = handle % HANDLE_UNIT;
     match architecture.row(r_type) {
-        Some(_) => architecture.fits(r_type, section, offset, &facts.facts()),
+        Some(_) => fits(architecture, r_type, section, offset, &facts.facts()),
         None => false,
     }
 }

@@ -1,8 +1,9 @@
 // SPDX-License-Identifier: MIT OR Apache-2.0
 // Made by tools/generate of crates/linker_elf/src/elf.rt.
 //! The vocabulary of relocations, the forms of instructions that hold a value, the interfaces of
-//! forms and of rewrites, and what a linker knows when it chooses a rewrite.
+//! forms and of rewrites, the architectures, and what a linker knows when it chooses a rewrite.
 
+pub mod architecture;
 mod choice;
 pub mod choice_table;
 pub(crate) mod engine;
@@ -10,7 +11,6 @@ mod entries;
 mod facts;
 mod instruction;
 mod numbers;
-mod reach;
 mod relocate;
 pub(crate) mod rows;
 pub(crate) mod value;
@@ -23,13 +23,14 @@ pub use crate::linker_elf::loongarch64::LoongArch64Instruction;
 pub use crate::linker_elf::ppc64::Ppc64Instruction;
 #[cfg(feature = "riscv64")]
 pub use crate::linker_elf::riscv64::RiscVInstruction;
+pub use architecture::{Architecture, HANDLE_UNIT, Uleb128PairError};
 pub use choice::{Choice, LinkFacts, OtherRelocation};
 pub use facts::{EntryUse, Length, RowFacts, Way};
 use crate::linker_base::bit_misc::BitRange;
 use crate::linker_base::relaxation::RelocationModifier;
 pub use crate::linker_base::rewrite::RewriteWindow;
 pub use numbers::RelocationNumbers;
-pub use relocate::{ApplyError, RelocateError};
+pub use relocate::{ApplyError, RelocateError, WriteError};
 pub use rows::Row;
 pub use value::{FormulaError, Operands};
 

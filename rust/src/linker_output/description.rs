@@ -8,7 +8,7 @@ use crate::linker_output::flags::FlagRules;
 use crate::linker_output::got::{GotLayout, ThreadPointer};
 use crate::linker_output::layout::{CodeUnit, Interpreter, ProvidedSymbol, SaveRestoreRoutines};
 use crate::linker_output::stubs::Stub;
-use crate::architecture::by_architecture;
+use crate::linker_elf::elf::architecture::by_architecture;
 use crate::elf::Architecture;
 
 macro_rules! target_of {

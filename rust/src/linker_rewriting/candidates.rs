@@ -8,7 +8,7 @@ use crate::linker_rewriting::sequences::{is_marked_in, is_whole};
 use crate::linker_base::rewrite::DeletedBytes;
 use crate::linker_section::facts::{Addresses, Symbol};
 use crate::linker_section::relocations::{Rela, relocation_at};
-use crate::architecture::Relaxation;
+use crate::architecture::{Relaxation, choose, may_be_skipped};
 use crate::elf::{Architecture, Choice, LinkFacts, Operands};
 
 /// Whether the symbol at an index is `__tls_get_addr`.
@@ -32,7 +32,7 @@ fn is_call(
     let Some(next) = next else {
         return false;
     };
-    let is_of_call = architecture.may_be_skipped(next.code);
+    let is_of_call = may_be_skipped(architecture, next.code);
     let is_there = next.offset.checked_sub(offset) == Some(distance);
     is_there && is_of_call && is_tls_get_addr(symbols, next.symbol)
 }
@@ -82,7 +82,13 @@ pub(crate) fn candidate_by(
     relocation: &Rela,
     facts: &LinkFacts,
 ) -> Option<Choice<Relaxation, u32>> {
-    let chosen = architecture.choose(relocation.code, section, relocation.offset, facts);
+    let chosen = choose(
+        architecture,
+        relocation.code,
+        section,
+        relocation.offset,
+        facts,
+    );
     if chosen.is_unchanged(relocation.code) {
         return None;
     }

@@ -13,7 +13,7 @@ use crate::elf::Architecture;
 /// A call for an architecture and a phase, which is compiled for each pair by itself.
 macro_rules! of_each {
     ($architecture:expr, $phase:expr, $call:ident $given:tt) => {
-        crate::architecture::by_architecture!($architecture, of_each($phase, $call $given))
+        crate::linker_elf::elf::architecture::by_architecture!($architecture, of_each($phase, $call $given))
     };
     ($of:ident $module:ident $names:ident ($phase:expr, $call:ident $given:tt)) => {
         match $phase {

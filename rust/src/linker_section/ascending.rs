@@ -14,8 +14,8 @@ use crate::linker_section::saved::whole_word_at;
 use crate::linker_section::sections::{
     FIRST_STEP, NO_FIELD, SectionError, Step, Stopped, write_held_at, write_one,
 };
-use crate::architecture::by_architecture;
-use crate::elf::Architecture;
+use crate::linker_elf::elf::Architecture;
+use crate::linker_elf::elf::architecture::by_architecture;
 
 /// Writes the value of the relocation at an index, if it is found and accepted with few
 /// tests, and keeps the bytes that were there before. Its offset has to be `end` at least.

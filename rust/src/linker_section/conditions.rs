@@ -5,17 +5,19 @@
 use crate::linker_section::facts::{Addresses, Symbol};
 use crate::linker_section::relocations::{Rela, first_from, relocation_in, relocations_len};
 use crate::linker_base::utils::u32_from_slice;
-use crate::elf::{Architecture, Length, RelocationInstruction, RelocationKind, RelocationSize, Row};
+use crate::linker_elf::elf::{
+    Architecture, Length, RelocationInstruction, RelocationKind, RelocationSize, Row,
+};
 #[cfg(feature = "loongarch64")]
-use crate::elf::LoongArch64Instruction;
+use crate::linker_elf::elf::LoongArch64Instruction;
 #[cfg(feature = "riscv64")]
-use crate::elf::RiscVInstruction;
+use crate::linker_elf::elf::RiscVInstruction;
 #[cfg(feature = "loongarch64")]
-use crate::loongarch64::LoongArch64Relocation;
+use crate::linker_elf::loongarch64::LoongArch64Relocation;
 #[cfg(feature = "ppc64")]
-use crate::ppc64::Ppc64Relocation;
+use crate::linker_elf::ppc64::Ppc64Relocation;
 #[cfg(feature = "riscv64")]
-use crate::riscv64::RiscVRelocation;
+use crate::linker_elf::riscv64::RiscVRelocation;
 
 /// Whether a symbol is a function of the output that may return with another TOC pointer, and has
 /// no stub that keeps the caller's.

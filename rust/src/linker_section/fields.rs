@@ -3,7 +3,7 @@
 //! The bytes that relocations write, and which relocations compose.
 
 use crate::linker_section::values::has_value;
-use crate::elf::{RelocationKind, RelocationKindInfo, RelocationSize};
+use crate::linker_elf::elf::{RelocationKind, RelocationKindInfo, RelocationSize};
 
 /// Whether a row is that of the first of a pair at a ULEB128 number.
 #[inline(always)]

@@ -2,7 +2,7 @@
 // Made by tools/generate of crates/linker_section/src/needed.rt.
 //! What a relocation requires of a linker before addresses are known.
 
-use crate::elf::{Architecture, EntryUse, RowFacts};
+use crate::linker_elf::elf::{Architecture, EntryUse, RowFacts};
 
 /// What an entry of the GOT holds.
 #[derive(Clone, Copy, Debug, PartialEq, Eq, Hash)]

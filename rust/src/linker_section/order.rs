@@ -6,7 +6,7 @@ use crate::linker_section::fields::{Field, is_of_pair};
 use crate::linker_section::relocations::{Rela, offset_at, relocation_at, relocation_in, relocations_len};
 use crate::linker_section::sections::{field_at, second_of_pair};
 use crate::linker_section::values::has_value;
-use crate::elf::{Architecture, RelocationKind};
+use crate::linker_elf::elf::{Architecture, RelocationKind};
 
 /// The least index of a relocation whose field overlaps that of an earlier one with which it
 /// doesn't compose; as many as there are relocations if there is none. `order` is memory for its

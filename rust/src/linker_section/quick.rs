@@ -10,7 +10,7 @@ use crate::linker_section::facts::{Addresses, Symbol};
 use crate::linker_section::needed::entry_by;
 use crate::linker_section::relocations::Rela;
 use crate::linker_section::values::{entry_address, is_of_got, local_entry, target_of};
-use crate::elf::{Architecture, EntryUse, Operands, Row, RowFacts, Way};
+use crate::linker_elf::elf::{Architecture, EntryUse, Operands, Row, RowFacts, Way};
 
 /// A high part of RISC-V, whose value low parts take.
 #[derive(Clone, Copy)]

@@ -5,7 +5,7 @@
 use crate::linker_section::fields::ends_pair;
 use crate::linker_section::relocations::relocation_in;
 use crate::linker_base::utils::u64_from_slice;
-use crate::elf::{Architecture, Row};
+use crate::linker_elf::elf::{Architecture, Row};
 
 /// The 8 bytes from an offset on as a word; none where there are fewer.
 #[inline(always)]

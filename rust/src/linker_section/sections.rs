@@ -11,7 +11,7 @@ use crate::linker_section::relocations::{Rela, is_ascending, relocation_in, relo
 use crate::linker_section::saved::{restore, word_at};
 use crate::linker_section::values::{ValueError, value_of};
 use crate::linker_base::utils::{self, Uleb128Error};
-use crate::elf::{Architecture, RelocateError, RelocationKind, Row};
+use crate::linker_elf::elf::{Architecture, RelocateError, RelocationKind, Row};
 
 /// Why a relocation's value isn't written.
 #[cfg_attr(not(exhaustive), non_exhaustive)]

@@ -5,14 +5,14 @@
 use crate::linker_section::facts::{Addresses, Symbol};
 use crate::linker_section::needed::{Entry, EntryClass, entry_by};
 use crate::linker_section::relocations::{Rela, first_from, offset_at, relocation_in, relocations_len};
-use crate::elf::{
+use crate::linker_elf::elf::{
     Architecture, Operands, RelocationInstruction, RelocationKind, RelocationKindInfo,
     RelocationSize, Row,
 };
 #[cfg(feature = "riscv64")]
-use crate::elf::RiscVInstruction;
+use crate::linker_elf::elf::RiscVInstruction;
 #[cfg(feature = "x86_64")]
-use crate::x86_64::X86_64Relocation;
+use crate::linker_elf::x86_64::X86_64Relocation;
 
 /// Why a relocation has no value.
 #[cfg_attr(not(exhaustive), non_exhaustive)]

@@ -11,7 +11,7 @@ use Rattle.linker_elf.specs.Numbers.{numbers_of}
 use Rattle.linker_elf.specs.Reach.{reach_of}
 use Rattle.linker_elf.specs.Relocate.{is_supported, window_len}
 use Rattle.linker_elf.specs.Value.{sum_64, bias_number, masks_symbol, masks_entry, masks_place}
-use Rattle.linker_elf.specs.Value.{masks_got}
+use Rattle.linker_elf.specs.Value.{masks_got, loads_plt_word}
 use Rattle.linker_elf.specs.declared.aarch64.forms.AArch64Instruction.TheVariants.{Movnz}
 use Rattle.linker_elf.specs.declared.loongarch64.forms.LoongArch64Instruction.TheVariants.{Shift10}
 use Rattle.linker_elf.specs.declared.ppc64.forms.Ppc64Instruction.TheVariants.{Ds}
@@ -28,11 +28,14 @@ use Rattle.linker_elf.specs.declared.elf.RelocationKind.TheVariants.{AbsoluteSub
 use Rattle.linker_elf.specs.declared.elf.RelocationKind.TheVariants.{AbsoluteSubtractionWord6}
 use Rattle.linker_elf.specs.declared.elf.RelocationKind.TheVariants.{Alignment}
 use Rattle.linker_elf.specs.declared.elf.RelocationKind.TheVariants.{None as NoKind, Relative}
+use Rattle.linker_elf.specs.declared.elf.RelocationKind.TheVariants as kinds
 use Rattle.linker_elf.specs.declared.elf.RelocationKindInfo.{RelocationKindInfo}
 use Rattle.linker_elf.specs.declared.elf.RelocationSize.{RelocationSize}
 use Rattle.linker_elf.specs.declared.elf.RelocationSize.TheVariants.{ByteSize, BitMasking}
 use Rattle.linker_elf.specs.declared.elf.rows.TableRow.{TableRow}
 use Rattle.linker_elf.specs.declared.elf.rows.WriteTests.{WriteTests}
+use Rattle.linker_elf.specs.declared.elf.value.Formula.{Formula}
+use Rattle.linker_elf.specs.declared.elf.value.Formula.TheVariants as formulas
 use Rattle.linker_elf.specs.declared.elf.value.FormulaError.{FormulaError}
 use Rattle.linker_elf.specs.declared.elf.value.FormulaError.TheVariants.{NoEntry}
 use Rattle.linker_elf.specs.declared.elf.value.Operands.{Operands}
@@ -95,10 +98,46 @@ is_set kind size = false
 abbrev pub place_bits : RelocationKind → RelocationSize → Option PageMask → ℕ
 place_bits kind size mask = if is_set kind size then 0 else bits_of (masks_place mask)
 
--- what a row's formula adds, and which bits of its terms count
+-- the terms of a kind's formula (`formula` of Value)
+abbrev pub formula_of : RelocationKind → Formula
+formula_of NoKind = formulas.Without
+formula_of Alignment = formulas.Without
+formula_of kinds.TlsDescCall = formulas.Without
+formula_of Relative = formulas.SymbolLessPlace
+formula_of kinds.RelativeRiscVLow12 = formulas.SymbolLessPlace
+formula_of kinds.RelativeLoongArchHigh = formulas.LoongArchHigh
+formula_of kinds.SymRelGotBase = formulas.SymbolLessGot
+formula_of kinds.PltRelGotBase = formulas.PltLessGot
+formula_of kinds.PltRelative = formulas.PltLessPlace
+formula_of kinds.SymbolSize = formulas.Size
+formula_of kinds.DtpOff = formulas.Offset
+formula_of kinds.TpOff = formulas.Offset
+formula_of kinds.GotRelative = formulas.EntryLessPlace
+formula_of kinds.TlsGd = formulas.EntryLessPlace
+formula_of kinds.TlsLd = formulas.EntryLessPlace
+formula_of kinds.GotTpOff = formulas.EntryLessPlace
+formula_of kinds.TlsDesc = formulas.EntryLessPlace
+formula_of kinds.GotRelGotBase = formulas.EntryLessGot
+formula_of kinds.TlsGdGotBase = formulas.EntryLessGot
+formula_of kinds.TlsLdGotBase = formulas.EntryLessGot
+formula_of kinds.GotTpOffGotBase = formulas.EntryLessGot
+formula_of kinds.TlsDescGotBase = formulas.EntryLessGot
+formula_of kinds.Got = formulas.Entry
+formula_of kinds.TlsGdGot = formulas.Entry
+formula_of kinds.TlsLdGot = formulas.Entry
+formula_of kinds.GotTpOffGot = formulas.Entry
+formula_of kinds.TlsDescGot = formulas.Entry
+formula_of kinds.GotRelativeLoongArch64 = formulas.LoongArchEntry
+formula_of kinds.GotTpOffLoongArch64 = formulas.LoongArchEntry
+formula_of kinds.TlsDescLoongArch64 = formulas.LoongArchEntry
+formula_of kind = formulas.Symbol
+
+-- a row's formula, what it adds, and which bits of its terms count
 abbrev pub terms_of : RelocationKindInfo → FormulaTerms
 terms_of row =
     record {
+      formula = formula_of row.kind;
+      is_word = loads_plt_word row.size row.kind;
       bias = bias_number row.bias;
       symbol = bits_of (masks_symbol row.mask);
       entry = bits_of (masks_entry row.mask);
@@ -119,11 +158,11 @@ entry_of_terms terms o =
     (bit_and (cast_unsigned w64 o.addend) terms.entry_addend)) terms.bias) terms.entry)
     else Err NoEntry
 
-abbrev pub plt_of : FormulaTerms → Bool → Operands → Result ℕ FormulaError
-plt_of terms is_word o =
+abbrev pub plt_of : FormulaTerms → Operands → Result ℕ FormulaError
+plt_of terms o =
     if o.has_plt_entry
     then Ok (sum_64 (sum_64 o.plt_entry (cast_unsigned w64 o.addend)) terms.bias)
-    else (if is_word then Err NoEntry
+    else (if terms.is_word then Err NoEntry
     else Ok (sum_64 (sum_64 o.symbol (cast_unsigned w64 o.addend)) terms.bias))
 
 abbrev pub signed_in : Result ℕ FormulaError → Result ℤ FormulaError
@@ -144,6 +183,7 @@ entry_of is_own row =
       mask = row.mask;
       numbers = numbers_of row;
       tests = tests_of row;
+      reach = record { bounds = reach_of row };
       terms = terms_of row;
       facts = facts_of row;
       is_own = is_own;

@@ -10,12 +10,11 @@ ghost use Rattle.linker_base.specs.Form.{IsReadBack};
 ghost use Rattle.linker_elf.specs.Inner.FormLaws.{aarch64_keeps, aarch64_restored};
 ghost use Rattle.linker_elf.specs.Entries.{is_aarch64_branch};
 ghost use Rattle.linker_elf.specs.Forms.{aarch64_mask, immediate_of};
-ghost use Rattle.linker_elf.specs.Reach.{aarch64_reach};
 ghost use Rattle.linker_elf.specs.Relocate.{ored_cleared, is_32_bit_move, is_movk};
 ghost use Rattle.linker_elf.specs.Inner.Runs.{code_of, moves_places};
 
 use crate::elf::engine::{self, Encoding, Step, Window, forms};
-use crate::elf::{AllowedRange, InstructionForm, RelocationInstruction, Sign};
+use crate::elf::{InstructionForm, RelocationInstruction};
 use linker_base::bit_misc::{BitExtraction, BitRange};
 
 /// AArch64 instructions with an immediate (Arm Architecture Reference Manual for A-profile, DDI
@@ -269,19 +268,6 @@ impl AArch64Instruction {
             self,
             AArch64Instruction::TstBr | AArch64Instruction::Bcond | AArch64Instruction::JumpCall
         )
-    }
-
-    /// Which values of a row can be written of which an instruction takes some bits.
-    #[inline(always)]
-    pub(crate) fn reach(self, bits: BitRange, range: AllowedRange) -> AllowedRange
-        ensures { result.bounds ≡ aarch64_reach self bits range.bounds }
-    {
-        match (self, range.bounds) {
-            (AArch64Instruction::Movnz, None) if bits.end <= 48 => {
-                AllowedRange::from_bit_size(bits.end as u32 + 1, Sign::Signed)
-            }
-            _ => range,
-        }
     }
 
     /// Whether an instruction is MOVN or MOVZ of 32 bits, which bit 31 tells.

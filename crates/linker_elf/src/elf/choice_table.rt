@@ -61,7 +61,6 @@ pub const SIGNED_12: (i64, i64) = (-0x800, 0x800);
 
 /// What an entry requires of the value of a relocation, n bytes before
 /// the place, or of S + A.
-#[derive(Clone, Copy)]
 pub enum ValueCondition<R> {
     /// S + A is known, and is a number of 12 bits in two's complement.
     Low12,
@@ -76,7 +75,6 @@ pub enum ValueCondition<R> {
 }
 
 /// What an entry requires of values: nothing, or one or two conditions.
-#[derive(Clone, Copy)]
 pub enum ValueConditions<R> {
     /// Nothing.
     None,

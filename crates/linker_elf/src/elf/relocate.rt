@@ -10,6 +10,7 @@ ghost use Rattle.linker_elf.specs.Relocate.{number_of_bytes, low_bytes, number_w
 ghost use Rattle.linker_elf.specs.Relocate.{InstructionWritten, IsWritten, window_len, IsAligned};
 ghost use Rattle.linker_elf.specs.Relocate.{IsInUnits, IsMultiple, size_len, bits_at, stays_movk};
 ghost use Rattle.linker_elf.specs.Relocate.{insn_at, is_low_jump, low_part, IsInWords, IsEncoded};
+ghost use Rattle.linker_elf.specs.WriteErrors.{write_error};
 ghost use Rattle.linker_elf.specs.Inner.RowTables.{is_over};
 
 use crate::aarch64::is_movk;
@@ -17,6 +18,7 @@ use crate::elf::engine::Window;
 use crate::elf::{
     AArch64Instruction, FormulaError, InstructionForm, LoongArch64Instruction,
     RelocationInstruction, RelocationKind, RelocationKindInfo, RelocationSize, RiscVInstruction,
+    Row,
 };
 use crate::loongarch64::is_jirl;
 use crate::ppc64::DQ_UNIT;
@@ -375,5 +377,50 @@ impl RelocationKindInfo {
         self.is_aligned(value)
             && is_in_units(self.size, value, dest)
             && is_in_words(self.size, self.kind, value, dest)
+    }
+}
+
+/// Why a relocation's value isn't written, and which values can be.
+#[derive(Debug, Clone, Copy, PartialEq, Eq)]
+pub struct WriteError {
+    /// Why.
+    pub error: RelocateError,
+    /// The value.
+    pub value: i64,
+    /// The least value within the row's `reach`; that of 64 bits where it has no bounds.
+    pub least: i64,
+    /// The greatest one; the greatest multiple of `alignment` may be below it.
+    pub greatest: i64,
+    /// What each value has to be a multiple of.
+    pub alignment: u64,
+}
+
+impl WriteError {
+    /// What is to be said of a value that `write` of a row rejected with an error.
+    ///
+    /// ```
+    /// use linker_utils::elf::{Architecture, WriteError};
+    ///
+    /// // R_AARCH64_TSTBR14 reaches 32 KiB
+    /// let row = Architecture::AArch64.row(279).unwrap();
+    /// let mut tbz = 0x3600_0000u32.to_le_bytes();
+    /// let error = row.write(0x8000, &mut tbz).unwrap_err();
+    /// let error = WriteError::new(&row, 0x8000, error);
+    /// assert_eq!((error.least, error.greatest, error.alignment), (-0x8000, 0x7fff, 4));
+    /// ```
+    pub fn new(row: &Row, value: i64, error: RelocateError) -> WriteError
+        ensures { result ≡ write_error row.now value error }
+    {
+        let (least, greatest) = match row.reach().bounds {
+            Some((min, end)) => (min, end.cast_unsigned().wrapping_sub(1).cast_signed()),
+            None => (i64::MIN, i64::MAX),
+        };
+        WriteError {
+            error,
+            value,
+            least,
+            greatest,
+            alignment: row.numbers().alignment,
+        }
     }
 }

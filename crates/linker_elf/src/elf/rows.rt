@@ -37,6 +37,8 @@ pub(crate) struct TableRow {
     pub(crate) mask: Option<PageMask>,
     pub(crate) numbers: RelocationNumbers,
     pub(crate) tests: WriteTests,
+    /// Which values can be written.
+    pub(crate) reach: AllowedRange,
     pub(crate) terms: FormulaTerms,
     pub(crate) facts: RowFacts,
     /// Whether the crate `linker-utils` has no such row.
@@ -224,7 +226,7 @@ impl Row {
     pub fn reach(&self) -> AllowedRange
         ensures { result.bounds ≡ reach_of self.now }
     {
-        self.info().reach()
+        self.entry.reach
     }
 
     /// The relocation's value: the formula of its kind, with the bias added first and the page mask
@@ -637,7 +639,15 @@ macro_rules! row {
                     $range $($number $(.. $end)?)?
                 ),
             },
+            reach: $crate::elf::AllowedRange {
+                bounds: $crate::elf::rows::bound!(
+                    reach [$($reach $reach_number $(.. $reach_end)?)?]
+                    $range $($number $(.. $end)?)?
+                ),
+            },
             terms: $crate::elf::value::FormulaTerms {
+                formula: $crate::elf::rows::entry!(formula $kind),
+                is_word: $crate::elf::rows::fact!(loads $($row)+),
                 bias: 0 $(+ $bias)?,
                 symbol: $crate::elf::rows::bits!(symbol $($mask)?),
                 entry: $crate::elf::rows::bits!(entry $($mask)?),
@@ -667,6 +677,11 @@ macro_rules! row {
 macro_rules! bound {
     (has_range any) => { 0 };
     (has_range $range:ident) => { 1 };
+    (reach [] any) => { None };
+    (reach [] pair) => { $crate::elf::rows::bound!(reach [] within -0x80000800..0x7ffff800) };
+    (reach [] $($range:tt)+) => {
+        Some(($crate::elf::rows::bound!(min $($range)+), $crate::elf::rows::bound!(max $($range)+)))
+    };
     (least [] any) => { i64::MIN };
     (last [] any) => { i64::MAX };
     (least [] pair) => { -0x80000800 };
@@ -772,6 +787,8 @@ macro_rules! fact {
     (stub $form:ident $machine:ident PltRelative $($bits:tt)+) => { true };
     (stub $($row:tt)+) => { $crate::elf::rows::fact!(branch $($row)+) };
     (word Bytes Bytes Absolute 0 0 8) => { true };
+    (loads $form:ident Ppc64 PltRelGotBase $($bits:tt)+) => { true };
+    (loads $form:ident Ppc64 PltRelative $($bits:tt)+) => { true };
     (load $form:ident $machine:ident $kind:ident $start:tt 12 0) => { false };
     (load IType $($row:tt)+) => { false };
     (load SType $($row:tt)+) => { false };
@@ -799,7 +816,7 @@ macro_rules! fact {
     ($fact:ident $($row:tt)+) => { false };
 }
 
-/// The entry that a row's formula has; or what is made of that of a kind's formula.
+/// The entry that a row's formula has; or what is made of a kind's formula and its entry.
 macro_rules! entry {
     (IType $($row:tt)+) => { $crate::elf::EntryUse::Without };
     ($form:ident Ppc64 PltRelGotBase $($bits:tt)+) => { $crate::elf::EntryUse::Address };
@@ -810,30 +827,55 @@ macro_rules! entry {
     ($form:ident $machine:ident $kind:ident $start:tt $end:tt $bytes:tt) => {
         $crate::elf::rows::entry!(use_of $kind)
     };
-    ($make:ident GotRelative) => { $crate::elf::rows::entry!(@ $make Address) };
-    ($make:ident GotRelativeLoongArch64) => { $crate::elf::rows::entry!(@ $make Address) };
-    ($make:ident GotRelGotBase) => { $crate::elf::rows::entry!(@ $make Address) };
-    ($make:ident Got) => { $crate::elf::rows::entry!(@ $make Address) };
-    ($make:ident GotTpOff) => { $crate::elf::rows::entry!(@ $make ThreadOffset) };
-    ($make:ident GotTpOffGot) => { $crate::elf::rows::entry!(@ $make ThreadOffset) };
-    ($make:ident GotTpOffGotBase) => { $crate::elf::rows::entry!(@ $make ThreadOffset) };
-    ($make:ident GotTpOffLoongArch64) => { $crate::elf::rows::entry!(@ $make ThreadOffset) };
-    ($make:ident TlsGd) => { $crate::elf::rows::entry!(@ $make ModuleOffset) };
-    ($make:ident TlsGdGot) => { $crate::elf::rows::entry!(@ $make ModuleOffset) };
-    ($make:ident TlsGdGotBase) => { $crate::elf::rows::entry!(@ $make ModuleOffset) };
-    ($make:ident TlsLd) => { $crate::elf::rows::entry!(@ $make Module) };
-    ($make:ident TlsLdGot) => { $crate::elf::rows::entry!(@ $make Module) };
-    ($make:ident TlsLdGotBase) => { $crate::elf::rows::entry!(@ $make Module) };
-    ($make:ident TlsDesc) => { $crate::elf::rows::entry!(@ $make Descriptor) };
-    ($make:ident TlsDescGot) => { $crate::elf::rows::entry!(@ $make Descriptor) };
-    ($make:ident TlsDescGotBase) => { $crate::elf::rows::entry!(@ $make Descriptor) };
-    ($make:ident TlsDescLoongArch64) => { $crate::elf::rows::entry!(@ $make Descriptor) };
-    ($make:ident $kind:ident) => { $crate::elf::rows::entry!(@ $make Without) };
-    (@ low_half Address) => { $crate::elf::EntryUse::LowHalf };
-    (@ has_addend Module) => { false };
-    (@ has_addend Without) => { false };
-    (@ has_addend $entry:ident) => { true };
-    (@ $make:ident $entry:ident) => { $crate::elf::EntryUse::$entry };
+    ($make:ident GotRelative) => { $crate::elf::rows::entry!(@ $make Address EntryLessPlace) };
+    ($make:ident GotRelativeLoongArch64) => {
+        $crate::elf::rows::entry!(@ $make Address LoongArchEntry)
+    };
+    ($make:ident GotRelGotBase) => { $crate::elf::rows::entry!(@ $make Address EntryLessGot) };
+    ($make:ident Got) => { $crate::elf::rows::entry!(@ $make Address Entry) };
+    ($make:ident GotTpOff) => { $crate::elf::rows::entry!(@ $make ThreadOffset EntryLessPlace) };
+    ($make:ident GotTpOffGot) => { $crate::elf::rows::entry!(@ $make ThreadOffset Entry) };
+    ($make:ident GotTpOffGotBase) => {
+        $crate::elf::rows::entry!(@ $make ThreadOffset EntryLessGot)
+    };
+    ($make:ident GotTpOffLoongArch64) => {
+        $crate::elf::rows::entry!(@ $make ThreadOffset LoongArchEntry)
+    };
+    ($make:ident TlsGd) => { $crate::elf::rows::entry!(@ $make ModuleOffset EntryLessPlace) };
+    ($make:ident TlsGdGot) => { $crate::elf::rows::entry!(@ $make ModuleOffset Entry) };
+    ($make:ident TlsGdGotBase) => { $crate::elf::rows::entry!(@ $make ModuleOffset EntryLessGot) };
+    ($make:ident TlsLd) => { $crate::elf::rows::entry!(@ $make Module EntryLessPlace) };
+    ($make:ident TlsLdGot) => { $crate::elf::rows::entry!(@ $make Module Entry) };
+    ($make:ident TlsLdGotBase) => { $crate::elf::rows::entry!(@ $make Module EntryLessGot) };
+    ($make:ident TlsDesc) => { $crate::elf::rows::entry!(@ $make Descriptor EntryLessPlace) };
+    ($make:ident TlsDescGot) => { $crate::elf::rows::entry!(@ $make Descriptor Entry) };
+    ($make:ident TlsDescGotBase) => { $crate::elf::rows::entry!(@ $make Descriptor EntryLessGot) };
+    ($make:ident TlsDescLoongArch64) => {
+        $crate::elf::rows::entry!(@ $make Descriptor LoongArchEntry)
+    };
+    ($make:ident None) => { $crate::elf::rows::entry!(@ $make Without Without) };
+    ($make:ident Alignment) => { $crate::elf::rows::entry!(@ $make Without Without) };
+    ($make:ident TlsDescCall) => { $crate::elf::rows::entry!(@ $make Without Without) };
+    ($make:ident Relative) => { $crate::elf::rows::entry!(@ $make Without SymbolLessPlace) };
+    ($make:ident RelativeRiscVLow12) => {
+        $crate::elf::rows::entry!(@ $make Without SymbolLessPlace)
+    };
+    ($make:ident RelativeLoongArchHigh) => {
+        $crate::elf::rows::entry!(@ $make Without LoongArchHigh)
+    };
+    ($make:ident SymRelGotBase) => { $crate::elf::rows::entry!(@ $make Without SymbolLessGot) };
+    ($make:ident PltRelGotBase) => { $crate::elf::rows::entry!(@ $make Without PltLessGot) };
+    ($make:ident PltRelative) => { $crate::elf::rows::entry!(@ $make Without PltLessPlace) };
+    ($make:ident SymbolSize) => { $crate::elf::rows::entry!(@ $make Without Size) };
+    ($make:ident DtpOff) => { $crate::elf::rows::entry!(@ $make Without Offset) };
+    ($make:ident TpOff) => { $crate::elf::rows::entry!(@ $make Without Offset) };
+    ($make:ident $kind:ident) => { $crate::elf::rows::entry!(@ $make Without Symbol) };
+    (@ formula $entry:ident $formula:ident) => { $crate::elf::value::Formula::$formula };
+    (@ low_half Address $formula:ident) => { $crate::elf::EntryUse::LowHalf };
+    (@ has_addend Module $formula:ident) => { false };
+    (@ has_addend Without $formula:ident) => { false };
+    (@ has_addend $entry:ident $formula:ident) => { true };
+    (@ $make:ident $entry:ident $formula:ident) => { $crate::elf::EntryUse::$entry };
 }
 
 pub(crate) use bits;

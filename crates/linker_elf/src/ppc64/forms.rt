@@ -8,11 +8,10 @@ ghost use Rattle.linker_elf.specs.Inner.FormLaws.{ppc64_keeps, ppc64_restored};
 ghost use Rattle.linker_elf.specs.Inner.Runs.{code_of, moves_places};
 ghost use Rattle.linker_elf.specs.Entries.{is_ppc64_branch};
 ghost use Rattle.linker_elf.specs.Forms.{ppc64_mask, is_dq_at, immediate_of};
-ghost use Rattle.linker_elf.specs.Reach.{ppc64_reach};
 ghost use Rattle.linker_elf.specs.Relocate.{number_placed};
 
 use crate::elf::engine::{self, Encoding, Step, Window, forms};
-use crate::elf::{AllowedRange, InstructionForm, RelocationInstruction, Sign};
+use crate::elf::{InstructionForm, RelocationInstruction};
 use linker_base::bit_misc::BitRange;
 
 /// PowerPC64 instructions that hold a displacement. The window is 4 bytes, and 8 for `Prefixed`.
@@ -174,19 +173,6 @@ impl Ppc64Instruction {
             self,
             Ppc64Instruction::Branch14 | Ppc64Instruction::Branch24
         )
-    }
-
-    /// Which values of a row can be written of which an instruction takes some bits.
-    #[inline(always)]
-    pub(crate) fn reach(self, bits: BitRange, range: AllowedRange) -> AllowedRange
-        ensures { result.bounds ≡ ppc64_reach self bits range.bounds }
-    {
-        match (self, range.bounds) {
-            (Ppc64Instruction::D, None) if bits.start == 16 => {
-                AllowedRange::from_bit_size(32, Sign::Signed)
-            }
-            _ => range,
-        }
     }
 
     /// The number that an instruction gets. The lowest four bits of one of DQ-form are kept: they

@@ -8,10 +8,9 @@ ghost use Rattle.linker_elf.specs.Inner.FormLaws.{riscv_keeps, riscv_restored};
 ghost use Rattle.linker_elf.specs.Inner.Runs.{code_of, moves_places};
 ghost use Rattle.linker_elf.specs.Entries.{is_riscv_branch};
 ghost use Rattle.linker_elf.specs.Forms.{riscv_mask, immediate_of};
-ghost use Rattle.linker_elf.specs.Reach.{riscv_reach};
 
 use crate::elf::engine::{self, Encoding, Step, forms};
-use crate::elf::{AllowedRange, InstructionForm, RelocationInstruction, SIZE_2GB};
+use crate::elf::{InstructionForm, RelocationInstruction};
 use linker_base::bit_misc::BitRange;
 
 /// RISC-V instructions with an immediate (RISC-V unprivileged ISA, "Immediate Encoding Variants"
@@ -72,10 +71,6 @@ const STEPS: [[Step; 6]; 9] = riscv_forms!(6 steps);
 /// The forms by their numbers. A table, since a match becomes a jump by the number where what
 /// follows differs by the form.
 const FORMS: &[RiscVInstruction] = &riscv_forms!(variant RiscVInstruction);
-
-/// What the pairs and `c.lui` take off each end of the range of their high part, because the low
-/// part is signed.
-const SIGNED_LOW_12: i64 = 0x800;
 
 impl RiscVInstruction {
     /// What the form is beside its steps.
@@ -190,26 +185,6 @@ impl RiscVInstruction {
                 | RiscVInstruction::CjType
                 | RiscVInstruction::UiType
         )
-    }
-
-    /// Which values of a row can be written of which an instruction takes some bits.
-    #[inline(always)]
-    pub(crate) fn reach(self, range: AllowedRange) -> AllowedRange
-        ensures { result.bounds ≡ riscv_reach self range.bounds }
-    {
-        match self {
-            RiscVInstruction::UType
-            | RiscVInstruction::IType
-            | RiscVInstruction::SType
-            | RiscVInstruction::UiType => {
-                let half = SIZE_2GB as i64;
-                AllowedRange::new(-half - SIGNED_LOW_12, half - SIGNED_LOW_12)
-            }
-            RiscVInstruction::CluiType => {
-                AllowedRange::new(-0x20000 - SIGNED_LOW_12, 0x20000 - SIGNED_LOW_12)
-            }
-            _ => range,
-        }
     }
 }
 

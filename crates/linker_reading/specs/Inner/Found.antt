@@ -8,7 +8,7 @@ use Rattle.linker_reading.specs.Recognised.{Recogniser, IsMade, IsOneOf, IsFirst
 use Rattle.linker_reading.specs.Windows.{IsRecognisable}
 use Rattle.linker_reading.specs.declared.recognise.engine.Recognised.{Recognised}
 use Rattle.linker_reading.specs.declared.recognise.fields.FieldBits.{FieldBits}
-use Rattle.linker_utils.specs.Architectures.{relaxation_matches}
+use Rattle.linker_utils.specs.Relaxations.{relaxation_matches}
 
 -- that of an entry of the code
 abbrev pub choice_in : {O K R : Type 0} → ChoiceEntry O K R → Choice K R

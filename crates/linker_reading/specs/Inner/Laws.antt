@@ -7,7 +7,7 @@ use Rattle.linker_elf.specs.declared.elf.choice.Choice.{Choice}
 use Rattle.linker_elf.specs.declared.elf.choice.LinkFacts.{LinkFacts}
 use Rattle.linker_reading.specs.Inner.Equality.{IsEquality}
 use Rattle.linker_reading.specs.Recognised.{Recogniser, IsChosen}
-use Rattle.linker_utils.specs.Architectures.{relaxation_matches}
+use Rattle.linker_utils.specs.Relaxations.{relaxation_matches}
 
 -- what is chosen is meant for what is there
 abbrev pub ChosenMatches : {K R : Type 0} → Recogniser K R → Type 0

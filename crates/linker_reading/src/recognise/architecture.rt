@@ -3,13 +3,14 @@
 ghost use Rattle.std.specs.Prelude.{◌≡◌, ◌≤◌, length, map};
 ghost use Rattle.linker_reading.specs.FoundByCode.{by_code, AreFound, IsFoundChosen};
 ghost use Rattle.linker_reading.specs.Windows.{IsWindowOf};
-ghost use Rattle.linker_utils.specs.Architectures.{of_some};
+ghost use Rattle.linker_elf.specs.Architectures.{of_some};
 
 use crate::recognise::engine::{self, CANDIDATES, Recognised, RecognisedName};
 use crate::recognise::fields::FieldBits;
 use crate::windows;
 pub use crate::windows::{Destination, destination_of};
-use linker_utils::architecture::{Relaxation, by_architecture};
+use linker_elf::elf::architecture::by_architecture;
+use linker_utils::architecture::Relaxation;
 use linker_utils::elf::{Architecture, Choice, LinkFacts, RewriteWindow};
 
 /// What is found of the relocation's name that an architecture has for a code.

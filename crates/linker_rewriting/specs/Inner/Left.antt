@@ -7,7 +7,7 @@ use Rattle.linker_rewriting.specs.declared.decisions.Decision.TheVariants.{Kept}
 use Rattle.linker_rewriting.specs.declared.groups.Scope.TheVariants.{NotRelaxable}
 use Rattle.linker_rewriting.specs.declared.phases.Phase.{Phase}
 use Rattle.linker_section.specs.Relocations.{relocation_in}
-use Rattle.linker_utils.specs.declared.elf.Architecture.{Architecture}
+use Rattle.linker_elf.specs.declared.elf.architecture.Architecture.{Architecture}
 
 -- no relocation with an index below a limit may be rewritten, by its code
 abbrev pub AreUnlisted : Architecture → Phase → List ℕ → ℕ → Type 0

@@ -28,8 +28,8 @@ use Rattle.linker_section.specs.declared.needed.EntryClass.TheVariants.{Address,
 use Rattle.linker_section.specs.declared.needed.EntryClass.TheVariants.{ModuleOffset, Module}
 use Rattle.linker_section.specs.declared.needed.EntryClass.TheVariants.{Descriptor}
 use Rattle.linker_section.specs.declared.needed.Requirements.{Requirements}
-use Rattle.linker_utils.specs.declared.elf.Architecture.{Architecture}
-use Rattle.linker_utils.specs.declared.elf.Architecture.TheVariants as architectures
+use Rattle.linker_elf.specs.declared.elf.architecture.Architecture.{Architecture}
+use Rattle.linker_elf.specs.declared.elf.architecture.Architecture.TheVariants as architectures
 
 -- the class of an entry; LoongArch's low half is of an address or of two words for TLS
 abbrev pub class_by : Bool → EntryUse → Option EntryClass

@@ -6,8 +6,8 @@ use Rattle.linker_elf.specs.Value.{sum_64}
 use Rattle.linker_elf.specs.declared.elf.RelocationKindInfo.{RelocationKindInfo}
 use Rattle.linker_section.specs.Fields.{ends_pair}
 use Rattle.linker_section.specs.Relocations.{relocation_in}
-use Rattle.linker_utils.specs.Architectures.{IsRow}
-use Rattle.linker_utils.specs.declared.elf.Architecture.{Architecture}
+use Rattle.linker_elf.specs.Architectures.{IsRow}
+use Rattle.linker_elf.specs.declared.elf.architecture.Architecture.{Architecture}
 
 -- the 8 bytes from an offset on, or fewer at the end
 abbrev pub bytes_at : ℕ → List ℕ → List ℕ

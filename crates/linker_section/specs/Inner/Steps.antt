@@ -21,8 +21,8 @@ use Rattle.linker_section.specs.declared.sections.SectionError.{SectionError}
 use Rattle.linker_section.specs.declared.sections.Step.{Step}
 use Rattle.linker_section.specs.declared.sections.Stopped.{Stopped}
 use Rattle.linker_section.specs.declared.values.ValueError.{ValueError}
-use Rattle.linker_utils.specs.Architectures.{IsRow}
-use Rattle.linker_utils.specs.declared.elf.Architecture.{Architecture}
+use Rattle.linker_elf.specs.Architectures.{IsRow}
+use Rattle.linker_elf.specs.declared.elf.architecture.Architecture.{Architecture}
 
 -- the field of a relocation of a row at an offset
 abbrev pub field_of_row : RelocationKindInfo → ℕ → List ℕ → Field

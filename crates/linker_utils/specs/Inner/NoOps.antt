@@ -6,8 +6,8 @@ use Rattle.linker_utils.specs.LoongArchRewrites.{loongarch_rewrite, loongarch_mo
 use Rattle.linker_utils.specs.Ppc64Rewrites.{ppc64_rewrite, ppc64_modifier}
 use Rattle.linker_utils.specs.RiscVRewrites.{riscv_rewrite, riscv_modifier}
 use Rattle.linker_utils.specs.X86Rewrites.{x86_64_rewrite, x86_64_modifier}
-use Rattle.linker_utils.specs.Architectures.{relaxation_rewrite, relaxation_modifier}
-use Rattle.linker_utils.specs.Architectures.{relaxation_no_op}
+use Rattle.linker_utils.specs.Relaxations.{relaxation_rewrite, relaxation_modifier}
+use Rattle.linker_utils.specs.Relaxations.{relaxation_no_op}
 use Rattle.linker_utils.specs.declared.architecture.Relaxation.{Relaxation}
 use Rattle.linker_utils.specs.declared.architecture.Relaxation.TheVariants.{AArch64, RiscV}
 use Rattle.linker_utils.specs.declared.architecture.Relaxation.TheVariants.{LoongArch64, Ppc64}

@@ -3,7 +3,7 @@
 //! AArch64 instructions that hold a value.
 
 use crate::linker_elf::elf::engine::{self, Encoding, Step, Window, forms};
-use crate::linker_elf::elf::{AllowedRange, InstructionForm, RelocationInstruction, Sign};
+use crate::linker_elf::elf::{InstructionForm, RelocationInstruction};
 use crate::linker_base::bit_misc::{BitExtraction, BitRange};
 
 /// AArch64 instructions with an immediate (Arm Architecture Reference Manual for A-profile, DDI
@@ -227,17 +227,6 @@ impl AArch64Instruction {
             self,
             AArch64Instruction::TstBr | AArch64Instruction::Bcond | AArch64Instruction::JumpCall
         )
-    }
-
-    /// Which values of a row can be written of which an instruction takes some bits.
-    #[inline(always)]
-    pub(crate) fn reach(self, bits: BitRange, range: AllowedRange) -> AllowedRange {
-        match (self, range.bounds) {
-            (AArch64Instruction::Movnz, None) if bits.end <= 48 => {
-                AllowedRange::from_bit_size(bits.end as u32 + 1, Sign::Signed)
-            }
-            _ => range,
-        }
     }
 
     /// Whether an instruction is MOVN or MOVZ of 32 bits, which bit 31 tells.

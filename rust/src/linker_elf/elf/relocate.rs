@@ -7,7 +7,7 @@ use crate::linker_elf::aarch64::is_movk;
 use crate::linker_elf::elf::engine::Window;
 use crate::linker_elf::elf::{
     FormulaError, InstructionForm, RelocationInstruction, RelocationKind, RelocationKindInfo,
-    RelocationSize,
+    RelocationSize, Row,
 };
 #[cfg(feature = "aarch64")]
 use crate::linker_elf::elf::AArch64Instruction;
@@ -335,5 +335,49 @@ impl RelocationKindInfo {
         self.is_aligned(value)
             && is_in_units(self.size, value, dest)
             && is_in_words(self.size, self.kind, value, dest)
+    }
+}
+
+/// Why a relocation's value isn't written, and which values can be.
+#[derive(Debug, Clone, Copy, PartialEq, Eq, Hash)]
+pub struct WriteError {
+    /// Why.
+    pub error: RelocateError,
+    /// The value.
+    pub value: i64,
+    /// The least value within the row's `reach`; that of 64 bits where it has no bounds.
+    pub least: i64,
+    /// The greatest one; the greatest multiple of `alignment` may be below it.
+    pub greatest: i64,
+    /// What each value has to be a multiple of.
+    pub alignment: u64,
+}
+
+impl WriteError {
+    /// What is to be said of a value that `write` of a row rejected with an error.
+    ///
+    /// ```
+    /// use linker_utils::elf::{Architecture, WriteError};
+    ///
+    /// // R_AARCH64_TSTBR14 reaches 32 KiB
+    /// let row = Architecture::AArch64.row(279).unwrap();
+    /// let mut tbz = 0x3600_0000u32.to_le_bytes();
+    /// let error = row.write(0x8000, &mut tbz).unwrap_err();
+    /// let error = WriteError::new(&row, 0x8000, error);
+    /// assert_eq!((error.least, error.greatest, error.alignment), (-0x8000, 0x7fff, 4));
+    /// ```
+    #[must_use]
+    pub fn new(row: &Row, value: i64, error: RelocateError) -> WriteError {
+        let (least, greatest) = match row.reach().bounds {
+            Some((min, end)) => (min, (end as u64).wrapping_sub(1) as i64),
+            None => (i64::MIN, i64::MAX),
+        };
+        WriteError {
+            error,
+            value,
+            least,
+            greatest,
+            alignment: row.numbers().alignment,
+        }
     }
 }

@@ -24,6 +24,8 @@ pub(crate) struct TableRow {
     pub(crate) mask: Option<PageMask>,
     pub(crate) numbers: RelocationNumbers,
     pub(crate) tests: WriteTests,
+    /// Which values can be written.
+    pub(crate) reach: AllowedRange,
     pub(crate) terms: FormulaTerms,
     pub(crate) facts: RowFacts,
     /// Whether the crate `linker-utils` has no such row.
@@ -181,7 +183,7 @@ impl Row {
     #[must_use]
     #[inline(always)]
     pub fn reach(&self) -> AllowedRange {
-        self.info().reach()
+        self.entry.reach
     }
 
     /// The relocation's value: the formula of its kind, with the bias added first and the page mask
@@ -547,7 +549,15 @@ macro_rules! row {
                     $range $($number $(.. $end)?)?
                 ),
             },
+            reach: $crate::linker_elf::elf::AllowedRange {
+                bounds: $crate::linker_elf::elf::rows::bound!(
+                    reach [$($reach $reach_number $(.. $reach_end)?)?]
+                    $range $($number $(.. $end)?)?
+                ),
+            },
             terms: $crate::linker_elf::elf::value::FormulaTerms {
+                formula: $crate::linker_elf::elf::rows::entry!(formula $kind),
+                is_word: $crate::linker_elf::elf::rows::fact!(loads $($row)+),
                 bias: 0 $(+ $bias)?,
                 symbol: $crate::linker_elf::elf::rows::bits!(symbol $($mask)?),
                 entry: $crate::linker_elf::elf::rows::bits!(entry $($mask)?),
@@ -577,6 +587,11 @@ macro_rules! row {
 macro_rules! bound {
     (has_range any) => { 0 };
     (has_range $range:ident) => { 1 };
+    (reach [] any) => { None };
+    (reach [] pair) => { $crate::linker_elf::elf::rows::bound!(reach [] within -0x80000800..0x7ffff800) };
+    (reach [] $($range:tt)+) => {
+        Some(($crate::linker_elf::elf::rows::bound!(min $($range)+), $crate::linker_elf::elf::rows::bound!(max $($range)+)))
+    };
     (least [] any) => { i64::MIN };
     (last [] any) => { i64::MAX };
     (least [] pair) => { -0x80000800 };
@@ -682,6 +697,8 @@ macro_rules! fact {
     (stub $form:ident $machine:ident PltRelative $($bits:tt)+) => { true };
     (stub $($row:tt)+) => { $crate::linker_elf::elf::rows::fact!(branch $($row)+) };
     (word Bytes Bytes Absolute 0 0 8) => { true };
+    (loads $form:ident Ppc64 PltRelGotBase $($bits:tt)+) => { true };
+    (loads $form:ident Ppc64 PltRelative $($bits:tt)+) => { true };
     (load $form:ident $machine:ident $kind:ident $start:tt 12 0) => { false };
     (load IType $($row:tt)+) => { false };
     (load SType $($row:tt)+) => { false };
@@ -709,7 +726,7 @@ macro_rules! fact {
     ($fact:ident $($row:tt)+) => { false };
 }
 
-/// The entry that a row's formula has; or what is made of that of a kind's formula.
+/// The entry that a row's formula has; or what is made of a kind's formula and its entry.
 macro_rules! entry {
     (IType $($row:tt)+) => { $crate::linker_elf::elf::EntryUse::Without };
     ($form:ident Ppc64 PltRelGotBase $($bits:tt)+) => { $crate::linker_elf::elf::EntryUse::Address };
@@ -720,30 +737,55 @@ macro_rules! entry {
     ($form:ident $machine:ident $kind:ident $start:tt $end:tt $bytes:tt) => {
         $crate::linker_elf::elf::rows::entry!(use_of $kind)
     };
-    ($make:ident GotRelative) => { $crate::linker_elf::elf::rows::entry!(@ $make Address) };
-    ($make:ident GotRelativeLoongArch64) => { $crate::linker_elf::elf::rows::entry!(@ $make Address) };
-    ($make:ident GotRelGotBase) => { $crate::linker_elf::elf::rows::entry!(@ $make Address) };
-    ($make:ident Got) => { $crate::linker_elf::elf::rows::entry!(@ $make Address) };
-    ($make:ident GotTpOff) => { $crate::linker_elf::elf::rows::entry!(@ $make ThreadOffset) };
-    ($make:ident GotTpOffGot) => { $crate::linker_elf::elf::rows::entry!(@ $make ThreadOffset) };
-    ($make:ident GotTpOffGotBase) => { $crate::linker_elf::elf::rows::entry!(@ $make ThreadOffset) };
-    ($make:ident GotTpOffLoongArch64) => { $crate::linker_elf::elf::rows::entry!(@ $make ThreadOffset) };
-    ($make:ident TlsGd) => { $crate::linker_elf::elf::rows::entry!(@ $make ModuleOffset) };
-    ($make:ident TlsGdGot) => { $crate::linker_elf::elf::rows::entry!(@ $make ModuleOffset) };
-    ($make:ident TlsGdGotBase) => { $crate::linker_elf::elf::rows::entry!(@ $make ModuleOffset) };
-    ($make:ident TlsLd) => { $crate::linker_elf::elf::rows::entry!(@ $make Module) };
-    ($make:ident TlsLdGot) => { $crate::linker_elf::elf::rows::entry!(@ $make Module) };
-    ($make:ident TlsLdGotBase) => { $crate::linker_elf::elf::rows::entry!(@ $make Module) };
-    ($make:ident TlsDesc) => { $crate::linker_elf::elf::rows::entry!(@ $make Descriptor) };
-    ($make:ident TlsDescGot) => { $crate::linker_elf::elf::rows::entry!(@ $make Descriptor) };
-    ($make:ident TlsDescGotBase) => { $crate::linker_elf::elf::rows::entry!(@ $make Descriptor) };
-    ($make:ident TlsDescLoongArch64) => { $crate::linker_elf::elf::rows::entry!(@ $make Descriptor) };
-    ($make:ident $kind:ident) => { $crate::linker_elf::elf::rows::entry!(@ $make Without) };
-    (@ low_half Address) => { $crate::linker_elf::elf::EntryUse::LowHalf };
-    (@ has_addend Module) => { false };
-    (@ has_addend Without) => { false };
-    (@ has_addend $entry:ident) => { true };
-    (@ $make:ident $entry:ident) => { $crate::linker_elf::elf::EntryUse::$entry };
+    ($make:ident GotRelative) => { $crate::linker_elf::elf::rows::entry!(@ $make Address EntryLessPlace) };
+    ($make:ident GotRelativeLoongArch64) => {
+        $crate::linker_elf::elf::rows::entry!(@ $make Address LoongArchEntry)
+    };
+    ($make:ident GotRelGotBase) => { $crate::linker_elf::elf::rows::entry!(@ $make Address EntryLessGot) };
+    ($make:ident Got) => { $crate::linker_elf::elf::rows::entry!(@ $make Address Entry) };
+    ($make:ident GotTpOff) => { $crate::linker_elf::elf::rows::entry!(@ $make ThreadOffset EntryLessPlace) };
+    ($make:ident GotTpOffGot) => { $crate::linker_elf::elf::rows::entry!(@ $make ThreadOffset Entry) };
+    ($make:ident GotTpOffGotBase) => {
+        $crate::linker_elf::elf::rows::entry!(@ $make ThreadOffset EntryLessGot)
+    };
+    ($make:ident GotTpOffLoongArch64) => {
+        $crate::linker_elf::elf::rows::entry!(@ $make ThreadOffset LoongArchEntry)
+    };
+    ($make:ident TlsGd) => { $crate::linker_elf::elf::rows::entry!(@ $make ModuleOffset EntryLessPlace) };
+    ($make:ident TlsGdGot) => { $crate::linker_elf::elf::rows::entry!(@ $make ModuleOffset Entry) };
+    ($make:ident TlsGdGotBase) => { $crate::linker_elf::elf::rows::entry!(@ $make ModuleOffset EntryLessGot) };
+    ($make:ident TlsLd) => { $crate::linker_elf::elf::rows::entry!(@ $make Module EntryLessPlace) };
+    ($make:ident TlsLdGot) => { $crate::linker_elf::elf::rows::entry!(@ $make Module Entry) };
+    ($make:ident TlsLdGotBase) => { $crate::linker_elf::elf::rows::entry!(@ $make Module EntryLessGot) };
+    ($make:ident TlsDesc) => { $crate::linker_elf::elf::rows::entry!(@ $make Descriptor EntryLessPlace) };
+    ($make:ident TlsDescGot) => { $crate::linker_elf::elf::rows::entry!(@ $make Descriptor Entry) };
+    ($make:ident TlsDescGotBase) => { $crate::linker_elf::elf::rows::entry!(@ $make Descriptor EntryLessGot) };
+    ($make:ident TlsDescLoongArch64) => {
+        $crate::linker_elf::elf::rows::entry!(@ $make Descriptor LoongArchEntry)
+    };
+    ($make:ident None) => { $crate::linker_elf::elf::rows::entry!(@ $make Without Without) };
+    ($make:ident Alignment) => { $crate::linker_elf::elf::rows::entry!(@ $make Without Without) };
+    ($make:ident TlsDescCall) => { $crate::linker_elf::elf::rows::entry!(@ $make Without Without) };
+    ($make:ident Relative) => { $crate::linker_elf::elf::rows::entry!(@ $make Without SymbolLessPlace) };
+    ($make:ident RelativeRiscVLow12) => {
+        $crate::linker_elf::elf::rows::entry!(@ $make Without SymbolLessPlace)
+    };
+    ($make:ident RelativeLoongArchHigh) => {
+        $crate::linker_elf::elf::rows::entry!(@ $make Without LoongArchHigh)
+    };
+    ($make:ident SymRelGotBase) => { $crate::linker_elf::elf::rows::entry!(@ $make Without SymbolLessGot) };
+    ($make:ident PltRelGotBase) => { $crate::linker_elf::elf::rows::entry!(@ $make Without PltLessGot) };
+    ($make:ident PltRelative) => { $crate::linker_elf::elf::rows::entry!(@ $make Without PltLessPlace) };
+    ($make:ident SymbolSize) => { $crate::linker_elf::elf::rows::entry!(@ $make Without Size) };
+    ($make:ident DtpOff) => { $crate::linker_elf::elf::rows::entry!(@ $make Without Offset) };
+    ($make:ident TpOff) => { $crate::linker_elf::elf::rows::entry!(@ $make Without Offset) };
+    ($make:ident $kind:ident) => { $crate::linker_elf::elf::rows::entry!(@ $make Without Symbol) };
+    (@ formula $entry:ident $formula:ident) => { $crate::linker_elf::elf::value::Formula::$formula };
+    (@ low_half Address $formula:ident) => { $crate::linker_elf::elf::EntryUse::LowHalf };
+    (@ has_addend Module $formula:ident) => { false };
+    (@ has_addend Without $formula:ident) => { false };
+    (@ has_addend $entry:ident $formula:ident) => { true };
+    (@ $make:ident $entry:ident $formula:ident) => { $crate::linker_elf::elf::EntryUse::$entry };
 }
 
 pub(crate) use bits;

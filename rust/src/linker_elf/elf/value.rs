@@ -148,9 +148,34 @@ fn pc_of_sequence(size: RelocationSize, place: u64) -> u64 {
     }
 }
 
-/// What is added to the first term of a formula, and which bits of its terms count.
+/// The terms of a kind's formula: S + A, the entry, L + A or the size, and what is subtracted.
+#[derive(Clone, Copy)]
+pub(crate) enum Formula {
+    Without,
+    Symbol,
+    SymbolLessPlace,
+    /// [`highest_relocation_with_bias`](crate::loongarch64::highest_relocation_with_bias()) of S + A, and below of the entry.
+    #[cfg(feature = "loongarch64")]
+    LoongArchHigh,
+    EntryLessPlace,
+    #[cfg(feature = "loongarch64")]
+    LoongArchEntry,
+    EntryLessGot,
+    Entry,
+    SymbolLessGot,
+    PltLessGot,
+    PltLessPlace,
+    Size,
+    /// S + A less the origin of offsets of TLS symbols.
+    Offset,
+}
+
+/// A row's formula, what is added to its first term, and which bits of its terms count.
 #[derive(Clone, Copy)]
 pub(crate) struct FormulaTerms {
+    pub(crate) formula: Formula,
+    /// Whether L is the word that PowerPC64's calls load.
+    pub(crate) is_word: bool,
     /// The bias.
     pub(crate) bias: u64,
     /// The bits of S + A.
@@ -190,10 +215,10 @@ impl FormulaTerms {
 
     /// L + A. Without an entry of the PLT L is S, except for a call that loads a word.
     #[inline(always)]
-    fn plt(&self, is_word: bool, operands: &Operands) -> Result<u64, FormulaError> {
+    fn plt(&self, operands: &Operands) -> Result<u64, FormulaError> {
         let plt_entry = if operands.has_plt_entry {
             operands.plt_entry
-        } else if is_word {
+        } else if self.is_word {
             return Err(FormulaError::NoEntry);
         } else {
             operands.symbol
@@ -208,63 +233,28 @@ impl RelocationKindInfo {
     fn value_modulo(&self, terms: &FormulaTerms, operands: &Operands) -> Result<u64, FormulaError> {
         let place = operands.place & terms.place;
         let got = operands.got_base & terms.got;
-        match self.kind {
-            RelocationKind::None | RelocationKind::Alignment | RelocationKind::TlsDescCall => {
-                Err(FormulaError::NoValue)
-            }
-            RelocationKind::Absolute
-            | RelocationKind::AbsoluteLowPart
-            | RelocationKind::AbsoluteSet
-            | RelocationKind::AbsoluteSetWord6
-            | RelocationKind::AbsoluteAddition
-            | RelocationKind::AbsoluteAdditionWord6
-            | RelocationKind::AbsoluteSubtraction
-            | RelocationKind::AbsoluteSubtractionWord6
-            | RelocationKind::PairSubtractionULEB128RiscV
-            | RelocationKind::PairSubtractionULEB128LoongArch => Ok(terms.symbol(operands)),
-            RelocationKind::Relative | RelocationKind::RelativeRiscVLow12 => {
-                Ok(terms.symbol(operands).wrapping_sub(place))
-            }
+        match terms.formula {
+            Formula::Without => Err(FormulaError::NoValue),
+            Formula::Symbol => Ok(terms.symbol(operands)),
+            Formula::SymbolLessPlace => Ok(terms.symbol(operands).wrapping_sub(place)),
             #[cfg(feature = "loongarch64")]
-            RelocationKind::RelativeLoongArchHigh => Ok(highest_relocation_with_bias(
+            Formula::LoongArchHigh => Ok(highest_relocation_with_bias(
                 terms.symbol(operands),
                 pc_of_sequence(self.size, operands.place),
             )),
-            RelocationKind::GotRelative
-            | RelocationKind::TlsGd
-            | RelocationKind::TlsLd
-            | RelocationKind::GotTpOff
-            | RelocationKind::TlsDesc => Ok(terms.entry(operands)?.wrapping_sub(place)),
+            Formula::EntryLessPlace => Ok(terms.entry(operands)?.wrapping_sub(place)),
             #[cfg(feature = "loongarch64")]
-            RelocationKind::GotRelativeLoongArch64
-            | RelocationKind::GotTpOffLoongArch64
-            | RelocationKind::TlsDescLoongArch64 => Ok(highest_relocation_with_bias(
+            Formula::LoongArchEntry => Ok(highest_relocation_with_bias(
                 terms.entry(operands)?,
                 pc_of_sequence(self.size, operands.place),
             )),
-            RelocationKind::GotRelGotBase
-            | RelocationKind::TlsGdGotBase
-            | RelocationKind::TlsLdGotBase
-            | RelocationKind::GotTpOffGotBase
-            | RelocationKind::TlsDescGotBase => Ok(terms.entry(operands)?.wrapping_sub(got)),
-            RelocationKind::Got
-            | RelocationKind::TlsGdGot
-            | RelocationKind::TlsLdGot
-            | RelocationKind::GotTpOffGot
-            | RelocationKind::TlsDescGot => terms.entry(operands),
-            RelocationKind::SymRelGotBase => Ok(terms.symbol(operands).wrapping_sub(got)),
-            RelocationKind::PltRelGotBase => {
-                let is_word = self.size.loads_plt_word(self.kind);
-                Ok(terms.plt(is_word, operands)?.wrapping_sub(got))
-            }
-            RelocationKind::PltRelative => {
-                let is_word = self.size.loads_plt_word(self.kind);
-                Ok(terms.plt(is_word, operands)?.wrapping_sub(place))
-            }
-            RelocationKind::SymbolSize => {
-                Ok(terms.sum(operands.symbol_size, operands.addend as u64))
-            }
-            RelocationKind::DtpOff | RelocationKind::TpOff => {
+            Formula::EntryLessGot => Ok(terms.entry(operands)?.wrapping_sub(got)),
+            Formula::Entry => terms.entry(operands),
+            Formula::SymbolLessGot => Ok(terms.symbol(operands).wrapping_sub(got)),
+            Formula::PltLessGot => Ok(terms.plt(operands)?.wrapping_sub(got)),
+            Formula::PltLessPlace => Ok(terms.plt(operands)?.wrapping_sub(place)),
+            Formula::Size => Ok(terms.sum(operands.symbol_size, operands.addend as u64)),
+            Formula::Offset => {
                 if !operands.has_tls_base {
                     return Err(FormulaError::NoTlsBase);
                 }

@@ -3,7 +3,7 @@
 //! LoongArch: the immediates of instructions.
 
 use crate::linker_elf::elf::engine::{self, Encoding, Step, Window, forms};
-use crate::linker_elf::elf::{AllowedRange, InstructionForm, RelocationInstruction};
+use crate::linker_elf::elf::{InstructionForm, RelocationInstruction};
 use crate::linker_base::bit_misc::BitRange;
 
 /// LoongArch instructions with an immediate, and the pairs of long calls (LoongArch Reference
@@ -54,9 +54,6 @@ const STEPS: [[Step; 2]; 6] = loongarch_forms!(2 steps);
 /// The forms by their numbers. A table, since a match becomes a jump by the number where what
 /// follows differs by the form.
 const FORMS: &[LoongArch64Instruction] = &loongarch_forms!(variant LoongArch64Instruction);
-
-/// What `Call36` takes off each end of the range of its high part, because the low part is signed.
-const SIGNED_LOW_18: i64 = 0x20000;
 
 /// Whether the immediate of a `Shift10` has 16 bits, where those of a range are taken, and not 12.
 #[inline(always)]
@@ -165,18 +162,6 @@ impl LoongArch64Instruction {
             | LoongArch64Instruction::Branch21
             | LoongArch64Instruction::Call30
             | LoongArch64Instruction::Call36 => true,
-        }
-    }
-
-    /// Which values of a row can be written of which an instruction takes some bits.
-    #[inline(always)]
-    pub(crate) fn reach(self, range: AllowedRange) -> AllowedRange {
-        match self {
-            LoongArch64Instruction::Call36 => {
-                let half = 1i64 << 37;
-                AllowedRange::new(-half - SIGNED_LOW_18, half - SIGNED_LOW_18)
-            }
-            _ => range,
         }
     }
 

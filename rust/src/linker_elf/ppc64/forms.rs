@@ -3,7 +3,7 @@
 //! PowerPC64 instructions that hold a value.
 
 use crate::linker_elf::elf::engine::{self, Encoding, Step, Window, forms};
-use crate::linker_elf::elf::{AllowedRange, InstructionForm, RelocationInstruction, Sign};
+use crate::linker_elf::elf::{InstructionForm, RelocationInstruction};
 use crate::linker_base::bit_misc::BitRange;
 
 /// PowerPC64 instructions that hold a displacement. The window is 4 bytes, and 8 for `Prefixed`.
@@ -163,17 +163,6 @@ impl Ppc64Instruction {
             self,
             Ppc64Instruction::Branch14 | Ppc64Instruction::Branch24
         )
-    }
-
-    /// Which values of a row can be written of which an instruction takes some bits.
-    #[inline(always)]
-    pub(crate) fn reach(self, bits: BitRange, range: AllowedRange) -> AllowedRange {
-        match (self, range.bounds) {
-            (Ppc64Instruction::D, None) if bits.start == 16 => {
-                AllowedRange::from_bit_size(32, Sign::Signed)
-            }
-            _ => range,
-        }
     }
 
     /// The number that an instruction gets. The lowest four bits of one of DQ-form are kept: they

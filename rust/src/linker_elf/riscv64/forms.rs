@@ -3,7 +3,7 @@
 //! RISC-V: the immediates of instructions.
 
 use crate::linker_elf::elf::engine::{self, Encoding, Step, forms};
-use crate::linker_elf::elf::{AllowedRange, InstructionForm, RelocationInstruction, SIZE_2GB};
+use crate::linker_elf::elf::{InstructionForm, RelocationInstruction};
 use crate::linker_base::bit_misc::BitRange;
 
 /// RISC-V instructions with an immediate (RISC-V unprivileged ISA, "Immediate Encoding Variants"
@@ -64,10 +64,6 @@ const STEPS: [[Step; 6]; 9] = riscv_forms!(6 steps);
 /// The forms by their numbers. A table, since a match becomes a jump by the number where what
 /// follows differs by the form.
 const FORMS: &[RiscVInstruction] = &riscv_forms!(variant RiscVInstruction);
-
-/// What the pairs and `c.lui` take off each end of the range of their high part, because the low
-/// part is signed.
-const SIGNED_LOW_12: i64 = 0x800;
 
 impl RiscVInstruction {
     /// What the form is beside its steps.
@@ -162,24 +158,6 @@ impl RiscVInstruction {
                 | RiscVInstruction::CjType
                 | RiscVInstruction::UiType
         )
-    }
-
-    /// Which values of a row can be written of which an instruction takes some bits.
-    #[inline(always)]
-    pub(crate) fn reach(self, range: AllowedRange) -> AllowedRange {
-        match self {
-            RiscVInstruction::UType
-            | RiscVInstruction::IType
-            | RiscVInstruction::SType
-            | RiscVInstruction::UiType => {
-                let half = SIZE_2GB as i64;
-                AllowedRange::new(-half - SIGNED_LOW_12, half - SIGNED_LOW_12)
-            }
-            RiscVInstruction::CluiType => {
-                AllowedRange::new(-0x20000 - SIGNED_LOW_12, 0x20000 - SIGNED_LOW_12)
-            }
-            _ => range,
-        }
     }
 }
 

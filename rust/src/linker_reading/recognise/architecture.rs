@@ -6,7 +6,8 @@ use crate::linker_reading::recognise::engine::{self, CANDIDATES, Recognised, Rec
 use crate::linker_reading::recognise::fields::FieldBits;
 use crate::linker_reading::windows;
 pub use crate::linker_reading::windows::{Destination, destination_of};
-use crate::architecture::{Relaxation, by_architecture};
+use crate::linker_elf::elf::architecture::by_architecture;
+use crate::architecture::Relaxation;
 use crate::elf::{Architecture, Choice, LinkFacts, RewriteWindow};
 
 /// What is found of the relocation's name that an architecture has for a code.

@@ -2,7 +2,7 @@ use Rattle.std.proofs.Common.{inl, inr, subst, eq-eqb}
 use Rattle.std.proofs.lemmas.Bool.{eqb-true}
 use Rattle.linker_rewriting.specs.Candidates.{IsTaken}
 use Rattle.linker_rewriting.specs.Sequences.{IsWhole}
-use Rattle.linker_utils.specs.Architectures.{IsUnchanged, relaxation_skipped}
+use Rattle.linker_utils.specs.Relaxations.{IsUnchanged, relaxation_skipped}
 use Rattle.linker_rewriting.proofs.candidates.candidate_by.Goals as goal
 
 pub returns-then-is_unchanged-clause-candidate : goal.returns-then-is_unchanged-clause-candidate

@@ -1,7 +1,7 @@
 use Rattle.std.proofs.Common.{◌≡◌, inl, refl, subst, sym, true}
 use Rattle.std.specs.Prelude.{IfSome}
 use Rattle.linker_base.specs.Rewrite.{CanRewrite}
-use Rattle.linker_utils.specs.Architectures.{relaxation_rewrite, relaxation_deleted}
+use Rattle.linker_utils.specs.Relaxations.{relaxation_rewrite, relaxation_deleted}
 use Rattle.linker_rewriting.specs.Candidates.{deletes_within}
 use Rattle.linker_rewriting.specs.Decisions.{CanBeMade}
 use Rattle.linker_rewriting.specs.Inner.Contexts.{context_of}

@@ -5,7 +5,7 @@ use Rattle.linker_section.proofs.Rows.{one_info, one_row}
 use Rattle.linker_section.specs.Relocations.{relocation_in}
 use Rattle.linker_section.specs.Values.{offset_at}
 use Rattle.linker_section.specs.declared.fields.Field.{Field}
-use Rattle.linker_utils.specs.Architectures.{IsRow}
+use Rattle.linker_elf.specs.Architectures.{IsRow}
 use Rattle.linker_section.proofs.ascending.last_field.Goals as goal
 
 pub returns-in-Some : goal.returns-in-Some

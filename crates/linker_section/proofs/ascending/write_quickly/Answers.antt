@@ -5,7 +5,7 @@ use Rattle.linker_section.proofs.RowFacts.{says_way}
 use Rattle.linker_section.proofs.QuickValues.{high_is}
 use Rattle.linker_section.specs.Inner.Facts.{shows_lengths, word_shows}
 use Rattle.linker_elf.specs.Facts.{length_of}
-use Rattle.linker_utils.specs.Architectures.{IsRow}
+use Rattle.linker_elf.specs.Architectures.{IsRow}
 use Rattle.std.proofs.lemmas.List.{get_or-drop}
 use Rattle.std.proofs.Common.{◌≡◌, ℕ, ◌+◌, drop, ◌<◌, ◌^◌, ◌∙◌, refl, sym, ap, subst, arith, rules, length, FitsSigned, to_z, of_z, inl, inr}
 use Rattle.std.specs.Int.{w64}

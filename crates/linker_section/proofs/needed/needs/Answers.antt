@@ -4,7 +4,7 @@ use Rattle.std.specs.Int.{w64}
 use Rattle.linker_section.proofs.RowFacts.{says}
 use Rattle.linker_section.specs.Inner.Facts.{requirements_by}
 use Rattle.linker_section.specs.Needed.{needs_in}
-use Rattle.linker_utils.specs.Architectures.{IsRow}
+use Rattle.linker_elf.specs.Architectures.{IsRow}
 use Rattle.linker_section.proofs.needed.needs.Goals as goal
 
 pub returns-in-Some : goal.returns-in-Some

@@ -6,7 +6,7 @@ use Rattle.linker_section.specs.Fields.{field_len}
 use Rattle.linker_section.specs.Inner.Steps.{field_of_row}
 use Rattle.linker_section.specs.Relocations.{relocation_in}
 use Rattle.linker_section.specs.Values.{has_value, offset_at}
-use Rattle.linker_utils.specs.Architectures.{IsRow}
+use Rattle.linker_elf.specs.Architectures.{IsRow}
 use Rattle.linker_section.proofs.order.field_in.Goals as goal
 
 pub returns-in_default-clause-none : goal.returns-in_default-clause-none

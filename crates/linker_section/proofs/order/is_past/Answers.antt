@@ -4,7 +4,7 @@ use Rattle.linker_elf.specs.Relocate.{window_len}
 use Rattle.linker_section.proofs.Rows.{one_info}
 use Rattle.linker_section.proofs.Runs.{len_within}
 use Rattle.linker_section.specs.Fields.{is_of_pair}
-use Rattle.linker_utils.specs.Architectures.{IsRow}
+use Rattle.linker_elf.specs.Architectures.{IsRow}
 use Rattle.linker_section.proofs.order.is_past.Goals as goal
 
 pub returns-then-not-is_of_pair : goal.returns-then-not-is_of_pair

@@ -3,7 +3,7 @@ use Rattle.std.specs.Prelude.{slice_index}
 use Rattle.linker_section.specs.Inner.Saved.{Restores, with_word, saved_place}
 use Rattle.linker_section.specs.Relocations.{relocation_in}
 use Rattle.linker_section.proofs.Rows.{one_row}
-use Rattle.linker_utils.specs.Architectures.{IsRow}
+use Rattle.linker_elf.specs.Architectures.{IsRow}
 use Rattle.linker_section.proofs.saved.restore.Goals as goal
 
 pub loop-index-preserved : goal.loop-index-preserved

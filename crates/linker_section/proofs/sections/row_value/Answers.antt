@@ -5,7 +5,7 @@ use Rattle.linker_section.proofs.RowFacts.{says}
 use Rattle.linker_section.specs.Conditions.{IsInReach}
 use Rattle.linker_section.specs.Sections.{HasValue, IsValueless}
 use Rattle.linker_section.specs.Values.{IsValue, IsValueIn}
-use Rattle.linker_utils.specs.Architectures.{IsRow}
+use Rattle.linker_elf.specs.Architectures.{IsRow}
 use Rattle.linker_section.proofs.sections.row_value.Goals as goal
 
 pub value_of-requires : goal.value_of-requires

@@ -5,6 +5,7 @@ use super::{ADRP_TO_ADD, NOP_ADR, TO_MOVES};
 use linker_utils::aarch64::{
     AArch64Relocation, RelaxationKind, choose, is_tls_descriptor_sequence, row,
 };
+use linker_utils::architecture::fits;
 use linker_utils::elf::{Architecture, Choice, LinkFacts, Operands};
 use linker_utils::utils::u32_from_slice;
 
@@ -284,7 +285,7 @@ fn halves_made<const N: usize>(mut words: [u32; N], halves: &[(u64, bool)]) -> (
     };
     let group_fits = halves.iter().all(|&(at, is_high)| {
         let code = named(is_high).elf_code();
-        Architecture::AArch64.fits(code, &section, at, &facts)
+        fits(Architecture::AArch64, code, &section, at, &facts)
     });
     let facts = LinkFacts { group_fits, ..facts };
     let chosen: Vec<_> = halves

@@ -3,6 +3,7 @@
 //! Manual, volume 1, and as GNU ld writes them.
 
 use super::relaxed::{ENTRY, IMAGE, SITES};
+use linker_utils::architecture;
 use linker_utils::elf::{Architecture, LinkFacts, Operands};
 use linker_utils::loongarch64::{
     LoongArch64Relocation as Name, RelaxationKind as Kind, choose, fits, row,
@@ -205,7 +206,7 @@ fn group_made<const N: usize>(
         LinkFacts { group_fits, operands: Operands { place, ..facts.operands }, ..*facts }
     };
     let group_fits = group.iter().all(|&(at, name)| {
-        Architecture::LoongArch64.fits(name.elf_code(), &section, at, &at_place(at, false))
+        architecture::fits(Architecture::LoongArch64, name.elf_code(), &section, at, &at_place(at, false))
     });
     let chosen: Vec<_> = group
         .iter()

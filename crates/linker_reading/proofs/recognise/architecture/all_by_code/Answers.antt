@@ -1,6 +1,6 @@
 use Rattle.std.proofs.Common.{◌≡◌, ◌+◌, ◌-◌, ◌++◌, ◌<◌, None, suc, length, get_or, map, take, replicate, set, ap, sym, ◌∙◌, arith}
 use Rattle.linker_reading.specs.FoundByCode.{by_code}
-use Rattle.linker_utils.specs.Architectures.{of_some}
+use Rattle.linker_elf.specs.Architectures.{of_some}
 use Rattle.linker_reading.proofs.Tables.{mapped_more, same_more, none_of}
 use Rattle.linker_reading.proofs.recognise.architecture.all_by_code.Goals.{then-is_some, else-is_some}
 use Rattle.linker_reading.proofs.recognise.architecture.all_by_code.Goals as goal

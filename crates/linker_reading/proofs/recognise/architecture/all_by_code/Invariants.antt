@@ -1,6 +1,6 @@
 use Rattle.std.proofs.Common.{◌≡◌, ◌-◌, ◌++◌, None, map, take, replicate}
 use Rattle.linker_reading.specs.FoundByCode.{by_code}
-use Rattle.linker_utils.specs.Architectures.{of_some}
+use Rattle.linker_elf.specs.Architectures.{of_some}
 use Rattle.linker_reading.proofs.recognise.architecture.all_by_code.Given as goal
 
 -- those so far

@@ -3,7 +3,7 @@ use Rattle.linker_elf.specs.declared.elf.choice.Choice.{Choice}
 use Rattle.linker_reading.proofs.Chosen.{first_is_same, chosen_made}
 use Rattle.linker_reading.specs.Recognised.{IsChosen, IsMade}
 use Rattle.linker_reading.specs.declared.recognise.engine.Recognised.{Recognised}
-use Rattle.linker_utils.specs.Architectures.{relaxation_matches}
+use Rattle.linker_utils.specs.Relaxations.{relaxation_matches}
 use Rattle.linker_reading.proofs.recognise.engine.recognise_chosen.Goals as goal
 
 pub returns : goal.returns

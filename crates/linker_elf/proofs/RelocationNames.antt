@@ -1,0 +1,73 @@
+-- How ELF names the relocation with a code: with a text, or as one of the codes without.
+use Rattle.std.proofs.Common.{◌≡◌, ◌≤◌, ℕ, List, length, lit≤, ap, refl, sym, ◌∙◌}
+use Rattle.linker_elf.specs.ElfNames.{ElfName, named, unnamed, code_of, text_of, IsNamed, IsNameOf}
+use Rattle.linker_elf.specs.AArch64Relocations.{aarch64_name}
+use Rattle.linker_elf.specs.declared.aarch64.relocations.AArch64Relocation.{AArch64Relocation}
+use Rattle.linker_elf.specs.declared.aarch64.relocations.AArch64Relocation.TheVariants as aarch64_names
+use Rattle.linker_elf.specs.RiscVRelocations.{riscv_name}
+use Rattle.linker_elf.specs.declared.riscv64.relocations.RiscVRelocation.{RiscVRelocation}
+use Rattle.linker_elf.specs.declared.riscv64.relocations.RiscVRelocation.TheVariants as riscv64_names
+use Rattle.linker_elf.specs.LoongArchRelocations.{loongarch_name}
+use Rattle.linker_elf.specs.declared.loongarch64.relocations.LoongArch64Relocation.{LoongArch64Relocation}
+use Rattle.linker_elf.specs.declared.loongarch64.relocations.LoongArch64Relocation.TheVariants as loongarch64_names
+use Rattle.linker_elf.specs.Ppc64Relocations.{ppc64_name}
+use Rattle.linker_elf.specs.declared.ppc64.relocations.Ppc64Relocation.{Ppc64Relocation}
+use Rattle.linker_elf.specs.declared.ppc64.relocations.Ppc64Relocation.TheVariants as ppc64_names
+use Rattle.linker_elf.specs.X86Relocations.{x86_64_name}
+use Rattle.linker_elf.specs.declared.x86_64.relocations.X86_64Relocation.{X86_64Relocation}
+use Rattle.linker_elf.specs.declared.x86_64.relocations.X86_64Relocation.TheVariants as x86_64_names
+use Rattle.linker_elf.specs.Architectures.{IsNamedValue}
+
+named_is : (elf : ElfName) (r_type : ℕ) (text : List ℕ) → IsNamed elf → code_of elf ≡ r_type → text ≡ text_of elf → named r_type text ≡ elf
+named_is (named r t) r_type text is code_is text_is = ap (λ k. named k text) (sym code_is) ∙ ap (λ k. named r k) text_is
+named_is (unnamed r) r_type text is code_is text_is = absurd is
+
+pub of_named : {Name : Type 0} (elf : Name → ElfName) (r_type : ℕ) (name : Name) (text : List ℕ) → IsNameOf elf r_type name → IsNamed (elf name) → text ≡ text_of (elf name) → IsNamedValue elf elf r_type (named r_type text)
+of_named elf r_type name text is_name is_named text_is =
+    record { name = name; is_name = is_name; value_is = named_is (elf name) r_type text is_named is_name.code_is text_is }
+
+pub of_unnamed : {Name : Type 0} (elf : Name → ElfName) (r_type : ℕ) (name : Name) (code : ℕ) → IsNameOf elf r_type name → elf name ≡ unnamed code → IsNamedValue elf elf r_type (unnamed r_type)
+of_unnamed elf r_type name code is_name is =
+    record { name = name; is_name = is_name; value_is = ap unnamed (sym is_name.code_is ∙ ap code_of is) ∙ sym is }
+
+-- Each name but `Other` has a text.
+pub aarch64_is_named : (name : AArch64Relocation) → ((code : ℕ) → name ≡ aarch64_names.Other code → ⊥) → IsNamed (aarch64_name name)
+aarch64_is_named (aarch64_names.Other code) isnt = absurd (isnt code refl)
+aarch64_is_named _ isnt = tt
+
+pub riscv64_is_named : (name : RiscVRelocation) → ((code : ℕ) → name ≡ riscv64_names.Other code → ⊥) → IsNamed (riscv_name name)
+riscv64_is_named (riscv64_names.Other code) isnt = absurd (isnt code refl)
+riscv64_is_named _ isnt = tt
+
+pub loongarch64_is_named : (name : LoongArch64Relocation) → ((code : ℕ) → name ≡ loongarch64_names.Other code → ⊥) → IsNamed (loongarch_name name)
+loongarch64_is_named (loongarch64_names.Other code) isnt = absurd (isnt code refl)
+loongarch64_is_named _ isnt = tt
+
+pub ppc64_is_named : (name : Ppc64Relocation) → ((code : ℕ) → name ≡ ppc64_names.Other code → ⊥) → IsNamed (ppc64_name name)
+ppc64_is_named (ppc64_names.Other code) isnt = absurd (isnt code refl)
+ppc64_is_named _ isnt = tt
+
+pub x86_64_is_named : (name : X86_64Relocation) → ((code : ℕ) → name ≡ x86_64_names.Other code → ⊥) → IsNamed (x86_64_name name)
+x86_64_is_named (x86_64_names.Other code) isnt = absurd (isnt code refl)
+x86_64_is_named _ isnt = tt
+
+-- No name has more than 39 bytes.
+pub aarch64_is_short : (name : AArch64Relocation) → length (text_of (aarch64_name name)) ≤ 39
+aarch64_is_short (aarch64_names.Other code) = lit≤ tt
+aarch64_is_short _ = lit≤ tt
+
+pub riscv64_is_short : (name : RiscVRelocation) → length (text_of (riscv_name name)) ≤ 39
+riscv64_is_short (riscv64_names.Other code) = lit≤ tt
+riscv64_is_short _ = lit≤ tt
+
+pub loongarch64_is_short : (name : LoongArch64Relocation) → length (text_of (loongarch_name name)) ≤ 39
+loongarch64_is_short (loongarch64_names.Other code) = lit≤ tt
+loongarch64_is_short _ = lit≤ tt
+
+pub ppc64_is_short : (name : Ppc64Relocation) → length (text_of (ppc64_name name)) ≤ 39
+ppc64_is_short (ppc64_names.Other code) = lit≤ tt
+ppc64_is_short _ = lit≤ tt
+
+pub x86_64_is_short : (name : X86_64Relocation) → length (text_of (x86_64_name name)) ≤ 39
+x86_64_is_short (x86_64_names.Other code) = lit≤ tt
+x86_64_is_short _ = lit≤ tt

@@ -1,0 +1,68 @@
+use Rattle.std.proofs.Common.{ap}
+use Rattle.linker_elf.specs.AArch64Relocations.{aarch64_name}
+use Rattle.linker_elf.specs.RiscVRelocations.{riscv_name}
+use Rattle.linker_elf.specs.LoongArchRelocations.{loongarch_name}
+use Rattle.linker_elf.specs.Ppc64Relocations.{ppc64_name}
+use Rattle.linker_elf.specs.X86Relocations.{x86_64_name}
+use Rattle.linker_elf.proofs.RelocationNames.{of_named, of_unnamed, aarch64_is_short, riscv64_is_short, loongarch64_is_short, ppc64_is_short, x86_64_is_short, aarch64_is_named, riscv64_is_named, loongarch64_is_named, ppc64_is_named, x86_64_is_named}
+use Rattle.linker_elf.proofs.elf.architecture.Architecture.name.Goals as goal
+
+pub returns-in-Other-clause-unknown : goal.returns-in-Other-clause-unknown
+returns-in-Other-clause-unknown c =
+    rw c.in-AArch64.is (of_unnamed aarch64_name c.args.code c.from_elf.result c.in-Other.field-0 c.from_elf.ensures (ap aarch64_name c.in-Other.is))
+
+pub returns-in_default : goal.returns-in_default
+returns-in_default c =
+    record {
+      known = rw c.in-AArch64.is (of_named aarch64_name c.args.code c.from_elf.result c.name.result.now c.from_elf.ensures (aarch64_is_named c.from_elf.result c.in_default.not-Other) c.name.ensures);
+      short = rw c.name.ensures (aarch64_is_short c.from_elf.result);
+      unknown = tt;
+    }
+
+pub returns-in-Other-from_elf-clause-unknown : goal.returns-in-Other-from_elf-clause-unknown
+returns-in-Other-from_elf-clause-unknown c =
+    rw c.in-RiscV.is (of_unnamed riscv_name c.args.code c.from_elf-in-RiscV.result c.in-Other-from_elf.field-0 c.from_elf-in-RiscV.ensures (ap riscv_name c.in-Other-from_elf.is))
+
+pub returns-in_default-from_elf : goal.returns-in_default-from_elf
+returns-in_default-from_elf c =
+    record {
+      known = rw c.in-RiscV.is (of_named riscv_name c.args.code c.from_elf-in-RiscV.result c.name-in_default-from_elf.result.now c.from_elf-in-RiscV.ensures (riscv64_is_named c.from_elf-in-RiscV.result c.in_default-from_elf.not-Other) c.name-in_default-from_elf.ensures);
+      short = rw c.name-in_default-from_elf.ensures (riscv64_is_short c.from_elf-in-RiscV.result);
+      unknown = tt;
+    }
+
+pub returns-in-Other-from_elf-2-clause-unknown : goal.returns-in-Other-from_elf-2-clause-unknown
+returns-in-Other-from_elf-2-clause-unknown c =
+    rw c.in-LoongArch64.is (of_unnamed loongarch_name c.args.code c.from_elf-in-LoongArch64.result c.in-Other-from_elf-2.field-0 c.from_elf-in-LoongArch64.ensures (ap loongarch_name c.in-Other-from_elf-2.is))
+
+pub returns-in_default-from_elf-2 : goal.returns-in_default-from_elf-2
+returns-in_default-from_elf-2 c =
+    record {
+      known = rw c.in-LoongArch64.is (of_named loongarch_name c.args.code c.from_elf-in-LoongArch64.result c.name-in_default-from_elf-2.result.now c.from_elf-in-LoongArch64.ensures (loongarch64_is_named c.from_elf-in-LoongArch64.result c.in_default-from_elf-2.not-Other) c.name-in_default-from_elf-2.ensures);
+      short = rw c.name-in_default-from_elf-2.ensures (loongarch64_is_short c.from_elf-in-LoongArch64.result);
+      unknown = tt;
+    }
+
+pub returns-in-Other-from_elf-3-clause-unknown : goal.returns-in-Other-from_elf-3-clause-unknown
+returns-in-Other-from_elf-3-clause-unknown c =
+    rw c.in-Ppc64.is (of_unnamed ppc64_name c.args.code c.from_elf-in-Ppc64.result c.in-Other-from_elf-3.field-0 c.from_elf-in-Ppc64.ensures (ap ppc64_name c.in-Other-from_elf-3.is))
+
+pub returns-in_default-from_elf-3 : goal.returns-in_default-from_elf-3
+returns-in_default-from_elf-3 c =
+    record {
+      known = rw c.in-Ppc64.is (of_named ppc64_name c.args.code c.from_elf-in-Ppc64.result c.name-in_default-from_elf-3.result.now c.from_elf-in-Ppc64.ensures (ppc64_is_named c.from_elf-in-Ppc64.result c.in_default-from_elf-3.not-Other) c.name-in_default-from_elf-3.ensures);
+      short = rw c.name-in_default-from_elf-3.ensures (ppc64_is_short c.from_elf-in-Ppc64.result);
+      unknown = tt;
+    }
+
+pub returns-in-Other-from_elf-4-clause-unknown : goal.returns-in-Other-from_elf-4-clause-unknown
+returns-in-Other-from_elf-4-clause-unknown c =
+    rw c.in-X86_64.is (of_unnamed x86_64_name c.args.code c.from_elf-in-X86_64.result c.in-Other-from_elf-4.field-0 c.from_elf-in-X86_64.ensures (ap x86_64_name c.in-Other-from_elf-4.is))
+
+pub returns-in_default-from_elf-4 : goal.returns-in_default-from_elf-4
+returns-in_default-from_elf-4 c =
+    record {
+      known = rw c.in-X86_64.is (of_named x86_64_name c.args.code c.from_elf-in-X86_64.result c.name-in_default-from_elf-4.result.now c.from_elf-in-X86_64.ensures (x86_64_is_named c.from_elf-in-X86_64.result c.in_default-from_elf-4.not-Other) c.name-in_default-from_elf-4.ensures);
+      short = rw c.name-in_default-from_elf-4.ensures (x86_64_is_short c.from_elf-in-X86_64.result);
+      unknown = tt;
+    }

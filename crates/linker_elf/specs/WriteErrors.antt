@@ -1,0 +1,29 @@
+-- What is said of a value that isn't written.
+use Rattle.std.specs.Prelude.{◌^◌, ◌-◌, ℤ, pos, neg_ℤ, Some, None}
+use Rattle.std.specs.Int.{w64, cast_signed, cast_unsigned}
+use Rattle.linker_elf.specs.Reach.{reach_of}
+use Rattle.linker_elf.specs.Rows.{Bounds}
+use Rattle.linker_elf.specs.Value.{difference_64}
+use Rattle.linker_elf.specs.declared.elf.RelocationKindInfo.{RelocationKindInfo}
+use Rattle.linker_elf.specs.declared.elf.relocate.RelocateError.{RelocateError}
+use Rattle.linker_elf.specs.declared.elf.relocate.WriteError.{WriteError}
+
+-- the least number within bounds, and the last one, which is before their end; of no bounds those
+-- of 64 bits
+abbrev pub least_within : Bounds → ℤ
+least_within None = neg_ℤ (pos (2 ^ 63))
+least_within (Some b) = b.0
+
+abbrev pub greatest_within : Bounds → ℤ
+greatest_within None = pos (2 ^ 63 - 1)
+greatest_within (Some b) = cast_signed w64 (difference_64 (cast_unsigned w64 b.1) 1)
+
+abbrev pub write_error : RelocationKindInfo → ℤ → RelocateError → WriteError
+write_error row value error =
+    record {
+      error = error;
+      value = value;
+      least = least_within (reach_of row);
+      greatest = greatest_within (reach_of row);
+      alignment = row.alignment;
+    }
