@@ -1,7 +1,7 @@
 // SPDX-License-Identifier: MIT OR Apache-2.0
 // Made by tools/generate of crates/linker_utils/src/rewrite_rows.rt.
-//! Rewrites as data. A row has the instructions that a rewrite is for, what it makes of the first
-//! one, and what is deleted.
+//! Rewrites as data. A row has the instructions that a rewrite is for, what it makes of them, and
+//! what is deleted.
 
 use crate::linker_base::bit_misc::BitExtraction;
 use crate::linker_base::rewrite::{DeletedBytes, RewriteWindow, has_window, overwrite};
@@ -15,6 +15,8 @@ pub(crate) enum WordBits {
     Top(u64, u32),
     /// From a bit up, below another.
     Field(u64, u32, u32),
+    /// Those that a mask has, in their places.
+    Masked(u64, u32),
 }
 
 /// What has to hold of the numbers in bits of instructions.
@@ -34,24 +36,28 @@ pub(crate) enum WordTest {
     DifferWhere(WordBits, u64, u64, WordBits, WordBits),
 }
 
-/// The bits of an instruction that a rewrite keeps, and those that it sets then.
+/// An instruction that a rewrite writes.
 #[derive(Clone, Copy)]
 pub(crate) struct WordEdit {
-    /// Those that it keeps.
+    /// The bits that it has of the first instruction before.
     pub keep: u32,
-    /// Those that it sets.
+    /// Those that are set then.
     pub set: u32,
 }
 
-/// A rewrite. The first instruction is at the relocation's offset.
+/// A rewrite.
 #[derive(Clone, Copy)]
 pub(crate) struct RewriteRow {
     /// How many bytes the instructions have. A rewrite of none is for any offset.
     pub len: u64,
+    /// How many bytes before the relocation's offset the first one is.
+    pub back: u64,
     /// What has to hold of them.
     pub tests: &'static [WordTest],
-    /// What it makes of the first one.
-    pub edit: Option<WordEdit>,
+    /// What has to hold of them too, also for `apply`.
+    pub required: &'static [WordTest],
+    /// The instructions that it writes in their place: none, one or two.
+    pub edits: &'static [WordEdit],
     /// The bytes that are then deleted.
     pub deleted: Option<DeletedBytes>,
 }
@@ -59,11 +65,12 @@ pub(crate) struct RewriteRow {
 /// The number in bits of an instruction, where the first instruction is at an offset.
 #[inline(always)]
 fn bits_at(section: &[u8], offset: u64, bits: WordBits, len: u64) -> u64 {
-    let (WordBits::Top(at, _) | WordBits::Field(at, _, _)) = bits;
+    let (WordBits::Top(at, _) | WordBits::Field(at, _, _) | WordBits::Masked(at, _)) = bits;
     let word = u64::from(u32_from_slice(&section[(offset + at) as usize..]));
     match bits {
         WordBits::Top(_, from) => word >> from,
         WordBits::Field(_, from, to) => word.extract_bit_range(from..to),
+        WordBits::Masked(_, mask) => word & u64::from(mask),
     }
 }
 
@@ -98,7 +105,7 @@ impl WordTest {
 /// Whether all tests hold of instructions, of which the first is at an offset. Of constant tests
 /// LLVM leaves what they compare: so there is no loop.
 #[inline(always)]
-fn all_hold(tests: &'static [WordTest], section: &[u8], offset: u64, len: u64) -> bool {
+pub(crate) fn all_hold(tests: &'static [WordTest], section: &[u8], offset: u64, len: u64) -> bool {
     match tests {
         [] => true,
         [a] => a.holds(section, offset, len),
@@ -130,50 +137,81 @@ pub(crate) fn are_at(tests: &'static [WordTest], section: &[u8], offset: u64, le
     has_window(section, offset, 0, len) && all_hold(tests, section, offset, len)
 }
 
+impl WordEdit {
+    /// The instruction, where the first one before is this word.
+    #[inline(always)]
+    fn of(self, word: u32) -> u32 {
+        word & self.keep | self.set
+    }
+}
+
 impl RewriteRow {
     /// Whether the instructions that the rewrite is for are at an offset of a section.
     #[inline(always)]
     pub(crate) fn is_for(self, section: &[u8], offset: u64) -> bool {
-        self.len == 0 || are_at(self.tests, section, offset, self.len)
+        self.len == 0
+            || self.back <= offset
+                && are_at(self.tests, section, offset - self.back, self.len)
+                && all_hold(self.required, section, offset - self.back, self.len)
     }
 
     /// The bytes that the rewrite writes.
     #[inline(always)]
     pub(crate) fn window(self) -> RewriteWindow {
-        let len = if self.edit.is_some() { 4 } else { 0 };
-        RewriteWindow { back: 0, len }
+        let (back, len) = match self.edits {
+            [] => (0, 0),
+            [_] => (self.back, 4),
+            [_, _, ..] => (self.back, 8),
+        };
+        RewriteWindow { back, len }
     }
 
-    /// Rewrites the first instruction, which is at an offset of a section.
+    /// Whether `apply` may be called at an offset of a section.
+    #[inline(always)]
+    pub(crate) fn can_apply(self, section: &[u8], offset: u64) -> bool {
+        let RewriteWindow { back, len } = self.window();
+        len == 0
+            || has_window(section, offset, back, len)
+                && all_hold(self.required, section, offset - back, 4)
+    }
+
+    /// Rewrites the first instructions, at an offset of a section.
     #[inline(always)]
     pub(crate) fn apply(self, section: &mut [u8], offset: u64) {
-        if let Some(edit) = self.edit {
-            let word = u32_from_slice(&section[offset as usize..]);
-            let word = word & edit.keep | edit.set;
-            overwrite(section, offset, &word.to_le_bytes());
+        if let [first, more @ ..] = self.edits {
+            let start = offset - self.back;
+            let word = u32_from_slice(&section[start as usize..]);
+            match more {
+                [] => overwrite(section, start, &first.of(word).to_le_bytes()),
+                [second, ..] => {
+                    let both = u64::from(first.of(word)) + (u64::from(second.of(word)) << 32);
+                    overwrite(section, start, &both.to_le_bytes());
+                }
+            }
         }
     }
 }
 
 /// What a row is used for, in an arm for each rewrite, and there of a constant row. Each row has
-/// the length of the instructions, their tests, of which the macro `$tests` makes an array, the bits
-/// kept and set, and where 4 bytes are deleted.
+/// the length of the instructions, how far before the offset they begin, their tests, and those
+/// that `apply` requires; the macro `$tests` makes arrays of them. Then it has the bits kept and set
+/// of each instruction that is written, and where 4 bytes are deleted.
 macro_rules! by_row {
     (
         $tests:ident, $value:expr, $row:ident => $use:expr;
-        $($kind:ident: $len:literal $of:tt $(keep $keep:literal set $set:literal)?
-            $(delete $start:literal)?;)*
+        $($kind:ident: $len:literal $(back $back:literal)? [$($of:tt)*] $(required [$($given:tt)*])?
+            $(keep $keep:literal set $set:literal)* $(delete $start:literal)?;)*
     ) => {
         match $value {
             $(RelaxationKind::$kind => {
                 let $row = $crate::rewrite_rows::RewriteRow {
                     len: $len,
-                    tests: &$tests! $of,
-                    edit: $crate::rewrite_rows::optional!(
-                        $($crate::rewrite_rows::WordEdit { keep: $keep, set: $set })?
-                    ),
-                    deleted: $crate::rewrite_rows::optional!(
-                        $(crate::linker_base::rewrite::DeletedBytes { start: $start, count: 4 })?
+                    back: $crate::rewrite_rows::or!(0; $($back)?),
+                    tests: &$tests![$($of)*],
+                    required: &$crate::rewrite_rows::or!([]; $($tests![$($given)*])?),
+                    edits: &[$($crate::rewrite_rows::WordEdit { keep: $keep, set: $set }),*],
+                    deleted: $crate::rewrite_rows::or!(
+                        None; $(Some(crate::linker_base::rewrite::DeletedBytes { start: $start, count: 4 }))?
                     ),
                 };
                 $use
@@ -182,10 +220,11 @@ macro_rules! by_row {
     };
 }
 
-macro_rules! optional {
-    () => { None };
-    ($value:expr) => { Some($value) };
+/// A value, or else what stands for none.
+macro_rules! or {
+    ($none:expr;) => { $none };
+    ($none:expr; $value:expr) => { $value };
 }
 
 pub(crate) use by_row;
-pub(crate) use optional;
+pub(crate) use or;

@@ -1,11 +1,9 @@
--- Which rewrite of AArch64 is chosen: words at offsets, operands after a rewrite, and what follows from
--- a choice.
-use Rattle.std.proofs.Common.{◌≡◌, ◌<◌, ◌≤◌, ℕ, ℤ, ◌+◌, ◌-◌, ◌%◌, ◌^◌, List, [], ◌∷◌, take, ap, ◌∙◌, refl, subst, arith, rules}
+-- Which rewrite of AArch64 is chosen: operands after a rewrite, and what follows from a choice.
+use Rattle.std.proofs.Common.{◌≡◌, ◌<◌, ◌≤◌, ℕ, ℤ, ◌+◌, ◌-◌, ◌%◌, ◌^◌, List, ap, ◌∙◌, refl, subst, arith, rules}
 use Rattle.std.specs.Prelude.{⊤}
-use Rattle.std.specs.Int.{w32, from_le_bytes}
 use Rattle.linker_base.specs.Rewrite.{CanRewrite, offset_after, addend_after}
 use Rattle.linker_utils.specs.AArch64Rewrites.{aarch64_rewrite, rd_of, rn_of}
-use Rattle.linker_utils.specs.AArch64Rewrites.{AreOfDescriptor, IsOfDescriptor, IsEntryLoad, AArch64Applies, AArch64Choice, IsAArch64Choice, aarch64_entries}
+use Rattle.linker_utils.specs.AArch64Rewrites.{IsOfDescriptor, IsEntryLoad, AArch64Applies, AArch64Choice, IsAArch64Choice, aarch64_entries}
 use Rattle.linker_utils.specs.AArch64Rewrites.{IsAdrp, IsLdr64, aarch64_matches}
 use Rattle.linker_elf.specs.Choices.{choice, operands_after}
 use Rattle.linker_elf.specs.Originals.{HasWord}
@@ -16,23 +14,6 @@ use Rattle.linker_elf.specs.declared.elf.choice.LinkFacts.{LinkFacts}
 use Rattle.linker_elf.specs.declared.elf.value.Operands.{Operands}
 use Rattle.linker_utils.specs.declared.aarch64.rewrites.RelaxationKind.{RelaxationKind}
 use Rattle.linker_utils.specs.declared.aarch64.rewrites.RelaxationKind.TheVariants.{NoOp, ReplaceWithNop, MovzX0Lsl16, MovkX0, MovzXnLsl16, MovkXn, AdrpToAdr, AdrpX0, LdrX0, AddToAdr, LdrToAdr, LdrToAdd, AdrpAddToNopAdr}
-
--- ---- words
-
-pub whole_word : (xs : List ℕ) → from_le_bytes w32 (take 4 xs) ≡ from_le_bytes w32 xs
-whole_word [] = refl
-whole_word (a ∷ []) = refl
-whole_word (a ∷ b ∷ []) = refl
-whole_word (a ∷ b ∷ c ∷ []) = refl
-whole_word (a ∷ b ∷ c ∷ d ∷ xs) = refl
-
--- the same four words
-pub same_descriptor : {a b c d a' b' c' d' : ℕ} → a ≡ a' → b ≡ b' → c ≡ c' → d ≡ d'
-    → AreOfDescriptor a b c d → AreOfDescriptor a' b' c' d'
-same_descriptor {a} {b} {c} {d} {a'} {b'} {c'} {d'} p q r s h =
-    subst (λ x. AreOfDescriptor a' b' c' x) s
-    (subst (λ x. AreOfDescriptor a' b' x d) r
-    (subst (λ x. AreOfDescriptor a' x c d) q (subst (λ x. AreOfDescriptor x b c d) p h)))
 
 -- ---- what a name requires is what its rewrites are meant for
 

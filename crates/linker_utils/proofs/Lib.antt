@@ -1,7 +1,6 @@
 pub mod AArch64Alike
 pub mod AArch64Choices
 pub mod AArch64Moves
-pub mod AArch64Rewrites
 pub mod CallSites
 pub mod Jumps
 pub mod LoongArchAlike

@@ -7,6 +7,7 @@ use Rattle.linker_utils.specs.AArch64Rewrites.{aarch64_rewrites}
 use Rattle.linker_utils.specs.AArch64Rewrites.{IsAArch64Choice}
 use Rattle.linker_utils.specs.AArch64Rewrites.{aarch64_matches}
 use Rattle.linker_elf.specs.AArch64Relocations.{aarch64_name}
+use Rattle.linker_elf.specs.Architectures.{IsNamedValue, of_some}
 use Rattle.linker_elf.specs.Choices.{with_group}
 use Rattle.linker_elf.specs.ElfNames.{ElfName, IsNameOf, code_of}
 use Rattle.linker_utils.specs.LoongArchRewrites.{IsLoongArchChoice}

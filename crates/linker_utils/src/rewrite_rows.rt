@@ -1,12 +1,12 @@
-//! Rewrites as data. A row has the instructions that a rewrite is for, what it makes of the first
-//! one, and what is deleted.
+//! Rewrites as data. A row has the instructions that a rewrite is for, what it makes of them, and
+//! what is deleted.
 
-ghost use Rattle.std.specs.Prelude.{◌≡◌, ◌≤◌, ◌<◌, ◌+◌, ◌-◌, ◌^◌, ◌↔◌, IsTrue, IfSome, length, take, drop};
+ghost use Rattle.std.specs.Prelude.{◌≡◌, ◌≤◌, ◌<◌, ◌+◌, ◌-◌, ◌^◌, ◌↔◌, ◌⊎◌, IsTrue, length, take, drop, []};
 ghost use Rattle.std.specs.Int.{w32, from_le_bytes};
 ghost use Rattle.linker_base.specs.Rewrite.{CanRewrite, rewritten};
 ghost use Rattle.linker_base.specs.RewriteWindow.{window_of_rewrite};
 ghost use Rattle.linker_utils.specs.Inner.RewriteRows.{bits_at, AreBits, IsInside, Holds, AreInside};
-ghost use Rattle.linker_utils.specs.Inner.RewriteRows.{AllHold, AreAt, IsFor, row_rewrite};
+ghost use Rattle.linker_utils.specs.Inner.RewriteRows.{AllHold, AreAt, IsFor, CanApply, edited, row_rewrite};
 
 use linker_base::bit_misc::BitExtraction;
 use linker_base::rewrite::{DeletedBytes, RewriteWindow, has_window, overwrite};
@@ -20,6 +20,8 @@ pub(crate) enum WordBits {
     Top(u64, u32),
     /// From a bit up, below another.
     Field(u64, u32, u32),
+    /// Those that a mask has, in their places.
+    Masked(u64, u32),
 }
 
 /// What has to hold of the numbers in bits of instructions.
@@ -39,24 +41,28 @@ pub(crate) enum WordTest {
     DifferWhere(WordBits, u64, u64, WordBits, WordBits),
 }
 
-/// The bits of an instruction that a rewrite keeps, and those that it sets then.
+/// An instruction that a rewrite writes.
 #[derive(Clone, Copy)]
 pub(crate) struct WordEdit {
-    /// Those that it keeps.
+    /// The bits that it has of the first instruction before.
     pub keep: u32,
-    /// Those that it sets.
+    /// Those that are set then.
     pub set: u32,
 }
 
-/// A rewrite. The first instruction is at the relocation's offset.
+/// A rewrite.
 #[derive(Clone, Copy)]
 pub(crate) struct RewriteRow {
     /// How many bytes the instructions have. A rewrite of none is for any offset.
     pub len: u64,
+    /// How many bytes before the relocation's offset the first one is.
+    pub back: u64,
     /// What has to hold of them.
     pub tests: &'static [WordTest],
-    /// What it makes of the first one.
-    pub edit: Option<WordEdit>,
+    /// What has to hold of them too, also for `apply`.
+    pub required: &'static [WordTest],
+    /// The instructions that it writes in their place: none, one or two.
+    pub edits: &'static [WordEdit],
     /// The bytes that are then deleted.
     pub deleted: Option<DeletedBytes>,
 }
@@ -69,11 +75,12 @@ fn bits_at(section: &[u8], offset: u64, bits: WordBits, len: u64) -> u64
     requires inside { AreBits len bits }
     ensures { result ≡ bits_at section.now offset bits }
 {
-    let (WordBits::Top(at, _) | WordBits::Field(at, _, _)) = bits;
+    let (WordBits::Top(at, _) | WordBits::Field(at, _, _) | WordBits::Masked(at, _)) = bits;
     let word = u64::from(u32_from_slice(&section[(offset + at) as usize..]));
     match bits {
         WordBits::Top(_, from) => word >> from,
         WordBits::Field(_, from, to) => word.extract_bit_range(from..to),
+        WordBits::Masked(_, mask) => word & u64::from(mask),
     }
 }
 
@@ -112,7 +119,7 @@ impl WordTest {
 /// Whether all tests hold of instructions, of which the first is at an offset. Of constant tests
 /// LLVM leaves what they compare: so there is no loop.
 #[inline(always)]
-fn all_hold(tests: &'static [WordTest], section: &[u8], offset: u64, len: u64) -> bool
+pub(crate) fn all_hold(tests: &'static [WordTest], section: &[u8], offset: u64, len: u64) -> bool
     requires window { offset + len ≤ length section.now }
     requires inside { AreInside len tests.now }
     requires few { length tests.now ≤ 5 }
@@ -153,15 +160,30 @@ pub(crate) fn are_at(tests: &'static [WordTest], section: &[u8], offset: u64, le
     has_window(section, offset, 0, len) && all_hold(tests, section, offset, len)
 }
 
+impl WordEdit {
+    /// The instruction, where the first one before is this word.
+    #[inline(always)]
+    fn of(self, word: u32) -> u32
+        ensures { result ≡ edited word self }
+    {
+        word & self.keep | self.set
+    }
+}
+
 impl RewriteRow {
     /// Whether the instructions that the rewrite is for are at an offset of a section.
     #[inline(always)]
     pub(crate) fn is_for(self, section: &[u8], offset: u64) -> bool
         requires inside { AreInside self.len self.tests.now }
         requires few { length self.tests.now ≤ 5 }
+        requires required_inside { AreInside self.len self.required.now }
+        requires few_required { length self.required.now ≤ 5 }
         ensures { IsTrue result ↔ IsFor self section.now offset }
     {
-        self.len == 0 || are_at(self.tests, section, offset, self.len)
+        self.len == 0
+            || self.back <= offset
+                && are_at(self.tests, section, offset - self.back, self.len)
+                && all_hold(self.required, section, offset - self.back, self.len)
     }
 
     /// The bytes that the rewrite writes.
@@ -169,45 +191,69 @@ impl RewriteRow {
     pub(crate) fn window(self) -> RewriteWindow
         ensures { result ≡ window_of_rewrite (row_rewrite self) }
     {
-        let len = if self.edit.is_some() { 4 } else { 0 };
-        RewriteWindow { back: 0, len }
+        let (back, len) = match self.edits {
+            [] => (0, 0),
+            [_] => (self.back, 4),
+            [_, _, ..] => (self.back, 8),
+        };
+        RewriteWindow { back, len }
     }
 
-    /// Rewrites the first instruction, which is at an offset of a section.
+    /// Whether `apply` may be called at an offset of a section.
+    #[inline(always)]
+    pub(crate) fn can_apply(self, section: &[u8], offset: u64) -> bool
+        requires inside { AreInside 4 self.required.now }
+        requires few { length self.required.now ≤ 5 }
+        ensures { IsTrue result ↔ CanApply self section.now offset }
+    {
+        let RewriteWindow { back, len } = self.window();
+        len == 0
+            || has_window(section, offset, back, len)
+                && all_hold(self.required, section, offset - back, 4)
+    }
+
+    /// Rewrites the first instructions, at an offset of a section.
     #[inline(always)]
     pub(crate) fn apply(self, section: &mut [u8], offset: u64)
         requires { CanRewrite (row_rewrite self) section.old offset }
         ensures edited { section.new ≡ rewritten (row_rewrite self) section.old offset }
-        ensures word { IfSome self.edit
-            (λ edit. from_le_bytes w32 (take 4 (drop (offset - 0) section.old)) < 2 ^ 32) }
+        ensures word { (self.edits.now ≡ [])
+            ⊎ (from_le_bytes w32 (take 4 (drop (offset - self.back) section.old)) < 2 ^ 32) }
     {
-        if let Some(edit) = self.edit {
-            let word = u32_from_slice(&section[offset as usize..]);
-            let word = word & edit.keep | edit.set;
-            overwrite(section, offset, &word.to_le_bytes());
+        if let [first, more @ ..] = self.edits {
+            let start = offset - self.back;
+            let word = u32_from_slice(&section[start as usize..]);
+            match more {
+                [] => overwrite(section, start, &first.of(word).to_le_bytes()),
+                [second, ..] => {
+                    let both = u64::from(first.of(word)) + (u64::from(second.of(word)) << 32);
+                    overwrite(section, start, &both.to_le_bytes());
+                }
+            }
         }
     }
 }
 
 /// What a row is used for, in an arm for each rewrite, and there of a constant row. Each row has
-/// the length of the instructions, their tests, of which the macro `$tests` makes an array, the bits
-/// kept and set, and where 4 bytes are deleted.
+/// the length of the instructions, how far before the offset they begin, their tests, and those
+/// that `apply` requires; the macro `$tests` makes arrays of them. Then it has the bits kept and set
+/// of each instruction that is written, and where 4 bytes are deleted.
 macro_rules! by_row {
     (
         $tests:ident, $value:expr, $row:ident => $use:expr;
-        $($kind:ident: $len:literal $of:tt $(keep $keep:literal set $set:literal)?
-            $(delete $start:literal)?;)*
+        $($kind:ident: $len:literal $(back $back:literal)? [$($of:tt)*] $(required [$($given:tt)*])?
+            $(keep $keep:literal set $set:literal)* $(delete $start:literal)?;)*
     ) => {
         match $value {
             $(RelaxationKind::$kind => {
                 let $row = $crate::rewrite_rows::RewriteRow {
                     len: $len,
-                    tests: &$tests! $of,
-                    edit: $crate::rewrite_rows::optional!(
-                        $($crate::rewrite_rows::WordEdit { keep: $keep, set: $set })?
-                    ),
-                    deleted: $crate::rewrite_rows::optional!(
-                        $(linker_base::rewrite::DeletedBytes { start: $start, count: 4 })?
+                    back: $crate::rewrite_rows::or!(0; $($back)?),
+                    tests: &$tests![$($of)*],
+                    required: &$crate::rewrite_rows::or!([]; $($tests![$($given)*])?),
+                    edits: &[$($crate::rewrite_rows::WordEdit { keep: $keep, set: $set }),*],
+                    deleted: $crate::rewrite_rows::or!(
+                        None; $(Some(linker_base::rewrite::DeletedBytes { start: $start, count: 4 }))?
                     ),
                 };
                 $use
@@ -216,10 +262,11 @@ macro_rules! by_row {
     };
 }
 
-macro_rules! optional {
-    () => { None };
-    ($value:expr) => { Some($value) };
+/// A value, or else what stands for none.
+macro_rules! or {
+    ($none:expr;) => { $none };
+    ($none:expr; $value:expr) => { $value };
 }
 
 pub(crate) use by_row;
-pub(crate) use optional;
+pub(crate) use or;

@@ -2,10 +2,11 @@
 // Made by tools/generate of crates/linker_utils/src/aarch64/rewrites.rt.
 //! Relaxation rewrites of AArch64.
 
-use crate::linker_base::bit_misc::BitExtraction;
+use crate::rewrite_rows::WordBits::{Field, Masked, Top};
+use crate::rewrite_rows::WordTest::{AreSame, Is, IsNot};
+use crate::rewrite_rows::{are_at, by_row};
 use crate::linker_base::relaxation::RelocationModifier;
-use crate::linker_base::rewrite::{RewriteWindow, has_window, overwrite};
-use crate::linker_base::utils::u32_from_slice;
+use crate::linker_base::rewrite::RewriteWindow;
 use crate::linker_elf::aarch64::AArch64Relocation;
 use crate::linker_elf::elf::{InstructionRewrite, OtherRelocation};
 
@@ -60,58 +61,59 @@ pub enum RelaxationKind {
     AdrpAddToNopAdr,
 }
 
-/// The instruction at an offset of the section.
-#[inline(always)]
-pub(super) fn word_at(section: &[u8], offset: u64) -> u32 {
-    u32_from_slice(&section[offset as usize..])
+/// A test of the instruction at a place: its opcode, and its registers.
+macro_rules! test {
+    ($at:expr, adrp) => { Is(Masked($at, 0x9f00_0000), 0x9000_0000) };
+    // whose immediate isn't shifted
+    ($at:expr, add_64) => { Is(Masked($at, 0xffc0_0000), 0x9100_0000) };
+    // whose offset is unsigned
+    ($at:expr, ldr_64) => { Is(Top($at, 22), 0x3e5) };
+    ($at:expr, b) => { Is(Top($at, 26), 0x05) };
+    ($at:expr, bl) => { Is(Top($at, 26), 0x25) };
+    // whose register is in bits 5 to 9
+    ($at:expr, blr) => { Is(Top($at, 10), 0x35_8fc0) };
+    ($at:expr, into $register:literal) => { Is(Field($at, 0, 5), $register) };
+    ($at:expr, not_into $register:literal) => { IsNot(Field($at, 0, 5), $register) };
+    ($at:expr, into_first) => { AreSame(Field(0, 0, 5), Field($at, 0, 5)) };
+    ($at:expr, from $register:literal) => { Is(Field($at, 5, 10), $register) };
+    ($at:expr, from_itself) => { AreSame(Field($at, 5, 10), Field($at, 0, 5)) };
+    ($at:expr, from_second) => { AreSame(Field($at, 5, 10), Field(4, 0, 5)) };
 }
 
-/// Writes an instruction at an offset of the section.
-#[inline(always)]
-pub(super) fn put_word(section: &mut [u8], offset: u64, word: u32) {
-    overwrite(section, offset, &word.to_le_bytes());
+/// Tests, each of the first instruction or of the one n bytes after it. Register 31 as a source is
+/// the stack pointer, and as a destination of `ldr` it isn't.
+macro_rules! tests {
+    (pair_with $second:ident) => {
+        tests![adrp, $second at 4, from_itself at 4, not_into 31 at 4, into_first at 4]
+    };
+    ($($test:ident $($register:literal)? $(at $at:literal)?),*) => {
+        [$(test!($crate::rewrite_rows::or!(0; $($at)?), $test $($register)?)),*]
+    };
 }
 
-#[inline(always)]
-pub(super) fn destination(word: u32) -> u32 {
-    word & 0x1f
-}
+pub(super) use test;
+pub(super) use tests;
 
-#[inline(always)]
-pub(super) fn source(word: u32) -> u32 {
-    word >> 5 & 0x1f
-}
-
-/// `adrp xD`.
-#[inline(always)]
-pub(super) fn is_adrp(word: u32) -> bool {
-    word & 0x9f00_0000 == 0x9000_0000
-}
-
-/// `add xD, xN, #imm`, whose immediate isn't shifted.
-#[inline(always)]
-pub(super) fn is_add64(word: u32) -> bool {
-    word & 0xffc0_0000 == 0x9100_0000
-}
-
-/// `ldr xD, [xN, #imm]`, whose offset is unsigned.
-#[inline(always)]
-pub(super) fn is_ldr64(word: u32) -> bool {
-    word >> 22 == 0x3e5
-}
-
-/// Whether the source register is the destination register, and the same one: 31 as a source is the
-/// stack pointer, and as a destination of `ldr` it isn't.
-#[inline(always)]
-fn is_into_own_source(word: u32) -> bool {
-    source(word) == destination(word) && destination(word) != 31
-}
-
-/// Whether the words are `adrp xN` and an instruction from xN into xN.
-#[inline(always)]
-pub(super) fn are_of_one_register(adrp: u32, word: u32) -> bool {
-    let register = destination(adrp);
-    is_adrp(adrp) && register != 31 && word & 0x3ff == register * 33
+/// The rewrites.
+macro_rules! rewrites {
+    ($kind:expr, $row:ident => $use:expr) => {
+        by_row! { tests, $kind, $row => $use;
+            NoOp: 0 [];
+            ReplaceWithNop: 4 [] keep 0 set 0xd503_201f;
+            MovzX0Lsl16: 4 [adrp, into 0] keep 0 set 0xd2a0_0000;
+            MovkX0: 4 [ldr_64, from 0] keep 0 set 0xf280_0000;
+            MovzXnLsl16: 4 [adrp] keep 0x1f set 0xd2a0_0000;
+            MovkXn: 4 [ldr_64, not_into 31] required [from_itself] keep 0x1f set 0xf280_0000;
+            AdrpToAdr: 4 [adrp] keep 0x7fff_ffff set 0;
+            AdrpX0: 4 [adrp, into 0] keep 0 set 0x9000_0000;
+            LdrX0: 4 [ldr_64, from 0] keep 0 set 0xf940_0000;
+            AddToAdr: 4 [add_64, not_into 31] keep 0x76ff_ffff set 0;
+            LdrToAdr: 4 [ldr_64] keep 0x76ff_ffff set 0;
+            LdrToAdd: 4 [not_into 31] required [ldr_64] keep 0x001f_ffff set 0x9100_0000;
+            AdrpAddToNopAdr: 8 back 4 [pair_with add_64]
+                keep 0 set 0xd503_201f keep 0x1f set 0x1000_0000;
+        }
+    };
 }
 
 /// Whether `adrp xN` and `add xN, xN, #imm` or `ldr xN, [xN, #imm]`, both of 64 bits, stand next to
@@ -121,16 +123,10 @@ pub(super) fn are_of_one_register(adrp: u32, word: u32) -> bool {
 #[must_use]
 #[inline]
 pub fn is_adrp_pair(section: &[u8], offset: u64) -> bool {
-    if !has_window(section, offset, 4, 8) {
-        return false;
-    }
-    let word = word_at(section, offset);
-    (is_add64(word) || is_ldr64(word)) && are_of_one_register(word_at(section, offset - 4), word)
+    4 <= offset
+        && (are_at(&tests![pair_with add_64], section, offset - 4, 8)
+            || are_at(&tests![pair_with ldr_64], section, offset - 4, 8))
 }
-
-const NOP: u32 = 0xd503_201f;
-
-const ADR_WORD: u32 = 0x1000_0000;
 
 impl RelaxationKind {
     /// The rewrite with a number, its place in the enum. None above the last.
@@ -175,39 +171,7 @@ impl RelaxationKind {
         debug_assert!(self.can_apply(section_bytes, *offset_in_section));
         let _ = addend;
         let offset = *offset_in_section;
-        match self {
-            RelaxationKind::NoOp => {}
-            RelaxationKind::ReplaceWithNop => put_word(section_bytes, offset, NOP),
-            RelaxationKind::MovzX0Lsl16 => put_word(section_bytes, offset, 0xd2a0_0000),
-            RelaxationKind::MovkX0 => put_word(section_bytes, offset, 0xf280_0000),
-            RelaxationKind::MovzXnLsl16 => {
-                let rd = destination(word_at(section_bytes, offset));
-                put_word(section_bytes, offset, 0xd2a0_0000 | rd);
-            }
-            RelaxationKind::MovkXn => {
-                let rd = destination(word_at(section_bytes, offset));
-                put_word(section_bytes, offset, 0xf280_0000 | rd);
-            }
-            RelaxationKind::AdrpToAdr => {
-                let adrp = word_at(section_bytes, offset);
-                put_word(section_bytes, offset, adrp & 0x7fff_ffff);
-            }
-            RelaxationKind::AdrpX0 => put_word(section_bytes, offset, 0x9000_0000),
-            RelaxationKind::LdrX0 => put_word(section_bytes, offset, 0xf940_0000),
-            RelaxationKind::AddToAdr | RelaxationKind::LdrToAdr => {
-                let word = word_at(section_bytes, offset);
-                put_word(section_bytes, offset, word & 0x76ff_ffff);
-            }
-            RelaxationKind::LdrToAdd => {
-                let ldr = word_at(section_bytes, offset);
-                put_word(section_bytes, offset, ldr & 0x001f_ffff | 0x9100_0000);
-            }
-            RelaxationKind::AdrpAddToNopAdr => {
-                let rd = destination(word_at(section_bytes, offset - 4));
-                let pair = (((ADR_WORD | rd) as u64) << 32) | NOP as u64;
-                overwrite(section_bytes, offset - 4, &pair.to_le_bytes());
-            }
-        }
+        rewrites!(self, row => row.apply(section_bytes, offset))
     }
 
     /// Whether `apply` may be called at an offset of a section: the window lies in the section,
@@ -216,32 +180,7 @@ impl RelaxationKind {
     #[must_use]
     #[inline]
     pub fn can_apply(self, section: &[u8], offset: u64) -> bool {
-        match self {
-            RelaxationKind::NoOp => true,
-            RelaxationKind::MovkXn => {
-                if !has_window(section, offset, 0, 4) {
-                    return false;
-                }
-                let word = word_at(section, offset);
-                source(word) == destination(word)
-            }
-            RelaxationKind::LdrToAdd => {
-                if !has_window(section, offset, 0, 4) {
-                    return false;
-                }
-                is_ldr64(word_at(section, offset))
-            }
-            RelaxationKind::AdrpAddToNopAdr => has_window(section, offset, 4, 8),
-            RelaxationKind::ReplaceWithNop
-            | RelaxationKind::MovzX0Lsl16
-            | RelaxationKind::MovkX0
-            | RelaxationKind::MovzXnLsl16
-            | RelaxationKind::AdrpToAdr
-            | RelaxationKind::AdrpX0
-            | RelaxationKind::LdrX0
-            | RelaxationKind::AddToAdr
-            | RelaxationKind::LdrToAdr => has_window(section, offset, 0, 4),
-        }
+        rewrites!(self, row => row.can_apply(section, offset))
     }
 
     /// The bytes that `apply` writes: the instruction's 4. For `AdrpAddToNopAdr` they are the
@@ -249,12 +188,7 @@ impl RelaxationKind {
     #[must_use]
     #[inline]
     pub fn window(self) -> RewriteWindow {
-        let (back, len) = match self {
-            RelaxationKind::NoOp => (0, 0),
-            RelaxationKind::AdrpAddToNopAdr => (4, 8),
-            _ => (0, 4),
-        };
-        RewriteWindow { back, len }
+        rewrites!(self, row => row.window())
     }
 
     /// Whether the instruction at an offset of a section, or the pair that ends there, is one that
@@ -263,30 +197,7 @@ impl RelaxationKind {
     #[must_use]
     #[inline]
     pub fn matches(self, section: &[u8], offset: u64) -> bool {
-        if let RelaxationKind::NoOp = self {
-            return true;
-        }
-        if !has_window(section, offset, 0, 4) {
-            return false;
-        }
-        let word = word_at(section, offset);
-        match self {
-            RelaxationKind::NoOp | RelaxationKind::ReplaceWithNop => true,
-            RelaxationKind::MovzX0Lsl16 | RelaxationKind::AdrpX0 => {
-                is_adrp(word) && destination(word) == 0
-            }
-            RelaxationKind::MovkX0 | RelaxationKind::LdrX0 => is_ldr64(word) && source(word) == 0,
-            RelaxationKind::MovzXnLsl16 | RelaxationKind::AdrpToAdr => is_adrp(word),
-            RelaxationKind::MovkXn => is_ldr64(word) && is_into_own_source(word),
-            RelaxationKind::AddToAdr => is_add64(word) && destination(word) != 31,
-            RelaxationKind::LdrToAdr => is_ldr64(word),
-            RelaxationKind::LdrToAdd => is_ldr64(word) && destination(word) != 31,
-            RelaxationKind::AdrpAddToNopAdr => {
-                4 <= offset
-                    && is_add64(word)
-                    && are_of_one_register(word_at(section, offset - 4), word)
-            }
-        }
+        rewrites!(self, row => row.is_for(section, offset))
     }
 
     /// What happens to the next relocation: it is applied as usual.

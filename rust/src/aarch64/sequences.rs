@@ -2,8 +2,14 @@
 // Made by tools/generate of crates/linker_utils/src/aarch64/sequences.rt.
 //! Moves that load a number of 64 bits.
 
-use super::rewrites::put_word;
 use crate::linker_base::bit_misc::BitExtraction;
+use crate::linker_base::rewrite::overwrite;
+
+/// Writes an instruction at an offset of a section.
+#[inline(always)]
+fn put_word(section: &mut [u8], offset: u64, word: u32) {
+    overwrite(section, offset, &word.to_le_bytes());
+}
 
 /// A move of 16 bits into a register.
 #[inline(always)]

@@ -57,41 +57,40 @@ pub enum RelaxationKind {
     DeleteAddi,
 }
 
-/// A test of an instruction, or of the second one of two: its opcode, and its registers.
+/// A test of the instruction at a place: its opcode, and its registers.
 macro_rules! test {
-    (pcalau12i) => { Is(Top(0, 25), 0x0d) };
-    (pcaddu18i) => { Is(Top(0, 25), 0x0f) };
-    (lu12i_w) => { Is(Top(0, 25), 0x0a) };
-    (addi_d) => { Is(Top(0, 22), 0x00b) };
-    (ld_d) => { Is(Top(0, 22), 0x0a3) };
-    (addi_d_or_ld_d) => { IsEither(Top(0, 22), 0x00b, 0x0a3) };
+    ($at:expr, pcalau12i) => { Is(Top($at, 25), 0x0d) };
+    ($at:expr, pcaddu18i) => { Is(Top($at, 25), 0x0f) };
+    ($at:expr, lu12i_w) => { Is(Top($at, 25), 0x0a) };
+    ($at:expr, jirl) => { Is(Top($at, 26), 0x13) };
+    ($at:expr, addi_d) => { Is(Top($at, 22), 0x00b) };
+    ($at:expr, ld_d) => { Is(Top($at, 22), 0x0a3) };
+    ($at:expr, addi_d_or_ld_d) => { IsEither(Top($at, 22), 0x00b, 0x0a3) };
     // what adds a signed immediate of 12 bits to its first source register
-    (adds_low) => { IsEitherOrWithin(Top(0, 22), 0x00a, 0x00b, 0x0a0, 0x0b3) };
+    ($at:expr, adds_low) => { IsEitherOrWithin(Top($at, 22), 0x00a, 0x00b, 0x0a0, 0x0b3) };
     // no `st.b`, `st.h`, `st.w` or `st.d` of its own base
-    (stores_other) => { DifferWhere(Top(0, 22), 0x0a4, 0x0a7, Field(0, 0, 5), Field(0, 5, 10)) };
-    (add_d_of_tp) => { Is(Top(0, 10), 0x422) };
-    (ld_d_ra_a0_0) => { Is(Top(0, 0), 0x28c0_0081) };
-    (jirl_ra_ra_0) => { Is(Top(0, 0), 0x4c00_0021) };
-    (from_itself) => { AreSame(Field(0, 5, 10), Field(0, 0, 5)) };
-    (into $register:literal) => { Is(Field(0, 0, 5), $register) };
-    (from $register:literal) => { Is(Field(0, 5, 10), $register) };
-    (not_into_zero) => { IsNot(Field(0, 0, 5), 0) };
-    (then_addi_d) => { Is(Top(4, 22), 0x00b) };
-    (then_ld_d) => { Is(Top(4, 22), 0x0a3) };
-    (then_addi_d_or_ld_d) => { IsEither(Top(4, 22), 0x00b, 0x0a3) };
-    (then_jirl) => { Is(Top(4, 26), 0x13) };
-    (then_from_itself) => { AreSame(Field(4, 5, 10), Field(4, 0, 5)) };
-    (then_from_it) => { AreSame(Field(4, 5, 10), Field(0, 0, 5)) };
-    (then_into_it) => { AreSame(Field(0, 0, 5), Field(4, 0, 5)) };
-    (then_into $register:literal) => { Is(Field(4, 0, 5), $register) };
-    (then_not_into_zero) => { IsNot(Field(4, 0, 5), 0) };
+    ($at:expr, stores_other) => {
+        DifferWhere(Top($at, 22), 0x0a4, 0x0a7, Field($at, 0, 5), Field($at, 5, 10))
+    };
+    ($at:expr, add_d_of_tp) => { Is(Top($at, 10), 0x422) };
+    ($at:expr, ld_d_ra_a0_0) => { Is(Top($at, 0), 0x28c0_0081) };
+    ($at:expr, jirl_ra_ra_0) => { Is(Top($at, 0), 0x4c00_0021) };
+    ($at:expr, into $register:literal) => { Is(Field($at, 0, 5), $register) };
+    ($at:expr, not_into_zero) => { IsNot(Field($at, 0, 5), 0) };
+    ($at:expr, into_first) => { AreSame(Field(0, 0, 5), Field($at, 0, 5)) };
+    ($at:expr, from $register:literal) => { Is(Field($at, 5, 10), $register) };
+    ($at:expr, from_itself) => { AreSame(Field($at, 5, 10), Field($at, 0, 5)) };
+    ($at:expr, from_first) => { AreSame(Field($at, 5, 10), Field(0, 0, 5)) };
 }
 
+/// Tests, each of the first instruction or of the one n bytes after it.
 macro_rules! tests {
     (pair_with $second:ident) => {
-        tests![pcalau12i, $second, then_from_itself, then_not_into_zero, then_into_it]
+        tests![pcalau12i, $second at 4, from_itself at 4, not_into_zero at 4, into_first at 4]
     };
-    ($($test:ident $($register:literal)?),*) => { [$(test!($test $($register)?)),*] };
+    ($($test:ident $($register:literal)? $(at $at:literal)?),*) => {
+        [$(test!($crate::rewrite_rows::or!(0; $($at)?), $test $($register)?)),*]
+    };
 }
 
 pub(super) use test;
@@ -105,10 +104,10 @@ macro_rules! rewrites {
             ReplaceWithNop: 4 [] keep 0 set 0x0340_0000;
             LdToAddi: 4 [ld_d, from_itself, not_into_zero] keep 0x003f_ffff set 0x02c0_0000;
             AddiToLd: 4 [addi_d, from_itself, not_into_zero] keep 0x003f_ffff set 0x28c0_0000;
-            PcalaToPcaddi: 8 [pair_with then_addi_d_or_ld_d] keep 0x1f set 0x1800_0000;
-            CallToBl: 8 [pcaddu18i, not_into_zero, then_jirl, then_from_it, then_into 1]
+            PcalaToPcaddi: 8 [pair_with addi_d_or_ld_d] keep 0x1f set 0x1800_0000;
+            CallToBl: 8 [pcaddu18i, not_into_zero, jirl at 4, from_first at 4, into 1 at 4]
                 keep 0 set 0x5400_0000 delete 4;
-            CallToB: 8 [pcaddu18i, not_into_zero, then_jirl, then_from_it, then_into 0]
+            CallToB: 8 [pcaddu18i, not_into_zero, jirl at 4, from_first at 4, into 0 at 4]
                 keep 0 set 0x5000_0000 delete 4;
             PcalaToLu12i: 4 [pcalau12i] keep 0x1f set 0x1400_0000;
             LowToOri: 4 [addi_d_or_ld_d] keep 0x3ff set 0x0380_0000;

@@ -1,9 +1,9 @@
 -- What the rows of rewrites mean.
-use Rattle.std.specs.Prelude.{ℕ, zero, suc, List, [], ◌∷◌, ◌≡◌, ◌≢◌, ◌≤◌, ◌<◌, ◌+◌, ◌/◌, ◌^◌, ◌⊎◌, ⊤, length, drop}
+use Rattle.std.specs.Prelude.{ℕ, zero, suc, List, [], ◌∷◌, ◌≡◌, ◌≢◌, ◌≤◌, ◌<◌, ◌+◌, ◌-◌, ◌*◌, ◌/◌, ◌^◌, ◌⊎◌, ⊤, length, drop}
 use Rattle.std.specs.Prelude.{Option, None, Some, bit_and, bit_or, IsTrue, not, nat_le, ◌&&◌, ◌||◌, ◌==◌}
-use Rattle.std.specs.Int.{w32, from_le_bytes, to_le_bytes}
+use Rattle.std.specs.Int.{w32, w64, from_le_bytes, to_le_bytes}
 use Rattle.linker_base.specs.Bits.{field}
-use Rattle.linker_base.specs.Rewrite.{Rewrite, replaces}
+use Rattle.linker_base.specs.Rewrite.{Rewrite, replaces, CanRewrite}
 use Rattle.linker_utils.specs.declared.rewrite_rows.WordBits.{WordBits}
 use Rattle.linker_utils.specs.declared.rewrite_rows.WordBits.TheVariants as bits
 use Rattle.linker_utils.specs.declared.rewrite_rows.WordEdit.{WordEdit}
@@ -21,11 +21,14 @@ abbrev pub bits_at : List ℕ → ℕ → WordBits → ℕ
 bits_at section o (bits.Top at from) = from_le_bytes w32 (drop (place o at) section) / 2 ^ from
 bits_at section o (bits.Field at from to) =
     field (from_le_bytes w32 (drop (place o at) section)) from to
+bits_at section o (bits.Masked at mask) =
+    bit_and (from_le_bytes w32 (drop (place o at) section)) mask
 
 -- bits are of an instruction that lies in `len` bytes
 abbrev pub AreBits : ℕ → WordBits → Type 0
 AreBits len (bits.Top at from) = (at + 4 ≤ len) × (from < 32)
 AreBits len (bits.Field at from to) = (at + 4 ≤ len) × (from < to) × (to ≤ 32)
+AreBits len (bits.Masked at mask) = at + 4 ≤ len
 
 abbrev pub IsInside : ℕ → WordTest → Type 0
 IsInside len (test.Is some n) = AreBits len some
@@ -62,16 +65,33 @@ AllHold section o (t ∷ ts) = Holds section o t × AllHold section o ts
 abbrev pub AreAt : List ℕ → ℕ → ℕ → List WordTest → Type 0
 AreAt section o len tests = (o + len ≤ length section) × AllHold section o tests
 
--- Those of a row are.
+-- Those of a row are, and those that it requires.
 abbrev pub IsFor : RewriteRow → List ℕ → ℕ → Type 0
-IsFor row section o = (row.len ≡ 0) ⊎ AreAt section o row.len row.tests.now
+IsFor row section o =
+    (row.len ≡ 0)
+    ⊎ (row.back ≤ o) × AreAt section (o - row.back) row.len row.tests.now
+    × AllHold section (o - row.back) row.required.now
 
-abbrev pub edits : Option WordEdit → Option Rewrite
-edits None = None
-edits (Some edit) =
-    Some (replaces 0 4 (λ window.
-    to_le_bytes w32 (bit_or (bit_and (from_le_bytes w32 window) edit.keep) edit.set)))
+-- an instruction that is written, by the first one before
+abbrev pub edited : ℕ → WordEdit → ℕ
+edited word edit = bit_or (bit_and word edit.keep) edit.set
+
+abbrev pub edits : ℕ → List WordEdit → Option Rewrite
+edits back [] = None
+edits back (edit ∷ []) =
+    Some (replaces back 4 (λ window. to_le_bytes w32 (edited (from_le_bytes w32 window) edit)))
+edits back (first ∷ second ∷ more) =
+    Some (replaces back 8 (λ window.
+    to_le_bytes w64 (edited (from_le_bytes w32 window) first
+    + edited (from_le_bytes w32 window) second * 2 ^ 32)))
 
 -- a row's rewrite
 abbrev pub row_rewrite : RewriteRow → Option Rewrite
-row_rewrite row = edits row.edit
+row_rewrite row = edits row.back row.edits.now
+
+-- It can be done at an offset, and what it requires is there.
+abbrev pub CanApply : RewriteRow → List ℕ → ℕ → Type 0
+CanApply row section o =
+    (row.edits.now ≡ [])
+    ⊎ CanRewrite (row_rewrite row) section o
+    × AllHold section (o - row.back) row.required.now

@@ -9,45 +9,15 @@ ghost use Rattle.linker_elf.specs.Choices.{Fits, choice, operands_after};
 ghost use Rattle.linker_elf.proofs.SameNames.{equalities, exact_code};
 ghost use Rattle.linker_elf.specs.contracts.aarch64.relocations.AArch64Relocation.{enum as names};
 
-use super::rewrites::{
-    RelaxationKind, are_of_one_register, destination, is_add64, is_adrp, is_ldr64, source, word_at,
-};
-use linker_base::rewrite::has_window;
+use super::rewrites::{RelaxationKind, test, tests};
+use crate::rewrite_rows::WordBits::{Field, Masked, Top};
+use crate::rewrite_rows::WordTest::{AreSame, Is, IsNot};
+use crate::rewrite_rows::{all_hold, are_at};
 use linker_elf::aarch64::{AArch64Relocation, AArch64Relocation as Names};
 use linker_elf::elf::choice_table::{
     ChoiceTable, Chosen, RewriteSet, Table, by_table, choice_by, conditions,
 };
 use linker_elf::elf::{Choice, LinkFacts, Operands};
-
-/// Whether `adrp xN`, at an offset, and `ldr xN, [xN, #imm]` stand next to each other.
-#[inline]
-fn is_entry_load(section: &[u8], offset: u64) -> bool
-    ensures { IsTrue result ↔ rewrites.IsEntryLoad section.now (offset + 4) }
-{
-    if !has_window(section, offset, 0, 8) {
-        return false;
-    }
-    let ldr = word_at(section, offset + 4);
-    is_ldr64(ldr) && are_of_one_register(word_at(section, offset), ldr)
-}
-
-/// Whether they are those below; the register of `blr` is in bits 5 to 9.
-#[inline]
-fn are_of_descriptor(adrp: u32, ldr: u32, add: u32, blr: u32) -> bool
-    ensures { IsTrue result ↔ rewrites.AreOfDescriptor adrp ldr add blr }
-{
-    let called = destination(ldr);
-    is_adrp(adrp)
-        && destination(adrp) == 0
-        && is_ldr64(ldr)
-        && source(ldr) == 0
-        && called != 0
-        && called != 31
-        && is_add64(add)
-        && source(add) == 0
-        && destination(add) == 0
-        && blr == 0xd63f_0000 + called * 32
-}
 
 /// Whether the sequence of a TLS descriptor is at an offset of the section: `adrp x0`,
 /// `ldr xT, [x0, #imm]`, `add x0, x0, #imm` and `blr xT`, where xT is neither x0 nor x31. Compilers
@@ -57,12 +27,18 @@ fn are_of_descriptor(adrp: u32, ldr: u32, add: u32, blr: u32) -> bool
 pub fn is_tls_descriptor_sequence(section: &[u8], offset: u64) -> bool
     ensures { IsTrue result ↔ rewrites.IsDescriptorSequence section.now offset }
 {
-    has_window(section, offset, 0, 16)
-        && are_of_descriptor(
-            word_at(section, offset),
-            word_at(section, offset + 4),
-            word_at(section, offset + 8),
-            word_at(section, offset + 12),
+    are_at(&tests![adrp, into 0], section, offset, 16)
+        && all_hold(
+            &tests![ldr_64 at 4, from 0 at 4, not_into 0 at 4, not_into 31 at 4, add_64 at 8],
+            section,
+            offset,
+            16,
+        )
+        && all_hold(
+            &tests![from 0 at 8, into 0 at 8, blr at 12, into 0 at 12, from_second at 12],
+            section,
+            offset,
+            16,
         )
 }
 
@@ -97,14 +73,15 @@ impl RewriteSet for RelaxationKind {
     fn matches_at(self, originals: &Pattern, section: &[u8], offset: u64) -> bool {
         match *originals {
             Pattern::OfRewrite => self.matches(section, offset),
-            Pattern::AdrpOfPair => is_entry_load(section, offset),
-            Pattern::LdrOfPair => 4 <= offset && is_entry_load(section, offset - 4),
+            Pattern::AdrpOfPair => are_at(&tests![pair_with ldr_64], section, offset, 8),
+            Pattern::LdrOfPair => {
+                4 <= offset && are_at(&tests![pair_with ldr_64], section, offset - 4, 8)
+            }
             Pattern::OfDescriptor(back) => {
                 back <= offset && is_tls_descriptor_sequence(section, offset - back)
             }
-            _ if !has_window(section, offset, 0, 4) => false,
-            Pattern::Bl => word_at(section, offset) >> 26 == 0x25,
-            Pattern::B => word_at(section, offset) >> 26 == 0x05,
+            Pattern::Bl => are_at(&tests![bl], section, offset, 4),
+            Pattern::B => are_at(&tests![b], section, offset, 4),
         }
     }
 

@@ -1,11 +1,22 @@
 //! Moves that load a number of 64 bits.
 
 ghost use Rattle.std.specs.Prelude.{◌++◌, Some, ◌≡◌, ◌≤◌, ◌<◌, ◌+◌};
-ghost use Rattle.std.specs.Prelude.{length, drop};
+ghost use Rattle.std.specs.Prelude.{length, take, drop};
+ghost use Rattle.std.specs.Int.{w32, to_le_bytes};
 ghost use Rattle.linker_utils.specs.AArch64Rewrites.{mov_word, mov_words, mov4};
 
-use super::rewrites::put_word;
 use linker_base::bit_misc::BitExtraction;
+use linker_base::rewrite::overwrite;
+
+/// Writes an instruction at an offset of a section.
+#[inline(always)]
+fn put_word(section: &mut [u8], offset: u64, word: u32)
+    requires { offset + 4 ≤ length section.old }
+    ensures { section.new
+        ≡ take offset section.old ++ to_le_bytes w32 word ++ drop (offset + 4) section.old }
+{
+    overwrite(section, offset, &word.to_le_bytes());
+}
 
 /// A move of 16 bits into a register.
 #[inline(always)]

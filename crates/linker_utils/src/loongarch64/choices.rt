@@ -67,13 +67,13 @@ impl RewriteSet for RelaxationKind {
     fn matches_at(self, originals: &Pattern, section: &[u8], offset: u64) -> bool {
         match *originals {
             Pattern::OfRewrite => self.matches(section, offset),
-            Pattern::Load => are_at(&tests![pair_with then_ld_d], section, offset, 8),
+            Pattern::Load => are_at(&tests![pair_with ld_d], section, offset, 8),
             Pattern::LowOfLoad => {
-                4 <= offset && are_at(&tests![pair_with then_ld_d], section, offset - 4, 8)
+                4 <= offset && are_at(&tests![pair_with ld_d], section, offset - 4, 8)
             }
-            Pattern::Sum => are_at(&tests![pair_with then_addi_d], section, offset, 8),
+            Pattern::Sum => are_at(&tests![pair_with addi_d], section, offset, 8),
             Pattern::LowOfSum => {
-                4 <= offset && are_at(&tests![pair_with then_addi_d], section, offset - 4, 8)
+                4 <= offset && are_at(&tests![pair_with addi_d], section, offset - 4, 8)
             }
             Pattern::Pcalau12i => are_at(&tests![pcalau12i], section, offset, 4),
             Pattern::Ld => are_at(&tests![ld_d], section, offset, 4),
