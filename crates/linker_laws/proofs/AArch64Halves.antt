@@ -1,5 +1,5 @@
 -- The halves of initial-exec, each by itself.
-use Rattle.std.proofs.Common.{◌≡◌, ℕ, ◌+◌, ◌-◌, ◌*◌, ◌/◌, ◌%◌, ◌^◌, ◌<◌, refl, sym}
+use Rattle.std.proofs.Common.{◌≢◌, ◌≡◌, ℕ, ◌+◌, ◌-◌, ◌*◌, ◌/◌, ◌%◌, ◌^◌, ◌<◌, refl, sym}
 use Rattle.std.proofs.Common.{◌∙◌, ap, subst, arith, List, eqb, ℤ, pos, ◌+ℤ◌, ◌*ℤ◌, Some, inl}
 use Rattle.std.proofs.Common.{inr}
 use Rattle.std.specs.Prelude.{IsSomeAnd, not, ◌&&◌, nat_lt}
@@ -8,7 +8,9 @@ use Rattle.std.proofs.lemmas.Bool.{eq-eqb, ne_eqb, cond-true, cond-false, or_par
 use Rattle.std.proofs.lemmas.Bool.Decides.{eqb_tells}
 use Rattle.std.proofs.lemmas.Int.{ints, int_rem_euclid_is}
 use Rattle.linker_base.specs.Bits.{field}
-use Rattle.linker_utils.specs.AArch64Rewrites.{rd_of}
+use Rattle.linker_utils.specs.AArch64Rewrites.{IsAdrp, IsIntoOwnSource, IsLdr64, rd_of}
+use Rattle.linker_utils.specs.declared.aarch64.rewrites.RelaxationKind.TheVariants.{MovkXn}
+use Rattle.linker_utils.specs.declared.aarch64.rewrites.RelaxationKind.TheVariants.{MovzXnLsl16}
 use Rattle.linker_elf.specs.AArch64.{aarch64_form, shift_of}
 use Rattle.linker_elf.specs.Agrees.{bits_from}
 use Rattle.linker_elf.specs.Elf.{bit_bounds}
@@ -37,7 +39,7 @@ use Rattle.linker_laws.specs.AArch64RewriteLaws.{word_of, thread_offset, IsReloc
 use Rattle.linker_laws.specs.AArch64RewriteLaws.{StepSo, with_register, without_register}
 use Rattle.linker_laws.specs.AArch64RewriteLaws as aarch64_laws
 use Rattle.linker_laws.specs.AArch64Machine.{State, step, in_64_bits, moved, with_moved, read_x}
-use Rattle.linker_laws.specs.AArch64Machine.{loaded, load_64, adrp_address}
+use Rattle.linker_laws.specs.AArch64Machine.{loaded, load_64}
 use Rattle.linker_laws.proofs.AArch64Moves.{movk_lifted, movz_is_no_movk}
 use Rattle.linker_laws.proofs.AArch64Pairs.{word_made}
 use Rattle.linker_laws.proofs.AArch64Steps.{set, step_adrp, step_ldr, step_move, step_movk}
@@ -155,8 +157,19 @@ same_bits v w same =
     ∙ ap (λ q. (q *ℤ pos (2 ^ 16)) +ℤ pos b.number) (sym same))
     ∙ scaled (bits_from 16 v) l.number b.number l.times l.is b.below)
 
-pub high_half : aarch64_laws.HighHalfToMovz
-high_half o s t c adrp movz small at alike is named made adrp1 movz1 a b =
+-- what both runs execute at a high half, each from a state of its own
+pub record HighSteps (o : Operands) (s t : State) (n x y : ℕ) : Type 0 where
+  pub first : step x s ≡ Some (set n (page o.got_entry) s)
+  pub second : step y t ≡ Some (set n (moved y) t)
+  pub bits_are : moved y / 2 ^ 16 ≡ thread_offset o / 2 ^ 16
+
+pub high_steps : (o : Operands) (s t : State) (adrp movz : List ℕ) → AreAddresses o → s.pc ≡ o.place
+    → IsAdrp (word_of adrp) → rd_of (word_of adrp) ≢ 31
+    → aarch64_laws.IsRewritten MovzXnLsl16 adrp movz → (adrp1 movz1 : List ℕ)
+    → IsRelocated names.R_AARCH64_TLSIE_ADR_GOTTPREL_PAGE21 o adrp adrp1
+    → IsRelocated names.R_AARCH64_TLSLE_MOVW_TPREL_G1 o movz movz1
+    → HighSteps o s t (rd_of (word_of adrp)) (word_of adrp1) (word_of movz1)
+high_steps o s t adrp movz small at is named made adrp1 movz1 a b =
     let n = rd_of (word_of adrp) in
     let x = word_of adrp1 in
     let y = word_of movz1 in
@@ -176,20 +189,31 @@ high_half o s t c adrp movz small at alike is named made adrp1 movz1 a b =
     (ap (λ k. (eqb k 16 && eqb (bit_at (word_of movz) 31) 1) && not (is_movk (word_of movz))) shift
     ∙ ap (λ b. b && not (is_movk (word_of movz))) (eq-eqb _ _ wide) ∙ ap not no_movk) in
     let w = cast_signed w64 (relative symbol_address tls_base o) in
-    steps_so x y s t (set n (adrp_address x s) s) (set n (moved y) t) _
-    (step_adrp x n s (decodes_adrp x first.opcode first.top) first.rd_is named)
-    (step_move y n t second.decodes rd named) (
-      alike_also n (adrp_address x s) (moved y) c s t alike,
+    record {
+      first = step_adrp x n s (decodes_adrp x first.opcode first.top) first.rd_is named
+          ∙ ap (λ v. Some (set n v s))
+          (ap (λ p. in_64_bits (pos (page p) +ℤ ((aarch64_form Adr).machine x *ℤ pos 4096))) at
+          ∙ page_of_entry o small adrp adrp1 a);
+      second = step_move y n t second.decodes rd named;
+      bits_are = same_bits (movn_or_movz y) w bits
+          ∙ ap (λ v. v / 2 ^ 16)
+          (address_is w _ (cast_is (relative symbol_address tls_base o) (difference_below _ _))
+          ∙ ap (λ a. difference_64 a o.tls_base)
+          (unbiased (symbol_address o) (sum_below o.symbol _)));
+    }
+
+pub high_half : aarch64_laws.HighHalfToMovz
+high_half o s t c adrp movz small at alike is named made adrp1 movz1 a b =
+    let n = rd_of (word_of adrp) in
+    let y = word_of movz1 in
+    let steps = high_steps o s t adrp movz small at is named made adrp1 movz1 a b in
+    steps_so (word_of adrp1) y s t (set n (page o.got_entry) s) (set n (moved y) t) _ steps.first
+    steps.second (
+      alike_also n (page o.got_entry) (moved y) c s t alike,
       record {
-        page_is = cond-true (eqb n n) (adrp_address x s) (s.registers n) (eq-eqb n n refl)
-            ∙ ap (λ p. in_64_bits (pos (page p) +ℤ ((aarch64_form Adr).machine x *ℤ pos 4096))) at
-            ∙ page_of_entry o small adrp adrp1 a;
+        page_is = cond-true (eqb n n) (page o.got_entry) (s.registers n) (eq-eqb n n refl);
         bits_are = ap (λ v. v / 2 ^ 16) (cond-true (eqb n n) (moved y) (t.registers n) (eq-eqb n n refl))
-            ∙ same_bits (movn_or_movz y) w bits
-            ∙ ap (λ v. v / 2 ^ 16)
-            (address_is w _ (cast_is (relative symbol_address tls_base o) (difference_below _ _))
-            ∙ ap (λ a. difference_64 a o.tls_base)
-            (unbiased (symbol_address o) (sum_below o.symbol _)));
+            ∙ steps.bits_are;
       },
     )
 
@@ -235,8 +259,20 @@ entry_of_page o small ldr after a =
     whole : (g t : ℕ) → g < 2 ^ 64 → t ≡ g → (page g + t % 2 ^ 12) % 2 ^ 64 ≡ g
     whole g t small same = omega arith
 
-pub low_half : aarch64_laws.LowHalfToMovk
-low_half o s t c ldr movk_bytes small is own holds high alike made ldr1 movk1 a b =
+-- what both runs execute at a low half, each from a state of its own
+pub record LowSteps (o : Operands) (s t : State) (n x y : ℕ) : Type 0 where
+  pub first : step x s ≡ Some (set n (thread_offset o) s)
+  pub second : step y t ≡ Some (set n (thread_offset o) t)
+
+pub low_steps : (o : Operands) (s t : State) (ldr movk : List ℕ) → AreAddresses o
+    → IsLdr64 (word_of ldr) → IsIntoOwnSource (word_of ldr)
+    → load_64 s.memory o.got_entry ≡ thread_offset o
+    → aarch64_laws.HasHigh (rd_of (word_of ldr)) o s t → aarch64_laws.IsRewritten MovkXn ldr movk
+    → (ldr1 movk1 : List ℕ)
+    → IsRelocated names.R_AARCH64_TLSIE_LD64_GOTTPREL_LO12_NC o ldr ldr1
+    → IsRelocated names.R_AARCH64_TLSLE_MOVW_TPREL_G0_NC o movk movk1
+    → LowSteps o s t (rd_of (word_of ldr)) (word_of ldr1) (word_of movk1)
+low_steps o s t ldr movk_bytes small is own holds high made ldr1 movk1 a b =
     let n = rd_of (word_of ldr) in
     let named = own.not_31 in
     let x = word_of ldr1 in
@@ -266,7 +302,15 @@ low_half o s t c ldr movk_bytes small is own holds high alike made ldr1 movk1 a 
     (ap (λ k. (k *ℤ pos (2 ^ 0)) +ℤ pos (0 * 2 ^ 64)) low ∙ omega (arith, ints))
     ∙ joined held d (difference_below _ _) (high.bits_are ∙ ap (λ k. k / 2 ^ 16) (sym offset))
     ∙ offset in
-    steps_so x y s t (set n (loaded x s) s) (set n (with_moved y t) t) _
-    (step_ldr x n s first.decodes first.rd_is named)
-    (step_movk y n t second.decodes rd named)
-    (alike_but n (loaded x s) (with_moved y t) c s t (old ∙ sym new) alike)
+    record {
+      first = step_ldr x n s first.decodes first.rd_is named ∙ ap (λ v. Some (set n v s)) old;
+      second = step_movk y n t second.decodes rd named ∙ ap (λ v. Some (set n v t)) new;
+    }
+
+pub low_half : aarch64_laws.LowHalfToMovk
+low_half o s t c ldr movk_bytes small is own holds high alike made ldr1 movk1 a b =
+    let n = rd_of (word_of ldr) in
+    let steps = low_steps o s t ldr movk_bytes small is own holds high made ldr1 movk1 a b in
+    steps_so (word_of ldr1) (word_of movk1) s t (set n (thread_offset o) s) (set n (thread_offset o) t)
+    _ steps.first steps.second
+    (alike_but n (thread_offset o) (thread_offset o) c s t refl alike)

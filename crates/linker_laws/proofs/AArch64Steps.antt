@@ -7,15 +7,16 @@ use Rattle.std.proofs.lemmas.Bool.{eq-eqb, ne_eqb, cond-true, cond-false}
 use Rattle.std.proofs.lemmas.Int.{ints}
 use Rattle.linker_utils.specs.AArch64Rewrites.{rd_of, rn_of}
 use Rattle.linker_elf.specs.AArch64.{aarch64_form}
-use Rattle.linker_elf.specs.declared.aarch64.forms.AArch64Instruction.TheVariants.{LdSt}
-use Rattle.linker_laws.specs.Schemes.{IsAddress}
+use Rattle.linker_elf.specs.declared.aarch64.forms.AArch64Instruction.TheVariants.{JumpCall, LdSt}
+use Rattle.linker_elf.specs.declared.elf.value.Operands.{Operands}
+use Rattle.linker_laws.specs.Schemes.{IsAddress, plt_address}
 use Rattle.linker_laws.proofs.Sums.{lift, lifted_is}
 use Rattle.linker_laws.specs.AArch64Machine.{State, step, run, decode, in_64_bits, write_x}
 use Rattle.linker_laws.specs.AArch64Machine.{write_x_or_sp, go_on, next_pc, continue, execute}
 use Rattle.linker_laws.specs.AArch64Machine.{AreAlikeBut, RunAlikeBut, adrp, adr, add, ldr}
 use Rattle.linker_laws.specs.AArch64Machine.{adrp_address, adr_address, added, loaded, load_64}
 use Rattle.linker_laws.specs.AArch64Machine.{movn_or_movz, movk_64, moved, with_moved, blr}
-use Rattle.linker_laws.specs.AArch64Machine.{go_to, read_x}
+use Rattle.linker_laws.specs.AArch64Machine.{branch_target, go_to, read_x}
 
 -- ---- sums
 
@@ -181,3 +182,12 @@ alike_itself differing s =
       memory = refl;
       thread_pointer = refl;
     }
+
+-- ---- branches
+
+pub branch_leads : (o : Operands) (x : ℕ) (s : State) → s.pc ≡ o.place
+    → IsAddress (pos o.place +ℤ ((aarch64_form JumpCall).machine x *ℤ pos 4)) (plt_address o)
+    → branch_target x s ≡ plt_address o
+branch_leads o x s at leads =
+    ap (λ p. in_64_bits (pos p +ℤ ((aarch64_form JumpCall).machine x *ℤ pos 4))) at
+    ∙ address_is _ _ leads

@@ -1,4 +1,7 @@
 pub mod AArch64Descriptors
+pub mod AArch64GotLoads
+pub mod AArch64Groups
+pub mod AArch64GroupsWorked
 pub mod AArch64Halves
 pub mod AArch64Moves
 pub mod AArch64Near
@@ -7,7 +10,10 @@ pub mod AArch64Pairs
 pub mod AArch64Steps
 pub mod AArch64WideMoves
 pub mod AArch64Words
+pub mod Agreement
 pub mod Applied
+pub mod ChainWorked
+pub mod CoveredRuns
 pub mod Differences
 pub mod Fields
 pub mod Instructions
@@ -48,6 +54,7 @@ pub mod RiscVMachine
 pub mod RiscVPairs
 pub mod RiscVSums
 pub mod Rounded
+pub mod SimulationWorked
 pub mod Sums
 pub mod Words
 pub mod X86Branches

@@ -1,7 +1,11 @@
+pub mod AArch64Groups
+pub mod AArch64GroupsWorked
 pub mod AArch64Machine
 pub mod AArch64RelocationLaws
 pub mod AArch64RewriteLaws
 pub mod AArch64Worked
+pub mod Chains
+pub mod Changes
 pub mod Differences
 pub mod LoongArchMachine
 pub mod LoongArchRelocationLaws
@@ -15,6 +19,8 @@ pub mod RiscVMachine
 pub mod RiscVRelocationLaws
 pub mod RiscVRewriteLaws
 pub mod Schemes
+pub mod Simulation
+pub mod SimulationWorked
 pub mod X86Examples
 pub mod X86Machine
 pub mod X86RelocationLaws

@@ -1,7 +1,7 @@
 //! Program properties.
 
 ghost use Rattle.std.specs.Prelude.{◌≡◌, IfSome, IfNone};
-ghost use Rattle.linker_utils.specs.Machines.{architecture_of};
+ghost use Rattle.linker_elf.specs.Machines.{architecture_of};
 ghost use Rattle.linker_utils_c.specs.Properties.{has_rule, property_status, number_by};
 ghost use Rattle.linker_utils_c.specs.Properties.{ArePropertiesRead, ArePropertiesMerged};
 ghost use Rattle.linker_utils_c.specs.Properties.{IsNoteWritten};

@@ -1,6 +1,6 @@
 -- The laws of AArch64.
-use Rattle.std.proofs.Common.{◌≡◌, ◌≢◌, ℕ, ◌+◌, refl, sym, ◌∙◌, ap, arith, pos, ◌+ℤ◌, drop, [], ◌∷◌, eqb}
-use Rattle.std.proofs.Common.{◌*ℤ◌, ℤ, take, length, ◌++◌, subst, Some, ◌-◌, List, ◌<◌, ◌/◌, ◌^◌}
+use Rattle.std.proofs.Common.{◌≡◌, ◌≢◌, ℕ, ◌+◌, refl, sym, ◌∙◌, ap, arith, drop, [], ◌∷◌, eqb}
+use Rattle.std.proofs.Common.{ℤ, take, length, ◌++◌, subst, Some, ◌-◌, List, ◌<◌, ◌/◌, ◌^◌}
 use Rattle.std.specs.Prelude.{bit_and}
 use Rattle.std.specs.Int.{bit_at, w64, cast_signed}
 use Rattle.std.proofs.Math.Seq.{drop-append_seam, take-append_seam}
@@ -10,13 +10,11 @@ use Rattle.std.proofs.lemmas.Nat.{and_le_r}
 use Rattle.linker_base.specs.Bits.{field}
 use Rattle.linker_base.specs.Form.{place_sum}
 use Rattle.linker_base.specs.Rewrite.{Rewrite, rewrite_window}
-use Rattle.linker_utils.specs.AArch64Rewrites.{rd_of, rn_of}
-use Rattle.linker_elf.specs.AArch64.{aarch64_form}
+use Rattle.linker_utils.specs.AArch64Rewrites.{rd_of}
 use Rattle.linker_elf.specs.Elf.{IsWithin, bit_bounds}
 use Rattle.linker_elf.specs.LoongArch.{page}
 use Rattle.linker_elf.specs.Value.{sum_64, difference_64}
 use Rattle.linker_elf.specs.declared.elf.Sign.TheVariants.{Signed}
-use Rattle.linker_elf.specs.declared.aarch64.forms.AArch64Instruction.TheVariants.{JumpCall}
 use Rattle.linker_utils.specs.declared.aarch64.rewrites.RelaxationKind.TheVariants.{NoOp}
 use Rattle.linker_utils.specs.declared.aarch64.rewrites.RelaxationKind.TheVariants.{ReplaceWithNop}
 use Rattle.linker_utils.specs.declared.aarch64.rewrites.RelaxationKind.TheVariants.{MovzX0Lsl16}
@@ -31,20 +29,21 @@ use Rattle.linker_utils.specs.declared.aarch64.rewrites.RelaxationKind.TheVarian
 use Rattle.linker_utils.specs.declared.aarch64.rewrites.RelaxationKind.TheVariants.{AdrpAddToNopAdr}
 use Rattle.linker_elf.specs.declared.elf.value.Operands.{Operands}
 use Rattle.linker_laws.specs.AArch64RelocationLaws as relocation_laws
-use Rattle.linker_laws.specs.Schemes.{AreAddresses, symbol_address, IsAddress, plt_address}
+use Rattle.linker_laws.specs.Schemes.{AreAddresses, symbol_address, IsAddress}
 use Rattle.linker_laws.proofs.Sums.{sum_below}
 use Rattle.linker_laws.specs.AArch64RewriteLaws.{word_of, pair, following, BeginsRewrittenAt}
 use Rattle.linker_laws.specs.AArch64RewriteLaws as aarch64_laws
-use Rattle.linker_laws.specs.AArch64Machine.{in_64_bits, adr_address, go_on, go_to, branch_target}
+use Rattle.linker_laws.specs.AArch64Machine.{adr_address, go_on, go_to, branch_target}
 use Rattle.linker_laws.specs.AArch64Machine.{execute, step, write_x, next_pc, State, adrp_address}
 use Rattle.linker_laws.specs.AArch64Machine.{loaded, added}
 use Rattle.linker_laws.proofs.AArch64Descriptors.{to_local_exec, to_initial_exec}
+use Rattle.linker_laws.proofs.AArch64GotLoads.{got_loads, got_adds}
 use Rattle.linker_laws.proofs.AArch64Halves.{high_half, low_half}
-use Rattle.linker_laws.proofs.AArch64Pairs.{word_is, loads, adds_pair, word_made, pair_made}
+use Rattle.linker_laws.proofs.AArch64Pairs.{word_is, adds_pair, word_made, pair_made}
 use Rattle.linker_laws.proofs.AArch64Pairs.{adr_is, page_added, entry_loaded}
 use Rattle.linker_laws.proofs.AArch64Steps.{run_pair, alike_runs, alike_twice, set, step_adr}
-use Rattle.linker_laws.proofs.AArch64Steps.{address_is, alike_once, alike_before, alike_itself}
-use Rattle.linker_laws.proofs.AArch64Steps.{step_adrp, step_add}
+use Rattle.linker_laws.proofs.AArch64Steps.{alike_once, alike_before, alike_itself}
+use Rattle.linker_laws.proofs.AArch64Steps.{branch_leads, step_adrp, step_add}
 use Rattle.linker_laws.proofs.AArch64Words.{adr_of_register, of_registers, adrp_after, ldr_after}
 use Rattle.linker_laws.proofs.AArch64Words.{add_after, masked_field}
 use Rattle.linker_laws.proofs.AArch64Words.{adr_after, decodes_adr, decodes_b, decodes_bl}
@@ -76,25 +75,12 @@ got_pair : relocation_laws.RelativeAddresses → relocation_laws.EntryAddresses
     → aarch64_laws.GotToAddress
 got_pair relative entries o s adrp ldr add p holds made adrp1 ldr1 adrp2 add2 a1 l1 a2 d2 =
     let one = p.one_register in
-    let n = rd_of (word_of ldr) in
-    let named = one.into_own_source.not_31 in
-    let same = one.into_own_source.same in
-    let made_word = word_made (λ x. 0x91000000 + field x 0 21) ldr add (omega arith) made in
-    let op : field (word_of add) 22 32 ≡ 0x244 = omega arith in
-    let rd : rd_of (word_of add) ≡ n = omega arith in
-    let rn : rn_of (word_of add) ≡ rn_of (word_of ldr) = omega arith in
-    let l = loads o n n (word_of adrp1) (word_of ldr1) o.got_entry s
-    (adr_of_register one.register (adrp_after _ _ adrp adrp1 a1.written one.first))
-    (of_registers refl same (ldr_after _ _ ldr ldr1 l1.written p.second_is)) named named p.at
-    (entries.0 o p.small o.place adrp adrp1 a1 tt (sum_64 o.place 4) ldr ldr1 l1 tt) in
-    let d = adds_pair o n (word_of adrp2) (word_of add2) _ s
-    (adr_of_register one.register (adrp_after _ _ adrp adrp2 a2.written one.first))
-    (of_registers rd (rn ∙ same) (add_after _ _ add add2 d2.written op)) named p.at
-    (relative.0.0 o p.small o.place adrp adrp2 a2 tt (sum_64 o.place 4) add add2 d2 tt) in
+    let l = got_loads entries o s adrp ldr p.small p.at one p.second_is adrp1 ldr1 a1 l1 in
+    let d = got_adds relative o s adrp ldr add p.small p.at one p.second_is made adrp2 add2 a2 d2 in
     alike_runs _ (pair adrp1 ldr1) (pair adrp2 add2) s _ _
     (run_pair (word_of adrp1) (word_of ldr1) s _ _ l.first refl l.second)
     (run_pair (word_of adrp2) (word_of add2) s _ _ d.first refl d.second)
-    (alike_twice n _ _ _ _ s (l.value_is ∙ holds ∙ sym d.value_is))
+    (alike_twice (rd_of (word_of ldr)) _ _ _ _ s (l.value_is ∙ holds ∙ sym d.value_is))
 
 -- by the words of the pair
 address_by : relocation_laws.Literals → (o : Operands) (s : State) (both made : List ℕ)
@@ -327,7 +313,7 @@ branches laws = (
       (ap (λ w. step w s) (word_is 0xd503201f nop (omega arith) made))
       (record {
         registers = λ n any. refl;
-        pc = goes_to o x s at (laws.1 o small o.place branch after a tt) ∙ goes;
+        pc = branch_leads o x s at (laws.1 o small o.place branch after a tt) ∙ goes;
         memory = refl;
         thread_pointer = refl;
       }),
@@ -340,18 +326,11 @@ branches laws = (
       (ap (λ w. step w s) (word_is 0xd503201f nop (omega arith) made))
       (record {
         registers = λ n other. cond-false (eqb n 30) (next_pc s) (s.registers n) other;
-        pc = goes_to o x s at (laws.0 o small o.place branch after a tt) ∙ goes;
+        pc = branch_leads o x s at (laws.0 o small o.place branch after a tt) ∙ goes;
         memory = refl;
         thread_pointer = refl;
       }),
 )
-  where
-    goes_to : (o : Operands) (x : ℕ) (s : State) → s.pc ≡ o.place
-        → IsAddress (pos o.place +ℤ ((aarch64_form JumpCall).machine x *ℤ pos 4)) (plt_address o)
-        → branch_target x s ≡ plt_address o
-    goes_to o x s at leads =
-        ap (λ p. in_64_bits (pos p +ℤ ((aarch64_form JumpCall).machine x *ℤ pos 4))) at
-        ∙ address_is _ _ leads
 
 -- ---- sections
 

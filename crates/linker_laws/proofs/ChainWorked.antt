@@ -1,0 +1,222 @@
+-- The worked chain.
+use Rattle.std.proofs.Common.{◌≡◌, ◌≢◌, ℕ, ◌+◌, ◌-◌, ◌^◌, ◌<◌, ◌≤◌, Bool, true, false, refl, true≢false}
+use Rattle.std.proofs.Common.{Some, arith, ap, ap₂, sym, ◌∙◌, subst, lit<, leb-true}
+use Rattle.std.proofs.lemmas.Bool.{ne_eqb, cond-false, eq-eqb}
+use Rattle.std.specs.Prelude.{IsSomeAnd, if◌then◌else◌, ◌==◌, nat_le}
+use Rattle.linker_laws.specs.Simulation.{State, Link, Kinds, AreStored, Agree, run, same}
+use Rattle.linker_laws.specs.Simulation.{half, anything, Other, Group, Covered, ends, other, group, of_link}
+use Rattle.linker_laws.specs.Changes.{put, go_to, with_register}
+use Rattle.linker_laws.specs.SimulationWorked.{machine, put_out, with_byte}
+use Rattle.linker_laws.specs.SimulationWorked.{of_byte, rewritten, packed, chain, all_same, with_entry}
+use Rattle.linker_laws.specs.SimulationWorked.{IsChainWorked}
+use Rattle.linker_laws.specs.Chains.{of_chain}
+use Rattle.linker_laws.proofs.CoveredRuns.{once, run_first, same_value, composes}
+use Rattle.linker_laws.proofs.Agreement.{agree_put, agree_put_old}
+
+-- ---- the first link
+
+abbrev s0 : State
+s0 = with_entry 7
+
+abbrev s1 : State
+s1 = put 1 7 0x11 s0
+
+abbrev s2 : State
+s2 = put 7 0 0x12 s1
+
+abbrev s3 : State
+s3 = put_out 7 0x13 s2
+
+abbrev k0 : Kinds
+k0 = with_byte 0xf0 anything all_same
+
+abbrev k1 : Kinds
+k1 = with_register 1 same k0
+
+abbrev k2 : Kinds
+k2 = with_register 7 (half 0) k1
+
+-- an instruction of new, by the address where old is
+at : (l : Link) (p : ℕ → ℕ) (k : Kinds) (s t : State) → Agree l k s t
+    → machine p t ≡ machine p (go_to (l.moved s.pc) t)
+at l p k s t agree = ap (λ a. machine p (go_to a t)) agree.pc
+
+-- what is put out agrees
+put_out_agrees : (l : Link) (k : Kinds) (s t : State) (x y next next' : ℕ) → Agree l k s t
+    → next < 2 ^ 64 → next' ≡ l.moved next → x ≡ y
+    → Agree l k (put_out x next s) (put_out y next' t)
+put_out_agrees l k s t x y next next' agree small at is =
+    record {
+      small = small;
+      pc = at;
+      registers = agree.registers;
+      memory = agree.memory;
+      outside = ap₂ (λ x o. λ m. if m == 0 then x else o m) is agree.outside;
+    }
+
+p1 : Group (of_link rewritten) 1 k0 s0 k1 s1
+p1 =
+    record {
+      more = 0;
+      old_goes = refl;
+      new_goes =
+          λ t agree. once (machine rewritten.new) t (Agree rewritten k1 s1)
+          (subst (λ o. IsSomeAnd o (Agree rewritten k1 s1))
+          (sym (at rewritten rewritten.new k0 s0 t agree))
+          (agree_put rewritten k0 s0 t 1 same 7 7 0x11 0x11 agree (lit< tt) refl refl));
+      forward = λ e. lit< tt;
+    }
+
+p2 : Group (of_link rewritten) 1 k1 s1 k2 s2
+p2 =
+    record {
+      more = 0;
+      old_goes = refl;
+      new_goes =
+          λ t agree. once (machine rewritten.new) t (Agree rewritten k2 s2)
+          (subst (λ o. IsSomeAnd o (Agree rewritten k2 s2))
+          (sym (at rewritten rewritten.new k1 s1 t agree))
+          (agree_put rewritten k1 s1 t 7 (half 0) 0 0x20 0x12 0x12 agree (lit< tt) refl refl));
+      forward = λ e. lit< tt;
+    }
+
+p3 : Other (of_link rewritten) k2 s2 k2 s3
+p3 =
+    record {
+      old_goes = refl;
+      new_goes =
+          λ t agree. subst (λ o. IsSomeAnd o (Agree rewritten k2 s3))
+          (sym (at rewritten rewritten.new k2 s2 t agree))
+          (put_out_agrees rewritten k2 s2 t 7 (t.registers 1) 0x13 0x13 agree (lit< tt) refl
+          (agree.registers 1));
+    }
+
+first : Covered (of_link rewritten) 3 3 k0 s0 k2 s3
+first =
+    group 2 1 2 _ _ _ _ _ _ p1 (group 1 1 1 _ _ _ _ _ _ p2 (other 0 0 _ _ _ _ _ _ p3 (ends _ _)))
+
+-- ---- the second link, from any state of the code between
+
+abbrev h1 : Kinds
+h1 = with_register 1 same all_same
+
+abbrev h2 : Kinds
+h2 = with_register 7 (half 0) h1
+
+abbrev u1 : State → State
+u1 u = put 1 7 0x11 u
+
+abbrev u2 : State → State
+u2 u = put 7 0x20 0x12 (u1 u)
+
+abbrev u3 : State → State
+u3 u = put_out 7 0x13 (u2 u)
+
+o1 : (u : State) → u.pc ≡ 0x10 → Other (of_link packed) all_same u h1 (u1 u)
+o1 u is =
+    record {
+      old_goes = ap (λ a. machine packed.old (go_to a u)) is;
+      new_goes =
+          λ t agree. subst (λ o. IsSomeAnd o (Agree packed h1 (u1 u)))
+          (sym (at packed packed.new all_same u t agree
+          ∙ ap (λ a. machine packed.new (go_to (packed.moved a) t)) is))
+          (agree_put packed all_same u t 1 same 7 7 0x11 0x11 agree (lit< tt) refl refl);
+    }
+
+o2 : (u : State) → Group (of_link packed) 0 h1 (u1 u) h2 (u2 u)
+o2 u =
+    record {
+      more = 0;
+      old_goes = refl;
+      new_goes =
+          λ t agree. agree_put_old packed h1 (u1 u) t 7 (half 0) 0x20 0x12 agree (lit< tt) agree.pc
+          refl;
+      forward = λ e. lit< tt;
+    }
+
+o3 : (u : State) → Other (of_link packed) h2 (u2 u) h2 (u3 u)
+o3 u =
+    record {
+      old_goes = refl;
+      new_goes =
+          λ t agree. subst (λ o. IsSomeAnd o (Agree packed h2 (u3 u)))
+          (sym (at packed packed.new h2 (u2 u) t agree))
+          (put_out_agrees packed h2 (u2 u) t 7 (t.registers 1) 0x13 0x12 agree (lit< tt) refl
+          (agree.registers 1));
+    }
+
+second : (u u' : State) → Agree rewritten k0 s0 u → run 3 (machine packed.old) u ≡ Some u'
+    → Agree rewritten k2 s3 u' → Covered (of_link packed) 3 2 all_same u h2 u'
+second u u' agree runs agree' =
+    let is : u.pc ≡ 0x10 = agree.pc in
+    let there = run_first 2 (machine packed.old) u (u1 u) (Some (u3 u)) (o1 u is).old_goes refl in
+    subst (λ v. Covered (of_link packed) 3 2 all_same u h2 v) (same_value (u3 u) u' (sym there ∙ runs))
+    (other 2 1 _ _ _ _ _ _ (o1 u is) (group 1 0 1 _ _ _ _ _ _ (o2 u)
+    (other 0 0 _ _ _ _ _ _ (o3 u) (ends _ _))))
+
+-- ---- both
+
+whole : Group (of_chain chain) 2 (k0, all_same) s0 (k2, h2) s3
+whole =
+    composes (of_link rewritten) (of_link packed) (λ s. refl) 2 k0 k2 all_same h2 s0 s3
+    (record { q = 2; p = 3; m = 3; first = first; second = second; forward = λ e. lit< tt })
+
+old_ends : IsSomeAnd (run 3 (machine rewritten.old) (with_entry 7)) (λ s. s.outside 0 ≡ 7)
+old_ends = refl
+
+new_ends : IsSomeAnd (run 2 (machine packed.new) (with_entry 0x99)) (λ s. s.outside 0 ≡ 7)
+new_ends = refl
+
+apart : (a v : ℕ) → (a == v) ≡ false → a ≢ v
+apart a v e is = true≢false (sym (eq-eqb a v is) ∙ e)
+
+between : Agree rewritten k0 s0 (with_entry 0x99)
+between = record { small = lit< tt; pc = refl; registers = λ r. refl; memory = λ a below. by a (a == 0xf0) refl; outside = refl }
+  where
+    by : (a : ℕ) (b : Bool) → (a == 0xf0) ≡ b
+        → AreStored rewritten (if b then of_byte anything else of_byte same) s0.memory
+        (with_entry 0x99).memory a
+    by a true e = tt
+    by a false e =
+        let away : a - 0 ≢ 0xf0 = λ is. apart a 0xf0 e ((let z : a ≡ a - 0 = omega arith in z) ∙ is) in
+        ap (λ n. n + 0) (cond-false _ 7 0 (ne_eqb (a - 0) 0xf0 away)
+        ∙ sym (cond-false _ 0x99 0 (ne_eqb (a - 0) 0xf0 away)))
+
+last : Agree packed all_same (with_entry 0x99) (with_entry 0x99)
+last =
+    record {
+      small = lit< tt;
+      pc = refl;
+      registers = λ r. refl;
+      memory = λ a below. ap (λ b. (if b then 0x99 else 0) + 0) (apart_alike (a - 0));
+      outside = refl;
+    }
+  where
+    by : (a : ℕ) (p q : Bool) → nat_le a 0x11 ≡ p → nat_le a 0x13 ≡ q
+        → (a == 0xf0) ≡ ((if p then a else (if q then a - 1 else a)) == 0xf0)
+    by a true q e f = refl
+    by a false true e f =
+        let small = leb-true a 0x13 f in
+        ne_eqb a 0xf0 (let z : a ≢ 0xf0 = λ is. not_below a small is in z)
+        ∙ sym (ne_eqb (a - 1) 0xf0 (λ is. not_next a small is))
+      where
+        not_below : (a : ℕ) → a ≤ 0x13 → a ≡ 0xf0 → ⊥
+        not_below a small is = omega arith
+
+        not_next : (a : ℕ) → a ≤ 0x13 → a - 1 ≡ 0xf0 → ⊥
+        not_next a small is = omega arith
+    by a false false e f = refl
+
+    apart_alike : (a : ℕ) → (a == 0xf0) ≡ (packed.moved a == 0xf0)
+    apart_alike a = by a (nat_le a 0x11) (nat_le a 0x13) refl refl
+
+pub is_chain_worked : IsChainWorked
+is_chain_worked =
+    record {
+      known = (k2, h2);
+      state = s3;
+      agree = (with_entry 0x99, between, last);
+      covered = group 0 2 0 _ _ _ _ _ _ whole (ends _ _);
+      old_ends = old_ends;
+      new_ends = new_ends;
+    }

@@ -1,0 +1,45 @@
+//! Every run of an object's code has a run of the linked code.
+//!
+//! The functions do nothing. The contract of `runs` is the theorem, which is over any machine, any
+//! code and any chain of links (`specs/Simulation`, `specs/Chains`). What is left for a link of an
+//! architecture is that its rewritten instructions are groups.
+
+ghost use Rattle.linker_laws.specs.AArch64Groups as aarch64_groups;
+ghost use Rattle.linker_laws.specs.AArch64GroupsWorked as aarch64_worked;
+ghost use Rattle.linker_laws.specs.Chains as chains;
+ghost use Rattle.linker_laws.specs.Simulation as simulation;
+ghost use Rattle.linker_laws.specs.SimulationWorked as worked;
+
+/// Wherever a covered run of the object's code is outside a group, the run of the linked code
+/// agrees. It stops where the object's stops, and has no end where that has none. A run that one
+/// link covers, and the next one too, is a group of both.
+pub fn runs()
+    ensures simulates { (c : chains.Chain) → simulation.Simulates (chains.of_chain c) }
+    ensures compose { (c : chains.Chain) (l : simulation.Link)
+        → chains.Compose (chains.of_chain c) (simulation.of_link l) }
+{}
+
+/// A small program, and a chain of two links, of which every premise holds. Their runs are computed
+/// to the end.
+pub fn worked()
+    ensures worked { worked.IsWorked }
+    ensures chain { worked.IsChainWorked }
+{}
+
+/// AArch64: rewritten instructions are groups, whatever the machine's other instructions do: loads of
+/// addresses from the GOT, each half of initial-exec, whatever stands between them, and branches to
+/// undefined weak symbols. An instruction that has the same word in both is another one, if the
+/// object's keeps agreement.
+pub fn aarch64()
+    ensures groups { aarch64_groups.Groups }
+{
+    crate::relocations::aarch64();
+}
+
+/// AArch64: a program with three groups, of which every premise holds. Both of its runs are computed
+/// to the end.
+pub fn aarch64_worked()
+    ensures worked { aarch64_worked.IsWorked }
+{
+    aarch64();
+}
