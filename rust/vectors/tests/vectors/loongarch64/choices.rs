@@ -206,7 +206,8 @@ fn group_made<const N: usize>(
         LinkFacts { group_fits, operands: Operands { place, ..facts.operands }, ..*facts }
     };
     let group_fits = group.iter().all(|&(at, name)| {
-        architecture::fits(Architecture::LoongArch64, name.elf_code(), &section, at, &at_place(at, false))
+        let (of, code) = (Architecture::LoongArch64, name.elf_code());
+        architecture::fits(of, code, &section, at, &at_place(at, false))
     });
     let chosen: Vec<_> = group
         .iter()
