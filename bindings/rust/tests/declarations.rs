@@ -391,7 +391,7 @@ fn the_numbers_are_those_of_the_library() {
     assert_eq!(numbers(Status::ALL, Status::number), statuses);
     assert_eq!(
         numbers(Architecture::ALL, Architecture::number),
-        equations("linker_utils/specs/Machines", "machine_of")
+        equations("linker_elf/specs/Machines", "machine_of")
     );
 
     assert_eq!(

@@ -139,7 +139,7 @@ fn processor_rule(architecture: Architecture, kind: u32) -> Option<PropertyRule>
             0xc000_0000 => Some(PropertyRule::All),
             _ => None,
         },
-        Architecture::LoongArch64 | Architecture::Ppc64 => None,
+        _ => None,
     }
 }
 

@@ -128,10 +128,7 @@ fn processor_rule(architecture: Architecture, kind: u32) -> Option<PropertyRule>
             0xc000_0000 => Some(PropertyRule::All),
             _ => None,
         },
-        #[cfg(feature = "loongarch64")]
-        Architecture::LoongArch64 => None,
-        #[cfg(feature = "ppc64")]
-        Architecture::Ppc64 => None,
+        _ => None,
     }
 }
 
