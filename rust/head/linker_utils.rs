@@ -94,7 +94,8 @@ pub use crate::linker_elf::elf::choice_table;
 #[cfg(any(doc, doctest))]
 pub mod link_in_ten_calls {
     #![doc = include_str!("../doc/link_in_ten_calls.md")]
-    use crate::output::{LazyPlt, Target, static_words, write_relr};
+    use crate::output::{LazyPlt, Target, merge_properties, read_properties, static_words};
+    use crate::output::{write_properties, write_relr};
     use crate::placement::place_stubs;
     use crate::rewriting::{
         snapshot_facts, relocate_rewritten_section, rewrite_placed_section, rewrite_section, survey,
