@@ -2,8 +2,6 @@
 // Made by tools/generate of crates/linker_utils/src/architecture.rt.
 //! A rewrite of any architecture, and which one a linker makes at the relocation with a code
 //! (`r_type`).
-//!
-#![doc = include_str!("../doc/architecture.md")]
 
 use crate::elf::{
     Architecture, Choice, InstructionRewrite, LinkFacts, OtherRelocation, RewriteWindow,

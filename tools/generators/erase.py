@@ -482,7 +482,7 @@ def make():
                         erased = re.sub(rf"\b{was}\b", new, erased)
             if folder == EXPORTS:
                 erased = erase_exports(erased)
-            if crate in ("linker_elf", "linker_section", "linker_rewriting", "linker_utils"):
+            if crate in ("linker_elf", "linker_section"):
                 erased = without_texts(erased, "crate")
             name = name_of(source, folder, root)
             if name == root:
