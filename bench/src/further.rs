@@ -5,7 +5,7 @@ use crate::choices::{STRIDE, Stream};
 use crate::inputs::{Random, deletions};
 use crate::library::{SITE, WINDOW, added};
 use crate::measure::{Beside, Report, Side};
-use crate::table::{FORMS, LOONGARCH64, MACHINES, REWRITES, RISCV, name_of};
+use crate::table::{FORMS, LOONGARCH64, MACHINES, REWRITES, RISCV, X86_64, name_of};
 use crate::{CALLS, architecture, calls_apart, section_of};
 use erased_crate::runs;
 use erased_crate::runs::{Machine, Run, has_its_instructions, pack_run};
@@ -667,6 +667,37 @@ fn lists(report: &mut Report, random: &mut Random) {
         "`linker_utils_read_relr`, 100000 addresses",
         COUNT,
         || unsafe { linker_utils_read_relr_nonnull(from, used, to, COUNT, &mut needed) },
+    );
+    let (machine, kind) = (X86_64, 0xc000_0002);
+    let list: Vec<_> = (0..100)
+        .map(|at| sathunne::Property {
+            kind: kind + at,
+            value: 3,
+            version: 0,
+        })
+        .collect();
+    let (mut note, mut properties) = (vec![0; 4096], list.clone());
+    let (from, to, bytes) = (list.as_ptr(), properties.as_mut_ptr(), note.as_mut_ptr());
+    whole(
+        report,
+        "`linker_utils_write_properties`, 100 properties",
+        100,
+        || unsafe { linker_utils_write_properties_nonnull(machine, from, 100, bytes, 4096, &mut needed) },
+    );
+    let len = needed;
+    whole(
+        report,
+        "`linker_utils_read_properties`, 100 properties",
+        100,
+        || unsafe { linker_utils_read_properties_nonnull(machine, bytes, len, to, 100, &mut needed) },
+    );
+    whole(
+        report,
+        "`linker_utils_merge_properties`, 100 properties",
+        100,
+        || unsafe {
+            linker_utils_merge_properties_nonnull(machine, from, 100, from, 100, to, 100, &mut needed)
+        },
     );
     let lens: Vec<usize> = (0..CALLS).map(|k| COUNT - k).collect();
     numbers(
