@@ -40,6 +40,7 @@ mod linker_elf;
 mod linker_output;
 mod linker_reading;
 mod linker_rewriting;
+mod linker_riscv64;
 mod linker_runs;
 mod linker_section;
 pub mod names;

@@ -47,6 +47,8 @@ mod linker_elf;
 mod linker_output;
 mod linker_reading;
 mod linker_rewriting;
+#[cfg(feature = "riscv64")]
+mod linker_riscv64;
 mod linker_runs;
 mod linker_section;
 pub mod names;

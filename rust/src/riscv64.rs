@@ -5,28 +5,19 @@
 //!
 #![doc = include_str!("../doc/riscv64.md")]
 
-mod calls;
 mod choices;
-pub mod fields;
-mod packing;
 mod rewrites;
-mod shrinking;
 
-pub use calls::{
-    Call, CallError, JAL_MAX, JAL_MIN, JumpError, LinkRegister, distance_fits_jal, is_plain_call,
-    jal_site, jal_site_with, relax_call, relax_call_over,
-};
 pub use choices::{choose, fits, relocations_are_chosen_alike};
 pub use crate::linker_base::rewrite::DeletedBytes;
 pub use crate::linker_elf::riscv64::{
     RiscVInstruction, RiscVRelocation, clui_row, relocation_type_from_raw, row,
 };
-pub use packing::{
-    PackError, RejectedCall, calls_apart, first_not_apart, pack_into, pack_section,
-    packed_calls_reach_targets, packed_len,
+pub use crate::linker_riscv64::{
+    AsChoice, Call, CallError, JAL_MAX, JAL_MIN, JumpError, LinkRegister, PackError, RejectedCall,
+    calls_apart, calls_shrinkable, distance_fits_jal, fields, first_not_apart,
+    first_not_shrinkable, is_plain_call, jal_site, jal_site_with, pack_into, pack_section,
+    packed_calls_reach_targets, packed_len, relax_call, relax_call_over, shrink_calls,
+    shrink_calls_into, shrunk_calls_are_accepted,
 };
 pub use rewrites::{RelaxationKind, may_be_skipped};
-pub use shrinking::{
-    AsChoice, calls_shrinkable, first_not_shrinkable, shrink_calls, shrink_calls_into,
-    shrunk_calls_are_accepted,
-};

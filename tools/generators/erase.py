@@ -427,14 +427,13 @@ LEFT_OUT = {"linkfix/src/sections.rt", "linkfix/src/tests.rt", "linker_output/sr
             "linker_runs/src/laws.rt"}
 ARCHITECTURES = ["aarch64", "loongarch64", "ppc64", "riscv64", "x86_64"]
 # The crates of the library that are a module here, and paths of crates here.
-MODULES = {"linker_base": "linker_base", "linker_elf": "linker_elf"}
-MODULES |= {f"linker_{name}": f"linker_{name}" for name in ("runs", "reading", "section", "rewriting", "output")}
-PATHS = {crate: f"crate::{module}" for crate, module in MODULES.items()} | {"linker_utils": "crate"}
+MODULES = [f"linker_{name}" for name in ("base", "elf", "riscv64", "runs", "reading", "section", "rewriting", "output")]
+PATHS = {crate: f"crate::{crate}" for crate in MODULES} | {"linker_utils": "crate"}
 # Each crate of the source: its folder and root here, and its paths that move. What its root begins with
 # stands in `rust/head`.
 TARGETS = [
-    *((crate, f"rust/src/{module}", f"rust/src/{module}.rs", PATHS | {"crate": f"crate::{module}"})
-      for crate, module in MODULES.items()),
+    *((crate, f"rust/src/{crate}", f"rust/src/{crate}.rs", PATHS | {"crate": f"crate::{crate}"})
+      for crate in MODULES),
     ("linker_utils", "rust/src", "rust/src/lib.rs", PATHS),
     ("vectors", "rust/vectors/src", "rust/vectors/src/lib.rs", {}),
     ("linkfix", "rust/linkfix/src", "rust/linkfix/src/main.rs", {"std": "std"}),

@@ -273,7 +273,7 @@ def gate(made, make_source, added):
              if re.fullmatch(r'cfg\(feature = "(' + "|".join(WORDS) + r')"\)', word)}
     without = {(name, found[1]): found[2] for name, words in added.items()
                for found in map(WITHOUT.fullmatch, words) if found}
-    of_one = re.compile(rf"(^|/)({'|'.join(WORDS)}|{'|'.join(known) or '-'})(/|\.rs$)")
+    of_one = re.compile(rf"(^|/)(?:linker_)?({'|'.join(WORDS)}|{'|'.join(known) or '-'})(/|\.rs$)")
     texts = {name: gate_list(text) for name, text in made.items() if not of_one.search(name)}
     # what an architecture's module has of another one
     moved = {name: path for feature in WORDS for path, name in re.findall(

@@ -28,7 +28,8 @@ use Rattle.linker_laws.specs.Machine.{Relocated, but}
 use Rattle.linker_laws.specs.RiscVMachine.{Hart, register}
 use Rattle.linker_laws.specs.RiscVRewriteLaws.{HaveAddress, HaveGoneOn, IsLoadFromGot, Laws, after_rewrite, word_of}
 use Rattle.linker_laws.specs.Schemes.{AreAddresses, symbol_address}
-use Rattle.linker_utils.specs.RiscVRewrites.{IsAuipc, IsLd, load_to_addi, rd_of, rewrites_word, without_got}
+use Rattle.linker_riscv64.specs.RiscVFields.{rd_of}
+use Rattle.linker_utils.specs.RiscVRewrites.{IsAuipc, IsLd, load_to_addi, rewrites_word, without_got}
 use Rattle.linker_elf.specs.Choices.{got_high_part}
 use Rattle.linker_utils.specs.declared.riscv64.rewrites.RelaxationKind.TheVariants as kinds
 use Rattle.linker_rewriting.specs.Rewritten.{IsMade}

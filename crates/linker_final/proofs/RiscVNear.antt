@@ -15,8 +15,9 @@ use Rattle.linker_elf.specs.declared.elf.RelocationKind.TheVariants.{Absolute, R
 use Rattle.linker_elf.specs.declared.elf.RelocationKindInfo.{RelocationKindInfo}
 use Rattle.linker_elf.specs.declared.elf.value.Operands.{Operands}
 use Rattle.linker_elf.specs.declared.riscv64.forms.RiscVInstruction.TheVariants.{IType, SType}
-use Rattle.linker_utils.specs.RiscVCalls.{word_at}
-use Rattle.linker_utils.specs.RiscVRewrites.{opcode_of, funct3_of, rd_of, adds_low12, with_rs1, lo12}
+use Rattle.linker_riscv64.specs.RiscVCalls.{word_at}
+use Rattle.linker_riscv64.specs.RiscVFields.{opcode_of, funct3_of, rd_of}
+use Rattle.linker_utils.specs.RiscVRewrites.{adds_low12, with_rs1, lo12}
 use Rattle.linker_rewriting.specs.Facts.{address_in}
 use Rattle.linker_rewriting.specs.GlobalPointer.{address_of, base_by, base_for, base_of, based_relocation, is_low_word, is_near, relocation_over}
 use Rattle.linker_laws.specs.Machine.{AreBytes, Relocated, moved, wrapped}

@@ -24,7 +24,8 @@ use Rattle.linker_final.specs.RiscVFinal.{HighParts, LowPartDoesTheSame, LowPart
 use Rattle.linker_laws.specs.Machine.{Relocated}
 use Rattle.linker_laws.specs.RiscVMachine.{Action, action_of}
 use Rattle.linker_laws.specs.RiscVRewriteLaws.{Laws, action_at, after_rewrite, offset_row}
-use Rattle.linker_utils.specs.RiscVRewrites.{IsAddTp, HasPattern, IsLui, adds_low12, by_low_offset, funct3_of, opcode_of, riscv_entries, riscv_matches, tp, with_rs1}
+use Rattle.linker_riscv64.specs.RiscVFields.{funct3_of, opcode_of}
+use Rattle.linker_utils.specs.RiscVRewrites.{IsAddTp, HasPattern, IsLui, adds_low12, by_low_offset, riscv_entries, riscv_matches, tp, with_rs1}
 use Rattle.linker_utils.specs.declared.riscv64.rewrites.RelaxationKind.TheVariants as kinds
 use Rattle.linker_rewriting.specs.Decisions.{deleted_of}
 use Rattle.linker_rewriting.specs.Rewritten.{IsMade}

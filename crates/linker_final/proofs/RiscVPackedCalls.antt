@@ -27,9 +27,9 @@ use Rattle.linker_laws.specs.RiscVMachine.{Hart, Instruction, Runs, adds, cli_im
 use Rattle.linker_laws.specs.RiscVRelocationLaws.{even}
 use Rattle.linker_laws.specs.RiscVRewriteLaws.{AreAlike, EndSo, no_register}
 use Rattle.linker_laws.specs.Schemes.{AreAddresses, plt_address}
-use Rattle.linker_utils.proofs.Jumps.{word_of_front}
-use Rattle.linker_utils.specs.RiscVCalls.{IsCallPair, word_at}
-use Rattle.linker_utils.specs.RiscVRewrites.{rd_of}
+use Rattle.linker_riscv64.proofs.Jumps.{word_of_front}
+use Rattle.linker_riscv64.specs.RiscVCalls.{IsCallPair, word_at}
+use Rattle.linker_riscv64.specs.RiscVFields.{rd_of}
 use Rattle.linker_runs.specs.Origins.{HasItsInstructions}
 use Rattle.linker_runs.specs.Packing.{SiteBecomes}
 use Rattle.linker_runs.specs.RiscVItems.{IsCallAt}

@@ -13,8 +13,9 @@ use Rattle.linker_laws.specs.Machine.{Relocated}
 use Rattle.linker_laws.specs.RiscVMachine.{Hart}
 use Rattle.linker_laws.specs.RiscVRewriteLaws.{AreAlike, EndSo, HasZero, IsLow12, IsLowOffset}
 use Rattle.linker_laws.specs.RiscVRewriteLaws.{LuiIsDeleted, OffsetLuiIsDeleted, SumIsDeleted}
-use Rattle.linker_utils.specs.RiscVCalls.{word_at}
-use Rattle.linker_utils.specs.RiscVRewrites.{IsLui, rd_of}
+use Rattle.linker_riscv64.specs.RiscVCalls.{word_at}
+use Rattle.linker_riscv64.specs.RiscVFields.{rd_of}
+use Rattle.linker_utils.specs.RiscVRewrites.{IsLui}
 
 -- an address is one of 64 bits
 small : (p : Packed) (o : ℕ) (k : ℕ) → k ≡ address_at p o → k < 2 ^ 64

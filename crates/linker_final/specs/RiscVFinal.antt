@@ -28,7 +28,8 @@ use Rattle.linker_rewriting.specs.Decisions.{decision_at, deleted_of}
 use Rattle.linker_rewriting.specs.RiscVPcrelGroups.{IsHighIn}
 use Rattle.linker_rewriting.specs.declared.decisions.Decision.TheVariants.{RewrittenWithSymbol, Rewritten}
 use Rattle.linker_rewriting.specs.declared.decisions.Subject.{Subject}
-use Rattle.linker_utils.specs.RiscVRewrites.{deleted_from, rd_of, tp}
+use Rattle.linker_riscv64.specs.RiscVFields.{rd_of}
+use Rattle.linker_utils.specs.RiscVRewrites.{deleted_from, tp}
 use Rattle.linker_utils.specs.declared.riscv64.rewrites.RelaxationKind.{RelaxationKind}
 use Rattle.linker_utils.specs.declared.riscv64.rewrites.RelaxationKind.TheVariants as kinds
 use Rattle.linker_section.specs.Relocations.{relocation_in}

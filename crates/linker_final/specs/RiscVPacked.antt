@@ -22,8 +22,9 @@ use Rattle.linker_laws.specs.RiscVRelocationLaws.{even}
 use Rattle.linker_laws.specs.RiscVRewriteLaws.{AreAlike, EndSo, HasThreadPointer, HasZero}
 use Rattle.linker_laws.specs.RiscVRewriteLaws.{IsLow12, IsLowOffset, no_register}
 use Rattle.linker_laws.specs.Schemes.{AreAddresses, plt_address}
-use Rattle.linker_utils.specs.RiscVCalls.{word_at}
-use Rattle.linker_utils.specs.RiscVRewrites.{IsAddTp, IsLui, rd_of, tp}
+use Rattle.linker_riscv64.specs.RiscVCalls.{word_at}
+use Rattle.linker_riscv64.specs.RiscVFields.{rd_of}
+use Rattle.linker_utils.specs.RiscVRewrites.{IsAddTp, IsLui, tp}
 use Rattle.linker_runs.specs.RiscVItems.{IsCallAt}
 use Rattle.linker_runs.specs.declared.packing.Machine.TheVariants.{RiscV64}
 use Rattle.linker_runs.specs.declared.relaxation.Site.{Site as site}

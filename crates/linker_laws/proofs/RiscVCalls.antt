@@ -7,12 +7,12 @@ use Rattle.std.proofs.lemmas.Bool.{or_parts}
 use Rattle.std.proofs.lemmas.List.{drop-drop}
 use Rattle.linker_base.specs.Bits.{field}
 use Rattle.linker_utils.specs.RiscVRewrites.{call_to_jal, tail_to_jal, tail_to_cj}
-use Rattle.linker_utils.specs.RiscVCalls.{word_at, IsCallPair}
-use Rattle.linker_utils.specs.RiscVRewrites.{rd_of}
+use Rattle.linker_riscv64.specs.RiscVCalls.{word_at, IsCallPair}
+use Rattle.linker_riscv64.specs.RiscVFields.{rd_of}
 use Rattle.linker_elf.specs.Value.{sum_64}
 use Rattle.linker_elf.specs.declared.riscv64.relocations.RiscVRelocation.TheVariants as names
 use Rattle.linker_utils.specs.declared.riscv64.rewrites.RelaxationKind.TheVariants as kinds
-use Rattle.linker_utils.proofs.Jumps.{word_of_front}
+use Rattle.linker_riscv64.proofs.Jumps.{word_of_front}
 use Rattle.linker_laws.specs.Machine.{deleted}
 use Rattle.linker_laws.specs.RiscVMachine.{register}
 use Rattle.linker_laws.specs.RiscVRewriteLaws.{after_rewrite, CallBecomesJal, TailCallBecomes}

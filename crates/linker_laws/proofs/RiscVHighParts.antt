@@ -15,7 +15,7 @@ use Rattle.linker_elf.specs.Choices.{low_12_bounds}
 use Rattle.linker_elf.specs.Elf.{IsWithin}
 use Rattle.linker_elf.specs.Reach.{clui_bounds}
 use Rattle.linker_elf.specs.RiscV.{riscv_form, riscv_places}
-use Rattle.linker_utils.specs.RiscVRewrites.{opcode_of, rd_of}
+use Rattle.linker_riscv64.specs.RiscVFields.{opcode_of, rd_of}
 use Rattle.linker_elf.specs.RiscVRelocations.{pair_row}
 use Rattle.linker_elf.specs.Value.{sum_64, difference_64, value_of}
 use Rattle.linker_elf.specs.declared.elf.RelocationKind.{RelocationKind}

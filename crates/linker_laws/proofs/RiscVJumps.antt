@@ -9,8 +9,8 @@ use Rattle.std.proofs.lemmas.List.{length-drop}
 use Rattle.linker_base.specs.Bits.{field}
 use Rattle.linker_base.specs.Form.{is_placed}
 use Rattle.linker_elf.specs.RiscV.{riscv_form, riscv_places}
-use Rattle.linker_utils.specs.RiscVCalls.{IsCallPair}
-use Rattle.linker_utils.specs.RiscVRewrites.{opcode_of, funct3_of, rd_of}
+use Rattle.linker_riscv64.specs.RiscVCalls.{IsCallPair}
+use Rattle.linker_riscv64.specs.RiscVFields.{opcode_of, funct3_of, rd_of}
 use Rattle.linker_elf.specs.RiscVRelocations.{pair_row, jump_row}
 use Rattle.linker_elf.specs.Value.{sum_64}
 use Rattle.linker_elf.specs.declared.elf.RelocationKind.TheVariants.{PltRelative}

@@ -22,8 +22,9 @@ use Rattle.linker_utils.specs.declared.riscv64.rewrites.RelaxationKind.{Relaxati
 use Rattle.linker_elf.specs.declared.elf.RelocationKind.{RelocationKind}
 use Rattle.linker_elf.specs.Elf.{IsWithin}
 use Rattle.linker_elf.specs.Choices.{low_12_bounds}
-use Rattle.linker_utils.specs.RiscVCalls.{word_at}
-use Rattle.linker_utils.specs.RiscVRewrites.{opcode_of, funct3_of, rd_of, adds_low12}
+use Rattle.linker_riscv64.specs.RiscVCalls.{word_at}
+use Rattle.linker_riscv64.specs.RiscVFields.{opcode_of, funct3_of, rd_of}
+use Rattle.linker_utils.specs.RiscVRewrites.{adds_low12}
 use Rattle.linker_elf.specs.RiscVRelocations.{pair_row, riscv_row}
 use Rattle.linker_elf.specs.declared.elf.RelocationKindInfo.{RelocationKindInfo}
 use Rattle.linker_elf.specs.declared.riscv64.relocations.RiscVRelocation.TheVariants as names
@@ -33,7 +34,7 @@ use Rattle.linker_elf.specs.declared.elf.RelocationKind.TheVariants.{Absolute, T
 use Rattle.linker_elf.specs.declared.elf.value.Operands.{Operands}
 use Rattle.linker_elf.specs.declared.riscv64.forms.RiscVInstruction.TheVariants.{UType, IType}
 use Rattle.linker_elf.specs.declared.riscv64.forms.RiscVInstruction.TheVariants.{SType, JType}
-use Rattle.linker_utils.proofs.Jumps.{word_of_front}
+use Rattle.linker_riscv64.proofs.Jumps.{word_of_front}
 use Rattle.linker_laws.specs.RiscVRelocationLaws.{even}
 use Rattle.linker_elf.specs.Applied.{IsApplied}
 use Rattle.linker_laws.specs.Schemes.{symbol_address}

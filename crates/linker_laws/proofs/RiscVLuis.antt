@@ -7,9 +7,10 @@ use Rattle.std.specs.Int.{cast_signed, w16, w32, from_le_bytes}
 use Rattle.linker_base.specs.Bits.{field, signed}
 use Rattle.linker_base.specs.Form.{place_sum}
 use Rattle.linker_utils.specs.RiscVRewrites.{hi20_to_clui, clui_to_cli}
-use Rattle.linker_utils.specs.RiscVCalls.{word_at}
+use Rattle.linker_riscv64.specs.RiscVCalls.{word_at}
 use Rattle.linker_elf.specs.RiscV.{riscv_places}
-use Rattle.linker_utils.specs.RiscVRewrites.{rd_of, IsLui, half_at}
+use Rattle.linker_riscv64.specs.RiscVFields.{rd_of}
+use Rattle.linker_utils.specs.RiscVRewrites.{IsLui, half_at}
 use Rattle.linker_elf.specs.declared.riscv64.forms.RiscVInstruction.TheVariants.{UType, CluiType}
 use Rattle.linker_utils.specs.declared.riscv64.rewrites.RelaxationKind.TheVariants as kinds
 use Rattle.linker_utils.proofs.RiscVRewrites.{half_of_front}

@@ -12,7 +12,7 @@ use Rattle.linker_base.specs.Bits.{field, signed}
 use Rattle.linker_base.specs.Form.{place_sum, replaced}
 use Rattle.linker_base.proofs.ConsecutiveBits.{consecutive_bits_sum}
 use Rattle.linker_elf.specs.RiscV.{riscv_form, riscv_places, ui_high, ui_low}
-use Rattle.linker_utils.specs.RiscVRewrites.{opcode_of, funct3_of, rd_of}
+use Rattle.linker_riscv64.specs.RiscVFields.{opcode_of, funct3_of, rd_of}
 use Rattle.linker_elf.specs.Value.{sum_64, difference_64}
 use Rattle.linker_elf.specs.declared.riscv64.forms.RiscVInstruction.TheVariants.{UType, IType}
 use Rattle.linker_elf.specs.declared.riscv64.forms.RiscVInstruction.TheVariants.{JType}

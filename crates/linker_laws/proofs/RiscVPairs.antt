@@ -12,8 +12,8 @@ use Rattle.std.proofs.lemmas.Bool.{or_from}
 use Rattle.linker_base.specs.Bits.{field}
 use Rattle.linker_base.specs.Rewrite.{replaces, rewritten}
 use Rattle.linker_utils.specs.RiscVRewrites.{rs1_to_zero, with_rs1, tp}
-use Rattle.linker_utils.specs.RiscVCalls.{word_at}
-use Rattle.linker_utils.specs.RiscVRewrites.{opcode_of, funct3_of, rd_of}
+use Rattle.linker_riscv64.specs.RiscVCalls.{word_at}
+use Rattle.linker_riscv64.specs.RiscVFields.{opcode_of, funct3_of, rd_of}
 use Rattle.linker_elf.specs.Value.{sum_64, difference_64}
 use Rattle.linker_utils.specs.declared.riscv64.rewrites.RelaxationKind.TheVariants as kinds
 use Rattle.linker_laws.specs.RiscVRelocationLaws.{even}

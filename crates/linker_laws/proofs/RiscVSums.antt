@@ -5,8 +5,8 @@ use Rattle.std.specs.Prelude.{◌==◌}
 use Rattle.std.proofs.lemmas.Bool.{or_parts}
 use Rattle.std.proofs.lemmas.List.{length-drop}
 use Rattle.linker_base.specs.Bits.{field}
-use Rattle.linker_utils.specs.RiscVCalls.{word_at}
-use Rattle.linker_utils.specs.RiscVRewrites.{rd_of}
+use Rattle.linker_riscv64.specs.RiscVCalls.{word_at}
+use Rattle.linker_riscv64.specs.RiscVFields.{rd_of}
 use Rattle.linker_elf.specs.Value.{sum_64}
 use Rattle.linker_laws.specs.RiscVRewriteLaws.{SumIsDeleted}
 use Rattle.linker_laws.specs.RiscVMachine.{register, add, executed, rs1_of, rs2_of, Instruction}

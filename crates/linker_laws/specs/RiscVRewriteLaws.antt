@@ -12,8 +12,9 @@ use Rattle.linker_elf.specs.Choices.{low_12_bounds, symbol_and_addend}
 use Rattle.linker_elf.specs.Elf.{IsWithin}
 use Rattle.linker_elf.specs.Originals.{HasWord}
 use Rattle.linker_utils.specs.RiscVRewrites.{riscv_rewrite, tp, a0}
-use Rattle.linker_utils.specs.RiscVCalls.{word_at, IsCallPair}
-use Rattle.linker_utils.specs.RiscVRewrites.{riscv_matches, opcode_of, funct3_of, rd_of, IsLui}
+use Rattle.linker_riscv64.specs.RiscVCalls.{word_at, IsCallPair}
+use Rattle.linker_riscv64.specs.RiscVFields.{opcode_of, funct3_of, rd_of}
+use Rattle.linker_utils.specs.RiscVRewrites.{riscv_matches, IsLui}
 use Rattle.linker_utils.specs.RiscVRewrites.{IsAddTp, IsAuipc, IsLd, IsAddiToA0}
 use Rattle.linker_utils.specs.RiscVRewrites.{IsCallOfDescriptor, half_at}
 use Rattle.linker_elf.specs.RiscVRelocations.{riscv_row, clui_row, riscv_relocation}

@@ -13,7 +13,7 @@ use Rattle.linker_elf.specs.RiscV.{riscv_form}
 use Rattle.linker_elf.specs.Value.{sum_64, difference_64}
 use Rattle.linker_elf.specs.declared.elf.RelocationKind.TheVariants.{Relative, RelativeRiscVLow12}
 use Rattle.linker_elf.specs.declared.riscv64.forms.RiscVInstruction.TheVariants.{UType, IType}
-use Rattle.linker_utils.specs.RiscVRewrites.{opcode_of, funct3_of, rd_of}
+use Rattle.linker_riscv64.specs.RiscVFields.{opcode_of, funct3_of, rd_of}
 use Rattle.linker_laws.specs.Machine.{wrapped, moved, loaded, extended}
 use Rattle.linker_laws.specs.RiscVMachine.{Hart, register, auipc, sums, loads, jumps, executed, Runs, fetched, of_word, rs1_of, load_number}
 use Rattle.linker_laws.specs.RiscVRelocationLaws.{RelativeAddresses}

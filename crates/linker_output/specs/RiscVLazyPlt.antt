@@ -12,7 +12,7 @@ use Rattle.linker_output.specs.LazyPlt.{IsCode, header_places}
 use Rattle.linker_output.specs.LazyPlts.{riscv_entry, riscv_header}
 use Rattle.linker_output.specs.LazyRuns.{words, or_else, run_by}
 use Rattle.linker_output.specs.declared.lazy_plt.LazyEntry.{LazyEntry}
-use Rattle.linker_utils.specs.RiscVRewrites.{opcode_of, funct3_of, rd_of}
+use Rattle.linker_riscv64.specs.RiscVFields.{opcode_of, funct3_of, rd_of}
 use Rattle.linker_elf.specs.declared.elf.architecture.Architecture.TheVariants.{RiscV}
 
 -- ---- "SUB" and "SRLI"

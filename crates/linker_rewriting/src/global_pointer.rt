@@ -27,9 +27,9 @@ ghost use Rattle.linker_rewriting.specs.GlobalPointer.{ArePartsApart, part_end};
 ghost use Rattle.linker_rewriting.specs.GlobalPointer.{low_code, base_for, base_of, is_placed};
 ghost use Rattle.linker_rewriting.specs.GlobalPointer.{based_relocation, based_section};
 ghost use Rattle.linker_rewriting.specs.GlobalPointer.{section_based, AreBased, IsFirstUnplaced};
-ghost use Rattle.linker_utils.specs.RiscVCalls.{word_at};
-ghost use Rattle.linker_utils.specs.RiscVRewrites.{opcode_of, funct3_of, rd_of, adds_low12};
-ghost use Rattle.linker_utils.specs.RiscVRewrites.{rs1_of, with_rs1};
+ghost use Rattle.linker_riscv64.specs.RiscVCalls.{word_at};
+ghost use Rattle.linker_riscv64.specs.RiscVFields.{opcode_of, funct3_of, rd_of, rs1_of};
+ghost use Rattle.linker_utils.specs.RiscVRewrites.{adds_low12, with_rs1};
 ghost use Rattle.linker_section.specs.Relocations.{relocation_in};
 ghost use Rattle.linker_section.specs.Values.{IsAscending};
 

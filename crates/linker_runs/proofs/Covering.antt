@@ -9,7 +9,7 @@ use Rattle.linker_runs.specs.declared.relaxation.Item.{Item}
 use Rattle.linker_runs.specs.Relaxing.{item_at}
 use Rattle.linker_runs.specs.Deleting.{deletion_at, deletions_before}
 use Rattle.linker_runs.proofs.Deletions.{deletions_none, deletions_next}
-use Rattle.linker_utils.specs.Shrinking.{shrinking, chosen_deletions, IsChosen}
+use Rattle.linker_riscv64.specs.Shrinking.{shrinking, chosen_deletions, IsChosen}
 use Rattle.linker_runs.specs.Calls.{pair_at}
 
 -- whether one of the deletions takes the position

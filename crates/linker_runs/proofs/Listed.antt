@@ -3,7 +3,7 @@ use Rattle.std.proofs.Common.{◌≡◌, ◌+◌, ◌∙◌, ◌<◌, ◌≤◌,
 use Rattle.std.specs.Prelude.{◌⊎◌, ◌-◌}
 use Rattle.std.proofs.lemmas.List.{take_more_set, map_push, drop-drop}
 use Rattle.std.proofs.lemmas.List.Elements.{All-nil}
-use Rattle.linker_utils.proofs.Shrunk.{written_more}
+use Rattle.linker_riscv64.proofs.Shrunk.{written_more}
 use Rattle.linker_runs.specs.declared.relaxation.Item.{Item}
 use Rattle.linker_runs.specs.declared.relaxation.Item.TheVariants.{Site, Aligned}
 use Rattle.linker_runs.specs.Relaxing.{offset_of, end_of}

@@ -9,7 +9,7 @@ use Rattle.linker_base.specs.Form.{window_of, is_placed}
 use Rattle.linker_base.specs.declared.bit_misc.BitRange.{BitRange}
 use Rattle.linker_elf.specs.Elf.{IsWithin, bit_bounds}
 use Rattle.linker_elf.specs.Relocate.{InstructionWritten, bits_taken, places_cleared, is_jirl}
-use Rattle.linker_utils.proofs.Jumps.{word_of_front}
+use Rattle.linker_riscv64.proofs.Jumps.{word_of_front}
 use Rattle.linker_elf.specs.LoongArch.{loongarch_form, reach}
 use Rattle.linker_elf.specs.declared.elf.RelocationInstruction.TheVariants.{LoongArch64}
 use Rattle.linker_elf.specs.declared.elf.Sign.TheVariants.{Signed}

@@ -4,7 +4,7 @@ use Rattle.std.specs.Prelude.{All}
 use Rattle.std.proofs.lemmas.List.{take_more_set, map_push, length-set, drop-set-lt}
 use Rattle.std.proofs.lemmas.List.Elements.{All-nil}
 use Rattle.std.proofs.lemmas.Grind.{drop_more_same}
-use Rattle.linker_utils.proofs.Shrunk.{written_more}
+use Rattle.linker_riscv64.proofs.Shrunk.{written_more}
 use Rattle.linker_runs.specs.declared.relaxation.Item.{Item}
 use Rattle.linker_runs.specs.Relocations.{AreMade}
 use Rattle.linker_runs.specs.Relocations.AreMade.{none, left_out, made}

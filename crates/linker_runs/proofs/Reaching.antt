@@ -11,8 +11,8 @@ use Rattle.linker_runs.specs.Relaxing.{offset_of, len_of, target_of, shape_len, 
 use Rattle.linker_runs.specs.Choosing.{IsSite}
 use Rattle.linker_runs.specs.Deleting.{deletion_at}
 use Rattle.linker_runs.proofs.Deletions.{deletion_some, deletion_none}
-use Rattle.linker_utils.specs.RiscVCalls.{IsEven, IsJalDistance}
-use Rattle.linker_utils.specs.Shrinking.{shrinking}
+use Rattle.linker_riscv64.specs.RiscVCalls.{IsEven, IsJalDistance}
+use Rattle.linker_riscv64.specs.Shrinking.{shrinking}
 use Rattle.linker_runs.specs.Calls.{call_shapes, IsCallItem, IsDeletedItem}
 use Rattle.linker_runs.proofs.Covering.{takes}
 

@@ -13,8 +13,8 @@ use Rattle.linker_runs.specs.declared.relaxation.Item.TheVariants.{Site, Aligned
 use Rattle.linker_runs.specs.declared.shapes.riscv64.TheConstants.{CALL, TAIL_C}
 use Rattle.linker_runs.specs.Relaxing.{offset_of, target_of, item_at, freed_before, choice_of, place_of}
 use Rattle.linker_runs.specs.Choosing.{IsSite}
-use Rattle.linker_utils.specs.RiscVCalls.{link_register}
-use Rattle.linker_utils.specs.declared.riscv64.calls.LinkRegister.TheVariants.{OfJalr}
+use Rattle.linker_riscv64.specs.RiscVCalls.{link_register}
+use Rattle.linker_riscv64.specs.declared.calls.LinkRegister.TheVariants.{OfJalr}
 use Rattle.linker_runs.specs.Sites.{IsOutOfReach}
 use Rattle.linker_runs.specs.RiscVSites.{riscv_template, RiscVCause}
 use Rattle.linker_runs.specs.Origins.{HasRiscVShapes, HasItsInstructions}

@@ -7,9 +7,9 @@ use Rattle.std.proofs.lemmas.Int.{ints}
 use Rattle.linker_elf.specs.Value.{sum_64}
 use Rattle.linker_elf.specs.declared.riscv64.relocations.RiscVRelocation.TheVariants.{R_RISCV_JAL, R_RISCV_RVC_JUMP}
 use Rattle.linker_elf.proofs.RowsFit.{riscv_fits}
-use Rattle.linker_utils.specs.RiscVCalls.{link_register}
+use Rattle.linker_riscv64.specs.RiscVCalls.{link_register}
 use Rattle.linker_utils.specs.RiscVRewrites.{tail_to_cj}
-use Rattle.linker_utils.specs.declared.riscv64.calls.LinkRegister.TheVariants.{OfJalr}
+use Rattle.linker_riscv64.specs.declared.calls.LinkRegister.TheVariants.{OfJalr}
 use Rattle.linker_runs.specs.declared.relaxation.Shapes.{Shapes}
 use Rattle.linker_runs.specs.declared.shapes.riscv64.TheConstants.{CALL, TAIL_C}
 use Rattle.linker_runs.specs.Relaxing.{short_shape, is_reached}

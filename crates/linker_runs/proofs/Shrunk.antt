@@ -10,7 +10,7 @@ use Rattle.linker_runs.specs.Relaxing.{item_at, offset_of, target_of, kept_by, f
 use Rattle.linker_runs.specs.Choosing.{AreItems, IsRelaxation, IsInReachExactly, HaveNoAlignment, IsSite}
 use Rattle.linker_runs.specs.Deleting.{deletions_before}
 use Rattle.linker_runs.proofs.Translations.{KeepsLayout, translations_of}
-use Rattle.linker_utils.specs.Shrinking.{chosen_deletions, with_chosen, IsChosen, IsInReach, AreInReach, IsGreatest}
+use Rattle.linker_riscv64.specs.Shrinking.{chosen_deletions, with_chosen, IsChosen, IsInReach, AreInReach, IsGreatest}
 use Rattle.linker_runs.specs.Calls.{call_shapes, IsRunOf, IsDeletedItem, pair_at, CallsAreShrunkAlike}
 use Rattle.linker_runs.proofs.Covering.{takes, same_test, takes_joined, takes_left, takes_right, Loses, losing, lost, taking, taken, choosing, chosen_takes, rank_alike}
 use Rattle.linker_runs.proofs.Reaching.{call_loses, call_keeps, deleted_loses, jal_reaches, call_reaches, long_reaches, deleted_reaches, call_place, deleted_site}

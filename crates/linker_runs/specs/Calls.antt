@@ -6,7 +6,7 @@ use Rattle.linker_runs.specs.declared.relaxation.Item.{Item}
 use Rattle.linker_runs.specs.declared.relaxation.Item.TheVariants.{Site, Aligned}
 use Rattle.linker_runs.specs.Relaxing.{item_at, no_shape, shape_len, shape_reaches, choice_of}
 use Rattle.linker_runs.specs.Choosing.{AreItems, IsRelaxation}
-use Rattle.linker_utils.specs.Shrinking.{IsChosen, IsGreatest}
+use Rattle.linker_riscv64.specs.Shrinking.{IsChosen, IsGreatest}
 
 -- `jal`, and the call as it stands
 abbrev pub call_shapes : Shapes

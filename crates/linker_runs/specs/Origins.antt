@@ -1,7 +1,7 @@
 -- Sites whose shapes are those of the instructions that are there.
 use Rattle.std.specs.Prelude.{◌≡◌, ℕ, ◌+◌, ◌-◌, ◌≤◌, ◌⊎◌, List, length, ⊤}
-use Rattle.linker_utils.specs.RiscVCalls.{link_register}
-use Rattle.linker_utils.specs.declared.riscv64.calls.LinkRegister.TheVariants.{OfJalr}
+use Rattle.linker_riscv64.specs.RiscVCalls.{link_register}
+use Rattle.linker_riscv64.specs.declared.calls.LinkRegister.TheVariants.{OfJalr}
 use Rattle.linker_runs.specs.declared.relaxation.Item.{Item}
 use Rattle.linker_runs.specs.declared.relaxation.Item.TheVariants.{Site, Aligned}
 use Rattle.linker_runs.specs.declared.relaxation.Shapes.{Shapes}

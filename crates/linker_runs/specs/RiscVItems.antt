@@ -8,8 +8,8 @@ use Rattle.linker_elf.specs.ElfNames.{code_of}
 use Rattle.linker_elf.specs.RiscVRelocations.{riscv_name}
 use Rattle.linker_elf.specs.declared.riscv64.relocations.RiscVRelocation.{RiscVRelocation}
 use Rattle.linker_elf.specs.declared.riscv64.relocations.RiscVRelocation.TheVariants as r
-use Rattle.linker_utils.specs.RiscVCalls.{IsCallPair, link_register, word_at}
-use Rattle.linker_utils.specs.declared.riscv64.calls.LinkRegister.TheVariants.{OfJalr}
+use Rattle.linker_riscv64.specs.RiscVCalls.{IsCallPair, link_register, word_at}
+use Rattle.linker_riscv64.specs.declared.calls.LinkRegister.TheVariants.{OfJalr}
 use Rattle.linker_runs.specs.declared.shapes.riscv64.TheConstants.{CALL, TAIL_C}
 use Rattle.linker_runs.specs.declared.relaxation.Shapes.{Shapes}
 use Rattle.linker_runs.specs.declared.relaxation.Site.{Site as site}

@@ -4,8 +4,8 @@ ghost use Rattle.std.specs.Prelude.{◌≡◌, ◌+◌, ◌≤◌, ◌<◌, ◌^
 ghost use Rattle.std.specs.Prelude.{IfSome, IfNone, MatchOption, None, map};
 ghost use Rattle.std.specs.Int.{IsNextPowerOfTwo};
 ghost use Rattle.linker_runs.specs.declared.relaxation.Item.{Item as items};
-ghost use Rattle.linker_utils.specs.RiscVCalls.{link_register};
-ghost use Rattle.linker_utils.specs.declared.riscv64.calls.LinkRegister.TheVariants.{OfJalr};
+ghost use Rattle.linker_riscv64.specs.RiscVCalls.{link_register};
+ghost use Rattle.linker_riscv64.specs.declared.calls.LinkRegister.TheVariants.{OfJalr};
 ghost use Rattle.linker_runs.specs.Relocations.{relocation_at};
 ghost use Rattle.linker_runs.specs.RiscVItems.{HasRiscVName, IsOfCall, AreRiscVNops, IsCallAt};
 ghost use Rattle.linker_runs.specs.RiscVItems.{Aligns, IsNextAlignment};

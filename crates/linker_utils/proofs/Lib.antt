@@ -1,12 +1,9 @@
 pub mod AArch64Alike
 pub mod AArch64Choices
 pub mod AArch64Moves
-pub mod CallSites
-pub mod Jumps
 pub mod LoongArchAlike
 pub mod LoongArchChoices
 pub mod LoongArchRows
-pub mod Packed
 pub mod Ppc64Alike
 pub mod Ppc64Choices
 pub mod Ppc64Rewrites
@@ -14,7 +11,6 @@ pub mod RewriteRows
 pub mod RiscVAlike
 pub mod RiscVChoices
 pub mod RiscVRewrites
-pub mod Shrunk
 pub mod X86Bytes
 pub mod X86Choices
 pub mod X86Originals

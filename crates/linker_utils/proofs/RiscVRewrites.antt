@@ -1,21 +1,46 @@
 -- What the RISC-V rewrites put, and the high parts that are 0 or fit `c.lui`.
-use Rattle.std.proofs.Common.{◌≡◌, ℕ, ◌+◌, ◌-◌, ◌*◌, ◌/◌, ◌%◌, ◌^◌, ◌<◌, ◌≤◌, true, eqb, refl, ap, sym, subst, ◌∙◌, arith, List, [], ◌∷◌, length, take, drop, inl, inr, ℤ, pos, negsuc, ◌+ℤ◌, ◌-ℤ◌, ◌≤ℤ◌}
+use Rattle.std.proofs.Common.{◌≡◌, ℕ, Some, ◌+◌, ◌-◌, ◌*◌, ◌/◌, ◌%◌, ◌^◌, ◌<◌, ◌≤◌, true, eqb, refl, ap, sym, subst, ◌∙◌, arith, List, [], ◌∷◌, length, take, drop, inl, inr, ℤ, pos, negsuc, ◌+ℤ◌, ◌-ℤ◌, ◌≤ℤ◌}
 use Rattle.std.specs.Int.{w16, w32, w64, from_le_bytes, to_le_bytes, cast_signed, int_div_euclid}
 use Rattle.std.specs.Int.RustNames.{bit_or}
 use lib.Bits.{bit_and}
 use Rattle.std.proofs.lemmas.Bool.{agree_below_at, eqb-true, cases_lt}
 use Rattle.std.proofs.lemmas.Int.{ints, to_z_pos}
 use Rattle.std.proofs.lemmas.List.{take_rest}
-use Rattle.std.proofs.lemmas.Nat.{and_mask, or_shifted}
+use Rattle.std.proofs.lemmas.Nat.{and_mask, mod_below, or_shifted}
 use Rattle.linker_base.specs.Bits.{field, signed}
 use Rattle.linker_base.specs.Form.{place_sum}
+use Rattle.linker_base.specs.Rewrite.{Rewrite, rewritten}
 use Rattle.linker_elf.specs.RiscV.{riscv_places, IsPairRange}
-use Rattle.linker_utils.specs.RiscVRewrites.{hi20_to_clui, rs1_to_zero, FitsClui, HoldsHigh}
+use Rattle.linker_utils.specs.RiscVRewrites.{riscv_rewrite, call_to_jal, hi20_to_clui, rs1_to_zero, FitsClui, HoldsHigh}
+use Rattle.linker_utils.specs.declared.riscv64.rewrites.RelaxationKind.{RelaxationKind}
 use Rattle.linker_elf.specs.declared.riscv64.forms.RiscVInstruction.TheVariants.{UType, CluiType}
-use Rattle.linker_utils.proofs.Jumps.{word_of_front}
+use Rattle.linker_riscv64.proofs.Jumps.{jal_of, word_of_front}
 use Rattle.linker_base.proofs.Bits.{cast_negative}
 use Rattle.linker_base.proofs.Pairs.{signed_cases}
 use Rattle.linker_elf.proofs.RiscV.{clui_laid, u_laid, pair_of}
+
+-- ---- a call made a jump
+
+-- the register's bits, as the code takes them
+destination_bits : (x : ℕ) → bit_and (x / 128) 31 ≡ field x 7 12
+destination_bits x = and_mask (x / 128) 5
+
+jal_code : (x : ℕ) → bit_or 111 (bit_and (x / 128) 31 * 128 % 4294967296) ≡ 0x6f + field x 7 12 * 128
+jal_code x =
+    ap (λ r. bit_or 111 (r * 128 % 4294967296)) (destination_bits x)
+    ∙ jal_of (field x 7 12) (mod_below (x / 2 ^ 7) (2 ^ 5) (omega arith))
+
+pub call_made : (s ys : List ℕ) (o x : ℕ) → x ≡ from_le_bytes w32 (take (length s - o) (drop o s))
+    → ys ≡ to_le_bytes w32 (bit_or 111 (bit_and (x / 128) 31 * 128 % 4294967296))
+    → ys ≡ call_to_jal (take 4 (drop (o - 0) s))
+call_made s ys o x e y =
+    let word : x ≡ from_le_bytes w32 (take 4 (drop (o - 0) s)) =
+    e ∙ ap (from_le_bytes w32) (take_rest s o) ∙ sym (word_of_front (drop o s)) ∙ ap (λ k. from_le_bytes w32 (take 4 (drop k s))) (omega arith) in
+    y ∙ ap (to_le_bytes w32) (jal_code x ∙ ap (λ w. 0x6f + field w 7 12 * 128) word)
+
+-- the rewrite of a kind that is known
+pub rewritten_as : (kind known : RelaxationKind) (r : Rewrite) (s after : List ℕ) (o : ℕ) → kind ≡ known → riscv_rewrite known ≡ Some r → after ≡ rewritten (Some r) s o → after ≡ rewritten (riscv_rewrite kind) s o
+rewritten_as kind known r s after o e k h = h ∙ ap (λ t. rewritten t s o) (sym k ∙ ap riscv_rewrite (sym e))
 
 -- ---- the bytes
 

@@ -1,12 +1,9 @@
 pub mod AArch64Rewrites
 pub mod Inner
 pub mod LoongArchRewrites
-pub mod Packing
 pub mod Ppc64Rewrites
 pub mod Relaxations
-pub mod RiscVCalls
 pub mod RiscVRewrites
-pub mod Shrinking
 pub mod X86RelocationsAfter
 pub mod X86Rewrites
 -- the definitions that public contracts of the crates below cite
@@ -55,6 +52,10 @@ pub use Rattle.linker_elf.specs.Uleb128
 pub use Rattle.linker_elf.specs.Value
 pub use Rattle.linker_elf.specs.WriteErrors
 pub use Rattle.linker_elf.specs.X86Relocations
+pub use Rattle.linker_riscv64.specs.Packing
+pub use Rattle.linker_riscv64.specs.RiscVCalls
+pub use Rattle.linker_riscv64.specs.RiscVFields
+pub use Rattle.linker_riscv64.specs.Shrinking
 -- the types whose values these definitions and contracts name
 pub use Rattle.linker_base.specs.declared.bit_misc.BitRange
 pub use Rattle.linker_base.specs.declared.relaxation.OutOfMemory
@@ -80,3 +81,8 @@ pub use Rattle.linker_elf.specs.declared.loongarch64.relocations.LoongArch64Relo
 pub use Rattle.linker_elf.specs.declared.ppc64.relocations.Ppc64Relocation
 pub use Rattle.linker_elf.specs.declared.riscv64.relocations.RiscVRelocation
 pub use Rattle.linker_elf.specs.declared.x86_64.relocations.X86_64Relocation
+pub use Rattle.linker_riscv64.specs.declared.calls.Call
+pub use Rattle.linker_riscv64.specs.declared.calls.CallError
+pub use Rattle.linker_riscv64.specs.declared.calls.JumpError
+pub use Rattle.linker_riscv64.specs.declared.calls.LinkRegister
+pub use Rattle.linker_riscv64.specs.declared.packing.PackError

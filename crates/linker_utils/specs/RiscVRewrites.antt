@@ -15,7 +15,8 @@ use Rattle.linker_elf.specs.declared.riscv64.forms.RiscVInstruction.{RiscVInstru
 use Rattle.linker_base.specs.declared.rewrite.DeletedBytes.{DeletedBytes}
 use Rattle.linker_utils.specs.declared.riscv64.rewrites.RelaxationKind.{RelaxationKind}
 use Rattle.linker_elf.specs.Originals.{HasWord}
-use Rattle.linker_utils.specs.RiscVCalls.{IsCallPair, IsPlainCall, word_at}
+use Rattle.linker_riscv64.specs.RiscVCalls.{IsCallPair, IsPlainCall, word_at}
+use Rattle.linker_riscv64.specs.RiscVFields.{opcode_of, funct3_of, rd_of, stores_base}
 use Rattle.linker_elf.specs.Choices.{Condition, fixed_address, fixed_distance, compressible, marked}
 use Rattle.linker_elf.specs.Choices.{without_plt, low_12, in_reach, low_12_bounds, executable}
 use Rattle.linker_elf.specs.Choices.{bound, addend, within, in_reach_if_known, got_high_part}
@@ -179,26 +180,6 @@ HoldsHigh form v =
 -- Instruction Set Listings" and "Integer Constant-Generation Instructions"; RISC-V ELF psABI,
 -- "Linker Relaxation").
 
--- the opcode, bits 0 to 6
-abbrev pub opcode_of : ℕ → ℕ
-opcode_of word = field word 0 7
-
--- the function, bits 12 to 14
-abbrev pub funct3_of : ℕ → ℕ
-funct3_of word = field word 12 15
-
--- the destination register, bits 7 to 11
-abbrev pub rd_of : ℕ → ℕ
-rd_of word = field word 7 12
-
--- the first source register, bits 15 to 19
-abbrev pub rs1_of : ℕ → ℕ
-rs1_of word = field word 15 20
-
--- the second source register, bits 20 to 24
-abbrev pub rs2_of : ℕ → ℕ
-rs2_of word = field word 20 25
-
 -- The instruction adds a signed immediate of 12 bits to its first source register, by its opcode
 -- and function: `addi`, `addiw` and `jalr`; `lb`, `lh`, `lw`, `ld`, `lbu`, `lhu` and `lwu`; `sb`,
 -- `sh`, `sw` and `sd`; `flh`, `flw`, `fld` and `flq`, and `fsh`, `fsw`, `fsd` and `fsq`.
@@ -208,10 +189,6 @@ adds_low12 opcode funct3 =
     || opcode == 0x03 && nat_lt funct3 7
     || opcode == 0x23 && nat_lt funct3 4
     || (opcode == 0x07 || opcode == 0x27) && nat_lt 0 funct3 && nat_lt funct3 5
-
--- a store of what its own base holds
-abbrev pub stores_base : ℕ → Bool
-stores_base word = (opcode_of word == 0x23) && (rs2_of word == rs1_of word)
 
 -- The instruction adds such an immediate, and another register than its base can be the base: it
 -- doesn't store that.

@@ -1,12 +1,12 @@
 -- Packing by the numbers that C sees.
 use Rattle.std.specs.Prelude.{◌≡◌, ◌⊎◌, ℕ, zero, suc, List, [], ◌∷◌, Option, None, Some, map, All}
-use Rattle.linker_utils.specs.Packing.{call_of, CanJump, IsFirstRejected, IsPacked}
-use Rattle.linker_utils.specs.declared.riscv64.calls.Call.{Call}
-use Rattle.linker_utils.specs.declared.riscv64.calls.LinkRegister.{LinkRegister}
-use Rattle.linker_utils.specs.declared.riscv64.calls.LinkRegister.TheVariants.{OfAuipc, OfJalr}
-use Rattle.linker_utils.specs.declared.riscv64.calls.CallError.TheVariants as call_errors
-use Rattle.linker_utils.specs.declared.riscv64.calls.JumpError.{JumpError}
-use Rattle.linker_utils.specs.declared.riscv64.calls.JumpError.TheVariants as jump_errors
+use Rattle.linker_riscv64.specs.Packing.{call_of, CanJump, IsFirstRejected, IsPacked}
+use Rattle.linker_riscv64.specs.declared.calls.Call.{Call}
+use Rattle.linker_riscv64.specs.declared.calls.LinkRegister.{LinkRegister}
+use Rattle.linker_riscv64.specs.declared.calls.LinkRegister.TheVariants.{OfAuipc, OfJalr}
+use Rattle.linker_riscv64.specs.declared.calls.CallError.TheVariants as call_errors
+use Rattle.linker_riscv64.specs.declared.calls.JumpError.{JumpError}
+use Rattle.linker_riscv64.specs.declared.calls.JumpError.TheVariants as jump_errors
 use Rattle.linker_utils_c.specs.declared.status.Status.{Status}
 use Rattle.linker_utils_c.specs.declared.status.Status.TheVariants.{Success, OutOfSection}
 use Rattle.linker_utils_c.specs.declared.status.Status.TheVariants.{SiteDeleted, OddDistance}

@@ -4,7 +4,7 @@ ghost use Rattle.std.specs.Prelude.{◌≡◌, ◌≢◌, ◌↔◌, ◌∷◌, 
 ghost use Rattle.linker_base.specs.Deletions.{rank};
 ghost use Rattle.linker_base.specs.Deltas.{deletions_of};
 ghost use Rattle.linker_base.specs.Listed.{AreValidDeltas};
-ghost use Rattle.linker_utils.specs.Packing.{AreApart, IsFirstNotApart};
+ghost use Rattle.linker_riscv64.specs.Packing.{AreApart, IsFirstNotApart};
 ghost use Rattle.linker_utils_c.specs.Status.{code, IsOneOf};
 ghost use Rattle.linker_utils_c.specs.Packing.{calls_in, named_link, call_statuses};
 ghost use Rattle.linker_utils_c.specs.Packing.{IsPackedOrRejected};

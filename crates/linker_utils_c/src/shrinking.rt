@@ -3,7 +3,7 @@
 ghost use Rattle.std.specs.Prelude.{◌≡◌, ◌≢◌, ◌≤◌, ◌↔◌, ◌⊎◌, All, length};
 ghost use Rattle.linker_base.specs.Deltas.{deletions_of};
 ghost use Rattle.linker_base.specs.Listed.{AreValidDeltas};
-ghost use Rattle.linker_utils.specs.Shrinking.{AreShrinkable, IsFirstNotShrinkable, IsGreatest};
+ghost use Rattle.linker_riscv64.specs.Shrinking.{AreShrinkable, IsFirstNotShrinkable, IsGreatest};
 ghost use Rattle.linker_utils_c.specs.Status.{code};
 ghost use Rattle.linker_utils_c.specs.Packing.{calls_in};
 ghost use Rattle.linker_utils_c.specs.Shrinking.{choice_in};

@@ -14,8 +14,8 @@ use Rattle.std.proofs.lemmas.List.Kept.{AllPairs-cons}
 use Rattle.std.proofs.lemmas.List.Sorted.{All-permutation, IsPermutation-refl, IsPermutation-cons, IsPermutation-middle, IsPermutation-to_front, IsPermutation-trans}
 use Rattle.linker_base.proofs.Rank.{all_pairs_head, all_pairs_tail}
 use Rattle.linker_utils.specs.Packing.{AreApart, IsApart}
-use Rattle.linker_utils.specs.declared.riscv64.calls.CallError.TheVariants.{OutOfSection, SiteDeleted, OddDistance, TooFar}
-use Rattle.linker_utils.specs.declared.riscv64.calls.CallError.{CallError}
+use Rattle.linker_utils.specs.CallError.TheVariants.{OutOfSection, SiteDeleted, OddDistance, TooFar}
+use Rattle.linker_utils.specs.CallError.{CallError}
 use Rattle.linkfix.specs.AcceptedCalls.{AreBySite, IsFarFrom, placed}
 use Rattle.linkfix.specs.Execution.{CallFailsWith}
 

@@ -9,10 +9,10 @@ use Rattle.linker_utils.specs.Deletions.{AreDisjoint, HasInput, IsSortedUnion}
 use Rattle.linker_base.proofs.Rank.{all_pairs_head, all_pairs_tail}
 use Rattle.linker_base.proofs.Unions.{union_once}
 use Rattle.linker_utils.specs.Packing.{AreApart, CanJump, IsApart, IsFirstRejected, IsRejected}
-use Rattle.linker_utils.specs.declared.riscv64.calls.CallError.{CallError}
-use Rattle.linker_utils.specs.declared.riscv64.calls.CallError.TheVariants.{OutOfSection, SiteDeleted, OddDistance, TooFar}
-use Rattle.linker_utils.specs.declared.riscv64.calls.JumpError.TheVariants.{Call as JumpFailed}
-use Rattle.linker_utils.specs.declared.riscv64.calls.LinkRegister.TheVariants.{OfAuipc}
+use Rattle.linker_utils.specs.CallError.{CallError}
+use Rattle.linker_utils.specs.CallError.TheVariants.{OutOfSection, SiteDeleted, OddDistance, TooFar}
+use Rattle.linker_utils.specs.JumpError.TheVariants.{Call as JumpFailed}
+use Rattle.linker_utils.specs.LinkRegister.TheVariants.{OfAuipc}
 use Rattle.linkfix.specs.AcceptedCalls.{AreBySite, IsFarFrom}
 use Rattle.linkfix.specs.CommandSyntax.{IsWrittenAs}
 use Rattle.linkfix.specs.DecodedHex.{decoded_hex}

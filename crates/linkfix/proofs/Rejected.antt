@@ -4,10 +4,10 @@ use Rattle.std.specs.Prelude.{All}
 use Rattle.std.proofs.lemmas.Bool.{cases_order}
 use Rattle.std.proofs.lemmas.List.{get_or-take, length-take}
 use Rattle.linker_utils.specs.Packing.{CanJump, IsFirstRejected, IsRejected}
-use Rattle.linker_utils.specs.declared.riscv64.calls.CallError.{CallError}
-use Rattle.linker_utils.specs.declared.riscv64.calls.CallError.TheVariants.{OutOfSection, SiteDeleted, OddDistance, TooFar}
-use Rattle.linker_utils.specs.declared.riscv64.calls.JumpError.TheVariants.{Call}
-use Rattle.linker_utils.specs.declared.riscv64.calls.LinkRegister.{LinkRegister}
+use Rattle.linker_utils.specs.CallError.{CallError}
+use Rattle.linker_utils.specs.CallError.TheVariants.{OutOfSection, SiteDeleted, OddDistance, TooFar}
+use Rattle.linker_utils.specs.JumpError.TheVariants.{Call}
+use Rattle.linker_utils.specs.LinkRegister.{LinkRegister}
 
 module _ (link : LinkRegister) (deletions : List (ℕ × ℕ)) (section : List ℕ) where
   jumps_not_rejected : (call : ℕ × ℕ) (cause : CallError) → CanJump link deletions section call → ¬ IsRejected link deletions section call (Call cause)

@@ -1,8 +1,6 @@
 -- The last line of the output of a run that ends with an error.
 use Rattle.std.specs.Prelude.{ℕ, List, codes}
-use Rattle.linker_utils.specs.declared.riscv64.calls.CallError.TheVariants.{OutOfSection}
-use Rattle.linker_utils.specs.declared.riscv64.calls.CallError.TheVariants.{SiteDeleted}
-use Rattle.linker_utils.specs.declared.riscv64.calls.CallError.TheVariants.{OddDistance, TooFar}
+use Rattle.linker_utils.specs.CallError.TheVariants.{OutOfSection, SiteDeleted, OddDistance, TooFar}
 use Rattle.linkfix.specs.declared.program.ReportedError.{ReportedError}
 use Rattle.linkfix.specs.declared.program.ReportedError.TheVariants.{BadSection, BadLine}
 use Rattle.linkfix.specs.declared.program.ReportedError.TheVariants.{BadDeletion, TooLarge, BadCall}

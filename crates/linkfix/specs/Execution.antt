@@ -8,12 +8,10 @@ use Rattle.linker_utils.specs.Deletions.{AreDisjoint, HasInput, IsSelected, IsSo
 use Rattle.linker_utils.specs.Packing.{IsFirstRejected, IsPacked}
 use Rattle.linker_utils.specs.RiscVCalls.{IsEven, IsInSection, IsJalDistance, IsSiteKept, JumpsAt}
 use Rattle.linker_utils.specs.RiscVCalls.{output_distance}
-use Rattle.linker_utils.specs.declared.riscv64.calls.CallError.{CallError}
-use Rattle.linker_utils.specs.declared.riscv64.calls.CallError.TheVariants.{OutOfSection}
-use Rattle.linker_utils.specs.declared.riscv64.calls.CallError.TheVariants.{SiteDeleted}
-use Rattle.linker_utils.specs.declared.riscv64.calls.CallError.TheVariants.{OddDistance, TooFar}
-use Rattle.linker_utils.specs.declared.riscv64.calls.JumpError.TheVariants.{Call as JumpFailed}
-use Rattle.linker_utils.specs.declared.riscv64.calls.LinkRegister.TheVariants.{OfAuipc}
+use Rattle.linker_utils.specs.CallError.{CallError}
+use Rattle.linker_utils.specs.CallError.TheVariants.{OutOfSection, SiteDeleted, OddDistance, TooFar}
+use Rattle.linker_utils.specs.JumpError.TheVariants.{Call as JumpFailed}
+use Rattle.linker_utils.specs.LinkRegister.TheVariants.{OfAuipc}
 use Rattle.linkfix.specs.AcceptedCalls.{AreBySite, IsFarFrom}
 use Rattle.linkfix.specs.DecodedHex.{decoded_hex}
 use Rattle.linkfix.specs.CommandSyntax.{IsWrittenAs}

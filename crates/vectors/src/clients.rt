@@ -14,7 +14,7 @@ ghost use Rattle.linker_utils.specs.RiscV.{riscv_form};
 ghost use Rattle.linker_utils.specs.RiscVCalls.{word_at};
 ghost use Rattle.linker_utils.specs.Shrinking.{AreShrinkable};
 ghost use Rattle.linker_utils.specs.RiscVInstruction.TheVariants.{JType};
-ghost use Rattle.linker_utils.specs.declared.riscv64.calls.LinkRegister.TheVariants.{OfAuipc};
+ghost use Rattle.linker_utils.specs.LinkRegister.TheVariants.{OfAuipc};
 
 use linker_utils::bit_misc::BitExtraction;
 use linker_utils::elf::InstructionForm;

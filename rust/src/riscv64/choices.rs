@@ -2,7 +2,6 @@
 // Made by tools/generate of crates/linker_utils/src/riscv64/choices.rt.
 //! RISC-V: which rewrite a linker chooses for a relocation.
 
-use super::fields::word_at;
 use super::rewrites::{is_add_tp, is_addi_to_a0, is_auipc, is_ld, is_low_over_other, is_lui};
 use super::{RelaxationKind, RiscVRelocation, RiscVRelocation as Names};
 use crate::linker_base::rewrite::has_window;
@@ -10,6 +9,7 @@ use crate::linker_elf::elf::choice_table::{
     ChoiceTable, Chosen, RewriteSet, SIGNED_12, Table, by_table, choice_by, conditions,
 };
 use crate::linker_elf::elf::{Choice, LinkFacts, Operands};
+use crate::linker_riscv64::fields::word_at;
 
 /// The instructions that an entry is for: what its rewrite is meant for, or another one.
 #[derive(Debug)]

@@ -2,14 +2,14 @@
 // Made by tools/generate of crates/linker_utils/src/riscv64/rewrites.rt.
 //! RISC-V: relaxation rewrites.
 
-use super::calls::{is_call_pair, is_plain_call};
-use super::fields::{base, destination, function, opcode, stores_base, word_at};
 use crate::linker_base::bit_misc::BitExtraction;
 use crate::linker_base::relaxation::RelocationModifier;
 use crate::linker_base::rewrite::{DeletedBytes, RewriteWindow, has_window, overwrite, window_is_in};
 use crate::linker_base::utils::u32_from_slice;
 use crate::linker_elf::elf::{InstructionRewrite, RelocationKindInfo, RiscVInstruction};
 use crate::linker_elf::riscv64::{self as relocations, RiscVRelocation};
+use crate::linker_riscv64::fields::{base, destination, function, opcode, stores_base, word_at};
+use crate::linker_riscv64::{is_call_pair, is_plain_call};
 
 /// A rewrite of one instruction, or of a pair whose second instruction is then deleted.
 #[derive(Debug, Default, Clone, Copy, PartialEq, Eq, Hash, PartialOrd, Ord)]

@@ -5,8 +5,8 @@ ghost use Rattle.std.specs.Prelude.{None, IfOk, IfErr, OnOk, length, IsTrue, ◌
 ghost use Rattle.std.specs.Prelude.{IsSomeAnd, IfSome, IfNone, ⊤};
 ghost use Rattle.std.specs.Int.{w32, to_le_bytes};
 ghost use Rattle.linker_elf.specs.RiscVRelocations.{riscv_relocation};
-ghost use Rattle.linker_utils.specs.RiscVCalls.{link_register};
-ghost use Rattle.linker_utils.specs.declared.riscv64.calls.LinkRegister.TheVariants.{OfJalr};
+ghost use Rattle.linker_riscv64.specs.RiscVCalls.{link_register};
+ghost use Rattle.linker_riscv64.specs.declared.calls.LinkRegister.TheVariants.{OfJalr};
 ghost use Rattle.linker_runs.specs.RiscVSites.{riscv_template, RiscVBecomes, RiscVAccepts};
 ghost use Rattle.linker_runs.specs.RiscVSites.{RiscVCause};
 ghost use Rattle.linker_runs.specs.Origins.{HasRiscVShapes};

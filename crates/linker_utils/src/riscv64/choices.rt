@@ -11,7 +11,6 @@ ghost use Rattle.linker_utils.specs.Inner.RiscVChoices.{IsThere, riscv_tables};
 ghost use Rattle.linker_utils.specs.RiscVRewrites as rewrites;
 ghost use Rattle.linker_utils.specs.declared.riscv64.rewrites.RelaxationKind.TheVariants as kinds;
 
-use super::fields::word_at;
 use super::rewrites::{is_add_tp, is_addi_to_a0, is_auipc, is_ld, is_low_over_other, is_lui};
 use super::{RelaxationKind, RiscVRelocation, RiscVRelocation as Names};
 use linker_base::rewrite::has_window;
@@ -19,6 +18,7 @@ use linker_elf::elf::choice_table::{
     ChoiceTable, Chosen, RewriteSet, SIGNED_12, Table, by_table, choice_by, conditions,
 };
 use linker_elf::elf::{Choice, LinkFacts, Operands};
+use linker_riscv64::fields::word_at;
 
 /// The instructions that an entry is for: what its rewrite is meant for, or another one.
 pub enum Pattern {

@@ -14,19 +14,20 @@ ghost use Rattle.linker_utils.specs.RiscVRewrites.{riscv_rewrite, riscv_rewrites
 ghost use Rattle.linker_utils.specs.RiscVRewrites.{riscv_matches, riscv_deleted, riscv_skipped};
 ghost use Rattle.linker_utils.specs.RiscVRewrites.{riscv_may_be_skipped, hi20, lo12, IsSigned32};
 ghost use Rattle.linker_utils.specs.RiscVRewrites.{FitsClui, HoldsHigh, with_rs1, tp, adds_low12};
-ghost use Rattle.linker_utils.specs.RiscVRewrites.{opcode_of, funct3_of, IsTailCall, IsClui, IsLd};
+ghost use Rattle.linker_riscv64.specs.RiscVFields.{opcode_of, funct3_of};
+ghost use Rattle.linker_utils.specs.RiscVRewrites.{IsTailCall, IsClui, IsLd};
 ghost use Rattle.linker_utils.specs.RiscVRewrites.{IsLui, IsAuipc, IsAddTp, IsAddiToA0};
 ghost use Rattle.linker_utils.specs.RiscVRewrites.{IsCallOfDescriptor, IsLowOverOther};
 ghost use Rattle.linker_utils.specs.declared.riscv64.rewrites.RelaxationKind.TheVariants.{NoOp};
 
-use super::calls::{is_call_pair, is_plain_call};
-use super::fields::{base, destination, function, opcode, stores_base, word_at};
 use linker_base::bit_misc::BitExtraction;
 use linker_base::relaxation::RelocationModifier;
 use linker_base::rewrite::{DeletedBytes, RewriteWindow, has_window, overwrite, window_is_in};
 use linker_base::utils::u32_from_slice;
 use linker_elf::elf::{InstructionRewrite, RelocationKindInfo, RiscVInstruction};
 use linker_elf::riscv64::{self as relocations, RiscVRelocation};
+use linker_riscv64::fields::{base, destination, function, opcode, stores_base, word_at};
+use linker_riscv64::{is_call_pair, is_plain_call};
 
 /// A rewrite of one instruction, or of a pair whose second instruction is then deleted.
 #[derive(Debug, Default, Clone, Copy, PartialEq, Eq)]

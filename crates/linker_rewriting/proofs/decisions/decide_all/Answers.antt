@@ -1,7 +1,7 @@
 use Rattle.std.proofs.Common.{◌≡◌, ◌<◌, ◌≤◌, ◌+◌, ◌/◌, ◌∙◌, length, map, take, slice_set, ap, sym, subst, arith, true, Some, None, inl}
 use Rattle.std.specs.Prelude.{IfSome, All}
 use Rattle.std.proofs.lemmas.List.{length-map, map-set, drop-set-lt, get_or-map}
-use Rattle.linker_utils.proofs.Shrunk.{written_more}
+use Rattle.linker_riscv64.proofs.Shrunk.{written_more}
 use Rattle.linker_rewriting.proofs.Deciding.{AreDecidedTo, ends_within, more_decided, more_kept, not_surveyed, decided_after, overlapping, IsGrown}
 use Rattle.linker_section.specs.Relocations.{relocation_in}
 use Rattle.linker_rewriting.specs.Inner.Calls.{IsLeft}

@@ -1,7 +1,7 @@
 use Rattle.std.proofs.Common.{◌≡◌, ℕ, ◌<◌, ◌≤◌, ◌+◌, ◌/◌, ◌∙◌, length, map, take, slice_set, ap, sym, subst, arith, Some, None, inl}
 use Rattle.std.specs.Prelude.{IfSome, All}
 use Rattle.std.proofs.lemmas.List.{length-map, map-set, drop-set-lt}
-use Rattle.linker_utils.proofs.Shrunk.{written_more}
+use Rattle.linker_riscv64.proofs.Shrunk.{written_more}
 use Rattle.linker_rewriting.proofs.Deciding.{IsGrown}
 use Rattle.linker_rewriting.proofs.GlobalPointer.{ArePartsApartTo, more_apart, more_by, part_start, parts_overlap}
 use Rattle.linker_rewriting.specs.Decisions.{CanBeMade, AllCanBeMade, IsEndAfter}

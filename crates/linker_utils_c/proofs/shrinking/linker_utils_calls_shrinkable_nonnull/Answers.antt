@@ -1,6 +1,6 @@
 use Rattle.std.proofs.Common.{◌+◌, arith}
 use Rattle.linker_base.specs.Deltas.{deletions_of}
-use Rattle.linker_utils.proofs.Shrunk.{shrinkable_taken}
+use Rattle.linker_riscv64.proofs.Shrunk.{shrinkable_taken}
 use Rattle.linker_utils_c.specs.Packing.{calls_in}
 use Rattle.linker_utils_c.proofs.shrinking.linker_utils_calls_shrinkable_nonnull.Goals as goal
 

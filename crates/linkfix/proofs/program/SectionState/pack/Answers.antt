@@ -1,5 +1,5 @@
 use Rattle.std.proofs.Common.{inl}
-use Rattle.linker_utils.specs.declared.riscv64.calls.LinkRegister.TheVariants.{OfAuipc}
+use Rattle.linker_utils.specs.LinkRegister.TheVariants.{OfAuipc}
 use Rattle.linkfix.proofs.Rejected.{first_rejected_once, none_rejected}
 use Rattle.linkfix.proofs.program.SectionState.pack.Goals as goal
 

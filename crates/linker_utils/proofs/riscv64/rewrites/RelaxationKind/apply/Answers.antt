@@ -5,8 +5,7 @@ use Rattle.linker_base.specs.Rewrite.{replaces}
 use Rattle.linker_base.proofs.Rewrites.{overwritten}
 use Rattle.linker_utils.specs.RiscVRewrites.{two_nops, call_to_jal, hi20_to_clui, rs1_to_zero}
 use Rattle.linker_utils.specs.declared.riscv64.rewrites.RelaxationKind.TheVariants.{ReplaceWithNop, CallToJal, Hi20ToCLui, Lo12Rs1ToZero}
-use Rattle.linker_utils.proofs.Jumps.{call_made, rewritten_as}
-use Rattle.linker_utils.proofs.RiscVRewrites.{clui_made, rs1_made}
+use Rattle.linker_utils.proofs.RiscVRewrites.{call_made, rewritten_as, clui_made, rs1_made}
 use Rattle.linker_utils.proofs.riscv64.rewrites.RelaxationKind.apply.Goals as goal
 
 pub returns-in-ReplaceWithNop-clause-bytes : goal.returns-in-ReplaceWithNop-clause-bytes

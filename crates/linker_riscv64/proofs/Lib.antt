@@ -1,0 +1,4 @@
+pub mod CallSites
+pub mod Jumps
+pub mod Packed
+pub mod Shrunk

@@ -1,0 +1,6 @@
+use Rattle.std.proofs.Common.{map}
+use Rattle.linker_riscv64.specs.Inner.Packing.{AreApartTo}
+use Rattle.linker_riscv64.proofs.packing.first_not_apart.Given as goal
+
+abbrev pub invariant-loop-index : goal.invariant-loop-index
+invariant-loop-index g l = AreApartTo (map g.C.AsCall.call l.calls) l.index

@@ -1,0 +1,6 @@
+use Rattle.std.proofs.Common.{◌≡◌, ◌+◌, ◌*◌, map, take}
+use Rattle.linker_riscv64.specs.Inner.Shrinking.{chosen_count}
+use Rattle.linker_riscv64.proofs.shrinking.Runs.count_between.Given as goal
+
+abbrev pub invariant-loop-run : goal.invariant-loop-run
+invariant-loop-run g l = l.count + chosen_count (take l.from (map g.A.AsChoice.choice l.answer)) ≡ chosen_count (take (l.run * l.self.len) (map g.A.AsChoice.choice l.answer))

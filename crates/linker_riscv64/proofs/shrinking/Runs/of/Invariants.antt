@@ -1,0 +1,11 @@
+use Rattle.std.proofs.Common.{◌≡◌, ℕ, ◌+◌, ◌*◌, ◌<◌, length, map, get_or}
+use Rattle.std.specs.Prelude.{min}
+use Rattle.linker_riscv64.specs.Inner.Shrinking.{chosen_between}
+use Rattle.linker_riscv64.proofs.shrinking.Runs.of.Given as goal
+
+abbrev pub invariant-loop-run : goal.invariant-loop-run
+invariant-loop-run g l = record {
+  many : length l.counts ≡ 1024;
+  start : l.start ≡ min (l.run * l.len) (length l.answer);
+  counted : (r : ℕ) (d : ℕ) → r < l.run → get_or l.counts r d ≡ chosen_between (map g.A.AsChoice.choice l.answer) (r * l.len) (r * l.len + l.len);
+}

@@ -1,0 +1,8 @@
+use Rattle.std.proofs.Common.{map, take}
+use Rattle.linker_base.specs.Deltas.{deletions_of}
+use Rattle.linker_base.specs.Listed.{AreValidDeltas}
+use Rattle.linker_riscv64.specs.Inner.Shrinking.{HaveShrinkableSites}
+use Rattle.linker_riscv64.proofs.shrinking.shrinkable_sites_len.Given as goal
+
+abbrev pub invariant-loop-index : goal.invariant-loop-index
+invariant-loop-index g l = AreValidDeltas l.deltas → HaveShrinkableSites (deletions_of l.deltas) (take l.index (map g.C.AsCall.call l.calls))

@@ -1,6 +1,0 @@
-use Rattle.std.proofs.Common.{map}
-use Rattle.linker_utils.specs.Inner.Packing.{AreApartTo}
-use Rattle.linker_utils.proofs.riscv64.packing.first_not_apart.Given as goal
-
-abbrev pub invariant-loop-index : goal.invariant-loop-index
-invariant-loop-index g l = AreApartTo (map g.C.AsCall.call l.calls) l.index

@@ -1,6 +1,0 @@
-use Rattle.std.proofs.Common.{◌≡◌, map, take}
-use Rattle.linker_utils.specs.Inner.Shrinking.{chosen_count}
-use Rattle.linker_utils.proofs.riscv64.shrinking.count_between.Given as goal
-
-abbrev pub invariant-loop-choice : goal.invariant-loop-choice
-invariant-loop-choice g l = l.count ≡ chosen_count (take l.choice-index (map g.A.AsChoice.choice l.choice-items))
