@@ -1,6 +1,6 @@
 # SPDX-License-Identifier: MIT OR Apache-2.0
 """The tables of docs/PROOFS.md that say how many places the laws of rewrites cover, of the counts in
-docs/places.json. Each relocation for which the library chooses rewrites has to have a row, and each law
+docs/places.json, and which rewrites are in groups of the simulation. Each relocation for which the library chooses rewrites has to have a row, and each law
 has to be a definition of crates/linker_laws/specs, and a field of `Laws` there, which a contract ensures."""
 import json
 import re
@@ -15,6 +15,7 @@ import places
 
 PAGE = "docs/PROOFS.md"
 MARKS = "<!-- made by tools/generate -->", "<!-- end of what tools/generate makes -->"
+GROUPS_MARKS = "<!-- groups, made by tools/generate -->", "<!-- end of the groups -->"
 # by machine: its name in texts, its specs, and the contract
 ARCHITECTURES = {
     183: ("AArch64", ["AArch64RewriteLaws"], "aarch64"), 21: ("PowerPC64", ["Ppc64RewriteLaws"], "ppc64"),
@@ -192,8 +193,29 @@ def check_rows():
                 sys.exit(f"tools/generate: {name} has no law {law}")
 
 
+def groups():
+    """The table of the rewrites that the laws of groups name."""
+    lines = ["| | Rewrites | In groups | Not in groups |", "|---|--:|--:|---|"]
+    for name, (file, *_), function in ARCHITECTURES.values():
+        enum = (ROOT / f"crates/linker_utils/src/{function}/rewrites.rt").read_text()
+        enum = enum.partition("pub enum RelaxationKind {")[2].partition("\n}")[0]
+        kinds = re.findall(r"^    (\w+)[,( ]", enum, re.M)
+        kinds.remove("NoOp")
+        path = ROOT / f"crates/linker_laws/specs/{file.removesuffix('RewriteLaws')}Groups.antt"
+        text = path.read_text() if path.exists() else ""
+        used = set(re.findall(r"\bkinds\.(\w+)", text))
+        if unknown := used.difference(kinds):
+            sys.exit(f"tools/generate: {path.name} names no rewrites: {sorted(unknown)}")
+        left = [kind for kind in kinds if kind not in used]
+        lines.append(f"| {name} | {len(kinds)} | {len(used)} | "
+                     f"{'all' if left == kinds else ', '.join(f'`{kind}`' for kind in left) or 'none'} |")
+    return "\n".join(lines) + "\n\n"
+
+
 def make():
     check_rows()
     page = (ROOT / PAGE).read_text()
-    start, end = page.index(MARKS[0]) + len(MARKS[0]), page.index(MARKS[1])
-    return {PAGE: page[:start] + "\n\n" + tables() + page[end:]}
+    for marks, text in ((MARKS, tables()), (GROUPS_MARKS, groups())):
+        start, end = page.index(marks[0]) + len(marks[0]), page.index(marks[1])
+        page = page[:start] + "\n\n" + text + page[end:]
+    return {PAGE: page}

@@ -163,7 +163,7 @@ to_local_exec entries moves call changes o s adrp ldr add blr d movz movk nop no
     m.value_is (word_is 0xd503201f nop (omega arith) made_nop)
     (word_is 0xd503201f nop2 (omega arith) made_nop2)
 
-small_entry : (entry : ℕ) (o : Operands) → entry < 2 ^ 64 → AreAddresses o
+pub small_entry : (entry : ℕ) (o : Operands) → entry < 2 ^ 64 → AreAddresses o
     → AreAddresses (with_entry entry o)
 small_entry entry o below small =
     record {

@@ -5,7 +5,7 @@ use Rattle.std.specs.Prelude.{drop, take, None, ⊤, ◌-◌, Option, Some, IsSo
 use Rattle.std.specs.Prelude.{◌/◌}
 use Rattle.std.specs.Int.{w32, from_le_bytes}
 use Rattle.linker_base.specs.Rewrite.{Rewrite, IsRewritable, rewritten}
-use Rattle.linker_utils.specs.AArch64Rewrites.{aarch64_rewrite, rd_of, rn_of}
+use Rattle.linker_utils.specs.AArch64Rewrites.{aarch64_rewrite, rd_of}
 use Rattle.linker_utils.specs.AArch64Rewrites.{AreOfDescriptor}
 use Rattle.linker_utils.specs.AArch64Rewrites.{IsAdrp, IsAdd64, IsLdr64, AreOfOneRegister}
 use Rattle.linker_utils.specs.AArch64Rewrites.{IsIntoOwnSource}
@@ -23,9 +23,6 @@ use Rattle.linker_utils.specs.declared.aarch64.rewrites.RelaxationKind.TheVarian
 use Rattle.linker_utils.specs.declared.aarch64.rewrites.RelaxationKind.TheVariants.{LdrX0}
 use Rattle.linker_utils.specs.declared.aarch64.rewrites.RelaxationKind.TheVariants.{ReplaceWithNop}
 use Rattle.linker_utils.specs.declared.aarch64.rewrites.RelaxationKind.TheVariants.{AdrpAddToNopAdr}
-use Rattle.linker_utils.specs.declared.aarch64.rewrites.RelaxationKind.TheVariants.{AdrpToAdr}
-use Rattle.linker_utils.specs.declared.aarch64.rewrites.RelaxationKind.TheVariants.{AddToAdr}
-use Rattle.linker_utils.specs.declared.aarch64.rewrites.RelaxationKind.TheVariants.{LdrToAdr}
 use Rattle.linker_elf.specs.declared.elf.value.Operands.{Operands}
 use Rattle.linker_elf.specs.Applied.{IsApplied}
 use Rattle.linker_laws.specs.Schemes.{AreAddresses, symbol_address, plt_address}
@@ -182,61 +179,6 @@ abbrev pub AddressToAdr : Type 0
 AddressToAdr =
     PairToAdr names.R_AARCH64_ADR_PREL_PG_HI21 × PairToAdr names.R_AARCH64_ADR_PREL_PG_HI21_NC
 
--- ---- `adr` in place of one instruction
-
--- The `adrp` of such a pair becomes the `adr`, and the `add` becomes `nop`.
-abbrev pub PairToAdrAndNop : AArch64Relocation → Type 0
-PairToAdrAndNop of_page =
-    (o : Operands) (s : State) (adrp add made nop : List ℕ) → IsPair IsAdd64 o s adrp add
-    → IsRewritten AdrpToAdr adrp made → IsRewritten ReplaceWithNop add nop
-    → (adrp_of_symbol add_of_symbol adr_of_symbol : List ℕ)
-    → IsRelocated of_page o adrp adrp_of_symbol
-    → IsRelocated names.R_AARCH64_ADD_ABS_LO12_NC (following 4 o) add add_of_symbol
-    → IsRelocated names.R_AARCH64_ADR_PREL_LO21 o made adr_of_symbol
-    → RunAlike (pair adrp_of_symbol add_of_symbol) (pair adr_of_symbol nop) s
-
-abbrev pub AdrpMadeAdr : Type 0
-AdrpMadeAdr =
-    PairToAdrAndNop names.R_AARCH64_ADR_PREL_PG_HI21
-    × PairToAdrAndNop names.R_AARCH64_ADR_PREL_PG_HI21_NC
-
--- `adrp xN`, and an instruction with P from xN, which are executed next
-pub record IsOnPage (P : ℕ → Type 0) (o : Operands) (s : State) (adrp second : List ℕ) : Type 0
-  where
-    pub small : AreAddresses o
-    pub at : s.pc ≡ o.place
-    pub is_adrp : IsAdrp (word_of adrp)
-    pub not_31 : rd_of (word_of adrp) ≢ 31
-    pub source : rn_of (word_of second) ≡ rd_of (word_of adrp)
-    pub second_is : P (word_of second)
-
--- `add xD, xN`: the `adrp` stays.
-abbrev pub SumToAdr : AArch64Relocation → Type 0
-SumToAdr of_page =
-    (o : Operands) (s : State) (adrp add made : List ℕ)
-    → IsOnPage (λ word. IsAdd64 word × (rd_of word ≢ 31)) o s adrp add
-    → IsRewritten AddToAdr add made
-    → (adrp_of_symbol add_of_symbol adr_of_symbol : List ℕ)
-    → IsRelocated of_page o adrp adrp_of_symbol
-    → IsRelocated names.R_AARCH64_ADD_ABS_LO12_NC (following 4 o) add add_of_symbol
-    → IsRelocated names.R_AARCH64_ADR_PREL_LO21 (following 4 o) made adr_of_symbol
-    → RunAlike (pair adrp_of_symbol add_of_symbol) (pair adrp_of_symbol adr_of_symbol) s
-
-abbrev pub AddMadeAdr : Type 0
-AddMadeAdr =
-    SumToAdr names.R_AARCH64_ADR_PREL_PG_HI21 × SumToAdr names.R_AARCH64_ADR_PREL_PG_HI21_NC
-
--- `ldr xD, [xN]` of the GOT entry, which holds the address of the symbol: the `adrp` stays.
-abbrev pub LdrMadeAdr : Type 0
-LdrMadeAdr =
-    (o : Operands) (s : State) (adrp ldr made : List ℕ) → IsOnPage IsLdr64 o s adrp ldr
-    → load_64 s.memory o.got_entry ≡ symbol_address o → IsRewritten LdrToAdr ldr made
-    → (adrp_of_entry ldr_of_entry adr_of_symbol : List ℕ)
-    → IsRelocated names.R_AARCH64_ADR_GOT_PAGE o adrp adrp_of_entry
-    → IsRelocated names.R_AARCH64_LD64_GOT_LO12_NC (following 4 o) ldr ldr_of_entry
-    → IsRelocated names.R_AARCH64_ADR_PREL_LO21 (following 4 o) made adr_of_symbol
-    → RunAlike (pair adrp_of_entry ldr_of_entry) (pair adrp_of_entry adr_of_symbol) s
-
 -- ---- the offset of a variable from the thread pointer, by a TLS descriptor
 
 -- What a descriptor's function may change is a parameter of the laws, which hold for any. By the
@@ -353,7 +295,4 @@ pub record Laws : Type 0 where
   pub descriptor_to_local_exec : DescriptorToLocalExec
   pub descriptor_to_initial_exec : DescriptorToInitialExec
   pub weak : WeakBranches
-  pub adrp_made_adr : AdrpMadeAdr
-  pub add_made_adr : AddMadeAdr
-  pub ldr_made_adr : LdrMadeAdr
   pub sections : InSections

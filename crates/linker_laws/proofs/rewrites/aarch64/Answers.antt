@@ -52,24 +52,9 @@ use Rattle.linker_utils.specs.AArch64Rewrites.{IsAdd64}
 use Rattle.linker_elf.specs.declared.aarch64.forms.AArch64Instruction.TheVariants.{Add}
 use Rattle.linker_elf.specs.declared.aarch64.relocations.AArch64Relocation.TheVariants as names
 use Rattle.linker_laws.specs.AArch64Machine.{RunAlike}
-use Rattle.linker_laws.proofs.AArch64Near.{near}
+use Rattle.linker_laws.proofs.AArch64Near.{near_after, small_after}
 use Rattle.linker_laws.proofs.AArch64Words.{IsAdrOf}
 use Rattle.linker_laws.proofs.rewrites.aarch64.Goals as goal
-
-small_after : (n : ℕ) (o : Operands) → AreAddresses o → AreAddresses (following n o)
-small_after n o small =
-    record {
-      symbol = small.symbol;
-      place = sum_below o.place n;
-      got_entry = small.got_entry;
-      got_base = small.got_base;
-      plt_entry = small.plt_entry;
-      tls_base = small.tls_base;
-    }
-
--- a word under a mask
-below_mask : (x m : ℕ) → m < 2 ^ 32 → bit_and x m < 2 ^ 32
-below_mask x m small = let less = and_le_r x m in omega arith
 
 got_pair : relocation_laws.RelativeAddresses → relocation_laws.EntryAddresses
     → aarch64_laws.GotToAddress
@@ -123,26 +108,6 @@ address_by literals o s both made p is_made adrp1 add1 adr2 first d1 leads b2 =
     (step_adr y n t (decodes_adr y adr.opcode adr.top) rd named))
     (alike_once n _ _ (adr_address y t) s (d.value_is ∙ sym value))
 
--- The page is near, where `adr` at the place, or after it, reaches the address.
-abbrev AreNear : Operands → ℕ → Type 0
-AreNear o q =
-    (v w : ℤ)
-    → Some (cast_signed w64 (difference_64 (page (sum_64 (symbol_address o) 0)) (page o.place))) ≡ Some v
-    → Some (cast_signed w64 (difference_64 (sum_64 (symbol_address o) 0) q)) ≡ Some w
-    → IsWithin (Some (bit_bounds 21 Signed)) w → IsWithin (Some (bit_bounds 33 Signed)) v
-
-near_here : (o : Operands) → AreAddresses o → AreNear o o.place
-near_here o small =
-    let place = small.place in
-    near (sum_64 (symbol_address o) 0) o.place o.place (sum_below (symbol_address o) 0) place place
-    (omega arith)
-
-near_after : (o : Operands) → AreAddresses o → AreNear o (sum_64 o.place 4)
-near_after o small =
-    let place = small.place in
-    near (sum_64 (symbol_address o) 0) o.place (sum_64 o.place 4) (sum_below (symbol_address o) 0) place
-    (sum_below o.place 4) (omega arith)
-
 address : relocation_laws.RelativeAddresses → relocation_laws.Literals → aarch64_laws.AddressToAdr
 address relative literals = (
   λ o s both made p is_made adrp1 add1 adr2 a1 d1 b2.
@@ -160,146 +125,6 @@ address relative literals = (
       (relative.1.0 o p.small o.place both adrp1 a1 fits (sum_64 o.place 4) (drop 4 both) add1 d1
       tt) b2,
 )
-
--- ---- `adr` in place of one instruction
-
--- by the words of the pair
-adrp_made_by : relocation_laws.Literals → (o : Operands) (s : State) (adrp add made nop : List ℕ)
-    → aarch64_laws.IsPair IsAdd64 o s adrp add → aarch64_laws.IsRewritten AdrpToAdr adrp made
-    → aarch64_laws.IsRewritten ReplaceWithNop add nop → (adrp1 add1 adr2 : List ℕ)
-    → IsAdrOf 1 (rd_of (word_of add)) (word_of adrp1)
-    → aarch64_laws.IsRelocated names.R_AARCH64_ADD_ABS_LO12_NC (following 4 o) add add1
-    → IsAddress (relocation_laws.page_and_offset Add 1 o (word_of adrp1) (word_of add1))
-    (symbol_address o)
-    → aarch64_laws.IsRelocated names.R_AARCH64_ADR_PREL_LO21 o made adr2
-    → RunAlike (pair adrp1 add1) (pair adr2 nop) s
-adrp_made_by literals o s adrp add made nop p is_made is_nop adrp1 add1 adr2 first d1 leads b2 =
-    let one = p.one_register in
-    let n = rd_of (word_of add) in
-    let named = one.into_own_source.not_31 in
-    let d = adds_pair o n (word_of adrp1) (word_of add1) _ s first
-    (of_registers refl one.into_own_source.same (add_after _ _ add add1 d1.written
-    (masked_field (word_of add) 0xffc00000 0x91000000 22 32 p.second_is refl))) named p.at leads in
-    let word = word_made (λ x. bit_and x 0x7fffffff) adrp made
-    (below_mask (word_of adrp) 0x7fffffff (omega arith)) is_made in
-    let was = adr_of_adrp (word_of adrp)
-    (masked_field (word_of adrp) 0x9f000000 0x90000000 24 29 one.first refl) in
-    let y = word_of adr2 in
-    let adr = adr_after 0 _ _ made adr2 b2.written (ap (λ w. field w 24 29) word ∙ was.opcode)
-    (ap (λ w. bit_at w 31) word ∙ was.top) in
-    let rd : rd_of y ≡ n = adr.rd_is ∙ ap rd_of word ∙ was.rd_is ∙ one.register in
-    let value = adr_is o y (symbol_address o) s p.at
-    (literals.0 o p.small o.place made adr2 b2 tt) in
-    let t = set n (adr_address y s) s in
-    alike_runs _ (pair adrp1 add1) (pair adr2 nop) s _ (go_on t)
-    (run_pair (word_of adrp1) (word_of add1) s _ _ d.first refl d.second)
-    (run_pair y (word_of nop) s t _
-    (step_adr y n s (decodes_adr y adr.opcode adr.top) rd named) refl
-    (ap (λ w. step w t) (word_is 0xd503201f nop (omega arith) is_nop)))
-    (alike_before n _ _ (adr_address y s) s (d.value_is ∙ sym value))
-
-adrp_made : relocation_laws.RelativeAddresses → relocation_laws.Literals → aarch64_laws.AdrpMadeAdr
-adrp_made relative literals = (
-  λ o s adrp add made nop p is_made is_nop adrp1 add1 adr2 a1 d1 b2.
-      let one = p.one_register in
-      adrp_made_by literals o s adrp add made nop p is_made is_nop adrp1 add1 adr2
-      (adr_of_register one.register (adrp_after _ _ adrp adrp1 a1.written one.first)) d1
-      (relative.0.0 o p.small o.place adrp adrp1 a1 tt (sum_64 o.place 4) add add1 d1 tt) b2,
-  λ o s adrp add made nop p is_made is_nop adrp1 add1 adr2 a1 d1 b2.
-      let one = p.one_register in
-      let fits = near_here o p.small a1.value b2.value a1.value_is b2.value_is
-      b2.accepted.reached.0 in
-      adrp_made_by literals o s adrp add made nop p is_made is_nop adrp1 add1 adr2
-      (adr_of_register one.register (adrp_after _ _ adrp adrp1 a1.written one.first)) d1
-      (relative.1.0 o p.small o.place adrp adrp1 a1 fits (sum_64 o.place 4) add add1 d1 tt) b2,
-)
-
--- by the words of the two
-add_made_by : relocation_laws.Literals → (o : Operands) (s : State) (adrp add made : List ℕ)
-    → aarch64_laws.IsOnPage (λ word. IsAdd64 word × (rd_of word ≢ 31)) o s adrp add
-    → aarch64_laws.IsRewritten AddToAdr add made → (adrp1 add1 adr2 : List ℕ)
-    → IsAdrOf 1 (rd_of (word_of adrp)) (word_of adrp1)
-    → aarch64_laws.IsRelocated names.R_AARCH64_ADD_ABS_LO12_NC (following 4 o) add add1
-    → IsAddress (relocation_laws.page_and_offset Add 1 o (word_of adrp1) (word_of add1))
-    (symbol_address o)
-    → aarch64_laws.IsRelocated names.R_AARCH64_ADR_PREL_LO21 (following 4 o) made adr2
-    → RunAlike (pair adrp1 add1) (pair adrp1 adr2) s
-add_made_by literals o s adrp add made p is_made adrp1 add1 adr2 adrp_is d1 leads b2 =
-    let n = rd_of (word_of adrp) in
-    let d = rd_of (word_of add) in
-    let x = word_of adrp1 in
-    let z = word_of add1 in
-    let y = word_of adr2 in
-    let op : field (word_of add) 22 32 ≡ 0x244 =
-    masked_field (word_of add) 0xffc00000 0x91000000 22 32 p.second_is.0 refl in
-    let add_is = add_after _ _ add add1 d1.written op in
-    let word = word_made (λ w. bit_and w 0x76ffffff) add made
-    (below_mask (word_of add) 0x76ffffff (omega arith)) is_made in
-    let was = adr_of_page (word_of add) (omega arith) (omega arith) (omega arith) in
-    let adr = adr_after 0 _ _ made adr2 b2.written (ap (λ w. field w 24 29) word ∙ was.opcode)
-    (ap (λ w. bit_at w 31) word ∙ was.top) in
-    let t = set n (adrp_address x s) s in
-    let first =
-    step_adrp x n s (decodes_adrp x adrp_is.opcode adrp_is.top) adrp_is.rd_is p.not_31 in
-    let value : added z t ≡ adr_address y t =
-    page_added o n x z (symbol_address o) s (add_is.rn_is ∙ p.source) p.at leads
-    ∙ sym (adr_is (following 4 o) y (symbol_address o) t (ap (λ q. sum_64 q 4) p.at)
-    (literals.0 (following 4 o) (small_after 4 o p.small) o.place made adr2 b2 tt)) in
-    alike_runs _ (pair adrp1 add1) (pair adrp1 adr2) s _ _
-    (run_pair x z s t _ first refl
-    (step_add z d t add_is.decodes add_is.rd_is ∙ ap (λ v. Some (set d v t)) value))
-    (run_pair x y s t _ first refl
-    (step_adr y d t (decodes_adr y adr.opcode adr.top) (adr.rd_is ∙ ap rd_of word ∙ was.rd_is)
-    p.second_is.1))
-    (alike_itself _ (set d (adr_address y t) t))
-
-add_made : relocation_laws.RelativeAddresses → relocation_laws.Literals → aarch64_laws.AddMadeAdr
-add_made relative literals = (
-  λ o s adrp add made p is_made adrp1 add1 adr2 a1 d1 b2.
-      add_made_by literals o s adrp add made p is_made adrp1 add1 adr2
-      (adrp_after _ _ adrp adrp1 a1.written p.is_adrp) d1
-      (relative.0.0 o p.small o.place adrp adrp1 a1 tt (sum_64 o.place 4) add add1 d1 tt) b2,
-  λ o s adrp add made p is_made adrp1 add1 adr2 a1 d1 b2.
-      let fits = near_after o p.small a1.value b2.value a1.value_is b2.value_is
-      b2.accepted.reached.0 in
-      add_made_by literals o s adrp add made p is_made adrp1 add1 adr2
-      (adrp_after _ _ adrp adrp1 a1.written p.is_adrp) d1
-      (relative.1.0 o p.small o.place adrp adrp1 a1 fits (sum_64 o.place 4) add add1 d1 tt) b2,
-)
-
-ldr_made : relocation_laws.EntryAddresses → relocation_laws.Literals → aarch64_laws.LdrMadeAdr
-ldr_made entries literals o s adrp ldr made p holds is_made adrp1 ldr1 adr2 a1 l1 b2 =
-    let n = rd_of (word_of adrp) in
-    let d = rd_of (word_of ldr) in
-    let x = word_of adrp1 in
-    let z = word_of ldr1 in
-    let y = word_of adr2 in
-    let op : word_of ldr / 2 ^ 22 ≡ 0x3e5 = eqb-true _ _ p.second_is in
-    let adrp_is = adrp_after _ _ adrp adrp1 a1.written p.is_adrp in
-    let ldr_is = ldr_after _ _ ldr ldr1 l1.written p.second_is in
-    let word = word_made (λ w. bit_and w 0x76ffffff) ldr made
-    (below_mask (word_of ldr) 0x76ffffff (omega arith)) is_made in
-    let was = adr_of_page (word_of ldr) (omega arith) (omega arith) (omega arith) in
-    let adr = adr_after 0 _ _ made adr2 b2.written (ap (λ w. field w 24 29) word ∙ was.opcode)
-    (ap (λ w. bit_at w 31) word ∙ was.top) in
-    let rd : rd_of y ≡ d = adr.rd_is ∙ ap rd_of word ∙ was.rd_is in
-    let t = set n (adrp_address x s) s in
-    let first =
-    step_adrp x n s (decodes_adrp x adrp_is.opcode adrp_is.top) adrp_is.rd_is p.not_31 in
-    let value : loaded z t ≡ adr_address y t =
-    entry_loaded o n x z o.got_entry s (ldr_is.rn_is ∙ p.source) p.at
-    (entries.0 o p.small o.place adrp adrp1 a1 tt (sum_64 o.place 4) ldr ldr1 l1 tt) ∙ holds
-    ∙ sym (adr_is (following 4 o) y (symbol_address o) t (ap (λ q. sum_64 q 4) p.at)
-    (literals.0 (following 4 o) (small_after 4 o p.small) o.place made adr2 b2 tt)) in
-    alike_runs _ (pair adrp1 ldr1) (pair adrp1 adr2) s _ _
-    (run_pair x z s t _ first refl
-    (ap (λ c. execute c z t) ldr_is.decodes
-    ∙ ap (λ r. Some (go_on (write_x r (loaded z t) t))) ldr_is.rd_is
-    ∙ ap (λ v. Some (go_on (write_x d v t))) value))
-    (run_pair x y s t _ first refl
-    (ap (λ c. execute c y t) (decodes_adr y adr.opcode adr.top)
-    ∙ ap (λ r. Some (go_on (write_x r (adr_address y t) t))) rd))
-    (alike_itself _ (go_on (write_x d (adr_address y t) t)))
 
 -- ---- branches
 
@@ -376,9 +201,6 @@ returns-clause-laws c =
       descriptor_to_local_exec = to_local_exec laws.entries laws.thread_moves;
       descriptor_to_initial_exec = to_initial_exec laws.entries;
       weak = branches laws.branches;
-      adrp_made_adr = adrp_made laws.relative laws.literals;
-      add_made_adr = add_made laws.relative laws.literals;
-      ldr_made_adr = ldr_made laws.entries laws.literals;
       sections = sections;
     }
 
