@@ -34,7 +34,7 @@ use Rattle.linker_laws.proofs.Agreement.{agree_go, unchanged, value_group}
 use Rattle.linker_laws.proofs.CoveredRuns.{holds_of, run_first}
 use Rattle.linker_laws.proofs.Instructions.{unbiased}
 use Rattle.linker_laws.proofs.Sums.{lifted_is, once, sum_below}
-use Rattle.linker_utils.specs.AArch64Rewrites.{IsAdd64, IsIntoOwnSource, IsLdr64, nop, rd_of, rn_of}
+use Rattle.linker_utils.specs.AArch64Rewrites.{IsAdd64, IsIntoOwnSource, nop, rd_of}
 use Rattle.linker_utils.specs.declared.aarch64.rewrites.RelaxationKind.TheVariants as kinds
 
 -- a word under a mask

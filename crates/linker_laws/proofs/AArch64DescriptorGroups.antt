@@ -1,5 +1,5 @@
 -- AArch64's groups of TLS descriptors.
-use Rattle.std.proofs.Common.{◌≡◌, ◌≢◌, ℕ, suc, ◌+◌, ◌^◌, ◌<◌, Bool, true, false, refl, sym, ◌∙◌, ap, ap₂, subst, arith, cond, eqb}
+use Rattle.std.proofs.Common.{◌≡◌, ℕ, suc, ◌+◌, ◌^◌, ◌<◌, Bool, true, false, refl, sym, ◌∙◌, ap, ap₂, subst, arith, cond, eqb}
 use Rattle.std.proofs.Common.{List, Some, pos, ◌+ℤ◌}
 use Rattle.std.proofs.lemmas.Bool.{cond-false, cond-true, eq-eqb, ne_eqb}
 use Rattle.linker_elf.specs.AArch64.{aarch64_form}
@@ -11,16 +11,15 @@ use Rattle.linker_laws.specs.AArch64Groups as groups
 use Rattle.linker_laws.specs.AArch64Machine.{added, adrp_address, in_64_bits, load_64, step}
 use Rattle.linker_laws.specs.AArch64Machine as aarch64_machine
 use Rattle.linker_laws.specs.AArch64RelocationLaws as relocation_laws
-use Rattle.linker_laws.specs.AArch64RewriteLaws.{following, with_entry, word_of}
+use Rattle.linker_laws.specs.AArch64RewriteLaws.{with_entry, word_of}
 use Rattle.linker_laws.specs.Changes.{go_to, put}
 use Rattle.linker_laws.specs.Machine.{loaded}
 use Rattle.linker_laws.specs.Schemes.{AreAddresses}
 use Rattle.linker_laws.specs.Simulation.{State, Program, Kinds, Agree, Group, of_link, run}
-use Rattle.linker_laws.proofs.AArch64Descriptors.{small_entry}
 use Rattle.linker_laws.proofs.AArch64Groups.{below_32, below_64, eight, nop_goes, sets, sets_twice, still_seen}
 use Rattle.linker_laws.proofs.AArch64Moves.{offset_moves}
 use Rattle.linker_laws.proofs.AArch64Pairs.{adds_up, loads, word_is}
-use Rattle.linker_laws.proofs.AArch64Steps.{set, step_add, step_blr, step_ldr}
+use Rattle.linker_laws.proofs.AArch64Steps.{step_add, step_blr, step_ldr}
 use Rattle.linker_laws.proofs.AArch64Words.{add_after, adr_of_register, adrp_after, blr_of}
 use Rattle.linker_laws.proofs.AArch64Words.{ldr_of_register_after, masked_field, of_registers}
 use Rattle.linker_laws.proofs.Agreement.{value_group}
@@ -184,6 +183,18 @@ are_to_local_exec entries moves c o k k' s s' adrp ldr add blr movz movk nop1 no
     (word_is 0xf2800000 movk (omega arith) made_movk) high.applied low.applied (seen t) in
     sets_twice c.others c.new t o.place (word_of high.relocated) (word_of low.relocated) 0 _ _ _
     (agree.pc ∙ d.at) (omega arith) high.stands low.stands m.first m.second m.value_is)
+
+small_entry : (entry : ℕ) (o : Operands) → entry < 2 ^ 64 → AreAddresses o
+    → AreAddresses (with_entry entry o)
+small_entry entry o below small =
+    record {
+      symbol = small.symbol;
+      place = small.place;
+      got_entry = below;
+      got_base = small.got_base;
+      plt_entry = small.plt_entry;
+      tls_base = small.tls_base;
+    }
 
 pub are_to_initial_exec : relocation_laws.EntryAddresses → groups.DescriptorToInitialExec
 are_to_initial_exec entries c o v entry k k' s s' adrp ldr add blr adrp0 ldr0 nop1 nop2 d ends below holds

@@ -12,7 +12,7 @@ use Rattle.linker_base.specs.Form.{placed_bit}
 use Rattle.linker_elf.specs.declared.aarch64.relocations.AArch64Relocation.TheVariants as names
 use Rattle.linker_elf.specs.declared.elf.value.Operands.{Operands}
 use Rattle.linker_elf.specs.declared.aarch64.relocations.AArch64Relocation.{AArch64Relocation}
-use Rattle.linker_laws.specs.AArch64Groups.{Code, Descriptor, EndsInNops, Groups, Has, Stands, called, link, machine, seen}
+use Rattle.linker_laws.specs.AArch64Groups.{Code, Descriptor, Groups, Has, Stands, called, link, machine, seen}
 use Rattle.linker_laws.specs.AArch64GroupsWorked.{IsAddress, IsOffset, IsRun, IsWorked, code, entries, first_adr, is_entry}
 use Rattle.linker_laws.specs.AArch64GroupsWorked.{known, new_halves, new_load, new_moves, old_descriptor, old_halves}
 use Rattle.linker_laws.specs.AArch64GroupsWorked.{old_load, old_sum, others, second_adr, starting, words}
@@ -21,7 +21,7 @@ use Rattle.linker_laws.specs.AArch64RewriteLaws.{IsPair, IsRelocated, following,
 use Rattle.linker_laws.specs.Changes.{ChangesOpen, go_to, put, with_register}
 use Rattle.linker_laws.specs.Machine.{loaded}
 use Rattle.linker_laws.specs.Schemes.{AreAddresses}
-use Rattle.linker_laws.specs.Simulation.{Agree, AreStored, Group, Kind, Kinds, Other, State, Stops, ends, group, half, of_link}
+use Rattle.linker_laws.specs.Simulation.{Agree, AreStored, Group, Kind, Kinds, Other, State, ends, group, half, of_link}
 use Rattle.linker_laws.specs.Simulation.{anything, other, run, same}
 use Rattle.linker_laws.specs.SimulationWorked.{of_byte}
 use Rattle.linker_laws.proofs.Agreement.{agree_put}

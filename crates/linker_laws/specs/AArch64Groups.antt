@@ -199,6 +199,8 @@ called o t s =
 
 -- `adrp x0`, `ldr xT, [x0]`, `add x0, x0` and `blr xT` stand in old. The function of the descriptor
 -- returns, and leaves an offset in X0. What else it changes may be anything then, as are XT and X30.
+-- By the ABI it changes no other register but the flags, and memory below the stack pointer. Where
+-- the thread has no block yet, it makes one.
 pub record Descriptor (c : Code) (o : Operands) (offset : ℕ) (k : Kinds) (s : State) (k' : Kinds)
     (s' : State) (adrp ldr add blr : List ℕ) : Type 0 where
   pub small : AreAddresses o
