@@ -144,6 +144,15 @@ new_load =
     ∷ 0xf9400c00  -- ldr x0, [x0, 0x18]
     ∷ 0xd503201f ∷ 0xd503201f ∷ []
 
+abbrev pub old_branches : List ℕ
+old_branches =
+    0x14000001  -- b .+4
+    ∷ 0x94000001  -- bl .+4
+    ∷ []
+
+abbrev pub IsPassed : Type 0
+IsPassed = IsRun old_branches (0xd503201f ∷ 0xd503201f ∷ []) 0 2 2 2 (λ r. r 0 ≡ 0)
+
 pub record IsWorked : Type 0 where
   pub halves : IsRun old_halves new_halves 0x420120 4 5 5
       (λ r. (r 0 ≡ 0x420120) × (r 2 ≡ 0x12344))
@@ -155,3 +164,4 @@ pub record IsWorked : Type 0 where
   pub ldr_to_adr : IsAddress old_load (second_adr 0xb0000080) 2
   pub descriptor_to_local_exec : IsOffset new_moves
   pub descriptor_to_initial_exec : IsOffset new_load
+  pub branches : IsPassed
