@@ -1,7 +1,8 @@
 # SPDX-License-Identifier: MIT OR Apache-2.0
 """The tables of docs/PROOFS.md that say how many places the laws of rewrites cover, of the counts in
-docs/places.json. Each relocation for which the library chooses rewrites has to have a row, and each law
-has to be a definition of crates/linker_laws/specs, and a field of `Laws` there, which a contract ensures."""
+docs/places.json, and which rewrites are in groups of the simulation. Each relocation for which the library chooses rewrites has to have a row, and each law
+has to be a definition of crates/linker_laws/specs, and a field of `Laws` or `Groups` there, which a
+contract ensures."""
 import json
 import re
 import subprocess
@@ -15,9 +16,10 @@ import places
 
 PAGE = "docs/PROOFS.md"
 MARKS = "<!-- made by tools/generate -->", "<!-- end of what tools/generate makes -->"
+GROUPS_MARKS = "<!-- groups, made by tools/generate -->", "<!-- end of the groups -->"
 # by machine: its name in texts, its specs, and the contract
 ARCHITECTURES = {
-    183: ("AArch64", ["AArch64RewriteLaws"], "aarch64"), 21: ("PowerPC64", ["Ppc64RewriteLaws"], "ppc64"),
+    183: ("AArch64", ["AArch64Groups"], "aarch64"), 21: ("PowerPC64", ["Ppc64RewriteLaws"], "ppc64"),
     243: ("RISC-V", ["RiscVRewriteLaws"], "riscv64"), 258: ("LoongArch", ["LoongArchRewriteLaws"], "loongarch64"),
     62: ("x86-64", ["X86RewriteLaws", "X86ThreadLaws"], "x86_64"),
 }
@@ -156,15 +158,15 @@ def tables():
 
 
 def ensured(contract, files):
-    """The names in the fields of `Laws` of specs, each of which a contract ensures."""
+    """The names in the fields of `Laws` or `Groups` of specs, each of which a contract ensures."""
     found = set()
     for path in files:
         text = path.read_text()
-        fields = re.search(r"^pub record Laws : Type 0 where\n((?:  .*\n)+)", text, re.M)
+        fields = re.search(r"^pub record (Laws|Groups) : Type 0 where\n((?:  .*\n)+)", text, re.M)
         alias = re.search(rf"^ghost use Rattle\.linker_laws\.specs\.{path.stem} as (\w+);", contract, re.M)
-        if not fields or not alias or f" {{ {alias[1]}.Laws }}\n" not in contract:
+        if not fields or not alias or f" {{ {alias[1]}.{fields[1]} }}\n" not in contract:
             sys.exit(f"tools/generate: no contract ensures the laws of {path.name}")
-        found.update(name for name in re.findall(r"\w+", fields[1])
+        found.update(name for name in re.findall(r"\w+", fields[2])
                      if re.search(rf"^abbrev pub {name} :", text, re.M))
     return found
 
@@ -182,8 +184,9 @@ def check_rows():
         sys.exit("tools/generate: without laws or without choices: "
                  f"{sorted(chosen ^ of_laws)}")
     specs = ROOT / "crates/linker_laws"
-    contracts = (specs / "src/rewrites.rt").read_text()
     for machine, (name, files, function) in ARCHITECTURES.items():
+        module = "simulation" if files[0].endswith("Groups") else "rewrites"
+        contracts = (specs / f"src/{module}.rt").read_text()
         head, contract = contracts.split(f"pub fn {function}()", 1)
         laws = ensured(head[:head.index("///")] + contract.split("\n{", 1)[0] + "\n",
                        [specs / f"specs/{file}.antt" for file in files])
@@ -192,8 +195,29 @@ def check_rows():
                 sys.exit(f"tools/generate: {name} has no law {law}")
 
 
+def groups():
+    """The table of the rewrites that the laws of groups name."""
+    lines = ["| | Rewrites | In groups | Not in groups |", "|---|--:|--:|---|"]
+    for name, (file, *_), function in ARCHITECTURES.values():
+        enum = (ROOT / f"crates/linker_utils/src/{function}/rewrites.rt").read_text()
+        enum = enum.partition("pub enum RelaxationKind {")[2].partition("\n}")[0]
+        kinds = re.findall(r"^    (\w+)[,( ]", enum, re.M)
+        kinds.remove("NoOp")
+        path = ROOT / f"crates/linker_laws/specs/{re.sub('RewriteLaws|Groups', '', file)}Groups.antt"
+        text = path.read_text() if path.exists() else ""
+        used = set(re.findall(r"\bkinds\.(\w+)", text))
+        if unknown := used.difference(kinds):
+            sys.exit(f"tools/generate: {path.name} names no rewrites: {sorted(unknown)}")
+        left = [kind for kind in kinds if kind not in used]
+        lines.append(f"| {name} | {len(kinds)} | {len(used)} | "
+                     f"{'all' if left == kinds else ', '.join(f'`{kind}`' for kind in left) or 'none'} |")
+    return "\n".join(lines) + "\n\n"
+
+
 def make():
     check_rows()
     page = (ROOT / PAGE).read_text()
-    start, end = page.index(MARKS[0]) + len(MARKS[0]), page.index(MARKS[1])
-    return {PAGE: page[:start] + "\n\n" + tables() + page[end:]}
+    for marks, text in ((MARKS, tables()), (GROUPS_MARKS, groups())):
+        start, end = page.index(marks[0]) + len(marks[0]), page.index(marks[1])
+        page = page[:start] + "\n\n" + text + page[end:]
+    return {PAGE: page}

@@ -1,9 +1,9 @@
--- Addresses of AArch64 that became one instruction do what the object's do, and in the final bytes.
-use Rattle.std.proofs.Common.{◌≡◌, ℕ, ℤ, ◌+◌, ◌-◌, [], ◌∷◌, take, drop, false, cond, refl, sym, ap, subst, ◌∙◌, arith, Some}
+-- Addresses of AArch64 that became one instruction are groups, and in the final bytes.
+use Rattle.std.proofs.Common.{◌≡◌, ℕ, ℤ, ◌+◌, ◌-◌, take, drop, false, cond, refl, sym, ap, subst, ◌∙◌, arith, Some}
 use Rattle.std.proofs.lemmas.Bool.{cond-false}
 use Rattle.std.proofs.lemmas.List.{take-take}
 use Rattle.std.specs.Prelude.{slice_get}
-use Rattle.linker_utils.specs.AArch64Rewrites.{to_adr, nop_adr, IsAdd64, AreOfOneRegister}
+use Rattle.linker_utils.specs.AArch64Rewrites.{to_adr, nop_adr, IsAdd64, AreOfOneRegister, rd_of}
 use Rattle.linker_utils.specs.declared.aarch64.rewrites.RelaxationKind.TheVariants as kinds
 use Rattle.linker_base.specs.Rewrite.{replaces}
 use Rattle.linker_elf.specs.AArch64Relocations.{aarch64_name, insn_row}
@@ -21,7 +21,9 @@ use Rattle.linker_final.proofs.AArch64Chosen.{IsOfEntry, of_entry}
 use Rattle.linker_final.specs.AArch64Anywhere.{AddressesAnywhere, IsAppliedAt, UntouchedAt, IsNamedAs}
 use Rattle.linker_final.specs.AArch64Final.{AddressIsAlike, AreOfAddress, Addresses as AddressesByAdr}
 use Rattle.linker_final.specs.Final.{AreRewritten, Linked, instruction_at, two_at}
-use Rattle.linker_laws.specs.AArch64RewriteLaws.{IsPair, IsRelocated, IsRewritten, Laws, following, pair, word_of}
+use Rattle.linker_laws.specs.AArch64RewriteLaws.{IsPair, IsRelocated, IsRewritten, following, word_of}
+use Rattle.linker_laws.specs.AArch64Groups.{Groups, Has, Leaves, seen}
+use Rattle.linker_laws.specs.Schemes.{symbol_address}
 use Rattle.linker_rewriting.specs.Rewritten.{IsDone, IsMade, relocation_after}
 use Rattle.linker_section.specs.Relocations.{relocation_in}
 use Rattle.linker_section.specs.Values.{operands_with}
@@ -32,7 +34,6 @@ use Rattle.linker_utils.specs.Relaxations.{relaxation_rewrite}
 use Rattle.linker_elf.specs.declared.elf.architecture.Architecture.TheVariants.{AArch64}
 use Rattle.linker_final.proofs.AArch64Written.{IsAfter, applied_there, left_alone, named_after}
 use Rattle.linker_final.proofs.Written.{are_rewritten, first_same, rela, second_same, word_same}
-use Rattle.linker_laws.specs.AArch64Machine.{RunAlike}
 
 -- ---- rows
 
@@ -83,7 +84,7 @@ module _ (addresses : Addresses) (symbol : Symbol) (is_there : symbol.is_undefin
 
 -- ---- a pair
 
-module _ (laws : Laws) (l : Linked) (rewriting : AreRewritten l) (aarch64 : l.context.architecture ≡ AArch64)
+module _ (laws : Groups) (l : Linked) (rewriting : AreRewritten l) (aarch64 : l.context.architecture ≡ AArch64)
     (i j : ℕ) (of : AreOfAddress l i j) where
   abbrev first : Rela
   first = relocation_in l.relocations i
@@ -99,7 +100,7 @@ module _ (laws : Laws) (l : Linked) (rewriting : AreRewritten l) (aarch64 : l.co
   back : second.offset - 4 ≡ first.offset
   back = let next = of.together.next in omega (arith, next)
 
-  made_two : IsRewritten kinds.AdrpAddToNopAdr (two_at l.section first.offset) (two_at l.rewritten first.offset)
+  pub made_two : IsRewritten kinds.AdrpAddToNopAdr (two_at l.section first.offset) (two_at l.rewritten first.offset)
   made_two =
       let done : IsMade (relaxation_rewrite of.low_chosen.kind) second.offset l.section l.rewritten =
       subst (λ d. IsDone d second.offset l.section l.rewritten) of.low_decided (rewriting.done j of.together.second_below) in
@@ -120,7 +121,7 @@ module _ (laws : Laws) (l : Linked) (rewriting : AreRewritten l) (aarch64 : l.co
 
   wherever : (w : Operands) → UntouchedAt l first.offset
       → IsAppliedAt names.R_AARCH64_ADR_PREL_LO21 (following 4 w) l (first.offset + 4) → AddressIsAlike l i w
-  wherever w left applied s adrp add small at of_page of_low =
+  wherever w left applied c k s small at of_page of_low here after =
       let o = first.offset in
       let next = of.together.next in
       let is_add : IsAdd64 (word_of (drop (o + 4) l.section)) =
@@ -131,7 +132,7 @@ module _ (laws : Laws) (l : Linked) (rewriting : AreRewritten l) (aarch64 : l.co
       let word_first : word_of (drop o l.section) ≡ word_of (two_at l.section o) = word_same l.section o ∙ sym (first_same l.section o) in
       let word_second : word_of (drop (o + 4) l.section) ≡ word_of (drop 4 (two_at l.section o)) =
       word_same l.section (o + 4) ∙ ap word_of (sym (second_same l.section o)) in
-      let together : IsPair IsAdd64 w s (two_at l.section o) (drop 4 (two_at l.section o)) =
+      let together : IsPair IsAdd64 w (seen s) (two_at l.section o) (drop 4 (two_at l.section o)) =
       record {
         small = small;
         at = at;
@@ -140,17 +141,17 @@ module _ (laws : Laws) (l : Linked) (rewriting : AreRewritten l) (aarch64 : l.co
             (subst (λ x. AreOfOneRegister (word_of (drop o l.section)) x) word_second one);
         second_is = subst IsAdd64 word_second is_add;
       } in
-      let low : IsRelocated names.R_AARCH64_ADD_ABS_LO12_NC (following 4 w) (drop 4 (two_at l.section o)) add =
-      subst (λ xs. IsRelocated names.R_AARCH64_ADD_ABS_LO12_NC (following 4 w) xs add) (sym (second_same l.section o)) of_low in
+      let low : Has c.old names.R_AARCH64_ADD_ABS_LO12_NC (following 4 w) (drop 4 (two_at l.section o)) =
+      subst (λ xs. Has c.old names.R_AARCH64_ADD_ABS_LO12_NC (following 4 w) xs) (sym (second_same l.section o)) of_low in
       let written : IsRelocated names.R_AARCH64_ADR_PREL_LO21 (following 4 w) (drop 4 (two_at l.rewritten o)) (instruction_at l.final (o + 4)) =
       subst (λ xs. IsRelocated names.R_AARCH64_ADR_PREL_LO21 (following 4 w) xs (instruction_at l.final (o + 4))) (sym (second_same l.rewritten o)) applied in
       let word : word_of (two_at l.rewritten o) ≡ word_of (instruction_at l.final o) =
       first_same l.rewritten o ∙ ap word_of (sym left) in
-      subst (λ x. RunAlike (pair adrp add) (x ∷ word_of (instruction_at l.final (o + 4)) ∷ []) s) word
-      (laws.address.0 w s (two_at l.section o) (two_at l.rewritten o) together made_two adrp add (instruction_at l.final (o + 4))
-      of_page low written)
+      subst (λ xs. Leaves 2 c w k s (rd_of (word_of xs)) (symbol_address w)) (second_same l.section o)
+      (laws.nop_and_adr.0 c w k s (two_at l.section o) (two_at l.rewritten o) together made_two of_page low (here ∙ sym word)
+      (record { relocated = instruction_at l.final (o + 4); applied = written; stands = after }))
 
-pub addresses_anywhere : Laws → AddressesAnywhere
+pub addresses_anywhere : Groups → AddressesAnywhere
 addresses_anywhere laws l rewriting aarch64 i j of = (
   gone laws l rewriting aarch64 i j of,
   named laws l rewriting aarch64 i j of,
@@ -159,7 +160,7 @@ addresses_anywhere laws l rewriting aarch64 i j of = (
 
 -- ---- in the final bytes
 
-pub addresses : Laws → AddressesByAdr
+pub addresses : Groups → AddressesByAdr
 addresses laws l linked aarch64 i j of left alone symbol is_symbol is_there =
     let rewriting = are_rewritten l linked in
     let r = relocation_in l.relocations i in

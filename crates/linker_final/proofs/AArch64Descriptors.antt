@@ -1,4 +1,4 @@
--- Rewritten sequences of TLS descriptors of AArch64 do what the object's do, and in the final bytes.
+-- Rewritten sequences of TLS descriptors of AArch64 are groups, and in the final bytes.
 use Rattle.std.proofs.Common.{◌≡◌, ℕ, ◌+◌, ◌≤◌, List, [], length, refl, sym, ap, subst, ◌∙◌, inl, inr, arith, true, Some, None, cond}
 use Rattle.std.specs.Prelude.{slice_get}
 use Rattle.linker_utils.specs.AArch64Rewrites.{aarch64_entries, to_initial_exec, to_local_exec, aarch64_rewrite, rewrites_where}
@@ -21,7 +21,8 @@ use Rattle.linker_final.proofs.Written.{are_rewritten, rela}
 use Rattle.linker_final.specs.AArch64Anywhere.{DescriptorsAnywhere, EachDescriptorAnywhere, IsAppliedAt, UntouchedAt, IsNamedAs, LoadedOffsetIsAlikeAnywhere, OffsetIsAlikeAnywhere}
 use Rattle.linker_final.specs.AArch64Final.{AreOfDescriptor, Descriptors, EachDescriptor, LoadsOffset, OffsetIsTheSame}
 use Rattle.linker_final.specs.Final.{UntouchedInstruction, AreRewritten, Linked, IsLinked, IsWrittenByNoOther, instruction_at}
-use Rattle.linker_laws.specs.AArch64RewriteLaws.{IsRewritten, Laws, following, with_entry}
+use Rattle.linker_laws.specs.AArch64RewriteLaws.{IsRewritten, following, with_entry}
+use Rattle.linker_laws.specs.AArch64Groups.{Groups}
 use Rattle.linker_section.specs.Relocations.{relocation_in}
 use Rattle.linker_section.specs.Values.{is_there, operands_by, operands_with}
 use Rattle.linker_section.specs.declared.needed.EntryClass.TheVariants.{ThreadOffset}
@@ -141,7 +142,7 @@ module _ (l : Linked) (rewriting : AreRewritten l) (aarch64 : l.context.architec
       subst (λ n. IsRewritten kind (instruction_at l.section n) (instruction_at l.rewritten n)) second_at
       (becomes l rewriting j of.load_chosen of.first.second_below of.load_decided kind (λ _. true) (λ _. word) is kind_is)
 
-to_local_anywhere : Laws → EachDescriptorAnywhere kinds.MovzX0Lsl16 kinds.MovkX0 names.R_AARCH64_TLSLE_MOVW_TPREL_G1
+to_local_anywhere : Groups → EachDescriptorAnywhere kinds.MovzX0Lsl16 kinds.MovkX0 names.R_AARCH64_TLSLE_MOVW_TPREL_G1
     names.R_AARCH64_TLSLE_MOVW_TPREL_G0_NC OffsetIsAlikeAnywhere
 to_local_anywhere laws l rewriting aarch64 i j k m of =
     let o = (relocation_in l.relocations i).offset in
@@ -155,17 +156,28 @@ to_local_anywhere laws l rewriting aarch64 i j k m of =
           (entry kinds.MovkX0 names.R_AARCH64_TLSLE_MOVW_TPREL_G0_NC to_local_exec) of.load_kind second_code (λ o. refl) (λ a. refl),
       add_named l rewriting aarch64 kinds.MovzX0Lsl16 kinds.MovkX0 i j k m of,
       call_named l rewriting aarch64 kinds.MovzX0Lsl16 kinds.MovkX0 i j k m of,
-      λ add_left call_left w applied call c s adrp ldr add holds descriptor object.
-          laws.descriptor_to_local_exec call c w s
-          (instruction_at l.section o) (instruction_at l.section (o + 4)) (instruction_at l.section (o + 8)) (instruction_at l.section (o + 12)) descriptor
-          (instruction_at l.rewritten o) (instruction_at l.rewritten (o + 4)) (instruction_at l.final (o + 8)) (instruction_at l.final (o + 12))
+      λ add_left call_left w applied c k2 k' s s' holds descriptor first second third fourth.
+          laws.descriptor_to_local_exec c w k2 k' s s'
+          (instruction_at l.section o) (instruction_at l.section (o + 4)) (instruction_at l.section (o + 8)) (instruction_at l.section (o + 12))
+          (instruction_at l.rewritten o) (instruction_at l.rewritten (o + 4)) (instruction_at l.final (o + 8)) (instruction_at l.final (o + 12)) descriptor
+          (record {
+            first_made = add_nop l rewriting aarch64 kinds.MovzX0Lsl16 kinds.MovkX0 i j k m of add_left;
+            second_made = call_nop l rewriting aarch64 kinds.MovzX0Lsl16 kinds.MovkX0 i j k m of call_left;
+            first = third;
+            second = fourth;
+          })
           (becomes l rewriting i of.page_chosen of.first.first_below of.page_decided kinds.MovzX0Lsl16 (λ _. true) (λ _. 0xd2a00000) refl of.page_kind)
           (second_made l rewriting aarch64 kinds.MovzX0Lsl16 kinds.MovkX0 i j k m of kinds.MovkX0 0xf2800000 refl of.load_kind)
-          (add_nop l rewriting aarch64 kinds.MovzX0Lsl16 kinds.MovkX0 i j k m of add_left)
-          (call_nop l rewriting aarch64 kinds.MovzX0Lsl16 kinds.MovkX0 i j k m of call_left)
-          adrp ldr add (instruction_at l.final o) (instruction_at l.final (o + 4)) object
-          (applied_so names.R_AARCH64_TLSLE_MOVW_TPREL_G1 high_after (with_entry applied.entry w) w (instruction_at l.rewritten o) (instruction_at l.final o) refl applied.first_is)
-          (applied_so names.R_AARCH64_TLSLE_MOVW_TPREL_G0_NC low_after (following 4 (with_entry applied.entry w)) (following 4 w) (instruction_at l.rewritten (o + 4)) (instruction_at l.final (o + 4)) refl applied.second_is),
+          (record {
+            relocated = instruction_at l.final o;
+            applied = applied_so names.R_AARCH64_TLSLE_MOVW_TPREL_G1 high_after (with_entry applied.entry w) w (instruction_at l.rewritten o) (instruction_at l.final o) refl applied.first_is;
+            stands = first;
+          })
+          (record {
+            relocated = instruction_at l.final (o + 4);
+            applied = applied_so names.R_AARCH64_TLSLE_MOVW_TPREL_G0_NC low_after (following 4 (with_entry applied.entry w)) (following 4 w) (instruction_at l.rewritten (o + 4)) (instruction_at l.final (o + 4)) refl applied.second_is;
+            stands = second;
+          }),
     )
 
 -- ---- for initial-exec
@@ -224,7 +236,7 @@ ldr_code section o chosen kind (inl this) =
     absurd (let e : kinds.LdrX0 ≡ kinds.MovkX0 = same_kind chosen.kind kinds.LdrX0 kinds.MovkX0 kind this.kind_is in cc)
 ldr_code section o chosen kind (inr (inr nothing)) = absurd nothing
 
-to_initial_anywhere : Laws → EachDescriptorAnywhere kinds.AdrpX0 kinds.LdrX0 names.R_AARCH64_TLSIE_ADR_GOTTPREL_PAGE21
+to_initial_anywhere : Groups → EachDescriptorAnywhere kinds.AdrpX0 kinds.LdrX0 names.R_AARCH64_TLSIE_ADR_GOTTPREL_PAGE21
     names.R_AARCH64_TLSIE_LD64_GOTTPREL_LO12_NC LoadedOffsetIsAlikeAnywhere
 to_initial_anywhere laws l rewriting aarch64 i j k m of =
     let o = (relocation_in l.relocations i).offset in
@@ -238,19 +250,24 @@ to_initial_anywhere laws l rewriting aarch64 i j k m of =
           (entry kinds.LdrX0 names.R_AARCH64_TLSIE_LD64_GOTTPREL_LO12_NC (to_initial_exec 4)) of.load_kind second_code (λ o. refl) (λ a. refl),
       add_named l rewriting aarch64 kinds.AdrpX0 kinds.LdrX0 i j k m of,
       call_named l rewriting aarch64 kinds.AdrpX0 kinds.LdrX0 i j k m of,
-      λ add_left call_left w applied short call c s adrp ldr add holds descriptor object.
-          laws.descriptor_to_initial_exec call c w s
-          (instruction_at l.section o) (instruction_at l.section (o + 4)) (instruction_at l.section (o + 8)) (instruction_at l.section (o + 12)) descriptor
-          applied.entry short holds
-          (instruction_at l.rewritten o) (instruction_at l.rewritten (o + 4)) (instruction_at l.final (o + 8)) (instruction_at l.final (o + 12))
+      λ add_left call_left w applied short offset c k2 k' s s' holds descriptor first second third fourth.
+          laws.descriptor_to_initial_exec c w offset applied.entry k2 k' s s'
+          (instruction_at l.section o) (instruction_at l.section (o + 4)) (instruction_at l.section (o + 8)) (instruction_at l.section (o + 12))
+          (instruction_at l.rewritten o) (instruction_at l.rewritten (o + 4)) (instruction_at l.final (o + 8)) (instruction_at l.final (o + 12)) descriptor
+          (record {
+            first_made = add_nop l rewriting aarch64 kinds.AdrpX0 kinds.LdrX0 i j k m of add_left;
+            second_made = call_nop l rewriting aarch64 kinds.AdrpX0 kinds.LdrX0 i j k m of call_left;
+            first = third;
+            second = fourth;
+          })
+          short holds
           (becomes l rewriting i of.page_chosen of.first.first_below of.page_decided kinds.AdrpX0 (λ _. true) (λ _. 0x90000000) refl of.page_kind)
           (second_made l rewriting aarch64 kinds.AdrpX0 kinds.LdrX0 i j k m of kinds.LdrX0 0xf9400000 refl of.load_kind)
-          (add_nop l rewriting aarch64 kinds.AdrpX0 kinds.LdrX0 i j k m of add_left)
-          (call_nop l rewriting aarch64 kinds.AdrpX0 kinds.LdrX0 i j k m of call_left)
-          adrp ldr add (instruction_at l.final o) (instruction_at l.final (o + 4)) object applied.first_is applied.second_is,
+          (record { relocated = instruction_at l.final o; applied = applied.first_is; stands = first })
+          (record { relocated = instruction_at l.final (o + 4); applied = applied.second_is; stands = second }),
     )
 
-pub descriptors_anywhere : Laws → DescriptorsAnywhere
+pub descriptors_anywhere : Groups → DescriptorsAnywhere
 descriptors_anywhere laws = (to_local_anywhere laws, to_initial_anywhere laws)
 
 -- ---- in the final bytes
@@ -269,7 +286,7 @@ module _ (l : Linked) (linked : IsLinked l) (aarch64 : l.context.architecture �
       left_alone l linked aarch64 m of.third.second_below (call_named l (are_rewritten l linked) aarch64 high low i j k m of)
       (relocation_in l.relocations m).offset left (call_gone l (are_rewritten l linked) aarch64 high low i j k m of).inside alone
 
-to_local : Laws → EachDescriptor kinds.MovzX0Lsl16 kinds.MovkX0 OffsetIsTheSame
+to_local : Groups → EachDescriptor kinds.MovzX0Lsl16 kinds.MovkX0 OffsetIsTheSame
 to_local laws l linked aarch64 i j k m of left after_left add_alone call_alone symbol is_symbol got =
     let r2 = relocation_in l.relocations j in
     let w = operands_with AArch64 l.addresses high_after.row symbol (relocation_in l.relocations i) got in
@@ -289,8 +306,8 @@ to_local laws l linked aarch64 i j k m of left after_left add_alone call_alone s
           (ap (λ x. value_of low_after.row (operands_with AArch64 l.addresses low_after.row symbol (rela r2.offset low_code r2.symbol x) 0)) (sym of.first.same_addend)));
     })
 
-to_initial : Laws → EachDescriptor kinds.AdrpX0 kinds.LdrX0 LoadsOffset
-to_initial laws l linked aarch64 i j k m of left after_left add_alone call_alone symbol is_symbol small got =
+to_initial : Groups → EachDescriptor kinds.AdrpX0 kinds.LdrX0 LoadsOffset
+to_initial laws l linked aarch64 i j k m of left after_left add_alone call_alone symbol is_symbol small got offset =
     let r = relocation_in l.relocations i in
     let r2 = relocation_in l.relocations j in
     let w = operands_with AArch64 l.addresses high_after.row symbol r got in
@@ -317,7 +334,7 @@ to_initial laws l linked aarch64 i j k m of left after_left add_alone call_alone
           (ap (λ b. operands_by AArch64 l.addresses entry_low.row (rela r2.offset low_code r2.symbol r2.addend) symbol (cond b (Some e) None)) (subst (λ x. is_there l.addresses symbol (record { class = ThreadOffset; addend = x }) ≡ true) (sym of.first.same_addend) there))
           (following 4 (with_entry e w))
           (ap (λ x. value_of entry_low.row (operands_with AArch64 l.addresses entry_low.row symbol (rela r2.offset low_code r2.symbol x) e)) (sym of.first.same_addend)));
-    }) small
+    }) small offset
 
-pub descriptors : Laws → Descriptors
+pub descriptors : Groups → Descriptors
 descriptors laws = (to_local laws, to_initial laws)

@@ -1,5 +1,5 @@
--- Rewritten loads from the GOT of AArch64 do what the object's do, and in the final bytes.
-use Rattle.std.proofs.Common.{◌≡◌, ℕ, ℤ, ◌+◌, ◌-◌, drop, false, cond, refl, sym, ap, subst, ◌∙◌, arith}
+-- Rewritten loads from the GOT of AArch64 are groups, and in the final bytes.
+use Rattle.std.proofs.Common.{◌≡◌, ℕ, ℤ, ◌+◌, ◌-◌, ◌≤◌, length, drop, false, cond, refl, sym, ap, subst, ◌∙◌, arith}
 use Rattle.std.proofs.lemmas.Bool.{cond-false}
 use Rattle.std.specs.Prelude.{slice_get}
 use Rattle.linker_utils.specs.AArch64Rewrites.{is_ldr64, to_address, IsLdr64, AreOfOneRegister}
@@ -20,7 +20,8 @@ use Rattle.linker_final.proofs.AArch64Chosen.{IsOfEntry, of_entry}
 use Rattle.linker_final.specs.AArch64Anywhere.{AreAppliedAt, GotLoadsAnywhere, IsAppliedAt, IsNamedAs}
 use Rattle.linker_final.specs.AArch64Final.{AreOfLoad, GotLoads, LoadIsAlike}
 use Rattle.linker_final.specs.Final.{AreRewritten, Linked, IsRewrittenByNoOther, instruction_at}
-use Rattle.linker_laws.specs.AArch64RewriteLaws.{IsPair, IsRelocated, IsRewritten, Laws, following, with_entry, word_of}
+use Rattle.linker_laws.specs.AArch64RewriteLaws.{IsRelocated, IsRewritten, following, with_entry, word_of}
+use Rattle.linker_laws.specs.AArch64Groups.{Groups}
 use Rattle.linker_section.specs.Relocations.{relocation_in}
 use Rattle.linker_section.specs.Values.{operands_with}
 use Rattle.linker_section.specs.declared.facts.Addresses.{Addresses}
@@ -102,7 +103,7 @@ module _ (addresses : Addresses) (symbol : Symbol) (is_there : symbol.is_undefin
 
 -- ---- a pair
 
-module _ (laws : Laws) (l : Linked) (rewriting : AreRewritten l) (aarch64 : l.context.architecture ≡ AArch64)
+module _ (laws : Groups) (l : Linked) (rewriting : AreRewritten l) (aarch64 : l.context.architecture ≡ AArch64)
     (i j : ℕ) (of : AreOfLoad l i j) (alone : IsRewrittenByNoOther l i (relocation_in l.relocations i).offset) where
   abbrev first : Rela
   first = relocation_in l.relocations i
@@ -130,44 +131,52 @@ module _ (laws : Laws) (l : Linked) (rewriting : AreRewritten l) (aarch64 : l.co
       named_after l rewriting j of.low_chosen of.together.second_below of.low_decided
       (entry kinds.LdrToAdd names.R_AARCH64_ADD_ABS_LO12_NC (to_address 4)) low_entry.kind_is low_entry.code_is (λ o. refl) (λ a. refl)
 
+  inside : second.offset + 4 ≤ length l.section
+  inside = low_entry.meant.pattern.1.1.0
+
+  -- the instructions of the pair
+  pub is_ldr : IsLdr64 (word_of (instruction_at l.section (first.offset + 4)))
+  is_ldr =
+      subst IsLdr64 (word_same l.section (first.offset + 4))
+      (subst (λ n. IsLdr64 (word_of (drop n l.section))) of.together.next (low_entry.meant.pattern.1.1.1.0))
+
+  pub one_register : AreOfOneRegister (word_of (instruction_at l.section first.offset))
+      (word_of (instruction_at l.section (first.offset + 4)))
+  one_register =
+      let o = first.offset in
+      let next = of.together.next in
+      let back : second.offset - 4 ≡ o = omega (arith, next) in
+      let one : AreOfOneRegister (word_of (drop o l.section)) (word_of (drop (o + 4) l.section)) =
+      subst (λ n. AreOfOneRegister (word_of (drop n l.section)) (word_of (drop (o + 4) l.section))) back
+      (subst (λ n. AreOfOneRegister (word_of (drop (second.offset - 4) l.section)) (word_of (drop n l.section))) next (low_entry.meant.pattern.1.1.1.1)) in
+      subst (λ x. AreOfOneRegister x (word_of (instruction_at l.section (o + 4)))) (word_same l.section o)
+      (subst (λ x. AreOfOneRegister (word_of (drop o l.section)) x) (word_same l.section (o + 4)) one)
+
+  pub stayed : instruction_at l.rewritten first.offset ≡ instruction_at l.section first.offset
+  stayed =
+      let within = inside in
+      let next = of.together.next in
+      stays l rewriting i of.page_chosen of.together.first_below of.page_decided (ap relaxation_rewrite page_entry.kind_is) alone (omega (arith, within, next))
+
   wherever : (w : Operands)
       → AreAppliedAt names.R_AARCH64_ADR_PREL_PG_HI21 names.R_AARCH64_ADD_ABS_LO12_NC w l first.offset
       → LoadIsAlike l i w
-  wherever w applied s adrp ldr small holds at of_entry_page of_entry_low =
+  wherever w applied c k s small holds at of_entry_page of_entry_low here after =
       let o = first.offset in
-      let next = of.together.next in
-      let pattern = low_entry.meant.pattern in
-      let inside = pattern.1.1.0 in
-      let back : second.offset - 4 ≡ o = omega (arith, next) in
-      let is_ldr : IsLdr64 (word_of (drop (o + 4) l.section)) =
-      subst (λ n. IsLdr64 (word_of (drop n l.section))) next (pattern.1.1.1.0) in
-      let one : AreOfOneRegister (word_of (drop o l.section)) (word_of (drop (o + 4) l.section)) =
-      subst (λ n. AreOfOneRegister (word_of (drop n l.section)) (word_of (drop (o + 4) l.section))) back
-      (subst (λ n. AreOfOneRegister (word_of (drop (second.offset - 4) l.section)) (word_of (drop n l.section))) next (pattern.1.1.1.1)) in
-      let together : IsPair IsLdr64 w s (instruction_at l.section o) (instruction_at l.section (o + 4)) =
-      record {
-        small = small;
-        at = at;
-        one_register =
-            subst (λ x. AreOfOneRegister x (word_of (instruction_at l.section (o + 4)))) (word_same l.section o)
-            (subst (λ x. AreOfOneRegister (word_of (drop o l.section)) x) (word_same l.section (o + 4)) one);
-        second_is = subst IsLdr64 (word_same l.section (o + 4)) is_ldr;
-      } in
-      let stayed : instruction_at l.rewritten o ≡ instruction_at l.section o =
-      stays l rewriting i of.page_chosen of.together.first_below of.page_decided (ap relaxation_rewrite page_entry.kind_is) alone (omega (arith, inside, next)) in
       let page_written : IsRelocated names.R_AARCH64_ADR_PREL_PG_HI21 w (instruction_at l.section o) (instruction_at l.final o) =
       subst (λ xs. IsRelocated names.R_AARCH64_ADR_PREL_PG_HI21 w xs (instruction_at l.final o)) stayed
       (applied_so names.R_AARCH64_ADR_PREL_PG_HI21 page_after (with_entry applied.entry w) w (instruction_at l.rewritten o) (instruction_at l.final o) refl applied.first_is) in
       let low_written : IsRelocated names.R_AARCH64_ADD_ABS_LO12_NC (following 4 w) (instruction_at l.rewritten (o + 4)) (instruction_at l.final (o + 4)) =
       applied_so names.R_AARCH64_ADD_ABS_LO12_NC low_after (following 4 (with_entry applied.entry w)) (following 4 w) (instruction_at l.rewritten (o + 4)) (instruction_at l.final (o + 4)) refl applied.second_is in
       let added : IsRewritten kinds.LdrToAdd (instruction_at l.section (o + 4)) (instruction_at l.rewritten (o + 4)) =
-      subst (λ n. IsRewritten kinds.LdrToAdd (instruction_at l.section n) (instruction_at l.rewritten n)) next
+      subst (λ n. IsRewritten kinds.LdrToAdd (instruction_at l.section n) (instruction_at l.rewritten n)) of.together.next
       (becomes l rewriting j of.low_chosen of.together.second_below of.low_decided kinds.LdrToAdd is_ldr64 (λ word. 0x91000000 + field word 0 21) refl low_entry.kind_is) in
-      laws.got w s (instruction_at l.section o) (instruction_at l.section (o + 4)) (instruction_at l.rewritten (o + 4))
-      together holds added adrp ldr (instruction_at l.final o) (instruction_at l.final (o + 4))
-      of_entry_page of_entry_low page_written low_written
+      laws.loads c w k s (instruction_at l.section o) (instruction_at l.section (o + 4)) (instruction_at l.rewritten (o + 4))
+      (record { small = small; at = at; one_register = one_register; second_is = is_ldr }) holds added of_entry_page of_entry_low
+      (record { relocated = instruction_at l.final o; applied = page_written; stands = here })
+      (record { relocated = instruction_at l.final (o + 4); applied = low_written; stands = after })
 
-pub got_loads_anywhere : Laws → GotLoadsAnywhere
+pub got_loads_anywhere : Groups → GotLoadsAnywhere
 got_loads_anywhere laws l rewriting aarch64 i j of alone = (
   page_named laws l rewriting aarch64 i j of alone,
   low_named laws l rewriting aarch64 i j of alone,
@@ -176,7 +185,7 @@ got_loads_anywhere laws l rewriting aarch64 i j of alone = (
 
 -- ---- in the final bytes
 
-pub joined : Laws → GotLoads
+pub joined : Groups → GotLoads
 joined laws l linked aarch64 i j of left alone symbol is_symbol is_there got =
     let r = relocation_in l.relocations i in
     let q = relocation_in l.relocations j in

@@ -1,31 +1,25 @@
--- A load of an address of AArch64 that two calls rewrite does what the object's does.
-use Rattle.std.proofs.Common.{◌≡◌, ℕ, ◌+◌, List, [], ◌∷◌, take, drop, false, cond, refl, sym, ap, subst, ◌∙◌, arith, pos, int_lt, Option, Some, None, IsSomeAnd, Bool}
+-- A load of an address of AArch64 that two calls rewrite is a group.
+use Rattle.std.proofs.Common.{◌≡◌, ℕ, ◌+◌, drop, false, cond, refl, sym, ap, subst, ◌∙◌, arith}
 use Rattle.std.proofs.lemmas.Bool.{cond-false}
-use Rattle.std.proofs.lemmas.List.{take-take}
 use Rattle.std.specs.Prelude.{slice_get}
-use Rattle.std.specs.Int.{w32, from_le_bytes}
-use Rattle.linker_base.specs.Form.{Written}
-use Rattle.linker_elf.specs.AArch64.{aarch64_form}
 use Rattle.linker_elf.specs.AArch64Relocations.{aarch64_name}
-use Rattle.linker_elf.specs.Applied.{IsApplied}
 use Rattle.linker_elf.specs.ElfNames.{code_of}
-use Rattle.linker_elf.specs.Relocate.{bits_taken}
 use Rattle.linker_elf.specs.Value.{sum_64, value_of}
-use Rattle.linker_elf.specs.declared.aarch64.forms.AArch64Instruction.TheVariants.{Adr}
 use Rattle.linker_elf.specs.declared.aarch64.relocations.AArch64Relocation.TheVariants as names
 use Rattle.linker_elf.specs.declared.elf.value.Operands.{Operands}
-use Rattle.linker_final.proofs.AArch64Addresses.{addresses_anywhere, adr_after, by}
+use Rattle.linker_final.proofs.AArch64Addresses.{addresses_anywhere, adr_after, by, made_two}
 use Rattle.linker_final.proofs.AArch64Chosen.{named_there}
-use Rattle.linker_final.proofs.AArch64Loads.{got_loads_anywhere, got_row, low_after, page_after}
-use Rattle.linker_final.proofs.AArch64Written.{applied_so, applied_there, left_alone}
+use Rattle.linker_final.proofs.AArch64Loads.{got_loads_anywhere, got_row, is_ldr, one_register, stayed}
+use Rattle.linker_final.proofs.AArch64Written.{applied_there, left_alone}
 use Rattle.linker_final.proofs.Twice.{bytes_between, relocation_between}
-use Rattle.linker_final.proofs.Written.{rela, second_same}
+use Rattle.linker_final.proofs.Written.{first_same, rela, second_same}
 use Rattle.linker_final.specs.AArch64Anywhere.{IsAppliedAt, UntouchedAt}
 use Rattle.linker_final.specs.AArch64Final.{AreOfAddress}
-use Rattle.linker_final.specs.AArch64Twice.{FinalLoadsTwice, IsRewrittenTwice, LoadsTwice, RunsCompose}
+use Rattle.linker_utils.specs.declared.aarch64.rewrites.RelaxationKind.TheVariants as kinds
+use Rattle.linker_final.specs.AArch64Twice.{FinalLoadsTwice, IsRewrittenTwice, LoadsTwice}
 use Rattle.linker_final.specs.Final.{Linked, instruction_at, two_at}
-use Rattle.linker_laws.specs.AArch64Machine.{AreAlikeBut, State, RunAlike, run}
-use Rattle.linker_laws.specs.AArch64RewriteLaws.{IsRelocated, Laws, following, pair, with_entry, word_of}
+use Rattle.linker_laws.specs.AArch64Groups.{Groups}
+use Rattle.linker_laws.specs.AArch64RewriteLaws.{IsRelocated, IsRewritten, following, word_of}
 use Rattle.linker_section.specs.Relocations.{relocation_in}
 use Rattle.linker_section.specs.Values.{operands_with}
 use Rattle.linker_section.specs.declared.facts.Addresses.{Addresses}
@@ -33,69 +27,9 @@ use Rattle.linker_section.specs.declared.facts.Symbol.{Symbol}
 use Rattle.linker_section.specs.declared.relocations.Rela.{Rela}
 use Rattle.linker_elf.specs.declared.elf.architecture.Architecture.TheVariants.{AArch64}
 
--- ---- three runs
-
-alike_through : (differing : ℕ → Bool) (t u v : State) → AreAlikeBut differing t u
-    → AreAlikeBut differing u v → AreAlikeBut differing t v
-alike_through differing t u v p q =
-    record {
-      registers = λ n is. p.registers n is ∙ q.registers n is;
-      pc = p.pc ∙ q.pc;
-      memory = p.memory ∙ q.memory;
-      thread_pointer = p.thread_pointer ∙ q.thread_pointer;
-    }
-
-together : (differing : ℕ → Bool) (a b d : Option State)
-    → IsSomeAnd a (λ t. IsSomeAnd b (λ u. AreAlikeBut differing t u))
-    → IsSomeAnd b (λ u. IsSomeAnd d (λ v. AreAlikeBut differing u v))
-    → IsSomeAnd a (λ t. IsSomeAnd d (λ v. AreAlikeBut differing t v))
-together differing None b d p q = absurd p
-together differing (Some t) None d p q = absurd p
-together differing (Some t) (Some u) None p q = absurd q
-together differing (Some t) (Some u) (Some v) p q = alike_through differing t u v p q
-
-pub runs_compose : RunsCompose
-runs_compose differing old between new s first second =
-    together differing (run old s) (run between s) (run new s) first second
-
--- ---- the page, in a window of two instructions
-
--- with the word of an instruction
-abbrev with_word : ℕ → List ℕ → List ℕ
-with_word word more = word ∷ 0 ∷ 0 ∷ 0 ∷ more
-
-same_word : (word : ℕ) (more : List ℕ) → from_le_bytes w32 (with_word word more) ≡ word
-same_word word more = omega arith
-
-wider : (o : Operands) (both after : List ℕ) → IsApplied page_after.row o (take 4 both) after
-    → IsApplied page_after.row o both (with_word (word_of after) (drop 4 both))
-wider o [] after is = let long = is.accepted.long in absurd (omega (arith, long))
-wider o (p ∷ []) after is = let long = is.accepted.long in absurd (omega (arith, long))
-wider o (p ∷ q ∷ []) after is = let long = is.accepted.long in absurd (omega (arith, long))
-wider o (p ∷ q ∷ r ∷ []) after is = let long = is.accepted.long in absurd (omega (arith, long))
-wider o (p ∷ q ∷ r ∷ s ∷ more) after is =
-    record {
-      value = is.value;
-      value_is = is.value_is;
-      accepted = record {
-        supported = is.accepted.supported;
-        long = omega arith;
-        aligned = is.accepted.aligned;
-        reached = is.accepted.reached;
-      };
-      written = record {
-        clear = is.written.clear;
-        clears = is.written.clears;
-        written =
-            subst (λ n. Written (aarch64_form Adr) (bits_taken (record { start = 12; end = 33 }) is.value) (int_lt is.value (pos 0)) is.written.clear n)
-            (sym (same_word (word_of after) more)) is.written.written;
-        rest = refl;
-      };
-    }
-
 -- ---- what the second call is passed
 
-module _ (laws : Laws) (l m : Linked) (i j : ℕ) (twice : IsRewrittenTwice l m i j) where
+module _ (laws : Groups) (l m : Linked) (i j : ℕ) (twice : IsRewrittenTwice l m i j) where
   page_again : relocation_in m.relocations i
       ≡ record (relocation_in l.relocations i) { code = code_of (aarch64_name names.R_AARCH64_ADR_PREL_PG_HI21) }
   page_again =
@@ -130,40 +64,29 @@ module _ (laws : Laws) (l m : Linked) (i j : ℕ) (twice : IsRewrittenTwice l m 
 
 -- ---- the theorem
 
-pub loads_twice : Laws → LoadsTwice
-loads_twice laws l m i j twice w applied left adr s adrp ldr small holds at of_page of_low =
-    let page_name = names.R_AARCH64_ADR_PREL_PG_HI21 in
-    let low_name = names.R_AARCH64_ADD_ABS_LO12_NC in
+pub loads_twice : Groups → LoadsTwice
+loads_twice laws l m i j twice w left adr c k s small holds at of_page of_low here after =
     let o = (relocation_in l.relocations i).offset in
-    let first = got_loads_anywhere laws l twice.calls.first twice.calls.first_architecture i j twice.load twice.alone in
-    let there = place_again laws l m i j twice in
-    let of = address_again laws l m i j twice in
-    let second = addresses_anywhere laws m twice.calls.second twice.calls.second_architecture i j of in
-    let both = two_at l.rewritten o in
-    let same : two_at m.section o ≡ two_at l.rewritten o =
-    bytes_between AArch64 l m twice.calls i twice.load.together.first_below o 8 twice.page_left in
-    let between = instruction_at l.final o in
-    let of_first : IsRelocated page_name w (take 4 both) between =
-    subst (λ xs. IsRelocated page_name w xs between) (sym (take-take 4 8 (drop o l.rewritten) (omega arith)))
-    (applied_so page_name page_after (with_entry applied.entry w) w (instruction_at l.rewritten o) between refl applied.first_is) in
-    let adrp_there : IsRelocated page_name w (two_at m.section o) (with_word (word_of between) (drop 4 both)) =
-    subst (λ xs. IsRelocated page_name w xs (with_word (word_of between) (drop 4 both))) (sym same)
-    (wider w both between of_first) in
-    let add_there : IsRelocated low_name (following 4 w) (instruction_at m.section (o + 4)) (instruction_at l.final (o + 4)) =
-    subst (λ xs. IsRelocated low_name (following 4 w) xs (instruction_at l.final (o + 4))) (sym (sym (second_same m.section o) ∙ (ap (drop 4) same ∙ second_same l.rewritten o)))
-    (applied_so low_name low_after (following 4 (with_entry applied.entry w)) (following 4 w) (instruction_at l.rewritten (o + 4)) (instruction_at l.final (o + 4)) refl applied.second_is) in
-    let ends : RunAlike (pair (with_word (word_of between) (drop 4 both)) (instruction_at l.final (o + 4)))
-    (pair (instruction_at m.final o) (instruction_at m.final (o + 4))) s =
-    subst (λ n. UntouchedAt m n → IsAppliedAt names.R_AARCH64_ADR_PREL_LO21 (following 4 w) m (n + 4)
-    → IsRelocated page_name w (two_at m.section n) (with_word (word_of between) (drop 4 both))
-    → IsRelocated low_name (following 4 w) (instruction_at m.section (n + 4)) (instruction_at l.final (o + 4))
-    → RunAlike (pair (with_word (word_of between) (drop 4 both)) (instruction_at l.final (o + 4))) (pair (instruction_at m.final n) (instruction_at m.final (n + 4))) s) there
-    (λ left adr of_adrp of_add. second.2 w left adr s (with_word (word_of between) (drop 4 both)) (instruction_at l.final (o + 4)) small at of_adrp of_add)
-    left adr adrp_there add_there in
-    runs_compose (λ _. false) (pair adrp ldr) (pair between (instruction_at l.final (o + 4))) (pair (instruction_at m.final o) (instruction_at m.final (o + 4))) s
-    (first.2 w applied s adrp ldr small holds at of_page of_low)
-    (subst (λ x. RunAlike (x ∷ word_of (instruction_at l.final (o + 4)) ∷ []) (pair (instruction_at m.final o) (instruction_at m.final (o + 4))) s)
-    (same_word (word_of between) (drop 4 both)) ends)
+    let rewriting = twice.calls.first in
+    let architecture = twice.calls.first_architecture in
+    let made : IsRewritten kinds.AdrpAddToNopAdr (two_at m.section o) (two_at m.rewritten o) =
+    subst (λ n. IsRewritten kinds.AdrpAddToNopAdr (two_at m.section n) (two_at m.rewritten n)) (place_again laws l m i j twice)
+    (made_two laws m twice.calls.second twice.calls.second_architecture i j (address_again laws l m i j twice)) in
+    let same : word_of (two_at m.section o) ≡ word_of (instruction_at l.section o) =
+    ap word_of (bytes_between AArch64 l m twice.calls i twice.load.together.first_below o 8 twice.page_left)
+    ∙ (first_same l.rewritten o ∙ ap word_of (stayed laws l rewriting architecture i j twice.load twice.alone)) in
+    let word : word_of (two_at m.rewritten o) ≡ word_of (instruction_at m.final o) =
+    first_same m.rewritten o ∙ ap word_of (sym left) in
+    let written : IsRelocated names.R_AARCH64_ADR_PREL_LO21 (following 4 w) (drop 4 (two_at m.rewritten o)) (instruction_at m.final (o + 4)) =
+    subst (λ xs. IsRelocated names.R_AARCH64_ADR_PREL_LO21 (following 4 w) xs (instruction_at m.final (o + 4))) (sym (second_same m.rewritten o)) adr in
+    laws.load_to_nop_and_adr c w k s (instruction_at l.section o) (instruction_at l.section (o + 4)) (two_at m.section o) (two_at m.rewritten o)
+    (record {
+      small = small;
+      at = at;
+      one_register = one_register laws l rewriting architecture i j twice.load twice.alone;
+      second_is = is_ldr laws l rewriting architecture i j twice.load twice.alone;
+    }) holds same made of_page of_low (here ∙ sym word)
+    (record { relocated = instruction_at m.final (o + 4); applied = written; stands = after })
 
 -- ---- in the final bytes
 
@@ -187,8 +110,8 @@ module _ (addresses : Addresses) (symbol : Symbol) (is_there : symbol.is_undefin
       ap (λ x. value_of adr_after.row (record was { symbol = x; place = sum_64 (sum_64 addresses.section r.offset) 4 })) (strong _ ∙ sym (strong _))
       ∙ ap (λ x. value_of adr_after.row (record is { place = x })) place_same
 
-pub final_loads_twice : Laws → FinalLoadsTwice
-final_loads_twice laws l m i j twice linked left alone symbol is_symbol is_there got applied =
+pub final_loads_twice : Groups → FinalLoadsTwice
+final_loads_twice laws l m i j twice linked left alone symbol is_symbol is_there got =
     let r = relocation_in l.relocations i in
     let o = r.offset in
     let w = operands_with AArch64 m.addresses got_row symbol r got in
@@ -206,7 +129,7 @@ final_loads_twice laws l m i j twice linked left alone symbol is_symbol is_there
     let low_place : (relocation_in m.relocations j).offset ≡ o + 4 = ap (λ (q : Rela). q.offset) low ∙ twice.load.together.next in
     let low_symbol : (relocation_in m.relocations j).symbol ≡ r.symbol = ap (λ (q : Rela). q.symbol) low ∙ twice.load.together.same_symbol in
     let low_addend : (relocation_in m.relocations j).addend ≡ r.addend = ap (λ (q : Rela). q.addend) low ∙ twice.load.together.same_addend in
-    loads_twice laws l m i j twice w applied
+    loads_twice laws l m i j twice w
     (subst (UntouchedAt m) there
     (left_alone m linked architecture i of.together.first_below (any.0) (relocation_in m.relocations i).offset (left.0) (omega (arith, inside, next)) alone))
     (subst (IsAppliedAt names.R_AARCH64_ADR_PREL_LO21 (following 4 w) m) low_place

@@ -1,7 +1,7 @@
 -- AArch64: rewritten instructions do what the object's do once the relocations that a call of
 -- rewriting left are applied to them, whatever applies them. So another phase may come between. The
 -- bytes after are `l.final`, of which nothing is known but what a premise says.
-use Rattle.std.specs.Prelude.{◌≡◌, ℕ, ◌+◌, ◌<◌, ◌^◌, ◌==◌, Bool, false, ⊤}
+use Rattle.std.specs.Prelude.{◌≡◌, ℕ, ◌+◌, ◌<◌, ◌^◌, ⊤}
 use Rattle.linker_utils.specs.declared.aarch64.rewrites.RelaxationKind.TheVariants.{AdrpX0, LdrX0, MovkX0}
 use Rattle.linker_utils.specs.declared.aarch64.rewrites.RelaxationKind.TheVariants.{MovzX0Lsl16}
 use Rattle.linker_utils.specs.declared.aarch64.rewrites.RelaxationKind.{RelaxationKind}
@@ -16,7 +16,10 @@ use Rattle.linker_final.specs.AArch64Final.{AreOfLoad, BranchIsAlike, HighIsAlik
 use Rattle.linker_final.specs.AArch64Final.{LoadIsAlike, LowIsAlike, OffsetIsAlike}
 use Rattle.linker_final.specs.Final.{AreRewritten, IsRewrittenByNoOther, Linked, count}
 use Rattle.linker_final.specs.Final.{instruction_at}
-use Rattle.linker_laws.specs.AArch64RewriteLaws.{IsRelocated, following, with_entry}
+use Rattle.linker_laws.specs.AArch64Groups.{go_and_link}
+use Rattle.linker_laws.specs.AArch64RewriteLaws.{IsRelocated, following, thread_offset, with_entry}
+use Rattle.linker_laws.specs.Changes.{go_to, with_register}
+use Rattle.linker_laws.specs.Simulation.{Kinds, State, anything}
 use Rattle.linker_rewriting.specs.Decisions.{decision_at}
 use Rattle.linker_rewriting.specs.declared.decisions.Decision.TheVariants.{Rewritten}
 use Rattle.linker_section.specs.Relocations.{relocation_in}
@@ -98,23 +101,22 @@ LowHalvesAnywhere =
     EachBecomes names.R_AARCH64_TLSIE_LD64_GOTTPREL_LO12_NC names.R_AARCH64_TLSLE_MOVW_TPREL_G0_NC
     LowIsAlike
 
--- Each branch with a relocation of a name that is rewritten goes. Registers may differ that are
--- named.
-abbrev pub EachBranchGoes : AArch64Relocation → (ℕ → Bool) → Type 0
-EachBranchGoes name differing =
+-- Each branch with a relocation of a name that is rewritten goes.
+abbrev pub EachBranchGoes : AArch64Relocation → (Kinds → Kinds) → (ℕ → State → State) → Type 0
+EachBranchGoes name known left_state =
     (l : Linked) → AreRewritten l → l.context.architecture ≡ AArch64
     → (i : ℕ) (chosen : Choice Relaxation ℕ) → i < count l
     → IsNameOf aarch64_name (relocation_in l.relocations i).code name
     → decision_at l.decisions i ≡ Rewritten chosen
     → IsNamedAs names.R_AARCH64_NONE l i
     × (UntouchedAt l (relocation_in l.relocations i).offset → (operands : Operands)
-    → BranchIsAlike name differing l i operands)
+    → BranchIsAlike name known left_state l i operands)
 
 -- of every branch to an undefined weak symbol
 abbrev pub BranchesAnywhere : Type 0
 BranchesAnywhere =
-    EachBranchGoes names.R_AARCH64_JUMP26 (λ _. false)
-    × EachBranchGoes names.R_AARCH64_CALL26 (λ n. n == 30)
+    EachBranchGoes names.R_AARCH64_JUMP26 (λ k. k) go_to
+    × EachBranchGoes names.R_AARCH64_CALL26 (with_register 30 anything) go_and_link
 
 -- of every sequence of a TLS descriptor that is rewritten by two kinds
 abbrev pub EachDescriptorAnywhere : RelaxationKind → RelaxationKind → AArch64Relocation
@@ -133,14 +135,15 @@ OffsetIsAlikeAnywhere l i =
     (operands : Operands)
     → AreAppliedAt names.R_AARCH64_TLSLE_MOVW_TPREL_G1 names.R_AARCH64_TLSLE_MOVW_TPREL_G0_NC
     operands l (relocation_in l.relocations i).offset
-    → OffsetIsAlike l i operands (λ s. ⊤)
+    → OffsetIsAlike l i operands (thread_offset operands) (λ c k s. ⊤)
 
 abbrev pub LoadedOffsetIsAlikeAnywhere : Linked → ℕ → Type 0
 LoadedOffsetIsAlikeAnywhere l i =
     (operands : Operands)
     → (applied : AreAppliedAt names.R_AARCH64_TLSIE_ADR_GOTTPREL_PAGE21
     names.R_AARCH64_TLSIE_LD64_GOTTPREL_LO12_NC operands l (relocation_in l.relocations i).offset)
-    → applied.entry < 2 ^ 64 → OffsetIsAlike l i operands (HoldsOffset applied.entry operands)
+    → applied.entry < 2 ^ 64 → (offset : ℕ)
+    → OffsetIsAlike l i operands offset (HoldsOffset applied.entry offset)
 
 abbrev pub DescriptorsAnywhere : Type 0
 DescriptorsAnywhere =

@@ -1,8 +1,6 @@
--- AArch64: in the final bytes of a section rewritten instructions do what the object's do with the
--- values of their relocations (ELF for the Arm 64-bit Architecture, "Relocation optimization", and
--- the sequences of thread-local storage).
-use Rattle.std.specs.Prelude.{◌≡◌, ◌≢◌, ℕ, ◌+◌, ◌<◌, ◌==◌, List, [], ◌∷◌, Some, IsSomeAnd}
-use Rattle.std.specs.Prelude.{slice_get, Option, Bool, false, ◌^◌, ⊤}
+-- AArch64: rewritten instructions are groups of the simulation. Old has the object's, with the values
+-- of their relocations, and new the final bytes of a section.
+use Rattle.std.specs.Prelude.{◌≡◌, ◌≢◌, ℕ, ◌+◌, ◌<◌, Some, IsSomeAnd, slice_get, false, ◌^◌, ⊤}
 use Rattle.linker_utils.specs.AArch64Rewrites.{rd_of}
 use Rattle.linker_utils.specs.declared.aarch64.rewrites.RelaxationKind.TheVariants.{AdrpX0, LdrX0, MovkX0}
 use Rattle.linker_utils.specs.declared.aarch64.rewrites.RelaxationKind.TheVariants.{MovzX0Lsl16}
@@ -17,12 +15,13 @@ use Rattle.linker_elf.specs.declared.elf.value.Operands.{Operands}
 use Rattle.linker_final.specs.Final.{Linked, IsLinked, count, instruction_at, two_at}
 use Rattle.linker_final.specs.Final.{UntouchedInstructions, UntouchedInstruction, IsRewrittenByNoOther}
 use Rattle.linker_final.specs.Final.{IsWrittenByNoOther}
-use Rattle.linker_laws.specs.AArch64Machine.{State, load_64, RunAlike, RunAlikeBut, next_pc}
-use Rattle.linker_laws.specs.AArch64RewriteLaws.{Descriptor, DescriptorOf, RunAlikeAfterCall, four}
-use Rattle.linker_laws.specs.AArch64RewriteLaws.{scratch}
-use Rattle.linker_laws.specs.AArch64RewriteLaws.{IsRelocated, Changes, AgreeBut, HasHigh, StepSo}
-use Rattle.linker_laws.specs.AArch64RewriteLaws.{following, pair, thread_offset, with_register}
-use Rattle.linker_laws.specs.AArch64RewriteLaws.{without_register, word_of}
+use Rattle.linker_elf.specs.LoongArch.{page}
+use Rattle.linker_elf.specs.Value.{sum_64}
+use Rattle.linker_laws.specs.AArch64Groups.{Code, Descriptor, Has, Leaves, Stands, go_and_link, link}
+use Rattle.linker_laws.specs.AArch64Machine.{load_64}
+use Rattle.linker_laws.specs.AArch64RewriteLaws.{following, thread_offset, word_of}
+use Rattle.linker_laws.specs.Changes.{go_to, put, with_register}
+use Rattle.linker_laws.specs.Simulation.{Agree, Group, Kinds, State, anything, half, of_link}
 use Rattle.linker_laws.specs.Schemes.{AreAddresses, plt_address, symbol_address}
 use Rattle.linker_rewriting.specs.Decisions.{decision_at}
 use Rattle.linker_rewriting.specs.declared.decisions.Decision.TheVariants.{Rewritten, Consumed}
@@ -55,18 +54,19 @@ pub record AreOfLoad (l : Linked) (i j : ℕ) : Type 0 where
   pub low_chosen : Choice Relaxation ℕ
   pub low_decided : decision_at l.decisions j ≡ Rewritten low_chosen
 
--- From any state before the `adrp` of a relocation at an index, where the GOT's entry holds S + A,
--- the final bytes of the pair run and end as the object's with their relocations' values do.
+-- The pair of the `adrp` of a relocation at an index is a group, where the GOT's entry holds S + A.
 abbrev pub LoadIsAlike : Linked → ℕ → Operands → Type 0
 LoadIsAlike l i operands =
     let o = (relocation_in l.relocations i).offset in
-    (s : State) (adrp ldr : List ℕ) → AreAddresses operands
-    → load_64 s.memory operands.got_entry ≡ symbol_address operands
-    → s.pc ≡ operands.place
-    → IsRelocated names.R_AARCH64_ADR_GOT_PAGE operands (instruction_at l.section o) adrp
-    → IsRelocated names.R_AARCH64_LD64_GOT_LO12_NC (following 4 operands)
-    (instruction_at l.section (o + 4)) ldr
-    → RunAlike (pair adrp ldr) (pair (instruction_at l.final o) (instruction_at l.final (o + 4))) s
+    (c : Code) (k : Kinds) (s : State) → AreAddresses operands
+    → load_64 s.memory operands.got_entry ≡ symbol_address operands → s.pc ≡ operands.place
+    → Has c.old names.R_AARCH64_ADR_GOT_PAGE operands (instruction_at l.section o)
+    → Has c.old names.R_AARCH64_LD64_GOT_LO12_NC (following 4 operands)
+    (instruction_at l.section (o + 4))
+    → Stands c.new operands (instruction_at l.final o)
+    → Stands c.new (following 4 operands) (instruction_at l.final (o + 4))
+    → Leaves 2 c operands k s (rd_of (word_of (instruction_at l.section (o + 4))))
+    (symbol_address operands)
 
 -- The symbol isn't an undefined weak one, and the entry is at any address.
 abbrev pub LoadsTheSame : Linked → ℕ → RelocationKindInfo → Type 0
@@ -88,16 +88,18 @@ pub record AreOfAddress (l : Linked) (i j : ℕ) : Type 0 where
   pub low_chosen : Choice Relaxation ℕ
   pub low_decided : decision_at l.decisions j ≡ Rewritten low_chosen
 
--- From any state before the `adrp` the final bytes of the pair, `nop` and `adr`, run and end as the
--- object's with their relocations' values do.
+-- The pair, which becomes `nop` and `adr`, is a group.
 abbrev pub AddressIsAlike : Linked → ℕ → Operands → Type 0
 AddressIsAlike l i operands =
     let o = (relocation_in l.relocations i).offset in
-    (s : State) (adrp add : List ℕ) → AreAddresses operands → s.pc ≡ operands.place
-    → IsRelocated names.R_AARCH64_ADR_PREL_PG_HI21 operands (two_at l.section o) adrp
-    → IsRelocated names.R_AARCH64_ADD_ABS_LO12_NC (following 4 operands)
-    (instruction_at l.section (o + 4)) add
-    → RunAlike (pair adrp add) (pair (instruction_at l.final o) (instruction_at l.final (o + 4))) s
+    (c : Code) (k : Kinds) (s : State) → AreAddresses operands → s.pc ≡ operands.place
+    → Has c.old names.R_AARCH64_ADR_PREL_PG_HI21 operands (two_at l.section o)
+    → Has c.old names.R_AARCH64_ADD_ABS_LO12_NC (following 4 operands)
+    (instruction_at l.section (o + 4))
+    → Stands c.new operands (instruction_at l.final o)
+    → Stands c.new (following 4 operands) (instruction_at l.final (o + 4))
+    → Leaves 2 c operands k s (rd_of (word_of (instruction_at l.section (o + 4))))
+    (symbol_address operands)
 
 -- The symbol isn't an undefined weak one.
 abbrev pub MakesTheSame : Linked → ℕ → RelocationKindInfo → Type 0
@@ -109,34 +111,30 @@ MakesTheSame l i row =
 
 -- ---- the halves of initial-exec
 
--- Two states agree but for what high halves put in registers. The instruction of a relocation at an
--- index is executed: in one of them the object's with the value of its relocation, and in the other
--- the final bytes. Then they agree but for its register, which has the high part of the variable's
--- offset.
+-- The instruction of a relocation at an index is a group, after which its register has high half h.
 abbrev pub HighIsAlike : Linked → ℕ → Operands → Type 0
 HighIsAlike l i operands =
     let o = (relocation_in l.relocations i).offset in
     let n = rd_of (word_of (instruction_at l.section o)) in
-    (s t : State) (c : Changes) (adrp : List ℕ)
-    → AreAddresses operands → s.pc ≡ operands.place → AgreeBut c s t → n ≢ 31
-    → IsRelocated names.R_AARCH64_TLSIE_ADR_GOTTPREL_PAGE21 operands
-    (instruction_at l.section o) adrp
-    → StepSo (word_of adrp) s (word_of (instruction_at l.final o)) t
-    (λ u v. AgreeBut (with_register n c) u v × HasHigh n operands u v)
+    (c : Code) (h : ℕ) (k : Kinds) (s : State) → AreAddresses operands → s.pc ≡ operands.place
+    → c.entry h ≡ operands.got_entry → c.offset h ≡ thread_offset operands → n ≢ 31
+    → Has c.old names.R_AARCH64_TLSIE_ADR_GOTTPREL_PAGE21 operands (instruction_at l.section o)
+    → Stands c.new operands (instruction_at l.final o)
+    → Group (of_link (link c)) 1 k s (with_register n (half h) k)
+    (put n (page operands.got_entry) (sum_64 operands.place 4) s)
 
--- From states whose register has that, and where the GOT's entry holds the offset, the low half
--- leaves the offset in both.
+-- It is a group, where its register has that, and where the GOT's entry holds the offset.
 abbrev pub LowIsAlike : Linked → ℕ → Operands → Type 0
 LowIsAlike l i operands =
     let o = (relocation_in l.relocations i).offset in
     let n = rd_of (word_of (instruction_at l.section o)) in
-    (s t : State) (c : Changes) (ldr : List ℕ)
-    → AreAddresses operands → load_64 s.memory operands.got_entry ≡ thread_offset operands
-    → HasHigh n operands s t → AgreeBut c s t
-    → IsRelocated names.R_AARCH64_TLSIE_LD64_GOTTPREL_LO12_NC operands (instruction_at l.section o)
-    ldr
-    → StepSo (word_of ldr) s (word_of (instruction_at l.final o)) t
-    (AgreeBut (without_register n c))
+    (c : Code) (h : ℕ) (k : Kinds) (s : State) → AreAddresses operands → s.pc ≡ operands.place
+    → c.entry h ≡ operands.got_entry → c.offset h ≡ thread_offset operands
+    → load_64 s.memory operands.got_entry ≡ thread_offset operands
+    → k.registers n ≡ half h → s.registers n ≡ page operands.got_entry
+    → Has c.old names.R_AARCH64_TLSIE_LD64_GOTTPREL_LO12_NC operands (instruction_at l.section o)
+    → Stands c.new operands (instruction_at l.final o)
+    → Leaves 1 c operands k s n (thread_offset operands)
 
 -- ---- TLS descriptors
 
@@ -164,60 +162,64 @@ pub record AreOfDescriptor (l : Linked) (high low : RelaxationKind) (i j k m : �
   pub call_chosen : Choice Relaxation ℕ
   pub call_decided : decision_at l.decisions m ≡ Rewritten call_chosen
 
--- From any state before the sequence of which something holds, the object's instructions with their
--- relocations' values run to the call, and the final bytes end as the called function returns.
-abbrev pub OffsetIsAlike : Linked → ℕ → Operands → (State → Type 0) → Type 0
-OffsetIsAlike l i operands Holds =
+-- The sequence is a group, where something holds of new. The called function returns an offset.
+abbrev pub OffsetIsAlike : Linked → ℕ → Operands → ℕ → (Code → Kinds → State → Type 0) → Type 0
+OffsetIsAlike l i operands offset Holds =
     let o = (relocation_in l.relocations i).offset in
-    (call : State → Option State) (c : Changes) (s : State) (adrp ldr add : List ℕ) → Holds s
-    → Descriptor call c operands s (instruction_at l.section o) (instruction_at l.section (o + 4))
-    (instruction_at l.section (o + 8)) (instruction_at l.section (o + 12))
-    → DescriptorOf operands (instruction_at l.section o) (instruction_at l.section (o + 4))
-    (instruction_at l.section (o + 8)) adrp ldr add
-    → RunAlikeAfterCall call (scratch (rd_of (word_of (instruction_at l.section (o + 4)))) c)
-    (four adrp ldr add (instruction_at l.section (o + 12)))
-    (four (instruction_at l.final o) (instruction_at l.final (o + 4))
-    (instruction_at l.final (o + 8)) (instruction_at l.final (o + 12))) s
+    (c : Code) (k k' : Kinds) (s s' : State) → Holds c k s
+    → Descriptor c operands offset k s k' s' (instruction_at l.section o)
+    (instruction_at l.section (o + 4)) (instruction_at l.section (o + 8))
+    (instruction_at l.section (o + 12))
+    → Stands c.new operands (instruction_at l.final o)
+    → Stands c.new (following 4 operands) (instruction_at l.final (o + 4))
+    → Stands c.new (following 8 operands) (instruction_at l.final (o + 8))
+    → Stands c.new (following 12 operands) (instruction_at l.final (o + 12))
+    → Group (of_link (link c)) 4 k s k' s'
 
 -- of any descriptor's entry
 abbrev pub OffsetIsTheSame : Linked → ℕ → RelocationKindInfo → Type 0
 OffsetIsTheSame l i row =
     let r = relocation_in l.relocations i in
     (symbol : Symbol) → slice_get l.symbols r.symbol ≡ Some symbol → (entry : ℕ)
-    → OffsetIsAlike l i (operands_with AArch64 l.addresses row symbol r entry) (λ s. ⊤)
+    → let operands = operands_with AArch64 l.addresses row symbol r entry in
+    OffsetIsAlike l i operands (thread_offset operands) (λ c k s. ⊤)
 
--- The GOT's entry of the offset, at an address, holds it.
-abbrev pub HoldsOffset : ℕ → Operands → State → Type 0
-HoldsOffset entry operands s = load_64 s.memory entry ≡ thread_offset operands
+-- The GOT's entry of the offset, at an address, holds the number that the function returns, whatever
+-- state of new agrees.
+abbrev pub HoldsOffset : ℕ → ℕ → Code → Kinds → State → Type 0
+HoldsOffset entry offset c k s =
+    (t : State) → Agree (link c) k s t → load_64 t.memory entry ≡ offset
 
 abbrev pub LoadsOffset : Linked → ℕ → RelocationKindInfo → Type 0
 LoadsOffset l i row =
     let r = relocation_in l.relocations i in
     (symbol : Symbol) → slice_get l.symbols r.symbol ≡ Some symbol
-    → symbol.thread_entry < 2 ^ 64 → (entry : ℕ)
-    → let operands = operands_with AArch64 l.addresses row symbol r entry in
-    OffsetIsAlike l i operands (HoldsOffset symbol.thread_entry operands)
+    → symbol.thread_entry < 2 ^ 64 → (entry offset : ℕ)
+    → OffsetIsAlike l i (operands_with AArch64 l.addresses row symbol r entry) offset
+    (HoldsOffset symbol.thread_entry offset)
 
 -- ---- branches to undefined weak symbols
 
--- A branch that goes on after itself, by the value of its relocation, does so in the final bytes.
--- Registers may differ that are named.
-abbrev pub BranchIsAlike : AArch64Relocation → (ℕ → Bool) → Linked → ℕ → Operands → Type 0
-BranchIsAlike name differing l i operands =
+-- A branch that goes on after itself, by the value of its relocation, is a group. It leaves a state,
+-- by the next address, and what is known then.
+abbrev pub BranchIsAlike : AArch64Relocation → (Kinds → Kinds) → (ℕ → State → State) → Linked → ℕ
+    → Operands → Type 0
+BranchIsAlike name known left l i operands =
     let o = (relocation_in l.relocations i).offset in
-    (s : State) (branch : List ℕ)
-    → AreAddresses operands → s.pc ≡ operands.place → plt_address operands ≡ next_pc s
-    → IsRelocated name operands (instruction_at l.section o) branch
-    → RunAlikeBut differing (word_of branch ∷ []) (word_of (instruction_at l.final o) ∷ []) s
+    (c : Code) (k : Kinds) (s : State) → AreAddresses operands → s.pc ≡ operands.place
+    → plt_address operands ≡ sum_64 operands.place 4
+    → Has c.old name operands (instruction_at l.section o)
+    → Stands c.new operands (instruction_at l.final o)
+    → Group (of_link (link c)) 1 k s (known k) (left (sum_64 operands.place 4) s)
 
 -- where no other relocation has a field in it
-abbrev pub BranchDoesTheSame : AArch64Relocation → (ℕ → Bool) → Linked → ℕ
-    → RelocationKindInfo → Type 0
-BranchDoesTheSame name differing l i row =
+abbrev pub BranchDoesTheSame : AArch64Relocation → (Kinds → Kinds) → (ℕ → State → State) → Linked
+    → ℕ → RelocationKindInfo → Type 0
+BranchDoesTheSame name known left l i row =
     let r = relocation_in l.relocations i in
     IsWrittenByNoOther l i r.offset
     → (symbol : Symbol) → slice_get l.symbols r.symbol ≡ Some symbol
-    → BranchIsAlike name differing l i (operands_with AArch64 l.addresses row symbol r 0)
+    → BranchIsAlike name known left l i (operands_with AArch64 l.addresses row symbol r 0)
 
 -- ---- the laws
 
@@ -263,9 +265,9 @@ LowHalves =
 abbrev pub Branches : Type 0
 Branches =
     EachRewritten names.R_AARCH64_JUMP26 names.R_AARCH64_JUMP26
-    (BranchDoesTheSame names.R_AARCH64_JUMP26 (λ _. false))
+    (BranchDoesTheSame names.R_AARCH64_JUMP26 (λ k. k) go_to)
     × EachRewritten names.R_AARCH64_CALL26 names.R_AARCH64_CALL26
-    (BranchDoesTheSame names.R_AARCH64_CALL26 (λ n. n == 30))
+    (BranchDoesTheSame names.R_AARCH64_CALL26 (with_register 30 anything) go_and_link)
 
 -- of every address by two instructions that a linker makes by one, and later phases leave alone,
 -- where no other relocation has a field in the first

@@ -51,14 +51,15 @@ pub fn x86_64()
     linker_laws::rewrites::x86_64();
 }
 
-/// AArch64: rewritten instructions do in the final bytes what the object's do. They are each
-/// address by two instructions that became one, each load of an address from the GOT that became a
-/// sum of its page and the rest, each half of initial-exec that became a move, each sequence of a
-/// TLS descriptor that became one of local-exec or of initial-exec, and each branch to an undefined
-/// weak symbol that became `nop`. The clauses named `anywhere` are of a call of rewriting alone:
-/// what each relocation became, and that the rewritten instructions do what the object's do once it
-/// is applied to them, whatever applies it. So another phase may come between: a load that became a
-/// sum, and then an `adr`, does what the object's does, also in the final bytes.
+/// AArch64: rewritten instructions are groups of `linker_laws::simulation`, of any code that has the
+/// final bytes there, and of any old code that has the object's with the values of their
+/// relocations. They are each address by two instructions that became one, each load of an address
+/// from the GOT that became a sum of its page and the rest, each half of initial-exec that became a
+/// move, each sequence of a TLS descriptor that became one of local-exec or of initial-exec, and
+/// each branch to an undefined weak symbol that became `nop`. The clauses named `anywhere` are of a
+/// call of rewriting alone: what each relocation became, and that the rewritten instructions are a
+/// group once it is applied to them, whatever applies it. So another phase may come between: a load
+/// that became a sum, and then an `adr`, is a group, also in the final bytes.
 pub fn aarch64()
     ensures addresses { aarch64_final.Addresses }
     ensures got_loads { aarch64_final.GotLoads }
@@ -74,9 +75,8 @@ pub fn aarch64()
     ensures descriptors_anywhere { aarch64_anywhere.DescriptorsAnywhere }
     ensures loads_twice { aarch64_twice.LoadsTwice }
     ensures final_loads_twice { aarch64_twice.FinalLoadsTwice }
-    ensures runs_compose { aarch64_twice.RunsCompose }
 {
-    linker_laws::rewrites::aarch64();
+    linker_laws::simulation::aarch64();
 }
 
 /// RISC-V: rewritten instructions do in the final bytes what the object's do. They are each load of

@@ -1,40 +1,45 @@
 -- AArch64's groups.
-use Rattle.std.proofs.Common.{◌≡◌, ◌≢◌, ℕ, ◌^◌, ◌<◌, Bool, true, false, refl, sym, ◌∙◌, ap, ap₂, subst, arith}
-use Rattle.std.proofs.Common.{List, Some, eqb, cond, [], ◌∷◌, ◌/◌, eqb-true, true≢false}
+use Rattle.std.proofs.Common.{◌≡◌, ℕ, ◌^◌, ◌<◌, Bool, true, false, refl, sym, ◌∙◌, ap, ap₂, subst, arith}
+use Rattle.std.proofs.Common.{List, Some, eqb, cond, ◌/◌, eqb-true, true≢false}
 use Rattle.std.proofs.lemmas.Bool.{cond-false, eq-eqb, ne_eqb}
 use Rattle.std.specs.Prelude.{IsSomeAnd, ◌==◌, ◌&&◌}
 use Rattle.linker_elf.specs.LoongArch.{page}
 use Rattle.linker_elf.specs.Value.{sum_64}
-use Rattle.linker_laws.specs.AArch64Groups.{seen, executed, machine, link, HaveWords, Others}
+use Rattle.linker_elf.specs.declared.aarch64.relocations.AArch64Relocation.TheVariants as names
+use Rattle.linker_elf.specs.declared.elf.value.Operands.{Operands}
+use Rattle.linker_laws.specs.AArch64Groups.{Has, seen, executed, machine, link, Others}
 use Rattle.linker_laws.specs.AArch64Groups as groups
-use Rattle.linker_laws.specs.AArch64Machine.{branch_target, execute, moved, step}
+use Rattle.linker_laws.specs.AArch64Machine.{branch_target, execute, load_64, moved, step}
 use Rattle.linker_laws.specs.AArch64RelocationLaws as relocation_laws
-use Rattle.linker_laws.specs.AArch64RewriteLaws.{HasHigh, IsRewritten, word_of, thread_offset}
+use Rattle.linker_laws.specs.AArch64RewriteLaws.{HasHigh, IsPair, IsRewritten, following, word_of, thread_offset}
 use Rattle.linker_laws.specs.Changes.{go_to, put}
 use Rattle.linker_laws.specs.Machine.{loaded}
 use Rattle.linker_laws.specs.Schemes.{symbol_address}
-use Rattle.linker_laws.specs.Simulation.{State, Program, Agree, AreOf, anything, run, half, same}
+use Rattle.linker_laws.specs.Simulation.{State, Program, Agree, AreOf, anything, run, half}
 use Rattle.linker_laws.proofs.AArch64GotLoads.{got_loads, got_adds}
 use Rattle.linker_laws.proofs.AArch64Halves.{high_steps, low_steps}
 use Rattle.linker_laws.proofs.AArch64Pairs.{word_is}
 use Rattle.linker_laws.proofs.AArch64Steps.{branch_leads, set}
 use Rattle.linker_laws.proofs.AArch64Words.{branch_after, decodes_b, decodes_bl}
-use Rattle.linker_laws.proofs.Agreement.{agree_go, agree_put, agree_put_old}
+use Rattle.linker_laws.proofs.Agreement.{agree_go, agree_put, agree_put_old, unchanged, value_group}
 use Rattle.linker_laws.proofs.CoveredRuns.{run_first, holds_of}
-use Rattle.linker_utils.specs.AArch64Rewrites.{rd_of}
+use Rattle.linker_utils.specs.AArch64Rewrites.{IsLdr64, nop, rd_of}
 use Rattle.linker_utils.specs.declared.aarch64.rewrites.RelaxationKind.TheVariants.{ReplaceWithNop}
 
 -- ---- runs
 
+pub eight : (a : ℕ) → sum_64 (sum_64 a 4) 4 ≡ sum_64 a 8
+eight a = omega arith
+
 -- one instruction that writes a register
-sets : (others : ℕ → Program) (bytes : ℕ → ℕ) (s : State) (x n v : ℕ) → loaded 4 bytes s.pc ≡ x
+pub sets : (others : ℕ → Program) (bytes : ℕ → ℕ) (s : State) (x n v : ℕ) → loaded 4 bytes s.pc ≡ x
     → step x (seen s) ≡ Some (set n v (seen s))
     → machine others bytes s ≡ Some (put n v (sum_64 s.pc 4) s)
 sets others bytes s x n v stands goes =
     ap (λ w. executed others w s (step w (seen s))) stands ∙ ap (executed others x s) goes
 
 -- the thread pointer is no register that an instruction writes
-still_seen : (s : State) (n u : ℕ) → n < 32 → seen (put n u (sum_64 s.pc 4) s) ≡ set n u (seen s)
+pub still_seen : (s : State) (n u : ℕ) → n < 32 → seen (put n u (sum_64 s.pc 4) s) ≡ set n u (seen s)
 still_seen s n u small =
     ap (λ p. record (set n u (seen s)) { thread_pointer = p })
     (cond-false (eqb 32 n) u (s.registers 32) (ne_eqb 32 n (λ e. omega arith)))
@@ -48,66 +53,68 @@ last_counts n u v a b s = λ i. record s { pc = b; registers = λ m. by (eqb m n
     by false r = refl
 
 -- two that write one register
-sets_twice : (others : ℕ → Program) (bytes : ℕ → ℕ) (s : State) (place x y n u v value : ℕ)
-    → s.pc ≡ place → n < 32 → HaveWords bytes place (x ∷ y ∷ [])
+pub sets_twice : (others : ℕ → Program) (bytes : ℕ → ℕ) (s : State) (place x y n u v value : ℕ)
+    → s.pc ≡ place → n < 32 → loaded 4 bytes place ≡ x → loaded 4 bytes (sum_64 place 4) ≡ y
     → step x (seen s) ≡ Some (set n u (seen s))
     → step y (set n u (seen s)) ≡ Some (set n v (set n u (seen s))) → v ≡ value
     → run 2 (machine others bytes) s ≡ Some (put n value (sum_64 place 8) s)
-sets_twice others bytes s place x y n u v value at small words first second is =
+sets_twice others bytes s place x y n u v value at small here after first second is =
     let s1 = put n u (sum_64 s.pc 4) s in
     run_first 1 (machine others bytes) s s1 _
-    (sets others bytes s x n u (ap (loaded 4 bytes) at ∙ words.0) first)
+    (sets others bytes s x n u (ap (loaded 4 bytes) at ∙ here) first)
     (run_first 0 (machine others bytes) s1 (put n v (sum_64 s1.pc 4) s1) _
     (sets others bytes s1 y n v
-    (ap (λ a. loaded 4 bytes (sum_64 a 4)) at ∙ words.1.0)
+    (ap (λ a. loaded 4 bytes (sum_64 a 4)) at ∙ after)
     (subst (λ q. step y q ≡ Some (set n v q)) (sym (still_seen s n u small)) second))
     (ap Some (last_counts n u v (sum_64 s.pc 4) (sum_64 s1.pc 4) s
     ∙ ap (λ v. put n v (sum_64 s1.pc 4) s) is
     ∙ ap (λ a. put n value a s) (ap (λ a. sum_64 (sum_64 a 4) 4) at ∙ eight place))))
-  where
-    eight : (a : ℕ) → sum_64 (sum_64 a 4) 4 ≡ sum_64 a 8
-    eight a = omega arith
 
-below_32 : (word : ℕ) → rd_of word < 32
+pub below_32 : (word : ℕ) → rd_of word < 32
 below_32 word = omega arith
 
-below_64 : (a b : ℕ) → sum_64 a b < 2 ^ 64
+pub below_64 : (a b : ℕ) → sum_64 a b < 2 ^ 64
 below_64 a b = omega arith
 
 -- ---- loads
 
-pub are_loads : relocation_laws.RelativeAddresses → relocation_laws.EntryAddresses → groups.Loads
-are_loads relative entries c o k s adrp ldr add p holds made adrp1 ldr1 adrp2 add2 a1 l1 a2 d2 old new =
-    let one = p.one_register in
+-- `adrp xN` and `ldr xN, [xN]` of an entry that holds the address
+pub load_goes : relocation_laws.EntryAddresses → (others : ℕ → Program) (code : ℕ → ℕ) (o : Operands)
+    (s : State) (adrp ldr : List ℕ) → IsPair IsLdr64 o (seen s) adrp ldr
+    → load_64 s.memory o.got_entry ≡ symbol_address o
+    → Has code names.R_AARCH64_ADR_GOT_PAGE o adrp
+    → Has code names.R_AARCH64_LD64_GOT_LO12_NC (following 4 o) ldr
+    → run 2 (machine others code) s
+    ≡ Some (put (rd_of (word_of ldr)) (symbol_address o) (sum_64 o.place 8) s)
+load_goes entries others code o s adrp ldr p holds first second =
+    let l = got_loads entries o (seen s) adrp ldr p.small p.at p.one_register p.second_is first.relocated
+    second.relocated first.applied second.applied in
+    sets_twice others code s o.place (word_of first.relocated) (word_of second.relocated)
+    (rd_of (word_of ldr)) _ _ (symbol_address o) p.at (below_32 (word_of ldr)) first.stands
+    second.stands l.first l.second (l.value_is ∙ holds)
+
+pub are_loads : relocation_laws.RelativeAddresses → relocation_laws.EntryAddresses → groups.GotToAddress
+are_loads relative entries c o k s adrp ldr add p holds made adrp1 ldr1 adrp2 add2 =
     let n = rd_of (word_of ldr) in
-    let small = below_32 (word_of ldr) in
-    let l = got_loads entries o (seen s) adrp ldr p.small p.at one p.second_is adrp1 ldr1 a1 l1 in
-    record {
-      more = 1;
-      old_goes =
-          sets_twice c.others c.old s o.place (word_of adrp1) (word_of ldr1) n _ _
-          (symbol_address o) p.at small old l.first l.second (l.value_is ∙ holds);
-      new_goes = λ t agree.
-          let at = agree.pc ∙ p.at in
-          let d = got_adds relative o (seen t) adrp ldr add p.small at one p.second_is made adrp2 add2
-          a2 d2 in
-          holds_of (run 2 (machine c.others c.new) t) _ (put n (symbol_address o) (sum_64 o.place 8) t)
-          (sets_twice c.others c.new t o.place (word_of adrp2) (word_of add2) n _ _
-          (symbol_address o) at small new d.first d.second d.value_is)
-          (agree_put (link c) k s t n same (symbol_address o) (symbol_address o) (sum_64 o.place 8)
-          (sum_64 o.place 8) agree (below_64 o.place 8) refl refl);
-      forward = λ none. omega arith;
-    }
+    value_group (link c) 1 1 k _ s _ n (symbol_address o) (sum_64 o.place 8) (below_64 o.place 8)
+    (load_goes entries c.others c.old o s adrp ldr p holds adrp1 ldr1)
+    (unchanged _ _)
+    (λ t agree.
+    let at = agree.pc ∙ p.at in
+    let d = got_adds relative o (seen t) adrp ldr add p.small at p.one_register p.second_is made
+    adrp2.relocated add2.relocated adrp2.applied add2.applied in
+    sets_twice c.others c.new t o.place (word_of adrp2.relocated) (word_of add2.relocated) n _ _
+    (symbol_address o) at (below_32 (word_of ldr)) adrp2.stands add2.stands d.first d.second d.value_is)
 
 -- ---- halves
 
 -- one instruction that writes a register, at a place
-sets_at : (others : ℕ → Program) (bytes : ℕ → ℕ) (s : State) (place x n v : ℕ) → s.pc ≡ place
-    → HaveWords bytes place (x ∷ []) → step x (seen s) ≡ Some (set n v (seen s))
+pub sets_at : (others : ℕ → Program) (bytes : ℕ → ℕ) (s : State) (place x n v : ℕ) → s.pc ≡ place
+    → loaded 4 bytes place ≡ x → step x (seen s) ≡ Some (set n v (seen s))
     → run 1 (machine others bytes) s ≡ Some (put n v (sum_64 place 4) s)
-sets_at others bytes s place x n v at words goes =
+sets_at others bytes s place x n v at here goes =
     run_first 0 (machine others bytes) s (put n v (sum_64 s.pc 4) s) _
-    (sets others bytes s x n v (ap (loaded 4 bytes) at ∙ words.0) goes)
+    (sets others bytes s x n v (ap (loaded 4 bytes) at ∙ here) goes)
     (ap (λ a. Some (put n v (sum_64 a 4) s)) at)
 
 both_true : (a b : Bool) → a ≡ true → b ≡ true → (a && b) ≡ true
@@ -118,20 +125,23 @@ second_true : (a b : Bool) → (a && b) ≡ true → b ≡ true
 second_true true b e = e
 second_true false b e = absurd (true≢false (sym e))
 
-pub are_high_halves : groups.HighHalves
-are_high_halves c h o k s adrp movz small at entry offset is named made adrp1 movz1 a b old new =
+pub are_high_halves : groups.HighHalfToMovz
+are_high_halves c h o k s adrp movz small at entry offset is named made adrp1 movz1 =
     let n = rd_of (word_of adrp) in
-    let v = moved (word_of movz1) in
+    let v = moved (word_of movz1.relocated) in
     let next = sum_64 o.place 4 in
     record {
       more = 0;
       old_goes =
-          sets_at c.others c.old s o.place (word_of adrp1) n (page o.got_entry) at old
-          (high_steps o (seen s) (seen s) adrp movz small at is named made adrp1 movz1 a b).first;
+          sets_at c.others c.old s o.place (word_of adrp1.relocated) n (page o.got_entry) at adrp1.stands
+          (high_steps o (seen s) (seen s) adrp movz small at is named made adrp1.relocated
+          movz1.relocated adrp1.applied movz1.applied).first;
       new_goes = λ t agree.
-          let steps = high_steps o (seen s) (seen t) adrp movz small at is named made adrp1 movz1 a b in
+          let steps = high_steps o (seen s) (seen t) adrp movz small at is named made adrp1.relocated
+          movz1.relocated adrp1.applied movz1.applied in
           holds_of (run 1 (machine c.others c.new) t) _ (put n v next t)
-          (sets_at c.others c.new t o.place (word_of movz1) n v (agree.pc ∙ at) new steps.second)
+          (sets_at c.others c.new t o.place (word_of movz1.relocated) n v (agree.pc ∙ at) movz1.stands
+          steps.second)
           (agree_put (link c) k s t n (half h) (page o.got_entry) v next next agree
           (below_64 o.place 4) refl
           (both_true (page o.got_entry == page (c.entry h)) (v / 2 ^ 16 == c.offset h / 2 ^ 16)
@@ -140,26 +150,20 @@ are_high_halves c h o k s adrp movz small at entry offset is named made adrp1 mo
       forward = λ none. omega arith;
     }
 
-pub are_low_halves : groups.LowHalves
-are_low_halves c h o k s ldr movk small at entry offset is own made holds known has ldr1 movk1 a b old
-    new =
+pub are_low_halves : groups.LowHalfToMovk
+are_low_halves c h o k s ldr movk small at entry offset is own made holds known has ldr1 movk1 =
     let n = rd_of (word_of ldr) in
     let d = thread_offset o in
-    let next = sum_64 o.place 4 in
-    record {
-      more = 0;
-      old_goes =
-          sets_at c.others c.old s o.place (word_of ldr1) n d at old
-          (low_steps o (seen s) (record (seen s) { registers = λ m. d }) ldr movk small is own holds
-          (record { page_is = has; bits_are = refl }) made ldr1 movk1 a b).first;
-      new_goes = λ t agree.
-          let steps = low_steps o (seen s) (seen t) ldr movk small is own holds (high t agree) made ldr1
-          movk1 a b in
-          holds_of (run 1 (machine c.others c.new) t) _ (put n d next t)
-          (sets_at c.others c.new t o.place (word_of movk1) n d (agree.pc ∙ at) new steps.second)
-          (agree_put (link c) k s t n same d d next next agree (below_64 o.place 4) refl refl);
-      forward = λ none. omega arith;
-    }
+    value_group (link c) 0 0 k _ s _ n d (sum_64 o.place 4) (below_64 o.place 4)
+    (sets_at c.others c.old s o.place (word_of ldr1.relocated) n d at ldr1.stands
+    (low_steps o (seen s) (record (seen s) { registers = λ m. d }) ldr movk small is own holds
+    (record { page_is = has; bits_are = refl }) made ldr1.relocated movk1.relocated ldr1.applied
+    movk1.applied).first)
+    (unchanged _ _)
+    (λ t agree.
+    sets_at c.others c.new t o.place (word_of movk1.relocated) n d (agree.pc ∙ at) movk1.stands
+    (low_steps o (seen s) (seen t) ldr movk small is own holds (high t agree) made ldr1.relocated
+    movk1.relocated ldr1.applied movk1.applied).second)
   where
     high : (t : State) → Agree (link c) k s t → HasHigh (rd_of (word_of ldr)) o (seen s) (seen t)
     high t agree =
@@ -176,57 +180,62 @@ are_low_halves c h o k s ldr movk small at entry offset is own made holds known 
 -- ---- branches
 
 -- `nop`
-goes_on : (others : ℕ → Program) (bytes : ℕ → ℕ) (t : State) (place : ℕ) (branch made : List ℕ)
-    → t.pc ≡ place → IsRewritten ReplaceWithNop branch made
-    → HaveWords bytes place (word_of made ∷ [])
-    → run 1 (machine others bytes) t ≡ Some (go_to (sum_64 place 4) t)
-goes_on others bytes t place branch made at is words =
-    run_first 0 (machine others bytes) t (go_to (sum_64 t.pc 4) t) _
-    (ap (λ w. executed others w t (step w (seen t)))
-    (ap (loaded 4 bytes) at ∙ words.0 ∙ word_is 0xd503201f made (omega arith) is))
+pub nop_goes : (others : ℕ → Program) (code : ℕ → ℕ) (t : State) (place word : ℕ) → t.pc ≡ place
+    → loaded 4 code place ≡ word → word ≡ nop
+    → machine others code t ≡ Some (go_to (sum_64 t.pc 4) t)
+nop_goes others code t place word at stands is =
+    ap (λ w. executed others w t (step w (seen t))) (ap (loaded 4 code) at ∙ stands ∙ is)
+
+-- one that was made `nop`
+pub goes_on : (others : ℕ → Program) (code : ℕ → ℕ) (t : State) (place : ℕ) (branch made : List ℕ)
+    → t.pc ≡ place → IsRewritten ReplaceWithNop branch made → loaded 4 code place ≡ word_of made
+    → run 1 (machine others code) t ≡ Some (go_to (sum_64 place 4) t)
+goes_on others code t place branch made at is stands =
+    run_first 0 (machine others code) t (go_to (sum_64 t.pc 4) t) _
+    (nop_goes others code t place (word_of made) at stands (word_is nop made (omega arith) is))
     (ap (λ a. Some (go_to (sum_64 a 4) t)) at)
 
-pub are_branches : relocation_laws.Branches → groups.Branches
-are_branches laws c o k s branch made small at next is rewritten branch_on a old new =
-    let x = word_of branch_on in
-    let op = branch_after _ _ branch branch_on a.written ∙ eqb-true _ _ is in
-    record {
-      more = 0;
-      old_goes =
-          run_first 0 (machine c.others c.old) s (go_to (branch_target x (seen s)) s) _
-          (ap (λ w. executed c.others w s (step w (seen s))) (ap (loaded 4 c.old) at ∙ old.0)
-          ∙ ap (λ i. executed c.others x s (execute i x (seen s))) (decodes_b x op))
-          (ap (λ p. Some (go_to p s)) (branch_leads o x (seen s) at
-          (laws.1 o small o.place branch branch_on a tt) ∙ next));
-      new_goes = λ t agree.
-          holds_of (run 1 (machine c.others c.new) t) _ (go_to (sum_64 o.place 4) t)
-          (goes_on c.others c.new t o.place branch made (agree.pc ∙ at) rewritten new)
-          (agree_go (link c) k s t (sum_64 o.place 4) (sum_64 o.place 4) agree (below_64 o.place 4)
-          refl);
-      forward = λ none. omega arith;
-    }
-
-pub are_calls : relocation_laws.Branches → groups.Calls
-are_calls laws c o k s branch made small at next is rewritten branch_on a old new =
-    let x = word_of branch_on in
-    let n = sum_64 o.place 4 in
-    let op = branch_after _ _ branch branch_on a.written ∙ eqb-true _ _ is in
-    record {
-      more = 0;
-      old_goes =
-          run_first 0 (machine c.others c.old) s
-          (put 30 (sum_64 s.pc 4) (branch_target x (seen s)) s) _
-          (ap (λ w. executed c.others w s (step w (seen s))) (ap (loaded 4 c.old) at ∙ old.0)
-          ∙ ap (λ i. executed c.others x s (execute i x (seen s))) (decodes_bl x op))
-          (ap₂ (λ r p. Some (put 30 (sum_64 r 4) p s)) at (branch_leads o x (seen s) at
-          (laws.0 o small o.place branch branch_on a tt) ∙ next));
-      new_goes = λ t agree.
-          holds_of (run 1 (machine c.others c.new) t) _ (go_to n t)
-          (goes_on c.others c.new t o.place branch made (agree.pc ∙ at) rewritten new)
-          (agree_put_old (link c) k (go_to n s) (go_to n t) 30 anything n n
-          (agree_go (link c) k s t n n agree (below_64 o.place 4) refl) (below_64 o.place 4) refl tt);
-      forward = λ none. omega arith;
-    }
+pub are_branches : relocation_laws.Branches → groups.WeakBranches
+are_branches laws = (
+  λ c o k s branch made small at next is rewritten on new.
+      let x = word_of on.relocated in
+      let op = branch_after _ _ branch on.relocated on.applied.written ∙ eqb-true _ _ is in
+      record {
+        more = 0;
+        old_goes =
+            run_first 0 (machine c.others c.old) s (go_to (branch_target x (seen s)) s) _
+            (ap (λ w. executed c.others w s (step w (seen s))) (ap (loaded 4 c.old) at ∙ on.stands)
+            ∙ ap (λ i. executed c.others x s (execute i x (seen s))) (decodes_b x op))
+            (ap (λ p. Some (go_to p s)) (branch_leads o x (seen s) at
+            (laws.1 o small o.place branch on.relocated on.applied tt) ∙ next));
+        new_goes = λ t agree.
+            holds_of (run 1 (machine c.others c.new) t) _ (go_to (sum_64 o.place 4) t)
+            (goes_on c.others c.new t o.place branch made (agree.pc ∙ at) rewritten new)
+            (agree_go (link c) k s t (sum_64 o.place 4) (sum_64 o.place 4) agree (below_64 o.place 4)
+            refl);
+        forward = λ none. omega arith;
+      },
+  λ c o k s branch made small at next is rewritten on new.
+      let x = word_of on.relocated in
+      let n = sum_64 o.place 4 in
+      let op = branch_after _ _ branch on.relocated on.applied.written ∙ eqb-true _ _ is in
+      record {
+        more = 0;
+        old_goes =
+            run_first 0 (machine c.others c.old) s
+            (put 30 (sum_64 s.pc 4) (branch_target x (seen s)) s) _
+            (ap (λ w. executed c.others w s (step w (seen s))) (ap (loaded 4 c.old) at ∙ on.stands)
+            ∙ ap (λ i. executed c.others x s (execute i x (seen s))) (decodes_bl x op))
+            (ap₂ (λ r p. Some (put 30 (sum_64 r 4) p s)) at (branch_leads o x (seen s) at
+            (laws.0 o small o.place branch on.relocated on.applied tt) ∙ next));
+        new_goes = λ t agree.
+            holds_of (run 1 (machine c.others c.new) t) _ (go_to n t)
+            (goes_on c.others c.new t o.place branch made (agree.pc ∙ at) rewritten new)
+            (agree_put_old (link c) k (go_to n s) (go_to n t) 30 anything n n
+            (agree_go (link c) k s t n n agree (below_64 o.place 4) refl) (below_64 o.place 4) refl tt);
+        forward = λ none. omega arith;
+      },
+)
 
 pub are_others : Others
 are_others c k k' s s' word goes keeps =

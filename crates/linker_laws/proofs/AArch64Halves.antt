@@ -1,11 +1,9 @@
 -- The halves of initial-exec, each by itself.
 use Rattle.std.proofs.Common.{◌≢◌, ◌≡◌, ℕ, ◌+◌, ◌-◌, ◌*◌, ◌/◌, ◌%◌, ◌^◌, ◌<◌, refl, sym}
-use Rattle.std.proofs.Common.{◌∙◌, ap, subst, arith, List, eqb, ℤ, pos, ◌+ℤ◌, ◌*ℤ◌, Some, inl}
-use Rattle.std.proofs.Common.{inr}
-use Rattle.std.specs.Prelude.{IsSomeAnd, not, ◌&&◌, nat_lt}
+use Rattle.std.proofs.Common.{◌∙◌, ap, subst, arith, List, eqb, ℤ, pos, ◌+ℤ◌, ◌*ℤ◌, Some}
+use Rattle.std.specs.Prelude.{not, ◌&&◌, nat_lt}
 use Rattle.std.specs.Int.{w64, cast_signed, bit_at, int_rem_euclid}
-use Rattle.std.proofs.lemmas.Bool.{eq-eqb, ne_eqb, cond-true, cond-false, or_parts}
-use Rattle.std.proofs.lemmas.Bool.Decides.{eqb_tells}
+use Rattle.std.proofs.lemmas.Bool.{eq-eqb, ne_eqb, cond-false}
 use Rattle.std.proofs.lemmas.Int.{ints, int_rem_euclid_is}
 use Rattle.linker_base.specs.Bits.{field}
 use Rattle.linker_utils.specs.AArch64Rewrites.{IsAdrp, IsIntoOwnSource, IsLdr64, rd_of}
@@ -35,8 +33,7 @@ use Rattle.linker_laws.proofs.AArch64WideMoves.{movn_first}
 use Rattle.linker_laws.proofs.AArch64Pages.{offset_reads, IsUnsigned}
 use Rattle.linker_laws.proofs.Sums.{sum_below, difference_below, page_halves_sum, taken_off}
 use Rattle.linker_laws.proofs.Sums.{cast_is, euclid, lift, lifted_is}
-use Rattle.linker_laws.specs.AArch64RewriteLaws.{word_of, thread_offset, IsRelocated, AgreeBut, Changes}
-use Rattle.linker_laws.specs.AArch64RewriteLaws.{StepSo, with_register, without_register}
+use Rattle.linker_laws.specs.AArch64RewriteLaws.{word_of, thread_offset, IsRelocated}
 use Rattle.linker_laws.specs.AArch64RewriteLaws as aarch64_laws
 use Rattle.linker_laws.specs.AArch64Machine.{State, step, in_64_bits, moved, with_moved, read_x}
 use Rattle.linker_laws.specs.AArch64Machine.{loaded, load_64}
@@ -46,48 +43,6 @@ use Rattle.linker_laws.proofs.AArch64Steps.{set, step_adrp, step_ldr, step_move,
 use Rattle.linker_laws.proofs.AArch64Steps.{address_is}
 use Rattle.linker_laws.proofs.AArch64Words.{adrp_after, decodes_adrp, ldr_of_register_after}
 use Rattle.linker_laws.proofs.AArch64Words.{movnz_after, movk_after}
-
--- ---- states that are alike apart from some registers and bytes
-
-steps_so : (x y : ℕ) (s t u v : State) (P : State → State → Type 0) → step x s ≡ Some u
-    → step y t ≡ Some v → P u v → StepSo x s y t P
-steps_so x y s t u v P first second holds =
-    subst (λ r. IsSomeAnd r (λ u. IsSomeAnd (step y t) (λ v. P u v))) (sym first)
-    (subst (λ r. IsSomeAnd r (λ v. P u v)) (sym second) holds)
-
--- One register is written in both, and may differ then.
-alike_also : (n v w : ℕ) (c : Changes) (s t : State) → AgreeBut c s t
-    → AgreeBut (with_register n c) (set n v s) (set n w t)
-alike_also n v w c s t alike =
-    record {
-      registers = λ m kept.
-          let parts = or_parts (eqb m n) (c.registers m) kept in
-          cond-false (eqb m n) v (s.registers m) parts.0
-          ∙ alike.registers m parts.1
-          ∙ sym (cond-false (eqb m n) w (t.registers m) parts.0);
-      memory = alike.memory;
-      pc = ap (λ p. sum_64 p 4) alike.pc;
-      thread_pointer = alike.thread_pointer;
-    }
-
--- One register gets the same number in both.
-alike_but : (n v w : ℕ) (c : Changes) (s t : State) → v ≡ w
-    → AgreeBut c s t
-    → AgreeBut (without_register n c) (set n v s) (set n w t)
-alike_but n v w c s t same alike =
-    record {
-      registers = λ m kept. elim (eqb_tells m n) [
-        | inl is ↦ cond-true (eqb m n) v (s.registers m) is.0 ∙ same
-            ∙ sym (cond-true (eqb m n) w (t.registers m) is.0)
-        | inr other ↦
-            let alone = sym (ap (λ b. not b && c.registers m) other.0) ∙ kept in
-            cond-false (eqb m n) v (s.registers m) other.0 ∙ alike.registers m alone
-            ∙ sym (cond-false (eqb m n) w (t.registers m) other.0)
-      ];
-      memory = alike.memory;
-      pc = ap (λ p. sum_64 p 4) alike.pc;
-      thread_pointer = alike.thread_pointer;
-    }
 
 -- ---- the high half
 
@@ -202,21 +157,6 @@ high_steps o s t adrp movz small at is named made adrp1 movz1 a b =
           (unbiased (symbol_address o) (sum_below o.symbol _)));
     }
 
-pub high_half : aarch64_laws.HighHalfToMovz
-high_half o s t c adrp movz small at alike is named made adrp1 movz1 a b =
-    let n = rd_of (word_of adrp) in
-    let y = word_of movz1 in
-    let steps = high_steps o s t adrp movz small at is named made adrp1 movz1 a b in
-    steps_so (word_of adrp1) y s t (set n (page o.got_entry) s) (set n (moved y) t) _ steps.first
-    steps.second (
-      alike_also n (page o.got_entry) (moved y) c s t alike,
-      record {
-        page_is = cond-true (eqb n n) (page o.got_entry) (s.registers n) (eq-eqb n n refl);
-        bits_are = ap (λ v. v / 2 ^ 16) (cond-true (eqb n n) (moved y) (t.registers n) (eq-eqb n n refl))
-            ∙ steps.bits_are;
-      },
-    )
-
 -- ---- the low half
 
 -- the 16 bits of a MOVK
@@ -306,11 +246,3 @@ low_steps o s t ldr movk_bytes small is own holds high made ldr1 movk1 a b =
       first = step_ldr x n s first.decodes first.rd_is named ∙ ap (λ v. Some (set n v s)) old;
       second = step_movk y n t second.decodes rd named ∙ ap (λ v. Some (set n v t)) new;
     }
-
-pub low_half : aarch64_laws.LowHalfToMovk
-low_half o s t c ldr movk_bytes small is own holds high alike made ldr1 movk1 a b =
-    let n = rd_of (word_of ldr) in
-    let steps = low_steps o s t ldr movk_bytes small is own holds high made ldr1 movk1 a b in
-    steps_so (word_of ldr1) (word_of movk1) s t (set n (thread_offset o) s) (set n (thread_offset o) t)
-    _ steps.first steps.second
-    (alike_but n (thread_offset o) (thread_offset o) c s t refl alike)

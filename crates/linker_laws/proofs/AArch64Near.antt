@@ -6,9 +6,12 @@ use Rattle.std.proofs.lemmas.Int.{ints, to_z_pos}
 use Rattle.linker_base.proofs.Bits.{cast_negative}
 use Rattle.linker_elf.specs.Elf.{IsWithin, bit_bounds}
 use Rattle.linker_elf.specs.LoongArch.{page}
-use Rattle.linker_elf.specs.Value.{difference_64}
+use Rattle.linker_elf.specs.Value.{difference_64, sum_64}
 use Rattle.linker_elf.specs.declared.elf.Sign.TheVariants.{Signed}
-use Rattle.linker_laws.proofs.Sums.{difference_below}
+use Rattle.linker_elf.specs.declared.elf.value.Operands.{Operands}
+use Rattle.linker_laws.proofs.Sums.{difference_below, sum_below}
+use Rattle.linker_laws.specs.AArch64RewriteLaws.{following}
+use Rattle.linker_laws.specs.Schemes.{AreAddresses, symbol_address}
 
 -- a number of 64 bits in two's complement
 in_two_ways : (n : ℕ) → n < 2 ^ 64
@@ -70,3 +73,36 @@ near t p q small small' small'' following v w is is' within =
     (wide (difference_64 (page t) (page p)) (difference_below (page t) (page p))
     (pages t p q small small' small'' following
     (close (difference_64 t q) w (difference_below t q) same' within)))
+
+-- ---- of operands
+
+pub small_after : (n : ℕ) (o : Operands) → AreAddresses o → AreAddresses (following n o)
+small_after n o small =
+    record {
+      symbol = small.symbol;
+      place = sum_below o.place n;
+      got_entry = small.got_entry;
+      got_base = small.got_base;
+      plt_entry = small.plt_entry;
+      tls_base = small.tls_base;
+    }
+
+-- The page is near, where `adr` at the place, or after it, reaches the address.
+abbrev pub AreNear : Operands → ℕ → Type 0
+AreNear o q =
+    (v w : ℤ)
+    → Some (cast_signed w64 (difference_64 (page (sum_64 (symbol_address o) 0)) (page o.place))) ≡ Some v
+    → Some (cast_signed w64 (difference_64 (sum_64 (symbol_address o) 0) q)) ≡ Some w
+    → IsWithin (Some (bit_bounds 21 Signed)) w → IsWithin (Some (bit_bounds 33 Signed)) v
+
+pub near_here : (o : Operands) → AreAddresses o → AreNear o o.place
+near_here o small =
+    let place = small.place in
+    near (sum_64 (symbol_address o) 0) o.place o.place (sum_below (symbol_address o) 0) place place
+    (omega arith)
+
+pub near_after : (o : Operands) → AreAddresses o → AreNear o (sum_64 o.place 4)
+near_after o small =
+    let place = small.place in
+    near (sum_64 (symbol_address o) 0) o.place (sum_64 o.place 4) (sum_below (symbol_address o) 0) place
+    (sum_below o.place 4) (omega arith)

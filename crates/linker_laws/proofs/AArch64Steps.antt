@@ -1,8 +1,7 @@
 -- Steps of AArch64's instructions.
-use Rattle.std.proofs.Common.{◌≡◌, ◌≢◌, ℕ, ◌+◌, ◌%◌, ◌^◌, Bool, true, false, refl, sym, ◌∙◌, ap}
-use Rattle.std.proofs.Common.{subst, arith, List, [], ◌∷◌, eqb, cond, ℤ, pos, ◌+ℤ◌, ◌*ℤ◌, Some}
+use Rattle.std.proofs.Common.{◌≡◌, ◌≢◌, ℕ, ◌+◌, ◌%◌, ◌^◌, sym, ◌∙◌, ap}
+use Rattle.std.proofs.Common.{arith, List, [], ◌∷◌, eqb, ℤ, pos, ◌+ℤ◌, ◌*ℤ◌, Some}
 use Rattle.std.proofs.Common.{None, unsigned_abs}
-use Rattle.std.specs.Prelude.{IsSomeAnd}
 use Rattle.std.proofs.lemmas.Bool.{eq-eqb, ne_eqb, cond-true, cond-false}
 use Rattle.std.proofs.lemmas.Int.{ints}
 use Rattle.linker_utils.specs.AArch64Rewrites.{rd_of, rn_of}
@@ -13,7 +12,7 @@ use Rattle.linker_laws.specs.Schemes.{IsAddress, plt_address}
 use Rattle.linker_laws.proofs.Sums.{lift, lifted_is}
 use Rattle.linker_laws.specs.AArch64Machine.{State, step, run, decode, in_64_bits, write_x}
 use Rattle.linker_laws.specs.AArch64Machine.{write_x_or_sp, go_on, next_pc, continue, execute}
-use Rattle.linker_laws.specs.AArch64Machine.{AreAlikeBut, RunAlikeBut, adrp, adr, add, ldr}
+use Rattle.linker_laws.specs.AArch64Machine.{adrp, adr, add, ldr}
 use Rattle.linker_laws.specs.AArch64Machine.{adrp_address, adr_address, added, loaded, load_64}
 use Rattle.linker_laws.specs.AArch64Machine.{movn_or_movz, movk_64, moved, with_moved, blr}
 use Rattle.linker_laws.specs.AArch64Machine.{branch_target, go_to, read_x}
@@ -114,30 +113,6 @@ pub run_pair : (x y : ℕ) (s t u : State) → step x s ≡ Some t → t.pc ≡ 
     → run (x ∷ y ∷ []) s ≡ Some u
 run_pair x y s t u first on second = run_more x y [] s t u first on second
 
-pub alike_runs : (differing : ℕ → Bool) (old new : List ℕ) (s t u : State)
-    → run old s ≡ Some t → run new s ≡ Some u → AreAlikeBut differing t u
-    → RunAlikeBut differing old new s
-alike_runs differing old new s t u first second alike =
-    subst (λ r. IsSomeAnd r (λ t. IsSomeAnd (run new s) (λ u. AreAlikeBut differing t u)))
-    (sym first)
-    (subst (λ r. IsSomeAnd r (λ u. AreAlikeBut differing t u)) (sym second) alike)
-
--- A register that is written twice holds what was written last.
-last_counts : (b : Bool) (u v u2 v2 r : ℕ) → v ≡ v2
-    → cond b v (cond b u r) ≡ cond b v2 (cond b u2 r)
-last_counts true u v u2 v2 r e = e
-last_counts false u v u2 v2 r e = refl
-
-pub alike_twice : (n u v u2 v2 : ℕ) (s : State) → v ≡ v2
-    → AreAlikeBut (λ _. false) (set n v (set n u s)) (set n v2 (set n u2 s))
-alike_twice n u v u2 v2 s same =
-    record {
-      registers = λ m any. last_counts (eqb m n) u v u2 v2 (s.registers m) same;
-      pc = refl;
-      memory = refl;
-      thread_pointer = refl;
-    }
-
 -- ---- sums of a pair
 
 -- what is loaded from a register that holds a sum
@@ -148,40 +123,6 @@ loaded_from y n a s rn =
     ap (λ v. load_64 s.memory (in_64_bits (pos v +ℤ ((aarch64_form LdSt).machine y *ℤ pos 8))))
     (read_back n (in_64_bits a) (rn_of y) s rn)
     ∙ ap (load_64 s.memory) (in_two_steps a ((aarch64_form LdSt).machine y *ℤ pos 8))
-
--- A register that is written once, after an instruction that changes nothing
-once_counts : (b : Bool) (u v v2 r : ℕ) → v ≡ v2 → cond b v (cond b u r) ≡ cond b v2 r
-once_counts true u v v2 r e = e
-once_counts false u v v2 r e = refl
-
-pub alike_once : (n u v v2 : ℕ) (s : State) → v ≡ v2
-    → AreAlikeBut (λ _. false) (set n v (set n u s)) (set n v2 (go_on s))
-alike_once n u v v2 s same =
-    record {
-      registers = λ m any. once_counts (eqb m n) u v v2 (s.registers m) same;
-      pc = refl;
-      memory = refl;
-      thread_pointer = refl;
-    }
-
-pub alike_before : (n u v v2 : ℕ) (s : State) → v ≡ v2
-    → AreAlikeBut (λ _. false) (set n v (set n u s)) (go_on (set n v2 s))
-alike_before n u v v2 s same =
-    record {
-      registers = λ m any. once_counts (eqb m n) u v v2 (s.registers m) same;
-      pc = refl;
-      memory = refl;
-      thread_pointer = refl;
-    }
-
-pub alike_itself : (differing : ℕ → Bool) (s : State) → AreAlikeBut differing s s
-alike_itself differing s =
-    record {
-      registers = λ n any. refl;
-      pc = refl;
-      memory = refl;
-      thread_pointer = refl;
-    }
 
 -- ---- branches
 

@@ -1,8 +1,12 @@
 -- States that agree, after a register is written, and at other addresses.
-use Rattle.std.proofs.Common.{◌≡◌, ℕ, ◌^◌, ◌<◌, Bool, true, false, refl, sym, subst, eqb-true}
-use Rattle.std.specs.Prelude.{if◌then◌else◌, ◌==◌}
-use Rattle.linker_laws.specs.Simulation.{State, Link, Kind, Kinds, AreOf, Agree}
-use Rattle.linker_laws.specs.Changes.{put, go_to, with_register}
+use Rattle.std.proofs.Common.{◌≡◌, ℕ, suc, ◌-◌, ◌^◌, ◌<◌, Bool, true, false, refl, sym, ◌∙◌, ap, subst, eqb-true}
+use Rattle.std.proofs.Common.{Some, arith, inl, inr}
+use Rattle.std.specs.Prelude.{if◌then◌else◌, ◌==◌, ◌⊎◌}
+use Rattle.linker_laws.specs.Machine.{loaded}
+use Rattle.linker_laws.specs.Simulation.{State, Link, Kind, Kinds, AreOf, AreStored, Agree, Group, anything}
+use Rattle.linker_laws.specs.Simulation.{of_link, run, same}
+use Rattle.linker_laws.specs.Changes.{ChangesOpen, put, go_to, with_register}
+use Rattle.linker_laws.proofs.CoveredRuns.{holds_of}
 
 pick : (l : Link) (b : Bool) (k k' : Kind) (x x' y y' : ℕ) → AreOf l 8 k x y → AreOf l 8 k' x' y'
     → AreOf l 8 (if b then k else k') (if b then x else x') (if b then y else y')
@@ -54,4 +58,64 @@ agree_put_old l k s t r kind x next agree small at are =
           (agree.registers m);
       memory = agree.memory;
       outside = agree.outside;
+    }
+
+-- old alone changes what may be anything then
+pub agree_open : (l : Link) (k k' : Kinds) (s s' t : State) → Agree l k s t
+    → ChangesOpen k s k' s' → Agree l k' s' t
+agree_open l k k' s s' t agree changes =
+    record {
+      small = subst (λ p. p < 2 ^ 64) (sym changes.pc) agree.small;
+      pc = agree.pc ∙ ap l.moved (sym changes.pc);
+      registers = λ r. register r (changes.registers r);
+      memory = λ a below.
+          elim (changes.memory a below) [
+            | inl free ↦ subst (λ kind. AreOf l (k'.memory a).bytes kind
+                (loaded (k'.memory a).bytes s'.memory (a - (k'.memory a).below))
+                (loaded (k'.memory a).bytes t.memory (l.moved (a - (k'.memory a).below)))) (sym free) tt
+            | inr kept ↦ subst (λ stored. AreStored l stored s'.memory t.memory a) (sym kept.0)
+                (subst (λ x. AreOf l (k.memory a).bytes (k.memory a).kind x
+                (loaded (k.memory a).bytes t.memory (l.moved (a - (k.memory a).below)))) (sym kept.1)
+                (agree.memory a below))
+          ];
+      outside = changes.outside ∙ agree.outside;
+    }
+  where
+    register : (r : ℕ)
+        → (k'.registers r ≡ anything)
+        ⊎ ((k'.registers r ≡ k.registers r) × (s'.registers r ≡ s.registers r))
+        → AreOf l 8 (k'.registers r) (s'.registers r) (t.registers r)
+    register r (inl free) =
+        subst (λ kind. AreOf l 8 kind (s'.registers r) (t.registers r)) (sym free) tt
+    register r (inr kept) =
+        subst (λ kind. AreOf l 8 kind (s'.registers r) (t.registers r)) (sym kept.0)
+        (subst (λ x. AreOf l 8 (k.registers r) x (t.registers r)) (sym kept.1) (agree.registers r))
+
+pub unchanged : (k : Kinds) (s : State) → ChangesOpen k s k s
+unchanged k s =
+    record {
+      pc = refl;
+      registers = λ r. inr (refl, refl);
+      memory = λ a below. inr (refl, refl);
+      outside = refl;
+    }
+
+-- Instructions of new leave a number in a register, and so do those of old, which may change what
+-- may be anything then.
+pub value_group : (l : Link) (n more : ℕ) (k k' : Kinds) (s s' : State) (r v next : ℕ)
+    → next < 2 ^ 64 → run (suc more) (l.machine l.old) s ≡ Some s'
+    → ChangesOpen (with_register r same k) (put r v next s) k' s'
+    → ((t : State) → Agree l k s t
+    → run (suc n) (l.machine l.new) t ≡ Some (put r v (l.moved next) t))
+    → Group (of_link l) (suc n) k s k' s'
+value_group l n more k k' s s' r v next small goes changes new_goes =
+    record {
+      more = more;
+      old_goes = goes;
+      new_goes = λ t agree.
+          holds_of (run (suc n) (l.machine l.new) t) (Agree l k' s') (put r v (l.moved next) t)
+          (new_goes t agree)
+          (agree_open l (with_register r same k) k' (put r v next s) s' (put r v (l.moved next) t)
+          (agree_put l k s t r same v v next (l.moved next) agree small refl refl) changes);
+      forward = λ none. omega arith;
     }

@@ -1,4 +1,5 @@
-pub mod AArch64Descriptors
+pub mod AArch64AdrGroups
+pub mod AArch64DescriptorGroups
 pub mod AArch64GotLoads
 pub mod AArch64Groups
 pub mod AArch64GroupsWorked

@@ -1,11 +1,10 @@
--- A program of AArch64 with three groups, of which every premise holds, and both runs computed to
--- the end.
-use Rattle.std.specs.Prelude.{◌≡◌, ℕ, ◌+◌, ◌-◌, ◌*◌, ◌/◌, ◌%◌, ◌^◌, ◌==◌, Bool, nat_le, ◌&&◌, if◌then◌else◌}
+-- Programs of AArch64 with groups, of which every premise holds, and both runs computed to the end.
+use Rattle.std.specs.Prelude.{◌≡◌, ℕ, ◌+◌, ◌-◌, ◌/◌, ◌%◌, ◌^◌, ◌==◌, Bool, nat_le, ◌&&◌, if◌then◌else◌}
 use Rattle.std.specs.Prelude.{List, [], ◌∷◌, Some, None, IsSomeAnd, slice_get}
 use Rattle.std.specs.Option.{unwrap_or}
 use Rattle.linker_elf.specs.Value.{sum_64}
 use Rattle.linker_laws.specs.AArch64Groups.{Code, link, machine}
-use Rattle.linker_laws.specs.Changes.{put}
+use Rattle.linker_laws.specs.Changes.{go_to, put}
 use Rattle.linker_laws.specs.Simulation.{State, Program, Kinds, Agree, Covered, Stops, of_link, run}
 use Rattle.linker_laws.specs.Simulation.{same, anything}
 use Rattle.linker_laws.specs.SimulationWorked.{of_byte}
@@ -16,78 +15,153 @@ words code a =
     let i = a - 0x400000 in
     unwrap_or (slice_get code (i / 4)) 0 / 256 ^ (i % 4) % 256
 
--- `mov x2, x1` is the only other instruction
+-- `mov x2, x1` and `ret` are the only other instructions
 abbrev pub others : ℕ → Program
 others word s =
-    if word == 0xaa0103e2 then Some (put 2 (s.registers 1) (sum_64 s.pc 4) s) else None
+    if word == 0xaa0103e2 then Some (put 2 (s.registers 1) (sum_64 s.pc 4) s) else (
+    if word == 0xd65f03c0 then Some (go_to (s.registers 30) s) else None)
 
--- The entry at 0x411010 has the address 0x420120, and that at 0x411018 the offset 0x12344.
-abbrev pub code : Code
-code =
+abbrev pub code : List ℕ → List ℕ → Code
+code old new =
     record {
       others = others;
-      old =
-          words
-          (0xb0000080  -- adrp x0, 0x411000
-          ∷ 0xf9400800  -- ldr x0, [x0, 0x10]
-          ∷ 0xb0000081  -- adrp x1, 0x411000
-          ∷ 0xaa0103e2  -- mov x2, x1
-          ∷ 0xf9400c42  -- ldr x2, [x2, 0x18]
-          ∷ []);
-      new =
-          words
-          (0x90000100  -- adrp x0, 0x420000
-          ∷ 0x91048000  -- add x0, x0, 0x120
-          ∷ 0xd2a00021  -- movz x1, 1, lsl 16
-          ∷ 0xaa0103e2  -- mov x2, x1
-          ∷ 0xf2846882  -- movk x2, 0x2344
-          ∷ []);
+      old = words old;
+      new = words new;
       entry = λ h. 0x411018;
       offset = λ h. 0x12344;
     }
 
-abbrev pub is_entry : ℕ → Bool
-is_entry a = nat_le 0x411010 a && nat_le a 0x41101f
+-- from an address on, 8 bytes
+abbrev pub is_entry : ℕ → ℕ → Bool
+is_entry first a = nat_le first a && nat_le a (first + 7)
 
--- memory with a number in each of the two entries
-abbrev pub entries : ℕ → ℕ → ℕ → ℕ
-entries first second a =
-    if is_entry a then (first + second * 2 ^ 64) / 256 ^ (a - 0x411010) % 256 else 0
+-- The first entry has a number, and the second the offset.
+abbrev pub entries : ℕ → ℕ → ℕ
+entries first a =
+    if is_entry 0x411010 a then first / 256 ^ (a - 0x411010) % 256 else (
+    if is_entry 0x411018 a then 0x12344 / 256 ^ (a - 0x411018) % 256 else 0)
 
-abbrev pub starting : ℕ → ℕ → State
-starting first second =
-    record {
-      pc = 0x400000;
-      registers = λ r. r;
-      memory = entries first second;
-      outside = λ n. 0;
-    }
+abbrev pub starting : ℕ → State
+starting first =
+    record { pc = 0x400000; registers = λ r. r; memory = entries first; outside = λ n. 0 }
 
-abbrev pub old_start : State
-old_start = starting 0x420120 0x12344
-
--- new's code reads no entry
-abbrev pub new_start : State
-new_start = starting 0 0
-
+-- What is in the first entry may differ.
 abbrev pub known : Kinds
 known =
     record {
       registers = λ r. same;
-      memory = λ a. of_byte (if is_entry a then anything else same);
+      memory = λ a. of_byte (if is_entry 0x411010 a then anything else same);
     }
 
-abbrev pub Ends : (ℕ → ℕ) → State → Type 0
-Ends bytes s =
-    IsSomeAnd (run 5 (machine others bytes) s) (λ s.
-    (s.registers 0 ≡ 0x420120) × (s.registers 2 ≡ 0x12344))
+-- Old and new begin with a number in the first entry, which new's hasn't. They consist of q others
+-- and groups, which are m instructions of old and n of new, and then registers have numbers.
+pub record IsRun (old new : List ℕ) (first : ℕ) (q m n : ℕ) (Ends : (ℕ → ℕ) → Type 0) : Type 0
+  where
+    pub kinds : Kinds
+    pub state : State
+    pub agree : Agree (link (code old new)) known (starting first) (starting 0)
+    pub covered : Covered (of_link (link (code old new))) q n known (starting first) kinds state
+    pub stops : Stops (of_link (link (code old new))) kinds state
+    pub old_ends :
+        IsSomeAnd (run m (machine others (words old)) (starting first)) (λ s. Ends s.registers)
+    pub new_ends :
+        IsSomeAnd (run n (machine others (words new)) (starting 0)) (λ s. Ends s.registers)
 
--- Both execute 5 instructions: the load, the high half, a copy of its register, and the low half.
+-- ---- programs
+
+-- The entry at 0x411010 has the address.
+abbrev pub IsAddress : List ℕ → List ℕ → ℕ → Type 0
+IsAddress old new q = IsRun old new 0x420120 q 2 2 (λ r. r 0 ≡ 0x420120)
+
+abbrev pub old_load : List ℕ
+old_load =
+    0xb0000080  -- adrp x0, 0x411000
+    ∷ 0xf9400800  -- ldr x0, [x0, 0x10]
+    ∷ []
+
+abbrev pub old_sum : List ℕ
+old_sum =
+    0x90000100  -- adrp x0, 0x420000
+    ∷ 0x91048000  -- add x0, x0, 0x120
+    ∷ []
+
+-- after another instruction
+abbrev pub second_adr : ℕ → List ℕ
+second_adr first =
+    first
+    ∷ 0x101008e0  -- adr x0, 0x420120
+    ∷ []
+
+abbrev pub first_adr : List ℕ
+first_adr =
+    0x10100900  -- adr x0, 0x420120
+    ∷ 0xd503201f  -- nop
+    ∷ []
+
+-- a load, the high half of an offset, a copy of its register, and the low half
+abbrev pub old_halves : List ℕ
+old_halves =
+    0xb0000080  -- adrp x0, 0x411000
+    ∷ 0xf9400800  -- ldr x0, [x0, 0x10]
+    ∷ 0xb0000081  -- adrp x1, 0x411000
+    ∷ 0xaa0103e2  -- mov x2, x1
+    ∷ 0xf9400c42  -- ldr x2, [x2, 0x18]
+    ∷ []
+
+abbrev pub new_halves : List ℕ
+new_halves =
+    0x90000100  -- adrp x0, 0x420000
+    ∷ 0x91048000  -- add x0, x0, 0x120
+    ∷ 0xd2a00021  -- movz x1, 1, lsl 16
+    ∷ 0xaa0103e2  -- mov x2, x1
+    ∷ 0xf2846882  -- movk x2, 0x2344
+    ∷ []
+
+-- The descriptor at 0x411010 has the address of a function, and the offset.
+abbrev pub old_descriptor : List ℕ
+old_descriptor =
+    0xb0000080  -- adrp x0, 0x411000
+    ∷ 0xf9400801  -- ldr x1, [x0, 0x10]
+    ∷ 0x91004000  -- add x0, x0, 0x10
+    ∷ 0xd63f0020  -- blr x1
+    ∷ 0
+    ∷ 0xf9400400  -- ldr x0, [x0, 8]
+    ∷ 0xd65f03c0  -- ret
+    ∷ []
+
+abbrev pub IsOffset : List ℕ → Type 0
+IsOffset new = IsRun old_descriptor new 0x400014 1 6 4 (λ r. r 0 ≡ 0x12344)
+
+abbrev pub new_moves : List ℕ
+new_moves =
+    0xd2a00020  -- movz x0, 1, lsl 16
+    ∷ 0xf2846880  -- movk x0, 0x2344
+    ∷ 0xd503201f ∷ 0xd503201f ∷ []
+
+abbrev pub new_load : List ℕ
+new_load =
+    0xb0000080  -- adrp x0, 0x411000
+    ∷ 0xf9400c00  -- ldr x0, [x0, 0x18]
+    ∷ 0xd503201f ∷ 0xd503201f ∷ []
+
+abbrev pub old_branches : List ℕ
+old_branches =
+    0x14000001  -- b .+4
+    ∷ 0x94000001  -- bl .+4
+    ∷ []
+
+abbrev pub IsPassed : Type 0
+IsPassed = IsRun old_branches (0xd503201f ∷ 0xd503201f ∷ []) 0 2 2 2 (λ r. r 0 ≡ 0)
+
 pub record IsWorked : Type 0 where
-  pub kinds : Kinds
-  pub state : State
-  pub agree : Agree (link code) known old_start new_start
-  pub covered : Covered (of_link (link code)) 4 5 known old_start kinds state
-  pub stops : Stops (of_link (link code)) kinds state
-  pub old_ends : Ends code.old old_start
-  pub new_ends : Ends code.new new_start
+  pub halves : IsRun old_halves new_halves 0x420120 4 5 5
+      (λ r. (r 0 ≡ 0x420120) × (r 2 ≡ 0x12344))
+  pub nop_and_adr : IsAddress old_sum (second_adr 0xd503201f) 1
+  pub load_to_nop_and_adr : IsAddress old_load (second_adr 0xd503201f) 1
+  pub adr_and_nop : IsAddress old_sum first_adr 1
+  -- after the `adrp` of both
+  pub add_to_adr : IsAddress old_sum (second_adr 0x90000100) 2
+  pub ldr_to_adr : IsAddress old_load (second_adr 0xb0000080) 2
+  pub descriptor_to_local_exec : IsOffset new_moves
+  pub descriptor_to_initial_exec : IsOffset new_load
+  pub branches : IsPassed

@@ -1,7 +1,7 @@
 -- AArch64: what the instructions of a rewrite's sequences do (Arm Architecture Reference Manual for
 -- A-profile, DDI 0487, C6.2). None of them changes memory, the thread pointer or the flags.
 use Rattle.std.specs.Prelude.{ℕ, ℤ, pos, ◌+ℤ◌, ◌*ℤ◌, ◌/◌, ◌^◌, ◌==◌, ◌&&◌, if◌then◌else◌, Bool, ◌∷◌}
-use Rattle.std.specs.Prelude.{[], List, Option, Some, None, IsSomeAnd, ◌≡◌, false, unsigned_abs}
+use Rattle.std.specs.Prelude.{[], List, Option, Some, None, unsigned_abs}
 use Rattle.std.specs.Int.{w64, bit_at, from_le_bytes, int_rem_euclid}
 use Rattle.linker_base.specs.Bits.{field}
 use Rattle.linker_elf.specs.AArch64.{aarch64_form, shift_of}
@@ -168,20 +168,3 @@ abbrev pub run : List ℕ → State → Option State
 run [] s = Some s
 run (word ∷ []) s = step word s
 run (word ∷ words) s = continue (next_pc s) (run words) (step word s)
-
--- ---- states that are alike
-
--- The states differ in no more than some registers.
-pub record AreAlikeBut (differing : ℕ → Bool) (s t : State) : Type 0 where
-  pub registers : (n : ℕ) → differing n ≡ false → s.registers n ≡ t.registers n
-  pub pc : s.pc ≡ t.pc
-  pub memory : s.memory ≡ t.memory
-  pub thread_pointer : s.thread_pointer ≡ t.thread_pointer
-
--- Both sequences run, and end in such states.
-abbrev pub RunAlikeBut : (ℕ → Bool) → List ℕ → List ℕ → State → Type 0
-RunAlikeBut differing old new s =
-    IsSomeAnd (run old s) (λ t. IsSomeAnd (run new s) (λ u. AreAlikeBut differing t u))
-
-abbrev pub RunAlike : List ℕ → List ℕ → State → Type 0
-RunAlike old new s = RunAlikeBut (λ _. false) old new s

@@ -1,6 +1,7 @@
 -- States and kinds after a change.
-use Rattle.std.specs.Prelude.{ℕ, ◌==◌, if◌then◌else◌}
-use Rattle.linker_laws.specs.Simulation.{State, Kind, Kinds}
+use Rattle.std.specs.Prelude.{ℕ, ◌==◌, if◌then◌else◌, ◌≡◌, ◌<◌, ◌^◌, ◌-◌, ◌⊎◌}
+use Rattle.linker_laws.specs.Machine.{loaded}
+use Rattle.linker_laws.specs.Simulation.{State, Kind, Kinds, Stored, anything}
 
 -- an address is next
 abbrev pub go_to : ℕ → State → State
@@ -14,3 +15,18 @@ put r x next s =
 -- the number in register r is of a kind
 abbrev pub with_register : ℕ → Kind → Kinds → Kinds
 with_register r kind k = record k { registers = λ m. if m == r then kind else k.registers m }
+
+-- A stored number is of its kind still, or may be anything.
+abbrev pub IsKept : Stored → Stored → ℕ → State → State → Type 0
+IsKept k k' a s s' =
+    let first = a - k.below in
+    (k'.kind ≡ anything)
+    ⊎ ((k' ≡ k) × (loaded k.bytes s'.memory first ≡ loaded k.bytes s.memory first))
+
+-- Old alone changes nothing but what may be anything then.
+pub record ChangesOpen (k : Kinds) (s : State) (k' : Kinds) (s' : State) : Type 0 where
+  pub pc : s'.pc ≡ s.pc
+  pub registers : (r : ℕ) → (k'.registers r ≡ anything)
+      ⊎ ((k'.registers r ≡ k.registers r) × (s'.registers r ≡ s.registers r))
+  pub memory : (a : ℕ) → a < 2 ^ 64 → IsKept (k.memory a) (k'.memory a) a s s'
+  pub outside : s'.outside ≡ s.outside

@@ -16,18 +16,13 @@ ghost use Rattle.linker_laws.specs.X86Examples as x86_examples;
 ghost use Rattle.linker_laws.specs.X86RewriteLaws as x86_laws;
 ghost use Rattle.linker_laws.specs.X86ThreadLaws as x86_thread_laws;
 
-/// AArch64: the address of a symbol without its GOT entry, or by `adr`; the offset of a variable
-/// from the thread pointer by moves, or by its GOT entry in place of a descriptor's function; `nop`
-/// in place of a branch to an undefined weak symbol. The halves of initial-exec have a law each
-/// (`high_half`, `low_half`), of two runs, whatever stands between them. The bytes of instructions
-/// may be a section's, from the instruction on (`sections`).
+/// AArch64: the bytes of instructions that a rewrite leaves may be a section's, from the instruction
+/// on. What they compute is in `simulation::aarch64`.
 pub fn aarch64()
-    ensures laws { aarch64_laws.Laws }
+    ensures sections { aarch64_laws.InSections }
     ensures steps { aarch64_worked.WorkedSteps }
     ensures runs { aarch64_worked.WorkedRuns }
-{
-    crate::relocations::aarch64();
-}
+{}
 
 /// PowerPC64: the address of a symbol by its distance from the TOC pointer or from the instruction
 /// and not by its GOT entry, and by one instruction where the distance from the TOC pointer has no
