@@ -1110,21 +1110,23 @@ static inline uint32_t linker_utils_write_properties(
 }
 
 uint32_t linker_utils_write_lazy_header_nonnull(
-    uint16_t machine, uint64_t header, uint64_t words, uint8_t *bytes, size_t bytes_len);
+    uint16_t machine, uint32_t form, uint64_t header, uint64_t words, uint8_t *bytes,
+    size_t bytes_len);
 static inline uint32_t linker_utils_write_lazy_header(
-    uint16_t machine, uint64_t header, uint64_t words, uint8_t *bytes, size_t bytes_len) {
+    uint16_t machine, uint32_t form, uint64_t header, uint64_t words, uint8_t *bytes,
+    size_t bytes_len) {
     return linker_utils_write_lazy_header_nonnull(
-        machine, header, words, LINKER_UTILS_SLICE(uint8_t, bytes), bytes_len);
+        machine, form, header, words, LINKER_UTILS_SLICE(uint8_t, bytes), bytes_len);
 }
 
 uint32_t linker_utils_write_lazy_entry_nonnull(
-    uint16_t machine, const struct linker_utils_lazy_entry *entry, uint8_t *bytes,
+    uint16_t machine, uint32_t form, const struct linker_utils_lazy_entry *entry, uint8_t *bytes,
     size_t bytes_len);
 static inline uint32_t linker_utils_write_lazy_entry(
-    uint16_t machine, const struct linker_utils_lazy_entry *entry, uint8_t *bytes,
+    uint16_t machine, uint32_t form, const struct linker_utils_lazy_entry *entry, uint8_t *bytes,
     size_t bytes_len) {
     return linker_utils_write_lazy_entry_nonnull(
-        machine, entry, LINKER_UTILS_SLICE(uint8_t, bytes), bytes_len);
+        machine, form, entry, LINKER_UTILS_SLICE(uint8_t, bytes), bytes_len);
 }
 
 uint32_t linker_utils_place_stubs_nonnull(

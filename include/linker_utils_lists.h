@@ -912,7 +912,29 @@ enum linker_utils_stub_kind {
     /* To its target wherever that is, by the address in its last 8 bytes. In an output whose load
      * address isn't fixed that address takes a dynamic relocation. */
     LINKER_UTILS_STUB_FAR = 2,
-    LINKER_UTILS_STUB_FAR_RELATIVE = 3 /* the same by a distance, for any load address */
+    LINKER_UTILS_STUB_FAR_RELATIVE = 3, /* the same by a distance, for any load address */
+    /* LINKER_UTILS_STUB_LOAD for protected code: it begins with an instruction to which indirect
+     * branches may go, x86-64's `endbr64` or AArch64's `bti c`. */
+    LINKER_UTILS_STUB_LANDING_LOAD = 4
+};
+
+/* Forms of a lazy PLT, by how code is protected: where indirect branches may go, and whether
+ * addresses in words are authenticated. */
+enum linker_utils_lazy_form {
+    LINKER_UTILS_LAZY_PLAIN = 0, /* for code that isn't protected */
+    /* What words lead to at first begins with an instruction to which indirect branches may go. On
+     * AArch64 it is the header, with `bti c` (ld.lld's `-z force-bti`). On x86-64 it is the entry,
+     * with `endbr64` (`-z force-ibt`). There calls go to a LINKER_UTILS_STUB_LANDING_LOAD to the
+     * word of the entry, which is the entry of `.plt.sec`. */
+    LINKER_UTILS_LAZY_LANDING = 1,
+    /* AArch64: the same, and the entry begins with `bti c`. So do ld.lld's whose address is the
+     * function's in other outputs, those of indirect functions, and those that a stub goes to. */
+    LINKER_UTILS_LAZY_LANDING_ENTRY = 2,
+    /* AArch64: the entry authenticates the address that its word has, with `autia1716`
+     * (`-z pac-plt`). */
+    LINKER_UTILS_LAZY_AUTHENTICATED = 3,
+    LINKER_UTILS_LAZY_AUTHENTICATED_LANDING = 4, /* the same, with the header of 1 */
+    LINKER_UTILS_LAZY_AUTHENTICATED_LANDING_ENTRY = 5 /* the same, with `bti c` as 2 */
 };
 
 /* Which address a relocation's value is computed from, in the letters of `enum

@@ -198,16 +198,19 @@ struct linker_utils_lazy_plt {
     uint64_t header_words; /* how many words `.got.plt` has before those of entries */
 };
 
-/* The lazy PLT of an architecture. */
+/* The lazy PLT of an architecture in a form, by `enum linker_utils_lazy_form`. AArch64's entries
+ * have 24 bytes in all forms but LINKER_UTILS_LAZY_PLAIN. LINKER_UTILS_UNKNOWN_STUB where the
+ * architecture has none of the form. */
 LINKER_UTILS_MUST_USE uint32_t linker_utils_get_lazy_plt(
-    uint16_t machine, struct linker_utils_lazy_plt *plt);
+    uint16_t machine, uint32_t form, struct linker_utils_lazy_plt *plt);
 
 /* Writes the header that stands at the address `header`, of the `.got.plt` at `words`, to the
  * beginning of `bytes`. PowerPC64's is `__glink_PLTresolve`, and its `.got.plt` is the section
- * `.plt`. LINKER_UTILS_TOO_SHORT; and where `words` are out of reach the status of the first such
- * field, as `linker_utils_relocate`. */
+ * `.plt`. LINKER_UTILS_UNKNOWN_STUB; LINKER_UTILS_TOO_SHORT; and where `words` are out of reach
+ * the status of the first such field, as `linker_utils_relocate`. */
 LINKER_UTILS_MUST_USE static inline uint32_t linker_utils_write_lazy_header(
-    uint16_t machine, uint64_t header, uint64_t words, uint8_t *bytes, size_t bytes_len);
+    uint16_t machine, uint32_t form, uint64_t header, uint64_t words, uint8_t *bytes,
+    size_t bytes_len);
 
 /* What an entry is written from. */
 struct linker_utils_lazy_entry {
@@ -219,20 +222,20 @@ struct linker_utils_lazy_entry {
 
 /* Writes an entry to the beginning of `bytes`. The errors of `linker_utils_write_lazy_header`. */
 LINKER_UTILS_MUST_USE static inline uint32_t linker_utils_write_lazy_entry(
-    uint16_t machine, const struct linker_utils_lazy_entry *entry, uint8_t *bytes,
+    uint16_t machine, uint32_t form, const struct linker_utils_lazy_entry *entry, uint8_t *bytes,
     size_t bytes_len);
 
-/* What the word with an index at the start of `.got.plt` holds, by the addresses of `.dynamic` and
- * of the header. LINKER_UTILS_NOT_PROVIDED where that is no word before those of entries. */
+/* What the word with an index at the start of `.got.plt` holds in each form, by the addresses of
+ * `.dynamic` and of the header. LINKER_UTILS_NOT_PROVIDED where that is no word before those of entries. */
 LINKER_UTILS_MUST_USE uint32_t linker_utils_lazy_header_word(
     uint16_t machine, size_t index, uint64_t dynamic, uint64_t header, uint64_t *word);
 
 /* What the word of the entry at an address holds until the dynamic linker has looked up the
  * function, by the addresses of the header and of `.dynamic`. PowerPC64's the dynamic linker puts
  * there itself, from DT_PPC64_GLINK, which is 32 below the first entry: in an output its section
- * has no contents. */
-uint64_t linker_utils_lazy_entry_word(uint16_t machine, uint64_t entry, uint64_t header,
-                                      uint64_t dynamic);
+ * has no contents. 0 where the architecture has none of the form. */
+uint64_t linker_utils_lazy_entry_word(uint16_t machine, uint32_t form, uint64_t entry,
+                                      uint64_t header, uint64_t dynamic);
 
 /* ---- Routes by types: when `linker_utils_route_at` goes by a stub.
  *

@@ -179,7 +179,7 @@ pub mod output {
         CodeUnit, Interpreter, SaveRestoreRoutines, ProvidedSymbol, RunWord, SymbolPlace,
     };
     pub use crate::linker_output::lazy_plt::{
-        LazyEntry, LazyField, LazyPiece, LazyPlt, LazyTarget, LazyWord,
+        LazyEntry, LazyField, LazyForm, LazyPiece, LazyPlt, LazyTarget, LazyWord,
     };
     pub use crate::linker_output::properties::{
         Property, PropertyError, PropertyRule, merge_properties, property_rule, read_properties,

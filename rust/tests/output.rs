@@ -308,8 +308,18 @@ const FAR: u64 = 0x334_5678;
 
 /// Of each stub the bytes that clang 19 and ld.lld 19 make of its instructions, and of PowerPC64's GNU
 /// as, at `PLACE`, for a word at `WORD` or a target at `FAR`.
-const STUBS: [(Architecture, StubKind, &str); 8] = [
+const STUBS: [(Architecture, StubKind, &str); 10] = [
     (Architecture::X86_64, StubKind::Load, "ff253202c4ffcccc"),
+    (
+        Architecture::X86_64,
+        StubKind::LandingLoad,
+        "f30f1efaff252e02c4ff660f1f440000",
+    ),
+    (
+        Architecture::AArch64,
+        StubKind::LandingLoad,
+        "5f2403d510e2ff90111e41f920021fd6",
+    ),
     (
         Architecture::AArch64,
         StubKind::Load,
@@ -384,7 +394,10 @@ fn stubs_are_what_assemblers_make_of_their_instructions() {
     for (architecture, kind, hex) in STUBS {
         let target = Target::of(architecture);
         let expected = bytes(hex);
-        let to = if kind == StubKind::Load { WORD } else { FAR };
+        let to = match kind {
+            StubKind::Load | StubKind::LandingLoad => WORD,
+            _ => FAR,
+        };
         let stub = target.stub(kind).unwrap();
         assert_eq!(stub.len(), expected.len() as u64);
 
@@ -415,7 +428,21 @@ fn stubs_reach_as_far_as_their_fields() {
         // from the next instruction, 6 bytes on
         (X86_64, StubKind::Load, -(1 << 31) + 6, (1 << 31) - 1 + 6, 1),
         // pages within 4 GiB
+        (
+            X86_64,
+            StubKind::LandingLoad,
+            -(1 << 31) + 10,
+            (1 << 31) - 1 + 10,
+            1,
+        ),
         (AArch64, StubKind::Load, -(1i64 << 32), (1 << 32) - 8, 8),
+        (
+            AArch64,
+            StubKind::LandingLoad,
+            -(1i64 << 32),
+            (1 << 32) - 8,
+            8,
+        ),
         (AArch64, StubKind::Jump, -(1i64 << 32), (1 << 32) - 1, 1),
         (
             RiscV,
@@ -534,6 +561,7 @@ fn a_further_architecture_is_a_value() {
             origin: 4,
             addend: 0,
         },
+        landing_load_stub: None,
         jump_stub: None,
         far_stub: None,
         far_relative_stub: None,
@@ -566,7 +594,7 @@ fn a_further_architecture_is_a_value() {
     sixth
         .write_stub(StubKind::Load, PLACE - 4, WORD, &mut out)
         .unwrap();
-    let (_, _, code) = STUBS[3];
+    let (_, _, code) = STUBS[5];
     assert_eq!(out[4..16], bytes(code));
     assert_eq!(
         (&out[..4], &out[16..]),

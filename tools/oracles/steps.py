@@ -6,7 +6,7 @@ instructions of the first three, and qemu-user for PowerPC64. For LoongArch it t
 qemu, which has vector registers, from the folder LOONGARCH_ROOT that `examples/real/loongarch`
 fills. `rt check` in `crates/linker_final` then compares with the instructions of `linker_laws`.
 
-Of each instruction there are 40 rows, and of `nop` four. A state has a number at each place: at 0
+Of each instruction there are 40 rows, and of those that do nothing four. A state has a number at each place: at 0
 to 65 and at 128 to 159 the registers, at `m0` to `m3` 8 bytes of memory each, at `flags` the flags,
 at `pc` the address of the instruction, and at `at` the address of the memory. Operands and
 immediates are extremes (0, 1, all ones, the largest and the least of 32 and of 64 signed bits) in
@@ -372,6 +372,7 @@ class X86(Unicorn):
         yield Group("nop", [Row(b"\x90", self.numbers()) for _ in range(4)], X86_FLAGS)
         for name, *parts in pushes:
             yield self.group(name, parts, X86_FLAGS)
+        yield Group("endbr64", [Row(b"\xf3\x0f\x1e\xfa", self.numbers()) for _ in range(4)], X86_FLAGS)
 
     def group(self, name, parts, mask):
         chance, rows = Chance(name), []
@@ -470,9 +471,9 @@ class AArch64(Unicorn):
     registers[31] = arm.UC_ARM64_REG_SP
 
     def groups(self):
-        for name in "adrp adr add ldr movz movn movk nop blr bl b br stp".split():
+        for name in "adrp adr add ldr movz movn movk nop blr bl b br stp bti".split():
             chance, rows = Chance(name), []
-            for chance.turn in range(ROWS if name != "nop" else 4):
+            for chance.turn in range(ROWS if name not in ("nop", "bti") else 4):
                 rows.append(self.row(chance, name))
             yield Group(name, rows)
 
@@ -498,6 +499,7 @@ class AArch64(Unicorn):
             "movn": 0x9280_0000 | shift | imm16 << 5 | rd,
             "movk": 0xf280_0000 | shift | imm16 << 5 | rd,
             "nop": 0xd503_201f,
+            "bti": 0xd503_245f,   # bti c
             "blr": 0xd63f_0000 | rn << 5,
             "bl": 0x9400_0000 | imm26,
             "b": 0x1400_0000 | imm26,

@@ -79,8 +79,8 @@ int main(void) {
     EXPECT(TOO_SHORT, get_save_restore_routines(LINKER_UTILS_PPC64, 0, NULL, 0, &count, &run));
     EXPECT(TOO_SHORT, write_stub(LINKER_UTILS_X86_64, LINKER_UTILS_STUB_LOAD, 0, 0, NULL, 0));
     struct linker_utils_lazy_entry lazy = {0, 0, 0, 0};
-    EXPECT(TOO_SHORT, write_lazy_header(LINKER_UTILS_X86_64, 0, 0, NULL, 0));
-    EXPECT(TOO_SHORT, write_lazy_entry(LINKER_UTILS_X86_64, &lazy, NULL, 0));
+    EXPECT(TOO_SHORT, write_lazy_header(LINKER_UTILS_X86_64, 1, 0, 0, NULL, 0));
+    EXPECT(TOO_SHORT, write_lazy_entry(LINKER_UTILS_X86_64, 1, &lazy, NULL, 0));
     EXPECT(OUT_OF_SECTION, jal_site(&section, 0, 0));
     EXPECT(OUT_OF_SECTION, relax_call(&section, NULL, 0, 0, 0));
     if (linker_utils_is_plain_call(&section, 0)) failures++;

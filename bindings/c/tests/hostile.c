@@ -1683,7 +1683,7 @@ static void call_provided_word(void) {
 
 static void call_stub(void) {
     struct linker_utils_stub *stub = output(sizeof *stub);
-    uint32_t kind = once_in(8) ? (uint32_t)any_number() : (uint32_t)below(4);
+    uint32_t kind = once_in(8) ? (uint32_t)any_number() : (uint32_t)below(6);
     uint32_t status = CALL(get_stub, any_machine(), kind, stub);
     expect(status || (stub->len <= 64 && stub->entry < stub->len), "no stub");
     finish_with(status, 0 UNKNOWN OR(UNKNOWN_STUB));
@@ -1691,32 +1691,37 @@ static void call_stub(void) {
 
 static void call_write_stub(void) {
     struct buffer *code = bytes(WRITTEN, any_len(48));
-    uint32_t kind = once_in(8) ? (uint32_t)any_number() : (uint32_t)below(4);
+    uint32_t kind = once_in(8) ? (uint32_t)any_number() : (uint32_t)below(6);
     uint64_t at = any_number(), target = once_in(4) ? any_number() : at + 4 * below(1 << 20);
     changes(code, 0, 36);
     uint32_t status = CALL(write_stub, any_machine(), kind, at, target, code->given, code->len);
     finish_with(status, 0 UNKNOWN OR(UNKNOWN_STUB) OR(TOO_SHORT) OR(OUT_OF_REACH) OR(MISALIGNED));
 }
 
+static uint32_t any_form(void) {
+    return once_in(8) ? (uint32_t)any_number() : (uint32_t)below(7);
+}
+
 static void call_lazy_plt(void) {
     struct linker_utils_lazy_plt *plt = output(sizeof *plt);
-    uint32_t status = CALL(get_lazy_plt, any_machine(), plt);
-    expect(status || (plt->header_len <= 60 && plt->entry_len <= 16 && plt->alignment <= 16 &&
+    uint32_t status = CALL(get_lazy_plt, any_machine(), any_form(), plt);
+    expect(status || (plt->header_len <= 60 && plt->entry_len <= 24 && plt->alignment <= 16 &&
                       plt->header_words <= 3), "no lazy PLT");
-    finish_with(status, 0 UNKNOWN);
+    finish_with(status, 0 UNKNOWN OR(UNKNOWN_STUB));
 }
 
 static void call_write_lazy_header(void) {
     struct buffer *code = bytes(WRITTEN, any_len(72));
     uint64_t at = any_number(), words = once_in(4) ? any_number() : at + 8 * below(1 << 20);
     changes(code, 0, 60);
-    uint32_t status = CALL(write_lazy_header, any_machine(), at, words, code->given, code->len);
-    finish_with(status, 0 UNKNOWN OR(TOO_SHORT) OR(OUT_OF_REACH) OR(MISALIGNED));
+    uint32_t status = CALL(write_lazy_header, any_machine(), any_form(), at, words, code->given,
+                           code->len);
+    finish_with(status, 0 UNKNOWN OR(UNKNOWN_STUB) OR(TOO_SHORT) OR(OUT_OF_REACH) OR(MISALIGNED));
 }
 
 static void call_write_lazy_entry(void) {
     struct buffer *given = place(READ, 1, sizeof(struct linker_utils_lazy_entry));
-    struct buffer *code = bytes(WRITTEN, any_len(24));
+    struct buffer *code = bytes(WRITTEN, any_len(32));
     uint64_t at = any_number(), index = once_in(4) ? any_number() : below(1 << 16);
     *(struct linker_utils_lazy_entry *)filled(given) = (struct linker_utils_lazy_entry){
         .address = at,
@@ -1724,9 +1729,10 @@ static void call_write_lazy_entry(void) {
         .header = once_in(4) ? any_number() : at - 32 - 16 * index,
         .index = index,
     };
-    changes(code, 0, 16);
-    uint32_t status = CALL(write_lazy_entry, any_machine(), given->given, code->given, code->len);
-    finish_with(status, 0 UNKNOWN OR(TOO_SHORT) OR(OUT_OF_REACH) OR(MISALIGNED));
+    changes(code, 0, 24);
+    uint32_t status = CALL(write_lazy_entry, any_machine(), any_form(), given->given, code->given,
+                           code->len);
+    finish_with(status, 0 UNKNOWN OR(UNKNOWN_STUB) OR(TOO_SHORT) OR(OUT_OF_REACH) OR(MISALIGNED));
 }
 
 static void call_lazy_words(void) {
@@ -1734,7 +1740,8 @@ static void call_lazy_words(void) {
     size_t index = once_in(4) ? (size_t)any_number() : below(4);
     uint32_t status = CALL(lazy_header_word, any_machine(), index, dynamic, header, word);
     expect(status || !*word || *word == dynamic || *word == header, "another word");
-    uint64_t entry = any_number(), first = CALL(lazy_entry_word, any_machine(), entry, header, dynamic);
+    uint64_t entry = any_number();
+    uint64_t first = CALL(lazy_entry_word, any_machine(), any_form(), entry, header, dynamic);
     expect(!first || first == header || first - entry < 16, "another word of an entry");
     finish_with(status, 0 UNKNOWN OR(NOT_PROVIDED));
 }

@@ -1942,38 +1942,41 @@ pub fn write_stub(
     result_of(status, ())
 }
 
-/// The lazy PLT of an architecture.
-pub fn lazy_plt(architecture: Architecture) -> LazyPlt {
-    let mut plt = LazyPlt::default();
-    // every architecture has one
-    unsafe { raw::linker_utils_get_lazy_plt(architecture.machine(), &mut plt) };
-    plt
+/// The lazy PLT of an architecture in a form, if the architecture has one.
+pub fn lazy_plt(architecture: Architecture, form: LazyForm) -> Result<LazyPlt, Status> {
+    let (machine, mut plt) = (architecture.machine(), LazyPlt::default());
+    let status = unsafe { raw::linker_utils_get_lazy_plt(machine, form.number(), &mut plt) };
+    result_of(status, plt)
 }
 
 /// Writes the header of a lazy PLT that stands at an address, of the `.got.plt` at `words`, to the
 /// beginning of bytes.
 pub fn write_lazy_header(
     architecture: Architecture,
+    form: LazyForm,
     header: u64,
     words: u64,
     bytes: &mut [u8],
 ) -> Result<(), Status> {
     let (at, len) = (bytes.as_mut_ptr(), bytes.len());
-    let machine = architecture.machine();
-    let status =
-        unsafe { raw::linker_utils_write_lazy_header_nonnull(machine, header, words, at, len) };
+    let (machine, form) = (architecture.machine(), form.number());
+    let status = unsafe {
+        raw::linker_utils_write_lazy_header_nonnull(machine, form, header, words, at, len)
+    };
     result_of(status, ())
 }
 
 /// Writes an entry of a lazy PLT to the beginning of bytes.
 pub fn write_lazy_entry(
     architecture: Architecture,
+    form: LazyForm,
     entry: &LazyEntry,
     bytes: &mut [u8],
 ) -> Result<(), Status> {
     let (at, len) = (bytes.as_mut_ptr(), bytes.len());
-    let machine = architecture.machine();
-    let status = unsafe { raw::linker_utils_write_lazy_entry_nonnull(machine, entry, at, len) };
+    let (machine, form) = (architecture.machine(), form.number());
+    let status =
+        unsafe { raw::linker_utils_write_lazy_entry_nonnull(machine, form, entry, at, len) };
     result_of(status, ())
 }
 
@@ -1992,9 +1995,17 @@ pub fn lazy_header_word(
     result_of(status, word)
 }
 
-/// What the word of the entry at an address holds until the dynamic linker has looked up the function.
-pub fn lazy_entry_word(architecture: Architecture, entry: u64, header: u64, dynamic: u64) -> u64 {
-    unsafe { raw::linker_utils_lazy_entry_word(architecture.machine(), entry, header, dynamic) }
+/// What the word of the entry at an address holds until the dynamic linker has looked up the function,
+/// or 0 if the architecture has none of the form.
+pub fn lazy_entry_word(
+    architecture: Architecture,
+    form: LazyForm,
+    entry: u64,
+    header: u64,
+    dynamic: u64,
+) -> u64 {
+    let (machine, form) = (architecture.machine(), form.number());
+    unsafe { raw::linker_utils_lazy_entry_word(machine, form, entry, header, dynamic) }
 }
 
 /// A route by its numbers.

@@ -216,6 +216,11 @@ linker_utils_stub_kind! { numbered
     StubKind: u32
 }
 
+linker_utils_lazy_form! { numbered
+    /// A form of a lazy PLT, by how code is protected.
+    LazyForm: u32
+}
+
 linker_utils_phase! { numbered
     /// When rewrites are made: what a linker has to know before.
     Phase: u32

@@ -1026,9 +1026,10 @@ extern "C" {
         note_len: usize,
         number: *mut usize,
     ) -> u32;
-    pub fn linker_utils_get_lazy_plt(machine: u16, plt: *mut LazyPlt) -> u32;
+    pub fn linker_utils_get_lazy_plt(machine: u16, form: u32, plt: *mut LazyPlt) -> u32;
     pub fn linker_utils_write_lazy_header_nonnull(
         machine: u16,
+        form: u32,
         header: u64,
         words: u64,
         bytes: *mut u8,
@@ -1036,6 +1037,7 @@ extern "C" {
     ) -> u32;
     pub fn linker_utils_write_lazy_entry_nonnull(
         machine: u16,
+        form: u32,
         entry: *const LazyEntry,
         bytes: *mut u8,
         bytes_len: usize,
@@ -1047,7 +1049,13 @@ extern "C" {
         header: u64,
         word: *mut u64,
     ) -> u32;
-    pub fn linker_utils_lazy_entry_word(machine: u16, entry: u64, header: u64, dynamic: u64) -> u64;
+    pub fn linker_utils_lazy_entry_word(
+        machine: u16,
+        form: u32,
+        entry: u64,
+        header: u64,
+        dynamic: u64,
+    ) -> u64;
     pub fn linker_utils_most_stubs(branches_len: usize) -> usize;
     pub fn linker_utils_place_stubs_nonnull(
         branches: *const Branch,

@@ -464,6 +464,10 @@ fn the_numbers_are_those_of_the_library() {
         variants("linker_output/src/stubs", "StubKind")
     );
     assert_eq!(
+        numbers(LazyForm::ALL, LazyForm::number),
+        variants("linker_output/src/lazy_plt", "LazyForm")
+    );
+    assert_eq!(
         numbers(RelocationKind::ALL, RelocationKind::number),
         variants("linker_elf/src/elf", "RelocationKind")
     );

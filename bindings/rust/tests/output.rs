@@ -189,26 +189,44 @@ fn stubs_go_to_their_targets() {
 #[test]
 fn lazy_entries_are_those_of_linkers() {
     let lens = LazyPlt { header_len: 16, entry_len: 16, alignment: 16, header_words: 3 };
-    assert_eq!(lazy_plt(X86_64), lens);
+    assert_eq!(lazy_plt(X86_64, LazyForm::Plain), Ok(lens));
     let entry = LazyEntry { address: 0x1360, word: 0x3448, header: 0x1330, index: 2 };
     let mut code = [7; 17];
-    assert_eq!(write_lazy_entry(X86_64, &entry, &mut code), Ok(()));
+    assert_eq!(write_lazy_entry(X86_64, LazyForm::Plain, &entry, &mut code), Ok(()));
     assert_eq!(code[..6], [0xff, 0x25, 0xe2, 0x20, 0, 0]);
     assert_eq!(code[6..], [0x68, 2, 0, 0, 0, 0xe9, 0xc0, 0xff, 0xff, 0xff, 7]);
-    assert_eq!(write_lazy_header(X86_64, 0x1330, 0x3420, &mut code), Ok(()));
+    assert_eq!(write_lazy_header(X86_64, LazyForm::Plain, 0x1330, 0x3420, &mut code), Ok(()));
     assert_eq!(code[..6], [0xff, 0x35, 0xf2, 0x20, 0, 0]);
     assert_eq!(code[6..], [0xff, 0x25, 0xf4, 0x20, 0, 0, 0x0f, 0x1f, 0x40, 0, 7]);
     assert_eq!(lazy_header_word(X86_64, 0, 0x2370, 0x1330), Ok(0x2370));
     assert_eq!(lazy_header_word(X86_64, 3, 0x2370, 0x1330), Err(Status::NotProvided));
-    assert_eq!(lazy_entry_word(X86_64, 0x1360, 0x1330, 0x2370), 0x1366);
-    assert_eq!(lazy_entry_word(RISCV, 0x1360, 0x1330, 0x2370), 0x1330);
+    assert_eq!(lazy_entry_word(X86_64, LazyForm::Plain, 0x1360, 0x1330, 0x2370), 0x1366);
+    assert_eq!(lazy_entry_word(RISCV, LazyForm::Plain, 0x1360, 0x1330, 0x2370), 0x1330);
     // `b` of PowerPC64 reaches 32 MiB
     let entry = LazyEntry { address: 0x200_0004, word: 0, header: 0, index: 0 };
     let mut code = [7; 4];
-    let far = write_lazy_entry(PPC64, &entry, &mut code);
+    let far = write_lazy_entry(PPC64, LazyForm::Plain, &entry, &mut code);
     assert_eq!((far, code), (Err(Status::OutOfReach), [7; 4]));
-    let short = write_lazy_header(PPC64, 0, 8, &mut code);
+    let short = write_lazy_header(PPC64, LazyForm::Plain, 0, 8, &mut code);
     assert_eq!((short, code), (Err(Status::TooShort), [7; 4]));
+}
+
+/// The third entries of `.plt` and `.plt.sec` that ld.lld 19.1 makes with `-shared -z force-ibt`.
+#[test]
+fn landing_entries_are_those_of_linkers() {
+    let entry = LazyEntry { address: 0x13f0, word: 0x3508, header: 0x13c0, index: 2 };
+    let mut code = [7; 17];
+    assert_eq!(write_lazy_entry(X86_64, LazyForm::Landing, &entry, &mut code), Ok(()));
+    assert_eq!(code[..9], [0xf3, 0x0f, 0x1e, 0xfa, 0x68, 2, 0, 0, 0]);
+    assert_eq!(code[9..], [0xe9, 0xc2, 0xff, 0xff, 0xff, 0x66, 0x90, 7]);
+    assert_eq!(lazy_entry_word(X86_64, LazyForm::Landing, 0x13f0, 0x13c0, 0x2430), 0x13f0);
+    assert_eq!(write_stub(X86_64, StubKind::LandingLoad, 0x1420, 0x3508, &mut code), Ok(()));
+    assert_eq!(code[..10], [0xf3, 0x0f, 0x1e, 0xfa, 0xff, 0x25, 0xde, 0x20, 0, 0]);
+    assert_eq!(code[10..], [0x66, 0x0f, 0x1f, 0x44, 0, 0, 7]);
+    let lens = LazyPlt { header_len: 32, entry_len: 24, alignment: 16, header_words: 3 };
+    assert_eq!(lazy_plt(AARCH64, LazyForm::AuthenticatedLandingEntry), Ok(lens));
+    assert_eq!(lazy_plt(RISCV, LazyForm::Landing), Err(Status::UnknownStub));
+    assert_eq!(lazy_entry_word(RISCV, LazyForm::Landing, 1, 2, 3), 0);
 }
 
 /// The bytes of an `Elf64_Rela`, of symbol 1.

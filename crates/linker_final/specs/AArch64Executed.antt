@@ -1,5 +1,5 @@
--- AArch64: the instructions of `linker_laws`, and BR and STP of `linker_output`, compared with an
--- emulator. Register 31 is the stack pointer.
+-- AArch64: the instructions of `linker_laws`, and BR, STP and BTI of `linker_output`, compared with
+-- an emulator. Register 31 is the stack pointer.
 use Rattle.std.specs.Prelude.{◌≡◌, Bool, true, false, Option, Some, None}
 use Rattle.std.specs.List.{list_all}
 use Rattle.linker_laws.specs.AArch64Machine.{State}

@@ -567,4 +567,11 @@ aarch64_groups =
     row 484 0xa9a8dd70 with (11, 0x600030c51222) => (11, 0x600030c510aa) => (m1, 0x5f6cbc3c4bb24ee5)
     => (m2, 0x9abd87b871a0fb14) ∷
     []) ∷
+    -- bti
+    group 0x0 (
+    row 485 0xd503245f ∷
+    row 486 0xd503245f ∷
+    row 487 0xd503245f ∷
+    row 488 0xd503245f ∷
+    []) ∷
     []

@@ -1,5 +1,5 @@
--- x86-64: the instructions of `linker_laws`, and PUSH of `linker_output`, compared with an
--- emulator. Register 16 is where the FS segment begins.
+-- x86-64: the instructions of `linker_laws`, and PUSH and ENDBR64 of `linker_output`, compared with
+-- an emulator. Register 16 is where the FS segment begins.
 use Rattle.std.specs.Prelude.{ℕ, zero, suc, ◌≡◌, ◌+◌, ◌*◌, ◌/◌, ◌%◌, ◌==◌, ◌^◌, Bool, true, false}
 use Rattle.std.specs.Prelude.{Option, Some, None, if◌then◌else◌, List, [], ◌∷◌, length}
 use Rattle.std.specs.List.{list_all}

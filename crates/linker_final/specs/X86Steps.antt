@@ -1804,4 +1804,11 @@ x86_groups =
     row 1204 0xff35fa127bfe with (4, 0x700001a550c8) with (at, 0x700001a550c0)
     => (4, 0x700001a550c0) => (m0, 0x21af830732f61237) ∷
     []) ∷
+    -- endbr64
+    group 0x8d5 (
+    row 1205 0xf30f1efa ∷
+    row 1206 0xf30f1efa ∷
+    row 1207 0xf30f1efa ∷
+    row 1208 0xf30f1efa ∷
+    []) ∷
     []

@@ -19,7 +19,7 @@ ghost use Rattle.linker_final.specs.X86Executed as x86_executed;
 
 /// AArch64: offsets of loads and stores, `adr` and `adrp`, moves, additions, branches, a
 /// number by four moves, and `adrp` with `add`; and what the instructions of
-/// `linker_laws`, and BR and STP, do.
+/// `linker_laws`, and BR, STP and BTI, do.
 pub fn aarch64()
     ensures agrees { aarch64_table.Agrees }
     ensures steps { aarch64_executed.Agrees }
@@ -62,7 +62,7 @@ pub fn ppc64_functions()
     ensures agree { ppc64_functions_executed.Agree }
 {}
 
-/// x86-64: what the instructions of `linker_laws`, and PUSH, do.
+/// x86-64: what the instructions of `linker_laws`, and PUSH and ENDBR64, do.
 pub fn x86_64()
     ensures steps { x86_executed.Agrees }
 {}

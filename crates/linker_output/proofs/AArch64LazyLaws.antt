@@ -1,8 +1,8 @@
 -- AArch64's lazy PLT.
 use Rattle.std.proofs.Common.{◌≡◌, ℕ, ◌+◌, ◌-◌, ◌*◌, ◌^◌, ◌<◌, ◌≤◌, Bool, true, false, refl, sym, ◌∙◌, ap, subst, arith}
-use Rattle.std.proofs.Common.{List, [], ◌∷◌, ◌++◌, take, eqb, cond, Some, pos, negsuc, ◌+ℤ◌}
+use Rattle.std.proofs.Common.{List, [], ◌∷◌, ◌++◌, take, drop, eqb, cond, Some, pos, negsuc, ◌+ℤ◌}
 use Rattle.std.specs.Prelude.{◌||◌, ◌==◌, IsSomeAnd, nat_lt, if◌then◌else◌}
-use Rattle.std.specs.Int.{w64, from_le_bytes}
+use Rattle.std.specs.Int.{w64, from_le_bytes, cast_unsigned}
 use Rattle.std.proofs.lemmas.Bool.{cond-true, cond-false}
 use Rattle.std.proofs.lemmas.Int.{ints}
 use Rattle.linker_base.specs.Bits.{field}
@@ -17,20 +17,24 @@ use Rattle.linker_laws.specs.AArch64Machine.{State, adrp_address, loaded, added,
 use Rattle.linker_laws.specs.AArch64RelocationLaws.{RelativeAddresses, page_and_offset}
 use Rattle.linker_laws.specs.AArch64RewriteLaws.{word_of}
 use Rattle.linker_laws.specs.Machine.{stored}
-use Rattle.linker_laws.specs.Schemes.{IsAddress, symbol_address}
+use Rattle.linker_laws.specs.Schemes.{IsAddress}
 use Rattle.linker_laws.proofs.AArch64Pairs.{loads, adds_up}
 use Rattle.linker_laws.proofs.AArch64Steps.{set, step_add}
 use Rattle.linker_laws.proofs.AArch64Words.{IsAdrOf, IsInstructionOf, adrp_after, ldr_after, add_after, of_registers}
 use Rattle.linker_laws.proofs.RiscVMachine.{wrapped_is}
 use Rattle.linker_output.proofs.LazyRuns.{run_more, left_false, right_false, one_word, are_addresses_at}
 use Rattle.linker_output.proofs.StubWords.{applies, no_addend, at_place}
-use Rattle.linker_output.specs.AArch64LazyPlt.{step, further, run, pair_stored, pair_address, GoesTo, Asks}
+use Rattle.linker_output.specs.AArch64LazyPlt.{step, further, run, pair_stored, pair_address, GoesTo, Asks, IsOffStack}
 use Rattle.linker_output.specs.AArch64LazyPlt as laws
 use Rattle.linker_output.specs.LazyPlt.{IsCode, operands_at, header_places}
-use Rattle.linker_output.specs.LazyPlts.{aarch64_entry, padded}
+use Rattle.linker_output.specs.LazyPlts.{aarch64_loads, aarch64_entry, aarch64_wide_entry, aarch64_landing_entry}
+use Rattle.linker_output.specs.LazyPlts.{aarch64_header, aarch64_landing_header, padded}
+use Rattle.linker_output.specs.LazyPlts as plts
 use Rattle.linker_output.specs.LazyRuns.{words, or_else}
 use Rattle.linker_output.specs.Tables.{field_of, code_of_words}
 use Rattle.linker_output.specs.declared.lazy_plt.LazyEntry.{LazyEntry}
+use Rattle.linker_output.specs.declared.lazy_plt.LazyField.{LazyField}
+use Rattle.linker_output.specs.declared.lazy_plt.LazyPiece.{LazyPiece}
 use Rattle.linker_output.specs.declared.lazy_plt.LazyTarget.TheVariants.{Word}
 use Rattle.linker_elf.specs.declared.elf.architecture.Architecture.TheVariants.{AArch64}
 
@@ -81,9 +85,9 @@ module _ (o : Operands) (s : State) (x y z target : ℕ) (first : IsAdrOf 1 16 x
       ap (λ n. in_64_bits (pos (two.registers n) +ℤ (aarch64_form Add).machine z)) third.rn_is
       ∙ adds_up o x z target s at adds_to
 
-  pub others : (n : ℕ) → (n == 16 || n == 17) ≡ false → four.registers n ≡ s.registers n
+  pub others_are : (n : ℕ) → (n == 16 || n == 17) ≡ false → four.registers n ≡ s.registers n
   unfolding one two three four
-  others n e = kept (eqb n 16) (eqb n 17) (adrp_address x s) (loaded y one) (added z two) (s.registers n) e
+  others_are n e = kept (eqb n 16) (eqb n 17) (adrp_address x s) (loaded y one) (added z two) (s.registers n) e
 
   pub memory_is : four.memory ≡ s.memory
   unfolding one two three four
@@ -93,28 +97,41 @@ module _ (o : Operands) (s : State) (x y z target : ℕ) (first : IsAdrOf 1 16 x
   unfolding one two three four
   pointer_is = refl
 
--- ---- an entry
+-- ---- the pieces, and `br x17`
 
-abbrev operands : ℕ → ℕ → LazyEntry → Operands
-operands origin addend entry =
-    operands_at
-    (record {
+-- the word at the target is loaded and gone to
+record Ends (target : ℕ) (memory registers : ℕ → ℕ) (pointer : ℕ) (t : State) : Type 0 where
+  pub pc : t.pc ≡ load_64 memory target
+  pub x16 : t.registers 16 ≡ target
+  pub x17 : t.registers 17 ≡ load_64 memory target
+  pub others : (n : ℕ) → (n == 16 || n == 17) ≡ false → t.registers n ≡ registers n
+  pub in_memory : t.memory ≡ memory
+  pub thread : t.thread_pointer ≡ pointer
+
+abbrev field_at : ℕ → ℕ → LazyField
+field_at origin addend =
+    record {
       field = field_of 0 (aarch64_name r.R_AARCH64_ADR_PREL_PG_HI21);
       target = Word;
       origin = origin;
       addend = pos addend;
-    })
-    entry
+    }
 
-pub enters : RelativeAddresses → (entry : LazyEntry) → entry.address < 2 ^ 64 → entry.word < 2 ^ 64
-    → (code : List ℕ) → IsCode AArch64 aarch64_entry entry code
-    → (s : State) → s.pc ≡ entry.address
-    → (t : State) × (run (words 4 code) s ≡ Some t) × GoesTo entry (load_64 s.memory entry.word) s t
-enters relative entry inside below code is s at =
-    let o = operands 0 0 entry in
+abbrev reached : LazyEntry → ℕ → ℕ
+reached places addend = sum_64 places.word (cast_unsigned w64 (pos addend))
+
+-- a piece of code that begins with `br x17`
+abbrev Branches : List LazyPiece → LazyEntry → Type 0
+Branches pieces places = (rest : List ℕ) → IsCode AArch64 pieces places rest → words 1 rest ≡ 0xd61f0220 ∷ []
+
+goes : RelativeAddresses → (places : LazyEntry) (origin addend : ℕ) (others : List LazyPiece) → places.word < 2 ^ 64
+    → Branches others places → (code : List ℕ) → IsCode AArch64 (aarch64_loads origin addend others) places code
+    → (s : State) → s.pc ≡ sum_64 places.address origin
+    → (t : State) × (run (words 4 code) s ≡ Some t) × Ends (reached places addend) s.memory s.registers s.thread_pointer t
+goes relative places origin addend others below last code is s at =
+    let o = operands_at (field_at origin addend) places in
     let p2 = is.3 in
     let p3 = p2.3 in
-    let p4 = p3.3 in
     let adrp_x16 = padded (code_of_words (0x90000010 ∷ [])) in
     let ldr_x17 = padded (code_of_words (0xf9400211 ∷ [])) in
     let add_x16 = padded (code_of_words (0x91000210 ∷ [])) in
@@ -124,37 +141,96 @@ enters relative entry inside below code is s at =
     let x = word_of is.0 in
     let y = word_of p2.0 in
     let z = word_of p3.0 in
-    let addresses = are_addresses_at (record { field = field_of 0 (aarch64_name r.R_AARCH64_ADR_PREL_PG_HI21); target = Word; origin = 0; addend = pos 0 }) entry below in
+    let addresses = are_addresses_at (field_at origin addend) places below in
     let first : IsAdrOf 1 16 x = adrp_after _ _ adrp_x16 is.0 a.applied.written refl in
     let second : IsInstructionOf ldr 17 16 y = of_registers refl refl (ldr_after _ _ ldr_x17 p2.0 b.applied.written refl) in
     let third : IsInstructionOf add 16 16 z = of_registers refl refl (add_after _ _ add_x16 p3.0 c.applied.written refl) in
-    let here : s.pc ≡ o.place = at ∙ sym (at_place entry.address inside) in
-    let to = symbol_address o in
-    let l = relative.0.4 o addresses o.place adrp_x16 is.0 a.applied tt o.place ldr_x17 p2.0 b.applied tt in
-    let m = relative.0.0 o addresses o.place adrp_x16 is.0 a.applied tt o.place add_x16 p3.0 c.applied tt in
-    let same : to ≡ entry.word = no_addend entry.word below in
-    let last : words 1 p3.1 ≡ 0xd61f0220 ∷ [] = ap (words 1) (p4.4 ∙ ap (λ p. take 4 p ++ p4.1) p4.2.1) in
+    let to = reached places addend in
+    let l : IsAddress (page_and_offset LdSt 8 o x y) to = relative.0.4 o addresses o.place adrp_x16 is.0 a.applied tt o.place ldr_x17 p2.0 b.applied tt in
+    let m : IsAddress (page_and_offset Add 1 o x z) to = relative.0.0 o addresses o.place adrp_x16 is.0 a.applied tt o.place add_x16 p3.0 c.applied tt in
     let all : words 4 code ≡ x ∷ y ∷ z ∷ 0xd61f0220 ∷ [] =
     one_word is.0 is.1 code is.2.0 3 x (y ∷ z ∷ 0xd61f0220 ∷ []) is.4 refl
     (one_word p2.0 p2.1 is.1 p2.2.0 2 y (z ∷ 0xd61f0220 ∷ []) p2.4 refl
-    (one_word p3.0 p3.1 p2.1 p3.2.0 1 z (0xd61f0220 ∷ []) p3.4 refl last)) in
-    let holds = x17_is o s x y z to first second third here l m ∙ ap (load_64 s.memory) same in (
-      four o s x y z to first second third here l m,
-      ap (λ ws. run ws s) all ∙ runs o s x y z to first second third here l m,
+    (one_word p3.0 p3.1 p2.1 p3.2.0 1 z (0xd61f0220 ∷ []) p3.4 refl (last p3.1 p3.3))) in (
+      four o s x y z to first second third at l m,
+      ap (λ ws. run ws s) all ∙ runs o s x y z to first second third at l m,
       record {
-        pc = pc_is o s x y z to first second third here l m ∙ holds;
-        x16 = x16_is o s x y z to first second third here l m ∙ same;
-        x17 = holds;
-        registers = others o s x y z to first second third here l m;
-        memory = memory_is o s x y z to first second third here l m;
-        thread_pointer = pointer_is o s x y z to first second third here l m;
+        pc = pc_is o s x y z to first second third at l m ∙ x17_is o s x y z to first second third at l m;
+        x16 = x16_is o s x y z to first second third at l m;
+        x17 = x17_is o s x y z to first second third at l m;
+        others = others_are o s x y z to first second third at l m;
+        in_memory = memory_is o s x y z to first second third at l m;
+        thread = pointer_is o s x y z to first second third at l m;
       },
     )
 
-pub enters_so : RelativeAddresses → laws.Enters
-enters_so relative entry inside below code is s at =
-    let e = enters relative entry inside below code is s at in
+-- ---- entries
+
+abbrev EntersAt : ℕ → List LazyPiece → Type 0
+EntersAt count pieces =
+    (entry : LazyEntry) → entry.address < 2 ^ 64 → entry.word < 2 ^ 64
+    → (code : List ℕ) → IsCode AArch64 pieces entry code → (s : State) → s.pc ≡ entry.address
+    → (t : State) × (run (words count code) s ≡ Some t) × GoesTo entry (load_64 s.memory entry.word) s t
+
+to_word : (entry : LazyEntry) → entry.word < 2 ^ 64 → (s t : State)
+    → Ends (reached entry 0) s.memory s.registers s.thread_pointer t → GoesTo entry (load_64 s.memory entry.word) s t
+to_word entry below s t e =
+    let same = no_addend entry.word below in
+    record {
+      pc = e.pc ∙ ap (load_64 s.memory) same;
+      x16 = e.x16 ∙ same;
+      x17 = e.x17 ∙ ap (load_64 s.memory) same;
+      registers = e.others;
+      memory = e.in_memory;
+      thread_pointer = e.thread;
+    }
+
+-- the pieces alone, and after `bti c`
+loads_first : RelativeAddresses → (others : List LazyPiece) → ((entry : LazyEntry) → Branches others entry)
+    → EntersAt 4 (aarch64_loads 0 0 others)
+loads_first relative others last entry inside below code is s at =
+    let e = goes relative entry 0 0 others below (last entry) code is s (at ∙ sym (at_place entry.address inside)) in
+    (e.0, e.1, to_word entry below s e.0 e.2)
+
+loads_second : RelativeAddresses → (others : List LazyPiece) → ((entry : LazyEntry) → Branches others entry)
+    → EntersAt 5 (plts.one 0xd503245f ∷ aarch64_loads 4 0 others)
+loads_second relative others last entry inside below code is s at =
+    let e = goes relative entry 4 0 others below (last entry) is.1 is.3 (go_on s) (ap (λ p. sum_64 p 4) at) in
+    let all : words 5 code ≡ 0xd503245f ∷ words 4 is.1 =
+    ap (words 5) (is.4 ∙ ap (λ p. take 4 p ++ is.1) is.2.1) in (
+      e.0,
+      ap (λ ws. run ws s) all
+          ∙ run_more (λ s. s.pc) step 0xd503245f (word_of is.1) (words 3 (drop 4 is.1)) s (go_on s) (Some e.0) refl refl e.1,
+      to_word entry below s e.0 e.2,
+    )
+
+-- `br x17` in 4 bytes, and with `nop` in 8
+branches : (entry : LazyEntry) → Branches (plts.one 0xd61f0220 ∷ []) entry
+branches entry rest p = ap (words 1) (p.4 ∙ ap (λ q. take 4 q ++ p.1) p.2.1)
+
+branches_wide : (others : List LazyPiece) (entry : LazyEntry) → Branches (plts.two 0xd61f0220 0xd503201f ∷ others) entry
+branches_wide others entry rest p = ap (words 1) (p.4 ∙ ap (λ q. take 8 q ++ p.1) p.2.1)
+
+abbrev one_nop : List LazyPiece
+one_nop = plts.one 0xd503201f ∷ []
+
+abbrev of_all : RelativeAddresses → EntersAt 4 aarch64_entry × EntersAt 4 aarch64_wide_entry × EntersAt 5 aarch64_landing_entry
+of_all relative = (
+  loads_first relative (plts.one 0xd61f0220 ∷ []) branches,
+  loads_first relative (plts.two 0xd61f0220 0xd503201f ∷ one_nop) (branches_wide one_nop),
+  loads_second relative (plts.two 0xd61f0220 0xd503201f ∷ []) (branches_wide []),
+)
+
+so : (count : ℕ) (pieces : List LazyPiece) → EntersAt count pieces → laws.EntersBy count pieces
+so count pieces enters entry inside below code is s at =
+    let e = enters entry inside below code is s at in
     subst (λ end. IsSomeAnd end (GoesTo entry (load_64 s.memory entry.word) s)) (sym e.1) e.2
+
+pub enters : RelativeAddresses → laws.Enters
+enters relative = so 4 aarch64_entry (of_all relative).0
+
+pub landing_enters : RelativeAddresses → laws.LandingEnters
+landing_enters relative = (so 4 aarch64_wide_entry (of_all relative).1, so 5 aarch64_landing_entry (of_all relative).2)
 
 -- ---- bytes on the stack
 
@@ -249,85 +325,115 @@ below_stack top = wrapped_is (pos top +ℤ negsuc 15) 1 (top + (2 ^ 64 - 16)) (o
 not_base : (n v m : ℕ) → (n == 31) ≡ false → cond (eqb n 31) v m ≡ m
 not_base n v m e = cond-false (eqb n 31) v m e
 
-pub resolves : RelativeAddresses → laws.Resolves
-resolves relative entry first inside below_word bounded within code is header is_header s at to_header small not_there =
-    let e = enters relative entry inside below_word code is s at in
-    let t = e.0 in
-    let gone = e.2 in
-    let places = header_places entry.header first in
-    let o = operands 4 16 places in
-    let p2 = is_header.3 in
-    let p3 = p2.3 in
-    let p4 = p3.3 in
-    let p5 = p4.3 in
-    let adrp_x16 = padded (code_of_words (0x90000010 ∷ [])) in
-    let ldr_x17 = padded (code_of_words (0xf9400211 ∷ [])) in
-    let add_x16 = padded (code_of_words (0x91000210 ∷ [])) in
-    let a = applies aarch64_name aarch64_row r.R_AARCH64_ADR_PREL_PG_HI21 (field_of 0 (aarch64_name r.R_AARCH64_ADR_PREL_PG_HI21)) o adrp_x16 p2.0 tt refl p2.2.1.0 p2.2.1.1 p2.2.1.2 in
-    let b = applies aarch64_name aarch64_row r.R_AARCH64_LDST64_ABS_LO12_NC (field_of 0 (aarch64_name r.R_AARCH64_LDST64_ABS_LO12_NC)) o ldr_x17 p3.0 tt refl p3.2.1.0 p3.2.1.1 p3.2.1.2 in
-    let c = applies aarch64_name aarch64_row r.R_AARCH64_ADD_ABS_LO12_NC (field_of 0 (aarch64_name r.R_AARCH64_ADD_ABS_LO12_NC)) o add_x16 p4.0 tt refl p4.2.1.0 p4.2.1.1 p4.2.1.2 in
-    let x = word_of p2.0 in
-    let y = word_of p3.0 in
-    let z = word_of p4.0 in
-    let addresses = are_addresses_at (record { field = field_of 0 (aarch64_name r.R_AARCH64_ADR_PREL_PG_HI21); target = Word; origin = 4; addend = pos 16 }) places bounded in
-    let is_adrp : IsAdrOf 1 16 x = adrp_after _ _ adrp_x16 p2.0 a.applied.written refl in
-    let is_ldr : IsInstructionOf ldr 17 16 y = of_registers refl refl (ldr_after _ _ ldr_x17 p3.0 b.applied.written refl) in
-    let is_add : IsInstructionOf add 16 16 z = of_registers refl refl (add_after _ _ add_x16 p4.0 c.applied.written refl) in
+-- a state in which the header is entered, in what isn't its address
+record Comes (entry : LazyEntry) (s t : State) : Type 0 where
+  pub x16 : t.registers 16 ≡ entry.word
+  pub others : (n : ℕ) → (n == 16 || n == 17) ≡ false → t.registers n ≡ s.registers n
+  pub in_memory : t.memory ≡ s.memory
+  pub thread : t.thread_pointer ≡ s.thread_pointer
+
+asks : RelativeAddresses → (entry : LazyEntry) (first origin : ℕ) (others : List LazyPiece)
+    → entry.word < 2 ^ 64 → first < 2 ^ 64 → Branches others (header_places entry.header first)
+    → (code : List ℕ) → IsCode AArch64 (aarch64_loads origin 16 others) (header_places entry.header first) code
+    → (s t : State) → Comes entry s t → sum_64 t.pc 4 ≡ sum_64 entry.header origin
+    → s.registers 30 < 2 ^ 64 → IsOffStack (sum_64 first 16) s
+    → (end : State) × (run (0xa9bf7bf0 ∷ words 4 code) t ≡ Some end) × Asks entry (sum_64 first 16) s end
+asks relative entry first origin others below_word bounded last code is s t gone at small not_there =
+    let h : State = go_on (pair_stored 0xa9bf7bf0 t) in
+    let e = goes relative (header_places entry.header first) origin 16 others bounded last code is h at in
+    let end = e.0 in
+    let g = e.2 in
     let third = sum_64 first 16 in
-    let l : IsAddress (page_and_offset LdSt 8 o x y) third = relative.0.4 o addresses o.place adrp_x16 p2.0 a.applied tt o.place ldr_x17 p3.0 b.applied tt in
-    let m : IsAddress (page_and_offset Add 1 o x z) third = relative.0.0 o addresses o.place adrp_x16 p2.0 a.applied tt o.place add_x16 p4.0 c.applied tt in
     let bottom = difference_64 (t.registers 31) 16 in
     let address = pair_address 0xa9bf7bf0 t in
     let under : address ≡ bottom = below_stack (t.registers 31) in
-    let same_bottom : bottom ≡ difference_64 (s.registers 31) 16 = ap (λ n. difference_64 n 16) (gone.registers 31 refl) in
-    let h : State = go_on (pair_stored 0xa9bf7bf0 t) in
-    let here : h.pc ≡ o.place = ap (λ p. sum_64 p 4) gone.pc ∙ ap (λ p. sum_64 p 4) to_header in
-    let end = four o h x y z third is_adrp is_ldr is_add here l m in
-    let last : words 1 p4.1 ≡ 0xd61f0220 ∷ [] = ap (words 1) (p5.4 ∙ ap (λ p. take 8 p ++ p5.1) p5.2.1) in
-    let later : words 4 is_header.1 ≡ x ∷ y ∷ z ∷ 0xd61f0220 ∷ [] =
-    one_word p2.0 p2.1 is_header.1 p2.2.0 3 x (y ∷ z ∷ 0xd61f0220 ∷ []) p2.4 refl
-    (one_word p3.0 p3.1 p2.1 p3.2.0 2 y (z ∷ 0xd61f0220 ∷ []) p3.4 refl
-    (one_word p4.0 p4.1 p3.1 p4.2.0 1 z (0xd61f0220 ∷ []) p4.4 refl last)) in
-    let all : words 5 header ≡ 0xa9bf7bf0 ∷ x ∷ y ∷ z ∷ 0xd61f0220 ∷ [] =
-    ap (words 5) (is_header.4 ∙ ap (λ p. take 4 p ++ is_header.1) is_header.2.1) ∙ ap (λ w. 0xa9bf7bf0 ∷ w) later in
-    let ran : run (words 5 header) t ≡ Some end =
-    ap (λ ws. run ws t) all
-    ∙ run_more (λ s. s.pc) step 0xa9bf7bf0 x (y ∷ z ∷ 0xd61f0220 ∷ []) t h (Some end) refl refl
-    (runs o h x y z third is_adrp is_ldr is_add here l m) in
+    let same_bottom : bottom ≡ difference_64 (s.registers 31) 16 = ap (λ n. difference_64 n 16) (gone.others 31 refl) in
     let stored_both : h.memory ≡ both (t.registers 16) (t.registers 30) bottom t.memory (omega arith) =
     ap (λ b. stored 8 (t.registers 30) (sum_64 b 8) (stored 8 (t.registers 16) b t.memory)) under in
     let in_memory : end.memory ≡ both (t.registers 16) (t.registers 30) bottom t.memory (omega arith) =
-    memory_is o h x y z third is_adrp is_ldr is_add here l m ∙ stored_both in
-    let stack : end.registers 31 ≡ bottom = others o h x y z third is_adrp is_ldr is_add here l m 31 refl ∙ under in
-    let asked : Asks entry third s end =
-    record {
-      pc =
-          pc_is o h x y z third is_adrp is_ldr is_add here l m
-          ∙ x17_is o h x y z third is_adrp is_ldr is_add here l m
-          ∙ ap (λ m. load_64 m third) stored_both
-          ∙ apart (t.registers 16) (t.registers 30) bottom t.memory (omega arith) third (omega arith)
-          (λ i less. subst (λ b. 16 ≤ difference_64 (sum_64 third i) b) (sym same_bottom) (not_there i less))
-          ∙ ap (λ m. load_64 m third) gone.memory;
-      x16 = x16_is o h x y z third is_adrp is_ldr is_add here l m;
-      stack = stack ∙ same_bottom;
-      registers = λ n e.
-          others o h x y z third is_adrp is_ldr is_add here l m n (left_false (n == 16 || n == 17) (n == 31) e)
-          ∙ not_base n address (t.registers n) (right_false (n == 16 || n == 17) (n == 31) e)
-          ∙ gone.registers n (left_false (n == 16 || n == 17) (n == 31) e);
-      word =
-          ap (load_64 end.memory) stack ∙ ap (λ m. load_64 m bottom) in_memory
-          ∙ below (t.registers 16) (t.registers 30) bottom t.memory (omega arith) (subst (λ n. n < 2 ^ 64) (sym gone.x16) below_word)
-          ∙ gone.x16;
-      link =
-          ap (λ a. load_64 end.memory (sum_64 a 8)) stack ∙ ap (λ m. load_64 m (sum_64 bottom 8)) in_memory
-          ∙ above (t.registers 16) (t.registers 30) bottom t.memory (omega arith) (subst (λ n. n < 2 ^ 64) (sym (gone.registers 30 refl)) small)
-          ∙ gone.registers 30 refl;
-      memory = λ a most.
-          ap (λ m. m a) in_memory
-          ∙ off (t.registers 16) (t.registers 30) bottom t.memory (omega arith) a (subst (λ b. 16 ≤ difference_64 a b) stack most)
-          ∙ ap (λ m. m a) gone.memory;
-      thread_pointer = pointer_is o h x y z third is_adrp is_ldr is_add here l m ∙ gone.thread_pointer;
-    } in
+    g.in_memory ∙ stored_both in
+    let stack : end.registers 31 ≡ bottom = g.others 31 refl ∙ under in (
+      end,
+      run_more (λ s. s.pc) step 0xa9bf7bf0 (word_of code) (words 3 (drop 4 code)) t h (Some end) refl refl e.1,
+      record {
+        pc =
+            g.pc ∙ ap (λ m. load_64 m third) stored_both
+            ∙ apart (t.registers 16) (t.registers 30) bottom t.memory (omega arith) third (omega arith)
+            (λ i less. subst (λ b. 16 ≤ difference_64 (sum_64 third i) b) (sym same_bottom) (not_there i less))
+            ∙ ap (λ m. load_64 m third) gone.in_memory;
+        x16 = g.x16;
+        stack = stack ∙ same_bottom;
+        registers = λ n e.
+            g.others n (left_false (n == 16 || n == 17) (n == 31) e)
+            ∙ not_base n address (t.registers n) (right_false (n == 16 || n == 17) (n == 31) e)
+            ∙ gone.others n (left_false (n == 16 || n == 17) (n == 31) e);
+        word =
+            ap (load_64 end.memory) stack ∙ ap (λ m. load_64 m bottom) in_memory
+            ∙ below (t.registers 16) (t.registers 30) bottom t.memory (omega arith) (subst (λ n. n < 2 ^ 64) (sym gone.x16) below_word)
+            ∙ gone.x16;
+        link =
+            ap (λ a. load_64 end.memory (sum_64 a 8)) stack ∙ ap (λ m. load_64 m (sum_64 bottom 8)) in_memory
+            ∙ above (t.registers 16) (t.registers 30) bottom t.memory (omega arith) (subst (λ n. n < 2 ^ 64) (sym (gone.others 30 refl)) small)
+            ∙ gone.others 30 refl;
+        memory = λ a most.
+            ap (λ m. m a) in_memory
+            ∙ off (t.registers 16) (t.registers 30) bottom t.memory (omega arith) a (subst (λ b. 16 ≤ difference_64 a b) stack most)
+            ∙ ap (λ m. m a) gone.in_memory;
+        thread_pointer = g.thread ∙ gone.thread;
+      },
+    )
+
+abbrev AsksAt : ℕ → List LazyPiece → Type 0
+AsksAt count pieces =
+    (entry : LazyEntry) (first : ℕ) → entry.word < 2 ^ 64 → first < 2 ^ 64
+    → (code : List ℕ) → IsCode AArch64 pieces (header_places entry.header first) code
+    → (s t : State) → Comes entry s t → t.pc ≡ entry.header → s.registers 30 < 2 ^ 64 → IsOffStack (sum_64 first 16) s
+    → (end : State) × (run (words count code) t ≡ Some end) × Asks entry (sum_64 first 16) s end
+
+header_asks : RelativeAddresses → AsksAt 5 aarch64_header
+header_asks relative entry first below_word bounded code is s t gone at small not_there =
+    let nops = plts.two 0xd503201f 0xd503201f ∷ [] in
+    let e =
+    asks relative entry first 4 (plts.two 0xd61f0220 0xd503201f ∷ nops) below_word bounded
+    (branches_wide nops (header_places entry.header first)) is.1 is.3 s t gone (ap (λ p. sum_64 p 4) at) small not_there in
+    let all : words 5 code ≡ 0xa9bf7bf0 ∷ words 4 is.1 =
+    ap (words 5) (is.4 ∙ ap (λ p. take 4 p ++ is.1) is.2.1) in
+    (e.0, ap (λ ws. run ws t) all ∙ e.1, e.2)
+
+landing_asks : RelativeAddresses → AsksAt 6 aarch64_landing_header
+landing_asks relative entry first below_word bounded code is s t gone at small not_there =
+    let on : sum_64 (sum_64 entry.header 4) 4 ≡ sum_64 entry.header 8 = omega arith in
+    let came : Comes entry s (go_on t) =
+    record { x16 = gone.x16; others = gone.others; in_memory = gone.in_memory; thread = gone.thread } in
+    let e =
+    asks relative entry first 8 (plts.two 0xd61f0220 0xd503201f ∷ one_nop) below_word bounded
+    (branches_wide one_nop (header_places entry.header first)) is.1 is.3 s (go_on t) came
+    (ap (λ p. sum_64 (sum_64 p 4) 4) at ∙ on) small not_there in
+    let all : words 6 code ≡ 0xd503245f ∷ 0xa9bf7bf0 ∷ words 4 is.1 =
+    ap (words 6) (is.4 ∙ ap (λ p. take 8 p ++ is.1) is.2.1) in (
+      e.0,
+      ap (λ ws. run ws t) all
+          ∙ run_more (λ s. s.pc) step 0xd503245f 0xa9bf7bf0 (words 4 is.1) t (go_on t) (Some e.0) refl refl e.1,
+      e.2,
+    )
+
+both_resolve : (count : ℕ) (entries : List LazyPiece) → EntersAt count entries → (header_count : ℕ) (headers : List LazyPiece)
+    → AsksAt header_count headers → laws.ResolvesBy count entries header_count headers
+both_resolve count entries enter header_count headers ask entry first inside below_word bounded within code is header is_header s at to_header small not_there =
+    let e = enter entry inside below_word code is s at in
+    let here = e.2.pc ∙ to_header in
+    let came : Comes entry s e.0 =
+    record { x16 = e.2.x16; others = e.2.registers; in_memory = e.2.memory; thread = e.2.thread_pointer } in
+    let a = ask entry first below_word bounded header is_header s e.0 came here small not_there in
     subst (λ end. IsSomeAnd end (λ t. (t.pc ≡ entry.header)
-    × IsSomeAnd (run (words 5 header) t) (Asks entry third s))) (sym e.1)
-    (gone.pc ∙ to_header, subst (λ end. IsSomeAnd end (Asks entry third s)) (sym ran) asked)
+    × IsSomeAnd (run (words header_count header) t) (Asks entry (sum_64 first 16) s))) (sym e.1)
+    (here, subst (λ end. IsSomeAnd end (Asks entry (sum_64 first 16) s)) (sym a.1) a.2)
+
+pub resolves : RelativeAddresses → laws.Resolves
+resolves relative = both_resolve 4 aarch64_entry (of_all relative).0 5 aarch64_header (header_asks relative)
+
+pub landing_resolves : RelativeAddresses → laws.LandingResolves
+landing_resolves relative = (
+  both_resolve 4 aarch64_wide_entry (of_all relative).1 6 aarch64_landing_header (landing_asks relative),
+  both_resolve 5 aarch64_landing_entry (of_all relative).2 6 aarch64_landing_header (landing_asks relative),
+)

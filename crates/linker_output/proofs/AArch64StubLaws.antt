@@ -1,13 +1,13 @@
 -- AArch64's stubs go to their targets.
 use Rattle.std.proofs.Common.{◌≡◌, ℕ, Bool, true, false, refl, sym, ◌∙◌, ap, subst, arith}
-use Rattle.std.proofs.Common.{List, [], ◌∷◌, eqb, cond, Some, None, Option, drop}
+use Rattle.std.proofs.Common.{List, [], ◌∷◌, ◌++◌, eqb, cond, Some, None, Option, drop}
 use Rattle.std.specs.Prelude.{IsSomeAnd, ◌||◌}
 use Rattle.std.proofs.lemmas.Bool.{eq-eqb, cond-true}
 use Rattle.linker_base.specs.Bits.{field}
 use Rattle.linker_utils.specs.AArch64Rewrites.{rd_of, rn_of, IsLdr64}
 use Rattle.linker_elf.specs.Value.{sum_64}
 use Rattle.linker_elf.specs.declared.aarch64.relocations.AArch64Relocation.TheVariants as r
-use Rattle.linker_laws.specs.AArch64Machine.{State, step, run, load_64, adrp_address, loaded, added, add, ldr, go_to}
+use Rattle.linker_laws.specs.AArch64Machine.{State, step, run, load_64, adrp_address, loaded, added, add, ldr, go_to, go_on}
 use Rattle.linker_laws.specs.AArch64RelocationLaws.{RelativeAddresses}
 use Rattle.linker_laws.specs.AArch64RewriteLaws.{word_of}
 use Rattle.linker_laws.specs.Schemes.{symbol_address}
@@ -17,10 +17,11 @@ use Rattle.linker_laws.proofs.AArch64Words.{IsAdrOf, IsInstructionOf, adrp_after
 use Rattle.linker_elf.specs.AArch64Relocations.{aarch64_name, aarch64_row}
 use Rattle.linker_output.proofs.StubWords.{front_word, first_is, second_is, third_is, applies, no_addend, at_place, are_addresses}
 use Rattle.linker_output.specs.AArch64Output.{aarch64_output}
-use Rattle.linker_output.specs.Stubs.{StubCode, operands_of}
+use Rattle.linker_output.specs.Stubs.{StubCode, WritesPair, operands_of}
 use Rattle.linker_output.specs.Tables.{field_of}
-use Rattle.linker_output.specs.AArch64Stubs.{run_stub, then_jumped, jumped, GoesTo}
+use Rattle.linker_output.specs.AArch64Stubs.{run_stub, run_landing, then_jumped, jumped, GoesTo}
 use Rattle.linker_output.specs.AArch64Stubs as stubs
+use Rattle.linker_elf.specs.declared.elf.architecture.Architecture.TheVariants.{AArch64}
 
 -- BR of a register, after two instructions that end in a state
 module _ (code : List ℕ) (x y : ℕ) (s t u : State) (first : step x s ≡ Some t) (on : t.pc ≡ sum_64 s.pc 4)
@@ -125,3 +126,23 @@ jumps_go relative place target inside below code is s at =
       memory = refl;
       thread_pointer = refl;
     })
+
+-- ---- after `bti c`
+
+after_landing : (target : ℕ) (s : State) (end : Option State) → IsSomeAnd end (GoesTo target (go_on s)) → IsSomeAnd end (GoesTo target s)
+after_landing target s None is = is
+after_landing target s (Some t) is =
+    record { pc = is.pc; registers = is.registers; memory = is.memory; thread_pointer = is.thread_pointer }
+
+pub landing_loads_go : RelativeAddresses → stubs.LandingLoads
+landing_loads_go relative place target inside below code is s at =
+    let stub = aarch64_output.load_stub in
+    let plain = is.0 ++ stub.tail in
+    let later = sum_64 place 4 in
+    let writes : WritesPair AArch64 stub (operands_of stub later target) is.0 =
+    subst (λ p. WritesPair AArch64 stub (record (operands_of stub place target) { place = p; got_base = p }) is.0)
+    (sym (at_place later (omega arith))) is.2 in
+    let goes =
+    loads_go relative later target (omega arith) below plain (is.0, is.1, writes, refl) (go_on s) (ap (λ p. sum_64 p 4) at) in
+    subst (λ end. IsSomeAnd end (GoesTo (load_64 s.memory target) s)) (sym (ap (λ c. run_landing c s) is.3))
+    (after_landing (load_64 s.memory target) s (run_stub plain (go_on s)) goes)

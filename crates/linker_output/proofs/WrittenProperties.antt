@@ -1,7 +1,7 @@
 -- Notes that are written word by word.
 use Rattle.std.proofs.Common.{◌≡◌, ◌≢◌, ℕ, ◌+◌, ◌*◌, ◌≤◌, ◌^◌, false, List, [], ◌∷◌, ◌++◌, length, take, drop, refl, sym, ◌∙◌, ap, subst, arith, Option, Some, None, Result, Ok, Err, append_assoc, nat_lt}
 use Rattle.std.specs.Int.{w64, to_le_bytes}
-use Rattle.std.proofs.lemmas.List.{append-nil, take-append-drop, take_at, drop_at, drop-drop, length-append, length-take-le}
+use Rattle.std.proofs.lemmas.List.{take-append-drop, take_at, drop_at, drop-drop, length-append, length-take-le}
 use Rattle.std.proofs.Math.Seq.{drop-append-add}
 use Rattle.std.proofs.lemmas.Bool.Decides.{nat_tests}
 use Rattle.linker_output.specs.Properties.{bytes_of, words_from, words_by, with_words, list_words, property_words, rule_of, note_words}
@@ -26,9 +26,9 @@ bytes_append [] vs = refl
 bytes_append (w ∷ ws) vs = ap (λ bs. to_le_bytes w64 w ++ bs) (bytes_append ws vs)
 
 -- the bytes up to the end of the words, and those after
-behind : (at : ℕ) (ws before : List ℕ) (n : ℕ) → at + 8 * length ws ≤ length before
+through_words : (at : ℕ) (ws before : List ℕ) → at + 8 * length ws ≤ length before
     → take (at + 8 * length ws) (take at before ++ (bytes_of ws ++ drop (at + 8 * length ws) before)) ≡ take at before ++ bytes_of ws
-behind at ws before n room =
+through_words at ws before room =
     let len : length (take at before ++ bytes_of ws) ≡ at + 8 * length ws =
     length-append (take at before) (bytes_of ws) ∙ (let e = length-take-le at before (omega arith) in let f = length_bytes ws in omega arith) in
     rw (← append_assoc (take at before) (bytes_of ws) (drop (at + 8 * length ws) before))
@@ -55,7 +55,7 @@ puts_append at next ws vs before middle after next_is same one two = record {
       let m = one.put fit in
       let a = two.put (omega arith) in
       let front : take next middle ≡ take at before ++ bytes_of ws =
-      subst (λ n. take n middle ≡ take at before ++ bytes_of ws) (sym next_is) (ap (take (at + 8 * length ws)) m ∙ behind at ws before 0 fit) in
+      subst (λ n. take n middle ≡ take at before ++ bytes_of ws) (sym next_is) (ap (take (at + 8 * length ws)) m ∙ through_words at ws before fit) in
       let rest : drop (next + 8 * length vs) middle ≡ drop (at + 8 * length (ws ++ vs)) before =
       subst (λ n. drop (n + 8 * length vs) middle ≡ drop (at + 8 * length (ws ++ vs)) before) (sym next_is)
       (ap (drop (at + 8 * length ws + 8 * length vs)) m ∙ after_words at ws before (8 * length vs) fit ∙ ap (λ n. drop n before) end) in
@@ -120,15 +120,6 @@ one_more a all done least index p rule left w h = record {
       ∙ more_words done (property_words rule p) (words_from a (p.kind + 1) (index + 1) left);
   slim = λ s. h.slim (w.slim, s);
 }
-
-pub at_fault : (a : Architecture) (all : List Property) (done : List ℕ) (least index : ℕ) (p : Property) (left : List Property) (error : PropertyError)
-    → words_from a least index (p ∷ left) ≡ Err error → Words a all done least index (p ∷ left)
-    → list_words a all ≡ Err error
-at_fault a all done least index p left error e h = h.whole ∙ ap (with_words done) e
-
-pub all_words : (a : Architecture) (all : List Property) (done : List ℕ) (least index : ℕ)
-    → Words a all done least index [] → list_words a all ≡ Ok done
-all_words a all done least index h = h.whole ∙ ap Ok (append-nil done)
 
 pub word_count : (rule : PropertyRule) (p : Property) → length (property_words rule p) ≤ 3
 word_count All p = omega arith

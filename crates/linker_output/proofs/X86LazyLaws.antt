@@ -15,12 +15,13 @@ use Rattle.linker_laws.proofs.X86Fields.{place_field, signed_field}
 use Rattle.linker_output.proofs.LazyRuns.{following, are_addresses_at}
 use Rattle.linker_output.proofs.StubWords.{applies}
 use Rattle.linker_output.specs.LazyPlt.{IsCode, operands_at, header_places}
-use Rattle.linker_output.specs.LazyPlts.{x86_64_entry, padded}
+use Rattle.linker_output.specs.LazyPlts.{x86_64_entry, x86_64_landing_entry, padded, fixed, with_field}
 use Rattle.linker_output.specs.Tables.{field_of}
 use Rattle.linker_output.specs.X86LazyPlt.{step, run, and_then, pushed, Asks, IsOffStack}
 use Rattle.linker_output.specs.X86LazyPlt as laws
 use Rattle.linker_output.specs.declared.lazy_plt.LazyEntry.{LazyEntry}
 use Rattle.linker_output.specs.declared.lazy_plt.LazyField.{LazyField}
+use Rattle.linker_output.specs.declared.lazy_plt.LazyPiece.{LazyPiece}
 use Rattle.linker_output.specs.declared.lazy_plt.LazyTarget.{LazyTarget}
 use Rattle.linker_output.specs.declared.lazy_plt.LazyTarget.TheVariants.{Word, Header, Index}
 use Rattle.linker_elf.specs.declared.elf.architecture.Architecture.TheVariants.{X86_64}
@@ -28,7 +29,7 @@ use Rattle.linker_elf.specs.declared.elf.architecture.Architecture.TheVariants.{
 -- ---- steps, by the bytes of pieces
 
 -- `jmp *d(%rip)`, `push d(%rip)`
-by_word : (b others : List ℕ) (s : State) → length b ≡ 8 → take 2 b ≡ 0xff ∷ 0x25 ∷ []
+pub by_word : (b others : List ℕ) (s : State) → length b ≡ 8 → take 2 b ≡ 0xff ∷ 0x25 ∷ []
     → step (take 6 b ++ others) s
     ≡ Some (record s { ip = load 8 s (sum_64 (sum_64 s.ip 6) (extended (number_of_bytes 4 (drop 2 b)))) })
 by_word [] others s len is = absurd (omega arith)
@@ -70,7 +71,7 @@ jumps (a ∷ b ∷ c ∷ []) others s len is = absurd (omega arith)
 jumps (a ∷ b ∷ c ∷ d ∷ []) others s len is = absurd (omega arith)
 jumps (a ∷ b ∷ c ∷ d ∷ e ∷ rest) others s len is = ap (λ l. step (l ++ (b ∷ c ∷ d ∷ e ∷ others)) s) is
 
-run_step : (n : ℕ) (code : List ℕ) (start k : ℕ) (s : State) (t : Option State) → difference_64 s.ip start ≡ k
+pub run_step : (n : ℕ) (code : List ℕ) (start k : ℕ) (s : State) (t : Option State) → difference_64 s.ip start ≡ k
     → step (drop k code) s ≡ t → run (suc n) code start s ≡ and_then (run n code start) t
 run_step n code start k s t at is =
     ap (λ j. and_then (run n code start) (step (drop j code) s)) at ∙ ap (and_then (run n code start)) is
@@ -89,13 +90,13 @@ operands target origin addend entry =
     entry
 
 -- the word, from the next instruction
-word_from_next : (ip d word : ℕ) → ip < 2 ^ 64 → word < 2 ^ 64
+pub word_from_next : (ip d word : ℕ) → ip < 2 ^ 64 → word < 2 ^ 64
     → sum_64 (sum_64 ip 2) d ≡ sum_64 word (cast_unsigned w64 (negsuc 3)) → sum_64 (sum_64 ip 6) d ≡ word
 word_from_next ip d word small below leads = omega arith
 
-header_from_next : (address ip d header : ℕ) → address < 2 ^ 64 → header < 2 ^ 64 → ip ≡ sum_64 (sum_64 address 6) 5
-    → sum_64 (sum_64 address 12) d ≡ sum_64 header (cast_unsigned w64 (negsuc 3)) → sum_64 (sum_64 ip 5) d ≡ header
-header_from_next address ip d header small below at leads = omega arith
+header_from_next : (address k ip d header : ℕ) → address < 2 ^ 64 → header < 2 ^ 64 → ip ≡ sum_64 (sum_64 address k) 5
+    → sum_64 (sum_64 address (k + 6)) d ≡ sum_64 header (cast_unsigned w64 (negsuc 3)) → sum_64 (sum_64 ip 5) d ≡ header
+header_from_next address k ip d header small below at leads = omega arith
 
 second_from_next : (ip d first : ℕ) → ip < 2 ^ 64 → first < 2 ^ 64
     → sum_64 (sum_64 ip 2) d ≡ sum_64 first (cast_unsigned w64 (pos 4)) → sum_64 (sum_64 ip 6) d ≡ sum_64 first 8
@@ -251,55 +252,76 @@ record IsPushed (entry : LazyEntry) (s t : State) : Type 0 where
   pub flags : t.flags ≡ s.flags
   pub fs : t.fs ≡ s.fs
 
-to_header : (entry : LazyEntry) → entry.address < 2 ^ 64 → entry.word < 2 ^ 64
+-- the two instructions after the first one
+abbrev onward : ℕ → List LazyPiece → List LazyPiece
+onward k others =
+    with_field (0x68 ∷ 0 ∷ 0 ∷ 0 ∷ 0 ∷ []) (field_of 1 (x86_64_name r.R_X86_64_32S)) Index 0 (pos 0)
+    ∷ with_field (0xe9 ∷ 0 ∷ 0 ∷ 0 ∷ 0 ∷ []) (field_of 1 (x86_64_name r.R_X86_64_PC32)) Header (k + 6) (negsuc 3) ∷ others
+
+to_header : (entry : LazyEntry) (k : ℕ) (others : List LazyPiece) → k ≤ 6 → entry.address < 2 ^ 64
     → entry.header < 2 ^ 64 → entry.index < 2 ^ 64
-    → (code : List ℕ) → IsCode X86_64 x86_64_entry entry code
-    → (s : State) → s.ip ≡ entry.address → load 8 s entry.word ≡ sum_64 entry.address 6
+    → (code rest : List ℕ) → drop k code ≡ rest → IsCode X86_64 (onward k others) entry rest
+    → (s : State) (ip : ℕ) → s.ip ≡ entry.address → step code s ≡ Some (record s { ip = ip }) → ip ≡ sum_64 entry.address k
     → (t : State) × (run 3 code entry.address s ≡ Some t) × IsPushed entry s t
-to_header entry inside below within small code is s at holds =
+to_header entry k others most inside within small code rest from is s ip at first holds =
     let start = entry.address in
     let p2 = is.3 in
-    let p3 = p2.3 in
     let push = padded (0x68 ∷ 0 ∷ 0 ∷ 0 ∷ 0 ∷ []) in
     let jmp = padded (0xe9 ∷ 0 ∷ 0 ∷ 0 ∷ 0 ∷ []) in
     let f : LazyField = record { field = field_of 1 (x86_64_name r.R_X86_64_32S); target = Index; origin = 0; addend = pos 0 } in
-    let g : LazyField = record { field = field_of 1 (x86_64_name r.R_X86_64_PC32); target = Header; origin = 12; addend = negsuc 3 } in
-    let a = applies x86_64_name x86_64_row r.R_X86_64_32S (field_of 1 (x86_64_name r.R_X86_64_32S)) (operands_at f entry) push p2.0 tt refl p2.2.1.0 p2.2.1.1 p2.2.1.2 in
-    let b = applies x86_64_name x86_64_row r.R_X86_64_PC32 (field_of 1 (x86_64_name r.R_X86_64_PC32)) (operands_at g entry) jmp p3.0 tt refl p3.2.1.0 p3.2.1.1 p3.2.1.2 in
-    let n = extended (number_of_bytes 4 (drop 1 p2.0)) in
-    let d = extended (number_of_bytes 4 (drop 1 p3.0)) in
+    let g : LazyField = record { field = field_of 1 (x86_64_name r.R_X86_64_PC32); target = Header; origin = k + 6; addend = negsuc 3 } in
+    let a = applies x86_64_name x86_64_row r.R_X86_64_32S (field_of 1 (x86_64_name r.R_X86_64_32S)) (operands_at f entry) push is.0 tt refl is.2.1.0 is.2.1.1 is.2.1.2 in
+    let b = applies x86_64_name x86_64_row r.R_X86_64_PC32 (field_of 1 (x86_64_name r.R_X86_64_PC32)) (operands_at g entry) jmp p2.0 tt refl p2.2.1.0 p2.2.1.1 p2.2.1.2 in
+    let n = extended (number_of_bytes 4 (drop 1 is.0)) in
+    let d = extended (number_of_bytes 4 (drop 1 p2.0)) in
     let number : sum_64 0 n ≡ sum_64 entry.index (cast_unsigned w64 (pos 0)) =
-    signed_field (operands_at f entry) (are_addresses_at f entry small) (drop 1 push) (drop 1 p2.0) a.applied in
-    let target : sum_64 (sum_64 entry.address 12) d ≡ sum_64 entry.header (cast_unsigned w64 (negsuc 3)) =
-    place_field (operands_at g entry) (are_addresses_at g entry within) (drop 1 jmp) (drop 1 p3.0) b.applied in
-    let s1 : State = record s { ip = load 8 s entry.word } in
+    signed_field (operands_at f entry) (are_addresses_at f entry small) (drop 1 push) (drop 1 is.0) a.applied in
+    let target : sum_64 (sum_64 entry.address (k + 6)) d ≡ sum_64 entry.header (cast_unsigned w64 (negsuc 3)) =
+    place_field (operands_at g entry) (are_addresses_at g entry within) (drop 1 jmp) (drop 1 p2.0) b.applied in
+    let s1 : State = record s { ip = ip } in
     let s2 : State = pushed n (sum_64 s1.ip 5) s1 in
     let s3 : State = record s2 { ip = sum_64 (sum_64 s2.ip 5) d } in
-    let at2 : s2.ip ≡ sum_64 (sum_64 entry.address 6) 5 = ap (λ p. sum_64 p 5) holds in
+    let at2 : s2.ip ≡ sum_64 (sum_64 entry.address k) 5 = ap (λ p. sum_64 p 5) holds in
     let none : difference_64 s.ip start ≡ 0 = ap (λ p. difference_64 p start) at ∙ omega (arith, inside) in
-    let six : difference_64 s1.ip start ≡ 6 = ap (λ p. difference_64 p start) holds ∙ omega (arith, inside) in
-    let eleven : difference_64 s2.ip start ≡ 11 = ap (λ p. difference_64 p start) at2 ∙ omega (arith, inside) in
-    let code_6 : drop 6 code ≡ is.1 = following is.0 is.1 code is.2.0 6 (omega arith) is.4 in
-    let code_11 : drop 11 code ≡ p2.1 =
-    sym (drop-drop 5 6 code) ∙ ap (drop 5) code_6 ∙ following p2.0 p2.1 is.1 p2.2.0 5 (omega arith) p2.4 in
-    let first : step (drop 0 code) s ≡ Some s1 = enters entry inside below code is s at in
-    let second : step (drop 6 code) s1 ≡ Some s2 =
-    ap (λ c. step c s1) (code_6 ∙ p2.4) ∙ pushes p2.0 p2.1 s1 p2.2.0 a.kept in
-    let third : step (drop 11 code) s2 ≡ Some s3 =
-    ap (λ c. step c s2) (code_11 ∙ p3.4) ∙ jumps p3.0 p3.1 s2 p3.2.0 b.kept in (
+    let after_one : difference_64 s1.ip start ≡ k = ap (λ p. difference_64 p start) holds ∙ omega (arith, inside, most) in
+    let after_two : difference_64 s2.ip start ≡ k + 5 = ap (λ p. difference_64 p start) at2 ∙ omega (arith, inside, most) in
+    let last : drop (k + 5) code ≡ is.1 =
+    sym (drop-drop 5 k code) ∙ ap (drop 5) from ∙ following is.0 is.1 rest is.2.0 5 (omega arith) is.4 in
+    let second : step (drop k code) s1 ≡ Some s2 =
+    ap (λ c. step c s1) (from ∙ is.4) ∙ pushes is.0 is.1 s1 is.2.0 a.kept in
+    let third : step (drop (k + 5) code) s2 ≡ Some s3 =
+    ap (λ c. step c s2) (last ∙ p2.4) ∙ jumps p2.0 p2.1 s2 p2.2.0 b.kept in (
       s3,
-      run_step 2 code start 0 s (Some s1) none first ∙ run_step 1 code start 6 s1 (Some s2) six second
-          ∙ run_step 0 code start 11 s2 (Some s3) eleven third,
+      run_step 2 code start 0 s (Some s1) none first ∙ run_step 1 code start k s1 (Some s2) after_one second
+          ∙ run_step 0 code start (k + 5) s2 (Some s3) after_two third,
       record {
         number = n;
         number_is = omega (arith, number, small);
-        ip = header_from_next entry.address s2.ip d entry.header inside within at2 target;
+        ip = header_from_next entry.address k s2.ip d entry.header inside within at2 target;
         register = refl;
         memory = refl;
         flags = refl;
         fs = refl;
       },
     )
+
+abbrev Pushes : List LazyPiece → (LazyEntry → State → Type 0) → Type 0
+Pushes pieces LeadsOn =
+    (entry : LazyEntry) → entry.address < 2 ^ 64 → entry.word < 2 ^ 64 → entry.header < 2 ^ 64 → entry.index < 2 ^ 64
+    → (code : List ℕ) → IsCode X86_64 pieces entry code → (s : State) → s.ip ≡ entry.address → LeadsOn entry s
+    → (t : State) × (run 3 code entry.address s ≡ Some t) × IsPushed entry s t
+
+plain_pushes : Pushes x86_64_entry (λ entry s. load 8 s entry.word ≡ sum_64 entry.address 6)
+plain_pushes entry inside below within small code is s at holds =
+    to_header entry 6 [] (omega arith) inside within small code is.1
+    (following is.0 is.1 code is.2.0 6 (omega arith) is.4) is.3 s (load 8 s entry.word) at
+    (enters entry inside below code is s at) holds
+
+landing_pushes : Pushes x86_64_landing_entry (λ entry s. Unit {0})
+landing_pushes entry inside below within small code is s at any =
+    to_header entry 4 (fixed (0x66 ∷ 0x90 ∷ []) ∷ []) (omega arith) inside within small code is.1
+    (following is.0 is.1 code is.2.0 4 (omega arith) is.4) is.3 s (sum_64 s.ip 4) at
+    (ap (λ c. step c s) (is.4 ∙ ap (λ b. take 4 b ++ is.1) is.2.1)) (ap (λ p. sum_64 p 4) at)
 
 -- ---- the header
 
@@ -310,9 +332,10 @@ not_stack k u v m e = by_test (eqb k 4) u v m e
     by_test true u v m e = cc
     by_test false u v m e = refl
 
-pub resolves : laws.Resolves
-resolves entry first inside below bounded within small code is header is_header s at holds not_second not_third =
-    let e = to_header entry inside below within small code is s at holds in
+resolves_by : (pieces : List LazyPiece) (LeadsOn : LazyEntry → State → Type 0) → Pushes pieces LeadsOn
+    → laws.ResolvesBy pieces LeadsOn
+resolves_by pieces LeadsOn push_on entry first inside below bounded within small code is header is_header s at holds not_second not_third =
+    let e = push_on entry inside below within small code is s at holds in
     let t = e.0 in
     let gone = e.2 in
     let places = header_places entry.header first in
@@ -379,3 +402,9 @@ resolves entry first inside below bounded within small code is header is_header 
     subst (λ end. IsSomeAnd end (λ t. (t.ip ≡ entry.header)
     × IsSomeAnd (run 2 header entry.header t) (Asks entry.index first s))) (sym e.1)
     (gone.ip, subst (λ end. IsSomeAnd end (Asks entry.index first s)) (sym ran) asked)
+
+pub resolves : laws.Resolves
+resolves = resolves_by x86_64_entry (λ entry s. load 8 s entry.word ≡ sum_64 entry.address 6) plain_pushes
+
+pub landing_resolves : laws.LandingResolves
+landing_resolves = resolves_by x86_64_landing_entry (λ entry s. Unit {0}) landing_pushes

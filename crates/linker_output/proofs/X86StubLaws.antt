@@ -1,24 +1,20 @@
--- x86-64's stub goes to the address that its word has.
-use Rattle.std.proofs.Common.{◌≡◌, ℕ, ◌^◌, ◌<◌, refl, sym, ◌∙◌, ap, subst, arith}
-use Rattle.std.proofs.Common.{◌∷◌, ◌++◌, Some, drop, negsuc}
-use Rattle.std.specs.Int.{w64, cast_unsigned}
-use Rattle.std.proofs.lemmas.List.{append-nil, take-append-drop}
+-- x86-64's stubs go to the address that their word has.
+use Rattle.std.proofs.Common.{◌≡◌, ◌^◌, ◌<◌, refl, sym, ◌∙◌, ap, subst, arith}
+use Rattle.std.proofs.Common.{◌∷◌, ◌++◌, Some, length, take, drop}
+use Rattle.std.proofs.lemmas.List.{append-nil, append_assoc, take-append-drop}
 use Rattle.linker_elf.specs.Relocate.{number_of_bytes}
-use Rattle.linker_elf.specs.Value.{sum_64}
+use Rattle.linker_elf.specs.Value.{sum_64, difference_64}
 use Rattle.linker_elf.specs.X86Relocations.{x86_64_name, x86_64_row}
 use Rattle.linker_elf.specs.declared.x86_64.relocations.X86_64Relocation.TheVariants as r
-use Rattle.linker_laws.specs.X86Machine.{step, load, extended}
+use Rattle.linker_laws.specs.X86Machine.{State, step, load, extended}
 use Rattle.linker_laws.proofs.X86Fields.{place_field}
+use Rattle.linker_output.proofs.AArch64StubLaws.{some_or}
 use Rattle.linker_output.proofs.StubWords.{applies, are_addresses}
+use Rattle.linker_output.proofs.X86LazyLaws.{by_word, run_step, word_from_next}
+use Rattle.linker_output.specs.X86LazyPlt as lazy
 use Rattle.linker_output.specs.X86Output.{x86_64_output}
 use Rattle.linker_output.specs.X86Stubs as stubs
 use Rattle.linker_output.specs.Stubs.{operands_of}
-
--- the address that the field leads to from the next instruction
-from_next : (ip d word : ℕ) → ip < 2 ^ 64 → word < 2 ^ 64
-    → sum_64 (sum_64 ip 2) d ≡ sum_64 word (cast_unsigned w64 (negsuc 3))
-    → sum_64 (sum_64 ip 6) d ≡ word
-from_next ip d word small below leads = omega arith
 
 pub loads_go : stubs.Loads
 loads_go place word inside below code is s at =
@@ -35,8 +31,39 @@ loads_go place word inside below code is s at =
     sym (take-append-drop 2 half) ∙ ap (λ b. b ++ rest) field.kept in
     let d = extended (number_of_bytes 4 rest) in
     let leads : sum_64 (sum_64 s.ip 6) d ≡ word =
-    from_next s.ip d word (subst (λ p. p < 2 ^ 64) (sym at) inside) below
+    word_from_next s.ip d word (subst (λ p. p < 2 ^ 64) (sym at) inside) below
     (ap (λ p. sum_64 (sum_64 p 2) d) at
     ∙ place_field o (are_addresses stub place word below) (drop 2 template) rest field.applied) in
     ap (λ b. step b s) (same ∙ bytes)
     ∙ ap (λ a. Some (record s { ip = load 8 s a })) leads
+
+-- ---- after `endbr64`
+
+pub landing_loads_go : stubs.LandingLoads
+landing_loads_go place word inside below code is s at =
+    let stub = some_or x86_64_output.load_stub x86_64_output.landing_load_stub in
+    let o = operands_of stub place word in
+    let half = is.2.0 in
+    let template = stub.pair in
+    let field = applies x86_64_name x86_64_row r.R_X86_64_PC32 stub.first o template half tt refl
+    is.2.1.0 is.2.1.1 is.2.1.2 in
+    let rest = drop 6 half ++ stub.tail in
+    let d = extended (number_of_bytes 4 (drop 2 half)) in
+    let s1 : State = record s { ip = sum_64 s.ip 4 } in
+    let at_4 : s1.ip ≡ sum_64 place 4 = ap (λ p. sum_64 p 4) at in
+    let later : sum_64 (sum_64 s1.ip 2) d ≡ sum_64 (sum_64 place 6) d =
+    ap (λ p. sum_64 (sum_64 p 2) d) at_4 ∙ (let e : sum_64 (sum_64 place 4) 2 ≡ sum_64 place 6 = omega arith in ap (λ p. sum_64 p d) e) in
+    let leads : sum_64 (sum_64 s1.ip 6) d ≡ word =
+    word_from_next s1.ip d word (omega arith) below
+    (later ∙ place_field o (are_addresses stub place word below) (drop 2 template) (drop 2 half) field.applied) in
+    let split : drop 4 code ≡ take 6 half ++ rest =
+    ap (drop 4) is.3 ∙ ap (λ p. p ++ stub.tail) (is.2.2 ∙ sym (take-append-drop 6 half))
+    ∙ append_assoc (take 6 half) (drop 6 half) stub.tail in
+    let len : length half ≡ 8 = ap length (sym is.2.2) ∙ is.1 in
+    let none : difference_64 s.ip place ≡ 0 = ap (λ p. difference_64 p place) at ∙ omega (arith, inside) in
+    let four : difference_64 s1.ip place ≡ 4 = ap (λ p. difference_64 p place) at_4 ∙ omega (arith, inside) in
+    let first : lazy.step code s ≡ Some s1 = ap (λ c. lazy.step c s) is.3 in
+    let second : lazy.step (drop 4 code) s1 ≡ Some (record s { ip = load 8 s word }) =
+    ap (λ c. lazy.step c s1) split ∙ by_word half rest s1 len field.kept ∙ ap (λ a. Some (record s { ip = load 8 s a })) leads in
+    run_step 1 code place 0 s (Some s1) none first
+    ∙ run_step 0 code place 4 s1 (Some (record s { ip = load 8 s word })) four second

@@ -10,11 +10,14 @@ use Rattle.linker_laws.specs.AArch64Machine as machine
 use Rattle.linker_laws.specs.AArch64Machine.{State, read_x, write_x_or_sp, go_on, load_64}
 use Rattle.linker_laws.specs.AArch64Machine.{in_64_bits}
 use Rattle.linker_laws.specs.Machine.{stored}
-use Rattle.linker_output.specs.AArch64Stubs.{jumped}
+use Rattle.linker_output.specs.AArch64Stubs.{jumped, is_bti_c}
 use Rattle.linker_output.specs.LazyPlt.{IsCode, header_places}
 use Rattle.linker_output.specs.LazyPlts.{aarch64_entry, aarch64_header}
+use Rattle.linker_output.specs.LazyPlts.{aarch64_landing_header, aarch64_wide_entry}
+use Rattle.linker_output.specs.LazyPlts.{aarch64_landing_entry}
 use Rattle.linker_output.specs.LazyRuns.{words, or_else, run_by}
 use Rattle.linker_output.specs.declared.lazy_plt.LazyEntry.{LazyEntry}
+use Rattle.linker_output.specs.declared.lazy_plt.LazyPiece.{LazyPiece}
 use Rattle.linker_elf.specs.declared.elf.architecture.Architecture.TheVariants.{AArch64}
 
 -- ---- "STP", pre-indexed, of 64 bits
@@ -36,7 +39,9 @@ pair_stored word s =
     (record s { memory = stored 8 (read_x (field word 10 15) s) (sum_64 address 8) first })
 
 abbrev pub further : ℕ → State → Option State
-further word s = if is_stp word then Some (go_on (pair_stored word s)) else jumped word s
+further word s =
+    if is_stp word then Some (go_on (pair_stored word s))
+    else (if is_bti_c word then Some (go_on s) else jumped word s)
 
 abbrev pub step : ℕ → State → Option State
 step word s = or_else (machine.step word s) (further word s)
@@ -56,13 +61,20 @@ pub record GoesTo (entry : LazyEntry) (target : ℕ) (s t : State) : Type 0 wher
   pub memory : t.memory ≡ s.memory
   pub thread_pointer : t.thread_pointer ≡ s.thread_pointer
 
--- The word has the address of a function, or of the header.
-abbrev pub Enters : Type 0
-Enters =
+-- An entry, in its first instructions. The word has the address of a function, or of the header.
+abbrev pub EntersBy : ℕ → List LazyPiece → Type 0
+EntersBy count pieces =
     (entry : LazyEntry) → entry.address < 2 ^ 64 → entry.word < 2 ^ 64
-    → (code : List ℕ) → IsCode AArch64 aarch64_entry entry code
+    → (code : List ℕ) → IsCode AArch64 pieces entry code
     → (s : State) → s.pc ≡ entry.address
-    → IsSomeAnd (run (words 4 code) s) (GoesTo entry (load_64 s.memory entry.word) s)
+    → IsSomeAnd (run (words count code) s) (GoesTo entry (load_64 s.memory entry.word) s)
+
+abbrev pub Enters : Type 0
+Enters = EntersBy 4 aarch64_entry
+
+-- of those for protected code
+abbrev pub LandingEnters : Type 0
+LandingEnters = EntersBy 4 aarch64_wide_entry × EntersBy 5 aarch64_landing_entry
 
 -- It goes to the resolver, with the addresses of the entry's word and of the third word, which has
 -- the resolver's address, on the stack and in x16, and the return address on the stack. x17 changes
@@ -83,14 +95,24 @@ abbrev pub IsOffStack : ℕ → State → Type 0
 IsOffStack word s =
     (i : ℕ) → i < 8 → 16 ≤ difference_64 (sum_64 word i) (difference_64 (s.registers 31) 16)
 
--- The word of the entry has the header's address, and the third word isn't on the stack.
-abbrev pub Resolves : Type 0
-Resolves =
+-- An entry and a header, in their first instructions. The word of the entry has the header's
+-- address, and the third word isn't on the stack.
+abbrev pub ResolvesBy : ℕ → List LazyPiece → ℕ → List LazyPiece → Type 0
+ResolvesBy count pieces header_count header_pieces =
     (entry : LazyEntry) (first : ℕ) → entry.address < 2 ^ 64 → entry.word < 2 ^ 64 → first < 2 ^ 64
     → entry.header < 2 ^ 64
-    → (code : List ℕ) → IsCode AArch64 aarch64_entry entry code
-    → (header : List ℕ) → IsCode AArch64 aarch64_header (header_places entry.header first) header
+    → (code : List ℕ) → IsCode AArch64 pieces entry code
+    → (header : List ℕ) → IsCode AArch64 header_pieces (header_places entry.header first) header
     → (s : State) → s.pc ≡ entry.address → load_64 s.memory entry.word ≡ entry.header
     → s.registers 30 < 2 ^ 64 → IsOffStack (sum_64 first 16) s
-    → IsSomeAnd (run (words 4 code) s) (λ t. (t.pc ≡ entry.header)
-    × IsSomeAnd (run (words 5 header) t) (Asks entry (sum_64 first 16) s))
+    → IsSomeAnd (run (words count code) s) (λ t. (t.pc ≡ entry.header)
+    × IsSomeAnd (run (words header_count header) t) (Asks entry (sum_64 first 16) s))
+
+abbrev pub Resolves : Type 0
+Resolves = ResolvesBy 4 aarch64_entry 5 aarch64_header
+
+-- of those for protected code
+abbrev pub LandingResolves : Type 0
+LandingResolves =
+    ResolvesBy 4 aarch64_wide_entry 6 aarch64_landing_header
+    × ResolvesBy 5 aarch64_landing_entry 6 aarch64_landing_header

@@ -5,7 +5,7 @@ use Rattle.std.specs.Prelude.{codes, [], None, Some, ◌∷◌, pos}
 use Rattle.linker_elf.specs.AArch64Relocations.{aarch64_name}
 use Rattle.linker_elf.specs.declared.aarch64.relocations.AArch64Relocation.TheVariants as r
 use Rattle.linker_output.specs.Tables.{field_of, kind, kind_of, units_of, no_flags, only}
-use Rattle.linker_output.specs.Tables.{four, plain_stub, data_stub}
+use Rattle.linker_output.specs.Tables.{four, plain_stub, data_stub, code_of_words}
 use Rattle.linker_output.specs.View.{Description}
 use Rattle.linker_output.specs.declared.got.ThreadPointer.TheVariants.{BelowImage}
 use Rattle.linker_elf.specs.declared.elf.architecture.Architecture.TheVariants.{AArch64}
@@ -46,6 +46,19 @@ aarch64_output =
       load_stub =
           plain_stub 0x90000010 0xf9400211 (field_of 0 (aarch64_name r.R_AARCH64_ADR_PREL_PG_HI21))
           (Some (field_of 4 (aarch64_name r.R_AARCH64_LDST64_ABS_LO12_NC))) (0xd61f0220 ∷ []);
+      -- `bti c`, and the same
+      landing_load_stub =
+          Some
+          (record {
+            head = code_of_words (0xd503245f ∷ []);
+            pair = code_of_words (0x90000010 ∷ 0xf9400211 ∷ []);
+            first = field_of 0 (aarch64_name r.R_AARCH64_ADR_PREL_PG_HI21);
+            second = Some (field_of 4 (aarch64_name r.R_AARCH64_LDST64_ABS_LO12_NC));
+            tail = code_of_words (0xd61f0220 ∷ []);
+            entry = 0;
+            origin = 4;
+            addend = pos 0;
+          });
       -- `adrp x16`, `add x16, x16`, `br x16`
       jump_stub =
           Some

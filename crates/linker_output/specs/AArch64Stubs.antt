@@ -34,6 +34,16 @@ run_stub code s =
     then_jumped (word_of (drop 8 code)) (sum_64 s.pc 8)
     (run (word_of code ∷ word_of (drop 4 code) ∷ []) s)
 
+-- ---- "BTI c"
+
+-- Indirect branches may go to it, and it does nothing.
+abbrev pub is_bti_c : ℕ → Bool
+is_bti_c word = word == 0xd503245f
+
+-- it, and a stub after it
+abbrev pub run_landing : List ℕ → State → Option State
+run_landing code s = if is_bti_c (word_of code) then run_stub (drop 4 code) (go_on s) else None
+
 -- ---- the instructions of stubs to anywhere
 
 -- "LDR (literal)" of 64 bits: the immediate, in units of 4 bytes, is added to the address of the
@@ -80,6 +90,13 @@ Loads =
     (place word : ℕ) → place < 2 ^ 64 → word < 2 ^ 64 → (code : List ℕ)
     → IsStub AArch64 aarch64_output.load_stub place word code
     → (s : State) → s.pc ≡ place → IsSomeAnd (run_stub code s) (GoesTo (load_64 s.memory word) s)
+
+-- the same where indirect branches may go to the stub
+abbrev pub LandingLoads : Type 0
+LandingLoads =
+    (place word : ℕ) → place < 2 ^ 64 → word < 2 ^ 64 → (code : List ℕ)
+    → IsSomeAnd aarch64_output.landing_load_stub (λ stub. IsStub AArch64 stub place word code)
+    → (s : State) → s.pc ≡ place → IsSomeAnd (run_landing code s) (GoesTo (load_64 s.memory word) s)
 
 abbrev pub Jumps : Type 0
 Jumps =

@@ -1,7 +1,7 @@
 -- The lazy PLTs of the architectures (x86-64 psABI, "Procedure Linkage Table"; the other psABIs
--- leave the code to linkers, and this is ld.lld's).
+-- leave the code to linkers, and this is ld.lld's), and those for protected code.
 use Rattle.std.specs.Prelude.{ℕ, ℤ, pos, negsuc, List, [], ◌∷◌, ◌++◌, ◌-◌, length, replicate, Some}
-use Rattle.std.specs.Prelude.{None}
+use Rattle.std.specs.Prelude.{Option, None}
 use Rattle.linker_elf.specs.AArch64Relocations.{aarch64_name}
 use Rattle.linker_elf.specs.LoongArchRelocations.{loongarch_name}
 use Rattle.linker_elf.specs.Ppc64Relocations.{ppc64_name}
@@ -14,6 +14,8 @@ use Rattle.linker_elf.specs.declared.riscv64.relocations.RiscVRelocation.TheVari
 use Rattle.linker_elf.specs.declared.x86_64.relocations.X86_64Relocation.TheVariants as x86_64
 use Rattle.linker_output.specs.LazyPlt.{PltCode}
 use Rattle.linker_output.specs.Tables.{field_of, field_of_32, code_of_words}
+use Rattle.linker_output.specs.declared.lazy_plt.LazyForm.{LazyForm}
+use Rattle.linker_output.specs.declared.lazy_plt.LazyForm.TheVariants as form
 use Rattle.linker_output.specs.declared.lazy_plt.LazyPiece.{LazyPiece}
 use Rattle.linker_output.specs.declared.lazy_plt.LazyTarget.{LazyTarget}
 use Rattle.linker_output.specs.declared.lazy_plt.LazyTarget.TheVariants.{Word, Header, Index}
@@ -72,26 +74,51 @@ aarch64_load = field_of 0 (aarch64_name aarch64.R_AARCH64_LDST64_ABS_LO12_NC)
 abbrev pub aarch64_add : StubField
 aarch64_add = field_of 0 (aarch64_name aarch64.R_AARCH64_ADD_ABS_LO12_NC)
 
+-- The address of a word, or so far above it, gets into x16, and what the word there has into x17;
+-- then others. The first instruction is at an offset.
+abbrev pub aarch64_loads : ℕ → ℕ → List LazyPiece → List LazyPiece
+aarch64_loads origin addend others =
+    one_with 0x90000010 aarch64_page Word origin (pos addend)  -- `adrp x16, 0`
+    ∷ one_with 0xf9400211 aarch64_load Word origin (pos addend)  -- `ldr x17, [x16, 0]`
+    ∷ one_with 0x91000210 aarch64_add Word origin (pos addend) ∷ others  -- `add x16, x16, 0`
+
+-- `stp x16, x30, [sp, -16]!`, those, `br x17`, and 3 of `nop`
 abbrev pub aarch64_header : List LazyPiece
 aarch64_header =
-    one 0xa9bf7bf0  -- `stp x16, x30, [sp, -16]!`
-    ∷ one_with 0x90000010 aarch64_page Word 4 (pos 16)  -- `adrp x16, 0`
-    ∷ one_with 0xf9400211 aarch64_load Word 4 (pos 16)  -- `ldr x17, [x16, 0]`
-    ∷ one_with 0x91000210 aarch64_add Word 4 (pos 16)  -- `add x16, x16, 0`
-    ∷ two 0xd61f0220 0xd503201f  -- `br x17`, `nop`
-    ∷ two 0xd503201f 0xd503201f ∷ []  -- `nop`, `nop`
+    one 0xa9bf7bf0
+    ∷ aarch64_loads 4 16 (two 0xd61f0220 0xd503201f ∷ two 0xd503201f 0xd503201f ∷ [])
 
+-- those, and `br x17`
 abbrev pub aarch64_entry : List LazyPiece
-aarch64_entry =
-    one_with 0x90000010 aarch64_page Word 0 (pos 0)  -- `adrp x16, 0`
-    ∷ one_with 0xf9400211 aarch64_load Word 0 (pos 0)  -- `ldr x17, [x16, 0]`
-    ∷ one_with 0x91000210 aarch64_add Word 0 (pos 0)  -- `add x16, x16, 0`
-    ∷ one 0xd61f0220 ∷ []  -- `br x17`
+aarch64_entry = aarch64_loads 0 0 (one 0xd61f0220 ∷ [])
 
-abbrev pub aarch64_lazy_plt : PltCode
-aarch64_lazy_plt =
-    plt_of AArch64 16 aarch64_header aarch64_entry (word.Zero ∷ word.Zero ∷ word.Zero ∷ [])
-    word.Header
+abbrev pub aarch64_plt : List LazyPiece → List LazyPiece → PltCode
+aarch64_plt header entry =
+    plt_of AArch64 16 header entry (word.Zero ∷ word.Zero ∷ word.Zero ∷ []) word.Header
+
+-- ---- AArch64's for protected code, whose entries have 24 bytes
+
+-- `bti c`, `stp x16, x30, [sp, -16]!`, those, `br x17`, and 2 of `nop`
+abbrev pub aarch64_landing_header : List LazyPiece
+aarch64_landing_header =
+    two 0xd503245f 0xa9bf7bf0
+    ∷ aarch64_loads 8 16 (two 0xd61f0220 0xd503201f ∷ one 0xd503201f ∷ [])
+
+-- those, `br x17`, and 2 of `nop`
+abbrev pub aarch64_wide_entry : List LazyPiece
+aarch64_wide_entry = aarch64_loads 0 0 (two 0xd61f0220 0xd503201f ∷ one 0xd503201f ∷ [])
+
+-- `bti c`, those, `br x17`, and `nop`
+abbrev pub aarch64_landing_entry : List LazyPiece
+aarch64_landing_entry = one 0xd503245f ∷ aarch64_loads 4 0 (two 0xd61f0220 0xd503201f ∷ [])
+
+-- those, `autia1716`, `br x17`, and `nop`
+abbrev pub aarch64_authenticated_entry : List LazyPiece
+aarch64_authenticated_entry = aarch64_loads 0 0 (two 0xd503219f 0xd61f0220 ∷ one 0xd503201f ∷ [])
+
+-- `bti c`, those, `autia1716`, and `br x17`
+abbrev pub aarch64_authenticated_landing_entry : List LazyPiece
+aarch64_authenticated_landing_entry = one 0xd503245f ∷ aarch64_loads 4 0 (two 0xd503219f 0xd61f0220 ∷ [])
 
 abbrev pub loongarch_high : StubField
 loongarch_high = field_of_32 0 (loongarch_name loongarch.R_LARCH_TLS_LE_HI20_R)
@@ -193,14 +220,41 @@ x86_64_entry =
     ∷ with_field (0xe9 ∷ 0 ∷ 0 ∷ 0 ∷ 0 ∷ [])
     (field_of 1 (x86_64_name x86_64.R_X86_64_PC32)) Header 12 (negsuc 3) ∷ []
 
-abbrev pub x86_64_lazy_plt : PltCode
-x86_64_lazy_plt =
-    plt_of X86_64 16 x86_64_header x86_64_entry (word.Dynamic ∷ word.Zero ∷ word.Zero ∷ [])
-    (word.Entry 6)
+abbrev pub x86_64_plt : List LazyPiece → LazyWord → PltCode
+x86_64_plt entry own =
+    plt_of X86_64 16 x86_64_header entry (word.Dynamic ∷ word.Zero ∷ word.Zero ∷ []) own
+
+-- for protected code: calls come by a stub, to which the entry's word belongs
+abbrev pub x86_64_landing_entry : List LazyPiece
+x86_64_landing_entry =
+    -- `endbr64`
+    fixed (0xf3 ∷ 0x0f ∷ 0x1e ∷ 0xfa ∷ [])
+    -- `push index`
+    ∷ with_field (0x68 ∷ 0 ∷ 0 ∷ 0 ∷ 0 ∷ [])
+    (field_of 1 (x86_64_name x86_64.R_X86_64_32S)) Index 0 (pos 0)
+    -- `jmp header`
+    ∷ with_field (0xe9 ∷ 0 ∷ 0 ∷ 0 ∷ 0 ∷ [])
+    (field_of 1 (x86_64_name x86_64.R_X86_64_PC32)) Header 10 (negsuc 3)
+    -- `xchg %ax,%ax`, which does nothing
+    ∷ fixed (0x66 ∷ 0x90 ∷ []) ∷ []
 
 abbrev pub lazy_plt_of : Architecture → PltCode
-lazy_plt_of AArch64 = aarch64_lazy_plt
+lazy_plt_of AArch64 = aarch64_plt aarch64_header aarch64_entry
 lazy_plt_of RiscV = riscv_lazy_plt
 lazy_plt_of LoongArch64 = loongarch_lazy_plt
 lazy_plt_of Ppc64 = ppc64_lazy_plt
-lazy_plt_of X86_64 = x86_64_lazy_plt
+lazy_plt_of X86_64 = x86_64_plt x86_64_entry (word.Entry 6)
+
+-- for protected code
+abbrev pub plt_of_form : Architecture → LazyForm → Option PltCode
+plt_of_form AArch64 form.Landing = Some (aarch64_plt aarch64_landing_header aarch64_wide_entry)
+plt_of_form AArch64 form.LandingEntry =
+    Some (aarch64_plt aarch64_landing_header aarch64_landing_entry)
+plt_of_form AArch64 form.Authenticated = Some (aarch64_plt aarch64_header aarch64_authenticated_entry)
+plt_of_form AArch64 form.AuthenticatedLanding =
+    Some (aarch64_plt aarch64_landing_header aarch64_authenticated_entry)
+plt_of_form AArch64 form.AuthenticatedLandingEntry =
+    Some (aarch64_plt aarch64_landing_header aarch64_authenticated_landing_entry)
+plt_of_form X86_64 form.Landing = Some (x86_64_plt x86_64_landing_entry (word.Entry 0))
+plt_of_form architecture form.Plain = Some (lazy_plt_of architecture)
+plt_of_form architecture form = None

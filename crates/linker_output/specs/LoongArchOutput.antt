@@ -63,6 +63,7 @@ loongarch_output =
           plain_stub 0x1a00000f 0x28c001ef (field_of_32 0 (loongarch_name r.R_LARCH_GOT_PC_HI20))
           (Some (field_of 4 (loongarch_name r.R_LARCH_GOT_PC_LO12))) (0x4c0001e0 ∷ []);
       -- `pcaddu18i $t3`, `jirl $zero, $t3`
+      landing_load_stub = None;
       jump_stub =
           Some
           (plain_stub 0x1e00000f 0x4c0001e0 (field_of 0 (loongarch_name r.R_LARCH_CALL36))

@@ -137,6 +137,7 @@ ppc64_output =
       -- `addis 12, 12`, `ld 12, (12)`
       load_stub = through_r12 0xe98c0000 (ppc64_name r.R_PPC64_TOC16_LO_DS);
       -- `addis 12, 12`, `addi 12, 12`
+      landing_load_stub = None;
       jump_stub = Some (through_r12 0x398c0000 (ppc64_name r.R_PPC64_TOC16_LO));
       far_stub = None;
       far_relative_stub = None;

@@ -156,7 +156,7 @@ WritesMerged architecture first second before after count =
     (properties : List Property) × Merges architecture first second properties
     × (length properties ≡ count) × (count ≤ length before) × Begins properties before after
 
--- the least type whose values differ
+-- a type whose values differ
 abbrev pub DiffersAt : Architecture → List Property → List Property → PropertyError → Type 0
 DiffersAt architecture first second error =
     (kind : ℕ) × (merged_kind architecture first second kind ≡ Err error)

@@ -67,6 +67,7 @@ riscv_output =
       load_stub =
           plain_stub 0x00000e17 0x000e3e03 (field_of 0 (riscv_name r.R_RISCV_PCREL_HI20))
           (Some (field_of 4 (riscv_name r.R_RISCV_PCREL_LO12_I))) (0x000e0067 ∷ []);
+      landing_load_stub = None;
       jump_stub = None;
       far_stub = None;
       far_relative_stub = None;

@@ -18,7 +18,7 @@ use Rattle.linker_output.specs.declared.layout.SymbolPlace.{SymbolPlace}
 use Rattle.linker_output.specs.declared.stubs.Stub.{Stub}
 use Rattle.linker_output.specs.declared.stubs.StubKind.{StubKind}
 use Rattle.linker_output.specs.declared.stubs.StubKind.TheVariants.{Load, Jump}
-use Rattle.linker_output.specs.declared.stubs.StubKind.TheVariants.{Far, FarRelative}
+use Rattle.linker_output.specs.declared.stubs.StubKind.TheVariants.{Far, FarRelative, LandingLoad}
 use Rattle.linker_output.specs.declared.description.Target.{Target}
 use Rattle.linker_elf.specs.declared.elf.architecture.Architecture.{Architecture}
 
@@ -47,6 +47,7 @@ pub record Description : Type 0 where
   -- whose relocations the fields of stubs have
   pub instructions : Architecture
   pub load_stub : StubCode
+  pub landing_load_stub : Option StubCode
   pub jump_stub : Option StubCode
   pub far_stub : Option StubCode
   pub far_relative_stub : Option StubCode
@@ -131,6 +132,7 @@ stub_of t Load = Some (view_stub t.load_stub)
 stub_of t Jump = view_some t.jump_stub
 stub_of t Far = view_some t.far_stub
 stub_of t FarRelative = view_some t.far_relative_stub
+stub_of t LandingLoad = view_some t.landing_load_stub
 
 abbrev pub view : Target → Description
 view t =
@@ -150,6 +152,7 @@ view t =
       paths = view_paths t.interpreters.now;
       instructions = t.instructions;
       load_stub = view_stub t.load_stub;
+      landing_load_stub = view_some t.landing_load_stub;
       jump_stub = view_some t.jump_stub;
       far_stub = view_some t.far_stub;
       far_relative_stub = view_some t.far_relative_stub;

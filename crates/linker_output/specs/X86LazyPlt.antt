@@ -10,10 +10,21 @@ use Rattle.linker_laws.specs.X86Machine as machine
 use Rattle.linker_laws.specs.X86Machine.{State, load, store_8, with_register, extended, is_relative}
 use Rattle.linker_laws.specs.X86Machine.{reg_of}
 use Rattle.linker_output.specs.LazyPlt.{IsCode, header_places}
-use Rattle.linker_output.specs.LazyPlts.{x86_64_entry, x86_64_header}
+use Rattle.linker_output.specs.LazyPlts.{x86_64_entry, x86_64_header, x86_64_landing_entry}
 use Rattle.linker_output.specs.LazyRuns.{or_else}
 use Rattle.linker_output.specs.declared.lazy_plt.LazyEntry.{LazyEntry}
+use Rattle.linker_output.specs.declared.lazy_plt.LazyPiece.{LazyPiece}
 use Rattle.linker_elf.specs.declared.elf.architecture.Architecture.TheVariants.{X86_64}
+
+-- ---- "ENDBR64"
+
+-- Indirect branches may go to it, and it does nothing.
+abbrev pub landed : List ℕ → State → Option State
+landed (a ∷ b ∷ c ∷ d ∷ rest) s =
+    if a == 0xf3 && (b == 0x0f && (c == 0x1e && d == 0xfa))
+    then Some (record s { ip = sum_64 s.ip 4 })
+    else None
+landed bytes s = None
 
 -- ---- "PUSH"
 
@@ -39,7 +50,7 @@ further (opcode ∷ m ∷ rest) s =
 further bytes s = None
 
 abbrev pub step : List ℕ → State → Option State
-step bytes s = or_else (further bytes s) (machine.step bytes s)
+step bytes s = or_else (landed bytes s) (or_else (further bytes s) (machine.step bytes s))
 
 abbrev pub and_then : (State → Option State) → Option State → Option State
 and_then rest None = None
@@ -79,15 +90,23 @@ abbrev pub IsOffStack : ℕ → State → Type 0
 IsOffStack word s =
     (i : ℕ) → i < 8 → 16 ≤ difference_64 (sum_64 word i) (difference_64 (s.register 4) 16)
 
--- The word of the entry has the address after the entry's first instruction, and the second and
--- the third word aren't on the stack.
-abbrev pub Resolves : Type 0
-Resolves =
+-- An entry, in 3 instructions, and the header, in 2. The second and the third word aren't on the
+-- stack.
+abbrev pub ResolvesBy : List LazyPiece → (LazyEntry → State → Type 0) → Type 0
+ResolvesBy pieces LeadsOn =
     (entry : LazyEntry) (first : ℕ) → entry.address < 2 ^ 64 → entry.word < 2 ^ 64 → first < 2 ^ 64
     → entry.header < 2 ^ 64 → entry.index < 2 ^ 64
-    → (code : List ℕ) → IsCode X86_64 x86_64_entry entry code
+    → (code : List ℕ) → IsCode X86_64 pieces entry code
     → (header : List ℕ) → IsCode X86_64 x86_64_header (header_places entry.header first) header
-    → (s : State) → s.ip ≡ entry.address → load 8 s entry.word ≡ sum_64 entry.address 6
+    → (s : State) → s.ip ≡ entry.address → LeadsOn entry s
     → IsOffStack (sum_64 first 8) s → IsOffStack (sum_64 first 16) s
     → IsSomeAnd (run 3 code entry.address s) (λ t. (t.ip ≡ entry.header)
     × IsSomeAnd (run 2 header entry.header t) (Asks entry.index first s))
+
+-- The word of the entry has the address after the entry's first instruction.
+abbrev pub Resolves : Type 0
+Resolves = ResolvesBy x86_64_entry (λ entry s. load 8 s entry.word ≡ sum_64 entry.address 6)
+
+-- For protected code, where a stub comes to the entry (`LandingLoads`), whatever its word has.
+abbrev pub LandingResolves : Type 0
+LandingResolves = ResolvesBy x86_64_landing_entry (λ entry s. Unit {0})

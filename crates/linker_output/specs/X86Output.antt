@@ -52,6 +52,19 @@ x86_64_output =
             origin = 2;
             addend = negsuc 3;
           };
+      -- `endbr64`, `jmp *word(%rip)`, and `nopw 0(%rax,%rax)`, which does nothing
+      landing_load_stub =
+          Some
+          (record {
+            head = four 0xf3 0x0f 0x1e 0xfa;
+            pair = 0xff ∷ 0x25 ∷ 0 ∷ 0 ∷ 0 ∷ 0 ∷ 0x66 ∷ 0x0f ∷ [];
+            first = field_of 2 (x86_64_name r.R_X86_64_PC32);
+            second = None;
+            tail = four 0x1f 0x44 0 0;
+            entry = 0;
+            origin = 6;
+            addend = negsuc 3;
+          });
       jump_stub = None;
       far_stub = None;
       far_relative_stub = None;

@@ -63,6 +63,23 @@ pub(crate) static TARGET: Target = Target {
         origin: 0,
         addend: 0,
     },
+    landing_load_stub: Some(Stub {
+        head: &[
+            0x5f, 0x24, 3, 0xd5, // bti c
+        ],
+        pair: [
+            0x10, 0, 0, 0x90, // adrp x16, 0
+            0x11, 2, 0x40, 0xf9, // ldr x17, [x16]
+        ],
+        first: field!(0, R_AARCH64_ADR_PREL_PG_HI21),
+        second: Some(field!(4, R_AARCH64_LDST64_ABS_LO12_NC)),
+        tail: &[
+            0x20, 2, 0x1f, 0xd6, // br x17
+        ],
+        entry: 0,
+        origin: 4,
+        addend: 0,
+    }),
     jump_stub: Some(Stub {
         head: &[],
         pair: [

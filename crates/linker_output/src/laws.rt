@@ -2,8 +2,8 @@
 //!
 //! The functions do nothing, and the contract of each has the laws of one architecture, over the
 //! machine that `linker_laws` has of it. From the address at which a stub of `Target::of` stands,
-//! with any registers, its code ends at the address that the word at its target has (`Load`), or at
-//! its target (else), and has changed only the registers that a call may change on its way.
+//! with any registers, its code ends at the address that the word at its target has (`Load` and
+//! `LandingLoad`), or at its target (else), and has changed only the registers that a call may change on its way.
 
 ghost use Rattle.linker_output.specs.AArch64Stubs as aarch64_stubs;
 ghost use Rattle.linker_output.specs.LoongArchStubs as loongarch_stubs;
@@ -19,6 +19,7 @@ ghost use Rattle.linker_output.specs.X86Stubs as x86_stubs;
 /// read their own code as memory.
 pub fn aarch64()
     ensures loads { aarch64_stubs.Loads }
+    ensures landing_loads { aarch64_stubs.LandingLoads }
     ensures jumps { aarch64_stubs.Jumps }
     ensures reaches { aarch64_stubs.Reaches }
     ensures reaches_relative { aarch64_stubs.ReachesRelative }
@@ -70,7 +71,8 @@ pub fn riscv64()
 
 /// x86-64: nothing changes.
 pub fn x86_64()
-    ensures { x86_stubs.Loads }
+    ensures loads { x86_stubs.Loads }
+    ensures landing_loads { x86_stubs.LandingLoads }
 {}
 
 /// A branch to the entry of a stub is `Direct` exactly where it can be written.

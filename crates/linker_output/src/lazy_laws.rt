@@ -13,10 +13,13 @@ ghost use Rattle.linker_output.specs.Ppc64LazyPlt as ppc64_plt;
 ghost use Rattle.linker_output.specs.RiscVLazyPlt as riscv_plt;
 ghost use Rattle.linker_output.specs.X86LazyPlt as x86_plt;
 
-/// AArch64: x16 and x17 change.
+/// AArch64: x16 and x17 change. The same holds of the forms `Landing` and `LandingEntry`. The machine
+/// has no authenticated addresses, and the others have no law.
 pub fn aarch64()
     ensures enters { aarch64_plt.Enters }
     ensures resolves { aarch64_plt.Resolves }
+    ensures landing_enters { aarch64_plt.LandingEnters }
+    ensures landing_resolves { aarch64_plt.LandingResolves }
 {
     linker_laws::relocations::aarch64();
 }
@@ -45,8 +48,10 @@ pub fn riscv64()
     linker_laws::relocations::riscv64();
 }
 
-/// x86-64: nothing changes but the stack.
+/// x86-64: nothing changes but the stack. An entry of the form `Landing` goes on to the resolver;
+/// the stub that comes to it has its law in `laws`.
 pub fn x86_64()
     ensures enters { x86_plt.Enters }
     ensures resolves { x86_plt.Resolves }
+    ensures landing_resolves { x86_plt.LandingResolves }
 {}

@@ -73,6 +73,7 @@ pub(crate) static TARGET: Target = Target {
         origin: 0,
         addend: 0,
     },
+    landing_load_stub: None,
     jump_stub: Some(Stub {
         head: &[],
         pair: [

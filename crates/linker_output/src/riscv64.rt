@@ -81,6 +81,7 @@ pub(crate) static TARGET: Target = Target {
         origin: 0,
         addend: 0,
     },
+    landing_load_stub: None,
     jump_stub: None,
     far_stub: None,
     far_relative_stub: None,

@@ -1,7 +1,12 @@
 -- Lazy PLTs, in the numbers that C sees.
-use Rattle.std.specs.Prelude.{◌≡◌, ◌⊎◌, ℕ, List, length, Result, Ok, Err}
+use Rattle.std.specs.Prelude.{◌≡◌, ◌⊎◌, ◌==◌, ℕ, List, length, Result, Ok, Err, Option, Some, None}
+use Rattle.std.specs.Prelude.{if◌then◌else◌}
 use Rattle.linker_output.specs.LazyPlt.{PltCode, capped_len, WritesCode, RejectsCode}
+use Rattle.linker_output.specs.LazyPlt.{word_by, header_places}
+use Rattle.linker_output.specs.LazyPlts.{plt_of_form}
 use Rattle.linker_output.specs.declared.lazy_plt.LazyEntry.{LazyEntry}
+use Rattle.linker_output.specs.declared.lazy_plt.LazyForm.{LazyForm}
+use Rattle.linker_output.specs.declared.lazy_plt.LazyForm.TheVariants as form
 use Rattle.linker_output.specs.declared.lazy_plt.LazyPiece.{LazyPiece}
 use Rattle.linker_output.specs.declared.stubs.StubError.{StubError}
 use Rattle.linker_elf.specs.declared.elf.architecture.Architecture.{Architecture}
@@ -9,7 +14,22 @@ use Rattle.linker_utils_c.specs.Output.{stub_status}
 use Rattle.linker_utils_c.specs.Status.{code}
 use Rattle.linker_utils_c.specs.declared.lazy_plt.LazyPltNumbers.{LazyPltNumbers}
 use Rattle.linker_utils_c.specs.declared.status.Status.{Status}
-use Rattle.linker_utils_c.specs.declared.status.Status.TheVariants.{Success}
+use Rattle.linker_utils_c.specs.declared.status.Status.TheVariants.{Success, UnknownStub}
+
+-- the form with a number
+abbrev pub form_of : ℕ → Option LazyForm
+form_of number =
+    if number == 0 then Some form.Plain
+    else if number == 1 then Some form.Landing
+    else if number == 2 then Some form.LandingEntry
+    else if number == 3 then Some form.Authenticated
+    else if number == 4 then Some form.AuthenticatedLanding
+    else if number == 5 then Some form.AuthenticatedLandingEntry
+    else None
+
+abbrev pub plt_in : Architecture → Option LazyForm → Option PltCode
+plt_in architecture None = None
+plt_in architecture (Some form) = plt_of_form architecture form
 
 abbrev pub numbers_of : PltCode → LazyPltNumbers
 numbers_of plt =
@@ -19,6 +39,10 @@ numbers_of plt =
       alignment = plt.alignment;
       header_words = length plt.header_words;
     }
+
+abbrev pub IsPltReturned : Option PltCode → LazyPltNumbers → LazyPltNumbers → ℕ → Type 0
+IsPltReturned None old new status = (status ≡ code UnknownStub) × (new ≡ old)
+IsPltReturned (Some plt) old new status = (status ≡ code Success) × (new ≡ numbers_of plt)
 
 abbrev pub written_status : Result Unit StubError → Status
 written_status (Ok done) = Success
@@ -30,3 +54,19 @@ IsCodeWritten architecture pieces entry before after status =
     ((status ≡ code Success) × WritesCode architecture pieces entry before after)
     ⊎ ((error : StubError) × (status ≡ code (stub_status error)) × (after ≡ before)
     × RejectsCode architecture pieces entry before error)
+
+abbrev pub IsHeaderWritten : Option PltCode → ℕ → ℕ → List ℕ → List ℕ → ℕ → Type 0
+IsHeaderWritten None header words before after status =
+    (status ≡ code UnknownStub) × (after ≡ before)
+IsHeaderWritten (Some plt) header words before after status =
+    IsCodeWritten plt.instructions plt.header (header_places header words) before after status
+
+abbrev pub IsEntryWritten : Option PltCode → LazyEntry → List ℕ → List ℕ → ℕ → Type 0
+IsEntryWritten None entry before after status = (status ≡ code UnknownStub) × (after ≡ before)
+IsEntryWritten (Some plt) entry before after status =
+    IsCodeWritten plt.instructions plt.entry entry before after status
+
+-- what an entry's word holds at first
+abbrev pub first_word : Option PltCode → ℕ → ℕ → ℕ → ℕ
+first_word None entry header dynamic = 0
+first_word (Some plt) entry header dynamic = word_by plt.word entry header dynamic

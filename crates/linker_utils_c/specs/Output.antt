@@ -13,7 +13,7 @@ use Rattle.linker_output.specs.declared.stubs.StubError.{StubError}
 use Rattle.linker_output.specs.declared.stubs.StubError.TheVariants as errors
 use Rattle.linker_output.specs.declared.stubs.StubKind.{StubKind}
 use Rattle.linker_output.specs.declared.stubs.StubKind.TheVariants.{Load, Jump}
-use Rattle.linker_output.specs.declared.stubs.StubKind.TheVariants.{Far, FarRelative}
+use Rattle.linker_output.specs.declared.stubs.StubKind.TheVariants.{Far, FarRelative, LandingLoad}
 use Rattle.linker_section.specs.declared.needed.EntryClass.{EntryClass}
 use Rattle.linker_section.specs.declared.needed.EntryClass.TheVariants.{Address, ThreadOffset}
 use Rattle.linker_section.specs.declared.needed.EntryClass.TheVariants.{ModuleOffset, Module}
@@ -169,6 +169,7 @@ stub_kind_of number =
     else if number == 1 then Some Jump
     else if number == 2 then Some Far
     else if number == 3 then Some FarRelative
+    else if number == 4 then Some LandingLoad
     else None
 
 abbrev pub stub_in : Description → Option StubKind → Option StubCode
@@ -177,6 +178,7 @@ stub_in target (Some Load) = Some target.load_stub
 stub_in target (Some Jump) = target.jump_stub
 stub_in target (Some Far) = target.far_stub
 stub_in target (Some FarRelative) = target.far_relative_stub
+stub_in target (Some LandingLoad) = target.landing_load_stub
 
 abbrev pub IsStubReturned : Option StubCode → StubNumbers → StubNumbers → ℕ → Type 0
 IsStubReturned None old new status = (status ≡ code UnknownStub) × (new ≡ old)

@@ -1,12 +1,11 @@
 -- Program properties, in the numbers that C sees.
 use Rattle.std.specs.Prelude.{◌≡◌, ◌⊎◌, ℕ, List, length, Result, Ok, Err, Option, Some, None}
-use Rattle.std.specs.Prelude.{Bool, true, false}
+use Rattle.std.specs.Prelude.{Bool, false, is_some}
 use Rattle.linker_output.specs.Properties.{rule_of, WritesRead, RejectsRead, WritesMerged}
 use Rattle.linker_output.specs.Properties.{RejectsMerge, WritesNote, RejectsNote}
 use Rattle.linker_output.specs.declared.properties.Property.{Property}
 use Rattle.linker_output.specs.declared.properties.PropertyError.{PropertyError}
 use Rattle.linker_output.specs.declared.properties.PropertyError.TheVariants as errors
-use Rattle.linker_output.specs.declared.properties.PropertyRule.{PropertyRule}
 use Rattle.linker_elf.specs.declared.elf.architecture.Architecture.{Architecture}
 use Rattle.linker_utils_c.specs.Status.{code}
 use Rattle.linker_utils_c.specs.declared.status.Status.{Status}
@@ -16,14 +15,10 @@ use Rattle.linker_utils_c.specs.declared.status.Status.TheVariants.{DifferentVal
 use Rattle.linker_utils_c.specs.declared.status.Status.TheVariants.{UnknownProperty}
 use Rattle.linker_utils_c.specs.declared.status.Status.TheVariants.{DoesNotFit, TooLarge, TooShort}
 
-abbrev pub is_rule : Option PropertyRule → Bool
-is_rule None = false
-is_rule (Some rule) = true
-
 -- a property's type has a rule
 abbrev pub has_rule : Option Architecture → ℕ → Bool
 has_rule None kind = false
-has_rule (Some architecture) kind = is_rule (rule_of architecture kind)
+has_rule (Some architecture) kind = is_some (rule_of architecture kind)
 
 abbrev pub property_status : Result ℕ PropertyError → Status
 property_status (Ok count) = Success
@@ -50,28 +45,30 @@ number_by (Err (errors.TooLarge kind)) before = kind
 number_by (Err errors.TooMany) before = before
 number_by (Err (errors.TooShort needed)) before = needed
 
--- properties are read, or the error is returned and none is
+-- what a call writes with its number, or the error is returned with its number and nothing is
+abbrev pub IsReturned : {A : Type 0} → (A → ℕ → Type 0) → (PropertyError → Type 0) → A → A → ℕ → ℕ
+    → ℕ → Type 0
+IsReturned Writes Rejects before after number_before number status =
+    ((status ≡ code Success) × Writes after number)
+    ⊎ ((error : PropertyError) × (status ≡ code (property_status (Err error))) × (after ≡ before)
+    × (number ≡ number_by (Err error) number_before) × Rejects error)
+
+-- properties are read
 abbrev pub ArePropertiesRead : Architecture → List ℕ → List Property → List Property → ℕ → ℕ → ℕ
     → Type 0
-ArePropertiesRead architecture section before after number_before number status =
-    ((status ≡ code Success) × WritesRead architecture section before after number)
-    ⊎ ((error : PropertyError) × (status ≡ code (property_status (Err error))) × (after ≡ before)
-    × (number ≡ number_by (Err error) number_before)
-    × RejectsRead architecture section (length before) error)
+ArePropertiesRead architecture section before =
+    IsReturned (WritesRead architecture section before)
+    (RejectsRead architecture section (length before)) before
 
--- the same of merged ones
+-- they are merged
 abbrev pub ArePropertiesMerged : Architecture → List Property → List Property → List Property
     → List Property → ℕ → ℕ → ℕ → Type 0
-ArePropertiesMerged architecture first second before after number_before number status =
-    ((status ≡ code Success) × WritesMerged architecture first second before after number)
-    ⊎ ((error : PropertyError) × (status ≡ code (property_status (Err error))) × (after ≡ before)
-    × (number ≡ number_by (Err error) number_before)
-    × RejectsMerge architecture first second (length before) error)
+ArePropertiesMerged architecture first second before =
+    IsReturned (WritesMerged architecture first second before)
+    (RejectsMerge architecture first second (length before)) before
 
--- the same of a note
+-- their note is written
 abbrev pub IsNoteWritten : Architecture → List Property → List ℕ → List ℕ → ℕ → ℕ → ℕ → Type 0
-IsNoteWritten architecture properties before after number_before number status =
-    ((status ≡ code Success) × WritesNote architecture properties before after number)
-    ⊎ ((error : PropertyError) × (status ≡ code (property_status (Err error))) × (after ≡ before)
-    × (number ≡ number_by (Err error) number_before)
-    × RejectsNote architecture properties (length before) error)
+IsNoteWritten architecture properties before =
+    IsReturned (WritesNote architecture properties before)
+    (RejectsNote architecture properties (length before)) before

@@ -1,16 +1,18 @@
 //! Lazy PLTs: the code of headers and entries, and what their words hold at first.
 
-ghost use Rattle.std.specs.Prelude.{◌≡◌, IfSome, IfNone};
+ghost use Rattle.std.specs.Prelude.{◌≡◌, Some, None, IfSome, IfNone};
 ghost use Rattle.linker_output.specs.LazyPlt.{view_plt, word_by, word_in, header_places};
 ghost use Rattle.linker_output.specs.LazyPlts.{lazy_plt_of};
 ghost use Rattle.linker_elf.specs.Machines.{architecture_of};
-ghost use Rattle.linker_utils_c.specs.LazyPlt.{numbers_of, written_status, IsCodeWritten};
+ghost use Rattle.linker_utils_c.specs.LazyPlt.{form_of, plt_in, numbers_of, IsPltReturned};
+ghost use Rattle.linker_utils_c.specs.LazyPlt.{written_status, IsCodeWritten, IsHeaderWritten};
+ghost use Rattle.linker_utils_c.specs.LazyPlt.{IsEntryWritten, first_word};
 ghost use Rattle.linker_utils_c.specs.Output.{IsFoundWord};
 ghost use Rattle.linker_utils_c.specs.Status.{code};
 
 use crate::relocate::status_of;
 use crate::status::Status;
-use linker_output::lazy_plt::{LazyEntry, LazyPlt};
+use linker_output::lazy_plt::{LazyEntry, LazyForm, LazyPlt};
 use linker_output::stubs::StubError;
 use linker_utils::elf::Architecture;
 
@@ -28,18 +30,61 @@ pub struct LazyPltNumbers {
     pub header_words: u64,
 }
 
-/// Writes the lengths of a lazy PLT, as those of `LazyPlt`. `UnknownArchitecture`.
+/// The form with a number.
+#[inline]
+fn form_of(number: u32) -> Option<LazyForm>
+    ensures { result ≡ form_of number }
+{
+    if number == 0 {
+        Some(LazyForm::Plain)
+    } else if number == 1 {
+        Some(LazyForm::Landing)
+    } else if number == 2 {
+        Some(LazyForm::LandingEntry)
+    } else if number == 3 {
+        Some(LazyForm::Authenticated)
+    } else if number == 4 {
+        Some(LazyForm::AuthenticatedLanding)
+    } else if number == 5 {
+        Some(LazyForm::AuthenticatedLandingEntry)
+    } else {
+        None
+    }
+}
+
+/// The lazy PLT of an architecture in the form with a number.
+fn plt_in(architecture: Architecture, form: u32) -> Option<&'static LazyPlt>
+    ensures some { IfSome result
+        (λ plt. plt_in architecture (form_of form) ≡ Some (view_plt plt.now)) }
+    ensures none { IfNone result (plt_in architecture (form_of form) ≡ None) }
+{
+    let Some(form) = form_of(form) else {
+        return None;
+    };
+    LazyPlt::of_form(architecture, form)
+}
+
+/// Writes the lengths of a lazy PLT in a form, as those of `LazyPlt::of_form`: form 0 is for code
+/// that isn't protected, and 1 to 5 are those of `LazyForm` in their order. The first that applies
+/// of `UnknownArchitecture`; `UnknownStub`, where the architecture has none of the form.
 #[unsafe(no_mangle)]
-pub extern "C" fn linker_utils_get_lazy_plt(machine: u16, plt: &mut LazyPltNumbers) -> u32
-    ensures known { IfSome (architecture_of machine) (λ architecture. (result ≡ code Status.Success)
-        × (plt.new ≡ numbers_of (lazy_plt_of architecture))) }
+pub extern "C" fn linker_utils_get_lazy_plt(
+    machine: u16,
+    form: u32,
+    plt: &mut LazyPltNumbers,
+) -> u32
+    ensures known { IfSome (architecture_of machine) (λ architecture.
+        IsPltReturned (plt_in architecture (form_of form)) plt.old plt.new result) }
     ensures unknown { IfNone (architecture_of machine)
         ((result ≡ code Status.UnknownArchitecture) × (plt.new ≡ plt.old)) }
 {
     let Some(architecture) = Architecture::from_machine(machine) else {
         return Status::UnknownArchitecture.number();
     };
-    *plt = numbers_in(LazyPlt::of(architecture));
+    let Some(found) = plt_in(architecture, form) else {
+        return Status::UnknownStub.number();
+    };
+    *plt = numbers_in(found);
     Status::Success.number()
 }
 
@@ -69,25 +114,29 @@ fn status_in(written: Result<(), StubError>) -> u32
 
 /// Writes the header of a lazy PLT that stands at an address, of the `.got.plt` at `words`, to the
 /// beginning of `bytes`, as `LazyPlt::write_header`. The first that applies of
-/// `UnknownArchitecture`; `TooShort`; and where a field doesn't reach the error of the first such
-/// field, as `linker_utils_relocate`. Then `bytes` are unchanged.
+/// `UnknownArchitecture`; `UnknownStub`; `TooShort`; and where a field doesn't reach the error of
+/// the first such field, as `linker_utils_relocate`. Then `bytes` are unchanged.
 #[unsafe(no_mangle)]
 pub extern "C" fn linker_utils_write_lazy_header_nonnull(
     machine: u16,
+    form: u32,
     header: u64,
     words: u64,
     bytes: &mut [u8],
 ) -> u32
     ensures known { IfSome (architecture_of machine) (λ architecture.
-        IsCodeWritten (lazy_plt_of architecture).instructions (lazy_plt_of architecture).header
-        (header_places header words) bytes.old bytes.new result) }
+        IsHeaderWritten (plt_in architecture (form_of form)) header words bytes.old bytes.new
+        result) }
     ensures unknown { IfNone (architecture_of machine)
         ((result ≡ code Status.UnknownArchitecture) × (bytes.new ≡ bytes.old)) }
 {
     let Some(architecture) = Architecture::from_machine(machine) else {
         return Status::UnknownArchitecture.number();
     };
-    put_header(LazyPlt::of(architecture), header, words, bytes)
+    match plt_in(architecture, form) {
+        Some(plt) => put_header(plt, header, words, bytes),
+        None => Status::UnknownStub.number(),
+    }
 }
 
 fn put_header(plt: &LazyPlt, header: u64, words: u64, bytes: &mut [u8]) -> u32
@@ -98,24 +147,27 @@ fn put_header(plt: &LazyPlt, header: u64, words: u64, bytes: &mut [u8]) -> u32
 }
 
 /// Writes an entry of a lazy PLT to the beginning of `bytes`, as `LazyPlt::write_entry`. The first
-/// that applies of `UnknownArchitecture`; `TooShort`; and where a field doesn't reach the error of
-/// the first such field, as `linker_utils_relocate`. Then `bytes` are unchanged.
+/// that applies of `UnknownArchitecture`; `UnknownStub`; `TooShort`; and where a field doesn't reach
+/// the error of the first such field, as `linker_utils_relocate`. Then `bytes` are unchanged.
 #[unsafe(no_mangle)]
 pub extern "C" fn linker_utils_write_lazy_entry_nonnull(
     machine: u16,
+    form: u32,
     entry: &LazyEntry,
     bytes: &mut [u8],
 ) -> u32
     ensures known { IfSome (architecture_of machine) (λ architecture.
-        IsCodeWritten (lazy_plt_of architecture).instructions (lazy_plt_of architecture).entry
-        entry.now bytes.old bytes.new result) }
+        IsEntryWritten (plt_in architecture (form_of form)) entry.now bytes.old bytes.new result) }
     ensures unknown { IfNone (architecture_of machine)
         ((result ≡ code Status.UnknownArchitecture) × (bytes.new ≡ bytes.old)) }
 {
     let Some(architecture) = Architecture::from_machine(machine) else {
         return Status::UnknownArchitecture.number();
     };
-    put_entry(LazyPlt::of(architecture), entry, bytes)
+    match plt_in(architecture, form) {
+        Some(plt) => put_entry(plt, entry, bytes),
+        None => Status::UnknownStub.number(),
+    }
 }
 
 fn put_entry(plt: &LazyPlt, entry: &LazyEntry, bytes: &mut [u8]) -> u32
@@ -125,8 +177,8 @@ fn put_entry(plt: &LazyPlt, entry: &LazyEntry, bytes: &mut [u8]) -> u32
     status_in(plt.write_entry(entry, bytes))
 }
 
-/// Writes what a word at the begin of `.got.plt` holds, as `LazyPlt::header_word`. The first that
-/// applies of `UnknownArchitecture`; `NotProvided`, of an index that is too large.
+/// Writes what a word at the begin of `.got.plt` holds in each form, as `LazyPlt::header_word`. The
+/// first that applies of `UnknownArchitecture`; `NotProvided`, of an index that is too large.
 #[unsafe(no_mangle)]
 pub extern "C" fn linker_utils_lazy_header_word(
     machine: u16,
@@ -153,20 +205,25 @@ pub extern "C" fn linker_utils_lazy_header_word(
     }
 }
 
-/// What an entry's word holds at first, as `LazyPlt::entry_word`; 0 of a machine that isn't known.
+/// What an entry's word holds at first, as `LazyPlt::entry_word`; 0 of a machine that isn't known,
+/// and where the architecture has none of the form.
 #[unsafe(no_mangle)]
 pub extern "C" fn linker_utils_lazy_entry_word(
     machine: u16,
+    form: u32,
     entry: u64,
     header: u64,
     dynamic: u64,
 ) -> u64
     ensures known { IfSome (architecture_of machine) (λ architecture.
-        result ≡ word_by (lazy_plt_of architecture).word entry header dynamic) }
+        result ≡ first_word (plt_in architecture (form_of form)) entry header dynamic) }
     ensures unknown { IfNone (architecture_of machine) (result ≡ 0) }
 {
-    match Architecture::from_machine(machine) {
-        Some(architecture) => put_word(LazyPlt::of(architecture), entry, header, dynamic),
+    let Some(architecture) = Architecture::from_machine(machine) else {
+        return 0;
+    };
+    match plt_in(architecture, form) {
+        Some(plt) => put_word(plt, entry, header, dynamic),
         None => 0,
     }
 }

@@ -43,6 +43,7 @@ fn kind_number(kind: StubKind) -> u32
         StubKind::Jump => 1,
         StubKind::Far => 2,
         StubKind::FarRelative => 3,
+        StubKind::LandingLoad => 4,
     }
 }
 

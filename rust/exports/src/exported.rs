@@ -646,12 +646,14 @@ unsafe extern "C" fn linker_utils_relocate_rewritten_section_nonnull(
 #[unsafe(no_mangle)]
 unsafe extern "C" fn linker_utils_get_lazy_plt(
     machine: u16,
+    form: u32,
     plt: *mut LazyPltNumbers,
 ) -> u32 {
     // SAFETY: the arguments are as the head of the header says.
     unsafe {
         crate::lazy_plt::linker_utils_get_lazy_plt(
             machine,
+            form,
             &mut *plt,
         )
     }
@@ -660,6 +662,7 @@ unsafe extern "C" fn linker_utils_get_lazy_plt(
 #[unsafe(no_mangle)]
 unsafe extern "C" fn linker_utils_write_lazy_header_nonnull(
     machine: u16,
+    form: u32,
     header: u64,
     words: u64,
     bytes: *mut u8,
@@ -669,6 +672,7 @@ unsafe extern "C" fn linker_utils_write_lazy_header_nonnull(
     unsafe {
         crate::lazy_plt::linker_utils_write_lazy_header_nonnull(
             machine,
+            form,
             header,
             words,
             from_raw_parts_mut(bytes, bytes_len),
@@ -679,6 +683,7 @@ unsafe extern "C" fn linker_utils_write_lazy_header_nonnull(
 #[unsafe(no_mangle)]
 unsafe extern "C" fn linker_utils_write_lazy_entry_nonnull(
     machine: u16,
+    form: u32,
     entry: *const LazyEntry,
     bytes: *mut u8,
     bytes_len: usize,
@@ -687,6 +692,7 @@ unsafe extern "C" fn linker_utils_write_lazy_entry_nonnull(
     unsafe {
         crate::lazy_plt::linker_utils_write_lazy_entry_nonnull(
             machine,
+            form,
             &*entry,
             from_raw_parts_mut(bytes, bytes_len),
         )
@@ -716,12 +722,14 @@ unsafe extern "C" fn linker_utils_lazy_header_word(
 #[unsafe(no_mangle)]
 extern "C" fn linker_utils_lazy_entry_word(
     machine: u16,
+    form: u32,
     entry: u64,
     header: u64,
     dynamic: u64,
 ) -> u64 {
     crate::lazy_plt::linker_utils_lazy_entry_word(
         machine,
+        form,
         entry,
         header,
         dynamic,

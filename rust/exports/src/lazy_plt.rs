@@ -4,7 +4,7 @@
 
 use crate::relocate::status_of;
 use crate::status::Status;
-use linker_utils::source::output::{LazyEntry, LazyPlt};
+use linker_utils::source::output::{LazyEntry, LazyForm, LazyPlt};
 use linker_utils::source::output::StubError;
 use linker_utils::elf::Architecture;
 
@@ -22,12 +22,49 @@ pub struct LazyPltNumbers {
     pub header_words: u64,
 }
 
-/// Writes the lengths of a lazy PLT, as those of `LazyPlt`. `UnknownArchitecture`.
-pub fn linker_utils_get_lazy_plt(machine: u16, plt: &mut LazyPltNumbers) -> u32 {
+/// The form with a number.
+#[inline]
+fn form_of(number: u32) -> Option<LazyForm> {
+    if number == 0 {
+        Some(LazyForm::Plain)
+    } else if number == 1 {
+        Some(LazyForm::Landing)
+    } else if number == 2 {
+        Some(LazyForm::LandingEntry)
+    } else if number == 3 {
+        Some(LazyForm::Authenticated)
+    } else if number == 4 {
+        Some(LazyForm::AuthenticatedLanding)
+    } else if number == 5 {
+        Some(LazyForm::AuthenticatedLandingEntry)
+    } else {
+        None
+    }
+}
+
+/// The lazy PLT of an architecture in the form with a number.
+fn plt_in(architecture: Architecture, form: u32) -> Option<&'static LazyPlt> {
+    let Some(form) = form_of(form) else {
+        return None;
+    };
+    LazyPlt::of_form(architecture, form)
+}
+
+/// Writes the lengths of a lazy PLT in a form, as those of `LazyPlt::of_form`: form 0 is for code
+/// that isn't protected, and 1 to 5 are those of `LazyForm` in their order. The first that applies
+/// of `UnknownArchitecture`; `UnknownStub`, where the architecture has none of the form.
+pub fn linker_utils_get_lazy_plt(
+    machine: u16,
+    form: u32,
+    plt: &mut LazyPltNumbers,
+) -> u32 {
     let Some(architecture) = Architecture::from_machine(machine) else {
         return Status::UnknownArchitecture.number();
     };
-    *plt = numbers_in(LazyPlt::of(architecture));
+    let Some(found) = plt_in(architecture, form) else {
+        return Status::UnknownStub.number();
+    };
+    *plt = numbers_in(found);
     Status::Success.number()
 }
 
@@ -53,10 +90,11 @@ fn status_in(written: Result<(), StubError>) -> u32 {
 
 /// Writes the header of a lazy PLT that stands at an address, of the `.got.plt` at `words`, to the
 /// beginning of `bytes`, as `LazyPlt::write_header`. The first that applies of
-/// `UnknownArchitecture`; `TooShort`; and where a field doesn't reach the error of the first such
-/// field, as `linker_utils_relocate`. Then `bytes` are unchanged.
+/// `UnknownArchitecture`; `UnknownStub`; `TooShort`; and where a field doesn't reach the error of
+/// the first such field, as `linker_utils_relocate`. Then `bytes` are unchanged.
 pub fn linker_utils_write_lazy_header_nonnull(
     machine: u16,
+    form: u32,
     header: u64,
     words: u64,
     bytes: &mut [u8],
@@ -64,7 +102,10 @@ pub fn linker_utils_write_lazy_header_nonnull(
     let Some(architecture) = Architecture::from_machine(machine) else {
         return Status::UnknownArchitecture.number();
     };
-    put_header(LazyPlt::of(architecture), header, words, bytes)
+    match plt_in(architecture, form) {
+        Some(plt) => put_header(plt, header, words, bytes),
+        None => Status::UnknownStub.number(),
+    }
 }
 
 fn put_header(plt: &LazyPlt, header: u64, words: u64, bytes: &mut [u8]) -> u32 {
@@ -72,25 +113,29 @@ fn put_header(plt: &LazyPlt, header: u64, words: u64, bytes: &mut [u8]) -> u32 {
 }
 
 /// Writes an entry of a lazy PLT to the beginning of `bytes`, as `LazyPlt::write_entry`. The first
-/// that applies of `UnknownArchitecture`; `TooShort`; and where a field doesn't reach the error of
-/// the first such field, as `linker_utils_relocate`. Then `bytes` are unchanged.
+/// that applies of `UnknownArchitecture`; `UnknownStub`; `TooShort`; and where a field doesn't reach
+/// the error of the first such field, as `linker_utils_relocate`. Then `bytes` are unchanged.
 pub fn linker_utils_write_lazy_entry_nonnull(
     machine: u16,
+    form: u32,
     entry: &LazyEntry,
     bytes: &mut [u8],
 ) -> u32 {
     let Some(architecture) = Architecture::from_machine(machine) else {
         return Status::UnknownArchitecture.number();
     };
-    put_entry(LazyPlt::of(architecture), entry, bytes)
+    match plt_in(architecture, form) {
+        Some(plt) => put_entry(plt, entry, bytes),
+        None => Status::UnknownStub.number(),
+    }
 }
 
 fn put_entry(plt: &LazyPlt, entry: &LazyEntry, bytes: &mut [u8]) -> u32 {
     status_in(plt.write_entry(entry, bytes))
 }
 
-/// Writes what a word at the begin of `.got.plt` holds, as `LazyPlt::header_word`. The first that
-/// applies of `UnknownArchitecture`; `NotProvided`, of an index that is too large.
+/// Writes what a word at the begin of `.got.plt` holds in each form, as `LazyPlt::header_word`. The
+/// first that applies of `UnknownArchitecture`; `NotProvided`, of an index that is too large.
 pub fn linker_utils_lazy_header_word(
     machine: u16,
     index: usize,
@@ -110,15 +155,20 @@ pub fn linker_utils_lazy_header_word(
     }
 }
 
-/// What an entry's word holds at first, as `LazyPlt::entry_word`; 0 of a machine that isn't known.
+/// What an entry's word holds at first, as `LazyPlt::entry_word`; 0 of a machine that isn't known,
+/// and where the architecture has none of the form.
 pub fn linker_utils_lazy_entry_word(
     machine: u16,
+    form: u32,
     entry: u64,
     header: u64,
     dynamic: u64,
 ) -> u64 {
-    match Architecture::from_machine(machine) {
-        Some(architecture) => put_word(LazyPlt::of(architecture), entry, header, dynamic),
+    let Some(architecture) = Architecture::from_machine(machine) else {
+        return 0;
+    };
+    match plt_in(architecture, form) {
+        Some(plt) => put_word(plt, entry, header, dynamic),
         None => 0,
     }
 }

@@ -521,6 +521,8 @@ fn kind_of(number: u32) -> Option<StubKind> {
         Some(StubKind::Far)
     } else if number == 3 {
         Some(StubKind::FarRelative)
+    } else if number == 4 {
+        Some(StubKind::LandingLoad)
     } else {
         None
     }
@@ -528,7 +530,7 @@ fn kind_of(number: u32) -> Option<StubKind> {
 
 /// Writes the length of a stub of a kind in bytes, and the offset at which a call enters: kind 0
 /// jumps to the address that a word has, 1 to a far target, 2 and 3 to one anywhere, by its address
-/// or by the distance to it. The first that applies of
+/// or by the distance to it, and 4 is 0 for protected code. The first that applies of
 /// `UnknownArchitecture`; `UnknownStub`, where the architecture has none of the kind.
 pub fn linker_utils_get_stub(machine: u16, kind: u32, stub: &mut StubNumbers) -> u32 {
     let Some(architecture) = Architecture::from_machine(machine) else {

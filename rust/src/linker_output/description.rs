@@ -53,6 +53,9 @@ pub struct Target {
     pub instructions: Architecture,
     /// The stub to the address that a word has.
     pub load_stub: Stub,
+    /// The same that begins with an instruction to which indirect branches may go, if the
+    /// architecture's code is so protected.
+    pub landing_load_stub: Option<Stub>,
     /// The stub to a far target, if the architecture has one.
     pub jump_stub: Option<Stub>,
     /// The stub to a target anywhere that has its address, if branches may need it.

@@ -81,6 +81,32 @@ pub struct LazyPlt {
     pub word: LazyWord,
 }
 
+/// A form of a lazy PLT, by how code is protected: where indirect branches may go, and whether
+/// addresses in words are authenticated.
+///
+/// AArch64's entries have 24 bytes in all forms but `Plain`, as ld.lld's. GNU ld's have 16 with
+/// `-z force-bti` in outputs whose load address isn't fixed, and in others all begin with `bti c`.
+#[derive(Clone, Copy, Debug, PartialEq, Eq, Hash)]
+pub enum LazyForm {
+    /// For code that isn't protected: that of [`LazyPlt::of`](crate::output::LazyPlt::of).
+    Plain,
+    /// What the words lead to at first begins with an instruction to which indirect branches may
+    /// go. On AArch64 it is the header, with `bti c` (ld.lld's `-z force-bti`). On x86-64 it is the
+    /// entry, with `endbr64` (`-z force-ibt`): calls go to a stub of the kind `LandingLoad`, to
+    /// the word that belongs to the entry. That stub is the entry of `.plt.sec`.
+    Landing,
+    /// AArch64: the same, and the entry begins with `bti c`. So do ld.lld's whose address is the
+    /// function's in other outputs, those of indirect functions, and those that a stub goes to.
+    LandingEntry,
+    /// AArch64: the entry authenticates the address that its word has by the word's address, with
+    /// `autia1716` (`-z pac-plt`). `DT_AARCH64_PAC_PLT` has to tell the dynamic linker.
+    Authenticated,
+    /// AArch64: `Authenticated`, with the header of `Landing`.
+    AuthenticatedLanding,
+    /// AArch64: `Authenticated`, with `bti c` as `LandingEntry`.
+    AuthenticatedLandingEntry,
+}
+
 /// What an entry is written from.
 #[repr(C)]
 #[derive(Clone, Copy, Debug, PartialEq, Eq, Hash)]
@@ -181,7 +207,7 @@ fn write_code(
 }
 
 impl LazyPlt {
-    /// The lazy PLT of an architecture.
+    /// The lazy PLT of an architecture, for code that isn't protected.
     ///
     /// ```
     /// use linker_utils::output::LazyPlt;
@@ -204,6 +230,79 @@ impl LazyPlt {
             Architecture::Ppc64 => &lazy_plts::PPC64,
             #[cfg(feature = "x86_64")]
             Architecture::X86_64 => &lazy_plts::X86_64,
+        }
+    }
+
+    /// The lazy PLT of an architecture in a form. None where the architecture has none of the form.
+    ///
+    /// ```
+    /// use linker_utils::output::{LazyEntry, LazyForm, LazyPlt};
+    /// use linker_utils::elf::Architecture;
+    ///
+    /// // `endbr64`, `push $2`, `jmp header`, `xchg %ax,%ax`
+    /// let plt = LazyPlt::of_form(Architecture::X86_64, LazyForm::Landing).unwrap();
+    /// let (address, header) = (0x13f0, 0x13c0);
+    /// let mut code = [0; 16];
+    /// plt.write_entry(&LazyEntry { address, word: 0x3508, header, index: 2 }, &mut code)?;
+    /// assert_eq!(code[..9], [0xf3, 0x0f, 0x1e, 0xfa, 0x68, 2, 0, 0, 0]);
+    /// assert_eq!(code[9..], [0xe9, 0xc2, 0xff, 0xff, 0xff, 0x66, 0x90]);
+    /// assert_eq!(plt.entry_word(address, header, 0x2430), address);
+    /// assert_eq!(LazyPlt::of_form(Architecture::RiscV, LazyForm::Landing), None);
+    /// # Ok::<(), linker_utils::output::StubError>(())
+    /// ```
+    #[must_use]
+    pub fn of_form(architecture: Architecture, form: LazyForm) -> Option<&'static LazyPlt> {
+        match (architecture, form) {
+            (_, LazyForm::Plain) => Some(LazyPlt::of(architecture)),
+            #[cfg(feature = "x86_64")]
+            (Architecture::X86_64, LazyForm::Landing) => Some(&lazy_plts::X86_64_LANDING),
+            #[cfg(feature = "aarch64")]
+            (Architecture::AArch64, LazyForm::Landing) => Some(&lazy_plts::AARCH64_LANDING),
+            #[cfg(feature = "aarch64")]
+            (Architecture::AArch64, LazyForm::LandingEntry) => {
+                #[cfg(feature = "aarch64")]
+                {
+                    Some(&lazy_plts::AARCH64_LANDING_ENTRY)
+                }
+                #[cfg(not(feature = "aarch64"))]
+                {
+                    None
+                }
+            }
+            #[cfg(feature = "aarch64")]
+            (Architecture::AArch64, LazyForm::Authenticated) => {
+                #[cfg(feature = "aarch64")]
+                {
+                    Some(&lazy_plts::AARCH64_AUTHENTICATED)
+                }
+                #[cfg(not(feature = "aarch64"))]
+                {
+                    None
+                }
+            }
+            #[cfg(feature = "aarch64")]
+            (Architecture::AArch64, LazyForm::AuthenticatedLanding) => {
+                #[cfg(feature = "aarch64")]
+                {
+                    Some(&lazy_plts::AARCH64_AUTHENTICATED_LANDING)
+                }
+                #[cfg(not(feature = "aarch64"))]
+                {
+                    None
+                }
+            }
+            #[cfg(feature = "aarch64")]
+            (Architecture::AArch64, LazyForm::AuthenticatedLandingEntry) => {
+                #[cfg(feature = "aarch64")]
+                {
+                    Some(&lazy_plts::AARCH64_AUTHENTICATED_LANDING_ENTRY)
+                }
+                #[cfg(not(feature = "aarch64"))]
+                {
+                    None
+                }
+            }
+            _ => None,
         }
     }
 

@@ -76,28 +76,119 @@ macro_rules! opcode {
     };
 }
 
+/// Pieces of AArch64's code, `adrp`, `ldr` and `add`, whose first is at an offset, of the address of
+/// a word or so far above it, and other pieces.
+macro_rules! loads {
+    ([$($before:expr),*], $origin:literal, $addend:literal, [$($after:expr),*]) => {
+        &[
+            $($before,)*
+            one!(0x9000_0010, 0, R_AARCH64_ADR_PREL_PG_HI21, Word, $origin, $addend), // adrp x16, 0
+            one!(0xf940_0211, 0, R_AARCH64_LDST64_ABS_LO12_NC, Word, $origin, $addend), // ldr x17, [x16, 0]
+            one!(0x9100_0210, 0, R_AARCH64_ADD_ABS_LO12_NC, Word, $origin, $addend), // add x16, x16, 0
+            $($after,)*
+        ]
+    };
+}
+
+/// AArch64's, of a header and an entry.
+macro_rules! aarch64 {
+    ($header:expr, $entry:expr) => {
+        LazyPlt {
+            instructions: Architecture::AArch64,
+            alignment: 16,
+            header: $header,
+            entry: $entry,
+            header_words: &[LazyWord::Zero, LazyWord::Zero, LazyWord::Zero],
+            word: LazyWord::Header,
+        }
+    };
+}
+
+/// `stp x16, x30, [sp, -16]!`, the pieces, and `br x17`.
+macro_rules! header {
+    () => {
+        loads!(
+            [one!(0xa9bf_7bf0)],
+            4,
+            16,
+            [
+                two!(0xd61f_0220, 0xd503_201f), // br x17; nop
+                two!(0xd503_201f, 0xd503_201f)  // nop; nop
+            ]
+        )
+    };
+}
+
+/// The same after `bti c`.
+macro_rules! landing_header {
+    () => {
+        loads!(
+            [two!(0xd503_245f, 0xa9bf_7bf0)], // bti c; stp
+            8,
+            16,
+            [
+                two!(0xd61f_0220, 0xd503_201f), // br x17; nop
+                one!(0xd503_201f)               // nop
+            ]
+        )
+    };
+}
+
+/// An entry of 24 bytes that ends in two instructions.
+macro_rules! wide_entry {
+    ($first:literal, $second:literal) => {
+        loads!([], 0, 0, [two!($first, $second), one!(0xd503_201f)]) // nop
+    };
+}
+
+/// The same after `bti c`.
+macro_rules! landing_entry {
+    ($first:literal, $second:literal) => {
+        loads!([one!(0xd503_245f)], 4, 0, [two!($first, $second)])
+    };
+}
+
 /// AArch64.
 #[cfg(feature = "aarch64")]
-pub(crate) static AARCH64: LazyPlt = LazyPlt {
-    instructions: Architecture::AArch64,
-    alignment: 16,
-    header: &[
-        one!(0xa9bf_7bf0), // stp x16, x30, [sp, -16]!
-        one!(0x9000_0010, 0, R_AARCH64_ADR_PREL_PG_HI21, Word, 4, 16), // adrp x16, 0
-        one!(0xf940_0211, 0, R_AARCH64_LDST64_ABS_LO12_NC, Word, 4, 16), // ldr x17, [x16, 0]
-        one!(0x9100_0210, 0, R_AARCH64_ADD_ABS_LO12_NC, Word, 4, 16), // add x16, x16, 0
-        two!(0xd61f_0220, 0xd503_201f), // br x17; nop
-        two!(0xd503_201f, 0xd503_201f), // nop; nop
-    ],
-    entry: &[
-        one!(0x9000_0010, 0, R_AARCH64_ADR_PREL_PG_HI21, Word, 0, 0), // adrp x16, 0
-        one!(0xf940_0211, 0, R_AARCH64_LDST64_ABS_LO12_NC, Word, 0, 0), // ldr x17, [x16, 0]
-        one!(0x9100_0210, 0, R_AARCH64_ADD_ABS_LO12_NC, Word, 0, 0), // add x16, x16, 0
-        one!(0xd61f_0220), // br x17
-    ],
-    header_words: &[LazyWord::Zero, LazyWord::Zero, LazyWord::Zero],
-    word: LazyWord::Header,
-};
+pub(crate) static AARCH64: LazyPlt = aarch64!(
+    header!(),
+    loads!([], 0, 0, [one!(0xd61f_0220)]) // br x17
+);
+
+/// AArch64, whose header begins with `bti c`.
+#[cfg(feature = "aarch64")]
+pub(crate) static AARCH64_LANDING: LazyPlt = aarch64!(
+    landing_header!(),
+    wide_entry!(0xd61f_0220, 0xd503_201f) // br x17; nop
+);
+
+/// AArch64, whose header and entries begin with `bti c`.
+#[cfg(feature = "aarch64")]
+pub(crate) static AARCH64_LANDING_ENTRY: LazyPlt = aarch64!(
+    landing_header!(),
+    landing_entry!(0xd61f_0220, 0xd503_201f) // br x17; nop
+);
+
+/// AArch64, whose entries authenticate the address.
+#[cfg(feature = "aarch64")]
+pub(crate) static AARCH64_AUTHENTICATED: LazyPlt = aarch64!(
+    header!(),
+    wide_entry!(0xd503_219f, 0xd61f_0220) // autia1716; br x17
+);
+
+/// The same, whose header begins with `bti c`.
+#[cfg(feature = "aarch64")]
+pub(crate) static AARCH64_AUTHENTICATED_LANDING: LazyPlt = aarch64!(
+    landing_header!(),
+    wide_entry!(0xd503_219f, 0xd61f_0220) // autia1716; br x17
+);
+
+/// The same, whose header and entries begin with `bti c`.
+#[cfg(feature = "aarch64")]
+pub(crate) static AARCH64_AUTHENTICATED_LANDING_ENTRY: LazyPlt = aarch64!(
+    landing_header!(),
+    landing_entry!(0xd503_219f, 0xd61f_0220) // autia1716; br x17
+);
 
 /// LoongArch.
 #[cfg(feature = "loongarch64")]
@@ -168,21 +259,43 @@ pub(crate) static RISCV64: LazyPlt = LazyPlt {
     word: LazyWord::Header,
 };
 
+/// x86-64's, of an entry and its word.
+macro_rules! x86_64 {
+    ($entry:expr, $word:literal) => {
+        LazyPlt {
+            instructions: Architecture::X86_64,
+            alignment: 16,
+            header: &[
+                opcode!([0xff, 0x35], R_X86_64_PC32, Word, 2, 4), // push 8+words(%rip)
+                opcode!([0xff, 0x25], R_X86_64_PC32, Word, 8, 12), // jmp *16+words(%rip)
+                piece!([0xf, 0x1f, 0x40, 0, 0, 0, 0, 0], 4), // nopl 0(%rax)
+            ],
+            entry: $entry,
+            header_words: &[LazyWord::Dynamic, LazyWord::Zero, LazyWord::Zero],
+            word: LazyWord::Entry($word),
+        }
+    };
+}
+
 /// x86-64.
 #[cfg(feature = "x86_64")]
-pub(crate) static X86_64: LazyPlt = LazyPlt {
-    instructions: Architecture::X86_64,
-    alignment: 16,
-    header: &[
-        opcode!([0xff, 0x35], R_X86_64_PC32, Word, 2, 4), // push 8+words(%rip)
-        opcode!([0xff, 0x25], R_X86_64_PC32, Word, 8, 12), // jmp *16+words(%rip)
-        piece!([0xf, 0x1f, 0x40, 0, 0, 0, 0, 0], 4), // nopl 0(%rax)
-    ],
-    entry: &[
+pub(crate) static X86_64: LazyPlt = x86_64!(
+    &[
         opcode!([0xff, 0x25], R_X86_64_PC32, Word, 2, (-4)), // jmp *word(%rip)
-        opcode!([0x68], R_X86_64_32S, Index, 0, 0), // push index
-        opcode!([0xe9], R_X86_64_PC32, Header, 12, (-4)), // jmp header
+        opcode!([0x68], R_X86_64_32S, Index, 0, 0),          // push index
+        opcode!([0xe9], R_X86_64_PC32, Header, 12, (-4)),    // jmp header
     ],
-    header_words: &[LazyWord::Dynamic, LazyWord::Zero, LazyWord::Zero],
-    word: LazyWord::Entry(6),
-};
+    6
+);
+
+/// x86-64, to whose entries stubs come that begin with `endbr64` too.
+#[cfg(feature = "x86_64")]
+pub(crate) static X86_64_LANDING: LazyPlt = x86_64!(
+    &[
+        piece!([0xf3, 0xf, 0x1e, 0xfa, 0, 0, 0, 0], 4), // endbr64
+        opcode!([0x68], R_X86_64_32S, Index, 0, 0),     // push index
+        opcode!([0xe9], R_X86_64_PC32, Header, 10, (-4)), // jmp header
+        piece!([0x66, 0x90, 0, 0, 0, 0, 0, 0], 2),      // xchg %ax,%ax
+    ],
+    0
+);

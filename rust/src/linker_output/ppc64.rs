@@ -161,6 +161,7 @@ pub(crate) static TARGET: Target = Target {
         ],
         R_PPC64_TOC16_LO_DS
     ),
+    landing_load_stub: None,
     jump_stub: Some(stub!(
         [
             0, 0, 0x8c, 0x3d, // addis 12, 12, 0

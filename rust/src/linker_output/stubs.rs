@@ -19,6 +19,9 @@ pub enum StubKind {
     Far,
     /// The same by the distance in its last 8 bytes, for any load address.
     FarRelative,
+    /// The same as `Load`, for protected code: it begins with an instruction to which indirect
+    /// branches may go, x86-64's `endbr64` or AArch64's `bti c`.
+    LandingLoad,
 }
 
 /// Why a stub isn't written.
@@ -160,16 +163,26 @@ impl Target {
             StubKind::Jump => self.jump_stub.as_ref(),
             StubKind::Far => self.far_stub.as_ref(),
             StubKind::FarRelative => self.far_relative_stub.as_ref(),
+            StubKind::LandingLoad => self.landing_load_stub.as_ref(),
         }
     }
 
-    /// Writes the stub of a kind that stands at an address: to the word at `target` (`Load`) or to
-    /// the address `target` (else). Bytes after the stub are left, and with an error all are.
+    /// Writes the stub of a kind that stands at an address: to the word at `target` (`Load` and
+    /// `LandingLoad`) or to the address `target` (else). Bytes after the stub are left, and with an
+    /// error all are.
     ///
     /// What a call changes on its way through a stub are registers that a function may change, in
     /// which no argument is: x16 and x17 of AArch64, t3 of RISC-V and LoongArch, and r0, r12 and
     /// ctr of PowerPC64, whose r12 has the target's address. So no stub may serve a call of
     /// PowerPC64's functions of a [`SaveRestoreRoutines`](crate::output::SaveRestoreRoutines), which take r0 or r12.
+    ///
+    /// In protected code an indirect branch may go only to `endbr64` (x86-64, where all inputs have
+    /// the property IBT) or to `bti c` (AArch64, BTI). Calls and jumps to a stub are direct, so that
+    /// `Load` serves there too, unless the stub's address is the function's in other outputs, or a
+    /// stub of another kind goes to it: that is a `LandingLoad`. x86-64's is ld.lld's and GNU ld's
+    /// entry of `.plt.sec`, of 16 bytes. AArch64's has 16 bytes, where ld.lld's entries have 24
+    /// ([`LazyForm`](crate::output::LazyForm)). All of these architectures' stubs branch indirectly: what they go to has to
+    /// begin so too, which compilers leave out of functions that only their object calls.
     ///
     /// ```
     /// use linker_utils::output::StubKind;

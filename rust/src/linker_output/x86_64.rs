@@ -65,6 +65,16 @@ pub(crate) static TARGET: Target = Target {
         origin: 2,
         addend: -4,
     },
+    landing_load_stub: Some(Stub {
+        head: &[0xf3, 0x0f, 0x1e, 0xfa], // endbr64
+        pair: [0xff, 0x25, 0, 0, 0, 0, 0x66, 0x0f],
+        first: field!(2, R_X86_64_PC32),
+        second: None,
+        tail: &[0x1f, 0x44, 0, 0],
+        entry: 0,
+        origin: 6,
+        addend: -4,
+    }),
     jump_stub: None,
     far_stub: None,
     far_relative_stub: None,

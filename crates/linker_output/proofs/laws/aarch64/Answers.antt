@@ -1,9 +1,12 @@
 use Rattle.linker_output.proofs.AArch64FarLaws.{reaches_go, reaches_relative_go}
-use Rattle.linker_output.proofs.AArch64StubLaws.{loads_go, jumps_go}
+use Rattle.linker_output.proofs.AArch64StubLaws.{loads_go, landing_loads_go, jumps_go}
 use Rattle.linker_output.proofs.laws.aarch64.Goals as goal
 
 pub returns-clause-loads : goal.returns-clause-loads
 returns-clause-loads c = loads_go c.aarch64.ensures.relative
+
+pub returns-clause-landing_loads : goal.returns-clause-landing_loads
+returns-clause-landing_loads c = landing_loads_go c.aarch64.ensures.relative
 
 pub returns-clause-jumps : goal.returns-clause-jumps
 returns-clause-jumps c = jumps_go c.aarch64.ensures.relative

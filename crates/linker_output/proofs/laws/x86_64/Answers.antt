@@ -1,5 +1,8 @@
-use Rattle.linker_output.proofs.X86StubLaws.{loads_go}
+use Rattle.linker_output.proofs.X86StubLaws.{loads_go, landing_loads_go}
 use Rattle.linker_output.proofs.laws.x86_64.Goals as goal
 
-pub returns : goal.returns
-returns c = loads_go
+pub returns-clause-loads : goal.returns-clause-loads
+returns-clause-loads c = loads_go
+
+pub returns-clause-landing_loads : goal.returns-clause-landing_loads
+returns-clause-landing_loads c = landing_loads_go
