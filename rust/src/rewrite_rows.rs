@@ -4,6 +4,7 @@
 //! what is deleted.
 
 use crate::linker_base::bit_misc::BitExtraction;
+use crate::linker_base::relaxation::RelocationModifier;
 use crate::linker_base::rewrite::{DeletedBytes, RewriteWindow, has_window, overwrite};
 use crate::linker_base::utils::u32_from_slice;
 
@@ -34,6 +35,23 @@ pub(crate) enum WordTest {
     AreSame(WordBits, WordBits),
     /// Both differ, if another is from the first up to the last.
     DifferWhere(WordBits, u64, u64, WordBits, WordBits),
+    /// It is one of a set, by the lowest two bits of another. Number n, below 64, is bit n of it.
+    IsAmong(WordBits, WordBits, u64, u64, u64, u64),
+    /// Both differ, if another is one of a set.
+    DifferAmong(WordBits, u64, WordBits, WordBits),
+}
+
+/// How an instruction is made that isn't of kept and set bits (Power ISA, "Instruction Formats").
+#[derive(Clone, Copy)]
+pub(crate) enum Special {
+    /// An indexed access of bytes or words, by a displacement of 0.
+    ToD,
+    /// One of doublewords or of `lwax`, by a displacement of 0 in whole words.
+    ToDs,
+    /// Any of these.
+    ToEither,
+    /// `mr rT,rA` in place of an addition to rA, or `nop` where rT is rA.
+    ToMove,
 }
 
 /// An instruction that a rewrite writes.
@@ -41,8 +59,12 @@ pub(crate) enum WordTest {
 pub(crate) struct WordEdit {
     /// The bits that it has of the first instruction before.
     pub keep: u32,
+    /// Or else of the second one.
+    pub of_second: bool,
     /// Those that are set then.
     pub set: u32,
+    /// How it is made instead, if not by bits that are kept and set.
+    pub special: Option<Special>,
 }
 
 /// A rewrite.
@@ -52,6 +74,8 @@ pub(crate) struct RewriteRow {
     pub len: u64,
     /// How many bytes before the relocation's offset the first one is.
     pub back: u64,
+    /// Whether that is a multiple of 4 bytes from the section's begin.
+    pub aligned: bool,
     /// What has to hold of them.
     pub tests: &'static [WordTest],
     /// What has to hold of them too, also for `apply`.
@@ -60,6 +84,29 @@ pub(crate) struct RewriteRow {
     pub edits: &'static [WordEdit],
     /// The bytes that are then deleted.
     pub deleted: Option<DeletedBytes>,
+    /// How many bytes after the offset the relocation is that is skipped.
+    pub skipped: Option<u64>,
+    /// How many bytes the offset moves on.
+    pub moved: u64,
+    /// The addend after, if it isn't the one before.
+    pub addend: Option<i64>,
+}
+
+/// One of four sets.
+#[inline(always)]
+fn set_by(by: u64, first: u64, second: u64, third: u64, fourth: u64) -> u64 {
+    match by {
+        0 => first,
+        1 => second,
+        2 => third,
+        _ => fourth,
+    }
+}
+
+/// Whether a set has a number.
+#[inline(always)]
+fn is_among(set: u64, number: u64) -> bool {
+    set >> (number % 64) & 1 == 1
 }
 
 /// The number in bits of an instruction, where the first instruction is at an offset.
@@ -98,6 +145,15 @@ impl WordTest {
                     && number <= to
                     && bits_at(section, offset, one, len) == bits_at(section, offset, other, len))
             }
+            WordTest::IsAmong(bits, by, first, second, third, fourth) => {
+                let by = bits_at(section, offset, by, len) % 4;
+                let set = set_by(by, first, second, third, fourth);
+                is_among(set, bits_at(section, offset, bits, len))
+            }
+            WordTest::DifferAmong(bits, set, one, other) => {
+                !(is_among(set, bits_at(section, offset, bits, len))
+                    && bits_at(section, offset, one, len) == bits_at(section, offset, other, len))
+            }
         }
     }
 }
@@ -121,12 +177,20 @@ pub(crate) fn all_hold(tests: &'static [WordTest], section: &[u8], offset: u64, 
                 && c.holds(section, offset, len)
                 && d.holds(section, offset, len)
         }
-        [a, b, c, d, e, ..] => {
+        [a, b, c, d, e] => {
             a.holds(section, offset, len)
                 && b.holds(section, offset, len)
                 && c.holds(section, offset, len)
                 && d.holds(section, offset, len)
                 && e.holds(section, offset, len)
+        }
+        [a, b, c, d, e, f, ..] => {
+            a.holds(section, offset, len)
+                && b.holds(section, offset, len)
+                && c.holds(section, offset, len)
+                && d.holds(section, offset, len)
+                && e.holds(section, offset, len)
+                && f.holds(section, offset, len)
         }
     }
 }
@@ -137,11 +201,77 @@ pub(crate) fn are_at(tests: &'static [WordTest], section: &[u8], offset: u64, le
     has_window(section, offset, 0, len) && all_hold(tests, section, offset, len)
 }
 
+/// Target and base register, in their places.
+#[inline(always)]
+fn registers(word: u32) -> u32 {
+    (word >> 16 & 0x3ff) << 16
+}
+
+/// An indexed access as one with a displacement of 0. `lwzx` has the number of `lwz` less 32.
+#[inline(always)]
+fn by_displacement(word: u32) -> u32 {
+    (32 + (word >> 6 & 0x1f) << 26) + registers(word)
+}
+
+/// The same of `ldx`, `stdx` (4) or `lwax` (10).
+#[inline(always)]
+fn by_word_displacement(word: u32) -> u32 {
+    let access = word >> 6 & 0x1f;
+    let opcode = if access == 4 { 62 } else { 58 };
+    let low = if access == 10 { 2 } else { 0 };
+    (opcode << 26) + registers(word) + low
+}
+
+impl Special {
+    /// The instruction in place of one.
+    #[inline(always)]
+    pub(crate) fn of(self, word: u32) -> u32 {
+        match self {
+            Special::ToD => by_displacement(word),
+            Special::ToDs => by_word_displacement(word),
+            Special::ToEither => {
+                if word & 0x3f == 0x2e {
+                    by_displacement(word)
+                } else {
+                    by_word_displacement(word)
+                }
+            }
+            Special::ToMove => {
+                let (to, from) = (word >> 21 & 0x1f, word >> 16 & 0x1f);
+                if to == from {
+                    0x6000_0000
+                } else {
+                    0x7c00_0378 + (from << 21) + (to << 16) + (from << 11)
+                }
+            }
+        }
+    }
+}
+
 impl WordEdit {
-    /// The instruction, where the first one before is this word.
+    /// The instruction, where the one before is this word.
     #[inline(always)]
     fn of(self, word: u32) -> u32 {
-        word & self.keep | self.set
+        match self.special {
+            None => word & self.keep | self.set,
+            Some(special) => special.of(word),
+        }
+    }
+}
+
+/// The instruction at an offset of a section.
+#[inline(always)]
+fn word_at(section: &[u8], offset: u64) -> u32 {
+    u32_from_slice(&section[offset as usize..])
+}
+
+/// The first of two instructions at an offset of a section, or the second.
+#[inline(always)]
+fn word_of(section: &[u8], start: u64, second: bool) -> u32 {
+    if second {
+        word_at(section, start + 4)
+    } else {
+        word_at(section, start)
     }
 }
 
@@ -151,6 +281,7 @@ impl RewriteRow {
     pub(crate) fn is_for(self, section: &[u8], offset: u64) -> bool {
         self.len == 0
             || self.back <= offset
+                && (!self.aligned || (offset - self.back) % 4 == 0)
                 && are_at(self.tests, section, offset - self.back, self.len)
                 && all_hold(self.required, section, offset - self.back, self.len)
     }
@@ -184,35 +315,75 @@ impl RewriteRow {
             match more {
                 [] => overwrite(section, start, &first.of(word).to_le_bytes()),
                 [second, ..] => {
-                    let both = u64::from(first.of(word)) + (u64::from(second.of(word)) << 32);
+                    let next = word_of(section, start, second.of_second);
+                    let both = u64::from(first.of(word)) + (u64::from(second.of(next)) << 32);
                     overwrite(section, start, &both.to_le_bytes());
                 }
             }
         }
     }
+
+    /// What happens to the next relocation.
+    #[inline(always)]
+    pub(crate) fn next_modifier(self) -> RelocationModifier {
+        match self.skipped {
+            Some(_) => RelocationModifier::SkipNextRelocation,
+            None => RelocationModifier::Normal,
+        }
+    }
 }
 
 /// What a row is used for, in an arm for each rewrite, and there of a constant row. Each row has
-/// the length of the instructions, how far before the offset they begin, their tests, and those
-/// that `apply` requires; the macro `$tests` makes arrays of them. Then it has the bits kept and set
-/// of each instruction that is written, and where 4 bytes are deleted.
+/// the length of the instructions, how far before the offset they begin, whether they are aligned,
+/// their tests, and those that `apply` requires; the macro `$tests` makes arrays of them. Then it has
+/// the bits kept and set of each instruction that is written, those of the second at 4, or how one
+/// is made instead; where 4 bytes are deleted; where a relocation is skipped; how far the offset
+/// moves; and the addend after.
 macro_rules! by_row {
     (
+        $tests:ident, kinds;
+        $($kind:ident: $len:literal $(back $back:literal)? $(aligned $aligned:literal)?
+            [$($of:tt)*] $(required [$($given:tt)*])?
+            $(keep $keep:literal $(at $at:literal)? set $set:literal)* $(special $special:ident)?
+            $(delete $start:literal)? $(skip $skip:literal)? $(moved $moved:literal)?
+            $(addend $addend:literal)?;)*
+    ) => { [$(RelaxationKind::$kind),*] };
+    (
         $tests:ident, $value:expr, $row:ident => $use:expr;
-        $($kind:ident: $len:literal $(back $back:literal)? [$($of:tt)*] $(required [$($given:tt)*])?
-            $(keep $keep:literal set $set:literal)* $(delete $start:literal)?;)*
+        $($kind:ident: $len:literal $(back $back:literal)? $(aligned $aligned:literal)?
+            [$($of:tt)*] $(required [$($given:tt)*])?
+            $(keep $keep:literal $(at $at:literal)? set $set:literal)* $(special $special:ident)?
+            $(delete $start:literal)? $(skip $skip:literal)? $(moved $moved:literal)?
+            $(addend $addend:literal)?;)*
     ) => {
         match $value {
             $(RelaxationKind::$kind => {
                 let $row = $crate::rewrite_rows::RewriteRow {
                     len: $len,
                     back: $crate::rewrite_rows::or!(0; $($back)?),
+                    aligned: $crate::rewrite_rows::or!(false; $($aligned)?),
                     tests: &$tests![$($of)*],
                     required: &$crate::rewrite_rows::or!([]; $($tests![$($given)*])?),
-                    edits: &[$($crate::rewrite_rows::WordEdit { keep: $keep, set: $set }),*],
+                    edits: &[
+                        $($crate::rewrite_rows::WordEdit {
+                            keep: $keep,
+                            of_second: $crate::rewrite_rows::or!(0; $($at)?) != 0,
+                            set: $set,
+                            special: None,
+                        },)*
+                        $($crate::rewrite_rows::WordEdit {
+                            keep: 0,
+                            of_second: false,
+                            set: 0,
+                            special: Some($crate::rewrite_rows::Special::$special),
+                        },)?
+                    ],
                     deleted: $crate::rewrite_rows::or!(
                         None; $(Some(crate::linker_base::rewrite::DeletedBytes { start: $start, count: 4 }))?
                     ),
+                    skipped: $crate::rewrite_rows::or!(None; $(Some($skip))?),
+                    moved: $crate::rewrite_rows::or!(0; $($moved)?),
+                    addend: $crate::rewrite_rows::or!(None; $(Some($addend))?),
                 };
                 $use
             })*

@@ -6,7 +6,7 @@ pub mod LoongArchChoices
 pub mod LoongArchRows
 pub mod Ppc64Alike
 pub mod Ppc64Choices
-pub mod Ppc64Rewrites
+pub mod Ppc64Rows
 pub mod RewriteRows
 pub mod RiscVAlike
 pub mod RiscVChoices

@@ -96,8 +96,8 @@ pub(super) use tests;
 
 /// The rewrites.
 macro_rules! rewrites {
-    ($kind:expr, $row:ident => $use:expr) => {
-        by_row! { tests, $kind, $row => $use;
+    ($($use:tt)*) => {
+        by_row! { tests, $($use)*;
             NoOp: 0 [];
             ReplaceWithNop: 4 [] keep 0 set 0xd503_201f;
             MovzX0Lsl16: 4 [adrp, into 0] keep 0 set 0xd2a0_0000;
@@ -116,6 +116,9 @@ macro_rules! rewrites {
     };
 }
 
+/// The rewrites by their numbers.
+const KINDS: &[RelaxationKind] = &rewrites!(kinds);
+
 /// Whether `adrp xN` and `add xN, xN, #imm` or `ldr xN, [xN, #imm]`, both of 64 bits, stand next to
 /// each other: the second instruction at an offset of the section, and the `adrp` 4 bytes before
 /// it. Then the value that `adrp` leaves in xN is used by the second instruction alone, and the two
@@ -133,23 +136,7 @@ impl RelaxationKind {
     #[must_use]
     #[inline(always)]
     pub fn from_number(number: u32) -> Option<RelaxationKind> {
-        let kind = match number {
-            0 => RelaxationKind::NoOp,
-            1 => RelaxationKind::ReplaceWithNop,
-            2 => RelaxationKind::MovzX0Lsl16,
-            3 => RelaxationKind::MovkX0,
-            4 => RelaxationKind::MovzXnLsl16,
-            5 => RelaxationKind::MovkXn,
-            6 => RelaxationKind::AdrpToAdr,
-            7 => RelaxationKind::AdrpX0,
-            8 => RelaxationKind::LdrX0,
-            9 => RelaxationKind::AddToAdr,
-            10 => RelaxationKind::LdrToAdr,
-            11 => RelaxationKind::LdrToAdd,
-            12 => RelaxationKind::AdrpAddToNopAdr,
-            _ => return None,
-        };
-        Some(kind)
+        KINDS.get(number as usize).copied()
     }
 
     /// The rewrite's number, which `from_number` takes.

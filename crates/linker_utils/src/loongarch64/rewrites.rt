@@ -105,8 +105,8 @@ pub(super) use tests;
 
 /// The rewrites. Register 1 is `ra`.
 macro_rules! rewrites {
-    ($kind:expr, $row:ident => $use:expr) => {
-        by_row! { tests, $kind, $row => $use;
+    ($($use:tt)*) => {
+        by_row! { tests, $($use)*;
             NoOp: 0 [];
             ReplaceWithNop: 4 [] keep 0 set 0x0340_0000;
             LdToAddi: 4 [ld_d, from_itself, not_into_zero] keep 0x003f_ffff set 0x02c0_0000;
@@ -126,29 +126,16 @@ macro_rules! rewrites {
     };
 }
 
+/// The rewrites by their numbers.
+const KINDS: &[RelaxationKind] = &rewrites!(kinds);
+
 impl RelaxationKind {
     /// The rewrite with a number, its place in the enum. None above the last.
     #[inline(always)]
     pub fn from_number(number: u32) -> Option<RelaxationKind>
         ensures { result ≡ slice_get loongarch64_rewrites number }
     {
-        let kind = match number {
-            0 => RelaxationKind::NoOp,
-            1 => RelaxationKind::ReplaceWithNop,
-            2 => RelaxationKind::LdToAddi,
-            3 => RelaxationKind::AddiToLd,
-            4 => RelaxationKind::PcalaToPcaddi,
-            5 => RelaxationKind::CallToBl,
-            6 => RelaxationKind::CallToB,
-            7 => RelaxationKind::PcalaToLu12i,
-            8 => RelaxationKind::LowToOri,
-            9 => RelaxationKind::LowToOriZero,
-            10 => RelaxationKind::BaseToTp,
-            11 => RelaxationKind::Delete,
-            12 => RelaxationKind::DeleteAddi,
-            _ => return None,
-        };
-        Some(kind)
+        KINDS.get(number as usize).copied()
     }
 
     /// The rewrite's number, which `from_number` takes.

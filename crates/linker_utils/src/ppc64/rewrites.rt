@@ -1,36 +1,21 @@
 //! Relaxation rewrites of PowerPC64.
 
 ghost use Rattle.std.proofs.Common.{ap};
-ghost use Rattle.std.specs.Prelude.{slice_get, ◌≡◌, ◌≤◌, ◌↔◌, ◌+◌, ◌*◌, ◌++◌, IsTrue, Some};
-ghost use Rattle.std.specs.Prelude.{length, take, drop, IfSome, IfNone};
-ghost use Rattle.std.specs.Int.{from_le_bytes, to_le_bytes, w32};
-ghost use Rattle.linker_base.specs.Bits.{field};
+ghost use Rattle.std.specs.Prelude.{slice_get, ◌≡◌, ◌≤◌, ◌↔◌, IsTrue, Some, IfSome, IfNone};
 ghost use Rattle.linker_base.specs.Rewrite.{CanRewrite, rewritten, offset_after, addend_after};
 ghost use Rattle.linker_base.specs.RewriteWindow.{window_of_rewrite};
-ghost use Rattle.linker_utils.specs.Ppc64Rewrites.{is_addis_over, is_addi, is_ld, is_access};
-ghost use Rattle.linker_utils.specs.Ppc64Rewrites.{is_store, keeps_base};
-ghost use Rattle.linker_utils.specs.Ppc64Rewrites.{is_d_access, is_ds_access, is_vector_access};
-ghost use Rattle.linker_utils.specs.Ppc64Rewrites.{is_over_base, is_addis_of_entry, is_addi_of_toc};
-ghost use Rattle.linker_utils.specs.Ppc64Rewrites.{is_over_thread, is_add_of_thread, is_indexed};
-ghost use Rattle.linker_utils.specs.Ppc64Rewrites.{is_indexed_word, is_pld, is_call, HasTwo};
-ghost use Rattle.linker_utils.specs.Ppc64Rewrites.{is_indexed_any, is_pla, is_bl, HasMarked};
-ghost use Rattle.linker_utils.specs.Ppc64Rewrites.{ppc64_matches};
-ghost use Rattle.linker_utils.specs.Ppc64Rewrites.{opcode_of, rt_of, ra_of, registers_of};
-ghost use Rattle.linker_utils.specs.Ppc64Rewrites.{access_of};
-ghost use Rattle.linker_utils.specs.Ppc64Rewrites.{addis_of_thread, li_of, over_base};
-ghost use Rattle.linker_utils.specs.Ppc64Rewrites.{addi_of_thread, ld_of, to_move, direct};
-ghost use Rattle.linker_utils.specs.Ppc64Rewrites.{prefixed_rt};
-ghost use Rattle.linker_utils.specs.Ppc64Rewrites.{by_displacement};
-ghost use Rattle.linker_utils.specs.Ppc64Rewrites.{by_word_displacement, ppc64_rewrite};
-ghost use Rattle.linker_utils.specs.Ppc64Rewrites.{ppc64_rewrites, ppc64_modifier, two_words};
-ghost use Rattle.linker_utils.specs.Ppc64Rewrites.{ppc64_skipped, ppc64_may_be_skipped};
-ghost use Rattle.linker_utils.specs.declared.ppc64.rewrites.RelaxationKind.TheVariants.{NoOp};
 ghost use Rattle.linker_base.specs.declared.relaxation.RelocationModifier.TheVariants.{Normal};
 ghost use Rattle.linker_base.specs.declared.relaxation.RelocationModifier.TheVariants.{SkipNextRelocation};
+ghost use Rattle.linker_utils.specs.Ppc64Rewrites.{ppc64_matches, ppc64_rewrite};
+ghost use Rattle.linker_utils.specs.Ppc64Rewrites.{ppc64_rewrites, ppc64_modifier};
+ghost use Rattle.linker_utils.specs.Ppc64Rewrites.{ppc64_skipped, ppc64_may_be_skipped};
+ghost use Rattle.linker_utils.specs.declared.ppc64.rewrites.RelaxationKind.TheVariants.{NoOp};
 
+use crate::rewrite_rows::WordBits::{Field, Top};
+use crate::rewrite_rows::WordTest::{DifferAmong, Is, IsAmong, IsEither, IsNot};
+use crate::rewrite_rows::by_row;
 use linker_base::relaxation::RelocationModifier;
-use linker_base::rewrite::{RewriteWindow, has_window, overwrite, window_is_in};
-use linker_base::utils::u32_from_slice;
+use linker_base::rewrite::{RewriteWindow, window_is_in};
 use linker_elf::elf::InstructionRewrite;
 use linker_elf::ppc64::Ppc64Relocation;
 
@@ -119,417 +104,112 @@ pub enum RelaxationKind {
     BranchToAdd,
 }
 
-const NOP: u32 = 0x6000_0000;
-
-/// `add 3,3,13`.
-const ADD_THREAD: u32 = 0x7c63_6a14;
-
-/// The instruction at an offset of the section.
-#[inline(always)]
-pub(super) fn word_at(section: &[u8], offset: u64) -> u32
-    requires { offset + 4 ≤ length section.now }
-    ensures { result ≡ from_le_bytes w32 (drop offset section.now) }
-{
-    u32_from_slice(&section[offset as usize..])
+/// A test of the instruction at a place: its opcodes, and its registers. As a base, register 0 is
+/// the number 0.
+macro_rules! test {
+    ($at:expr, opcode $number:literal) => { Is(Field($at, 26, 32), $number) };
+    ($at:expr, prefix $number:literal) => { Is(Field($at, 18, 32), $number) };
+    // opcode and both registers
+    ($at:expr, high $number:literal) => { Is(Field($at, 16, 32), $number) };
+    ($at:expr, low_2 $number:literal) => { Is(Field($at, 0, 2), $number) };
+    ($at:expr, low_6 $number:literal) => { Is(Field($at, 0, 6), $number) };
+    ($at:expr, low_6_either $first:literal $second:literal) => {
+        IsEither(Field($at, 0, 6), $first, $second)
+    };
+    ($at:expr, low_11 $number:literal) => { Is(Field($at, 0, 11), $number) };
+    ($at:expr, nop) => { Is(Top($at, 0), 0x6000_0000) };
+    ($at:expr, into_not $register:literal) => { IsNot(Field($at, 21, 26), $register) };
+    ($at:expr, over $register:literal) => { Is(Field($at, 16, 21), $register) };
+    ($at:expr, over_not $register:literal) => { IsNot(Field($at, 16, 21), $register) };
+    ($at:expr, plus $register:literal) => { Is(Field($at, 11, 16), $register) };
+    // `addi`, `lwz`, `lbz`, `stw`, `stb`, `lhz`, `lha`, `sth`, `lfs`, `lfd`, `stfs` and `stfd`; by
+    // the lowest two bits `lq`, `ld`, `lwa`, `std`, `lxsd`, `lxssp`, `lxv`, `stxv`, `stxsd` and
+    // `stxssp`
+    ($at:expr, accesses) => {
+        IsAmong(
+            Field($at, 26, 32),
+            Field($at, 0, 2),
+            0x4555_1555_0000_4000,
+            0x2155_1555_0000_4000,
+            0x2755_1555_0000_4000,
+            0x2355_1555_0000_4000
+        )
+    };
+    // `stw`, `stb`, `sth` and `std`
+    ($at:expr, stores_other) => {
+        DifferAmong(
+            Field($at, 26, 32),
+            0x4000_1050_0000_0000,
+            Field($at, 21, 26),
+            Field($at, 16, 21)
+        )
+    };
+    // `ldx`, `stdx` and `lwax` where bit 2 is 0, or those of bytes and words, all without update
+    ($at:expr, accesses_indexed) => {
+        IsAmong(Field($at, 6, 11), Field($at, 2, 4), 0, 0, 0x411, 0x55_1555)
+    };
+    // `stwx`, `stbx`, `sthx` and `stdx`
+    ($at:expr, stores_other_indexed) => {
+        DifferAmong(Field($at, 6, 11), 0x1050, Field($at, 21, 26), Field($at, 16, 21))
+    };
 }
 
-/// Writes an instruction at an offset of the section.
-#[inline(always)]
-fn put_word(section: &mut [u8], offset: u64, word: u32)
-    requires { offset + 4 ≤ length section.old }
-    ensures { section.new
-        ≡ take offset section.old ++ to_le_bytes w32 word ++ drop (offset + 4) section.old }
-{
-    overwrite(section, offset, &word.to_le_bytes());
+/// Tests, each of the first instruction or of the one n bytes after it.
+macro_rules! tests {
+    // the second source register is the thread pointer
+    (over_thread $($more:tt)*) => { tests![opcode 31, plus 13, over_not 0, $($more)*] };
+    (indexed $($low:tt)*) => {
+        tests![over_thread $($low)*, accesses_indexed, stores_other_indexed]
+    };
+    // `pld` and `paddi`, relative to the instruction
+    (pld) => { tests![prefix 0x104, opcode 57 at 4, over 0 at 4] };
+    (paddi) => { tests![prefix 0x184, opcode 14 at 4, over 0 at 4] };
+    (bl_nop) => { tests![opcode 18, low_2 1, nop at 4] };
+    ($($test:ident $($number:literal)* $(at $at:literal)?),*) => {
+        [$(test!($crate::rewrite_rows::or!(0; $($at)?), $test $($number)*)),*]
+    };
 }
 
-/// Writes two instructions at an offset of the section.
-#[inline(always)]
-fn put_two(section: &mut [u8], offset: u64, first: u32, second: u32)
-    requires { offset + 8 ≤ length section.old }
-    ensures { section.new
-        ≡ take offset section.old ++ two_words first second ++ drop (offset + 8) section.old }
-{
-    let both = u64::from(first) + (u64::from(second) << 32);
-    overwrite(section, offset, &both.to_le_bytes());
-}
-
-/// The primary opcode.
-#[inline(always)]
-fn opcode(word: u32) -> u32
-    ensures { result ≡ opcode_of word }
-{
-    word >> 26
-}
-
-/// The target register.
-#[inline(always)]
-fn target(word: u32) -> u32
-    ensures { result ≡ rt_of word }
-{
-    word >> 21 & 0x1f
-}
-
-/// The base register.
-#[inline(always)]
-fn base(word: u32) -> u32
-    ensures { result ≡ ra_of word }
-{
-    word >> 16 & 0x1f
-}
-
-/// Target and base register, in their places.
-#[inline(always)]
-fn registers(word: u32) -> u32
-    ensures { result ≡ registers_of word }
-{
-    (word >> 16 & 0x3ff) << 16
-}
-
-/// What an indexed instruction accesses.
-#[inline(always)]
-fn access(word: u32) -> u32
-    ensures { result ≡ access_of word }
-{
-    word >> 6 & 0x1f
-}
-
-/// The two lowest bits of an instruction.
-#[inline(always)]
-fn low_2(word: u32) -> u32
-    ensures { result ≡ field word 0 2 }
-{
-    word & 3
-}
-
-/// The target register of a prefixed instruction at an offset of the section.
-#[inline(always)]
-fn prefixed_target(section: &[u8], offset: u64) -> u32
-    requires { offset + 8 ≤ length section.now }
-    ensures register { result ≡ prefixed_rt (take 8 (drop offset section.now)) }
-    ensures bound { result ≤ 31 }
-{
-    target(word_at(section, offset + 4))
-}
-
-/// `addis rT,13,0`.
-#[inline(always)]
-fn addis_of_thread(target: u32) -> u32
-    requires { target ≤ 31 }
-    ensures { result ≡ addis_of_thread target }
-{
-    0x3c0d_0000 + (target << 21)
-}
-
-/// `addi rT,0,0`.
-#[inline(always)]
-fn li_of(target: u32) -> u32
-    requires { target ≤ 31 }
-    ensures { result ≡ li_of target }
-{
-    0x3800_0000 + (target << 21)
-}
-
-/// `addi rT,13,n`.
-#[inline(always)]
-fn addi_of_thread(number: u32, target: u32) -> u32
-    requires number { number ≤ 0x1000 }
-    requires target { target ≤ 31 }
-    ensures { result ≡ addi_of_thread number target }
-{
-    0x380d_0000 + (target << 21) + number
-}
-
-/// The second word of `pld rT,0(0)`.
-#[inline(always)]
-fn ld_of(target: u32) -> u32
-    requires { target ≤ 31 }
-    ensures { result ≡ ld_of target }
-{
-    0xe400_0000 + (target << 21)
-}
-
-/// An instruction with another base register.
-#[inline(always)]
-fn over_base(register: u32, word: u32) -> u32
-    requires { register ≤ 31 }
-    ensures { result ≡ over_base register word }
-{
-    (word >> 21 << 21) + (register << 16) + (word & 0xffff)
-}
-
-/// An indexed access as one with a displacement of 0.
-#[inline(always)]
-fn by_displacement(word: u32) -> u32
-    ensures { result ≡ by_displacement word }
-{
-    (32 + access(word) << 26) + registers(word)
-}
-
-/// An indexed access as one with a displacement of 0 in whole words.
-#[inline(always)]
-fn by_word_displacement(word: u32) -> u32
-    ensures { result ≡ by_word_displacement word }
-{
-    let opcode = if access(word) == 4 { 62 } else { 58 };
-    let low = if access(word) == 10 { 2 } else { 0 };
-    (opcode << 26) + registers(word) + low
-}
-
-/// `mr rT,rA` in place of an addition to rA, or `nop` where rT is rA.
-#[inline(always)]
-fn to_move(word: u32) -> u32
-    ensures { result ≡ to_move word }
-{
-    let (to, from) = (target(word), base(word));
-    if to == from {
-        NOP
-    } else {
-        0x7c00_0378 + (from << 21) + (to << 16) + (from << 11)
-    }
-}
-
-/// An indexed access as one with a displacement of 0, of any size.
-#[inline(always)]
-fn direct(word: u32) -> u32
-    ensures { result ≡ direct word }
-{
-    if word & 0x3f == 0x2e {
-        by_displacement(word)
-    } else {
-        by_word_displacement(word)
-    }
-}
-
-/// `addis rT,rA`, over a given register.
-#[inline(always)]
-fn is_addis_over(register: u32, word: u32) -> bool
-    ensures { result ≡ is_addis_over register word }
-{
-    opcode(word) == 15 && base(word) == register
-}
-
-/// `addis 2,12`.
-#[inline(always)]
-fn is_addis_of_entry(word: u32) -> bool
-    ensures { result ≡ is_addis_of_entry word }
-{
-    word >> 16 == 0x3c4c
-}
-
-/// `addi 2,2`.
-#[inline(always)]
-fn is_addi_of_toc(word: u32) -> bool
-    ensures { result ≡ is_addi_of_toc word }
-{
-    word >> 16 == 0x3842
-}
-
-/// `addi rT,rA`.
-#[inline(always)]
-fn is_addi(word: u32) -> bool
-    ensures { result ≡ is_addi word }
-{
-    opcode(word) == 14 && base(word) != 0
-}
-
-/// `ld rT,x(rA)`.
-#[inline(always)]
-fn is_ld(word: u32) -> bool
-    ensures { result ≡ is_ld word }
-{
-    opcode(word) == 58 && low_2(word) == 0 && base(word) != 0
-}
-
-/// The number of an access of bytes or words, without update.
-#[inline(always)]
-fn is_access(number: u32) -> bool
-    ensures { result ≡ is_access number }
-{
-    number % 2 == 0 && number < 23 && number != 14
-}
-
-/// The number of a store of a register of the fixed-point facility.
-#[inline(always)]
-fn is_store(number: u32) -> bool
-    ensures { result ≡ is_store number }
-{
-    number == 4 || number == 6 || number == 12
-}
-
-/// Whether an instruction doesn't store its base register.
-#[inline(always)]
-fn keeps_base(stores: bool, word: u32) -> bool
-    ensures { result ≡ keeps_base stores word }
-{
-    !(stores && target(word) == base(word))
-}
-
-#[inline(always)]
-fn is_d_access(word: u32) -> bool
-    ensures { result ≡ is_d_access word }
-{
-    let number = word >> 26 & 0x1f;
-    word >> 31 == 1 && is_access(number) && keeps_base(is_store(number), word)
-}
-
-#[inline(always)]
-fn is_ds_access(word: u32) -> bool
-    ensures { result ≡ is_ds_access word }
-{
-    match opcode(word) {
-        58 => low_2(word) == 0 || low_2(word) == 2,
-        62 => low_2(word) == 0 && keeps_base(true, word),
-        _ => false,
-    }
-}
-
-/// `lq`; `lxsd` and `lxssp`; `lxv`, `stxv`, `stxsd` and `stxssp`.
-#[inline(always)]
-fn is_vector_access(word: u32) -> bool
-    ensures { result ≡ is_vector_access word }
-{
-    match opcode(word) {
-        56 => true,
-        57 => low_2(word) > 1,
-        61 => low_2(word) != 0,
-        _ => false,
-    }
-}
-
-/// Whether an instruction reads its base register as the base alone.
-#[inline]
-fn is_over_base(word: u32) -> bool
-    ensures { result ≡ is_over_base word }
-{
-    base(word) != 0
-        && (opcode(word) == 14 || is_d_access(word) || is_ds_access(word) || is_vector_access(word))
-}
-
-/// Whether the second source register is 13, the thread pointer.
-#[inline(always)]
-fn is_over_thread(word: u32) -> bool
-    ensures { result ≡ is_over_thread word }
-{
-    opcode(word) == 31 && word >> 11 & 0x1f == 13 && base(word) != 0
-}
-
-/// `add rT,rA,13`.
-#[inline(always)]
-fn is_add_of_thread(word: u32) -> bool
-    ensures { result ≡ is_add_of_thread word }
-{
-    is_over_thread(word) && word & 0x7ff == 0x214
-}
-
-/// `lwzx rT,rA,13` and so on.
-#[inline]
-fn is_indexed(word: u32) -> bool
-    ensures { result ≡ is_indexed word }
-{
-    is_over_thread(word)
-        && word & 0x3f == 0x2e
-        && is_access(access(word))
-        && keeps_base(is_store(access(word)), word)
-}
-
-/// `ldx rT,rA,13` and so on.
-#[inline]
-fn is_indexed_word(word: u32) -> bool
-    ensures { result ≡ is_indexed_word word }
-{
-    let number = access(word);
-    is_over_thread(word)
-        && word & 0x3f == 0x2a
-        && (number == 0 || number == 4 || number == 10)
-        && keeps_base(number == 4, word)
-}
-
-/// Any of these accesses.
-#[inline(always)]
-fn is_indexed_any(word: u32) -> bool
-    ensures { result ≡ is_indexed_any word }
-{
-    is_indexed(word) || is_indexed_word(word)
-}
-
-/// Whether two words are `pld rT`, relative to the instruction.
-#[inline(always)]
-fn is_pld(prefix: u32, word: u32) -> bool
-    ensures { result ≡ is_pld prefix word }
-{
-    prefix >> 18 == 0x104 && opcode(word) == 57 && base(word) == 0
-}
-
-/// Whether two words are `paddi rT`, relative to the instruction.
-#[inline(always)]
-fn is_pla(prefix: u32, word: u32) -> bool
-    ensures { result ≡ is_pla prefix word }
-{
-    prefix >> 18 == 0x184 && opcode(word) == 14 && base(word) == 0
-}
-
-/// `bl`.
-#[inline(always)]
-fn is_bl(word: u32) -> bool
-    ensures { result ≡ is_bl word }
-{
-    opcode(word) == 18 && low_2(word) == 1
-}
-
-/// Whether two words are `bl` and `nop`.
-#[inline(always)]
-fn is_call(word: u32, next: u32) -> bool
-    ensures { result ≡ is_call word next }
-{
-    opcode(word) == 18 && low_2(word) == 1 && next == NOP
-}
-
-/// Whether `pld rT` is at an offset of the section.
-#[inline(always)]
-fn has_pld(section: &[u8], offset: u64) -> bool
-    ensures { IsTrue result ↔ HasTwo is_pld section.now offset }
-{
-    has_window(section, offset, 0, 8)
-        && is_pld(word_at(section, offset), word_at(section, offset + 4))
-}
-
-/// Whether `paddi rT`, relative to the instruction, is at an offset of the section.
-#[inline(always)]
-fn has_pla(section: &[u8], offset: u64) -> bool
-    ensures { IsTrue result ↔ HasTwo is_pla section.now offset }
-{
-    has_window(section, offset, 0, 8)
-        && is_pla(word_at(section, offset), word_at(section, offset + 4))
-}
-
-/// Whether `add rT,rA,13` is where an offset is that of its second byte.
-#[inline(always)]
-fn has_marked_add(section: &[u8], offset: u64) -> bool
-    ensures { IsTrue result ↔ HasMarked is_add_of_thread section.now offset }
-{
-    offset % 4 == 1
-        && has_window(section, offset, 1, 4)
-        && is_add_of_thread(word_at(section, offset - 1))
-}
-
-/// Whether an indexed access is where an offset is that of its second byte.
-#[inline(always)]
-fn has_marked_access(section: &[u8], offset: u64) -> bool
-    ensures { IsTrue result ↔ HasMarked is_indexed_any section.now offset }
-{
-    offset % 4 == 1
-        && has_window(section, offset, 1, 4)
-        && is_indexed_any(word_at(section, offset - 1))
-}
-
-/// Whether a call and a `nop` are at an offset of the section.
-#[inline(always)]
-fn has_call(section: &[u8], offset: u64) -> bool
-    ensures { IsTrue result ↔ HasTwo is_call section.now offset }
-{
-    has_window(section, offset, 0, 8)
-        && is_call(word_at(section, offset), word_at(section, offset + 4))
+/// The rewrites. Opcode 14 is `addi`, 15 `addis`, 18 `b`, 31 that of indexed accesses and `add`, 58
+/// `ld`.
+macro_rules! rewrites {
+    ($($use:tt)*) => {
+        by_row! { tests, $($use)*;
+            NoOp: 0 [];
+            AddisToNop: 4 [opcode 15, over 2] keep 0 set 0x6000_0000;
+            BaseToToc: 4 [over_not 0, accesses, stores_other] keep 0xffe0_ffff set 0x0002_0000;
+            LdToAddi: 4 [opcode 58, low_2 0, over_not 0] keep 0x03ff_0000 set 0x3800_0000;
+            PldToPaddi: 8 [pld] keep 0 set 0x0610_0000 keep 0x03e0_0000 at 4 set 0x3800_0000;
+            LdToAddisThread: 4 [opcode 58, low_2 0, over_not 0, into_not 0]
+                keep 0x03e0_0000 set 0x3c0d_0000;
+            AddToAddi: 4 aligned true [over_thread low_11 0x214] keep 0x03ff_0000 set 0x3800_0000;
+            IndexedToD: 4 aligned true [indexed low_6 0x2e] special ToD;
+            IndexedToDs: 4 aligned true [indexed low_6 0x2a] special ToDs;
+            AddiToAddisThread: 4 [opcode 14, over_not 0] keep 0x03e0_0000 set 0x3c0d_0000;
+            AddiToLd: 4 [opcode 14, over_not 0] keep 0x03ff_0000 set 0xe800_0000;
+            CallToAddi: 8 [bl_nop] keep 0 set 0x6000_0000 keep 0 set 0x3863_0000 skip 0 moved 4;
+            CallToAdd: 8 [bl_nop] keep 0 set 0x6000_0000 keep 0 set 0x7c63_6a14 skip 0 moved 4;
+            CallToAddi4096: 8 [bl_nop]
+                keep 0 set 0x6000_0000 keep 0 set 0x3863_1000 skip 0 moved 4;
+            NopToRestoreToc: 8 [bl_nop] keep 0xffff_ffff set 0 keep 0 set 0xe841_0018;
+            KeepAddis: 4 [opcode 15, over 2];
+            AddisToLis: 4 [high 0x3c4c] keep 0 set 0x3c40_0000;
+            AddiAfterLis: 4 [high 0x3842] keep 0 set 0x3842_0000 addend 0;
+            AddisThreadToNop: 4 [opcode 15, over 13] keep 0 set 0x6000_0000;
+            BaseToThread: 4 [over_not 0, accesses, stores_other] keep 0xffe0_ffff set 0x000d_0000;
+            PldToPaddiThread: 8 [pld] keep 0 set 0x0600_0000 keep 0x03e0_0000 at 4 set 0x380d_0000;
+            AddToMove: 4 back 1 aligned true [over_thread low_11 0x214] special ToMove;
+            IndexedToDirect: 4 back 1 aligned true [indexed low_6_either 0x2a 0x2e]
+                special ToEither;
+            PaddiToPaddiThread: 8 [paddi]
+                keep 0 set 0x0600_0000 keep 0x03e0_0000 at 4 set 0x380d_0000;
+            PaddiToPld: 8 [paddi] keep 0 set 0x0410_0000 keep 0x03e0_0000 at 4 set 0xe400_0000;
+            PaddiToPaddi4096: 8 [paddi]
+                keep 0 set 0x0600_0000 keep 0x03e0_0000 at 4 set 0x380d_1000;
+            BranchToNop: 4 [opcode 18, low_2 1] keep 0 set 0x6000_0000 skip 0;
+            BranchToAdd: 4 [opcode 18, low_2 1] keep 0 set 0x7c63_6a14 skip 0;
+        }
+    };
 }
 
 /// No rewrite has a number above the last one.
@@ -614,98 +294,11 @@ impl RelaxationKind {
         ensures addend { addend.new ≡ addend_after (ppc64_rewrite self) addend.old }
     {
         let offset = *offset_in_section;
-        match self {
-            RelaxationKind::NoOp | RelaxationKind::KeepAddis => {}
-            RelaxationKind::AddisToNop
-            | RelaxationKind::AddisThreadToNop
-            | RelaxationKind::BranchToNop => {
-                put_word(section_bytes, offset, NOP);
-            }
-            RelaxationKind::BranchToAdd => put_word(section_bytes, offset, ADD_THREAD),
-            RelaxationKind::BaseToToc => {
-                let word = word_at(section_bytes, offset);
-                put_word(section_bytes, offset, over_base(2, word));
-            }
-            RelaxationKind::BaseToThread => {
-                let word = word_at(section_bytes, offset);
-                put_word(section_bytes, offset, over_base(13, word));
-            }
-            RelaxationKind::LdToAddi | RelaxationKind::AddToAddi => {
-                let word = word_at(section_bytes, offset);
-                put_word(section_bytes, offset, 0x3800_0000 + registers(word));
-            }
-            RelaxationKind::PldToPaddi => {
-                let register = prefixed_target(section_bytes, offset);
-                put_two(section_bytes, offset, 0x0610_0000, li_of(register));
-            }
-            RelaxationKind::PldToPaddiThread | RelaxationKind::PaddiToPaddiThread => {
-                let register = prefixed_target(section_bytes, offset);
-                put_two(
-                    section_bytes,
-                    offset,
-                    0x0600_0000,
-                    addi_of_thread(0, register),
-                );
-            }
-            RelaxationKind::PaddiToPaddi4096 => {
-                let register = prefixed_target(section_bytes, offset);
-                put_two(
-                    section_bytes,
-                    offset,
-                    0x0600_0000,
-                    addi_of_thread(0x1000, register),
-                );
-            }
-            RelaxationKind::PaddiToPld => {
-                let register = prefixed_target(section_bytes, offset);
-                put_two(section_bytes, offset, 0x0410_0000, ld_of(register));
-            }
-            RelaxationKind::AddToMove => {
-                let word = word_at(section_bytes, offset - 1);
-                put_word(section_bytes, offset - 1, to_move(word));
-            }
-            RelaxationKind::IndexedToDirect => {
-                let word = word_at(section_bytes, offset - 1);
-                put_word(section_bytes, offset - 1, direct(word));
-            }
-            RelaxationKind::LdToAddisThread | RelaxationKind::AddiToAddisThread => {
-                let word = word_at(section_bytes, offset);
-                put_word(section_bytes, offset, addis_of_thread(target(word)));
-            }
-            RelaxationKind::IndexedToD => {
-                let word = word_at(section_bytes, offset);
-                put_word(section_bytes, offset, by_displacement(word));
-            }
-            RelaxationKind::IndexedToDs => {
-                let word = word_at(section_bytes, offset);
-                put_word(section_bytes, offset, by_word_displacement(word));
-            }
-            RelaxationKind::AddiToLd => {
-                let word = word_at(section_bytes, offset);
-                put_word(section_bytes, offset, 0xe800_0000 + registers(word));
-            }
-            RelaxationKind::CallToAddi => {
-                put_two(section_bytes, offset, NOP, 0x3863_0000);
-                *offset_in_section = offset + 4;
-            }
-            RelaxationKind::CallToAdd => {
-                put_two(section_bytes, offset, NOP, ADD_THREAD);
-                *offset_in_section = offset + 4;
-            }
-            RelaxationKind::CallToAddi4096 => {
-                put_two(section_bytes, offset, NOP, 0x3863_1000);
-                *offset_in_section = offset + 4;
-            }
-            RelaxationKind::NopToRestoreToc => {
-                let call = word_at(section_bytes, offset);
-                put_two(section_bytes, offset, call, 0xe841_0018);
-            }
-            RelaxationKind::AddisToLis => put_word(section_bytes, offset, 0x3c40_0000),
-            RelaxationKind::AddiAfterLis => {
-                put_word(section_bytes, offset, 0x3842_0000);
-                *addend = 0;
-            }
-        }
+        rewrites!(self, row => {
+            row.apply(section_bytes, offset);
+            *offset_in_section = offset + row.moved;
+            *addend = row.addend.unwrap_or(*addend);
+        })
     }
 
     /// Whether `apply` may be called at an offset of a section: the window lies in the section. The
@@ -724,24 +317,7 @@ impl RelaxationKind {
     pub fn window(self) -> RewriteWindow
         ensures { result ≡ window_of_rewrite (ppc64_rewrite self) }
     {
-        let back = match self {
-            RelaxationKind::AddToMove | RelaxationKind::IndexedToDirect => 1,
-            _ => 0,
-        };
-        let len = match self {
-            RelaxationKind::NoOp | RelaxationKind::KeepAddis => 0,
-            RelaxationKind::PldToPaddi
-            | RelaxationKind::PldToPaddiThread
-            | RelaxationKind::PaddiToPaddiThread
-            | RelaxationKind::PaddiToPld
-            | RelaxationKind::PaddiToPaddi4096
-            | RelaxationKind::CallToAddi
-            | RelaxationKind::CallToAdd
-            | RelaxationKind::CallToAddi4096
-            | RelaxationKind::NopToRestoreToc => 8,
-            _ => 4,
-        };
-        RewriteWindow { back, len }
+        rewrites!(self, row => row.window())
     }
 
     /// Whether the instruction at an offset of a section is one that the rewrite is meant for:
@@ -755,42 +331,7 @@ impl RelaxationKind {
         ensures exactly { IsTrue result ↔ ppc64_matches self section.now offset }
         ensures rewritable { IsTrue result → CanRewrite (ppc64_rewrite self) section.now offset }
     {
-        match self {
-            RelaxationKind::NoOp => return true,
-            RelaxationKind::AddToMove => return has_marked_add(section, offset),
-            RelaxationKind::IndexedToDirect => return has_marked_access(section, offset),
-            _ => {}
-        }
-        if !has_window(section, offset, 0, 4) {
-            return false;
-        }
-        let word = word_at(section, offset);
-        match self {
-            RelaxationKind::NoOp | RelaxationKind::AddToMove | RelaxationKind::IndexedToDirect =>
-                true,
-            RelaxationKind::AddisToNop | RelaxationKind::KeepAddis => is_addis_over(2, word),
-            RelaxationKind::AddisThreadToNop => is_addis_over(13, word),
-            RelaxationKind::BaseToToc | RelaxationKind::BaseToThread => is_over_base(word),
-            RelaxationKind::LdToAddi => is_ld(word),
-            RelaxationKind::PldToPaddi | RelaxationKind::PldToPaddiThread => {
-                has_pld(section, offset)
-            }
-            RelaxationKind::PaddiToPaddiThread
-            | RelaxationKind::PaddiToPld
-            | RelaxationKind::PaddiToPaddi4096 => has_pla(section, offset),
-            RelaxationKind::BranchToNop | RelaxationKind::BranchToAdd => is_bl(word),
-            RelaxationKind::LdToAddisThread => is_ld(word) && target(word) != 0,
-            RelaxationKind::AddToAddi => offset % 4 == 0 && is_add_of_thread(word),
-            RelaxationKind::IndexedToD => offset % 4 == 0 && is_indexed(word),
-            RelaxationKind::IndexedToDs => offset % 4 == 0 && is_indexed_word(word),
-            RelaxationKind::AddiToAddisThread | RelaxationKind::AddiToLd => is_addi(word),
-            RelaxationKind::AddisToLis => is_addis_of_entry(word),
-            RelaxationKind::AddiAfterLis => is_addi_of_toc(word),
-            RelaxationKind::CallToAddi
-            | RelaxationKind::CallToAdd
-            | RelaxationKind::CallToAddi4096
-            | RelaxationKind::NopToRestoreToc => has_call(section, offset),
-        }
+        rewrites!(self, row => row.is_for(section, offset))
     }
 
     /// What happens to the next relocation: it is skipped after `CallToAddi`, `CallToAdd`,
@@ -800,14 +341,7 @@ impl RelaxationKind {
     pub fn next_modifier(&self) -> RelocationModifier
         ensures { result ≡ ppc64_modifier self.now }
     {
-        match self {
-            RelaxationKind::CallToAddi
-            | RelaxationKind::CallToAdd
-            | RelaxationKind::CallToAddi4096
-            | RelaxationKind::BranchToNop
-            | RelaxationKind::BranchToAdd => RelocationModifier::SkipNextRelocation,
-            _ => RelocationModifier::Normal,
-        }
+        rewrites!(*self, row => row.next_modifier())
     }
 
     /// Where the relocation is that `next_modifier` skips, in bytes from the offset of the
@@ -829,14 +363,7 @@ impl RelaxationKind {
         ensures skipped { IfSome result (λ _. ppc64_modifier self ≡ SkipNextRelocation) }
         ensures kept { IfNone result (ppc64_modifier self ≡ Normal) }
     {
-        match self {
-            RelaxationKind::CallToAddi
-            | RelaxationKind::CallToAdd
-            | RelaxationKind::CallToAddi4096
-            | RelaxationKind::BranchToNop
-            | RelaxationKind::BranchToAdd => Some(0),
-            _ => None,
-        }
+        rewrites!(self, row => row.skipped)
     }
 }
 
