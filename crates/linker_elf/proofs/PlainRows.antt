@@ -1,13 +1,13 @@
 -- Rows that take each multiple of their alignment within reach, whatever instruction there is.
-use Rattle.std.proofs.Common.{◌≡◌, ℕ, ◌-◌, ◌*◌, ◌%◌, ◌^◌, ◌<◌, ◌≤◌, arith, true, List, ℤ, ◌≤ℤ◌, FitsSigned, length, nat_eq, bit_and, IsTrue, ◌&&◌, ◌||◌, subst, sym, ap, ◌∙◌, inl, inr}
+use Rattle.std.proofs.Common.{◌≡◌, ℕ, ◌-◌, ◌*◌, ◌%◌, ◌^◌, ◌<◌, ◌≤◌, arith, true, List, ℤ, ◌≤ℤ◌, FitsSigned, length, nat_eq, bit_and, IsTrue, ◌&&◌, ◌||◌, subst, sym, ap, ◌∙◌, inl, inr, refl, false, drop, ◌++◌}
 use Rattle.std.specs.Int.{w64, cast_unsigned}
-use Rattle.std.proofs.lemmas.Bool.{and_parts, eqb-true, or_cases}
+use Rattle.std.proofs.lemmas.Bool.{and_parts, cases_Bool, cond-false, cond-true, eqb-true, or_cases}
 use Rattle.linker_base.specs.declared.bit_misc.BitRange.{BitRange}
 use Rattle.linker_elf.specs.Agrees.{RowFits}
 use Rattle.linker_elf.specs.Bounds.{least_within, last_within}
 use Rattle.linker_elf.specs.Reach.{reach_of}
-use Rattle.linker_elf.specs.Relocate.{InstructionWritten, IsWritten, IsAccepted, IsAligned, IsInUnits, IsInWords, IsMultiple, IsReached, IsEncoded, is_supported, window_len}
-use Rattle.linker_elf.specs.Inner.RowTables.{info_of, is_plain, is_unit, takes_all, tests_of, IsSound}
+use Rattle.linker_elf.specs.Relocate.{InstructionWritten, IsWritten, IsAccepted, IsAligned, IsInUnits, IsInWords, IsMultiple, IsEncoded, is_supported, low_bytes, number_of_bytes, number_written, window_len}
+use Rattle.linker_elf.specs.Inner.RowTables.{bytes_of, info_of, is_over, is_plain, is_unit, takes_all, tests_of, IsSound}
 use Rattle.linker_elf.specs.declared.aarch64.forms.AArch64Instruction.TheVariants.{Movnz}
 use Rattle.linker_elf.specs.declared.loongarch64.forms.LoongArch64Instruction.TheVariants.{Shift10}
 use Rattle.linker_elf.specs.declared.ppc64.forms.Ppc64Instruction.TheVariants.{Ds}
@@ -16,11 +16,12 @@ use Rattle.linker_elf.specs.declared.elf.RelocationInstruction.{RelocationInstru
 use Rattle.linker_elf.specs.declared.elf.RelocationInstruction.TheVariants.{RiscV, Ppc64, LoongArch64, AArch64}
 use Rattle.linker_elf.specs.declared.elf.RelocationKind.{RelocationKind}
 use Rattle.linker_elf.specs.declared.elf.RelocationKind.TheVariants.{AbsoluteLowPart}
+use Rattle.linker_elf.specs.declared.elf.RelocationKind.TheVariants as kinds
 use Rattle.linker_elf.specs.declared.elf.RelocationKindInfo.{RelocationKindInfo}
 use Rattle.linker_elf.specs.declared.elf.RelocationSize.{RelocationSize}
 use Rattle.linker_elf.specs.declared.elf.RelocationSize.TheVariants.{ByteSize, BitMasking}
 use Rattle.linker_elf.specs.declared.elf.rows.TableRow.{TableRow}
-use Rattle.linker_elf.proofs.Reached.{from_least, reached_from, to_last}
+use Rattle.linker_elf.proofs.Reached.{reached_from}
 use Rattle.linker_elf.proofs.Taken.{is_multiple}
 
 -- ---- the alignment
@@ -154,14 +155,34 @@ accepted_by entry v bytes small sound all long aligned low high =
     (long_by entry bytes sound long) aligned (subst (λ t. t.least ≤ℤ v) is low)
     (subst (λ t. v ≤ℤ t.last) is high)
 
-pub least_by : (entry : TableRow) (v : ℤ) (bytes : List ℕ) → FitsSigned w64 v → IsSound entry
-    → IsReached (info_of entry) v bytes → entry.tests.least ≤ℤ v
-least_by entry v bytes small sound reached =
-    subst (λ t. t.least ≤ℤ v) (sym (tests_are entry sound))
-    (from_least (reach_of (info_of entry)) v small reached.0)
+bytes_are : (entry : TableRow) → IsSound entry → entry.tests.bytes ≡ bytes_of entry.size entry.kind
+bytes_are entry sound = ap (λ t. t.bytes) (tests_are entry sound)
 
-pub last_by : (entry : TableRow) (v : ℤ) (bytes : List ℕ) → FitsSigned w64 v → IsSound entry
-    → IsReached (info_of entry) v bytes → v ≤ℤ entry.tests.last
-last_by entry v bytes small sound reached =
-    subst (λ t. v ≤ℤ t.last) (sym (tests_are entry sound))
-    (to_last (reach_of (info_of entry)) v small reached.0)
+-- ---- bytes that become the value's
+
+not_over : (kind : RelocationKind) (v : ℤ) (old : ℕ) → is_over kind ≡ false
+    → number_written kind v old ≡ cast_unsigned w64 v
+not_over kinds.AbsoluteAddition v old none = cc
+not_over kinds.AbsoluteSubtraction v old none = cc
+not_over kinds.AbsoluteSetWord6 v old none = cc
+not_over kinds.AbsoluteAdditionWord6 v old none = cc
+not_over kinds.AbsoluteSubtractionWord6 v old none = cc
+not_over kind v old none = refl
+
+bytes_written : (size : RelocationSize) (kind : RelocationKind) (n number : ℕ) (v : ℤ)
+    (before after : List ℕ) → bytes_of size kind ≡ n → 0 < n → number ≡ cast_unsigned w64 v
+    → after ≡ low_bytes n number ++ drop n before → IsWritten size kind v before after
+bytes_written (BitMasking bits insn) kind n number v before after is some value laid = absurd (omega (arith, is, some))
+bytes_written (ByteSize m) kind n number v before after is some value laid = elim (cases_Bool (is_over kind)) [
+  | inl over ↦ let none : 0 ≡ n = sym (cond-true (is_over kind) 0 m over) ∙ is in absurd (omega (arith, none, some))
+  | inr over ↦
+      let same : m ≡ n = sym (cond-false (is_over kind) 0 m over) ∙ is in
+      subst (λ k. after ≡ low_bytes k (number_written kind v (number_of_bytes m before)) ++ drop k before) (sym same)
+      (laid ∙ ap (λ x. low_bytes n x ++ drop n before) (value ∙ sym (not_over kind v (number_of_bytes m before) over)))
+]
+
+pub stored : (entry : TableRow) (n number : ℕ) (v : ℤ) (before after : List ℕ) → IsSound entry
+    → entry.tests.bytes ≡ n → 0 < n → number ≡ cast_unsigned w64 v
+    → after ≡ low_bytes n number ++ drop n before → IsWritten entry.size entry.kind v before after
+stored entry n number v before after sound is some value laid =
+    bytes_written entry.size entry.kind n number v before after (sym (bytes_are entry sound) ∙ is) some value laid

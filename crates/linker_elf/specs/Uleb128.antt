@@ -17,6 +17,10 @@ IsPairNumber Adds before first second number =
     → number ≡ sum_64 old (difference_64 first second)
 IsPairNumber role before first second number = number ≡ difference_64 first second
 
+-- bytes begin with no number
+abbrev pub BeginsWithNone : List ℕ → Type 0
+BeginsWithNone bytes = (n : ℕ) (rest : List ℕ) → Uleb bytes n rest → ⊥
+
 -- a number is written in place of the existing one, or there is none, or it has too few bytes
 abbrev pub IsNumberWritten : ℕ → List ℕ → List ℕ → Result Unit Uleb128PairError → Type 0
 IsNumberWritten number before after (Ok u) = IsUlebWritten before number after

@@ -2,11 +2,11 @@
 
 ghost use Rattle.std.specs.Prelude.{◌≡◌, ◌≤◌, ◌<◌, ◌+◌, ◌/◌, ℕ, List, length, drop, IfErr, IfSome};
 ghost use Rattle.std.specs.Prelude.{IfNone, OnOk, IsOk, take, true, ◌↔◌, Some, None};
-ghost use Rattle.linker_base.specs.Uleb.{Uleb};
 ghost use Rattle.linker_section.specs.Conditions.{HasLength, HoldsOffset};
 ghost use Rattle.linker_section.specs.Fields.{uleb_len, begins_pair, IsField, field_len};
 ghost use Rattle.linker_section.specs.Relocations.{relocation_in};
 ghost use Rattle.linker_section.specs.Sections.{IsWrittenAt, IsRowValue, IsNumberOfPair};
+ghost use Rattle.linker_section.specs.Sections.{first_role};
 ghost use Rattle.linker_section.specs.Sections.{IsNumberWrittenAt, AreAllRelocated};
 ghost use Rattle.linker_section.specs.Sections.{IsFirstRejected, BeginsPair, HasValue};
 ghost use Rattle.linker_section.specs.Inner.Steps.{IsLimit, IsStopped, IsSecond};
@@ -27,7 +27,8 @@ use crate::relocations::{Rela, is_ascending, relocation_in, relocations_len};
 use crate::saved::{restore, word_at};
 use crate::values::{ValueError, value_of};
 use linker_base::utils::{self, Uleb128Error};
-use linker_elf::elf::{Architecture, RelocateError, RelocationKind, Row};
+use linker_elf::elf::architecture::pair_number;
+use linker_elf::elf::{Architecture, RelocateError, RelocationKind, Row, Uleb128Role};
 
 /// Why a relocation's value isn't written.
 #[derive(Clone, Copy)]
@@ -131,25 +132,14 @@ fn row_value(
     }
 }
 
-/// The number that bytes begin with; 0 if they begin with none.
-fn number_or_zero(bytes: &[u8]) -> u64
-    ensures { (n : ℕ) (rest : List ℕ) → Uleb bytes.now n rest → result ≡ n }
-{
-    let mut content = bytes;
-    utils::read_uleb128(&mut content).unwrap_or(0)
-}
-
-/// The number that a pair writes, whose second relocation is of a kind.
+/// The role of a pair's first relocation, whose second is of a kind.
 #[inline(always)]
-fn pair_number(kind: RelocationKind, bytes: &[u8], first: i64, second: i64) -> u64
-    ensures { IsNumberOfPair kind bytes.now first second result }
+fn first_role(kind: RelocationKind) -> Uleb128Role
+    ensures { result ≡ first_role kind }
 {
-    let difference = first.cast_unsigned().wrapping_sub(second.cast_unsigned());
     match kind {
-        RelocationKind::PairSubtractionULEB128LoongArch => {
-            number_or_zero(bytes).wrapping_add(difference)
-        }
-        _ => difference,
+        RelocationKind::PairSubtractionULEB128LoongArch => Uleb128Role::Adds,
+        _ => Uleb128Role::Sets,
     }
 }
 
@@ -157,10 +147,12 @@ fn pair_number(kind: RelocationKind, bytes: &[u8], first: i64, second: i64) -> u
 fn number_of_pair(kind: RelocationKind, first: i64, second: i64, offset: u64, section: &[u8]) -> u64
     ensures { IsNumberOfPair kind (drop offset section.now) first second result }
 {
+    let role = first_role(kind);
+    let (first, second) = (first.cast_unsigned(), second.cast_unsigned());
     if (section.len() as u64) < offset {
-        return pair_number(kind, &[], first, second);
+        return pair_number(role, &[], first, second);
     }
-    pair_number(kind, &section[offset as usize..], first, second)
+    pair_number(role, &section[offset as usize..], first, second)
 }
 
 /// Writes a number in place of the ULEB128 number at an offset.

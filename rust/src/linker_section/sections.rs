@@ -11,7 +11,8 @@ use crate::linker_section::relocations::{Rela, is_ascending, relocation_in, relo
 use crate::linker_section::saved::{restore, word_at};
 use crate::linker_section::values::{ValueError, value_of};
 use crate::linker_base::utils::{self, Uleb128Error};
-use crate::linker_elf::elf::{Architecture, RelocateError, RelocationKind, Row};
+use crate::linker_elf::elf::architecture::pair_number;
+use crate::linker_elf::elf::{Architecture, RelocateError, RelocationKind, Row, Uleb128Role};
 
 /// Why a relocation's value isn't written.
 #[cfg_attr(not(exhaustive), non_exhaustive)]
@@ -106,30 +107,23 @@ fn row_value(
     }
 }
 
-/// The number that bytes begin with; 0 if they begin with none.
-fn number_or_zero(bytes: &[u8]) -> u64 {
-    let mut content = bytes;
-    crate::readers::read_uleb128(&mut content).unwrap_or(0)
-}
-
-/// The number that a pair writes, whose second relocation is of a kind.
+/// The role of a pair's first relocation, whose second is of a kind.
 #[inline(always)]
-fn pair_number(kind: RelocationKind, bytes: &[u8], first: i64, second: i64) -> u64 {
-    let difference = (first as u64).wrapping_sub(second as u64);
+fn first_role(kind: RelocationKind) -> Uleb128Role {
     match kind {
-        RelocationKind::PairSubtractionULEB128LoongArch => {
-            number_or_zero(bytes).wrapping_add(difference)
-        }
-        _ => difference,
+        RelocationKind::PairSubtractionULEB128LoongArch => Uleb128Role::Adds,
+        _ => Uleb128Role::Sets,
     }
 }
 
 /// The number that a pair writes over that at an offset.
 fn number_of_pair(kind: RelocationKind, first: i64, second: i64, offset: u64, section: &[u8]) -> u64 {
+    let role = first_role(kind);
+    let (first, second) = (first as u64, second as u64);
     if (section.len() as u64) < offset {
-        return pair_number(kind, &[], first, second);
+        return pair_number(role, &[], first, second);
     }
-    pair_number(kind, &section[offset as usize..], first, second)
+    pair_number(role, &section[offset as usize..], first, second)
 }
 
 /// Writes a number in place of the ULEB128 number at an offset.

@@ -67,12 +67,18 @@ is_plain size kind = true
 abbrev pub takes_all : RelocationKindInfo → Bool
 takes_all row = is_supported row && (is_plain row.size row.kind && is_unit row.alignment)
 
+-- how many bytes become the lowest of the value
+abbrev pub bytes_of : RelocationSize → RelocationKind → ℕ
+bytes_of (ByteSize n) kind = if is_over kind then 0 else n
+bytes_of (BitMasking bits insn) kind = 0
+
 -- what a write of a row tests
 abbrev pub tests_of : RelocationKindInfo → WriteTests
 tests_of row =
     record {
       is_supported = is_supported row;
       takes_all = takes_all row;
+      bytes = bytes_of row.size row.kind;
       low_bits = row.alignment - 1;
       window = window_len row;
       least = least_within (reach_of row);

@@ -9,6 +9,8 @@ ghost use Rattle.linker_elf.specs.Entries.{IsAnswerOf, IsGotAnswer, IsPltAnswer}
 ghost use Rattle.linker_elf.specs.Handles.{IsFound, architecture_in, first_handle};
 ghost use Rattle.linker_elf.specs.Machines.{architecture_of, machine_of};
 ghost use Rattle.linker_elf.specs.Uleb128.{IsNumberWritten, IsPairNumber, IsPairWritten};
+ghost use Rattle.linker_elf.specs.Uleb128.{BeginsWithNone};
+ghost use Rattle.linker_elf.specs.Value.{difference_64};
 ghost use Rattle.linker_elf.specs.Uleb128.{IsPairOutcome};
 ghost use Rattle.linker_elf.specs.declared.elf.RelocationKindInfo.{RelocationKindInfo};
 ghost use Rattle.linker_elf.specs.declared.elf.Uleb128Role.{Uleb128Role};
@@ -230,10 +232,6 @@ impl Architecture {
     pub fn of_handle(handle: u32) -> Option<Architecture>
         ensures { result ≡ architecture_in handle }
     {
-        // without this test the others become a jump by the quotient, which takes more instructions
-        if handle < HANDLE_UNIT {
-            return None;
-        }
         architectures!([of_handle](handle))
     }
 
@@ -358,16 +356,20 @@ impl Architecture {
 
 /// The ULEB128 number that bytes begin with; 0 if they begin with none.
 fn number_or_zero(bytes: &[u8]) -> u64
-    ensures { (n : ℕ) (rest : List ℕ) → Uleb bytes.now n rest → result ≡ n }
+    ensures some { (n : ℕ) (rest : List ℕ) → Uleb bytes.now n rest → result ≡ n }
+    ensures none { BeginsWithNone bytes.now → result ≡ 0 }
 {
     let mut content = bytes;
     utils::read_uleb128(&mut content).unwrap_or(0)
 }
 
-/// The number that the values of a pair make of the existing one, by the role
-/// of its first relocation.
-fn pair_number(role: Uleb128Role, bytes: &[u8], first: u64, second: u64) -> u64
-    ensures { IsPairNumber role bytes.now first second result }
+/// The number that the values of a pair make of the one that bytes begin with, modulo 2^64, by the
+/// role of its first relocation: the difference of both, which `Adds` adds to the existing number;
+/// that is 0 where bytes begin with none.
+#[inline]
+pub fn pair_number(role: Uleb128Role, bytes: &[u8], first: u64, second: u64) -> u64
+    ensures number { IsPairNumber role bytes.now first second result }
+    ensures none { BeginsWithNone bytes.now → result ≡ difference_64 first second }
 {
     let difference = first.wrapping_sub(second);
     match role {

@@ -11,7 +11,6 @@ ghost use Rattle.linker_elf.specs.Relocate.{InstructionWritten, IsWritten, windo
 ghost use Rattle.linker_elf.specs.Relocate.{IsInUnits, IsMultiple, size_len, bits_at, stays_movk};
 ghost use Rattle.linker_elf.specs.Relocate.{insn_at, is_low_jump, low_part, IsInWords, IsEncoded};
 ghost use Rattle.linker_elf.specs.WriteErrors.{write_error};
-ghost use Rattle.linker_elf.specs.Inner.RowTables.{is_over};
 
 use crate::aarch64::is_movk;
 use crate::elf::engine::Window;
@@ -64,7 +63,7 @@ fn load(len: usize, bytes: &[u8]) -> u64
 
 /// Sets the first `len` bytes to the lowest of a number.
 #[inline(always)]
-fn store(len: usize, number: u64, bytes: &mut [u8])
+pub(crate) fn store(len: usize, number: u64, bytes: &mut [u8])
     requires short { len ≤ 8 }
     requires room { len ≤ length bytes.old }
     ensures { bytes.new ≡ low_bytes len number ++ drop len bytes.old }
@@ -104,38 +103,7 @@ fn number_over(kind: RelocationKind, len: usize, value: i64, dest: &[u8]) -> u64
     }
 }
 
-/// Whether a relocation of whole bytes changes the existing number, rather than replacing it.
-#[inline(always)]
-fn is_over(kind: RelocationKind) -> bool
-    ensures { result ≡ is_over kind }
-{
-    matches!(
-        kind,
-        RelocationKind::AbsoluteAddition
-            | RelocationKind::AbsoluteSubtraction
-            | RelocationKind::AbsoluteSetWord6
-            | RelocationKind::AbsoluteAdditionWord6
-            | RelocationKind::AbsoluteSubtractionWord6
-    )
-}
-
-/// Writes whole bytes. Only 4 and 8 bytes of a value are written here, so that a caller saves no
-/// registers for the others.
-#[inline(always)]
-pub(crate) fn write_bytes(kind: RelocationKind, len: usize, value: i64, dest: &mut [u8])
-    requires short { len ≤ 8 }
-    requires room { len ≤ length dest.old }
-    ensures { dest.new ≡ low_bytes len (number_written kind value (number_of_bytes len dest.old)) ++
-        drop len dest.old }
-{
-    match len {
-        8 if !is_over(kind) => store(8, value.cast_unsigned(), dest),
-        4 if !is_over(kind) => store(4, value.cast_unsigned(), dest),
-        _ => write_number(kind, len, value, dest),
-    }
-}
-
-/// Writes whole bytes, whatever their number and the relocation's kind.
+/// Writes whole bytes.
 #[inline(never)]
 pub(crate) fn write_number(kind: RelocationKind, len: usize, value: i64, dest: &mut [u8])
     requires short { len ≤ 8 }

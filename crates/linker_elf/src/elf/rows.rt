@@ -18,7 +18,7 @@ ghost use Rattle.linker_elf.specs.Inner.RowTables.{tests_of, takes_all, is_unit,
 
 use crate::elf::entries::{is_of_high_part, names_plt_entry};
 use crate::elf::relocate::{
-    is_encoded, write_aarch64, write_bits, write_bytes, write_field, write_number,
+    is_encoded, store, write_aarch64, write_bits, write_field, write_number,
 };
 use crate::elf::value::FormulaTerms;
 use crate::elf::{
@@ -54,6 +54,9 @@ pub(crate) struct WriteTests {
     /// alignment, and writes it in the row's form, whatever instruction there is. The alignment is
     /// a power of two up to 16.
     pub(crate) takes_all: bool,
+    /// How many bytes become the lowest of the value; 0 of instructions, and where the existing
+    /// number counts.
+    pub(crate) bytes: u8,
     /// The alignment less 1: the bits that are 0 in its multiples, if it is a power of two.
     pub(crate) low_bits: u8,
     /// How many bytes a write writes.
@@ -403,26 +406,23 @@ fn write_row(entry: &'static TableRow, value: i64, dest: &mut [u8]) -> Result<()
     ensures err { IfErr result (RejectsValue (info_of entry.now) value dest.old dest.new) }
 {
     let tests = &entry.tests;
-    if !tests.takes_all {
+    if !tests.takes_all
+        || dest.len() < tests.window
+        || !has_no_bits(tests.low_bits, value, entry.numbers.alignment)
+        || value < tests.least
+        || tests.last < value
+    {
         return write_looking(entry, value, dest);
     }
-    if dest.len() < tests.window {
-        return Err(RelocateError::TooShort);
-    }
-    if !has_no_bits(tests.low_bits, value, entry.numbers.alignment) {
-        return Err(RelocateError::Misaligned);
-    }
-    if value < tests.least || tests.last < value {
-        return Err(RelocateError::OutOfReach);
-    }
-    match entry.size {
-        RelocationSize::ByteSize(len) => write_bytes(entry.kind, len as usize, value, dest),
-        RelocationSize::BitMasking { .. } => write_plain(entry, value, dest),
+    match tests.bytes {
+        4 => store(4, value.cast_unsigned(), dest),
+        8 => store(8, value.cast_unsigned(), dest),
+        _ => write_plain(entry, value, dest),
     }
     Ok(())
 }
 
-/// The same of any row. By itself, so that `write_row` is small.
+/// `write_row`, of any row. By itself, so that `write_row` is small.
 #[inline(never)]
 fn write_looking(entry: &'static TableRow, value: i64, dest: &mut [u8]) -> Result<(), RelocateError>
     requires { IsSound entry.now }
@@ -499,7 +499,7 @@ impl RelocationKindInfo {
             return Err(RelocateError::OutOfReach);
         }
         match self.size {
-            RelocationSize::ByteSize(len) => write_bytes(self.kind, len as usize, value, dest),
+            RelocationSize::ByteSize(len) => write_number(self.kind, len as usize, value, dest),
             RelocationSize::BitMasking { range, insn } => {
                 write_bits(self.kind, insn, range, value, dest)
             }
@@ -628,6 +628,7 @@ macro_rules! row {
             tests: $crate::elf::rows::WriteTests {
                 is_supported: !$crate::elf::rows::fact!(rejected $($row)+),
                 takes_all: !$crate::elf::rows::fact!(looks $($row)+),
+                bytes: $crate::elf::rows::fact!(bytes $($row)+),
                 low_bits: 0 $(+ $alignment - 1)?,
                 window: $crate::elf::rows::fact!(window $($row)+),
                 least: $crate::elf::rows::bound!(
@@ -743,6 +744,13 @@ macro_rules! fact {
     (looks Movnz $($row:tt)+) => { true };
     (looks CluiType $($row:tt)+) => { true };
     (looks $($row:tt)+) => { $crate::elf::rows::fact!(rejected $($row)+) };
+    (bytes Bytes Bytes AbsoluteAddition $($bits:tt)+) => { 0 };
+    (bytes Bytes Bytes AbsoluteSubtraction $($bits:tt)+) => { 0 };
+    (bytes Bytes Bytes AbsoluteSetWord6 $($bits:tt)+) => { 0 };
+    (bytes Bytes Bytes AbsoluteAdditionWord6 $($bits:tt)+) => { 0 };
+    (bytes Bytes Bytes AbsoluteSubtractionWord6 $($bits:tt)+) => { 0 };
+    (bytes Bytes Bytes $kind:ident 0 0 $bytes:tt) => { $bytes };
+    (bytes $($row:tt)+) => { 0 };
     (window Bytes Bytes $kind:ident 0 0 $bytes:tt) => { $bytes };
     (window $form:ident RiscV $($row:tt)+) => {
         $crate::riscv64::forms::WINDOWS[$crate::elf::RiscVInstruction::$form as usize]

@@ -261,32 +261,31 @@ impl RelocationKindInfo {
         requires { terms.now ≡ terms_of self.now }
         ensures { value_given self.now operands.now ≡ signed_in result }
     {
-        let place = operands.place & terms.place;
-        let got = operands.got_base & terms.got;
+        let o = operands;
         match terms.formula {
             Formula::Without => Err(FormulaError::NoValue),
-            Formula::Symbol => Ok(terms.symbol(operands)),
-            Formula::SymbolLessPlace => Ok(terms.symbol(operands).wrapping_sub(place)),
+            Formula::Symbol => Ok(terms.symbol(o)),
+            Formula::SymbolLessPlace => Ok(terms.symbol(o).wrapping_sub(o.place & terms.place)),
             Formula::LoongArchHigh => Ok(highest_relocation_with_bias(
-                terms.symbol(operands),
-                pc_of_sequence(self.size, operands.place),
+                terms.symbol(o),
+                pc_of_sequence(self.size, o.place),
             )),
-            Formula::EntryLessPlace => Ok(terms.entry(operands)?.wrapping_sub(place)),
+            Formula::EntryLessPlace => Ok(terms.entry(o)?.wrapping_sub(o.place & terms.place)),
             Formula::LoongArchEntry => Ok(highest_relocation_with_bias(
-                terms.entry(operands)?,
-                pc_of_sequence(self.size, operands.place),
+                terms.entry(o)?,
+                pc_of_sequence(self.size, o.place),
             )),
-            Formula::EntryLessGot => Ok(terms.entry(operands)?.wrapping_sub(got)),
-            Formula::Entry => terms.entry(operands),
-            Formula::SymbolLessGot => Ok(terms.symbol(operands).wrapping_sub(got)),
-            Formula::PltLessGot => Ok(terms.plt(operands)?.wrapping_sub(got)),
-            Formula::PltLessPlace => Ok(terms.plt(operands)?.wrapping_sub(place)),
-            Formula::Size => Ok(terms.sum(operands.symbol_size, operands.addend.cast_unsigned())),
+            Formula::EntryLessGot => Ok(terms.entry(o)?.wrapping_sub(o.got_base & terms.got)),
+            Formula::Entry => terms.entry(o),
+            Formula::SymbolLessGot => Ok(terms.symbol(o).wrapping_sub(o.got_base & terms.got)),
+            Formula::PltLessGot => Ok(terms.plt(o)?.wrapping_sub(o.got_base & terms.got)),
+            Formula::PltLessPlace => Ok(terms.plt(o)?.wrapping_sub(o.place & terms.place)),
+            Formula::Size => Ok(terms.sum(o.symbol_size, o.addend.cast_unsigned())),
             Formula::Offset => {
-                if !operands.has_tls_base {
+                if !o.has_tls_base {
                     return Err(FormulaError::NoTlsBase);
                 }
-                Ok(terms.symbol(operands).wrapping_sub(operands.tls_base))
+                Ok(terms.symbol(o).wrapping_sub(o.tls_base))
             }
         }
     }

@@ -226,10 +226,6 @@ impl Architecture {
     #[must_use]
     #[inline(always)]
     pub fn of_handle(handle: u32) -> Option<Architecture> {
-        // without this test the others become a jump by the quotient, which takes more instructions
-        if handle < HANDLE_UNIT {
-            return None;
-        }
         architectures!([of_handle](handle))
     }
 
@@ -353,9 +349,12 @@ fn number_or_zero(bytes: &[u8]) -> u64 {
     crate::readers::read_uleb128(&mut content).unwrap_or(0)
 }
 
-/// The number that the values of a pair make of the existing one, by the role
-/// of its first relocation.
-fn pair_number(role: Uleb128Role, bytes: &[u8], first: u64, second: u64) -> u64 {
+/// The number that the values of a pair make of the one that bytes begin with, modulo 2^64, by the
+/// role of its first relocation: the difference of both, which `Adds` adds to the existing number;
+/// that is 0 where bytes begin with none.
+#[must_use]
+#[inline]
+pub fn pair_number(role: Uleb128Role, bytes: &[u8], first: u64, second: u64) -> u64 {
     let difference = first.wrapping_sub(second);
     match role {
         Uleb128Role::Adds => number_or_zero(bytes).wrapping_add(difference),

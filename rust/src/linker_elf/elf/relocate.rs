@@ -59,7 +59,7 @@ fn load(len: usize, bytes: &[u8]) -> u64 {
 
 /// Sets the first `len` bytes to the lowest of a number.
 #[inline(always)]
-fn store(len: usize, number: u64, bytes: &mut [u8]) {
+pub(crate) fn store(len: usize, number: u64, bytes: &mut [u8]) {
     // a copy of a known length is one store
     match len {
         8 => bytes[..8].copy_from_slice(&number.to_le_bytes()[..8]),
@@ -91,31 +91,7 @@ fn number_over(kind: RelocationKind, len: usize, value: i64, dest: &[u8]) -> u64
     }
 }
 
-/// Whether a relocation of whole bytes changes the existing number, rather than replacing it.
-#[inline(always)]
-fn is_over(kind: RelocationKind) -> bool {
-    matches!(
-        kind,
-        RelocationKind::AbsoluteAddition
-            | RelocationKind::AbsoluteSubtraction
-            | RelocationKind::AbsoluteSetWord6
-            | RelocationKind::AbsoluteAdditionWord6
-            | RelocationKind::AbsoluteSubtractionWord6
-    )
-}
-
-/// Writes whole bytes. Only 4 and 8 bytes of a value are written here, so that a caller saves no
-/// registers for the others.
-#[inline(always)]
-pub(crate) fn write_bytes(kind: RelocationKind, len: usize, value: i64, dest: &mut [u8]) {
-    match len {
-        8 if !is_over(kind) => store(8, value as u64, dest),
-        4 if !is_over(kind) => store(4, value as u64, dest),
-        _ => write_number(kind, len, value, dest),
-    }
-}
-
-/// Writes whole bytes, whatever their number and the relocation's kind.
+/// Writes whole bytes.
 #[inline(never)]
 pub(crate) fn write_number(kind: RelocationKind, len: usize, value: i64, dest: &mut [u8]) {
     let number = number_over(kind, len, value, dest);

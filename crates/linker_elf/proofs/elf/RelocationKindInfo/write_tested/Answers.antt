@@ -36,7 +36,7 @@ returns-in-ByteSize-clause-ok c =
           (subst (λ t. t.least ≤ℤ c.args.value) c.requires.tests low)
           (subst (λ t. c.args.value ≤ℤ t.last) c.requires.tests high) (search rules);
     } in
-    writes_row row c.args.value c.args.dest.now c.write_bytes.new.dest c.ranges.value accepted (rw c.in-ByteSize.is (search rules))
+    writes_row row c.args.value c.args.dest.now c.write_number.new.dest c.ranges.value accepted (rw c.in-ByteSize.is (search rules))
 
 pub returns-then-value-tests-clause-err : goal.returns-then-value-tests-clause-err
 returns-then-value-tests-clause-err c =
