@@ -193,33 +193,38 @@ pub(crate) fn all_hold(tests: &'static [WordTest], section: &[u8], offset: u64, 
 {
     match tests {
         [] => true,
-        [a] => a.holds(section, offset, len),
-        [a, b] => a.holds(section, offset, len) && b.holds(section, offset, len),
-        [a, b, c] => {
+        [a, more @ ..] => {
             a.holds(section, offset, len)
-                && b.holds(section, offset, len)
-                && c.holds(section, offset, len)
-        }
-        [a, b, c, d] => {
-            a.holds(section, offset, len)
-                && b.holds(section, offset, len)
-                && c.holds(section, offset, len)
-                && d.holds(section, offset, len)
-        }
-        [a, b, c, d, e] => {
-            a.holds(section, offset, len)
-                && b.holds(section, offset, len)
-                && c.holds(section, offset, len)
-                && d.holds(section, offset, len)
-                && e.holds(section, offset, len)
-        }
-        [a, b, c, d, e, f, ..] => {
-            a.holds(section, offset, len)
-                && b.holds(section, offset, len)
-                && c.holds(section, offset, len)
-                && d.holds(section, offset, len)
-                && e.holds(section, offset, len)
-                && f.holds(section, offset, len)
+                && match more {
+                    [] => true,
+                    [b, more @ ..] => {
+                        b.holds(section, offset, len)
+                            && match more {
+                                [] => true,
+                                [c, more @ ..] => {
+                                    c.holds(section, offset, len)
+                                        && match more {
+                                            [] => true,
+                                            [d, more @ ..] => {
+                                                d.holds(section, offset, len)
+                                                    && match more {
+                                                        [] => true,
+                                                        [e, more @ ..] => {
+                                                            e.holds(section, offset, len)
+                                                                && match more {
+                                                                    [] => true,
+                                                                    [f, ..] => f.holds(
+                                                                        section, offset, len,
+                                                                    ),
+                                                                }
+                                                        }
+                                                    }
+                                            }
+                                        }
+                                }
+                            }
+                    }
+                }
         }
     }
 }
