@@ -1,5 +1,5 @@
 -- Steps of LoongArch's instructions.
-use Rattle.std.proofs.Common.{◌≡◌, ◌≢◌, ℕ, ◌+◌, ◌-◌, Bool, true, false, refl, sym, ◌∙◌, ap}
+use Rattle.std.proofs.Common.{◌≡◌, ◌≢◌, ℕ, Bool, true, false, refl, sym, ◌∙◌, ap}
 use Rattle.std.proofs.Common.{subst, List, [], ◌∷◌, eqb, cond, ℤ, pos, ◌+ℤ◌, Some}
 use Rattle.std.proofs.Common.{None}
 use Rattle.std.specs.Prelude.{IsSomeAnd}

@@ -153,7 +153,6 @@ impl RelaxationKind {
     ///
     /// - `self.can_apply(section_bytes, *offset_in_section)`
     #[cfg_attr(debug_assertions, track_caller)]
-    #[inline]
     pub fn apply(self, section_bytes: &mut [u8], offset_in_section: &mut u64, addend: &mut i64) {
         debug_assert!(self.can_apply(section_bytes, *offset_in_section));
         let _ = addend;
@@ -165,7 +164,6 @@ impl RelaxationKind {
     /// and, for `MovkXn` and `LdrToAdd`, the instruction meets their requirement. For the other
     /// kinds the instruction is not tested.
     #[must_use]
-    #[inline]
     pub fn can_apply(self, section: &[u8], offset: u64) -> bool {
         rewrites!(self, row => row.can_apply(section, offset))
     }
@@ -182,7 +180,6 @@ impl RelaxationKind {
     /// the rewrite is meant for: `can_apply`, and the opcodes and registers. `NoOp` is meant for
     /// any offset and `ReplaceWithNop` for any instruction in the section.
     #[must_use]
-    #[inline]
     pub fn matches(self, section: &[u8], offset: u64) -> bool {
         rewrites!(self, row => row.is_for(section, offset))
     }

@@ -144,7 +144,6 @@ impl RelaxationKind {
     ///
     /// - `self.can_apply(section_bytes, *offset_in_section)`
     #[cfg_attr(debug_assertions, track_caller)]
-    #[inline]
     pub fn apply(self, section_bytes: &mut [u8], offset_in_section: &mut u64, addend: &mut i64) {
         debug_assert!(self.can_apply(section_bytes, *offset_in_section));
         let _ = addend;
@@ -155,7 +154,6 @@ impl RelaxationKind {
     /// Whether `apply` may be called at an offset of a section: the bytes that it rewrites lie in
     /// the section.
     #[must_use]
-    #[inline]
     pub fn can_apply(self, section: &[u8], offset: u64) -> bool {
         window_is_in(section, offset, self.window())
     }
@@ -174,7 +172,6 @@ impl RelaxationKind {
     /// meant for `addi.w`, `addi.d`, `preld`, and loads and stores of integers, floating-point
     /// numbers and vectors with a signed offset of 12 bits.
     #[must_use]
-    #[inline]
     pub fn matches(self, section: &[u8], offset: u64) -> bool {
         rewrites!(self, row => row.is_for(section, offset))
     }

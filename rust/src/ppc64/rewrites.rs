@@ -272,7 +272,6 @@ impl RelaxationKind {
     ///
     /// - `self.can_apply(section_bytes, *offset_in_section)`
     #[cfg_attr(debug_assertions, track_caller)]
-    #[inline]
     pub fn apply(self, section_bytes: &mut [u8], offset_in_section: &mut u64, addend: &mut i64) {
         debug_assert!(self.can_apply(section_bytes, *offset_in_section));
         let offset = *offset_in_section;
@@ -286,7 +285,6 @@ impl RelaxationKind {
     /// Whether `apply` may be called at an offset of a section: the window lies in the section. The
     /// instruction is not tested.
     #[must_use]
-    #[inline]
     pub fn can_apply(self, section: &[u8], offset: u64) -> bool {
         window_is_in(section, offset, self.window())
     }
@@ -307,7 +305,6 @@ impl RelaxationKind {
     /// multiple of 4, and for `AddToMove` and `IndexedToDirect` one byte on, as the ABI places
     /// `R_PPC64_TLS` of prefixed code.
     #[must_use]
-    #[inline]
     pub fn matches(self, section: &[u8], offset: u64) -> bool {
         rewrites!(self, row => row.is_for(section, offset))
     }

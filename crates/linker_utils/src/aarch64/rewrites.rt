@@ -158,7 +158,6 @@ impl RelaxationKind {
 
     /// Rewrites the instruction at an offset of a section. All other bytes, the offset and the
     /// addend are unchanged.
-    #[inline]
     pub fn apply(self, section_bytes: &mut [u8], offset_in_section: &mut u64, addend: &mut i64)
         requires { CanRewrite (aarch64_rewrite self) section_bytes.old offset_in_section.old }
         ensures bytes { section_bytes.new
@@ -175,7 +174,6 @@ impl RelaxationKind {
     /// Whether `apply` may be called at an offset of a section: the window lies in the section,
     /// and, for `MovkXn` and `LdrToAdd`, the instruction meets their requirement. For the other
     /// kinds the instruction is not tested.
-    #[inline]
     pub fn can_apply(self, section: &[u8], offset: u64) -> bool
         ensures { IsTrue result ↔ CanRewrite (aarch64_rewrite self) section.now offset }
     {
@@ -194,7 +192,6 @@ impl RelaxationKind {
     /// Whether the instruction at an offset of a section, or the pair that ends there, is one that
     /// the rewrite is meant for: `can_apply`, and the opcodes and registers. `NoOp` is meant for
     /// any offset and `ReplaceWithNop` for any instruction in the section.
-    #[inline]
     pub fn matches(self, section: &[u8], offset: u64) -> bool
         ensures exactly { IsTrue result ↔ aarch64_matches self section.now offset }
         ensures rewritable { IsTrue result → CanRewrite (aarch64_rewrite self) section.now offset }

@@ -148,7 +148,6 @@ impl RelaxationKind {
 
     /// Rewrites the instruction at an offset of a section. All other bytes, the offset and the
     /// addend are unchanged.
-    #[inline]
     pub fn apply(self, section_bytes: &mut [u8], offset_in_section: &mut u64, addend: &mut i64)
         requires { CanRewrite (loongarch_rewrite self) section_bytes.old offset_in_section.old }
         ensures bytes { section_bytes.new
@@ -164,7 +163,6 @@ impl RelaxationKind {
 
     /// Whether `apply` may be called at an offset of a section: the bytes that it rewrites lie in
     /// the section.
-    #[inline]
     pub fn can_apply(self, section: &[u8], offset: u64) -> bool
         ensures { IsTrue result ↔ CanRewrite (loongarch_rewrite self) section.now offset }
     {
@@ -185,7 +183,6 @@ impl RelaxationKind {
     /// offset, and `ReplaceWithNop` and `Delete` for any instruction in the section. `BaseToTp` is
     /// meant for `addi.w`, `addi.d`, `preld`, and loads and stores of integers, floating-point
     /// numbers and vectors with a signed offset of 12 bits.
-    #[inline]
     pub fn matches(self, section: &[u8], offset: u64) -> bool
         ensures exactly { IsTrue result ↔ loongarch_matches self section.now offset }
         ensures rewritable { IsTrue result

@@ -284,7 +284,6 @@ impl RelaxationKind {
     /// Rewrites the instruction at an offset of a section. All other bytes are unchanged. So are
     /// the addend, except that it is 0 after `AddiAfterLis`, and the offset, except that
     /// `CallToAddi`, `CallToAdd` and `CallToAddi4096` move it 4 bytes on.
-    #[inline]
     pub fn apply(self, section_bytes: &mut [u8], offset_in_section: &mut u64, addend: &mut i64)
         requires { CanRewrite (ppc64_rewrite self) section_bytes.old offset_in_section.old }
         ensures bytes { section_bytes.new
@@ -303,7 +302,6 @@ impl RelaxationKind {
 
     /// Whether `apply` may be called at an offset of a section: the window lies in the section. The
     /// instruction is not tested.
-    #[inline]
     pub fn can_apply(self, section: &[u8], offset: u64) -> bool
         ensures { IsTrue result ↔ CanRewrite (ppc64_rewrite self) section.now offset }
     {
@@ -326,7 +324,6 @@ impl RelaxationKind {
     /// which changes its base, nor a store of the base itself. What adds register 13 is meant at a
     /// multiple of 4, and for `AddToMove` and `IndexedToDirect` one byte on, as the ABI places
     /// `R_PPC64_TLS` of prefixed code.
-    #[inline]
     pub fn matches(self, section: &[u8], offset: u64) -> bool
         ensures exactly { IsTrue result ↔ ppc64_matches self section.now offset }
         ensures rewritable { IsTrue result → CanRewrite (ppc64_rewrite self) section.now offset }

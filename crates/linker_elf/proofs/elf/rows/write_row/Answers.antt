@@ -1,4 +1,4 @@
-use Rattle.std.proofs.Common.{◌≤◌, ◌≤ℤ◌, arith, rules, subst, sym, length}
+use Rattle.std.proofs.Common.{◌≤◌, ◌≤ℤ◌, arith, rules, subst, length}
 use Rattle.std.specs.Int.{w64}
 use Rattle.std.proofs.lemmas.Int.{ints, to_z-of_z}
 use Rattle.linker_elf.specs.Relocate.{IsAligned, IsWritten}
