@@ -144,6 +144,7 @@ impl RelaxationKind {
     ///
     /// - `self.can_apply(section_bytes, *offset_in_section)`
     #[cfg_attr(debug_assertions, track_caller)]
+    #[inline]
     pub fn apply(self, section_bytes: &mut [u8], offset_in_section: &mut u64, addend: &mut i64) {
         debug_assert!(self.can_apply(section_bytes, *offset_in_section));
         let _ = addend;

@@ -158,6 +158,7 @@ impl RelaxationKind {
 
     /// Rewrites the instruction at an offset of a section. All other bytes, the offset and the
     /// addend are unchanged.
+    #[inline]
     pub fn apply(self, section_bytes: &mut [u8], offset_in_section: &mut u64, addend: &mut i64)
         requires { CanRewrite (aarch64_rewrite self) section_bytes.old offset_in_section.old }
         ensures bytes { section_bytes.new

@@ -284,6 +284,7 @@ impl RelaxationKind {
     /// Rewrites the instruction at an offset of a section. All other bytes are unchanged. So are
     /// the addend, except that it is 0 after `AddiAfterLis`, and the offset, except that
     /// `CallToAddi`, `CallToAdd` and `CallToAddi4096` move it 4 bytes on.
+    #[inline]
     pub fn apply(self, section_bytes: &mut [u8], offset_in_section: &mut u64, addend: &mut i64)
         requires { CanRewrite (ppc64_rewrite self) section_bytes.old offset_in_section.old }
         ensures bytes { section_bytes.new
