@@ -606,7 +606,7 @@ fn lazy_entries(report: &mut Report, machine: u16) {
             let entry = sathunne::LazyEntry { address, word, header, index };
             // SAFETY: a slice's pointer and length are its own.
             let status = unsafe {
-                linker_utils_write_lazy_entry_nonnull(machine, &entry, code.as_mut_ptr(), 16)
+                linker_utils_write_lazy_entry_nonnull(machine, 0, &entry, code.as_mut_ptr(), 16)
             };
             assert_eq!(status, 0);
             added(sum, u64::from(code[2]))

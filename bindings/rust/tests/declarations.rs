@@ -307,10 +307,20 @@ fn forms_of(architecture: &str) -> Numbers {
     numbered.collect()
 }
 
-/// The rewrites of an architecture of the proved library's, by their numbers.
+/// The rewrites of an architecture of the proved library's, by their numbers: the arms of a match,
+/// or the rows of a table by their places.
 fn rewrites_of(architecture: &str) -> Numbers {
     let source = format!("linker_utils/src/{architecture}/rewrites");
-    arms(&source, "RelaxationKind")
+    let found = arms(&source, "RelaxationKind");
+    if !found.is_empty() {
+        return found;
+    }
+    let source = repository(&format!("crates/{source}.rt"));
+    let (_, list) = source.split_once("        by_row! {").expect("the list");
+    let (list, _) = list.split_once("        }").expect("its end");
+    let names = list.lines().filter_map(|line| line.strip_prefix("            ")?.split_once(": "));
+    let numbered = names.zip(0..).map(|((name, _), at)| (name.to_string(), at));
+    numbered.collect()
 }
 
 /// The lines `NAME = NUMBER` of a definition in the proved library's specifications. A name is the
