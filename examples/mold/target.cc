@@ -473,8 +473,9 @@ void write_pltgot_entry(Context<E> &ctx, u8 *buf, Symbol<E> &sym) {
 #if !MOLD_PPC64V2 && !MOLD_X86_64
 template <>
 void write_plt_header(Context<E> &ctx, u8 *buf) {
-    if (linker_utils_write_lazy_header(E::e_machine, ctx.plt->shdr.sh_addr,
-                                       ctx.gotplt->shdr.sh_addr, buf, E::plt_hdr_size))
+    if (linker_utils_write_lazy_header(E::e_machine, LINKER_UTILS_LAZY_PLAIN,
+                                       ctx.plt->shdr.sh_addr, ctx.gotplt->shdr.sh_addr, buf,
+                                       E::plt_hdr_size))
         Fatal(ctx) << ".got.plt is out of reach";
 }
 
@@ -482,32 +483,46 @@ template <>
 void write_plt_entry(Context<E> &ctx, u8 *buf, Symbol<E> &sym) {
     linker_utils_lazy_entry entry = {sym.get_plt_addr(ctx), sym.get_gotplt_addr(ctx),
                                      ctx.plt->shdr.sh_addr, (u64)sym.get_plt_idx(ctx)};
-    if (linker_utils_write_lazy_entry(E::e_machine, &entry, buf, E::plt_size))
+    if (linker_utils_write_lazy_entry(E::e_machine, LINKER_UTILS_LAZY_PLAIN, &entry, buf,
+                                      E::plt_size))
         Fatal(ctx) << sym << ": its entry of .got.plt is out of reach";
 }
 #endif
 
 #if MOLD_ARM64LE
-static u64 stub_len() {
+static u64 stub_len(u32 kind) {
     linker_utils_stub stub = {};
-    (void)!linker_utils_get_stub(E::e_machine, LINKER_UTILS_STUB_JUMP, &stub);
+    (void)!linker_utils_get_stub(E::e_machine, kind, &stub);
     return stub.len;
 }
 
+// A distance still gets shorter, by which that of pages may grow by one.
 template <>
 void Thunk<E>::shrink_size(Context<E> &ctx) {
-    offsets.clear();
-    for (i64 i = 0; i <= symbols.size(); i++)
-        offsets.push_back(i * stub_len());
+    offsets = {0};
+    for (Symbol<E> *sym : symbols) {
+        u64 place = get_addr() + offsets.back();
+        auto reaches = [&](u64 from) {
+            u8 buf[E::thunk_size];
+            return !linker_utils_write_stub(E::e_machine, LINKER_UTILS_STUB_JUMP, from,
+                                            sym->get_addr(ctx), buf, sizeof(buf));
+        };
+        bool is_far = !reaches(place - 0x1000) || !reaches(place + 0x1000);
+        u32 kind = is_far ? LINKER_UTILS_STUB_FAR_RELATIVE : LINKER_UTILS_STUB_JUMP;
+        offsets.push_back(offsets.back() + stub_len(kind));
+    }
 }
 
 template <>
 void Thunk<E>::copy_buf(Context<E> &ctx) {
     u8 *base = ctx.buf + output_section.shdr.sh_offset + offset;
-    for (i64 i = 0; i < symbols.size(); i++)
-        if (linker_utils_write_stub(E::e_machine, LINKER_UTILS_STUB_JUMP, get_addr() + offsets[i],
-                                    symbols[i]->get_addr(ctx), base + offsets[i], stub_len()) &&
-            !symbols[i]->is_remaining_undef_weak())
+    for (i64 i = 0; i < symbols.size(); i++) {
+        u64 len = offsets[i + 1] - offsets[i];
+        bool is_far = len != stub_len(LINKER_UTILS_STUB_JUMP);
+        u32 kind = is_far ? LINKER_UTILS_STUB_FAR_RELATIVE : LINKER_UTILS_STUB_JUMP;
+        if (linker_utils_write_stub(E::e_machine, kind, get_addr() + offsets[i],
+                                    symbols[i]->get_addr(ctx), base + offsets[i], len))
             Error(ctx) << *symbols[i] << ": a thunk does not reach it";
+    }
 }
 #endif
