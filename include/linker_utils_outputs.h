@@ -226,7 +226,8 @@ LINKER_UTILS_MUST_USE static inline uint32_t linker_utils_write_lazy_entry(
     size_t bytes_len);
 
 /* What the word with an index at the start of `.got.plt` holds in each form, by the addresses of
- * `.dynamic` and of the header. LINKER_UTILS_NOT_PROVIDED where that is no word before those of entries. */
+ * `.dynamic` and of the header. LINKER_UTILS_NOT_PROVIDED where that is no word before those of
+ * entries. */
 LINKER_UTILS_MUST_USE uint32_t linker_utils_lazy_header_word(
     uint16_t machine, size_t index, uint64_t dynamic, uint64_t header, uint64_t *word);
 

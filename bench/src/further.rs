@@ -682,21 +682,26 @@ fn lists(report: &mut Report, random: &mut Random) {
         report,
         "`linker_utils_write_properties`, 100 properties",
         100,
-        || unsafe { linker_utils_write_properties_nonnull(machine, from, 100, bytes, 4096, &mut needed) },
+        || unsafe {
+            linker_utils_write_properties_nonnull(machine, from, 100, bytes, 4096, &mut needed)
+        },
     );
     let len = needed;
     whole(
         report,
         "`linker_utils_read_properties`, 100 properties",
         100,
-        || unsafe { linker_utils_read_properties_nonnull(machine, bytes, len, to, 100, &mut needed) },
+        || unsafe {
+            linker_utils_read_properties_nonnull(machine, bytes, len, to, 100, &mut needed)
+        },
     );
     whole(
         report,
         "`linker_utils_merge_properties`, 100 properties",
         100,
         || unsafe {
-            linker_utils_merge_properties_nonnull(machine, from, 100, from, 100, to, 100, &mut needed)
+            let at = &mut needed;
+            linker_utils_merge_properties_nonnull(machine, from, 100, from, 100, to, 100, at)
         },
     );
     let lens: Vec<usize> = (0..CALLS).map(|k| COUNT - k).collect();
