@@ -410,7 +410,6 @@ LINKER_UTILS_MUST_USE static inline uint32_t linker_utils_pack_run(
     const struct linker_utils_run *run, uint8_t *packed, size_t packed_len, size_t *faulty);
 
 /* ---- Stubs and PLTs: how branches go that don't reach their target, or to another output.
- *
  * linker_utils_outputs.h has lazy PLTs, and `linker_utils_place_stubs` between sections. */
 
 /* How a branch goes to its target. */
@@ -450,10 +449,9 @@ LINKER_UTILS_MUST_USE uint32_t linker_utils_get_stub(
 
 /* Writes the stub of a kind that stands at the address `place` to the beginning of `bytes`: to the
  * address in the word at `target`, or to `target`. It changes only registers that a function may
- * change, in which no argument is. In protected code it is a LINKER_UTILS_STUB_LANDING_LOAD that
- * another stub goes to, or whose address is a function's in other outputs: indirect branches may go
- * to it. LINKER_UTILS_UNKNOWN_STUB; LINKER_UTILS_TOO_SHORT; where the
- * target is out of its reach the error of the first such field, as `linker_utils_relocate`. */
+ * change, in which no argument is. In protected code it is a LINKER_UTILS_STUB_LANDING_LOAD where
+ * another stub goes to it, or where its address is a function's in other outputs.
+ * LINKER_UTILS_UNKNOWN_STUB; LINKER_UTILS_TOO_SHORT; an error of `linker_utils_relocate`. */
 LINKER_UTILS_MUST_USE static inline uint32_t linker_utils_write_stub(
     uint16_t machine, uint32_t kind, uint64_t place, uint64_t target, uint8_t *bytes,
     size_t bytes_len);
