@@ -1,7 +1,8 @@
 /* SPDX-License-Identifier: MIT OR Apache-2.0 */
 /* linker_utils.h for C++17 and later: calls that take containers in place of pointers and lengths,
  * and return what they write. Each calls the function in C that its comment names, which is
- * explained with its statuses in the headers for C. A program may call both. The library is the same.
+ * explained with its statuses in the headers for C. A program may call both: the library is the
+ * same.
  *
  * - A call that can fail returns an `outcome`, or a `result`: an outcome and what the call wrote,
  *   as `std::expected`. `value()` of either throws `error` where the call failed; nothing else here

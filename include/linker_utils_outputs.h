@@ -153,16 +153,16 @@ struct linker_utils_property {
  * others, which a linker may report. False where the library has no such machine. */
 bool linker_utils_is_property_known(uint16_t machine, uint32_t kind);
 
-/* Writes the properties of a section's `notes` to the beginning of `properties`. Of the first note or
- * property that isn't well-formed, with its offset in `number`, LINKER_UTILS_NOT_PROPERTIES,
- * LINKER_UTILS_CUT_OFF, LINKER_UTILS_WRONG_SIZE, or LINKER_UTILS_NOT_ASCENDING, where its type isn't
- * above the one before it; LINKER_UTILS_TOO_SHORT, of `properties`. O(n). */
+/* Writes the properties of a section's `notes` to the beginning of `properties`. Of the first note
+ * or property that isn't well-formed, with its offset in `number`, LINKER_UTILS_NOT_PROPERTIES,
+ * LINKER_UTILS_CUT_OFF, LINKER_UTILS_WRONG_SIZE, or LINKER_UTILS_NOT_ASCENDING, where its type
+ * isn't above the one before it; LINKER_UTILS_TOO_SHORT, of `properties`. O(n). */
 LINKER_UTILS_MUST_USE static inline uint32_t linker_utils_read_properties(
     uint16_t machine, const uint8_t *notes, size_t notes_len,
     struct linker_utils_property *properties, size_t properties_len, size_t *number);
 
-/* The properties of two inputs, or of all inputs so far and of one more. Of several of one type in a
- * list the first counts. */
+/* The properties of two inputs, or of all inputs so far and of one more. Of several of one type in
+ * a list the first counts. */
 struct linker_utils_property_inputs {
     const struct linker_utils_property *first; size_t first_len;
     const struct linker_utils_property *second; size_t second_len;
@@ -175,11 +175,11 @@ LINKER_UTILS_MUST_USE static inline uint32_t linker_utils_merge_properties(
     uint16_t machine, const struct linker_utils_property_inputs *property_inputs,
     struct linker_utils_property *properties, size_t properties_len, size_t *number);
 
-/* Writes the note of `properties` to the beginning of `note`, and its length to `number`: a multiple
- * of 8, and 0 of no properties. LINKER_UTILS_TOO_LARGE, with 2^27 properties or more; of the first
- * that can't be written LINKER_UTILS_NOT_ASCENDING, with its index in `number`, or with its type
- * LINKER_UTILS_UNKNOWN_PROPERTY or LINKER_UTILS_DOES_NOT_FIT; LINKER_UTILS_TOO_SHORT, of `note`.
- * O(n). */
+/* Writes the note of `properties` to the beginning of `note`, and its length to `number`: a
+ * multiple of 8, and 0 of no properties. LINKER_UTILS_TOO_LARGE, with 2^27 properties or more; of
+ * the first that can't be written LINKER_UTILS_NOT_ASCENDING, with its index in `number`, or with
+ * its type LINKER_UTILS_UNKNOWN_PROPERTY or LINKER_UTILS_DOES_NOT_FIT; LINKER_UTILS_TOO_SHORT, of
+ * `note`. O(n). */
 LINKER_UTILS_MUST_USE static inline uint32_t linker_utils_write_properties(
     uint16_t machine, const struct linker_utils_property *properties, size_t properties_len,
     uint8_t *note, size_t note_len, size_t *number);
