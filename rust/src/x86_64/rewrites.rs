@@ -577,8 +577,13 @@ impl RelaxationKind {
     /// prefix 0x66 for operands of 16 bits assemblers write `R_X86_64_GOTPCREL`, which no rewrite
     /// is for.
     #[must_use]
-    #[inline]
     pub fn matches(self, section: &[u8], offset: u64) -> bool {
+        self.matches_inline(section, offset)
+    }
+
+    /// `matches`, where the caller knows the rewrite.
+    #[inline(always)]
+    pub(super) fn matches_inline(self, section: &[u8], offset: u64) -> bool {
         self.can_apply(section, offset) && self.is_for(section, offset)
     }
 

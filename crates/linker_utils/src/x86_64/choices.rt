@@ -46,7 +46,7 @@ impl RewriteSet for RelaxationKind {
             Pattern::Legacy(n, opcode) => is_legacy(section, offset, n, opcode),
             Pattern::LeaOfDescriptor(n) => is_lea_of_descriptor(section, offset, n),
         };
-        is_pattern && self.matches(section, offset)
+        is_pattern && self.matches_inline(section, offset)
     }
 
     #[inline(always)]

@@ -656,8 +656,15 @@ impl RelaxationKind {
     /// stays, and for the others the relocation's type says where the instruction begins. With a
     /// prefix 0x66 for operands of 16 bits assemblers write `R_X86_64_GOTPCREL`, which no rewrite
     /// is for.
-    #[inline]
     pub fn matches(self, section: &[u8], offset: u64) -> bool
+        ensures { IsTrue result ↔ x86_64_matches self section.now offset }
+    {
+        self.matches_inline(section, offset)
+    }
+
+    /// `matches`, where the caller knows the rewrite.
+    #[inline(always)]
+    pub(super) fn matches_inline(self, section: &[u8], offset: u64) -> bool
         ensures { IsTrue result ↔ x86_64_matches self section.now offset }
     {
         self.can_apply(section, offset) && self.is_for(section, offset)
