@@ -440,7 +440,7 @@ fn the_numbers_are_those_of_the_library() {
     let of_x86_64 = (0..100).filter_map(|number| {
         let rewrite = X86_64Rewrite::from_numbers(number, 3)?;
         assert_eq!(rewrite.numbers().0, number);
-        let name = format!("{rewrite:?}").replace("(3)", "(opcode_len)");
+        let name = format!("{rewrite:?}").replace("(3)", "(n)");
         Some((name, number.into()))
     });
     assert_eq!(of_x86_64.collect::<Numbers>(), rewrites_of("x86_64"));

@@ -2,8 +2,9 @@
 // Made by tools/generate of crates/linker_utils/src/x86_64/choices.rt.
 //! Which rewrite is chosen for a relocation of x86-64.
 
-use super::rewrites::{is_lea_of_descriptor, is_legacy};
+use super::rewrites::{by_row, is_lea_of_descriptor, is_legacy, of_row, rewrites};
 use super::{RelaxationKind, X86_64Relocation, X86_64Relocation as Names};
+use crate::rewrite_rows::or;
 use crate::linker_elf::elf::choice_table::{
     ChoiceTable, Chosen, RewriteSet, Table, by_table, choice_by, conditions, table_of,
 };
@@ -33,26 +34,12 @@ impl RewriteSet for RelaxationKind {
             Pattern::Legacy(n, opcode) => is_legacy(section, offset, n, opcode),
             Pattern::LeaOfDescriptor(n) => is_lea_of_descriptor(section, offset, n),
         };
-        is_pattern && self.matches(section, offset)
+        is_pattern && self.matches_inline(section, offset)
     }
 
     #[inline(always)]
     fn operands_after(self, offset: u64, operands: &Operands) -> Operands {
-        let (at, addend) = match self {
-            Self::NoOp
-            | Self::MovIndirectToLea
-            | Self::CallIndirectToRelative
-            | Self::TlsDescToInitialExec
-            | Self::SkipTlsDescCall => (offset, operands.addend),
-            Self::JmpIndirectToRelative => (offset.saturating_sub(1), operands.addend),
-            Self::TlsGdToLocalExec => (offset.wrapping_add(8), 0),
-            Self::TlsGdToLocalExecLarge => (offset.wrapping_add(9), 0),
-            Self::TlsGdToInitialExec => (offset.wrapping_add(8), operands.addend),
-            Self::TlsLdToLocalExec => (offset.wrapping_add(5), operands.addend),
-            Self::TlsLdToLocalExecNoPlt => (offset.wrapping_add(5), operands.addend),
-            Self::TlsLdToLocalExec64 => (offset.wrapping_add(15), operands.addend),
-            _ => (offset, 0),
-        };
+        let (at, addend) = rewrites!(self => [after offset operands.addend]);
         Operands {
             place: operands.place.wrapping_add(at).wrapping_sub(offset),
             addend,

@@ -9,8 +9,9 @@ ghost use Rattle.linker_utils.specs.Inner.X86Tables.{MatchesPattern, none_sample
 ghost use Rattle.linker_utils.specs.X86Rewrites as rewrites;
 ghost use Rattle.linker_utils.specs.declared.x86_64.rewrites.RelaxationKind.TheVariants as kinds;
 
-use super::rewrites::{is_lea_of_descriptor, is_legacy};
+use super::rewrites::{by_row, is_lea_of_descriptor, is_legacy, of_row, rewrites};
 use super::{RelaxationKind, X86_64Relocation, X86_64Relocation as Names};
+use crate::rewrite_rows::or;
 use linker_elf::elf::choice_table::{
     ChoiceTable, Chosen, RewriteSet, Table, by_table, choice_by, conditions, table_of,
 };
@@ -45,26 +46,12 @@ impl RewriteSet for RelaxationKind {
             Pattern::Legacy(n, opcode) => is_legacy(section, offset, n, opcode),
             Pattern::LeaOfDescriptor(n) => is_lea_of_descriptor(section, offset, n),
         };
-        is_pattern && self.matches(section, offset)
+        is_pattern && self.matches_inline(section, offset)
     }
 
     #[inline(always)]
     fn operands_after(self, offset: u64, operands: &Operands) -> Operands {
-        let (at, addend) = match self {
-            Self::NoOp
-            | Self::MovIndirectToLea
-            | Self::CallIndirectToRelative
-            | Self::TlsDescToInitialExec
-            | Self::SkipTlsDescCall => (offset, operands.addend),
-            Self::JmpIndirectToRelative => (offset.saturating_sub(1), operands.addend),
-            Self::TlsGdToLocalExec => (offset.wrapping_add(8), 0),
-            Self::TlsGdToLocalExecLarge => (offset.wrapping_add(9), 0),
-            Self::TlsGdToInitialExec => (offset.wrapping_add(8), operands.addend),
-            Self::TlsLdToLocalExec => (offset.wrapping_add(5), operands.addend),
-            Self::TlsLdToLocalExecNoPlt => (offset.wrapping_add(5), operands.addend),
-            Self::TlsLdToLocalExec64 => (offset.wrapping_add(15), operands.addend),
-            _ => (offset, 0),
-        };
+        let (at, addend) = rewrites!(self => [after offset operands.addend]);
         Operands {
             place: operands.place.wrapping_add(at).wrapping_sub(offset),
             addend,

@@ -20,6 +20,7 @@ ghost use Rattle.linker_base.specs.declared.relaxation.RelocationModifier.TheVar
 ghost use Rattle.linker_utils.specs.declared.x86_64.rewrites.RelaxationKind.TheVariants.{NoOp};
 
 use super::X86_64Relocation;
+use crate::rewrite_rows::or;
 use linker_base::relaxation::RelocationModifier;
 use linker_base::rewrite::{RewriteWindow, has_window, overwrite};
 use linker_elf::elf::InstructionRewrite;
@@ -126,44 +127,6 @@ fn moved_modrm(others: u8, byte: u8) -> u8
 {
     others + (byte >> 3 & 7)
 }
-
-// Constant bytes are copied to a local array before they are written. LLVM then knows that the
-// section doesn't overlap them, and writes them by a few stores.
-
-/// `addr32 call x`, before its field.
-const ADDR32_CALL: [u8; 2] = [0x67, 0xe8];
-
-/// `jmp x; nop`.
-const JMP_NOP: [u8; 6] = [0xe9, 0, 0, 0, 0, 0x90];
-
-/// `mov %fs:0, %rax; lea x(%rax), %rax`, before its field.
-const LOCAL_EXEC: [u8; 12] = [0x64, 0x48, 0x8b, 0x04, 0x25, 0, 0, 0, 0, 0x48, 0x8d, 0x80];
-
-/// `mov %fs:0, %rax; lea x(%rax), %rax; nopw (%rax,%rax)`.
-const LOCAL_EXEC_LARGE: [u8; 22] = [
-    0x64, 0x48, 0x8b, 0x04, 0x25, 0, 0, 0, 0, 0x48, 0x8d, 0x80, 0, 0, 0, 0, 0x66, 0x0f, 0x1f, 0x44,
-    0, 0,
-];
-
-/// `mov %fs:0, %rax`, with prefixes that do nothing.
-const THREAD_POINTER: [u8; 12] = [0x66, 0x66, 0x66, 0x64, 0x48, 0x8b, 0x04, 0x25, 0, 0, 0, 0];
-
-/// The same, a byte longer.
-const THREAD_POINTER_NO_PLT: [u8; 13] = [
-    0x66, 0x66, 0x66, 0x66, 0x64, 0x48, 0x8b, 0x04, 0x25, 0, 0, 0, 0,
-];
-
-/// `nopw %cs:(%rax,%rax); mov %fs:0, %rax`.
-const THREAD_POINTER_LARGE: [u8; 22] = [
-    0x66, 0x66, 0x66, 0x66, 0x2e, 0x0f, 0x1f, 0x84, 0, 0, 0, 0, 0, 0x64, 0x48, 0x8b, 0x04, 0x25, 0,
-    0, 0, 0,
-];
-
-/// `mov %fs:0, %rax; add x@GOTTPOFF(%rip), %rax`, before its field.
-const INITIAL_EXEC: [u8; 12] = [0x64, 0x48, 0x8b, 0x04, 0x25, 0, 0, 0, 0, 0x48, 0x03, 0x05];
-
-/// A `nop` of two bytes.
-const NOP_2: [u8; 2] = [0x66, 0x90];
 
 /// Rewrites an opcode and a ModRM byte.
 #[inline(always)]
@@ -292,14 +255,6 @@ const GENERAL_DYNAMIC_BY_GOT: [(u8, u8); 16] = pattern!(
     0x66 0x48 0x8d 0x3d any any any any 0x66 0x48 0xff 0x15 any any any any
 );
 
-const LOCAL_DYNAMIC: [(u8, u8); 12] = pattern!(
-    0x48 0x8d 0x3d any any any any 0xe8 any any any any
-);
-
-const LOCAL_DYNAMIC_BY_GOT: [(u8, u8); 13] = pattern!(
-    0x48 0x8d 0x3d any any any any 0xff 0x15 any any any any
-);
-
 const LARGE_BY_RBX: [(u8, u8); 22] = pattern!(
     0x48 0x8d 0x3d any any any any 0x48 0xb8 any any any any any any any any 0x48 0x01 0xd8
     0xff 0xd0
@@ -417,6 +372,202 @@ pub(super) fn is_lea_of_descriptor(section: &[u8], offset: u64, n: u8) -> bool
     }
 }
 
+/// Makes an edit. LLVM knows that the section doesn't overlap a local array, and writes its bytes
+/// by a few stores.
+macro_rules! edit {
+    ($section:ident, $offset:expr;) => {};
+    ($section:ident, $offset:expr; put $back:literal $bytes:tt) => {
+        let bytes = $bytes;
+        overwrite($section, $offset - $back, &bytes);
+    };
+    ($section:ident, $offset:expr; $put:ident $($of:tt)*) => {
+        $put($section, $offset, $($of),*);
+    };
+}
+
+/// How many bytes before the field the first one is that an edit writes, and how many it writes.
+macro_rules! window {
+    () => {
+        (0, 0)
+    };
+    (put $back:literal $bytes:tt) => {
+        ($back, $bytes.len() as u64)
+    };
+    (put_operand $($of:tt)*) => {
+        (2, 2)
+    };
+    (put_prefixed $($of:tt)*) => {
+        (3, 3)
+    };
+    ($put_immediate:ident $n:ident $($of:tt)*) => {
+        match $n {
+            3 | 4 => (3, 3),
+            6 => (5, 5),
+            _ => (2, 2),
+        }
+    };
+}
+
+/// Whether what a rewrite is for is there: bytes of which n are before the field, one of two
+/// sequences, an instruction that a function tests, or anything.
+macro_rules! is_there {
+    ($section:ident, $offset:ident;) => {
+        true
+    };
+    ($section:ident, $offset:ident; $back:literal $($byte:tt)*) => {
+        is_original($section, $offset, $back, &pattern!($($byte)*))
+    };
+    ($section:ident, $offset:ident; $first:ident or $second:ident after $back:literal) => {
+        is_either($section, $offset, $back, &$first, &$second)
+    };
+    ($section:ident, $offset:ident; $test:ident $first:literal or $second:literal) => {
+        $test($section, $offset, $first) || $test($section, $offset, $second)
+    };
+    ($section:ident, $offset:ident; $test:ident $($of:tt)*) => {
+        $test($section, $offset, $($of),*)
+    };
+}
+
+/// What a row says, by the name of what is asked.
+macro_rules! of_row {
+    ([number] $number:literal, $n:expr, $is:tt, $edit:tt, $moved:tt, $skip:expr) => {
+        ($number, $n)
+    };
+    ([window] $number:literal, $n:expr, $is:tt, [$($edit:tt)*], $moved:tt, $skip:expr) => {
+        window!($($edit)*)
+    };
+    ([can $section:ident $offset:ident]
+        $number:literal, $n:expr, $is:tt, [], $moved:tt, $skip:expr) => {
+        true
+    };
+    ([can $section:ident $offset:ident]
+        $number:literal, $n:expr, $is:tt, [$($edit:tt)*], $moved:tt, $skip:expr) => {{
+        let (back, len) = window!($($edit)*);
+        has_window($section, $offset, back, len)
+    }};
+    ([skip] $number:literal, $n:expr, $is:tt, $edit:tt, $moved:tt, $skip:expr) => {
+        $skip
+    };
+    ([is $section:ident $offset:ident]
+        $number:literal, $n:expr, [$($is:tt)*], $edit:tt, $moved:tt, $skip:expr) => {
+        is_there!($section, $offset; $($is)*)
+    };
+    ([edit $section:ident $offset:ident $addend:ident]
+        $number:literal, $n:expr, $is:tt, [$($edit:tt)*],
+        ($($new:literal)? $(on $on:literal)? $(back $back:literal)?), $skip:expr) => {{
+        edit!($section, *$offset; $($edit)*);
+        $(*$addend = $new;)?
+        $(*$offset += $on;)?
+        $(*$offset -= $back;)?
+    }};
+    ([after $offset:ident $addend:expr]
+        $number:literal, $n:expr, $is:tt, $edit:tt,
+        ($($new:literal)? $(on $on:literal)? $(back $back:literal)?), $skip:expr) => {
+        ($offset$(.wrapping_add($on))?$(.saturating_sub($back))?, or!($addend; $($new)?))
+    };
+}
+
+/// A match over the rewrites or their numbers. A row has the rewrite's number, what it is for, and
+/// its edit; then the addend after, how far the offset moves on or back, and how many bytes after
+/// the offset the relocation is that is skipped, where there are such.
+macro_rules! by_row {
+    (
+        kinds $value:expr, $len:expr;
+        $($kind:ident$(($n:ident))?: $number:literal [$($is:tt)*] [$($edit:tt)*]
+            $(addend $addend:literal)? $(on $on:literal)? $(back $back:literal)?
+            $(skip $skip:literal)?;)*
+    ) => {
+        match $value {
+            $($number => {
+                $(let $n = $len;)?
+                RelaxationKind::$kind$(($n))?
+            })*
+            _ => return None,
+        }
+    };
+    (
+        $value:expr => $asked:tt;
+        $($kind:ident$(($n:ident))?: $number:literal [$($is:tt)*] [$($edit:tt)*]
+            $(addend $addend:literal)? $(on $on:literal)? $(back $back:literal)?
+            $(skip $skip:literal)?;)*
+    ) => {
+        match $value {
+            $(RelaxationKind::$kind$(($n))? => {
+                $(let _ = $n;)?
+                of_row!($asked $number, or!(0; $($n)?), [$($is)*], [$($edit)*],
+                    ($($addend)? $(on $on)? $(back $back)?), or!(None; $(Some($skip))?))
+            })*
+        }
+    };
+}
+
+pub(super) use by_row;
+pub(super) use of_row;
+
+/// The rewrites. Opcode 0x81 and a ModRM byte are an operation on an immediate, 0xc7 `mov` and 0xf7
+/// `test` of one.
+macro_rules! rewrites {
+    ($($use:tt)*) => {
+        by_row! { $($use)*;
+            MovIndirectToLea: 0 [is_legacy 2 0x8b] [put 2 [0x8d]];
+            MovIndirectToAbsolute: 1 [is_legacy 2 0x8b] [put_operand 0xc7 0xc0] addend 0;
+            RexMovIndirectToAbsolute(n): 2 [is_legacy n 0x8b] [put_prefixed n 0xc7 0xc0] addend 0;
+            RexAddIndirectToAbsolute(n): 3 [is_legacy_or_evex n 0 0x03] [put_immediate n 0x81 0xc0]
+                addend 0;
+            RexSubIndirectToAbsolute(n): 4 [is_legacy n 0x2b] [put_prefixed n 0x81 0xe8] addend 0;
+            RexCmpIndirectToAbsolute(n): 5 [is_legacy n 0x3b] [put_prefixed n 0x81 0xf8] addend 0;
+            CallIndirectToRelative: 6 [2 0xff 0x15 any any any any] [put 2 [0x67, 0xe8]];
+            JmpIndirectToRelative: 7 [2 0xff 0x25 any any any any]
+                [put 2 [0xe9, 0, 0, 0, 0, 0x90]] back 1;
+            NoOp: 8 [] [];
+            // `mov %fs:0, %rax; lea x(%rax), %rax`, before its field
+            TlsGdToLocalExec: 9 [GENERAL_DYNAMIC or GENERAL_DYNAMIC_BY_GOT after 4]
+                [put 4 [0x64, 0x48, 0x8b, 0x04, 0x25, 0, 0, 0, 0, 0x48, 0x8d, 0x80]]
+                addend 0 on 8 skip 8;
+            // the same, its field, and `nopw (%rax,%rax)`
+            TlsGdToLocalExecLarge: 10 [LARGE_BY_RBX or LARGE_BY_R15 after 3]
+                [put 3 [
+                    0x64, 0x48, 0x8b, 0x04, 0x25, 0, 0, 0, 0, 0x48, 0x8d, 0x80, 0, 0, 0, 0, 0x66,
+                    0x0f, 0x1f, 0x44, 0, 0
+                ]] addend 0 on 9 skip 6;
+            // `mov %fs:0, %rax`, with prefixes that do nothing
+            TlsLdToLocalExec: 11
+                [3 0x48 0x8d 0x3d any any any any 0xe8 any any any any]
+                [put 3 [0x66, 0x66, 0x66, 0x64, 0x48, 0x8b, 0x04, 0x25, 0, 0, 0, 0]] on 5 skip 5;
+            TlsLdToLocalExecNoPlt: 12
+                [3 0x48 0x8d 0x3d any any any any 0xff 0x15 any any any any]
+                [put 3 [0x66, 0x66, 0x66, 0x66, 0x64, 0x48, 0x8b, 0x04, 0x25, 0, 0, 0, 0]]
+                on 5 skip 6;
+            // `nopw %cs:(%rax,%rax)` before it
+            TlsLdToLocalExec64: 13 [LARGE_BY_RBX or LARGE_BY_R15 after 3]
+                [put 3 [
+                    0x66, 0x66, 0x66, 0x66, 0x2e, 0x0f, 0x1f, 0x84, 0, 0, 0, 0, 0, 0x64, 0x48, 0x8b,
+                    0x04, 0x25, 0, 0, 0, 0
+                ]] on 15 skip 6;
+            // `mov %fs:0, %rax; add x@GOTTPOFF(%rip), %rax`, before its field
+            TlsGdToInitialExec: 14 [GENERAL_DYNAMIC or GENERAL_DYNAMIC_BY_GOT after 4]
+                [put 4 [0x64, 0x48, 0x8b, 0x04, 0x25, 0, 0, 0, 0, 0x48, 0x03, 0x05]] on 8 skip 8;
+            TlsDescToLocalExec(n): 15 [is_lea_of_descriptor n] [put_prefixed n 0xc7 0xc0] addend 0;
+            TlsDescToInitialExec: 16 [is_lea_of_descriptor 3 or 4] [put 2 [0x8b]];
+            SkipTlsDescCall: 17 [0 0xff 0x10] [put 0 [0x66, 0x90]];
+            RexAdcIndirectToAbsolute(n): 18 [is_legacy_or_evex n 4 0x13]
+                [call_put_immediate n 0x81 0xd0] addend 0;
+            RexAndIndirectToAbsolute(n): 19 [is_legacy_or_evex n 0 0x23]
+                [call_put_immediate n 0x81 0xe0] addend 0;
+            RexOrIndirectToAbsolute(n): 20 [is_legacy_or_evex n 0 0x0b]
+                [call_put_immediate n 0x81 0xc8] addend 0;
+            RexSbbIndirectToAbsolute(n): 21 [is_legacy_or_evex n 4 0x1b]
+                [call_put_immediate n 0x81 0xd8] addend 0;
+            RexXorIndirectToAbsolute(n): 22 [is_legacy_or_evex n 0 0x33]
+                [call_put_immediate n 0x81 0xf0] addend 0;
+            RexTestIndirectToAbsolute(n): 23 [is_legacy n 0x85] [call_put_immediate n 0xf7 0xc0]
+                addend 0;
+        }
+    };
+}
+
+pub(super) use rewrites;
+
 impl RelaxationKind {
     /// The rewrite with a number, its place in the enum. None above the last. The rewrites that
     /// have a number of bytes before the field take `opcode_len`.
@@ -424,34 +575,7 @@ impl RelaxationKind {
     pub fn from_number(number: u32, opcode_len: u8) -> Option<RelaxationKind>
         ensures { result ≡ slice_get (x86_64_rewrites opcode_len) number }
     {
-        let kind = match number {
-            0 => RelaxationKind::MovIndirectToLea,
-            1 => RelaxationKind::MovIndirectToAbsolute,
-            2 => RelaxationKind::RexMovIndirectToAbsolute(opcode_len),
-            3 => RelaxationKind::RexAddIndirectToAbsolute(opcode_len),
-            4 => RelaxationKind::RexSubIndirectToAbsolute(opcode_len),
-            5 => RelaxationKind::RexCmpIndirectToAbsolute(opcode_len),
-            6 => RelaxationKind::CallIndirectToRelative,
-            7 => RelaxationKind::JmpIndirectToRelative,
-            8 => RelaxationKind::NoOp,
-            9 => RelaxationKind::TlsGdToLocalExec,
-            10 => RelaxationKind::TlsGdToLocalExecLarge,
-            11 => RelaxationKind::TlsLdToLocalExec,
-            12 => RelaxationKind::TlsLdToLocalExecNoPlt,
-            13 => RelaxationKind::TlsLdToLocalExec64,
-            14 => RelaxationKind::TlsGdToInitialExec,
-            15 => RelaxationKind::TlsDescToLocalExec(opcode_len),
-            16 => RelaxationKind::TlsDescToInitialExec,
-            17 => RelaxationKind::SkipTlsDescCall,
-            18 => RelaxationKind::RexAdcIndirectToAbsolute(opcode_len),
-            19 => RelaxationKind::RexAndIndirectToAbsolute(opcode_len),
-            20 => RelaxationKind::RexOrIndirectToAbsolute(opcode_len),
-            21 => RelaxationKind::RexSbbIndirectToAbsolute(opcode_len),
-            22 => RelaxationKind::RexXorIndirectToAbsolute(opcode_len),
-            23 => RelaxationKind::RexTestIndirectToAbsolute(opcode_len),
-            _ => return None,
-        };
-        Some(kind)
+        Some(rewrites!(kinds number, opcode_len))
     }
 
     /// The rewrite's number and its count of bytes before the field, which `from_number` takes. The
@@ -460,32 +584,7 @@ impl RelaxationKind {
     pub fn number(self) -> (u32, u8)
         ensures { slice_get (x86_64_rewrites (result.1)) (result.0) ≡ Some self }
     {
-        match self {
-            RelaxationKind::MovIndirectToLea => (0, 0),
-            RelaxationKind::MovIndirectToAbsolute => (1, 0),
-            RelaxationKind::RexMovIndirectToAbsolute(n) => (2, n),
-            RelaxationKind::RexAddIndirectToAbsolute(n) => (3, n),
-            RelaxationKind::RexSubIndirectToAbsolute(n) => (4, n),
-            RelaxationKind::RexCmpIndirectToAbsolute(n) => (5, n),
-            RelaxationKind::CallIndirectToRelative => (6, 0),
-            RelaxationKind::JmpIndirectToRelative => (7, 0),
-            RelaxationKind::NoOp => (8, 0),
-            RelaxationKind::TlsGdToLocalExec => (9, 0),
-            RelaxationKind::TlsGdToLocalExecLarge => (10, 0),
-            RelaxationKind::TlsLdToLocalExec => (11, 0),
-            RelaxationKind::TlsLdToLocalExecNoPlt => (12, 0),
-            RelaxationKind::TlsLdToLocalExec64 => (13, 0),
-            RelaxationKind::TlsGdToInitialExec => (14, 0),
-            RelaxationKind::TlsDescToLocalExec(n) => (15, n),
-            RelaxationKind::TlsDescToInitialExec => (16, 0),
-            RelaxationKind::SkipTlsDescCall => (17, 0),
-            RelaxationKind::RexAdcIndirectToAbsolute(n) => (18, n),
-            RelaxationKind::RexAndIndirectToAbsolute(n) => (19, n),
-            RelaxationKind::RexOrIndirectToAbsolute(n) => (20, n),
-            RelaxationKind::RexSbbIndirectToAbsolute(n) => (21, n),
-            RelaxationKind::RexXorIndirectToAbsolute(n) => (22, n),
-            RelaxationKind::RexTestIndirectToAbsolute(n) => (23, n),
-        }
+        rewrites!(self => [number])
     }
 
     #[inline(always)]
@@ -497,105 +596,7 @@ impl RelaxationKind {
             ≡ offset_after (x86_64_rewrite self) offset_in_section.old }
         ensures addend { addend.new ≡ addend_after (x86_64_rewrite self) addend.old }
     {
-        let offset = *offset_in_section;
-        match self {
-            RelaxationKind::MovIndirectToLea => overwrite(section, offset - 2, &[0x8d]),
-            RelaxationKind::MovIndirectToAbsolute => {
-                *addend = 0;
-                put_operand(section, offset, 0xc7, 0xc0);
-            }
-            RelaxationKind::RexMovIndirectToAbsolute(n) => {
-                *addend = 0;
-                put_prefixed(section, offset, n, 0xc7, 0xc0);
-            }
-            RelaxationKind::RexAddIndirectToAbsolute(n) => {
-                *addend = 0;
-                put_immediate(section, offset, n, 0x81, 0xc0);
-            }
-            RelaxationKind::RexSubIndirectToAbsolute(n) => {
-                *addend = 0;
-                put_prefixed(section, offset, n, 0x81, 0xe8);
-            }
-            RelaxationKind::RexCmpIndirectToAbsolute(n) => {
-                *addend = 0;
-                put_prefixed(section, offset, n, 0x81, 0xf8);
-            }
-            RelaxationKind::CallIndirectToRelative => {
-                let bytes = ADDR32_CALL;
-                overwrite(section, offset - 2, &bytes);
-            }
-            RelaxationKind::JmpIndirectToRelative => {
-                let bytes = JMP_NOP;
-                overwrite(section, offset - 2, &bytes);
-                *offset_in_section = offset - 1;
-            }
-            RelaxationKind::NoOp => {}
-            RelaxationKind::TlsGdToLocalExec => {
-                *addend = 0;
-                let bytes = LOCAL_EXEC;
-                overwrite(section, offset - 4, &bytes);
-                *offset_in_section = offset + 8;
-            }
-            RelaxationKind::TlsGdToLocalExecLarge => {
-                *addend = 0;
-                let bytes = LOCAL_EXEC_LARGE;
-                overwrite(section, offset - 3, &bytes);
-                *offset_in_section = offset + 9;
-            }
-            RelaxationKind::TlsLdToLocalExec => {
-                let bytes = THREAD_POINTER;
-                overwrite(section, offset - 3, &bytes);
-                *offset_in_section = offset + 5;
-            }
-            RelaxationKind::TlsLdToLocalExecNoPlt => {
-                let bytes = THREAD_POINTER_NO_PLT;
-                overwrite(section, offset - 3, &bytes);
-                *offset_in_section = offset + 5;
-            }
-            RelaxationKind::TlsLdToLocalExec64 => {
-                let bytes = THREAD_POINTER_LARGE;
-                overwrite(section, offset - 3, &bytes);
-                *offset_in_section = offset + 15;
-            }
-            RelaxationKind::TlsGdToInitialExec => {
-                let bytes = INITIAL_EXEC;
-                overwrite(section, offset - 4, &bytes);
-                *offset_in_section = offset + 8;
-            }
-            RelaxationKind::TlsDescToLocalExec(n) => {
-                *addend = 0;
-                put_prefixed(section, offset, n, 0xc7, 0xc0);
-            }
-            RelaxationKind::TlsDescToInitialExec => overwrite(section, offset - 2, &[0x8b]),
-            RelaxationKind::SkipTlsDescCall => {
-                let bytes = NOP_2;
-                overwrite(section, offset, &bytes);
-            }
-            RelaxationKind::RexAdcIndirectToAbsolute(n) => {
-                *addend = 0;
-                call_put_immediate(section, offset, n, 0x81, 0xd0);
-            }
-            RelaxationKind::RexAndIndirectToAbsolute(n) => {
-                *addend = 0;
-                call_put_immediate(section, offset, n, 0x81, 0xe0);
-            }
-            RelaxationKind::RexOrIndirectToAbsolute(n) => {
-                *addend = 0;
-                call_put_immediate(section, offset, n, 0x81, 0xc8);
-            }
-            RelaxationKind::RexSbbIndirectToAbsolute(n) => {
-                *addend = 0;
-                call_put_immediate(section, offset, n, 0x81, 0xd8);
-            }
-            RelaxationKind::RexXorIndirectToAbsolute(n) => {
-                *addend = 0;
-                call_put_immediate(section, offset, n, 0x81, 0xf0);
-            }
-            RelaxationKind::RexTestIndirectToAbsolute(n) => {
-                *addend = 0;
-                call_put_immediate(section, offset, n, 0xf7, 0xc0);
-            }
-        }
+        rewrites!(self => [edit section offset_in_section addend])
     }
 
     /// Rewrites the instructions around the field at an offset of a section. The offset becomes
@@ -624,43 +625,7 @@ impl RelaxationKind {
     pub fn can_apply(self, section: &[u8], offset: u64) -> bool
         ensures { IsTrue result ↔ CanRewrite (x86_64_rewrite self) section.now offset }
     {
-        match self {
-            RelaxationKind::MovIndirectToLea => has_window(section, offset, 2, 1),
-            RelaxationKind::MovIndirectToAbsolute => has_window(section, offset, 2, 2),
-            RelaxationKind::RexMovIndirectToAbsolute(_) => has_window(section, offset, 3, 3),
-            RelaxationKind::RexSubIndirectToAbsolute(_) => has_window(section, offset, 3, 3),
-            RelaxationKind::RexCmpIndirectToAbsolute(_) => has_window(section, offset, 3, 3),
-            RelaxationKind::CallIndirectToRelative => has_window(section, offset, 2, 2),
-            RelaxationKind::JmpIndirectToRelative => has_window(section, offset, 2, 6),
-            RelaxationKind::NoOp => true,
-            RelaxationKind::TlsGdToLocalExec => has_window(section, offset, 4, 12),
-            RelaxationKind::TlsGdToLocalExecLarge => has_window(section, offset, 3, 22),
-            RelaxationKind::TlsLdToLocalExec => has_window(section, offset, 3, 12),
-            RelaxationKind::TlsLdToLocalExecNoPlt => has_window(section, offset, 3, 13),
-            RelaxationKind::TlsLdToLocalExec64 => has_window(section, offset, 3, 22),
-            RelaxationKind::TlsGdToInitialExec => has_window(section, offset, 4, 12),
-            RelaxationKind::TlsDescToLocalExec(_) => has_window(section, offset, 3, 3),
-            RelaxationKind::TlsDescToInitialExec => has_window(section, offset, 2, 1),
-            RelaxationKind::SkipTlsDescCall => has_window(section, offset, 0, 2),
-            // apart from the operations below, so that `linker_utils_apply` jumps once for `add`
-            RelaxationKind::RexAddIndirectToAbsolute(n) => match n {
-                3 | 4 => has_window(section, offset, 3, 3),
-                6 => has_window(section, offset, 5, 5),
-                _ => has_window(section, offset, 2, 2),
-            },
-            RelaxationKind::RexAdcIndirectToAbsolute(n)
-            | RelaxationKind::RexAndIndirectToAbsolute(n)
-            | RelaxationKind::RexOrIndirectToAbsolute(n)
-            | RelaxationKind::RexSbbIndirectToAbsolute(n)
-            | RelaxationKind::RexXorIndirectToAbsolute(n)
-            | RelaxationKind::RexTestIndirectToAbsolute(n) => {
-                match n {
-                    3 | 4 => has_window(section, offset, 3, 3),
-                    6 => has_window(section, offset, 5, 5),
-                    _ => has_window(section, offset, 2, 2),
-                }
-            }
-        }
+        rewrites!(self => [can section offset])
     }
 
     /// The bytes that `apply` writes; none for `NoOp`. The field whose value is written afterwards
@@ -670,34 +635,7 @@ impl RelaxationKind {
     pub fn window(self) -> RewriteWindow
         ensures { result ≡ window_of_rewrite (x86_64_rewrite self) }
     {
-        let (back, len) = match self {
-            RelaxationKind::NoOp => (0, 0),
-            RelaxationKind::MovIndirectToLea | RelaxationKind::TlsDescToInitialExec => (2, 1),
-            RelaxationKind::MovIndirectToAbsolute | RelaxationKind::CallIndirectToRelative => {
-                (2, 2)
-            }
-            RelaxationKind::RexMovIndirectToAbsolute(_)
-            | RelaxationKind::RexSubIndirectToAbsolute(_)
-            | RelaxationKind::RexCmpIndirectToAbsolute(_)
-            | RelaxationKind::TlsDescToLocalExec(_) => (3, 3),
-            RelaxationKind::JmpIndirectToRelative => (2, 6),
-            RelaxationKind::TlsGdToLocalExec | RelaxationKind::TlsGdToInitialExec => (4, 12),
-            RelaxationKind::TlsGdToLocalExecLarge | RelaxationKind::TlsLdToLocalExec64 => (3, 22),
-            RelaxationKind::TlsLdToLocalExec => (3, 12),
-            RelaxationKind::TlsLdToLocalExecNoPlt => (3, 13),
-            RelaxationKind::SkipTlsDescCall => (0, 2),
-            RelaxationKind::RexAddIndirectToAbsolute(n)
-            | RelaxationKind::RexAdcIndirectToAbsolute(n)
-            | RelaxationKind::RexAndIndirectToAbsolute(n)
-            | RelaxationKind::RexOrIndirectToAbsolute(n)
-            | RelaxationKind::RexSbbIndirectToAbsolute(n)
-            | RelaxationKind::RexXorIndirectToAbsolute(n)
-            | RelaxationKind::RexTestIndirectToAbsolute(n) => match n {
-                3 | 4 => (3, 3),
-                6 => (5, 5),
-                _ => (2, 2),
-            },
-        };
+        let (back, len) = rewrites!(self => [window]);
         RewriteWindow { back, len }
     }
 
@@ -706,61 +644,7 @@ impl RelaxationKind {
     fn is_for(self, section: &[u8], offset: u64) -> bool
         ensures { result ≡ is_one_at (x86_64_originals self) section.now offset }
     {
-        match self {
-            RelaxationKind::NoOp => true,
-            RelaxationKind::MovIndirectToLea | RelaxationKind::MovIndirectToAbsolute => {
-                is_legacy(section, offset, 2, 0x8b)
-            }
-            RelaxationKind::RexMovIndirectToAbsolute(n) => is_legacy(section, offset, n, 0x8b),
-            RelaxationKind::RexAddIndirectToAbsolute(n) => {
-                is_legacy_or_evex(section, offset, n, 0, 0x03)
-            }
-            RelaxationKind::RexSubIndirectToAbsolute(n) => is_legacy(section, offset, n, 0x2b),
-            RelaxationKind::RexCmpIndirectToAbsolute(n) => is_legacy(section, offset, n, 0x3b),
-            RelaxationKind::RexAdcIndirectToAbsolute(n) => {
-                is_legacy_or_evex(section, offset, n, 4, 0x13)
-            }
-            RelaxationKind::RexAndIndirectToAbsolute(n) => {
-                is_legacy_or_evex(section, offset, n, 0, 0x23)
-            }
-            RelaxationKind::RexOrIndirectToAbsolute(n) => {
-                is_legacy_or_evex(section, offset, n, 0, 0x0b)
-            }
-            RelaxationKind::RexSbbIndirectToAbsolute(n) => {
-                is_legacy_or_evex(section, offset, n, 4, 0x1b)
-            }
-            RelaxationKind::RexXorIndirectToAbsolute(n) => {
-                is_legacy_or_evex(section, offset, n, 0, 0x33)
-            }
-            RelaxationKind::RexTestIndirectToAbsolute(n) => is_legacy(section, offset, n, 0x85),
-            RelaxationKind::CallIndirectToRelative => {
-                is_original(section, offset, 2, &pattern!(0xff 0x15 any any any any))
-            }
-            RelaxationKind::JmpIndirectToRelative => {
-                is_original(section, offset, 2, &pattern!(0xff 0x25 any any any any))
-            }
-            RelaxationKind::TlsGdToLocalExec | RelaxationKind::TlsGdToInitialExec => is_either(
-                section,
-                offset,
-                4,
-                &GENERAL_DYNAMIC,
-                &GENERAL_DYNAMIC_BY_GOT,
-            ),
-            RelaxationKind::TlsGdToLocalExecLarge | RelaxationKind::TlsLdToLocalExec64 => {
-                is_either(section, offset, 3, &LARGE_BY_RBX, &LARGE_BY_R15)
-            }
-            RelaxationKind::TlsLdToLocalExec => is_original(section, offset, 3, &LOCAL_DYNAMIC),
-            RelaxationKind::TlsLdToLocalExecNoPlt => {
-                is_original(section, offset, 3, &LOCAL_DYNAMIC_BY_GOT)
-            }
-            RelaxationKind::TlsDescToLocalExec(n) => is_lea_of_descriptor(section, offset, n),
-            RelaxationKind::TlsDescToInitialExec => {
-                is_lea_of_descriptor(section, offset, 3) || is_lea_of_descriptor(section, offset, 4)
-            }
-            RelaxationKind::SkipTlsDescCall => {
-                is_original(section, offset, 0, &pattern!(0xff 0x10))
-            }
-        }
+        rewrites!(self => [is section offset])
     }
 
     /// Whether `apply` may be called at an offset of a section, and the bytes there are an
@@ -772,8 +656,15 @@ impl RelaxationKind {
     /// stays, and for the others the relocation's type says where the instruction begins. With a
     /// prefix 0x66 for operands of 16 bits assemblers write `R_X86_64_GOTPCREL`, which no rewrite
     /// is for.
-    #[inline]
     pub fn matches(self, section: &[u8], offset: u64) -> bool
+        ensures { IsTrue result ↔ x86_64_matches self section.now offset }
+    {
+        self.matches_inline(section, offset)
+    }
+
+    /// `matches`, where the caller knows the rewrite.
+    #[inline(always)]
+    pub(super) fn matches_inline(self, section: &[u8], offset: u64) -> bool
         ensures { IsTrue result ↔ x86_64_matches self section.now offset }
     {
         self.can_apply(section, offset) && self.is_for(section, offset)
@@ -784,31 +675,9 @@ impl RelaxationKind {
     pub fn next_modifier(&self) -> RelocationModifier
         ensures { result ≡ x86_64_modifier self.now }
     {
-        match self {
-            RelaxationKind::TlsGdToLocalExec
-            | RelaxationKind::TlsGdToLocalExecLarge
-            | RelaxationKind::TlsLdToLocalExec
-            | RelaxationKind::TlsLdToLocalExecNoPlt
-            | RelaxationKind::TlsLdToLocalExec64
-            | RelaxationKind::TlsGdToInitialExec => RelocationModifier::SkipNextRelocation,
-            RelaxationKind::MovIndirectToLea
-            | RelaxationKind::MovIndirectToAbsolute
-            | RelaxationKind::RexMovIndirectToAbsolute(_)
-            | RelaxationKind::RexAddIndirectToAbsolute(_)
-            | RelaxationKind::RexSubIndirectToAbsolute(_)
-            | RelaxationKind::RexCmpIndirectToAbsolute(_)
-            | RelaxationKind::CallIndirectToRelative
-            | RelaxationKind::JmpIndirectToRelative
-            | RelaxationKind::NoOp
-            | RelaxationKind::TlsDescToLocalExec(_)
-            | RelaxationKind::TlsDescToInitialExec
-            | RelaxationKind::SkipTlsDescCall
-            | RelaxationKind::RexAdcIndirectToAbsolute(_)
-            | RelaxationKind::RexAndIndirectToAbsolute(_)
-            | RelaxationKind::RexOrIndirectToAbsolute(_)
-            | RelaxationKind::RexSbbIndirectToAbsolute(_)
-            | RelaxationKind::RexXorIndirectToAbsolute(_)
-            | RelaxationKind::RexTestIndirectToAbsolute(_) => RelocationModifier::Normal,
+        match self.skipped_offset() {
+            Some(_) => RelocationModifier::SkipNextRelocation,
+            None => RelocationModifier::Normal,
         }
     }
 
@@ -828,20 +697,14 @@ impl RelaxationKind {
     /// assert_eq!(RelaxationKind::TlsLdToLocalExec.skipped_offset(), Some(5));
     /// ```
     #[inline]
+    #[tactic(auto, using(crate::proofs::X86Skipped::of_general_dynamic, crate::proofs::X86Skipped::of_large, crate::proofs::X86Skipped::of_local_dynamic, crate::proofs::X86Skipped::of_local_dynamic_by_got))]
     pub fn skipped_offset(self) -> Option<u64>
         ensures exactly { result ≡ x86_64_skipped self }
         ensures skipped { IfSome result (λ _. x86_64_modifier self ≡ SkipNextRelocation) }
         ensures kept { IfNone result (x86_64_modifier self ≡ Normal) }
         ensures field { IfSome result (λ n. HaveFieldAt n (x86_64_originals self)) }
     {
-        match self {
-            RelaxationKind::TlsGdToLocalExec | RelaxationKind::TlsGdToInitialExec => Some(8),
-            RelaxationKind::TlsLdToLocalExec => Some(5),
-            RelaxationKind::TlsGdToLocalExecLarge
-            | RelaxationKind::TlsLdToLocalExecNoPlt
-            | RelaxationKind::TlsLdToLocalExec64 => Some(6),
-            _ => None,
-        }
+        rewrites!(self => [skip])
     }
 }
 
