@@ -1,5 +1,5 @@
 -- The least and the last value within reach bound the values within reach.
-use Rattle.std.proofs.Common.{ℕ, List, ℤ, ◌≤ℤ◌, FitsSigned, Some, None, arith, inl, inr, int_lt}
+use Rattle.std.proofs.Common.{◌≡◌, ◌≤◌, true, length, ℕ, List, ℤ, ◌≤ℤ◌, FitsSigned, Some, None, arith, inl, inr, int_lt}
 use Rattle.std.specs.Int.{w64}
 use Rattle.std.proofs.lemmas.Bool.{cases_Bool}
 use Rattle.std.proofs.lemmas.Int.{ints}
@@ -7,7 +7,7 @@ use Rattle.linker_elf.specs.Agrees.{RowFits, SizeFits}
 use Rattle.linker_elf.specs.Elf.{IsWithin}
 use Rattle.linker_elf.specs.Bounds.{least_within, last_within}
 use Rattle.linker_elf.specs.Reach.{reach_of}
-use Rattle.linker_elf.specs.Relocate.{HoldsBits, IsReached, IsEncoded}
+use Rattle.linker_elf.specs.Relocate.{HoldsBits, IsAccepted, IsEncoded, IsMultiple, is_supported, window_len}
 use Rattle.linker_elf.specs.Rows.{Bounds}
 use Rattle.linker_elf.specs.declared.elf.RelocationSize.{RelocationSize}
 use Rattle.linker_elf.specs.declared.elf.RelocationSize.TheVariants.{ByteSize, BitMasking}
@@ -42,11 +42,13 @@ pub holds : (size : RelocationSize) (v : ℤ) (bytes : List ℕ) → SizeFits si
 holds (ByteSize n) v bytes fits = tt
 holds (BitMasking bits insn) v bytes fits = fits.fits _ _
 
-pub reached_from : (row : RelocationKindInfo) (v : ℤ) (bytes : List ℕ) → FitsSigned w64 v → RowFits row
-    → least_within (reach_of row) ≤ℤ v → v ≤ℤ last_within (reach_of row) → IsEncoded row.size v
-    → IsReached row v bytes
-reached_from row v bytes small fits low high encoded = (
-  within_from (reach_of row) v low high small,
-  holds row.size v bytes fits.size,
-  encoded,
-)
+pub accepts : (row : RelocationKindInfo) (v : ℤ) (bytes : List ℕ) → RowFits row
+    → is_supported row ≡ true → window_len row ≤ length bytes → IsMultiple row v bytes
+    → IsWithin (reach_of row) v → IsEncoded row.size v → IsAccepted row v bytes
+accepts row v bytes fits supported long aligned within encoded =
+    record {
+      supported = supported;
+      long = long;
+      aligned = aligned;
+      reached = (within, holds row.size v bytes fits.size, encoded);
+    }
