@@ -21,19 +21,11 @@ within_from (Some b) v low high small =
       | inr none ↦ let l = rw none at low in let h = rw none at high in absurd (omega (arith, ints, l, h))
     ]
 
-pub from_least : (b : Bounds) (v : ℤ) → FitsSigned w64 v → IsWithin b v → least_within b ≤ℤ v
-from_least None v small within = omega (arith, ints, small)
-from_least (Some b) v small within =
+pub ends_of : (b : Bounds) (v : ℤ) → FitsSigned w64 v → IsWithin b v → (least_within b ≤ℤ v) × (v ≤ℤ last_within b)
+ends_of None v small within = (omega (arith, ints, small), omega (arith, ints, small))
+ends_of (Some b) v small within =
     elim (cases_Bool (int_lt b.0 b.1)) [
-      | inl some ↦ rw some within.0
-      | inr none ↦ absurd (omega (arith, ints, none, within.0, within.1))
-    ]
-
-pub to_last : (b : Bounds) (v : ℤ) → FitsSigned w64 v → IsWithin b v → v ≤ℤ last_within b
-to_last None v small within = omega (arith, ints, small)
-to_last (Some b) v small within =
-    elim (cases_Bool (int_lt b.0 b.1)) [
-      | inl some ↦ rw some (omega (arith, ints, within.1))
+      | inl some ↦ (rw some within.0, rw some (omega (arith, ints, within.1)))
       | inr none ↦ absurd (omega (arith, ints, none, within.0, within.1))
     ]
 

@@ -3,23 +3,20 @@ use Rattle.std.specs.Int.{w64}
 use Rattle.std.proofs.lemmas.Int.{ints, to_z-of_z}
 use Rattle.linker_elf.specs.Reach.{reach_of}
 use Rattle.linker_elf.specs.Relocate.{IsEncoded}
-use Rattle.linker_elf.proofs.Reached.{from_least, to_last, within_from}
+use Rattle.linker_elf.proofs.Reached.{ends_of, within_from}
 use Rattle.linker_elf.proofs.elf.RelocationKindInfo.is_reached.Goals.{then-value-tests-via-then-value-tests, then-value-tests-via-else-value-tests+then-tests-value}
 use Rattle.linker_elf.proofs.elf.RelocationKindInfo.is_reached.Goals as goal
 
 pub returns-then-value-tests : goal.returns-then-value-tests
 returns-then-value-tests c =
-    let v = c.args.value in
-    let bounds = reach_of c.args.self.now in (
+    let v = c.args.value in (
       λ yes. cc,
-      λ reached. elim c.then-value-tests.branch [
-        | then-value-tests-via-then-value-tests w ↦
-            let low = subst (λ t. t.least ≤ℤ v) (sym c.requires) (from_least bounds v c.ranges.value reached.0) in
-            absurd (omega (arith, ints, low, w.if-value-tests.true))
-        | then-value-tests-via-else-value-tests+then-tests-value w ↦
-            let high = subst (λ t. v ≤ℤ t.last) (sym c.requires) (to_last bounds v c.ranges.value reached.0) in
-            absurd (omega (arith, ints, high, w.if-tests-value.true))
-      ],
+      λ reached.
+          let ends = subst (λ t. (t.least ≤ℤ v) × (v ≤ℤ t.last)) (sym c.requires) (ends_of (reach_of c.args.self.now) v c.ranges.value reached.0) in
+          elim c.then-value-tests.branch [
+            | then-value-tests-via-then-value-tests w ↦ absurd (omega (arith, ints, ends.0, w.if-value-tests.true))
+            | then-value-tests-via-else-value-tests+then-tests-value w ↦ absurd (omega (arith, ints, ends.1, w.if-tests-value.true))
+          ],
     )
 
 pub returns : goal.returns
