@@ -21,7 +21,7 @@ use Rattle.linker_elf.specs.declared.elf.RelocationKindInfo.{RelocationKindInfo}
 use Rattle.linker_elf.specs.declared.elf.RelocationSize.{RelocationSize}
 use Rattle.linker_elf.specs.declared.elf.RelocationSize.TheVariants.{ByteSize, BitMasking}
 use Rattle.linker_elf.specs.declared.elf.rows.TableRow.{TableRow}
-use Rattle.linker_elf.proofs.Reached.{reached_from}
+use Rattle.linker_elf.proofs.Reached.{accepts, within_from}
 use Rattle.linker_elf.proofs.Taken.{is_multiple}
 
 -- ---- the alignment
@@ -124,12 +124,8 @@ pub accepted : (row : RelocationKindInfo) (v : ℤ) (bytes : List ℕ) → FitsS
     → least_within (reach_of row) ≤ℤ v → v ≤ℤ last_within (reach_of row) → IsAccepted row v bytes
 accepted row v bytes small fits all long aligned low high =
     let t = takes row all in
-    record {
-      supported = t.supported;
-      long = long;
-      aligned = multiple row v bytes all aligned;
-      reached = reached_from row v bytes small fits low high (encoded row.size row.kind v t.plain);
-    }
+    accepts row v bytes fits t.supported long (multiple row v bytes all aligned)
+    (within_from (reach_of row) v low high small) (encoded row.size row.kind v t.plain)
 
 -- ---- the entry of a table
 

@@ -1,5 +1,5 @@
 -- The least and the last value within reach bound the values within reach.
-use Rattle.std.proofs.Common.{ℕ, List, ℤ, ◌≤ℤ◌, FitsSigned, Some, None, arith, inl, inr, int_lt}
+use Rattle.std.proofs.Common.{◌≡◌, ◌≤◌, true, length, ℕ, List, ℤ, ◌≤ℤ◌, FitsSigned, Some, None, arith, inl, inr, int_lt}
 use Rattle.std.specs.Int.{w64}
 use Rattle.std.proofs.lemmas.Bool.{cases_Bool}
 use Rattle.std.proofs.lemmas.Int.{ints}
@@ -7,7 +7,7 @@ use Rattle.linker_elf.specs.Agrees.{RowFits, SizeFits}
 use Rattle.linker_elf.specs.Elf.{IsWithin}
 use Rattle.linker_elf.specs.Bounds.{least_within, last_within}
 use Rattle.linker_elf.specs.Reach.{reach_of}
-use Rattle.linker_elf.specs.Relocate.{HoldsBits, IsReached, IsEncoded}
+use Rattle.linker_elf.specs.Relocate.{HoldsBits, IsAccepted, IsEncoded, IsMultiple, is_supported, window_len}
 use Rattle.linker_elf.specs.Rows.{Bounds}
 use Rattle.linker_elf.specs.declared.elf.RelocationSize.{RelocationSize}
 use Rattle.linker_elf.specs.declared.elf.RelocationSize.TheVariants.{ByteSize, BitMasking}
@@ -21,19 +21,11 @@ within_from (Some b) v low high small =
       | inr none ↦ let l = rw none at low in let h = rw none at high in absurd (omega (arith, ints, l, h))
     ]
 
-pub from_least : (b : Bounds) (v : ℤ) → FitsSigned w64 v → IsWithin b v → least_within b ≤ℤ v
-from_least None v small within = omega (arith, ints, small)
-from_least (Some b) v small within =
+pub ends_of : (b : Bounds) (v : ℤ) → FitsSigned w64 v → IsWithin b v → (least_within b ≤ℤ v) × (v ≤ℤ last_within b)
+ends_of None v small within = (omega (arith, ints, small), omega (arith, ints, small))
+ends_of (Some b) v small within =
     elim (cases_Bool (int_lt b.0 b.1)) [
-      | inl some ↦ rw some within.0
-      | inr none ↦ absurd (omega (arith, ints, none, within.0, within.1))
-    ]
-
-pub to_last : (b : Bounds) (v : ℤ) → FitsSigned w64 v → IsWithin b v → v ≤ℤ last_within b
-to_last None v small within = omega (arith, ints, small)
-to_last (Some b) v small within =
-    elim (cases_Bool (int_lt b.0 b.1)) [
-      | inl some ↦ rw some (omega (arith, ints, within.1))
+      | inl some ↦ (rw some within.0, rw some (omega (arith, ints, within.1)))
       | inr none ↦ absurd (omega (arith, ints, none, within.0, within.1))
     ]
 
@@ -42,11 +34,13 @@ pub holds : (size : RelocationSize) (v : ℤ) (bytes : List ℕ) → SizeFits si
 holds (ByteSize n) v bytes fits = tt
 holds (BitMasking bits insn) v bytes fits = fits.fits _ _
 
-pub reached_from : (row : RelocationKindInfo) (v : ℤ) (bytes : List ℕ) → FitsSigned w64 v → RowFits row
-    → least_within (reach_of row) ≤ℤ v → v ≤ℤ last_within (reach_of row) → IsEncoded row.size v
-    → IsReached row v bytes
-reached_from row v bytes small fits low high encoded = (
-  within_from (reach_of row) v low high small,
-  holds row.size v bytes fits.size,
-  encoded,
-)
+pub accepts : (row : RelocationKindInfo) (v : ℤ) (bytes : List ℕ) → RowFits row
+    → is_supported row ≡ true → window_len row ≤ length bytes → IsMultiple row v bytes
+    → IsWithin (reach_of row) v → IsEncoded row.size v → IsAccepted row v bytes
+accepts row v bytes fits supported long aligned within encoded =
+    record {
+      supported = supported;
+      long = long;
+      aligned = aligned;
+      reached = (within, holds row.size v bytes fits.size, encoded);
+    }

@@ -30,44 +30,26 @@ pub of_unnamed : {Name : Type 0} (elf : Name → ElfName) (r_type : ℕ) (name :
 of_unnamed elf r_type name code is_name is =
     record { name = name; is_name = is_name; value_is = ap unnamed (sym is_name.code_is ∙ ap code_of is) ∙ sym is }
 
--- Each name but `Other` has a text.
-pub aarch64_is_named : (name : AArch64Relocation) → ((code : ℕ) → name ≡ aarch64_names.Other code → ⊥) → IsNamed (aarch64_name name)
-aarch64_is_named (aarch64_names.Other code) isnt = absurd (isnt code refl)
-aarch64_is_named _ isnt = tt
+-- Each name but `Other` has a text, of at most 39 bytes.
+abbrev pub IsShort : ElfName → Type 0
+IsShort elf = IsNamed elf × (length (text_of elf) ≤ 39)
 
-pub riscv64_is_named : (name : RiscVRelocation) → ((code : ℕ) → name ≡ riscv64_names.Other code → ⊥) → IsNamed (riscv_name name)
-riscv64_is_named (riscv64_names.Other code) isnt = absurd (isnt code refl)
-riscv64_is_named _ isnt = tt
+pub aarch64_is_short : (name : AArch64Relocation) → ((code : ℕ) → name ≡ aarch64_names.Other code → ⊥) → IsShort (aarch64_name name)
+aarch64_is_short (aarch64_names.Other code) isnt = absurd (isnt code refl)
+aarch64_is_short _ isnt = (tt, lit≤ tt)
 
-pub loongarch64_is_named : (name : LoongArch64Relocation) → ((code : ℕ) → name ≡ loongarch64_names.Other code → ⊥) → IsNamed (loongarch_name name)
-loongarch64_is_named (loongarch64_names.Other code) isnt = absurd (isnt code refl)
-loongarch64_is_named _ isnt = tt
+pub riscv64_is_short : (name : RiscVRelocation) → ((code : ℕ) → name ≡ riscv64_names.Other code → ⊥) → IsShort (riscv_name name)
+riscv64_is_short (riscv64_names.Other code) isnt = absurd (isnt code refl)
+riscv64_is_short _ isnt = (tt, lit≤ tt)
 
-pub ppc64_is_named : (name : Ppc64Relocation) → ((code : ℕ) → name ≡ ppc64_names.Other code → ⊥) → IsNamed (ppc64_name name)
-ppc64_is_named (ppc64_names.Other code) isnt = absurd (isnt code refl)
-ppc64_is_named _ isnt = tt
+pub loongarch64_is_short : (name : LoongArch64Relocation) → ((code : ℕ) → name ≡ loongarch64_names.Other code → ⊥) → IsShort (loongarch_name name)
+loongarch64_is_short (loongarch64_names.Other code) isnt = absurd (isnt code refl)
+loongarch64_is_short _ isnt = (tt, lit≤ tt)
 
-pub x86_64_is_named : (name : X86_64Relocation) → ((code : ℕ) → name ≡ x86_64_names.Other code → ⊥) → IsNamed (x86_64_name name)
-x86_64_is_named (x86_64_names.Other code) isnt = absurd (isnt code refl)
-x86_64_is_named _ isnt = tt
+pub ppc64_is_short : (name : Ppc64Relocation) → ((code : ℕ) → name ≡ ppc64_names.Other code → ⊥) → IsShort (ppc64_name name)
+ppc64_is_short (ppc64_names.Other code) isnt = absurd (isnt code refl)
+ppc64_is_short _ isnt = (tt, lit≤ tt)
 
--- No name has more than 39 bytes.
-pub aarch64_is_short : (name : AArch64Relocation) → length (text_of (aarch64_name name)) ≤ 39
-aarch64_is_short (aarch64_names.Other code) = lit≤ tt
-aarch64_is_short _ = lit≤ tt
-
-pub riscv64_is_short : (name : RiscVRelocation) → length (text_of (riscv_name name)) ≤ 39
-riscv64_is_short (riscv64_names.Other code) = lit≤ tt
-riscv64_is_short _ = lit≤ tt
-
-pub loongarch64_is_short : (name : LoongArch64Relocation) → length (text_of (loongarch_name name)) ≤ 39
-loongarch64_is_short (loongarch64_names.Other code) = lit≤ tt
-loongarch64_is_short _ = lit≤ tt
-
-pub ppc64_is_short : (name : Ppc64Relocation) → length (text_of (ppc64_name name)) ≤ 39
-ppc64_is_short (ppc64_names.Other code) = lit≤ tt
-ppc64_is_short _ = lit≤ tt
-
-pub x86_64_is_short : (name : X86_64Relocation) → length (text_of (x86_64_name name)) ≤ 39
-x86_64_is_short (x86_64_names.Other code) = lit≤ tt
-x86_64_is_short _ = lit≤ tt
+pub x86_64_is_short : (name : X86_64Relocation) → ((code : ℕ) → name ≡ x86_64_names.Other code → ⊥) → IsShort (x86_64_name name)
+x86_64_is_short (x86_64_names.Other code) isnt = absurd (isnt code refl)
+x86_64_is_short _ isnt = (tt, lit≤ tt)

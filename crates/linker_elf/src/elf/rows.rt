@@ -8,7 +8,7 @@ ghost use Rattle.linker_elf.specs.AppliedRows.{IsAppliedBy, IsWrittenOrRejected}
 ghost use Rattle.linker_elf.specs.Entries.{IsGotAnswer, IsPltAnswer};
 ghost use Rattle.linker_elf.specs.Facts.{facts_of};
 ghost use Rattle.linker_elf.specs.Relocate.{Reaches, IsInReach, WritesRow, RejectsValue};
-ghost use Rattle.linker_elf.specs.Relocate.{window_len, is_supported, IsAligned, IsWritten};
+ghost use Rattle.linker_elf.specs.Relocate.{window_len, IsAligned, IsEncoded, IsWritten};
 ghost use Rattle.linker_elf.specs.Elf.{IsWithin};
 ghost use Rattle.linker_elf.specs.Numbers.{numbers_of};
 ghost use Rattle.linker_elf.specs.Reach.{reach_of};
@@ -453,24 +453,26 @@ fn write_plain(entry: &'static TableRow, value: i64, dest: &mut [u8])
 }
 
 impl RelocationKindInfo {
-    /// Whether a value is between the ends of `reach`, and a multiple of the row's alignment.
+    /// Whether a value is within `reach`, and an encoding holds it.
     #[inline(always)]
-    fn is_between(&self, tests: &WriteTests, value: i64) -> bool
+    fn is_reached(&self, tests: &WriteTests, value: i64) -> bool
         requires { tests.now ≡ tests_of self.now }
-        ensures { IsTrue result ↔ ((is_supported self.now ≡ true)
-            × IsWithin (reach_of self.now) value × IsAligned self.now.alignment value) }
+        ensures { IsTrue result
+            ↔ IsWithin (reach_of self.now) value × IsEncoded self.now.size value }
     {
-        tests.is_supported && self.is_aligned(value) && tests.least <= value && value <= tests.last
+        if value < tests.least || tests.last < value {
+            return false;
+        }
+        is_encoded(self.size, value)
     }
 
-    /// Whether a value is within `reach`, an encoding holds it, and it is a multiple of the row's
-    /// alignment.
+    /// Whether it is, and is a multiple of the row's alignment.
     #[inline(always)]
     fn is_in_reach(&self, tests: &WriteTests, value: i64) -> bool
         requires { tests.now ≡ tests_of self.now }
         ensures { IsTrue result ↔ IsInReach self.now value }
     {
-        self.is_between(tests, value) && is_encoded(self.size, value)
+        tests.is_supported && self.is_aligned(value) && self.is_reached(tests, value)
     }
 
     /// `write`, of a row whose bits fit its instruction.
@@ -495,7 +497,7 @@ impl RelocationKindInfo {
         if !self.is_multiple(value, dest) {
             return Err(RelocateError::Misaligned);
         }
-        if value < tests.least || tests.last < value || !is_encoded(self.size, value) {
+        if !self.is_reached(tests, value) {
             return Err(RelocateError::OutOfReach);
         }
         match self.size {

@@ -376,17 +376,19 @@ fn write_plain(entry: &'static TableRow, value: i64, dest: &mut [u8]) {
 }
 
 impl RelocationKindInfo {
-    /// Whether a value is between the ends of `reach`, and a multiple of the row's alignment.
+    /// Whether a value is within `reach`, and an encoding holds it.
     #[inline(always)]
-    fn is_between(&self, tests: &WriteTests, value: i64) -> bool {
-        tests.is_supported && self.is_aligned(value) && tests.least <= value && value <= tests.last
+    fn is_reached(&self, tests: &WriteTests, value: i64) -> bool {
+        if value < tests.least || tests.last < value {
+            return false;
+        }
+        is_encoded(self.size, value)
     }
 
-    /// Whether a value is within `reach`, an encoding holds it, and it is a multiple of the row's
-    /// alignment.
+    /// Whether it is, and is a multiple of the row's alignment.
     #[inline(always)]
     fn is_in_reach(&self, tests: &WriteTests, value: i64) -> bool {
-        self.is_between(tests, value) && is_encoded(self.size, value)
+        tests.is_supported && self.is_aligned(value) && self.is_reached(tests, value)
     }
 
     /// `write`, of a row whose bits fit its instruction.
@@ -406,7 +408,7 @@ impl RelocationKindInfo {
         if !self.is_multiple(value, dest) {
             return Err(RelocateError::Misaligned);
         }
-        if value < tests.least || tests.last < value || !is_encoded(self.size, value) {
+        if !self.is_reached(tests, value) {
             return Err(RelocateError::OutOfReach);
         }
         match self.size {

@@ -4,7 +4,7 @@ use Rattle.linker_elf.specs.RiscVRelocations.{riscv_name}
 use Rattle.linker_elf.specs.LoongArchRelocations.{loongarch_name}
 use Rattle.linker_elf.specs.Ppc64Relocations.{ppc64_name}
 use Rattle.linker_elf.specs.X86Relocations.{x86_64_name}
-use Rattle.linker_elf.proofs.RelocationNames.{of_named, of_unnamed, aarch64_is_short, riscv64_is_short, loongarch64_is_short, ppc64_is_short, x86_64_is_short, aarch64_is_named, riscv64_is_named, loongarch64_is_named, ppc64_is_named, x86_64_is_named}
+use Rattle.linker_elf.proofs.RelocationNames.{of_named, of_unnamed, aarch64_is_short, riscv64_is_short, loongarch64_is_short, ppc64_is_short, x86_64_is_short}
 use Rattle.linker_elf.proofs.elf.architecture.Architecture.name.Goals as goal
 
 pub returns-in-Other-clause-unknown : goal.returns-in-Other-clause-unknown
@@ -13,9 +13,10 @@ returns-in-Other-clause-unknown c =
 
 pub returns-in_default : goal.returns-in_default
 returns-in_default c =
+    let short = aarch64_is_short c.from_elf.result c.in_default.not-Other in
     record {
-      known = rw c.in-AArch64.is (of_named aarch64_name c.args.code c.from_elf.result c.name.result.now c.from_elf.ensures (aarch64_is_named c.from_elf.result c.in_default.not-Other) c.name.ensures);
-      short = rw c.name.ensures (aarch64_is_short c.from_elf.result);
+      known = rw c.in-AArch64.is (of_named aarch64_name c.args.code c.from_elf.result c.name.result.now c.from_elf.ensures short.0 c.name.ensures);
+      short = rw c.name.ensures short.1;
       unknown = tt;
     }
 
@@ -25,9 +26,10 @@ returns-in-Other-from_elf-clause-unknown c =
 
 pub returns-in_default-from_elf : goal.returns-in_default-from_elf
 returns-in_default-from_elf c =
+    let short = riscv64_is_short c.from_elf-in-RiscV.result c.in_default-from_elf.not-Other in
     record {
-      known = rw c.in-RiscV.is (of_named riscv_name c.args.code c.from_elf-in-RiscV.result c.name-in_default-from_elf.result.now c.from_elf-in-RiscV.ensures (riscv64_is_named c.from_elf-in-RiscV.result c.in_default-from_elf.not-Other) c.name-in_default-from_elf.ensures);
-      short = rw c.name-in_default-from_elf.ensures (riscv64_is_short c.from_elf-in-RiscV.result);
+      known = rw c.in-RiscV.is (of_named riscv_name c.args.code c.from_elf-in-RiscV.result c.name-in_default-from_elf.result.now c.from_elf-in-RiscV.ensures short.0 c.name-in_default-from_elf.ensures);
+      short = rw c.name-in_default-from_elf.ensures short.1;
       unknown = tt;
     }
 
@@ -37,9 +39,10 @@ returns-in-Other-from_elf-2-clause-unknown c =
 
 pub returns-in_default-from_elf-2 : goal.returns-in_default-from_elf-2
 returns-in_default-from_elf-2 c =
+    let short = loongarch64_is_short c.from_elf-in-LoongArch64.result c.in_default-from_elf-2.not-Other in
     record {
-      known = rw c.in-LoongArch64.is (of_named loongarch_name c.args.code c.from_elf-in-LoongArch64.result c.name-in_default-from_elf-2.result.now c.from_elf-in-LoongArch64.ensures (loongarch64_is_named c.from_elf-in-LoongArch64.result c.in_default-from_elf-2.not-Other) c.name-in_default-from_elf-2.ensures);
-      short = rw c.name-in_default-from_elf-2.ensures (loongarch64_is_short c.from_elf-in-LoongArch64.result);
+      known = rw c.in-LoongArch64.is (of_named loongarch_name c.args.code c.from_elf-in-LoongArch64.result c.name-in_default-from_elf-2.result.now c.from_elf-in-LoongArch64.ensures short.0 c.name-in_default-from_elf-2.ensures);
+      short = rw c.name-in_default-from_elf-2.ensures short.1;
       unknown = tt;
     }
 
@@ -49,9 +52,10 @@ returns-in-Other-from_elf-3-clause-unknown c =
 
 pub returns-in_default-from_elf-3 : goal.returns-in_default-from_elf-3
 returns-in_default-from_elf-3 c =
+    let short = ppc64_is_short c.from_elf-in-Ppc64.result c.in_default-from_elf-3.not-Other in
     record {
-      known = rw c.in-Ppc64.is (of_named ppc64_name c.args.code c.from_elf-in-Ppc64.result c.name-in_default-from_elf-3.result.now c.from_elf-in-Ppc64.ensures (ppc64_is_named c.from_elf-in-Ppc64.result c.in_default-from_elf-3.not-Other) c.name-in_default-from_elf-3.ensures);
-      short = rw c.name-in_default-from_elf-3.ensures (ppc64_is_short c.from_elf-in-Ppc64.result);
+      known = rw c.in-Ppc64.is (of_named ppc64_name c.args.code c.from_elf-in-Ppc64.result c.name-in_default-from_elf-3.result.now c.from_elf-in-Ppc64.ensures short.0 c.name-in_default-from_elf-3.ensures);
+      short = rw c.name-in_default-from_elf-3.ensures short.1;
       unknown = tt;
     }
 
@@ -61,8 +65,9 @@ returns-in-Other-from_elf-4-clause-unknown c =
 
 pub returns-in_default-from_elf-4 : goal.returns-in_default-from_elf-4
 returns-in_default-from_elf-4 c =
+    let short = x86_64_is_short c.from_elf-in-X86_64.result c.in_default-from_elf-4.not-Other in
     record {
-      known = rw c.in-X86_64.is (of_named x86_64_name c.args.code c.from_elf-in-X86_64.result c.name-in_default-from_elf-4.result.now c.from_elf-in-X86_64.ensures (x86_64_is_named c.from_elf-in-X86_64.result c.in_default-from_elf-4.not-Other) c.name-in_default-from_elf-4.ensures);
-      short = rw c.name-in_default-from_elf-4.ensures (x86_64_is_short c.from_elf-in-X86_64.result);
+      known = rw c.in-X86_64.is (of_named x86_64_name c.args.code c.from_elf-in-X86_64.result c.name-in_default-from_elf-4.result.now c.from_elf-in-X86_64.ensures short.0 c.name-in_default-from_elf-4.ensures);
+      short = rw c.name-in_default-from_elf-4.ensures short.1;
       unknown = tt;
     }
