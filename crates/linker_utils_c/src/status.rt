@@ -4,7 +4,7 @@ ghost use Rattle.std.specs.Prelude.{◌≡◌};
 ghost use Rattle.linker_utils_c.specs.Status.{code};
 
 /// What a call returns: the sentences of `include/linker_utils.h`. 11 and 16 are unused.
-#[derive(Debug, Clone, Copy, PartialEq, Eq)]
+#[derive(Clone, Copy, PartialEq, Eq)]
 pub enum Status {
     /// Success.
     Success,

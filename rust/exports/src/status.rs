@@ -3,7 +3,7 @@
 //! What a call returns.
 
 /// What a call returns: the sentences of `include/linker_utils.h`. 11 and 16 are unused.
-#[derive(Debug, Clone, Copy, PartialEq, Eq)]
+#[derive(Clone, Copy, PartialEq, Eq)]
 pub enum Status {
     /// Success.
     Success,

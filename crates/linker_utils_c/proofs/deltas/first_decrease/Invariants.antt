@@ -1,10 +1,11 @@
-use Rattle.std.proofs.Common.{◌-◌, ◌≤◌, length, take}
+use Rattle.std.proofs.Common.{◌-◌, ◌≤◌, ◌<◌, length, take}
 use Rattle.std.specs.List.Sorted.{IsNonDecreasing}
 use Rattle.linker_utils_c.proofs.deltas.first_decrease.Given as goal
 
 abbrev pub invariant-loop-at : goal.invariant-loop-at
 invariant-loop-at l = record {
   some : 1 ≤ l.at;
+  within : l.at < length l.queries;
   before : IsNonDecreasing (take l.at l.queries);
 }
 
