@@ -448,9 +448,9 @@ LINKER_UTILS_MUST_USE uint32_t linker_utils_get_stub(
     uint16_t machine, uint32_t kind, struct linker_utils_stub *stub);
 
 /* Writes the stub of a kind that stands at the address `place` to the beginning of `bytes`: to the
- * address in the word at `target`, or to `target`. It changes only registers that a function may
- * change, in which no argument is. In protected code it is a LINKER_UTILS_STUB_LANDING_LOAD where
- * another stub goes to it, or where its address is a function's in other outputs.
+ * address in the word at `target`, or to `target`. With LINKER_UTILS_STUB_TOC_LOAD and `_TOC_FAR`
+ * `place` is the TOC pointer. It changes only registers that a function may change, in which no
+ * argument is. In protected code indirect branches go to a LINKER_UTILS_STUB_LANDING_LOAD.
  * LINKER_UTILS_UNKNOWN_STUB; LINKER_UTILS_TOO_SHORT; an error of `linker_utils_relocate`. */
 LINKER_UTILS_MUST_USE static inline uint32_t linker_utils_write_stub(
     uint16_t machine, uint32_t kind, uint64_t place, uint64_t target, uint8_t *bytes,

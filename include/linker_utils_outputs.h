@@ -153,6 +153,21 @@ struct linker_utils_property {
  * others, which a linker may report. False where the library has no such machine. */
 bool linker_utils_is_property_known(uint16_t machine, uint32_t kind);
 
+/* The bit of a property that says that indirect branches go only to instructions that are there for
+ * them: x86-64's IBT or AArch64's BTI. The output's property has it if all inputs' have it, or if
+ * the linker adds it to them (`-z force-ibt` and `-z force-bti`). Then the output takes
+ * LINKER_UTILS_STUB_LANDING_LOAD, or a lazy PLT of a form for such code. */
+struct linker_utils_landing_property {
+    uint64_t bit;     /* as a mask of the property's value */
+    uint64_t plt_tag; /* of `.dynamic`, with the value 0: DT_AARCH64_BTI_PLT; 0 where there is none */
+    uint32_t kind;    /* the property's type */
+};
+
+/* What says that the architecture's code is so protected. LINKER_UTILS_NOT_PROVIDED where it has no
+ * such code. O(1). */
+LINKER_UTILS_MUST_USE uint32_t linker_utils_get_landing_property(
+    uint16_t machine, struct linker_utils_landing_property *landing);
+
 /* Writes the properties of a section's `notes` to the beginning of `properties`. Of the first note
  * or property that isn't well-formed, with its offset in `number`, LINKER_UTILS_NOT_PROPERTIES,
  * LINKER_UTILS_CUT_OFF, LINKER_UTILS_WRONG_SIZE, or LINKER_UTILS_NOT_ASCENDING, where its type

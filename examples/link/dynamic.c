@@ -82,8 +82,7 @@ void import(struct section *in, Elf64_Rela *r, const struct linker_utils_require
         if (ELF64_ST_VISIBILITY(s->there->st_other) == STV_PROTECTED)
             fail_at(in, r, " can't replace the protected '%s' of %s", s->name, file);
         bool is_function = ELF64_ST_TYPE(s->there->st_info) == STT_FUNC;
-        s->has_stub |= is_function;
-        s->is_canonical |= is_function;
+        s->has_stub |= is_function, s->is_canonical |= is_function;
         s->is_copied |= !is_function;
     }
 }
@@ -97,8 +96,6 @@ static void make_copy(struct symbol *s) {
         most = l->file.heads[s->there->st_shndx].sh_addralign;
     if (!s->there->st_size || s->there->st_size > MOST_BYTES)
         fail_of(&l->file, ".dynsym: '%s' can't be copied", s->name);
-    if (!most || most & (most - 1) || most > MOST_ALIGN)
-        fail_of(&l->file, ".dynsym: '%s' can't be aligned so", s->name);
     uint64_t at = make_room(bss, align && align < most ? align : most, s->there->st_size);
     add_row(bss, at, types.copy, s, 0);
     for (size_t i = 0; i <= l->file.symbols_len; i++) { /* at last itself, if by its version */
@@ -111,8 +108,7 @@ static void make_copy(struct symbol *s) {
         unsigned type = ELF64_ST_TYPE(alias->there->st_info);
         alias->elf = (Elf64_Sym){.st_info = ELF64_ST_INFO(bind, type), .st_shndx = SHN_ABS,
                                  .st_size = alias->there->st_size};
-        alias->output = bss;
-        alias->offset = at;
+        alias->output = bss, alias->offset = at;
         alias->is_imported = false;
         alias->is_exported = alias->is_copied = true;
     }
@@ -126,8 +122,7 @@ void make_imports(void) {
         if (s->is_copied && !s->output) make_copy(s);
         if (s->has_stub) s->stub = add_slot(s, s->is_canonical ? types.jump_slot : types.glob_dat);
         if (!s->has_stub || !s->is_canonical) continue;
-        s->output = stubs;
-        s->offset = s->stub;
+        s->output = stubs, s->offset = s->stub;
         s->elf.st_size = s->there->st_size;
     }
 }
@@ -228,10 +223,6 @@ static bool is_packed(const struct dynamic_row *row) {
     return relr && row->type == types.relative && !(row->offset % 8 || row->output->align % 8);
 }
 
-static int by_number(const void *left, const void *right) {
-    return order(*(const uint64_t *)left, *(const uint64_t *)right);
-}
-
 /* The addresses of a section's packed rows in order, or of all sections'; how many they are. */
 static size_t packed_places(const struct output *o, uint64_t *places) {
     size_t len = 0;
@@ -273,8 +264,7 @@ static void write_packed(void) {
 }
 
 static void put_entry(int64_t tag, uint64_t value) {
-    Elf64_Dyn entry = {.d_tag = tag, .d_un.d_val = value};
-    append(dynamic, 8, &entry, sizeof entry);
+    append(dynamic, 8, &(Elf64_Dyn){.d_tag = tag, .d_un.d_val = value}, sizeof(Elf64_Dyn));
 }
 
 /* Where a table is that isn't empty; where there are tags for them, its length and an element's. */
@@ -322,6 +312,7 @@ static void put_entries(void) {
     put_table(verneed, DT_VERNEED, 0, 0);
     if (verneed->len) put_entry(DT_VERNEEDNUM, verneed->info);
     for (size_t i = 0; i < rows_len; i++) is_static |= rows[i].type == types.thread_offset;
+    if (plt_tag) put_entry((int64_t)plt_tag, 0);
     if (linked.is_executable) put_entry(DT_DEBUG, 0);
     put_entry(DT_FLAGS, DF_BIND_NOW | (!linked.is_executable && is_static ? DF_STATIC_TLS : 0));
     put_entry(DT_FLAGS_1, DF_1_NOW | (linked.is_executable && !linked.is_fixed ? DF_1_PIE : 0));
@@ -331,8 +322,7 @@ static void put_entries(void) {
 /* Makes all that is in the tables except for addresses. */
 void make_dynamic(void) {
     uint8_t path[LINKER_UTILS_NAME_SIZE + 1] = {0};
-    size_t used = 0, most = sizeof path - 1;
-    size_t rela_len = 0;
+    size_t used = 0, most = sizeof path - 1, rela_len = 0;
     for (size_t i = 0; i < rows_len; i++) rela_len += !is_packed(&rows[i]);
     if (rela_len) make_room(rela, 8, rela_len * sizeof(Elf64_Rela));
     if (relr) make_packed();

@@ -36,7 +36,7 @@ static uint64_t add_stub(struct output *o, uint32_t kind, const char *name,
 uint64_t add_slot(struct symbol *s, uint32_t type) {
     uint64_t slot = make_room(slots, 8, 8);
     add_row(slots, slot, type, s, 0);
-    return add_stub(stubs, LINKER_UTILS_STUB_LOAD, s->name, slots, slot);
+    return add_stub(stubs, load_kind, s->name, slots, slot);
 }
 
 /* Writes all stubs. */
@@ -54,8 +54,7 @@ static void refer(struct object *o, Elf64_Rela *r, struct symbol *to, int64_t ad
     size_t at = o->symbols_len++;
     o->symbols = grow(o->symbols, at + 1, &o->symbols_room, sizeof *o->symbols);
     o->addends = grow(o->addends, at + 1, &o->addends_room, sizeof *o->addends);
-    o->symbols[at] = to;
-    o->addends[at] = addend;
+    o->symbols[at] = to, o->addends[at] = addend;
     r->r_info = ELF64_R_INFO((uint64_t)at, type_of(r));
 }
 
@@ -129,10 +128,8 @@ void require(struct object *o) {
  * program starts, the function is called, which says which address that is. */
 static void make_stub(struct symbol *s) {
     struct symbol *resolver = keep(s, sizeof *s);
-    s->output = stubs;
-    s->offset = add_slot(resolver, types.irelative);
-    s->elf.st_shndx = SHN_ABS;
-    s->elf.st_other = 0;
+    s->output = stubs, s->offset = add_slot(resolver, types.irelative);
+    s->elf.st_shndx = SHN_ABS, s->elf.st_other = 0;
 }
 
 /* Makes the stubs and the GOT. The local symbols' entries are the last. */

@@ -183,9 +183,7 @@ static void begin_run(struct place *p, uint64_t address) {
 }
 
 static void skip(struct place *p, uint64_t len) {
-    p->at += len;
-    p->low += len;
-    p->high += len;
+    p->at += len, p->low += len, p->high += len;
 }
 
 /* Aligns the next section. After code that becomes shorter this is an alignment of the run, with
@@ -199,8 +197,7 @@ static void align_next(struct place *p, struct output *o, uint64_t align) {
         o->before = alignment_item(p->at, align, len);
     }
     p->at += len;
-    p->low = round_up(p->low, align);
-    p->high = round_up(p->high, align);
+    p->low = round_up(p->low, align), p->high = round_up(p->high, align);
 }
 
 /* Puts the next section at its address. After code that becomes shorter an alignment comes first,
@@ -237,8 +234,7 @@ static void place_behind(struct place *p, struct output *o) {
  * except for its alignments. */
 void place_outputs(void) {
     struct place p = {.run = NULL};
-    first_tls = NULL;
-    tls.len = 0, tls.align = 1;
+    first_tls = NULL, tls.len = 0, tls.align = 1;
     EACH_OUTPUT(o) {
         bool is_array = o->rank >= RANK_ARRAYS && o->rank < RANK_RELOCATED;
         if (is_array && o->align < 8) o->align = 8; /* so that there is no gap between them */
@@ -262,8 +258,7 @@ void place_outputs(void) {
             if (o->is_placed) place_next(&p, o);
             else place_behind(&p, o);
             p.is_behind_placed = o->is_placed;
-            o->run = p.run;
-            o->base = p.at;
+            o->run = p.run, o->base = p.at;
             if (is_tls) first_tls = o;
         }
         if (is_tls) tls.len = o->base + o->len - first_tls->base;

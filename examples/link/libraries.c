@@ -36,10 +36,9 @@ static uint16_t version_at(const struct library *l, size_t i) {
 /* Has a library define a symbol, if none before it does; and then no archive. */
 static void define_there(struct symbol *s, struct library *l, size_t i) {
     if (s->library) return;
-    s->library = l;
+    s->library = l, s->archive = NULL;
     s->there = &l->file.mentions[i];
     s->version = version_at(l, i) & MOST_VERSIONS;
-    s->archive = NULL;
 }
 
 /* Notes the symbols of a library, those that it refers to among them, but for versions that only

@@ -9,6 +9,7 @@
  * - libraries.c: what shared libraries define
  * - layout.c: which sections the linked file has, and where they are
  * - rewrite.c: what the library chooses in each phase
+ * - properties.c: notes of what objects say of all of their code
  * - entries.c: what relocations require: the GOT, stubs and thunks
  * - dynamic.c: what the dynamic linker reads and fills
  * - relax.c: what is deleted of code
@@ -134,8 +135,9 @@ struct section {
     struct linker_utils_deletion *deleted; /* by rewrites, in their order */
     bool *kept_words; /* by relocations of words of addresses: which have to stay */
     uint32_t relocations_len, deleted_len, first_item, items_len, gap; /* before it, in such code */
-    bool is_discarded; /* SHF_EXCLUDE, or of a group that an earlier object has too */
-    bool has_loads, has_numbers; /* of addresses in the GOT; ULEB128 ones that are added to */
+    /* SHF_EXCLUDE, or of a group that an earlier object has too; loads of addresses in the GOT;
+     * ULEB128 numbers that are added to */
+    bool is_discarded, has_loads, has_numbers;
 };
 
 /* A version of a library. */
@@ -155,7 +157,11 @@ struct library {
     const struct section *names, *numbers; /* its symbols, and their versions; null: none */
 };
 
-/* Its first 64 bytes are what each pass over all symbols reads. */
+/* Its first 64 bytes are what each pass over all symbols reads. `needs_stub`: it is an indirect
+ * function. `is_imported`, `is_exported`: other files define it or may replace it, or may see it.
+ * `is_canonical`: its stub is its address in all files. `has_group`: an object has a group of its
+ * name. `is_saver`: it is of `define_runs`. `is_far`: 32 bits may not hold each distance to it.
+ * `is_required`: a library refers to it, not only weakly. */
 struct symbol {
     struct output *output; /* null where the address is absolute, and where nothing defines it */
     uint64_t offset;       /* in the output; until it is placed that of the member in its archive */
@@ -164,12 +170,9 @@ struct symbol {
     struct entry *entries; /* in the GOT */
     uint32_t dynamic;      /* in the table of dynamic symbols */
     uint16_t version;      /* in its library */
-    bool is_listed : 1, needs_stub : 1, is_thunk : 1; /* (an indirect function needs a stub) */
-    bool is_imported : 1, is_exported : 1; /* other files define or may replace it; may see it */
-    bool is_copied : 1, has_stub : 1, is_canonical : 1; /* its stub is its address in all files */
-    bool has_group : 1, is_saver : 1; /* an object has a group of its name; of `define_runs` */
-    bool is_far : 1; /* 32 bits may not hold each distance to it */
-    bool is_required : 1; /* a library refers to it, not only weakly */
+    bool is_listed : 1, needs_stub : 1, is_thunk : 1, is_imported : 1, is_exported : 1;
+    bool is_copied : 1, has_stub : 1, is_canonical : 1, has_group : 1, is_saver : 1, is_far : 1;
+    bool is_required : 1;
     uint32_t hash;               /* of a global one's name */
     const struct object *object; /* null where only an index of an archive names it */
     const char *name;
@@ -205,33 +208,42 @@ struct tls {
 };
 
 extern uint16_t machine;
-extern uint32_t machine_flags; /* `e_flags` of all objects */
+/* `e_flags` of all objects; the kind of stubs to the address in a word, by whether code is protected */
+extern uint32_t machine_flags, load_kind;
 /* whether a dynamic linker loads the linked file, whether the machine's code may become shorter,
  * whether instructions are rewritten that need not be, whether PowerPC64's local-exec is, which
- * ld.lld leaves, and RISC-V's addresses near the global pointer */
-extern bool is_dynamic, shrinks, relaxes, has_short_offsets, relaxes_near;
-extern bool has_code_on_stack; /* an object says so */
+ * ld.lld leaves, and RISC-V's addresses near the global pointer; whether an object says that code is
+ * on the stack */
+extern bool is_dynamic, shrinks, relaxes, has_short_offsets, relaxes_near, has_code_on_stack;
+extern bool has_far_symbols;
 extern struct linker_utils_link linked; /* its addresses so far as these are known */
 extern struct linker_utils_dynamic_types types;
 extern struct linker_utils_got known_got; /* likewise */
 extern const char *own_name;         /* of a shared library, by `-soname`; null where it has none */
 extern struct object *objects;       /* in the order in which they are read */
 extern struct library *libraries;    /* in their order */
-extern struct symbol *symbols;       /* all that objects mention, in their order */
-extern struct symbol *module_base;   /* `_TLS_MODULE_BASE_`; null where no object requires it */
-extern struct symbol module;         /* has the entry of the GOT that is the module's, if any */
-extern struct output *outputs[MOST_OUTPUTS + 3]; /* null after them */
-extern struct output *headers, *got, *stubs, *slots, *rela, *frames, *index_of, *bss;
-/* null where there is none: */
+/* all that objects mention, in their order; `_TLS_MODULE_BASE_`, null where no object requires it;
+ * and what has the entry of the GOT that is the module's, if any */
+extern struct symbol *symbols, *module_base, module;
+/* all, and null after them; those of the linker; and those of these that are null where there are
+ * none */
+extern struct output *outputs[MOST_OUTPUTS + 3];
+extern struct output *headers, *got, *stubs, *slots, *rela, *frames, *index_of, *bss, *note;
 extern struct output *relr, *interpreter, *dynamic, *dynsym, *dynstr, *hash_table, *versym, *verneed;
 extern size_t symbols_len, outputs_len;
-extern bool has_far_symbols;
-extern uint64_t span; /* of the linked file's addresses */
+/* the length of the linked file's addresses; the dynamic section's tag that says that code is
+ * protected, 0 where there is none */
+extern uint64_t span, plt_tag;
 extern struct tls tls;
 extern struct kind kinds[2048]; /* by type */
 extern struct linker_utils_unrelaxable_groups *kept; /* which groups of the last object stay */
 
 static inline int order(uint64_t a, uint64_t b) { return a < b ? -1 : a > b; }
+
+/* By the number that each begins with. */
+static inline int by_number(const void *left, const void *right) {
+    return order(*(const uint64_t *)left, *(const uint64_t *)right);
+}
 
 static inline unsigned bind_of(const struct symbol *s) { return ELF64_ST_BIND(s->elf.st_info); }
 static inline unsigned stt_of(const struct symbol *s) { return ELF64_ST_TYPE(s->elf.st_info); }
@@ -311,9 +323,9 @@ void import(struct section *s, Elf64_Rela *r, const struct linker_utils_requirem
 void add_row(struct output *o, uint64_t offset, uint32_t type, struct symbol *s, int64_t addend);
 void fill_entry(struct symbol *s, const struct entry *e);
 bool write_dynamic(void);
-/* relax.c, frames.c, output.c */
+/* properties.c, relax.c, frames.c, output.c */
 uint64_t read_frames(const struct section *s, const uint8_t *bytes, uint8_t *rows);
-void relax(void), index_frames(void);
+void merge_properties(const char *flag), relax(void), index_frames(void);
 Elf64_Sym symbol_of(const struct symbol *s);
 void write_file(const char *path, uint64_t entry, bool has_symbols);
 

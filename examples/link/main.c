@@ -1,6 +1,6 @@
 /* SPDX-License-Identifier: MIT OR Apache-2.0 */
 /* usage: link [-s] [--no-relax | --short-offsets | --relax-gp] [-pie | -shared [-soname NAME]]
- *             [--pack-dyn-relocs=relr] [-z now | -z relro]... -o OUTPUT
+ *             [--pack-dyn-relocs=relr] [-z now | -z relro | -z force-ibt | -z force-bti]... -o OUTPUT
  *             [--section-start=NAME=ADDRESS]... FILE...
  * A file is an object, an archive or a shared library. The output is a static executable; with
  * shared libraries an executable that they are loaded for, with `-pie` at any address; and with
@@ -18,12 +18,12 @@ uint16_t machine;
 uint32_t machine_flags;
 bool is_dynamic, shrinks, relaxes = true, has_short_offsets, relaxes_near, has_code_on_stack;
 struct output *headers, *got, *stubs, *slots, *rela, *frames, *index_of, *interpreter, *dynamic;
-struct output *bss, *dynsym, *dynstr, *hash_table, *versym, *verneed;
+struct output *bss, *note, *dynsym, *dynstr, *hash_table, *versym, *verneed;
 
 static const char usage[] =
     "usage: link [-s] [--no-relax | --short-offsets | --relax-gp] [-pie | -shared [-soname NAME]]"
-    " [--pack-dyn-relocs=relr] -o OUTPUT [--section-start=NAME=ADDRESS]... FILE...";
-static const char *path; /* of the output */
+    " [--pack-dyn-relocs=relr] [-z force-ibt | -z force-bti] -o OUTPUT [--section-start=NAME=ADDRESS]... FILE...";
+static const char *path, *flag; /* of the output; that all code is protected */
 static bool has_symbols = true, is_placed = false, packs = false;
 
 /* Ends a line of an error, or clears the one that names an object. */
@@ -86,9 +86,7 @@ static struct output *own_section(const char *name, uint64_t flags, uint32_t typ
     struct output *o = output_of(name);
     o->flags = SHF_ALLOC | flags;
     o->has_bytes = o->is_own = true;
-    o->type = type;
-    o->element = element;
-    o->link = link;
+    o->type = type, o->element = element, o->link = link;
     return o;
 }
 
@@ -100,6 +98,7 @@ static void make_sections(void) {
     slots = own_section(is_dynamic ? ".got.plt" : ".igot.plt", SHF_WRITE, 0, 0, NULL);
     index_of = own_section(".eh_frame_hdr", 0, 0, 0, NULL);
     headers = own_section("the headers", 0, 0, 0, NULL);
+    note = own_section(".note.gnu.property", 0, SHT_NOTE, 0, NULL);
     frames = output_of(".eh_frame");
     bss = output_of(".bss");
     bss->flags = SHF_ALLOC | SHF_WRITE;
@@ -127,12 +126,12 @@ static void read_arguments(char **argument) {
         if (sscanf(it, "--section-start=%*[^=]%n=%" SCNx64, &end, &address) == 1) {
             it[end] = 0;
             struct output *placed = output_of(it + strlen("--section-start="));
-            placed->place = address;
-            is_placed = placed->is_placed = true;
+            placed->place = address, is_placed = placed->is_placed = true;
             continue;
         }
         const char *next = argument[1] ? argument[1] : "";
         bool protects = !strcmp(next, "now") || !strcmp(next, "relro"); /* all outputs are so */
+        bool forces = !strcmp(next, "force-ibt") || !strcmp(next, "force-bti");
         if (!strcmp(it, "--help")) exit(puts(usage) < 0);
         if (!strcmp(it, "--version"))
             exit(printf("link, with linker_utils %s\n", linker_utils_version()) < 0);
@@ -144,6 +143,7 @@ static void read_arguments(char **argument) {
         else if (!strcmp(it, "-shared")) linked.is_fixed = linked.is_executable = false;
         else if (!strcmp(it, "--pack-dyn-relocs=relr")) packs = true;
         else if (!strcmp(it, "-z") && protects) argument++;
+        else if (!strcmp(it, "-z") && forces) flag = *++argument;
         else if (!strcmp(it, "-o") && argument[1]) path = *++argument;
         else if (!strcmp(it, "-soname") && argument[1]) own_name = *++argument;
         else read_file(it);
@@ -156,6 +156,7 @@ int main(int argc, char **argv) {
     if (is_dynamic && is_placed) fail("--section-start is for static executables");
     make_sections();
     if (!path || !objects) fail("%s", usage);
+    merge_properties(flag);
     if (!is_placed) make_room(headers, 8, HEADERS);
     shrinks = !linker_utils_section_items(machine, &(struct linker_utils_section){0}, NULL, 0,
                                           &(struct linker_utils_items){0}, NULL);

@@ -115,8 +115,7 @@ static void read_symbols(const struct section *table) {
         list_symbol(o->symbols[i]);
     }
     for (size_t i = o->resolved_len = first; i < len; i++) resolve_mention(o, i, true);
-    o->below = reading;
-    reading = o;
+    o->below = reading, reading = o;
 }
 
 /* Looks up the undefined symbols of all objects that are being read. Where one of them loads a

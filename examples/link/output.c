@@ -22,10 +22,14 @@ static Elf64_Phdr part(uint32_t type, uint32_t flags, uint64_t at, uint64_t len,
     return (Elf64_Phdr){type, flags, offset, at, at, len, len, align};
 }
 
+/* Adds the header of one that has a section, if that isn't empty. */
+static void add_part(uint32_t type, const struct output *o) {
+    if (o->len) *++load = part(type, PF_R, o->address, o->len, o->align);
+}
+
 /* Adds the header of a section. */
 static void add_head(struct output *o, uint64_t offset) {
-    o->index = (uint16_t)heads_len;
-    o->in_file = offset;
+    o->index = (uint16_t)heads_len, o->in_file = offset;
     heads[heads_len++] = (Elf64_Shdr){
         .sh_name = add_name(&strings, o->name), .sh_addr = o->address, .sh_offset = offset,
         .sh_type = o->type ? o->type : o->has_bytes ? SHT_PROGBITS : SHT_NOBITS,
@@ -76,8 +80,7 @@ static void put_symbols(uint64_t offset, Elf64_Ehdr *head, bool has_symbols) {
     add_head(outputs[outputs_len++] = &strings, offset + symbol_table.len);
     EACH_OUTPUT(o) if (o->link) heads[o->index].sh_link = o->link->index;
     head->e_shoff = round_up(offset + symbol_table.len + strings.len, 8);
-    head->e_shentsize = sizeof *heads;
-    head->e_shnum = (uint16_t)heads_len;
+    head->e_shentsize = sizeof *heads, head->e_shnum = (uint16_t)heads_len;
     head->e_shstrndx = strings.index;
 }
 
@@ -163,8 +166,10 @@ void write_file(const char *path, uint64_t entry, bool has_symbols) {
                        .e_ehsize = sizeof head, .e_phentsize = sizeof *loads};
     sort_outputs();
     if (interpreter) load += 2;
-    uint64_t offset = put_sections(), len = index_of->len;
-    if (len) *++load = part(PT_GNU_EH_FRAME, PF_R, index_of->address, len, 4);
+    uint64_t offset = put_sections();
+    add_part(PT_GNU_EH_FRAME, index_of);
+    add_part(PT_GNU_PROPERTY, note);
+    add_part(PT_NOTE, note);
     if (is_dynamic) add_dynamic_parts();
     if (write_dynamic()) head.e_ident[EI_OSABI] = ELFOSABI_GNU;
     *++load = part(PT_GNU_STACK, PF_R | PF_W | (has_code_on_stack ? PF_X : 0u), 0, 0, 16);

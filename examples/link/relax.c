@@ -81,13 +81,11 @@ static void pack_output(struct output *o) {
         uint32_t status = linker_utils_pack_run(machine, &here, &part, packed + at, len, &faulty);
         check_items(s, faulty < s->items_len ? makers[s->first_item + faulty] : SIZE_MAX, status);
         from = s->offset + s->len;
-        s->offset = at;
-        s->len = len;
+        s->offset = at, s->len = len;
         to = at + len;
     }
     free(o->bytes);
-    o->bytes = packed;
-    o->len = to;
+    o->bytes = packed, o->len = to;
 }
 
 /* Relaxes the sections of a run. */
@@ -97,8 +95,7 @@ static void relax_run(struct run *run) {
     EACH_OUTPUT(o)
         for (const struct section *s = o->first; s; s = s->behind)
             room += s->relocations_len + s->deleted_len + 1;
-    items = zeros(room, sizeof *items);
-    makers = zeros(room, sizeof *makers);
+    items = zeros(room, sizeof *items), makers = zeros(room, sizeof *makers);
     items_len = 0;
     EACH_OUTPUT(o) {
         if (o->run != run) continue;

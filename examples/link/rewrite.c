@@ -63,11 +63,6 @@ static void note_symbols(struct object *o) {
     o->facts_len = len;
 }
 
-static int by_offset(const void *left, const void *right) {
-    const struct linker_utils_deletion *a = left, *b = right;
-    return order(a->offset, b->offset);
-}
-
 /* Rewrites a section of an object in a phase, or notes which groups of it stay. With words of
  * addresses: has code compute those that it loads from there, all that load a word or none. */
 static void rewrite_in(uint32_t phase, struct section *s, const struct linker_utils_words *words,
@@ -91,11 +86,9 @@ static void rewrite_in(uint32_t phase, struct section *s, const struct linker_ut
     if (!made.deleted_used) return;
     struct linker_utils_deletion *all = take(s->deleted_len + made.deleted_used, sizeof *all);
     memcpy(all, made.deleted, made.deleted_used * sizeof *all);
-    if (s->deleted_len)
-        memcpy(all + made.deleted_used, s->deleted, s->deleted_len * sizeof *all);
-    s->deleted_len += (uint32_t)made.deleted_used;
-    s->deleted = all;
-    qsort(all, s->deleted_len, sizeof *all, by_offset);
+    if (s->deleted_len) memcpy(all + made.deleted_used, s->deleted, s->deleted_len * sizeof *all);
+    s->deleted = all, s->deleted_len += (uint32_t)made.deleted_used;
+    qsort(all, s->deleted_len, sizeof *all, by_number);
 }
 
 /* Whether the loads from the GOT of a section stay: all of it or none, as in ld.lld. One stays too
@@ -113,8 +106,7 @@ static void hide(struct object *o) {
     if (!hides) return;
     EACH_SECTION_OF(o, s)
         if (is_code(s) || s->kept_words)
-            EACH_RELOCATION(s, r)
-                if (r->r_info & HIDDEN || is_hidden(s, r)) r->r_info ^= HIDDEN;
+            EACH_RELOCATION(s, r) if (r->r_info & HIDDEN || is_hidden(s, r)) r->r_info ^= HIDDEN;
 }
 
 /* Rewrites all code of an object in a phase, or by words of addresses, after a survey. */

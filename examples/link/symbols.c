@@ -70,8 +70,7 @@ struct symbol *named_by(const char *name, uint32_t hash) {
     if (cell->symbol) return cell->symbol;
     named_len++;
     *cell = (struct cell){take(1, sizeof *cell->symbol), hash};
-    cell->symbol->name = name;
-    cell->symbol->hash = hash;
+    cell->symbol->name = name, cell->symbol->hash = hash;
     return cell->symbol;
 }
 
@@ -103,10 +102,7 @@ void resolve(struct symbol *known, struct symbol *s) {
         after += s->elf.st_size > known->elf.st_size;
     }
     unsigned seen = visibility_of(known), own = visibility_of(s);
-    if (after > before) {
-        known->elf = s->elf;
-        known->object = s->object;
-    }
+    if (after > before) known->elf = s->elf, known->object = s->object;
     /* of visibilities the stricter one counts: 0 is the least */
     known->elf.st_other &= (uint8_t)~3;
     known->elf.st_other |= (uint8_t)(seen && (!own || seen < own) ? seen : own);
@@ -125,8 +121,7 @@ bool is_needed(const struct symbol *s) {
 void offer(const char *name, struct archive *a, uint64_t member) {
     struct symbol *s = named(name);
     if (s->archive || s->library) return;
-    s->archive = a;
-    s->offset = member;
+    s->archive = a, s->offset = member;
     if (is_needed(s)) load_member(a, member);
 }
 
@@ -136,8 +131,7 @@ void list_symbol(struct symbol *s) {
     if (s->is_listed) return;
     s->is_listed = true;
     symbols_len++;
-    *end = s;
-    end = &s->later;
+    *end = s, end = &s->later;
 }
 
 /* A symbol at an offset of a section, if an object refers to it and none defines it; else null. */
@@ -146,8 +140,7 @@ static struct symbol *define(const char *name, struct output *output, uint64_t o
     if (!s || !s->object || is_defined(s)) return NULL;
     s->elf.st_shndx = SHN_ABS;
     if (is_dynamic) s->elf.st_other = STV_HIDDEN;
-    s->output = output;
-    s->offset = offset;
+    s->output = output, s->offset = offset;
     got->has_bytes |= output == got;
     return s;
 }
@@ -189,8 +182,7 @@ static void define_runs(void) {
 static void define_base(const char *name, bool is_at_pointer) {
     struct symbol *base = define(name, NULL, 0);
     if (!base) return;
-    module_base = base;
-    tls.has_base = is_at_pointer;
+    module_base = base, tls.has_base = is_at_pointer;
     base->elf.st_info = ELF64_ST_INFO(STB_GLOBAL, STT_TLS);
     base->elf.st_other = STV_HIDDEN;
 }
@@ -246,8 +238,7 @@ void place_symbols(void) {
     uint64_t most = INT32_MAX / 2 - MOST_ALIGN, tls_len = 0;
     EACH_SYMBOL(s) {
         if (s->elf.st_shndx != SHN_COMMON) continue;
-        s->output = bss;
-        s->offset = make_room(bss, s->elf.st_value, s->elf.st_size);
+        s->output = bss, s->offset = make_room(bss, s->elf.st_value, s->elf.st_size);
     }
     EACH_SECTION(s) copy_section(s);
     EACH_OUTPUT(o) tls_len += o->flags & SHF_TLS ? o->len : 0;
@@ -256,8 +247,7 @@ void place_symbols(void) {
         if (s->output) continue;
         s->offset = s->elf.st_value;
         if (!at || at >= s->object->sections_len) continue;
-        s->output = s->object->sections[at].output;
-        s->offset += s->object->sections[at].offset;
+        s->output = s->object->sections[at].output, s->offset += s->object->sections[at].offset;
         if (s->elf.st_value + most > 2 * most || (tls_len > most && is_thread_local(s)))
             s->is_far = has_far_symbols = true;
     }

@@ -50,6 +50,7 @@ static void *read_block(size_t len, int file) {
 #include "../link/main.c"
 #include "../link/objects.c"
 #include "../link/output.c"
+#include "../link/properties.c"
 #include "../link/relax.c"
 #include "../link/relocate.c"
 #include "../link/rewrite.c"

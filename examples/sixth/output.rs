@@ -76,6 +76,7 @@ pub(crate) static TARGET: Target = Target {
             path: "/lib/ld-sixth.so.1",
         },
     ],
+    landing_property: None,
     instructions: Architecture::Sixth,
     load_stub: Stub {
         head: &[
@@ -114,6 +115,10 @@ pub(crate) static TARGET: Target = Target {
     }),
     far_stub: None,
     far_relative_stub: None,
+    toc_load_stub: None,
+    toc_far_stub: None,
+    prefixed_load_stub: None,
+    prefixed_jump_stub: None,
 };
 
 /// A field at an offset, with the value of a relocation.

@@ -182,8 +182,8 @@ pub mod output {
         LazyEntry, LazyField, LazyForm, LazyPiece, LazyPlt, LazyTarget, LazyWord,
     };
     pub use crate::linker_output::properties::{
-        Property, PropertyError, PropertyRule, merge_properties, property_rule, read_properties,
-        write_properties,
+        LandingProperty, Property, PropertyError, PropertyRule, merge_properties, property_rule,
+        read_properties, write_properties,
     };
     pub use crate::linker_output::relr::{RelrError, read_relr, write_relr};
     pub use crate::linker_output::routes::{Route, RouteError};

@@ -389,6 +389,30 @@ fn stubs_to_anywhere_are_those_of_linkers() {
     assert_eq!(out[16..], 0x1000_u64.wrapping_sub(0x10_0004).to_le_bytes());
 }
 
+/// ld.lld 19's `__plt_f` and `__long_branch_far`, of words by the TOC pointer 0x2001_8140, and with
+/// `--power10-stubs=yes` `__plt_pcrel_f` and `__gep_setup_g`.
+#[test]
+fn stubs_of_ppc64_are_those_of_ld_lld() {
+    let target = Target::of(Architecture::Ppc64);
+    let toc = 0x2001_8140;
+    for (kind, place, to, entry, hex) in [
+        (StubKind::TocLoad, toc, 0x2123_4578, 4, "180041f82201823d38c48ce9a603897d2004804e"),
+        (StubKind::TocFar, toc, 0x20fe_7ff8, 0, "fd00823db8fe8ce9a603897d2004804e"),
+        (StubKind::PrefixedLoad, 0x1001_0020, 0x3123_4578, 0, "22211004584580e5a603897d2004804e"),
+        (StubKind::PrefixedJump, 0x1001_0040, 0x1001_0010, 0, "ffff1306d0ff8039a603897d2004804e"),
+    ] {
+        let expected = bytes(hex);
+        let mut out = vec![0x55; expected.len()];
+        assert_eq!(target.write_stub(kind, place, to, &mut out), Ok(()));
+        assert_eq!(out, expected, "{kind:?}");
+        let stub = target.stub(kind).unwrap();
+        assert_eq!((stub.len(), stub.entry), (expected.len() as u64, entry));
+        for other in ALL.into_iter().filter(|other| *other != Architecture::Ppc64) {
+            assert_eq!(Target::of(other).stub(kind), None);
+        }
+    }
+}
+
 #[test]
 fn stubs_are_what_assemblers_make_of_their_instructions() {
     for (architecture, kind, hex) in STUBS {
@@ -480,6 +504,22 @@ fn stubs_reach_as_far_as_their_fields() {
             (1 << 31) - 0x8001 + 12,
             1,
         ),
+        (
+            Ppc64,
+            StubKind::TocLoad,
+            -(1 << 31) - 0x8000,
+            (1 << 31) - 0x8004,
+            4,
+        ),
+        (
+            Ppc64,
+            StubKind::TocFar,
+            -(1 << 31) - 0x8000,
+            (1 << 31) - 0x8004,
+            4,
+        ),
+        (Ppc64, StubKind::PrefixedLoad, -(1i64 << 33), (1 << 33) - 1, 1),
+        (Ppc64, StubKind::PrefixedJump, -(1i64 << 33), (1 << 33) - 1, 1),
     ] {
         let target = Target::of(architecture);
         let mut out = [0; 64];
@@ -549,6 +589,7 @@ fn a_further_architecture_is_a_value() {
         runs: &[],
         interpreter_flags: 0,
         interpreters: &[],
+        landing_property: None,
         instructions: Architecture::RiscV,
         // `nop` in front, and after
         load_stub: Stub {
@@ -565,6 +606,10 @@ fn a_further_architecture_is_a_value() {
         jump_stub: None,
         far_stub: None,
         far_relative_stub: None,
+        toc_load_stub: None,
+        toc_far_stub: None,
+        prefixed_load_stub: None,
+        prefixed_jump_stub: None,
     };
     assert_eq!(
         sixth.dynamic_words(EntryClass::Address, false, true),

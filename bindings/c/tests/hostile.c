@@ -1609,6 +1609,14 @@ static void call_is_property_known(void) {
     finish(known);
 }
 
+static void call_landing_property(void) {
+    struct linker_utils_landing_property *landing = output(sizeof *landing);
+    uint16_t machine = any_machine();
+    uint32_t status = CALL(get_landing_property, machine, landing);
+    expect(status || (landing->bit && CALL(is_property_known, machine, landing->kind)), "no bit");
+    finish_with(status, 0 UNKNOWN OR(NOT_PROVIDED));
+}
+
 static void call_output_facts(void) {
     uint16_t machine = any_machine();
     uint32_t flags = (uint32_t)any_number();
@@ -1683,7 +1691,7 @@ static void call_provided_word(void) {
 
 static void call_stub(void) {
     struct linker_utils_stub *stub = output(sizeof *stub);
-    uint32_t kind = once_in(8) ? (uint32_t)any_number() : (uint32_t)below(6);
+    uint32_t kind = once_in(8) ? (uint32_t)any_number() : (uint32_t)below(10);
     uint32_t status = CALL(get_stub, any_machine(), kind, stub);
     expect(status || (stub->len <= 64 && stub->entry < stub->len), "no stub");
     finish_with(status, 0 UNKNOWN OR(UNKNOWN_STUB));
@@ -1691,7 +1699,7 @@ static void call_stub(void) {
 
 static void call_write_stub(void) {
     struct buffer *code = bytes(WRITTEN, any_len(48));
-    uint32_t kind = once_in(8) ? (uint32_t)any_number() : (uint32_t)below(6);
+    uint32_t kind = once_in(8) ? (uint32_t)any_number() : (uint32_t)below(10);
     uint64_t at = any_number(), target = once_in(4) ? any_number() : at + 4 * below(1 << 20);
     changes(code, 0, 36);
     uint32_t status = CALL(write_stub, any_machine(), kind, at, target, code->given, code->len);
@@ -2769,7 +2777,7 @@ static void (*const all[])(void) = {
     call_rewrite_placed_section, call_dynamic_types, call_dynamic_name, call_dynamic_words,
     call_entry_words, call_origins, call_static_words, call_got, call_join_flags, call_write_relr,
     call_read_relr, call_read_properties, call_merge_properties, call_write_properties,
-    call_is_property_known,
+    call_is_property_known, call_landing_property,
     call_output_facts, call_interpreter, call_address_section, call_entry_relocation,
     call_provided_symbol, call_save_restore_routines, call_provided_word, call_stub, call_write_stub,
     call_lazy_plt, call_write_lazy_header, call_write_lazy_entry, call_lazy_words, call_route_at,

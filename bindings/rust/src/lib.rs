@@ -1763,6 +1763,26 @@ pub fn is_property_known(architecture: Architecture, kind: u32) -> bool {
     unsafe { raw::linker_utils_is_property_known(architecture.machine(), kind) }
 }
 
+/// The bit of a property that says that indirect branches go only to instructions that are there
+/// for them: x86-64's IBT or AArch64's BTI.
+#[repr(C)]
+#[derive(Debug, Clone, Copy, Default, PartialEq, Eq)]
+pub struct LandingProperty {
+    /// As a mask of the property's value.
+    pub bit: u64,
+    /// The tag of `.dynamic` that says so of the PLT; 0 where there is none.
+    pub plt_tag: u64,
+    /// The property's type.
+    pub kind: u32,
+}
+
+/// What says that code of an architecture is so protected.
+pub fn landing_property(architecture: Architecture) -> Result<LandingProperty, Status> {
+    let (machine, mut landing) = (architecture.machine(), LandingProperty::default());
+    let status = unsafe { raw::linker_utils_get_landing_property(machine, &mut landing) };
+    result_of(status, landing)
+}
+
 /// The properties of a section `.note.gnu.property`, also those whose type has no rule.
 pub fn read_properties(
     architecture: Architecture,

@@ -5,9 +5,9 @@
 
 pub use crate::{
     Addresses, BlockHead, Branch, Call, Deletion, Delta, DynamicTypes, FactsSnapshot, FieldBits,
-    FieldValue, Item, LazyEntry, LazyPlt, Operands, Origins, OutputFacts, PlacedStub, Property,
-    Rela, Relocation, RewriteWindow, Shape, Shapes, Stub, StubShape, Symbol, SymbolFacts,
-    UnrelaxableGroups,
+    FieldValue, Item, LandingProperty, LazyEntry, LazyPlt, Operands, Origins, OutputFacts,
+    PlacedStub, Property, Rela, Relocation, RewriteWindow, Shape, Shapes, Stub, StubShape, Symbol,
+    SymbolFacts, UnrelaxableGroups,
 };
 use std::ffi::c_char;
 
@@ -1000,6 +1000,7 @@ extern "C" {
         needed: *mut usize,
     ) -> u32;
     pub fn linker_utils_is_property_known(machine: u16, kind: u32) -> bool;
+    pub fn linker_utils_get_landing_property(machine: u16, landing: *mut LandingProperty) -> u32;
     pub fn linker_utils_read_properties_nonnull(
         machine: u16,
         notes: *const u8,

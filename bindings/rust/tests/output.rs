@@ -84,6 +84,11 @@ fn properties_are_merged() {
     assert_eq!(merge_notes(X86_64, &[&first, &second, &[]]), Ok(note(&[(needed, 3)])));
     assert_eq!(merge_notes(X86_64, &[&[]]), Ok(vec![]));
     assert!(is_property_known(X86_64, feature) && !is_property_known(PPC64, feature));
+    let ibt = landing_property(X86_64);
+    assert_eq!(ibt, Ok(LandingProperty { bit: 1, plt_tag: 0, kind: feature }));
+    // DT_AARCH64_BTI_PLT
+    assert_eq!(landing_property(AARCH64).map(|bti| bti.plt_tag), Ok(0x7000_0001));
+    assert_eq!(landing_property(PPC64), Err(Status::NotProvided));
     let unknown = note(&[(0xc002_0000, 1)]);
     let read = read_properties(X86_64, &unknown);
     assert_eq!(read, Ok(vec![Property { kind: 0xc002_0000, value: 0, version: 0 }]));

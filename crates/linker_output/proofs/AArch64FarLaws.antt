@@ -1,5 +1,6 @@
 -- AArch64's stubs to anywhere go there.
-use Rattle.std.proofs.Common.{◌≡◌, ℕ, ◌+◌, ◌*◌, ◌%◌, ◌^◌, ◌<◌, Bool, true, false, refl, sym, ◌∙◌, ap, subst, arith}
+use Rattle.std.proofs.Common.{◌≡◌, ℕ, ◌+◌, ◌*◌, ◌%◌, ◌^◌, ◌<◌, Bool, true, false, refl, sym, ◌∙◌}
+use Rattle.std.proofs.Common.{ap, subst, arith}
 use Rattle.std.proofs.Common.{List, [], ◌∷◌, ◌++◌, eqb, cond, Some, None, drop, pos, ◌+ℤ◌}
 use Rattle.std.specs.Prelude.{IsSomeAnd, ◌||◌}
 use Rattle.std.specs.Int.{w64, cast_unsigned}
@@ -10,7 +11,8 @@ use Rattle.linker_elf.specs.AArch64Relocations.{aarch64_name, aarch64_row}
 use Rattle.linker_elf.specs.Relocate.{number_of_bytes, low_bytes}
 use Rattle.linker_elf.specs.Value.{sum_64}
 use Rattle.linker_elf.specs.declared.aarch64.relocations.AArch64Relocation.TheVariants as r
-use Rattle.linker_laws.specs.AArch64Machine.{State, load_64, go_to, go_on, next_pc, write_x, in_64_bits, adr_address}
+use Rattle.linker_laws.specs.AArch64Machine.{State, load_64, go_to, go_on, next_pc, write_x}
+use Rattle.linker_laws.specs.AArch64Machine.{in_64_bits, adr_address}
 use Rattle.linker_laws.specs.AArch64RelocationLaws.{Fields}
 use Rattle.linker_laws.specs.AArch64RewriteLaws.{word_of}
 use Rattle.linker_output.proofs.AArch64StubLaws.{some_or}

@@ -1,5 +1,6 @@
 -- AArch64's lazy PLT.
-use Rattle.std.proofs.Common.{◌≡◌, ℕ, ◌+◌, ◌-◌, ◌*◌, ◌^◌, ◌<◌, ◌≤◌, Bool, true, false, refl, sym, ◌∙◌, ap, subst, arith}
+use Rattle.std.proofs.Common.{◌≡◌, ℕ, ◌+◌, ◌-◌, ◌*◌, ◌^◌, ◌<◌, ◌≤◌, Bool, true, false, refl, sym}
+use Rattle.std.proofs.Common.{◌∙◌, ap, subst, arith}
 use Rattle.std.proofs.Common.{List, [], ◌∷◌, ◌++◌, take, drop, eqb, cond, Some, pos, negsuc, ◌+ℤ◌}
 use Rattle.std.specs.Prelude.{◌||◌, ◌==◌, IsSomeAnd, nat_lt, if◌then◌else◌}
 use Rattle.std.specs.Int.{w64, from_le_bytes, cast_unsigned}
@@ -13,21 +14,26 @@ use Rattle.linker_elf.specs.declared.aarch64.forms.AArch64Instruction.TheVariant
 use Rattle.linker_elf.specs.declared.aarch64.relocations.AArch64Relocation.TheVariants as r
 use Rattle.linker_elf.specs.declared.elf.value.Operands.{Operands}
 use Rattle.linker_laws.specs.AArch64Machine as machine
-use Rattle.linker_laws.specs.AArch64Machine.{State, adrp_address, loaded, added, load_64, add, ldr, go_to, go_on, in_64_bits}
+use Rattle.linker_laws.specs.AArch64Machine.{State, adrp_address, loaded, added, load_64, add, ldr}
+use Rattle.linker_laws.specs.AArch64Machine.{go_to, go_on, in_64_bits}
 use Rattle.linker_laws.specs.AArch64RelocationLaws.{RelativeAddresses, page_and_offset}
 use Rattle.linker_laws.specs.AArch64RewriteLaws.{word_of}
 use Rattle.linker_laws.specs.Machine.{stored}
 use Rattle.linker_laws.specs.Schemes.{IsAddress}
 use Rattle.linker_laws.proofs.AArch64Pairs.{loads, adds_up}
 use Rattle.linker_laws.proofs.AArch64Steps.{set, step_add}
-use Rattle.linker_laws.proofs.AArch64Words.{IsAdrOf, IsInstructionOf, adrp_after, ldr_after, add_after, of_registers}
+use Rattle.linker_laws.proofs.AArch64Words.{IsAdrOf, IsInstructionOf, adrp_after, ldr_after}
+use Rattle.linker_laws.proofs.AArch64Words.{add_after, of_registers}
 use Rattle.linker_laws.proofs.RiscVMachine.{wrapped_is}
-use Rattle.linker_output.proofs.LazyRuns.{run_more, left_false, right_false, one_word, are_addresses_at}
+use Rattle.linker_output.proofs.LazyRuns.{run_more, left_false, right_false, one_word}
+use Rattle.linker_output.proofs.LazyRuns.{are_addresses_at}
 use Rattle.linker_output.proofs.StubWords.{applies, no_addend, at_place}
-use Rattle.linker_output.specs.AArch64LazyPlt.{step, further, run, pair_stored, pair_address, GoesTo, Asks, IsOffStack}
+use Rattle.linker_output.specs.AArch64LazyPlt.{step, further, run, pair_stored, pair_address}
+use Rattle.linker_output.specs.AArch64LazyPlt.{GoesTo, Asks, IsOffStack}
 use Rattle.linker_output.specs.AArch64LazyPlt as laws
 use Rattle.linker_output.specs.LazyPlt.{IsCode, operands_at, header_places}
-use Rattle.linker_output.specs.LazyPlts.{aarch64_loads, aarch64_entry, aarch64_wide_entry, aarch64_landing_entry}
+use Rattle.linker_output.specs.LazyPlts.{aarch64_loads, aarch64_entry, aarch64_wide_entry}
+use Rattle.linker_output.specs.LazyPlts.{aarch64_landing_entry}
 use Rattle.linker_output.specs.LazyPlts.{aarch64_header, aarch64_landing_header, padded}
 use Rattle.linker_output.specs.LazyPlts as plts
 use Rattle.linker_output.specs.LazyRuns.{words, or_else}

@@ -7,15 +7,18 @@ use Rattle.linker_base.specs.Bits.{field}
 use Rattle.linker_utils.specs.AArch64Rewrites.{rd_of, rn_of, IsLdr64}
 use Rattle.linker_elf.specs.Value.{sum_64}
 use Rattle.linker_elf.specs.declared.aarch64.relocations.AArch64Relocation.TheVariants as r
-use Rattle.linker_laws.specs.AArch64Machine.{State, step, run, load_64, adrp_address, loaded, added, add, ldr, go_to, go_on}
+use Rattle.linker_laws.specs.AArch64Machine.{State, step, run, load_64, adrp_address, loaded, added}
+use Rattle.linker_laws.specs.AArch64Machine.{add, ldr, go_to, go_on}
 use Rattle.linker_laws.specs.AArch64RelocationLaws.{RelativeAddresses}
 use Rattle.linker_laws.specs.AArch64RewriteLaws.{word_of}
 use Rattle.linker_laws.specs.Schemes.{symbol_address}
 use Rattle.linker_laws.proofs.AArch64Pairs.{loads, adds_pair}
 use Rattle.linker_laws.proofs.AArch64Steps.{set, run_pair}
-use Rattle.linker_laws.proofs.AArch64Words.{IsAdrOf, IsInstructionOf, adrp_after, ldr_after, add_after, of_registers}
+use Rattle.linker_laws.proofs.AArch64Words.{IsAdrOf, IsInstructionOf, adrp_after, ldr_after}
+use Rattle.linker_laws.proofs.AArch64Words.{add_after, of_registers}
 use Rattle.linker_elf.specs.AArch64Relocations.{aarch64_name, aarch64_row}
-use Rattle.linker_output.proofs.StubWords.{front_word, first_is, second_is, third_is, applies, no_addend, at_place, are_addresses}
+use Rattle.linker_output.proofs.StubWords.{front_word, first_is, second_is, third_is, applies}
+use Rattle.linker_output.proofs.StubWords.{no_addend, at_place, are_addresses}
 use Rattle.linker_output.specs.AArch64Output.{aarch64_output}
 use Rattle.linker_output.specs.Stubs.{StubCode, WritesPair, operands_of}
 use Rattle.linker_output.specs.Tables.{field_of}

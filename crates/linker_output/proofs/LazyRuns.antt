@@ -1,5 +1,6 @@
 -- Runs of words, and the words of a lazy PLT's code.
-use Rattle.std.proofs.Common.{◌≡◌, ℕ, ◌+◌, ◌*◌, ◌/◌, ◌^◌, ◌<◌, ◌≤◌, suc, pos, negsuc, ◌+ℤ◌, Bool, true, false, refl, sym, ◌∙◌, ap, arith}
+use Rattle.std.proofs.Common.{◌≡◌, ℕ, ◌+◌, ◌*◌, ◌/◌, ◌^◌, ◌<◌, ◌≤◌, suc, pos, negsuc, ◌+ℤ◌, Bool}
+use Rattle.std.proofs.Common.{true, false, refl, sym, ◌∙◌, ap, arith}
 use Rattle.std.proofs.Common.{List, ◌∷◌, ◌++◌, eqb, Some, None, Option, take, drop, length}
 use Rattle.std.specs.Prelude.{◌||◌}
 use Rattle.std.proofs.lemmas.Bool.{eq-eqb, cond-true}

@@ -17,6 +17,7 @@ pub mod Passed
 pub mod Ppc64LazyLaws
 pub mod Ppc64SaveLaws
 pub mod Ppc64StubLaws
+pub mod Ppc64TocLaws
 pub mod Ppc64VectorLaws
 pub mod Products
 pub mod RelrFewest

@@ -1,5 +1,6 @@
 -- LoongArch's lazy PLT.
-use Rattle.std.proofs.Common.{◌≡◌, ◌≢◌, ℕ, ◌/◌, ◌^◌, ◌<◌, ◌≤◌, false, refl, sym, ◌∙◌, ap, subst, arith}
+use Rattle.std.proofs.Common.{◌≡◌, ◌≢◌, ℕ, ◌/◌, ◌^◌, ◌<◌, ◌≤◌, false, refl, sym, ◌∙◌, ap, subst}
+use Rattle.std.proofs.Common.{arith}
 use Rattle.std.proofs.Common.{List, [], ◌∷◌, ◌++◌, take, eqb, cond, Some, pos, negsuc, ◌+ℤ◌, ◌*ℤ◌}
 use Rattle.std.specs.Prelude.{◌||◌, ◌==◌, IsSomeAnd}
 use Rattle.std.proofs.lemmas.Bool.{ne_eqb, cond-true, cond-false}
@@ -9,7 +10,8 @@ use Rattle.linker_elf.specs.Value.{sum_64, difference_64}
 use Rattle.linker_elf.specs.declared.elf.value.Operands.{Operands}
 use Rattle.linker_elf.specs.declared.loongarch64.relocations.LoongArch64Relocation.TheVariants as r
 use Rattle.linker_laws.specs.LoongArchMachine as machine
-use Rattle.linker_laws.specs.LoongArchMachine.{State, read, write, go_to, next_pc, sum_of, register_target}
+use Rattle.linker_laws.specs.LoongArchMachine.{State, read, write, go_to, next_pc, sum_of}
+use Rattle.linker_laws.specs.LoongArchMachine.{register_target}
 use Rattle.linker_laws.specs.LoongArchRelocationLaws as relocation_laws
 use Rattle.linker_utils.specs.LoongArchRewrites.{rd_of, rj_of}
 use Rattle.linker_laws.specs.LoongArchRewriteLaws.{word_of}
@@ -17,8 +19,10 @@ use Rattle.linker_laws.specs.Machine.{wrapped, loaded}
 use Rattle.linker_laws.specs.Schemes.{IsAddress, symbol_address}
 use Rattle.linker_laws.proofs.AArch64Steps.{address_is, in_two_steps}
 use Rattle.linker_laws.proofs.LoongArchSteps.{set, loaded_of, step_load, step_sum, written}
-use Rattle.linker_laws.proofs.LoongArchWords.{IsHigh, IsLow, high_after, low_after, decodes_load, decodes_sum}
-use Rattle.linker_output.proofs.LazyRuns.{run_more, left_false, right_false, second_and_last, one_word, are_addresses_at, twelve, eight_on, offset_is}
+use Rattle.linker_laws.proofs.LoongArchWords.{IsHigh, IsLow, high_after, low_after, decodes_load}
+use Rattle.linker_laws.proofs.LoongArchWords.{decodes_sum}
+use Rattle.linker_output.proofs.LazyRuns.{run_more, left_false, right_false, second_and_last}
+use Rattle.linker_output.proofs.LazyRuns.{one_word, are_addresses_at, twelve, eight_on, offset_is}
 use Rattle.linker_output.proofs.LoongArchStubLaws.{stays}
 use Rattle.linker_output.proofs.StubWords.{applies, no_addend, at_place}
 use Rattle.linker_output.specs.LazyPlt.{IsCode, operands_at, header_places}

@@ -1,5 +1,6 @@
 -- LoongArch's stubs go to their targets.
-use Rattle.std.proofs.Common.{◌≡◌, ℕ, ◌/◌, ◌^◌, ◌<◌, Bool, true, false, refl, sym, ◌∙◌, ap, subst, arith}
+use Rattle.std.proofs.Common.{◌≡◌, ℕ, ◌/◌, ◌^◌, ◌<◌, Bool, true, false, refl, sym, ◌∙◌, ap, subst}
+use Rattle.std.proofs.Common.{arith}
 use Rattle.std.proofs.Common.{[], ◌∷◌, eqb, cond, Some, None, Option, drop, length, pos, ◌+ℤ◌, ◌*ℤ◌}
 use Rattle.std.specs.Prelude.{IsSomeAnd}
 use Rattle.std.proofs.lemmas.Bool.{eq-eqb, cond-true, cond-false}
@@ -9,7 +10,9 @@ use Rattle.std.proofs.lemmas.List.Elements.{All-cons, All-nil}
 use Rattle.linker_elf.specs.LoongArchRelocations.{loongarch_name, loongarch_row}
 use Rattle.linker_elf.specs.declared.loongarch64.relocations.LoongArch64Relocation.TheVariants as r
 use Rattle.linker_utils.specs.LoongArchRewrites.{rd_of, rj_of, IsCall}
-use Rattle.linker_laws.specs.LoongArchMachine.{State, step, decode, pcaddu_18, jirl, run, execute, write, next_pc, continue, go_to, go_on, page_address, far_address, register_target}
+use Rattle.linker_laws.specs.LoongArchMachine.{State, step, decode, pcaddu_18, jirl, run, execute}
+use Rattle.linker_laws.specs.LoongArchMachine.{write, next_pc, continue, go_to, go_on, page_address}
+use Rattle.linker_laws.specs.LoongArchMachine.{far_address, register_target}
 use Rattle.linker_laws.specs.LoongArchRelocationLaws as relocation_laws
 use Rattle.linker_laws.specs.LoongArchRewriteLaws.{word_of}
 use Rattle.linker_laws.specs.Machine.{wrapped, loaded, AreBytes, Relocated}
@@ -18,7 +21,8 @@ use Rattle.linker_laws.proofs.LoongArchCalls.{not_higher, call_is, new_first, ne
 use Rattle.linker_laws.proofs.LoongArchPairs.{loads}
 use Rattle.linker_laws.proofs.LoongArchSteps.{set, loaded_of, run_pair}
 use Rattle.linker_laws.proofs.LoongArchWords.{IsHigh, IsLow, high_after, low_after}
-use Rattle.linker_output.proofs.StubWords.{front_word, first_is, second_is, third_is, applies, no_addend, at_place, are_addresses}
+use Rattle.linker_output.proofs.StubWords.{front_word, first_is, second_is, third_is, applies}
+use Rattle.linker_output.proofs.StubWords.{no_addend, at_place, are_addresses}
 use Rattle.linker_output.specs.LoongArchOutput.{loongarch_output}
 use Rattle.linker_output.specs.LoongArchStubs.{GoesTo}
 use Rattle.linker_output.specs.LoongArchStubs as stubs

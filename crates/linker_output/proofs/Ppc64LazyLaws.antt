@@ -1,6 +1,8 @@
 -- PowerPC64's lazy PLT.
-use Rattle.std.proofs.Common.{◌≡◌, ℕ, ℤ, ◌+◌, ◌-◌, ◌*◌, ◌%◌, ◌^◌, ◌<◌, Bool, true, false, refl, sym, ◌∙◌, ap, subst, arith}
-use Rattle.std.proofs.Common.{List, [], ◌∷◌, ◌++◌, take, drop, length, eqb, cond, Some, pos, negsuc, ◌+ℤ◌, ◌*ℤ◌}
+use Rattle.std.proofs.Common.{◌≡◌, ℕ, ℤ, ◌+◌, ◌-◌, ◌*◌, ◌%◌, ◌^◌, ◌<◌, Bool, true, false, refl, sym}
+use Rattle.std.proofs.Common.{◌∙◌, ap, subst, arith}
+use Rattle.std.proofs.Common.{List, [], ◌∷◌, ◌++◌, take, drop, length, eqb, cond, Some, pos, negsuc}
+use Rattle.std.proofs.Common.{◌+ℤ◌, ◌*ℤ◌}
 use Rattle.std.specs.Prelude.{◌==◌, ◌&&◌, ◌||◌, IsSomeAnd, replicate}
 use Rattle.std.specs.Int.{w64, from_le_bytes, cast_unsigned}
 use Rattle.std.proofs.lemmas.Bool.{cond-true}
@@ -29,7 +31,8 @@ use Rattle.linker_output.specs.LazyPlts.{padded}
 use Rattle.linker_output.specs.LazyRuns.{words, or_else}
 use Rattle.linker_output.specs.Ppc64LazyPlt.{step, run, is_b, lifted, rotated, Asks}
 use Rattle.linker_output.specs.Ppc64LazyPlt as laws
-use Rattle.linker_output.specs.Ppc64Stubs.{Counted, step_counted, with_state, moved_from_link, moved_to_link, linked, at_count}
+use Rattle.linker_output.specs.Ppc64Stubs.{Counted, step_counted, with_state, moved_from_link}
+use Rattle.linker_output.specs.Ppc64Stubs.{moved_to_link, linked, at_count}
 use Rattle.linker_output.specs.Tables.{field_of, code_of_words}
 use Rattle.linker_output.specs.declared.lazy_plt.LazyField.{LazyField}
 use Rattle.linker_output.specs.declared.lazy_plt.LazyTarget.TheVariants.{Word, Header}

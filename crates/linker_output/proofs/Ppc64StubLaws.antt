@@ -1,6 +1,8 @@
 -- PowerPC64's stubs go to their targets.
-use Rattle.std.proofs.Common.{◌≡◌, ℕ, ◌-◌, ◌%◌, ◌^◌, Bool, true, false, refl, sym, ◌∙◌, ap, subst, arith}
-use Rattle.std.proofs.Common.{List, [], ◌∷◌, ◌++◌, eqb, cond, Some, None, Option, drop, length, pos, ◌+ℤ◌, ◌*ℤ◌}
+use Rattle.std.proofs.Common.{◌≡◌, ℕ, ◌-◌, ◌%◌, ◌^◌, Bool, true, false, refl, sym, ◌∙◌, ap, subst}
+use Rattle.std.proofs.Common.{arith}
+use Rattle.std.proofs.Common.{List, [], ◌∷◌, ◌++◌, eqb, cond, Some, None, Option, drop, length, pos}
+use Rattle.std.proofs.Common.{◌+ℤ◌, ◌*ℤ◌}
 use Rattle.std.specs.Prelude.{IsSomeAnd, ◌||◌, ◌&&◌, ◌==◌, if◌then◌else◌}
 use Rattle.std.proofs.lemmas.Bool.{eq-eqb, cond-true}
 use Rattle.std.proofs.lemmas.List.{drop-drop}
@@ -17,10 +19,15 @@ use Rattle.linker_laws.specs.Ppc64RelocationLaws.{TocAddresses}
 use Rattle.linker_laws.specs.Ppc64RewriteLaws.{word_of}
 use Rattle.linker_laws.specs.Schemes.{IsAddress, symbol_address}
 use Rattle.linker_laws.proofs.Ppc64Addresses.{reads_ds, same_parts}
-use Rattle.linker_laws.proofs.Ppc64Words.{HasParts, d_after, ds_after, sum_leads, set, step_addis, step_addi, step_ld}
-use Rattle.linker_output.proofs.StubWords.{front_word, first_is, second_is, third_is, applies, no_addend, are_addresses}
+use Rattle.linker_laws.proofs.Ppc64Words.{HasParts, d_after, ds_after, sum_leads, set, step_addis}
+use Rattle.linker_laws.proofs.Ppc64Words.{step_addi, step_ld}
+use Rattle.linker_output.proofs.StubWords.{front_word, first_is, second_is, third_is, applies}
+use Rattle.linker_output.proofs.StubWords.{no_addend, are_addresses}
 use Rattle.linker_output.specs.Ppc64Output.{ppc64_output}
-use Rattle.linker_output.specs.Ppc64Stubs.{Counted, step_counted, stepped, lifted, with_state, run, continue, entered, at, GoesTo, moved_from_link, moved_to_link, linked, at_count, is_mflr, is_mtlr, is_mtctr}
+use Rattle.linker_output.specs.Ppc64Stubs.{Counted, step_counted, stepped, lifted, with_state, run}
+use Rattle.linker_output.specs.Ppc64Stubs.{continue, entered, at, GoesTo, moved_from_link}
+use Rattle.linker_output.specs.Ppc64Stubs.{moved_to_link, linked, at_count, is_mflr, is_mtlr}
+use Rattle.linker_output.specs.Ppc64Stubs.{is_mtctr}
 use Rattle.linker_output.specs.Ppc64Stubs as stubs
 use Rattle.linker_output.specs.Stubs.{StubCode, operands_of}
 use Rattle.linker_output.specs.Tables.{field_of}
@@ -28,7 +35,7 @@ use Rattle.linker_utils.specs.Ppc64Rewrites.{opcode_of, rt_of, ra_of}
 
 -- ---- steps
 
-run_more : (f : Formats) (x y : ℕ) (words : List ℕ) (c d : Counted) (end : Option Counted)
+pub run_more : (f : Formats) (x y : ℕ) (words : List ℕ) (c d : Counted) (end : Option Counted)
     → step_counted f x c ≡ Some d → d.state.pc ≡ next_pc c.state → run f (y ∷ words) d ≡ end
     → run f (x ∷ y ∷ words) c ≡ end
 run_more f x y words c d end first on rest =
@@ -56,7 +63,7 @@ other_opcode false false true f x c a b d = cc
 other_opcode false false false f x c a b d = refl
 
 -- an instruction of the machine
-of_machine : (f : Formats) (x k : ℕ) (c : Counted) (s : State) → opcode_of x ≡ k → (k == 31) ≡ false
+pub of_machine : (f : Formats) (x k : ℕ) (c : Counted) (s : State) → opcode_of x ≡ k → (k == 31) ≡ false
     → (k == 16) ≡ false → (k == 19) ≡ false → step f x c.state ≡ Some s
     → step_counted f x c ≡ Some (with_state s c)
 unfolding by_tests
@@ -252,4 +259,7 @@ jumps_go toc place target inside below even code is f c entry =
 
 pub first_stores : stubs.FirstStoresToc
 unfolding place_sum
-first_stores place target code is f s = ap (λ b. step f (at 0 b) s) is.3
+first_stores = (
+  λ place target code is f s. ap (λ b. step f (at 0 b) s) is.3,
+  λ place target code is f s. ap (λ b. step f (at 0 b) s) is.3,
+)

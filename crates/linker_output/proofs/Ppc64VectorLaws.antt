@@ -1,5 +1,6 @@
 -- PowerPC64's functions that save and restore vector registers.
-use Rattle.std.proofs.Common.{◌≡◌, ℕ, zero, suc, ◌+◌, ◌-◌, ◌*◌, ◌/◌, ◌%◌, ◌^◌, ◌<◌, ◌≤◌, refl, sym, ◌∙◌, ap, subst, arith}
+use Rattle.std.proofs.Common.{◌≡◌, ℕ, zero, suc, ◌+◌, ◌-◌, ◌*◌, ◌/◌, ◌%◌, ◌^◌, ◌<◌, ◌≤◌, refl, sym}
+use Rattle.std.proofs.Common.{◌∙◌, ap, subst, arith}
 use Rattle.std.proofs.Common.{List, [], ◌∷◌, false, eqb, Some, Option, pos, negsuc, ◌+ℤ◌}
 use Rattle.std.specs.Prelude.{codes, IsSomeAnd, nat_lt, if◌then◌else◌}
 use Rattle.std.proofs.lemmas.Bool.{cond-false, le-ltb}
@@ -15,8 +16,10 @@ use Rattle.linker_output.proofs.Ppc64SaveLaws.{below_at, joined, one_restored, n
 use Rattle.linker_output.specs.Ppc64Output.{of_vectors, blr}
 use Rattle.linker_output.specs.Ppc64Saves.{returned, is_from}
 use Rattle.linker_output.specs.Ppc64Stubs.{with_state}
-use Rattle.linker_output.specs.Ppc64Vectors.{Vectored, step_vectored, run_vectored, vector_code, quadword, vector_slot}
-use Rattle.linker_output.specs.Ppc64Vectors.{vectors_saved, vectors_restored, ReturnsVectored, SavesVectors, RestoresVectors}
+use Rattle.linker_output.specs.Ppc64Vectors.{Vectored, step_vectored, run_vectored, vector_code}
+use Rattle.linker_output.specs.Ppc64Vectors.{quadword, vector_slot}
+use Rattle.linker_output.specs.Ppc64Vectors.{vectors_saved, vectors_restored, ReturnsVectored}
+use Rattle.linker_output.specs.Ppc64Vectors.{SavesVectors, RestoresVectors}
 use Rattle.linker_output.specs.Ppc64Vectors as laws
 
 -- ---- the two instructions of a register

@@ -1,13 +1,19 @@
 -- Lists of numbers that are written one after the other, and words without a fault.
-use Rattle.std.proofs.Common.{◌≡◌, ◌≢◌, ℕ, ◌+◌, ◌-◌, ◌*◌, ◌%◌, ◌^◌, ◌<◌, ◌≤◌, Bool, true, false, List, [], ◌∷◌, ◌++◌, length, take, drop, set, refl, sym, ◌∙◌, ap, subst, arith, nat_lt, nat_eq, cond, zero, suc, Option, Some, None, append_assoc, ◌||◌, ◌&&◌, ◌==◌, if◌then◌else◌, get_or}
+use Rattle.std.proofs.Common.{◌≡◌, ◌≢◌, ℕ, ◌+◌, ◌-◌, ◌*◌, ◌%◌, ◌^◌, ◌<◌, ◌≤◌, Bool, true, false}
+use Rattle.std.proofs.Common.{List, [], ◌∷◌, ◌++◌, length, take, drop, set, refl, sym, ◌∙◌, ap}
+use Rattle.std.proofs.Common.{subst, arith, nat_lt, nat_eq, cond, zero, suc, Option, Some, None}
+use Rattle.std.proofs.Common.{append_assoc, ◌||◌, ◌&&◌, ◌==◌, if◌then◌else◌, get_or}
 use Rattle.std.proofs.lemmas.Bool.Decides.{nat_tests}
-use Rattle.std.proofs.lemmas.List.{append-nil, take-append-drop, take_more_set, drop-set-lt, length-set, length-append}
+use Rattle.std.proofs.lemmas.List.{append-nil, take-append-drop, take_more_set, drop-set-lt}
+use Rattle.std.proofs.lemmas.List.{length-set, length-append}
 use Rattle.std.specs.Int.{bit_at}
 use Rattle.std.proofs.lemmas.List.Folds.{list_all-append}
 use Rattle.std.specs.List.{list_all}
-use Rattle.linker_output.specs.Relr.{relocated, marked, word_fault, relr_fault, are_addresses, RejectsWords}
+use Rattle.linker_output.specs.Relr.{relocated, marked, word_fault, relr_fault, are_addresses}
+use Rattle.linker_output.specs.Relr.{RejectsWords}
 use Rattle.linker_output.specs.declared.relr.RelrError.{RelrError}
-use Rattle.linker_output.specs.declared.relr.RelrError.TheVariants.{Unaligned, NotAscending, NoAddress, Wraps, TooShort}
+use Rattle.linker_output.specs.declared.relr.RelrError.TheVariants.{Unaligned, NotAscending}
+use Rattle.linker_output.specs.declared.relr.RelrError.TheVariants.{NoAddress, Wraps, TooShort}
 use Rattle.linker_output.proofs.RelrWords.{leaves_more}
 use Rattle.linker_output.specs.Inner.Relr.{capped, put_all, Leaves}
 

@@ -1,14 +1,20 @@
 -- The words that the code makes relocate the addresses.
-use Rattle.std.proofs.Common.{◌≡◌, ◌≢◌, ℕ, ◌+◌, ◌-◌, ◌*◌, ◌/◌, ◌%◌, ◌^◌, ◌<◌, ◌≤◌, Bool, true, false, List, [], ◌∷◌, ◌++◌, length, refl, sym, ◌∙◌, ap, subst, arith, nat_eq, cond, zero, suc, Option, Some, None, bit_or, append_assoc, ◌⊎◌, inl, inr}
+use Rattle.std.proofs.Common.{◌≡◌, ◌≢◌, ℕ, ◌+◌, ◌-◌, ◌*◌, ◌/◌, ◌%◌, ◌^◌, ◌<◌, ◌≤◌, Bool, true}
+use Rattle.std.proofs.Common.{false, List, [], ◌∷◌, ◌++◌, length, refl, sym, ◌∙◌, ap, subst, arith}
+use Rattle.std.proofs.Common.{nat_eq, cond, zero, suc, Option, Some, None, bit_or, append_assoc}
+use Rattle.std.proofs.Common.{◌⊎◌, inl, inr}
 use Rattle.std.proofs.lemmas.Bool.Decides.{nat_tests}
 use Rattle.std.proofs.lemmas.List.{append-nil}
-use Rattle.std.proofs.lemmas.Nat.Bits.{bit_at_above, bit_at_set_same, bit_at_set_other, bit_at_lowest}
+use Rattle.std.proofs.lemmas.Nat.Bits.{bit_at_above, bit_at_set_same, bit_at_set_other}
+use Rattle.std.proofs.lemmas.Nat.Bits.{bit_at_lowest}
 use Rattle.std.specs.Int.{bit_at, w64}
 use Rattle.std.specs.List.{list_all}
-use Rattle.linker_output.specs.Relr.{relocated, marked, address_fault, are_addresses, relr_fault, word_fault, Packs, RejectsAddresses}
+use Rattle.linker_output.specs.Relr.{relocated, marked, address_fault, are_addresses, relr_fault}
+use Rattle.linker_output.specs.Relr.{word_fault, Packs, RejectsAddresses}
 use Rattle.linker_output.specs.Inner.Relr.{words_from, words_of, is_past}
 use Rattle.linker_output.specs.declared.relr.RelrError.{RelrError}
-use Rattle.linker_output.specs.declared.relr.RelrError.TheVariants.{Unaligned, NotAscending, NoAddress, Wraps, TooShort}
+use Rattle.linker_output.specs.declared.relr.RelrError.TheVariants.{Unaligned, NotAscending}
+use Rattle.linker_output.specs.declared.relr.RelrError.TheVariants.{NoAddress, Wraps, TooShort}
 use Rattle.linker_output.proofs.RelrLists.{is_sound, no_fault}
 use Rattle.linker_output.proofs.RelrFewest.{cost, cost_next, cost_words}
 use Rattle.linker_output.proofs.RelrWords.{past_words, near_words, far_words, clean}

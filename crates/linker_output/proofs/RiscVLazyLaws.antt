@@ -1,5 +1,6 @@
 -- RISC-V's lazy PLT.
-use Rattle.std.proofs.Common.{◌≡◌, ℕ, ◌-◌, ◌/◌, ◌%◌, ◌^◌, ◌<◌, refl, sym, ◌∙◌, ap, subst, arith, ℤ, Some, false, ◌==◌}
+use Rattle.std.proofs.Common.{◌≡◌, ℕ, ◌-◌, ◌/◌, ◌%◌, ◌^◌, ◌<◌, refl, sym, ◌∙◌, ap, subst, arith, ℤ}
+use Rattle.std.proofs.Common.{Some, false, ◌==◌}
 use Rattle.std.proofs.Common.{List, [], ◌∷◌, ◌++◌, take, Option, pos, negsuc, ◌+ℤ◌}
 use Rattle.std.specs.Prelude.{◌||◌, IsSomeAnd}
 use Rattle.std.proofs.lemmas.Int.{ints}
@@ -15,12 +16,15 @@ use Rattle.linker_elf.specs.declared.riscv64.relocations.RiscVRelocation.TheVari
 use Rattle.linker_elf.specs.declared.riscv64.relocations.RiscVRelocation.{RiscVRelocation}
 use Rattle.linker_elf.specs.declared.elf.RelocationKindInfo.{RelocationKindInfo}
 use Rattle.linker_laws.specs.Machine.{wrapped, moved, loaded}
-use Rattle.linker_laws.specs.RiscVMachine.{Hart, Instruction, register, with_integer, goes_on, auipc, sums, adds, loads, jumps, executed, of_word, load_number}
+use Rattle.linker_laws.specs.RiscVMachine.{Hart, Instruction, register, with_integer, goes_on}
+use Rattle.linker_laws.specs.RiscVMachine.{auipc, sums, adds, loads, jumps, executed, of_word}
+use Rattle.linker_laws.specs.RiscVMachine.{load_number}
 use Rattle.linker_laws.specs.RiscVRelocationLaws.{RelativeAddresses}
 use Rattle.linker_laws.specs.RiscVRewriteLaws.{word_of}
 use Rattle.linker_laws.proofs.RiscVDescriptors.{upper_word, load_word, sum_word}
 use Rattle.linker_laws.proofs.RiscVMachine.{moved_twice, address_is, other, unwritten}
-use Rattle.linker_output.proofs.LazyRuns.{run_more, left_false, right_false, second_and_last, one_word, are_addresses_at, twelve, eight_on, offset_is}
+use Rattle.linker_output.proofs.LazyRuns.{run_more, left_false, right_false, second_and_last}
+use Rattle.linker_output.proofs.LazyRuns.{one_word, are_addresses_at, twelve, eight_on, offset_is}
 use Rattle.linker_output.proofs.RiscVStubLaws.{whole_number}
 use Rattle.linker_output.proofs.StubWords.{applies, no_addend, at_place}
 use Rattle.linker_output.specs.LazyPlt.{IsCode, operands_at, header_places}

@@ -1,5 +1,6 @@
 -- RISC-V's stub goes to the address in its word.
-use Rattle.std.proofs.Common.{◌≡◌, ℕ, ◌-◌, ◌%◌, ◌^◌, ◌<◌, refl, sym, ◌∙◌, ap, subst, arith, inl, inr, ℤ, Some, false}
+use Rattle.std.proofs.Common.{◌≡◌, ℕ, ◌-◌, ◌%◌, ◌^◌, ◌<◌, refl, sym, ◌∙◌, ap, subst, arith, inl}
+use Rattle.std.proofs.Common.{inr, ℤ, Some, false}
 use Rattle.std.proofs.Common.{List, length, drop, pos, ◌+ℤ◌, w64}
 use Rattle.std.specs.Prelude.{◌==◌}
 use Rattle.std.specs.Int.{cast_signed, cast_unsigned}
@@ -15,11 +16,13 @@ use Rattle.linker_elf.specs.declared.elf.RelocationKind.TheVariants.{Relative, R
 use Rattle.linker_elf.specs.declared.riscv64.forms.RiscVInstruction.TheVariants.{UType, IType}
 use Rattle.linker_riscv64.specs.RiscVFields.{opcode_of, funct3_of, rd_of}
 use Rattle.linker_laws.specs.Machine.{wrapped, moved, loaded, extended}
-use Rattle.linker_laws.specs.RiscVMachine.{Hart, register, auipc, sums, loads, jumps, executed, Runs, fetched, of_word, rs1_of, load_number}
+use Rattle.linker_laws.specs.RiscVMachine.{Hart, register, auipc, sums, loads, jumps, executed}
+use Rattle.linker_laws.specs.RiscVMachine.{Runs, fetched, of_word, rs1_of, load_number}
 use Rattle.linker_laws.specs.RiscVRelocationLaws.{RelativeAddresses}
 use Rattle.linker_laws.specs.RiscVRewriteLaws.{word_of}
 use Rattle.linker_laws.proofs.RiscVDescriptors.{upper_word, upper_long, load_word, low_long}
-use Rattle.linker_laws.proofs.RiscVMachine.{at_start, at_second, fetched_word, steps, moved_twice, address_is, other, written, unwritten}
+use Rattle.linker_laws.proofs.RiscVMachine.{at_start, at_second, fetched_word, steps, moved_twice}
+use Rattle.linker_laws.proofs.RiscVMachine.{address_is, other, written, unwritten}
 use Rattle.linker_elf.specs.RiscVRelocations.{riscv_name, riscv_relocation}
 use Rattle.linker_elf.specs.declared.riscv64.relocations.RiscVRelocation.TheVariants as r
 use Rattle.linker_output.specs.RiscVOutput.{riscv_output}
@@ -27,7 +30,8 @@ use Rattle.linker_output.specs.Stubs.{operands_of}
 use Rattle.linker_output.specs.Tables.{field_of}
 use Rattle.linker_output.specs.RiscVStubs.{GoesTo}
 use Rattle.linker_output.specs.RiscVStubs as stubs
-use Rattle.linker_output.proofs.StubWords.{front_word, first_is, second_is, third_is, applies, no_addend, at_place, are_addresses}
+use Rattle.linker_output.proofs.StubWords.{front_word, first_is, second_is, third_is, applies}
+use Rattle.linker_output.proofs.StubWords.{no_addend, at_place, are_addresses}
 
 -- a load of 64 bits
 pub whole_number : (v : ℕ) → v < 2 ^ 64 → extended 64 v ≡ v

@@ -4,20 +4,24 @@ use Rattle.std.proofs.lemmas.List.{take-take, length-take-le}
 use Rattle.std.specs.Prelude.{min}
 use Rattle.std.specs.Int.{byte_len}
 use Rattle.linker_elf.specs.Elf.{relocation_form}
-use Rattle.linker_elf.specs.Relocate.{IsAccepted, IsCause, size_len, window_len, is_supported, takes_size}
+use Rattle.linker_elf.specs.Relocate.{IsAccepted, IsCause, size_len, window_len, is_supported}
+use Rattle.linker_elf.specs.Relocate.{takes_size}
 use Rattle.linker_elf.specs.declared.aarch64.forms.AArch64Instruction.TheVariants.{Movnz}
 use Rattle.linker_elf.specs.declared.elf.RelocationInstruction.{RelocationInstruction}
-use Rattle.linker_elf.specs.declared.elf.RelocationInstruction.TheVariants.{RiscV, Ppc64, LoongArch64, AArch64}
+use Rattle.linker_elf.specs.declared.elf.RelocationInstruction.TheVariants.{RiscV, Ppc64}
+use Rattle.linker_elf.specs.declared.elf.RelocationInstruction.TheVariants.{LoongArch64, AArch64}
 use Rattle.linker_elf.specs.declared.elf.RelocationKind.{RelocationKind}
 use Rattle.linker_elf.specs.declared.elf.RelocationKindInfo.{RelocationKindInfo}
 use Rattle.linker_elf.specs.declared.elf.RelocationSize.{RelocationSize}
 use Rattle.linker_elf.specs.declared.elf.RelocationSize.TheVariants.{ByteSize, BitMasking}
 use Rattle.linker_elf.specs.declared.elf.relocate.RelocateError.{RelocateError}
-use Rattle.linker_elf.specs.declared.elf.relocate.RelocateError.TheVariants.{Unsupported, TooShort, Misaligned, OutOfReach}
+use Rattle.linker_elf.specs.declared.elf.relocate.RelocateError.TheVariants.{Unsupported, TooShort}
+use Rattle.linker_elf.specs.declared.elf.relocate.RelocateError.TheVariants.{Misaligned, OutOfReach}
 use Rattle.linker_elf.specs.declared.loongarch64.forms.LoongArch64Instruction.TheVariants.{Call36}
 use Rattle.linker_elf.specs.declared.ppc64.forms.Ppc64Instruction.TheVariants.{D}
 use Rattle.linker_elf.specs.declared.riscv64.forms.RiscVInstruction.TheVariants.{UType}
-use Rattle.linker_section.proofs.Fronts.{HaveSameWindow, same_window, accepted_same, multiple_same, reached_same}
+use Rattle.linker_section.proofs.Fronts.{HaveSameWindow, same_window, accepted_same, multiple_same}
+use Rattle.linker_section.proofs.Fronts.{reached_same}
 use Rattle.linker_section.proofs.Local.{small_bytes, takes}
 
 small_window : (insn : RelocationInstruction) → byte_len (relocation_form insn).window ≤ 8

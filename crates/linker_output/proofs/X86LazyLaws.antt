@@ -1,6 +1,8 @@
 -- x86-64's lazy PLT.
-use Rattle.std.proofs.Common.{◌≡◌, ℕ, ℤ, zero, suc, ◌+◌, ◌*◌, ◌%◌, ◌^◌, ◌<◌, ◌≤◌, Bool, true, false, refl, sym, ◌∙◌, ap, subst, arith}
-use Rattle.std.proofs.Common.{List, [], ◌∷◌, ◌++◌, take, drop, length, eqb, cond, Some, Option, pos, negsuc}
+use Rattle.std.proofs.Common.{◌≡◌, ℕ, ℤ, zero, suc, ◌+◌, ◌*◌, ◌%◌, ◌^◌, ◌<◌, ◌≤◌, Bool, true, false}
+use Rattle.std.proofs.Common.{refl, sym, ◌∙◌, ap, subst, arith}
+use Rattle.std.proofs.Common.{List, [], ◌∷◌, ◌++◌, take, drop, length, eqb, cond, Some, Option, pos}
+use Rattle.std.proofs.Common.{negsuc}
 use Rattle.std.specs.Prelude.{◌==◌, IsSomeAnd, nat_lt, if◌then◌else◌}
 use Rattle.std.specs.Int.{w64, byte_at, cast_unsigned}
 use Rattle.std.proofs.lemmas.Bool.{cond-true, cond-false}
@@ -15,7 +17,8 @@ use Rattle.linker_laws.proofs.X86Fields.{place_field, signed_field}
 use Rattle.linker_output.proofs.LazyRuns.{following, are_addresses_at}
 use Rattle.linker_output.proofs.StubWords.{applies}
 use Rattle.linker_output.specs.LazyPlt.{IsCode, operands_at, header_places}
-use Rattle.linker_output.specs.LazyPlts.{x86_64_entry, x86_64_landing_entry, padded, fixed, with_field}
+use Rattle.linker_output.specs.LazyPlts.{x86_64_entry, x86_64_landing_entry, padded, fixed}
+use Rattle.linker_output.specs.LazyPlts.{with_field}
 use Rattle.linker_output.specs.Tables.{field_of}
 use Rattle.linker_output.specs.X86LazyPlt.{step, run, and_then, pushed, Asks, IsOffStack}
 use Rattle.linker_output.specs.X86LazyPlt as laws

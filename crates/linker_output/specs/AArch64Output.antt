@@ -4,11 +4,18 @@
 use Rattle.std.specs.Prelude.{codes, [], None, Some, ◌∷◌, pos}
 use Rattle.linker_elf.specs.AArch64Relocations.{aarch64_name}
 use Rattle.linker_elf.specs.declared.aarch64.relocations.AArch64Relocation.TheVariants as r
+use Rattle.linker_output.specs.Stubs.{StubCode}
 use Rattle.linker_output.specs.Tables.{field_of, kind, kind_of, units_of, no_flags, only}
 use Rattle.linker_output.specs.Tables.{four, plain_stub, data_stub, code_of_words}
 use Rattle.linker_output.specs.View.{Description}
 use Rattle.linker_output.specs.declared.got.ThreadPointer.TheVariants.{BelowImage}
 use Rattle.linker_elf.specs.declared.elf.architecture.Architecture.TheVariants.{AArch64}
+
+-- `adrp x16`, `ldr x17, [x16]`, `br x17`
+abbrev pub by_word : StubCode
+by_word =
+    plain_stub 0x90000010 0xf9400211 (field_of 0 (aarch64_name r.R_AARCH64_ADR_PREL_PG_HI21))
+    (Some (field_of 4 (aarch64_name r.R_AARCH64_LDST64_ABS_LO12_NC))) (0xd61f0220 ∷ [])
 
 abbrev pub aarch64_output : Description
 aarch64_output =
@@ -41,24 +48,14 @@ aarch64_output =
       runs = [];
       interpreter_flags = 0;
       paths = only (codes "/lib/ld-linux-aarch64.so.1");
+      -- GNU_PROPERTY_AARCH64_FEATURE_1_AND, its bit BTI, and DT_AARCH64_BTI_PLT
+      landing_property =
+          Some (record { kind = 0xc0000000; bit = 1; plt_tag = Some 0x70000001 });
       instructions = AArch64;
-      -- `adrp x16`, `ldr x17, [x16]`, `br x17`
-      load_stub =
-          plain_stub 0x90000010 0xf9400211 (field_of 0 (aarch64_name r.R_AARCH64_ADR_PREL_PG_HI21))
-          (Some (field_of 4 (aarch64_name r.R_AARCH64_LDST64_ABS_LO12_NC))) (0xd61f0220 ∷ []);
+      load_stub = by_word;
       -- `bti c`, and the same
       landing_load_stub =
-          Some
-          (record {
-            head = code_of_words (0xd503245f ∷ []);
-            pair = code_of_words (0x90000010 ∷ 0xf9400211 ∷ []);
-            first = field_of 0 (aarch64_name r.R_AARCH64_ADR_PREL_PG_HI21);
-            second = Some (field_of 4 (aarch64_name r.R_AARCH64_LDST64_ABS_LO12_NC));
-            tail = code_of_words (0xd61f0220 ∷ []);
-            entry = 0;
-            origin = 4;
-            addend = pos 0;
-          });
+          Some (record by_word { head = code_of_words (0xd503245f ∷ []); origin = 4 });
       -- `adrp x16`, `add x16, x16`, `br x16`
       jump_stub =
           Some
@@ -74,4 +71,8 @@ aarch64_output =
           Some
           (data_stub (0x58000090 ∷ 0x10000011 ∷ 0x8b110210 ∷ 0xd61f0200 ∷ []) 16
           (field_of 0 (aarch64_name r.R_AARCH64_PREL64)) (pos 12));
+      toc_load_stub = None;
+      toc_far_stub = None;
+      prefixed_load_stub = None;
+      prefixed_jump_stub = None;
     }

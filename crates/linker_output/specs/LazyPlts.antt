@@ -23,7 +23,8 @@ use Rattle.linker_output.specs.declared.lazy_plt.LazyWord.{LazyWord}
 use Rattle.linker_output.specs.declared.lazy_plt.LazyWord.TheVariants as word
 use Rattle.linker_output.specs.declared.stubs.StubField.{StubField}
 use Rattle.linker_elf.specs.declared.elf.architecture.Architecture.{Architecture}
-use Rattle.linker_elf.specs.declared.elf.architecture.Architecture.TheVariants.{AArch64, RiscV, LoongArch64}
+use Rattle.linker_elf.specs.declared.elf.architecture.Architecture.TheVariants.{AArch64, RiscV}
+use Rattle.linker_elf.specs.declared.elf.architecture.Architecture.TheVariants.{LoongArch64}
 use Rattle.linker_elf.specs.declared.elf.architecture.Architecture.TheVariants.{Ppc64, X86_64}
 
 -- at most 8 bytes, and zeros after them

@@ -57,6 +57,7 @@ loongarch_output =
           path soft_float (codes "/lib64/ld-linux-loongarch-lp64s.so.1")
           ∷ path single_float (codes "/lib64/ld-linux-loongarch-lp64f.so.1")
           ∷ path double_float (codes "/lib64/ld-linux-loongarch-lp64d.so.1") ∷ [];
+      landing_property = None;
       instructions = LoongArch64;
       -- `pcalau12i $t3`, `ld.d $t3, $t3`, `jirl $zero, $t3`
       load_stub =
@@ -70,4 +71,8 @@ loongarch_output =
           None []);
       far_stub = None;
       far_relative_stub = None;
+      toc_load_stub = None;
+      toc_far_stub = None;
+      prefixed_load_stub = None;
+      prefixed_jump_stub = None;
     }

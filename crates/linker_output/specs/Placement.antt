@@ -208,8 +208,8 @@ abbrev pub AreUsed : List (Option ℕ) → ℕ → Type 0
 AreUsed stubs len = (j : ℕ) → j < len
     → (i : ℕ) × (i < length stubs) × (slice_index_or stubs i None ≡ Some j)
 
--- Each branch and each stub reaches where it goes. A stub's target has no other one in the same part
--- of the boundary. A branch with bytes to spare goes by none.
+-- Each branch and each stub reaches where it goes. A stub's target has no other one in the same
+-- part of the boundary. A branch with bytes to spare goes by none.
 pub record IsPlacement (code : Code) (placement : Placement) : Type 0 where
   pub is_code : IsCode code
   pub layout : IsLayout code placement.layout

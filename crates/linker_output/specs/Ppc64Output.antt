@@ -6,8 +6,9 @@ use Rattle.linker_elf.specs.Ppc64Relocations.{ppc64_name}
 use Rattle.linker_elf.specs.declared.ppc64.relocations.Ppc64Relocation.TheVariants as r
 use Rattle.linker_output.specs.Layout.{Run}
 use Rattle.linker_output.specs.Stubs.{StubCode}
-use Rattle.linker_output.specs.Tables.{field_of, code_of_words, kind, kind_of, units_of, symbol, only}
-use Rattle.linker_output.specs.Tables.{four, load_of}
+use Rattle.linker_output.specs.Tables.{field_of, code_of_words, kind, kind_of, units_of, symbol}
+use Rattle.linker_output.specs.Tables.{only}
+use Rattle.linker_output.specs.Tables.{four, load_of, plain_stub}
 use Rattle.linker_output.specs.View.{Description}
 use Rattle.linker_output.specs.declared.got.ThreadPointer.TheVariants.{BelowImage}
 use Rattle.linker_output.specs.declared.got.GotHeader.TheVariants.{Base}
@@ -26,6 +27,17 @@ address_to_r12 = 0xf8410018 ∷ 0x7c0802a6 ∷ 0x429f0005 ∷ 0x7d8802a6 ∷ 0x7
 -- `mtctr 12`, `bctr`
 abbrev pub jump_to_r12 : List ℕ
 jump_to_r12 = 0x7d8903a6 ∷ 0x4e800420 ∷ []
+
+-- `addis 12, 2`, `ld 12, (12)`
+abbrev pub by_toc : StubCode
+by_toc =
+    plain_stub 0x3d820000 0xe98c0000 (field_of 0 (ppc64_name r.R_PPC64_TOC16_HA))
+    (Some (field_of 4 (ppc64_name r.R_PPC64_TOC16_LO_DS))) jump_to_r12
+
+-- a prefixed instruction
+abbrev pub by_prefixed : ℕ → ℕ → StubCode
+by_prefixed prefix suffix =
+    plain_stub prefix suffix (field_of 0 (ppc64_name r.R_PPC64_PCREL34)) None jump_to_r12
 
 -- `addis 12, 12` and an instruction with the low half
 abbrev pub through_r12 : ℕ → ElfName → StubCode
@@ -133,6 +145,7 @@ ppc64_output =
           ∷ of_vectors (codes "_restvr_") 0x7e8c00ce ∷ [];
       interpreter_flags = 0;
       paths = only (codes "/lib64/ld64.so.2");
+      landing_property = None;
       instructions = Ppc64;
       -- `addis 12, 12`, `ld 12, (12)`
       load_stub = through_r12 0xe98c0000 (ppc64_name r.R_PPC64_TOC16_LO_DS);
@@ -141,4 +154,11 @@ ppc64_output =
       jump_stub = Some (through_r12 0x398c0000 (ppc64_name r.R_PPC64_TOC16_LO));
       far_stub = None;
       far_relative_stub = None;
+      -- `std 2, 24(1)`, and the same as the next
+      toc_load_stub =
+          Some (record by_toc { head = code_of_words (0xf8410018 ∷ []); entry = 4 });
+      toc_far_stub = Some by_toc;
+      -- `pld 12`, `paddi 12, 0`, relative to the instruction
+      prefixed_load_stub = Some (by_prefixed 0x04100000 0xe5800000);
+      prefixed_jump_stub = Some (by_prefixed 0x06100000 0x39800000);
     }

@@ -2,13 +2,14 @@
 -- To/From System Register Instructions").
 use Rattle.std.specs.Prelude.{◌≡◌, ◌==◌, ◌&&◌, ◌||◌, ◌+◌, ◌-◌, ◌*◌, ◌%◌, ◌^◌, ◌<◌, ◌∷◌, [], ℕ, List}
 use Rattle.std.specs.Prelude.{false, Bool, Option, Some, None, IsSomeAnd, if◌then◌else◌, drop, pos}
+use Rattle.std.specs.Prelude.{take}
 use Rattle.linker_elf.specs.Value.{sum_64}
 use Rattle.linker_laws.specs.Machine.{loaded, moved}
 use Rattle.linker_laws.specs.Ppc64Machine.{State, Formats, step, write, go_on, go_to, next_pc}
-use Rattle.linker_laws.specs.Ppc64Machine.{store, base}
-use Rattle.linker_laws.specs.Ppc64RewriteLaws.{word_of}
+use Rattle.linker_laws.specs.Ppc64Machine.{store, base, step_prefixed}
+use Rattle.linker_laws.specs.Ppc64RewriteLaws.{word_of, prefixed_of}
 use Rattle.linker_output.specs.Ppc64Output.{ppc64_output}
-use Rattle.linker_output.specs.Stubs.{IsStub}
+use Rattle.linker_output.specs.Stubs.{IsStub, StubCode}
 use Rattle.linker_utils.specs.Ppc64Rewrites.{opcode_of, rt_of}
 use Rattle.linker_elf.specs.declared.elf.architecture.Architecture.TheVariants.{Ppc64}
 
@@ -117,8 +118,55 @@ Jumps =
 
 -- The first instruction, where calls enter whose `nop` became `ld 2,24(1)`, stores the TOC pointer
 -- there and goes on to the entry.
-abbrev pub FirstStoresToc : Type 0
-FirstStoresToc =
-    (place target : ℕ) (code : List ℕ) → IsStub Ppc64 ppc64_output.load_stub place target code
+abbrev pub StoresToc : Option StubCode → Type 0
+StoresToc stub =
+    (place target : ℕ) (code : List ℕ) → IsSomeAnd stub (λ s. IsStub Ppc64 s place target code)
     → (f : Formats) (s : State)
     → step f (at 0 code) s ≡ Some (go_on (store 8 (s.registers 2) (moved (base 1 s) (pos 24)) s))
+
+abbrev pub FirstStoresToc : Type 0
+FirstStoresToc = StoresToc (Some ppc64_output.load_stub) × StoresToc ppc64_output.toc_load_stub
+
+-- ---- stubs by the TOC pointer, which r2 has
+
+abbrev pub four_words : List ℕ → List ℕ
+four_words code = at 0 code ∷ at 4 code ∷ at 8 code ∷ at 12 code ∷ []
+
+-- the word has the address of a function, and a call enters at an offset
+abbrev pub GoesByToc : Option StubCode → ℕ → Type 0
+GoesByToc stub entry =
+    (toc word target : ℕ) → toc < 2 ^ 64 → word < 2 ^ 64 → target < 2 ^ 64 → target % 4 ≡ 0
+    → (code : List ℕ) → IsSomeAnd stub (λ s. IsStub Ppc64 s toc word code)
+    → (f : Formats) (c : Counted) → c.state.registers 2 ≡ toc
+    → loaded 8 c.state.memory word ≡ target
+    → IsSomeAnd (run f (four_words (drop entry code)) c) (GoesTo target c)
+
+abbrev pub TocLoads : Type 0
+TocLoads = GoesByToc ppc64_output.toc_load_stub 4
+
+abbrev pub TocReaches : Type 0
+TocReaches = GoesByToc ppc64_output.toc_far_stub 0
+
+-- ---- stubs by a prefixed instruction
+
+-- it is executed, and then the two instructions after it
+abbrev pub run_prefixed : Formats → List ℕ → Counted → Option Counted
+run_prefixed f code c =
+    continue (sum_64 c.state.pc 8) (run f (at 8 code ∷ at 12 code ∷ []))
+    (lifted c (step_prefixed f (prefixed_of (take 8 code)) c.state))
+
+abbrev pub PrefixedLoads : Type 0
+PrefixedLoads =
+    (place word target : ℕ) → place < 2 ^ 64 → word < 2 ^ 64 → target % 4 ≡ 0
+    → (code : List ℕ)
+    → IsSomeAnd ppc64_output.prefixed_load_stub (λ stub. IsStub Ppc64 stub place word code)
+    → (f : Formats) (c : Counted) → c.state.pc ≡ place → loaded 8 c.state.memory word ≡ target
+    → IsSomeAnd (run_prefixed f code c) (GoesTo target c)
+
+abbrev pub PrefixedJumps : Type 0
+PrefixedJumps =
+    (place target : ℕ) → place < 2 ^ 64 → target < 2 ^ 64 → target % 4 ≡ 0
+    → (code : List ℕ)
+    → IsSomeAnd ppc64_output.prefixed_jump_stub (λ stub. IsStub Ppc64 stub place target code)
+    → (f : Formats) (c : Counted) → c.state.pc ≡ place
+    → IsSomeAnd (run_prefixed f code c) (GoesTo target c)

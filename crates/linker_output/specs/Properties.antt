@@ -7,7 +7,8 @@ use Rattle.std.specs.Prelude.{drop, max}
 use Rattle.std.specs.Prelude.{suc, zero, Option, Some, None, Result, Ok, Err, bit_and, bit_or}
 use Rattle.std.specs.Int.{w64, from_le_bytes, to_le_bytes}
 use Rattle.linker_elf.specs.declared.elf.architecture.Architecture.{Architecture}
-use Rattle.linker_elf.specs.declared.elf.architecture.Architecture.TheVariants.{AArch64, RiscV, X86_64}
+use Rattle.linker_elf.specs.declared.elf.architecture.Architecture.TheVariants.{AArch64, RiscV}
+use Rattle.linker_elf.specs.declared.elf.architecture.Architecture.TheVariants.{X86_64}
 use Rattle.linker_output.specs.declared.properties.Property.{Property}
 use Rattle.linker_output.specs.declared.properties.Reading.{Reading}
 use Rattle.linker_output.specs.declared.properties.PropertyRule.{PropertyRule}

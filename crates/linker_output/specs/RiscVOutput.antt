@@ -62,6 +62,7 @@ riscv_output =
           path 0 (codes "/lib/ld-linux-riscv64-lp64.so.1")
           ∷ path single_float (codes "/lib/ld-linux-riscv64-lp64f.so.1")
           ∷ path double_float (codes "/lib/ld-linux-riscv64-lp64d.so.1") ∷ [];
+      landing_property = None;
       instructions = RiscV;
       -- `auipc t3`, `ld t3, (t3)`, `jr t3`
       load_stub =
@@ -71,4 +72,8 @@ riscv_output =
       jump_stub = None;
       far_stub = None;
       far_relative_stub = None;
+      toc_load_stub = None;
+      toc_far_stub = None;
+      prefixed_load_stub = None;
+      prefixed_jump_stub = None;
     }

@@ -6,7 +6,8 @@ use Rattle.linker_output.specs.RiscVOutput.{riscv_output}
 use Rattle.linker_output.specs.View.{Description}
 use Rattle.linker_output.specs.X86Output.{x86_64_output}
 use Rattle.linker_elf.specs.declared.elf.architecture.Architecture.{Architecture}
-use Rattle.linker_elf.specs.declared.elf.architecture.Architecture.TheVariants.{AArch64, RiscV, LoongArch64}
+use Rattle.linker_elf.specs.declared.elf.architecture.Architecture.TheVariants.{AArch64, RiscV}
+use Rattle.linker_elf.specs.declared.elf.architecture.Architecture.TheVariants.{LoongArch64}
 use Rattle.linker_elf.specs.declared.elf.architecture.Architecture.TheVariants.{Ppc64, X86_64}
 
 abbrev pub target_of : Architecture → Description

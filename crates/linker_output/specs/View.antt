@@ -15,10 +15,13 @@ use Rattle.linker_output.specs.declared.layout.Interpreter.{Interpreter}
 use Rattle.linker_output.specs.declared.layout.SaveRestoreRoutines.{SaveRestoreRoutines}
 use Rattle.linker_output.specs.declared.layout.ProvidedSymbol.{ProvidedSymbol}
 use Rattle.linker_output.specs.declared.layout.SymbolPlace.{SymbolPlace}
+use Rattle.linker_output.specs.declared.properties.LandingProperty.{LandingProperty}
 use Rattle.linker_output.specs.declared.stubs.Stub.{Stub}
 use Rattle.linker_output.specs.declared.stubs.StubKind.{StubKind}
 use Rattle.linker_output.specs.declared.stubs.StubKind.TheVariants.{Load, Jump}
 use Rattle.linker_output.specs.declared.stubs.StubKind.TheVariants.{Far, FarRelative, LandingLoad}
+use Rattle.linker_output.specs.declared.stubs.StubKind.TheVariants.{TocLoad, TocFar}
+use Rattle.linker_output.specs.declared.stubs.StubKind.TheVariants.{PrefixedLoad, PrefixedJump}
 use Rattle.linker_output.specs.declared.description.Target.{Target}
 use Rattle.linker_elf.specs.declared.elf.architecture.Architecture.{Architecture}
 
@@ -44,6 +47,7 @@ pub record Description : Type 0 where
   pub runs : List Run
   pub interpreter_flags : ℕ
   pub paths : List Path
+  pub landing_property : Option LandingProperty
   -- whose relocations the fields of stubs have
   pub instructions : Architecture
   pub load_stub : StubCode
@@ -51,6 +55,10 @@ pub record Description : Type 0 where
   pub jump_stub : Option StubCode
   pub far_stub : Option StubCode
   pub far_relative_stub : Option StubCode
+  pub toc_load_stub : Option StubCode
+  pub toc_far_stub : Option StubCode
+  pub prefixed_load_stub : Option StubCode
+  pub prefixed_jump_stub : Option StubCode
 
 -- ---- of the code
 
@@ -133,6 +141,10 @@ stub_of t Jump = view_some t.jump_stub
 stub_of t Far = view_some t.far_stub
 stub_of t FarRelative = view_some t.far_relative_stub
 stub_of t LandingLoad = view_some t.landing_load_stub
+stub_of t TocLoad = view_some t.toc_load_stub
+stub_of t TocFar = view_some t.toc_far_stub
+stub_of t PrefixedLoad = view_some t.prefixed_load_stub
+stub_of t PrefixedJump = view_some t.prefixed_jump_stub
 
 abbrev pub view : Target → Description
 view t =
@@ -150,10 +162,15 @@ view t =
       runs = view_runs t.runs.now;
       interpreter_flags = t.interpreter_flags;
       paths = view_paths t.interpreters.now;
+      landing_property = t.landing_property;
       instructions = t.instructions;
       load_stub = view_stub t.load_stub;
       landing_load_stub = view_some t.landing_load_stub;
       jump_stub = view_some t.jump_stub;
       far_stub = view_some t.far_stub;
       far_relative_stub = view_some t.far_relative_stub;
+      toc_load_stub = view_some t.toc_load_stub;
+      toc_far_stub = view_some t.toc_far_stub;
+      prefixed_load_stub = view_some t.prefixed_load_stub;
+      prefixed_jump_stub = view_some t.prefixed_jump_stub;
     }

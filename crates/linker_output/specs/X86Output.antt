@@ -39,6 +39,8 @@ x86_64_output =
       runs = [];
       interpreter_flags = 0;
       paths = only (codes "/lib64/ld-linux-x86-64.so.2");
+      -- GNU_PROPERTY_X86_FEATURE_1_AND, and its bit IBT
+      landing_property = Some (record { kind = 0xc0000002; bit = 1; plt_tag = None });
       instructions = X86_64;
       -- `jmp *word(%rip)`, of which the field is relative to the next instruction, and 2 of `int3`
       load_stub =
@@ -68,4 +70,8 @@ x86_64_output =
       jump_stub = None;
       far_stub = None;
       far_relative_stub = None;
+      toc_load_stub = None;
+      toc_far_stub = None;
+      prefixed_load_stub = None;
+      prefixed_jump_stub = None;
     }

@@ -5,8 +5,30 @@ use crate::dynamic::{DynamicType, DynamicTypes, named};
 use crate::flags::FlagRules;
 use crate::got::{GotLayout, ThreadPointer};
 use crate::layout::{Interpreter, WORDS};
+use crate::properties::LandingProperty;
 use crate::stubs::{Stub, StubField, field};
 use linker_utils::elf::{AllowedRange, Architecture};
+
+/// The stub to the address that a word has, after other code of a length.
+macro_rules! load_stub {
+    ($head:expr, $len:literal) => {
+        Stub {
+            head: $head,
+            pair: [
+                0x10, 0, 0, 0x90, // adrp x16, 0
+                0x11, 2, 0x40, 0xf9, // ldr x17, [x16]
+            ],
+            first: field!(0, R_AARCH64_ADR_PREL_PG_HI21),
+            second: Some(field!(4, R_AARCH64_LDST64_ABS_LO12_NC)),
+            tail: &[
+                0x20, 2, 0x1f, 0xd6, // br x17
+            ],
+            entry: 0,
+            origin: $len,
+            addend: 0,
+        }
+    };
+}
 
 /// The description.
 pub(crate) static TARGET: Target = Target {
@@ -47,39 +69,15 @@ pub(crate) static TARGET: Target = Target {
         flags: 0,
         path: "/lib/ld-linux-aarch64.so.1",
     }],
-    instructions: Architecture::AArch64,
-    load_stub: Stub {
-        head: &[],
-        pair: [
-            0x10, 0, 0, 0x90, // adrp x16, 0
-            0x11, 2, 0x40, 0xf9, // ldr x17, [x16]
-        ],
-        first: field!(0, R_AARCH64_ADR_PREL_PG_HI21),
-        second: Some(field!(4, R_AARCH64_LDST64_ABS_LO12_NC)),
-        tail: &[
-            0x20, 2, 0x1f, 0xd6, // br x17
-        ],
-        entry: 0,
-        origin: 0,
-        addend: 0,
-    },
-    landing_load_stub: Some(Stub {
-        head: &[
-            0x5f, 0x24, 3, 0xd5, // bti c
-        ],
-        pair: [
-            0x10, 0, 0, 0x90, // adrp x16, 0
-            0x11, 2, 0x40, 0xf9, // ldr x17, [x16]
-        ],
-        first: field!(0, R_AARCH64_ADR_PREL_PG_HI21),
-        second: Some(field!(4, R_AARCH64_LDST64_ABS_LO12_NC)),
-        tail: &[
-            0x20, 2, 0x1f, 0xd6, // br x17
-        ],
-        entry: 0,
-        origin: 4,
-        addend: 0,
+    // GNU_PROPERTY_AARCH64_FEATURE_1_AND, its bit BTI, and DT_AARCH64_BTI_PLT
+    landing_property: Some(LandingProperty {
+        kind: 0xc000_0000,
+        bit: 1,
+        plt_tag: Some(0x7000_0001),
     }),
+    instructions: Architecture::AArch64,
+    load_stub: load_stub!(&[], 0),
+    landing_load_stub: Some(load_stub!(&[0x5f, 0x24, 3, 0xd5], 4)), // bti c
     jump_stub: Some(Stub {
         head: &[],
         pair: [
@@ -124,4 +122,8 @@ pub(crate) static TARGET: Target = Target {
         // from `adr`
         addend: 12,
     }),
+    toc_load_stub: None,
+    toc_far_stub: None,
+    prefixed_load_stub: None,
+    prefixed_jump_stub: None,
 };

@@ -9,6 +9,7 @@ use crate::dynamic::DynamicTypes;
 use crate::flags::FlagRules;
 use crate::got::{GotLayout, ThreadPointer};
 use crate::layout::{CodeUnit, Interpreter, ProvidedSymbol, SaveRestoreRoutines};
+use crate::properties::LandingProperty;
 use crate::stubs::Stub;
 use linker_elf::elf::architecture::by_architecture;
 use linker_utils::elf::Architecture;
@@ -51,6 +52,9 @@ pub struct Target {
     pub interpreter_flags: u32,
     /// The paths of the dynamic linker.
     pub interpreters: &'static [Interpreter],
+    /// What says that code is so protected that indirect branches may go only to some instructions,
+    /// if the architecture has such code.
+    pub landing_property: Option<LandingProperty>,
     /// The architecture whose relocations the fields of stubs have.
     pub instructions: Architecture,
     /// The stub to the address that a word has.
@@ -64,6 +68,14 @@ pub struct Target {
     pub far_stub: Option<Stub>,
     /// The same with the distance to the target.
     pub far_relative_stub: Option<Stub>,
+    /// The stub to the address that a word near the TOC has, if code has the TOC pointer.
+    pub toc_load_stub: Option<Stub>,
+    /// The same for functions of this output.
+    pub toc_far_stub: Option<Stub>,
+    /// The stub to the address that a word has, by a prefixed instruction.
+    pub prefixed_load_stub: Option<Stub>,
+    /// The stub to a far target, by a prefixed instruction.
+    pub prefixed_jump_stub: Option<Stub>,
 }
 
 impl Target {

@@ -2,8 +2,9 @@
 //!
 //! The functions do nothing, and the contract of each has the laws of one architecture, over the
 //! machine that `linker_laws` has of it. From the address at which a stub of `Target::of` stands,
-//! with any registers, its code ends at the address that the word at its target has (`Load` and
-//! `LandingLoad`), or at its target (else), and has changed only the registers that a call may change on its way.
+//! with any registers, its code ends at the address that the word at its target has, or at its
+//! target, as `Target::write_stub` says of its kind. It has changed only the registers that a call
+//! may change on its way.
 
 ghost use Rattle.linker_output.specs.AArch64Stubs as aarch64_stubs;
 ghost use Rattle.linker_output.specs.LoongArchStubs as loongarch_stubs;
@@ -42,6 +43,10 @@ pub fn ppc64()
     ensures loads { ppc64_stubs.Loads }
     ensures jumps { ppc64_stubs.Jumps }
     ensures first { ppc64_stubs.FirstStoresToc }
+    ensures toc_loads { ppc64_stubs.TocLoads }
+    ensures toc_reaches { ppc64_stubs.TocReaches }
+    ensures prefixed_loads { ppc64_stubs.PrefixedLoads }
+    ensures prefixed_jumps { ppc64_stubs.PrefixedJumps }
 {
     linker_laws::relocations::ppc64();
 }

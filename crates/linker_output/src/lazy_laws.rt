@@ -13,8 +13,8 @@ ghost use Rattle.linker_output.specs.Ppc64LazyPlt as ppc64_plt;
 ghost use Rattle.linker_output.specs.RiscVLazyPlt as riscv_plt;
 ghost use Rattle.linker_output.specs.X86LazyPlt as x86_plt;
 
-/// AArch64: x16 and x17 change. The same holds of the forms `Landing` and `LandingEntry`. The machine
-/// has no authenticated addresses, and the others have no law.
+/// AArch64: x16 and x17 change. The same holds of the forms `Landing` and `LandingEntry`. The
+/// machine has no authenticated addresses, and the others have no law.
 pub fn aarch64()
     ensures enters { aarch64_plt.Enters }
     ensures resolves { aarch64_plt.Resolves }

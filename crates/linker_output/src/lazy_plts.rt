@@ -74,8 +74,8 @@ macro_rules! opcode {
     };
 }
 
-/// Pieces of AArch64's code, `adrp`, `ldr` and `add`, whose first is at an offset, of the address of
-/// a word or so far above it, and other pieces.
+/// Pieces of AArch64's code, `adrp`, `ldr` and `add`, whose first is at an offset, of the address
+/// of a word or so far above it, and other pieces.
 macro_rules! loads {
     ([$($before:expr),*], $origin:literal, $addend:literal, [$($after:expr),*]) => {
         &[

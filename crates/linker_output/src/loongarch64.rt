@@ -57,6 +57,7 @@ pub(crate) static TARGET: Target = Target {
             path: "/lib64/ld-linux-loongarch-lp64d.so.1",
         },
     ],
+    landing_property: None,
     instructions: Architecture::LoongArch64,
     load_stub: Stub {
         head: &[],
@@ -89,4 +90,8 @@ pub(crate) static TARGET: Target = Target {
     }),
     far_stub: None,
     far_relative_stub: None,
+    toc_load_stub: None,
+    toc_far_stub: None,
+    prefixed_load_stub: None,
+    prefixed_jump_stub: None,
 };

@@ -334,14 +334,14 @@ fn place_by(alloc: Global, code: &Code<'_>, may_share: bool) -> Result<Placement
 
 /// Places stubs at boundaries, so that each branch reaches its target or a stub of it, and returns
 /// the layout and by which stub each branch goes. An error is the first that applies of `NoLength`,
-/// `NotAscending`, `NoTarget`, `TooLong`, `OutOfMemory`, `NoBoundary` and `StubTooFar`, with the first
-/// index of it. One that is about a layout has it.
+/// `NotAscending`, `NoTarget`, `TooLong`, `OutOfMemory`, `NoBoundary` and `StubTooFar`, with the
+/// first index of it. One that is about a layout has it.
 ///
 /// A branch that doesn't reach its target shares the stub of it that was used last, if that is in
 /// reach. Else a stub is placed for it at the last boundary within half of its reach ahead, if that
 /// is beyond the next one, or at a boundary next to it, unless the target has one there. Each stub
-/// has a branch that goes by it, and a branch goes by none that reaches its target with the bytes of
-/// all stubs that there may be in between.
+/// has a branch that goes by it, and a branch goes by none that reaches its target with the bytes
+/// of all stubs that there may be in between.
 ///
 /// Offsets move by the stubs before them, so that this is done again until each branch is in reach.
 /// A pass takes O((n + s) log b) for n branches, s stubs and b boundaries, and there are a few.

@@ -58,6 +58,13 @@ macro_rules! of_vectors {
     };
 }
 
+/// `mtctr 12` and `bctr`.
+macro_rules! to_r12 {
+    () => {
+        &[0xa6, 3, 0x89, 0x7d, 0x20, 4, 0x80, 0x4e]
+    };
+}
+
 /// A stub by its pair of instructions, and the relocation of the second one.
 macro_rules! stub {
     ($pair:expr, $second:ident) => {
@@ -72,14 +79,46 @@ macro_rules! stub {
             pair: $pair,
             first: field!(0, R_PPC64_TOC16_HA),
             second: Some(field!(4, $second)),
-            tail: &[
-                0xa6, 3, 0x89, 0x7d, // mtctr 12
-                0x20, 4, 0x80, 0x4e, // bctr
-            ],
+            tail: to_r12!(),
             entry: 4,
             origin: 12,
             addend: 0,
         }
+    };
+}
+
+/// A stub by the TOC pointer, after other code, and where a call enters that needs none of that.
+macro_rules! toc_stub {
+    ($head:expr, $entry:literal) => {
+        Some(Stub {
+            head: $head,
+            pair: [
+                0, 0, 0x82, 0x3d, // addis 12, 2, 0
+                0, 0, 0x8c, 0xe9, // ld 12, 0(12)
+            ],
+            first: field!(0, R_PPC64_TOC16_HA),
+            second: Some(field!(4, R_PPC64_TOC16_LO_DS)),
+            tail: to_r12!(),
+            entry: $entry,
+            origin: 0,
+            addend: 0,
+        })
+    };
+}
+
+/// A stub by a prefixed instruction.
+macro_rules! prefixed_stub {
+    ($instruction:expr) => {
+        Some(Stub {
+            head: &[],
+            pair: $instruction,
+            first: field!(0, R_PPC64_PCREL34),
+            second: None,
+            tail: to_r12!(),
+            entry: 0,
+            origin: 0,
+            addend: 0,
+        })
     };
 }
 
@@ -151,6 +190,7 @@ pub(crate) static TARGET: Target = Target {
         flags: 0,
         path: "/lib64/ld64.so.2",
     }],
+    landing_property: None,
     instructions: Architecture::Ppc64,
     load_stub: stub!(
         [
@@ -169,4 +209,8 @@ pub(crate) static TARGET: Target = Target {
     )),
     far_stub: None,
     far_relative_stub: None,
+    toc_load_stub: toc_stub!(&[0x18, 0, 0x41, 0xf8], 4), // std 2, 24(1)
+    toc_far_stub: toc_stub!(&[], 0),
+    prefixed_load_stub: prefixed_stub!([0, 0, 0x10, 4, 0, 0, 0x80, 0xe5]), // pld 12, 0(0), 1
+    prefixed_jump_stub: prefixed_stub!([0, 0, 0x10, 6, 0, 0, 0x80, 0x39]), // paddi 12, 0, 0, 1
 };

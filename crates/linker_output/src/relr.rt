@@ -6,9 +6,11 @@
 //! bytes above the address before it, or after those of the bitmap before it; bit 1 is that of the
 //! first.
 
-ghost use Rattle.std.specs.Prelude.{◌≡◌, ◌≤◌, ◌+◌, ◌*◌, ◌^◌, true, false, Some, None, IfOk, IfErr, set, length};
+ghost use Rattle.std.specs.Prelude.{◌≡◌, ◌≤◌, ◌+◌, ◌*◌, ◌^◌, true, false, Some, None, IfOk, IfErr};
+ghost use Rattle.std.specs.Prelude.{set, length};
 ghost use Rattle.linker_output.specs.Relr.{marked, relocated, are_addresses, relr_fault};
-ghost use Rattle.linker_output.specs.Relr.{Unpacks, RejectsWords, address_fault, WritesPacked, RejectsAddresses};
+ghost use Rattle.linker_output.specs.Relr.{Unpacks, RejectsWords, address_fault, WritesPacked};
+ghost use Rattle.linker_output.specs.Relr.{RejectsAddresses};
 ghost use Rattle.linker_output.specs.Inner.Relr.{words_of, put_all, capped};
 
 /// Why addresses aren't packed, or words aren't read.

@@ -65,6 +65,7 @@ pub(crate) static TARGET: Target = Target {
             path: "/lib/ld-linux-riscv64-lp64d.so.1",
         },
     ],
+    landing_property: None,
     instructions: Architecture::RiscV,
     load_stub: Stub {
         head: &[],
@@ -85,4 +86,8 @@ pub(crate) static TARGET: Target = Target {
     jump_stub: None,
     far_stub: None,
     far_relative_stub: None,
+    toc_load_stub: None,
+    toc_far_stub: None,
+    prefixed_load_stub: None,
+    prefixed_jump_stub: None,
 };

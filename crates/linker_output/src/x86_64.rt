@@ -5,6 +5,7 @@ use crate::dynamic::{DynamicType, DynamicTypes, named};
 use crate::flags::FlagRules;
 use crate::got::{GotLayout, ThreadPointer};
 use crate::layout::{CodeUnit, Interpreter, ProvidedSymbol, SymbolPlace};
+use crate::properties::LandingProperty;
 use crate::stubs::{Stub, StubField, field};
 use linker_utils::elf::{AllowedRange, Architecture};
 
@@ -52,6 +53,12 @@ pub(crate) static TARGET: Target = Target {
         flags: 0,
         path: "/lib64/ld-linux-x86-64.so.2",
     }],
+    // GNU_PROPERTY_X86_FEATURE_1_AND, and its bit IBT
+    landing_property: Some(LandingProperty {
+        kind: 0xc000_0002,
+        bit: 1,
+        plt_tag: None,
+    }),
     instructions: Architecture::X86_64,
     load_stub: Stub {
         head: &[],
@@ -76,4 +83,8 @@ pub(crate) static TARGET: Target = Target {
     jump_stub: None,
     far_stub: None,
     far_relative_stub: None,
+    toc_load_stub: None,
+    toc_far_stub: None,
+    prefixed_load_stub: None,
+    prefixed_jump_stub: None,
 };

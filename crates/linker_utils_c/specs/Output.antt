@@ -14,6 +14,8 @@ use Rattle.linker_output.specs.declared.stubs.StubError.TheVariants as errors
 use Rattle.linker_output.specs.declared.stubs.StubKind.{StubKind}
 use Rattle.linker_output.specs.declared.stubs.StubKind.TheVariants.{Load, Jump}
 use Rattle.linker_output.specs.declared.stubs.StubKind.TheVariants.{Far, FarRelative, LandingLoad}
+use Rattle.linker_output.specs.declared.stubs.StubKind.TheVariants.{TocLoad, TocFar}
+use Rattle.linker_output.specs.declared.stubs.StubKind.TheVariants.{PrefixedLoad, PrefixedJump}
 use Rattle.linker_section.specs.declared.needed.EntryClass.{EntryClass}
 use Rattle.linker_section.specs.declared.needed.EntryClass.TheVariants.{Address, ThreadOffset}
 use Rattle.linker_section.specs.declared.needed.EntryClass.TheVariants.{ModuleOffset, Module}
@@ -170,6 +172,10 @@ stub_kind_of number =
     else if number == 2 then Some Far
     else if number == 3 then Some FarRelative
     else if number == 4 then Some LandingLoad
+    else if number == 5 then Some TocLoad
+    else if number == 6 then Some TocFar
+    else if number == 7 then Some PrefixedLoad
+    else if number == 8 then Some PrefixedJump
     else None
 
 abbrev pub stub_in : Description → Option StubKind → Option StubCode
@@ -179,6 +185,10 @@ stub_in target (Some Jump) = target.jump_stub
 stub_in target (Some Far) = target.far_stub
 stub_in target (Some FarRelative) = target.far_relative_stub
 stub_in target (Some LandingLoad) = target.landing_load_stub
+stub_in target (Some TocLoad) = target.toc_load_stub
+stub_in target (Some TocFar) = target.toc_far_stub
+stub_in target (Some PrefixedLoad) = target.prefixed_load_stub
+stub_in target (Some PrefixedJump) = target.prefixed_jump_stub
 
 abbrev pub IsStubReturned : Option StubCode → StubNumbers → StubNumbers → ℕ → Type 0
 IsStubReturned None old new status = (status ≡ code UnknownStub) × (new ≡ old)

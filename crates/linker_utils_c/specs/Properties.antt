@@ -3,17 +3,21 @@ use Rattle.std.specs.Prelude.{◌≡◌, ◌⊎◌, ℕ, List, length, Result, O
 use Rattle.std.specs.Prelude.{Bool, false, is_some}
 use Rattle.linker_output.specs.Properties.{rule_of, WritesRead, RejectsRead, WritesMerged}
 use Rattle.linker_output.specs.Properties.{RejectsMerge, WritesNote, RejectsNote}
+use Rattle.linker_output.specs.declared.properties.LandingProperty.{LandingProperty}
 use Rattle.linker_output.specs.declared.properties.Property.{Property}
 use Rattle.linker_output.specs.declared.properties.PropertyError.{PropertyError}
 use Rattle.linker_output.specs.declared.properties.PropertyError.TheVariants as errors
 use Rattle.linker_elf.specs.declared.elf.architecture.Architecture.{Architecture}
+use Rattle.linker_utils_c.specs.Output.{number_or_none}
 use Rattle.linker_utils_c.specs.Status.{code}
+use Rattle.linker_utils_c.specs.declared.properties.LandingNumbers.{LandingNumbers}
 use Rattle.linker_utils_c.specs.declared.status.Status.{Status}
 use Rattle.linker_utils_c.specs.declared.status.Status.TheVariants.{Success, NotProperties, CutOff}
 use Rattle.linker_utils_c.specs.declared.status.Status.TheVariants.{WrongSize, NotAscending}
 use Rattle.linker_utils_c.specs.declared.status.Status.TheVariants.{DifferentValues}
 use Rattle.linker_utils_c.specs.declared.status.Status.TheVariants.{UnknownProperty}
 use Rattle.linker_utils_c.specs.declared.status.Status.TheVariants.{DoesNotFit, TooLarge, TooShort}
+use Rattle.linker_utils_c.specs.declared.status.Status.TheVariants.{NotProvided}
 
 -- a property's type has a rule
 abbrev pub has_rule : Option Architecture → ℕ → Bool
@@ -72,3 +76,17 @@ abbrev pub IsNoteWritten : Architecture → List Property → List ℕ → List 
 IsNoteWritten architecture properties before =
     IsReturned (WritesNote architecture properties before)
     (RejectsNote architecture properties (length before)) before
+
+-- what says that code is protected
+abbrev pub landing_numbers : LandingProperty → LandingNumbers
+landing_numbers landing =
+    record {
+      bit = landing.bit;
+      plt_tag = number_or_none landing.plt_tag;
+      kind = landing.kind;
+    }
+
+abbrev pub IsLandingReturned : Option LandingProperty → LandingNumbers → LandingNumbers → ℕ → Type 0
+IsLandingReturned None old new status = (status ≡ code NotProvided) × (new ≡ old)
+IsLandingReturned (Some landing) old new status =
+    (status ≡ code Success) × (new ≡ landing_numbers landing)

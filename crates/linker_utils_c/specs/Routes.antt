@@ -9,6 +9,8 @@ use Rattle.linker_output.specs.declared.routes.RouteError.TheVariants as errors
 use Rattle.linker_output.specs.declared.stubs.StubKind.{StubKind}
 use Rattle.linker_output.specs.declared.stubs.StubKind.TheVariants.{Load, Jump}
 use Rattle.linker_output.specs.declared.stubs.StubKind.TheVariants.{Far, FarRelative, LandingLoad}
+use Rattle.linker_output.specs.declared.stubs.StubKind.TheVariants.{TocLoad, TocFar}
+use Rattle.linker_output.specs.declared.stubs.StubKind.TheVariants.{PrefixedLoad, PrefixedJump}
 use Rattle.linker_section.specs.declared.facts.Addresses.{Addresses}
 use Rattle.linker_section.specs.declared.facts.Symbol.{Symbol}
 use Rattle.linker_section.specs.declared.relocations.Rela.{Rela}
@@ -27,6 +29,10 @@ kind_number Jump = 1
 kind_number Far = 2
 kind_number FarRelative = 3
 kind_number LandingLoad = 4
+kind_number TocLoad = 5
+kind_number TocFar = 6
+kind_number PrefixedLoad = 7
+kind_number PrefixedJump = 8
 
 abbrev pub route_in : Route → RouteNumbers
 route_in routes.Direct = record { target = 0; entry = 0; kind = 0; is_by_stub = 0 }

@@ -2,16 +2,30 @@
 
 ghost use Rattle.std.specs.Prelude.{◌≡◌, IfSome, IfNone};
 ghost use Rattle.linker_elf.specs.Machines.{architecture_of};
+ghost use Rattle.linker_output.specs.Targets.{target_of};
 ghost use Rattle.linker_utils_c.specs.Properties.{has_rule, property_status, number_by};
 ghost use Rattle.linker_utils_c.specs.Properties.{ArePropertiesRead, ArePropertiesMerged};
-ghost use Rattle.linker_utils_c.specs.Properties.{IsNoteWritten};
+ghost use Rattle.linker_utils_c.specs.Properties.{IsNoteWritten, IsLandingReturned};
 ghost use Rattle.linker_utils_c.specs.Status.{code};
 
 use crate::status::Status;
+use linker_output::description::Target;
 use linker_output::properties::{
     Property, PropertyError, merge_properties, property_rule, read_properties, write_properties,
 };
 use linker_utils::elf::Architecture;
+
+/// The bit of a property that says that code is protected, as `LandingProperty`.
+#[repr(C)]
+#[derive(Clone, Copy)]
+pub struct LandingNumbers {
+    /// The bit, as a mask of the property's value.
+    pub bit: u64,
+    /// The tag of `.dynamic` that says so of the PLT; 0 where there is none.
+    pub plt_tag: u64,
+    /// The property's type.
+    pub kind: u32,
+}
 
 /// The status of a call, which also writes how many there are or are needed, or what an error is
 /// about.
@@ -117,4 +131,33 @@ pub extern "C" fn linker_utils_write_properties_nonnull(
         return Status::UnknownArchitecture.number();
     };
     status_of(write_properties(architecture, properties, note), number)
+}
+
+/// Writes what says that code of an architecture is protected. The first that applies of
+/// `UnknownArchitecture`; `NotProvided`, where the architecture has no such code.
+#[unsafe(no_mangle)]
+pub extern "C" fn linker_utils_get_landing_property(
+    machine: u16,
+    landing: &mut LandingNumbers,
+) -> u32
+    ensures known { IfSome (architecture_of machine) (λ architecture. IsLandingReturned
+        (target_of architecture).landing_property landing.old landing.new result) }
+    ensures unknown { IfNone (architecture_of machine)
+        ((result ≡ code Status.UnknownArchitecture) × (landing.new ≡ landing.old)) }
+{
+    let Some(architecture) = Architecture::from_machine(machine) else {
+        return Status::UnknownArchitecture.number();
+    };
+    let Some(property) = Target::of(architecture).landing_property else {
+        return Status::NotProvided.number();
+    };
+    *landing = LandingNumbers {
+        bit: property.bit,
+        plt_tag: match property.plt_tag {
+            Some(tag) => tag,
+            None => 0,
+        },
+        kind: property.kind,
+    };
+    Status::Success.number()
 }

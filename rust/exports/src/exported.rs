@@ -15,6 +15,7 @@ use crate::output::StubNumbers;
 use crate::output::SymbolNumbers;
 use crate::output::WordCodes;
 use crate::placement::PlacedStub;
+use crate::properties::LandingNumbers;
 use crate::reading::FieldValueNumbers;
 use crate::recognising::DestinationNumbers;
 use crate::recognising::RecognisedNumbers;
@@ -1324,6 +1325,20 @@ unsafe extern "C" fn linker_utils_write_properties_nonnull(
             from_raw_parts(properties, properties_len),
             from_raw_parts_mut(note, note_len),
             &mut *number,
+        )
+    }
+}
+
+#[unsafe(no_mangle)]
+unsafe extern "C" fn linker_utils_get_landing_property(
+    machine: u16,
+    landing: *mut LandingNumbers,
+) -> u32 {
+    // SAFETY: the arguments are as the head of the header says.
+    unsafe {
+        crate::properties::linker_utils_get_landing_property(
+            machine,
+            &mut *landing,
         )
     }
 }

@@ -3,10 +3,23 @@
 //! Program properties.
 
 use crate::status::Status;
+use linker_utils::source::output::Target;
 use linker_utils::source::output::{
     Property, PropertyError, merge_properties, property_rule, read_properties, write_properties,
 };
 use linker_utils::elf::Architecture;
+
+/// The bit of a property that says that code is protected, as `LandingProperty`.
+#[repr(C)]
+#[derive(Clone, Copy)]
+pub struct LandingNumbers {
+    /// The bit, as a mask of the property's value.
+    pub bit: u64,
+    /// The tag of `.dynamic` that says so of the PLT; 0 where there is none.
+    pub plt_tag: u64,
+    /// The property's type.
+    pub kind: u32,
+}
 
 /// The status of a call, which also writes how many there are or are needed, or what an error is
 /// about.
@@ -84,4 +97,27 @@ pub fn linker_utils_write_properties_nonnull(
         return Status::UnknownArchitecture.number();
     };
     status_of(write_properties(architecture, properties, note), number)
+}
+
+/// Writes what says that code of an architecture is protected. The first that applies of
+/// `UnknownArchitecture`; `NotProvided`, where the architecture has no such code.
+pub fn linker_utils_get_landing_property(
+    machine: u16,
+    landing: &mut LandingNumbers,
+) -> u32 {
+    let Some(architecture) = Architecture::from_machine(machine) else {
+        return Status::UnknownArchitecture.number();
+    };
+    let Some(property) = Target::of(architecture).landing_property else {
+        return Status::NotProvided.number();
+    };
+    *landing = LandingNumbers {
+        bit: property.bit,
+        plt_tag: match property.plt_tag {
+            Some(tag) => tag,
+            None => 0,
+        },
+        kind: property.kind,
+    };
+    Status::Success.number()
 }

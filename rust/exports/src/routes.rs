@@ -35,6 +35,10 @@ fn kind_number(kind: StubKind) -> u32 {
         StubKind::Far => 2,
         StubKind::FarRelative => 3,
         StubKind::LandingLoad => 4,
+        StubKind::TocLoad => 5,
+        StubKind::TocFar => 6,
+        StubKind::PrefixedLoad => 7,
+        StubKind::PrefixedJump => 8,
     }
 }
 

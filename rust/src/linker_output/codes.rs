@@ -1,7 +1,7 @@
 // SPDX-License-Identifier: MIT OR Apache-2.0
 // Made by tools/generate of crates/linker_output/src/codes.rt.
-//! The codes, `r_type` in ELF files, of the relocations that fields of stubs and lazy PLTs have, and
-//! that loads from PowerPC64's `.toc` have.
+//! The codes, `r_type` in ELF files, of the relocations that fields of stubs and lazy PLTs have,
+//! and that loads from PowerPC64's `.toc` have.
 
 /// The code of a name.
 macro_rules! code {
@@ -23,6 +23,7 @@ macro_rules! code {
     (R_PPC64_TOC16_HA) => { 50 };
     (R_PPC64_GOT16_LO_DS) => { 59 };
     (R_PPC64_TOC16_LO_DS) => { 64 };
+    (R_PPC64_PCREL34) => { 132 };
     (R_RISCV_PCREL_HI20) => { 23 };
     (R_RISCV_PCREL_LO12_I) => { 24 };
     (R_X86_64_PC32) => { 2 };

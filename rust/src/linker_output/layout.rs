@@ -28,8 +28,8 @@ pub(crate) const WORDS: CodeUnit = CodeUnit {
 pub enum SymbolPlace {
     /// At the TLS image in a shared library; in an executable at the address that the thread
     /// pointer stands for. The symbol is thread-local. An executable's object that refers to it may
-    /// have no local-dynamic TLS that stays ([`UnrelaxableGroups`](crate::rewriting::UnrelaxableGroups) of `rewriting`): its offsets
-    /// would still count from the image.
+    /// have no local-dynamic TLS that stays ([`UnrelaxableGroups`](crate::rewriting::UnrelaxableGroups) of `rewriting`): its
+    /// offsets would still count from the image.
     ThreadLocal,
     /// At the GOT.
     Got,

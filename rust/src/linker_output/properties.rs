@@ -3,9 +3,9 @@
 //! Program properties, which objects have in notes of a section `.note.gnu.property` (Linux
 //! extensions to the generic ABI, "Program Property"), and of which a linker makes the output's.
 //!
-//! A note has `namesz` 4, `n_type` 5 (`NT_GNU_PROPERTY_TYPE_0`), the name "GNU" and a zero, and then
-//! properties: `pr_type` and `pr_datasz`, of 4 bytes each, and the value, which zeros fill up to a
-//! multiple of 8 bytes. The types of a section ascend. A section may have several notes.
+//! A note has `namesz` 4, `n_type` 5 (`NT_GNU_PROPERTY_TYPE_0`), the name "GNU" and a zero, and
+//! then properties: `pr_type` and `pr_datasz`, of 4 bytes each, and the value, which zeros fill up
+//! to a multiple of 8 bytes. The types of a section ascend. A section may have several notes.
 //!
 //! The output's properties are those of the first input, merged with themselves and then with those
 //! of each other input, in any order. An input without a section has none.
@@ -44,6 +44,20 @@ pub struct Property {
     pub value: u64,
     /// The value's second 8 bytes, which are the version of AArch64's PAuth ABI. 0 of all others.
     pub version: u64,
+}
+
+/// The bit of a property that says that indirect branches go only to instructions that are there
+/// for them: x86-64's IBT or AArch64's BTI. The output's property has it if all inputs' have it, or
+/// if the linker adds it to them (ld.lld's `-z force-ibt` and `-z force-bti`). Then stubs to which
+/// indirect branches go are of the kind `LandingLoad`, and lazy PLTs of a form for such code.
+#[derive(Clone, Copy, Debug, PartialEq, Eq, Hash)]
+pub struct LandingProperty {
+    /// The property's type. Its rule is [`PropertyRule::All`](crate::output::PropertyRule::All).
+    pub kind: u32,
+    /// The bit, as a mask of the property's value.
+    pub bit: u64,
+    /// The tag of `.dynamic` that says so of the PLT, with the value 0: `DT_AARCH64_BTI_PLT`.
+    pub plt_tag: Option<u64>,
 }
 
 /// Why properties aren't read, merged or written.
@@ -256,7 +270,8 @@ fn merge_into(
 
 /// Merges properties of two inputs, or of all inputs so far and of one more: of each type what its
 /// properties make by [`property_rule`](crate::output::property_rule()). Writes them to the beginning of a slice, with ascending
-/// types, and returns how many they are. Properties after those are left, and with an error all are.
+/// types, and returns how many they are. Properties after those are left, and with an error all
+/// are.
 ///
 /// Types without a rule are dropped. Of several properties of one type in a list the first counts.
 /// `Differs` has the type whose values differ. `TooShort` has how many properties are needed.
@@ -539,9 +554,9 @@ fn encode(
 /// Writes the note of properties to the beginning of a slice, and returns how many bytes it has: a
 /// multiple of 8, and 0 of no properties. Bytes after it are left, and with an error all are.
 ///
-/// The first that applies: `TooMany`, with 2^27 properties or more; of the first property that can't
-/// be written `NotAscending`, with its index, `Unknown` or `TooLarge`, with its type; `TooShort`,
-/// with how many bytes are needed.
+/// The first that applies: `TooMany`, with 2^27 properties or more; of the first property that
+/// can't be written `NotAscending`, with its index, `Unknown` or `TooLarge`, with its type;
+/// `TooShort`, with how many bytes are needed.
 ///
 /// ```
 /// use linker_utils::output::{Property, write_properties};

@@ -22,6 +22,15 @@ pub enum StubKind {
     /// The same as `Load`, for protected code: it begins with an instruction to which indirect
     /// branches may go, x86-64's `endbr64` or AArch64's `bti c`.
     LandingLoad,
+    /// PowerPC64: the same as `Load`, by the TOC pointer in r2, which it stores at first.
+    TocLoad,
+    /// PowerPC64: it jumps to a function of this output with the same TOC, wherever that is, by the
+    /// TOC pointer and a word of `.branch_lt` with the function's address.
+    TocFar,
+    /// PowerPC64: the same as `Load`, by a prefixed instruction of Power10.
+    PrefixedLoad,
+    /// PowerPC64: the same as `Jump`, by a prefixed instruction of Power10.
+    PrefixedJump,
 }
 
 /// Why a stub isn't written.
@@ -164,24 +173,36 @@ impl Target {
             StubKind::Far => self.far_stub.as_ref(),
             StubKind::FarRelative => self.far_relative_stub.as_ref(),
             StubKind::LandingLoad => self.landing_load_stub.as_ref(),
+            StubKind::TocLoad => self.toc_load_stub.as_ref(),
+            StubKind::TocFar => self.toc_far_stub.as_ref(),
+            StubKind::PrefixedLoad => self.prefixed_load_stub.as_ref(),
+            StubKind::PrefixedJump => self.prefixed_jump_stub.as_ref(),
         }
     }
 
-    /// Writes the stub of a kind that stands at an address: to the word at `target` (`Load` and
-    /// `LandingLoad`) or to the address `target` (else). Bytes after the stub are left, and with an
-    /// error all are.
+    /// Writes the stub of a kind that stands at an address: to the word at `target` (`Load`,
+    /// `LandingLoad`, `TocLoad`, `TocFar` and `PrefixedLoad`) or to the address `target` (else).
+    /// Bytes after the stub are left, and with an error all are: in a slot of some size `nop`s may
+    /// stand there before. Of `TocLoad` and `TocFar` `place` is the TOC pointer, which r2 has: these
+    /// may stand anywhere.
     ///
     /// What a call changes on its way through a stub are registers that a function may change, in
     /// which no argument is: x16 and x17 of AArch64, t3 of RISC-V and LoongArch, and r0, r12 and
     /// ctr of PowerPC64, whose r12 has the target's address. So no stub may serve a call of
     /// PowerPC64's functions of a [`SaveRestoreRoutines`](crate::output::SaveRestoreRoutines), which take r0 or r12.
     ///
+    /// On PowerPC64 calls with the TOC pointer in r2 (R_PPC64_REL24) may go by `TocLoad` in place
+    /// of `Load`, and by `TocFar` in place of `Jump` to the local entry point of a function with
+    /// the same TOC. Calls without it (R_PPC64_REL24_NOTOC) may go by `PrefixedLoad` and
+    /// `PrefixedJump`. These two stand at multiples of 16, since no prefixed instruction may cross
+    /// one of 64.
+    ///
     /// In protected code an indirect branch may go only to `endbr64` (x86-64, where all inputs have
-    /// the property IBT) or to `bti c` (AArch64, BTI). Calls and jumps to a stub are direct, so that
-    /// `Load` serves there too, unless the stub's address is the function's in other outputs, or a
-    /// stub of another kind goes to it: that is a `LandingLoad`. x86-64's is ld.lld's and GNU ld's
-    /// entry of `.plt.sec`, of 16 bytes. AArch64's has 16 bytes, where ld.lld's entries have 24
-    /// ([`LazyForm`](crate::output::LazyForm)). All of these architectures' stubs branch indirectly: what they go to has to
+    /// the property IBT) or to `bti c` (AArch64, BTI). Calls and jumps to a stub are direct, so
+    /// that `Load` serves there too, unless the stub's address is the function's in other outputs,
+    /// or a stub of another kind goes to it: that is a `LandingLoad`. x86-64's is ld.lld's and GNU
+    /// ld's entry of `.plt.sec`, of 16 bytes. AArch64's has 16 bytes, where ld.lld's entries have
+    /// 24 ([`LazyForm`](crate::output::LazyForm)). All of these architectures' stubs branch indirectly: what they go to has to
     /// begin so too, which compilers leave out of functions that only their object calls.
     ///
     /// ```

@@ -7,6 +7,7 @@ use crate::linker_output::dynamic::{DynamicType, DynamicTypes, named};
 use crate::linker_output::flags::FlagRules;
 use crate::linker_output::got::{GotLayout, ThreadPointer};
 use crate::linker_output::layout::{CodeUnit, Interpreter, ProvidedSymbol, SymbolPlace};
+use crate::linker_output::properties::LandingProperty;
 use crate::linker_output::stubs::{Stub, StubField, field};
 use crate::elf::{AllowedRange, Architecture};
 
@@ -54,6 +55,12 @@ pub(crate) static TARGET: Target = Target {
         flags: 0,
         path: "/lib64/ld-linux-x86-64.so.2",
     }],
+    // GNU_PROPERTY_X86_FEATURE_1_AND, and its bit IBT
+    landing_property: Some(LandingProperty {
+        kind: 0xc000_0002,
+        bit: 1,
+        plt_tag: None,
+    }),
     instructions: Architecture::X86_64,
     load_stub: Stub {
         head: &[],
@@ -78,4 +85,8 @@ pub(crate) static TARGET: Target = Target {
     jump_stub: None,
     far_stub: None,
     far_relative_stub: None,
+    toc_load_stub: None,
+    toc_far_stub: None,
+    prefixed_load_stub: None,
+    prefixed_jump_stub: None,
 };

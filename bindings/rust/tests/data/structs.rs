@@ -109,6 +109,9 @@ layout! {
     "linker_utils_property": raw::Property {
         kind, value, version,
     }
+    "linker_utils_landing_property": raw::LandingProperty {
+        bit, plt_tag, kind,
+    }
     "linker_utils_lazy_plt": raw::LazyPlt {
         header_len, entry_len, alignment, header_words,
     }

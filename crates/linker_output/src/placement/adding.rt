@@ -3,11 +3,14 @@
 ghost use Rattle.std.specs.Prelude.{◌≡◌, ◌+◌, ◌*◌, ◌<◌, ◌^◌, ℕ, length, true, false, IfOk, IfSome};
 ghost use Rattle.std.specs.Prelude.{◌↔◌, IfNone, IsTrue};
 ghost use Rattle.std.specs.List.{sum_by};
-ghost use Rattle.linker_output.specs.Placement.{branch_at, at, part_of, stub_at, HasNoFar, HasSpare, IsCode, IsFar};
+ghost use Rattle.linker_output.specs.Placement.{branch_at, at, part_of, stub_at, HasNoFar};
+ghost use Rattle.linker_output.specs.Placement.{HasSpare, IsCode, IsFar};
 ghost use Rattle.linker_output.specs.Inner.Placement.{IsState, level, way_at, level_of, IsAt};
-ghost use Rattle.linker_output.specs.Inner.Placement.{HasNoneAt, StaysUnshared, IsNew, IsOut, IsWay};
+ghost use Rattle.linker_output.specs.Inner.Placement.{HasNoneAt, StaysUnshared, IsNew, IsOut};
+ghost use Rattle.linker_output.specs.Inner.Placement.{IsWay};
 ghost use Rattle.linker_output.specs.Inner.Placement.{IsOutAhead, IsOutAfter, IsOutThere, IsStubAt};
-ghost use Rattle.linker_output.specs.Inner.Placement.{list_of, new_stub, new_way, with_one, IsNear, SameStubs};
+ghost use Rattle.linker_output.specs.Inner.Placement.{list_of, new_stub, new_way, with_one, IsNear};
+ghost use Rattle.linker_output.specs.Inner.Placement.{SameStubs};
 ghost use Rattle.linker_output.specs.declared.placement.Way.TheVariants.{Near, Far};
 
 use super::laying::passed;
@@ -65,7 +68,8 @@ impl Part {
     }
 }
 
-/// What the indexes of boundaries are multiplied by, a prime, so that stubs are spread over the lists.
+/// What the indexes of boundaries are multiplied by, a prime, so that stubs are spread over the
+/// lists.
 const SPREAD: usize = 0x9e37_79b1;
 
 /// In which of the lists the stubs of a target at a boundary are.

@@ -3,7 +3,8 @@
 ghost use Rattle.std.specs.Prelude.{◌≡◌, ◌+◌, ◌<◌, ◌≤◌, ◌^◌, ℕ, length, IfOk, MatchOption};
 ghost use Rattle.std.specs.Prelude.{true, false};
 ghost use Rattle.std.specs.List.{sum_by};
-ghost use Rattle.linker_output.specs.Placement.{HasPart, IsCode, IsLaidOut, at, most_bytes, stub_at};
+ghost use Rattle.linker_output.specs.Placement.{HasPart, IsCode, IsLaidOut, at, most_bytes};
+ghost use Rattle.linker_output.specs.Placement.{stub_at};
 ghost use Rattle.linker_output.specs.Inner.Placement.{IsState, ArePlaces, IsStuckIn};
 ghost use Rattle.linker_output.specs.Inner.Placement.{AreServed, Swept, Visited};
 ghost use Rattle.linker_output.specs.Inner.Placement.{level, way_at};
@@ -13,8 +14,8 @@ use super::{Code, MOST_PASSES, State, Sweep, Visit, Way};
 use linker_base::relaxation::OutOfMemory;
 
 impl State {
-    /// If it is `late`, has a branch that may be lost by the stubs to come go by another stub, if one
-    /// can be in its reach.
+    /// If it is `late`, has a branch that may be lost by the stubs to come go by another stub, if
+    /// one can be in its reach.
     fn go_early(
         &mut self,
         code: &Code<'_>,
@@ -150,8 +151,9 @@ impl State {
         Ok(())
     }
 
-    /// Adds stubs until each branch reaches what it goes by. After `MOST_PASSES` passes also those go
-    /// by other stubs that may be lost by the stubs to come, so that there are few further passes. It returns none, or the index of a branch that reaches nothing and no boundary.
+    /// Adds stubs until each branch reaches what it goes by. After `MOST_PASSES` passes also those
+    /// go by other stubs that may be lost by the stubs to come, so that there are few further
+    /// passes. It returns none, or the index of a branch that reaches nothing and no boundary.
     pub(super) fn settle(
         &mut self,
         code: &Code<'_>,

@@ -49,7 +49,8 @@ impl Part {
     }
 }
 
-/// What the indexes of boundaries are multiplied by, a prime, so that stubs are spread over the lists.
+/// What the indexes of boundaries are multiplied by, a prime, so that stubs are spread over the
+/// lists.
 const SPREAD: usize = 0x9e37_79b1;
 
 /// In which of the lists the stubs of a target at a boundary are.

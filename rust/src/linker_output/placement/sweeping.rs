@@ -9,8 +9,8 @@ use super::{Code, MOST_PASSES, State, Sweep, Visit, Way};
 use crate::linker_base::relaxation::OutOfMemory;
 
 impl State {
-    /// If it is `late`, has a branch that may be lost by the stubs to come go by another stub, if one
-    /// can be in its reach.
+    /// If it is `late`, has a branch that may be lost by the stubs to come go by another stub, if
+    /// one can be in its reach.
     fn go_early(
         &mut self,
         code: &Code<'_>,
@@ -104,8 +104,9 @@ impl State {
         Ok(())
     }
 
-    /// Adds stubs until each branch reaches what it goes by. After `MOST_PASSES` passes also those go
-    /// by other stubs that may be lost by the stubs to come, so that there are few further passes. It returns none, or the index of a branch that reaches nothing and no boundary.
+    /// Adds stubs until each branch reaches what it goes by. After `MOST_PASSES` passes also those
+    /// go by other stubs that may be lost by the stubs to come, so that there are few further
+    /// passes. It returns none, or the index of a branch that reaches nothing and no boundary.
     pub(super) fn settle(
         &mut self,
         code: &Code<'_>,

@@ -1,4 +1,5 @@
-use Rattle.std.proofs.Common.{rules, ◌≡◌, ◌≤◌, ℕ, ℤ, List, length, drop, subst, arith, IfNone, IfSome, Option, Some, None}
+use Rattle.std.proofs.Common.{rules, ◌≡◌, ◌≤◌, ℕ, ℤ, List, length, drop, subst, arith, IfNone}
+use Rattle.std.proofs.Common.{IfSome, Option, Some, None}
 use Rattle.std.proofs.lemmas.List.{take_rest}
 use Rattle.std.specs.Int.{w64, cast_signed, cast_unsigned}
 use Rattle.linker_elf.specs.Relocate.{IsAccepted, IsCause}

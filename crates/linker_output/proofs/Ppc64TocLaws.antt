@@ -1,0 +1,226 @@
+-- PowerPC64's stubs by the TOC pointer and by prefixed instructions go to their targets.
+use Rattle.std.proofs.Common.{◌≡◌, ℕ, ◌-◌, ◌%◌, ◌^◌, ◌<◌, Bool, true, false, refl, sym, ◌∙◌, ap}
+use Rattle.std.proofs.Common.{subst, arith}
+use Rattle.std.proofs.Common.{List, [], ◌∷◌, ◌++◌, eqb, cond, Some, None, take, drop}
+use Rattle.std.proofs.Common.{length, pos, ◌+ℤ◌, ◌*ℤ◌}
+use Rattle.std.specs.Prelude.{IsSomeAnd, ◌||◌}
+use Rattle.std.proofs.Math.Seq.{take-append_seam}
+use Rattle.std.proofs.lemmas.Bool.{eq-eqb, cond-true}
+use Rattle.std.proofs.lemmas.List.{drop-drop}
+use Rattle.linker_base.specs.Bits.{field}
+use Rattle.linker_elf.specs.Ppc64.{ppc64_form}
+use Rattle.linker_elf.specs.Ppc64Relocations.{ppc64_name, ppc64_row}
+use Rattle.linker_elf.specs.Value.{sum_64}
+use Rattle.linker_elf.specs.declared.elf.architecture.Architecture.TheVariants.{Ppc64}
+use Rattle.linker_elf.specs.declared.ppc64.forms.Ppc64Instruction.TheVariants.{D, Ds, Prefixed}
+use Rattle.linker_elf.specs.declared.ppc64.relocations.Ppc64Relocation.TheVariants as r
+use Rattle.linker_laws.specs.Machine.{loaded, moved}
+use Rattle.linker_laws.specs.Ppc64Machine.{State, Formats, step_prefixed, go_on}
+use Rattle.linker_laws.specs.Ppc64RelocationLaws.{TocAddresses, Prefixes}
+use Rattle.linker_laws.specs.Ppc64RewriteLaws.{word_of, prefixed_of}
+use Rattle.linker_laws.specs.Schemes.{IsAddress, symbol_address}
+use Rattle.linker_laws.proofs.Ppc64Addresses.{reads_ds, same_parts}
+use Rattle.linker_laws.proofs.Ppc64Prefixed.{HasPrefixedParts, prefixed_after, set_8, step_pld}
+use Rattle.linker_laws.proofs.Ppc64Prefixed.{step_paddi}
+use Rattle.linker_laws.proofs.Ppc64Words.{HasParts, d_after, ds_after, sum_leads, set, step_addis}
+use Rattle.linker_laws.proofs.Ppc64Words.{step_ld}
+use Rattle.linker_laws.proofs.RiscVMachine.{times_one, address_is}
+use Rattle.linker_output.proofs.Ppc64StubLaws.{run_more, of_machine}
+use Rattle.linker_output.proofs.StubWords.{front_word, first_is, second_is, third_is, applies}
+use Rattle.linker_output.proofs.StubWords.{no_addend, are_addresses, at_place}
+use Rattle.linker_output.specs.Ppc64Output.{by_toc, by_prefixed, jump_to_r12}
+use Rattle.linker_output.specs.Ppc64Stubs.{Counted, with_state, lifted, run, continue, at, at_count}
+use Rattle.linker_output.specs.Ppc64Stubs.{four_words, run_prefixed, GoesTo}
+use Rattle.linker_output.specs.Ppc64Stubs as stubs
+use Rattle.linker_output.specs.Stubs.{operands_of, WritesPair}
+use Rattle.linker_output.specs.Tables.{field_of, code_of_words}
+use Rattle.linker_utils.specs.Ppc64Rewrites.{opcode_of, rt_of, ra_of}
+
+-- `mtctr 12` and `bctr`
+abbrev tail : List ℕ
+tail = code_of_words jump_to_r12
+
+-- ---- by the TOC pointer
+
+-- the states after the instructions, which put v and then w in r12
+abbrev after_1 : ℕ → Counted → Counted
+after_1 v c = with_state (set 12 v c.state) c
+
+abbrev after_2 : ℕ → ℕ → Counted → Counted
+after_2 v w c = with_state (set 12 w (after_1 v c).state) (after_1 v c)
+
+abbrev after_3 : ℕ → ℕ → Counted → Counted
+after_3 v w c = record { state = go_on (after_2 v w c).state; count = w }
+
+once : (a b : Bool) (v r : ℕ) → (a || b) ≡ false → cond b v r ≡ r
+once true b v r e = cc
+once false true v r e = cc
+once false false v r e = refl
+
+twice : (a b : Bool) (w v r : ℕ) → (a || b) ≡ false → cond b w (cond b v r) ≡ r
+twice a b w v r e = once a b w (cond b v r) e ∙ once a b v r e
+
+left : (c : Counted) (v w target : ℕ) → w ≡ target → target % 4 ≡ 0
+    → GoesTo target c (at_count (after_3 v w c))
+left c v w target is even =
+    record {
+      pc = ap (λ n. n - n % 4) is ∙ omega (arith, even);
+      r12 = is;
+      registers = λ n e. twice (eqb n 0) (eqb n 12) _ _ (c.state.registers n) e;
+      floats = refl;
+      link = refl;
+      memory = refl;
+    }
+
+four_are : (code pair : List ℕ) (x y : ℕ) → length pair ≡ 8 → code ≡ pair ++ tail → word_of pair ≡ x
+    → word_of (drop 4 pair) ≡ y → four_words code ≡ x ∷ y ∷ 0x7d8903a6 ∷ 0x4e800420 ∷ []
+four_are code pair x y len is first second =
+    let a : at 0 code ≡ x = first_is code pair tail len is ∙ first in
+    let b : at 4 code ≡ y = second_is code pair tail len is ∙ second in
+    let d : at 8 code ≡ 0x7d8903a6 = ap word_of (third_is code pair tail len is) in
+    let e : at 12 code ≡ 0x4e800420 =
+    ap word_of (sym (drop-drop 4 8 code) ∙ ap (drop 4) (third_is code pair tail len is)) in
+    cc
+
+goes : TocAddresses → (toc word target : ℕ) → toc < 2 ^ 64 → word < 2 ^ 64 → target % 4 ≡ 0
+    → (code pair : List ℕ) → length pair ≡ 8 → WritesPair Ppc64 by_toc (operands_of by_toc toc word) pair
+    → code ≡ pair ++ tail → (f : Formats) (c : Counted) → c.state.registers 2 ≡ toc
+    → loaded 8 c.state.memory word ≡ target
+    → IsSomeAnd (run f (four_words code) c) (GoesTo target c)
+goes law toc word target inside below even code pair len writes is f c base holds =
+    let o = operands_of by_toc toc word in
+    let addresses = are_addresses by_toc toc word below in
+    let half = writes.0 in
+    let template = by_toc.pair in
+    let high = applies ppc64_name ppc64_row r.R_PPC64_TOC16_HA by_toc.first o template half tt refl
+    writes.1.0 writes.1.1 writes.1.2 in
+    let low = applies ppc64_name ppc64_row r.R_PPC64_TOC16_LO_DS (field_of 4 (ppc64_name r.R_PPC64_TOC16_LO_DS)) o half pair tt refl
+    writes.2.0 writes.2.1 writes.2.2 in
+    let x = word_of half in
+    let y = word_of (drop 4 pair) in
+    let old : word_of (drop 4 half) ≡ 0xe98c0000 = ap word_of high.applied.written.rest in
+    let front : word_of pair ≡ x = sym (front_word pair) ∙ ap word_of low.kept ∙ front_word half in
+    let first : HasParts 15 12 2 x = d_after _ _ template half high.applied.written in
+    let after = ds_after _ _ (drop 4 half) (drop 4 pair) low.applied.written in
+    let second : HasParts 58 12 12 y =
+    same_parts (ap opcode_of old) (ap rt_of old) (ap ra_of old) after.0 in
+    let zero : field y 0 2 ≡ 0 = after.1 ∙ ap (λ n. field n 0 2) old in
+    let a = (ppc64_form D).machine x *ℤ pos (2 ^ 16) in
+    let b = (ppc64_form Ds).machine y in
+    let v = moved (c.state.registers 2) a in
+    let w = loaded 8 c.state.memory (moved v b) in
+    let begin : c.state.registers 2 ≡ o.got_base = base ∙ sym (at_place toc inside) in
+    let leads : moved v b ≡ word =
+    ap (λ p. moved (moved p a) b) begin
+    ∙ sum_leads o.got_base (symbol_address o) a b
+    (subst (λ z. IsAddress ((pos o.got_base +ℤ a) +ℤ z) (symbol_address o)) (reads_ds y second.opcode_is)
+    (law.1 o addresses o.place template half high.applied tt o.place (drop 4 half) (drop 4 pair) low.applied tt))
+    ∙ no_addend word below in
+    let value : w ≡ target = ap (loaded 8 c.state.memory) leads ∙ holds in
+    let last : List ℕ = 0x7d8903a6 ∷ 0x4e800420 ∷ [] in
+    subst (λ end. IsSomeAnd end (GoesTo target c))
+    (sym (ap (λ ws. run f ws c) (four_are code pair x y len is front refl)
+    ∙ run_more f x y last c (after_1 v c) _
+    (of_machine f x 15 c (after_1 v c).state first.opcode_is refl refl refl
+    (step_addis f x 12 2 c.state first)) refl
+    (run_more f y 0x7d8903a6 (0x4e800420 ∷ []) (after_1 v c) (after_2 v w c) _
+    (of_machine f y 58 (after_1 v c) (after_2 v w c).state second.opcode_is refl refl refl
+    (step_ld f y 12 12 (after_1 v c).state second zero)) refl
+    (run_more f 0x7d8903a6 0x4e800420 [] (after_2 v w c) (after_3 v w c) _ refl refl refl))))
+    (left c v w target value even)
+
+pub toc_loads_go : TocAddresses → stubs.TocLoads
+toc_loads_go law toc word target inside below small even code is f c =
+    goes law toc word target inside below even (drop 4 code) is.0 is.1 is.2 (ap (drop 4) is.3) f c
+
+pub toc_reaches_go : TocAddresses → stubs.TocReaches
+toc_reaches_go law toc word target inside below small even code is f c =
+    goes law toc word target inside below even code is.0 is.1 is.2 is.3 f c
+
+-- ---- by a prefixed instruction
+
+-- the state after it, which puts v in r12, and after `mtctr 12`
+abbrev prefixed_1 : ℕ → Counted → Counted
+prefixed_1 v c = with_state (set_8 12 v c.state) c
+
+abbrev prefixed_2 : ℕ → Counted → Counted
+prefixed_2 v c = record { state = go_on (prefixed_1 v c).state; count = v }
+
+prefixed_left : (c : Counted) (v target : ℕ) → v ≡ target → target % 4 ≡ 0
+    → GoesTo target c (at_count (prefixed_2 v c))
+prefixed_left c v target is even =
+    record {
+      pc = ap (λ n. n - n % 4) is ∙ omega (arith, even);
+      r12 = is;
+      registers = λ n e. once (eqb n 0) (eqb n 12) v (c.state.registers n) e;
+      floats = refl;
+      link = refl;
+      memory = refl;
+    }
+
+prefixed_runs : (f : Formats) (c : Counted) (code pair : List ℕ) (v target : ℕ) → length pair ≡ 8
+    → code ≡ pair ++ tail → step_prefixed f (prefixed_of pair) c.state ≡ Some (set_8 12 v c.state)
+    → v ≡ target → target % 4 ≡ 0 → IsSomeAnd (run_prefixed f code c) (GoesTo target c)
+prefixed_runs f c code pair v target len is steps value even =
+    let front : take 8 code ≡ pair =
+    ap (take 8) is ∙ ap (λ n. take n (pair ++ tail)) (sym len) ∙ take-append_seam pair tail in
+    let d : at 8 code ≡ 0x7d8903a6 = ap word_of (third_is code pair tail len is) in
+    let e : at 12 code ≡ 0x4e800420 =
+    ap word_of (sym (drop-drop 4 8 code) ∙ ap (drop 4) (third_is code pair tail len is)) in
+    let words : at 8 code ∷ at 12 code ∷ [] ≡ 0x7d8903a6 ∷ 0x4e800420 ∷ [] = cc in
+    let next = sum_64 c.state.pc 8 in
+    let rest = run f (0x7d8903a6 ∷ 0x4e800420 ∷ []) in
+    subst (λ end. IsSomeAnd end (GoesTo target c))
+    (sym (ap (λ ws. continue next (run f ws) (lifted c (step_prefixed f (prefixed_of (take 8 code)) c.state))) words
+    ∙ ap (λ b. continue next rest (lifted c (step_prefixed f (prefixed_of b) c.state))) front
+    ∙ ap (λ s. continue next rest (lifted c s)) steps
+    ∙ cond-true (eqb next next) (rest (prefixed_1 v c)) None (eq-eqb next next refl)
+    ∙ run_more f 0x7d8903a6 0x4e800420 [] (prefixed_1 v c) (prefixed_2 v c) _ refl refl refl))
+    (prefixed_left c v target value even)
+
+-- what the instruction computes, by its 8 bytes and those that have its parts
+leads_to : Prefixes → (prefix suffix place target : ℕ) → place < 2 ^ 64 → target < 2 ^ 64 → (pair : List ℕ)
+    → WritesPair Ppc64 (by_prefixed prefix suffix) (operands_of (by_prefixed prefix suffix) place target) pair
+    → (s : State) → s.pc ≡ place
+    → moved s.pc ((ppc64_form Prefixed).machine (prefixed_of pair)) ≡ target
+leads_to law prefix suffix place target inside below pair writes s at_pc =
+    let stub = by_prefixed prefix suffix in
+    let o = operands_of stub place target in
+    let high = applies ppc64_name ppc64_row r.R_PPC64_PCREL34 stub.first o stub.pair writes.0 tt refl
+    writes.1.0 writes.1.1 writes.1.2 in
+    let m = (ppc64_form Prefixed).machine (prefixed_of writes.0) in
+    ap (λ b. moved s.pc ((ppc64_form Prefixed).machine (prefixed_of b))) writes.2
+    ∙ ap (λ t. moved t m) (at_pc ∙ sym (at_place place inside)) ∙ times_one o.place m
+    ∙ address_is _ _ (law.0 o (are_addresses stub place target below) o.place stub.pair writes.0 high.applied tt)
+    ∙ no_addend target below
+
+pub prefixed_loads_go : Prefixes → stubs.PrefixedLoads
+prefixed_loads_go law place word target inside below even code is f c entry holds =
+    let stub = by_prefixed 0x04100000 0xe5800000 in
+    let o = operands_of stub place word in
+    let pair = is.0 in
+    let high = applies ppc64_name ppc64_row r.R_PPC64_PCREL34 stub.first o stub.pair is.2.0 tt refl
+    is.2.1.0 is.2.1.1 is.2.1.2 in
+    let template : HasPrefixedParts 0x104 57 12 0 (prefixed_of stub.pair) =
+    record { prefix_is = refl; opcode_is = refl; rt_is = refl; ra_is = refl } in
+    let parts = prefixed_after _ _ stub.pair is.2.0 0x104 57 12 0 high.applied.written template in
+    let both : HasPrefixedParts 0x104 57 12 0 (prefixed_of pair) =
+    subst (λ b. HasPrefixedParts 0x104 57 12 0 (prefixed_of b)) (sym is.2.2) parts in
+    let leads = leads_to law 0x04100000 0xe5800000 place word inside below pair is.2 c.state entry in
+    prefixed_runs f c code pair _ target is.1 is.3 (step_pld f (prefixed_of pair) 12 c.state both)
+    (ap (loaded 8 c.state.memory) leads ∙ holds) even
+
+pub prefixed_jumps_go : Prefixes → stubs.PrefixedJumps
+prefixed_jumps_go law place target inside below even code is f c entry =
+    let stub = by_prefixed 0x06100000 0x39800000 in
+    let o = operands_of stub place target in
+    let pair = is.0 in
+    let high = applies ppc64_name ppc64_row r.R_PPC64_PCREL34 stub.first o stub.pair is.2.0 tt refl
+    is.2.1.0 is.2.1.1 is.2.1.2 in
+    let template : HasPrefixedParts 0x184 14 12 0 (prefixed_of stub.pair) =
+    record { prefix_is = refl; opcode_is = refl; rt_is = refl; ra_is = refl } in
+    let parts = prefixed_after _ _ stub.pair is.2.0 0x184 14 12 0 high.applied.written template in
+    let both : HasPrefixedParts 0x184 14 12 0 (prefixed_of pair) =
+    subst (λ b. HasPrefixedParts 0x184 14 12 0 (prefixed_of b)) (sym is.2.2) parts in
+    prefixed_runs f c code pair _ target is.1 is.3 (step_paddi f (prefixed_of pair) 12 c.state both)
+    (leads_to law 0x06100000 0x39800000 place target inside below pair is.2 c.state entry) even
