@@ -918,8 +918,8 @@ enum linker_utils_stub_kind {
     LINKER_UTILS_STUB_LANDING_LOAD = 4,
     /* PowerPC64: LINKER_UTILS_STUB_LOAD by the TOC pointer in r2, which it stores at first. */
     LINKER_UTILS_STUB_TOC_LOAD = 5,
-    /* PowerPC64: to a function of this output with the same TOC, wherever that is, by the TOC pointer
-     * and a word of `.branch_lt` with the function's address. */
+    /* PowerPC64: to a function of this output with the same TOC, wherever that is, by the TOC
+     * pointer and a word of `.branch_lt` with the function's address. */
     LINKER_UTILS_STUB_TOC_FAR = 6,
     /* PowerPC64: LINKER_UTILS_STUB_LOAD and LINKER_UTILS_STUB_JUMP by a prefixed instruction of
      * Power10. They stand at multiples of 16. */

@@ -159,7 +159,7 @@ bool linker_utils_is_property_known(uint16_t machine, uint32_t kind);
  * LINKER_UTILS_STUB_LANDING_LOAD, or a lazy PLT of a form for such code. */
 struct linker_utils_landing_property {
     uint64_t bit;     /* as a mask of the property's value */
-    uint64_t plt_tag; /* of `.dynamic`, with the value 0: DT_AARCH64_BTI_PLT; 0 where there is none */
+    uint64_t plt_tag; /* of `.dynamic`, with the value 0: DT_AARCH64_BTI_PLT; or 0 for none */
     uint32_t kind;    /* the property's type */
 };
 
