@@ -128,7 +128,8 @@ module _ (ds : List (ℕ × ℕ)) (base : ℕ) (s packed bytes new : List ℕ) (
   above : base ≤ from
   above = copied.above
 
-  -- the run up to an offset, or to the section's end, where the other deletions begin there or above
+  -- the run up to an offset, or to the section's end, where the other deletions begin there or
+  -- above
   run_put : (to : ℕ) → base ≤ to → min from ends ≤ min to ends → ((j : ℕ) (d : ℕ × ℕ) → k ≤ j → j < length ds → min to ends ≤ (get_or ds j d).0)
       → bytes ≡ take (min (to - base) (length s) - min (from - base) (length s)) (drop (min (from - base) (length s)) s)
       → (at + length bytes ≤ length packed) × (at + length bytes + rank ds base ≡ rank ds (min to ends)) × IsFilledTo ds base s (min to ends) new

@@ -1,4 +1,5 @@
--- The laws of forms: what the machine reads after a write, and that writing back what was read changes nothing.
+-- The laws of forms: what the machine reads after a write, and that writing back what was read
+-- changes nothing.
 use Rattle.std.proofs.Common.{pow_mono, ◌≡◌, ℕ, ◌+◌, ◌-◌, ◌*◌, ◌/◌, ◌%◌, ◌^◌, ◌<◌, ◌≤◌, Bool, true, false, not, ◌&&◌, ltb, leb, eqb, List, [], ◌∷◌, refl, sym, ◌∙◌, ap, subst, arith, get_or, inl, inr, cond, pos}
 use Rattle.std.specs.Int.{bit_at, int_rem_euclid, w64, cast_unsigned}
 use Rattle.std.specs.List.{All, list_all}
@@ -38,7 +39,8 @@ pub values_apart_fills : (low high : ℕ) (ps : List ImmediateBit) → fills low
 values_apart_fills low high ps h =
     (and_parts (values_apart ps) (values_below 64 ps) (and_parts (values_apart ps && values_below 64 ps) (agree_below (has_value ps) (λ j. leb low j && ltb j high) 64) h).0).0
 
--- where a value is placed and the places that are only ORed held 0, the number at the places is that field of the value plus r
+-- where a value is placed and the places that are only ORed held 0, the number at the places is
+-- that field of the value plus r
 pub place_sum_placed : (low high r : ℕ) (ps : List ImmediateBit) (v before after : ℕ) → high ≤ 64 → fills low high ps ≡ true → adds r ps ≡ true
     → All (λ (p : ImmediateBit). bit_at after p.insn_bit ≡ placed_bit p.mark (bit_for p v) (bit_at before p.insn_bit)) ps → IsClear ps before
     → place_sum ps after ≡ (v + r) % 2 ^ 64 / 2 ^ low % 2 ^ (high - low) * 2 ^ low
@@ -149,15 +151,16 @@ restored n r ps v before after apart below held u e laid =
 
 -- ---- forms of one field
 
--- an exact claim takes values that fit the field, read without a sign; a claim modulo 2 ^ m is of all bits
+-- an exact claim takes values that fit the field, read without a sign; a claim modulo 2 ^ m is of
+-- all bits
 abbrev pub is_claimed : Claim → Sign → ℕ → ℕ → Bool
 is_claimed exactly unsigned width n = eqb width n
 is_claimed exactly twos_complement width n = false
 is_claimed (modulo m) s width n = eqb m n
 is_claimed unclaimed s width n = true
 
--- What the laws require of a field's numbers and places: they hold value bits low up, below n, each once, and nothing else; the
--- value has n bits, or every value is written.
+-- What the laws require of a field's numbers and places: they hold value bits low up, below n, each
+-- once, and nothing else; the value has n bits, or every value is written.
 abbrev pub is_sound_field : Field → Bool
 is_sound_field d =
     leb d.low d.bits && (leb d.bits d.width && (leb d.width 64 && (fills d.low d.bits d.places

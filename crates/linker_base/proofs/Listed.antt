@@ -19,7 +19,8 @@ All-front P xs ys all k d within = rw (← get_or_append_left xs ys d k within) 
 pub All-back : {X : Type 0} (P : X → Type 0) (xs ys : List X) → All P (xs ++ ys) → All P ys
 All-back P xs ys all k d within = rw (← get_or-append-add xs ys k d) (all (length xs + k) d (omega (arith, length-append xs ys)))
 
--- R holds between all of two lists, one after the other, where it does in each and from each of the first to each of the second
+-- R holds between all of two lists, one after the other, where it does in each and from each of the
+-- first to each of the second
 pub all_pairs_append : (R : ℕ × ℕ → ℕ × ℕ → Type 0) (xs ys : List (ℕ × ℕ)) → AllPairs R xs → AllPairs R ys → All (λ y. All (λ x. R x y) xs) ys → AllPairs R (xs ++ ys)
 all_pairs_append R xs ys first second across i j d lt within = elim (cases_lt j (length xs)) [
   | inl low ↦
@@ -33,7 +34,8 @@ all_pairs_append R xs ys first second across i j d lt within = elim (cases_lt j 
       ])
 ]
 
--- up to and including one deletion of a valid list, the bytes are those before it and its own, and 64 bits hold them
+-- up to and including one deletion of a valid list, the bytes are those before it and its own, and
+-- 64 bits hold them
 pub taken_up_to : (ds : List (ℕ × ℕ)) → IsValid ds → (k : ℕ) (d : ℕ × ℕ) → k < length ds → (bytes_of (take k ds) + (get_or ds k d).1 ≡ bytes_of (take (k + 1) ds)) × (bytes_of (take (k + 1) ds) < 2 ^ 64)
 taken_up_to ds valid k d within =
     (sym (sum_by_more (λ (e : ℕ × ℕ). e.1) ds k d within), bytes_of-take_fit ds (k + 1) valid)
@@ -103,7 +105,8 @@ RecordsDeletions-set ds deltas delta k within inside listing same sum = rw (take
 pub IsValid-nil : IsValid []
 IsValid-nil = record { ascending = λ i j d lt within. absurd (omega arith); ends = λ i d within. absurd (omega arith) }
 
--- the deletion at a place is not valid after those before it, where it does not fit or does not lie past the one before
+-- the deletion at a place is not valid after those before it, where it does not fit or does not lie
+-- past the one before
 pub first_invalid_at : (ds : List (ℕ × ℕ)) (k : ℕ) → k < length ds → IsValid (take k ds) → (EndFits (get_or ds k (0, 0)) → (0 < k → IsBefore (get_or ds (k - 1) (0, 0)) (get_or ds k (0, 0))) → ⊥) → IsFirstInvalid ds k
 first_invalid_at ds k within valid faulty = record {
   within = within;

@@ -9,7 +9,8 @@ use Rattle.linker_base.specs.Listed.{IsFirstOverlapping}
 use Rattle.linker_base.proofs.Listed.{all_pairs_append}
 use Rattle.linker_base.proofs.Unions.{disjoint_left, disjoint_from_valid}
 
--- two lists of disjoint deletions are so together, where each of the second is apart from all of the first
+-- two lists of disjoint deletions are so together, where each of the second is apart from all of
+-- the first
 pub disjoint_joined : (ds others : List (ℕ × ℕ)) → AreDisjoint ds → AreDisjoint others → All (λ pair. All (λ d. DoNotOverlap d pair) ds) others → AreDisjoint (ds ++ others)
 disjoint_joined ds others first disjoint free = record {
   apart = all_pairs_append DoNotOverlap ds others first.apart disjoint.apart free;

@@ -1,5 +1,5 @@
--- Forms that keep the bits outside their places, and forms of AArch64: 16 bits under an opcode that goes by the sign, and an
--- offset of 12 bits from the scale up.
+-- Forms that keep the bits outside their places, and forms of AArch64: 16 bits under an opcode that
+-- goes by the sign, and an offset of 12 bits from the scale up.
 use Rattle.std.proofs.Common.{◌≡◌, ℕ, ◌+◌, ◌-◌, ◌*◌, ◌/◌, ◌%◌, ◌^◌, ◌<◌, Bool, true, false, not, ◌||◌, eqb, ltb, ap, ◌∙◌, subst, arith, List, inl, inr, cond, pos, negsuc}
 use Rattle.std.specs.Int.{w64, cast_unsigned, bit_at}
 use Rattle.std.proofs.lemmas.Bool.{or_cases, eqb-true, ltb-true, not-false}

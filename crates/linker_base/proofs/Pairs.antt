@@ -111,7 +111,8 @@ pair_read v h l a b =
     (int_rem_euclid_is (pos (h * 2 ^ 16) +ℤ (pos l -ℤ pos (2 ^ 16))) (pos (2 ^ 36)) (2 ^ 36) 1 (h * 2 ^ 16 + l + (2 ^ 36 - 2 ^ 16)) (omega arith) refl (omega (arith, ints)))
     ∙ omega arith))
 
--- writing back the high part and the signed low one together, modulo 2 ^ 36, with 0x8000 added for the high one, changes nothing
+-- writing back the high part and the signed low one together, modulo 2 ^ 36, with 0x8000 added for
+-- the high one, changes nothing
 pub long_pair_restored : (high low : List ImmediateBit) (v before after : ℕ) → IsSoundPart 16 36 0x8000 high → IsSoundPart 0 16 0 low → BitsWritten (high ++ low) v before after → v < 2 ^ 64
     → v ≡ cast_unsigned w64 (int_rem_euclid (pos (place_sum high before) +ℤ signed 16 (place_sum low before)) (pos (2 ^ 36))) % 2 ^ 36 → after ≡ before
 long_pair_restored high low v before after high_sound low_sound laid wide e =

@@ -29,7 +29,8 @@ over : (ps : List ImmediateBit) (v before after : ℕ) → all_replaced ps ≡ t
 over ps v before after h placed k p within =
     placed_over (get_or ps k p).mark (bit_for (get_or ps k p) v) (bit_at before (get_or ps k p).insn_bit) (bit_at after (get_or ps k p).insn_bit) (AllPass-from_list_all (λ (q : ImmediateBit). is_replaced q.mark) ps h k p within) (placed k p within)
 
--- a part whose bits are replaced is written by itself: written again over the window after, it changes nothing
+-- a part whose bits are replaced is written by itself: written again over the window after, it
+-- changes nothing
 pub part_laid : (ps : List ImmediateBit) (v before after : ℕ) → all_replaced ps ≡ true → ArePlaced ps v before after → BitsWritten ps v after after
 part_laid ps v before after h placed = record { placed = over ps v before after h placed; kept = λ w f. refl }
 

@@ -1,4 +1,5 @@
--- The bits of the number that stands at places, what a write leaves at each, and when places stand apart.
+-- The bits of the number that stands at places, what a write leaves at each, and when places stand
+-- apart.
 use Rattle.std.proofs.Common.{◌≡◌, ℕ, zero, suc, ◌+◌, ◌*◌, ◌%◌, ◌^◌, ◌<◌, max, Bool, true, false, not, ◌&&◌, eqb, List, [], ◌∷◌, ◌++◌, refl, sym, ◌∙◌, ap, subst, arith, inl, inr, cond}
 use Rattle.std.specs.Int.{bit_at}
 use Rattle.std.specs.List.{All}
@@ -75,7 +76,8 @@ abbrev pub adds : ℕ → List ImmediateBit → Bool
 adds r [] = true
 adds r (p ∷ ps) = eqb p.added r && adds r ps
 
--- after a write the places, where those that are only ORed held 0, have the bits of the value plus r
+-- after a write the places, where those that are only ORed held 0, have the bits of the value plus
+-- r
 pub value_bit_laid : (ps : List ImmediateBit) (r v before after k : ℕ) → adds r ps ≡ true
     → All (λ (p : ImmediateBit). bit_at after p.insn_bit ≡ placed_bit p.mark (bit_for p v) (bit_at before p.insn_bit)) ps
     → IsClear ps before

@@ -134,7 +134,8 @@ walked_over deltas listed k before after x walked step deleted wrapped next none
       },
     )
 
--- a walk that stops at the first delta that doesn't begin below the offset has passed just those that do
+-- a walk that stops at the first delta that doesn't begin below the offset has passed just those
+-- that do
 pub walked_past : (deltas : List RelaxDelta) → AreValidDeltas deltas → (k offset : ℕ) (reached : Reached) → IsPassing deltas k offset reached → (passed_in deltas reached < length deltas → offset ≤ (get_or deltas (passed_in deltas reached) blank).input_offset)
     → IsWalked deltas (max k (begun_below (map deletion_of deltas) offset)) reached
 walked_past deltas listed k offset reached passing stop = subst (λ n. IsWalked deltas n reached) (walked_to deltas listed offset k (passed_in deltas reached) passing.after passing.walked.within passing.begun stop) passing.walked

@@ -1,4 +1,5 @@
--- A field within its range is read as the value: from comparisons of a row's bits, range and alignment.
+-- A field within its range is read as the value: from comparisons of a row's bits, range and
+-- alignment.
 use Rattle.std.proofs.Common.{◌≡◌, ℕ, ◌+◌, ◌-◌, ◌*◌, ◌/◌, ◌%◌, ◌^◌, ◌<◌, ◌≤◌, Bool, true, ◌&&◌, ◌||◌, ltb, leb, eqb, refl, sym, ◌∙◌, ap, subst, arith, inl, inr, cond, ℤ, pos, negsuc, ◌-ℤ◌, neg_ℤ, ◌≤ℤ◌, ◌<ℤ◌, Option, Some, None, unsigned_abs, int_lt, false}
 use Rattle.std.specs.Int.{int_rem_euclid}
 use Rattle.std.proofs.lemmas.Bool.{and_parts, or_cases, leb-true, eqb-true, lt-ltb, le-ltb}

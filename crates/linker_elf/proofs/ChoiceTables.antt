@@ -271,7 +271,8 @@ is_listed are_at required entries sampled name es is table known =
     let here = is_empty_table are_at (required name (0x8b ∷ []) 2) es (entries name (0x8b ∷ []) 2) (length es == 0) table refl in
     (λ none. sampled name (here.0 (sym known ∙ none)), λ all. known ∙ here.1 (all (0x8b ∷ []) 2))
 
--- what holds of the choice of each entry that applies, and of the other choice, holds of what is chosen
+-- what holds of the choice of each entry that applies, and of the other choice, holds of what is
+-- chosen
 pub holds_of_first : {K R : Type 0} → (A : Entry K R → Type 0) (P : Choice K R → Type 0) (es : List (Entry K R))
     → (otherwise chosen : Choice K R) → ((e : Entry K R) → A e → P (choice e.kind e.relocation)) → P otherwise
     → IsFirst A es otherwise chosen → P chosen

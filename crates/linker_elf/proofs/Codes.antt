@@ -203,7 +203,8 @@ plain_below f p code v x y e laid small =
     let below : words_below (bits_of code.window) ((relocation_form f).places 0) ≡ true = rw e (coded f p).below in
     laid_below ((relocation_form f).places 0) (bits_of code.window) v x y below laid small
 
--- ---- the instructions of AArch64, of which two take their bits of another number, or from a scale up
+-- ---- the instructions of AArch64, of which two take their bits of another number, or from a scale
+-- up
 
 plain_of : (f : AArch64Instruction) → f ≢ Movnz → f ≢ MachOLow12 → is_plain (AArch64 f) ≡ true
 plain_of Movnz a b = absurd (a refl)

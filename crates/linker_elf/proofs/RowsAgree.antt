@@ -1,4 +1,5 @@
--- The rows of the relocation tables agree with the machines: one law a form, and comparisons of each row's numbers.
+-- The rows of the relocation tables agree with the machines: one law a form, and comparisons of
+-- each row's numbers.
 use Rattle.std.proofs.Common.{◌≡◌, ℕ, ◌+◌, ◌-◌, ◌/◌, ◌%◌, ◌^◌, ◌<◌, Bool, true, false, ◌&&◌, ◌||◌, eqb, refl, sym, ◌∙◌, ap, subst, arith, ℤ, pos, negsuc, neg_ℤ, ◌≤ℤ◌, ◌<ℤ◌, Option, Some, None, unsigned_abs, int_lt, IfSome}
 use Rattle.std.specs.Int.{int_rem_euclid}
 use Rattle.std.specs.Int.Signed.{le_z}

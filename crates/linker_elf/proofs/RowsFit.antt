@@ -1,4 +1,5 @@
--- The bits that each row names fit its form: by comparisons of the row's numbers with the form's least width.
+-- The bits that each row names fit its form: by comparisons of the row's numbers with the form's
+-- least width.
 use Rattle.std.proofs.Common.{◌≡◌, ℕ, ◌-◌, ◌/◌, ◌^◌, ◌≤◌, Bool, true, ◌&&◌, leb, ltb, refl, arith, Option, Some, None, IfSome}
 use Rattle.std.proofs.lemmas.Bool.{and_parts, leb-true, ltb-true}
 use Rattle.std.proofs.lemmas.Nat.{pow_pos, mod_below}

@@ -83,8 +83,8 @@ entry_pages = GotEntryAndPosition Size4KB
 abbrev pub got_page : PageMask
 got_page = GotBase Size4KB
 
--- what a list of relocations says of a name: how ELF files name it, what it means, if that is known,
--- and whether the crate that this one is a port of has no row for it
+-- what a list of relocations says of a name: how ELF files name it, what it means, if that is
+-- known, and whether the crate that this one is a port of has no row for it
 pub record Relocation : Type 0 where
   pub name : ElfName
   pub row : Option RelocationKindInfo

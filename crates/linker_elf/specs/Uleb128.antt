@@ -7,7 +7,8 @@ use Rattle.linker_elf.specs.Value.{sum_64, difference_64}
 use Rattle.linker_elf.specs.declared.elf.Uleb128Role.{Uleb128Role}
 use Rattle.linker_elf.specs.declared.elf.Uleb128Role.TheVariants.{Sets, Adds}
 use Rattle.linker_elf.specs.declared.elf.architecture.Uleb128PairError.{Uleb128PairError}
-use Rattle.linker_elf.specs.declared.elf.architecture.Uleb128PairError.TheVariants.{NotFirst, Number}
+use Rattle.linker_elf.specs.declared.elf.architecture.Uleb128PairError.TheVariants.{NotFirst}
+use Rattle.linker_elf.specs.declared.elf.architecture.Uleb128PairError.TheVariants.{Number}
 
 -- the number that the values of both make, modulo 2 ^ 64: their difference, which the first of
 -- LoongArch adds to the existing number

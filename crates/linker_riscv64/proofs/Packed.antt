@@ -28,7 +28,8 @@ register_at : (link : LinkRegister) (s : List ℕ) (site : ℕ) → field (word_
 register_at OfAuipc s site = ap (λ k. field (word_at s k) 7 12) (let same : site + 4 - 4 ≡ site = omega arith in same)
 register_at OfJalr s site = ap (λ k. field (word_at s k) 7 12) (let same : site + 8 - 4 ≡ site + 4 = omega arith in same)
 
--- where the instruction that names the register is put before it becomes a jump, that jump links the register
+-- where the instruction that names the register is put before it becomes a jump, that jump links
+-- the register
 pub jump_put : (s p0 bytes p1 p2 : List ℕ) (link : LinkRegister) (site at : ℕ) (d : ℤ)
     → length bytes ≡ 4
     → bytes ≡ take 4 (drop (site + call_len link - 4) s)

@@ -74,7 +74,8 @@ rank_beside : (ds others : List (ℕ × ℕ)) (i : ℕ) → AreDisjoint (ds ++ o
 rank_beside ds others i disjoint =
     omega (arith, rank-removed (ds ++ others) i disjoint.apart, rank-removed ds i (disjoint_left ds others disjoint).apart, sum_by-append (removed_by i) ds others)
 
--- the calls before an index lie below an offset, and the others begin to give up bytes at it or above
+-- the calls before an index lie below an offset, and the others begin to give up bytes at it or
+-- above
 record IsParted (calls : List (ℕ × ℕ)) (offset split : ℕ) : Type 0 where
   below : (i : ℕ) (call : ℕ × ℕ) → i < split → i < length calls → (get_or calls i call).0 + 8 ≤ offset
   others : (i : ℕ) (call : ℕ × ℕ) → split ≤ i → i < length calls → offset ≤ (get_or calls i call).0 + 4

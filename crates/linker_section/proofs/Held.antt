@@ -143,8 +143,8 @@ joined_earlier bytes before i row n other alone composes =
           absurd (true≢false (sym (or_left (begins_pair other.size other.kind) (ends_pair other.size other.kind) begins) ∙ alone))
     ]
 
--- What a write of a relocation does to the bytes of a field: nothing, or it is the field's own, or it
--- is that of another which composes with it.
+-- What a write of a relocation does to the bytes of a field: nothing, or it is the field's own, or
+-- it is that of another which composes with it.
 pub data IsStep (bytes before : List ℕ) (i : ℕ) (row : RelocationKindInfo) (n : ℕ)
     (other : RelocationKindInfo) (v : ℤ) (now after : List ℕ) : Type 0 where
   is_kept : field_bytes bytes before i row after ≡ field_bytes bytes before i row now

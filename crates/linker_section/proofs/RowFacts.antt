@@ -1,5 +1,5 @@
--- The facts of each row say what it requires, and what its way requires of it: by computation, name by
--- name.
+-- The facts of each row say what it requires, and what its way requires of it: by computation, name
+-- by name.
 use Rattle.std.proofs.Common.{◌≡◌, ℕ, ℤ, refl, sym, subst, true, false, true≢false, Option, Some, None}
 use Rattle.linker_elf.specs.AArch64Relocations.{aarch64_name, aarch64_row}
 use Rattle.linker_elf.specs.ElfNames.{ElfName}

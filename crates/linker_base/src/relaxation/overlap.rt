@@ -200,7 +200,8 @@ fn inner_or_middle(number: usize, low: usize, high: usize) -> usize
     low + (high - low) / 2
 }
 
-// Whether the deletions are disjoint, and none overlaps a delta. Many that ascend are met in a walk.
+// Whether the deletions are disjoint, and none overlaps a delta. Many that ascend are met in a
+// walk.
 pub(super) fn can_be_merged<D: AsDeletion>(deltas: &[RelaxDelta], additional: &[D]) -> bool
     ensures { IsValid (map deletion_of deltas.now)
         → (IsTrue result ↔ AreDisjoint (map deletion_of deltas.now ++ map D.deletion

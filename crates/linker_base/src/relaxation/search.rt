@@ -3,7 +3,8 @@
 ghost use Rattle.std.specs.Prelude.{◌≡◌, ◌<◌, ◌≤◌, ◌+◌, ◌*◌, ◌^◌, ℕ, length, min, true};
 ghost use Rattle.linker_base.specs.declared.relaxation.search.Level.TheVariants.{Heads, Deltas};
 ghost use Rattle.linker_base.specs.Blocks.{blocks_of};
-ghost use Rattle.linker_base.specs.Inner.Search.{Probed, size_of, read_at, passes_test, passing, OnlyProbes};
+ghost use Rattle.linker_base.specs.Inner.Search.{Probed, size_of, read_at, passes_test, passing};
+ghost use Rattle.linker_base.specs.Inner.Search.{OnlyProbes};
 ghost use Rattle.linker_base.specs.Inner.Search.{IsPartitioned, IsNarrowed, IsPointOf, HeadsAgree};
 
 use super::blocks::{BLOCK_LEN, BlockHead, count_blocks};
@@ -54,10 +55,10 @@ pub(super) trait Probe {
         ensures probes { OnlyProbes 1 (state self.old) (state self.new) };
 }
 
-/// Of the first `2 * width` of `count` indexes from `last` on, one of which is the last that passes,
-/// the first of those that are left, `width` at most. No probe is taken where no more are there.
-/// Where the widths are constants, LLVM compiles a step to a comparison and a choice, without a
-/// branch.
+/// Of the first `2 * width` of `count` indexes from `last` on, one of which is the last that
+/// passes, the first of those that are left, `width` at most. No probe is taken where no more are
+/// there. Where the widths are constants, LLVM compiles a step to a comparison and a choice,
+/// without a branch.
 #[inline(always)]
 fn halve<P: Probe>(
     probe: &mut P,

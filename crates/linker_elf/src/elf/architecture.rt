@@ -1,4 +1,5 @@
-//! The architectures: their relocations by codes (`r_type`) and handles, and their forms by numbers.
+//! The architectures: their relocations by codes (`r_type`) and handles, and their forms by
+//! numbers.
 
 ghost use Rattle.std.specs.Prelude.{◌≡◌, ◌≤◌, ℕ, List, Option, IfSome, IfNone, length};
 ghost use Rattle.linker_base.specs.Uleb.{Uleb};
@@ -53,8 +54,8 @@ pub enum Architecture {
     X86_64 = 62,
 }
 
-/// What a macro makes of what it is given and of all architectures: of each its variant, its module,
-/// the enum of its relocations, and the quotient of its handles by `HANDLE_UNIT`.
+/// What a macro makes of what it is given and of all architectures: of each its variant, its
+/// module, the enum of its relocations, and the quotient of its handles by `HANDLE_UNIT`.
 #[macro_export]
 macro_rules! architectures {
     ([$($make:tt)+] $given:tt) => {
@@ -168,8 +169,8 @@ impl Architecture {
         by_architecture!(self, row_of(code))
     }
 
-    /// Computes the value of the relocation with a code and writes it, as `Row::apply` does. None of
-    /// a code without a row, and nothing is written.
+    /// Computes the value of the relocation with a code and writes it, as `Row::apply` does. None
+    /// of a code without a row, and nothing is written.
     ///
     /// ```
     /// use linker_utils::elf::{Architecture, Operands};

@@ -1,5 +1,6 @@
 -- What holds while calls are chosen.
-use Rattle.std.specs.Prelude.{◌≡◌, ℕ, ◌+◌, ◌-◌, ◌*◌, ◌<◌, ◌≤◌, ◌++◌, Bool, true, false, List, All, AllPairs}
+use Rattle.std.specs.Prelude.{◌≡◌, ℕ, ◌+◌, ◌-◌, ◌*◌, ◌<◌, ◌≤◌, ◌++◌, Bool, true, false, List, All}
+use Rattle.std.specs.Prelude.{AllPairs}
 use Rattle.std.specs.Prelude.{count_by, drop, length, map, slice_index_or, take, nat_le}
 use Rattle.std.specs.Prelude.{if◌then◌else◌, ℤ, pos, ◌-ℤ◌}
 use Rattle.linker_base.specs.Deletions.{AreDisjoint, AreKept, IsInsideDeletion}

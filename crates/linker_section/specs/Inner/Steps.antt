@@ -1,5 +1,6 @@
 -- What is known of a section while values are written to it.
-use Rattle.std.specs.Prelude.{◌≡◌, ℕ, ◌≢◌, ◌+◌, ◌/◌, ◌<◌, ◌≤◌, ◌==◌, ◌||◌, Bool, not, ℤ, List, length}
+use Rattle.std.specs.Prelude.{◌≡◌, ℕ, ◌≢◌, ◌+◌, ◌/◌, ◌<◌, ◌≤◌, ◌==◌, ◌||◌, Bool, not, ℤ, List}
+use Rattle.std.specs.Prelude.{length}
 use Rattle.std.specs.Prelude.{drop, set, ◌⊎◌, ⊤, true, false, Option, Some, None, Result, Ok, Err}
 use Rattle.linker_base.specs.declared.utils.Uleb128Error.{Uleb128Error}
 use Rattle.linker_elf.specs.Relocate.{window_len}
