@@ -15,7 +15,7 @@ use Rattle.linker_elf.specs.RiscV.{riscv_form, riscv_places}
 use Rattle.linker_elf.specs.RiscVRelocations.{pair_row}
 use Rattle.linker_elf.specs.Value.{sum_64, difference_64}
 use Rattle.linker_elf.specs.declared.elf.RelocationKind.{RelocationKind}
-use Rattle.linker_elf.specs.declared.elf.RelocationKind.TheVariants.{TpOff, TlsDesc, GotTpOff, GotRelative, Relative, RelativeRiscVLow12}
+use Rattle.linker_elf.specs.declared.elf.RelocationKind.TheVariants.{TpOff, TlsDesc, GotRelative, Relative, RelativeRiscVLow12}
 use Rattle.linker_elf.specs.declared.elf.value.Operands.{Operands}
 use Rattle.linker_elf.specs.declared.riscv64.forms.RiscVInstruction.TheVariants.{UType, IType}
 use Rattle.linker_riscv64.specs.RiscVFields.{opcode_of, funct3_of, rd_of}
@@ -51,7 +51,7 @@ four_parts false false true d e = cc
 four_parts false false false true e = cc
 
 -- a load of 64 bits
-whole_number : (v : ℕ) → v < 2 ^ 64 → extended 64 v ≡ v
+pub whole_number : (v : ℕ) → v < 2 ^ 64 → extended 64 v ≡ v
 whole_number v small =
     let same : signed 64 v ≡ cast_signed w64 v = elim (signed_cases 64 v) [
       | inl a ↦ a.1 ∙ sym (to_z_pos w64 v a.0)
@@ -187,7 +187,7 @@ module _ (changes : laws.Changes) (X Y offset at : ℕ) (h k u v w : Hart) (back
 
 -- ---- the new code
 
-ten : ◌≢◌ {A = ℕ} 10 0
+pub ten : ◌≢◌ {A = ℕ} 10 0
 ten e = absurd (omega (arith, e))
 
 in_two : (k : Hart) (u l : ℤ) (offset : ℕ) → moved (wrapped u) l ≡ offset
@@ -214,25 +214,6 @@ in_one k l offset is =
       floats = refl;
       memory = refl;
       next = refl;
-    }
-
-by_got : (k : Hart) (u l : ℤ) (entry offset : ℕ) → moved (moved k.pc u) l ≡ entry → loaded 8 k.memory entry ≡ offset → offset < 2 ^ 64
-    → Leaves offset (sum_64 k.pc 8) k (executed 4 (sums (loads 3) 10 10 0 l) (executed 4 (auipc 10 u) k))
-by_got k u l entry offset is holds small =
-    let first = executed 4 (auipc 10 u) k in
-    let some = ten in
-    record {
-      has_offset =
-          written 10 (load_number 3 (loaded 8 k.memory (moved (register first 10) l))) first some
-          ∙ ap (λ n. load_number 3 (loaded 8 k.memory (moved n l))) (written 10 (moved k.pc u) k some)
-          ∙ ap (λ n. load_number 3 (loaded 8 k.memory n)) is
-          ∙ ap (load_number 3) holds ∙ whole_number offset small;
-      others = λ r e.
-          other 10 (load_number 3 (loaded 8 k.memory (moved (register first 10) l))) first r e
-          ∙ other 10 (moved k.pc u) k r e;
-      floats = refl;
-      memory = refl;
-      next = let e : sum_64 (sum_64 k.pc 4) 4 ≡ sum_64 k.pc 8 = omega arith in e;
     }
 
 -- ---- instructions as bytes
@@ -371,7 +352,7 @@ no_immediate : (w : ℕ) → field w 20 32 ≡ 0 → (riscv_form IType).machine 
 no_immediate w e =
     ap (signed 12) (consecutive_bits_sum replaced 12 0 20 0 w refl ∙ (let z : w / 2 ^ 20 % 2 ^ 12 * 2 ^ 0 ≡ 0 = omega (arith, e) in z))
 
-call_word : (w rs1 : ℕ) → opcode_of w ≡ 0x67 → funct3_of w ≡ 0 → rd_of w ≡ 5 → rs1_of w ≡ rs1 → field w 20 32 ≡ 0
+pub call_word : (w rs1 : ℕ) → opcode_of w ≡ 0x67 → funct3_of w ≡ 0 → rd_of w ≡ 5 → rs1_of w ≡ rs1 → field w 20 32 ≡ 0
     → of_word w ≡ Some (sums jumps 5 rs1 0 (pos 0))
 call_word w rs1 op f at from none =
     is_jalr w op f
@@ -388,7 +369,7 @@ made_len new (p ∷ q ∷ r ∷ []) e = absurd (omega (arith, e))
 made_len new (p ∷ q ∷ r ∷ t ∷ []) e = refl
 made_len new (p ∷ q ∷ r ∷ t ∷ a ∷ more) e = absurd (omega (arith, e))
 
-made_word : (new : ℕ) (s : List ℕ) → length s ≡ 4 → new < 2 ^ 32 → from_le_bytes w32 (rewritten (Some (rewrites_word (λ _. new))) s 0) ≡ new
+pub made_word : (new : ℕ) (s : List ℕ) → length s ≡ 4 → new < 2 ^ 32 → from_le_bytes w32 (rewritten (Some (rewrites_word (λ _. new))) s 0) ≡ new
 made_word new s e small = word_there s 0 (λ _. new) (omega (arith, e)) small
 
 -- ---- descriptors
@@ -517,28 +498,6 @@ to_short_local_exec descriptors call changes x y h k auipc_bytes ld addi jalr d 
       refl,
     )
     (in_one k l (thread_offset x) value) alike
-
-pub to_initial_exec : DescriptorAddresses → EntryAddresses → laws.DescriptorToInitialExec
-to_initial_exec descriptors entries call changes x y h k auipc_bytes ld addi jalr d A B C of sy holds at alike high low high_code low_code =
-    let u = (riscv_form UType).machine (word_of high) in
-    let l = (riscv_form IType).machine (word_of low) in
-    let before = laws.after_rewrite kinds.AddiToAuipc addi 0 in
-    let before' = laws.after_rewrite kinds.CallToLd jalr 0 in
-    let a1 = high_code.applied in
-    let a2 = low_code.applied in
-    let w1 = made_word 0x517 addi d.lengths.2 (omega arith) in
-    let w2 = made_word 0x53503 jalr d.lengths.3 (omega arith) in
-    let small : k.pc < 2 ^ 64 = subst (λ p. p < 2 ^ 64) (sym at) sy.place in
-    let value : moved (moved k.pc u) l ≡ entry_and_addend y =
-    moved_twice k.pc u l ∙ ap (λ p. wrapped (pos p +ℤ (u +ℤ l))) at
-    ∙ address_is _ _ (entries.1.0 y sy y.place before high a1 tt y.place before' low a2 tt) in
-    together descriptors call changes x h auipc_bytes ld addi jalr d A B C of k _ 2 (high ++ low)
-    (two_run high low (auipc 10 u) (sums (loads 3) 10 10 0 l) k small (high_code.len ∙ made_len (λ _. 0x517) addi d.lengths.2) (low_code.len ∙ made_len (λ _. 0x53503) jalr d.lengths.3)
-    (upper_long GotTpOff y before high a1 0x17 refl (ap opcode_of w1)) (low_long RelativeRiscVLow12 (laws.of_entry y) before' low a2 0x03 refl (ap opcode_of w2))
-    (upper_word GotTpOff y before high a1 10 (ap opcode_of w1) (ap rd_of w1))
-    (load_word RelativeRiscVLow12 (laws.of_entry y) before' low a2 10 10 (ap opcode_of w2) (ap funct3_of w2) (ap rd_of w2) (ap rs1_of w2))
-    refl)
-    (by_got k u l (entry_and_addend y) (thread_offset x) value holds (let e : thread_offset x < 2 ^ 64 = omega arith in e)) alike
 
 -- ---- a load from the GOT
 

@@ -37,7 +37,7 @@ use Rattle.linker_laws.specs.RiscVMachine.{Hart, register, with_integer, lui, su
 use Rattle.linker_laws.specs.RiscVMachine.{of_half, of_clui, Runs, Instruction, adds}
 use Rattle.linker_laws.specs.RiscVMachine.{cli_immediate}
 use Rattle.linker_laws.proofs.Words.{kept_field}
-use Rattle.linker_laws.proofs.RiscVMachine.{at_start, is_long, fetched_word, fetched_half, steps}
+use Rattle.linker_laws.proofs.RiscVMachine.{at_start, is_long, fetched_word, steps}
 use Rattle.linker_laws.proofs.RiscVMachine.{is_lui}
 
 -- ---- numbers of 12 bits, and those of 18 that `c.lui` and a low part make
@@ -334,23 +334,16 @@ module _ (x : Operands) (before code : List ℕ)
       then of_clui (rd_of half) ((riscv_form CluiType).machine half) else otherwise)) function_kept
       ∙ is_clui
 
-  pub short_put : Hart → Hart
-  short_put k = executed 2 loads_short k
+  -- the half is that `c.lui`
+  pub short_low : field (from_le_bytes w16 code) 0 2 ≡ 1
+  unfolding half
+  short_low = short_kept
 
-  pub short_runs : (k : Hart) → k.pc < 2 ^ 64 → Runs 1 code k.pc k (short_put k)
-  unfolding half loads_short short_put short_number
-  short_runs k small =
-      let long : 2 ≤ length before = applied.accepted.long in (
-        short_put k,
-        steps code k.pc 0 2 loads_short k (at_start k.pc small)
-            (fetched_half code loads_short short_kept (omega (arith, long, len)) is_short_lui),
-        refl,
-      )
-
-  pub short_is : (k : Hart) → short_put k ≡ executed 2 (lui (rd_of (from_le_bytes w16 code))
-      (signed 18 (place_sum (riscv_places CluiType) (from_le_bytes w16 code)))) k
-  unfolding half loads_short short_put short_number
-  short_is k = refl
+  pub short_decodes : of_half (from_le_bytes w16 code)
+      ≡ Some (lui (rd_of (from_le_bytes w16 code))
+      (signed 18 (place_sum (riscv_places CluiType) (from_le_bytes w16 code))))
+  unfolding half short_number loads_short
+  short_decodes = is_short_lui
 
 -- ---- `c.li` of 0
 

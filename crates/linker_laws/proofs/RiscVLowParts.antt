@@ -30,21 +30,18 @@ use Rattle.linker_elf.specs.declared.elf.RelocationKindInfo.{RelocationKindInfo}
 use Rattle.linker_elf.specs.declared.riscv64.relocations.RiscVRelocation.TheVariants as names
 use Rattle.linker_utils.specs.declared.riscv64.rewrites.RelaxationKind.TheVariants as kinds
 use Rattle.linker_elf.specs.Value.{sum_64, value_of}
-use Rattle.linker_elf.specs.declared.elf.RelocationKind.TheVariants.{Absolute, TpOff}
+use Rattle.linker_elf.specs.declared.elf.RelocationKind.TheVariants.{TpOff}
 use Rattle.linker_elf.specs.declared.elf.value.Operands.{Operands}
 use Rattle.linker_elf.specs.declared.riscv64.forms.RiscVInstruction.TheVariants.{UType, IType}
 use Rattle.linker_elf.specs.declared.riscv64.forms.RiscVInstruction.TheVariants.{SType, JType}
 use Rattle.linker_riscv64.proofs.Jumps.{word_of_front}
-use Rattle.linker_laws.specs.RiscVRelocationLaws.{even}
 use Rattle.linker_elf.specs.Applied.{IsApplied}
-use Rattle.linker_laws.specs.Schemes.{symbol_address}
 use Rattle.linker_laws.proofs.Applied.{value_is, taken_bits}
-use Rattle.linker_laws.proofs.Sums.{sum_below}
 use Rattle.linker_laws.specs.Machine.{AreBytes, Memory, loaded, stored, moved, extended}
 use Rattle.linker_laws.specs.Machine.{Relocated}
 use Rattle.linker_laws.specs.RiscVRewriteLaws.{AreAlike, StoresTheSame, GoOn, differs_after, EndSo}
-use Rattle.linker_laws.specs.RiscVRewriteLaws.{after_rewrite, IsLow12, FromZero, LowPartFromZero}
-use Rattle.linker_laws.specs.RiscVRewriteLaws.{HaveOneTarget, thread_offset, FromThreadPointer}
+use Rattle.linker_laws.specs.RiscVRewriteLaws.{after_rewrite}
+use Rattle.linker_laws.specs.RiscVRewriteLaws.{thread_offset, FromThreadPointer}
 use Rattle.linker_laws.specs.RiscVRewriteLaws.{LowPartFromThreadPointer}
 use Rattle.linker_laws.specs.RiscVMachine.{Hart, register, with_integer, with_number, Action, adds}
 use Rattle.linker_laws.specs.RiscVMachine.{adds_word, jumps, loads, stores, loads_float}
@@ -52,7 +49,7 @@ use Rattle.linker_laws.specs.RiscVMachine.{stores_float, lui, auipc, jal, sums, 
 use Rattle.linker_laws.specs.RiscVMachine.{rs2_of, action_of, with_action, of_word, used, executed}
 use Rattle.linker_laws.specs.RiscVMachine.{load_number, bytes_of, boxed, i_type, s_type, is_add}
 use Rattle.linker_laws.specs.RiscVMachine.{add}
-use Rattle.linker_laws.proofs.RiscVHighParts.{low_12_number, IsFormulaOf, of_address, of_offset}
+use Rattle.linker_laws.proofs.RiscVHighParts.{low_12_number, IsFormulaOf, of_offset}
 use Rattle.linker_laws.proofs.RiscVMachine.{at_start, fetched_word, steps, wrapped_is}
 use Rattle.linker_laws.proofs.RiscVMachine.{other, written, same_written}
 use Rattle.linker_laws.proofs.Words.{kept_field, put_there, word_below, word_of_bytes}
@@ -326,19 +323,19 @@ module _ (kind : RelocationKind) (x : Operands) (n : ℕ) (before code : List �
 
 -- ---- the word with another base
 
-clear_0 : (w b : ℕ) → field (with_rs1 b w) 0 7 ≡ field w 0 7
+pub clear_0 : (w b : ℕ) → field (with_rs1 b w) 0 7 ≡ field w 0 7
 clear_0 w b = omega arith
 
-clear_7 : (w b : ℕ) → field (with_rs1 b w) 7 12 ≡ field w 7 12
+pub clear_7 : (w b : ℕ) → field (with_rs1 b w) 7 12 ≡ field w 7 12
 clear_7 w b = omega arith
 
-clear_12 : (w b : ℕ) → field (with_rs1 b w) 12 15 ≡ field w 12 15
+pub clear_12 : (w b : ℕ) → field (with_rs1 b w) 12 15 ≡ field w 12 15
 clear_12 w b = omega arith
 
-clear_15 : (w b : ℕ) → b < 32 → field (with_rs1 b w) 15 20 ≡ b
+pub clear_15 : (w b : ℕ) → b < 32 → field (with_rs1 b w) 15 20 ≡ b
 clear_15 w b small = omega arith
 
-clear_20 : (w b : ℕ) → b < 32 → field (with_rs1 b w) 20 25 ≡ field w 20 25
+pub clear_20 : (w b : ℕ) → b < 32 → field (with_rs1 b w) 20 25 ≡ field w 20 25
 clear_20 w b small = omega arith
 
 -- what a rewrite of a word puts there
@@ -365,12 +362,12 @@ based_there section o b small inside bytes =
     word_there section o (with_rs1 b) inside (omega arith)
 
 -- x0 and the thread pointer as the base
-abbrev IsBased : RelaxationKind → ℕ → Type 0
+abbrev pub IsBased : RelaxationKind → ℕ → Type 0
 IsBased k b =
     (section : List ℕ) (o : ℕ) → o + 4 ≤ length section → AreBytes (drop o section)
     → from_le_bytes w32 (drop o (after_rewrite k section o)) ≡ with_rs1 b (word_at section o)
 
-over_zero : IsBased kinds.Lo12Rs1ToZero 0
+pub over_zero : IsBased kinds.Lo12Rs1ToZero 0
 over_zero section o inside bytes =
     let word = word_at section o in
     let below : word < 2 ^ 32 = word_below (drop o section) bytes
@@ -378,7 +375,7 @@ over_zero section o inside bytes =
     word_there section o (λ w. w - field w 15 20 * 2 ^ 15) inside (omega arith)
     ∙ omega arith
 
-over_tp : IsBased kinds.BaseToTp 4
+pub over_tp : IsBased kinds.BaseToTp 4
 over_tp section o inside bytes = based_there section o 4 (omega arith) inside bytes
 
 -- ---- both instructions
@@ -554,42 +551,9 @@ module _ (kind : RelocationKind) (number : Operands → ℕ) (of : IsFormulaOf k
 
 -- ---- the laws
 
-from_zero : (section : List ℕ) (o : ℕ) (a : Action) (rd rs2 : ℕ) (row : Option RelocationKindInfo)
-    → LowLaw row symbol_address kinds.Lo12Rs1ToZero 0 a rd rs2 section o → (x y : Operands)
-    → HaveOneTarget x y → IsLow12 x → (original new : List ℕ)
-    → Relocated row x (drop o section) original
-    → Relocated row y (drop o (after_rewrite kinds.Lo12Rs1ToZero section o)) new
-    → (h k : Hart) (differs : ℕ → Bool) → h.pc < 2 ^ 64 → k.pc < 2 ^ 64 → AreAlike differs h k
-    → register h (rs1_of (word_at section o)) ≡ 0 → StoresTheSame a rs2 h k
-    → EndSo 1 original h 1 new k
-    (λ e e'. AreAlike (differs_after a differs rd) e e'
-    × GoOn a rd (even symbol_address x) (sum_64 h.pc 4) (sum_64 k.pc 4) e e')
-from_zero section o a rd rs2 row law x y one low original new old_code new_code h k differs small
-    small' alike none apart =
-    let n = symbol_address x in
-    let below : n < 2 ^ 64 = sum_below x.symbol _ in
-    let whole : sum_64 0 n ≡ n = omega arith in
-    subst (λ t. EndSo 1 original h 1 new k (λ e e'. AreAlike (differs_after a differs rd) e e'
-    × GoOn a rd (t - t % 2) (sum_64 h.pc 4) (sum_64 k.pc 4) e e')) whole
-    (law x y one low original new old_code new_code h k differs small small' alike none apart)
-
 module _ (section : List ℕ) (o : ℕ) (inside : o + 4 ≤ length section) (a : Action)
     (is : action_of (opcode_of (word_at section o)) (funct3_of (word_at section o)) ≡ Some a)
     (long : opcode_of (word_at section o) % 4 ≡ 3) where
-  i_zero : ((w : ℕ) → with_action w (Some a) ≡ i_type a w)
-      → LowLaw (riscv_row names.R_RISCV_LO12_I) symbol_address kinds.Lo12Rs1ToZero 0 a
-      (rd_of (word_at section o)) 0 section o
-  i_zero =
-      i_law Absolute symbol_address of_address kinds.Lo12Rs1ToZero 0 (omega arith) over_zero a
-      section o inside is long
-
-  s_zero : ((w : ℕ) → with_action w (Some a) ≡ s_type a w)
-      → LowLaw (riscv_row names.R_RISCV_LO12_S) symbol_address kinds.Lo12Rs1ToZero 0 a 0
-      (rs2_of (word_at section o)) section o
-  s_zero =
-      s_law Absolute symbol_address of_address kinds.Lo12Rs1ToZero 0 (omega arith) over_zero a
-      section o inside is long
-
   i_thread : ((w : ℕ) → with_action w (Some a) ≡ i_type a w)
       → LowLaw (riscv_row names.R_RISCV_TPREL_LO12_I) thread_offset kinds.BaseToTp 4 a
       (rd_of (word_at section o)) 0 section o
@@ -603,38 +567,6 @@ module _ (section : List ℕ) (o : ℕ) (inside : o + 4 ≤ length section) (a :
   s_thread =
       s_law TpOff thread_offset of_offset kinds.BaseToTp 4 (omega arith) over_tp a section o inside
       is long
-
-pub law : (section : List ℕ) (o : ℕ) → o + 4 ≤ length section → (a : Action)
-    → action_of (opcode_of (word_at section o)) (funct3_of (word_at section o)) ≡ Some a
-    → opcode_of (word_at section o) % 4 ≡ 3 → FromZero section o a
-law section o inside adds is long =
-    from_zero section o adds (rd_of (word_at section o)) 0 (riscv_row names.R_RISCV_LO12_I)
-    (i_zero section o inside adds is long (λ w. refl))
-law section o inside adds_word is long =
-    from_zero section o adds_word (rd_of (word_at section o)) 0 (riscv_row names.R_RISCV_LO12_I)
-    (i_zero section o inside adds_word is long (λ w. refl))
-law section o inside jumps is long =
-    from_zero section o jumps (rd_of (word_at section o)) 0 (riscv_row names.R_RISCV_LO12_I)
-    (i_zero section o inside jumps is long (λ w. refl))
-law section o inside (loads f) is long =
-    from_zero section o (loads f) (rd_of (word_at section o)) 0 (riscv_row names.R_RISCV_LO12_I)
-    (i_zero section o inside (loads f) is long (λ w. refl))
-law section o inside (stores f) is long =
-    from_zero section o (stores f) 0 (rs2_of (word_at section o)) (riscv_row names.R_RISCV_LO12_S)
-    (s_zero section o inside (stores f) is long (λ w. refl))
-law section o inside (loads_float f) is long =
-    from_zero section o (loads_float f) (rd_of (word_at section o)) 0
-    (riscv_row names.R_RISCV_LO12_I) (i_zero section o inside (loads_float f) is long (λ w. refl))
-law section o inside (stores_float f) is long =
-    from_zero section o (stores_float f) 0 (rs2_of (word_at section o))
-    (riscv_row names.R_RISCV_LO12_S) (s_zero section o inside (stores_float f) is long (λ w. refl))
-
-pub low_part_from_zero : LowPartFromZero
-low_part_from_zero section o m =
-    let word = word_at section o in
-    let some = some_action (opcode_of word) (funct3_of word) m.1 in
-    subst (λ r. IsSomeAnd r (FromZero section o)) (sym some.1)
-    (law section o m.0 some.0 some.1 some.2)
 
 pub thread_law : (section : List ℕ) (o : ℕ) → o + 4 ≤ length section → (a : Action)
     → action_of (opcode_of (word_at section o)) (funct3_of (word_at section o)) ≡ Some a

@@ -39,17 +39,11 @@ pub fn ppc64()
     crate::relocations::ppc64();
 }
 
-/// RISC-V: a call that becomes `jal`, and a tail call that becomes `jal` or `c.j`, go to the
-/// target of their layout, and a call links the address after it, also in another register than
-/// that of its `auipc`; `c.lui` puts in its register what `lui` does; so does `c.li` of 0 where
-/// the high part is 0, in place of a `c.lui` that can't have that; a `lui` that is deleted would
-/// put 0 there, so that x0 can be the base of the instructions that add its low part. All else
-/// that a program sees is the same, except for the register of the `auipc` of a call that doesn't
-/// link it and that of a deleted `lui`. Where the offset of a variable has 12 bits, the thread
-/// pointer is the base in place of a register that would have its number, and the instruction over
-/// it does alone what it does after `lui` and `add`. The offset of a variable is in the
-/// instructions, or in its GOT entry, in place of a descriptor; a symbol's address is computed in
-/// place of a load from the GOT.
+/// RISC-V: a `lui` that is deleted would put 0 in its register, and an `add` the thread pointer's
+/// number. Where the offset of a variable has 12 bits, the thread pointer is the base in place of a
+/// register that would have its number. The offset of a variable is in the instructions in place of
+/// a descriptor; a symbol's address is computed in place of a load from the GOT. What these compute
+/// as groups, and all others, is in `simulation::riscv64`.
 pub fn riscv64()
     ensures laws { riscv_laws.Laws }
     ensures words { riscv_examples.Words }
