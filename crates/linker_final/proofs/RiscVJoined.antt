@@ -26,6 +26,7 @@ use Rattle.linker_final.specs.Packed.{Packed, architecture_of, place_of}
 use Rattle.linker_final.specs.RiscVFinal.{IsOfDescriptor, LoadsTheSameAnywhere, LowPartsAnywhereOf, named_as}
 use Rattle.linker_final.specs.RiscVJoined.{AreOfFinalLoad, FinalBytesLoadTheSame, FinalLowPartDoesTheSame, PackedDescriptors, PackedGotLoads, PackedLowParts, PackedLowPartsOf, PackedShortDescriptors, final_operands}
 use Rattle.linker_laws.specs.Machine.{Relocated}
+use Rattle.linker_laws.specs.RiscVGroups.{Groups}
 use Rattle.linker_laws.specs.RiscVRewriteLaws.{Laws, action_at, offset_row}
 use Rattle.linker_utils.specs.declared.riscv64.rewrites.RelaxationKind.{RelaxationKind}
 use Rattle.linker_utils.specs.declared.riscv64.rewrites.RelaxationKind.TheVariants as kinds
@@ -107,18 +108,19 @@ packed_of name a of is_row no_entry anywhere l p joined riscv i chosen below is_
     let any = anywhere l joined.rewritten (joined.architecture ∙ ap architecture_of riscv) i chosen below is_name decided in
     mapped (λ action law is_of.
     subst (λ q. IsSomeAnd q (FinalLowPartDoesTheSame l p i action)) (sym is_row)
-    (λ symbol is_symbol x one low h k differs original small new_small alike base stores of_original.
+    (λ symbol is_symbol x c k k' s at one low base known old stands keeps.
     let y = final_operands p i a.row symbol in
     let new : Relocated (offset_row action) y (instruction_at l.rewritten r.offset) (final_instruction p r.offset) =
     subst (λ q. Relocated q y (instruction_at l.rewritten r.offset) (final_instruction p r.offset)) (sym (is_of ∙ is_row))
     (relocated_own l p joined riscv i below name a r (any.0) kept left of symbol
     (no_entry p.addresses (relocation_in p.relocations_after i) symbol) is_symbol) in
-    law x y one low h k differs original (final_instruction p r.offset) small new_small alike base stores of_original new))
+    law x y c k k' s at one low base known old
+    (record { relocated = final_instruction p r.offset; applied = new; stands = stands }) keeps))
     (action_at l.section r.offset) (any.1)
 
-pub packed_low_parts : Laws → PackedLowParts
-packed_low_parts laws =
-    let any = low_parts_anywhere laws in (
+pub packed_low_parts : Groups → PackedLowParts
+packed_low_parts groups =
+    let any = low_parts_anywhere groups in (
       packed_of names.R_RISCV_TPREL_LO12_I low_i of_low_i refl (λ addresses r symbol. refl) (any.0),
       packed_of names.R_RISCV_TPREL_LO12_S low_s of_low_s refl (λ addresses r symbol. refl) (any.1),
     )

@@ -1,7 +1,7 @@
 -- RISC-V: in the final bytes of a section rewritten instructions do what the object's do with the
 -- values of their relocations (RISC-V ELF psABI, "PC-Relative Symbol Addresses", "Local-Exec TLS
 -- Relaxation", "TLS Descriptors -> Local Exec Relaxation").
-use Rattle.std.specs.Prelude.{◌≡◌, ◌≢◌, ℕ, ◌+◌, ◌<◌, ◌^◌, ◌==◌, Bool, false, List, [], ◌++◌}
+use Rattle.std.specs.Prelude.{◌≡◌, ◌≢◌, ℕ, ◌+◌, ◌<◌, ◌^◌, ◌==◌, Bool, List, [], ◌++◌}
 use Rattle.std.specs.Prelude.{Some, Option, IsSomeAnd, slice_get, true, ⊤}
 use Rattle.linker_elf.specs.ElfNames.{IsNameOf, code_of}
 use Rattle.linker_elf.specs.RiscVRelocations.{riscv_name, riscv_row}
@@ -16,13 +16,17 @@ use Rattle.linker_final.specs.Final.{instruction_at}
 use Rattle.linker_final.specs.Final.{UntouchedInstructions, AreRewritten, UntouchedInstruction, Linked, IsLinked}
 use Rattle.linker_final.specs.Final.{count}
 use Rattle.linker_laws.specs.Machine.{Relocated, but, loaded}
-use Rattle.linker_laws.specs.RiscVMachine.{Action, Hart, register, rs1_of, rs2_of}
+use Rattle.linker_laws.specs.RiscVMachine.{Action, Hart, register, rs1_of}
 use Rattle.linker_laws.specs.RiscVRewriteLaws.{AreAlike, Changes, Descriptor, DescriptorOf}
-use Rattle.linker_laws.specs.RiscVRewriteLaws.{EndAsReturned, EndSo, GoOn, HasThreadPointer}
-use Rattle.linker_laws.specs.RiscVRewriteLaws.{HasZero, HaveAddress, HaveGoneOn, HaveOneOffset}
-use Rattle.linker_laws.specs.RiscVRewriteLaws.{IsLowOffset, StoresTheSame, action_at}
-use Rattle.linker_laws.specs.RiscVRewriteLaws.{differs_after, even_in_thread, no_register}
+use Rattle.linker_laws.specs.RiscVRewriteLaws.{EndAsReturned, EndSo}
+use Rattle.linker_laws.specs.RiscVRewriteLaws.{HaveAddress, HaveGoneOn, HaveOneOffset}
+use Rattle.linker_laws.specs.RiscVRewriteLaws.{IsLowOffset, action_at}
+use Rattle.linker_laws.specs.RiscVRewriteLaws.{no_register}
 use Rattle.linker_laws.specs.RiscVRewriteLaws.{of_entry, offset_row, scratch_of, word_of}
+use Rattle.linker_laws.specs.RiscVGroups.{AreBefore, AreDeleted, Code, Has, Stands, link, seen, uses}
+use Rattle.linker_laws.specs.RiscVRewriteLaws.{thread_offset}
+use Rattle.linker_laws.specs.Changes.{put, with_register}
+use Rattle.linker_laws.specs.Simulation.{Agree, Group, Kinds, State, anything, of_link, same}
 use Rattle.linker_laws.specs.Schemes.{AreAddresses, entry_and_addend, symbol_address}
 use Rattle.linker_rewriting.specs.Decisions.{decision_at, deleted_of}
 use Rattle.linker_rewriting.specs.RiscVPcrelGroups.{IsHighIn}
@@ -89,24 +93,25 @@ LoadsTheSame l i row =
 
 -- ---- low parts of offsets from the thread pointer
 
--- An instruction that adds the low part of an offset to a register, which has the thread pointer's
--- number. The offset is a number of 12 bits. Two harts are alike but for some registers, each at
--- its own place. One executes the object's with the value of its relocation, and the other the
--- final bytes, and both compute the same.
+-- An instruction adds the low part of an offset x, a number of 12 bits, to a register with the thread
+-- pointer's number. It is a group, with what new has. What it does with the sum keeps agreement.
+abbrev pub LowPartIsAlike : Action → List ℕ → (Code → Type 0) → Operands → Operands → Type 0
+LowPartIsAlike action low NewHas x y =
+    (c : Code) (k k' : Kinds) (s : State) → AreBefore c 4 4 x y s → HaveOneOffset x y
+    → IsLowOffset x → register (seen s) (rs1_of (word_of low)) ≡ s.registers tp
+    → k.registers tp ≡ same → Has 4 c.old x.place (offset_row action) x low → NewHas c
+    → let after = uses action (word_of low) (sum_64 (s.registers tp) (thread_offset x)) in
+    ((t : State) → Agree (link c) k s t → Agree (link c) k' (after s) (after t))
+    → Group (of_link (link c)) 1 k s k' (after s)
+
+-- New has the final bytes.
 abbrev pub LowPartDoesTheSame : Linked → ℕ → Action → RelocationKindInfo → Type 0
 LowPartDoesTheSame l i action row =
     let r = relocation_in l.relocations i in
-    let word = word_of (instruction_at l.section r.offset) in
-    (symbol : Symbol) → slice_get l.symbols r.symbol ≡ Some symbol
-    → (h k : Hart) (differs : ℕ → Bool) (original : List ℕ)
-    → let operands = operands_with RiscV l.addresses row symbol r 0 in
-    IsLowOffset operands → h.pc < 2 ^ 64 → k.pc < 2 ^ 64 → AreAlike differs h k
-    → register h (rs1_of word) ≡ register k tp → StoresTheSame action (rs2_of word) h k
-    → Relocated (offset_row action) operands (instruction_at l.section r.offset) original
-    → EndSo 1 original h 1 (instruction_at l.final r.offset) k (λ a b.
-    AreAlike (differs_after action differs (rd_of word)) a b
-    × GoOn action (rd_of word) (even_in_thread (register k tp) operands) (sum_64 h.pc 4)
-    (sum_64 k.pc 4) a b)
+    (symbol : Symbol) → slice_get l.symbols r.symbol ≡ Some symbol → (x : Operands)
+    → let y = operands_with RiscV l.addresses row symbol r 0 in
+    LowPartIsAlike action (instruction_at l.section r.offset)
+    (λ c. Stands 4 c.new y.place (instruction_at l.final r.offset)) x y
 
 -- In the context by which rewrites were chosen, the offset of a thread-local symbol is a number of
 -- 12 bits.
@@ -123,33 +128,30 @@ OffsetIsLow l i row =
 abbrev pub IsDeleted : Linked → ℕ → Type 0
 IsDeleted l i = deleted_of (decision_at l.decisions i) ≡ deleted_from 0 4
 
--- A `lui` is deleted. One hart executes the object's with the value of its relocation, a number of
--- 12 bits, and the other nothing. They were alike but for some registers, and are but for that of
--- the `lui` too, where the first has 0.
+-- A `lui` of a number of 12 bits is deleted, which is a group.
 abbrev pub HighPartGoes : Linked → ℕ → RelocationKindInfo → Type 0
 HighPartGoes l i row =
     let r = relocation_in l.relocations i in
     let lui = instruction_at l.section r.offset in
+    let rd = rd_of (word_of lui) in
     IsDeleted l i
     × ((symbol : Symbol) → slice_get l.symbols r.symbol ≡ Some symbol
-    → (h k : Hart) (differs : ℕ → Bool) (original : List ℕ)
     → let operands = operands_with RiscV l.addresses row symbol r 0 in
-    IsLowOffset operands → h.pc < 2 ^ 64 → k.pc < 2 ^ 64 → AreAlike differs h k
-    → Relocated (riscv_row names.R_RISCV_TPREL_HI20) operands lui original
-    → EndSo 1 original h 0 [] k (λ a b.
-    HasZero differs (rd_of (word_of lui)) (sum_64 h.pc 4) a b × (b.pc ≡ k.pc)))
+    (c : Code) (k : Kinds) (s : State) → AreDeleted c 4 s → IsLowOffset operands
+    → Has 4 c.old s.pc (riscv_row names.R_RISCV_TPREL_HI20) operands lui
+    → Group (of_link (link c)) 0 k s (with_register rd anything k) (put rd 0 (s.pc + 4) s))
 
--- So is an `add` of the thread pointer. It adds to 0, and then the first has the thread pointer's
--- number in its register.
+-- So is an `add` of the thread pointer to a register with 0.
 abbrev pub SumGoes : Linked → ℕ → Type 0
 SumGoes l i =
     let add = instruction_at l.section (relocation_in l.relocations i).offset in
+    let rd = rd_of (word_of add) in
     IsDeleted l i
-    × ((h k : Hart) (differs : ℕ → Bool) → h.pc < 2 ^ 64 → k.pc < 2 ^ 64 → AreAlike differs h k
-    → differs tp ≡ false → register k tp < 2 ^ 64 → register h (rs1_of (word_of add)) ≡ 0
-    → EndSo 1 add h 0 [] k (λ a b.
-    HasThreadPointer differs (rd_of (word_of add)) (register k tp) (sum_64 h.pc 4) a b
-    × (b.pc ≡ k.pc) × (register b tp ≡ register k tp)))
+    × ((c : Code) (k : Kinds) (s : State) → AreDeleted c 4 s
+    → register (seen s) (rs1_of (word_of add)) ≡ 0 → s.registers tp < 2 ^ 64
+    → Stands 4 c.old s.pc add
+    → Group (of_link (link c)) 0 k s (with_register rd anything k)
+    (put rd (s.registers tp) (s.pc + 4) s))
 
 -- ---- TLS descriptors
 
@@ -244,22 +246,13 @@ LoadsTheSameAnywhere l i =
     (HaveAddress base (rd_of (word_of ld)) (symbol_address x) (symbol_address y) (sum_64 h.pc 8)
     (sum_64 k.pc 8))
 
--- The relocation of a low part stays. From a base with the thread pointer's number, the object's
--- instruction with the value of its relocation computes what the rewritten one does with the value
--- of the same offset, each at its own place.
+-- The relocation of a low part stays, and new has the rewritten instruction with its value.
 abbrev pub LowPartDoesTheSameAnywhere : Linked → ℕ → Action → Type 0
 LowPartDoesTheSameAnywhere l i action =
     let o = (relocation_in l.relocations i).offset in
-    let word = word_of (instruction_at l.section o) in
-    (x y : Operands) → HaveOneOffset x y → IsLowOffset x
-    → (h k : Hart) (differs : ℕ → Bool) (original new : List ℕ)
-    → h.pc < 2 ^ 64 → k.pc < 2 ^ 64 → AreAlike differs h k
-    → register h (rs1_of word) ≡ register k tp → StoresTheSame action (rs2_of word) h k
-    → Relocated (offset_row action) x (instruction_at l.section o) original
-    → Relocated (offset_row action) y (instruction_at l.rewritten o) new
-    → EndSo 1 original h 1 new k (λ a b. AreAlike (differs_after action differs (rd_of word)) a b
-    × GoOn action (rd_of word) (even_in_thread (register k tp) x) (sum_64 h.pc 4) (sum_64 k.pc 4)
-    a b)
+    (x y : Operands)
+    → LowPartIsAlike action (instruction_at l.section o)
+    (λ c. Has 4 c.new y.place (offset_row action) y (instruction_at l.rewritten o)) x y
 
 -- The rewritten `addi` and `jalr` of a descriptor, with the values of their relocations, leave what
 -- the object's sequence does. So does the `jalr` alone, where the offset is a number of 12 bits.

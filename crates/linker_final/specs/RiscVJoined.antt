@@ -16,18 +16,19 @@ use Rattle.linker_final.specs.Joined.{IsRewrittenAndPacked, IsKeptInstruction, f
 use Rattle.linker_final.specs.Packed.{Packed, IsUnwritten, StayTogether, place_of}
 use Rattle.linker_final.specs.RiscVFinal.{AreOfPair, EndsAsReturned, IsOfDescriptor, RunsToCall}
 use Rattle.linker_laws.specs.Machine.{Relocated, loaded}
-use Rattle.linker_laws.specs.RiscVMachine.{Action, Hart, register, rs1_of, rs2_of}
-use Rattle.linker_laws.specs.RiscVRewriteLaws.{AreAlike, Changes, EndSo, GoOn, HaveAddress}
+use Rattle.linker_final.specs.RiscVFinal.{LowPartIsAlike}
+use Rattle.linker_laws.specs.RiscVGroups.{Stands}
+use Rattle.linker_laws.specs.RiscVMachine.{Action, Hart, rs1_of}
+use Rattle.linker_laws.specs.RiscVRewriteLaws.{AreAlike, Changes, EndSo, HaveAddress}
 use Rattle.linker_laws.specs.RiscVRewriteLaws.{HaveGoneOn, HaveOneOffset, IsLowOffset}
 use Rattle.linker_laws.specs.RiscVRewriteLaws.{no_register, of_entry}
-use Rattle.linker_laws.specs.RiscVRewriteLaws.{StoresTheSame, action_at, differs_after}
-use Rattle.linker_laws.specs.RiscVRewriteLaws.{even_in_thread, offset_row, word_of}
+use Rattle.linker_laws.specs.RiscVRewriteLaws.{action_at}
+use Rattle.linker_laws.specs.RiscVRewriteLaws.{offset_row, word_of}
 use Rattle.linker_laws.specs.Schemes.{AreAddresses, entry_and_addend, symbol_address}
 use Rattle.linker_rewriting.specs.Decisions.{decision_at}
 use Rattle.linker_rewriting.specs.declared.decisions.Decision.TheVariants.{RewrittenWithSymbol, Rewritten}
 use Rattle.linker_rewriting.specs.declared.decisions.Subject.{Subject}
 use Rattle.linker_riscv64.specs.RiscVFields.{rd_of}
-use Rattle.linker_utils.specs.RiscVRewrites.{tp}
 use Rattle.linker_utils.specs.declared.riscv64.rewrites.RelaxationKind.TheVariants as kinds
 use Rattle.linker_runs.specs.declared.packing.Machine.TheVariants.{RiscV64}
 use Rattle.linker_section.specs.Relocations.{relocation_in}
@@ -81,23 +82,15 @@ FinalBytesLoadTheSame l p i row =
 
 -- ---- low parts of offsets from the thread pointer
 
--- From a base with the thread pointer's number, the object's instruction with the value of its
--- relocation computes what the final bytes do, where the offset is the same, a number of 12 bits.
+-- New has the final bytes.
 abbrev pub FinalLowPartDoesTheSame : Linked → Packed → ℕ → Action → RelocationKindInfo → Type 0
 FinalLowPartDoesTheSame l p i action row =
     let o = (relocation_in l.relocations i).offset in
-    let word = word_of (instruction_at l.section o) in
     (symbol : Symbol)
     → slice_get p.symbols (relocation_in p.relocations_after i).symbol ≡ Some symbol
-    → (x : Operands) → HaveOneOffset x (final_operands p i row symbol) → IsLowOffset x
-    → (h k : Hart) (differs : ℕ → Bool) (original : List ℕ)
-    → h.pc < 2 ^ 64 → k.pc < 2 ^ 64 → AreAlike differs h k
-    → register h (rs1_of word) ≡ register k tp → StoresTheSame action (rs2_of word) h k
-    → Relocated (offset_row action) x (instruction_at l.section o) original
-    → EndSo 1 original h 1 (final_instruction p o) k (λ a b.
-    AreAlike (differs_after action differs (rd_of word)) a b
-    × GoOn action (rd_of word) (even_in_thread (register k tp) x) (sum_64 h.pc 4) (sum_64 k.pc 4)
-    a b)
+    → (x : Operands) → let y = final_operands p i row symbol in
+    LowPartIsAlike action (instruction_at l.section o)
+    (λ c. Stands 4 c.new y.place (final_instruction p o)) x y
 
 -- ---- TLS descriptors
 

@@ -101,6 +101,7 @@ pub fn riscv64()
     ensures short_descriptors_anywhere { riscv64_final.ShortDescriptorsAnywhere }
 {
     linker_laws::rewrites::riscv64();
+    linker_laws::simulation::riscv64();
 }
 
 /// RISC-V: each low part that `rewrite_global_pointer` takes does over x3 or x0, with the distance

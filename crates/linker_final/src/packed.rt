@@ -218,7 +218,7 @@ pub fn shorter_riscv64()
     ensures branches { RiscVBranchesGo }
 {
     linker_laws::relocations::riscv64();
-    linker_laws::rewrites::riscv64();
+    linker_laws::simulation::riscv64();
 }
 
 /// RISC-V: what was rewritten before the section was packed, and stays, does in the final bytes
@@ -234,6 +234,7 @@ pub fn joined_riscv64()
     ensures nops { riscv_joined.PackedNops }
 {
     linker_laws::rewrites::riscv64();
+    linker_laws::simulation::riscv64();
 }
 
 /// LoongArch: each call that a run may make shorter, `b`, `bl` or still `pcaddu18i` and `jirl`,

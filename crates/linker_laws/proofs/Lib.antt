@@ -51,9 +51,7 @@ pub mod RiscVGroupsWorked
 pub mod RiscVHighParts
 pub mod RiscVJumps
 pub mod RiscVLowParts
-pub mod RiscVLuis
 pub mod RiscVMachine
-pub mod RiscVSums
 pub mod Rounded
 pub mod SimulationWorked
 pub mod Sums

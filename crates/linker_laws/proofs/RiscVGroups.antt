@@ -329,7 +329,7 @@ module _ (kind : RelocationKind) (number : Operands → ℕ) (of : IsFormulaOf k
     (IsKnown : Kinds → Type 0)
     (same_base : (c : Code) (k : Kinds) (s t : State) → IsKnown k → Agree (link c) k s t
     → register (seen t) b ≡ base s)
-    (a : Action) (c : Code) (low : List ℕ) (inside : 4 ≤ length low)
+    (a : Action) (low : List ℕ) (inside : 4 ≤ length low)
     (is : action_of (opcode_of (word_of low)) (funct3_of (word_of low)) ≡ Some a)
     (long : opcode_of (word_of low) % 4 ≡ 3) where
   long_word : (w : ℕ) → field w 0 7 ≡ opcode_of (word_of low) → field w 0 2 ≡ 3
@@ -343,8 +343,8 @@ module _ (kind : RelocationKind) (number : Operands → ℕ) (of : IsFormulaOf k
   pub i_group : ((w : ℕ) → with_action w (Some a) ≡ i_type a w)
       → ((h : Hart) (m : ℕ) → used 4 a (rd_of (word_of low)) 0 m h
       ≡ used 4 a (rd_of (word_of low)) (rs2_of (word_of low)) m h)
-      → LowPartOf rewrite (λ _. Some (pair_row kind 32 IType)) number base IsKnown c low a
-  i_group form one_use x y k k' s at one within has known old new keeps =
+      → LowPartOf rewrite (λ _. Some (pair_row kind 32 IType)) number base IsKnown low a
+  i_group form one_use c x y k k' s at one within has known old new keeps =
       let word = word_of low in
       let n = number x in
       let made = after_rewrite rewrite low 0 in
@@ -377,8 +377,8 @@ module _ (kind : RelocationKind) (number : Operands → ℕ) (of : IsFormulaOf k
   pub s_group : ((w : ℕ) → with_action w (Some a) ≡ s_type a w)
       → ((h : Hart) (m : ℕ) → used 4 a 0 (rs2_of (word_of low)) m h
       ≡ used 4 a (rd_of (word_of low)) (rs2_of (word_of low)) m h)
-      → LowPartOf rewrite (λ _. Some (pair_row kind 32 SType)) number base IsKnown c low a
-  s_group form one_use x y k k' s at one within has known old new keeps =
+      → LowPartOf rewrite (λ _. Some (pair_row kind 32 SType)) number base IsKnown low a
+  s_group form one_use c x y k k' s at one within has known old new keeps =
       let word = word_of low in
       let n = number x in
       let made = after_rewrite rewrite low 0 in
@@ -409,28 +409,28 @@ module _ (kind : RelocationKind) (number : Operands → ℕ) (of : IsFormulaOf k
       has (λ t agree. same_base c k s t known agree) keeps
 
 -- every action
-module _ (c : Code) (low : List ℕ) (inside : 4 ≤ length low) (long : opcode_of (word_of low) % 4 ≡ 3) where
+module _ (low : List ℕ) (inside : 4 ≤ length low) (long : opcode_of (word_of low) % 4 ≡ 3) where
   abbrev IsAction : Action → Type 0
   IsAction a = action_of (opcode_of (word_of low)) (funct3_of (word_of low)) ≡ Some a
 
   zero_i : (a : Action) → IsAction a → ((w : ℕ) → with_action w (Some a) ≡ i_type a w)
       → ((h : Hart) (m : ℕ) → used 4 a (rd_of (word_of low)) 0 m h
       ≡ used 4 a (rd_of (word_of low)) (rs2_of (word_of low)) m h)
-      → LowPartOf kinds.Lo12Rs1ToZero (λ _. Some (pair_row Absolute 32 IType)) symbol_address (λ s. 0) (λ k. ⊤) c low a
+      → LowPartOf kinds.Lo12Rs1ToZero (λ _. Some (pair_row Absolute 32 IType)) symbol_address (λ s. 0) (λ k. ⊤) low a
   zero_i a is =
       i_group Absolute symbol_address of_address kinds.Lo12Rs1ToZero 0 (omega arith) over_zero (λ s. 0) (λ k. ⊤)
-      (λ c k s t known agree. refl) a c low inside is long
+      (λ c k s t known agree. refl) a low inside is long
 
   zero_s : (a : Action) → IsAction a → ((w : ℕ) → with_action w (Some a) ≡ s_type a w)
       → ((h : Hart) (m : ℕ) → used 4 a 0 (rs2_of (word_of low)) m h
       ≡ used 4 a (rd_of (word_of low)) (rs2_of (word_of low)) m h)
-      → LowPartOf kinds.Lo12Rs1ToZero (λ _. Some (pair_row Absolute 32 SType)) symbol_address (λ s. 0) (λ k. ⊤) c low a
+      → LowPartOf kinds.Lo12Rs1ToZero (λ _. Some (pair_row Absolute 32 SType)) symbol_address (λ s. 0) (λ k. ⊤) low a
   zero_s a is =
       s_group Absolute symbol_address of_address kinds.Lo12Rs1ToZero 0 (omega arith) over_zero (λ s. 0) (λ k. ⊤)
-      (λ c k s t known agree. refl) a c low inside is long
+      (λ c k s t known agree. refl) a low inside is long
 
   pub over_x0 : (a : Action) → IsAction a
-      → LowPartOf kinds.Lo12Rs1ToZero low_row symbol_address (λ s. 0) (λ k. ⊤) c low a
+      → LowPartOf kinds.Lo12Rs1ToZero low_row symbol_address (λ s. 0) (λ k. ⊤) low a
   over_x0 adds is = zero_i adds is (λ w. refl) (λ h m. refl)
   over_x0 adds_word is = zero_i adds_word is (λ w. refl) (λ h m. refl)
   over_x0 jumps is = zero_i jumps is (λ w. refl) (λ h m. refl)
@@ -450,21 +450,21 @@ module _ (c : Code) (low : List ℕ) (inside : 4 ≤ length low) (long : opcode_
   tp_i : (a : Action) → IsAction a → ((w : ℕ) → with_action w (Some a) ≡ i_type a w)
       → ((h : Hart) (m : ℕ) → used 4 a (rd_of (word_of low)) 0 m h
       ≡ used 4 a (rd_of (word_of low)) (rs2_of (word_of low)) m h)
-      → LowPartOf kinds.BaseToTp (λ _. Some (pair_row TpOff 32 IType)) thread_offset (λ s. s.registers 4) IsSame c low a
+      → LowPartOf kinds.BaseToTp (λ _. Some (pair_row TpOff 32 IType)) thread_offset (λ s. s.registers 4) IsSame low a
   tp_i a is =
       i_group TpOff thread_offset of_offset kinds.BaseToTp 4 (omega arith) over_tp (λ s. s.registers 4) IsSame
-      tp_is_same a c low inside is long
+      tp_is_same a low inside is long
 
   tp_s : (a : Action) → IsAction a → ((w : ℕ) → with_action w (Some a) ≡ s_type a w)
       → ((h : Hart) (m : ℕ) → used 4 a 0 (rs2_of (word_of low)) m h
       ≡ used 4 a (rd_of (word_of low)) (rs2_of (word_of low)) m h)
-      → LowPartOf kinds.BaseToTp (λ _. Some (pair_row TpOff 32 SType)) thread_offset (λ s. s.registers 4) IsSame c low a
+      → LowPartOf kinds.BaseToTp (λ _. Some (pair_row TpOff 32 SType)) thread_offset (λ s. s.registers 4) IsSame low a
   tp_s a is =
       s_group TpOff thread_offset of_offset kinds.BaseToTp 4 (omega arith) over_tp (λ s. s.registers 4) IsSame
-      tp_is_same a c low inside is long
+      tp_is_same a low inside is long
 
   pub over_thread : (a : Action) → IsAction a
-      → LowPartOf kinds.BaseToTp offset_row thread_offset (λ s. s.registers 4) IsSame c low a
+      → LowPartOf kinds.BaseToTp offset_row thread_offset (λ s. s.registers 4) IsSame low a
   over_thread adds is = tp_i adds is (λ w. refl) (λ h m. refl)
   over_thread adds_word is = tp_i adds_word is (λ w. refl) (λ h m. refl)
   over_thread jumps is = tp_i jumps is (λ w. refl) (λ h m. refl)
@@ -474,17 +474,17 @@ module _ (c : Code) (low : List ℕ) (inside : 4 ≤ length low) (long : opcode_
   over_thread (stores_float f) is = tp_s (stores_float f) is (λ w. refl) (λ h m. refl)
 
 pub are_low_parts : groups.LowPartFromZero
-are_low_parts c low m =
+are_low_parts low m =
     let some = some_action (opcode_of (word_of low)) (funct3_of (word_of low)) m.1 in
-    subst (λ r. IsSomeAnd r (LowPartOf kinds.Lo12Rs1ToZero low_row symbol_address (λ s. 0) (λ k. ⊤) c low)) (sym some.1)
-    (over_x0 c low m.0 some.2 some.0 some.1)
+    subst (λ r. IsSomeAnd r (LowPartOf kinds.Lo12Rs1ToZero low_row symbol_address (λ s. 0) (λ k. ⊤) low)) (sym some.1)
+    (over_x0 low m.0 some.2 some.0 some.1)
 
 pub are_low_offsets : groups.LowPartFromThreadPointer
-are_low_offsets c low m =
+are_low_offsets low m =
     let some = some_action (opcode_of (word_of low)) (funct3_of (word_of low)) m.1 in
     subst (λ r. IsSomeAnd r (LowPartOf kinds.BaseToTp offset_row thread_offset (λ s. s.registers 4)
-    (λ k. k.registers 4 ≡ same) c low)) (sym some.1)
-    (over_thread c low m.0 some.2 some.0 some.1)
+    (λ k. k.registers 4 ≡ same) low)) (sym some.1)
+    (over_thread low m.0 some.2 some.0 some.1)
 
 -- ---- calls
 

@@ -215,7 +215,7 @@ p1 g =
 p2 : Groups → Group (of_link (link code)) 1 k1 s1 k2 s2
 p2 g =
     subst (λ u. Group (of_link (link code)) 1 k1 s1 k2 u) (wrote s1 10 0x120 0x10008 (lit< tt))
-    (g.low_parts code addi (lit≤ tt, refl) low high k1 k2 s1
+    (g.low_parts addi (lit≤ tt, refl) code low high k1 k2 s1
     (record { at = refl; small = lit< tt; place = refl; next = refl }) refl
     (omega (arith, ints), omega (arith, ints)) refl tt addi_has made_has
     (λ t agree.

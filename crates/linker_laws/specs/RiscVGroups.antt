@@ -178,9 +178,9 @@ uses action word sum s = left s (used 4 action (rd_of word) (rs2_of word) sum (s
 -- An instruction adds the low part of a number to a base. Old's base has the number of another one,
 -- and the rewrite makes that the base. What it loads, stores or writes is of the kinds after it.
 abbrev pub LowPartOf : RelaxationKind → (Action → Option RelocationKindInfo) → (Operands → ℕ)
-    → (State → ℕ) → (Kinds → Type 0) → Code → List ℕ → Action → Type 0
-LowPartOf kind row number base IsKnown c low action =
-    (x y : Operands) (k k' : Kinds) (s : State) → AreBefore c 4 4 x y s → number x ≡ number y
+    → (State → ℕ) → (Kinds → Type 0) → List ℕ → Action → Type 0
+LowPartOf kind row number base IsKnown low action =
+    (c : Code) (x y : Operands) (k k' : Kinds) (s : State) → AreBefore c 4 4 x y s → number x ≡ number y
     → IsWithin (Some low_12_bounds) (cast_signed w64 (number x))
     → register (seen s) (rs1_of (word_of low)) ≡ base s → IsKnown k
     → Has 4 c.old x.place (row action) x low
@@ -192,8 +192,8 @@ LowPartOf kind row number base IsKnown c low action =
 abbrev pub LowPart : RelaxationKind → (Action → Option RelocationKindInfo) → (Operands → ℕ)
     → (State → ℕ) → (Kinds → Type 0) → Type 0
 LowPart kind row number base IsKnown =
-    (c : Code) (low : List ℕ) → riscv_matches kind low 0
-    → IsSomeAnd (action_at low 0) (LowPartOf kind row number base IsKnown c low)
+    (low : List ℕ) → riscv_matches kind low 0
+    → IsSomeAnd (action_at low 0) (LowPartOf kind row number base IsKnown low)
 
 -- x0 in place of a register that has 0
 abbrev pub LowPartFromZero : Type 0

@@ -4,18 +4,17 @@
 -- harts that are alike, each at its own place, both run to an end, and are alike again, but for the
 -- registers that the law lists and for addresses in code.
 use Rattle.std.specs.Prelude.{◌≡◌, ℕ, ◌+◌, ◌<◌, ◌^◌, ◌==◌, ◌&&◌, ◌||◌, not, Bool, false, List, drop}
-use Rattle.std.specs.Prelude.{◌++◌, ◌-◌, ◌*◌, ◌%◌, Option, Some, IsSomeAnd, ⊤, ◌≢◌, length}
+use Rattle.std.specs.Prelude.{◌++◌, ◌*◌, ◌%◌, Option, Some, ⊤, ◌≢◌, length}
 use Rattle.std.specs.Prelude.{if◌then◌else◌}
 use Rattle.std.specs.Int.{w32, w64, cast_signed, from_le_bytes}
 use Rattle.linker_base.specs.Rewrite.{rewritten}
 use Rattle.linker_elf.specs.Choices.{low_12_bounds, symbol_and_addend}
 use Rattle.linker_elf.specs.Elf.{IsWithin}
-use Rattle.linker_elf.specs.Originals.{HasWord}
-use Rattle.linker_utils.specs.RiscVRewrites.{riscv_rewrite, tp, a0}
+use Rattle.linker_utils.specs.RiscVRewrites.{riscv_rewrite, a0}
 use Rattle.linker_riscv64.specs.RiscVCalls.{word_at}
 use Rattle.linker_riscv64.specs.RiscVFields.{opcode_of, funct3_of, rd_of}
-use Rattle.linker_utils.specs.RiscVRewrites.{riscv_matches, IsLui}
-use Rattle.linker_utils.specs.RiscVRewrites.{IsAddTp, IsAuipc, IsLd, IsAddiToA0}
+use Rattle.linker_utils.specs.RiscVRewrites.{riscv_matches}
+use Rattle.linker_utils.specs.RiscVRewrites.{IsAuipc, IsLd, IsAddiToA0}
 use Rattle.linker_utils.specs.RiscVRewrites.{IsCallOfDescriptor}
 use Rattle.linker_elf.specs.RiscVRelocations.{riscv_row, riscv_relocation}
 use Rattle.linker_elf.specs.Value.{sum_64, difference_64}
@@ -29,7 +28,7 @@ use Rattle.linker_laws.specs.Schemes.{entry_and_addend}
 use Rattle.linker_laws.specs.Machine.{Relocated, loaded}
 use Rattle.linker_laws.specs.RiscVMachine.{Hart, register, Action, adds, adds_word, jumps, loads}
 use Rattle.linker_laws.specs.RiscVMachine.{stores, loads_float, stores_float, action_of, rs1_of}
-use Rattle.linker_laws.specs.RiscVMachine.{rs2_of, Runs}
+use Rattle.linker_laws.specs.RiscVMachine.{Runs}
 
 -- ---- what the laws compare
 
@@ -71,21 +70,6 @@ pub record HaveGoneOn (differs : ℕ → Bool) (at new_at : ℕ) (a b : Hart) : 
   pub alike : AreAlike differs a b
   pub next : a.pc ≡ at
   pub new_next : b.pc ≡ new_at
-
--- A `lui` that is deleted would put 0 in its register, and change nothing else.
-pub record HasZero (differs : ℕ → Bool) (rd following : ℕ) (a b : Hart) : Type 0 where
-  pub alike : AreAlike (λ r. differs r || r == rd) a b
-  pub zero_there : register a rd ≡ 0
-  pub next : a.pc ≡ following
-
-abbrev pub LuiIsDeleted : Type 0
-LuiIsDeleted =
-    (section : List ℕ) (o : ℕ) → riscv_matches kinds.Hi20Delete section o
-    → (x : Operands) → IsLow12 x → (original new : List ℕ)
-    → Relocated (riscv_row names.R_RISCV_HI20) x (drop o section) original
-    → (h k : Hart) (differs : ℕ → Bool) → h.pc < 2 ^ 64 → k.pc < 2 ^ 64 → AreAlike differs h k
-    → EndSo 1 original h 0 new k
-    (λ a b. HasZero differs (rd_of (word_at section o)) (sum_64 h.pc 4) a b × (b.pc ≡ k.pc))
 
 -- ---- low parts (psABI, "Zero-page Relaxation")
 
@@ -139,62 +123,11 @@ HaveOneOffset x y = thread_offset x ≡ thread_offset y
 abbrev pub IsLowOffset : Operands → Type 0
 IsLowOffset x = IsWithin (Some low_12_bounds) (cast_signed w64 (thread_offset x))
 
--- A `lui` that is deleted would put 0 in its register, and change nothing else.
-abbrev pub OffsetLuiIsDeleted : Type 0
-OffsetLuiIsDeleted =
-    (section : List ℕ) (o : ℕ) → HasWord section o IsLui → (x : Operands) → IsLowOffset x
-    → (original new : List ℕ)
-    → Relocated (riscv_row names.R_RISCV_TPREL_HI20) x (drop o section) original
-    → (h k : Hart) (differs : ℕ → Bool) → h.pc < 2 ^ 64 → k.pc < 2 ^ 64 → AreAlike differs h k
-    → EndSo 1 original h 0 new k
-    (λ a b. HasZero differs (rd_of (word_at section o)) (sum_64 h.pc 4) a b × (b.pc ≡ k.pc))
-
--- An `add` that is deleted would put the thread pointer's number in its
--- register, and change nothing else.
-pub record HasThreadPointer (differs : ℕ → Bool) (rd number following : ℕ) (a b : Hart) : Type 0 where
-  pub alike : AreAlike (λ r. differs r || r == rd) a b
-  pub number_there : rd ≢ 0 → register a rd ≡ number
-  pub next : a.pc ≡ following
-
--- The thread pointer is added to what a deleted `lui` left, 0, in a register that may differ.
-abbrev pub SumIsDeleted : Type 0
-SumIsDeleted =
-    (section : List ℕ) (o : ℕ) → HasWord section o IsAddTp → (new : List ℕ) (differs : ℕ → Bool)
-    → (h k : Hart) → h.pc < 2 ^ 64 → k.pc < 2 ^ 64 → AreAlike differs h k → differs tp ≡ false
-    → register k tp < 2 ^ 64 → register h (rs1_of (word_at section o)) ≡ 0
-    → EndSo 1 (drop o section) h 0 new k
-    (λ a b. HasThreadPointer differs (rd_of (word_at section o)) (register k tp) (sum_64 h.pc 4) a b
-    × (b.pc ≡ k.pc) × (register b tp ≡ register k tp))
-
 -- the relocation of a low part
 abbrev pub offset_row : Action → Option RelocationKindInfo
 offset_row (stores f) = riscv_row names.R_RISCV_TPREL_LO12_S
 offset_row (stores_float f) = riscv_row names.R_RISCV_TPREL_LO12_S
 offset_row action = riscv_row names.R_RISCV_TPREL_LO12_I
-
--- the address of a variable, less its bit 0, in the thread of which the register has the number
-abbrev pub even_in_thread : ℕ → Operands → ℕ
-even_in_thread number x =
-    let address = sum_64 number (thread_offset x) in address - address % 2
-
--- Where the base has the thread pointer's number, that register can be the base, whatever is in the
--- registers that differ.
-abbrev pub FromThreadPointer : List ℕ → ℕ → Action → Type 0
-FromThreadPointer section o action =
-    let rd = rd_of (word_at section o) in
-    let rs1 = rs1_of (word_at section o) in
-    (x y : Operands) → HaveOneOffset x y → IsLowOffset x → (original new : List ℕ)
-    → Relocated (offset_row action) x (drop o section) original
-    → Relocated (offset_row action) y (drop o (after_rewrite kinds.BaseToTp section o)) new
-    → (h k : Hart) (differs : ℕ → Bool) → h.pc < 2 ^ 64 → k.pc < 2 ^ 64 → AreAlike differs h k
-    → register h rs1 ≡ register k tp → StoresTheSame action (rs2_of (word_at section o)) h k
-    → EndSo 1 original h 1 new k (λ a b. AreAlike (differs_after action differs rd) a b
-    × GoOn action rd (even_in_thread (register k tp) x) (sum_64 h.pc 4) (sum_64 k.pc 4) a b)
-
-abbrev pub LowPartFromThreadPointer : Type 0
-LowPartFromThreadPointer =
-    (section : List ℕ) (o : ℕ) → riscv_matches kinds.BaseToTp section o
-    → IsSomeAnd (action_at section o) (FromThreadPointer section o)
 
 -- What is left of an instruction that isn't deleted changes nothing but the pc.
 abbrev pub LongNopDoesNothing : Type 0
@@ -374,10 +307,6 @@ GotToAddress =
 
 -- what `rewrites` ensures
 pub record Laws : Type 0 where
-  pub no_high_parts : LuiIsDeleted
-  pub high_offsets : OffsetLuiIsDeleted
-  pub sums : SumIsDeleted
-  pub low_offsets : LowPartFromThreadPointer
   pub nops : LongNopDoesNothing
   pub descriptor_to_local_exec : DescriptorToLocalExec
   pub descriptor_to_short_local_exec : DescriptorToShortLocalExec

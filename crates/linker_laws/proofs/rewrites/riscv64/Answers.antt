@@ -4,19 +4,12 @@ use Rattle.linker_base.specs.Form.{place_sum}
 use Rattle.linker_laws.specs.RiscVExamples.{some_hart}
 use Rattle.linker_laws.specs.RiscVMachine.{auipc, jal, sums, adds, jumps, executed}
 use Rattle.linker_laws.proofs.RiscVDescriptors as descriptors
-use Rattle.linker_laws.proofs.RiscVLowParts as low
-use Rattle.linker_laws.proofs.RiscVLuis as luis
-use Rattle.linker_laws.proofs.RiscVSums as sum
 use Rattle.linker_laws.proofs.rewrites.riscv64.Goals as goal
 
 pub returns-clause-laws : goal.returns-clause-laws
 returns-clause-laws c =
     let laws = c.riscv64.ensures in
     record {
-      no_high_parts = luis.lui_is_deleted;
-      high_offsets = luis.offset_lui_is_deleted;
-      sums = sum.sum_is_deleted;
-      low_offsets = low.low_part_from_tp;
       nops = descriptors.long_nop;
       descriptor_to_local_exec = descriptors.to_local_exec laws.descriptors laws.thread;
       descriptor_to_short_local_exec = descriptors.to_short_local_exec laws.descriptors;
