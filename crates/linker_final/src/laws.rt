@@ -100,7 +100,6 @@ pub fn riscv64()
     ensures descriptors_anywhere { riscv64_final.DescriptorsAnywhere }
     ensures short_descriptors_anywhere { riscv64_final.ShortDescriptorsAnywhere }
 {
-    linker_laws::rewrites::riscv64();
     linker_laws::simulation::riscv64();
 }
 

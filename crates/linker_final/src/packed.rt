@@ -233,7 +233,6 @@ pub fn joined_riscv64()
     ensures short_descriptors { riscv_joined.PackedShortDescriptors }
     ensures nops { riscv_joined.PackedNops }
 {
-    linker_laws::rewrites::riscv64();
     linker_laws::simulation::riscv64();
 }
 

@@ -929,14 +929,13 @@ passes c (suc n) x k s t at small nops agree =
     kept false kind x y are = are
 
 -- The function returns after the sequence, and new leaves the same in a0.
-descriptor_group : DescriptorAddresses → (c : Code) (n m offset : ℕ) (x y : Operands) (k k' : Kinds)
+descriptor_group : DescriptorAddresses → (c : Code) (n m offset at : ℕ) (x : Operands) (k k' : Kinds)
     (s s' : State) (auipc_bytes ld addi jalr : List ℕ)
-    → groups.Descriptor c x offset k s k' s' auipc_bytes ld addi jalr → groups.AreNops c n (suc m) x y
-    → c.moved x.place < 2 ^ 64
-    → ((t u : State) → Agree (link c) k s t → u.memory ≡ t.memory → u.pc ≡ y.place
-    → run (suc m) (machine c.others c.new) u ≡ Some (put a0 offset (sum_64 y.place (4 * suc m)) u))
+    → groups.Descriptor c x offset k s k' s' auipc_bytes ld addi jalr → groups.AreNops c n (suc m) x at
+    → ((t u : State) → Agree (link c) k s t → u.memory ≡ t.memory → u.pc ≡ at
+    → run (suc m) (machine c.others c.new) u ≡ Some (put a0 offset (sum_64 at (4 * suc m)) u))
     → Group (of_link (link c)) (n + suc m) k s k' s'
-descriptor_group descriptors c n m offset x y k k' s s' auipc_bytes ld addi jalr d nops small leaves =
+descriptor_group descriptors c n m offset at x k k' s s' auipc_bytes ld addi jalr d nops leaves =
     record {
       more = 3 + d.executes;
       old_goes =
@@ -944,8 +943,8 @@ descriptor_group descriptors c n m offset x y k k' s s' auipc_bytes ld addi jalr
           (run_on 4 d.executes (machine c.others c.old) s _ (Some s')
           (descriptor_goes descriptors c x offset k s k' s' auipc_bytes ld addi jalr d) d.returns);
       new_goes = λ t agree.
-          let p = passes c n x k s t d.at small nops.nops agree in
-          let next = sum_64 y.place (4 * suc m) in
+          let p = passes c n x k s t d.at nops.small nops.nops agree in
+          let next = sum_64 at (4 * suc m) in
           holds_of (run (n + suc m) (machine c.others c.new) t) (Agree (link c) k' s') (put a0 offset next p.end)
           (run_on n (suc m) (machine c.others c.new) t p.end (Some (put a0 offset next p.end)) p.runs
           (leaves t p.end agree p.memory (p.at ∙ sym nops.place)))
@@ -960,7 +959,7 @@ descriptor_group descriptors c n m offset x y k k' s s' auipc_bytes ld addi jalr
     after_four n = omega arith
 
 pub are_to_local_exec : DescriptorAddresses → ThreadAddresses → groups.DescriptorToLocalExec
-are_to_local_exec descriptors thread c n x y k k' s s' auipc_bytes ld addi jalr d sy one nops small long_addi long_jalr high low =
+are_to_local_exec descriptors thread c n at x y k k' s s' auipc_bytes ld addi jalr d sy one nops long_addi long_jalr high low =
     let u = (riscv_form UType).machine (word_of high.relocated) in
     let l = (riscv_form IType).machine (word_of low.relocated) in
     let before = after_rewrite kinds.AddiToLui addi 0 in
@@ -976,26 +975,26 @@ are_to_local_exec descriptors thread c n x y k k' s s' auipc_bytes ld addi jalr 
     (thread.0 y sy y.place before high.relocated a1 tt y.place before' low.relocated a2 tt)
     ∙ sym one in
     let q = machine c.others c.new in
-    descriptor_group descriptors c n 1 offset x y k k' s s' auipc_bytes ld addi jalr d nops small
+    descriptor_group descriptors c n 1 offset at x k k' s s' auipc_bytes ld addi jalr d nops
     (λ before_nops t agree memory here.
-    let t1 = put 10 (wrapped u) (sum_64 y.place 4) t in
+    let t1 = put 10 (wrapped u) (sum_64 at 4) t in
     run_first 1 q t t1 _
-    (puts q t 4 (lui 10 u) 10 (wrapped u) (sum_64 y.place 4) (omega arith)
-    (word_goes c.others c.new t y.place high.relocated (lui 10 u) here high.stands
+    (puts q t 4 (lui 10 u) 10 (wrapped u) (sum_64 at 4) (omega arith)
+    (word_goes c.others c.new t at high.relocated (lui 10 u) here high.stands
     (upper_long TpOff y before high.relocated a1 0x37 refl (ap opcode_of w1))
     (lui_word TpOff y before high.relocated a1 10 (ap opcode_of w1) (ap rd_of w1)))
     (ap (λ p. goes_to (sum_64 p 4) (with_integer 10 (wrapped u) (seen t))) here))
-    (once q t1 (put 10 offset (sum_64 y.place 8) t1)
-    (puts q t1 4 (sums adds 10 10 0 l) 10 offset (sum_64 y.place 8) (omega arith)
-    (word_goes c.others c.new t1 (sum_64 y.place 4) low.relocated (sums adds 10 10 0 l) refl low.stands
+    (once q t1 (put 10 offset (sum_64 at 8) t1)
+    (puts q t1 4 (sums adds 10 10 0 l) 10 offset (sum_64 at 8) (omega arith)
+    (word_goes c.others c.new t1 (sum_64 at 4) low.relocated (sums adds 10 10 0 l) refl low.stands
     (low_long_word TpOff y before' low.relocated a2 0x13 refl (ap opcode_of w2))
     (sum_word TpOff y before' low.relocated a2 10 10 (ap opcode_of w2) (ap funct3_of w2) (ap rd_of w2) (ap rs1_of w2)))
     (ap₂ (λ v n. goes_to n (with_integer 10 v (seen t1)))
-    (ap (λ n. moved n l) (written 10 (wrapped u) (seen t) ten) ∙ value) (eight y.place)))
-    ∙ ap Some (last_counts 10 (wrapped u) offset (sum_64 y.place 4) (sum_64 y.place 8) t)))
+    (ap (λ n. moved n l) (written 10 (wrapped u) (seen t) ten) ∙ value) (eight at)))
+    ∙ ap Some (last_counts 10 (wrapped u) offset (sum_64 at 4) (sum_64 at 8) t)))
 
 pub are_to_short_local_exec : DescriptorAddresses → groups.DescriptorToShortLocalExec
-are_to_short_local_exec descriptors c n x y k k' s s' auipc_bytes ld addi jalr d one is_low nops small long_jalr low =
+are_to_short_local_exec descriptors c n at x y k k' s s' auipc_bytes ld addi jalr d one is_low nops long_jalr low =
     let l = (riscv_form IType).machine (word_of low.relocated) in
     let before' = after_rewrite kinds.CallToAddiZero jalr 0 in
     let a2 = low.applied.applied in
@@ -1007,17 +1006,17 @@ are_to_short_local_exec descriptors c n x y k k' s s' auipc_bytes ld addi jalr d
     ∙ low_sum 0 o (o % 2 ^ 32 % 4096) wide (low_12_number o wide is_low) refl
     ∙ (let e : sum_64 0 o ≡ o = omega (arith, wide) in e) ∙ sym one in
     let q = machine c.others c.new in
-    descriptor_group descriptors c n 0 (thread_offset x) x y k k' s s' auipc_bytes ld addi jalr d nops small
+    descriptor_group descriptors c n 0 (thread_offset x) at x k k' s s' auipc_bytes ld addi jalr d nops
     (λ before_nops t agree memory here.
-    once q t (put 10 (thread_offset x) (sum_64 y.place 4) t)
-    (puts q t 4 (sums adds 10 0 0 l) 10 (thread_offset x) (sum_64 y.place 4) (omega arith)
-    (word_goes c.others c.new t y.place low.relocated (sums adds 10 0 0 l) here low.stands
+    once q t (put 10 (thread_offset x) (sum_64 at 4) t)
+    (puts q t 4 (sums adds 10 0 0 l) 10 (thread_offset x) (sum_64 at 4) (omega arith)
+    (word_goes c.others c.new t at low.relocated (sums adds 10 0 0 l) here low.stands
     (low_long_word TpOff y before' low.relocated a2 0x13 refl (ap opcode_of w2))
     (sum_word TpOff y before' low.relocated a2 10 0 (ap opcode_of w2) (ap funct3_of w2) (ap rd_of w2) (ap rs1_of w2)))
     (ap₂ (λ p v. goes_to (sum_64 p 4) (with_integer 10 v (seen t))) here value)))
 
 pub are_to_initial_exec : DescriptorAddresses → EntryAddresses → groups.DescriptorToInitialExec
-are_to_initial_exec descriptors entries c n offset x y k k' s s' auipc_bytes ld addi jalr d sy wide holds nops small long_addi long_jalr high low =
+are_to_initial_exec descriptors entries c n offset x y k k' s s' auipc_bytes ld addi jalr d sy wide holds nops long_addi long_jalr high low =
     let u = (riscv_form UType).machine (word_of high.relocated) in
     let l = (riscv_form IType).machine (word_of low.relocated) in
     let before = after_rewrite kinds.AddiToAuipc addi 0 in
@@ -1031,7 +1030,7 @@ are_to_initial_exec descriptors entries c n offset x y k k' s s' auipc_bytes ld 
     moved_twice y.place u l
     ∙ address_is _ _ (entries.1.0 y sy y.place before high.relocated a1 tt y.place before' low.relocated a2 tt) in
     let q = machine c.others c.new in
-    descriptor_group descriptors c n 1 offset x y k k' s s' auipc_bytes ld addi jalr d nops small
+    descriptor_group descriptors c n 1 offset y.place x k k' s s' auipc_bytes ld addi jalr d nops
     (λ before_nops t agree memory here.
     let t1 = put 10 v (sum_64 y.place 4) t in
     run_first 1 q t t1 _

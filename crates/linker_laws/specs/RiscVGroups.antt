@@ -315,35 +315,36 @@ pub record Descriptor (c : Code) (x : Operands) (offset : ℕ) (k : Kinds) (s : 
       (put a0 offset (sum_64 x.place 16) s) k' s'
 
 -- In new n nops are where the first instructions were, one after the other. Each other one is deleted.
--- So the last m instructions are at the operands' place.
-pub record AreNops (c : Code) (n m : ℕ) (x y : Operands) : Type 0 where
+-- So the last m instructions are at an address.
+pub record AreNops (c : Code) (n m : ℕ) (x : Operands) (at : ℕ) : Type 0 where
+  pub small : c.moved x.place < 2 ^ 64
   pub nops :
       (i : ℕ) → i < n → (instruction : List ℕ) × riscv_matches kinds.ReplaceWithLongNop instruction 0
       × Stands 4 c.new (sum_64 (c.moved x.place) (4 * i))
       (after_rewrite kinds.ReplaceWithLongNop instruction 0)
-  pub place : y.place ≡ sum_64 (c.moved x.place) (4 * n)
-  pub next : sum_64 y.place (4 * m) ≡ c.moved (sum_64 x.place 16)
+  pub place : at ≡ sum_64 (c.moved x.place) (4 * n)
+  pub next : sum_64 at (4 * m) ≡ c.moved (sum_64 x.place 16)
 
 -- `lui a0` and `addi a0, a0` of the offset
 abbrev pub DescriptorToLocalExec : Type 0
 DescriptorToLocalExec =
-    (c : Code) (n : ℕ) (x y : Operands) (k k' : Kinds) (s s' : State) (auipc ld addi jalr : List ℕ)
+    (c : Code) (n at : ℕ) (x y : Operands) (k k' : Kinds) (s s' : State)
+    (auipc ld addi jalr : List ℕ)
     → Descriptor c x (thread_offset x) k s k' s' auipc ld addi jalr → AreAddresses y
-    → HaveOneOffset x y → AreNops c n 2 x y → c.moved x.place < 2 ^ 64
-    → length addi ≡ 4 → length jalr ≡ 4
-    → Has 4 c.new y.place (riscv_row names.R_RISCV_TPREL_HI20) y (after_rewrite kinds.AddiToLui addi 0)
-    → Has 4 c.new (sum_64 y.place 4) (riscv_row names.R_RISCV_TPREL_LO12_I) y
+    → HaveOneOffset x y → AreNops c n 2 x at → length addi ≡ 4 → length jalr ≡ 4
+    → Has 4 c.new at (riscv_row names.R_RISCV_TPREL_HI20) y (after_rewrite kinds.AddiToLui addi 0)
+    → Has 4 c.new (sum_64 at 4) (riscv_row names.R_RISCV_TPREL_LO12_I) y
     (after_rewrite kinds.CallToAddi jalr 0)
     → Group (of_link (link c)) (n + 2) k s k' s'
 
 -- `addi a0, x0` alone, where the offset has 12 bits
 abbrev pub DescriptorToShortLocalExec : Type 0
 DescriptorToShortLocalExec =
-    (c : Code) (n : ℕ) (x y : Operands) (k k' : Kinds) (s s' : State) (auipc ld addi jalr : List ℕ)
+    (c : Code) (n at : ℕ) (x y : Operands) (k k' : Kinds) (s s' : State)
+    (auipc ld addi jalr : List ℕ)
     → Descriptor c x (thread_offset x) k s k' s' auipc ld addi jalr
-    → HaveOneOffset x y → IsLowOffset y → AreNops c n 1 x y → c.moved x.place < 2 ^ 64
-    → length jalr ≡ 4
-    → Has 4 c.new y.place (riscv_row names.R_RISCV_TPREL_LO12_I) y
+    → HaveOneOffset x y → IsLowOffset y → AreNops c n 1 x at → length jalr ≡ 4
+    → Has 4 c.new at (riscv_row names.R_RISCV_TPREL_LO12_I) y
     (after_rewrite kinds.CallToAddiZero jalr 0)
     → Group (of_link (link c)) (n + 1) k s k' s'
 
@@ -355,7 +356,7 @@ DescriptorToInitialExec =
     (auipc ld addi jalr : List ℕ) → Descriptor c x offset k s k' s' auipc ld addi jalr
     → AreAddresses y → offset < 2 ^ 64
     → ((t : State) → Agree (link c) k s t → loaded 8 t.memory (entry_and_addend y) ≡ offset)
-    → AreNops c n 2 x y → c.moved x.place < 2 ^ 64 → length addi ≡ 4 → length jalr ≡ 4
+    → AreNops c n 2 x y.place → length addi ≡ 4 → length jalr ≡ 4
     → Has 4 c.new y.place (riscv_row names.R_RISCV_TLS_GOT_HI20) y
     (after_rewrite kinds.AddiToAuipc addi 0)
     → Has 4 c.new (sum_64 y.place 4) (riscv_row names.R_RISCV_PCREL_LO12_I) (of_entry y)
