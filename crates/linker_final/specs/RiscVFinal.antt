@@ -1,6 +1,6 @@
--- RISC-V: in the final bytes of a section rewritten instructions do what the object's do with the
--- values of their relocations (RISC-V ELF psABI, "PC-Relative Symbol Addresses", "Local-Exec TLS
--- Relaxation", "TLS Descriptors -> Local Exec Relaxation").
+-- RISC-V: rewritten instructions are groups of the simulation. Old has the object's, with the values
+-- of their relocations, and new the final bytes of a section (RISC-V ELF psABI, "PC-Relative Symbol
+-- Addresses", "Local-Exec TLS Relaxation", "TLS Descriptors -> Local Exec Relaxation").
 use Rattle.std.specs.Prelude.{◌≡◌, ◌≢◌, ℕ, ◌+◌, ◌<◌, ◌^◌, List}
 use Rattle.std.specs.Prelude.{Some, IsSomeAnd, slice_get, true}
 use Rattle.linker_elf.specs.ElfNames.{IsNameOf, code_of}

@@ -79,13 +79,15 @@ pub fn aarch64()
     linker_laws::simulation::aarch64();
 }
 
-/// RISC-V: rewritten instructions do in the final bytes what the object's do. They are each load of
-/// an address from the GOT that became a sum of the place and the distance, each low part of an
-/// offset that is over the thread pointer, and each sequence of a TLS descriptor that became one of
-/// local-exec. What became a nop does nothing. The high part and the sum of such an offset are
-/// deleted, and what they leave in registers is a premise of the low part's law. The offset had 12
-/// bits when rewrites were chosen. Loads, low parts and sequences do the same wherever a linker
-/// applies their relocations, as in a section that it packs first.
+/// RISC-V: rewritten instructions are groups of `linker_laws::simulation`, of any code that has the
+/// final bytes there, and of any old code that has the object's with the values of their
+/// relocations. They are each load of an address from the GOT that became a sum of the place and the
+/// distance, each low part of an offset that is over the thread pointer, and each sequence of a TLS
+/// descriptor that became one of local-exec. What became a nop is one. The high part and the sum of
+/// such an offset are deleted, and are groups of which new has nothing. The offset had 12 bits when
+/// rewrites were chosen. The clauses named `anywhere` are of a call of rewriting alone: what each
+/// relocation became, and that the rewritten instructions are a group wherever a linker applies it,
+/// as in a section that it packs first.
 pub fn riscv64()
     ensures got_loads { riscv64_final.GotLoads }
     ensures low_parts { riscv64_final.LowParts }

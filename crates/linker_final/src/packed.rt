@@ -207,9 +207,8 @@ pub fn shorter_sections()
 /// RISC-V: each call that a run may make shorter, `c.j`, `jal` or still `auipc` and `jalr`, goes to
 /// where its target goes, as the object's call does in its own layout. So does a call that stays as
 /// it is, by the value of its relocation. Other jumps and branches go where their relocation's
-/// formula says. Where a `lui` of 12 bits or an `add` of the thread
-/// pointer is deleted, the object's run executes it, and the final run does nothing: it is after
-/// it already.
+/// formula says. Where a `lui` of 12 bits or an `add` of the thread pointer is deleted, that is a
+/// group of `linker_laws::simulation`, of which new has nothing.
 pub fn shorter_riscv64()
     ensures sites { riscv_packed.SitesCallTheSame }
     ensures long_calls { riscv_packed.LongCallsStay }
@@ -221,11 +220,12 @@ pub fn shorter_riscv64()
     linker_laws::simulation::riscv64();
 }
 
-/// RISC-V: what was rewritten before the section was packed, and stays, does in the final bytes
-/// what the object's instructions do, each with the values of its relocations in its own layout. It
-/// is each load of an address from the GOT that became a sum of the place and the distance, each
-/// low part of an offset that is over the thread pointer, and each sequence of a TLS descriptor
-/// that became one of local-exec. What became a nop does nothing.
+/// RISC-V: what was rewritten before the section was packed, and stays, is a group of
+/// `linker_laws::simulation`. Old has the object's instructions with the values of their relocations,
+/// in a layout of its own, and new the final bytes. It is each load of an address from the GOT that
+/// became a sum of the place and the distance, each low part of an offset that is over the thread
+/// pointer, and each sequence of a TLS descriptor that became one of local-exec. What became a nop
+/// is one.
 pub fn joined_riscv64()
     ensures got_loads { riscv_joined.PackedGotLoads }
     ensures low_parts { riscv_joined.PackedLowParts }

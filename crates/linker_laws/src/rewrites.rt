@@ -11,7 +11,6 @@ ghost use Rattle.linker_laws.specs.AArch64Worked as aarch64_worked;
 ghost use Rattle.linker_laws.specs.LoongArchRewriteLaws as loongarch_laws;
 ghost use Rattle.linker_laws.specs.Ppc64RewriteLaws as ppc64_laws;
 ghost use Rattle.linker_laws.specs.RiscVExamples as riscv_examples;
-ghost use Rattle.linker_laws.specs.RiscVRewriteLaws as riscv_laws;
 ghost use Rattle.linker_laws.specs.X86Examples as x86_examples;
 ghost use Rattle.linker_laws.specs.X86RewriteLaws as x86_laws;
 ghost use Rattle.linker_laws.specs.X86ThreadLaws as x86_thread_laws;
@@ -39,20 +38,14 @@ pub fn ppc64()
     crate::relocations::ppc64();
 }
 
-/// RISC-V: a `lui` that is deleted would put 0 in its register, and an `add` the thread pointer's
-/// number. Where the offset of a variable has 12 bits, the thread pointer is the base in place of a
-/// register that would have its number. The offset of a variable is in the instructions in place of
-/// a descriptor; a symbol's address is computed in place of a load from the GOT. What these compute
-/// as groups, and all others, is in `simulation::riscv64`.
+/// RISC-V: examples of what bytes are, and of what instructions do. What rewritten instructions compute
+/// is in `simulation::riscv64`.
 pub fn riscv64()
-    ensures laws { riscv_laws.Laws }
     ensures words { riscv_examples.Words }
     ensures halves { riscv_examples.Halves }
     ensures execution { riscv_examples.Execution }
     ensures sequences { riscv_examples.Sequences }
-{
-    crate::relocations::riscv64();
-}
+{}
 
 /// LoongArch: the address of a symbol without its GOT entry, or by `pcaddi`, and so that of a GOT
 /// entry for general- or local-dynamic; the offset of a variable from the thread pointer in the

@@ -1,20 +1,9 @@
--- The laws of RISC-V.
+-- The examples of RISC-V.
 use Rattle.std.proofs.Common.{refl, pos, negsuc}
 use Rattle.linker_base.specs.Form.{place_sum}
 use Rattle.linker_laws.specs.RiscVExamples.{some_hart}
 use Rattle.linker_laws.specs.RiscVMachine.{auipc, jal, sums, adds, jumps, executed}
-use Rattle.linker_laws.proofs.RiscVDescriptors as descriptors
 use Rattle.linker_laws.proofs.rewrites.riscv64.Goals as goal
-
-pub returns-clause-laws : goal.returns-clause-laws
-returns-clause-laws c =
-    let laws = c.riscv64.ensures in
-    record {
-      nops = descriptors.long_nop;
-      descriptor_to_local_exec = descriptors.to_local_exec laws.descriptors laws.thread;
-      descriptor_to_short_local_exec = descriptors.to_short_local_exec laws.descriptors;
-      got = descriptors.got_to_address laws.entries laws.relative;
-    }
 
 pub returns-clause-words : goal.returns-clause-words
 unfolding place_sum
