@@ -1,4 +1,5 @@
--- RISC-V: rewritten instructions are groups of the simulation. Old has the object's, with the values
+-- RISC-V: rewritten instructions are groups of the simulation. Old has the object's, with the
+-- values
 -- of their relocations, and new the final bytes of a section (RISC-V ELF psABI, "PC-Relative Symbol
 -- Addresses", "Local-Exec TLS Relaxation", "TLS Descriptors -> Local Exec Relaxation").
 use Rattle.std.specs.Prelude.{◌≡◌, ◌≢◌, ℕ, ◌+◌, ◌<◌, ◌^◌, List}
@@ -13,22 +14,26 @@ use Rattle.linker_elf.specs.declared.riscv64.relocations.RiscVRelocation.{RiscVR
 use Rattle.linker_elf.specs.declared.riscv64.relocations.RiscVRelocation.TheVariants as names
 use Rattle.linker_final.specs.Final.{IsRewrittenByNoOther, IsWrittenByNoOther}
 use Rattle.linker_final.specs.Final.{instruction_at}
-use Rattle.linker_final.specs.Final.{UntouchedInstructions, AreRewritten, UntouchedInstruction, Linked, IsLinked}
+use Rattle.linker_final.specs.Final.{UntouchedInstructions, AreRewritten, UntouchedInstruction}
+use Rattle.linker_final.specs.Final.{Linked, IsLinked}
 use Rattle.linker_final.specs.Final.{count}
 use Rattle.linker_laws.specs.Machine.{loaded}
 use Rattle.linker_laws.specs.RiscVMachine.{Action, register, rs1_of}
 use Rattle.linker_laws.specs.RiscVRewriteLaws.{HaveOneOffset}
 use Rattle.linker_laws.specs.RiscVRewriteLaws.{IsLowOffset, action_at}
 use Rattle.linker_laws.specs.RiscVRewriteLaws.{of_entry, offset_row, word_of}
-use Rattle.linker_laws.specs.RiscVGroups.{AreBefore, AreDeleted, AreNops, Code, Descriptor, Has, Stands}
+use Rattle.linker_laws.specs.RiscVGroups.{AreBefore, AreDeleted, AreNops, Code, Descriptor, Has}
+use Rattle.linker_laws.specs.RiscVGroups.{Stands}
 use Rattle.linker_laws.specs.RiscVGroups.{link, seen, upper_from, uses}
 use Rattle.linker_laws.specs.RiscVRewriteLaws.{after_rewrite, thread_offset}
 use Rattle.linker_laws.specs.Changes.{put, with_register}
-use Rattle.linker_laws.specs.Simulation.{Agree, AreOf, Group, Kind, Kinds, State, anything, of_link, same}
+use Rattle.linker_laws.specs.Simulation.{Agree, AreOf, Group, Kind, Kinds, State, anything, of_link}
+use Rattle.linker_laws.specs.Simulation.{same}
 use Rattle.linker_laws.specs.Schemes.{AreAddresses, entry_and_addend, symbol_address}
 use Rattle.linker_rewriting.specs.Decisions.{decision_at, deleted_of}
 use Rattle.linker_rewriting.specs.RiscVPcrelGroups.{IsHighIn}
-use Rattle.linker_rewriting.specs.declared.decisions.Decision.TheVariants.{RewrittenWithSymbol, Rewritten}
+use Rattle.linker_rewriting.specs.declared.decisions.Decision.TheVariants.{RewrittenWithSymbol}
+use Rattle.linker_rewriting.specs.declared.decisions.Decision.TheVariants.{Rewritten}
 use Rattle.linker_rewriting.specs.declared.decisions.Subject.{Subject}
 use Rattle.linker_riscv64.specs.RiscVFields.{rd_of}
 use Rattle.linker_utils.specs.RiscVRewrites.{deleted_from, riscv_matches, tp}
@@ -65,7 +70,8 @@ pub record AreOfLoad (l : Linked) (i j : ℕ) : Type 0 where
   pub labels : difference_64 label.address l.addresses.section
       ≡ (relocation_in l.relocations i).offset
 
--- The pair is a group, with what new has. The entry holds S + A, and both addresses are of a kind. The
+-- The pair is a group, with what new has. The entry holds S + A, and both addresses are of a kind.
+-- The
 -- `ld` is over the register of the `auipc`, which isn't x0.
 abbrev pub LoadIsAlike : List ℕ → List ℕ → (Code → Type 0) → Operands → Operands → Type 0
 LoadIsAlike auipc ld NewHas x y =
@@ -95,7 +101,8 @@ LoadsTheSame l i row =
 
 -- ---- low parts of offsets from the thread pointer
 
--- An instruction adds the low part of an offset x, a number of 12 bits, to a register with the thread
+-- An instruction adds the low part of an offset x, a number of 12 bits, to a register with the
+-- thread
 -- pointer's number. It is a group, with what new has. What it does with the sum keeps agreement.
 abbrev pub LowPartIsAlike : Action → List ℕ → (Code → Type 0) → Operands → Operands → Type 0
 LowPartIsAlike action low NewHas x y =
@@ -172,7 +179,8 @@ pub record IsOfDescriptor (l : Linked) (high : ℕ) (name : RiscVRelocation) (di
   pub decided : decision_at l.decisions n ≡ RewrittenWithSymbol chosen subject
   pub kind_is : chosen.kind ≡ relaxations.RiscV kind
 
--- The object's sequence, whose high part is at an offset, is a group. New has n nops where the first
+-- The object's sequence, whose high part is at an offset, is a group. New has n nops where the
+-- first
 -- instructions were, and then m others from an address on.
 abbrev pub OffsetIsAlike : Linked → ℕ → ℕ → (Code → ℕ → Type 0) → Operands → Operands → Type 0
 OffsetIsAlike l o m NewHas x y =
@@ -228,7 +236,8 @@ LowPartDoesTheSameAnywhere l i action =
     → LowPartIsAlike action (instruction_at l.section o)
     (λ c. Has 4 c.new y.place (offset_row action) y (instruction_at l.rewritten o)) x y
 
--- New has the rewritten `addi` and `jalr` of a descriptor with the values of their relocations, or the
+-- New has the rewritten `addi` and `jalr` of a descriptor with the values of their relocations, or
+-- the
 -- `jalr` alone, where the offset is a number of 12 bits.
 abbrev pub OffsetIsTheSameAnywhere : Linked → ℕ → Type 0
 OffsetIsTheSameAnywhere l high =

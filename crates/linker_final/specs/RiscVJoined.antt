@@ -10,7 +10,8 @@ use Rattle.linker_elf.specs.declared.elf.choice.Choice.{Choice}
 use Rattle.linker_elf.specs.declared.elf.value.Operands.{Operands}
 use Rattle.linker_elf.specs.declared.riscv64.relocations.RiscVRelocation.{RiscVRelocation}
 use Rattle.linker_elf.specs.declared.riscv64.relocations.RiscVRelocation.TheVariants as names
-use Rattle.linker_final.specs.Final.{UntouchedInstructions, UntouchedInstruction, IsRewrittenByNoOther, Linked}
+use Rattle.linker_final.specs.Final.{UntouchedInstructions, UntouchedInstruction}
+use Rattle.linker_final.specs.Final.{IsRewrittenByNoOther, Linked}
 use Rattle.linker_final.specs.Final.{count, instruction_at}
 use Rattle.linker_final.specs.Joined.{IsRewrittenAndPacked, IsKeptInstruction, final_instruction}
 use Rattle.linker_final.specs.Packed.{Packed, IsUnwritten, StayTogether, place_of}
@@ -23,7 +24,8 @@ use Rattle.linker_laws.specs.RiscVRewriteLaws.{action_at}
 use Rattle.linker_laws.specs.RiscVRewriteLaws.{offset_row}
 use Rattle.linker_laws.specs.Schemes.{AreAddresses}
 use Rattle.linker_rewriting.specs.Decisions.{decision_at}
-use Rattle.linker_rewriting.specs.declared.decisions.Decision.TheVariants.{RewrittenWithSymbol, Rewritten}
+use Rattle.linker_rewriting.specs.declared.decisions.Decision.TheVariants.{RewrittenWithSymbol}
+use Rattle.linker_rewriting.specs.declared.decisions.Decision.TheVariants.{Rewritten}
 use Rattle.linker_rewriting.specs.declared.decisions.Subject.{Subject}
 use Rattle.linker_utils.specs.declared.riscv64.rewrites.RelaxationKind.TheVariants as kinds
 use Rattle.linker_runs.specs.declared.packing.Machine.TheVariants.{RiscV64}
@@ -78,7 +80,8 @@ FinalLowPartDoesTheSame l p i action row =
 
 -- ---- TLS descriptors
 
--- The object's sequence, whose high part is at an index. New has the `addi` and the `jalr` that were
+-- The object's sequence, whose high part is at an index. New has the `addi` and the `jalr` that
+-- were
 -- rewritten, by the final bytes. The second index is that of the call.
 abbrev pub FinalOffsetIsTheSame : Linked → Packed → ℕ → ℕ → RelocationKindInfo → Type 0
 FinalOffsetIsTheSame l p high last row =

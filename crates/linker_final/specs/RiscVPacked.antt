@@ -113,7 +113,8 @@ pub record IsBefore (p : Packed) (o : ℕ) (c : Code) (s : State) : Type 0 where
   pub place : c.moved s.pc ≡ address_at p o
   pub next : c.moved (s.pc + 4) ≡ address_at p (o + 4)
 
--- A `lui` of a number of 12 bits, or of an offset from the thread pointer of 12 bits, is a group, of
+-- A `lui` of a number of 12 bits, or of an offset from the thread pointer of 12 bits, is a group,
+-- of
 -- which new has nothing.
 abbrev pub LuiIsLeftOut : RiscVRelocation → (Operands → Type 0) → Type 0
 LuiIsLeftOut name IsLow =

@@ -51,7 +51,8 @@ pub fn x86_64()
     linker_laws::rewrites::x86_64();
 }
 
-/// AArch64: rewritten instructions are groups of `linker_laws::simulation`, of any code that has the
+/// AArch64: rewritten instructions are groups of `linker_laws::simulation`, of any code that has
+/// the
 /// final bytes there, and of any old code that has the object's with the values of their
 /// relocations. They are each address by two instructions that became one, each load of an address
 /// from the GOT that became a sum of its page and the rest, each half of initial-exec that became a
@@ -81,7 +82,8 @@ pub fn aarch64()
 
 /// RISC-V: rewritten instructions are groups of `linker_laws::simulation`, of any code that has the
 /// final bytes there, and of any old code that has the object's with the values of their
-/// relocations. They are each load of an address from the GOT that became a sum of the place and the
+/// relocations. They are each load of an address from the GOT that became a sum of the place and
+/// the
 /// distance, each low part of an offset that is over the thread pointer, and each sequence of a TLS
 /// descriptor that became one of local-exec. What became a nop is one. The high part and the sum of
 /// such an offset are deleted, and are groups of which new has nothing. The offset had 12 bits when

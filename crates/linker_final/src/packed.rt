@@ -64,7 +64,8 @@ fn address_of(deltas: &[RelaxDelta], start: u64, offset: u64) -> u64
 ///
 /// The first that applies, in this order. `Misplaced`: the section isn't at the address where its
 /// first byte goes. `Packing`: an item can't be written. `Writing`: no value is written, and `out`
-/// and `relocations` are those of the packed section. With each of the others they are as they were.
+/// and `relocations` are those of the packed section. With each of the others they are as they
+/// were.
 /// The contract of each error requires valid deltas, as that of `pack_run` does.
 pub fn pack_section(
     machine: Machine,
@@ -137,7 +138,8 @@ pub struct RunSection<'a> {
 
 /// Packs a section of a run that `relax` relaxed, by `pack_section`, with what the run loses. It
 /// leaves the section's final bytes in `out`, in which each alignment of the run holds
-/// (`shorter_sections`). The run begins at the address `start`. `relocations` are the section's, once
+/// (`shorter_sections`). The run begins at the address `start`. `relocations` are the section's,
+/// once
 /// it is rewritten. A linker calls `relax` and `pack_section` itself: in between it translates
 /// symbols by what `relax` returned, and it packs each section.
 ///
@@ -221,7 +223,8 @@ pub fn shorter_riscv64()
 }
 
 /// RISC-V: what was rewritten before the section was packed, and stays, is a group of
-/// `linker_laws::simulation`. Old has the object's instructions with the values of their relocations,
+/// `linker_laws::simulation`. Old has the object's instructions with the values of their
+/// relocations,
 /// in a layout of its own, and new the final bytes. It is each load of an address from the GOT that
 /// became a sum of the place and the distance, each low part of an offset that is over the thread
 /// pointer, and each sequence of a TLS descriptor that became one of local-exec. What became a nop

@@ -1,6 +1,7 @@
 -- RISC-V: rewritten instructions are groups of the simulation. Code gets shorter, so what is old's
 -- and what is new's stand at places of their own.
-use Rattle.std.specs.Prelude.{◌≡◌, ◌≢◌, ℕ, zero, suc, ◌+◌, ◌-◌, ◌*◌, ◌^◌, ◌<◌, ◌≤◌, ◌%◌, ◌==◌, false, nat_lt}
+use Rattle.std.specs.Prelude.{◌≡◌, ◌≢◌, ℕ, zero, suc, ◌+◌, ◌-◌, ◌*◌, ◌^◌, ◌<◌, ◌≤◌, ◌%◌, ◌==◌}
+use Rattle.std.specs.Prelude.{false, nat_lt}
 use Rattle.std.specs.Prelude.{if◌then◌else◌, List, [], ◌∷◌, take, drop, length, Option, Some, None}
 use Rattle.std.specs.Prelude.{IsSomeAnd, ⊤}
 use Rattle.std.specs.Int.{w16, w64, cast_signed, from_le_bytes}
@@ -19,11 +20,14 @@ use Rattle.linker_laws.specs.Machine.{Relocated, loaded, moved, wrapped}
 use Rattle.linker_laws.specs.RiscVMachine.{Action, Hart, register, rs1_of, rs2_of, step, used}
 use Rattle.linker_laws.specs.RiscVRelocationLaws.{even}
 use Rattle.linker_laws.specs.RiscVRewriteLaws.{AreOfDescriptor, HaveOneOffset, HaveOneTarget}
-use Rattle.linker_laws.specs.RiscVRewriteLaws.{IsLoadFromGot, IsLow12, IsLowOffset, action_at, after_rewrite}
-use Rattle.linker_laws.specs.RiscVRewriteLaws.{low_row, of_entry, offset_row, t0, thread_offset, word_of}
+use Rattle.linker_laws.specs.RiscVRewriteLaws.{IsLoadFromGot, IsLow12, IsLowOffset, action_at}
+use Rattle.linker_laws.specs.RiscVRewriteLaws.{after_rewrite}
+use Rattle.linker_laws.specs.RiscVRewriteLaws.{low_row, of_entry, offset_row, t0, thread_offset}
+use Rattle.linker_laws.specs.RiscVRewriteLaws.{word_of}
 use Rattle.linker_laws.specs.Schemes.{AreAddresses, entry_and_addend, plt_address, symbol_address}
 use Rattle.linker_laws.specs.Simulation.{State, Program, Machine, Link, Kind, Kinds}
-use Rattle.linker_laws.specs.Simulation.{Agree, AreOf, Group, Other, anything, code as counted, of_link, run, same}
+use Rattle.linker_laws.specs.Simulation.{Agree, AreOf, Group, Other, anything, code as counted}
+use Rattle.linker_laws.specs.Simulation.{of_link, run, same}
 use Rattle.linker_riscv64.specs.RiscVCalls.{IsCallPair}
 use Rattle.linker_riscv64.specs.RiscVFields.{rd_of}
 use Rattle.linker_utils.specs.RiscVRewrites.{IsAddTp, IsLui, a0, half_at, riscv_matches, tp}
@@ -134,7 +138,8 @@ LuiBecomesClui =
     → Group (of_link (link c)) 1 k s (with_register (rd_of (word_of lui)) same k)
     (put (rd_of (word_of lui)) (upper old.relocated) (sum_64 x.place 4) s)
 
--- `c.lui` becomes `c.li` of 0, where S + A is such a number, and a `lui` of the same register was in
+-- `c.lui` becomes `c.li` of 0, where S + A is such a number, and a `lui` of the same register was
+-- in
 -- old.
 abbrev pub CluiBecomesCli : Type 0
 CluiBecomesCli =
@@ -211,7 +216,8 @@ LowPartFromThreadPointer =
 abbrev pub of_place : ℕ → Kind
 of_place a = counted (record { number = 0; added = a ∷ []; subtracted = [] })
 
--- `auipc rX` and `jalr rY` over rX become a jump of n bytes that links rY. Old and new are at a target,
+-- `auipc rX` and `jalr rY` over rX become a jump of n bytes that links rY. Old and new are at a
+-- target,
 -- and each has the address after the call in rY. rX may have anything, unless it is rY.
 abbrev pub CallTo : RiscVRelocation → ℕ → RiscVRelocation → (List ℕ → ℕ → Type 0) → Type 0
 CallTo name n new_name IsJump =
@@ -288,7 +294,8 @@ called x base high register_of_function s =
     (put a0 (entry_and_addend x) (sum_64 x.place 12)
     (put register_of_function function (sum_64 x.place 8) (put base high (sum_64 x.place 4) s)))
 
--- `auipc rX`, `ld rY` over rX, `addi a0` over rX, and `jalr t0` over rY stand in old. The function of
+-- `auipc rX`, `ld rY` over rX, `addi a0` over rX, and `jalr t0` over rY stand in old. The function
+-- of
 -- the descriptor is at an even address. It returns, and leaves an offset in a0. What else it
 -- changes may be anything then, as are rX, rY and t0. Nops write register 0.
 pub record Descriptor (c : Code) (x : Operands) (offset : ℕ) (k : Kinds) (s : State) (k' : Kinds)
@@ -314,7 +321,8 @@ pub record Descriptor (c : Code) (x : Operands) (offset : ℕ) (k : Kinds) (s : 
       ChangesOpen (with_register a0 same (with_register 0 anything k))
       (put a0 offset (sum_64 x.place 16) s) k' s'
 
--- In new n nops are where the first instructions were, one after the other. Each other one is deleted.
+-- In new n nops are where the first instructions were, one after the other. Each other one is
+-- deleted.
 -- So the last m instructions are at an address.
 pub record AreNops (c : Code) (n m : ℕ) (x : Operands) (at : ℕ) : Type 0 where
   pub small : c.moved x.place < 2 ^ 64
@@ -348,7 +356,8 @@ DescriptorToShortLocalExec =
     (after_rewrite kinds.CallToAddiZero jalr 0)
     → Group (of_link (link c)) (n + 1) k s k' s'
 
--- `auipc a0` and `ld a0` of an entry that holds the number that the function returns, whatever state
+-- `auipc a0` and `ld a0` of an entry that holds the number that the function returns, whatever
+-- state
 -- of new agrees
 abbrev pub DescriptorToInitialExec : Type 0
 DescriptorToInitialExec =
@@ -365,7 +374,8 @@ DescriptorToInitialExec =
 
 -- ---- other instructions
 
--- One that has the same bytes in both. By these: whatever state agrees before it, it leaves one that
+-- One that has the same bytes in both. By these: whatever state agrees before it, it leaves one
+-- that
 -- agrees after it.
 abbrev pub Others : Type 0
 Others =

@@ -13,7 +13,8 @@ words code a =
     let i = a - 0x10000 in
     unwrap_or (slice_get code (i / 4)) 0 / 256 ^ (i % 4) % 256
 
--- The address is a number of 12 bits, and the entry at 0x12010 has another one. No instruction is at
+-- The address is a number of 12 bits, and the entry at 0x12010 has another one. No instruction is
+-- at
 -- the end.
 abbrev pub old : List ℕ
 old =

@@ -15,7 +15,8 @@ ghost use Rattle.linker_laws.specs.X86Examples as x86_examples;
 ghost use Rattle.linker_laws.specs.X86RewriteLaws as x86_laws;
 ghost use Rattle.linker_laws.specs.X86ThreadLaws as x86_thread_laws;
 
-/// AArch64: the bytes of instructions that a rewrite leaves may be a section's, from the instruction
+/// AArch64: the bytes of instructions that a rewrite leaves may be a section's, from the
+/// instruction
 /// on. What they compute is in `simulation::aarch64`.
 pub fn aarch64()
     ensures sections { aarch64_laws.InSections }
@@ -38,7 +39,8 @@ pub fn ppc64()
     crate::relocations::ppc64();
 }
 
-/// RISC-V: examples of what bytes are, and of what instructions do. What rewritten instructions compute
+/// RISC-V: examples of what bytes are, and of what instructions do. What rewritten instructions
+/// compute
 /// is in `simulation::riscv64`.
 pub fn riscv64()
     ensures words { riscv_examples.Words }

@@ -28,7 +28,8 @@ pub fn worked()
     ensures chain { worked.IsChainWorked }
 {}
 
-/// AArch64: rewritten instructions are groups, whatever the machine's other instructions do: loads of
+/// AArch64: rewritten instructions are groups, whatever the machine's other instructions do: loads
+/// of
 /// addresses from the GOT, each half of initial-exec, whatever stands between them, and branches to
 /// undefined weak symbols. An instruction that has the same word in both is another one, if the
 /// object's keeps agreement.
@@ -38,7 +39,8 @@ pub fn aarch64()
     crate::relocations::aarch64();
 }
 
-/// AArch64: a program with three groups, of which every premise holds. Both of its runs are computed
+/// AArch64: a program with three groups, of which every premise holds. Both of its runs are
+/// computed
 /// to the end.
 pub fn aarch64_worked()
     ensures worked { aarch64_worked.IsWorked }
@@ -46,8 +48,10 @@ pub fn aarch64_worked()
     aarch64();
 }
 
-/// RISC-V: rewritten instructions are groups, whatever the machine's other instructions do, and code
-/// gets shorter: high parts that are shortened or deleted, with the `add` of the thread pointer, low
+/// RISC-V: rewritten instructions are groups, whatever the machine's other instructions do, and
+/// code
+/// gets shorter: high parts that are shortened or deleted, with the `add` of the thread pointer,
+/// low
 /// parts over another base, whatever stands between them, calls that become jumps, and loads of
 /// addresses from the GOT.
 pub fn riscv64()
@@ -56,7 +60,8 @@ pub fn riscv64()
     crate::relocations::riscv64();
 }
 
-/// RISC-V: a program with three groups, of which every premise holds. Both of its runs are computed to
+/// RISC-V: a program with three groups, of which every premise holds. Both of its runs are
+/// computed to
 /// the end.
 pub fn riscv64_worked()
     ensures worked { riscv_worked.IsWorked }
