@@ -20,7 +20,7 @@ GROUPS_MARKS = "<!-- groups, made by tools/generate -->", "<!-- end of the group
 # by machine: its name in texts, its specs, and the contract
 ARCHITECTURES = {
     183: ("AArch64", ["AArch64Groups"], "aarch64"), 21: ("PowerPC64", ["Ppc64RewriteLaws"], "ppc64"),
-    243: ("RISC-V", ["RiscVRewriteLaws"], "riscv64"), 258: ("LoongArch", ["LoongArchRewriteLaws"], "loongarch64"),
+    243: ("RISC-V", ["RiscVGroups"], "riscv64"), 258: ("LoongArch", ["LoongArchRewriteLaws"], "loongarch64"),
     62: ("x86-64", ["X86RewriteLaws", "X86ThreadLaws"], "x86_64"),
 }
 # by the first law of a row: its premises on what jumps where and what reads which register
@@ -38,9 +38,6 @@ OPEN = {
     },
     243: {
         "GotToAddress": f"{ONE_PATH}; nothing else reads the register of the `auipc`",
-        "PairFromZero": f"{ONE_PATH}; nothing else reads the register of the `lui`",
-        "LocalExecIsShortened":
-            f"{ONE_PATH}; nothing else reads the registers of the `lui` and the `add`",
         "DescriptorToLocalExec":
             f"{ONE_PATH}; nothing else reads the registers of the `auipc` and the `ld`, and nothing "
             "t0 and what the function changes",

@@ -36,21 +36,8 @@ def stores_of_riscv(word):
 
 
 def keeps_base_of_riscv(words):
-    """LowPartFromZero, LowPartFromThreadPointer: StoresTheSame, of the base."""
+    """LowPartFromZero, LowPartFromThreadPointer: what a store stores isn't the base."""
     return stores_of_riscv(words[0]) != rs1(words[0]) or rs1(words[0]) == 0
-
-
-def is_pair_from_zero(words):
-    lui, low = words
-    return rs1(low) == rd(lui) and (stores_of_riscv(low) != rs1(low))
-
-
-def is_local_exec_of_riscv(words):
-    """IsLocalExec, and StoresAnother of both registers."""
-    lui, add, low = words
-    high, total = rd(lui), rd(add)
-    return (rs1(add) == high and rs1(low) == total and high != 4 and total != 0
-            and stores_of_riscv(low) not in (high, total))
 
 
 def is_descriptor_of_riscv(words):
@@ -181,11 +168,7 @@ SEQUENCES = {
     ],
     243: [
         sequence("GotToAddress", "GOT_HI20 PCREL_LO12_I", is_load_from_got),
-        sequence("PairFromZero", "HI20 LO12_I|LO12_S", is_pair_from_zero),
-        sequence("LocalExecIsShortened", "TPREL_HI20 TPREL_ADD TPREL_LO12_I|TPREL_LO12_S",
-                 is_local_exec_of_riscv),
-        sequence("DescriptorToLocalExec DescriptorToShortLocalExec DescriptorToInitialExec "
-                 "LongNopDoesNothing",
+        sequence("DescriptorToLocalExec DescriptorToShortLocalExec DescriptorToInitialExec",
                  "TLSDESC_HI20 TLSDESC_LOAD_LO12 TLSDESC_ADD_LO12 TLSDESC_CALL",
                  is_descriptor_of_riscv),
     ],
@@ -218,7 +201,7 @@ ALONE = {
         ("LowHalfToMovk", "TLSIE_LD64_GOTTPREL_LO12_NC", None),
     ],
     243: [
-        ("Calls TailCalls ShortTailCalls", "CALL CALL_PLT", None),
+        ("Calls ShortTailCalls", "CALL CALL_PLT", None),
         ("LuiIsDeleted LuiBecomesClui", "HI20", None),
         ("CluiBecomesCli", "RVC_LUI", None),
         ("LowPartFromZero", "LO12_I LO12_S", keeps_base_of_riscv),

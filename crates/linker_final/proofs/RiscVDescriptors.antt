@@ -7,7 +7,7 @@ use Rattle.linker_base.specs.Rewrite.{addend_after, offset_after, rewritten}
 use Rattle.linker_elf.specs.Applied.{IsApplied}
 use Rattle.linker_elf.specs.ElfNames.{code_of}
 use Rattle.linker_elf.specs.RiscVRelocations.{pair_row, riscv_name, riscv_row}
-use Rattle.linker_elf.specs.Value.{value_of}
+use Rattle.linker_elf.specs.Value.{sum_64, value_of}
 use Rattle.linker_elf.specs.declared.elf.RelocationInstruction.TheVariants as insns
 use Rattle.linker_elf.specs.declared.elf.RelocationKind.TheVariants.{TpOff}
 use Rattle.linker_elf.specs.declared.elf.choice.Choice.{Choice}
@@ -25,7 +25,8 @@ use Rattle.linker_final.specs.Final.{instruction_at}
 use Rattle.linker_final.specs.Final.{AreBytes, AreRewritten, UntouchedInstruction, Linked, IsLinked, count}
 use Rattle.linker_final.specs.RiscVFinal.{Descriptors, DescriptorsAnywhere, IsOfDescriptor, OffsetIsTheSameAnywhere, ShortDescriptors, ShortDescriptorsAnywhere, ShortOffsetIsTheSameAnywhere, named_as}
 use Rattle.linker_laws.specs.Machine.{Relocated}
-use Rattle.linker_laws.specs.RiscVRewriteLaws.{Laws, after_rewrite}
+use Rattle.linker_laws.specs.RiscVGroups.{Groups, Has}
+use Rattle.linker_laws.specs.RiscVRewriteLaws.{after_rewrite}
 use Rattle.linker_utils.specs.RiscVRewrites.{riscv_entries, riscv_rewrite, rewrites_word}
 use Rattle.linker_utils.specs.declared.riscv64.rewrites.RelaxationKind.{RelaxationKind}
 use Rattle.linker_utils.specs.declared.riscv64.rewrites.RelaxationKind.TheVariants as kinds
@@ -186,7 +187,7 @@ module _ (l : Linked) (linked : IsLinked l) (riscv : l.context.architecture ≡ 
 
 -- ---- the sequence
 
-module _ (laws : Laws) (l : Linked) (rewriting : AreRewritten l) (riscv : l.context.architecture ≡ RiscV)
+module _ (groups : Groups) (l : Linked) (rewriting : AreRewritten l) (riscv : l.context.architecture ≡ RiscV)
     (high add call : ℕ)
     (of_add : IsOfDescriptor l high names.R_RISCV_TLSDESC_ADD_LO12 8 kinds.AddiToLui add)
     (of_call : IsOfDescriptor l high names.R_RISCV_TLSDESC_CALL 12 kinds.CallToAddi call) where
@@ -224,48 +225,56 @@ module _ (laws : Laws) (l : Linked) (rewriting : AreRewritten l) (riscv : l.cont
       (λ _. 0x50513) refl (λ o. refl) (λ a. refl)
 
   wherever : OffsetIsTheSameAnywhere l high
-  wherever x y one addresses function c h k auipc_of ld_of addi_of lui low ran small alike of_lui of_low =
-      laws.descriptor_to_local_exec function c x y h k
-      (instruction_at l.section o) (instruction_at l.section (o + 4)) (instruction_at l.section (o + 8)) (instruction_at l.section (o + 12)) (ran.0)
-      auipc_of ld_of addi_of (ran.1) addresses one small alike lui low
-      (subst (λ xs. Relocated (riscv_row names.R_RISCV_TPREL_HI20) y xs lui) lui_there of_lui)
-      (subst (λ xs. Relocated (riscv_row names.R_RISCV_TPREL_LO12_I) y xs low) addi_there of_low)
+  wherever x y addresses c n at k k' s s' d one nops new =
+      let following = of_add.following in
+      let after_call = of_call.following in
+      let add_inside = add_made.inside in
+      let call_inside = call_made.inside in
+      groups.descriptor_to_local_exec c n at x y k k' s s'
+      (instruction_at l.section o) (instruction_at l.section (o + 4)) (instruction_at l.section (o + 8)) (instruction_at l.section (o + 12))
+      d addresses one nops
+      (long_there l.section (o + 8) (omega (arith, following, add_inside)))
+      (long_there l.section (o + 12) (omega (arith, after_call, call_inside)))
+      (subst (λ xs. Has 4 c.new at (riscv_row names.R_RISCV_TPREL_HI20) y xs) lui_there (new.0))
+      (subst (λ xs. Has 4 c.new (sum_64 at 4) (riscv_row names.R_RISCV_TPREL_LO12_I) y xs) addi_there (new.1))
 
-pub descriptors_anywhere : Laws → DescriptorsAnywhere
-descriptors_anywhere laws l rewriting riscv high add call of_add of_call = (
-  add_after laws l rewriting riscv high add call of_add of_call,
-  call_after laws l rewriting riscv high add call of_add of_call,
-  wherever laws l rewriting riscv high add call of_add of_call,
+pub descriptors_anywhere : Groups → DescriptorsAnywhere
+descriptors_anywhere groups l rewriting riscv high add call of_add of_call = (
+  add_after groups l rewriting riscv high add call of_add of_call,
+  call_after groups l rewriting riscv high add call of_add of_call,
+  wherever groups l rewriting riscv high add call of_add of_call,
 )
 
-pub descriptors : Laws → Descriptors
-descriptors laws l linked riscv high add call of_add of_call left symbol is_symbol function c got h k auipc_of ld_of addi_of said ran small alike =
+pub descriptors : Groups → Descriptors
+descriptors groups l linked riscv high add call of_add of_call left symbol is_symbol x addresses c n at k k' s s' d one nops stands =
     let rewriting = are_rewritten l linked in
     let first = relocation_in l.relocations high in
     let o = first.offset in
-    let x = operands_with RiscV l.addresses low_i.row symbol first got in
-    let becomes_add = add_made laws l rewriting riscv high add call of_add of_call in
-    let becomes_call = call_made laws l rewriting riscv high add call of_add of_call in
+    let y = operands_with RiscV l.addresses low_i.row symbol first 0 in
+    let becomes_add = add_made groups l rewriting riscv high add call of_add of_call in
+    let becomes_call = call_made groups l rewriting riscv high add call of_add of_call in
     let following = of_add.following in
     let after_call = of_call.following in
     let add_inside = becomes_add.inside in
     let call_inside = becomes_call.inside in
-    let lui_made = lui_there laws l rewriting riscv high add call of_add of_call
+    let lui_made = lui_there groups l rewriting riscv high add call of_add of_call
     ∙ made_is (λ _. 0x537) (instruction_at l.section (o + 8)) (long_there l.section (o + 8) (omega (arith, following, add_inside))) in
-    let low_made = addi_there laws l rewriting riscv high add call of_add of_call
+    let low_made = addi_there groups l rewriting riscv high add call of_add of_call
     ∙ made_is (λ _. 0x50513) (instruction_at l.section (o + 12)) (long_there l.section (o + 12) (omega (arith, after_call, call_inside))) in
-    let lui : Relocated (riscv_row names.R_RISCV_TPREL_HI20) x (instruction_at l.rewritten (o + 8)) (instruction_at l.final (o + 8)) =
-    relocated l linked riscv high 8 add of_add.below following names.R_RISCV_TPREL_HI20 (add_after laws l rewriting riscv high add call of_add of_call)
-    (left.0) add_inside 0x537 lui_made high_tp refl of_high_tp symbol is_symbol x refl refl in
-    let low : Relocated (riscv_row names.R_RISCV_TPREL_LO12_I) x (instruction_at l.rewritten (o + 12)) (instruction_at l.final (o + 12)) =
-    relocated l linked riscv high 12 call of_call.below after_call names.R_RISCV_TPREL_LO12_I (call_after laws l rewriting riscv high add call of_add of_call)
-    (left.1) call_inside 0x50513 low_made low_i refl of_low_i symbol is_symbol x refl refl in
-    wherever laws l rewriting riscv high add call of_add of_call x x refl (ran.0).small function c h k auipc_of ld_of addi_of
-    (instruction_at l.final (o + 8)) (instruction_at l.final (o + 12)) ran small alike lui low
+    let lui : Relocated (riscv_row names.R_RISCV_TPREL_HI20) y (instruction_at l.rewritten (o + 8)) (instruction_at l.final (o + 8)) =
+    relocated l linked riscv high 8 add of_add.below following names.R_RISCV_TPREL_HI20 (add_after groups l rewriting riscv high add call of_add of_call)
+    (left.0) add_inside 0x537 lui_made high_tp refl of_high_tp symbol is_symbol y refl refl in
+    let low : Relocated (riscv_row names.R_RISCV_TPREL_LO12_I) y (instruction_at l.rewritten (o + 12)) (instruction_at l.final (o + 12)) =
+    relocated l linked riscv high 12 call of_call.below after_call names.R_RISCV_TPREL_LO12_I (call_after groups l rewriting riscv high add call of_add of_call)
+    (left.1) call_inside 0x50513 low_made low_i refl of_low_i symbol is_symbol y refl refl in
+    wherever groups l rewriting riscv high add call of_add of_call x y addresses c n at k k' s s' d one nops (
+      record { relocated = instruction_at l.final (o + 8); applied = lui; stands = stands.0 },
+      record { relocated = instruction_at l.final (o + 12); applied = low; stands = stands.1 },
+    )
 
 -- ---- the short one
 
-module _ (laws : Laws) (l : Linked) (rewriting : AreRewritten l) (riscv : l.context.architecture ≡ RiscV)
+module _ (groups : Groups) (l : Linked) (rewriting : AreRewritten l) (riscv : l.context.architecture ≡ RiscV)
     (high call : ℕ)
     (of_call : IsOfDescriptor l high names.R_RISCV_TLSDESC_CALL 12 kinds.CallToAddiZero call) where
   abbrev place : ℕ
@@ -287,29 +296,31 @@ module _ (laws : Laws) (l : Linked) (rewriting : AreRewritten l) (riscv : l.cont
       (λ _. 0x513) refl (λ o. refl) (λ a. refl)
 
   short_wherever : ShortOffsetIsTheSameAnywhere l high
-  short_wherever x y one is_low function c h k auipc_of ld_of addi_of low ran small alike of_low =
-      laws.descriptor_to_short_local_exec function c x y h k
-      (instruction_at l.section place) (instruction_at l.section (place + 4)) (instruction_at l.section (place + 8)) (instruction_at l.section (place + 12)) (ran.0)
-      auipc_of ld_of addi_of (ran.1) one is_low small alike low
-      (subst (λ xs. Relocated (riscv_row names.R_RISCV_TPREL_LO12_I) y xs low) short_there of_low)
+  short_wherever x y is_low c n at k k' s s' d one nops new =
+      let following = of_call.following in
+      let inside = short_made.inside in
+      groups.descriptor_to_short_local_exec c n at x y k k' s s'
+      (instruction_at l.section place) (instruction_at l.section (place + 4)) (instruction_at l.section (place + 8)) (instruction_at l.section (place + 12))
+      d one is_low nops (long_there l.section (place + 12) (omega (arith, following, inside)))
+      (subst (λ xs. Has 4 c.new at (riscv_row names.R_RISCV_TPREL_LO12_I) y xs) short_there new)
 
-pub short_descriptors_anywhere : Laws → ShortDescriptorsAnywhere
-short_descriptors_anywhere laws l rewriting riscv high call of_call =
-    (short_after laws l rewriting riscv high call of_call, short_wherever laws l rewriting riscv high call of_call)
+pub short_descriptors_anywhere : Groups → ShortDescriptorsAnywhere
+short_descriptors_anywhere groups l rewriting riscv high call of_call =
+    (short_after groups l rewriting riscv high call of_call, short_wherever groups l rewriting riscv high call of_call)
 
-pub short_descriptors : Laws → ShortDescriptors
-short_descriptors laws l linked riscv high call of_call left symbol is_symbol function c got h k auipc_of ld_of addi_of is_low ran small alike =
+pub short_descriptors : Groups → ShortDescriptors
+short_descriptors groups l linked riscv high call of_call left symbol is_symbol x is_low c n at k k' s s' d one nops stands =
     let rewriting = are_rewritten l linked in
     let first = relocation_in l.relocations high in
     let o = first.offset in
-    let x = operands_with RiscV l.addresses low_i.row symbol first got in
-    let becomes_call = short_made laws l rewriting riscv high call of_call in
+    let y = operands_with RiscV l.addresses low_i.row symbol first 0 in
+    let becomes_call = short_made groups l rewriting riscv high call of_call in
     let following = of_call.following in
     let inside = becomes_call.inside in
-    let made = short_there laws l rewriting riscv high call of_call
+    let made = short_there groups l rewriting riscv high call of_call
     ∙ made_is (λ _. 0x513) (instruction_at l.section (o + 12)) (long_there l.section (o + 12) (omega (arith, following, inside))) in
-    let low : Relocated (riscv_row names.R_RISCV_TPREL_LO12_I) x (instruction_at l.rewritten (o + 12)) (instruction_at l.final (o + 12)) =
-    relocated l linked riscv high 12 call of_call.below following names.R_RISCV_TPREL_LO12_I (short_after laws l rewriting riscv high call of_call)
-    left inside 0x513 made low_i refl of_low_i symbol is_symbol x refl refl in
-    short_wherever laws l rewriting riscv high call of_call x x refl is_low function c h k auipc_of ld_of addi_of
-    (instruction_at l.final (o + 12)) ran small alike low
+    let low : Relocated (riscv_row names.R_RISCV_TPREL_LO12_I) y (instruction_at l.rewritten (o + 12)) (instruction_at l.final (o + 12)) =
+    relocated l linked riscv high 12 call of_call.below following names.R_RISCV_TPREL_LO12_I (short_after groups l rewriting riscv high call of_call)
+    left inside 0x513 made low_i refl of_low_i symbol is_symbol y refl refl in
+    short_wherever groups l rewriting riscv high call of_call x y is_low c n at k k' s s' d one nops
+    (record { relocated = instruction_at l.final (o + 12); applied = low; stands = stands })

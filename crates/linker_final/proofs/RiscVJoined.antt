@@ -26,7 +26,8 @@ use Rattle.linker_final.specs.Packed.{Packed, architecture_of, place_of}
 use Rattle.linker_final.specs.RiscVFinal.{IsOfDescriptor, LoadsTheSameAnywhere, LowPartsAnywhereOf, named_as}
 use Rattle.linker_final.specs.RiscVJoined.{AreOfFinalLoad, FinalBytesLoadTheSame, FinalLowPartDoesTheSame, PackedDescriptors, PackedGotLoads, PackedLowParts, PackedLowPartsOf, PackedShortDescriptors, final_operands}
 use Rattle.linker_laws.specs.Machine.{Relocated}
-use Rattle.linker_laws.specs.RiscVRewriteLaws.{Laws, action_at, offset_row}
+use Rattle.linker_laws.specs.RiscVGroups.{Groups}
+use Rattle.linker_laws.specs.RiscVRewriteLaws.{action_at, offset_row}
 use Rattle.linker_utils.specs.declared.riscv64.rewrites.RelaxationKind.{RelaxationKind}
 use Rattle.linker_utils.specs.declared.riscv64.rewrites.RelaxationKind.TheVariants as kinds
 use Rattle.linker_runs.specs.declared.packing.Machine.TheVariants.{RiscV64}
@@ -107,25 +108,26 @@ packed_of name a of is_row no_entry anywhere l p joined riscv i chosen below is_
     let any = anywhere l joined.rewritten (joined.architecture ∙ ap architecture_of riscv) i chosen below is_name decided in
     mapped (λ action law is_of.
     subst (λ q. IsSomeAnd q (FinalLowPartDoesTheSame l p i action)) (sym is_row)
-    (λ symbol is_symbol x one low h k differs original small new_small alike base stores of_original.
+    (λ symbol is_symbol x c k k' s at one low base known old stands keeps.
     let y = final_operands p i a.row symbol in
     let new : Relocated (offset_row action) y (instruction_at l.rewritten r.offset) (final_instruction p r.offset) =
     subst (λ q. Relocated q y (instruction_at l.rewritten r.offset) (final_instruction p r.offset)) (sym (is_of ∙ is_row))
     (relocated_own l p joined riscv i below name a r (any.0) kept left of symbol
     (no_entry p.addresses (relocation_in p.relocations_after i) symbol) is_symbol) in
-    law x y one low h k differs original (final_instruction p r.offset) small new_small alike base stores of_original new))
+    law x y c k k' s at one low base known old
+    (record { relocated = final_instruction p r.offset; applied = new; stands = stands }) keeps))
     (action_at l.section r.offset) (any.1)
 
-pub packed_low_parts : Laws → PackedLowParts
-packed_low_parts laws =
-    let any = low_parts_anywhere laws in (
+pub packed_low_parts : Groups → PackedLowParts
+packed_low_parts groups =
+    let any = low_parts_anywhere groups in (
       packed_of names.R_RISCV_TPREL_LO12_I low_i of_low_i refl (λ addresses r symbol. refl) (any.0),
       packed_of names.R_RISCV_TPREL_LO12_S low_s of_low_s refl (λ addresses r symbol. refl) (any.1),
     )
 
 -- ---- loads from the GOT
 
-module _ (laws : Laws) (l : Linked) (p : Packed) (joined : IsRewrittenAndPacked l p)
+module _ (groups : Groups) (l : Linked) (p : Packed) (joined : IsRewrittenAndPacked l p)
     (riscv : p.machine ≡ RiscV64) (i j : ℕ) (of : AreOfFinalLoad l p i j)
     (left : UntouchedInstructions l i j) (alone : IsRewrittenByNoOther l i (relocation_in l.relocations i).offset) where
   abbrev first : Rela
@@ -138,7 +140,7 @@ module _ (laws : Laws) (l : Linked) (p : Packed) (joined : IsRewrittenAndPacked 
       × (relocation_in l.relocations_after j ≡ named_as names.R_RISCV_PCREL_LO12_I second second)
       × LoadsTheSameAnywhere l i
   any =
-      got_loads_anywhere laws l joined.rewritten (joined.architecture ∙ ap architecture_of riscv) i j of.pair alone
+      got_loads_anywhere groups l joined.rewritten (joined.architecture ∙ ap architecture_of riscv) i j of.pair alone
 
   module _ (symbol : Symbol)
       (is_symbol : slice_get p.symbols (relocation_in p.relocations_after i).symbol ≡ Some symbol) where
@@ -175,17 +177,19 @@ module _ (laws : Laws) (l : Linked) (p : Packed) (joined : IsRewrittenAndPacked 
         of.label of.label_is of.labels tt (written.can.found j) (written.can.are_found j below'))))
 
   loads_the_same : FinalBytesLoadTheSame l p i high_after.row
-  loads_the_same over not_zero symbol is_symbol x small new_small h k auipc_of ld_of holds at new_at alike of_auipc of_ld =
+  loads_the_same symbol is_symbol x over not_zero c k kind s small new_small at holds are old old_ld stands =
       let o = first.offset in
       let next = following l p joined i of.pair.first_below (code_of (riscv_name names.R_RISCV_PCREL_HI20)) first.symbol first.addend (any.0) of.high_kept (left.0) in
       let lower : Relocated (Some low_after.row) (y symbol is_symbol) (instruction_at l.rewritten (o + 4)) (instruction_at p.final (place_of p o + 4)) =
       subst (λ q. Relocated (Some low_after.row) (y symbol is_symbol) (instruction_at l.rewritten (o + 4)) (instruction_at p.final q)) next
       (subst (λ n. Relocated (Some low_after.row) (y symbol is_symbol) (instruction_at l.rewritten n) (final_instruction p n)) of.pair.next (low symbol is_symbol)) in
-      (any.2) over not_zero x (y symbol is_symbol) small new_small h k auipc_of ld_of
-      (final_instruction p o) (instruction_at p.final (place_of p o + 4)) holds at new_at alike of_auipc of_ld (high symbol is_symbol) lower
+      (any.2) x (y symbol is_symbol) over not_zero c k kind s small new_small at holds are old old_ld (
+        record { relocated = final_instruction p o; applied = high symbol is_symbol; stands = stands.0 },
+        record { relocated = instruction_at p.final (place_of p o + 4); applied = lower; stands = stands.1 },
+      )
 
-pub packed_got_loads : Laws → PackedGotLoads
-packed_got_loads laws l p joined riscv i j of left alone = loads_the_same laws l p joined riscv i j of left alone
+pub packed_got_loads : Groups → PackedGotLoads
+packed_got_loads groups l p joined riscv i j of left alone = loads_the_same groups l p joined riscv i j of left alone
 
 -- ---- TLS descriptors
 
@@ -209,13 +213,16 @@ module _ (l : Linked) (p : Packed) (joined : IsRewrittenAndPacked l p) (riscv : 
       (relocated_own l p joined riscv call of_call.below names.R_RISCV_TPREL_LO12_I low_i (relocation_in l.relocations high)
       call_after kept left of_low_i symbol refl is_symbol)
 
-pub packed_short_descriptors : Laws → PackedShortDescriptors
-packed_short_descriptors laws l p joined riscv high call of_call kept left symbol is_symbol x one is_low function c h k auipc_of ld_of addi_of ran small alike =
-    let any = short_descriptors_anywhere laws l joined.rewritten (joined.architecture ∙ ap architecture_of riscv) high call of_call in
+pub packed_short_descriptors : Groups → PackedShortDescriptors
+packed_short_descriptors groups l p joined riscv high call of_call kept left symbol is_symbol x is_low c n at k k' s s' d one nops stands =
+    let any = short_descriptors_anywhere groups l joined.rewritten (joined.architecture ∙ ap architecture_of riscv) high call of_call in
     let place = (relocation_in l.relocations high).offset in
-    (any.1) x (final_operands p call low_i.row symbol) one is_low function c h k auipc_of ld_of addi_of
-    (final_instruction p (place + 12)) ran small alike
-    (call_relocated l p joined riscv high call kinds.CallToAddiZero of_call (any.0) kept left symbol is_symbol)
+    (any.1) x (final_operands p call low_i.row symbol) is_low c n at k k' s s' d one nops
+    (record {
+      relocated = final_instruction p (place + 12);
+      applied = call_relocated l p joined riscv high call kinds.CallToAddiZero of_call (any.0) kept left symbol is_symbol;
+      stands = stands;
+    })
 
 -- the `addi`, which became a `lui`
 module _ (l : Linked) (p : Packed) (joined : IsRewrittenAndPacked l p) (riscv : p.machine ≡ RiscV64)
@@ -280,15 +287,20 @@ module _ (l : Linked) (p : Packed) (joined : IsRewrittenAndPacked l p) (riscv : 
       ∙ subst (λ n. place_of p (n + 4) ≡ place_of p n + 4) of_add.following
       (following l p joined add of_add.below (code_of (riscv_name names.R_RISCV_TPREL_HI20)) subject.symbol subject.addend add_after add_kept (left.0))
 
-pub packed_descriptors : Laws → PackedDescriptors
-packed_descriptors laws l p joined riscv high add call of_add of_call add_kept call_kept left symbol is_symbol x one addresses function c h k auipc_of ld_of addi_of ran small alike =
-    let any = descriptors_anywhere laws l joined.rewritten (joined.architecture ∙ ap architecture_of riscv) high add call of_add of_call in
+pub packed_descriptors : Groups → PackedDescriptors
+packed_descriptors groups l p joined riscv high add call of_add of_call add_kept call_kept left symbol is_symbol x addresses c n at k k' s s' d one nops stands =
+    let any = descriptors_anywhere groups l joined.rewritten (joined.architecture ∙ ap architecture_of riscv) high add call of_add of_call in
     let o = (relocation_in l.relocations high).offset in
     let y = final_operands p call low_i.row symbol in
     let low : Relocated (Some low_i.row) y (instruction_at l.rewritten (o + 12)) (instruction_at p.final (place_of p (o + 8) + 4)) =
     subst (λ q. Relocated (Some low_i.row) y (instruction_at l.rewritten (o + 12)) (instruction_at p.final q))
     (call_following l p joined riscv high add call of_add of_call (any.0) (any.1) add_kept call_kept left)
     (call_relocated l p joined riscv high call kinds.CallToAddi of_call (any.1) call_kept (left.1) symbol is_symbol) in
-    (any.2) x y one addresses function c h k auipc_of ld_of addi_of
-    (final_instruction p (o + 8)) (instruction_at p.final (place_of p (o + 8) + 4)) ran small alike
-    (add_relocated l p joined riscv high add call of_add of_call (any.0) (any.1) add_kept call_kept left symbol is_symbol) low
+    (any.2) x y addresses c n at k k' s s' d one nops (
+      record {
+        relocated = final_instruction p (o + 8);
+        applied = add_relocated l p joined riscv high add call of_add of_call (any.0) (any.1) add_kept call_kept left symbol is_symbol;
+        stands = stands.0;
+      },
+      record { relocated = instruction_at p.final (place_of p (o + 8) + 4); applied = low; stands = stands.1 },
+    )

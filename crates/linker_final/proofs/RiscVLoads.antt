@@ -1,7 +1,6 @@
--- Rewritten loads from the GOT of RISC-V do in the final bytes what the object's do.
-use Rattle.std.proofs.Common.{◌≡◌, ℕ, zero, suc, ◌+◌, ◌≤◌, [], ◌∷◌, length, false, eqb, refl, sym, ap, subst, ◌∙◌, inl, inr, arith, Some, Ok}
-use Rattle.std.proofs.lemmas.Bool.{cases_Bool, eqb-true}
-use Rattle.std.specs.Prelude.{slice_get, ◌==◌, ◌&&◌, ◌||◌, not}
+-- Rewritten loads from the GOT of RISC-V are groups in the final bytes.
+use Rattle.std.proofs.Common.{◌≡◌, ℕ, ◌+◌, ◌≤◌, [], ◌∷◌, length, refl, sym, ap, subst, ◌∙◌, arith, Some, Ok}
+use Rattle.std.specs.Prelude.{slice_get}
 use Rattle.std.specs.Int.{w32, from_le_bytes}
 use Rattle.linker_base.specs.Rewrite.{rewritten}
 use Rattle.linker_base.specs.declared.bit_misc.BitRange.{BitRange}
@@ -11,7 +10,6 @@ use Rattle.linker_elf.specs.RiscVRelocations.{pair_row, riscv_row}
 use Rattle.linker_elf.specs.Value.{sum_64}
 use Rattle.linker_elf.specs.declared.elf.RelocationInstruction.TheVariants as insns
 use Rattle.linker_elf.specs.declared.elf.RelocationKind.TheVariants as formulas
-use Rattle.linker_elf.specs.declared.elf.RelocationKindInfo.{RelocationKindInfo}
 use Rattle.linker_elf.specs.declared.elf.value.Operands.{Operands}
 use Rattle.linker_elf.specs.declared.riscv64.forms.RiscVInstruction.TheVariants.{UType, IType}
 use Rattle.linker_elf.specs.declared.riscv64.relocations.RiscVRelocation.TheVariants as names
@@ -24,11 +22,9 @@ use Rattle.linker_final.proofs.RiscVWritten.{IsAfter, applied_there, becomes, by
 use Rattle.linker_final.specs.Final.{IsRewrittenByNoOther, instruction_at}
 use Rattle.linker_final.specs.Final.{AreBytes, UntouchedInstructions, AreRewritten, Linked, IsLinked}
 use Rattle.linker_final.specs.RiscVFinal.{AreOfLoad, AreOfPair, GotLoads, GotLoadsAnywhere, LoadsTheSame, LoadsTheSameAnywhere, named_as}
-use Rattle.linker_laws.specs.Machine.{Relocated, but}
-use Rattle.linker_laws.specs.RiscVMachine.{Hart, register}
-use Rattle.linker_laws.specs.RiscVRewriteLaws.{HaveAddress, HaveGoneOn, IsLoadFromGot, Laws, after_rewrite, word_of}
-use Rattle.linker_laws.specs.Schemes.{AreAddresses, symbol_address}
-use Rattle.linker_riscv64.specs.RiscVFields.{rd_of}
+use Rattle.linker_laws.specs.Machine.{Relocated}
+use Rattle.linker_laws.specs.RiscVGroups.{Groups, Has}
+use Rattle.linker_laws.specs.RiscVRewriteLaws.{IsLoadFromGot, after_rewrite, word_of}
 use Rattle.linker_utils.specs.RiscVRewrites.{IsAuipc, IsLd, load_to_addi, rewrites_word, without_got}
 use Rattle.linker_elf.specs.Choices.{got_high_part}
 use Rattle.linker_utils.specs.declared.riscv64.rewrites.RelaxationKind.TheVariants as kinds
@@ -44,9 +40,6 @@ use Rattle.linker_utils.specs.Relaxations.{relaxation_rewrite}
 use Rattle.linker_elf.specs.declared.elf.architecture.Architecture.TheVariants.{RiscV}
 
 -- ---- rows
-
-abbrev got_row : RelocationKindInfo
-got_row = pair_row formulas.GotRelative 32 UType
 
 abbrev pub high_after : IsAfter names.R_RISCV_PCREL_HI20
 high_after = record { row = pair_row formulas.Relative 32 UType; is = refl; named = tt }
@@ -67,38 +60,9 @@ of_high =
 abbrev pub low_after : IsAfter names.R_RISCV_PCREL_LO12_I
 low_after = record { row = pair_row formulas.RelativeRiscVLow12 32 IType; is = refl; named = tt }
 
--- ---- both have the address
-
-same_address : (base y address at : ℕ) (a b : Hart)
-    → HaveAddress base y address address at at a b → HaveGoneOn (but y (λ n. n == base)) at at a b
-same_address base y address at a b has =
-    record {
-      alike = record {
-        integers = λ n is. elim (cases_Bool (eqb n y)) [
-          | inl equal ↦
-              subst (λ m. register a m ≡ register b m) (sym (eqb-true n y equal)) (destination y has)
-          | inr isnt ↦ has.alike.integers n (others n is isnt)
-        ];
-        floats = has.alike.floats;
-        memory = has.alike.memory;
-      };
-      next = has.next;
-      new_next = has.new_next;
-    }
-  where
-    destination : (z : ℕ) → HaveAddress base z address address at at a b → register a z ≡ register b z
-    destination zero its = refl
-    destination (suc z) its =
-        its.has (λ e. cc) ∙ sym (its.new_has (λ e. cc))
-
-    others : (n : ℕ) → but y (λ m. m == base) n ≡ false → eqb n y ≡ false → (n == base || n == y) ≡ false
-    others n is isnt =
-        let first : (n == base) ≡ false = ap (λ b. not b && (n == base)) (sym isnt) ∙ is in
-        ap (λ b. b || (n == y)) first ∙ isnt
-
 -- ---- a pair
 
-module _ (laws : Laws) (l : Linked) (rewriting : AreRewritten l) (riscv : l.context.architecture ≡ RiscV)
+module _ (groups : Groups) (l : Linked) (rewriting : AreRewritten l) (riscv : l.context.architecture ≡ RiscV)
     (i j : ℕ) (of : AreOfPair l i j)
     (alone : IsRewrittenByNoOther l i (relocation_in l.relocations i).offset) where
   abbrev first : Rela
@@ -147,7 +111,7 @@ module _ (laws : Laws) (l : Linked) (rewriting : AreRewritten l) (riscv : l.cont
       (λ done. subst (λ k. IsMade (relaxation_rewrite k) second.offset l.section l.rewritten) low_entry.kind_is done) (low_entry.pattern.0))
 
   wherever : LoadsTheSameAnywhere l i
-  wherever over not_zero x y small new_small h k auipc_of ld_of high low holds at new_at alike of_auipc of_ld of_high of_low =
+  wherever x y over not_zero c k kind s small new_small at holds are old old_ld new =
       let o = first.offset in
       let auipc = instruction_at l.section o in
       let ld = instruction_at l.section (o + 4) in
@@ -156,22 +120,21 @@ module _ (laws : Laws) (l : Linked) (rewriting : AreRewritten l) (riscv : l.cont
       subst (λ n. IsLd (word_of (instruction_at l.section n))) of.next (subst IsLd (word_same l.section second.offset) (low_entry.pattern.1)) in
       let together : IsLoadFromGot (word_of auipc) (word_of ld) =
       record { first = is_auipc; second = is_ld; base = over; not_zero = not_zero } in
-      laws.got x y h k auipc ld small new_small at new_at alike
-      (long_there l.section o (high_entry.pattern.0), long_there l.section (o + 4) both_inside) together holds
-      auipc_of ld_of high low of_auipc of_ld
-      (subst (λ xs. Relocated (riscv_row names.R_RISCV_PCREL_HI20) y xs high) auipc_there of_high)
-      (subst (λ xs. Relocated (riscv_row names.R_RISCV_PCREL_LO12_I) y xs low) addi_there of_low)
+      let long = long_there l.section (o + 4) both_inside in
+      groups.got c x y k kind s auipc ld small new_small at (omega (arith, long)) together holds are old old_ld
+      (subst (λ xs. Has 4 c.new y.place (riscv_row names.R_RISCV_PCREL_HI20) y xs) auipc_there (new.0))
+      (subst (λ xs. Has 4 c.new (sum_64 y.place 4) (riscv_row names.R_RISCV_PCREL_LO12_I) y xs) addi_there (new.1))
 
-pub got_loads_anywhere : Laws → GotLoadsAnywhere
-got_loads_anywhere laws l rewriting riscv i j of alone = (
-  high_is laws l rewriting riscv i j of alone,
-  low_is laws l rewriting riscv i j of alone,
-  wherever laws l rewriting riscv i j of alone,
+pub got_loads_anywhere : Groups → GotLoadsAnywhere
+got_loads_anywhere groups l rewriting riscv i j of alone = (
+  high_is groups l rewriting riscv i j of alone,
+  low_is groups l rewriting riscv i j of alone,
+  wherever groups l rewriting riscv i j of alone,
 )
 
 -- ---- in the final bytes
 
-module _ (laws : Laws) (l : Linked) (linked : IsLinked l) (riscv : l.context.architecture ≡ RiscV)
+module _ (groups : Groups) (l : Linked) (linked : IsLinked l) (riscv : l.context.architecture ≡ RiscV)
     (i j : ℕ) (of : AreOfLoad l i j) (left : UntouchedInstructions l i j)
     (alone : IsRewrittenByNoOther l i (relocation_in l.relocations i).offset) where
   abbrev one : Rela
@@ -187,10 +150,10 @@ module _ (laws : Laws) (l : Linked) (linked : IsLinked l) (riscv : l.context.arc
   low_rela = named_as names.R_RISCV_PCREL_LO12_I other other
 
   high_there : relocation_in l.relocations_after i ≡ high_rela
-  high_there = high_is laws l (are_rewritten l linked) riscv i j of.pair alone
+  high_there = high_is groups l (are_rewritten l linked) riscv i j of.pair alone
 
   low_there : relocation_in l.relocations_after j ≡ low_rela
-  low_there = low_is laws l (are_rewritten l linked) riscv i j of.pair alone
+  low_there = low_is groups l (are_rewritten l linked) riscv i j of.pair alone
 
   high_last : relocation_in l.relocations_last i ≡ high_rela
   high_last =
@@ -237,16 +200,14 @@ module _ (laws : Laws) (l : Linked) (linked : IsLinked l) (riscv : l.context.arc
         i within high_after.row is_row refl operands taken (relocation_in bytes j) low_after.row low_row refl refl
         of.label label_is (of.labels ∙ sym at_high) tt (linked.written.can.found j) (linked.written.can.are_found j within'))))
 
-  loads_the_same : LoadsTheSame l i got_row
-  loads_the_same over not_zero symbol is_symbol got h k auipc_of ld_of small holds at new_at alike of_auipc of_ld =
+  loads_the_same : LoadsTheSame l i high_after.row
+  loads_the_same symbol is_symbol x over not_zero c k kind s small new_small at holds are old old_ld stands =
       let o = one.offset in
-      let x = operands_with RiscV l.addresses got_row symbol one got in
       let y = operands symbol is_symbol in
-      let auipc = instruction_at l.section o in
       let ld = instruction_at l.section (o + 4) in
-      let inside = both_inside laws l (are_rewritten l linked) riscv i j of.pair alone in
-      let stayed = auipc_there laws l (are_rewritten l linked) riscv i j of.pair alone in
-      let made = addi_there laws l (are_rewritten l linked) riscv i j of.pair alone
+      let inside = both_inside groups l (are_rewritten l linked) riscv i j of.pair alone in
+      let stayed = auipc_there groups l (are_rewritten l linked) riscv i j of.pair alone in
+      let made = addi_there groups l (are_rewritten l linked) riscv i j of.pair alone
       ∙ made_is load_to_addi ld (long_there l.section (o + 4) inside) in
       let sl = linked.same_length in
       let fl = linked.written.same_length in
@@ -267,27 +228,11 @@ module _ (laws : Laws) (l : Linked) (linked : IsLinked l) (riscv : l.context.arc
         old_bytes = subst AreBytes (sym made) (word_bytes (load_to_addi (from_le_bytes w32 ld)));
         bytes = bytes_there l.final (o + 4) linked.final_bytes;
       } in
-      let addresses : AreAddresses y =
-      record {
-        symbol = small.symbol;
-        place = small.place;
-        got_entry = omega arith;
-        got_base = small.got_base;
-        plt_entry = small.plt_entry;
-        tls_base = small.tls_base;
-      } in
-      let ends = wherever laws l (are_rewritten l linked) riscv i j of.pair alone over not_zero x y small addresses h k
-      auipc_of ld_of (instruction_at l.final o) (instruction_at l.final (o + 4)) holds at new_at alike of_auipc of_ld high low in
-      let so : HaveAddress (rd_of (word_of auipc)) (rd_of (word_of ld)) (symbol_address x) (symbol_address x) (sum_64 x.place 8) (sum_64 x.place 8) ends.end ends.new_end =
-      subst (λ p. HaveAddress (rd_of (word_of auipc)) (rd_of (word_of ld)) (symbol_address x) (symbol_address x) (sum_64 x.place 8) (sum_64 p 8) ends.end ends.new_end) new_at
-      (subst (λ p. HaveAddress (rd_of (word_of auipc)) (rd_of (word_of ld)) (symbol_address x) (symbol_address x) (sum_64 p 8) (sum_64 k.pc 8) ends.end ends.new_end) at ends.so) in
-      record {
-        end = ends.end;
-        new_end = ends.new_end;
-        runs = ends.runs;
-        new_runs = ends.new_runs;
-        so = same_address (rd_of (word_of auipc)) (rd_of (word_of ld)) (symbol_address x) (sum_64 x.place 8) ends.end ends.new_end so;
-      }
+      wherever groups l (are_rewritten l linked) riscv i j of.pair alone x y over not_zero c k kind s small new_small at
+      holds are old old_ld (
+        record { relocated = instruction_at l.final o; applied = high; stands = stands.0 },
+        record { relocated = instruction_at l.final (o + 4); applied = low; stands = stands.1 },
+      )
 
-pub joined : Laws → GotLoads
-joined laws l linked riscv i j of left alone = loads_the_same laws l linked riscv i j of left alone
+pub joined : Groups → GotLoads
+joined groups l linked riscv i j of left alone = loads_the_same groups l linked riscv i j of left alone

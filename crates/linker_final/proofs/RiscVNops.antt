@@ -1,5 +1,5 @@
 -- Instructions of RISC-V's TLS descriptors that became nops do nothing in the final bytes.
-use Rattle.std.proofs.Common.{◌≡◌, ℕ, ◌+◌, ◌<◌, ◌≤◌, ◌^◌, Bool, List, [], length, refl, sym, ap, subst, ◌∙◌, inl, inr, arith}
+use Rattle.std.proofs.Common.{◌≡◌, ℕ, ◌+◌, ◌<◌, ◌≤◌, List, length, refl, ap, subst, ◌∙◌, inl, inr, arith}
 use Rattle.linker_elf.specs.ElfNames.{IsNameOf, IsNamed}
 use Rattle.linker_elf.specs.RiscVRelocations.{riscv_name, riscv_relocation}
 use Rattle.linker_elf.specs.Rows.{bytes_row}
@@ -14,14 +14,11 @@ use Rattle.linker_final.proofs.RiscVDescriptors.{Becomes, same_kind}
 use Rattle.linker_final.proofs.RiscVWritten.{becomes, long_there, redirected_after}
 use Rattle.linker_final.specs.Final.{instruction_at}
 use Rattle.linker_final.specs.Final.{AreRewritten, Linked, count}
-use Rattle.linker_final.specs.Joined.{final_instruction}
 use Rattle.linker_final.specs.Packed.{architecture_of}
 use Rattle.linker_final.specs.RiscVFinal.{Nops, NopsOf}
 use Rattle.linker_final.specs.RiscVJoined.{PackedNops, PackedNopsOf}
-use Rattle.linker_laws.specs.RiscVMachine.{Hart}
-use Rattle.linker_laws.specs.RiscVRewriteLaws.{AreAlike, EndSo, HaveGoneOn, Laws, after_rewrite}
-use Rattle.linker_elf.specs.Value.{sum_64}
-use Rattle.linker_utils.specs.RiscVRewrites.{riscv_entries}
+use Rattle.linker_laws.specs.RiscVRewriteLaws.{after_rewrite}
+use Rattle.linker_utils.specs.RiscVRewrites.{riscv_entries, riscv_matches}
 use Rattle.linker_utils.specs.declared.riscv64.rewrites.RelaxationKind.TheVariants as kinds
 use Rattle.linker_rewriting.specs.Decisions.{decision_at}
 use Rattle.linker_rewriting.specs.Rewritten.{IsMade}
@@ -83,7 +80,7 @@ none_has_no_value l riscv found there =
 
 -- ---- nops
 
-module _ (laws : Laws) (name : RiscVRelocation) (named : IsNamed (riscv_name name))
+module _ (name : RiscVRelocation) (named : IsNamed (riscv_name name))
     (becomes_nop : (section : List ℕ) (o : ℕ) (chosen : Choice Relaxation ℕ)
     → chosen.kind ≡ relaxations.RiscV kinds.ReplaceWithLongNop
     → IsOfSome name (riscv_entries name) section o chosen → Becomes names.R_RISCV_NONE section o chosen)
@@ -106,15 +103,10 @@ module _ (laws : Laws) (name : RiscVRelocation) (named : IsNamed (riscv_name nam
               (λ done. subst (λ k. IsMade (relaxation_rewrite k) o l.section l.rewritten) kind_is done) nop.inside,
         )
 
-    -- the code that it leaves does nothing
-    does_nothing : (section code : List ℕ) (o : ℕ) → o + 4 ≤ length section
-        → code ≡ after_rewrite kinds.ReplaceWithLongNop (instruction_at section o) 0
-        → (h k : Hart) (differs : ℕ → Bool) → h.pc < 2 ^ 64 → AreAlike differs h k
-        → EndSo 1 code h 0 [] k (HaveGoneOn differs (sum_64 h.pc 4) k.pc)
-    does_nothing section code o inside left h k differs small alike =
-        let long = long_there section o inside in
-        subst (λ code. EndSo 1 code h 0 [] k (HaveGoneOn differs (sum_64 h.pc 4) k.pc)) (sym left)
-        (laws.nops (instruction_at section o) 0 (omega (arith, long), tt) [] h k differs small alike)
+    is_nop : (section : List ℕ) (o : ℕ) → o + 4 ≤ length section
+        → riscv_matches kinds.ReplaceWithLongNop (instruction_at section o) 0
+    is_nop section o inside =
+        let long = long_there section o inside in (omega (arith, long), tt)
 
     nops_of : NopsOf name
     nops_of l linked riscv i chosen subject below is_name decided kind_is left alone =
@@ -124,26 +116,24 @@ module _ (laws : Laws) (name : RiscVRelocation) (named : IsNamed (riscv_name nam
         let code : (relocation_in l.relocations_after i).code ≡ 0 =
         ap (λ (x : Rela). x.code)
         (redirected_after l (are_rewritten l linked) i chosen below kinds.ReplaceWithLongNop names.R_RISCV_NONE kind_is (there.0).code_is (λ o. refl) (λ a. refl) subject decided) in
-        does_nothing l.section (instruction_at l.final o) o inside
-        (unwritten_without l linked i below o left (none_has_no_value l riscv) code inside alone ∙ there.1)
+        (is_nop l.section o inside, unwritten_without l linked i below o left (none_has_no_value l riscv) code inside alone ∙ there.1)
 
     packed_nops_of : PackedNopsOf name
     packed_nops_of l p joined riscv i chosen subject below is_name decided kind_is left stay free =
         let o = (relocation_in l.relocations i).offset in
         let there = nop_there l joined.rewritten (joined.architecture ∙ ap architecture_of riscv) i chosen subject below is_name decided kind_is in
-        does_nothing l.section (final_instruction p o) o ((there.0).inside)
-        (unwritten_there l p joined i o left stay free ∙ there.1)
+        (is_nop l.section o ((there.0).inside), unwritten_there l p joined i o left stay free ∙ there.1)
 
-pub nops : Laws → Nops
-nops laws = (
-  nops_of laws names.R_RISCV_TLSDESC_HI20 tt high_becomes,
-  nops_of laws names.R_RISCV_TLSDESC_LOAD_LO12 tt load_becomes,
-  nops_of laws names.R_RISCV_TLSDESC_ADD_LO12 tt add_becomes,
+pub nops : Nops
+nops = (
+  nops_of names.R_RISCV_TLSDESC_HI20 tt high_becomes,
+  nops_of names.R_RISCV_TLSDESC_LOAD_LO12 tt load_becomes,
+  nops_of names.R_RISCV_TLSDESC_ADD_LO12 tt add_becomes,
 )
 
-pub packed_nops : Laws → PackedNops
-packed_nops laws = (
-  packed_nops_of laws names.R_RISCV_TLSDESC_HI20 tt high_becomes,
-  packed_nops_of laws names.R_RISCV_TLSDESC_LOAD_LO12 tt load_becomes,
-  packed_nops_of laws names.R_RISCV_TLSDESC_ADD_LO12 tt add_becomes,
+pub packed_nops : PackedNops
+packed_nops = (
+  packed_nops_of names.R_RISCV_TLSDESC_HI20 tt high_becomes,
+  packed_nops_of names.R_RISCV_TLSDESC_LOAD_LO12 tt load_becomes,
+  packed_nops_of names.R_RISCV_TLSDESC_ADD_LO12 tt add_becomes,
 )

@@ -1,5 +1,5 @@
--- Low parts of RISC-V that became ones over the thread pointer do in the final bytes what the object's do,
--- and what is deleted before them does nothing that is left.
+-- Low parts of RISC-V that became ones over the thread pointer are groups, and what is deleted before
+-- them.
 use Rattle.std.proofs.Common.{◌≡◌, ℕ, ◌+◌, ◌≤◌, [], ◌∷◌, length, refl, sym, ap, subst, ◌∙◌, arith, Option, Some, None, Ok, IsSomeAnd}
 use Rattle.std.specs.Prelude.{IsTrue}
 use Rattle.std.specs.Int.{w32, from_le_bytes}
@@ -23,7 +23,8 @@ use Rattle.linker_final.specs.Final.{AreBytes}
 use Rattle.linker_final.specs.RiscVFinal.{HighParts, LowPartDoesTheSame, LowPartDoesTheSameAnywhere, LowParts, LowPartsAnywhere, LowPartsAnywhereOf, LowPartsOf, Sums}
 use Rattle.linker_laws.specs.Machine.{Relocated}
 use Rattle.linker_laws.specs.RiscVMachine.{Action, action_of}
-use Rattle.linker_laws.specs.RiscVRewriteLaws.{Laws, action_at, after_rewrite, offset_row}
+use Rattle.linker_laws.specs.RiscVGroups.{Groups, Has}
+use Rattle.linker_laws.specs.RiscVRewriteLaws.{action_at, after_rewrite, offset_row}
 use Rattle.linker_riscv64.specs.RiscVFields.{funct3_of, opcode_of}
 use Rattle.linker_utils.specs.RiscVRewrites.{IsAddTp, HasPattern, IsLui, adds_low12, by_low_offset, riscv_entries, riscv_matches, tp, with_rs1}
 use Rattle.linker_utils.specs.declared.riscv64.rewrites.RelaxationKind.TheVariants as kinds
@@ -83,7 +84,7 @@ mapped each (Some x) is = each x is
 abbrev by_word : ℕ → Option Action
 by_word word = action_of (opcode_of word) (funct3_of word)
 
-module _ (laws : Laws) (name : RiscVRelocation) (a : IsAfter name) (of : IsOfInstruction 4 a.row)
+module _ (groups : Groups) (name : RiscVRelocation) (a : IsAfter name) (of : IsOfInstruction 4 a.row)
     (is_row : riscv_row name ≡ Some a.row)
     (entries : riscv_entries name ≡ (entry kinds.BaseToTp name by_low_offset ∷ []))
     (adds : (section : _) (o : ℕ) → HasPattern name kinds.BaseToTp section o → riscv_matches kinds.BaseToTp section o)
@@ -109,10 +110,10 @@ module _ (laws : Laws) (name : RiscVRelocation) (a : IsAfter name) (of : IsOfIns
       (λ done. subst (λ k. IsMade (relaxation_rewrite k) o l.section l.rewritten) by.kind_is done) inside in (
         rewritten_after l rewritten i chosen below kinds.BaseToTp name by.kind_is by.code_is (λ o. refl) (λ a. refl) decided,
         subst (λ word. IsSomeAnd (by_word word) (LowPartDoesTheSameAnywhere l i)) (sym (word_same l.section o))
-            (mapped (λ action law x y one low h k differs original new small new_small alike base stores of_original of_new.
-            law x y one low original new of_original (subst (λ xs. Relocated (offset_row action) y xs new) made of_new)
-            h k differs small new_small alike base stores)
-            (action_at instruction 0) (laws.low_offsets instruction 0 matches)),
+            (mapped (λ action group x y c k k' s at one low base known old new keeps.
+            group c x y k k' s at one low base known old
+            (subst (λ xs. Has 4 c.new y.place (offset_row action) y xs) made new) keeps)
+            (action_at instruction 0) (groups.low_offsets instruction matches)),
       )
 
   pub low_parts_of : LowPartsOf name
@@ -136,36 +137,37 @@ module _ (laws : Laws) (name : RiscVRelocation) (a : IsAfter name) (of : IsOfIns
       let final_inside : o + 4 ≤ length l.final = omega (arith, inside, sl, ll, fl) in
       mapped (λ action law is_of.
       subst (λ q. IsSomeAnd q (LowPartDoesTheSame l i action)) (sym is_row)
-      (λ symbol is_symbol h k differs original low small new_small alike base stores of_original.
-      let x = operands_with RiscV l.addresses a.row symbol r 0 in
-      let written : IsApplied a.row x (instruction_at l.rewritten o) (instruction_at l.final o) =
+      (λ symbol is_symbol x c k k' s at one low base known old stands keeps.
+      let y = operands_with RiscV l.addresses a.row symbol r 0 in
+      let written : IsApplied a.row y (instruction_at l.rewritten o) (instruction_at l.final o) =
       applied_there l linked riscv i below name a after (any.0) left refl of symbol 0 (no_entry l.addresses after symbol) is_symbol in
-      let new : Relocated (offset_row action) x (instruction_at l.rewritten o) (instruction_at l.final o) =
+      let new : Relocated (offset_row action) y (instruction_at l.rewritten o) (instruction_at l.final o) =
       record {
-        applied = subst (λ q. IsSomeAnd q (λ row. IsApplied row x (instruction_at l.rewritten o) (instruction_at l.final o))) (sym (is_of ∙ is_row)) written;
+        applied = subst (λ q. IsSomeAnd q (λ row. IsApplied row y (instruction_at l.rewritten o) (instruction_at l.final o))) (sym (is_of ∙ is_row)) written;
         len = long_there l.final o final_inside ∙ sym (ap length made);
         old_bytes = subst AreBytes (sym made) (word_bytes (with_rs1 tp (from_le_bytes w32 instruction)));
         bytes = bytes_there l.final o linked.final_bytes;
       } in
-      law x x refl low h k differs original (instruction_at l.final o) small new_small alike base stores of_original new))
+      law x y c k k' s at one low base known old
+      (record { relocated = instruction_at l.final o; applied = new; stands = stands }) keeps))
       (action_at l.section o) (any.1)
 
-pub low_parts : Laws → LowParts
-low_parts laws = (
-  low_parts_of laws names.R_RISCV_TPREL_LO12_I low_i of_low_i refl refl (λ section o pattern. pattern) (λ addresses r symbol. refl),
-  low_parts_of laws names.R_RISCV_TPREL_LO12_S low_s of_low_s refl refl (λ section o pattern. (pattern.0, pattern.1.0)) (λ addresses r symbol. refl),
+pub low_parts : Groups → LowParts
+low_parts groups = (
+  low_parts_of groups names.R_RISCV_TPREL_LO12_I low_i of_low_i refl refl (λ section o pattern. pattern) (λ addresses r symbol. refl),
+  low_parts_of groups names.R_RISCV_TPREL_LO12_S low_s of_low_s refl refl (λ section o pattern. (pattern.0, pattern.1.0)) (λ addresses r symbol. refl),
 )
 
-pub low_parts_anywhere : Laws → LowPartsAnywhere
-low_parts_anywhere laws = (
-  anywhere_of laws names.R_RISCV_TPREL_LO12_I low_i of_low_i refl refl (λ section o pattern. pattern) (λ addresses r symbol. refl),
-  anywhere_of laws names.R_RISCV_TPREL_LO12_S low_s of_low_s refl refl (λ section o pattern. (pattern.0, pattern.1.0)) (λ addresses r symbol. refl),
+pub low_parts_anywhere : Groups → LowPartsAnywhere
+low_parts_anywhere groups = (
+  anywhere_of groups names.R_RISCV_TPREL_LO12_I low_i of_low_i refl refl (λ section o pattern. pattern) (λ addresses r symbol. refl),
+  anywhere_of groups names.R_RISCV_TPREL_LO12_S low_s of_low_s refl refl (λ section o pattern. (pattern.0, pattern.1.0)) (λ addresses r symbol. refl),
 )
 
 -- ---- what is deleted
 
-pub high_parts : Laws → HighParts
-high_parts laws l linked riscv i chosen below is_name decided =
+pub high_parts : Groups → HighParts
+high_parts groups l linked riscv i chosen below is_name decided =
     let o = (relocation_in l.relocations i).offset in
     let lui = instruction_at l.section o in
     let by : IsOfEntry names.R_RISCV_TPREL_HI20 (entry kinds.Delete names.R_RISCV_NONE by_low_offset) l.section o chosen =
@@ -175,12 +177,12 @@ high_parts laws l linked riscv i chosen below is_name decided =
     let long = long_there l.section o pattern.0 in
     let there : HasWord lui 0 IsLui = (omega (arith, long), subst IsLui (word_same l.section o) (pattern.1)) in (
       ap deleted_of decided ∙ ap relaxation_deleted by.kind_is,
-      λ symbol is_symbol h k differs original low small new_small alike of_original.
-          laws.high_offsets lui 0 there _ low original [] of_original h k differs small new_small alike,
+      λ symbol is_symbol c k s gone low has.
+          groups.high_offsets c _ k s lui gone (there.0, tt) there.1 low has,
     )
 
-pub sums : Laws → Sums
-sums laws l linked riscv i chosen below is_name decided =
+pub sums : Groups → Sums
+sums groups l linked riscv i chosen below is_name decided =
     let o = (relocation_in l.relocations i).offset in
     let add = instruction_at l.section o in
     let by : IsOfEntry names.R_RISCV_TPREL_ADD (entry kinds.Delete names.R_RISCV_NONE by_low_offset) l.section o chosen =
@@ -190,6 +192,5 @@ sums laws l linked riscv i chosen below is_name decided =
     let long = long_there l.section o pattern.0 in
     let there : HasWord add 0 IsAddTp = (omega (arith, long), subst IsAddTp (word_same l.section o) (pattern.1)) in (
       ap deleted_of decided ∙ ap relaxation_deleted by.kind_is,
-      λ h k differs small new_small alike tp_same wide zero_there.
-          laws.sums add 0 there [] differs h k small new_small alike tp_same wide zero_there,
+      λ c k s gone none wide stands. groups.sums c k s add gone there.1 none wide stands,
     )

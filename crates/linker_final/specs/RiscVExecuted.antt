@@ -5,7 +5,7 @@ use Rattle.std.specs.Prelude.{ℕ, ◌≡◌, ◌+◌, ◌-◌, ◌%◌, ◌^◌
 use Rattle.std.specs.Prelude.{Bool, true, false, Option, Some, None}
 use Rattle.std.specs.Int.{w32, to_le_bytes}
 use Rattle.std.specs.List.{list_all}
-use Rattle.linker_laws.specs.RiscVMachine.{Hart, Instruction, register, fetched, executed}
+use Rattle.linker_laws.specs.RiscVMachine.{Hart, register, step}
 use Rattle.linker_output.specs.RiscVLazyPlt.{further}
 use Rattle.linker_final.specs.Steps.{Executed, Group, Numbers, at, pc, made_high, before, memory_in}
 use Rattle.linker_final.specs.Steps.{bytes_from, is_left}
@@ -40,9 +40,9 @@ is_some_hart e None = false
 is_some_hart e (Some h) = is_hart e h
 
 -- an instruction of `linker_laws`, or a further one
-abbrev pub ends_so : Executed → Option (ℕ × Instruction) → Bool
+abbrev pub ends_so : Executed → Option Hart → Bool
 ends_so e None = is_some_hart e (further e.code (begun e))
-ends_so e (Some i) = is_hart e (executed i.0 i.1 (begun e))
+ends_so e (Some h) = is_hart e h
 
 abbrev pub bytes_of : ℕ → List ℕ
 bytes_of code = take (length_of code) (to_le_bytes w32 code)
@@ -50,5 +50,5 @@ bytes_of code = take (length_of code) (to_le_bytes w32 code)
 -- Each instruction leaves what the emulator did.
 abbrev pub Agrees : Type 0
 Agrees =
-    list_all (λ (g : Group). list_all (λ e. ends_so e (fetched (bytes_of e.code))) g.rows)
+    list_all (λ (g : Group). list_all (λ e. ends_so e (step (bytes_of e.code) (begun e))) g.rows)
     riscv_groups ≡ true

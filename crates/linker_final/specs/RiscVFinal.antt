@@ -1,8 +1,9 @@
--- RISC-V: in the final bytes of a section rewritten instructions do what the object's do with the
--- values of their relocations (RISC-V ELF psABI, "PC-Relative Symbol Addresses", "Local-Exec TLS
--- Relaxation", "TLS Descriptors -> Local Exec Relaxation").
-use Rattle.std.specs.Prelude.{◌≡◌, ◌≢◌, ℕ, ◌+◌, ◌<◌, ◌^◌, ◌==◌, Bool, false, List, [], ◌++◌}
-use Rattle.std.specs.Prelude.{Some, Option, IsSomeAnd, slice_get, true, ⊤}
+-- RISC-V: rewritten instructions are groups of the simulation. Old has the object's, with the
+-- values
+-- of their relocations, and new the final bytes of a section (RISC-V ELF psABI, "PC-Relative Symbol
+-- Addresses", "Local-Exec TLS Relaxation", "TLS Descriptors -> Local Exec Relaxation").
+use Rattle.std.specs.Prelude.{◌≡◌, ◌≢◌, ℕ, ◌+◌, ◌<◌, ◌^◌, List}
+use Rattle.std.specs.Prelude.{Some, IsSomeAnd, slice_get, true}
 use Rattle.linker_elf.specs.ElfNames.{IsNameOf, code_of}
 use Rattle.linker_elf.specs.RiscVRelocations.{riscv_name, riscv_row}
 use Rattle.linker_elf.specs.Value.{sum_64, difference_64}
@@ -13,23 +14,29 @@ use Rattle.linker_elf.specs.declared.riscv64.relocations.RiscVRelocation.{RiscVR
 use Rattle.linker_elf.specs.declared.riscv64.relocations.RiscVRelocation.TheVariants as names
 use Rattle.linker_final.specs.Final.{IsRewrittenByNoOther, IsWrittenByNoOther}
 use Rattle.linker_final.specs.Final.{instruction_at}
-use Rattle.linker_final.specs.Final.{UntouchedInstructions, AreRewritten, UntouchedInstruction, Linked, IsLinked}
+use Rattle.linker_final.specs.Final.{UntouchedInstructions, AreRewritten, UntouchedInstruction}
+use Rattle.linker_final.specs.Final.{Linked, IsLinked}
 use Rattle.linker_final.specs.Final.{count}
-use Rattle.linker_laws.specs.Machine.{Relocated, but, loaded}
-use Rattle.linker_laws.specs.RiscVMachine.{Action, Hart, register, rs1_of, rs2_of}
-use Rattle.linker_laws.specs.RiscVRewriteLaws.{AreAlike, Changes, Descriptor, DescriptorOf}
-use Rattle.linker_laws.specs.RiscVRewriteLaws.{EndAsReturned, EndSo, GoOn, HasThreadPointer}
-use Rattle.linker_laws.specs.RiscVRewriteLaws.{HasZero, HaveAddress, HaveGoneOn, HaveOneOffset}
-use Rattle.linker_laws.specs.RiscVRewriteLaws.{IsLowOffset, StoresTheSame, action_at}
-use Rattle.linker_laws.specs.RiscVRewriteLaws.{differs_after, even_in_thread, no_register}
-use Rattle.linker_laws.specs.RiscVRewriteLaws.{of_entry, offset_row, scratch_of, word_of}
+use Rattle.linker_laws.specs.Machine.{loaded}
+use Rattle.linker_laws.specs.RiscVMachine.{Action, register, rs1_of}
+use Rattle.linker_laws.specs.RiscVRewriteLaws.{HaveOneOffset}
+use Rattle.linker_laws.specs.RiscVRewriteLaws.{IsLowOffset, action_at}
+use Rattle.linker_laws.specs.RiscVRewriteLaws.{of_entry, offset_row, word_of}
+use Rattle.linker_laws.specs.RiscVGroups.{AreBefore, AreDeleted, AreNops, Code, Descriptor, Has}
+use Rattle.linker_laws.specs.RiscVGroups.{Stands}
+use Rattle.linker_laws.specs.RiscVGroups.{link, seen, upper_from, uses}
+use Rattle.linker_laws.specs.RiscVRewriteLaws.{after_rewrite, thread_offset}
+use Rattle.linker_laws.specs.Changes.{put, with_register}
+use Rattle.linker_laws.specs.Simulation.{Agree, AreOf, Group, Kind, Kinds, State, anything, of_link}
+use Rattle.linker_laws.specs.Simulation.{same}
 use Rattle.linker_laws.specs.Schemes.{AreAddresses, entry_and_addend, symbol_address}
 use Rattle.linker_rewriting.specs.Decisions.{decision_at, deleted_of}
 use Rattle.linker_rewriting.specs.RiscVPcrelGroups.{IsHighIn}
-use Rattle.linker_rewriting.specs.declared.decisions.Decision.TheVariants.{RewrittenWithSymbol, Rewritten}
+use Rattle.linker_rewriting.specs.declared.decisions.Decision.TheVariants.{RewrittenWithSymbol}
+use Rattle.linker_rewriting.specs.declared.decisions.Decision.TheVariants.{Rewritten}
 use Rattle.linker_rewriting.specs.declared.decisions.Subject.{Subject}
 use Rattle.linker_riscv64.specs.RiscVFields.{rd_of}
-use Rattle.linker_utils.specs.RiscVRewrites.{deleted_from, tp}
+use Rattle.linker_utils.specs.RiscVRewrites.{deleted_from, riscv_matches, tp}
 use Rattle.linker_utils.specs.declared.riscv64.rewrites.RelaxationKind.{RelaxationKind}
 use Rattle.linker_utils.specs.declared.riscv64.rewrites.RelaxationKind.TheVariants as kinds
 use Rattle.linker_section.specs.Relocations.{relocation_in}
@@ -63,50 +70,57 @@ pub record AreOfLoad (l : Linked) (i j : ℕ) : Type 0 where
   pub labels : difference_64 label.address l.addresses.section
       ≡ (relocation_in l.relocations i).offset
 
--- Two harts are alike before the `auipc` of a relocation at an index, and the entry at an address
--- holds S + A. One runs the object's pair with the values of its relocations, and the other the
--- final bytes. They end alike, but for the register of the `auipc`, unless the `ld` writes it. The
--- `ld` is over that register, which isn't x0.
+-- The pair is a group, with what new has. The entry holds S + A, and both addresses are of a kind.
+-- The
+-- `ld` is over the register of the `auipc`, which isn't x0.
+abbrev pub LoadIsAlike : List ℕ → List ℕ → (Code → Type 0) → Operands → Operands → Type 0
+LoadIsAlike auipc ld NewHas x y =
+    let base = rd_of (word_of auipc) in
+    let rd = rd_of (word_of ld) in
+    rs1_of (word_of ld) ≡ base → base ≢ 0
+    → (c : Code) (k : Kinds) (kind : Kind) (s : State) → AreAddresses x → AreAddresses y
+    → AreBefore c 8 8 x y s → loaded 8 s.memory (entry_and_addend x) ≡ symbol_address x
+    → AreOf (link c) 8 kind (symbol_address x) (symbol_address y)
+    → (old : Has 4 c.old x.place (riscv_row names.R_RISCV_GOT_HI20) x auipc)
+    → Has 4 c.old (sum_64 x.place 4) (riscv_row names.R_RISCV_PCREL_LO12_I) (of_entry x) ld
+    → NewHas c
+    → Group (of_link (link c)) 2 k s (with_register rd kind (with_register base anything k))
+    (put rd (symbol_address x) (sum_64 x.place 8)
+    (put base (upper_from x.place old.relocated) (sum_64 x.place 4) s))
+
+-- New has the final bytes.
 abbrev pub LoadsTheSame : Linked → ℕ → RelocationKindInfo → Type 0
 LoadsTheSame l i row =
     let r = relocation_in l.relocations i in
-    let auipc = instruction_at l.section r.offset in
-    let ld = instruction_at l.section (r.offset + 4) in
-    let base = rd_of (word_of auipc) in
-    rs1_of (word_of ld) ≡ base → base ≢ 0
-    → (symbol : Symbol) → slice_get l.symbols r.symbol ≡ Some symbol
-    → (entry : ℕ) (h k : Hart) (auipc_of ld_of : List ℕ)
-    → let operands = operands_with RiscV l.addresses row symbol r entry in
-    AreAddresses operands
-    → loaded 8 h.memory (entry_and_addend operands) ≡ symbol_address operands
-    → h.pc ≡ operands.place → k.pc ≡ operands.place → AreAlike no_register h k
-    → Relocated (riscv_row names.R_RISCV_GOT_HI20) operands auipc auipc_of
-    → Relocated (riscv_row names.R_RISCV_PCREL_LO12_I) (of_entry operands) ld ld_of
-    → EndSo 2 (auipc_of ++ ld_of) h 2
-    (instruction_at l.final r.offset ++ instruction_at l.final (r.offset + 4)) k
-    (HaveGoneOn (but (rd_of (word_of ld)) (λ n. n == base)) (sum_64 operands.place 8)
-    (sum_64 operands.place 8))
+    let o = r.offset in
+    (symbol : Symbol) → slice_get l.symbols r.symbol ≡ Some symbol → (x : Operands)
+    → let y = operands_with RiscV l.addresses row symbol r 0 in
+    LoadIsAlike (instruction_at l.section o) (instruction_at l.section (o + 4))
+    (λ c. Stands 4 c.new y.place (instruction_at l.final o)
+    × Stands 4 c.new (sum_64 y.place 4) (instruction_at l.final (o + 4))) x y
 
 -- ---- low parts of offsets from the thread pointer
 
--- An instruction that adds the low part of an offset to a register, which has the thread pointer's
--- number. The offset is a number of 12 bits. Two harts are alike but for some registers, each at
--- its own place. One executes the object's with the value of its relocation, and the other the
--- final bytes, and both compute the same.
+-- An instruction adds the low part of an offset x, a number of 12 bits, to a register with the
+-- thread
+-- pointer's number. It is a group, with what new has. What it does with the sum keeps agreement.
+abbrev pub LowPartIsAlike : Action → List ℕ → (Code → Type 0) → Operands → Operands → Type 0
+LowPartIsAlike action low NewHas x y =
+    (c : Code) (k k' : Kinds) (s : State) → AreBefore c 4 4 x y s → HaveOneOffset x y
+    → IsLowOffset x → register (seen s) (rs1_of (word_of low)) ≡ s.registers tp
+    → k.registers tp ≡ same → Has 4 c.old x.place (offset_row action) x low → NewHas c
+    → let after = uses action (word_of low) (sum_64 (s.registers tp) (thread_offset x)) in
+    ((t : State) → Agree (link c) k s t → Agree (link c) k' (after s) (after t))
+    → Group (of_link (link c)) 1 k s k' (after s)
+
+-- New has the final bytes.
 abbrev pub LowPartDoesTheSame : Linked → ℕ → Action → RelocationKindInfo → Type 0
 LowPartDoesTheSame l i action row =
     let r = relocation_in l.relocations i in
-    let word = word_of (instruction_at l.section r.offset) in
-    (symbol : Symbol) → slice_get l.symbols r.symbol ≡ Some symbol
-    → (h k : Hart) (differs : ℕ → Bool) (original : List ℕ)
-    → let operands = operands_with RiscV l.addresses row symbol r 0 in
-    IsLowOffset operands → h.pc < 2 ^ 64 → k.pc < 2 ^ 64 → AreAlike differs h k
-    → register h (rs1_of word) ≡ register k tp → StoresTheSame action (rs2_of word) h k
-    → Relocated (offset_row action) operands (instruction_at l.section r.offset) original
-    → EndSo 1 original h 1 (instruction_at l.final r.offset) k (λ a b.
-    AreAlike (differs_after action differs (rd_of word)) a b
-    × GoOn action (rd_of word) (even_in_thread (register k tp) operands) (sum_64 h.pc 4)
-    (sum_64 k.pc 4) a b)
+    (symbol : Symbol) → slice_get l.symbols r.symbol ≡ Some symbol → (x : Operands)
+    → let y = operands_with RiscV l.addresses row symbol r 0 in
+    LowPartIsAlike action (instruction_at l.section r.offset)
+    (λ c. Stands 4 c.new y.place (instruction_at l.final r.offset)) x y
 
 -- In the context by which rewrites were chosen, the offset of a thread-local symbol is a number of
 -- 12 bits.
@@ -123,33 +137,30 @@ OffsetIsLow l i row =
 abbrev pub IsDeleted : Linked → ℕ → Type 0
 IsDeleted l i = deleted_of (decision_at l.decisions i) ≡ deleted_from 0 4
 
--- A `lui` is deleted. One hart executes the object's with the value of its relocation, a number of
--- 12 bits, and the other nothing. They were alike but for some registers, and are but for that of
--- the `lui` too, where the first has 0.
+-- A `lui` of a number of 12 bits is deleted, which is a group.
 abbrev pub HighPartGoes : Linked → ℕ → RelocationKindInfo → Type 0
 HighPartGoes l i row =
     let r = relocation_in l.relocations i in
     let lui = instruction_at l.section r.offset in
+    let rd = rd_of (word_of lui) in
     IsDeleted l i
     × ((symbol : Symbol) → slice_get l.symbols r.symbol ≡ Some symbol
-    → (h k : Hart) (differs : ℕ → Bool) (original : List ℕ)
     → let operands = operands_with RiscV l.addresses row symbol r 0 in
-    IsLowOffset operands → h.pc < 2 ^ 64 → k.pc < 2 ^ 64 → AreAlike differs h k
-    → Relocated (riscv_row names.R_RISCV_TPREL_HI20) operands lui original
-    → EndSo 1 original h 0 [] k (λ a b.
-    HasZero differs (rd_of (word_of lui)) (sum_64 h.pc 4) a b × (b.pc ≡ k.pc)))
+    (c : Code) (k : Kinds) (s : State) → AreDeleted c 4 s → IsLowOffset operands
+    → Has 4 c.old s.pc (riscv_row names.R_RISCV_TPREL_HI20) operands lui
+    → Group (of_link (link c)) 0 k s (with_register rd anything k) (put rd 0 (s.pc + 4) s))
 
--- So is an `add` of the thread pointer. It adds to 0, and then the first has the thread pointer's
--- number in its register.
+-- So is an `add` of the thread pointer to a register with 0.
 abbrev pub SumGoes : Linked → ℕ → Type 0
 SumGoes l i =
     let add = instruction_at l.section (relocation_in l.relocations i).offset in
+    let rd = rd_of (word_of add) in
     IsDeleted l i
-    × ((h k : Hart) (differs : ℕ → Bool) → h.pc < 2 ^ 64 → k.pc < 2 ^ 64 → AreAlike differs h k
-    → differs tp ≡ false → register k tp < 2 ^ 64 → register h (rs1_of (word_of add)) ≡ 0
-    → EndSo 1 add h 0 [] k (λ a b.
-    HasThreadPointer differs (rd_of (word_of add)) (register k tp) (sum_64 h.pc 4) a b
-    × (b.pc ≡ k.pc) × (register b tp ≡ register k tp)))
+    × ((c : Code) (k : Kinds) (s : State) → AreDeleted c 4 s
+    → register (seen s) (rs1_of (word_of add)) ≡ 0 → s.registers tp < 2 ^ 64
+    → Stands 4 c.old s.pc add
+    → Group (of_link (link c)) 0 k s (with_register rd anything k)
+    (put rd (s.registers tp) (s.pc + 4) s))
 
 -- ---- TLS descriptors
 
@@ -168,47 +179,32 @@ pub record IsOfDescriptor (l : Linked) (high : ℕ) (name : RiscVRelocation) (di
   pub decided : decision_at l.decisions n ≡ RewrittenWithSymbol chosen subject
   pub kind_is : chosen.kind ≡ relaxations.RiscV kind
 
--- The object's sequence of a TLS descriptor, from the offset of its high part on, runs to the call
--- with the values of its relocations.
-abbrev pub RunsToCall : Linked → ℕ → (Hart → Option Hart) → Changes → Operands → Hart
-    → List ℕ → List ℕ → List ℕ → Type 0
-RunsToCall l o call c x h auipc_of ld_of addi_of =
-    let auipc = instruction_at l.section o in
-    let ld = instruction_at l.section (o + 4) in
-    let addi = instruction_at l.section (o + 8) in
-    let jalr = instruction_at l.section (o + 12) in
-    Descriptor call c x h auipc ld addi jalr × DescriptorOf x auipc ld addi auipc_of ld_of addi_of
+-- The object's sequence, whose high part is at an offset, is a group. New has n nops where the
+-- first
+-- instructions were, and then m others from an address on.
+abbrev pub OffsetIsAlike : Linked → ℕ → ℕ → (Code → ℕ → Type 0) → Operands → Operands → Type 0
+OffsetIsAlike l o m NewHas x y =
+    (c : Code) (n at : ℕ) (k k' : Kinds) (s s' : State)
+    → Descriptor c x (thread_offset x) k s k' s' (instruction_at l.section o)
+    (instruction_at l.section (o + 4)) (instruction_at l.section (o + 8))
+    (instruction_at l.section (o + 12))
+    → HaveOneOffset x y → AreNops c n m x at → NewHas c at
+    → Group (of_link (link c)) (n + m) k s k' s'
 
--- n instructions of new code end as the function returns to it
-abbrev pub EndsAsReturned : Linked → ℕ → (Hart → Option Hart) → Changes → Hart → List ℕ → List ℕ
-    → List ℕ → ℕ → List ℕ → Hart → Type 0
-EndsAsReturned l o call c h auipc_of ld_of addi_of n new k =
-    EndAsReturned call
-    (scratch_of (instruction_at l.section o) (instruction_at l.section (o + 4)) c)
-    (auipc_of ++ ld_of ++ addi_of ++ instruction_at l.section (o + 12)) h n new k
-
--- Two harts are alike, one before the sequence whose high part is at an index, and one wherever its
--- last instructions are. The first runs the object's sequence with the values of its relocations to
--- the call. The second runs n instructions of the final bytes, which are some distance after
--- the high part, and ends as the function returns to the first. What is said of the operands holds.
-abbrev pub OffsetIsTheSame : ℕ → (ℕ → List ℕ) → (Operands → Type 0) → Linked → ℕ
+-- New's are some final bytes, by the offset. What is said of the operands holds.
+abbrev pub OffsetIsTheSame : ℕ → (ℕ → Code → ℕ → Type 0) → (Operands → Type 0) → Linked → ℕ
     → RelocationKindInfo → Type 0
-OffsetIsTheSame n following Said l high row =
+OffsetIsTheSame m NewHas Said l high row =
     let r = relocation_in l.relocations high in
-    (symbol : Symbol) → slice_get l.symbols r.symbol ≡ Some symbol
-    → (call : Hart → Option Hart) (c : Changes) (entry : ℕ) (h k : Hart)
-    → (auipc_of ld_of addi_of : List ℕ)
-    → let operands = operands_with RiscV l.addresses row symbol r entry in
-    Said operands → RunsToCall l r.offset call c operands h auipc_of ld_of addi_of
-    → k.pc < 2 ^ 64 → AreAlike no_register h k
-    → EndsAsReturned l r.offset call c h auipc_of ld_of addi_of n (following r.offset) k
+    (symbol : Symbol) → slice_get l.symbols r.symbol ≡ Some symbol → (x : Operands)
+    → let y = operands_with RiscV l.addresses row symbol r 0 in
+    Said y → OffsetIsAlike l r.offset m (NewHas r.offset) x y
 
--- The final bytes of an instruction of a descriptor, which became a nop, change nothing but the pc.
-abbrev pub DoesNothing : Linked → ℕ → Type 0
-DoesNothing l i =
-    let o = (relocation_in l.relocations i).offset in
-    (h k : Hart) (differs : ℕ → Bool) → h.pc < 2 ^ 64 → AreAlike differs h k
-    → EndSo 1 (instruction_at l.final o) h 0 [] k (HaveGoneOn differs (sum_64 h.pc 4) k.pc)
+-- The bytes of an instruction that became a nop of four bytes are one.
+abbrev pub IsNop : List ℕ → List ℕ → Type 0
+IsNop before nop =
+    riscv_matches kinds.ReplaceWithLongNop before 0
+    × (nop ≡ after_rewrite kinds.ReplaceWithLongNop before 0)
 
 -- ---- wherever the section goes before its values are written
 
@@ -222,66 +218,43 @@ named_as name r subject =
       addend = subject.addend;
     }
 
--- Where the entry holds S + A, the object's `auipc` and `ld` with the values of their relocations
--- leave it in the register of the `ld`. The rewritten ones with the values of theirs leave S + A
--- there, each of its own layout. Of other registers only that of the `auipc` may differ.
+-- New has the rewritten instructions with the values of theirs.
 abbrev pub LoadsTheSameAnywhere : Linked → ℕ → Type 0
 LoadsTheSameAnywhere l i =
     let o = (relocation_in l.relocations i).offset in
-    let auipc = instruction_at l.section o in
-    let ld = instruction_at l.section (o + 4) in
-    let base = rd_of (word_of auipc) in
-    rs1_of (word_of ld) ≡ base → base ≢ 0
-    → (x y : Operands) → AreAddresses x → AreAddresses y
-    → (h k : Hart) (auipc_of ld_of high low : List ℕ)
-    → loaded 8 h.memory (entry_and_addend x) ≡ symbol_address x
-    → h.pc ≡ x.place → k.pc ≡ y.place → AreAlike no_register h k
-    → Relocated (riscv_row names.R_RISCV_GOT_HI20) x auipc auipc_of
-    → Relocated (riscv_row names.R_RISCV_PCREL_LO12_I) (of_entry x) ld ld_of
-    → Relocated (riscv_row names.R_RISCV_PCREL_HI20) y (instruction_at l.rewritten o) high
-    → Relocated (riscv_row names.R_RISCV_PCREL_LO12_I) y (instruction_at l.rewritten (o + 4)) low
-    → EndSo 2 (auipc_of ++ ld_of) h 2 (high ++ low) k
-    (HaveAddress base (rd_of (word_of ld)) (symbol_address x) (symbol_address y) (sum_64 h.pc 8)
-    (sum_64 k.pc 8))
+    (x y : Operands)
+    → LoadIsAlike (instruction_at l.section o) (instruction_at l.section (o + 4))
+    (λ c. Has 4 c.new y.place (riscv_row names.R_RISCV_PCREL_HI20) y (instruction_at l.rewritten o)
+    × Has 4 c.new (sum_64 y.place 4) (riscv_row names.R_RISCV_PCREL_LO12_I) y
+    (instruction_at l.rewritten (o + 4))) x y
 
--- The relocation of a low part stays. From a base with the thread pointer's number, the object's
--- instruction with the value of its relocation computes what the rewritten one does with the value
--- of the same offset, each at its own place.
+-- The relocation of a low part stays, and new has the rewritten instruction with its value.
 abbrev pub LowPartDoesTheSameAnywhere : Linked → ℕ → Action → Type 0
 LowPartDoesTheSameAnywhere l i action =
     let o = (relocation_in l.relocations i).offset in
-    let word = word_of (instruction_at l.section o) in
-    (x y : Operands) → HaveOneOffset x y → IsLowOffset x
-    → (h k : Hart) (differs : ℕ → Bool) (original new : List ℕ)
-    → h.pc < 2 ^ 64 → k.pc < 2 ^ 64 → AreAlike differs h k
-    → register h (rs1_of word) ≡ register k tp → StoresTheSame action (rs2_of word) h k
-    → Relocated (offset_row action) x (instruction_at l.section o) original
-    → Relocated (offset_row action) y (instruction_at l.rewritten o) new
-    → EndSo 1 original h 1 new k (λ a b. AreAlike (differs_after action differs (rd_of word)) a b
-    × GoOn action (rd_of word) (even_in_thread (register k tp) x) (sum_64 h.pc 4) (sum_64 k.pc 4)
-    a b)
+    (x y : Operands)
+    → LowPartIsAlike action (instruction_at l.section o)
+    (λ c. Has 4 c.new y.place (offset_row action) y (instruction_at l.rewritten o)) x y
 
--- The rewritten `addi` and `jalr` of a descriptor, with the values of their relocations, leave what
--- the object's sequence does. So does the `jalr` alone, where the offset is a number of 12 bits.
+-- New has the rewritten `addi` and `jalr` of a descriptor with the values of their relocations, or
+-- the
+-- `jalr` alone, where the offset is a number of 12 bits.
 abbrev pub OffsetIsTheSameAnywhere : Linked → ℕ → Type 0
 OffsetIsTheSameAnywhere l high =
     let o = (relocation_in l.relocations high).offset in
-    (x y : Operands) → HaveOneOffset x y → AreAddresses y
-    → (call : Hart → Option Hart) (c : Changes) (h k : Hart)
-    → (auipc_of ld_of addi_of lui low : List ℕ)
-    → RunsToCall l o call c x h auipc_of ld_of addi_of → k.pc < 2 ^ 64 → AreAlike no_register h k
-    → Relocated (riscv_row names.R_RISCV_TPREL_HI20) y (instruction_at l.rewritten (o + 8)) lui
-    → Relocated (riscv_row names.R_RISCV_TPREL_LO12_I) y (instruction_at l.rewritten (o + 12)) low
-    → EndsAsReturned l o call c h auipc_of ld_of addi_of 2 (lui ++ low) k
+    (x y : Operands) → AreAddresses y
+    → OffsetIsAlike l o 2 (λ c at.
+    Has 4 c.new at (riscv_row names.R_RISCV_TPREL_HI20) y (instruction_at l.rewritten (o + 8))
+    × Has 4 c.new (sum_64 at 4) (riscv_row names.R_RISCV_TPREL_LO12_I) y
+    (instruction_at l.rewritten (o + 12))) x y
 
 abbrev pub ShortOffsetIsTheSameAnywhere : Linked → ℕ → Type 0
 ShortOffsetIsTheSameAnywhere l high =
     let o = (relocation_in l.relocations high).offset in
-    (x y : Operands) → HaveOneOffset x y → IsLowOffset y
-    → (call : Hart → Option Hart) (c : Changes) (h k : Hart) (auipc_of ld_of addi_of low : List ℕ)
-    → RunsToCall l o call c x h auipc_of ld_of addi_of → k.pc < 2 ^ 64 → AreAlike no_register h k
-    → Relocated (riscv_row names.R_RISCV_TPREL_LO12_I) y (instruction_at l.rewritten (o + 12)) low
-    → EndsAsReturned l o call c h auipc_of ld_of addi_of 1 low k
+    (x y : Operands) → IsLowOffset y
+    → OffsetIsAlike l o 1 (λ c at.
+    Has 4 c.new at (riscv_row names.R_RISCV_TPREL_LO12_I) y (instruction_at l.rewritten (o + 12)))
+    x y
 
 -- ---- the laws
 
@@ -292,7 +265,7 @@ GotLoads =
     (l : Linked) → IsLinked l → l.context.architecture ≡ RiscV
     → (i j : ℕ) → AreOfLoad l i j → UntouchedInstructions l i j
     → IsRewrittenByNoOther l i (relocation_in l.relocations i).offset
-    → IsSomeAnd (riscv_row names.R_RISCV_GOT_HI20) (LoadsTheSame l i)
+    → IsSomeAnd (riscv_row names.R_RISCV_PCREL_HI20) (LoadsTheSame l i)
 
 -- of every low part with a relocation of a name whose instruction is rewritten, and is one that the
 -- relocation is of: a store with that of stores. Later phases leave it alone.
@@ -334,14 +307,15 @@ Descriptors =
     → IsOfDescriptor l high names.R_RISCV_TLSDESC_ADD_LO12 8 kinds.AddiToLui add
     → IsOfDescriptor l high names.R_RISCV_TLSDESC_CALL 12 kinds.CallToAddi call → UntouchedInstructions l add call
     → IsSomeAnd (riscv_row names.R_RISCV_TPREL_LO12_I) (OffsetIsTheSame 2
-    (λ o. instruction_at l.final (o + 8) ++ instruction_at l.final (o + 12)) (λ _. ⊤) l high)
+    (λ o c at. Stands 4 c.new at (instruction_at l.final (o + 8))
+    × Stands 4 c.new (sum_64 at 4) (instruction_at l.final (o + 12))) AreAddresses l high)
 
 abbrev pub ShortDescriptors : Type 0
 ShortDescriptors =
     (l : Linked) → IsLinked l → l.context.architecture ≡ RiscV → (high call : ℕ)
     → IsOfDescriptor l high names.R_RISCV_TLSDESC_CALL 12 kinds.CallToAddiZero call
     → UntouchedInstruction l call → IsSomeAnd (riscv_row names.R_RISCV_TPREL_LO12_I) (OffsetIsTheSame 1
-    (λ o. instruction_at l.final (o + 12)) IsLowOffset l high)
+    (λ o c at. Stands 4 c.new at (instruction_at l.final (o + 12))) IsLowOffset l high)
 
 -- of every instruction of a descriptor that became a nop, which later phases leave alone, where no
 -- other relocation has a field in it
@@ -352,8 +326,8 @@ NopsOf name =
     → IsNameOf riscv_name (relocation_in l.relocations i).code name
     → decision_at l.decisions i ≡ RewrittenWithSymbol chosen subject
     → chosen.kind ≡ relaxations.RiscV kinds.ReplaceWithLongNop → UntouchedInstruction l i
-    → IsWrittenByNoOther l i (relocation_in l.relocations i).offset
-    → DoesNothing l i
+    → let o = (relocation_in l.relocations i).offset in
+    IsWrittenByNoOther l i o → IsNop (instruction_at l.section o) (instruction_at l.final o)
 
 abbrev pub Nops : Type 0
 Nops =

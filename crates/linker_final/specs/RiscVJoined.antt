@@ -1,7 +1,7 @@
 -- RISC-V: in the final bytes of a section that was rewritten and then packed, rewritten
 -- instructions do what the object's do with the values of their relocations.
-use Rattle.std.specs.Prelude.{◌≡◌, ◌≢◌, ℕ, ◌+◌, ◌<◌, ◌^◌, Bool, List, ◌++◌, Some, IsSomeAnd}
-use Rattle.std.specs.Prelude.{[], Option, slice_get}
+use Rattle.std.specs.Prelude.{◌≡◌, ℕ, ◌+◌, ◌<◌, Some, IsSomeAnd}
+use Rattle.std.specs.Prelude.{slice_get}
 use Rattle.linker_elf.specs.ElfNames.{IsNameOf}
 use Rattle.linker_elf.specs.RiscVRelocations.{riscv_name, riscv_row}
 use Rattle.linker_elf.specs.Value.{sum_64, difference_64}
@@ -10,24 +10,23 @@ use Rattle.linker_elf.specs.declared.elf.choice.Choice.{Choice}
 use Rattle.linker_elf.specs.declared.elf.value.Operands.{Operands}
 use Rattle.linker_elf.specs.declared.riscv64.relocations.RiscVRelocation.{RiscVRelocation}
 use Rattle.linker_elf.specs.declared.riscv64.relocations.RiscVRelocation.TheVariants as names
-use Rattle.linker_final.specs.Final.{UntouchedInstructions, UntouchedInstruction, IsRewrittenByNoOther, Linked}
+use Rattle.linker_final.specs.Final.{UntouchedInstructions, UntouchedInstruction}
+use Rattle.linker_final.specs.Final.{IsRewrittenByNoOther, Linked}
 use Rattle.linker_final.specs.Final.{count, instruction_at}
 use Rattle.linker_final.specs.Joined.{IsRewrittenAndPacked, IsKeptInstruction, final_instruction}
 use Rattle.linker_final.specs.Packed.{Packed, IsUnwritten, StayTogether, place_of}
-use Rattle.linker_final.specs.RiscVFinal.{AreOfPair, EndsAsReturned, IsOfDescriptor, RunsToCall}
-use Rattle.linker_laws.specs.Machine.{Relocated, loaded}
-use Rattle.linker_laws.specs.RiscVMachine.{Action, Hart, register, rs1_of, rs2_of}
-use Rattle.linker_laws.specs.RiscVRewriteLaws.{AreAlike, Changes, EndSo, GoOn, HaveAddress}
-use Rattle.linker_laws.specs.RiscVRewriteLaws.{HaveGoneOn, HaveOneOffset, IsLowOffset}
-use Rattle.linker_laws.specs.RiscVRewriteLaws.{no_register, of_entry}
-use Rattle.linker_laws.specs.RiscVRewriteLaws.{StoresTheSame, action_at, differs_after}
-use Rattle.linker_laws.specs.RiscVRewriteLaws.{even_in_thread, offset_row, word_of}
-use Rattle.linker_laws.specs.Schemes.{AreAddresses, entry_and_addend, symbol_address}
+use Rattle.linker_final.specs.RiscVFinal.{AreOfPair, IsOfDescriptor}
+use Rattle.linker_final.specs.RiscVFinal.{IsNop, LoadIsAlike, LowPartIsAlike, OffsetIsAlike}
+use Rattle.linker_laws.specs.RiscVGroups.{Stands}
+use Rattle.linker_laws.specs.RiscVMachine.{Action}
+use Rattle.linker_laws.specs.RiscVRewriteLaws.{IsLowOffset}
+use Rattle.linker_laws.specs.RiscVRewriteLaws.{action_at}
+use Rattle.linker_laws.specs.RiscVRewriteLaws.{offset_row}
+use Rattle.linker_laws.specs.Schemes.{AreAddresses}
 use Rattle.linker_rewriting.specs.Decisions.{decision_at}
-use Rattle.linker_rewriting.specs.declared.decisions.Decision.TheVariants.{RewrittenWithSymbol, Rewritten}
+use Rattle.linker_rewriting.specs.declared.decisions.Decision.TheVariants.{RewrittenWithSymbol}
+use Rattle.linker_rewriting.specs.declared.decisions.Decision.TheVariants.{Rewritten}
 use Rattle.linker_rewriting.specs.declared.decisions.Subject.{Subject}
-use Rattle.linker_riscv64.specs.RiscVFields.{rd_of}
-use Rattle.linker_utils.specs.RiscVRewrites.{tp}
 use Rattle.linker_utils.specs.declared.riscv64.rewrites.RelaxationKind.TheVariants as kinds
 use Rattle.linker_runs.specs.declared.packing.Machine.TheVariants.{RiscV64}
 use Rattle.linker_section.specs.Relocations.{relocation_in}
@@ -55,87 +54,55 @@ pub record AreOfFinalLoad (l : Linked) (p : Packed) (i j : ℕ) : Type 0 where
   pub labels : difference_64 label.address p.addresses.section
       ≡ (relocation_in p.relocations_after i).offset
 
--- Where the entry holds S + A, the object's `auipc` and `ld` with the values of their relocations
--- leave it in the register of the `ld`. The final bytes leave S + A of the final layout there. Of
--- other registers only that of the `auipc` may differ.
+-- New has the final bytes.
 abbrev pub FinalBytesLoadTheSame : Linked → Packed → ℕ → RelocationKindInfo → Type 0
 FinalBytesLoadTheSame l p i row =
     let o = (relocation_in l.relocations i).offset in
-    let auipc = instruction_at l.section o in
-    let ld = instruction_at l.section (o + 4) in
-    let base = rd_of (word_of auipc) in
-    rs1_of (word_of ld) ≡ base → base ≢ 0
-    → (symbol : Symbol)
+    let place = place_of p o in
+    (symbol : Symbol)
     → slice_get p.symbols (relocation_in p.relocations_after i).symbol ≡ Some symbol
-    → let y = final_operands p i row symbol in
-    (x : Operands) → AreAddresses x → AreAddresses y
-    → (h k : Hart) (auipc_of ld_of : List ℕ)
-    → loaded 8 h.memory (entry_and_addend x) ≡ symbol_address x
-    → h.pc ≡ x.place → k.pc ≡ y.place → AreAlike no_register h k
-    → Relocated (riscv_row names.R_RISCV_GOT_HI20) x auipc auipc_of
-    → Relocated (riscv_row names.R_RISCV_PCREL_LO12_I) (of_entry x) ld ld_of
-    → EndSo 2 (auipc_of ++ ld_of) h 2
-    (instruction_at p.final (place_of p o) ++ instruction_at p.final (place_of p o + 4)) k
-    (HaveAddress base (rd_of (word_of ld)) (symbol_address x) (symbol_address y) (sum_64 h.pc 8)
-    (sum_64 k.pc 8))
+    → (x : Operands) → let y = final_operands p i row symbol in
+    LoadIsAlike (instruction_at l.section o) (instruction_at l.section (o + 4))
+    (λ c. Stands 4 c.new y.place (instruction_at p.final place)
+    × Stands 4 c.new (sum_64 y.place 4) (instruction_at p.final (place + 4))) x y
 
 -- ---- low parts of offsets from the thread pointer
 
--- From a base with the thread pointer's number, the object's instruction with the value of its
--- relocation computes what the final bytes do, where the offset is the same, a number of 12 bits.
+-- New has the final bytes.
 abbrev pub FinalLowPartDoesTheSame : Linked → Packed → ℕ → Action → RelocationKindInfo → Type 0
 FinalLowPartDoesTheSame l p i action row =
     let o = (relocation_in l.relocations i).offset in
-    let word = word_of (instruction_at l.section o) in
     (symbol : Symbol)
     → slice_get p.symbols (relocation_in p.relocations_after i).symbol ≡ Some symbol
-    → (x : Operands) → HaveOneOffset x (final_operands p i row symbol) → IsLowOffset x
-    → (h k : Hart) (differs : ℕ → Bool) (original : List ℕ)
-    → h.pc < 2 ^ 64 → k.pc < 2 ^ 64 → AreAlike differs h k
-    → register h (rs1_of word) ≡ register k tp → StoresTheSame action (rs2_of word) h k
-    → Relocated (offset_row action) x (instruction_at l.section o) original
-    → EndSo 1 original h 1 (final_instruction p o) k (λ a b.
-    AreAlike (differs_after action differs (rd_of word)) a b
-    × GoOn action (rd_of word) (even_in_thread (register k tp) x) (sum_64 h.pc 4) (sum_64 k.pc 4)
-    a b)
+    → (x : Operands) → let y = final_operands p i row symbol in
+    LowPartIsAlike action (instruction_at l.section o)
+    (λ c. Stands 4 c.new y.place (final_instruction p o)) x y
 
 -- ---- TLS descriptors
 
--- The object's sequence, whose high part is at an index, runs to the call with the values of its
--- relocations. The `addi` and the `jalr` that were rewritten end in the final bytes as the function
--- returns, where the offset is the same. The second index is that of the call.
+-- The object's sequence, whose high part is at an index. New has the `addi` and the `jalr` that
+-- were
+-- rewritten, by the final bytes. The second index is that of the call.
 abbrev pub FinalOffsetIsTheSame : Linked → Packed → ℕ → ℕ → RelocationKindInfo → Type 0
 FinalOffsetIsTheSame l p high last row =
     let o = (relocation_in l.relocations high).offset in
+    let place = place_of p (o + 8) in
     (symbol : Symbol)
     → slice_get p.symbols (relocation_in p.relocations_after last).symbol ≡ Some symbol
-    → let y = final_operands p last row symbol in
-    (x : Operands) → HaveOneOffset x y → AreAddresses y
-    → (call : Hart → Option Hart) (c : Changes) (h k : Hart) (auipc_of ld_of addi_of : List ℕ)
-    → RunsToCall l o call c x h auipc_of ld_of addi_of → k.pc < 2 ^ 64 → AreAlike no_register h k
-    → let place = place_of p (o + 8) in
-    EndsAsReturned l o call c h auipc_of ld_of addi_of 2
-    (instruction_at p.final place ++ instruction_at p.final (place + 4)) k
+    → (x : Operands) → let y = final_operands p last row symbol in
+    AreAddresses y
+    → OffsetIsAlike l o 2 (λ c at. Stands 4 c.new at (instruction_at p.final place)
+    × Stands 4 c.new (sum_64 at 4) (instruction_at p.final (place + 4))) x y
 
--- So does the `jalr` alone, where the offset is a number of 12 bits.
+-- It has the `jalr` alone, where the offset is a number of 12 bits.
 abbrev pub FinalShortOffsetIsTheSame : Linked → Packed → ℕ → ℕ → RelocationKindInfo → Type 0
 FinalShortOffsetIsTheSame l p high last row =
     let o = (relocation_in l.relocations high).offset in
     (symbol : Symbol)
     → slice_get p.symbols (relocation_in p.relocations_after last).symbol ≡ Some symbol
-    → let y = final_operands p last row symbol in
-    (x : Operands) → HaveOneOffset x y → IsLowOffset y
-    → (call : Hart → Option Hart) (c : Changes) (h k : Hart) (auipc_of ld_of addi_of : List ℕ)
-    → RunsToCall l o call c x h auipc_of ld_of addi_of → k.pc < 2 ^ 64 → AreAlike no_register h k
-    → EndsAsReturned l o call c h auipc_of ld_of addi_of 1 (final_instruction p (o + 12)) k
-
--- ---- nops
-
--- The final bytes of an instruction, which became a nop, change nothing but the pc.
-abbrev pub FinalBytesDoNothing : Packed → ℕ → Type 0
-FinalBytesDoNothing p o =
-    (h k : Hart) (differs : ℕ → Bool) → h.pc < 2 ^ 64 → AreAlike differs h k
-    → EndSo 1 (final_instruction p o) h 0 [] k (HaveGoneOn differs (sum_64 h.pc 4) k.pc)
+    → (x : Operands) → let y = final_operands p last row symbol in
+    IsLowOffset y
+    → OffsetIsAlike l o 1 (λ c at. Stands 4 c.new at (final_instruction p (o + 12))) x y
 
 -- ---- the laws
 
@@ -193,7 +160,7 @@ PackedNopsOf name =
     → decision_at l.decisions i ≡ RewrittenWithSymbol chosen subject
     → chosen.kind ≡ relaxations.RiscV kinds.ReplaceWithLongNop → UntouchedInstruction l i
     → let o = (relocation_in l.relocations i).offset in
-    StayTogether p o 4 → IsUnwritten p (place_of p o) 4 → FinalBytesDoNothing p o
+    StayTogether p o 4 → IsUnwritten p (place_of p o) 4 → IsNop (instruction_at l.section o) (final_instruction p o)
 
 abbrev pub PackedNops : Type 0
 PackedNops =

@@ -1,7 +1,7 @@
 -- RISC-V: in a section that was packed, calls go where the object's do (RISC-V ELF psABI, "Function
 -- Call Relaxation" and "Compressed Tail Call Relaxation").
 use Rattle.std.specs.Prelude.{◌≡◌, ◌≢◌, ◌⊎◌, ℕ, ◌+◌, ◌-◌, ◌%◌, ◌==◌, ◌||◌, List}
-use Rattle.std.specs.Prelude.{take, drop, if◌then◌else◌, slice_get, Some, Bool, false, ◌<◌, ◌^◌}
+use Rattle.std.specs.Prelude.{take, drop, if◌then◌else◌, slice_get, Some, ◌<◌, ◌^◌}
 use Rattle.linker_elf.specs.ElfNames.{IsNameOf}
 use Rattle.linker_elf.specs.Originals.{HasWord}
 use Rattle.linker_elf.specs.RiscVRelocations.{pair_row, riscv_name, riscv_row}
@@ -17,9 +17,12 @@ use Rattle.linker_final.specs.Packed.{address_at, count, place_of}
 use Rattle.linker_final.specs.Packed.{site_after, site_bytes, site_len, site_offset, site_place}
 use Rattle.linker_final.specs.Packed.{site_target}
 use Rattle.linker_laws.specs.Machine.{Relocated}
+use Rattle.linker_laws.specs.Changes.{put, with_register}
+use Rattle.linker_laws.specs.RiscVGroups.{Code, Has, Stands, link, seen}
+use Rattle.linker_laws.specs.Simulation.{Group, Kinds, State, anything, of_link}
 use Rattle.linker_laws.specs.RiscVMachine.{Hart, register, rs1_of}
 use Rattle.linker_laws.specs.RiscVRelocationLaws.{even}
-use Rattle.linker_laws.specs.RiscVRewriteLaws.{AreAlike, EndSo, HasThreadPointer, HasZero}
+use Rattle.linker_laws.specs.RiscVRewriteLaws.{AreAlike, EndSo}
 use Rattle.linker_laws.specs.RiscVRewriteLaws.{IsLow12, IsLowOffset, no_register}
 use Rattle.linker_laws.specs.Schemes.{AreAddresses, plt_address}
 use Rattle.linker_riscv64.specs.RiscVCalls.{word_at}
@@ -104,32 +107,33 @@ LongCallsStay =
 
 -- ---- deleted instructions (psABI, "Zero-page Relaxation"; thread-local storage)
 
--- The object's run executes an instruction, and the final run nothing: it is after the instruction
--- already, since that is deleted.
+-- Old is before four bytes at an offset of the section, and new where they and the next ones go.
+pub record IsBefore (p : Packed) (o : ℕ) (c : Code) (s : State) : Type 0 where
+  pub small : s.pc + 4 < 2 ^ 64
+  pub place : c.moved s.pc ≡ address_at p o
+  pub next : c.moved (s.pc + 4) ≡ address_at p (o + 4)
 
--- A `lui` of a number of 12 bits, or of an offset from the thread pointer of 12 bits, puts 0 in its
--- register in the object's run.
+-- A `lui` of a number of 12 bits, or of an offset from the thread pointer of 12 bits, is a group,
+-- of
+-- which new has nothing.
 abbrev pub LuiIsLeftOut : RiscVRelocation → (Operands → Type 0) → Type 0
 LuiIsLeftOut name IsLow =
     (p : Packed) → IsPacked p → p.machine ≡ RiscV64 → (o : ℕ) → HasWord p.section.bytes o IsLui
-    → AreDeleted p o 4 → (x : Operands) → IsLow x → (original : List ℕ)
-    → Relocated (riscv_row name) x (drop o p.section.bytes) original
-    → (h k : Hart) (differs : ℕ → Bool) → h.pc < 2 ^ 64 → k.pc ≡ address_at p o
-    → AreAlike differs h k
-    → EndSo 1 original h 0 p.final k
-    (λ a b. HasZero differs (rd_of (word_at p.section.bytes o)) (sum_64 h.pc 4) a b
-    × (b.pc ≡ address_at p (o + 4)))
+    → AreDeleted p o 4 → (x : Operands) → IsLow x → (c : Code) (k : Kinds) (s : State)
+    → IsBefore p o c s → Has 4 c.old s.pc (riscv_row name) x (drop o p.section.bytes)
+    → let rd = rd_of (word_at p.section.bytes o) in
+    Group (of_link (link c)) 0 k s (with_register rd anything k) (put rd 0 (s.pc + 4) s)
 
--- An `add` of the thread pointer to that puts the thread pointer's number in its register.
+-- So is an `add` of the thread pointer to a register with 0.
 abbrev pub SumIsLeftOut : Type 0
 SumIsLeftOut =
     (p : Packed) → IsPacked p → p.machine ≡ RiscV64 → (o : ℕ) → HasWord p.section.bytes o IsAddTp
-    → AreDeleted p o 4 → (h k : Hart) (differs : ℕ → Bool) → h.pc < 2 ^ 64
-    → k.pc ≡ address_at p o → AreAlike differs h k → differs tp ≡ false → register k tp < 2 ^ 64
-    → register h (rs1_of (word_at p.section.bytes o)) ≡ 0
-    → EndSo 1 (drop o p.section.bytes) h 0 p.final k
-    (λ a b. HasThreadPointer differs (rd_of (word_at p.section.bytes o)) (register k tp)
-    (sum_64 h.pc 4) a b × (b.pc ≡ address_at p (o + 4)) × (register b tp ≡ register k tp))
+    → AreDeleted p o 4 → (c : Code) (k : Kinds) (s : State) → IsBefore p o c s
+    → register (seen s) (rs1_of (word_at p.section.bytes o)) ≡ 0 → s.registers tp < 2 ^ 64
+    → Stands 4 c.old s.pc (drop o p.section.bytes)
+    → let rd = rd_of (word_at p.section.bytes o) in
+    Group (of_link (link c)) 0 k s (with_register rd anything k)
+    (put rd (s.registers tp) (s.pc + 4) s)
 
 abbrev pub HighPartsAreLeftOut : Type 0
 HighPartsAreLeftOut =

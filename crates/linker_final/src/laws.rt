@@ -51,7 +51,8 @@ pub fn x86_64()
     linker_laws::rewrites::x86_64();
 }
 
-/// AArch64: rewritten instructions are groups of `linker_laws::simulation`, of any code that has the
+/// AArch64: rewritten instructions are groups of `linker_laws::simulation`, of any code that has
+/// the
 /// final bytes there, and of any old code that has the object's with the values of their
 /// relocations. They are each address by two instructions that became one, each load of an address
 /// from the GOT that became a sum of its page and the rest, each half of initial-exec that became a
@@ -79,13 +80,16 @@ pub fn aarch64()
     linker_laws::simulation::aarch64();
 }
 
-/// RISC-V: rewritten instructions do in the final bytes what the object's do. They are each load of
-/// an address from the GOT that became a sum of the place and the distance, each low part of an
-/// offset that is over the thread pointer, and each sequence of a TLS descriptor that became one of
-/// local-exec. What became a nop does nothing. The high part and the sum of such an offset are
-/// deleted, and what they leave in registers is a premise of the low part's law. The offset had 12
-/// bits when rewrites were chosen. Loads, low parts and sequences do the same wherever a linker
-/// applies their relocations, as in a section that it packs first.
+/// RISC-V: rewritten instructions are groups of `linker_laws::simulation`, of any code that has the
+/// final bytes there, and of any old code that has the object's with the values of their
+/// relocations. They are each load of an address from the GOT that became a sum of the place and
+/// the
+/// distance, each low part of an offset that is over the thread pointer, and each sequence of a TLS
+/// descriptor that became one of local-exec. What became a nop is one. The high part and the sum of
+/// such an offset are deleted, and are groups of which new has nothing. The offset had 12 bits when
+/// rewrites were chosen. The clauses named `anywhere` are of a call of rewriting alone: what each
+/// relocation became, and that the rewritten instructions are a group wherever a linker applies it,
+/// as in a section that it packs first.
 pub fn riscv64()
     ensures got_loads { riscv64_final.GotLoads }
     ensures low_parts { riscv64_final.LowParts }
@@ -100,7 +104,7 @@ pub fn riscv64()
     ensures descriptors_anywhere { riscv64_final.DescriptorsAnywhere }
     ensures short_descriptors_anywhere { riscv64_final.ShortDescriptorsAnywhere }
 {
-    linker_laws::rewrites::riscv64();
+    linker_laws::simulation::riscv64();
 }
 
 /// RISC-V: each low part that `rewrite_global_pointer` takes does over x3 or x0, with the distance

@@ -64,7 +64,8 @@ fn address_of(deltas: &[RelaxDelta], start: u64, offset: u64) -> u64
 ///
 /// The first that applies, in this order. `Misplaced`: the section isn't at the address where its
 /// first byte goes. `Packing`: an item can't be written. `Writing`: no value is written, and `out`
-/// and `relocations` are those of the packed section. With each of the others they are as they were.
+/// and `relocations` are those of the packed section. With each of the others they are as they
+/// were.
 /// The contract of each error requires valid deltas, as that of `pack_run` does.
 pub fn pack_section(
     machine: Machine,
@@ -137,7 +138,8 @@ pub struct RunSection<'a> {
 
 /// Packs a section of a run that `relax` relaxed, by `pack_section`, with what the run loses. It
 /// leaves the section's final bytes in `out`, in which each alignment of the run holds
-/// (`shorter_sections`). The run begins at the address `start`. `relocations` are the section's, once
+/// (`shorter_sections`). The run begins at the address `start`. `relocations` are the section's,
+/// once
 /// it is rewritten. A linker calls `relax` and `pack_section` itself: in between it translates
 /// symbols by what `relax` returned, and it packs each section.
 ///
@@ -207,9 +209,8 @@ pub fn shorter_sections()
 /// RISC-V: each call that a run may make shorter, `c.j`, `jal` or still `auipc` and `jalr`, goes to
 /// where its target goes, as the object's call does in its own layout. So does a call that stays as
 /// it is, by the value of its relocation. Other jumps and branches go where their relocation's
-/// formula says. Where a `lui` of 12 bits or an `add` of the thread
-/// pointer is deleted, the object's run executes it, and the final run does nothing: it is after
-/// it already.
+/// formula says. Where a `lui` of 12 bits or an `add` of the thread pointer is deleted, that is a
+/// group of `linker_laws::simulation`, of which new has nothing.
 pub fn shorter_riscv64()
     ensures sites { riscv_packed.SitesCallTheSame }
     ensures long_calls { riscv_packed.LongCallsStay }
@@ -218,14 +219,16 @@ pub fn shorter_riscv64()
     ensures branches { RiscVBranchesGo }
 {
     linker_laws::relocations::riscv64();
-    linker_laws::rewrites::riscv64();
+    linker_laws::simulation::riscv64();
 }
 
-/// RISC-V: what was rewritten before the section was packed, and stays, does in the final bytes
-/// what the object's instructions do, each with the values of its relocations in its own layout. It
-/// is each load of an address from the GOT that became a sum of the place and the distance, each
-/// low part of an offset that is over the thread pointer, and each sequence of a TLS descriptor
-/// that became one of local-exec. What became a nop does nothing.
+/// RISC-V: what was rewritten before the section was packed, and stays, is a group of
+/// `linker_laws::simulation`. Old has the object's instructions with the values of their
+/// relocations,
+/// in a layout of its own, and new the final bytes. It is each load of an address from the GOT that
+/// became a sum of the place and the distance, each low part of an offset that is over the thread
+/// pointer, and each sequence of a TLS descriptor that became one of local-exec. What became a nop
+/// is one.
 pub fn joined_riscv64()
     ensures got_loads { riscv_joined.PackedGotLoads }
     ensures low_parts { riscv_joined.PackedLowParts }
@@ -233,7 +236,7 @@ pub fn joined_riscv64()
     ensures short_descriptors { riscv_joined.PackedShortDescriptors }
     ensures nops { riscv_joined.PackedNops }
 {
-    linker_laws::rewrites::riscv64();
+    linker_laws::simulation::riscv64();
 }
 
 /// LoongArch: each call that a run may make shorter, `b`, `bl` or still `pcaddu18i` and `jirl`,

@@ -162,7 +162,7 @@ written_by insn bits v clear before after e rest =
 
 -- ---- relocations that are applied
 
-relocated : {kind : RelocationKind} {start end : ℕ} {insn : RelocationInstruction}
+pub relocated : {kind : RelocationKind} {start end : ℕ} {insn : RelocationInstruction}
     {mask : Option PageMask} {range : AllowedRange} {a : ℕ} {bias : Option ℕ}
     {thunkable implicit : Bool} → (o : Operands) (before after : List ℕ) (v : ℤ) (clear : ℕ)
     → let row = row_of kind start end insn mask range a bias thunkable implicit in

@@ -45,15 +45,13 @@ pub mod Ppc64Vectors
 pub mod Ppc64WholeWords
 pub mod Ppc64Words
 pub mod RiscV
-pub mod RiscVCalls
 pub mod RiscVDescriptors
+pub mod RiscVGroups
+pub mod RiscVGroupsWorked
 pub mod RiscVHighParts
 pub mod RiscVJumps
 pub mod RiscVLowParts
-pub mod RiscVLuis
 pub mod RiscVMachine
-pub mod RiscVPairs
-pub mod RiscVSums
 pub mod Rounded
 pub mod SimulationWorked
 pub mod Sums

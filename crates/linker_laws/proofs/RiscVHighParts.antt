@@ -1,6 +1,6 @@
 -- What `lui` and `c.lui` put in a register, once their relocations are applied.
-use Rattle.std.proofs.Common.{◌≡◌, ◌≢◌, ℕ, zero, suc, ◌+◌, ◌-◌, ◌*◌, ◌/◌, ◌%◌, ◌^◌, ◌<◌, ◌≤◌, Bool}
-use Rattle.std.proofs.Common.{true, false, refl, sym, ◌∙◌, ap, subst, arith, List, length}
+use Rattle.std.proofs.Common.{◌≡◌, ◌≢◌, ℕ, zero, suc, ◌+◌, ◌-◌, ◌*◌, ◌/◌, ◌%◌, ◌^◌, ◌<◌, ◌≤◌}
+use Rattle.std.proofs.Common.{false, refl, sym, ◌∙◌, ap, subst, arith, List, length}
 use Rattle.std.proofs.Common.{ℤ, pos, negsuc, Some, None, inl, inr, ◌⊎◌}
 use Rattle.std.proofs.Common.{if◌then◌else◌, w64, Option}
 use Rattle.std.specs.Prelude.{◌==◌, ◌&&◌, ◌||◌, not}
@@ -33,12 +33,10 @@ use Rattle.linker_laws.proofs.Instructions.{unbiased}
 use Rattle.linker_laws.proofs.Sums.{sum_below}
 use Rattle.linker_laws.specs.Machine.{wrapped}
 use Rattle.linker_laws.specs.RiscVRewriteLaws.{IsLow12, thread_offset}
-use Rattle.linker_laws.specs.RiscVMachine.{Hart, register, with_integer, lui, sums, jal, executed}
-use Rattle.linker_laws.specs.RiscVMachine.{of_half, of_clui, Runs, Instruction, adds}
+use Rattle.linker_laws.specs.RiscVMachine.{lui, sums, jal}
+use Rattle.linker_laws.specs.RiscVMachine.{of_half, of_clui, Instruction, adds}
 use Rattle.linker_laws.specs.RiscVMachine.{cli_immediate}
 use Rattle.linker_laws.proofs.Words.{kept_field}
-use Rattle.linker_laws.proofs.RiscVMachine.{at_start, is_long, fetched_word, fetched_half, steps}
-use Rattle.linker_laws.proofs.RiscVMachine.{is_lui}
 
 -- ---- numbers of 12 bits, and those of 18 that `c.lui` and a low part make
 
@@ -138,16 +136,6 @@ only_low_12 n l small near e none =
 pub low_32 : (n : ℕ) → field (sum_64 n 0) 0 32 ≡ n % 2 ^ 32
 low_32 n = omega arith
 
--- a register that is written to 0
-pub zero_written : (rd : ℕ) (h : Hart) → register (with_integer rd 0 h) rd ≡ 0
-zero_written rd h =
-    let same : (rd == rd) ≡ true = grind arith in
-    ap (λ b. if rd == 0 then 0 else (if b then 0 else h.integers rd)) same ∙ both (rd == 0) 0
-  where
-    both : (b : Bool) (n : ℕ) → (if b then n else n) ≡ n
-    both true n = refl
-    both false n = refl
-
 -- S + A, and the offset from the thread pointer
 pub absolute_is : (form : RiscVInstruction) (x : Operands)
     → value_of (pair_row Absolute 32 form) x ≡ Some (cast_signed w64 (symbol_address x))
@@ -202,29 +190,6 @@ module _ (kind : RelocationKind) (x : Operands) (n : ℕ) (before code : List �
       (taken_bits bits n applied.value below
       (value_is (pair_row kind 32 UType) x before code applied (cast_signed w64 n) value)
       ∙ (let e : field n 0 32 ≡ n % 2 ^ 32 = omega arith in e))
-
-  pub loads_upper : Instruction
-  loads_upper = lui (rd_of upper) upper_number
-
-  pub upper_put : Hart → Hart
-  upper_put h = executed 4 loads_upper h
-
-  pub upper_runs : (h : Hart) → h.pc < 2 ^ 64 → Runs 1 code h.pc h (upper_put h)
-  unfolding upper loads_upper upper_put upper_number
-  upper_runs h small =
-      let long : 4 ≤ length before = applied.accepted.long in (
-        upper_put h,
-        steps code h.pc 0 4 loads_upper h (at_start h.pc small)
-            (fetched_word code loads_upper (is_long upper 0x37 kept_opcode refl)
-            (omega (arith, long, len)) (is_lui upper kept_opcode)),
-        refl,
-      )
-
-  -- what the hart is then
-  pub upper_is : (h : Hart) → upper_put h ≡ executed 4 (lui (rd_of (from_le_bytes w32 code))
-      (signed 32 (place_sum (riscv_places UType) (from_le_bytes w32 code)))) h
-  unfolding upper loads_upper upper_put upper_number
-  upper_is h = refl
 
 -- ---- `c.lui`
 
@@ -334,23 +299,16 @@ module _ (x : Operands) (before code : List ℕ)
       then of_clui (rd_of half) ((riscv_form CluiType).machine half) else otherwise)) function_kept
       ∙ is_clui
 
-  pub short_put : Hart → Hart
-  short_put k = executed 2 loads_short k
+  -- the half is that `c.lui`
+  pub short_low : field (from_le_bytes w16 code) 0 2 ≡ 1
+  unfolding half
+  short_low = short_kept
 
-  pub short_runs : (k : Hart) → k.pc < 2 ^ 64 → Runs 1 code k.pc k (short_put k)
-  unfolding half loads_short short_put short_number
-  short_runs k small =
-      let long : 2 ≤ length before = applied.accepted.long in (
-        short_put k,
-        steps code k.pc 0 2 loads_short k (at_start k.pc small)
-            (fetched_half code loads_short short_kept (omega (arith, long, len)) is_short_lui),
-        refl,
-      )
-
-  pub short_is : (k : Hart) → short_put k ≡ executed 2 (lui (rd_of (from_le_bytes w16 code))
-      (signed 18 (place_sum (riscv_places CluiType) (from_le_bytes w16 code)))) k
-  unfolding half loads_short short_put short_number
-  short_is k = refl
+  pub short_decodes : of_half (from_le_bytes w16 code)
+      ≡ Some (lui (rd_of (from_le_bytes w16 code))
+      (signed 18 (place_sum (riscv_places CluiType) (from_le_bytes w16 code))))
+  unfolding half short_number loads_short
+  short_decodes = is_short_lui
 
 -- ---- `c.li` of 0
 

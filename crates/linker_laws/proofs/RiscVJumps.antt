@@ -24,15 +24,15 @@ use Rattle.linker_laws.specs.Schemes.{AreAddresses, plt_address, symbol_address}
 use Rattle.linker_laws.proofs.Instructions.{adds, plt_from_place, symbol_from_place}
 use Rattle.linker_laws.proofs.RiscV.{calls}
 use Rattle.linker_laws.specs.Machine.{AreBytes, moved}
-use Rattle.linker_laws.specs.RiscVMachine.{Hart, register, with_integer, auipc, jal, sums, jumps}
-use Rattle.linker_laws.specs.RiscVMachine.{rs1_of, of_half, of_clui, executed, Runs}
+use Rattle.linker_laws.specs.RiscVMachine.{Hart, register, auipc, jal, sums, jumps}
+use Rattle.linker_laws.specs.RiscVMachine.{rs1_of, of_half, of_clui, of_word, executed, Runs}
 use Rattle.linker_laws.specs.RiscVMachine.{cli_immediate}
 use Rattle.linker_laws.specs.RiscVMachine.{Instruction, adds as adding}
 use Rattle.linker_laws.proofs.Words.{two_words, word_below, kept_field}
 use Rattle.linker_laws.proofs.RiscVMachine.{moved_twice, cleared_sum, address_is, times_one}
 use Rattle.linker_laws.proofs.RiscVMachine.{at_start, at_second, is_long, fetched_word}
-use Rattle.linker_laws.proofs.RiscVMachine.{fetched_half, steps, is_auipc, is_jalr, is_jal}
-use Rattle.linker_laws.proofs.RiscVMachine.{ui_of_words, other, written, unwritten}
+use Rattle.linker_laws.proofs.RiscVMachine.{steps, is_auipc, is_jalr, is_jal}
+use Rattle.linker_laws.proofs.RiscVMachine.{ui_of_words, other, written}
 
 -- ---- the pair
 
@@ -106,6 +106,52 @@ module _ (x : Operands) (before code : List ℕ)
   pub second : Instruction
   second = sums jumps (rd_of high_word) (rs1_of high_word) 0 ((riscv_form IType).machine high_word)
 
+  -- the words are those, and lead to the target
+  pub low_long : field (from_le_bytes w32 code) 0 2 ≡ 3
+  unfolding low_word
+  low_long = is_long low_word 0x17 opcode refl
+
+  pub high_long : field (from_le_bytes w32 (drop 4 code)) 0 2 ≡ 3
+  unfolding high_word
+  high_long = is_long high_word 0x67 jalr_opcode refl
+
+  pub low_decodes : of_word (from_le_bytes w32 code)
+      ≡ Some (auipc (rd_of (from_le_bytes w32 code)) ((riscv_form UType).machine (from_le_bytes w32 code)))
+  unfolding low_word
+  low_decodes = is_auipc low_word opcode
+
+  pub high_decodes : of_word (from_le_bytes w32 (drop 4 code))
+      ≡ Some (sums jumps (rd_of (from_le_bytes w32 (drop 4 code))) (rs1_of (from_le_bytes w32 (drop 4 code))) 0
+      ((riscv_form IType).machine (from_le_bytes w32 (drop 4 code))))
+  unfolding high_word
+  high_decodes = is_jalr high_word jalr_opcode jalr_function
+
+  pub pair_register : rd_of (from_le_bytes w32 code) ≡ rd_of (from_le_bytes w32 before)
+  unfolding low_word
+  pair_register = same_register
+
+  pub pair_link : rd_of (from_le_bytes w32 (drop 4 code)) ≡ rd_of (from_le_bytes w32 (drop 4 before))
+  unfolding high_word
+  pair_link = same_link
+
+  pub pair_base : rs1_of (from_le_bytes w32 (drop 4 code)) ≡ rd_of (from_le_bytes w32 before)
+  unfolding low_word high_word
+  pair_base = base ∙ same_register
+
+  pub pair_leads : AreAddresses x
+      → let sum = moved (moved x.place ((riscv_form UType).machine (from_le_bytes w32 code)))
+      ((riscv_form IType).machine (from_le_bytes w32 (drop 4 code))) in
+      sum - sum % 2 ≡ even plt_address x
+  unfolding low_word high_word
+  pair_leads small =
+      let u = (riscv_form UType).machine low_word in
+      let i = (riscv_form IType).machine high_word in
+      let sum : (riscv_form UiType).machine (from_le_bytes w64 code) ≡ u +ℤ i =
+      ap (riscv_form UiType).machine (two_words code) ∙ ui_of_words low_word high_word low_below in
+      ap (λ n. n - n % 2) (moved_twice x.place u i ∙ ap (moved x.place) (sym sum))
+      ∙ cleared_sum (pos x.place +ℤ (riscv_form UiType).machine (from_le_bytes w64 code))
+      (even plt_address x) (calls plt_from_place (λ o. refl) x small x.place before code applied tt)
+
   -- the hart after the pair
   pub called : Hart → Hart
   called h = executed 4 second (executed 4 first h)
@@ -156,15 +202,6 @@ module _ (x : Operands) (before code : List ℕ)
       written (rd_of high_word) (sum_64 (sum_64 h.pc 4) 4) (executed 4 first h) some
       ∙ omega arith
 
-  -- a tail call, which links x0
-  pub tail_keeps : rd_of high_word ≡ 0 → (h : Hart) (q : ℕ) → (q == rd_of low_word) ≡ false
-      → register (called h) q ≡ register h q
-  unfolding low_word high_word first second called
-  tail_keeps none h q a =
-      ap (λ r. register (with_integer r (sum_64 (sum_64 h.pc 4) 4) (executed 4 first h)) q) none
-      ∙ unwritten (sum_64 (sum_64 h.pc 4) 4) (executed 4 first h) q
-      ∙ other (rd_of low_word) (moved h.pc ((riscv_form UType).machine low_word)) h q a
-
   -- floating-point registers and memory stay
   pub pair_floats : (h : Hart) → (called h).floats ≡ h.floats
   unfolding first second called
@@ -198,52 +235,22 @@ module _ (y : Operands) (before code : List ℕ)
   pub jump : Instruction
   jump = jal (rd_of word) ((riscv_form JType).machine word)
 
-  pub jumped : Hart → Hart
-  jumped k = executed 4 jump k
+  -- the word is that, and leads to the target
+  pub jump_long : field (from_le_bytes w32 code) 0 2 ≡ 3
+  unfolding word
+  jump_long = is_long word 0x6f (opcode_kept ∙ is) refl
 
-  pub jump_runs : (k : Hart) → k.pc < 2 ^ 64 → Runs 1 code k.pc k (jumped k)
-  unfolding word jump jumped
-  jump_runs k small =
-      let long : 4 ≤ length before = applied.accepted.long in (
-        jumped k,
-        steps code k.pc 0 4 jump k (at_start k.pc small)
-            (fetched_word code jump (is_long word 0x6f (opcode_kept ∙ is) refl)
-            (omega (arith, long, len)) (is_jal word (opcode_kept ∙ is))),
-        refl,
-      )
+  pub jump_decodes : of_word (from_le_bytes w32 code)
+      ≡ Some (jal (rd_of (from_le_bytes w32 code)) ((riscv_form JType).machine (from_le_bytes w32 code)))
+  unfolding word
+  jump_decodes = is_jal word (opcode_kept ∙ is)
 
-  pub jump_target : AreAddresses y → (k : Hart) → k.pc ≡ y.place
-      → (jumped k).pc ≡ symbol_address y
-  unfolding word jump jumped
-  jump_target small k at =
-      let j = (riscv_form JType).machine word in
-      ap (λ p. moved p j) at ∙ times_one y.place j
+  pub jump_leads : AreAddresses y
+      → moved y.place ((riscv_form JType).machine (from_le_bytes w32 code)) ≡ symbol_address y
+  jump_leads small =
+      times_one y.place ((riscv_form JType).machine (from_le_bytes w32 code))
       ∙ address_is _ (symbol_address y)
       (adds symbol_from_place refl refl (λ o. refl) y small y.place before code applied tt)
-
-  pub jump_keeps : (k : Hart) (q : ℕ) → (q == rd_of (from_le_bytes w32 code)) ≡ false
-      → register (jumped k) q ≡ register k q
-  unfolding word jump jumped
-  jump_keeps k q e = other (rd_of word) (sum_64 k.pc 4) k q e
-
-  pub jump_keeps_all : rd_of (from_le_bytes w32 code) ≡ 0 → (k : Hart) (q : ℕ)
-      → register (jumped k) q ≡ register k q
-  unfolding word jump jumped
-  jump_keeps_all none k q =
-      ap (λ r. register (with_integer r (sum_64 k.pc 4) k) q) none ∙ unwritten (sum_64 k.pc 4) k q
-
-  pub jump_links : (k : Hart) → rd_of (from_le_bytes w32 code) ≢ 0
-      → register (jumped k) (rd_of (from_le_bytes w32 code)) ≡ sum_64 k.pc 4
-  unfolding word jump jumped
-  jump_links k some = written (rd_of word) (sum_64 k.pc 4) k some
-
-  pub jump_floats : (k : Hart) → (jumped k).floats ≡ k.floats
-  unfolding jump jumped
-  jump_floats k = refl
-
-  pub jump_memory : (k : Hart) → (jumped k).memory ≡ k.memory
-  unfolding jump jumped
-  jump_memory k = refl
 
 module _ (y : Operands) (before code : List ℕ)
     (applied : IsApplied (jump_row 16 CjType (negsuc 2047, pos 2047)) y before code)
@@ -285,36 +292,19 @@ module _ (y : Operands) (before code : List ℕ)
       ∙ ap (λ n. if 1 == 1 && n == 5
       then Some (jal 0 ((riscv_form CjType).machine half)) else otherwise) function_kept
 
-  pub short_jumped : Hart → Hart
-  short_jumped k = executed 2 short_jump k
+  -- the half is that, and leads to the target
+  pub short_jump_low : field (from_le_bytes w16 code) 0 2 ≡ 1
+  unfolding half
+  short_jump_low = short_kept
 
-  pub short_jump_runs : (k : Hart) → k.pc < 2 ^ 64 → Runs 1 code k.pc k (short_jumped k)
-  unfolding half short_jump short_jumped
-  short_jump_runs k small =
-      let long : 2 ≤ length before = applied.accepted.long in (
-        short_jumped k,
-        steps code k.pc 0 2 short_jump k (at_start k.pc small)
-            (fetched_half code short_jump short_kept (omega (arith, long, len)) is_short_jump),
-        refl,
-      )
+  pub short_jump_decodes : of_half (from_le_bytes w16 code)
+      ≡ Some (jal 0 ((riscv_form CjType).machine (from_le_bytes w16 code)))
+  unfolding half short_jump
+  short_jump_decodes = is_short_jump
 
-  pub short_jump_target : AreAddresses y → (k : Hart) → k.pc ≡ y.place
-      → (short_jumped k).pc ≡ symbol_address y
-  unfolding half short_jump short_jumped
-  short_jump_target small k at =
-      let j = (riscv_form CjType).machine half in
-      ap (λ p. moved p j) at ∙ times_one y.place j
+  pub short_jump_leads : AreAddresses y
+      → moved y.place ((riscv_form CjType).machine (from_le_bytes w16 code)) ≡ symbol_address y
+  short_jump_leads small =
+      times_one y.place ((riscv_form CjType).machine (from_le_bytes w16 code))
       ∙ address_is _ (symbol_address y)
       (adds symbol_from_place refl refl (λ o. refl) y small y.place before code applied tt)
-
-  pub short_jump_keeps : (k : Hart) (q : ℕ) → register (short_jumped k) q ≡ register k q
-  unfolding half short_jump short_jumped
-  short_jump_keeps k q = unwritten (sum_64 k.pc 2) k q
-
-  pub short_jump_floats : (k : Hart) → (short_jumped k).floats ≡ k.floats
-  unfolding short_jump short_jumped
-  short_jump_floats k = refl
-
-  pub short_jump_memory : (k : Hart) → (short_jumped k).memory ≡ k.memory
-  unfolding short_jump short_jumped
-  short_jump_memory k = refl

@@ -4,7 +4,6 @@ use Rattle.std.proofs.Common.{true, false, refl, sym, ◌∙◌, ap, subst, arit
 use Rattle.std.proofs.Common.{◌++◌, ℤ, pos, ◌-ℤ◌, ◌+ℤ◌, Option, Some, None, inl, inr, ◌⊎◌, not}
 use Rattle.std.proofs.Common.{if◌then◌else◌, w64, int_lt}
 use Rattle.std.specs.Prelude.{◌==◌, ◌&&◌, ◌||◌, nat_lt, IsTrue}
-use Rattle.std.specs.Option.{IsSomeAnd}
 use Rattle.std.specs.Int.{w32, from_le_bytes, to_le_bytes, cast_signed}
 use Rattle.std.proofs.lemmas.Bool.{and_parts, or_parts, cond_both, eqb-true, agree_below}
 use Rattle.std.proofs.lemmas.Int.{ints}
@@ -20,40 +19,28 @@ use Rattle.linker_elf.specs.RiscV.{riscv_form, riscv_layout, riscv_places}
 use Rattle.linker_utils.specs.RiscVRewrites.{rewrites_word, with_rs1}
 use Rattle.linker_utils.specs.declared.riscv64.rewrites.RelaxationKind.{RelaxationKind}
 use Rattle.linker_elf.specs.declared.elf.RelocationKind.{RelocationKind}
-use Rattle.linker_elf.specs.Elf.{IsWithin}
-use Rattle.linker_elf.specs.Choices.{low_12_bounds}
 use Rattle.linker_riscv64.specs.RiscVCalls.{word_at}
 use Rattle.linker_riscv64.specs.RiscVFields.{opcode_of, funct3_of, rd_of}
 use Rattle.linker_utils.specs.RiscVRewrites.{adds_low12}
-use Rattle.linker_elf.specs.RiscVRelocations.{pair_row, riscv_row}
-use Rattle.linker_elf.specs.declared.elf.RelocationKindInfo.{RelocationKindInfo}
-use Rattle.linker_elf.specs.declared.riscv64.relocations.RiscVRelocation.TheVariants as names
+use Rattle.linker_elf.specs.RiscVRelocations.{pair_row}
 use Rattle.linker_utils.specs.declared.riscv64.rewrites.RelaxationKind.TheVariants as kinds
 use Rattle.linker_elf.specs.Value.{sum_64, value_of}
-use Rattle.linker_elf.specs.declared.elf.RelocationKind.TheVariants.{Absolute, TpOff}
 use Rattle.linker_elf.specs.declared.elf.value.Operands.{Operands}
 use Rattle.linker_elf.specs.declared.riscv64.forms.RiscVInstruction.TheVariants.{UType, IType}
 use Rattle.linker_elf.specs.declared.riscv64.forms.RiscVInstruction.TheVariants.{SType, JType}
 use Rattle.linker_riscv64.proofs.Jumps.{word_of_front}
-use Rattle.linker_laws.specs.RiscVRelocationLaws.{even}
 use Rattle.linker_elf.specs.Applied.{IsApplied}
-use Rattle.linker_laws.specs.Schemes.{symbol_address}
 use Rattle.linker_laws.proofs.Applied.{value_is, taken_bits}
-use Rattle.linker_laws.proofs.Sums.{sum_below}
 use Rattle.linker_laws.specs.Machine.{AreBytes, Memory, loaded, stored, moved, extended}
-use Rattle.linker_laws.specs.Machine.{Relocated}
-use Rattle.linker_laws.specs.RiscVRewriteLaws.{AreAlike, StoresTheSame, GoOn, differs_after, EndSo}
-use Rattle.linker_laws.specs.RiscVRewriteLaws.{after_rewrite, IsLow12, FromZero, LowPartFromZero}
-use Rattle.linker_laws.specs.RiscVRewriteLaws.{HaveOneTarget, thread_offset, FromThreadPointer}
-use Rattle.linker_laws.specs.RiscVRewriteLaws.{LowPartFromThreadPointer}
+use Rattle.linker_laws.specs.RiscVRewriteLaws.{AreAlike, StoresTheSame, GoOn, differs_after}
+use Rattle.linker_laws.specs.RiscVRewriteLaws.{after_rewrite}
 use Rattle.linker_laws.specs.RiscVMachine.{Hart, register, with_integer, with_number, Action, adds}
 use Rattle.linker_laws.specs.RiscVMachine.{adds_word, jumps, loads, stores, loads_float}
-use Rattle.linker_laws.specs.RiscVMachine.{stores_float, lui, auipc, jal, sums, rs1_of}
-use Rattle.linker_laws.specs.RiscVMachine.{rs2_of, action_of, with_action, of_word, used, executed}
-use Rattle.linker_laws.specs.RiscVMachine.{load_number, bytes_of, boxed, i_type, s_type, is_add}
+use Rattle.linker_laws.specs.RiscVMachine.{stores_float, lui, auipc, jal, rs1_of}
+use Rattle.linker_laws.specs.RiscVMachine.{rs2_of, action_of, with_action, of_word, used}
+use Rattle.linker_laws.specs.RiscVMachine.{load_number, bytes_of, boxed, is_add}
 use Rattle.linker_laws.specs.RiscVMachine.{add}
-use Rattle.linker_laws.proofs.RiscVHighParts.{low_12_number, IsFormulaOf, of_address, of_offset}
-use Rattle.linker_laws.proofs.RiscVMachine.{at_start, fetched_word, steps, wrapped_is}
+use Rattle.linker_laws.proofs.RiscVMachine.{wrapped_is}
 use Rattle.linker_laws.proofs.RiscVMachine.{other, written, same_written}
 use Rattle.linker_laws.proofs.Words.{kept_field, put_there, word_below, word_of_bytes}
 
@@ -326,19 +313,19 @@ module _ (kind : RelocationKind) (x : Operands) (n : ℕ) (before code : List �
 
 -- ---- the word with another base
 
-clear_0 : (w b : ℕ) → field (with_rs1 b w) 0 7 ≡ field w 0 7
+pub clear_0 : (w b : ℕ) → field (with_rs1 b w) 0 7 ≡ field w 0 7
 clear_0 w b = omega arith
 
-clear_7 : (w b : ℕ) → field (with_rs1 b w) 7 12 ≡ field w 7 12
+pub clear_7 : (w b : ℕ) → field (with_rs1 b w) 7 12 ≡ field w 7 12
 clear_7 w b = omega arith
 
-clear_12 : (w b : ℕ) → field (with_rs1 b w) 12 15 ≡ field w 12 15
+pub clear_12 : (w b : ℕ) → field (with_rs1 b w) 12 15 ≡ field w 12 15
 clear_12 w b = omega arith
 
-clear_15 : (w b : ℕ) → b < 32 → field (with_rs1 b w) 15 20 ≡ b
+pub clear_15 : (w b : ℕ) → b < 32 → field (with_rs1 b w) 15 20 ≡ b
 clear_15 w b small = omega arith
 
-clear_20 : (w b : ℕ) → b < 32 → field (with_rs1 b w) 20 25 ≡ field w 20 25
+pub clear_20 : (w b : ℕ) → b < 32 → field (with_rs1 b w) 20 25 ≡ field w 20 25
 clear_20 w b small = omega arith
 
 -- what a rewrite of a word puts there
@@ -365,12 +352,12 @@ based_there section o b small inside bytes =
     word_there section o (with_rs1 b) inside (omega arith)
 
 -- x0 and the thread pointer as the base
-abbrev IsBased : RelaxationKind → ℕ → Type 0
+abbrev pub IsBased : RelaxationKind → ℕ → Type 0
 IsBased k b =
     (section : List ℕ) (o : ℕ) → o + 4 ≤ length section → AreBytes (drop o section)
     → from_le_bytes w32 (drop o (after_rewrite k section o)) ≡ with_rs1 b (word_at section o)
 
-over_zero : IsBased kinds.Lo12Rs1ToZero 0
+pub over_zero : IsBased kinds.Lo12Rs1ToZero 0
 over_zero section o inside bytes =
     let word = word_at section o in
     let below : word < 2 ^ 32 = word_below (drop o section) bytes
@@ -378,283 +365,5 @@ over_zero section o inside bytes =
     word_there section o (λ w. w - field w 15 20 * 2 ^ 15) inside (omega arith)
     ∙ omega arith
 
-over_tp : IsBased kinds.BaseToTp 4
+pub over_tp : IsBased kinds.BaseToTp 4
 over_tp section o inside bytes = based_there section o 4 (omega arith) inside bytes
-
--- ---- both instructions
-
--- Both use the same sum: one from a register, and one from another base that has its number.
-both_end : (a : Action) (differs : ℕ → Bool) (rd rs1 b rs2 : ℕ) (i : ℤ) (n : ℕ)
-    (code code' : List ℕ) → 4 ≤ length code → 4 ≤ length code'
-    → field (from_le_bytes w32 code) 0 2 ≡ 3 → field (from_le_bytes w32 code') 0 2 ≡ 3
-    → of_word (from_le_bytes w32 code) ≡ Some (sums a rd rs1 rs2 i)
-    → of_word (from_le_bytes w32 code') ≡ Some (sums a rd b rs2 i)
-    → ((v : ℕ) → moved v i ≡ sum_64 v n) → (h k : Hart) → h.pc < 2 ^ 64 → k.pc < 2 ^ 64
-    → AreAlike differs h k → register h rs1 ≡ register k b → StoresTheSame a rs2 h k
-    → EndSo 1 code h 1 code' k (λ e e'. AreAlike (differs_after a differs rd) e e'
-    × GoOn a rd (sum_64 (register k b) n - sum_64 (register k b) n % 2) (sum_64 h.pc 4)
-    (sum_64 k.pc 4) e e')
-both_end a differs rd rs1 b rs2 i n code code' long long' low low' is is' sum h k small small' alike
-    same apart =
-    let instruction = sums a rd rs1 rs2 i in
-    let instruction' = sums a rd b rs2 i in
-    let m = moved (register k b) i in
-    record {
-      end = executed 4 instruction h;
-      new_end = executed 4 instruction' k;
-      runs = (
-        executed 4 instruction h,
-        steps code h.pc 0 4 instruction h (at_start h.pc small)
-            (fetched_word code instruction low long is),
-        refl,
-      );
-      new_runs = (
-        executed 4 instruction' k,
-        steps code' k.pc 0 4 instruction' k (at_start k.pc small')
-            (fetched_word code' instruction' low' long' is'),
-        refl,
-      );
-      so = subst (λ v. AreAlike (differs_after a differs rd) (used 4 a rd rs2 v h)
-          (used 4 a rd rs2 m k)
-          × GoOn a rd (sum_64 (register k b) n - sum_64 (register k b) n % 2) (sum_64 h.pc 4)
-          (sum_64 k.pc 4) (used 4 a rd rs2 v h) (used 4 a rd rs2 m k))
-          (sym (ap (λ v. moved v i) same))
-          (subst (λ t. AreAlike (differs_after a differs rd) (used 4 a rd rs2 m h)
-          (used 4 a rd rs2 m k)
-          × GoOn a rd (t - t % 2) (sum_64 h.pc 4) (sum_64 k.pc 4) (used 4 a rd rs2 m h)
-          (used 4 a rd rs2 m k)) (sum (register k b))
-          (alike_used a differs rd rs2 m h k apart alike));
-    }
-
--- The law of an action whose instruction has the registers rd and rs2 in its use: with a row of a
--- number, and a rewrite that makes b the base.
-abbrev pub LowLaw : Option RelocationKindInfo → (Operands → ℕ) → RelaxationKind → ℕ → Action → ℕ
-    → ℕ → List ℕ → ℕ → Type 0
-LowLaw row number kind b a rd rs2 section o =
-    let rs1 = rs1_of (word_at section o) in
-    (x y : Operands) → number x ≡ number y
-    → IsWithin (Some low_12_bounds) (cast_signed w64 (number x)) → (original new : List ℕ)
-    → Relocated row x (drop o section) original
-    → Relocated row y (drop o (after_rewrite kind section o)) new
-    → (h k : Hart) (differs : ℕ → Bool) → h.pc < 2 ^ 64 → k.pc < 2 ^ 64 → AreAlike differs h k
-    → register h rs1 ≡ register k b → StoresTheSame a rs2 h k
-    → EndSo 1 original h 1 new k (λ e e'. AreAlike (differs_after a differs rd) e e'
-    × GoOn a rd (sum_64 (register k b) (number x) - sum_64 (register k b) (number x) % 2)
-    (sum_64 h.pc 4) (sum_64 k.pc 4) e e')
-
-module _ (kind : RelocationKind) (number : Operands → ℕ) (of : IsFormulaOf kind number)
-    (rewrite : RelaxationKind) (b : ℕ) (base : b < 32) (based : IsBased rewrite b)
-    (a : Action) (section : List ℕ) (o : ℕ) (inside : o + 4 ≤ length section)
-    (is : action_of (opcode_of (word_at section o)) (funct3_of (word_at section o)) ≡ Some a)
-    (long : opcode_of (word_at section o) % 4 ≡ 3) where
-  low_bits : (w : ℕ) → field w 0 7 ≡ opcode_of (word_at section o) → field w 0 2 ≡ 3
-  low_bits w e = omega (arith, e, long)
-
-  as_action : (w : ℕ) → field w 0 7 ≡ opcode_of (word_at section o)
-      → field w 12 15 ≡ funct3_of (word_at section o) → of_word w ≡ with_action w (Some a)
-  as_action w e f =
-      is_action w a (ap (λ n. action_of n (funct3_of w)) e
-      ∙ ap (action_of (opcode_of (word_at section o))) f ∙ is)
-
-  pub i_law : ((w : ℕ) → with_action w (Some a) ≡ i_type a w)
-      → LowLaw (Some (pair_row kind 32 IType)) number rewrite b a (rd_of (word_at section o)) 0
-      section o
-  i_law form x y one low original new old_code new_code h k differs small small' alike same apart =
-      let word = word_at section o in
-      let n = number x in
-      let before' = drop o (after_rewrite rewrite section o) in
-      let w = from_le_bytes w32 original in
-      let w' = from_le_bytes w32 new in
-      let ap1 = old_code.applied in
-      let ap2 = new_code.applied in
-      let l = old_code.len in
-      let l' = new_code.len in
-      let long_before : 4 ≤ length (drop o section) = ap1.accepted.long in
-      let long_before' : 4 ≤ length before' = ap2.accepted.long in
-      let there = based section o inside old_code.old_bytes in
-      let i = signed 12 (n % 2 ^ 32 % 4096) in
-      let kept = i_kept kind x n (drop o section) original ap1 (of.1 x) (of.0 IType x) in
-      let kept' = i_kept kind y (number y) before' new ap2 (of.1 y) (of.0 IType y) in
-      let opcode : field w 0 7 ≡ field word 0 7 = kept 0 7 refl in
-      let function : field w 12 15 ≡ field word 12 15 = kept 12 3 refl in
-      let rd : field w 7 12 ≡ field word 7 12 = kept 7 5 refl in
-      let rs1 : field w 15 20 ≡ field word 15 20 = kept 15 5 refl in
-      let opcode' : field w' 0 7 ≡ field word 0 7
-      = kept' 0 7 refl ∙ ap (λ v. field v 0 7) there ∙ clear_0 word b in
-      let function' : field w' 12 15 ≡ field word 12 15
-      = kept' 12 3 refl ∙ ap (λ v. field v 12 15) there ∙ clear_12 word b in
-      let rd' : field w' 7 12 ≡ field word 7 12
-      = kept' 7 5 refl ∙ ap (λ v. field v 7 12) there ∙ clear_7 word b in
-      let rs1' : field w' 15 20 ≡ b
-      = kept' 15 5 refl ∙ ap (λ v. field v 15 20) there ∙ clear_15 word b base in
-      both_end a differs (rd_of word) (rs1_of word) b 0 i n original new
-      (omega (arith, long_before, l)) (omega (arith, long_before', l')) (low_bits w opcode)
-      (low_bits w' opcode')
-      (as_action w opcode function ∙ form w
-      ∙ ap (λ v. Some (sums a v (rs1_of w) 0 ((riscv_form IType).machine w))) rd
-      ∙ ap (λ v. Some (sums a (rd_of word) v 0 ((riscv_form IType).machine w))) rs1
-      ∙ ap (λ v. Some (sums a (rd_of word) (rs1_of word) 0 (signed 12 v)))
-      (i_stands kind x n (drop o section) original ap1 (of.1 x) (of.0 IType x)))
-      (as_action w' opcode' function' ∙ form w'
-      ∙ ap (λ v. Some (sums a v (rs1_of w') 0 ((riscv_form IType).machine w'))) rd'
-      ∙ ap (λ v. Some (sums a (rd_of word) v 0 ((riscv_form IType).machine w'))) rs1'
-      ∙ ap (λ v. Some (sums a (rd_of word) b 0 (signed 12 v)))
-      (i_stands kind y (number y) before' new ap2 (of.1 y) (of.0 IType y)
-      ∙ ap (λ t. t % 2 ^ 32 % 4096) (sym one)))
-      (λ v. low_sum v n (n % 2 ^ 32 % 4096) (of.1 x) (low_12_number n (of.1 x) low) refl)
-      h k small small' alike same apart
-
-  pub s_law : ((w : ℕ) → with_action w (Some a) ≡ s_type a w)
-      → LowLaw (Some (pair_row kind 32 SType)) number rewrite b a 0 (rs2_of (word_at section o))
-      section o
-  s_law form x y one low original new old_code new_code h k differs small small' alike same apart =
-      let word = word_at section o in
-      let n = number x in
-      let before' = drop o (after_rewrite rewrite section o) in
-      let w = from_le_bytes w32 original in
-      let w' = from_le_bytes w32 new in
-      let ap1 = old_code.applied in
-      let ap2 = new_code.applied in
-      let l = old_code.len in
-      let l' = new_code.len in
-      let long_before : 4 ≤ length (drop o section) = ap1.accepted.long in
-      let long_before' : 4 ≤ length before' = ap2.accepted.long in
-      let there = based section o inside old_code.old_bytes in
-      let i = signed 12 (n % 2 ^ 32 % 4096) in
-      let kept = s_kept kind x n (drop o section) original ap1 (of.1 x) (of.0 SType x) in
-      let kept' = s_kept kind y (number y) before' new ap2 (of.1 y) (of.0 SType y) in
-      let opcode : field w 0 7 ≡ field word 0 7 = kept 0 7 refl in
-      let function : field w 12 15 ≡ field word 12 15 = kept 12 3 refl in
-      let rs1 : field w 15 20 ≡ field word 15 20 = kept 15 5 refl in
-      let rs2 : field w 20 25 ≡ field word 20 25 = kept 20 5 refl in
-      let opcode' : field w' 0 7 ≡ field word 0 7
-      = kept' 0 7 refl ∙ ap (λ v. field v 0 7) there ∙ clear_0 word b in
-      let function' : field w' 12 15 ≡ field word 12 15
-      = kept' 12 3 refl ∙ ap (λ v. field v 12 15) there ∙ clear_12 word b in
-      let rs1' : field w' 15 20 ≡ b
-      = kept' 15 5 refl ∙ ap (λ v. field v 15 20) there ∙ clear_15 word b base in
-      let rs2' : field w' 20 25 ≡ field word 20 25
-      = kept' 20 5 refl ∙ ap (λ v. field v 20 25) there ∙ clear_20 word b base in
-      both_end a differs 0 (rs1_of word) b (rs2_of word) i n original new
-      (omega (arith, long_before, l)) (omega (arith, long_before', l')) (low_bits w opcode)
-      (low_bits w' opcode')
-      (as_action w opcode function ∙ form w
-      ∙ ap (λ v. Some (sums a 0 v (rs2_of w) ((riscv_form SType).machine w))) rs1
-      ∙ ap (λ v. Some (sums a 0 (rs1_of word) v ((riscv_form SType).machine w))) rs2
-      ∙ ap (λ v. Some (sums a 0 (rs1_of word) (rs2_of word) (signed 12 v)))
-      (s_stands kind x n (drop o section) original ap1 (of.1 x) (of.0 SType x)))
-      (as_action w' opcode' function' ∙ form w'
-      ∙ ap (λ v. Some (sums a 0 v (rs2_of w') ((riscv_form SType).machine w'))) rs1'
-      ∙ ap (λ v. Some (sums a 0 b v ((riscv_form SType).machine w'))) rs2'
-      ∙ ap (λ v. Some (sums a 0 b (rs2_of word) (signed 12 v)))
-      (s_stands kind y (number y) before' new ap2 (of.1 y) (of.0 SType y)
-      ∙ ap (λ t. t % 2 ^ 32 % 4096) (sym one)))
-      (λ v. low_sum v n (n % 2 ^ 32 % 4096) (of.1 x) (low_12_number n (of.1 x) low) refl)
-      h k small small' alike same apart
-
--- ---- the laws
-
-from_zero : (section : List ℕ) (o : ℕ) (a : Action) (rd rs2 : ℕ) (row : Option RelocationKindInfo)
-    → LowLaw row symbol_address kinds.Lo12Rs1ToZero 0 a rd rs2 section o → (x y : Operands)
-    → HaveOneTarget x y → IsLow12 x → (original new : List ℕ)
-    → Relocated row x (drop o section) original
-    → Relocated row y (drop o (after_rewrite kinds.Lo12Rs1ToZero section o)) new
-    → (h k : Hart) (differs : ℕ → Bool) → h.pc < 2 ^ 64 → k.pc < 2 ^ 64 → AreAlike differs h k
-    → register h (rs1_of (word_at section o)) ≡ 0 → StoresTheSame a rs2 h k
-    → EndSo 1 original h 1 new k
-    (λ e e'. AreAlike (differs_after a differs rd) e e'
-    × GoOn a rd (even symbol_address x) (sum_64 h.pc 4) (sum_64 k.pc 4) e e')
-from_zero section o a rd rs2 row law x y one low original new old_code new_code h k differs small
-    small' alike none apart =
-    let n = symbol_address x in
-    let below : n < 2 ^ 64 = sum_below x.symbol _ in
-    let whole : sum_64 0 n ≡ n = omega arith in
-    subst (λ t. EndSo 1 original h 1 new k (λ e e'. AreAlike (differs_after a differs rd) e e'
-    × GoOn a rd (t - t % 2) (sum_64 h.pc 4) (sum_64 k.pc 4) e e')) whole
-    (law x y one low original new old_code new_code h k differs small small' alike none apart)
-
-module _ (section : List ℕ) (o : ℕ) (inside : o + 4 ≤ length section) (a : Action)
-    (is : action_of (opcode_of (word_at section o)) (funct3_of (word_at section o)) ≡ Some a)
-    (long : opcode_of (word_at section o) % 4 ≡ 3) where
-  i_zero : ((w : ℕ) → with_action w (Some a) ≡ i_type a w)
-      → LowLaw (riscv_row names.R_RISCV_LO12_I) symbol_address kinds.Lo12Rs1ToZero 0 a
-      (rd_of (word_at section o)) 0 section o
-  i_zero =
-      i_law Absolute symbol_address of_address kinds.Lo12Rs1ToZero 0 (omega arith) over_zero a
-      section o inside is long
-
-  s_zero : ((w : ℕ) → with_action w (Some a) ≡ s_type a w)
-      → LowLaw (riscv_row names.R_RISCV_LO12_S) symbol_address kinds.Lo12Rs1ToZero 0 a 0
-      (rs2_of (word_at section o)) section o
-  s_zero =
-      s_law Absolute symbol_address of_address kinds.Lo12Rs1ToZero 0 (omega arith) over_zero a
-      section o inside is long
-
-  i_thread : ((w : ℕ) → with_action w (Some a) ≡ i_type a w)
-      → LowLaw (riscv_row names.R_RISCV_TPREL_LO12_I) thread_offset kinds.BaseToTp 4 a
-      (rd_of (word_at section o)) 0 section o
-  i_thread =
-      i_law TpOff thread_offset of_offset kinds.BaseToTp 4 (omega arith) over_tp a section o inside
-      is long
-
-  s_thread : ((w : ℕ) → with_action w (Some a) ≡ s_type a w)
-      → LowLaw (riscv_row names.R_RISCV_TPREL_LO12_S) thread_offset kinds.BaseToTp 4 a 0
-      (rs2_of (word_at section o)) section o
-  s_thread =
-      s_law TpOff thread_offset of_offset kinds.BaseToTp 4 (omega arith) over_tp a section o inside
-      is long
-
-pub law : (section : List ℕ) (o : ℕ) → o + 4 ≤ length section → (a : Action)
-    → action_of (opcode_of (word_at section o)) (funct3_of (word_at section o)) ≡ Some a
-    → opcode_of (word_at section o) % 4 ≡ 3 → FromZero section o a
-law section o inside adds is long =
-    from_zero section o adds (rd_of (word_at section o)) 0 (riscv_row names.R_RISCV_LO12_I)
-    (i_zero section o inside adds is long (λ w. refl))
-law section o inside adds_word is long =
-    from_zero section o adds_word (rd_of (word_at section o)) 0 (riscv_row names.R_RISCV_LO12_I)
-    (i_zero section o inside adds_word is long (λ w. refl))
-law section o inside jumps is long =
-    from_zero section o jumps (rd_of (word_at section o)) 0 (riscv_row names.R_RISCV_LO12_I)
-    (i_zero section o inside jumps is long (λ w. refl))
-law section o inside (loads f) is long =
-    from_zero section o (loads f) (rd_of (word_at section o)) 0 (riscv_row names.R_RISCV_LO12_I)
-    (i_zero section o inside (loads f) is long (λ w. refl))
-law section o inside (stores f) is long =
-    from_zero section o (stores f) 0 (rs2_of (word_at section o)) (riscv_row names.R_RISCV_LO12_S)
-    (s_zero section o inside (stores f) is long (λ w. refl))
-law section o inside (loads_float f) is long =
-    from_zero section o (loads_float f) (rd_of (word_at section o)) 0
-    (riscv_row names.R_RISCV_LO12_I) (i_zero section o inside (loads_float f) is long (λ w. refl))
-law section o inside (stores_float f) is long =
-    from_zero section o (stores_float f) 0 (rs2_of (word_at section o))
-    (riscv_row names.R_RISCV_LO12_S) (s_zero section o inside (stores_float f) is long (λ w. refl))
-
-pub low_part_from_zero : LowPartFromZero
-low_part_from_zero section o m =
-    let word = word_at section o in
-    let some = some_action (opcode_of word) (funct3_of word) m.1 in
-    subst (λ r. IsSomeAnd r (FromZero section o)) (sym some.1)
-    (law section o m.0 some.0 some.1 some.2)
-
-pub thread_law : (section : List ℕ) (o : ℕ) → o + 4 ≤ length section → (a : Action)
-    → action_of (opcode_of (word_at section o)) (funct3_of (word_at section o)) ≡ Some a
-    → opcode_of (word_at section o) % 4 ≡ 3 → FromThreadPointer section o a
-thread_law section o inside adds is long = i_thread section o inside adds is long (λ w. refl)
-thread_law section o inside adds_word is long =
-    i_thread section o inside adds_word is long (λ w. refl)
-thread_law section o inside jumps is long = i_thread section o inside jumps is long (λ w. refl)
-thread_law section o inside (loads f) is long =
-    i_thread section o inside (loads f) is long (λ w. refl)
-thread_law section o inside (stores f) is long =
-    s_thread section o inside (stores f) is long (λ w. refl)
-thread_law section o inside (loads_float f) is long =
-    i_thread section o inside (loads_float f) is long (λ w. refl)
-thread_law section o inside (stores_float f) is long =
-    s_thread section o inside (stores_float f) is long (λ w. refl)
-
-pub low_part_from_tp : LowPartFromThreadPointer
-low_part_from_tp section o m =
-    let word = word_at section o in
-    let some = some_action (opcode_of word) (funct3_of word) m.1 in
-    subst (λ r. IsSomeAnd r (FromThreadPointer section o)) (sym some.1)
-    (thread_law section o m.0 some.0 some.1 some.2)

@@ -1,10 +1,9 @@
 -- What RISC-V's instructions are, by their bits, and what they leave.
 use Rattle.std.proofs.Common.{◌≡◌, ◌≢◌, ℕ, ◌+◌, ◌-◌, ◌*◌, ◌/◌, ◌%◌, ◌^◌, ◌<◌, ◌≤◌, Bool, true}
-use Rattle.std.proofs.Common.{false, refl, sym, ◌∙◌, ap, subst, arith, List, length, drop, ℤ, pos}
+use Rattle.std.proofs.Common.{false, refl, sym, ◌∙◌, ap, arith, List, length, drop, ℤ, pos}
 use Rattle.std.proofs.Common.{negsuc, ◌+ℤ◌, ◌*ℤ◌, unsigned_abs, Option, Some, None}
 use Rattle.std.proofs.Common.{if◌then◌else◌}
-use Rattle.std.specs.Prelude.{◌==◌, ◌&&◌, nat_le}
-use Rattle.std.specs.Option.{IsSomeAnd}
+use Rattle.std.specs.Prelude.{◌==◌, ◌&&◌, nat_le, option_map}
 use Rattle.std.specs.Int.{w16, w32, from_le_bytes}
 use Rattle.std.proofs.lemmas.Bool.{le-leb}
 use Rattle.std.proofs.lemmas.Int.{ints}
@@ -116,8 +115,7 @@ pub steps : (code : List ℕ) (start k n : ℕ) (i : Instruction) (h : Hart)
     → difference_64 h.pc start ≡ k → fetched (drop k code) ≡ Some (n, i)
     → Steps code start h (executed n i h)
 steps code start k n i h at is =
-    subst (λ f. IsSomeAnd f (λ j. executed n i h ≡ executed j.0 j.1 h))
-    (sym (ap (λ o. fetched (drop o code)) at ∙ is)) refl
+    ap (option_map (λ j. executed j.0 j.1 h)) (ap (λ o. fetched (drop o code)) at ∙ is)
 
 module _ (x : ℕ) where
   by_opcode : ℕ → Option Instruction

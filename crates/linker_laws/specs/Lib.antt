@@ -15,6 +15,8 @@ pub mod Ppc64Machine
 pub mod Ppc64RelocationLaws
 pub mod Ppc64RewriteLaws
 pub mod RiscVExamples
+pub mod RiscVGroups
+pub mod RiscVGroupsWorked
 pub mod RiscVMachine
 pub mod RiscVRelocationLaws
 pub mod RiscVRewriteLaws

@@ -3,7 +3,7 @@
 -- written, and code is apart from memory.
 use Rattle.std.specs.Prelude.{◌≡◌, ℕ, zero, suc, ◌+◌, ◌-◌, ◌*◌, ◌%◌, ◌^◌, ◌==◌, ◌&&◌, ◌||◌}
 use Rattle.std.specs.Prelude.{nat_lt, nat_le, if◌then◌else◌, List, length, drop, ℤ, pos}
-use Rattle.std.specs.Prelude.{Option, Some, None, IsSomeAnd, Bool, not}
+use Rattle.std.specs.Prelude.{Option, Some, None, option_map, Bool, not}
 use Rattle.std.specs.Int.{w16, w32, from_le_bytes}
 use Rattle.linker_base.specs.Bits.{field, signed}
 use Rattle.linker_elf.specs.RiscV.{riscv_form}
@@ -195,10 +195,13 @@ fetched bytes =
     then (if nat_le 4 (length bytes) then sized 4 (of_word (from_le_bytes w32 bytes)) else None)
     else (if nat_le 2 (length bytes) then sized 2 (of_half (from_le_bytes w16 bytes)) else None)
 
+-- what a hart is after the instruction that the bytes from its pc on begin with
+abbrev pub step : List ℕ → Hart → Option Hart
+step bytes h = option_map (λ i. executed i.0 i.1 h) (fetched bytes)
+
 -- a hart executes the instruction of its pc, in code whose first byte has an address
 abbrev pub Steps : List ℕ → ℕ → Hart → Hart → Type 0
-Steps code start h after =
-    IsSomeAnd (fetched (drop (difference_64 h.pc start) code)) (λ i. after ≡ executed i.0 i.1 h)
+Steps code start h after = step (drop (difference_64 h.pc start) code) h ≡ Some after
 
 -- it executes n instructions
 abbrev pub Runs : ℕ → List ℕ → ℕ → Hart → Hart → Type 0

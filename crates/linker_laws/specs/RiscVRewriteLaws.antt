@@ -1,37 +1,25 @@
--- RISC-V: the rewrites compute the same. Each law begins with a section in which the rewrite's
--- instruction is at an offset, and with the bytes from there on, in two layouts: the original ones
--- with their relocation applied, and those after the rewrite and its deletion with theirs. From
--- harts that are alike, each at its own place, both run to an end, and are alike again, but for the
--- registers that the law lists and for addresses in code.
-use Rattle.std.specs.Prelude.{◌≡◌, ℕ, ◌+◌, ◌<◌, ◌^◌, ◌==◌, ◌&&◌, ◌||◌, not, Bool, false, List, drop}
-use Rattle.std.specs.Prelude.{take, ◌++◌, ◌-◌, ◌*◌, ◌%◌, Option, Some, IsSomeAnd, ⊤, ◌≢◌, length}
-use Rattle.std.specs.Prelude.{if◌then◌else◌, ◌≤◌}
+-- RISC-V: what laws of rewrites name, and runs of two harts that are alike.
+use Rattle.std.specs.Prelude.{◌≡◌, ℕ, ◌==◌, ◌&&◌, ◌||◌, not, Bool, false, List}
+use Rattle.std.specs.Prelude.{Option, Some, ⊤, ◌≢◌}
 use Rattle.std.specs.Int.{w32, w64, cast_signed, from_le_bytes}
 use Rattle.linker_base.specs.Rewrite.{rewritten}
 use Rattle.linker_elf.specs.Choices.{low_12_bounds, symbol_and_addend}
 use Rattle.linker_elf.specs.Elf.{IsWithin}
-use Rattle.linker_elf.specs.Originals.{HasWord}
-use Rattle.linker_utils.specs.RiscVRewrites.{riscv_rewrite, tp, a0}
-use Rattle.linker_riscv64.specs.RiscVCalls.{word_at, IsCallPair}
+use Rattle.linker_utils.specs.RiscVRewrites.{riscv_rewrite, a0}
+use Rattle.linker_riscv64.specs.RiscVCalls.{word_at}
 use Rattle.linker_riscv64.specs.RiscVFields.{opcode_of, funct3_of, rd_of}
-use Rattle.linker_utils.specs.RiscVRewrites.{riscv_matches, IsLui}
-use Rattle.linker_utils.specs.RiscVRewrites.{IsAddTp, IsAuipc, IsLd, IsAddiToA0}
-use Rattle.linker_utils.specs.RiscVRewrites.{IsCallOfDescriptor, half_at}
-use Rattle.linker_elf.specs.RiscVRelocations.{riscv_row, clui_row, riscv_relocation}
-use Rattle.linker_elf.specs.Value.{sum_64, difference_64}
+use Rattle.linker_utils.specs.RiscVRewrites.{IsAuipc, IsLd, IsAddiToA0}
+use Rattle.linker_utils.specs.RiscVRewrites.{IsCallOfDescriptor}
+use Rattle.linker_elf.specs.RiscVRelocations.{riscv_row}
+use Rattle.linker_elf.specs.Value.{difference_64}
 use Rattle.linker_elf.specs.declared.elf.RelocationKindInfo.{RelocationKindInfo}
 use Rattle.linker_elf.specs.declared.elf.value.Operands.{Operands}
-use Rattle.linker_elf.specs.declared.riscv64.relocations.RiscVRelocation.{RiscVRelocation}
 use Rattle.linker_elf.specs.declared.riscv64.relocations.RiscVRelocation.TheVariants as names
 use Rattle.linker_utils.specs.declared.riscv64.rewrites.RelaxationKind.{RelaxationKind}
-use Rattle.linker_utils.specs.declared.riscv64.rewrites.RelaxationKind.TheVariants as kinds
-use Rattle.linker_laws.specs.RiscVRelocationLaws.{even}
-use Rattle.linker_laws.specs.Schemes.{AreAddresses, symbol_address, plt_address}
-use Rattle.linker_laws.specs.Schemes.{entry_and_addend}
-use Rattle.linker_laws.specs.Machine.{Relocated, deleted, loaded, but}
+use Rattle.linker_laws.specs.Schemes.{symbol_address}
 use Rattle.linker_laws.specs.RiscVMachine.{Hart, register, Action, adds, adds_word, jumps, loads}
 use Rattle.linker_laws.specs.RiscVMachine.{stores, loads_float, stores_float, action_of, rs1_of}
-use Rattle.linker_laws.specs.RiscVMachine.{rs2_of, Runs}
+use Rattle.linker_laws.specs.RiscVMachine.{Runs}
 
 -- ---- what the laws compare
 
@@ -58,92 +46,6 @@ pub record EndSo (n : ℕ) (original : List ℕ) (h : Hart) (m : ℕ) (new : Lis
 abbrev pub after_rewrite : RelaxationKind → List ℕ → ℕ → List ℕ
 after_rewrite kind section o = rewritten (riscv_rewrite kind) section o
 
--- ---- calls (psABI, "Function Call Relaxation")
-
--- Each hart is at the target of its layout. They are alike but for the link register, which has the
--- address after the call.
-pub record AreCalled (rd target back new_target new_back : ℕ) (a b : Hart) : Type 0 where
-  pub alike : AreAlike (λ r. r == rd) a b
-  pub at_target : a.pc ≡ target
-  pub at_new_target : b.pc ≡ new_target
-  pub link : register a rd ≡ back
-  pub new_link : register b rd ≡ new_back
-
--- A call through `auipc` and `jalr` goes to L + A, less its bit 0: to S + A where the symbol has no
--- PLT entry. The `jal` goes to S + A of its own layout.
-abbrev pub CallBecomesJal : RiscVRelocation → Type 0
-CallBecomesJal name =
-    (section : List ℕ) (o : ℕ) → riscv_matches kinds.CallToJal section o
-    → (x y : Operands) → AreAddresses x → AreAddresses y → (original new : List ℕ)
-    → Relocated (riscv_row name) x (drop o section) original
-    → Relocated (riscv_row names.R_RISCV_JAL) y
-    (drop o (deleted 4 (o + 4) (after_rewrite kinds.CallToJal section o))) new
-    → (h k : Hart) → h.pc ≡ x.place → k.pc ≡ y.place → AreAlike no_register h k
-    → EndSo 2 original h 1 new k
-    (AreCalled (rd_of (word_at section o)) (even plt_address x) (sum_64 x.place 8)
-    (symbol_address y) (sum_64 y.place 4))
-
--- Shrinking and runs also make a `jal` of a call that links another register than that of its
--- `auipc`, in which the `auipc` leaves a part of the address.
-pub record AreCalledOver (base rd target back new_target new_back : ℕ) (a b : Hart) : Type 0 where
-  pub alike : AreAlike (λ r. r == base || r == rd) a b
-  pub at_target : a.pc ≡ target
-  pub at_new_target : b.pc ≡ new_target
-  pub link : register a rd ≡ back
-  pub new_link : register b rd ≡ new_back
-
-abbrev pub CallOverBecomesJal : RiscVRelocation → Type 0
-CallOverBecomesJal name =
-    (section : List ℕ) (o : ℕ) → o + 8 ≤ length section
-    → IsCallPair (word_at section o) (word_at section (o + 4))
-    → rd_of (word_at section o) ≢ 0 → rd_of (word_at section (o + 4)) ≢ 0
-    → (x y : Operands) → AreAddresses x → AreAddresses y → (jal original new : List ℕ)
-    → Relocated (riscv_row name) x (drop o section) original
-    → from_le_bytes w32 jal ≡ 0x6f + rd_of (word_at section (o + 4)) * 2 ^ 7
-    → Relocated (riscv_row names.R_RISCV_JAL) y jal new
-    → (h k : Hart) → h.pc ≡ x.place → k.pc ≡ y.place → AreAlike no_register h k
-    → EndSo 2 original h 1 new k
-    (AreCalledOver (rd_of (word_at section o)) (rd_of (word_at section (o + 4)))
-    (even plt_address x) (sum_64 x.place 8) (symbol_address y) (sum_64 y.place 4))
-
--- ---- tail calls (psABI, "Compressed Tail Call Relaxation")
-
--- Each hart is at the target of its layout. They are alike but for one register.
-pub record HaveJumped (scratch target new_target : ℕ) (a b : Hart) : Type 0 where
-  pub alike : AreAlike (λ r. r == scratch) a b
-  pub at_target : a.pc ≡ target
-  pub at_new_target : b.pc ≡ new_target
-
--- A tail call leaves a part of the address in the register of its `auipc`; the jump that it becomes
--- does not. `n` bytes of the jump stay, and `less` are deleted after them.
-abbrev pub TailCallBecomes : RiscVRelocation → RelaxationKind → RiscVRelocation → ℕ → ℕ → Type 0
-TailCallBecomes name kind new_name n less =
-    (section : List ℕ) (o : ℕ) → riscv_matches kind section o
-    → (x y : Operands) → AreAddresses x → AreAddresses y → (original new : List ℕ)
-    → Relocated (riscv_row name) x (drop o section) original
-    → Relocated (riscv_row new_name) y
-    (drop o (deleted less (o + n) (after_rewrite kind section o))) new
-    → (h k : Hart) → h.pc ≡ x.place → k.pc ≡ y.place → AreAlike no_register h k
-    → EndSo 2 original h 1 new k
-    (HaveJumped (rd_of (word_at section o)) (even plt_address x) (symbol_address y))
-
-abbrev pub Calls : Type 0
-Calls = CallBecomesJal names.R_RISCV_CALL × CallBecomesJal names.R_RISCV_CALL_PLT
-
-abbrev pub CallsOverAnother : Type 0
-CallsOverAnother =
-    CallOverBecomesJal names.R_RISCV_CALL × CallOverBecomesJal names.R_RISCV_CALL_PLT
-
-abbrev pub TailCalls : Type 0
-TailCalls =
-    TailCallBecomes names.R_RISCV_CALL kinds.TailToJal names.R_RISCV_JAL 4 4
-    × TailCallBecomes names.R_RISCV_CALL_PLT kinds.TailToJal names.R_RISCV_JAL 4 4
-
-abbrev pub ShortTailCalls : Type 0
-ShortTailCalls =
-    TailCallBecomes names.R_RISCV_CALL kinds.TailToCJ names.R_RISCV_RVC_JUMP 2 6
-    × TailCallBecomes names.R_RISCV_CALL_PLT kinds.TailToCJ names.R_RISCV_RVC_JUMP 2 6
-
 -- ---- high parts (psABI, "Compressed LUI Relaxation", "Zero-page Relaxation")
 
 -- S + A is a number of 12 bits in two's complement
@@ -153,52 +55,6 @@ IsLow12 x = IsWithin (Some low_12_bounds) (symbol_and_addend x)
 -- S + A is the same in both layouts
 abbrev pub HaveOneTarget : Operands → Operands → Type 0
 HaveOneTarget x y = symbol_address x ≡ symbol_address y
-
--- The two are alike but for some registers, and after their instructions.
-pub record HaveGoneOn (differs : ℕ → Bool) (at new_at : ℕ) (a b : Hart) : Type 0 where
-  pub alike : AreAlike differs a b
-  pub next : a.pc ≡ at
-  pub new_next : b.pc ≡ new_at
-
--- `lui` and `c.lui` put the same in the register. `c.lui` has no immediate 0, so S + A isn't one of
--- 12 bits.
-abbrev pub LuiBecomesClui : Type 0
-LuiBecomesClui =
-    (section : List ℕ) (o : ℕ) → riscv_matches kinds.Hi20ToCLui section o
-    → (x y : Operands) → HaveOneTarget x y → ¬ IsLow12 x → (original new : List ℕ)
-    → Relocated (riscv_row names.R_RISCV_HI20) x (drop o section) original
-    → Relocated (Some clui_row) y
-    (drop o (deleted 2 (o + 2) (after_rewrite kinds.Hi20ToCLui section o))) new
-    → (h k : Hart) (differs : ℕ → Bool) → h.pc < 2 ^ 64 → k.pc < 2 ^ 64 → AreAlike differs h k
-    → EndSo 1 original h 1 new k
-    (HaveGoneOn (but (rd_of (word_at section o)) differs) (sum_64 h.pc 4) (sum_64 k.pc 2))
-
--- A `lui` that is deleted would put 0 in its register, and change nothing else.
-pub record HasZero (differs : ℕ → Bool) (rd following : ℕ) (a b : Hart) : Type 0 where
-  pub alike : AreAlike (λ r. differs r || r == rd) a b
-  pub zero_there : register a rd ≡ 0
-  pub next : a.pc ≡ following
-
-abbrev pub LuiIsDeleted : Type 0
-LuiIsDeleted =
-    (section : List ℕ) (o : ℕ) → riscv_matches kinds.Hi20Delete section o
-    → (x : Operands) → IsLow12 x → (original new : List ℕ)
-    → Relocated (riscv_row names.R_RISCV_HI20) x (drop o section) original
-    → (h k : Hart) (differs : ℕ → Bool) → h.pc < 2 ^ 64 → k.pc < 2 ^ 64 → AreAlike differs h k
-    → EndSo 1 original h 0 new k
-    (λ a b. HasZero differs (rd_of (word_at section o)) (sum_64 h.pc 4) a b × (b.pc ≡ k.pc))
-
--- `c.li` puts what a `lui` of the same register and of the same S + A does, a high part of 0, for
--- which there is no `c.lui`.
-abbrev pub CluiBecomesCli : Type 0
-CluiBecomesCli =
-    (section : List ℕ) (o : ℕ) → riscv_matches kinds.CLuiToCLi section o
-    → (x : Operands) → IsLow12 x → (lui original : List ℕ)
-    → IsLui (from_le_bytes w32 lui) → rd_of (from_le_bytes w32 lui) ≡ rd_of (half_at section o)
-    → Relocated (riscv_row names.R_RISCV_HI20) x lui original
-    → (h k : Hart) (differs : ℕ → Bool) → h.pc < 2 ^ 64 → k.pc < 2 ^ 64 → AreAlike differs h k
-    → EndSo 1 original h 1 (drop o (after_rewrite kinds.CLuiToCLi section o)) k
-    (HaveGoneOn (but (rd_of (half_at section o)) differs) (sum_64 h.pc 4) (sum_64 k.pc 2))
 
 -- ---- low parts (psABI, "Zero-page Relaxation")
 
@@ -238,55 +94,6 @@ abbrev pub action_at : List ℕ → ℕ → Option Action
 action_at section o =
     action_of (opcode_of (word_at section o)) (funct3_of (word_at section o))
 
--- Where the base is what the `lui` leaves, 0, x0 can be the base, whatever is in the registers that
--- differ.
-abbrev pub FromZero : List ℕ → ℕ → Action → Type 0
-FromZero section o action =
-    let rd = rd_of (word_at section o) in
-    let rs1 = rs1_of (word_at section o) in
-    (x y : Operands) → HaveOneTarget x y → IsLow12 x → (original new : List ℕ)
-    → Relocated (low_row action) x (drop o section) original
-    → Relocated (low_row action) y (drop o (after_rewrite kinds.Lo12Rs1ToZero section o)) new
-    → (h k : Hart) (differs : ℕ → Bool) → h.pc < 2 ^ 64 → k.pc < 2 ^ 64 → AreAlike differs h k
-    → register h rs1 ≡ 0 → StoresTheSame action (rs2_of (word_at section o)) h k
-    → EndSo 1 original h 1 new k (λ a b. AreAlike (differs_after action differs rd) a b
-    × GoOn action rd (even symbol_address x) (sum_64 h.pc 4) (sum_64 k.pc 4) a b)
-
-abbrev pub LowPartFromZero : Type 0
-LowPartFromZero =
-    (section : List ℕ) (o : ℕ) → riscv_matches kinds.Lo12Rs1ToZero section o
-    → IsSomeAnd (action_at section o) (FromZero section o)
-
--- ---- a `lui` and its low part (psABI, "Zero-page Relaxation")
-
--- a store stores another register than its base
-abbrev pub StoresAnother : Action → ℕ → ℕ → Type 0
-StoresAnother (stores f) rs1 rs2 = rs2 ≢ rs1
-StoresAnother action rs1 rs2 = ⊤
-
--- A `lui` with the instruction after it that adds its low part, and that instruction alone with x0
--- as its base, once the `lui` is deleted.
-abbrev pub AloneFromZero : List ℕ → ℕ → Action → Type 0
-AloneFromZero section o action =
-    let word = word_at section (o + 4) in
-    StoresAnother action (rs1_of word) (rs2_of word)
-    → (x y : Operands) → HaveOneTarget x y → IsLow12 x → (high low new : List ℕ)
-    → Relocated (riscv_row names.R_RISCV_HI20) x (drop o section) high
-    → Relocated (low_row action) x (drop (o + 4) section) low
-    → Relocated (low_row action) y
-    (drop o (deleted 4 o (after_rewrite kinds.Lo12Rs1ToZero section (o + 4)))) new
-    → (h k : Hart) → h.pc < 2 ^ 64 → k.pc < 2 ^ 64 → AreAlike no_register h k
-    → EndSo 2 (take 4 high ++ low) h 1 new k (λ a b.
-    AreAlike (differs_after action (λ r. r == rs1_of word) (rd_of word)) a b
-    × GoOn action (rd_of word) (even symbol_address x) (sum_64 h.pc 8) (sum_64 k.pc 4) a b)
-
-abbrev pub PairFromZero : Type 0
-PairFromZero =
-    (section : List ℕ) (o : ℕ) → riscv_matches kinds.Hi20Delete section o
-    → riscv_matches kinds.Lo12Rs1ToZero section (o + 4)
-    → rs1_of (word_at section (o + 4)) ≡ rd_of (word_at section o)
-    → IsSomeAnd (action_at section (o + 4)) (AloneFromZero section o)
-
 -- ---- offsets from the thread pointer (psABI, "Local-Exec TLS Relaxation")
 
 -- S + A, less the address that the thread pointer has
@@ -301,110 +108,11 @@ HaveOneOffset x y = thread_offset x ≡ thread_offset y
 abbrev pub IsLowOffset : Operands → Type 0
 IsLowOffset x = IsWithin (Some low_12_bounds) (cast_signed w64 (thread_offset x))
 
--- A `lui` that is deleted would put 0 in its register, and change nothing else.
-abbrev pub OffsetLuiIsDeleted : Type 0
-OffsetLuiIsDeleted =
-    (section : List ℕ) (o : ℕ) → HasWord section o IsLui → (x : Operands) → IsLowOffset x
-    → (original new : List ℕ)
-    → Relocated (riscv_row names.R_RISCV_TPREL_HI20) x (drop o section) original
-    → (h k : Hart) (differs : ℕ → Bool) → h.pc < 2 ^ 64 → k.pc < 2 ^ 64 → AreAlike differs h k
-    → EndSo 1 original h 0 new k
-    (λ a b. HasZero differs (rd_of (word_at section o)) (sum_64 h.pc 4) a b × (b.pc ≡ k.pc))
-
--- An `add` that is deleted would put the thread pointer's number in its
--- register, and change nothing else.
-pub record HasThreadPointer (differs : ℕ → Bool) (rd number following : ℕ) (a b : Hart) : Type 0 where
-  pub alike : AreAlike (λ r. differs r || r == rd) a b
-  pub number_there : rd ≢ 0 → register a rd ≡ number
-  pub next : a.pc ≡ following
-
--- The thread pointer is added to what a deleted `lui` left, 0, in a register that may differ.
-abbrev pub SumIsDeleted : Type 0
-SumIsDeleted =
-    (section : List ℕ) (o : ℕ) → HasWord section o IsAddTp → (new : List ℕ) (differs : ℕ → Bool)
-    → (h k : Hart) → h.pc < 2 ^ 64 → k.pc < 2 ^ 64 → AreAlike differs h k → differs tp ≡ false
-    → register k tp < 2 ^ 64 → register h (rs1_of (word_at section o)) ≡ 0
-    → EndSo 1 (drop o section) h 0 new k
-    (λ a b. HasThreadPointer differs (rd_of (word_at section o)) (register k tp) (sum_64 h.pc 4) a b
-    × (b.pc ≡ k.pc) × (register b tp ≡ register k tp))
-
 -- the relocation of a low part
 abbrev pub offset_row : Action → Option RelocationKindInfo
 offset_row (stores f) = riscv_row names.R_RISCV_TPREL_LO12_S
 offset_row (stores_float f) = riscv_row names.R_RISCV_TPREL_LO12_S
 offset_row action = riscv_row names.R_RISCV_TPREL_LO12_I
-
--- the address of a variable, less its bit 0, in the thread of which the register has the number
-abbrev pub even_in_thread : ℕ → Operands → ℕ
-even_in_thread number x =
-    let address = sum_64 number (thread_offset x) in address - address % 2
-
--- Where the base has the thread pointer's number, that register can be the base, whatever is in the
--- registers that differ.
-abbrev pub FromThreadPointer : List ℕ → ℕ → Action → Type 0
-FromThreadPointer section o action =
-    let rd = rd_of (word_at section o) in
-    let rs1 = rs1_of (word_at section o) in
-    (x y : Operands) → HaveOneOffset x y → IsLowOffset x → (original new : List ℕ)
-    → Relocated (offset_row action) x (drop o section) original
-    → Relocated (offset_row action) y (drop o (after_rewrite kinds.BaseToTp section o)) new
-    → (h k : Hart) (differs : ℕ → Bool) → h.pc < 2 ^ 64 → k.pc < 2 ^ 64 → AreAlike differs h k
-    → register h rs1 ≡ register k tp → StoresTheSame action (rs2_of (word_at section o)) h k
-    → EndSo 1 original h 1 new k (λ a b. AreAlike (differs_after action differs rd) a b
-    × GoOn action rd (even_in_thread (register k tp) x) (sum_64 h.pc 4) (sum_64 k.pc 4) a b)
-
-abbrev pub LowPartFromThreadPointer : Type 0
-LowPartFromThreadPointer =
-    (section : List ℕ) (o : ℕ) → riscv_matches kinds.BaseToTp section o
-    → IsSomeAnd (action_at section o) (FromThreadPointer section o)
-
--- `lui rA`, `add rB, rA, tp`, and an instruction over rB that `BaseToTp` is meant for, one after
--- the other from an offset on. rA isn't the thread pointer.
-pub record IsLocalExec (section : List ℕ) (o : ℕ) : Type 0 where
-  pub first : HasWord section o IsLui
-  pub second : HasWord section (o + 4) IsAddTp
-  pub third : riscv_matches kinds.BaseToTp section (o + 8)
-  pub base_of_add : rs1_of (word_at section (o + 4)) ≡ rd_of (word_at section o)
-  pub base_of_low : rs1_of (word_at section (o + 8)) ≡ rd_of (word_at section (o + 4))
-  pub high_not_tp : rd_of (word_at section o) ≢ tp
-  pub sum_not_zero : rd_of (word_at section (o + 4)) ≢ 0
-
--- rA or rB
-abbrev pub is_either : ℕ → ℕ → ℕ → Bool
-is_either a b r = r == a || r == b
-
--- The three together, and the third alone over the thread pointer, once the others are deleted. A
--- store stores neither rA nor rB.
-abbrev pub AloneFromThreadPointer : List ℕ → ℕ → Action → Type 0
-AloneFromThreadPointer section o action =
-    let high = rd_of (word_at section o) in
-    let sum = rd_of (word_at section (o + 4)) in
-    let word = word_at section (o + 8) in
-    StoresAnother action high (rs2_of word) → StoresAnother action sum (rs2_of word)
-    → (x y : Operands) → HaveOneOffset x y → IsLowOffset x → (lui low new : List ℕ)
-    → Relocated (riscv_row names.R_RISCV_TPREL_HI20) x (drop o section) lui
-    → Relocated (offset_row action) x (drop (o + 8) section) low
-    → Relocated (offset_row action) y
-    (drop o (deleted 8 o (after_rewrite kinds.BaseToTp section (o + 8)))) new
-    → (h k : Hart) → h.pc < 2 ^ 64 → k.pc < 2 ^ 64 → AreAlike no_register h k
-    → register k tp < 2 ^ 64
-    → EndSo 3 (take 4 lui ++ (take 4 (drop (o + 4) section) ++ low)) h 1 new k (λ a b.
-    AreAlike (differs_after action (is_either high sum) (rd_of word)) a b
-    × GoOn action (rd_of word) (even_in_thread (register k tp) x) (sum_64 h.pc 12) (sum_64 k.pc 4)
-    a b)
-
-abbrev pub LocalExecIsShortened : Type 0
-LocalExecIsShortened =
-    (section : List ℕ) (o : ℕ) → IsLocalExec section o
-    → IsSomeAnd (action_at section (o + 8)) (AloneFromThreadPointer section o)
-
--- What is left of an instruction that isn't deleted changes nothing but the pc.
-abbrev pub LongNopDoesNothing : Type 0
-LongNopDoesNothing =
-    (section : List ℕ) (o : ℕ) → riscv_matches kinds.ReplaceWithLongNop section o → (new : List ℕ)
-    → (h k : Hart) (differs : ℕ → Bool) → h.pc < 2 ^ 64 → AreAlike differs h k
-    → EndSo 1 (drop o (after_rewrite kinds.ReplaceWithLongNop section o)) h 0 new k
-    (λ a b. HaveGoneOn differs (sum_64 h.pc 4) k.pc a b)
 
 -- ---- the offset of a variable from the thread pointer, by a TLS descriptor (psABI, "TLS
 -- Descriptors -> Initial Exec Relaxation", "TLS Descriptors -> Local Exec Relaxation")
@@ -432,126 +140,9 @@ pub record AreOfDescriptor (auipc ld addi jalr : ℕ) : Type 0 where
   pub apart : rd_of ld ≢ rd_of auipc
   pub function_not_a0 : rd_of ld ≢ a0
 
--- What a descriptor's function may change: registers, floating-point registers, and bytes of
--- memory by their addresses. The laws hold for any. By the psABI ("TLS Descriptors") it
--- changes no register but `a0`, which has the offset, and returns by `t0`. It saves others
--- below the stack pointer, and every function may write there. Where the thread has no block
--- yet, the function makes one: it writes that block, and what the dynamic linker and the
--- allocator keep for themselves.
-pub record Changes : Type 0 where
-  pub registers : ℕ → Bool
-  pub floats : ℕ → Bool
-  pub memory : ℕ → Bool
-
--- The harts differ in no more than these and their pc.
-pub record AgreeBut (c : Changes) (a b : Hart) : Type 0 where
-  pub integers : (r : ℕ) → c.registers r ≡ false → register a r ≡ register b r
-  pub floats : (r : ℕ) → c.floats r ≡ false → a.floats r ≡ b.floats r
-  pub memory : (address : ℕ) → c.memory address ≡ false → a.memory address ≡ b.memory address
-
--- A descriptor's function, called in hart u, returns as v. It leaves the offset in `a0`, and keeps
--- all else, except what c names.
-pub record ReturnsOffset (c : Changes) (offset : ℕ) (u v : Hart) : Type 0 where
-  pub offset_is : register v a0 ≡ offset
-  pub others : (r : ℕ) → r ≢ a0 → c.registers r ≡ false → register v r ≡ register u r
-  pub floats : (r : ℕ) → c.floats r ≡ false → v.floats r ≡ u.floats r
-  pub memory : (address : ℕ) → c.memory address ≡ false → v.memory address ≡ u.memory address
-  pub back : v.pc ≡ register u t0
-
--- The four instructions are executed next. `call` says as which hart a called function returns, if
--- it does. The first 8 bytes of the descriptor have the address of a function that returns the
--- offset whenever `a0` has the descriptor's address.
-pub record Descriptor (call : Hart → Option Hart) (c : Changes) (x : Operands) (h : Hart)
-    (auipc ld addi jalr : List ℕ) : Type 0 where
-  pub small : AreAddresses x
-  pub at : h.pc ≡ x.place
-  pub lengths :
-      (length auipc ≡ 4) × (length ld ≡ 4) × (length addi ≡ 4) × (length jalr ≡ 4)
-  pub instructions : AreOfDescriptor (word_of auipc) (word_of ld) (word_of addi) (word_of jalr)
-  pub function : loaded 8 h.memory (entry_and_addend x) < 2 ^ 64
-  pub even_function : loaded 8 h.memory (entry_and_addend x) % 2 ≡ 0
-  pub returns : (u v : Hart) → u.memory ≡ h.memory
-      → u.pc ≡ loaded 8 h.memory (entry_and_addend x) → register u a0 ≡ entry_and_addend x
-      → call u ≡ Some v → ReturnsOffset c (thread_offset x) u v
-
--- Its relocations are applied.
-pub record DescriptorOf (x : Operands) (auipc ld addi auipc_of ld_of addi_of : List ℕ)
-    : Type 0 where
-  pub first :
-      Relocated ((riscv_relocation names.R_RISCV_TLSDESC_HI20).row) x auipc auipc_of
-  pub second :
-      Relocated ((riscv_relocation names.R_RISCV_TLSDESC_LOAD_LO12).row) x ld ld_of
-  pub third :
-      Relocated ((riscv_relocation names.R_RISCV_TLSDESC_ADD_LO12).row) x addi addi_of
-
--- The registers that the sequence leaves with no value that code may use: rX and rY, `t0`, which
--- has the address after the call, and those that the function may change. `a0` has the offset.
-abbrev pub is_scratch : ℕ → ℕ → (ℕ → Bool) → ℕ → Bool
-is_scratch x y changed r = if r == a0 then false else (r == t0 || r == x || r == y || changed r)
-
--- Both go on after their instructions.
-pub record HaveReturned (c : Changes) (at new_at : ℕ) (a b : Hart) : Type 0 where
-  pub alike : AgreeBut c a b
-  pub next : a.pc ≡ at
-  pub new_next : b.pc ≡ new_at
-
--- The old code ends in a call. The n instructions of the new code end as the function returns.
-abbrev pub EndAsReturned : (Hart → Option Hart) → Changes → List ℕ → Hart → ℕ → List ℕ → Hart
-    → Type 0
-EndAsReturned call c original h n new k =
-    EndSo 4 original h n new k
-    (λ u w. (v : Hart) → call u ≡ Some v
-    → HaveReturned c (sum_64 h.pc 16) (sum_64 k.pc (4 * n)) v w)
-
--- what may differ after a sequence
-abbrev pub scratch_of : List ℕ → List ℕ → Changes → Changes
-scratch_of auipc ld c =
-    record c { registers = is_scratch (rd_of (word_of auipc)) (rd_of (word_of ld)) c.registers }
-
--- `lui a0` and `addi a0, a0` in place of the `addi` and the `jalr`, once the others are deleted
-abbrev pub DescriptorToLocalExec : Type 0
-DescriptorToLocalExec =
-    (call : Hart → Option Hart) (c : Changes) (x y : Operands) (h k : Hart)
-    (auipc ld addi jalr : List ℕ) → Descriptor call c x h auipc ld addi jalr
-    → (auipc_of ld_of addi_of : List ℕ) → DescriptorOf x auipc ld addi auipc_of ld_of addi_of
-    → AreAddresses y → HaveOneOffset x y → k.pc < 2 ^ 64 → AreAlike no_register h k
-    → (lui low : List ℕ)
-    → Relocated (riscv_row names.R_RISCV_TPREL_HI20) y (after_rewrite kinds.AddiToLui addi 0) lui
-    → Relocated (riscv_row names.R_RISCV_TPREL_LO12_I) y (after_rewrite kinds.CallToAddi jalr 0) low
-    → EndAsReturned call (scratch_of auipc ld c) (auipc_of ++ ld_of ++ addi_of ++ jalr) h 2
-    (lui ++ low) k
-
--- `addi a0, x0` alone, where the offset has 12 bits
-abbrev pub DescriptorToShortLocalExec : Type 0
-DescriptorToShortLocalExec =
-    (call : Hart → Option Hart) (c : Changes) (x y : Operands) (h k : Hart)
-    (auipc ld addi jalr : List ℕ) → Descriptor call c x h auipc ld addi jalr
-    → (auipc_of ld_of addi_of : List ℕ) → DescriptorOf x auipc ld addi auipc_of ld_of addi_of
-    → HaveOneOffset x y → IsLowOffset y → k.pc < 2 ^ 64 → AreAlike no_register h k
-    → (low : List ℕ)
-    → Relocated (riscv_row names.R_RISCV_TPREL_LO12_I) y (after_rewrite kinds.CallToAddiZero jalr 0)
-    low
-    → EndAsReturned call (scratch_of auipc ld c) (auipc_of ++ ld_of ++ addi_of ++ jalr) h 1
-    low k
-
 -- the operands of a low part whose high part requires a GOT entry
 abbrev pub of_entry : Operands → Operands
 of_entry y = record y { symbol = y.got_entry }
-
--- `auipc a0` and `ld a0` of a GOT entry that holds the offset
-abbrev pub DescriptorToInitialExec : Type 0
-DescriptorToInitialExec =
-    (call : Hart → Option Hart) (c : Changes) (x y : Operands) (h k : Hart)
-    (auipc ld addi jalr : List ℕ) → Descriptor call c x h auipc ld addi jalr
-    → (auipc_of ld_of addi_of : List ℕ) → DescriptorOf x auipc ld addi auipc_of ld_of addi_of
-    → AreAddresses y → loaded 8 k.memory (entry_and_addend y) ≡ thread_offset x
-    → k.pc ≡ y.place → AreAlike no_register h k → (high low : List ℕ)
-    → Relocated (riscv_row names.R_RISCV_TLS_GOT_HI20) y (after_rewrite kinds.AddiToAuipc addi 0)
-    high
-    → Relocated (riscv_row names.R_RISCV_PCREL_LO12_I) (of_entry y)
-    (after_rewrite kinds.CallToLd jalr 0) low
-    → EndAsReturned call (scratch_of auipc ld c) (auipc_of ++ ld_of ++ addi_of ++ jalr) h 2
-    (high ++ low) k
 
 -- ---- the address of a symbol, by its GOT entry or by the distance to it
 -- (psABI, linker relaxation)
@@ -562,50 +153,3 @@ pub record IsLoadFromGot (auipc ld : ℕ) : Type 0 where
   pub second : IsLd ld
   pub base : rs1_of ld ≡ rd_of auipc
   pub not_zero : rd_of auipc ≢ 0
-
--- Each has the address of its own layout in rY. Of the others only rX may differ.
-pub record HaveAddress (x y address new_address at new_at : ℕ) (a b : Hart) : Type 0 where
-  pub alike : AreAlike (λ r. r == x || r == y) a b
-  pub has : y ≢ 0 → register a y ≡ address
-  pub new_has : y ≢ 0 → register b y ≡ new_address
-  pub next : a.pc ≡ at
-  pub new_next : b.pc ≡ new_at
-
--- The GOT entry holds the address of the symbol.
-abbrev pub GotToAddress : Type 0
-GotToAddress =
-    (x y : Operands) (h k : Hart) (auipc ld : List ℕ) → AreAddresses x → AreAddresses y
-    → h.pc ≡ x.place → k.pc ≡ y.place → AreAlike no_register h k
-    → (length auipc ≡ 4) × (length ld ≡ 4) → IsLoadFromGot (word_of auipc) (word_of ld)
-    → loaded 8 h.memory (entry_and_addend x) ≡ symbol_address x
-    → (auipc_of ld_of high low : List ℕ)
-    → Relocated (riscv_row names.R_RISCV_GOT_HI20) x auipc auipc_of
-    → Relocated (riscv_row names.R_RISCV_PCREL_LO12_I) (of_entry x) ld ld_of
-    → Relocated (riscv_row names.R_RISCV_PCREL_HI20) y auipc high
-    → Relocated (riscv_row names.R_RISCV_PCREL_LO12_I) y (after_rewrite kinds.LdToAddi ld 0) low
-    → EndSo 2 (auipc_of ++ ld_of) h 2 (high ++ low) k
-    (HaveAddress (rd_of (word_of auipc)) (rd_of (word_of ld)) (symbol_address x) (symbol_address y)
-    (sum_64 h.pc 8) (sum_64 k.pc 8))
-
--- ---- the laws
-
--- what `rewrites` ensures
-pub record Laws : Type 0 where
-  pub calls : Calls
-  pub calls_over : CallsOverAnother
-  pub tail_calls : TailCalls
-  pub short_tail_calls : ShortTailCalls
-  pub short_high_parts : LuiBecomesClui
-  pub short_zeros : CluiBecomesCli
-  pub no_high_parts : LuiIsDeleted
-  pub low_parts : LowPartFromZero
-  pub pairs : PairFromZero
-  pub high_offsets : OffsetLuiIsDeleted
-  pub sums : SumIsDeleted
-  pub low_offsets : LowPartFromThreadPointer
-  pub local_exec : LocalExecIsShortened
-  pub nops : LongNopDoesNothing
-  pub descriptor_to_local_exec : DescriptorToLocalExec
-  pub descriptor_to_short_local_exec : DescriptorToShortLocalExec
-  pub descriptor_to_initial_exec : DescriptorToInitialExec
-  pub got : GotToAddress

@@ -11,12 +11,12 @@ ghost use Rattle.linker_laws.specs.AArch64Worked as aarch64_worked;
 ghost use Rattle.linker_laws.specs.LoongArchRewriteLaws as loongarch_laws;
 ghost use Rattle.linker_laws.specs.Ppc64RewriteLaws as ppc64_laws;
 ghost use Rattle.linker_laws.specs.RiscVExamples as riscv_examples;
-ghost use Rattle.linker_laws.specs.RiscVRewriteLaws as riscv_laws;
 ghost use Rattle.linker_laws.specs.X86Examples as x86_examples;
 ghost use Rattle.linker_laws.specs.X86RewriteLaws as x86_laws;
 ghost use Rattle.linker_laws.specs.X86ThreadLaws as x86_thread_laws;
 
-/// AArch64: the bytes of instructions that a rewrite leaves may be a section's, from the instruction
+/// AArch64: the bytes of instructions that a rewrite leaves may be a section's, from the
+/// instruction
 /// on. What they compute is in `simulation::aarch64`.
 pub fn aarch64()
     ensures sections { aarch64_laws.InSections }
@@ -39,26 +39,15 @@ pub fn ppc64()
     crate::relocations::ppc64();
 }
 
-/// RISC-V: a call that becomes `jal`, and a tail call that becomes `jal` or `c.j`, go to the
-/// target of their layout, and a call links the address after it, also in another register than
-/// that of its `auipc`; `c.lui` puts in its register what `lui` does; so does `c.li` of 0 where
-/// the high part is 0, in place of a `c.lui` that can't have that; a `lui` that is deleted would
-/// put 0 there, so that x0 can be the base of the instructions that add its low part. All else
-/// that a program sees is the same, except for the register of the `auipc` of a call that doesn't
-/// link it and that of a deleted `lui`. Where the offset of a variable has 12 bits, the thread
-/// pointer is the base in place of a register that would have its number, and the instruction over
-/// it does alone what it does after `lui` and `add`. The offset of a variable is in the
-/// instructions, or in its GOT entry, in place of a descriptor; a symbol's address is computed in
-/// place of a load from the GOT.
+/// RISC-V: examples of what bytes are, and of what instructions do. What rewritten instructions
+/// compute
+/// is in `simulation::riscv64`.
 pub fn riscv64()
-    ensures laws { riscv_laws.Laws }
     ensures words { riscv_examples.Words }
     ensures halves { riscv_examples.Halves }
     ensures execution { riscv_examples.Execution }
     ensures sequences { riscv_examples.Sequences }
-{
-    crate::relocations::riscv64();
-}
+{}
 
 /// LoongArch: the address of a symbol without its GOT entry, or by `pcaddi`, and so that of a GOT
 /// entry for general- or local-dynamic; the offset of a variable from the thread pointer in the

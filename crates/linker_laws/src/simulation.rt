@@ -7,6 +7,8 @@
 ghost use Rattle.linker_laws.specs.AArch64Groups as aarch64_groups;
 ghost use Rattle.linker_laws.specs.AArch64GroupsWorked as aarch64_worked;
 ghost use Rattle.linker_laws.specs.Chains as chains;
+ghost use Rattle.linker_laws.specs.RiscVGroups as riscv_groups;
+ghost use Rattle.linker_laws.specs.RiscVGroupsWorked as riscv_worked;
 ghost use Rattle.linker_laws.specs.Simulation as simulation;
 ghost use Rattle.linker_laws.specs.SimulationWorked as worked;
 
@@ -26,7 +28,8 @@ pub fn worked()
     ensures chain { worked.IsChainWorked }
 {}
 
-/// AArch64: rewritten instructions are groups, whatever the machine's other instructions do: loads of
+/// AArch64: rewritten instructions are groups, whatever the machine's other instructions do: loads
+/// of
 /// addresses from the GOT, each half of initial-exec, whatever stands between them, and branches to
 /// undefined weak symbols. An instruction that has the same word in both is another one, if the
 /// object's keeps agreement.
@@ -36,10 +39,32 @@ pub fn aarch64()
     crate::relocations::aarch64();
 }
 
-/// AArch64: a program with three groups, of which every premise holds. Both of its runs are computed
+/// AArch64: a program with three groups, of which every premise holds. Both of its runs are
+/// computed
 /// to the end.
 pub fn aarch64_worked()
     ensures worked { aarch64_worked.IsWorked }
 {
     aarch64();
+}
+
+/// RISC-V: rewritten instructions are groups, whatever the machine's other instructions do, and
+/// code
+/// gets shorter: high parts that are shortened or deleted, with the `add` of the thread pointer,
+/// low
+/// parts over another base, whatever stands between them, calls that become jumps, and loads of
+/// addresses from the GOT.
+pub fn riscv64()
+    ensures groups { riscv_groups.Groups }
+{
+    crate::relocations::riscv64();
+}
+
+/// RISC-V: a program with three groups, of which every premise holds. Both of its runs are
+/// computed to
+/// the end.
+pub fn riscv64_worked()
+    ensures worked { riscv_worked.IsWorked }
+{
+    riscv64();
 }

@@ -7,18 +7,18 @@ use Rattle.linker_final.proofs.laws.riscv64.Goals as goal
 
 pub returns : goal.returns
 returns c =
-    let laws = c.riscv64.ensures.laws in
+    let groups = c.riscv64.ensures.groups in
     record {
-      got_loads = joined laws;
-      low_parts = low_parts laws;
-      high_parts = high_parts laws;
-      sums = sums laws;
-      descriptors = descriptors laws;
-      short_descriptors = short_descriptors laws;
-      nops = nops laws;
+      got_loads = joined groups;
+      low_parts = low_parts groups;
+      high_parts = high_parts groups;
+      sums = sums groups;
+      descriptors = descriptors groups;
+      short_descriptors = short_descriptors groups;
+      nops = nops;
       offsets_are_low = offsets_are_low;
-      got_loads_anywhere = got_loads_anywhere laws;
-      low_parts_anywhere = low_parts_anywhere laws;
-      descriptors_anywhere = descriptors_anywhere laws;
-      short_descriptors_anywhere = short_descriptors_anywhere laws;
+      got_loads_anywhere = got_loads_anywhere groups;
+      low_parts_anywhere = low_parts_anywhere groups;
+      descriptors_anywhere = descriptors_anywhere groups;
+      short_descriptors_anywhere = short_descriptors_anywhere groups;
     }

@@ -4,11 +4,11 @@ use Rattle.linker_final.proofs.packed.joined_riscv64.Goals as goal
 
 pub returns : goal.returns
 returns c =
-    let laws = c.riscv64.ensures.laws in
+    let groups = c.riscv64.ensures.groups in
     record {
-      got_loads = packed_got_loads laws;
-      low_parts = packed_low_parts laws;
-      descriptors = packed_descriptors laws;
-      short_descriptors = packed_short_descriptors laws;
-      nops = packed_nops laws;
+      got_loads = packed_got_loads groups;
+      low_parts = packed_low_parts groups;
+      descriptors = packed_descriptors groups;
+      short_descriptors = packed_short_descriptors groups;
+      nops = packed_nops;
     }

@@ -5,11 +5,11 @@ use Rattle.linker_final.proofs.packed.shorter_riscv64.Goals as goal
 
 pub returns : goal.returns
 returns c =
-    let laws = c.riscv64-2.ensures.laws in
+    let groups = c.riscv64-2.ensures.groups in
     record {
       sites = sites;
       long_calls = long_calls;
-      high_parts = high_parts laws.no_high_parts laws.high_offsets;
-      sums = sums laws.sums;
+      high_parts = high_parts groups;
+      sums = sums groups;
       branches = riscv_branches c.riscv64.ensures.jumps;
     }

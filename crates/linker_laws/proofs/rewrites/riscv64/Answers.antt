@@ -1,39 +1,9 @@
--- The laws of RISC-V.
+-- The examples of RISC-V.
 use Rattle.std.proofs.Common.{refl, pos, negsuc}
 use Rattle.linker_base.specs.Form.{place_sum}
 use Rattle.linker_laws.specs.RiscVExamples.{some_hart}
 use Rattle.linker_laws.specs.RiscVMachine.{auipc, jal, sums, adds, jumps, executed}
-use Rattle.linker_laws.proofs.RiscVCalls as branches
-use Rattle.linker_laws.proofs.RiscVDescriptors as descriptors
-use Rattle.linker_laws.proofs.RiscVLowParts as low
-use Rattle.linker_laws.proofs.RiscVLuis as luis
-use Rattle.linker_laws.proofs.RiscVPairs as pairs
-use Rattle.linker_laws.proofs.RiscVSums as sum
 use Rattle.linker_laws.proofs.rewrites.riscv64.Goals as goal
-
-pub returns-clause-laws : goal.returns-clause-laws
-returns-clause-laws c =
-    let laws = c.riscv64.ensures in
-    record {
-      calls = (branches.call_becomes_jal, branches.call_becomes_jal);
-      calls_over = (branches.call_over_becomes_jal, branches.call_over_becomes_jal);
-      tail_calls = (branches.tail_becomes_jal, branches.tail_becomes_jal);
-      short_tail_calls = (branches.tail_becomes_cj, branches.tail_becomes_cj);
-      short_high_parts = luis.lui_becomes_clui;
-      short_zeros = luis.clui_becomes_cli;
-      no_high_parts = luis.lui_is_deleted;
-      low_parts = low.low_part_from_zero;
-      pairs = pairs.pair_from_zero;
-      high_offsets = luis.offset_lui_is_deleted;
-      sums = sum.sum_is_deleted;
-      low_offsets = low.low_part_from_tp;
-      local_exec = pairs.local_exec_is_shortened;
-      nops = descriptors.long_nop;
-      descriptor_to_local_exec = descriptors.to_local_exec laws.descriptors laws.thread;
-      descriptor_to_short_local_exec = descriptors.to_short_local_exec laws.descriptors;
-      descriptor_to_initial_exec = descriptors.to_initial_exec laws.descriptors laws.entries;
-      got = descriptors.got_to_address laws.entries laws.relative;
-    }
 
 pub returns-clause-words : goal.returns-clause-words
 unfolding place_sum

@@ -1,0 +1,1063 @@
+-- RISC-V's groups.
+use Rattle.std.proofs.Common.{Bool, add-one, zero, ◌≡◌, ◌≢◌, ℕ, suc, ◌+◌, ◌-◌, ◌*◌, ◌%◌, ◌^◌, ◌<◌, ◌≤◌, true, false, refl, sym, ◌∙◌, ap, ap₂}
+use Rattle.std.proofs.Common.{subst, arith, List, [], ◌∷◌, length, take, drop, Some, le_refl}
+use Rattle.std.proofs.Common.{w64, pos, ◌+ℤ◌, ◌-ℤ◌, ℤ, inl, inr}
+use Rattle.std.specs.Prelude.{◌==◌, if◌then◌else◌, nat_lt, option_map, IsSomeAnd, sum, ⊤}
+use Rattle.std.specs.Int.{w16, w32, cast_signed, from_le_bytes, int_rem_euclid}
+use Rattle.std.proofs.lemmas.Bool.{cond-true, cond-false, cases_lt, lt-ltb, le-ltb, ne_eqb}
+use Rattle.std.proofs.lemmas.Int.{ints}
+use Rattle.linker_base.specs.Bits.{field, signed}
+use Rattle.linker_base.specs.Form.{place_sum}
+use Rattle.linker_elf.specs.Choices.{low_12_bounds}
+use Rattle.linker_elf.specs.Elf.{IsWithin}
+use Rattle.linker_elf.specs.RiscV.{riscv_form, riscv_places}
+use Rattle.linker_elf.specs.RiscVRelocations.{pair_row}
+use Rattle.linker_elf.specs.Value.{sum_64}
+use Rattle.linker_elf.specs.declared.elf.RelocationKind.{RelocationKind}
+use Rattle.linker_elf.specs.declared.elf.RelocationKind.TheVariants.{Absolute, TpOff, PltRelative}
+use Rattle.linker_elf.specs.declared.elf.RelocationKind.TheVariants.{GotRelative, GotTpOff, Relative, RelativeRiscVLow12, TlsDesc}
+use Rattle.linker_elf.specs.declared.elf.value.Operands.{Operands}
+use Rattle.linker_elf.specs.declared.riscv64.forms.RiscVInstruction.TheVariants.{UType, IType, SType, CluiType}
+use Rattle.linker_elf.specs.declared.riscv64.forms.RiscVInstruction.TheVariants.{CjType, JType, UiType}
+use Rattle.linker_elf.specs.declared.riscv64.relocations.RiscVRelocation.TheVariants as names
+use Rattle.linker_laws.specs.Changes.{go_to, put, with_register}
+use Rattle.linker_laws.specs.Machine.{loaded, moved, wrapped}
+use Rattle.linker_laws.specs.RiscVGroups as groups
+use Rattle.linker_laws.specs.RiscVGroups.{AreBefore, AreDeleted, Code, Has, Stands, bytes_at, continued, instruction_at, left, link, machine, seen}
+use Rattle.linker_laws.specs.RiscVGroups.{LowPartOf, upper_from, uses}
+use Rattle.linker_laws.specs.RiscVMachine.{Action, Hart, Instruction, action_of, add, adds, adds_word, auipc, executed}
+use Rattle.linker_laws.specs.RiscVMachine.{goes_to, i_type, jal, jumps, load_number, loads, loads_float, lui, of_half}
+use Rattle.linker_laws.specs.RiscVMachine.{of_word, register, rs1_of, rs2_of, s_type, step, stores, stores_float}
+use Rattle.linker_laws.specs.RiscVMachine.{sums, used, with_action, with_integer, with_number}
+use Rattle.linker_laws.specs.RiscVRelocationLaws.{DescriptorAddresses, EntryAddresses, RelativeAddresses}
+use Rattle.linker_laws.specs.RiscVRelocationLaws.{ThreadAddresses, even}
+use Rattle.linker_laws.specs.RiscVRewriteLaws.{IsLow12, after_rewrite, low_row, of_entry, offset_row}
+use Rattle.linker_laws.specs.RiscVRewriteLaws.{t0, thread_offset, word_of}
+use Rattle.linker_laws.specs.Schemes.{AreAddresses, entry_and_addend, plt_address, symbol_address}
+use Rattle.linker_laws.specs.Simulation.{State, Program, Agree, AreOf, Group, Kind, Kinds, anything, of_link, run, same}
+use Rattle.linker_laws.proofs.AArch64Moves.{distance_is}
+use Rattle.linker_laws.proofs.AArch64Steps.{in_two_steps}
+use Rattle.linker_laws.proofs.Agreement.{agree_open, agree_put, agree_put_old, unchanged, value_group}
+use Rattle.linker_laws.proofs.CoveredRuns.{holds_of, run_first, run_on}
+use Rattle.linker_laws.proofs.RiscVDescriptors.{load_word, lui_word, sum_word, upper_long, upper_word}
+use Rattle.linker_laws.proofs.RiscVDescriptors.{call_word, low_long as low_long_word, made_word, ten, whole_number}
+use Rattle.linker_laws.proofs.RiscVHighParts.{IsFormulaOf, absolute_is, high_20, is_zero, low_12_number, near}
+use Rattle.linker_laws.proofs.RiscVHighParts.{no_high_part}
+use Rattle.linker_laws.proofs.RiscVHighParts.{of_address, of_offset, same_immediates, short_decodes, short_low}
+use Rattle.linker_laws.proofs.RiscVHighParts.{short_register, short_stands, upper_stands}
+use Rattle.linker_laws.proofs.RiscVJumps.{high_decodes, high_long, jump_decodes, jump_leads, jump_long}
+use Rattle.linker_laws.proofs.RiscVJumps.{low_decodes, low_long, pair_base, pair_leads, pair_link}
+use Rattle.linker_laws.proofs.RiscVJumps.{pair_register, same_destination, short_jump_decodes}
+use Rattle.linker_laws.proofs.RiscVJumps.{short_jump_leads, short_jump_low}
+use Rattle.linker_laws.proofs.RiscVLowParts.{IsBased, clear_0, clear_7, clear_12, clear_15, clear_20}
+use Rattle.linker_laws.proofs.RiscVLowParts.{i_kept, i_stands, is_action, low_sum, over_tp, over_zero}
+use Rattle.linker_laws.proofs.RiscVLowParts.{s_kept, s_stands, some_action, word_there}
+use Rattle.linker_laws.proofs.RiscVMachine.{address_is, fetched_half, fetched_word, is_long, is_sum}
+use Rattle.linker_laws.proofs.RiscVMachine.{moved_twice, other, written}
+use Rattle.linker_laws.proofs.Sums.{lifted_is, sum_below}
+use Rattle.linker_laws.proofs.Words.{half_of_bytes, put_there, word_below, word_of_bytes}
+use Rattle.linker_riscv64.specs.RiscVCalls.{IsCallPair}
+use Rattle.linker_riscv64.specs.RiscVFields.{funct3_of, opcode_of, rd_of}
+use Rattle.linker_riscv64.proofs.Jumps.{word_of_front}
+use Rattle.linker_utils.proofs.RiscVRewrites.{half_of_front}
+use Rattle.linker_utils.specs.RiscVRewrites.{IsLui, a0, call_to_jal, clui_to_cli, half_at, hi20_to_clui}
+use Rattle.linker_utils.specs.RiscVRewrites.{load_to_addi, riscv_matches, tail_to_cj, tail_to_jal}
+use Rattle.linker_utils.specs.declared.riscv64.rewrites.RelaxationKind.TheVariants as kinds
+use Rattle.linker_utils.specs.declared.riscv64.rewrites.RelaxationKind.{RelaxationKind}
+
+-- ---- states
+
+-- an integer register is written, and an address is next
+pub wrote : (s : State) (rd v next : ℕ) → rd < 32
+    → left s (goes_to next (with_integer rd v (seen s))) ≡ put rd v next s
+wrote s rd v next small = λ i. record s { pc = next; registers = λ r. by r i }
+  where
+    by : (r : ℕ) → (if nat_lt r 32 then with_number rd v s.registers r else s.registers (32 + (r - 32)))
+        ≡ (if r == rd then v else s.registers r)
+    by r =
+        elim (cases_lt r 32) [
+          | inl low ↦ cond-true (nat_lt r 32) (with_number rd v s.registers r) (s.registers (32 + (r - 32)))
+              (lt-ltb r 32 low)
+          | inr high ↦
+              cond-false (nat_lt r 32) (with_number rd v s.registers r) (s.registers (32 + (r - 32)))
+              (le-ltb r 32 high)
+              ∙ ap s.registers (let e : 32 + (r - 32) ≡ r = omega arith in e)
+              ∙ sym (cond-false (r == rd) v (s.registers r) (ne_eqb r rd (λ e. omega arith)))
+        ]
+
+pub below_32 : (word : ℕ) → rd_of word < 32
+below_32 word = omega arith
+
+-- ---- steps
+
+-- the instruction of a word, and of a half, that stands at the pc
+pub word_goes : (others : List ℕ → Program) (code : ℕ → ℕ) (s : State) (at : ℕ) (bytes : List ℕ)
+    (i : Instruction) → s.pc ≡ at → Stands 4 code at bytes → field (word_of bytes) 0 2 ≡ 3
+    → of_word (word_of bytes) ≡ Some i → machine others code s ≡ Some (left s (executed 4 i (seen s)))
+word_goes others code s at bytes i here stands long is =
+    let next = bytes_at 4 code at in
+    let w : from_le_bytes w32 next ≡ word_of bytes = ap (from_le_bytes w32) stands ∙ word_of_front bytes in
+    let first : code at % 4 ≡ 3 = omega (arith, w, long) in
+    ap (λ b. continued others b s (step b (seen s)))
+    (ap (instruction_at code) here ∙ ap (λ n. bytes_at (if n == 3 then 4 else 2) code at) first)
+    ∙ ap (λ f. continued others next s (option_map (λ j. executed j.0 j.1 (seen s)) f))
+    (fetched_word next i (ap (λ n. field n 0 2) w ∙ long) (le_refl 4) (ap of_word w ∙ is))
+
+pub half_goes : (others : List ℕ → Program) (code : ℕ → ℕ) (s : State) (at : ℕ) (bytes : List ℕ)
+    (i : Instruction) → s.pc ≡ at → Stands 2 code at bytes
+    → field (from_le_bytes w16 bytes) 0 2 ≡ 1 → of_half (from_le_bytes w16 bytes) ≡ Some i
+    → machine others code s ≡ Some (left s (executed 2 i (seen s)))
+half_goes others code s at bytes i here stands low is =
+    let next = bytes_at 2 code at in
+    let w : from_le_bytes w16 next ≡ from_le_bytes w16 bytes =
+    ap (from_le_bytes w16) stands ∙ half_of_front bytes in
+    let first : code at % 4 ≡ 1 = omega (arith, w, low) in
+    ap (λ b. continued others b s (step b (seen s)))
+    (ap (instruction_at code) here ∙ ap (λ n. bytes_at (if n == 3 then 4 else 2) code at) first)
+    ∙ ap (λ f. continued others next s (option_map (λ j. executed j.0 j.1 (seen s)) f))
+    (fetched_half next i (ap (λ n. field n 0 2) w ∙ low) (le_refl 2) (ap of_half w ∙ is))
+
+-- one that writes an integer register
+pub puts : (p : Program) (s : State) (n : ℕ) (i : Instruction) (rd v next : ℕ) → rd < 32
+    → p s ≡ Some (left s (executed n i (seen s)))
+    → executed n i (seen s) ≡ goes_to next (with_integer rd v (seen s)) → p s ≡ Some (put rd v next s)
+puts p s n i rd v next small goes leaves =
+    goes ∙ ap Some (ap (left s) leaves ∙ wrote s rd v next small)
+
+-- one instruction is a run
+pub once : (p : Program) (s t : State) → p s ≡ Some t → run 1 p s ≡ Some t
+once p s t goes = run_first 0 p s t (Some t) goes refl
+
+-- ---- deleted instructions
+
+nothing_left : (c : Code) (k : Kinds) (s : State) (rd v : ℕ) → AreDeleted c 4 s
+    → machine c.others c.old s ≡ Some (put rd v (s.pc + 4) s)
+    → Group (of_link (link c)) 0 k s (with_register rd anything k) (put rd v (s.pc + 4) s)
+nothing_left c k s rd v d goes =
+    record {
+      more = 0;
+      old_goes = once (machine c.others c.old) s (put rd v (s.pc + 4) s) goes;
+      new_goes = λ t agree.
+          agree_put_old (link c) k s t rd anything v (s.pc + 4) agree d.small (agree.pc ∙ d.moved) tt;
+      forward = λ none. omega arith;
+    }
+
+lui_goes_away : (kind : RelocationKind) (number : Operands → ℕ) → IsFormulaOf kind number
+    → (c : Code) (x : Operands) (k : Kinds) (s : State) (bytes : List ℕ) → AreDeleted c 4 s
+    → IsLui (word_of bytes) → IsWithin (Some low_12_bounds) (cast_signed w64 (number x))
+    → Has 4 c.old s.pc (Some (pair_row kind 32 UType)) x bytes
+    → Group (of_link (link c)) 0 k s (with_register (rd_of (word_of bytes)) anything k)
+    (put (rd_of (word_of bytes)) 0 (s.pc + 4) s)
+lui_goes_away kind number of c x k s bytes d is low h =
+    let rd = rd_of (word_of bytes) in
+    let n = number x in
+    let below = of.1 x in
+    let a = h.applied.applied in
+    let i = (riscv_form UType).machine (word_of h.relocated) in
+    let small = d.small in
+    let none : wrapped i ≡ 0 =
+    ap (λ m. wrapped (signed 32 m)) (upper_stands kind x n bytes h.relocated a below (of.0 UType x)
+    h.applied.len is ∙ no_high_part n below (low_12_number n below low)) in
+    let next : sum_64 s.pc 4 ≡ s.pc + 4 = omega (arith, small) in
+    nothing_left c k s rd 0 d
+    (puts (machine c.others c.old) s 4 (lui rd i) rd 0 (s.pc + 4) (below_32 (word_of bytes))
+    (word_goes c.others c.old s s.pc h.relocated (lui rd i) refl h.stands
+    (upper_long kind x bytes h.relocated a 0x37 refl is)
+    (lui_word kind x bytes h.relocated a rd is refl))
+    (ap₂ (λ v n. goes_to n (with_integer rd v (seen s))) none next))
+
+pub are_high_parts : groups.LuiIsDeleted
+are_high_parts c x k s bytes d m = lui_goes_away Absolute symbol_address of_address c x k s bytes d
+
+pub are_high_offsets : groups.OffsetLuiIsDeleted
+are_high_offsets c x k s bytes d m = lui_goes_away TpOff thread_offset of_offset c x k s bytes d
+
+pub are_sums : groups.SumIsDeleted
+are_sums c k s bytes d is none wide stands =
+    let word = word_of bytes in
+    let rd = rd_of word in
+    let i : Instruction = add rd (rs1_of word) (rs2_of word) in
+    let upper_bits = is.2 in
+    let small = d.small in
+    let function_7 : field word 25 32 ≡ 0 = omega (arith, upper_bits) in
+    let tp_is : rs2_of word ≡ 4 = omega (arith, upper_bits) in
+    let number : sum_64 (register (seen s) (rs1_of word)) (register (seen s) (rs2_of word)) ≡ s.registers 4 =
+    ap₂ (λ a r. sum_64 a (register (seen s) r)) none tp_is
+    ∙ (let e : sum_64 0 (s.registers 4) ≡ s.registers 4 = omega (arith, wide) in e) in
+    let next : sum_64 s.pc 4 ≡ s.pc + 4 = omega (arith, small) in
+    nothing_left c k s rd (s.registers 4) d
+    (puts (machine c.others c.old) s 4 i rd (s.registers 4) (s.pc + 4) (below_32 word)
+    (word_goes c.others c.old s s.pc bytes i refl stands (is_long word 0x33 is.0 refl)
+    (is_sum word is.0 is.1 function_7))
+    (ap₂ (λ v n. goes_to n (with_integer rd v (seen s))) number next))
+
+-- ---- `c.lui`
+
+clui_made : (bytes : List ℕ) → 4 ≤ length bytes
+    → from_le_bytes w16 (after_rewrite kinds.Hi20ToCLui bytes 0) ≡ 0x6001 + rd_of (word_of bytes) * 128
+clui_made bytes inside =
+    ap (from_le_bytes w16) (put_there bytes 0 2 hi20_to_clui (omega arith))
+    ∙ half_of_bytes (0x6001 + field (from_le_bytes w16 (take 2 bytes)) 7 12 * 128) (drop 2 bytes) (omega arith)
+    ∙ ap (λ w. 0x6001 + field w 7 12 * 128) (half_of_front bytes)
+    ∙ (let e : 0x6001 + field (from_le_bytes w16 bytes) 7 12 * 128
+    ≡ 0x6001 + field (from_le_bytes w32 bytes) 7 12 * 128 = omega arith in e)
+
+pub are_luis_to_clui : groups.LuiBecomesClui
+are_luis_to_clui c x y k s bytes at m one high old new =
+    let rd = rd_of (word_of bytes) in
+    let before' = after_rewrite kinds.Hi20ToCLui bytes 0 in
+    let n = symbol_address y in
+    let high' : ¬ IsLow12 y =
+    λ low. high (subst (λ a. IsWithin (Some low_12_bounds) (cast_signed w64 a)) (sym one) low) in
+    let is = m.1.0 in
+    let a = old.applied.applied in
+    let a' = new.applied.applied in
+    let len' = new.applied.len in
+    let there = clui_made bytes m.0 in
+    let low_bits : field (from_le_bytes w16 before') 0 2 ≡ 1 = omega (arith, there) in
+    let function : field (from_le_bytes w16 before') 13 16 ≡ 3 = omega (arith, there) in
+    let register' : rd_of (from_le_bytes w16 before') ≡ rd = omega (arith, there) in
+    let some : rd_of (from_le_bytes w16 before') ≢ 0 = λ e. m.1.1 (sym register' ∙ e) in
+    let not_sp : rd_of (from_le_bytes w16 before') ≢ 2 = λ e. m.1.2 (sym register' ∙ e) in
+    let i = (riscv_form UType).machine (word_of old.relocated) in
+    let rd' = rd_of (from_le_bytes w16 new.relocated) in
+    let i' = signed 18 (place_sum (riscv_places CluiType) (from_le_bytes w16 new.relocated)) in
+    let v : wrapped i ≡ wrapped i' = same_immediates n _ _ (sum_below y.symbol _)
+    (near y before' new.relocated a' len' low_bits function some not_sp high')
+    (upper_stands Absolute x (symbol_address x) bytes old.relocated a (sum_below x.symbol _) (absolute_is UType x)
+    old.applied.len is ∙ ap high_20 one)
+    (short_stands y before' new.relocated a' len' low_bits function some not_sp high') in
+    let same_rd : rd' ≡ rd =
+    short_register y before' new.relocated a' len' low_bits function some not_sp high' ∙ register' in
+    value_group (link c) 0 0 k _ s _ rd (wrapped i) (sum_64 x.place 4) (sum_below x.place 4)
+    (once (machine c.others c.old) s (put rd (wrapped i) (sum_64 x.place 4) s)
+    (puts (machine c.others c.old) s 4 (lui rd i) rd (wrapped i) (sum_64 x.place 4) (below_32 (word_of bytes))
+    (word_goes c.others c.old s x.place old.relocated (lui rd i) at.at old.stands
+    (upper_long Absolute x bytes old.relocated a 0x37 refl is)
+    (lui_word Absolute x bytes old.relocated a rd is refl))
+    (ap (λ p. goes_to (sum_64 p 4) (with_integer rd (wrapped i) (seen s))) at.at)))
+    (unchanged _ _)
+    (λ t agree.
+    let here = agree.pc ∙ ap c.moved at.at ∙ sym at.place in
+    once (machine c.others c.new) t (put rd (wrapped i) (c.moved (sum_64 x.place 4)) t)
+    (puts (machine c.others c.new) t 2 (lui rd' i') rd (wrapped i) (c.moved (sum_64 x.place 4))
+    (below_32 (word_of bytes))
+    (half_goes c.others c.new t y.place new.relocated (lui rd' i') here new.stands
+    (short_low y before' new.relocated a' len' low_bits function some not_sp high')
+    (short_decodes y before' new.relocated a' len' low_bits function some not_sp high'))
+    (ap₂ (λ r v. goes_to (sum_64 t.pc 2) (with_integer r v (seen t))) same_rd (sym v)
+    ∙ ap (λ n. goes_to n (with_integer rd (wrapped i) (seen t)))
+    (ap (λ p. sum_64 p 2) here ∙ at.next))))
+
+-- ---- `c.li` of 0
+
+cli_made : (bytes : List ℕ)
+    → from_le_bytes w16 (after_rewrite kinds.CLuiToCLi bytes 0) ≡ 0x4001 + rd_of (half_at bytes 0) * 128
+cli_made bytes =
+    ap (from_le_bytes w16) (put_there bytes 0 2 clui_to_cli (omega arith))
+    ∙ half_of_bytes (0x4001 + field (from_le_bytes w16 (take 2 bytes)) 7 12 * 128) (drop 2 bytes) (omega arith)
+    ∙ ap (λ w. 0x4001 + field w 7 12 * 128) (half_of_front bytes)
+
+pub are_cluis_to_cli : groups.CluiBecomesCli
+are_cluis_to_cli c x y k s bytes clui at m is one low old stands =
+    let rd = rd_of (word_of bytes) in
+    let rd' = rd_of (half_at clui 0) in
+    let n = symbol_address x in
+    let below = sum_below x.symbol _ in
+    let new = after_rewrite kinds.CLuiToCLi clui 0 in
+    let a = old.applied.applied in
+    let i = (riscv_form UType).machine (word_of old.relocated) in
+    let there = cli_made clui in
+    let low_bits : field (from_le_bytes w16 new) 0 2 ≡ 1 = omega (arith, there) in
+    let zero : Instruction = sums adds rd' 0 0 (pos 0) in
+    let none : wrapped i ≡ 0 =
+    ap (λ m. wrapped (signed 32 m)) (upper_stands Absolute x n bytes old.relocated a below (absolute_is UType x)
+    old.applied.len is ∙ no_high_part n below (low_12_number n below low)) in
+    value_group (link c) 0 0 k _ s _ rd 0 (sum_64 x.place 4) (sum_below x.place 4)
+    (once (machine c.others c.old) s (put rd 0 (sum_64 x.place 4) s)
+    (puts (machine c.others c.old) s 4 (lui rd i) rd 0 (sum_64 x.place 4) (below_32 (word_of bytes))
+    (word_goes c.others c.old s x.place old.relocated (lui rd i) at.at old.stands
+    (upper_long Absolute x bytes old.relocated a 0x37 refl is)
+    (lui_word Absolute x bytes old.relocated a rd is refl))
+    (ap₂ (λ p v. goes_to (sum_64 p 4) (with_integer rd v (seen s))) at.at none)))
+    (unchanged _ _)
+    (λ t agree.
+    let here = agree.pc ∙ ap c.moved at.at ∙ sym at.place in
+    once (machine c.others c.new) t (put rd 0 (c.moved (sum_64 x.place 4)) t)
+    (puts (machine c.others c.new) t 2 zero rd 0 (c.moved (sum_64 x.place 4)) (below_32 (word_of bytes))
+    (half_goes c.others c.new t y.place new zero here stands low_bits
+    (is_zero (from_le_bytes w16 new) rd' there (omega arith) m.1.2))
+    (ap₂ (λ r n. goes_to n (with_integer r 0 (seen t))) (sym one) (ap (λ p. sum_64 p 2) here ∙ at.next))))
+
+-- ---- low parts
+
+-- Both use the same sum.
+low_group : (c : Code) (a : Action) (x y : Operands) (k k' : Kinds) (s : State) (word n v b rs1 rd0 rs20 : ℕ)
+    (i : ℤ) (bytes bytes' : List ℕ) → AreBefore c 4 4 x y s
+    → Stands 4 c.old x.place bytes → Stands 4 c.new y.place bytes'
+    → field (word_of bytes) 0 2 ≡ 3 → field (word_of bytes') 0 2 ≡ 3
+    → of_word (word_of bytes) ≡ Some (sums a rd0 rs1 rs20 i)
+    → of_word (word_of bytes') ≡ Some (sums a rd0 b rs20 i)
+    → ((h : Hart) (m : ℕ) → used 4 a rd0 rs20 m h ≡ used 4 a (rd_of word) (rs2_of word) m h)
+    → ((m : ℕ) → moved m i ≡ sum_64 m n) → register (seen s) rs1 ≡ v
+    → ((t : State) → Agree (link c) k s t → register (seen t) b ≡ v)
+    → ((t : State) → Agree (link c) k s t
+    → Agree (link c) k' (uses a word (sum_64 v n) s) (uses a word (sum_64 v n) t))
+    → Group (of_link (link c)) 1 k s k' (uses a word (sum_64 v n) s)
+low_group c a x y k k' s word n v b rs1 rd0 rs20 i bytes bytes' at here here' low low' is is' one_use sum base base' keeps =
+    record {
+      more = 0;
+      old_goes =
+          once (machine c.others c.old) s (uses a word (sum_64 v n) s)
+          (word_goes c.others c.old s x.place bytes (sums a rd0 rs1 rs20 i) at.at here low is
+          ∙ ap (λ m. Some (left s (used 4 a rd0 rs20 m (seen s)))) (ap (λ r. moved r i) base ∙ sum v)
+          ∙ ap (λ h. Some (left s h)) (one_use (seen s) (sum_64 v n)));
+      new_goes = λ t agree.
+          holds_of (run 1 (machine c.others c.new) t) (Agree (link c) k' (uses a word (sum_64 v n) s))
+          (uses a word (sum_64 v n) t)
+          (once (machine c.others c.new) t (uses a word (sum_64 v n) t)
+          (word_goes c.others c.new t y.place bytes' (sums a rd0 b rs20 i)
+          (agree.pc ∙ ap c.moved at.at ∙ sym at.place) here' low' is'
+          ∙ ap (λ m. Some (left t (used 4 a rd0 rs20 m (seen t)))) (ap (λ r. moved r i) (base' t agree) ∙ sum v)
+          ∙ ap (λ h. Some (left t h)) (one_use (seen t) (sum_64 v n))))
+          (keeps t agree);
+      forward = λ none. omega arith;
+    }
+
+module _ (kind : RelocationKind) (number : Operands → ℕ) (of : IsFormulaOf kind number)
+    (rewrite : RelaxationKind) (b : ℕ) (small : b < 32) (based : IsBased rewrite b) (base : State → ℕ)
+    (IsKnown : Kinds → Type 0)
+    (same_base : (c : Code) (k : Kinds) (s t : State) → IsKnown k → Agree (link c) k s t
+    → register (seen t) b ≡ base s)
+    (a : Action) (low : List ℕ) (inside : 4 ≤ length low)
+    (is : action_of (opcode_of (word_of low)) (funct3_of (word_of low)) ≡ Some a)
+    (long : opcode_of (word_of low) % 4 ≡ 3) where
+  long_word : (w : ℕ) → field w 0 7 ≡ opcode_of (word_of low) → field w 0 2 ≡ 3
+  long_word w e = omega (arith, e, long)
+
+  of_action : (w : ℕ) → field w 0 7 ≡ opcode_of (word_of low) → field w 12 15 ≡ funct3_of (word_of low)
+      → of_word w ≡ with_action w (Some a)
+  of_action w e f =
+      is_action w a (ap (λ n. action_of n (funct3_of w)) e ∙ ap (action_of (opcode_of (word_of low))) f ∙ is)
+
+  pub i_group : ((w : ℕ) → with_action w (Some a) ≡ i_type a w)
+      → ((h : Hart) (m : ℕ) → used 4 a (rd_of (word_of low)) 0 m h
+      ≡ used 4 a (rd_of (word_of low)) (rs2_of (word_of low)) m h)
+      → LowPartOf rewrite (λ _. Some (pair_row kind 32 IType)) number base IsKnown low a
+  i_group form one_use c x y k k' s at one within has known old new keeps =
+      let word = word_of low in
+      let n = number x in
+      let made = after_rewrite rewrite low 0 in
+      let w = word_of old.relocated in
+      let w' = word_of new.relocated in
+      let there = based low 0 inside old.applied.old_bytes in
+      let kept = i_kept kind x n low old.relocated old.applied.applied (of.1 x) (of.0 IType x) in
+      let kept' = i_kept kind y (number y) made new.relocated new.applied.applied (of.1 y) (of.0 IType y) in
+      let opcode' : field w' 0 7 ≡ field word 0 7
+      = kept' 0 7 refl ∙ ap (λ v. field v 0 7) there ∙ clear_0 word b in
+      let function' : field w' 12 15 ≡ field word 12 15
+      = kept' 12 3 refl ∙ ap (λ v. field v 12 15) there ∙ clear_12 word b in
+      low_group c a x y k k' s word n (base s) b (rs1_of word) (rd_of word) 0 (signed 12 (n % 2 ^ 32 % 4096))
+      old.relocated new.relocated at old.stands new.stands (long_word w (kept 0 7 refl)) (long_word w' opcode')
+      (of_action w (kept 0 7 refl) (kept 12 3 refl) ∙ form w
+      ∙ ap₂ (λ d r. Some (sums a d r 0 ((riscv_form IType).machine w))) (kept 7 5 refl) (kept 15 5 refl)
+      ∙ ap (λ v. Some (sums a (rd_of word) (rs1_of word) 0 (signed 12 v)))
+      (i_stands kind x n low old.relocated old.applied.applied (of.1 x) (of.0 IType x)))
+      (of_action w' opcode' function' ∙ form w'
+      ∙ ap₂ (λ d r. Some (sums a d r 0 ((riscv_form IType).machine w')))
+      (kept' 7 5 refl ∙ ap (λ v. field v 7 12) there ∙ clear_7 word b)
+      (kept' 15 5 refl ∙ ap (λ v. field v 15 20) there ∙ clear_15 word b small)
+      ∙ ap (λ v. Some (sums a (rd_of word) b 0 (signed 12 v)))
+      (i_stands kind y (number y) made new.relocated new.applied.applied (of.1 y) (of.0 IType y)
+      ∙ ap (λ t. t % 2 ^ 32 % 4096) (sym one)))
+      one_use
+      (λ v. low_sum v n (n % 2 ^ 32 % 4096) (of.1 x) (low_12_number n (of.1 x) within) refl)
+      has (λ t agree. same_base c k s t known agree) keeps
+
+  pub s_group : ((w : ℕ) → with_action w (Some a) ≡ s_type a w)
+      → ((h : Hart) (m : ℕ) → used 4 a 0 (rs2_of (word_of low)) m h
+      ≡ used 4 a (rd_of (word_of low)) (rs2_of (word_of low)) m h)
+      → LowPartOf rewrite (λ _. Some (pair_row kind 32 SType)) number base IsKnown low a
+  s_group form one_use c x y k k' s at one within has known old new keeps =
+      let word = word_of low in
+      let n = number x in
+      let made = after_rewrite rewrite low 0 in
+      let w = word_of old.relocated in
+      let w' = word_of new.relocated in
+      let there = based low 0 inside old.applied.old_bytes in
+      let kept = s_kept kind x n low old.relocated old.applied.applied (of.1 x) (of.0 SType x) in
+      let kept' = s_kept kind y (number y) made new.relocated new.applied.applied (of.1 y) (of.0 SType y) in
+      let opcode' : field w' 0 7 ≡ field word 0 7
+      = kept' 0 7 refl ∙ ap (λ v. field v 0 7) there ∙ clear_0 word b in
+      let function' : field w' 12 15 ≡ field word 12 15
+      = kept' 12 3 refl ∙ ap (λ v. field v 12 15) there ∙ clear_12 word b in
+      low_group c a x y k k' s word n (base s) b (rs1_of word) 0 (rs2_of word) (signed 12 (n % 2 ^ 32 % 4096))
+      old.relocated new.relocated at old.stands new.stands (long_word w (kept 0 7 refl)) (long_word w' opcode')
+      (of_action w (kept 0 7 refl) (kept 12 3 refl) ∙ form w
+      ∙ ap₂ (λ r q. Some (sums a 0 r q ((riscv_form SType).machine w))) (kept 15 5 refl) (kept 20 5 refl)
+      ∙ ap (λ v. Some (sums a 0 (rs1_of word) (rs2_of word) (signed 12 v)))
+      (s_stands kind x n low old.relocated old.applied.applied (of.1 x) (of.0 SType x)))
+      (of_action w' opcode' function' ∙ form w'
+      ∙ ap₂ (λ r q. Some (sums a 0 r q ((riscv_form SType).machine w')))
+      (kept' 15 5 refl ∙ ap (λ v. field v 15 20) there ∙ clear_15 word b small)
+      (kept' 20 5 refl ∙ ap (λ v. field v 20 25) there ∙ clear_20 word b small)
+      ∙ ap (λ v. Some (sums a 0 b (rs2_of word) (signed 12 v)))
+      (s_stands kind y (number y) made new.relocated new.applied.applied (of.1 y) (of.0 SType y)
+      ∙ ap (λ t. t % 2 ^ 32 % 4096) (sym one)))
+      one_use
+      (λ v. low_sum v n (n % 2 ^ 32 % 4096) (of.1 x) (low_12_number n (of.1 x) within) refl)
+      has (λ t agree. same_base c k s t known agree) keeps
+
+-- every action
+module _ (low : List ℕ) (inside : 4 ≤ length low) (long : opcode_of (word_of low) % 4 ≡ 3) where
+  abbrev IsAction : Action → Type 0
+  IsAction a = action_of (opcode_of (word_of low)) (funct3_of (word_of low)) ≡ Some a
+
+  zero_i : (a : Action) → IsAction a → ((w : ℕ) → with_action w (Some a) ≡ i_type a w)
+      → ((h : Hart) (m : ℕ) → used 4 a (rd_of (word_of low)) 0 m h
+      ≡ used 4 a (rd_of (word_of low)) (rs2_of (word_of low)) m h)
+      → LowPartOf kinds.Lo12Rs1ToZero (λ _. Some (pair_row Absolute 32 IType)) symbol_address (λ s. 0) (λ k. ⊤) low a
+  zero_i a is =
+      i_group Absolute symbol_address of_address kinds.Lo12Rs1ToZero 0 (omega arith) over_zero (λ s. 0) (λ k. ⊤)
+      (λ c k s t known agree. refl) a low inside is long
+
+  zero_s : (a : Action) → IsAction a → ((w : ℕ) → with_action w (Some a) ≡ s_type a w)
+      → ((h : Hart) (m : ℕ) → used 4 a 0 (rs2_of (word_of low)) m h
+      ≡ used 4 a (rd_of (word_of low)) (rs2_of (word_of low)) m h)
+      → LowPartOf kinds.Lo12Rs1ToZero (λ _. Some (pair_row Absolute 32 SType)) symbol_address (λ s. 0) (λ k. ⊤) low a
+  zero_s a is =
+      s_group Absolute symbol_address of_address kinds.Lo12Rs1ToZero 0 (omega arith) over_zero (λ s. 0) (λ k. ⊤)
+      (λ c k s t known agree. refl) a low inside is long
+
+  pub over_x0 : (a : Action) → IsAction a
+      → LowPartOf kinds.Lo12Rs1ToZero low_row symbol_address (λ s. 0) (λ k. ⊤) low a
+  over_x0 adds is = zero_i adds is (λ w. refl) (λ h m. refl)
+  over_x0 adds_word is = zero_i adds_word is (λ w. refl) (λ h m. refl)
+  over_x0 jumps is = zero_i jumps is (λ w. refl) (λ h m. refl)
+  over_x0 (loads f) is = zero_i (loads f) is (λ w. refl) (λ h m. refl)
+  over_x0 (stores f) is = zero_s (stores f) is (λ w. refl) (λ h m. refl)
+  over_x0 (loads_float f) is = zero_i (loads_float f) is (λ w. refl) (λ h m. refl)
+  over_x0 (stores_float f) is = zero_s (stores_float f) is (λ w. refl) (λ h m. refl)
+
+  abbrev IsSame : Kinds → Type 0
+  IsSame k = k.registers 4 ≡ same
+
+  tp_is_same : (c : Code) (k : Kinds) (s t : State) → IsSame k → Agree (link c) k s t
+      → register (seen t) 4 ≡ s.registers 4
+  tp_is_same c k s t known agree =
+      sym (subst (λ kind. AreOf (link c) 8 kind (s.registers 4) (t.registers 4)) known (agree.registers 4))
+
+  tp_i : (a : Action) → IsAction a → ((w : ℕ) → with_action w (Some a) ≡ i_type a w)
+      → ((h : Hart) (m : ℕ) → used 4 a (rd_of (word_of low)) 0 m h
+      ≡ used 4 a (rd_of (word_of low)) (rs2_of (word_of low)) m h)
+      → LowPartOf kinds.BaseToTp (λ _. Some (pair_row TpOff 32 IType)) thread_offset (λ s. s.registers 4) IsSame low a
+  tp_i a is =
+      i_group TpOff thread_offset of_offset kinds.BaseToTp 4 (omega arith) over_tp (λ s. s.registers 4) IsSame
+      tp_is_same a low inside is long
+
+  tp_s : (a : Action) → IsAction a → ((w : ℕ) → with_action w (Some a) ≡ s_type a w)
+      → ((h : Hart) (m : ℕ) → used 4 a 0 (rs2_of (word_of low)) m h
+      ≡ used 4 a (rd_of (word_of low)) (rs2_of (word_of low)) m h)
+      → LowPartOf kinds.BaseToTp (λ _. Some (pair_row TpOff 32 SType)) thread_offset (λ s. s.registers 4) IsSame low a
+  tp_s a is =
+      s_group TpOff thread_offset of_offset kinds.BaseToTp 4 (omega arith) over_tp (λ s. s.registers 4) IsSame
+      tp_is_same a low inside is long
+
+  pub over_thread : (a : Action) → IsAction a
+      → LowPartOf kinds.BaseToTp offset_row thread_offset (λ s. s.registers 4) IsSame low a
+  over_thread adds is = tp_i adds is (λ w. refl) (λ h m. refl)
+  over_thread adds_word is = tp_i adds_word is (λ w. refl) (λ h m. refl)
+  over_thread jumps is = tp_i jumps is (λ w. refl) (λ h m. refl)
+  over_thread (loads f) is = tp_i (loads f) is (λ w. refl) (λ h m. refl)
+  over_thread (stores f) is = tp_s (stores f) is (λ w. refl) (λ h m. refl)
+  over_thread (loads_float f) is = tp_i (loads_float f) is (λ w. refl) (λ h m. refl)
+  over_thread (stores_float f) is = tp_s (stores_float f) is (λ w. refl) (λ h m. refl)
+
+pub are_low_parts : groups.LowPartFromZero
+are_low_parts low m =
+    let some = some_action (opcode_of (word_of low)) (funct3_of (word_of low)) m.1 in
+    subst (λ r. IsSomeAnd r (LowPartOf kinds.Lo12Rs1ToZero low_row symbol_address (λ s. 0) (λ k. ⊤) low)) (sym some.1)
+    (over_x0 low m.0 some.2 some.0 some.1)
+
+pub are_low_offsets : groups.LowPartFromThreadPointer
+are_low_offsets low m =
+    let some = some_action (opcode_of (word_of low)) (funct3_of (word_of low)) m.1 in
+    subst (λ r. IsSomeAnd r (LowPartOf kinds.BaseToTp offset_row thread_offset (λ s. s.registers 4)
+    (λ k. k.registers 4 ≡ same) low)) (sym some.1)
+    (over_thread low m.0 some.2 some.0 some.1)
+
+-- ---- calls
+
+-- the words of 8 bytes
+first_stands : (code : ℕ → ℕ) (at : ℕ) (bytes : List ℕ) → Stands 8 code at bytes → Stands 4 code at bytes
+first_stands code at bytes stands = ap (take 4) stands ∙ front bytes
+  where
+    front : (xs : List ℕ) → take 4 (take 8 xs) ≡ take 4 xs
+    front [] = refl
+    front (a ∷ []) = refl
+    front (a ∷ b ∷ []) = refl
+    front (a ∷ b ∷ c ∷ []) = refl
+    front (a ∷ b ∷ c ∷ d ∷ xs) = refl
+
+second_stands : (code : ℕ → ℕ) (at : ℕ) (bytes : List ℕ) → Stands 8 code at bytes
+    → Stands 4 code (sum_64 at 4) (drop 4 bytes)
+second_stands code at bytes stands =
+    ap (bytes_at 4 code) (let e : sum_64 at 4 ≡ sum_64 (sum_64 (sum_64 (sum_64 at 1) 1) 1) 1 = omega arith in e)
+    ∙ ap (drop 4) stands ∙ back bytes
+  where
+    back : (xs : List ℕ) → drop 4 (take 8 xs) ≡ take 4 (drop 4 xs)
+    back [] = refl
+    back (a ∷ []) = refl
+    back (a ∷ b ∷ []) = refl
+    back (a ∷ b ∷ c ∷ []) = refl
+    back (a ∷ b ∷ c ∷ d ∷ xs) = refl
+
+eight : (a : ℕ) → sum_64 (sum_64 a 4) 4 ≡ sum_64 a 8
+eight a = omega arith
+
+-- the address of a place, in old and in new
+counts : (a b : ℕ) → a ≡ b → b < 2 ^ 64
+    → int_rem_euclid ((pos 0 +ℤ pos (sum (a ∷ []))) -ℤ pos (sum [])) (pos (2 ^ 64)) ≡ pos b
+counts a b e small =
+    ap (λ n. int_rem_euclid ((pos 0 +ℤ pos (sum (n ∷ []))) -ℤ pos (sum [])) (pos (2 ^ 64))) e
+    ∙ lifted_is ((pos 0 +ℤ pos (sum (b ∷ []))) -ℤ pos (sum [])) 0 b (omega (arith, ints))
+    ∙ ap pos (let e : b % 2 ^ 64 ≡ b = omega arith in e)
+
+module _ (c : Code) (x y : Operands) (k : Kinds) (s : State) (call jump : List ℕ) (n : ℕ)
+    (sx : AreAddresses x) (at : AreBefore c 8 n x y s)
+    (target : symbol_address y ≡ c.moved (even plt_address x))
+    (pair : IsCallPair (word_of call) (word_of (drop 4 call))) (some : rd_of (word_of call) ≢ 0)
+    (old : Has 8 c.old x.place (Some (pair_row PltRelative 64 UiType)) x call) where
+  base : ℕ
+  base = rd_of (word_of call)
+
+  l : ℕ
+  l = rd_of (word_of (drop 4 call))
+
+  v : ℕ
+  v = upper_from x.place old.relocated
+
+  after_auipc : State
+  after_auipc = put base v (sum_64 x.place 4) s
+
+  first_goes : machine c.others c.old s ≡ Some after_auipc
+  unfolding base v after_auipc
+  first_goes =
+      let w = word_of old.relocated in
+      let a = old.applied in
+      let u = (riscv_form UType).machine w in
+      let register' : rd_of w ≡ rd_of (word_of call) =
+      pair_register x call old.relocated a.applied a.old_bytes a.bytes a.len pair in
+      puts (machine c.others c.old) s 4 (auipc (rd_of w) u) (rd_of (word_of call))
+      (upper_from x.place old.relocated) (sum_64 x.place 4) (below_32 (word_of call))
+      (word_goes c.others c.old s x.place old.relocated (auipc (rd_of w) u) at.at
+      (first_stands c.old x.place old.relocated old.stands)
+      (low_long x call old.relocated a.applied a.old_bytes a.bytes a.len pair)
+      (low_decodes x call old.relocated a.applied a.old_bytes a.bytes a.len pair))
+      (ap₂ (λ r p. goes_to (sum_64 p 4) (with_integer r (moved p u) (seen s))) register' at.at)
+
+  second_goes : machine c.others c.old after_auipc
+      ≡ Some (put l (sum_64 x.place 8) (even plt_address x) after_auipc)
+  unfolding base l v after_auipc
+  second_goes =
+      let a = old.applied in
+      let t = put (rd_of (word_of call)) (upper_from x.place old.relocated) (sum_64 x.place 4) s in
+      let w = word_of (drop 4 old.relocated) in
+      let i = (riscv_form IType).machine w in
+      let link_is : rd_of w ≡ rd_of (word_of (drop 4 call)) =
+      pair_link x call old.relocated a.applied a.old_bytes a.bytes a.len pair in
+      let base_is : register (seen t) (rs1_of w) ≡ upper_from x.place old.relocated =
+      ap (register (seen t)) (pair_base x call old.relocated a.applied a.old_bytes a.bytes a.len pair)
+      ∙ written (rd_of (word_of call)) (upper_from x.place old.relocated) (seen s) some in
+      puts (machine c.others c.old) t 4 (sums jumps (rd_of w) (rs1_of w) 0 i) (rd_of (word_of (drop 4 call)))
+      (sum_64 x.place 8) (even plt_address x) (below_32 (word_of (drop 4 call)))
+      (word_goes c.others c.old t (sum_64 x.place 4) (drop 4 old.relocated) (sums jumps (rd_of w) (rs1_of w) 0 i) refl
+      (second_stands c.old x.place old.relocated old.stands)
+      (high_long x call old.relocated a.applied a.old_bytes a.bytes a.len pair)
+      (high_decodes x call old.relocated a.applied a.old_bytes a.bytes a.len pair))
+      (ap₂ (λ m r. goes_to (moved m i - moved m i % 2) (with_integer r (sum_64 (sum_64 x.place 4) 4) (seen t)))
+      base_is link_is
+      ∙ ap₂ (λ m r. goes_to m (with_integer (rd_of (word_of (drop 4 call))) r (seen t)))
+      (pair_leads x call old.relocated a.applied a.old_bytes a.bytes a.len pair sx) (eight x.place))
+
+  agrees : (t : State) → Agree (link c) k s t
+      → Agree (link c)
+      (with_register l (groups.of_place (sum_64 x.place 8)) (with_register base anything k))
+      (put l (sum_64 x.place 8) (even plt_address x) after_auipc)
+      (put l (sum_64 y.place n) (symbol_address y) t)
+  unfolding base l v after_auipc
+  agrees t agree =
+      let b = rd_of (word_of call) in
+      let r = rd_of (word_of (drop 4 call)) in
+      let e = upper_from x.place old.relocated in
+      agree_put (link c) (with_register b anything k) (put b e s.pc s) t r (groups.of_place (sum_64 x.place 8))
+      (sum_64 x.place 8) (sum_64 y.place n) (even plt_address x) (symbol_address y)
+      (agree_put_old (link c) k s t b anything e s.pc agree agree.small agree.pc tt)
+      (even_below (plt_address x) (sum_below x.plt_entry _)) target (
+        counts (sum_64 x.place 8) (sum_64 x.place 8) refl (sum_below x.place 8),
+        counts (c.moved (sum_64 x.place 8)) (sum_64 y.place n) (sym at.next) (sum_below y.place n),
+      )
+    where
+      even_below : (a : ℕ) → a < 2 ^ 64 → a - a % 2 < 2 ^ 64
+      even_below a small = omega arith
+
+  pub call_group :
+      ((t : State) → t.pc ≡ y.place
+      → machine c.others c.new t ≡ Some (put (rd_of (word_of (drop 4 call))) (sum_64 y.place n) (symbol_address y) t))
+      → Group (of_link (link c)) 1 k s
+      (with_register (rd_of (word_of (drop 4 call))) (groups.of_place (sum_64 x.place 8))
+      (with_register (rd_of (word_of call)) anything k))
+      (put (rd_of (word_of (drop 4 call))) (sum_64 x.place 8) (even plt_address x)
+      (put (rd_of (word_of call)) (upper_from x.place old.relocated) (sum_64 x.place 4) s))
+  unfolding base l v after_auipc
+  call_group goes =
+      record {
+        more = 1;
+        old_goes =
+            run_first 1 (machine c.others c.old) s after_auipc _ first_goes
+            (once (machine c.others c.old) after_auipc (put l (sum_64 x.place 8) (even plt_address x) after_auipc)
+            second_goes);
+        new_goes = λ t agree.
+            holds_of (run 1 (machine c.others c.new) t) _ (put l (sum_64 y.place n) (symbol_address y) t)
+            (once (machine c.others c.new) t (put l (sum_64 y.place n) (symbol_address y) t)
+            (goes t (agree.pc ∙ ap c.moved at.at ∙ sym at.place)))
+            (agrees t agree);
+        forward = λ none. omega arith;
+      }
+
+jal_group : groups.CallTo names.R_RISCV_CALL 4 names.R_RISCV_JAL groups.IsJal
+jal_group c x y k s call jump sx sy at target pair some is old new =
+    let r = rd_of (word_of (drop 4 call)) in
+    let w = word_of new.relocated in
+    let a = new.applied in
+    let op : opcode_of (word_of jump) ≡ 0x6f = omega (arith, is) in
+    let rd' : rd_of (word_of jump) ≡ r = omega (arith, is) in
+    let j = (riscv_form JType).machine w in
+    call_group c x y k s call jump 4 sx at target pair some old
+    (λ t here.
+    puts (machine c.others c.new) t 4 (jal (rd_of w) j) r (sum_64 y.place 4) (symbol_address y)
+    (below_32 (word_of (drop 4 call)))
+    (word_goes c.others c.new t y.place new.relocated (jal (rd_of w) j) here new.stands
+    (jump_long y jump new.relocated a.applied a.len op)
+    (jump_decodes y jump new.relocated a.applied a.len op))
+    (ap₂ (λ p r. goes_to (moved p j) (with_integer r (sum_64 p 4) (seen t))) here
+    (same_destination y jump new.relocated a.applied a.len op ∙ rd')
+    ∙ ap (λ m. goes_to m (with_integer r (sum_64 y.place 4) (seen t)))
+    (jump_leads y jump new.relocated a.applied a.len op sy)))
+
+cj_group : groups.CallTo names.R_RISCV_CALL 2 names.R_RISCV_RVC_JUMP groups.IsCj
+cj_group c x y k s call jump sx sy at target pair some is old new =
+    let r = rd_of (word_of (drop 4 call)) in
+    let a = new.applied in
+    let there = is.1 in
+    let low_bits : field (from_le_bytes w16 jump) 0 2 ≡ 1 = omega (arith, there) in
+    let function : field (from_le_bytes w16 jump) 13 16 ≡ 5 = omega (arith, there) in
+    let j = (riscv_form CjType).machine (from_le_bytes w16 new.relocated) in
+    call_group c x y k s call jump 2 sx at target pair some old
+    (λ t here.
+    puts (machine c.others c.new) t 2 (jal 0 j) r (sum_64 y.place 2) (symbol_address y)
+    (below_32 (word_of (drop 4 call)))
+    (half_goes c.others c.new t y.place new.relocated (jal 0 j) here new.stands
+    (short_jump_low y jump new.relocated a.applied a.len low_bits function)
+    (short_jump_decodes y jump new.relocated a.applied a.len low_bits function))
+    (ap₂ (λ p r. goes_to (moved p j) (with_integer r (sum_64 p 2) (seen t))) here (sym is.0)
+    ∙ ap (λ m. goes_to m (with_integer r (sum_64 y.place 2) (seen t)))
+    (short_jump_leads y jump new.relocated a.applied a.len low_bits function sy)))
+
+pub are_calls : groups.Calls
+are_calls = (jal_group, jal_group)
+
+pub are_short_tail_calls : groups.ShortTailCalls
+are_short_tail_calls = (cj_group, cj_group)
+
+pub are_rewritten_calls : groups.CallsAreRewritten
+are_rewritten_calls call = (
+  λ m.
+      let window = take 4 call in
+      ap (from_le_bytes w32) (put_there call 0 4 call_to_jal (omega arith))
+      ∙ word_of_bytes (0x6f + field (from_le_bytes w32 window) 7 12 * 128) (drop 4 call) (omega arith)
+      ∙ ap (λ w. 0x6f + field w 7 12 * 128) (word_of_front call)
+      ∙ ap (λ r. 0x6f + r * 128) (sym m.0.2),
+  λ m.
+      ap (from_le_bytes w32) (put_there call 0 4 tail_to_jal (omega arith))
+      ∙ sym (ap (λ r. 0x6f + r * 2 ^ 7) m.links_none),
+  λ m. (m.links_none, ap (from_le_bytes w16) (put_there call 0 2 tail_to_cj (omega arith))),
+)
+
+-- ---- loads from the GOT
+
+pub are_loads : EntryAddresses → RelativeAddresses → groups.GotToAddress
+are_loads entries relative c x y k kind s auipc_bytes ld sx sy at inside is holds are old old_ld new new_ld =
+    let x1 = rd_of (word_of auipc_bytes) in
+    let y1 = rd_of (word_of ld) in
+    let before' = after_rewrite kinds.LdToAddi ld 0 in
+    let a1 = old.applied.applied in
+    let a2 = old_ld.applied.applied in
+    let a3 = new.applied.applied in
+    let a4 = new_ld.applied.applied in
+    let u = (riscv_form UType).machine (word_of old.relocated) in
+    let i = (riscv_form IType).machine (word_of old_ld.relocated) in
+    let u' = (riscv_form UType).machine (word_of new.relocated) in
+    let i' = (riscv_form IType).machine (word_of new_ld.relocated) in
+    let v = upper_from x.place old.relocated in
+    let v' = upper_from y.place new.relocated in
+    let below : word_of ld < 2 ^ 32 = word_below ld old_ld.applied.old_bytes inside in
+    let made : word_of before' ≡ load_to_addi (word_of ld) =
+    word_there ld 0 load_to_addi inside (let e : load_to_addi (word_of ld) < 2 ^ 32 = omega (arith, below) in e) in
+    let op : opcode_of (word_of before') ≡ 0x13 =
+    ap opcode_of made ∙ (let e : opcode_of (load_to_addi (word_of ld)) ≡ 0x13 = omega arith in e) in
+    let f : funct3_of (word_of before') ≡ 0 =
+    ap funct3_of made ∙ (let e : funct3_of (load_to_addi (word_of ld)) ≡ 0 = omega arith in e) in
+    let rd' : rd_of (word_of before') ≡ y1 =
+    ap rd_of made ∙ (let e : rd_of (load_to_addi (word_of ld)) ≡ rd_of (word_of ld) = omega arith in e) in
+    let rs1' : rs1_of (word_of before') ≡ x1 =
+    ap rs1_of made ∙ (let e : rs1_of (load_to_addi (word_of ld)) ≡ rs1_of (word_of ld) = omega arith in e) ∙ is.base in
+    let loads_from : moved v i ≡ entry_and_addend x =
+    moved_twice x.place u i
+    ∙ address_is _ _ (entries.0.0 x sx x.place auipc_bytes old.relocated a1 tt x.place ld old_ld.relocated a2 tt) in
+    let leads : moved v' i' ≡ symbol_address y =
+    moved_twice y.place u' i'
+    ∙ address_is _ _ (relative.0 y sy y.place auipc_bytes new.relocated a3 tt y.place before' new_ld.relocated a4 tt) in
+    let p = machine c.others c.old in
+    let q = machine c.others c.new in
+    let s1 = put x1 v (sum_64 x.place 4) s in
+    let value : load_number 3 (loaded 8 s.memory (moved (register (seen s1) x1) i)) ≡ symbol_address x =
+    ap (λ n. load_number 3 (loaded 8 s.memory (moved n i))) (written x1 v (seen s) is.not_zero)
+    ∙ ap (λ n. load_number 3 (loaded 8 s.memory n)) loads_from ∙ ap (load_number 3) holds
+    ∙ whole_number (symbol_address x) (sum_below x.symbol _) in
+    record {
+      more = 1;
+      old_goes =
+          run_first 1 p s s1 _
+          (puts p s 4 (auipc x1 u) x1 v (sum_64 x.place 4) (below_32 (word_of auipc_bytes))
+          (word_goes c.others c.old s x.place old.relocated (auipc x1 u) at.at old.stands
+          (upper_long GotRelative x auipc_bytes old.relocated a1 0x17 refl is.first)
+          (upper_word GotRelative x auipc_bytes old.relocated a1 x1 is.first refl))
+          (ap (λ p. goes_to (sum_64 p 4) (with_integer x1 (moved p u) (seen s))) at.at))
+          (once p s1 (put y1 (symbol_address x) (sum_64 x.place 8) s1)
+          (puts p s1 4 (sums (loads 3) y1 x1 0 i) y1 (symbol_address x) (sum_64 x.place 8) (below_32 (word_of ld))
+          (word_goes c.others c.old s1 (sum_64 x.place 4) old_ld.relocated (sums (loads 3) y1 x1 0 i) refl old_ld.stands
+          (low_long_word RelativeRiscVLow12 (of_entry x) ld old_ld.relocated a2 0x03 refl is.second.0)
+          (load_word RelativeRiscVLow12 (of_entry x) ld old_ld.relocated a2 y1 x1 is.second.0 is.second.1 refl is.base))
+          (ap₂ (λ v n. goes_to n (with_integer y1 v (seen s1))) value (eight x.place))));
+      new_goes = λ t agree.
+          let here = agree.pc ∙ ap c.moved at.at ∙ sym at.place in
+          let t1 = put x1 v' (sum_64 y.place 4) t in
+          let value' : moved (register (seen t1) x1) i' ≡ symbol_address y =
+          ap (λ n. moved n i') (written x1 v' (seen t) is.not_zero) ∙ leads in
+          holds_of (run 2 q t) _ (put y1 (symbol_address y) (sum_64 y.place 8) t1)
+          (run_first 1 q t t1 _
+          (puts q t 4 (auipc x1 u') x1 v' (sum_64 y.place 4) (below_32 (word_of auipc_bytes))
+          (word_goes c.others c.new t y.place new.relocated (auipc x1 u') here new.stands
+          (upper_long Relative y auipc_bytes new.relocated a3 0x17 refl is.first)
+          (upper_word Relative y auipc_bytes new.relocated a3 x1 is.first refl))
+          (ap (λ p. goes_to (sum_64 p 4) (with_integer x1 (moved p u') (seen t))) here))
+          (once q t1 (put y1 (symbol_address y) (sum_64 y.place 8) t1)
+          (puts q t1 4 (sums adds y1 x1 0 i') y1 (symbol_address y) (sum_64 y.place 8) (below_32 (word_of ld))
+          (word_goes c.others c.new t1 (sum_64 y.place 4) new_ld.relocated (sums adds y1 x1 0 i') refl new_ld.stands
+          (low_long_word RelativeRiscVLow12 y before' new_ld.relocated a4 0x13 refl op)
+          (sum_word RelativeRiscVLow12 y before' new_ld.relocated a4 y1 x1 op f rd' rs1'))
+          (ap₂ (λ v n. goes_to n (with_integer y1 v (seen t1))) value' (eight y.place)))))
+          (agree_put (link c) (with_register x1 anything k) (put x1 v s.pc s) (put x1 v' t.pc t) y1 kind
+          (symbol_address x) (symbol_address y) (sum_64 x.place 8) (sum_64 y.place 8)
+          (agree_put (link c) k s t x1 anything v v' s.pc t.pc agree agree.small agree.pc tt)
+          (sum_below x.place 8) at.next are);
+      forward = λ none. omega arith;
+    }
+
+-- ---- TLS descriptors
+
+twelve : (a : ℕ) → sum_64 (sum_64 a 8) 4 ≡ sum_64 a 12
+twelve a = omega arith
+
+sixteen : (a : ℕ) → sum_64 (sum_64 a 12) 4 ≡ sum_64 a 16
+sixteen a = omega arith
+
+-- The sequence ends at the function.
+descriptor_goes : DescriptorAddresses → (c : Code) (x : Operands) (offset : ℕ) (k : Kinds) (s : State)
+    (k' : Kinds) (s' : State) (auipc_bytes ld addi jalr : List ℕ)
+    → (d : groups.Descriptor c x offset k s k' s' auipc_bytes ld addi jalr)
+    → run 4 (machine c.others c.old) s
+    ≡ Some (groups.called x (rd_of (word_of auipc_bytes)) (upper_from x.place d.high.relocated) (rd_of (word_of ld)) s)
+descriptor_goes descriptors c x offset k s k' s' auipc_bytes ld addi jalr d =
+    let ws = d.instructions in
+    let p = machine c.others c.old in
+    let X = rd_of (word_of auipc_bytes) in
+    let Y = rd_of (word_of ld) in
+    let a1 = d.high.applied.applied in
+    let a2 = d.low.applied.applied in
+    let a3 = d.sum.applied.applied in
+    let u = (riscv_form UType).machine (word_of d.high.relocated) in
+    let i = (riscv_form IType).machine (word_of d.low.relocated) in
+    let j = (riscv_form IType).machine (word_of d.sum.relocated) in
+    let v = upper_from x.place d.high.relocated in
+    let entry = entry_and_addend x in
+    let f = loaded 8 s.memory entry in
+    let wide = d.function in
+    let is_even = d.even in
+    let loads_from : moved v i ≡ entry =
+    moved_twice x.place u i
+    ∙ address_is _ _ (descriptors.0 x d.small x.place auipc_bytes d.high.relocated a1 tt x.place ld d.low.relocated a2 tt) in
+    let passes : moved v j ≡ entry =
+    moved_twice x.place u j
+    ∙ address_is _ _ (descriptors.1 x d.small x.place auipc_bytes d.high.relocated a1 tt x.place addi d.sum.relocated a3 tt) in
+    let s1 = put X v (sum_64 x.place 4) s in
+    let s2 = put Y f (sum_64 x.place 8) s1 in
+    let s3 = put a0 entry (sum_64 x.place 12) s2 in
+    let s4 = put t0 (sum_64 x.place 16) f s3 in
+    let base1 : register (seen s1) X ≡ v = written X v (seen s) ws.base_not_zero in
+    let loaded_is : load_number 3 (loaded 8 s.memory (moved (register (seen s1) X) i)) ≡ f =
+    ap (λ n. load_number 3 (loaded 8 s.memory n)) (ap (λ n. moved n i) base1 ∙ loads_from)
+    ∙ whole_number f wide in
+    let base2 : register (seen s2) X ≡ v =
+    other Y f (seen s1) X (ne_eqb X Y (λ e. ws.apart (sym e))) ∙ base1 in
+    let function3 : register (seen s3) Y ≡ f =
+    other a0 entry (seen s2) Y (ne_eqb Y a0 ws.function_not_a0) ∙ written Y f (seen s1) ws.function_not_zero in
+    let target : moved f (pos 0) - moved f (pos 0) % 2 ≡ f =
+    ap (λ n. n - n % 2) (let e : moved f (pos 0) ≡ f = omega (arith, ints, wide) in e)
+    ∙ (let e : f - f % 2 ≡ f = omega (arith, is_even) in e) in
+    let w4 = ws.fourth in
+    run_first 3 p s s1 _
+    (puts p s 4 (auipc X u) X v (sum_64 x.place 4) (below_32 (word_of auipc_bytes))
+    (word_goes c.others c.old s x.place d.high.relocated (auipc X u) d.at d.high.stands
+    (upper_long TlsDesc x auipc_bytes d.high.relocated a1 0x17 refl ws.first)
+    (upper_word TlsDesc x auipc_bytes d.high.relocated a1 X ws.first refl))
+    (ap (λ p. goes_to (sum_64 p 4) (with_integer X (moved p u) (seen s))) d.at))
+    (run_first 2 p s1 s2 _
+    (puts p s1 4 (sums (loads 3) Y X 0 i) Y f (sum_64 x.place 8) (below_32 (word_of ld))
+    (word_goes c.others c.old s1 (sum_64 x.place 4) d.low.relocated (sums (loads 3) Y X 0 i) refl d.low.stands
+    (low_long_word TlsDesc x ld d.low.relocated a2 0x03 refl ws.second.0)
+    (load_word TlsDesc x ld d.low.relocated a2 Y X ws.second.0 ws.second.1 refl ws.base_of_ld))
+    (ap₂ (λ v n. goes_to n (with_integer Y v (seen s1))) loaded_is (eight x.place)))
+    (run_first 1 p s2 s3 _
+    (puts p s2 4 (sums adds a0 X 0 j) a0 entry (sum_64 x.place 12) (omega arith)
+    (word_goes c.others c.old s2 (sum_64 x.place 8) d.sum.relocated (sums adds a0 X 0 j) refl d.sum.stands
+    (low_long_word TlsDesc x addi d.sum.relocated a3 0x13 refl ws.third.0)
+    (sum_word TlsDesc x addi d.sum.relocated a3 10 X ws.third.0 ws.third.1 ws.third.2 ws.base_of_addi))
+    (ap₂ (λ v n. goes_to n (with_integer a0 v (seen s2))) (ap (λ n. moved n j) base2 ∙ passes) (twelve x.place)))
+    (once p s3 s4
+    (puts p s3 4 (sums jumps t0 Y 0 (pos 0)) t0 (sum_64 x.place 16) f (omega arith)
+    (word_goes c.others c.old s3 (sum_64 x.place 12) jalr (sums jumps t0 Y 0 (pos 0)) refl d.call
+    (is_long (word_of jalr) 0x67 w4.0 refl)
+    (call_word (word_of jalr) Y w4.0 w4.1 w4.2 ws.base_of_jalr w4.3))
+    (ap (λ n. goes_to (moved n (pos 0) - moved n (pos 0) % 2)
+    (with_integer t0 (sum_64 (sum_64 x.place 12) 4) (seen s3))) function3
+    ∙ ap₂ (λ n r. goes_to n (with_integer t0 r (seen s3))) target (sixteen x.place))))))
+
+-- nops do nothing: x0 keeps nothing
+nop_goes : (c : Code) (t : State) (at : ℕ) (instruction : List ℕ) → t.pc ≡ at
+    → riscv_matches kinds.ReplaceWithLongNop instruction 0
+    → Stands 4 c.new at (after_rewrite kinds.ReplaceWithLongNop instruction 0)
+    → machine c.others c.new t ≡ Some (put 0 0 (sum_64 at 4) t)
+unfolding place_sum
+nop_goes c t at instruction here m stands =
+    let bytes = after_rewrite kinds.ReplaceWithLongNop instruction 0 in
+    let w = word_there instruction 0 (λ _. 0x13) m.0 (omega arith) in
+    puts (machine c.others c.new) t 4 (sums adds 0 0 0 (pos 0)) 0 0 (sum_64 at 4) (omega arith)
+    (word_goes c.others c.new t at bytes (sums adds 0 0 0 (pos 0)) here stands (ap (λ n. field n 0 2) w)
+    (ap of_word w))
+    (ap (λ p. goes_to (sum_64 p 4) (with_integer 0 0 (seen t))) here)
+
+-- what was written last counts
+last_counts : (n u v a b : ℕ) (s : State) → put n v b (put n u a s) ≡ put n v b s
+last_counts n u v a b s = λ i. record s { pc = b; registers = λ m. by (m == n) (s.registers m) i }
+  where
+    by : (c : Bool) (r : ℕ) → (if c then v else (if c then u else r)) ≡ (if c then v else r)
+    by true r = refl
+    by false r = refl
+
+-- new runs n nops, and agrees but for its pc and register 0
+pub record Passes (c : Code) (n start : ℕ) (k : Kinds) (s t : State) : Type 0 where
+  pub end : State
+  pub runs : run n (machine c.others c.new) t ≡ Some end
+  pub at : end.pc ≡ sum_64 start (4 * n)
+  pub memory : end.memory ≡ t.memory
+  pub agree : Agree (link c) (with_register 0 anything k) s (go_to (c.moved s.pc) end)
+
+passes : (c : Code) (n : ℕ) (x : Operands) (k : Kinds) (s t : State) → s.pc ≡ x.place
+    → c.moved x.place < 2 ^ 64
+    → ((i : ℕ) → i < n → (instruction : List ℕ) × riscv_matches kinds.ReplaceWithLongNop instruction 0
+    × Stands 4 c.new (sum_64 (c.moved x.place) (4 * i)) (after_rewrite kinds.ReplaceWithLongNop instruction 0))
+    → Agree (link c) k s t → Passes c n (c.moved x.place) k s t
+passes c zero x k s t at small nops agree =
+    record {
+      end = t;
+      runs = refl;
+      at = agree.pc ∙ ap c.moved at
+          ∙ (let e : c.moved x.place ≡ sum_64 (c.moved x.place) (4 * 0) = omega (arith, small) in e);
+      memory = refl;
+      agree = record {
+        small = agree.small;
+        pc = refl;
+        registers = λ m. kept (m == 0) (k.registers m) (s.registers m) (t.registers m) (agree.registers m);
+        memory = agree.memory;
+        outside = agree.outside;
+      };
+    }
+  where
+    kept : (b : Bool) (kind : Kind) (x y : ℕ) → AreOf (link c) 8 kind x y
+        → AreOf (link c) 8 (if b then anything else kind) x y
+    kept true kind x y are = tt
+    kept false kind x y are = are
+passes c (suc n) x k s t at small nops agree =
+    let start = c.moved x.place in
+    let p = passes c n x k s t at small (λ i below. nops i (omega arith)) agree in
+    let u = p.end in
+    let nop = nops n (omega arith) in
+    let after = put 0 0 (sum_64 (sum_64 start (4 * n)) 4) u in
+    record {
+      end = after;
+      runs =
+          subst (λ m. run m (machine c.others c.new) t ≡ Some after) (add-one n)
+          (run_on n 1 (machine c.others c.new) t u (Some after) p.runs
+          (once (machine c.others c.new) u after
+          (nop_goes c u (sum_64 start (4 * n)) nop.0 p.at nop.1 nop.2)));
+      at = let e : sum_64 (sum_64 start (4 * n)) 4 ≡ sum_64 start (4 * suc n) = omega arith in e;
+      memory = p.memory;
+      agree = record {
+        small = p.agree.small;
+        pc = refl;
+        registers = λ m. kept (m == 0) (k.registers m) (s.registers m) (u.registers m) (p.agree.registers m);
+        memory = p.agree.memory;
+        outside = p.agree.outside;
+      };
+    }
+  where
+    kept : (b : Bool) (kind : Kind) (x y : ℕ) → AreOf (link c) 8 (if b then anything else kind) x y
+        → AreOf (link c) 8 (if b then anything else kind) x (if b then 0 else y)
+    kept true kind x y are = tt
+    kept false kind x y are = are
+
+-- The function returns after the sequence, and new leaves the same in a0.
+descriptor_group : DescriptorAddresses → (c : Code) (n m offset at : ℕ) (x : Operands) (k k' : Kinds)
+    (s s' : State) (auipc_bytes ld addi jalr : List ℕ)
+    → groups.Descriptor c x offset k s k' s' auipc_bytes ld addi jalr → groups.AreNops c n (suc m) x at
+    → ((t u : State) → Agree (link c) k s t → u.memory ≡ t.memory → u.pc ≡ at
+    → run (suc m) (machine c.others c.new) u ≡ Some (put a0 offset (sum_64 at (4 * suc m)) u))
+    → Group (of_link (link c)) (n + suc m) k s k' s'
+descriptor_group descriptors c n m offset at x k k' s s' auipc_bytes ld addi jalr d nops leaves =
+    record {
+      more = 3 + d.executes;
+      old_goes =
+          subst (λ n. run n (machine c.others c.old) s ≡ Some s') (after_four d.executes)
+          (run_on 4 d.executes (machine c.others c.old) s _ (Some s')
+          (descriptor_goes descriptors c x offset k s k' s' auipc_bytes ld addi jalr d) d.returns);
+      new_goes = λ t agree.
+          let p = passes c n x k s t d.at nops.small nops.nops agree in
+          let next = sum_64 at (4 * suc m) in
+          holds_of (run (n + suc m) (machine c.others c.new) t) (Agree (link c) k' s') (put a0 offset next p.end)
+          (run_on n (suc m) (machine c.others c.new) t p.end (Some (put a0 offset next p.end)) p.runs
+          (leaves t p.end agree p.memory (p.at ∙ sym nops.place)))
+          (agree_open (link c) (with_register a0 same (with_register 0 anything k)) k'
+          (put a0 offset (sum_64 x.place 16) s) s' (put a0 offset next p.end)
+          (agree_put (link c) (with_register 0 anything k) s (go_to (c.moved s.pc) p.end) a0 same offset offset
+          (sum_64 x.place 16) next p.agree (sum_below x.place 16) nops.next refl) d.changes);
+      forward = λ none. absurd (omega (arith, none));
+    }
+  where
+    after_four : (n : ℕ) → 4 + n ≡ suc (3 + n)
+    after_four n = omega arith
+
+pub are_to_local_exec : DescriptorAddresses → ThreadAddresses → groups.DescriptorToLocalExec
+are_to_local_exec descriptors thread c n at x y k k' s s' auipc_bytes ld addi jalr d sy one nops long_addi long_jalr high low =
+    let u = (riscv_form UType).machine (word_of high.relocated) in
+    let l = (riscv_form IType).machine (word_of low.relocated) in
+    let before = after_rewrite kinds.AddiToLui addi 0 in
+    let before' = after_rewrite kinds.CallToAddi jalr 0 in
+    let a1 = high.applied.applied in
+    let a2 = low.applied.applied in
+    let w1 = made_word 0x537 addi long_addi (omega arith) in
+    let w2 = made_word 0x50513 jalr long_jalr (omega arith) in
+    let offset = thread_offset x in
+    let value : moved (wrapped u) l ≡ offset =
+    in_two_steps u l
+    ∙ distance_is (u +ℤ l) y.tls_base (symbol_address y) sy.tls_base (sum_below y.symbol _)
+    (thread.0 y sy y.place before high.relocated a1 tt y.place before' low.relocated a2 tt)
+    ∙ sym one in
+    let q = machine c.others c.new in
+    descriptor_group descriptors c n 1 offset at x k k' s s' auipc_bytes ld addi jalr d nops
+    (λ before_nops t agree memory here.
+    let t1 = put 10 (wrapped u) (sum_64 at 4) t in
+    run_first 1 q t t1 _
+    (puts q t 4 (lui 10 u) 10 (wrapped u) (sum_64 at 4) (omega arith)
+    (word_goes c.others c.new t at high.relocated (lui 10 u) here high.stands
+    (upper_long TpOff y before high.relocated a1 0x37 refl (ap opcode_of w1))
+    (lui_word TpOff y before high.relocated a1 10 (ap opcode_of w1) (ap rd_of w1)))
+    (ap (λ p. goes_to (sum_64 p 4) (with_integer 10 (wrapped u) (seen t))) here))
+    (once q t1 (put 10 offset (sum_64 at 8) t1)
+    (puts q t1 4 (sums adds 10 10 0 l) 10 offset (sum_64 at 8) (omega arith)
+    (word_goes c.others c.new t1 (sum_64 at 4) low.relocated (sums adds 10 10 0 l) refl low.stands
+    (low_long_word TpOff y before' low.relocated a2 0x13 refl (ap opcode_of w2))
+    (sum_word TpOff y before' low.relocated a2 10 10 (ap opcode_of w2) (ap funct3_of w2) (ap rd_of w2) (ap rs1_of w2)))
+    (ap₂ (λ v n. goes_to n (with_integer 10 v (seen t1)))
+    (ap (λ n. moved n l) (written 10 (wrapped u) (seen t) ten) ∙ value) (eight at)))
+    ∙ ap Some (last_counts 10 (wrapped u) offset (sum_64 at 4) (sum_64 at 8) t)))
+
+pub are_to_short_local_exec : DescriptorAddresses → groups.DescriptorToShortLocalExec
+are_to_short_local_exec descriptors c n at x y k k' s s' auipc_bytes ld addi jalr d one is_low nops long_jalr low =
+    let l = (riscv_form IType).machine (word_of low.relocated) in
+    let before' = after_rewrite kinds.CallToAddiZero jalr 0 in
+    let a2 = low.applied.applied in
+    let w2 = made_word 0x513 jalr long_jalr (omega arith) in
+    let o = thread_offset y in
+    let wide = of_offset.1 y in
+    let value : moved 0 l ≡ thread_offset x =
+    ap (λ p. moved 0 (signed 12 p)) (i_stands TpOff y o before' low.relocated a2 wide (of_offset.0 IType y))
+    ∙ low_sum 0 o (o % 2 ^ 32 % 4096) wide (low_12_number o wide is_low) refl
+    ∙ (let e : sum_64 0 o ≡ o = omega (arith, wide) in e) ∙ sym one in
+    let q = machine c.others c.new in
+    descriptor_group descriptors c n 0 (thread_offset x) at x k k' s s' auipc_bytes ld addi jalr d nops
+    (λ before_nops t agree memory here.
+    once q t (put 10 (thread_offset x) (sum_64 at 4) t)
+    (puts q t 4 (sums adds 10 0 0 l) 10 (thread_offset x) (sum_64 at 4) (omega arith)
+    (word_goes c.others c.new t at low.relocated (sums adds 10 0 0 l) here low.stands
+    (low_long_word TpOff y before' low.relocated a2 0x13 refl (ap opcode_of w2))
+    (sum_word TpOff y before' low.relocated a2 10 0 (ap opcode_of w2) (ap funct3_of w2) (ap rd_of w2) (ap rs1_of w2)))
+    (ap₂ (λ p v. goes_to (sum_64 p 4) (with_integer 10 v (seen t))) here value)))
+
+pub are_to_initial_exec : DescriptorAddresses → EntryAddresses → groups.DescriptorToInitialExec
+are_to_initial_exec descriptors entries c n offset x y k k' s s' auipc_bytes ld addi jalr d sy wide holds nops long_addi long_jalr high low =
+    let u = (riscv_form UType).machine (word_of high.relocated) in
+    let l = (riscv_form IType).machine (word_of low.relocated) in
+    let before = after_rewrite kinds.AddiToAuipc addi 0 in
+    let before' = after_rewrite kinds.CallToLd jalr 0 in
+    let a1 = high.applied.applied in
+    let a2 = low.applied.applied in
+    let w1 = made_word 0x517 addi long_addi (omega arith) in
+    let w2 = made_word 0x53503 jalr long_jalr (omega arith) in
+    let v = upper_from y.place high.relocated in
+    let leads : moved v l ≡ entry_and_addend y =
+    moved_twice y.place u l
+    ∙ address_is _ _ (entries.1.0 y sy y.place before high.relocated a1 tt y.place before' low.relocated a2 tt) in
+    let q = machine c.others c.new in
+    descriptor_group descriptors c n 1 offset y.place x k k' s s' auipc_bytes ld addi jalr d nops
+    (λ before_nops t agree memory here.
+    let t1 = put 10 v (sum_64 y.place 4) t in
+    run_first 1 q t t1 _
+    (puts q t 4 (auipc 10 u) 10 v (sum_64 y.place 4) (omega arith)
+    (word_goes c.others c.new t y.place high.relocated (auipc 10 u) here high.stands
+    (upper_long GotTpOff y before high.relocated a1 0x17 refl (ap opcode_of w1))
+    (upper_word GotTpOff y before high.relocated a1 10 (ap opcode_of w1) (ap rd_of w1)))
+    (ap (λ p. goes_to (sum_64 p 4) (with_integer 10 (moved p u) (seen t))) here))
+    (once q t1 (put 10 offset (sum_64 y.place 8) t1)
+    (puts q t1 4 (sums (loads 3) 10 10 0 l) 10 offset (sum_64 y.place 8) (omega arith)
+    (word_goes c.others c.new t1 (sum_64 y.place 4) low.relocated (sums (loads 3) 10 10 0 l) refl low.stands
+    (low_long_word RelativeRiscVLow12 (of_entry y) before' low.relocated a2 0x03 refl (ap opcode_of w2))
+    (load_word RelativeRiscVLow12 (of_entry y) before' low.relocated a2 10 10 (ap opcode_of w2) (ap funct3_of w2) (ap rd_of w2) (ap rs1_of w2)))
+    (ap₂ (λ v n. goes_to n (with_integer 10 v (seen t1)))
+    (ap (λ n. load_number 3 (loaded 8 t.memory n)) (ap (λ n. moved n l) (written 10 v (seen t) ten) ∙ leads)
+    ∙ ap (λ m. load_number 3 (loaded 8 m (entry_and_addend y))) memory
+    ∙ ap (load_number 3) (holds before_nops agree) ∙ whole_number offset wide) (eight y.place)))
+    ∙ ap Some (last_counts 10 v offset (sum_64 y.place 4) (sum_64 y.place 8) t)))
+
+-- ---- other instructions
+
+pub are_others : groups.Others
+are_others c k k' s s' same_bytes goes keeps =
+    record {
+      old_goes = goes;
+      new_goes = λ t agree.
+          subst (λ o. IsSomeAnd o (Agree (link c) k' s'))
+          (ap (λ b. continued c.others b t (step b (seen t))) (same_bytes ∙ ap (instruction_at c.new) (sym agree.pc)))
+          (keeps t agree);
+    }

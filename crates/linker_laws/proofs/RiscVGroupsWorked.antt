@@ -1,0 +1,263 @@
+-- The worked program of RISC-V.
+use Rattle.std.proofs.Common.{◌≡◌, ℕ, suc, ◌+◌, ◌-◌, ◌^◌, ◌<◌, ◌≤◌, Bool, true, false, refl, sym, ◌∙◌, ap}
+use Rattle.std.proofs.Common.{subst, arith, List, [], ◌∷◌, length, Option, lit<, lit≤, pos, leb, leb-true}
+use Rattle.std.proofs.Common.{true≢false}
+use Rattle.std.specs.Prelude.{◌&&◌, IsSomeAnd, nat_lt, min}
+use Rattle.std.proofs.lemmas.Bool.{cond-false, cond-true, ltb-true}
+use Rattle.std.proofs.lemmas.Int.{ints}
+use Rattle.std.proofs.lemmas.List.Elements.{All-nil, All-cons}
+use Rattle.linker_base.specs.Form.{place_sum}
+use Rattle.linker_elf.specs.Applied.{IsApplied}
+use Rattle.linker_elf.specs.RiscVRelocations.{riscv_row}
+use Rattle.linker_elf.specs.Value.{sum_64}
+use Rattle.linker_elf.specs.declared.elf.RelocationKindInfo.{RelocationKindInfo}
+use Rattle.linker_elf.specs.declared.elf.value.Operands.{Operands}
+use Rattle.linker_elf.specs.declared.riscv64.relocations.RiscVRelocation.TheVariants as names
+use Rattle.linker_laws.specs.Changes.{put, with_register}
+use Rattle.linker_laws.specs.Machine.{AreBytes}
+use Rattle.linker_laws.specs.RiscVGroups.{Groups, Has, Stands, continued, instruction_at, link, machine}
+use Rattle.linker_laws.specs.RiscVGroups.{seen, uses}
+use Rattle.linker_laws.specs.RiscVGroupsWorked.{IsWorked, code, is_entry, known, moved, new, old, others, starting, words}
+use Rattle.linker_laws.specs.RiscVMachine.{adds, step}
+use Rattle.linker_laws.specs.RiscVRewriteLaws.{after_rewrite, of_entry}
+use Rattle.linker_laws.specs.Schemes.{AreAddresses}
+use Rattle.linker_laws.specs.Simulation.{Agree, Group, Kinds, State, anything, ends, group, of_link}
+use Rattle.linker_laws.specs.Simulation.{run, same}
+use Rattle.linker_utils.specs.declared.riscv64.rewrites.RelaxationKind.TheVariants as kinds
+use Rattle.linker_laws.proofs.AArch64GroupsWorked.{relocated}
+use Rattle.linker_laws.proofs.Agreement.{agree_put}
+use Rattle.linker_laws.proofs.RiscVGroups.{wrote}
+
+-- ---- bytes
+
+abbrev are_small : List ℕ → Bool
+are_small [] = true
+are_small (b ∷ bs) = leb (suc b) 256 && are_small bs
+
+bytes : (xs : List ℕ) → are_small xs ≡ true → AreBytes xs
+bytes [] e = All-nil _
+bytes (x ∷ xs) e =
+    All-cons (λ byte. byte < 2 ^ 8) x xs
+    (let s = leb-true (suc x) 256 (first (leb (suc x) 256) (are_small xs) e) in omega arith)
+    (bytes xs (second (leb (suc x) 256) (are_small xs) e))
+  where
+    first : (a b : Bool) → (a && b) ≡ true → a ≡ true
+    first true b e = refl
+    first false b e = e
+
+    second : (a b : Bool) → (a && b) ≡ true → b ≡ true
+    second true b e = e
+    second false b e = absurd (true≢false (sym e))
+
+has : (n : ℕ) (bytes_of : ℕ → ℕ) (at : ℕ) (row : Option RelocationKindInfo) (o : Operands) (before after : List ℕ)
+    → IsSomeAnd row (λ row. IsApplied row o before after) → length after ≡ length before
+    → are_small before ≡ true → are_small after ≡ true → Stands n bytes_of at after → Has n bytes_of at row o before
+has n bytes_of at row o before after applied len small small' stands =
+    record {
+      relocated = after;
+      applied = record {
+        applied = applied;
+        len = len;
+        old_bytes = bytes before small;
+        bytes = bytes after small';
+      };
+      stands = stands;
+    }
+
+-- ---- operands
+
+abbrev operands : ℕ → ℕ → Operands
+operands symbol place =
+    record {
+      symbol = symbol;
+      addend = pos 0;
+      place = place;
+      got_entry = 0x12010;
+      got_base = 0;
+      plt_entry = 0;
+      symbol_size = 0;
+      tls_base = 0;
+      has_got_entry = true;
+      has_plt_entry = false;
+      has_tls_base = false;
+    }
+
+small : (o : Operands) → o.symbol < 2 ^ 64 → o.place < 2 ^ 64 → o.got_entry < 2 ^ 64 → o.got_base < 2 ^ 64
+    → o.plt_entry < 2 ^ 64 → o.tls_base < 2 ^ 64 → AreAddresses o
+small o a b c d e f =
+    record { symbol = a; place = b; got_entry = c; got_base = d; plt_entry = e; tls_base = f }
+
+abbrev high : Operands
+high = operands 0x120 0x10000
+
+abbrev low : Operands
+low = operands 0x120 0x10004
+
+abbrev load : Operands
+load = operands 0x13000 0x10008
+
+abbrev sum_at : Operands
+sum_at = operands 0x13000 0x10004
+
+-- ---- relocations
+
+abbrev lui : List ℕ
+lui = 0xb7 ∷ 0x07 ∷ 0x00 ∷ 0x00 ∷ []
+
+lui_has : Has 4 (words old) 0x10000 (riscv_row names.R_RISCV_HI20) high lui
+unfolding place_sum
+lui_has =
+    has _ _ _ _ _ lui lui
+    (relocated _ _ _ (pos 0x120) 0x7b7 refl refl (lit≤ tt) (refl, tt, λ e. refl)
+    ((omega (arith, ints), omega (arith, ints)), lit< tt, tt) refl refl) refl refl refl refl
+
+abbrev addi : List ℕ
+addi = 0x13 ∷ 0x85 ∷ 0x07 ∷ 0x00 ∷ []
+
+addi_has : Has 4 (words old) 0x10004 (riscv_row names.R_RISCV_LO12_I) low addi
+unfolding place_sum
+addi_has =
+    has _ _ _ _ _ addi (0x13 ∷ 0x85 ∷ 0x07 ∷ 0x12 ∷ [])
+    (relocated _ _ _ (pos 0x120) 0x78513 refl refl (lit≤ tt) (refl, tt, λ e. refl)
+    ((omega (arith, ints), omega (arith, ints)), lit< tt, tt) refl refl) refl refl refl refl
+
+made_has : Has 4 (words new) 0x10000 (riscv_row names.R_RISCV_LO12_I) high
+    (after_rewrite kinds.Lo12Rs1ToZero addi 0)
+unfolding place_sum
+made_has =
+    has _ _ _ _ _ (0x13 ∷ 0x05 ∷ 0x00 ∷ 0x00 ∷ []) (0x13 ∷ 0x05 ∷ 0x00 ∷ 0x12 ∷ [])
+    (relocated _ _ _ (pos 0x120) 0x513 refl refl (lit≤ tt) (refl, tt, λ e. refl)
+    ((omega (arith, ints), omega (arith, ints)), lit< tt, tt) refl refl) refl refl refl refl
+
+abbrev auipc : List ℕ
+auipc = 0x97 ∷ 0x05 ∷ 0x00 ∷ 0x00 ∷ []
+
+abbrev ld : List ℕ
+ld = 0x83 ∷ 0xb5 ∷ 0x05 ∷ 0x00 ∷ []
+
+entry_has : Has 4 (words old) 0x10008 (riscv_row names.R_RISCV_GOT_HI20) load auipc
+unfolding place_sum
+entry_has =
+    has _ _ _ _ _ auipc (0x97 ∷ 0x25 ∷ 0x00 ∷ 0x00 ∷ [])
+    (relocated _ _ _ (pos 0x2008) 0x597 refl refl (lit≤ tt) (refl, tt, λ e. refl)
+    ((omega (arith, ints), omega (arith, ints)), lit< tt, tt) refl refl) refl refl refl refl
+
+ld_has : Has 4 (words old) 0x1000c (riscv_row names.R_RISCV_PCREL_LO12_I) (of_entry load) ld
+unfolding place_sum
+ld_has =
+    has _ _ _ _ _ ld (0x83 ∷ 0xb5 ∷ 0x85 ∷ 0x00 ∷ [])
+    (relocated _ _ _ (pos 0x2008) 0x5b583 refl refl (lit≤ tt) (refl, tt, λ e. refl)
+    ((omega (arith, ints), omega (arith, ints)), lit< tt, tt) refl refl) refl refl refl refl
+
+near_has : Has 4 (words new) 0x10004 (riscv_row names.R_RISCV_PCREL_HI20) sum_at auipc
+unfolding place_sum
+near_has =
+    has _ _ _ _ _ auipc (0x97 ∷ 0x35 ∷ 0x00 ∷ 0x00 ∷ [])
+    (relocated _ _ _ (pos 0x2ffc) 0x597 refl refl (lit≤ tt) (refl, tt, λ e. refl)
+    ((omega (arith, ints), omega (arith, ints)), lit< tt, tt) refl refl) refl refl refl refl
+
+rest_has : Has 4 (words new) 0x10008 (riscv_row names.R_RISCV_PCREL_LO12_I) sum_at
+    (after_rewrite kinds.LdToAddi ld 0)
+unfolding place_sum
+rest_has =
+    has _ _ _ _ _ (0x93 ∷ 0x85 ∷ 0x05 ∷ 0x00 ∷ []) (0x93 ∷ 0x85 ∷ 0xc5 ∷ 0xff ∷ [])
+    (relocated _ _ _ (pos 0x2ffc) 0x58593 refl refl (lit≤ tt) (refl, tt, λ e. refl)
+    ((omega (arith, ints), omega (arith, ints)), lit< tt, tt) refl refl) refl refl refl refl
+
+-- ---- runs
+
+starts : Agree (link code) known starting starting
+starts =
+    record {
+      small = lit< tt;
+      pc = refl;
+      registers = λ r. refl;
+      memory = λ a below. ap (λ n. n + 0) (by (a - 0) (nat_lt (a - 0) 0x10014) refl);
+      outside = refl;
+    }
+  where
+    nothing : (a : ℕ) → a < 0x12010 → starting.memory a ≡ 0
+    nothing a below =
+        let none : is_entry a ≡ false = grind (arith, below) in
+        cond-false (is_entry a) _ 0 none
+
+    by : (a : ℕ) (b : Bool) → nat_lt a 0x10014 ≡ b → starting.memory a ≡ starting.memory (moved a)
+    by a true e =
+        let below = ltb-true a 0x10014 e in
+        nothing a (omega arith)
+        ∙ sym (ap starting.memory (cond-true _ (a - min 4 (a - 0x10000)) a e)
+        ∙ nothing (a - min 4 (a - 0x10000)) (omega arith))
+    by a false e = sym (ap starting.memory (cond-false _ (a - min 4 (a - 0x10000)) a e))
+
+abbrev s1 : State
+s1 = put 15 0 0x10004 starting
+
+abbrev s2 : State
+s2 = put 10 0x120 0x10008 s1
+
+abbrev s3 : State
+s3 = put 11 0x13000 0x10010 (put 11 0x12008 0x1000c s2)
+
+abbrev k1 : Kinds
+k1 = with_register 15 anything known
+
+abbrev k2 : Kinds
+k2 = with_register 10 same k1
+
+abbrev k3 : Kinds
+k3 = with_register 11 same (with_register 11 anything k2)
+
+p1 : Groups → Group (of_link (link code)) 0 known starting k1 s1
+p1 g =
+    g.no_high_parts code high known starting lui (record { small = lit< tt; moved = refl }) (lit≤ tt, refl)
+    refl (omega (arith, ints), omega (arith, ints)) lui_has
+
+p2 : Groups → Group (of_link (link code)) 1 k1 s1 k2 s2
+p2 g =
+    subst (λ u. Group (of_link (link code)) 1 k1 s1 k2 u) (wrote s1 10 0x120 0x10008 (lit< tt))
+    (g.low_parts addi (lit≤ tt, refl) code low high k1 k2 s1
+    (record { at = refl; small = lit< tt; place = refl; next = refl }) refl
+    (omega (arith, ints), omega (arith, ints)) refl tt addi_has made_has
+    (λ t agree.
+    subst (λ u. Agree (link code) k2 u (uses adds 0x78513 0x120 t)) (sym (wrote s1 10 0x120 0x10008 (lit< tt)))
+    (subst (λ u. Agree (link code) k2 s2 u) (sym (wrote t 10 0x120 (sum_64 t.pc 4) (lit< tt)))
+    (agree_put (link code) k1 s1 t 10 same 0x120 0x120 0x10008 (sum_64 t.pc 4) agree (lit< tt)
+    (ap (λ p. sum_64 p 4) agree.pc) refl))))
+
+p3 : Groups → Group (of_link (link code)) 2 k2 s2 k3 s3
+unfolding place_sum entry_has has
+p3 g =
+    g.got code load sum_at k2 same s2 auipc ld
+    (small load (lit< tt) (lit< tt) (lit< tt) (lit< tt) (lit< tt) (lit< tt))
+    (small sum_at (lit< tt) (lit< tt) (lit< tt) (lit< tt) (lit< tt) (lit< tt))
+    (record { at = refl; small = lit< tt; place = refl; next = refl }) (lit≤ tt)
+    (record { first = refl; second = (refl, refl); base = refl; not_zero = λ e. omega arith })
+    refl refl entry_has ld_has near_has rest_has
+
+old_end : IsSomeAnd (run 4 (machine others (words old)) starting)
+    (λ s. (s.pc ≡ 0x10010) × (s.registers 10 ≡ 0x120) × (s.registers 11 ≡ 0x13000))
+unfolding place_sum
+old_end = (refl, refl, refl)
+
+new_end : IsSomeAnd (run 3 (machine others (words new)) starting)
+    (λ s. (s.pc ≡ 0x1000c) × (s.registers 10 ≡ 0x120) × (s.registers 11 ≡ 0x13000))
+unfolding place_sum
+new_end = (refl, refl, refl)
+
+pub is_worked : Groups → IsWorked
+is_worked g =
+    record {
+      kinds = k3;
+      state = s3;
+      agree = starts;
+      covered =
+          group 2 0 3 _ _ _ _ _ _ (p1 g) (group 1 1 2 _ _ _ _ _ _ (p2 g)
+          (group 0 2 0 _ _ _ _ _ _ (p3 g) (ends _ _)));
+      stops = record {
+        old_stops = refl;
+        new_stops = λ t agree.
+            ap (λ a. let b = instruction_at (words new) a in continued others b t (step b (seen t))) agree.pc;
+      };
+      old_ends = old_end;
+      new_ends = new_end;
+    }

@@ -1,0 +1,405 @@
+-- RISC-V: rewritten instructions are groups of the simulation. Code gets shorter, so what is old's
+-- and what is new's stand at places of their own.
+use Rattle.std.specs.Prelude.{◌≡◌, ◌≢◌, ℕ, zero, suc, ◌+◌, ◌-◌, ◌*◌, ◌^◌, ◌<◌, ◌≤◌, ◌%◌, ◌==◌}
+use Rattle.std.specs.Prelude.{false, nat_lt}
+use Rattle.std.specs.Prelude.{if◌then◌else◌, List, [], ◌∷◌, take, drop, length, Option, Some, None}
+use Rattle.std.specs.Prelude.{IsSomeAnd, ⊤}
+use Rattle.std.specs.Int.{w16, w64, cast_signed, from_le_bytes}
+use Rattle.linker_elf.specs.Choices.{low_12_bounds}
+use Rattle.linker_elf.specs.Elf.{IsWithin}
+use Rattle.linker_elf.specs.RiscV.{riscv_form}
+use Rattle.linker_elf.specs.RiscVRelocations.{clui_row, riscv_relocation, riscv_row}
+use Rattle.linker_elf.specs.Value.{sum_64}
+use Rattle.linker_elf.specs.declared.elf.RelocationKindInfo.{RelocationKindInfo}
+use Rattle.linker_elf.specs.declared.elf.value.Operands.{Operands}
+use Rattle.linker_elf.specs.declared.riscv64.forms.RiscVInstruction.TheVariants.{UType}
+use Rattle.linker_elf.specs.declared.riscv64.relocations.RiscVRelocation.{RiscVRelocation}
+use Rattle.linker_elf.specs.declared.riscv64.relocations.RiscVRelocation.TheVariants as names
+use Rattle.linker_laws.specs.Changes.{ChangesOpen, put, with_register}
+use Rattle.linker_laws.specs.Machine.{Relocated, loaded, moved, wrapped}
+use Rattle.linker_laws.specs.RiscVMachine.{Action, Hart, register, rs1_of, rs2_of, step, used}
+use Rattle.linker_laws.specs.RiscVRelocationLaws.{even}
+use Rattle.linker_laws.specs.RiscVRewriteLaws.{AreOfDescriptor, HaveOneOffset, HaveOneTarget}
+use Rattle.linker_laws.specs.RiscVRewriteLaws.{IsLoadFromGot, IsLow12, IsLowOffset, action_at}
+use Rattle.linker_laws.specs.RiscVRewriteLaws.{after_rewrite}
+use Rattle.linker_laws.specs.RiscVRewriteLaws.{low_row, of_entry, offset_row, t0, thread_offset}
+use Rattle.linker_laws.specs.RiscVRewriteLaws.{word_of}
+use Rattle.linker_laws.specs.Schemes.{AreAddresses, entry_and_addend, plt_address, symbol_address}
+use Rattle.linker_laws.specs.Simulation.{State, Program, Machine, Link, Kind, Kinds}
+use Rattle.linker_laws.specs.Simulation.{Agree, AreOf, Group, Other, anything, code as counted}
+use Rattle.linker_laws.specs.Simulation.{of_link, run, same}
+use Rattle.linker_riscv64.specs.RiscVCalls.{IsCallPair}
+use Rattle.linker_riscv64.specs.RiscVFields.{rd_of}
+use Rattle.linker_utils.specs.RiscVRewrites.{IsAddTp, IsLui, a0, half_at, riscv_matches, tp}
+use Rattle.linker_utils.specs.declared.riscv64.rewrites.RelaxationKind.{RelaxationKind}
+use Rattle.linker_utils.specs.declared.riscv64.rewrites.RelaxationKind.TheVariants as kinds
+
+-- ---- the machine
+
+-- Of a state, what a hart has. Floating-point registers are those from 32 up. Register 0 is read
+-- as 0, whatever is written to it: its number may be anything.
+abbrev pub seen : State → Hart
+seen s =
+    record {
+      pc = s.pc;
+      integers = s.registers;
+      floats = λ r. s.registers (32 + r);
+      memory = s.memory;
+    }
+
+-- the state whose hart is another
+abbrev pub left : State → Hart → State
+left s h =
+    record s {
+      pc = h.pc;
+      registers = λ r. if nat_lt r 32 then h.integers r else h.floats (r - 32);
+      memory = h.memory;
+    }
+
+-- n bytes of code from an address on
+abbrev pub bytes_at : ℕ → (ℕ → ℕ) → ℕ → List ℕ
+bytes_at zero code at = []
+bytes_at (suc n) code at = code at ∷ bytes_at n code (sum_64 at 1)
+
+-- those of an instruction: 4 where the lowest two bits are 1, else 2
+abbrev pub instruction_at : (ℕ → ℕ) → ℕ → List ℕ
+instruction_at code at = bytes_at (if code at % 4 == 3 then 4 else 2) code at
+
+-- what an instruction leaves, or what another one does, by its bytes
+abbrev pub continued : (List ℕ → Program) → List ℕ → State → Option Hart → Option State
+continued others bytes s None = others bytes s
+continued others bytes s (Some h) = Some (left s h)
+
+abbrev pub machine : (List ℕ → Program) → Machine
+machine others code s =
+    let bytes = instruction_at code s.pc in
+    continued others bytes s (step bytes (seen s))
+
+pub record Code : Type 0 where
+  -- what any other instruction does, by its bytes
+  pub others : List ℕ → Program
+  pub old : ℕ → ℕ
+  pub new : ℕ → ℕ
+  -- the new address of a byte of old, or of the next kept byte
+  pub moved : ℕ → ℕ
+
+abbrev pub link : Code → Link
+link c =
+    record {
+      machine = machine c.others;
+      old = c.old;
+      new = c.new;
+      moved = c.moved;
+      halves = λ h x y. false;
+    }
+
+-- ---- bytes of code
+
+-- An instruction's n bytes stand at an address.
+abbrev pub Stands : ℕ → (ℕ → ℕ) → ℕ → List ℕ → Type 0
+Stands n code at instruction = bytes_at n code at ≡ take n instruction
+
+-- They do with a relocation applied.
+pub record Has (n : ℕ) (code : ℕ → ℕ) (at : ℕ) (row : Option RelocationKindInfo) (o : Operands)
+    (instruction : List ℕ) : Type 0 where
+  pub relocated : List ℕ
+  pub applied : Relocated row o instruction relocated
+  pub stands : Stands n code at relocated
+
+-- Old's state is before n bytes, in whose place new has m. The operands have the places of both.
+pub record AreBefore (c : Code) (n m : ℕ) (x y : Operands) (s : State) : Type 0 where
+  pub at : s.pc ≡ x.place
+  pub small : x.place < 2 ^ 64
+  pub place : y.place ≡ c.moved x.place
+  pub next : sum_64 y.place m ≡ c.moved (sum_64 x.place n)
+
+-- n bytes of old are deleted
+pub record AreDeleted (c : Code) (n : ℕ) (s : State) : Type 0 where
+  pub small : s.pc + n < 2 ^ 64
+  pub moved : c.moved s.pc ≡ c.moved (s.pc + n)
+
+-- ---- high parts
+
+-- what `lui` leaves
+abbrev pub upper : List ℕ → ℕ
+upper lui = wrapped ((riscv_form UType).machine (word_of lui))
+
+-- what `auipc` leaves at an address
+abbrev pub upper_from : ℕ → List ℕ → ℕ
+upper_from at auipc = moved at ((riscv_form UType).machine (word_of auipc))
+
+-- `lui` becomes `c.lui`, which has no immediate 0: S + A isn't a number of 12 bits.
+abbrev pub LuiBecomesClui : Type 0
+LuiBecomesClui =
+    (c : Code) (x y : Operands) (k : Kinds) (s : State) (lui : List ℕ) → AreBefore c 4 2 x y s
+    → riscv_matches kinds.Hi20ToCLui lui 0 → HaveOneTarget x y → ¬ IsLow12 x
+    → (old : Has 4 c.old x.place (riscv_row names.R_RISCV_HI20) x lui)
+    → Has 2 c.new y.place (Some clui_row) y (after_rewrite kinds.Hi20ToCLui lui 0)
+    → Group (of_link (link c)) 1 k s (with_register (rd_of (word_of lui)) same k)
+    (put (rd_of (word_of lui)) (upper old.relocated) (sum_64 x.place 4) s)
+
+-- `c.lui` becomes `c.li` of 0, where S + A is such a number, and a `lui` of the same register was
+-- in
+-- old.
+abbrev pub CluiBecomesCli : Type 0
+CluiBecomesCli =
+    (c : Code) (x y : Operands) (k : Kinds) (s : State) (lui clui : List ℕ) → AreBefore c 4 2 x y s
+    → riscv_matches kinds.CLuiToCLi clui 0 → IsLui (word_of lui)
+    → rd_of (word_of lui) ≡ rd_of (half_at clui 0) → IsLow12 x
+    → Has 4 c.old x.place (riscv_row names.R_RISCV_HI20) x lui
+    → Stands 2 c.new y.place (after_rewrite kinds.CLuiToCLi clui 0)
+    → Group (of_link (link c)) 1 k s (with_register (rd_of (word_of lui)) same k)
+    (put (rd_of (word_of lui)) 0 (sum_64 x.place 4) s)
+
+-- A `lui` of S + A, or of an offset, that is a number of 12 bits is deleted. In old it leaves 0.
+abbrev pub DeletedLui : RelaxationKind → RiscVRelocation → (Operands → Type 0) → Type 0
+DeletedLui kind name IsLow =
+    (c : Code) (x : Operands) (k : Kinds) (s : State) (lui : List ℕ) → AreDeleted c 4 s
+    → riscv_matches kind lui 0 → IsLui (word_of lui) → IsLow x → Has 4 c.old s.pc (riscv_row name) x lui
+    → Group (of_link (link c)) 0 k s (with_register (rd_of (word_of lui)) anything k)
+    (put (rd_of (word_of lui)) 0 (s.pc + 4) s)
+
+abbrev pub LuiIsDeleted : Type 0
+LuiIsDeleted = DeletedLui kinds.Hi20Delete names.R_RISCV_HI20 IsLow12
+
+abbrev pub OffsetLuiIsDeleted : Type 0
+OffsetLuiIsDeleted = DeletedLui kinds.Delete names.R_RISCV_TPREL_HI20 IsLowOffset
+
+-- So is an `add` of the thread pointer to a register that has 0.
+abbrev pub SumIsDeleted : Type 0
+SumIsDeleted =
+    (c : Code) (k : Kinds) (s : State) (add : List ℕ) → AreDeleted c 4 s
+    → IsAddTp (word_of add) → register (seen s) (rs1_of (word_of add)) ≡ 0
+    → s.registers tp < 2 ^ 64 → Stands 4 c.old s.pc add
+    → Group (of_link (link c)) 0 k s (with_register (rd_of (word_of add)) anything k)
+    (put (rd_of (word_of add)) (s.registers tp) (s.pc + 4) s)
+
+-- ---- low parts
+
+-- what the instruction of a word does with a sum
+abbrev pub uses : Action → ℕ → ℕ → State → State
+uses action word sum s = left s (used 4 action (rd_of word) (rs2_of word) sum (seen s))
+
+-- An instruction adds the low part of a number to a base. Old's base has the number of another one,
+-- and the rewrite makes that the base. What it loads, stores or writes is of the kinds after it.
+abbrev pub LowPartOf : RelaxationKind → (Action → Option RelocationKindInfo) → (Operands → ℕ)
+    → (State → ℕ) → (Kinds → Type 0) → List ℕ → Action → Type 0
+LowPartOf kind row number base IsKnown low action =
+    (c : Code) (x y : Operands) (k k' : Kinds) (s : State) → AreBefore c 4 4 x y s → number x ≡ number y
+    → IsWithin (Some low_12_bounds) (cast_signed w64 (number x))
+    → register (seen s) (rs1_of (word_of low)) ≡ base s → IsKnown k
+    → Has 4 c.old x.place (row action) x low
+    → Has 4 c.new y.place (row action) y (after_rewrite kind low 0)
+    → let after = uses action (word_of low) (sum_64 (base s) (number x)) in
+    ((t : State) → Agree (link c) k s t → Agree (link c) k' (after s) (after t))
+    → Group (of_link (link c)) 1 k s k' (after s)
+
+abbrev pub LowPart : RelaxationKind → (Action → Option RelocationKindInfo) → (Operands → ℕ)
+    → (State → ℕ) → (Kinds → Type 0) → Type 0
+LowPart kind row number base IsKnown =
+    (low : List ℕ) → riscv_matches kind low 0
+    → IsSomeAnd (action_at low 0) (LowPartOf kind row number base IsKnown low)
+
+-- x0 in place of a register that has 0
+abbrev pub LowPartFromZero : Type 0
+LowPartFromZero = LowPart kinds.Lo12Rs1ToZero low_row symbol_address (λ s. 0) (λ k. ⊤)
+
+-- the thread pointer in place of a register that has its number
+abbrev pub LowPartFromThreadPointer : Type 0
+LowPartFromThreadPointer =
+    LowPart kinds.BaseToTp offset_row thread_offset (λ s. s.registers tp)
+    (λ k. k.registers tp ≡ same)
+
+-- ---- calls
+
+-- the address of a place of code
+abbrev pub of_place : ℕ → Kind
+of_place a = counted (record { number = 0; added = a ∷ []; subtracted = [] })
+
+-- `auipc rX` and `jalr rY` over rX become a jump of n bytes that links rY. Old and new are at a
+-- target,
+-- and each has the address after the call in rY. rX may have anything, unless it is rY.
+abbrev pub CallTo : RiscVRelocation → ℕ → RiscVRelocation → (List ℕ → ℕ → Type 0) → Type 0
+CallTo name n new_name IsJump =
+    (c : Code) (x y : Operands) (k : Kinds) (s : State) (call jump : List ℕ)
+    → AreAddresses x → AreAddresses y → AreBefore c 8 n x y s
+    → symbol_address y ≡ c.moved (even plt_address x)
+    → let base = rd_of (word_of call) in
+    let link_register = rd_of (word_of (drop 4 call)) in
+    IsCallPair (word_of call) (word_of (drop 4 call)) → base ≢ 0 → IsJump jump link_register
+    → (old : Has 8 c.old x.place (riscv_row name) x call)
+    → Has n c.new y.place (riscv_row new_name) y jump
+    → Group (of_link (link c)) 1 k s
+    (with_register link_register (of_place (sum_64 x.place 8)) (with_register base anything k))
+    (put link_register (sum_64 x.place 8) (even plt_address x)
+    (put base (upper_from x.place old.relocated) (sum_64 x.place 4) s))
+
+-- `jal` of a register, and `c.j`, of distance 0
+abbrev pub IsJal : List ℕ → ℕ → Type 0
+IsJal jump rd = word_of jump ≡ 0x6f + rd * 2 ^ 7
+
+abbrev pub IsCj : List ℕ → ℕ → Type 0
+IsCj jump rd = (rd ≡ 0) × (from_le_bytes w16 jump ≡ 0xa001)
+
+abbrev pub Calls : Type 0
+Calls =
+    CallTo names.R_RISCV_CALL 4 names.R_RISCV_JAL IsJal
+    × CallTo names.R_RISCV_CALL_PLT 4 names.R_RISCV_JAL IsJal
+
+abbrev pub ShortTailCalls : Type 0
+ShortTailCalls =
+    CallTo names.R_RISCV_CALL 2 names.R_RISCV_RVC_JUMP IsCj
+    × CallTo names.R_RISCV_CALL_PLT 2 names.R_RISCV_RVC_JUMP IsCj
+
+-- Such a jump is what rewrites leave of a call.
+abbrev pub CallsAreRewritten : Type 0
+CallsAreRewritten =
+    (call : List ℕ)
+    → (riscv_matches kinds.CallToJal call 0
+    → IsJal (after_rewrite kinds.CallToJal call 0) (rd_of (word_of (drop 4 call))))
+    × (riscv_matches kinds.TailToJal call 0
+    → IsJal (after_rewrite kinds.TailToJal call 0) (rd_of (word_of (drop 4 call))))
+    × (riscv_matches kinds.TailToCJ call 0
+    → IsCj (after_rewrite kinds.TailToCJ call 0) (rd_of (word_of (drop 4 call))))
+
+-- ---- loads of addresses from the GOT
+
+-- `auipc rX` and `ld rY` over rX, of an entry that holds the address, become `auipc rX` and
+-- `addi rY`. Then rY has the address in both, which are of a kind.
+abbrev pub GotToAddress : Type 0
+GotToAddress =
+    (c : Code) (x y : Operands) (k : Kinds) (kind : Kind) (s : State) (auipc ld : List ℕ)
+    → AreAddresses x → AreAddresses y → AreBefore c 8 8 x y s → 4 ≤ length ld
+    → IsLoadFromGot (word_of auipc) (word_of ld)
+    → loaded 8 s.memory (entry_and_addend x) ≡ symbol_address x
+    → AreOf (link c) 8 kind (symbol_address x) (symbol_address y)
+    → (old : Has 4 c.old x.place (riscv_row names.R_RISCV_GOT_HI20) x auipc)
+    → Has 4 c.old (sum_64 x.place 4) (riscv_row names.R_RISCV_PCREL_LO12_I) (of_entry x) ld
+    → Has 4 c.new y.place (riscv_row names.R_RISCV_PCREL_HI20) y auipc
+    → Has 4 c.new (sum_64 y.place 4) (riscv_row names.R_RISCV_PCREL_LO12_I) y
+    (after_rewrite kinds.LdToAddi ld 0)
+    → let base = rd_of (word_of auipc) in
+    let rd = rd_of (word_of ld) in
+    Group (of_link (link c)) 2 k s (with_register rd kind (with_register base anything k))
+    (put rd (symbol_address x) (sum_64 x.place 8)
+    (put base (upper_from x.place old.relocated) (sum_64 x.place 4) s))
+
+-- ---- TLS descriptors
+
+-- the state in which `jalr t0` calls the descriptor's function
+abbrev pub called : Operands → ℕ → ℕ → ℕ → State → State
+called x base high register_of_function s =
+    let function = loaded 8 s.memory (entry_and_addend x) in
+    put t0 (sum_64 x.place 16) function
+    (put a0 (entry_and_addend x) (sum_64 x.place 12)
+    (put register_of_function function (sum_64 x.place 8) (put base high (sum_64 x.place 4) s)))
+
+-- `auipc rX`, `ld rY` over rX, `addi a0` over rX, and `jalr t0` over rY stand in old. The function
+-- of
+-- the descriptor is at an even address. It returns, and leaves an offset in a0. What else it
+-- changes may be anything then, as are rX, rY and t0. Nops write register 0.
+pub record Descriptor (c : Code) (x : Operands) (offset : ℕ) (k : Kinds) (s : State) (k' : Kinds)
+    (s' : State) (auipc ld addi jalr : List ℕ) : Type 0 where
+  pub small : AreAddresses x
+  pub at : s.pc ≡ x.place
+  pub instructions : AreOfDescriptor (word_of auipc) (word_of ld) (word_of addi) (word_of jalr)
+  pub high : Has 4 c.old x.place ((riscv_relocation names.R_RISCV_TLSDESC_HI20).row) x auipc
+  pub low :
+      Has 4 c.old (sum_64 x.place 4) ((riscv_relocation names.R_RISCV_TLSDESC_LOAD_LO12).row) x ld
+  pub sum :
+      Has 4 c.old (sum_64 x.place 8) ((riscv_relocation names.R_RISCV_TLSDESC_ADD_LO12).row) x addi
+  pub call : Stands 4 c.old (sum_64 x.place 12) jalr
+  pub function : loaded 8 s.memory (entry_and_addend x) < 2 ^ 64
+  pub even : loaded 8 s.memory (entry_and_addend x) % 2 ≡ 0
+  -- how many instructions the function executes
+  pub executes : ℕ
+  pub returns :
+      run executes (machine c.others c.old)
+      (called x (rd_of (word_of auipc)) (upper_from x.place high.relocated) (rd_of (word_of ld)) s)
+      ≡ Some s'
+  pub changes :
+      ChangesOpen (with_register a0 same (with_register 0 anything k))
+      (put a0 offset (sum_64 x.place 16) s) k' s'
+
+-- In new n nops are where the first instructions were, one after the other. Each other one is
+-- deleted.
+-- So the last m instructions are at an address.
+pub record AreNops (c : Code) (n m : ℕ) (x : Operands) (at : ℕ) : Type 0 where
+  pub small : c.moved x.place < 2 ^ 64
+  pub nops :
+      (i : ℕ) → i < n → (instruction : List ℕ) × riscv_matches kinds.ReplaceWithLongNop instruction 0
+      × Stands 4 c.new (sum_64 (c.moved x.place) (4 * i))
+      (after_rewrite kinds.ReplaceWithLongNop instruction 0)
+  pub place : at ≡ sum_64 (c.moved x.place) (4 * n)
+  pub next : sum_64 at (4 * m) ≡ c.moved (sum_64 x.place 16)
+
+-- `lui a0` and `addi a0, a0` of the offset
+abbrev pub DescriptorToLocalExec : Type 0
+DescriptorToLocalExec =
+    (c : Code) (n at : ℕ) (x y : Operands) (k k' : Kinds) (s s' : State)
+    (auipc ld addi jalr : List ℕ)
+    → Descriptor c x (thread_offset x) k s k' s' auipc ld addi jalr → AreAddresses y
+    → HaveOneOffset x y → AreNops c n 2 x at → length addi ≡ 4 → length jalr ≡ 4
+    → Has 4 c.new at (riscv_row names.R_RISCV_TPREL_HI20) y (after_rewrite kinds.AddiToLui addi 0)
+    → Has 4 c.new (sum_64 at 4) (riscv_row names.R_RISCV_TPREL_LO12_I) y
+    (after_rewrite kinds.CallToAddi jalr 0)
+    → Group (of_link (link c)) (n + 2) k s k' s'
+
+-- `addi a0, x0` alone, where the offset has 12 bits
+abbrev pub DescriptorToShortLocalExec : Type 0
+DescriptorToShortLocalExec =
+    (c : Code) (n at : ℕ) (x y : Operands) (k k' : Kinds) (s s' : State)
+    (auipc ld addi jalr : List ℕ)
+    → Descriptor c x (thread_offset x) k s k' s' auipc ld addi jalr
+    → HaveOneOffset x y → IsLowOffset y → AreNops c n 1 x at → length jalr ≡ 4
+    → Has 4 c.new at (riscv_row names.R_RISCV_TPREL_LO12_I) y
+    (after_rewrite kinds.CallToAddiZero jalr 0)
+    → Group (of_link (link c)) (n + 1) k s k' s'
+
+-- `auipc a0` and `ld a0` of an entry that holds the number that the function returns, whatever
+-- state
+-- of new agrees
+abbrev pub DescriptorToInitialExec : Type 0
+DescriptorToInitialExec =
+    (c : Code) (n offset : ℕ) (x y : Operands) (k k' : Kinds) (s s' : State)
+    (auipc ld addi jalr : List ℕ) → Descriptor c x offset k s k' s' auipc ld addi jalr
+    → AreAddresses y → offset < 2 ^ 64
+    → ((t : State) → Agree (link c) k s t → loaded 8 t.memory (entry_and_addend y) ≡ offset)
+    → AreNops c n 2 x y.place → length addi ≡ 4 → length jalr ≡ 4
+    → Has 4 c.new y.place (riscv_row names.R_RISCV_TLS_GOT_HI20) y
+    (after_rewrite kinds.AddiToAuipc addi 0)
+    → Has 4 c.new (sum_64 y.place 4) (riscv_row names.R_RISCV_PCREL_LO12_I) (of_entry y)
+    (after_rewrite kinds.CallToLd jalr 0)
+    → Group (of_link (link c)) (n + 2) k s k' s'
+
+-- ---- other instructions
+
+-- One that has the same bytes in both. By these: whatever state agrees before it, it leaves one
+-- that
+-- agrees after it.
+abbrev pub Others : Type 0
+Others =
+    (c : Code) (k k' : Kinds) (s s' : State)
+    → instruction_at c.old s.pc ≡ instruction_at c.new (c.moved s.pc)
+    → machine c.others c.old s ≡ Some s'
+    → ((t : State) → Agree (link c) k s t
+    → let bytes = instruction_at c.old s.pc in
+    IsSomeAnd (continued c.others bytes t (step bytes (seen t))) (Agree (link c) k' s'))
+    → Other (of_link (link c)) k s k' s'
+
+pub record Groups : Type 0 where
+  pub short_high_parts : LuiBecomesClui
+  pub short_zeros : CluiBecomesCli
+  pub no_high_parts : LuiIsDeleted
+  pub high_offsets : OffsetLuiIsDeleted
+  pub sums : SumIsDeleted
+  pub low_parts : LowPartFromZero
+  pub low_offsets : LowPartFromThreadPointer
+  pub calls : Calls
+  pub short_tail_calls : ShortTailCalls
+  pub rewritten_calls : CallsAreRewritten
+  pub got : GotToAddress
+  pub descriptor_to_local_exec : DescriptorToLocalExec
+  pub descriptor_to_short_local_exec : DescriptorToShortLocalExec
+  pub descriptor_to_initial_exec : DescriptorToInitialExec
+  pub others : Others

@@ -1,0 +1,73 @@
+-- A program of RISC-V with groups, of which every premise holds, and both runs computed to the end.
+use Rattle.std.specs.Prelude.{◌≡◌, ℕ, ◌-◌, ◌/◌, ◌%◌, ◌^◌, nat_lt, nat_le, ◌&&◌, Bool}
+use Rattle.std.specs.Prelude.{if◌then◌else◌, List, [], ◌∷◌, None, IsSomeAnd, slice_get, min}
+use Rattle.std.specs.Option.{unwrap_or}
+use Rattle.linker_laws.specs.RiscVGroups.{Code, link, machine}
+use Rattle.linker_laws.specs.Simulation.{State, Program, Kinds, Agree, Covered, Stops, of_link, run}
+use Rattle.linker_laws.specs.Simulation.{same}
+use Rattle.linker_laws.specs.SimulationWorked.{of_byte}
+
+-- words from 0x10000 on, by their bytes
+abbrev pub words : List ℕ → ℕ → ℕ
+words code a =
+    let i = a - 0x10000 in
+    unwrap_or (slice_get code (i / 4)) 0 / 256 ^ (i % 4) % 256
+
+-- The address is a number of 12 bits, and the entry at 0x12010 has another one. No instruction is
+-- at
+-- the end.
+abbrev pub old : List ℕ
+old =
+    0x000007b7  -- lui a5, 0
+    ∷ 0x12078513  -- addi a0, a5, 0x120
+    ∷ 0x00002597  -- auipc a1, 2
+    ∷ 0x0085b583  -- ld a1, 8(a1)
+    ∷ []
+
+-- without the `lui`
+abbrev pub new : List ℕ
+new =
+    0x12000513  -- addi a0, zero, 0x120
+    ∷ 0x00003597  -- auipc a1, 3
+    ∷ 0xffc58593  -- addi a1, a1, -4
+    ∷ []
+
+-- less the deleted bytes before it
+abbrev pub moved : ℕ → ℕ
+moved a = if nat_lt a 0x10014 then a - min 4 (a - 0x10000) else a
+
+-- no other instruction
+abbrev pub others : List ℕ → Program
+others bytes s = None
+
+abbrev pub code : Code
+code = record { others = others; old = words old; new = words new; moved = moved }
+
+abbrev pub is_entry : ℕ → Bool
+is_entry a = nat_le 0x12010 a && nat_lt a 0x12018
+
+abbrev pub starting : State
+starting =
+    record {
+      pc = 0x10000;
+      registers = λ r. r;
+      memory = λ a. if is_entry a then 0x13000 / 256 ^ (a - 0x12010) % 256 else 0;
+      outside = λ n. 0;
+    }
+
+abbrev pub known : Kinds
+known = record { registers = λ r. same; memory = λ a. of_byte same }
+
+-- Three groups are 4 instructions of old, and 3 of new.
+pub record IsWorked : Type 0 where
+  pub kinds : Kinds
+  pub state : State
+  pub agree : Agree (link code) known starting starting
+  pub covered : Covered (of_link (link code)) 3 3 known starting kinds state
+  pub stops : Stops (of_link (link code)) kinds state
+  pub old_ends :
+      IsSomeAnd (run 4 (machine others (words old)) starting)
+      (λ s. (s.pc ≡ 0x10010) × (s.registers 10 ≡ 0x120) × (s.registers 11 ≡ 0x13000))
+  pub new_ends :
+      IsSomeAnd (run 3 (machine others (words new)) starting)
+      (λ s. (s.pc ≡ 0x1000c) × (s.registers 10 ≡ 0x120) × (s.registers 11 ≡ 0x13000))
