@@ -23,8 +23,10 @@ pub(crate) struct WordBits {
     pub of_second: bool,
     /// The bit that becomes bit 0 of their number, below 32.
     pub from: u32,
-    /// Which bits their number has.
+    /// Which bits their number has, unless it has all.
     pub mask: u32,
+    /// Whether it has all bits from that one up.
+    pub is_top: bool,
 }
 
 /// What has to hold of the numbers in bits of instructions.
@@ -125,7 +127,12 @@ impl WordBits {
         } else {
             words.first
         };
-        word >> (self.from % 32) & self.mask
+        let number = word >> (self.from % 32);
+        if self.is_top {
+            number
+        } else {
+            number & self.mask
+        }
     }
 }
 
@@ -419,6 +426,19 @@ macro_rules! bits {
             of_second: $at != 0,
             from: $from,
             mask: $mask,
+            is_top: false,
+        }
+    };
+}
+
+/// All bits from one up.
+macro_rules! top {
+    ($at:expr, $from:literal) => {
+        $crate::rewrite_rows::WordBits {
+            of_second: $at != 0,
+            from: $from,
+            mask: 0,
+            is_top: true,
         }
     };
 }
@@ -432,3 +452,4 @@ macro_rules! or {
 pub(crate) use bits;
 pub(crate) use by_row;
 pub(crate) use or;
+pub(crate) use top;

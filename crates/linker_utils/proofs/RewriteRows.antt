@@ -2,33 +2,25 @@
 use Rattle.std.proofs.Common.{◌≡◌, ℕ, ◌+◌, ◌-◌, ◌*◌, ◌/◌, ◌%◌, ◌^◌, ◌<◌, ◌==◌, Bool, true, false, List, [], ◌∷◌, take, drop, refl, sym, ◌∙◌, ap, arith, subst, bit_and}
 use Rattle.std.proofs.lemmas.Bool.{eqb-true}
 use Rattle.std.proofs.lemmas.List.{drop-drop}
-use Rattle.std.proofs.lemmas.Nat.{and_mask, pow-add}
-use Rattle.std.proofs.Math.Nat.{div-lt_iff_lt-mul, mod-eq_of_lt, mul_comm, one-le-pow}
+use Rattle.std.proofs.lemmas.Nat.{and_mask}
 use Rattle.std.specs.Int.{w32, from_le_bytes}
 use Rattle.linker_utils.specs.Inner.RewriteRows.{kept, kept_of}
 
-of_kept : (ones last whole : Bool) (w from mask n : ℕ) → (mask + 1 == 2 ^ n) ≡ ones → (from + n == 32) ≡ last
-    → (from == 0) ≡ whole → w < 2 ^ 32 → bit_and (w / 2 ^ from) mask ≡ kept_of ones last whole w from mask n
-of_kept true true whole w from mask n is ends first small =
-    let one : mask + 1 ≡ 2 ^ n = eqb-true _ _ is in
-    let low : mask ≡ 2 ^ n - 1 = omega (arith, one) in
-    let all : 2 ^ 32 ≡ 2 ^ n * 2 ^ from = ap (λ k. 2 ^ k) (sym (eqb-true _ _ ends)) ∙ pow-add 2 from n ∙ mul_comm (2 ^ from) (2 ^ n) in
-    let high : w / 2 ^ from < 2 ^ n = (div-lt_iff_lt-mul (omega (arith, one-le-pow from 2 (omega arith)))).1 (subst (λ k. w < k) all small) in
-    ap (bit_and (w / 2 ^ from)) low ∙ and_mask (w / 2 ^ from) n ∙ mod-eq_of_lt high
-of_kept true false whole w from mask n is ends first small =
+of_kept : (ones whole : Bool) (w from mask n : ℕ) → (mask + 1 == 2 ^ n) ≡ ones → (from == 0) ≡ whole
+    → bit_and (w / 2 ^ from) mask ≡ kept_of ones whole w from mask n
+of_kept true whole w from mask n is first =
     let one : mask + 1 ≡ 2 ^ n = eqb-true _ _ is in
     let low : mask ≡ 2 ^ n - 1 = omega (arith, one) in
     let same : n ≡ from + n - from = omega arith in
     ap (bit_and (w / 2 ^ from)) low ∙ and_mask (w / 2 ^ from) n ∙ ap (λ k. w / 2 ^ from % 2 ^ k) same
-of_kept false last true w from mask n is ends first small =
+of_kept false true w from mask n is first =
     let none : w / 2 ^ 0 ≡ w = omega arith in
     ap (λ k. bit_and (w / 2 ^ k) mask) (eqb-true _ _ first) ∙ ap (λ k. bit_and k mask) none
-of_kept false last false w from mask n is ends first small = refl
+of_kept false false w from mask n is first = refl
 
 -- the bits that a mask leaves of a word
-pub kept_is : (w from mask n : ℕ) → w < 2 ^ 32 → bit_and (w / 2 ^ from) mask ≡ kept w from mask n
-kept_is w from mask n small =
-    of_kept (mask + 1 == 2 ^ n) (from + n == 32) (from == 0) w from mask n refl refl refl small
+pub kept_is : (w from mask n : ℕ) → bit_and (w / 2 ^ from) mask ≡ kept w from mask n
+kept_is w from mask n = of_kept (mask + 1 == 2 ^ n) (from == 0) w from mask n refl refl
 
 second_word : (xs : List ℕ) → from_le_bytes w32 (drop 4 xs) ≡ from_le_bytes w32 (drop 4 (take 8 xs))
 second_word [] = refl

@@ -4,7 +4,7 @@
 
 use super::rewrites::{RelaxationKind, test, tests};
 use crate::rewrite_rows::WordTest::{AreSame, Is, IsNot};
-use crate::rewrite_rows::{Words, all_hold, are_at, bits, word_at};
+use crate::rewrite_rows::{Words, all_hold, are_at, bits, top, word_at};
 use crate::linker_base::rewrite::has_window;
 use crate::linker_elf::aarch64::{AArch64Relocation, AArch64Relocation as Names};
 use crate::linker_elf::elf::choice_table::{

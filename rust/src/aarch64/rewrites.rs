@@ -3,7 +3,7 @@
 //! Relaxation rewrites of AArch64.
 
 use crate::rewrite_rows::WordTest::{AreSame, Is, IsNot};
-use crate::rewrite_rows::{are_at, bits, by_row};
+use crate::rewrite_rows::{are_at, bits, by_row, top};
 use crate::linker_base::relaxation::RelocationModifier;
 use crate::linker_base::rewrite::RewriteWindow;
 use crate::linker_elf::aarch64::AArch64Relocation;
@@ -66,11 +66,11 @@ macro_rules! test {
     // whose immediate isn't shifted
     ($at:expr, add_64) => { Is(bits!($at, 0, 0xffc0_0000), 0x9100_0000) };
     // whose offset is unsigned
-    ($at:expr, ldr_64) => { Is(bits!($at, 22, 0x3ff), 0x3e5) };
-    ($at:expr, b) => { Is(bits!($at, 26, 0x3f), 0x05) };
-    ($at:expr, bl) => { Is(bits!($at, 26, 0x3f), 0x25) };
+    ($at:expr, ldr_64) => { Is(top!($at, 22), 0x3e5) };
+    ($at:expr, b) => { Is(top!($at, 26), 0x05) };
+    ($at:expr, bl) => { Is(top!($at, 26), 0x25) };
     // whose register is in bits 5 to 9
-    ($at:expr, blr) => { Is(bits!($at, 10, 0x3f_ffff), 0x35_8fc0) };
+    ($at:expr, blr) => { Is(top!($at, 10), 0x35_8fc0) };
     ($at:expr, into $register:literal) => { Is(bits!($at, 0, 0x1f), $register) };
     ($at:expr, not_into $register:literal) => { IsNot(bits!($at, 0, 0x1f), $register) };
     ($at:expr, into_first) => { AreSame(bits!(0, 0, 0x1f), bits!($at, 0, 0x1f)) };

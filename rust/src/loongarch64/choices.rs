@@ -4,7 +4,7 @@
 
 use super::rewrites::{RelaxationKind, test, tests};
 use crate::rewrite_rows::WordTest::{AreSame, DifferWhere, Is, IsEitherOrWithin, IsNot};
-use crate::rewrite_rows::{are_at, bits};
+use crate::rewrite_rows::{are_at, bits, top};
 use crate::linker_elf::elf::choice_table::{
     ChoiceTable, Chosen, RewriteSet, SIGNED_12, Table, by_table, choice_by, conditions,
 };

@@ -3,7 +3,7 @@
 //! LoongArch: relaxation rewrites.
 
 use crate::rewrite_rows::WordTest::{AreSame, DifferWhere, Is, IsEither, IsEitherOrWithin, IsNot};
-use crate::rewrite_rows::{bits, by_row};
+use crate::rewrite_rows::{bits, by_row, top};
 use crate::linker_base::relaxation::RelocationModifier;
 use crate::linker_base::rewrite::{DeletedBytes, RewriteWindow, window_is_in};
 use crate::linker_elf::elf::InstructionRewrite;
@@ -58,22 +58,22 @@ pub enum RelaxationKind {
 
 /// A test of the instruction at a place: its opcode, and its registers.
 macro_rules! test {
-    ($at:expr, pcalau12i) => { Is(bits!($at, 25, 0x7f), 0x0d) };
-    ($at:expr, pcaddu18i) => { Is(bits!($at, 25, 0x7f), 0x0f) };
-    ($at:expr, lu12i_w) => { Is(bits!($at, 25, 0x7f), 0x0a) };
-    ($at:expr, jirl) => { Is(bits!($at, 26, 0x3f), 0x13) };
-    ($at:expr, addi_d) => { Is(bits!($at, 22, 0x3ff), 0x00b) };
-    ($at:expr, ld_d) => { Is(bits!($at, 22, 0x3ff), 0x0a3) };
-    ($at:expr, addi_d_or_ld_d) => { IsEither(bits!($at, 22, 0x3ff), 0x00b, 0x0a3) };
+    ($at:expr, pcalau12i) => { Is(top!($at, 25), 0x0d) };
+    ($at:expr, pcaddu18i) => { Is(top!($at, 25), 0x0f) };
+    ($at:expr, lu12i_w) => { Is(top!($at, 25), 0x0a) };
+    ($at:expr, jirl) => { Is(top!($at, 26), 0x13) };
+    ($at:expr, addi_d) => { Is(top!($at, 22), 0x00b) };
+    ($at:expr, ld_d) => { Is(top!($at, 22), 0x0a3) };
+    ($at:expr, addi_d_or_ld_d) => { IsEither(top!($at, 22), 0x00b, 0x0a3) };
     // what adds a signed immediate of 12 bits to its first source register
-    ($at:expr, adds_low) => { IsEitherOrWithin(bits!($at, 22, 0x3ff), 0x00a, 0x00b, 0x0a0, 0x0b3) };
+    ($at:expr, adds_low) => { IsEitherOrWithin(top!($at, 22), 0x00a, 0x00b, 0x0a0, 0x0b3) };
     // no `st.b`, `st.h`, `st.w` or `st.d` of its own base
     ($at:expr, stores_other) => {
-        DifferWhere(bits!($at, 22, 0x3ff), 0x0a4, 0x0a7, bits!($at, 0, 0x1f), bits!($at, 5, 0x1f))
+        DifferWhere(top!($at, 22), 0x0a4, 0x0a7, bits!($at, 0, 0x1f), bits!($at, 5, 0x1f))
     };
-    ($at:expr, add_d_of_tp) => { Is(bits!($at, 10, 0x3f_ffff), 0x422) };
-    ($at:expr, ld_d_ra_a0_0) => { Is(bits!($at, 0, 0xffff_ffff), 0x28c0_0081) };
-    ($at:expr, jirl_ra_ra_0) => { Is(bits!($at, 0, 0xffff_ffff), 0x4c00_0021) };
+    ($at:expr, add_d_of_tp) => { Is(top!($at, 10), 0x422) };
+    ($at:expr, ld_d_ra_a0_0) => { Is(top!($at, 0), 0x28c0_0081) };
+    ($at:expr, jirl_ra_ra_0) => { Is(top!($at, 0), 0x4c00_0021) };
     ($at:expr, into $register:literal) => { Is(bits!($at, 0, 0x1f), $register) };
     ($at:expr, not_into_zero) => { IsNot(bits!($at, 0, 0x1f), 0) };
     ($at:expr, into_first) => { AreSame(bits!(0, 0, 0x1f), bits!($at, 0, 0x1f)) };

@@ -3,7 +3,7 @@
 //! Relaxation rewrites of PowerPC64.
 
 use crate::rewrite_rows::WordTest::{DifferAmong, Is, IsAmong, IsEither, IsNot};
-use crate::rewrite_rows::{bits, by_row};
+use crate::rewrite_rows::{bits, by_row, top};
 use crate::linker_base::relaxation::RelocationModifier;
 use crate::linker_base::rewrite::{RewriteWindow, window_is_in};
 use crate::linker_elf::elf::InstructionRewrite;
@@ -107,7 +107,7 @@ macro_rules! test {
         IsEither(bits!($at, 0, 0x3f), $first, $second)
     };
     ($at:expr, low_11 $number:literal) => { Is(bits!($at, 0, 0x7ff), $number) };
-    ($at:expr, nop) => { Is(bits!($at, 0, 0xffff_ffff), 0x6000_0000) };
+    ($at:expr, nop) => { Is(top!($at, 0), 0x6000_0000) };
     ($at:expr, into_not $register:literal) => { IsNot(bits!($at, 21, 0x1f), $register) };
     ($at:expr, over $register:literal) => { Is(bits!($at, 16, 0x1f), $register) };
     ($at:expr, over_not $register:literal) => { IsNot(bits!($at, 16, 0x1f), $register) };

@@ -23,22 +23,24 @@ len_of zero number = zero
 len_of (suc n) number = if number == 0 then 0 else suc (len_of n (number / 2))
 
 -- Those of a word that a mask has, from a bit up. `ones`: the mask is that of the lowest n bits.
--- `last`: they end the word. `whole`: there is no bit below.
-abbrev pub kept_of : Bool → Bool → Bool → ℕ → ℕ → ℕ → ℕ → ℕ
-kept_of true true whole word from mask n = word / 2 ^ from
-kept_of true false whole word from mask n = field word from (from + n)
-kept_of false last true word from mask n = bit_and word mask
-kept_of false last false word from mask n = bit_and (word / 2 ^ from) mask
+-- `whole`: there is no bit below.
+abbrev pub kept_of : Bool → Bool → ℕ → ℕ → ℕ → ℕ → ℕ
+kept_of true whole word from mask n = field word from (from + n)
+kept_of false true word from mask n = bit_and word mask
+kept_of false false word from mask n = bit_and (word / 2 ^ from) mask
 
 abbrev pub kept : ℕ → ℕ → ℕ → ℕ → ℕ
-kept word from mask n =
-    kept_of (mask + 1 == 2 ^ n) (from + n == 32) (from == 0) word from mask n
+kept word from mask n = kept_of (mask + 1 == 2 ^ n) (from == 0) word from mask n
 
--- the number in bits of one of two instructions
+-- the number in bits of a word
+abbrev pub number_of : ℕ → WordBits → ℕ
+number_of word bits =
+    if bits.is_top then word / 2 ^ (bits.from % 32)
+    else kept word (bits.from % 32) bits.mask (len_of 32 bits.mask)
+
+-- that of one of two instructions
 abbrev pub number_in : Words → WordBits → ℕ
-number_in words bits =
-    kept (if bits.of_second then words.second else words.first) (bits.from % 32) bits.mask
-    (len_of 32 bits.mask)
+number_in words bits = number_of (if bits.of_second then words.second else words.first) bits
 
 -- the instruction at an offset, and the one after it where n bytes have two
 abbrev pub words_at : List ℕ → ℕ → ℕ → Words

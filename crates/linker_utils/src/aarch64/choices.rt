@@ -11,7 +11,7 @@ ghost use Rattle.linker_elf.specs.contracts.aarch64.relocations.AArch64Relocatio
 
 use super::rewrites::{RelaxationKind, test, tests};
 use crate::rewrite_rows::WordTest::{AreSame, Is, IsNot};
-use crate::rewrite_rows::{Words, all_hold, are_at, bits, word_at};
+use crate::rewrite_rows::{Words, all_hold, are_at, bits, top, word_at};
 use linker_base::rewrite::has_window;
 use linker_elf::aarch64::{AArch64Relocation, AArch64Relocation as Names};
 use linker_elf::elf::choice_table::{

@@ -11,7 +11,7 @@ ghost use Rattle.linker_utils.specs.declared.loongarch64.rewrites.RelaxationKind
 
 use super::rewrites::{RelaxationKind, test, tests};
 use crate::rewrite_rows::WordTest::{AreSame, DifferWhere, Is, IsEitherOrWithin, IsNot};
-use crate::rewrite_rows::{are_at, bits};
+use crate::rewrite_rows::{are_at, bits, top};
 use linker_elf::elf::choice_table::{
     ChoiceTable, Chosen, RewriteSet, SIGNED_12, Table, by_table, choice_by, conditions,
 };

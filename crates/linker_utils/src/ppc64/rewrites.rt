@@ -12,7 +12,7 @@ ghost use Rattle.linker_utils.specs.Ppc64Rewrites.{ppc64_skipped, ppc64_may_be_s
 ghost use Rattle.linker_utils.specs.declared.ppc64.rewrites.RelaxationKind.TheVariants.{NoOp};
 
 use crate::rewrite_rows::WordTest::{DifferAmong, Is, IsAmong, IsEither, IsNot};
-use crate::rewrite_rows::{bits, by_row};
+use crate::rewrite_rows::{bits, by_row, top};
 use linker_base::relaxation::RelocationModifier;
 use linker_base::rewrite::{RewriteWindow, window_is_in};
 use linker_elf::elf::InstructionRewrite;
@@ -116,7 +116,7 @@ macro_rules! test {
         IsEither(bits!($at, 0, 0x3f), $first, $second)
     };
     ($at:expr, low_11 $number:literal) => { Is(bits!($at, 0, 0x7ff), $number) };
-    ($at:expr, nop) => { Is(bits!($at, 0, 0xffff_ffff), 0x6000_0000) };
+    ($at:expr, nop) => { Is(top!($at, 0), 0x6000_0000) };
     ($at:expr, into_not $register:literal) => { IsNot(bits!($at, 21, 0x1f), $register) };
     ($at:expr, over $register:literal) => { Is(bits!($at, 16, 0x1f), $register) };
     ($at:expr, over_not $register:literal) => { IsNot(bits!($at, 16, 0x1f), $register) };
