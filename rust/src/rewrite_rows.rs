@@ -3,38 +3,47 @@
 //! Rewrites as data. A row has the instructions that a rewrite is for, what it makes of them, and
 //! what is deleted.
 
-use crate::linker_base::bit_misc::BitExtraction;
 use crate::linker_base::relaxation::RelocationModifier;
 use crate::linker_base::rewrite::{DeletedBytes, RewriteWindow, has_window, overwrite};
 use crate::linker_base::utils::u32_from_slice;
 
-/// Bits of an instruction of 4 bytes, which is as many bytes after the row's first instruction as
-/// the first number says.
+/// The instruction of 4 bytes at an offset, and the one after it, or 0 where there is none.
 #[derive(Clone, Copy)]
-pub(crate) enum WordBits {
-    /// From a bit up.
-    Top(u64, u32),
-    /// From a bit up, below another.
-    Field(u64, u32, u32),
-    /// Those that a mask has, in their places.
-    Masked(u64, u32),
+pub(crate) struct Words {
+    /// The one at the offset.
+    pub first: u32,
+    /// The one after it.
+    pub second: u32,
+}
+
+/// Bits of one of two instructions.
+#[derive(Clone, Copy)]
+pub(crate) struct WordBits {
+    /// Whether they are bits of the second one.
+    pub of_second: bool,
+    /// The bit that becomes bit 0 of their number, below 32.
+    pub from: u32,
+    /// Which bits their number has, unless it has all.
+    pub mask: u32,
+    /// Whether it has all bits from that one up.
+    pub is_top: bool,
 }
 
 /// What has to hold of the numbers in bits of instructions.
 #[derive(Clone, Copy)]
 pub(crate) enum WordTest {
     /// It is this one.
-    Is(WordBits, u64),
+    Is(WordBits, u32),
     /// It isn't this one.
-    IsNot(WordBits, u64),
+    IsNot(WordBits, u32),
     /// It is one of both.
-    IsEither(WordBits, u64, u64),
+    IsEither(WordBits, u32, u32),
     /// It is one of both, or from the third up to the last.
-    IsEitherOrWithin(WordBits, u64, u64, u64, u64),
+    IsEitherOrWithin(WordBits, u32, u32, u32, u32),
     /// Both are the same.
     AreSame(WordBits, WordBits),
     /// Both differ, if another is from the first up to the last.
-    DifferWhere(WordBits, u64, u64, WordBits, WordBits),
+    DifferWhere(WordBits, u32, u32, WordBits, WordBits),
     /// It is one of a set, by the lowest two bits of another. Number n, below 64, is bit n of it.
     IsAmong(WordBits, WordBits, u64, u64, u64, u64),
     /// Both differ, if another is one of a set.
@@ -78,8 +87,8 @@ pub(crate) struct RewriteRow {
     pub aligned: bool,
     /// What has to hold of them.
     pub tests: &'static [WordTest],
-    /// What has to hold of them too, also for `apply`.
-    pub required: &'static [WordTest],
+    /// The one of these tests that `apply` requires of the first instruction, if any.
+    pub required: Option<WordTest>,
     /// The instructions that it writes in their place: none, one or two.
     pub edits: &'static [WordEdit],
     /// The bytes that are then deleted.
@@ -94,7 +103,7 @@ pub(crate) struct RewriteRow {
 
 /// One of four sets.
 #[inline(always)]
-fn set_by(by: u64, first: u64, second: u64, third: u64, fourth: u64) -> u64 {
+fn set_by(by: u32, first: u64, second: u64, third: u64, fourth: u64) -> u64 {
     match by {
         0 => first,
         1 => second,
@@ -105,88 +114,87 @@ fn set_by(by: u64, first: u64, second: u64, third: u64, fourth: u64) -> u64 {
 
 /// Whether a set has a number.
 #[inline(always)]
-fn is_among(set: u64, number: u64) -> bool {
+fn is_among(set: u64, number: u32) -> bool {
     set >> (number % 64) & 1 == 1
 }
 
-/// The number in bits of an instruction, where the first instruction is at an offset.
-#[inline(always)]
-fn bits_at(section: &[u8], offset: u64, bits: WordBits, len: u64) -> u64 {
-    let (WordBits::Top(at, _) | WordBits::Field(at, _, _) | WordBits::Masked(at, _)) = bits;
-    let word = u64::from(u32_from_slice(&section[(offset + at) as usize..]));
-    match bits {
-        WordBits::Top(_, from) => word >> from,
-        WordBits::Field(_, from, to) => word.extract_bit_range(from..to),
-        WordBits::Masked(_, mask) => word & u64::from(mask),
+impl WordBits {
+    /// The number in them.
+    #[inline(always)]
+    fn of(self, words: Words) -> u32 {
+        let word = if self.of_second {
+            words.second
+        } else {
+            words.first
+        };
+        let number = word >> (self.from % 32);
+        if self.is_top {
+            number
+        } else {
+            number & self.mask
+        }
     }
 }
 
 impl WordTest {
-    /// Whether it holds of instructions, of which the first is at an offset.
+    /// Whether it holds of instructions.
     #[inline(always)]
-    fn holds(self, section: &[u8], offset: u64, len: u64) -> bool {
+    pub(crate) fn holds(self, words: Words) -> bool {
         match self {
-            WordTest::Is(bits, number) => bits_at(section, offset, bits, len) == number,
-            WordTest::IsNot(bits, number) => bits_at(section, offset, bits, len) != number,
+            WordTest::Is(bits, number) => bits.of(words) == number,
+            WordTest::IsNot(bits, number) => bits.of(words) != number,
             WordTest::IsEither(bits, first, second) => {
-                let number = bits_at(section, offset, bits, len);
+                let number = bits.of(words);
                 number == first || number == second
             }
             WordTest::IsEitherOrWithin(bits, first, second, from, to) => {
-                let number = bits_at(section, offset, bits, len);
+                let number = bits.of(words);
                 number == first || number == second || from <= number && number <= to
             }
-            WordTest::AreSame(bits, others) => {
-                bits_at(section, offset, bits, len) == bits_at(section, offset, others, len)
-            }
+            WordTest::AreSame(bits, others) => { bits.of(words) == others.of(words) }
             WordTest::DifferWhere(bits, from, to, one, other) => {
-                let number = bits_at(section, offset, bits, len);
-                !(from <= number
-                    && number <= to
-                    && bits_at(section, offset, one, len) == bits_at(section, offset, other, len))
+                let number = bits.of(words);
+                !(from <= number && number <= to && one.of(words) == other.of(words))
             }
             WordTest::IsAmong(bits, by, first, second, third, fourth) => {
-                let by = bits_at(section, offset, by, len) % 4;
+                let by = by.of(words) % 4;
                 let set = set_by(by, first, second, third, fourth);
-                is_among(set, bits_at(section, offset, bits, len))
+                is_among(set, bits.of(words))
             }
             WordTest::DifferAmong(bits, set, one, other) => {
-                !(is_among(set, bits_at(section, offset, bits, len))
-                    && bits_at(section, offset, one, len) == bits_at(section, offset, other, len))
+                !(is_among(set, bits.of(words)) && one.of(words) == other.of(words))
             }
         }
     }
 }
 
-/// Whether all tests hold of instructions, of which the first is at an offset. Of constant tests
-/// LLVM leaves what they compare: so there is no loop.
+/// Whether all tests hold of instructions. Of constant tests LLVM leaves what they compare: so there
+/// is no loop.
 #[inline(always)]
-pub(crate) fn all_hold(tests: &'static [WordTest], section: &[u8], offset: u64, len: u64) -> bool {
+pub(crate) fn all_hold(tests: &'static [WordTest], words: Words) -> bool {
     match tests {
         [] => true,
         [a, more @ ..] => {
-            a.holds(section, offset, len)
+            a.holds(words)
                 && match more {
                     [] => true,
                     [b, more @ ..] => {
-                        b.holds(section, offset, len)
+                        b.holds(words)
                             && match more {
                                 [] => true,
                                 [c, more @ ..] => {
-                                    c.holds(section, offset, len)
+                                    c.holds(words)
                                         && match more {
                                             [] => true,
                                             [d, more @ ..] => {
-                                                d.holds(section, offset, len)
+                                                d.holds(words)
                                                     && match more {
                                                         [] => true,
                                                         [e, more @ ..] => {
-                                                            e.holds(section, offset, len)
+                                                            e.holds(words)
                                                                 && match more {
                                                                     [] => true,
-                                                                    [f, ..] => f.holds(
-                                                                        section, offset, len,
-                                                                    ),
+                                                                    [f, ..] => f.holds(words),
                                                                 }
                                                         }
                                                     }
@@ -200,10 +208,29 @@ pub(crate) fn all_hold(tests: &'static [WordTest], section: &[u8], offset: u64, 
     }
 }
 
-/// Whether instructions for which all tests hold are at an offset of a section.
+/// The instruction at an offset of a section.
+#[inline(always)]
+pub(crate) fn word_at(section: &[u8], offset: u64) -> u32 {
+    u32_from_slice(&section[offset as usize..])
+}
+
+/// The first two instructions of n bytes at an offset of a section.
+#[inline(always)]
+fn words_at(section: &[u8], offset: u64, len: u64) -> Words {
+    Words {
+        first: word_at(section, offset),
+        second: if 8 <= len {
+            word_at(section, offset + 4)
+        } else {
+            0
+        },
+    }
+}
+
+/// Whether instructions of n bytes for which all tests hold are at an offset of a section.
 #[inline(always)]
 pub(crate) fn are_at(tests: &'static [WordTest], section: &[u8], offset: u64, len: u64) -> bool {
-    has_window(section, offset, 0, len) && all_hold(tests, section, offset, len)
+    has_window(section, offset, 0, len) && all_hold(tests, words_at(section, offset, len))
 }
 
 /// Target and base register, in their places.
@@ -264,12 +291,6 @@ impl WordEdit {
     }
 }
 
-/// The instruction at an offset of a section.
-#[inline(always)]
-fn word_at(section: &[u8], offset: u64) -> u32 {
-    u32_from_slice(&section[offset as usize..])
-}
-
 /// The first of two instructions at an offset of a section, or the second.
 #[inline(always)]
 fn word_of(section: &[u8], start: u64, second: bool) -> u32 {
@@ -288,7 +309,6 @@ impl RewriteRow {
             || self.back <= offset
                 && (!self.aligned || (offset - self.back) % 4 == 0)
                 && are_at(self.tests, section, offset - self.back, self.len)
-                && all_hold(self.required, section, offset - self.back, self.len)
     }
 
     /// The bytes that the rewrite writes.
@@ -308,7 +328,10 @@ impl RewriteRow {
         let RewriteWindow { back, len } = self.window();
         len == 0
             || has_window(section, offset, back, len)
-                && all_hold(self.required, section, offset - back, 4)
+                && match self.required {
+                    Some(test) => test.holds(words_at(section, offset - back, 4)),
+                    None => true,
+                }
     }
 
     /// Rewrites the first instructions, at an offset of a section.
@@ -340,15 +363,15 @@ impl RewriteRow {
 
 /// What a row is used for, in an arm for each rewrite, and there of a constant row. Each row has
 /// the length of the instructions, how far before the offset they begin, whether they are aligned,
-/// their tests, and those that `apply` requires; the macro `$tests` makes arrays of them. Then it has
-/// the bits kept and set of each instruction that is written, those of the second at 4, or how one
-/// is made instead; where 4 bytes are deleted; where a relocation is skipped; how far the offset
-/// moves; and the addend after.
+/// their tests, and the one that `apply` requires too; the macro `$tests` makes an array of them.
+/// Then it has the bits kept and set of each instruction that is written, those of the second at 4,
+/// or how one is made instead; where 4 bytes are deleted; where a relocation is skipped; how far the
+/// offset moves; and the addend after.
 macro_rules! by_row {
     (
         $tests:ident, kinds;
         $($kind:ident: $len:literal $(back $back:literal)? $(aligned $aligned:literal)?
-            [$($of:tt)*] $(required [$($given:tt)*])?
+            [$($of:tt)*] $(required $given:ident)?
             $(keep $keep:literal $(at $at:literal)? set $set:literal)* $(special $special:ident)?
             $(delete $start:literal)? $(skip $skip:literal)? $(moved $moved:literal)?
             $(addend $addend:literal)?;)*
@@ -356,7 +379,7 @@ macro_rules! by_row {
     (
         $tests:ident, $value:expr, $row:ident => $use:expr;
         $($kind:ident: $len:literal $(back $back:literal)? $(aligned $aligned:literal)?
-            [$($of:tt)*] $(required [$($given:tt)*])?
+            [$($of:tt)*] $(required $given:ident)?
             $(keep $keep:literal $(at $at:literal)? set $set:literal)* $(special $special:ident)?
             $(delete $start:literal)? $(skip $skip:literal)? $(moved $moved:literal)?
             $(addend $addend:literal)?;)*
@@ -367,8 +390,8 @@ macro_rules! by_row {
                     len: $len,
                     back: $crate::rewrite_rows::or!(0; $($back)?),
                     aligned: $crate::rewrite_rows::or!(false; $($aligned)?),
-                    tests: &$tests![$($of)*],
-                    required: &$crate::rewrite_rows::or!([]; $($tests![$($given)*])?),
+                    tests: &$tests![$($given,)? $($of)*],
+                    required: $crate::rewrite_rows::or!(None; $($tests![required $given])?),
                     edits: &[
                         $($crate::rewrite_rows::WordEdit {
                             keep: $keep,
@@ -396,11 +419,37 @@ macro_rules! by_row {
     };
 }
 
+/// Bits of the first instruction, or of the one n bytes after it: from one up, those of a mask.
+macro_rules! bits {
+    ($at:expr, $from:literal, $mask:literal) => {
+        $crate::rewrite_rows::WordBits {
+            of_second: $at != 0,
+            from: $from,
+            mask: $mask,
+            is_top: false,
+        }
+    };
+}
+
+/// All bits from one up.
+macro_rules! top {
+    ($at:expr, $from:literal) => {
+        $crate::rewrite_rows::WordBits {
+            of_second: $at != 0,
+            from: $from,
+            mask: 0,
+            is_top: true,
+        }
+    };
+}
+
 /// A value, or else what stands for none.
 macro_rules! or {
     ($none:expr;) => { $none };
     ($none:expr; $value:expr) => { $value };
 }
 
+pub(crate) use bits;
 pub(crate) use by_row;
 pub(crate) use or;
+pub(crate) use top;

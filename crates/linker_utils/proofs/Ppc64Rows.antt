@@ -207,13 +207,13 @@ all_kept w small = or_zero_r (bit_and w 0xffffffff) ∙ omega (arith, small, and
 -- The tests of a row hold at an offset, which is placed as it says.
 abbrev For : ℕ → ℕ → (ℕ → Type 0) → Type 0 → List ℕ → ℕ → Type 0
 For len back Tests Placed s o =
-    (len ≡ 0) ⊎ (back ≤ o) × ((o - back + len ≤ length s) × Tests (from_le_bytes w32 (drop (o - back) s))) × ⊤ × Placed
+    (len ≡ 0) ⊎ (back ≤ o) × ((o - back + len ≤ length s) × Tests (from_le_bytes w32 (drop (o - back) s))) × Placed
 
 module _ (P Tests : ℕ → Type 0) (same : (w : ℕ) → P w ↔ Tests w) (s : List ℕ) (o : ℕ) where
   at : (back : ℕ) (Placed : Type 0) → back ≤ o → For 4 back Tests Placed s o ↔ (Placed × HasWord s (o - back) P)
   at back Placed enough = (
-    λ h. elim h [ inl none ↦ absurd (omega (arith, none)) | inr all ↦ (all.3, (all.1.0, (same _).1 all.1.1)) ],
-    λ h. inr (enough, (h.1.0, (same _).0 h.1.1), tt, h.0),
+    λ h. elim h [ inl none ↦ absurd (omega (arith, none)) | inr all ↦ (all.2, (all.1.0, (same _).1 all.1.1)) ],
+    λ h. inr (enough, (h.1.0, (same _).0 h.1.1), h.0),
   )
 
   no_back : o - 0 ≡ o

@@ -3,9 +3,9 @@
 //! The rewrites that a linker of AArch64 chooses.
 
 use super::rewrites::{RelaxationKind, test, tests};
-use crate::rewrite_rows::WordBits::{Field, Masked, Top};
 use crate::rewrite_rows::WordTest::{AreSame, Is, IsNot};
-use crate::rewrite_rows::{all_hold, are_at};
+use crate::rewrite_rows::{Words, all_hold, are_at, bits, top, word_at};
+use crate::linker_base::rewrite::has_window;
 use crate::linker_elf::aarch64::{AArch64Relocation, AArch64Relocation as Names};
 use crate::linker_elf::elf::choice_table::{
     ChoiceTable, Chosen, RewriteSet, Table, by_table, choice_by, conditions,
@@ -19,19 +19,27 @@ use crate::linker_elf::elf::{Choice, LinkFacts, Operands};
 #[must_use]
 #[inline]
 pub fn is_tls_descriptor_sequence(section: &[u8], offset: u64) -> bool {
-    are_at(&tests![adrp, into 0], section, offset, 16)
-        && all_hold(
-            &tests![ldr_64 at 4, from 0 at 4, not_into 0 at 4, not_into 31 at 4, add_64 at 8],
-            section,
-            offset,
-            16,
-        )
-        && all_hold(
-            &tests![from 0 at 8, into 0 at 8, blr at 12, into 0 at 12, from_second at 12],
-            section,
-            offset,
-            16,
-        )
+    if !has_window(section, offset, 0, 16) {
+        return false;
+    }
+    let (adrp, ldr) = (word_at(section, offset), word_at(section, offset + 4));
+    let (add, blr) = (word_at(section, offset + 8), word_at(section, offset + 12));
+    all_hold(
+        &tests![adrp, into 0, add_64 at 4, from 0 at 4, into 0 at 4],
+        Words {
+            first: adrp,
+            second: add,
+        },
+    ) && all_hold(
+        &tests![ldr_64, from 0, not_into 0, not_into 31, blr at 4, from_first at 4],
+        Words {
+            first: ldr,
+            second: blr,
+        },
+    ) && test!(0, into 0).holds(Words {
+        first: blr,
+        second: 0,
+    })
 }
 
 /// The instructions that an entry is for: what its rewrite is meant for, or others.

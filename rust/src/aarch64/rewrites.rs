@@ -2,9 +2,8 @@
 // Made by tools/generate of crates/linker_utils/src/aarch64/rewrites.rt.
 //! Relaxation rewrites of AArch64.
 
-use crate::rewrite_rows::WordBits::{Field, Masked, Top};
 use crate::rewrite_rows::WordTest::{AreSame, Is, IsNot};
-use crate::rewrite_rows::{are_at, by_row};
+use crate::rewrite_rows::{are_at, bits, by_row, top};
 use crate::linker_base::relaxation::RelocationModifier;
 use crate::linker_base::rewrite::RewriteWindow;
 use crate::linker_elf::aarch64::AArch64Relocation;
@@ -63,26 +62,27 @@ pub enum RelaxationKind {
 
 /// A test of the instruction at a place: its opcode, and its registers.
 macro_rules! test {
-    ($at:expr, adrp) => { Is(Masked($at, 0x9f00_0000), 0x9000_0000) };
+    ($at:expr, adrp) => { Is(bits!($at, 0, 0x9f00_0000), 0x9000_0000) };
     // whose immediate isn't shifted
-    ($at:expr, add_64) => { Is(Masked($at, 0xffc0_0000), 0x9100_0000) };
+    ($at:expr, add_64) => { Is(bits!($at, 0, 0xffc0_0000), 0x9100_0000) };
     // whose offset is unsigned
-    ($at:expr, ldr_64) => { Is(Top($at, 22), 0x3e5) };
-    ($at:expr, b) => { Is(Top($at, 26), 0x05) };
-    ($at:expr, bl) => { Is(Top($at, 26), 0x25) };
+    ($at:expr, ldr_64) => { Is(top!($at, 22), 0x3e5) };
+    ($at:expr, b) => { Is(top!($at, 26), 0x05) };
+    ($at:expr, bl) => { Is(top!($at, 26), 0x25) };
     // whose register is in bits 5 to 9
-    ($at:expr, blr) => { Is(Top($at, 10), 0x35_8fc0) };
-    ($at:expr, into $register:literal) => { Is(Field($at, 0, 5), $register) };
-    ($at:expr, not_into $register:literal) => { IsNot(Field($at, 0, 5), $register) };
-    ($at:expr, into_first) => { AreSame(Field(0, 0, 5), Field($at, 0, 5)) };
-    ($at:expr, from $register:literal) => { Is(Field($at, 5, 10), $register) };
-    ($at:expr, from_itself) => { AreSame(Field($at, 5, 10), Field($at, 0, 5)) };
-    ($at:expr, from_second) => { AreSame(Field($at, 5, 10), Field(4, 0, 5)) };
+    ($at:expr, blr) => { Is(top!($at, 10), 0x35_8fc0) };
+    ($at:expr, into $register:literal) => { Is(bits!($at, 0, 0x1f), $register) };
+    ($at:expr, not_into $register:literal) => { IsNot(bits!($at, 0, 0x1f), $register) };
+    ($at:expr, into_first) => { AreSame(bits!(0, 0, 0x1f), bits!($at, 0, 0x1f)) };
+    ($at:expr, from $register:literal) => { Is(bits!($at, 5, 0x1f), $register) };
+    ($at:expr, from_itself) => { AreSame(bits!($at, 5, 0x1f), bits!($at, 0, 0x1f)) };
+    ($at:expr, from_first) => { AreSame(bits!($at, 5, 0x1f), bits!(0, 0, 0x1f)) };
 }
 
 /// Tests, each of the first instruction or of the one n bytes after it. Register 31 as a source is
 /// the stack pointer, and as a destination of `ldr` it isn't.
 macro_rules! tests {
+    (required $test:ident) => { Some(test!(0, $test)) };
     (pair_with $second:ident) => {
         tests![adrp, $second at 4, from_itself at 4, not_into 31 at 4, into_first at 4]
     };
@@ -103,13 +103,13 @@ macro_rules! rewrites {
             MovzX0Lsl16: 4 [adrp, into 0] keep 0 set 0xd2a0_0000;
             MovkX0: 4 [ldr_64, from 0] keep 0 set 0xf280_0000;
             MovzXnLsl16: 4 [adrp] keep 0x1f set 0xd2a0_0000;
-            MovkXn: 4 [ldr_64, not_into 31] required [from_itself] keep 0x1f set 0xf280_0000;
+            MovkXn: 4 [ldr_64, not_into 31] required from_itself keep 0x1f set 0xf280_0000;
             AdrpToAdr: 4 [adrp] keep 0x7fff_ffff set 0;
             AdrpX0: 4 [adrp, into 0] keep 0 set 0x9000_0000;
             LdrX0: 4 [ldr_64, from 0] keep 0 set 0xf940_0000;
             AddToAdr: 4 [add_64, not_into 31] keep 0x76ff_ffff set 0;
             LdrToAdr: 4 [ldr_64] keep 0x76ff_ffff set 0;
-            LdrToAdd: 4 [not_into 31] required [ldr_64] keep 0x001f_ffff set 0x9100_0000;
+            LdrToAdd: 4 [not_into 31] required ldr_64 keep 0x001f_ffff set 0x9100_0000;
             AdrpAddToNopAdr: 8 back 4 [pair_with add_64]
                 keep 0 set 0xd503_201f keep 0x1f set 0x1000_0000;
         }

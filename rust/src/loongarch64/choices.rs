@@ -3,9 +3,8 @@
 //! LoongArch: which rewrite a linker chooses for a relocation.
 
 use super::rewrites::{RelaxationKind, test, tests};
-use crate::rewrite_rows::WordBits::{Field, Top};
 use crate::rewrite_rows::WordTest::{AreSame, DifferWhere, Is, IsEitherOrWithin, IsNot};
-use crate::rewrite_rows::are_at;
+use crate::rewrite_rows::{are_at, bits, top};
 use crate::linker_elf::elf::choice_table::{
     ChoiceTable, Chosen, RewriteSet, SIGNED_12, Table, by_table, choice_by, conditions,
 };

@@ -2,9 +2,8 @@
 // Made by tools/generate of crates/linker_utils/src/loongarch64/rewrites.rt.
 //! LoongArch: relaxation rewrites.
 
-use crate::rewrite_rows::WordBits::{Field, Top};
 use crate::rewrite_rows::WordTest::{AreSame, DifferWhere, Is, IsEither, IsEitherOrWithin, IsNot};
-use crate::rewrite_rows::by_row;
+use crate::rewrite_rows::{bits, by_row, top};
 use crate::linker_base::relaxation::RelocationModifier;
 use crate::linker_base::rewrite::{DeletedBytes, RewriteWindow, window_is_in};
 use crate::linker_elf::elf::InstructionRewrite;
@@ -59,28 +58,28 @@ pub enum RelaxationKind {
 
 /// A test of the instruction at a place: its opcode, and its registers.
 macro_rules! test {
-    ($at:expr, pcalau12i) => { Is(Top($at, 25), 0x0d) };
-    ($at:expr, pcaddu18i) => { Is(Top($at, 25), 0x0f) };
-    ($at:expr, lu12i_w) => { Is(Top($at, 25), 0x0a) };
-    ($at:expr, jirl) => { Is(Top($at, 26), 0x13) };
-    ($at:expr, addi_d) => { Is(Top($at, 22), 0x00b) };
-    ($at:expr, ld_d) => { Is(Top($at, 22), 0x0a3) };
-    ($at:expr, addi_d_or_ld_d) => { IsEither(Top($at, 22), 0x00b, 0x0a3) };
+    ($at:expr, pcalau12i) => { Is(top!($at, 25), 0x0d) };
+    ($at:expr, pcaddu18i) => { Is(top!($at, 25), 0x0f) };
+    ($at:expr, lu12i_w) => { Is(top!($at, 25), 0x0a) };
+    ($at:expr, jirl) => { Is(top!($at, 26), 0x13) };
+    ($at:expr, addi_d) => { Is(top!($at, 22), 0x00b) };
+    ($at:expr, ld_d) => { Is(top!($at, 22), 0x0a3) };
+    ($at:expr, addi_d_or_ld_d) => { IsEither(top!($at, 22), 0x00b, 0x0a3) };
     // what adds a signed immediate of 12 bits to its first source register
-    ($at:expr, adds_low) => { IsEitherOrWithin(Top($at, 22), 0x00a, 0x00b, 0x0a0, 0x0b3) };
+    ($at:expr, adds_low) => { IsEitherOrWithin(top!($at, 22), 0x00a, 0x00b, 0x0a0, 0x0b3) };
     // no `st.b`, `st.h`, `st.w` or `st.d` of its own base
     ($at:expr, stores_other) => {
-        DifferWhere(Top($at, 22), 0x0a4, 0x0a7, Field($at, 0, 5), Field($at, 5, 10))
+        DifferWhere(top!($at, 22), 0x0a4, 0x0a7, bits!($at, 0, 0x1f), bits!($at, 5, 0x1f))
     };
-    ($at:expr, add_d_of_tp) => { Is(Top($at, 10), 0x422) };
-    ($at:expr, ld_d_ra_a0_0) => { Is(Top($at, 0), 0x28c0_0081) };
-    ($at:expr, jirl_ra_ra_0) => { Is(Top($at, 0), 0x4c00_0021) };
-    ($at:expr, into $register:literal) => { Is(Field($at, 0, 5), $register) };
-    ($at:expr, not_into_zero) => { IsNot(Field($at, 0, 5), 0) };
-    ($at:expr, into_first) => { AreSame(Field(0, 0, 5), Field($at, 0, 5)) };
-    ($at:expr, from $register:literal) => { Is(Field($at, 5, 10), $register) };
-    ($at:expr, from_itself) => { AreSame(Field($at, 5, 10), Field($at, 0, 5)) };
-    ($at:expr, from_first) => { AreSame(Field($at, 5, 10), Field(0, 0, 5)) };
+    ($at:expr, add_d_of_tp) => { Is(top!($at, 10), 0x422) };
+    ($at:expr, ld_d_ra_a0_0) => { Is(top!($at, 0), 0x28c0_0081) };
+    ($at:expr, jirl_ra_ra_0) => { Is(top!($at, 0), 0x4c00_0021) };
+    ($at:expr, into $register:literal) => { Is(bits!($at, 0, 0x1f), $register) };
+    ($at:expr, not_into_zero) => { IsNot(bits!($at, 0, 0x1f), 0) };
+    ($at:expr, into_first) => { AreSame(bits!(0, 0, 0x1f), bits!($at, 0, 0x1f)) };
+    ($at:expr, from $register:literal) => { Is(bits!($at, 5, 0x1f), $register) };
+    ($at:expr, from_itself) => { AreSame(bits!($at, 5, 0x1f), bits!($at, 0, 0x1f)) };
+    ($at:expr, from_first) => { AreSame(bits!($at, 5, 0x1f), bits!(0, 0, 0x1f)) };
 }
 
 /// Tests, each of the first instruction or of the one n bytes after it.

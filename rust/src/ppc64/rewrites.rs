@@ -2,9 +2,8 @@
 // Made by tools/generate of crates/linker_utils/src/ppc64/rewrites.rt.
 //! Relaxation rewrites of PowerPC64.
 
-use crate::rewrite_rows::WordBits::{Field, Top};
 use crate::rewrite_rows::WordTest::{DifferAmong, Is, IsAmong, IsEither, IsNot};
-use crate::rewrite_rows::by_row;
+use crate::rewrite_rows::{bits, by_row, top};
 use crate::linker_base::relaxation::RelocationModifier;
 use crate::linker_base::rewrite::{RewriteWindow, window_is_in};
 use crate::linker_elf::elf::InstructionRewrite;
@@ -98,28 +97,28 @@ pub enum RelaxationKind {
 /// A test of the instruction at a place: its opcodes, and its registers. As a base, register 0 is
 /// the number 0.
 macro_rules! test {
-    ($at:expr, opcode $number:literal) => { Is(Field($at, 26, 32), $number) };
-    ($at:expr, prefix $number:literal) => { Is(Field($at, 18, 32), $number) };
+    ($at:expr, opcode $number:literal) => { Is(bits!($at, 26, 0x3f), $number) };
+    ($at:expr, prefix $number:literal) => { Is(bits!($at, 18, 0x3fff), $number) };
     // opcode and both registers
-    ($at:expr, high $number:literal) => { Is(Field($at, 16, 32), $number) };
-    ($at:expr, low_2 $number:literal) => { Is(Field($at, 0, 2), $number) };
-    ($at:expr, low_6 $number:literal) => { Is(Field($at, 0, 6), $number) };
+    ($at:expr, high $number:literal) => { Is(bits!($at, 16, 0xffff), $number) };
+    ($at:expr, low_2 $number:literal) => { Is(bits!($at, 0, 0x3), $number) };
+    ($at:expr, low_6 $number:literal) => { Is(bits!($at, 0, 0x3f), $number) };
     ($at:expr, low_6_either $first:literal $second:literal) => {
-        IsEither(Field($at, 0, 6), $first, $second)
+        IsEither(bits!($at, 0, 0x3f), $first, $second)
     };
-    ($at:expr, low_11 $number:literal) => { Is(Field($at, 0, 11), $number) };
-    ($at:expr, nop) => { Is(Top($at, 0), 0x6000_0000) };
-    ($at:expr, into_not $register:literal) => { IsNot(Field($at, 21, 26), $register) };
-    ($at:expr, over $register:literal) => { Is(Field($at, 16, 21), $register) };
-    ($at:expr, over_not $register:literal) => { IsNot(Field($at, 16, 21), $register) };
-    ($at:expr, plus $register:literal) => { Is(Field($at, 11, 16), $register) };
+    ($at:expr, low_11 $number:literal) => { Is(bits!($at, 0, 0x7ff), $number) };
+    ($at:expr, nop) => { Is(top!($at, 0), 0x6000_0000) };
+    ($at:expr, into_not $register:literal) => { IsNot(bits!($at, 21, 0x1f), $register) };
+    ($at:expr, over $register:literal) => { Is(bits!($at, 16, 0x1f), $register) };
+    ($at:expr, over_not $register:literal) => { IsNot(bits!($at, 16, 0x1f), $register) };
+    ($at:expr, plus $register:literal) => { Is(bits!($at, 11, 0x1f), $register) };
     // `addi`, `lwz`, `lbz`, `stw`, `stb`, `lhz`, `lha`, `sth`, `lfs`, `lfd`, `stfs` and `stfd`; by
     // the lowest two bits `lq`, `ld`, `lwa`, `std`, `lxsd`, `lxssp`, `lxv`, `stxv`, `stxsd` and
     // `stxssp`
     ($at:expr, accesses) => {
         IsAmong(
-            Field($at, 26, 32),
-            Field($at, 0, 2),
+            bits!($at, 26, 0x3f),
+            bits!($at, 0, 0x3),
             0x4555_1555_0000_4000,
             0x2155_1555_0000_4000,
             0x2755_1555_0000_4000,
@@ -129,19 +128,19 @@ macro_rules! test {
     // `stw`, `stb`, `sth` and `std`
     ($at:expr, stores_other) => {
         DifferAmong(
-            Field($at, 26, 32),
+            bits!($at, 26, 0x3f),
             0x4000_1050_0000_0000,
-            Field($at, 21, 26),
-            Field($at, 16, 21)
+            bits!($at, 21, 0x1f),
+            bits!($at, 16, 0x1f)
         )
     };
     // `ldx`, `stdx` and `lwax` where bit 2 is 0, or those of bytes and words, all without update
     ($at:expr, accesses_indexed) => {
-        IsAmong(Field($at, 6, 11), Field($at, 2, 4), 0, 0, 0x411, 0x55_1555)
+        IsAmong(bits!($at, 6, 0x1f), bits!($at, 2, 0x3), 0, 0, 0x411, 0x55_1555)
     };
     // `stwx`, `stbx`, `sthx` and `stdx`
     ($at:expr, stores_other_indexed) => {
-        DifferAmong(Field($at, 6, 11), 0x1050, Field($at, 21, 26), Field($at, 16, 21))
+        DifferAmong(bits!($at, 6, 0x1f), 0x1050, bits!($at, 21, 0x1f), bits!($at, 16, 0x1f))
     };
 }
 

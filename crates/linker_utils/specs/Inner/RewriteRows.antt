@@ -1,7 +1,7 @@
 -- What the rows of rewrites mean.
-use Rattle.std.specs.Prelude.{ℕ, zero, suc, List, [], ◌∷◌, ◌≡◌, ◌≢◌, ◌≤◌, ◌<◌, ◌+◌, ◌-◌, ◌*◌, ◌/◌, ◌^◌, ◌⊎◌, ⊤, length, drop}
+use Rattle.std.specs.Prelude.{ℕ, zero, suc, List, [], ◌∷◌, ◌≡◌, ◌≢◌, ◌≤◌, ◌+◌, ◌-◌, ◌*◌, ◌/◌, ◌^◌, ◌⊎◌, ⊤, length, drop}
 use Rattle.std.specs.Prelude.{Option, None, Some, bit_and, bit_or, IsTrue, not, nat_le, ◌&&◌, ◌||◌, ◌==◌}
-use Rattle.std.specs.Prelude.{◌%◌, if◌then◌else◌, Bool, true, false}
+use Rattle.std.specs.Prelude.{◌%◌, if◌then◌else◌, Bool, true, false, IfSome}
 use Rattle.std.specs.Int.{w32, w64, from_le_bytes, to_le_bytes}
 use Rattle.linker_base.specs.Bits.{field}
 use Rattle.linker_base.specs.Rewrite.{Rewrite, replaces, CanRewrite}
@@ -11,30 +11,44 @@ use Rattle.linker_utils.specs.Ppc64Rewrites.{by_displacement, by_word_displaceme
 use Rattle.linker_utils.specs.declared.rewrite_rows.Special.{Special}
 use Rattle.linker_utils.specs.declared.rewrite_rows.Special.TheVariants as specials
 use Rattle.linker_utils.specs.declared.rewrite_rows.WordBits.{WordBits}
-use Rattle.linker_utils.specs.declared.rewrite_rows.WordBits.TheVariants as bits
+use Rattle.linker_utils.specs.declared.rewrite_rows.Words.{Words}
 use Rattle.linker_utils.specs.declared.rewrite_rows.WordEdit.{WordEdit}
 use Rattle.linker_utils.specs.declared.rewrite_rows.RewriteRow.{RewriteRow}
 use Rattle.linker_utils.specs.declared.rewrite_rows.WordTest.{WordTest}
 use Rattle.linker_utils.specs.declared.rewrite_rows.WordTest.TheVariants as test
 
--- so many bytes after an offset
-abbrev pub place : ℕ → ℕ → ℕ
-place o zero = o
-place o (suc n) = o + suc n
+-- how many bits a number has, of at most n
+abbrev pub len_of : ℕ → ℕ → ℕ
+len_of zero number = zero
+len_of (suc n) number = if number == 0 then 0 else suc (len_of n (number / 2))
 
--- the number in bits of an instruction, where the first instruction is at an offset
-abbrev pub bits_at : List ℕ → ℕ → WordBits → ℕ
-bits_at section o (bits.Top at from) = from_le_bytes w32 (drop (place o at) section) / 2 ^ from
-bits_at section o (bits.Field at from to) =
-    field (from_le_bytes w32 (drop (place o at) section)) from to
-bits_at section o (bits.Masked at mask) =
-    bit_and (from_le_bytes w32 (drop (place o at) section)) mask
+-- Those of a word that a mask has, from a bit up. `ones`: the mask is that of the lowest n bits.
+-- `whole`: there is no bit below.
+abbrev pub kept_of : Bool → Bool → ℕ → ℕ → ℕ → ℕ → ℕ
+kept_of true whole word from mask n = field word from (from + n)
+kept_of false true word from mask n = bit_and word mask
+kept_of false false word from mask n = bit_and (word / 2 ^ from) mask
 
--- bits are of an instruction that lies in `len` bytes
-abbrev pub AreBits : ℕ → WordBits → Type 0
-AreBits len (bits.Top at from) = (at + 4 ≤ len) × (from < 32)
-AreBits len (bits.Field at from to) = (at + 4 ≤ len) × (from < to) × (to ≤ 32)
-AreBits len (bits.Masked at mask) = at + 4 ≤ len
+abbrev pub kept : ℕ → ℕ → ℕ → ℕ → ℕ
+kept word from mask n = kept_of (mask + 1 == 2 ^ n) (from == 0) word from mask n
+
+-- the number in bits of a word
+abbrev pub number_of : ℕ → WordBits → ℕ
+number_of word bits =
+    if bits.is_top then word / 2 ^ (bits.from % 32)
+    else kept word (bits.from % 32) bits.mask (len_of 32 bits.mask)
+
+-- that of one of two instructions
+abbrev pub number_in : Words → WordBits → ℕ
+number_in words bits = number_of (if bits.of_second then words.second else words.first) bits
+
+-- the instruction at an offset, and the one after it where n bytes have two
+abbrev pub words_at : List ℕ → ℕ → ℕ → Words
+words_at section o len =
+    record {
+      first = from_le_bytes w32 (drop o section);
+      second = if nat_le 8 len then from_le_bytes w32 (drop (o + 4) section) else 0;
+    }
 
 -- a set has a number: its bit is 1
 abbrev pub is_among : ℕ → ℕ → Bool
@@ -45,61 +59,46 @@ abbrev pub set_by : ℕ → ℕ → ℕ → ℕ → ℕ → ℕ
 set_by n first second third fourth =
     if n == 0 then first else if n == 1 then second else if n == 2 then third else fourth
 
-abbrev pub IsInside : ℕ → WordTest → Type 0
-IsInside len (test.Is some n) = AreBits len some
-IsInside len (test.IsNot some n) = AreBits len some
-IsInside len (test.IsEither some m n) = AreBits len some
-IsInside len (test.IsEitherOrWithin some m n from to) = AreBits len some
-IsInside len (test.AreSame some others) = AreBits len some × AreBits len others
-IsInside len (test.DifferWhere some from to one other) =
-    AreBits len some × AreBits len one × AreBits len other
-IsInside len (test.IsAmong some by first second third fourth) = AreBits len some × AreBits len by
-IsInside len (test.DifferAmong some set one other) =
-    AreBits len some × AreBits len one × AreBits len other
-
 -- a test holds
-abbrev pub Holds : List ℕ → ℕ → WordTest → Type 0
-Holds section o (test.Is some n) = bits_at section o some ≡ n
-Holds section o (test.IsNot some n) = bits_at section o some ≢ n
-Holds section o (test.IsEither some m n) =
-    (bits_at section o some ≡ m) ⊎ (bits_at section o some ≡ n)
-Holds section o (test.IsEitherOrWithin some m n from to) =
-    IsTrue (bits_at section o some == m || bits_at section o some == n
-    || nat_le from (bits_at section o some) && nat_le (bits_at section o some) to)
-Holds section o (test.AreSame some others) = bits_at section o some ≡ bits_at section o others
-Holds section o (test.DifferWhere some from to one other) =
-    IsTrue (not (nat_le from (bits_at section o some) && nat_le (bits_at section o some) to
-    && bits_at section o one == bits_at section o other))
-Holds section o (test.IsAmong some by first second third fourth) =
-    IsTrue (is_among (set_by (bits_at section o by % 4) first second third fourth)
-    (bits_at section o some))
-Holds section o (test.DifferAmong some set one other) =
-    IsTrue (not (is_among set (bits_at section o some)
-    && bits_at section o one == bits_at section o other))
+abbrev pub Holds : Words → WordTest → Type 0
+Holds words (test.Is some n) = number_in words some ≡ n
+Holds words (test.IsNot some n) = number_in words some ≢ n
+Holds words (test.IsEither some m n) =
+    (number_in words some ≡ m) ⊎ (number_in words some ≡ n)
+Holds words (test.IsEitherOrWithin some m n from to) =
+    IsTrue (number_in words some == m || number_in words some == n
+    || nat_le from (number_in words some) && nat_le (number_in words some) to)
+Holds words (test.AreSame some others) = number_in words some ≡ number_in words others
+Holds words (test.DifferWhere some from to one other) =
+    IsTrue (not (nat_le from (number_in words some) && nat_le (number_in words some) to
+    && number_in words one == number_in words other))
+Holds words (test.IsAmong some by first second third fourth) =
+    IsTrue (is_among (set_by (number_in words by % 4) first second third fourth)
+    (number_in words some))
+Holds words (test.DifferAmong some set one other) =
+    IsTrue (not (is_among set (number_in words some)
+    && number_in words one == number_in words other))
 
-abbrev pub AreInside : ℕ → List WordTest → Type 0
-AreInside len [] = ⊤
-AreInside len (t ∷ ts) = IsInside len t × AreInside len ts
+abbrev pub AllHold : Words → List WordTest → Type 0
+AllHold words [] = ⊤
+AllHold words (t ∷ ts) = Holds words t × AllHold words ts
 
-abbrev pub AllHold : List ℕ → ℕ → List WordTest → Type 0
-AllHold section o [] = ⊤
-AllHold section o (t ∷ ts) = Holds section o t × AllHold section o ts
-
--- Instructions for which all tests hold are at an offset.
+-- Instructions of n bytes for which all tests hold are at an offset.
 abbrev pub AreAt : List ℕ → ℕ → ℕ → List WordTest → Type 0
-AreAt section o len tests = (o + len ≤ length section) × AllHold section o tests
+AreAt section o len tests =
+    (o + len ≤ length section) × AllHold (words_at section o len) tests
 
 -- an offset is a multiple of 4, if it has to be
 abbrev pub IsPlaced : Bool → ℕ → Type 0
 IsPlaced false o = ⊤
 IsPlaced true o = o % 4 ≡ 0
 
--- Those of a row are, and those that it requires.
+-- Those of a row are.
 abbrev pub IsFor : RewriteRow → List ℕ → ℕ → Type 0
 IsFor row section o =
     (row.len ≡ 0)
     ⊎ (row.back ≤ o) × AreAt section (o - row.back) row.len row.tests.now
-    × AllHold section (o - row.back) row.required.now × IsPlaced row.aligned (o - row.back)
+    × IsPlaced row.aligned (o - row.back)
 
 -- what isn't made of bits that are kept and set
 abbrev pub special_of : Special → ℕ → ℕ
@@ -139,7 +138,7 @@ abbrev pub CanApply : RewriteRow → List ℕ → ℕ → Type 0
 CanApply row section o =
     (row.edits.now ≡ [])
     ⊎ CanRewrite (row_rewrite row) section o
-    × AllHold section (o - row.back) row.required.now
+    × IfSome row.required (Holds (words_at section (o - row.back) 4))
 
 -- the next relocation is skipped, if one is
 abbrev pub modifier_of : Option ℕ → RelocationModifier

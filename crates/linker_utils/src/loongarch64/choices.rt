@@ -10,9 +10,8 @@ ghost use Rattle.linker_utils.specs.LoongArchRewrites as rewrites;
 ghost use Rattle.linker_utils.specs.declared.loongarch64.rewrites.RelaxationKind.TheVariants as kinds;
 
 use super::rewrites::{RelaxationKind, test, tests};
-use crate::rewrite_rows::WordBits::{Field, Top};
 use crate::rewrite_rows::WordTest::{AreSame, DifferWhere, Is, IsEitherOrWithin, IsNot};
-use crate::rewrite_rows::are_at;
+use crate::rewrite_rows::{are_at, bits, top};
 use linker_elf::elf::choice_table::{
     ChoiceTable, Chosen, RewriteSet, SIGNED_12, Table, by_table, choice_by, conditions,
 };
