@@ -85,7 +85,8 @@ impl Relaxation {
         by_architecture!(architecture, rewrite_of(number, opcode_len))
     }
 
-    /// The rewrite's number and its count of bytes before the field, which `from_number` takes. The count is 0 except for the rewrites of x86-64 that have one.
+    /// The rewrite's number and its count of bytes before the field, which `from_number` takes. The
+    /// count is 0 except for the rewrites of x86-64 that have one.
     #[must_use]
     #[inline]
     pub fn number(self) -> (u32, u8) {

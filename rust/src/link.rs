@@ -306,8 +306,8 @@ pub fn relocate_section<B: AsMut<[u8]>, R: AsRef<[u8]>>(
 /// first. What is noted there already is kept. A group is unrelaxable too where the table has no
 /// entry for its symbol.
 ///
-/// An offset in the module's TLS block that stands in data counts from the block, also where code no
-/// longer does. Where data of the object has one that is loaded, as `R_X86_64_DTPOFF64`, note
+/// An offset in the module's TLS block that stands in data counts from the block, also where code
+/// no longer does. Where data of the object has one that is loaded, as `R_X86_64_DTPOFF64`, note
 /// `local_dynamic` at index 0.
 ///
 /// ```
@@ -346,8 +346,8 @@ pub fn survey<B: AsRef<[u8]>, R: AsRef<[u8]>>(
 /// turns its relocations into those after it. It decides by all of the section's bytes before it
 /// rewrites one.
 ///
-/// An instruction whose relocation is [`Scope::Independent`](crate::rewriting::Scope::Independent) is rewritten where it can be. Those of a group
-/// are all rewritten, or none is where the group stays by `unrelaxable_groups`, which [`survey`](crate::rewriting::survey()) made of all
+/// An instruction whose relocation is [`Scope::Independent`](crate::rewriting::Scope::Independent) is rewritten where it can be. Those of a
+/// group are all rewritten, or none is where the group stays by `unrelaxable_groups`, which [`survey`](crate::rewriting::survey()) made of all
 /// sections of code of the object with the same facts. A relocation that a rewrite takes along gets
 /// the type 0, so that indexes stay. A relocation of a symbol that isn't in the table isn't
 /// rewritten.
@@ -360,9 +360,9 @@ pub fn survey<B: AsRef<[u8]>, R: AsRef<[u8]>>(
 /// What its load from the GOT becomes takes any distance (`R_LARCH_PCALA_HI20`), and what its
 /// initial-exec TLS and descriptors become takes any offset from the thread pointer
 /// (`R_LARCH_TLS_LE_HI20`). Nothing tests that 32 signed bits hold these. So a load from the GOT
-/// becomes a distance only by `has_near_symbols` of the output, and that of an absolute symbol never
-/// does. Where 32 bits may not hold the offset of a thread-local symbol, note its `initial_exec`,
-/// `general_dynamic` and `descriptor` in `unrelaxable_groups` before the rewrite.
+/// becomes a distance only by `has_near_symbols` of the output, and that of an absolute symbol
+/// never does. Where 32 bits may not hold the offset of a thread-local symbol, note its
+/// `initial_exec`, `general_dynamic` and `descriptor` in `unrelaxable_groups` before the rewrite.
 ///
 /// # Errors
 ///
@@ -370,9 +370,9 @@ pub fn survey<B: AsRef<[u8]>, R: AsRef<[u8]>>(
 /// `decisions`. `NotSurveyed`: a relocation of a group that doesn't stay has no rewrite; it never
 /// comes where the section was surveyed into the table with the same facts. `Overlaps`: the bytes
 /// of two rewrites overlap, or those of the second lie below those of the first, so the relocations
-/// of instructions that can be rewritten have to ascend by offset. Where no other error is, it is of
-/// the first relocation whose field has a byte that the rewrite of another one changes, and which
-/// that rewrite doesn't take along. All other relocations may be in any order.
+/// of instructions that can be rewritten have to ascend by offset. Where no other error is, it is
+/// of the first relocation whose field has a byte that the rewrite of another one changes, and
+/// which that rewrite doesn't take along. All other relocations may be in any order.
 ///
 /// ```
 /// use linker_utils::elf::Architecture;
@@ -503,10 +503,10 @@ pub fn survey_placed_section<B: AsRef<[u8]>, R: AsRef<[u8]>>(
 ///
 /// # Errors
 ///
-/// The section and its relocations are as before. `Contradiction`: `facts` and `values` contradict
-/// each other about the symbol of a relocation, with the index of the first such symbol; an
-/// undefined weak symbol that the dynamic linker may define is none. Those of [`rewrite_section`](crate::rewriting::rewrite_section()), and
-/// `TooShort` where `deleted` has less room than there are deletions.
+/// The section and its relocations are as before. `Contradiction`: `facts` and `values`
+/// contradict each other about the symbol of a relocation, with the index of the first such symbol;
+/// an undefined weak symbol that the dynamic linker may define is none. Those of [`rewrite_section`](crate::rewriting::rewrite_section()),
+/// and `TooShort` where `deleted` has less room than there are deletions.
 ///
 /// ```
 /// use linker_utils::elf::Architecture;
@@ -784,12 +784,12 @@ pub fn survey_global_pointer<B: AsRef<[u8]>, R: AsRef<[u8]>>(
 /// # Errors
 ///
 /// The relocations are as before. `Contradiction`, as in [`survey_global_pointer`](crate::rewriting::survey_global_pointer()), comes first.
-/// `TooShort`: there are more relocations than `decisions`, or
-/// `deleted` has less room than there are deletions. `NotSurveyed`: a relocation of a symbol that
-/// doesn't stay can't be rewritten; it never comes where the section was surveyed into the table
-/// with the same facts. `Overlaps`: the instruction of the relocation with the index overlaps one
-/// of a relocation before it that is rewritten too; where none do, its field is the first that has a
-/// byte of another one's `lui` or `auipc` that goes.
+/// `TooShort`: there are more relocations than `decisions`, or `deleted` has less room than there
+/// are deletions. `NotSurveyed`: a relocation of a symbol that doesn't stay can't be rewritten; it
+/// never comes where the section was surveyed into the table with the same facts. `Overlaps`: the
+/// instruction of the relocation with the index overlaps one of a relocation before it that is
+/// rewritten too; where none do, its field is the first that has a byte of another one's `lui` or
+/// `auipc` that goes.
 ///
 /// ```
 /// use linker_utils::elf::Architecture;
@@ -1140,9 +1140,9 @@ pub fn rewritten_items_into<
 ///
 /// A site without short shapes, as `fixed` has it, is left as it is.
 ///
-/// `relocations` are those of the section, as ELF files have them. Each goes to the offset where its
-/// place goes, with its symbol and addend. That of a site which became shorter has the type of the
-/// one instruction then: `R_RISCV_JAL` or `R_RISCV_RVC_JUMP` in place of `R_RISCV_CALL_PLT` and
+/// `relocations` are those of the section, as ELF files have them. Each goes to the offset where
+/// its place goes, with its symbol and addend. That of a site which became shorter has the type of
+/// the one instruction then: `R_RISCV_JAL` or `R_RISCV_RVC_JUMP` in place of `R_RISCV_CALL_PLT` and
 /// `R_RISCV_CALL`, `R_LARCH_B26` in place of `R_LARCH_CALL36`, and `R_LARCH_PCREL20_S2` in place of
 /// `R_LARCH_PCALA_HI20`. So [`relocate_section`](crate::section::relocate_section()) writes its value, and an output can keep it. The
 /// others at such a site's begin, those of alignments among the items, and those whose byte is

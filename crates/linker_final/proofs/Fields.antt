@@ -87,8 +87,8 @@ eight_bytes (a ∷ b ∷ c ∷ d ∷ e ∷ f ∷ g ∷ h ∷ i ∷ xs) number lo
 
 -- ---- the field of a relocation
 
--- What is left of a relocation of n bytes: its formula has a value, the bytes between accept it, and
--- those in the end are its lowest.
+-- What is left of a relocation of n bytes: its formula has a value, the bytes between accept it,
+-- and those in the end are its lowest.
 pub record UntouchedField (n : ℕ) (row : RelocationKindInfo) (operands : Operands) (o : ℕ) (before after : List ℕ)
     : Type 0 where
   pub value : ℤ

@@ -1,4 +1,5 @@
--- The relocation of an instruction in the final bytes of a section: it is applied to the bytes between.
+-- The relocation of an instruction in the final bytes of a section: it is applied to the bytes
+-- between.
 use Rattle.std.proofs.Common.{◌≡◌, ℕ, ◌/◌, ◌<◌, List, length, take, drop, true, false, cond, subst, ◌∙◌, arith, Ok, Some, IsSomeAnd}
 use Rattle.std.proofs.lemmas.Bool.{cond-true, cond-false}
 use Rattle.std.specs.Prelude.{⊤}

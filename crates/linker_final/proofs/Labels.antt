@@ -1,4 +1,5 @@
--- The value of a low part of RISC-V in the final bytes of a section: that of the high part at its label.
+-- The value of a low part of RISC-V in the final bytes of a section: that of the high part at its
+-- label.
 use Rattle.std.proofs.Common.{◌≡◌, ℕ, ℤ, ◌/◌, ◌<◌, List, length, take, drop, Bool, true, false, cond, refl, sym, ap, subst, ◌∙◌, inl, inr, arith, ltb, Option, Some, None, Ok, Err, Result, IsSomeAnd}
 use Rattle.std.proofs.lemmas.Bool.{cases_eq, cases_lt, cond-true, cond-false, ltb-true}
 use Rattle.std.specs.Prelude.{slice_get, ⊤, ◌&&◌, ◌||◌}

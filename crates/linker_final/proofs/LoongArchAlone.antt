@@ -1,4 +1,5 @@
--- Instructions of LoongArch that are rewritten each by itself do in the final bytes what the object's do.
+-- Instructions of LoongArch that are rewritten each by itself do in the final bytes what the
+-- object's do.
 use Rattle.std.proofs.Common.{◌≡◌, ℕ, ◌+◌, ◌*◌, ◌-◌, ◌/◌, ◌^◌, ◌<◌, List, IsTrue, Ok, Some, refl, subst, inl, inr}
 use Rattle.linker_base.specs.Bits.{field}
 use Rattle.linker_elf.specs.Choices.{entry}
@@ -173,7 +174,8 @@ low_halves_anywhere laws l made loongarch i chosen below is_name decided any =
 
 -- ---- halves in place
 
--- A formula of the offset takes no entry of the GOT, and no other operands than that of the high half.
+-- A formula of the offset takes no entry of the GOT, and no other operands than that of the high
+-- half.
 pub record TakesOffset (row : RelocationKindInfo) : Type 0 where
   pub taken : (addresses : Addresses) (r : Rela) (symbol : Symbol)
       → operands_in LoongArch64 addresses row r (Some symbol) ≡ Ok (operands_with LoongArch64 addresses row symbol r 0)

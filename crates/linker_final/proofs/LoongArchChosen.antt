@@ -65,7 +65,8 @@ unlabelled phase code scope is labelled =
     let yes : is_labelled scope ≡ true = ap is_labelled labelled in
     let e : true ≡ false = sym yes ∙ no in cc
 
--- what has no scope in the phase of offsets from the thread pointer has one before addresses are known
+-- what has no scope in the phase of offsets from the thread pointer has one before addresses are
+-- known
 only_early : (name : LoongArch64Relocation)
     → loongarch_scope_in phases.TlsLocalExec name ≡ NotRelaxable → (phase : Phase)
     → (loongarch_scope_in phase name ≡ NotRelaxable → ⊥) → phase ≡ phases.PreLayout

@@ -1,5 +1,5 @@
--- Instructions of TLS descriptors of LoongArch that became those of local-exec or of initial-exec do in
--- the final bytes what the object's do.
+-- Instructions of TLS descriptors of LoongArch that became those of local-exec or of initial-exec
+-- do in the final bytes what the object's do.
 use Rattle.std.proofs.Common.{◌≡◌, ℕ, ◌+◌, ◌<◌, ◌≤◌, List, length, refl, sym, ap, subst, inl, inr, Ok, Some, None, cond}
 use Rattle.linker_base.specs.Bits.{field}
 use Rattle.linker_base.specs.RewriteWindow.{window_of_rewrite}
@@ -259,7 +259,8 @@ module _ (laws : Laws) where
 
 -- ---- in place
 
--- A formula of the offset's entry takes that of the symbol, and no other operands than the high half's.
+-- A formula of the offset's entry takes that of the symbol, and no other operands than the high
+-- half's.
 pub record TakesEntry (row : RelocationKindInfo) : Type 0 where
   pub taken : (addresses : Addresses) (r : Rela) (symbol : Symbol) → HasOffsetEntry addresses symbol
       → operands_in LoongArch64 addresses row r (Some symbol)

@@ -1,4 +1,5 @@
--- The relocations of a load from the GOT of LoongArch stand next to each other, and both are rewritten.
+-- The relocations of a load from the GOT of LoongArch stand next to each other, and both are
+-- rewritten.
 use Rattle.std.proofs.Common.{◌≡◌, ℕ, suc, ◌∙◌, ◌+◌, ◌-◌, ◌/◌, ◌<◌, ltb, inl, inr, List, length, ap, sym, subst, arith, refl, Bool, true, false, Option, Some, None}
 use Rattle.std.specs.Prelude.{◌&&◌, ◌==◌, nat_le}
 use Rattle.std.specs.Ordering.{int_eq}
@@ -27,8 +28,8 @@ use Rattle.linker_section.specs.declared.relocations.Rela.{Rela}
 use Rattle.linker_utils.specs.declared.architecture.Relaxation.{Relaxation}
 use Rattle.linker_elf.specs.declared.elf.architecture.Architecture.TheVariants.{LoongArch64}
 
--- The relocations at two indexes are those of a `pcalau12i` and of the `ld.d` after it, of one S + A,
--- and both are rewritten.
+-- The relocations at two indexes are those of a `pcalau12i` and of the `ld.d` after it, of one S +
+-- A, and both are rewritten.
 pub record AreOfLoad (l : Linked) (i j : ℕ) : Type 0 where
   pub page_below : i < count l
   pub low_below : j < count l

@@ -1,5 +1,5 @@
--- Rows of whole bytes whose value replaces what is there, and what a section's relocation of such a row
--- leaves in its field.
+-- Rows of whole bytes whose value replaces what is there, and what a section's relocation of such a
+-- row leaves in its field.
 use Rattle.std.proofs.Common.{◌≡◌, ℕ, zero, suc, ℤ, pos, ◌*◌, ◌%◌, ◌^◌, ◌<◌, ◌≤◌, List, drop, true, false, eqb, ltb, cond, refl, sym, ap, subst, ◌∙◌, inl, inr, arith, Option, Some, None, Ok, Err, Result, IsSomeAnd, Bool}
 use Rattle.std.proofs.lemmas.Bool.{cases_eq, cases_lt, cases_Bool, cond-true, cond-false, eq-eqb, eqb-true, lt-ltb, le-ltb}
 use Rattle.std.specs.Prelude.{⊤}

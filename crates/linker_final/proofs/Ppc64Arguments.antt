@@ -1,5 +1,5 @@
--- Arguments and calls of `__tls_get_addr` of PowerPC64, rewritten, do what the object's do, and in the final
--- bytes.
+-- Arguments and calls of `__tls_get_addr` of PowerPC64, rewritten, do what the object's do, and in
+-- the final bytes.
 use Rattle.std.proofs.Common.{◌≡◌, ℕ, ◌+◌, ◌<◌, ◌≤◌, length, refl, sym, ap, subst, ◌∙◌, arith, inl, inr, Some, None, Ok, cond, true, ◌∷◌, []}
 use Rattle.std.specs.Prelude.{slice_get}
 use Rattle.linker_elf.specs.Choices.{entry}

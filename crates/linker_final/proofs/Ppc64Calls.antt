@@ -1,5 +1,5 @@
--- Calls of PowerPC64 that may change the TOC pointer do after a rewrite what the object's do, and in the
--- final bytes.
+-- Calls of PowerPC64 that may change the TOC pointer do after a rewrite what the object's do, and
+-- in the final bytes.
 use Rattle.std.proofs.Common.{◌≡◌, ℕ, ◌+◌, ◌*◌, ◌^◌, ◌<◌, ◌≤◌, List, [], ◌∷◌, length, drop, take, refl, sym, ap, subst, ◌∙◌, arith, inl, inr, Some}
 use Rattle.std.proofs.lemmas.Bool.{cases_lt}
 use Rattle.std.proofs.lemmas.List.{get_or_past, length-drop, take-take}

@@ -1,5 +1,5 @@
--- Arguments of `__tls_get_addr` of PowerPC64 near the TOC pointer, with their calls, do after a rewrite what
--- the object's do, and in the final bytes.
+-- Arguments of `__tls_get_addr` of PowerPC64 near the TOC pointer, with their calls, do after a
+-- rewrite what the object's do, and in the final bytes.
 use Rattle.std.proofs.Common.{◌≡◌, ℕ, ◌+◌, ◌<◌, List, [], ◌∷◌, drop, refl, sym, ap, subst, ◌∙◌, inl, inr}
 use Rattle.std.specs.Prelude.{slice_get}
 use Rattle.linker_elf.specs.Choices.{entry}

@@ -1,4 +1,5 @@
--- Instructions of initial-exec of PowerPC64 do after a rewrite what the object's do, and in the final bytes.
+-- Instructions of initial-exec of PowerPC64 do after a rewrite what the object's do, and in the
+-- final bytes.
 use Rattle.std.proofs.Common.{◌≡◌, ℕ, ◌+◌, ◌<◌, ◌≤◌, length, refl, sym, subst, inl, inr, Some, not, ◌&&◌, eqb, Bool}
 use Rattle.std.proofs.lemmas.Bool.{and_parts}
 use Rattle.std.specs.Prelude.{IsTrue}

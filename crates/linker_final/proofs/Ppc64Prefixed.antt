@@ -1,5 +1,5 @@
--- Rewritten prefixed instructions of thread-local sequences of PowerPC64 do what the object's do, and in
--- the final bytes.
+-- Rewritten prefixed instructions of thread-local sequences of PowerPC64 do what the object's do,
+-- and in the final bytes.
 use Rattle.std.proofs.Common.{◌≡◌, ℕ, Bool, ◌+◌, ◌^◌, ◌<◌, ◌++◌, drop, refl, sym, ap, subst, ◌∙◌, arith, inl, inr}
 use Rattle.std.proofs.lemmas.List.{length-drop, take-append-drop, take-take}
 use Rattle.std.proofs.lemmas.List.Elements.{All-drop}

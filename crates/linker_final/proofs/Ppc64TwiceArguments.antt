@@ -1,4 +1,5 @@
--- Arguments and calls of `__tls_get_addr` of PowerPC64 that two calls rewrite do what the object's do.
+-- Arguments and calls of `__tls_get_addr` of PowerPC64 that two calls rewrite do what the object's
+-- do.
 use Rattle.std.proofs.Common.{◌≡◌, ℕ, ◌+◌, ◌≤◌, List, [], ◌∷◌, drop, length, false, refl, sym, ap, subst, ◌∙◌, arith, inl, inr, Option, Some, None, IsSomeAnd, eqb, not, ◌&&◌, ◌||◌}
 use Rattle.std.proofs.lemmas.Bool.{cases_Bool, cond-true, eq-eqb, or_parts}
 use Rattle.std.specs.Prelude.{IsTrue}

@@ -1,4 +1,5 @@
--- What rewrites are chosen by before addresses are known, and in which phase a relocation is rewritten.
+-- What rewrites are chosen by before addresses are known, and in which phase a relocation is
+-- rewritten.
 use Rattle.std.proofs.Common.{◌≡◌, ℕ, ◌<◌, List, Bool, true, false, sym, ap, subst, ◌∙◌, Option, Some, None}
 use Rattle.std.specs.Prelude.{slice_get}
 use Rattle.linker_elf.specs.declared.elf.choice.Choice.{Choice}

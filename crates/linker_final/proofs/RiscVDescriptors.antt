@@ -1,5 +1,5 @@
--- Sequences of TLS descriptors of RISC-V that became those of local-exec do in the final bytes what the
--- object's do.
+-- Sequences of TLS descriptors of RISC-V that became those of local-exec do in the final bytes what
+-- the object's do.
 use Rattle.std.proofs.Common.{◌≡◌, ℕ, ℤ, ◌+◌, ◌<◌, ◌≤◌, List, length, refl, sym, ap, subst, ◌∙◌, inl, inr, arith, Some, Ok, IsSomeAnd}
 use Rattle.std.specs.Prelude.{slice_get}
 use Rattle.std.specs.Int.{w32, to_le_bytes}

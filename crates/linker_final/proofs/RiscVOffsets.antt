@@ -1,5 +1,5 @@
--- Low parts of RISC-V that became ones over the thread pointer are groups, and what is deleted before
--- them.
+-- Low parts of RISC-V that became ones over the thread pointer are groups, and what is deleted
+-- before them.
 use Rattle.std.proofs.Common.{◌≡◌, ℕ, ◌+◌, ◌≤◌, [], ◌∷◌, length, refl, sym, ap, subst, ◌∙◌, arith, Option, Some, None, Ok, IsSomeAnd}
 use Rattle.std.specs.Prelude.{IsTrue}
 use Rattle.std.specs.Int.{w32, from_le_bytes}

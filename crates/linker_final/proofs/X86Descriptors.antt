@@ -1,5 +1,5 @@
--- The `lea` of a descriptor's address of x86-64 and the call of its function do in the final bytes what
--- the object's do.
+-- The `lea` of a descriptor's address of x86-64 and the call of its function do in the final bytes
+-- what the object's do.
 use Rattle.std.proofs.Common.{◌≡◌, ℕ, ◌+◌, ◌-◌, ◌<◌, ◌≤◌, ◌||◌, Bool, List, [], ◌∷◌, drop, false, true, refl, sym, ap, subst, ◌∙◌, inl, inr, arith, IsSomeAnd, IsTrue}
 use Rattle.linker_base.specs.Rewrite.{replaces}
 use Rattle.linker_elf.specs.ElfNames.{IsNamed, IsNameOf, code_of}

@@ -37,8 +37,8 @@ unsigned_remainder (negsuc n) within = let low = within.0 in absurd (omega (arit
 
 -- ---- rows
 
--- A relocation with a row of 4 bytes that needs no entry and names no stub: its operands are those of
--- `operands_with`, and S doesn't depend on the place.
+-- A relocation with a row of 4 bytes that needs no entry and names no stub: its operands are those
+-- of `operands_with`, and S doesn't depend on the place.
 pub record IsAfterRow (name : X86_64Relocation) : Type 0 where
   pub row : RelocationKindInfo
   pub is : x86_64_row name ≡ Some row

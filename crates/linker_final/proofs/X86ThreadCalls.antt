@@ -1,4 +1,5 @@
--- Calls of `__tls_get_addr` of x86-64 that were rewritten do in the final bytes what the object's do.
+-- Calls of `__tls_get_addr` of x86-64 that were rewritten do in the final bytes what the object's
+-- do.
 use Rattle.std.proofs.Common.{◌≡◌, ℕ, suc, ◌+◌, ◌-◌, ◌^◌, ◌<◌, ◌≤◌, ◌⊎◌, List, [], ◌∷◌, drop, is_some, true, refl, sym, ap, subst, ◌∙◌, inl, inr, arith, IsSomeAnd, neg_ℤ, pos}
 use Rattle.std.proofs.lemmas.Bool.{cases_eq, cases_lt}
 use Rattle.std.specs.Prelude.{⊤}

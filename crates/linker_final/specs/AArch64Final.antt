@@ -1,8 +1,9 @@
--- AArch64: rewritten instructions are groups of the simulation. Old has the object's, with the values
--- of their relocations, and new the final bytes of a section.
+-- AArch64: rewritten instructions are groups of the simulation. Old has the object's, with the
+-- values of their relocations, and new the final bytes of a section.
 use Rattle.std.specs.Prelude.{◌≡◌, ◌≢◌, ℕ, ◌+◌, ◌<◌, Some, IsSomeAnd, slice_get, false, ◌^◌, ⊤}
 use Rattle.linker_utils.specs.AArch64Rewrites.{rd_of}
-use Rattle.linker_utils.specs.declared.aarch64.rewrites.RelaxationKind.TheVariants.{AdrpX0, LdrX0, MovkX0}
+use Rattle.linker_utils.specs.declared.aarch64.rewrites.RelaxationKind.TheVariants.{AdrpX0, LdrX0}
+use Rattle.linker_utils.specs.declared.aarch64.rewrites.RelaxationKind.TheVariants.{MovkX0}
 use Rattle.linker_utils.specs.declared.aarch64.rewrites.RelaxationKind.TheVariants.{MovzX0Lsl16}
 use Rattle.linker_utils.specs.declared.aarch64.rewrites.RelaxationKind.{RelaxationKind}
 use Rattle.linker_elf.specs.AArch64Relocations.{aarch64_name, aarch64_row}
@@ -13,11 +14,13 @@ use Rattle.linker_elf.specs.declared.elf.RelocationKindInfo.{RelocationKindInfo}
 use Rattle.linker_elf.specs.declared.elf.choice.Choice.{Choice}
 use Rattle.linker_elf.specs.declared.elf.value.Operands.{Operands}
 use Rattle.linker_final.specs.Final.{Linked, IsLinked, count, instruction_at, two_at}
-use Rattle.linker_final.specs.Final.{UntouchedInstructions, UntouchedInstruction, IsRewrittenByNoOther}
+use Rattle.linker_final.specs.Final.{UntouchedInstructions, UntouchedInstruction}
+use Rattle.linker_final.specs.Final.{IsRewrittenByNoOther}
 use Rattle.linker_final.specs.Final.{IsWrittenByNoOther}
 use Rattle.linker_elf.specs.LoongArch.{page}
 use Rattle.linker_elf.specs.Value.{sum_64}
-use Rattle.linker_laws.specs.AArch64Groups.{Code, Descriptor, Has, Leaves, Stands, go_and_link, link}
+use Rattle.linker_laws.specs.AArch64Groups.{Code, Descriptor, Has, Leaves, Stands, go_and_link}
+use Rattle.linker_laws.specs.AArch64Groups.{link}
 use Rattle.linker_laws.specs.AArch64Machine.{load_64}
 use Rattle.linker_laws.specs.AArch64RewriteLaws.{following, thread_offset, word_of}
 use Rattle.linker_laws.specs.Changes.{go_to, put, with_register}
@@ -184,8 +187,8 @@ OffsetIsTheSame l i row =
     → let operands = operands_with AArch64 l.addresses row symbol r entry in
     OffsetIsAlike l i operands (thread_offset operands) (λ c k s. ⊤)
 
--- The GOT's entry of the offset, at an address, holds the number that the function returns, whatever
--- state of new agrees.
+-- The GOT's entry of the offset, at an address, holds the number that the function returns,
+-- whatever state of new agrees.
 abbrev pub HoldsOffset : ℕ → ℕ → Code → Kinds → State → Type 0
 HoldsOffset entry offset c k s =
     (t : State) → Agree (link c) k s t → load_64 t.memory entry ≡ offset
@@ -200,8 +203,8 @@ LoadsOffset l i row =
 
 -- ---- branches to undefined weak symbols
 
--- A branch that goes on after itself, by the value of its relocation, is a group. It leaves a state,
--- by the next address, and what is known then.
+-- A branch that goes on after itself, by the value of its relocation, is a group. It leaves a
+-- state, by the next address, and what is known then.
 abbrev pub BranchIsAlike : AArch64Relocation → (Kinds → Kinds) → (ℕ → State → State) → Linked → ℕ
     → Operands → Type 0
 BranchIsAlike name known left l i operands =

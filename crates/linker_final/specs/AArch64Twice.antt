@@ -7,7 +7,8 @@ use Rattle.linker_elf.specs.declared.elf.choice.Choice.{Choice}
 use Rattle.linker_elf.specs.declared.elf.value.Operands.{Operands}
 use Rattle.linker_final.specs.AArch64Anywhere.{IsAppliedAt, UntouchedAt}
 use Rattle.linker_final.specs.AArch64Final.{AreOfLoad, LoadIsAlike}
-use Rattle.linker_final.specs.Final.{UntouchedInstructions, UntouchedBytes, IsLinked, IsRewrittenByNoOther, Linked}
+use Rattle.linker_final.specs.Final.{UntouchedInstructions, UntouchedBytes, IsLinked}
+use Rattle.linker_final.specs.Final.{IsRewrittenByNoOther, Linked}
 use Rattle.linker_final.specs.Final.{IsWrittenByNoOther, count}
 use Rattle.linker_final.specs.Twice.{AreTwoCalls}
 use Rattle.linker_laws.specs.AArch64RewriteLaws.{following}

@@ -1,7 +1,8 @@
 -- Branches of a section that was packed: each goes from the address where it goes to the target of
 -- its relocation's formula. So does the one of a site that became shorter, by the type that its
 -- relocation has then.
-use Rattle.std.specs.Prelude.{◌≡◌, ◌<◌, ◌≤◌, length, ℕ, ℤ, pos, ◌+ℤ◌, ◌*ℤ◌, take, drop, slice_get, IsSomeAnd}
+use Rattle.std.specs.Prelude.{◌≡◌, ◌<◌, ◌≤◌, length, ℕ, ℤ, pos, ◌+ℤ◌, ◌*ℤ◌, take, drop, slice_get}
+use Rattle.std.specs.Prelude.{IsSomeAnd}
 use Rattle.std.specs.Prelude.{Option, Some}
 use Rattle.linker_elf.specs.LoongArch.{loongarch_form}
 use Rattle.linker_elf.specs.LoongArchRelocations.{loongarch_row}

@@ -12,7 +12,8 @@ use Rattle.linker_elf.specs.declared.elf.choice.Choice.{Choice}
 use Rattle.linker_elf.specs.declared.elf.value.Operands.{Operands}
 use Rattle.linker_elf.specs.declared.loongarch64.relocations.LoongArch64Relocation.{LoongArch64Relocation}
 use Rattle.linker_elf.specs.declared.loongarch64.relocations.LoongArch64Relocation.TheVariants as names
-use Rattle.linker_final.specs.Final.{UntouchedInstructions, AreRewritten, UntouchedInstruction, Linked, IsLinked}
+use Rattle.linker_final.specs.Final.{UntouchedInstructions, AreRewritten, UntouchedInstruction}
+use Rattle.linker_final.specs.Final.{Linked, IsLinked}
 use Rattle.linker_final.specs.Final.{IsRewrittenByNoOther, IsWrittenByNoOther, count}
 use Rattle.linker_final.specs.Final.{instruction_at}
 use Rattle.linker_laws.specs.LoongArchMachine.{State, AreAlikeBut, action_of, but_written, read}

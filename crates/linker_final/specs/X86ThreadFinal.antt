@@ -12,7 +12,8 @@ use Rattle.linker_elf.specs.declared.elf.choice.Choice.{Choice}
 use Rattle.linker_elf.specs.declared.elf.value.Operands.{Operands}
 use Rattle.linker_elf.specs.declared.x86_64.relocations.X86_64Relocation.{X86_64Relocation}
 use Rattle.linker_elf.specs.declared.x86_64.relocations.X86_64Relocation.TheVariants as names
-use Rattle.linker_final.specs.Final.{UntouchedByOthers, HasNoByte, UntouchedBytes, IsLinked, Linked, count}
+use Rattle.linker_final.specs.Final.{UntouchedByOthers, HasNoByte, UntouchedBytes, IsLinked, Linked}
+use Rattle.linker_final.specs.Final.{count}
 use Rattle.linker_final.specs.Final.{put_back}
 use Rattle.linker_laws.specs.Schemes.{AreAddresses}
 use Rattle.linker_laws.specs.X86Machine.{State, extended, load, step}

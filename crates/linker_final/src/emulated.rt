@@ -3,8 +3,8 @@
 //! The tables in `specs/` have words, pairs and sequences, and what qemu made of them, and states
 //! before and after single instructions. The functions do nothing. The contract of each says that
 //! the definitions of one architecture read of each word what came of it, and that its machine
-//! leaves of each state what the emulator left. `tools/oracle words` and `tools/oracle steps` make the
-//! tables, and their heads say what is compared.
+//! leaves of each state what the emulator left. `tools/oracle words` and `tools/oracle steps` make
+//! the tables, and their heads say what is compared.
 ghost use Rattle.linker_final.specs.AArch64Executed as aarch64_executed;
 ghost use Rattle.linker_final.specs.AArch64Table as aarch64_table;
 ghost use Rattle.linker_final.specs.LoongArchExecuted as loongarch_executed;

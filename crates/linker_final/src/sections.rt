@@ -92,8 +92,8 @@ pub enum PhaseError {
 
 /// Rewrites the instructions of a section by `rewrite_section`, then in another phase by
 /// `rewrite_placed_section`, and writes its values last. Each phase is one that the laws are about,
-/// and the second takes what the first left (`AreLinked`). Bytes that it deletes are listed from the
-/// begin of `deleted` on: they are still in the section. A linker makes its GOT in between, and
+/// and the second takes what the first left (`AreLinked`). Bytes that it deletes are listed from
+/// the begin of `deleted` on: they are still in the section. A linker makes its GOT in between, and
 /// calls all three itself.
 ///
 /// # Errors

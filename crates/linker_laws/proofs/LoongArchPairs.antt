@@ -143,8 +143,8 @@ made_alike n u v w a b x y s t named alike at new_at is new_is =
       new_next = ap (λ p. sum_64 p 4) new_at;
     }
 
--- `pcalau12i rd` and `addi.d rd, rd` that make one address in the old layout, and a `pcaddi rd` that
--- makes another in the new one
+-- `pcalau12i rd` and `addi.d rd, rd` that make one address in the old layout, and a `pcaddi rd`
+-- that makes another in the new one
 sum_to_pcaddi : (x y : Operands) (n a b : ℕ) (s t : State) (pcala1 addi1 pcaddi2 : List ℕ) → n ≢ 0 → AreAlikeBut laws.no_register s t
     → s.pc ≡ x.place → t.pc ≡ y.place → IsHigh 0x0d n (word_of pcala1) → IsLow 0x00b n n (word_of addi1) → IsHigh 0x0c n (word_of pcaddi2)
     → IsAddress (pcalau12i x.place (word_of pcala1) +ℤ signed 12 (field (word_of addi1) 10 22)) a

@@ -1,4 +1,5 @@
--- PowerPC64: accesses of whole words near the TOC pointer, and at an offset from the thread pointer.
+-- PowerPC64: accesses of whole words near the TOC pointer, and at an offset from the thread
+-- pointer.
 use Rattle.linker_utils.specs.Ppc64Rewrites.{is_ds_access}
 use Rattle.std.proofs.Common.{◌≡◌, ◌≢◌, ℕ, ◌^◌, Bool, true, false, refl, sym, ◌∙◌, ap, subst}
 use Rattle.std.proofs.Common.{arith, [], eqb, cond, pos, ◌*ℤ◌, ◌+ℤ◌, Some, inl, inr, ◌-◌, ◌%◌, if◌then◌else◌}

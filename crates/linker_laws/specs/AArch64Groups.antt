@@ -1,5 +1,6 @@
 -- AArch64: rewritten instructions are groups of the simulation. No code moves.
-use Rattle.std.specs.Prelude.{◌≡◌, ◌≢◌, ℕ, Bool, true, ◌*◌, ◌/◌, ◌^◌, ◌<◌, ◌==◌, ◌&&◌, List, Option, Some, None, IsSomeAnd, drop}
+use Rattle.std.specs.Prelude.{◌≡◌, ◌≢◌, ℕ, Bool, true, ◌*◌, ◌/◌, ◌^◌, ◌<◌, ◌==◌, ◌&&◌, List, Option}
+use Rattle.std.specs.Prelude.{Some, None, IsSomeAnd, drop}
 use Rattle.linker_elf.specs.LoongArch.{page}
 use Rattle.linker_elf.specs.Value.{sum_64}
 use Rattle.linker_elf.specs.declared.aarch64.relocations.AArch64Relocation.{AArch64Relocation}
@@ -14,7 +15,8 @@ use Rattle.linker_laws.specs.Machine.{loaded}
 use Rattle.linker_laws.specs.Schemes.{AreAddresses, plt_address, symbol_address}
 use Rattle.linker_laws.specs.Simulation.{State, Program, Machine, Link, Kinds, Agree, Other, Group}
 use Rattle.linker_laws.specs.Simulation.{anything, half, of_link, run, same}
-use Rattle.linker_utils.specs.AArch64Rewrites.{AreOfDescriptor, IsAdd64, IsAdrp, IsIntoOwnSource, IsLdr64}
+use Rattle.linker_utils.specs.AArch64Rewrites.{AreOfDescriptor, IsAdd64, IsAdrp, IsIntoOwnSource}
+use Rattle.linker_utils.specs.AArch64Rewrites.{IsLdr64}
 use Rattle.linker_utils.specs.AArch64Rewrites.{rd_of, rn_of}
 use Rattle.linker_utils.specs.declared.aarch64.rewrites.RelaxationKind.TheVariants as kinds
 
@@ -83,7 +85,8 @@ Leaves n c o k s register number =
 
 -- ---- addresses by two instructions
 
--- `adrp xN` and `ldr xN, [xN]` of an entry that holds the address become `adrp xN` and `add xN, xN`.
+-- `adrp xN` and `ldr xN, [xN]` of an entry that holds the address become `adrp xN` and `add xN,
+-- xN`.
 abbrev pub GotToAddress : Type 0
 GotToAddress =
     (c : Code) (o : Operands) (k : Kinds) (s : State) (adrp ldr add : List ℕ)
@@ -198,9 +201,9 @@ called o t s =
     put 30 (sum_64 o.place 16) function (put 0 o.got_entry function (put t function function s))
 
 -- `adrp x0`, `ldr xT, [x0]`, `add x0, x0` and `blr xT` stand in old. The function of the descriptor
--- returns, and leaves an offset in X0. What else it changes may be anything then, as are XT and X30.
--- By the ABI it changes no other register but the flags, and memory below the stack pointer. Where
--- the thread has no block yet, it makes one.
+-- returns, and leaves an offset in X0. What else it changes may be anything then, as are XT and
+-- X30. By the ABI it changes no other register but the flags, and memory below the stack pointer.
+-- Where the thread has no block yet, it makes one.
 pub record Descriptor (c : Code) (o : Operands) (offset : ℕ) (k : Kinds) (s : State) (k' : Kinds)
     (s' : State) (adrp ldr add blr : List ℕ) : Type 0 where
   pub small : AreAddresses o
@@ -251,8 +254,8 @@ DescriptorToInitialExec =
 
 -- ---- branches to undefined weak symbols
 
--- A branch goes on after itself, as the address of such a symbol says, and becomes `nop`. It leaves a
--- state, by the next address, and what is known then.
+-- A branch goes on after itself, as the address of such a symbol says, and becomes `nop`. It leaves
+-- a state, by the next address, and what is known then.
 abbrev pub BranchToNop : AArch64Relocation → (ℕ → Bool) → (Kinds → Kinds) → (ℕ → State → State)
     → Type 0
 BranchToNop name is_branch known left =
@@ -273,8 +276,8 @@ WeakBranches =
 
 -- ---- other instructions
 
--- One that has the same word in both. In old's code alone: whatever state agrees before it, it leaves
--- one that agrees after it.
+-- One that has the same word in both. In old's code alone: whatever state agrees before it, it
+-- leaves one that agrees after it.
 abbrev pub Others : Type 0
 Others =
     (c : Code) (k k' : Kinds) (s s' : State) → loaded 4 c.old s.pc ≡ loaded 4 c.new s.pc

@@ -1,5 +1,6 @@
 -- Programs of AArch64 with groups, of which every premise holds, and both runs computed to the end.
-use Rattle.std.specs.Prelude.{◌≡◌, ℕ, ◌+◌, ◌-◌, ◌/◌, ◌%◌, ◌^◌, ◌==◌, Bool, nat_le, ◌&&◌, if◌then◌else◌}
+use Rattle.std.specs.Prelude.{◌≡◌, ℕ, ◌+◌, ◌-◌, ◌/◌, ◌%◌, ◌^◌, ◌==◌, Bool, nat_le, ◌&&◌}
+use Rattle.std.specs.Prelude.{if◌then◌else◌}
 use Rattle.std.specs.Prelude.{List, [], ◌∷◌, Some, None, IsSomeAnd, slice_get}
 use Rattle.std.specs.Option.{unwrap_or}
 use Rattle.linker_elf.specs.Value.{sum_64}

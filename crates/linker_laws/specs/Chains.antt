@@ -22,8 +22,8 @@ abbrev pub of_chain : Chain → Comparison
 of_chain (one l) = of_link l
 of_chain (followed_by c l) = both (of_chain c) (of_link l)
 
--- A run of old is covered by one comparison, and the code between by the next, whichever state of it
--- agrees with old's at both ends.
+-- A run of old is covered by one comparison, and the code between by the next, whichever state of
+-- it agrees with old's at both ends.
 pub record AreCovered (c d : Comparison) (n : ℕ) (k k' : c.Known) (h h' : d.Known) (s s' : State)
     : Type 0 where
   pub q : ℕ

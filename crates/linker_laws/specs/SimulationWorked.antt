@@ -4,7 +4,8 @@ use Rattle.std.specs.Prelude.{◌≡◌, ℕ, ◌+◌, ◌-◌, ◌/◌, ◌%◌
 use Rattle.std.specs.Prelude.{List, [], ◌∷◌, Option, Some, None, IsSomeAnd, slice_get}
 use Rattle.std.specs.Option.{unwrap_or}
 use Rattle.linker_laws.specs.Simulation.{State, Program, Machine, Link, Kind, code, same}
-use Rattle.linker_laws.specs.Simulation.{anything, Stored, Kinds, Agree, of_link, run, Covered, Stops}
+use Rattle.linker_laws.specs.Simulation.{anything, Stored, Kinds, Agree, of_link, run, Covered}
+use Rattle.linker_laws.specs.Simulation.{Stops}
 use Rattle.linker_laws.specs.Changes.{put, go_to, with_register}
 use Rattle.linker_laws.specs.Chains.{Chain, one, followed_by, of_chain}
 
@@ -215,7 +216,8 @@ with_entry number =
       outside = λ n. 0;
     }
 
--- Old executes 3 instructions, which are a group of the chain, and new 2. Old alone reads the entry.
+-- Old executes 3 instructions, which are a group of the chain, and new 2. Old alone reads the
+-- entry.
 pub record IsChainWorked : Type 0 where
   pub known : (of_chain chain).Known
   pub state : State

@@ -196,8 +196,8 @@ impl Target {
     /// Writes the stub of a kind that stands at an address: to the word at `target` (`Load`,
     /// `LandingLoad`, `TocLoad`, `TocFar` and `PrefixedLoad`) or to the address `target` (else).
     /// Bytes after the stub are left, and with an error all are: in a slot of some size `nop`s may
-    /// stand there before. Of `TocLoad` and `TocFar` `place` is the TOC pointer, which r2 has: these
-    /// may stand anywhere.
+    /// stand there before. Of `TocLoad` and `TocFar` `place` is the TOC pointer, which r2 has:
+    /// these may stand anywhere.
     ///
     /// What a call changes on its way through a stub are registers that a function may change, in
     /// which no argument is: x16 and x17 of AArch64, t3 of RISC-V and LoongArch, and r0, r12 and

@@ -33,7 +33,8 @@ set_other (x ∷ xs) (suc i) (suc j) c h = set_other xs i j c (omega (arith, h))
 
 -- ---- those that are kept
 
--- The first `kept` of an array are those of the first n of a list that are so. The rest is that of the list.
+-- The first `kept` of an array are those of the first n of a list that are so. The rest is that of
+-- the list.
 pub record AreKept {A : Type 0} (IsSo : A → Type 0) (list array : List A) (n kept : ℕ) : Type 0 where
   pub those : (a : A) → IsOneOf a (take kept array) ↔ (IsOneOf a (take n list) × IsSo a)
   pub rest : (i : ℕ) → n ≤ i → i < length list → slice_get array i ≡ slice_get list i

@@ -14,7 +14,8 @@ use Rattle.linker_reading.specs.declared.recognise.engine.Recognised.{Recognised
 use Rattle.linker_reading.specs.declared.recognise.fields.FieldBits.{FieldBits}
 use Rattle.linker_elf.specs.Architectures.{of_some}
 use Rattle.linker_utils.specs.declared.architecture.Relaxation.{Relaxation}
-use Rattle.linker_elf.specs.declared.elf.architecture.Architecture.TheVariants.{AArch64, RiscV, LoongArch64}
+use Rattle.linker_elf.specs.declared.elf.architecture.Architecture.TheVariants.{AArch64, RiscV}
+use Rattle.linker_elf.specs.declared.elf.architecture.Architecture.TheVariants.{LoongArch64}
 use Rattle.linker_elf.specs.declared.elf.architecture.Architecture.TheVariants.{Ppc64, X86_64}
 use Rattle.linker_elf.specs.declared.elf.architecture.Architecture.{Architecture}
 

@@ -5,7 +5,8 @@ use Rattle.linker_base.specs.Rewrite.{CanRewrite, rewritten, offset_after}
 use Rattle.linker_elf.specs.Relocate.{WritesRow}
 use Rattle.linker_elf.specs.declared.elf.RelocationKindInfo.{RelocationKindInfo}
 use Rattle.linker_reading.specs.FieldsOfBytes.{AreSameButFor}
-use Rattle.linker_reading.specs.Recognised.{Recogniser, DiffersOnlyInFields, deleted_start, deleted_count}
+use Rattle.linker_reading.specs.Recognised.{Recogniser, DiffersOnlyInFields, deleted_start}
+use Rattle.linker_reading.specs.Recognised.{deleted_count}
 use Rattle.linker_reading.specs.declared.recognise.fields.FieldBits.{FieldBits}
 use Rattle.linker_elf.specs.declared.elf.choice.Choice.{Choice}
 use Rattle.linker_utils.specs.Relaxations.{relaxation_rewrite, relaxation_deleted}

@@ -13,7 +13,8 @@ use Rattle.linker_rewriting.specs.Agreement.{Agree, IsContradiction}
 use Rattle.linker_rewriting.specs.Candidates.{IsCandidate, deletes_within}
 use Rattle.linker_rewriting.specs.Facts.{RelaxContext, pre_layout}
 use Rattle.linker_rewriting.specs.Groups.{IsScopeIn, group_stays, stays_at}
-use Rattle.linker_rewriting.specs.RiscVPcrelGroups.{IsHighIn, IsLabelCandidate, LabelStays, LabelFits}
+use Rattle.linker_rewriting.specs.RiscVPcrelGroups.{IsHighIn, IsLabelCandidate, LabelStays}
+use Rattle.linker_rewriting.specs.RiscVPcrelGroups.{LabelFits}
 use Rattle.linker_rewriting.specs.declared.decisions.Decision.{Decision}
 use Rattle.linker_rewriting.specs.declared.decisions.Decision.TheVariants.{Kept, Rewritten}
 use Rattle.linker_rewriting.specs.declared.decisions.Decision.TheVariants.{Consumed}
@@ -28,8 +29,10 @@ use Rattle.linker_rewriting.specs.declared.facts.SymbolFacts.{SymbolFacts}
 use Rattle.linker_rewriting.specs.declared.groups.Group.{Group}
 use Rattle.linker_rewriting.specs.declared.groups.UnrelaxableGroups.{UnrelaxableGroups}
 use Rattle.linker_rewriting.specs.declared.groups.Scope.{Scope}
-use Rattle.linker_rewriting.specs.declared.groups.Scope.TheVariants.{NotRelaxable, Independent, Grouped}
-use Rattle.linker_rewriting.specs.declared.groups.Scope.TheVariants.{FirstOfPair, IfGroupMatches, Labelled}
+use Rattle.linker_rewriting.specs.declared.groups.Scope.TheVariants.{NotRelaxable, Independent}
+use Rattle.linker_rewriting.specs.declared.groups.Scope.TheVariants.{Grouped}
+use Rattle.linker_rewriting.specs.declared.groups.Scope.TheVariants.{FirstOfPair, IfGroupMatches}
+use Rattle.linker_rewriting.specs.declared.groups.Scope.TheVariants.{Labelled}
 use Rattle.linker_rewriting.specs.declared.phases.Phase.{Phase}
 use Rattle.linker_rewriting.specs.declared.phases.Phase.TheVariants.{TlsLocalExec}
 use Rattle.linker_section.specs.Fields.{IsField, field_end}

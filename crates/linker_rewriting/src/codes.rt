@@ -1,6 +1,6 @@
-//! Whether a relocation may be rewritten in a phase, by its code, and whether a survey looks for its
-//! rewrite. Loops that ask this are compiled for each architecture and phase by itself: LLVM makes a
-//! few comparisons of it then.
+//! Whether a relocation may be rewritten in a phase, by its code, and whether a survey looks for
+//! its rewrite. Loops that ask this are compiled for each architecture and phase by itself: LLVM
+//! makes a few comparisons of it then.
 
 ghost use Rattle.std.specs.Prelude.{◌≡◌, ◌/◌, length, false};
 ghost use Rattle.linker_rewriting.specs.Inner.Codes.{IsListed, IsUngroupedUnless};

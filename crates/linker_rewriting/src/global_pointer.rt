@@ -741,12 +741,12 @@ fn turn_all<D: AsDecision>(decisions: &[D], relocations: &mut [u8])
 /// # Errors
 ///
 /// The relocations are as before. `Contradiction`, as in `survey_global_pointer`, comes first.
-/// `TooShort`: there are more relocations than `decisions`, or
-/// `deleted` has less room than there are deletions. `NotSurveyed`: a relocation of a symbol that
-/// doesn't stay can't be rewritten; it never comes where the section was surveyed into the table
-/// with the same facts. `Overlaps`: the instruction of the relocation with the index overlaps one
-/// of a relocation before it that is rewritten too; where none do, its field is the first that has a
-/// byte of another one's `lui` or `auipc` that goes.
+/// `TooShort`: there are more relocations than `decisions`, or `deleted` has less room than there
+/// are deletions. `NotSurveyed`: a relocation of a symbol that doesn't stay can't be rewritten; it
+/// never comes where the section was surveyed into the table with the same facts. `Overlaps`: the
+/// instruction of the relocation with the index overlaps one of a relocation before it that is
+/// rewritten too; where none do, its field is the first that has a byte of another one's `lui` or
+/// `auipc` that goes.
 ///
 /// ```
 /// use linker_rewriting::decisions::Decision;

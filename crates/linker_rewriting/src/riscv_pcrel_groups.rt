@@ -9,11 +9,13 @@ ghost use Rattle.linker_section.specs.Values.{IsAscending};
 ghost use Rattle.linker_rewriting.specs.Candidates.{deletes_within};
 ghost use Rattle.linker_rewriting.specs.Decisions.{decision_at};
 ghost use Rattle.linker_rewriting.specs.Inner.Contexts.{context_of};
-ghost use Rattle.linker_rewriting.specs.RiscVPcrelGroups.{high_code, IsHighAt, label_offset, IsHighOf};
+ghost use Rattle.linker_rewriting.specs.RiscVPcrelGroups.{high_code, IsHighAt, label_offset};
+ghost use Rattle.linker_rewriting.specs.RiscVPcrelGroups.{IsHighOf};
 ghost use Rattle.linker_rewriting.specs.RiscVPcrelGroups.{is_beyond, searched};
 ghost use Rattle.linker_rewriting.specs.RiscVPcrelGroups.{is_labelled, IsInLabel, is_label_marked};
 ghost use Rattle.linker_rewriting.specs.RiscVPcrelGroups.{has_labels};
-ghost use Rattle.linker_rewriting.specs.RiscVPcrelGroups.{without_entry, IsLabelCandidate, IsLacking};
+ghost use Rattle.linker_rewriting.specs.RiscVPcrelGroups.{without_entry, IsLabelCandidate};
+ghost use Rattle.linker_rewriting.specs.RiscVPcrelGroups.{IsLacking};
 ghost use Rattle.linker_rewriting.specs.Notes.{is_note, AreHighsNoted, IsNoteOf, AreLabelsNoted};
 
 use crate::candidates::candidate_by;

@@ -107,8 +107,8 @@ fn make_changes<D: AsDecision>(
 /// turns its relocations into those after it. It decides by all of the section's bytes before it
 /// rewrites one.
 ///
-/// An instruction whose relocation is `Scope::Independent` is rewritten where it can be. Those of a group
-/// are all rewritten, or none is where the group stays by `kept`, which `survey` made of all
+/// An instruction whose relocation is `Scope::Independent` is rewritten where it can be. Those of a
+/// group are all rewritten, or none is where the group stays by `kept`, which `survey` made of all
 /// sections of code of the object with the same facts. A relocation that a rewrite takes along gets
 /// the type 0, so that indexes stay. A relocation of a symbol that isn't in the table isn't
 /// rewritten.
@@ -121,9 +121,9 @@ fn make_changes<D: AsDecision>(
 /// What its load from the GOT becomes takes any distance (`R_LARCH_PCALA_HI20`), and what its
 /// initial-exec TLS and descriptors become takes any offset from the thread pointer
 /// (`R_LARCH_TLS_LE_HI20`). Nothing tests that 32 signed bits hold these. So a load from the GOT
-/// becomes a distance only by `has_near_symbols` of the output, and that of an absolute symbol never
-/// does. Where 32 bits may not hold the offset of a thread-local symbol, note its `initial_exec`,
-/// `general_dynamic` and `descriptor` in `kept` before the rewrite.
+/// becomes a distance only by `has_near_symbols` of the output, and that of an absolute symbol
+/// never does. Where 32 bits may not hold the offset of a thread-local symbol, note its
+/// `initial_exec`, `general_dynamic` and `descriptor` in `kept` before the rewrite.
 ///
 /// # Errors
 ///
@@ -131,9 +131,9 @@ fn make_changes<D: AsDecision>(
 /// `decisions`. `NotSurveyed`: a relocation of a group that doesn't stay has no rewrite; it never
 /// comes where the section was surveyed into the table with the same facts. `Overlaps`: the bytes
 /// of two rewrites overlap, or those of the second lie below those of the first, so the relocations
-/// of instructions that can be rewritten have to ascend by offset. Where no other error is, it is of
-/// the first relocation whose field has a byte that the rewrite of another one changes, and which
-/// that rewrite doesn't take along. All other relocations may be in any order.
+/// of instructions that can be rewritten have to ascend by offset. Where no other error is, it is
+/// of the first relocation whose field has a byte that the rewrite of another one changes, and
+/// which that rewrite doesn't take along. All other relocations may be in any order.
 ///
 /// ```
 /// use linker_rewriting::decisions::Decision;
@@ -313,10 +313,10 @@ fn list_changes<D: AsDecision, L: FromDeletion>(
 ///
 /// # Errors
 ///
-/// The section and its relocations are as before. `Contradiction`: `symbols` and `values` contradict
-/// each other about the symbol of a relocation, with the index of the first such symbol; an
-/// undefined weak symbol that the dynamic linker may define is none. Those of `rewrite_section`, and
-/// `TooShort` where `deleted` has less room than there are deletions.
+/// The section and its relocations are as before. `Contradiction`: `symbols` and `values`
+/// contradict each other about the symbol of a relocation, with the index of the first such symbol;
+/// an undefined weak symbol that the dynamic linker may define is none. Those of `rewrite_section`,
+/// and `TooShort` where `deleted` has less room than there are deletions.
 ///
 /// ```
 /// use linker_rewriting::decisions::Decision;

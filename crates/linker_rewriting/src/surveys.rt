@@ -142,7 +142,8 @@ fn is_unmarked(
     }
 }
 
-/// Whether a relocation is one whose mark a survey looks for: a use of `__tls_get_addr` on PowerPC64.
+/// Whether a relocation is one whose mark a survey looks for: a use of `__tls_get_addr` on
+/// PowerPC64.
 #[inline(always)]
 fn needs_mark(
     architecture: Architecture,
@@ -259,8 +260,8 @@ fn survey_in(
 /// first. What is noted there already is kept. A group is unrelaxable too where the table has no
 /// entry for its symbol.
 ///
-/// An offset in the module's TLS block that stands in data counts from the block, also where code no
-/// longer does. Where data of the object has one that is loaded, as `R_X86_64_DTPOFF64`, note
+/// An offset in the module's TLS block that stands in data counts from the block, also where code
+/// no longer does. Where data of the object has one that is loaded, as `R_X86_64_DTPOFF64`, note
 /// `local_dynamic` at index 0.
 ///
 /// ```

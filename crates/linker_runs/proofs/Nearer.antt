@@ -146,8 +146,8 @@ frees_fit start u items freed order f (suc i) within =
     let b = ap (λ n. offset_of (item_at items n)) z in
     omega arith
 
--- An index is the place of an offset: the items before it end at or below the offset, and the others
--- don't.
+-- An index is the place of an offset: the items before it end at or below the offset, and the
+-- others don't.
 pub record IsPlace (items : List Item) (offset p : ℕ) : Type 0 where
   pub within : p ≤ length items
   pub below : (j : ℕ) → j < p → end_of (item_at items j) ≤ offset

@@ -539,9 +539,9 @@ pub fn has_its_instructions(machine: Machine, section: &[u8], base: u64, item: &
 ///
 /// A site without short shapes, as `fixed` has it, is left as it is.
 ///
-/// `relocations` are those of the section, as ELF files have them. Each goes to the offset where its
-/// place goes, with its symbol and addend. That of a site which became shorter has the type of the
-/// one instruction then: `R_RISCV_JAL` or `R_RISCV_RVC_JUMP` in place of `R_RISCV_CALL_PLT` and
+/// `relocations` are those of the section, as ELF files have them. Each goes to the offset where
+/// its place goes, with its symbol and addend. That of a site which became shorter has the type of
+/// the one instruction then: `R_RISCV_JAL` or `R_RISCV_RVC_JUMP` in place of `R_RISCV_CALL_PLT` and
 /// `R_RISCV_CALL`, `R_LARCH_B26` in place of `R_LARCH_CALL36`, and `R_LARCH_PCREL20_S2` in place of
 /// `R_LARCH_PCALA_HI20`. So `relocate_section` writes its value, and an output can keep it. The
 /// others at such a site's begin, those of alignments among the items, and those whose byte is

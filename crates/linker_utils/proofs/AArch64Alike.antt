@@ -1,5 +1,5 @@
--- The relocations of a pair or of a sequence are chosen alike: each by one condition, and by another
--- one if that doesn't hold, of the place of the first.
+-- The relocations of a pair or of a sequence are chosen alike: each by one condition, and by
+-- another one if that doesn't hold, of the place of the first.
 use Rattle.std.proofs.Common.{◌≡◌, ◌↔◌, ◌≤◌, inl, inr, ℕ, ◌+◌, ◌-◌, List, [], ◌∷◌, sym, subst, arith}
 use Rattle.std.specs.Prelude.{◌⊎◌}
 use Rattle.linker_utils.specs.AArch64Rewrites.{IsDescriptorSequence, IsOfDescriptor, to_address, to_local_exec, halves_to_local_exec, to_initial_exec, IsEntryLoad, AArch64Applies, AArch64Choice, AArch64Entry, HasPattern, erased, descriptor_entries, GotPairIsChosenAlike, InitialExecIsChosenAlike, DescriptorIsChosenAlike}

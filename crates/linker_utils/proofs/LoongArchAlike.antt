@@ -1,5 +1,5 @@
--- The relocations of a pair or of a sequence are chosen alike: each by the same conditions of the place
--- of the first.
+-- The relocations of a pair or of a sequence are chosen alike: each by the same conditions of the
+-- place of the first.
 use Rattle.std.proofs.Common.{◌≡◌, ◌↔◌, Option, refl, ◌≤◌, inl, inr, ℕ, ◌+◌, ◌-◌, List, [], ◌∷◌, ap, ◌∙◌, sym, subst, slice_index_or, arith}
 use Rattle.linker_elf.specs.Choices.{facts_on, with_group, operands_before}
 use Rattle.linker_elf.specs.declared.elf.RelocationKindInfo.{RelocationKindInfo}

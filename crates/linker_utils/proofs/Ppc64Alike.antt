@@ -1,4 +1,5 @@
--- The relocations of a sequence are chosen alike: each by the same conditions, which no place enters.
+-- The relocations of a sequence are chosen alike: each by the same conditions, which no place
+-- enters.
 use Rattle.std.proofs.Common.{◌≡◌, ◌↔◌, inl, inr, ℕ, List, [], ◌∷◌, ap, sym, ◌∙◌, slice_index_or, ◌%◌, ◌-◌, ◌+◌, ◌&&◌, ◌==◌, true, false, Bool, IsTrue, drop, arith}
 use Rattle.std.specs.Int.{w32, from_le_bytes}
 use Rattle.std.proofs.lemmas.Bool.{and_parts, or_cases, eqb-true}

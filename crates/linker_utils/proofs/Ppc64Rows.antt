@@ -44,7 +44,8 @@ of_both : (f g : Bool → Bool) (one : Bool) → both f g ≡ true → f one ≡
 of_both f g true h = of_same (f true) (g true) (and_parts _ _ h).0
 of_both f g false h = of_same (f false) (g false) (and_parts _ _ h).1
 
--- an access over its base by the opcode, the lowest two bits, and whether both registers are the same
+-- an access over its base by the opcode, the lowest two bits, and whether both registers are the
+-- same
 abbrev by_opcode : ℕ → ℕ → Bool → Bool
 by_opcode op low one =
     op == 14 || (op / 32 == 1 && is_access (op % 32) && not (is_store (op % 32) && one))

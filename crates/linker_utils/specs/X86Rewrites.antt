@@ -585,7 +585,8 @@ x86_64_table name opcode = any_entry []
 
 -- ---- the choice
 
--- An EVEX prefix may begin six bytes before an offset. The last of its four bytes may look like REX.
+-- An EVEX prefix may begin six bytes before an offset. The last of its four bytes may look like
+-- REX.
 abbrev pub may_have_evex : List ℕ → ℕ → Bool
 may_have_evex section o = nat_le 6 o && slice_index section (o - 6) == 0x62
 

@@ -83,7 +83,8 @@ impl Relaxation {
         by_architecture!(architecture, rewrite_of(number, opcode_len))
     }
 
-    /// The rewrite's number and its count of bytes before the field, which `from_number` takes. The count is 0 except for the rewrites of x86-64 that have one.
+    /// The rewrite's number and its count of bytes before the field, which `from_number` takes. The
+    /// count is 0 except for the rewrites of x86-64 that have one.
     #[inline]
     pub fn number(self) -> (u32, u8)
         ensures { rewrite_of_number (relaxation_architecture self) (result.0) (result.1)

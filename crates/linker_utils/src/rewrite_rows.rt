@@ -187,8 +187,8 @@ impl WordTest {
     }
 }
 
-/// Whether all tests hold of instructions. Of constant tests LLVM leaves what they compare: so there
-/// is no loop.
+/// Whether all tests hold of instructions. Of constant tests LLVM leaves what they compare: so
+/// there is no loop.
 #[inline(always)]
 pub(crate) fn all_hold(tests: &'static [WordTest], words: Words) -> bool
     requires few { length tests.now ≤ 6 }
@@ -426,8 +426,8 @@ impl RewriteRow {
 /// the length of the instructions, how far before the offset they begin, whether they are aligned,
 /// their tests, and the one that `apply` requires too; the macro `$tests` makes an array of them.
 /// Then it has the bits kept and set of each instruction that is written, those of the second at 4,
-/// or how one is made instead; where 4 bytes are deleted; where a relocation is skipped; how far the
-/// offset moves; and the addend after.
+/// or how one is made instead; where 4 bytes are deleted; where a relocation is skipped; how far
+/// the offset moves; and the addend after.
 macro_rules! by_row {
     (
         $tests:ident, kinds;

@@ -4,7 +4,8 @@ use Rattle.linker_rewriting.specs.Agreement.{Agree}
 use Rattle.linker_rewriting.specs.Decisions.{AreApart, AreClear}
 use Rattle.linker_rewriting.specs.Facts.{RelaxContext}
 use Rattle.linker_rewriting.specs.Rewritten.{AreRelocationsAfter, AreDone, OthersStay}
-use Rattle.linker_rewriting.specs.TocIndirection.{AreLoadsDecided, AreLoadsRejectedFirst, WordsAreWhole}
+use Rattle.linker_rewriting.specs.TocIndirection.{AreLoadsDecided, AreLoadsRejectedFirst}
+use Rattle.linker_rewriting.specs.TocIndirection.{WordsAreWhole}
 use Rattle.linker_rewriting.specs.declared.decisions.Decision.{Decision}
 use Rattle.linker_utils_c.specs.Rewriting.{decisions_in, IsWrittenDecision, IsErrorReturned}
 use Rattle.linker_utils_c.specs.Status.{code}

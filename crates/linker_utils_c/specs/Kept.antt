@@ -19,8 +19,8 @@ use Rattle.linker_utils_c.specs.declared.status.Status.TheVariants.{FactsContrad
 use Rattle.linker_utils_c.specs.declared.status.Status.TheVariants as statuses
 
 -- The tables agree, all facts are as kept, no call lacks its stub, and all values are written or
--- none is; or the index is that of the first symbol or relocation of which one of these isn't so, and
--- none is.
+-- none is; or the index is that of the first symbol or relocation of which one of these isn't so,
+-- and none is.
 abbrev pub IsRewrittenOutcome : Architecture → OutputFacts → List SymbolFacts → List FactsSnapshot
     → Addresses → List ℕ → List Symbol → List ℕ → List ℕ → ℕ → ℕ → ℕ → Result Unit WritingError
     → Type 0

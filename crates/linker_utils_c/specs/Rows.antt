@@ -1,6 +1,7 @@
 -- What calls return by the handle of a relocation.
 use Rattle.std.specs.Prelude.{◌≡◌, ◌%◌, ◌++◌, ◌==◌, ℕ, not, Bool, true, false}
-use Rattle.std.specs.Prelude.{List, length, drop, replicate, Option, Some, None, Result, Ok, Err, pos, ⊤}
+use Rattle.std.specs.Prelude.{List, length, drop, replicate, Option, Some, None, Result, Ok, Err}
+use Rattle.std.specs.Prelude.{pos, ⊤}
 use Rattle.linker_elf.specs.AppliedRows.{IsAppliedIfKnown}
 use Rattle.linker_elf.specs.ElfNames.{ElfName, named, unnamed}
 use Rattle.linker_elf.specs.Entries.{IsPltAnswer}

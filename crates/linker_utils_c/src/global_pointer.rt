@@ -21,7 +21,8 @@ use linker_section::facts::{Addresses, Symbol};
 use linker_utils::elf::Architecture;
 
 /// Notes which symbols of an object keep the high part of their address, by one of its sections of
-/// code, as `survey_global_pointer` of `linker_rewriting`. `UnknownArchitecture`; `FactsContradict`.
+/// code, as `survey_global_pointer` of `linker_rewriting`. `UnknownArchitecture`;
+/// `FactsContradict`.
 #[unsafe(no_mangle)]
 pub extern "C" fn linker_utils_survey_global_pointer_nonnull(
     machine: u16,

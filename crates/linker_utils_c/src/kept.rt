@@ -16,8 +16,8 @@ use linker_section::facts::{Addresses, Symbol};
 use linker_section::sections::memory_len;
 use linker_utils::elf::Architecture;
 
-/// Keeps what choices of rewrites read of an object's symbols and of the output, as `snapshot_facts` of
-/// `linker_rewriting`. The error is `DifferentLengths`.
+/// Keeps what choices of rewrites read of an object's symbols and of the output, as
+/// `snapshot_facts` of `linker_rewriting`. The error is `DifferentLengths`.
 #[unsafe(no_mangle)]
 pub extern "C" fn linker_utils_snapshot_facts_nonnull(
     output: &OutputFacts,

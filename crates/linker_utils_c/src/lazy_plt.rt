@@ -147,8 +147,8 @@ fn put_header(plt: &LazyPlt, header: u64, words: u64, bytes: &mut [u8]) -> u32
 }
 
 /// Writes an entry of a lazy PLT to the beginning of `bytes`, as `LazyPlt::write_entry`. The first
-/// that applies of `UnknownArchitecture`; `UnknownStub`; `TooShort`; and where a field doesn't reach
-/// the error of the first such field, as `linker_utils_relocate`. Then `bytes` are unchanged.
+/// that applies of `UnknownArchitecture`; `UnknownStub`; `TooShort`; and where a field doesn't
+/// reach the error of the first such field, as `linker_utils_relocate`. Then `bytes` are unchanged.
 #[unsafe(no_mangle)]
 pub extern "C" fn linker_utils_write_lazy_entry_nonnull(
     machine: u16,

@@ -99,7 +99,8 @@ pub extern "C" fn linker_utils_has_its_instructions_nonnull(
 /// written, whose index is `faulty`, the first that applies of `ItemsOverlap`, `ItemOutOfSection`,
 /// `DeletedOutside`, `NotItsFirstBytes`, `NotItsInstructions`, `NoShape` and `TargetOutOfReach`.
 /// `DeletedOutside` may also be of what is after the last item, and `faulty` is how many there are
-/// then. `packed` and `relocations` are unchanged then. `faulty` changes only with a status that is about an item.
+/// then. `packed` and `relocations` are unchanged then. `faulty` changes only with a status that is
+/// about an item.
 #[unsafe(no_mangle)]
 pub extern "C" fn linker_utils_pack_run_nonnull(
     machine: u16,

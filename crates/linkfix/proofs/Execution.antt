@@ -155,7 +155,8 @@ not_rejected P Q causes error rejects = elim (causes error rejects) [
   | inr memory ↦ cc (memory.1)
 ]
 
--- an error of a command that is reported: it is rejected, or memory ran out; and nothing was printed for it
+-- an error of a command that is reported: it is rejected, or memory ran out; and nothing was
+-- printed for it
 pub reported_silent : (error : ReportedError) (w1 w2 : Option (List ℕ)) → (Reported error ≡ Io) ⊎ (w2 ≡ w1) → w2 ≡ w1
 reported_silent error w1 w2 (inl io) = absurd (cc io)
 reported_silent error w1 w2 (inr same) = same

@@ -1,7 +1,8 @@
 -- Instructions at an offset of a section.
 use Rattle.std.specs.Prelude.{◌≡◌, ℕ, ◌+◌, ◌%◌, ◌^◌, ◌≤◌, Bool, List, length, take, drop}
 use Rattle.std.specs.Int.{byte_len, cast_unsigned, w64}
-use Rattle.linker_utils.specs.Form.{Form, window_of, Fits, Written, MachineReads, OtherBitsUnchanged}
+use Rattle.linker_utils.specs.Form.{Form, window_of, Fits, Written, MachineReads}
+use Rattle.linker_utils.specs.Form.{OtherBitsUnchanged}
 
 -- the form's window at an offset
 abbrev pub window_at : Form → List ℕ → ℕ → ℕ

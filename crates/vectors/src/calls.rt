@@ -1,5 +1,6 @@
-//! Calls of RISC-V that become jumps, and sections without the bytes that this frees, worked by hand
-//! from the RISC-V unprivileged ISA's `jal`, which reaches even distances from -1048576 to 1048574.
+//! Calls of RISC-V that become jumps, and sections without the bytes that this frees, worked by
+//! hand from the RISC-V unprivileged ISA's `jal`, which reaches even distances from -1048576 to
+//! 1048574.
 
 use crate::rows::{deltas_of, expect_eq};
 use linker_utils::relaxation::{PackError, calls_apart, calls_shrinkable};

@@ -1,4 +1,5 @@
-//! Comparisons that name the row at fault, and deltas, for tests. A call that has failed is tried again.
+//! Comparisons that name the row at fault, and deltas, for tests. A call that has failed is tried
+//! again.
 
 ghost use Rattle.std.specs.Prelude.{IsTrue};
 

@@ -14,7 +14,8 @@ use linker_utils::source::section::{Addresses, Symbol};
 use linker_utils::elf::Architecture;
 
 /// Notes which symbols of an object keep the high part of their address, by one of its sections of
-/// code, as `survey_global_pointer` of `rewriting`. `UnknownArchitecture`; `FactsContradict`.
+/// code, as `survey_global_pointer` of `rewriting`. `UnknownArchitecture`;
+/// `FactsContradict`.
 pub fn linker_utils_survey_global_pointer_nonnull(
     machine: u16,
     output: &OutputFacts,

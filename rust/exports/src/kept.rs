@@ -12,8 +12,8 @@ use linker_utils::source::section::{Addresses, Symbol};
 use linker_utils::source::section::memory_len;
 use linker_utils::elf::Architecture;
 
-/// Keeps what choices of rewrites read of an object's symbols and of the output, as `snapshot_facts` of
-/// `rewriting`. The error is `DifferentLengths`.
+/// Keeps what choices of rewrites read of an object's symbols and of the output, as
+/// `snapshot_facts` of `rewriting`. The error is `DifferentLengths`.
 pub fn linker_utils_snapshot_facts_nonnull(
     output: &OutputFacts,
     symbols: &[SymbolFacts],

@@ -538,9 +538,10 @@ fn kind_of(number: u32) -> Option<StubKind> {
 
 /// Writes the length of a stub of a kind in bytes, and the offset at which a call enters: kind 0
 /// jumps to the address that a word has, 1 to a far target, 2 and 3 to one anywhere, by its address
-/// or by the distance to it, and 4 is 0 for protected code. 5 is 0 by the TOC pointer, 6 jumps by it
-/// to the address that a word has, and 7 and 8 are 0 and 1 by a prefixed instruction. The first that
-/// applies of `UnknownArchitecture`; `UnknownStub`, where the architecture has none of the kind.
+/// or by the distance to it, and 4 is 0 for protected code. 5 is 0 by the TOC pointer, 6 jumps by
+/// it to the address that a word has, and 7 and 8 are 0 and 1 by a prefixed instruction. The first
+/// that applies of `UnknownArchitecture`; `UnknownStub`, where the architecture has none of the
+/// kind.
 pub fn linker_utils_get_stub(machine: u16, kind: u32, stub: &mut StubNumbers) -> u32 {
     let Some(architecture) = Architecture::from_machine(machine) else {
         return Status::UnknownArchitecture.number();

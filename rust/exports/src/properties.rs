@@ -83,8 +83,8 @@ pub fn linker_utils_merge_properties_nonnull(
 }
 
 /// Writes the note of properties to the beginning of `note`, as `write_properties`, and its length
-/// to `number`. The first that applies of `UnknownArchitecture`; `TooLarge`, with 2^27 properties or
-/// more; of the first property that can't be written `NotAscending`, with its index in `number`,
+/// to `number`. The first that applies of `UnknownArchitecture`; `TooLarge`, with 2^27 properties
+/// or more; of the first property that can't be written `NotAscending`, with its index in `number`,
 /// `UnknownProperty` or `DoesNotFit`, with its type; `TooShort`, with the length that is needed.
 /// Then `note` is unchanged.
 pub fn linker_utils_write_properties_nonnull(

@@ -283,10 +283,10 @@ pub fn linker_utils_rewrite_section_nonnull(
 /// became of each relocation is in `decisions`, and what is to be deleted in the first
 /// `deleted_used` elements of `deleted`; the elements after these are unchanged.
 ///
-/// The first that applies of `UnknownArchitecture`; `UnknownPhase`; `FactsContradict`, of the symbol
-/// at `faulty`; `ShortMemory`, where there are fewer decisions than relocations; why it can't
-/// rewrite the relocation at `faulty`, `NotSurveyed` or `Overlaps`; and `ShortMemory`, where there
-/// are fewer elements of `deleted` than deletions. Then the section, its relocations and
+/// The first that applies of `UnknownArchitecture`; `UnknownPhase`; `FactsContradict`, of the
+/// symbol at `faulty`; `ShortMemory`, where there are fewer decisions than relocations; why it
+/// can't rewrite the relocation at `faulty`, `NotSurveyed` or `Overlaps`; and `ShortMemory`, where
+/// there are fewer elements of `deleted` than deletions. Then the section, its relocations and
 /// `deleted_used` are unchanged.
 pub fn linker_utils_rewrite_placed_section_nonnull(
     machine: u16,

@@ -30,8 +30,8 @@ pub fn linker_utils_find(machine: u16, r_type: u32) -> u32 {
     architecture.handle(r_type)
 }
 
-/// The value of a relocation by its handle. The first that applies of `UnknownRelocation`; `NoEntry`;
-/// `NoTlsBase`; `NoValue`.
+/// The value of a relocation by its handle. The first that applies of `UnknownRelocation`;
+/// `NoEntry`; `NoTlsBase`; `NoValue`.
 pub fn linker_utils_row_value(handle: u32, operands: &Operands, value: &mut i64) -> u32 {
     value_by(row_of(handle), operands, value)
 }

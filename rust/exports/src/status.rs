@@ -37,7 +37,8 @@ pub enum Status {
     InvalidDeletions,
     /// Two deletions overlap or begin at one offset, or one ends past 2^64 - 1.
     NotMergeable,
-    /// The input offset, or a bitmap's address, would be past 2^64 - 1, or a note would be too long.
+    /// The input offset, or a bitmap's address, would be past 2^64 - 1, or a note would be too
+    /// long.
     TooLarge = 17,
     /// The queries, or the boundaries, decrease somewhere, or the addresses or types do not ascend.
     NotAscending,

@@ -77,8 +77,8 @@ pub struct SectionRelaxDeltas {
 impl SectionRelaxDeltas {
     /// The deletions that `raw` lists, each as an offset and a count of bytes.
     ///
-    /// It allocates twice, for the deltas and the heads of their blocks, and not at all where `raw` is
-    /// empty. `is_valid` tests what it requires.
+    /// It allocates twice, for the deltas and the heads of their blocks, and not at all where `raw`
+    /// is empty. `is_valid` tests what it requires.
     ///
     /// # Requires
     ///
@@ -103,8 +103,8 @@ impl SectionRelaxDeltas {
     /// Adds deletions, each an offset and a count of bytes, in any order.
     ///
     /// What is listed is then as `new` makes it of the old and the additional pairs, sorted. Before
-    /// anything changes the list grows, and the heads of its blocks, and pairs that don't ascend are
-    /// copied, to be sorted: memory is allocated at most once for each, and not at all where
+    /// anything changes the list grows, and the heads of its blocks, and pairs that don't ascend
+    /// are copied, to be sorted: memory is allocated at most once for each, and not at all where
     /// `additional` is empty. But for that growth, which is O(1) for each pair of many merges, the
     /// work is O(k + m) for k pairs and the m deltas after the first of them, and O(k log k) more
     /// where the pairs don't ascend. `is_mergeable` tests what it requires.

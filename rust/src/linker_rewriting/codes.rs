@@ -1,8 +1,8 @@
 // SPDX-License-Identifier: MIT OR Apache-2.0
 // Made by tools/generate of crates/linker_rewriting/src/codes.rt.
-//! Whether a relocation may be rewritten in a phase, by its code, and whether a survey looks for its
-//! rewrite. Loops that ask this are compiled for each architecture and phase by itself: LLVM makes a
-//! few comparisons of it then.
+//! Whether a relocation may be rewritten in a phase, by its code, and whether a survey looks for
+//! its rewrite. Loops that ask this are compiled for each architecture and phase by itself: LLVM
+//! makes a few comparisons of it then.
 
 use crate::linker_rewriting::groups::{Scope, scope_in};
 use crate::linker_rewriting::phases::Phase;

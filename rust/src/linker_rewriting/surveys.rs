@@ -115,7 +115,8 @@ fn is_unmarked(
     }
 }
 
-/// Whether a relocation is one whose mark a survey looks for: a use of `__tls_get_addr` on PowerPC64.
+/// Whether a relocation is one whose mark a survey looks for: a use of `__tls_get_addr` on
+/// PowerPC64.
 #[inline(always)]
 fn needs_mark(
     architecture: Architecture,

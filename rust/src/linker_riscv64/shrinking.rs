@@ -261,11 +261,11 @@ pub fn calls_shrinkable(deltas: &SectionRelaxDeltas, calls: &[(u64, u64)]) -> bo
 ///
 /// All calls are chosen at first. Sweeps over them, up and down in turn, drop those out of reach
 /// until one sweep drops none. Their order doesn't matter, since more deletions never take a call
-/// out of reach. Where each drop takes the next call above out of reach, or each the next one below,
-/// three sweeps do. A chain that turns around n times may take n sweeps. For k calls and n deltas a
-/// test of a call takes O(log n + log k + k / 1024): the chosen calls between a site and its target
-/// are counted by runs of k / 1024 calls, and only where the call is in reach with all of them and
-/// out of reach with none.
+/// out of reach. Where each drop takes the next call above out of reach, or each the next one
+/// below, three sweeps do. A chain that turns around n times may take n sweeps. For k calls and n
+/// deltas a test of a call takes O(log n + log k + k / 1024): the chosen calls between a site and
+/// its target are counted by runs of k / 1024 calls, and only where the call is in reach with all
+/// of them and out of reach with none.
 ///
 /// # Requires
 ///

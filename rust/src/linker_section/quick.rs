@@ -21,7 +21,8 @@ pub(crate) struct HighPart {
     pub(crate) value: i64,
 }
 
-/// The address of a symbol's entry that a row requires. By itself, since most relocations have none.
+/// The address of a symbol's entry that a row requires. By itself, since most relocations have
+/// none.
 #[inline(never)]
 fn address_of_entry(
     addresses: &Addresses,

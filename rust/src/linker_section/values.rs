@@ -37,8 +37,8 @@ pub enum ValueError {
     /// [`relocate_section`](crate::section::relocate_section()).
     NeedsStub,
     /// A `*_HI20` of LoongArch whose value isn't a number of 32 signed bits, and that has no
-    /// `*64*_LO20` of its symbol and addend: 8 bytes after it where it is relative to the place, and
-    /// else anywhere in the section. Only of [`relocate_section`](crate::section::relocate_section()).
+    /// `*64*_LO20` of its symbol and addend: 8 bytes after it where it is relative to the place,
+    /// and else anywhere in the section. Only of [`relocate_section`](crate::section::relocate_section()).
     OutOfReach,
 }
 
@@ -493,9 +493,9 @@ pub(crate) fn value_of(
 /// - A branch goes to the symbol's stub, if it has one. On PowerPC64 a branch to the symbol itself
 ///   goes to the local entry point. A linker has a stub for an `R_PPC64_REL24_NOTOC` of a function
 ///   that takes the TOC pointer as given, and for each branch that doesn't reach.
-/// - A low part of RISC-V takes the operands of the high part at the label that its symbol is. It is
-///   found by a search where the relocations ascend by offset, and else among all of them. Its own
-///   addend isn't read.
+/// - A low part of RISC-V takes the operands of the high part at the label that its symbol is. It
+///   is found by a search where the relocations ascend by offset, and else among all of them. Its
+///   own addend isn't read.
 /// - A branch to an undefined weak symbol goes to the next instruction on AArch64, and on RISC-V
 ///   and PowerPC64 to itself. What else is relative to the place is then 0 on AArch64. The offset
 ///   of such a thread-local symbol is the addend, also without a TLS segment.

@@ -127,8 +127,8 @@ static MERGEABLE: [(Pairs, bool); 8] = [
     (&[(20, 1), (20, 1)], false),
 ];
 
-/// Deletions, an offset, whether it is inside one of them, and whether there is an input offset that
-/// becomes it.
+/// Deletions, an offset, whether it is inside one of them, and whether there is an input offset
+/// that becomes it.
 static ASKED: [(Pairs, u64, bool, bool); 5] = [
     (&[(0, 4)], 0, false, true),
     (&[(0, 4)], 1, true, true),
@@ -206,9 +206,9 @@ fn cursors_pass_each_deletion_once() {
     }
 }
 
-/// How many deletions of 4 bytes, one each 8 bytes; how many looks a translation takes at most, which
-/// is one for each binary digit of the number of blocks of 64, and 8; input offsets with their output
-/// offsets, and output offsets with their input offsets.
+/// How many deletions of 4 bytes, one each 8 bytes; how many looks a translation takes at most,
+/// which is one for each binary digit of the number of blocks of 64, and 8; input offsets with
+/// their output offsets, and output offsets with their input offsets.
 static LONG: [(usize, u64, Offsets, Offsets); 2] = [
     (64, 9, &[(512, 256), (508, 252)], &[(255, 511), (256, 512)]),
     (65, 10, &[(512, 256), (520, 260)], &[(255, 511), (256, 516)]),

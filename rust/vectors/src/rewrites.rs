@@ -1,7 +1,7 @@
 // SPDX-License-Identifier: MIT OR Apache-2.0
 // Made by tools/generate of crates/vectors/src/rewrites.rt.
-//! Rewrites of all architectures, and how many bytes they require. The instructions are worked by hand
-//! from the manuals.
+//! Rewrites of all architectures, and how many bytes they require. The instructions are worked by
+//! hand from the manuals.
 
 use crate::rows::{expect, expect_eq};
 use linker_utils::aarch64::RelaxationKind as AArch64Kind;

@@ -1,6 +1,7 @@
 // SPDX-License-Identifier: MIT OR Apache-2.0
 // Made by tools/generate of crates/vectors/src/rows.rt.
-//! Comparisons that name the row at fault, and deltas, for tests. A call that has failed is tried again.
+//! Comparisons that name the row at fault, and deltas, for tests. A call that has failed is tried
+//! again.
 
 use linker_utils::relaxation::SectionRelaxDeltas;
 use core::fmt::Debug;

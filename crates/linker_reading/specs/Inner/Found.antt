@@ -1,5 +1,6 @@
 -- What was found of the first choices of a table.
-use Rattle.std.specs.Prelude.{◌≡◌, ◌↔◌, ◌<◌, ℕ, List, [], ◌∷◌, Option, None, Some, length, slice_get}
+use Rattle.std.specs.Prelude.{◌≡◌, ◌↔◌, ◌<◌, ℕ, List, [], ◌∷◌, Option, None, Some, length}
+use Rattle.std.specs.Prelude.{slice_get}
 use Rattle.std.specs.Prelude.{slice_index_or}
 use Rattle.linker_elf.specs.Choices.{choice}
 use Rattle.linker_elf.specs.declared.elf.choice.Choice.{Choice}

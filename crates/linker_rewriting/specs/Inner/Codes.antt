@@ -4,7 +4,8 @@ use Rattle.linker_rewriting.specs.Candidates.{calls_tls_get_addr}
 use Rattle.linker_rewriting.specs.Groups.{IsScopeIn}
 use Rattle.linker_rewriting.specs.declared.facts.SymbolFacts.{SymbolFacts}
 use Rattle.linker_rewriting.specs.declared.groups.Scope.{Scope}
-use Rattle.linker_rewriting.specs.declared.groups.Scope.TheVariants.{NotRelaxable, Grouped, IfGroupMatches}
+use Rattle.linker_rewriting.specs.declared.groups.Scope.TheVariants.{NotRelaxable, Grouped}
+use Rattle.linker_rewriting.specs.declared.groups.Scope.TheVariants.{IfGroupMatches}
 use Rattle.linker_rewriting.specs.declared.phases.Phase.{Phase}
 use Rattle.linker_rewriting.specs.declared.phases.Phase.TheVariants.{PreLayout}
 use Rattle.linker_section.specs.declared.relocations.Rela.{Rela}

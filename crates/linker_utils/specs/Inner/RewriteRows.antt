@@ -1,12 +1,15 @@
 -- What the rows of rewrites mean.
-use Rattle.std.specs.Prelude.{ℕ, zero, suc, List, [], ◌∷◌, ◌≡◌, ◌≢◌, ◌≤◌, ◌+◌, ◌-◌, ◌*◌, ◌/◌, ◌^◌, ◌⊎◌, ⊤, length, drop}
-use Rattle.std.specs.Prelude.{Option, None, Some, bit_and, bit_or, IsTrue, not, nat_le, ◌&&◌, ◌||◌, ◌==◌}
+use Rattle.std.specs.Prelude.{ℕ, zero, suc, List, [], ◌∷◌, ◌≡◌, ◌≢◌, ◌≤◌, ◌+◌, ◌-◌, ◌*◌, ◌/◌, ◌^◌}
+use Rattle.std.specs.Prelude.{◌⊎◌, ⊤, length, drop}
+use Rattle.std.specs.Prelude.{Option, None, Some, bit_and, bit_or, IsTrue, not, nat_le, ◌&&◌, ◌||◌}
+use Rattle.std.specs.Prelude.{◌==◌}
 use Rattle.std.specs.Prelude.{◌%◌, if◌then◌else◌, Bool, true, false, IfSome}
 use Rattle.std.specs.Int.{w32, w64, from_le_bytes, to_le_bytes}
 use Rattle.linker_base.specs.Bits.{field}
 use Rattle.linker_base.specs.Rewrite.{Rewrite, replaces, CanRewrite}
 use Rattle.linker_base.specs.declared.relaxation.RelocationModifier.{RelocationModifier}
-use Rattle.linker_base.specs.declared.relaxation.RelocationModifier.TheVariants.{Normal, SkipNextRelocation}
+use Rattle.linker_base.specs.declared.relaxation.RelocationModifier.TheVariants.{Normal}
+use Rattle.linker_base.specs.declared.relaxation.RelocationModifier.TheVariants.{SkipNextRelocation}
 use Rattle.linker_utils.specs.Ppc64Rewrites.{by_displacement, by_word_displacement, direct, to_move}
 use Rattle.linker_utils.specs.declared.rewrite_rows.Special.{Special}
 use Rattle.linker_utils.specs.declared.rewrite_rows.Special.TheVariants as specials

@@ -284,9 +284,9 @@ impl<'a> DeltaSlice<'a> {
     /// ends above `u64::MAX`, or overlaps a deletion of the list or an earlier additional one. None
     /// where all can be merged.
     ///
-    /// Copies of the first deletions are sorted, where there is memory for them: O(k log k + k log n)
-    /// where all can be merged, and else log k times as much. Deletions that ascend or descend, and
-    /// 1,024 or fewer, aren't copied.
+    /// Copies of the first deletions are sorted, where there is memory for them: O(k log k + k log
+    /// n) where all can be merged, and else log k times as much. Deletions that ascend or descend,
+    /// and 1,024 or fewer, aren't copied.
     #[must_use]
     pub fn first_overlapping_sorted<D: AsDeletion>(
         &self,

@@ -147,7 +147,8 @@ fn inner_or_middle(number: usize, low: usize, high: usize) -> usize {
     low + (high - low) / 2
 }
 
-// Whether the deletions are disjoint, and none overlaps a delta. Many that ascend are met in a walk.
+// Whether the deletions are disjoint, and none overlaps a delta. Many that ascend are met in a
+// walk.
 pub(super) fn can_be_merged<D: AsDeletion>(deltas: &[RelaxDelta], additional: &[D]) -> bool {
     if additional.len() > deltas.len() / 16 && rise_together(deltas, additional) {
         return true;

@@ -40,10 +40,10 @@ pub(super) trait Probe {
     fn read(&mut self, level: Level, at: usize) -> BlockHead;
 }
 
-/// Of the first `2 * width` of `count` indexes from `last` on, one of which is the last that passes,
-/// the first of those that are left, `width` at most. No probe is taken where no more are there.
-/// Where the widths are constants, LLVM compiles a step to a comparison and a choice, without a
-/// branch.
+/// Of the first `2 * width` of `count` indexes from `last` on, one of which is the last that
+/// passes, the first of those that are left, `width` at most. No probe is taken where no more are
+/// there. Where the widths are constants, LLVM compiles a step to a comparison and a choice,
+/// without a branch.
 #[inline(always)]
 fn halve<P: Probe>(
     probe: &mut P,

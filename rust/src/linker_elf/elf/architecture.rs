@@ -1,6 +1,7 @@
 // SPDX-License-Identifier: MIT OR Apache-2.0
 // Made by tools/generate of crates/linker_elf/src/elf/architecture.rt.
-//! The architectures: their relocations by codes (`r_type`) and handles, and their forms by numbers.
+//! The architectures: their relocations by codes (`r_type`) and handles, and their forms by
+//! numbers.
 
 use super::{ApplyError, Operands, RelocationInstruction, Row, Uleb128Role};
 #[cfg(feature = "aarch64")]
@@ -55,8 +56,8 @@ pub enum Architecture {
     X86_64 = 62,
 }
 
-/// What a macro makes of what it is given and of all architectures: of each its variant, its module,
-/// the enum of its relocations, and the quotient of its handles by `HANDLE_UNIT`.
+/// What a macro makes of what it is given and of all architectures: of each its variant, its
+/// module, the enum of its relocations, and the quotient of its handles by `HANDLE_UNIT`.
 macro_rules! architectures {
     ([$($make:tt)+] $given:tt) => {
         $($make)+!(
@@ -170,8 +171,8 @@ impl Architecture {
         by_architecture!(self, row_of(code))
     }
 
-    /// Computes the value of the relocation with a code and writes it, as [`Row::apply`](crate::elf::Row::apply) does. None of
-    /// a code without a row, and nothing is written.
+    /// Computes the value of the relocation with a code and writes it, as [`Row::apply`](crate::elf::Row::apply) does. None
+    /// of a code without a row, and nothing is written.
     ///
     /// ```
     /// use linker_utils::elf::{Architecture, Operands};
