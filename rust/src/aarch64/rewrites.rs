@@ -165,6 +165,7 @@ impl RelaxationKind {
     /// and, for `MovkXn` and `LdrToAdd`, the instruction meets their requirement. For the other
     /// kinds the instruction is not tested.
     #[must_use]
+    #[inline(always)]
     pub fn can_apply(self, section: &[u8], offset: u64) -> bool {
         rewrites!(self, row => row.can_apply(section, offset))
     }

@@ -175,6 +175,7 @@ impl RelaxationKind {
     /// Whether `apply` may be called at an offset of a section: the window lies in the section,
     /// and, for `MovkXn` and `LdrToAdd`, the instruction meets their requirement. For the other
     /// kinds the instruction is not tested.
+    #[inline(always)]
     pub fn can_apply(self, section: &[u8], offset: u64) -> bool
         ensures { IsTrue result ↔ CanRewrite (aarch64_rewrite self) section.now offset }
     {
