@@ -107,15 +107,16 @@ pub fn riscv64()
     linker_laws::simulation::riscv64();
 }
 
-/// RISC-V: each low part that `rewrite_global_pointer` takes does over x3 or x0, with the distance
-/// from it as its value, what the object's does over what its high part leaves. That its `lui` or
-/// `auipc` leaves this is a law too; what x3 has is a premise. The relocations that
+/// RISC-V: each low part that `rewrite_global_pointer` takes is a group of
+/// `linker_laws::simulation`. New's is over x3 or x0, with the distance from it as its value, and
+/// old's over what its high part leaves. Its `lui` or `auipc`, which is deleted, is a group of which
+/// new has nothing, and leaves this; what x3 has is a premise. The relocations that
 /// `finish_gp_relaxation` leaves have these distances as their values.
 pub fn riscv64_global_pointer()
     ensures low_parts { riscv64_near.LowPartsFromBase }
     ensures values { riscv64_near.ValuesAreDistances }
-    ensures lui { riscv64_near.LuiLeaves }
-    ensures auipc { riscv64_near.AuipcLeaves }
+    ensures lui { riscv64_near.LuiGoes }
+    ensures auipc { riscv64_near.AuipcGoes }
 {
     linker_laws::relocations::riscv64();
 }

@@ -1,8 +1,8 @@
 -- The worked program of RISC-V.
 use Rattle.std.proofs.Common.{◌≡◌, ℕ, suc, ◌+◌, ◌-◌, ◌^◌, ◌<◌, ◌≤◌, Bool, true, false, refl, sym, ◌∙◌, ap}
 use Rattle.std.proofs.Common.{subst, arith, List, [], ◌∷◌, length, Option, lit<, lit≤, pos, leb, leb-true}
-use Rattle.std.proofs.Common.{true≢false}
-use Rattle.std.specs.Prelude.{◌&&◌, IsSomeAnd, nat_lt, min}
+use Rattle.std.proofs.Common.{Some, true≢false}
+use Rattle.std.specs.Prelude.{◌%◌, ◌&&◌, IsSomeAnd, nat_lt, min, unsigned_abs}
 use Rattle.std.proofs.lemmas.Bool.{cond-false, cond-true, ltb-true}
 use Rattle.std.proofs.lemmas.Int.{ints}
 use Rattle.std.proofs.lemmas.List.Elements.{All-nil, All-cons}
@@ -14,15 +14,15 @@ use Rattle.linker_elf.specs.declared.elf.RelocationKindInfo.{RelocationKindInfo}
 use Rattle.linker_elf.specs.declared.elf.value.Operands.{Operands}
 use Rattle.linker_elf.specs.declared.riscv64.relocations.RiscVRelocation.TheVariants as names
 use Rattle.linker_laws.specs.Changes.{put, with_register}
-use Rattle.linker_laws.specs.Machine.{AreBytes}
+use Rattle.linker_laws.specs.Machine.{AreBytes, moved as plus}
 use Rattle.linker_laws.specs.RiscVGroups.{Groups, Has, Stands, continued, instruction_at, link, machine}
-use Rattle.linker_laws.specs.RiscVGroups.{seen, uses}
+use Rattle.linker_laws.specs.RiscVGroups.{left, of_place, seen, uses}
 use Rattle.linker_laws.specs.RiscVGroupsWorked.{IsWorked, code, is_entry, known, moved, new, old, others, starting, words}
-use Rattle.linker_laws.specs.RiscVMachine.{adds, step}
+use Rattle.linker_laws.specs.RiscVMachine.{adds, goes_to, step, with_integer}
 use Rattle.linker_laws.specs.RiscVRewriteLaws.{after_rewrite, of_entry}
 use Rattle.linker_laws.specs.Schemes.{AreAddresses}
-use Rattle.linker_laws.specs.Simulation.{Agree, Group, Kinds, State, anything, ends, group, of_link}
-use Rattle.linker_laws.specs.Simulation.{run, same}
+use Rattle.linker_laws.specs.Simulation.{Agree, Group, Kinds, Other, State, anything, ends, group}
+use Rattle.linker_laws.specs.Simulation.{of_link, other, run, same}
 use Rattle.linker_utils.specs.declared.riscv64.rewrites.RelaxationKind.TheVariants as kinds
 use Rattle.linker_laws.proofs.AArch64GroupsWorked.{relocated}
 use Rattle.linker_laws.proofs.Agreement.{agree_put}
@@ -99,6 +99,12 @@ load = operands 0x13000 0x10008
 abbrev sum_at : Operands
 sum_at = operands 0x13000 0x10004
 
+abbrev calling : Operands
+calling = record (operands 0 0x10010) { plt_entry = 0x1001c }
+
+abbrev jumping : Operands
+jumping = operands 0x10014 0x1000c
+
 -- ---- relocations
 
 abbrev lui : List ℕ
@@ -164,7 +170,29 @@ rest_has =
     (relocated _ _ _ (pos 0x2ffc) 0x58593 refl refl (lit≤ tt) (refl, tt, λ e. refl)
     ((omega (arith, ints), omega (arith, ints)), lit< tt, tt) refl refl) refl refl refl refl
 
+abbrev call : List ℕ
+call = 0x97 ∷ 0x00 ∷ 0x00 ∷ 0x00 ∷ 0xe7 ∷ 0x80 ∷ 0x00 ∷ 0x00 ∷ []
+
+call_has : Has 8 (words old) 0x10010 (riscv_row names.R_RISCV_CALL_PLT) calling call
+unfolding place_sum
+call_has =
+    has _ _ _ _ _ call (0x97 ∷ 0x00 ∷ 0x00 ∷ 0x00 ∷ 0xe7 ∷ 0x80 ∷ 0xc0 ∷ 0x00 ∷ [])
+    (relocated _ _ _ (pos 0xc) 0x80e700000097 refl refl (lit≤ tt) (refl, tt, λ e. refl)
+    ((omega (arith, ints), omega (arith, ints)), lit< tt, tt) refl refl) refl refl refl refl
+
+jump_has : Has 4 (words new) 0x1000c (riscv_row names.R_RISCV_JAL) jumping
+    (after_rewrite kinds.CallToJal call 0)
+unfolding place_sum
+jump_has =
+    has _ _ _ _ _ (0xef ∷ 0x00 ∷ 0x00 ∷ 0x00 ∷ 0xe7 ∷ 0x80 ∷ 0x00 ∷ 0x00 ∷ [])
+    (0xef ∷ 0x00 ∷ 0x80 ∷ 0x00 ∷ 0xe7 ∷ 0x80 ∷ 0x00 ∷ 0x00 ∷ [])
+    (relocated _ _ _ (pos 0x8) 0xef refl refl (lit≤ tt) (refl, tt, λ e. refl)
+    ((omega (arith, ints), omega (arith, ints)), lit< tt, tt) refl refl) refl refl refl refl
+
 -- ---- runs
+
+abbrev shorter : ℕ → ℕ
+shorter a = (a - min 4 (a - 0x10000)) - min 4 (a - 0x10014)
 
 starts : Agree (link code) known starting starting
 starts =
@@ -172,7 +200,7 @@ starts =
       small = lit< tt;
       pc = refl;
       registers = λ r. refl;
-      memory = λ a below. ap (λ n. n + 0) (by (a - 0) (nat_lt (a - 0) 0x10014) refl);
+      memory = λ a below. ap (λ n. n + 0) (by (a - 0) (nat_lt (a - 0) 0x10024) refl);
       outside = refl;
     }
   where
@@ -181,13 +209,12 @@ starts =
         let none : is_entry a ≡ false = grind (arith, below) in
         cond-false (is_entry a) _ 0 none
 
-    by : (a : ℕ) (b : Bool) → nat_lt a 0x10014 ≡ b → starting.memory a ≡ starting.memory (moved a)
+    by : (a : ℕ) (b : Bool) → nat_lt a 0x10024 ≡ b → starting.memory a ≡ starting.memory (moved a)
     by a true e =
-        let below = ltb-true a 0x10014 e in
+        let below = ltb-true a 0x10024 e in
         nothing a (omega arith)
-        ∙ sym (ap starting.memory (cond-true _ (a - min 4 (a - 0x10000)) a e)
-        ∙ nothing (a - min 4 (a - 0x10000)) (omega arith))
-    by a false e = sym (ap starting.memory (cond-false _ (a - min 4 (a - 0x10000)) a e))
+        ∙ sym (ap starting.memory (cond-true _ (shorter a) a e) ∙ nothing (shorter a) (omega arith))
+    by a false e = sym (ap starting.memory (cond-false _ (shorter a) a e))
 
 abbrev s1 : State
 s1 = put 15 0 0x10004 starting
@@ -198,6 +225,12 @@ s2 = put 10 0x120 0x10008 s1
 abbrev s3 : State
 s3 = put 11 0x13000 0x10010 (put 11 0x12008 0x1000c s2)
 
+abbrev s4 : State
+s4 = put 1 0x10018 0x1001c (put 1 0x10010 0x10014 s3)
+
+abbrev s5 : State
+s5 = put 0 0x10020 0x10018 s4
+
 abbrev k1 : Kinds
 k1 = with_register 15 anything known
 
@@ -206,6 +239,12 @@ k2 = with_register 10 same k1
 
 abbrev k3 : Kinds
 k3 = with_register 11 same (with_register 11 anything k2)
+
+abbrev k4 : Kinds
+k4 = with_register 1 (of_place 0x10018) (with_register 1 anything k3)
+
+abbrev k5 : Kinds
+k5 = with_register 0 anything k4
 
 p1 : Groups → Group (of_link (link code)) 0 known starting k1 s1
 p1 g =
@@ -234,25 +273,50 @@ p3 g =
     (record { first = refl; second = (refl, refl); base = refl; not_zero = λ e. omega arith })
     refl refl entry_has ld_has near_has rest_has
 
-old_end : IsSomeAnd (run 4 (machine others (words old)) starting)
-    (λ s. (s.pc ≡ 0x10010) × (s.registers 10 ≡ 0x120) × (s.registers 11 ≡ 0x13000))
-unfolding place_sum
-old_end = (refl, refl, refl)
+p4 : Groups → Group (of_link (link code)) 1 k3 s3 k4 s4
+unfolding place_sum call_has has
+p4 g =
+    g.calls.1 code calling jumping k3 s3 call (after_rewrite kinds.CallToJal call 0)
+    (small calling (lit< tt) (lit< tt) (lit< tt) (lit< tt) (lit< tt) (lit< tt))
+    (small jumping (lit< tt) (lit< tt) (lit< tt) (lit< tt) (lit< tt) (lit< tt))
+    (record { at = refl; small = lit< tt; place = refl; next = refl }) refl
+    (record { auipc_opcode = refl; jalr_opcode = refl; jalr_function = refl; base = refl }) (λ e. omega arith) refl
+    call_has jump_has
 
-new_end : IsSomeAnd (run 3 (machine others (words new)) starting)
-    (λ s. (s.pc ≡ 0x1000c) × (s.registers 10 ≡ 0x120) × (s.registers 11 ≡ 0x13000))
+p5 : Groups → Other (of_link (link code)) k4 s4 k5 s5
 unfolding place_sum
-new_end = (refl, refl, refl)
+p5 g =
+    g.others code k4 k5 s4 s5 refl (ap Some (wrote s4 0 0x10020 0x10018 (lit< tt)))
+    (λ t agree.
+    let back : t.registers 1 ≡ 0x10010 = ap unsigned_abs (sym (agree.registers 1).1) in
+    let after = sum_64 t.pc 4 in
+    subst (λ m. Agree (link code) k5 s5 (left t (goes_to (plus m (pos 0) - plus m (pos 0) % 2) (with_integer 0 after (seen t)))))
+    (sym back)
+    (subst (λ u. Agree (link code) k5 s5 u) (sym (wrote t 0 after 0x10010 (lit< tt)))
+    (agree_put (link code) k4 s4 t 0 anything 0x10020 after 0x10018 0x10010 agree (lit< tt) refl tt)))
+
+old_end : IsSomeAnd (run 7 (machine others (words old)) starting)
+    (λ s. (s.pc ≡ 0x10018) × (s.registers 1 ≡ 0x10018) × (s.registers 10 ≡ 0x120)
+    × (s.registers 11 ≡ 0x13000))
+unfolding place_sum
+old_end = (refl, refl, refl, refl)
+
+new_end : IsSomeAnd (run 5 (machine others (words new)) starting)
+    (λ s. (s.pc ≡ 0x10010) × (s.registers 1 ≡ 0x10010) × (s.registers 10 ≡ 0x120)
+    × (s.registers 11 ≡ 0x13000))
+unfolding place_sum
+new_end = (refl, refl, refl, refl)
 
 pub is_worked : Groups → IsWorked
 is_worked g =
     record {
-      kinds = k3;
-      state = s3;
+      kinds = k5;
+      state = s5;
       agree = starts;
       covered =
-          group 2 0 3 _ _ _ _ _ _ (p1 g) (group 1 1 2 _ _ _ _ _ _ (p2 g)
-          (group 0 2 0 _ _ _ _ _ _ (p3 g) (ends _ _)));
+          group 4 0 5 _ _ _ _ _ _ (p1 g) (group 3 1 4 _ _ _ _ _ _ (p2 g)
+          (group 2 2 2 _ _ _ _ _ _ (p3 g) (group 1 1 1 _ _ _ _ _ _ (p4 g)
+          (other 0 0 _ _ _ _ _ _ (p5 g) (ends _ _)))));
       stops = record {
         old_stops = refl;
         new_stops = λ t agree.

@@ -216,23 +216,40 @@ LowPartFromThreadPointer =
 abbrev pub of_place : ℕ → Kind
 of_place a = counted (record { number = 0; added = a ∷ []; subtracted = [] })
 
--- `auipc rX` and `jalr rY` over rX become a jump of n bytes that links rY. Old and new are at a
--- target,
--- and each has the address after the call in rY. rX may have anything, unless it is rY.
+-- Old's `auipc rX` and `jalr rY` over rX and new's n instructions are a group. Both are at the
+-- target then, and each has the address after the call in rY. rX may have anything, unless it is rY.
+abbrev pub IsCall : Code → ℕ → Operands → Kinds → State → List ℕ → List ℕ → Type 0
+IsCall c n x k s call relocated =
+    let base = rd_of (word_of call) in
+    let link_register = rd_of (word_of (drop 4 call)) in
+    Group (of_link (link c)) n k s
+    (with_register link_register (of_place (sum_64 x.place 8)) (with_register base anything k))
+    (put link_register (sum_64 x.place 8) (even plt_address x)
+    (put base (upper_from x.place relocated) (sum_64 x.place 4) s))
+
+-- They become a jump of n bytes that links rY.
 abbrev pub CallTo : RiscVRelocation → ℕ → RiscVRelocation → (List ℕ → ℕ → Type 0) → Type 0
 CallTo name n new_name IsJump =
     (c : Code) (x y : Operands) (k : Kinds) (s : State) (call jump : List ℕ)
     → AreAddresses x → AreAddresses y → AreBefore c 8 n x y s
     → symbol_address y ≡ c.moved (even plt_address x)
-    → let base = rd_of (word_of call) in
-    let link_register = rd_of (word_of (drop 4 call)) in
-    IsCallPair (word_of call) (word_of (drop 4 call)) → base ≢ 0 → IsJump jump link_register
+    → IsCallPair (word_of call) (word_of (drop 4 call)) → rd_of (word_of call) ≢ 0
+    → IsJump jump (rd_of (word_of (drop 4 call)))
     → (old : Has 8 c.old x.place (riscv_row name) x call)
-    → Has n c.new y.place (riscv_row new_name) y jump
-    → Group (of_link (link c)) 1 k s
-    (with_register link_register (of_place (sum_64 x.place 8)) (with_register base anything k))
-    (put link_register (sum_64 x.place 8) (even plt_address x)
-    (put base (upper_from x.place old.relocated) (sum_64 x.place 4) s))
+    → Has n c.new y.place (riscv_row new_name) y jump → IsCall c 1 x k s call old.relocated
+
+-- They stay, with the value of their relocation in each layout.
+abbrev pub CallStays : RiscVRelocation → Type 0
+CallStays name =
+    (c : Code) (x y : Operands) (k : Kinds) (s : State) (call : List ℕ)
+    → AreAddresses x → AreAddresses y → AreBefore c 8 8 x y s
+    → even plt_address y ≡ c.moved (even plt_address x)
+    → IsCallPair (word_of call) (word_of (drop 4 call)) → rd_of (word_of call) ≢ 0
+    → (old : Has 8 c.old x.place (riscv_row name) x call)
+    → Has 8 c.new y.place (riscv_row name) y call → IsCall c 2 x k s call old.relocated
+
+abbrev pub LongCalls : Type 0
+LongCalls = CallStays names.R_RISCV_CALL × CallStays names.R_RISCV_CALL_PLT
 
 -- `jal` of a register, and `c.j`, of distance 0
 abbrev pub IsJal : List ℕ → ℕ → Type 0
@@ -397,6 +414,7 @@ pub record Groups : Type 0 where
   pub low_offsets : LowPartFromThreadPointer
   pub calls : Calls
   pub short_tail_calls : ShortTailCalls
+  pub long_calls : LongCalls
   pub rewritten_calls : CallsAreRewritten
   pub got : GotToAddress
   pub descriptor_to_local_exec : DescriptorToLocalExec

@@ -48,21 +48,18 @@ pub fn aarch64_worked()
     aarch64();
 }
 
-/// RISC-V: rewritten instructions are groups, whatever the machine's other instructions do, and
-/// code
-/// gets shorter: high parts that are shortened or deleted, with the `add` of the thread pointer,
-/// low
-/// parts over another base, whatever stands between them, calls that become jumps, and loads of
-/// addresses from the GOT.
+/// RISC-V: rewritten instructions are groups, whatever the machine's other instructions do, and code
+/// gets shorter: high parts that are shortened or deleted, with the `add` of the thread pointer, low
+/// parts over another base, whatever stands between them, calls that become jumps or stay, and loads
+/// of addresses from the GOT.
 pub fn riscv64()
     ensures groups { riscv_groups.Groups }
 {
     crate::relocations::riscv64();
 }
 
-/// RISC-V: a program with three groups, of which every premise holds. Both of its runs are
-/// computed to
-/// the end.
+/// RISC-V: a program with four groups, of which one is a call that became a jump, and the return of
+/// the function. Every premise holds, and both of its runs are computed to the end.
 pub fn riscv64_worked()
     ensures worked { riscv_worked.IsWorked }
 {
