@@ -16,7 +16,8 @@ use Rattle.linker_elf.specs.declared.riscv64.relocations.RiscVRelocation.TheVari
 use Rattle.linker_laws.specs.Changes.{put, with_register}
 use Rattle.linker_laws.specs.Machine.{AreBytes, moved as plus}
 use Rattle.linker_laws.specs.RiscVGroups.{Groups, Has, Stands, continued, instruction_at, link, machine}
-use Rattle.linker_laws.specs.RiscVGroups.{left, of_place, seen, uses}
+use Rattle.linker_laws.specs.RiscVGroups.{left, of_place, seen}
+use Rattle.linker_laws.specs.RiscVGroups.AreUsed.{as_sum}
 use Rattle.linker_laws.specs.RiscVGroupsWorked.{IsWorked, code, is_entry, known, moved, new, old, others, starting, words}
 use Rattle.linker_laws.specs.RiscVMachine.{adds, goes_to, step, with_integer}
 use Rattle.linker_laws.specs.RiscVRewriteLaws.{after_rewrite, of_entry}
@@ -257,11 +258,7 @@ p2 g =
     (g.low_parts addi (lit≤ tt, refl) code low high k1 k2 s1
     (record { at = refl; small = lit< tt; place = refl; next = refl }) refl
     (omega (arith, ints), omega (arith, ints)) refl tt addi_has made_has
-    (λ t agree.
-    subst (λ u. Agree (link code) k2 u (uses adds 0x78513 0x120 t)) (sym (wrote s1 10 0x120 0x10008 (lit< tt)))
-    (subst (λ u. Agree (link code) k2 s2 u) (sym (wrote t 10 0x120 (sum_64 t.pc 4) (lit< tt)))
-    (agree_put (link code) k1 s1 t 10 same 0x120 0x120 0x10008 (sum_64 t.pc 4) agree (lit< tt)
-    (ap (λ p. sum_64 p 4) agree.pc) refl))))
+    (g.accesses code adds 0x78513 0x120 k1 s1 k2 refl as_sum))
 
 p3 : Groups → Group (of_link (link code)) 2 k2 s2 k3 s3
 unfolding place_sum entry_has has

@@ -1,3 +1,4 @@
+use Rattle.linker_laws.proofs.RiscVAccesses.{are_accesses}
 use Rattle.linker_laws.proofs.RiscVGroups.{are_calls, are_cluis_to_cli, are_high_offsets, are_high_parts}
 use Rattle.linker_laws.proofs.RiscVGroups.{are_loads, are_long_calls, are_low_offsets, are_low_parts, are_luis_to_clui}
 use Rattle.linker_laws.proofs.RiscVGroups.{are_others, are_rewritten_calls, are_short_tail_calls}
@@ -17,6 +18,7 @@ returns c =
         sums = are_sums;
         low_parts = are_low_parts;
         low_offsets = are_low_offsets;
+        accesses = are_accesses;
         calls = are_calls;
         short_tail_calls = are_short_tail_calls;
         long_calls = are_long_calls;
