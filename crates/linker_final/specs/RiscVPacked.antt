@@ -107,8 +107,7 @@ pub record IsBefore (p : Packed) (o : ℕ) (c : Code) (s : State) : Type 0 where
   pub next : c.moved (s.pc + 4) ≡ address_at p (o + 4)
 
 -- A `lui` of a number of 12 bits, or of an offset from the thread pointer of 12 bits, is a group,
--- of
--- which new has nothing.
+-- of which new has nothing.
 abbrev pub LuiIsLeftOut : RiscVRelocation → (Operands → Type 0) → Type 0
 LuiIsLeftOut name IsLow =
     (p : Packed) → IsPacked p → p.machine ≡ RiscV64 → (o : ℕ) → HasWord p.section.bytes o IsLui

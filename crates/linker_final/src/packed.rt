@@ -139,8 +139,7 @@ pub struct RunSection<'a> {
 /// Packs a section of a run that `relax` relaxed, by `pack_section`, with what the run loses. It
 /// leaves the section's final bytes in `out`, in which each alignment of the run holds
 /// (`shorter_sections`). The run begins at the address `start`. `relocations` are the section's,
-/// once
-/// it is rewritten. A linker calls `relax` and `pack_section` itself: in between it translates
+/// once it is rewritten. A linker calls `relax` and `pack_section` itself: in between it translates
 /// symbols by what `relax` returned, and it packs each section.
 ///
 /// # Errors
@@ -224,11 +223,10 @@ pub fn shorter_riscv64()
 
 /// RISC-V: what was rewritten before the section was packed, and stays, is a group of
 /// `linker_laws::simulation`. Old has the object's instructions with the values of their
-/// relocations,
-/// in a layout of its own, and new the final bytes. It is each load of an address from the GOT that
-/// became a sum of the place and the distance, each low part of an offset that is over the thread
-/// pointer, and each sequence of a TLS descriptor that became one of local-exec. What became a nop
-/// is one.
+/// relocations, in a layout of its own, and new the final bytes. It is each load of an address from
+/// the GOT that became a sum of the place and the distance, each low part of an offset that is over
+/// the thread pointer, and each sequence of a TLS descriptor that became one of local-exec. What
+/// became a nop is one.
 pub fn joined_riscv64()
     ensures got_loads { riscv_joined.PackedGotLoads }
     ensures low_parts { riscv_joined.PackedLowParts }

@@ -141,8 +141,7 @@ LuiBecomesClui =
     (put (rd_of (word_of lui)) (upper old.relocated) (sum_64 x.place 4) s)
 
 -- `c.lui` becomes `c.li` of 0, where S + A is such a number, and a `lui` of the same register was
--- in
--- old.
+-- in old.
 abbrev pub CluiBecomesCli : Type 0
 CluiBecomesCli =
     (c : Code) (x y : Operands) (k : Kinds) (s : State) (lui clui : List ℕ) → AreBefore c 4 2 x y s
@@ -377,8 +376,7 @@ called x base high register_of_function s =
     (put register_of_function function (sum_64 x.place 8) (put base high (sum_64 x.place 4) s)))
 
 -- `auipc rX`, `ld rY` over rX, `addi a0` over rX, and `jalr t0` over rY stand in old. The function
--- of
--- the descriptor is at an even address. It returns, and leaves an offset in a0. What else it
+-- of the descriptor is at an even address. It returns, and leaves an offset in a0. What else it
 -- changes may be anything then, as are rX, rY and t0. Nops write register 0.
 pub record Descriptor (c : Code) (x : Operands) (offset : ℕ) (k : Kinds) (s : State) (k' : Kinds)
     (s' : State) (auipc ld addi jalr : List ℕ) : Type 0 where
@@ -439,8 +437,7 @@ DescriptorToShortLocalExec =
     → Group (of_link (link c)) (n + 1) k s k' s'
 
 -- `auipc a0` and `ld a0` of an entry that holds the number that the function returns, whatever
--- state
--- of new agrees
+-- state of new agrees
 abbrev pub DescriptorToInitialExec : Type 0
 DescriptorToInitialExec =
     (c : Code) (n offset : ℕ) (x y : Operands) (k k' : Kinds) (s s' : State)
@@ -457,8 +454,7 @@ DescriptorToInitialExec =
 -- ---- other instructions
 
 -- One that has the same bytes in both. By these: whatever state agrees before it, it leaves one
--- that
--- agrees after it.
+-- that agrees after it.
 abbrev pub Others : Type 0
 Others =
     (c : Code) (k k' : Kinds) (s s' : State)

@@ -2,6 +2,7 @@
 use Rattle.std.specs.Prelude.{◌≡◌, ℕ, ◌-◌, ◌/◌, ◌%◌, ◌^◌, nat_lt, nat_le, ◌&&◌, Bool}
 use Rattle.std.specs.Prelude.{if◌then◌else◌, List, [], ◌∷◌, None, IsSomeAnd, slice_get, min}
 use Rattle.std.specs.Option.{unwrap_or}
+use Rattle.linker_laws.specs.Machine.{loaded}
 use Rattle.linker_laws.specs.RiscVGroups.{Code, link, machine}
 use Rattle.linker_laws.specs.Simulation.{State, Program, Kinds, Agree, Covered, Stops, of_link, run}
 use Rattle.linker_laws.specs.Simulation.{same}
@@ -19,8 +20,9 @@ abbrev pub old : List ℕ
 old =
     0x000007b7  -- lui a5, 0
     ∷ 0x12078513  -- addi a0, a5, 0x120
+    ∷ 0x12a7b423  -- sd a0, 0x128(a5)
     ∷ 0x00002597  -- auipc a1, 2
-    ∷ 0x0085b583  -- ld a1, 8(a1)
+    ∷ 0x0045b583  -- ld a1, 4(a1)
     ∷ 0x00000097  -- auipc ra, 0
     ∷ 0x00c080e7  -- jalr ra, 12(ra)
     ∷ 0
@@ -31,8 +33,9 @@ old =
 abbrev pub new : List ℕ
 new =
     0x12000513  -- addi a0, zero, 0x120
+    ∷ 0x12a03423  -- sd a0, 0x128(zero)
     ∷ 0x00003597  -- auipc a1, 3
-    ∷ 0xffc58593  -- addi a1, a1, -4
+    ∷ 0xff858593  -- addi a1, a1, -8
     ∷ 0x008000ef  -- jal ra, 8
     ∷ 0
     ∷ 0x00008067  -- jalr zero, 0(ra)
@@ -41,7 +44,7 @@ new =
 -- less the deleted bytes before it
 abbrev pub moved : ℕ → ℕ
 moved a =
-    if nat_lt a 0x10024 then (a - min 4 (a - 0x10000)) - min 4 (a - 0x10014) else a
+    if nat_lt a 0x10028 then (a - min 4 (a - 0x10000)) - min 4 (a - 0x10018) else a
 
 -- no other instruction
 abbrev pub others : List ℕ → Program
@@ -65,19 +68,19 @@ starting =
 abbrev pub known : Kinds
 known = record { registers = λ r. same; memory = λ a. of_byte same }
 
--- Four groups and the return are 7 instructions of old, and 5 of new. The link register has the
+-- Five groups and the return are 8 instructions of old, and 6 of new. The link register has the
 -- address after the call in both.
 pub record IsWorked : Type 0 where
   pub kinds : Kinds
   pub state : State
   pub agree : Agree (link code) known starting starting
-  pub covered : Covered (of_link (link code)) 5 5 known starting kinds state
+  pub covered : Covered (of_link (link code)) 6 6 known starting kinds state
   pub stops : Stops (of_link (link code)) kinds state
   pub old_ends :
-      IsSomeAnd (run 7 (machine others (words old)) starting)
-      (λ s. (s.pc ≡ 0x10018) × (s.registers 1 ≡ 0x10018) × (s.registers 10 ≡ 0x120)
-      × (s.registers 11 ≡ 0x13000))
+      IsSomeAnd (run 8 (machine others (words old)) starting)
+      (λ s. (s.pc ≡ 0x1001c) × (s.registers 1 ≡ 0x1001c) × (s.registers 10 ≡ 0x120)
+      × (s.registers 11 ≡ 0x13000) × (loaded 8 s.memory 0x128 ≡ 0x120))
   pub new_ends :
-      IsSomeAnd (run 5 (machine others (words new)) starting)
-      (λ s. (s.pc ≡ 0x10010) × (s.registers 1 ≡ 0x10010) × (s.registers 10 ≡ 0x120)
-      × (s.registers 11 ≡ 0x13000))
+      IsSomeAnd (run 6 (machine others (words new)) starting)
+      (λ s. (s.pc ≡ 0x10014) × (s.registers 1 ≡ 0x10014) × (s.registers 10 ≡ 0x120)
+      × (s.registers 11 ≡ 0x13000) × (loaded 8 s.memory 0x128 ≡ 0x120))
