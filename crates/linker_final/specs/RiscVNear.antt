@@ -1,5 +1,5 @@
--- RISC-V: low parts over x3 or x0, and their deleted high parts, are groups of the simulation (RISC-V
--- ELF psABI, "Global-pointer Relaxation" and "Zero-page Relaxation").
+-- RISC-V: low parts over x3 or x0, and their deleted high parts, are groups of the simulation
+-- (RISC-V ELF psABI, "Global-pointer Relaxation" and "Zero-page Relaxation").
 use Rattle.std.specs.Prelude.{◌≡◌, ◌≢◌, ℕ, ◌+◌, ◌≤◌, ◌<◌, ◌^◌, true, List, drop, length, Some}
 use Rattle.std.specs.Prelude.{IsSomeAnd, Option, slice_get}
 use Rattle.linker_base.specs.Rewrite.{rewritten}
@@ -45,8 +45,8 @@ abbrev pub after_base : ℕ → List ℕ → ℕ → List ℕ
 after_base register section o = rewritten (Some (rewrites_word (with_rs1 register))) section o
 
 -- A low part is a group. Old's base has what the high part leaves, and its relocation has a row and
--- a number as its value. New's base has its address, and the value is the distance of S + A from it.
--- What the instruction does with S + A keeps agreement.
+-- a number as its value. New's base has its address, and the value is the distance of S + A from
+-- it. What the instruction does with S + A keeps agreement.
 abbrev pub FromBase : (Action → Option RelocationKindInfo) → (Operands → ℕ) → List ℕ → ℕ → ℕ
     → Action → Type 0
 FromBase row number section o gp action =

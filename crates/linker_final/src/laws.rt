@@ -107,8 +107,8 @@ pub fn riscv64()
 
 /// RISC-V: each low part that `rewrite_global_pointer` takes is a group of
 /// `linker_laws::simulation`. New's is over x3 or x0, with the distance from it as its value, and
-/// old's over what its high part leaves. Its `lui` or `auipc`, which is deleted, is a group of which
-/// new has nothing, and leaves this; what x3 has is a premise. The relocations that
+/// old's over what its high part leaves. Its `lui` or `auipc`, which is deleted, is a group of
+/// which new has nothing, and leaves this; what x3 has is a premise. The relocations that
 /// `finish_gp_relaxation` leaves have these distances as their values.
 pub fn riscv64_global_pointer()
     ensures low_parts { riscv64_near.LowPartsFromBase }

@@ -88,25 +88,19 @@ module _ (c : Code) (k : Kinds) (s t : State) (agree : Agree (link c) k s t)
   next : sum_64 t.pc 4 ≡ c.moved (sum_64 s.pc 4)
   next = ap (λ p. sum_64 p 4) agree.pc ∙ sym goes_on
 
+  puts_both : (r : ℕ) (kind : Kind) (v v' to to' : ℕ) (u u' : State) → u ≡ put r v to s → u' ≡ put r v' to' t
+      → to < 2 ^ 64 → to' ≡ c.moved to → AreOf (link c) 8 kind v v' → Agree (link c) (with_register r kind k) u u'
+  puts_both r kind v v' to to' u u' is is' small at are =
+      subst (λ u. Agree (link c) (with_register r kind k) u u') (sym is)
+      (subst (λ u. Agree (link c) (with_register r kind k) (put r v to s) u) (sym is')
+      (agree_put (link c) k s t r kind v v' to to' agree small at are))
+
   puts_integer : (rd : ℕ) (kind : Kind) (v v' : ℕ) → rd < 32 → AreOf (link c) 8 kind v v'
       → Agree (link c) (with_register rd kind k) (left s (goes_to (sum_64 s.pc 4) (with_integer rd v (seen s))))
       (left t (goes_to (sum_64 t.pc 4) (with_integer rd v' (seen t))))
-  puts_integer rd kind v v' small are =
-      subst (λ u. Agree (link c) (with_register rd kind k) u (left t (goes_to (sum_64 t.pc 4) (with_integer rd v' (seen t)))))
-      (sym (wrote s rd v (sum_64 s.pc 4) small))
-      (subst (λ u. Agree (link c) (with_register rd kind k) (put rd v (sum_64 s.pc 4) s) u)
-      (sym (wrote t rd v' (sum_64 t.pc 4) small))
-      (agree_put (link c) k s t rd kind v v' (sum_64 s.pc 4) (sum_64 t.pc 4) agree (sum_below s.pc 4) next are))
-
-  puts_float : (rd : ℕ) (v v' : ℕ) → v ≡ v'
-      → Agree (link c) (with_register (32 + rd) same k) (left s (goes_to (sum_64 s.pc 4) (with_float rd v (seen s))))
-      (left t (goes_to (sum_64 t.pc 4) (with_float rd v' (seen t))))
-  puts_float rd v v' are =
-      subst (λ u. Agree (link c) (with_register (32 + rd) same k) u (left t (goes_to (sum_64 t.pc 4) (with_float rd v' (seen t)))))
-      (sym (wrote_float s rd v (sum_64 s.pc 4)))
-      (subst (λ u. Agree (link c) (with_register (32 + rd) same k) (put (32 + rd) v (sum_64 s.pc 4) s) u)
-      (sym (wrote_float t rd v' (sum_64 t.pc 4)))
-      (agree_put (link c) k s t (32 + rd) same v v' (sum_64 s.pc 4) (sum_64 t.pc 4) agree (sum_below s.pc 4) next are))
+  puts_integer rd kind v v' small =
+      puts_both rd kind v v' _ _ _ _ (wrote s rd v (sum_64 s.pc 4) small) (wrote t rd v' (sum_64 t.pc 4) small)
+      (sum_below s.pc 4) next
 
   -- the number at an address
   loads_same : (n address : ℕ) (kind : Kind) → BeginsAt c k n address kind
@@ -198,13 +192,11 @@ are_accesses c action word sum k s k' goes_on (as_target small still) t agree =
     let to = sum - sum % 2 in
     let back = sum_64 s.pc 4 in
     let back' = sum_64 t.pc 4 in
-    let here = next c k s t agree goes_on in
-    let kind = groups.of_place back in
-    subst (λ u. Agree (link c) (with_register rd kind k) u (left t (goes_to to (with_integer rd back' (seen t)))))
-    (sym (wrote s rd back to (below_32 word)))
-    (subst (λ u. Agree (link c) (with_register rd kind k) (put rd back to s) u) (sym (wrote t rd back' to (below_32 word)))
-    (agree_put (link c) k s t rd kind back back' to to agree (omega (arith, small)) (sym still)
-    (counts back back refl (sum_below s.pc 4), counts (c.moved back) back' (sym here) (sum_below t.pc 4))))
+    puts_both c k s t agree goes_on rd (groups.of_place back) back back' to to _ _ (wrote s rd back to (below_32 word))
+    (wrote t rd back' to (below_32 word)) (omega (arith, small)) (sym still) (
+      counts back back refl (sum_below s.pc 4),
+      counts (c.moved back) back' (sym (next c k s t agree goes_on)) (sum_below t.pc 4),
+    )
 are_accesses c action word sum k s k' goes_on (as_loaded f at) t agree =
     puts_integer c k s t agree goes_on (rd_of word) same _ _ (below_32 word)
     (ap (load_number f) (loads_same c k s t agree goes_on (bytes_of f) sum same at))
@@ -212,7 +204,8 @@ are_accesses c action word sum k s k' goes_on (as_whole kind at) t agree =
     puts_integer c k s t agree goes_on (rd_of word) kind _ _ (below_32 word)
     (whole_of c kind _ _ (loads_same c k s t agree goes_on 8 sum kind at))
 are_accesses c action word sum k s k' goes_on (as_loaded_float f at) t agree =
-    puts_float c k s t agree goes_on (rd_of word) _ _
+    puts_both c k s t agree goes_on (32 + rd_of word) same _ _ _ _ _ _ (wrote_float s (rd_of word) _ (sum_64 s.pc 4))
+    (wrote_float t (rd_of word) _ (sum_64 t.pc 4)) (sum_below s.pc 4) (next c k s t agree goes_on)
     (ap (boxed (2 ^ f)) (loads_same c k s t agree goes_on (2 ^ f) sum same at))
 are_accesses c action word sum k s k' goes_on (as_stored f known room) t agree =
     stores_same c k s t agree goes_on (bytes_of f) (register (seen s) (rs2_of word)) (register (seen t) (rs2_of word)) sum

@@ -333,7 +333,7 @@ row_of kind a = Some (pair_row kind 32 IType)
 abbrev pub low_of : ℕ → ℤ
 low_of n = signed 12 (n % 2 ^ 32 % 4096)
 
--- Relocations of two kinds of numbers are applied to an instruction and to the one over another base.
+-- Relocations of two kinds of numbers are applied to an instruction and to one over another base.
 module _ (kind kind' : RelocationKind) (number number' : Operands → ℕ) (of : IsFormulaOf kind number)
     (of' : IsFormulaOf kind' number') (b : ℕ) (small : b < 32) (low made : List ℕ)
     (there : word_of made ≡ with_rs1 b (word_of low)) (long : opcode_of (word_of low) % 4 ≡ 3) where

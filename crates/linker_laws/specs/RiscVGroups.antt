@@ -218,7 +218,8 @@ abbrev pub of_place : ℕ → Kind
 of_place a = counted (record { number = 0; added = a ∷ []; subtracted = [] })
 
 -- Old's `auipc rX` and `jalr rY` over rX and new's n instructions are a group. Both are at the
--- target then, and each has the address after the call in rY. rX may have anything, unless it is rY.
+-- target then, and each has the address after the call in rY. rX may have anything, unless it is
+-- rY.
 abbrev pub IsCall : Code → ℕ → Operands → Kinds → State → List ℕ → List ℕ → Type 0
 IsCall c n x k s call relocated =
     let base = rd_of (word_of call) in

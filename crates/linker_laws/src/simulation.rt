@@ -46,10 +46,10 @@ pub fn aarch64_worked()
     aarch64();
 }
 
-/// RISC-V: rewritten instructions are groups, whatever the machine's other instructions do, and code
-/// gets shorter: high parts that are shortened or deleted, with the `add` of the thread pointer, low
-/// parts over another base, whatever stands between them, calls that become jumps or stay, and loads
-/// of addresses from the GOT.
+/// RISC-V: rewritten instructions are groups, whatever the machine's other instructions do, and
+/// code gets shorter: high parts that are shortened or deleted, with the `add` of the thread
+/// pointer, low parts over another base, whatever stands between them, calls that become jumps or
+/// stay, and loads of addresses from the GOT.
 pub fn riscv64()
     ensures groups { riscv_groups.Groups }
 {
