@@ -1,101 +1,40 @@
--- RISC-V: low parts over x3 and x0 do what the object's do.
-use Rattle.std.proofs.Common.{◌≡◌, ℕ, pos, ◌+ℤ◌, ◌+◌, ◌-◌, ◌%◌, ◌^◌, ◌<◌, ◌≤◌, ◌⊎◌, Bool, true, false, true≢false, refl, sym, ◌∙◌, ap, subst, arith, List, length, drop, ℤ, Option, Some, None, if◌then◌else◌}
+-- RISC-V: low parts over x3 and x0, and what is deleted before them.
+use Rattle.std.proofs.Common.{◌≡◌, ℕ, pos, ◌+ℤ◌, ◌+◌, ◌-◌, ◌%◌, ◌^◌, ◌<◌, ◌≤◌, ◌⊎◌, Bool, true, false, true≢false, refl, sym, ◌∙◌, ap, subst, arith, List, drop, ℤ, Option, Some, None, if◌then◌else◌}
 use Rattle.std.specs.Prelude.{◌&&◌, IsTrue, unsigned_abs}
 use Rattle.std.specs.Option.{IsSomeAnd}
 use Rattle.std.specs.Int.{w32, w64, cast_signed, cast_unsigned, from_le_bytes}
 use Rattle.std.proofs.lemmas.Int.{ints, of_z-to_z}
 use Rattle.std.proofs.lemmas.Bool.{ltb-true}
-use Rattle.std.proofs.lemmas.List.{length-drop}
-use Rattle.linker_base.specs.Bits.{field, signed}
+use Rattle.linker_base.specs.Bits.{signed}
 use Rattle.linker_elf.specs.RiscV.{riscv_form}
 use Rattle.linker_elf.specs.RiscVRelocations.{pair_row}
 use Rattle.linker_elf.specs.Value.{sum_64, difference_64}
 use Rattle.linker_elf.specs.declared.elf.RelocationKind.{RelocationKind}
-use Rattle.linker_elf.specs.declared.elf.RelocationKind.TheVariants.{Absolute, RelativeRiscVLow12}
+use Rattle.linker_elf.specs.declared.elf.RelocationKind.TheVariants.{Absolute, Relative, RelativeRiscVLow12}
 use Rattle.linker_elf.specs.declared.elf.RelocationKindInfo.{RelocationKindInfo}
 use Rattle.linker_elf.specs.declared.elf.value.Operands.{Operands}
-use Rattle.linker_elf.specs.declared.riscv64.forms.RiscVInstruction.TheVariants.{IType, SType}
+use Rattle.linker_elf.specs.declared.riscv64.forms.RiscVInstruction.TheVariants.{IType, UType}
 use Rattle.linker_riscv64.specs.RiscVCalls.{word_at}
 use Rattle.linker_riscv64.specs.RiscVFields.{opcode_of, funct3_of, rd_of}
-use Rattle.linker_utils.specs.RiscVRewrites.{adds_low12, with_rs1, lo12}
+use Rattle.linker_utils.specs.RiscVRewrites.{adds_low12, lo12}
 use Rattle.linker_rewriting.specs.Facts.{address_in}
-use Rattle.linker_rewriting.specs.GlobalPointer.{address_of, base_by, base_for, base_of, based_relocation, is_low_word, is_near, relocation_over}
-use Rattle.linker_laws.specs.Machine.{AreBytes, Relocated, moved, wrapped}
-use Rattle.linker_laws.specs.RiscVMachine.{Action, Hart, register, adds, adds_word, jumps, loads, stores, loads_float, stores_float, sums, rs1_of, rs2_of, action_of, with_action, of_word, used, executed, i_type, s_type}
-use Rattle.linker_laws.specs.RiscVRewriteLaws.{AreAlike, EndSo, GoOn, StoresTheSame, differs_after, low_row, action_at}
-use Rattle.linker_laws.specs.RiscVRelocationLaws.{even, AbsoluteAddresses, RelativeAddresses}
+use Rattle.linker_rewriting.specs.GlobalPointer.{address_of, base_by, base_for, base_of, based_relocation, is_near, relocation_over}
+use Rattle.linker_laws.specs.Machine.{Relocated, moved, wrapped}
+use Rattle.linker_laws.specs.RiscVMachine.{Action, auipc, goes_to, lui, register, with_integer, adds, adds_word, jumps, loads, stores, loads_float, stores_float, rs1_of}
+use Rattle.linker_laws.specs.RiscVRewriteLaws.{low_row, word_of}
+use Rattle.linker_laws.specs.RiscVRelocationLaws.{AbsoluteAddresses, RelativeAddresses}
 use Rattle.linker_laws.specs.Schemes.{symbol_address, IsAddress}
 use Rattle.linker_laws.proofs.RiscVHighParts.{IsFormulaOf, of_address}
 use Rattle.linker_laws.proofs.Instructions.{unbiased}
-use Rattle.linker_laws.proofs.RiscVLowParts.{alike_used, is_action, some_action, low_sum, i_stands, i_kept, s_stands, s_kept, word_there}
-use Rattle.linker_laws.proofs.RiscVMachine.{at_start, fetched_word, moved_twice, steps, written}
+use Rattle.linker_laws.proofs.RiscVDescriptors.{lui_word, upper_long, upper_word}
+use Rattle.linker_laws.proofs.RiscVGroups.{absolute_rows, based_group, below_32, nothing_left, puts, row_of, word_goes}
+use Rattle.linker_laws.proofs.RiscVLowParts.{based_there, i_stands, low_sum, some_action}
+use Rattle.linker_laws.proofs.RiscVMachine.{moved_twice, written}
+use Rattle.linker_laws.specs.RiscVGroups.{Has, machine, seen}
 use Rattle.linker_laws.proofs.Sums.{sum_below}
-use Rattle.linker_laws.proofs.Words.{word_below}
-use Rattle.linker_final.specs.RiscVNear.{FromBase, LowPartsFromBase, ValuesAreDistances, AuipcLeaves, LuiLeaves, after_base, distance, labelled_row, upper_of}
+use Rattle.linker_final.specs.RiscVNear.{AuipcGoes, FromBase, LowPartsFromBase, LuiGoes, PartsFromBase, ValuesAreDistances, after_base, distance, labelled_row}
 
--- ---- the instruction of a low part once its relocation is applied
-
-module _ (kind : RelocationKind) (number : Operands → ℕ) (of : IsFormulaOf kind number) where
-  i_decoded : (a : Action) → ((w : ℕ) → with_action w (Some a) ≡ i_type a w) → (x : Operands)
-      (before code : List ℕ) → Relocated (Some (pair_row kind 32 IType)) x before code
-      → action_of (opcode_of (from_le_bytes w32 before)) (funct3_of (from_le_bytes w32 before)) ≡ Some a
-      → of_word (from_le_bytes w32 code)
-      ≡ Some (sums a (rd_of (from_le_bytes w32 before)) (rs1_of (from_le_bytes w32 before)) 0
-      (signed 12 (number x % 2 ^ 32 % 4096)))
-  i_decoded a form x before code is action =
-      let word = from_le_bytes w32 before in
-      let w = from_le_bytes w32 code in
-      let kept = i_kept kind x (number x) before code is.applied (of.1 x) (of.0 IType x) in
-      let opcode : field w 0 7 ≡ field word 0 7 = kept 0 7 refl in
-      let function : field w 12 15 ≡ field word 12 15 = kept 12 3 refl in
-      let rd : field w 7 12 ≡ field word 7 12 = kept 7 5 refl in
-      let rs1 : field w 15 20 ≡ field word 15 20 = kept 15 5 refl in
-      is_action w a (ap (λ n. action_of n (funct3_of w)) opcode
-      ∙ (ap (action_of (opcode_of word)) function ∙ action))
-      ∙ (form w
-      ∙ (ap (λ v. Some (sums a v (rs1_of w) 0 ((riscv_form IType).machine w))) rd
-      ∙ (ap (λ v. Some (sums a (rd_of word) v 0 ((riscv_form IType).machine w))) rs1
-      ∙ ap (λ v. Some (sums a (rd_of word) (rs1_of word) 0 (signed 12 v)))
-      (i_stands kind x (number x) before code is.applied (of.1 x) (of.0 IType x)))))
-
-  s_decoded : (a : Action) → ((w : ℕ) → with_action w (Some a) ≡ s_type a w) → (x : Operands)
-      (before code : List ℕ) → Relocated (Some (pair_row kind 32 SType)) x before code
-      → action_of (opcode_of (from_le_bytes w32 before)) (funct3_of (from_le_bytes w32 before)) ≡ Some a
-      → of_word (from_le_bytes w32 code)
-      ≡ Some (sums a 0 (rs1_of (from_le_bytes w32 before)) (rs2_of (from_le_bytes w32 before))
-      (signed 12 (number x % 2 ^ 32 % 4096)))
-  s_decoded a form x before code is action =
-      let word = from_le_bytes w32 before in
-      let w = from_le_bytes w32 code in
-      let kept = s_kept kind x (number x) before code is.applied (of.1 x) (of.0 SType x) in
-      let opcode : field w 0 7 ≡ field word 0 7 = kept 0 7 refl in
-      let function : field w 12 15 ≡ field word 12 15 = kept 12 3 refl in
-      let rs1 : field w 15 20 ≡ field word 15 20 = kept 15 5 refl in
-      let rs2 : field w 20 25 ≡ field word 20 25 = kept 20 5 refl in
-      is_action w a (ap (λ n. action_of n (funct3_of w)) opcode
-      ∙ (ap (action_of (opcode_of word)) function ∙ action))
-      ∙ (form w
-      ∙ (ap (λ v. Some (sums a 0 v (rs2_of w) ((riscv_form SType).machine w))) rs1
-      ∙ (ap (λ v. Some (sums a 0 (rs1_of word) v ((riscv_form SType).machine w))) rs2
-      ∙ ap (λ v. Some (sums a 0 (rs1_of word) (rs2_of word) (signed 12 v)))
-      (s_stands kind x (number x) before code is.applied (of.1 x) (of.0 SType x)))))
-
-  -- the low bits of an applied word are those of one of 32 bits
-  i_long : (x : Operands) (before code : List ℕ)
-      → Relocated (Some (pair_row kind 32 IType)) x before code
-      → opcode_of (from_le_bytes w32 before) % 4 ≡ 3 → field (from_le_bytes w32 code) 0 2 ≡ 3
-  i_long x before code is long =
-      let same : field (from_le_bytes w32 code) 0 7 ≡ field (from_le_bytes w32 before) 0 7 =
-      i_kept kind x (number x) before code is.applied (of.1 x) (of.0 IType x) 0 7 refl in
-      omega (arith, same, long)
-
-  s_long : (x : Operands) (before code : List ℕ)
-      → Relocated (Some (pair_row kind 32 SType)) x before code
-      → opcode_of (from_le_bytes w32 before) % 4 ≡ 3 → field (from_le_bytes w32 code) 0 2 ≡ 3
-  s_long x before code is long =
-      let same : field (from_le_bytes w32 code) 0 7 ≡ field (from_le_bytes w32 before) 0 7 =
-      s_kept kind x (number x) before code is.applied (of.1 x) (of.0 SType x) 0 7 refl in
-      omega (arith, same, long)
+-- ---- low parts
 
 of_distance : IsFormulaOf RelativeRiscVLow12 distance
 of_distance = (
@@ -103,35 +42,6 @@ of_distance = (
       (unbiased (symbol_address x) (sum_below x.symbol _)),
   λ x. omega arith,
 )
-
--- ---- the word with another base
-
-module _ (w b : ℕ) where
-  clear_0 : field (with_rs1 b w) 0 7 ≡ field w 0 7
-  clear_0 = omega arith
-
-  clear_7 : field (with_rs1 b w) 7 12 ≡ field w 7 12
-  clear_7 = omega arith
-
-  clear_12 : field (with_rs1 b w) 12 15 ≡ field w 12 15
-  clear_12 = omega arith
-
-  clear_15 : b < 32 → field (with_rs1 b w) 15 20 ≡ b
-  clear_15 small = omega arith
-
-  clear_20 : b < 32 → field (with_rs1 b w) 20 25 ≡ field w 20 25
-  clear_20 small = omega arith
-
-based_there : (section : List ℕ) (o b : ℕ) → b < 32 → o + 4 ≤ length section
-    → AreBytes (drop o section)
-    → from_le_bytes w32 (drop o (after_base b section o)) ≡ with_rs1 b (word_at section o)
-based_there section o b small inside bytes =
-    let word = word_at section o in
-    let below : word < 2 ^ 32 = word_below (drop o section) bytes
-    (omega (arith, length-drop o section)) in
-    word_there section o (with_rs1 b) inside (omega arith)
-
--- ---- sums
 
 -- 12 bits hold what is near
 near_number : (b s : ℕ) → is_near b s ≡ true
@@ -187,197 +97,44 @@ based_sum gp x y base v is value there =
     ∙ (ap (λ b. sum_64 b n) there ∙ (ap (sum_64 (base.1)) value
     ∙ back (base.1) (symbol_address x) is.below (sum_below x.symbol _)))
 
--- ---- both instructions
-
-both_end : (a : Action) (differs : ℕ → Bool) (rd rs1 b rs2 : ℕ) (i i' : ℤ) (sum : ℕ)
-    (code code' : List ℕ) → 4 ≤ length code → 4 ≤ length code'
-    → field (from_le_bytes w32 code) 0 2 ≡ 3 → field (from_le_bytes w32 code') 0 2 ≡ 3
-    → of_word (from_le_bytes w32 code) ≡ Some (sums a rd rs1 rs2 i)
-    → of_word (from_le_bytes w32 code') ≡ Some (sums a rd b rs2 i')
-    → (h k : Hart) → h.pc < 2 ^ 64 → k.pc < 2 ^ 64 → AreAlike differs h k
-    → moved (register h rs1) i ≡ sum → moved (register k b) i' ≡ sum → StoresTheSame a rs2 h k
-    → EndSo 1 code h 1 code' k (λ e e'. AreAlike (differs_after a differs rd) e e'
-    × GoOn a rd (sum - sum % 2) (sum_64 h.pc 4) (sum_64 k.pc 4) e e')
-both_end a differs rd rs1 b rs2 i i' sum code code' long long' low low' is is' h k small small' alike first second apart =
-    let instruction = sums a rd rs1 rs2 i in
-    let instruction' = sums a rd b rs2 i' in
-    record {
-      end = executed 4 instruction h;
-      new_end = executed 4 instruction' k;
-      runs = (
-        executed 4 instruction h,
-        steps code h.pc 0 4 instruction h (at_start h.pc small)
-            (fetched_word code instruction low long is),
-        refl,
-      );
-      new_runs = (
-        executed 4 instruction' k,
-        steps code' k.pc 0 4 instruction' k (at_start k.pc small')
-            (fetched_word code' instruction' low' long' is'),
-        refl,
-      );
-      so = subst (λ v. AreAlike (differs_after a differs rd) (used 4 a rd rs2 v h)
-          (used 4 a rd rs2 (moved (register k b) i') k)
-          × GoOn a rd (sum - sum % 2) (sum_64 h.pc 4) (sum_64 k.pc 4) (used 4 a rd rs2 v h)
-          (used 4 a rd rs2 (moved (register k b) i') k)) (sym first)
-          (subst (λ v. AreAlike (differs_after a differs rd) (used 4 a rd rs2 sum h)
-          (used 4 a rd rs2 v k)
-          × GoOn a rd (sum - sum % 2) (sum_64 h.pc 4) (sum_64 k.pc 4) (used 4 a rd rs2 sum h)
-          (used 4 a rd rs2 v k)) (sym second) (alike_used a differs rd rs2 sum h k apart alike));
-    }
-
-module _ (kind : RelocationKind) (number : Operands → ℕ) (of : IsFormulaOf kind number)
-    (row : Action → Option RelocationKindInfo)
-    (a : Action) (section : List ℕ) (o gp : ℕ) (gp_small : gp < 2 ^ 64)
-    (inside : o + 4 ≤ length section)
-    (is : action_of (opcode_of (word_at section o)) (funct3_of (word_at section o)) ≡ Some a)
-    (long : opcode_of (word_at section o) % 4 ≡ 3) where
-  -- the instruction over another base has the same action
-  based_action : (b : ℕ) → (bytes : AreBytes (drop o section)) → b < 32
-      → action_of (opcode_of (from_le_bytes w32 (drop o (after_base b section o))))
-      (funct3_of (from_le_bytes w32 (drop o (after_base b section o)))) ≡ Some a
-  based_action b bytes small =
-      let word = word_at section o in
-      let there = based_there section o b small inside bytes in
-      ap (λ w. action_of (opcode_of w) (funct3_of w)) there
-      ∙ (ap (λ n. action_of n (funct3_of (with_rs1 b word))) (clear_0 word b)
-      ∙ (ap (action_of (opcode_of word)) (clear_12 word b) ∙ is))
-
-  based_long : (b : ℕ) → AreBytes (drop o section) → b < 32
-      → opcode_of (from_le_bytes w32 (drop o (after_base b section o))) % 4 ≡ 3
-  based_long b bytes small =
-      ap (λ w. opcode_of w % 4) (based_there section o b small inside bytes)
-      ∙ (ap (λ n. n % 4) (clear_0 (word_at section o) b) ∙ long)
-
-  pub i_law : ((w : ℕ) → with_action w (Some a) ≡ i_type a w)
-      → row a ≡ Some (pair_row kind 32 IType) → low_row a ≡ Some (pair_row Absolute 32 IType)
-      → ((h k : Hart) → StoresTheSame a (rs2_of (word_at section o)) h k → StoresTheSame a 0 h k)
-      → FromBase row number section o gp a
-  i_law form old_row new_row apart_is x y base based value original new old_code new_code h k differs small small' alike high there apart =
-      let word = word_at section o in
-      let b = base.0 in
-      let base_is = is_base gp (symbol_address x) base gp_small based in
-      let bytes = old_code.old_bytes in
-      let old_i = subst (λ r. Relocated r x (drop o section) original) old_row old_code in
-      let new_i = subst (λ r. Relocated r y (drop o (after_base b section o)) new) new_row new_code in
-      let words = based_there section o b base_is.small inside bytes in
-      let long_before : 4 ≤ length (drop o section) = omega (arith, length-drop o section) in
-      let old_len = old_code.len in
-      let new_long : 4 ≤ length (drop o (after_base b section o)) = new_i.applied.accepted.long in
-      let new_len = new_code.len in
-      both_end a differs (rd_of word) (rs1_of word) b 0 _ _ (symbol_address x) original new
-      (omega (arith, long_before, old_len)) (omega (arith, new_long, new_len))
-      (i_long kind number of x (drop o section) original old_i long)
-      (i_long Absolute symbol_address of_address y (drop o (after_base b section o)) new new_i (based_long b bytes base_is.small))
-      (i_decoded kind number of a form x (drop o section) original old_i is)
-      (i_decoded Absolute symbol_address of_address a form y (drop o (after_base b section o)) new new_i (based_action b bytes base_is.small)
-      ∙ (ap (λ v. Some (sums a (rd_of v) (rs1_of v) 0 (signed 12 (symbol_address y % 2 ^ 32 % 4096)))) words
-      ∙ (ap (λ v. Some (sums a v (rs1_of (with_rs1 b word)) 0 (signed 12 (symbol_address y % 2 ^ 32 % 4096)))) (clear_7 word b)
-      ∙ ap (λ v. Some (sums a (rd_of word) v 0 (signed 12 (symbol_address y % 2 ^ 32 % 4096)))) (clear_15 word b base_is.small))))
-      h k small small' alike
-      (ap (λ v. moved (register h (rs1_of word)) (signed 12 v)) (same_low (number x)) ∙ high)
-      (based_sum gp x y base (register k b) base_is value there)
-      (apart_is h k apart)
-
-  pub s_law : ((w : ℕ) → with_action w (Some a) ≡ s_type a w)
-      → row a ≡ Some (pair_row kind 32 SType) → low_row a ≡ Some (pair_row Absolute 32 SType)
-      → ((rd : ℕ) (differs : ℕ → Bool) → differs_after a differs rd ≡ differs_after a differs 0)
-      → ((rd target at new_at : ℕ) (e e' : Hart) → GoOn a 0 target at new_at e e' → GoOn a rd target at new_at e e')
-      → FromBase row number section o gp a
-  s_law form old_row new_row differs_is on_is x y base based value original new old_code new_code h k differs small small' alike high there apart =
-      let word = word_at section o in
-      let b = base.0 in
-      let base_is = is_base gp (symbol_address x) base gp_small based in
-      let bytes = old_code.old_bytes in
-      let old_s = subst (λ r. Relocated r x (drop o section) original) old_row old_code in
-      let new_s = subst (λ r. Relocated r y (drop o (after_base b section o)) new) new_row new_code in
-      let words = based_there section o b base_is.small inside bytes in
-      let long_before : 4 ≤ length (drop o section) = omega (arith, length-drop o section) in
-      let old_len = old_code.len in
-      let new_long : 4 ≤ length (drop o (after_base b section o)) = new_s.applied.accepted.long in
-      let new_len = new_code.len in
-      let ended = both_end a differs 0 (rs1_of word) b (rs2_of word) _ _ (symbol_address x) original new
-      (omega (arith, long_before, old_len)) (omega (arith, new_long, new_len))
-      (s_long kind number of x (drop o section) original old_s long)
-      (s_long Absolute symbol_address of_address y (drop o (after_base b section o)) new new_s (based_long b bytes base_is.small))
-      (s_decoded kind number of a form x (drop o section) original old_s is)
-      (s_decoded Absolute symbol_address of_address a form y (drop o (after_base b section o)) new new_s (based_action b bytes base_is.small)
-      ∙ (ap (λ v. Some (sums a 0 (rs1_of v) (rs2_of v) (signed 12 (symbol_address y % 2 ^ 32 % 4096)))) words
-      ∙ (ap (λ v. Some (sums a 0 v (rs2_of (with_rs1 b word)) (signed 12 (symbol_address y % 2 ^ 32 % 4096)))) (clear_15 word b base_is.small)
-      ∙ ap (λ v. Some (sums a 0 b v (signed 12 (symbol_address y % 2 ^ 32 % 4096)))) (clear_20 word b base_is.small))))
-      h k small small' alike
-      (ap (λ v. moved (register h (rs1_of word)) (signed 12 v)) (same_low (number x)) ∙ high)
-      (based_sum gp x y base (register k b) base_is value there) apart in
-      record {
-        end = ended.end;
-        new_end = ended.new_end;
-        runs = ended.runs;
-        new_runs = ended.new_runs;
-        so = (
-          subst (λ d. AreAlike d ended.end ended.new_end) (sym (differs_is (rd_of word) differs)) (ended.so.0),
-          on_is (rd_of word) (even symbol_address x) (sum_64 h.pc 4) (sum_64 k.pc 4) ended.end ended.new_end (ended.so.1),
-        );
-      }
-
-module _ (section : List ℕ) (o gp : ℕ) (small : gp < 2 ^ 64) (inside : o + 4 ≤ length section) where
-  absolute_law : (a : Action)
-      → action_of (opcode_of (word_at section o)) (funct3_of (word_at section o)) ≡ Some a
-      → opcode_of (word_at section o) % 4 ≡ 3 → FromBase low_row symbol_address section o gp a
-  absolute_law adds is long =
-      i_law Absolute symbol_address of_address low_row adds section o gp small inside is long (λ w. refl) refl refl (λ h k same. same)
-  absolute_law adds_word is long =
-      i_law Absolute symbol_address of_address low_row adds_word section o gp small inside is long (λ w. refl) refl refl (λ h k same. same)
-  absolute_law jumps is long =
-      i_law Absolute symbol_address of_address low_row jumps section o gp small inside is long (λ w. refl) refl refl (λ h k same. same)
-  absolute_law (loads f) is long =
-      i_law Absolute symbol_address of_address low_row (loads f) section o gp small inside is long (λ w. refl) refl refl (λ h k same. same)
-  absolute_law (loads_float f) is long =
-      i_law Absolute symbol_address of_address low_row (loads_float f) section o gp small inside is long (λ w. refl) refl refl (λ h k same. same)
-  absolute_law (stores f) is long =
-      s_law Absolute symbol_address of_address low_row (stores f) section o gp small inside is long (λ w. refl) refl refl (λ rd differs. refl) (λ rd target at new_at e e' on. on)
-  absolute_law (stores_float f) is long =
-      s_law Absolute symbol_address of_address low_row (stores_float f) section o gp small inside is long (λ w. refl) refl refl (λ rd differs. refl) (λ rd target at new_at e e' on. on)
-
-  labelled_law : (a : Action)
-      → action_of (opcode_of (word_at section o)) (funct3_of (word_at section o)) ≡ Some a
-      → opcode_of (word_at section o) % 4 ≡ 3 → FromBase labelled_row distance section o gp a
-  labelled_law adds is long =
-      i_law RelativeRiscVLow12 distance of_distance labelled_row adds section o gp small inside is long (λ w. refl) refl refl (λ h k same. same)
-  labelled_law adds_word is long =
-      i_law RelativeRiscVLow12 distance of_distance labelled_row adds_word section o gp small inside is long (λ w. refl) refl refl (λ h k same. same)
-  labelled_law jumps is long =
-      i_law RelativeRiscVLow12 distance of_distance labelled_row jumps section o gp small inside is long (λ w. refl) refl refl (λ h k same. same)
-  labelled_law (loads f) is long =
-      i_law RelativeRiscVLow12 distance of_distance labelled_row (loads f) section o gp small inside is long (λ w. refl) refl refl (λ h k same. same)
-  labelled_law (loads_float f) is long =
-      i_law RelativeRiscVLow12 distance of_distance labelled_row (loads_float f) section o gp small inside is long (λ w. refl) refl refl (λ h k same. same)
-  labelled_law (stores f) is long =
-      s_law RelativeRiscVLow12 distance of_distance labelled_row (stores f) section o gp small inside is long (λ w. refl) refl refl (λ rd differs. refl) (λ rd target at new_at e e' on. on)
-  labelled_law (stores_float f) is long =
-      s_law RelativeRiscVLow12 distance of_distance labelled_row (stores_float f) section o gp small inside is long (λ w. refl) refl refl (λ rd differs. refl) (λ rd target at new_at e e' on. on)
+labelled_rows : (a : Action) → labelled_row a ≡ row_of RelativeRiscVLow12 a
+labelled_rows adds = refl
+labelled_rows adds_word = refl
+labelled_rows jumps = refl
+labelled_rows (loads f) = refl
+labelled_rows (stores f) = refl
+labelled_rows (loads_float f) = refl
+labelled_rows (stores_float f) = refl
 
 first_of_and : (a b : Bool) → (a && b) ≡ true → IsTrue a
 first_of_and true b is = refl
 first_of_and false b is = absurd (true≢false (sym is))
 
-parts : (row : Action → Option RelocationKindInfo) (number : Operands → ℕ) (section : List ℕ)
-    (o gp : ℕ) → is_low_word (word_at section o) ≡ true
-    → ((a : Action)
-    → action_of (opcode_of (word_at section o)) (funct3_of (word_at section o)) ≡ Some a
-    → opcode_of (word_at section o) % 4 ≡ 3 → FromBase row number section o gp a)
-    → IsSomeAnd (action_at section o) (FromBase row number section o gp)
-parts row number section o gp is each =
+parts : (kind : RelocationKind) (number : Operands → ℕ) → IsFormulaOf kind number
+    → (row : Action → Option RelocationKindInfo) → ((a : Action) → row a ≡ row_of kind a)
+    → PartsFromBase row number
+parts kind number of row rows section o gp small inside is =
     let word = word_at section o in
-    let has = some_action (opcode_of word) (funct3_of word) (first_of_and (adds_low12 (opcode_of word) (funct3_of word)) _ is) in
-    subst (λ r. IsSomeAnd r (FromBase row number section o gp)) (sym (has.1))
-    (each (has.0) (has.1) (has.2))
+    let some = some_action (opcode_of word) (funct3_of word)
+    (first_of_and (adds_low12 (opcode_of word) (funct3_of word)) _ is) in
+    let a = some.0 in
+    let low = drop o section in
+    subst (λ r. IsSomeAnd r (FromBase row number section o gp)) (sym some.1)
+    (λ c x y base k k' s based value at high there old new keeps.
+    let made = drop o (after_base base.0 section o) in
+    let base_is = is_base gp (symbol_address x) base small based in
+    let old' = subst (λ r. Has 4 c.old s.pc r x low) (rows a) old in
+    let new' = subst (λ r. Has 4 c.new y.place r y made) (absolute_rows a) new in
+    based_group kind Absolute number symbol_address of of_address base.0 base_is.small low made
+    (based_there section o base.0 base_is.small inside old'.applied.old_bytes) some.2 a some.1 c x y k k' s
+    (symbol_address x) at old' new'
+    (ap (λ v. moved (register (seen s) (rs1_of word)) (signed 12 v)) (same_low (number x)) ∙ high)
+    (λ t agree. based_sum gp x y base (register (seen t) base.0) base_is value (there t agree)) keeps)
 
 pub low_parts : LowPartsFromBase
 low_parts = (
-  λ section o gp small inside is. parts low_row symbol_address section o gp is
-      (absolute_law section o gp small inside),
-  λ section o gp small inside is. parts labelled_row distance section o gp is
-      (labelled_law section o gp small inside),
+  parts Absolute symbol_address of_address low_row absolute_rows,
+  parts RelativeRiscVLow12 distance of_distance labelled_row labelled_rows,
 )
 
 -- ---- values
@@ -422,22 +179,46 @@ holds_low kind number of x before code is =
     ap (signed 12) (i_stands kind x (number x) before code is.applied (of.1 x) (of.0 IType x)
     ∙ same_low (number x))
 
-pub lui_leaves : AbsoluteAddresses → LuiLeaves
-lui_leaves laws x addresses before high before_low low is is_low h rd some =
-    let u = upper_of high in
-    let l = (riscv_form IType).machine (from_le_bytes w32 low) in
+pub lui_goes : AbsoluteAddresses → LuiGoes
+lui_goes laws c x k s bytes before_low low addresses d is some has is_low =
+    let rd = rd_of (word_of bytes) in
+    let a = has.applied.applied in
+    let u = (riscv_form UType).machine (word_of has.relocated) in
+    let l = (riscv_form IType).machine (word_of low) in
+    let small = d.small in
+    let next : sum_64 s.pc 4 ≡ s.pc + 4 = omega (arith, small) in
     let sum : moved (moved 0 u) l ≡ symbol_address x =
-    with_low 0 (symbol_address x) u l
-    (laws.0.0 x addresses 0 before high is.applied tt 0 before_low low is_low.applied tt) in
-    ap (λ v. moved v (lo12 (symbol_address x))) (written rd (wrapped u) h some ∙ from_zero u)
-    ∙ (ap (moved (moved 0 u)) (sym (holds_low Absolute symbol_address of_address x before_low low is_low)) ∙ sum)
+    with_low 0 (symbol_address x) u l (laws.0.0 x addresses 0 bytes has.relocated a tt 0 before_low low is_low.applied tt) in
+    record {
+      group = nothing_left c k s rd (wrapped u) d
+          (puts (machine c.others c.old) s 4 (lui rd u) rd (wrapped u) (s.pc + 4) (below_32 (word_of bytes))
+          (word_goes c.others c.old s s.pc has.relocated (lui rd u) refl has.stands
+          (upper_long Absolute x bytes has.relocated a 0x37 refl is)
+          (lui_word Absolute x bytes has.relocated a rd is refl))
+          (ap (λ n. goes_to n (with_integer rd (wrapped u) (seen s))) next));
+      leaves =
+          ap (λ v. moved v (lo12 (symbol_address x))) (written rd (wrapped u) (seen s) some ∙ from_zero u)
+          ∙ (ap (moved (moved 0 u)) (sym (holds_low Absolute symbol_address of_address x before_low low is_low)) ∙ sum);
+    }
 
-pub auipc_leaves : RelativeAddresses → AuipcLeaves
-auipc_leaves laws x addresses before high before_low low is is_low h rd some at =
-    let u = upper_of high in
-    let l = (riscv_form IType).machine (from_le_bytes w32 low) in
+pub auipc_goes : RelativeAddresses → AuipcGoes
+auipc_goes laws c x k s bytes before_low low addresses at d is some has is_low =
+    let rd = rd_of (word_of bytes) in
+    let a = has.applied.applied in
+    let u = (riscv_form UType).machine (word_of has.relocated) in
+    let l = (riscv_form IType).machine (word_of low) in
+    let small = d.small in
+    let next : sum_64 s.pc 4 ≡ s.pc + 4 = omega (arith, small) in
     let sum : moved (moved x.place u) l ≡ symbol_address x =
-    with_low x.place (symbol_address x) u l
-    (laws.0 x addresses 0 before high is.applied tt 0 before_low low is_low.applied tt) in
-    ap (λ v. moved v (lo12 (distance x))) (written rd (moved h.pc u) h some ∙ ap (λ p. moved p u) at)
-    ∙ (ap (moved (moved x.place u)) (sym (holds_low RelativeRiscVLow12 distance of_distance x before_low low is_low)) ∙ sum)
+    with_low x.place (symbol_address x) u l (laws.0 x addresses 0 bytes has.relocated a tt 0 before_low low is_low.applied tt) in
+    record {
+      group = nothing_left c k s rd (moved s.pc u) d
+          (puts (machine c.others c.old) s 4 (auipc rd u) rd (moved s.pc u) (s.pc + 4) (below_32 (word_of bytes))
+          (word_goes c.others c.old s s.pc has.relocated (auipc rd u) refl has.stands
+          (upper_long Relative x bytes has.relocated a 0x17 refl is)
+          (upper_word Relative x bytes has.relocated a rd is refl))
+          (ap (λ n. goes_to n (with_integer rd (moved s.pc u) (seen s))) next));
+      leaves =
+          ap (λ v. moved v (lo12 (distance x))) (written rd (moved s.pc u) (seen s) some ∙ ap (λ p. moved p u) at)
+          ∙ (ap (moved (moved x.place u)) (sym (holds_low RelativeRiscVLow12 distance of_distance x before_low low is_low)) ∙ sum);
+    }

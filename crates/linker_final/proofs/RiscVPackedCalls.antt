@@ -1,31 +1,26 @@
 -- RISC-V: where calls go in the final bytes of a packed section.
-use Rattle.std.proofs.Common.{◌≡◌, ◌≢◌, ℕ, ◌+◌, ◌-◌, ◌%◌, ◌^◌, ◌<◌, ◌≤◌, inl, inr, false, List, length, take, drop, refl, sym, ap, subst, ◌∙◌, arith, Option, Some, None, Ok, pos, IsSomeAnd}
-use Rattle.std.proofs.lemmas.Bool.{or_parts}
-use Rattle.std.proofs.lemmas.List.{drop-drop, drop-take, take-take}
+use Rattle.std.proofs.Common.{◌≡◌, ◌≢◌, ℕ, ◌+◌, ◌-◌, ◌%◌, ◌^◌, ◌<◌, ◌≤◌, inl, inr, List, length, take, drop, refl, sym, ap, subst, ◌∙◌, arith, Option, Some, None, Ok, IsSomeAnd}
+use Rattle.std.proofs.lemmas.List.{drop-drop, drop-take, take-take, take_all}
 use Rattle.std.proofs.lemmas.List.Elements.{All-drop, All-take}
-use Rattle.std.specs.Int.{w16, w32, from_le_bytes}
-use Rattle.std.specs.Prelude.{◌==◌, ◌&&◌, not, if◌then◌else◌, ⊤, ℤ}
-use Rattle.linker_base.specs.Bits.{field}
+use Rattle.std.specs.Int.{w32, from_le_bytes}
+use Rattle.std.specs.Prelude.{⊤, ℤ}
+use Rattle.linker_elf.specs.RiscVRelocations.{riscv_relocation}
 use Rattle.linker_elf.specs.Applied.{IsApplied}
-use Rattle.linker_elf.specs.RiscV.{riscv_form}
-use Rattle.linker_elf.specs.RiscVRelocations.{riscv_relocation, riscv_row}
-use Rattle.linker_elf.specs.Value.{sum_64, value_of}
+use Rattle.linker_elf.specs.Value.{value_of}
 use Rattle.linker_elf.specs.declared.elf.value.Operands.{Operands}
-use Rattle.linker_elf.specs.declared.riscv64.forms.RiscVInstruction.TheVariants.{JType, CjType, CluiType}
 use Rattle.linker_elf.specs.declared.riscv64.relocations.RiscVRelocation.{RiscVRelocation}
+use Rattle.linker_elf.specs.declared.riscv64.relocations.RiscVRelocation.TheVariants as names
 use Rattle.linker_final.proofs.PackedBytes.{stay_inside, places_inside}
 use Rattle.linker_final.proofs.PackedInstructions.{instructions}
 use Rattle.linker_final.proofs.PackedSites.{site_becomes, site_inside, site_length, site_small}
 use Rattle.linker_final.proofs.PutBack.{window_length}
 use Rattle.linker_final.specs.Final.{AreBytes}
-use Rattle.linker_final.specs.Packed.{architecture_of, place_of, site_after, site_bytes, site_len, site_offset, site_place, site_target}
-use Rattle.linker_final.specs.RiscVPacked.{call_row, IsOfCall, HaveCalled, SitesCallTheSame, LongCallsStay, instructions_in, landing}
-use Rattle.linker_laws.proofs.RiscVJumps.{called, pair_runs, pair_target, pair_keeps, pair_links, pair_floats, pair_memory, same_register, same_link}
-use Rattle.linker_laws.proofs.RiscVMachine.{address_is, at_start, is_long, fetched_half, fetched_word, steps, is_jal, other, written, unwritten}
-use Rattle.linker_laws.specs.Machine.{moved}
-use Rattle.linker_laws.specs.RiscVMachine.{Hart, Instruction, Runs, adds, cli_immediate, executed, jal, of_clui, of_half, register, sums}
+use Rattle.linker_final.specs.Packed.{architecture_of, place_of, site_bytes, site_len, site_offset, site_place, site_target}
+use Rattle.linker_final.specs.RiscVPacked.{CallIsAlike, IsOfCall, LongCallsStay, SitesCallTheSame, call_row, instructions_in, landing}
+use Rattle.linker_laws.proofs.RiscVGroups.{cj_goes, jal_goes, jump_group}
+use Rattle.linker_laws.proofs.RiscVMachine.{address_is}
+use Rattle.linker_laws.specs.RiscVGroups.{CallStays, Groups}
 use Rattle.linker_laws.specs.RiscVRelocationLaws.{even}
-use Rattle.linker_laws.specs.RiscVRewriteLaws.{AreAlike, EndSo, no_register}
 use Rattle.linker_laws.specs.Schemes.{AreAddresses, plt_address}
 use Rattle.linker_riscv64.proofs.Jumps.{word_of_front}
 use Rattle.linker_riscv64.specs.RiscVCalls.{IsCallPair, word_at}
@@ -33,7 +28,7 @@ use Rattle.linker_riscv64.specs.RiscVFields.{rd_of}
 use Rattle.linker_runs.specs.Origins.{HasItsInstructions}
 use Rattle.linker_runs.specs.Packing.{SiteBecomes}
 use Rattle.linker_runs.specs.RiscVItems.{IsCallAt}
-use Rattle.linker_runs.specs.RiscVSites.{IsCj, IsJal, RiscVBecomes}
+use Rattle.linker_runs.specs.RiscVSites.{RiscVBecomes}
 use Rattle.linker_runs.specs.RiscVSites.RiscVBecomes.{short_jump, jump, call}
 use Rattle.linker_runs.specs.Sites.{operands_of}
 use Rattle.linker_runs.specs.declared.relaxation.Item.TheVariants.{Site}
@@ -43,155 +38,13 @@ use Rattle.linker_section.specs.Values as values
 use Rattle.linker_elf.specs.Architectures.{IsRow}
 use Rattle.linker_elf.specs.declared.elf.architecture.Architecture.TheVariants.{RiscV}
 
--- ---- one run
+-- both relocations of calls have one row
+of_either : (P : RiscVRelocation → Type 0) (name : RiscVRelocation) → IsOfCall name
+    → P names.R_RISCV_CALL → P names.R_RISCV_CALL_PLT → P name
+of_either P name (inl e) first second = subst P (sym e) first
+of_either P name (inr e) first second = subst P (sym e) second
 
--- A hart runs n instructions of code that begins at its pc, and has called what is at the target.
-record Goes (n : ℕ) (code : List ℕ) (base link target back : ℕ) (h : Hart) : Type 0 where
-  end : Hart
-  runs : Runs n code h.pc h end
-  keeps : (q : ℕ) → (q == base) ≡ false → (q == link) ≡ false → register end q ≡ register h q
-  floats : (q : ℕ) → end.floats q ≡ h.floats q
-  memory : (q : ℕ) → end.memory q ≡ h.memory q
-  at_target : end.pc ≡ target
-  links : link ≢ 0 → register end link ≡ back
-
-both : (n m : ℕ) (old new : List ℕ) (base link target back new_target new_back : ℕ) (h k : Hart)
-    → AreAlike no_register h k → Goes n old base link target back h
-    → Goes m new base link new_target new_back k
-    → EndSo n old h m new k (HaveCalled base link target back new_target new_back)
-both n m old new base link target back new_target new_back h k alike one other =
-    record {
-      end = one.end;
-      new_end = other.end;
-      runs = one.runs;
-      new_runs = other.runs;
-      so = record {
-        alike = record {
-          integers = λ q e.
-              let parts = or_parts (q == base) (q == link) e in
-              one.keeps q parts.0 parts.1 ∙ alike.integers q refl ∙ sym (other.keeps q parts.0 parts.1);
-          floats = λ q. one.floats q ∙ alike.floats q ∙ sym (other.floats q);
-          memory = λ q. one.memory q ∙ alike.memory q ∙ sym (other.memory q);
-        };
-        at_target = one.at_target;
-        at_new_target = other.at_target;
-        links = one.links;
-        new_links = other.links;
-      };
-    }
-
--- ---- `auipc` and `jalr`
-
-far : (x : Operands) (before code : List ℕ) → IsApplied call_row x before code
-    → AreBytes before → AreBytes code → length code ≡ length before
-    → IsCallPair (from_le_bytes w32 before) (from_le_bytes w32 (drop 4 before))
-    → rd_of (from_le_bytes w32 before) ≢ 0 → AreAddresses x → (h : Hart) → h.pc ≡ x.place
-    → Goes 2 code (rd_of (from_le_bytes w32 before)) (rd_of (from_le_bytes w32 (drop 4 before)))
-    (even plt_address x) (sum_64 x.place 8) h
-far x before code a old new len pair some small h at =
-    let below : h.pc < 2 ^ 64 = subst (λ p. p < 2 ^ 64) (sym at) small.place in
-    let low = same_register x before code a old new len pair in
-    let high = same_link x before code a old new len pair in
-    record {
-      end = called x before code a old new len pair h;
-      runs = pair_runs x before code a old new len pair h below;
-      keeps = λ q e f.
-          pair_keeps x before code a old new len pair h q (ap (λ n. q == n) low ∙ e)
-          (ap (λ n. q == n) high ∙ f);
-      floats = λ q. ap (λ f. f q) (pair_floats x before code a old new len pair h);
-      memory = λ q. ap (λ f. f q) (pair_memory x before code a old new len pair h);
-      at_target = pair_target x before code a old new len pair small h at (λ none. some (sym low ∙ none));
-      links = λ linked.
-          ap (register (called x before code a old new len pair h)) (sym high)
-          ∙ pair_links x before code a old new len pair h (λ none. linked (sym high ∙ none))
-          ∙ ap (λ p. sum_64 p 8) at;
-    }
-
--- ---- `jal`
-
-near : (code : List ℕ) (base link place target : ℕ) → length code ≡ 4 → place < 2 ^ 64
-    → IsJal (from_le_bytes w32 code) link place target → (k : Hart) → k.pc ≡ place
-    → Goes 1 code base link target (sum_64 place 4) k
-near code base link place target len small is k at =
-    let word = from_le_bytes w32 code in
-    let j = (riscv_form JType).machine word in
-    let i = jal (rd_of word) j in
-    let below : k.pc < 2 ^ 64 = subst (λ p. p < 2 ^ 64) (sym at) small in
-    let link_is : rd_of word ≡ link = is.links in
-    record {
-      end = executed 4 i k;
-      runs = (
-        executed 4 i k,
-        steps code k.pc 0 4 i k (at_start k.pc below)
-            (fetched_word code i (is_long word 0x6f is.opcode refl) (omega (arith, len)) (is_jal word is.opcode)),
-        refl,
-      );
-      keeps = λ q e f. other (rd_of word) (sum_64 k.pc 4) k q (ap (λ n. q == n) link_is ∙ f);
-      floats = λ q. refl;
-      memory = λ q. refl;
-      at_target = ap (λ p. moved p j) at ∙ address_is _ target is.goes;
-      links = λ linked.
-          ap (register (executed 4 i k)) (sym link_is)
-          ∙ written (rd_of word) (sum_64 k.pc 4) k (λ none. linked (sym link_is ∙ none))
-          ∙ ap (λ p. sum_64 p 4) at;
-    }
-
--- ---- `c.j`
-
-is_cj : (half : ℕ) → field half 0 2 ≡ 1 → field half 13 16 ≡ 5
-    → of_half half ≡ Some (jal 0 ((riscv_form CjType).machine half))
-is_cj half quadrant function =
-    let no_nop : (half == 1) ≡ false = grind (arith, function) in
-    let otherwise : Option Instruction =
-    if field half 0 2 == 1 && field half 13 16 == 3
-    then of_clui (rd_of half) ((riscv_form CluiType).machine half)
-    else (if field half 0 2 == 1 && (field half 13 16 == 2 && not (rd_of half == 0))
-    then Some (sums adds (rd_of half) 0 0 (cli_immediate half)) else None) in
-    ap (λ b. if b then Some (sums adds 0 0 0 (pos 0))
-    else (if field half 0 2 == 1 && field half 13 16 == 5
-    then Some (jal 0 ((riscv_form CjType).machine half)) else otherwise)) no_nop
-    ∙ ap (λ n. if n == 1 && field half 13 16 == 5
-    then Some (jal 0 ((riscv_form CjType).machine half)) else otherwise) quadrant
-    ∙ ap (λ n. if 1 == 1 && n == 5
-    then Some (jal 0 ((riscv_form CjType).machine half)) else otherwise) function
-
-short : (code : List ℕ) (base link place target : ℕ) → length code ≡ 2 → link ≡ 0 → place < 2 ^ 64
-    → IsCj (from_le_bytes w16 code) place target → (k : Hart) → k.pc ≡ place
-    → Goes 1 code base link target (sum_64 place 2) k
-short code base link place target len none small is k at =
-    let half = from_le_bytes w16 code in
-    let j = (riscv_form CjType).machine half in
-    let i = jal 0 j in
-    let below : k.pc < 2 ^ 64 = subst (λ p. p < 2 ^ 64) (sym at) small in
-    record {
-      end = executed 2 i k;
-      runs = (
-        executed 2 i k,
-        steps code k.pc 0 2 i k (at_start k.pc below)
-            (fetched_half code i is.quadrant (omega (arith, len)) (is_cj half is.quadrant is.function)),
-        refl,
-      );
-      keeps = λ q e f. unwritten (sum_64 k.pc 2) k q;
-      floats = λ q. refl;
-      memory = λ q. refl;
-      at_target = ap (λ p. moved p j) at ∙ address_is _ target is.goes;
-      links = λ linked. absurd (linked none);
-    }
-
--- ---- the object's call
-
-call_applied : (name : RiscVRelocation) → IsOfCall name → (x : Operands) (before code : List ℕ)
-    → IsSomeAnd (riscv_row name) (λ row. IsApplied row x before code) → IsApplied call_row x before code
-call_applied name (inl e) x before code a =
-    subst (λ n. IsSomeAnd (riscv_row n) (λ row. IsApplied row x before code)) e a
-call_applied name (inr e) x before code a =
-    subst (λ n. IsSomeAnd (riscv_row n) (λ row. IsApplied row x before code)) e a
-
-second_at : (section : List ℕ) (o : ℕ)
-    → from_le_bytes w32 (drop 4 (drop o section)) ≡ word_at section (o + 4)
-second_at section o = ap (from_le_bytes w32) (drop-drop 4 o section)
-
--- ---- what the words of a window are
+-- ---- the words of a call
 
 first_of_window : (bytes : List ℕ) → from_le_bytes w32 (take 8 bytes) ≡ from_le_bytes w32 bytes
 first_of_window bytes =
@@ -204,53 +57,70 @@ second_of_window : (bytes : List ℕ)
 second_of_window bytes =
     ap (from_le_bytes w32) (drop-take 4 4 bytes) ∙ word_of_front (drop 4 bytes)
 
-module _ (section : List ℕ) (o : ℕ) (bytes : AreBytes section) (is : IsCallAt section o)
-    (inside : o + 8 ≤ length section) where
-  abbrev base : ℕ
-  base = rd_of (word_at section o)
+module _ (groups : Groups) (section : List ℕ) (o : ℕ) (bytes : AreBytes section)
+    (is : IsCallAt section o) (inside : o + 8 ≤ length section) where
+  abbrev window : List ℕ
+  window = take 8 (drop o section)
 
-  abbrev link : ℕ
-  link = rd_of (word_at section (o + 4))
+  second_is : from_le_bytes w32 (drop 4 window) ≡ word_at section (o + 4)
+  second_is = second_of_window (drop o section) ∙ ap (from_le_bytes w32) (drop-drop 4 o section)
 
-  -- with its relocation applied to the section from there on
-  from_there : (x : Operands) (code : List ℕ) → IsApplied call_row x (drop o section) code
-      → AreBytes code → length code ≡ length (drop o section) → AreAddresses x
-      → (h : Hart) → h.pc ≡ x.place → Goes 2 code base link (even plt_address x) (sum_64 x.place 8) h
-  from_there x code a new len small h at =
-      let second = second_at section o in
-      subst (λ n. Goes 2 code base n (even plt_address x) (sum_64 x.place 8) h) (ap rd_of second)
-      (far x (drop o section) code a (All-drop (λ b. b < 2 ^ 8) o section bytes) new len
-      (subst (λ w. IsCallPair (word_at section o) w) (sym second) is.pair) is.not_zero small h at)
+  pair : IsCallPair (from_le_bytes w32 window) (from_le_bytes w32 (drop 4 window))
+  pair =
+      subst (λ w. IsCallPair w (from_le_bytes w32 (drop 4 window))) (sym (first_of_window (drop o section)))
+      (subst (λ w. IsCallPair (word_at section o) w) (sym second_is) is.pair)
 
-  -- and to the window of its 8 bytes
-  of_window : (x : Operands) (code : List ℕ) → IsApplied call_row x (take 8 (drop o section)) code
-      → AreBytes code → length code ≡ 8 → AreAddresses x
-      → (h : Hart) → h.pc ≡ x.place → Goes 2 code base link (even plt_address x) (sum_64 x.place 8) h
-  of_window x code a new len small h at =
-      let there = drop o section in
-      let first = first_of_window there in
-      let second = second_of_window there ∙ second_at section o in
-      subst (λ n. Goes 2 code base n (even plt_address x) (sum_64 x.place 8) h) (ap rd_of second)
-      (subst (λ n. Goes 2 code n (rd_of (from_le_bytes w32 (drop 4 (take 8 there)))) (even plt_address x) (sum_64 x.place 8) h) (ap rd_of first)
-      (far x (take 8 there) code a
-      (All-take (λ b. b < 2 ^ 8) 8 there (All-drop (λ b. b < 2 ^ 8) o section bytes)) new
-      (len ∙ sym (window_length o 8 section inside))
-      (subst (λ w. IsCallPair w (from_le_bytes w32 (drop 4 (take 8 there)))) (sym first)
-      (subst (λ w. IsCallPair (word_at section o) w) (sym second) is.pair))
-      (λ none. is.not_zero (ap rd_of (sym first) ∙ none)) small h at))
+  some : rd_of (from_le_bytes w32 window) ≢ 0
+  some none = is.not_zero (ap rd_of (sym (first_of_window (drop o section))) ∙ none)
+
+  -- where both instructions stay
+  long : (y : Operands) (target : ℕ) (final : List ℕ) → AreAddresses y → target ≡ even plt_address y
+      → IsSomeAnd (riscv_relocation names.R_RISCV_CALL_PLT).row (λ row. IsApplied row y window (take 8 final))
+      → AreBytes (take 8 final) → length (take 8 final) ≡ 8 → (name : RiscVRelocation) → IsOfCall name
+      → CallIsAlike window y 8 2 target (take 8 final) name
+  long y target final sy is_target applied new len name of =
+      of_either (CallIsAlike window y 8 2 target (take 8 final)) name of (by groups.long_calls.0)
+      (by groups.long_calls.1)
+    where
+      by : CallStays names.R_RISCV_CALL_PLT → CallIsAlike window y 8 2 target (take 8 final) names.R_RISCV_CALL_PLT
+      by stays c x k s sx at leads old stands =
+          stays c x y k s window sx sy at (sym is_target ∙ leads) pair some old
+          (record {
+            relocated = take 8 final;
+            applied = record {
+              applied = applied;
+              len = len ∙ sym (window_length o 8 section inside);
+              old_bytes = All-take (λ b. b < 2 ^ 8) 8 (drop o section) (All-drop (λ b. b < 2 ^ 8) o section bytes);
+              bytes = new;
+            };
+            stands = stands;
+          })
 
   -- what a site becomes
-  becomes : (place target : ℕ) (code : List ℕ) → place < 2 ^ 64 → target < 2 ^ 64 → AreBytes code
-      → RiscVBecomes section o place target code → (k : Hart) → k.pc ≡ place
-      → Goes (instructions_in (length code)) code base link (landing (length code) target)
-      (sum_64 place (length code)) k
-  becomes place target code small reach new (short_jump len none is_short) k at =
-      subst (λ n. Goes (instructions_in n) code base link (landing n target) (sum_64 place n) k) (sym len)
-      (short code base link place target len none small is_short k at)
-  becomes place target code small reach new (jump len is_jump) k at =
-      subst (λ n. Goes (instructions_in n) code base link (landing n target) (sum_64 place n) k) (sym len)
-      (near code base link place target len small is_jump k at)
-  becomes place target code small reach new (call len is_far) k at =
+  becomes : (place target n : ℕ) (final : List ℕ) → place < 2 ^ 64 → target < 2 ^ 64 → AreBytes final
+      → length final ≡ n → RiscVBecomes section o place target final → (name : RiscVRelocation) → IsOfCall name
+      → CallIsAlike window (operands_of place target) n (instructions_in n) (landing n target) final name
+  becomes place target n final small reach new same (short_jump len none cj) name of =
+      subst (λ m. CallIsAlike window (operands_of place target) m (instructions_in m) (landing m target) final name)
+      (sym len ∙ same)
+      (of_either (CallIsAlike window (operands_of place target) 2 1 target final) name of goes goes)
+    where
+      goes : CallIsAlike window (operands_of place target) 2 1 target final names.R_RISCV_CALL
+      goes c x k s sx at leads old stands =
+          jump_group c x (operands_of place target) k s window 2 sx at target leads pair some old
+          (cj_goes c.others c.new place _ target final stands cj.quadrant cj.function (ap rd_of second_is ∙ none)
+          (address_is _ target cj.goes))
+  becomes place target n final small reach new same (jump len jal) name of =
+      subst (λ m. CallIsAlike window (operands_of place target) m (instructions_in m) (landing m target) final name)
+      (sym len ∙ same)
+      (of_either (CallIsAlike window (operands_of place target) 4 1 target final) name of goes goes)
+    where
+      goes : CallIsAlike window (operands_of place target) 4 1 target final names.R_RISCV_CALL
+      goes c x k s sx at leads old stands =
+          jump_group c x (operands_of place target) k s window 4 sx at target leads pair some old
+          (jal_goes c.others c.new place _ target final stands jal.opcode (jal.links ∙ sym (ap rd_of second_is))
+          (address_is _ target jal.goes))
+  becomes place target n final small reach new same (call len far) name of =
       let y = operands_of place target in
       let addresses : AreAddresses y =
       record {
@@ -261,47 +131,40 @@ module _ (section : List ℕ) (o : ℕ) (bytes : AreBytes section) (is : IsCallA
         plt_entry = reach;
         tls_base = omega arith;
       } in
-      let same : plt_address y ≡ target = omega (arith, reach) in
-      subst (λ n. Goes (instructions_in n) code base link (landing n target) (sum_64 place n) k) (sym len)
-      (subst (λ t. Goes 2 code base link t (sum_64 place 8) k) (ap (λ t. t - t % 2) same)
-      (of_window y code is_far.relocated new len addresses k at))
+      let plt : target ≡ plt_address y = omega (arith, reach) in
+      let whole : take 8 final ≡ final = take_all 8 final (omega (arith, len)) in
+      subst (λ m. CallIsAlike window y m (instructions_in m) (landing m target) final name) (sym len ∙ same)
+      (subst (λ f. CallIsAlike window y 8 2 (target - target % 2) f name) whole
+      (long y (target - target % 2) final addresses (ap (λ t. t - t % 2) plt)
+      (subst (λ f. IsSomeAnd (riscv_relocation names.R_RISCV_CALL_PLT).row (λ row. IsApplied row y window f))
+      (sym whole) far.relocated)
+      (All-take (λ b. b < 2 ^ 8) 8 final new) (ap length whole ∙ len) name of))
 
 -- ---- calls of sites
 
-pub sites : SitesCallTheSame
-sites p is riscv i site of name call_of x small original relocated h k hx ky alike =
+pub sites : Groups → SitesCallTheSame
+sites groups p is riscv i site of name of_call =
     let s = p.section in
     let o = site_offset p site in
-    let base = rd_of (word_at s.bytes o) in
-    let link = rd_of (word_at s.bytes (o + 4)) in
-    let place = site_place p site in
-    let target = site_target p site in
     let code = site_bytes p site in
-    let final : RiscVBecomes s.bytes o place target code =
+    let final : RiscVBecomes s.bytes o (site_place p site) (site_target p site) code =
     subst (λ m. SiteBecomes m s site code) riscv (site_becomes p is i site of) in
     let has = subst (λ m. HasItsInstructions m s.bytes s.base (Site site)) riscv of.there in
-    let inside = site_inside p i site of in
-    let goes = subst (λ n. Goes (instructions_in n) code base link (landing n target) (sum_64 place n) k)
-    (site_length p is i site of)
-    (becomes s.bytes o is.section_bytes has.3.0 inside place target code (omega arith) (omega arith) (site_small p is site) final k ky) in
-    both 2 (instructions_in (site_len p site)) original code base link
-    (even plt_address x) (sum_64 x.place 8) (landing (site_len p site) target) (site_after p site) h k alike
-    (from_there s.bytes o is.section_bytes has.3.0 inside x original
-    (call_applied name call_of x (drop o s.bytes) original relocated.applied) relocated.bytes relocated.len small h hx)
-    goes
+    becomes groups s.bytes o is.section_bytes has.3.0 (site_inside p i site of) (site_place p site)
+    (site_target p site) (site_len p site) code (omega arith) (omega arith) (site_small p is site)
+    (site_length p is i site of) final name of_call
 
 -- ---- calls that stay
 
 row_of_call : (name : RiscVRelocation) → IsOfCall name → (riscv_relocation name).row ≡ Some call_row
-row_of_call name (inl e) = ap (λ n. (riscv_relocation n).row) e
-row_of_call name (inr e) = ap (λ n. (riscv_relocation n).row) e
+row_of_call name of = of_either (λ n. (riscv_relocation n).row ≡ Some call_row) name of refl refl
 
 some_value : (v : Option ℤ) → IsSomeAnd v (λ _. ⊤) → (z : ℤ) × (v ≡ Some z)
 some_value None nothing = absurd nothing
 some_value (Some z) there = (z, refl)
 
-pub long_calls : LongCallsStay
-long_calls p is riscv i name stays symbol symbol_is small other_name of x small_x original relocated h k hx ky alike =
+pub long_calls : Groups → LongCallsStay
+long_calls groups p is riscv i name stays symbol symbol_is small other_name of =
     let s = p.section in
     let o = offset_at p.relocations i in
     let r = relocation_in p.relocations_after i in
@@ -328,12 +191,8 @@ long_calls p is riscv i name stays symbol symbol_is small other_name of x small_
     }) in
     let inside = stay_inside p is o 8 (omega arith) stays.stays in
     let fits = places_inside p is o 8 (omega arith) stays.stays in
-    let long = is.written.same_length in
-    let code = take 8 (drop (place_of p o) p.final) in
-    let new = All-take (λ b. b < 2 ^ 8) 8 (drop (place_of p o) p.final) (All-drop (λ b. b < 2 ^ 8) (place_of p o) p.final is.final_bytes) in
-    both 2 2 original code (rd_of (word_at s.bytes o)) (rd_of (word_at s.bytes (o + 4)))
-    (even plt_address x) (sum_64 x.place 8) (even plt_address y) (sum_64 y.place 8) h k alike
-    (from_there s.bytes o is.section_bytes stays.call inside x original
-    (call_applied other_name of x (drop o s.bytes) original relocated.applied) relocated.bytes relocated.len small_x h hx)
-    (of_window s.bytes o is.section_bytes stays.call inside y code applied new
-    (window_length (place_of p o) 8 p.final (omega (arith, fits, long))) small k ky)
+    let same = is.written.same_length in
+    let final = drop (place_of p o) p.final in
+    long groups s.bytes o is.section_bytes stays.call inside y (even plt_address y) final small refl applied
+    (All-take (λ b. b < 2 ^ 8) 8 final (All-drop (λ b. b < 2 ^ 8) (place_of p o) p.final is.final_bytes))
+    (window_length (place_of p o) 8 p.final (omega (arith, fits, same))) other_name of

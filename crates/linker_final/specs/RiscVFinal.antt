@@ -1,7 +1,6 @@
 -- RISC-V: rewritten instructions are groups of the simulation. Old has the object's, with the
--- values
--- of their relocations, and new the final bytes of a section (RISC-V ELF psABI, "PC-Relative Symbol
--- Addresses", "Local-Exec TLS Relaxation", "TLS Descriptors -> Local Exec Relaxation").
+-- values of their relocations, and new the final bytes of a section (RISC-V ELF psABI, "PC-Relative
+-- Symbol Addresses", "Local-Exec TLS Relaxation", "TLS Descriptors -> Local Exec Relaxation").
 use Rattle.std.specs.Prelude.{◌≡◌, ◌≢◌, ℕ, ◌+◌, ◌<◌, ◌^◌, List}
 use Rattle.std.specs.Prelude.{Some, IsSomeAnd, slice_get, true}
 use Rattle.linker_elf.specs.ElfNames.{IsNameOf, code_of}
@@ -71,8 +70,7 @@ pub record AreOfLoad (l : Linked) (i j : ℕ) : Type 0 where
       ≡ (relocation_in l.relocations i).offset
 
 -- The pair is a group, with what new has. The entry holds S + A, and both addresses are of a kind.
--- The
--- `ld` is over the register of the `auipc`, which isn't x0.
+-- The `ld` is over the register of the `auipc`, which isn't x0.
 abbrev pub LoadIsAlike : List ℕ → List ℕ → (Code → Type 0) → Operands → Operands → Type 0
 LoadIsAlike auipc ld NewHas x y =
     let base = rd_of (word_of auipc) in
@@ -102,8 +100,8 @@ LoadsTheSame l i row =
 -- ---- low parts of offsets from the thread pointer
 
 -- An instruction adds the low part of an offset x, a number of 12 bits, to a register with the
--- thread
--- pointer's number. It is a group, with what new has. What it does with the sum keeps agreement.
+-- thread pointer's number. It is a group, with what new has. What it does with the sum keeps
+-- agreement.
 abbrev pub LowPartIsAlike : Action → List ℕ → (Code → Type 0) → Operands → Operands → Type 0
 LowPartIsAlike action low NewHas x y =
     (c : Code) (k k' : Kinds) (s : State) → AreBefore c 4 4 x y s → HaveOneOffset x y
@@ -180,8 +178,7 @@ pub record IsOfDescriptor (l : Linked) (high : ℕ) (name : RiscVRelocation) (di
   pub kind_is : chosen.kind ≡ relaxations.RiscV kind
 
 -- The object's sequence, whose high part is at an offset, is a group. New has n nops where the
--- first
--- instructions were, and then m others from an address on.
+-- first instructions were, and then m others from an address on.
 abbrev pub OffsetIsAlike : Linked → ℕ → ℕ → (Code → ℕ → Type 0) → Operands → Operands → Type 0
 OffsetIsAlike l o m NewHas x y =
     (c : Code) (n at : ℕ) (k k' : Kinds) (s s' : State)
@@ -237,8 +234,7 @@ LowPartDoesTheSameAnywhere l i action =
     (λ c. Has 4 c.new y.place (offset_row action) y (instruction_at l.rewritten o)) x y
 
 -- New has the rewritten `addi` and `jalr` of a descriptor with the values of their relocations, or
--- the
--- `jalr` alone, where the offset is a number of 12 bits.
+-- the `jalr` alone, where the offset is a number of 12 bits.
 abbrev pub OffsetIsTheSameAnywhere : Linked → ℕ → Type 0
 OffsetIsTheSameAnywhere l high =
     let o = (relocation_in l.relocations high).offset in

@@ -81,8 +81,7 @@ FinalLowPartDoesTheSame l p i action row =
 -- ---- TLS descriptors
 
 -- The object's sequence, whose high part is at an index. New has the `addi` and the `jalr` that
--- were
--- rewritten, by the final bytes. The second index is that of the call.
+-- were rewritten, by the final bytes. The second index is that of the call.
 abbrev pub FinalOffsetIsTheSame : Linked → Packed → ℕ → ℕ → RelocationKindInfo → Type 0
 FinalOffsetIsTheSame l p high last row =
     let o = (relocation_in l.relocations high).offset in

@@ -1,11 +1,10 @@
 -- RISC-V: in a section that was packed, calls go where the object's do (RISC-V ELF psABI, "Function
 -- Call Relaxation" and "Compressed Tail Call Relaxation").
-use Rattle.std.specs.Prelude.{◌≡◌, ◌≢◌, ◌⊎◌, ℕ, ◌+◌, ◌-◌, ◌%◌, ◌==◌, ◌||◌, List}
+use Rattle.std.specs.Prelude.{◌≡◌, ◌⊎◌, ℕ, ◌+◌, ◌-◌, ◌%◌, ◌==◌, List}
 use Rattle.std.specs.Prelude.{take, drop, if◌then◌else◌, slice_get, Some, ◌<◌, ◌^◌}
 use Rattle.linker_elf.specs.ElfNames.{IsNameOf}
 use Rattle.linker_elf.specs.Originals.{HasWord}
 use Rattle.linker_elf.specs.RiscVRelocations.{pair_row, riscv_name, riscv_row}
-use Rattle.linker_elf.specs.Value.{sum_64}
 use Rattle.linker_elf.specs.declared.elf.RelocationKind.TheVariants.{PltRelative}
 use Rattle.linker_elf.specs.declared.elf.RelocationKindInfo.{RelocationKindInfo}
 use Rattle.linker_elf.specs.declared.elf.value.Operands.{Operands}
@@ -14,21 +13,20 @@ use Rattle.linker_elf.specs.declared.riscv64.relocations.RiscVRelocation.{RiscVR
 use Rattle.linker_elf.specs.declared.riscv64.relocations.RiscVRelocation.TheVariants as names
 use Rattle.linker_final.specs.Packed.{Packed, AreDeleted, IsPacked, IsSiteOf, StayTogether}
 use Rattle.linker_final.specs.Packed.{address_at, count, place_of}
-use Rattle.linker_final.specs.Packed.{site_after, site_bytes, site_len, site_offset, site_place}
+use Rattle.linker_final.specs.Packed.{site_bytes, site_len, site_offset, site_place}
 use Rattle.linker_final.specs.Packed.{site_target}
-use Rattle.linker_laws.specs.Machine.{Relocated}
 use Rattle.linker_laws.specs.Changes.{put, with_register}
-use Rattle.linker_laws.specs.RiscVGroups.{Code, Has, Stands, link, seen}
+use Rattle.linker_laws.specs.RiscVGroups.{AreBefore, Code, Has, IsCall, Stands, link, seen}
 use Rattle.linker_laws.specs.Simulation.{Group, Kinds, State, anything, of_link}
-use Rattle.linker_laws.specs.RiscVMachine.{Hart, register, rs1_of}
+use Rattle.linker_laws.specs.RiscVMachine.{register, rs1_of}
 use Rattle.linker_laws.specs.RiscVRelocationLaws.{even}
-use Rattle.linker_laws.specs.RiscVRewriteLaws.{AreAlike, EndSo}
-use Rattle.linker_laws.specs.RiscVRewriteLaws.{IsLow12, IsLowOffset, no_register}
+use Rattle.linker_laws.specs.RiscVRewriteLaws.{IsLow12, IsLowOffset}
 use Rattle.linker_laws.specs.Schemes.{AreAddresses, plt_address}
 use Rattle.linker_riscv64.specs.RiscVCalls.{word_at}
 use Rattle.linker_riscv64.specs.RiscVFields.{rd_of}
 use Rattle.linker_utils.specs.RiscVRewrites.{IsAddTp, IsLui, tp}
 use Rattle.linker_runs.specs.RiscVItems.{IsCallAt}
+use Rattle.linker_runs.specs.Sites.{operands_of}
 use Rattle.linker_runs.specs.declared.packing.Machine.TheVariants.{RiscV64}
 use Rattle.linker_runs.specs.declared.relaxation.Site.{Site as site}
 use Rattle.linker_section.specs.Relocations.{relocation_in}
@@ -45,26 +43,17 @@ call_row = pair_row PltRelative 64 UiType
 abbrev pub IsOfCall : RiscVRelocation → Type 0
 IsOfCall name = (name ≡ names.R_RISCV_CALL) ⊎ (name ≡ names.R_RISCV_CALL_PLT)
 
--- Each hart is at the target of its layout. They are alike but for the register of the `auipc` and
--- the link register, which has the address after the call.
-pub record HaveCalled (base link target back new_target new_back : ℕ) (a b : Hart) : Type 0 where
-  pub alike : AreAlike (λ r. r == base || r == link) a b
-  pub at_target : a.pc ≡ target
-  pub at_new_target : b.pc ≡ new_target
-  pub links : link ≢ 0 → register a link ≡ back
-  pub new_links : link ≢ 0 → register b link ≡ new_back
+-- Old has a call, `auipc` and `jalr`, with the value of its relocation, in a layout of its own. New
+-- has n bytes of final ones, which are m instructions, and leads to a target. They are a group.
+abbrev pub CallIsAlike : List ℕ → Operands → ℕ → ℕ → ℕ → List ℕ → RiscVRelocation → Type 0
+CallIsAlike call y n m target final name =
+    (c : Code) (x : Operands) (k : Kinds) (s : State) → AreAddresses x → AreBefore c 8 n x y s
+    → target ≡ c.moved (even plt_address x) → (old : Has 8 c.old x.place (riscv_row name) x call)
+    → Stands n c.new y.place final → IsCall c m x k s call old.relocated
 
--- The object's call, `auipc` and `jalr` at an offset of the section with the value of their
--- relocation by some operands, and n instructions among the final bytes. From harts that are alike,
--- each before its own call, both run to the target of their layout.
-abbrev pub CallsTheSame : Packed → ℕ → ℕ → List ℕ → ℕ → ℕ → ℕ → Type 0
-CallsTheSame p o n final_call place target following =
-    (name : RiscVRelocation) → IsOfCall name → (x : Operands) → AreAddresses x → (original : List ℕ)
-    → Relocated (riscv_row name) x (drop o p.section.bytes) original
-    → (h k : Hart) → h.pc ≡ x.place → k.pc ≡ place → AreAlike no_register h k
-    → EndSo 2 original h n final_call k
-    (HaveCalled (rd_of (word_at p.section.bytes o)) (rd_of (word_at p.section.bytes (o + 4)))
-    (even plt_address x) (sum_64 x.place 8) target following)
+-- the call at an offset of the section
+abbrev pub call_at : Packed → ℕ → List ℕ
+call_at p o = take 8 (drop o p.section.bytes)
 
 -- ---- calls of sites
 
@@ -81,8 +70,11 @@ landing kept target = if kept == 8 then target - target % 2 else target
 abbrev pub SitesCallTheSame : Type 0
 SitesCallTheSame =
     (p : Packed) → IsPacked p → p.machine ≡ RiscV64 → (i : ℕ) (call : site) → IsSiteOf p i call
-    → CallsTheSame p (site_offset p call) (instructions_in (site_len p call)) (site_bytes p call)
-    (site_place p call) (landing (site_len p call) (site_target p call)) (site_after p call)
+    → let n = site_len p call in
+    (name : RiscVRelocation) → IsOfCall name
+    → CallIsAlike (call_at p (site_offset p call))
+    (operands_of (site_place p call) (site_target p call)) n (instructions_in n)
+    (landing n (site_target p call)) (site_bytes p call) name
 
 -- ---- calls that stay
 
@@ -102,8 +94,9 @@ LongCallsStay =
     → let y = operands_with RiscV p.addresses call_row symbol r 0 in
     AreAddresses y
     → let o = offset_at p.relocations i in
-    CallsTheSame p o 2 (take 8 (drop (place_of p o) p.final)) y.place (even plt_address y)
-    (sum_64 y.place 8)
+    (name : RiscVRelocation) → IsOfCall name
+    → CallIsAlike (call_at p o) y 8 2 (even plt_address y) (take 8 (drop (place_of p o) p.final))
+    name
 
 -- ---- deleted instructions (psABI, "Zero-page Relaxation"; thread-local storage)
 
@@ -114,8 +107,7 @@ pub record IsBefore (p : Packed) (o : ℕ) (c : Code) (s : State) : Type 0 where
   pub next : c.moved (s.pc + 4) ≡ address_at p (o + 4)
 
 -- A `lui` of a number of 12 bits, or of an offset from the thread pointer of 12 bits, is a group,
--- of
--- which new has nothing.
+-- of which new has nothing.
 abbrev pub LuiIsLeftOut : RiscVRelocation → (Operands → Type 0) → Type 0
 LuiIsLeftOut name IsLow =
     (p : Packed) → IsPacked p → p.machine ≡ RiscV64 → (o : ℕ) → HasWord p.section.bytes o IsLui

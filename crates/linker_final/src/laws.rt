@@ -52,8 +52,7 @@ pub fn x86_64()
 }
 
 /// AArch64: rewritten instructions are groups of `linker_laws::simulation`, of any code that has
-/// the
-/// final bytes there, and of any old code that has the object's with the values of their
+/// the final bytes there, and of any old code that has the object's with the values of their
 /// relocations. They are each address by two instructions that became one, each load of an address
 /// from the GOT that became a sum of its page and the rest, each half of initial-exec that became a
 /// move, each sequence of a TLS descriptor that became one of local-exec or of initial-exec, and
@@ -83,13 +82,12 @@ pub fn aarch64()
 /// RISC-V: rewritten instructions are groups of `linker_laws::simulation`, of any code that has the
 /// final bytes there, and of any old code that has the object's with the values of their
 /// relocations. They are each load of an address from the GOT that became a sum of the place and
-/// the
-/// distance, each low part of an offset that is over the thread pointer, and each sequence of a TLS
-/// descriptor that became one of local-exec. What became a nop is one. The high part and the sum of
-/// such an offset are deleted, and are groups of which new has nothing. The offset had 12 bits when
-/// rewrites were chosen. The clauses named `anywhere` are of a call of rewriting alone: what each
-/// relocation became, and that the rewritten instructions are a group wherever a linker applies it,
-/// as in a section that it packs first.
+/// the distance, each low part of an offset that is over the thread pointer, and each sequence of a
+/// TLS descriptor that became one of local-exec. What became a nop is one. The high part and the
+/// sum of such an offset are deleted, and are groups of which new has nothing. The offset had 12
+/// bits when rewrites were chosen. The clauses named `anywhere` are of a call of rewriting alone:
+/// what each relocation became, and that the rewritten instructions are a group wherever a linker
+/// applies it, as in a section that it packs first.
 pub fn riscv64()
     ensures got_loads { riscv64_final.GotLoads }
     ensures low_parts { riscv64_final.LowParts }
@@ -107,15 +105,16 @@ pub fn riscv64()
     linker_laws::simulation::riscv64();
 }
 
-/// RISC-V: each low part that `rewrite_global_pointer` takes does over x3 or x0, with the distance
-/// from it as its value, what the object's does over what its high part leaves. That its `lui` or
-/// `auipc` leaves this is a law too; what x3 has is a premise. The relocations that
+/// RISC-V: each low part that `rewrite_global_pointer` takes is a group of
+/// `linker_laws::simulation`. New's is over x3 or x0, with the distance from it as its value, and
+/// old's over what its high part leaves. Its `lui` or `auipc`, which is deleted, is a group of
+/// which new has nothing, and leaves this; what x3 has is a premise. The relocations that
 /// `finish_gp_relaxation` leaves have these distances as their values.
 pub fn riscv64_global_pointer()
     ensures low_parts { riscv64_near.LowPartsFromBase }
     ensures values { riscv64_near.ValuesAreDistances }
-    ensures lui { riscv64_near.LuiLeaves }
-    ensures auipc { riscv64_near.AuipcLeaves }
+    ensures lui { riscv64_near.LuiGoes }
+    ensures auipc { riscv64_near.AuipcGoes }
 {
     linker_laws::relocations::riscv64();
 }

@@ -139,8 +139,7 @@ pub struct RunSection<'a> {
 /// Packs a section of a run that `relax` relaxed, by `pack_section`, with what the run loses. It
 /// leaves the section's final bytes in `out`, in which each alignment of the run holds
 /// (`shorter_sections`). The run begins at the address `start`. `relocations` are the section's,
-/// once
-/// it is rewritten. A linker calls `relax` and `pack_section` itself: in between it translates
+/// once it is rewritten. A linker calls `relax` and `pack_section` itself: in between it translates
 /// symbols by what `relax` returned, and it packs each section.
 ///
 /// # Errors
@@ -206,11 +205,11 @@ pub fn shorter_sections()
     ensures section_starts { relaxed.SectionsAreAligned }
 {}
 
-/// RISC-V: each call that a run may make shorter, `c.j`, `jal` or still `auipc` and `jalr`, goes to
-/// where its target goes, as the object's call does in its own layout. So does a call that stays as
-/// it is, by the value of its relocation. Other jumps and branches go where their relocation's
-/// formula says. Where a `lui` of 12 bits or an `add` of the thread pointer is deleted, that is a
-/// group of `linker_laws::simulation`, of which new has nothing.
+/// RISC-V: each call that a run may make shorter, `c.j`, `jal` or still `auipc` and `jalr`, is a
+/// group of `linker_laws::simulation`. It goes to where its target goes, as the object's call does
+/// in its own layout. So does a call that stays as it is, by the value of its relocation. Other
+/// jumps and branches go where their relocation's formula says. Where a `lui` of 12 bits or an
+/// `add` of the thread pointer is deleted, that is a group of which new has nothing.
 pub fn shorter_riscv64()
     ensures sites { riscv_packed.SitesCallTheSame }
     ensures long_calls { riscv_packed.LongCallsStay }
@@ -224,11 +223,10 @@ pub fn shorter_riscv64()
 
 /// RISC-V: what was rewritten before the section was packed, and stays, is a group of
 /// `linker_laws::simulation`. Old has the object's instructions with the values of their
-/// relocations,
-/// in a layout of its own, and new the final bytes. It is each load of an address from the GOT that
-/// became a sum of the place and the distance, each low part of an offset that is over the thread
-/// pointer, and each sequence of a TLS descriptor that became one of local-exec. What became a nop
-/// is one.
+/// relocations, in a layout of its own, and new the final bytes. It is each load of an address from
+/// the GOT that became a sum of the place and the distance, each low part of an offset that is over
+/// the thread pointer, and each sequence of a TLS descriptor that became one of local-exec. What
+/// became a nop is one.
 pub fn joined_riscv64()
     ensures got_loads { riscv_joined.PackedGotLoads }
     ensures low_parts { riscv_joined.PackedLowParts }

@@ -99,15 +99,15 @@ kept_below (suc n) ps before after e w below out =
         smaller : w ≢ n → w < n
         smaller unlike = grind arith
 
-bits_written : (ps : List ImmediateBit) (v before after : ℕ)
-    → is_written_at ps v before after ≡ true → is_kept_below 32 ps before after ≡ true
-    → before < 2 ^ 32 → after < 2 ^ 32 → BitsWritten ps v before after
-bits_written ps v before after placed kept small small' =
+bits_written : (n : ℕ) (ps : List ImmediateBit) (v before after : ℕ)
+    → is_written_at ps v before after ≡ true → is_kept_below n ps before after ≡ true
+    → before < 2 ^ n → after < 2 ^ n → BitsWritten ps v before after
+bits_written n ps v before after placed kept small small' =
     record {
       placed = written_at ps v before after placed;
-      kept = λ w out. elim (lt_or_le w 32) [
-        | inl below ↦ kept_below 32 ps before after kept w below out
-        | inr above ↦ bit_at_above after 32 w small' above ∙ sym (bit_at_above before 32 w small above)
+      kept = λ w out. elim (lt_or_le w n) [
+        | inl below ↦ kept_below n ps before after kept w below out
+        | inr above ↦ bit_at_above after n w small' above ∙ sym (bit_at_above before n w small above)
       ];
     }
   where
@@ -118,29 +118,29 @@ bits_written ps v before after placed kept small small' =
         by true e = inr (leb-true b a e)
         by false e = inl (leb-false b a e)
 
-abbrev bits_are_written : List ImmediateBit → ℕ → ℕ → ℕ → Bool
-bits_are_written ps v before after =
+abbrev bits_are_written : ℕ → List ImmediateBit → ℕ → ℕ → ℕ → Bool
+bits_are_written n ps v before after =
     is_written_at ps v before after
-    && (is_kept_below 32 ps before after && (leb (suc before) (2 ^ 32) && leb (suc after) (2 ^ 32)))
+    && (is_kept_below n ps before after && (leb (suc before) (2 ^ n) && leb (suc after) (2 ^ n)))
 
-bits_by : (ps : List ImmediateBit) (v before after : ℕ) → bits_are_written ps v before after ≡ true
-    → BitsWritten ps v before after
-bits_by ps v before after e =
+bits_by : (n : ℕ) (ps : List ImmediateBit) (v before after : ℕ)
+    → bits_are_written n ps v before after ≡ true → BitsWritten ps v before after
+bits_by n ps v before after e =
     let placed = first_of_both (is_written_at ps v before after) _ e in
     let more = second_of_both (is_written_at ps v before after) _ e in
-    let kept = first_of_both (is_kept_below 32 ps before after) _ more in
-    let small = second_of_both (is_kept_below 32 ps before after) _ more in
-    let old = leb-true (suc before) (2 ^ 32) (first_of_both (leb (suc before) (2 ^ 32)) _ small) in
-    let new = leb-true (suc after) (2 ^ 32) (second_of_both (leb (suc before) (2 ^ 32)) _ small) in
-    bits_written ps v before after placed kept (omega arith) (omega arith)
+    let kept = first_of_both (is_kept_below n ps before after) _ more in
+    let small = second_of_both (is_kept_below n ps before after) _ more in
+    bits_written n ps v before after placed kept
+    (leb-true (suc before) (2 ^ n) (first_of_both (leb (suc before) (2 ^ n)) _ small))
+    (leb-true (suc after) (2 ^ n) (second_of_both (leb (suc before) (2 ^ n)) _ small))
 
 abbrev is_written_by : RelocationInstruction → BitRange → ℤ → ℕ → List ℕ → List ℕ → Bool
 is_written_by insn bits v clear before after =
     let form = relocation_form insn in
     let word = window_of form before in
     let negative = int_lt v (pos 0) in
-    bits_are_written (places_cleared insn bits word) 0 word clear
-    && bits_are_written (form.places clear)
+    bits_are_written (8 * byte_len form.window) (places_cleared insn bits word) 0 word clear
+    && bits_are_written (8 * byte_len form.window) (form.places clear)
     (form.number negative (number_placed insn word (bits_taken bits v))) (form.base negative clear)
     (with_bit_31_if (is_32_bit_move insn word) (window_of form after))
 
@@ -152,11 +152,11 @@ written_by : (insn : RelocationInstruction) (bits : BitRange) (v : ℤ) (clear :
 written_by insn bits v clear before after e rest =
     let form = relocation_form insn in
     let word = window_of form before in
-    let cleared = bits_are_written (places_cleared insn bits word) 0 word clear in
+    let cleared = bits_are_written (8 * byte_len form.window) (places_cleared insn bits word) 0 word clear in
     record {
       clear = clear;
-      clears = bits_by _ _ _ _ (first_of_both cleared _ e);
-      written = bits_by _ _ _ _ (second_of_both cleared _ e);
+      clears = bits_by _ _ _ _ _ (first_of_both cleared _ e);
+      written = bits_by _ _ _ _ _ (second_of_both cleared _ e);
       rest = rest;
     }
 

@@ -45,6 +45,7 @@ pub mod Ppc64Vectors
 pub mod Ppc64WholeWords
 pub mod Ppc64Words
 pub mod RiscV
+pub mod RiscVAccesses
 pub mod RiscVDescriptors
 pub mod RiscVGroups
 pub mod RiscVGroupsWorked

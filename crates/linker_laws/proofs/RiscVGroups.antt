@@ -2,7 +2,7 @@
 use Rattle.std.proofs.Common.{Bool, add-one, zero, ◌≡◌, ◌≢◌, ℕ, suc, ◌+◌, ◌-◌, ◌*◌, ◌%◌, ◌^◌, ◌<◌, ◌≤◌, true, false, refl, sym, ◌∙◌, ap, ap₂}
 use Rattle.std.proofs.Common.{subst, arith, List, [], ◌∷◌, length, take, drop, Some, le_refl}
 use Rattle.std.proofs.Common.{w64, pos, ◌+ℤ◌, ◌-ℤ◌, ℤ, inl, inr}
-use Rattle.std.specs.Prelude.{◌==◌, if◌then◌else◌, nat_lt, option_map, IsSomeAnd, sum, ⊤}
+use Rattle.std.specs.Prelude.{◌==◌, if◌then◌else◌, nat_lt, option_map, IsSomeAnd, IsTrue, Option, sum, ⊤}
 use Rattle.std.specs.Int.{w16, w32, cast_signed, from_le_bytes, int_rem_euclid}
 use Rattle.std.proofs.lemmas.Bool.{cond-true, cond-false, cases_lt, lt-ltb, le-ltb, ne_eqb}
 use Rattle.std.proofs.lemmas.Int.{ints}
@@ -16,6 +16,7 @@ use Rattle.linker_elf.specs.Value.{sum_64}
 use Rattle.linker_elf.specs.declared.elf.RelocationKind.{RelocationKind}
 use Rattle.linker_elf.specs.declared.elf.RelocationKind.TheVariants.{Absolute, TpOff, PltRelative}
 use Rattle.linker_elf.specs.declared.elf.RelocationKind.TheVariants.{GotRelative, GotTpOff, Relative, RelativeRiscVLow12, TlsDesc}
+use Rattle.linker_elf.specs.declared.elf.RelocationKindInfo.{RelocationKindInfo}
 use Rattle.linker_elf.specs.declared.elf.value.Operands.{Operands}
 use Rattle.linker_elf.specs.declared.riscv64.forms.RiscVInstruction.TheVariants.{UType, IType, SType, CluiType}
 use Rattle.linker_elf.specs.declared.riscv64.forms.RiscVInstruction.TheVariants.{CjType, JType, UiType}
@@ -31,7 +32,7 @@ use Rattle.linker_laws.specs.RiscVMachine.{of_word, register, rs1_of, rs2_of, s_
 use Rattle.linker_laws.specs.RiscVMachine.{sums, used, with_action, with_integer, with_number}
 use Rattle.linker_laws.specs.RiscVRelocationLaws.{DescriptorAddresses, EntryAddresses, RelativeAddresses}
 use Rattle.linker_laws.specs.RiscVRelocationLaws.{ThreadAddresses, even}
-use Rattle.linker_laws.specs.RiscVRewriteLaws.{IsLow12, after_rewrite, low_row, of_entry, offset_row}
+use Rattle.linker_laws.specs.RiscVRewriteLaws.{IsLow12, action_at, after_rewrite, low_row, of_entry, offset_row}
 use Rattle.linker_laws.specs.RiscVRewriteLaws.{t0, thread_offset, word_of}
 use Rattle.linker_laws.specs.Schemes.{AreAddresses, entry_and_addend, plt_address, symbol_address}
 use Rattle.linker_laws.specs.Simulation.{State, Program, Agree, AreOf, Group, Kind, Kinds, anything, of_link, run, same}
@@ -45,14 +46,14 @@ use Rattle.linker_laws.proofs.RiscVHighParts.{IsFormulaOf, absolute_is, high_20,
 use Rattle.linker_laws.proofs.RiscVHighParts.{no_high_part}
 use Rattle.linker_laws.proofs.RiscVHighParts.{of_address, of_offset, same_immediates, short_decodes, short_low}
 use Rattle.linker_laws.proofs.RiscVHighParts.{short_register, short_stands, upper_stands}
-use Rattle.linker_laws.proofs.RiscVJumps.{high_decodes, high_long, jump_decodes, jump_leads, jump_long}
+use Rattle.linker_laws.proofs.RiscVJumps.{high_decodes, high_long, jump_leads}
 use Rattle.linker_laws.proofs.RiscVJumps.{low_decodes, low_long, pair_base, pair_leads, pair_link}
-use Rattle.linker_laws.proofs.RiscVJumps.{pair_register, same_destination, short_jump_decodes}
+use Rattle.linker_laws.proofs.RiscVJumps.{pair_register, same_destination, same_opcode, short_jump_function}
 use Rattle.linker_laws.proofs.RiscVJumps.{short_jump_leads, short_jump_low}
 use Rattle.linker_laws.proofs.RiscVLowParts.{IsBased, clear_0, clear_7, clear_12, clear_15, clear_20}
 use Rattle.linker_laws.proofs.RiscVLowParts.{i_kept, i_stands, is_action, low_sum, over_tp, over_zero}
 use Rattle.linker_laws.proofs.RiscVLowParts.{s_kept, s_stands, some_action, word_there}
-use Rattle.linker_laws.proofs.RiscVMachine.{address_is, fetched_half, fetched_word, is_long, is_sum}
+use Rattle.linker_laws.proofs.RiscVMachine.{address_is, fetched_half, fetched_word, is_cj, is_jal, is_long, is_sum}
 use Rattle.linker_laws.proofs.RiscVMachine.{moved_twice, other, written}
 use Rattle.linker_laws.proofs.Sums.{lifted_is, sum_below}
 use Rattle.linker_laws.proofs.Words.{half_of_bytes, put_there, word_below, word_of_bytes}
@@ -60,8 +61,8 @@ use Rattle.linker_riscv64.specs.RiscVCalls.{IsCallPair}
 use Rattle.linker_riscv64.specs.RiscVFields.{funct3_of, opcode_of, rd_of}
 use Rattle.linker_riscv64.proofs.Jumps.{word_of_front}
 use Rattle.linker_utils.proofs.RiscVRewrites.{half_of_front}
-use Rattle.linker_utils.specs.RiscVRewrites.{IsLui, a0, call_to_jal, clui_to_cli, half_at, hi20_to_clui}
-use Rattle.linker_utils.specs.RiscVRewrites.{load_to_addi, riscv_matches, tail_to_cj, tail_to_jal}
+use Rattle.linker_utils.specs.RiscVRewrites.{IsLui, a0, adds_low12, call_to_jal, clui_to_cli, half_at, hi20_to_clui}
+use Rattle.linker_utils.specs.RiscVRewrites.{load_to_addi, riscv_matches, tail_to_cj, tail_to_jal, with_rs1}
 use Rattle.linker_utils.specs.declared.riscv64.rewrites.RelaxationKind.TheVariants as kinds
 use Rattle.linker_utils.specs.declared.riscv64.rewrites.RelaxationKind.{RelaxationKind}
 
@@ -130,7 +131,7 @@ once p s t goes = run_first 0 p s t (Some t) goes refl
 
 -- ---- deleted instructions
 
-nothing_left : (c : Code) (k : Kinds) (s : State) (rd v : ℕ) → AreDeleted c 4 s
+pub nothing_left : (c : Code) (k : Kinds) (s : State) (rd v : ℕ) → AreDeleted c 4 s
     → machine c.others c.old s ≡ Some (put rd v (s.pc + 4) s)
     → Group (of_link (link c)) 0 k s (with_register rd anything k) (put rd v (s.pc + 4) s)
 nothing_left c k s rd v d goes =
@@ -292,199 +293,199 @@ are_cluis_to_cli c x y k s bytes clui at m is one low old stands =
 -- ---- low parts
 
 -- Both use the same sum.
-low_group : (c : Code) (a : Action) (x y : Operands) (k k' : Kinds) (s : State) (word n v b rs1 rd0 rs20 : ℕ)
-    (i : ℤ) (bytes bytes' : List ℕ) → AreBefore c 4 4 x y s
+low_group : (c : Code) (a : Action) (x y : Operands) (k k' : Kinds) (s : State) (word m b rs1 rd0 rs20 : ℕ)
+    (i i' : ℤ) (bytes bytes' : List ℕ) → AreBefore c 4 4 x y s
     → Stands 4 c.old x.place bytes → Stands 4 c.new y.place bytes'
     → field (word_of bytes) 0 2 ≡ 3 → field (word_of bytes') 0 2 ≡ 3
     → of_word (word_of bytes) ≡ Some (sums a rd0 rs1 rs20 i)
-    → of_word (word_of bytes') ≡ Some (sums a rd0 b rs20 i)
-    → ((h : Hart) (m : ℕ) → used 4 a rd0 rs20 m h ≡ used 4 a (rd_of word) (rs2_of word) m h)
-    → ((m : ℕ) → moved m i ≡ sum_64 m n) → register (seen s) rs1 ≡ v
-    → ((t : State) → Agree (link c) k s t → register (seen t) b ≡ v)
-    → ((t : State) → Agree (link c) k s t
-    → Agree (link c) k' (uses a word (sum_64 v n) s) (uses a word (sum_64 v n) t))
-    → Group (of_link (link c)) 1 k s k' (uses a word (sum_64 v n) s)
-low_group c a x y k k' s word n v b rs1 rd0 rs20 i bytes bytes' at here here' low low' is is' one_use sum base base' keeps =
+    → of_word (word_of bytes') ≡ Some (sums a rd0 b rs20 i')
+    → ((h : Hart) → used 4 a rd0 rs20 m h ≡ used 4 a (rd_of word) (rs2_of word) m h)
+    → moved (register (seen s) rs1) i ≡ m
+    → ((t : State) → Agree (link c) k s t → moved (register (seen t) b) i' ≡ m)
+    → ((t : State) → Agree (link c) k s t → Agree (link c) k' (uses a word m s) (uses a word m t))
+    → Group (of_link (link c)) 1 k s k' (uses a word m s)
+low_group c a x y k k' s word m b rs1 rd0 rs20 i i' bytes bytes' at here here' low low' is is' one_use sum sum' keeps =
     record {
       more = 0;
       old_goes =
-          once (machine c.others c.old) s (uses a word (sum_64 v n) s)
+          once (machine c.others c.old) s (uses a word m s)
           (word_goes c.others c.old s x.place bytes (sums a rd0 rs1 rs20 i) at.at here low is
-          ∙ ap (λ m. Some (left s (used 4 a rd0 rs20 m (seen s)))) (ap (λ r. moved r i) base ∙ sum v)
-          ∙ ap (λ h. Some (left s h)) (one_use (seen s) (sum_64 v n)));
+          ∙ ap (λ m. Some (left s (used 4 a rd0 rs20 m (seen s)))) sum
+          ∙ ap (λ h. Some (left s h)) (one_use (seen s)));
       new_goes = λ t agree.
-          holds_of (run 1 (machine c.others c.new) t) (Agree (link c) k' (uses a word (sum_64 v n) s))
-          (uses a word (sum_64 v n) t)
-          (once (machine c.others c.new) t (uses a word (sum_64 v n) t)
-          (word_goes c.others c.new t y.place bytes' (sums a rd0 b rs20 i)
+          holds_of (run 1 (machine c.others c.new) t) (Agree (link c) k' (uses a word m s)) (uses a word m t)
+          (once (machine c.others c.new) t (uses a word m t)
+          (word_goes c.others c.new t y.place bytes' (sums a rd0 b rs20 i')
           (agree.pc ∙ ap c.moved at.at ∙ sym at.place) here' low' is'
-          ∙ ap (λ m. Some (left t (used 4 a rd0 rs20 m (seen t)))) (ap (λ r. moved r i) (base' t agree) ∙ sum v)
-          ∙ ap (λ h. Some (left t h)) (one_use (seen t) (sum_64 v n))))
+          ∙ ap (λ m. Some (left t (used 4 a rd0 rs20 m (seen t)))) (sum' t agree)
+          ∙ ap (λ h. Some (left t h)) (one_use (seen t))))
           (keeps t agree);
       forward = λ none. omega arith;
     }
 
-module _ (kind : RelocationKind) (number : Operands → ℕ) (of : IsFormulaOf kind number)
-    (rewrite : RelaxationKind) (b : ℕ) (small : b < 32) (based : IsBased rewrite b) (base : State → ℕ)
-    (IsKnown : Kinds → Type 0)
-    (same_base : (c : Code) (k : Kinds) (s t : State) → IsKnown k → Agree (link c) k s t
-    → register (seen t) b ≡ base s)
-    (a : Action) (low : List ℕ) (inside : 4 ≤ length low)
-    (is : action_of (opcode_of (word_of low)) (funct3_of (word_of low)) ≡ Some a)
-    (long : opcode_of (word_of low) % 4 ≡ 3) where
+-- the relocation of a low part, by its kind
+abbrev pub row_of : RelocationKind → Action → Option RelocationKindInfo
+row_of kind (stores f) = Some (pair_row kind 32 SType)
+row_of kind (stores_float f) = Some (pair_row kind 32 SType)
+row_of kind a = Some (pair_row kind 32 IType)
+
+-- the low part of a number
+abbrev pub low_of : ℕ → ℤ
+low_of n = signed 12 (n % 2 ^ 32 % 4096)
+
+-- Relocations of two kinds of numbers are applied to an instruction and to one over another base.
+module _ (kind kind' : RelocationKind) (number number' : Operands → ℕ) (of : IsFormulaOf kind number)
+    (of' : IsFormulaOf kind' number') (b : ℕ) (small : b < 32) (low made : List ℕ)
+    (there : word_of made ≡ with_rs1 b (word_of low)) (long : opcode_of (word_of low) % 4 ≡ 3) where
+  abbrev IsAction : Action → Type 0
+  IsAction a = action_of (opcode_of (word_of low)) (funct3_of (word_of low)) ≡ Some a
+
   long_word : (w : ℕ) → field w 0 7 ≡ opcode_of (word_of low) → field w 0 2 ≡ 3
   long_word w e = omega (arith, e, long)
 
-  of_action : (w : ℕ) → field w 0 7 ≡ opcode_of (word_of low) → field w 12 15 ≡ funct3_of (word_of low)
-      → of_word w ≡ with_action w (Some a)
-  of_action w e f =
+  of_action : (a : Action) → IsAction a → (w : ℕ) → field w 0 7 ≡ opcode_of (word_of low)
+      → field w 12 15 ≡ funct3_of (word_of low) → of_word w ≡ with_action w (Some a)
+  of_action a is w e f =
       is_action w a (ap (λ n. action_of n (funct3_of w)) e ∙ ap (action_of (opcode_of (word_of low))) f ∙ is)
 
-  pub i_group : ((w : ℕ) → with_action w (Some a) ≡ i_type a w)
+  abbrev IsGroup : Action → Option RelocationKindInfo → Option RelocationKindInfo → Type 0
+  IsGroup a row row' =
+      (c : Code) (x y : Operands) (k k' : Kinds) (s : State) (m : ℕ)
+      → AreBefore c 4 4 (record x { place = s.pc }) y s → Has 4 c.old s.pc row x low → Has 4 c.new y.place row' y made
+      → moved (register (seen s) (rs1_of (word_of low))) (low_of (number x)) ≡ m
+      → ((t : State) → Agree (link c) k s t → moved (register (seen t) b) (low_of (number' y)) ≡ m)
+      → ((t : State) → Agree (link c) k s t
+      → Agree (link c) k' (uses a (word_of low) m s) (uses a (word_of low) m t))
+      → Group (of_link (link c)) 1 k s k' (uses a (word_of low) m s)
+
+  i_group : (a : Action) → IsAction a → ((w : ℕ) → with_action w (Some a) ≡ i_type a w)
       → ((h : Hart) (m : ℕ) → used 4 a (rd_of (word_of low)) 0 m h
       ≡ used 4 a (rd_of (word_of low)) (rs2_of (word_of low)) m h)
-      → LowPartOf rewrite (λ _. Some (pair_row kind 32 IType)) number base IsKnown low a
-  i_group form one_use c x y k k' s at one within has known old new keeps =
+      → IsGroup a (Some (pair_row kind 32 IType)) (Some (pair_row kind' 32 IType))
+  i_group a is form one_use c x y k k' s m at old new sum sum' keeps =
       let word = word_of low in
-      let n = number x in
-      let made = after_rewrite rewrite low 0 in
       let w = word_of old.relocated in
       let w' = word_of new.relocated in
-      let there = based low 0 inside old.applied.old_bytes in
-      let kept = i_kept kind x n low old.relocated old.applied.applied (of.1 x) (of.0 IType x) in
-      let kept' = i_kept kind y (number y) made new.relocated new.applied.applied (of.1 y) (of.0 IType y) in
+      let kept = i_kept kind x (number x) low old.relocated old.applied.applied (of.1 x) (of.0 IType x) in
+      let kept' = i_kept kind' y (number' y) made new.relocated new.applied.applied (of'.1 y) (of'.0 IType y) in
       let opcode' : field w' 0 7 ≡ field word 0 7
       = kept' 0 7 refl ∙ ap (λ v. field v 0 7) there ∙ clear_0 word b in
       let function' : field w' 12 15 ≡ field word 12 15
       = kept' 12 3 refl ∙ ap (λ v. field v 12 15) there ∙ clear_12 word b in
-      low_group c a x y k k' s word n (base s) b (rs1_of word) (rd_of word) 0 (signed 12 (n % 2 ^ 32 % 4096))
-      old.relocated new.relocated at old.stands new.stands (long_word w (kept 0 7 refl)) (long_word w' opcode')
-      (of_action w (kept 0 7 refl) (kept 12 3 refl) ∙ form w
+      low_group c a (record x { place = s.pc }) y k k' s word m b (rs1_of word) (rd_of word) 0 (low_of (number x))
+      (low_of (number' y)) old.relocated new.relocated at old.stands new.stands (long_word w (kept 0 7 refl))
+      (long_word w' opcode')
+      (of_action a is w (kept 0 7 refl) (kept 12 3 refl) ∙ form w
       ∙ ap₂ (λ d r. Some (sums a d r 0 ((riscv_form IType).machine w))) (kept 7 5 refl) (kept 15 5 refl)
       ∙ ap (λ v. Some (sums a (rd_of word) (rs1_of word) 0 (signed 12 v)))
-      (i_stands kind x n low old.relocated old.applied.applied (of.1 x) (of.0 IType x)))
-      (of_action w' opcode' function' ∙ form w'
+      (i_stands kind x (number x) low old.relocated old.applied.applied (of.1 x) (of.0 IType x)))
+      (of_action a is w' opcode' function' ∙ form w'
       ∙ ap₂ (λ d r. Some (sums a d r 0 ((riscv_form IType).machine w')))
       (kept' 7 5 refl ∙ ap (λ v. field v 7 12) there ∙ clear_7 word b)
       (kept' 15 5 refl ∙ ap (λ v. field v 15 20) there ∙ clear_15 word b small)
       ∙ ap (λ v. Some (sums a (rd_of word) b 0 (signed 12 v)))
-      (i_stands kind y (number y) made new.relocated new.applied.applied (of.1 y) (of.0 IType y)
-      ∙ ap (λ t. t % 2 ^ 32 % 4096) (sym one)))
-      one_use
-      (λ v. low_sum v n (n % 2 ^ 32 % 4096) (of.1 x) (low_12_number n (of.1 x) within) refl)
-      has (λ t agree. same_base c k s t known agree) keeps
+      (i_stands kind' y (number' y) made new.relocated new.applied.applied (of'.1 y) (of'.0 IType y)))
+      (λ h. one_use h m) sum sum' keeps
 
-  pub s_group : ((w : ℕ) → with_action w (Some a) ≡ s_type a w)
+  s_group : (a : Action) → IsAction a → ((w : ℕ) → with_action w (Some a) ≡ s_type a w)
       → ((h : Hart) (m : ℕ) → used 4 a 0 (rs2_of (word_of low)) m h
       ≡ used 4 a (rd_of (word_of low)) (rs2_of (word_of low)) m h)
-      → LowPartOf rewrite (λ _. Some (pair_row kind 32 SType)) number base IsKnown low a
-  s_group form one_use c x y k k' s at one within has known old new keeps =
+      → IsGroup a (Some (pair_row kind 32 SType)) (Some (pair_row kind' 32 SType))
+  s_group a is form one_use c x y k k' s m at old new sum sum' keeps =
       let word = word_of low in
-      let n = number x in
-      let made = after_rewrite rewrite low 0 in
       let w = word_of old.relocated in
       let w' = word_of new.relocated in
-      let there = based low 0 inside old.applied.old_bytes in
-      let kept = s_kept kind x n low old.relocated old.applied.applied (of.1 x) (of.0 SType x) in
-      let kept' = s_kept kind y (number y) made new.relocated new.applied.applied (of.1 y) (of.0 SType y) in
+      let kept = s_kept kind x (number x) low old.relocated old.applied.applied (of.1 x) (of.0 SType x) in
+      let kept' = s_kept kind' y (number' y) made new.relocated new.applied.applied (of'.1 y) (of'.0 SType y) in
       let opcode' : field w' 0 7 ≡ field word 0 7
       = kept' 0 7 refl ∙ ap (λ v. field v 0 7) there ∙ clear_0 word b in
       let function' : field w' 12 15 ≡ field word 12 15
       = kept' 12 3 refl ∙ ap (λ v. field v 12 15) there ∙ clear_12 word b in
-      low_group c a x y k k' s word n (base s) b (rs1_of word) 0 (rs2_of word) (signed 12 (n % 2 ^ 32 % 4096))
-      old.relocated new.relocated at old.stands new.stands (long_word w (kept 0 7 refl)) (long_word w' opcode')
-      (of_action w (kept 0 7 refl) (kept 12 3 refl) ∙ form w
+      low_group c a (record x { place = s.pc }) y k k' s word m b (rs1_of word) 0 (rs2_of word) (low_of (number x))
+      (low_of (number' y)) old.relocated new.relocated at old.stands new.stands (long_word w (kept 0 7 refl))
+      (long_word w' opcode')
+      (of_action a is w (kept 0 7 refl) (kept 12 3 refl) ∙ form w
       ∙ ap₂ (λ r q. Some (sums a 0 r q ((riscv_form SType).machine w))) (kept 15 5 refl) (kept 20 5 refl)
       ∙ ap (λ v. Some (sums a 0 (rs1_of word) (rs2_of word) (signed 12 v)))
-      (s_stands kind x n low old.relocated old.applied.applied (of.1 x) (of.0 SType x)))
-      (of_action w' opcode' function' ∙ form w'
+      (s_stands kind x (number x) low old.relocated old.applied.applied (of.1 x) (of.0 SType x)))
+      (of_action a is w' opcode' function' ∙ form w'
       ∙ ap₂ (λ r q. Some (sums a 0 r q ((riscv_form SType).machine w')))
       (kept' 15 5 refl ∙ ap (λ v. field v 15 20) there ∙ clear_15 word b small)
       (kept' 20 5 refl ∙ ap (λ v. field v 20 25) there ∙ clear_20 word b small)
       ∙ ap (λ v. Some (sums a 0 b (rs2_of word) (signed 12 v)))
-      (s_stands kind y (number y) made new.relocated new.applied.applied (of.1 y) (of.0 SType y)
-      ∙ ap (λ t. t % 2 ^ 32 % 4096) (sym one)))
-      one_use
-      (λ v. low_sum v n (n % 2 ^ 32 % 4096) (of.1 x) (low_12_number n (of.1 x) within) refl)
-      has (λ t agree. same_base c k s t known agree) keeps
+      (s_stands kind' y (number' y) made new.relocated new.applied.applied (of'.1 y) (of'.0 SType y)))
+      (λ h. one_use h m) sum sum' keeps
 
--- every action
-module _ (low : List ℕ) (inside : 4 ≤ length low) (long : opcode_of (word_of low) % 4 ≡ 3) where
-  abbrev IsAction : Action → Type 0
-  IsAction a = action_of (opcode_of (word_of low)) (funct3_of (word_of low)) ≡ Some a
+  pub based_group : (a : Action) → IsAction a → IsGroup a (row_of kind a) (row_of kind' a)
+  based_group adds is = i_group adds is (λ w. refl) (λ h m. refl)
+  based_group adds_word is = i_group adds_word is (λ w. refl) (λ h m. refl)
+  based_group jumps is = i_group jumps is (λ w. refl) (λ h m. refl)
+  based_group (loads f) is = i_group (loads f) is (λ w. refl) (λ h m. refl)
+  based_group (stores f) is = s_group (stores f) is (λ w. refl) (λ h m. refl)
+  based_group (loads_float f) is = i_group (loads_float f) is (λ w. refl) (λ h m. refl)
+  based_group (stores_float f) is = s_group (stores_float f) is (λ w. refl) (λ h m. refl)
 
-  zero_i : (a : Action) → IsAction a → ((w : ℕ) → with_action w (Some a) ≡ i_type a w)
-      → ((h : Hart) (m : ℕ) → used 4 a (rd_of (word_of low)) 0 m h
-      ≡ used 4 a (rd_of (word_of low)) (rs2_of (word_of low)) m h)
-      → LowPartOf kinds.Lo12Rs1ToZero (λ _. Some (pair_row Absolute 32 IType)) symbol_address (λ s. 0) (λ k. ⊤) low a
-  zero_i a is =
-      i_group Absolute symbol_address of_address kinds.Lo12Rs1ToZero 0 (omega arith) over_zero (λ s. 0) (λ k. ⊤)
-      (λ c k s t known agree. refl) a low inside is long
+-- Both numbers are one of 12 bits, and old's base has what new's has.
+low_parts_of : (kind : RelocationKind) (number : Operands → ℕ) → IsFormulaOf kind number
+    → (row : Action → Option RelocationKindInfo) → ((a : Action) → row a ≡ row_of kind a)
+    → (rewrite : RelaxationKind) (b : ℕ) → b < 32 → IsBased rewrite b → (base : State → ℕ)
+    → (IsKnown : Kinds → Type 0)
+    → ((c : Code) (k : Kinds) (s t : State) → IsKnown k → Agree (link c) k s t → register (seen t) b ≡ base s)
+    → (low : List ℕ) → 4 ≤ length low → IsTrue (adds_low12 (opcode_of (word_of low)) (funct3_of (word_of low)))
+    → IsSomeAnd (action_at low 0) (LowPartOf rewrite row number base IsKnown low)
+low_parts_of kind number of row rows rewrite b small based base IsKnown same_base low inside is =
+    let some = some_action (opcode_of (word_of low)) (funct3_of (word_of low)) is in
+    let a = some.0 in
+    let made = after_rewrite rewrite low 0 in
+    subst (λ r. IsSomeAnd r (LowPartOf rewrite row number base IsKnown low)) (sym some.1)
+    (λ c x y k k' s at one within has known old new keeps.
+    let n = number x in
+    let old' = subst (λ r. Has 4 c.old x.place r x low) (rows a) old in
+    let new' = subst (λ r. Has 4 c.new y.place r y made) (rows a) new in
+    let sum : (v : ℕ) → moved v (low_of n) ≡ sum_64 v n =
+    λ v. low_sum v n (n % 2 ^ 32 % 4096) (of.1 x) (low_12_number n (of.1 x) within) refl in
+    based_group kind kind number number of of b small low made (based low 0 inside old'.applied.old_bytes) some.2 a
+    some.1 c x y k k' s (sum_64 (base s) n)
+    (record {
+      at = refl;
+      small = subst (λ p. p < 2 ^ 64) (sym at.at) at.small;
+      place = at.place ∙ ap c.moved (sym at.at);
+      next = at.next ∙ ap (λ p. c.moved (sum_64 p 4)) (sym at.at);
+    })
+    (subst (λ p. Has 4 c.old p (row_of kind a) x low) (sym at.at) old') new'
+    (ap (λ r. moved r (low_of n)) has ∙ sum (base s))
+    (λ t agree. ap₂ (λ r n. moved r (low_of n)) (same_base c k s t known agree) (sym one) ∙ sum (base s)) keeps)
 
-  zero_s : (a : Action) → IsAction a → ((w : ℕ) → with_action w (Some a) ≡ s_type a w)
-      → ((h : Hart) (m : ℕ) → used 4 a 0 (rs2_of (word_of low)) m h
-      ≡ used 4 a (rd_of (word_of low)) (rs2_of (word_of low)) m h)
-      → LowPartOf kinds.Lo12Rs1ToZero (λ _. Some (pair_row Absolute 32 SType)) symbol_address (λ s. 0) (λ k. ⊤) low a
-  zero_s a is =
-      s_group Absolute symbol_address of_address kinds.Lo12Rs1ToZero 0 (omega arith) over_zero (λ s. 0) (λ k. ⊤)
-      (λ c k s t known agree. refl) a low inside is long
+pub absolute_rows : (a : Action) → low_row a ≡ row_of Absolute a
+absolute_rows adds = refl
+absolute_rows adds_word = refl
+absolute_rows jumps = refl
+absolute_rows (loads f) = refl
+absolute_rows (stores f) = refl
+absolute_rows (loads_float f) = refl
+absolute_rows (stores_float f) = refl
 
-  pub over_x0 : (a : Action) → IsAction a
-      → LowPartOf kinds.Lo12Rs1ToZero low_row symbol_address (λ s. 0) (λ k. ⊤) low a
-  over_x0 adds is = zero_i adds is (λ w. refl) (λ h m. refl)
-  over_x0 adds_word is = zero_i adds_word is (λ w. refl) (λ h m. refl)
-  over_x0 jumps is = zero_i jumps is (λ w. refl) (λ h m. refl)
-  over_x0 (loads f) is = zero_i (loads f) is (λ w. refl) (λ h m. refl)
-  over_x0 (stores f) is = zero_s (stores f) is (λ w. refl) (λ h m. refl)
-  over_x0 (loads_float f) is = zero_i (loads_float f) is (λ w. refl) (λ h m. refl)
-  over_x0 (stores_float f) is = zero_s (stores_float f) is (λ w. refl) (λ h m. refl)
-
-  abbrev IsSame : Kinds → Type 0
-  IsSame k = k.registers 4 ≡ same
-
-  tp_is_same : (c : Code) (k : Kinds) (s t : State) → IsSame k → Agree (link c) k s t
-      → register (seen t) 4 ≡ s.registers 4
-  tp_is_same c k s t known agree =
-      sym (subst (λ kind. AreOf (link c) 8 kind (s.registers 4) (t.registers 4)) known (agree.registers 4))
-
-  tp_i : (a : Action) → IsAction a → ((w : ℕ) → with_action w (Some a) ≡ i_type a w)
-      → ((h : Hart) (m : ℕ) → used 4 a (rd_of (word_of low)) 0 m h
-      ≡ used 4 a (rd_of (word_of low)) (rs2_of (word_of low)) m h)
-      → LowPartOf kinds.BaseToTp (λ _. Some (pair_row TpOff 32 IType)) thread_offset (λ s. s.registers 4) IsSame low a
-  tp_i a is =
-      i_group TpOff thread_offset of_offset kinds.BaseToTp 4 (omega arith) over_tp (λ s. s.registers 4) IsSame
-      tp_is_same a low inside is long
-
-  tp_s : (a : Action) → IsAction a → ((w : ℕ) → with_action w (Some a) ≡ s_type a w)
-      → ((h : Hart) (m : ℕ) → used 4 a 0 (rs2_of (word_of low)) m h
-      ≡ used 4 a (rd_of (word_of low)) (rs2_of (word_of low)) m h)
-      → LowPartOf kinds.BaseToTp (λ _. Some (pair_row TpOff 32 SType)) thread_offset (λ s. s.registers 4) IsSame low a
-  tp_s a is =
-      s_group TpOff thread_offset of_offset kinds.BaseToTp 4 (omega arith) over_tp (λ s. s.registers 4) IsSame
-      tp_is_same a low inside is long
-
-  pub over_thread : (a : Action) → IsAction a
-      → LowPartOf kinds.BaseToTp offset_row thread_offset (λ s. s.registers 4) IsSame low a
-  over_thread adds is = tp_i adds is (λ w. refl) (λ h m. refl)
-  over_thread adds_word is = tp_i adds_word is (λ w. refl) (λ h m. refl)
-  over_thread jumps is = tp_i jumps is (λ w. refl) (λ h m. refl)
-  over_thread (loads f) is = tp_i (loads f) is (λ w. refl) (λ h m. refl)
-  over_thread (stores f) is = tp_s (stores f) is (λ w. refl) (λ h m. refl)
-  over_thread (loads_float f) is = tp_i (loads_float f) is (λ w. refl) (λ h m. refl)
-  over_thread (stores_float f) is = tp_s (stores_float f) is (λ w. refl) (λ h m. refl)
+offset_rows : (a : Action) → offset_row a ≡ row_of TpOff a
+offset_rows adds = refl
+offset_rows adds_word = refl
+offset_rows jumps = refl
+offset_rows (loads f) = refl
+offset_rows (stores f) = refl
+offset_rows (loads_float f) = refl
+offset_rows (stores_float f) = refl
 
 pub are_low_parts : groups.LowPartFromZero
 are_low_parts low m =
-    let some = some_action (opcode_of (word_of low)) (funct3_of (word_of low)) m.1 in
-    subst (λ r. IsSomeAnd r (LowPartOf kinds.Lo12Rs1ToZero low_row symbol_address (λ s. 0) (λ k. ⊤) low)) (sym some.1)
-    (over_x0 low m.0 some.2 some.0 some.1)
+    low_parts_of Absolute symbol_address of_address low_row absolute_rows kinds.Lo12Rs1ToZero 0 (omega arith) over_zero
+    (λ s. 0) (λ k. ⊤) (λ c k s t known agree. refl) low m.0 m.1
 
 pub are_low_offsets : groups.LowPartFromThreadPointer
 are_low_offsets low m =
-    let some = some_action (opcode_of (word_of low)) (funct3_of (word_of low)) m.1 in
-    subst (λ r. IsSomeAnd r (LowPartOf kinds.BaseToTp offset_row thread_offset (λ s. s.registers 4)
-    (λ k. k.registers 4 ≡ same) low)) (sym some.1)
-    (over_thread low m.0 some.2 some.0 some.1)
+    low_parts_of TpOff thread_offset of_offset offset_row offset_rows kinds.BaseToTp 4 (omega arith) over_tp
+    (λ s. s.registers 4) (λ k. k.registers 4 ≡ same)
+    (λ c k s t known agree.
+    sym (subst (λ kind. AreOf (link c) 8 kind (s.registers 4) (t.registers 4)) known (agree.registers 4)))
+    low m.0 m.1
 
 -- ---- calls
 
@@ -516,159 +517,184 @@ eight : (a : ℕ) → sum_64 (sum_64 a 4) 4 ≡ sum_64 a 8
 eight a = omega arith
 
 -- the address of a place, in old and in new
-counts : (a b : ℕ) → a ≡ b → b < 2 ^ 64
+pub counts : (a b : ℕ) → a ≡ b → b < 2 ^ 64
     → int_rem_euclid ((pos 0 +ℤ pos (sum (a ∷ []))) -ℤ pos (sum [])) (pos (2 ^ 64)) ≡ pos b
 counts a b e small =
     ap (λ n. int_rem_euclid ((pos 0 +ℤ pos (sum (n ∷ []))) -ℤ pos (sum [])) (pos (2 ^ 64))) e
     ∙ lifted_is ((pos 0 +ℤ pos (sum (b ∷ []))) -ℤ pos (sum [])) 0 b (omega (arith, ints))
     ∙ ap pos (let e : b % 2 ^ 64 ≡ b = omega arith in e)
 
-module _ (c : Code) (x y : Operands) (k : Kinds) (s : State) (call jump : List ℕ) (n : ℕ)
-    (sx : AreAddresses x) (at : AreBefore c 8 n x y s)
-    (target : symbol_address y ≡ c.moved (even plt_address x))
+-- one run of `auipc` and `jalr`
+module _ (others : List ℕ → Program) (code : ℕ → ℕ) (x : Operands) (s : State) (call : List ℕ)
+    (sx : AreAddresses x) (at : s.pc ≡ x.place)
     (pair : IsCallPair (word_of call) (word_of (drop 4 call))) (some : rd_of (word_of call) ≢ 0)
-    (old : Has 8 c.old x.place (Some (pair_row PltRelative 64 UiType)) x call) where
-  base : ℕ
-  base = rd_of (word_of call)
+    (has : Has 8 code x.place (Some (pair_row PltRelative 64 UiType)) x call) where
+  abbrev after_auipc : State
+  after_auipc = put (rd_of (word_of call)) (upper_from x.place has.relocated) (sum_64 x.place 4) s
 
-  l : ℕ
-  l = rd_of (word_of (drop 4 call))
-
-  v : ℕ
-  v = upper_from x.place old.relocated
-
-  after_auipc : State
-  after_auipc = put base v (sum_64 x.place 4) s
-
-  first_goes : machine c.others c.old s ≡ Some after_auipc
-  unfolding base v after_auipc
+  first_goes : machine others code s ≡ Some after_auipc
   first_goes =
-      let w = word_of old.relocated in
-      let a = old.applied in
+      let w = word_of has.relocated in
+      let a = has.applied in
       let u = (riscv_form UType).machine w in
       let register' : rd_of w ≡ rd_of (word_of call) =
-      pair_register x call old.relocated a.applied a.old_bytes a.bytes a.len pair in
-      puts (machine c.others c.old) s 4 (auipc (rd_of w) u) (rd_of (word_of call))
-      (upper_from x.place old.relocated) (sum_64 x.place 4) (below_32 (word_of call))
-      (word_goes c.others c.old s x.place old.relocated (auipc (rd_of w) u) at.at
-      (first_stands c.old x.place old.relocated old.stands)
-      (low_long x call old.relocated a.applied a.old_bytes a.bytes a.len pair)
-      (low_decodes x call old.relocated a.applied a.old_bytes a.bytes a.len pair))
-      (ap₂ (λ r p. goes_to (sum_64 p 4) (with_integer r (moved p u) (seen s))) register' at.at)
+      pair_register x call has.relocated a.applied a.old_bytes a.bytes a.len pair in
+      puts (machine others code) s 4 (auipc (rd_of w) u) (rd_of (word_of call))
+      (upper_from x.place has.relocated) (sum_64 x.place 4) (below_32 (word_of call))
+      (word_goes others code s x.place has.relocated (auipc (rd_of w) u) at
+      (first_stands code x.place has.relocated has.stands)
+      (low_long x call has.relocated a.applied a.old_bytes a.bytes a.len pair)
+      (low_decodes x call has.relocated a.applied a.old_bytes a.bytes a.len pair))
+      (ap₂ (λ r p. goes_to (sum_64 p 4) (with_integer r (moved p u) (seen s))) register' at)
 
-  second_goes : machine c.others c.old after_auipc
-      ≡ Some (put l (sum_64 x.place 8) (even plt_address x) after_auipc)
-  unfolding base l v after_auipc
+  second_goes : machine others code after_auipc
+      ≡ Some (put (rd_of (word_of (drop 4 call))) (sum_64 x.place 8) (even plt_address x) after_auipc)
   second_goes =
-      let a = old.applied in
-      let t = put (rd_of (word_of call)) (upper_from x.place old.relocated) (sum_64 x.place 4) s in
-      let w = word_of (drop 4 old.relocated) in
+      let a = has.applied in
+      let t = after_auipc in
+      let w = word_of (drop 4 has.relocated) in
       let i = (riscv_form IType).machine w in
       let link_is : rd_of w ≡ rd_of (word_of (drop 4 call)) =
-      pair_link x call old.relocated a.applied a.old_bytes a.bytes a.len pair in
-      let base_is : register (seen t) (rs1_of w) ≡ upper_from x.place old.relocated =
-      ap (register (seen t)) (pair_base x call old.relocated a.applied a.old_bytes a.bytes a.len pair)
-      ∙ written (rd_of (word_of call)) (upper_from x.place old.relocated) (seen s) some in
-      puts (machine c.others c.old) t 4 (sums jumps (rd_of w) (rs1_of w) 0 i) (rd_of (word_of (drop 4 call)))
+      pair_link x call has.relocated a.applied a.old_bytes a.bytes a.len pair in
+      let base_is : register (seen t) (rs1_of w) ≡ upper_from x.place has.relocated =
+      ap (register (seen t)) (pair_base x call has.relocated a.applied a.old_bytes a.bytes a.len pair)
+      ∙ written (rd_of (word_of call)) (upper_from x.place has.relocated) (seen s) some in
+      puts (machine others code) t 4 (sums jumps (rd_of w) (rs1_of w) 0 i) (rd_of (word_of (drop 4 call)))
       (sum_64 x.place 8) (even plt_address x) (below_32 (word_of (drop 4 call)))
-      (word_goes c.others c.old t (sum_64 x.place 4) (drop 4 old.relocated) (sums jumps (rd_of w) (rs1_of w) 0 i) refl
-      (second_stands c.old x.place old.relocated old.stands)
-      (high_long x call old.relocated a.applied a.old_bytes a.bytes a.len pair)
-      (high_decodes x call old.relocated a.applied a.old_bytes a.bytes a.len pair))
+      (word_goes others code t (sum_64 x.place 4) (drop 4 has.relocated) (sums jumps (rd_of w) (rs1_of w) 0 i) refl
+      (second_stands code x.place has.relocated has.stands)
+      (high_long x call has.relocated a.applied a.old_bytes a.bytes a.len pair)
+      (high_decodes x call has.relocated a.applied a.old_bytes a.bytes a.len pair))
       (ap₂ (λ m r. goes_to (moved m i - moved m i % 2) (with_integer r (sum_64 (sum_64 x.place 4) 4) (seen t)))
       base_is link_is
       ∙ ap₂ (λ m r. goes_to m (with_integer (rd_of (word_of (drop 4 call))) r (seen t)))
-      (pair_leads x call old.relocated a.applied a.old_bytes a.bytes a.len pair sx) (eight x.place))
+      (pair_leads x call has.relocated a.applied a.old_bytes a.bytes a.len pair sx) (eight x.place))
 
-  agrees : (t : State) → Agree (link c) k s t
-      → Agree (link c)
-      (with_register l (groups.of_place (sum_64 x.place 8)) (with_register base anything k))
-      (put l (sum_64 x.place 8) (even plt_address x) after_auipc)
-      (put l (sum_64 y.place n) (symbol_address y) t)
-  unfolding base l v after_auipc
-  agrees t agree =
-      let b = rd_of (word_of call) in
-      let r = rd_of (word_of (drop 4 call)) in
-      let e = upper_from x.place old.relocated in
-      agree_put (link c) (with_register b anything k) (put b e s.pc s) t r (groups.of_place (sum_64 x.place 8))
-      (sum_64 x.place 8) (sum_64 y.place n) (even plt_address x) (symbol_address y)
-      (agree_put_old (link c) k s t b anything e s.pc agree agree.small agree.pc tt)
-      (even_below (plt_address x) (sum_below x.plt_entry _)) target (
-        counts (sum_64 x.place 8) (sum_64 x.place 8) refl (sum_below x.place 8),
-        counts (c.moved (sum_64 x.place 8)) (sum_64 y.place n) (sym at.next) (sum_below y.place n),
-      )
+  pair_goes : run 2 (machine others code) s
+      ≡ Some (put (rd_of (word_of (drop 4 call))) (sum_64 x.place 8) (even plt_address x) after_auipc)
+  pair_goes =
+      run_first 1 (machine others code) s after_auipc _ first_goes
+      (once (machine others code) after_auipc _ second_goes)
+
+module _ (c : Code) (x y : Operands) (k : Kinds) (s : State) (call : List ℕ) (n : ℕ)
+    (sx : AreAddresses x) (at : AreBefore c 8 n x y s) (target : ℕ)
+    (leads : target ≡ c.moved (even plt_address x))
+    (pair : IsCallPair (word_of call) (word_of (drop 4 call))) (some : rd_of (word_of call) ≢ 0)
+    (old : Has 8 c.old x.place (Some (pair_row PltRelative 64 UiType)) x call) where
+  abbrev base : ℕ
+  base = rd_of (word_of call)
+
+  abbrev l : ℕ
+  l = rd_of (word_of (drop 4 call))
+
+  abbrev v : ℕ
+  v = upper_from x.place old.relocated
+
+  -- new calls from a state that agrees but for the pc
+  call_group : (m : ℕ)
+      → ((t : State) → t.pc ≡ y.place → Agree (link c) k s t → (u : State)
+      × Agree (link c) (with_register base anything k) (put base v s.pc s) u
+      × (run (suc m) (machine c.others c.new) t ≡ Some (put l (sum_64 y.place n) target u)))
+      → groups.IsCall c (suc m) x k s call old.relocated
+  call_group m goes =
+      record {
+        more = 1;
+        old_goes = pair_goes c.others c.old x s call sx at.at pair some old;
+        new_goes = λ t agree.
+            let new = goes t (agree.pc ∙ ap c.moved at.at ∙ sym at.place) agree in
+            holds_of (run (suc m) (machine c.others c.new) t) _ (put l (sum_64 y.place n) target new.0) new.2
+            (agree_put (link c) (with_register base anything k) (put base v s.pc s) new.0 l
+            (groups.of_place (sum_64 x.place 8)) (sum_64 x.place 8) (sum_64 y.place n) (even plt_address x) target
+            new.1 (even_below (plt_address x) (sum_below x.plt_entry _)) leads (
+              counts (sum_64 x.place 8) (sum_64 x.place 8) refl (sum_below x.place 8),
+              counts (c.moved (sum_64 x.place 8)) (sum_64 y.place n) (sym at.next) (sum_below y.place n),
+            ));
+        forward = λ none. omega arith;
+      }
     where
       even_below : (a : ℕ) → a < 2 ^ 64 → a - a % 2 < 2 ^ 64
       even_below a small = omega arith
 
-  pub call_group :
-      ((t : State) → t.pc ≡ y.place
-      → machine c.others c.new t ≡ Some (put (rd_of (word_of (drop 4 call))) (sum_64 y.place n) (symbol_address y) t))
-      → Group (of_link (link c)) 1 k s
-      (with_register (rd_of (word_of (drop 4 call))) (groups.of_place (sum_64 x.place 8))
-      (with_register (rd_of (word_of call)) anything k))
-      (put (rd_of (word_of (drop 4 call))) (sum_64 x.place 8) (even plt_address x)
-      (put (rd_of (word_of call)) (upper_from x.place old.relocated) (sum_64 x.place 4) s))
-  unfolding base l v after_auipc
-  call_group goes =
-      record {
-        more = 1;
-        old_goes =
-            run_first 1 (machine c.others c.old) s after_auipc _ first_goes
-            (once (machine c.others c.old) after_auipc (put l (sum_64 x.place 8) (even plt_address x) after_auipc)
-            second_goes);
-        new_goes = λ t agree.
-            holds_of (run 1 (machine c.others c.new) t) _ (put l (sum_64 y.place n) (symbol_address y) t)
-            (once (machine c.others c.new) t (put l (sum_64 y.place n) (symbol_address y) t)
-            (goes t (agree.pc ∙ ap c.moved at.at ∙ sym at.place)))
-            (agrees t agree);
-        forward = λ none. omega arith;
-      }
+  pub jump_group : ((t : State) → t.pc ≡ y.place
+      → machine c.others c.new t ≡ Some (put l (sum_64 y.place n) target t))
+      → groups.IsCall c 1 x k s call old.relocated
+  jump_group goes =
+      call_group 0 (λ t here agree. (
+        t,
+        agree_put_old (link c) k s t base anything v s.pc agree agree.small agree.pc tt,
+        once (machine c.others c.new) t (put l (sum_64 y.place n) target t) (goes t here),
+      ))
+
+-- `jal` and `c.j`
+pub jal_goes : (others : List ℕ → Program) (code : ℕ → ℕ) (at r target : ℕ) (bytes : List ℕ)
+    → Stands 4 code at bytes → opcode_of (word_of bytes) ≡ 0x6f → rd_of (word_of bytes) ≡ r
+    → moved at ((riscv_form JType).machine (word_of bytes)) ≡ target → (t : State) → t.pc ≡ at
+    → machine others code t ≡ Some (put r (sum_64 at 4) target t)
+jal_goes others code at r target bytes stands op rd leads t here =
+    let w = word_of bytes in
+    let j = (riscv_form JType).machine w in
+    puts (machine others code) t 4 (jal (rd_of w) j) r (sum_64 at 4) target (subst (λ r. r < 32) rd (below_32 w))
+    (word_goes others code t at bytes (jal (rd_of w) j) here stands (is_long w 0x6f op refl) (is_jal w op))
+    (ap₂ (λ p r. goes_to (moved p j) (with_integer r (sum_64 p 4) (seen t))) here rd
+    ∙ ap (λ m. goes_to m (with_integer r (sum_64 at 4) (seen t))) leads)
+
+pub cj_goes : (others : List ℕ → Program) (code : ℕ → ℕ) (at r target : ℕ) (bytes : List ℕ)
+    → Stands 2 code at bytes → field (from_le_bytes w16 bytes) 0 2 ≡ 1
+    → field (from_le_bytes w16 bytes) 13 16 ≡ 5 → r ≡ 0
+    → moved at ((riscv_form CjType).machine (from_le_bytes w16 bytes)) ≡ target → (t : State) → t.pc ≡ at
+    → machine others code t ≡ Some (put r (sum_64 at 2) target t)
+cj_goes others code at r target bytes stands quadrant function none leads t here =
+    let half = from_le_bytes w16 bytes in
+    let j = (riscv_form CjType).machine half in
+    puts (machine others code) t 2 (jal 0 j) r (sum_64 at 2) target (omega (arith, none))
+    (half_goes others code t at bytes (jal 0 j) here stands quadrant (is_cj half quadrant function))
+    (ap₂ (λ p r. goes_to (moved p j) (with_integer r (sum_64 p 2) (seen t))) here (sym none)
+    ∙ ap (λ m. goes_to m (with_integer r (sum_64 at 2) (seen t))) leads)
 
 jal_group : groups.CallTo names.R_RISCV_CALL 4 names.R_RISCV_JAL groups.IsJal
 jal_group c x y k s call jump sx sy at target pair some is old new =
     let r = rd_of (word_of (drop 4 call)) in
-    let w = word_of new.relocated in
     let a = new.applied in
     let op : opcode_of (word_of jump) ≡ 0x6f = omega (arith, is) in
     let rd' : rd_of (word_of jump) ≡ r = omega (arith, is) in
-    let j = (riscv_form JType).machine w in
-    call_group c x y k s call jump 4 sx at target pair some old
-    (λ t here.
-    puts (machine c.others c.new) t 4 (jal (rd_of w) j) r (sum_64 y.place 4) (symbol_address y)
-    (below_32 (word_of (drop 4 call)))
-    (word_goes c.others c.new t y.place new.relocated (jal (rd_of w) j) here new.stands
-    (jump_long y jump new.relocated a.applied a.len op)
-    (jump_decodes y jump new.relocated a.applied a.len op))
-    (ap₂ (λ p r. goes_to (moved p j) (with_integer r (sum_64 p 4) (seen t))) here
-    (same_destination y jump new.relocated a.applied a.len op ∙ rd')
-    ∙ ap (λ m. goes_to m (with_integer r (sum_64 y.place 4) (seen t)))
-    (jump_leads y jump new.relocated a.applied a.len op sy)))
+    jump_group c x y k s call 4 sx at (symbol_address y) target pair some old
+    (jal_goes c.others c.new y.place r (symbol_address y) new.relocated new.stands
+    (same_opcode y jump new.relocated a.applied a.len ∙ op)
+    (same_destination y jump new.relocated a.applied a.len ∙ rd')
+    (jump_leads y jump new.relocated a.applied a.len sy))
 
 cj_group : groups.CallTo names.R_RISCV_CALL 2 names.R_RISCV_RVC_JUMP groups.IsCj
 cj_group c x y k s call jump sx sy at target pair some is old new =
-    let r = rd_of (word_of (drop 4 call)) in
     let a = new.applied in
     let there = is.1 in
     let low_bits : field (from_le_bytes w16 jump) 0 2 ≡ 1 = omega (arith, there) in
     let function : field (from_le_bytes w16 jump) 13 16 ≡ 5 = omega (arith, there) in
-    let j = (riscv_form CjType).machine (from_le_bytes w16 new.relocated) in
-    call_group c x y k s call jump 2 sx at target pair some old
-    (λ t here.
-    puts (machine c.others c.new) t 2 (jal 0 j) r (sum_64 y.place 2) (symbol_address y)
-    (below_32 (word_of (drop 4 call)))
-    (half_goes c.others c.new t y.place new.relocated (jal 0 j) here new.stands
+    jump_group c x y k s call 2 sx at (symbol_address y) target pair some old
+    (cj_goes c.others c.new y.place (rd_of (word_of (drop 4 call))) (symbol_address y) new.relocated new.stands
     (short_jump_low y jump new.relocated a.applied a.len low_bits function)
-    (short_jump_decodes y jump new.relocated a.applied a.len low_bits function))
-    (ap₂ (λ p r. goes_to (moved p j) (with_integer r (sum_64 p 2) (seen t))) here (sym is.0)
-    ∙ ap (λ m. goes_to m (with_integer r (sum_64 y.place 2) (seen t)))
-    (short_jump_leads y jump new.relocated a.applied a.len low_bits function sy)))
+    (short_jump_function y jump new.relocated a.applied a.len low_bits function) is.0
+    (short_jump_leads y jump new.relocated a.applied a.len low_bits function sy))
+
+long_group : groups.CallStays names.R_RISCV_CALL
+long_group c x y k s call sx sy at target pair some old new =
+    let base = rd_of (word_of call) in
+    let v = upper_from x.place old.relocated in
+    let v' = upper_from y.place new.relocated in
+    call_group c x y k s call 8 sx at (even plt_address y) target pair some old 1
+    (λ t here agree. (
+      put base v' t.pc t,
+      agree_put (link c) k s t base anything v v' s.pc t.pc agree agree.small agree.pc tt,
+      pair_goes c.others c.new y t call sy here pair some new,
+    ))
 
 pub are_calls : groups.Calls
 are_calls = (jal_group, jal_group)
 
 pub are_short_tail_calls : groups.ShortTailCalls
 are_short_tail_calls = (cj_group, cj_group)
+
+pub are_long_calls : groups.LongCalls
+are_long_calls = (long_group, long_group)
 
 pub are_rewritten_calls : groups.CallsAreRewritten
 are_rewritten_calls call = (

@@ -1,28 +1,29 @@
 -- The worked program of RISC-V.
 use Rattle.std.proofs.Common.{◌≡◌, ℕ, suc, ◌+◌, ◌-◌, ◌^◌, ◌<◌, ◌≤◌, Bool, true, false, refl, sym, ◌∙◌, ap}
 use Rattle.std.proofs.Common.{subst, arith, List, [], ◌∷◌, length, Option, lit<, lit≤, pos, leb, leb-true}
-use Rattle.std.proofs.Common.{true≢false}
-use Rattle.std.specs.Prelude.{◌&&◌, IsSomeAnd, nat_lt, min}
+use Rattle.std.proofs.Common.{Some, inr, true≢false}
+use Rattle.std.specs.Prelude.{◌%◌, ◌&&◌, IsSomeAnd, nat_lt, min, unsigned_abs}
 use Rattle.std.proofs.lemmas.Bool.{cond-false, cond-true, ltb-true}
 use Rattle.std.proofs.lemmas.Int.{ints}
 use Rattle.std.proofs.lemmas.List.Elements.{All-nil, All-cons}
 use Rattle.linker_base.specs.Form.{place_sum}
 use Rattle.linker_elf.specs.Applied.{IsApplied}
 use Rattle.linker_elf.specs.RiscVRelocations.{riscv_row}
-use Rattle.linker_elf.specs.Value.{sum_64}
+use Rattle.linker_elf.specs.Value.{difference_64, sum_64}
 use Rattle.linker_elf.specs.declared.elf.RelocationKindInfo.{RelocationKindInfo}
 use Rattle.linker_elf.specs.declared.elf.value.Operands.{Operands}
 use Rattle.linker_elf.specs.declared.riscv64.relocations.RiscVRelocation.TheVariants as names
 use Rattle.linker_laws.specs.Changes.{put, with_register}
-use Rattle.linker_laws.specs.Machine.{AreBytes}
+use Rattle.linker_laws.specs.Machine.{AreBytes, loaded, moved as plus}
 use Rattle.linker_laws.specs.RiscVGroups.{Groups, Has, Stands, continued, instruction_at, link, machine}
-use Rattle.linker_laws.specs.RiscVGroups.{seen, uses}
+use Rattle.linker_laws.specs.RiscVGroups.{HasRoom, left, of_place, seen, uses, with_stored}
+use Rattle.linker_laws.specs.RiscVGroups.AreUsed.{as_stored, as_sum}
 use Rattle.linker_laws.specs.RiscVGroupsWorked.{IsWorked, code, is_entry, known, moved, new, old, others, starting, words}
-use Rattle.linker_laws.specs.RiscVMachine.{adds, step}
+use Rattle.linker_laws.specs.RiscVMachine.{adds, goes_to, stores, step, with_integer}
 use Rattle.linker_laws.specs.RiscVRewriteLaws.{after_rewrite, of_entry}
 use Rattle.linker_laws.specs.Schemes.{AreAddresses}
-use Rattle.linker_laws.specs.Simulation.{Agree, Group, Kinds, State, anything, ends, group, of_link}
-use Rattle.linker_laws.specs.Simulation.{run, same}
+use Rattle.linker_laws.specs.Simulation.{Agree, Group, Kinds, Other, State, anything, ends, group}
+use Rattle.linker_laws.specs.Simulation.{of_link, other, run, same}
 use Rattle.linker_utils.specs.declared.riscv64.rewrites.RelaxationKind.TheVariants as kinds
 use Rattle.linker_laws.proofs.AArch64GroupsWorked.{relocated}
 use Rattle.linker_laws.proofs.Agreement.{agree_put}
@@ -94,10 +95,16 @@ abbrev low : Operands
 low = operands 0x120 0x10004
 
 abbrev load : Operands
-load = operands 0x13000 0x10008
+load = operands 0x13000 0x1000c
 
 abbrev sum_at : Operands
-sum_at = operands 0x13000 0x10004
+sum_at = operands 0x13000 0x10008
+
+abbrev calling : Operands
+calling = record (operands 0 0x10014) { plt_entry = 0x10020 }
+
+abbrev jumping : Operands
+jumping = operands 0x10018 0x10010
 
 -- ---- relocations
 
@@ -129,42 +136,88 @@ made_has =
     (relocated _ _ _ (pos 0x120) 0x513 refl refl (lit≤ tt) (refl, tt, λ e. refl)
     ((omega (arith, ints), omega (arith, ints)), lit< tt, tt) refl refl) refl refl refl refl
 
+abbrev kept : Operands
+kept = operands 0x128 0x10008
+
+abbrev kept_after : Operands
+kept_after = operands 0x128 0x10004
+
+abbrev sd : List ℕ
+sd = 0x23 ∷ 0xb0 ∷ 0xa7 ∷ 0x00 ∷ []
+
+sd_has : Has 4 (words old) 0x10008 (riscv_row names.R_RISCV_LO12_S) kept sd
+unfolding place_sum
+sd_has =
+    has _ _ _ _ _ sd (0x23 ∷ 0xb4 ∷ 0xa7 ∷ 0x12 ∷ [])
+    (relocated _ _ _ (pos 0x128) 0xa7b023 refl refl (lit≤ tt) (refl, tt, λ e. refl)
+    ((omega (arith, ints), omega (arith, ints)), lit< tt, tt) refl refl) refl refl refl refl
+
+sd_made : Has 4 (words new) 0x10004 (riscv_row names.R_RISCV_LO12_S) kept_after
+    (after_rewrite kinds.Lo12Rs1ToZero sd 0)
+unfolding place_sum
+sd_made =
+    has _ _ _ _ _ (0x23 ∷ 0x30 ∷ 0xa0 ∷ 0x00 ∷ []) (0x23 ∷ 0x34 ∷ 0xa0 ∷ 0x12 ∷ [])
+    (relocated _ _ _ (pos 0x128) 0xa03023 refl refl (lit≤ tt) (refl, tt, λ e. refl)
+    ((omega (arith, ints), omega (arith, ints)), lit< tt, tt) refl refl) refl refl refl refl
+
 abbrev auipc : List ℕ
 auipc = 0x97 ∷ 0x05 ∷ 0x00 ∷ 0x00 ∷ []
 
 abbrev ld : List ℕ
 ld = 0x83 ∷ 0xb5 ∷ 0x05 ∷ 0x00 ∷ []
 
-entry_has : Has 4 (words old) 0x10008 (riscv_row names.R_RISCV_GOT_HI20) load auipc
+entry_has : Has 4 (words old) 0x1000c (riscv_row names.R_RISCV_GOT_HI20) load auipc
 unfolding place_sum
 entry_has =
     has _ _ _ _ _ auipc (0x97 ∷ 0x25 ∷ 0x00 ∷ 0x00 ∷ [])
-    (relocated _ _ _ (pos 0x2008) 0x597 refl refl (lit≤ tt) (refl, tt, λ e. refl)
+    (relocated _ _ _ (pos 0x2004) 0x597 refl refl (lit≤ tt) (refl, tt, λ e. refl)
     ((omega (arith, ints), omega (arith, ints)), lit< tt, tt) refl refl) refl refl refl refl
 
-ld_has : Has 4 (words old) 0x1000c (riscv_row names.R_RISCV_PCREL_LO12_I) (of_entry load) ld
+ld_has : Has 4 (words old) 0x10010 (riscv_row names.R_RISCV_PCREL_LO12_I) (of_entry load) ld
 unfolding place_sum
 ld_has =
-    has _ _ _ _ _ ld (0x83 ∷ 0xb5 ∷ 0x85 ∷ 0x00 ∷ [])
-    (relocated _ _ _ (pos 0x2008) 0x5b583 refl refl (lit≤ tt) (refl, tt, λ e. refl)
+    has _ _ _ _ _ ld (0x83 ∷ 0xb5 ∷ 0x45 ∷ 0x00 ∷ [])
+    (relocated _ _ _ (pos 0x2004) 0x5b583 refl refl (lit≤ tt) (refl, tt, λ e. refl)
     ((omega (arith, ints), omega (arith, ints)), lit< tt, tt) refl refl) refl refl refl refl
 
-near_has : Has 4 (words new) 0x10004 (riscv_row names.R_RISCV_PCREL_HI20) sum_at auipc
+near_has : Has 4 (words new) 0x10008 (riscv_row names.R_RISCV_PCREL_HI20) sum_at auipc
 unfolding place_sum
 near_has =
     has _ _ _ _ _ auipc (0x97 ∷ 0x35 ∷ 0x00 ∷ 0x00 ∷ [])
-    (relocated _ _ _ (pos 0x2ffc) 0x597 refl refl (lit≤ tt) (refl, tt, λ e. refl)
+    (relocated _ _ _ (pos 0x2ff8) 0x597 refl refl (lit≤ tt) (refl, tt, λ e. refl)
     ((omega (arith, ints), omega (arith, ints)), lit< tt, tt) refl refl) refl refl refl refl
 
-rest_has : Has 4 (words new) 0x10008 (riscv_row names.R_RISCV_PCREL_LO12_I) sum_at
+rest_has : Has 4 (words new) 0x1000c (riscv_row names.R_RISCV_PCREL_LO12_I) sum_at
     (after_rewrite kinds.LdToAddi ld 0)
 unfolding place_sum
 rest_has =
-    has _ _ _ _ _ (0x93 ∷ 0x85 ∷ 0x05 ∷ 0x00 ∷ []) (0x93 ∷ 0x85 ∷ 0xc5 ∷ 0xff ∷ [])
-    (relocated _ _ _ (pos 0x2ffc) 0x58593 refl refl (lit≤ tt) (refl, tt, λ e. refl)
+    has _ _ _ _ _ (0x93 ∷ 0x85 ∷ 0x05 ∷ 0x00 ∷ []) (0x93 ∷ 0x85 ∷ 0x85 ∷ 0xff ∷ [])
+    (relocated _ _ _ (pos 0x2ff8) 0x58593 refl refl (lit≤ tt) (refl, tt, λ e. refl)
+    ((omega (arith, ints), omega (arith, ints)), lit< tt, tt) refl refl) refl refl refl refl
+
+abbrev call : List ℕ
+call = 0x97 ∷ 0x00 ∷ 0x00 ∷ 0x00 ∷ 0xe7 ∷ 0x80 ∷ 0x00 ∷ 0x00 ∷ []
+
+call_has : Has 8 (words old) 0x10014 (riscv_row names.R_RISCV_CALL_PLT) calling call
+unfolding place_sum
+call_has =
+    has _ _ _ _ _ call (0x97 ∷ 0x00 ∷ 0x00 ∷ 0x00 ∷ 0xe7 ∷ 0x80 ∷ 0xc0 ∷ 0x00 ∷ [])
+    (relocated _ _ _ (pos 0xc) 0x80e700000097 refl refl (lit≤ tt) (refl, tt, λ e. refl)
+    ((omega (arith, ints), omega (arith, ints)), lit< tt, tt) refl refl) refl refl refl refl
+
+jump_has : Has 4 (words new) 0x10010 (riscv_row names.R_RISCV_JAL) jumping
+    (after_rewrite kinds.CallToJal call 0)
+unfolding place_sum
+jump_has =
+    has _ _ _ _ _ (0xef ∷ 0x00 ∷ 0x00 ∷ 0x00 ∷ 0xe7 ∷ 0x80 ∷ 0x00 ∷ 0x00 ∷ [])
+    (0xef ∷ 0x00 ∷ 0x80 ∷ 0x00 ∷ 0xe7 ∷ 0x80 ∷ 0x00 ∷ 0x00 ∷ [])
+    (relocated _ _ _ (pos 0x8) 0xef refl refl (lit≤ tt) (refl, tt, λ e. refl)
     ((omega (arith, ints), omega (arith, ints)), lit< tt, tt) refl refl) refl refl refl refl
 
 -- ---- runs
+
+abbrev shorter : ℕ → ℕ
+shorter a = (a - min 4 (a - 0x10000)) - min 4 (a - 0x10018)
 
 starts : Agree (link code) known starting starting
 starts =
@@ -172,7 +225,7 @@ starts =
       small = lit< tt;
       pc = refl;
       registers = λ r. refl;
-      memory = λ a below. ap (λ n. n + 0) (by (a - 0) (nat_lt (a - 0) 0x10014) refl);
+      memory = λ a below. ap (λ n. n + 0) (by (a - 0) (nat_lt (a - 0) 0x10028) refl);
       outside = refl;
     }
   where
@@ -181,13 +234,12 @@ starts =
         let none : is_entry a ≡ false = grind (arith, below) in
         cond-false (is_entry a) _ 0 none
 
-    by : (a : ℕ) (b : Bool) → nat_lt a 0x10014 ≡ b → starting.memory a ≡ starting.memory (moved a)
+    by : (a : ℕ) (b : Bool) → nat_lt a 0x10028 ≡ b → starting.memory a ≡ starting.memory (moved a)
     by a true e =
-        let below = ltb-true a 0x10014 e in
+        let below = ltb-true a 0x10028 e in
         nothing a (omega arith)
-        ∙ sym (ap starting.memory (cond-true _ (a - min 4 (a - 0x10000)) a e)
-        ∙ nothing (a - min 4 (a - 0x10000)) (omega arith))
-    by a false e = sym (ap starting.memory (cond-false _ (a - min 4 (a - 0x10000)) a e))
+        ∙ sym (ap starting.memory (cond-true _ (shorter a) a e) ∙ nothing (shorter a) (omega arith))
+    by a false e = sym (ap starting.memory (cond-false _ (shorter a) a e))
 
 abbrev s1 : State
 s1 = put 15 0 0x10004 starting
@@ -196,7 +248,16 @@ abbrev s2 : State
 s2 = put 10 0x120 0x10008 s1
 
 abbrev s3 : State
-s3 = put 11 0x13000 0x10010 (put 11 0x12008 0x1000c s2)
+s3 = uses (stores 3) 0xa7b023 0x128 s2
+
+abbrev s4 : State
+s4 = put 11 0x13000 0x10014 (put 11 0x1200c 0x10010 s3)
+
+abbrev s5 : State
+s5 = put 1 0x1001c 0x10020 (put 1 0x10014 0x10018 s4)
+
+abbrev s6 : State
+s6 = put 0 0x10024 0x1001c s5
 
 abbrev k1 : Kinds
 k1 = with_register 15 anything known
@@ -205,7 +266,16 @@ abbrev k2 : Kinds
 k2 = with_register 10 same k1
 
 abbrev k3 : Kinds
-k3 = with_register 11 same (with_register 11 anything k2)
+k3 = with_stored 8 0x128 k2
+
+abbrev k4 : Kinds
+k4 = with_register 11 same (with_register 11 anything k3)
+
+abbrev k5 : Kinds
+k5 = with_register 1 (of_place 0x1001c) (with_register 1 anything k4)
+
+abbrev k6 : Kinds
+k6 = with_register 0 anything k5
 
 p1 : Groups → Group (of_link (link code)) 0 known starting k1 s1
 p1 g =
@@ -218,41 +288,88 @@ p2 g =
     (g.low_parts addi (lit≤ tt, refl) code low high k1 k2 s1
     (record { at = refl; small = lit< tt; place = refl; next = refl }) refl
     (omega (arith, ints), omega (arith, ints)) refl tt addi_has made_has
-    (λ t agree.
-    subst (λ u. Agree (link code) k2 u (uses adds 0x78513 0x120 t)) (sym (wrote s1 10 0x120 0x10008 (lit< tt)))
-    (subst (λ u. Agree (link code) k2 s2 u) (sym (wrote t 10 0x120 (sum_64 t.pc 4) (lit< tt)))
-    (agree_put (link code) k1 s1 t 10 same 0x120 0x120 0x10008 (sum_64 t.pc 4) agree (lit< tt)
-    (ap (λ p. sum_64 p 4) agree.pc) refl))))
+    (g.accesses code adds 0x78513 0x120 k1 s1 k2 refl as_sum))
 
-p3 : Groups → Group (of_link (link code)) 2 k2 s2 k3 s3
-unfolding place_sum entry_has has
+room : HasRoom code k2 8 0x128
+room =
+    record {
+      small = lit< tt;
+      moved = refl;
+      apart = λ a below d. inr (
+        (let e : 8 ≤ difference_64 (a - 0) 0x128 = omega (arith, d) in e, tt),
+        (apart_there (a - 0) (omega (arith, below)) (omega (arith, d)) (nat_lt (a - 0) 0x10028) refl, tt),
+      );
+    }
+  where
+    apart_there : (a : ℕ) → a < 2 ^ 64 → 8 ≤ difference_64 a 0x128 → (b : Bool) → nat_lt a 0x10028 ≡ b
+        → 8 ≤ difference_64 (moved a) 0x128
+    apart_there a below d true e =
+        let small = ltb-true a 0x10028 e in
+        subst (λ m. 8 ≤ difference_64 m 0x128) (sym (cond-true _ (shorter a) a e))
+        (let f : 8 ≤ difference_64 (shorter a) 0x128 = omega (arith, small, d) in f)
+    apart_there a below d false e = subst (λ m. 8 ≤ difference_64 m 0x128) (sym (cond-false _ (shorter a) a e)) d
+
+p3 : Groups → Group (of_link (link code)) 1 k2 s2 k3 s3
 p3 g =
-    g.got code load sum_at k2 same s2 auipc ld
+    g.low_parts sd (lit≤ tt, refl) code kept kept_after k2 k3 s2
+    (record { at = refl; small = lit< tt; place = refl; next = refl }) refl
+    (omega (arith, ints), omega (arith, ints)) refl tt sd_has sd_made
+    (g.accesses code (stores 3) 0xa7b023 0x128 k2 s2 k3 refl (as_stored 3 (inr refl) room))
+
+p4 : Groups → Group (of_link (link code)) 2 k3 s3 k4 s4
+unfolding place_sum entry_has has
+p4 g =
+    g.got code load sum_at k3 same s3 auipc ld
     (small load (lit< tt) (lit< tt) (lit< tt) (lit< tt) (lit< tt) (lit< tt))
     (small sum_at (lit< tt) (lit< tt) (lit< tt) (lit< tt) (lit< tt) (lit< tt))
     (record { at = refl; small = lit< tt; place = refl; next = refl }) (lit≤ tt)
     (record { first = refl; second = (refl, refl); base = refl; not_zero = λ e. omega arith })
     refl refl entry_has ld_has near_has rest_has
 
-old_end : IsSomeAnd (run 4 (machine others (words old)) starting)
-    (λ s. (s.pc ≡ 0x10010) × (s.registers 10 ≡ 0x120) × (s.registers 11 ≡ 0x13000))
-unfolding place_sum
-old_end = (refl, refl, refl)
+p5 : Groups → Group (of_link (link code)) 1 k4 s4 k5 s5
+unfolding place_sum call_has has
+p5 g =
+    g.calls.1 code calling jumping k4 s4 call (after_rewrite kinds.CallToJal call 0)
+    (small calling (lit< tt) (lit< tt) (lit< tt) (lit< tt) (lit< tt) (lit< tt))
+    (small jumping (lit< tt) (lit< tt) (lit< tt) (lit< tt) (lit< tt) (lit< tt))
+    (record { at = refl; small = lit< tt; place = refl; next = refl }) refl
+    (record { auipc_opcode = refl; jalr_opcode = refl; jalr_function = refl; base = refl }) (λ e. omega arith) refl
+    call_has jump_has
 
-new_end : IsSomeAnd (run 3 (machine others (words new)) starting)
-    (λ s. (s.pc ≡ 0x1000c) × (s.registers 10 ≡ 0x120) × (s.registers 11 ≡ 0x13000))
+p6 : Groups → Other (of_link (link code)) k5 s5 k6 s6
 unfolding place_sum
-new_end = (refl, refl, refl)
+p6 g =
+    g.others code k5 k6 s5 s6 refl (ap Some (wrote s5 0 0x10024 0x1001c (lit< tt)))
+    (λ t agree.
+    let back : t.registers 1 ≡ 0x10014 = ap unsigned_abs (sym (agree.registers 1).1) in
+    let after = sum_64 t.pc 4 in
+    subst (λ m. Agree (link code) k6 s6 (left t (goes_to (plus m (pos 0) - plus m (pos 0) % 2) (with_integer 0 after (seen t)))))
+    (sym back)
+    (subst (λ u. Agree (link code) k6 s6 u) (sym (wrote t 0 after 0x10014 (lit< tt)))
+    (agree_put (link code) k5 s5 t 0 anything 0x10024 after 0x1001c 0x10014 agree (lit< tt) refl tt)))
+
+old_end : IsSomeAnd (run 8 (machine others (words old)) starting)
+    (λ s. (s.pc ≡ 0x1001c) × (s.registers 1 ≡ 0x1001c) × (s.registers 10 ≡ 0x120)
+    × (s.registers 11 ≡ 0x13000) × (loaded 8 s.memory 0x128 ≡ 0x120))
+unfolding place_sum
+old_end = (refl, refl, refl, refl, refl)
+
+new_end : IsSomeAnd (run 6 (machine others (words new)) starting)
+    (λ s. (s.pc ≡ 0x10014) × (s.registers 1 ≡ 0x10014) × (s.registers 10 ≡ 0x120)
+    × (s.registers 11 ≡ 0x13000) × (loaded 8 s.memory 0x128 ≡ 0x120))
+unfolding place_sum
+new_end = (refl, refl, refl, refl, refl)
 
 pub is_worked : Groups → IsWorked
 is_worked g =
     record {
-      kinds = k3;
-      state = s3;
+      kinds = k6;
+      state = s6;
       agree = starts;
       covered =
-          group 2 0 3 _ _ _ _ _ _ (p1 g) (group 1 1 2 _ _ _ _ _ _ (p2 g)
-          (group 0 2 0 _ _ _ _ _ _ (p3 g) (ends _ _)));
+          group 5 0 6 _ _ _ _ _ _ (p1 g) (group 4 1 5 _ _ _ _ _ _ (p2 g)
+          (group 3 1 4 _ _ _ _ _ _ (p3 g) (group 2 2 2 _ _ _ _ _ _ (p4 g)
+          (group 1 1 1 _ _ _ _ _ _ (p5 g) (other 0 0 _ _ _ _ _ _ (p6 g) (ends _ _))))));
       stops = record {
         old_stops = refl;
         new_stops = λ t agree.

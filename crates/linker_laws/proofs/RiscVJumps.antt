@@ -1,38 +1,33 @@
 -- What a call's pair and the jumps do, once their relocations are applied.
-use Rattle.std.proofs.Common.{◌≡◌, ◌≢◌, ℕ, ◌+◌, ◌-◌, ◌*◌, ◌%◌, ◌^◌, ◌<◌, ◌≤◌, true, false}
+use Rattle.std.proofs.Common.{◌≡◌, ℕ, ◌+◌, ◌-◌, ◌*◌, ◌%◌, ◌^◌, ◌<◌, ◌≤◌, true, false}
 use Rattle.std.proofs.Common.{refl, sym, ◌∙◌, ap, arith, List, length, drop, pos, negsuc}
-use Rattle.std.proofs.Common.{◌+ℤ◌, Option, Some, None, if◌then◌else◌}
-use Rattle.std.specs.Prelude.{◌==◌, ◌&&◌, not}
+use Rattle.std.proofs.Common.{◌+ℤ◌, Some}
 use Rattle.std.specs.Int.{w16, w32, w64, from_le_bytes}
 use Rattle.std.proofs.lemmas.Bool.{agree_below}
-use Rattle.std.proofs.lemmas.List.{length-drop}
 use Rattle.linker_base.specs.Bits.{field}
 use Rattle.linker_base.specs.Form.{is_placed}
 use Rattle.linker_elf.specs.RiscV.{riscv_form, riscv_places}
 use Rattle.linker_riscv64.specs.RiscVCalls.{IsCallPair}
 use Rattle.linker_riscv64.specs.RiscVFields.{opcode_of, funct3_of, rd_of}
 use Rattle.linker_elf.specs.RiscVRelocations.{pair_row, jump_row}
-use Rattle.linker_elf.specs.Value.{sum_64}
 use Rattle.linker_elf.specs.declared.elf.RelocationKind.TheVariants.{PltRelative}
 use Rattle.linker_elf.specs.declared.elf.value.Operands.{Operands}
 use Rattle.linker_elf.specs.declared.riscv64.forms.RiscVInstruction.TheVariants.{UType, IType}
 use Rattle.linker_elf.specs.declared.riscv64.forms.RiscVInstruction.TheVariants.{JType, CjType}
-use Rattle.linker_elf.specs.declared.riscv64.forms.RiscVInstruction.TheVariants.{UiType, CluiType}
+use Rattle.linker_elf.specs.declared.riscv64.forms.RiscVInstruction.TheVariants.{UiType}
 use Rattle.linker_laws.specs.RiscVRelocationLaws.{even}
 use Rattle.linker_elf.specs.Applied.{IsApplied}
 use Rattle.linker_laws.specs.Schemes.{AreAddresses, plt_address, symbol_address}
 use Rattle.linker_laws.proofs.Instructions.{adds, plt_from_place, symbol_from_place}
 use Rattle.linker_laws.proofs.RiscV.{calls}
 use Rattle.linker_laws.specs.Machine.{AreBytes, moved}
-use Rattle.linker_laws.specs.RiscVMachine.{Hart, register, auipc, jal, sums, jumps}
-use Rattle.linker_laws.specs.RiscVMachine.{rs1_of, of_half, of_clui, of_word, executed, Runs}
-use Rattle.linker_laws.specs.RiscVMachine.{cli_immediate}
-use Rattle.linker_laws.specs.RiscVMachine.{Instruction, adds as adding}
+use Rattle.linker_laws.specs.RiscVMachine.{auipc, sums, jumps}
+use Rattle.linker_laws.specs.RiscVMachine.{rs1_of, of_word}
 use Rattle.linker_laws.proofs.Words.{two_words, word_below, kept_field}
 use Rattle.linker_laws.proofs.RiscVMachine.{moved_twice, cleared_sum, address_is, times_one}
-use Rattle.linker_laws.proofs.RiscVMachine.{at_start, at_second, is_long, fetched_word}
-use Rattle.linker_laws.proofs.RiscVMachine.{steps, is_auipc, is_jalr, is_jal}
-use Rattle.linker_laws.proofs.RiscVMachine.{ui_of_words, other, written}
+use Rattle.linker_laws.proofs.RiscVMachine.{is_long}
+use Rattle.linker_laws.proofs.RiscVMachine.{is_auipc, is_jalr}
+use Rattle.linker_laws.proofs.RiscVMachine.{ui_of_words}
 
 -- ---- the pair
 
@@ -40,10 +35,10 @@ module _ (x : Operands) (before code : List ℕ)
     (applied : IsApplied (pair_row PltRelative 64 UiType) x before code)
     (old : AreBytes before) (new : AreBytes code) (len : length code ≡ length before)
     (pair : IsCallPair (from_le_bytes w32 before) (from_le_bytes w32 (drop 4 before))) where
-  pub low_word : ℕ
+  low_word : ℕ
   low_word = from_le_bytes w32 code
 
-  pub high_word : ℕ
+  high_word : ℕ
   high_word = from_le_bytes w32 (drop 4 code)
 
   long_before : 8 ≤ length before
@@ -76,7 +71,7 @@ module _ (x : Operands) (before code : List ℕ)
       let e = pair.auipc_opcode in
       omega (arith, k, e)
 
-  pub same_register : rd_of low_word ≡ rd_of (from_le_bytes w32 before)
+  same_register : rd_of low_word ≡ rd_of (from_le_bytes w32 before)
   same_register = let k = keeps 7 5 refl in omega (arith, k)
 
   jalr_opcode : opcode_of high_word ≡ 0x67
@@ -91,7 +86,7 @@ module _ (x : Operands) (before code : List ℕ)
       let e = pair.jalr_function in
       omega (arith, k, e, low_below, old_below)
 
-  pub same_link : rd_of high_word ≡ rd_of (from_le_bytes w32 (drop 4 before))
+  same_link : rd_of high_word ≡ rd_of (from_le_bytes w32 (drop 4 before))
   same_link = let k = keeps 39 5 refl in omega (arith, k, low_below, old_below)
 
   base : rs1_of high_word ≡ rd_of low_word
@@ -99,12 +94,6 @@ module _ (x : Operands) (before code : List ℕ)
       let k = keeps 47 5 refl in
       let e = pair.base in
       omega (arith, k, e, low_below, old_below, same_register)
-
-  pub first : Instruction
-  first = auipc (rd_of low_word) ((riscv_form UType).machine low_word)
-
-  pub second : Instruction
-  second = sums jumps (rd_of high_word) (rs1_of high_word) 0 ((riscv_form IType).machine high_word)
 
   -- the words are those, and lead to the target
   pub low_long : field (from_le_bytes w32 code) 0 2 ≡ 3
@@ -152,98 +141,20 @@ module _ (x : Operands) (before code : List ℕ)
       ∙ cleared_sum (pos x.place +ℤ (riscv_form UiType).machine (from_le_bytes w64 code))
       (even plt_address x) (calls plt_from_place (λ o. refl) x small x.place before code applied tt)
 
-  -- the hart after the pair
-  pub called : Hart → Hart
-  called h = executed 4 second (executed 4 first h)
-
-  pub pair_runs : (h : Hart) → h.pc < 2 ^ 64 → Runs 2 code h.pc h (called h)
-  unfolding low_word high_word first second called
-  pair_runs h small = (
-    executed 4 first h,
-    steps code h.pc 0 4 first h (at_start h.pc small)
-        (fetched_word code first (is_long low_word 0x17 opcode refl) (omega (arith, long))
-        (is_auipc low_word opcode)),
-    (
-      called h,
-      steps code h.pc 4 4 second (executed 4 first h) (at_second h.pc small)
-          (fetched_word (drop 4 code) second (is_long high_word 0x67 jalr_opcode refl)
-          (omega (arith, long, length-drop 4 code)) (is_jalr high_word jalr_opcode jalr_function)),
-      refl,
-    ),
-  )
-
-  pub pair_target : AreAddresses x → (h : Hart) → h.pc ≡ x.place → rd_of low_word ≢ 0
-      → (called h).pc ≡ even plt_address x
-  unfolding low_word high_word first second called
-  pair_target small h at some =
-      let u = (riscv_form UType).machine low_word in
-      let i = (riscv_form IType).machine high_word in
-      let sum : (riscv_form UiType).machine (from_le_bytes w64 code) ≡ u +ℤ i =
-      ap (riscv_form UiType).machine (two_words code) ∙ ui_of_words low_word high_word low_below in
-      let there : register (executed 4 first h) (rs1_of high_word) ≡ moved h.pc u =
-      ap (register (executed 4 first h)) base ∙ written (rd_of low_word) (moved h.pc u) h some in
-      ap (λ n. moved n i - moved n i % 2) there
-      ∙ ap (λ n. n - n % 2) (moved_twice h.pc u i ∙ ap (moved h.pc) (sym sum)
-      ∙ ap (λ p. moved p ((riscv_form UiType).machine (from_le_bytes w64 code))) at)
-      ∙ cleared_sum (pos x.place +ℤ (riscv_form UiType).machine (from_le_bytes w64 code))
-      (even plt_address x) (calls plt_from_place (λ o. refl) x small x.place before code applied tt)
-
-  pub pair_keeps : (h : Hart) (q : ℕ) → (q == rd_of low_word) ≡ false
-      → (q == rd_of high_word) ≡ false → register (called h) q ≡ register h q
-  unfolding low_word high_word first second called
-  pair_keeps h q a b =
-      other (rd_of high_word) (sum_64 (sum_64 h.pc 4) 4) (executed 4 first h) q b
-      ∙ other (rd_of low_word) (moved h.pc ((riscv_form UType).machine low_word)) h q a
-
-  pub pair_links : (h : Hart) → rd_of high_word ≢ 0
-      → register (called h) (rd_of high_word) ≡ sum_64 h.pc 8
-  unfolding low_word high_word first second called
-  pair_links h some =
-      written (rd_of high_word) (sum_64 (sum_64 h.pc 4) 4) (executed 4 first h) some
-      ∙ omega arith
-
-  -- floating-point registers and memory stay
-  pub pair_floats : (h : Hart) → (called h).floats ≡ h.floats
-  unfolding first second called
-  pair_floats h = refl
-
-  pub pair_memory : (h : Hart) → (called h).memory ≡ h.memory
-  unfolding first second called
-  pair_memory h = refl
-
 -- ---- jumps
 
 module _ (y : Operands) (before code : List ℕ)
     (applied : IsApplied (jump_row 32 JType (negsuc 1048575, pos 1048575)) y before code)
-    (len : length code ≡ length before)
-    (is : opcode_of (from_le_bytes w32 before) ≡ 0x6f) where
-  pub word : ℕ
-  word = from_le_bytes w32 code
-
-  opcode_kept : opcode_of word ≡ opcode_of (from_le_bytes w32 before)
-  unfolding word
-  opcode_kept =
+    (len : length code ≡ length before) where
+  pub same_opcode : opcode_of (from_le_bytes w32 code) ≡ opcode_of (from_le_bytes w32 before)
+  same_opcode =
       kept_field JType (record { start = 0; end = 32 }) applied.value before code applied.written
       (λ b w. refl) 0 7 refl
 
   pub same_destination : rd_of (from_le_bytes w32 code) ≡ rd_of (from_le_bytes w32 before)
-  unfolding word
   same_destination =
       kept_field JType (record { start = 0; end = 32 }) applied.value before code applied.written
       (λ b w. refl) 7 5 refl
-
-  pub jump : Instruction
-  jump = jal (rd_of word) ((riscv_form JType).machine word)
-
-  -- the word is that, and leads to the target
-  pub jump_long : field (from_le_bytes w32 code) 0 2 ≡ 3
-  unfolding word
-  jump_long = is_long word 0x6f (opcode_kept ∙ is) refl
-
-  pub jump_decodes : of_word (from_le_bytes w32 code)
-      ≡ Some (jal (rd_of (from_le_bytes w32 code)) ((riscv_form JType).machine (from_le_bytes w32 code)))
-  unfolding word
-  jump_decodes = is_jal word (opcode_kept ∙ is)
 
   pub jump_leads : AreAddresses y
       → moved y.place ((riscv_form JType).machine (from_le_bytes w32 code)) ≡ symbol_address y
@@ -257,50 +168,15 @@ module _ (y : Operands) (before code : List ℕ)
     (len : length code ≡ length before)
     (is_short : field (from_le_bytes w16 before) 0 2 ≡ 1)
     (function : field (from_le_bytes w16 before) 13 16 ≡ 5) where
-  half : ℕ
-  half = from_le_bytes w16 code
-
-  short_kept : field half 0 2 ≡ 1
-  unfolding half
-  short_kept =
+  pub short_jump_low : field (from_le_bytes w16 code) 0 2 ≡ 1
+  short_jump_low =
       kept_field CjType (record { start = 0; end = 16 }) applied.value before code applied.written
       (λ b w. refl) 0 2 refl ∙ is_short
 
-  function_kept : field half 13 16 ≡ 5
-  unfolding half
-  function_kept =
+  pub short_jump_function : field (from_le_bytes w16 code) 13 16 ≡ 5
+  short_jump_function =
       kept_field CjType (record { start = 0; end = 16 }) applied.value before code applied.written
       (λ b w. refl) 13 3 refl ∙ function
-
-  short_jump : Instruction
-  short_jump = jal 0 ((riscv_form CjType).machine half)
-
-  is_short_jump : of_half half ≡ Some short_jump
-  unfolding short_jump
-  is_short_jump =
-      let no_nop : (half == 1) ≡ false = grind (arith, function_kept) in
-      let otherwise : Option Instruction =
-      if field half 0 2 == 1 && field half 13 16 == 3
-      then of_clui (rd_of half) ((riscv_form CluiType).machine half)
-      else (if field half 0 2 == 1 && (field half 13 16 == 2 && not (rd_of half == 0))
-      then Some (sums adding (rd_of half) 0 0 (cli_immediate half)) else None) in
-      ap (λ b. if b then Some (sums adding 0 0 0 (pos 0))
-      else (if field half 0 2 == 1 && field half 13 16 == 5
-      then Some (jal 0 ((riscv_form CjType).machine half)) else otherwise)) no_nop
-      ∙ ap (λ n. if n == 1 && field half 13 16 == 5
-      then Some (jal 0 ((riscv_form CjType).machine half)) else otherwise) short_kept
-      ∙ ap (λ n. if 1 == 1 && n == 5
-      then Some (jal 0 ((riscv_form CjType).machine half)) else otherwise) function_kept
-
-  -- the half is that, and leads to the target
-  pub short_jump_low : field (from_le_bytes w16 code) 0 2 ≡ 1
-  unfolding half
-  short_jump_low = short_kept
-
-  pub short_jump_decodes : of_half (from_le_bytes w16 code)
-      ≡ Some (jal 0 ((riscv_form CjType).machine (from_le_bytes w16 code)))
-  unfolding half short_jump
-  short_jump_decodes = is_short_jump
 
   pub short_jump_leads : AreAddresses y
       → moved y.place ((riscv_form CjType).machine (from_le_bytes w16 code)) ≡ symbol_address y

@@ -1,11 +1,11 @@
 -- The instructions that add a low part do the same with x0 as their base.
-use Rattle.std.proofs.Common.{◌≡◌, ℕ, zero, suc, ◌+◌, ◌-◌, ◌*◌, ◌%◌, ◌^◌, ◌<◌, ◌≤◌, Bool}
+use Rattle.std.proofs.Common.{◌≡◌, ℕ, ◌+◌, ◌-◌, ◌*◌, ◌%◌, ◌^◌, ◌<◌, ◌≤◌, Bool}
 use Rattle.std.proofs.Common.{true, false, refl, sym, ◌∙◌, ap, subst, arith, List, length, drop}
-use Rattle.std.proofs.Common.{◌++◌, ℤ, pos, ◌-ℤ◌, ◌+ℤ◌, Option, Some, None, inl, inr, ◌⊎◌, not}
+use Rattle.std.proofs.Common.{◌++◌, ℤ, pos, ◌-ℤ◌, ◌+ℤ◌, Option, Some, None, inl, inr, ◌⊎◌}
 use Rattle.std.proofs.Common.{if◌then◌else◌, w64, int_lt}
 use Rattle.std.specs.Prelude.{◌==◌, ◌&&◌, ◌||◌, nat_lt, IsTrue}
 use Rattle.std.specs.Int.{w32, from_le_bytes, to_le_bytes, cast_signed}
-use Rattle.std.proofs.lemmas.Bool.{and_parts, or_parts, cond_both, eqb-true, agree_below}
+use Rattle.std.proofs.lemmas.Bool.{and_parts, cond_both, eqb-true, agree_below}
 use Rattle.std.proofs.lemmas.Int.{ints}
 use Rattle.std.proofs.lemmas.List.{length-drop}
 use Rattle.linker_base.specs.Bits.{field, signed}
@@ -31,134 +31,17 @@ use Rattle.linker_elf.specs.declared.riscv64.forms.RiscVInstruction.TheVariants.
 use Rattle.linker_riscv64.proofs.Jumps.{word_of_front}
 use Rattle.linker_elf.specs.Applied.{IsApplied}
 use Rattle.linker_laws.proofs.Applied.{value_is, taken_bits}
-use Rattle.linker_laws.specs.Machine.{AreBytes, Memory, loaded, stored, moved, extended}
-use Rattle.linker_laws.specs.RiscVRewriteLaws.{AreAlike, StoresTheSame, GoOn, differs_after}
+use Rattle.linker_laws.specs.Machine.{AreBytes, moved}
 use Rattle.linker_laws.specs.RiscVRewriteLaws.{after_rewrite}
-use Rattle.linker_laws.specs.RiscVMachine.{Hart, register, with_integer, with_number, Action, adds}
+use Rattle.linker_laws.specs.RiscVMachine.{Action, adds}
 use Rattle.linker_laws.specs.RiscVMachine.{adds_word, jumps, loads, stores, loads_float}
 use Rattle.linker_laws.specs.RiscVMachine.{stores_float, lui, auipc, jal, rs1_of}
-use Rattle.linker_laws.specs.RiscVMachine.{rs2_of, action_of, with_action, of_word, used}
-use Rattle.linker_laws.specs.RiscVMachine.{load_number, bytes_of, boxed, is_add}
+use Rattle.linker_laws.specs.RiscVMachine.{rs2_of, action_of, with_action, of_word}
+use Rattle.linker_laws.specs.RiscVMachine.{is_add}
 use Rattle.linker_laws.specs.RiscVMachine.{add}
 use Rattle.linker_laws.proofs.RiscVMachine.{wrapped_is}
-use Rattle.linker_laws.proofs.RiscVMachine.{other, written, same_written}
+use Rattle.linker_laws.proofs.RiscVMachine.{written}
 use Rattle.linker_laws.proofs.Words.{kept_field, put_there, word_below, word_of_bytes}
-
--- ---- what an action leaves of harts that are alike but for a register
-
-not_both : (a b : Bool) → (a && not b) ≡ false → b ≡ false → a ≡ false
-not_both true true e f = f
-not_both true false e f = e
-not_both false b e f = refl
-
-same_loaded : (n : ℕ) (m m' : Memory) (address : ℕ) → ((a : ℕ) → m a ≡ m' a)
-    → loaded n m address ≡ loaded n m' address
-same_loaded zero m m' address same = refl
-same_loaded (suc n) m m' address same =
-    ap (λ b. b + 256 * loaded n m (sum_64 address 1)) (same address)
-    ∙ ap (λ r. m' address + 256 * r) (same_loaded n m m' (sum_64 address 1) same)
-
-same_stored : (n number number' address : ℕ) (m m' : Memory) → number ≡ number'
-    → ((a : ℕ) → m a ≡ m' a) → (a : ℕ)
-    → stored n number address m a ≡ stored n number' address m' a
-same_stored n number number' address m m' e same a =
-    ap (λ v. stored n v address m a) e
-    ∙ ap (λ o. stored n number' address (λ b. o) a) (same a)
-
-same_number : (rd v v' : ℕ) (f f' : ℕ → ℕ) → v ≡ v' → ((r : ℕ) → f r ≡ f' r) → (q : ℕ)
-    → with_number rd v f q ≡ with_number rd v' f' q
-same_number rd v v' f f' e same q =
-    ap (λ n. with_number rd n f q) e ∙ ap (λ n. with_number rd v' (λ r. n) q) (same q)
-
--- an integer register is written the same in both
-alike_written : (differs : ℕ → Bool) (rd v v' : ℕ) (h k : Hart) → AreAlike differs h k → v ≡ v'
-    → (q : ℕ) → (differs q && not (q == rd)) ≡ false
-    → register (with_integer rd v h) q ≡ register (with_integer rd v' k) q
-alike_written differs rd v v' h k alike e q d =
-    ap (λ n. register (with_integer rd n h) q) e
-    ∙ same_written rd v' h k q (λ f. alike.integers q (not_both (differs q) (q == rd) d f))
-
-pub alike_used : (a : Action) (differs : ℕ → Bool) (rd rs2 sum : ℕ) (h k : Hart)
-    → StoresTheSame a rs2 h k → AreAlike differs h k
-    → AreAlike (differs_after a differs rd) (used 4 a rd rs2 sum h) (used 4 a rd rs2 sum k)
-    × GoOn a rd (sum - sum % 2) (sum_64 h.pc 4) (sum_64 k.pc 4) (used 4 a rd rs2 sum h)
-    (used 4 a rd rs2 sum k)
-alike_used adds differs rd rs2 sum h k apart alike = (
-  record {
-    integers = alike_written differs rd sum sum h k alike refl;
-    floats = alike.floats;
-    memory = alike.memory;
-  },
-  (refl, refl),
-)
-alike_used adds_word differs rd rs2 sum h k apart alike = (
-  record {
-    integers =
-        alike_written differs rd (extended 32 (sum % 2 ^ 32)) (extended 32 (sum % 2 ^ 32)) h k alike
-        refl;
-    floats = alike.floats;
-    memory = alike.memory;
-  },
-  (refl, refl),
-)
-alike_used jumps differs rd rs2 sum h k apart alike = (
-  record {
-    integers = λ q d.
-        let n = or_parts (differs q) (q == rd) d in
-        other rd (sum_64 h.pc 4) h q n.1 ∙ alike.integers q n.0
-        ∙ sym (other rd (sum_64 k.pc 4) k q n.1);
-    floats = alike.floats;
-    memory = alike.memory;
-  },
-  (
-    refl,
-    refl,
-    λ some. (written rd (sum_64 h.pc 4) h some, written rd (sum_64 k.pc 4) k some),
-  ),
-)
-alike_used (loads f) differs rd rs2 sum h k apart alike = (
-  record {
-    integers =
-        alike_written differs rd (load_number f (loaded (bytes_of f) h.memory sum))
-        (load_number f (loaded (bytes_of f) k.memory sum)) h k alike
-        (ap (load_number f) (same_loaded (bytes_of f) h.memory k.memory sum alike.memory));
-    floats = alike.floats;
-    memory = alike.memory;
-  },
-  (refl, refl),
-)
-alike_used (stores f) differs rd rs2 sum h k apart alike = (
-  record {
-    integers = alike.integers;
-    floats = alike.floats;
-    memory =
-        same_stored (bytes_of f) (register h rs2) (register k rs2) sum h.memory k.memory
-        apart alike.memory;
-  },
-  (refl, refl),
-)
-alike_used (loads_float f) differs rd rs2 sum h k apart alike = (
-  record {
-    integers = alike.integers;
-    floats =
-        same_number rd (boxed (2 ^ f) (loaded (2 ^ f) h.memory sum))
-        (boxed (2 ^ f) (loaded (2 ^ f) k.memory sum)) h.floats k.floats
-        (ap (boxed (2 ^ f)) (same_loaded (2 ^ f) h.memory k.memory sum alike.memory))
-        alike.floats;
-    memory = alike.memory;
-  },
-  (refl, refl),
-)
-alike_used (stores_float f) differs rd rs2 sum h k apart alike = (
-  record {
-    integers = alike.integers;
-    floats = alike.floats;
-    memory =
-        same_stored (2 ^ f) (h.floats rs2) (k.floats rs2) sum h.memory k.memory
-        (alike.floats rs2) alike.memory;
-  },
-  (refl, refl),
-)
 
 -- ---- which instruction a word is
 
@@ -341,7 +224,7 @@ word_there section o new inside small =
     (word_of_front (drop o section))
     ∙ word_of_bytes (new (word_at section o)) (drop (o + 4) section) small
 
-based_there : (section : List ℕ) (o b : ℕ) → b < 32 → o + 4 ≤ length section
+pub based_there : (section : List ℕ) (o b : ℕ) → b < 32 → o + 4 ≤ length section
     → AreBytes (drop o section)
     → from_le_bytes w32 (drop o (rewritten (Some (rewrites_word (with_rs1 b))) section o))
     ≡ with_rs1 b (word_at section o)

@@ -3,7 +3,7 @@ use Rattle.std.proofs.Common.{◌≡◌, ◌≢◌, ℕ, ◌+◌, ◌-◌, ◌*�
 use Rattle.std.proofs.Common.{false, refl, sym, ◌∙◌, ap, arith, List, length, drop, ℤ, pos}
 use Rattle.std.proofs.Common.{negsuc, ◌+ℤ◌, ◌*ℤ◌, unsigned_abs, Option, Some, None}
 use Rattle.std.proofs.Common.{if◌then◌else◌}
-use Rattle.std.specs.Prelude.{◌==◌, ◌&&◌, nat_le, option_map}
+use Rattle.std.specs.Prelude.{◌==◌, ◌&&◌, nat_le, not, option_map}
 use Rattle.std.specs.Int.{w16, w32, from_le_bytes}
 use Rattle.std.proofs.lemmas.Bool.{le-leb}
 use Rattle.std.proofs.lemmas.Int.{ints}
@@ -14,7 +14,7 @@ use Rattle.linker_elf.specs.RiscV.{riscv_form, riscv_places, ui_high, ui_low}
 use Rattle.linker_riscv64.specs.RiscVFields.{opcode_of, funct3_of, rd_of}
 use Rattle.linker_elf.specs.Value.{sum_64, difference_64}
 use Rattle.linker_elf.specs.declared.riscv64.forms.RiscVInstruction.TheVariants.{UType, IType}
-use Rattle.linker_elf.specs.declared.riscv64.forms.RiscVInstruction.TheVariants.{JType}
+use Rattle.linker_elf.specs.declared.riscv64.forms.RiscVInstruction.TheVariants.{CjType, CluiType, JType}
 use Rattle.linker_elf.specs.declared.riscv64.forms.RiscVInstruction.TheVariants.{UiType}
 use Rattle.linker_laws.specs.Schemes.{IsAddress}
 use Rattle.linker_laws.specs.RiscVRelocationLaws.{without_bit_0}
@@ -23,7 +23,7 @@ use Rattle.linker_laws.proofs.Sums.{lift, lifted_is}
 use Rattle.linker_laws.specs.Machine.{wrapped, moved}
 use Rattle.linker_laws.specs.RiscVMachine.{Hart, register, with_integer, Instruction, lui, auipc}
 use Rattle.linker_laws.specs.RiscVMachine.{jal, sums, jumps, rs1_of, rs2_of, action_of}
-use Rattle.linker_laws.specs.RiscVMachine.{with_action, add}
+use Rattle.linker_laws.specs.RiscVMachine.{with_action, add, adds, cli_immediate, of_clui}
 use Rattle.linker_laws.specs.RiscVMachine.{of_word, of_half, executed, sized, fetched}
 use Rattle.linker_laws.specs.RiscVMachine.{Steps}
 use Rattle.linker_laws.proofs.Words.{same_low_two}
@@ -155,6 +155,23 @@ module _ (x : ℕ) where
       then Some (add (rd_of x) (rs1_of x) (rs2_of x)) else rest) f
       ∙ ap (λ n. if n == 0 then Some (add (rd_of x) (rs1_of x) (rs2_of x)) else rest) g
 
+pub is_cj : (half : ℕ) → field half 0 2 ≡ 1 → field half 13 16 ≡ 5
+    → of_half half ≡ Some (jal 0 ((riscv_form CjType).machine half))
+is_cj half quadrant function =
+    let no_nop : (half == 1) ≡ false = grind (arith, function) in
+    let otherwise : Option Instruction =
+    if field half 0 2 == 1 && field half 13 16 == 3
+    then of_clui (rd_of half) ((riscv_form CluiType).machine half)
+    else (if field half 0 2 == 1 && (field half 13 16 == 2 && not (rd_of half == 0))
+    then Some (sums adds (rd_of half) 0 0 (cli_immediate half)) else None) in
+    ap (λ b. if b then Some (sums adds 0 0 0 (pos 0))
+    else (if field half 0 2 == 1 && field half 13 16 == 5
+    then Some (jal 0 ((riscv_form CjType).machine half)) else otherwise)) no_nop
+    ∙ ap (λ n. if n == 1 && field half 13 16 == 5
+    then Some (jal 0 ((riscv_form CjType).machine half)) else otherwise) quadrant
+    ∙ ap (λ n. if 1 == 1 && n == 5
+    then Some (jal 0 ((riscv_form CjType).machine half)) else otherwise) function
+
 -- ---- a window of two words
 
 pub ui_of_words : (lo hi : ℕ) → lo < 2 ^ 32 → (riscv_form UiType).machine (lo + hi * 2 ^ 32)
@@ -193,16 +210,3 @@ unwritten n h q = both (q == 0) (h.integers q)
     both : (b : Bool) (m : ℕ) → (if b then 0 else (if b then n else m)) ≡ (if b then 0 else m)
     both true m = refl
     both false m = refl
-
--- the same is written to both
-pub same_written : (rd n : ℕ) (h k : Hart) (q : ℕ)
-    → ((q == rd) ≡ false → register h q ≡ register k q)
-    → register (with_integer rd n h) q ≡ register (with_integer rd n k) q
-same_written rd n h k q same = both (q == rd) refl
-  where
-    both : (b : Bool) → (q == rd) ≡ b
-        → register (with_integer rd n h) q ≡ register (with_integer rd n k) q
-    both true e =
-        ap (λ b. if q == 0 then 0 else (if b then n else h.integers q)) e
-        ∙ sym (ap (λ b. if q == 0 then 0 else (if b then n else k.integers q)) e)
-    both false e = other rd n h q e ∙ same e ∙ sym (other rd n k q e)

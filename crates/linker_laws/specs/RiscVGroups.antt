@@ -3,13 +3,13 @@
 use Rattle.std.specs.Prelude.{◌≡◌, ◌≢◌, ℕ, zero, suc, ◌+◌, ◌-◌, ◌*◌, ◌^◌, ◌<◌, ◌≤◌, ◌%◌, ◌==◌}
 use Rattle.std.specs.Prelude.{false, nat_lt}
 use Rattle.std.specs.Prelude.{if◌then◌else◌, List, [], ◌∷◌, take, drop, length, Option, Some, None}
-use Rattle.std.specs.Prelude.{IsSomeAnd, ⊤}
+use Rattle.std.specs.Prelude.{IsSomeAnd, ⊤, ◌⊎◌}
 use Rattle.std.specs.Int.{w16, w64, cast_signed, from_le_bytes}
 use Rattle.linker_elf.specs.Choices.{low_12_bounds}
 use Rattle.linker_elf.specs.Elf.{IsWithin}
 use Rattle.linker_elf.specs.RiscV.{riscv_form}
 use Rattle.linker_elf.specs.RiscVRelocations.{clui_row, riscv_relocation, riscv_row}
-use Rattle.linker_elf.specs.Value.{sum_64}
+use Rattle.linker_elf.specs.Value.{difference_64, sum_64}
 use Rattle.linker_elf.specs.declared.elf.RelocationKindInfo.{RelocationKindInfo}
 use Rattle.linker_elf.specs.declared.elf.value.Operands.{Operands}
 use Rattle.linker_elf.specs.declared.riscv64.forms.RiscVInstruction.TheVariants.{UType}
@@ -18,6 +18,8 @@ use Rattle.linker_elf.specs.declared.riscv64.relocations.RiscVRelocation.TheVari
 use Rattle.linker_laws.specs.Changes.{ChangesOpen, put, with_register}
 use Rattle.linker_laws.specs.Machine.{Relocated, loaded, moved, wrapped}
 use Rattle.linker_laws.specs.RiscVMachine.{Action, Hart, register, rs1_of, rs2_of, step, used}
+use Rattle.linker_laws.specs.RiscVMachine.{adds, adds_word, bytes_of, jumps, loads, loads_float}
+use Rattle.linker_laws.specs.RiscVMachine.{stores, stores_float}
 use Rattle.linker_laws.specs.RiscVRelocationLaws.{even}
 use Rattle.linker_laws.specs.RiscVRewriteLaws.{AreOfDescriptor, HaveOneOffset, HaveOneTarget}
 use Rattle.linker_laws.specs.RiscVRewriteLaws.{IsLoadFromGot, IsLow12, IsLowOffset, action_at}
@@ -139,8 +141,7 @@ LuiBecomesClui =
     (put (rd_of (word_of lui)) (upper old.relocated) (sum_64 x.place 4) s)
 
 -- `c.lui` becomes `c.li` of 0, where S + A is such a number, and a `lui` of the same register was
--- in
--- old.
+-- in old.
 abbrev pub CluiBecomesCli : Type 0
 CluiBecomesCli =
     (c : Code) (x y : Operands) (k : Kinds) (s : State) (lui clui : List ℕ) → AreBefore c 4 2 x y s
@@ -216,23 +217,41 @@ LowPartFromThreadPointer =
 abbrev pub of_place : ℕ → Kind
 of_place a = counted (record { number = 0; added = a ∷ []; subtracted = [] })
 
--- `auipc rX` and `jalr rY` over rX become a jump of n bytes that links rY. Old and new are at a
--- target,
--- and each has the address after the call in rY. rX may have anything, unless it is rY.
+-- Old's `auipc rX` and `jalr rY` over rX and new's n instructions are a group. Both are at the
+-- target then, and each has the address after the call in rY. rX may have anything, unless it is
+-- rY.
+abbrev pub IsCall : Code → ℕ → Operands → Kinds → State → List ℕ → List ℕ → Type 0
+IsCall c n x k s call relocated =
+    let base = rd_of (word_of call) in
+    let link_register = rd_of (word_of (drop 4 call)) in
+    Group (of_link (link c)) n k s
+    (with_register link_register (of_place (sum_64 x.place 8)) (with_register base anything k))
+    (put link_register (sum_64 x.place 8) (even plt_address x)
+    (put base (upper_from x.place relocated) (sum_64 x.place 4) s))
+
+-- They become a jump of n bytes that links rY.
 abbrev pub CallTo : RiscVRelocation → ℕ → RiscVRelocation → (List ℕ → ℕ → Type 0) → Type 0
 CallTo name n new_name IsJump =
     (c : Code) (x y : Operands) (k : Kinds) (s : State) (call jump : List ℕ)
     → AreAddresses x → AreAddresses y → AreBefore c 8 n x y s
     → symbol_address y ≡ c.moved (even plt_address x)
-    → let base = rd_of (word_of call) in
-    let link_register = rd_of (word_of (drop 4 call)) in
-    IsCallPair (word_of call) (word_of (drop 4 call)) → base ≢ 0 → IsJump jump link_register
+    → IsCallPair (word_of call) (word_of (drop 4 call)) → rd_of (word_of call) ≢ 0
+    → IsJump jump (rd_of (word_of (drop 4 call)))
     → (old : Has 8 c.old x.place (riscv_row name) x call)
-    → Has n c.new y.place (riscv_row new_name) y jump
-    → Group (of_link (link c)) 1 k s
-    (with_register link_register (of_place (sum_64 x.place 8)) (with_register base anything k))
-    (put link_register (sum_64 x.place 8) (even plt_address x)
-    (put base (upper_from x.place old.relocated) (sum_64 x.place 4) s))
+    → Has n c.new y.place (riscv_row new_name) y jump → IsCall c 1 x k s call old.relocated
+
+-- They stay, with the value of their relocation in each layout.
+abbrev pub CallStays : RiscVRelocation → Type 0
+CallStays name =
+    (c : Code) (x y : Operands) (k : Kinds) (s : State) (call : List ℕ)
+    → AreAddresses x → AreAddresses y → AreBefore c 8 8 x y s
+    → even plt_address y ≡ c.moved (even plt_address x)
+    → IsCallPair (word_of call) (word_of (drop 4 call)) → rd_of (word_of call) ≢ 0
+    → (old : Has 8 c.old x.place (riscv_row name) x call)
+    → Has 8 c.new y.place (riscv_row name) y call → IsCall c 2 x k s call old.relocated
+
+abbrev pub LongCalls : Type 0
+LongCalls = CallStays names.R_RISCV_CALL × CallStays names.R_RISCV_CALL_PLT
 
 -- `jal` of a register, and `c.j`, of distance 0
 abbrev pub IsJal : List ℕ → ℕ → Type 0
@@ -261,6 +280,69 @@ CallsAreRewritten =
     → IsJal (after_rewrite kinds.TailToJal call 0) (rd_of (word_of (drop 4 call))))
     × (riscv_matches kinds.TailToCJ call 0
     → IsCj (after_rewrite kinds.TailToCJ call 0) (rd_of (word_of (drop 4 call))))
+
+-- ---- what is known after a low part
+
+-- At an address that is the same in both, a number of n bytes of a kind begins.
+pub record BeginsAt (c : Code) (k : Kinds) (n address : ℕ) (kind : Kind) : Type 0 where
+  pub small : address + n < 2 ^ 64
+  pub moved : c.moved address ≡ address
+  pub known : k.memory address ≡ record { kind = kind; bytes = n; below = 0 }
+
+-- m bytes from an address on are none of n bytes from another one on
+abbrev pub AreApart : ℕ → ℕ → ℕ → ℕ → Type 0
+AreApart zero a n address = ⊤
+AreApart (suc m) a n address =
+    (n ≤ difference_64 a address) × AreApart m (sum_64 a 1) n address
+
+-- n bytes from an address on, which is the same in both, can be stored: each other number is apart
+-- from them in old and in new, or may be anything.
+pub record HasRoom (c : Code) (k : Kinds) (n address : ℕ) : Type 0 where
+  pub small : address + n < 2 ^ 64
+  pub moved : c.moved address ≡ address
+  pub apart :
+      (a : ℕ) → a < 2 ^ 64 → n ≤ difference_64 a address
+      → let first = a - (k.memory a).below in
+      let m = (k.memory a).bytes in
+      ((k.memory a).kind ≡ anything)
+      ⊎ (AreApart m first n address × AreApart m (c.moved first) n address)
+
+-- n bytes that both have are stored from an address on
+abbrev pub with_stored : ℕ → ℕ → Kinds → Kinds
+with_stored n address k =
+    record k {
+      memory = λ a.
+          let below = difference_64 a address in
+          if nat_lt below n then record { kind = same; bytes = n; below = below } else k.memory a;
+    }
+
+-- What the kinds are after an instruction did with a sum what its action says, and what has to be
+-- known before. Code at an address, and memory, is at the same address in both.
+pub data AreUsed (c : Code) (k : Kinds) (s : State) (rd rs2 sum : ℕ) : Action → Kinds → Type 0 where
+  as_sum : AreUsed c k s rd rs2 sum adds (with_register rd same k)
+  as_word : AreUsed c k s rd rs2 sum adds_word (with_register rd same k)
+  as_target : sum < 2 ^ 64 → c.moved (sum - sum % 2) ≡ sum - sum % 2
+      → AreUsed c k s rd rs2 sum jumps (with_register rd (of_place (sum_64 s.pc 4)) k)
+  as_loaded : (f : ℕ) → BeginsAt c k (bytes_of f) sum same
+      → AreUsed c k s rd rs2 sum (loads f) (with_register rd same k)
+  -- 8 bytes are of any kind
+  as_whole : (kind : Kind) → BeginsAt c k 8 sum kind
+      → AreUsed c k s rd rs2 sum (loads 3) (with_register rd kind k)
+  as_loaded_float : (f : ℕ) → BeginsAt c k (2 ^ f) sum same
+      → AreUsed c k s rd rs2 sum (loads_float f) (with_register (32 + rd) same k)
+  as_stored : (f : ℕ) → (rs2 ≡ 0) ⊎ (k.registers rs2 ≡ same) → HasRoom c k (bytes_of f) sum
+      → AreUsed c k s rd rs2 sum (stores f) (with_stored (bytes_of f) sum k)
+  as_stored_float : (f : ℕ) → k.registers (32 + rs2) ≡ same → HasRoom c k (2 ^ f) sum
+      → AreUsed c k s rd rs2 sum (stores_float f) (with_stored (2 ^ f) sum k)
+
+-- Then what an instruction does with a sum keeps agreement, as a low part's group requires.
+abbrev pub AccessesAgree : Type 0
+AccessesAgree =
+    (c : Code) (action : Action) (word sum : ℕ) (k : Kinds) (s : State) (k' : Kinds)
+    → c.moved (sum_64 s.pc 4) ≡ sum_64 (c.moved s.pc) 4
+    → AreUsed c k s (rd_of word) (rs2_of word) sum action k'
+    → (t : State) → Agree (link c) k s t
+    → Agree (link c) k' (uses action word sum s) (uses action word sum t)
 
 -- ---- loads of addresses from the GOT
 
@@ -295,8 +377,7 @@ called x base high register_of_function s =
     (put register_of_function function (sum_64 x.place 8) (put base high (sum_64 x.place 4) s)))
 
 -- `auipc rX`, `ld rY` over rX, `addi a0` over rX, and `jalr t0` over rY stand in old. The function
--- of
--- the descriptor is at an even address. It returns, and leaves an offset in a0. What else it
+-- of the descriptor is at an even address. It returns, and leaves an offset in a0. What else it
 -- changes may be anything then, as are rX, rY and t0. Nops write register 0.
 pub record Descriptor (c : Code) (x : Operands) (offset : ℕ) (k : Kinds) (s : State) (k' : Kinds)
     (s' : State) (auipc ld addi jalr : List ℕ) : Type 0 where
@@ -357,8 +438,7 @@ DescriptorToShortLocalExec =
     → Group (of_link (link c)) (n + 1) k s k' s'
 
 -- `auipc a0` and `ld a0` of an entry that holds the number that the function returns, whatever
--- state
--- of new agrees
+-- state of new agrees
 abbrev pub DescriptorToInitialExec : Type 0
 DescriptorToInitialExec =
     (c : Code) (n offset : ℕ) (x y : Operands) (k k' : Kinds) (s s' : State)
@@ -375,8 +455,7 @@ DescriptorToInitialExec =
 -- ---- other instructions
 
 -- One that has the same bytes in both. By these: whatever state agrees before it, it leaves one
--- that
--- agrees after it.
+-- that agrees after it.
 abbrev pub Others : Type 0
 Others =
     (c : Code) (k k' : Kinds) (s s' : State)
@@ -395,8 +474,10 @@ pub record Groups : Type 0 where
   pub sums : SumIsDeleted
   pub low_parts : LowPartFromZero
   pub low_offsets : LowPartFromThreadPointer
+  pub accesses : AccessesAgree
   pub calls : Calls
   pub short_tail_calls : ShortTailCalls
+  pub long_calls : LongCalls
   pub rewritten_calls : CallsAreRewritten
   pub got : GotToAddress
   pub descriptor_to_local_exec : DescriptorToLocalExec

@@ -2,6 +2,7 @@
 use Rattle.std.specs.Prelude.{◌≡◌, ℕ, ◌-◌, ◌/◌, ◌%◌, ◌^◌, nat_lt, nat_le, ◌&&◌, Bool}
 use Rattle.std.specs.Prelude.{if◌then◌else◌, List, [], ◌∷◌, None, IsSomeAnd, slice_get, min}
 use Rattle.std.specs.Option.{unwrap_or}
+use Rattle.linker_laws.specs.Machine.{loaded}
 use Rattle.linker_laws.specs.RiscVGroups.{Code, link, machine}
 use Rattle.linker_laws.specs.Simulation.{State, Program, Kinds, Agree, Covered, Stops, of_link, run}
 use Rattle.linker_laws.specs.Simulation.{same}
@@ -14,27 +15,36 @@ words code a =
     unwrap_or (slice_get code (i / 4)) 0 / 256 ^ (i % 4) % 256
 
 -- The address is a number of 12 bits, and the entry at 0x12010 has another one. No instruction is
--- at
--- the end.
+-- after the call, to which the function returns.
 abbrev pub old : List ℕ
 old =
     0x000007b7  -- lui a5, 0
     ∷ 0x12078513  -- addi a0, a5, 0x120
+    ∷ 0x12a7b423  -- sd a0, 0x128(a5)
     ∷ 0x00002597  -- auipc a1, 2
-    ∷ 0x0085b583  -- ld a1, 8(a1)
+    ∷ 0x0045b583  -- ld a1, 4(a1)
+    ∷ 0x00000097  -- auipc ra, 0
+    ∷ 0x00c080e7  -- jalr ra, 12(ra)
+    ∷ 0
+    ∷ 0x00008067  -- jalr zero, 0(ra)
     ∷ []
 
--- without the `lui`
+-- without the `lui` and half of the call
 abbrev pub new : List ℕ
 new =
     0x12000513  -- addi a0, zero, 0x120
+    ∷ 0x12a03423  -- sd a0, 0x128(zero)
     ∷ 0x00003597  -- auipc a1, 3
-    ∷ 0xffc58593  -- addi a1, a1, -4
+    ∷ 0xff858593  -- addi a1, a1, -8
+    ∷ 0x008000ef  -- jal ra, 8
+    ∷ 0
+    ∷ 0x00008067  -- jalr zero, 0(ra)
     ∷ []
 
 -- less the deleted bytes before it
 abbrev pub moved : ℕ → ℕ
-moved a = if nat_lt a 0x10014 then a - min 4 (a - 0x10000) else a
+moved a =
+    if nat_lt a 0x10028 then (a - min 4 (a - 0x10000)) - min 4 (a - 0x10018) else a
 
 -- no other instruction
 abbrev pub others : List ℕ → Program
@@ -58,16 +68,19 @@ starting =
 abbrev pub known : Kinds
 known = record { registers = λ r. same; memory = λ a. of_byte same }
 
--- Three groups are 4 instructions of old, and 3 of new.
+-- Five groups and the return are 8 instructions of old, and 6 of new. The link register has the
+-- address after the call in both.
 pub record IsWorked : Type 0 where
   pub kinds : Kinds
   pub state : State
   pub agree : Agree (link code) known starting starting
-  pub covered : Covered (of_link (link code)) 3 3 known starting kinds state
+  pub covered : Covered (of_link (link code)) 6 6 known starting kinds state
   pub stops : Stops (of_link (link code)) kinds state
   pub old_ends :
-      IsSomeAnd (run 4 (machine others (words old)) starting)
-      (λ s. (s.pc ≡ 0x10010) × (s.registers 10 ≡ 0x120) × (s.registers 11 ≡ 0x13000))
+      IsSomeAnd (run 8 (machine others (words old)) starting)
+      (λ s. (s.pc ≡ 0x1001c) × (s.registers 1 ≡ 0x1001c) × (s.registers 10 ≡ 0x120)
+      × (s.registers 11 ≡ 0x13000) × (loaded 8 s.memory 0x128 ≡ 0x120))
   pub new_ends :
-      IsSomeAnd (run 3 (machine others (words new)) starting)
-      (λ s. (s.pc ≡ 0x1000c) × (s.registers 10 ≡ 0x120) × (s.registers 11 ≡ 0x13000))
+      IsSomeAnd (run 6 (machine others (words new)) starting)
+      (λ s. (s.pc ≡ 0x10014) × (s.registers 1 ≡ 0x10014) × (s.registers 10 ≡ 0x120)
+      × (s.registers 11 ≡ 0x13000) × (loaded 8 s.memory 0x128 ≡ 0x120))

@@ -1,6 +1,6 @@
--- RISC-V: what laws of rewrites name, and runs of two harts that are alike.
-use Rattle.std.specs.Prelude.{◌≡◌, ℕ, ◌==◌, ◌&&◌, ◌||◌, not, Bool, false, List}
-use Rattle.std.specs.Prelude.{Option, Some, ⊤, ◌≢◌}
+-- RISC-V: what laws of rewrites name.
+use Rattle.std.specs.Prelude.{◌≡◌, ℕ, List}
+use Rattle.std.specs.Prelude.{Option, Some, ◌≢◌}
 use Rattle.std.specs.Int.{w32, w64, cast_signed, from_le_bytes}
 use Rattle.linker_base.specs.Rewrite.{rewritten}
 use Rattle.linker_elf.specs.Choices.{low_12_bounds, symbol_and_addend}
@@ -17,30 +17,8 @@ use Rattle.linker_elf.specs.declared.elf.value.Operands.{Operands}
 use Rattle.linker_elf.specs.declared.riscv64.relocations.RiscVRelocation.TheVariants as names
 use Rattle.linker_utils.specs.declared.riscv64.rewrites.RelaxationKind.{RelaxationKind}
 use Rattle.linker_laws.specs.Schemes.{symbol_address}
-use Rattle.linker_laws.specs.RiscVMachine.{Hart, register, Action, adds, adds_word, jumps, loads}
-use Rattle.linker_laws.specs.RiscVMachine.{stores, loads_float, stores_float, action_of, rs1_of}
-use Rattle.linker_laws.specs.RiscVMachine.{Runs}
-
--- ---- what the laws compare
-
--- The harts are alike but for their pc and for some registers.
-pub record AreAlike (differs : ℕ → Bool) (a b : Hart) : Type 0 where
-  pub integers : (r : ℕ) → differs r ≡ false → register a r ≡ register b r
-  pub floats : (r : ℕ) → a.floats r ≡ b.floats r
-  pub memory : (address : ℕ) → a.memory address ≡ b.memory address
-
-abbrev pub no_register : ℕ → Bool
-no_register r = false
-
--- One hart runs n instructions of the original code, which begins at its pc, and the other m of the
--- new code at its own. They end as harts of which P holds.
-pub record EndSo (n : ℕ) (original : List ℕ) (h : Hart) (m : ℕ) (new : List ℕ) (k : Hart)
-    (P : Hart → Hart → Type 0) : Type 0 where
-  pub end : Hart
-  pub new_end : Hart
-  pub runs : Runs n original h.pc h end
-  pub new_runs : Runs m new k.pc k new_end
-  pub so : P end new_end
+use Rattle.linker_laws.specs.RiscVMachine.{Action}
+use Rattle.linker_laws.specs.RiscVMachine.{stores, stores_float, action_of, rs1_of}
 
 -- the section after a rewrite at an offset
 abbrev pub after_rewrite : RelaxationKind → List ℕ → ℕ → List ℕ
@@ -63,31 +41,6 @@ abbrev pub low_row : Action → Option RelocationKindInfo
 low_row (stores f) = riscv_row names.R_RISCV_LO12_S
 low_row (stores_float f) = riscv_row names.R_RISCV_LO12_S
 low_row action = riscv_row names.R_RISCV_LO12_I
-
--- which registers may differ after the instruction, where some differed before it: those still,
--- unless one is the destination; and the link register of `jalr`
-abbrev pub differs_after : Action → (ℕ → Bool) → ℕ → ℕ → Bool
-differs_after adds differs rd r = differs r && not (r == rd)
-differs_after adds_word differs rd r = differs r && not (r == rd)
-differs_after jumps differs rd r = differs r || r == rd
-differs_after (loads f) differs rd r = differs r && not (r == rd)
-differs_after (stores f) differs rd r = differs r
-differs_after (loads_float f) differs rd r = differs r
-differs_after (stores_float f) differs rd r = differs r
-
--- where the two go on: after their instructions, or at the target of `jalr`, with the address
--- after it in the link register
-abbrev pub GoOn : Action → ℕ → ℕ → ℕ → ℕ → Hart → Hart → Type 0
-GoOn jumps rd target at new_at a b =
-    (a.pc ≡ target) × (b.pc ≡ target)
-    × (rd ≢ 0 → (register a rd ≡ at) × (register b rd ≡ new_at))
-GoOn action rd target at new_at a b = (a.pc ≡ at) × (b.pc ≡ new_at)
-
--- A store stores the same in both. So it can't be one that stores its own base, whose `lui` is
--- deleted: that would store what the `lui` left.
-abbrev pub StoresTheSame : Action → ℕ → Hart → Hart → Type 0
-StoresTheSame (stores f) rs2 h k = register h rs2 ≡ register k rs2
-StoresTheSame action rs2 h k = ⊤
 
 -- what the instruction at an offset does with its sum
 abbrev pub action_at : List ℕ → ℕ → Option Action

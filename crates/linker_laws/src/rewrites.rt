@@ -16,8 +16,7 @@ ghost use Rattle.linker_laws.specs.X86RewriteLaws as x86_laws;
 ghost use Rattle.linker_laws.specs.X86ThreadLaws as x86_thread_laws;
 
 /// AArch64: the bytes of instructions that a rewrite leaves may be a section's, from the
-/// instruction
-/// on. What they compute is in `simulation::aarch64`.
+/// instruction on. What they compute is in `simulation::aarch64`.
 pub fn aarch64()
     ensures sections { aarch64_laws.InSections }
     ensures steps { aarch64_worked.WorkedSteps }
@@ -40,8 +39,7 @@ pub fn ppc64()
 }
 
 /// RISC-V: examples of what bytes are, and of what instructions do. What rewritten instructions
-/// compute
-/// is in `simulation::riscv64`.
+/// compute is in `simulation::riscv64`.
 pub fn riscv64()
     ensures words { riscv_examples.Words }
     ensures halves { riscv_examples.Halves }

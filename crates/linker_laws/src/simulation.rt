@@ -29,9 +29,8 @@ pub fn worked()
 {}
 
 /// AArch64: rewritten instructions are groups, whatever the machine's other instructions do: loads
-/// of
-/// addresses from the GOT, each half of initial-exec, whatever stands between them, and branches to
-/// undefined weak symbols. An instruction that has the same word in both is another one, if the
+/// of addresses from the GOT, each half of initial-exec, whatever stands between them, and branches
+/// to undefined weak symbols. An instruction that has the same word in both is another one, if the
 /// object's keeps agreement.
 pub fn aarch64()
     ensures groups { aarch64_groups.Groups }
@@ -40,8 +39,7 @@ pub fn aarch64()
 }
 
 /// AArch64: a program with three groups, of which every premise holds. Both of its runs are
-/// computed
-/// to the end.
+/// computed to the end.
 pub fn aarch64_worked()
     ensures worked { aarch64_worked.IsWorked }
 {
@@ -49,20 +47,18 @@ pub fn aarch64_worked()
 }
 
 /// RISC-V: rewritten instructions are groups, whatever the machine's other instructions do, and
-/// code
-/// gets shorter: high parts that are shortened or deleted, with the `add` of the thread pointer,
-/// low
-/// parts over another base, whatever stands between them, calls that become jumps, and loads of
-/// addresses from the GOT.
+/// code gets shorter: high parts that are shortened or deleted, with the `add` of the thread
+/// pointer, low parts over another base, whatever stands between them, calls that become jumps or
+/// stay, and loads of addresses from the GOT.
 pub fn riscv64()
     ensures groups { riscv_groups.Groups }
 {
     crate::relocations::riscv64();
 }
 
-/// RISC-V: a program with three groups, of which every premise holds. Both of its runs are
-/// computed to
-/// the end.
+/// RISC-V: a program with five groups, of which one is a store and one a call that became a jump,
+/// and the return of the function. Every premise holds, and both of its runs are computed to the
+/// end.
 pub fn riscv64_worked()
     ensures worked { riscv_worked.IsWorked }
 {

@@ -7,8 +7,8 @@ pub returns : goal.returns
 returns c =
     let groups = c.riscv64-2.ensures.groups in
     record {
-      sites = sites;
-      long_calls = long_calls;
+      sites = sites groups;
+      long_calls = long_calls groups;
       high_parts = high_parts groups;
       sums = sums groups;
       branches = riscv_branches c.riscv64.ensures.jumps;

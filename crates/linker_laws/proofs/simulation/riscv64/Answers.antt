@@ -1,5 +1,6 @@
+use Rattle.linker_laws.proofs.RiscVAccesses.{are_accesses}
 use Rattle.linker_laws.proofs.RiscVGroups.{are_calls, are_cluis_to_cli, are_high_offsets, are_high_parts}
-use Rattle.linker_laws.proofs.RiscVGroups.{are_loads, are_low_offsets, are_low_parts, are_luis_to_clui}
+use Rattle.linker_laws.proofs.RiscVGroups.{are_loads, are_long_calls, are_low_offsets, are_low_parts, are_luis_to_clui}
 use Rattle.linker_laws.proofs.RiscVGroups.{are_others, are_rewritten_calls, are_short_tail_calls}
 use Rattle.linker_laws.proofs.RiscVGroups.{are_sums, are_to_initial_exec, are_to_local_exec}
 use Rattle.linker_laws.proofs.RiscVGroups.{are_to_short_local_exec}
@@ -17,8 +18,10 @@ returns c =
         sums = are_sums;
         low_parts = are_low_parts;
         low_offsets = are_low_offsets;
+        accesses = are_accesses;
         calls = are_calls;
         short_tail_calls = are_short_tail_calls;
+        long_calls = are_long_calls;
         rewritten_calls = are_rewritten_calls;
         got = are_loads laws.entries laws.relative;
         descriptor_to_local_exec = are_to_local_exec laws.descriptors laws.thread;
