@@ -50,7 +50,7 @@ use Rattle.linker_elf.specs.declared.elf.architecture.Architecture.TheVariants.{
 -- ---- loads of addresses from the GOT
 
 -- The relocations at two indexes are those of an `auipc` and of the `ld` after it, and both are
--- rewritten.
+-- rewritten to those of the distance.
 pub record AreOfPair (l : Linked) (i j : ℕ) : Type 0 where
   pub first_below : i < count l
   pub second_below : j < count l
@@ -59,8 +59,10 @@ pub record AreOfPair (l : Linked) (i j : ℕ) : Type 0 where
   pub low : IsNameOf riscv_name (relocation_in l.relocations j).code names.R_RISCV_PCREL_LO12_I
   pub high_chosen : Choice Relaxation ℕ
   pub high_decided : decision_at l.decisions i ≡ Rewritten high_chosen
+  pub high_becomes : high_chosen.relocation ≡ code_of (riscv_name names.R_RISCV_PCREL_HI20)
   pub low_chosen : Choice Relaxation ℕ
   pub low_decided : decision_at l.decisions j ≡ Rewritten low_chosen
+  pub low_becomes : low_chosen.relocation ≡ code_of (riscv_name names.R_RISCV_PCREL_LO12_I)
 
 -- The symbol of the second labels the `auipc`.
 pub record AreOfLoad (l : Linked) (i j : ℕ) : Type 0 where

@@ -345,13 +345,14 @@ without_got facts =
     (in_reach_if_known r.R_RISCV_PCREL_HI20 0 ∷ [])
 
 -- the symbol's address in place of its GOT entry, where some facts hold too, and where 12 signed
--- bits hold it
+-- bits hold it and instructions may be deleted
 abbrev pub without_got_of_fixed : Conditions → Conditions
 without_got_of_fixed facts =
     without_entry (fixed_address ∷ label_marked ∷ facts) (in_reach r.R_RISCV_HI20 0 ∷ [])
 
 abbrev pub without_got_of_low : Conditions → Conditions
-without_got_of_low facts = without_entry (fixed_address ∷ label_marked ∷ facts) (low_12 ∷ [])
+without_got_of_low facts =
+    without_entry (fixed_address ∷ marked ∷ label_marked ∷ facts) (low_12 ∷ [])
 
 -- ---- the table
 
