@@ -680,12 +680,13 @@ enum linker_utils_modifier {
  *   (1) is_pcrel_link_time_constant, may_compress, is_relaxable, plt_entry is symbol, RVC_JUMP in
  *       reach
  *   (2) is_pcrel_link_time_constant, is_relaxable, plt_entry is symbol, JAL in reach
- *   (3) is_local, not is_ifunc, has_fixed_address, is_label_relaxable, addend 0, S + A in 12 bits
+ *   (3) is_local, not is_ifunc, has_fixed_address, is_relaxable, is_label_relaxable, addend 0, S +
+ *       A in 12 bits
  *   (4) is_local, not is_ifunc, is_pcrel_link_time_constant, is_label_relaxable, addend 0,
  *       PCREL_HI20 in reach if known
  *   (5) is_local, not is_ifunc, has_fixed_address, is_label_relaxable, addend 0, HI20 in reach
- *   (6) is_local, not is_ifunc, has_fixed_address, is_label_relaxable, has_got_high_part, addend 0,
- *       S + A in 12 bits
+ *   (6) is_local, not is_ifunc, has_fixed_address, is_relaxable, is_label_relaxable,
+ *       has_got_high_part, addend 0, S + A in 12 bits
  *   (7) is_local, not is_ifunc, is_pcrel_link_time_constant, is_label_relaxable, has_got_high_part,
  *       addend 0, PCREL_HI20 in reach if known
  *   (8) is_local, not is_ifunc, has_fixed_address, is_label_relaxable, has_got_high_part, addend 0,

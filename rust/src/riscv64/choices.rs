@@ -109,7 +109,11 @@ macro_rules! when {
     };
     // 12 signed bits hold it
     (without_got_of_low $($fact:ident)?) => {
-        conditions!(BOUND + FIXED_ADDRESS + LABEL_RELAXABLE $(+ $fact)?, Some(0), Low12)
+        conditions!(
+            BOUND + FIXED_ADDRESS + RELAXABLE + LABEL_RELAXABLE $(+ $fact)?,
+            Some(0),
+            Low12
+        )
     };
 }
 
