@@ -1,5 +1,5 @@
--- Loads of fixed addresses from the GOT of RISC-V that became the address itself do in the final bytes
--- what the object's do.
+-- Loads of fixed addresses from the GOT of RISC-V that became `lui` and `addi` do the same in the
+-- final bytes.
 use Rattle.std.proofs.Common.{◌≡◌, ℕ, ◌+◌, ◌≤◌, List, [], length, refl, sym, subst, ◌∙◌, inl, inr, arith}
 use Rattle.std.specs.Int.{w32, from_le_bytes, to_le_bytes}
 use Rattle.linker_elf.specs.Choices.{entry}

@@ -167,8 +167,8 @@ SumGoes l i =
 -- ---- TLS descriptors
 
 -- The relocation at an index has a name, and is n bytes after the high part of a TLS descriptor or
--- of a load from the GOT, that at another index, which its symbol labels. It is rewritten by a kind,
--- and gets the symbol of the high part.
+-- of a load from the GOT, that at another index, which its symbol labels. It is rewritten by a
+-- kind, and gets the symbol of the high part.
 pub record IsOfDescriptor (l : Linked) (high : ℕ) (name : RiscVRelocation) (distance : ℕ)
     (kind : RelaxationKind) (n : ℕ) : Type 0 where
   pub below : n < count l

@@ -83,13 +83,12 @@ pub fn aarch64()
 /// RISC-V: rewritten instructions are groups of `linker_laws::simulation`, of any code that has the
 /// final bytes there, and of any old code that has the object's with the values of their
 /// relocations. They are each load of an address from the GOT that became a sum of the place and
-/// the
-/// distance, or the address itself in `lui` and `addi`, each low part of an offset that is over the thread pointer, and each sequence of a TLS
-/// descriptor that became one of local-exec. What became a nop is one. The high part and the sum of
-/// such an offset are deleted, and are groups of which new has nothing. The offset had 12 bits when
-/// rewrites were chosen. The clauses named `anywhere` are of a call of rewriting alone: what each
-/// relocation became, and that the rewritten instructions are a group wherever a linker applies it,
-/// as in a section that it packs first.
+/// the distance, or `lui` and `addi` of the address, each low part of an offset that is over the
+/// thread pointer, and each sequence of a TLS descriptor that became one of local-exec. What became
+/// a nop is one. The high part and the sum of such an offset are deleted, and are groups of which
+/// new has nothing. The offset had 12 bits when rewrites were chosen. The clauses named `anywhere`
+/// are of a call of rewriting alone: what each relocation became, and that the rewritten
+/// instructions are a group wherever a linker applies it, as in a section that it packs first.
 pub fn riscv64()
     ensures got_loads { riscv64_final.GotLoads }
     ensures fixed_addresses { riscv64_final.FixedAddresses }
