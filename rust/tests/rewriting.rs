@@ -1716,6 +1716,33 @@ fn loads_of_one_label_become_sums() {
 }
 
 #[test]
+fn loads_of_one_label_become_the_address() {
+    // that is in reach of `lui`, and the distance to it isn't in reach of `auipc`
+    let addresses = Addresses {
+        section: 0x2_0000_0000,
+        ..Addresses::default()
+    };
+    let mut values = values(0xbeef, 0);
+    values[3].address = addresses.section;
+    let phase = Phase::GotToPcRel;
+    let made = placed(RiscV, phase, &addresses, &values, &[&load_by_label()]);
+    assert_eq!(made[0].1, []);
+    // lui a0, 0xc; addi a0, a0, -273
+    assert_eq!(
+        linked(RiscV, &addresses, &values, &made[0].0, &[]),
+        [0x0000_c537, 0xeef5_0513]
+    );
+    // the low part is of the symbol, and not of the label any more
+    let relocations = [
+        rela(0, 26, 1, 0),
+        rela(0, 51, 0, 0),
+        rela(4, 27, 1, 0),
+        rela(4, 51, 0, 0),
+    ];
+    assert_eq!(made[0].0.relocations, relocations);
+}
+
+#[test]
 fn labels_of_one_symbol_are_apart() {
     // the second load of symbol 1 has no marks, and its label is symbol 4
     let mut two = load_by_label();

@@ -167,7 +167,7 @@ SEQUENCES = {
                  "TLSDESC_ADR_PAGE21 TLSDESC_LD64_LO12 TLSDESC_ADD_LO12 TLSDESC_CALL"),
     ],
     243: [
-        sequence("GotToAddress", "GOT_HI20 PCREL_LO12_I", is_load_from_got),
+        sequence("GotToAddress GotToFixedAddress GotToLowAddress", "GOT_HI20 PCREL_LO12_I", is_load_from_got),
         sequence("DescriptorToLocalExec DescriptorToShortLocalExec DescriptorToInitialExec",
                  "TLSDESC_HI20 TLSDESC_LOAD_LO12 TLSDESC_ADD_LO12 TLSDESC_CALL",
                  is_descriptor_of_riscv),

@@ -45,6 +45,7 @@ pub mod Ppc64Written
 pub mod PutBack
 pub mod Relaxed
 pub mod RelocatedFields
+pub mod RiscVAddresses
 pub mod RiscVChosen
 pub mod RiscVDescriptors
 pub mod RiscVJoined

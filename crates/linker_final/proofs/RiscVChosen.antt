@@ -1,5 +1,5 @@
 -- The rewrite that is chosen for a relocation of RISC-V.
-use Rattle.std.proofs.Common.{◌≡◌, ℕ, ◌<◌, List, [], ◌∷◌, refl, sym, ap, subst, ◌∙◌, inl, inr, ◌⊎◌, Option, Some, None}
+use Rattle.std.proofs.Common.{◌≡◌, ℕ, ◌<◌, Bool, true, false, List, [], ◌∷◌, refl, sym, ap, subst, ◌∙◌, inl, inr, ◌⊎◌, Option, Some, None}
 use Rattle.linker_elf.specs.Choices.{choice}
 use Rattle.linker_elf.specs.ElfNames.{IsNamed, IsNameOf, code_of}
 use Rattle.linker_elf.specs.RiscVRelocations.{riscv_name}
@@ -14,6 +14,7 @@ use Rattle.linker_utils.specs.declared.riscv64.rewrites.RelaxationKind.{Relaxati
 use Rattle.linker_utils.specs.declared.riscv64.rewrites.RelaxationKind.TheVariants as kinds
 use Rattle.linker_rewriting.specs.Candidates.{IsCandidateWith}
 use Rattle.linker_rewriting.specs.Decisions.{IsLabelDecision, decision_at, label_decision}
+use Rattle.linker_rewriting.specs.Decisions.{rewritten_by, takes_symbol}
 use Rattle.linker_rewriting.specs.Facts.{RelaxContext}
 use Rattle.linker_rewriting.proofs.LabelGroups.{one_index}
 use Rattle.linker_rewriting.specs.RiscVPcrelGroups.{IsHighIn, IsLabelCandidate, label_facts}
@@ -21,7 +22,6 @@ use Rattle.linker_rewriting.specs.declared.decisions.Decision.{Decision}
 use Rattle.linker_rewriting.specs.declared.decisions.Decision.TheVariants.{Kept, RewrittenWithSymbol, Rewritten}
 use Rattle.linker_rewriting.specs.declared.decisions.Subject.{Subject}
 use Rattle.linker_rewriting.specs.declared.phases.Phase.{Phase}
-use Rattle.linker_rewriting.specs.declared.phases.Phase.TheVariants as phases
 use Rattle.linker_section.specs.Relocations.{relocation_in}
 use Rattle.linker_section.specs.declared.relocations.Rela.{Rela}
 use Rattle.linker_utils.specs.Relaxations.{IsArchitectureChoice, IsUnchanged, relaxation_no_op}
@@ -51,10 +51,11 @@ chosen_in other (Some chosen) = chosen
 
 label_choice : (phase : Phase) (chosen : Choice Relaxation ℕ) (high : Rela)
     → choice_of (label_decision phase chosen high) ≡ Some chosen
-label_choice phases.TlsLocalExec chosen high = refl
-label_choice phases.PreLayout chosen high = refl
-label_choice phases.GotToPcRel chosen high = refl
-label_choice phases.ShortPcRel chosen high = refl
+label_choice phase chosen high = either (takes_symbol phase chosen.relocation)
+  where
+    either : (takes : Bool) → choice_of (rewritten_by takes chosen high) ≡ Some chosen
+    either true = refl
+    either false = refl
 
 by_label : (s : RelaxContext) (bytes section : List ℕ) (n : ℕ) (r : Rela) (decision : Decision)
     (chosen : Choice Relaxation ℕ) → choice_of decision ≡ Some chosen
@@ -80,13 +81,12 @@ subject_of high = record { symbol = high.symbol; addend = high.addend }
 
 of_phase : (phase : Phase) (chosen mine : Choice Relaxation ℕ) (subject : Subject) (high : Rela)
     → RewrittenWithSymbol chosen subject ≡ label_decision phase mine high → subject ≡ subject_of high
-of_phase phases.TlsLocalExec chosen mine subject high is = ap (subject_in subject) is
-of_phase phases.PreLayout chosen mine subject high is =
-    absurd (let e : RewrittenWithSymbol chosen subject ≡ Rewritten mine = is in cc)
-of_phase phases.GotToPcRel chosen mine subject high is =
-    absurd (let e : RewrittenWithSymbol chosen subject ≡ Rewritten mine = is in cc)
-of_phase phases.ShortPcRel chosen mine subject high is =
-    absurd (let e : RewrittenWithSymbol chosen subject ≡ Rewritten mine = is in cc)
+of_phase phase chosen mine subject high is = either (takes_symbol phase mine.relocation) is
+  where
+    either : (takes : Bool) → RewrittenWithSymbol chosen subject ≡ rewritten_by takes mine high
+        → subject ≡ subject_of high
+    either true same = ap (subject_in subject) same
+    either false same = absurd (let e : RewrittenWithSymbol chosen subject ≡ Rewritten mine = same in cc)
 
 of_high : (s : RelaxContext) (bytes section : List ℕ) (n : ℕ) (r : Rela) (chosen : Choice Relaxation ℕ)
     (subject : Subject) (high : ℕ) → IsHighIn s bytes r (Some high)

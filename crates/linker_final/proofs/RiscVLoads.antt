@@ -1,22 +1,24 @@
 -- Rewritten loads from the GOT of RISC-V are groups in the final bytes.
-use Rattle.std.proofs.Common.{◌≡◌, ℕ, ◌+◌, ◌≤◌, [], ◌∷◌, length, refl, sym, ap, subst, ◌∙◌, arith, Some, Ok}
+use Rattle.std.proofs.Common.{◌≡◌, ℕ, ◌+◌, ◌≤◌, List, [], ◌∷◌, length, refl, sym, ap, subst, ◌∙◌, arith, inl, inr, Some, Ok}
 use Rattle.std.specs.Prelude.{slice_get}
 use Rattle.std.specs.Int.{w32, from_le_bytes}
 use Rattle.linker_base.specs.Rewrite.{rewritten}
 use Rattle.linker_base.specs.declared.bit_misc.BitRange.{BitRange}
 use Rattle.linker_elf.specs.Applied.{IsApplied}
 use Rattle.linker_elf.specs.Choices.{entry}
-use Rattle.linker_elf.specs.RiscVRelocations.{pair_row, riscv_row}
+use Rattle.linker_elf.specs.ElfNames.{code_of}
+use Rattle.linker_elf.specs.RiscVRelocations.{pair_row, riscv_name, riscv_row}
 use Rattle.linker_elf.specs.Value.{sum_64}
 use Rattle.linker_elf.specs.declared.elf.RelocationInstruction.TheVariants as insns
 use Rattle.linker_elf.specs.declared.elf.RelocationKind.TheVariants as formulas
+use Rattle.linker_elf.specs.declared.elf.choice.Choice.{Choice}
 use Rattle.linker_elf.specs.declared.elf.value.Operands.{Operands}
 use Rattle.linker_elf.specs.declared.riscv64.forms.RiscVInstruction.TheVariants.{UType, IType}
 use Rattle.linker_elf.specs.declared.riscv64.relocations.RiscVRelocation.TheVariants as names
 use Rattle.linker_final.proofs.Written.{are_rewritten, word_same}
 use Rattle.linker_final.proofs.InstructionFields.{IsOfInstruction, applied_found}
 use Rattle.linker_final.proofs.Labels.{low_found}
-use Rattle.linker_final.proofs.RiscVChosen.{IsOfEntry, of_entry}
+use Rattle.linker_final.proofs.RiscVChosen.{IsOfEntry, IsOfSome, of_some}
 use Rattle.linker_final.proofs.Phases.{bytes_left, last_length}
 use Rattle.linker_final.proofs.RiscVWritten.{IsAfter, applied_there, becomes, bytes_there, last_is, long_there, made_is, rewritten_after, row_after, stays, within_after, word_bytes}
 use Rattle.linker_final.specs.Final.{IsRewrittenByNoOther, instruction_at}
@@ -25,7 +27,7 @@ use Rattle.linker_final.specs.RiscVFinal.{AreOfLoad, AreOfPair, GotLoads, GotLoa
 use Rattle.linker_laws.specs.Machine.{Relocated}
 use Rattle.linker_laws.specs.RiscVGroups.{Groups, Has}
 use Rattle.linker_laws.specs.RiscVRewriteLaws.{IsLoadFromGot, after_rewrite, word_of}
-use Rattle.linker_utils.specs.RiscVRewrites.{IsAuipc, IsLd, load_to_addi, rewrites_word, without_got}
+use Rattle.linker_utils.specs.RiscVRewrites.{IsAuipc, IsLd, load_to_addi, rewrites_word, riscv_entries, without_got}
 use Rattle.linker_elf.specs.Choices.{got_high_part}
 use Rattle.linker_utils.specs.declared.riscv64.rewrites.RelaxationKind.TheVariants as kinds
 use Rattle.linker_rewriting.specs.Rewritten.{IsMade}
@@ -37,6 +39,7 @@ use Rattle.linker_section.specs.declared.facts.Symbol.{Symbol}
 use Rattle.linker_section.specs.declared.relocations.Rela.{Rela}
 use Rattle.linker_elf.specs.Architectures.{IsRow}
 use Rattle.linker_utils.specs.Relaxations.{relaxation_rewrite}
+use Rattle.linker_utils.specs.declared.architecture.Relaxation.{Relaxation}
 use Rattle.linker_elf.specs.declared.elf.architecture.Architecture.TheVariants.{RiscV}
 
 -- ---- rows
@@ -60,6 +63,30 @@ of_high =
 abbrev pub low_after : IsAfter names.R_RISCV_PCREL_LO12_I
 low_after = record { row = pair_row formulas.RelativeRiscVLow12 32 IType; is = refl; named = tt }
 
+-- ---- entries
+
+high_of : (section : List ℕ) (o : ℕ) (chosen : Choice Relaxation ℕ)
+    → chosen.relocation ≡ code_of (riscv_name names.R_RISCV_PCREL_HI20)
+    → IsOfSome names.R_RISCV_GOT_HI20 (riscv_entries names.R_RISCV_GOT_HI20) section o chosen
+    → IsOfEntry names.R_RISCV_GOT_HI20 (entry kinds.NoOp names.R_RISCV_PCREL_HI20 (without_got [])) section o chosen
+high_of section o chosen code (inl this) =
+    absurd (let e : 0 ≡ 23 = sym this.code_is ∙ code in omega (arith, e))
+high_of section o chosen code (inr (inl this)) = this
+high_of section o chosen code (inr (inr (inl this))) =
+    absurd (let e : 26 ≡ 23 = sym this.code_is ∙ code in omega (arith, e))
+high_of section o chosen code (inr (inr (inr nothing))) = absurd nothing
+
+low_of : (section : List ℕ) (o : ℕ) (chosen : Choice Relaxation ℕ)
+    → chosen.relocation ≡ code_of (riscv_name names.R_RISCV_PCREL_LO12_I)
+    → IsOfSome names.R_RISCV_PCREL_LO12_I (riscv_entries names.R_RISCV_PCREL_LO12_I) section o chosen
+    → IsOfEntry names.R_RISCV_PCREL_LO12_I (entry kinds.LdToAddi names.R_RISCV_PCREL_LO12_I (without_got (got_high_part ∷ []))) section o chosen
+low_of section o chosen code (inl this) =
+    absurd (let e : 27 ≡ 24 = sym this.code_is ∙ code in omega (arith, e))
+low_of section o chosen code (inr (inl this)) = this
+low_of section o chosen code (inr (inr (inl this))) =
+    absurd (let e : 27 ≡ 24 = sym this.code_is ∙ code in omega (arith, e))
+low_of section o chosen code (inr (inr (inr nothing))) = absurd nothing
+
 -- ---- a pair
 
 module _ (groups : Groups) (l : Linked) (rewriting : AreRewritten l) (riscv : l.context.architecture ≡ RiscV)
@@ -73,13 +100,13 @@ module _ (groups : Groups) (l : Linked) (rewriting : AreRewritten l) (riscv : l.
 
   high_entry : IsOfEntry names.R_RISCV_GOT_HI20 (entry kinds.NoOp names.R_RISCV_PCREL_HI20 (without_got [])) l.section first.offset of.high_chosen
   high_entry =
-      of_entry l rewriting riscv i (Rewritten of.high_chosen) of.high_chosen of.first_below of.high_decided refl names.R_RISCV_GOT_HI20 tt of.high
-      (entry kinds.NoOp names.R_RISCV_PCREL_HI20 (without_got [])) refl
+      high_of l.section first.offset of.high_chosen of.high_becomes
+      (of_some l rewriting riscv i (Rewritten of.high_chosen) of.high_chosen of.first_below of.high_decided refl names.R_RISCV_GOT_HI20 tt of.high)
 
   low_entry : IsOfEntry names.R_RISCV_PCREL_LO12_I (entry kinds.LdToAddi names.R_RISCV_PCREL_LO12_I (without_got (got_high_part ∷ []))) l.section second.offset of.low_chosen
   low_entry =
-      of_entry l rewriting riscv j (Rewritten of.low_chosen) of.low_chosen of.second_below of.low_decided refl names.R_RISCV_PCREL_LO12_I tt of.low
-      (entry kinds.LdToAddi names.R_RISCV_PCREL_LO12_I (without_got (got_high_part ∷ []))) refl
+      low_of l.section second.offset of.low_chosen of.low_becomes
+      (of_some l rewriting riscv j (Rewritten of.low_chosen) of.low_chosen of.second_below of.low_decided refl names.R_RISCV_PCREL_LO12_I tt of.low)
 
   high_is : relocation_in l.relocations_after i ≡ named_as names.R_RISCV_PCREL_HI20 first first
   high_is =

@@ -18,11 +18,11 @@ use Rattle.linker_final.specs.Final.{Linked, IsLinked}
 use Rattle.linker_final.specs.Final.{count}
 use Rattle.linker_laws.specs.Machine.{loaded}
 use Rattle.linker_laws.specs.RiscVMachine.{Action, register, rs1_of}
-use Rattle.linker_laws.specs.RiscVRewriteLaws.{HaveOneOffset}
+use Rattle.linker_laws.specs.RiscVRewriteLaws.{HaveOneOffset, HaveOneTarget}
 use Rattle.linker_laws.specs.RiscVRewriteLaws.{IsLowOffset, action_at}
 use Rattle.linker_laws.specs.RiscVRewriteLaws.{of_entry, offset_row, word_of}
 use Rattle.linker_laws.specs.RiscVGroups.{AreBefore, AreDeleted, AreNops, Code, Descriptor, Has}
-use Rattle.linker_laws.specs.RiscVGroups.{Stands}
+use Rattle.linker_laws.specs.RiscVGroups.{LeavesAddress, LoadFromGot, Stands}
 use Rattle.linker_laws.specs.RiscVGroups.{link, seen, upper_from, uses}
 use Rattle.linker_laws.specs.RiscVRewriteLaws.{after_rewrite, thread_offset}
 use Rattle.linker_laws.specs.Changes.{put, with_register}
@@ -49,7 +49,7 @@ use Rattle.linker_elf.specs.declared.elf.architecture.Architecture.TheVariants.{
 -- ---- loads of addresses from the GOT
 
 -- The relocations at two indexes are those of an `auipc` and of the `ld` after it, and both are
--- rewritten.
+-- rewritten to those of the distance.
 pub record AreOfPair (l : Linked) (i j : ℕ) : Type 0 where
   pub first_below : i < count l
   pub second_below : j < count l
@@ -58,8 +58,10 @@ pub record AreOfPair (l : Linked) (i j : ℕ) : Type 0 where
   pub low : IsNameOf riscv_name (relocation_in l.relocations j).code names.R_RISCV_PCREL_LO12_I
   pub high_chosen : Choice Relaxation ℕ
   pub high_decided : decision_at l.decisions i ≡ Rewritten high_chosen
+  pub high_becomes : high_chosen.relocation ≡ code_of (riscv_name names.R_RISCV_PCREL_HI20)
   pub low_chosen : Choice Relaxation ℕ
   pub low_decided : decision_at l.decisions j ≡ Rewritten low_chosen
+  pub low_becomes : low_chosen.relocation ≡ code_of (riscv_name names.R_RISCV_PCREL_LO12_I)
 
 -- The symbol of the second labels the `auipc`.
 pub record AreOfLoad (l : Linked) (i j : ℕ) : Type 0 where
@@ -162,9 +164,9 @@ SumGoes l i =
 
 -- ---- TLS descriptors
 
--- The relocation at an index has a name, and is n bytes after the high part of a TLS
--- descriptor, that at another index, which its symbol labels. It is rewritten by a kind, and gets
--- the symbol of the high part.
+-- The relocation at an index has a name, and is n bytes after the high part of a TLS descriptor or
+-- of a load from the GOT, that at another index, which its symbol labels. It is rewritten by a
+-- kind, and gets the symbol of the high part.
 pub record IsOfDescriptor (l : Linked) (high : ℕ) (name : RiscVRelocation) (distance : ℕ)
     (kind : RelaxationKind) (n : ℕ) : Type 0 where
   pub below : n < count l
@@ -252,6 +254,49 @@ ShortOffsetIsTheSameAnywhere l high =
     Has 4 c.new at (riscv_row names.R_RISCV_TPREL_LO12_I) y (instruction_at l.rewritten (o + 12)))
     x y
 
+-- ---- loads of fixed addresses from the GOT
+
+-- The relocation at an index is that of an `auipc`, which became a `lui`.
+pub record IsLuiOfLoad (l : Linked) (high : ℕ) : Type 0 where
+  pub below : high < count l
+  pub name_is : IsNameOf riscv_name (relocation_in l.relocations high).code names.R_RISCV_GOT_HI20
+  pub chosen : Choice Relaxation ℕ
+  pub decided : decision_at l.decisions high ≡ Rewritten chosen
+  pub kind_is : chosen.kind ≡ relaxations.RiscV kinds.AuipcToLui
+
+-- The one at another index is that of the `ld` after it, which became an `addi` of the address.
+pub record IsAddiOfLoad (l : Linked) (high low : ℕ) : Type 0 where
+  pub rewritten : IsOfDescriptor l high names.R_RISCV_PCREL_LO12_I 4 kinds.LdToAddi low
+  pub becomes : rewritten.chosen.relocation ≡ code_of (riscv_name names.R_RISCV_LO12_I)
+
+-- The object's pair is a group, with what new has, where S + A is the same in both layouts.
+abbrev pub FixedAddressIsAlike : List ℕ → List ℕ → (Code → Type 0) → Operands → Operands → Type 0
+FixedAddressIsAlike auipc ld NewHas x y =
+    (c : Code) (k : Kinds) (s : State) → AreBefore c 8 8 x y s
+    → (load : LoadFromGot c x s auipc ld) → AreAddresses y → HaveOneTarget x y → NewHas c
+    → LeavesAddress 2 c x k s auipc ld load
+
+-- New has the final bytes.
+abbrev pub FixedAddressIsTheSame : Linked → ℕ → RelocationKindInfo → Type 0
+FixedAddressIsTheSame l high row =
+    let r = relocation_in l.relocations high in
+    let o = r.offset in
+    (symbol : Symbol) → slice_get l.symbols r.symbol ≡ Some symbol → (x : Operands)
+    → let y = operands_with RiscV l.addresses row symbol r 0 in
+    FixedAddressIsAlike (instruction_at l.section o) (instruction_at l.section (o + 4))
+    (λ c. Stands 4 c.new y.place (instruction_at l.final o)
+    × Stands 4 c.new (sum_64 y.place 4) (instruction_at l.final (o + 4))) x y
+
+-- New has the rewritten instructions with the values of theirs.
+abbrev pub FixedAddressIsTheSameAnywhere : Linked → ℕ → Type 0
+FixedAddressIsTheSameAnywhere l high =
+    let o = (relocation_in l.relocations high).offset in
+    (x y : Operands)
+    → FixedAddressIsAlike (instruction_at l.section o) (instruction_at l.section (o + 4))
+    (λ c. Has 4 c.new y.place (riscv_row names.R_RISCV_HI20) y (instruction_at l.rewritten o)
+    × Has 4 c.new (sum_64 y.place 4) (riscv_row names.R_RISCV_LO12_I) y
+    (instruction_at l.rewritten (o + 4))) x y
+
 -- ---- the laws
 
 -- of every load of an address from the GOT that a linker rewrites, and later phases leave alone,
@@ -262,6 +307,13 @@ GotLoads =
     → (i j : ℕ) → AreOfLoad l i j → UntouchedInstructions l i j
     → IsRewrittenByNoOther l i (relocation_in l.relocations i).offset
     → IsSomeAnd (riscv_row names.R_RISCV_PCREL_HI20) (LoadsTheSame l i)
+
+-- of every load that became the address itself, which later phases leave alone
+abbrev pub FixedAddresses : Type 0
+FixedAddresses =
+    (l : Linked) → IsLinked l → l.context.architecture ≡ RiscV → (high low : ℕ)
+    → IsLuiOfLoad l high → IsAddiOfLoad l high low → UntouchedInstructions l high low
+    → IsSomeAnd (riscv_row names.R_RISCV_LO12_I) (FixedAddressIsTheSame l high)
 
 -- of every low part with a relocation of a name whose instruction is rewritten, and is one that the
 -- relocation is of: a store with that of stores. Later phases leave it alone.
@@ -357,6 +409,17 @@ GotLoadsAnywhere =
     (relocation_in l.relocations_after i ≡ named_as names.R_RISCV_PCREL_HI20 r r)
     × (relocation_in l.relocations_after j ≡ named_as names.R_RISCV_PCREL_LO12_I low low)
     × LoadsTheSameAnywhere l i
+
+-- of every load that became the address itself
+abbrev pub FixedAddressesAnywhere : Type 0
+FixedAddressesAnywhere =
+    (l : Linked) → AreRewritten l → l.context.architecture ≡ RiscV → (high low : ℕ)
+    → IsLuiOfLoad l high → IsAddiOfLoad l high low
+    → let r = relocation_in l.relocations high in
+    (relocation_in l.relocations_after high ≡ named_as names.R_RISCV_HI20 r r)
+    × (relocation_in l.relocations_after low
+    ≡ named_as names.R_RISCV_LO12_I (relocation_in l.relocations low) r)
+    × FixedAddressIsTheSameAnywhere l high
 
 -- of every low part
 abbrev pub LowPartsAnywhereOf : RiscVRelocation → Type 0

@@ -82,14 +82,15 @@ pub fn aarch64()
 /// RISC-V: rewritten instructions are groups of `linker_laws::simulation`, of any code that has the
 /// final bytes there, and of any old code that has the object's with the values of their
 /// relocations. They are each load of an address from the GOT that became a sum of the place and
-/// the distance, each low part of an offset that is over the thread pointer, and each sequence of a
-/// TLS descriptor that became one of local-exec. What became a nop is one. The high part and the
-/// sum of such an offset are deleted, and are groups of which new has nothing. The offset had 12
-/// bits when rewrites were chosen. The clauses named `anywhere` are of a call of rewriting alone:
-/// what each relocation became, and that the rewritten instructions are a group wherever a linker
-/// applies it, as in a section that it packs first.
+/// the distance, or `lui` and `addi` of the address, each low part of an offset that is over the
+/// thread pointer, and each sequence of a TLS descriptor that became one of local-exec. What became
+/// a nop is one. The high part and the sum of such an offset are deleted, and are groups of which
+/// new has nothing. The offset had 12 bits when rewrites were chosen. The clauses named `anywhere`
+/// are of a call of rewriting alone: what each relocation became, and that the rewritten
+/// instructions are a group wherever a linker applies it, as in a section that it packs first.
 pub fn riscv64()
     ensures got_loads { riscv64_final.GotLoads }
+    ensures fixed_addresses { riscv64_final.FixedAddresses }
     ensures low_parts { riscv64_final.LowParts }
     ensures high_parts { riscv64_final.HighParts }
     ensures sums { riscv64_final.Sums }
@@ -98,6 +99,7 @@ pub fn riscv64()
     ensures nops { riscv64_final.Nops }
     ensures offsets_are_low { riscv64_final.OffsetsAreLow }
     ensures got_loads_anywhere { riscv64_final.GotLoadsAnywhere }
+    ensures fixed_addresses_anywhere { riscv64_final.FixedAddressesAnywhere }
     ensures low_parts_anywhere { riscv64_final.LowPartsAnywhere }
     ensures descriptors_anywhere { riscv64_final.DescriptorsAnywhere }
     ensures short_descriptors_anywhere { riscv64_final.ShortDescriptorsAnywhere }

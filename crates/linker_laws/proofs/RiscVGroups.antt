@@ -8,11 +8,12 @@ use Rattle.std.proofs.lemmas.Bool.{cond-true, cond-false, cases_lt, lt-ltb, le-l
 use Rattle.std.proofs.lemmas.Int.{ints}
 use Rattle.linker_base.specs.Bits.{field, signed}
 use Rattle.linker_base.specs.Form.{place_sum}
+use Rattle.linker_base.specs.Rewrite.{rewritten}
 use Rattle.linker_elf.specs.Choices.{low_12_bounds}
 use Rattle.linker_elf.specs.Elf.{IsWithin}
 use Rattle.linker_elf.specs.RiscV.{riscv_form, riscv_places}
-use Rattle.linker_elf.specs.RiscVRelocations.{pair_row}
-use Rattle.linker_elf.specs.Value.{sum_64}
+use Rattle.linker_elf.specs.RiscVRelocations.{pair_row, riscv_row}
+use Rattle.linker_elf.specs.Value.{difference_64, sum_64}
 use Rattle.linker_elf.specs.declared.elf.RelocationKind.{RelocationKind}
 use Rattle.linker_elf.specs.declared.elf.RelocationKind.TheVariants.{Absolute, TpOff, PltRelative}
 use Rattle.linker_elf.specs.declared.elf.RelocationKind.TheVariants.{GotRelative, GotTpOff, Relative, RelativeRiscVLow12, TlsDesc}
@@ -22,7 +23,7 @@ use Rattle.linker_elf.specs.declared.riscv64.forms.RiscVInstruction.TheVariants.
 use Rattle.linker_elf.specs.declared.riscv64.forms.RiscVInstruction.TheVariants.{CjType, JType, UiType}
 use Rattle.linker_elf.specs.declared.riscv64.relocations.RiscVRelocation.TheVariants as names
 use Rattle.linker_laws.specs.Changes.{go_to, put, with_register}
-use Rattle.linker_laws.specs.Machine.{loaded, moved, wrapped}
+use Rattle.linker_laws.specs.Machine.{AreBytes, loaded, moved, wrapped}
 use Rattle.linker_laws.specs.RiscVGroups as groups
 use Rattle.linker_laws.specs.RiscVGroups.{AreBefore, AreDeleted, Code, Has, Stands, bytes_at, continued, instruction_at, left, link, machine, seen}
 use Rattle.linker_laws.specs.RiscVGroups.{LowPartOf, upper_from, uses}
@@ -30,9 +31,10 @@ use Rattle.linker_laws.specs.RiscVMachine.{Action, Hart, Instruction, action_of,
 use Rattle.linker_laws.specs.RiscVMachine.{goes_to, i_type, jal, jumps, load_number, loads, loads_float, lui, of_half}
 use Rattle.linker_laws.specs.RiscVMachine.{of_word, register, rs1_of, rs2_of, s_type, step, stores, stores_float}
 use Rattle.linker_laws.specs.RiscVMachine.{sums, used, with_action, with_integer, with_number}
-use Rattle.linker_laws.specs.RiscVRelocationLaws.{DescriptorAddresses, EntryAddresses, RelativeAddresses}
+use Rattle.linker_laws.specs.RiscVRelocationLaws.{AbsoluteAddresses, DescriptorAddresses, EntryAddresses, RelativeAddresses}
 use Rattle.linker_laws.specs.RiscVRelocationLaws.{ThreadAddresses, even}
-use Rattle.linker_laws.specs.RiscVRewriteLaws.{IsLow12, action_at, after_rewrite, low_row, of_entry, offset_row}
+use Rattle.linker_laws.specs.RiscVRewriteLaws.{action_at, after_rewrite, IsLoadFromGot, IsLow12, low_row, of_entry}
+use Rattle.linker_laws.specs.RiscVRewriteLaws.{offset_row}
 use Rattle.linker_laws.specs.RiscVRewriteLaws.{t0, thread_offset, word_of}
 use Rattle.linker_laws.specs.Schemes.{AreAddresses, entry_and_addend, plt_address, symbol_address}
 use Rattle.linker_laws.specs.Simulation.{State, Program, Agree, AreOf, Group, Kind, Kinds, anything, of_link, run, same}
@@ -61,8 +63,9 @@ use Rattle.linker_riscv64.specs.RiscVCalls.{IsCallPair}
 use Rattle.linker_riscv64.specs.RiscVFields.{funct3_of, opcode_of, rd_of}
 use Rattle.linker_riscv64.proofs.Jumps.{word_of_front}
 use Rattle.linker_utils.proofs.RiscVRewrites.{half_of_front}
-use Rattle.linker_utils.specs.RiscVRewrites.{IsLui, a0, adds_low12, call_to_jal, clui_to_cli, half_at, hi20_to_clui}
-use Rattle.linker_utils.specs.RiscVRewrites.{load_to_addi, riscv_matches, tail_to_cj, tail_to_jal, with_rs1}
+use Rattle.linker_utils.specs.RiscVRewrites.{a0, adds_low12, call_to_jal, clui_to_cli, half_at, hi20_to_clui, IsLui}
+use Rattle.linker_utils.specs.RiscVRewrites.{load_to_addi, of_destination, rewrites_word, riscv_matches, tail_to_cj}
+use Rattle.linker_utils.specs.RiscVRewrites.{tail_to_jal, with_rs1}
 use Rattle.linker_utils.specs.declared.riscv64.rewrites.RelaxationKind.TheVariants as kinds
 use Rattle.linker_utils.specs.declared.riscv64.rewrites.RelaxationKind.{RelaxationKind}
 
@@ -712,60 +715,87 @@ are_rewritten_calls call = (
 
 -- ---- loads from the GOT
 
-pub are_loads : EntryAddresses → RelativeAddresses → groups.GotToAddress
-are_loads entries relative c x y k kind s auipc_bytes ld sx sy at inside is holds are old old_ld new new_ld =
+-- Old has the address in rY.
+load_goes : EntryAddresses → (c : Code) (x : Operands) (s : State) (auipc_bytes ld : List ℕ) → s.pc ≡ x.place
+    → AreAddresses x → IsLoadFromGot (word_of auipc_bytes) (word_of ld)
+    → loaded 8 s.memory (entry_and_addend x) ≡ symbol_address x
+    → (old : Has 4 c.old x.place (riscv_row names.R_RISCV_GOT_HI20) x auipc_bytes)
+    → Has 4 c.old (sum_64 x.place 4) (riscv_row names.R_RISCV_PCREL_LO12_I) (of_entry x) ld
+    → run 2 (machine c.others c.old) s
+    ≡ Some (put (rd_of (word_of ld)) (symbol_address x) (sum_64 x.place 8)
+    (put (rd_of (word_of auipc_bytes)) (upper_from x.place old.relocated) (sum_64 x.place 4) s))
+load_goes entries c x s auipc_bytes ld at sx is holds old old_ld =
     let x1 = rd_of (word_of auipc_bytes) in
     let y1 = rd_of (word_of ld) in
-    let before' = after_rewrite kinds.LdToAddi ld 0 in
     let a1 = old.applied.applied in
     let a2 = old_ld.applied.applied in
-    let a3 = new.applied.applied in
-    let a4 = new_ld.applied.applied in
     let u = (riscv_form UType).machine (word_of old.relocated) in
     let i = (riscv_form IType).machine (word_of old_ld.relocated) in
-    let u' = (riscv_form UType).machine (word_of new.relocated) in
-    let i' = (riscv_form IType).machine (word_of new_ld.relocated) in
     let v = upper_from x.place old.relocated in
-    let v' = upper_from y.place new.relocated in
-    let below : word_of ld < 2 ^ 32 = word_below ld old_ld.applied.old_bytes inside in
-    let made : word_of before' ≡ load_to_addi (word_of ld) =
-    word_there ld 0 load_to_addi inside (let e : load_to_addi (word_of ld) < 2 ^ 32 = omega (arith, below) in e) in
-    let op : opcode_of (word_of before') ≡ 0x13 =
-    ap opcode_of made ∙ (let e : opcode_of (load_to_addi (word_of ld)) ≡ 0x13 = omega arith in e) in
-    let f : funct3_of (word_of before') ≡ 0 =
-    ap funct3_of made ∙ (let e : funct3_of (load_to_addi (word_of ld)) ≡ 0 = omega arith in e) in
-    let rd' : rd_of (word_of before') ≡ y1 =
-    ap rd_of made ∙ (let e : rd_of (load_to_addi (word_of ld)) ≡ rd_of (word_of ld) = omega arith in e) in
-    let rs1' : rs1_of (word_of before') ≡ x1 =
-    ap rs1_of made ∙ (let e : rs1_of (load_to_addi (word_of ld)) ≡ rs1_of (word_of ld) = omega arith in e) ∙ is.base in
     let loads_from : moved v i ≡ entry_and_addend x =
     moved_twice x.place u i
     ∙ address_is _ _ (entries.0.0 x sx x.place auipc_bytes old.relocated a1 tt x.place ld old_ld.relocated a2 tt) in
-    let leads : moved v' i' ≡ symbol_address y =
-    moved_twice y.place u' i'
-    ∙ address_is _ _ (relative.0 y sy y.place auipc_bytes new.relocated a3 tt y.place before' new_ld.relocated a4 tt) in
     let p = machine c.others c.old in
-    let q = machine c.others c.new in
     let s1 = put x1 v (sum_64 x.place 4) s in
     let value : load_number 3 (loaded 8 s.memory (moved (register (seen s1) x1) i)) ≡ symbol_address x =
     ap (λ n. load_number 3 (loaded 8 s.memory (moved n i))) (written x1 v (seen s) is.not_zero)
     ∙ ap (λ n. load_number 3 (loaded 8 s.memory n)) loads_from ∙ ap (load_number 3) holds
     ∙ whole_number (symbol_address x) (sum_below x.symbol _) in
+    run_first 1 p s s1 _
+    (puts p s 4 (auipc x1 u) x1 v (sum_64 x.place 4) (below_32 (word_of auipc_bytes))
+    (word_goes c.others c.old s x.place old.relocated (auipc x1 u) at old.stands
+    (upper_long GotRelative x auipc_bytes old.relocated a1 0x17 refl is.first)
+    (upper_word GotRelative x auipc_bytes old.relocated a1 x1 is.first refl))
+    (ap (λ p. goes_to (sum_64 p 4) (with_integer x1 (moved p u) (seen s))) at))
+    (once p s1 (put y1 (symbol_address x) (sum_64 x.place 8) s1)
+    (puts p s1 4 (sums (loads 3) y1 x1 0 i) y1 (symbol_address x) (sum_64 x.place 8) (below_32 (word_of ld))
+    (word_goes c.others c.old s1 (sum_64 x.place 4) old_ld.relocated (sums (loads 3) y1 x1 0 i) refl old_ld.stands
+    (low_long_word RelativeRiscVLow12 (of_entry x) ld old_ld.relocated a2 0x03 refl is.second.0)
+    (load_word RelativeRiscVLow12 (of_entry x) ld old_ld.relocated a2 y1 x1 is.second.0 is.second.1 refl is.base))
+    (ap₂ (λ v n. goes_to n (with_integer y1 v (seen s1))) value (eight x.place))))
+
+-- the `addi` of a `ld`
+abbrev IsAddiOf : ℕ → ℕ → ℕ → Type 0
+IsAddiOf rs1 ld word =
+    (opcode_of word ≡ 0x13) × (funct3_of word ≡ 0) × (rd_of word ≡ rd_of ld) × (rs1_of word ≡ rs1)
+
+addi_made : (ld : List ℕ) → AreBytes ld → 4 ≤ length ld
+    → IsAddiOf (rs1_of (word_of ld)) (word_of ld) (word_of (after_rewrite kinds.LdToAddi ld 0))
+addi_made ld bytes inside =
+    let below : word_of ld < 2 ^ 32 = word_below ld bytes inside in
+    let made : word_of (after_rewrite kinds.LdToAddi ld 0) ≡ load_to_addi (word_of ld) =
+    word_there ld 0 load_to_addi inside (let e : load_to_addi (word_of ld) < 2 ^ 32 = omega (arith, below) in e) in (
+      ap opcode_of made ∙ (let e : opcode_of (load_to_addi (word_of ld)) ≡ 0x13 = omega arith in e),
+      ap funct3_of made ∙ (let e : funct3_of (load_to_addi (word_of ld)) ≡ 0 = omega arith in e),
+      ap rd_of made ∙ (let e : rd_of (load_to_addi (word_of ld)) ≡ rd_of (word_of ld) = omega arith in e),
+      ap rs1_of made ∙ (let e : rs1_of (load_to_addi (word_of ld)) ≡ rs1_of (word_of ld) = omega arith in e),
+    )
+
+destination_made : (op : ℕ) (bytes : List ℕ) → op < 128 → 4 ≤ length bytes
+    → word_of (rewritten (Some (rewrites_word (of_destination op))) bytes 0) ≡ of_destination op (word_of bytes)
+destination_made op bytes small inside =
+    word_there bytes 0 (of_destination op) inside
+    (let e : of_destination op (word_of bytes) < 2 ^ 32 = omega (arith, small) in e)
+
+pub are_loads : EntryAddresses → RelativeAddresses → groups.GotToAddress
+are_loads entries relative c x y k kind s auipc_bytes ld sx sy at inside is holds are old old_ld new new_ld =
+    let x1 = rd_of (word_of auipc_bytes) in
+    let y1 = rd_of (word_of ld) in
+    let before' = after_rewrite kinds.LdToAddi ld 0 in
+    let a3 = new.applied.applied in
+    let a4 = new_ld.applied.applied in
+    let u' = (riscv_form UType).machine (word_of new.relocated) in
+    let i' = (riscv_form IType).machine (word_of new_ld.relocated) in
+    let v = upper_from x.place old.relocated in
+    let v' = upper_from y.place new.relocated in
+    let addi = addi_made ld old_ld.applied.old_bytes inside in
+    let leads : moved v' i' ≡ symbol_address y =
+    moved_twice y.place u' i'
+    ∙ address_is _ _ (relative.0 y sy y.place auipc_bytes new.relocated a3 tt y.place before' new_ld.relocated a4 tt) in
+    let q = machine c.others c.new in
     record {
       more = 1;
-      old_goes =
-          run_first 1 p s s1 _
-          (puts p s 4 (auipc x1 u) x1 v (sum_64 x.place 4) (below_32 (word_of auipc_bytes))
-          (word_goes c.others c.old s x.place old.relocated (auipc x1 u) at.at old.stands
-          (upper_long GotRelative x auipc_bytes old.relocated a1 0x17 refl is.first)
-          (upper_word GotRelative x auipc_bytes old.relocated a1 x1 is.first refl))
-          (ap (λ p. goes_to (sum_64 p 4) (with_integer x1 (moved p u) (seen s))) at.at))
-          (once p s1 (put y1 (symbol_address x) (sum_64 x.place 8) s1)
-          (puts p s1 4 (sums (loads 3) y1 x1 0 i) y1 (symbol_address x) (sum_64 x.place 8) (below_32 (word_of ld))
-          (word_goes c.others c.old s1 (sum_64 x.place 4) old_ld.relocated (sums (loads 3) y1 x1 0 i) refl old_ld.stands
-          (low_long_word RelativeRiscVLow12 (of_entry x) ld old_ld.relocated a2 0x03 refl is.second.0)
-          (load_word RelativeRiscVLow12 (of_entry x) ld old_ld.relocated a2 y1 x1 is.second.0 is.second.1 refl is.base))
-          (ap₂ (λ v n. goes_to n (with_integer y1 v (seen s1))) value (eight x.place))));
+      old_goes = load_goes entries c x s auipc_bytes ld at.at sx is holds old old_ld;
       new_goes = λ t agree.
           let here = agree.pc ∙ ap c.moved at.at ∙ sym at.place in
           let t1 = put x1 v' (sum_64 y.place 4) t in
@@ -781,13 +811,112 @@ are_loads entries relative c x y k kind s auipc_bytes ld sx sy at inside is hold
           (once q t1 (put y1 (symbol_address y) (sum_64 y.place 8) t1)
           (puts q t1 4 (sums adds y1 x1 0 i') y1 (symbol_address y) (sum_64 y.place 8) (below_32 (word_of ld))
           (word_goes c.others c.new t1 (sum_64 y.place 4) new_ld.relocated (sums adds y1 x1 0 i') refl new_ld.stands
-          (low_long_word RelativeRiscVLow12 y before' new_ld.relocated a4 0x13 refl op)
-          (sum_word RelativeRiscVLow12 y before' new_ld.relocated a4 y1 x1 op f rd' rs1'))
+          (low_long_word RelativeRiscVLow12 y before' new_ld.relocated a4 0x13 refl (addi.0))
+          (sum_word RelativeRiscVLow12 y before' new_ld.relocated a4 y1 x1 (addi.0) (addi.1) (addi.2) (addi.3 ∙ is.base)))
           (ap₂ (λ v n. goes_to n (with_integer y1 v (seen t1))) value' (eight y.place)))))
           (agree_put (link c) (with_register x1 anything k) (put x1 v s.pc s) (put x1 v' t.pc t) y1 kind
           (symbol_address x) (symbol_address y) (sum_64 x.place 8) (sum_64 y.place 8)
           (agree_put (link c) k s t x1 anything v v' s.pc t.pc agree agree.small agree.pc tt)
           (sum_below x.place 8) at.next are);
+      forward = λ none. omega arith;
+    }
+
+pub are_fixed_addresses : EntryAddresses → AbsoluteAddresses → groups.GotToFixedAddress
+are_fixed_addresses entries absolute c x y k s auipc_bytes ld at load sy one new new_ld =
+    let is = load.instructions in
+    let x1 = rd_of (word_of auipc_bytes) in
+    let y1 = rd_of (word_of ld) in
+    let before = after_rewrite kinds.AuipcToLui auipc_bytes 0 in
+    let before' = after_rewrite kinds.LdToAddi ld 0 in
+    let a1 = new.applied.applied in
+    let a2 = new_ld.applied.applied in
+    let u = (riscv_form UType).machine (word_of new.relocated) in
+    let i = (riscv_form IType).machine (word_of new_ld.relocated) in
+    let v = upper_from x.place load.high.relocated in
+    let n = symbol_address x in
+    let below = sum_below y.symbol _ in
+    let made = destination_made 0x37 auipc_bytes (omega arith) load.auipc_inside in
+    let op : opcode_of (word_of before) ≡ 0x37 =
+    ap opcode_of made ∙ (let e : opcode_of (of_destination 0x37 (word_of auipc_bytes)) ≡ 0x37 = omega arith in e) in
+    let rd : rd_of (word_of before) ≡ x1 =
+    ap rd_of made ∙ (let e : rd_of (of_destination 0x37 (word_of auipc_bytes)) ≡ rd_of (word_of auipc_bytes) = omega arith in e) in
+    let addi = addi_made ld load.low.applied.old_bytes load.ld_inside in
+    let value : moved (wrapped u) i ≡ n =
+    in_two_steps u i
+    ∙ distance_is (u +ℤ i) 0 (symbol_address y) (omega arith) below
+    (absolute.0.0 y sy y.place before new.relocated a1 tt y.place before' new_ld.relocated a2 tt)
+    ∙ (let e : difference_64 (symbol_address y) 0 ≡ symbol_address y = omega (arith, below) in e) ∙ sym one in
+    let q = machine c.others c.new in
+    record {
+      more = 1;
+      old_goes = load_goes entries c x s auipc_bytes ld at.at load.small is load.entry load.high load.low;
+      new_goes = λ t agree.
+          let here = agree.pc ∙ ap c.moved at.at ∙ sym at.place in
+          let t1 = put x1 (wrapped u) (sum_64 y.place 4) t in
+          let value' : moved (register (seen t1) x1) i ≡ n =
+          ap (λ n. moved n i) (written x1 (wrapped u) (seen t) is.not_zero) ∙ value in
+          holds_of (run 2 q t) _ (put y1 n (sum_64 y.place 8) t1)
+          (run_first 1 q t t1 _
+          (puts q t 4 (lui x1 u) x1 (wrapped u) (sum_64 y.place 4) (below_32 (word_of auipc_bytes))
+          (word_goes c.others c.new t y.place new.relocated (lui x1 u) here new.stands
+          (upper_long Absolute y before new.relocated a1 0x37 refl op)
+          (lui_word Absolute y before new.relocated a1 x1 op rd))
+          (ap (λ p. goes_to (sum_64 p 4) (with_integer x1 (wrapped u) (seen t))) here))
+          (once q t1 (put y1 n (sum_64 y.place 8) t1)
+          (puts q t1 4 (sums adds y1 x1 0 i) y1 n (sum_64 y.place 8) (below_32 (word_of ld))
+          (word_goes c.others c.new t1 (sum_64 y.place 4) new_ld.relocated (sums adds y1 x1 0 i) refl new_ld.stands
+          (low_long_word Absolute y before' new_ld.relocated a2 0x13 refl (addi.0))
+          (sum_word Absolute y before' new_ld.relocated a2 y1 x1 (addi.0) (addi.1) (addi.2) (addi.3 ∙ is.base)))
+          (ap₂ (λ v n. goes_to n (with_integer y1 v (seen t1))) value' (eight y.place)))))
+          (agree_put (link c) (with_register x1 anything k) (put x1 v s.pc s) (put x1 (wrapped u) t.pc t) y1 same
+          n n (sum_64 x.place 8) (sum_64 y.place 8)
+          (agree_put (link c) k s t x1 anything v (wrapped u) s.pc t.pc agree agree.small agree.pc tt)
+          (sum_below x.place 8) at.next refl);
+      forward = λ none. omega arith;
+    }
+
+pub are_low_addresses : EntryAddresses → groups.GotToLowAddress
+are_low_addresses entries c x y k s auipc_bytes ld at load one is_low new =
+    let x1 = rd_of (word_of auipc_bytes) in
+    let y1 = rd_of (word_of ld) in
+    let before = after_rewrite kinds.LdToAddiZero ld 0 in
+    let a = new.applied.applied in
+    let i = (riscv_form IType).machine (word_of new.relocated) in
+    let v = upper_from x.place load.high.relocated in
+    let n = symbol_address x in
+    let o = symbol_address y in
+    let below = sum_below y.symbol _ in
+    let made = destination_made 0x13 ld (omega arith) load.ld_inside in
+    let w = word_of ld in
+    let op : opcode_of (word_of before) ≡ 0x13 =
+    ap opcode_of made ∙ (let e : opcode_of (of_destination 0x13 w) ≡ 0x13 = omega arith in e) in
+    let f : funct3_of (word_of before) ≡ 0 =
+    ap funct3_of made ∙ (let e : funct3_of (of_destination 0x13 w) ≡ 0 = omega arith in e) in
+    let rd : rd_of (word_of before) ≡ y1 =
+    ap rd_of made ∙ (let e : rd_of (of_destination 0x13 w) ≡ rd_of w = omega arith in e) in
+    let rs1 : rs1_of (word_of before) ≡ 0 =
+    ap rs1_of made ∙ (let e : rs1_of (of_destination 0x13 w) ≡ 0 = omega arith in e) in
+    let value : moved 0 i ≡ n =
+    ap (λ p. moved 0 (signed 12 p)) (i_stands Absolute y o before new.relocated a below (of_address.0 IType y))
+    ∙ low_sum 0 o (o % 2 ^ 32 % 4096) below (low_12_number o below is_low) refl
+    ∙ (let e : sum_64 0 o ≡ o = omega (arith, below) in e) ∙ sym one in
+    let q = machine c.others c.new in
+    record {
+      more = 1;
+      old_goes = load_goes entries c x s auipc_bytes ld at.at load.small load.instructions load.entry load.high load.low;
+      new_goes = λ t agree.
+          let here = agree.pc ∙ ap c.moved at.at ∙ sym at.place in
+          holds_of (run 1 q t) _ (put y1 n (sum_64 y.place 4) t)
+          (once q t (put y1 n (sum_64 y.place 4) t)
+          (puts q t 4 (sums adds y1 0 0 i) y1 n (sum_64 y.place 4) (below_32 (word_of ld))
+          (word_goes c.others c.new t y.place new.relocated (sums adds y1 0 0 i) here new.stands
+          (low_long_word Absolute y before new.relocated a 0x13 refl op)
+          (sum_word Absolute y before new.relocated a y1 0 op f rd rs1))
+          (ap₂ (λ p v. goes_to (sum_64 p 4) (with_integer y1 v (seen t))) here value)))
+          (agree_put (link c) (with_register x1 anything k) (put x1 v s.pc s) t y1 same
+          n n (sum_64 x.place 8) (sum_64 y.place 4)
+          (agree_put_old (link c) k s t x1 anything v s.pc agree agree.small agree.pc tt)
+          (sum_below x.place 8) at.next refl);
       forward = λ none. omega arith;
     }
 

@@ -366,6 +366,48 @@ GotToAddress =
     (put rd (symbol_address x) (sum_64 x.place 8)
     (put base (upper_from x.place old.relocated) (sum_64 x.place 4) s))
 
+-- such instructions in old
+pub record LoadFromGot (c : Code) (x : Operands) (s : State) (auipc ld : List ℕ) : Type 0 where
+  pub small : AreAddresses x
+  pub auipc_inside : 4 ≤ length auipc
+  pub ld_inside : 4 ≤ length ld
+  pub instructions : IsLoadFromGot (word_of auipc) (word_of ld)
+  pub entry : loaded 8 s.memory (entry_and_addend x) ≡ symbol_address x
+  pub high : Has 4 c.old x.place (riscv_row names.R_RISCV_GOT_HI20) x auipc
+  pub low :
+      Has 4 c.old (sum_64 x.place 4) (riscv_row names.R_RISCV_PCREL_LO12_I) (of_entry x) ld
+
+-- In place of such instructions new runs n others, and rY has the address in both, which is the
+-- same.
+abbrev pub LeavesAddress : ℕ → (c : Code) (x : Operands) (k : Kinds) (s : State) (auipc ld : List ℕ)
+    → LoadFromGot c x s auipc ld → Type 0
+LeavesAddress n c x k s auipc ld load =
+    let base = rd_of (word_of auipc) in
+    let rd = rd_of (word_of ld) in
+    Group (of_link (link c)) n k s (with_register rd same (with_register base anything k))
+    (put rd (symbol_address x) (sum_64 x.place 8)
+    (put base (upper_from x.place load.high.relocated) (sum_64 x.place 4) s))
+
+-- They become `lui rX` and `addi rY` over rX, where the address is the same in both layouts.
+abbrev pub GotToFixedAddress : Type 0
+GotToFixedAddress =
+    (c : Code) (x y : Operands) (k : Kinds) (s : State) (auipc ld : List ℕ)
+    → AreBefore c 8 8 x y s → (load : LoadFromGot c x s auipc ld) → AreAddresses y
+    → HaveOneTarget x y
+    → Has 4 c.new y.place (riscv_row names.R_RISCV_HI20) y (after_rewrite kinds.AuipcToLui auipc 0)
+    → Has 4 c.new (sum_64 y.place 4) (riscv_row names.R_RISCV_LO12_I) y
+    (after_rewrite kinds.LdToAddi ld 0)
+    → LeavesAddress 2 c x k s auipc ld load
+
+-- They become `addi rY, x0` alone, where it is a number of 12 bits.
+abbrev pub GotToLowAddress : Type 0
+GotToLowAddress =
+    (c : Code) (x y : Operands) (k : Kinds) (s : State) (auipc ld : List ℕ)
+    → AreBefore c 8 4 x y s → (load : LoadFromGot c x s auipc ld) → HaveOneTarget x y → IsLow12 y
+    → Has 4 c.new y.place (riscv_row names.R_RISCV_LO12_I) y
+    (after_rewrite kinds.LdToAddiZero ld 0)
+    → LeavesAddress 1 c x k s auipc ld load
+
 -- ---- TLS descriptors
 
 -- the state in which `jalr t0` calls the descriptor's function
@@ -480,6 +522,8 @@ pub record Groups : Type 0 where
   pub long_calls : LongCalls
   pub rewritten_calls : CallsAreRewritten
   pub got : GotToAddress
+  pub got_to_fixed_address : GotToFixedAddress
+  pub got_to_low_address : GotToLowAddress
   pub descriptor_to_local_exec : DescriptorToLocalExec
   pub descriptor_to_short_local_exec : DescriptorToShortLocalExec
   pub descriptor_to_initial_exec : DescriptorToInitialExec

@@ -15,6 +15,7 @@ use Rattle.linker_elf.specs.declared.x86_64.relocations.X86_64Relocation.TheVari
 use Rattle.linker_elf.specs.declared.elf.choice.Choice.{Choice}
 use Rattle.linker_rewriting.proofs.Unique.{one_scope, one_candidate_with}
 use Rattle.linker_rewriting.specs.Decisions.{decision_at, label_decision, IsLabelDecision, CanBeMade}
+use Rattle.linker_rewriting.specs.Decisions.{rewritten_by, takes_symbol}
 use Rattle.linker_rewriting.specs.Facts.{RelaxContext}
 use Rattle.linker_rewriting.specs.Groups.{aarch64_scope_in, loongarch_scope_in, ppc64_scope_in, x86_64_scope_in}
 use Rattle.linker_rewriting.specs.RiscVPcrelGroups.{high_code, is_high, searched, is_beyond, is_high_in, IsHighAt, offset_of_label, label_offset, IsHighFrom, IsHighIn, is_labelled, has_labels, IsInLabel, label_facts, IsLabelCandidate, Lacks, IsLacking, HasLacking, LabelFits, LabelStays, IsLabelNote}
@@ -541,10 +542,11 @@ never_kept s bytes section n r high noted is none same within in_label =
 pub can_make_label : (phase : Phase) (chosen : Choice Relaxation ℕ) (high : Rela) (section : List ℕ)
     (offset : ℕ) → CanBeMade (Rewritten chosen) section offset
     → CanBeMade (label_decision phase chosen high) section offset
-can_make_label PreLayout chosen high section offset can = can
-can_make_label TlsLocalExec chosen high section offset can = can
-can_make_label GotToPcRel chosen high section offset can = can
-can_make_label ShortPcRel chosen high section offset can = can
+can_make_label phase chosen high section offset can = either (takes_symbol phase chosen.relocation)
+  where
+    either : (takes : Bool) → CanBeMade (rewritten_by takes chosen high) section offset
+    either true = can
+    either false = can
 
 -- a group that doesn't stay has a high part
 pub noted_high : (s : RelaxContext) (bytes section : List ℕ) (r : Rela) → IsLabelNote s bytes section r false

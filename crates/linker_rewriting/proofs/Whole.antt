@@ -2,7 +2,7 @@
 use Rattle.std.proofs.Common.{◌≡◌, ℕ, ◌∙◌, ◌||◌, inl, inr, Some, List, ap, sym, subst, refl, Bool, true, false}
 use Rattle.linker_rewriting.proofs.LabelGroups.{labelled, one_index, stays_or_fits}
 use Rattle.linker_rewriting.proofs.Unique.{one_scope}
-use Rattle.linker_rewriting.specs.Decisions.{AreDecidedIn, IsDecidedAfter, IsDecidedAlone, IsScopeDecision, IsGroupDecision, IsLabelDecision, label_decision, decision_at}
+use Rattle.linker_rewriting.specs.Decisions.{AreDecidedIn, IsDecidedAfter, IsDecidedAlone, IsScopeDecision, IsGroupDecision, IsLabelDecision, label_decision, decision_at, rewritten_by, takes_symbol}
 use Rattle.linker_rewriting.specs.Facts.{RelaxContext}
 use Rattle.linker_rewriting.specs.Groups.{IsInGroupIn, group_stays, stays_at}
 use Rattle.linker_rewriting.specs.RiscVPcrelGroups.{IsInLabel, IsHighIn, LabelFits}
@@ -12,7 +12,6 @@ use Rattle.linker_rewriting.specs.declared.groups.Group.{Group}
 use Rattle.linker_rewriting.specs.declared.groups.UnrelaxableGroups.{UnrelaxableGroups}
 use Rattle.linker_rewriting.specs.declared.groups.Scope.TheVariants.{Grouped}
 use Rattle.linker_rewriting.specs.declared.phases.Phase.{Phase}
-use Rattle.linker_rewriting.specs.declared.phases.Phase.TheVariants.{PreLayout, TlsLocalExec, GotToPcRel, ShortPcRel}
 use Rattle.linker_section.specs.Relocations.{relocation_in}
 use Rattle.linker_section.specs.declared.relocations.Rela.{Rela}
 use Rattle.linker_elf.specs.declared.elf.choice.Choice.{Choice}
@@ -78,10 +77,11 @@ of_label s kept bytes section n r decision decided in_label =
 
 is_rewritten : (phase : Phase) (chosen : Choice Relaxation ℕ) (high : Rela)
     → IsRewritten (label_decision phase chosen high)
-is_rewritten PreLayout chosen high = tt
-is_rewritten TlsLocalExec chosen high = tt
-is_rewritten GotToPcRel chosen high = tt
-is_rewritten ShortPcRel chosen high = tt
+is_rewritten phase chosen high = either (takes_symbol phase chosen.relocation)
+  where
+    either : (takes : Bool) → IsRewritten (rewritten_by takes chosen high)
+    either true = tt
+    either false = tt
 
 both_rewritten : (s : RelaxContext) (bytes section : List ℕ) (i j : ℕ) (r other : Rela) (high : ℕ)
     (x y : Decision) → IsLabelDecision s bytes section i r x → IsLabelDecision s bytes section j other y

@@ -2,11 +2,13 @@
 use Rattle.std.specs.Prelude.{◌≡◌, ℕ, zero, suc, ◌+◌, ◌-◌, ◌<◌, ◌≤◌, ◌/◌, ◌⊎◌, ◌++◌, max, Bool}
 use Rattle.std.specs.Prelude.{true}
 use Rattle.std.specs.Prelude.{false, IsTrue, ◌↔◌, List, [], ◌∷◌, length, get_or, Option, Some, None}
-use Rattle.std.specs.Prelude.{is_some, ◌≢◌}
+use Rattle.std.specs.Prelude.{is_some, ◌≢◌, ◌==◌}
 use Rattle.linker_base.specs.Rewrite.{CanRewrite}
 use Rattle.linker_base.specs.RewriteWindow.{window_of_rewrite}
 use Rattle.linker_base.specs.declared.rewrite.DeletedBytes.{DeletedBytes}
 use Rattle.linker_base.specs.declared.rewrite.RewriteWindow.{RewriteWindow}
+use Rattle.linker_elf.specs.ElfNames.{code_of}
+use Rattle.linker_elf.specs.RiscVRelocations.{riscv_name}
 use Rattle.linker_elf.specs.declared.elf.RelocationKindInfo.{RelocationKindInfo}
 use Rattle.linker_elf.specs.declared.elf.choice.Choice.{Choice}
 use Rattle.linker_rewriting.specs.Agreement.{Agree, IsContradiction}
@@ -44,6 +46,7 @@ use Rattle.linker_utils.specs.Relaxations.{relaxation_rewrite, relaxation_skippe
 use Rattle.linker_utils.specs.Relaxations.{relaxation_deleted}
 use Rattle.linker_utils.specs.declared.architecture.Relaxation.{Relaxation}
 use Rattle.linker_elf.specs.declared.elf.architecture.Architecture.{Architecture}
+use Rattle.linker_elf.specs.declared.riscv64.relocations.RiscVRelocation.TheVariants as riscv64
 
 -- ---- one decision
 
@@ -114,11 +117,20 @@ abbrev pub decision_ahead : Bool → Decision
 decision_ahead true = Consumed
 decision_ahead false = Kept
 
--- all of a TLS descriptor become of the symbol and the addend of the high part
-abbrev pub label_decision : Phase → Choice Relaxation ℕ → Rela → Decision
-label_decision TlsLocalExec chosen high =
+-- whether a relocation of a label gets the symbol and the addend of its high part: all of a TLS
+-- descriptor, and a low part of the address itself
+abbrev pub takes_symbol : Phase → ℕ → Bool
+takes_symbol TlsLocalExec code = true
+takes_symbol phase code = code == code_of (riscv_name riscv64.R_RISCV_LO12_I)
+
+abbrev pub rewritten_by : Bool → Choice Relaxation ℕ → Rela → Decision
+rewritten_by true chosen high =
     RewrittenWithSymbol chosen (record { symbol = high.symbol; addend = high.addend })
-label_decision phase chosen high = Rewritten chosen
+rewritten_by false chosen high = Rewritten chosen
+
+abbrev pub label_decision : Phase → Choice Relaxation ℕ → Rela → Decision
+label_decision phase chosen high =
+    rewritten_by (takes_symbol phase chosen.relocation) chosen high
 
 -- a relocation of a label
 abbrev pub IsLabelDecision : RelaxContext → List ℕ → List ℕ → ℕ → Rela → Decision → Type 0

@@ -78,6 +78,11 @@ is_executable_in TlsLocalExec output symbol =
     output.is_executable && (symbol.is_local && not symbol.is_ifunc)
 is_executable_in phase output symbol = output.is_executable
 
+-- whether instructions may be deleted in a phase
+abbrev pub may_delete : Phase → Bool
+may_delete TlsLocalExec = true
+may_delete phase = false
+
 -- The facts of a relocation at an offset, of a symbol and an addend, where each other one of its
 -- group can be rewritten. The distance to a symbol that nothing defines isn't that of its value.
 abbrev pub placed_facts : Phase → OutputFacts → Addresses → SymbolFacts → Symbol → ℕ → ℤ → Bool
@@ -93,7 +98,7 @@ placed_facts phase output addresses symbol value offset addend marked =
       is_executable = is_executable_in phase output symbol;
       has_local_exec_base = true;
       may_compress = false;
-      is_relaxable = marked;
+      is_relaxable = marked && may_delete phase;
       has_got_high_part = true;
       is_label_relaxable = marked;
       toc_base_is_exclusive = true;

@@ -9,6 +9,7 @@ ghost use Rattle.linker_rewriting.specs.Decisions.{deleted_of, deleted_end, star
 ghost use Rattle.linker_rewriting.specs.Decisions.{AreDecidedIn, AreApart, AreClear, AllCanBeMade};
 ghost use Rattle.linker_rewriting.specs.Decisions.{IsDecisionAfter, IsEndAfter, IsRejectedIn};
 ghost use Rattle.linker_rewriting.specs.Decisions.{IsRewrittenAt, label_decision, IsLabelDecision};
+ghost use Rattle.linker_rewriting.specs.Decisions.{takes_symbol};
 ghost use Rattle.linker_rewriting.specs.Inner.Contexts.{context_of};
 ghost use Rattle.linker_rewriting.specs.Inner.Calls.{IsLeft};
 ghost use Rattle.linker_rewriting.specs.Inner.Left.{AreKept};
@@ -29,6 +30,7 @@ use linker_section::relocations::{Rela, relocation_at, relocations_len};
 use linker_utils::architecture::Relaxation;
 use linker_utils::elf::{Architecture, Choice, InstructionRewrite, RewriteWindow};
 use linker_utils::relaxation::AsDeletion;
+use linker_utils::riscv64::RiscVRelocation;
 
 /// What a relocation is of once its instruction is rewritten.
 #[derive(Clone, Copy)]
@@ -46,9 +48,9 @@ pub enum Decision {
     Kept,
     /// The instruction is rewritten by this, and the relocation becomes the one after it.
     Rewritten(Choice<Relaxation, u32>),
-    /// The same, but the relocation after it is of another symbol and addend: those of the high
-    /// part of a TLS descriptor of RISC-V, whose label was its symbol, or those of the word that
-    /// was loaded.
+    /// The same, but the relocation after it is of another symbol and addend: those of RISC-V's
+    /// high part, whose label was its symbol, of a TLS descriptor or of a load of an address from
+    /// the GOT, or those of the word that was loaded.
     RewrittenWithSymbol(Choice<Relaxation, u32>, Subject),
     /// The relocation goes, since the rewrite at the one before or at the next one takes it along.
     Consumed,
@@ -189,20 +191,33 @@ fn is_rewritten_at(
     }
 }
 
+/// Whether a relocation of a label gets the symbol and the addend of its high part, by its code
+/// after the rewrite.
+#[inline(always)]
+fn takes_symbol(phase: Phase, code: u32) -> bool
+    ensures { result ≡ takes_symbol phase code }
+{
+    match phase {
+        Phase::TlsLocalExec => true,
+        _ => code == RiscVRelocation::R_RISCV_LO12_I.elf_code(),
+    }
+}
+
 /// What rewrites the instruction of a relocation of a label with a high part.
 #[inline(always)]
 fn label_decision(phase: Phase, chosen: Choice<Relaxation, u32>, high: &Rela) -> Decision
     ensures { result ≡ label_decision phase chosen high.now }
 {
-    match phase {
-        Phase::TlsLocalExec => Decision::RewrittenWithSymbol(
+    if takes_symbol(phase, chosen.relocation) {
+        Decision::RewrittenWithSymbol(
             chosen,
             Subject {
                 symbol: high.symbol,
                 addend: high.addend,
             },
-        ),
-        _ => Decision::Rewritten(chosen),
+        )
+    } else {
+        Decision::Rewritten(chosen)
     }
 }
 

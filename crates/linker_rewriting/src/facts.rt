@@ -4,7 +4,7 @@ ghost use Rattle.std.specs.Prelude.{◌≡◌, ◌||◌};
 ghost use Rattle.linker_rewriting.specs.Facts.{facts_of, placed_facts, address_in};
 ghost use Rattle.linker_rewriting.specs.Facts.{has_own_address, is_executable_in, facts_at};
 ghost use Rattle.linker_rewriting.specs.Facts.{link_facts};
-ghost use Rattle.linker_rewriting.specs.Facts.{may_change_toc};
+ghost use Rattle.linker_rewriting.specs.Facts.{may_change_toc, may_delete};
 
 use crate::phases::Phase;
 use linker_section::facts::{Addresses, Symbol};
@@ -160,6 +160,14 @@ fn is_executable_in(phase: Phase, output: &OutputFacts, symbol: &SymbolFacts) ->
     }
 }
 
+/// Whether instructions may be deleted in a phase.
+#[inline(always)]
+fn may_delete(phase: Phase) -> bool
+    ensures { result ≡ may_delete phase }
+{
+    matches!(phase, Phase::TlsLocalExec)
+}
+
 /// What `choose` reads of a relocation of a symbol once addresses are known, where each other
 /// relocation of its group can be rewritten, as `placed_facts` says.
 #[inline(always)]
@@ -187,7 +195,7 @@ fn placed_facts(
         is_executable: is_executable_in(phase, output, symbol),
         has_local_exec_base: true,
         may_compress: false,
-        is_relaxable: marked,
+        is_relaxable: marked && may_delete(phase),
         has_got_high_part: true,
         is_label_relaxable: marked,
         toc_base_is_exclusive: true,

@@ -306,7 +306,8 @@ fn list_changes<D: AsDecision, L: FromDeletion>(
 ///   (`Decision::RewrittenWithSymbol`).
 /// - `GotToPcRel`: AArch64's loads of an address from the GOT become `adrp` and `add`, where both
 ///   relocations are next to each other and have no addend. RISC-V's become `auipc` and `addi`,
-///   where all of a label are marked.
+///   where all of a label are marked, or of an address that is fixed while the distance isn't `lui`
+///   and `addi`, whose low parts are then of the symbol and the addend of the high part.
 /// - `ShortPcRel`: AArch64's `adrp` and `add` next to each other become `nop` and `adr`. Where a
 ///   distance from the TOC pointer has 16 bits, PowerPC64's `addis` becomes a `nop`, and what reads
 ///   it is over the TOC pointer.

@@ -117,11 +117,19 @@ got_pair facts low section o p a b there f g =
   where
     cases : IsFirst (AppliesToRiscV (HasPattern r.R_RISCV_GOT_HI20) section o facts) (riscv_entries r.R_RISCV_GOT_HI20) (choice kinds.NoOp r.R_RISCV_GOT_HI20) a
         → IsFirst (AppliesToRiscV (HasPattern r.R_RISCV_PCREL_LO12_I) section p facts) (riscv_entries r.R_RISCV_PCREL_LO12_I) (choice kinds.NoOp r.R_RISCV_PCREL_LO12_I) b
-        → IsAmong (a, b) ((choice kinds.NoOp r.R_RISCV_PCREL_HI20, choice kinds.LdToAddi r.R_RISCV_PCREL_LO12_I) ∷ (choice kinds.NoOp r.R_RISCV_GOT_HI20, choice kinds.NoOp r.R_RISCV_PCREL_LO12_I) ∷ [])
+        → IsAmong (a, b)
+        ((deleted, choice kinds.LdToAddiZero r.R_RISCV_LO12_I) ∷ (choice kinds.NoOp r.R_RISCV_PCREL_HI20, choice kinds.LdToAddi r.R_RISCV_PCREL_LO12_I)
+        ∷ (choice kinds.AuipcToLui r.R_RISCV_HI20, choice kinds.LdToAddi r.R_RISCV_LO12_I) ∷ (choice kinds.NoOp r.R_RISCV_GOT_HI20, choice kinds.NoOp r.R_RISCV_PCREL_LO12_I) ∷ [])
     cases (inl h) (inl k) = inl (both h.1 k.1)
-    cases (inl h) (inr k) = absurd (k.0 (there.1, (h.0.1.0, (h.0.1.1.0, (h.0.1.1.1.0, (low, h.0.1.1.1.1))))))
-    cases (inr h) (inl k) = absurd (h.0 (there.0, (k.0.1.0, (k.0.1.1.0, (k.0.1.1.1.0, k.0.1.1.1.1.1)))))
-    cases (inr h) (inr k) = inr (inl (both h.1 k.1))
+    cases (inl h) (inr k) = absurd (k.0 (there.1, (h.0.1.0, (h.0.1.1.0, (h.0.1.1.1.0, (h.0.1.1.1.1.0, (low, h.0.1.1.1.1.1)))))))
+    cases (inr h) (inl k) = absurd (h.0 (there.0, (k.0.1.0, (k.0.1.1.0, (k.0.1.1.1.0, (k.0.1.1.1.1.0, k.0.1.1.1.1.1.1))))))
+    cases (inr (n, inl h)) (inr (m, inl k)) = inr (inl (both h.1 k.1))
+    cases (inr (n, inl h)) (inr (m, inr k)) = absurd (k.0 (there.1, (h.0.1.0, (h.0.1.1.0, (h.0.1.1.1.0, (low, h.0.1.1.1.1))))))
+    cases (inr (n, inr h)) (inr (m, inl k)) = absurd (h.0 (there.0, (k.0.1.0, (k.0.1.1.0, (k.0.1.1.1.0, k.0.1.1.1.1.1)))))
+    cases (inr (n, inr (n2, inl h))) (inr (m, inr (m2, inl k))) = inr (inr (inl (both h.1 k.1)))
+    cases (inr (n, inr (n2, inl h))) (inr (m, inr (m2, inr k))) = absurd (k.0 (there.1, (h.0.1.0, (h.0.1.1.0, (h.0.1.1.1.0, (low, h.0.1.1.1.1))))))
+    cases (inr (n, inr (n2, inr h))) (inr (m, inr (m2, inl k))) = absurd (h.0 (there.0, (k.0.1.0, (k.0.1.1.0, (k.0.1.1.1.0, k.0.1.1.1.1.1)))))
+    cases (inr (n, inr (n2, inr h))) (inr (m, inr (m2, inr k))) = inr (inr (inr (inl (both h.1 k.1))))
 
 -- ---- a `lui` and what reads it
 

@@ -49,7 +49,7 @@ each_matches r.R_RISCV_TLSDESC_LOAD_LO12 section o facts =
 each_matches r.R_RISCV_TLSDESC_ADD_LO12 section o facts =
     (λ a. (a.0.0, tt), (λ a. (a.0.0, tt), (λ a. a.0, (λ a. a.0, tt))))
 each_matches r.R_RISCV_TLSDESC_CALL section o facts = (λ a. a.0, (λ a. a.0, (λ a. a.0, tt)))
-each_matches r.R_RISCV_GOT_HI20 section o facts = (λ a. tt, tt)
+each_matches r.R_RISCV_GOT_HI20 section o facts = (λ a. (a.0.0, tt), (λ a. tt, (λ a. a.0, tt)))
 each_matches name section o facts = of_rewrite (riscv_entries name) section o facts
 
 pub chosen_matches : (name : RiscVRelocation) (section : List ℕ) (o : ℕ) (facts : LinkFacts) (c : RiscVChoice)

@@ -77,6 +77,10 @@ with_rs1 register word = word - field word 15 20 * 2 ^ 15 + register * 2 ^ 15
 abbrev pub load_to_addi : ℕ → ℕ
 load_to_addi word = 0x13 + field word 7 12 * 2 ^ 7 + field word 15 32 * 2 ^ 15
 
+-- an instruction of an opcode, with the destination register of a word and else zeros
+abbrev pub of_destination : ℕ → ℕ → ℕ
+of_destination opcode word = opcode + field word 7 12 * 2 ^ 7
+
 abbrev pub riscv_rewrite : RelaxationKind → Option Rewrite
 riscv_rewrite kinds.NoOp = None
 riscv_rewrite kinds.ReplaceWithNop = Some (replaces 0 4 two_nops)
@@ -99,6 +103,9 @@ riscv_rewrite kinds.CallToAddiZero = Some (rewrites_word (λ _. 0x513))
 riscv_rewrite kinds.CallToLd = Some (rewrites_word (λ _. 0x53503))
 riscv_rewrite kinds.LdToAddi = Some (rewrites_word load_to_addi)
 riscv_rewrite kinds.CLuiToCLi = Some (replaces 0 2 clui_to_cli)
+-- `lui rd, 0` and `addi rd, x0, 0`
+riscv_rewrite kinds.AuipcToLui = Some (rewrites_word (of_destination 0x37))
+riscv_rewrite kinds.LdToAddiZero = Some (rewrites_word (of_destination 0x13))
 
 abbrev pub riscv_modifier : RelaxationKind → RelocationModifier
 riscv_modifier kinds.NoOp = Normal
@@ -147,7 +154,8 @@ riscv_rewrites =
     kinds.Hi20Delete ∷ kinds.Lo12Rs1ToZero ∷ kinds.TailToJal ∷
     kinds.TailToCJ ∷ kinds.Delete ∷ kinds.ReplaceWithLongNop ∷ kinds.BaseToTp ∷
     kinds.AddiToLui ∷ kinds.AddiToAuipc ∷ kinds.CallToAddi ∷ kinds.CallToAddiZero ∷
-    kinds.CallToLd ∷ kinds.LdToAddi ∷ kinds.CLuiToCLi ∷ []
+    kinds.CallToLd ∷ kinds.LdToAddi ∷ kinds.CLuiToCLi ∷ kinds.AuipcToLui ∷
+    kinds.LdToAddiZero ∷ []
 
 -- bits 12 to 31 of the value plus 0x800
 abbrev pub hi20 : ℕ → ℕ
@@ -262,6 +270,8 @@ riscv_matches kinds.CallToAddiZero section o = HasWord section o IsCallOfDescrip
 riscv_matches kinds.CallToLd section o = HasWord section o IsCallOfDescriptor
 riscv_matches kinds.LdToAddi section o = HasWord section o IsLd
 riscv_matches kinds.CLuiToCLi section o = (o + 2 ≤ length section) × IsClui (half_at section o)
+riscv_matches kinds.AuipcToLui section o = HasWord section o IsAuipc
+riscv_matches kinds.LdToAddiZero section o = HasWord section o IsLd
 
 -- Which rewrite of RISC-V is chosen (RISC-V ELF psABI, "Linker Relaxation": "Function Call
 -- Relaxation", "Compressed Function Call Relaxation", "Compressed Tail Call Relaxation", "LUI
@@ -334,6 +344,16 @@ without_got facts =
     without_entry (fixed_distance ∷ label_marked ∷ facts)
     (in_reach_if_known r.R_RISCV_PCREL_HI20 0 ∷ [])
 
+-- the symbol's address in place of its GOT entry, where some facts hold too, and where 12 signed
+-- bits hold it and instructions may be deleted
+abbrev pub without_got_of_fixed : Conditions → Conditions
+without_got_of_fixed facts =
+    without_entry (fixed_address ∷ label_marked ∷ facts) (in_reach r.R_RISCV_HI20 0 ∷ [])
+
+abbrev pub without_got_of_low : Conditions → Conditions
+without_got_of_low facts =
+    without_entry (fixed_address ∷ marked ∷ label_marked ∷ facts) (low_12 ∷ [])
+
 -- ---- the table
 
 -- An instruction that is left out: it is deleted where that may be, and else becomes `nop`.
@@ -377,9 +397,14 @@ riscv_entries r.R_RISCV_TLSDESC_CALL =
     entry kinds.CallToAddiZero r.R_RISCV_TPREL_LO12_I (to_short_local_exec [])
     ∷ entry kinds.CallToAddi r.R_RISCV_TPREL_LO12_I (to_local_exec [])
     ∷ entry kinds.CallToLd r.R_RISCV_PCREL_LO12_I (to_initial_exec []) ∷ []
-riscv_entries r.R_RISCV_GOT_HI20 = entry kinds.NoOp r.R_RISCV_PCREL_HI20 (without_got []) ∷ []
+riscv_entries r.R_RISCV_GOT_HI20 =
+    entry kinds.Delete r.R_RISCV_NONE (without_got_of_low [])
+    ∷ entry kinds.NoOp r.R_RISCV_PCREL_HI20 (without_got [])
+    ∷ entry kinds.AuipcToLui r.R_RISCV_HI20 (without_got_of_fixed []) ∷ []
 riscv_entries r.R_RISCV_PCREL_LO12_I =
-    entry kinds.LdToAddi r.R_RISCV_PCREL_LO12_I (without_got (got_high_part ∷ [])) ∷ []
+    entry kinds.LdToAddiZero r.R_RISCV_LO12_I (without_got_of_low (got_high_part ∷ []))
+    ∷ entry kinds.LdToAddi r.R_RISCV_PCREL_LO12_I (without_got (got_high_part ∷ []))
+    ∷ entry kinds.LdToAddi r.R_RISCV_LO12_I (without_got_of_fixed (got_high_part ∷ [])) ∷ []
 riscv_entries name = []
 
 -- ---- which entry is chosen
@@ -466,10 +491,10 @@ abbrev pub GotPairIsChosenAlike : Type 0
 GotPairIsChosenAlike =
     (facts : LinkFacts) → facts.has_got_high_part ≡ true
     → AreChosenAlike r.R_RISCV_GOT_HI20 r.R_RISCV_PCREL_LO12_I
-    ((
-      choice kinds.NoOp r.R_RISCV_PCREL_HI20,
-      choice kinds.LdToAddi r.R_RISCV_PCREL_LO12_I,
-    ) ∷ []) facts
+    ((deleted, choice kinds.LdToAddiZero r.R_RISCV_LO12_I)
+    ∷ (choice kinds.NoOp r.R_RISCV_PCREL_HI20, choice kinds.LdToAddi r.R_RISCV_PCREL_LO12_I)
+    ∷ (choice kinds.AuipcToLui r.R_RISCV_HI20, choice kinds.LdToAddi r.R_RISCV_LO12_I) ∷ [])
+    facts
 
 -- A `lui` and what reads it, wherever both are, with the same facts but for the place: where each
 -- is an instruction that its relocation requires with the rewrites of the first line, both choices

@@ -17,6 +17,8 @@ use crate::linker_section::relocations::{Rela, relocation_at, relocations_len};
 use crate::architecture::Relaxation;
 use crate::elf::{Architecture, Choice, InstructionRewrite, RewriteWindow};
 use crate::relaxation::AsDeletion;
+#[cfg(feature = "riscv64")]
+use crate::riscv64::RiscVRelocation;
 
 /// What a relocation is of once its instruction is rewritten.
 #[derive(Clone, Copy, Debug, PartialEq, Eq, Hash)]
@@ -34,9 +36,9 @@ pub enum Decision {
     Kept,
     /// The instruction is rewritten by this, and the relocation becomes the one after it.
     Rewritten(Choice<Relaxation, u32>),
-    /// The same, but the relocation after it is of another symbol and addend: those of the high
-    /// part of a TLS descriptor of RISC-V, whose label was its symbol, or those of the word that
-    /// was loaded.
+    /// The same, but the relocation after it is of another symbol and addend: those of RISC-V's
+    /// high part, whose label was its symbol, of a TLS descriptor or of a load of an address from
+    /// the GOT, or those of the word that was loaded.
     RewrittenWithSymbol(Choice<Relaxation, u32>, Subject),
     /// The relocation goes, since the rewrite at the one before or at the next one takes it along.
     Consumed,
@@ -158,22 +160,36 @@ fn is_rewritten_at(
     }
 }
 
+/// Whether a relocation of a label gets the symbol and the addend of its high part, by its code
+/// after the rewrite.
+#[cfg(feature = "riscv64")]
+#[inline(always)]
+fn takes_symbol(phase: Phase, code: u32) -> bool {
+    match phase {
+        Phase::TlsLocalExec => true,
+        _ => code == RiscVRelocation::R_RISCV_LO12_I.elf_code(),
+    }
+}
+
 /// What rewrites the instruction of a relocation of a label with a high part.
+#[cfg(feature = "riscv64")]
 #[inline(always)]
 fn label_decision(phase: Phase, chosen: Choice<Relaxation, u32>, high: &Rela) -> Decision {
-    match phase {
-        Phase::TlsLocalExec => Decision::RewrittenWithSymbol(
+    if takes_symbol(phase, chosen.relocation) {
+        Decision::RewrittenWithSymbol(
             chosen,
             Subject {
                 symbol: high.symbol,
                 addend: high.addend,
             },
-        ),
-        _ => Decision::Rewritten(chosen),
+        )
+    } else {
+        Decision::Rewritten(chosen)
     }
 }
 
 /// What becomes of a relocation of a label whose group stays or doesn't.
+#[cfg(feature = "riscv64")]
 fn decide_label(
     stays: bool,
     context: &RelaxContext<'_>,
@@ -202,6 +218,7 @@ fn decide_label(
 
 /// What becomes of a relocation that no other takes along. `stays` is what was noted of its label.
 /// None if its group doesn't stay, but it can't be rewritten.
+#[cfg(feature = "riscv64")]
 #[inline(always)]
 fn decide(
     stays: bool,
@@ -262,6 +279,7 @@ fn is_left(
 }
 
 /// What becomes of a relocation, which another may take along.
+#[cfg(feature = "riscv64")]
 fn decide_after(
     is_taken: bool,
     stays: bool,
@@ -319,6 +337,7 @@ pub(crate) fn end_after(start: u64, own: u64, end: u64) -> Option<u64> {
 }
 
 /// The same as `decide_section`, but relocations may be in the bytes of others.
+#[cfg(feature = "riscv64")]
 #[inline(always)]
 fn decide_all<D: AsDecision>(
     architecture: Architecture,
@@ -378,6 +397,7 @@ fn decide_all<D: AsDecision>(
 }
 
 /// The same, compiled for each architecture and phase.
+#[cfg(feature = "riscv64")]
 fn decide_each<D: AsDecision>(
     context: &RelaxContext<'_>,
     kept: &[UnrelaxableGroups],
@@ -394,6 +414,7 @@ fn decide_each<D: AsDecision>(
 
 /// Decides what becomes of each relocation of a section and of its instruction, in the caller's
 /// memory. Nothing is rewritten. False if all stay as they are by their codes.
+#[cfg(feature = "riscv64")]
 pub(crate) fn decide_section<D: AsDecision>(
     context: &RelaxContext<'_>,
     kept: &[UnrelaxableGroups],

@@ -146,6 +146,12 @@ fn is_executable_in(phase: Phase, output: &OutputFacts, symbol: &SymbolFacts) ->
     }
 }
 
+/// Whether instructions may be deleted in a phase.
+#[inline(always)]
+fn may_delete(phase: Phase) -> bool {
+    matches!(phase, Phase::TlsLocalExec)
+}
+
 /// What `choose` reads of a relocation of a symbol once addresses are known, where each other
 /// relocation of its group can be rewritten, as `placed_facts` says.
 #[inline(always)]
@@ -170,7 +176,7 @@ fn placed_facts(
         is_executable: is_executable_in(phase, output, symbol),
         has_local_exec_base: true,
         may_compress: false,
-        is_relaxable: marked,
+        is_relaxable: marked && may_delete(phase),
         has_got_high_part: true,
         is_label_relaxable: marked,
         toc_base_is_exclusive: true,

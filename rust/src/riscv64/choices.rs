@@ -99,6 +99,22 @@ macro_rules! when {
             InReachIfKnown(R_RISCV_PCREL_HI20)
         )
     };
+    // the symbol's address in place of its GOT entry
+    (without_got_of_fixed $($fact:ident)?) => {
+        conditions!(
+            BOUND + FIXED_ADDRESS + LABEL_RELAXABLE $(+ $fact)?,
+            Some(0),
+            InReach(R_RISCV_HI20)
+        )
+    };
+    // 12 signed bits hold it
+    (without_got_of_low $($fact:ident)?) => {
+        conditions!(
+            BOUND + FIXED_ADDRESS + RELAXABLE + LABEL_RELAXABLE $(+ $fact)?,
+            Some(0),
+            Low12
+        )
+    };
 }
 
 /// The entries of each relocation.
@@ -147,8 +163,16 @@ macro_rules! choices {
                 CallToAddi => R_RISCV_TPREL_LO12_I, to_local_exec;
                 CallToLd => R_RISCV_PCREL_LO12_I, to_initial_exec;
             ]
-            R_RISCV_GOT_HI20: [NoOp at Auipc => R_RISCV_PCREL_HI20, without_got]
-            R_RISCV_PCREL_LO12_I: [LdToAddi => R_RISCV_PCREL_LO12_I, without_got(GOT_HIGH_PART)]
+            R_RISCV_GOT_HI20: [
+                Delete at Auipc => R_RISCV_NONE, without_got_of_low;
+                NoOp at Auipc => R_RISCV_PCREL_HI20, without_got;
+                AuipcToLui => R_RISCV_HI20, without_got_of_fixed;
+            ]
+            R_RISCV_PCREL_LO12_I: [
+                LdToAddiZero => R_RISCV_LO12_I, without_got_of_low(GOT_HIGH_PART);
+                LdToAddi => R_RISCV_PCREL_LO12_I, without_got(GOT_HIGH_PART);
+                LdToAddi => R_RISCV_LO12_I, without_got_of_fixed(GOT_HIGH_PART);
+            ]
         }
     };
 }

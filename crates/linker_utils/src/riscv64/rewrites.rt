@@ -81,6 +81,10 @@ pub enum RelaxationKind {
     /// reserves the immediate 0 of `c.lui`, which a high part of 0 would need
     /// ("Integer Constant-Generation Instructions").
     CLuiToCLi,
+    /// Turns `auipc` into `lui` of 0, with its destination register.
+    AuipcToLui,
+    /// Turns `ld` into `addi` of 0 and x0, with its destination register.
+    LdToAddiZero,
 }
 
 /// The instruction at an offset of the section, by its four bytes alone.
@@ -249,6 +253,8 @@ impl RelaxationKind {
             15 => RelaxationKind::CallToLd,
             16 => RelaxationKind::LdToAddi,
             17 => RelaxationKind::CLuiToCLi,
+            18 => RelaxationKind::AuipcToLui,
+            19 => RelaxationKind::LdToAddiZero,
             _ => return None,
         };
         Some(kind)
@@ -318,6 +324,14 @@ impl RelaxationKind {
                 let rd = half_at(section_bytes, offset) / 128 % 32;
                 overwrite(section_bytes, offset, &(0x4001 + rd * 128).to_le_bytes());
             }
+            RelaxationKind::AuipcToLui => {
+                let rd = destination(window_at(section_bytes, offset));
+                put_word(section_bytes, offset, (rd << 7) + 0x37);
+            }
+            RelaxationKind::LdToAddiZero => {
+                let rd = destination(window_at(section_bytes, offset));
+                put_word(section_bytes, offset, (rd << 7) + 0x13);
+            }
         }
     }
 
@@ -349,8 +363,9 @@ impl RelaxationKind {
     /// rewrite is meant for: `can_apply`, and the opcodes and registers. `NoOp` is meant for any
     /// offset, and `ReplaceWithNop`, `ReplaceWithLongNop` and `Delete` for any four bytes of the
     /// section. `Lo12Rs1ToZero` and `BaseToTp` are meant for `addi`, `addiw`, `jalr`, loads and
-    /// stores, which add the low part, and `LdToAddi` for `ld`. The instructions of a TLS
-    /// descriptor are `addi a0, rs1` and `jalr t0, 0(rs1)`. `CLuiToCLi` needs only two bytes.
+    /// stores, which add the low part, `LdToAddi` and `LdToAddiZero` for `ld`, and `AuipcToLui` for
+    /// `auipc`. The instructions of a TLS descriptor are `addi a0, rs1` and `jalr t0, 0(rs1)`.
+    /// `CLuiToCLi` needs only two bytes.
     #[inline(always)]
     pub fn matches(self, section: &[u8], offset: u64) -> bool
         ensures exactly { IsTrue result ↔ riscv_matches self section.now offset }
@@ -383,7 +398,10 @@ impl RelaxationKind {
             RelaxationKind::CallToAddi
             | RelaxationKind::CallToAddiZero
             | RelaxationKind::CallToLd => is_call_of_descriptor(word_at(section, offset)),
-            RelaxationKind::LdToAddi => is_ld(word_at(section, offset)),
+            RelaxationKind::LdToAddi | RelaxationKind::LdToAddiZero => {
+                is_ld(word_at(section, offset))
+            }
+            RelaxationKind::AuipcToLui => is_auipc(word_at(section, offset)),
         }
     }
 

@@ -1,6 +1,7 @@
 use Rattle.linker_laws.proofs.RiscVAccesses.{are_accesses}
-use Rattle.linker_laws.proofs.RiscVGroups.{are_calls, are_cluis_to_cli, are_high_offsets, are_high_parts}
-use Rattle.linker_laws.proofs.RiscVGroups.{are_loads, are_long_calls, are_low_offsets, are_low_parts, are_luis_to_clui}
+use Rattle.linker_laws.proofs.RiscVGroups.{are_calls, are_cluis_to_cli, are_fixed_addresses, are_high_offsets}
+use Rattle.linker_laws.proofs.RiscVGroups.{are_high_parts, are_loads, are_long_calls, are_low_addresses}
+use Rattle.linker_laws.proofs.RiscVGroups.{are_low_offsets, are_low_parts, are_luis_to_clui}
 use Rattle.linker_laws.proofs.RiscVGroups.{are_others, are_rewritten_calls, are_short_tail_calls}
 use Rattle.linker_laws.proofs.RiscVGroups.{are_sums, are_to_initial_exec, are_to_local_exec}
 use Rattle.linker_laws.proofs.RiscVGroups.{are_to_short_local_exec}
@@ -24,6 +25,8 @@ returns c =
         long_calls = are_long_calls;
         rewritten_calls = are_rewritten_calls;
         got = are_loads laws.entries laws.relative;
+        got_to_fixed_address = are_fixed_addresses laws.entries laws.absolute;
+        got_to_low_address = are_low_addresses laws.entries;
         descriptor_to_local_exec = are_to_local_exec laws.descriptors laws.thread;
         descriptor_to_short_local_exec = are_to_short_local_exec laws.descriptors;
         descriptor_to_initial_exec = are_to_initial_exec laws.descriptors laws.entries;

@@ -214,6 +214,68 @@ fn choices_of_thread_local_storage_match_linkers() {
     }
 }
 
+/// auipc a5, 0; ld a1, 0(a5)
+const LOAD: [u32; 2] = [0x0000_0797, 0x0007_b583];
+
+#[test]
+fn a_load_of_a_fixed_address_becomes_the_address() {
+    // mold's test `arch-riscv64-relax-got` and the ends of the ranges, in the words of GNU as
+    let gone = 0;
+    for (symbol, want) in [
+        (0i64, [gone, 0x0000_0593]),
+        (0xba, [gone, 0x0ba0_0593]),
+        (0x7ff, [gone, 0x7ff0_0593]),
+        (-0x800, [gone, 0x8000_0593]),
+        (0x800, [0x0000_17b7, 0x8007_8593]),
+        (0xbeef, [0x0000_c7b7, 0xeef7_8593]),
+        (0x0011_beef, [0x0011_c7b7, 0xeef7_8593]),
+        (0x7fff_f7ff, [0x7fff_f7b7, 0x7ff7_8593]),
+        (-0x8000_0800, [0x8000_07b7, 0x8007_8593]),
+        // too far for `lui`
+        (0x7fff_f800, LOAD),
+        (0xdead_beef, LOAD),
+        (-0x8000_0801, LOAD),
+    ] {
+        let facts = LinkFacts {
+            is_local: true,
+            has_fixed_address: true,
+            has_addresses: true,
+            is_relaxable: true,
+            has_got_high_part: true,
+            is_label_relaxable: true,
+            operands: Operands { symbol: symbol as u64, place: 0x1_0000, ..Operands::default() },
+            ..LinkFacts::default()
+        };
+        let word = |name, before| {
+            let mut section = both([before, 0]);
+            if choose(name, &section, 0, &facts).is_unchanged(name) {
+                return before;
+            }
+            let chosen = link(name, &mut section, 0, &facts);
+            if chosen.kind.deleted().is_some() { gone } else { u32_from_slice(&section) }
+        };
+        let high = |facts: &LinkFacts| {
+            let auipc = both([LOAD[0], 0]);
+            choose(RiscVRelocation::R_RISCV_GOT_HI20, &auipc, 0, facts).kind
+        };
+        let auipc = word(RiscVRelocation::R_RISCV_GOT_HI20, LOAD[0]);
+        let ld = word(RiscVRelocation::R_RISCV_PCREL_LO12_I, LOAD[1]);
+        assert_eq!([auipc, ld], want, "{symbol:#x}");
+        for kept in [
+            LinkFacts { is_local: false, ..facts },
+            LinkFacts { is_ifunc: true, ..facts },
+            LinkFacts { has_fixed_address: false, ..facts },
+            LinkFacts { is_label_relaxable: false, ..facts },
+            LinkFacts { has_addresses: false, ..facts },
+        ] {
+            assert_eq!(high(&kept), RelaxationKind::NoOp, "{symbol:#x}");
+        }
+        // where nothing may be deleted
+        let kind = high(&LinkFacts { is_relaxable: false, ..facts });
+        assert_eq!(kind == RelaxationKind::AuipcToLui, want != LOAD, "{symbol:#x}");
+    }
+}
+
 #[test]
 fn a_load_from_the_got_becomes_the_address_of_a_linker() {
     let (symbol, place, load, address) = ADDRESS;

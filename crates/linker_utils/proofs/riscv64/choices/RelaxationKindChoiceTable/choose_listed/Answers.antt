@@ -21,3 +21,8 @@ pub choice_by-requires-13-clause-table : goal.choice_by-requires-13-clause-table
 choice_by-requires-13-clause-table c =
     λ κs. simp c.in-R_RISCV_TLSDESC_CALL-by_table.is
     (refl, (λ s o. same _, (refl, (λ s o. same _, (refl, (λ s o. same _, tt))))))
+
+pub choice_by-requires-14-clause-table : goal.choice_by-requires-14-clause-table
+choice_by-requires-14-clause-table c =
+    λ κs. simp c.in-R_RISCV_GOT_HI20-by_table.is
+    (refl, (λ s o. same _, (refl, (λ s o. same _, (refl, (λ s o. same _, tt))))))

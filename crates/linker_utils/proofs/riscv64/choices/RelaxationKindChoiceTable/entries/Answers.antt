@@ -21,3 +21,8 @@ pub returns-in-R_RISCV_TLSDESC_CALL-by_table-clause-table : goal.returns-in-R_RI
 returns-in-R_RISCV_TLSDESC_CALL-by_table-clause-table c =
     simp c.in-R_RISCV_TLSDESC_CALL-by_table.is
     (refl, (λ s o. same _, (refl, (λ s o. same _, (refl, (λ s o. same _, tt))))))
+
+pub returns-in-R_RISCV_GOT_HI20-by_table-clause-table : goal.returns-in-R_RISCV_GOT_HI20-by_table-clause-table
+returns-in-R_RISCV_GOT_HI20-by_table-clause-table c =
+    simp c.in-R_RISCV_GOT_HI20-by_table.is
+    (refl, (λ s o. same _, (refl, (λ s o. same _, (refl, (λ s o. same _, tt))))))
