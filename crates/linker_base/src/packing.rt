@@ -20,8 +20,8 @@ pub struct Position {
     pub output_offset: u64,
 }
 
-/// How many of the deltas begin below an offset.
-#[inline(always)]
+/// How many of the deltas begin below an offset. By itself: the search is compiled once.
+#[inline(never)]
 fn count_begun(deltas: &[RelaxDelta], offset: u64) -> usize
     ensures within { result ≤ length deltas.now }
     ensures begun { AreValidDeltas deltas.now → AreBegun deltas.now offset result }

@@ -16,8 +16,8 @@ pub struct Position {
     pub output_offset: u64,
 }
 
-/// How many of the deltas begin below an offset.
-#[inline(always)]
+/// How many of the deltas begin below an offset. By itself: the search is compiled once.
+#[inline(never)]
 fn count_begun(deltas: &[RelaxDelta], offset: u64) -> usize {
     DeltaSlice::new(deltas).count_below(offset)
 }

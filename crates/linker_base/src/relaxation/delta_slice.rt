@@ -174,8 +174,8 @@ impl<'a> DeltaSlice<'a> {
         count_passing(&mut self.copy(), Test::BeginsBelow(offset))
     }
 
-    // The delta at the offset, if one is listed there.
-    #[inline(always)]
+    // The delta at the offset, if one is listed there. By itself: its search is compiled once.
+    #[inline(never)]
     fn delta_at(&self, offset: u64) -> Option<RelaxDelta>
         ensures { IsValidView self.now
             → MatchOption result (¬ (Any (λ d. d.0 ≡ offset) (deletions_of self.now.deltas)))
@@ -225,7 +225,6 @@ impl<'a> DeltaSlice<'a> {
 
     /// The output offset of the `len` bytes from `input_offset` on, or none where one of them is
     /// deleted. Two searches, O(log n).
-    #[inline]
     pub fn kept_output_offset(&self, input_offset: u64, len: u64) -> Option<u64>
         requires { input_offset + len < 2 ^ 64 }
         ensures { IsValidView self.now
@@ -243,7 +242,6 @@ impl<'a> DeltaSlice<'a> {
     }
 
     /// Whether the offset lies above the first byte of a deletion and below its end. O(log n).
-    #[inline]
     pub fn is_inside(&self, input_offset: u64) -> bool
         ensures { IsValidView self.now
             → (IsTrue result ↔ IsInsideDeletion (deletions_of self.now.deltas) input_offset) }

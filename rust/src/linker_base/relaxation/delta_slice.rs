@@ -128,8 +128,8 @@ impl<'a> DeltaSlice<'a> {
         count_passing(&mut self.copy(), Test::BeginsBelow(offset))
     }
 
-    // The delta at the offset, if one is listed there.
-    #[inline(always)]
+    // The delta at the offset, if one is listed there. By itself: its search is compiled once.
+    #[inline(never)]
     fn delta_at(&self, offset: u64) -> Option<RelaxDelta> {
         let below = self.count_below(offset);
         let deltas = self.deltas();
@@ -174,7 +174,6 @@ impl<'a> DeltaSlice<'a> {
     /// - `(input_offset as u128) + (len as u128) < 1 << 64`
     #[must_use]
     #[cfg_attr(debug_assertions, track_caller)]
-    #[inline]
     pub fn kept_output_offset(&self, input_offset: u64, len: u64) -> Option<u64> {
         debug_assert!((input_offset as u128) + (len as u128) < 1 << 64);
         let first = self.input_to_output_offset(input_offset);
@@ -188,7 +187,6 @@ impl<'a> DeltaSlice<'a> {
 
     /// Whether the offset lies above the first byte of a deletion and below its end. O(log n).
     #[must_use]
-    #[inline]
     pub fn is_inside(&self, input_offset: u64) -> bool {
         match self.count_below(input_offset).checked_sub(1) {
             Some(last) => {
