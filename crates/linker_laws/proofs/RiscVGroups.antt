@@ -516,7 +516,7 @@ eight : (a : ℕ) → sum_64 (sum_64 a 4) 4 ≡ sum_64 a 8
 eight a = omega arith
 
 -- the address of a place, in old and in new
-counts : (a b : ℕ) → a ≡ b → b < 2 ^ 64
+pub counts : (a b : ℕ) → a ≡ b → b < 2 ^ 64
     → int_rem_euclid ((pos 0 +ℤ pos (sum (a ∷ []))) -ℤ pos (sum [])) (pos (2 ^ 64)) ≡ pos b
 counts a b e small =
     ap (λ n. int_rem_euclid ((pos 0 +ℤ pos (sum (n ∷ []))) -ℤ pos (sum [])) (pos (2 ^ 64))) e
