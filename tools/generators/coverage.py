@@ -20,7 +20,7 @@ GROUPS_MARKS = "<!-- groups, made by tools/generate -->", "<!-- end of the group
 # by machine: its name in texts, its specs, and the contract
 ARCHITECTURES = {
     183: ("AArch64", ["AArch64Groups"], "aarch64"), 21: ("PowerPC64", ["Ppc64RewriteLaws"], "ppc64"),
-    243: ("RISC-V", ["RiscVGroups"], "riscv64"), 258: ("LoongArch", ["LoongArchRewriteLaws"], "loongarch64"),
+    243: ("RISC-V", ["RiscVGroups"], "riscv64"), 258: ("LoongArch", ["LoongArchGroups"], "loongarch64"),
     62: ("x86-64", ["X86RewriteLaws", "X86ThreadLaws"], "x86_64"),
 }
 # by the first law of a row: its premises on what jumps where and what reads which register
@@ -58,7 +58,6 @@ OPEN = {
         "CallOfDescriptorToNop":
             "`a0` and `ra` have what the others put there; nothing reads `ra` and what the function "
             "changes",
-        "ShorterLocalExec": f"{ONE_PATH}; nothing else reads rA and rB",
         "OffsetLu12iIsDeleted": READ_BY_LOW,
         "SumIsDeleted": "the source has what the `lu12i.w` put there",
         "LowPartFromThreadPointer":

@@ -60,16 +60,8 @@ def stores_of_loongarch(word):
 
 
 def keeps_base_of_loongarch(words):
-    """LowPartFromThreadPointer: StoresTheSame, of the base."""
+    """LowPartFromThreadPointer: what a store stores isn't the base."""
     return stores_of_loongarch(words[0]) != bits(words[0], 5, 10)
-
-
-def is_local_exec_of_loongarch(words):
-    """IsLocalExec."""
-    high, add, low = words
-    both = bits(high, 0, 5), bits(add, 0, 5)
-    return (bits(add, 5, 10) == both[0] and bits(low, 5, 10) == both[1] and both[0] not in (0, 2)
-            and both[1] != 0 and stores_of_loongarch(low) not in both)
 
 
 # ---- PowerPC64
@@ -176,8 +168,6 @@ SEQUENCES = {
         sequence("GotToAddress GotToPcaddi", "GOT_PC_HI20 GOT_PC_LO12"),
         sequence("AddressToPcaddi", "PCALA_HI20 PCALA_LO12"),
         sequence("EntriesToPcaddi", "TLS_GD_PC_HI20|TLS_LD_PC_HI20 GOT_PC_LO12"),
-        sequence("ShorterLocalExec", "TLS_LE_HI20_R TLS_LE_ADD_R TLS_LE_LO12_R",
-                 is_local_exec_of_loongarch),
     ],
     21: [
         sequence("AddiNearToc AccessNearToc WordAccessNearToc", "TOC16_HA TOC16_LO|TOC16_LO_DS",

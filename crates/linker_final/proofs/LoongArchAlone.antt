@@ -1,5 +1,4 @@
--- Instructions of LoongArch that are rewritten each by itself do in the final bytes what the
--- object's do.
+-- Instructions of LoongArch that are rewritten each by itself are groups in the final bytes.
 use Rattle.std.proofs.Common.{◌≡◌, ℕ, ◌+◌, ◌*◌, ◌-◌, ◌/◌, ◌^◌, ◌<◌, List, IsTrue, Ok, Some, refl, subst, inl, inr}
 use Rattle.linker_base.specs.Bits.{field}
 use Rattle.linker_elf.specs.Choices.{entry}
@@ -19,8 +18,9 @@ use Rattle.linker_final.proofs.LoongArchChosen.{IsByTable, IsEntry, by_table, en
 use Rattle.linker_final.proofs.LoongArchWritten.{IsAfter, becomes, named_after, relocated_there}
 use Rattle.linker_final.proofs.Written.{are_rewritten, word_same}
 use Rattle.linker_final.specs.Final.{AreRewritten, UntouchedInstruction, Linked, IsLinked, count, instruction_at}
-use Rattle.linker_final.specs.LoongArchFinal.{Anywhere, HighDoesTheSame, HighHalves, HighHalvesAnywhere, InPlace, LowDoesTheSame, LowHalves, LowHalvesAnywhere, LowParts, MovedLowParts, named_as}
-use Rattle.linker_laws.specs.LoongArchRewriteLaws.{HighHalfToLu12i, Laws, word_of}
+use Rattle.linker_final.specs.LoongArchFinal.{Anywhere, HighHalves, HighHalvesAnywhere, InPlace, LowHalves, LowHalvesAnywhere, LowParts, MovedLowParts, named_as}
+use Rattle.linker_laws.specs.LoongArchGroups.{Groups, HighHalfToLu12i, HighOffset, LowHalf}
+use Rattle.linker_laws.specs.LoongArchRewriteLaws.{word_of}
 use Rattle.linker_utils.specs.LoongArchRewrites.{IsLd, IsPcalau12i, adds_low12, by_low_part, rd_of, rj_of, to_local_exec, tp}
 use Rattle.linker_utils.specs.declared.loongarch64.rewrites.RelaxationKind.TheVariants as kinds
 use Rattle.linker_rewriting.specs.Decisions.{decision_at}
@@ -141,35 +141,35 @@ pub high_anywhere : (name : LoongArch64Relocation) → HighHalfToLu12i name
     → chosen.relocation ≡ code_of (loongarch_name names.R_LARCH_TLS_LE_HI20)
     → IsPcalau12i (word_of (instruction_at l.section (relocation_in l.relocations i).offset))
     → (relocation_in l.relocations_after i ≡ named_as names.R_LARCH_TLS_LE_HI20 (relocation_in l.relocations i))
-    × Anywhere names.R_LARCH_TLS_LE_HI20 (HighDoesTheSame name) l i
+    × Anywhere names.R_LARCH_TLS_LE_HI20 (HighOffset name) l i
 high_anywhere name law l made i chosen below decided kind_is code_is is_pcala = (
   named_after l made i chosen below decided kinds.PcalaToLu12i kind_is names.R_LARCH_TLS_LE_HI20 code_is,
-  λ x y lu12i of_offset s t c pcala small at agree fits fits_offset of_entry.
+  λ x y lu12i of_offset.
       let o = (relocation_in l.relocations i).offset in
-      law x y s t c (instruction_at l.section o) (instruction_at l.rewritten o) small at agree
+      law x y (instruction_at l.section o) (instruction_at l.rewritten o) lu12i is_pcala
       (becomes l made.done i chosen below decided kinds.PcalaToLu12i kind_is (λ word. 0x14000000 + rd_of word) refl)
-      pcala lu12i (record { is = is_pcala; fits = fits; applied = of_entry }) fits_offset of_offset,
+      of_offset,
 )
 
-pub high_halves_anywhere : Laws → HighHalvesAnywhere
-high_halves_anywhere laws l made loongarch i chosen below is_name decided any =
+pub high_halves_anywhere : Groups → HighHalvesAnywhere
+high_halves_anywhere groups l made loongarch i chosen below is_name decided any =
     let o = (relocation_in l.relocations i).offset in
     let by = high_entry l.section o chosen
     (by_table l made.decided loongarch i chosen below decided names.R_LARCH_TLS_IE_PC_HI20 tt is_name) in
-    high_anywhere names.R_LARCH_TLS_IE_PC_HI20 laws.high_half l made i chosen below decided by.kind_is by.code_is
+    high_anywhere names.R_LARCH_TLS_IE_PC_HI20 groups.high_halves l made i chosen below decided by.kind_is by.code_is
     (subst IsPcalau12i (word_same l.section o) (by.pattern.1))
 
-pub low_halves_anywhere : Laws → LowHalvesAnywhere
-low_halves_anywhere laws l made loongarch i chosen below is_name decided any =
+pub low_halves_anywhere : Groups → LowHalvesAnywhere
+low_halves_anywhere groups l made loongarch i chosen below is_name decided any =
     let o = (relocation_in l.relocations i).offset in
     let by = low_entry l.section o chosen
     (by_table l made.decided loongarch i chosen below decided names.R_LARCH_TLS_IE_PC_LO12 tt is_name) in (
       named_after l made i chosen below decided kinds.LowToOri by.kind_is names.R_LARCH_TLS_LE_LO12 by.code_is,
-      λ x y ori of_offset s t c ld small same holds has agree of_entry.
-          laws.low_half x y s t c (instruction_at l.section o) (instruction_at l.rewritten o) small
-          (subst IsLd (word_same l.section o) (by.pattern.1)) same holds has agree
+      λ x y ori of_offset.
+          groups.low_halves x y (instruction_at l.section o) (instruction_at l.rewritten o) ori
+          (subst IsLd (word_same l.section o) (by.pattern.1))
           (becomes l made.done i chosen below decided kinds.LowToOri by.kind_is (λ word. 0x03800000 + field word 0 10) refl)
-          ld ori of_entry of_offset,
+          of_offset,
     )
 
 -- ---- halves in place
@@ -204,28 +204,28 @@ in_place Holds l linked loongarch i below left name a takes any symbol is_symbol
     (takes.taken l.addresses (named_as name r) symbol) is_symbol w
     (takes.same l.addresses r symbol got (code_of (loongarch_name name))))
 
-pub high_halves : Laws → HighHalves
-high_halves laws l linked loongarch i chosen below is_name decided left any =
-    in_place (HighDoesTheSame names.R_LARCH_TLS_IE_PC_HI20) l linked loongarch i below left
+pub high_halves : Groups → HighHalves
+high_halves groups l linked loongarch i chosen below is_name decided left any =
+    in_place (HighOffset names.R_LARCH_TLS_IE_PC_HI20) l linked loongarch i below left
     names.R_LARCH_TLS_LE_HI20 high_after high_takes
-    (high_halves_anywhere laws l (are_rewritten l linked) loongarch i chosen below is_name decided any)
+    (high_halves_anywhere groups l (are_rewritten l linked) loongarch i chosen below is_name decided any)
 
-pub low_halves : Laws → LowHalves
-low_halves laws l linked loongarch i chosen below is_name decided left any =
-    in_place LowDoesTheSame l linked loongarch i below left names.R_LARCH_TLS_LE_LO12 low_after low_takes
-    (low_halves_anywhere laws l (are_rewritten l linked) loongarch i chosen below is_name decided any)
+pub low_halves : Groups → LowHalves
+low_halves groups l linked loongarch i chosen below is_name decided left any =
+    in_place LowHalf l linked loongarch i below left names.R_LARCH_TLS_LE_LO12 low_after low_takes
+    (low_halves_anywhere groups l (are_rewritten l linked) loongarch i chosen below is_name decided any)
 
 -- ---- low parts over the thread pointer
 
-pub moved_low_parts : Laws → MovedLowParts
-moved_low_parts laws l all done loongarch i chosen below is_name decided x y base of_base s t differing low same short alike over stores of_low =
+pub moved_low_parts : Groups → MovedLowParts
+moved_low_parts groups l all done loongarch i chosen below is_name decided x y base of_base =
     let o = (relocation_in l.relocations i).offset in
     let by = part_entry l.section o chosen
     (by_table l all loongarch i chosen below decided names.R_LARCH_TLS_LE_LO12_R tt is_name) in
-    laws.low_offset x y s t differing (instruction_at l.section o) (instruction_at l.rewritten o)
-    (subst (λ word. IsTrue (adds_low12 (word / 2 ^ 22))) (word_same l.section o) (by.pattern.1.0)) alike over stores same short
+    groups.low_offsets x y (instruction_at l.section o) (instruction_at l.rewritten o) base
+    (subst (λ word. IsTrue (adds_low12 (word / 2 ^ 22))) (word_same l.section o) (by.pattern.1.0))
     (becomes l done i chosen below decided kinds.BaseToTp by.kind_is (λ word. word - rj_of word * 2 ^ 5 + tp * 2 ^ 5) refl)
-    low base of_low of_base
+    of_base
 
 -- what becomes of its relocation
 pub part_named : (l : Linked) → AreRewritten l → l.context.architecture ≡ LoongArch64
@@ -238,11 +238,11 @@ part_named l made loongarch i chosen below is_name decided =
     (by_table l made.decided loongarch i chosen below decided names.R_LARCH_TLS_LE_LO12_R tt is_name) in
     named_after l made i chosen below decided kinds.BaseToTp by.kind_is names.R_LARCH_TLS_LE_LO12_R by.code_is
 
-pub low_parts : Laws → LowParts
-low_parts laws l linked loongarch i chosen below is_name decided left any symbol is_symbol got =
+pub low_parts : Groups → LowParts
+low_parts groups l linked loongarch i chosen below is_name decided left any symbol is_symbol got =
     let r = relocation_in l.relocations i in
     let w = operands_with LoongArch64 l.addresses part_after.row symbol r got in
-    moved_low_parts laws l linked.decided linked.done loongarch i chosen below is_name decided
+    moved_low_parts groups l linked.decided linked.done loongarch i chosen below is_name decided
     w w (instruction_at l.final r.offset)
     (relocated_there l linked loongarch i below names.R_LARCH_TLS_LE_LO12_R part_after
     (part_named l (are_rewritten l linked) loongarch i chosen below is_name decided) left symbol 0 refl is_symbol w refl)

@@ -1,5 +1,5 @@
 -- Instructions of TLS descriptors of LoongArch that became those of local-exec or of initial-exec
--- do in the final bytes what the object's do.
+-- are groups in the final bytes.
 use Rattle.std.proofs.Common.{◌≡◌, ℕ, ◌+◌, ◌<◌, ◌≤◌, List, length, refl, sym, ap, subst, inl, inr, Ok, Some, None, cond}
 use Rattle.linker_base.specs.Bits.{field}
 use Rattle.linker_base.specs.RewriteWindow.{window_of_rewrite}
@@ -22,8 +22,10 @@ use Rattle.linker_final.proofs.LoongArchWritten.{IsAfter, becomes, named_after, 
 use Rattle.linker_final.proofs.RiscVWritten.{stays}
 use Rattle.linker_final.proofs.Written.{are_rewritten, word_same}
 use Rattle.linker_final.specs.Final.{UntouchedInstruction, Linked, IsLinked, count, instruction_at}
-use Rattle.linker_final.specs.LoongArchFinal.{Anywhere, AnywhereUnchanged, AnywhereUnwritten, CallDoesNothing, Descriptors, DescriptorsAnywhere, EachAnywhere, HasOffsetEntry, HighDoesTheSame, InPlaceByEntry, InPlaceUnwritten, IsAny, IsKind, LoadDoesNothing, LowLoadsOffset, LowMakesOffset, PageDoesTheSame, named_as, with_entry}
-use Rattle.linker_laws.specs.LoongArchRewriteLaws.{IsRelocated, Laws, word_of}
+use Rattle.linker_final.specs.LoongArchFinal.{Anywhere, AnywhereUnchanged, AnywhereUnwritten, Descriptors, DescriptorsAnywhere, EachAnywhere, HasOffsetEntry, InPlaceByEntry, InPlaceUnwritten, IsAny, IsKind, named_as, with_entry}
+use Rattle.linker_laws.specs.LoongArchGroups.{CallOfDescriptor, Groups, HighEntry, HighOffset, LoadOfDescriptor, LoadsOffset}
+use Rattle.linker_laws.specs.LoongArchGroups.{LowOfDescriptor, MakesOffset}
+use Rattle.linker_laws.specs.LoongArchRewriteLaws.{IsRelocated, word_of}
 use Rattle.linker_utils.specs.LoongArchRewrites.{IsCallOfDescriptor, IsLoadOfDescriptor, IsLowOfDescriptor, IsPageOfDescriptor, page_to_initial_exec, to_initial_exec, to_local_exec}
 use Rattle.linker_utils.specs.declared.loongarch64.rewrites.RelaxationKind.TheVariants as kinds
 use Rattle.linker_rewriting.specs.declared.decisions.Decision.TheVariants.{Rewritten}
@@ -170,86 +172,79 @@ module _ (section : List ℕ) (o : ℕ) (chosen : Choice Relaxation ℕ) where
 
 -- ---- wherever the section goes then
 
-module _ (laws : Laws) where
+module _ (groups : Groups) where
   high : EachAnywhere (IsKind kinds.PcalaToLu12i) names.R_LARCH_TLS_DESC_PC_HI20 names.R_LARCH_TLS_LE_HI20
-      (Anywhere names.R_LARCH_TLS_LE_HI20 (HighDoesTheSame names.R_LARCH_TLS_DESC_PC_HI20))
+      (Anywhere names.R_LARCH_TLS_LE_HI20 (HighOffset names.R_LARCH_TLS_DESC_PC_HI20))
   high l made loongarch i chosen below is_name decided kind =
       let o = (relocation_in l.relocations i).offset in
       let by = high_entry l.section o chosen kind
       (by_table l made.decided loongarch i chosen below decided names.R_LARCH_TLS_DESC_PC_HI20 tt is_name) in
       let is : IsPageOfDescriptor (word_of (instruction_at l.section o)) = subst IsPageOfDescriptor (word_same l.section o) (by.pattern.1) in
-      high_anywhere names.R_LARCH_TLS_DESC_PC_HI20 laws.descriptor_high_half l made i chosen below decided by.kind_is by.code_is
+      high_anywhere names.R_LARCH_TLS_DESC_PC_HI20 groups.descriptor_high_halves l made i chosen below decided by.kind_is by.code_is
       (is.0)
 
   low : EachAnywhere (IsKind kinds.LowToOri) names.R_LARCH_TLS_DESC_PC_LO12 names.R_LARCH_TLS_LE_LO12
-      (Anywhere names.R_LARCH_TLS_LE_LO12 LowMakesOffset)
+      (Anywhere names.R_LARCH_TLS_LE_LO12 (LowOfDescriptor MakesOffset))
   low l made loongarch i chosen below is_name decided kind =
       let o = (relocation_in l.relocations i).offset in
       let by = low_entry l.section o chosen kind
       (by_table l made.decided loongarch i chosen below decided names.R_LARCH_TLS_DESC_PC_LO12 tt is_name) in (
         named_after l made i chosen below decided kinds.LowToOri by.kind_is names.R_LARCH_TLS_LE_LO12 by.code_is,
-        λ x y ori of_offset s t c addi small same has agree of_descriptor.
-            laws.descriptor_low_half x y s t c (instruction_at l.section o) (instruction_at l.rewritten o) small
-            (subst IsLowOfDescriptor (word_same l.section o) (by.pattern.1)) same has agree
+        λ x y ori of_offset.
+            groups.descriptor_low_halves x y (instruction_at l.section o) (instruction_at l.rewritten o) ori
+            (subst IsLowOfDescriptor (word_same l.section o) (by.pattern.1))
             (becomes l made.done i chosen below decided kinds.LowToOri by.kind_is (λ word. 0x03800000 + field word 0 10) refl)
-            addi ori of_descriptor of_offset,
+            of_offset,
       )
 
   page : EachAnywhere (IsKind kinds.NoOp) names.R_LARCH_TLS_DESC_PC_HI20 names.R_LARCH_TLS_IE_PC_HI20
-      (AnywhereUnchanged names.R_LARCH_TLS_IE_PC_HI20 PageDoesTheSame)
+      (AnywhereUnchanged names.R_LARCH_TLS_IE_PC_HI20 HighEntry)
   page l made loongarch i chosen below is_name decided kind =
       let o = (relocation_in l.relocations i).offset in
       let by = page_entry l.section o chosen kind
       (by_table l made.decided loongarch i chosen below decided names.R_LARCH_TLS_DESC_PC_HI20 tt is_name) in
       let is : IsPageOfDescriptor (word_of (instruction_at l.section o)) = subst IsPageOfDescriptor (word_same l.section o) (by.pattern.1) in (
         named_after l made i chosen below decided kinds.NoOp by.kind_is names.R_LARCH_TLS_IE_PC_HI20 by.code_is,
-        λ alone x y pcala1 of_entry s t c pcala small new_small at new_at agree fits new_fits of_descriptor.
+        λ alone x y pcala of_entry.
             let stayed : instruction_at l.rewritten o ≡ instruction_at l.section o =
             stays l made i below (Rewritten chosen) decided (ap (λ k. window_of_rewrite (relaxation_rewrite k)) by.kind_is) alone (by.pattern.0) in
-            laws.descriptor_page x y s t c (instruction_at l.section o) small new_small at new_at agree (is.1) pcala pcala1
-            (record { is = is.0; fits = fits; applied = of_descriptor })
-            (record {
-              is = is.0;
-              fits = new_fits;
-              applied = subst (λ bytes. IsRelocated names.R_LARCH_TLS_IE_PC_HI20 y bytes pcala1) stayed of_entry;
-            }),
+            groups.descriptor_entries x y (instruction_at l.section o) pcala (is.0)
+            (subst (λ bytes. IsRelocated names.R_LARCH_TLS_IE_PC_HI20 y bytes pcala) stayed of_entry),
       )
 
   load : EachAnywhere (IsKind kinds.AddiToLd) names.R_LARCH_TLS_DESC_PC_LO12 names.R_LARCH_TLS_IE_PC_LO12
-      (Anywhere names.R_LARCH_TLS_IE_PC_LO12 LowLoadsOffset)
+      (Anywhere names.R_LARCH_TLS_IE_PC_LO12 (LowOfDescriptor LoadsOffset))
   load l made loongarch i chosen below is_name decided kind =
       let o = (relocation_in l.relocations i).offset in
       let by = load_entry l.section o chosen kind
       (by_table l made.decided loongarch i chosen below decided names.R_LARCH_TLS_DESC_PC_LO12 tt is_name) in (
         named_after l made i chosen below decided kinds.AddiToLd by.kind_is names.R_LARCH_TLS_IE_PC_LO12 by.code_is,
-        λ x y ld of_entry s t c addi small holds has agree of_descriptor.
-            laws.descriptor_entry x y s t c (instruction_at l.section o) (instruction_at l.rewritten o) small
-            (subst IsLowOfDescriptor (word_same l.section o) (by.pattern.1)) holds has agree
+        λ x y ld of_entry.
+            groups.descriptor_entry_loads x y (instruction_at l.section o) (instruction_at l.rewritten o) ld
+            (subst IsLowOfDescriptor (word_same l.section o) (by.pattern.1))
             (becomes l made.done i chosen below decided kinds.AddiToLd by.kind_is (λ word. 0x28c00000 + field word 0 22) refl)
-            addi ld of_descriptor of_entry,
+            of_entry,
       )
 
-  goes : EachAnywhere IsAny names.R_LARCH_TLS_DESC_LD names.R_LARCH_NONE (AnywhereUnwritten LoadDoesNothing)
+  goes : EachAnywhere IsAny names.R_LARCH_TLS_DESC_LD names.R_LARCH_NONE (AnywhereUnwritten LoadOfDescriptor)
   goes l made loongarch i chosen below is_name decided any =
       let o = (relocation_in l.relocations i).offset in
       let by = load_goes l.section o chosen
       (by_table l made.decided loongarch i chosen below decided names.R_LARCH_TLS_DESC_LD tt is_name) in (
         named_after l made i chosen below decided kinds.ReplaceWithNop by.kind_is names.R_LARCH_NONE by.code_is,
-        λ x s t c small has agree.
-            laws.descriptor_load x s t c (instruction_at l.section o) (instruction_at l.rewritten o) small
-            (subst IsLoadOfDescriptor (word_same l.section o) (by.pattern.1)) has agree
+        groups.descriptor_loads (instruction_at l.section o) (instruction_at l.rewritten o)
+            (subst IsLoadOfDescriptor (word_same l.section o) (by.pattern.1))
             (becomes l made.done i chosen below decided kinds.ReplaceWithNop by.kind_is (λ _. 0x03400000) refl),
       )
 
-  called : EachAnywhere IsAny names.R_LARCH_TLS_DESC_CALL names.R_LARCH_NONE (AnywhereUnwritten CallDoesNothing)
+  called : EachAnywhere IsAny names.R_LARCH_TLS_DESC_CALL names.R_LARCH_NONE (AnywhereUnwritten CallOfDescriptor)
   called l made loongarch i chosen below is_name decided any =
       let o = (relocation_in l.relocations i).offset in
       let by = call_goes l.section o chosen
       (by_table l made.decided loongarch i chosen below decided names.R_LARCH_TLS_DESC_CALL tt is_name) in (
         named_after l made i chosen below decided kinds.ReplaceWithNop by.kind_is names.R_LARCH_NONE by.code_is,
-        λ call c d x s t descriptor has function agree.
-            laws.descriptor_call call c x s t d (instruction_at l.section o) (instruction_at l.rewritten o) descriptor
-            (subst IsCallOfDescriptor (word_same l.section o) (by.pattern.1)) has function agree
+        groups.descriptor_calls (instruction_at l.section o) (instruction_at l.rewritten o)
+            (subst IsCallOfDescriptor (word_same l.section o) (by.pattern.1))
             (becomes l made.done i chosen below decided kinds.ReplaceWithNop by.kind_is (λ _. 0x03400000) refl),
       )
 
@@ -309,32 +304,32 @@ module _ (l : Linked) (linked : IsLinked l) (loongarch : l.context.architecture 
       subst (Holds (instruction_at l.section r.offset)) (sym (unwritten_nop l linked loongarch i below (any.0) left inside alone))
       (any.1)
 
-pub descriptors : Laws → Descriptors
-descriptors laws =
+pub descriptors : Groups → Descriptors
+descriptors groups =
     record {
       high = λ l linked loongarch i chosen below is_name decided left kind.
-          in_place (HighDoesTheSame names.R_LARCH_TLS_DESC_PC_HI20) l linked loongarch i below left
+          in_place (HighOffset names.R_LARCH_TLS_DESC_PC_HI20) l linked loongarch i below left
           names.R_LARCH_TLS_LE_HI20 high_after high_takes
-          (high laws l (are_rewritten l linked) loongarch i chosen below is_name decided kind);
+          (high groups l (are_rewritten l linked) loongarch i chosen below is_name decided kind);
       low = λ l linked loongarch i chosen below is_name decided left kind.
-          in_place LowMakesOffset l linked loongarch i below left names.R_LARCH_TLS_LE_LO12 low_after low_takes
-          (low laws l (are_rewritten l linked) loongarch i chosen below is_name decided kind);
+          in_place (LowOfDescriptor MakesOffset) l linked loongarch i below left names.R_LARCH_TLS_LE_LO12 low_after low_takes
+          (low groups l (are_rewritten l linked) loongarch i chosen below is_name decided kind);
       page = λ l linked loongarch i chosen below is_name decided left kind alone.
-          let any = page laws l (are_rewritten l linked) loongarch i chosen below is_name decided kind in
-          in_place_by_entry l linked loongarch i below left PageDoesTheSame
+          let any = page groups l (are_rewritten l linked) loongarch i chosen below is_name decided kind in
+          in_place_by_entry l linked loongarch i below left HighEntry
           names.R_LARCH_TLS_IE_PC_HI20 entry_high high_takes_entry (any.0) ((any.1) alone);
       entry = λ l linked loongarch i chosen below is_name decided left kind.
-          let any = load laws l (are_rewritten l linked) loongarch i chosen below is_name decided kind in
-          in_place_by_entry l linked loongarch i below left LowLoadsOffset
+          let any = load groups l (are_rewritten l linked) loongarch i chosen below is_name decided kind in
+          in_place_by_entry l linked loongarch i below left (LowOfDescriptor LoadsOffset)
           names.R_LARCH_TLS_IE_PC_LO12 entry_low low_takes_entry (any.0) (any.1);
       load = λ l linked loongarch i chosen below is_name decided left any.
           let by = load_goes l.section (relocation_in l.relocations i).offset chosen
           (by_table l linked.decided loongarch i chosen below decided names.R_LARCH_TLS_DESC_LD tt is_name) in
-          in_place_unwritten l linked loongarch i below left LoadDoesNothing (by.pattern.0)
-          (goes laws l (are_rewritten l linked) loongarch i chosen below is_name decided any);
+          in_place_unwritten l linked loongarch i below left LoadOfDescriptor (by.pattern.0)
+          (goes groups l (are_rewritten l linked) loongarch i chosen below is_name decided any);
       call = λ l linked loongarch i chosen below is_name decided left any.
           let by = call_goes l.section (relocation_in l.relocations i).offset chosen
           (by_table l linked.decided loongarch i chosen below decided names.R_LARCH_TLS_DESC_CALL tt is_name) in
-          in_place_unwritten l linked loongarch i below left CallDoesNothing (by.pattern.0)
-          (called laws l (are_rewritten l linked) loongarch i chosen below is_name decided any);
+          in_place_unwritten l linked loongarch i below left CallOfDescriptor (by.pattern.0)
+          (called groups l (are_rewritten l linked) loongarch i chosen below is_name decided any);
     }

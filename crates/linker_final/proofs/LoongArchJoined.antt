@@ -15,11 +15,13 @@ use Rattle.linker_final.proofs.LoongArchWritten.{IsAfter, as_named, row_of}
 use Rattle.linker_final.proofs.Written.{IsRowOf, row_in, with_operands}
 use Rattle.linker_final.specs.Final.{UntouchedInstruction, Linked, count, instruction_at}
 use Rattle.linker_final.specs.Joined.{IsRewrittenAndPacked, IsKeptInstruction, final_instruction}
-use Rattle.linker_final.specs.LoongArchFinal.{Anywhere, CallDoesNothing, HighDoesTheSame, LoadDoesNothing, LowDoesTheSame, LowLoadsOffset, LowMakesOffset, PageDoesTheSame, named_as, with_entry}
+use Rattle.linker_final.specs.LoongArchFinal.{Anywhere, named_as, with_entry}
 use Rattle.linker_final.specs.LoongArchJoined.{InFinalBytes, InFinalBytesByEntry, PackedDescriptors, PackedHighHalves, PackedLowHalves, PackedLowParts}
 use Rattle.linker_final.specs.LoongArchPacked.{operands_at}
 use Rattle.linker_final.specs.Packed.{Packed, architecture_of}
-use Rattle.linker_laws.specs.LoongArchRewriteLaws.{IsRelocated, Laws}
+use Rattle.linker_laws.specs.LoongArchGroups.{CallOfDescriptor, Groups, HighEntry, HighOffset, LoadOfDescriptor, LoadsOffset}
+use Rattle.linker_laws.specs.LoongArchGroups.{LowHalf, LowOfDescriptor, MakesOffset}
+use Rattle.linker_laws.specs.LoongArchRewriteLaws.{IsRelocated}
 use Rattle.linker_runs.specs.declared.packing.Machine.TheVariants.{LoongArch64 as loongarch64}
 use Rattle.linker_section.specs.Needed.{entry_of}
 use Rattle.linker_section.specs.Relocations.{relocation_in}
@@ -93,66 +95,66 @@ module _ (l : Linked) (p : Packed) (joined : IsRewrittenAndPacked l p) (loongarc
 
 -- ---- low parts over the thread pointer
 
-pub packed_low_parts : Laws → PackedLowParts
-packed_low_parts laws l p joined loongarch i chosen below is_name decided any kept left symbol is_symbol x =
+pub packed_low_parts : Groups → PackedLowParts
+packed_low_parts groups l p joined loongarch i chosen below is_name decided any kept left symbol is_symbol x =
     let o = (relocation_in l.relocations i).offset in
     let is = joined.architecture ∙ ap architecture_of loongarch in
     let y = operands_at p i part_after.row symbol in
-    moved_low_parts laws l joined.rewritten.decided joined.rewritten.done is i chosen below is_name decided
+    moved_low_parts groups l joined.rewritten.decided joined.rewritten.done is i chosen below is_name decided
     x y (final_instruction p o)
     (relocated_kept l p joined loongarch i below names.R_LARCH_TLS_LE_LO12_R part_after
     (part_named l joined.rewritten is i chosen below is_name decided) kept left symbol 0 refl is_symbol y refl)
 
 -- ---- halves of initial-exec
 
-pub packed_high_halves : Laws → PackedHighHalves
-packed_high_halves laws l p joined loongarch i chosen below is_name decided any kept left =
+pub packed_high_halves : Groups → PackedHighHalves
+packed_high_halves groups l p joined loongarch i chosen below is_name decided any kept left =
     let is = joined.architecture ∙ ap architecture_of loongarch in
-    let law = high_halves_anywhere laws l joined.rewritten is i chosen below is_name decided any in
+    let law = high_halves_anywhere groups l joined.rewritten is i chosen below is_name decided any in
     in_final_bytes l p joined loongarch i below names.R_LARCH_TLS_LE_HI20 high_after (law.0) kept left
-    (HighDoesTheSame names.R_LARCH_TLS_IE_PC_HI20) high_takes (law.1)
+    (HighOffset names.R_LARCH_TLS_IE_PC_HI20) high_takes (law.1)
 
-pub packed_low_halves : Laws → PackedLowHalves
-packed_low_halves laws l p joined loongarch i chosen below is_name decided any kept left =
+pub packed_low_halves : Groups → PackedLowHalves
+packed_low_halves groups l p joined loongarch i chosen below is_name decided any kept left =
     let is = joined.architecture ∙ ap architecture_of loongarch in
-    let law = low_halves_anywhere laws l joined.rewritten is i chosen below is_name decided any in
+    let law = low_halves_anywhere groups l joined.rewritten is i chosen below is_name decided any in
     in_final_bytes l p joined loongarch i below names.R_LARCH_TLS_LE_LO12 low_after (law.0) kept left
-    LowDoesTheSame low_takes (law.1)
+    LowHalf low_takes (law.1)
 
 -- ---- TLS descriptors
 
-pub packed_descriptors : Laws → PackedDescriptors
-packed_descriptors laws =
-    let any = descriptors_anywhere laws in
+pub packed_descriptors : Groups → PackedDescriptors
+packed_descriptors groups =
+    let any = descriptors_anywhere groups in
     record {
       high = λ l p joined loongarch i chosen below is_name decided kind kept left.
           let is = joined.architecture ∙ ap architecture_of loongarch in
           let law = any.high l joined.rewritten is i chosen below is_name decided kind in
           in_final_bytes l p joined loongarch i below names.R_LARCH_TLS_LE_HI20 high_after (law.0) kept left
-          (HighDoesTheSame names.R_LARCH_TLS_DESC_PC_HI20) high_takes (law.1);
+          (HighOffset names.R_LARCH_TLS_DESC_PC_HI20) high_takes (law.1);
       low = λ l p joined loongarch i chosen below is_name decided kind kept left.
           let is = joined.architecture ∙ ap architecture_of loongarch in
           let law = any.low l joined.rewritten is i chosen below is_name decided kind in
           in_final_bytes l p joined loongarch i below names.R_LARCH_TLS_LE_LO12 low_after (law.0) kept left
-          LowMakesOffset low_takes (law.1);
+          (LowOfDescriptor MakesOffset) low_takes (law.1);
       page = λ l p joined loongarch i chosen below is_name decided kind kept left alone.
           let is = joined.architecture ∙ ap architecture_of loongarch in
           let law = any.page l joined.rewritten is i chosen below is_name decided kind in
           in_final_bytes_by_entry l p joined loongarch i below names.R_LARCH_TLS_IE_PC_HI20 entry_high (law.0) kept left
-          PageDoesTheSame high_takes_entry ((law.1) alone);
+          HighEntry high_takes_entry ((law.1) alone);
       entry = λ l p joined loongarch i chosen below is_name decided kind kept left.
           let is = joined.architecture ∙ ap architecture_of loongarch in
           let law = any.entry l joined.rewritten is i chosen below is_name decided kind in
           in_final_bytes_by_entry l p joined loongarch i below names.R_LARCH_TLS_IE_PC_LO12 entry_low (law.0) kept left
-          LowLoadsOffset low_takes_entry (law.1);
+          (LowOfDescriptor LoadsOffset) low_takes_entry (law.1);
       load = λ l p joined loongarch i chosen below is_name decided left stay free.
           let o = (relocation_in l.relocations i).offset in
           let is = joined.architecture ∙ ap architecture_of loongarch in
           let law = any.load l joined.rewritten is i chosen below is_name decided tt in
-          subst (LoadDoesNothing (instruction_at l.section o)) (sym (unwritten_there l p joined i o left stay free)) (law.1);
+          subst (LoadOfDescriptor (instruction_at l.section o)) (sym (unwritten_there l p joined i o left stay free)) (law.1);
       call = λ l p joined loongarch i chosen below is_name decided left stay free.
           let o = (relocation_in l.relocations i).offset in
           let is = joined.architecture ∙ ap architecture_of loongarch in
           let law = any.call l joined.rewritten is i chosen below is_name decided tt in
-          subst (CallDoesNothing (instruction_at l.section o)) (sym (unwritten_there l p joined i o left stay free)) (law.1);
+          subst (CallOfDescriptor (instruction_at l.section o)) (sym (unwritten_there l p joined i o left stay free)) (law.1);
     }

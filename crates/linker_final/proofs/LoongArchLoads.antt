@@ -1,4 +1,4 @@
--- Rewritten loads from the GOT of LoongArch do in the final bytes what the object's do.
+-- Rewritten loads from the GOT of LoongArch are groups in the final bytes.
 use Rattle.std.proofs.Common.{◌≡◌, ℕ, ℤ, ◌+◌, drop, List, refl, sym, ap, subst, ◌∙◌, arith, inl, inr}
 use Rattle.std.specs.Prelude.{slice_get}
 use Rattle.linker_base.specs.Bits.{field}
@@ -21,7 +21,8 @@ use Rattle.linker_final.proofs.LoongArchWritten.{IsAfter, applied_there, becomes
 use Rattle.linker_final.proofs.Written.{are_rewritten, rela, stays, with_operands, word_same}
 use Rattle.linker_final.specs.Final.{UntouchedInstructions, Linked, IsLinked, IsRewrittenByNoOther, instruction_at}
 use Rattle.linker_final.specs.LoongArchFinal.{GotLoads, LoadsTheSame}
-use Rattle.linker_laws.specs.LoongArchRewriteLaws.{IsPair, IsRewritten, Laws, following, word_of}
+use Rattle.linker_laws.specs.LoongArchGroups.{Groups}
+use Rattle.linker_laws.specs.LoongArchRewriteLaws.{IsPair, IsRewritten, following, word_of}
 use Rattle.linker_utils.specs.LoongArchRewrites.{AreOfOneRegister, IsLd, bound_by_pages}
 use Rattle.linker_utils.specs.declared.loongarch64.rewrites.RelaxationKind.TheVariants as kinds
 use Rattle.linker_rewriting.specs.Facts.{RelaxContext}
@@ -120,7 +121,7 @@ low_entry section o chosen by =
 
 -- ---- a pair
 
-module _ (laws : Laws) (l : Linked) (linked : IsLinked l) (loongarch : l.context.architecture ≡ LoongArch64)
+module _ (groups : Groups) (l : Linked) (linked : IsLinked l) (loongarch : l.context.architecture ≡ LoongArch64)
     (i j : ℕ) (of : AreOfLoad l i j) (left : UntouchedInstructions l i j) (alone : IsRewrittenByNoOther l i (relocation_in l.relocations i).offset) where
   abbrev first : Rela
   first = relocation_in l.relocations i
@@ -139,15 +140,13 @@ module _ (laws : Laws) (l : Linked) (linked : IsLinked l) (loongarch : l.context
       (by_table l linked.decided loongarch j of.low_chosen of.low_below of.low_decided names.R_LARCH_GOT_PC_LO12 tt of.low)
 
   pub loads_the_same : LoadsTheSame l i got_row
-  loads_the_same symbol is_symbol got s pcala ld small holds at loads fits =
+  loads_the_same symbol is_symbol got c k s loads fits page_stands low_stands =
       let o = first.offset in
       let w = operands_with LoongArch64 l.addresses got_row symbol first got in
       let next = of.next in
       let there = page.pattern in
-      let together : IsPair IsLd w s (instruction_at l.section o) (instruction_at l.section (o + 4)) =
+      let together : IsPair IsLd (instruction_at l.section o) (instruction_at l.section (o + 4)) =
       record {
-        small = small;
-        at = at;
         one_register =
             subst (λ x. AreOfOneRegister x (word_of (instruction_at l.section (o + 4)))) (word_same l.section o)
             (subst (λ x. AreOfOneRegister (word_of (drop o l.section)) x) (word_same l.section (o + 4)) there.one_register);
@@ -178,10 +177,12 @@ module _ (laws : Laws) (l : Linked) (linked : IsLinked l) (loongarch : l.context
       subst (λ n. IsRewritten kinds.LdToAddi (instruction_at l.section n) (instruction_at l.rewritten n)) next
       (becomes l linked.done j of.low_chosen of.low_below of.low_decided kinds.LdToAddi low.kind_is
       (λ word. 0x02c00000 + field word 0 22) refl) in
-      laws.got w s (instruction_at l.section o) (instruction_at l.section (o + 4)) (instruction_at l.rewritten (o + 4))
-      together holds added pcala ld (instruction_at l.final o) (instruction_at l.final (o + 4)) loads fits page_written low_written
+      groups.got c w w k s (instruction_at l.section o) (instruction_at l.section (o + 4)) (instruction_at l.rewritten (o + 4))
+      together loads added loads.small fits
+      (record { relocated = instruction_at l.final o; applied = page_written; stands = page_stands })
+      (record { relocated = instruction_at l.final (o + 4); applied = low_written; stands = low_stands })
 
-pub got_loads : Laws → GotLoads
-got_loads laws l linked context i chosen below is_name decided left alone =
-    loads_the_same laws l linked (ap (λ (x : RelaxContext). x.architecture) context) i (i + 2)
+pub got_loads : Groups → GotLoads
+got_loads groups l linked context i chosen below is_name decided left alone =
+    loads_the_same groups l linked (ap (λ (x : RelaxContext). x.architecture) context) i (i + 2)
     (load_of l linked.decided context i chosen below is_name decided) left alone

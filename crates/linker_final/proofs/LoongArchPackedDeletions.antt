@@ -1,22 +1,23 @@
 -- LoongArch: instructions that are deleted, and the run without them.
-use Rattle.std.proofs.Common.{take, drop, sym, ◌∙◌, Option, Some, None, IsSomeAnd}
+use Rattle.std.proofs.Common.{ℕ, drop, take, sym, ◌∙◌}
 use Rattle.linker_final.proofs.PackedBytes.{no_place}
-use Rattle.linker_final.specs.LoongArchPacked.{HighPartIsLeftOut, SumIsLeftOut}
-use Rattle.linker_laws.specs.LoongArchMachine.{State}
-use Rattle.linker_laws.specs.LoongArchRewriteLaws.{OffsetLu12iIsDeleted, SumIsDeleted}
+use Rattle.linker_final.specs.LoongArchPacked.{HighPartIsLeftOut, IsBefore, SumIsLeftOut}
+use Rattle.linker_final.specs.Packed.{AreDeleted as IsGone, Packed}
+use Rattle.linker_laws.specs.LoongArchGroups.{AreDeleted, Code, Groups}
+use Rattle.linker_laws.specs.Simulation.{State}
 
--- P of the state after a step, and what is known anyway
-with_both : (P : State → Type 0) (Q : Type 0) (after : Option State) → Q → IsSomeAnd after P
-    → IsSomeAnd after (λ u. P u × Q)
-with_both P Q None also nothing = nothing
-with_both P Q (Some u) also is = (is, also)
+-- new has nothing of the bytes
+gone_in : (p : Packed) (o : ℕ) (c : Code) (s : State) → IsGone p o 4 → IsBefore p o c s → AreDeleted c 4 s
+gone_in p o c s gone before =
+    record {
+      small = before.small;
+      moved = before.place ∙ sym (no_place p o 4 gone) ∙ sym before.next;
+    }
 
-pub high_part : OffsetLu12iIsDeleted → HighPartIsLeftOut
-high_part law p is machine o gone word x small low of relocated s t differing alike at =
-    with_both _ _ _ (at ∙ sym (no_place p o 4 gone))
-    (law x s t differing (take 4 (drop o p.section.bytes)) small word alike low of relocated)
+pub high_part : Groups → HighPartIsLeftOut
+high_part groups p is machine o gone word x small low c k s before at has =
+    groups.high_offsets c x k s (take 4 (drop o p.section.bytes)) (gone_in p o c s gone before) small at word low has
 
-pub sums : SumIsDeleted → SumIsLeftOut
-sums law p is machine o gone word s t differing alike at kept below zero =
-    with_both _ _ _ (at ∙ sym (no_place p o 4 gone))
-    (law s t differing (drop o p.section.bytes) word alike kept below zero)
+pub sums : Groups → SumIsLeftOut
+sums groups p is machine o gone word c k s before zero below stands =
+    groups.sums c k s (drop o p.section.bytes) (gone_in p o c s gone before) word zero below stands

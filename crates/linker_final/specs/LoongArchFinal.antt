@@ -1,10 +1,8 @@
--- LoongArch: in the final bytes of a section rewritten instructions do what the object's do with
--- the values of their relocations (LoongArch ELF psABI, relaxation and the sequences of
--- thread-local storage).
-use Rattle.std.specs.Prelude.{◌≡◌, ◌≢◌, ℕ, pos, ◌+◌, ◌/◌, ◌<◌, ◌^◌, Bool, true, List, Option, Some}
+-- LoongArch: in the final bytes of a section rewritten instructions are groups of the simulation
+-- (LoongArch ELF psABI, relaxation and the sequences of thread-local storage).
+use Rattle.std.specs.Prelude.{◌≡◌, ℕ, pos, ◌+◌, ◌<◌, true, List, Some}
 use Rattle.std.specs.Prelude.{IsSomeAnd, slice_get, ⊤}
 use Rattle.linker_elf.specs.ElfNames.{IsNameOf, code_of}
-use Rattle.linker_elf.specs.Choices.{RowIsWithin}
 use Rattle.linker_elf.specs.LoongArchRelocations.{loongarch_name, loongarch_row}
 use Rattle.linker_elf.specs.Value.{sum_64}
 use Rattle.linker_elf.specs.declared.elf.RelocationKindInfo.{RelocationKindInfo}
@@ -16,18 +14,12 @@ use Rattle.linker_final.specs.Final.{UntouchedInstructions, AreRewritten, Untouc
 use Rattle.linker_final.specs.Final.{Linked, IsLinked}
 use Rattle.linker_final.specs.Final.{IsRewrittenByNoOther, IsWrittenByNoOther, count}
 use Rattle.linker_final.specs.Final.{instruction_at}
-use Rattle.linker_laws.specs.LoongArchMachine.{State, AreAlikeBut, action_of, but_written, read}
-use Rattle.linker_laws.specs.LoongArchMachine.{step}
-use Rattle.linker_laws.specs.LoongArchRewriteLaws.{AgreeBut, Changes, Descriptor, Fits32, Has}
-use Rattle.linker_laws.specs.LoongArchRewriteLaws.{HasDescriptor, HaveGoneOn, HaveShortened}
-use Rattle.linker_laws.specs.LoongArchRewriteLaws.{IsRelocated}
-use Rattle.linker_laws.specs.LoongArchRewriteLaws.{LoadsEntry, RunAlike, StepSo, StoresTheSame}
-use Rattle.linker_laws.specs.LoongArchRewriteLaws.{after_call, high_offset, near_page, pair}
-use Rattle.linker_laws.specs.LoongArchRewriteLaws.{thread_offset, with_register}
-use Rattle.linker_laws.specs.LoongArchRewriteLaws.{without_register, word_of}
-use Rattle.linker_laws.specs.Machine.{loaded}
-use Rattle.linker_laws.specs.Schemes.{AreAddresses, entry_and_addend, symbol_address}
-use Rattle.linker_utils.specs.LoongArchRewrites.{rd_of, rj_of, signed_12, tp}
+use Rattle.linker_laws.specs.LoongArchGroups.{CallOfDescriptor, Code, HighEntry, HighOffset}
+use Rattle.linker_laws.specs.LoongArchGroups.{LoadOfDescriptor, Loads, LoadsOffset, LowHalf}
+use Rattle.linker_laws.specs.LoongArchGroups.{LowOfDescriptor, LowPart, Makes, MakesOffset, Stands}
+use Rattle.linker_laws.specs.LoongArchRewriteLaws.{Fits32, IsRelocated}
+use Rattle.linker_laws.specs.Schemes.{symbol_address}
+use Rattle.linker_laws.specs.Simulation.{Kinds, State}
 use Rattle.linker_utils.specs.declared.loongarch64.rewrites.RelaxationKind.{RelaxationKind}
 use Rattle.linker_utils.specs.declared.loongarch64.rewrites.RelaxationKind.TheVariants as kinds
 use Rattle.linker_rewriting.specs.Decisions.{AreDecidedIn, decision_at}
@@ -46,128 +38,25 @@ use Rattle.linker_elf.specs.declared.elf.architecture.Architecture.TheVariants.{
 
 -- ---- loads of addresses from the GOT
 
--- From any state before the `pcalau12i` of a relocation at an index, where the entry at an address
--- holds S + A, the final bytes of the pair run and end as the object's with their relocations'
--- values do. The distances to the entry and to the symbol, in pages, have 32 bits.
+-- The pair of a relocation at an index, where the entry at an address holds S + A, is a group. New
+-- has the final bytes. The distances to the entry and to the symbol, in pages, have 32 bits.
 abbrev pub LoadsTheSame : Linked → ℕ → RelocationKindInfo → Type 0
 LoadsTheSame l i row =
     let r = relocation_in l.relocations i in
+    let ld = instruction_at l.section (r.offset + 4) in
     (symbol : Symbol) → slice_get l.symbols r.symbol ≡ Some symbol
-    → (entry : ℕ) (s : State) (pcala ld : List ℕ)
+    → (entry : ℕ) (c : Code) (k : Kinds) (s : State)
     → let operands = operands_with LoongArch64 l.addresses row symbol r entry in
-    AreAddresses operands
-    → loaded 8 s.memory (entry_and_addend operands) ≡ symbol_address operands
-    → s.pc ≡ operands.place
-    → LoadsEntry names.R_LARCH_GOT_PC_HI20 names.R_LARCH_GOT_PC_LO12 operands
-    (instruction_at l.section r.offset) (instruction_at l.section (r.offset + 4)) pcala ld
+    Loads c operands s (instruction_at l.section r.offset) ld
     → Fits32 names.R_LARCH_PCALA_HI20 operands
-    → RunAlike (pair pcala ld)
-    (pair (instruction_at l.final r.offset) (instruction_at l.final (r.offset + 4))) s
+    → Stands c.new operands.place (instruction_at l.final r.offset)
+    → Stands c.new (sum_64 operands.place 4) (instruction_at l.final (r.offset + 4))
+    → Makes 2 8 symbol_address c operands operands k s ld
 
--- ---- instructions that are rewritten each by itself
+-- ---- where the instruction of a group is in new
 
--- Two runs are compared, each at its own address. In one the object's instruction is executed,
--- whose bytes are `before`, with the value of its relocation by operands x. In the other it is the
--- instruction `after`, whose relocation has operands y.
-
--- The states agree but for what high halves put in registers. Then they agree but for the register
--- of the `pcalau12i`, which has the high part of the variable's offset in the other run. The
--- distance to the entry, in pages, and the offset have 32 bits.
-abbrev pub HighDoesTheSame : LoongArch64Relocation → List ℕ → List ℕ → Operands → Operands
-    → Type 0
-HighDoesTheSame name before after x y =
-    let n = rd_of (word_of before) in
-    (s t : State) (c : Changes) (pcala : List ℕ) → AreAddresses x → s.pc ≡ x.place
-    → AgreeBut c s t → Fits32 name x → Fits32 names.R_LARCH_TLS_LE_HI20 y
-    → IsRelocated name x before pcala
-    → StepSo (word_of pcala) s (word_of after) t
-    (λ u v. HaveGoneOn (with_register n c) s t u v
-    × (n ≢ 0 → Has n (near_page (entry_and_addend x)) (high_offset y) u v))
-
--- From states whose source register has that, and where the GOT's entry holds the offset, the low
--- half leaves the offset in both.
-abbrev pub LowDoesTheSame : List ℕ → List ℕ → Operands → Operands → Type 0
-LowDoesTheSame before after x y =
-    let word = word_of before in
-    (s t : State) (c : Changes) (ld : List ℕ) → AreAddresses x → thread_offset x ≡ thread_offset y
-    → loaded 8 s.memory (entry_and_addend x) ≡ thread_offset x
-    → Has (rj_of word) (near_page (entry_and_addend x)) (high_offset y) s t → AgreeBut c s t
-    → IsRelocated names.R_LARCH_TLS_IE_PC_LO12 x before ld
-    → StepSo (word_of ld) s (word_of after) t (HaveGoneOn (without_register (rd_of word) c) s t)
-
--- The `addi.d` of the sequence of a TLS descriptor makes its address, where `a0` has the high half.
--- The other instruction leaves the offset in `a0`, where `a0` has that of the offset.
-abbrev pub LowMakesOffset : List ℕ → List ℕ → Operands → Operands → Type 0
-LowMakesOffset before after x y =
-    (s t : State) (c : Changes) (addi : List ℕ) → AreAddresses x → thread_offset x ≡ thread_offset y
-    → Has 4 (near_page (entry_and_addend x)) (high_offset y) s t → AgreeBut c s t
-    → IsRelocated names.R_LARCH_TLS_DESC_PC_LO12 x before addi
-    → StepSo (word_of addi) s (word_of after) t
-    (λ u v. HaveGoneOn (with_register 4 c) s t u v × HasDescriptor x u v)
-
--- For initial-exec, `a0` has the high half of the address of the offset's entry in the GOT, which
--- is that of y.
-abbrev pub PageDoesTheSame : List ℕ → List ℕ → Operands → Operands → Type 0
-PageDoesTheSame before after x y =
-    (s t : State) (c : Changes) (pcala : List ℕ) → AreAddresses x → AreAddresses y
-    → s.pc ≡ x.place → t.pc ≡ y.place → AgreeBut c s t
-    → Fits32 names.R_LARCH_TLS_DESC_PC_HI20 x → Fits32 names.R_LARCH_TLS_IE_PC_HI20 y
-    → IsRelocated names.R_LARCH_TLS_DESC_PC_HI20 x before pcala
-    → StepSo (word_of pcala) s (word_of after) t
-    (λ u v. HaveGoneOn (with_register 4 c) s t u v
-    × Has 4 (near_page (entry_and_addend x)) (near_page (entry_and_addend y)) u v)
-
--- The other instruction loads the offset from there.
-abbrev pub LowLoadsOffset : List ℕ → List ℕ → Operands → Operands → Type 0
-LowLoadsOffset before after x y =
-    (s t : State) (c : Changes) (addi : List ℕ) → AreAddresses x
-    → loaded 8 t.memory (entry_and_addend y) ≡ thread_offset x
-    → Has 4 (near_page (entry_and_addend x)) (near_page (entry_and_addend y)) s t → AgreeBut c s t
-    → IsRelocated names.R_LARCH_TLS_DESC_PC_LO12 x before addi
-    → StepSo (word_of addi) s (word_of after) t
-    (λ u v. HaveGoneOn (with_register 4 c) s t u v × HasDescriptor x u v)
-
--- The `ld.d` loads the address of the descriptor's function, and the other instruction does
--- nothing.
-abbrev pub LoadDoesNothing : List ℕ → List ℕ → Type 0
-LoadDoesNothing before after =
-    (x : Operands) (s t : State) (c : Changes) → AreAddresses x → HasDescriptor x s t
-    → AgreeBut c s t
-    → StepSo (word_of before) s (word_of after) t
-    (λ u v. HaveGoneOn (with_register 1 c) s t u v × HasDescriptor x u v
-    × (read 1 u ≡ loaded 8 s.memory (entry_and_addend x)))
-
--- The `jirl` calls it, and the other run ends as the function returns, each after its own
--- instruction.
-abbrev pub CallDoesNothing : List ℕ → List ℕ → Type 0
-CallDoesNothing before after =
-    (call : State → Option State) (c d : Changes) (x : Operands) (s t : State)
-    → Descriptor call c x s → HasDescriptor x s t
-    → read 1 s ≡ loaded 8 s.memory (entry_and_addend x) → AgreeBut d s t
-    → IsSomeAnd (step (word_of before) s) (λ u.
-    (v : State) → call u ≡ Some v
-    → IsSomeAnd (step (word_of after) t) (HaveGoneOn (after_call c d) s t v))
-
--- The object's instruction adds the low part of a local-exec offset to a register that has the
--- thread pointer's number. The other adds it to the thread pointer, whatever is in the registers
--- that differ. The offset has 12 bits.
-abbrev pub LowPartDoesTheSame : List ℕ → List ℕ → Operands → Operands → Type 0
-LowPartDoesTheSame before after x y =
-    let word = word_of before in
-    let action = action_of (word / 2 ^ 22) in
-    (s t : State) (differing : ℕ → Bool) (low : List ℕ)
-    → thread_offset x ≡ thread_offset y
-    → RowIsWithin (loongarch_row names.R_LARCH_TLS_LE_LO12_R) signed_12 y
-    → AreAlikeBut differing s t → read (rj_of word) s ≡ read tp t
-    → StoresTheSame action differing (rd_of word)
-    → IsRelocated names.R_LARCH_TLS_LE_LO12_R x before low
-    → StepSo (word_of low) s (word_of after) t
-    (HaveShortened (but_written differing action (rd_of word)) (sum_64 s.pc 4) (sum_64 t.pc 4))
-
--- ---- where the other instruction is
-
--- In the final bytes of the section itself. The operands are those of the relocation at an index
--- with a row, whatever the address of its GOT entry is.
+-- It is in the final bytes of the section itself. The operands are those of the relocation at an
+-- index with a row, whatever the address of its GOT entry is.
 abbrev pub InPlace : (List ℕ → List ℕ → Operands → Operands → Type 0) → Linked → ℕ
     → RelocationKindInfo → Type 0
 InPlace Holds l i row =
@@ -262,34 +151,34 @@ IsKind kind relaxation = relaxation ≡ relaxations.LoongArch64 kind
 abbrev pub HighHalves : Type 0
 HighHalves =
     EachRewritten IsAny names.R_LARCH_TLS_IE_PC_HI20 names.R_LARCH_TLS_LE_HI20
-    (InPlace (HighDoesTheSame names.R_LARCH_TLS_IE_PC_HI20))
+    (InPlace (HighOffset names.R_LARCH_TLS_IE_PC_HI20))
 
 abbrev pub LowHalves : Type 0
 LowHalves =
     EachRewritten IsAny names.R_LARCH_TLS_IE_PC_LO12 names.R_LARCH_TLS_LE_HI20
-    (InPlace LowDoesTheSame)
+    (InPlace LowHalf)
 
 -- of every instruction of a TLS descriptor: its first two become those of local-exec or of
 -- initial-exec
 pub record Descriptors : Type 0 where
   pub high : EachRewritten (IsKind kinds.PcalaToLu12i) names.R_LARCH_TLS_DESC_PC_HI20
-      names.R_LARCH_TLS_LE_HI20 (InPlace (HighDoesTheSame names.R_LARCH_TLS_DESC_PC_HI20))
+      names.R_LARCH_TLS_LE_HI20 (InPlace (HighOffset names.R_LARCH_TLS_DESC_PC_HI20))
   pub low : EachRewritten (IsKind kinds.LowToOri) names.R_LARCH_TLS_DESC_PC_LO12
-      names.R_LARCH_TLS_LE_HI20 (InPlace LowMakesOffset)
+      names.R_LARCH_TLS_LE_HI20 (InPlace (LowOfDescriptor MakesOffset))
   pub page : EachRewritten (IsKind kinds.NoOp) names.R_LARCH_TLS_DESC_PC_HI20
-      names.R_LARCH_TLS_LE_HI20 (InPlaceUnchanged PageDoesTheSame)
+      names.R_LARCH_TLS_LE_HI20 (InPlaceUnchanged HighEntry)
   pub entry : EachRewritten (IsKind kinds.AddiToLd) names.R_LARCH_TLS_DESC_PC_LO12
-      names.R_LARCH_TLS_LE_HI20 (InPlaceByEntry LowLoadsOffset)
+      names.R_LARCH_TLS_LE_HI20 (InPlaceByEntry (LowOfDescriptor LoadsOffset))
   pub load : EachRewritten IsAny names.R_LARCH_TLS_DESC_LD names.R_LARCH_TLS_LE_HI20
-      (InPlaceUnwritten LoadDoesNothing)
+      (InPlaceUnwritten LoadOfDescriptor)
   pub call : EachRewritten IsAny names.R_LARCH_TLS_DESC_CALL names.R_LARCH_TLS_LE_HI20
-      (InPlaceUnwritten CallDoesNothing)
+      (InPlaceUnwritten CallOfDescriptor)
 
 -- of every low part of local-exec that a linker rewrites
 abbrev pub LowParts : Type 0
 LowParts =
     EachRewritten IsAny names.R_LARCH_TLS_LE_LO12_R names.R_LARCH_TLS_LE_LO12_R
-    (InPlace LowPartDoesTheSame)
+    (InPlace LowPart)
 
 -- The same once instructions are rewritten, whatever becomes of the section then.
 abbrev pub MovedLowParts : Type 0
@@ -300,7 +189,7 @@ MovedLowParts =
     → (i : ℕ) (chosen : Choice Relaxation ℕ) → i < count l
     → IsNameOf loongarch_name (relocation_in l.relocations i).code names.R_LARCH_TLS_LE_LO12_R
     → decision_at l.decisions i ≡ Rewritten chosen
-    → Anywhere names.R_LARCH_TLS_LE_LO12_R LowPartDoesTheSame l i
+    → Anywhere names.R_LARCH_TLS_LE_LO12_R LowPart l i
 
 -- ---- the laws, whatever becomes of the section once it is rewritten
 
@@ -319,32 +208,33 @@ EachAnywhere P name after Holds =
     → (relocation_in l.relocations_after i ≡ named_as after (relocation_in l.relocations i))
     × Holds l i
 
--- Every high half of initial-exec does the same wherever it goes, once the relocation that the
--- rewrite left is applied to it.
+-- Every high half of initial-exec is a group wherever it goes, once the relocation that the rewrite
+-- left is applied to it.
 abbrev pub HighHalvesAnywhere : Type 0
 HighHalvesAnywhere =
     EachAnywhere IsAny names.R_LARCH_TLS_IE_PC_HI20 names.R_LARCH_TLS_LE_HI20
-    (Anywhere names.R_LARCH_TLS_LE_HI20 (HighDoesTheSame names.R_LARCH_TLS_IE_PC_HI20))
+    (Anywhere names.R_LARCH_TLS_LE_HI20 (HighOffset names.R_LARCH_TLS_IE_PC_HI20))
 
 -- The same of every low half.
 abbrev pub LowHalvesAnywhere : Type 0
 LowHalvesAnywhere =
     EachAnywhere IsAny names.R_LARCH_TLS_IE_PC_LO12 names.R_LARCH_TLS_LE_LO12
-    (Anywhere names.R_LARCH_TLS_LE_LO12 LowDoesTheSame)
+    (Anywhere names.R_LARCH_TLS_LE_LO12 LowHalf)
 
 -- The same of every instruction of a TLS descriptor.
 pub record DescriptorsAnywhere : Type 0 where
   pub high : EachAnywhere (IsKind kinds.PcalaToLu12i) names.R_LARCH_TLS_DESC_PC_HI20
       names.R_LARCH_TLS_LE_HI20
-      (Anywhere names.R_LARCH_TLS_LE_HI20 (HighDoesTheSame names.R_LARCH_TLS_DESC_PC_HI20))
+      (Anywhere names.R_LARCH_TLS_LE_HI20 (HighOffset names.R_LARCH_TLS_DESC_PC_HI20))
   pub low : EachAnywhere (IsKind kinds.LowToOri) names.R_LARCH_TLS_DESC_PC_LO12
-      names.R_LARCH_TLS_LE_LO12 (Anywhere names.R_LARCH_TLS_LE_LO12 LowMakesOffset)
+      names.R_LARCH_TLS_LE_LO12 (Anywhere names.R_LARCH_TLS_LE_LO12 (LowOfDescriptor MakesOffset))
   pub page : EachAnywhere (IsKind kinds.NoOp) names.R_LARCH_TLS_DESC_PC_HI20
       names.R_LARCH_TLS_IE_PC_HI20
-      (AnywhereUnchanged names.R_LARCH_TLS_IE_PC_HI20 PageDoesTheSame)
+      (AnywhereUnchanged names.R_LARCH_TLS_IE_PC_HI20 HighEntry)
   pub entry : EachAnywhere (IsKind kinds.AddiToLd) names.R_LARCH_TLS_DESC_PC_LO12
-      names.R_LARCH_TLS_IE_PC_LO12 (Anywhere names.R_LARCH_TLS_IE_PC_LO12 LowLoadsOffset)
+      names.R_LARCH_TLS_IE_PC_LO12
+      (Anywhere names.R_LARCH_TLS_IE_PC_LO12 (LowOfDescriptor LoadsOffset))
   pub load : EachAnywhere IsAny names.R_LARCH_TLS_DESC_LD names.R_LARCH_NONE
-      (AnywhereUnwritten LoadDoesNothing)
+      (AnywhereUnwritten LoadOfDescriptor)
   pub call : EachAnywhere IsAny names.R_LARCH_TLS_DESC_CALL names.R_LARCH_NONE
-      (AnywhereUnwritten CallDoesNothing)
+      (AnywhereUnwritten CallOfDescriptor)

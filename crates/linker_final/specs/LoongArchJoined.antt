@@ -12,12 +12,12 @@ use Rattle.linker_elf.specs.declared.loongarch64.relocations.LoongArch64Relocati
 use Rattle.linker_final.specs.Final.{UntouchedInstruction, IsRewrittenByNoOther, Linked, count}
 use Rattle.linker_final.specs.Final.{instruction_at}
 use Rattle.linker_final.specs.Joined.{IsRewrittenAndPacked, IsKeptInstruction, final_instruction}
-use Rattle.linker_final.specs.LoongArchFinal.{CallDoesNothing, HasOffsetEntry, HighDoesTheSame}
-use Rattle.linker_final.specs.LoongArchFinal.{IsAny, IsKind, LoadDoesNothing, LowDoesTheSame}
-use Rattle.linker_final.specs.LoongArchFinal.{LowLoadsOffset, LowMakesOffset, LowPartDoesTheSame}
-use Rattle.linker_final.specs.LoongArchFinal.{PageDoesTheSame, with_entry}
+use Rattle.linker_final.specs.LoongArchFinal.{HasOffsetEntry, IsAny, IsKind, with_entry}
 use Rattle.linker_final.specs.LoongArchPacked.{operands_at}
 use Rattle.linker_final.specs.Packed.{IsUnwritten, Packed, StayTogether, place_of}
+use Rattle.linker_laws.specs.LoongArchGroups.{CallOfDescriptor, HighEntry, HighOffset}
+use Rattle.linker_laws.specs.LoongArchGroups.{LoadOfDescriptor, LoadsOffset, LowHalf}
+use Rattle.linker_laws.specs.LoongArchGroups.{LowOfDescriptor, LowPart, MakesOffset}
 use Rattle.linker_utils.specs.declared.loongarch64.rewrites.RelaxationKind.TheVariants as kinds
 use Rattle.linker_rewriting.specs.Decisions.{decision_at}
 use Rattle.linker_rewriting.specs.declared.decisions.Decision.TheVariants.{Rewritten}
@@ -85,29 +85,29 @@ EachNop name Holds =
 abbrev pub PackedLowParts : Type 0
 PackedLowParts =
     EachKept IsAny names.R_LARCH_TLS_LE_LO12_R names.R_LARCH_TLS_LE_LO12_R
-    (InFinalBytes LowPartDoesTheSame)
+    (InFinalBytes LowPart)
 
 -- of every high half of initial-exec
 abbrev pub PackedHighHalves : Type 0
 PackedHighHalves =
     EachKept IsAny names.R_LARCH_TLS_IE_PC_HI20 names.R_LARCH_TLS_LE_HI20
-    (InFinalBytes (HighDoesTheSame names.R_LARCH_TLS_IE_PC_HI20))
+    (InFinalBytes (HighOffset names.R_LARCH_TLS_IE_PC_HI20))
 
 -- of every low half
 abbrev pub PackedLowHalves : Type 0
 PackedLowHalves =
     EachKept IsAny names.R_LARCH_TLS_IE_PC_LO12 names.R_LARCH_TLS_LE_HI20
-    (InFinalBytes LowDoesTheSame)
+    (InFinalBytes LowHalf)
 
 -- of every instruction of a TLS descriptor, which became one of local-exec or of initial-exec
 pub record PackedDescriptors : Type 0 where
   pub high : EachKept (IsKind kinds.PcalaToLu12i) names.R_LARCH_TLS_DESC_PC_HI20
-      names.R_LARCH_TLS_LE_HI20 (InFinalBytes (HighDoesTheSame names.R_LARCH_TLS_DESC_PC_HI20))
+      names.R_LARCH_TLS_LE_HI20 (InFinalBytes (HighOffset names.R_LARCH_TLS_DESC_PC_HI20))
   pub low : EachKept (IsKind kinds.LowToOri) names.R_LARCH_TLS_DESC_PC_LO12
-      names.R_LARCH_TLS_LE_HI20 (InFinalBytes LowMakesOffset)
+      names.R_LARCH_TLS_LE_HI20 (InFinalBytes (LowOfDescriptor MakesOffset))
   pub page : EachKept (IsKind kinds.NoOp) names.R_LARCH_TLS_DESC_PC_HI20
-      names.R_LARCH_TLS_LE_HI20 (InFinalBytesUnchanged PageDoesTheSame)
+      names.R_LARCH_TLS_LE_HI20 (InFinalBytesUnchanged HighEntry)
   pub entry : EachKept (IsKind kinds.AddiToLd) names.R_LARCH_TLS_DESC_PC_LO12
-      names.R_LARCH_TLS_LE_HI20 (InFinalBytesByEntry LowLoadsOffset)
-  pub load : EachNop names.R_LARCH_TLS_DESC_LD LoadDoesNothing
-  pub call : EachNop names.R_LARCH_TLS_DESC_CALL CallDoesNothing
+      names.R_LARCH_TLS_LE_HI20 (InFinalBytesByEntry (LowOfDescriptor LoadsOffset))
+  pub load : EachNop names.R_LARCH_TLS_DESC_LD LoadOfDescriptor
+  pub call : EachNop names.R_LARCH_TLS_DESC_CALL CallOfDescriptor

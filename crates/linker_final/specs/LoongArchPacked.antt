@@ -1,7 +1,7 @@
 -- LoongArch: in a section that was packed, calls go where the object's do, and addresses are made
 -- that the object's instructions make (LoongArch ELF psABI, linker relaxation).
 use Rattle.std.specs.Prelude.{◌≡◌, ℕ, ◌+◌, ◌==◌, List, [], ◌∷◌, take, drop}
-use Rattle.std.specs.Prelude.{if◌then◌else◌, Bool, false, IsSomeAnd, Some, slice_get, ◌<◌, ◌^◌}
+use Rattle.std.specs.Prelude.{if◌then◌else◌, IsSomeAnd, Some, slice_get, ◌<◌, ◌^◌}
 use Rattle.linker_elf.specs.Choices.{RowIsWithin}
 use Rattle.linker_elf.specs.ElfNames.{IsNameOf}
 use Rattle.linker_elf.specs.LoongArchRelocations.{loongarch_name, loongarch_row}
@@ -14,12 +14,15 @@ use Rattle.linker_final.specs.Packed.{Packed, AreDeleted, IsPacked, IsSiteOf, ad
 use Rattle.linker_final.specs.Packed.{StayTogether, count, place_of}
 use Rattle.linker_final.specs.Packed.{site_after, site_bytes, site_len}
 use Rattle.linker_final.specs.Packed.{site_offset, site_place, site_target}
-use Rattle.linker_laws.specs.LoongArchMachine.{AreAlikeBut, EndSo, State, read, step}
-use Rattle.linker_laws.specs.LoongArchRewriteLaws.{Fits32, HasPut, HaveCalled, HaveMade}
+use Rattle.linker_laws.specs.LoongArchGroups.{Code, Has, Stands, link, put_unless_zero, register}
+use Rattle.linker_laws.specs.LoongArchGroups.{with_unless_zero}
+use Rattle.linker_laws.specs.LoongArchMachine.{AreAlikeBut, EndSo, State}
+use Rattle.linker_laws.specs.LoongArchRewriteLaws.{Fits32, HaveCalled, HaveMade}
 use Rattle.linker_laws.specs.LoongArchRewriteLaws.{IsRelocated, IsRewritten, LoadsEntry, following}
 use Rattle.linker_laws.specs.LoongArchRewriteLaws.{no_register, pair, word_of}
 use Rattle.linker_laws.specs.Machine.{Relocated, loaded}
 use Rattle.linker_laws.specs.Schemes.{AreAddresses, entry_and_addend, plt_address, symbol_address}
+use Rattle.linker_laws.specs.Simulation.{Group, Kinds, State as state, anything, of_link}
 use Rattle.linker_utils.specs.LoongArchRewrites.{IsAddTp, IsLd, IsLu12i, rd_of, rj_of}
 use Rattle.linker_utils.specs.LoongArchRewrites.{signed_12, tp, word_at}
 use Rattle.linker_utils.specs.declared.loongarch64.rewrites.RelaxationKind.TheVariants as kinds
@@ -183,30 +186,32 @@ LongLoadedAddressesStay =
 
 -- ---- deleted instructions (thread-local storage)
 
--- The object's run executes an instruction, and the final run nothing: it is after the instruction
--- already, since that is deleted.
+-- Old is before four bytes at an offset of the section, and new where they and the next ones go.
+pub record IsBefore (p : Packed) (o : ℕ) (c : Code) (s : state) : Type 0 where
+  pub small : s.pc + 4 < 2 ^ 64
+  pub place : c.moved s.pc ≡ address_at p o
+  pub next : c.moved (s.pc + 4) ≡ address_at p (o + 4)
 
--- A `lu12i.w` of an offset from the thread pointer of 12 bits puts 0 in its register in the
--- object's run.
+-- A `lu12i.w` of an offset from the thread pointer of 12 bits is a group, of which new has nothing.
 abbrev pub HighPartIsLeftOut : Type 0
 HighPartIsLeftOut =
     (p : Packed) → IsPacked p → p.machine ≡ LoongArch64 → (o : ℕ) → AreDeleted p o 4
     → let lu12i = take 4 (drop o p.section.bytes) in
     IsLu12i (word_of lu12i) → (x : Operands) → AreAddresses x
-    → RowIsWithin (loongarch_row names.R_LARCH_TLS_LE_LO12_R) signed_12 x → (lu12i_of : List ℕ)
-    → IsRelocated names.R_LARCH_TLS_LE_HI20_R x lu12i lu12i_of
-    → (s t : State) (differing : ℕ → Bool) → AreAlikeBut differing s t → t.pc ≡ address_at p o
-    → IsSomeAnd (step (word_of lu12i_of) s)
-    (λ u. HasPut differing (rd_of (word_of lu12i)) 0 (sum_64 s.pc 4) u t
-    × (t.pc ≡ address_at p (o + 4)))
+    → RowIsWithin (loongarch_row names.R_LARCH_TLS_LE_LO12_R) signed_12 x
+    → (c : Code) (k : Kinds) (s : state) → IsBefore p o c s → s.pc ≡ x.place
+    → Has c.old names.R_LARCH_TLS_LE_HI20_R x lu12i
+    → let n = rd_of (word_of lu12i) in
+    Group (of_link (link c)) 0 k s (with_unless_zero n anything k)
+    (put_unless_zero n 0 (s.pc + 4) s)
 
--- An `add.d` of the thread pointer to that puts the thread pointer's number in its register.
+-- So is an `add.d` of the thread pointer to a register with 0.
 abbrev pub SumIsLeftOut : Type 0
 SumIsLeftOut =
     (p : Packed) → IsPacked p → p.machine ≡ LoongArch64 → (o : ℕ) → AreDeleted p o 4
     → let add = word_at p.section.bytes o in
-    IsAddTp add → (s t : State) (differing : ℕ → Bool) → AreAlikeBut differing s t
-    → t.pc ≡ address_at p o → differing tp ≡ false → read tp t < 2 ^ 64 → read (rj_of add) s ≡ 0
-    → IsSomeAnd (step add s)
-    (λ u. HasPut differing (rd_of add) (read tp t) (sum_64 s.pc 4) u t
-    × (t.pc ≡ address_at p (o + 4)))
+    IsAddTp add → (c : Code) (k : Kinds) (s : state) → IsBefore p o c s
+    → register s (rj_of add) ≡ 0 → s.registers tp < 2 ^ 64
+    → Stands c.old s.pc (drop o p.section.bytes)
+    → Group (of_link (link c)) 0 k s (with_unless_zero (rd_of add) anything k)
+    (put_unless_zero (rd_of add) (s.registers tp) (s.pc + 4) s)

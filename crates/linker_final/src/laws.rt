@@ -121,12 +121,12 @@ pub fn riscv64_global_pointer()
     linker_laws::relocations::riscv64();
 }
 
-/// LoongArch: rewritten instructions do in the final bytes what the object's do. They are each load
-/// of an address from the GOT that became a sum of its page and the rest, each half of initial-exec
-/// that became a half of local-exec, each instruction of a TLS descriptor that became one of
-/// local-exec or of initial-exec, and each low part of local-exec over the thread pointer, also
-/// where instructions before it are deleted then. All but the loads do the same wherever a linker
-/// applies their relocations, as in a section that it packs first.
+/// LoongArch: rewritten instructions are groups in the final bytes. They are each load of an
+/// address from the GOT that became a sum of its page and the rest, each half of initial-exec that
+/// became a half of local-exec, each instruction of a TLS descriptor that became one of local-exec
+/// or of initial-exec, and each low part of local-exec over the thread pointer, also where
+/// instructions before it are deleted then. All but the loads are groups wherever a linker applies
+/// their relocations, as in a section that it packs first.
 pub fn loongarch64()
     ensures got_loads { loongarch64_final.GotLoads }
     ensures high_halves { loongarch64_final.HighHalves }
@@ -138,7 +138,7 @@ pub fn loongarch64()
     ensures low_halves_anywhere { loongarch64_final.LowHalvesAnywhere }
     ensures descriptors_anywhere { loongarch64_final.DescriptorsAnywhere }
 {
-    linker_laws::rewrites::loongarch64();
+    linker_laws::simulation::loongarch64();
 }
 
 /// PowerPC64: rewritten instructions do in the final bytes what the object's do. They are each

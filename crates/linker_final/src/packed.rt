@@ -242,9 +242,8 @@ pub fn joined_riscv64()
 /// `addi.d`, is that where its target goes, as the object's instructions do in their own layout. So
 /// is one that the object loaded from the GOT. The same holds of calls and addresses that stay as
 /// they are, by the values of their relocations. Branches go where their relocation's formula says.
-/// Where a `lu12i.w` of 12 bits or an `add.d` of the
-/// thread pointer is deleted, the object's run executes it, and the final run does nothing: it is
-/// after it already.
+/// A `lu12i.w` of 12 bits or an `add.d` of the thread pointer that is deleted is a group, of which
+/// new has nothing.
 pub fn shorter_loongarch64()
     ensures calls { loongarch_packed.CallsTheSame }
     ensures addresses { loongarch_packed.AddressesAreMade }
@@ -257,19 +256,19 @@ pub fn shorter_loongarch64()
     ensures branches { LoongArchBranchesGo }
 {
     linker_laws::relocations::loongarch64();
-    linker_laws::rewrites::loongarch64();
+    linker_laws::simulation::loongarch64();
 }
 
-/// LoongArch: what was rewritten before the section was packed, and stays, does in the final bytes
-/// what the object's instruction does, each with the value of its relocation in its own layout. It
-/// is each low part of local-exec that is over the thread pointer, each half of initial-exec that
-/// became one of local-exec, and each instruction of a TLS descriptor that became one of local-exec
-/// or of initial-exec. What became `nop` does nothing.
+/// LoongArch: what was rewritten before the section was packed, and stays, is a group in the final
+/// bytes, each with the value of its relocation in its own layout. It is each low part of
+/// local-exec that is over the thread pointer, each half of initial-exec that became one of
+/// local-exec, and each instruction of a TLS descriptor that became one of local-exec or of
+/// initial-exec. What became `nop` is one.
 pub fn joined_loongarch64()
     ensures low_parts { loongarch_joined.PackedLowParts }
     ensures high_halves { loongarch_joined.PackedHighHalves }
     ensures low_halves { loongarch_joined.PackedLowHalves }
     ensures descriptors { loongarch_joined.PackedDescriptors }
 {
-    linker_laws::rewrites::loongarch64();
+    linker_laws::simulation::loongarch64();
 }

@@ -20,6 +20,8 @@ pub mod Fields
 pub mod Instructions
 pub mod LoongArchAddresses
 pub mod LoongArchCalls
+pub mod LoongArchGroups
+pub mod LoongArchGroupsWorked
 pub mod LoongArchHalves
 pub mod LoongArchOffsets
 pub mod LoongArchPairs

@@ -1,13 +1,13 @@
 -- Steps of LoongArch's instructions.
-use Rattle.std.proofs.Common.{◌≡◌, ◌≢◌, ℕ, Bool, true, false, refl, sym, ◌∙◌, ap}
-use Rattle.std.proofs.Common.{subst, List, [], ◌∷◌, eqb, cond, ℤ, pos, ◌+ℤ◌, Some}
+use Rattle.std.proofs.Common.{◌≡◌, ◌≢◌, ℕ, refl, sym, ◌∙◌, ap}
+use Rattle.std.proofs.Common.{subst, List, [], ◌∷◌, eqb, ℤ, pos, ◌+ℤ◌, Some}
 use Rattle.std.proofs.Common.{None}
 use Rattle.std.specs.Prelude.{IsSomeAnd}
 use Rattle.std.proofs.lemmas.Bool.{eq-eqb, ne_eqb, cond-true, cond-false}
 use Rattle.linker_base.specs.Bits.{field, signed}
 use Rattle.linker_utils.specs.LoongArchRewrites.{rd_of, rj_of}
 use Rattle.linker_laws.specs.Machine.{wrapped, loaded}
-use Rattle.linker_laws.specs.LoongArchMachine.{State, step, run, decode, read, write, with_register, go_on, next_pc, continue, execute, EndSo, AreAlikeBut, pcalau_12, pcadd_2, lu12i_w, sums, adds, loads, page_address, near_address, high_part, sum_of}
+use Rattle.linker_laws.specs.LoongArchMachine.{State, step, run, decode, read, write, with_register, go_on, next_pc, continue, execute, EndSo, pcalau_12, pcadd_2, sums, adds, loads, page_address, near_address, sum_of}
 use Rattle.linker_laws.proofs.AArch64Steps.{in_two_steps}
 
 -- ---- one instruction
@@ -26,9 +26,6 @@ step_page x n s is rd named = ap (λ c. execute c x s) is ∙ written n (rd_of x
 
 pub step_near : (x n : ℕ) (s : State) → decode x ≡ pcadd_2 → rd_of x ≡ n → n ≢ 0 → step x s ≡ Some (set n (near_address x s) s)
 step_near x n s is rd named = ap (λ c. execute c x s) is ∙ written n (rd_of x) _ s rd named
-
-pub step_high : (x n : ℕ) (s : State) → decode x ≡ lu12i_w → rd_of x ≡ n → n ≢ 0 → step x s ≡ Some (set n (high_part x) s)
-step_high x n s is rd named = ap (λ c. execute c x s) is ∙ written n (rd_of x) _ s rd named
 
 -- `addi.d` and `ld.d`
 pub step_sum : (x n : ℕ) (s : State) → decode x ≡ sums adds → rd_of x ≡ n → n ≢ 0 → step x s ≡ Some (set n (sum_of x s) s)
@@ -58,38 +55,9 @@ ends_so old new s t u v P first second holds =
     subst (λ r. IsSomeAnd r (λ u. IsSomeAnd (run new t) (λ v. P u v))) (sym first)
     (subst (λ r. IsSomeAnd r (λ v. P u v)) (sym second) holds)
 
--- A register that is written twice holds what was written last.
-last_counts : (b c : Bool) (u v u2 v2 r : ℕ) → v ≡ v2 → cond c 0 (cond b v (cond b u r)) ≡ cond c 0 (cond b v2 (cond b u2 r))
-last_counts b true u v u2 v2 r e = refl
-last_counts true false u v u2 v2 r e = e
-last_counts false false u v u2 v2 r e = refl
-
-pub alike_twice : (n u v u2 v2 : ℕ) (s : State) → v ≡ v2 → AreAlikeBut (λ _. false) (set n v (set n u s)) (set n v2 (set n u2 s))
-alike_twice n u v u2 v2 s same =
-    record {
-      registers = λ m any. last_counts (eqb m n) (eqb m 0) u v u2 v2 (s.registers m) same;
-      floats = refl;
-      memory = refl;
-    }
-
--- of two states that are alike, where one writes twice and the other once
-others_count : (b c : Bool) (u v v2 r q : ℕ) → b ≡ false → cond c 0 r ≡ cond c 0 q → cond c 0 (cond b v (cond b u r)) ≡ cond c 0 (cond b v2 q)
-others_count true c u v v2 r q n e = cc
-others_count false c u v v2 r q n e = e
-
-pub alike_others : (n u v v2 : ℕ) (s t : State) → AreAlikeBut (λ _. false) s t → AreAlikeBut (λ m. eqb m n) (set n v (set n u s)) (set n v2 t)
-alike_others n u v v2 s t alike =
-    record {
-      registers = λ m other. others_count (eqb m n) (eqb m 0) u v v2 (s.registers m) (t.registers m) other (alike.registers m refl);
-      floats = alike.floats;
-      memory = alike.memory;
-    }
-
 -- ---- sums of a pair
 
 pub sum_is : (y n : ℕ) (a : ℤ) (s : State) → rj_of y ≡ n → n ≢ 0 → sum_of y (set n (wrapped a) s) ≡ wrapped (a +ℤ signed 12 (field y 10 22))
 sum_is y n a s rj named =
     ap (λ v. wrapped (pos v +ℤ signed 12 (field y 10 22))) (read_back n (wrapped a) (rj_of y) s rj named)
     ∙ in_two_steps a (signed 12 (field y 10 22))
-
--- ---- `lu12i.w` and `ori`

@@ -7,6 +7,8 @@ pub mod AArch64Worked
 pub mod Chains
 pub mod Changes
 pub mod Differences
+pub mod LoongArchGroups
+pub mod LoongArchGroupsWorked
 pub mod LoongArchMachine
 pub mod LoongArchRelocationLaws
 pub mod LoongArchRewriteLaws

@@ -1,7 +1,7 @@
 -- LoongArch: what the instructions of the rewrites do (LoongArch Reference Manual, volume 1). Any
 -- address can be read and written, and code is apart from memory.
-use Rattle.std.specs.Prelude.{ℕ, pos, ◌+ℤ◌, ◌*ℤ◌, ◌*◌, ◌/◌, ◌%◌, ◌^◌, ◌==◌, ◌&&◌, not, List, []}
-use Rattle.std.specs.Prelude.{◌∷◌, Option, Some, None, IsSomeAnd, ◌≡◌, Bool, true, false, bit_or}
+use Rattle.std.specs.Prelude.{ℕ, pos, ◌+ℤ◌, ◌*ℤ◌, ◌*◌, ◌/◌, ◌%◌, ◌^◌, ◌==◌, List, []}
+use Rattle.std.specs.Prelude.{◌∷◌, Option, Some, None, IsSomeAnd, ◌≡◌, Bool, false, bit_or}
 use Rattle.std.specs.Prelude.{bit_and, if◌then◌else◌}
 use Rattle.linker_base.specs.Bits.{field, signed}
 use Rattle.linker_elf.specs.LoongArch.{loongarch_form, pcalau12i}
@@ -100,14 +100,6 @@ action_of opcode =
     if opcode == 0x0b0 then loads_float 16 else (
     if opcode == 0x0b1 then stores_float 16 else (
     if opcode == 0x0b2 then loads_float 32 else stores_float 32))))))))))))))))))))
-
--- whether an integer register is written
-abbrev pub writes_register : Action → Bool
-writes_register adds = true
-writes_register adds_word = true
-writes_register (loads n) = true
-writes_register (loads_signed n) = true
-writes_register action = false
 
 -- what is done with a sum and register r
 abbrev pub used : Action → ℕ → ℕ → State → State
@@ -234,10 +226,6 @@ pub record AreAlikeBut (differing : ℕ → Bool) (s t : State) : Type 0 where
   pub registers : (n : ℕ) → differing n ≡ false → read n s ≡ read n t
   pub floats : s.floats ≡ t.floats
   pub memory : s.memory ≡ t.memory
-
--- registers that differ, but for one that an instruction writes
-abbrev pub but_written : (ℕ → Bool) → Action → ℕ → ℕ → Bool
-but_written differing action r n = differing n && not (writes_register action && n == r)
 
 -- The old code runs from one state and the new code from another, and P holds of the ends.
 abbrev pub EndSo : List ℕ → State → List ℕ → State → (State → State → Type 0) → Type 0

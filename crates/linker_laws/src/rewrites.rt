@@ -8,7 +8,6 @@
 
 ghost use Rattle.linker_laws.specs.AArch64RewriteLaws as aarch64_laws;
 ghost use Rattle.linker_laws.specs.AArch64Worked as aarch64_worked;
-ghost use Rattle.linker_laws.specs.LoongArchRewriteLaws as loongarch_laws;
 ghost use Rattle.linker_laws.specs.Ppc64RewriteLaws as ppc64_laws;
 ghost use Rattle.linker_laws.specs.RiscVExamples as riscv_examples;
 ghost use Rattle.linker_laws.specs.X86Examples as x86_examples;
@@ -46,19 +45,6 @@ pub fn riscv64()
     ensures execution { riscv_examples.Execution }
     ensures sequences { riscv_examples.Sequences }
 {}
-
-/// LoongArch: the address of a symbol without its GOT entry, or by `pcaddi`, and so that of a GOT
-/// entry for general- or local-dynamic; the offset of a variable from the thread pointer in the
-/// instructions, in one of them, or by its GOT entry in place of a descriptor's function; loads,
-/// stores and additions over the thread pointer; a call by `b` or `bl`. Each instruction of
-/// initial-exec, of local-exec and of a descriptor has a law of its own, of two runs, whatever
-/// stands between them. There, and where an instruction is deleted, the code before and after the
-/// rewrite may stand at different addresses, each with its relocations applied.
-pub fn loongarch64()
-    ensures laws { loongarch_laws.Laws }
-{
-    crate::relocations::loongarch64();
-}
 
 /// x86-64: with no prefix, with REX, REX2 and EVEX, an instruction that takes an address or an
 /// offset from the GOT, and what a rewrite leaves of it, take every state to the same state. The

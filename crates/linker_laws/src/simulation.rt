@@ -7,6 +7,8 @@
 ghost use Rattle.linker_laws.specs.AArch64Groups as aarch64_groups;
 ghost use Rattle.linker_laws.specs.AArch64GroupsWorked as aarch64_worked;
 ghost use Rattle.linker_laws.specs.Chains as chains;
+ghost use Rattle.linker_laws.specs.LoongArchGroups as loongarch_groups;
+ghost use Rattle.linker_laws.specs.LoongArchGroupsWorked as loongarch_worked;
 ghost use Rattle.linker_laws.specs.RiscVGroups as riscv_groups;
 ghost use Rattle.linker_laws.specs.RiscVGroupsWorked as riscv_worked;
 ghost use Rattle.linker_laws.specs.Simulation as simulation;
@@ -63,4 +65,22 @@ pub fn riscv64_worked()
     ensures worked { riscv_worked.IsWorked }
 {
     riscv64();
+}
+
+/// LoongArch: rewritten instructions are groups, whatever the machine's other instructions do, and
+/// code gets shorter: addresses by two instructions, each instruction of initial-exec, of
+/// local-exec and of a TLS descriptor, whatever stands between them, and calls that become
+/// branches.
+pub fn loongarch64()
+    ensures groups { loongarch_groups.Groups }
+{
+    crate::relocations::loongarch64();
+}
+
+/// LoongArch: a program with four groups, of which every premise holds. Both of its runs are
+/// computed to the end.
+pub fn loongarch64_worked()
+    ensures worked { loongarch_worked.IsWorked }
+{
+    loongarch64();
 }

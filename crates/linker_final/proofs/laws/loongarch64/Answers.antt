@@ -5,15 +5,15 @@ use Rattle.linker_final.proofs.laws.loongarch64.Goals as goal
 
 pub returns : goal.returns
 returns c =
-    let laws = c.loongarch64.ensures.laws in
+    let groups = c.loongarch64.ensures.groups in
     record {
-      got_loads = got_loads laws;
-      high_halves = high_halves laws;
-      low_halves = low_halves laws;
-      descriptors = descriptors laws;
-      low_parts = low_parts laws;
-      moved_low_parts = moved_low_parts laws;
-      high_halves_anywhere = high_halves_anywhere laws;
-      low_halves_anywhere = low_halves_anywhere laws;
-      descriptors_anywhere = descriptors_anywhere laws;
+      got_loads = got_loads groups;
+      high_halves = high_halves groups;
+      low_halves = low_halves groups;
+      descriptors = descriptors groups;
+      low_parts = low_parts groups;
+      moved_low_parts = moved_low_parts groups;
+      high_halves_anywhere = high_halves_anywhere groups;
+      low_halves_anywhere = low_halves_anywhere groups;
+      descriptors_anywhere = descriptors_anywhere groups;
     }

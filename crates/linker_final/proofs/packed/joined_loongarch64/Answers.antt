@@ -3,10 +3,10 @@ use Rattle.linker_final.proofs.packed.joined_loongarch64.Goals as goal
 
 pub returns : goal.returns
 returns c =
-    let laws = c.loongarch64.ensures.laws in
+    let groups = c.loongarch64.ensures.groups in
     record {
-      low_parts = packed_low_parts laws;
-      high_halves = packed_high_halves laws;
-      low_halves = packed_low_halves laws;
-      descriptors = packed_descriptors laws;
+      low_parts = packed_low_parts groups;
+      high_halves = packed_high_halves groups;
+      low_halves = packed_low_halves groups;
+      descriptors = packed_descriptors groups;
     }

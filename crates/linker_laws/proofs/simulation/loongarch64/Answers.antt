@@ -1,0 +1,29 @@
+use Rattle.linker_laws.proofs.LoongArchGroups as proofs
+use Rattle.linker_laws.proofs.simulation.loongarch64.Goals as goal
+
+pub returns : goal.returns
+returns c =
+    let laws = c.loongarch64.ensures in
+    record {
+      groups = record {
+        got = proofs.are_loads laws.relative;
+        near_got = proofs.are_near_loads laws.relative laws.branches;
+        address = proofs.are_near_sums laws.relative laws.branches;
+        near_entries = proofs.are_near_entries laws.relative laws.branches;
+        high_halves = proofs.are_high_halves;
+        no_high_halves = proofs.are_no_high_halves;
+        low_halves = proofs.are_low_halves;
+        short_low_halves = proofs.are_short_low_halves;
+        descriptor_high_halves = proofs.are_descriptor_high_halves;
+        descriptor_entries = proofs.are_descriptor_pages;
+        descriptor_low_halves = proofs.are_descriptor_low_halves;
+        descriptor_entry_loads = proofs.are_descriptor_entry_loads;
+        descriptor_loads = proofs.are_descriptor_loads;
+        descriptor_calls = proofs.are_descriptor_calls;
+        high_offsets = proofs.are_high_offsets;
+        sums = proofs.are_sums;
+        low_offsets = proofs.are_low_offsets;
+        calls = proofs.are_calls laws.calls laws.branches;
+        others = proofs.are_others;
+      };
+    }

@@ -1,0 +1,78 @@
+-- A program of LoongArch with groups, of which every premise holds, and both runs computed to the
+-- end.
+use Rattle.std.specs.Prelude.{◌≡◌, ℕ, ◌-◌, ◌/◌, ◌%◌, ◌^◌, nat_lt, nat_le, ◌&&◌, Bool}
+use Rattle.std.specs.Prelude.{if◌then◌else◌, List, [], ◌∷◌, None, IsSomeAnd, slice_get, min}
+use Rattle.std.specs.Option.{unwrap_or}
+use Rattle.linker_laws.specs.LoongArchGroups.{Code, link, machine}
+use Rattle.linker_laws.specs.Simulation.{State, Kinds, Agree, Covered, Stops, of_link, run, same}
+use Rattle.linker_laws.specs.SimulationWorked.{of_byte}
+
+-- words from 0x10000 on, by their bytes
+abbrev pub words : List ℕ → ℕ → ℕ
+words code a =
+    let i = a - 0x10000 in
+    unwrap_or (slice_get code (i / 4)) 0 / 256 ^ (i % 4) % 256
+
+-- No instruction is at the end.
+abbrev pub old : List ℕ
+old =
+    0x1a000064  -- pcalau12i a0, 3
+    ∷ 0x02c48084  -- addi.d a0, a0, 0x120
+    ∷ 0x14000005  -- lu12i.w a1, 0
+    ∷ 0x1a000046  -- pcalau12i a2, 2
+    ∷ 0x28c040c7  -- ld.d a3, a2, 0x10
+    ∷ []
+
+-- without the `addi.d` and the `lu12i.w` of a1
+abbrev pub new : List ℕ
+new =
+    0x18018904  -- pcaddi a0, 0xc48
+    ∷ 0x14000a86  -- lu12i.w a2, 0x54
+    ∷ 0x038d10c7  -- ori a3, a2, 0x344
+    ∷ []
+
+-- less the deleted bytes before it
+abbrev pub moved : ℕ → ℕ
+moved a = if nat_lt a 0x10018 then a - min 8 (a - 0x10004) else a
+
+-- no other instruction
+abbrev pub code : Code
+code =
+    record {
+      processor = record { others = λ word s. None; widened = λ n before number. number };
+      old = words old;
+      new = words new;
+      moved = moved;
+      old_half = λ h. 0x12000;
+      new_half = λ h. 0x54000;
+    }
+
+-- of the entry at 0x12010, which has the offset
+abbrev pub is_entry : ℕ → Bool
+is_entry a = nat_le 0x12010 a && nat_lt a 0x12018
+
+abbrev pub starting : State
+starting =
+    record {
+      pc = 0x10000;
+      registers = λ r. r;
+      memory = λ a. if is_entry a then 0x54344 / 256 ^ (a - 0x12010) % 256 else 0;
+      outside = λ n. 0;
+    }
+
+abbrev pub known : Kinds
+known = record { registers = λ r. same; memory = λ a. of_byte same }
+
+-- Four groups are 5 instructions of old, and 3 of new.
+pub record IsWorked : Type 0 where
+  pub kinds : Kinds
+  pub state : State
+  pub agree : Agree (link code) known starting starting
+  pub covered : Covered (of_link (link code)) 4 3 known starting kinds state
+  pub stops : Stops (of_link (link code)) kinds state
+  pub old_ends :
+      IsSomeAnd (run 5 (machine code.processor (words old)) starting)
+      (λ s. (s.pc ≡ 0x10014) × (s.registers 4 ≡ 0x13120) × (s.registers 7 ≡ 0x54344))
+  pub new_ends :
+      IsSomeAnd (run 3 (machine code.processor (words new)) starting)
+      (λ s. (s.pc ≡ 0x1000c) × (s.registers 4 ≡ 0x13120) × (s.registers 7 ≡ 0x54344))
