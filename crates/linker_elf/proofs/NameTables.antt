@@ -1,9 +1,13 @@
--- Each name but `Other` has the code and the text that stand at its index: by computation, name by
--- name.
-use Rattle.std.proofs.Common.{◌≡◌, ℕ, [], ap, refl, slice_index_or}
+-- Each name but `Other` has the code and the text that stand at its index, and stands at its code:
+-- by computation, name by name.
+use Rattle.std.proofs.Common.{◌≡◌, ◌∙◌, ◌+◌, ◌-◌, ◌%◌, ◌^◌, ◌<◌, ◌≤◌, ℕ, List, [], ◌∷◌, length, map, get_or, slice_get, slice_index_or, inl, inr, refl, sym, ap, subst, lit≤, arith}
 use denote.Enum.Declared.{tag_of}
-use Rattle.std.specs.Prelude.{map}
-use Rattle.linker_elf.specs.ElfNames.{code_of, text_of}
+use Rattle.std.specs.List.{range_with_len}
+use Rattle.std.specs.Option.{unwrap_or}
+use Rattle.std.proofs.lemmas.List.{get_or-map}
+use Rattle.std.proofs.lemmas.List.FromFn.{get_or-range_with_len}
+use Rattle.std.proofs.lemmas.Option.{slice_get_cases}
+use Rattle.linker_elf.specs.ElfNames.{ElfName, code_of, text_of, IsNamed, IsNameOf}
 use Rattle.linker_elf.specs.AArch64Relocations.{aarch64_name}
 use Rattle.linker_elf.specs.contracts.aarch64.relocations.AArch64Relocation as aarch64
 use Rattle.linker_elf.specs.declared.aarch64.relocations.TheConstants as aarch64_table
@@ -79,3 +83,87 @@ pub x86_64_texts : (name : X86_64Relocation) (i : ℕ) → ((code : ℕ) → nam
     → slice_index_or (map (λ text. text.now) x86_64_table.TEXTS.now) i [] ≡ text_of (x86_64_name name)
 x86_64_texts (x86_64_names.Other code) i isnt is = absurd (isnt code refl)
 x86_64_texts name i isnt is = ap (λ k. slice_index_or (map (λ text. text.now) x86_64_table.TEXTS.now) k []) is
+
+-- ---- names by codes
+
+-- the name at a code in the parts of a table, each of which begins at a code
+abbrev found : {N : Type 0} → List ℕ → List (List N) → N → ℕ → N
+found (first ∷ firsts) (names ∷ parts) other code =
+    unwrap_or (slice_get names ((code + (2 ^ 32 - first)) % 2 ^ 32)) (found firsts parts other code)
+found firsts parts other code = other
+
+-- each name of the parts has the code of its place
+abbrev AreInPlace : {N : Type 0} → (N → ℕ) → List ℕ → List (List N) → Type 0
+AreInPlace code_in (first ∷ firsts) (names ∷ parts) =
+    (map code_in names ≡ range_with_len first (length names))
+    × ((first + length names ≤ 2 ^ 32) × AreInPlace code_in firsts parts)
+AreInPlace code_in firsts parts = Unit
+
+code_found : {N : Type 0} (code_in : N → ℕ) (firsts : List ℕ) (parts : List (List N)) (other : N) (code : ℕ)
+    → AreInPlace code_in firsts parts → code < 2 ^ 32 → code_in other ≡ code → code_in (found firsts parts other code) ≡ code
+code_found code_in [] parts other code placed small is = is
+code_found code_in (first ∷ firsts) [] other code placed small is = is
+code_found code_in (first ∷ firsts) (names ∷ parts) other code placed small is =
+    let i = (code + (2 ^ 32 - first)) % 2 ^ 32 in
+    let rest = found firsts parts other code in
+    elim (slice_get_cases names i).1 [
+      | inl (name, within, is_at, read) ↦
+          ap (λ n. code_in (unwrap_or n rest)) is_at
+          ∙ (sym (get_or-map code_in names i name (code_in name) within ∙ ap code_in read)
+          ∙ (ap (λ xs. get_or xs i (code_in name)) (placed.0)
+          ∙ (get_or-range_with_len first (length names) i (code_in name) within ∙ omega (arith, placed.1.0))))
+      | inr (beyond, none) ↦
+          ap (λ n. code_in (unwrap_or n rest)) none
+          ∙ code_found code_in firsts parts other code (placed.1.1) small is
+    ]
+
+-- it is the name of the code, if each name with a text is at its code
+is_name : {N : Type 0} (elf : N → ElfName) (firsts : List ℕ) (parts : List (List N)) (other : N) (code : ℕ)
+    → AreInPlace (λ name. code_of (elf name)) firsts parts
+    → ((name : N) → IsNamed (elf name) → found firsts parts other (code_of (elf name)) ≡ name)
+    → code < 2 ^ 32 → code_of (elf other) ≡ code → IsNameOf elf code (found firsts parts other code)
+is_name elf firsts parts other code placed there small is =
+    record {
+      code_is = code_found (λ name. code_of (elf name)) firsts parts other code placed small is;
+      named = λ name named same. subst (λ k. found firsts parts other k ≡ name) same (there name named);
+    }
+
+pub aarch64_is_name : (code : ℕ) → code < 2 ^ 32
+    → IsNameOf aarch64_name code (found (0 ∷ 257 ∷ 512 ∷ []) (map (λ names. names.now) aarch64_table.NAMES.now) (aarch64_names.Other code) code)
+aarch64_is_name code small =
+    is_name aarch64_name (0 ∷ 257 ∷ 512 ∷ []) (map (λ names. names.now) aarch64_table.NAMES.now) (aarch64_names.Other code) code (refl, (lit≤ tt, (refl, (lit≤ tt, (refl, (lit≤ tt, tt)))))) there small refl
+  where
+    there : (name : AArch64Relocation) → IsNamed (aarch64_name name)
+        → found (0 ∷ 257 ∷ 512 ∷ []) (map (λ names. names.now) aarch64_table.NAMES.now) (aarch64_names.Other code) (code_of (aarch64_name name)) ≡ name
+    there (aarch64_names.Other other) named = absurd named
+    there name named = refl
+
+pub riscv_is_name : (code : ℕ) → code < 2 ^ 32
+    → IsNameOf riscv_name code (found (0 ∷ []) (map (λ names. names.now) riscv64_table.NAMES.now) (riscv64_names.Other code) code)
+riscv_is_name code small =
+    is_name riscv_name (0 ∷ []) (map (λ names. names.now) riscv64_table.NAMES.now) (riscv64_names.Other code) code (refl, (lit≤ tt, tt)) there small refl
+  where
+    there : (name : RiscVRelocation) → IsNamed (riscv_name name)
+        → found (0 ∷ []) (map (λ names. names.now) riscv64_table.NAMES.now) (riscv64_names.Other code) (code_of (riscv_name name)) ≡ name
+    there (riscv64_names.Other other) named = absurd named
+    there name named = refl
+
+pub loongarch_is_name : (code : ℕ) → code < 2 ^ 32
+    → IsNameOf loongarch_name code (found (0 ∷ []) (map (λ names. names.now) loongarch64_table.NAMES.now) (loongarch64_names.Other code) code)
+loongarch_is_name code small =
+    is_name loongarch_name (0 ∷ []) (map (λ names. names.now) loongarch64_table.NAMES.now) (loongarch64_names.Other code) code (refl, (lit≤ tt, tt)) there small refl
+  where
+    there : (name : LoongArch64Relocation) → IsNamed (loongarch_name name)
+        → found (0 ∷ []) (map (λ names. names.now) loongarch64_table.NAMES.now) (loongarch64_names.Other code) (code_of (loongarch_name name)) ≡ name
+    there (loongarch64_names.Other other) named = absurd named
+    there name named = refl
+
+pub ppc64_is_name : (code : ℕ) → code < 2 ^ 32
+    → IsNameOf ppc64_name code (found (0 ∷ 249 ∷ []) (map (λ names. names.now) ppc64_table.NAMES.now) (ppc64_names.Other code) code)
+ppc64_is_name code small =
+    is_name ppc64_name (0 ∷ 249 ∷ []) (map (λ names. names.now) ppc64_table.NAMES.now) (ppc64_names.Other code) code (refl, (lit≤ tt, (refl, (lit≤ tt, tt)))) there small refl
+  where
+    there : (name : Ppc64Relocation) → IsNamed (ppc64_name name)
+        → found (0 ∷ 249 ∷ []) (map (λ names. names.now) ppc64_table.NAMES.now) (ppc64_names.Other code) (code_of (ppc64_name name)) ≡ name
+    there (ppc64_names.Other other) named = absurd named
+    there name named = refl

@@ -1,6 +1,6 @@
 -- Each entry of a table of rows is the row of its name, with what a write of it tests and with its
 -- numbers: by computation, name by name.
-use Rattle.std.proofs.Common.{◌≡◌, refl, subst, sym, slice_index_or, ap, Option, Some, None, IfSome, Bool, true, false, if◌then◌else◌}
+use Rattle.std.proofs.Common.{◌≡◌, ℕ, List, refl, subst, sym, slice_index_or, ap, Option, Some, None, IfSome, Bool, true, false, if◌then◌else◌}
 use denote.Enum.Declared.{tag_of}
 use Rattle.linker_elf.specs.Agrees.{RowFits}
 use Rattle.linker_elf.specs.Rows.{raw_row}
@@ -33,51 +33,55 @@ use Rattle.linker_elf.specs.declared.x86_64.relocations.TheConstants as x86_64_t
 use Rattle.linker_elf.specs.declared.x86_64.relocations.X86_64Relocation.{X86_64Relocation}
 use Rattle.linker_elf.specs.declared.x86_64.relocations.X86_64Relocation.TheVariants.{R_X86_64_NONE}
 
-pub aarch64_rows : (name : AArch64Relocation)
-    → IsEntryOf (aarch64_row name) (slice_index_or aarch64_table.ROWS.now (tag_of aarch64.the_type name) None)
-aarch64_rows R_AARCH64_NONE = record { row_is = refl; entry_is = refl }
-aarch64_rows name = record { row_is = refl; entry_is = refl }
+entry_at : {row : Option RelocationKindInfo} (table : List (Option TableRow)) (i t : ℕ) → i ≡ t
+    → IsEntryOf row (slice_index_or table t None) → IsEntryOf row (slice_index_or table i None)
+entry_at {row} table i t is entry = subst (λ k. IsEntryOf row (slice_index_or table k None)) (sym is) entry
 
-pub riscv_rows : (name : RiscVRelocation)
-    → IsEntryOf ((riscv_relocation name).row) (slice_index_or riscv64_table.ROWS.now (tag_of riscv64.the_type name) None)
-riscv_rows R_RISCV_NONE = record { row_is = refl; entry_is = refl }
-riscv_rows name = record { row_is = refl; entry_is = refl }
+pub aarch64_rows : (name : AArch64Relocation) (i : ℕ) → i ≡ tag_of aarch64.the_type name
+    → IsEntryOf (aarch64_row name) (slice_index_or aarch64_table.ROWS.now i None)
+aarch64_rows R_AARCH64_NONE i is = entry_at aarch64_table.ROWS.now i _ is (record { row_is = refl; entry_is = refl })
+aarch64_rows name i is = entry_at aarch64_table.ROWS.now i _ is (record { row_is = refl; entry_is = refl })
 
-pub riscv_raw_rows : (name : RiscVRelocation)
-    → raw_info_in (slice_index_or riscv64_table.ROWS.now (tag_of riscv64.the_type name) None) ≡ riscv_row name
-riscv_raw_rows R_RISCV_NONE = refl
-riscv_raw_rows name = refl
+pub riscv_rows : (name : RiscVRelocation) (i : ℕ) → i ≡ tag_of riscv64.the_type name
+    → IsEntryOf ((riscv_relocation name).row) (slice_index_or riscv64_table.ROWS.now i None)
+riscv_rows R_RISCV_NONE i is = entry_at riscv64_table.ROWS.now i _ is (record { row_is = refl; entry_is = refl })
+riscv_rows name i is = entry_at riscv64_table.ROWS.now i _ is (record { row_is = refl; entry_is = refl })
 
-pub loongarch_rows : (name : LoongArch64Relocation)
-    → IsEntryOf (loongarch_row name) (slice_index_or loongarch64_table.ROWS.now (tag_of loongarch64.the_type name) None)
-loongarch_rows R_LARCH_NONE = record { row_is = refl; entry_is = refl }
-loongarch_rows name = record { row_is = refl; entry_is = refl }
+pub riscv_raw_rows : (name : RiscVRelocation) (i : ℕ) → i ≡ tag_of riscv64.the_type name
+    → raw_info_in (slice_index_or riscv64_table.ROWS.now i None) ≡ riscv_row name
+riscv_raw_rows R_RISCV_NONE i is = ap (λ k. raw_info_in (slice_index_or riscv64_table.ROWS.now k None)) is
+riscv_raw_rows name i is = ap (λ k. raw_info_in (slice_index_or riscv64_table.ROWS.now k None)) is
 
-pub loongarch_raw_rows : (name : LoongArch64Relocation)
-    → with_raw_kind (raw_info_in (slice_index_or loongarch64_table.ROWS.now (tag_of loongarch64.the_type name) None))
+pub loongarch_rows : (name : LoongArch64Relocation) (i : ℕ) → i ≡ tag_of loongarch64.the_type name
+    → IsEntryOf (loongarch_row name) (slice_index_or loongarch64_table.ROWS.now i None)
+loongarch_rows R_LARCH_NONE i is = entry_at loongarch64_table.ROWS.now i _ is (record { row_is = refl; entry_is = refl })
+loongarch_rows name i is = entry_at loongarch64_table.ROWS.now i _ is (record { row_is = refl; entry_is = refl })
+
+pub loongarch_raw_rows : (name : LoongArch64Relocation) (i : ℕ) → i ≡ tag_of loongarch64.the_type name
+    → with_raw_kind (raw_info_in (slice_index_or loongarch64_table.ROWS.now i None))
     ≡ loongarch_raw_row name
-loongarch_raw_rows R_LARCH_NONE = refl
-loongarch_raw_rows name = refl
+loongarch_raw_rows R_LARCH_NONE i is = ap (λ k. with_raw_kind (raw_info_in (slice_index_or loongarch64_table.ROWS.now k None))) is
+loongarch_raw_rows name i is = ap (λ k. with_raw_kind (raw_info_in (slice_index_or loongarch64_table.ROWS.now k None))) is
 
-pub ppc64_rows : (name : Ppc64Relocation)
-    → IsEntryOf (ppc64_row name) (slice_index_or ppc64_table.ROWS.now (tag_of ppc64.the_type name) None)
-ppc64_rows R_PPC64_NONE = record { row_is = refl; entry_is = refl }
-ppc64_rows name = record { row_is = refl; entry_is = refl }
+pub ppc64_rows : (name : Ppc64Relocation) (i : ℕ) → i ≡ tag_of ppc64.the_type name
+    → IsEntryOf (ppc64_row name) (slice_index_or ppc64_table.ROWS.now i None)
+ppc64_rows R_PPC64_NONE i is = entry_at ppc64_table.ROWS.now i _ is (record { row_is = refl; entry_is = refl })
+ppc64_rows name i is = entry_at ppc64_table.ROWS.now i _ is (record { row_is = refl; entry_is = refl })
 
-pub ppc64_raw_rows : (name : Ppc64Relocation)
-    → raw_info_in (slice_index_or ppc64_table.ROWS.now (tag_of ppc64.the_type name) None) ≡ raw_row (ppc64_relocation name)
-ppc64_raw_rows R_PPC64_NONE = refl
-ppc64_raw_rows name = refl
+pub ppc64_raw_rows : (name : Ppc64Relocation) (i : ℕ) → i ≡ tag_of ppc64.the_type name
+    → raw_info_in (slice_index_or ppc64_table.ROWS.now i None) ≡ raw_row (ppc64_relocation name)
+ppc64_raw_rows R_PPC64_NONE i is = ap (λ k. raw_info_in (slice_index_or ppc64_table.ROWS.now k None)) is
+ppc64_raw_rows name i is = ap (λ k. raw_info_in (slice_index_or ppc64_table.ROWS.now k None)) is
 
-pub x86_64_rows : (name : X86_64Relocation)
-    → IsEntryOf (x86_64_row name) (slice_index_or x86_64_table.ROWS.now (tag_of x86_64.the_type name) None)
-x86_64_rows R_X86_64_NONE = record { row_is = refl; entry_is = refl }
-x86_64_rows name = record { row_is = refl; entry_is = refl }
+pub x86_64_rows : (name : X86_64Relocation) (i : ℕ) → i ≡ tag_of x86_64.the_type name
+    → IsEntryOf (x86_64_row name) (slice_index_or x86_64_table.ROWS.now i None)
+x86_64_rows R_X86_64_NONE i is = entry_at x86_64_table.ROWS.now i _ is (record { row_is = refl; entry_is = refl })
+x86_64_rows name i is = entry_at x86_64_table.ROWS.now i _ is (record { row_is = refl; entry_is = refl })
 
-pub x86_64_raw_rows : (name : X86_64Relocation)
-    → raw_info_in (slice_index_or x86_64_table.ROWS.now (tag_of x86_64.the_type name) None) ≡ raw_row (x86_64_relocation name)
-x86_64_raw_rows R_X86_64_NONE = refl
-x86_64_raw_rows name = refl
+pub x86_64_raw_rows : (name : X86_64Relocation) (i : ℕ) → i ≡ tag_of x86_64.the_type name
+    → raw_info_in (slice_index_or x86_64_table.ROWS.now i None) ≡ raw_row (x86_64_relocation name)
+x86_64_raw_rows R_X86_64_NONE i is = ap (λ k. raw_info_in (slice_index_or x86_64_table.ROWS.now k None)) is
+x86_64_raw_rows name i is = ap (λ k. raw_info_in (slice_index_or x86_64_table.ROWS.now k None)) is
 
 -- the entry, or another where there is none
 abbrev some_or : TableRow → Option TableRow → TableRow

@@ -5,7 +5,7 @@ use Rattle.std.proofs.lemmas.Nat.{and_mask}
 use Rattle.std.proofs.lemmas.Nat.Bits.{and_high_mask}
 use Rattle.std.specs.Int.{w64, cast_signed, cast_unsigned}
 use Rattle.std.specs.Int.Bits.{and_zero_r}
-use Rattle.linker_elf.specs.Inner.RowTables.{bits_of, addend_bits, formula_of, is_set, terms_of, symbol_of, entry_of_terms, plt_of, signed_in}
+use Rattle.linker_elf.specs.Inner.RowTables.{bits_of, addend_bits, formula_of, is_set, terms_of, symbol_of, entry_of_terms, plt_of, of_entry, signed_in}
 use Rattle.linker_elf.specs.LoongArch.{high_distance, page}
 use Rattle.linker_elf.specs.Value.{sum_64, difference_64, page_if, masks_symbol, masks_entry, masks_place, masks_got, bias_number, entry_addend, symbol_term, entry_term, place_term, got_term, plt_term, size_term, sequence_pc, relative_term, formula, read_signed, names_got_entry, names_plt_entry, is_offset, loads_plt_word, completed, or_no_value, value_given, value_of, lacks, lacks_entry, lacks_tls_base}
 use Rattle.linker_elf.specs.declared.elf.RelocationInstruction.TheVariants.{RiscV, Ppc64, LoongArch64, AArch64}
@@ -35,9 +35,13 @@ pub masked : (is : Bool) (x : ℕ) → x < 2 ^ 64 → bit_and x (bits_of is) ≡
 masked true x small = page_bits x small
 masked false x small = all_bits x small
 
-pub symbol_is : (row : RelocationKindInfo) (o : Operands) → symbol_of (terms_of row) o ≡ symbol_term row o
+symbol_is : (row : RelocationKindInfo) (o : Operands) → symbol_of (terms_of row) o ≡ symbol_term row o
 symbol_is row o =
     masked (masks_symbol row.mask) (sum_64 (sum_64 o.symbol (cast_unsigned w64 o.addend)) (bias_number row.bias)) (omega arith)
+
+pub symbol_found : (row : RelocationKindInfo) (o : Operands) (terms : FormulaTerms) (s : ℕ) → terms ≡ terms_of row
+    → s ≡ symbol_of terms o → s ≡ symbol_term row o
+symbol_found row o terms s is given = given ∙ (ap (λ t. symbol_of t o) is ∙ symbol_is row o)
 
 whole : (base a : ℕ) → sum_64 base (bit_and a (2 ^ 64 - 1)) ≡ sum_64 base a
 whole base a = ap (sum_64 base) (and_mask a 64) ∙ omega arith
@@ -58,9 +62,9 @@ entry_is row o =
     ap (λ n. bit_and (sum_64 n (bias_number row.bias)) (terms_of row).entry) (added row.size o.got_entry o.addend)
     ∙ masked (masks_entry row.mask) (sum_64 (sum_64 o.got_entry (entry_addend row.size o.addend)) (bias_number row.bias)) (omega arith)
 
-pub got_is : (row : RelocationKindInfo) (o : Operands) → o.got_base < 2 ^ 64
-    → bit_and o.got_base (terms_of row).got ≡ got_term row o
-got_is row o small = masked (masks_got row.mask) o.got_base small
+pub got_found : (row : RelocationKindInfo) (o : Operands) (terms : FormulaTerms) → terms ≡ terms_of row → o.got_base < 2 ^ 64
+    → bit_and o.got_base terms.got ≡ got_term row o
+got_found row o terms is small = ap (λ t. bit_and o.got_base t.got) is ∙ masked (masks_got row.mask) o.got_base small
 
 placed : (row : RelocationKindInfo) (o : Operands) (set : Bool) → set ≡ false → o.place < 2 ^ 64
     → bit_and o.place (if set then 0 else bits_of (masks_place row.mask)) ≡ place_term row o
@@ -68,9 +72,10 @@ placed row o set unset small =
     ap (bit_and o.place) (cond-false set 0 (bits_of (masks_place row.mask)) unset)
     ∙ masked (masks_place row.mask) o.place small
 
-pub place_is : (row : RelocationKindInfo) (o : Operands) → is_set row.kind row.size ≡ false → o.place < 2 ^ 64
-    → bit_and o.place (terms_of row).place ≡ place_term row o
-place_is row o unset small = placed row o (is_set row.kind row.size) unset small
+pub place_found : (row : RelocationKindInfo) (o : Operands) (terms : FormulaTerms) → terms ≡ terms_of row
+    → is_set row.kind row.size ≡ false → o.place < 2 ^ 64 → bit_and o.place terms.place ≡ place_term row o
+place_found row o terms is unset small =
+    ap (λ t. bit_and o.place t.place) is ∙ placed row o (is_set row.kind row.size) unset small
 
 -- S + A of the first of a pair at a ULEB128 number, and else S + A - P
 relative_by : (row : RelocationKindInfo) (o : Operands) (size : RelocationSize) → o.place < 2 ^ 64
@@ -127,6 +132,17 @@ lacks_none row o n got is there loaded no_offset found =
     cond-false _ (Err NoEntry) _ entry
     ∙ (cond-false _ (Err NoTlsBase) _ (ap (λ b. b && not o.has_tls_base) no_offset)
     ∙ ap (λ x. or_no_value (read_signed x)) found)
+
+-- a kind that names neither an entry nor L
+without_entry : (row : RelocationKindInfo) (o : Operands) (kind : RelocationKind) → row.kind ≡ kind
+    → names_got_entry kind ≡ false → names_plt_entry kind ≡ false
+    → value_given row o
+    ≡ (if is_offset kind && not o.has_tls_base then Err NoTlsBase else or_no_value (read_signed (formula kind row (completed o))))
+without_entry row o kind is no_got no_plt =
+    cond-false _ (Err NoEntry) _
+    (ap (λ b. (b && not o.has_got_entry) || (loads_plt_word row.size row.kind && not o.has_plt_entry)) (ap names_got_entry is ∙ no_got)
+    ∙ no_load row o (ap names_plt_entry is ∙ no_plt))
+    ∙ ap (λ k. if is_offset k && not o.has_tls_base then Err NoTlsBase else or_no_value (read_signed (formula k row (completed o)))) is
 
 -- the kind whose formula depends on the size
 pub relative_value : (row : RelocationKindInfo) (o : Operands) → row.kind ≡ Relative
@@ -191,69 +207,82 @@ pub has_formula : (row : RelocationKindInfo) (terms : FormulaTerms) (f : Formula
     → Has f row.kind
 has_formula row terms f given is = subst (λ g. Has g row.kind) (sym (ap (λ t. t.formula) given) ∙ is) (has row.kind)
 
--- ---- an entry that was found
+-- no formula
+pub without_value : (row : RelocationKindInfo) (o : Operands) → Has formulas.Without row.kind → value_given row o ≡ Err NoValue
+without_value row o (inl is) = without_entry row o kinds.None is refl refl
+without_value row o (inr (inl is)) = without_entry row o kinds.Alignment is refl refl
+without_value row o (inr (inr is)) = without_entry row o kinds.TlsDescCall is refl refl
 
-ok_or : ℕ → Result ℕ FormulaError → ℕ
-ok_or other (Ok n) = n
-ok_or other (Err error) = other
+-- an offset of a thread-local symbol
+pub offset_value : (row : RelocationKindInfo) (o : Operands) → Has formulas.Offset row.kind
+    → value_given row o
+    ≡ (if not o.has_tls_base then Err NoTlsBase else Ok (cast_signed w64 (difference_64 (symbol_term row o) o.tls_base)))
+offset_value row o (inl is) = without_entry row o kinds.DtpOff is refl refl
+offset_value row o (inr is) = without_entry row o kinds.TpOff is refl refl
 
-abbrev IsFine : Result ℕ FormulaError → Type 0
-IsFine (Ok n) = Unit
-IsFine (Err error) = ⊥
-
-pub found : (row : RelocationKindInfo) (o : Operands) (terms : FormulaTerms) (e : ℕ) → terms ≡ terms_of row
-    → entry_of_terms terms o ≡ Ok e
-    → (o.has_got_entry ≡ true) × (e ≡ entry_term row o)
-unfolding ok_or
-found row o terms e is given =
-    let ours : entry_of_terms (terms_of row) o ≡ Ok e = sym (ap (λ t. entry_of_terms t o) is) ∙ given in
+-- what is made of the entry, or that there is none
+pub entry_given : (row : RelocationKindInfo) (o : Operands) (terms : FormulaTerms) (term : RelocationKindInfo → Operands → ℕ)
+    (made : ℕ → ℕ) → terms ≡ terms_of row → HasTerm term true row.kind → made (entry_term row o) ≡ term row o
+    → value_given row o ≡ signed_in (of_entry made (entry_of_terms terms o))
+entry_given row o terms term made is has made_is =
     elim (cases_Bool o.has_got_entry) [
-      | inl there ↦ (there, ap (ok_or 0) (sym ours ∙ cond-true o.has_got_entry _ (Err NoEntry) there) ∙ entry_is row o)
-      | inr none ↦ absurd (subst (λ x. IsFine x) (sym ours ∙ cond-false o.has_got_entry _ (Err NoEntry) none) tt)
+      | inl there ↦
+          entry_value row o term has there
+          ∙ sym (at (cond-true o.has_got_entry _ (Err NoEntry) there ∙ ap Ok (entry_is row o)) ∙ ap (λ n. Ok (cast_signed w64 n)) made_is)
+      | inr none ↦ no_entry_value row o term has none ∙ sym (at (cond-false o.has_got_entry _ (Err NoEntry) none))
     ]
+  where
+    at : {e : Result ℕ FormulaError} → entry_of_terms (terms_of row) o ≡ e
+        → signed_in (of_entry made (entry_of_terms terms o)) ≡ signed_in (of_entry made e)
+    at given = ap (λ e. signed_in (of_entry made e)) (ap (λ t. entry_of_terms t o) is ∙ given)
 
 and_false : (b : Bool) → (b && false) ≡ false
 and_false true = refl
 and_false false = refl
 
--- L is there
-pub plt_found : (row : RelocationKindInfo) (o : Operands) (terms : FormulaTerms) (e : ℕ) → terms ≡ terms_of row
-    → plt_of terms o ≡ Ok e → Loaded row o × (e ≡ plt_term row (completed o))
-unfolding ok_or
-plt_found row o terms e is given =
-    let ours : plt_of (terms_of row) o ≡ Ok e = sym (ap (λ t. plt_of t o) is) ∙ given in
-    let word = loads_plt_word row.size row.kind in
-    let sum : ℕ → ℕ = λ base. sum_64 (sum_64 base (cast_unsigned w64 o.addend)) (bias_number row.bias) in
+or_true : (b : Bool) → (b || true) ≡ true
+or_true true = refl
+or_true false = refl
+
+-- what is made of L, or that there is none
+pub plt_given : (row : RelocationKindInfo) (o : Operands) (terms : FormulaTerms) (made : ℕ → ℕ) → terms ≡ terms_of row
+    → names_got_entry row.kind ≡ false → is_offset row.kind ≡ false
+    → formula row.kind row (completed o) ≡ Some (made (plt_term row (completed o)))
+    → value_given row o ≡ signed_in (of_entry made (plt_of terms o))
+plt_given row o terms made is no_got no_offset made_is =
     elim (cases_Bool o.has_plt_entry) [
-      | inl there ↦ (
-        ap (λ b. word && not b) there ∙ and_false word,
-        ap (ok_or 0) (sym ours ∙ cond-true o.has_plt_entry _ _ there)
-            ∙ ap sum (sym (cond-true o.has_plt_entry o.plt_entry o.symbol there)),
-      )
+      | inl there ↦
+          by (ap (λ b. word && not b) there ∙ and_false word)
+          (cond-true o.has_plt_entry _ _ there ∙ ap (λ n. Ok (sum n)) (sym (cond-true o.has_plt_entry o.plt_entry o.symbol there)))
       | inr none ↦ elim (cases_Bool word) [
         | inl loads ↦
-            absurd (subst (λ x. IsFine x) (sym ours
-            ∙ (cond-false o.has_plt_entry _ _ none ∙ cond-true word (Err NoEntry) _ loads)) tt)
-        | inr plain ↦ (
-          ap (λ b. b && not o.has_plt_entry) plain,
-          ap (ok_or 0) (sym ours ∙ (cond-false o.has_plt_entry _ _ none ∙ cond-false word (Err NoEntry) _ plain))
-              ∙ ap sum (sym (cond-false o.has_plt_entry o.plt_entry o.symbol none)),
-        )
+            cond-true _ (Err NoEntry) _
+            (ap (λ b. got || (b && not o.has_plt_entry)) loads ∙ (ap (λ b. got || not b) none ∙ or_true got))
+            ∙ sym (at (cond-false o.has_plt_entry _ _ none ∙ cond-true word (Err NoEntry) _ loads))
+        | inr plain ↦
+            by (ap (λ b. b && not o.has_plt_entry) plain)
+            (cond-false o.has_plt_entry _ _ none
+            ∙ (cond-false word (Err NoEntry) _ plain ∙ ap (λ n. Ok (sum n)) (sym (cond-false o.has_plt_entry o.plt_entry o.symbol none))))
       ]
     ]
+  where
+    word : Bool
+    word = loads_plt_word row.size row.kind
 
--- the entry, or that there is none
-pub entry_given : (row : RelocationKindInfo) (o : Operands) → HasTerm entry_term true row.kind
-    → value_given row o ≡ signed_in (entry_of_terms (terms_of row) o)
-entry_given row o has =
-    elim (cases_Bool o.has_got_entry) [
-      | inl there ↦
-          entry_value row o entry_term has there
-          ∙ sym (ap signed_in (cond-true o.has_got_entry _ (Err NoEntry) there ∙ ap Ok (entry_is row o)))
-      | inr none ↦
-          no_entry_value row o entry_term has none
-          ∙ sym (ap signed_in (cond-false o.has_got_entry _ (Err NoEntry) none))
-    ]
+    got : Bool
+    got = names_got_entry row.kind && not o.has_got_entry
+
+    sum : ℕ → ℕ
+    sum base = sum_64 (sum_64 base (cast_unsigned w64 o.addend)) (bias_number row.bias)
+
+    at : {e : Result ℕ FormulaError} → plt_of (terms_of row) o ≡ e
+        → signed_in (of_entry made (plt_of terms o)) ≡ signed_in (of_entry made e)
+    at given = ap (λ e. signed_in (of_entry made e)) (ap (λ t. plt_of t o) is ∙ given)
+
+    by : Loaded row o → plt_of (terms_of row) o ≡ Ok (plt_term row (completed o))
+        → value_given row o ≡ signed_in (of_entry made (plt_of terms o))
+    by loaded found =
+        lacks_none row o (made (plt_term row (completed o))) false no_got refl loaded no_offset made_is ∙ sym (at found)
 
 -- ---- a value that is given
 

@@ -171,6 +171,11 @@ plt_of terms o =
     else (if terms.is_word then Err NoEntry
     else Ok (sum_64 (sum_64 o.symbol (cast_unsigned w64 o.addend)) terms.bias))
 
+-- what is made of an entry, if there is one
+abbrev pub of_entry : (ℕ → ℕ) → Result ℕ FormulaError → Result ℕ FormulaError
+of_entry made (Ok n) = Ok (made n)
+of_entry made (Err error) = Err error
+
 abbrev pub signed_in : Result ℕ FormulaError → Result ℤ FormulaError
 signed_in (Ok n) = Ok (cast_signed w64 n)
 signed_in (Err error) = Err error

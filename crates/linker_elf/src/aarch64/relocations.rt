@@ -137,9 +137,9 @@ pub enum AArch64Relocation {
 
 /// Each relocation: its code, its name and its row, in the order of the enum of names.
 macro_rules! relocations {
-    ($($made:tt)+) => { listed! { ($($made)+) below 257 {
+    ($($made:tt)+) => { listed! { ($($made)+) 0 from 0 {
         0 R_AARCH64_NONE (None, 0 bytes, any)
-    } below 512 {
+    } 1 from 257 {
         257 R_AARCH64_ABS64 (Absolute, 8 bytes, any)
         258 R_AARCH64_ABS32 (Absolute, 4 bytes, signed_or_unsigned 32)
         259 R_AARCH64_ABS16 (Absolute, 2 bytes, signed_or_unsigned 16)
@@ -163,7 +163,7 @@ macro_rules! relocations {
         277 R_AARCH64_ADD_ABS_LO12_NC (AbsoluteLowPart, 0..12 Add, any)
         278 R_AARCH64_LDST8_ABS_LO12_NC (AbsoluteLowPart, 0..12 LdSt, any)
         279 R_AARCH64_TSTBR14 (Relative, 2..16 TstBr, signed 16, alignment: 4)
-        280 R_AARCH64_CONDBR19 (Relative, 2..21 Bcond, signed 21, alignment: 4)
+        280 R_AARCH64_CONDBR19 (Relative, 2..21 Bcond, signed 21, alignment: 4) [281]
         282 R_AARCH64_JUMP26 (PltRelative, 2..28 JumpCall, signed 28, alignment: 4, thunkable: true)
         283 R_AARCH64_CALL26 (PltRelative, 2..28 JumpCall, signed 28, alignment: 4, thunkable: true)
         284 R_AARCH64_LDST16_ABS_LO12_NC (AbsoluteLowPart, 1..12 LdSt, any, alignment: 2)
@@ -175,7 +175,7 @@ macro_rules! relocations {
         290 R_AARCH64_MOVW_PREL_G1_NC (Relative, 16..32 Movkz, any)
         291 R_AARCH64_MOVW_PREL_G2 (Relative, 32..48 Movnz, any, reach: signed 49)
         292 R_AARCH64_MOVW_PREL_G2_NC (Relative, 32..48 Movkz, any)
-        293 R_AARCH64_MOVW_PREL_G3 (Relative, 48..64 Movnz, any)
+        293 R_AARCH64_MOVW_PREL_G3 (Relative, 48..64 Movnz, any) [294 295 296 297 298]
         299 R_AARCH64_LDST128_ABS_LO12_NC (AbsoluteLowPart, 4..12 LdSt, any, alignment: 16)
         300 R_AARCH64_MOVW_GOTOFF_G0 (GotRelGotBase, 0..16 Movnz, any, reach: signed 17)
         301 R_AARCH64_MOVW_GOTOFF_G0_NC (GotRelGotBase, 0..16 Movkz, any)
@@ -194,7 +194,7 @@ macro_rules! relocations {
             mask: GOT_PAGE)
         314 R_AARCH64_PLT32 (PltRelative, 4 bytes, signed 32)
         315 R_AARCH64_GOTPCREL32 (GotRelative, 4 bytes, signed 32)
-    } {
+    } 2 from 512 {
         512 R_AARCH64_TLSGD_ADR_PREL21 (TlsGd, 0..21 Adr, signed 21)
         513 R_AARCH64_TLSGD_ADR_PAGE21 (TlsGd, 12..33 Adr, signed 33, mask: ENTRY_PAGES)
         514 R_AARCH64_TLSGD_ADD_LO12_NC (TlsGdGot, 0..12 Add, any)
@@ -250,7 +250,7 @@ macro_rules! relocations {
         563 R_AARCH64_TLSDESC_LD64_LO12 (TlsDescGot, 3..12 LdrRegister, any, alignment: 8)
         564 R_AARCH64_TLSDESC_ADD_LO12 (TlsDescGot, 0..12 Add, any)
         565 R_AARCH64_TLSDESC_OFF_G1 (TlsDescGotBase, 16..32 Movnz, signed 33)
-        566 R_AARCH64_TLSDESC_OFF_G0_NC (TlsDescGotBase, 0..16 Movkz, any)
+        566 R_AARCH64_TLSDESC_OFF_G0_NC (TlsDescGotBase, 0..16 Movkz, any) [567 568]
         569 R_AARCH64_TLSDESC_CALL (TlsDescCall, 0 bytes, any)
         570 R_AARCH64_TLSLE_LDST128_TPREL_LO12 (TpOff, 4..12 LdSt, unsigned 12, alignment: 16)
         571 R_AARCH64_TLSLE_LDST128_TPREL_LO12_NC (TpOff, 4..12 LdSt, any, alignment: 16)
@@ -298,6 +298,8 @@ impl AArch64Relocation {
         }
     }
 }
+
+const NAMES: &[&[AArch64Relocation]] = &relocations!(names AArch64Relocation);
 
 static CODES: &[u32] = &relocations!(codes);
 

@@ -2,8 +2,9 @@
 
 ghost use Rattle.std.specs.Prelude.{◌≡◌, false};
 ghost use Rattle.linker_elf.specs.Inner.RowTables.{terms_of, symbol_of, entry_of_terms, plt_of};
-ghost use Rattle.linker_elf.specs.Inner.RowTables.{signed_in, as_given};
-ghost use Rattle.linker_elf.specs.Value.{sum_64, sequence_pc, completed, is_offset};
+ghost use Rattle.linker_elf.specs.Inner.RowTables.{signed_in, as_given, of_entry};
+ghost use Rattle.linker_elf.specs.LoongArch.{high_distance};
+ghost use Rattle.linker_elf.specs.Value.{sum_64, difference_64, sequence_pc, completed, is_offset};
 ghost use Rattle.linker_elf.specs.Value.{loads_plt_word, value_given};
 
 use crate::elf::entries::names_plt_entry;
@@ -254,6 +255,28 @@ impl FormulaTerms {
     }
 }
 
+/// An entry less a number.
+#[inline(always)]
+fn less(entry: Result<u64, FormulaError>, number: u64) -> Result<u64, FormulaError>
+    ensures { result ≡ of_entry (λ n. difference_64 n number) entry }
+{
+    match entry {
+        Ok(entry) => Ok(entry.wrapping_sub(number)),
+        Err(error) => Err(error),
+    }
+}
+
+/// `highest_relocation_with_bias` of an entry.
+#[inline(always)]
+fn high(entry: Result<u64, FormulaError>, pc: u64) -> Result<u64, FormulaError>
+    ensures { result ≡ of_entry (λ n. high_distance n pc) entry }
+{
+    match entry {
+        Ok(entry) => Ok(highest_relocation_with_bias(entry, pc)),
+        Err(error) => Err(error),
+    }
+}
+
 impl RelocationKindInfo {
     /// The value modulo 2^64.
     #[inline(always)]
@@ -270,16 +293,13 @@ impl RelocationKindInfo {
                 terms.symbol(o),
                 pc_of_sequence(self.size, o.place),
             )),
-            Formula::EntryLessPlace => Ok(terms.entry(o)?.wrapping_sub(o.place & terms.place)),
-            Formula::LoongArchEntry => Ok(highest_relocation_with_bias(
-                terms.entry(o)?,
-                pc_of_sequence(self.size, o.place),
-            )),
-            Formula::EntryLessGot => Ok(terms.entry(o)?.wrapping_sub(o.got_base & terms.got)),
+            Formula::EntryLessPlace => less(terms.entry(o), o.place & terms.place),
+            Formula::LoongArchEntry => high(terms.entry(o), pc_of_sequence(self.size, o.place)),
+            Formula::EntryLessGot => less(terms.entry(o), o.got_base & terms.got),
             Formula::Entry => terms.entry(o),
             Formula::SymbolLessGot => Ok(terms.symbol(o).wrapping_sub(o.got_base & terms.got)),
-            Formula::PltLessGot => Ok(terms.plt(o)?.wrapping_sub(o.got_base & terms.got)),
-            Formula::PltLessPlace => Ok(terms.plt(o)?.wrapping_sub(o.place & terms.place)),
+            Formula::PltLessGot => less(terms.plt(o), o.got_base & terms.got),
+            Formula::PltLessPlace => less(terms.plt(o), o.place & terms.place),
             Formula::Size => Ok(terms.sum(o.symbol_size, o.addend.cast_unsigned())),
             Formula::Offset => {
                 if !o.has_tls_base {

@@ -422,26 +422,41 @@ impl RelocationKindInfo {
 }
 
 /// What is made of the relocations of an architecture. Its `relocations!` lists them as `code NAME
-/// (row)` in the order of the enum of names. Codes are split into parts that are dense enough for a
-/// table, each below a number, and the rest. `name_of` makes the name with a code, and `index_of`
-/// the index of a name in the list. `codes`, `texts` and `table` make tables by these indices: of
-/// codes, of the names' texts, and of rows, where the last entry is that of `Other`. `table` is
-/// given the variant of `RelocationInstruction`, the enum of the forms and the `e_machine`. A list
-/// has at most 124 names, since calls of macros nest at most 128 deep.
+/// (row)` in the order of the enum of names, in parts of ascending codes. After a relocation stand
+/// the codes up to the next one, which have no name. `names` makes the table of names by codes,
+/// part by part, and `name_of` looks a code up there. Of a list without parts, which has no such
+/// table, `name_of` matches the code. `index_of` makes the index of a name in the list. `codes`,
+/// `texts` and `table` make tables by these indices: of codes, of the names' texts, and of rows,
+/// where the last entry is that of `Other`. `table` is given the variant of
+/// `RelocationInstruction`, the enum of the forms and the `e_machine`. A list has at most 124
+/// names, since calls of macros nest at most 128 deep.
 macro_rules! listed {
+    ((name_of $names:ident, $code:ident) { $($number:literal $name:ident $row:tt)* }) => {
+        match $code {
+            $($number => $names::$name,)*
+            _ => $names::Other($code),
+        }
+    };
+    ((name_of $names:ident, $code:ident)) => { $names::Other($code) };
     (
         (name_of $names:ident, $code:ident)
-        $($(below $end:literal)? { $($number:literal $name:ident $row:tt)* })+
+        $part:literal from $first:literal $relocations:tt $($parts:tt)*
     ) => {
-        $($(if $code < $end)? {
-            match $code {
-                $($number => $names::$name,)*
-                _ => $names::Other($code),
-            }
-        })else+
+        $crate::linker_elf::elf::rows::name_at(
+            NAMES[$part],
+            $code.wrapping_sub($first),
+            $crate::linker_elf::elf::rows::listed!((name_of $names, $code) $($parts)*),
+        )
     };
-    ($made:tt $($(below $end:literal)? { $($relocation:tt)* })+) => {
-        $crate::linker_elf::elf::rows::listed!(@ $made $($($relocation)*)+)
+    ((names $names:ident) $($part:literal from $first:literal {
+        $($number:literal $name:ident $row:tt $([$($unnamed:literal)+])?)*
+    })+) => {
+        [$(&[$($names::$name, $($($names::Other($unnamed),)+)?)*]),+]
+    };
+    ($made:tt $($($part:literal from $first:literal)? {
+        $($number:literal $name:ident $row:tt $([$($unnamed:literal)+])?)*
+    })+) => {
+        $crate::linker_elf::elf::rows::listed!(@ $made $($($number $name $row)*)+)
     };
     (@ (codes) $($number:literal $name:ident $row:tt)*) => {
         [$($number,)*]
@@ -473,6 +488,17 @@ macro_rules! listed {
     (@ $names:ident, $value:expr, [] [$($arms:tt)*] $number:literal $($numbers:literal)*) => {
         match $value { $($arms)* $names::Other(_) => $number }
     };
+}
+
+/// The name at an index, or another above the last.
+#[inline(always)]
+pub(crate) const fn name_at<N: Copy>(names: &[N], index: u32, other: N) -> N {
+    let index = index as usize;
+    if index < names.len() {
+        names[index]
+    } else {
+        other
+    }
 }
 
 /// The text at an index.

@@ -227,6 +227,25 @@ impl FormulaTerms {
     }
 }
 
+/// An entry less a number.
+#[inline(always)]
+fn less(entry: Result<u64, FormulaError>, number: u64) -> Result<u64, FormulaError> {
+    match entry {
+        Ok(entry) => Ok(entry.wrapping_sub(number)),
+        Err(error) => Err(error),
+    }
+}
+
+/// [`highest_relocation_with_bias`](crate::loongarch64::highest_relocation_with_bias()) of an entry.
+#[cfg(feature = "loongarch64")]
+#[inline(always)]
+fn high(entry: Result<u64, FormulaError>, pc: u64) -> Result<u64, FormulaError> {
+    match entry {
+        Ok(entry) => Ok(highest_relocation_with_bias(entry, pc)),
+        Err(error) => Err(error),
+    }
+}
+
 impl RelocationKindInfo {
     /// The value modulo 2^64.
     #[inline(always)]
@@ -241,17 +260,14 @@ impl RelocationKindInfo {
                 terms.symbol(o),
                 pc_of_sequence(self.size, o.place),
             )),
-            Formula::EntryLessPlace => Ok(terms.entry(o)?.wrapping_sub(o.place & terms.place)),
+            Formula::EntryLessPlace => less(terms.entry(o), o.place & terms.place),
             #[cfg(feature = "loongarch64")]
-            Formula::LoongArchEntry => Ok(highest_relocation_with_bias(
-                terms.entry(o)?,
-                pc_of_sequence(self.size, o.place),
-            )),
-            Formula::EntryLessGot => Ok(terms.entry(o)?.wrapping_sub(o.got_base & terms.got)),
+            Formula::LoongArchEntry => high(terms.entry(o), pc_of_sequence(self.size, o.place)),
+            Formula::EntryLessGot => less(terms.entry(o), o.got_base & terms.got),
             Formula::Entry => terms.entry(o),
             Formula::SymbolLessGot => Ok(terms.symbol(o).wrapping_sub(o.got_base & terms.got)),
-            Formula::PltLessGot => Ok(terms.plt(o)?.wrapping_sub(o.got_base & terms.got)),
-            Formula::PltLessPlace => Ok(terms.plt(o)?.wrapping_sub(o.place & terms.place)),
+            Formula::PltLessGot => less(terms.plt(o), o.got_base & terms.got),
+            Formula::PltLessPlace => less(terms.plt(o), o.place & terms.place),
             Formula::Size => Ok(terms.sum(o.symbol_size, o.addend as u64)),
             Formula::Offset => {
                 if !o.has_tls_base {

@@ -95,13 +95,14 @@ pub enum LoongArch64Relocation {
 
 /// Each relocation: its code, its name and its row, in the order of the enum of names.
 macro_rules! relocations {
-    ($($made:tt)+) => { listed! { ($($made)+) {
+    ($($made:tt)+) => { listed! { ($($made)+) 0 from 0 {
         0 R_LARCH_NONE (None, 0 bytes, any)
         1 R_LARCH_32 (Absolute, 4 bytes, signed_or_unsigned 32)
-        2 R_LARCH_64 (Absolute, 8 bytes, any)
+        2 R_LARCH_64 (Absolute, 8 bytes, any) [3 4 5 6 7]
         8 R_LARCH_TLS_DTPREL32 (DtpOff, 4 bytes, any)
-        9 R_LARCH_TLS_DTPREL64 (DtpOff, 8 bytes, any)
+        9 R_LARCH_TLS_DTPREL64 (DtpOff, 8 bytes, any) [10 11 12 13 14 15 16 17 18 19]
         20 R_LARCH_MARK_LA (None, 0 bytes, any, own: true)
+            [21 22 23 24 25 26 27 28 29 30 31 32 33 34 35 36 37 38 39 40 41 42 43 44 45 46]
         47 R_LARCH_ADD8 (AbsoluteAddition, 1 bytes, any)
         48 R_LARCH_ADD16 (AbsoluteAddition, 2 bytes, any)
         49 R_LARCH_ADD24 (AbsoluteAddition, 3 bytes, any)
@@ -111,7 +112,7 @@ macro_rules! relocations {
         53 R_LARCH_SUB16 (AbsoluteSubtraction, 2 bytes, any)
         54 R_LARCH_SUB24 (AbsoluteSubtraction, 3 bytes, any)
         55 R_LARCH_SUB32 (AbsoluteSubtraction, 4 bytes, any)
-        56 R_LARCH_SUB64 (AbsoluteSubtraction, 8 bytes, any)
+        56 R_LARCH_SUB64 (AbsoluteSubtraction, 8 bytes, any) [57 58 59 60 61 62 63]
         64 R_LARCH_B16 (Relative, 2..18 Shift10, signed 18, alignment: 4)
         65 R_LARCH_B21 (Relative, 2..23 Branch21, signed 23, alignment: 4)
         66 R_LARCH_B26 (PltRelative, 2..28 Branch26, signed 28, alignment: 4)
@@ -126,7 +127,7 @@ macro_rules! relocations {
         75 R_LARCH_GOT_PC_HI20 (GotRelative, 12..32 Shift5, any, mask: ENTRY_PAGES, bias: SIZE_2KB)
         76 R_LARCH_GOT_PC_LO12 (Got, 0..12 Shift10, any)
         77 R_LARCH_GOT64_PC_LO20 (GotRelativeLoongArch64, 32..52 Shift5, any)
-        78 R_LARCH_GOT64_PC_HI12 (GotRelativeLoongArch64, 52..64 Shift10, any)
+        78 R_LARCH_GOT64_PC_HI12 (GotRelativeLoongArch64, 52..64 Shift10, any) [79 80 81 82]
         83 R_LARCH_TLS_LE_HI20 (TpOff, 12..32 Shift5, any)
         84 R_LARCH_TLS_LE_LO12 (TpOff, 0..12 Shift10, any)
         85 R_LARCH_TLS_LE64_LO20 (TpOff, 32..52 Shift5, any)
@@ -144,9 +145,9 @@ macro_rules! relocations {
         97 R_LARCH_TLS_GD_PC_HI20 (TlsGd, 12..32 Shift5, any, mask: ENTRY_PAGES, bias: SIZE_2KB)
         98 R_LARCH_TLS_GD_HI20 (TlsGdGot, 12..32 Shift5, any)
         99 R_LARCH_32_PCREL (Relative, 4 bytes, signed 32)
-        100 R_LARCH_RELAX (None, 0 bytes, any)
+        100 R_LARCH_RELAX (None, 0 bytes, any) [101]
         102 R_LARCH_ALIGN (Alignment, 0 bytes, any)
-        103 R_LARCH_PCREL20_S2 (Relative, 2..22 Shift5, signed 22, alignment: 4)
+        103 R_LARCH_PCREL20_S2 (Relative, 2..22 Shift5, signed 22, alignment: 4) [104]
         105 R_LARCH_ADD6 (AbsoluteAdditionWord6, 1 bytes, any)
         106 R_LARCH_SUB6 (AbsoluteSubtractionWord6, 1 bytes, any)
         107 R_LARCH_ADD_ULEB128 (Relative, 0 bytes, any)
@@ -158,7 +159,7 @@ macro_rules! relocations {
             bias: SIZE_2KB)
         112 R_LARCH_TLS_DESC_PC_LO12 (TlsDescGot, 0..12 Shift10, any)
         113 R_LARCH_TLS_DESC64_PC_LO20 (TlsDescLoongArch64, 32..52 Shift5, any)
-        114 R_LARCH_TLS_DESC64_PC_HI12 (TlsDescLoongArch64, 52..64 Shift10, any)
+        114 R_LARCH_TLS_DESC64_PC_HI12 (TlsDescLoongArch64, 52..64 Shift10, any) [115 116 117 118]
         119 R_LARCH_TLS_DESC_LD (None, 0 bytes, any)
         120 R_LARCH_TLS_DESC_CALL (TlsDescCall, 0 bytes, any)
         121 R_LARCH_TLS_LE_HI20_R (TpOff, 12..32 Shift5, any, bias: SIZE_2KB)
@@ -218,6 +219,8 @@ impl LoongArch64Relocation {
         }
     }
 }
+
+const NAMES: &[&[LoongArch64Relocation]] = &relocations!(names LoongArch64Relocation);
 
 static CODES: &[u32] = &relocations!(codes);
 

@@ -119,7 +119,7 @@ pub enum Ppc64Relocation {
 
 /// Each relocation: its code, its name and its row, in the order of the enum of names.
 macro_rules! relocations {
-    ($($made:tt)+) => { listed! { ($($made)+) below 128 {
+    ($($made:tt)+) => { listed! { ($($made)+) 0 from 0 {
         0 R_PPC64_NONE (None, 0 bytes, any, own: true)
         1 R_PPC64_ADDR32 (Absolute, 4 bytes, signed_or_unsigned 32)
         2 R_PPC64_ADDR24 (Absolute, 0..26 Branch24, signed 26, alignment: 4, own: true)
@@ -127,35 +127,36 @@ macro_rules! relocations {
         4 R_PPC64_ADDR16_LO (Absolute, 0..16 D, any, own: true)
         5 R_PPC64_ADDR16_HI (Absolute, 16..32 D, any, reach: signed 32, own: true)
         6 R_PPC64_ADDR16_HA (Absolute, 16..32 D, any, reach: signed 32, bias: 0x8000, own: true)
-        7 R_PPC64_ADDR14 (Absolute, 0..16 Branch14, signed 16, alignment: 4, own: true)
+        7 R_PPC64_ADDR14 (Absolute, 0..16 Branch14, signed 16, alignment: 4, own: true) [8 9]
         10 R_PPC64_REL24 (Relative, 0..26 Branch24, signed 26, alignment: 4)
-        11 R_PPC64_REL14 (Relative, 0..16 Branch14, signed 16, alignment: 4)
+        11 R_PPC64_REL14 (Relative, 0..16 Branch14, signed 16, alignment: 4) [12 13]
         14 R_PPC64_GOT16 (GotRelGotBase, 0..16 D, signed 16, own: true)
         15 R_PPC64_GOT16_LO (GotRelGotBase, 0..16 D, any, own: true)
         16 R_PPC64_GOT16_HI (GotRelGotBase, 16..32 D, any, reach: signed 32, own: true)
         17 R_PPC64_GOT16_HA (GotRelGotBase, 16..32 D, any, reach: signed 32, bias: 0x8000,
-            own: true)
-        26 R_PPC64_REL32 (Relative, 4 bytes, signed 32)
+            own: true) [18 19 20 21 22 23 24 25]
+        26 R_PPC64_REL32 (Relative, 4 bytes, signed 32) [27 28 29 30]
         31 R_PPC64_PLT16_HA (PltRelGotBase, 16..32 D, any, reach: signed 32, bias: 0x8000,
-            own: true)
+            own: true) [32 33 34 35 36 37]
         38 R_PPC64_ADDR64 (Absolute, 8 bytes, any)
         39 R_PPC64_ADDR16_HIGHER (Absolute, 32..48 DUnsigned, any, own: true)
         40 R_PPC64_ADDR16_HIGHERA (Absolute, 32..48 DUnsigned, any, bias: 0x8000, own: true)
         41 R_PPC64_ADDR16_HIGHEST (Absolute, 48..64 D, any, own: true)
-        42 R_PPC64_ADDR16_HIGHESTA (Absolute, 48..64 D, any, bias: 0x8000, own: true)
-        44 R_PPC64_REL64 (Relative, 8 bytes, any)
+        42 R_PPC64_ADDR16_HIGHESTA (Absolute, 48..64 D, any, bias: 0x8000, own: true) [43]
+        44 R_PPC64_REL64 (Relative, 8 bytes, any) [45 46]
         47 R_PPC64_TOC16 (SymRelGotBase, 0..16 D, signed 16, own: true)
         48 R_PPC64_TOC16_LO (SymRelGotBase, 0..16 D, any)
         49 R_PPC64_TOC16_HI (SymRelGotBase, 16..32 D, any, reach: signed 32, own: true)
         50 R_PPC64_TOC16_HA (SymRelGotBase, 16..32 D, any, reach: signed 32, bias: 0x8000)
+            [51 52 53 54 55]
         56 R_PPC64_ADDR16_DS (Absolute, 0..16 Ds, signed 16, alignment: 4, own: true)
         57 R_PPC64_ADDR16_LO_DS (Absolute, 0..16 Ds, any, alignment: 4, own: true)
         58 R_PPC64_GOT16_DS (GotRelGotBase, 0..16 Ds, signed 16, alignment: 4, own: true)
         59 R_PPC64_GOT16_LO_DS (GotRelGotBase, 0..16 Ds, any, alignment: 4, own: true)
-        60 R_PPC64_PLT16_LO_DS (PltRelGotBase, 0..16 Ds, any, alignment: 4, own: true)
+        60 R_PPC64_PLT16_LO_DS (PltRelGotBase, 0..16 Ds, any, alignment: 4, own: true) [61 62]
         63 R_PPC64_TOC16_DS (SymRelGotBase, 0..16 Ds, signed 16, alignment: 4, own: true)
-        64 R_PPC64_TOC16_LO_DS (SymRelGotBase, 0..16 Ds, any, alignment: 4)
-        67 R_PPC64_TLS (None, 0 bytes, any)
+        64 R_PPC64_TOC16_LO_DS (SymRelGotBase, 0..16 Ds, any, alignment: 4) [65 66]
+        67 R_PPC64_TLS (None, 0 bytes, any) [68]
         69 R_PPC64_TPREL16 (TpOff, 0..16 D, signed 16)
         70 R_PPC64_TPREL16_LO (TpOff, 0..16 D, any)
         71 R_PPC64_TPREL16_HI (TpOff, 16..32 D, any, reach: signed 32)
@@ -178,6 +179,7 @@ macro_rules! relocations {
         88 R_PPC64_GOT_TPREL16_LO_DS (GotTpOffGotBase, 0..16 Ds, any, alignment: 4)
         89 R_PPC64_GOT_TPREL16_HI (GotTpOffGotBase, 16..32 D, any, reach: signed 32)
         90 R_PPC64_GOT_TPREL16_HA (GotTpOffGotBase, 16..32 D, any, reach: signed 32, bias: 0x8000)
+            [91 92 93 94]
         95 R_PPC64_TPREL16_DS (TpOff, 0..16 Ds, signed 16, alignment: 4)
         96 R_PPC64_TPREL16_LO_DS (TpOff, 0..16 Ds, any, alignment: 4)
         97 R_PPC64_TPREL16_HIGHER (TpOff, 32..48 DUnsigned, any, own: true)
@@ -191,21 +193,20 @@ macro_rules! relocations {
         105 R_PPC64_DTPREL16_HIGHEST (DtpOff, 48..64 D, any, own: true)
         106 R_PPC64_DTPREL16_HIGHESTA (DtpOff, 48..64 D, any, bias: 0x8000, own: true)
         107 R_PPC64_TLSGD (None, 0 bytes, any)
-        108 R_PPC64_TLSLD (None, 0 bytes, any)
+        108 R_PPC64_TLSLD (None, 0 bytes, any) [109]
         110 R_PPC64_ADDR16_HIGH (Absolute, 16..32 DUnsigned, any, own: true)
         111 R_PPC64_ADDR16_HIGHA (Absolute, 16..32 DUnsigned, any, bias: 0x8000, own: true)
         112 R_PPC64_TPREL16_HIGH (TpOff, 16..32 DUnsigned, any, own: true)
         113 R_PPC64_TPREL16_HIGHA (TpOff, 16..32 DUnsigned, any, bias: 0x8000, own: true)
         114 R_PPC64_DTPREL16_HIGH (DtpOff, 16..32 DUnsigned, any, own: true)
         115 R_PPC64_DTPREL16_HIGHA (DtpOff, 16..32 DUnsigned, any, bias: 0x8000, own: true)
-        116 R_PPC64_REL24_NOTOC (Relative, 0..26 Branch24, signed 26, alignment: 4, own: true)
+        116 R_PPC64_REL24_NOTOC (Relative, 0..26 Branch24, signed 26, alignment: 4, own: true) [117]
         118 R_PPC64_ENTRY (None, 0 bytes, any, own: true)
         119 R_PPC64_PLTSEQ (None, 0 bytes, any, own: true)
         120 R_PPC64_PLTCALL (None, 0 bytes, any, own: true)
         121 R_PPC64_PLTSEQ_NOTOC (None, 0 bytes, any, own: true)
         122 R_PPC64_PLTCALL_NOTOC (None, 0 bytes, any, own: true)
-        123 R_PPC64_PCREL_OPT (None, 0 bytes, any, own: true)
-    } {
+        123 R_PPC64_PCREL_OPT (None, 0 bytes, any, own: true) [124 125 126 127]
         128 R_PPC64_D34 (Absolute, 0..34 Prefixed, signed 34, own: true)
         129 R_PPC64_D34_LO (Absolute, 0..34 Prefixed, any, own: true)
         130 R_PPC64_D34_HI30 (Absolute, 34..64 Prefixed, any, own: true)
@@ -214,11 +215,13 @@ macro_rules! relocations {
         133 R_PPC64_GOT_PCREL34 (GotRelative, 0..34 Prefixed, signed 34, own: true)
         134 R_PPC64_PLT_PCREL34 (PltRelative, 0..34 Prefixed, signed 34, own: true)
         135 R_PPC64_PLT_PCREL34_NOTOC (PltRelative, 0..34 Prefixed, signed 34, own: true)
+            [136 137 138 139 140 141 142 143 144 145]
         146 R_PPC64_TPREL34 (TpOff, 0..34 Prefixed, signed 34, own: true)
         147 R_PPC64_DTPREL34 (DtpOff, 0..34 Prefixed, signed 34, own: true)
         148 R_PPC64_GOT_TLSGD_PCREL34 (TlsGd, 0..34 Prefixed, signed 34, own: true)
         149 R_PPC64_GOT_TLSLD_PCREL34 (TlsLd, 0..34 Prefixed, signed 34, own: true)
         150 R_PPC64_GOT_TPREL_PCREL34 (GotTpOff, 0..34 Prefixed, signed 34, own: true)
+    } 1 from 249 {
         249 R_PPC64_REL16 (Relative, 2 bytes, signed 16, own: true)
         250 R_PPC64_REL16_LO (Relative, 0..16 D, any)
         251 R_PPC64_REL16_HI (Relative, 16..32 D, any, reach: signed 32, own: true)
@@ -262,6 +265,8 @@ impl Ppc64Relocation {
         }
     }
 }
+
+const NAMES: &[&[Ppc64Relocation]] = &relocations!(names Ppc64Relocation);
 
 static CODES: &[u32] = &relocations!(codes);
 

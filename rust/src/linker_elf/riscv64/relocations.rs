@@ -71,10 +71,10 @@ pub enum RiscVRelocation {
 
 /// Each relocation: its code, its name and its row, in the order of the enum of names.
 macro_rules! relocations {
-    ($($made:tt)+) => { listed! { ($($made)+) {
+    ($($made:tt)+) => { listed! { ($($made)+) 0 from 0 {
         0 R_RISCV_NONE (None, 0 bytes, any)
         1 R_RISCV_32 (Absolute, 4 bytes, signed_or_unsigned 32)
-        2 R_RISCV_64 (Absolute, 8 bytes, any)
+        2 R_RISCV_64 (Absolute, 8 bytes, any) [3 4 5 6 7 8 9 10 11 12 13 14 15]
         16 R_RISCV_BRANCH (Relative, 0..32 BType, within -4096..4095, alignment: 2)
         17 R_RISCV_JAL (Relative, 0..32 JType, within -1048576..1048575, alignment: 2)
         18 R_RISCV_CALL (PltRelative, 0..64 UiType, pair)
@@ -100,19 +100,19 @@ macro_rules! relocations {
         38 R_RISCV_SUB16 (AbsoluteSubtraction, 2 bytes, any)
         39 R_RISCV_SUB32 (AbsoluteSubtraction, 4 bytes, any)
         40 R_RISCV_SUB64 (AbsoluteSubtraction, 8 bytes, any)
-        41 R_RISCV_GOT32_PCREL (GotRelative, 4 bytes, signed_or_unsigned 32, reach: signed 32)
+        41 R_RISCV_GOT32_PCREL (GotRelative, 4 bytes, signed_or_unsigned 32, reach: signed 32) [42]
         43 R_RISCV_ALIGN (Alignment, 0 bytes, any)
         44 R_RISCV_RVC_BRANCH (Relative, 0..16 CbType, within -256..255, alignment: 2)
         45 R_RISCV_RVC_JUMP (Relative, 0..16 CjType, within -2048..2047, alignment: 2)
         46 R_RISCV_RVC_LUI (Absolute, 0..32 CluiType, signed_or_unsigned 32,
-            reach: within -0x20800..0x1f800, own: true)
+            reach: within -0x20800..0x1f800, own: true) [47 48 49 50]
         51 R_RISCV_RELAX (None, 0 bytes, any)
         52 R_RISCV_SUB6 (AbsoluteSubtractionWord6, 1 bytes, any)
         53 R_RISCV_SET6 (AbsoluteSetWord6, 1 bytes, any)
         54 R_RISCV_SET8 (AbsoluteSet, 1 bytes, any)
         55 R_RISCV_SET16 (AbsoluteSet, 2 bytes, any)
         56 R_RISCV_SET32 (AbsoluteSet, 4 bytes, any)
-        57 R_RISCV_32_PCREL (Relative, 4 bytes, signed_or_unsigned 32)
+        57 R_RISCV_32_PCREL (Relative, 4 bytes, signed_or_unsigned 32) [58]
         59 R_RISCV_PLT32 (PltRelative, 4 bytes, signed_or_unsigned 32, reach: signed 32)
         60 R_RISCV_SET_ULEB128 (Relative, 0 bytes, any)
         61 R_RISCV_SUB_ULEB128 (PairSubtractionULEB128RiscV, 8 bytes, any)
@@ -169,6 +169,8 @@ impl RiscVRelocation {
         }
     }
 }
+
+const NAMES: &[&[RiscVRelocation]] = &relocations!(names RiscVRelocation);
 
 static CODES: &[u32] = &relocations!(codes);
 

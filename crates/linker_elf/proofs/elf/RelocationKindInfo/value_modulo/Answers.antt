@@ -1,113 +1,148 @@
-use Rattle.std.proofs.Common.{◌≡◌, ◌∙◌, ◌<◌, ◌^◌, ℕ, bit_and, rules, refl, sym, ap, subst, false, Ok, inl, inr}
-use Rattle.std.specs.Int.{w64, cast_signed}
-use Rattle.linker_elf.proofs.Terms.{HasTerm, plain_value, relative_value, entry_value, entry_given, found, has_formula, lacks_none, plt_found, symbol_is, place_is, got_is, relative_is}
-use Rattle.linker_elf.specs.Inner.RowTables.{symbol_of, entry_of_terms, is_set, terms_of, signed_in}
+use Rattle.std.proofs.Common.{◌≡◌, ◌∙◌, ◌<◌, ◌^◌, ℕ, bit_and, rules, refl, sym, ap, subst, false, not, Ok, Err, Some, Result, inl, inr}
+use Rattle.std.specs.Int.{w64, cast_signed, cast_unsigned}
+use Rattle.std.proofs.lemmas.Bool.{cond-true, cond-false}
+use Rattle.std.proofs.lemmas.Int.{to_z-of_z}
+use Rattle.linker_elf.proofs.Terms.{HasTerm, plain_value, relative_value, without_value, offset_value, entry_given, plt_given, has_formula, symbol_found, place_found, got_found, relative_is}
+use Rattle.linker_elf.specs.Inner.RowTables.{is_set, of_entry, signed_in}
 use Rattle.linker_elf.specs.LoongArch.{high_distance}
-use Rattle.linker_elf.specs.Value.{difference_64, symbol_term, entry_term, plt_term, place_term, got_term, sequence_pc, completed, formula, names_got_entry, is_offset}
+use Rattle.linker_elf.specs.Value.{sum_64, difference_64, symbol_term, entry_term, plt_term, size_term, place_term, got_term, sequence_pc, completed, formula, names_got_entry, is_offset}
 use Rattle.linker_elf.specs.declared.elf.RelocationKind.TheVariants.{PltRelGotBase, PltRelative}
 use Rattle.linker_elf.specs.declared.elf.value.Formula.TheVariants as formulas
+use Rattle.linker_elf.specs.declared.elf.value.FormulaError.{FormulaError}
 use Rattle.linker_elf.specs.declared.elf.RelocationKindInfo.{RelocationKindInfo}
 use Rattle.linker_elf.specs.declared.elf.value.Operands.{Operands}
 use Rattle.linker_elf.proofs.elf.RelocationKindInfo.value_modulo.Goals as goal
 
+pub returns-in-Without : goal.returns-in-Without
+returns-in-Without c =
+    without_value _ _ (has_formula c.args.self.now _ formulas.Without c.requires c.in-Without.is)
+
 pub returns-in-Symbol : goal.returns-in-Symbol
 returns-in-Symbol c =
-    let row = c.args.self.now in
-    let o = c.args.operands.now in
-    let has = has_formula row c.args.terms.now formulas.Symbol c.requires c.in-Symbol.is in
-    plain_value row o symbol_term has
-    ∙ ap (λ n. Ok (cast_signed w64 n)) (sym (c.symbol.ensures ∙ (ap (λ t. symbol_of t o) c.requires ∙ symbol_is row o)))
+    plain_value _ _ symbol_term (has_formula c.args.self.now _ formulas.Symbol c.requires c.in-Symbol.is)
+    ∙ ap (λ n. Ok (cast_signed w64 n)) (sym (symbol_found c.args.self.now c.args.operands.now _ _ c.requires c.symbol.ensures))
 
 pub returns-in-SymbolLessPlace : goal.returns-in-SymbolLessPlace
 returns-in-SymbolLessPlace c =
     let row = c.args.self.now in
     let o = c.args.operands.now in
-    let s = c.symbol-in-SymbolLessPlace.result in
-    let is : s ≡ symbol_term row o = c.symbol-in-SymbolLessPlace.ensures ∙ (ap (λ t. symbol_of t o) c.requires ∙ symbol_is row o) in
+    let t = c.args.terms.now in
+    let s = symbol_found row o t _ c.requires c.symbol-in-SymbolLessPlace.ensures in
     let small : o.place < 2 ^ 64 = search rules in
-    let short : symbol_term row o < 2 ^ 64 = subst (λ n. n < 2 ^ 64) is c.symbol-in-SymbolLessPlace.type_inv in
-    let ours : difference_64 s (bit_and o.place c.args.terms.now.place) ≡ difference_64 (symbol_term row o) (bit_and o.place (terms_of row).place) =
-    ap (λ n. difference_64 n (bit_and o.place c.args.terms.now.place)) is
-    ∙ ap (λ t. difference_64 (symbol_term row o) (bit_and o.place t.place)) c.requires in
-    elim (has_formula row c.args.terms.now formulas.SymbolLessPlace c.requires c.in-SymbolLessPlace.is) [
+    let short : symbol_term row o < 2 ^ 64 = subst (λ n. n < 2 ^ 64) s c.symbol-in-SymbolLessPlace.type_inv in
+    let ours = ap (λ n. difference_64 n (bit_and o.place t.place)) s in
+    elim (has_formula row t formulas.SymbolLessPlace c.requires c.in-SymbolLessPlace.is) [
       | inl relative ↦
           relative_value row o relative
-          ∙ ap (λ n. Ok (cast_signed w64 n)) (sym (ours ∙ relative_is row o relative small short))
+          ∙ ap (λ n. Ok (cast_signed w64 n))
+          (sym (ours ∙ (ap (λ t. difference_64 (symbol_term row o) (bit_and o.place t.place)) c.requires ∙ relative_is row o relative small short)))
       | inr low ↦
-          let P = HasTerm (λ r o. difference_64 (symbol_term r o) (place_term r o)) false in
-          let has : P row.kind = subst P (sym low) (record { formula_is = λ r o. refl; got_is = refl; no_plt = refl; no_offset = refl; unset = λ size. refl }) in
-          plain_value row o (λ r o. difference_64 (symbol_term r o) (place_term r o)) has
-          ∙ ap (λ n. Ok (cast_signed w64 n)) (sym (ours ∙ ap (difference_64 (symbol_term row o)) (place_is row o (has.unset row.size) small)))
+          let term : RelocationKindInfo → Operands → ℕ = λ r o. difference_64 (symbol_term r o) (place_term r o) in
+          let has : HasTerm term false row.kind =
+          subst (HasTerm term false) (sym low) (record { formula_is = λ r o. refl; got_is = refl; no_plt = refl; no_offset = refl; unset = λ size. refl }) in
+          plain_value row o term has
+          ∙ ap (λ n. Ok (cast_signed w64 n)) (sym (ours ∙ ap (difference_64 (symbol_term row o)) (place_found row o t c.requires (has.unset row.size) small)))
     ]
 
-pub returns-in_ok-entry-in-EntryLessPlace : goal.returns-in_ok-entry-in-EntryLessPlace
-returns-in_ok-entry-in-EntryLessPlace c =
+pub returns-in-LoongArchHigh : goal.returns-in-LoongArchHigh
+returns-in-LoongArchHigh c =
+    let o = c.args.operands.now in
+    plain_value _ o (λ r o. high_distance (symbol_term r o) (sequence_pc r.size o.place)) (has_formula c.args.self.now _ formulas.LoongArchHigh c.requires c.in-LoongArchHigh.is)
+    ∙ ap (λ n. Ok (cast_signed w64 n)) (sym (c.highest_relocation_with_bias.ensures
+    ∙ (ap (λ n. high_distance n c.pc_of_sequence.result) (symbol_found c.args.self.now c.args.operands.now _ _ c.requires c.symbol-in-LoongArchHigh.ensures)
+    ∙ ap (high_distance (symbol_term c.args.self.now o)) c.pc_of_sequence.ensures)))
+
+pub returns-in-EntryLessPlace : goal.returns-in-EntryLessPlace
+returns-in-EntryLessPlace c =
     let row = c.args.self.now in
     let o = c.args.operands.now in
-    let term : RelocationKindInfo → Operands → ℕ = λ r o. difference_64 (entry_term r o) (place_term r o) in
-    let has = has_formula row c.args.terms.now formulas.EntryLessPlace c.requires c.in-EntryLessPlace.is in
+    let t = c.args.terms.now in
+    let has = has_formula row t formulas.EntryLessPlace c.requires c.in-EntryLessPlace.is in
     let small : o.place < 2 ^ 64 = search rules in
-    let e = found row o c.args.terms.now c.in_ok-entry-in-EntryLessPlace.field-0 c.requires (sym c.entry.ensures ∙ c.in_ok-entry-in-EntryLessPlace.was) in
-    entry_value row o term has (e.0)
-    ∙ ap (λ n. Ok (cast_signed w64 n)) (sym (ap (λ n. difference_64 n (bit_and o.place c.args.terms.now.place)) (e.1)
-    ∙ (ap (λ t. difference_64 (entry_term row o) (bit_and o.place t.place)) c.requires
-    ∙ ap (difference_64 (entry_term row o)) (place_is row o (has.unset row.size) small))))
+    let made : ℕ → ℕ = λ n. difference_64 n (bit_and o.place t.place) in
+    entry_given row o t (λ r o. difference_64 (entry_term r o) (place_term r o)) made c.requires has
+    (ap (difference_64 (entry_term row o)) (place_found row o t c.requires (has.unset row.size) small))
+    ∙ ap signed_in (sym (c.less.ensures ∙ ap (of_entry made) c.entry.ensures))
 
-pub returns-in_ok-entry-in-LoongArchEntry : goal.returns-in_ok-entry-in-LoongArchEntry
-returns-in_ok-entry-in-LoongArchEntry c =
+pub returns-in-LoongArchEntry : goal.returns-in-LoongArchEntry
+returns-in-LoongArchEntry c =
     let row = c.args.self.now in
     let o = c.args.operands.now in
-    let term : RelocationKindInfo → Operands → ℕ = λ r o. high_distance (entry_term r o) (sequence_pc r.size o.place) in
-    let has = has_formula row c.args.terms.now formulas.LoongArchEntry c.requires c.in-LoongArchEntry.is in
-    let e = found row o c.args.terms.now c.in_ok-entry-in-LoongArchEntry.field-0 c.requires
-    (sym c.entry-in-LoongArchEntry.ensures ∙ c.in_ok-entry-in-LoongArchEntry.was) in
-    entry_value row o term has (e.0)
-    ∙ ap (λ n. Ok (cast_signed w64 n)) (sym (c.highest_relocation_with_bias-in-LoongArchEntry.ensures
-    ∙ (ap (λ n. high_distance n c.pc_of_sequence-in-LoongArchEntry.result) (e.1)
-    ∙ ap (high_distance (entry_term row o)) c.pc_of_sequence-in-LoongArchEntry.ensures)))
+    let t = c.args.terms.now in
+    let has = has_formula row t formulas.LoongArchEntry c.requires c.in-LoongArchEntry.is in
+    let made : ℕ → ℕ = λ n. high_distance n c.pc_of_sequence-in-LoongArchEntry.result in
+    entry_given row o t (λ r o. high_distance (entry_term r o) (sequence_pc r.size o.place)) made c.requires has
+    (ap (high_distance (entry_term row o)) c.pc_of_sequence-in-LoongArchEntry.ensures)
+    ∙ ap signed_in (sym (c.high.ensures ∙ ap (of_entry made) c.entry-in-LoongArchEntry.ensures))
 
-pub returns-in_ok-entry-in-EntryLessGot : goal.returns-in_ok-entry-in-EntryLessGot
-returns-in_ok-entry-in-EntryLessGot c =
+pub returns-in-EntryLessGot : goal.returns-in-EntryLessGot
+returns-in-EntryLessGot c =
     let row = c.args.self.now in
     let o = c.args.operands.now in
-    let term : RelocationKindInfo → Operands → ℕ = λ r o. difference_64 (entry_term r o) (got_term r o) in
-    let has = has_formula row c.args.terms.now formulas.EntryLessGot c.requires c.in-EntryLessGot.is in
+    let t = c.args.terms.now in
+    let has = has_formula row t formulas.EntryLessGot c.requires c.in-EntryLessGot.is in
     let small : o.got_base < 2 ^ 64 = search rules in
-    let e = found row o c.args.terms.now c.in_ok-entry-in-EntryLessGot.field-0 c.requires
-    (sym c.entry-in-EntryLessGot.ensures ∙ c.in_ok-entry-in-EntryLessGot.was) in
-    entry_value row o term has (e.0)
-    ∙ ap (λ n. Ok (cast_signed w64 n)) (sym (ap (λ n. difference_64 n (bit_and o.got_base c.args.terms.now.got)) (e.1)
-    ∙ (ap (λ t. difference_64 (entry_term row o) (bit_and o.got_base t.got)) c.requires
-    ∙ ap (difference_64 (entry_term row o)) (got_is row o small))))
+    let made : ℕ → ℕ = λ n. difference_64 n (bit_and o.got_base t.got) in
+    entry_given row o t (λ r o. difference_64 (entry_term r o) (got_term r o)) made c.requires has
+    (ap (difference_64 (entry_term row o)) (got_found row o t c.requires small))
+    ∙ ap signed_in (sym (c.less-in-EntryLessGot.ensures ∙ ap (of_entry made) c.entry-in-EntryLessGot.ensures))
+
+unchanged : (e : Result ℕ FormulaError) → signed_in (of_entry (λ n. n) e) ≡ signed_in e
+unchanged (Ok n) = refl
+unchanged (Err error) = refl
 
 pub returns-in-Entry : goal.returns-in-Entry
 returns-in-Entry c =
-    let row = c.args.self.now in
-    let o = c.args.operands.now in
-    let has = has_formula row c.args.terms.now formulas.Entry c.requires c.in-Entry.is in
-    entry_given row o has ∙ ap signed_in (sym (c.entry-in-Entry.ensures ∙ ap (λ t. entry_of_terms t o) c.requires))
+    entry_given _ _ c.args.terms.now entry_term (λ n. n) c.requires (has_formula c.args.self.now _ formulas.Entry c.requires c.in-Entry.is) refl
+    ∙ (ap (λ e. signed_in (of_entry (λ n. n) e)) (sym c.entry-in-Entry.ensures) ∙ unchanged c.entry-in-Entry.result)
 
-pub returns-in_ok-plt-in-PltLessGot : goal.returns-in_ok-plt-in-PltLessGot
-returns-in_ok-plt-in-PltLessGot c =
+pub returns-in-SymbolLessGot : goal.returns-in-SymbolLessGot
+returns-in-SymbolLessGot c =
     let row = c.args.self.now in
     let o = c.args.operands.now in
-    let l = plt_term row (completed o) in
-    let is : row.kind ≡ PltRelGotBase = has_formula row c.args.terms.now formulas.PltLessGot c.requires c.in-PltLessGot.is in
+    let t = c.args.terms.now in
     let small : o.got_base < 2 ^ 64 = search rules in
-    let e = plt_found row o c.args.terms.now c.in_ok-plt-in-PltLessGot.field-0 c.requires (sym c.plt.ensures ∙ c.in_ok-plt-in-PltLessGot.was) in
-    lacks_none row o (difference_64 l (got_term row o)) false (ap names_got_entry is) refl (e.0) (ap is_offset is) (ap (λ k. formula k row (completed o)) is)
-    ∙ ap (λ n. Ok (cast_signed w64 n)) (sym (ap (λ n. difference_64 n (bit_and o.got_base c.args.terms.now.got)) (e.1)
-    ∙ (ap (λ t. difference_64 l (bit_and o.got_base t.got)) c.requires ∙ ap (difference_64 l) (got_is row o small))))
+    plain_value row o (λ r o. difference_64 (symbol_term r o) (got_term r o)) (has_formula c.args.self.now _ formulas.SymbolLessGot c.requires c.in-SymbolLessGot.is)
+    ∙ ap (λ n. Ok (cast_signed w64 n)) (sym (ap (λ n. difference_64 n (bit_and o.got_base t.got)) (symbol_found c.args.self.now c.args.operands.now _ _ c.requires c.symbol-in-SymbolLessGot.ensures)
+    ∙ ap (difference_64 (symbol_term row o)) (got_found row o t c.requires small)))
 
-pub returns-in_ok-plt-in-PltLessPlace : goal.returns-in_ok-plt-in-PltLessPlace
-returns-in_ok-plt-in-PltLessPlace c =
+pub returns-in-PltLessGot : goal.returns-in-PltLessGot
+returns-in-PltLessGot c =
     let row = c.args.self.now in
     let o = c.args.operands.now in
-    let l = plt_term row (completed o) in
-    let is : row.kind ≡ PltRelative = has_formula row c.args.terms.now formulas.PltLessPlace c.requires c.in-PltLessPlace.is in
+    let t = c.args.terms.now in
+    let is : row.kind ≡ PltRelGotBase = has_formula row t formulas.PltLessGot c.requires c.in-PltLessGot.is in
+    let small : o.got_base < 2 ^ 64 = search rules in
+    let made : ℕ → ℕ = λ n. difference_64 n (bit_and o.got_base t.got) in
+    plt_given row o t made c.requires (ap names_got_entry is) (ap is_offset is)
+    (ap (λ k. formula k row (completed o)) is ∙ ap (λ n. Some (difference_64 (plt_term row (completed o)) n)) (sym (got_found row o t c.requires small)))
+    ∙ ap signed_in (sym (c.less-in-PltLessGot.ensures ∙ ap (of_entry made) c.plt.ensures))
+
+pub returns-in-PltLessPlace : goal.returns-in-PltLessPlace
+returns-in-PltLessPlace c =
+    let row = c.args.self.now in
+    let o = c.args.operands.now in
+    let t = c.args.terms.now in
+    let is : row.kind ≡ PltRelative = has_formula row t formulas.PltLessPlace c.requires c.in-PltLessPlace.is in
     let small : o.place < 2 ^ 64 = search rules in
-    let e = plt_found row o c.args.terms.now c.in_ok-plt-in-PltLessPlace.field-0 c.requires (sym c.plt-in-PltLessPlace.ensures ∙ c.in_ok-plt-in-PltLessPlace.was) in
-    lacks_none row o (difference_64 l (place_term row o)) false (ap names_got_entry is) refl (e.0) (ap is_offset is) (ap (λ k. formula k row (completed o)) is)
-    ∙ ap (λ n. Ok (cast_signed w64 n)) (sym (ap (λ n. difference_64 n (bit_and o.place c.args.terms.now.place)) (e.1)
-    ∙ (ap (λ t. difference_64 l (bit_and o.place t.place)) c.requires
-    ∙ ap (difference_64 l) (place_is row o (ap (λ k. is_set k row.size) is) small))))
+    let made : ℕ → ℕ = λ n. difference_64 n (bit_and o.place t.place) in
+    plt_given row o t made c.requires (ap names_got_entry is) (ap is_offset is)
+    (ap (λ k. formula k row (completed o)) is ∙ ap (λ n. Some (difference_64 (plt_term row (completed o)) n)) (sym (place_found row o t c.requires (ap (λ k. is_set k row.size) is) small)))
+    ∙ ap signed_in (sym (c.less-in-PltLessPlace.ensures ∙ ap (of_entry made) c.plt-in-PltLessPlace.ensures))
+
+pub returns-in-Size : goal.returns-in-Size
+returns-in-Size c =
+    let o = c.args.operands.now in
+    plain_value _ o size_term (has_formula c.args.self.now _ formulas.Size c.requires c.in-Size.is)
+    ∙ ap (λ n. Ok (cast_signed w64 n)) (sym (c.sum.ensures
+    ∙ (ap (λ n. sum_64 (sum_64 o.symbol_size n) c.args.terms.now.bias) (c.cast_unsigned.ensures ∙ ap (cast_unsigned w64) (to_z-of_z w64 o.addend (search rules)))
+    ∙ ap (λ t. sum_64 (sum_64 o.symbol_size (cast_unsigned w64 o.addend)) t.bias) c.requires)))
+
+pub returns-then-not-o : goal.returns-then-not-o
+returns-then-not-o c =
+    offset_value _ _ (has_formula c.args.self.now _ formulas.Offset c.requires c.in-Offset.is) ∙ cond-true _ _ _ (ap not c.if-not-o.true)
+
+pub returns-else-not-o : goal.returns-else-not-o
+returns-else-not-o c =
+    offset_value _ _ (has_formula c.args.self.now _ formulas.Offset c.requires c.in-Offset.is) ∙ (cond-false _ _ _ (ap not c.if-not-o.false)
+    ∙ ap (λ n. Ok (cast_signed w64 (difference_64 n c.args.operands.now.tls_base))) (sym (symbol_found c.args.self.now c.args.operands.now _ _ c.requires c.symbol-in-Offset.ensures)))

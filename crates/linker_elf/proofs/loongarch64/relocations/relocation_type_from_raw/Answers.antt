@@ -25,12 +25,12 @@ reads_no_other name =
 
 pub raw_info_in-requires : goal.raw_info_in-requires
 raw_info_in-requires c =
-    rw c.index.ensures (sound_from _ _ (loongarch_rows c.args.name) (loongarch_fits c.args.name))
+    sound_from _ _ (loongarch_rows c.args.name _ c.index.ensures) (loongarch_fits c.args.name)
 
 pub returns-clause-row : goal.returns-clause-row
 returns-clause-row c =
     c.with_raw_kind.ensures ∙ ap with_raw_kind c.raw_info_in.ensures.row
-    ∙ (rw c.index.ensures (loongarch_raw_rows c.args.name))
+    ∙ loongarch_raw_rows c.args.name _ c.index.ensures
 
 pub returns-clause-agrees : goal.returns-clause-agrees
 returns-clause-agrees c =

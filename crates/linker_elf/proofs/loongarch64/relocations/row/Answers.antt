@@ -8,10 +8,10 @@ use Rattle.linker_elf.proofs.RowsFit.{loongarch_fits}
 use Rattle.linker_elf.proofs.loongarch64.relocations.row.Goals as goal
 
 pub row_in-requires : goal.row_in-requires
-row_in-requires c = rw c.index.ensures (sound_from _ _ (loongarch_rows c.args.name) (loongarch_fits c.args.name))
+row_in-requires c = sound_from _ _ (loongarch_rows c.args.name _ c.index.ensures) (loongarch_fits c.args.name)
 
 pub returns-clause-row : goal.returns-clause-row
-returns-clause-row c = c.row_in.ensures ∙ (rw c.index.ensures (loongarch_rows c.args.name).row_is)
+returns-clause-row c = c.row_in.ensures ∙ (loongarch_rows c.args.name _ c.index.ensures).row_is
 
 pub returns-clause-agrees : goal.returns-clause-agrees
 returns-clause-agrees c = subst (λ row. IfSome row (LoongArchRowAgrees c.args.name)) (sym (returns-clause-row c)) (loongarch_agree c.args.name)

@@ -8,10 +8,10 @@ use Rattle.linker_elf.proofs.RowsFit.{ppc64_fits}
 use Rattle.linker_elf.proofs.ppc64.relocations.row.Goals as goal
 
 pub row_in-requires : goal.row_in-requires
-row_in-requires c = rw c.index.ensures (sound_from _ _ (ppc64_rows c.args.name) (ppc64_fits c.args.name))
+row_in-requires c = sound_from _ _ (ppc64_rows c.args.name _ c.index.ensures) (ppc64_fits c.args.name)
 
 pub returns-clause-row : goal.returns-clause-row
-returns-clause-row c = c.row_in.ensures ∙ (rw c.index.ensures (ppc64_rows c.args.name).row_is)
+returns-clause-row c = c.row_in.ensures ∙ (ppc64_rows c.args.name _ c.index.ensures).row_is
 
 pub returns-clause-agrees : goal.returns-clause-agrees
 returns-clause-agrees c = subst (λ row. IfSome row (RowAgrees)) (sym (returns-clause-row c)) (ppc64_agree c.args.name)

@@ -9,10 +9,10 @@ use Rattle.linker_elf.proofs.RowsFit.{riscv_fits}
 use Rattle.linker_elf.proofs.riscv64.relocations.relocation_type_from_raw.Goals as goal
 
 pub raw_info_in-requires : goal.raw_info_in-requires
-raw_info_in-requires c = rw c.index.ensures (sound_from _ _ (riscv_rows c.args.name) (riscv_fits c.args.name))
+raw_info_in-requires c = sound_from _ _ (riscv_rows c.args.name _ c.index.ensures) (riscv_fits c.args.name)
 
 pub returns-clause-row : goal.returns-clause-row
-returns-clause-row c = c.raw_info_in.ensures.row ∙ (rw c.index.ensures (riscv_raw_rows c.args.name))
+returns-clause-row c = c.raw_info_in.ensures.row ∙ riscv_raw_rows c.args.name _ c.index.ensures
 
 pub returns-clause-agrees : goal.returns-clause-agrees
 returns-clause-agrees c = subst (λ row. IfSome row RowAgrees) (sym (returns-clause-row c))

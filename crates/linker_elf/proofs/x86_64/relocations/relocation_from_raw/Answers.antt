@@ -4,7 +4,7 @@ use Rattle.linker_elf.proofs.RowsFit.{x86_64_fits}
 use Rattle.linker_elf.proofs.x86_64.relocations.relocation_from_raw.Goals as goal
 
 pub raw_info_in-requires : goal.raw_info_in-requires
-raw_info_in-requires c = rw c.index.ensures (sound_from _ _ (x86_64_rows c.args.name) (x86_64_fits c.args.name))
+raw_info_in-requires c = sound_from _ _ (x86_64_rows c.args.name _ c.index.ensures) (x86_64_fits c.args.name)
 
 pub returns : goal.returns
-returns c = c.raw_info_in.ensures.row ∙ (rw c.index.ensures (x86_64_raw_rows c.args.name))
+returns c = c.raw_info_in.ensures.row ∙ x86_64_raw_rows c.args.name _ c.index.ensures

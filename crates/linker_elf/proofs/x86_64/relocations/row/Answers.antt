@@ -4,7 +4,7 @@ use Rattle.linker_elf.proofs.RowsFit.{x86_64_fits}
 use Rattle.linker_elf.proofs.x86_64.relocations.row.Goals as goal
 
 pub row_in-requires : goal.row_in-requires
-row_in-requires c = rw c.index.ensures (sound_from _ _ (x86_64_rows c.args.name) (x86_64_fits c.args.name))
+row_in-requires c = sound_from _ _ (x86_64_rows c.args.name _ c.index.ensures) (x86_64_fits c.args.name)
 
 pub returns : goal.returns
-returns c = c.row_in.ensures ∙ (rw c.index.ensures (x86_64_rows c.args.name).row_is)
+returns c = c.row_in.ensures ∙ (x86_64_rows c.args.name _ c.index.ensures).row_is
