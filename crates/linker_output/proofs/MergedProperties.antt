@@ -11,7 +11,7 @@ use Rattle.linker_output.specs.declared.properties.PropertyError.TheVariants.{Wr
 use Rattle.linker_output.specs.declared.properties.PropertyError.TheVariants.{NotAscending, Differs}
 use Rattle.linker_output.specs.declared.properties.PropertyError.TheVariants.{Unknown, TooLarge}
 use Rattle.linker_output.specs.declared.properties.PropertyError.TheVariants.{TooMany, TooShort}
-use Rattle.linker_output.specs.Inner.Properties.{put_all, is_chain}
+use Rattle.linker_output.specs.Inner.Properties.{put_all}
 use Rattle.linker_elf.specs.declared.elf.architecture.Architecture.{Architecture}
 use Rattle.linker_elf.specs.declared.elf.architecture.Architecture.TheVariants.{AArch64, RiscV}
 use Rattle.linker_elf.specs.declared.elf.architecture.Architecture.TheVariants.{LoongArch64, Ppc64}
@@ -22,6 +22,12 @@ use Rattle.linker_output.specs.declared.properties.PropertyRule.TheVariants.{All
 use Rattle.linker_output.specs.declared.properties.PropertyRule.TheVariants.{Largest, Present, Same}
 
 -- ---- lists
+
+order : (k n : ℕ) → (k < n) ⊎ (n ≤ k)
+order k n = grind arith
+
+of_own : (p : Property) (xs : List Property) → of_kind p.kind (p ∷ xs) ≡ Some p
+of_own p xs = grind (arith, nat_tests)
 
 pub of_kind_is : (kind : ℕ) (ps : List Property) (p : Property) → of_kind kind ps ≡ Some p → p.kind ≡ kind
 of_kind_is kind [] p e = absurd (cc)
@@ -35,25 +41,17 @@ of_kind_last : (kind : ℕ) (ps : List Property) (p : Property) → p.kind ≡ k
 of_kind_last kind [] p same e = grind (arith, nat_tests)
 of_kind_last kind (q ∷ ps) p same e = (let h = of_kind_last kind ps p same in grind (arith, nat_tests))
 
-chain_more : (ps : List Property) (least bound next : ℕ) → is_chain least ps bound ≡ true → bound ≤ next → is_chain least ps next ≡ true
-chain_more [] least bound next h le = grind (arith, nat_tests)
-chain_more (q ∷ ps) least bound next h le = (let k = chain_more ps (q.kind + 1) bound next in grind (arith, nat_tests))
-
-chain_low : (ps : List Property) (least bound : ℕ) → is_chain least ps bound ≡ true → least ≤ bound
-chain_low [] least bound h = grind (arith, nat_tests)
-chain_low (q ∷ ps) least bound h = (let k = chain_low ps (q.kind + 1) bound in grind (arith, nat_tests))
-
-pub chain_none : (ps : List Property) (least bound kind : ℕ) → is_chain least ps bound ≡ true → bound ≤ kind → of_kind kind ps ≡ None
-chain_none [] least bound kind h le = refl
-chain_none (q ∷ ps) least bound kind h le = (let k = chain_none ps (q.kind + 1) bound kind in let l = chain_low ps (q.kind + 1) bound in grind (arith, nat_tests))
-
-chain_last : (ps : List Property) (least bound : ℕ) (p : Property) → is_chain least ps bound ≡ true → p.kind ≡ bound → is_chain least (ps ++ p ∷ []) (bound + 1) ≡ true
-chain_last [] least bound p h e = grind (arith, nat_tests)
-chain_last (q ∷ ps) least bound p h e = (let k = chain_last ps (q.kind + 1) bound p in grind (arith, nat_tests))
-
-pub chain_ascends : (ps : List Property) (least bound : ℕ) → is_chain least ps bound ≡ true → are_ascending least ps ≡ true
-chain_ascends [] least bound h = refl
-chain_ascends (q ∷ ps) least bound h = (let k = chain_ascends ps (q.kind + 1) bound in grind (arith, nat_tests))
+-- a property above all others
+ascends_last : (ps : List Property) (least : ℕ) (p : Property) → are_ascending least ps ≡ true → least ≤ p.kind → ((kind : ℕ) → p.kind ≤ kind → of_kind kind ps ≡ None) → are_ascending least (ps ++ p ∷ []) ≡ true
+ascends_last [] least p h le above = grind (arith, nat_tests)
+ascends_last (q ∷ ps) least p h le above =
+    let lt : q.kind < p.kind = elim (order q.kind p.kind) [
+      | inl below ↦ below
+      | inr le ↦ (let none = above q.kind le in let own = of_own q ps in absurd (cc))
+    ] in
+    let rest : are_ascending (q.kind + 1) ps ≡ true = grind (arith, nat_tests) in
+    let k = ascends_last ps (q.kind + 1) p rest (omega arith) (λ kind le. (let none = above kind le in grind (arith, nat_tests))) in
+    grind (arith, nat_tests)
 
 -- ---- properties in a slice
 
@@ -81,39 +79,39 @@ none_made (Some Same) kind = refl
 
 -- the merged properties so far
 pub record SoFar (architecture : Architecture) (first second done : List Property) (bound : ℕ) : Type 0 where
-  pub chain : is_chain 0 done bound ≡ true
+  pub ascending : are_ascending 0 done ≡ true
+  pub above : (kind : ℕ) → bound ≤ kind → of_kind kind done ≡ None
   pub exact : (kind : ℕ) → kind < bound → merged_kind architecture first second kind ≡ Ok (of_kind kind done)
-
-order : (k n : ℕ) → (k < n) ⊎ (n ≤ k)
-order k n = grind arith
 
 pub skip : (architecture : Architecture) (first second done : List Property) (bound next : ℕ) → bound ≤ next
     → ((k : ℕ) → bound ≤ k → k < next → of_kind k first ≡ None)
     → ((k : ℕ) → bound ≤ k → k < next → of_kind k second ≡ None)
     → SoFar architecture first second done bound → SoFar architecture first second done next
 skip architecture first second done bound next le one two s = record {
-  chain = chain_more done 0 bound next s.chain le;
+  ascending = s.ascending;
+  above = λ kind over. s.above kind (omega arith);
   exact = λ kind lt. elim (order kind bound) [
     | inl below ↦ s.exact kind below
     | inr above ↦
-        rw (one kind above lt, two kind above lt, chain_none done 0 bound kind s.chain above)
+        rw (one kind above lt, two kind above lt, s.above kind above)
         (none_made (rule_of architecture kind) kind)
   ];
 }
 
 pub begun : (architecture : Architecture) (first second : List Property) → SoFar architecture first second [] 0
-begun architecture first second = record { chain = refl; exact = λ kind lt. absurd (omega arith) }
+begun architecture first second = record { ascending = refl; above = λ kind le. refl; exact = λ kind lt. absurd (omega arith) }
 
 pub without : (architecture : Architecture) (first second done : List Property) (kind : ℕ)
     → merged_kind architecture first second kind ≡ Ok None
     → SoFar architecture first second done kind → SoFar architecture first second done (kind + 1)
 without architecture first second done kind e s = record {
-  chain = chain_more done 0 kind (kind + 1) s.chain (omega arith);
+  ascending = s.ascending;
+  above = λ k over. s.above k (omega arith);
   exact = λ k lt. elim (order k kind) [
     | inl below ↦ s.exact k below
     | inr above ↦
         let same : k ≡ kind = omega arith in
-        rw (same, chain_none done 0 kind kind s.chain (omega arith)) e
+        rw (same, s.above kind (omega arith)) e
   ];
 }
 
@@ -121,12 +119,13 @@ pub with : (architecture : Architecture) (first second done : List Property) (ki
     → merged_kind architecture first second kind ≡ Ok (Some p) → p.kind ≡ kind
     → SoFar architecture first second done kind → SoFar architecture first second (done ++ p ∷ []) (kind + 1)
 with architecture first second done kind p e is s = record {
-  chain = chain_last done 0 kind p s.chain is;
+  ascending = ascends_last done 0 p s.ascending (omega arith) (λ k le. s.above k (omega arith));
+  above = λ k over. of_kind_other k done p (λ h. (omega arith)) ∙ s.above k (omega arith);
   exact = λ k lt. elim (order k kind) [
     | inl below ↦ s.exact k below ∙ sym (ap Ok (of_kind_other k done p (λ h. (omega arith))))
     | inr above ↦
         let same : k ≡ kind = omega arith in
-        rw (same, of_kind_last kind done p is (chain_none done 0 kind kind s.chain (omega arith))) e
+        rw (same, of_kind_last kind done p is (s.above kind (omega arith))) e
   ];
 }
 
@@ -166,11 +165,11 @@ no_rule Ppc64 kind le = grind (arith, nat_tests)
 pub whole : (architecture : Architecture) (first second done : List Property) (bound : ℕ) → 2 ^ 32 ≤ bound
     → SoFar architecture first second done bound → Merges architecture first second done
 whole architecture first second done bound le s = record {
-  ascending = chain_ascends done 0 bound s.chain;
+  ascending = s.ascending;
   exact = λ kind. elim (order kind bound) [
     | inl below ↦ s.exact kind below
     | inr above ↦
-        rw (no_rule architecture kind (omega arith), chain_none done 0 bound kind s.chain above) refl
+        rw (no_rule architecture kind (omega arith), s.above kind above) refl
   ];
 }
 
@@ -214,9 +213,6 @@ never architecture first second properties error m d = let e = m.exact d.0 in le
 low_none : (xs : List Property) (least kind : ℕ) → are_ascending least xs ≡ true → kind < least → of_kind kind xs ≡ None
 low_none [] least kind h lt = refl
 low_none (p ∷ xs) least kind h lt = (let k = low_none xs (p.kind + 1) kind in grind (arith, nat_tests))
-
-of_own : (p : Property) (xs : List Property) → of_kind p.kind (p ∷ xs) ≡ Some p
-of_own p xs = grind (arith, nat_tests)
 
 -- two lists' heads have one type
 heads : (p q : Property) (xs ys : List Property) (one two : ℕ)

@@ -15,6 +15,7 @@ use Rattle.linker_section.proofs.Saving.{undone, restores_more, restores_by, res
 use Rattle.linker_elf.specs.Value.{sum_64}
 use Rattle.linker_section.specs.Inner.Saved.{IsSavedAt, with_word, saved_place, Restores}
 use Rattle.std.specs.Prelude.{slice_index}
+use Rattle.linker_section.specs.declared.sections.RelocationError.{RelocationError}
 use Rattle.linker_section.specs.declared.sections.SectionError.{SectionError}
 use Rattle.linker_section.proofs.Rows.{one_info}
 use Rattle.linker_section.proofs.Ulebs.{some_uleb, uleb_len_is, uleb_len_most}
@@ -23,9 +24,9 @@ use Rattle.std.proofs.lemmas.Bool.{or_left, or_right}
 use Rattle.linker_section.proofs.Valued.{no_value}
 use Rattle.linker_section.specs.Fields.{IsField, continues, field_end, field_len, begins_pair, ends_pair, is_of_pair, uleb_len, of_number, of_pair, AreApart, IsOverlapped}
 use Rattle.linker_section.specs.Inner.Claims.{is_clear_of, next_field, AreClaimed, HasField}
-use Rattle.linker_section.specs.Inner.Steps.{Ascends, IsInOrder, IsLimit, IsStopped, clear_in, field_of_row}
+use Rattle.linker_section.specs.Inner.Steps.{Ascends, IsInOrder, IsLimit, IsStopped, Reached, clear_in, field_of_row}
 use Rattle.linker_section.specs.Relocations.{relocation_in}
-use Rattle.linker_section.specs.Sections.{IsWritten, BeginsPair, IsPairWritten, IsFirstRejected}
+use Rattle.linker_section.specs.Sections.{IsWritten, BeginsPair, IsPairWritten, IsFirstRejected, IsCauseAt}
 use Rattle.linker_section.specs.Values.{has_value, offset_at, IsValue}
 use Rattle.linker_section.specs.declared.facts.Addresses.{Addresses}
 use Rattle.linker_section.specs.declared.facts.Symbol.{Symbol}
@@ -491,6 +492,27 @@ pub set_above : (memory : List ℕ) (k n word : ℕ) → k ≤ n
     → (i : ℕ) → i < k → slice_index (set memory n word) i ≡ slice_index memory i
 set_above memory k n word most i below =
     get_or-set_other memory n i word 0 (λ same. omega (arith, same, below, most))
+
+-- the value at the index can't be written, and the word there is kept
+pub stop_at : (limit : Option ℕ) (architecture : Architecture) (addresses : Addresses)
+    (bytes before now memory : List ℕ) (symbols : List Symbol) (k word : ℕ) (last : Field)
+    (error : RelocationError)
+    → Reached architecture addresses bytes symbols limit before now memory k last
+    → k < length bytes / 24 → IsCauseAt architecture addresses bytes symbols before k now error
+    → IsStopped architecture addresses bytes symbols before now (set memory k word)
+    (record { count = k; error = record { index = k; error = error } })
+stop_at limit architecture addresses bytes before now memory symbols k word last error reached there cause =
+    stop architecture addresses bytes before now memory (set memory k word) symbols k (record { index = k; error = error })
+    reached.below.within (set_above memory k k word (omega arith)) reached.below.restores
+    (record {
+      within = there;
+      apart = apart_now limit architecture bytes before now k last reached.is_limit reached.order;
+      written = k;
+      is_next = inl refl;
+      now = now;
+      relocated = reached.below.relocated;
+      cause = cause;
+    })
 
 -- ---- a pair
 

@@ -14,6 +14,7 @@ ghost use Rattle.linker_section.specs.Values.{names_label, is_auipc, is_high_kin
 ghost use Rattle.linker_section.specs.Values.{IsHighPart, IsHighPartAt, IsNoHighPart, low_operands};
 ghost use Rattle.linker_section.specs.Values.{low_value, IsValueBy, IsValue};
 ghost use Rattle.linker_elf.specs.Architectures.{IsRow};
+ghost use Rattle.linker_elf.specs.Entries.{is_of_high_part};
 
 use crate::facts::{Addresses, Symbol};
 use crate::needed::{Entry, EntryClass, entry_by};
@@ -378,6 +379,20 @@ fn own_value(
     }
 }
 
+/// Whether it is a low part of RISC-V.
+#[inline(always)]
+fn is_low_part(size: RelocationSize) -> bool
+    ensures { result ≡ is_of_high_part size }
+{
+    matches!(
+        size,
+        RelocationSize::BitMasking {
+            insn: RelocationInstruction::RiscV(RiscVInstruction::IType | RiscVInstruction::SType),
+            ..
+        }
+    )
+}
+
 /// Whether the symbol labels a high part.
 #[inline(always)]
 fn names_label(size: RelocationSize, kind: RelocationKind) -> bool
@@ -385,15 +400,7 @@ fn names_label(size: RelocationSize, kind: RelocationKind) -> bool
 {
     match kind {
         RelocationKind::RelativeRiscVLow12 => true,
-        RelocationKind::TlsDesc => matches!(
-            size,
-            RelocationSize::BitMasking {
-                insn: RelocationInstruction::RiscV(
-                    RiscVInstruction::IType | RiscVInstruction::SType
-                ),
-                ..
-            }
-        ),
+        RelocationKind::TlsDesc => is_low_part(size),
         _ => false,
     }
 }

@@ -1,5 +1,5 @@
 -- The deletions and deltas that C passes.
-use Rattle.std.specs.Prelude.{◌≡◌, ℕ, ◌+◌, ◌/◌, ◌%◌, ◌^◌, ◌++◌, ◌<◌, List, length, map, take}
+use Rattle.std.specs.Prelude.{◌≡◌, ℕ, ◌+◌, ◌/◌, ◌%◌, ◌^◌, ◌++◌, ◌<◌, ◌⊎◌, List, length, map, take}
 use Rattle.std.specs.List.Sorted.{IsNonDecreasing}
 use Rattle.linker_base.specs.declared.relaxation.RelaxDelta.{RelaxDelta}
 use Rattle.linker_base.specs.Deletions.{AreDisjoint, IsValid, IsSortedUnion}
@@ -10,6 +10,10 @@ use Rattle.linker_utils_c.specs.declared.merges.MergeError.{MergeError}
 use Rattle.linker_utils_c.specs.declared.merges.MergeError.TheVariants.{OutOfMemory, Invalid}
 use Rattle.linker_utils_c.specs.declared.merges.MergeError.TheVariants.{Overlapping}
 use Rattle.linker_utils_c.specs.declared.merges.Key.{Key}
+use Rattle.linker_utils_c.specs.declared.status.Status.TheVariants.{Success, InvalidDeletions}
+use Rattle.linker_utils_c.specs.declared.status.Status.TheVariants.{NotMergeable}
+use Rattle.linker_utils_c.specs.declared.status.Status.TheVariants as statuses
+use Rattle.linker_utils_c.specs.Status.{code}
 
 abbrev pub pair_of : Deletion → ℕ × ℕ
 pair_of deletion = (deletion.offset, deletion.bytes)
@@ -40,6 +44,17 @@ IsMergeError deletions additional OutOfMemory = IsValid deletions
 IsMergeError deletions additional (Invalid at) = IsFirstInvalid deletions at
 IsMergeError deletions additional (Overlapping at) = IsValid deletions
     × IsFirstOverlapping deletions additional at
+
+-- the deltas list the old and the additional deletions, or the status says why not, and the index
+-- is that of the old or of the additional one that is at fault
+abbrev pub AreMergedOrFaulty : List (ℕ × ℕ) → List (ℕ × ℕ) → List RelaxDelta → ℕ → ℕ → Type 0
+AreMergedOrFaulty deletions additional merged faulty status =
+    ((status ≡ code Success) × IsValid deletions × AreMerged (deletions ++ additional) merged)
+    ⊎ ((status ≡ code statuses.OutOfMemory) × IsValid deletions
+    × AreDisjoint (deletions ++ additional))
+    ⊎ ((status ≡ code InvalidDeletions) × ¬ IsValid deletions × IsFirstInvalid deletions faulty)
+    ⊎ ((status ≡ code NotMergeable) × IsValid deletions × ¬ AreDisjoint (deletions ++ additional)
+    × IsFirstOverlapping deletions additional faulty)
 
 -- the query at the index is the first that is less than the one before it
 pub record IsFirstDecrease (queries : List ℕ) (at : ℕ) : Type 0 where

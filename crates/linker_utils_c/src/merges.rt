@@ -1,14 +1,14 @@
 //! Deletions that are merged into deltas.
 
-ghost use Rattle.std.specs.Prelude.{◌≡◌, ◌≢◌, ◌+◌, ◌++◌, ◌↔◌, ◌⊎◌, IfOk, IfSome, OnErr};
+ghost use Rattle.std.specs.Prelude.{◌≡◌, ◌≢◌, ◌+◌, ◌++◌, ◌↔◌, IfOk, IfSome, OnErr};
 ghost use Rattle.std.specs.Prelude.{MatchOption, MatchResult, length, map, IsPermutation};
 ghost use Rattle.std.specs.List.Sorted.{IsNonDecreasingBy};
 ghost use Rattle.linker_base.specs.Deletions.{AreDisjoint, IsValid};
 ghost use Rattle.linker_base.specs.Deltas.{deletions_of};
-ghost use Rattle.linker_base.specs.Listed.{AreValidTogether, IsFirstInvalid, IsFirstOverlapping};
+ghost use Rattle.linker_base.specs.Listed.{AreValidTogether};
 ghost use Rattle.linker_utils_c.specs.Status.{code};
 ghost use Rattle.linker_utils_c.specs.Deltas.{pair_of, pair_of_key, pairs_in, AreMerged};
-ghost use Rattle.linker_utils_c.specs.Deltas.{IsMergeError};
+ghost use Rattle.linker_utils_c.specs.Deltas.{IsMergeError, AreMergedOrFaulty};
 
 use crate::deltas::Deletion;
 use crate::status::Status;
@@ -61,29 +61,15 @@ pub extern "C" fn linker_utils_deltas_merge_nonnull(
     merged: &mut [RelaxDelta],
     faulty: &mut usize,
 ) -> u32
-    ensures merged { result ≡ code Status.Success
-        → AreMerged (deletions_of deltas.now ++ pairs_in additional.now) merged.new }
     ensures different_lengths { (result ≡ code Status.DifferentLengths)
         ↔ (length merged.old ≢ length deltas.now + length additional.now) }
-    ensures invalid { (result ≡ code Status.InvalidDeletions)
-        ↔ ((length merged.old ≡ length deltas.now + length additional.now)
-        × ¬ IsValid (deletions_of deltas.now)) }
-    ensures accepted { length merged.old ≡ length deltas.now + length additional.now
-        → IsValid (deletions_of deltas.now)
-        → AreDisjoint (deletions_of deltas.now ++ pairs_in additional.now)
-        → (result ≡ code Status.Success) ⊎ (result ≡ code Status.OutOfMemory) }
+    ensures outcome { length merged.old ≡ length deltas.now + length additional.now
+        → AreMergedOrFaulty (deletions_of deltas.now) (pairs_in additional.now) merged.new
+        faulty.new result }
     ensures ascending { length merged.old ≡ length deltas.now + length additional.now
         → AreValidTogether (deletions_of deltas.now) (pairs_in additional.now)
         → result ≡ code Status.Success }
-    ensures overlapping { (result ≡ code Status.NotMergeable)
-        ↔ ((length merged.old ≡ length deltas.now + length additional.now)
-        × IsValid (deletions_of deltas.now)
-        × ¬ AreDisjoint (deletions_of deltas.now ++ pairs_in additional.now)) }
     ensures unchanged { result ≢ code Status.Success → merged.new ≡ merged.old }
-    ensures faulty_delta { result ≡ code Status.InvalidDeletions
-        → IsFirstInvalid (deletions_of deltas.now) faulty.new }
-    ensures faulty_deletion { result ≡ code Status.NotMergeable
-        → IsFirstOverlapping (deletions_of deltas.now) (pairs_in additional.now) faulty.new }
     ensures faulty_stays { result ≢ code Status.InvalidDeletions
         → result ≢ code Status.NotMergeable → faulty.new ≡ faulty.old }
 {

@@ -1,16 +1,11 @@
 //! The items that a section's relocations make, in arrays of the caller's.
 
-ghost use Rattle.std.specs.Prelude.{◌≡◌, ◌≢◌, ◌+◌, ◌^◌, ◌≤◌, ◌↔◌, ◌⊎◌, All, IsTrue, length};
-ghost use Rattle.std.specs.Prelude.{take, drop, Some, None};
-ghost use Rattle.linker_runs.specs.RewrittenItems.{AreRewrittenItems, IsRewrittenCause};
-ghost use Rattle.linker_runs.specs.declared.items.rewritten.RewrittenItemsError.TheVariants as why;
-ghost use Rattle.linker_runs.specs.Relocations.{AreMade, AreWellFormed, IsFirstMalformed};
-ghost use Rattle.linker_runs.specs.SectionItems.{Makes, IsFormed};
-ghost use Rattle.linker_runs.specs.declared.packing.Machine.{Machine as machines};
+ghost use Rattle.std.specs.Prelude.{◌≡◌, ◌≢◌, ◌+◌, ◌↔◌, IsTrue, IfSome, IfNone, length};
+ghost use Rattle.std.specs.Prelude.{take, drop};
 ghost use Rattle.linker_utils_c.specs.Deltas.{pairs_in};
 ghost use Rattle.linker_utils_c.specs.PackRuns.{packing_machine};
-ghost use Rattle.linker_utils_c.specs.Relaxing.{items_in, HasKind};
-ghost use Rattle.linker_utils_c.specs.SectionItems.{relocations_in};
+ghost use Rattle.linker_utils_c.specs.SectionItems.{relocations_in, AreListedBy};
+ghost use Rattle.linker_utils_c.specs.SectionItems.{AreItemsOrMalformed, AreRewrittenOrFaulty};
 ghost use Rattle.linker_utils_c.specs.Status.{code};
 
 use crate::deltas::Deletion;
@@ -85,30 +80,13 @@ pub extern "C" fn linker_utils_section_items_nonnull(
     len: &mut usize,
     faulty: &mut usize,
 ) -> u32
-    ensures known { (result ≡ code Status.Success) ⊎ (result ≡ code Status.UnknownArchitecture)
-        ⊎ (result ≡ code Status.DifferentLengths) ⊎ (result ≡ code Status.EndsTooHigh)
-        ⊎ (result ≡ code Status.MalformedRelocation) }
-    ensures unknown { (result ≡ code Status.UnknownArchitecture)
-        ↔ (packing_machine machine ≡ None) }
-    ensures different_lengths { (result ≡ code Status.DifferentLengths)
-        ↔ ((packing_machine machine ≢ None) × ((length items.old ≢ length relocations.now)
-        ⊎ (length makers.old ≢ length relocations.now))) }
-    ensures too_high { (result ≡ code Status.EndsTooHigh)
-        ↔ ((packing_machine machine ≢ None) × (length items.old ≡ length relocations.now)
-        × (length makers.old ≡ length relocations.now) × (2 ^ 64 ≤ base + length section.now)) }
-    ensures made { result ≡ code Status.Success → (of : machines)
-        → packing_machine machine ≡ Some of
-        → AreMade (Makes of section.now base (relocations_in relocations.now))
-        (length relocations.now) (items_in (take len.new items.new)) (take len.new makers.new) }
-    ensures kinds { result ≡ code Status.Success → All HasKind (take len.new items.new) }
-    ensures formed { result ≡ code Status.Success → (of : machines)
-        → packing_machine machine ≡ Some of
-        → AreWellFormed (IsFormed of section.now)
-        (relocations_in relocations.now) (length relocations.now) }
-    ensures malformed { result ≡ code Status.MalformedRelocation → (of : machines)
-        → packing_machine machine ≡ Some of
-        → IsFirstMalformed (IsFormed of section.now)
-        (relocations_in relocations.now) faulty.new }
+    ensures known { IfSome (packing_machine machine) (λ of. AreListedBy
+        (length relocations.now) (length items.old) (length makers.old)
+        (base + length section.now) (AreItemsOrMalformed of section.now base
+        (relocations_in relocations.now) (take len.new items.new) (take len.new makers.new)
+        faulty.new result) result) }
+    ensures unknown { IfNone (packing_machine machine)
+        (result ≡ code Status.UnknownArchitecture) }
     ensures others_stay { result ≡ code Status.Success
         → (drop len.new items.new ≡ drop len.new items.old)
         × (drop len.new makers.new ≡ drop len.new makers.old) }
@@ -167,38 +145,13 @@ pub extern "C" fn linker_utils_rewritten_items_nonnull(
     len: &mut usize,
     faulty: &mut usize,
 ) -> u32
-    ensures known { (result ≡ code Status.Success) ⊎ (result ≡ code Status.UnknownArchitecture)
-        ⊎ (result ≡ code Status.DifferentLengths) ⊎ (result ≡ code Status.EndsTooHigh)
-        ⊎ (result ≡ code Status.MalformedRelocation) ⊎ (result ≡ code Status.InvalidDeletions)
-        ⊎ (result ≡ code Status.ItemsOverlap) }
-    ensures unknown { (result ≡ code Status.UnknownArchitecture)
-        ↔ (packing_machine machine ≡ None) }
-    ensures different_lengths { (result ≡ code Status.DifferentLengths)
-        ↔ ((packing_machine machine ≢ None)
-        × ((length items.old ≢ length relocations.now + length deleted.now)
-        ⊎ (length makers.old ≢ length relocations.now + length deleted.now))) }
-    ensures too_high { (result ≡ code Status.EndsTooHigh)
-        ↔ ((packing_machine machine ≢ None)
-        × (length items.old ≡ length relocations.now + length deleted.now)
-        × (length makers.old ≡ length relocations.now + length deleted.now)
-        × (2 ^ 64 ≤ base + length section.now)) }
-    ensures listed { result ≡ code Status.Success → (of : machines)
-        → packing_machine machine ≡ Some of
-        → AreRewrittenItems of section.now base (relocations_in relocations.now)
-        (pairs_in deleted.now) (items_in (take len.new items.new)) (take len.new makers.new) }
-    ensures kinds { result ≡ code Status.Success → All HasKind (take len.new items.new) }
-    ensures malformed { result ≡ code Status.MalformedRelocation → (of : machines)
-        → packing_machine machine ≡ Some of
-        → IsRewrittenCause of section.now base (relocations_in relocations.now)
-        (pairs_in deleted.now) (why.Malformed faulty.new) }
-    ensures misplaced { result ≡ code Status.InvalidDeletions → (of : machines)
-        → packing_machine machine ≡ Some of
-        → IsRewrittenCause of section.now base (relocations_in relocations.now)
-        (pairs_in deleted.now) (why.Misplaced faulty.new) }
-    ensures overlaps { result ≡ code Status.ItemsOverlap → (of : machines)
-        → packing_machine machine ≡ Some of
-        → IsRewrittenCause of section.now base (relocations_in relocations.now)
-        (pairs_in deleted.now) (why.Overlaps faulty.new) }
+    ensures known { IfSome (packing_machine machine) (λ of. AreListedBy
+        (length relocations.now + length deleted.now) (length items.old) (length makers.old)
+        (base + length section.now) (AreRewrittenOrFaulty of section.now base
+        (relocations_in relocations.now) (pairs_in deleted.now) (take len.new items.new)
+        (take len.new makers.new) faulty.new result) result) }
+    ensures unknown { IfNone (packing_machine machine)
+        (result ≡ code Status.UnknownArchitecture) }
     ensures others_stay { result ≡ code Status.Success
         → (drop len.new items.new ≡ drop len.new items.old)
         × (drop len.new makers.new ≡ drop len.new makers.old) }

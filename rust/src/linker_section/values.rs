@@ -329,16 +329,22 @@ fn own_value(
     }
 }
 
+/// Whether it is a low part of RISC-V.
+#[inline(always)]
+fn is_low_part(size: RelocationSize) -> bool {
+    matches_any!(
+        size,
+        #[cfg(feature = "riscv64")]
+        RelocationSize::BitMasking { insn: RelocationInstruction::RiscV(RiscVInstruction::IType | RiscVInstruction::SType), .. }
+    )
+}
+
 /// Whether the symbol labels a high part.
 #[inline(always)]
 fn names_label(size: RelocationSize, kind: RelocationKind) -> bool {
     match kind {
         RelocationKind::RelativeRiscVLow12 => true,
-        RelocationKind::TlsDesc => matches_any!(
-            size,
-            #[cfg(feature = "riscv64")]
-            RelocationSize::BitMasking { insn: RelocationInstruction::RiscV( RiscVInstruction::IType | RiscVInstruction::SType ), .. }
-        ),
+        RelocationKind::TlsDesc => is_low_part(size),
         _ => false,
     }
 }

@@ -1,6 +1,6 @@
 -- How the code writes properties.
-use Rattle.std.specs.Prelude.{◌≡◌, ◌≤◌, ◌<◌, ◌^◌, ℕ, ◌+◌, ◌&&◌, ◌*◌, ◌++◌, nat_le, length, take}
-use Rattle.std.specs.Prelude.{drop, Bool, true, List, [], ◌∷◌, Some, Err}
+use Rattle.std.specs.Prelude.{◌≡◌, ◌≤◌, ◌<◌, ◌^◌, ℕ, ◌+◌, ◌*◌, ◌++◌, length, take, drop, true}
+use Rattle.std.specs.Prelude.{List, [], ◌∷◌, Some, Err}
 use Rattle.linker_output.specs.declared.properties.Property.{Property}
 use Rattle.linker_elf.specs.declared.elf.architecture.Architecture.{Architecture}
 use Rattle.linker_output.specs.declared.properties.PropertyRule.{PropertyRule}
@@ -12,12 +12,6 @@ abbrev pub put_all : List Property → List Property → List Property
 put_all [] before = before
 put_all (property ∷ properties) [] = []
 put_all (property ∷ properties) (first ∷ others) = property ∷ put_all properties others
-
--- the types ascend from the least one on, and are below a bound
-abbrev pub is_chain : ℕ → List Property → ℕ → Bool
-is_chain least [] bound = nat_le least bound
-is_chain least (property ∷ properties) bound =
-    nat_le least property.kind && is_chain (property.kind + 1) properties bound
 
 -- a property's numbers have its fields' widths, and so have all of a list
 pub record IsSlim (property : Property) : Type 0 where

@@ -1,8 +1,9 @@
-use Rattle.std.proofs.Common.{◌≡◌, ◌<◌, ◌^◌, ◌∙◌, refl, sym, ap, subst, arith, rules, length, take, Ok}
+use Rattle.std.proofs.Common.{◌≡◌, ◌<◌, ◌^◌, ◌∙◌, refl, sym, ap, subst, arith, rules, length, take, Ok, None}
 use Rattle.std.specs.Prelude.{IfSome, IfNone}
 use Rattle.linker_section.proofs.Reaching.{below_first, below_kept, below_quickly, front_first, front_quickly, front_slowly, end_fits, there_is, there_isnt, rest_after, first_run, only_run}
-use Rattle.linker_section.specs.Inner.Steps.{IsFront, IsQuickStep, IsSlowStep}
+use Rattle.linker_section.specs.Inner.Steps.{IsFront, IsQuickStep, IsSlowStep, IsStep}
 use Rattle.linker_section.specs.Relocations.{relocation_of}
+use Rattle.linker_section.proofs.ascending.write_ascending.Goals.{After-write_slowly, In-Ok-Some}
 use Rattle.linker_section.proofs.ascending.write_ascending.Goals as goal
 
 pub loop-entry-init : goal.loop-entry-init
@@ -48,69 +49,56 @@ loop-entry-preserved-in-Some-write_quickly c =
       high = c.in-Some-write_quickly.ensures.high;
     }
 
+-- what the slow step says, from where the quick one changed nothing
+step : (c : After-write_slowly) → IsSlowStep c.args.architecture c.args.addresses.now c.args.relocations.now c.args.symbols.now c.args.section.now c.loop-entry.index c.write_slowly.new.section c.write_slowly.new.memory c.write_slowly.result
+step c =
+    let a = c.args in
+    let bytes = a.relocations.now in
+    let l = c.loop-entry in
+    let inv = l.invariant in
+    let same = subst (λ x. IfNone x (c.write_quickly.new.section ≡ l.section)) c.in_default-write_quickly.is c.write_quickly.ensures.none in
+    c.write_slowly.ensures.step a.section.now l.end
+    (below_kept a.architecture a.addresses.now bytes a.symbols.now a.section.now l.section c.write_quickly.new.section l.memory c.write_quickly.new.memory l.index same c.write_quickly.ensures.kept inv.below)
+    (subst (λ section. IsFront a.architecture bytes a.section.now section l.index l.step l.end) (sym same) inv.front)
+
+-- the same where there is a next step
+next_step : (c : In-Ok-Some) → IsStep c.args.architecture c.args.addresses.now c.args.relocations.now c.args.symbols.now None c.args.section.now c.loop-entry.index c.write_slowly.new.section c.write_slowly.new.memory (Ok c.in-Ok-Some.next)
+next_step c =
+    let a = c.args in
+    subst (IsSlowStep a.architecture a.addresses.now a.relocations.now a.symbols.now a.section.now c.loop-entry.index c.write_slowly.new.section c.write_slowly.new.memory)
+    (c.in-Ok-Some.is ∙ ap Ok c.in-Ok-Some.field-0-is) (step (goal.at.In-Ok-Some c).After-write_slowly)
+
 pub overflow_add-end : goal.overflow_add-end
 overflow_add-end c =
     let a = c.args in
-    let bytes = a.relocations.now in
-    let l = c.loop-entry in
-    let inv = l.invariant in
-    let same = subst (λ x. IfNone x (c.write_quickly.new.section ≡ l.section)) c.in_default-write_quickly.is c.write_quickly.ensures.none in
-    let below = below_kept a.architecture a.addresses.now bytes a.symbols.now a.section.now l.section c.write_quickly.new.section l.memory c.write_quickly.new.memory l.index same c.write_quickly.ensures.kept inv.below in
-    let front = subst (λ section. IsFront a.architecture bytes a.section.now section l.index l.step l.end) (sym same) inv.front in
-    let step = subst (IsSlowStep a.architecture a.addresses.now bytes a.symbols.now a.section.now l.index c.write_slowly.new.section c.write_slowly.new.memory)
-    (c.in-Ok-Some.is ∙ ap Ok c.in-Ok-Some.field-0-is) (c.write_slowly.ensures.step a.section.now l.end below front) in
     let next = c.in-Ok-Some.next in
     let long : length a.section.now < 2 ^ 63 = search rules in
     let fits : next.last.offset < 2 ^ 64 = search rules in
-    let small = end_fits a.architecture a.addresses.now bytes a.symbols.now a.section.now c.write_slowly.new.section c.write_slowly.new.memory next.index next.last (step.1) long fits in
+    let small = end_fits a.architecture a.addresses.now a.relocations.now a.symbols.now a.section.now c.write_slowly.new.section c.write_slowly.new.memory next.index next.last (next_step (goal.at.overflow_add-end c).In-Ok-Some).1 long fits in
     omega (arith, small)
 
 pub relocations_from-rest-requires : goal.relocations_from-rest-requires
-relocations_from-rest-requires c =
-    let a = c.args in
-    let bytes = a.relocations.now in
-    let l = c.loop-entry in
-    let inv = l.invariant in
-    let same = subst (λ x. IfNone x (c.write_quickly.new.section ≡ l.section)) c.in_default-write_quickly.is c.write_quickly.ensures.none in
-    let below = below_kept a.architecture a.addresses.now bytes a.symbols.now a.section.now l.section c.write_quickly.new.section l.memory c.write_quickly.new.memory l.index same c.write_quickly.ensures.kept inv.below in
-    let front = subst (λ section. IsFront a.architecture bytes a.section.now section l.index l.step l.end) (sym same) inv.front in
-    let step = subst (IsSlowStep a.architecture a.addresses.now bytes a.symbols.now a.section.now l.index c.write_slowly.new.section c.write_slowly.new.memory)
-    (c.in-Ok-Some.is ∙ ap Ok c.in-Ok-Some.field-0-is) (c.write_slowly.ensures.step a.section.now l.end below front) in
-    step.1.below.within
+relocations_from-rest-requires c = (next_step (goal.at.relocations_from-rest-requires c).In-Ok-Some).1.below.within
 
 pub loop-entry-smaller : goal.loop-entry-smaller
 loop-entry-smaller c =
-    let a = c.args in
-    let bytes = a.relocations.now in
     let l = c.loop-entry in
-    let inv = l.invariant in
-    let same = subst (λ x. IfNone x (c.write_quickly.new.section ≡ l.section)) c.in_default-write_quickly.is c.write_quickly.ensures.none in
-    let below = below_kept a.architecture a.addresses.now bytes a.symbols.now a.section.now l.section c.write_quickly.new.section l.memory c.write_quickly.new.memory l.index same c.write_quickly.ensures.kept inv.below in
-    let front = subst (λ section. IsFront a.architecture bytes a.section.now section l.index l.step l.end) (sym same) inv.front in
-    let step = subst (IsSlowStep a.architecture a.addresses.now bytes a.symbols.now a.section.now l.index c.write_slowly.new.section c.write_slowly.new.memory)
-    (c.in-Ok-Some.is ∙ ap Ok c.in-Ok-Some.field-0-is) (c.write_slowly.ensures.step a.section.now l.end below front) in
     let len = c.in-Some.ensures.cases.2 in
-    let there = there_is bytes l.rest.now l.index inv.rest (omega (arith, len)) in
-    let more = step.0 in
+    let there = there_is c.args.relocations.now l.rest.now l.index l.invariant.rest (omega (arith, len)) in
+    let more = (next_step (goal.at.loop-entry-smaller c).In-Ok-Some).0 in
     omega (arith, more, there)
 
 pub loop-entry-preserved : goal.loop-entry-preserved
 loop-entry-preserved c =
     let a = c.args in
-    let bytes = a.relocations.now in
-    let l = c.loop-entry in
-    let inv = l.invariant in
-    let same = subst (λ x. IfNone x (c.write_quickly.new.section ≡ l.section)) c.in_default-write_quickly.is c.write_quickly.ensures.none in
-    let below = below_kept a.architecture a.addresses.now bytes a.symbols.now a.section.now l.section c.write_quickly.new.section l.memory c.write_quickly.new.memory l.index same c.write_quickly.ensures.kept inv.below in
-    let front = subst (λ section. IsFront a.architecture bytes a.section.now section l.index l.step l.end) (sym same) inv.front in
-    let step = subst (IsSlowStep a.architecture a.addresses.now bytes a.symbols.now a.section.now l.index c.write_slowly.new.section c.write_slowly.new.memory)
-    (c.in-Ok-Some.is ∙ ap Ok c.in-Ok-Some.field-0-is) (c.write_slowly.ensures.step a.section.now l.end below front) in
+    let inv = c.loop-entry.invariant in
+    let reached = (next_step (goal.at.loop-entry-preserved c).In-Ok-Some).1 in
     record {
-      below = step.1.below;
-      front = front_slowly a.architecture bytes a.section.now c.write_slowly.new.section c.in-Ok-Some.next step.1.order;
+      below = reached.below;
+      front = front_slowly a.architecture a.relocations.now a.section.now c.write_slowly.new.section c.in-Ok-Some.next reached.order;
       room = c.write_slowly.ensures.len ∙ (c.write_quickly.ensures.len ∙ inv.room);
       rest = c.relocations_from-rest.ensures;
-      within = step.1.below.within;
+      within = reached.below.within;
       following = omega arith;
       high = inv.high;
     }
@@ -120,28 +108,17 @@ returns-in-Ok-None-clause-ok c =
     let a = c.args in
     let bytes = a.relocations.now in
     let l = c.loop-entry in
-    let inv = l.invariant in
-    let same = subst (λ x. IfNone x (c.write_quickly.new.section ≡ l.section)) c.in_default-write_quickly.is c.write_quickly.ensures.none in
-    let below = below_kept a.architecture a.addresses.now bytes a.symbols.now a.section.now l.section c.write_quickly.new.section l.memory c.write_quickly.new.memory l.index same c.write_quickly.ensures.kept inv.below in
-    let front = subst (λ section. IsFront a.architecture bytes a.section.now section l.index l.step l.end) (sym same) inv.front in
-    let step = subst (IsSlowStep a.architecture a.addresses.now bytes a.symbols.now a.section.now l.index c.write_slowly.new.section c.write_slowly.new.memory)
-    (c.in-Ok-None.is ∙ ap Ok c.in-Ok-None.field-0-is) (c.write_slowly.ensures.step a.section.now l.end below front) in
     let len = c.in-Some.ensures.cases.2 in
     first_run a.architecture a.addresses.now bytes a.symbols.now a.section.now c.write_slowly.new.section c.write_slowly.new.memory l.index
-    (there_is bytes l.rest.now l.index inv.rest (omega (arith, len))) step
+    (there_is bytes l.rest.now l.index l.invariant.rest (omega (arith, len)))
+    (subst (IsSlowStep a.architecture a.addresses.now bytes a.symbols.now a.section.now l.index c.write_slowly.new.section c.write_slowly.new.memory)
+    (c.in-Ok-None.is ∙ ap Ok c.in-Ok-None.field-0-is) (step (goal.at.returns-in-Ok-None-clause-ok c).After-write_slowly))
 
 pub returns-in-Err-clause-err : goal.returns-in-Err-clause-err
 returns-in-Err-clause-err c =
     let a = c.args in
-    let bytes = a.relocations.now in
-    let l = c.loop-entry in
-    let inv = l.invariant in
-    let same = subst (λ x. IfNone x (c.write_quickly.new.section ≡ l.section)) c.in_default-write_quickly.is c.write_quickly.ensures.none in
-    let below = below_kept a.architecture a.addresses.now bytes a.symbols.now a.section.now l.section c.write_quickly.new.section l.memory c.write_quickly.new.memory l.index same c.write_quickly.ensures.kept inv.below in
-    let front = subst (λ section. IsFront a.architecture bytes a.section.now section l.index l.step l.end) (sym same) inv.front in
-    let step = subst (IsSlowStep a.architecture a.addresses.now bytes a.symbols.now a.section.now l.index c.write_slowly.new.section c.write_slowly.new.memory)
-    c.in-Err.is (c.write_slowly.ensures.step a.section.now l.end below front) in
-    step
+    subst (IsSlowStep a.architecture a.addresses.now a.relocations.now a.symbols.now a.section.now c.loop-entry.index c.write_slowly.new.section c.write_slowly.new.memory)
+    c.in-Err.is (step (goal.at.returns-in-Err-clause-err c).After-write_slowly)
 
 pub returns-clause-ok : goal.returns-clause-ok
 returns-clause-ok c =

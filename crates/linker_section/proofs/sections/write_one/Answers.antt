@@ -1,23 +1,53 @@
-use Rattle.std.proofs.Common.{◌≡◌, ◌+◌, ◌<◌, ◌≤◌, ◌∙◌, refl, sym, ap, subst, arith, length, rules, FitsSigned, to_z, of_z, inl, inr, true, false, true≢false, Ok, Err, None}
-use Rattle.linker_section.proofs.Stepping.{mark_order, mark_restores, one_order, one_restores, pair_order, pair_restores, apart_now, apart_next, overlap_now, stop, set_above}
-use Rattle.std.specs.Int.{w64}
+use Rattle.std.proofs.Common.{◌≡◌, ◌+◌, ◌∙◌, sym, ap, subst, arith, length, rules, FitsSigned, to_z, of_z, inl, inr, refl, true, true≢false, Ok, Err, None, ◌≤◌, ◌<◌, ◌^◌, set}
 use Rattle.std.proofs.lemmas.Int.{to_z-of_z}
-use Rattle.std.proofs.Common.{◌^◌, set}
+use Rattle.std.specs.Int.{w64}
 use Rattle.std.specs.Prelude.{IfNone, IfSome}
 use Rattle.linker_elf.specs.Value.{sum_64}
+use Rattle.linker_section.proofs.Lengths.{length_of, other_length}
 use Rattle.linker_section.proofs.Local.{pair_local}
+use Rattle.linker_section.proofs.Stepping.{mark_order, mark_restores, one_order, one_restores, pair_order, pair_restores, apart_now, apart_next, overlap_now, stop, stop_at, set_above}
 use Rattle.linker_section.proofs.Valued.{mark_none, some_value}
+use Rattle.linker_section.specs.Conditions.{HasLength}
+use Rattle.linker_section.specs.Inner.Claims.{next_field}
 use Rattle.linker_section.specs.Inner.Saved.{IsSavedAt}
 use Rattle.linker_section.specs.Inner.Steps.{clear_in, field_of_row, IsInOrder, IsPairOutcome, IsStopped}
-use Rattle.linker_section.specs.Inner.Claims.{next_field}
-use Rattle.linker_section.specs.declared.sections.Stopped.{Stopped}
-use Rattle.linker_section.specs.declared.sections.RelocationError.TheVariants.{Write}
 use Rattle.linker_section.specs.Relocations.{relocation_in}
 use Rattle.linker_section.specs.Sections.{IsRowValue, HasValue, AreRelocated, IsWrittenAt, IsFirstRejected, BeginsPair}
-use Rattle.linker_section.proofs.Lengths.{length_of, other_length}
-use Rattle.linker_section.specs.Conditions.{HasLength}
-use Rattle.linker_section.specs.Values.{offset_at}
+use Rattle.linker_section.specs.Values.{has_value, offset_at}
+use Rattle.linker_section.specs.declared.sections.RelocationError.TheVariants.{Value, Overlaps, OtherLength, Write}
+use Rattle.linker_section.specs.declared.sections.Stopped.{Stopped}
+use Rattle.linker_section.proofs.sections.write_one.Goals.{After-field_at-field, After-or-last}
 use Rattle.linker_section.proofs.sections.write_one.Goals as goal
+
+-- what is known of the row, the value and the field that were found
+record Known (c : After-field_at-field) : Type 0 where
+  has : HasValue c.args.architecture c.args.addresses.now c.args.relocations.now c.args.symbols.now (relocation_in c.args.relocations.now c.args.index) (c.in-Ok-Some.found.0) (c.in-Ok-Some.found.1)
+  some : has_value (c.in-Ok-Some.found.0).kind ≡ true
+  fits : FitsSigned w64 (c.in-Ok-Some.found.1)
+  field_is : c.field_at-field.result ≡ field_of_row (c.in-Ok-Some.found.0) (offset_at c.args.relocations.now c.args.index) c.args.section.now
+
+known : (c : After-field_at-field) → Known c
+known c =
+    let a = c.args in
+    let bytes = a.relocations.now in
+    let r = relocation_in bytes a.index in
+    let same = c.relocation_in-relocation.ensures in
+    let row = c.in-Ok-Some.found.0 in
+    let value = c.in-Ok-Some.found.1 in
+    let has : HasValue a.architecture a.addresses.now bytes a.symbols.now r row value =
+    subst (λ r. HasValue a.architecture a.addresses.now bytes a.symbols.now r row value) same
+    (subst (IsRowValue a.architecture a.addresses.now bytes a.symbols.now c.relocation_in-relocation.result) (c.in-Ok-Some.is ∙ ap Ok c.in-Ok-Some.field-0-is) c.row_value.ensures) in
+    record {
+      has = has;
+      some = some_value a.architecture a.addresses.now bytes a.symbols.now r row value has;
+      fits = search rules;
+      field_is = c.field_at-field.ensures ∙ ap (λ r. field_of_row row r.offset a.section.now) same;
+    }
+
+clear : (c : After-or-last) → clear_in c.args.limit c.args.index (field_of_row (c.in-Ok-Some.found.0) (offset_at c.args.relocations.now c.args.index) c.args.section.now) c.args.last ≡ true
+clear c =
+    ap (λ f. clear_in c.args.limit c.args.index f c.args.last) (sym (known (goal.at.After-or-last c).After-field_at-field).field_is)
+    ∙ (sym c.is_clear.ensures ∙ c.if-not-is_clear.false)
 
 pub returns-in-Ok-None-clause-step : goal.returns-in-Ok-None-clause-step
 returns-in-Ok-None-clause-step c before inv =
@@ -46,150 +76,64 @@ returns-in-Ok-None-clause-step c before inv =
 
 pub is_clear-requires : goal.is_clear-requires
 is_clear-requires c =
-    let a = c.args in
-    let i = a.index in
-    let bytes = a.relocations.now in
-    let section = a.section.now in
-    let last = a.last in
-    let memory = a.memory.now in
-    let there = c.requires.within in
-    let room = c.requires.room in
-    let same = c.relocation_in-relocation.ensures in
-    let saved = subst (λ r. IsSavedAt r.offset section c.word_at.result) same c.word_at.ensures in
-    let found = c.in-Ok-Some.found in
-    let row = found.0 in
-    let has : HasValue a.architecture a.addresses.now bytes a.symbols.now (relocation_in bytes i) row (found.1) =
-    subst (λ r. HasValue a.architecture a.addresses.now bytes a.symbols.now r row (found.1)) same
-    (subst (IsRowValue a.architecture a.addresses.now bytes a.symbols.now c.relocation_in-relocation.result) (c.in-Ok-Some.is ∙ ap Ok c.in-Ok-Some.field-0-is) c.row_value.ensures) in
-    let some = some_value a.architecture a.addresses.now bytes a.symbols.now (relocation_in bytes i) row (found.1) has in
-    let fits : FitsSigned w64 (found.1) = search rules in
-    let field = field_of_row row (offset_at bytes i) section in
-    let field_is : c.field_at-field.result ≡ field = c.field_at-field.ensures ∙ ap (λ r. field_of_row row r.offset section) same in
-    subst (λ f. IfNone a.limit (last.offset ≤ f.offset)) (sym field_is)
+    subst (λ f. IfNone c.args.limit (c.args.last.offset ≤ f.offset)) (sym (known (goal.at.is_clear-requires c).After-field_at-field).field_is)
     c.requires.after
 
 pub returns-clause-step : goal.returns-clause-step
 returns-clause-step c before inv =
+    let w = known (goal.at.returns-clause-step c).After-field_at-field in
     let a = c.args in
     let i = a.index in
     let bytes = a.relocations.now in
     let section = a.section.now in
-    let last = a.last in
-    let memory = a.memory.now in
+    let after = c.write_at.new.section in
     let there = c.requires.within in
     let room = c.requires.room in
     let same = c.relocation_in-relocation.ensures in
     let saved = subst (λ r. IsSavedAt r.offset section c.word_at.result) same c.word_at.ensures in
-    let found = c.in-Ok-Some.found in
-    let row = found.0 in
-    let has : HasValue a.architecture a.addresses.now bytes a.symbols.now (relocation_in bytes i) row (found.1) =
-    subst (λ r. HasValue a.architecture a.addresses.now bytes a.symbols.now r row (found.1)) same
-    (subst (IsRowValue a.architecture a.addresses.now bytes a.symbols.now c.relocation_in-relocation.result) (c.in-Ok-Some.is ∙ ap Ok c.in-Ok-Some.field-0-is) c.row_value.ensures) in
-    let some = some_value a.architecture a.addresses.now bytes a.symbols.now (relocation_in bytes i) row (found.1) has in
-    let fits : FitsSigned w64 (found.1) = search rules in
-    let field = field_of_row row (offset_at bytes i) section in
-    let field_is : c.field_at-field.result ≡ field = c.field_at-field.ensures ∙ ap (λ r. field_of_row row r.offset section) same in
-    let clear : clear_in a.limit i field last ≡ true =
-    ap (λ f. clear_in a.limit i f last) (sym field_is) ∙ (sym c.is_clear.ensures ∙ c.if-not-is_clear.false) in
-    let written = subst (λ v. IsWrittenAt row v (offset_at bytes i) section c.write_at.new.section (Ok tt)) (to_z-of_z w64 (found.1) fits)
-    (subst (λ r. IsWrittenAt row (to_z w64 (of_z w64 (found.1))) r.offset section c.write_at.new.section (Ok tt)) same
-    (subst (IsWrittenAt row (to_z w64 (of_z w64 (found.1))) c.relocation_in-relocation.result.offset section c.write_at.new.section) c.in_default-write_at.is c.write_at.ensures)) in
-    let local = written.same_length in (
+    let row = c.in-Ok-Some.found.0 in
+    let value = c.in-Ok-Some.found.1 in
+    let written = subst (λ v. IsWrittenAt row v (offset_at bytes i) section after (Ok tt)) (to_z-of_z w64 value w.fits)
+    (subst (λ r. IsWrittenAt row (to_z w64 (of_z w64 value)) r.offset section after (Ok tt)) same
+    (subst (IsWrittenAt row (to_z w64 (of_z w64 value)) c.relocation_in-relocation.result.offset section after) c.in_default-write_at.is c.write_at.ensures)) in (
       (omega arith),
       record {
         is_limit = inv.is_limit;
         below = record {
           within = omega (arith, there);
-          relocated = AreRelocated.one inv.below.relocated has written;
-          restores = one_restores a.architecture bytes memory before section c.write_at.new.section i c.word_at.result row (found.1) (omega (arith, there, room)) has.is_row written saved inv.below.restores;
-          same_length = local ∙ inv.below.same_length;
+          relocated = AreRelocated.one inv.below.relocated w.has written;
+          restores = one_restores a.architecture bytes a.memory.now before section after i c.word_at.result row value (omega (arith, there, room)) w.has.is_row written saved inv.below.restores;
+          same_length = written.same_length ∙ inv.below.same_length;
         };
-        order = subst (IsInOrder a.limit a.architecture bytes before c.write_at.new.section (i + 1)) (sym (c.or-last.ensures ∙ ap (λ f. next_field f last) field_is))
-            (one_order a.limit a.architecture bytes before section c.write_at.new.section i last row (found.1) inv.is_limit inv.order there c.requires.after inv.below.same_length has.is_row some clear written);
+        order = subst (IsInOrder a.limit a.architecture bytes before after (i + 1)) (sym (c.or-last.ensures ∙ ap (λ f. next_field f a.last) w.field_is))
+            (one_order a.limit a.architecture bytes before section after i a.last row value inv.is_limit inv.order there c.requires.after inv.below.same_length w.has.is_row w.some (clear (goal.at.returns-clause-step c).After-or-last) written);
       },
     )
 
 pub returns-in-Err-clause-step : goal.returns-in-Err-clause-step
 returns-in-Err-clause-step c before inv =
     let a = c.args in
-    let i = a.index in
     let bytes = a.relocations.now in
-    let section = a.section.now in
-    let last = a.last in
-    let memory = a.memory.now in
-    let there = c.requires.within in
-    let room = c.requires.room in
-    let same = c.relocation_in-relocation.ensures in
-    let saved = subst (λ r. IsSavedAt r.offset section c.word_at.result) same c.word_at.ensures in
-    let value = subst (λ r. IsRowValue a.architecture a.addresses.now bytes a.symbols.now r (Err c.in-Err.error)) same
+    let why = c.in-Err.error in
+    let value = subst (λ r. IsRowValue a.architecture a.addresses.now bytes a.symbols.now r (Err why)) c.relocation_in-relocation.ensures
     (subst (IsRowValue a.architecture a.addresses.now bytes a.symbols.now c.relocation_in-relocation.result) c.in-Err.is c.row_value.ensures) in
-    stop a.architecture a.addresses.now bytes before section memory _ a.symbols.now i _ inv.below.within
-    (set_above memory i i c.word_at.result (omega arith)) inv.below.restores
-    (record {
-      within = there;
-      apart = apart_now a.limit a.architecture bytes before section i last inv.is_limit inv.order;
-      written = i;
-      is_next = inl refl;
-      now = section;
-      relocated = inv.below.relocated;
-      cause = value;
-    })
+    stop_at a.limit a.architecture a.addresses.now bytes before a.section.now a.memory.now a.symbols.now a.index c.word_at.result a.last (Value why) inv c.requires.within value
 
 pub returns-then-not-is_clear-clause-step : goal.returns-then-not-is_clear-clause-step
 returns-then-not-is_clear-clause-step c before inv =
+    let w = known (goal.at.returns-then-not-is_clear-clause-step c).After-field_at-field in
     let a = c.args in
-    let i = a.index in
     let bytes = a.relocations.now in
-    let section = a.section.now in
-    let last = a.last in
-    let memory = a.memory.now in
-    let there = c.requires.within in
-    let room = c.requires.room in
-    let same = c.relocation_in-relocation.ensures in
-    let saved = subst (λ r. IsSavedAt r.offset section c.word_at.result) same c.word_at.ensures in
-    let found = c.in-Ok-Some.found in
-    let row = found.0 in
-    let has : HasValue a.architecture a.addresses.now bytes a.symbols.now (relocation_in bytes i) row (found.1) =
-    subst (λ r. HasValue a.architecture a.addresses.now bytes a.symbols.now r row (found.1)) same
-    (subst (IsRowValue a.architecture a.addresses.now bytes a.symbols.now c.relocation_in-relocation.result) (c.in-Ok-Some.is ∙ ap Ok c.in-Ok-Some.field-0-is) c.row_value.ensures) in
-    let some = some_value a.architecture a.addresses.now bytes a.symbols.now (relocation_in bytes i) row (found.1) has in
-    let fits : FitsSigned w64 (found.1) = search rules in
-    let field = field_of_row row (offset_at bytes i) section in
-    let field_is : c.field_at-field.result ≡ field = c.field_at-field.ensures ∙ ap (λ r. field_of_row row r.offset section) same in
-    let unclear : clear_in a.limit i field last ≡ false =
-    ap (λ f. clear_in a.limit i f last) (sym field_is) ∙ (sym c.is_clear.ensures ∙ c.if-not-is_clear.true) in
-    stop a.architecture a.addresses.now bytes before section memory _ a.symbols.now i _ inv.below.within
-    (set_above memory i i c.word_at.result (omega arith)) inv.below.restores
-    (record {
-      within = there;
-      apart = apart_now a.limit a.architecture bytes before section i last inv.is_limit inv.order;
-      written = i;
-      is_next = inl refl;
-      now = section;
-      relocated = inv.below.relocated;
-      cause = overlap_now a.limit a.architecture bytes before section i last row inv.is_limit inv.order there c.requires.after inv.below.same_length has.is_row some unclear;
-    })
+    let unclear = ap (λ f. clear_in a.limit a.index f a.last) (sym w.field_is) ∙ (sym c.is_clear.ensures ∙ c.if-not-is_clear.true) in
+    stop_at a.limit a.architecture a.addresses.now bytes before a.section.now a.memory.now a.symbols.now a.index c.word_at.result a.last Overlaps inv c.requires.within
+    (overlap_now a.limit a.architecture bytes before a.section.now a.index a.last (c.in-Ok-Some.found.0) inv.is_limit inv.order c.requires.within c.requires.after inv.below.same_length w.has.is_row w.some unclear)
 
 pub relocate_pair-requires-clause-value : goal.relocate_pair-requires-clause-value
 relocate_pair-requires-clause-value c =
+    let w = known (goal.at.relocate_pair-requires-clause-value c).After-field_at-field in
     let a = c.args in
-    let i = a.index in
-    let bytes = a.relocations.now in
-    let section = a.section.now in
-    let last = a.last in
-    let memory = a.memory.now in
-    let there = c.requires.within in
-    let room = c.requires.room in
-    let same = c.relocation_in-relocation.ensures in
-    let saved = subst (λ r. IsSavedAt r.offset section c.word_at.result) same c.word_at.ensures in
-    let found = c.in-Ok-Some.found in
-    let row = found.0 in
-    let has : HasValue a.architecture a.addresses.now bytes a.symbols.now (relocation_in bytes i) row (found.1) =
-    subst (λ r. HasValue a.architecture a.addresses.now bytes a.symbols.now r row (found.1)) same
-    (subst (IsRowValue a.architecture a.addresses.now bytes a.symbols.now c.relocation_in-relocation.result) (c.in-Ok-Some.is ∙ ap Ok c.in-Ok-Some.field-0-is) c.row_value.ensures) in
-    let some = some_value a.architecture a.addresses.now bytes a.symbols.now (relocation_in bytes i) row (found.1) has in
-    let fits : FitsSigned w64 (found.1) = search rules in
-    (row, subst (HasValue a.architecture a.addresses.now bytes a.symbols.now (relocation_in bytes i) row) (sym (to_z-of_z w64 (found.1) fits)) has)
+    let row = c.in-Ok-Some.found.0 in
+    (row, subst (HasValue a.architecture a.addresses.now a.relocations.now a.symbols.now (relocation_in a.relocations.now a.index) row) (sym (to_z-of_z w64 (c.in-Ok-Some.found.1) w.fits)) w.has)
 
 pub write_at-requires : goal.write_at-requires
 write_at-requires c =
@@ -197,117 +141,59 @@ write_at-requires c =
 
 pub returns-then-not-has_length-clause-step : goal.returns-then-not-has_length-clause-step
 returns-then-not-has_length-clause-step c before inv =
+    let w = known (goal.at.returns-then-not-has_length-clause-step c).After-field_at-field in
     let a = c.args in
-    let i = a.index in
     let bytes = a.relocations.now in
     let section = a.section.now in
-    let last = a.last in
-    let memory = a.memory.now in
-    let there = c.requires.within in
-    let room = c.requires.room in
-    let same = c.relocation_in-relocation.ensures in
-    let saved = subst (λ r. IsSavedAt r.offset section c.word_at.result) same c.word_at.ensures in
-    let found = c.in-Ok-Some.found in
-    let row = found.0 in
-    let has : HasValue a.architecture a.addresses.now bytes a.symbols.now (relocation_in bytes i) row (found.1) =
-    subst (λ r. HasValue a.architecture a.addresses.now bytes a.symbols.now r row (found.1)) same
-    (subst (IsRowValue a.architecture a.addresses.now bytes a.symbols.now c.relocation_in-relocation.result) (c.in-Ok-Some.is ∙ ap Ok c.in-Ok-Some.field-0-is) c.row_value.ensures) in
-    let some = some_value a.architecture a.addresses.now bytes a.symbols.now (relocation_in bytes i) row (found.1) has in
-    let field = field_of_row row (offset_at bytes i) section in
-    let field_is : c.field_at-field.result ≡ field = c.field_at-field.ensures ∙ ap (λ r. field_of_row row r.offset section) same in
-    let clear : clear_in a.limit i field last ≡ true =
-    ap (λ f. clear_in a.limit i f last) (sym field_is) ∙ (sym c.is_clear.ensures ∙ c.if-not-is_clear.false) in
-    stop a.architecture a.addresses.now bytes before section memory _ a.symbols.now i _ inv.below.within
-    (set_above memory i i c.word_at.result (omega arith)) inv.below.restores
-    (record {
-      within = there;
-      apart = apart_now a.limit a.architecture bytes before section i last inv.is_limit inv.order;
-      written = i;
-      is_next = inl refl;
-      now = section;
-      relocated = inv.below.relocated;
-      cause = (
-        apart_next a.limit a.architecture bytes before section i last row inv.is_limit inv.order there c.requires.after inv.below.same_length has.is_row some clear,
-        other_length a.architecture a.addresses.now bytes a.symbols.now i section row (found.1) has
-            (λ shown. true≢false (sym ((c.has_length.ensures).1 (subst (λ r. HasLength row r.offset section) (sym same) shown)) ∙ c.if-not-has_length.true)),
-      );
-    })
+    let row = c.in-Ok-Some.found.0 in
+    stop_at a.limit a.architecture a.addresses.now bytes before section a.memory.now a.symbols.now a.index c.word_at.result a.last OtherLength inv c.requires.within (
+      apart_next a.limit a.architecture bytes before section a.index a.last row inv.is_limit inv.order c.requires.within c.requires.after inv.below.same_length w.has.is_row w.some (clear (goal.at.returns-then-not-has_length-clause-step c).After-or-last),
+      other_length a.architecture a.addresses.now bytes a.symbols.now a.index section row (c.in-Ok-Some.found.1) w.has
+          (λ shown. true≢false (sym ((c.has_length.ensures).1 (subst (λ r. HasLength row r.offset section) (sym c.relocation_in-relocation.ensures) shown)) ∙ c.if-not-has_length.true)),
+    )
 
 pub returns-in-Err-write_at-clause-step : goal.returns-in-Err-write_at-clause-step
 returns-in-Err-write_at-clause-step c before inv =
+    let w = known (goal.at.returns-in-Err-write_at-clause-step c).After-field_at-field in
     let a = c.args in
     let i = a.index in
     let bytes = a.relocations.now in
     let section = a.section.now in
-    let last = a.last in
-    let memory = a.memory.now in
-    let there = c.requires.within in
-    let room = c.requires.room in
+    let after = c.write_at.new.section in
     let same = c.relocation_in-relocation.ensures in
-    let saved = subst (λ r. IsSavedAt r.offset section c.word_at.result) same c.word_at.ensures in
-    let found = c.in-Ok-Some.found in
-    let row = found.0 in
-    let has : HasValue a.architecture a.addresses.now bytes a.symbols.now (relocation_in bytes i) row (found.1) =
-    subst (λ r. HasValue a.architecture a.addresses.now bytes a.symbols.now r row (found.1)) same
-    (subst (IsRowValue a.architecture a.addresses.now bytes a.symbols.now c.relocation_in-relocation.result) (c.in-Ok-Some.is ∙ ap Ok c.in-Ok-Some.field-0-is) c.row_value.ensures) in
-    let some = some_value a.architecture a.addresses.now bytes a.symbols.now (relocation_in bytes i) row (found.1) has in
-    let fits : FitsSigned w64 (found.1) = search rules in
-    let field = field_of_row row (offset_at bytes i) section in
-    let field_is : c.field_at-field.result ≡ field = c.field_at-field.ensures ∙ ap (λ r. field_of_row row r.offset section) same in
-    let clear : clear_in a.limit i field last ≡ true =
-    ap (λ f. clear_in a.limit i f last) (sym field_is) ∙ (sym c.is_clear.ensures ∙ c.if-not-is_clear.false) in
+    let row = c.in-Ok-Some.found.0 in
+    let value = c.in-Ok-Some.found.1 in
     let why = c.in-Err-write_at.error in
     let shown : HasLength row (offset_at bytes i) section =
     subst (λ r. HasLength row r.offset section) same (length_of row c.relocation_in-relocation.result.offset section c.has_length.result c.has_length.ensures c.if-not-has_length.false) in
-    let rejected = subst (λ v. IsWrittenAt row v (offset_at bytes i) section c.write_at.new.section (Err why)) (to_z-of_z w64 (found.1) fits)
-    (subst (λ r. IsWrittenAt row (to_z w64 (of_z w64 (found.1))) r.offset section c.write_at.new.section (Err why)) same
-    (subst (IsWrittenAt row (to_z w64 (of_z w64 (found.1))) c.relocation_in-relocation.result.offset section c.write_at.new.section) c.in-Err-write_at.is c.write_at.ensures)) in
+    let rejected = subst (λ v. IsWrittenAt row v (offset_at bytes i) section after (Err why)) (to_z-of_z w64 value w.fits)
+    (subst (λ r. IsWrittenAt row (to_z w64 (of_z w64 value)) r.offset section after (Err why)) same
+    (subst (IsWrittenAt row (to_z w64 (of_z w64 value)) c.relocation_in-relocation.result.offset section after) c.in-Err-write_at.is c.write_at.ensures)) in
     let stopped : Stopped = record { count = i; error = record { index = i; error = Write why } } in
     let alone : BeginsPair a.architecture bytes i → ⊥ = subst (λ x. IfNone x (BeginsPair a.architecture bytes i → ⊥)) c.in_default.is c.second_of_pair.ensures.none in
-    subst (λ now. IsStopped a.architecture a.addresses.now bytes a.symbols.now before now (set memory i c.word_at.result) stopped) (sym (rejected.1))
-    (stop a.architecture a.addresses.now bytes before section memory _ a.symbols.now i _ inv.below.within
-    (set_above memory i i c.word_at.result (omega arith)) inv.below.restores
-    (record {
-      within = there;
-      apart = apart_now a.limit a.architecture bytes before section i last inv.is_limit inv.order;
-      written = i;
-      is_next = inl refl;
-      now = section;
-      relocated = inv.below.relocated;
-      cause = (
-        apart_next a.limit a.architecture bytes before section i last row inv.is_limit inv.order there c.requires.after inv.below.same_length has.is_row some clear,
-        record { row = row; value = found.1; has_value = has; length_shown = shown; rejected = rejected.0; alone = alone },
-      );
-    }))
+    subst (λ now. IsStopped a.architecture a.addresses.now bytes a.symbols.now before now (set a.memory.now i c.word_at.result) stopped) (sym (rejected.1))
+    (stop_at a.limit a.architecture a.addresses.now bytes before section a.memory.now a.symbols.now i c.word_at.result a.last (Write why) inv c.requires.within (
+      apart_next a.limit a.architecture bytes before section i a.last row inv.is_limit inv.order c.requires.within c.requires.after inv.below.same_length w.has.is_row w.some (clear (goal.at.returns-in-Err-write_at-clause-step c).After-or-last),
+      record { row = row; value = value; has_value = w.has; length_shown = shown; rejected = rejected.0; alone = alone },
+    ))
 
 pub returns-in-Some-clause-step : goal.returns-in-Some-clause-step
 returns-in-Some-clause-step c before inv =
+    let w = known (goal.at.returns-in-Some-clause-step c).After-field_at-field in
     let a = c.args in
     let i = a.index in
     let bytes = a.relocations.now in
     let section = a.section.now in
-    let last = a.last in
-    let memory = a.memory.now in
-    let there = c.requires.within in
+    let after = c.relocate_pair.new.section in
     let room = c.requires.room in
     let same = c.relocation_in-relocation.ensures in
     let saved = subst (λ r. IsSavedAt r.offset section c.word_at.result) same c.word_at.ensures in
-    let found = c.in-Ok-Some.found in
-    let row = found.0 in
-    let has : HasValue a.architecture a.addresses.now bytes a.symbols.now (relocation_in bytes i) row (found.1) =
-    subst (λ r. HasValue a.architecture a.addresses.now bytes a.symbols.now r row (found.1)) same
-    (subst (IsRowValue a.architecture a.addresses.now bytes a.symbols.now c.relocation_in-relocation.result) (c.in-Ok-Some.is ∙ ap Ok c.in-Ok-Some.field-0-is) c.row_value.ensures) in
-    let some = some_value a.architecture a.addresses.now bytes a.symbols.now (relocation_in bytes i) row (found.1) has in
-    let fits : FitsSigned w64 (found.1) = search rules in
-    let field = field_of_row row (offset_at bytes i) section in
-    let field_is : c.field_at-field.result ≡ field = c.field_at-field.ensures ∙ ap (λ r. field_of_row row r.offset section) same in
-    let clear : clear_in a.limit i field last ≡ true =
-    ap (λ f. clear_in a.limit i f last) (sym field_is) ∙ (sym c.is_clear.ensures ∙ c.if-not-is_clear.false) in
+    let saved_next = subst (λ r. IsSavedAt (sum_64 r.offset 8) section c.word_at-in-Some.result) same c.word_at-in-Some.ensures in
+    let row = c.in-Ok-Some.found.0 in
     let second = subst (λ x. IfSome x (λ s. (s ≡ relocation_in bytes (i + 1)) × BeginsPair a.architecture bytes i)) c.in-Some.is c.second_of_pair.ensures.found in
     let pair = second.1 in
-    let written = subst (IsPairOutcome a.architecture a.addresses.now bytes a.symbols.now i section c.relocate_pair.new.section) c.in_default-relocate_pair.is c.relocate_pair.ensures in
-    let local = pair_local a.architecture a.addresses.now bytes a.symbols.now (relocation_in bytes i) (relocation_in bytes (i + 1)) section c.relocate_pair.new.section written in
-    let saved_next = subst (λ r. IsSavedAt (sum_64 r.offset 8) section c.word_at-in-Some.result) same c.word_at-in-Some.ensures in
+    let written = subst (IsPairOutcome a.architecture a.addresses.now bytes a.symbols.now i section after) c.in_default-relocate_pair.is c.relocate_pair.ensures in
+    let local = pair_local a.architecture a.addresses.now bytes a.symbols.now (relocation_in bytes i) (relocation_in bytes (i + 1)) section after written in
     let long : length section < 2 ^ 63 = search rules in
     let under = pair.within in (
       (omega arith),
@@ -316,50 +202,35 @@ returns-in-Some-clause-step c before inv =
         below = record {
           within = omega (arith, under);
           relocated = AreRelocated.pair inv.below.relocated written;
-          restores = pair_restores a.architecture a.addresses.now bytes memory before section c.relocate_pair.new.section a.symbols.now i c.word_at.result c.word_at-in-Some.result row (omega (arith, under, room)) long has.is_row pair written saved saved_next inv.below.restores;
+          restores = pair_restores a.architecture a.addresses.now bytes a.memory.now before section after a.symbols.now i c.word_at.result c.word_at-in-Some.result row (omega (arith, under, room)) long w.has.is_row pair written saved saved_next inv.below.restores;
           same_length = local.same_length ∙ inv.below.same_length;
         };
-        order = subst (IsInOrder a.limit a.architecture bytes before c.relocate_pair.new.section (i + 2)) (sym (c.or-last.ensures ∙ ap (λ f. next_field f last) field_is))
-            (pair_order a.limit a.architecture a.addresses.now bytes before section c.relocate_pair.new.section a.symbols.now i last row inv.is_limit inv.order there c.requires.after inv.below.same_length has.is_row some clear pair written);
+        order = subst (IsInOrder a.limit a.architecture bytes before after (i + 2)) (sym (c.or-last.ensures ∙ ap (λ f. next_field f a.last) w.field_is))
+            (pair_order a.limit a.architecture a.addresses.now bytes before section after a.symbols.now i a.last row inv.is_limit inv.order c.requires.within c.requires.after inv.below.same_length w.has.is_row w.some (clear (goal.at.returns-in-Some-clause-step c).After-or-last) pair written);
       },
     )
 
 pub returns-in-Err-relocate_pair-clause-step : goal.returns-in-Err-relocate_pair-clause-step
 returns-in-Err-relocate_pair-clause-step c before inv =
+    let w = known (goal.at.returns-in-Err-relocate_pair-clause-step c).After-field_at-field in
     let a = c.args in
     let i = a.index in
     let bytes = a.relocations.now in
     let section = a.section.now in
-    let last = a.last in
     let memory = a.memory.now in
-    let there = c.requires.within in
-    let room = c.requires.room in
-    let same = c.relocation_in-relocation.ensures in
-    let saved = subst (λ r. IsSavedAt r.offset section c.word_at.result) same c.word_at.ensures in
-    let found = c.in-Ok-Some.found in
-    let row = found.0 in
-    let has : HasValue a.architecture a.addresses.now bytes a.symbols.now (relocation_in bytes i) row (found.1) =
-    subst (λ r. HasValue a.architecture a.addresses.now bytes a.symbols.now r row (found.1)) same
-    (subst (IsRowValue a.architecture a.addresses.now bytes a.symbols.now c.relocation_in-relocation.result) (c.in-Ok-Some.is ∙ ap Ok c.in-Ok-Some.field-0-is) c.row_value.ensures) in
-    let some = some_value a.architecture a.addresses.now bytes a.symbols.now (relocation_in bytes i) row (found.1) has in
-    let fits : FitsSigned w64 (found.1) = search rules in
-    let field = field_of_row row (offset_at bytes i) section in
-    let field_is : c.field_at-field.result ≡ field = c.field_at-field.ensures ∙ ap (λ r. field_of_row row r.offset section) same in
-    let clear : clear_in a.limit i field last ≡ true =
-    ap (λ f. clear_in a.limit i f last) (sym field_is) ∙ (sym c.is_clear.ensures ∙ c.if-not-is_clear.false) in
+    let kept = set memory i c.word_at.result in
     let second = subst (λ x. IfSome x (λ s. (s ≡ relocation_in bytes (i + 1)) × BeginsPair a.architecture bytes i)) c.in-Some.is c.second_of_pair.ensures.found in
     let pair = second.1 in
-    let under = pair.within in
     let outcome = subst (IsPairOutcome a.architecture a.addresses.now bytes a.symbols.now i section c.relocate_pair.new.section) c.in-Err-relocate_pair.is c.relocate_pair.ensures in
     let stopped : Stopped = record { count = i; error = c.in-Err-relocate_pair.error } in
-    let next = apart_next a.limit a.architecture bytes before section i last row inv.is_limit inv.order there c.requires.after inv.below.same_length has.is_row some clear in
-    subst (λ now. IsStopped a.architecture a.addresses.now bytes a.symbols.now before now (set (set memory i c.word_at.result) (i + 1) c.word_at-in-Some.result) stopped) (sym (outcome.0))
+    let next = apart_next a.limit a.architecture bytes before section i a.last (c.in-Ok-Some.found.0) inv.is_limit inv.order c.requires.within c.requires.after inv.below.same_length w.has.is_row w.some (clear (goal.at.returns-in-Err-relocate_pair-clause-step c).After-or-last) in
+    subst (λ now. IsStopped a.architecture a.addresses.now bytes a.symbols.now before now (set kept (i + 1) c.word_at-in-Some.result) stopped) (sym (outcome.0))
     (stop a.architecture a.addresses.now bytes before section memory _ a.symbols.now i _ inv.below.within
-    (λ j below. set_above (set memory i c.word_at.result) i (i + 1) c.word_at-in-Some.result (omega arith) j below ∙ set_above memory i i c.word_at.result (omega arith) j below) inv.below.restores
+    (λ j below. set_above kept i (i + 1) c.word_at-in-Some.result (omega arith) j below ∙ set_above memory i i c.word_at.result (omega arith) j below) inv.below.restores
     (elim (outcome.1) [
       | inl value ↦ subst (IsFirstRejected a.architecture a.addresses.now bytes a.symbols.now before) (sym (value.1))
           (record {
-            within = under;
+            within = pair.within;
             apart = next;
             written = i;
             is_next = inr (refl, pair, tt);
@@ -369,8 +240,8 @@ returns-in-Err-relocate_pair-clause-step c before inv =
           })
       | inr number ↦ subst (IsFirstRejected a.architecture a.addresses.now bytes a.symbols.now before) (sym (number.1))
           (record {
-            within = there;
-            apart = apart_now a.limit a.architecture bytes before section i last inv.is_limit inv.order;
+            within = c.requires.within;
+            apart = apart_now a.limit a.architecture bytes before section i a.last inv.is_limit inv.order;
             written = i;
             is_next = inl refl;
             now = section;
