@@ -17,7 +17,6 @@ use crate::linker_runs::packing::{self, Machine, RejectedItem};
 use crate::linker_section::facts::{Addresses, Symbol};
 use crate::linker_section::relocations::relocation_at;
 use crate::linker_section::sections::{self, RelocationError};
-use crate::linker_section::values;
 
 /// What a linker knows of an output. [`Link::new`] has no fact; addresses are known once sections
 /// are placed.
@@ -205,8 +204,8 @@ fn explained(
             return None;
         };
         let relocation = relocation_at(relocations, found.index)?;
-        let row = architecture.row(relocation.code)?;
-        let value = values::value(architecture, addresses, relocations, symbols, &relocation).ok()??;
+        let valued = sections::row_value(architecture, addresses, relocations, symbols, &relocation);
+        let (row, value) = valued.ok()??;
         let is_told = match error {
             RelocateError::Misaligned => true,
             RelocateError::OutOfReach => !row.reach().contains(value),

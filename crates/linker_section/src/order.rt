@@ -32,8 +32,9 @@ pub(crate) fn first_overlap(
     least_overlap(architecture, relocations, section, order)
 }
 
-/// A number by which the indexes of relocations are sorted: by offset, and then by themselves.
-#[inline(always)]
+/// A number by which the indexes of relocations are sorted: by offset, and then by themselves. By
+/// itself, since a sort has many calls of it, and few sections are sorted.
+#[inline(never)]
 fn place_of(relocations: &[u8], index: u64) -> u128
     ensures { result ≡ place_of relocations.now index }
 {

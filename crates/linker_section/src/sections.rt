@@ -90,7 +90,6 @@ fn write_at(row: &Row, value: i64, offset: u64, section: &mut [u8]) -> Result<()
 }
 
 /// The row and the value of a relocation among those of its section.
-#[inline(always)]
 fn row_value(
     architecture: Architecture,
     addresses: &Addresses,

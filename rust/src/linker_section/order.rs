@@ -21,8 +21,9 @@ pub(crate) fn first_overlap(
     least_overlap(architecture, relocations, section, order)
 }
 
-/// A number by which the indexes of relocations are sorted: by offset, and then by themselves.
-#[inline(always)]
+/// A number by which the indexes of relocations are sorted: by offset, and then by themselves. By
+/// itself, since a sort has many calls of it, and few sections are sorted.
+#[inline(never)]
 fn place_of(relocations: &[u8], index: u64) -> u128 {
     match relocation_at(relocations, index as usize) {
         Some(relocation) => u128::from(relocation.offset) * (1 << 64) + u128::from(index),

@@ -174,8 +174,8 @@ impl<'a> DeltaSlice<'a> {
         count_passing(&mut self.copy(), Test::BeginsBelow(offset))
     }
 
-    // The delta at the offset, if one is listed there.
-    #[inline(always)]
+    // The delta at the offset, if one is listed there. By itself: its search is compiled once.
+    #[inline(never)]
     fn delta_at(&self, offset: u64) -> Option<RelaxDelta>
         ensures { IsValidView self.now
             → MatchOption result (¬ (Any (λ d. d.0 ≡ offset) (deletions_of self.now.deltas)))
@@ -243,7 +243,6 @@ impl<'a> DeltaSlice<'a> {
     }
 
     /// Whether the offset lies above the first byte of a deletion and below its end. O(log n).
-    #[inline]
     pub fn is_inside(&self, input_offset: u64) -> bool
         ensures { IsValidView self.now
             → (IsTrue result ↔ IsInsideDeletion (deletions_of self.now.deltas) input_offset) }

@@ -147,7 +147,6 @@ pub trait RecognisedName: RelocationName + PartialEq + 'static {
     }
 
     /// The choices of its table. The last of them changes nothing.
-    #[inline(always)]
     fn listed(self, section: &[u8], at: u64) -> Choices<Self::Kind, Self>
         ensures choices { take result.1 result.0 ≡ choices_at Self.how self section.now at }
         ensures few { result.1 ≤ 6 }

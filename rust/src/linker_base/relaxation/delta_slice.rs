@@ -128,8 +128,8 @@ impl<'a> DeltaSlice<'a> {
         count_passing(&mut self.copy(), Test::BeginsBelow(offset))
     }
 
-    // The delta at the offset, if one is listed there.
-    #[inline(always)]
+    // The delta at the offset, if one is listed there. By itself: its search is compiled once.
+    #[inline(never)]
     fn delta_at(&self, offset: u64) -> Option<RelaxDelta> {
         let below = self.count_below(offset);
         let deltas = self.deltas();
@@ -188,7 +188,6 @@ impl<'a> DeltaSlice<'a> {
 
     /// Whether the offset lies above the first byte of a deletion and below its end. O(log n).
     #[must_use]
-    #[inline]
     pub fn is_inside(&self, input_offset: u64) -> bool {
         match self.count_below(input_offset).checked_sub(1) {
             Some(last) => {

@@ -116,7 +116,6 @@ pub trait RecognisedName: RelocationName + PartialEq + 'static {
 
     /// The choices of its table. The last of them changes nothing.
     #[must_use]
-    #[inline(always)]
     fn listed(self, section: &[u8], at: u64) -> Choices<Self::Kind, Self> {
         choices_of(
             Self::Kind::entries(self, section, at),
