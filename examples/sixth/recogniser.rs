@@ -2,10 +2,10 @@
 
 use crate::architecture::Relaxation;
 use crate::linker_reading::recognise::engine::RecognisedName;
-use crate::sixth::{RelaxationKind, SixthRelocation};
+use crate::sixth::{RewriteKind, SixthRelocation};
 
 impl RecognisedName for SixthRelocation {
-    type Kind = RelaxationKind;
+    type Kind = RewriteKind;
 
     fn code(self) -> u32 {
         self.elf_code()

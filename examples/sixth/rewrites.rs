@@ -12,7 +12,7 @@ pub use crate::linker_elf::sixth::{SixthRelocation, relocation_type_from_raw, ro
 
 /// The rewrites.
 #[derive(Debug, Default, Clone, Copy, PartialEq, Eq, Hash, PartialOrd, Ord)]
-pub enum RelaxationKind {
+pub enum RewriteKind {
     /// Leaves the instruction as it is.
     #[default]
     NoOp,
@@ -24,13 +24,13 @@ fn word_at(section: &[u8], offset: u64) -> u32 {
     u32_from_slice(&section[offset as usize..])
 }
 
-impl RelaxationKind {
+impl RewriteKind {
     #[must_use]
     #[inline(always)]
-    pub fn from_number(number: u32) -> Option<RelaxationKind> {
+    pub fn from_number(number: u32) -> Option<RewriteKind> {
         match number {
-            0 => Some(RelaxationKind::NoOp),
-            1 => Some(RelaxationKind::LdrToAdd),
+            0 => Some(RewriteKind::NoOp),
+            1 => Some(RewriteKind::LdrToAdd),
             _ => None,
         }
     }
@@ -48,10 +48,10 @@ impl RelaxationKind {
     }
 }
 
-impl InstructionRewrite for RelaxationKind {
+impl InstructionRewrite for RewriteKind {
     #[inline(always)]
     fn apply(self, section: &mut [u8], offset: &mut u64, _addend: &mut i64) {
-        if let RelaxationKind::LdrToAdd = self {
+        if let RewriteKind::LdrToAdd = self {
             let add = word_at(section, *offset) & 0x001f_ffff | 0x9100_0000;
             overwrite(section, *offset, &add.to_le_bytes());
         }
@@ -60,8 +60,8 @@ impl InstructionRewrite for RelaxationKind {
     #[inline(always)]
     fn can_apply(self, section: &[u8], offset: u64) -> bool {
         match self {
-            RelaxationKind::NoOp => true,
-            RelaxationKind::LdrToAdd => {
+            RewriteKind::NoOp => true,
+            RewriteKind::LdrToAdd => {
                 has_window(section, offset, 0, 4) && word_at(section, offset) >> 22 == 0x3e5
             }
         }
@@ -80,7 +80,7 @@ impl InstructionRewrite for RelaxationKind {
 
     #[inline(always)]
     fn is_no_op(self) -> bool {
-        matches!(self, RelaxationKind::NoOp)
+        matches!(self, RewriteKind::NoOp)
     }
 }
 
@@ -90,7 +90,7 @@ pub enum Pattern {
     OfRewrite,
 }
 
-impl RewriteSet for RelaxationKind {
+impl RewriteSet for RewriteKind {
     type Relocation = Names;
 
     type Originals = Pattern;
@@ -124,7 +124,7 @@ macro_rules! choices {
     };
 }
 
-impl ChoiceTable for RelaxationKind {
+impl ChoiceTable for RewriteKind {
     #[inline(always)]
     fn entries(name: Names, _section: &[u8], _offset: u64) -> Table<Self> {
         choices!(by_table(when, name, table => table))
@@ -143,6 +143,6 @@ pub fn choose(
     section: &[u8],
     offset: u64,
     facts: &LinkFacts,
-) -> Choice<RelaxationKind, SixthRelocation> {
-    RelaxationKind::choose(name, section, offset, facts)
+) -> Choice<RewriteKind, SixthRelocation> {
+    RewriteKind::choose(name, section, offset, facts)
 }

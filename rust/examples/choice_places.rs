@@ -24,14 +24,14 @@ use std::io::{self, BufReader, BufWriter, ErrorKind, Read, Write};
 fn has_choices(architecture: Architecture, code: u32) -> bool {
     match architecture {
         Architecture::AArch64 => {
-            aarch64::RelaxationKind::may_be_listed(AArch64Relocation::from_elf(code))
+            aarch64::RewriteKind::may_be_listed(AArch64Relocation::from_elf(code))
         }
-        Architecture::RiscV => riscv64::RelaxationKind::may_be_listed(RiscVRelocation::from_elf(code)),
+        Architecture::RiscV => riscv64::RewriteKind::may_be_listed(RiscVRelocation::from_elf(code)),
         Architecture::LoongArch64 => {
-            loongarch64::RelaxationKind::may_be_listed(LoongArch64Relocation::from_elf(code))
+            loongarch64::RewriteKind::may_be_listed(LoongArch64Relocation::from_elf(code))
         }
-        Architecture::Ppc64 => ppc64::RelaxationKind::may_be_listed(Ppc64Relocation::from_elf(code)),
-        Architecture::X86_64 => x86_64::RelaxationKind::may_be_listed(X86_64Relocation::from_elf(code)),
+        Architecture::Ppc64 => ppc64::RewriteKind::may_be_listed(Ppc64Relocation::from_elf(code)),
+        Architecture::X86_64 => x86_64::RewriteKind::may_be_listed(X86_64Relocation::from_elf(code)),
         _ => false,
     }
 }

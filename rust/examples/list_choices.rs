@@ -316,31 +316,31 @@ fn main() {
         list(
             Architecture::AArch64,
             AArch64Relocation::ALL,
-            |name, _| aarch64::RelaxationKind::entries(name, &[], 0),
+            |name, _| aarch64::RewriteKind::entries(name, &[], 0),
             Relaxation::AArch64,
         ),
         list(
             Architecture::RiscV,
             RiscVRelocation::ALL,
-            |name, _| riscv64::RelaxationKind::entries(name, &[], 0),
+            |name, _| riscv64::RewriteKind::entries(name, &[], 0),
             Relaxation::RiscV,
         ),
         list(
             Architecture::LoongArch64,
             LoongArch64Relocation::ALL,
-            |name, _| loongarch64::RelaxationKind::entries(name, &[], 0),
+            |name, _| loongarch64::RewriteKind::entries(name, &[], 0),
             Relaxation::LoongArch64,
         ),
         list(
             Architecture::Ppc64,
             Ppc64Relocation::ALL,
-            |name, _| ppc64::RelaxationKind::entries(name, &[], 0),
+            |name, _| ppc64::RewriteKind::entries(name, &[], 0),
             Relaxation::Ppc64,
         ),
         list(
             Architecture::X86_64,
             X86_64Relocation::ALL,
-            |name, opcode| x86_64::RelaxationKind::entries(name, &[opcode, 0], 2),
+            |name, opcode| x86_64::RewriteKind::entries(name, &[opcode, 0], 2),
             Relaxation::X86_64,
         ),
     ];

@@ -13,4 +13,4 @@ pub use crate::linker_elf::loongarch64::{
     LoongArch64Instruction, LoongArch64Relocation, highest_relocation_with_bias,
     relocation_type_from_raw, row, write_address_sequence,
 };
-pub use rewrites::RelaxationKind;
+pub use rewrites::RewriteKind;

@@ -53,7 +53,7 @@ pub struct Windows<'a> {
 /// ```
 /// use linker_utils::recognise::{Windows, recognise};
 /// use linker_utils::riscv64::RiscVRelocation;
-/// use linker_utils::x86_64::{RelaxationKind, X86_64Relocation};
+/// use linker_utils::x86_64::{RewriteKind, X86_64Relocation};
 ///
 /// // mov x@GOTPCREL(%rip), %rdi became lea x(%rip), %rdi
 /// let original = &[0x48, 0x8b, 0x3d, 0, 0, 0, 0];
@@ -62,7 +62,7 @@ pub struct Windows<'a> {
 /// let name = X86_64Relocation::R_X86_64_REX_GOTPCRELX;
 /// let mut choices = recognise(name, &windows).into_iter().flatten();
 /// let made = choices.next().unwrap();
-/// assert_eq!(made.choice.kind, RelaxationKind::MovIndirectToLea);
+/// assert_eq!(made.choice.kind, RewriteKind::MovIndirectToLea);
 /// assert_eq!(made.value.unwrap().number(), Some(0x2010));
 /// assert!(choices.next().is_none());
 ///
@@ -123,7 +123,7 @@ pub mod architecture {
     /// use linker_utils::architecture::Relaxation;
     /// use linker_utils::elf::Architecture;
     /// use linker_utils::recognise::{Windows, architecture::recognise};
-    /// use linker_utils::x86_64::RelaxationKind;
+    /// use linker_utils::x86_64::RewriteKind;
     ///
     /// // mov x@GOTPCREL(%rip), %rdi, with R_X86_64_REX_GOTPCRELX, became lea x(%rip), %rdi
     /// let original = &[0x48, 0x8b, 0x3d, 0, 0, 0, 0];
@@ -131,7 +131,7 @@ pub mod architecture {
     /// let windows = Windows { original, offset: 3, others: &[], linked };
     /// let found = recognise(Architecture::X86_64, 42, &windows);
     /// let made = found.into_iter().flatten().next().unwrap();
-    /// assert_eq!(made.choice.kind, Relaxation::X86_64(RelaxationKind::MovIndirectToLea));
+    /// assert_eq!(made.choice.kind, Relaxation::X86_64(RewriteKind::MovIndirectToLea));
     /// assert_eq!(Architecture::X86_64.name(made.choice.relocation), Some("R_X86_64_PC32"));
     /// assert_eq!(made.value.unwrap().number(), Some(0x2010));
     /// ```

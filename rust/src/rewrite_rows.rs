@@ -375,7 +375,7 @@ macro_rules! by_row {
             $(keep $keep:literal $(at $at:literal)? set $set:literal)* $(special $special:ident)?
             $(delete $start:literal)? $(skip $skip:literal)? $(moved $moved:literal)?
             $(addend $addend:literal)?;)*
-    ) => { [$(RelaxationKind::$kind),*] };
+    ) => { [$(RewriteKind::$kind),*] };
     (
         $tests:ident, $value:expr, $row:ident => $use:expr;
         $($kind:ident: $len:literal $(back $back:literal)? $(aligned $aligned:literal)?
@@ -385,7 +385,7 @@ macro_rules! by_row {
             $(addend $addend:literal)?;)*
     ) => {
         match $value {
-            $(RelaxationKind::$kind => {
+            $(RewriteKind::$kind => {
                 let $row = $crate::rewrite_rows::RewriteRow {
                     len: $len,
                     back: $crate::rewrite_rows::or!(0; $($back)?),

@@ -9,4 +9,4 @@ mod rewrites;
 
 pub use choices::{choose, fits};
 pub use crate::linker_elf::x86_64::{X86_64Relocation, relocation_from_raw, row};
-pub use rewrites::{RelaxationKind, may_be_skipped};
+pub use rewrites::{RewriteKind, may_be_skipped};

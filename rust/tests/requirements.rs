@@ -6,7 +6,7 @@ use linker_utils::bit_misc::BitExtraction;
 use linker_utils::elf::{AArch64Instruction, InstructionForm, InstructionRewrite};
 use linker_utils::elf::{RelocationInstruction, RiscVInstruction};
 use linker_utils::relaxation::{RelaxDeltaMap, SectionRelaxDeltas, pack_into, shrink_calls_into};
-use linker_utils::riscv64::{LinkRegister, RelaxationKind};
+use linker_utils::riscv64::{LinkRegister, RewriteKind};
 use linker_utils::utils::u32_from_slice;
 use std::panic::{self, AssertUnwindSafe};
 use std::sync::Mutex;
@@ -39,7 +39,7 @@ fn requirements_name_the_caller() {
         let text = text.split_whitespace().collect::<Vec<_>>().join(" ");
         PANICS.lock().unwrap().push((at.file().to_string(), at.line(), text));
     }));
-    let nop = RelaxationKind::ReplaceWithNop;
+    let nop = RewriteKind::ReplaceWithNop;
     const NONE: [(u64, u64); 0] = [];
     let lines = [
         (line_of!(u32_from_slice(&short)), "4 <= bytes.len()"),

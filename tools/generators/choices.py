@@ -41,7 +41,7 @@ Conditions are on `LinkFacts`, and on values by these words:
 - *S + A in 12 bits*: the sum is known, and is a number of 12 bits in two's complement."""
 CELLS = """\
 Where no instructions are named, they are those that the rewrite is meant for
-(`RelaxationKind::matches`). Bytes are counted from the relocation's offset: those that the rewrite
+(`RewriteKind::matches`). Bytes are counted from the relocation's offset: those that the rewrite
 writes, and those that are deleted after it."""
 OPCODES = """ The opcode is the byte two before the offset, and
 n the count of the instruction's bytes before the field. `GOTPCREL` has no opcode where the byte
@@ -218,7 +218,7 @@ def end_of_docs(architecture):
     for text in (ORDER, CELLS, WORDS):
         yield from ("", text)
     yield ""
-    yield from markdown(architecture, "[`{}`](RelaxationKind::{})")
+    yield from markdown(architecture, "[`{}`](RewriteKind::{})")
 
 
 # ---- The header
@@ -272,7 +272,7 @@ def snake(name):
 def enumerators(architecture):
     """The rewrites of an architecture as the header's enum has them, in the order of the source."""
     source = (ROOT / f"rust/src/{architecture.module}/rewrites.rs").read_text()
-    variants = re.search(r"(?s)\npub enum RelaxationKind \{\n(.*?)\n\}", source)[1]
+    variants = re.search(r"(?s)\npub enum RewriteKind \{\n(.*?)\n\}", source)[1]
     found = re.findall(r"((?:    ///.*\n)+)(?:    #.*\n)?    (\w+)(\(u8\))?,", variants + "\n")
     for number, (docs, name, with_n) in enumerate(found):
         said = " ".join(re.findall(r"/// (.*)", docs))

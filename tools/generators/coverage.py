@@ -196,7 +196,7 @@ def groups():
     lines = ["| | Rewrites | In groups | Not in groups |", "|---|--:|--:|---|"]
     for name, (file, *_), function in ARCHITECTURES.values():
         enum = (ROOT / f"crates/linker_utils/src/{function}/rewrites.rt").read_text()
-        enum = enum.partition("pub enum RelaxationKind {")[2].partition("\n}")[0]
+        enum = enum.partition("pub enum RewriteKind {")[2].partition("\n}")[0]
         kinds = re.findall(r"^    (\w+)[,( ]", enum, re.M)
         kinds.remove("NoOp")
         path = ROOT / f"crates/linker_laws/specs/{re.sub('RewriteLaws|Groups', '', file)}Groups.antt"

@@ -311,7 +311,7 @@ fn forms_of(architecture: &str) -> Numbers {
 /// or the rows of a table by their places.
 fn rewrites_of(architecture: &str) -> Numbers {
     let source = format!("linker_utils/src/{architecture}/rewrites");
-    let found = arms(&source, "RelaxationKind");
+    let found = arms(&source, "RewriteKind");
     if !found.is_empty() {
         return found;
     }

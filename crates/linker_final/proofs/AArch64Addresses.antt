@@ -4,7 +4,7 @@ use Rattle.std.proofs.lemmas.Bool.{cond-false}
 use Rattle.std.proofs.lemmas.List.{take-take}
 use Rattle.std.specs.Prelude.{slice_get}
 use Rattle.linker_utils.specs.AArch64Rewrites.{to_adr, nop_adr, IsAdd64, AreOfOneRegister, rd_of}
-use Rattle.linker_utils.specs.declared.aarch64.rewrites.RelaxationKind.TheVariants as kinds
+use Rattle.linker_utils.specs.declared.aarch64.rewrites.RewriteKind.TheVariants as kinds
 use Rattle.linker_base.specs.Rewrite.{replaces}
 use Rattle.linker_elf.specs.AArch64Relocations.{aarch64_name, insn_row}
 use Rattle.linker_elf.specs.Choices.{entry}

@@ -2,7 +2,7 @@
 use Rattle.std.proofs.Common.{◌≡◌, ℕ, ◌+◌, ◌<◌, ◌≤◌, [], ◌∷◌, length, drop, refl, subst, Bool, true, eqb}
 use Rattle.std.proofs.lemmas.Bool.{eq-eqb}
 use Rattle.linker_utils.specs.AArch64Rewrites.{AArch64Entry, aarch64_entries, halves_to_local_exec, IsLdr64, IsIntoOwnSource, IsAdrp, HasPattern, rd_of, rn_of}
-use Rattle.linker_utils.specs.declared.aarch64.rewrites.RelaxationKind.TheVariants as kinds
+use Rattle.linker_utils.specs.declared.aarch64.rewrites.RewriteKind.TheVariants as kinds
 use Rattle.linker_elf.specs.AArch64Relocations.{aarch64_name, insn_row}
 use Rattle.linker_elf.specs.Choices.{entry, weak_zero}
 use Rattle.linker_elf.specs.ElfNames.{IsNamed, IsNameOf}

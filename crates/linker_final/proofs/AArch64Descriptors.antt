@@ -2,8 +2,8 @@
 use Rattle.std.proofs.Common.{◌≡◌, ℕ, ◌+◌, ◌≤◌, List, [], length, refl, sym, ap, subst, ◌∙◌, inl, inr, arith, true, Some, None, cond}
 use Rattle.std.specs.Prelude.{slice_get}
 use Rattle.linker_utils.specs.AArch64Rewrites.{aarch64_entries, to_initial_exec, to_local_exec, aarch64_rewrite, rewrites_where}
-use Rattle.linker_utils.specs.declared.aarch64.rewrites.RelaxationKind.{RelaxationKind}
-use Rattle.linker_utils.specs.declared.aarch64.rewrites.RelaxationKind.TheVariants as kinds
+use Rattle.linker_utils.specs.declared.aarch64.rewrites.RewriteKind.{RewriteKind}
+use Rattle.linker_utils.specs.declared.aarch64.rewrites.RewriteKind.TheVariants as kinds
 use Rattle.linker_elf.specs.AArch64Relocations.{aarch64_name, insn_row}
 use Rattle.linker_elf.specs.Choices.{entry}
 use Rattle.linker_elf.specs.Rows.{aligned_row, entry_pages, paged_row, signed_row}
@@ -32,11 +32,11 @@ use Rattle.linker_elf.specs.declared.elf.architecture.Architecture.TheVariants.{
 
 -- ---- kinds
 
-abbrev kind_in : RelaxationKind → Relaxation → RelaxationKind
+abbrev kind_in : RewriteKind → Relaxation → RewriteKind
 kind_in other (relaxations.AArch64 kind) = kind
 kind_in other relaxation = other
 
-same_kind : (k : Relaxation) (x y : RelaxationKind) → k ≡ relaxations.AArch64 x → k ≡ relaxations.AArch64 y
+same_kind : (k : Relaxation) (x y : RewriteKind) → k ≡ relaxations.AArch64 x → k ≡ relaxations.AArch64 y
     → x ≡ y
 same_kind k x y is_x is_y = ap (kind_in x) (sym is_x ∙ is_y)
 
@@ -88,7 +88,7 @@ call_erased section o chosen (inr (inr nothing)) = absurd nothing
 
 -- the two instructions that go become `nop`
 module _ (l : Linked) (rewriting : AreRewritten l) (aarch64 : l.context.architecture ≡ AArch64)
-    (high low : RelaxationKind) (i j k m : ℕ) (of : AreOfDescriptor l high low i j k m) where
+    (high low : RewriteKind) (i j k m : ℕ) (of : AreOfDescriptor l high low i j k m) where
   pub add_gone : IsErased l.section (relocation_in l.relocations k).offset of.add_chosen
   add_gone =
       add_erased l.section (relocation_in l.relocations k).offset of.add_chosen
@@ -133,7 +133,7 @@ module _ (l : Linked) (rewriting : AreRewritten l) (aarch64 : l.context.architec
       (becomes_nop l rewriting m of.call_chosen of.third.second_below of.call_decided call_gone.kind_is left)
 
   -- the second instruction becomes another
-  pub second_made : (kind : RelaxationKind) (word : ℕ)
+  pub second_made : (kind : RewriteKind) (word : ℕ)
       → aarch64_rewrite kind ≡ Some (rewrites_where (λ _. true) (λ _. word))
       → of.load_chosen.kind ≡ relaxations.AArch64 kind
       → IsRewritten kind (instruction_at l.section ((relocation_in l.relocations i).offset + 4))
@@ -273,7 +273,7 @@ descriptors_anywhere laws = (to_local_anywhere laws, to_initial_anywhere laws)
 -- ---- in the final bytes
 
 module _ (l : Linked) (linked : IsLinked l) (aarch64 : l.context.architecture ≡ AArch64)
-    (high low : RelaxationKind) (i j k m : ℕ) (of : AreOfDescriptor l high low i j k m) where
+    (high low : RewriteKind) (i j k m : ℕ) (of : AreOfDescriptor l high low i j k m) where
   add_left : UntouchedInstruction l k → IsWrittenByNoOther l k (relocation_in l.relocations k).offset
       → UntouchedAt l (relocation_in l.relocations k).offset
   add_left left alone =

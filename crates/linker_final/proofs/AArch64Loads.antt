@@ -3,7 +3,7 @@ use Rattle.std.proofs.Common.{◌≡◌, ℕ, ℤ, ◌+◌, ◌-◌, ◌≤◌, 
 use Rattle.std.proofs.lemmas.Bool.{cond-false}
 use Rattle.std.specs.Prelude.{slice_get}
 use Rattle.linker_utils.specs.AArch64Rewrites.{is_ldr64, to_address, IsLdr64, AreOfOneRegister}
-use Rattle.linker_utils.specs.declared.aarch64.rewrites.RelaxationKind.TheVariants as kinds
+use Rattle.linker_utils.specs.declared.aarch64.rewrites.RewriteKind.TheVariants as kinds
 use Rattle.linker_base.specs.Bits.{field}
 use Rattle.linker_elf.specs.AArch64Relocations.{aarch64_name, insn_row}
 use Rattle.linker_elf.specs.Choices.{entry}

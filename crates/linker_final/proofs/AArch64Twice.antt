@@ -15,7 +15,7 @@ use Rattle.linker_final.proofs.Twice.{bytes_between, relocation_between}
 use Rattle.linker_final.proofs.Written.{first_same, rela, second_same}
 use Rattle.linker_final.specs.AArch64Anywhere.{IsAppliedAt, UntouchedAt}
 use Rattle.linker_final.specs.AArch64Final.{AreOfAddress}
-use Rattle.linker_utils.specs.declared.aarch64.rewrites.RelaxationKind.TheVariants as kinds
+use Rattle.linker_utils.specs.declared.aarch64.rewrites.RewriteKind.TheVariants as kinds
 use Rattle.linker_final.specs.AArch64Twice.{FinalLoadsTwice, IsRewrittenTwice, LoadsTwice}
 use Rattle.linker_final.specs.Final.{Linked, instruction_at, two_at}
 use Rattle.linker_laws.specs.AArch64Groups.{Groups}

@@ -2,8 +2,8 @@
 use Rattle.std.proofs.Common.{◌≡◌, ℕ, ℤ, ◌+◌, ◌<◌, ◌≤◌, List, length, sym, ap, subst, ◌∙◌, refl, arith, Some, Ok, Bool, true, IsSomeAnd}
 use Rattle.std.specs.Prelude.{slice_get}
 use Rattle.linker_utils.specs.AArch64Rewrites.{AArch64Entry, aarch64_rewrite, nop, rewrites_where}
-use Rattle.linker_utils.specs.declared.aarch64.rewrites.RelaxationKind.TheVariants as kinds
-use Rattle.linker_utils.specs.declared.aarch64.rewrites.RelaxationKind.{RelaxationKind}
+use Rattle.linker_utils.specs.declared.aarch64.rewrites.RewriteKind.TheVariants as kinds
+use Rattle.linker_utils.specs.declared.aarch64.rewrites.RewriteKind.{RewriteKind}
 use Rattle.linker_base.specs.Rewrite.{addend_after, offset_after}
 use Rattle.linker_elf.specs.AArch64Relocations.{aarch64_name, aarch64_row}
 use Rattle.linker_elf.specs.Applied.{IsApplied}
@@ -72,7 +72,7 @@ named_after l rewriting i chosen below decided e kind_is code_is unmoved same_ad
 -- an instruction becomes another
 pub becomes : (l : Linked) → AreRewritten l → (i : ℕ) (chosen : Choice Relaxation ℕ) → i < count l
     → decision_at l.decisions i ≡ Rewritten chosen
-    → (kind : RelaxationKind) (test : ℕ → Bool) (new : ℕ → ℕ)
+    → (kind : RewriteKind) (test : ℕ → Bool) (new : ℕ → ℕ)
     → aarch64_rewrite kind ≡ Some (rewrites_where test new) → chosen.kind ≡ relaxations.AArch64 kind
     → IsRewritten kind (instruction_at l.section (relocation_in l.relocations i).offset)
     (instruction_at l.rewritten (relocation_in l.relocations i).offset)

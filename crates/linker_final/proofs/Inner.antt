@@ -3,7 +3,7 @@ use Rattle.std.proofs.Common.{◌≡◌, ℕ, suc, ℤ, ◌+◌, ◌-◌, ◌<�
 use Rattle.std.proofs.lemmas.List.{take_more}
 use Rattle.linker_base.specs.Rewrite.{Rewrite, rewritten, rewrite_window}
 use Rattle.linker_utils.specs.X86Rewrites.{absolute, operand, prefixed_operand, puts, x86_64_rewrite}
-use Rattle.linker_utils.specs.declared.x86_64.rewrites.RelaxationKind.TheVariants as kinds
+use Rattle.linker_utils.specs.declared.x86_64.rewrites.RewriteKind.TheVariants as kinds
 
 -- Another rewrite does the same, whose window is in an instruction or a sequence: from at most n
 -- bytes before a field to n bytes after where the field begins.

@@ -22,7 +22,7 @@ use Rattle.linker_final.specs.LoongArchFinal.{Anywhere, HighHalves, HighHalvesAn
 use Rattle.linker_laws.specs.LoongArchGroups.{Groups, HighHalfToLu12i, HighOffset, LowHalf}
 use Rattle.linker_laws.specs.LoongArchRewriteLaws.{word_of}
 use Rattle.linker_utils.specs.LoongArchRewrites.{IsLd, IsPcalau12i, adds_low12, by_low_part, rd_of, rj_of, to_local_exec, tp}
-use Rattle.linker_utils.specs.declared.loongarch64.rewrites.RelaxationKind.TheVariants as kinds
+use Rattle.linker_utils.specs.declared.loongarch64.rewrites.RewriteKind.TheVariants as kinds
 use Rattle.linker_rewriting.specs.Decisions.{decision_at}
 use Rattle.linker_rewriting.specs.declared.decisions.Decision.TheVariants.{Rewritten}
 use Rattle.linker_section.specs.Relocations.{relocation_in}

@@ -11,8 +11,8 @@ use Rattle.linker_final.proofs.PreLayout.{AreEarly, IsListed, are_early, listed_
 use Rattle.linker_final.proofs.Entries.{IsOfEntry, IsOfOne, of_one}
 use Rattle.linker_final.specs.Final.{Linked, count}
 use Rattle.linker_utils.specs.LoongArchRewrites.{HasPattern, LoongArchApplies, LoongArchEntry, loongarch_entries}
-use Rattle.linker_utils.specs.declared.loongarch64.rewrites.RelaxationKind.{RelaxationKind}
-use Rattle.linker_utils.specs.declared.loongarch64.rewrites.RelaxationKind.TheVariants as kinds
+use Rattle.linker_utils.specs.declared.loongarch64.rewrites.RewriteKind.{RewriteKind}
+use Rattle.linker_utils.specs.declared.loongarch64.rewrites.RewriteKind.TheVariants as kinds
 use Rattle.linker_rewriting.specs.Decisions.{AreDecidedIn, decision_at}
 use Rattle.linker_rewriting.specs.Groups.{IsScopeIn, loongarch_scope, loongarch_scope_in}
 use Rattle.linker_rewriting.specs.RiscVPcrelGroups.{is_labelled}
@@ -114,7 +114,7 @@ by_table l all loongarch i chosen below decided name named is_name =
     }
 
 -- one that was chosen
-pub record IsEntry (kind : RelaxationKind) (relocation name : LoongArch64Relocation) (section : List ℕ)
+pub record IsEntry (kind : RewriteKind) (relocation name : LoongArch64Relocation) (section : List ℕ)
     (o : ℕ) (chosen : Choice Relaxation ℕ) : Type 0 where
   pub kind_is : chosen.kind ≡ relaxations.LoongArch64 kind
   pub code_is : chosen.relocation ≡ code_of (loongarch_name relocation)
@@ -129,10 +129,10 @@ entry_by name section o chosen facts e this =
 
 -- ---- kinds
 
-abbrev kind_in : RelaxationKind → Relaxation → RelaxationKind
+abbrev kind_in : RewriteKind → Relaxation → RewriteKind
 kind_in other (relaxations.LoongArch64 kind) = kind
 kind_in other relaxation = other
 
-pub same_kind : (k : Relaxation) (x y : RelaxationKind) → k ≡ relaxations.LoongArch64 x
+pub same_kind : (k : Relaxation) (x y : RewriteKind) → k ≡ relaxations.LoongArch64 x
     → k ≡ relaxations.LoongArch64 y → x ≡ y
 same_kind k x y is_x is_y = ap (kind_in x) (sym is_x ∙ is_y)

@@ -27,7 +27,7 @@ use Rattle.linker_laws.specs.LoongArchGroups.{CallOfDescriptor, Groups, HighEntr
 use Rattle.linker_laws.specs.LoongArchGroups.{LowOfDescriptor, MakesOffset}
 use Rattle.linker_laws.specs.LoongArchRewriteLaws.{IsRelocated, word_of}
 use Rattle.linker_utils.specs.LoongArchRewrites.{IsCallOfDescriptor, IsLoadOfDescriptor, IsLowOfDescriptor, IsPageOfDescriptor, page_to_initial_exec, to_initial_exec, to_local_exec}
-use Rattle.linker_utils.specs.declared.loongarch64.rewrites.RelaxationKind.TheVariants as kinds
+use Rattle.linker_utils.specs.declared.loongarch64.rewrites.RewriteKind.TheVariants as kinds
 use Rattle.linker_rewriting.specs.declared.decisions.Decision.TheVariants.{Rewritten}
 use Rattle.linker_section.specs.Relocations.{relocation_in}
 use Rattle.linker_section.specs.Values.{operands_by, operands_in, operands_with}

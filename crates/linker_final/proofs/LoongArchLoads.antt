@@ -24,7 +24,7 @@ use Rattle.linker_final.specs.LoongArchFinal.{GotLoads, LoadsTheSame}
 use Rattle.linker_laws.specs.LoongArchGroups.{Groups}
 use Rattle.linker_laws.specs.LoongArchRewriteLaws.{IsPair, IsRewritten, following, word_of}
 use Rattle.linker_utils.specs.LoongArchRewrites.{AreOfOneRegister, IsLd, bound_by_pages}
-use Rattle.linker_utils.specs.declared.loongarch64.rewrites.RelaxationKind.TheVariants as kinds
+use Rattle.linker_utils.specs.declared.loongarch64.rewrites.RewriteKind.TheVariants as kinds
 use Rattle.linker_rewriting.specs.Facts.{RelaxContext}
 use Rattle.linker_section.specs.Relocations.{relocation_in}
 use Rattle.linker_section.specs.Values.{operands_with}

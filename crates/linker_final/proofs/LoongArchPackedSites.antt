@@ -37,7 +37,7 @@ use Rattle.linker_laws.specs.LoongArchRewriteLaws.{Fits32, HaveCalled, HaveMade,
 use Rattle.linker_laws.specs.Machine.{Relocated, loaded, wrapped}
 use Rattle.linker_laws.specs.Schemes.{AreAddresses, IsAddress, entry_and_addend, plt_address, symbol_address}
 use Rattle.linker_utils.specs.LoongArchRewrites.{AreOfOneRegister, IsAddi, IsCall, IsLd, rd_of, rj_of, signed_32, word_at}
-use Rattle.linker_utils.specs.declared.loongarch64.rewrites.RelaxationKind.TheVariants as kinds
+use Rattle.linker_utils.specs.declared.loongarch64.rewrites.RewriteKind.TheVariants as kinds
 use Rattle.linker_riscv64.proofs.Jumps.{word_of_front}
 use Rattle.linker_runs.specs.LoongArchSites.{IsBranch, IsCall36At, IsFarCall, IsPcalaAt, IsPcaddi, LoongArchBecomes, destination}
 use Rattle.linker_runs.specs.LoongArchSites.LoongArchBecomes.{jump, call, far_call, address, far_address as far_pair}

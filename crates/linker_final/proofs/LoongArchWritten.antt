@@ -20,8 +20,8 @@ use Rattle.linker_final.specs.Final.{AreRewritten, UntouchedInstruction, Linked,
 use Rattle.linker_final.specs.LoongArchFinal.{named_as}
 use Rattle.linker_laws.specs.LoongArchRewriteLaws.{BeginsRewritten, IsRelocated, IsRewritten}
 use Rattle.linker_utils.specs.LoongArchRewrites.{loongarch_rewrite, rewrites_word}
-use Rattle.linker_utils.specs.declared.loongarch64.rewrites.RelaxationKind.{RelaxationKind}
-use Rattle.linker_utils.specs.declared.loongarch64.rewrites.RelaxationKind.TheVariants as kinds
+use Rattle.linker_utils.specs.declared.loongarch64.rewrites.RewriteKind.{RewriteKind}
+use Rattle.linker_utils.specs.declared.loongarch64.rewrites.RewriteKind.TheVariants as kinds
 use Rattle.linker_rewriting.specs.Decisions.{decision_at}
 use Rattle.linker_rewriting.specs.Rewritten.{AreDone, IsDone, IsMade, relocation_after}
 use Rattle.linker_rewriting.specs.declared.decisions.Decision.TheVariants.{Rewritten}
@@ -59,7 +59,7 @@ row_of architecture loongarch name named row is found there =
     (subst (λ x. IsRow x (code_of (loongarch_name name)) found) loongarch there) ∙ is
 
 -- no rewrite moves the offset or changes the addend
-unmoved : (kind : RelaxationKind) (o : ℕ) → offset_after (loongarch_rewrite kind) o ≡ o
+unmoved : (kind : RewriteKind) (o : ℕ) → offset_after (loongarch_rewrite kind) o ≡ o
 unmoved kinds.NoOp o = refl
 unmoved kinds.ReplaceWithNop o = refl
 unmoved kinds.LdToAddi o = refl
@@ -74,7 +74,7 @@ unmoved kinds.BaseToTp o = refl
 unmoved kinds.Delete o = refl
 unmoved kinds.DeleteAddi o = refl
 
-same_addend : (kind : RelaxationKind) (a : ℤ) → addend_after (loongarch_rewrite kind) a ≡ a
+same_addend : (kind : RewriteKind) (a : ℤ) → addend_after (loongarch_rewrite kind) a ≡ a
 same_addend kinds.NoOp a = refl
 same_addend kinds.ReplaceWithNop a = refl
 same_addend kinds.LdToAddi a = refl
@@ -92,7 +92,7 @@ same_addend kinds.DeleteAddi a = refl
 -- the relocation that is left has another name
 pub named_after : (l : Linked) → AreRewritten l → (i : ℕ) (chosen : Choice Relaxation ℕ) → i < count l
     → decision_at l.decisions i ≡ Rewritten chosen
-    → (kind : RelaxationKind) → chosen.kind ≡ relaxations.LoongArch64 kind
+    → (kind : RewriteKind) → chosen.kind ≡ relaxations.LoongArch64 kind
     → (name : LoongArch64Relocation) → chosen.relocation ≡ code_of (loongarch_name name)
     → relocation_in l.relocations_after i ≡ named_as name (relocation_in l.relocations i)
 named_after l made i chosen below decided kind kind_is name code_is =
@@ -143,7 +143,7 @@ module _ (l : Linked) (linked : IsLinked l) (loongarch : l.context.architecture 
 pub applied_there : (l : Linked) (linked : IsLinked l) (loongarch : l.context.architecture ≡ LoongArch64) (i : ℕ)
     (chosen : Choice Relaxation ℕ) (below : i < count l)
     (decided : decision_at l.decisions i ≡ Rewritten chosen) (left : UntouchedInstruction l i)
-    (kind : RelaxationKind) (kind_is : chosen.kind ≡ relaxations.LoongArch64 kind)
+    (kind : RewriteKind) (kind_is : chosen.kind ≡ relaxations.LoongArch64 kind)
     (name : LoongArch64Relocation) (code_is : chosen.relocation ≡ code_of (loongarch_name name))
     (a : IsAfter name) (symbol : Symbol) (got : ℕ)
     → operands_in LoongArch64 l.addresses a.row (named_as name (relocation_in l.relocations i)) (Some symbol)
@@ -159,7 +159,7 @@ applied_there l linked loongarch i chosen below decided left kind kind_is name c
 -- an instruction that becomes another
 pub becomes : (l : Linked) → AreDone l.relocations l.decisions l.section l.rewritten (count l)
     → (i : ℕ) (chosen : Choice Relaxation ℕ) → i < count l → decision_at l.decisions i ≡ Rewritten chosen
-    → (kind : RelaxationKind) → chosen.kind ≡ relaxations.LoongArch64 kind
+    → (kind : RewriteKind) → chosen.kind ≡ relaxations.LoongArch64 kind
     → (new : ℕ → ℕ) → loongarch_rewrite kind ≡ Some (rewrites_word new)
     → IsRewritten kind (instruction_at l.section (relocation_in l.relocations i).offset) (instruction_at l.rewritten (relocation_in l.relocations i).offset)
 becomes l done i chosen below decided kind kind_is new is =

@@ -23,7 +23,7 @@ use Rattle.linker_final.specs.Ppc64Final.{CallToBlockIsAlike, CallToLowHalfIsAli
 use Rattle.linker_final.specs.Ppc64PrefixedFinal.{BranchToNopIsAlike, BranchToSumIsAlike}
 use Rattle.linker_laws.specs.Ppc64RewriteLaws.{CallSo, IsRelocated, Laws, Leads, at_place, both, entry_from_toc, with_entry, without_register, word_of}
 use Rattle.linker_utils.specs.Ppc64Rewrites.{Conditions, addis_of_thread, called_to_initial_exec, is_addi, is_addis_of_toc, nop, registers_of, rewrites_call, rewrites_word, rt_of, to_initial_exec, to_local_exec, to_module}
-use Rattle.linker_utils.specs.declared.ppc64.rewrites.RelaxationKind.TheVariants as kinds
+use Rattle.linker_utils.specs.declared.ppc64.rewrites.RewriteKind.TheVariants as kinds
 use Rattle.linker_rewriting.specs.Decisions.{decision_at}
 use Rattle.linker_rewriting.specs.declared.decisions.Decision.TheVariants.{Rewritten}
 use Rattle.linker_section.specs.Relocations.{relocation_in}

@@ -25,7 +25,7 @@ use Rattle.linker_laws.specs.Machine.{loaded}
 use Rattle.linker_laws.specs.Ppc64Machine.{go_on, step, write}
 use Rattle.linker_laws.specs.Ppc64RewriteLaws.{IsRelocated, IsRewritten, Laws, word_of}
 use Rattle.linker_utils.specs.Ppc64Rewrites.{is_call, restores_toc, two_words}
-use Rattle.linker_utils.specs.declared.ppc64.rewrites.RelaxationKind.TheVariants as kinds
+use Rattle.linker_utils.specs.declared.ppc64.rewrites.RewriteKind.TheVariants as kinds
 use Rattle.linker_rewriting.specs.Decisions.{decision_at}
 use Rattle.linker_rewriting.specs.declared.decisions.Decision.TheVariants.{Rewritten}
 use Rattle.linker_section.specs.Relocations.{relocation_in}

@@ -10,8 +10,8 @@ use Rattle.linker_final.proofs.Chosen.{chosen_at}
 use Rattle.linker_final.proofs.Entries.{IsOfEntry as IsOfEntryIn, IsOfOne as IsOfOneIn, of_entry as of_entry_in, of_one as of_one_in}
 use Rattle.linker_final.specs.Final.{AreRewritten, Linked, count}
 use Rattle.linker_utils.specs.Ppc64Rewrites.{Ppc64Applies, ppc64_entries, ppc64_matches}
-use Rattle.linker_utils.specs.declared.ppc64.rewrites.RelaxationKind.{RelaxationKind}
-use Rattle.linker_utils.specs.declared.ppc64.rewrites.RelaxationKind.TheVariants as kinds
+use Rattle.linker_utils.specs.declared.ppc64.rewrites.RewriteKind.{RewriteKind}
+use Rattle.linker_utils.specs.declared.ppc64.rewrites.RewriteKind.TheVariants as kinds
 use Rattle.linker_rewriting.specs.Decisions.{decision_at}
 use Rattle.linker_rewriting.specs.Groups.{IsScopeIn, ppc64_scope, ppc64_scope_in}
 use Rattle.linker_rewriting.specs.RiscVPcrelGroups.{is_labelled}
@@ -86,13 +86,13 @@ unlabelled phase code scope is labelled =
 
 -- ---- the entry
 
-abbrev pub IsOfEntry : Entry RelaxationKind Ppc64Relocation → List ℕ → ℕ → Choice Relaxation ℕ → Type 0
+abbrev pub IsOfEntry : Entry RewriteKind Ppc64Relocation → List ℕ → ℕ → Choice Relaxation ℕ → Type 0
 IsOfEntry e section o =
-    IsOfEntryIn ppc64_name relaxations.Ppc64 (λ (e : Entry RelaxationKind Ppc64Relocation). ppc64_matches e.kind section o) e
+    IsOfEntryIn ppc64_name relaxations.Ppc64 (λ (e : Entry RewriteKind Ppc64Relocation). ppc64_matches e.kind section o) e
 
-abbrev pub IsOfOne : List (Entry RelaxationKind Ppc64Relocation) → List ℕ → ℕ → Choice Relaxation ℕ → Type 0
+abbrev pub IsOfOne : List (Entry RewriteKind Ppc64Relocation) → List ℕ → ℕ → Choice Relaxation ℕ → Type 0
 IsOfOne es section o =
-    IsOfOneIn ppc64_name relaxations.Ppc64 (λ (e : Entry RelaxationKind Ppc64Relocation). ppc64_matches e.kind section o) es
+    IsOfOneIn ppc64_name relaxations.Ppc64 (λ (e : Entry RewriteKind Ppc64Relocation). ppc64_matches e.kind section o) es
 
 -- a relocation that is rewritten has the name of its code
 pub named_there : (l : Linked) → AreRewritten l → l.context.architecture ≡ Ppc64 → (i : ℕ)
@@ -118,15 +118,15 @@ module _ (l : Linked) (rewriting : AreRewritten l) (ppc64 : l.context.architectu
         let r = relocation_in l.relocations i in
         let c = chosen_at l.context l.kept l.relocations l.section l.decisions (count l) i chosen rewriting.decided below decided
         (λ scope is. unlabelled l.context.phase r.code scope (subst (λ x. IsScopeIn x l.context.phase r.code scope) ppc64 is)) in
-        of_one_in ppc64_name relaxations.Ppc64 (λ (e : Entry RelaxationKind Ppc64Relocation). ppc64_matches e.kind l.section r.offset) chosen
+        of_one_in ppc64_name relaxations.Ppc64 (λ (e : Entry RewriteKind Ppc64Relocation). ppc64_matches e.kind l.section r.offset) chosen
         (λ n. Ppc64Applies l.section r.offset c.facts) ppc64_entries kinds.NoOp refl r.code name named is_name
         (λ e applies. applies.0)
         (subst (λ x. IsArchitectureChoice x r.code l.section r.offset c.facts chosen) ppc64 c.is_choice) c.changed
 
     -- the only one
-    pub of_entry : (e : Entry RelaxationKind Ppc64Relocation) → ppc64_entries name ≡ (e ∷ [])
+    pub of_entry : (e : Entry RewriteKind Ppc64Relocation) → ppc64_entries name ≡ (e ∷ [])
         → IsOfEntry e l.section (relocation_in l.relocations i).offset chosen
     of_entry e only =
         of_entry_in ppc64_name relaxations.Ppc64
-        (λ (e : Entry RelaxationKind Ppc64Relocation). ppc64_matches e.kind l.section (relocation_in l.relocations i).offset) chosen
+        (λ (e : Entry RewriteKind Ppc64Relocation). ppc64_matches e.kind l.section (relocation_in l.relocations i).offset) chosen
         e (ppc64_entries name) only of_one

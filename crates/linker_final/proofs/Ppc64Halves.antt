@@ -22,8 +22,8 @@ use Rattle.linker_laws.specs.Ppc64RewriteLaws.{IsRelocated, Laws, Leads, LowHalf
 use Rattle.linker_laws.specs.Ppc64RewriteLaws.{accesses, adds, ds_access, from_thread, from_toc, is_d_over, is_ds_over_base}
 use Rattle.linker_laws.specs.Schemes.{AreAddresses}
 use Rattle.linker_utils.specs.Ppc64Rewrites.{HasTest, is_addi, is_addis_over, nop, over_base, ppc64_rewrite, rewrites_word, without_high_offset, without_high_part}
-use Rattle.linker_utils.specs.declared.ppc64.rewrites.RelaxationKind.{RelaxationKind}
-use Rattle.linker_utils.specs.declared.ppc64.rewrites.RelaxationKind.TheVariants as kinds
+use Rattle.linker_utils.specs.declared.ppc64.rewrites.RewriteKind.{RewriteKind}
+use Rattle.linker_utils.specs.declared.ppc64.rewrites.RewriteKind.TheVariants as kinds
 use Rattle.linker_rewriting.specs.Decisions.{decision_at}
 use Rattle.linker_rewriting.specs.declared.decisions.Decision.TheVariants.{Rewritten}
 use Rattle.linker_section.specs.Relocations.{relocation_in}
@@ -34,7 +34,7 @@ use Rattle.linker_elf.specs.declared.elf.architecture.Architecture.TheVariants.{
 
 module _ (l : Linked) (rewriting : AreRewritten l) (i : ℕ) (chosen : Choice Relaxation ℕ)
     (below : i < count l) (decided : decision_at l.decisions i ≡ Rewritten chosen)
-    (kind : RelaxationKind) (kind_is : chosen.kind ≡ relaxations.Ppc64 kind) where
+    (kind : RewriteKind) (kind_is : chosen.kind ≡ relaxations.Ppc64 kind) where
   -- a high half becomes `nop`
   pub nop_goes : (register : ℕ) (high : Ppc64Relocation) (address : Operands → ℕ → ℕ)
       (LowHalvesLead : Operands → ℕ → ℕ → Type 0) → ToNop register kind high address LowHalvesLead

@@ -16,7 +16,7 @@ use Rattle.linker_final.specs.Ppc64Final.{LoadIsAlike, Loads, SymbolIsAlike, fin
 use Rattle.linker_laws.proofs.Words.{word_below}
 use Rattle.linker_laws.specs.Ppc64RewriteLaws.{IsRelocated, Laws, at_place, with_entry, word_of}
 use Rattle.linker_utils.specs.Ppc64Rewrites.{is_addis_of_toc, is_ld, is_pld, paddi, registers_of, rewrites_word, to_distance, to_toc_distance}
-use Rattle.linker_utils.specs.declared.ppc64.rewrites.RelaxationKind.TheVariants as kinds
+use Rattle.linker_utils.specs.declared.ppc64.rewrites.RewriteKind.TheVariants as kinds
 use Rattle.linker_rewriting.specs.Decisions.{decision_at}
 use Rattle.linker_rewriting.specs.declared.decisions.Decision.TheVariants.{Rewritten}
 use Rattle.linker_section.specs.Relocations.{relocation_in}

@@ -17,8 +17,8 @@ use Rattle.linker_final.specs.Ppc64Final.{EachRewritten, ForOperands, IfAlone, I
 use Rattle.linker_laws.specs.Ppc64Machine.{State}
 use Rattle.linker_laws.specs.Ppc64RewriteLaws.{CallLeaves, IsRelocated, Laws, Leaves, at_place, from_thread, one, only, two, with_entry, word_of}
 use Rattle.linker_utils.specs.Ppc64Rewrites.{addis_of_thread, is_addi, ppc64_entries, registers_of, rewrites_call, rewrites_word, rt_of, to_initial_exec, to_local_exec, to_module, to_near_initial_exec}
-use Rattle.linker_utils.specs.declared.ppc64.rewrites.RelaxationKind.{RelaxationKind}
-use Rattle.linker_utils.specs.declared.ppc64.rewrites.RelaxationKind.TheVariants as kinds
+use Rattle.linker_utils.specs.declared.ppc64.rewrites.RewriteKind.{RewriteKind}
+use Rattle.linker_utils.specs.declared.ppc64.rewrites.RewriteKind.TheVariants as kinds
 use Rattle.linker_rewriting.specs.Decisions.{decision_at}
 use Rattle.linker_rewriting.specs.declared.decisions.Decision.TheVariants.{Rewritten}
 use Rattle.linker_section.specs.Relocations.{relocation_in}
@@ -29,11 +29,11 @@ use Rattle.linker_elf.specs.declared.elf.architecture.Architecture.TheVariants.{
 
 -- ---- the entry of a call
 
-abbrev kind_in : RelaxationKind → Relaxation → RelaxationKind
+abbrev kind_in : RewriteKind → Relaxation → RewriteKind
 kind_in other (relaxations.Ppc64 kind) = kind
 kind_in other relaxation = other
 
-pub same_kind : (r : Relaxation) (a b : RelaxationKind) → r ≡ relaxations.Ppc64 a → r ≡ relaxations.Ppc64 b → a ≡ b
+pub same_kind : (r : Relaxation) (a b : RewriteKind) → r ≡ relaxations.Ppc64 a → r ≡ relaxations.Ppc64 b → a ≡ b
 same_kind r a b first second = ap (kind_in a) (sym first ∙ second)
 
 to_local : (section : List ℕ) (o : ℕ) (chosen : Choice Relaxation ℕ)

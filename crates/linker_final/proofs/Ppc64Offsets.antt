@@ -24,8 +24,8 @@ use Rattle.linker_laws.specs.Ppc64RewriteLaws.{OverVariable, indexed_access}
 use Rattle.linker_laws.specs.Ppc64RewriteLaws.{IsRelocated, IsRewritten, Laws, Leads, OverOffset, Use, accesses, adds, at_place, entry_from_toc, with_entry, word_of}
 use Rattle.linker_laws.specs.Schemes.{AreAddresses}
 use Rattle.linker_utils.specs.Ppc64Rewrites.{HasTest, access_of, addis_of_thread, by_displacement, by_word_displacement, direct, is_add_of_thread, is_indexed, is_indexed_any, is_indexed_word, is_ld, ppc64_rewrite, registers_of, rewrites_marked, rewrites_word, rt_of, to_local_exec, to_local_exec_words, to_move, to_prefixed_local_exec}
-use Rattle.linker_utils.specs.declared.ppc64.rewrites.RelaxationKind.{RelaxationKind}
-use Rattle.linker_utils.specs.declared.ppc64.rewrites.RelaxationKind.TheVariants as kinds
+use Rattle.linker_utils.specs.declared.ppc64.rewrites.RewriteKind.{RewriteKind}
+use Rattle.linker_utils.specs.declared.ppc64.rewrites.RewriteKind.TheVariants as kinds
 use Rattle.linker_rewriting.specs.Decisions.{decision_at}
 use Rattle.linker_rewriting.specs.declared.decisions.Decision.TheVariants.{Rewritten}
 use Rattle.linker_section.specs.Relocations.{relocation_in}
@@ -80,7 +80,7 @@ module _ (laws : Laws) (l : Linked) (rewriting : AreRewritten l) (i : ℕ) (chos
 
   -- ---- variables by their offsets
 
-  over_offset : (kind : RelaxationKind) → chosen.kind ≡ relaxations.Ppc64 kind
+  over_offset : (kind : RewriteKind) → chosen.kind ≡ relaxations.Ppc64 kind
       → (low : Ppc64Relocation) (does : Use) → OverOffset kind low does → (new : ℕ → ℕ)
       → ppc64_rewrite kind ≡ Some (rewrites_word new) → HasTest does.test l.section (offset_of l i)
       → (o : Operands) → AreAddresses o
@@ -127,7 +127,7 @@ module _ (laws : Laws) (l : Linked) (rewriting : AreRewritten l) (i : ℕ) (chos
 
 module _ (laws : Laws) (l : Linked) (rewriting : AreRewritten l) (i : ℕ) (chosen : Choice Relaxation ℕ)
     (below : i < count l) (decided : decision_at l.decisions i ≡ Rewritten chosen) where
-  over_variable : (kind : RelaxationKind) → chosen.kind ≡ relaxations.Ppc64 kind
+  over_variable : (kind : RewriteKind) → chosen.kind ≡ relaxations.Ppc64 kind
       → (does : Use) → OverVariable kind does → (new : ℕ → ℕ)
       → ppc64_rewrite kind ≡ Some (rewrites_marked new) → HasTest does.test l.section (marked_offset l i)
       → UntouchedAt l (marked_offset l i) → (o : Operands) → OverVariableIsAlike does l i o

@@ -26,7 +26,7 @@ use Rattle.linker_laws.specs.Ppc64RewriteLaws.{IsPrefixed, Laws}
 use Rattle.linker_laws.specs.Ppc64RewriteLaws.{IsRewritten, with_entry, word_of}
 use Rattle.linker_laws.specs.Schemes.{AreAddresses}
 use Rattle.linker_utils.specs.Ppc64Rewrites.{HasTwo, is_pla, is_pld, paddi_of_thread, pld, to_module, to_prefixed_initial_exec, to_prefixed_local_exec}
-use Rattle.linker_utils.specs.declared.ppc64.rewrites.RelaxationKind.TheVariants as kinds
+use Rattle.linker_utils.specs.declared.ppc64.rewrites.RewriteKind.TheVariants as kinds
 use Rattle.linker_rewriting.specs.Decisions.{decision_at}
 use Rattle.linker_rewriting.specs.declared.decisions.Decision.TheVariants.{Rewritten}
 use Rattle.linker_section.specs.Relocations.{relocation_in}

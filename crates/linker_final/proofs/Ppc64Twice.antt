@@ -31,8 +31,8 @@ use Rattle.linker_laws.specs.Ppc64Machine.{AreAlikeBut, Formats, State, access_w
 use Rattle.linker_laws.specs.Ppc64RewriteLaws.{AgreeBut, Changes, HasOffset, IsRelocated, Laws, Leads, Leaves, LowHalfLeads, ReadsSame, StepSo, Use, access_number, accesses, adds, after_access, at_place, from_thread, from_toc, is_d_over, is_d_over_base, one, only, thread_offset, with_entry, with_register, without_register, word_of, ds_access, is_ds_over_base}
 use Rattle.linker_utils.specs.Ppc64Rewrites.{access_of, addis_of_thread, by_displacement, is_access, is_add_of_thread, is_addi, is_indexed, is_ld, is_over_thread, is_store, nop, opcode_of, ppc64_rewrite, ra_of, registers_of, rewrites_word, rt_of, to_local_exec, to_toc_distance, without_high_offset, without_high_part, by_word_displacement, is_ds_access, is_indexed_word, is_word_access}
 use Rattle.linker_laws.specs.Schemes.{AreAddresses}
-use Rattle.linker_utils.specs.declared.ppc64.rewrites.RelaxationKind.{RelaxationKind}
-use Rattle.linker_utils.specs.declared.ppc64.rewrites.RelaxationKind.TheVariants as kinds
+use Rattle.linker_utils.specs.declared.ppc64.rewrites.RewriteKind.{RewriteKind}
+use Rattle.linker_utils.specs.declared.ppc64.rewrites.RewriteKind.TheVariants as kinds
 use Rattle.linker_section.specs.Needed.{entry_of}
 use Rattle.linker_section.specs.Relocations.{relocation_in}
 use Rattle.linker_section.specs.Values.{entry_address, operands_by, operands_with}
@@ -182,7 +182,7 @@ module _ (l m : Linked) (i : ℕ) (name between : Ppc64Relocation) (twice : IsRe
       ∙ bytes_between Ppc64 l m twice.calls i twice.below (offset_of l i) 4 twice.left
 
   -- by the word that the first call makes of its word
-  pub word_again : (kind : RelaxationKind) → twice.chosen.kind ≡ relaxations.Ppc64 kind → (new : ℕ → ℕ)
+  pub word_again : (kind : RewriteKind) → twice.chosen.kind ≡ relaxations.Ppc64 kind → (new : ℕ → ℕ)
       → ppc64_rewrite kind ≡ Some (rewrites_word new) → new (word_of (object l i)) < 2 ^ 32
       → word_of (object m i) ≡ new (word_of (object l i))
   word_again kind kind_is new is small_word =
@@ -352,7 +352,7 @@ near_offset laws l m i twice o e small applied left f s t c ld agree toc base ho
 
 -- what is the same of an instruction that two calls rewrite, by what the first left
 module _ (laws : Laws) (l m : Linked) (i : ℕ) (twice : IsRewrittenTwice 4 names.R_PPC64_TLS l m i)
-    (kind : RelaxationKind) (kind_is : twice.chosen.kind ≡ relaxations.Ppc64 kind) (does : Use)
+    (kind : RewriteKind) (kind_is : twice.chosen.kind ≡ relaxations.Ppc64 kind) (does : Use)
     (low : Ppc64Relocation) (low_named : IsNamed (ppc64_name low))
     (first : Becomes low l i (λ entry. OverOffsetIsAlike does l i))
     (new : ℕ → ℕ) (is : ppc64_rewrite kind ≡ Some (rewrites_word new))
@@ -398,7 +398,7 @@ module _ (laws : Laws) (l m : Linked) (i : ℕ) (twice : IsRewrittenTwice 4 name
 
 -- what the first call left, by its kind
 module _ (laws : Laws) (l m : Linked) (i : ℕ) (twice : IsRewrittenTwice 4 names.R_PPC64_TLS l m i) where
-  isnt : (mine other : RelaxationKind) → twice.chosen.kind ≡ relaxations.Ppc64 mine
+  isnt : (mine other : RewriteKind) → twice.chosen.kind ≡ relaxations.Ppc64 mine
       → twice.chosen.kind ≡ relaxations.Ppc64 other → (mine ≡ other → ⊥) → ⊥
   isnt mine other kind by differ = differ (same_kind twice.chosen.kind mine other kind by)
 

@@ -29,7 +29,7 @@ use Rattle.linker_laws.specs.Ppc64Machine.{Formats, State, continue, go_on, next
 use Rattle.linker_laws.specs.Ppc64RewriteLaws.{AgreeBut, CallSo, Changes, HasArgument, IsRelocated, IsRewritten, Laws, Leads, LowHalfLeads, StepSo, adds, at_place, both, from_thread, is_d_over, two, with_entry, with_register, without_register, word_of}
 use Rattle.linker_laws.specs.Schemes.{AreAddresses}
 use Rattle.linker_utils.specs.Ppc64Rewrites.{addis_of_thread, is_addi, nop, over_base, ra_of, rewrites_call, rewrites_word, rt_of, without_high_offset}
-use Rattle.linker_utils.specs.declared.ppc64.rewrites.RelaxationKind.TheVariants as kinds
+use Rattle.linker_utils.specs.declared.ppc64.rewrites.RewriteKind.TheVariants as kinds
 use Rattle.linker_section.specs.Relocations.{relocation_in}
 use Rattle.linker_section.specs.Values.{operands_with}
 use Rattle.linker_section.specs.declared.relocations.Rela.{Rela}

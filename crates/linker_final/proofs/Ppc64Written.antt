@@ -26,7 +26,7 @@ use Rattle.linker_final.specs.Ppc64PrefixedFinal.{marked_object, marked_offset}
 use Rattle.linker_laws.specs.Ppc64RewriteLaws.{IsRelocated, IsRewritten, at_place, with_entry, word_of}
 use Rattle.linker_laws.specs.Schemes.{AreAddresses}
 use Rattle.linker_utils.specs.Ppc64Rewrites.{HasTest, ppc64_rewrite, rewrites_marked, rewrites_word}
-use Rattle.linker_utils.specs.declared.ppc64.rewrites.RelaxationKind.{RelaxationKind}
+use Rattle.linker_utils.specs.declared.ppc64.rewrites.RewriteKind.{RewriteKind}
 use Rattle.linker_rewriting.specs.Decisions.{decision_at}
 use Rattle.linker_rewriting.specs.Rewritten.{IsDone, IsMade}
 use Rattle.linker_rewriting.specs.declared.decisions.Decision.TheVariants.{Rewritten}
@@ -66,7 +66,7 @@ no_row l ppc64 = row_of l ppc64 names.R_PPC64_NONE tt (bytes_row NoValue 0) refl
 
 module _ (l : Linked) (rewriting : AreRewritten l) (i : ℕ) (chosen : Choice Relaxation ℕ)
     (below : i < count l) (decided : decision_at l.decisions i ≡ Rewritten chosen)
-    (kind : RelaxationKind) (kind_is : chosen.kind ≡ relaxations.Ppc64 kind) where
+    (kind : RewriteKind) (kind_is : chosen.kind ≡ relaxations.Ppc64 kind) where
   abbrev r : Rela
   r = relocation_in l.relocations i
 

@@ -10,8 +10,8 @@ use Rattle.linker_final.proofs.Chosen.{choice_of, chosen_or_labelled}
 use Rattle.linker_final.proofs.Entries.{IsOfApplied, of_first}
 use Rattle.linker_final.specs.Final.{AreRewritten, Linked, count}
 use Rattle.linker_utils.specs.RiscVRewrites.{AppliesToRiscV, HasPattern, IsRiscVChoice, RiscVEntry, riscv_entries}
-use Rattle.linker_utils.specs.declared.riscv64.rewrites.RelaxationKind.{RelaxationKind}
-use Rattle.linker_utils.specs.declared.riscv64.rewrites.RelaxationKind.TheVariants as kinds
+use Rattle.linker_utils.specs.declared.riscv64.rewrites.RewriteKind.{RewriteKind}
+use Rattle.linker_utils.specs.declared.riscv64.rewrites.RewriteKind.TheVariants as kinds
 use Rattle.linker_rewriting.specs.Candidates.{IsCandidateWith}
 use Rattle.linker_rewriting.specs.Decisions.{IsLabelDecision, decision_at, label_decision}
 use Rattle.linker_rewriting.specs.Decisions.{rewritten_by, takes_symbol}
@@ -124,7 +124,7 @@ IsOfSome name (e ∷ es) section o chosen =
     IsOfEntry name e section o chosen ⊎ IsOfSome name es section o chosen
 
 of_named : (name : RiscVRelocation) (section : List ℕ) (o : ℕ) (facts : LinkFacts)
-    (chosen : Choice Relaxation ℕ) (named : Choice RelaxationKind RiscVRelocation)
+    (chosen : Choice Relaxation ℕ) (named : Choice RewriteKind RiscVRelocation)
     → chosen.kind ≡ relaxations.RiscV named.kind
     → chosen.relocation ≡ code_of (riscv_name named.relocation) → (es : List RiscVEntry)
     → IsOfApplied (AppliesToRiscV (HasPattern name) section o facts) es named
@@ -132,8 +132,8 @@ of_named : (name : RiscVRelocation) (section : List ℕ) (o : ℕ) (facts : Link
 of_named name section o facts chosen named kind_is code_is [] nothing = absurd nothing
 of_named name section o facts chosen named kind_is code_is (e ∷ es) (inl this) =
     inl (record {
-      kind_is = kind_is ∙ ap (λ (q : Choice RelaxationKind RiscVRelocation). relaxations.RiscV q.kind) (this.1);
-      code_is = code_is ∙ ap (λ (q : Choice RelaxationKind RiscVRelocation). code_of (riscv_name q.relocation)) (this.1);
+      kind_is = kind_is ∙ ap (λ (q : Choice RewriteKind RiscVRelocation). relaxations.RiscV q.kind) (this.1);
+      code_is = code_is ∙ ap (λ (q : Choice RewriteKind RiscVRelocation). code_of (riscv_name q.relocation)) (this.1);
       pattern = this.0.0;
     })
 of_named name section o facts chosen named kind_is code_is (e ∷ es) (inr other) =
@@ -164,8 +164,8 @@ module _ (l : Linked) (made : AreRewritten l) (riscv : l.context.architecture �
         of_named name l.section r.offset c.facts chosen h.named h.kind_is h.code_is (riscv_entries name)
         (of_first (AppliesToRiscV (HasPattern name) l.section r.offset c.facts) (riscv_entries name) (choice kinds.NoOp name) h.named
         (λ e. c.changed (
-          subst relaxation_no_op (sym (h.kind_is ∙ ap (λ (q : Choice RelaxationKind RiscVRelocation). relaxations.RiscV q.kind) e)) refl,
-          h.code_is ∙ (ap (λ (q : Choice RelaxationKind RiscVRelocation). code_of (riscv_name q.relocation)) e ∙ is_name.code_is),
+          subst relaxation_no_op (sym (h.kind_is ∙ ap (λ (q : Choice RewriteKind RiscVRelocation). relaxations.RiscV q.kind) e)) refl,
+          h.code_is ∙ (ap (λ (q : Choice RewriteKind RiscVRelocation). code_of (riscv_name q.relocation)) e ∙ is_name.code_is),
         ))
         (subst (λ x. IsRiscVChoice x l.section r.offset c.facts h.named) same h.is_choice))
 

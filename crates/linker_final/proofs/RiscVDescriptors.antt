@@ -28,8 +28,8 @@ use Rattle.linker_laws.specs.Machine.{Relocated}
 use Rattle.linker_laws.specs.RiscVGroups.{Groups, Has}
 use Rattle.linker_laws.specs.RiscVRewriteLaws.{after_rewrite}
 use Rattle.linker_utils.specs.RiscVRewrites.{riscv_entries, riscv_rewrite, rewrites_word}
-use Rattle.linker_utils.specs.declared.riscv64.rewrites.RelaxationKind.{RelaxationKind}
-use Rattle.linker_utils.specs.declared.riscv64.rewrites.RelaxationKind.TheVariants as kinds
+use Rattle.linker_utils.specs.declared.riscv64.rewrites.RewriteKind.{RewriteKind}
+use Rattle.linker_utils.specs.declared.riscv64.rewrites.RewriteKind.TheVariants as kinds
 use Rattle.linker_rewriting.specs.Rewritten.{IsMade}
 use Rattle.linker_rewriting.specs.declared.decisions.Decision.TheVariants.{RewrittenWithSymbol}
 use Rattle.linker_rewriting.specs.declared.decisions.Subject.{Subject}
@@ -45,11 +45,11 @@ use Rattle.linker_elf.specs.declared.elf.architecture.Architecture.TheVariants.{
 
 -- ---- kinds
 
-abbrev kind_in : RelaxationKind → Relaxation → RelaxationKind
+abbrev kind_in : RewriteKind → Relaxation → RewriteKind
 kind_in other (relaxations.RiscV kind) = kind
 kind_in other relaxation = other
 
-pub same_kind : (k : Relaxation) (x y : RelaxationKind) → k ≡ relaxations.RiscV x → k ≡ relaxations.RiscV y
+pub same_kind : (k : Relaxation) (x y : RewriteKind) → k ≡ relaxations.RiscV x → k ≡ relaxations.RiscV y
     → x ≡ y
 same_kind k x y is_x is_y = ap (kind_in x) (sym is_x ∙ is_y)
 
@@ -116,7 +116,7 @@ of_high_tp =
 -- ---- one instruction
 
 module _ (l : Linked) (rewriting : AreRewritten l) (high : ℕ)
-    (name : RiscVRelocation) (distance : ℕ) (kind : RelaxationKind) (n : ℕ)
+    (name : RiscVRelocation) (distance : ℕ) (kind : RewriteKind) (n : ℕ)
     (of : IsOfDescriptor l high name distance kind n)
     (after_name : RiscVRelocation)
     (becomes_one : Becomes after_name l.section (relocation_in l.relocations n).offset of.chosen)

@@ -28,8 +28,8 @@ use Rattle.linker_final.specs.RiscVJoined.{AreOfFinalLoad, FinalBytesLoadTheSame
 use Rattle.linker_laws.specs.Machine.{Relocated}
 use Rattle.linker_laws.specs.RiscVGroups.{Groups}
 use Rattle.linker_laws.specs.RiscVRewriteLaws.{action_at, offset_row}
-use Rattle.linker_utils.specs.declared.riscv64.rewrites.RelaxationKind.{RelaxationKind}
-use Rattle.linker_utils.specs.declared.riscv64.rewrites.RelaxationKind.TheVariants as kinds
+use Rattle.linker_utils.specs.declared.riscv64.rewrites.RewriteKind.{RewriteKind}
+use Rattle.linker_utils.specs.declared.riscv64.rewrites.RewriteKind.TheVariants as kinds
 use Rattle.linker_runs.specs.declared.packing.Machine.TheVariants.{RiscV64}
 use Rattle.linker_section.specs.Needed.{entry_of}
 use Rattle.linker_section.specs.Relocations.{relocation_in}
@@ -195,7 +195,7 @@ packed_got_loads groups l p joined riscv i j of left alone = loads_the_same grou
 
 -- the `jalr` of a descriptor, which became an `addi`
 module _ (l : Linked) (p : Packed) (joined : IsRewrittenAndPacked l p) (riscv : p.machine ≡ RiscV64)
-    (high call : ℕ) (kind : RelaxationKind)
+    (high call : ℕ) (kind : RewriteKind)
     (of_call : IsOfDescriptor l high names.R_RISCV_TLSDESC_CALL 12 kind call)
     (call_after : relocation_in l.relocations_after call
     ≡ named_as names.R_RISCV_TPREL_LO12_I (relocation_in l.relocations call) (relocation_in l.relocations high))

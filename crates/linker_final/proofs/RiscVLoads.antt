@@ -29,7 +29,7 @@ use Rattle.linker_laws.specs.RiscVGroups.{Groups, Has}
 use Rattle.linker_laws.specs.RiscVRewriteLaws.{IsLoadFromGot, after_rewrite, word_of}
 use Rattle.linker_utils.specs.RiscVRewrites.{IsAuipc, IsLd, load_to_addi, rewrites_word, riscv_entries, without_got}
 use Rattle.linker_elf.specs.Choices.{got_high_part}
-use Rattle.linker_utils.specs.declared.riscv64.rewrites.RelaxationKind.TheVariants as kinds
+use Rattle.linker_utils.specs.declared.riscv64.rewrites.RewriteKind.TheVariants as kinds
 use Rattle.linker_rewriting.specs.Rewritten.{IsMade}
 use Rattle.linker_base.specs.RewriteWindow.{window_of_rewrite}
 use Rattle.linker_rewriting.specs.declared.decisions.Decision.TheVariants.{Rewritten}

@@ -19,7 +19,7 @@ use Rattle.linker_final.specs.RiscVFinal.{Nops, NopsOf}
 use Rattle.linker_final.specs.RiscVJoined.{PackedNops, PackedNopsOf}
 use Rattle.linker_laws.specs.RiscVRewriteLaws.{after_rewrite}
 use Rattle.linker_utils.specs.RiscVRewrites.{riscv_entries, riscv_matches}
-use Rattle.linker_utils.specs.declared.riscv64.rewrites.RelaxationKind.TheVariants as kinds
+use Rattle.linker_utils.specs.declared.riscv64.rewrites.RewriteKind.TheVariants as kinds
 use Rattle.linker_rewriting.specs.Decisions.{decision_at}
 use Rattle.linker_rewriting.specs.Rewritten.{IsMade}
 use Rattle.linker_rewriting.specs.declared.decisions.Decision.TheVariants.{RewrittenWithSymbol}

@@ -27,7 +27,7 @@ use Rattle.linker_laws.specs.RiscVGroups.{Groups, Has}
 use Rattle.linker_laws.specs.RiscVRewriteLaws.{action_at, after_rewrite, offset_row}
 use Rattle.linker_riscv64.specs.RiscVFields.{funct3_of, opcode_of}
 use Rattle.linker_utils.specs.RiscVRewrites.{IsAddTp, HasPattern, IsLui, adds_low12, by_low_offset, riscv_entries, riscv_matches, tp, with_rs1}
-use Rattle.linker_utils.specs.declared.riscv64.rewrites.RelaxationKind.TheVariants as kinds
+use Rattle.linker_utils.specs.declared.riscv64.rewrites.RewriteKind.TheVariants as kinds
 use Rattle.linker_rewriting.specs.Decisions.{deleted_of}
 use Rattle.linker_rewriting.specs.Rewritten.{IsMade}
 use Rattle.linker_rewriting.specs.declared.decisions.Decision.TheVariants.{Rewritten}

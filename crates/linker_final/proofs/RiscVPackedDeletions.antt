@@ -11,8 +11,8 @@ use Rattle.linker_laws.specs.RiscVGroups.{AreDeleted, Code, DeletedLui, Groups}
 use Rattle.linker_laws.specs.RiscVRewriteLaws.{IsLow12, IsLowOffset}
 use Rattle.linker_laws.specs.Simulation.{State}
 use Rattle.linker_utils.specs.RiscVRewrites.{IsLui, riscv_matches}
-use Rattle.linker_utils.specs.declared.riscv64.rewrites.RelaxationKind.{RelaxationKind}
-use Rattle.linker_utils.specs.declared.riscv64.rewrites.RelaxationKind.TheVariants as kinds
+use Rattle.linker_utils.specs.declared.riscv64.rewrites.RewriteKind.{RewriteKind}
+use Rattle.linker_utils.specs.declared.riscv64.rewrites.RewriteKind.TheVariants as kinds
 use Rattle.std.proofs.lemmas.List.{length-drop}
 
 -- new has nothing of the bytes
@@ -24,7 +24,7 @@ gone_in p o c s gone before =
     }
 
 -- a `lui` of a number of 12 bits
-left_out : (kind : RelaxationKind) (name : RiscVRelocation) (IsLow : Operands → Type 0)
+left_out : (kind : RewriteKind) (name : RiscVRelocation) (IsLow : Operands → Type 0)
     → ((section : List ℕ) (o : ℕ) → HasWord section o IsLui → riscv_matches kind (drop o section) 0)
     → DeletedLui kind name IsLow → LuiIsLeftOut name IsLow
 left_out kind name IsLow matches group p is riscv o word gone x low c k s before has =

@@ -21,8 +21,8 @@ use Rattle.linker_final.specs.Final.{count}
 use Rattle.linker_final.specs.RiscVFinal.{OffsetsAreLow, OffsetsAreLowOf}
 use Rattle.linker_laws.specs.RiscVRewriteLaws.{IsLowOffset}
 use Rattle.linker_utils.specs.RiscVRewrites.{AppliesToRiscV, HasPattern, IsRiscVChoice, by_low_offset, riscv_entries}
-use Rattle.linker_utils.specs.declared.riscv64.rewrites.RelaxationKind.{RelaxationKind}
-use Rattle.linker_utils.specs.declared.riscv64.rewrites.RelaxationKind.TheVariants as kinds
+use Rattle.linker_utils.specs.declared.riscv64.rewrites.RewriteKind.{RewriteKind}
+use Rattle.linker_utils.specs.declared.riscv64.rewrites.RewriteKind.TheVariants as kinds
 use Rattle.linker_rewriting.specs.Facts.{RelaxContext, address_in, facts_at, facts_by, facts_with}
 use Rattle.linker_rewriting.specs.Groups.{IsScopeIn, riscv_scope_in}
 use Rattle.linker_rewriting.specs.RiscVPcrelGroups.{is_labelled}
@@ -137,7 +137,7 @@ by_test s section r chosen c value is_value thread_local known is =
     subst (λ a. IsWithin (Some low_12_bounds) (cast_signed w64 (difference_64 (sum_64 a (cast_unsigned w64 r.addend)) s.addresses.thread_origin)))
     (address_is s.addresses value thread_local) low
 
-module _ (name : RiscVRelocation) (named : IsNamed (riscv_name name)) (kind : RelaxationKind)
+module _ (name : RiscVRelocation) (named : IsNamed (riscv_name name)) (kind : RewriteKind)
     (after : RiscVRelocation)
     (entries : riscv_entries name ≡ (entry kind after by_low_offset ∷ []))
     (unlabelled : (phase : Phase) → is_labelled (riscv_scope_in phase name) ≡ false) where
@@ -162,8 +162,8 @@ module _ (name : RiscVRelocation) (named : IsNamed (riscv_name name)) (kind : Re
       let found =
       of_first (AppliesToRiscV (HasPattern name) l.section r.offset c.facts) (riscv_entries name) (choice kinds.NoOp name) h.named
       (λ e. c.changed (
-        subst relaxation_no_op (sym (h.kind_is ∙ ap (λ (q : Choice RelaxationKind RiscVRelocation). relaxations.RiscV q.kind) e)) refl,
-        h.code_is ∙ (ap (λ (q : Choice RelaxationKind RiscVRelocation). code_of (riscv_name q.relocation)) e ∙ is_name.code_is),
+        subst relaxation_no_op (sym (h.kind_is ∙ ap (λ (q : Choice RewriteKind RiscVRelocation). relaxations.RiscV q.kind) e)) refl,
+        h.code_is ∙ (ap (λ (q : Choice RewriteKind RiscVRelocation). code_of (riscv_name q.relocation)) e ∙ is_name.code_is),
       ))
       (subst (λ x. IsRiscVChoice x l.section r.offset c.facts h.named) same h.is_choice) in
       elim (subst (λ es. IsOfApplied (AppliesToRiscV (HasPattern name) l.section r.offset c.facts) es h.named) entries found) [

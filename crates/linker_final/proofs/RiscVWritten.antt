@@ -25,7 +25,7 @@ use Rattle.linker_rewriting.specs.declared.decisions.Decision.{Decision}
 use Rattle.linker_rewriting.specs.declared.decisions.Decision.TheVariants.{RewrittenWithSymbol, Rewritten}
 use Rattle.linker_rewriting.specs.declared.decisions.Subject.{Subject}
 use Rattle.linker_utils.specs.RiscVRewrites.{rewrites_word, riscv_rewrite}
-use Rattle.linker_utils.specs.declared.riscv64.rewrites.RelaxationKind.{RelaxationKind}
+use Rattle.linker_utils.specs.declared.riscv64.rewrites.RewriteKind.{RewriteKind}
 use Rattle.linker_section.specs.Needed.{entry_of}
 use Rattle.linker_section.specs.Relocations.{relocation_in}
 use Rattle.linker_section.specs.Sections.{IsRowValue}
@@ -73,7 +73,7 @@ made_is new (p ∷ q ∷ r ∷ s ∷ t ∷ more) long = absurd (omega (arith, lo
 -- ---- what a decision leaves of a relocation
 
 module _ (l : Linked) (made : AreRewritten l) (i : ℕ) (chosen : Choice Relaxation ℕ) (below : i < count l)
-    (kind : RelaxationKind) (name : RiscVRelocation) (kind_is : chosen.kind ≡ relaxations.RiscV kind)
+    (kind : RewriteKind) (name : RiscVRelocation) (kind_is : chosen.kind ≡ relaxations.RiscV kind)
     (code_is : chosen.relocation ≡ code_of (riscv_name name))
     (unmoved : (o : ℕ) → offset_after (riscv_rewrite kind) o ≡ o)
     (same_addend : (a : ℤ) → addend_after (riscv_rewrite kind) a ≡ a) where

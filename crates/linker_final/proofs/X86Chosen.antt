@@ -18,8 +18,8 @@ use Rattle.linker_utils.specs.declared.architecture.Relaxation.{Relaxation}
 use Rattle.linker_utils.specs.declared.architecture.Relaxation.TheVariants as relaxations
 use Rattle.linker_elf.specs.declared.elf.architecture.Architecture.TheVariants.{X86_64}
 use Rattle.linker_utils.specs.X86Rewrites.{HasPattern, IsX86Choice, Original, Table, X86Entry, opcode_at, x86_64_after, x86_64_table}
-use Rattle.linker_utils.specs.declared.x86_64.rewrites.RelaxationKind.{RelaxationKind}
-use Rattle.linker_utils.specs.declared.x86_64.rewrites.RelaxationKind.TheVariants as kinds
+use Rattle.linker_utils.specs.declared.x86_64.rewrites.RewriteKind.{RewriteKind}
+use Rattle.linker_utils.specs.declared.x86_64.rewrites.RewriteKind.TheVariants as kinds
 
 -- It is that of an entry, for a relocation with an addend.
 pub record IsOfEntry (pattern : List Original) (e : X86Entry) (section : List ℕ) (o : ℕ) (addend : ℤ)
@@ -39,7 +39,7 @@ IsOfOne pattern (e ∷ es) section o addend chosen =
 
 module _ (name : X86_64Relocation) (section : List ℕ) (o : ℕ) (facts : LinkFacts) (addend : ℤ)
     (same_addend : facts.operands.addend ≡ addend)
-    (chosen : Choice Relaxation ℕ) (named : Choice RelaxationKind X86_64Relocation)
+    (chosen : Choice Relaxation ℕ) (named : Choice RewriteKind X86_64Relocation)
     (kind_is : chosen.kind ≡ relaxations.X86_64 named.kind)
     (code_is : chosen.relocation ≡ code_of (x86_64_name named.relocation))
     (changed : named ≡ choice kinds.NoOp name → ⊥) (pattern : List Original) where
@@ -50,8 +50,8 @@ module _ (name : X86_64Relocation) (section : List ℕ) (o : ℕ) (facts : LinkF
   by_first [] is = absurd (changed is)
   by_first (e ∷ es) (inl this) =
       inl (record {
-        kind_is = kind_is ∙ ap (λ (q : Choice RelaxationKind X86_64Relocation). relaxations.X86_64 q.kind) (this.1);
-        code_is = code_is ∙ ap (λ (q : Choice RelaxationKind X86_64Relocation). code_of (x86_64_name q.relocation)) (this.1);
+        kind_is = kind_is ∙ ap (λ (q : Choice RewriteKind X86_64Relocation). relaxations.X86_64 q.kind) (this.1);
+        code_is = code_is ∙ ap (λ (q : Choice RewriteKind X86_64Relocation). code_of (x86_64_name q.relocation)) (this.1);
         has_pattern = this.0.0;
         facts = facts;
         same_addend = same_addend;
@@ -78,8 +78,8 @@ of_table l linked x86 i chosen below decided name named is_name =
     let t = x86_64_table name (opcode_at name l.section r.offset) in
     by_first name l.section r.offset c.facts r.addend c.addend chosen h.named h.kind_is h.code_is
     (λ e. c.changed (
-      subst relaxation_no_op (sym (h.kind_is ∙ ap (λ (q : Choice RelaxationKind X86_64Relocation). relaxations.X86_64 q.kind) e)) refl,
-      h.code_is ∙ (ap (λ (q : Choice RelaxationKind X86_64Relocation). code_of (x86_64_name q.relocation)) e ∙ is_name.code_is),
+      subst relaxation_no_op (sym (h.kind_is ∙ ap (λ (q : Choice RewriteKind X86_64Relocation). relaxations.X86_64 q.kind) e)) refl,
+      h.code_is ∙ (ap (λ (q : Choice RewriteKind X86_64Relocation). code_of (x86_64_name q.relocation)) e ∙ is_name.code_is),
     ))
     t.instructions t.entries
     (subst (λ x. IsX86Choice x l.section r.offset c.facts h.named) same h.is_choice)

@@ -30,8 +30,8 @@ use Rattle.linker_utils.specs.declared.architecture.Relaxation.{Relaxation}
 use Rattle.linker_utils.specs.declared.architecture.Relaxation.TheVariants as relaxations
 use Rattle.linker_elf.specs.declared.elf.architecture.Architecture.TheVariants.{X86_64}
 use Rattle.linker_utils.specs.X86Rewrites.{any_entry, descriptor_table, is_at, is_one_at, lea_of_descriptor, rex2_w, rex_mov, rex_w, unrelocated_by, with_rex, with_rex2, x86_64_matches, x86_64_originals, x86_64_rewrite}
-use Rattle.linker_utils.specs.declared.x86_64.rewrites.RelaxationKind.{RelaxationKind}
-use Rattle.linker_utils.specs.declared.x86_64.rewrites.RelaxationKind.TheVariants as kinds
+use Rattle.linker_utils.specs.declared.x86_64.rewrites.RewriteKind.{RewriteKind}
+use Rattle.linker_utils.specs.declared.x86_64.rewrites.RewriteKind.TheVariants as kinds
 
 -- ---- the `lea`
 
@@ -59,7 +59,7 @@ module _ (n : ℕ) (three : 3 ≤ n) (name : X86_64Relocation) (named : IsNamed 
     abbrev object : List ℕ
     object = object_in l o n 4
 
-    abbrev has_rewrite : (kind : RelaxationKind) → chosen.kind ≡ relaxations.X86_64 kind
+    abbrev has_rewrite : (kind : RewriteKind) → chosen.kind ≡ relaxations.X86_64 kind
         → HasWindow n 4 (x86_64_rewrite kind) → IsTrue (is_one_at (lea_of_descriptor n) l.section o)
         → x86_64_matches kind l.section o → HasRewrite l i n 4 kind
     has_rewrite kind kind_is window there matches =
@@ -151,7 +151,7 @@ module _ (law : laws.CallOfDescriptor) (l : Linked) (linked : IsLinked l)
     abbrev at : ℕ
     at = (relocation_in l.relocations i).offset
 
-    abbrev skip : RelaxationKind
+    abbrev skip : RewriteKind
     skip = kinds.SkipTlsDescCall
 
     by_call : IsOfTable (any_entry (unrelocated_by kinds.SkipTlsDescCall ∷ [])) l.section at (relocation_in l.relocations i).addend chosen

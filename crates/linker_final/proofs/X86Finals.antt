@@ -34,7 +34,7 @@ use Rattle.linker_utils.specs.declared.architecture.Relaxation.{Relaxation}
 use Rattle.linker_elf.specs.declared.elf.architecture.Architecture.TheVariants.{X86_64}
 use Rattle.linker_utils.specs.X86RelocationsAfter.{x86_64_relocation_after}
 use Rattle.linker_utils.specs.X86Rewrites.{x86_64_rewrite, x86_64_originals}
-use Rattle.linker_utils.specs.declared.x86_64.rewrites.RelaxationKind.{RelaxationKind}
+use Rattle.linker_utils.specs.declared.x86_64.rewrites.RewriteKind.{RewriteKind}
 
 pub some_and : {A : Type 0} (P : A → Type 0) (q : Option A) (x : A) → q ≡ Some x → IsSomeAnd q P → P x
 some_and {A} P q x is h = subst (λ z. IsSomeAnd z P) is h
@@ -90,7 +90,7 @@ module _ (addresses : Addresses) (after : X86_64Relocation) (a : IsAfterRow afte
 -- ---- the relocation after, written
 
 -- of a rewrite that leaves a relocation without an entry
-pub final_is : (l : Linked) (i back end : ℕ) (kind : RelaxationKind) (is : HasRewrite l i back end kind)
+pub final_is : (l : Linked) (i back end : ℕ) (kind : RewriteKind) (is : HasRewrite l i back end kind)
     (after : X86_64Relocation) (a : IsAfterRow after)
     → is_of_got X86_64 (relocation_in l.relocations i).code ≡ false
     → is.chosen.relocation ≡ code_of (x86_64_name after)
@@ -145,7 +145,7 @@ module _ (laws : Laws) (name : X86_64Relocation) (operand : GotOperand)
     abbrev law : HasLaw operand.back name operand.held l.section o served.named
     law = served.has_law
 
-    abbrev kind : RelaxationKind
+    abbrev kind : RewriteKind
     kind = served.named.kind
 
     abbrev w : HasWindow operand.back 4 (x86_64_rewrite kind)

@@ -19,8 +19,8 @@ use Rattle.linker_utils.specs.declared.architecture.Relaxation.TheVariants as re
 use Rattle.linker_utils.specs.X86RelocationsAfter.{x86_64_relocation_after, immediate_of}
 use Rattle.linker_utils.specs.X86Rewrites as x86
 use Rattle.linker_utils.specs.X86Rewrites.{Original, is_one_at, legacy, x86_64_matches, opcode_at, x86_64_originals, x86_64_rewrite, x86_64_after, x86_64_table, HasPattern, X86Entry, Table}
-use Rattle.linker_utils.specs.declared.x86_64.rewrites.RelaxationKind.{RelaxationKind}
-use Rattle.linker_utils.specs.declared.x86_64.rewrites.RelaxationKind.TheVariants as kinds
+use Rattle.linker_utils.specs.declared.x86_64.rewrites.RewriteKind.{RewriteKind}
+use Rattle.linker_utils.specs.declared.x86_64.rewrites.RewriteKind.TheVariants as kinds
 
 -- ---- the shape of a rewrite
 
@@ -48,7 +48,7 @@ shaped_of n end (r ∷ rs) are =
 
 -- for a relocation of a name, with n bytes before the field, and what the GOT's entry holds
 pub record HasLaw (n : ℕ) (name : X86_64Relocation) (held : Operands → ℕ) (section : List ℕ) (o : ℕ)
-    (chosen : Choice RelaxationKind X86_64Relocation) : Type 0 where
+    (chosen : Choice RewriteKind X86_64Relocation) : Type 0 where
   pub instructions : List Original
   pub are_of : AreOf n 4 instructions
   pub there : IsTrue (is_one_at instructions section o)
@@ -138,7 +138,7 @@ AllServe n name held pattern (e ∷ es) =
 -- a choice, by names
 pub record IsServed (n : ℕ) (name : X86_64Relocation) (held : Operands → ℕ) (section : List ℕ)
     (o : ℕ) (addend : ℤ) (chosen : Choice Relaxation ℕ) : Type 0 where
-  pub named : Choice RelaxationKind X86_64Relocation
+  pub named : Choice RewriteKind X86_64Relocation
   pub has_law : HasLaw n name held section o named
   pub kind_is : chosen.kind ≡ relaxations.X86_64 named.kind
   pub code_is : chosen.relocation ≡ code_of (x86_64_name named.relocation)
@@ -179,7 +179,7 @@ nothing n name held = record { serves = tt }
 
 module _ (n : ℕ) (name : X86_64Relocation) where
   -- an operation on an immediate
-  operation : (kind : RelaxationKind) → AreOf n 4 (x86_64_originals kind)
+  operation : (kind : RewriteKind) → AreOf n 4 (x86_64_originals kind)
       → x86_64_relocation_after kind name ≡ Some (immediate_of n)
       → IsWithin n (x86_64_rewrite kind) → IsAfterRow (immediate_of n)
       → DoesTheSame n (x86_64_originals kind) name kind address
@@ -190,7 +190,7 @@ module _ (n : ℕ) (name : X86_64Relocation) where
       }
 
   -- one that is for no instruction
-  no_operation : (kind : RelaxationKind) → x86_64_originals kind ≡ []
+  no_operation : (kind : RewriteKind) → x86_64_originals kind ≡ []
       → TableServes n name address (x86.operation_table n kind)
   no_operation kind none =
       record {
@@ -210,7 +210,7 @@ module _ (n : ℕ) (name : X86_64Relocation) where
       }
 
   -- an offset from the thread pointer
-  offset : (kind : RelaxationKind) → AreOf n 4 (x86_64_originals kind)
+  offset : (kind : RewriteKind) → AreOf n 4 (x86_64_originals kind)
       → x86_64_relocation_after kind name ≡ Some names.R_X86_64_TPOFF32
       → IsWithin n (x86_64_rewrite kind)
       → DoesTheSame n (x86_64_originals kind) name kind thread_offset

@@ -38,8 +38,8 @@ use Rattle.linker_utils.specs.declared.architecture.Relaxation.{Relaxation}
 use Rattle.linker_utils.specs.declared.architecture.Relaxation.TheVariants as relaxations
 use Rattle.linker_elf.specs.declared.elf.architecture.Architecture.TheVariants.{X86_64}
 use Rattle.linker_utils.specs.X86Rewrites.{HasPattern, Original, general_dynamic_table, local_dynamic_table, original, puts, x86_64_matches, x86_64_originals, x86_64_rewrite, x86_64_skipped}
-use Rattle.linker_utils.specs.declared.x86_64.rewrites.RelaxationKind.{RelaxationKind}
-use Rattle.linker_utils.specs.declared.x86_64.rewrites.RelaxationKind.TheVariants as kinds
+use Rattle.linker_utils.specs.declared.x86_64.rewrites.RewriteKind.{RewriteKind}
+use Rattle.linker_utils.specs.declared.x86_64.rewrites.RewriteKind.TheVariants as kinds
 
 -- ---- the call's relocation
 
@@ -92,7 +92,7 @@ any = original 0 [] ∷ []
 module _ (l : Linked) (linked : IsLinked l) (x86 : l.context.architecture ≡ X86_64) (i : ℕ)
     (chosen : Choice Relaxation ℕ) (below : i < count l)
     (decided : decision_at l.decisions i ≡ Rewritten chosen)
-    (kind : RelaxationKind) (kind_is : chosen.kind ≡ relaxations.X86_64 kind)
+    (kind : RewriteKind) (kind_is : chosen.kind ≡ relaxations.X86_64 kind)
     (back call : ℕ) (window : HasWindow back (4 + call) (x86_64_rewrite kind))
     (shape : AreOf back (4 + call) (x86_64_originals kind))
     (skips : is_some (x86_64_skipped kind) ≡ true)

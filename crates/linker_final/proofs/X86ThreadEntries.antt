@@ -27,7 +27,7 @@ use Rattle.linker_section.specs.declared.relocations.Rela.{Rela}
 use Rattle.linker_section.specs.declared.values.ValueError.TheVariants.{NoEntry}
 use Rattle.linker_elf.specs.declared.elf.architecture.Architecture.TheVariants.{X86_64}
 use Rattle.linker_utils.specs.X86Rewrites.{x86_64_rewrite}
-use Rattle.linker_utils.specs.declared.x86_64.rewrites.RelaxationKind.{RelaxationKind}
+use Rattle.linker_utils.specs.declared.x86_64.rewrites.RewriteKind.{RewriteKind}
 
 abbrev offset_entry : Entry
 offset_entry = record { class = ThreadOffset; addend = pos 0 }
@@ -35,7 +35,7 @@ offset_entry = record { class = ThreadOffset; addend = pos 0 }
 abbrev with_place : Operands → ℕ → ℕ → Operands
 with_place o entry place = record o { got_entry = entry; place = place }
 
-module _ (l : Linked) (i back end : ℕ) (kind : RelaxationKind) (is : HasRewrite l i back end kind)
+module _ (l : Linked) (i back end : ℕ) (kind : RewriteKind) (is : HasRewrite l i back end kind)
     (code_is : is.chosen.relocation ≡ code_of (x86_64_name names.R_X86_64_GOTTPOFF))
     (symbol : Symbol) (is_symbol : slice_get l.symbols (relocation_in l.relocations i).symbol ≡ Some symbol)
   where

@@ -45,7 +45,7 @@ use Rattle.linker_utils.specs.Relaxations.{relaxation_rewrite}
 use Rattle.linker_utils.specs.declared.architecture.Relaxation.{Relaxation}
 use Rattle.linker_utils.specs.declared.architecture.Relaxation.TheVariants as relaxations
 use Rattle.linker_elf.specs.declared.elf.architecture.Architecture.TheVariants.{X86_64}
-use Rattle.linker_utils.specs.declared.x86_64.rewrites.RelaxationKind.TheVariants as kinds
+use Rattle.linker_utils.specs.declared.x86_64.rewrites.RewriteKind.TheVariants as kinds
 
 -- ---- fields that overlap none
 

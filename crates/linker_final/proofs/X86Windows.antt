@@ -43,7 +43,7 @@ use Rattle.linker_utils.specs.declared.architecture.Relaxation.{Relaxation}
 use Rattle.linker_utils.specs.declared.architecture.Relaxation.TheVariants as relaxations
 use Rattle.linker_elf.specs.declared.elf.architecture.Architecture.TheVariants.{X86_64}
 use Rattle.linker_utils.specs.X86Rewrites.{x86_64_rewrite, x86_64_matches, x86_64_originals, Original, is_one_at}
-use Rattle.linker_utils.specs.declared.x86_64.rewrites.RelaxationKind.{RelaxationKind}
+use Rattle.linker_utils.specs.declared.x86_64.rewrites.RewriteKind.{RewriteKind}
 
 -- ---- lists and numbers
 
@@ -199,7 +199,7 @@ row_after l linked x86 i below name named row is code_is =
 -- ---- one rewrite
 
 -- The relocation at an index is rewritten, and no other has a byte of the window.
-pub record HasRewrite (l : Linked) (i back end : ℕ) (kind : RelaxationKind) : Type 0 where
+pub record HasRewrite (l : Linked) (i back end : ℕ) (kind : RewriteKind) : Type 0 where
   pub linked : IsLinked l
   pub x86 : l.context.architecture ≡ X86_64
   pub chosen : Choice Relaxation ℕ
@@ -212,7 +212,7 @@ pub record HasRewrite (l : Linked) (i back end : ℕ) (kind : RelaxationKind) : 
       × ((relocation_in l.relocations i).offset + end ≤ length l.section)
   pub alone : UntouchedByOthers l i ((relocation_in l.relocations i).offset - back) (back + end)
 
-module _ (l : Linked) (i back end : ℕ) (kind : RelaxationKind) (is : HasRewrite l i back end kind)
+module _ (l : Linked) (i back end : ℕ) (kind : RewriteKind) (is : HasRewrite l i back end kind)
   where
     abbrev linked : IsLinked l
     linked = is.linked

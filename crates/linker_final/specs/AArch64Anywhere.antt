@@ -2,10 +2,10 @@
 -- rewriting left are applied to them, whatever applies them. So another phase may come between. The
 -- bytes after are `l.final`, of which nothing is known but what a premise says.
 use Rattle.std.specs.Prelude.{◌≡◌, ℕ, ◌+◌, ◌<◌, ◌^◌, ⊤}
-use Rattle.linker_utils.specs.declared.aarch64.rewrites.RelaxationKind.TheVariants.{AdrpX0, LdrX0}
-use Rattle.linker_utils.specs.declared.aarch64.rewrites.RelaxationKind.TheVariants.{MovkX0}
-use Rattle.linker_utils.specs.declared.aarch64.rewrites.RelaxationKind.TheVariants.{MovzX0Lsl16}
-use Rattle.linker_utils.specs.declared.aarch64.rewrites.RelaxationKind.{RelaxationKind}
+use Rattle.linker_utils.specs.declared.aarch64.rewrites.RewriteKind.TheVariants.{AdrpX0, LdrX0}
+use Rattle.linker_utils.specs.declared.aarch64.rewrites.RewriteKind.TheVariants.{MovkX0}
+use Rattle.linker_utils.specs.declared.aarch64.rewrites.RewriteKind.TheVariants.{MovzX0Lsl16}
+use Rattle.linker_utils.specs.declared.aarch64.rewrites.RewriteKind.{RewriteKind}
 use Rattle.linker_elf.specs.AArch64Relocations.{aarch64_name}
 use Rattle.linker_elf.specs.ElfNames.{IsNameOf, code_of}
 use Rattle.linker_elf.specs.declared.aarch64.relocations.AArch64Relocation.{AArch64Relocation}
@@ -120,7 +120,7 @@ BranchesAnywhere =
     × EachBranchGoes names.R_AARCH64_CALL26 (with_register 30 anything) go_and_link
 
 -- of every sequence of a TLS descriptor that is rewritten by two kinds
-abbrev pub EachDescriptorAnywhere : RelaxationKind → RelaxationKind → AArch64Relocation
+abbrev pub EachDescriptorAnywhere : RewriteKind → RewriteKind → AArch64Relocation
     → AArch64Relocation → (Linked → ℕ → Type 0) → Type 0
 EachDescriptorAnywhere high low first second Holds =
     (l : Linked) → AreRewritten l → l.context.architecture ≡ AArch64

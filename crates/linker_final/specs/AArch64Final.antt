@@ -2,10 +2,10 @@
 -- values of their relocations, and new the final bytes of a section.
 use Rattle.std.specs.Prelude.{◌≡◌, ◌≢◌, ℕ, ◌+◌, ◌<◌, Some, IsSomeAnd, slice_get, false, ◌^◌, ⊤}
 use Rattle.linker_utils.specs.AArch64Rewrites.{rd_of}
-use Rattle.linker_utils.specs.declared.aarch64.rewrites.RelaxationKind.TheVariants.{AdrpX0, LdrX0}
-use Rattle.linker_utils.specs.declared.aarch64.rewrites.RelaxationKind.TheVariants.{MovkX0}
-use Rattle.linker_utils.specs.declared.aarch64.rewrites.RelaxationKind.TheVariants.{MovzX0Lsl16}
-use Rattle.linker_utils.specs.declared.aarch64.rewrites.RelaxationKind.{RelaxationKind}
+use Rattle.linker_utils.specs.declared.aarch64.rewrites.RewriteKind.TheVariants.{AdrpX0, LdrX0}
+use Rattle.linker_utils.specs.declared.aarch64.rewrites.RewriteKind.TheVariants.{MovkX0}
+use Rattle.linker_utils.specs.declared.aarch64.rewrites.RewriteKind.TheVariants.{MovzX0Lsl16}
+use Rattle.linker_utils.specs.declared.aarch64.rewrites.RewriteKind.{RewriteKind}
 use Rattle.linker_elf.specs.AArch64Relocations.{aarch64_name, aarch64_row}
 use Rattle.linker_elf.specs.ElfNames.{IsNameOf}
 use Rattle.linker_elf.specs.declared.aarch64.relocations.AArch64Relocation.{AArch64Relocation}
@@ -143,7 +143,7 @@ LowIsAlike l i operands =
 
 -- The relocations at four indexes are those of the sequence of a TLS descriptor, and all are
 -- rewritten, the first two by two kinds.
-pub record AreOfDescriptor (l : Linked) (high low : RelaxationKind) (i j k m : ℕ) : Type 0 where
+pub record AreOfDescriptor (l : Linked) (high low : RewriteKind) (i j k m : ℕ) : Type 0 where
   pub first : AreNext l i j
   pub second : AreNext l j k
   pub third : AreNext l k m
@@ -283,7 +283,7 @@ Addresses =
 
 -- of every sequence of a TLS descriptor that is rewritten by two kinds, and later phases leave
 -- alone, where no other relocation has a field in the two instructions that become `nop`
-abbrev pub EachDescriptor : RelaxationKind → RelaxationKind
+abbrev pub EachDescriptor : RewriteKind → RewriteKind
     → (Linked → ℕ → RelocationKindInfo → Type 0) → Type 0
 EachDescriptor high low Holds =
     (l : Linked) → IsLinked l → l.context.architecture ≡ AArch64

@@ -20,8 +20,8 @@ use Rattle.linker_laws.specs.LoongArchGroups.{LowOfDescriptor, LowPart, Makes, M
 use Rattle.linker_laws.specs.LoongArchRewriteLaws.{Fits32, IsRelocated}
 use Rattle.linker_laws.specs.Schemes.{symbol_address}
 use Rattle.linker_laws.specs.Simulation.{Kinds, State}
-use Rattle.linker_utils.specs.declared.loongarch64.rewrites.RelaxationKind.{RelaxationKind}
-use Rattle.linker_utils.specs.declared.loongarch64.rewrites.RelaxationKind.TheVariants as kinds
+use Rattle.linker_utils.specs.declared.loongarch64.rewrites.RewriteKind.{RewriteKind}
+use Rattle.linker_utils.specs.declared.loongarch64.rewrites.RewriteKind.TheVariants as kinds
 use Rattle.linker_rewriting.specs.Decisions.{AreDecidedIn, decision_at}
 use Rattle.linker_rewriting.specs.Facts.{pre_layout}
 use Rattle.linker_rewriting.specs.Rewritten.{AreDone}
@@ -144,7 +144,7 @@ EachRewritten P name of_row Holds =
 abbrev pub IsAny : Relaxation → Type 0
 IsAny kind = ⊤
 
-abbrev pub IsKind : RelaxationKind → Relaxation → Type 0
+abbrev pub IsKind : RewriteKind → Relaxation → Type 0
 IsKind kind relaxation = relaxation ≡ relaxations.LoongArch64 kind
 
 -- of every half of initial-exec: S is an offset of the thread's, as in the relocation after

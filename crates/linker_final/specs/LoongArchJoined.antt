@@ -18,7 +18,7 @@ use Rattle.linker_final.specs.Packed.{IsUnwritten, Packed, StayTogether, place_o
 use Rattle.linker_laws.specs.LoongArchGroups.{CallOfDescriptor, HighEntry, HighOffset}
 use Rattle.linker_laws.specs.LoongArchGroups.{LoadOfDescriptor, LoadsOffset, LowHalf}
 use Rattle.linker_laws.specs.LoongArchGroups.{LowOfDescriptor, LowPart, MakesOffset}
-use Rattle.linker_utils.specs.declared.loongarch64.rewrites.RelaxationKind.TheVariants as kinds
+use Rattle.linker_utils.specs.declared.loongarch64.rewrites.RewriteKind.TheVariants as kinds
 use Rattle.linker_rewriting.specs.Decisions.{decision_at}
 use Rattle.linker_rewriting.specs.declared.decisions.Decision.TheVariants.{Rewritten}
 use Rattle.linker_runs.specs.declared.packing.Machine.TheVariants.{LoongArch64 as loongarch64}

@@ -25,7 +25,7 @@ use Rattle.linker_laws.specs.Schemes.{AreAddresses, entry_and_addend, plt_addres
 use Rattle.linker_laws.specs.Simulation.{Group, Kinds, State as state, anything, of_link}
 use Rattle.linker_utils.specs.LoongArchRewrites.{IsAddTp, IsLd, IsLu12i, rd_of, rj_of}
 use Rattle.linker_utils.specs.LoongArchRewrites.{signed_12, tp, word_at}
-use Rattle.linker_utils.specs.declared.loongarch64.rewrites.RelaxationKind.TheVariants as kinds
+use Rattle.linker_utils.specs.declared.loongarch64.rewrites.RewriteKind.TheVariants as kinds
 use Rattle.linker_runs.specs.LoongArchSites.{IsCall36At, IsPcalaAt, destination}
 use Rattle.linker_runs.specs.declared.packing.Machine.TheVariants.{LoongArch64}
 use Rattle.linker_runs.specs.declared.relaxation.Site.{Site as site}

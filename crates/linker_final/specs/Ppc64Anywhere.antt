@@ -32,7 +32,7 @@ use Rattle.linker_laws.specs.Ppc64RewriteLaws.{with_entry}
 use Rattle.linker_laws.specs.Schemes.{AreAddresses}
 use Rattle.linker_utils.specs.Ppc64Rewrites.{access_of, is_add_of_thread, is_addi, is_indexed}
 use Rattle.linker_utils.specs.Ppc64Rewrites.{is_indexed_any, is_indexed_word}
-use Rattle.linker_utils.specs.declared.ppc64.rewrites.RelaxationKind.TheVariants as kinds
+use Rattle.linker_utils.specs.declared.ppc64.rewrites.RewriteKind.TheVariants as kinds
 use Rattle.linker_rewriting.specs.Decisions.{decision_at}
 use Rattle.linker_rewriting.specs.declared.decisions.Decision.TheVariants.{Rewritten}
 use Rattle.linker_section.specs.Relocations.{relocation_in}

@@ -35,8 +35,8 @@ use Rattle.linker_laws.specs.Ppc64RewriteLaws.{is_vector_over_base, word_of, two
 use Rattle.linker_laws.specs.Schemes.{AreAddresses, symbol_address}
 use Rattle.linker_utils.specs.Ppc64Rewrites.{access_of, is_add_of_thread, is_addi, is_indexed}
 use Rattle.linker_utils.specs.Ppc64Rewrites.{is_indexed_any, is_indexed_word, ra_of, rt_of}
-use Rattle.linker_utils.specs.declared.ppc64.rewrites.RelaxationKind.{RelaxationKind}
-use Rattle.linker_utils.specs.declared.ppc64.rewrites.RelaxationKind.TheVariants as kinds
+use Rattle.linker_utils.specs.declared.ppc64.rewrites.RewriteKind.{RewriteKind}
+use Rattle.linker_utils.specs.declared.ppc64.rewrites.RewriteKind.TheVariants as kinds
 use Rattle.linker_rewriting.specs.Decisions.{decision_at}
 use Rattle.linker_rewriting.specs.declared.decisions.Decision.TheVariants.{Rewritten}
 use Rattle.linker_section.specs.Relocations.{relocation_in}
@@ -67,7 +67,7 @@ ForOperands name l i Holds =
     AreAddresses o → Holds symbol o)
 
 -- It is rewritten so, and P holds.
-abbrev pub IfRewrittenBy : RelaxationKind → Choice Relaxation ℕ → Type 0 → Type 0
+abbrev pub IfRewrittenBy : RewriteKind → Choice Relaxation ℕ → Type 0 → Type 0
 IfRewrittenBy kind chosen P = (chosen.kind ≡ relaxations.Ppc64 kind) × P
 
 -- It holds where later phases leave the relocation and n bytes from an offset on alone.
@@ -443,7 +443,7 @@ LeavesEntry name l i o =
     → Leaves f (only rt) (one addi) s rt (λ n. n ≡ o.got_entry)
 
 -- The relocation at an index is the mark of a call, which is rewritten so.
-pub record IsCallBy (l : Linked) (mark : Ppc64Relocation) (kind : RelaxationKind) (j : ℕ) : Type 0
+pub record IsCallBy (l : Linked) (mark : Ppc64Relocation) (kind : RewriteKind) (j : ℕ) : Type 0
   where
     pub below : j < count l
     pub is_name : IsNameOf ppc64_name (relocation_in l.relocations j).code mark

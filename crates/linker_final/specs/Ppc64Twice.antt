@@ -23,8 +23,8 @@ use Rattle.linker_laws.specs.Ppc64RewriteLaws.{word_of}
 use Rattle.linker_laws.specs.Schemes.{AreAddresses}
 use Rattle.linker_utils.specs.Ppc64Rewrites.{access_of, is_add_of_thread, is_indexed}
 use Rattle.linker_utils.specs.Ppc64Rewrites.{is_indexed_word, ra_of, rt_of}
-use Rattle.linker_utils.specs.declared.ppc64.rewrites.RelaxationKind.{RelaxationKind}
-use Rattle.linker_utils.specs.declared.ppc64.rewrites.RelaxationKind.TheVariants as kinds
+use Rattle.linker_utils.specs.declared.ppc64.rewrites.RewriteKind.{RewriteKind}
+use Rattle.linker_utils.specs.declared.ppc64.rewrites.RewriteKind.TheVariants as kinds
 use Rattle.linker_rewriting.specs.Decisions.{decision_at}
 use Rattle.linker_rewriting.specs.declared.decisions.Decision.TheVariants.{Rewritten}
 use Rattle.linker_rewriting.specs.declared.phases.Phase.{Phase}
@@ -60,7 +60,7 @@ EachTwice name between Holds =
     → Holds l m i o
 
 -- the same of each that the first call rewrites so
-abbrev pub EachTwiceBy : RelaxationKind → Ppc64Relocation → Ppc64Relocation
+abbrev pub EachTwiceBy : RewriteKind → Ppc64Relocation → Ppc64Relocation
     → (Linked → Linked → ℕ → Operands → Type 0) → Type 0
 EachTwiceBy kind name between Holds =
     (l m : Linked) (i : ℕ) → (twice : IsRewrittenTwice 4 name l m i)
@@ -171,7 +171,7 @@ VariableIsAlikeTwice whole does l m i o =
     (own : ℕ) → IsAppliedAt whole own o m (offset_of m i) → VariableDoesTheSame does l m i o
 
 -- The first call rewrites it so, and its relocations are then of two names.
-abbrev pub EachVariableTwice : RelaxationKind → Ppc64Relocation → Ppc64Relocation → Use → Type 0
+abbrev pub EachVariableTwice : RewriteKind → Ppc64Relocation → Ppc64Relocation → Use → Type 0
 EachVariableTwice kind low whole does =
     EachTwiceBy kind names.R_PPC64_TLS low (VariableIsAlikeTwice whole does)
 
@@ -273,7 +273,7 @@ abbrev pub EachFinal : Ppc64Relocation → Ppc64Relocation
 EachFinal name between Holds =
     (l m : Linked) (i : ℕ) → IsRewrittenTwice 4 name l m i → InFinalBytes between Holds l m i
 
-abbrev pub EachFinalBy : RelaxationKind → Ppc64Relocation → Ppc64Relocation
+abbrev pub EachFinalBy : RewriteKind → Ppc64Relocation → Ppc64Relocation
     → (Linked → Linked → ℕ → Operands → Type 0) → Type 0
 EachFinalBy kind name between Holds =
     (l m : Linked) (i : ℕ) → (twice : IsRewrittenTwice 4 name l m i)
@@ -295,7 +295,7 @@ FinalLoadsTwice =
     EachFinal names.R_PPC64_GOT16_HA names.R_PPC64_TOC16_HA FinalNopDoesTheSame
     × EachFinal names.R_PPC64_GOT16_LO_DS names.R_PPC64_TOC16_LO SumDoesTheSame
 
-abbrev pub EachFinalVariable : RelaxationKind → Ppc64Relocation → Use → Type 0
+abbrev pub EachFinalVariable : RewriteKind → Ppc64Relocation → Use → Type 0
 EachFinalVariable kind low does =
     EachFinalBy kind names.R_PPC64_TLS low (VariableDoesTheSame does)
 

@@ -36,8 +36,8 @@ use Rattle.linker_rewriting.specs.declared.decisions.Decision.TheVariants.{Rewri
 use Rattle.linker_rewriting.specs.declared.decisions.Subject.{Subject}
 use Rattle.linker_riscv64.specs.RiscVFields.{rd_of}
 use Rattle.linker_utils.specs.RiscVRewrites.{deleted_from, riscv_matches, tp}
-use Rattle.linker_utils.specs.declared.riscv64.rewrites.RelaxationKind.{RelaxationKind}
-use Rattle.linker_utils.specs.declared.riscv64.rewrites.RelaxationKind.TheVariants as kinds
+use Rattle.linker_utils.specs.declared.riscv64.rewrites.RewriteKind.{RewriteKind}
+use Rattle.linker_utils.specs.declared.riscv64.rewrites.RewriteKind.TheVariants as kinds
 use Rattle.linker_section.specs.Relocations.{relocation_in}
 use Rattle.linker_section.specs.Values.{operands_with}
 use Rattle.linker_section.specs.declared.facts.Symbol.{Symbol}
@@ -168,7 +168,7 @@ SumGoes l i =
 -- of a load from the GOT, that at another index, which its symbol labels. It is rewritten by a
 -- kind, and gets the symbol of the high part.
 pub record IsOfDescriptor (l : Linked) (high : ℕ) (name : RiscVRelocation) (distance : ℕ)
-    (kind : RelaxationKind) (n : ℕ) : Type 0 where
+    (kind : RewriteKind) (n : ℕ) : Type 0 where
   pub below : n < count l
   pub name_is : IsNameOf riscv_name (relocation_in l.relocations n).code name
   pub following : (relocation_in l.relocations n).offset

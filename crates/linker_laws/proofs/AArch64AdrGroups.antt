@@ -35,7 +35,7 @@ use Rattle.linker_laws.proofs.CoveredRuns.{holds_of, run_first}
 use Rattle.linker_laws.proofs.Instructions.{unbiased}
 use Rattle.linker_laws.proofs.Sums.{lifted_is, once, sum_below}
 use Rattle.linker_utils.specs.AArch64Rewrites.{IsAdd64, IsIntoOwnSource, nop, rd_of}
-use Rattle.linker_utils.specs.declared.aarch64.rewrites.RelaxationKind.TheVariants as kinds
+use Rattle.linker_utils.specs.declared.aarch64.rewrites.RewriteKind.TheVariants as kinds
 
 -- a word under a mask
 below_mask : (x m : ℕ) → m < 2 ^ 32 → bit_and x m < 2 ^ 32

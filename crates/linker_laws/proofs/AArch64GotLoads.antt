@@ -12,7 +12,7 @@ use Rattle.linker_laws.proofs.AArch64Pairs.{Loads, Adds, loads, adds_pair, word_
 use Rattle.linker_laws.proofs.AArch64Words.{adr_of_register, of_registers, adrp_after, ldr_after}
 use Rattle.linker_laws.proofs.AArch64Words.{add_after}
 use Rattle.linker_utils.specs.AArch64Rewrites.{AreOfOneRegister, IsLdr64, rd_of, rn_of}
-use Rattle.linker_utils.specs.declared.aarch64.rewrites.RelaxationKind.TheVariants.{LdrToAdd}
+use Rattle.linker_utils.specs.declared.aarch64.rewrites.RewriteKind.TheVariants.{LdrToAdd}
 
 pub got_loads : relocation_laws.EntryAddresses → (o : Operands) (s : State) (adrp ldr : List ℕ)
     → AreAddresses o → s.pc ≡ o.place → AreOfOneRegister (word_of adrp) (word_of ldr)

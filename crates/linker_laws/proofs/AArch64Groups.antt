@@ -24,7 +24,7 @@ use Rattle.linker_laws.proofs.AArch64Words.{branch_after, decodes_b, decodes_bl}
 use Rattle.linker_laws.proofs.Agreement.{agree_go, agree_put, agree_put_old, unchanged, value_group}
 use Rattle.linker_laws.proofs.CoveredRuns.{run_first, holds_of}
 use Rattle.linker_utils.specs.AArch64Rewrites.{IsLdr64, nop, rd_of}
-use Rattle.linker_utils.specs.declared.aarch64.rewrites.RelaxationKind.TheVariants.{ReplaceWithNop}
+use Rattle.linker_utils.specs.declared.aarch64.rewrites.RewriteKind.TheVariants.{ReplaceWithNop}
 
 -- ---- runs
 

@@ -7,8 +7,8 @@ use Rattle.std.proofs.lemmas.Bool.{eq-eqb, ne_eqb, cond-false}
 use Rattle.std.proofs.lemmas.Int.{ints, int_rem_euclid_is}
 use Rattle.linker_base.specs.Bits.{field}
 use Rattle.linker_utils.specs.AArch64Rewrites.{IsAdrp, IsIntoOwnSource, IsLdr64, rd_of}
-use Rattle.linker_utils.specs.declared.aarch64.rewrites.RelaxationKind.TheVariants.{MovkXn}
-use Rattle.linker_utils.specs.declared.aarch64.rewrites.RelaxationKind.TheVariants.{MovzXnLsl16}
+use Rattle.linker_utils.specs.declared.aarch64.rewrites.RewriteKind.TheVariants.{MovkXn}
+use Rattle.linker_utils.specs.declared.aarch64.rewrites.RewriteKind.TheVariants.{MovzXnLsl16}
 use Rattle.linker_elf.specs.AArch64.{aarch64_form, shift_of}
 use Rattle.linker_elf.specs.Agrees.{bits_from}
 use Rattle.linker_elf.specs.Elf.{bit_bounds}

@@ -48,7 +48,7 @@ use Rattle.linker_laws.proofs.LoongArchWords.{IsHigh, IsLow, high_after, low_aft
 use Rattle.linker_laws.proofs.RiscVGroups.{counts}
 use Rattle.linker_laws.proofs.Sums.{difference_below, sum_below}
 use Rattle.linker_utils.specs.LoongArchRewrites.{IsCall, IsLd, IsLowOfDescriptor, IsPcalau12i, rd_of, rj_of, signed_12, signed_32}
-use Rattle.linker_utils.specs.declared.loongarch64.rewrites.RelaxationKind.TheVariants as kinds
+use Rattle.linker_utils.specs.declared.loongarch64.rewrites.RewriteKind.TheVariants as kinds
 
 -- ---- states
 

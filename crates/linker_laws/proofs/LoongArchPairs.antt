@@ -13,7 +13,7 @@ use Rattle.linker_elf.specs.declared.elf.RelocationSize.TheVariants.{BitMasking}
 use Rattle.linker_elf.proofs.Relocated.{plain_written}
 use Rattle.linker_elf.specs.declared.elf.value.Operands.{Operands}
 use Rattle.linker_elf.specs.declared.loongarch64.forms.LoongArch64Instruction.TheVariants.{Shift5, Shift10}
-use Rattle.linker_utils.specs.declared.loongarch64.rewrites.RelaxationKind.TheVariants as kinds
+use Rattle.linker_utils.specs.declared.loongarch64.rewrites.RewriteKind.TheVariants as kinds
 use Rattle.linker_base.proofs.Bits.{cast_negative}
 use Rattle.linker_laws.specs.Schemes.{IsAddress}
 use Rattle.linker_laws.specs.LoongArchRewriteLaws.{word_of}

@@ -12,8 +12,8 @@ use Rattle.linker_elf.specs.declared.ppc64.forms.Ppc64Instruction.TheVariants.{D
 use Rattle.linker_elf.specs.declared.ppc64.relocations.Ppc64Relocation.{Ppc64Relocation}
 use Rattle.linker_elf.specs.declared.ppc64.relocations.Ppc64Relocation.TheVariants as names
 use Rattle.linker_utils.specs.Ppc64Rewrites.{opcode_of, rt_of, ra_of, registers_of, nop}
-use Rattle.linker_utils.specs.declared.ppc64.rewrites.RelaxationKind.{RelaxationKind}
-use Rattle.linker_utils.specs.declared.ppc64.rewrites.RelaxationKind.TheVariants as kinds
+use Rattle.linker_utils.specs.declared.ppc64.rewrites.RewriteKind.{RewriteKind}
+use Rattle.linker_utils.specs.declared.ppc64.rewrites.RewriteKind.TheVariants as kinds
 use Rattle.linker_laws.specs.Ppc64RelocationLaws as relocation_laws
 use Rattle.linker_laws.specs.Schemes.{AreAddresses, symbol_address}
 use Rattle.linker_laws.specs.Machine.{Memory, moved, loaded, stored, but, extended}
@@ -202,7 +202,7 @@ Keeps name =
 abbrev pub IsBase : ℕ → Type 0
 IsBase r = (s : State) → base r s ≡ s.registers r
 
-to_nop : (r : ℕ) (kind : RelaxationKind) (high : Ppc64Relocation) (address : Operands → ℕ → ℕ)
+to_nop : (r : ℕ) (kind : RewriteKind) (high : Ppc64Relocation) (address : Operands → ℕ → ℕ)
     (Low : Operands → ℕ → ℕ → Type 0) → IsBase r
     → ((addis blank : List ℕ) → IsRewritten kind addis blank → word_of blank ≡ nop) → Keeps high
     → ((o : Operands) → AreAddresses o → (n : ℕ) (addis after : List ℕ) → IsRelocated high o addis after

@@ -13,7 +13,7 @@ use Rattle.linker_elf.specs.declared.elf.value.Operands.{Operands}
 use Rattle.linker_elf.specs.declared.ppc64.forms.Ppc64Instruction.TheVariants.{D, Ds}
 use Rattle.linker_utils.specs.Ppc64Rewrites.{is_addi, is_ld, opcode_of, rt_of, ra_of, rb_of}
 use Rattle.linker_utils.specs.Ppc64Rewrites.{registers_of, addis_of_thread, nop}
-use Rattle.linker_utils.specs.declared.ppc64.rewrites.RelaxationKind.TheVariants as kinds
+use Rattle.linker_utils.specs.declared.ppc64.rewrites.RewriteKind.TheVariants as kinds
 use Rattle.linker_laws.specs.Ppc64RelocationLaws as relocation_laws
 use Rattle.linker_laws.specs.Schemes.{symbol_address, IsAddress, AreAddresses}
 use Rattle.linker_elf.specs.declared.ppc64.relocations.Ppc64Relocation.TheVariants as names

@@ -15,8 +15,8 @@ use Rattle.linker_elf.specs.declared.ppc64.relocations.Ppc64Relocation.{Ppc64Rel
 use Rattle.linker_elf.specs.declared.ppc64.relocations.Ppc64Relocation.TheVariants as names
 use Rattle.linker_utils.specs.Ppc64Rewrites.{opcode_of, rt_of, ra_of, over_base, is_addi}
 use Rattle.linker_utils.specs.Ppc64Rewrites.{is_ds_access, is_vector_access}
-use Rattle.linker_utils.specs.declared.ppc64.rewrites.RelaxationKind.{RelaxationKind}
-use Rattle.linker_utils.specs.declared.ppc64.rewrites.RelaxationKind.TheVariants as kinds
+use Rattle.linker_utils.specs.declared.ppc64.rewrites.RewriteKind.{RewriteKind}
+use Rattle.linker_utils.specs.declared.ppc64.rewrites.RewriteKind.TheVariants as kinds
 use Rattle.linker_laws.specs.Ppc64RelocationLaws as relocation_laws
 use Rattle.linker_laws.specs.Schemes.{AreAddresses, symbol_address, IsAddress}
 use Rattle.linker_laws.specs.Machine.{moved}
@@ -56,7 +56,7 @@ over_base_low : (r x word : ℕ) → word ≡ over_base r x → field word 0 2 �
 over_base_low r x word is = omega arith
 
 -- what is known of a base register, a rewrite to it, and the relocations before and after
-record IsOver (r : ℕ) (kind : RelaxationKind) (low whole : Ppc64Relocation) (form : Ppc64Instruction)
+record IsOver (r : ℕ) (kind : RewriteKind) (low whole : Ppc64Relocation) (form : Ppc64Instruction)
     (address : Operands → ℕ → ℕ) : Type 0 where
   pub small : r < 32
   pub is_base : IsBase r
@@ -71,7 +71,7 @@ KeepsLow name =
     (o : Operands) (before after : List ℕ) → IsRelocated name o before after
     → field (word_of after) 0 2 ≡ field (word_of before) 0 2
 
-addi_over : (r : ℕ) (kind : RelaxationKind) (low whole : Ppc64Relocation) (address : Operands → ℕ → ℕ)
+addi_over : (r : ℕ) (kind : RewriteKind) (low whole : Ppc64Relocation) (address : Operands → ℕ → ℕ)
     → IsOver r kind low whole D address → laws.OverBase r kind low whole D address (laws.adds is_addi)
 addi_over r kind low whole address e f o s t c insn over small alike is made leads any at insn_of over_of l d =
     let x = word_of insn in
@@ -94,7 +94,7 @@ addi_over r kind low whole address e f o s t c insn over small alike is made lea
     (same_parts (parts.opcode_is ∙ op) parts.rt_is parts.ra_is (e.whole_keeps o over over_of d)))
     refl refl (agree_but z _ _ c s t (old ∙ sym new) alike)
 
-access_over : (r : ℕ) (kind : RelaxationKind) (low whole : Ppc64Relocation) (address : Operands → ℕ → ℕ)
+access_over : (r : ℕ) (kind : RewriteKind) (low whole : Ppc64Relocation) (address : Operands → ℕ → ℕ)
     → IsOver r kind low whole D address → laws.OverBase r kind low whole D address is_d_over
 access_over r kind low whole address e f o s t c insn over small alike is made leads reads at insn_of over_of l d =
     let x = word_of insn in
@@ -123,7 +123,7 @@ access_over r kind low whole address e f o s t c insn over small alike is made l
     (accessed_link f acc z A s) (accessed_link f acc z A t)
     (agree_on _ _ _ (accessed_agree f c acc z A s t alike reads))
 
-word_access_over : (r : ℕ) (kind : RelaxationKind) (low whole : Ppc64Relocation) (address : Operands → ℕ → ℕ)
+word_access_over : (r : ℕ) (kind : RewriteKind) (low whole : Ppc64Relocation) (address : Operands → ℕ → ℕ)
     → IsOver r kind low whole Ds address → KeepsLow low → KeepsLow whole
     → laws.OverBase r kind low whole Ds address (laws.accesses is_ds_over_base ds_access)
 word_access_over r kind low whole address e low_bits whole_bits f o s t c insn over small alike is made leads reads
@@ -160,7 +160,7 @@ word_access_over r kind low whole address e low_bits whole_bits f o s t c insn o
     (accessed_link f acc z A s) (accessed_link f acc z A t)
     (agree_on _ _ _ (accessed_agree f c acc z A s t alike reads))
 
-vector_over : (r : ℕ) (kind : RelaxationKind) (low whole : Ppc64Relocation) (address : Operands → ℕ → ℕ)
+vector_over : (r : ℕ) (kind : RewriteKind) (low whole : Ppc64Relocation) (address : Operands → ℕ → ℕ)
     → IsOver r kind low whole Ds address → laws.VectorOverBase r kind low whole address
 vector_over r kind low whole address e o s t insn over small is made leads at insn_of over_of l d =
     let x = word_of insn in

@@ -8,7 +8,7 @@ use Rattle.linker_elf.specs.declared.ppc64.forms.Ppc64Instruction.TheVariants.{D
 use Rattle.linker_utils.specs.Ppc64Rewrites.{opcode_of, rt_of, ra_of, access_of, registers_of}
 use Rattle.linker_utils.specs.Ppc64Rewrites.{addis_of_thread, by_displacement, by_word_displacement}
 use Rattle.linker_utils.specs.Ppc64Rewrites.{is_add_of_thread, is_indexed, is_indexed_word}
-use Rattle.linker_utils.specs.declared.ppc64.rewrites.RelaxationKind.TheVariants as kinds
+use Rattle.linker_utils.specs.declared.ppc64.rewrites.RewriteKind.TheVariants as kinds
 use Rattle.linker_elf.specs.declared.ppc64.relocations.Ppc64Relocation.TheVariants as names
 use Rattle.linker_laws.specs.Ppc64RelocationLaws as relocation_laws
 use Rattle.linker_laws.specs.Machine.{moved, loaded}

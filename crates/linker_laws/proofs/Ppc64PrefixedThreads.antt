@@ -18,7 +18,7 @@ use Rattle.linker_utils.specs.Ppc64Rewrites.{opcode_of, rt_of, ra_of, rb_of, acc
 use Rattle.linker_utils.specs.Ppc64Rewrites.{addi_of_thread, by_displacement, by_word_displacement, direct, ld_of}
 use Rattle.linker_utils.specs.Ppc64Rewrites.{is_access, is_add_of_thread, is_indexed, is_indexed_any, is_indexed_word, is_pla, is_pld, is_word_access, move_of, to_move}
 use Rattle.linker_utils.specs.Ppc64Rewrites.{two_words as both_words}
-use Rattle.linker_utils.specs.declared.ppc64.rewrites.RelaxationKind.TheVariants as kinds
+use Rattle.linker_utils.specs.declared.ppc64.rewrites.RewriteKind.TheVariants as kinds
 use Rattle.linker_laws.specs.Machine.{moved, loaded}
 use Rattle.linker_laws.specs.Ppc64Machine.{State, Formats, Access, accessed, access_with, base, by_opcode, execute, go_on, go_to, next_pc, step, step_prefixed, word_access_with}
 use Rattle.linker_laws.specs.Ppc64RelocationLaws as relocation_laws

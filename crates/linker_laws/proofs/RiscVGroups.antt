@@ -66,8 +66,8 @@ use Rattle.linker_utils.proofs.RiscVRewrites.{half_of_front}
 use Rattle.linker_utils.specs.RiscVRewrites.{a0, adds_low12, call_to_jal, clui_to_cli, half_at, hi20_to_clui, IsLui}
 use Rattle.linker_utils.specs.RiscVRewrites.{load_to_addi, of_destination, rewrites_word, riscv_matches, tail_to_cj}
 use Rattle.linker_utils.specs.RiscVRewrites.{tail_to_jal, with_rs1}
-use Rattle.linker_utils.specs.declared.riscv64.rewrites.RelaxationKind.TheVariants as kinds
-use Rattle.linker_utils.specs.declared.riscv64.rewrites.RelaxationKind.{RelaxationKind}
+use Rattle.linker_utils.specs.declared.riscv64.rewrites.RewriteKind.TheVariants as kinds
+use Rattle.linker_utils.specs.declared.riscv64.rewrites.RewriteKind.{RewriteKind}
 
 -- ---- states
 
@@ -431,7 +431,7 @@ module _ (kind kind' : RelocationKind) (number number' : Operands → ℕ) (of :
 -- Both numbers are one of 12 bits, and old's base has what new's has.
 low_parts_of : (kind : RelocationKind) (number : Operands → ℕ) → IsFormulaOf kind number
     → (row : Action → Option RelocationKindInfo) → ((a : Action) → row a ≡ row_of kind a)
-    → (rewrite : RelaxationKind) (b : ℕ) → b < 32 → IsBased rewrite b → (base : State → ℕ)
+    → (rewrite : RewriteKind) (b : ℕ) → b < 32 → IsBased rewrite b → (base : State → ℕ)
     → (IsKnown : Kinds → Type 0)
     → ((c : Code) (k : Kinds) (s t : State) → IsKnown k → Agree (link c) k s t → register (seen t) b ≡ base s)
     → (low : List ℕ) → 4 ≤ length low → IsTrue (adds_low12 (opcode_of (word_of low)) (funct3_of (word_of low)))

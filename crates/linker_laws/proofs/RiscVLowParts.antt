@@ -17,13 +17,13 @@ use Rattle.linker_base.proofs.Pairs.{signed_cases}
 use Rattle.linker_elf.specs.Relocate.{bits_taken}
 use Rattle.linker_elf.specs.RiscV.{riscv_form, riscv_layout, riscv_places}
 use Rattle.linker_utils.specs.RiscVRewrites.{rewrites_word, with_rs1}
-use Rattle.linker_utils.specs.declared.riscv64.rewrites.RelaxationKind.{RelaxationKind}
+use Rattle.linker_utils.specs.declared.riscv64.rewrites.RewriteKind.{RewriteKind}
 use Rattle.linker_elf.specs.declared.elf.RelocationKind.{RelocationKind}
 use Rattle.linker_riscv64.specs.RiscVCalls.{word_at}
 use Rattle.linker_riscv64.specs.RiscVFields.{opcode_of, funct3_of, rd_of}
 use Rattle.linker_utils.specs.RiscVRewrites.{adds_low12}
 use Rattle.linker_elf.specs.RiscVRelocations.{pair_row}
-use Rattle.linker_utils.specs.declared.riscv64.rewrites.RelaxationKind.TheVariants as kinds
+use Rattle.linker_utils.specs.declared.riscv64.rewrites.RewriteKind.TheVariants as kinds
 use Rattle.linker_elf.specs.Value.{sum_64, value_of}
 use Rattle.linker_elf.specs.declared.elf.value.Operands.{Operands}
 use Rattle.linker_elf.specs.declared.riscv64.forms.RiscVInstruction.TheVariants.{UType, IType}
@@ -235,7 +235,7 @@ based_there section o b small inside bytes =
     word_there section o (with_rs1 b) inside (omega arith)
 
 -- x0 and the thread pointer as the base
-abbrev pub IsBased : RelaxationKind → ℕ → Type 0
+abbrev pub IsBased : RewriteKind → ℕ → Type 0
 IsBased k b =
     (section : List ℕ) (o : ℕ) → o + 4 ≤ length section → AreBytes (drop o section)
     → from_le_bytes w32 (drop o (after_rewrite k section o)) ≡ with_rs1 b (word_at section o)

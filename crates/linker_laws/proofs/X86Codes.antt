@@ -9,7 +9,7 @@ use Rattle.linker_base.specs.Rewrite.{rewritten, replaces}
 use Rattle.linker_utils.specs.X86Rewrites as x86
 use Rattle.linker_utils.specs.X86Rewrites.{absolute, operand, prefixed_operand, evex_operand, puts}
 use Rattle.linker_utils.specs.X86Rewrites.{Original, is_one_at, is_at, begins}
-use Rattle.linker_utils.specs.declared.x86_64.rewrites.RelaxationKind.TheVariants.{JmpIndirectToRelative}
+use Rattle.linker_utils.specs.declared.x86_64.rewrites.RewriteKind.TheVariants.{JmpIndirectToRelative}
 use Rattle.linker_laws.proofs.X86Sections.{original_code, rewritten_code}
 
 -- an instruction of one pattern

@@ -15,7 +15,7 @@ use Rattle.linker_utils.specs.X86Rewrites.{x86_64_rewrite, absolute, prefixed_op
 use Rattle.linker_utils.specs.X86Rewrites.{x86_64_matches, field4}
 use Rattle.linker_elf.specs.declared.elf.value.Operands.{Operands}
 use Rattle.linker_elf.specs.declared.x86_64.relocations.X86_64Relocation.TheVariants as names
-use Rattle.linker_utils.specs.declared.x86_64.rewrites.RelaxationKind.TheVariants as kinds
+use Rattle.linker_utils.specs.declared.x86_64.rewrites.RewriteKind.TheVariants as kinds
 use Rattle.linker_elf.specs.Applied.{IsApplied}
 use Rattle.linker_laws.specs.Schemes.{AreAddresses}
 use Rattle.linker_laws.proofs.Sums.{difference_below}

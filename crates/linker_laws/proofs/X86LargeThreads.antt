@@ -12,7 +12,7 @@ use Rattle.linker_elf.specs.Value.{sum_64, difference_64}
 use Rattle.linker_utils.specs.X86Rewrites.{x86_64_rewrite, puts}
 use Rattle.linker_utils.specs.X86Rewrites.{is_at, is_one_at, large, large_call, lea_rdi, original}
 use Rattle.linker_utils.specs.X86Rewrites.{field4, Original}
-use Rattle.linker_utils.specs.declared.x86_64.rewrites.RelaxationKind.TheVariants as kinds
+use Rattle.linker_utils.specs.declared.x86_64.rewrites.RewriteKind.TheVariants as kinds
 use Rattle.linker_laws.proofs.Sums.{difference_below}
 use Rattle.linker_laws.specs.X86RewriteLaws.{thread_offset}
 use Rattle.linker_laws.specs.X86Machine.{extended, execute, lea_from, nop}

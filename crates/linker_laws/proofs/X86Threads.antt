@@ -22,7 +22,7 @@ use Rattle.linker_utils.specs.X86Rewrites.{begins, byte, is_at, is_one_at, gener
 use Rattle.linker_utils.specs.X86Rewrites.{original}
 use Rattle.linker_utils.specs.X86Rewrites.{field4, lea_rdi, Original}
 use Rattle.linker_elf.specs.declared.elf.value.Operands.{Operands}
-use Rattle.linker_utils.specs.declared.x86_64.rewrites.RelaxationKind.TheVariants as kinds
+use Rattle.linker_utils.specs.declared.x86_64.rewrites.RewriteKind.TheVariants as kinds
 use Rattle.linker_laws.proofs.Sums.{difference_below}
 use Rattle.linker_laws.specs.X86RewriteLaws.{IsBefore, thread_offset}
 use Rattle.linker_laws.specs.X86Machine.{State, load, extended, with_register, execute}

@@ -18,7 +18,7 @@ use Rattle.linker_laws.specs.Simulation.{anything, half, of_link, run, same}
 use Rattle.linker_utils.specs.AArch64Rewrites.{AreOfDescriptor, IsAdd64, IsAdrp, IsIntoOwnSource}
 use Rattle.linker_utils.specs.AArch64Rewrites.{IsLdr64}
 use Rattle.linker_utils.specs.AArch64Rewrites.{rd_of, rn_of}
-use Rattle.linker_utils.specs.declared.aarch64.rewrites.RelaxationKind.TheVariants as kinds
+use Rattle.linker_utils.specs.declared.aarch64.rewrites.RewriteKind.TheVariants as kinds
 
 -- ---- the machine
 

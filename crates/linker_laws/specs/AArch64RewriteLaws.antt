@@ -10,7 +10,7 @@ use Rattle.linker_elf.specs.LoongArch.{page}
 use Rattle.linker_elf.specs.AArch64Relocations.{aarch64_row}
 use Rattle.linker_elf.specs.Value.{sum_64, difference_64}
 use Rattle.linker_elf.specs.declared.aarch64.relocations.AArch64Relocation.{AArch64Relocation}
-use Rattle.linker_utils.specs.declared.aarch64.rewrites.RelaxationKind.{RelaxationKind}
+use Rattle.linker_utils.specs.declared.aarch64.rewrites.RewriteKind.{RewriteKind}
 use Rattle.linker_elf.specs.declared.elf.value.Operands.{Operands}
 use Rattle.linker_elf.specs.Applied.{IsApplied}
 use Rattle.linker_laws.specs.Schemes.{AreAddresses, symbol_address}
@@ -30,7 +30,7 @@ IsRelocated name o before after = IsSomeAnd (aarch64_row name) (λ row. IsApplie
 abbrev pub BeginsRewritten : Rewrite → List ℕ → List ℕ → Type 0
 BeginsRewritten r before after = take r.len after ≡ r.bytes (take r.len before)
 
-abbrev pub IsRewritten : RelaxationKind → List ℕ → List ℕ → Type 0
+abbrev pub IsRewritten : RewriteKind → List ℕ → List ℕ → Type 0
 IsRewritten kind before after =
     IsSomeAnd (aarch64_rewrite kind) (λ r. BeginsRewritten r before after)
 
@@ -44,7 +44,7 @@ BeginsRewrittenAt (Some r) section o =
 
 abbrev pub InSections : Type 0
 InSections =
-    (kind : RelaxationKind) (section : List ℕ) (o : ℕ)
+    (kind : RewriteKind) (section : List ℕ) (o : ℕ)
     → BeginsRewrittenAt (aarch64_rewrite kind) section o
 
 -- the operands of an instruction n bytes after the first

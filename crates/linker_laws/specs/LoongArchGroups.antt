@@ -25,8 +25,8 @@ use Rattle.linker_utils.specs.LoongArchRewrites.{IsAddTp, IsAddi, IsCall, IsCall
 use Rattle.linker_utils.specs.LoongArchRewrites.{IsLoadOfDescriptor, IsLowOfDescriptor, IsLu12i}
 use Rattle.linker_utils.specs.LoongArchRewrites.{IsPcalau12i, adds_low12, loongarch_deleted, rd_of}
 use Rattle.linker_utils.specs.LoongArchRewrites.{rj_of, signed_12, tp, unsigned_12}
-use Rattle.linker_utils.specs.declared.loongarch64.rewrites.RelaxationKind.{RelaxationKind}
-use Rattle.linker_utils.specs.declared.loongarch64.rewrites.RelaxationKind.TheVariants as kinds
+use Rattle.linker_utils.specs.declared.loongarch64.rewrites.RewriteKind.{RewriteKind}
+use Rattle.linker_utils.specs.declared.loongarch64.rewrites.RewriteKind.TheVariants as kinds
 
 -- ---- the machine
 
@@ -123,7 +123,7 @@ abbrev pub count_of : Option DeletedBytes → ℕ
 count_of None = 0
 count_of (Some bytes) = bytes.count
 
-abbrev pub deleted_by : RelaxationKind → ℕ
+abbrev pub deleted_by : RewriteKind → ℕ
 deleted_by kind = count_of (loongarch_deleted kind)
 
 -- ---- states
@@ -187,7 +187,7 @@ GotToPcaddi =
 
 -- So do `pcalau12i rd` and `addi.d rd, rd` of the symbol, or of a GOT entry for general- or
 -- local-dynamic, by the relocations before and after.
-abbrev pub SumToPcaddi : (name low_name after : LoongArch64Relocation) → RelaxationKind
+abbrev pub SumToPcaddi : (name low_name after : LoongArch64Relocation) → RewriteKind
     → (Operands → ℕ) → Type 0
 SumToPcaddi name low_name after deletes address =
     (c : Code) (x y : Operands) (k : Kinds) (s : State) (pcala addi pcaddi : List ℕ)
@@ -412,7 +412,7 @@ LowPartFromThreadPointer =
 
 -- `pcaddu18i rd` and a `jirl` over rd, with the value of their relocation, stand in old, and a
 -- branch in new. Old and new are at a target. rd may have anything then.
-abbrev pub CallTo : RelaxationKind → ℕ → (Operands → Kinds → Kinds) → (Operands → State → State)
+abbrev pub CallTo : RewriteKind → ℕ → (Operands → Kinds → Kinds) → (Operands → State → State)
     → Type 0
 CallTo kind links known linked =
     (c : Code) (x y : Operands) (k : Kinds) (s : State) (call call_of branch : List ℕ)

@@ -13,7 +13,7 @@ use Rattle.linker_elf.specs.declared.loongarch64.relocations.LoongArch64Relocati
 use Rattle.linker_laws.specs.LoongArchMachine.{State, read, AreAlikeBut}
 use Rattle.linker_laws.specs.Schemes.{entry_and_addend, symbol_address}
 use Rattle.linker_utils.specs.LoongArchRewrites.{AreOfOneRegister, loongarch_rewrite, signed_32}
-use Rattle.linker_utils.specs.declared.loongarch64.rewrites.RelaxationKind.{RelaxationKind}
+use Rattle.linker_utils.specs.declared.loongarch64.rewrites.RewriteKind.{RewriteKind}
 
 -- ---- instructions as bytes
 
@@ -30,7 +30,7 @@ IsRelocated name o before after =
 abbrev pub BeginsRewritten : Rewrite → List ℕ → List ℕ → Type 0
 BeginsRewritten r before after = take r.len after ≡ r.bytes (take r.len before)
 
-abbrev pub IsRewritten : RelaxationKind → List ℕ → List ℕ → Type 0
+abbrev pub IsRewritten : RewriteKind → List ℕ → List ℕ → Type 0
 IsRewritten kind before after =
     IsSomeAnd (loongarch_rewrite kind) (λ r. BeginsRewritten r before after)
 

@@ -19,8 +19,8 @@ use Rattle.linker_elf.specs.declared.ppc64.forms.Ppc64Instruction.{Ppc64Instruct
 use Rattle.linker_elf.specs.declared.ppc64.forms.Ppc64Instruction.TheVariants.{D, Ds}
 use Rattle.linker_elf.specs.declared.ppc64.relocations.Ppc64Relocation.{Ppc64Relocation}
 use Rattle.linker_elf.specs.declared.ppc64.relocations.Ppc64Relocation.TheVariants as names
-use Rattle.linker_utils.specs.declared.ppc64.rewrites.RelaxationKind.{RelaxationKind}
-use Rattle.linker_utils.specs.declared.ppc64.rewrites.RelaxationKind.TheVariants as kinds
+use Rattle.linker_utils.specs.declared.ppc64.rewrites.RewriteKind.{RewriteKind}
+use Rattle.linker_utils.specs.declared.ppc64.rewrites.RewriteKind.TheVariants as kinds
 use Rattle.linker_elf.specs.Applied.{IsApplied}
 use Rattle.linker_laws.specs.Schemes.{AreAddresses, symbol_address}
 use Rattle.linker_laws.specs.Machine.{loaded, moved, also, but}
@@ -42,7 +42,7 @@ abbrev pub IsRelocated : Ppc64Relocation → Operands → List ℕ → List ℕ 
 IsRelocated name o before after = IsSomeAnd (ppc64_row name) (λ row. IsApplied row o before after)
 
 -- Bytes begin with what a rewrite leaves of the window that they began with.
-abbrev pub IsRewritten : RelaxationKind → List ℕ → List ℕ → Type 0
+abbrev pub IsRewritten : RewriteKind → List ℕ → List ℕ → Type 0
 IsRewritten kind before after =
     IsSomeAnd (ppc64_rewrite kind) (λ r. take r.len after ≡ r.bytes (take r.len before))
 
@@ -544,7 +544,7 @@ entry_from_toc o toc = sum_64 (difference_64 o.got_entry o.got_base) toc
 
 -- `addis rX` over a register becomes `nop`. In the object's run rX then has a number from which the
 -- low halves lead to the address.
-abbrev pub ToNop : ℕ → RelaxationKind → Ppc64Relocation → (Operands → ℕ → ℕ)
+abbrev pub ToNop : ℕ → RewriteKind → Ppc64Relocation → (Operands → ℕ → ℕ)
     → (Operands → ℕ → ℕ → Type 0) → Type 0
 ToNop register kind high address LowHalvesLead =
     (f : Formats) (o : Operands) (s t : State) (c : Changes) (addis blank : List ℕ)
@@ -670,7 +670,7 @@ accesses test access =
 
 -- An instruction over a register that has what a high half made, and the same over the base
 -- register, with the whole distance.
-abbrev pub OverBase : ℕ → RelaxationKind → Ppc64Relocation → Ppc64Relocation → Ppc64Instruction
+abbrev pub OverBase : ℕ → RewriteKind → Ppc64Relocation → Ppc64Relocation → Ppc64Instruction
     → (Operands → ℕ → ℕ) → Use → Type 0
 OverBase register kind low whole form address does =
     (f : Formats) (o : Operands) (s t : State) (c : Changes) (insn over : List ℕ) → AreAddresses o
@@ -683,7 +683,7 @@ OverBase register kind low whole form address does =
     → StepSo f (word_of insn_of) s (word_of over_of) t (AgreeBut (does.after c (word_of insn)))
 
 -- `lq` and accesses of vector registers, of which the machine has none: of one address
-abbrev pub VectorOverBase : ℕ → RelaxationKind → Ppc64Relocation → Ppc64Relocation
+abbrev pub VectorOverBase : ℕ → RewriteKind → Ppc64Relocation → Ppc64Relocation
     → (Operands → ℕ → ℕ) → Type 0
 VectorOverBase register kind low whole address =
     (o : Operands) (s t : State) (insn over : List ℕ) → AreAddresses o
@@ -739,7 +739,7 @@ OffsetToHighHalf =
     (λ u v. AgreeBut (with_register x c) u v × HasOffset o x (t.registers 13) u v)
 
 -- `add rT,rY,13`, or a load or a store by the sum of rY and r13, and the same by a low half over rY
-abbrev pub OverOffset : RelaxationKind → Ppc64Relocation → Use → Type 0
+abbrev pub OverOffset : RewriteKind → Ppc64Relocation → Use → Type 0
 OverOffset kind low does =
     (f : Formats) (o : Operands) (s t : State) (c : Changes) (insn direct : List ℕ)
     → AreAddresses o → AgreeBut c s t → IsTrue (does.test (word_of insn))
@@ -991,7 +991,7 @@ LoadToVariable =
 
 -- `add rT,rY,13`, or a load or a store by the sum of rY and r13, and the same without r13. In the
 -- object's run rY has the offset, and in the new one the address.
-abbrev pub OverVariable : RelaxationKind → Use → Type 0
+abbrev pub OverVariable : RewriteKind → Use → Type 0
 OverVariable kind does =
     (f : Formats) (o : Operands) (s t : State) (c : Changes) (insn direct : List ℕ) → AgreeBut c s t
     → IsTrue (does.test (word_of insn)) → IsRewritten kind insn direct

@@ -33,8 +33,8 @@ use Rattle.linker_laws.specs.Simulation.{of_link, run, same}
 use Rattle.linker_riscv64.specs.RiscVCalls.{IsCallPair}
 use Rattle.linker_riscv64.specs.RiscVFields.{rd_of}
 use Rattle.linker_utils.specs.RiscVRewrites.{IsAddTp, IsLui, a0, half_at, riscv_matches, tp}
-use Rattle.linker_utils.specs.declared.riscv64.rewrites.RelaxationKind.{RelaxationKind}
-use Rattle.linker_utils.specs.declared.riscv64.rewrites.RelaxationKind.TheVariants as kinds
+use Rattle.linker_utils.specs.declared.riscv64.rewrites.RewriteKind.{RewriteKind}
+use Rattle.linker_utils.specs.declared.riscv64.rewrites.RewriteKind.TheVariants as kinds
 
 -- ---- the machine
 
@@ -153,7 +153,7 @@ CluiBecomesCli =
     (put (rd_of (word_of lui)) 0 (sum_64 x.place 4) s)
 
 -- A `lui` of S + A, or of an offset, that is a number of 12 bits is deleted. In old it leaves 0.
-abbrev pub DeletedLui : RelaxationKind → RiscVRelocation → (Operands → Type 0) → Type 0
+abbrev pub DeletedLui : RewriteKind → RiscVRelocation → (Operands → Type 0) → Type 0
 DeletedLui kind name IsLow =
     (c : Code) (x : Operands) (k : Kinds) (s : State) (lui : List ℕ) → AreDeleted c 4 s
     → riscv_matches kind lui 0 → IsLui (word_of lui) → IsLow x → Has 4 c.old s.pc (riscv_row name) x lui
@@ -183,7 +183,7 @@ uses action word sum s = left s (used 4 action (rd_of word) (rs2_of word) sum (s
 
 -- An instruction adds the low part of a number to a base. Old's base has the number of another one,
 -- and the rewrite makes that the base. What it loads, stores or writes is of the kinds after it.
-abbrev pub LowPartOf : RelaxationKind → (Action → Option RelocationKindInfo) → (Operands → ℕ)
+abbrev pub LowPartOf : RewriteKind → (Action → Option RelocationKindInfo) → (Operands → ℕ)
     → (State → ℕ) → (Kinds → Type 0) → List ℕ → Action → Type 0
 LowPartOf kind row number base IsKnown low action =
     (c : Code) (x y : Operands) (k k' : Kinds) (s : State) → AreBefore c 4 4 x y s → number x ≡ number y
@@ -195,7 +195,7 @@ LowPartOf kind row number base IsKnown low action =
     ((t : State) → Agree (link c) k s t → Agree (link c) k' (after s) (after t))
     → Group (of_link (link c)) 1 k s k' (after s)
 
-abbrev pub LowPart : RelaxationKind → (Action → Option RelocationKindInfo) → (Operands → ℕ)
+abbrev pub LowPart : RewriteKind → (Action → Option RelocationKindInfo) → (Operands → ℕ)
     → (State → ℕ) → (Kinds → Type 0) → Type 0
 LowPart kind row number base IsKnown =
     (low : List ℕ) → riscv_matches kind low 0

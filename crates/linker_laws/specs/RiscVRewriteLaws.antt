@@ -15,13 +15,13 @@ use Rattle.linker_elf.specs.Value.{difference_64}
 use Rattle.linker_elf.specs.declared.elf.RelocationKindInfo.{RelocationKindInfo}
 use Rattle.linker_elf.specs.declared.elf.value.Operands.{Operands}
 use Rattle.linker_elf.specs.declared.riscv64.relocations.RiscVRelocation.TheVariants as names
-use Rattle.linker_utils.specs.declared.riscv64.rewrites.RelaxationKind.{RelaxationKind}
+use Rattle.linker_utils.specs.declared.riscv64.rewrites.RewriteKind.{RewriteKind}
 use Rattle.linker_laws.specs.Schemes.{symbol_address}
 use Rattle.linker_laws.specs.RiscVMachine.{Action}
 use Rattle.linker_laws.specs.RiscVMachine.{stores, stores_float, action_of, rs1_of}
 
 -- the section after a rewrite at an offset
-abbrev pub after_rewrite : RelaxationKind → List ℕ → ℕ → List ℕ
+abbrev pub after_rewrite : RewriteKind → List ℕ → ℕ → List ℕ
 after_rewrite kind section o = rewritten (riscv_rewrite kind) section o
 
 -- ---- high parts (psABI, "Compressed LUI Relaxation", "Zero-page Relaxation")

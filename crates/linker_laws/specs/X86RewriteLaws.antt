@@ -15,8 +15,8 @@ use Rattle.linker_elf.specs.declared.elf.RelocationKindInfo.{RelocationKindInfo}
 use Rattle.linker_elf.specs.declared.elf.value.Operands.{Operands}
 use Rattle.linker_elf.specs.declared.x86_64.relocations.X86_64Relocation.{X86_64Relocation}
 use Rattle.linker_elf.specs.declared.x86_64.relocations.X86_64Relocation.TheVariants as names
-use Rattle.linker_utils.specs.declared.x86_64.rewrites.RelaxationKind.{RelaxationKind}
-use Rattle.linker_utils.specs.declared.x86_64.rewrites.RelaxationKind.TheVariants as kinds
+use Rattle.linker_utils.specs.declared.x86_64.rewrites.RewriteKind.{RewriteKind}
+use Rattle.linker_utils.specs.declared.x86_64.rewrites.RewriteKind.TheVariants as kinds
 use Rattle.linker_elf.specs.Applied.{IsApplied}
 use Rattle.linker_laws.specs.Schemes.{AreAddresses}
 use Rattle.linker_laws.specs.X86Machine.{State, load, step}
@@ -44,7 +44,7 @@ pub record IsBefore (n : ℕ) (section : List ℕ) (o : ℕ) (operands : Operand
 
 -- Where the GOT entry holds a number, an instruction does something, and does the same after the
 -- rewrite: both are as their relocations leave them.
-abbrev pub DoesTheSame : ℕ → List Original → X86_64Relocation → RelaxationKind
+abbrev pub DoesTheSame : ℕ → List Original → X86_64Relocation → RewriteKind
     → (Operands → ℕ) → Type 0
 DoesTheSame n instructions name kind held =
     IsSomeAnd (x86_64_relocation_after kind name) (λ after.
@@ -78,7 +78,7 @@ LoadsOfAddresses = EachPrefix IsLoad × IsLoad 3 names.R_X86_64_GOTPCREL
 
 -- ---- with an immediate in place of the GOT entry
 
-abbrev pub TakesImmediate : (ℕ → RelaxationKind) → Type 0
+abbrev pub TakesImmediate : (ℕ → RewriteKind) → Type 0
 TakesImmediate kind =
     EachPrefix (λ n name. DoesTheSame n (x86_64_originals (kind n)) name (kind n) address)
 
@@ -88,7 +88,7 @@ AbsoluteAddresses =
     × TakesImmediate kinds.RexMovIndirectToAbsolute
 
 -- by EVEX, with 6 bytes before the field
-abbrev pub TakesImmediateByEvex : (ℕ → RelaxationKind) → Type 0
+abbrev pub TakesImmediateByEvex : (ℕ → RewriteKind) → Type 0
 TakesImmediateByEvex kind =
     DoesTheSame 6 (x86_64_originals (kind 6)) names.R_X86_64_CODE_6_GOTPCRELX (kind 6) address
 
@@ -113,7 +113,7 @@ Operations =
 abbrev pub thread_offset : Operands → ℕ
 thread_offset o = difference_64 o.symbol o.tls_base
 
-abbrev pub TakesOffset : (ℕ → RelaxationKind) → Type 0
+abbrev pub TakesOffset : (ℕ → RewriteKind) → Type 0
 TakesOffset kind =
     DoesTheSame 3 (x86_64_originals (kind 3)) names.R_X86_64_GOTTPOFF (kind 3) thread_offset
     × DoesTheSame 4 (x86_64_originals (kind 4)) names.R_X86_64_CODE_4_GOTTPOFF (kind 4)

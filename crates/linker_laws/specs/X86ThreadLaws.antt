@@ -16,8 +16,8 @@ use Rattle.std.specs.Prelude.{IsFalse, [], ◌∷◌}
 use Rattle.linker_elf.specs.declared.elf.value.Operands.{Operands}
 use Rattle.linker_elf.specs.declared.x86_64.relocations.X86_64Relocation.TheVariants as names
 use Rattle.linker_elf.specs.declared.x86_64.relocations.X86_64Relocation.{X86_64Relocation}
-use Rattle.linker_utils.specs.declared.x86_64.rewrites.RelaxationKind.{RelaxationKind}
-use Rattle.linker_utils.specs.declared.x86_64.rewrites.RelaxationKind.TheVariants as kinds
+use Rattle.linker_utils.specs.declared.x86_64.rewrites.RewriteKind.{RewriteKind}
+use Rattle.linker_utils.specs.declared.x86_64.rewrites.RewriteKind.TheVariants as kinds
 use Rattle.linker_elf.specs.Applied.{IsApplied}
 use Rattle.linker_laws.specs.Schemes.{AreAddresses}
 use Rattle.linker_laws.specs.X86RewriteLaws.{IsBefore, IsRelocated, thread_offset}
@@ -74,7 +74,7 @@ EndAlike size count old new s changed returned Alike =
 -- A `lea` of the GOT entry's address into rdi, whose field is n bytes after its first, and a
 -- call of n bytes, which returns the symbol's address in this thread for the entry; and so
 -- many instructions, with a relocation.
-abbrev pub ReplacesCall : ℕ → ℕ → ℕ → RelaxationKind → X86_64Relocation → (Operands → Operands)
+abbrev pub ReplacesCall : ℕ → ℕ → ℕ → RewriteKind → X86_64Relocation → (Operands → Operands)
     → (Operands → State → Type 0) → Type 0
 ReplacesCall back size count kind after relocated Premise =
     (section old new : List ℕ) (o : ℕ) (operands : Operands) (s : State) (changed : ℕ → Bool)
@@ -142,7 +142,7 @@ pub record ReachTheSame (changed : ℕ → Bool) (image pointed : ℕ) (s t : St
 
 -- `lea x@tlsld(%rip), %rdi` and a call of n bytes, which returns the address of the module's
 -- block in this thread for the GOT entry; and n instructions, in which nothing is relocated
-abbrev pub ReplacesModuleCall : ℕ → ℕ → RelaxationKind → Type 0
+abbrev pub ReplacesModuleCall : ℕ → ℕ → RewriteKind → Type 0
 ReplacesModuleCall size count kind =
     (x86_64_relocation_after kind names.R_X86_64_TLSLD ≡ Some names.R_X86_64_NONE)
     × ((section old : List ℕ) (o : ℕ) (operands : Operands) (image pointed : ℕ) (s : State)
@@ -202,7 +202,7 @@ rex2_lea_rax = original 4 (byte 0xd5 ∷ byte 0x08 ∷ byte 0x8d ∷ byte 0x05 �
 
 -- That instruction, with `call *x@tlscall(%rax)`, which returns the symbol's offset from the thread
 -- pointer for the descriptor; and what rewrites leave of both, which writes no memory
-abbrev pub ReplacesDescriptor : Original → X86_64Relocation → RelaxationKind → X86_64Relocation
+abbrev pub ReplacesDescriptor : Original → X86_64Relocation → RewriteKind → X86_64Relocation
     → (Operands → Operands) → (Operands → State → Type 0) → Type 0
 ReplacesDescriptor lea_code name kind after relocated Premise =
     (section old new : List ℕ) (o : ℕ) (operands : Operands) (s : State) (changed : Changes)
@@ -279,7 +279,7 @@ abbrev pub also_register : ℕ → Changes → Changes
 also_register r c = record c { registers = also r c.registers }
 
 -- `lea x@tlsdesc(%rip), %reg`, with n bytes before the field, and what a rewrite leaves of it
-abbrev pub ReplacesLea : ℕ → X86_64Relocation → (List ℕ → ℕ) → RelaxationKind → X86_64Relocation
+abbrev pub ReplacesLea : ℕ → X86_64Relocation → (List ℕ → ℕ) → RewriteKind → X86_64Relocation
     → (Operands → Operands) → (Operands → State → Type 0) → Type 0
 ReplacesLea n name register_of kind after relocated Premise =
     (section old new : List ℕ) (o : ℕ) (operands : Operands) (s t : State) (c : Changes)

@@ -2,8 +2,8 @@
 use Rattle.linker_elf.specs.Ppc64Relocations.{ppc64_name, ppc64_row}
 use Rattle.linker_elf.specs.declared.ppc64.relocations.Ppc64Relocation.{Ppc64Relocation}
 use Rattle.linker_utils.specs.Ppc64Rewrites.{Ppc64Applies, ppc64_entries}
-use Rattle.linker_utils.specs.declared.ppc64.rewrites.RelaxationKind.TheVariants as of_ppc64
-use Rattle.linker_utils.specs.declared.ppc64.rewrites.RelaxationKind.{RelaxationKind as Ppc64Kind}
+use Rattle.linker_utils.specs.declared.ppc64.rewrites.RewriteKind.TheVariants as of_ppc64
+use Rattle.linker_utils.specs.declared.ppc64.rewrites.RewriteKind.{RewriteKind as Ppc64Kind}
 use Rattle.linker_reading.specs.Recognised.{Recogniser}
 use Rattle.linker_utils.specs.declared.architecture.Relaxation.TheVariants as relaxations
 

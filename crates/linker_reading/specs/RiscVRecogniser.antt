@@ -4,8 +4,8 @@ use Rattle.linker_elf.specs.declared.riscv64.relocations.RiscVRelocation.{RiscVR
 use Rattle.linker_reading.specs.Recognised.{Recogniser}
 use Rattle.linker_utils.specs.RiscVRewrites.{AppliesToRiscV, HasPattern}
 use Rattle.linker_utils.specs.RiscVRewrites.{riscv_entries, riscv_row_of}
-use Rattle.linker_utils.specs.declared.riscv64.rewrites.RelaxationKind.TheVariants as of_riscv
-use Rattle.linker_utils.specs.declared.riscv64.rewrites.RelaxationKind.{RelaxationKind as RiscVKind}
+use Rattle.linker_utils.specs.declared.riscv64.rewrites.RewriteKind.TheVariants as of_riscv
+use Rattle.linker_utils.specs.declared.riscv64.rewrites.RewriteKind.{RewriteKind as RiscVKind}
 use Rattle.linker_utils.specs.declared.architecture.Relaxation.TheVariants as relaxations
 
 abbrev pub riscv : Recogniser RiscVKind RiscVRelocation

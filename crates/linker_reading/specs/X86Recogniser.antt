@@ -7,8 +7,8 @@ use Rattle.linker_reading.specs.Recognised.{Recogniser}
 use Rattle.linker_utils.specs.declared.architecture.Relaxation.TheVariants as relaxations
 use Rattle.linker_utils.specs.X86Rewrites.{Table, HasPattern as IsAskedForByX86}
 use Rattle.linker_utils.specs.X86Rewrites.{opcode_at, x86_64_after, x86_64_table}
-use Rattle.linker_utils.specs.declared.x86_64.rewrites.RelaxationKind.TheVariants as of_x86_64
-use Rattle.linker_utils.specs.declared.x86_64.rewrites.RelaxationKind.{RelaxationKind as X86Kind}
+use Rattle.linker_utils.specs.declared.x86_64.rewrites.RewriteKind.TheVariants as of_x86_64
+use Rattle.linker_utils.specs.declared.x86_64.rewrites.RewriteKind.{RewriteKind as X86Kind}
 
 -- by the opcode before the offset
 abbrev pub x86_64_table_at : X86_64Relocation → List ℕ → ℕ → Table

@@ -11,7 +11,7 @@ use Rattle.linker_reading.specs.Recognised.{DiffersOnlyInFields}
 use Rattle.linker_reading.specs.declared.recognise.fields.FieldBits.{FieldBits}
 use Rattle.linker_utils.specs.declared.architecture.Relaxation.TheVariants.{X86_64}
 use Rattle.linker_utils.specs.X86Rewrites.{x86_64_rewrite}
-use Rattle.linker_utils.specs.declared.x86_64.rewrites.RelaxationKind.{RelaxationKind}
+use Rattle.linker_utils.specs.declared.x86_64.rewrites.RewriteKind.{RewriteKind}
 
 -- a write changes bits of the row's field only
 abbrev pub WritesField : RelocationKindInfo → Type 0
@@ -22,7 +22,7 @@ WritesField row =
 -- at the offset after it, the choice leaves these bytes, whatever else is ignored.
 abbrev pub X86WrittenIsLeft : Type 0
 X86WrittenIsLeft =
-    (c : Choice RelaxationKind X86_64Relocation) (row : RelocationKindInfo) (original : List ℕ)
+    (c : Choice RewriteKind X86_64Relocation) (row : RelocationKindInfo) (original : List ℕ)
     (o : ℕ) (v : ℤ) (written : List ℕ) (others : List FieldBits)
     → x86_64_row c.relocation ≡ Some row
     → CanRewrite (x86_64_rewrite c.kind) original o

@@ -3,7 +3,7 @@ use Rattle.std.proofs.Common.{◌≡◌, ℕ, ◌∙◌, ◌⊎◌, inl, inr, �
 use Rattle.std.specs.Prelude.{slice_get}
 use Rattle.std.proofs.lemmas.Bool.{and_parts, eqb-true, cases_Bool}
 use Rattle.linker_utils.specs.AArch64Rewrites.{IsAArch64Choice}
-use Rattle.linker_utils.specs.declared.aarch64.rewrites.RelaxationKind.TheVariants as aarch64_kinds
+use Rattle.linker_utils.specs.declared.aarch64.rewrites.RewriteKind.TheVariants as aarch64_kinds
 use Rattle.linker_elf.specs.AArch64Relocations.{aarch64_name}
 use Rattle.linker_elf.specs.Choices.{choice}
 use Rattle.linker_elf.specs.ElfNames.{IsNameOf, code_of}
@@ -15,7 +15,7 @@ use Rattle.linker_elf.specs.declared.elf.choice.LinkFacts.{LinkFacts}
 use Rattle.linker_elf.specs.declared.ppc64.relocations.Ppc64Relocation.{Ppc64Relocation}
 use Rattle.linker_elf.specs.declared.ppc64.relocations.Ppc64Relocation.TheVariants as ppc64
 use Rattle.linker_utils.specs.Ppc64Rewrites.{IsPpc64Choice}
-use Rattle.linker_utils.specs.declared.ppc64.rewrites.RelaxationKind.TheVariants as ppc64_kinds
+use Rattle.linker_utils.specs.declared.ppc64.rewrites.RewriteKind.TheVariants as ppc64_kinds
 use Rattle.linker_rewriting.specs.Candidates.{IsCandidateWith}
 use Rattle.linker_rewriting.specs.Decisions.{IsDecidedAlone}
 use Rattle.linker_rewriting.specs.Facts.{RelaxContext, context, facts_of, facts_by}

@@ -14,7 +14,7 @@ use Rattle.linker_elf.specs.declared.riscv64.relocations.RiscVRelocation.TheVari
 use Rattle.linker_riscv64.specs.RiscVCalls.{word_at}
 use Rattle.linker_riscv64.specs.RiscVFields.{opcode_of, funct3_of, rd_of, rs1_of, stores_base}
 use Rattle.linker_utils.specs.RiscVRewrites.{adds_low12, rewrites_word, with_rs1}
-use Rattle.linker_utils.specs.declared.riscv64.rewrites.RelaxationKind.TheVariants as kinds
+use Rattle.linker_utils.specs.declared.riscv64.rewrites.RewriteKind.TheVariants as kinds
 use Rattle.linker_rewriting.specs.Decisions.{IsFirstCovered}
 use Rattle.linker_rewriting.specs.Decisions.{decision_at, deletions_by}
 use Rattle.linker_rewriting.specs.Facts.{RelaxContext, address_in}

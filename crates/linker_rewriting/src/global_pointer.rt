@@ -49,7 +49,7 @@ use linker_section::relocations::{Rela, is_ascending, relocations_len};
 use linker_utils::architecture::Relaxation;
 use linker_utils::elf::{Architecture, Choice};
 use linker_utils::riscv64::fields::{base, destination, opcode, stores_base, word_at};
-use linker_utils::riscv64::{RelaxationKind, RiscVRelocation};
+use linker_utils::riscv64::{RewriteKind, RiscVRelocation};
 use linker_utils::utils::u32_from_slice;
 
 /// What the instruction of a relocation is of an address.
@@ -262,7 +262,7 @@ fn adds_low(section: &[u8], offset: u64) -> bool
     ensures { result ≡ adds_low12 (opcode_of (word_at section.now offset))
         (funct3_of (word_at section.now offset)) }
 {
-    RelaxationKind::Lo12Rs1ToZero.matches(section, offset)
+    RewriteKind::Lo12Rs1ToZero.matches(section, offset)
 }
 
 /// Whether an instruction adds 12 bits to another register than x0, doesn't store what that holds,
@@ -498,12 +498,12 @@ fn part_decision(part: Part, subject: &Rela) -> Decision
 {
     match part {
         Part::High(_) => Decision::Rewritten(Choice {
-            kind: Relaxation::RiscV(RelaxationKind::Delete),
+            kind: Relaxation::RiscV(RewriteKind::Delete),
             relocation: 0,
         }),
         Part::Low(relocation) | Part::Labelled(relocation) => Decision::RewrittenWithSymbol(
             Choice {
-                kind: Relaxation::RiscV(RelaxationKind::NoOp),
+                kind: Relaxation::RiscV(RewriteKind::NoOp),
                 relocation,
             },
             subject_of(subject),

@@ -104,7 +104,7 @@ impl AsCall for (u64, u64) {
 /// bits 7 to 11.
 #[derive(Debug, Clone, Copy, PartialEq, Eq)]
 pub enum LinkRegister {
-    /// The register of the `auipc`, as `RelaxationKind::CallToJal` takes it. The call itself links
+    /// The register of the `auipc`, as `RewriteKind::CallToJal` takes it. The call itself links
     /// it only where `is_plain_call` holds.
     OfAuipc,
     /// The register of the `jalr`, which is the one that the call links and that linkers take:

@@ -18,7 +18,7 @@ use crate::items::{
 };
 use crate::relaxation::{Alignment, Item, Shapes, Site};
 use crate::shapes::loongarch64::{CALL36, PCALA};
-use linker_utils::loongarch64::{LoongArch64Relocation, RelaxationKind};
+use linker_utils::loongarch64::{LoongArch64Relocation, RewriteKind};
 
 /// Whether a relocation has a name.
 #[inline(always)]
@@ -128,8 +128,7 @@ fn is_relaxable<R: AsRelocation>(
 pub(crate) fn is_call(section: &[u8], offset: u64) -> bool
     ensures { IsTrue result ↔ IsCall36At section.now offset }
 {
-    RelaxationKind::CallToBl.matches(section, offset)
-        || RelaxationKind::CallToB.matches(section, offset)
+    RewriteKind::CallToBl.matches(section, offset) || RewriteKind::CallToB.matches(section, offset)
 }
 
 /// Whether a pair that can become `pcaddi` is at an offset: `pcalau12i` and
@@ -138,8 +137,8 @@ pub(crate) fn is_call(section: &[u8], offset: u64) -> bool
 pub(crate) fn is_address(section: &[u8], offset: u64) -> bool
     ensures { IsTrue result ↔ IsPcalaAt section.now offset }
 {
-    RelaxationKind::PcalaToPcaddi.matches(section, offset)
-        && RelaxationKind::AddiToLd.matches(section, offset + 4)
+    RewriteKind::PcalaToPcaddi.matches(section, offset)
+        && RewriteKind::AddiToLd.matches(section, offset + 4)
 }
 
 /// Whether such a call is at a relocation.

@@ -8,7 +8,7 @@ use Rattle.linker_elf.specs.AArch64Relocations.{aarch64_row}
 use Rattle.linker_elf.specs.Choices.{AllHold, IsFirst, entry, choice, RowReaches, facts_on}
 use Rattle.linker_elf.specs.declared.aarch64.relocations.AArch64Relocation.{AArch64Relocation}
 use Rattle.linker_elf.specs.declared.aarch64.relocations.AArch64Relocation.TheVariants as r
-use Rattle.linker_utils.specs.declared.aarch64.rewrites.RelaxationKind.TheVariants.{NoOp, MovzX0Lsl16, MovkX0, MovzXnLsl16, MovkXn, AdrpX0, LdrX0, LdrToAdd}
+use Rattle.linker_utils.specs.declared.aarch64.rewrites.RewriteKind.TheVariants.{NoOp, MovzX0Lsl16, MovkX0, MovzXnLsl16, MovkXn, AdrpX0, LdrX0, LdrToAdd}
 use Rattle.linker_elf.specs.declared.elf.choice.LinkFacts.{LinkFacts}
 use Rattle.linker_utils.proofs.AArch64Choices.{load_matches_add, adrp_matches, ldr_matches, nop_matches}
 use Rattle.linker_elf.proofs.Choices.{same_reach}

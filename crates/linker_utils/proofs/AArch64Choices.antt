@@ -12,8 +12,8 @@ use Rattle.linker_elf.proofs.ChoiceTables.{holds_of_first}
 use Rattle.linker_elf.specs.declared.aarch64.relocations.AArch64Relocation.{AArch64Relocation}
 use Rattle.linker_elf.specs.declared.elf.choice.LinkFacts.{LinkFacts}
 use Rattle.linker_elf.specs.declared.elf.value.Operands.{Operands}
-use Rattle.linker_utils.specs.declared.aarch64.rewrites.RelaxationKind.{RelaxationKind}
-use Rattle.linker_utils.specs.declared.aarch64.rewrites.RelaxationKind.TheVariants.{NoOp, ReplaceWithNop, MovzX0Lsl16, MovkX0, MovzXnLsl16, MovkXn, AdrpToAdr, AdrpX0, LdrX0, AddToAdr, LdrToAdr, LdrToAdd, AdrpAddToNopAdr}
+use Rattle.linker_utils.specs.declared.aarch64.rewrites.RewriteKind.{RewriteKind}
+use Rattle.linker_utils.specs.declared.aarch64.rewrites.RewriteKind.TheVariants.{NoOp, ReplaceWithNop, MovzX0Lsl16, MovkX0, MovzXnLsl16, MovkXn, AdrpToAdr, AdrpX0, LdrX0, AddToAdr, LdrToAdr, LdrToAdd, AdrpAddToNopAdr}
 
 -- ---- what a name requires is what its rewrites are meant for
 
@@ -22,7 +22,7 @@ load_matches_add s o h = (h.1.1.0, (h.1.1.1.0, h.1.1.1.1.into_own_source.not_31)
 
 -- ---- no rewrite moves the place or changes the addend
 
-same_offset : (kind : RelaxationKind) (o : ℕ) → offset_after (aarch64_rewrite kind) o ≡ o
+same_offset : (kind : RewriteKind) (o : ℕ) → offset_after (aarch64_rewrite kind) o ≡ o
 same_offset NoOp o = refl
 same_offset ReplaceWithNop o = refl
 same_offset MovzX0Lsl16 o = refl
@@ -37,7 +37,7 @@ same_offset LdrToAdr o = refl
 same_offset LdrToAdd o = refl
 same_offset AdrpAddToNopAdr o = refl
 
-same_addend : (kind : RelaxationKind) (a : ℤ) → addend_after (aarch64_rewrite kind) a ≡ a
+same_addend : (kind : RewriteKind) (a : ℤ) → addend_after (aarch64_rewrite kind) a ≡ a
 same_addend NoOp a = refl
 same_addend ReplaceWithNop a = refl
 same_addend MovzX0Lsl16 a = refl
@@ -56,7 +56,7 @@ same_place : (p o q : ℕ) → p < 2 ^ 64 → o < 2 ^ 64 → q ≡ o
     → ((p + q) % 2 ^ 64 + (2 ^ 64 - o)) % 2 ^ 64 ≡ p
 same_place p o q p_fits fits e = omega arith
 
-pub same_operands : (kind : RelaxationKind) (o : ℕ) (operands : Operands) → operands.place < 2 ^ 64
+pub same_operands : (kind : RewriteKind) (o : ℕ) (operands : Operands) → operands.place < 2 ^ 64
     → o < 2 ^ 64 → operands_after (aarch64_rewrite kind) o operands ≡ operands
 same_operands kind o operands place_fits fits =
     ap (λ a. record operands {
@@ -97,7 +97,7 @@ chosen_matches name section o facts c =
     holds_of_first (AArch64Applies name section o facts) (λ x. aarch64_matches x.kind section o) (aarch64_entries name) (choice NoOp name) c
     (λ e a. a.0.0) tt
 
-can_rewrite : (kind : RelaxationKind) (section : List ℕ) (o : ℕ) → aarch64_matches kind section o
+can_rewrite : (kind : RewriteKind) (section : List ℕ) (o : ℕ) → aarch64_matches kind section o
     → CanRewrite (aarch64_rewrite kind) section o
 can_rewrite NoOp section o matches = tt
 can_rewrite kind section o matches = search rules

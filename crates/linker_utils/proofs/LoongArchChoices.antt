@@ -10,10 +10,10 @@ use Rattle.linker_elf.specs.declared.loongarch64.relocations.LoongArch64Relocati
 use Rattle.linker_utils.specs.LoongArchRewrites.{LoongArchChoice, LoongArchEntry, LoongArchApplies, IsLoongArchChoice, loongarch_entries, HasPattern, IsAfter, IsSingle, IsLowOfDescriptor}
 use Rattle.linker_utils.specs.LoongArchRewrites.{loongarch_matches, IsPair, IsAddi, IsLd, IsIntoOwnSource, word_at}
 use Rattle.linker_utils.specs.LoongArchRewrites.{loongarch_rewrite}
-use Rattle.linker_utils.specs.declared.loongarch64.rewrites.RelaxationKind.{RelaxationKind}
-use Rattle.linker_utils.specs.declared.loongarch64.rewrites.RelaxationKind.TheVariants as kinds
+use Rattle.linker_utils.specs.declared.loongarch64.rewrites.RewriteKind.{RewriteKind}
+use Rattle.linker_utils.specs.declared.loongarch64.rewrites.RewriteKind.TheVariants as kinds
 
-pub same_pattern : (name known : LoongArch64Relocation) (kind : RelaxationKind) → name ≡ known → (s : List ℕ) (o : ℕ)
+pub same_pattern : (name known : LoongArch64Relocation) (kind : RewriteKind) → name ≡ known → (s : List ℕ) (o : ℕ)
     → HasPattern known kind s o ↔ HasPattern name kind s o
 same_pattern name known kind e s o =
     subst (λ x. HasPattern known kind s o ↔ HasPattern x kind s o) (sym e) (λ h. h, λ h. h)
@@ -75,7 +75,7 @@ first_meant name s o facts (e ∷ es) otherwise c each last (inr h) = first_mean
 
 -- ---- the choice
 
-can_rewrite : (kind : RelaxationKind) (s : List ℕ) (o : ℕ) → loongarch_matches kind s o → CanRewrite (loongarch_rewrite kind) s o
+can_rewrite : (kind : RewriteKind) (s : List ℕ) (o : ℕ) → loongarch_matches kind s o → CanRewrite (loongarch_rewrite kind) s o
 can_rewrite kinds.NoOp s o matches = tt
 can_rewrite kind s o matches = search rules
 

@@ -10,11 +10,11 @@ use Rattle.linker_utils.specs.Ppc64Rewrites.{ppc64_entries, Ppc64Choice, Ppc64Ap
 use Rattle.linker_elf.specs.declared.elf.choice.LinkFacts.{LinkFacts}
 use Rattle.linker_elf.specs.declared.ppc64.relocations.Ppc64Relocation.{Ppc64Relocation}
 use Rattle.linker_elf.specs.declared.ppc64.relocations.Ppc64Relocation.TheVariants as r
-use Rattle.linker_utils.specs.declared.ppc64.rewrites.RelaxationKind.{RelaxationKind}
-use Rattle.linker_utils.specs.declared.ppc64.rewrites.RelaxationKind.TheVariants as kinds
+use Rattle.linker_utils.specs.declared.ppc64.rewrites.RewriteKind.{RewriteKind}
+use Rattle.linker_utils.specs.declared.ppc64.rewrites.RewriteKind.TheVariants as kinds
 
 abbrev Ppc64Entry : Type 0
-Ppc64Entry = Entry RelaxationKind Ppc64Relocation
+Ppc64Entry = Entry RewriteKind Ppc64Relocation
 
 abbrev applies : List ℕ → ℕ → LinkFacts → Ppc64Entry → Type 0
 applies = Ppc64Applies

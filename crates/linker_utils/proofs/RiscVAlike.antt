@@ -3,9 +3,9 @@ use Rattle.std.proofs.Common.{◌≡◌, ◌↔◌, inl, inr, ℕ, List, [], ◌
 use Rattle.linker_elf.specs.Choices.{AllHold, IsFirst, entry, choice, facts_on}
 use Rattle.linker_utils.specs.RiscVRewrites.{RiscVEntry, RiscVChoice, AppliesToRiscV, HasPattern, riscv_row_of, riscv_entries, start_of_descriptor, to_local_exec, to_short_local_exec, IsAmong, AreChosenAlike, deleted, nop, from_zero, from_high, from_got, DescriptorIsChosenAlike, GotPairIsChosenAlike, AbsoluteIsChosenAlike, ThreadOffsetIsChosenAlike}
 use Rattle.linker_elf.specs.declared.riscv64.relocations.RiscVRelocation.TheVariants as r
-use Rattle.linker_utils.specs.declared.riscv64.rewrites.RelaxationKind.TheVariants as kinds
+use Rattle.linker_utils.specs.declared.riscv64.rewrites.RewriteKind.TheVariants as kinds
 use Rattle.linker_elf.specs.declared.elf.choice.LinkFacts.{LinkFacts}
-use Rattle.linker_utils.specs.declared.riscv64.rewrites.RelaxationKind.{RelaxationKind}
+use Rattle.linker_utils.specs.declared.riscv64.rewrites.RewriteKind.{RewriteKind}
 use Rattle.linker_elf.specs.declared.riscv64.relocations.RiscVRelocation.{RiscVRelocation}
 
 abbrev two : RiscVChoice → RiscVChoice → RiscVChoice × RiscVChoice
@@ -18,8 +18,8 @@ abbrev holds : LinkFacts → RiscVEntry → Type 0
 holds facts e = AllHold riscv_row_of facts.operands facts e.conditions
 
 -- where the instruction is there, only the conditions count
-by_conditions : (Asked : RelaxationKind → List ℕ → ℕ → Type 0) (s : List ℕ) (o : ℕ) (facts : LinkFacts) (es : List RiscVEntry) (m a : RiscVChoice)
-    → ((kind : RelaxationKind) → Asked kind s o)
+by_conditions : (Asked : RewriteKind → List ℕ → ℕ → Type 0) (s : List ℕ) (o : ℕ) (facts : LinkFacts) (es : List RiscVEntry) (m a : RiscVChoice)
+    → ((kind : RewriteKind) → Asked kind s o)
     → IsFirst (AppliesToRiscV Asked s o facts) es m a → IsFirst (holds facts) es m a
 by_conditions Asked s o facts [] m a pattern e = e
 by_conditions Asked s o facts (e ∷ es) m a pattern (inl h) = inl (h.0.1, h.1)

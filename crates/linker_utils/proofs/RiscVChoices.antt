@@ -11,8 +11,8 @@ use Rattle.linker_elf.specs.declared.riscv64.relocations.RiscVRelocation.TheVari
 use Rattle.linker_utils.specs.RiscVRewrites.{RiscVEntry, RiscVChoice, AppliesToRiscV, HasPattern, IsRiscVChoice, riscv_entries}
 use Rattle.linker_utils.specs.RiscVRewrites.{riscv_matches}
 use Rattle.linker_utils.specs.RiscVRewrites.{riscv_rewrite, FitsClui}
-use Rattle.linker_utils.specs.declared.riscv64.rewrites.RelaxationKind.{RelaxationKind}
-use Rattle.linker_utils.specs.declared.riscv64.rewrites.RelaxationKind.TheVariants as kinds
+use Rattle.linker_utils.specs.declared.riscv64.rewrites.RewriteKind.{RewriteKind}
+use Rattle.linker_utils.specs.declared.riscv64.rewrites.RewriteKind.TheVariants as kinds
 
 -- ---- the code's table
 
@@ -58,7 +58,7 @@ chosen_matches name section o facts c =
     of_chosen (AppliesToRiscV (HasPattern name) section o facts) (λ x. riscv_matches x.kind section o) (riscv_entries name) (choice kinds.NoOp name) c
     (each_matches name section o facts) tt
 
-can_rewrite : (kind : RelaxationKind) (section : List ℕ) (o : ℕ) → riscv_matches kind section o
+can_rewrite : (kind : RewriteKind) (section : List ℕ) (o : ℕ) → riscv_matches kind section o
     → CanRewrite (riscv_rewrite kind) section o
 can_rewrite kinds.NoOp section o matches = tt
 can_rewrite kind section o matches = search rules

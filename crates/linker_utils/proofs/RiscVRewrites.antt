@@ -12,7 +12,7 @@ use Rattle.linker_base.specs.Form.{place_sum}
 use Rattle.linker_base.specs.Rewrite.{Rewrite, rewritten}
 use Rattle.linker_elf.specs.RiscV.{riscv_places, IsPairRange}
 use Rattle.linker_utils.specs.RiscVRewrites.{riscv_rewrite, call_to_jal, hi20_to_clui, rs1_to_zero, FitsClui, HoldsHigh}
-use Rattle.linker_utils.specs.declared.riscv64.rewrites.RelaxationKind.{RelaxationKind}
+use Rattle.linker_utils.specs.declared.riscv64.rewrites.RewriteKind.{RewriteKind}
 use Rattle.linker_elf.specs.declared.riscv64.forms.RiscVInstruction.TheVariants.{UType, CluiType}
 use Rattle.linker_riscv64.proofs.Jumps.{jal_of, word_of_front}
 use Rattle.linker_base.proofs.Bits.{cast_negative}
@@ -39,7 +39,7 @@ call_made s ys o x e y =
     y ∙ ap (to_le_bytes w32) (jal_code x ∙ ap (λ w. 0x6f + field w 7 12 * 128) word)
 
 -- the rewrite of a kind that is known
-pub rewritten_as : (kind known : RelaxationKind) (r : Rewrite) (s after : List ℕ) (o : ℕ) → kind ≡ known → riscv_rewrite known ≡ Some r → after ≡ rewritten (Some r) s o → after ≡ rewritten (riscv_rewrite kind) s o
+pub rewritten_as : (kind known : RewriteKind) (r : Rewrite) (s after : List ℕ) (o : ℕ) → kind ≡ known → riscv_rewrite known ≡ Some r → after ≡ rewritten (Some r) s o → after ≡ rewritten (riscv_rewrite kind) s o
 rewritten_as kind known r s after o e k h = h ∙ ap (λ t. rewritten t s o) (sym k ∙ ap riscv_rewrite (sym e))
 
 -- ---- the bytes

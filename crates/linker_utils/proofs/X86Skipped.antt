@@ -1,7 +1,7 @@
 -- Each sequence has the field of its call where the rewrite says.
 use Rattle.std.proofs.Common.{[], ◌∷◌, ◌++◌, refl}
 use Rattle.linker_utils.specs.X86Rewrites.{HaveFieldAt, general_dynamic, large, byte, field4, x86_64_originals}
-use Rattle.linker_utils.specs.declared.x86_64.rewrites.RelaxationKind.TheVariants as kinds
+use Rattle.linker_utils.specs.declared.x86_64.rewrites.RewriteKind.TheVariants as kinds
 
 pub of_general_dynamic : HaveFieldAt 8 general_dynamic
 of_general_dynamic = ((0xe8, [], refl), ((0x15, [], refl), tt))

@@ -11,7 +11,7 @@ use Rattle.linker_base.specs.declared.relaxation.RelocationModifier.{RelocationM
 use Rattle.linker_base.specs.declared.relaxation.RelocationModifier.TheVariants.{Normal}
 use Rattle.linker_elf.specs.declared.aarch64.relocations.AArch64Relocation.{AArch64Relocation}
 use Rattle.linker_elf.specs.declared.elf.choice.OtherRelocation.{OtherRelocation}
-use Rattle.linker_utils.specs.declared.aarch64.rewrites.RelaxationKind.{RelaxationKind}
+use Rattle.linker_utils.specs.declared.aarch64.rewrites.RewriteKind.{RewriteKind}
 use Rattle.linker_elf.specs.Originals.{HasWord}
 use Rattle.linker_elf.specs.AArch64Relocations.{aarch64_row}
 use Rattle.linker_elf.specs.Choices.{Condition, bound, weak_zero, fixed_distance, executable}
@@ -20,7 +20,7 @@ use Rattle.linker_elf.specs.Choices.{IsFirst, facts_on, group_fits}
 use Rattle.linker_elf.specs.declared.elf.choice.Choice.{Choice}
 use Rattle.linker_elf.specs.declared.elf.choice.LinkFacts.{LinkFacts}
 use Rattle.linker_elf.specs.declared.aarch64.relocations.AArch64Relocation.TheVariants as r
-use Rattle.linker_utils.specs.declared.aarch64.rewrites.RelaxationKind.TheVariants as kinds
+use Rattle.linker_utils.specs.declared.aarch64.rewrites.RewriteKind.TheVariants as kinds
 
 -- the destination register
 abbrev pub rd_of : ℕ → ℕ
@@ -56,7 +56,7 @@ is_ldr64 word = word / 2 ^ 22 == 0x3e5
 abbrev pub nop_adr : List ℕ → List ℕ
 nop_adr window = to_le_bytes w64 (nop + (0x10000000 + rd_of (from_le_bytes w32 window)) * 2 ^ 32)
 
-abbrev pub aarch64_rewrite : RelaxationKind → Option Rewrite
+abbrev pub aarch64_rewrite : RewriteKind → Option Rewrite
 aarch64_rewrite kinds.NoOp = None
 aarch64_rewrite kinds.ReplaceWithNop = Some (rewrites_word (λ _. nop))
 aarch64_rewrite kinds.MovzX0Lsl16 = Some (rewrites_word (λ _. 0xd2a00000))
@@ -73,12 +73,12 @@ aarch64_rewrite kinds.LdrToAdd =
     Some (rewrites_where is_ldr64 (λ word. 0x91000000 + field word 0 21))
 aarch64_rewrite kinds.AdrpAddToNopAdr = Some (replaces 4 8 nop_adr)
 
-abbrev pub aarch64_modifier : RelaxationKind → RelocationModifier
+abbrev pub aarch64_modifier : RewriteKind → RelocationModifier
 aarch64_modifier kind = Normal
 
 -- the relocation of another instruction that a rewrite changes too: of the `adrp`, 4 bytes before,
 -- that becomes `nop`
-abbrev pub aarch64_other : RelaxationKind → Option (OtherRelocation AArch64Relocation)
+abbrev pub aarch64_other : RewriteKind → Option (OtherRelocation AArch64Relocation)
 aarch64_other kinds.AdrpAddToNopAdr =
     Some record { offset = negsuc 3; relocation = r.R_AARCH64_NONE }
 aarch64_other kind = None
@@ -92,7 +92,7 @@ AreChanged (Some rewrite) (Some other) =
     (rewrite.back ≡ 4) × (rewrite.len ≡ 8) × (other.offset ≡ neg_ℤ (pos rewrite.back))
 
 -- the rewrites by their numbers from 0 up
-abbrev pub aarch64_rewrites : List RelaxationKind
+abbrev pub aarch64_rewrites : List RewriteKind
 aarch64_rewrites =
     kinds.NoOp ∷ kinds.ReplaceWithNop ∷ kinds.MovzX0Lsl16 ∷
     kinds.MovkX0 ∷ kinds.MovzXnLsl16 ∷ kinds.MovkXn ∷
@@ -184,7 +184,7 @@ IsAdrpPair section o = FollowsAdrp (λ word. IsAdd64 word ⊎ IsLdr64 word) sect
 -- What a rewrite is meant for is at an offset of the section. MOVZ and MOVK of x0, `adrp x0` and
 -- `ldr x0` take the place of the `adrp x0` and the `ldr xD, [x0]` of a TLS descriptor; MOVZ and
 -- MOVK of xN that of the `adrp xN` and the `ldr xN, [xN]` of initial-exec.
-abbrev pub aarch64_matches : RelaxationKind → List ℕ → ℕ → Type 0
+abbrev pub aarch64_matches : RewriteKind → List ℕ → ℕ → Type 0
 aarch64_matches kinds.NoOp section o = ⊤
 aarch64_matches kinds.ReplaceWithNop section o = HasWord section o (λ _. ⊤)
 aarch64_matches kinds.MovzX0Lsl16 section o =
@@ -287,10 +287,10 @@ to_initial_exec back =
     executable ∷ in_reach_if_known r.R_AARCH64_TLSIE_ADR_GOTTPREL_PAGE21 back ∷ []
 
 abbrev pub AArch64Entry : Type 0
-AArch64Entry = Entry RelaxationKind AArch64Relocation
+AArch64Entry = Entry RewriteKind AArch64Relocation
 
 abbrev pub AArch64Choice : Type 0
-AArch64Choice = Choice RelaxationKind AArch64Relocation
+AArch64Choice = Choice RewriteKind AArch64Relocation
 
 -- a choice for local-exec, and one for initial-exec
 abbrev pub descriptor_entries : ℕ → AArch64Choice → AArch64Choice → List AArch64Entry

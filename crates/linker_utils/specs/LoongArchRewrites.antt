@@ -9,7 +9,7 @@ use Rattle.linker_base.specs.Bits.{field}
 use Rattle.linker_base.specs.Rewrite.{Rewrite, replaces}
 use Rattle.linker_base.specs.declared.relaxation.RelocationModifier.{RelocationModifier}
 use Rattle.linker_base.specs.declared.relaxation.RelocationModifier.TheVariants.{Normal}
-use Rattle.linker_utils.specs.declared.loongarch64.rewrites.RelaxationKind.{RelaxationKind}
+use Rattle.linker_utils.specs.declared.loongarch64.rewrites.RewriteKind.{RewriteKind}
 use Rattle.linker_base.specs.declared.rewrite.DeletedBytes.{DeletedBytes}
 use Rattle.linker_elf.specs.Originals.{HasWord}
 use Rattle.linker_elf.specs.Choices.{facts_on, Condition, bound, fixed_distance, executable, marked}
@@ -20,7 +20,7 @@ use Rattle.linker_elf.specs.declared.elf.choice.Choice.{Choice}
 use Rattle.linker_elf.specs.declared.elf.choice.LinkFacts.{LinkFacts}
 use Rattle.linker_elf.specs.declared.loongarch64.relocations.LoongArch64Relocation.{LoongArch64Relocation}
 use Rattle.linker_elf.specs.declared.loongarch64.relocations.LoongArch64Relocation.TheVariants as r
-use Rattle.linker_utils.specs.declared.loongarch64.rewrites.RelaxationKind.TheVariants as kinds
+use Rattle.linker_utils.specs.declared.loongarch64.rewrites.RewriteKind.TheVariants as kinds
 
 -- ---- fields
 
@@ -42,7 +42,7 @@ tp = 2
 abbrev pub rewrites_word : (ℕ → ℕ) → Rewrite
 rewrites_word new = replaces 0 4 (λ window. to_le_bytes w32 (new (from_le_bytes w32 window)))
 
-abbrev pub loongarch_rewrite : RelaxationKind → Option Rewrite
+abbrev pub loongarch_rewrite : RewriteKind → Option Rewrite
 loongarch_rewrite kinds.NoOp = None
 -- `andi zero, zero, 0`
 loongarch_rewrite kinds.ReplaceWithNop = Some (rewrites_word (λ _. 0x03400000))
@@ -64,14 +64,14 @@ loongarch_rewrite kinds.BaseToTp =
 loongarch_rewrite kinds.Delete = None
 loongarch_rewrite kinds.DeleteAddi = None
 
-abbrev pub loongarch_modifier : RelaxationKind → RelocationModifier
+abbrev pub loongarch_modifier : RewriteKind → RelocationModifier
 loongarch_modifier kind = Normal
 
 abbrev pub deleted_from : ℕ → ℕ → Option DeletedBytes
 deleted_from start count = Some record { start = start; count = count }
 
 -- what is deleted after a rewrite: the `jirl` of a call, and the instruction
-abbrev pub loongarch_deleted : RelaxationKind → Option DeletedBytes
+abbrev pub loongarch_deleted : RewriteKind → Option DeletedBytes
 loongarch_deleted kinds.CallToBl = deleted_from 4 4
 loongarch_deleted kinds.CallToB = deleted_from 4 4
 loongarch_deleted kinds.Delete = deleted_from 0 4
@@ -79,7 +79,7 @@ loongarch_deleted kinds.DeleteAddi = deleted_from 0 4
 loongarch_deleted kind = None
 
 -- the rewrites by their numbers from 0 up
-abbrev pub loongarch64_rewrites : List RelaxationKind
+abbrev pub loongarch64_rewrites : List RewriteKind
 loongarch64_rewrites =
     kinds.NoOp ∷ kinds.ReplaceWithNop ∷ kinds.LdToAddi ∷ kinds.AddiToLd ∷ kinds.PcalaToPcaddi ∷
     kinds.CallToBl ∷ kinds.CallToB ∷ kinds.PcalaToLu12i ∷ kinds.LowToOri ∷ kinds.LowToOriZero ∷
@@ -172,7 +172,7 @@ pub record IsCall (link : ℕ) (section : List ℕ) (o : ℕ) : Type 0 where
 
 -- ---- what a rewrite is meant for is at an offset of the section
 
-abbrev pub loongarch_matches : RelaxationKind → List ℕ → ℕ → Type 0
+abbrev pub loongarch_matches : RewriteKind → List ℕ → ℕ → Type 0
 loongarch_matches kinds.NoOp section o = ⊤
 loongarch_matches kinds.ReplaceWithNop section o = HasWord section o (λ _. ⊤)
 loongarch_matches kinds.LdToAddi section o =
@@ -220,7 +220,7 @@ IsSingle P section o = HasWord section o P
 abbrev pub IsAfter : ℕ → (List ℕ → ℕ → Type 0) → List ℕ → ℕ → Type 0
 IsAfter back P section o = (back ≤ o) × P section (o - back)
 
-abbrev pub HasPattern : LoongArch64Relocation → RelaxationKind → List ℕ → ℕ → Type 0
+abbrev pub HasPattern : LoongArch64Relocation → RewriteKind → List ℕ → ℕ → Type 0
 HasPattern r.R_LARCH_GOT_PC_HI20 kind = IsPair IsLd
 HasPattern r.R_LARCH_GOT_PC_LO12 kinds.DeleteAddi = IsAfter 4 (IsPair IsAddi)
 HasPattern r.R_LARCH_GOT_PC_LO12 kind = IsAfter 4 (IsPair IsLd)
@@ -306,10 +306,10 @@ abbrev pub by_low_part : Conditions
 by_low_part = marked ∷ within r.R_LARCH_TLS_LE_LO12_R signed_12 0 ∷ []
 
 abbrev pub LoongArchEntry : Type 0
-LoongArchEntry = Entry RelaxationKind LoongArch64Relocation
+LoongArchEntry = Entry RewriteKind LoongArch64Relocation
 
 abbrev pub LoongArchChoice : Type 0
-LoongArchChoice = Choice RelaxationKind LoongArch64Relocation
+LoongArchChoice = Choice RewriteKind LoongArch64Relocation
 
 abbrev pub loongarch_entries : LoongArch64Relocation → List LoongArchEntry
 loongarch_entries r.R_LARCH_GOT_PC_HI20 =

@@ -10,7 +10,7 @@ use Rattle.linker_base.specs.Rewrite.{Rewrite, replaces}
 use Rattle.linker_base.specs.declared.relaxation.RelocationModifier.{RelocationModifier}
 use Rattle.linker_base.specs.declared.relaxation.RelocationModifier.TheVariants.{Normal}
 use Rattle.linker_base.specs.declared.relaxation.RelocationModifier.TheVariants.{SkipNextRelocation}
-use Rattle.linker_utils.specs.declared.ppc64.rewrites.RelaxationKind.{RelaxationKind}
+use Rattle.linker_utils.specs.declared.ppc64.rewrites.RewriteKind.{RewriteKind}
 use Rattle.linker_elf.specs.Originals.{HasWord}
 use Rattle.linker_elf.specs.Choices.{Condition, bound, fixed_distance, executable, private_base}
 use Rattle.linker_elf.specs.Choices.{fixed_address, addend, marked}
@@ -20,7 +20,7 @@ use Rattle.linker_elf.specs.Ppc64Relocations.{ppc64_row}
 use Rattle.linker_elf.specs.declared.elf.choice.Choice.{Choice}
 use Rattle.linker_elf.specs.declared.elf.choice.LinkFacts.{LinkFacts}
 use Rattle.linker_elf.specs.declared.ppc64.relocations.Ppc64Relocation.{Ppc64Relocation}
-use Rattle.linker_utils.specs.declared.ppc64.rewrites.RelaxationKind.TheVariants as kinds
+use Rattle.linker_utils.specs.declared.ppc64.rewrites.RewriteKind.TheVariants as kinds
 use Rattle.linker_elf.specs.declared.ppc64.relocations.Ppc64Relocation.TheVariants as r
 
 -- ---- the parts of an instruction
@@ -148,7 +148,7 @@ pld window = two_words 0x04100000 (ld_of (prefixed_rt window))
 abbrev pub restores_toc : List ℕ → List ℕ
 restores_toc window = two_words (from_le_bytes w32 window) 0xe8410018
 
-abbrev pub ppc64_rewrite : RelaxationKind → Option Rewrite
+abbrev pub ppc64_rewrite : RewriteKind → Option Rewrite
 ppc64_rewrite kinds.NoOp = None
 ppc64_rewrite kinds.AddisToNop = Some (rewrites_word (λ _. nop))
 ppc64_rewrite kinds.BaseToToc = Some (rewrites_word (over_base 2))
@@ -179,7 +179,7 @@ ppc64_rewrite kinds.BranchToNop = Some (rewrites_word (λ _. nop))
 ppc64_rewrite kinds.BranchToAdd = Some (rewrites_word (λ _. 0x7c636a14))
 
 -- The relocation of the call itself is skipped where the call is gone.
-abbrev pub ppc64_modifier : RelaxationKind → RelocationModifier
+abbrev pub ppc64_modifier : RewriteKind → RelocationModifier
 ppc64_modifier kinds.CallToAddi = SkipNextRelocation
 ppc64_modifier kinds.CallToAdd = SkipNextRelocation
 ppc64_modifier kinds.CallToAddi4096 = SkipNextRelocation
@@ -188,7 +188,7 @@ ppc64_modifier kinds.BranchToAdd = SkipNextRelocation
 ppc64_modifier kind = Normal
 
 -- the rewrites by their numbers from 0 up
-abbrev pub ppc64_rewrites : List RelaxationKind
+abbrev pub ppc64_rewrites : List RewriteKind
 ppc64_rewrites =
     kinds.NoOp ∷ kinds.AddisToNop ∷ kinds.BaseToToc ∷ kinds.LdToAddi ∷ kinds.PldToPaddi ∷
     kinds.LdToAddisThread ∷ kinds.AddToAddi ∷ kinds.IndexedToD ∷ kinds.IndexedToDs ∷
@@ -327,7 +327,7 @@ HasTwo test section o =
     HasWord section o (λ first. HasWord section (o + 4) (λ second. IsTrue (test first second)))
 
 -- What a rewrite is meant for is at an offset of the section.
-abbrev pub ppc64_matches : RelaxationKind → List ℕ → ℕ → Type 0
+abbrev pub ppc64_matches : RewriteKind → List ℕ → ℕ → Type 0
 ppc64_matches kinds.NoOp = λ section o. ⊤
 ppc64_matches kinds.AddisToNop = HasTest is_addis_of_toc
 ppc64_matches kinds.BaseToToc = HasTest is_over_base
@@ -436,7 +436,7 @@ to_address a =
 
 -- ---- the table
 
-abbrev pub ppc64_entries : Ppc64Relocation → List (Entry RelaxationKind Ppc64Relocation)
+abbrev pub ppc64_entries : Ppc64Relocation → List (Entry RewriteKind Ppc64Relocation)
 ppc64_entries r.R_PPC64_TOC16_HA =
     entry kinds.AddisToNop r.R_PPC64_NONE without_high_part ∷ []
 ppc64_entries r.R_PPC64_TOC16_LO =
@@ -505,19 +505,19 @@ ppc64_entries name = []
 -- ---- which entry is chosen
 
 -- what the rewrite is meant for is at the offset, and the conditions hold
-abbrev pub Ppc64Applies : List ℕ → ℕ → LinkFacts → Entry RelaxationKind Ppc64Relocation → Type 0
+abbrev pub Ppc64Applies : List ℕ → ℕ → LinkFacts → Entry RewriteKind Ppc64Relocation → Type 0
 Ppc64Applies = Applies ppc64_matches ppc64_row (λ kind o operands. operands)
 
 -- `NoOp` and the same relocation where no entry applies
 abbrev pub IsPpc64Choice : Ppc64Relocation → List ℕ → ℕ → LinkFacts
-    → Choice RelaxationKind Ppc64Relocation → Type 0
+    → Choice RewriteKind Ppc64Relocation → Type 0
 IsPpc64Choice name section o facts chosen =
     IsFirst (Ppc64Applies section o facts) (ppc64_entries name) (choice kinds.NoOp name) chosen
 
 -- ---- all relocations of a sequence
 
 abbrev pub Ppc64Choice : Type 0
-Ppc64Choice = Choice RelaxationKind Ppc64Relocation
+Ppc64Choice = Choice RewriteKind Ppc64Relocation
 
 -- the facts of a relocation at another place
 abbrev pub facts_at : ℕ → LinkFacts → LinkFacts
@@ -648,7 +648,7 @@ LocalDynamicIsChosenAlike =
 -- ---- the relocation that is skipped
 
 -- where that of the call itself is, from the offset of R_PPC64_TLSGD or R_PPC64_TLSLD on
-abbrev pub ppc64_skipped : RelaxationKind → Option ℕ
+abbrev pub ppc64_skipped : RewriteKind → Option ℕ
 ppc64_skipped kinds.CallToAddi = Some 0
 ppc64_skipped kinds.CallToAdd = Some 0
 ppc64_skipped kinds.CallToAddi4096 = Some 0

@@ -31,11 +31,11 @@ use Rattle.linker_utils.specs.X86Rewrites.{IsX86Choice}
 use Rattle.linker_utils.specs.X86Rewrites.{x86_64_matches}
 use Rattle.linker_utils.specs.X86Rewrites.{x86_64_skipped, x86_64_may_be_skipped}
 use Rattle.linker_elf.specs.X86Relocations.{x86_64_name}
-use Rattle.linker_utils.specs.declared.aarch64.rewrites.RelaxationKind.TheVariants as aarch64
-use Rattle.linker_utils.specs.declared.loongarch64.rewrites.RelaxationKind.TheVariants as loongarch64
-use Rattle.linker_utils.specs.declared.ppc64.rewrites.RelaxationKind.TheVariants as ppc64
-use Rattle.linker_utils.specs.declared.riscv64.rewrites.RelaxationKind.TheVariants as riscv64
-use Rattle.linker_utils.specs.declared.x86_64.rewrites.RelaxationKind.TheVariants as x86_64
+use Rattle.linker_utils.specs.declared.aarch64.rewrites.RewriteKind.TheVariants as aarch64
+use Rattle.linker_utils.specs.declared.loongarch64.rewrites.RewriteKind.TheVariants as loongarch64
+use Rattle.linker_utils.specs.declared.ppc64.rewrites.RewriteKind.TheVariants as ppc64
+use Rattle.linker_utils.specs.declared.riscv64.rewrites.RewriteKind.TheVariants as riscv64
+use Rattle.linker_utils.specs.declared.x86_64.rewrites.RewriteKind.TheVariants as x86_64
 use Rattle.linker_utils.specs.declared.architecture.Relaxation.{Relaxation}
 use Rattle.linker_utils.specs.declared.architecture.Relaxation.TheVariants as relaxations
 use Rattle.linker_elf.specs.declared.elf.architecture.Architecture.{Architecture}

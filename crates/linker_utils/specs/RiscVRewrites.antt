@@ -13,7 +13,7 @@ use Rattle.linker_base.specs.declared.relaxation.RelocationModifier.TheVariants.
 use Rattle.linker_base.specs.declared.relaxation.RelocationModifier.TheVariants.{SkipNextRelocation}
 use Rattle.linker_elf.specs.declared.riscv64.forms.RiscVInstruction.{RiscVInstruction}
 use Rattle.linker_base.specs.declared.rewrite.DeletedBytes.{DeletedBytes}
-use Rattle.linker_utils.specs.declared.riscv64.rewrites.RelaxationKind.{RelaxationKind}
+use Rattle.linker_utils.specs.declared.riscv64.rewrites.RewriteKind.{RewriteKind}
 use Rattle.linker_elf.specs.Originals.{HasWord}
 use Rattle.linker_riscv64.specs.RiscVCalls.{IsCallPair, IsPlainCall, word_at}
 use Rattle.linker_riscv64.specs.RiscVFields.{opcode_of, funct3_of, rd_of, stores_base}
@@ -27,7 +27,7 @@ use Rattle.linker_elf.specs.declared.elf.choice.Choice.{Choice}
 use Rattle.linker_elf.specs.declared.elf.choice.LinkFacts.{LinkFacts}
 use Rattle.linker_elf.specs.declared.riscv64.relocations.RiscVRelocation.{RiscVRelocation}
 use Rattle.linker_elf.specs.declared.riscv64.relocations.RiscVRelocation.TheVariants as r
-use Rattle.linker_utils.specs.declared.riscv64.rewrites.RelaxationKind.TheVariants as kinds
+use Rattle.linker_utils.specs.declared.riscv64.rewrites.RewriteKind.TheVariants as kinds
 
 -- `jal` of distance 0, with the destination register of the word before: bits 7 to 11
 abbrev pub call_to_jal : List ℕ → List ℕ
@@ -81,7 +81,7 @@ load_to_addi word = 0x13 + field word 7 12 * 2 ^ 7 + field word 15 32 * 2 ^ 15
 abbrev pub of_destination : ℕ → ℕ → ℕ
 of_destination opcode word = opcode + field word 7 12 * 2 ^ 7
 
-abbrev pub riscv_rewrite : RelaxationKind → Option Rewrite
+abbrev pub riscv_rewrite : RewriteKind → Option Rewrite
 riscv_rewrite kinds.NoOp = None
 riscv_rewrite kinds.ReplaceWithNop = Some (replaces 0 4 two_nops)
 riscv_rewrite kinds.CallToJal = Some (replaces 0 4 call_to_jal)
@@ -107,7 +107,7 @@ riscv_rewrite kinds.CLuiToCLi = Some (replaces 0 2 clui_to_cli)
 riscv_rewrite kinds.AuipcToLui = Some (rewrites_word (of_destination 0x37))
 riscv_rewrite kinds.LdToAddiZero = Some (rewrites_word (of_destination 0x13))
 
-abbrev pub riscv_modifier : RelaxationKind → RelocationModifier
+abbrev pub riscv_modifier : RewriteKind → RelocationModifier
 riscv_modifier kinds.NoOp = Normal
 riscv_modifier kinds.ReplaceWithNop = Normal
 riscv_modifier kinds.CallToJal = SkipNextRelocation
@@ -119,7 +119,7 @@ riscv_modifier kinds.TailToCJ = SkipNextRelocation
 riscv_modifier kind = Normal
 
 -- where the mark `R_RISCV_RELAX` is that is skipped, from the offset on
-abbrev pub riscv_skipped : RelaxationKind → Option ℕ
+abbrev pub riscv_skipped : RewriteKind → Option ℕ
 riscv_skipped kinds.CallToJal = Some 0
 riscv_skipped kinds.Hi20Delete = Some 0
 riscv_skipped kinds.TailToJal = Some 0
@@ -135,7 +135,7 @@ deleted_from start count = Some record { start = start; count = count }
 
 -- what is deleted after a rewrite: the `jalr` of a call, all of a tail call but the `c.j`, the
 -- second half of a `lui`, a whole `lui`, and another instruction
-abbrev pub riscv_deleted : RelaxationKind → Option DeletedBytes
+abbrev pub riscv_deleted : RewriteKind → Option DeletedBytes
 riscv_deleted kinds.NoOp = None
 riscv_deleted kinds.ReplaceWithNop = None
 riscv_deleted kinds.CallToJal = deleted_from 4 4
@@ -148,7 +148,7 @@ riscv_deleted kinds.Delete = deleted_from 0 4
 riscv_deleted kind = None
 
 -- the rewrites by their numbers from 0 up
-abbrev pub riscv_rewrites : List RelaxationKind
+abbrev pub riscv_rewrites : List RewriteKind
 riscv_rewrites =
     kinds.NoOp ∷ kinds.ReplaceWithNop ∷ kinds.CallToJal ∷ kinds.Hi20ToCLui ∷
     kinds.Hi20Delete ∷ kinds.Lo12Rs1ToZero ∷ kinds.TailToJal ∷
@@ -248,7 +248,7 @@ pub record IsTailCall (section : List ℕ) (o : ℕ) : Type 0 where
   pub links_none : rd_of (word_at section (o + 4)) ≡ 0
 
 -- What a rewrite is meant for is at an offset of the section.
-abbrev pub riscv_matches : RelaxationKind → List ℕ → ℕ → Type 0
+abbrev pub riscv_matches : RewriteKind → List ℕ → ℕ → Type 0
 riscv_matches kinds.NoOp section o = ⊤
 riscv_matches kinds.ReplaceWithNop section o = HasWord section o (λ _. ⊤)
 riscv_matches kinds.CallToJal section o = IsPlainCall section o × (rd_of (word_at section o) ≢ 0)
@@ -279,10 +279,10 @@ riscv_matches kinds.LdToAddiZero section o = HasWord section o IsLd
 -- Descriptors -> Local Exec Relaxation" and the relaxation of GOT loads).
 
 abbrev pub RiscVEntry : Type 0
-RiscVEntry = Entry RelaxationKind RiscVRelocation
+RiscVEntry = Entry RewriteKind RiscVRelocation
 
 abbrev pub RiscVChoice : Type 0
-RiscVChoice = Choice RelaxationKind RiscVRelocation
+RiscVChoice = Choice RewriteKind RiscVRelocation
 
 -- the row of a name
 abbrev pub riscv_row_of : RiscVRelocation → Option RelocationKindInfo
@@ -410,7 +410,7 @@ riscv_entries name = []
 -- ---- which entry is chosen
 
 -- the instruction that a relocation requires: of most what the rewrite is meant for
-abbrev pub HasPattern : RiscVRelocation → RelaxationKind → List ℕ → ℕ → Type 0
+abbrev pub HasPattern : RiscVRelocation → RewriteKind → List ℕ → ℕ → Type 0
 HasPattern r.R_RISCV_TPREL_HI20 = λ kind section o. HasWord section o IsLui
 HasPattern r.R_RISCV_TPREL_ADD = λ kind section o. HasWord section o IsAddTp
 HasPattern r.R_RISCV_TPREL_LO12_S = λ kind section o. HasWord section o IsLowOverOther
@@ -423,7 +423,7 @@ HasPattern name = riscv_matches
 
 -- What is required is at the offset, and the conditions hold. No rewrite of RISC-V moves the
 -- offset or the addend.
-abbrev pub AppliesToRiscV : (RelaxationKind → List ℕ → ℕ → Type 0) → List ℕ → ℕ → LinkFacts
+abbrev pub AppliesToRiscV : (RewriteKind → List ℕ → ℕ → Type 0) → List ℕ → ℕ → LinkFacts
     → RiscVEntry → Type 0
 AppliesToRiscV Asked = Applies Asked riscv_row_of (λ kind o operands. operands)
 

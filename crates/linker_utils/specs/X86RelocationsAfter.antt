@@ -3,8 +3,8 @@
 use Rattle.std.specs.Prelude.{ℕ, ◌==◌, if◌then◌else◌, Option, None, Some}
 use Rattle.linker_elf.specs.declared.x86_64.relocations.X86_64Relocation.{X86_64Relocation}
 use Rattle.linker_elf.specs.declared.x86_64.relocations.X86_64Relocation.TheVariants as r
-use Rattle.linker_utils.specs.declared.x86_64.rewrites.RelaxationKind.{RelaxationKind}
-use Rattle.linker_utils.specs.declared.x86_64.rewrites.RelaxationKind.TheVariants as kinds
+use Rattle.linker_utils.specs.declared.x86_64.rewrites.RewriteKind.{RewriteKind}
+use Rattle.linker_utils.specs.declared.x86_64.rewrites.RewriteKind.TheVariants as kinds
 
 -- The relocation after is the first, where that before is of the named kind.
 abbrev pub after_got : X86_64Relocation → X86_64Relocation → Option X86_64Relocation
@@ -49,7 +49,7 @@ abbrev pub immediate_of : ℕ → X86_64Relocation
 immediate_of n = if n == 2 then r.R_X86_64_32 else r.R_X86_64_32S
 
 -- by the relocation before; none where the rewrite is not for that, and for `NoOp`
-abbrev pub x86_64_relocation_after : RelaxationKind → X86_64Relocation → Option X86_64Relocation
+abbrev pub x86_64_relocation_after : RewriteKind → X86_64Relocation → Option X86_64Relocation
 x86_64_relocation_after kinds.MovIndirectToLea before = after_load r.R_X86_64_PC32 before
 x86_64_relocation_after kinds.CallIndirectToRelative before = after_got r.R_X86_64_PC32 before
 x86_64_relocation_after kinds.JmpIndirectToRelative before = after_got r.R_X86_64_PC32 before

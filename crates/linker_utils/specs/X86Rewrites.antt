@@ -10,7 +10,7 @@ use Rattle.linker_base.specs.Rewrite.{Rewrite, replaces, CanRewrite}
 use Rattle.linker_base.specs.declared.relaxation.RelocationModifier.{RelocationModifier}
 use Rattle.linker_base.specs.declared.relaxation.RelocationModifier.TheVariants.{Normal}
 use Rattle.linker_base.specs.declared.relaxation.RelocationModifier.TheVariants.{SkipNextRelocation}
-use Rattle.linker_utils.specs.declared.x86_64.rewrites.RelaxationKind.{RelaxationKind}
+use Rattle.linker_utils.specs.declared.x86_64.rewrites.RewriteKind.{RewriteKind}
 use Rattle.linker_elf.specs.Choices.{Condition, Entry, entry, choice, operands_after, Applies}
 use Rattle.linker_elf.specs.Choices.{IsFirst, bound, weak_zero, fixed_address, fixed_distance}
 use Rattle.linker_elf.specs.Choices.{executable, local_exec_base, addend, in_reach}
@@ -21,7 +21,7 @@ use Rattle.linker_elf.specs.declared.elf.choice.Choice.{Choice}
 use Rattle.linker_elf.specs.declared.elf.choice.LinkFacts.{LinkFacts}
 use Rattle.linker_elf.specs.declared.elf.value.Operands.{Operands}
 use Rattle.linker_elf.specs.declared.x86_64.relocations.X86_64Relocation.{X86_64Relocation}
-use Rattle.linker_utils.specs.declared.x86_64.rewrites.RelaxationKind.TheVariants as kinds
+use Rattle.linker_utils.specs.declared.x86_64.rewrites.RewriteKind.TheVariants as kinds
 use Rattle.linker_elf.specs.declared.x86_64.relocations.X86_64Relocation.TheVariants as r
 
 -- R (bit 2) of a REX byte moves to B (bit 0)
@@ -98,7 +98,7 @@ by_immediate n opcode k =
     else (if n == 6 then absolute 5 (evex_operand opcode k)
     else absolute 2 (operand opcode k)))
 
-abbrev pub x86_64_rewrite : RelaxationKind → Option Rewrite
+abbrev pub x86_64_rewrite : RewriteKind → Option Rewrite
 x86_64_rewrite kinds.MovIndirectToLea = Some (replaces 2 1 (λ _. 0x8d ∷ []))
 x86_64_rewrite kinds.MovIndirectToAbsolute = Some (absolute 2 (operand 0xc7 0xc0))
 x86_64_rewrite (kinds.RexMovIndirectToAbsolute n) = Some (rex_mov n)
@@ -142,7 +142,7 @@ x86_64_rewrite (kinds.RexXorIndirectToAbsolute n) = Some (by_immediate n 0x81 0x
 x86_64_rewrite (kinds.RexTestIndirectToAbsolute n) = Some (by_immediate n 0xf7 0xc0)
 
 -- the rewrites that move the offset of a TLS sequence have done the work of its call too
-abbrev pub x86_64_modifier : RelaxationKind → RelocationModifier
+abbrev pub x86_64_modifier : RewriteKind → RelocationModifier
 x86_64_modifier kinds.TlsGdToLocalExec = SkipNextRelocation
 x86_64_modifier kinds.TlsGdToLocalExecLarge = SkipNextRelocation
 x86_64_modifier kinds.TlsLdToLocalExec = SkipNextRelocation
@@ -169,7 +169,7 @@ x86_64_modifier (kinds.RexXorIndirectToAbsolute n) = Normal
 x86_64_modifier (kinds.RexTestIndirectToAbsolute n) = Normal
 
 -- the rewrites by their numbers from 0 up
-abbrev pub x86_64_rewrites : ℕ → List RelaxationKind
+abbrev pub x86_64_rewrites : ℕ → List RewriteKind
 x86_64_rewrites n =
     kinds.MovIndirectToLea ∷ kinds.MovIndirectToAbsolute ∷
     kinds.RexMovIndirectToAbsolute n ∷ kinds.RexAddIndirectToAbsolute n ∷
@@ -346,7 +346,7 @@ general_dynamic =
     ∷ []
 
 -- what each rewrite is for; `NoOp` is for any bytes
-abbrev pub x86_64_originals : RelaxationKind → List Original
+abbrev pub x86_64_originals : RewriteKind → List Original
 x86_64_originals kinds.MovIndirectToLea = plain 0x8b
 x86_64_originals kinds.MovIndirectToAbsolute = plain 0x8b
 x86_64_originals (kinds.RexMovIndirectToAbsolute n) = legacy n 0x8b
@@ -381,7 +381,7 @@ x86_64_originals kinds.TlsDescToInitialExec =
 x86_64_originals kinds.SkipTlsDescCall = original 0 (byte 0xff ∷ byte 0x10 ∷ []) ∷ []
 
 -- the rewrite can be applied, and what is there is an instruction or a sequence that it is for
-abbrev pub x86_64_matches : RelaxationKind → List ℕ → ℕ → Type 0
+abbrev pub x86_64_matches : RewriteKind → List ℕ → ℕ → Type 0
 x86_64_matches kind section o =
     CanRewrite (x86_64_rewrite kind) section o
     × IsTrue (is_one_at (x86_64_originals kind) section o)
@@ -390,7 +390,7 @@ x86_64_matches kind section o =
 
 -- where that of the sequence's call is, from the offset on: the call, or the `movabs` before it,
 -- has its field there
-abbrev pub x86_64_skipped : RelaxationKind → Option ℕ
+abbrev pub x86_64_skipped : RewriteKind → Option ℕ
 x86_64_skipped kinds.TlsGdToLocalExec = Some 8
 x86_64_skipped kinds.TlsGdToLocalExecLarge = Some 6
 x86_64_skipped kinds.TlsLdToLocalExec = Some 5
@@ -422,7 +422,7 @@ x86_64_may_be_skipped name = false
 -- "ELF Handling For Thread-Local Storage", "x86-64").
 
 abbrev pub X86Entry : Type 0
-X86Entry = Entry RelaxationKind X86_64Relocation
+X86Entry = Entry RewriteKind X86_64Relocation
 
 -- ---- what rewrites require
 
@@ -434,19 +434,19 @@ from_end_of_field = addend (neg_ℤ (pos 4))
 abbrev pub of_address : Condition X86_64Relocation → List (Condition X86_64Relocation)
 of_address reach = fixed_address ∷ from_end_of_field ∷ reach ∷ []
 
-abbrev pub address_by : RelaxationKind → X86_64Relocation → Condition X86_64Relocation
+abbrev pub address_by : RewriteKind → X86_64Relocation → Condition X86_64Relocation
     → List X86Entry
 address_by kind after reach =
     entry kind after (bound ∷ of_address reach)
     ∷ entry kind after (weak_zero ∷ of_address reach) ∷ []
 
 -- or the distance to it
-abbrev pub distance_by : RelaxationKind → X86Entry
+abbrev pub distance_by : RewriteKind → X86Entry
 distance_by kind =
     entry kind r.R_X86_64_PC32
     (bound ∷ fixed_distance ∷ from_end_of_field ∷ in_reach_if_known r.R_X86_64_PC32 0 ∷ [])
 
-abbrev pub local_exec_by : RelaxationKind → X86Entry
+abbrev pub local_exec_by : RewriteKind → X86Entry
 local_exec_by kind =
     entry kind r.R_X86_64_TPOFF32
     (bound ∷ executable ∷ from_end_of_field ∷ in_reach_if_known r.R_X86_64_TPOFF32 0 ∷ [])
@@ -454,23 +454,23 @@ local_exec_by kind =
 -- The entries of a sequence also require that all of it can be rewritten. Of general-dynamic and
 -- local-dynamic TLS: where the rewrite skips a relocation there is that of a call of
 -- `__tls_get_addr`. Of descriptors: each relocation of the symbol's descriptors in the object fits.
-abbrev pub sequence_to_local_exec_by : RelaxationKind → X86Entry
+abbrev pub sequence_to_local_exec_by : RewriteKind → X86Entry
 sequence_to_local_exec_by kind =
     entry kind r.R_X86_64_TPOFF32
     (bound ∷ executable ∷ group_fits ∷ from_end_of_field ∷ in_reach_if_known r.R_X86_64_TPOFF32 0
     ∷ [])
 
-abbrev pub sequence_to_initial_exec_by : RelaxationKind → X86Entry
+abbrev pub sequence_to_initial_exec_by : RewriteKind → X86Entry
 sequence_to_initial_exec_by kind =
     entry kind r.R_X86_64_GOTTPOFF
     (executable ∷ group_fits ∷ from_end_of_field ∷ in_reach_if_known r.R_X86_64_GOTTPOFF 0 ∷ [])
 
 -- nothing is relocated any more
-abbrev pub unrelocated_by : RelaxationKind → X86Entry
+abbrev pub unrelocated_by : RewriteKind → X86Entry
 unrelocated_by kind = entry kind r.R_X86_64_NONE (executable ∷ group_fits ∷ [])
 
 -- The same of a call for the module's TLS block. With another addend it is not for that.
-abbrev pub module_by : RelaxationKind → X86Entry
+abbrev pub module_by : RewriteKind → X86Entry
 module_by kind = entry kind r.R_X86_64_NONE (executable ∷ group_fits ∷ from_end_of_field ∷ [])
 
 -- an offset in the module's TLS block becomes one from the thread pointer
@@ -493,7 +493,7 @@ abbrev pub any_entry : List X86Entry → Table
 any_entry entries = table (original 0 [] ∷ []) entries
 
 -- `mov`, with any prefix or none
-abbrev pub mov_of : ℕ → RelaxationKind
+abbrev pub mov_of : ℕ → RewriteKind
 mov_of n = if n == 2 then kinds.MovIndirectToAbsolute else kinds.RexMovIndirectToAbsolute n
 
 -- `mov` also takes a distance, so it takes only an address that is known
@@ -510,7 +510,7 @@ load_table opcode =
     then table (legacy 3 0x8b) (distance_by kinds.MovIndirectToLea ∷ [])
     else any_entry []
 
-abbrev pub operation_table : ℕ → RelaxationKind → Table
+abbrev pub operation_table : ℕ → RewriteKind → Table
 operation_table n kind =
     any_entry (address_by kind (immediate_of n) (in_reach_if_known (immediate_of n) 0))
 
@@ -598,20 +598,20 @@ opcode_at r.R_X86_64_GOTPCREL section o =
 opcode_at name section o = slice_index section (o - 2)
 
 -- What is required with a rewrite: one of some instructions is there, and the rewrite matches.
-abbrev pub HasPattern : List Original → RelaxationKind → List ℕ → ℕ → Type 0
+abbrev pub HasPattern : List Original → RewriteKind → List ℕ → ℕ → Type 0
 HasPattern instructions kind section o =
     IsTrue (is_one_at instructions section o) × x86_64_matches kind section o
 
-abbrev pub x86_64_after : RelaxationKind → ℕ → Operands → Operands
+abbrev pub x86_64_after : RewriteKind → ℕ → Operands → Operands
 x86_64_after kind = operands_after (x86_64_rewrite kind)
 
 abbrev pub IsByTable : Table → X86_64Relocation → List ℕ → ℕ → LinkFacts
-    → Choice RelaxationKind X86_64Relocation → Type 0
+    → Choice RewriteKind X86_64Relocation → Type 0
 IsByTable t name section o facts chosen =
     IsFirst (Applies (HasPattern t.instructions) x86_64_row x86_64_after section o facts) t.entries
     (choice kinds.NoOp name) chosen
 
 abbrev pub IsX86Choice : X86_64Relocation → List ℕ → ℕ → LinkFacts
-    → Choice RelaxationKind X86_64Relocation → Type 0
+    → Choice RewriteKind X86_64Relocation → Type 0
 IsX86Choice name section o facts chosen =
     IsByTable (x86_64_table name (opcode_at name section o)) name section o facts chosen

@@ -26,11 +26,11 @@ use linker_elf::elf::architecture::{architectures, by_architecture};
 /// A rewrite of one of the architectures.
 #[derive(Debug, Clone, Copy, PartialEq, Eq)]
 pub enum Relaxation {
-    AArch64(aarch64::RelaxationKind),
-    RiscV(riscv64::RelaxationKind),
-    LoongArch64(loongarch64::RelaxationKind),
-    Ppc64(ppc64::RelaxationKind),
-    X86_64(x86_64::RelaxationKind),
+    AArch64(aarch64::RewriteKind),
+    RiscV(riscv64::RewriteKind),
+    LoongArch64(loongarch64::RewriteKind),
+    Ppc64(ppc64::RewriteKind),
+    X86_64(x86_64::RewriteKind),
 }
 
 /// What is made of a rewrite, whichever architecture it is of.
@@ -62,10 +62,10 @@ macro_rules! chosen {
 
 macro_rules! rewrite_of {
     (X86_64 $module:ident $names:ident ($number:expr, $opcode_len:expr)) => {
-        crate::$module::RelaxationKind::from_number($number, $opcode_len).map(Relaxation::X86_64)
+        crate::$module::RewriteKind::from_number($number, $opcode_len).map(Relaxation::X86_64)
     };
     ($of:ident $module:ident $names:ident ($number:expr, $opcode_len:expr)) => {
-        crate::$module::RelaxationKind::from_number($number).map(Relaxation::$of)
+        crate::$module::RewriteKind::from_number($number).map(Relaxation::$of)
     };
 }
 
@@ -100,7 +100,7 @@ impl Relaxation {
     }
 
     /// Whether the bytes at an offset of a section are an instruction, or a sequence of some, that
-    /// the rewrite is meant for, as `matches` of the architecture's `RelaxationKind` says. Where
+    /// the rewrite is meant for, as `matches` of the architecture's `RewriteKind` says. Where
     /// they are, the rewrite can be applied.
     #[inline(always)]
     pub fn matches(self, section: &[u8], offset: u64) -> bool
@@ -113,7 +113,7 @@ impl Relaxation {
 }
 
 impl Relaxation {
-    /// The bytes to be deleted after the rewrite, as `deleted` of the `RelaxationKind` of `riscv64`
+    /// The bytes to be deleted after the rewrite, as `deleted` of the `RewriteKind` of `riscv64`
     /// and `loongarch64` says. `None` where there are none, and for all other architectures.
     #[inline]
     pub fn deleted(self) -> Option<DeletedBytes>
@@ -127,7 +127,7 @@ impl Relaxation {
     }
 
     /// The relocation of another instruction that the rewrite changes too, by its code, as
-    /// `other_relocation` of the `RelaxationKind` of `aarch64` says. Whatever relocation is there
+    /// `other_relocation` of the `RewriteKind` of `aarch64` says. Whatever relocation is there
     /// becomes that one. `None` where the rewrite changes no other instruction that has one, and
     /// for all other architectures: where their rewrites do, the next relocation is skipped
     /// (`next_modifier`).
@@ -150,7 +150,7 @@ impl Relaxation {
 
 impl Relaxation {
     /// Where the relocation is that `next_modifier` skips, in bytes from the offset of the
-    /// rewrite's own relocation on, as `skipped_offset` of the `RelaxationKind` of `riscv64`,
+    /// rewrite's own relocation on, as `skipped_offset` of the `RewriteKind` of `riscv64`,
     /// `ppc64` and `x86_64` says. `None` where none is skipped, and for all other architectures.
     ///
     /// Skip the relocation at that offset, and not whichever is the next. For PowerPC64 and x86-64
@@ -231,7 +231,7 @@ impl InstructionRewrite for Relaxation {
 /// ```
 /// use linker_utils::architecture::{Relaxation, choose};
 /// use linker_utils::elf::{Architecture, LinkFacts, Operands};
-/// use linker_utils::x86_64::RelaxationKind;
+/// use linker_utils::x86_64::RewriteKind;
 ///
 /// // call *x@GOTPCREL(%rip), with R_X86_64_GOTPCRELX
 /// let call = [0xff, 0x15, 0, 0, 0, 0];
@@ -242,7 +242,7 @@ impl InstructionRewrite for Relaxation {
 ///     ..LinkFacts::default()
 /// };
 /// let chosen = choose(Architecture::X86_64, 41, &call, 2, &facts);
-/// assert_eq!(chosen.kind, Relaxation::X86_64(RelaxationKind::CallIndirectToRelative));
+/// assert_eq!(chosen.kind, Relaxation::X86_64(RewriteKind::CallIndirectToRelative));
 /// assert_eq!(Architecture::X86_64.name(chosen.relocation), Some("R_X86_64_PC32"));
 /// ```
 pub fn choose(

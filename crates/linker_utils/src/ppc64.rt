@@ -8,4 +8,4 @@ pub use choices::{choose, fits, relocations_are_chosen_alike};
 pub use linker_elf::ppc64::{
     Ppc64Instruction, Ppc64Relocation, relocation_type_from_raw, row, write_ha_lo,
 };
-pub use rewrites::{RelaxationKind, may_be_skipped};
+pub use rewrites::{RewriteKind, may_be_skipped};

@@ -16,4 +16,4 @@ pub use linker_riscv64::{
     packed_calls_reach_targets, packed_len, relax_call, relax_call_over, shrink_calls,
     shrink_calls_into, shrunk_calls_are_accepted,
 };
-pub use rewrites::{RelaxationKind, may_be_skipped};
+pub use rewrites::{RewriteKind, may_be_skipped};

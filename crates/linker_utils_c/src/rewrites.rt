@@ -77,7 +77,7 @@ fn apply_riscv(rewrite: u32, section: &mut [u8], offset: &mut u64, addend: &mut 
     ensures addend_stays { result ≢ code Status.Success → addend.new ≡ addend.old }
 {
     apply_by(
-        riscv64::RelaxationKind::from_number(rewrite),
+        riscv64::RewriteKind::from_number(rewrite),
         section,
         offset,
         addend,
@@ -107,7 +107,7 @@ fn apply_x86_64(
     ensures addend_stays { result ≢ code Status.Success → addend.new ≡ addend.old }
 {
     apply_by(
-        x86_64::RelaxationKind::from_number(rewrite, opcode_len),
+        x86_64::RewriteKind::from_number(rewrite, opcode_len),
         section,
         offset,
         addend,

@@ -51,7 +51,7 @@ impl Chosen {
     pub fn is_rewrite(&self) -> bool {
         match self.kind {
             // of these only the relocation changes
-            Kind::Library(Relaxation::Ppc64(ppc64::RelaxationKind::KeepAddis)) => false,
+            Kind::Library(Relaxation::Ppc64(ppc64::RewriteKind::KeepAddis)) => false,
             Kind::Library(kind) => !kind.is_no_op(),
             Kind::Own(form) => !form.name.is_empty(),
         }

@@ -44,7 +44,7 @@ fn apply_by<R: InstructionRewrite>(
 #[inline(never)]
 fn apply_riscv(rewrite: u32, section: &mut [u8], offset: &mut u64, addend: &mut i64) -> u32 {
     apply_by(
-        riscv64::RelaxationKind::from_number(rewrite),
+        riscv64::RewriteKind::from_number(rewrite),
         section,
         offset,
         addend,
@@ -63,7 +63,7 @@ fn apply_x86_64(
     offset: &mut u64,
 ) -> u32 {
     apply_by(
-        x86_64::RelaxationKind::from_number(rewrite, opcode_len),
+        x86_64::RewriteKind::from_number(rewrite, opcode_len),
         section,
         offset,
         addend,

@@ -2,7 +2,7 @@
 // Made by tools/generate of crates/linker_utils/src/aarch64/choices.rt.
 //! The rewrites that a linker of AArch64 chooses.
 
-use super::rewrites::{RelaxationKind, test, tests};
+use super::rewrites::{RewriteKind, test, tests};
 use crate::rewrite_rows::WordTest::{AreSame, Is, IsNot};
 use crate::rewrite_rows::{Words, all_hold, are_at, bits, top, word_at};
 use crate::linker_base::rewrite::has_window;
@@ -59,7 +59,7 @@ pub enum Pattern {
     B,
 }
 
-impl RewriteSet for RelaxationKind {
+impl RewriteSet for RewriteKind {
     type Relocation = Names;
 
     type Originals = Pattern;
@@ -157,7 +157,7 @@ macro_rules! choices {
     };
 }
 
-impl ChoiceTable for RelaxationKind {
+impl ChoiceTable for RewriteKind {
     #[inline(always)]
     fn entries(name: Names, _section: &[u8], _offset: u64) -> Table<Self> {
         choices!(by_table(when, name, table => table))
@@ -174,7 +174,7 @@ impl ChoiceTable for RelaxationKind {
 /// thread-local storage).
 ///
 /// ```
-/// use linker_utils::aarch64::{AArch64Relocation, RelaxationKind, choose};
+/// use linker_utils::aarch64::{AArch64Relocation, RewriteKind, choose};
 /// use linker_utils::elf::LinkFacts;
 ///
 /// // `adrp x3, :got:v` and `ldr x3, [x3, :got_lo12:v]`, where v is defined in the output
@@ -182,7 +182,7 @@ impl ChoiceTable for RelaxationKind {
 /// let mut facts = LinkFacts { is_local: true, ..LinkFacts::default() };
 /// facts.is_pcrel_link_time_constant = true;
 /// let page = choose(AArch64Relocation::R_AARCH64_ADR_GOT_PAGE, &section, 0, &facts);
-/// assert_eq!(page.kind, RelaxationKind::NoOp);
+/// assert_eq!(page.kind, RewriteKind::NoOp);
 /// assert_eq!(page.relocation, AArch64Relocation::R_AARCH64_ADR_PREL_PG_HI21);
 /// let low = choose(AArch64Relocation::R_AARCH64_LD64_GOT_LO12_NC, &section, 4, &facts);
 /// assert_eq!(low.relocation, AArch64Relocation::R_AARCH64_ADD_ABS_LO12_NC);
@@ -199,8 +199,8 @@ pub fn choose(
     section: &[u8],
     offset: u64,
     facts: &LinkFacts,
-) -> Choice<RelaxationKind, AArch64Relocation> {
-    RelaxationKind::choose(name, section, offset, facts)
+) -> Choice<RewriteKind, AArch64Relocation> {
+    RewriteKind::choose(name, section, offset, facts)
 }
 
 /// Whether a relocation can be rewritten, if all others of its sequence can: whether `choose` with
@@ -218,7 +218,7 @@ pub fn choose(
 #[must_use]
 #[doc = include_str!("../../doc/choices/fits.md")]
 pub fn fits(name: AArch64Relocation, section: &[u8], offset: u64, facts: &LinkFacts) -> bool {
-    RelaxationKind::fits(name, section, offset, facts)
+    RewriteKind::fits(name, section, offset, facts)
 }
 
 /// With the same facts, except that each has its own place, both relocations of a load of a GOT

@@ -14,15 +14,15 @@ use crate::linker_elf::elf::{InstructionRewrite, OtherRelocation};
 /// begin at the offset. The destination register of an instruction is its bits 0 to 4.
 ///
 /// ```
-/// use linker_utils::aarch64::RelaxationKind;
+/// use linker_utils::aarch64::RewriteKind;
 ///
 /// let (mut adrp, mut offset, mut addend) = (0xb000_0003u32.to_le_bytes(), 0, 0);
-/// assert!(RelaxationKind::AdrpToAdr.can_apply(&adrp, offset));
-/// RelaxationKind::AdrpToAdr.apply(&mut adrp, &mut offset, &mut addend);
+/// assert!(RewriteKind::AdrpToAdr.can_apply(&adrp, offset));
+/// RewriteKind::AdrpToAdr.apply(&mut adrp, &mut offset, &mut addend);
 /// assert_eq!(u32::from_le_bytes(adrp), 0x3000_0003);
 /// ```
 #[derive(Debug, Default, Clone, Copy, PartialEq, Eq, Hash, PartialOrd, Ord)]
-pub enum RelaxationKind {
+pub enum RewriteKind {
     /// Leaves the instruction as it is; only the kind of its relocation changes.
     #[default]
     NoOp,
@@ -117,7 +117,7 @@ macro_rules! rewrites {
 }
 
 /// The rewrites by their numbers.
-const KINDS: &[RelaxationKind] = &rewrites!(kinds);
+const KINDS: &[RewriteKind] = &rewrites!(kinds);
 
 /// Whether `adrp xN` and `add xN, xN, #imm` or `ldr xN, [xN, #imm]`, both of 64 bits, stand next to
 /// each other: the second instruction at an offset of the section, and the `adrp` 4 bytes before
@@ -131,11 +131,11 @@ pub fn is_adrp_pair(section: &[u8], offset: u64) -> bool {
             || are_at(&tests![pair_with ldr_64], section, offset - 4, 8))
 }
 
-impl RelaxationKind {
+impl RewriteKind {
     /// The rewrite with a number, its place in the enum. None above the last.
     #[must_use]
     #[inline(always)]
-    pub fn from_number(number: u32) -> Option<RelaxationKind> {
+    pub fn from_number(number: u32) -> Option<RewriteKind> {
         KINDS.get(number as usize).copied()
     }
 
@@ -199,16 +199,16 @@ impl RelaxationKind {
     /// of the `adrp`, 4 bytes before the offset, becomes `R_AARCH64_NONE`, since it is a `nop`.
     ///
     /// ```
-    /// use linker_utils::aarch64::{AArch64Relocation, RelaxationKind};
+    /// use linker_utils::aarch64::{AArch64Relocation, RewriteKind};
     ///
-    /// let other = RelaxationKind::AdrpAddToNopAdr.other_relocation().unwrap();
+    /// let other = RewriteKind::AdrpAddToNopAdr.other_relocation().unwrap();
     /// assert_eq!((other.offset, other.relocation), (-4, AArch64Relocation::R_AARCH64_NONE));
     /// ```
     #[must_use]
     #[inline]
     pub fn other_relocation(self) -> Option<OtherRelocation<AArch64Relocation>> {
         match self {
-            RelaxationKind::AdrpAddToNopAdr => Some(OtherRelocation {
+            RewriteKind::AdrpAddToNopAdr => Some(OtherRelocation {
                 offset: -4,
                 relocation: AArch64Relocation::R_AARCH64_NONE,
             }),
@@ -217,31 +217,31 @@ impl RelaxationKind {
     }
 }
 
-impl InstructionRewrite for RelaxationKind {
+impl InstructionRewrite for RewriteKind {
     #[cfg_attr(debug_assertions, track_caller)]
     #[inline(always)]
     fn apply(self, section: &mut [u8], offset: &mut u64, addend: &mut i64) {
         debug_assert!(self.can_apply(section, *offset));
-        RelaxationKind::apply(self, section, offset, addend);
+        RewriteKind::apply(self, section, offset, addend);
     }
 
     #[inline(always)]
     fn can_apply(self, section: &[u8], offset: u64) -> bool {
-        RelaxationKind::can_apply(self, section, offset)
+        RewriteKind::can_apply(self, section, offset)
     }
 
     #[inline(always)]
     fn window(self) -> RewriteWindow {
-        RelaxationKind::window(self)
+        RewriteKind::window(self)
     }
 
     #[inline(always)]
     fn next_modifier(&self) -> RelocationModifier {
-        RelaxationKind::next_modifier(self)
+        RewriteKind::next_modifier(self)
     }
 
     #[inline(always)]
     fn is_no_op(self) -> bool {
-        matches!(self, RelaxationKind::NoOp)
+        matches!(self, RewriteKind::NoOp)
     }
 }

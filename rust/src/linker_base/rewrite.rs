@@ -16,10 +16,10 @@ pub struct DeletedBytes {
 ///
 /// ```
 /// use linker_utils::elf::RewriteWindow;
-/// use linker_utils::x86_64::RelaxationKind;
+/// use linker_utils::x86_64::RewriteKind;
 ///
 /// // jmp *x@GOTPCREL(%rip), with its field at offset 2, becomes jmp x; nop
-/// let window = RelaxationKind::JmpIndirectToRelative.window();
+/// let window = RewriteKind::JmpIndirectToRelative.window();
 /// assert_eq!(window, RewriteWindow { back: 2, len: 6 });
 /// ```
 #[repr(C)]

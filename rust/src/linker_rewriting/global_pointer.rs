@@ -19,7 +19,7 @@ use crate::linker_section::relocations::{Rela, is_ascending, relocations_len};
 use crate::architecture::Relaxation;
 use crate::elf::{Architecture, Choice};
 use crate::riscv64::fields::{base, destination, opcode, stores_base, word_at};
-use crate::riscv64::{RelaxationKind, RiscVRelocation};
+use crate::riscv64::{RewriteKind, RiscVRelocation};
 use crate::utils::u32_from_slice;
 
 /// What the instruction of a relocation is of an address.
@@ -197,7 +197,7 @@ fn writes_none(word: u32) -> bool {
 /// Whether an instruction adds 12 bits to a register.
 #[inline(always)]
 fn adds_low(section: &[u8], offset: u64) -> bool {
-    RelaxationKind::Lo12Rs1ToZero.matches(section, offset)
+    RewriteKind::Lo12Rs1ToZero.matches(section, offset)
 }
 
 /// Whether an instruction adds 12 bits to another register than x0, doesn't store what that holds,
@@ -382,12 +382,12 @@ pub fn survey_global_pointer(
 fn part_decision(part: Part, subject: &Rela) -> Decision {
     match part {
         Part::High(_) => Decision::Rewritten(Choice {
-            kind: Relaxation::RiscV(RelaxationKind::Delete),
+            kind: Relaxation::RiscV(RewriteKind::Delete),
             relocation: 0,
         }),
         Part::Low(relocation) | Part::Labelled(relocation) => Decision::RewrittenWithSymbol(
             Choice {
-                kind: Relaxation::RiscV(RelaxationKind::NoOp),
+                kind: Relaxation::RiscV(RewriteKind::NoOp),
                 relocation,
             },
             subject_of(subject),

@@ -7,7 +7,7 @@ use crate::linker_runs::items::{
 };
 use crate::linker_runs::relaxation::{Alignment, Item, Shapes, Site};
 use crate::linker_runs::shapes::loongarch64::{CALL36, PCALA};
-use crate::loongarch64::{LoongArch64Relocation, RelaxationKind};
+use crate::loongarch64::{LoongArch64Relocation, RewriteKind};
 
 /// Whether a relocation has a name.
 #[inline(always)]
@@ -88,16 +88,15 @@ fn is_relaxable<R: AsRelocation>(
 /// `ra` or none.
 #[inline]
 pub(crate) fn is_call(section: &[u8], offset: u64) -> bool {
-    RelaxationKind::CallToBl.matches(section, offset)
-        || RelaxationKind::CallToB.matches(section, offset)
+    RewriteKind::CallToBl.matches(section, offset) || RewriteKind::CallToB.matches(section, offset)
 }
 
 /// Whether a pair that can become `pcaddi` is at an offset: `pcalau12i` and
 /// `addi.d` of one register.
 #[inline]
 pub(crate) fn is_address(section: &[u8], offset: u64) -> bool {
-    RelaxationKind::PcalaToPcaddi.matches(section, offset)
-        && RelaxationKind::AddiToLd.matches(section, offset + 4)
+    RewriteKind::PcalaToPcaddi.matches(section, offset)
+        && RewriteKind::AddiToLd.matches(section, offset + 4)
 }
 
 /// Whether such a call is at a relocation.

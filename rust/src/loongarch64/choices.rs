@@ -2,7 +2,7 @@
 // Made by tools/generate of crates/linker_utils/src/loongarch64/choices.rt.
 //! LoongArch: which rewrite a linker chooses for a relocation.
 
-use super::rewrites::{RelaxationKind, test, tests};
+use super::rewrites::{RewriteKind, test, tests};
 use crate::rewrite_rows::WordTest::{AreSame, DifferWhere, Is, IsEitherOrWithin, IsNot};
 use crate::rewrite_rows::{are_at, bits, top};
 use crate::linker_elf::elf::choice_table::{
@@ -45,7 +45,7 @@ pub enum Pattern {
     LowOverOther,
 }
 
-impl RewriteSet for RelaxationKind {
+impl RewriteSet for RewriteKind {
     type Relocation = Names;
 
     type Originals = Pattern;
@@ -208,7 +208,7 @@ macro_rules! choices {
     };
 }
 
-impl ChoiceTable for RelaxationKind {
+impl ChoiceTable for RewriteKind {
     #[inline(always)]
     fn entries(name: Names, _section: &[u8], _offset: u64) -> Table<Self> {
         choices!(by_table(when, name, table => table))
@@ -226,7 +226,7 @@ impl ChoiceTable for RelaxationKind {
 ///
 /// ```
 /// use linker_utils::elf::{LinkFacts, Operands};
-/// use linker_utils::loongarch64::{LoongArch64Relocation, RelaxationKind, choose};
+/// use linker_utils::loongarch64::{LoongArch64Relocation, RewriteKind, choose};
 ///
 /// // pcaddu18i ra, 0; jirl ra, ra, 0, which calls a function 0x1000 bytes on
 /// let call = [0x01, 0x00, 0x00, 0x1e, 0x21, 0x00, 0x00, 0x4c];
@@ -238,7 +238,7 @@ impl ChoiceTable for RelaxationKind {
 ///     ..LinkFacts::default()
 /// };
 /// let chosen = choose(LoongArch64Relocation::R_LARCH_CALL36, &call, 0, &facts);
-/// assert_eq!(chosen.kind, RelaxationKind::CallToBl);
+/// assert_eq!(chosen.kind, RewriteKind::CallToBl);
 /// assert_eq!(chosen.relocation, LoongArch64Relocation::R_LARCH_B26);
 /// ```
 #[must_use]
@@ -250,8 +250,8 @@ pub fn choose(
     section: &[u8],
     offset: u64,
     facts: &LinkFacts,
-) -> Choice<RelaxationKind, LoongArch64Relocation> {
-    RelaxationKind::choose(name, section, offset, facts)
+) -> Choice<RewriteKind, LoongArch64Relocation> {
+    RewriteKind::choose(name, section, offset, facts)
 }
 
 /// Whether a relocation can be rewritten, if all others of its sequence can: whether `choose` with
@@ -270,7 +270,7 @@ pub fn choose(
 #[must_use]
 #[doc = include_str!("../../doc/choices/fits.md")]
 pub fn fits(name: LoongArch64Relocation, section: &[u8], offset: u64, facts: &LinkFacts) -> bool {
-    RelaxationKind::fits(name, section, offset, facts)
+    RewriteKind::fits(name, section, offset, facts)
 }
 
 /// With the same facts, except that each has its own place, both relocations of a pair are

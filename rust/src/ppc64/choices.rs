@@ -2,7 +2,7 @@
 // Made by tools/generate of crates/linker_utils/src/ppc64/choices.rt.
 //! PowerPC64: which rewrite a linker chooses for a relocation.
 
-use super::rewrites::RelaxationKind;
+use super::rewrites::RewriteKind;
 use crate::linker_elf::elf::choice_table::{
     ChoiceTable, Chosen, RewriteSet, Table, by_table, choice_by, conditions,
 };
@@ -16,7 +16,7 @@ pub enum Pattern {
     OfRewrite,
 }
 
-impl RewriteSet for RelaxationKind {
+impl RewriteSet for RewriteKind {
     type Relocation = Names;
 
     type Originals = Pattern;
@@ -170,7 +170,7 @@ macro_rules! choices {
     };
 }
 
-impl ChoiceTable for RelaxationKind {
+impl ChoiceTable for RewriteKind {
     #[inline(always)]
     fn entries(name: Names, _section: &[u8], _offset: u64) -> Table<Self> {
         choices!(by_table(when, name, table => table))
@@ -204,7 +204,7 @@ impl ChoiceTable for RelaxationKind {
 ///
 /// ```
 /// use linker_utils::elf::LinkFacts;
-/// use linker_utils::ppc64::{Ppc64Relocation, RelaxationKind, choose};
+/// use linker_utils::ppc64::{Ppc64Relocation, RewriteKind, choose};
 ///
 /// // addis 9,2,x@got@tprel@ha; ld 9,x@got@tprel@l(9); lwzx 3,9,13, in an executable that defines x
 /// let words = [0x3d22_0000u32, 0xe929_0000, 0x7c69_682e];
@@ -216,11 +216,11 @@ impl ChoiceTable for RelaxationKind {
 /// };
 /// let chosen = |name, word: u32| choose(name, &word.to_le_bytes(), 0, &facts);
 /// let high = chosen(Ppc64Relocation::R_PPC64_GOT_TPREL16_HA, words[0]);
-/// assert_eq!(high.kind, RelaxationKind::AddisToNop);
+/// assert_eq!(high.kind, RewriteKind::AddisToNop);
 /// let low = chosen(Ppc64Relocation::R_PPC64_GOT_TPREL16_LO_DS, words[1]);
 /// assert_eq!(low.relocation, Ppc64Relocation::R_PPC64_TPREL16_HA);
 /// let load = chosen(Ppc64Relocation::R_PPC64_TLS, words[2]);
-/// assert_eq!(load.kind, RelaxationKind::IndexedToD);
+/// assert_eq!(load.kind, RewriteKind::IndexedToD);
 /// ```
 #[must_use]
 #[inline]
@@ -231,8 +231,8 @@ pub fn choose(
     section: &[u8],
     offset: u64,
     facts: &LinkFacts,
-) -> Choice<RelaxationKind, Ppc64Relocation> {
-    RelaxationKind::choose(name, section, offset, facts)
+) -> Choice<RewriteKind, Ppc64Relocation> {
+    RewriteKind::choose(name, section, offset, facts)
 }
 
 /// Whether a relocation can be rewritten, if all others of its sequence can: whether `choose` with
@@ -249,7 +249,7 @@ pub fn choose(
 #[must_use]
 #[doc = include_str!("../../doc/choices/fits.md")]
 pub fn fits(name: Ppc64Relocation, section: &[u8], offset: u64, facts: &LinkFacts) -> bool {
-    RelaxationKind::fits(name, section, offset, facts)
+    RewriteKind::fits(name, section, offset, facts)
 }
 
 /// With the same facts, except that each has its own place, and each at an instruction that its

@@ -16,16 +16,16 @@ use crate::linker_elf::ppc64::Ppc64Relocation;
 /// writes is 0, for the relocation after it, or the number itself where that is `R_PPC64_NONE`.
 ///
 /// ```
-/// use linker_utils::ppc64::RelaxationKind;
+/// use linker_utils::ppc64::RewriteKind;
 ///
 /// // ld 9,0(10) becomes addi 9,10,0
 /// let (mut ld, mut offset, mut addend) = (0xe92a_0000u32.to_le_bytes(), 0, 0);
-/// assert!(RelaxationKind::LdToAddi.matches(&ld, offset));
-/// RelaxationKind::LdToAddi.apply(&mut ld, &mut offset, &mut addend);
+/// assert!(RewriteKind::LdToAddi.matches(&ld, offset));
+/// RewriteKind::LdToAddi.apply(&mut ld, &mut offset, &mut addend);
 /// assert_eq!(u32::from_le_bytes(ld), 0x392a_0000);
 /// ```
 #[derive(Debug, Default, Clone, Copy, PartialEq, Eq, Hash, PartialOrd, Ord)]
-pub enum RelaxationKind {
+pub enum RewriteKind {
     /// Leaves the instruction as it is; only the kind of its relocation changes.
     #[default]
     NoOp,
@@ -204,53 +204,53 @@ macro_rules! rewrites {
 
 /// No rewrite has a number above the last one.
 #[inline(always)]
-fn none_past_last(number: u32) -> Option<RelaxationKind> {
+fn none_past_last(number: u32) -> Option<RewriteKind> {
     None
 }
 
 /// The rewrite of prefixed thread-local storage with a number. None above the last.
 #[inline(always)]
-fn prefixed_rewrite(number: u32) -> Option<RelaxationKind> {
+fn prefixed_rewrite(number: u32) -> Option<RewriteKind> {
     let kind = match number {
-        20 => RelaxationKind::PldToPaddiThread,
-        21 => RelaxationKind::AddToMove,
-        22 => RelaxationKind::IndexedToDirect,
-        23 => RelaxationKind::PaddiToPaddiThread,
-        24 => RelaxationKind::PaddiToPld,
-        25 => RelaxationKind::PaddiToPaddi4096,
-        26 => RelaxationKind::BranchToNop,
-        27 => RelaxationKind::BranchToAdd,
+        20 => RewriteKind::PldToPaddiThread,
+        21 => RewriteKind::AddToMove,
+        22 => RewriteKind::IndexedToDirect,
+        23 => RewriteKind::PaddiToPaddiThread,
+        24 => RewriteKind::PaddiToPld,
+        25 => RewriteKind::PaddiToPaddi4096,
+        26 => RewriteKind::BranchToNop,
+        27 => RewriteKind::BranchToAdd,
         _ => return none_past_last(number),
     };
     Some(kind)
 }
 
-impl RelaxationKind {
+impl RewriteKind {
     /// The rewrite with a number, its place in the enum. None above the last.
     #[must_use]
     #[inline(always)]
-    pub fn from_number(number: u32) -> Option<RelaxationKind> {
+    pub fn from_number(number: u32) -> Option<RewriteKind> {
         let kind = match number {
-            0 => RelaxationKind::NoOp,
-            1 => RelaxationKind::AddisToNop,
-            2 => RelaxationKind::BaseToToc,
-            3 => RelaxationKind::LdToAddi,
-            4 => RelaxationKind::PldToPaddi,
-            5 => RelaxationKind::LdToAddisThread,
-            6 => RelaxationKind::AddToAddi,
-            7 => RelaxationKind::IndexedToD,
-            8 => RelaxationKind::IndexedToDs,
-            9 => RelaxationKind::AddiToAddisThread,
-            10 => RelaxationKind::AddiToLd,
-            11 => RelaxationKind::CallToAddi,
-            12 => RelaxationKind::CallToAdd,
-            13 => RelaxationKind::CallToAddi4096,
-            14 => RelaxationKind::NopToRestoreToc,
-            15 => RelaxationKind::KeepAddis,
-            16 => RelaxationKind::AddisToLis,
-            17 => RelaxationKind::AddiAfterLis,
-            18 => RelaxationKind::AddisThreadToNop,
-            19 => RelaxationKind::BaseToThread,
+            0 => RewriteKind::NoOp,
+            1 => RewriteKind::AddisToNop,
+            2 => RewriteKind::BaseToToc,
+            3 => RewriteKind::LdToAddi,
+            4 => RewriteKind::PldToPaddi,
+            5 => RewriteKind::LdToAddisThread,
+            6 => RewriteKind::AddToAddi,
+            7 => RewriteKind::IndexedToD,
+            8 => RewriteKind::IndexedToDs,
+            9 => RewriteKind::AddiToAddisThread,
+            10 => RewriteKind::AddiToLd,
+            11 => RewriteKind::CallToAddi,
+            12 => RewriteKind::CallToAdd,
+            13 => RewriteKind::CallToAddi4096,
+            14 => RewriteKind::NopToRestoreToc,
+            15 => RewriteKind::KeepAddis,
+            16 => RewriteKind::AddisToLis,
+            17 => RewriteKind::AddiAfterLis,
+            18 => RewriteKind::AddisThreadToNop,
+            19 => RewriteKind::BaseToThread,
             _ => return prefixed_rewrite(number),
         };
         Some(kind)
@@ -326,10 +326,10 @@ impl RelaxationKind {
     /// `__tls_get_addr`.
     ///
     /// ```
-    /// use linker_utils::ppc64::RelaxationKind;
+    /// use linker_utils::ppc64::RewriteKind;
     ///
-    /// assert_eq!(RelaxationKind::CallToAddi.skipped_offset(), Some(0));
-    /// assert_eq!(RelaxationKind::NopToRestoreToc.skipped_offset(), None);
+    /// assert_eq!(RewriteKind::CallToAddi.skipped_offset(), Some(0));
+    /// assert_eq!(RewriteKind::NopToRestoreToc.skipped_offset(), None);
     /// ```
     #[must_use]
     #[inline]
@@ -349,31 +349,31 @@ pub fn may_be_skipped(name: Ppc64Relocation) -> bool {
     )
 }
 
-impl InstructionRewrite for RelaxationKind {
+impl InstructionRewrite for RewriteKind {
     #[cfg_attr(debug_assertions, track_caller)]
     #[inline(always)]
     fn apply(self, section: &mut [u8], offset: &mut u64, addend: &mut i64) {
         debug_assert!(self.can_apply(section, *offset));
-        RelaxationKind::apply(self, section, offset, addend);
+        RewriteKind::apply(self, section, offset, addend);
     }
 
     #[inline(always)]
     fn can_apply(self, section: &[u8], offset: u64) -> bool {
-        RelaxationKind::can_apply(self, section, offset)
+        RewriteKind::can_apply(self, section, offset)
     }
 
     #[inline(always)]
     fn window(self) -> RewriteWindow {
-        RelaxationKind::window(self)
+        RewriteKind::window(self)
     }
 
     #[inline(always)]
     fn next_modifier(&self) -> RelocationModifier {
-        RelaxationKind::next_modifier(self)
+        RewriteKind::next_modifier(self)
     }
 
     #[inline(always)]
     fn is_no_op(self) -> bool {
-        matches!(self, RelaxationKind::NoOp)
+        matches!(self, RewriteKind::NoOp)
     }
 }

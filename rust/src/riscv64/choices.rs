@@ -3,7 +3,7 @@
 //! RISC-V: which rewrite a linker chooses for a relocation.
 
 use super::rewrites::{is_add_tp, is_addi_to_a0, is_auipc, is_ld, is_low_over_other, is_lui};
-use super::{RelaxationKind, RiscVRelocation, RiscVRelocation as Names};
+use super::{RewriteKind, RiscVRelocation, RiscVRelocation as Names};
 use crate::linker_base::rewrite::has_window;
 use crate::linker_elf::elf::choice_table::{
     ChoiceTable, Chosen, RewriteSet, SIGNED_12, Table, by_table, choice_by, conditions,
@@ -23,7 +23,7 @@ pub enum Pattern {
     LowOverOther,
 }
 
-impl RewriteSet for RelaxationKind {
+impl RewriteSet for RewriteKind {
     type Relocation = Names;
 
     type Originals = Pattern;
@@ -177,7 +177,7 @@ macro_rules! choices {
     };
 }
 
-impl ChoiceTable for RelaxationKind {
+impl ChoiceTable for RewriteKind {
     #[inline(always)]
     fn entries(name: Names, _section: &[u8], _offset: u64) -> Table<Self> {
         choices!(by_table(when, name, table => table))
@@ -194,7 +194,7 @@ impl ChoiceTable for RelaxationKind {
 ///
 /// ```
 /// use linker_utils::elf::{LinkFacts, Operands};
-/// use linker_utils::riscv64::{RelaxationKind, RiscVRelocation, choose};
+/// use linker_utils::riscv64::{RewriteKind, RiscVRelocation, choose};
 ///
 /// // auipc ra, 0; jalr ra, 0(ra), which calls a function 0x1000 bytes on
 /// let call = [0x97, 0x00, 0x00, 0x00, 0xe7, 0x80, 0x00, 0x00];
@@ -211,7 +211,7 @@ impl ChoiceTable for RelaxationKind {
 ///     ..LinkFacts::default()
 /// };
 /// let chosen = choose(RiscVRelocation::R_RISCV_CALL_PLT, &call, 0, &facts);
-/// assert_eq!(chosen.kind, RelaxationKind::CallToJal);
+/// assert_eq!(chosen.kind, RewriteKind::CallToJal);
 /// assert_eq!(chosen.relocation, RiscVRelocation::R_RISCV_JAL);
 /// ```
 #[must_use]
@@ -223,8 +223,8 @@ pub fn choose(
     section: &[u8],
     offset: u64,
     facts: &LinkFacts,
-) -> Choice<RelaxationKind, RiscVRelocation> {
-    RelaxationKind::choose(name, section, offset, facts)
+) -> Choice<RewriteKind, RiscVRelocation> {
+    RewriteKind::choose(name, section, offset, facts)
 }
 
 /// Whether a relocation can be rewritten, if all others of its sequence can: whether `choose` with
@@ -241,7 +241,7 @@ pub fn choose(
 #[must_use]
 #[doc = include_str!("../../doc/choices/fits.md")]
 pub fn fits(name: RiscVRelocation, section: &[u8], offset: u64, facts: &LinkFacts) -> bool {
-    RelaxationKind::fits(name, section, offset, facts)
+    RewriteKind::fits(name, section, offset, facts)
 }
 
 /// With the same facts, all four relocations of a TLS descriptor are rewritten for local-exec, all

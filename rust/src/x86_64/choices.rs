@@ -3,7 +3,7 @@
 //! Which rewrite is chosen for a relocation of x86-64.
 
 use super::rewrites::{by_row, is_lea_of_descriptor, is_legacy, of_row, rewrites};
-use super::{RelaxationKind, X86_64Relocation, X86_64Relocation as Names};
+use super::{RewriteKind, X86_64Relocation, X86_64Relocation as Names};
 use crate::rewrite_rows::or;
 use crate::linker_elf::elf::choice_table::{
     ChoiceTable, Chosen, RewriteSet, Table, by_table, choice_by, conditions, table_of,
@@ -22,7 +22,7 @@ pub enum Pattern {
     LeaOfDescriptor(u8),
 }
 
-impl RewriteSet for RelaxationKind {
+impl RewriteSet for RewriteKind {
     type Relocation = Names;
 
     type Originals = Pattern;
@@ -128,12 +128,12 @@ macro_rules! choices {
     };
 }
 
-const BRANCH: Table<RelaxationKind> = table_of!(when [
+const BRANCH: Table<RewriteKind> = table_of!(when [
     CallIndirectToRelative => R_X86_64_PC32, distance;
     JmpIndirectToRelative => R_X86_64_PC32, distance;
 ]);
 
-const LOAD: Table<RelaxationKind> =
+const LOAD: Table<RewriteKind> =
     table_of!(when [MovIndirectToLea at Legacy(3, 0x8b) => R_X86_64_PC32, distance]);
 
 /// The entries of an operation on an operand in the GOT.
@@ -188,8 +188,8 @@ macro_rules! by_opcode {
     };
     (@ $opcode:expr, $table:ident => $use:expr; $($of_table:literal $entries:expr;)*) => {
         match $opcode {
-            $($of_table => { let $table: Table<RelaxationKind> = $entries; $use })*
-            _ => { let $table: Table<RelaxationKind> = &[]; $use }
+            $($of_table => { let $table: Table<RewriteKind> = $entries; $use })*
+            _ => { let $table: Table<RewriteKind> = &[]; $use }
         }
     };
 }
@@ -216,20 +216,20 @@ macro_rules! by_name {
 
 /// The entries of a relocation, by an opcode.
 #[inline(always)]
-fn entries_by(name: Names, opcode: u8) -> Table<RelaxationKind> {
+fn entries_by(name: Names, opcode: u8) -> Table<RewriteKind> {
     by_name!(name, opcode, table => table)
 }
 
 /// The choice by a table of a name and an opcode.
 #[cfg_attr(not(debug_assertions), inline(always))]
 fn choice_by_opcode(
-    table: Table<RelaxationKind>,
+    table: Table<RewriteKind>,
     name: Names,
     opcode: u8,
     section: &[u8],
     offset: u64,
     facts: &LinkFacts,
-) -> Chosen<RelaxationKind> {
+) -> Chosen<RewriteKind> {
     choice_by(table, name, section, offset, facts)
 }
 
@@ -253,7 +253,7 @@ fn opcode_at(name: Names, section: &[u8], offset: u64) -> u8 {
     }
 }
 
-impl ChoiceTable for RelaxationKind {
+impl ChoiceTable for RewriteKind {
     #[inline(always)]
     fn entries(name: Names, section: &[u8], offset: u64) -> Table<Self> {
         entries_by(name, opcode_at(name, section, offset))
@@ -285,7 +285,7 @@ impl ChoiceTable for RelaxationKind {
 ///
 /// ```
 /// use linker_utils::elf::{LinkFacts, Operands};
-/// use linker_utils::x86_64::{RelaxationKind, X86_64Relocation, choose, row};
+/// use linker_utils::x86_64::{RewriteKind, X86_64Relocation, choose, row};
 ///
 /// // mov x@GOTPCREL(%rip), %rdi, in an executable that is always loaded at one address
 /// let mut section = [0x48, 0x8b, 0x3d, 0, 0, 0, 0];
@@ -301,7 +301,7 @@ impl ChoiceTable for RelaxationKind {
 ///     ..LinkFacts::default()
 /// };
 /// let choice = choose(X86_64Relocation::R_X86_64_REX_GOTPCRELX, &section, 3, &facts);
-/// assert_eq!(choice.kind, RelaxationKind::RexMovIndirectToAbsolute(3));
+/// assert_eq!(choice.kind, RewriteKind::RexMovIndirectToAbsolute(3));
 /// assert_eq!(choice.relocation, X86_64Relocation::R_X86_64_32S);
 ///
 /// // it becomes mov $0x404010, %rdi
@@ -321,8 +321,8 @@ pub fn choose(
     section: &[u8],
     offset: u64,
     facts: &LinkFacts,
-) -> Choice<RelaxationKind, X86_64Relocation> {
-    RelaxationKind::choose(name, section, offset, facts)
+) -> Choice<RewriteKind, X86_64Relocation> {
+    RewriteKind::choose(name, section, offset, facts)
 }
 
 /// Whether a relocation can be rewritten, if all others of its sequence can: whether `choose` with
@@ -340,5 +340,5 @@ pub fn choose(
 #[must_use]
 #[doc = include_str!("../../doc/choices/fits.md")]
 pub fn fits(name: X86_64Relocation, section: &[u8], offset: u64, facts: &LinkFacts) -> bool {
-    RelaxationKind::fits(name, section, offset, facts)
+    RewriteKind::fits(name, section, offset, facts)
 }

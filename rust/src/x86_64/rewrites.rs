@@ -15,17 +15,17 @@ use crate::linker_elf::elf::InstructionRewrite;
 /// unchanged.
 ///
 /// ```
-/// use linker_utils::x86_64::RelaxationKind;
+/// use linker_utils::x86_64::RewriteKind;
 ///
 /// // jmp *x@GOTPCREL(%rip) becomes jmp x; nop
 /// let (mut section, mut offset, mut addend) = ([0xff, 0x25, 0, 0, 0, 0], 2, -4);
-/// assert!(RelaxationKind::JmpIndirectToRelative.matches(&section, offset));
-/// RelaxationKind::JmpIndirectToRelative.apply(&mut section, &mut offset, &mut addend);
+/// assert!(RewriteKind::JmpIndirectToRelative.matches(&section, offset));
+/// RewriteKind::JmpIndirectToRelative.apply(&mut section, &mut offset, &mut addend);
 /// assert_eq!(section, [0xe9, 0, 0, 0, 0, 0x90]);
 /// assert_eq!((offset, addend), (1, -4));
 /// ```
 #[derive(Debug, Default, Clone, Copy, PartialEq, Eq, Hash, PartialOrd, Ord)]
-pub enum RelaxationKind {
+pub enum RewriteKind {
     /// Turns `mov x@GOTPCREL(%rip), %reg` into `lea x(%rip), %reg`.
     MovIndirectToLea,
     /// Turns `mov x@GOTPCREL(%rip), %reg` into `mov $x, %reg`, where no prefix names the register.
@@ -416,7 +416,7 @@ macro_rules! by_row {
         match $value {
             $($number => {
                 $(let $n = $len;)?
-                RelaxationKind::$kind$(($n))?
+                RewriteKind::$kind$(($n))?
             })*
             _ => return None,
         }
@@ -428,7 +428,7 @@ macro_rules! by_row {
             $(skip $skip:literal)?;)*
     ) => {
         match $value {
-            $(RelaxationKind::$kind$(($n))? => {
+            $(RewriteKind::$kind$(($n))? => {
                 $(let _ = $n;)?
                 of_row!($asked $number, or!(0; $($n)?), [$($is)*], [$($edit)*],
                     ($($addend)? $(on $on)? $(back $back)?), or!(None; $(Some($skip))?))
@@ -504,12 +504,12 @@ macro_rules! rewrites {
 
 pub(super) use rewrites;
 
-impl RelaxationKind {
+impl RewriteKind {
     /// The rewrite with a number, its place in the enum. None above the last. The rewrites that
     /// have a number of bytes before the field take `opcode_len`.
     #[must_use]
     #[inline(always)]
-    pub fn from_number(number: u32, opcode_len: u8) -> Option<RelaxationKind> {
+    pub fn from_number(number: u32, opcode_len: u8) -> Option<RewriteKind> {
         Some(rewrites!(kinds number, opcode_len))
     }
 
@@ -605,12 +605,12 @@ impl RelaxationKind {
     /// `__tls_get_addr`. Without it the next relocation may be that of another call.
     ///
     /// ```
-    /// use linker_utils::x86_64::RelaxationKind;
+    /// use linker_utils::x86_64::RewriteKind;
     ///
     /// // lea x@tlsld(%rip), %rdi; call __tls_get_addr@PLT
     /// let sequence = [0x48, 0x8d, 0x3d, 0, 0, 0, 0, 0xe8, 0, 0, 0, 0];
-    /// assert!(RelaxationKind::TlsLdToLocalExec.matches(&sequence, 3));
-    /// assert_eq!(RelaxationKind::TlsLdToLocalExec.skipped_offset(), Some(5));
+    /// assert!(RewriteKind::TlsLdToLocalExec.matches(&sequence, 3));
+    /// assert_eq!(RewriteKind::TlsLdToLocalExec.skipped_offset(), Some(5));
     /// ```
     #[must_use]
     #[inline]
@@ -635,31 +635,31 @@ pub fn may_be_skipped(name: X86_64Relocation) -> bool {
     )
 }
 
-impl InstructionRewrite for RelaxationKind {
+impl InstructionRewrite for RewriteKind {
     #[cfg_attr(debug_assertions, track_caller)]
     #[inline(always)]
     fn apply(self, section: &mut [u8], offset: &mut u64, addend: &mut i64) {
         debug_assert!(self.can_apply(section, *offset));
-        RelaxationKind::apply(self, section, offset, addend);
+        RewriteKind::apply(self, section, offset, addend);
     }
 
     #[inline(always)]
     fn can_apply(self, section: &[u8], offset: u64) -> bool {
-        RelaxationKind::can_apply(self, section, offset)
+        RewriteKind::can_apply(self, section, offset)
     }
 
     #[inline(always)]
     fn window(self) -> RewriteWindow {
-        RelaxationKind::window(self)
+        RewriteKind::window(self)
     }
 
     #[inline(always)]
     fn next_modifier(&self) -> RelocationModifier {
-        RelaxationKind::next_modifier(self)
+        RewriteKind::next_modifier(self)
     }
 
     #[inline(always)]
     fn is_no_op(self) -> bool {
-        matches!(self, RelaxationKind::NoOp)
+        matches!(self, RewriteKind::NoOp)
     }
 }

@@ -4,14 +4,14 @@
 //! hand from the manuals.
 
 use crate::rows::{expect, expect_eq};
-use linker_utils::aarch64::RelaxationKind as AArch64Kind;
+use linker_utils::aarch64::RewriteKind as AArch64Kind;
 use linker_utils::architecture::Relaxation::{self, AArch64, LoongArch64, Ppc64, RiscV, X86_64};
 use linker_utils::elf::InstructionRewrite;
-use linker_utils::loongarch64::RelaxationKind as LoongArch64Kind;
-use linker_utils::ppc64::RelaxationKind as Ppc64Kind;
+use linker_utils::loongarch64::RewriteKind as LoongArch64Kind;
+use linker_utils::ppc64::RewriteKind as Ppc64Kind;
 use linker_utils::relaxation::RelocationModifier;
-use linker_utils::riscv64::RelaxationKind as RiscVKind;
-use linker_utils::x86_64::RelaxationKind as X86Kind;
+use linker_utils::riscv64::RewriteKind as RiscVKind;
+use linker_utils::x86_64::RewriteKind as X86Kind;
 
 /// Bytes, an offset and an addend.
 type State = (&'static [u8], u64, i64);

@@ -63,14 +63,14 @@ fn all_by_code<N: RecognisedName>(
 /// use linker_reading::recognise::architecture::recognise;
 /// use linker_utils::architecture::Relaxation;
 /// use linker_utils::elf::Architecture;
-/// use linker_utils::x86_64::RelaxationKind;
+/// use linker_utils::x86_64::RewriteKind;
 ///
 /// // mov x@GOTPCREL(%rip), %rdi, with R_X86_64_REX_GOTPCRELX, became lea x(%rip), %rdi
 /// let original = [0x48, 0x8b, 0x3d, 0, 0, 0, 0];
 /// let linked = [0x48, 0x8d, 0x3d, 0x10, 0x20, 0, 0];
 /// let found = recognise(Architecture::X86_64, 42, &original, 3, &[], &linked);
 /// let made = found.into_iter().flatten().next().unwrap();
-/// assert_eq!(made.choice.kind, Relaxation::X86_64(RelaxationKind::MovIndirectToLea));
+/// assert_eq!(made.choice.kind, Relaxation::X86_64(RewriteKind::MovIndirectToLea));
 /// assert_eq!(Architecture::X86_64.name(made.choice.relocation), Some("R_X86_64_PC32"));
 /// assert_eq!(made.value.unwrap().number(), Some(0x2010));
 /// ```

@@ -9,11 +9,11 @@ use Rattle.linker_utils.specs.LoongArchRewrites.{loongarch_matches, loongarch_en
 use Rattle.linker_utils.specs.LoongArchRewrites.{HasPattern, IsLowOverOther}
 use Rattle.linker_utils.specs.declared.loongarch64.choices.Pattern.{Pattern}
 use Rattle.linker_utils.specs.declared.loongarch64.choices.Pattern.TheVariants as pattern
-use Rattle.linker_utils.specs.declared.loongarch64.rewrites.RelaxationKind.{RelaxationKind}
-use Rattle.linker_utils.specs.declared.loongarch64.rewrites.RelaxationKind.TheVariants as kinds
+use Rattle.linker_utils.specs.declared.loongarch64.rewrites.RewriteKind.{RewriteKind}
+use Rattle.linker_utils.specs.declared.loongarch64.rewrites.RewriteKind.TheVariants as kinds
 use Rattle.linker_elf.specs.declared.loongarch64.relocations.LoongArch64Relocation.{LoongArch64Relocation}
 
-abbrev pub matches_pattern : Pattern → RelaxationKind → List ℕ → ℕ → Type 0
+abbrev pub matches_pattern : Pattern → RewriteKind → List ℕ → ℕ → Type 0
 matches_pattern pattern.OfRewrite kind = loongarch_matches kind
 matches_pattern pattern.Load kind = IsPair IsLd
 matches_pattern pattern.LowOfLoad kind = IsAfter 4 (IsPair IsLd)
@@ -30,7 +30,7 @@ matches_pattern pattern.AddTp kind = IsSingle IsAddTp
 matches_pattern pattern.LowOverOther kind = IsSingle IsLowOverOther
 
 -- the tables; no rewrite moves the place or changes the addend
-abbrev pub loongarch_tables : Tables RelaxationKind LoongArch64Relocation
+abbrev pub loongarch_tables : Tables RewriteKind LoongArch64Relocation
 loongarch_tables =
     record {
       entries = λ name section o. loongarch_entries name;

@@ -4,14 +4,14 @@ use Rattle.linker_elf.specs.Inner.ChoiceTables.{Tables}
 use Rattle.linker_elf.specs.declared.ppc64.relocations.Ppc64Relocation.{Ppc64Relocation}
 use Rattle.linker_utils.specs.Ppc64Rewrites.{ppc64_matches, ppc64_entries}
 use Rattle.linker_utils.specs.declared.ppc64.choices.Pattern.{Pattern}
-use Rattle.linker_utils.specs.declared.ppc64.rewrites.RelaxationKind.{RelaxationKind}
-use Rattle.linker_utils.specs.declared.ppc64.rewrites.RelaxationKind.TheVariants as kinds
+use Rattle.linker_utils.specs.declared.ppc64.rewrites.RewriteKind.{RewriteKind}
+use Rattle.linker_utils.specs.declared.ppc64.rewrites.RewriteKind.TheVariants as kinds
 
-abbrev pub MatchesPattern : Pattern → RelaxationKind → List ℕ → ℕ → Type 0
+abbrev pub MatchesPattern : Pattern → RewriteKind → List ℕ → ℕ → Type 0
 MatchesPattern originals = ppc64_matches
 
 -- the tables; no condition is on what counts from a place that a rewrite moves
-abbrev pub ppc64_tables : Tables RelaxationKind Ppc64Relocation
+abbrev pub ppc64_tables : Tables RewriteKind Ppc64Relocation
 ppc64_tables =
     record {
       entries = λ name section o. ppc64_entries name;

@@ -7,12 +7,12 @@ use Rattle.linker_utils.specs.RiscVRewrites.{IsAddiToA0, IsLowOverOther, HasPatt
 use Rattle.linker_utils.specs.RiscVRewrites.{riscv_entries}
 use Rattle.linker_utils.specs.declared.riscv64.choices.Pattern.{Pattern}
 use Rattle.linker_utils.specs.declared.riscv64.choices.Pattern.TheVariants as originals
-use Rattle.linker_utils.specs.declared.riscv64.rewrites.RelaxationKind.{RelaxationKind}
-use Rattle.linker_utils.specs.declared.riscv64.rewrites.RelaxationKind.TheVariants as kinds
+use Rattle.linker_utils.specs.declared.riscv64.rewrites.RewriteKind.{RewriteKind}
+use Rattle.linker_utils.specs.declared.riscv64.rewrites.RewriteKind.TheVariants as kinds
 use Rattle.linker_elf.specs.declared.riscv64.relocations.RiscVRelocation.{RiscVRelocation}
 
 -- what an entry with a rewrite is for is at an offset of a section
-abbrev pub IsThere : Pattern → RelaxationKind → List ℕ → ℕ → Type 0
+abbrev pub IsThere : Pattern → RewriteKind → List ℕ → ℕ → Type 0
 IsThere originals.OfRewrite kind section o = riscv_matches kind section o
 IsThere originals.Lui kind section o = HasWord section o IsLui
 IsThere originals.AddTp kind section o = HasWord section o IsAddTp
@@ -22,7 +22,7 @@ IsThere originals.AddiToA0 kind section o = HasWord section o IsAddiToA0
 IsThere originals.LowOverOther kind section o = HasWord section o IsLowOverOther
 
 -- the tables; no rewrite moves the place or changes the addend
-abbrev pub riscv_tables : Tables RelaxationKind RiscVRelocation
+abbrev pub riscv_tables : Tables RewriteKind RiscVRelocation
 riscv_tables =
     record {
       entries = λ name section o. riscv_entries name;

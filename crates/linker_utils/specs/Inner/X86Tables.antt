@@ -7,8 +7,8 @@ use Rattle.linker_utils.specs.X86Rewrites.{opcode_at}
 use Rattle.linker_utils.specs.X86Rewrites.{Original, original, legacy, lea_of_descriptor}
 use Rattle.linker_utils.specs.declared.x86_64.choices.Pattern.{Pattern}
 use Rattle.linker_utils.specs.declared.x86_64.choices.Pattern.TheVariants as pattern
-use Rattle.linker_utils.specs.declared.x86_64.rewrites.RelaxationKind.{RelaxationKind}
-use Rattle.linker_utils.specs.declared.x86_64.rewrites.RelaxationKind.TheVariants as kinds
+use Rattle.linker_utils.specs.declared.x86_64.rewrites.RewriteKind.{RewriteKind}
+use Rattle.linker_utils.specs.declared.x86_64.rewrites.RewriteKind.TheVariants as kinds
 use Rattle.linker_elf.specs.declared.x86_64.relocations.X86_64Relocation.{X86_64Relocation}
 use Rattle.linker_elf.specs.declared.x86_64.relocations.X86_64Relocation.TheVariants as r
 
@@ -17,7 +17,7 @@ pattern_instructions pattern.OfRewrite = original 0 [] ∷ []
 pattern_instructions (pattern.Legacy n opcode) = legacy n opcode
 pattern_instructions (pattern.LeaOfDescriptor n) = lea_of_descriptor n
 
-abbrev pub MatchesPattern : Pattern → RelaxationKind → List ℕ → ℕ → Type 0
+abbrev pub MatchesPattern : Pattern → RewriteKind → List ℕ → ℕ → Type 0
 MatchesPattern originals = HasPattern (pattern_instructions originals)
 
 -- the table of a relocation at an offset
@@ -25,7 +25,7 @@ abbrev pub table_at : X86_64Relocation → List ℕ → ℕ → Table
 table_at name section o = x86_64_table name (opcode_at name section o)
 
 -- the tables
-abbrev pub x86_64_tables : Tables RelaxationKind X86_64Relocation
+abbrev pub x86_64_tables : Tables RewriteKind X86_64Relocation
 x86_64_tables =
     record {
       entries = λ name section o. (table_at name section o).entries;

@@ -4,12 +4,12 @@ ghost use Rattle.std.specs.Prelude.{◌==◌, ◌≡◌, ◌↔◌, ◌<◌, ◌
 ghost use Rattle.linker_base.specs.Rewrite.{CanRewrite};
 ghost use Rattle.linker_utils.specs.AArch64Rewrites as rewrites;
 ghost use Rattle.linker_utils.specs.Inner.AArch64Choices.{MatchesPattern, aarch64_tables};
-ghost use Rattle.linker_utils.specs.declared.aarch64.rewrites.RelaxationKind.TheVariants as kinds;
+ghost use Rattle.linker_utils.specs.declared.aarch64.rewrites.RewriteKind.TheVariants as kinds;
 ghost use Rattle.linker_elf.specs.Choices.{Fits, choice, operands_after};
 ghost use Rattle.linker_elf.proofs.SameNames.{equalities, exact_code};
 ghost use Rattle.linker_elf.specs.contracts.aarch64.relocations.AArch64Relocation.{enum as names};
 
-use super::rewrites::{RelaxationKind, test, tests};
+use super::rewrites::{RewriteKind, test, tests};
 use crate::rewrite_rows::WordTest::{AreSame, Is, IsNot};
 use crate::rewrite_rows::{Words, all_hold, are_at, bits, top, word_at};
 use linker_base::rewrite::has_window;
@@ -66,7 +66,7 @@ pub enum Pattern {
     B,
 }
 
-impl RewriteSet for RelaxationKind {
+impl RewriteSet for RewriteKind {
     type Relocation = Names;
 
     type Originals = Pattern;
@@ -174,7 +174,7 @@ macro_rules! choices {
     };
 }
 
-impl ChoiceTable for RelaxationKind {
+impl ChoiceTable for RewriteKind {
     ghost sampled = { λ name none section o. none };
 
     #[inline(always)]
@@ -193,7 +193,7 @@ impl ChoiceTable for RelaxationKind {
 /// thread-local storage).
 ///
 /// ```
-/// use linker_utils::aarch64::{AArch64Relocation, RelaxationKind, choose};
+/// use linker_utils::aarch64::{AArch64Relocation, RewriteKind, choose};
 /// use linker_utils::elf::LinkFacts;
 ///
 /// // `adrp x3, :got:v` and `ldr x3, [x3, :got_lo12:v]`, where v is defined in the output
@@ -201,7 +201,7 @@ impl ChoiceTable for RelaxationKind {
 /// let mut facts = LinkFacts { is_local: true, ..LinkFacts::default() };
 /// facts.is_pcrel_link_time_constant = true;
 /// let page = choose(AArch64Relocation::R_AARCH64_ADR_GOT_PAGE, &section, 0, &facts);
-/// assert_eq!(page.kind, RelaxationKind::NoOp);
+/// assert_eq!(page.kind, RewriteKind::NoOp);
 /// assert_eq!(page.relocation, AArch64Relocation::R_AARCH64_ADR_PREL_PG_HI21);
 /// let low = choose(AArch64Relocation::R_AARCH64_LD64_GOT_LO12_NC, &section, 4, &facts);
 /// assert_eq!(low.relocation, AArch64Relocation::R_AARCH64_ADD_ABS_LO12_NC);
@@ -215,12 +215,12 @@ pub fn choose(
     section: &[u8],
     offset: u64,
     facts: &LinkFacts,
-) -> Choice<RelaxationKind, AArch64Relocation>
+) -> Choice<RewriteKind, AArch64Relocation>
     ensures chosen { rewrites.IsAArch64Choice name section.now offset facts.now result }
     ensures matches { rewrites.aarch64_matches result.kind section.now offset }
     ensures rewritable { CanRewrite (rewrites.aarch64_rewrite result.kind) section.now offset }
 {
-    RelaxationKind::choose(name, section, offset, facts)
+    RewriteKind::choose(name, section, offset, facts)
 }
 
 /// Whether a relocation can be rewritten, if all others of its sequence can: whether `choose` with
@@ -240,7 +240,7 @@ pub fn fits(name: AArch64Relocation, section: &[u8], offset: u64, facts: &LinkFa
         ↔ Fits (rewrites.IsAArch64Choice name section.now offset)
         (choice kinds.NoOp name) facts.now }
 {
-    RelaxationKind::fits(name, section, offset, facts)
+    RewriteKind::fits(name, section, offset, facts)
 }
 
 /// With the same facts, except that each has its own place, both relocations of a load of a GOT

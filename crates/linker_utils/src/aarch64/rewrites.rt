@@ -7,7 +7,7 @@ ghost use Rattle.linker_base.specs.RewriteWindow.{window_of_rewrite};
 ghost use Rattle.linker_utils.specs.AArch64Rewrites.{aarch64_rewrite, aarch64_modifier};
 ghost use Rattle.linker_utils.specs.AArch64Rewrites.{aarch64_other, AreChanged, aarch64_rewrites};
 ghost use Rattle.linker_utils.specs.AArch64Rewrites.{IsAdrpPair, aarch64_matches};
-ghost use Rattle.linker_utils.specs.declared.aarch64.rewrites.RelaxationKind.TheVariants.{NoOp};
+ghost use Rattle.linker_utils.specs.declared.aarch64.rewrites.RewriteKind.TheVariants.{NoOp};
 
 use crate::rewrite_rows::WordTest::{AreSame, Is, IsNot};
 use crate::rewrite_rows::{are_at, bits, by_row, top};
@@ -21,15 +21,15 @@ use linker_elf::elf::{InstructionRewrite, OtherRelocation};
 /// begin at the offset. The destination register of an instruction is its bits 0 to 4.
 ///
 /// ```
-/// use linker_utils::aarch64::RelaxationKind;
+/// use linker_utils::aarch64::RewriteKind;
 ///
 /// let (mut adrp, mut offset, mut addend) = (0xb000_0003u32.to_le_bytes(), 0, 0);
-/// assert!(RelaxationKind::AdrpToAdr.can_apply(&adrp, offset));
-/// RelaxationKind::AdrpToAdr.apply(&mut adrp, &mut offset, &mut addend);
+/// assert!(RewriteKind::AdrpToAdr.can_apply(&adrp, offset));
+/// RewriteKind::AdrpToAdr.apply(&mut adrp, &mut offset, &mut addend);
 /// assert_eq!(u32::from_le_bytes(adrp), 0x3000_0003);
 /// ```
 #[derive(Debug, Default, Clone, Copy, PartialEq, Eq)]
-pub enum RelaxationKind {
+pub enum RewriteKind {
     /// Leaves the instruction as it is; only the kind of its relocation changes.
     #[default]
     NoOp,
@@ -124,7 +124,7 @@ macro_rules! rewrites {
 }
 
 /// The rewrites by their numbers.
-const KINDS: &[RelaxationKind] = &rewrites!(kinds);
+const KINDS: &[RewriteKind] = &rewrites!(kinds);
 
 /// Whether `adrp xN` and `add xN, xN, #imm` or `ldr xN, [xN, #imm]`, both of 64 bits, stand next to
 /// each other: the second instruction at an offset of the section, and the `adrp` 4 bytes before
@@ -139,10 +139,10 @@ pub fn is_adrp_pair(section: &[u8], offset: u64) -> bool
             || are_at(&tests![pair_with ldr_64], section, offset - 4, 8))
 }
 
-impl RelaxationKind {
+impl RewriteKind {
     /// The rewrite with a number, its place in the enum. None above the last.
     #[inline(always)]
-    pub fn from_number(number: u32) -> Option<RelaxationKind>
+    pub fn from_number(number: u32) -> Option<RewriteKind>
         ensures { result ≡ slice_get aarch64_rewrites number }
     {
         KINDS.get(number as usize).copied()
@@ -215,9 +215,9 @@ impl RelaxationKind {
     /// of the `adrp`, 4 bytes before the offset, becomes `R_AARCH64_NONE`, since it is a `nop`.
     ///
     /// ```
-    /// use linker_utils::aarch64::{AArch64Relocation, RelaxationKind};
+    /// use linker_utils::aarch64::{AArch64Relocation, RewriteKind};
     ///
-    /// let other = RelaxationKind::AdrpAddToNopAdr.other_relocation().unwrap();
+    /// let other = RewriteKind::AdrpAddToNopAdr.other_relocation().unwrap();
     /// assert_eq!((other.offset, other.relocation), (-4, AArch64Relocation::R_AARCH64_NONE));
     /// ```
     #[inline]
@@ -226,7 +226,7 @@ impl RelaxationKind {
         ensures changed { AreChanged (aarch64_rewrite self) result }
     {
         match self {
-            RelaxationKind::AdrpAddToNopAdr => Some(OtherRelocation {
+            RewriteKind::AdrpAddToNopAdr => Some(OtherRelocation {
                 offset: -4,
                 relocation: AArch64Relocation::R_AARCH64_NONE,
             }),
@@ -235,7 +235,7 @@ impl RelaxationKind {
     }
 }
 
-impl InstructionRewrite for RelaxationKind {
+impl InstructionRewrite for RewriteKind {
     ghost rewrite = { aarch64_rewrite };
 
     ghost modifier = { aarch64_modifier };
@@ -246,26 +246,26 @@ impl InstructionRewrite for RelaxationKind {
 
     #[inline(always)]
     fn apply(self, section: &mut [u8], offset: &mut u64, addend: &mut i64) {
-        RelaxationKind::apply(self, section, offset, addend);
+        RewriteKind::apply(self, section, offset, addend);
     }
 
     #[inline(always)]
     fn can_apply(self, section: &[u8], offset: u64) -> bool {
-        RelaxationKind::can_apply(self, section, offset)
+        RewriteKind::can_apply(self, section, offset)
     }
 
     #[inline(always)]
     fn window(self) -> RewriteWindow {
-        RelaxationKind::window(self)
+        RewriteKind::window(self)
     }
 
     #[inline(always)]
     fn next_modifier(&self) -> RelocationModifier {
-        RelaxationKind::next_modifier(self)
+        RewriteKind::next_modifier(self)
     }
 
     #[inline(always)]
     fn is_no_op(self) -> bool {
-        matches!(self, RelaxationKind::NoOp)
+        matches!(self, RewriteKind::NoOp)
     }
 }

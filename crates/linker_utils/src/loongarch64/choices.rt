@@ -7,9 +7,9 @@ ghost use Rattle.linker_elf.proofs.SameNames.{equalities, exact_code};
 ghost use Rattle.linker_elf.specs.contracts.loongarch64.relocations.LoongArch64Relocation.{enum as names};
 ghost use Rattle.linker_utils.specs.Inner.LoongArchPattern.{matches_pattern, loongarch_tables};
 ghost use Rattle.linker_utils.specs.LoongArchRewrites as rewrites;
-ghost use Rattle.linker_utils.specs.declared.loongarch64.rewrites.RelaxationKind.TheVariants as kinds;
+ghost use Rattle.linker_utils.specs.declared.loongarch64.rewrites.RewriteKind.TheVariants as kinds;
 
-use super::rewrites::{RelaxationKind, test, tests};
+use super::rewrites::{RewriteKind, test, tests};
 use crate::rewrite_rows::WordTest::{AreSame, DifferWhere, Is, IsEitherOrWithin, IsNot};
 use crate::rewrite_rows::{are_at, bits, top};
 use linker_elf::elf::choice_table::{
@@ -51,7 +51,7 @@ pub enum Pattern {
     LowOverOther,
 }
 
-impl RewriteSet for RelaxationKind {
+impl RewriteSet for RewriteKind {
     type Relocation = Names;
 
     type Originals = Pattern;
@@ -220,7 +220,7 @@ macro_rules! choices {
     };
 }
 
-impl ChoiceTable for RelaxationKind {
+impl ChoiceTable for RewriteKind {
     ghost sampled = { λ name none section o. none };
 
     #[inline(always)]
@@ -240,7 +240,7 @@ impl ChoiceTable for RelaxationKind {
 ///
 /// ```
 /// use linker_utils::elf::{LinkFacts, Operands};
-/// use linker_utils::loongarch64::{LoongArch64Relocation, RelaxationKind, choose};
+/// use linker_utils::loongarch64::{LoongArch64Relocation, RewriteKind, choose};
 ///
 /// // pcaddu18i ra, 0; jirl ra, ra, 0, which calls a function 0x1000 bytes on
 /// let call = [0x01, 0x00, 0x00, 0x1e, 0x21, 0x00, 0x00, 0x4c];
@@ -252,7 +252,7 @@ impl ChoiceTable for RelaxationKind {
 ///     ..LinkFacts::default()
 /// };
 /// let chosen = choose(LoongArch64Relocation::R_LARCH_CALL36, &call, 0, &facts);
-/// assert_eq!(chosen.kind, RelaxationKind::CallToBl);
+/// assert_eq!(chosen.kind, RewriteKind::CallToBl);
 /// assert_eq!(chosen.relocation, LoongArch64Relocation::R_LARCH_B26);
 /// ```
 #[inline]
@@ -261,12 +261,12 @@ pub fn choose(
     section: &[u8],
     offset: u64,
     facts: &LinkFacts,
-) -> Choice<RelaxationKind, LoongArch64Relocation>
+) -> Choice<RewriteKind, LoongArch64Relocation>
     ensures chosen { rewrites.IsLoongArchChoice name section.now offset facts.now result }
     ensures matches { rewrites.loongarch_matches result.kind section.now offset }
     ensures rewritable { CanRewrite (rewrites.loongarch_rewrite result.kind) section.now offset }
 {
-    RelaxationKind::choose(name, section, offset, facts)
+    RewriteKind::choose(name, section, offset, facts)
 }
 
 /// Whether a relocation can be rewritten, if all others of its sequence can: whether `choose` with
@@ -287,7 +287,7 @@ pub fn fits(name: LoongArch64Relocation, section: &[u8], offset: u64, facts: &Li
         ↔ Fits (rewrites.IsLoongArchChoice name section.now offset)
         (choice kinds.NoOp name) facts.now }
 {
-    RelaxationKind::fits(name, section, offset, facts)
+    RewriteKind::fits(name, section, offset, facts)
 }
 
 /// With the same facts, except that each has its own place, both relocations of a pair are

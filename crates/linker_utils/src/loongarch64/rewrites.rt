@@ -7,7 +7,7 @@ ghost use Rattle.linker_base.specs.RewriteWindow.{window_of_rewrite};
 ghost use Rattle.linker_utils.specs.LoongArchRewrites.{loongarch64_rewrites, loongarch_rewrite};
 ghost use Rattle.linker_utils.specs.LoongArchRewrites.{loongarch_modifier, loongarch_deleted};
 ghost use Rattle.linker_utils.specs.LoongArchRewrites.{loongarch_matches};
-ghost use Rattle.linker_utils.specs.declared.loongarch64.rewrites.RelaxationKind.TheVariants.{NoOp};
+ghost use Rattle.linker_utils.specs.declared.loongarch64.rewrites.RewriteKind.TheVariants.{NoOp};
 
 use crate::rewrite_rows::WordTest::{AreSame, DifferWhere, Is, IsEither, IsEitherOrWithin, IsNot};
 use crate::rewrite_rows::{bits, by_row, top};
@@ -20,16 +20,16 @@ use linker_elf::elf::InstructionRewrite;
 /// instruction is its bits 0 to 4, and the first source register its bits 5 to 9.
 ///
 /// ```
-/// use linker_utils::loongarch64::RelaxationKind;
+/// use linker_utils::loongarch64::RewriteKind;
 ///
 /// // `ld.d $a0, $a0, 0` becomes `addi.d $a0, $a0, 0`
 /// let (mut ld, mut offset, mut addend) = (0x28c0_0084u32.to_le_bytes(), 0, 0);
-/// assert!(RelaxationKind::LdToAddi.matches(&ld, offset));
-/// RelaxationKind::LdToAddi.apply(&mut ld, &mut offset, &mut addend);
+/// assert!(RewriteKind::LdToAddi.matches(&ld, offset));
+/// RewriteKind::LdToAddi.apply(&mut ld, &mut offset, &mut addend);
 /// assert_eq!(u32::from_le_bytes(ld), 0x02c0_0084);
 /// ```
 #[derive(Debug, Default, Clone, Copy, PartialEq, Eq)]
-pub enum RelaxationKind {
+pub enum RewriteKind {
     /// Leaves the instruction as it is; only the kind of its relocation changes.
     #[default]
     NoOp,
@@ -126,12 +126,12 @@ macro_rules! rewrites {
 }
 
 /// The rewrites by their numbers.
-const KINDS: &[RelaxationKind] = &rewrites!(kinds);
+const KINDS: &[RewriteKind] = &rewrites!(kinds);
 
-impl RelaxationKind {
+impl RewriteKind {
     /// The rewrite with a number, its place in the enum. None above the last.
     #[inline(always)]
-    pub fn from_number(number: u32) -> Option<RelaxationKind>
+    pub fn from_number(number: u32) -> Option<RewriteKind>
         ensures { result ≡ slice_get loongarch64_rewrites number }
     {
         KINDS.get(number as usize).copied()
@@ -203,10 +203,10 @@ impl RelaxationKind {
     /// `CallToB`, and the instruction itself for `Delete` and `DeleteAddi`. `None` for the others.
     ///
     /// ```
-    /// use linker_utils::loongarch64::RelaxationKind;
+    /// use linker_utils::loongarch64::RewriteKind;
     ///
     /// // the deletion of the jirl of a call at offset 8
-    /// let deleted = RelaxationKind::CallToBl.deleted().unwrap();
+    /// let deleted = RewriteKind::CallToBl.deleted().unwrap();
     /// assert_eq!((8 + deleted.start, deleted.count), (12, 4));
     /// ```
     #[inline]
@@ -217,7 +217,7 @@ impl RelaxationKind {
     }
 }
 
-impl InstructionRewrite for RelaxationKind {
+impl InstructionRewrite for RewriteKind {
     ghost rewrite = { loongarch_rewrite };
 
     ghost modifier = { loongarch_modifier };
@@ -228,26 +228,26 @@ impl InstructionRewrite for RelaxationKind {
 
     #[inline(always)]
     fn apply(self, section: &mut [u8], offset: &mut u64, addend: &mut i64) {
-        RelaxationKind::apply(self, section, offset, addend);
+        RewriteKind::apply(self, section, offset, addend);
     }
 
     #[inline(always)]
     fn can_apply(self, section: &[u8], offset: u64) -> bool {
-        RelaxationKind::can_apply(self, section, offset)
+        RewriteKind::can_apply(self, section, offset)
     }
 
     #[inline(always)]
     fn window(self) -> RewriteWindow {
-        RelaxationKind::window(self)
+        RewriteKind::window(self)
     }
 
     #[inline(always)]
     fn next_modifier(&self) -> RelocationModifier {
-        RelaxationKind::next_modifier(self)
+        RewriteKind::next_modifier(self)
     }
 
     #[inline(always)]
     fn is_no_op(self) -> bool {
-        matches!(self, RelaxationKind::NoOp)
+        matches!(self, RewriteKind::NoOp)
     }
 }

@@ -7,9 +7,9 @@ ghost use Rattle.linker_elf.proofs.SameNames.{equalities, exact_code};
 ghost use Rattle.linker_elf.specs.contracts.ppc64.relocations.Ppc64Relocation.{enum as names};
 ghost use Rattle.linker_utils.specs.Inner.Ppc64Choices.{MatchesPattern, ppc64_tables};
 ghost use Rattle.linker_utils.specs.Ppc64Rewrites as rewrites;
-ghost use Rattle.linker_utils.specs.declared.ppc64.rewrites.RelaxationKind.TheVariants as kinds;
+ghost use Rattle.linker_utils.specs.declared.ppc64.rewrites.RewriteKind.TheVariants as kinds;
 
-use super::rewrites::RelaxationKind;
+use super::rewrites::RewriteKind;
 use linker_elf::elf::choice_table::{
     ChoiceTable, Chosen, RewriteSet, Table, by_table, choice_by, conditions,
 };
@@ -22,7 +22,7 @@ pub enum Pattern {
     OfRewrite,
 }
 
-impl RewriteSet for RelaxationKind {
+impl RewriteSet for RewriteKind {
     type Relocation = Names;
 
     type Originals = Pattern;
@@ -182,7 +182,7 @@ macro_rules! choices {
     };
 }
 
-impl ChoiceTable for RelaxationKind {
+impl ChoiceTable for RewriteKind {
     ghost sampled = { λ name none section o. none };
 
     #[inline(always)]
@@ -218,7 +218,7 @@ impl ChoiceTable for RelaxationKind {
 ///
 /// ```
 /// use linker_utils::elf::LinkFacts;
-/// use linker_utils::ppc64::{Ppc64Relocation, RelaxationKind, choose};
+/// use linker_utils::ppc64::{Ppc64Relocation, RewriteKind, choose};
 ///
 /// // addis 9,2,x@got@tprel@ha; ld 9,x@got@tprel@l(9); lwzx 3,9,13, in an executable that defines x
 /// let words = [0x3d22_0000u32, 0xe929_0000, 0x7c69_682e];
@@ -230,11 +230,11 @@ impl ChoiceTable for RelaxationKind {
 /// };
 /// let chosen = |name, word: u32| choose(name, &word.to_le_bytes(), 0, &facts);
 /// let high = chosen(Ppc64Relocation::R_PPC64_GOT_TPREL16_HA, words[0]);
-/// assert_eq!(high.kind, RelaxationKind::AddisToNop);
+/// assert_eq!(high.kind, RewriteKind::AddisToNop);
 /// let low = chosen(Ppc64Relocation::R_PPC64_GOT_TPREL16_LO_DS, words[1]);
 /// assert_eq!(low.relocation, Ppc64Relocation::R_PPC64_TPREL16_HA);
 /// let load = chosen(Ppc64Relocation::R_PPC64_TLS, words[2]);
-/// assert_eq!(load.kind, RelaxationKind::IndexedToD);
+/// assert_eq!(load.kind, RewriteKind::IndexedToD);
 /// ```
 #[inline]
 pub fn choose(
@@ -242,12 +242,12 @@ pub fn choose(
     section: &[u8],
     offset: u64,
     facts: &LinkFacts,
-) -> Choice<RelaxationKind, Ppc64Relocation>
+) -> Choice<RewriteKind, Ppc64Relocation>
     ensures chosen { rewrites.IsPpc64Choice name section.now offset facts.now result }
     ensures matches { rewrites.ppc64_matches result.kind section.now offset }
     ensures rewritable { CanRewrite (rewrites.ppc64_rewrite result.kind) section.now offset }
 {
-    RelaxationKind::choose(name, section, offset, facts)
+    RewriteKind::choose(name, section, offset, facts)
 }
 
 /// Whether a relocation can be rewritten, if all others of its sequence can: whether `choose` with
@@ -265,7 +265,7 @@ pub fn fits(name: Ppc64Relocation, section: &[u8], offset: u64, facts: &LinkFact
     ensures { IsTrue result
         ↔ Fits (rewrites.IsPpc64Choice name section.now offset) (choice kinds.NoOp name) facts.now }
 {
-    RelaxationKind::fits(name, section, offset, facts)
+    RewriteKind::fits(name, section, offset, facts)
 }
 
 /// With the same facts, except that each has its own place, and each at an instruction that its

@@ -9,10 +9,10 @@ ghost use Rattle.linker_elf.specs.contracts.riscv64.relocations.RiscVRelocation.
 ghost use Rattle.linker_elf.specs.Value.{sum_64};
 ghost use Rattle.linker_utils.specs.Inner.RiscVChoices.{IsThere, riscv_tables};
 ghost use Rattle.linker_utils.specs.RiscVRewrites as rewrites;
-ghost use Rattle.linker_utils.specs.declared.riscv64.rewrites.RelaxationKind.TheVariants as kinds;
+ghost use Rattle.linker_utils.specs.declared.riscv64.rewrites.RewriteKind.TheVariants as kinds;
 
 use super::rewrites::{is_add_tp, is_addi_to_a0, is_auipc, is_ld, is_low_over_other, is_lui};
-use super::{RelaxationKind, RiscVRelocation, RiscVRelocation as Names};
+use super::{RewriteKind, RiscVRelocation, RiscVRelocation as Names};
 use linker_base::rewrite::has_window;
 use linker_elf::elf::choice_table::{
     ChoiceTable, Chosen, RewriteSet, SIGNED_12, Table, by_table, choice_by, conditions,
@@ -31,7 +31,7 @@ pub enum Pattern {
     LowOverOther,
 }
 
-impl RewriteSet for RelaxationKind {
+impl RewriteSet for RewriteKind {
     type Relocation = Names;
 
     type Originals = Pattern;
@@ -191,7 +191,7 @@ macro_rules! choices {
     };
 }
 
-impl ChoiceTable for RelaxationKind {
+impl ChoiceTable for RewriteKind {
     ghost sampled = { λ name none section o. none };
 
     #[inline(always)]
@@ -210,7 +210,7 @@ impl ChoiceTable for RelaxationKind {
 ///
 /// ```
 /// use linker_utils::elf::{LinkFacts, Operands};
-/// use linker_utils::riscv64::{RelaxationKind, RiscVRelocation, choose};
+/// use linker_utils::riscv64::{RewriteKind, RiscVRelocation, choose};
 ///
 /// // auipc ra, 0; jalr ra, 0(ra), which calls a function 0x1000 bytes on
 /// let call = [0x97, 0x00, 0x00, 0x00, 0xe7, 0x80, 0x00, 0x00];
@@ -227,7 +227,7 @@ impl ChoiceTable for RelaxationKind {
 ///     ..LinkFacts::default()
 /// };
 /// let chosen = choose(RiscVRelocation::R_RISCV_CALL_PLT, &call, 0, &facts);
-/// assert_eq!(chosen.kind, RelaxationKind::CallToJal);
+/// assert_eq!(chosen.kind, RewriteKind::CallToJal);
 /// assert_eq!(chosen.relocation, RiscVRelocation::R_RISCV_JAL);
 /// ```
 #[inline]
@@ -236,16 +236,16 @@ pub fn choose(
     section: &[u8],
     offset: u64,
     facts: &LinkFacts,
-) -> Choice<RelaxationKind, RiscVRelocation>
+) -> Choice<RewriteKind, RiscVRelocation>
     ensures chosen { rewrites.IsRiscVChoice name section.now offset facts.now result }
     ensures matches { rewrites.riscv_matches result.kind section.now offset }
     ensures rewritable { CanRewrite (rewrites.riscv_rewrite result.kind) section.now offset }
     // never an immediate of 0, which the ISA reserves
-    ensures compressed { result.kind ≡ RelaxationKind.Hi20ToCLui
+    ensures compressed { result.kind ≡ RewriteKind.Hi20ToCLui
         → rewrites.FitsClui (sum_64 facts.now.operands.symbol
         (cast_unsigned w64 facts.now.operands.addend)) }
 {
-    RelaxationKind::choose(name, section, offset, facts)
+    RewriteKind::choose(name, section, offset, facts)
 }
 
 /// Whether a relocation can be rewritten, if all others of its sequence can: whether `choose` with
@@ -263,7 +263,7 @@ pub fn fits(name: RiscVRelocation, section: &[u8], offset: u64, facts: &LinkFact
     ensures { IsTrue result
         ↔ Fits (rewrites.IsRiscVChoice name section.now offset) (choice kinds.NoOp name) facts.now }
 {
-    RelaxationKind::fits(name, section, offset, facts)
+    RewriteKind::fits(name, section, offset, facts)
 }
 
 /// With the same facts, all four relocations of a TLS descriptor are rewritten for local-exec, all

@@ -18,7 +18,7 @@ ghost use Rattle.linker_riscv64.specs.RiscVFields.{opcode_of, funct3_of};
 ghost use Rattle.linker_utils.specs.RiscVRewrites.{IsTailCall, IsClui, IsLd};
 ghost use Rattle.linker_utils.specs.RiscVRewrites.{IsLui, IsAuipc, IsAddTp, IsAddiToA0};
 ghost use Rattle.linker_utils.specs.RiscVRewrites.{IsCallOfDescriptor, IsLowOverOther};
-ghost use Rattle.linker_utils.specs.declared.riscv64.rewrites.RelaxationKind.TheVariants.{NoOp};
+ghost use Rattle.linker_utils.specs.declared.riscv64.rewrites.RewriteKind.TheVariants.{NoOp};
 
 use linker_base::bit_misc::BitExtraction;
 use linker_base::relaxation::RelocationModifier;
@@ -31,7 +31,7 @@ use linker_riscv64::{is_call_pair, is_plain_call};
 
 /// A rewrite of one instruction, or of a pair whose second instruction is then deleted.
 #[derive(Debug, Default, Clone, Copy, PartialEq, Eq)]
-pub enum RelaxationKind {
+pub enum RewriteKind {
     /// Leaves the instruction as it is; only the kind of its relocation changes.
     #[default]
     NoOp,
@@ -179,7 +179,7 @@ fn is_c_lui(half: u16) -> bool
     ensures { IsTrue result ↔ IsClui half }
 {
     let rd = u32::from(half) >> 7 & 0x1f;
-    half % 4 == 1 && half >> 13 == 3 && RelaxationKind::rd_valid_for_clui(rd)
+    half % 4 == 1 && half >> 13 == 3 && RewriteKind::rd_valid_for_clui(rd)
 }
 
 /// The instruction with x4, the thread pointer, as its first source register.
@@ -228,33 +228,33 @@ fn is_tail_call(section: &[u8], offset: u64) -> bool
     destination(jalr) == 0 && destination(auipc) != 0 && is_call_pair(auipc, jalr)
 }
 
-impl RelaxationKind {
+impl RewriteKind {
     /// The rewrite with a number, its place in the enum. None above the last.
     #[inline(always)]
-    pub fn from_number(number: u32) -> Option<RelaxationKind>
+    pub fn from_number(number: u32) -> Option<RewriteKind>
         ensures { result ≡ slice_get riscv_rewrites number }
     {
         let kind = match number {
-            0 => RelaxationKind::NoOp,
-            1 => RelaxationKind::ReplaceWithNop,
-            2 => RelaxationKind::CallToJal,
-            3 => RelaxationKind::Hi20ToCLui,
-            4 => RelaxationKind::Hi20Delete,
-            5 => RelaxationKind::Lo12Rs1ToZero,
-            6 => RelaxationKind::TailToJal,
-            7 => RelaxationKind::TailToCJ,
-            8 => RelaxationKind::Delete,
-            9 => RelaxationKind::ReplaceWithLongNop,
-            10 => RelaxationKind::BaseToTp,
-            11 => RelaxationKind::AddiToLui,
-            12 => RelaxationKind::AddiToAuipc,
-            13 => RelaxationKind::CallToAddi,
-            14 => RelaxationKind::CallToAddiZero,
-            15 => RelaxationKind::CallToLd,
-            16 => RelaxationKind::LdToAddi,
-            17 => RelaxationKind::CLuiToCLi,
-            18 => RelaxationKind::AuipcToLui,
-            19 => RelaxationKind::LdToAddiZero,
+            0 => RewriteKind::NoOp,
+            1 => RewriteKind::ReplaceWithNop,
+            2 => RewriteKind::CallToJal,
+            3 => RewriteKind::Hi20ToCLui,
+            4 => RewriteKind::Hi20Delete,
+            5 => RewriteKind::Lo12Rs1ToZero,
+            6 => RewriteKind::TailToJal,
+            7 => RewriteKind::TailToCJ,
+            8 => RewriteKind::Delete,
+            9 => RewriteKind::ReplaceWithLongNop,
+            10 => RewriteKind::BaseToTp,
+            11 => RewriteKind::AddiToLui,
+            12 => RewriteKind::AddiToAuipc,
+            13 => RewriteKind::CallToAddi,
+            14 => RewriteKind::CallToAddiZero,
+            15 => RewriteKind::CallToLd,
+            16 => RewriteKind::LdToAddi,
+            17 => RewriteKind::CLuiToCLi,
+            18 => RewriteKind::AuipcToLui,
+            19 => RewriteKind::LdToAddiZero,
             _ => return None,
         };
         Some(kind)
@@ -282,53 +282,53 @@ impl RelaxationKind {
         let _ = addend;
         let offset = *offset_in_section;
         match self {
-            RelaxationKind::NoOp | RelaxationKind::Hi20Delete | RelaxationKind::Delete => {}
-            RelaxationKind::ReplaceWithNop => {
+            RewriteKind::NoOp | RewriteKind::Hi20Delete | RewriteKind::Delete => {}
+            RewriteKind::ReplaceWithNop => {
                 overwrite(section_bytes, offset, &[0x01, 0x00, 0x01, 0x00]);
             }
-            RelaxationKind::CallToJal => {
+            RewriteKind::CallToJal => {
                 let auipc = u32_from_slice(&section_bytes[offset as usize..]);
                 let jal = 0x6f | (auipc >> 7 & 0x1f) << 7;
                 put_word(section_bytes, offset, jal);
             }
-            RelaxationKind::Hi20ToCLui => {
+            RewriteKind::Hi20ToCLui => {
                 let lui = half_at(section_bytes, offset);
                 let c_lui = 0x6001 | (lui >> 7 & 0x1f) << 7;
                 overwrite(section_bytes, offset, &c_lui.to_le_bytes());
             }
-            RelaxationKind::Lo12Rs1ToZero => {
+            RewriteKind::Lo12Rs1ToZero => {
                 let word = u32_from_slice(&section_bytes[offset as usize..]);
                 let from_x0 = word >> 20 << 20 | word & 0x7fff;
                 put_word(section_bytes, offset, from_x0);
             }
-            RelaxationKind::TailToJal => {
+            RewriteKind::TailToJal => {
                 overwrite(section_bytes, offset, &[0x6f, 0x00, 0x00, 0x00]);
             }
-            RelaxationKind::TailToCJ => overwrite(section_bytes, offset, &[0x01, 0xa0]),
-            RelaxationKind::ReplaceWithLongNop => put_word(section_bytes, offset, 0x0000_0013),
-            RelaxationKind::BaseToTp => {
+            RewriteKind::TailToCJ => overwrite(section_bytes, offset, &[0x01, 0xa0]),
+            RewriteKind::ReplaceWithLongNop => put_word(section_bytes, offset, 0x0000_0013),
+            RewriteKind::BaseToTp => {
                 let word = window_at(section_bytes, offset);
                 put_word(section_bytes, offset, over_tp(word));
             }
-            RelaxationKind::AddiToLui => put_word(section_bytes, offset, 0x0000_0537),
-            RelaxationKind::AddiToAuipc => put_word(section_bytes, offset, 0x0000_0517),
-            RelaxationKind::CallToAddi => put_word(section_bytes, offset, 0x0005_0513),
-            RelaxationKind::CallToAddiZero => put_word(section_bytes, offset, 0x0000_0513),
-            RelaxationKind::CallToLd => put_word(section_bytes, offset, 0x0005_3503),
-            RelaxationKind::LdToAddi => {
+            RewriteKind::AddiToLui => put_word(section_bytes, offset, 0x0000_0537),
+            RewriteKind::AddiToAuipc => put_word(section_bytes, offset, 0x0000_0517),
+            RewriteKind::CallToAddi => put_word(section_bytes, offset, 0x0005_0513),
+            RewriteKind::CallToAddiZero => put_word(section_bytes, offset, 0x0000_0513),
+            RewriteKind::CallToLd => put_word(section_bytes, offset, 0x0005_3503),
+            RewriteKind::LdToAddi => {
                 let ld = window_at(section_bytes, offset);
                 let rd = destination(ld);
                 put_word(section_bytes, offset, (ld >> 15 << 15) + (rd << 7) + 0x13);
             }
-            RelaxationKind::CLuiToCLi => {
+            RewriteKind::CLuiToCLi => {
                 let rd = half_at(section_bytes, offset) / 128 % 32;
                 overwrite(section_bytes, offset, &(0x4001 + rd * 128).to_le_bytes());
             }
-            RelaxationKind::AuipcToLui => {
+            RewriteKind::AuipcToLui => {
                 let rd = destination(window_at(section_bytes, offset));
                 put_word(section_bytes, offset, (rd << 7) + 0x37);
             }
-            RelaxationKind::LdToAddiZero => {
+            RewriteKind::LdToAddiZero => {
                 let rd = destination(window_at(section_bytes, offset));
                 put_word(section_bytes, offset, (rd << 7) + 0x13);
             }
@@ -352,8 +352,8 @@ impl RelaxationKind {
         ensures { result ≡ window_of_rewrite (riscv_rewrite self) }
     {
         let len = match self {
-            RelaxationKind::NoOp | RelaxationKind::Hi20Delete | RelaxationKind::Delete => 0,
-            RelaxationKind::Hi20ToCLui | RelaxationKind::TailToCJ | RelaxationKind::CLuiToCLi => 2,
+            RewriteKind::NoOp | RewriteKind::Hi20Delete | RewriteKind::Delete => 0,
+            RewriteKind::Hi20ToCLui | RewriteKind::TailToCJ | RewriteKind::CLuiToCLi => 2,
             _ => 4,
         };
         RewriteWindow { back: 0, len }
@@ -372,36 +372,32 @@ impl RelaxationKind {
         ensures rewritable { IsTrue result → CanRewrite (riscv_rewrite self) section.now offset }
     {
         match self {
-            RelaxationKind::NoOp => true,
-            RelaxationKind::CLuiToCLi => {
+            RewriteKind::NoOp => true,
+            RewriteKind::CLuiToCLi => {
                 has_window(section, offset, 0, 2) && is_c_lui(half_at(section, offset))
             }
-            RelaxationKind::TailToJal | RelaxationKind::TailToCJ => is_tail_call(section, offset),
-            RelaxationKind::CallToJal => {
+            RewriteKind::TailToJal | RewriteKind::TailToCJ => is_tail_call(section, offset),
+            RewriteKind::CallToJal => {
                 is_plain_call(section, offset) && destination(word_at(section, offset)) != 0
             }
             _ if !has_window(section, offset, 0, 4) => false,
-            RelaxationKind::ReplaceWithNop
-            | RelaxationKind::Delete
-            | RelaxationKind::ReplaceWithLongNop => true,
-            RelaxationKind::Hi20ToCLui => {
+            RewriteKind::ReplaceWithNop | RewriteKind::Delete | RewriteKind::ReplaceWithLongNop =>
+                true,
+            RewriteKind::Hi20ToCLui => {
                 let word = word_at(section, offset);
-                opcode(word) == 0x37 && RelaxationKind::rd_valid_for_clui(destination(word))
+                opcode(word) == 0x37 && RewriteKind::rd_valid_for_clui(destination(word))
             }
-            RelaxationKind::Hi20Delete => opcode(word_at(section, offset)) == 0x37,
-            RelaxationKind::Lo12Rs1ToZero | RelaxationKind::BaseToTp => {
+            RewriteKind::Hi20Delete => opcode(word_at(section, offset)) == 0x37,
+            RewriteKind::Lo12Rs1ToZero | RewriteKind::BaseToTp => {
                 adds_immediate(word_at(section, offset))
             }
-            RelaxationKind::AddiToLui | RelaxationKind::AddiToAuipc => {
+            RewriteKind::AddiToLui | RewriteKind::AddiToAuipc => {
                 is_addi_to_a0(word_at(section, offset))
             }
-            RelaxationKind::CallToAddi
-            | RelaxationKind::CallToAddiZero
-            | RelaxationKind::CallToLd => is_call_of_descriptor(word_at(section, offset)),
-            RelaxationKind::LdToAddi | RelaxationKind::LdToAddiZero => {
-                is_ld(word_at(section, offset))
-            }
-            RelaxationKind::AuipcToLui => is_auipc(word_at(section, offset)),
+            RewriteKind::CallToAddi | RewriteKind::CallToAddiZero | RewriteKind::CallToLd =>
+                is_call_of_descriptor(word_at(section, offset)),
+            RewriteKind::LdToAddi | RewriteKind::LdToAddiZero => { is_ld(word_at(section, offset)) }
+            RewriteKind::AuipcToLui => is_auipc(word_at(section, offset)),
         }
     }
 
@@ -412,10 +408,10 @@ impl RelaxationKind {
         ensures { result ≡ riscv_modifier self.now }
     {
         match self {
-            RelaxationKind::CallToJal
-            | RelaxationKind::Hi20Delete
-            | RelaxationKind::TailToJal
-            | RelaxationKind::TailToCJ => RelocationModifier::SkipNextRelocation,
+            RewriteKind::CallToJal
+            | RewriteKind::Hi20Delete
+            | RewriteKind::TailToJal
+            | RewriteKind::TailToCJ => RelocationModifier::SkipNextRelocation,
             _ => RelocationModifier::Normal,
         }
     }
@@ -437,10 +433,10 @@ impl RelaxationKind {
     /// `TailToJal`, `TailToCJ`, `Hi20ToCLui`, `Hi20Delete` and `Delete` have some.
     ///
     /// ```
-    /// use linker_utils::riscv64::RelaxationKind;
+    /// use linker_utils::riscv64::RewriteKind;
     ///
     /// // the deletion of the jalr of a call at offset 8
-    /// let deleted = RelaxationKind::CallToJal.deleted().unwrap();
+    /// let deleted = RewriteKind::CallToJal.deleted().unwrap();
     /// assert_eq!((8 + deleted.start, deleted.count), (12, 4));
     /// ```
     #[inline]
@@ -448,10 +444,10 @@ impl RelaxationKind {
         ensures { result ≡ riscv_deleted self }
     {
         let (start, count) = match self {
-            RelaxationKind::CallToJal | RelaxationKind::TailToJal => (4, 4),
-            RelaxationKind::TailToCJ => (2, 6),
-            RelaxationKind::Hi20ToCLui => (2, 2),
-            RelaxationKind::Hi20Delete | RelaxationKind::Delete => (0, 4),
+            RewriteKind::CallToJal | RewriteKind::TailToJal => (4, 4),
+            RewriteKind::TailToCJ => (2, 6),
+            RewriteKind::Hi20ToCLui => (2, 2),
+            RewriteKind::Hi20Delete | RewriteKind::Delete => (0, 4),
             _ => return None,
         };
         Some(DeletedBytes { start, count })
@@ -512,7 +508,7 @@ pub fn may_be_skipped(name: RiscVRelocation) -> bool
     matches!(name, RiscVRelocation::R_RISCV_RELAX)
 }
 
-impl InstructionRewrite for RelaxationKind {
+impl InstructionRewrite for RewriteKind {
     ghost rewrite = { riscv_rewrite };
 
     ghost modifier = { riscv_modifier };
@@ -523,26 +519,26 @@ impl InstructionRewrite for RelaxationKind {
 
     #[inline(always)]
     fn apply(self, section: &mut [u8], offset: &mut u64, addend: &mut i64) {
-        RelaxationKind::apply(self, section, offset, addend);
+        RewriteKind::apply(self, section, offset, addend);
     }
 
     #[inline(always)]
     fn can_apply(self, section: &[u8], offset: u64) -> bool {
-        RelaxationKind::can_apply(self, section, offset)
+        RewriteKind::can_apply(self, section, offset)
     }
 
     #[inline(always)]
     fn window(self) -> RewriteWindow {
-        RelaxationKind::window(self)
+        RewriteKind::window(self)
     }
 
     #[inline(always)]
     fn next_modifier(&self) -> RelocationModifier {
-        RelaxationKind::next_modifier(self)
+        RewriteKind::next_modifier(self)
     }
 
     #[inline(always)]
     fn is_no_op(self) -> bool {
-        matches!(self, RelaxationKind::NoOp)
+        matches!(self, RewriteKind::NoOp)
     }
 }

@@ -7,10 +7,10 @@ ghost use Rattle.linker_elf.proofs.SameNames.{equalities, exact_code};
 ghost use Rattle.linker_elf.specs.contracts.x86_64.relocations.X86_64Relocation.{enum as names};
 ghost use Rattle.linker_utils.specs.Inner.X86Tables.{MatchesPattern, none_sampled, x86_64_tables};
 ghost use Rattle.linker_utils.specs.X86Rewrites as rewrites;
-ghost use Rattle.linker_utils.specs.declared.x86_64.rewrites.RelaxationKind.TheVariants as kinds;
+ghost use Rattle.linker_utils.specs.declared.x86_64.rewrites.RewriteKind.TheVariants as kinds;
 
 use super::rewrites::{by_row, is_lea_of_descriptor, is_legacy, of_row, rewrites};
-use super::{RelaxationKind, X86_64Relocation, X86_64Relocation as Names};
+use super::{RewriteKind, X86_64Relocation, X86_64Relocation as Names};
 use crate::rewrite_rows::or;
 use linker_elf::elf::choice_table::{
     ChoiceTable, Chosen, RewriteSet, Table, by_table, choice_by, conditions, table_of,
@@ -28,7 +28,7 @@ pub enum Pattern {
     LeaOfDescriptor(u8),
 }
 
-impl RewriteSet for RelaxationKind {
+impl RewriteSet for RewriteKind {
     type Relocation = Names;
 
     type Originals = Pattern;
@@ -140,12 +140,12 @@ macro_rules! choices {
     };
 }
 
-static BRANCH: Table<RelaxationKind> = table_of!(when [
+static BRANCH: Table<RewriteKind> = table_of!(when [
     CallIndirectToRelative => R_X86_64_PC32, distance;
     JmpIndirectToRelative => R_X86_64_PC32, distance;
 ]);
 
-static LOAD: Table<RelaxationKind> =
+static LOAD: Table<RewriteKind> =
     table_of!(when [MovIndirectToLea at Legacy(3, 0x8b) => R_X86_64_PC32, distance]);
 
 /// The entries of an operation on an operand in the GOT.
@@ -200,8 +200,8 @@ macro_rules! by_opcode {
     };
     (@ $opcode:expr, $table:ident => $use:expr; $($of_table:literal $entries:expr;)*) => {
         match $opcode {
-            $($of_table => { let $table: Table<RelaxationKind> = $entries; $use })*
-            _ => { let $table: Table<RelaxationKind> = &[]; $use }
+            $($of_table => { let $table: Table<RewriteKind> = $entries; $use })*
+            _ => { let $table: Table<RewriteKind> = &[]; $use }
         }
     };
 }
@@ -228,7 +228,7 @@ macro_rules! by_name {
 
 /// The entries of a relocation, by an opcode.
 #[inline(always)]
-fn entries_by(name: Names, opcode: u8) -> Table<RelaxationKind>
+fn entries_by(name: Names, opcode: u8) -> Table<RewriteKind>
     ensures table { IsTableOf MatchesPattern
         (rewrites.HasPattern (rewrites.x86_64_table name opcode).instructions)
         result.now (rewrites.x86_64_table name opcode).entries }
@@ -240,13 +240,13 @@ fn entries_by(name: Names, opcode: u8) -> Table<RelaxationKind>
 /// The choice by a table of a name and an opcode.
 #[inline(always)]
 fn choice_by_opcode(
-    table: Table<RelaxationKind>,
+    table: Table<RewriteKind>,
     name: Names,
     opcode: u8,
     section: &[u8],
     offset: u64,
     facts: &LinkFacts,
-) -> Chosen<RelaxationKind>
+) -> Chosen<RewriteKind>
     requires table { IsTableOf MatchesPattern
         (rewrites.HasPattern (rewrites.x86_64_table name opcode).instructions)
         table.now (rewrites.x86_64_table name opcode).entries }
@@ -281,7 +281,7 @@ fn opcode_at(name: Names, section: &[u8], offset: u64) -> u8
     }
 }
 
-impl ChoiceTable for RelaxationKind {
+impl ChoiceTable for RewriteKind {
     ghost sampled = { λ name none section o. none_sampled name none (rewrites.opcode_at name section o) };
 
     #[inline(always)]
@@ -315,7 +315,7 @@ impl ChoiceTable for RelaxationKind {
 ///
 /// ```
 /// use linker_utils::elf::{LinkFacts, Operands};
-/// use linker_utils::x86_64::{RelaxationKind, X86_64Relocation, choose, row};
+/// use linker_utils::x86_64::{RewriteKind, X86_64Relocation, choose, row};
 ///
 /// // mov x@GOTPCREL(%rip), %rdi, in an executable that is always loaded at one address
 /// let mut section = [0x48, 0x8b, 0x3d, 0, 0, 0, 0];
@@ -331,7 +331,7 @@ impl ChoiceTable for RelaxationKind {
 ///     ..LinkFacts::default()
 /// };
 /// let choice = choose(X86_64Relocation::R_X86_64_REX_GOTPCRELX, &section, 3, &facts);
-/// assert_eq!(choice.kind, RelaxationKind::RexMovIndirectToAbsolute(3));
+/// assert_eq!(choice.kind, RewriteKind::RexMovIndirectToAbsolute(3));
 /// assert_eq!(choice.relocation, X86_64Relocation::R_X86_64_32S);
 ///
 /// // it becomes mov $0x404010, %rdi
@@ -348,11 +348,11 @@ pub fn choose(
     section: &[u8],
     offset: u64,
     facts: &LinkFacts,
-) -> Choice<RelaxationKind, X86_64Relocation>
+) -> Choice<RewriteKind, X86_64Relocation>
     ensures chosen { rewrites.IsX86Choice name section.now offset facts.now result }
     ensures matches { rewrites.x86_64_matches result.kind section.now offset }
 {
-    RelaxationKind::choose(name, section, offset, facts)
+    RewriteKind::choose(name, section, offset, facts)
 }
 
 /// Whether a relocation can be rewritten, if all others of its sequence can: whether `choose` with
@@ -371,5 +371,5 @@ pub fn fits(name: X86_64Relocation, section: &[u8], offset: u64, facts: &LinkFac
     ensures { IsTrue result
         ↔ Fits (rewrites.IsX86Choice name section.now offset) (choice kinds.NoOp name) facts.now }
 {
-    RelaxationKind::fits(name, section, offset, facts)
+    RewriteKind::fits(name, section, offset, facts)
 }

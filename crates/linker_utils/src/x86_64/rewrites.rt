@@ -17,7 +17,7 @@ ghost use Rattle.linker_utils.specs.X86Rewrites.{x86_64_originals, x86_64_matche
 ghost use Rattle.linker_utils.specs.X86Rewrites.{HaveFieldAt, x86_64_may_be_skipped};
 ghost use Rattle.linker_base.specs.declared.relaxation.RelocationModifier.TheVariants.{Normal};
 ghost use Rattle.linker_base.specs.declared.relaxation.RelocationModifier.TheVariants.{SkipNextRelocation};
-ghost use Rattle.linker_utils.specs.declared.x86_64.rewrites.RelaxationKind.TheVariants.{NoOp};
+ghost use Rattle.linker_utils.specs.declared.x86_64.rewrites.RewriteKind.TheVariants.{NoOp};
 
 use super::X86_64Relocation;
 use crate::rewrite_rows::or;
@@ -32,17 +32,17 @@ use linker_elf::elf::InstructionRewrite;
 /// unchanged.
 ///
 /// ```
-/// use linker_utils::x86_64::RelaxationKind;
+/// use linker_utils::x86_64::RewriteKind;
 ///
 /// // jmp *x@GOTPCREL(%rip) becomes jmp x; nop
 /// let (mut section, mut offset, mut addend) = ([0xff, 0x25, 0, 0, 0, 0], 2, -4);
-/// assert!(RelaxationKind::JmpIndirectToRelative.matches(&section, offset));
-/// RelaxationKind::JmpIndirectToRelative.apply(&mut section, &mut offset, &mut addend);
+/// assert!(RewriteKind::JmpIndirectToRelative.matches(&section, offset));
+/// RewriteKind::JmpIndirectToRelative.apply(&mut section, &mut offset, &mut addend);
 /// assert_eq!(section, [0xe9, 0, 0, 0, 0, 0x90]);
 /// assert_eq!((offset, addend), (1, -4));
 /// ```
 #[derive(Debug, Default, Clone, Copy, PartialEq, Eq)]
-pub enum RelaxationKind {
+pub enum RewriteKind {
     /// Turns `mov x@GOTPCREL(%rip), %reg` into `lea x(%rip), %reg`.
     MovIndirectToLea,
     /// Turns `mov x@GOTPCREL(%rip), %reg` into `mov $x, %reg`, where no prefix names the register.
@@ -480,7 +480,7 @@ macro_rules! by_row {
         match $value {
             $($number => {
                 $(let $n = $len;)?
-                RelaxationKind::$kind$(($n))?
+                RewriteKind::$kind$(($n))?
             })*
             _ => return None,
         }
@@ -492,7 +492,7 @@ macro_rules! by_row {
             $(skip $skip:literal)?;)*
     ) => {
         match $value {
-            $(RelaxationKind::$kind$(($n))? => {
+            $(RewriteKind::$kind$(($n))? => {
                 $(let _ = $n;)?
                 of_row!($asked $number, or!(0; $($n)?), [$($is)*], [$($edit)*],
                     ($($addend)? $(on $on)? $(back $back)?), or!(None; $(Some($skip))?))
@@ -568,11 +568,11 @@ macro_rules! rewrites {
 
 pub(super) use rewrites;
 
-impl RelaxationKind {
+impl RewriteKind {
     /// The rewrite with a number, its place in the enum. None above the last. The rewrites that
     /// have a number of bytes before the field take `opcode_len`.
     #[inline(always)]
-    pub fn from_number(number: u32, opcode_len: u8) -> Option<RelaxationKind>
+    pub fn from_number(number: u32, opcode_len: u8) -> Option<RewriteKind>
         ensures { result ≡ slice_get (x86_64_rewrites opcode_len) number }
     {
         Some(rewrites!(kinds number, opcode_len))
@@ -613,7 +613,7 @@ impl RelaxationKind {
         ensures offset { offset_in_section.new
             ≡ offset_after (x86_64_rewrite self) offset_in_section.old }
         ensures addend { addend.new ≡ addend_after (x86_64_rewrite self) addend.old }
-        ensures register { self ≡ RelaxationKind.RexMovIndirectToAbsolute 3
+        ensures register { self ≡ RewriteKind.RexMovIndirectToAbsolute 3
             → KeepsRegister section_bytes.old section_bytes.new offset_in_section.old }
     {
         self.rewrite(section_bytes, offset_in_section, addend);
@@ -689,12 +689,12 @@ impl RelaxationKind {
     /// `__tls_get_addr`. Without it the next relocation may be that of another call.
     ///
     /// ```
-    /// use linker_utils::x86_64::RelaxationKind;
+    /// use linker_utils::x86_64::RewriteKind;
     ///
     /// // lea x@tlsld(%rip), %rdi; call __tls_get_addr@PLT
     /// let sequence = [0x48, 0x8d, 0x3d, 0, 0, 0, 0, 0xe8, 0, 0, 0, 0];
-    /// assert!(RelaxationKind::TlsLdToLocalExec.matches(&sequence, 3));
-    /// assert_eq!(RelaxationKind::TlsLdToLocalExec.skipped_offset(), Some(5));
+    /// assert!(RewriteKind::TlsLdToLocalExec.matches(&sequence, 3));
+    /// assert_eq!(RewriteKind::TlsLdToLocalExec.skipped_offset(), Some(5));
     /// ```
     #[inline]
     #[tactic(auto, using(crate::proofs::X86Skipped::of_general_dynamic, crate::proofs::X86Skipped::of_large, crate::proofs::X86Skipped::of_local_dynamic, crate::proofs::X86Skipped::of_local_dynamic_by_got))]
@@ -725,7 +725,7 @@ pub fn may_be_skipped(name: X86_64Relocation) -> bool
     )
 }
 
-impl InstructionRewrite for RelaxationKind {
+impl InstructionRewrite for RewriteKind {
     ghost rewrite = { x86_64_rewrite };
 
     ghost modifier = { x86_64_modifier };
@@ -736,26 +736,26 @@ impl InstructionRewrite for RelaxationKind {
 
     #[inline(always)]
     fn apply(self, section: &mut [u8], offset: &mut u64, addend: &mut i64) {
-        RelaxationKind::apply(self, section, offset, addend);
+        RewriteKind::apply(self, section, offset, addend);
     }
 
     #[inline(always)]
     fn can_apply(self, section: &[u8], offset: u64) -> bool {
-        RelaxationKind::can_apply(self, section, offset)
+        RewriteKind::can_apply(self, section, offset)
     }
 
     #[inline(always)]
     fn window(self) -> RewriteWindow {
-        RelaxationKind::window(self)
+        RewriteKind::window(self)
     }
 
     #[inline(always)]
     fn next_modifier(&self) -> RelocationModifier {
-        RelaxationKind::next_modifier(self)
+        RewriteKind::next_modifier(self)
     }
 
     #[inline(always)]
     fn is_no_op(self) -> bool {
-        matches!(self, RelaxationKind::NoOp)
+        matches!(self, RewriteKind::NoOp)
     }
 }

@@ -386,7 +386,7 @@ pub fn choice_by<K: RewriteSet>(
 
 // The macros below make an architecture's tables of its `choices!`, which lists for each
 // relocation, or for several with `|` between, its entries in brackets. The module that calls them
-// has the enums `RelaxationKind`, `Pattern` and, by the name `Names`, that of the relocations.
+// has the enums `RewriteKind`, `Pattern` and, by the name `Names`, that of the relocations.
 
 /// Conditions on values, each a variant of `ValueCondition` with the name of a relocation. Without
 /// a count of bytes before the place that is 0.
@@ -448,7 +448,7 @@ macro_rules! table_of {
                 originals: $crate::linker_elf::elf::choice_table::originals!(
                     $($originals $(($($argument),*))?)?
                 ),
-                kind: RelaxationKind::$kind $(($n))?,
+                kind: RewriteKind::$kind $(($n))?,
                 relocation: Names::$name,
                 conditions: $when!($conditions $($($of)*)?),
             },)*
@@ -466,12 +466,12 @@ macro_rules! by_table {
         match $value {
             $($($before)*)?
             $($(Names::$name)|+ => {
-                let $table: $crate::linker_elf::elf::choice_table::Table<RelaxationKind> =
+                let $table: $crate::linker_elf::elf::choice_table::Table<RewriteKind> =
                     $crate::linker_elf::elf::choice_table::table_of!($when $entries);
                 $use
             })*
             _ => {
-                let $table: $crate::linker_elf::elf::choice_table::Table<RelaxationKind> = &[];
+                let $table: $crate::linker_elf::elf::choice_table::Table<RewriteKind> = &[];
                 $use
             }
         }

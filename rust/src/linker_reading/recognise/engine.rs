@@ -206,7 +206,7 @@ fn first_at<N: RecognisedName>(
 /// ```
 /// use linker_utils::source::recognise::recognise;
 /// use linker_utils::riscv64::RiscVRelocation;
-/// use linker_utils::x86_64::{RelaxationKind, X86_64Relocation};
+/// use linker_utils::x86_64::{RewriteKind, X86_64Relocation};
 ///
 /// // mov x@GOTPCREL(%rip), %rdi became lea x(%rip), %rdi
 /// let original = [0x48, 0x8b, 0x3d, 0, 0, 0, 0];
@@ -214,7 +214,7 @@ fn first_at<N: RecognisedName>(
 /// let name = X86_64Relocation::R_X86_64_REX_GOTPCRELX;
 /// let mut choices = recognise(name, &original, 3, &[], &linked).into_iter().flatten();
 /// let made = choices.next().unwrap();
-/// assert_eq!(made.choice.kind, RelaxationKind::MovIndirectToLea);
+/// assert_eq!(made.choice.kind, RewriteKind::MovIndirectToLea);
 /// assert_eq!(made.value.unwrap().number(), Some(0x2010));
 /// assert!(choices.next().is_none());
 ///

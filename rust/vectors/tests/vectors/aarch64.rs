@@ -9,7 +9,7 @@ mod offsets;
 mod pairs;
 
 use linker_utils::aarch64::{
-    AArch64Relocation, RelaxationKind, TLS_TCB_SIZE, is_adrp_pair, relocation_type_from_raw,
+    AArch64Relocation, RewriteKind, TLS_TCB_SIZE, is_adrp_pair, relocation_type_from_raw,
     write_mov_sequence,
 };
 use linker_utils::bit_misc::BitExtraction;
@@ -152,7 +152,7 @@ fn page_and_offset_pairs_match_linkers() {
 fn rewritten(
     section: &mut [u8],
     at: u64,
-    kind: RelaxationKind,
+    kind: RewriteKind,
     form: AArch64Instruction,
     value: u64,
 ) -> bool {
@@ -186,7 +186,7 @@ fn rewrites_match_linkers() {
             rewritten(
                 &mut section,
                 4,
-                RelaxationKind::AdrpAddToNopAdr,
+                RewriteKind::AdrpAddToNopAdr,
                 AArch64Instruction::Adr,
                 value
             ),
@@ -198,11 +198,11 @@ fn rewrites_match_linkers() {
         let mut section = before;
         assert!(is_adrp_pair(&section, 4), "{page} and {low}");
         assert!(
-            rewritten(&mut section, 0, RelaxationKind::NoOp, AArch64Instruction::Adr, page),
+            rewritten(&mut section, 0, RewriteKind::NoOp, AArch64Instruction::Adr, page),
             "{page} and {low}"
         );
         assert!(
-            rewritten(&mut section, 4, RelaxationKind::LdrToAdd, AArch64Instruction::Add, low),
+            rewritten(&mut section, 4, RewriteKind::LdrToAdd, AArch64Instruction::Add, low),
             "{page} and {low}"
         );
         assert_eq!(section, after, "{page:?}, {low:?}");
@@ -211,29 +211,23 @@ fn rewrites_match_linkers() {
         let mut section = before;
         assert!(is_adrp_pair(&section, 4), "{high} and {low}");
         assert!(
-            rewritten(
-                &mut section,
-                0,
-                RelaxationKind::MovzXnLsl16,
-                AArch64Instruction::Movkz,
-                high
-            ),
+            rewritten(&mut section, 0, RewriteKind::MovzXnLsl16, AArch64Instruction::Movkz, high),
             "{high} and {low}"
         );
         assert!(
-            rewritten(&mut section, 4, RelaxationKind::MovkXn, AArch64Instruction::Movkz, low),
+            rewritten(&mut section, 4, RewriteKind::MovkXn, AArch64Instruction::Movkz, low),
             "{high} and {low}"
         );
         assert_eq!(section, after, "{high:?}, {low:?}");
     }
     let mut section = [0, 0, 0, 0x90, 1, 0, 0x40, 0xf9, 0, 0, 0, 0x91, 0x20, 0, 0x3f, 0xd6];
-    assert!(rewritten(&mut section, 0, RelaxationKind::MovzX0Lsl16, AArch64Instruction::Movkz, 1));
-    assert!(rewritten(&mut section, 4, RelaxationKind::MovkX0, AArch64Instruction::Movkz, 0));
+    assert!(rewritten(&mut section, 0, RewriteKind::MovzX0Lsl16, AArch64Instruction::Movkz, 1));
+    assert!(rewritten(&mut section, 4, RewriteKind::MovkX0, AArch64Instruction::Movkz, 0));
     let mut addend = 0;
     for at in [8u64, 12] {
         let mut offset = at;
-        assert!(RelaxationKind::ReplaceWithNop.can_apply(&section, offset), "at {at}");
-        RelaxationKind::ReplaceWithNop.apply(&mut section, &mut offset, &mut addend);
+        assert!(RewriteKind::ReplaceWithNop.can_apply(&section, offset), "at {at}");
+        RewriteKind::ReplaceWithNop.apply(&mut section, &mut offset, &mut addend);
     }
     assert_eq!(
         section,
@@ -242,7 +236,7 @@ fn rewrites_match_linkers() {
 }
 
 /// The word after a rewrite, or `None` if it may not be applied.
-fn rewritten_word(kind: RelaxationKind, word: u32) -> Option<u32> {
+fn rewritten_word(kind: RewriteKind, word: u32) -> Option<u32> {
     let mut section = word.to_le_bytes();
     if !kind.can_apply(&section, 0) {
         return None;
@@ -255,13 +249,13 @@ fn rewritten_word(kind: RelaxationKind, word: u32) -> Option<u32> {
 
 #[test]
 fn rewrites_of_one_instruction_match_worked_words() {
-    let table: [(RelaxationKind, u32, Option<u32>); 6] = [
-        (RelaxationKind::NoOp, 0xf940_0421, Some(0xf940_0421)),
-        (RelaxationKind::AddToAdr, 0x9100_0021, Some(0x1000_0021)),
-        (RelaxationKind::AdrpToAdr, 0xb000_0003, Some(0x3000_0003)),
-        (RelaxationKind::AdrpX0, 0xffff_ffff, Some(0x9000_0000)),
-        (RelaxationKind::LdrX0, 0xffff_ffff, Some(0xf940_0000)),
-        (RelaxationKind::AdrpAddToNopAdr, 0x9000_0003, None),
+    let table: [(RewriteKind, u32, Option<u32>); 6] = [
+        (RewriteKind::NoOp, 0xf940_0421, Some(0xf940_0421)),
+        (RewriteKind::AddToAdr, 0x9100_0021, Some(0x1000_0021)),
+        (RewriteKind::AdrpToAdr, 0xb000_0003, Some(0x3000_0003)),
+        (RewriteKind::AdrpX0, 0xffff_ffff, Some(0x9000_0000)),
+        (RewriteKind::LdrX0, 0xffff_ffff, Some(0xf940_0000)),
+        (RewriteKind::AdrpAddToNopAdr, 0x9000_0003, None),
     ];
     for &(kind, before, after) in &table {
         assert_eq!(rewritten_word(kind, before), after, "{before:?}");
@@ -279,28 +273,28 @@ fn rewrites_match_their_instructions() {
     let add_x3 = 0x9100_0063;
     let add_x4 = 0x9100_0064;
     let shifted = 0x9140_0063;
-    let table: [(RelaxationKind, u32, u32, bool); 14] = [
-        (RelaxationKind::AdrpAddToNopAdr, adrp_x3, add_x3, true),
-        (RelaxationKind::AdrpAddToNopAdr, adrp_x0, add_x3, false),
-        (RelaxationKind::AdrpAddToNopAdr, adrp_x3, add_x4, false),
-        (RelaxationKind::AdrpAddToNopAdr, adrp_x3, shifted, false),
-        (RelaxationKind::AddToAdr, 0, add_x4, true),
-        (RelaxationKind::AddToAdr, 0, shifted, false),
-        (RelaxationKind::AdrpX0, 0, adrp_x0, true),
-        (RelaxationKind::AdrpX0, 0, adrp_x3, false),
-        (RelaxationKind::LdrX0, 0, ldr_x1, true),
-        (RelaxationKind::LdrToAdd, 0, ldr_x1, true),
-        (RelaxationKind::LdrToAdd, 0, ldr_w3, false),
-        (RelaxationKind::MovkXn, 0, ldr_x1, false),
-        (RelaxationKind::MovkXn, 0, add_x3, false),
+    let table: [(RewriteKind, u32, u32, bool); 14] = [
+        (RewriteKind::AdrpAddToNopAdr, adrp_x3, add_x3, true),
+        (RewriteKind::AdrpAddToNopAdr, adrp_x0, add_x3, false),
+        (RewriteKind::AdrpAddToNopAdr, adrp_x3, add_x4, false),
+        (RewriteKind::AdrpAddToNopAdr, adrp_x3, shifted, false),
+        (RewriteKind::AddToAdr, 0, add_x4, true),
+        (RewriteKind::AddToAdr, 0, shifted, false),
+        (RewriteKind::AdrpX0, 0, adrp_x0, true),
+        (RewriteKind::AdrpX0, 0, adrp_x3, false),
+        (RewriteKind::LdrX0, 0, ldr_x1, true),
+        (RewriteKind::LdrToAdd, 0, ldr_x1, true),
+        (RewriteKind::LdrToAdd, 0, ldr_w3, false),
+        (RewriteKind::MovkXn, 0, ldr_x1, false),
+        (RewriteKind::MovkXn, 0, add_x3, false),
         // `ldr xzr, [sp]`: both registers have the number 31
-        (RelaxationKind::MovkXn, 0, 0xf940_03ff, false),
+        (RewriteKind::MovkXn, 0, 0xf940_03ff, false),
     ];
     for (kind, first, second, want) in table {
         let section = (u64::from(first) | u64::from(second) << 32).to_le_bytes();
         assert_eq!(kind.matches(&section, 4), want, "{kind:?}, {first:?}, {second:?}");
         assert!(!kind.matches(&section, 5), "{kind:?}");
-        if kind == RelaxationKind::AdrpAddToNopAdr {
+        if kind == RewriteKind::AdrpAddToNopAdr {
             assert_eq!(is_adrp_pair(&section, 4), want, "{first:?}, {second:?}");
         }
     }

@@ -9,7 +9,7 @@ use linker_utils::bit_misc::BitExtraction;
 use linker_utils::elf::{
     AllowedRange, Bias, Ppc64Instruction, RelocationKind, RelocationKindInfo, RelocationSize,
 };
-use linker_utils::ppc64::{Ppc64Relocation, RelaxationKind, relocation_type_from_raw, write_ha_lo};
+use linker_utils::ppc64::{Ppc64Relocation, RewriteKind, relocation_type_from_raw, write_ha_lo};
 use linker_utils::relaxation::RelocationModifier;
 
 /// `addi` and other D-forms: the word before, the value, the word after, and the number that the
@@ -384,11 +384,11 @@ fn no_ops_change_nothing() {
     let mut section = [1, 2, 3, 4];
     let mut offset = u64::MAX;
     let mut addend = 7;
-    RelaxationKind::NoOp.apply(&mut section, &mut offset, &mut addend);
+    RewriteKind::NoOp.apply(&mut section, &mut offset, &mut addend);
     assert_eq!(section, [1, 2, 3, 4]);
     assert_eq!((offset, addend), (u64::MAX, 7));
-    assert!(RelaxationKind::NoOp.can_apply(&[], u64::MAX));
-    assert_eq!(RelaxationKind::NoOp.next_modifier(), RelocationModifier::Normal);
+    assert!(RewriteKind::NoOp.can_apply(&[], u64::MAX));
+    assert_eq!(RewriteKind::NoOp.next_modifier(), RelocationModifier::Normal);
 }
 
 fn info(

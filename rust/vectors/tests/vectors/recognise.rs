@@ -2,21 +2,21 @@
 //! What linkers made of instructions and sequences.
 
 use crate::{aarch64, loongarch64, ppc64, riscv64, x86_64};
-use linker_utils::aarch64::{AArch64Relocation, RelaxationKind as AArch64Kind};
+use linker_utils::aarch64::{AArch64Relocation, RewriteKind as AArch64Kind};
 use linker_utils::architecture::Relaxation;
 use linker_utils::bit_misc::BitRange;
 use linker_utils::choice_table::ChoiceTable;
 use linker_utils::elf::{
     Architecture, Choice, InstructionRewrite, LinkFacts, Operands, RelocateError,
 };
-use linker_utils::loongarch64::{LoongArch64Relocation, RelaxationKind as LoongArchKind};
-use linker_utils::ppc64::{Ppc64Relocation, RelaxationKind as Ppc64Kind};
+use linker_utils::loongarch64::{LoongArch64Relocation, RewriteKind as LoongArchKind};
+use linker_utils::ppc64::{Ppc64Relocation, RewriteKind as Ppc64Kind};
 use linker_utils::reading::FieldValue;
 use linker_utils::recognise::{
     FieldBits, Recognised, Windows, architecture, recognise, same_but_for,
 };
-use linker_utils::riscv64::{RelaxationKind as RiscVKind, RiscVRelocation};
-use linker_utils::x86_64::{RelaxationKind as X86Kind, X86_64Relocation};
+use linker_utils::riscv64::{RewriteKind as RiscVKind, RiscVRelocation};
+use linker_utils::x86_64::{RewriteKind as X86Kind, X86_64Relocation};
 use std::collections::BTreeSet;
 
 fn x86_64_choice(kind: X86Kind, relocation: X86_64Relocation) -> Choice<X86Kind, X86_64Relocation> {

@@ -11,7 +11,7 @@ use linker_utils::elf::{
     InstructionForm, Operands, RelocateError, RelocationInstruction, RiscVInstruction,
 };
 use linker_utils::relaxation::RelocationModifier;
-use linker_utils::riscv64::{RelaxationKind, clui_row, is_plain_call, jal_site};
+use linker_utils::riscv64::{RewriteKind, clui_row, is_plain_call, jal_site};
 use linker_utils::utils::u32_from_slice;
 
 /// What `read_value` returns where the machine reads `machine`.
@@ -98,11 +98,11 @@ fn both(words: [u32; 2]) -> [u8; 8] {
 fn shortened_lui_match_gnu_ld() {
     for (before, value, after) in pairs::SHORTENED_LUI {
         let value = value as u64;
-        assert!(RelaxationKind::hi20_fits_clui(value), "{value:?}");
+        assert!(RewriteKind::hi20_fits_clui(value), "{value:?}");
         let mut section = before;
         let mut offset = 0;
         let mut addend = 0;
-        RelaxationKind::Hi20ToCLui.apply(&mut section, &mut offset, &mut addend);
+        RewriteKind::Hi20ToCLui.apply(&mut section, &mut offset, &mut addend);
         RiscVInstruction::CluiType.write_to_value(value, false, &mut section);
         RiscVInstruction::IType.write_to_value(value, false, &mut section[4..]);
         let [a, b, _, _, c, d, e, f] = section;
@@ -113,14 +113,14 @@ fn shortened_lui_match_gnu_ld() {
 #[test]
 fn deleted_lui_match_gnu_ld() {
     for (before, value, after) in pairs::DELETED_LUI {
-        assert!(RelaxationKind::hi20_is_zero(value), "{value:?}");
+        assert!(RewriteKind::hi20_is_zero(value), "{value:?}");
         let mut section = before;
         let mut addend = 0;
         let mut high = 0;
-        RelaxationKind::Hi20Delete.apply(&mut section, &mut high, &mut addend);
+        RewriteKind::Hi20Delete.apply(&mut section, &mut high, &mut addend);
         assert_eq!(section, before, "{value:?}");
         let mut low = 4;
-        RelaxationKind::Lo12Rs1ToZero.apply(&mut section, &mut low, &mut addend);
+        RewriteKind::Lo12Rs1ToZero.apply(&mut section, &mut low, &mut addend);
         RiscVInstruction::IType.write_to_value(value, false, &mut section[4..]);
         let [_, _, _, _, a, b, c, d] = section;
         assert_eq!([a, b, c, d], after, "{value:?}");
@@ -155,9 +155,9 @@ fn tail_calls_are_not_plain_calls() {
 fn tail_calls_become_jumps_of_linkers() {
     let tail = [0x17, 0x03, 0x00, 0x00, 0x67, 0x00, 0x03, 0x00];
     // what GNU ld writes for a distance of 8194, and `c.j` of distance 8
-    let table: [(RelaxationKind, RiscVInstruction, u64, u32); 2] = [
-        (RelaxationKind::TailToJal, RiscVInstruction::JType, 8194, 0x0020_206f),
-        (RelaxationKind::TailToCJ, RiscVInstruction::CjType, 8, 0x0000_a021),
+    let table: [(RewriteKind, RiscVInstruction, u64, u32); 2] = [
+        (RewriteKind::TailToJal, RiscVInstruction::JType, 8194, 0x0020_206f),
+        (RewriteKind::TailToCJ, RiscVInstruction::CjType, 8, 0x0000_a021),
     ];
     for (kind, form, distance, after) in table {
         let mut section = tail;
@@ -183,22 +183,22 @@ fn rewrites_match_their_instructions() {
     // `lui a0` and `lui sp`, and then `addi a0, a0` and `ori a0, a0`
     let lui = both([0x0000_0537, 0x0005_0513]);
     let lui_sp = both([0x0000_0137, 0x0005_6513]);
-    let table: [(RelaxationKind, &[u8], u64, bool); 15] = [
-        (RelaxationKind::CallToJal, &call, 0, true),
-        (RelaxationKind::CallToJal, &tail, 0, false),
-        (RelaxationKind::CallToJal, &call_t0, 0, false),
-        (RelaxationKind::CallToJal, &call, 4, false),
-        (RelaxationKind::TailToJal, &tail, 0, true),
-        (RelaxationKind::TailToCJ, &tail, 0, true),
-        (RelaxationKind::TailToJal, &call, 0, false),
-        (RelaxationKind::TailToJal, &call_t0, 0, false),
-        (RelaxationKind::TailToJal, &apart, 0, false),
-        (RelaxationKind::Hi20ToCLui, &lui, 0, true),
-        (RelaxationKind::Hi20ToCLui, &lui_sp, 0, false),
-        (RelaxationKind::Hi20Delete, &lui_sp, 0, true),
-        (RelaxationKind::Hi20Delete, &lui, 4, false),
-        (RelaxationKind::Lo12Rs1ToZero, &lui, 4, true),
-        (RelaxationKind::Lo12Rs1ToZero, &lui_sp, 4, false),
+    let table: [(RewriteKind, &[u8], u64, bool); 15] = [
+        (RewriteKind::CallToJal, &call, 0, true),
+        (RewriteKind::CallToJal, &tail, 0, false),
+        (RewriteKind::CallToJal, &call_t0, 0, false),
+        (RewriteKind::CallToJal, &call, 4, false),
+        (RewriteKind::TailToJal, &tail, 0, true),
+        (RewriteKind::TailToCJ, &tail, 0, true),
+        (RewriteKind::TailToJal, &call, 0, false),
+        (RewriteKind::TailToJal, &call_t0, 0, false),
+        (RewriteKind::TailToJal, &apart, 0, false),
+        (RewriteKind::Hi20ToCLui, &lui, 0, true),
+        (RewriteKind::Hi20ToCLui, &lui_sp, 0, false),
+        (RewriteKind::Hi20Delete, &lui_sp, 0, true),
+        (RewriteKind::Hi20Delete, &lui, 4, false),
+        (RewriteKind::Lo12Rs1ToZero, &lui, 4, true),
+        (RewriteKind::Lo12Rs1ToZero, &lui_sp, 4, false),
     ];
     for (kind, section, offset, want) in table {
         assert_eq!(kind.matches(section, offset), want, "{kind:?}, {section:?}");
@@ -216,7 +216,7 @@ fn rewrites_match_their_instructions() {
     ];
     for (word, want) in words {
         let section = word.to_le_bytes();
-        assert_eq!(RelaxationKind::Lo12Rs1ToZero.matches(&section, 0), want, "{word:?}");
+        assert_eq!(RewriteKind::Lo12Rs1ToZero.matches(&section, 0), want, "{word:?}");
     }
 }
 

@@ -7,12 +7,12 @@ pub(crate) use choices::INSTRUCTIONS;
 
 use linker_utils::elf::{AllowedRange, RelocationKind, RelocationKindInfo, RelocationSize};
 use linker_utils::relaxation::RelocationModifier;
-use linker_utils::x86_64::{RelaxationKind, X86_64Relocation, may_be_skipped, relocation_from_raw};
+use linker_utils::x86_64::{RewriteKind, X86_64Relocation, may_be_skipped, relocation_from_raw};
 
 pub(crate) struct Rewrite {
     /// The relocation that the assembler writes.
     pub(crate) name: X86_64Relocation,
-    pub(crate) kind: RelaxationKind,
+    pub(crate) kind: RewriteKind,
     pub(crate) offset: u64,
     pub(crate) before: [u8; 10],
     /// What the linker then puts into the field.
@@ -23,7 +23,7 @@ pub(crate) struct Rewrite {
 pub(crate) static REWRITES: [Rewrite; 71] = [
     Rewrite {
         name: X86_64Relocation::R_X86_64_REX_GOTPCRELX,
-        kind: RelaxationKind::MovIndirectToLea,
+        kind: RewriteKind::MovIndirectToLea,
         offset: 3,
         before: [0x48, 0x8b, 0x1d, 0x00, 0x00, 0x00, 0x00, 0x00, 0x00, 0x00],
         field: Some(0x15fff),
@@ -31,7 +31,7 @@ pub(crate) static REWRITES: [Rewrite; 71] = [
     },
     Rewrite {
         name: X86_64Relocation::R_X86_64_REX_GOTPCRELX,
-        kind: RelaxationKind::MovIndirectToLea,
+        kind: RewriteKind::MovIndirectToLea,
         offset: 3,
         before: [0x4c, 0x8b, 0x1d, 0x00, 0x00, 0x00, 0x00, 0x00, 0x00, 0x00],
         field: Some(0xdfff),
@@ -39,7 +39,7 @@ pub(crate) static REWRITES: [Rewrite; 71] = [
     },
     Rewrite {
         name: X86_64Relocation::R_X86_64_GOTPCRELX,
-        kind: RelaxationKind::MovIndirectToLea,
+        kind: RewriteKind::MovIndirectToLea,
         offset: 2,
         before: [0x8b, 0x1d, 0x00, 0x00, 0x00, 0x00, 0x00, 0x00, 0x00, 0x00],
         field: Some(0x6000),
@@ -47,7 +47,7 @@ pub(crate) static REWRITES: [Rewrite; 71] = [
     },
     Rewrite {
         name: X86_64Relocation::R_X86_64_REX_GOTPCRELX,
-        kind: RelaxationKind::MovIndirectToLea,
+        kind: RewriteKind::MovIndirectToLea,
         offset: 3,
         before: [0x48, 0x8b, 0x0d, 0x00, 0x00, 0x00, 0x00, 0x00, 0x00, 0x00],
         field: Some(0x1804d),
@@ -55,7 +55,7 @@ pub(crate) static REWRITES: [Rewrite; 71] = [
     },
     Rewrite {
         name: X86_64Relocation::R_X86_64_REX_GOTPCRELX,
-        kind: RelaxationKind::MovIndirectToLea,
+        kind: RewriteKind::MovIndirectToLea,
         offset: 3,
         before: [0x4c, 0x8b, 0x0d, 0x00, 0x00, 0x00, 0x00, 0x00, 0x00, 0x00],
         field: Some(0x1004d),
@@ -63,7 +63,7 @@ pub(crate) static REWRITES: [Rewrite; 71] = [
     },
     Rewrite {
         name: X86_64Relocation::R_X86_64_GOTPCRELX,
-        kind: RelaxationKind::MovIndirectToLea,
+        kind: RewriteKind::MovIndirectToLea,
         offset: 2,
         before: [0x8b, 0x0d, 0x00, 0x00, 0x00, 0x00, 0x00, 0x00, 0x00, 0x00],
         field: Some(0x804e),
@@ -71,7 +71,7 @@ pub(crate) static REWRITES: [Rewrite; 71] = [
     },
     Rewrite {
         name: X86_64Relocation::R_X86_64_GOTPCRELX,
-        kind: RelaxationKind::JmpIndirectToRelative,
+        kind: RewriteKind::JmpIndirectToRelative,
         offset: 2,
         before: [0xff, 0x25, 0x00, 0x00, 0x00, 0x00, 0x00, 0x00, 0x00, 0x00],
         field: Some(0x4f),
@@ -79,7 +79,7 @@ pub(crate) static REWRITES: [Rewrite; 71] = [
     },
     Rewrite {
         name: X86_64Relocation::R_X86_64_REX_GOTPCRELX,
-        kind: RelaxationKind::RexMovIndirectToAbsolute(3),
+        kind: RewriteKind::RexMovIndirectToAbsolute(3),
         offset: 3,
         before: [0x48, 0x8b, 0x3d, 0x00, 0x00, 0x00, 0x00, 0x00, 0x00, 0x00],
         field: Some(0x219006),
@@ -87,7 +87,7 @@ pub(crate) static REWRITES: [Rewrite; 71] = [
     },
     Rewrite {
         name: X86_64Relocation::R_X86_64_REX_GOTPCRELX,
-        kind: RelaxationKind::RexMovIndirectToAbsolute(3),
+        kind: RewriteKind::RexMovIndirectToAbsolute(3),
         offset: 3,
         before: [0x4c, 0x8b, 0x3d, 0x00, 0x00, 0x00, 0x00, 0x00, 0x00, 0x00],
         field: Some(0x219006),
@@ -95,7 +95,7 @@ pub(crate) static REWRITES: [Rewrite; 71] = [
     },
     Rewrite {
         name: X86_64Relocation::R_X86_64_GOTPCRELX,
-        kind: RelaxationKind::MovIndirectToAbsolute,
+        kind: RewriteKind::MovIndirectToAbsolute,
         offset: 2,
         before: [0x8b, 0x3d, 0x00, 0x00, 0x00, 0x00, 0x00, 0x00, 0x00, 0x00],
         field: Some(0x219006),
@@ -103,7 +103,7 @@ pub(crate) static REWRITES: [Rewrite; 71] = [
     },
     Rewrite {
         name: X86_64Relocation::R_X86_64_REX_GOTPCRELX,
-        kind: RelaxationKind::RexAddIndirectToAbsolute(3),
+        kind: RewriteKind::RexAddIndirectToAbsolute(3),
         offset: 3,
         before: [0x48, 0x03, 0x2d, 0x00, 0x00, 0x00, 0x00, 0x00, 0x00, 0x00],
         field: Some(0x22f007),
@@ -111,7 +111,7 @@ pub(crate) static REWRITES: [Rewrite; 71] = [
     },
     Rewrite {
         name: X86_64Relocation::R_X86_64_REX_GOTPCRELX,
-        kind: RelaxationKind::RexAddIndirectToAbsolute(3),
+        kind: RewriteKind::RexAddIndirectToAbsolute(3),
         offset: 3,
         before: [0x4c, 0x03, 0x2d, 0x00, 0x00, 0x00, 0x00, 0x00, 0x00, 0x00],
         field: Some(0x22f007),
@@ -119,7 +119,7 @@ pub(crate) static REWRITES: [Rewrite; 71] = [
     },
     Rewrite {
         name: X86_64Relocation::R_X86_64_REX_GOTPCRELX,
-        kind: RelaxationKind::RexSubIndirectToAbsolute(3),
+        kind: RewriteKind::RexSubIndirectToAbsolute(3),
         offset: 3,
         before: [0x48, 0x2b, 0x2d, 0x00, 0x00, 0x00, 0x00, 0x00, 0x00, 0x00],
         field: Some(0x22f007),
@@ -127,7 +127,7 @@ pub(crate) static REWRITES: [Rewrite; 71] = [
     },
     Rewrite {
         name: X86_64Relocation::R_X86_64_REX_GOTPCRELX,
-        kind: RelaxationKind::RexSubIndirectToAbsolute(3),
+        kind: RewriteKind::RexSubIndirectToAbsolute(3),
         offset: 3,
         before: [0x4c, 0x2b, 0x2d, 0x00, 0x00, 0x00, 0x00, 0x00, 0x00, 0x00],
         field: Some(0x22f007),
@@ -135,7 +135,7 @@ pub(crate) static REWRITES: [Rewrite; 71] = [
     },
     Rewrite {
         name: X86_64Relocation::R_X86_64_REX_GOTPCRELX,
-        kind: RelaxationKind::RexCmpIndirectToAbsolute(3),
+        kind: RewriteKind::RexCmpIndirectToAbsolute(3),
         offset: 3,
         before: [0x48, 0x3b, 0x2d, 0x00, 0x00, 0x00, 0x00, 0x00, 0x00, 0x00],
         field: Some(0x22f007),
@@ -143,7 +143,7 @@ pub(crate) static REWRITES: [Rewrite; 71] = [
     },
     Rewrite {
         name: X86_64Relocation::R_X86_64_REX_GOTPCRELX,
-        kind: RelaxationKind::RexCmpIndirectToAbsolute(3),
+        kind: RewriteKind::RexCmpIndirectToAbsolute(3),
         offset: 3,
         before: [0x4c, 0x3b, 0x2d, 0x00, 0x00, 0x00, 0x00, 0x00, 0x00, 0x00],
         field: Some(0x22f007),
@@ -151,7 +151,7 @@ pub(crate) static REWRITES: [Rewrite; 71] = [
     },
     Rewrite {
         name: X86_64Relocation::R_X86_64_REX_GOTPCRELX,
-        kind: RelaxationKind::RexAddIndirectToAbsolute(3),
+        kind: RewriteKind::RexAddIndirectToAbsolute(3),
         offset: 3,
         before: [0x48, 0x03, 0x2d, 0x00, 0x00, 0x00, 0x00, 0x00, 0x00, 0x00],
         field: Some(0x123450),
@@ -159,7 +159,7 @@ pub(crate) static REWRITES: [Rewrite; 71] = [
     },
     Rewrite {
         name: X86_64Relocation::R_X86_64_REX_GOTPCRELX,
-        kind: RelaxationKind::RexAddIndirectToAbsolute(3),
+        kind: RewriteKind::RexAddIndirectToAbsolute(3),
         offset: 3,
         before: [0x4c, 0x03, 0x2d, 0x00, 0x00, 0x00, 0x00, 0x00, 0x00, 0x00],
         field: Some(0x123450),
@@ -167,7 +167,7 @@ pub(crate) static REWRITES: [Rewrite; 71] = [
     },
     Rewrite {
         name: X86_64Relocation::R_X86_64_REX_GOTPCRELX,
-        kind: RelaxationKind::RexSubIndirectToAbsolute(3),
+        kind: RewriteKind::RexSubIndirectToAbsolute(3),
         offset: 3,
         before: [0x48, 0x2b, 0x2d, 0x00, 0x00, 0x00, 0x00, 0x00, 0x00, 0x00],
         field: Some(0x123450),
@@ -175,7 +175,7 @@ pub(crate) static REWRITES: [Rewrite; 71] = [
     },
     Rewrite {
         name: X86_64Relocation::R_X86_64_REX_GOTPCRELX,
-        kind: RelaxationKind::RexSubIndirectToAbsolute(3),
+        kind: RewriteKind::RexSubIndirectToAbsolute(3),
         offset: 3,
         before: [0x4c, 0x2b, 0x2d, 0x00, 0x00, 0x00, 0x00, 0x00, 0x00, 0x00],
         field: Some(0x123450),
@@ -183,7 +183,7 @@ pub(crate) static REWRITES: [Rewrite; 71] = [
     },
     Rewrite {
         name: X86_64Relocation::R_X86_64_REX_GOTPCRELX,
-        kind: RelaxationKind::RexCmpIndirectToAbsolute(3),
+        kind: RewriteKind::RexCmpIndirectToAbsolute(3),
         offset: 3,
         before: [0x48, 0x3b, 0x2d, 0x00, 0x00, 0x00, 0x00, 0x00, 0x00, 0x00],
         field: Some(0x123450),
@@ -191,7 +191,7 @@ pub(crate) static REWRITES: [Rewrite; 71] = [
     },
     Rewrite {
         name: X86_64Relocation::R_X86_64_REX_GOTPCRELX,
-        kind: RelaxationKind::RexCmpIndirectToAbsolute(3),
+        kind: RewriteKind::RexCmpIndirectToAbsolute(3),
         offset: 3,
         before: [0x4c, 0x3b, 0x2d, 0x00, 0x00, 0x00, 0x00, 0x00, 0x00, 0x00],
         field: Some(0x123450),
@@ -199,7 +199,7 @@ pub(crate) static REWRITES: [Rewrite; 71] = [
     },
     Rewrite {
         name: X86_64Relocation::R_X86_64_REX_GOTPCRELX,
-        kind: RelaxationKind::RexMovIndirectToAbsolute(3),
+        kind: RewriteKind::RexMovIndirectToAbsolute(3),
         offset: 3,
         before: [0x48, 0x8b, 0x2d, 0x00, 0x00, 0x00, 0x00, 0x00, 0x00, 0x00],
         field: Some(0x123450),
@@ -207,7 +207,7 @@ pub(crate) static REWRITES: [Rewrite; 71] = [
     },
     Rewrite {
         name: X86_64Relocation::R_X86_64_REX_GOTPCRELX,
-        kind: RelaxationKind::RexMovIndirectToAbsolute(3),
+        kind: RewriteKind::RexMovIndirectToAbsolute(3),
         offset: 3,
         before: [0x4c, 0x8b, 0x2d, 0x00, 0x00, 0x00, 0x00, 0x00, 0x00, 0x00],
         field: Some(0x123450),
@@ -215,7 +215,7 @@ pub(crate) static REWRITES: [Rewrite; 71] = [
     },
     Rewrite {
         name: X86_64Relocation::R_X86_64_GOTPCRELX,
-        kind: RelaxationKind::MovIndirectToAbsolute,
+        kind: RewriteKind::MovIndirectToAbsolute,
         offset: 2,
         before: [0x8b, 0x2d, 0x00, 0x00, 0x00, 0x00, 0x00, 0x00, 0x00, 0x00],
         field: Some(0x123450),
@@ -223,7 +223,7 @@ pub(crate) static REWRITES: [Rewrite; 71] = [
     },
     Rewrite {
         name: X86_64Relocation::R_X86_64_GOTPC32_TLSDESC,
-        kind: RelaxationKind::TlsDescToLocalExec(3),
+        kind: RewriteKind::TlsDescToLocalExec(3),
         offset: 3,
         before: [0x48, 0x8d, 0x0d, 0x00, 0x00, 0x00, 0x00, 0x00, 0x00, 0x00],
         field: Some(0xfffff340),
@@ -231,7 +231,7 @@ pub(crate) static REWRITES: [Rewrite; 71] = [
     },
     Rewrite {
         name: X86_64Relocation::R_X86_64_GOTPC32_TLSDESC,
-        kind: RelaxationKind::TlsDescToLocalExec(3),
+        kind: RewriteKind::TlsDescToLocalExec(3),
         offset: 3,
         before: [0x4c, 0x8d, 0x0d, 0x00, 0x00, 0x00, 0x00, 0x00, 0x00, 0x00],
         field: Some(0xfffff340),
@@ -239,7 +239,7 @@ pub(crate) static REWRITES: [Rewrite; 71] = [
     },
     Rewrite {
         name: X86_64Relocation::R_X86_64_GOTTPOFF,
-        kind: RelaxationKind::RexMovIndirectToAbsolute(3),
+        kind: RewriteKind::RexMovIndirectToAbsolute(3),
         offset: 3,
         before: [0x48, 0x8b, 0x05, 0x00, 0x00, 0x00, 0x00, 0x00, 0x00, 0x00],
         field: Some(0xfffff340),
@@ -247,7 +247,7 @@ pub(crate) static REWRITES: [Rewrite; 71] = [
     },
     Rewrite {
         name: X86_64Relocation::R_X86_64_GOTTPOFF,
-        kind: RelaxationKind::RexMovIndirectToAbsolute(3),
+        kind: RewriteKind::RexMovIndirectToAbsolute(3),
         offset: 3,
         before: [0x4c, 0x8b, 0x05, 0x00, 0x00, 0x00, 0x00, 0x00, 0x00, 0x00],
         field: Some(0xfffff340),
@@ -255,7 +255,7 @@ pub(crate) static REWRITES: [Rewrite; 71] = [
     },
     Rewrite {
         name: X86_64Relocation::R_X86_64_GOTTPOFF,
-        kind: RelaxationKind::RexAddIndirectToAbsolute(3),
+        kind: RewriteKind::RexAddIndirectToAbsolute(3),
         offset: 3,
         before: [0x48, 0x03, 0x25, 0x00, 0x00, 0x00, 0x00, 0x00, 0x00, 0x00],
         field: Some(0xfffff340),
@@ -263,7 +263,7 @@ pub(crate) static REWRITES: [Rewrite; 71] = [
     },
     Rewrite {
         name: X86_64Relocation::R_X86_64_GOTTPOFF,
-        kind: RelaxationKind::RexMovIndirectToAbsolute(3),
+        kind: RewriteKind::RexMovIndirectToAbsolute(3),
         offset: 3,
         before: [0x48, 0x8b, 0x15, 0x00, 0x00, 0x00, 0x00, 0x00, 0x00, 0x00],
         field: Some(0xfffff340),
@@ -271,7 +271,7 @@ pub(crate) static REWRITES: [Rewrite; 71] = [
     },
     Rewrite {
         name: X86_64Relocation::R_X86_64_GOTTPOFF,
-        kind: RelaxationKind::RexMovIndirectToAbsolute(3),
+        kind: RewriteKind::RexMovIndirectToAbsolute(3),
         offset: 3,
         before: [0x4c, 0x8b, 0x15, 0x00, 0x00, 0x00, 0x00, 0x00, 0x00, 0x00],
         field: Some(0xfffff340),
@@ -279,7 +279,7 @@ pub(crate) static REWRITES: [Rewrite; 71] = [
     },
     Rewrite {
         name: X86_64Relocation::R_X86_64_GOTPC32_TLSDESC,
-        kind: RelaxationKind::TlsDescToLocalExec(3),
+        kind: RewriteKind::TlsDescToLocalExec(3),
         offset: 3,
         before: [0x48, 0x8d, 0x05, 0x00, 0x00, 0x00, 0x00, 0x00, 0x00, 0x00],
         field: Some(0xfffff340),
@@ -287,7 +287,7 @@ pub(crate) static REWRITES: [Rewrite; 71] = [
     },
     Rewrite {
         name: X86_64Relocation::R_X86_64_GOTPC32_TLSDESC,
-        kind: RelaxationKind::TlsDescToLocalExec(3),
+        kind: RewriteKind::TlsDescToLocalExec(3),
         offset: 3,
         before: [0x4c, 0x8d, 0x05, 0x00, 0x00, 0x00, 0x00, 0x00, 0x00, 0x00],
         field: Some(0xfffff340),
@@ -295,7 +295,7 @@ pub(crate) static REWRITES: [Rewrite; 71] = [
     },
     Rewrite {
         name: X86_64Relocation::R_X86_64_TLSDESC_CALL,
-        kind: RelaxationKind::SkipTlsDescCall,
+        kind: RewriteKind::SkipTlsDescCall,
         offset: 0,
         before: [0xff, 0x10, 0x00, 0x00, 0x00, 0x00, 0x00, 0x00, 0x00, 0x00],
         field: None,
@@ -303,7 +303,7 @@ pub(crate) static REWRITES: [Rewrite; 71] = [
     },
     Rewrite {
         name: X86_64Relocation::R_X86_64_GOTPC32_TLSDESC,
-        kind: RelaxationKind::TlsDescToInitialExec,
+        kind: RewriteKind::TlsDescToInitialExec,
         offset: 3,
         before: [0x48, 0x8d, 0x1d, 0x00, 0x00, 0x00, 0x00, 0x00, 0x00, 0x00],
         field: Some(0xc109),
@@ -311,7 +311,7 @@ pub(crate) static REWRITES: [Rewrite; 71] = [
     },
     Rewrite {
         name: X86_64Relocation::R_X86_64_GOTPC32_TLSDESC,
-        kind: RelaxationKind::TlsDescToInitialExec,
+        kind: RewriteKind::TlsDescToInitialExec,
         offset: 3,
         before: [0x4c, 0x8d, 0x1d, 0x00, 0x00, 0x00, 0x00, 0x00, 0x00, 0x00],
         field: Some(0x4109),
@@ -319,7 +319,7 @@ pub(crate) static REWRITES: [Rewrite; 71] = [
     },
     Rewrite {
         name: X86_64Relocation::R_X86_64_CODE_4_GOTPCRELX,
-        kind: RelaxationKind::RexMovIndirectToAbsolute(4),
+        kind: RewriteKind::RexMovIndirectToAbsolute(4),
         offset: 4,
         before: [0xd5, 0x48, 0x8b, 0x1d, 0x00, 0x00, 0x00, 0x00, 0x00, 0x00],
         field: Some(0x12345678),
@@ -327,7 +327,7 @@ pub(crate) static REWRITES: [Rewrite; 71] = [
     },
     Rewrite {
         name: X86_64Relocation::R_X86_64_CODE_4_GOTPCRELX,
-        kind: RelaxationKind::RexMovIndirectToAbsolute(4),
+        kind: RewriteKind::RexMovIndirectToAbsolute(4),
         offset: 4,
         before: [0xd5, 0x4c, 0x8b, 0x1d, 0x00, 0x00, 0x00, 0x00, 0x00, 0x00],
         field: Some(0x12345678),
@@ -335,7 +335,7 @@ pub(crate) static REWRITES: [Rewrite; 71] = [
     },
     Rewrite {
         name: X86_64Relocation::R_X86_64_CODE_4_GOTPCRELX,
-        kind: RelaxationKind::RexMovIndirectToAbsolute(4),
+        kind: RewriteKind::RexMovIndirectToAbsolute(4),
         offset: 4,
         before: [0xd5, 0x08, 0x8b, 0x1d, 0x00, 0x00, 0x00, 0x00, 0x00, 0x00],
         field: Some(0x12345678),
@@ -343,7 +343,7 @@ pub(crate) static REWRITES: [Rewrite; 71] = [
     },
     Rewrite {
         name: X86_64Relocation::R_X86_64_CODE_4_GOTPCRELX,
-        kind: RelaxationKind::RexMovIndirectToAbsolute(4),
+        kind: RewriteKind::RexMovIndirectToAbsolute(4),
         offset: 4,
         before: [0xd5, 0x0c, 0x8b, 0x1d, 0x00, 0x00, 0x00, 0x00, 0x00, 0x00],
         field: Some(0x12345678),
@@ -351,7 +351,7 @@ pub(crate) static REWRITES: [Rewrite; 71] = [
     },
     Rewrite {
         name: X86_64Relocation::R_X86_64_CODE_4_GOTPCRELX,
-        kind: RelaxationKind::RexAddIndirectToAbsolute(4),
+        kind: RewriteKind::RexAddIndirectToAbsolute(4),
         offset: 4,
         before: [0xd5, 0x48, 0x03, 0x1d, 0x00, 0x00, 0x00, 0x00, 0x00, 0x00],
         field: Some(0x12345678),
@@ -359,7 +359,7 @@ pub(crate) static REWRITES: [Rewrite; 71] = [
     },
     Rewrite {
         name: X86_64Relocation::R_X86_64_CODE_4_GOTPCRELX,
-        kind: RelaxationKind::RexAddIndirectToAbsolute(4),
+        kind: RewriteKind::RexAddIndirectToAbsolute(4),
         offset: 4,
         before: [0xd5, 0x4c, 0x03, 0x1d, 0x00, 0x00, 0x00, 0x00, 0x00, 0x00],
         field: Some(0x12345678),
@@ -367,7 +367,7 @@ pub(crate) static REWRITES: [Rewrite; 71] = [
     },
     Rewrite {
         name: X86_64Relocation::R_X86_64_CODE_4_GOTPCRELX,
-        kind: RelaxationKind::RexAddIndirectToAbsolute(4),
+        kind: RewriteKind::RexAddIndirectToAbsolute(4),
         offset: 4,
         before: [0xd5, 0x08, 0x03, 0x25, 0x00, 0x00, 0x00, 0x00, 0x00, 0x00],
         field: Some(0x12345678),
@@ -375,7 +375,7 @@ pub(crate) static REWRITES: [Rewrite; 71] = [
     },
     Rewrite {
         name: X86_64Relocation::R_X86_64_CODE_4_GOTPCRELX,
-        kind: RelaxationKind::RexAddIndirectToAbsolute(4),
+        kind: RewriteKind::RexAddIndirectToAbsolute(4),
         offset: 4,
         before: [0xd5, 0x0c, 0x03, 0x25, 0x00, 0x00, 0x00, 0x00, 0x00, 0x00],
         field: Some(0x12345678),
@@ -383,7 +383,7 @@ pub(crate) static REWRITES: [Rewrite; 71] = [
     },
     Rewrite {
         name: X86_64Relocation::R_X86_64_CODE_4_GOTPCRELX,
-        kind: RelaxationKind::RexSubIndirectToAbsolute(4),
+        kind: RewriteKind::RexSubIndirectToAbsolute(4),
         offset: 4,
         before: [0xd5, 0x48, 0x2b, 0x25, 0x00, 0x00, 0x00, 0x00, 0x00, 0x00],
         field: Some(0x12345678),
@@ -391,7 +391,7 @@ pub(crate) static REWRITES: [Rewrite; 71] = [
     },
     Rewrite {
         name: X86_64Relocation::R_X86_64_CODE_4_GOTPCRELX,
-        kind: RelaxationKind::RexSubIndirectToAbsolute(4),
+        kind: RewriteKind::RexSubIndirectToAbsolute(4),
         offset: 4,
         before: [0xd5, 0x4c, 0x2b, 0x25, 0x00, 0x00, 0x00, 0x00, 0x00, 0x00],
         field: Some(0x12345678),
@@ -399,7 +399,7 @@ pub(crate) static REWRITES: [Rewrite; 71] = [
     },
     Rewrite {
         name: X86_64Relocation::R_X86_64_CODE_4_GOTPCRELX,
-        kind: RelaxationKind::RexSubIndirectToAbsolute(4),
+        kind: RewriteKind::RexSubIndirectToAbsolute(4),
         offset: 4,
         before: [0xd5, 0x08, 0x2b, 0x2d, 0x00, 0x00, 0x00, 0x00, 0x00, 0x00],
         field: Some(0x12345678),
@@ -407,7 +407,7 @@ pub(crate) static REWRITES: [Rewrite; 71] = [
     },
     Rewrite {
         name: X86_64Relocation::R_X86_64_CODE_4_GOTPCRELX,
-        kind: RelaxationKind::RexSubIndirectToAbsolute(4),
+        kind: RewriteKind::RexSubIndirectToAbsolute(4),
         offset: 4,
         before: [0xd5, 0x0c, 0x2b, 0x2d, 0x00, 0x00, 0x00, 0x00, 0x00, 0x00],
         field: Some(0x12345678),
@@ -415,7 +415,7 @@ pub(crate) static REWRITES: [Rewrite; 71] = [
     },
     Rewrite {
         name: X86_64Relocation::R_X86_64_CODE_4_GOTPCRELX,
-        kind: RelaxationKind::RexCmpIndirectToAbsolute(4),
+        kind: RewriteKind::RexCmpIndirectToAbsolute(4),
         offset: 4,
         before: [0xd5, 0x48, 0x3b, 0x2d, 0x00, 0x00, 0x00, 0x00, 0x00, 0x00],
         field: Some(0x12345678),
@@ -423,7 +423,7 @@ pub(crate) static REWRITES: [Rewrite; 71] = [
     },
     Rewrite {
         name: X86_64Relocation::R_X86_64_CODE_4_GOTPCRELX,
-        kind: RelaxationKind::RexCmpIndirectToAbsolute(4),
+        kind: RewriteKind::RexCmpIndirectToAbsolute(4),
         offset: 4,
         before: [0xd5, 0x4c, 0x3b, 0x2d, 0x00, 0x00, 0x00, 0x00, 0x00, 0x00],
         field: Some(0x12345678),
@@ -431,7 +431,7 @@ pub(crate) static REWRITES: [Rewrite; 71] = [
     },
     Rewrite {
         name: X86_64Relocation::R_X86_64_CODE_4_GOTPCRELX,
-        kind: RelaxationKind::RexCmpIndirectToAbsolute(4),
+        kind: RewriteKind::RexCmpIndirectToAbsolute(4),
         offset: 4,
         before: [0xd5, 0x08, 0x3b, 0x35, 0x00, 0x00, 0x00, 0x00, 0x00, 0x00],
         field: Some(0x12345678),
@@ -439,7 +439,7 @@ pub(crate) static REWRITES: [Rewrite; 71] = [
     },
     Rewrite {
         name: X86_64Relocation::R_X86_64_CODE_4_GOTPCRELX,
-        kind: RelaxationKind::RexCmpIndirectToAbsolute(4),
+        kind: RewriteKind::RexCmpIndirectToAbsolute(4),
         offset: 4,
         before: [0xd5, 0x0c, 0x3b, 0x35, 0x00, 0x00, 0x00, 0x00, 0x00, 0x00],
         field: Some(0x12345678),
@@ -447,7 +447,7 @@ pub(crate) static REWRITES: [Rewrite; 71] = [
     },
     Rewrite {
         name: X86_64Relocation::R_X86_64_CODE_6_GOTPCRELX,
-        kind: RelaxationKind::RexAddIndirectToAbsolute(6),
+        kind: RewriteKind::RexAddIndirectToAbsolute(6),
         offset: 6,
         before: [0x62, 0xf4, 0xec, 0x10, 0x03, 0x0d, 0x00, 0x00, 0x00, 0x00],
         field: Some(0x12345678),
@@ -455,7 +455,7 @@ pub(crate) static REWRITES: [Rewrite; 71] = [
     },
     Rewrite {
         name: X86_64Relocation::R_X86_64_CODE_6_GOTPCRELX,
-        kind: RelaxationKind::RexAddIndirectToAbsolute(6),
+        kind: RewriteKind::RexAddIndirectToAbsolute(6),
         offset: 6,
         before: [0x62, 0xf4, 0xec, 0x10, 0x03, 0x25, 0x00, 0x00, 0x00, 0x00],
         field: Some(0x12345678),
@@ -463,7 +463,7 @@ pub(crate) static REWRITES: [Rewrite; 71] = [
     },
     Rewrite {
         name: X86_64Relocation::R_X86_64_CODE_6_GOTPCRELX,
-        kind: RelaxationKind::RexAddIndirectToAbsolute(6),
+        kind: RewriteKind::RexAddIndirectToAbsolute(6),
         offset: 6,
         before: [0x62, 0x74, 0xec, 0x10, 0x03, 0x05, 0x00, 0x00, 0x00, 0x00],
         field: Some(0x12345678),
@@ -471,7 +471,7 @@ pub(crate) static REWRITES: [Rewrite; 71] = [
     },
     Rewrite {
         name: X86_64Relocation::R_X86_64_CODE_6_GOTPCRELX,
-        kind: RelaxationKind::RexAddIndirectToAbsolute(6),
+        kind: RewriteKind::RexAddIndirectToAbsolute(6),
         offset: 6,
         before: [0x62, 0x74, 0xec, 0x10, 0x03, 0x3d, 0x00, 0x00, 0x00, 0x00],
         field: Some(0x12345678),
@@ -479,7 +479,7 @@ pub(crate) static REWRITES: [Rewrite; 71] = [
     },
     Rewrite {
         name: X86_64Relocation::R_X86_64_CODE_6_GOTPCRELX,
-        kind: RelaxationKind::RexAddIndirectToAbsolute(6),
+        kind: RewriteKind::RexAddIndirectToAbsolute(6),
         offset: 6,
         before: [0x62, 0xe4, 0xec, 0x10, 0x03, 0x0d, 0x00, 0x00, 0x00, 0x00],
         field: Some(0x12345678),
@@ -487,7 +487,7 @@ pub(crate) static REWRITES: [Rewrite; 71] = [
     },
     Rewrite {
         name: X86_64Relocation::R_X86_64_CODE_6_GOTPCRELX,
-        kind: RelaxationKind::RexAddIndirectToAbsolute(6),
+        kind: RewriteKind::RexAddIndirectToAbsolute(6),
         offset: 6,
         before: [0x62, 0xe4, 0xec, 0x10, 0x03, 0x3d, 0x00, 0x00, 0x00, 0x00],
         field: Some(0x12345678),
@@ -495,7 +495,7 @@ pub(crate) static REWRITES: [Rewrite; 71] = [
     },
     Rewrite {
         name: X86_64Relocation::R_X86_64_CODE_6_GOTPCRELX,
-        kind: RelaxationKind::RexAddIndirectToAbsolute(6),
+        kind: RewriteKind::RexAddIndirectToAbsolute(6),
         offset: 6,
         before: [0x62, 0x64, 0xec, 0x10, 0x03, 0x25, 0x00, 0x00, 0x00, 0x00],
         field: Some(0x12345678),
@@ -503,7 +503,7 @@ pub(crate) static REWRITES: [Rewrite; 71] = [
     },
     Rewrite {
         name: X86_64Relocation::R_X86_64_REX_GOTPCRELX,
-        kind: RelaxationKind::RexAdcIndirectToAbsolute(3),
+        kind: RewriteKind::RexAdcIndirectToAbsolute(3),
         offset: 3,
         before: [0x4c, 0x13, 0x2d, 0x00, 0x00, 0x00, 0x00, 0x00, 0x00, 0x00],
         field: Some(0x22f007),
@@ -511,7 +511,7 @@ pub(crate) static REWRITES: [Rewrite; 71] = [
     },
     Rewrite {
         name: X86_64Relocation::R_X86_64_REX_GOTPCRELX,
-        kind: RelaxationKind::RexAndIndirectToAbsolute(3),
+        kind: RewriteKind::RexAndIndirectToAbsolute(3),
         offset: 3,
         before: [0x48, 0x23, 0x2d, 0x00, 0x00, 0x00, 0x00, 0x00, 0x00, 0x00],
         field: Some(0x22f007),
@@ -519,7 +519,7 @@ pub(crate) static REWRITES: [Rewrite; 71] = [
     },
     Rewrite {
         name: X86_64Relocation::R_X86_64_REX_GOTPCRELX,
-        kind: RelaxationKind::RexOrIndirectToAbsolute(3),
+        kind: RewriteKind::RexOrIndirectToAbsolute(3),
         offset: 3,
         before: [0x44, 0x0b, 0x1d, 0x00, 0x00, 0x00, 0x00, 0x00, 0x00, 0x00],
         field: Some(0x22f007),
@@ -527,7 +527,7 @@ pub(crate) static REWRITES: [Rewrite; 71] = [
     },
     Rewrite {
         name: X86_64Relocation::R_X86_64_REX_GOTPCRELX,
-        kind: RelaxationKind::RexSbbIndirectToAbsolute(3),
+        kind: RewriteKind::RexSbbIndirectToAbsolute(3),
         offset: 3,
         before: [0x4c, 0x1b, 0x2d, 0x00, 0x00, 0x00, 0x00, 0x00, 0x00, 0x00],
         field: Some(0x22f007),
@@ -535,7 +535,7 @@ pub(crate) static REWRITES: [Rewrite; 71] = [
     },
     Rewrite {
         name: X86_64Relocation::R_X86_64_REX_GOTPCRELX,
-        kind: RelaxationKind::RexXorIndirectToAbsolute(3),
+        kind: RewriteKind::RexXorIndirectToAbsolute(3),
         offset: 3,
         before: [0x48, 0x33, 0x2d, 0x00, 0x00, 0x00, 0x00, 0x00, 0x00, 0x00],
         field: Some(0x22f007),
@@ -543,7 +543,7 @@ pub(crate) static REWRITES: [Rewrite; 71] = [
     },
     Rewrite {
         name: X86_64Relocation::R_X86_64_REX_GOTPCRELX,
-        kind: RelaxationKind::RexTestIndirectToAbsolute(3),
+        kind: RewriteKind::RexTestIndirectToAbsolute(3),
         offset: 3,
         before: [0x4c, 0x85, 0x2d, 0x00, 0x00, 0x00, 0x00, 0x00, 0x00, 0x00],
         field: Some(0x22f007),
@@ -551,7 +551,7 @@ pub(crate) static REWRITES: [Rewrite; 71] = [
     },
     Rewrite {
         name: X86_64Relocation::R_X86_64_GOTPCRELX,
-        kind: RelaxationKind::RexAdcIndirectToAbsolute(2),
+        kind: RewriteKind::RexAdcIndirectToAbsolute(2),
         offset: 2,
         before: [0x13, 0x1d, 0x00, 0x00, 0x00, 0x00, 0x00, 0x00, 0x00, 0x00],
         field: Some(0x123450),
@@ -559,7 +559,7 @@ pub(crate) static REWRITES: [Rewrite; 71] = [
     },
     Rewrite {
         name: X86_64Relocation::R_X86_64_GOTPCRELX,
-        kind: RelaxationKind::RexTestIndirectToAbsolute(2),
+        kind: RewriteKind::RexTestIndirectToAbsolute(2),
         offset: 2,
         before: [0x85, 0x1d, 0x00, 0x00, 0x00, 0x00, 0x00, 0x00, 0x00, 0x00],
         field: Some(0x123450),
@@ -567,7 +567,7 @@ pub(crate) static REWRITES: [Rewrite; 71] = [
     },
     Rewrite {
         name: X86_64Relocation::R_X86_64_CODE_4_GOTPCRELX,
-        kind: RelaxationKind::RexTestIndirectToAbsolute(4),
+        kind: RewriteKind::RexTestIndirectToAbsolute(4),
         offset: 4,
         before: [0xd5, 0x48, 0x85, 0x1d, 0x00, 0x00, 0x00, 0x00, 0x00, 0x00],
         field: Some(0x12345678),
@@ -575,7 +575,7 @@ pub(crate) static REWRITES: [Rewrite; 71] = [
     },
     Rewrite {
         name: X86_64Relocation::R_X86_64_CODE_6_GOTPCRELX,
-        kind: RelaxationKind::RexSbbIndirectToAbsolute(6),
+        kind: RewriteKind::RexSbbIndirectToAbsolute(6),
         offset: 6,
         before: [0x62, 0x74, 0xec, 0x10, 0x1b, 0x05, 0x00, 0x00, 0x00, 0x00],
         field: Some(0x12345678),
@@ -583,7 +583,7 @@ pub(crate) static REWRITES: [Rewrite; 71] = [
     },
     Rewrite {
         name: X86_64Relocation::R_X86_64_CODE_6_GOTPCRELX,
-        kind: RelaxationKind::RexXorIndirectToAbsolute(6),
+        kind: RewriteKind::RexXorIndirectToAbsolute(6),
         offset: 6,
         before: [0x62, 0x74, 0xfc, 0x0c, 0x33, 0x3d, 0x00, 0x00, 0x00, 0x00],
         field: Some(0x12345678),
@@ -591,7 +591,7 @@ pub(crate) static REWRITES: [Rewrite; 71] = [
     },
 ];
 
-fn linked(kind: RelaxationKind, at: u64, before: [u8; 10], field: Option<u32>) -> Option<[u8; 10]> {
+fn linked(kind: RewriteKind, at: u64, before: [u8; 10], field: Option<u32>) -> Option<[u8; 10]> {
     let mut section = before;
     let mut offset = at;
     let mut addend = -4;
@@ -622,7 +622,7 @@ fn rewrites_match_linkers() {
 pub(crate) struct Sequence {
     /// The relocation of the `lea`.
     pub(crate) name: X86_64Relocation,
-    pub(crate) kind: RelaxationKind,
+    pub(crate) kind: RewriteKind,
     pub(crate) offset: u64,
     pub(crate) before: [u8; 24],
     /// The relocation of `__tls_get_addr`, as GNU as places it.
@@ -635,7 +635,7 @@ pub(crate) struct Sequence {
 pub(crate) static SEQUENCES: [Sequence; 8] = [
     Sequence {
         name: X86_64Relocation::R_X86_64_TLSGD,
-        kind: RelaxationKind::TlsGdToLocalExec,
+        kind: RewriteKind::TlsGdToLocalExec,
         offset: 4,
         before: [
             0x66, 0x48, 0x8d, 0x3d, 0x00, 0x00, 0x00, 0x00, 0x66, 0x66, 0x48, 0xe8, 0x00, 0x00,
@@ -650,7 +650,7 @@ pub(crate) static SEQUENCES: [Sequence; 8] = [
     },
     Sequence {
         name: X86_64Relocation::R_X86_64_TLSGD,
-        kind: RelaxationKind::TlsGdToLocalExec,
+        kind: RewriteKind::TlsGdToLocalExec,
         offset: 4,
         before: [
             0x66, 0x48, 0x8d, 0x3d, 0x00, 0x00, 0x00, 0x00, 0x66, 0x48, 0xff, 0x15, 0x00, 0x00,
@@ -665,7 +665,7 @@ pub(crate) static SEQUENCES: [Sequence; 8] = [
     },
     Sequence {
         name: X86_64Relocation::R_X86_64_TLSGD,
-        kind: RelaxationKind::TlsGdToInitialExec,
+        kind: RewriteKind::TlsGdToInitialExec,
         offset: 4,
         before: [
             0x66, 0x48, 0x8d, 0x3d, 0x00, 0x00, 0x00, 0x00, 0x66, 0x66, 0x48, 0xe8, 0x00, 0x00,
@@ -680,7 +680,7 @@ pub(crate) static SEQUENCES: [Sequence; 8] = [
     },
     Sequence {
         name: X86_64Relocation::R_X86_64_TLSGD,
-        kind: RelaxationKind::TlsGdToLocalExecLarge,
+        kind: RewriteKind::TlsGdToLocalExecLarge,
         offset: 3,
         before: [
             0x48, 0x8d, 0x3d, 0x00, 0x00, 0x00, 0x00, 0x48, 0xb8, 0x00, 0x00, 0x00, 0x00, 0x00,
@@ -695,7 +695,7 @@ pub(crate) static SEQUENCES: [Sequence; 8] = [
     },
     Sequence {
         name: X86_64Relocation::R_X86_64_TLSLD,
-        kind: RelaxationKind::TlsLdToLocalExec,
+        kind: RewriteKind::TlsLdToLocalExec,
         offset: 3,
         before: [
             0x48, 0x8d, 0x3d, 0x00, 0x00, 0x00, 0x00, 0xe8, 0x00, 0x00, 0x00, 0x00, 0xc3, 0xc3,
@@ -710,7 +710,7 @@ pub(crate) static SEQUENCES: [Sequence; 8] = [
     },
     Sequence {
         name: X86_64Relocation::R_X86_64_TLSLD,
-        kind: RelaxationKind::TlsLdToLocalExecNoPlt,
+        kind: RewriteKind::TlsLdToLocalExecNoPlt,
         offset: 3,
         before: [
             0x48, 0x8d, 0x3d, 0x00, 0x00, 0x00, 0x00, 0xff, 0x15, 0x00, 0x00, 0x00, 0x00, 0xc3,
@@ -725,7 +725,7 @@ pub(crate) static SEQUENCES: [Sequence; 8] = [
     },
     Sequence {
         name: X86_64Relocation::R_X86_64_TLSLD,
-        kind: RelaxationKind::TlsLdToLocalExec64,
+        kind: RewriteKind::TlsLdToLocalExec64,
         offset: 3,
         before: [
             0x48, 0x8d, 0x3d, 0x00, 0x00, 0x00, 0x00, 0x48, 0xb8, 0x00, 0x00, 0x00, 0x00, 0x00,
@@ -740,7 +740,7 @@ pub(crate) static SEQUENCES: [Sequence; 8] = [
     },
     Sequence {
         name: X86_64Relocation::R_X86_64_TLSLD,
-        kind: RelaxationKind::TlsLdToLocalExec64,
+        kind: RewriteKind::TlsLdToLocalExec64,
         offset: 3,
         before: [
             0x48, 0x8d, 0x3d, 0x00, 0x00, 0x00, 0x00, 0x48, 0xb8, 0x00, 0x00, 0x00, 0x00, 0x00,
@@ -777,17 +777,17 @@ fn tls_sequences_match_linkers() {
 fn other_instructions_do_not_match() {
     for (kind, bytes, offset) in [
         // `cmp %rbp, x(%rip)`, and `cmp x(%rip), %rbp` with an operand in a register
-        (RelaxationKind::RexCmpIndirectToAbsolute(3), [0x48, 0x39, 0x2d, 0, 0, 0, 0, 0], 3),
-        (RelaxationKind::RexCmpIndirectToAbsolute(3), [0x48, 0x3b, 0xed, 0, 0, 0, 0, 0], 3),
+        (RewriteKind::RexCmpIndirectToAbsolute(3), [0x48, 0x39, 0x2d, 0, 0, 0, 0, 0], 3),
+        (RewriteKind::RexCmpIndirectToAbsolute(3), [0x48, 0x3b, 0xed, 0, 0, 0, 0, 0], 3),
         // REX.B, no REX, and a field that ends outside the section
-        (RelaxationKind::RexMovIndirectToAbsolute(3), [0x49, 0x8b, 0x05, 0, 0, 0, 0, 0], 3),
-        (RelaxationKind::RexMovIndirectToAbsolute(3), [0xc3, 0x8b, 0x05, 0, 0, 0, 0, 0], 3),
-        (RelaxationKind::MovIndirectToLea, [0xc3, 0x90, 0x90, 0x8b, 0x05, 0, 0, 0], 5),
+        (RewriteKind::RexMovIndirectToAbsolute(3), [0x49, 0x8b, 0x05, 0, 0, 0, 0, 0], 3),
+        (RewriteKind::RexMovIndirectToAbsolute(3), [0xc3, 0x8b, 0x05, 0, 0, 0, 0, 0], 3),
+        (RewriteKind::MovIndirectToLea, [0xc3, 0x90, 0x90, 0x8b, 0x05, 0, 0, 0], 5),
         // `lea x@tlsdesc(%rip), %eax`, and no number of bytes of an instruction
-        (RelaxationKind::TlsDescToLocalExec(3), [0x40, 0x8d, 0x05, 0, 0, 0, 0, 0xc3], 3),
-        (RelaxationKind::TlsDescToLocalExec(5), [0x48, 0x8d, 0x05, 0, 0, 0, 0, 0xc3], 3),
+        (RewriteKind::TlsDescToLocalExec(3), [0x40, 0x8d, 0x05, 0, 0, 0, 0, 0xc3], 3),
+        (RewriteKind::TlsDescToLocalExec(5), [0x48, 0x8d, 0x05, 0, 0, 0, 0, 0xc3], 3),
         // `call *%rax`
-        (RelaxationKind::SkipTlsDescCall, [0xff, 0xd0, 0, 0, 0, 0, 0, 0], 0),
+        (RewriteKind::SkipTlsDescCall, [0xff, 0xd0, 0, 0, 0, 0, 0, 0], 0),
     ] {
         assert!(!kind.matches(&bytes, offset), "{kind:?}");
     }
@@ -797,11 +797,11 @@ fn other_instructions_do_not_match() {
         0xff, 0xd0,
     ];
     for (kind, matches) in [
-        (RelaxationKind::TlsGdToLocalExec, false),
-        (RelaxationKind::TlsGdToLocalExecLarge, true),
-        (RelaxationKind::TlsLdToLocalExec, false),
-        (RelaxationKind::TlsLdToLocalExec64, true),
-        (RelaxationKind::NoOp, true),
+        (RewriteKind::TlsGdToLocalExec, false),
+        (RewriteKind::TlsGdToLocalExecLarge, true),
+        (RewriteKind::TlsLdToLocalExec, false),
+        (RewriteKind::TlsLdToLocalExec64, true),
+        (RewriteKind::NoOp, true),
     ] {
         assert_eq!(kind.matches(&large, 4), matches, "{kind:?}");
     }
@@ -811,25 +811,25 @@ fn other_instructions_do_not_match() {
 fn registers_move_under_every_prefix() {
     for (kind, before, offset, after) in [
         (
-            RelaxationKind::RexAddIndirectToAbsolute(6),
+            RewriteKind::RexAddIndirectToAbsolute(6),
             [0x64, 0, 0, 0x03, 0x15],
             5,
             [0xdc, 0, 0, 0x81, 0xc2],
         ),
         (
-            RelaxationKind::RexSubIndirectToAbsolute(4),
+            RewriteKind::RexSubIndirectToAbsolute(4),
             [0x44, 0x2b, 0x0d, 0, 0],
             3,
             [0x11, 0x81, 0xe9, 0, 0],
         ),
         (
-            RelaxationKind::RexCmpIndirectToAbsolute(3),
+            RewriteKind::RexCmpIndirectToAbsolute(3),
             [0x4c, 0x3b, 0x3d, 0, 0],
             3,
             [0x49, 0x81, 0xff, 0, 0],
         ),
         (
-            RelaxationKind::RexMovIndirectToAbsolute(3),
+            RewriteKind::RexMovIndirectToAbsolute(3),
             [0x4c, 0x8b, 0x15, 0, 0],
             3,
             [0x49, 0xc7, 0xc2, 0, 0],
@@ -850,14 +850,14 @@ fn tls_calls_become_offsets() {
     let mut section = [0; 12];
     let mut offset = 4;
     let mut addend = 7;
-    RelaxationKind::TlsGdToLocalExec.apply(&mut section, &mut offset, &mut addend);
+    RewriteKind::TlsGdToLocalExec.apply(&mut section, &mut offset, &mut addend);
     assert_eq!(section, [0x64, 0x48, 0x8b, 0x04, 0x25, 0, 0, 0, 0, 0x48, 0x8d, 0x80]);
     assert_eq!((offset, addend), (12, 0));
     assert_eq!(
-        RelaxationKind::TlsGdToLocalExec.next_modifier(),
+        RewriteKind::TlsGdToLocalExec.next_modifier(),
         RelocationModifier::SkipNextRelocation
     );
-    assert_eq!(RelaxationKind::SkipTlsDescCall.next_modifier(), RelocationModifier::Normal);
+    assert_eq!(RewriteKind::SkipTlsDescCall.next_modifier(), RelocationModifier::Normal);
 }
 
 #[test]

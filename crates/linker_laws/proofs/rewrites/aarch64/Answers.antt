@@ -5,18 +5,18 @@ use Rattle.std.proofs.Math.Seq.{drop-append_seam, take-append_seam}
 use Rattle.std.proofs.lemmas.List.{length-take-le, append_assoc}
 use Rattle.linker_base.specs.Form.{place_sum}
 use Rattle.linker_base.specs.Rewrite.{Rewrite, rewrite_window}
-use Rattle.linker_utils.specs.declared.aarch64.rewrites.RelaxationKind.TheVariants.{NoOp}
-use Rattle.linker_utils.specs.declared.aarch64.rewrites.RelaxationKind.TheVariants.{ReplaceWithNop}
-use Rattle.linker_utils.specs.declared.aarch64.rewrites.RelaxationKind.TheVariants.{MovzX0Lsl16}
-use Rattle.linker_utils.specs.declared.aarch64.rewrites.RelaxationKind.TheVariants.{MovkX0}
-use Rattle.linker_utils.specs.declared.aarch64.rewrites.RelaxationKind.TheVariants.{MovzXnLsl16}
-use Rattle.linker_utils.specs.declared.aarch64.rewrites.RelaxationKind.TheVariants.{MovkXn}
-use Rattle.linker_utils.specs.declared.aarch64.rewrites.RelaxationKind.TheVariants.{AdrpToAdr}
-use Rattle.linker_utils.specs.declared.aarch64.rewrites.RelaxationKind.TheVariants.{AdrpX0, LdrX0}
-use Rattle.linker_utils.specs.declared.aarch64.rewrites.RelaxationKind.TheVariants.{AddToAdr}
-use Rattle.linker_utils.specs.declared.aarch64.rewrites.RelaxationKind.TheVariants.{LdrToAdr}
-use Rattle.linker_utils.specs.declared.aarch64.rewrites.RelaxationKind.TheVariants.{LdrToAdd}
-use Rattle.linker_utils.specs.declared.aarch64.rewrites.RelaxationKind.TheVariants.{AdrpAddToNopAdr}
+use Rattle.linker_utils.specs.declared.aarch64.rewrites.RewriteKind.TheVariants.{NoOp}
+use Rattle.linker_utils.specs.declared.aarch64.rewrites.RewriteKind.TheVariants.{ReplaceWithNop}
+use Rattle.linker_utils.specs.declared.aarch64.rewrites.RewriteKind.TheVariants.{MovzX0Lsl16}
+use Rattle.linker_utils.specs.declared.aarch64.rewrites.RewriteKind.TheVariants.{MovkX0}
+use Rattle.linker_utils.specs.declared.aarch64.rewrites.RewriteKind.TheVariants.{MovzXnLsl16}
+use Rattle.linker_utils.specs.declared.aarch64.rewrites.RewriteKind.TheVariants.{MovkXn}
+use Rattle.linker_utils.specs.declared.aarch64.rewrites.RewriteKind.TheVariants.{AdrpToAdr}
+use Rattle.linker_utils.specs.declared.aarch64.rewrites.RewriteKind.TheVariants.{AdrpX0, LdrX0}
+use Rattle.linker_utils.specs.declared.aarch64.rewrites.RewriteKind.TheVariants.{AddToAdr}
+use Rattle.linker_utils.specs.declared.aarch64.rewrites.RewriteKind.TheVariants.{LdrToAdr}
+use Rattle.linker_utils.specs.declared.aarch64.rewrites.RewriteKind.TheVariants.{LdrToAdd}
+use Rattle.linker_utils.specs.declared.aarch64.rewrites.RewriteKind.TheVariants.{AdrpAddToNopAdr}
 use Rattle.linker_laws.specs.AArch64RewriteLaws.{BeginsRewrittenAt}
 use Rattle.linker_laws.specs.AArch64RewriteLaws as aarch64_laws
 use Rattle.linker_laws.proofs.rewrites.aarch64.Goals as goal

@@ -3,17 +3,17 @@
 ghost use Rattle.std.specs.Prelude.{refl};
 ghost use Rattle.linker_elf.specs.contracts.loongarch64.relocations.LoongArch64Relocation as loongarch_name;
 ghost use Rattle.linker_utils.proofs.LoongArchChoices.{chosen_matches as loongarch_chosen};
-ghost use Rattle.linker_utils.specs.contracts.loongarch64.rewrites.RelaxationKind as loongarch_kind;
+ghost use Rattle.linker_utils.specs.contracts.loongarch64.rewrites.RewriteKind as loongarch_kind;
 ghost use Rattle.linker_reading.specs.Inner.Equality.{bare_is_equality, enum_is_equality, numbers};
 ghost use Rattle.linker_reading.specs.Inner.Laws.{laws};
 ghost use Rattle.linker_reading.specs.LoongArchRecogniser.{loongarch};
 
 use crate::recognise::engine::RecognisedName;
 use linker_utils::architecture::Relaxation;
-use linker_utils::loongarch64::{LoongArch64Relocation, RelaxationKind};
+use linker_utils::loongarch64::{LoongArch64Relocation, RewriteKind};
 
 impl RecognisedName for LoongArch64Relocation {
-    type Kind = RelaxationKind;
+    type Kind = RewriteKind;
 
     ghost how = { loongarch };
 

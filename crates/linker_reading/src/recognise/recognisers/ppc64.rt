@@ -3,17 +3,17 @@
 ghost use Rattle.std.specs.Prelude.{refl};
 ghost use Rattle.linker_elf.specs.contracts.ppc64.relocations.Ppc64Relocation as ppc64_name;
 ghost use Rattle.linker_utils.proofs.Ppc64Choices.{chosen_matches as ppc64_chosen};
-ghost use Rattle.linker_utils.specs.contracts.ppc64.rewrites.RelaxationKind as ppc64_kind;
+ghost use Rattle.linker_utils.specs.contracts.ppc64.rewrites.RewriteKind as ppc64_kind;
 ghost use Rattle.linker_reading.specs.Inner.Equality.{bare_is_equality, enum_is_equality, numbers};
 ghost use Rattle.linker_reading.specs.Inner.Laws.{laws};
 ghost use Rattle.linker_reading.specs.Ppc64Recogniser.{ppc64};
 
 use crate::recognise::engine::RecognisedName;
 use linker_utils::architecture::Relaxation;
-use linker_utils::ppc64::{Ppc64Relocation, RelaxationKind};
+use linker_utils::ppc64::{Ppc64Relocation, RewriteKind};
 
 impl RecognisedName for Ppc64Relocation {
-    type Kind = RelaxationKind;
+    type Kind = RewriteKind;
 
     ghost how = { ppc64 };
 

@@ -6,14 +6,14 @@ ghost use Rattle.linker_reading.specs.Inner.Equality.{bare_is_equality, enum_is_
 ghost use Rattle.linker_reading.specs.Inner.Laws.{laws};
 ghost use Rattle.linker_reading.specs.RiscVRecogniser.{riscv};
 ghost use Rattle.linker_utils.proofs.RiscVChoices.{chosen_matches as riscv_chosen};
-ghost use Rattle.linker_utils.specs.contracts.riscv64.rewrites.RelaxationKind as riscv_kind;
+ghost use Rattle.linker_utils.specs.contracts.riscv64.rewrites.RewriteKind as riscv_kind;
 
 use crate::recognise::engine::RecognisedName;
 use linker_utils::architecture::Relaxation;
-use linker_utils::riscv64::{RelaxationKind, RiscVRelocation};
+use linker_utils::riscv64::{RewriteKind, RiscVRelocation};
 
 impl RecognisedName for RiscVRelocation {
-    type Kind = RelaxationKind;
+    type Kind = RewriteKind;
 
     ghost how = { riscv };
 

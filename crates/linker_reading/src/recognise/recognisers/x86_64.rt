@@ -6,14 +6,14 @@ ghost use Rattle.linker_reading.specs.Inner.Equality.{enum_is_equality, numbers}
 ghost use Rattle.linker_reading.specs.Inner.Laws.{laws};
 ghost use Rattle.linker_reading.specs.X86Recogniser.{x86_64, x86_64_table_at};
 ghost use Rattle.linker_utils.proofs.X86Choices.{chosen_matches as x86_64_chosen};
-ghost use Rattle.linker_utils.specs.contracts.x86_64.rewrites.RelaxationKind as x86_64_kind;
+ghost use Rattle.linker_utils.specs.contracts.x86_64.rewrites.RewriteKind as x86_64_kind;
 
 use crate::recognise::engine::RecognisedName;
 use linker_utils::architecture::Relaxation;
-use linker_utils::x86_64::{RelaxationKind, X86_64Relocation};
+use linker_utils::x86_64::{RewriteKind, X86_64Relocation};
 
 impl RecognisedName for X86_64Relocation {
-    type Kind = RelaxationKind;
+    type Kind = RewriteKind;
 
     ghost how = { x86_64 };
 

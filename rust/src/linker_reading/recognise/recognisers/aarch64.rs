@@ -3,11 +3,11 @@
 //! What is recognised of AArch64.
 
 use crate::linker_reading::recognise::engine::RecognisedName;
-use crate::aarch64::{AArch64Relocation, RelaxationKind};
+use crate::aarch64::{AArch64Relocation, RewriteKind};
 use crate::architecture::Relaxation;
 
 impl RecognisedName for AArch64Relocation {
-    type Kind = RelaxationKind;
+    type Kind = RewriteKind;
 
     fn code(self) -> u32 {
         self.elf_code()

@@ -4,10 +4,10 @@
 
 use crate::linker_reading::recognise::engine::RecognisedName;
 use crate::architecture::Relaxation;
-use crate::loongarch64::{LoongArch64Relocation, RelaxationKind};
+use crate::loongarch64::{LoongArch64Relocation, RewriteKind};
 
 impl RecognisedName for LoongArch64Relocation {
-    type Kind = RelaxationKind;
+    type Kind = RewriteKind;
 
     fn code(self) -> u32 {
         self.elf_code()

@@ -4,10 +4,10 @@
 
 use crate::linker_reading::recognise::engine::RecognisedName;
 use crate::architecture::Relaxation;
-use crate::riscv64::{RelaxationKind, RiscVRelocation};
+use crate::riscv64::{RewriteKind, RiscVRelocation};
 
 impl RecognisedName for RiscVRelocation {
-    type Kind = RelaxationKind;
+    type Kind = RewriteKind;
 
     fn code(self) -> u32 {
         self.elf_code()

@@ -4,10 +4,10 @@
 
 use crate::linker_reading::recognise::engine::RecognisedName;
 use crate::architecture::Relaxation;
-use crate::x86_64::{RelaxationKind, X86_64Relocation};
+use crate::x86_64::{RewriteKind, X86_64Relocation};
 
 impl RecognisedName for X86_64Relocation {
-    type Kind = RelaxationKind;
+    type Kind = RewriteKind;
 
     fn code(self) -> u32 {
         self.elf_code()

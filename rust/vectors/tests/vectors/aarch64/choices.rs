@@ -3,7 +3,7 @@
 
 use super::{ADRP_TO_ADD, NOP_ADR, TO_MOVES};
 use linker_utils::aarch64::{
-    AArch64Relocation, RelaxationKind, choose, is_tls_descriptor_sequence, row,
+    AArch64Relocation, RewriteKind, choose, is_tls_descriptor_sequence, row,
 };
 use linker_utils::architecture::fits;
 use linker_utils::elf::{Architecture, Choice, LinkFacts, Operands};
@@ -51,15 +51,15 @@ fn next(facts: &LinkFacts, distance: u64) -> LinkFacts {
     LinkFacts { operands: Operands { place, ..facts.operands }, ..*facts }
 }
 
-fn unchanged(name: AArch64Relocation) -> Choice<RelaxationKind, AArch64Relocation> {
-    Choice { kind: RelaxationKind::NoOp, relocation: name }
+fn unchanged(name: AArch64Relocation) -> Choice<RewriteKind, AArch64Relocation> {
+    Choice { kind: RewriteKind::NoOp, relocation: name }
 }
 
 /// Rewrites as was chosen, and writes the value. Returns `false` if either is impossible.
 fn is_made(
     section: &mut [u8],
     at: u64,
-    choice: Choice<RelaxationKind, AArch64Relocation>,
+    choice: Choice<RewriteKind, AArch64Relocation>,
     facts: &LinkFacts,
 ) -> bool {
     if at > section.len() as u64 || !choice.kind.can_apply(section, at) {
@@ -293,7 +293,7 @@ fn halves_made<const N: usize>(mut words: [u32; N], halves: &[(u64, bool)]) -> (
         .map(|&(at, is_high)| (at, choose(named(is_high), &section, at, &facts)))
         .collect();
     for (at, choice) in chosen {
-        if choice.kind != RelaxationKind::NoOp {
+        if choice.kind != RewriteKind::NoOp {
             assert!(is_made(&mut section, at, choice, &facts), "{at:?}");
         }
     }

@@ -6,7 +6,7 @@ use super::relaxed::{ENTRY, IMAGE, SITES};
 use linker_utils::architecture;
 use linker_utils::elf::{Architecture, LinkFacts, Operands};
 use linker_utils::loongarch64::{
-    LoongArch64Relocation as Name, RelaxationKind as Kind, choose, fits, row,
+    LoongArch64Relocation as Name, RewriteKind as Kind, choose, fits, row,
 };
 use linker_utils::utils::u32_from_slice;
 

@@ -4,7 +4,7 @@
 
 use super::linked::SITES;
 use linker_utils::elf::{Choice, LinkFacts, Operands};
-use linker_utils::ppc64::{Ppc64Relocation, RelaxationKind, choose, row};
+use linker_utils::ppc64::{Ppc64Relocation, RewriteKind, choose, row};
 
 /// The facts of a symbol of an executable, 0x7fe8 below the TOC pointer, 0x6fe8 below the thread
 /// pointer and 0x10018 above the instruction.
@@ -38,7 +38,7 @@ fn chosen_for(
     name: Ppc64Relocation,
     words: [u32; 2],
     facts: &LinkFacts,
-) -> Choice<RelaxationKind, Ppc64Relocation> {
+) -> Choice<RewriteKind, Ppc64Relocation> {
     let [a, b, c, d] = words[0].to_le_bytes();
     let [e, f, g, h] = words[1].to_le_bytes();
     choose(name, &[a, b, c, d, e, f, g, h], 0, facts)
@@ -50,7 +50,7 @@ fn linked(
     name: Ppc64Relocation,
     words: [u32; 2],
     facts: &LinkFacts,
-) -> (Choice<RelaxationKind, Ppc64Relocation>, [u32; 2]) {
+) -> (Choice<RewriteKind, Ppc64Relocation>, [u32; 2]) {
     let [a, b, c, d] = words[0].to_le_bytes();
     let [e, f, g, h] = words[1].to_le_bytes();
     let mut section = [a, b, c, d, e, f, g, h];
@@ -68,7 +68,7 @@ fn linked(
 }
 
 /// A relocation, the two words there, the choice, and the words that it leaves.
-type Rewritten = (Ppc64Relocation, [u32; 2], RelaxationKind, Ppc64Relocation, [u32; 2]);
+type Rewritten = (Ppc64Relocation, [u32; 2], RewriteKind, Ppc64Relocation, [u32; 2]);
 
 const CALL: [u32; 2] = [0x4800_0001, 0x6000_0000];
 
@@ -78,168 +78,168 @@ fn own_symbols_need_no_entry() {
         (
             Ppc64Relocation::R_PPC64_TOC16_HA,
             [0x3d22_0000, 0],
-            RelaxationKind::AddisToNop,
+            RewriteKind::AddisToNop,
             Ppc64Relocation::R_PPC64_NONE,
             [0x6000_0000, 0],
         ),
         (
             Ppc64Relocation::R_PPC64_TOC16_LO,
             [0x3869_0000, 0],
-            RelaxationKind::BaseToToc,
+            RewriteKind::BaseToToc,
             Ppc64Relocation::R_PPC64_TOC16,
             [0x3862_8018, 0],
         ),
         (
             Ppc64Relocation::R_PPC64_TOC16_LO_DS,
             [0xe869_0000, 0],
-            RelaxationKind::BaseToToc,
+            RewriteKind::BaseToToc,
             Ppc64Relocation::R_PPC64_TOC16_DS,
             [0xe862_8018, 0],
         ),
         (
             Ppc64Relocation::R_PPC64_GOT16_HA,
             [0x3d22_0000, 0],
-            RelaxationKind::KeepAddis,
+            RewriteKind::KeepAddis,
             Ppc64Relocation::R_PPC64_TOC16_HA,
             [0x3d22_0000, 0],
         ),
         (
             Ppc64Relocation::R_PPC64_GOT16_LO_DS,
             [0xe869_0000, 0],
-            RelaxationKind::LdToAddi,
+            RewriteKind::LdToAddi,
             Ppc64Relocation::R_PPC64_TOC16_LO,
             [0x3869_8018, 0],
         ),
         (
             Ppc64Relocation::R_PPC64_GOT_PCREL34,
             [0x0410_0000, 0xe460_0000],
-            RelaxationKind::PldToPaddi,
+            RewriteKind::PldToPaddi,
             Ppc64Relocation::R_PPC64_PCREL34,
             [0x0610_0001, 0x3860_0018],
         ),
         (
             Ppc64Relocation::R_PPC64_GOT_TPREL16_HA,
             [0x3d22_0000, 0],
-            RelaxationKind::AddisToNop,
+            RewriteKind::AddisToNop,
             Ppc64Relocation::R_PPC64_NONE,
             [0x6000_0000, 0],
         ),
         (
             Ppc64Relocation::R_PPC64_GOT_TPREL16_LO_DS,
             [0xe929_0000, 0],
-            RelaxationKind::LdToAddisThread,
+            RewriteKind::LdToAddisThread,
             Ppc64Relocation::R_PPC64_TPREL16_HA,
             [0x3d2d_0000, 0],
         ),
         (
             Ppc64Relocation::R_PPC64_GOT_TPREL16_DS,
             [0xe922_0000, 0],
-            RelaxationKind::LdToAddisThread,
+            RewriteKind::LdToAddisThread,
             Ppc64Relocation::R_PPC64_TPREL16_HA,
             [0x3d2d_0000, 0],
         ),
         (
             Ppc64Relocation::R_PPC64_TLS,
             [0x7c69_6a14, 0],
-            RelaxationKind::AddToAddi,
+            RewriteKind::AddToAddi,
             Ppc64Relocation::R_PPC64_TPREL16_LO,
             [0x3869_9018, 0],
         ),
         (
             Ppc64Relocation::R_PPC64_TLS,
             [0x7c69_682e, 0],
-            RelaxationKind::IndexedToD,
+            RewriteKind::IndexedToD,
             Ppc64Relocation::R_PPC64_TPREL16_LO,
             [0x8069_9018, 0],
         ),
         (
             Ppc64Relocation::R_PPC64_TLS,
             [0x7c29_6dae, 0],
-            RelaxationKind::IndexedToD,
+            RewriteKind::IndexedToD,
             Ppc64Relocation::R_PPC64_TPREL16_LO,
             [0xd829_9018, 0],
         ),
         (
             Ppc64Relocation::R_PPC64_TLS,
             [0x7c69_682a, 0],
-            RelaxationKind::IndexedToDs,
+            RewriteKind::IndexedToDs,
             Ppc64Relocation::R_PPC64_TPREL16_LO_DS,
             [0xe869_9018, 0],
         ),
         (
             Ppc64Relocation::R_PPC64_TLS,
             [0x7c69_692a, 0],
-            RelaxationKind::IndexedToDs,
+            RewriteKind::IndexedToDs,
             Ppc64Relocation::R_PPC64_TPREL16_LO_DS,
             [0xf869_9018, 0],
         ),
         (
             Ppc64Relocation::R_PPC64_TLS,
             [0x7c69_6aaa, 0],
-            RelaxationKind::IndexedToDs,
+            RewriteKind::IndexedToDs,
             Ppc64Relocation::R_PPC64_TPREL16_LO_DS,
             [0xe869_901a, 0],
         ),
         (
             Ppc64Relocation::R_PPC64_GOT_TLSGD16_LO,
             [0x3869_0000, 0],
-            RelaxationKind::AddiToAddisThread,
+            RewriteKind::AddiToAddisThread,
             Ppc64Relocation::R_PPC64_TPREL16_HA,
             [0x3c6d_0000, 0],
         ),
         (
             Ppc64Relocation::R_PPC64_GOT_TLSGD16_LO,
             [0x3bff_0000, 0],
-            RelaxationKind::AddiToAddisThread,
+            RewriteKind::AddiToAddisThread,
             Ppc64Relocation::R_PPC64_TPREL16_HA,
             [0x3fed_0000, 0],
         ),
         (
             Ppc64Relocation::R_PPC64_GOT_TLSGD16,
             [0x3862_0000, 0],
-            RelaxationKind::AddiToAddisThread,
+            RewriteKind::AddiToAddisThread,
             Ppc64Relocation::R_PPC64_TPREL16_HA,
             [0x3c6d_0000, 0],
         ),
         (
             Ppc64Relocation::R_PPC64_TLSGD,
             CALL,
-            RelaxationKind::CallToAddi,
+            RewriteKind::CallToAddi,
             Ppc64Relocation::R_PPC64_TPREL16_LO,
             [0x6000_0000, 0x3863_9018],
         ),
         (
             Ppc64Relocation::R_PPC64_GOT_TLSLD16_LO,
             [0x3869_0000, 0],
-            RelaxationKind::AddiToAddisThread,
+            RewriteKind::AddiToAddisThread,
             Ppc64Relocation::R_PPC64_NONE,
             [0x3c6d_0000, 0],
         ),
         (
             Ppc64Relocation::R_PPC64_GOT_TLSLD16_LO,
             [0x3bff_0000, 0],
-            RelaxationKind::AddiToAddisThread,
+            RewriteKind::AddiToAddisThread,
             Ppc64Relocation::R_PPC64_NONE,
             [0x3fed_0000, 0],
         ),
         (
             Ppc64Relocation::R_PPC64_GOT_TLSLD16,
             [0x3862_0000, 0],
-            RelaxationKind::AddiToAddisThread,
+            RewriteKind::AddiToAddisThread,
             Ppc64Relocation::R_PPC64_NONE,
             [0x3c6d_0000, 0],
         ),
         (
             Ppc64Relocation::R_PPC64_TLSLD,
             CALL,
-            RelaxationKind::CallToAddi4096,
+            RewriteKind::CallToAddi4096,
             Ppc64Relocation::R_PPC64_NONE,
             [0x6000_0000, 0x3863_1000],
         ),
         (
             Ppc64Relocation::R_PPC64_REL24,
             CALL,
-            RelaxationKind::NopToRestoreToc,
+            RewriteKind::NopToRestoreToc,
             Ppc64Relocation::R_PPC64_REL24,
             [0x4801_0019, 0xe841_0018],
         ),
@@ -257,7 +257,7 @@ fn own_symbols_need_no_entry() {
 fn vectors_are_near_the_toc() {
     let name = Ppc64Relocation::R_PPC64_TOC16_LO_DS;
     let chosen =
-        Choice { kind: RelaxationKind::BaseToToc, relocation: Ppc64Relocation::R_PPC64_TOC16_DS };
+        Choice { kind: RewriteKind::BaseToToc, relocation: Ppc64Relocation::R_PPC64_TOC16_DS };
     let mut facts = own();
     for (before, after) in [
         (0xe409_0002, 0xe402_801a),
@@ -291,14 +291,12 @@ fn offsets_near_the_thread_pointer_have_no_high_half() {
     let mut facts = own();
     facts.operands.symbol = 0x1001_0010;
     let high = Ppc64Relocation::R_PPC64_TPREL16_HA;
-    let nop = Choice {
-        kind: RelaxationKind::AddisThreadToNop,
-        relocation: Ppc64Relocation::R_PPC64_NONE,
-    };
+    let nop =
+        Choice { kind: RewriteKind::AddisThreadToNop, relocation: Ppc64Relocation::R_PPC64_NONE };
     assert_eq!(linked(high, [0x3d2d_0000, 0], &facts), (nop, [0x6000_0000, 0]));
     let low = Ppc64Relocation::R_PPC64_TPREL16_LO;
     let low_ds = Ppc64Relocation::R_PPC64_TPREL16_LO_DS;
-    let kind = RelaxationKind::BaseToThread;
+    let kind = RewriteKind::BaseToThread;
     for (name, before, after) in [
         (low, 0x3869_0000, 0x386d_9010),
         (low, 0x8069_0000, 0x806d_9010),
@@ -360,35 +358,35 @@ fn other_variables_of_an_executable_have_an_entry() {
         (
             Ppc64Relocation::R_PPC64_GOT_TLSGD16_HA,
             [0x3d22_0000, 0],
-            RelaxationKind::KeepAddis,
+            RewriteKind::KeepAddis,
             Ppc64Relocation::R_PPC64_GOT_TPREL16_HA,
             [0x3d22_0000, 0],
         ),
         (
             Ppc64Relocation::R_PPC64_GOT_TLSGD16_LO,
             [0x3869_0000, 0],
-            RelaxationKind::AddiToLd,
+            RewriteKind::AddiToLd,
             Ppc64Relocation::R_PPC64_GOT_TPREL16_LO_DS,
             [0xe869_8100, 0],
         ),
         (
             Ppc64Relocation::R_PPC64_GOT_TLSGD16_LO,
             [0x3bff_0000, 0],
-            RelaxationKind::AddiToLd,
+            RewriteKind::AddiToLd,
             Ppc64Relocation::R_PPC64_GOT_TPREL16_LO_DS,
             [0xebff_8100, 0],
         ),
         (
             Ppc64Relocation::R_PPC64_GOT_TLSGD16,
             [0x3862_0000, 0],
-            RelaxationKind::AddiToLd,
+            RewriteKind::AddiToLd,
             Ppc64Relocation::R_PPC64_GOT_TPREL16_DS,
             [0xe862_8100, 0],
         ),
         (
             Ppc64Relocation::R_PPC64_TLSGD,
             CALL,
-            RelaxationKind::CallToAdd,
+            RewriteKind::CallToAdd,
             Ppc64Relocation::R_PPC64_NONE,
             [0x6000_0000, 0x7c63_6a14],
         ),
@@ -427,7 +425,7 @@ fn other_instructions_stay() {
     ];
     for (name, before) in table {
         let chosen = chosen_for(name, before, &own());
-        let unchanged = Choice { kind: RelaxationKind::NoOp, relocation: name };
+        let unchanged = Choice { kind: RewriteKind::NoOp, relocation: name };
         assert_eq!(chosen, unchanged, "{before:?}");
     }
 }
@@ -473,7 +471,7 @@ fn sequences_are_rewritten_whole() {
     ] {
         assert_eq!(
             chosen_for(name, [word, 0], &own()).kind,
-            RelaxationKind::AddiToAddisThread,
+            RewriteKind::AddiToAddisThread,
             "{name:?}"
         );
         assert!(chosen_for(name, [word, 0], &apart).is_unchanged(name), "{name:?}");
@@ -533,10 +531,10 @@ fn marks_of_prefixed_code_are_at_the_second_byte() {
     let [a, b, c, d] = 0x7c69_6a14u32.to_le_bytes();
     let section = [a, b, c, d, 0, a, b, c, d];
     let at = |offset| choose(name, &section, offset, &own()).kind;
-    assert_eq!(at(0), RelaxationKind::AddToAddi);
-    assert_eq!(at(1), RelaxationKind::AddToMove);
+    assert_eq!(at(0), RewriteKind::AddToAddi);
+    assert_eq!(at(1), RewriteKind::AddToMove);
     for offset in [2, 3, 4, 5, 6] {
-        assert_eq!(at(offset), RelaxationKind::NoOp, "{offset}");
+        assert_eq!(at(offset), RewriteKind::NoOp, "{offset}");
     }
 }
 
@@ -545,12 +543,12 @@ fn marks_of_prefixed_code_are_at_the_second_byte() {
 fn calls_are_distinguished_by_their_relocation() {
     let facts = |is_relaxable, is_local| LinkFacts { is_relaxable, is_local, ..own() };
     for (name, facts, kind) in [
-        (Ppc64Relocation::R_PPC64_TLSGD, facts(false, true), RelaxationKind::CallToAddi),
-        (Ppc64Relocation::R_PPC64_TLSGD, facts(false, false), RelaxationKind::CallToAdd),
-        (Ppc64Relocation::R_PPC64_TLSGD, facts(true, true), RelaxationKind::BranchToNop),
-        (Ppc64Relocation::R_PPC64_TLSGD, facts(true, false), RelaxationKind::BranchToAdd),
-        (Ppc64Relocation::R_PPC64_TLSLD, facts(false, true), RelaxationKind::CallToAddi4096),
-        (Ppc64Relocation::R_PPC64_TLSLD, facts(true, true), RelaxationKind::BranchToNop),
+        (Ppc64Relocation::R_PPC64_TLSGD, facts(false, true), RewriteKind::CallToAddi),
+        (Ppc64Relocation::R_PPC64_TLSGD, facts(false, false), RewriteKind::CallToAdd),
+        (Ppc64Relocation::R_PPC64_TLSGD, facts(true, true), RewriteKind::BranchToNop),
+        (Ppc64Relocation::R_PPC64_TLSGD, facts(true, false), RewriteKind::BranchToAdd),
+        (Ppc64Relocation::R_PPC64_TLSLD, facts(false, true), RewriteKind::CallToAddi4096),
+        (Ppc64Relocation::R_PPC64_TLSLD, facts(true, true), RewriteKind::BranchToNop),
     ] {
         assert_eq!(chosen_for(name, CALL, &facts).kind, kind);
         let apart = LinkFacts { group_fits: false, ..facts };
@@ -561,9 +559,9 @@ fn calls_are_distinguished_by_their_relocation() {
     // `bl` before another instruction, and `b`
     let name = Ppc64Relocation::R_PPC64_TLSGD;
     let kind = |words, is_relaxable| chosen_for(name, words, &facts(is_relaxable, true)).kind;
-    assert_eq!(kind([0x4800_0001, 0x3821_0020], true), RelaxationKind::BranchToNop);
-    assert_eq!(kind([0x4800_0001, 0x3821_0020], false), RelaxationKind::NoOp);
-    assert_eq!(kind([0x4800_0000, 0x6000_0000], true), RelaxationKind::NoOp);
+    assert_eq!(kind([0x4800_0001, 0x3821_0020], true), RewriteKind::BranchToNop);
+    assert_eq!(kind([0x4800_0001, 0x3821_0020], false), RewriteKind::NoOp);
+    assert_eq!(kind([0x4800_0000, 0x6000_0000], true), RewriteKind::NoOp);
 }
 
 /// The two words of eight bytes.

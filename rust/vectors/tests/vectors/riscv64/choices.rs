@@ -4,7 +4,7 @@
 use super::linked::{ADDRESS, ENTRY, IMAGE, SITES};
 use super::{both, pairs};
 use linker_utils::elf::{Choice, LinkFacts, Operands};
-use linker_utils::riscv64::{DeletedBytes, RelaxationKind, RiscVRelocation, choose, row};
+use linker_utils::riscv64::{DeletedBytes, RewriteKind, RiscVRelocation, choose, row};
 use linker_utils::utils::u32_from_slice;
 
 /// The facts of a relocation that may be relaxed, in a program that is loaded at one address.
@@ -26,7 +26,7 @@ fn link(
     section: &mut [u8; 8],
     at: u64,
     facts: &LinkFacts,
-) -> Choice<RelaxationKind, RiscVRelocation> {
+) -> Choice<RewriteKind, RiscVRelocation> {
     let chosen = choose(name, &*section, at, facts);
     let (mut offset, mut addend) = (at, facts.operands.addend);
     chosen.kind.apply(&mut section[..], &mut offset, &mut addend);
@@ -42,17 +42,14 @@ fn write(name: RiscVRelocation, section: &mut [u8; 8], at: u64, operands: &Opera
     }
 }
 
-fn choice(
-    kind: RelaxationKind,
-    relocation: RiscVRelocation,
-) -> Choice<RelaxationKind, RiscVRelocation> {
+fn choice(kind: RewriteKind, relocation: RiscVRelocation) -> Choice<RewriteKind, RiscVRelocation> {
     Choice { kind, relocation }
 }
 
 #[test]
 fn choices_of_shortened_lui_match_gnu_ld() {
-    let shortened = choice(RelaxationKind::Hi20ToCLui, RiscVRelocation::R_RISCV_RVC_LUI);
-    let as_it_is = choice(RelaxationKind::NoOp, RiscVRelocation::R_RISCV_LO12_I);
+    let shortened = choice(RewriteKind::Hi20ToCLui, RiscVRelocation::R_RISCV_RVC_LUI);
+    let as_it_is = choice(RewriteKind::NoOp, RiscVRelocation::R_RISCV_LO12_I);
     for (before, value, after) in pairs::SHORTENED_LUI {
         let facts = facts_at(value as u64, 0x10000);
         let mut section = before;
@@ -68,8 +65,8 @@ fn choices_of_shortened_lui_match_gnu_ld() {
 
 #[test]
 fn choices_of_deleted_lui_match_gnu_ld() {
-    let gone = choice(RelaxationKind::Hi20Delete, RiscVRelocation::R_RISCV_NONE);
-    let from_x0 = choice(RelaxationKind::Lo12Rs1ToZero, RiscVRelocation::R_RISCV_LO12_I);
+    let gone = choice(RewriteKind::Hi20Delete, RiscVRelocation::R_RISCV_NONE);
+    let from_x0 = choice(RewriteKind::Lo12Rs1ToZero, RiscVRelocation::R_RISCV_LO12_I);
     for (before, value, after) in pairs::DELETED_LUI {
         let facts = facts_at(value, 0x10000);
         let mut section = before;
@@ -86,8 +83,8 @@ fn choices_of_deleted_lui_match_gnu_ld() {
 #[test]
 fn choices_of_clui_match_linkers() {
     let name = RiscVRelocation::R_RISCV_RVC_LUI;
-    let zeroed = choice(RelaxationKind::CLuiToCLi, RiscVRelocation::R_RISCV_NONE);
-    let as_it_is = choice(RelaxationKind::NoOp, name);
+    let zeroed = choice(RewriteKind::CLuiToCLi, RiscVRelocation::R_RISCV_NONE);
+    let as_it_is = choice(RewriteKind::NoOp, name);
     for (before, value, after) in pairs::CLUI {
         let facts = LinkFacts {
             is_relaxable: false,
@@ -123,10 +120,10 @@ const TAIL: [u32; 2] = [0x0000_0317, 0x0003_0067];
 #[test]
 fn choices_of_calls_match_linkers() {
     // each distance before and after the deletion of the `jalr`, and the linker's word
-    let table: [([u32; 2], RelaxationKind, i64, i64, u32); 3] = [
-        (CALL, RelaxationKind::CallToJal, 1048572, 1048568, 0x7f9f_f0ef),
-        (CALL, RelaxationKind::CallToJal, -1048574, -1048574, 0x8020_00ef),
-        (TAIL, RelaxationKind::TailToJal, 8198, 8194, 0x0020_206f),
+    let table: [([u32; 2], RewriteKind, i64, i64, u32); 3] = [
+        (CALL, RewriteKind::CallToJal, 1048572, 1048568, 0x7f9f_f0ef),
+        (CALL, RewriteKind::CallToJal, -1048574, -1048574, 0x8020_00ef),
+        (TAIL, RewriteKind::TailToJal, 8198, 8194, 0x0020_206f),
     ];
     for (words, kind, input, output, want) in table {
         let place = 0x20_0000u64;
@@ -148,7 +145,7 @@ fn choices_of_calls_match_linkers() {
     let call_t0 = both([0x0000_0317, 0x0003_02e7]);
     let name = RiscVRelocation::R_RISCV_CALL_PLT;
     let chosen = choose(name, &call_t0, 0, &facts_at(4098, 0));
-    assert_eq!(chosen, choice(RelaxationKind::NoOp, name), "call t0");
+    assert_eq!(chosen, choice(RewriteKind::NoOp, name), "call t0");
 }
 
 #[test]
@@ -158,10 +155,10 @@ fn altered_calls_are_left() {
     let call = u64::from_le_bytes(both(CALL));
     for bit in 0..64u32 {
         let kind = match bit {
-            12..=31 | 52..=63 => RelaxationKind::CallToJal,
+            12..=31 | 52..=63 => RewriteKind::CallToJal,
             // the `jalr` links no register
-            39 => RelaxationKind::TailToJal,
-            _ => RelaxationKind::NoOp,
+            39 => RewriteKind::TailToJal,
+            _ => RewriteKind::NoOp,
         };
         let altered = (call ^ 1 << bit).to_le_bytes();
         assert_eq!(choose(name, &altered, 0, &facts).kind, kind, "{bit:?}");
@@ -190,12 +187,12 @@ fn facts_in(symbol: u64, place: u64, is_local: bool, is_relaxable: bool) -> Link
 }
 
 /// What is left of the instruction at an offset, and the choice.
-fn left(name: RiscVRelocation, word: u32, facts: &LinkFacts) -> (RelaxationKind, u32) {
+fn left(name: RiscVRelocation, word: u32, facts: &LinkFacts) -> (RewriteKind, u32) {
     let mut section = both([word, 0]);
     let chosen = choose(name, &section, 0, facts);
     let (mut offset, mut addend) = (0, 0);
     chosen.kind.apply(&mut section[..], &mut offset, &mut addend);
-    let is_of_entry = chosen.kind == RelaxationKind::CallToLd;
+    let is_of_entry = chosen.kind == RewriteKind::CallToLd;
     let operands = Operands {
         symbol: if is_of_entry { ENTRY } else { facts.operands.symbol },
         ..facts.operands
@@ -209,7 +206,7 @@ fn choices_of_thread_local_storage_match_linkers() {
     for (r_type, index, flags, symbol, place, before, after) in SITES {
         let facts = facts_in(symbol, place, flags & 2 != 0, flags & 1 != 0);
         let (kind, word) = left(RiscVRelocation::from_elf(r_type), before, &facts);
-        let word = if kind == RelaxationKind::Delete { 0 } else { word };
+        let word = if kind == RewriteKind::Delete { 0 } else { word };
         assert_eq!(word, after, "{r_type:?}, {index:?}, {place:?}");
     }
 }
@@ -268,11 +265,11 @@ fn a_load_of_a_fixed_address_becomes_the_address() {
             LinkFacts { is_label_relaxable: false, ..facts },
             LinkFacts { has_addresses: false, ..facts },
         ] {
-            assert_eq!(high(&kept), RelaxationKind::NoOp, "{symbol:#x}");
+            assert_eq!(high(&kept), RewriteKind::NoOp, "{symbol:#x}");
         }
         // where nothing may be deleted
         let kind = high(&LinkFacts { is_relaxable: false, ..facts });
-        assert_eq!(kind == RelaxationKind::AuipcToLui, want != LOAD, "{symbol:#x}");
+        assert_eq!(kind == RewriteKind::AuipcToLui, want != LOAD, "{symbol:#x}");
     }
 }
 
@@ -286,11 +283,11 @@ fn a_load_from_the_got_becomes_the_address_of_a_linker() {
     };
     let (high, auipc) = left(RiscVRelocation::R_RISCV_GOT_HI20, load[0], &facts);
     let (low, addi) = left(RiscVRelocation::R_RISCV_PCREL_LO12_I, load[1], &facts);
-    assert_eq!((high, low), (RelaxationKind::NoOp, RelaxationKind::LdToAddi), "{symbol:?}");
+    assert_eq!((high, low), (RewriteKind::NoOp, RewriteKind::LdToAddi), "{symbol:?}");
     assert_eq!([auipc, addi], address, "{symbol:?}");
     let of_address = LinkFacts { has_got_high_part: false, ..facts };
     let (kind, _) = left(RiscVRelocation::R_RISCV_PCREL_LO12_I, load[1], &of_address);
-    assert_eq!(kind, RelaxationKind::NoOp, "{symbol:?}");
+    assert_eq!(kind, RewriteKind::NoOp, "{symbol:?}");
     for replaceable in [
         LinkFacts { is_local: false, ..facts },
         LinkFacts { is_ifunc: true, ..facts },
@@ -300,9 +297,9 @@ fn a_load_from_the_got_becomes_the_address_of_a_linker() {
         LinkFacts { is_label_relaxable: false, is_relaxable: true, ..facts },
     ] {
         let (kind, _) = left(RiscVRelocation::R_RISCV_PCREL_LO12_I, load[1], &replaceable);
-        assert_eq!(kind, RelaxationKind::NoOp, "{replaceable:?}");
+        assert_eq!(kind, RewriteKind::NoOp, "{replaceable:?}");
         let high = RiscVRelocation::R_RISCV_GOT_HI20;
-        let kept = choice(RelaxationKind::NoOp, high);
+        let kept = choice(RewriteKind::NoOp, high);
         assert_eq!(choose(high, &both([load[0], 0]), 0, &replaceable), kept, "{replaceable:?}");
     }
 }

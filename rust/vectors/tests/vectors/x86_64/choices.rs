@@ -3,7 +3,7 @@
 
 use super::{REWRITES, SEQUENCES};
 use linker_utils::elf::{Choice, LinkFacts, Operands};
-use linker_utils::x86_64::{RelaxationKind, X86_64Relocation, choose, row};
+use linker_utils::x86_64::{RewriteKind, X86_64Relocation, choose, row};
 
 /// The address of a field before the rewrite.
 const PLACE: u64 = 0x401000;
@@ -21,7 +21,7 @@ fn is_of_sequence(name: X86_64Relocation) -> bool {
 }
 
 /// What a linker knows that makes a rewrite of a field, after which it writes a number there.
-fn facts_of(name: X86_64Relocation, kind: RelaxationKind, number: u32) -> LinkFacts {
+fn facts_of(name: X86_64Relocation, kind: RewriteKind, number: u32) -> LinkFacts {
     let number = i64::from(number as i32) as u64;
     let operands = Operands {
         addend: -4,
@@ -34,26 +34,26 @@ fn facts_of(name: X86_64Relocation, kind: RelaxationKind, number: u32) -> LinkFa
     let group_fits = is_of_sequence(name);
     let facts = LinkFacts { has_addresses: true, group_fits, ..LinkFacts::default() };
     match kind {
-        RelaxationKind::MovIndirectToLea => LinkFacts {
+        RewriteKind::MovIndirectToLea => LinkFacts {
             is_local: true,
             is_pcrel_link_time_constant: true,
             operands: Operands { symbol: number.wrapping_add(PLACE + 4), ..operands },
             ..facts
         },
         // the field is one byte lower
-        RelaxationKind::JmpIndirectToRelative => LinkFacts {
+        RewriteKind::JmpIndirectToRelative => LinkFacts {
             is_local: true,
             is_pcrel_link_time_constant: true,
             operands: Operands { symbol: number.wrapping_add(PLACE + 3), ..operands },
             ..facts
         },
-        RelaxationKind::TlsDescToInitialExec => LinkFacts {
+        RewriteKind::TlsDescToInitialExec => LinkFacts {
             is_executable: true,
             operands: Operands { got_entry: number.wrapping_add(PLACE + 4), ..operands },
             ..facts
         },
         // the field is eight bytes higher
-        RelaxationKind::TlsGdToInitialExec => LinkFacts {
+        RewriteKind::TlsGdToInitialExec => LinkFacts {
             is_executable: true,
             operands: Operands { got_entry: number.wrapping_add(PLACE + 12), ..operands },
             ..facts
@@ -80,12 +80,7 @@ fn facts_of(name: X86_64Relocation, kind: RelaxationKind, number: u32) -> LinkFa
 }
 
 /// Chooses a rewrite, makes it, and writes the field's value.
-fn link(
-    name: X86_64Relocation,
-    section: &mut [u8],
-    offset: u64,
-    facts: &LinkFacts,
-) -> RelaxationKind {
+fn link(name: X86_64Relocation, section: &mut [u8], offset: u64, facts: &LinkFacts) -> RewriteKind {
     let choice = choose(name, section, offset, facts);
     let (mut at, mut addend) = (offset, facts.operands.addend);
     choice.kind.apply(section, &mut at, &mut addend);
@@ -105,7 +100,7 @@ fn linked(
     before: [u8; 10],
     offset: u64,
     facts: &LinkFacts,
-) -> (RelaxationKind, [u8; 10]) {
+) -> (RewriteKind, [u8; 10]) {
     let mut section = before;
     let kind = link(name, &mut section, offset, facts);
     (kind, section)
@@ -141,7 +136,7 @@ fn sequences_that_do_not_fit_stay() {
     let stays = |name, kind, number, section: &[u8], offset| {
         let fitting = facts_of(name, kind, number);
         let facts = LinkFacts { group_fits: false, ..fitting };
-        let unchanged = Choice { kind: RelaxationKind::NoOp, relocation: name };
+        let unchanged = Choice { kind: RewriteKind::NoOp, relocation: name };
         let chosen = choose(name, section, offset, &facts);
         assert_eq!(chosen == unchanged, is_of_sequence(name), "{name:?} {kind:?}");
         assert_ne!(choose(name, section, offset, &fitting), unchanged, "{name:?} {kind:?}");
@@ -313,7 +308,7 @@ fn other_instructions_are_not_rewritten() {
     };
     for instruction in &INSTRUCTIONS {
         let name = instruction.name;
-        let unchanged = Choice { kind: RelaxationKind::NoOp, relocation: name };
+        let unchanged = Choice { kind: RewriteKind::NoOp, relocation: name };
         for index in 0..10 {
             for bit in [0x01, 0x02, 0x04, 0x08, 0x10, 0x20, 0x40, 0x80] {
                 let mut bytes = instruction.bytes;

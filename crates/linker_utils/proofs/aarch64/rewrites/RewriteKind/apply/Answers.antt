@@ -1,0 +1,38 @@
+use Rattle.std.proofs.Common.{◌≡◌, ◌<◌, ℕ, List, ◌∙◌, ◌++◌, ◌+◌, ◌-◌, ◌*◌, ◌^◌, ap, arith, take, drop, bit_and, bit_or}
+use Rattle.std.proofs.lemmas.Nat.{and_mask}
+use Rattle.std.specs.Int.{w32, w64, from_le_bytes, to_le_bytes}
+use Rattle.std.specs.Int.Bits.{and_zero_r, or_shifted_r, or_zero_l, or_zero_r}
+use Rattle.linker_utils.specs.AArch64Rewrites.{nop, rd_of}
+use Rattle.linker_utils.proofs.aarch64.rewrites.RewriteKind.apply.Goals as goal
+
+cleared : (mask : ℕ) (s : List ℕ) (o : ℕ) → let kept = bit_and (from_le_bytes w32 (take 4 (drop o s))) mask in
+    take o s ++ to_le_bytes w32 (bit_or kept 0) ++ drop (o + 4) s ≡ take o s ++ to_le_bytes w32 kept ++ drop (o + 4) s
+cleared mask s o =
+    ap (λ w. take o s ++ to_le_bytes w32 w ++ drop (o + 4) s) (or_zero_r (bit_and (from_le_bytes w32 (take 4 (drop o s))) mask))
+
+pub returns-in-AdrpToAdr-clause-bytes : goal.returns-in-AdrpToAdr-clause-bytes
+returns-in-AdrpToAdr-clause-bytes c =
+    rw c.in-AdrpToAdr.is (c.apply-in-AdrpToAdr.ensures.edited ∙ cleared 0x7fffffff c.args.section_bytes.now (c.args.offset_in_section.now - 0))
+
+pub returns-in-AddToAdr-clause-bytes : goal.returns-in-AddToAdr-clause-bytes
+returns-in-AddToAdr-clause-bytes c =
+    rw c.in-AddToAdr.is (c.apply-in-AddToAdr.ensures.edited ∙ cleared 0x76ffffff c.args.section_bytes.now (c.args.offset_in_section.now - 0))
+
+pub returns-in-LdrToAdr-clause-bytes : goal.returns-in-LdrToAdr-clause-bytes
+returns-in-LdrToAdr-clause-bytes c =
+    rw c.in-LdrToAdr.is (c.apply-in-LdrToAdr.ensures.edited ∙ cleared 0x76ffffff c.args.section_bytes.now (c.args.offset_in_section.now - 0))
+
+pair : (word : ℕ) → bit_or (bit_and word 0) 0xd503201f + bit_or (bit_and word 0x1f) 0x10000000 * 2 ^ 32 ≡ nop + (0x10000000 + rd_of word) * 2 ^ 32
+pair word =
+    let first : bit_or (bit_and word 0) 0xd503201f ≡ nop = ap (λ n. bit_or n 0xd503201f) (and_zero_r word) ∙ or_zero_l 0xd503201f in
+    let small : bit_and word 0x1f < 2 ^ 5 = omega (arith, and_mask word 5) in
+    let second : bit_or (bit_and word 0x1f) 0x10000000 ≡ 0x10000000 + bit_and word 0x1f = or_shifted_r 0x800000 5 (bit_and word 0x1f) small in
+    omega (arith, first, second, and_mask word 5)
+
+pub returns-in-AdrpAddToNopAdr-clause-bytes : goal.returns-in-AdrpAddToNopAdr-clause-bytes
+returns-in-AdrpAddToNopAdr-clause-bytes c =
+    let s = c.args.section_bytes.now in
+    let o = c.args.offset_in_section.now - 4 in
+    rw c.in-AdrpAddToNopAdr.is
+    (c.apply-in-AdrpAddToNopAdr.ensures.edited
+    ∙ ap (λ n. take o s ++ to_le_bytes w64 n ++ drop (o + 8) s) (pair (from_le_bytes w32 (take 8 (drop o s)))))

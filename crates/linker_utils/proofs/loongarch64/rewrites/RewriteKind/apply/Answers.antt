@@ -1,0 +1,13 @@
+use Rattle.std.proofs.Common.{rules, inl, inr, ◌∙◌, ◌++◌, ◌+◌, ◌-◌, ap, take, drop}
+use Rattle.std.specs.Int.{w32, from_le_bytes, to_le_bytes}
+use Rattle.linker_utils.proofs.LoongArchRows.{over_tp}
+use Rattle.linker_utils.proofs.loongarch64.rewrites.RewriteKind.apply.Goals as goal
+
+pub returns-in-BaseToTp-clause-bytes : goal.returns-in-BaseToTp-clause-bytes
+returns-in-BaseToTp-clause-bytes c =
+    let s = c.args.section_bytes.now in
+    let o = c.args.offset_in_section.now - 0 in
+    let made = c.apply-in-BaseToTp.ensures in
+    rw c.in-BaseToTp.is
+    (made.edited
+    ∙ ap (λ w. take o s ++ to_le_bytes w32 w ++ drop (o + 4) s) (over_tp (from_le_bytes w32 (take 4 (drop o s))) (elim made.word [ inl none ↦ search rules | inr small ↦ small ])))

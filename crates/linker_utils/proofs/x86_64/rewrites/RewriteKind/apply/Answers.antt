@@ -1,0 +1,12 @@
+use Rattle.std.proofs.Common.{◌∙◌, ap, subst}
+use Rattle.linker_base.specs.Rewrite.{CanRewrite, rewritten}
+use Rattle.linker_utils.specs.X86Rewrites.{x86_64_rewrite}
+use Rattle.linker_utils.proofs.X86Bytes.{keeps_register}
+use Rattle.linker_utils.proofs.x86_64.rewrites.RewriteKind.apply.Goals as goal
+
+pub returns-clause-register : goal.returns-clause-register
+returns-clause-register c = λ is.
+    let s = c.args.section_bytes.now in
+    let o = c.args.offset_in_section.now in
+    let can = subst (λ k. CanRewrite (x86_64_rewrite k) s o) is c.requires in
+    keeps_register s c.rewrite.new.section o can.starts can.ends (c.rewrite.ensures.bytes ∙ ap (λ k. rewritten (x86_64_rewrite k) s o) is)
