@@ -6,6 +6,7 @@
 #![doc = include_str!("../doc/riscv64.md")]
 
 mod choices;
+mod relaxation_kind;
 mod rewrites;
 
 pub use choices::{choose, fits, relocations_are_chosen_alike};
@@ -20,4 +21,5 @@ pub use crate::linker_riscv64::{
     packed_calls_reach_targets, packed_len, relax_call, relax_call_over, shrink_calls,
     shrink_calls_into, shrunk_calls_are_accepted,
 };
+pub use relaxation_kind::RelaxationKind;
 pub use rewrites::{RewriteKind, may_be_skipped};

@@ -5,8 +5,10 @@
 #![doc = include_str!("../doc/x86_64.md")]
 
 mod choices;
+mod relaxation_kind;
 mod rewrites;
 
 pub use choices::{choose, fits};
 pub use crate::linker_elf::x86_64::{X86_64Relocation, relocation_from_raw, row};
+pub use relaxation_kind::RelaxationKind;
 pub use rewrites::{RewriteKind, may_be_skipped};

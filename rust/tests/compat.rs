@@ -79,6 +79,42 @@ fn calls_are_relaxed() {
     assert_eq!(section[..4], 0x0080_00efu32.to_le_bytes()); // jal ra, 8
 }
 
+/// The name of a rewrite, by a match with an arm for each of the original's and no other.
+macro_rules! name_of {
+    ($kind:expr, $module:ident: $($name:ident $(($count:pat))?)*) => {
+        match $kind {
+            $($module::RelaxationKind::$name$(($count))? => stringify!($name),)*
+        }
+    };
+}
+
+#[test]
+fn rewrites_are_those_of_the_original() {
+    let kind = aarch64::RelaxationKind::LdrToAdd;
+    let name = name_of! { kind, aarch64:
+        NoOp ReplaceWithNop MovzX0Lsl16 MovkX0 MovzXnLsl16 MovkXn AdrpToAdr AdrpX0 LdrX0 AddToAdr
+        LdrToAdr LdrToAdd AdrpAddToNopAdr
+    };
+    assert_eq!(name, "LdrToAdd");
+    let kind = riscv64::RelaxationKind::Hi20Delete;
+    let name = name_of! { kind, riscv64:
+        NoOp ReplaceWithNop CallToJal Hi20ToCLui Hi20Delete Lo12Rs1ToZero
+    };
+    assert_eq!(name, "Hi20Delete");
+    let kind = loongarch64::RelaxationKind::ReplaceWithNop;
+    assert_eq!(name_of!(kind, loongarch64: NoOp ReplaceWithNop), "ReplaceWithNop");
+    assert_eq!(name_of!(ppc64::RelaxationKind::NoOp, ppc64: NoOp), "NoOp");
+    let kind = x86_64::RelaxationKind::RexCmpIndirectToAbsolute(3);
+    let name = name_of! { kind, x86_64:
+        MovIndirectToLea MovIndirectToAbsolute RexMovIndirectToAbsolute(_)
+        RexAddIndirectToAbsolute(_) RexSubIndirectToAbsolute(_) RexCmpIndirectToAbsolute(_)
+        CallIndirectToRelative JmpIndirectToRelative NoOp TlsGdToLocalExec TlsGdToLocalExecLarge
+        TlsLdToLocalExec TlsLdToLocalExecNoPlt TlsLdToLocalExec64 TlsGdToInitialExec
+        TlsDescToLocalExec(_) TlsDescToInitialExec SkipTlsDescCall
+    };
+    assert_eq!(name, "RexCmpIndirectToAbsolute");
+}
+
 #[test]
 fn bytes_are_slices() {
     let mut words = [1u32, 2, 3];

@@ -206,8 +206,8 @@ def add_imports(source, is_std):
 
 
 def additions(text):
-    """What `rust/additions.txt` adds: to `NAME`, `TYPE::NAME`, `TYPE.FIELD`, `FUNCTION.PARAMETER`, or the
-    imports `CRATE::*`."""
+    """What `rust/additions.txt` adds: to `NAME`, `TYPE::NAME`, `TYPE.FIELD`, `FUNCTION.PARAMETER`, the imports
+    `CRATE::*`, or to one of these in one folder, as `FOLDER/NAME`."""
     added = defaultdict(list)
     for line in re.sub(r"#.*|\n +", " ", text).splitlines():
         for name in line.split()[1:]:
@@ -224,6 +224,7 @@ def add(source, added, found):
             places.append((it.name + "::*" * (it.word == "use"), it.first, it.head))
         if it.word == "struct" and source[brace := source.past(it.head, "; {")] == "{":
             places += [(f"{it.name}.{source[at]}", at, at) for at, _ in source.list_of(brace, True)]
+    places += [(f"{source.path.parent.name}/{name}", first, at) for name, first, at in places]
     for name, first, at in (place for place in places if place[0] in added):
         found.add(name)
         start, place = source.start(first), source.start(at)

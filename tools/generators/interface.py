@@ -99,7 +99,9 @@ def lines(index, number, at, seen, within=""):
     if form == "use":
         target = index.get(str(inner["id"]))
         if inner["is_glob"] or not target or number in seen or inner["id"] in seen:
-            yield f"use {inner['source']}{'::*' * inner['is_glob']} in {at or 'the crate'}"
+            is_same = f"::{inner['source']}".endswith(f"::{inner['name']}")
+            ending = "::*" if inner["is_glob"] else "" if is_same else f" as {inner['name']}"
+            yield f"use {inner['source']}{ending} in {at or 'the crate'}"
         else:
             yield from lines(index, inner["id"], at, seen)
         return

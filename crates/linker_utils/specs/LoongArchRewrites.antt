@@ -9,6 +9,8 @@ use Rattle.linker_base.specs.Bits.{field}
 use Rattle.linker_base.specs.Rewrite.{Rewrite, replaces}
 use Rattle.linker_base.specs.declared.relaxation.RelocationModifier.{RelocationModifier}
 use Rattle.linker_base.specs.declared.relaxation.RelocationModifier.TheVariants.{Normal}
+use Rattle.linker_utils.specs.declared.loongarch64.relaxation_kind.RelaxationKind.{RelaxationKind}
+use Rattle.linker_utils.specs.declared.loongarch64.relaxation_kind.RelaxationKind.TheVariants as originals
 use Rattle.linker_utils.specs.declared.loongarch64.rewrites.RewriteKind.{RewriteKind}
 use Rattle.linker_base.specs.declared.rewrite.DeletedBytes.{DeletedBytes}
 use Rattle.linker_elf.specs.Originals.{HasWord}
@@ -492,3 +494,10 @@ ThreadOffsetIsChosenAlike =
     OfThreadOffsetIsChosenAlike r.R_LARCH_TLS_LE_ADD_R (choice kinds.Delete r.R_LARCH_NONE)
     × OfThreadOffsetIsChosenAlike r.R_LARCH_TLS_LE_LO12_R
     (choice kinds.BaseToTp r.R_LARCH_TLS_LE_LO12_R)
+
+-- ---- the rewrites of the crate `linker-utils`
+
+-- the rewrite of the same name
+abbrev pub loongarch_rewrite_kind : RelaxationKind → RewriteKind
+loongarch_rewrite_kind originals.NoOp = kinds.NoOp
+loongarch_rewrite_kind originals.ReplaceWithNop = kinds.ReplaceWithNop

@@ -10,6 +10,8 @@ use Rattle.linker_base.specs.Rewrite.{Rewrite, replaces}
 use Rattle.linker_base.specs.declared.relaxation.RelocationModifier.{RelocationModifier}
 use Rattle.linker_base.specs.declared.relaxation.RelocationModifier.TheVariants.{Normal}
 use Rattle.linker_base.specs.declared.relaxation.RelocationModifier.TheVariants.{SkipNextRelocation}
+use Rattle.linker_utils.specs.declared.ppc64.relaxation_kind.RelaxationKind.{RelaxationKind}
+use Rattle.linker_utils.specs.declared.ppc64.relaxation_kind.RelaxationKind.TheVariants as originals
 use Rattle.linker_utils.specs.declared.ppc64.rewrites.RewriteKind.{RewriteKind}
 use Rattle.linker_elf.specs.Originals.{HasWord}
 use Rattle.linker_elf.specs.Choices.{Condition, bound, fixed_distance, executable, private_base}
@@ -661,3 +663,9 @@ abbrev pub ppc64_may_be_skipped : Ppc64Relocation → Bool
 ppc64_may_be_skipped r.R_PPC64_REL24 = true
 ppc64_may_be_skipped r.R_PPC64_REL24_NOTOC = true
 ppc64_may_be_skipped name = false
+
+-- ---- the rewrites of the crate `linker-utils`
+
+-- the rewrite of the same name
+abbrev pub ppc64_rewrite_kind : RelaxationKind → RewriteKind
+ppc64_rewrite_kind originals.NoOp = kinds.NoOp

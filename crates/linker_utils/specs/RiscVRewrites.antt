@@ -13,6 +13,8 @@ use Rattle.linker_base.specs.declared.relaxation.RelocationModifier.TheVariants.
 use Rattle.linker_base.specs.declared.relaxation.RelocationModifier.TheVariants.{SkipNextRelocation}
 use Rattle.linker_elf.specs.declared.riscv64.forms.RiscVInstruction.{RiscVInstruction}
 use Rattle.linker_base.specs.declared.rewrite.DeletedBytes.{DeletedBytes}
+use Rattle.linker_utils.specs.declared.riscv64.relaxation_kind.RelaxationKind.{RelaxationKind}
+use Rattle.linker_utils.specs.declared.riscv64.relaxation_kind.RelaxationKind.TheVariants as originals
 use Rattle.linker_utils.specs.declared.riscv64.rewrites.RewriteKind.{RewriteKind}
 use Rattle.linker_elf.specs.Originals.{HasWord}
 use Rattle.linker_riscv64.specs.RiscVCalls.{IsCallPair, IsPlainCall, word_at}
@@ -526,3 +528,14 @@ ThreadOffsetIsChosenAlike =
     (deleted, choice kinds.BaseToTp r.R_RISCV_TPREL_LO12_I) []
     × OfLuiAreChosenAlike r.R_RISCV_TPREL_HI20 r.R_RISCV_TPREL_LO12_S
     (deleted, choice kinds.BaseToTp r.R_RISCV_TPREL_LO12_S) []
+
+-- ---- the rewrites of the crate `linker-utils`
+
+-- the rewrite of the same name
+abbrev pub riscv_rewrite_kind : RelaxationKind → RewriteKind
+riscv_rewrite_kind originals.NoOp = kinds.NoOp
+riscv_rewrite_kind originals.ReplaceWithNop = kinds.ReplaceWithNop
+riscv_rewrite_kind originals.CallToJal = kinds.CallToJal
+riscv_rewrite_kind originals.Hi20ToCLui = kinds.Hi20ToCLui
+riscv_rewrite_kind originals.Hi20Delete = kinds.Hi20Delete
+riscv_rewrite_kind originals.Lo12Rs1ToZero = kinds.Lo12Rs1ToZero

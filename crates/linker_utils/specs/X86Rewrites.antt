@@ -10,6 +10,8 @@ use Rattle.linker_base.specs.Rewrite.{Rewrite, replaces, CanRewrite}
 use Rattle.linker_base.specs.declared.relaxation.RelocationModifier.{RelocationModifier}
 use Rattle.linker_base.specs.declared.relaxation.RelocationModifier.TheVariants.{Normal}
 use Rattle.linker_base.specs.declared.relaxation.RelocationModifier.TheVariants.{SkipNextRelocation}
+use Rattle.linker_utils.specs.declared.x86_64.relaxation_kind.RelaxationKind.{RelaxationKind}
+use Rattle.linker_utils.specs.declared.x86_64.relaxation_kind.RelaxationKind.TheVariants as originals
 use Rattle.linker_utils.specs.declared.x86_64.rewrites.RewriteKind.{RewriteKind}
 use Rattle.linker_elf.specs.Choices.{Condition, Entry, entry, choice, operands_after, Applies}
 use Rattle.linker_elf.specs.Choices.{IsFirst, bound, weak_zero, fixed_address, fixed_distance}
@@ -615,3 +617,26 @@ abbrev pub IsX86Choice : X86_64Relocation → List ℕ → ℕ → LinkFacts
     → Choice RewriteKind X86_64Relocation → Type 0
 IsX86Choice name section o facts chosen =
     IsByTable (x86_64_table name (opcode_at name section o)) name section o facts chosen
+
+-- ---- the rewrites of the crate `linker-utils`
+
+-- the rewrite of the same name
+abbrev pub x86_64_rewrite_kind : RelaxationKind → RewriteKind
+x86_64_rewrite_kind originals.MovIndirectToLea = kinds.MovIndirectToLea
+x86_64_rewrite_kind originals.MovIndirectToAbsolute = kinds.MovIndirectToAbsolute
+x86_64_rewrite_kind (originals.RexMovIndirectToAbsolute n) = kinds.RexMovIndirectToAbsolute n
+x86_64_rewrite_kind (originals.RexAddIndirectToAbsolute n) = kinds.RexAddIndirectToAbsolute n
+x86_64_rewrite_kind (originals.RexSubIndirectToAbsolute n) = kinds.RexSubIndirectToAbsolute n
+x86_64_rewrite_kind (originals.RexCmpIndirectToAbsolute n) = kinds.RexCmpIndirectToAbsolute n
+x86_64_rewrite_kind originals.CallIndirectToRelative = kinds.CallIndirectToRelative
+x86_64_rewrite_kind originals.JmpIndirectToRelative = kinds.JmpIndirectToRelative
+x86_64_rewrite_kind originals.NoOp = kinds.NoOp
+x86_64_rewrite_kind originals.TlsGdToLocalExec = kinds.TlsGdToLocalExec
+x86_64_rewrite_kind originals.TlsGdToLocalExecLarge = kinds.TlsGdToLocalExecLarge
+x86_64_rewrite_kind originals.TlsLdToLocalExec = kinds.TlsLdToLocalExec
+x86_64_rewrite_kind originals.TlsLdToLocalExecNoPlt = kinds.TlsLdToLocalExecNoPlt
+x86_64_rewrite_kind originals.TlsLdToLocalExec64 = kinds.TlsLdToLocalExec64
+x86_64_rewrite_kind originals.TlsGdToInitialExec = kinds.TlsGdToInitialExec
+x86_64_rewrite_kind (originals.TlsDescToLocalExec n) = kinds.TlsDescToLocalExec n
+x86_64_rewrite_kind originals.TlsDescToInitialExec = kinds.TlsDescToInitialExec
+x86_64_rewrite_kind originals.SkipTlsDescCall = kinds.SkipTlsDescCall

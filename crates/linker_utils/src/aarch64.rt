@@ -8,7 +8,7 @@ pub use choices::{choose, fits, is_tls_descriptor_sequence, relocations_are_chos
 pub use linker_elf::aarch64::{
     AArch64Instruction, AArch64Relocation, relocation_type_from_raw, row,
 };
-pub use rewrites::{RewriteKind, is_adrp_pair};
+pub use rewrites::{RewriteKind, RewriteKind as RelaxationKind, is_adrp_pair};
 pub use sequences::write_mov_sequence;
 
 /// The distance in bytes from the thread pointer to the first TLS block: the thread control block's

@@ -510,7 +510,17 @@ macro_rules! or {
     ($none:expr; $value:expr) => { $value };
 }
 
+/// The rewrite of the same name, of all that the library has.
+macro_rules! same_name {
+    ($value:expr => $($kind:ident$(($n:ident))?)*) => {
+        match $value {
+            $(RelaxationKind::$kind$(($n))? => RewriteKind::$kind$(($n))?,)*
+        }
+    };
+}
+
 pub(crate) use bits;
 pub(crate) use by_row;
 pub(crate) use or;
+pub(crate) use same_name;
 pub(crate) use top;

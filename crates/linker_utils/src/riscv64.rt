@@ -2,6 +2,7 @@
 //! and calls that become jumps.
 
 mod choices;
+mod relaxation_kind;
 mod rewrites;
 
 pub use choices::{choose, fits, relocations_are_chosen_alike};
@@ -16,4 +17,5 @@ pub use linker_riscv64::{
     packed_calls_reach_targets, packed_len, relax_call, relax_call_over, shrink_calls,
     shrink_calls_into, shrunk_calls_are_accepted,
 };
+pub use relaxation_kind::RelaxationKind;
 pub use rewrites::{RewriteKind, may_be_skipped};

@@ -18,7 +18,7 @@ ghost use Rattle.linker_riscv64.specs.declared.calls.JumpError.{JumpError};
 use crate::status::Status;
 use linker_utils::elf::RiscVInstruction;
 use linker_utils::relaxation::{DeltaSlice, RelaxDelta};
-use linker_utils::riscv64::{self, CallError, JumpError, LinkRegister, RewriteKind};
+use linker_utils::riscv64::{self, CallError, JumpError, LinkRegister, RelaxationKind};
 
 /// Turns the `auipc` at a site of a section into a `jal` by a distance in bytes, with the `auipc`'s
 /// destination register. The first that applies of `OutOfSection`, `OddDistance`, `TooFar`.
@@ -189,7 +189,7 @@ pub extern "C" fn linker_utils_hi20_is_zero(value: u64) -> bool
     ensures exactly { IsTrue result ↔ (hi20 value ≡ 0) }
     ensures low { IsTrue result → IsSigned32 (signed 64 value) → signed 64 value ≡ lo12 value }
 {
-    RewriteKind::hi20_is_zero(value)
+    RelaxationKind::hi20_is_zero(value)
 }
 
 /// Whether `c.lui` holds the high part of a value.
@@ -199,7 +199,7 @@ pub extern "C" fn linker_utils_hi20_fits_clui(value: u64) -> bool
     ensures compressed { IsTrue result → HoldsHigh RiscVInstruction.CluiType value }
     ensures whole { IsTrue result → HoldsHigh RiscVInstruction.UType value }
 {
-    RewriteKind::hi20_fits_clui(value)
+    RelaxationKind::hi20_fits_clui(value)
 }
 
 /// Whether a register can be the destination of `c.lui`.
@@ -207,5 +207,5 @@ pub extern "C" fn linker_utils_hi20_fits_clui(value: u64) -> bool
 pub extern "C" fn linker_utils_rd_valid_for_clui(rd: u32) -> bool
     ensures { IsTrue result ↔ ((rd ≢ 0) × (rd ≢ 2)) }
 {
-    RewriteKind::rd_valid_for_clui(rd)
+    RelaxationKind::rd_valid_for_clui(rd)
 }

@@ -5,7 +5,7 @@
 use crate::status::Status;
 use linker_utils::elf::RiscVInstruction;
 use linker_utils::relaxation::{DeltaSlice, RelaxDelta};
-use linker_utils::riscv64::{self, CallError, JumpError, LinkRegister, RewriteKind};
+use linker_utils::riscv64::{self, CallError, JumpError, LinkRegister, RelaxationKind};
 
 /// Turns the `auipc` at a site of a section into a `jal` by a distance in bytes, with the `auipc`'s
 /// destination register. The first that applies of `OutOfSection`, `OddDistance`, `TooFar`.
@@ -85,15 +85,15 @@ pub fn linker_utils_distance_fits_jal(distance: i64) -> bool {
 
 /// Whether the high part of a value is 0.
 pub fn linker_utils_hi20_is_zero(value: u64) -> bool {
-    RewriteKind::hi20_is_zero(value)
+    RelaxationKind::hi20_is_zero(value)
 }
 
 /// Whether `c.lui` holds the high part of a value.
 pub fn linker_utils_hi20_fits_clui(value: u64) -> bool {
-    RewriteKind::hi20_fits_clui(value)
+    RelaxationKind::hi20_fits_clui(value)
 }
 
 /// Whether a register can be the destination of `c.lui`.
 pub fn linker_utils_rd_valid_for_clui(rd: u32) -> bool {
-    RewriteKind::rd_valid_for_clui(rd)
+    RelaxationKind::rd_valid_for_clui(rd)
 }

@@ -21,6 +21,7 @@ use crate::linker_elf::elf::InstructionRewrite;
 /// RewriteKind::LdToAddi.apply(&mut ld, &mut offset, &mut addend);
 /// assert_eq!(u32::from_le_bytes(ld), 0x02c0_0084);
 /// ```
+#[cfg_attr(not(exhaustive), non_exhaustive)]
 #[derive(Debug, Default, Clone, Copy, PartialEq, Eq, Hash, PartialOrd, Ord)]
 pub enum RewriteKind {
     /// Leaves the instruction as it is; only the kind of its relocation changes.

@@ -24,6 +24,7 @@ use crate::linker_elf::ppc64::Ppc64Relocation;
 /// RewriteKind::LdToAddi.apply(&mut ld, &mut offset, &mut addend);
 /// assert_eq!(u32::from_le_bytes(ld), 0x392a_0000);
 /// ```
+#[cfg_attr(not(exhaustive), non_exhaustive)]
 #[derive(Debug, Default, Clone, Copy, PartialEq, Eq, Hash, PartialOrd, Ord)]
 pub enum RewriteKind {
     /// Leaves the instruction as it is; only the kind of its relocation changes.

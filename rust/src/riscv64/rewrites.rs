@@ -2,16 +2,18 @@
 // Made by tools/generate of crates/linker_utils/src/riscv64/rewrites.rt.
 //! RISC-V: relaxation rewrites.
 
+use super::RelaxationKind;
 use crate::linker_base::bit_misc::BitExtraction;
 use crate::linker_base::relaxation::RelocationModifier;
 use crate::linker_base::rewrite::{DeletedBytes, RewriteWindow, has_window, overwrite, window_is_in};
 use crate::linker_base::utils::u32_from_slice;
-use crate::linker_elf::elf::{InstructionRewrite, RelocationKindInfo, RiscVInstruction};
-use crate::linker_elf::riscv64::{self as relocations, RiscVRelocation};
+use crate::linker_elf::elf::InstructionRewrite;
+use crate::linker_elf::riscv64::RiscVRelocation;
 use crate::linker_riscv64::fields::{base, destination, function, opcode, stores_base, word_at};
 use crate::linker_riscv64::{is_call_pair, is_plain_call};
 
 /// A rewrite of one instruction, or of a pair whose second instruction is then deleted.
+#[cfg_attr(not(exhaustive), non_exhaustive)]
 #[derive(Debug, Default, Clone, Copy, PartialEq, Eq, Hash, PartialOrd, Ord)]
 pub enum RewriteKind {
     /// Leaves the instruction as it is; only the kind of its relocation changes.
@@ -134,7 +136,7 @@ fn is_call_of_descriptor(word: u32) -> bool {
 #[inline(always)]
 fn is_c_lui(half: u16) -> bool {
     let rd = u32::from(half) >> 7 & 0x1f;
-    half % 4 == 1 && half >> 13 == 3 && RewriteKind::rd_valid_for_clui(rd)
+    half % 4 == 1 && half >> 13 == 3 && RelaxationKind::rd_valid_for_clui(rd)
 }
 
 /// The instruction with x4, the thread pointer, as its first source register.
@@ -325,7 +327,7 @@ impl RewriteKind {
                 true,
             RewriteKind::Hi20ToCLui => {
                 let word = word_at(section, offset);
-                opcode(word) == 0x37 && RewriteKind::rd_valid_for_clui(destination(word))
+                opcode(word) == 0x37 && RelaxationKind::rd_valid_for_clui(destination(word))
             }
             RewriteKind::Hi20Delete => opcode(word_at(section, offset)) == 0x37,
             RewriteKind::Lo12Rs1ToZero | RewriteKind::BaseToTp => {
@@ -385,42 +387,6 @@ impl RewriteKind {
             _ => return None,
         };
         Some(DeletedBytes { start, count })
-    }
-
-    /// Whether the high part of a value is 0: bits 12 to 31 of the value plus 0x800, modulo 2^64.
-    /// If so, a value of 32 signed bits equals its signed low 12 bits, and `Hi20Delete` with
-    /// `Lo12Rs1ToZero` computes it.
-    #[must_use]
-    #[inline]
-    pub fn hi20_is_zero(value: u64) -> bool {
-        value.wrapping_add(0x800).extract_bit_range(12..32) == 0
-    }
-
-    /// Whether `c.lui` holds the high part of a value: the value plus 0x800, modulo 2^64 and read
-    /// signed, divided by 4096 and rounded down, is from -32 to 31 and is not 0. If so, the
-    /// immediate of `CluiType`, and also that of `UType`, makes the value with its signed low 12
-    /// bits.
-    #[must_use]
-    #[inline]
-    pub fn hi20_fits_clui(value: u64) -> bool {
-        // above the least such value, with the bit flipped that parts those below 0 from the others
-        let flipped = value.wrapping_add(0x2_0800) ^ 0x2_0000;
-        flipped.wrapping_sub(0x1000) < 0x3_f000
-    }
-
-    /// Whether a register can be the destination of `c.lui`: neither x0 nor x2, the stack pointer.
-    #[must_use]
-    #[inline]
-    pub fn rd_valid_for_clui(rd: u32) -> bool {
-        rd != 0 && rd != 2
-    }
-
-    /// What `R_RISCV_HI20` means once its `lui` has become a `c.lui` (`Hi20ToCLui`). Its range is
-    /// wider than what `c.lui` holds: `hi20_fits_clui` is the test.
-    #[must_use]
-    #[inline]
-    pub fn clui_rel_info() -> RelocationKindInfo {
-        relocations::clui_row().info()
     }
 }
 

@@ -24,6 +24,7 @@ use crate::linker_elf::elf::InstructionRewrite;
 /// assert_eq!(section, [0xe9, 0, 0, 0, 0, 0x90]);
 /// assert_eq!((offset, addend), (1, -4));
 /// ```
+#[cfg_attr(not(exhaustive), non_exhaustive)]
 #[derive(Debug, Default, Clone, Copy, PartialEq, Eq, Hash, PartialOrd, Ord)]
 pub enum RewriteKind {
     /// Turns `mov x@GOTPCREL(%rip), %reg` into `lea x(%rip), %reg`.

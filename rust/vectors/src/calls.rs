@@ -6,7 +6,7 @@
 
 use crate::rows::{deltas_of, expect_eq};
 use linker_utils::relaxation::{PackError, calls_apart, calls_shrinkable};
-use linker_utils::riscv64::{CallError, RewriteKind, distance_fits_jal, jal_site, relax_call};
+use linker_utils::riscv64::{CallError, RelaxationKind, distance_fits_jal, jal_site, relax_call};
 use linker_utils::utils::u32_from_slice;
 use core::fmt::Debug;
 
@@ -208,13 +208,13 @@ fn high_parts_are_zero_or_fit_c_lui() {
     for (value, is_zero, fits) in &HIGH_PARTS {
         let number = u64::from_le_bytes(value.to_le_bytes());
         let found = (
-            RewriteKind::hi20_is_zero(number),
-            RewriteKind::hi20_fits_clui(number),
+            RelaxationKind::hi20_is_zero(number),
+            RelaxationKind::hi20_fits_clui(number),
         );
         expect_eq(value, found, (*is_zero, *fits));
     }
     for (register, is_valid) in &REGISTERS {
-        let found = RewriteKind::rd_valid_for_clui(*register);
+        let found = RelaxationKind::rd_valid_for_clui(*register);
         expect_eq(register, found, *is_valid);
     }
 }

@@ -4,20 +4,43 @@
 //! hand from the manuals.
 
 use crate::rows::{expect, expect_eq};
-use linker_utils::aarch64::RewriteKind as AArch64Kind;
-use linker_utils::architecture::Relaxation::{self, AArch64, LoongArch64, Ppc64, RiscV, X86_64};
-use linker_utils::elf::InstructionRewrite;
-use linker_utils::loongarch64::RewriteKind as LoongArch64Kind;
-use linker_utils::ppc64::RewriteKind as Ppc64Kind;
+use linker_utils::aarch64::RelaxationKind as AArch64Kind;
+use linker_utils::loongarch64::RelaxationKind as LoongArch64Kind;
+use linker_utils::ppc64::RelaxationKind as Ppc64Kind;
 use linker_utils::relaxation::RelocationModifier;
-use linker_utils::riscv64::RewriteKind as RiscVKind;
-use linker_utils::x86_64::RewriteKind as X86Kind;
+use linker_utils::riscv64::RelaxationKind as RiscVKind;
+use linker_utils::x86_64::RelaxationKind as X86Kind;
+
+/// A rewrite of one of the architectures.
+#[derive(Debug, Clone, Copy)]
+enum Kind {
+    AArch64(AArch64Kind),
+    RiscV(RiscVKind),
+    LoongArch64(LoongArch64Kind),
+    Ppc64(Ppc64Kind),
+    X86_64(X86Kind),
+}
+
+use Kind::{AArch64, LoongArch64, Ppc64, RiscV, X86_64};
+
+/// What is made of a rewrite, whichever architecture it is of.
+macro_rules! of_kind {
+    ($of:expr, $kind:ident => $made:expr) => {
+        match $of {
+            AArch64($kind) => $made,
+            RiscV($kind) => $made,
+            LoongArch64($kind) => $made,
+            Ppc64($kind) => $made,
+            X86_64($kind) => $made,
+        }
+    };
+}
 
 /// Bytes, an offset and an addend.
 type State = (&'static [u8], u64, i64);
 
 /// A rewrite, and what is before and after it.
-static REWRITTEN: [(Relaxation, State, State); 16] = [
+static REWRITTEN: [(Kind, State, State); 16] = [
     (
         AArch64(AArch64Kind::AdrpAddToNopAdr),
         (b"\x03\0\0\x90\x63\0\0\x91", 4, 7),
@@ -97,7 +120,7 @@ static REWRITTEN: [(Relaxation, State, State); 16] = [
 ];
 
 /// Rewrites, and what they do to the relocation after their own.
-static MODIFIERS: [(Relaxation, RelocationModifier); 3] = [
+static MODIFIERS: [(Kind, RelocationModifier); 3] = [
     (
         X86_64(X86Kind::TlsGdToLocalExec),
         RelocationModifier::SkipNextRelocation,
@@ -111,14 +134,16 @@ static MODIFIERS: [(Relaxation, RelocationModifier); 3] = [
 
 /// Requires that a rewrite of a section at an offset with an addend leaves what is after it.
 fn expect_rewritten(
-    kind: Relaxation,
+    kind: Kind,
     section: &mut [u8],
     mut offset: u64,
     mut addend: i64,
     after: State,
 ) {
-    expect(kind, kind.can_apply(section, offset));
-    kind.apply(section, &mut offset, &mut addend);
+    of_kind!(kind, it => {
+        expect(kind, it.can_apply(section, offset));
+        it.apply(section, &mut offset, &mut addend);
+    });
     expect_eq(kind, (&*section, offset, addend), after);
 }
 
@@ -132,7 +157,8 @@ fn rewrites_leave_their_bytes() {
         expect_rewritten(*kind, section, *offset, *addend, *after);
     }
     for (kind, modifier) in &MODIFIERS {
-        expect_eq(kind, kind.next_modifier(), *modifier);
+        let found = of_kind!(*kind, it => it.next_modifier());
+        expect_eq(kind, found, *modifier);
     }
 }
 
@@ -152,7 +178,7 @@ static OF_A_LOAD: [AArch64Kind; 11] = [
 ];
 
 /// Other rewrites, the offset in a section that is just their window, and the section's length.
-static WINDOWS: [(Relaxation, u64, usize); 27] = [
+static WINDOWS: [(Kind, u64, usize); 27] = [
     (AArch64(AArch64Kind::AdrpAddToNopAdr), 4, 8),
     (RiscV(RiscVKind::ReplaceWithNop), 0, 4),
     (RiscV(RiscVKind::CallToJal), 0, 4),
@@ -183,7 +209,7 @@ static WINDOWS: [(Relaxation, u64, usize); 27] = [
 ];
 
 /// Rewrites of no bytes.
-static OF_NOTHING: [Relaxation; 6] = [
+static OF_NOTHING: [Kind; 6] = [
     AArch64(AArch64Kind::NoOp),
     RiscV(RiscVKind::NoOp),
     RiscV(RiscVKind::Hi20Delete),
@@ -192,22 +218,26 @@ static OF_NOTHING: [Relaxation; 6] = [
     X86_64(X86Kind::NoOp),
 ];
 
+fn can_apply(kind: Kind, section: &[u8], offset: u64) -> bool {
+    of_kind!(kind, it => it.can_apply(section, offset))
+}
+
 /// Requires that a rewrite may be applied to a section that is just its window, of which the bytes
 /// from `back` on are the instruction at the offset, and not where a byte of it is missing.
-fn requires_window(kind: Relaxation, section: &[u8], back: u64) {
-    expect_eq(kind, kind.can_apply(section, back), true);
+fn requires_window(kind: Kind, section: &[u8], back: u64) {
+    expect_eq(kind, can_apply(kind, section, back), true);
     for len in 0..section.len() {
         expect_eq(
             (kind, len),
-            kind.can_apply(&section[..len], back),
+            can_apply(kind, &section[..len], back),
             false,
         );
     }
     for below in 0..back {
-        expect_eq(kind, kind.can_apply(section, below), false);
+        expect_eq(kind, can_apply(kind, section, below), false);
     }
     for offset in [back.wrapping_add(1), back.wrapping_add(1 << 32), u64::MAX] {
-        expect_eq((kind, offset), kind.can_apply(section, offset), false);
+        expect_eq((kind, offset), can_apply(kind, section, offset), false);
     }
 }
 
@@ -223,7 +253,7 @@ fn rewrites_require_their_window() {
     }
     for kind in &OF_NOTHING {
         for offset in [0, 5, u64::MAX] {
-            expect_eq((kind, offset), kind.can_apply(&[], offset), true);
+            expect_eq((kind, offset), can_apply(*kind, &[], offset), true);
         }
     }
     // `ldr w1, [x1]`, and `ldr x1, [x2]`

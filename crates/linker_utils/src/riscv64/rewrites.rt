@@ -1,31 +1,28 @@
 //! RISC-V: relaxation rewrites.
 
 ghost use Rattle.std.proofs.Common.{ap};
-ghost use Rattle.std.specs.Prelude.{slice_get, ◌≡◌, ◌≤◌, ◌↔◌, IsTrue, Some, length, ◌≢◌, ◌+◌, ◌++◌};
+ghost use Rattle.std.specs.Prelude.{slice_get, ◌≡◌, ◌≤◌, ◌↔◌, IsTrue, Some, length, ◌+◌, ◌++◌};
 ghost use Rattle.std.specs.Prelude.{take, drop, IfSome, IfNone};
 ghost use Rattle.std.specs.Int.{from_le_bytes, to_le_bytes, w16, w32};
 ghost use Rattle.linker_base.specs.Rewrite.{CanRewrite, rewritten, offset_after, addend_after};
 ghost use Rattle.linker_base.specs.RewriteWindow.{window_of_rewrite};
-ghost use Rattle.linker_base.specs.Bits.{field, signed};
-ghost use Rattle.linker_elf.specs.Agrees.{RowFits};
-ghost use Rattle.linker_elf.specs.Readings.{RowReadsNoOther};
-ghost use Rattle.linker_elf.specs.RiscVRelocations.{clui_row};
+ghost use Rattle.linker_base.specs.Bits.{field};
 ghost use Rattle.linker_utils.specs.RiscVRewrites.{riscv_rewrite, riscv_rewrites, riscv_modifier};
 ghost use Rattle.linker_utils.specs.RiscVRewrites.{riscv_matches, riscv_deleted, riscv_skipped};
-ghost use Rattle.linker_utils.specs.RiscVRewrites.{riscv_may_be_skipped, hi20, lo12, IsSigned32};
-ghost use Rattle.linker_utils.specs.RiscVRewrites.{FitsClui, HoldsHigh, with_rs1, tp, adds_low12};
+ghost use Rattle.linker_utils.specs.RiscVRewrites.{riscv_may_be_skipped, with_rs1, tp, adds_low12};
 ghost use Rattle.linker_riscv64.specs.RiscVFields.{opcode_of, funct3_of};
 ghost use Rattle.linker_utils.specs.RiscVRewrites.{IsTailCall, IsClui, IsLd};
 ghost use Rattle.linker_utils.specs.RiscVRewrites.{IsLui, IsAuipc, IsAddTp, IsAddiToA0};
 ghost use Rattle.linker_utils.specs.RiscVRewrites.{IsCallOfDescriptor, IsLowOverOther};
 ghost use Rattle.linker_utils.specs.declared.riscv64.rewrites.RewriteKind.TheVariants.{NoOp};
 
+use super::RelaxationKind;
 use linker_base::bit_misc::BitExtraction;
 use linker_base::relaxation::RelocationModifier;
 use linker_base::rewrite::{DeletedBytes, RewriteWindow, has_window, overwrite, window_is_in};
 use linker_base::utils::u32_from_slice;
-use linker_elf::elf::{InstructionRewrite, RelocationKindInfo, RiscVInstruction};
-use linker_elf::riscv64::{self as relocations, RiscVRelocation};
+use linker_elf::elf::InstructionRewrite;
+use linker_elf::riscv64::RiscVRelocation;
 use linker_riscv64::fields::{base, destination, function, opcode, stores_base, word_at};
 use linker_riscv64::{is_call_pair, is_plain_call};
 
@@ -179,7 +176,7 @@ fn is_c_lui(half: u16) -> bool
     ensures { IsTrue result ↔ IsClui half }
 {
     let rd = u32::from(half) >> 7 & 0x1f;
-    half % 4 == 1 && half >> 13 == 3 && RewriteKind::rd_valid_for_clui(rd)
+    half % 4 == 1 && half >> 13 == 3 && RelaxationKind::rd_valid_for_clui(rd)
 }
 
 /// The instruction with x4, the thread pointer, as its first source register.
@@ -385,7 +382,7 @@ impl RewriteKind {
                 true,
             RewriteKind::Hi20ToCLui => {
                 let word = word_at(section, offset);
-                opcode(word) == 0x37 && RewriteKind::rd_valid_for_clui(destination(word))
+                opcode(word) == 0x37 && RelaxationKind::rd_valid_for_clui(destination(word))
             }
             RewriteKind::Hi20Delete => opcode(word_at(section, offset)) == 0x37,
             RewriteKind::Lo12Rs1ToZero | RewriteKind::BaseToTp => {
@@ -451,51 +448,6 @@ impl RewriteKind {
             _ => return None,
         };
         Some(DeletedBytes { start, count })
-    }
-
-    /// Whether the high part of a value is 0: bits 12 to 31 of the value plus 0x800, modulo 2^64.
-    /// If so, a value of 32 signed bits equals its signed low 12 bits, and `Hi20Delete` with
-    /// `Lo12Rs1ToZero` computes it.
-    #[inline]
-    pub fn hi20_is_zero(value: u64) -> bool
-        ensures exactly { IsTrue result ↔ (hi20 value ≡ 0) }
-        ensures low { IsTrue result → IsSigned32 (signed 64 value) → signed 64 value ≡ lo12 value }
-    {
-        value.wrapping_add(0x800).extract_bit_range(12..32) == 0
-    }
-
-    /// Whether `c.lui` holds the high part of a value: the value plus 0x800, modulo 2^64 and read
-    /// signed, divided by 4096 and rounded down, is from -32 to 31 and is not 0. If so, the
-    /// immediate of `CluiType`, and also that of `UType`, makes the value with its signed low 12
-    /// bits.
-    #[inline]
-    pub fn hi20_fits_clui(value: u64) -> bool
-        ensures exactly { IsTrue result ↔ FitsClui value }
-        ensures compressed { IsTrue result → HoldsHigh RiscVInstruction.CluiType value }
-        ensures whole { IsTrue result → HoldsHigh RiscVInstruction.UType value }
-    {
-        // above the least such value, with the bit flipped that parts those below 0 from the others
-        let flipped = value.wrapping_add(0x2_0800) ^ 0x2_0000;
-        flipped.wrapping_sub(0x1000) < 0x3_f000
-    }
-
-    /// Whether a register can be the destination of `c.lui`: neither x0 nor x2, the stack pointer.
-    #[inline]
-    pub fn rd_valid_for_clui(rd: u32) -> bool
-        ensures { IsTrue result ↔ ((rd ≢ 0) × (rd ≢ 2)) }
-    {
-        rd != 0 && rd != 2
-    }
-
-    /// What `R_RISCV_HI20` means once its `lui` has become a `c.lui` (`Hi20ToCLui`). Its range is
-    /// wider than what `c.lui` holds: `hi20_fits_clui` is the test.
-    #[inline]
-    pub fn clui_rel_info() -> RelocationKindInfo
-        ensures row { result ≡ clui_row }
-        ensures others { RowReadsNoOther result }
-        ensures fits { RowFits result }
-    {
-        relocations::clui_row().info()
     }
 }
 

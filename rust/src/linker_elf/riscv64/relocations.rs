@@ -46,7 +46,7 @@ pub enum RiscVRelocation {
     R_RISCV_RVC_JUMP,
     /// What `R_RISCV_HI20` means once its `lui` has become a `c.lui`, by older versions of the
     /// psABI; later ones reserve the code. Its range is wider than what `c.lui` holds:
-    /// `RewriteKind::hi20_fits_clui` is the test.
+    /// `RelaxationKind::hi20_fits_clui` is the test.
     R_RISCV_RVC_LUI,
     R_RISCV_RELAX,
     R_RISCV_SUB6,

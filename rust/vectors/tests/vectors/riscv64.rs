@@ -11,7 +11,7 @@ use linker_utils::elf::{
     InstructionForm, Operands, RelocateError, RelocationInstruction, RiscVInstruction,
 };
 use linker_utils::relaxation::RelocationModifier;
-use linker_utils::riscv64::{RewriteKind, clui_row, is_plain_call, jal_site};
+use linker_utils::riscv64::{RelaxationKind, RewriteKind, clui_row, is_plain_call, jal_site};
 use linker_utils::utils::u32_from_slice;
 
 /// What `read_value` returns where the machine reads `machine`.
@@ -98,7 +98,7 @@ fn both(words: [u32; 2]) -> [u8; 8] {
 fn shortened_lui_match_gnu_ld() {
     for (before, value, after) in pairs::SHORTENED_LUI {
         let value = value as u64;
-        assert!(RewriteKind::hi20_fits_clui(value), "{value:?}");
+        assert!(RelaxationKind::hi20_fits_clui(value), "{value:?}");
         let mut section = before;
         let mut offset = 0;
         let mut addend = 0;
@@ -113,7 +113,7 @@ fn shortened_lui_match_gnu_ld() {
 #[test]
 fn deleted_lui_match_gnu_ld() {
     for (before, value, after) in pairs::DELETED_LUI {
-        assert!(RewriteKind::hi20_is_zero(value), "{value:?}");
+        assert!(RelaxationKind::hi20_is_zero(value), "{value:?}");
         let mut section = before;
         let mut addend = 0;
         let mut high = 0;

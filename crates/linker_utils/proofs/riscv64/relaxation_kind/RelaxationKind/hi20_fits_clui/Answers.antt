@@ -7,7 +7,7 @@ use Rattle.std.proofs.lemmas.Nat.{xor_lt}
 use Rattle.std.proofs.lemmas.Nat.Bits.{and_pow}
 use Rattle.linker_utils.specs.RiscVRewrites.{FitsClui}
 use Rattle.linker_utils.proofs.RiscVRewrites.{clui_holds, u_holds}
-use Rattle.linker_utils.proofs.riscv64.rewrites.RewriteKind.hi20_fits_clui.Goals as goal
+use Rattle.linker_utils.proofs.riscv64.relaxation_kind.RelaxationKind.hi20_fits_clui.Goals as goal
 
 -- a number with its bit 17 flipped
 flipped : (n : ℕ) → bit_xor n 131072 + n / 131072 % 2 * 262144 ≡ n + 131072

@@ -1,0 +1,62 @@
+//! PowerPC64: the rewrites of the crate `linker-utils`.
+
+ghost use Rattle.std.specs.Prelude.{◌≡◌, ◌↔◌, IsTrue};
+ghost use Rattle.linker_base.specs.Rewrite.{CanRewrite, rewritten, offset_after, addend_after};
+ghost use Rattle.linker_utils.specs.Ppc64Rewrites.{ppc64_rewrite_kind, ppc64_rewrite};
+ghost use Rattle.linker_utils.specs.Ppc64Rewrites.{ppc64_modifier};
+
+use super::RewriteKind;
+use crate::rewrite_rows::same_name;
+use linker_base::relaxation::RelocationModifier;
+
+/// A rewrite that the crate `linker-utils` 0.11.0 has too: the `RewriteKind` of the same name. No
+/// variants are added, so that a match of all needs no last arm.
+#[derive(Debug, Default, Clone, Copy, PartialEq, Eq)]
+pub enum RelaxationKind {
+    #[default]
+    NoOp,
+}
+
+impl RelaxationKind {
+    /// The rewrite of the same name, of all that the library has.
+    #[inline(always)]
+    pub fn rewrite_kind(self) -> RewriteKind
+        ensures { result ≡ ppc64_rewrite_kind self }
+    {
+        same_name!(self => NoOp)
+    }
+
+    /// Rewrites the instruction at an offset of a section, as `RewriteKind::apply` says.
+    #[inline(always)]
+    pub fn apply(self, section_bytes: &mut [u8], offset_in_section: &mut u64, addend: &mut i64)
+        requires { CanRewrite (ppc64_rewrite (ppc64_rewrite_kind self)) section_bytes.old
+            offset_in_section.old }
+        ensures bytes { section_bytes.new
+            ≡ rewritten (ppc64_rewrite (ppc64_rewrite_kind self)) section_bytes.old
+            offset_in_section.old }
+        ensures offset { offset_in_section.new
+            ≡ offset_after (ppc64_rewrite (ppc64_rewrite_kind self)) offset_in_section.old }
+        ensures addend { addend.new
+            ≡ addend_after (ppc64_rewrite (ppc64_rewrite_kind self)) addend.old }
+    {
+        self.rewrite_kind()
+            .apply(section_bytes, offset_in_section, addend);
+    }
+
+    /// Whether `apply` may be called at an offset of a section.
+    #[inline(always)]
+    pub fn can_apply(self, section: &[u8], offset: u64) -> bool
+        ensures { IsTrue result
+            ↔ CanRewrite (ppc64_rewrite (ppc64_rewrite_kind self)) section.now offset }
+    {
+        self.rewrite_kind().can_apply(section, offset)
+    }
+
+    /// What happens to the next relocation.
+    #[inline(always)]
+    pub fn next_modifier(&self) -> RelocationModifier
+        ensures { result ≡ ppc64_modifier (ppc64_rewrite_kind self.now) }
+    {
+        self.rewrite_kind().next_modifier()
+    }
+}
