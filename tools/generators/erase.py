@@ -224,7 +224,7 @@ def add(source, added, found):
             places.append((it.name + "::*" * (it.word == "use"), it.first, it.head))
         if it.word == "struct" and source[brace := source.past(it.head, "; {")] == "{":
             places += [(f"{it.name}.{source[at]}", at, at) for at, _ in source.list_of(brace, True)]
-    places += [(f"{source.path.parent.name}/{name}", first, at) for name, first, at in places]
+    places += [(f"{Path(source.path).parent.name}/{name}", first, at) for name, first, at in places]
     for name, first, at in (place for place in places if place[0] in added):
         found.add(name)
         start, place = source.start(first), source.start(at)
