@@ -7,8 +7,8 @@ ghost use Rattle.linker_elf.specs.Agrees.{RowFits};
 ghost use Rattle.linker_elf.specs.Readings.{RowReadsNoOther};
 ghost use Rattle.linker_elf.specs.RiscVRelocations.{clui_row};
 ghost use Rattle.linker_utils.specs.RiscVRewrites.{riscv_rewrite_kind, riscv_rewrite};
-ghost use Rattle.linker_utils.specs.RiscVRewrites.{riscv_modifier, hi20, lo12, IsSigned32, FitsClui};
-ghost use Rattle.linker_utils.specs.RiscVRewrites.{HoldsHigh};
+ghost use Rattle.linker_utils.specs.RiscVRewrites.{riscv_modifier, hi20, lo12, IsSigned32};
+ghost use Rattle.linker_utils.specs.RiscVRewrites.{FitsClui, HoldsHigh};
 
 use super::RewriteKind;
 use crate::rewrite_rows::same_name;
