@@ -199,10 +199,11 @@ fn first_without_stub(
 /// of the first one; `Section`: a value isn't written.
 ///
 /// ```
-/// use linker_rewriting::facts::{OutputFacts, SymbolFacts}; use
-/// linker_rewriting::kept::{FactsSnapshot, WritingError, snapshot_facts,
-/// relocate_rewritten_section}; use linker_section::facts::{Addresses, Symbol}; use
-/// linker_utils::elf::Architecture;
+/// use linker_rewriting::facts::{OutputFacts, SymbolFacts};
+/// use linker_rewriting::kept::{FactsSnapshot, WritingError};
+/// use linker_rewriting::kept::{relocate_rewritten_section, snapshot_facts};
+/// use linker_section::facts::{Addresses, Symbol};
+/// use linker_utils::elf::Architecture;
 ///
 /// // addr32 call f, with R_X86_64_PC32 of symbol 1 at 2, which was call *f@GOTPCREL(%rip)
 /// let mut section = [0x67, 0xe8, 0, 0, 0, 0];
