@@ -160,10 +160,11 @@ fn first_without_stub(
 /// `crate::link::relocate_rewritten_section`, with more parameters.
 ///
 /// ```
-/// use linker_utils::source::rewriting::{OutputFacts, SymbolFacts}; use
-/// linker_utils::source::rewriting::{FactsSnapshot, WritingError, snapshot_facts,
-/// relocate_rewritten_section}; use linker_utils::source::section::{Addresses, Symbol}; use
-/// linker_utils::elf::Architecture;
+/// use linker_utils::source::rewriting::{OutputFacts, SymbolFacts};
+/// use linker_utils::source::rewriting::{FactsSnapshot, WritingError};
+/// use linker_utils::source::rewriting::{relocate_rewritten_section, snapshot_facts};
+/// use linker_utils::source::section::{Addresses, Symbol};
+/// use linker_utils::elf::Architecture;
 ///
 /// // addr32 call f, with R_X86_64_PC32 of symbol 1 at 2, which was call *f@GOTPCREL(%rip)
 /// let mut section = [0x67, 0xe8, 0, 0, 0, 0];
