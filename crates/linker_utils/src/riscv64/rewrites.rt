@@ -47,8 +47,8 @@ pub enum RewriteKind {
     /// Clears bits 15 to 19: the source register of the instruction that adds the low part becomes
     /// x0.
     Lo12Rs1ToZero,
-    /// Turns the `auipc` of a tail call, whose `jalr` links no register, into a `jal x0` of distance
-    /// 0. The caller deletes the `jalr` after it.
+    /// Turns the `auipc` of a tail call, whose `jalr` links no register, into a `jal x0` of
+    /// distance 0. The caller deletes the `jalr` after it.
     TailToJal,
     /// Turns the first two bytes of a tail call into a `c.j` of distance 0. Requires the C
     /// extension. The caller deletes the six bytes after it.
