@@ -80,7 +80,6 @@ pub mod source {
         pub use crate::linker_rewriting::kept::{
             WritingError, snapshot_facts, relocate_rewritten_section,
         };
-        #[cfg(feature = "riscv64")]
         pub use crate::linker_rewriting::sections::{rewrite_placed_section, rewrite_section};
         pub use crate::linker_rewriting::surveys::{survey, survey_placed_section};
         pub use crate::linker_rewriting::toc_indirection::{rewrite_toc_loads, survey_toc_loads};
@@ -109,10 +108,9 @@ pub mod link_in_ten_calls {
     use crate::output::{write_properties, write_relr};
     use crate::placement::place_stubs;
     use crate::rewriting::{
-        snapshot_facts, relocate_rewritten_section, survey, survey_placed_section,
+        snapshot_facts, relocate_rewritten_section, rewrite_placed_section, rewrite_section, survey,
+        survey_placed_section,
     };
-    #[cfg(feature = "riscv64")]
-    use crate::rewriting::{rewrite_placed_section, rewrite_section};
     use crate::runs::{pack_run, relax, rewritten_items_into};
     use crate::section::{memory_len, needs, relocate_section};
 }
@@ -162,13 +160,11 @@ pub mod rewriting {
     #![doc = include_str!("../doc/rewriting.md")]
     pub use crate::link::{
         Words, WritingError, first_changed, snapshot_facts, relocate_rewritten_section,
-        rewrite_toc_loads, survey, survey_toc_loads, survey_placed_section,
+        rewrite_toc_loads, rewrite_placed_section, rewrite_section, survey, survey_toc_loads,
+        survey_placed_section,
     };
     #[cfg(feature = "riscv64")]
-    pub use crate::link::{
-        finish_gp_relaxation, rewrite_global_pointer, rewrite_placed_section, rewrite_section,
-        survey_global_pointer,
-    };
+    pub use crate::link::{finish_gp_relaxation, rewrite_global_pointer, survey_global_pointer};
     pub use crate::linker_rewriting::decisions::{
         AsDecision, Decision, FromDeletion, RewritingError, Subject,
     };

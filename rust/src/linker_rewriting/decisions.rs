@@ -162,17 +162,22 @@ fn is_rewritten_at(
 
 /// Whether a relocation of a label gets the symbol and the addend of its high part, by its code
 /// after the rewrite.
-#[cfg(feature = "riscv64")]
 #[inline(always)]
 fn takes_symbol(phase: Phase, code: u32) -> bool {
+    #[cfg(not(feature = "riscv64"))]
+    {
+        false
+    }
+    #[cfg(feature = "riscv64")]
+    {
     match phase {
         Phase::TlsLocalExec => true,
         _ => code == RiscVRelocation::R_RISCV_LO12_I.elf_code(),
     }
+    }
 }
 
 /// What rewrites the instruction of a relocation of a label with a high part.
-#[cfg(feature = "riscv64")]
 #[inline(always)]
 fn label_decision(phase: Phase, chosen: Choice<Relaxation, u32>, high: &Rela) -> Decision {
     if takes_symbol(phase, chosen.relocation) {
@@ -189,7 +194,6 @@ fn label_decision(phase: Phase, chosen: Choice<Relaxation, u32>, high: &Rela) ->
 }
 
 /// What becomes of a relocation of a label whose group stays or doesn't.
-#[cfg(feature = "riscv64")]
 fn decide_label(
     stays: bool,
     context: &RelaxContext<'_>,
@@ -218,7 +222,6 @@ fn decide_label(
 
 /// What becomes of a relocation that no other takes along. `stays` is what was noted of its label.
 /// None if its group doesn't stay, but it can't be rewritten.
-#[cfg(feature = "riscv64")]
 #[inline(always)]
 fn decide(
     stays: bool,
@@ -279,7 +282,6 @@ fn is_left(
 }
 
 /// What becomes of a relocation, which another may take along.
-#[cfg(feature = "riscv64")]
 fn decide_after(
     is_taken: bool,
     stays: bool,
@@ -337,7 +339,6 @@ pub(crate) fn end_after(start: u64, own: u64, end: u64) -> Option<u64> {
 }
 
 /// The same as `decide_section`, but relocations may be in the bytes of others.
-#[cfg(feature = "riscv64")]
 #[inline(always)]
 fn decide_all<D: AsDecision>(
     architecture: Architecture,
@@ -397,7 +398,6 @@ fn decide_all<D: AsDecision>(
 }
 
 /// The same, compiled for each architecture and phase.
-#[cfg(feature = "riscv64")]
 fn decide_each<D: AsDecision>(
     context: &RelaxContext<'_>,
     kept: &[UnrelaxableGroups],
@@ -414,7 +414,6 @@ fn decide_each<D: AsDecision>(
 
 /// Decides what becomes of each relocation of a section and of its instruction, in the caller's
 /// memory. Nothing is rewritten. False if all stay as they are by their codes.
-#[cfg(feature = "riscv64")]
 pub(crate) fn decide_section<D: AsDecision>(
     context: &RelaxContext<'_>,
     kept: &[UnrelaxableGroups],

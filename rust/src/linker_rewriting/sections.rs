@@ -3,9 +3,7 @@
 //! The rewrites of a section, made in one call for each phase.
 
 use crate::linker_rewriting::agreement::contradiction;
-use crate::linker_rewriting::decisions::{AsDecision, Decision, FromDeletion, RewritingError};
-#[cfg(feature = "riscv64")]
-use crate::linker_rewriting::decisions::decide_section;
+use crate::linker_rewriting::decisions::{AsDecision, Decision, FromDeletion, RewritingError, decide_section};
 use crate::linker_rewriting::facts::{NO_ADDRESSES, OutputFacts, RelaxContext, SymbolFacts};
 use crate::linker_rewriting::groups::UnrelaxableGroups;
 use crate::linker_rewriting::phases::Phase;
@@ -95,7 +93,6 @@ fn make_changes<D: AsDecision>(
 /// // R_X86_64_PC32
 /// assert_eq!(relocations[8], 2);
 /// ```
-#[cfg(feature = "riscv64")]
 pub fn rewrite_section<D: AsDecision>(
     architecture: Architecture,
     output: &OutputFacts,
@@ -197,7 +194,6 @@ fn list_changes<D: AsDecision, L: FromDeletion>(
 /// assert_eq!((relocations[8], relocations[9]), (0, 0));
 /// assert_eq!((relocations[32], relocations[33]), (0x12, 1));
 /// ```
-#[cfg(feature = "riscv64")]
 pub fn rewrite_placed_section<D: AsDecision, L: FromDeletion>(
     architecture: Architecture,
     phase: Phase,
