@@ -381,7 +381,7 @@ fn rejects_rewrites() {
     // past the last rewrite of each architecture, and a machine that is none
     let unknown = [
         (Architecture::AArch64.machine(), 13),
-        (Architecture::RiscV.machine(), 18),
+        (Architecture::RiscV.machine(), 20),
         (Architecture::LoongArch64.machine(), 13),
         (Architecture::Ppc64.machine(), 28),
         (Architecture::X86_64.machine(), 24),
