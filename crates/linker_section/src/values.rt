@@ -445,6 +445,7 @@ fn is_high_part(low: RelocationKind, info: &RelocationKindInfo) -> bool
 }
 
 /// The relocation at an index, if it is a high part at an offset of low parts of a kind.
+#[inline(always)]
 fn high_part_in(
     architecture: Architecture,
     relocations: &[u8],

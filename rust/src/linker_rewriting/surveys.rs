@@ -174,6 +174,7 @@ fn next_keeping(context: &RelaxContext<'_>, relocations: &[u8], from: usize) -> 
 }
 
 /// Notes which groups stay in a phase, by a section, as [`survey`](crate::rewriting::survey()) and [`survey_placed_section`](crate::rewriting::survey_placed_section()) say.
+#[inline(always)]
 fn survey_in(
     context: &RelaxContext<'_>,
     relocations: &[u8],

@@ -172,6 +172,7 @@ impl<'a> DeltaSlice<'a> {
     /// # Requires
     ///
     /// - `(input_offset as u128) + (len as u128) < 1 << 64`
+    #[inline]
     #[must_use]
     #[cfg_attr(debug_assertions, track_caller)]
     pub fn kept_output_offset(&self, input_offset: u64, len: u64) -> Option<u64> {
