@@ -1,0 +1,271 @@
+-- x86-64: rewritten instructions are groups of the simulation. No code moves.
+use Rattle.std.specs.Prelude.{◌≡◌, ℕ, zero, suc, ◌+◌, ◌-◌, ◌^◌, ◌<◌, ◌≤◌, ◌==◌, ◌&&◌, ◌⊎◌, Bool, true}
+use Rattle.std.specs.Prelude.{false, not, nat_le, nat_lt, if◌then◌else◌, List, [], ◌∷◌, take, drop}
+use Rattle.std.specs.Prelude.{Option, Some, None, IsSomeAnd, IsTrue}
+use Rattle.linker_base.specs.Rewrite.{rewritten, offset_after}
+use Rattle.linker_elf.specs.Choices.{operands_after}
+use Rattle.linker_elf.specs.Value.{sum_64, difference_64}
+use Rattle.linker_elf.specs.declared.elf.value.Operands.{Operands}
+use Rattle.linker_elf.specs.declared.x86_64.relocations.X86_64Relocation.{X86_64Relocation}
+use Rattle.linker_elf.specs.declared.x86_64.relocations.X86_64Relocation.TheVariants as names
+use Rattle.linker_laws.specs.Changes.{go_to, put}
+use Rattle.linker_laws.specs.Simulation.{State, Program, Machine, Link, Kind, Kinds, Stored, Agree}
+use Rattle.linker_laws.specs.Simulation.{AreOf, Group, Other, anything, of_link, same}
+use Rattle.linker_laws.specs.SimulationWorked.{of_byte}
+use Rattle.linker_laws.specs.X86Machine as x86_machine
+use Rattle.linker_laws.specs.X86Machine.{Flags, Operation, Instruction, Decoded, MOV, operate}
+use Rattle.linker_laws.specs.X86Machine.{operate_into, bit_of, decode, execute, load, store_8}
+use Rattle.linker_laws.specs.X86RewriteLaws.{EachPrefix, IsBefore, IsRelocated, address}
+use Rattle.linker_laws.specs.X86RewriteLaws.{thread_offset}
+use Rattle.linker_utils.specs.X86RelocationsAfter.{x86_64_relocation_after}
+use Rattle.linker_utils.specs.X86Rewrites.{Original, is_one_at, legacy, x86_64_matches}
+use Rattle.linker_utils.specs.X86Rewrites.{x86_64_originals, x86_64_rewrite}
+use Rattle.linker_utils.specs.declared.x86_64.rewrites.RewriteKind.{RewriteKind}
+use Rattle.linker_utils.specs.declared.x86_64.rewrites.RewriteKind.TheVariants as kinds
+
+-- ---- the machine
+
+-- RAX to R31 are registers 0 to 31 of a state. The flags are registers 32 to 37, each 0 or 1, and
+-- the thread pointer is register 38.
+abbrev pub flags_of : (ℕ → ℕ) → Flags
+flags_of registers =
+    record {
+      carry = registers 32 == 1;
+      parity = registers 33 == 1;
+      auxiliary = registers 34 == 1;
+      is_zero = registers 35 == 1;
+      sign = registers 36 == 1;
+      overflow = registers 37 == 1;
+    }
+
+abbrev pub is_flag : ℕ → Bool
+is_flag r = nat_le 32 r && nat_lt r 38
+
+abbrev pub flag : Flags → ℕ → Bool
+flag f r =
+    if r == 32 then f.carry else (
+    if r == 33 then f.parity else (
+    if r == 34 then f.auxiliary else (
+    if r == 35 then f.is_zero else (
+    if r == 36 then f.sign else f.overflow))))
+
+-- Of a state, what the machine of rewritten instructions has.
+abbrev pub seen : State → x86_machine.State
+seen s =
+    record {
+      register = s.registers;
+      ip = s.pc;
+      memory = s.memory;
+      flags = flags_of s.registers;
+      fs = s.registers 38;
+    }
+
+-- all operations but MOV write the flags
+abbrev pub is_arithmetic : Operation → Bool
+is_arithmetic MOV = false
+is_arithmetic op = true
+
+abbrev pub sets_flags : Instruction → Bool
+sets_flags (operate op n first second) = is_arithmetic op
+sets_flags (operate_into r without_flags op n first second) = not without_flags
+sets_flags i = false
+
+-- what that machine leaves after an instruction
+abbrev pub left : Instruction → State → x86_machine.State → State
+left i s u =
+    record s {
+      pc = u.ip;
+      registers =
+          λ r. if sets_flags i && is_flag r then bit_of (flag u.flags r) else u.register r;
+      memory = u.memory;
+    }
+
+-- or what another instruction does, by the bytes from its first on
+abbrev pub executed : (List ℕ → Program) → List ℕ → State → Option Decoded → Option State
+executed others bytes s None = others bytes s
+executed others bytes s (Some d) =
+    Some (left d.instruction s (execute d.instruction (sum_64 s.pc d.size) (seen s)))
+
+-- n bytes of code from an address on
+abbrev pub bytes_at : ℕ → (ℕ → ℕ) → ℕ → List ℕ
+bytes_at zero code a = []
+bytes_at (suc n) code a = code a ∷ bytes_at n code (sum_64 a 1)
+
+-- An instruction has 15 bytes at most ("Instruction Format").
+abbrev pub does : (List ℕ → Program) → List ℕ → Program
+does others bytes s = executed others bytes s (decode bytes)
+
+abbrev pub machine : (List ℕ → Program) → Machine
+machine others code s = does others (bytes_at 15 code s.pc) s
+
+pub record Code : Type 0 where
+  -- what any other instruction does, by 15 bytes of code
+  pub others : List ℕ → Program
+  pub old : ℕ → ℕ
+  pub new : ℕ → ℕ
+
+-- No instruction here makes a half.
+abbrev pub link : Code → Link
+link c =
+    record {
+      machine = machine c.others;
+      old = c.old;
+      new = c.new;
+      moved = λ a. a;
+      halves = λ h x y. false;
+    }
+
+-- ---- rewritten instructions
+
+-- The first n of some bytes are those of code from an address on.
+abbrev pub Stands : (ℕ → ℕ) → ℕ → ℕ → List ℕ → Type 0
+Stands code a n bytes = bytes_at n code a ≡ take n bytes
+
+-- An instruction begins n bytes before the field at an offset of a section. Old has it with its
+-- relocation applied, and new has what a rewrite and the relocation after it leave. The GOT entry
+-- holds a number in old.
+abbrev pub Rewritten : ℕ → List Original → X86_64Relocation → RewriteKind → (Operands → ℕ)
+    → (Code → Operands → State → Type 0) → Type 0
+Rewritten n instructions name kind held Holds =
+    IsSomeAnd (x86_64_relocation_after kind name) (λ after.
+    (c : Code) (s : State) (section original relaxed : List ℕ) (o : ℕ) (operands : Operands)
+    → IsBefore n section o operands (seen s)
+    → IsTrue (is_one_at instructions section o)
+    → x86_64_matches kind section o
+    → load 8 (seen s) operands.got_entry ≡ held operands
+    → IsRelocated name operands o section original
+    → IsRelocated after (operands_after (x86_64_rewrite kind) o operands)
+    (offset_after (x86_64_rewrite kind) o) (rewritten (x86_64_rewrite kind) section o) relaxed
+    → Stands c.old s.pc (n + 4) (drop (o - n) original)
+    → Stands c.new s.pc (n + 4) (drop (o - n) relaxed)
+    → Holds c operands s)
+
+-- Whatever state of new agrees, old's instruction leaves registers that agree, from its registers
+-- and old's memory.
+abbrev pub KeepsRegisters : Code → Kinds → State → (ℕ → Kind) → State → Type 0
+KeepsRegisters c k s known s' =
+    (t : State) → Agree (link c) k s t
+    → IsSomeAnd (machine c.others c.old (record s { registers = t.registers }))
+    (λ u. (r : ℕ) → AreOf (link c) 8 (known r) (s'.registers r) (u.registers r))
+
+-- Old's instruction goes on. If it keeps agreement, both are a group. New may have anything in the
+-- GOT entry.
+abbrev pub IsGroup : Code → Operands → State → Type 0
+IsGroup c o s =
+    IsSomeAnd (machine c.others c.old s) (λ s'.
+    (k : Kinds) (known : ℕ → Kind) → KeepsRegisters c k s known s'
+    → Group (of_link (link c)) 1 k s (record k { registers = known }) s')
+
+-- ---- addresses
+
+-- `mov` from the GOT, and `lea`
+abbrev pub IsLoad : ℕ → X86_64Relocation → Type 0
+IsLoad n name = Rewritten n (legacy n 0x8b) name kinds.MovIndirectToLea address IsGroup
+
+abbrev pub LoadsOfAddresses : Type 0
+LoadsOfAddresses = EachPrefix IsLoad × IsLoad 3 names.R_X86_64_GOTPCREL
+
+-- an immediate in place of the GOT entry
+abbrev pub TakesImmediate : (ℕ → RewriteKind) → Type 0
+TakesImmediate kind =
+    EachPrefix (λ n name.
+    Rewritten n (x86_64_originals (kind n)) name (kind n) address IsGroup)
+
+abbrev pub AbsoluteAddresses : Type 0
+AbsoluteAddresses =
+    Rewritten 2 (legacy 2 0x8b) names.R_X86_64_GOTPCRELX kinds.MovIndirectToAbsolute address IsGroup
+    × TakesImmediate kinds.RexMovIndirectToAbsolute
+
+-- by EVEX, with 6 bytes before the field
+abbrev pub TakesImmediateByEvex : (ℕ → RewriteKind) → Type 0
+TakesImmediateByEvex kind =
+    Rewritten 6 (x86_64_originals (kind 6)) names.R_X86_64_CODE_6_GOTPCRELX (kind 6) address IsGroup
+
+abbrev pub EvexOperations : Type 0
+EvexOperations =
+    TakesImmediateByEvex kinds.RexAddIndirectToAbsolute
+    × TakesImmediateByEvex kinds.RexAdcIndirectToAbsolute
+    × TakesImmediateByEvex kinds.RexAndIndirectToAbsolute
+    × TakesImmediateByEvex kinds.RexOrIndirectToAbsolute
+    × TakesImmediateByEvex kinds.RexSbbIndirectToAbsolute
+    × TakesImmediateByEvex kinds.RexXorIndirectToAbsolute
+
+abbrev pub Operations : Type 0
+Operations =
+    TakesImmediate kinds.RexAddIndirectToAbsolute × TakesImmediate kinds.RexSubIndirectToAbsolute
+    × TakesImmediate kinds.RexCmpIndirectToAbsolute × TakesImmediate kinds.RexAdcIndirectToAbsolute
+    × TakesImmediate kinds.RexAndIndirectToAbsolute × TakesImmediate kinds.RexOrIndirectToAbsolute
+    × TakesImmediate kinds.RexSbbIndirectToAbsolute × TakesImmediate kinds.RexXorIndirectToAbsolute
+    × TakesImmediate kinds.RexTestIndirectToAbsolute × EvexOperations
+
+-- ---- initial-exec, and local-exec
+
+abbrev pub TakesOffset : (ℕ → RewriteKind) → Type 0
+TakesOffset kind =
+    Rewritten 3 (x86_64_originals (kind 3)) names.R_X86_64_GOTTPOFF (kind 3) thread_offset IsGroup
+    × Rewritten 4 (x86_64_originals (kind 4)) names.R_X86_64_CODE_4_GOTTPOFF (kind 4) thread_offset
+    IsGroup
+
+abbrev pub ThreadOffsets : Type 0
+ThreadOffsets =
+    TakesOffset kinds.RexMovIndirectToAbsolute × TakesOffset kinds.RexAddIndirectToAbsolute
+    × Rewritten 6 (x86_64_originals (kinds.RexAddIndirectToAbsolute 6))
+    names.R_X86_64_CODE_6_GOTTPOFF (kinds.RexAddIndirectToAbsolute 6) thread_offset IsGroup
+
+-- ---- branches
+
+-- the state after a call of an address, by the next instruction's
+abbrev pub called : ℕ → ℕ → State → State
+called target next s =
+    let top = difference_64 (s.registers 4) 8 in
+    record (put 4 top target s) { memory = store_8 top next s.memory }
+
+-- None of n bytes from an address on is one of the 8 from another on.
+abbrev pub IsApart : ℕ → ℕ → ℕ → Type 0
+IsApart n first top = (i : ℕ) → i < n → 8 ≤ difference_64 (sum_64 first i) top
+
+-- What is known of memory after a call has pushed 8 bytes: these are the same in both. What is
+-- known of another number was known before.
+abbrev pub IsKnownAfter : ℕ → Stored → Stored → ℕ → Type 0
+IsKnownAfter top k k' a =
+    ((difference_64 a top < 8) × (k' ≡ of_byte same))
+    ⊎ ((k'.kind ≡ anything) ⊎ ((k' ≡ k) × IsApart k.bytes (a - k.below) top))
+
+-- The stack pointer is the same in both.
+abbrev pub IsCall : Code → Operands → State → Type 0
+IsCall c o s =
+    (k k' : Kinds) → k.registers 4 ≡ same → k'.registers ≡ k.registers
+    → ((a : ℕ) → a < 2 ^ 64
+    → IsKnownAfter (difference_64 (s.registers 4) 8) (k.memory a) (k'.memory a) a)
+    → Group (of_link (link c)) 1 k s k' (called o.symbol (sum_64 s.pc 6) s)
+
+abbrev pub IsJump : Code → Operands → State → Type 0
+IsJump c o s = (k : Kinds) → Group (of_link (link c)) 1 k s k (go_to o.symbol s)
+
+abbrev pub Branches : Type 0
+Branches =
+    Rewritten 2 (x86_64_originals kinds.CallIndirectToRelative) names.R_X86_64_GOTPCRELX
+    kinds.CallIndirectToRelative address IsCall
+    × Rewritten 2 (x86_64_originals kinds.JmpIndirectToRelative) names.R_X86_64_GOTPCRELX
+    kinds.JmpIndirectToRelative address IsJump
+
+-- ---- other instructions
+
+-- One that is the same in both. Whatever state agrees before it, it leaves one that agrees after
+-- it.
+abbrev pub Others : Type 0
+Others =
+    (c : Code) (k k' : Kinds) (s s' : State)
+    → does c.others (bytes_at 15 c.old s.pc) ≡ does c.others (bytes_at 15 c.new s.pc)
+    → machine c.others c.old s ≡ Some s'
+    → ((t : State) → Agree (link c) k s t
+    → IsSomeAnd (machine c.others c.old t) (Agree (link c) k' s'))
+    → Other (of_link (link c)) k s k' s'
+
+pub record Groups : Type 0 where
+  pub loads : LoadsOfAddresses
+  pub absolute : AbsoluteAddresses
+  pub operations : Operations
+  pub thread : ThreadOffsets
+  pub branches : Branches
+  pub others : Others
