@@ -1,32 +1,44 @@
 -- x86-64's groups.
 use Rattle.std.proofs.Common.{◌≡◌, ℕ, zero, suc, ◌+◌, ◌-◌, ◌*◌, ◌^◌, ◌<◌, ◌≤◌, refl, sym, ◌∙◌, ap, ap₂, subst}
-use Rattle.std.proofs.Common.{arith, Bool, true, false, List, ◌∷◌, take, drop, Some, IsSomeAnd, inl, inr}
-use Rattle.std.proofs.Common.{eqb-true}
+use Rattle.std.proofs.Common.{arith, Bool, true, false, List, [], ◌∷◌, take, drop, Some, IsSomeAnd, inl, inr, length, get_or, lit≤}
+use Rattle.std.proofs.Common.{eqb-true, eq-eqb, true≢false}
 use Rattle.std.proofs.lemmas.Bool.{cond-true, cond-false, le-ltb, lt-ltb}
 use Rattle.std.specs.Int.{byte_at}
 use Rattle.std.specs.Prelude.{◌==◌, ◌&&◌, nat_lt, if◌then◌else◌}
 use Rattle.linker_elf.specs.Value.{sum_64, difference_64}
 use Rattle.linker_elf.specs.declared.elf.value.Operands.{Operands}
 use Rattle.linker_elf.specs.declared.x86_64.relocations.X86_64Relocation.{X86_64Relocation}
-use Rattle.linker_laws.specs.Changes.{go_to, with_register}
+use Rattle.linker_base.specs.Rewrite.{rewritten}
+use Rattle.linker_laws.specs.Changes.{go_to, put, with_register}
 use Rattle.linker_laws.specs.Machine.{Memory}
 use Rattle.linker_laws.specs.Machine as shared
 use Rattle.linker_laws.specs.Simulation.{State, Program, Kind, Kinds, Agree, AreOf, AreStored}
-use Rattle.linker_laws.specs.Simulation.{same}
+use Rattle.linker_laws.specs.Simulation.{Group, half, of_link, same}
 use Rattle.linker_laws.specs.X86Groups.{Code, IsApart, IsCall, IsGroup, IsJump, IsKnownAfter, Others}
-use Rattle.linker_laws.specs.X86Groups.{KeepsRegisters, Rewritten, Stands, bytes_at, called, does}
+use Rattle.linker_laws.specs.X86Groups.{KeepsRegisters, Reads, Stands, bytes_at, called, does}
 use Rattle.linker_laws.specs.X86Groups.{executed, flag, is_flag, left, link, machine, seen}
+use Rattle.linker_laws.specs.X86Groups.{CallOfDescriptor, IsLea, LeaOfDescriptor, LeaToEntry, LeaToOffset}
 use Rattle.linker_laws.specs.X86Groups as groups
+use Rattle.linker_laws.specs.X86Machine as x86_machine
+use Rattle.linker_laws.specs.X86Machine.{MOV, lea, load, nop, operate, register, through}
+use Rattle.linker_laws.specs.X86RewriteLaws.{thread_offset}
+use Rattle.linker_laws.specs.X86ThreadLaws.{reg_after_rex, reg_after_rex2}
+use Rattle.linker_elf.specs.declared.x86_64.relocations.X86_64Relocation.TheVariants as names
 use Rattle.linker_laws.specs.X86Machine.{Decoded, bit_of, call, decode, direct, execute, indirect, jump}
 use Rattle.linker_laws.specs.X86Machine.{store_8}
 use Rattle.linker_utils.specs.X86RelocationsAfter.{x86_64_relocation_after}
-use Rattle.linker_utils.specs.X86Rewrites.{Original}
+use Rattle.linker_utils.specs.X86Rewrites.{Original, x86_64_rewrite}
 use Rattle.linker_utils.specs.declared.x86_64.rewrites.RewriteKind.{RewriteKind}
-use Rattle.linker_laws.proofs.Agreement.{agree_go, agree_put}
+use Rattle.linker_utils.specs.declared.x86_64.rewrites.RewriteKind.TheVariants.{SkipTlsDescCall, TlsDescToInitialExec}
+use Rattle.linker_utils.specs.declared.x86_64.rewrites.RewriteKind.TheVariants.{TlsDescToLocalExec}
+use Rattle.linker_laws.proofs.Agreement.{agree_go, agree_open, agree_put, agree_put_old}
 use Rattle.linker_laws.proofs.CoveredRuns.{holds_of, once, run_first}
 use Rattle.linker_laws.proofs.X86Branches.{AreBranches, Leads}
 use Rattle.linker_laws.proofs.X86Branches as branches
 use Rattle.linker_laws.proofs.X86Decoding.{Replaced, Replaces, map_some}
+use Rattle.linker_laws.proofs.X86DescriptorSteps.{AreLea, LeaOf}
+use Rattle.linker_laws.proofs.X86DescriptorSteps as leas
+use Rattle.linker_laws.proofs.X86Descriptors.{nop_code}
 
 -- ---- bytes of code
 
@@ -118,8 +130,10 @@ module _ (c : Code) (m : ℕ) (s : State)
           outside = agree.outside;
         }
 
-  one_group : (o : Operands) → IsGroup c o s
-  one_group o =
+  one_group : IsSomeAnd (machine c.others c.old s) (λ s'.
+      (k : Kinds) (known : ℕ → Kind) → KeepsRegisters c k s known s'
+      → Group (of_link (link c)) 1 k s (record k { registers = known }) s')
+  one_group =
       holds_of (machine c.others c.old s) _ s' old_goes (λ k known keeps. record {
         more = 0;
         old_goes = run_first 0 (machine c.others c.old) s s' (Some s') old_goes refl;
@@ -132,10 +146,10 @@ module _ (c : Code) (m : ℕ) (s : State)
 
 pub are_groups : (n : ℕ) (instructions : List Original) (name : X86_64Relocation) (kind : RewriteKind)
     (held : Operands → ℕ) → n + 4 ≤ 15 → Replaced n instructions name kind held
-    → Rewritten n instructions name kind held IsGroup
+    → Reads n instructions name kind held
 are_groups n instructions name kind held few replaced =
     map_some (x86_64_relocation_after kind name) _ _
-    (λ after replaces c s section original relaxed o operands before there matches holds was is at at'.
+    (λ after replaces c s section original relaxed o operands before there matches was is at at' holds.
     one_group c (n + 4) s
     (λ t. replaces section original relaxed o operands (seen (between s t))
     (record {
@@ -147,8 +161,7 @@ are_groups n instructions name kind held few replaced =
     })
     there matches holds was is (bytes_at 15 c.old s.pc) (bytes_at 15 c.new s.pc)
     (starts (n + 4) c.old s.pc (drop (o - n) original) few at)
-    (starts (n + 4) c.new s.pc (drop (o - n) relaxed) few at'))
-    operands) replaced
+    (starts (n + 4) c.new s.pc (drop (o - n) relaxed) few at'))) replaced
 
 -- ---- branches
 
@@ -214,8 +227,10 @@ still_same k is r = by (r == 4) refl
     by false e = refl
 
 is_call : (c : Code) (o : Operands) (s : State) → o.symbol < 2 ^ 64
-    → Leads call 6 (bytes_at 15 c.old s.pc) (bytes_at 15 c.new s.pc) o.symbol (seen s) → IsCall c o s
-is_call c o s small l k k' stack registers memory =
+    → (load 8 (seen s) o.got_entry ≡ o.symbol
+    → Leads call 6 (bytes_at 15 c.old s.pc) (bytes_at 15 c.new s.pc) o.symbol (seen s)) → IsCall c o s
+is_call c o s small by holds k k' stack registers memory =
+    let l = by holds in
     let next = sum_64 s.pc 6 in
     let s' = called o.symbol next s in
     record {
@@ -256,8 +271,10 @@ is_call c o s small l k k' stack registers memory =
     }
 
 is_jump : (c : Code) (o : Operands) (s : State) → o.symbol < 2 ^ 64
-    → Leads jump 5 (bytes_at 15 c.old s.pc) (bytes_at 15 c.new s.pc) o.symbol (seen s) → IsJump c o s
-is_jump c o s small l k =
+    → (load 8 (seen s) o.got_entry ≡ o.symbol
+    → Leads jump 5 (bytes_at 15 c.old s.pc) (bytes_at 15 c.new s.pc) o.symbol (seen s)) → IsJump c o s
+is_jump c o s small by holds k =
+    let l = by holds in
     let s' = go_to o.symbol s in
     record {
       more = 0;
@@ -279,15 +296,140 @@ is_jump c o s small l k =
 
 pub are_branches : groups.Branches
 are_branches = (
-  λ c s section original relaxed o operands before there matches holds was is at at'.
+  λ c s section original relaxed o operands before there matches was is at at'.
       is_call c operands s before.addresses.symbol
-      (branches.calls section original relaxed o operands (seen s) before there matches holds was is
-      (bytes_at 15 c.old s.pc) (bytes_at 15 c.new s.pc) at at'),
-  λ c s section original relaxed o operands before there matches holds was is at at'.
+      (λ holds. branches.calls section original relaxed o operands (seen s) before there matches holds was
+      is (bytes_at 15 c.old s.pc) (bytes_at 15 c.new s.pc) at at'),
+  λ c s section original relaxed o operands before there matches was is at at'.
       is_jump c operands s before.addresses.symbol
-      (branches.jumps section original relaxed o operands (seen s) before there matches holds was is
-      (bytes_at 15 c.old s.pc) (bytes_at 15 c.new s.pc) at at'),
+      (λ holds. branches.jumps section original relaxed o operands (seen s) before there matches holds was
+      is (bytes_at 15 c.old s.pc) (bytes_at 15 c.new s.pc) at at'),
 )
+
+-- ---- descriptors
+
+both_true : (a b : Bool) → a ≡ true → b ≡ true → (a && b) ≡ true
+both_true true b e f = f
+both_true false b e f = e
+
+second_true : (a b : Bool) → (a && b) ≡ true → b ≡ true
+second_true true b e = e
+second_true false b e = absurd (true≢false (sym e))
+
+is_lea : (n : ℕ) (register_of : List ℕ → ℕ) (Makes : Code → Kinds → State → Operands → ℕ → Type 0)
+    (c : Code) (o : Operands) (s : State) (before : List ℕ) (number : x86_machine.State → ℕ)
+    → AreLea (n + 4) before (bytes_at 15 c.old s.pc) (bytes_at 15 c.new s.pc) register_of o (seen s) number
+    → ((k : Kinds) (made : ℕ) → Makes c k s o made → (t : State) → Agree (link c) k s t
+    → number (seen (record t { pc = s.pc })) ≡ made)
+    → IsLea n register_of Makes c o s
+is_lea n register_of Makes c o s before number l made h k descriptor makes =
+    let next = sum_64 s.pc (n + 4) in
+    subst (λ r. Group (of_link (link c)) 1 k s (with_register r (half h) k) (put r o.got_entry next s))
+    (sym l.in_code)
+    (record {
+      more = 0;
+      old_goes =
+          run_first 0 (machine c.others c.old) s (put l.r o.got_entry next s) _
+          (goes c.others (bytes_at 15 c.old s.pc) s
+          (record { instruction = lea 64 l.r l.f; size = n + 4 }) l.was
+          ∙ ap (λ x. Some (put l.r x next s)) l.leads) refl;
+      new_goes = λ t agree.
+          let at = record t { pc = s.pc } in
+          once (machine c.others c.new) t (Agree (link c) (with_register l.r (half h) k)
+          (put l.r o.got_entry next s))
+          (holds_of (machine c.others c.new t) _ (put l.r (number (seen at)) next t)
+          (ap (λ a. machine c.others c.new (record t { pc = a })) agree.pc
+          ∙ goes c.others (bytes_at 15 c.new s.pc) at
+          (record { instruction = operate MOV 64 (register l.r) l.from; size = n + 4 }) l.is
+          ∙ ap (λ x. Some (put l.r x next t)) (l.value (seen at) refl))
+          (agree_put (link c) k s t l.r (half h) o.got_entry (number (seen at)) next next agree
+          (below_64 s.pc (n + 4)) refl
+          (both_true (o.got_entry == c.descriptor h) (number (seen at) == c.offset h)
+          (eq-eqb _ _ (sym descriptor)) (eq-eqb _ _ (made k (c.offset h) makes t agree)))));
+      forward = λ none. omega arith;
+    })
+
+to_offset : (n : ℕ) (name : X86_64Relocation) (register_of : List ℕ → ℕ) → n + 4 ≤ 15
+    → LeaOf n name register_of (TlsDescToLocalExec n) (λ operands. operands) (λ o t. thread_offset o)
+    → LeaToOffset n name register_of
+to_offset n name register_of few law =
+    map_some (x86_64_relocation_after (TlsDescToLocalExec n) name) _ _
+    (λ after facts c s section original relaxed o operands before there matches was is at at'.
+    is_lea n register_of (λ c k s o number. thread_offset o ≡ number) c operands s (drop (o - n) section)
+    (λ t. thread_offset operands)
+    (facts section original relaxed o operands (seen s) before there matches was is
+    (bytes_at 15 c.old s.pc) (bytes_at 15 c.new s.pc)
+    (starts (n + 4) c.old s.pc (drop (o - n) original) few at)
+    (starts (n + 4) c.new s.pc (drop (o - n) relaxed) few at'))
+    (λ k number is t agree. is)) law
+
+to_entry : (n : ℕ) (name : X86_64Relocation) (register_of : List ℕ → ℕ) → n + 4 ≤ 15
+    → ((entry : ℕ) → entry < 2 ^ 64
+    → LeaOf n name register_of TlsDescToInitialExec (λ operands. record operands { got_entry = entry })
+    (λ o t. load 8 t entry))
+    → LeaToEntry n name register_of
+to_entry n name register_of few law entry small =
+    map_some (x86_64_relocation_after TlsDescToInitialExec name) _ _
+    (λ after facts c s section original relaxed o operands before there matches was is at at'.
+    is_lea n register_of
+    (λ c k s o number. (t : State) → Agree (link c) k s t → load 8 (seen t) entry ≡ number) c operands s
+    (drop (o - n) section) (λ t. load 8 t entry)
+    (facts section original relaxed o operands (seen s) before there matches was is
+    (bytes_at 15 c.old s.pc) (bytes_at 15 c.new s.pc)
+    (starts (n + 4) c.old s.pc (drop (o - n) original) few at)
+    (starts (n + 4) c.new s.pc (drop (o - n) relaxed) few at'))
+    (λ k number holds t agree. holds t agree)) (law entry small)
+
+pub are_leas : LeaOfDescriptor
+are_leas = (
+  to_offset 3 names.R_X86_64_GOTPC32_TLSDESC reg_after_rex (lit≤ tt) leas.to_offset,
+  to_entry 3 names.R_X86_64_GOTPC32_TLSDESC reg_after_rex (lit≤ tt) leas.to_entry,
+  to_offset 4 names.R_X86_64_CODE_4_GOTPC32_TLSDESC reg_after_rex2 (lit≤ tt) leas.rex2_to_offset,
+  to_entry 4 names.R_X86_64_CODE_4_GOTPC32_TLSDESC reg_after_rex2 (lit≤ tt) leas.rex2_to_entry,
+)
+
+pub are_descriptor_calls : CallOfDescriptor
+are_descriptor_calls c h executes k k' s s' calls at bytes matches old new has returns changes =
+    let next = sum_64 s.pc 2 in
+    let was = begins_with 0xff 0x10 (bytes_at 15 c.old s.pc) (drop at calls)
+    (starts 2 c.old s.pc (drop at calls) (lit≤ tt) old) (leas.call_code calls at bytes matches) in
+    let is = begins_with 0x66 0x90 (bytes_at 15 c.new s.pc)
+    (drop at (rewritten (x86_64_rewrite SkipTlsDescCall) calls at))
+    (starts 2 c.new s.pc (drop at (rewritten (x86_64_rewrite SkipTlsDescCall) calls at)) (lit≤ tt) new)
+    (drop (at + 2) calls, nop_code calls at matches) in
+    record {
+      more = executes;
+      old_goes =
+          run_first executes (machine c.others c.old) s
+          (called (load 8 (seen s) (s.registers 0)) next s) (Some s')
+          (goes c.others (bytes_at 15 c.old s.pc) s
+          (record { instruction = call (through 0); size = 2 }) (ap decode was.1)) returns;
+      new_goes = λ t agree.
+          let number : t.registers 0 ≡ c.offset h =
+          eqb-true _ _ (second_true (s.registers 0 == c.descriptor h) (t.registers 0 == c.offset h)
+          (subst (λ kind. AreOf (link c) 8 kind (s.registers 0) (t.registers 0)) has
+          (agree.registers 0))) in
+          once (machine c.others c.new) t (Agree (link c) k' s')
+          (holds_of (machine c.others c.new t) _ (go_to next t)
+          (ap (λ a. machine c.others c.new (record t { pc = a })) agree.pc
+          ∙ goes c.others (bytes_at 15 c.new s.pc) (record t { pc = s.pc })
+          (record { instruction = nop; size = 2 }) (ap decode is.1))
+          (agree_open (link c) (with_register 0 same k) k' (put 0 (c.offset h) next s) s' (go_to next t)
+          (agree_put_old (link c) k (go_to next s) (go_to next t) 0 same (c.offset h) next
+          (agree_go (link c) k s t next next agree (below_64 s.pc 2) refl) (below_64 s.pc 2) refl
+          (sym number)) changes));
+      forward = λ none. omega arith;
+    }
+  where
+    begins_with : (x y : ℕ) (code before : List ℕ) → take 2 code ≡ take 2 before
+        → (rest : List ℕ) × (before ≡ x ∷ y ∷ rest) → (rest : List ℕ) × (code ≡ x ∷ y ∷ rest)
+    begins_with x y code before e f = first_two code (e ∙ ap (take 2) f.1)
+      where
+        first_two : (code : List ℕ) → take 2 code ≡ x ∷ y ∷ [] → (rest : List ℕ) × (code ≡ x ∷ y ∷ rest)
+        first_two [] e = let long = ap length e in absurd (omega arith)
+        first_two (a ∷ []) e = let long = ap length e in absurd (omega arith)
+        first_two (a ∷ b ∷ rest) e =
+            (rest, ap₂ (λ a b. a ∷ b ∷ rest) (ap (λ xs. get_or xs 0 0) e) (ap (λ xs. get_or xs 1 0) e))
 
 -- ---- others
 

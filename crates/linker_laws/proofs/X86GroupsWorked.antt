@@ -118,7 +118,7 @@ p1 g =
       addend = refl;
       ip = refl;
     })
-    refl (record { starts = lit≤ tt; ends = lit≤ tt; admitted = refl }, refl) refl
+    refl (record { starts = lit≤ tt; ends = lit≤ tt; admitted = refl }, refl)
     (record {
       rest = 0xf9 ∷ 0x2f ∷ 0x00 ∷ 0x00 ∷ [];
       applied = record {
@@ -149,7 +149,7 @@ p1 g =
       };
       whole = refl;
     })
-    refl refl known (λ r. same) (keeps s0 s1 refl)
+    refl refl refl known (λ r. same) (keeps s0 s1 refl)
 
 p2 : Groups → Group (of_link (link code)) 1 known s1 known s2
 p2 g =
@@ -162,7 +162,7 @@ p2 g =
       addend = refl;
       ip = refl;
     })
-    refl (record { starts = lit≤ tt; ends = lit≤ tt; admitted = refl }, refl) refl
+    refl (record { starts = lit≤ tt; ends = lit≤ tt; admitted = refl }, refl)
     (record {
       rest = 0xfa ∷ 0x2f ∷ 0x00 ∷ 0x00 ∷ [];
       applied = record {
@@ -193,7 +193,7 @@ p2 g =
       };
       whole = refl;
     })
-    refl refl known (λ r. same) (keeps s1 s2 refl)
+    refl refl refl known (λ r. same) (keeps s1 s2 refl)
 
 -- The pushed bytes are no entry's.
 known_after : (a : ℕ) → IsKnownAfter 0x7ff8 (known.memory a) (known.memory a) a
@@ -219,7 +219,7 @@ p3 g =
       addend = refl;
       ip = refl;
     })
-    refl (record { starts = lit≤ tt; ends = lit≤ tt; admitted = refl }, refl) refl
+    refl (record { starts = lit≤ tt; ends = lit≤ tt; admitted = refl }, refl)
     (record {
       rest = 0xfc ∷ 0x2f ∷ 0x00 ∷ 0x00 ∷ [];
       applied = record {
@@ -250,7 +250,7 @@ p3 g =
       };
       whole = refl;
     })
-    refl refl known known refl refl (λ a below. known_after a)
+    refl refl refl known known refl refl (λ a below. known_after a)
 
 pub is_worked : Groups → IsWorked
 is_worked g =

@@ -2,24 +2,26 @@
 use Rattle.std.specs.Prelude.{◌≡◌, ℕ, zero, suc, ◌+◌, ◌-◌, ◌^◌, ◌<◌, ◌≤◌, ◌==◌, ◌&&◌, ◌⊎◌, Bool, true}
 use Rattle.std.specs.Prelude.{false, not, nat_le, nat_lt, if◌then◌else◌, List, [], ◌∷◌, take, drop}
 use Rattle.std.specs.Prelude.{Option, Some, None, IsSomeAnd, IsTrue}
+use Rattle.std.specs.List.{All}
 use Rattle.linker_base.specs.Rewrite.{rewritten, offset_after}
 use Rattle.linker_elf.specs.Choices.{operands_after}
 use Rattle.linker_elf.specs.Value.{sum_64, difference_64}
 use Rattle.linker_elf.specs.declared.elf.value.Operands.{Operands}
 use Rattle.linker_elf.specs.declared.x86_64.relocations.X86_64Relocation.{X86_64Relocation}
 use Rattle.linker_elf.specs.declared.x86_64.relocations.X86_64Relocation.TheVariants as names
-use Rattle.linker_laws.specs.Changes.{go_to, put}
+use Rattle.linker_laws.specs.Changes.{ChangesOpen, go_to, put, with_register}
 use Rattle.linker_laws.specs.Simulation.{State, Program, Machine, Link, Kind, Kinds, Stored, Agree}
-use Rattle.linker_laws.specs.Simulation.{AreOf, Group, Other, anything, of_link, same}
+use Rattle.linker_laws.specs.Simulation.{AreOf, Group, Other, anything, half, of_link, run, same}
 use Rattle.linker_laws.specs.SimulationWorked.{of_byte}
 use Rattle.linker_laws.specs.X86Machine as x86_machine
 use Rattle.linker_laws.specs.X86Machine.{Flags, Operation, Instruction, Decoded, MOV, operate}
 use Rattle.linker_laws.specs.X86Machine.{operate_into, bit_of, decode, execute, load, store_8}
 use Rattle.linker_laws.specs.X86RewriteLaws.{EachPrefix, IsBefore, IsRelocated, address}
 use Rattle.linker_laws.specs.X86RewriteLaws.{thread_offset}
+use Rattle.linker_laws.specs.X86ThreadLaws.{reg_after_rex, reg_after_rex2}
 use Rattle.linker_utils.specs.X86RelocationsAfter.{x86_64_relocation_after}
-use Rattle.linker_utils.specs.X86Rewrites.{Original, is_one_at, legacy, x86_64_matches}
-use Rattle.linker_utils.specs.X86Rewrites.{x86_64_originals, x86_64_rewrite}
+use Rattle.linker_utils.specs.X86Rewrites.{Original, is_one_at, lea_of_descriptor, legacy}
+use Rattle.linker_utils.specs.X86Rewrites.{x86_64_matches, x86_64_originals, x86_64_rewrite}
 use Rattle.linker_utils.specs.declared.x86_64.rewrites.RewriteKind.{RewriteKind}
 use Rattle.linker_utils.specs.declared.x86_64.rewrites.RewriteKind.TheVariants as kinds
 
@@ -103,8 +105,11 @@ pub record Code : Type 0 where
   pub others : List ℕ → Program
   pub old : ℕ → ℕ
   pub new : ℕ → ℕ
+  -- of a TLS descriptor, by its index: its address, and what its function returns
+  pub descriptor : ℕ → ℕ
+  pub offset : ℕ → ℕ
 
--- No instruction here makes a half.
+-- After the instructions with a descriptor's address new has the offset.
 abbrev pub link : Code → Link
 link c =
     record {
@@ -112,7 +117,7 @@ link c =
       old = c.old;
       new = c.new;
       moved = λ a. a;
-      halves = λ h x y. false;
+      halves = λ h x y. x == c.descriptor h && y == c.offset h;
     }
 
 -- ---- rewritten instructions
@@ -122,19 +127,17 @@ abbrev pub Stands : (ℕ → ℕ) → ℕ → ℕ → List ℕ → Type 0
 Stands code a n bytes = bytes_at n code a ≡ take n bytes
 
 -- An instruction begins n bytes before the field at an offset of a section. Old has it with its
--- relocation applied, and new has what a rewrite and the relocation after it leave. The GOT entry
--- holds a number in old.
-abbrev pub Rewritten : ℕ → List Original → X86_64Relocation → RewriteKind → (Operands → ℕ)
+-- relocation applied, and new has what a rewrite leaves, with the relocation after it.
+abbrev pub Rewritten : ℕ → List Original → X86_64Relocation → RewriteKind → (Operands → Operands)
     → (Code → Operands → State → Type 0) → Type 0
-Rewritten n instructions name kind held Holds =
+Rewritten n instructions name kind relocated Holds =
     IsSomeAnd (x86_64_relocation_after kind name) (λ after.
     (c : Code) (s : State) (section original relaxed : List ℕ) (o : ℕ) (operands : Operands)
     → IsBefore n section o operands (seen s)
     → IsTrue (is_one_at instructions section o)
     → x86_64_matches kind section o
-    → load 8 (seen s) operands.got_entry ≡ held operands
     → IsRelocated name operands o section original
-    → IsRelocated after (operands_after (x86_64_rewrite kind) o operands)
+    → IsRelocated after (relocated (operands_after (x86_64_rewrite kind) o operands))
     (offset_after (x86_64_rewrite kind) o) (rewritten (x86_64_rewrite kind) section o) relaxed
     → Stands c.old s.pc (n + 4) (drop (o - n) original)
     → Stands c.new s.pc (n + 4) (drop (o - n) relaxed)
@@ -148,19 +151,25 @@ KeepsRegisters c k s known s' =
     → IsSomeAnd (machine c.others c.old (record s { registers = t.registers }))
     (λ u. (r : ℕ) → AreOf (link c) 8 (known r) (s'.registers r) (u.registers r))
 
--- Old's instruction goes on. If it keeps agreement, both are a group. New may have anything in the
--- GOT entry.
-abbrev pub IsGroup : Code → Operands → State → Type 0
-IsGroup c o s =
-    IsSomeAnd (machine c.others c.old s) (λ s'.
+-- The GOT entry holds a number in old, and its instruction goes on. If that keeps agreement, both
+-- are a group, whatever new has in the entry.
+abbrev pub IsGroup : (Operands → ℕ) → Code → Operands → State → Type 0
+IsGroup held c o s =
+    load 8 (seen s) o.got_entry ≡ held o
+    → IsSomeAnd (machine c.others c.old s) (λ s'.
     (k : Kinds) (known : ℕ → Kind) → KeepsRegisters c k s known s'
     → Group (of_link (link c)) 1 k s (record k { registers = known }) s')
+
+-- an instruction that reads the number, and one that has it
+abbrev pub Reads : ℕ → List Original → X86_64Relocation → RewriteKind → (Operands → ℕ) → Type 0
+Reads n instructions name kind held =
+    Rewritten n instructions name kind (λ operands. operands) (IsGroup held)
 
 -- ---- addresses
 
 -- `mov` from the GOT, and `lea`
 abbrev pub IsLoad : ℕ → X86_64Relocation → Type 0
-IsLoad n name = Rewritten n (legacy n 0x8b) name kinds.MovIndirectToLea address IsGroup
+IsLoad n name = Reads n (legacy n 0x8b) name kinds.MovIndirectToLea address
 
 abbrev pub LoadsOfAddresses : Type 0
 LoadsOfAddresses = EachPrefix IsLoad × IsLoad 3 names.R_X86_64_GOTPCREL
@@ -168,18 +177,17 @@ LoadsOfAddresses = EachPrefix IsLoad × IsLoad 3 names.R_X86_64_GOTPCREL
 -- an immediate in place of the GOT entry
 abbrev pub TakesImmediate : (ℕ → RewriteKind) → Type 0
 TakesImmediate kind =
-    EachPrefix (λ n name.
-    Rewritten n (x86_64_originals (kind n)) name (kind n) address IsGroup)
+    EachPrefix (λ n name. Reads n (x86_64_originals (kind n)) name (kind n) address)
 
 abbrev pub AbsoluteAddresses : Type 0
 AbsoluteAddresses =
-    Rewritten 2 (legacy 2 0x8b) names.R_X86_64_GOTPCRELX kinds.MovIndirectToAbsolute address IsGroup
+    Reads 2 (legacy 2 0x8b) names.R_X86_64_GOTPCRELX kinds.MovIndirectToAbsolute address
     × TakesImmediate kinds.RexMovIndirectToAbsolute
 
 -- by EVEX, with 6 bytes before the field
 abbrev pub TakesImmediateByEvex : (ℕ → RewriteKind) → Type 0
 TakesImmediateByEvex kind =
-    Rewritten 6 (x86_64_originals (kind 6)) names.R_X86_64_CODE_6_GOTPCRELX (kind 6) address IsGroup
+    Reads 6 (x86_64_originals (kind 6)) names.R_X86_64_CODE_6_GOTPCRELX (kind 6) address
 
 abbrev pub EvexOperations : Type 0
 EvexOperations =
@@ -202,15 +210,14 @@ Operations =
 
 abbrev pub TakesOffset : (ℕ → RewriteKind) → Type 0
 TakesOffset kind =
-    Rewritten 3 (x86_64_originals (kind 3)) names.R_X86_64_GOTTPOFF (kind 3) thread_offset IsGroup
-    × Rewritten 4 (x86_64_originals (kind 4)) names.R_X86_64_CODE_4_GOTTPOFF (kind 4) thread_offset
-    IsGroup
+    Reads 3 (x86_64_originals (kind 3)) names.R_X86_64_GOTTPOFF (kind 3) thread_offset
+    × Reads 4 (x86_64_originals (kind 4)) names.R_X86_64_CODE_4_GOTTPOFF (kind 4) thread_offset
 
 abbrev pub ThreadOffsets : Type 0
 ThreadOffsets =
     TakesOffset kinds.RexMovIndirectToAbsolute × TakesOffset kinds.RexAddIndirectToAbsolute
-    × Rewritten 6 (x86_64_originals (kinds.RexAddIndirectToAbsolute 6))
-    names.R_X86_64_CODE_6_GOTTPOFF (kinds.RexAddIndirectToAbsolute 6) thread_offset IsGroup
+    × Reads 6 (x86_64_originals (kinds.RexAddIndirectToAbsolute 6)) names.R_X86_64_CODE_6_GOTTPOFF
+    (kinds.RexAddIndirectToAbsolute 6) thread_offset
 
 -- ---- branches
 
@@ -234,20 +241,72 @@ IsKnownAfter top k k' a =
 -- The stack pointer is the same in both.
 abbrev pub IsCall : Code → Operands → State → Type 0
 IsCall c o s =
-    (k k' : Kinds) → k.registers 4 ≡ same → k'.registers ≡ k.registers
+    load 8 (seen s) o.got_entry ≡ o.symbol → (k k' : Kinds) → k.registers 4 ≡ same → k'.registers ≡ k.registers
     → ((a : ℕ) → a < 2 ^ 64
     → IsKnownAfter (difference_64 (s.registers 4) 8) (k.memory a) (k'.memory a) a)
     → Group (of_link (link c)) 1 k s k' (called o.symbol (sum_64 s.pc 6) s)
 
 abbrev pub IsJump : Code → Operands → State → Type 0
-IsJump c o s = (k : Kinds) → Group (of_link (link c)) 1 k s k (go_to o.symbol s)
+IsJump c o s =
+    load 8 (seen s) o.got_entry ≡ o.symbol
+    → (k : Kinds) → Group (of_link (link c)) 1 k s k (go_to o.symbol s)
 
 abbrev pub Branches : Type 0
 Branches =
     Rewritten 2 (x86_64_originals kinds.CallIndirectToRelative) names.R_X86_64_GOTPCRELX
-    kinds.CallIndirectToRelative address IsCall
+    kinds.CallIndirectToRelative (λ operands. operands) IsCall
     × Rewritten 2 (x86_64_originals kinds.JmpIndirectToRelative) names.R_X86_64_GOTPCRELX
-    kinds.JmpIndirectToRelative address IsJump
+    kinds.JmpIndirectToRelative (λ operands. operands) IsJump
+
+-- ---- TLS descriptors, each instruction by itself
+
+-- `lea x@tlsdesc(%rip), %reg` leaves the address of descriptor h, and new's instruction the offset.
+abbrev pub IsLea : ℕ → (List ℕ → ℕ) → (Code → Kinds → State → Operands → ℕ → Type 0) → Code
+    → Operands → State → Type 0
+IsLea n register_of Makes c o s =
+    (h : ℕ) (k : Kinds) → c.descriptor h ≡ o.got_entry → Makes c k s o (c.offset h)
+    → let r = register_of (bytes_at 15 c.old s.pc) in
+    Group (of_link (link c)) 1 k s (with_register r (half h) k)
+    (put r o.got_entry (sum_64 s.pc (n + 4)) s)
+
+-- `mov $x, %reg`
+abbrev pub LeaToOffset : ℕ → X86_64Relocation → (List ℕ → ℕ) → Type 0
+LeaToOffset n name register_of =
+    Rewritten n (lea_of_descriptor n) name (kinds.TlsDescToLocalExec n) (λ operands. operands)
+    (IsLea n register_of (λ c k s o number. thread_offset o ≡ number))
+
+-- `mov x@gottpoff(%rip), %reg`, of an entry that has what the function returns, whatever state of
+-- new agrees
+abbrev pub LeaToEntry : ℕ → X86_64Relocation → (List ℕ → ℕ) → Type 0
+LeaToEntry n name register_of =
+    (entry : ℕ) → entry < 2 ^ 64
+    → Rewritten n (lea_of_descriptor n) name kinds.TlsDescToInitialExec
+    (λ operands. record operands { got_entry = entry })
+    (IsLea n register_of (λ c k s o number.
+    (t : State) → Agree (link c) k s t → load 8 (seen t) entry ≡ number))
+
+abbrev pub LeaOfDescriptor : Type 0
+LeaOfDescriptor =
+    LeaToOffset 3 names.R_X86_64_GOTPC32_TLSDESC reg_after_rex
+    × LeaToEntry 3 names.R_X86_64_GOTPC32_TLSDESC reg_after_rex
+    × LeaToOffset 4 names.R_X86_64_CODE_4_GOTPC32_TLSDESC reg_after_rex2
+    × LeaToEntry 4 names.R_X86_64_CODE_4_GOTPC32_TLSDESC reg_after_rex2
+
+-- `call *x@tlscall(%rax)` calls the function whose address the descriptor has. It returns an offset
+-- in RAX. New has a `nop`, and has the offset there. What else the function changes may be anything
+-- then, as may memory below the stack pointer and the flags. By the psABI ("TLS Descriptors") it
+-- changes no other register. Where the thread has no block yet, it makes one.
+abbrev pub CallOfDescriptor : Type 0
+CallOfDescriptor =
+    (c : Code) (h executes : ℕ) (k k' : Kinds) (s s' : State) (calls : List ℕ) (at : ℕ)
+    → All (λ b. b < 2 ^ 8) calls → x86_64_matches kinds.SkipTlsDescCall calls at
+    → Stands c.old s.pc 2 (drop at calls)
+    → Stands c.new s.pc 2 (drop at (rewritten (x86_64_rewrite kinds.SkipTlsDescCall) calls at))
+    → k.registers 0 ≡ half h
+    → let next = sum_64 s.pc 2 in
+    run executes (machine c.others c.old) (called (load 8 (seen s) (s.registers 0)) next s) ≡ Some s'
+    → ChangesOpen (with_register 0 same k) (put 0 (c.offset h) next s) k' s'
+    → Group (of_link (link c)) 1 k s k' s'
 
 -- ---- other instructions
 
@@ -268,4 +327,6 @@ pub record Groups : Type 0 where
   pub operations : Operations
   pub thread : ThreadOffsets
   pub branches : Branches
+  pub descriptor_address : LeaOfDescriptor
+  pub descriptor_call : CallOfDescriptor
   pub others : Others

@@ -30,9 +30,16 @@ new =
     -- `addr32 call f`
     ∷ 0x67 ∷ 0xe8 ∷ 0x0c ∷ 0x00 ∷ 0x00 ∷ 0x00 ∷ []
 
--- no other instruction
+-- no other instruction, and no descriptor
 abbrev pub code : Code
-code = record { others = λ bytes s. None; old = bytes old; new = bytes new }
+code =
+    record {
+      others = λ bytes s. None;
+      old = bytes old;
+      new = bytes new;
+      descriptor = λ h. 0;
+      offset = λ h. 0;
+    }
 
 abbrev pub is_entry : ℕ → Bool
 is_entry a = nat_le 0x404000 a && nat_lt a 0x404018

@@ -116,6 +116,8 @@ returns-clause-decoding c = (
   refl,
   refl,
   refl,
+  refl,
+  refl,
 )
 
 pub returns-clause-results : goal.returns-clause-results
