@@ -75,5 +75,6 @@ pub mod X86Loads
 pub mod X86LocalDynamic
 pub mod X86Replaced
 pub mod X86Sections
+pub mod X86ThreadGroups
 pub mod X86Threads
 pub mod X86Values

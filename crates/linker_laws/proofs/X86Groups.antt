@@ -42,7 +42,7 @@ use Rattle.linker_laws.proofs.X86Descriptors.{nop_code}
 
 -- ---- bytes of code
 
-take_bytes : (m k : ℕ) (code : ℕ → ℕ) (a : ℕ) → m ≤ k → take m (bytes_at k code a) ≡ bytes_at m code a
+pub take_bytes : (m k : ℕ) (code : ℕ → ℕ) (a : ℕ) → m ≤ k → take m (bytes_at k code a) ≡ bytes_at m code a
 take_bytes zero k code a few = refl
 take_bytes (suc m) zero code a few = absurd (omega arith)
 take_bytes (suc m) (suc k) code a few =
@@ -52,12 +52,12 @@ pub starts : (m : ℕ) (code : ℕ → ℕ) (a : ℕ) (bytes : List ℕ) → m �
     → take m (bytes_at 15 code a) ≡ take m bytes
 starts m code a bytes few stands = take_bytes m 15 code a few ∙ stands
 
-goes : (others : List ℕ → Program) (bytes : List ℕ) (s : State) (d : Decoded) → decode bytes ≡ Some d
+pub goes : (others : List ℕ → Program) (bytes : List ℕ) (s : State) (d : Decoded) → decode bytes ≡ Some d
     → does others bytes s
     ≡ Some (left d.instruction s (execute d.instruction (sum_64 s.pc d.size) (seen s)))
 goes others bytes s d is = ap (executed others bytes s) is
 
-below_64 : (a b : ℕ) → sum_64 a b < 2 ^ 64
+pub below_64 : (a b : ℕ) → sum_64 a b < 2 ^ 64
 below_64 a b = omega arith
 
 -- ---- one instruction for another
@@ -168,7 +168,7 @@ are_groups n instructions name kind held few replaced =
 same_start : (first top : ℕ) → difference_64 (sum_64 first 0) top ≡ difference_64 first top
 same_start first top = omega arith
 
-one_on : (first i : ℕ) → sum_64 (sum_64 first 1) i ≡ sum_64 first (suc i)
+pub one_on : (first i : ℕ) → sum_64 (sum_64 first 1) i ≡ sum_64 first (suc i)
 one_on first i = omega arith
 
 -- a number that has none of the bytes
@@ -308,7 +308,7 @@ are_branches = (
 
 -- ---- descriptors
 
-both_true : (a b : Bool) → a ≡ true → b ≡ true → (a && b) ≡ true
+pub both_true : (a b : Bool) → a ≡ true → b ≡ true → (a && b) ≡ true
 both_true true b e f = f
 both_true false b e f = e
 
@@ -344,8 +344,8 @@ is_lea n register_of Makes c o s before number l made h k descriptor makes =
           ∙ ap (λ x. Some (put l.r x next t)) (l.value (seen at) refl))
           (agree_put (link c) k s t l.r (half h) o.got_entry (number (seen at)) next next agree
           (below_64 s.pc (n + 4)) refl
-          (both_true (o.got_entry == c.descriptor h) (number (seen at) == c.offset h)
-          (eq-eqb _ _ (sym descriptor)) (eq-eqb _ _ (made k (c.offset h) makes t agree)))));
+          (both_true (o.got_entry == c.old_half h) (number (seen at) == c.new_half h)
+          (eq-eqb _ _ (sym descriptor)) (eq-eqb _ _ (made k (c.new_half h) makes t agree)))));
       forward = λ none. omega arith;
     })
 
@@ -405,8 +405,8 @@ are_descriptor_calls c h executes k k' s s' calls at bytes matches old new has r
           (goes c.others (bytes_at 15 c.old s.pc) s
           (record { instruction = call (through 0); size = 2 }) (ap decode was.1)) returns;
       new_goes = λ t agree.
-          let number : t.registers 0 ≡ c.offset h =
-          eqb-true _ _ (second_true (s.registers 0 == c.descriptor h) (t.registers 0 == c.offset h)
+          let number : t.registers 0 ≡ c.new_half h =
+          eqb-true _ _ (second_true (s.registers 0 == c.old_half h) (t.registers 0 == c.new_half h)
           (subst (λ kind. AreOf (link c) 8 kind (s.registers 0) (t.registers 0)) has
           (agree.registers 0))) in
           once (machine c.others c.new) t (Agree (link c) k' s')
@@ -414,8 +414,8 @@ are_descriptor_calls c h executes k k' s s' calls at bytes matches old new has r
           (ap (λ a. machine c.others c.new (record t { pc = a })) agree.pc
           ∙ goes c.others (bytes_at 15 c.new s.pc) (record t { pc = s.pc })
           (record { instruction = nop; size = 2 }) (ap decode is.1))
-          (agree_open (link c) (with_register 0 same k) k' (put 0 (c.offset h) next s) s' (go_to next t)
-          (agree_put_old (link c) k (go_to next s) (go_to next t) 0 same (c.offset h) next
+          (agree_open (link c) (with_register 0 same k) k' (put 0 (c.new_half h) next s) s' (go_to next t)
+          (agree_put_old (link c) k (go_to next s) (go_to next t) 0 same (c.new_half h) next
           (agree_go (link c) k s t next next agree (below_64 s.pc 2) refl) (below_64 s.pc 2) refl
           (sym number)) changes));
       forward = λ none. omega arith;

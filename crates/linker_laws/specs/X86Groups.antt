@@ -1,7 +1,7 @@
 -- x86-64: rewritten instructions are groups of the simulation. No code moves.
 use Rattle.std.specs.Prelude.{◌≡◌, ℕ, zero, suc, ◌+◌, ◌-◌, ◌^◌, ◌<◌, ◌≤◌, ◌==◌, ◌&&◌, ◌⊎◌, Bool, true}
 use Rattle.std.specs.Prelude.{false, not, nat_le, nat_lt, if◌then◌else◌, List, [], ◌∷◌, take, drop}
-use Rattle.std.specs.Prelude.{Option, Some, None, IsSomeAnd, IsTrue}
+use Rattle.std.specs.Prelude.{Option, Some, None, IsSomeAnd, IsTrue, ⊤}
 use Rattle.std.specs.List.{All}
 use Rattle.linker_base.specs.Rewrite.{rewritten, offset_after}
 use Rattle.linker_elf.specs.Choices.{operands_after}
@@ -18,7 +18,7 @@ use Rattle.linker_laws.specs.X86Machine.{Flags, Operation, Instruction, Decoded,
 use Rattle.linker_laws.specs.X86Machine.{operate_into, bit_of, decode, execute, load, store_8}
 use Rattle.linker_laws.specs.X86RewriteLaws.{EachPrefix, IsBefore, IsRelocated, address}
 use Rattle.linker_laws.specs.X86RewriteLaws.{thread_offset}
-use Rattle.linker_laws.specs.X86ThreadLaws.{reg_after_rex, reg_after_rex2}
+use Rattle.linker_laws.specs.X86ThreadLaws.{HasThreadPointer, reg_after_rex, reg_after_rex2}
 use Rattle.linker_utils.specs.X86RelocationsAfter.{x86_64_relocation_after}
 use Rattle.linker_utils.specs.X86Rewrites.{Original, is_one_at, lea_of_descriptor, legacy}
 use Rattle.linker_utils.specs.X86Rewrites.{x86_64_matches, x86_64_originals, x86_64_rewrite}
@@ -105,11 +105,10 @@ pub record Code : Type 0 where
   pub others : List ℕ → Program
   pub old : ℕ → ℕ
   pub new : ℕ → ℕ
-  -- of a TLS descriptor, by its index: its address, and what its function returns
-  pub descriptor : ℕ → ℕ
-  pub offset : ℕ → ℕ
+  -- of a number that differs, by its index: what old's instruction makes, and what new's makes
+  pub old_half : ℕ → ℕ
+  pub new_half : ℕ → ℕ
 
--- After the instructions with a descriptor's address new has the offset.
 abbrev pub link : Code → Link
 link c =
     record {
@@ -117,7 +116,7 @@ link c =
       old = c.old;
       new = c.new;
       moved = λ a. a;
-      halves = λ h x y. x == c.descriptor h && y == c.offset h;
+      halves = λ h x y. x == c.old_half h && y == c.new_half h;
     }
 
 -- ---- rewritten instructions
@@ -127,10 +126,10 @@ abbrev pub Stands : (ℕ → ℕ) → ℕ → ℕ → List ℕ → Type 0
 Stands code a n bytes = bytes_at n code a ≡ take n bytes
 
 -- An instruction begins n bytes before the field at an offset of a section. Old has it with its
--- relocation applied, and new has what a rewrite leaves, with the relocation after it.
-abbrev pub Rewritten : ℕ → List Original → X86_64Relocation → RewriteKind → (Operands → Operands)
-    → (Code → Operands → State → Type 0) → Type 0
-Rewritten n instructions name kind relocated Holds =
+-- relocation applied, and new has m bytes of what a rewrite leaves, with the relocation after it.
+abbrev pub Rewritten : ℕ → ℕ → List Original → X86_64Relocation → RewriteKind
+    → (Operands → Operands) → (Code → Operands → State → Type 0) → Type 0
+Rewritten n m instructions name kind relocated Holds =
     IsSomeAnd (x86_64_relocation_after kind name) (λ after.
     (c : Code) (s : State) (section original relaxed : List ℕ) (o : ℕ) (operands : Operands)
     → IsBefore n section o operands (seen s)
@@ -140,7 +139,7 @@ Rewritten n instructions name kind relocated Holds =
     → IsRelocated after (relocated (operands_after (x86_64_rewrite kind) o operands))
     (offset_after (x86_64_rewrite kind) o) (rewritten (x86_64_rewrite kind) section o) relaxed
     → Stands c.old s.pc (n + 4) (drop (o - n) original)
-    → Stands c.new s.pc (n + 4) (drop (o - n) relaxed)
+    → Stands c.new s.pc m (drop (o - n) relaxed)
     → Holds c operands s)
 
 -- Whatever state of new agrees, old's instruction leaves registers that agree, from its registers
@@ -163,7 +162,7 @@ IsGroup held c o s =
 -- an instruction that reads the number, and one that has it
 abbrev pub Reads : ℕ → List Original → X86_64Relocation → RewriteKind → (Operands → ℕ) → Type 0
 Reads n instructions name kind held =
-    Rewritten n instructions name kind (λ operands. operands) (IsGroup held)
+    Rewritten n (n + 4) instructions name kind (λ operands. operands) (IsGroup held)
 
 -- ---- addresses
 
@@ -253,18 +252,19 @@ IsJump c o s =
 
 abbrev pub Branches : Type 0
 Branches =
-    Rewritten 2 (x86_64_originals kinds.CallIndirectToRelative) names.R_X86_64_GOTPCRELX
+    Rewritten 2 6 (x86_64_originals kinds.CallIndirectToRelative) names.R_X86_64_GOTPCRELX
     kinds.CallIndirectToRelative (λ operands. operands) IsCall
-    × Rewritten 2 (x86_64_originals kinds.JmpIndirectToRelative) names.R_X86_64_GOTPCRELX
+    × Rewritten 2 6 (x86_64_originals kinds.JmpIndirectToRelative) names.R_X86_64_GOTPCRELX
     kinds.JmpIndirectToRelative (λ operands. operands) IsJump
 
 -- ---- TLS descriptors, each instruction by itself
 
--- `lea x@tlsdesc(%rip), %reg` leaves the address of descriptor h, and new's instruction the offset.
+-- `lea x@tlsdesc(%rip), %reg` leaves a half: the descriptor's address in old, and the offset in
+-- new.
 abbrev pub IsLea : ℕ → (List ℕ → ℕ) → (Code → Kinds → State → Operands → ℕ → Type 0) → Code
     → Operands → State → Type 0
 IsLea n register_of Makes c o s =
-    (h : ℕ) (k : Kinds) → c.descriptor h ≡ o.got_entry → Makes c k s o (c.offset h)
+    (h : ℕ) (k : Kinds) → c.old_half h ≡ o.got_entry → Makes c k s o (c.new_half h)
     → let r = register_of (bytes_at 15 c.old s.pc) in
     Group (of_link (link c)) 1 k s (with_register r (half h) k)
     (put r o.got_entry (sum_64 s.pc (n + 4)) s)
@@ -272,7 +272,7 @@ IsLea n register_of Makes c o s =
 -- `mov $x, %reg`
 abbrev pub LeaToOffset : ℕ → X86_64Relocation → (List ℕ → ℕ) → Type 0
 LeaToOffset n name register_of =
-    Rewritten n (lea_of_descriptor n) name (kinds.TlsDescToLocalExec n) (λ operands. operands)
+    Rewritten n (n + 4) (lea_of_descriptor n) name (kinds.TlsDescToLocalExec n) (λ operands. operands)
     (IsLea n register_of (λ c k s o number. thread_offset o ≡ number))
 
 -- `mov x@gottpoff(%rip), %reg`, of an entry that has what the function returns, whatever state of
@@ -280,7 +280,7 @@ LeaToOffset n name register_of =
 abbrev pub LeaToEntry : ℕ → X86_64Relocation → (List ℕ → ℕ) → Type 0
 LeaToEntry n name register_of =
     (entry : ℕ) → entry < 2 ^ 64
-    → Rewritten n (lea_of_descriptor n) name kinds.TlsDescToInitialExec
+    → Rewritten n (n + 4) (lea_of_descriptor n) name kinds.TlsDescToInitialExec
     (λ operands. record operands { got_entry = entry })
     (IsLea n register_of (λ c k s o number.
     (t : State) → Agree (link c) k s t → load 8 (seen t) entry ≡ number))
@@ -305,8 +305,78 @@ CallOfDescriptor =
     → k.registers 0 ≡ half h
     → let next = sum_64 s.pc 2 in
     run executes (machine c.others c.old) (called (load 8 (seen s) (s.registers 0)) next s) ≡ Some s'
-    → ChangesOpen (with_register 0 same k) (put 0 (c.offset h) next s) k' s'
+    → ChangesOpen (with_register 0 same k) (put 0 (c.new_half h) next s) k' s'
     → Group (of_link (link c)) 1 k s k' s'
+
+-- ---- general- and local-dynamic
+
+-- Whatever state of new agrees, it has old's thread pointer, which is the first word of what it
+-- points to.
+abbrev pub HasPointer : Code → Kinds → State → Type 0
+HasPointer c k s =
+    (t : State) → Agree (link c) k s t
+    → HasThreadPointer (seen t) × (t.registers 38 ≡ s.registers 38)
+
+-- After a `lea` of m bytes, of a GOT entry into RDI, old executes a call of `__tls_get_addr`, and
+-- the function, by its own instructions. It returns at the end of n bytes, with an address in RAX.
+-- What else it changes may be anything then. By the ABI these are registers that don't belong to
+-- the caller, the flags, and memory below the stack pointer. Where the thread has no block yet, it
+-- makes one.
+pub record Returns (c : Code) (o : Operands) (m n : ℕ) (kind : Kind) (address : ℕ) (k : Kinds)
+    (s : State) (k' : Kinds) (s' : State) : Type 0 where
+  pub executes : ℕ
+  pub returns :
+      run executes (machine c.others c.old) (put 7 o.got_entry (sum_64 s.pc m) s) ≡ Some s'
+  pub changes :
+      ChangesOpen (with_register 0 kind k) (put 0 address (sum_64 s.pc n) s) k' s'
+
+-- It returns the variable's address. New executes a count of instructions, where a premise holds.
+abbrev pub IsThreadCall : ℕ → ℕ → ℕ → (Code → Kinds → State → Kinds → Operands → Type 0) → Code
+    → Operands → State → Type 0
+IsThreadCall m n count Premise c o s =
+    (k k' : Kinds) (s' : State) → HasPointer c k s → Premise c k s k' o
+    → Returns c o m n same (sum_64 (s.registers 38) (thread_offset o)) k s k' s'
+    → Group (of_link (link c)) count k s k' s'
+
+-- `mov %fs:0, %rax` and `lea x@tpoff(%rax), %rax`
+abbrev pub ToLocalExec : Type 0
+ToLocalExec =
+    Rewritten 4 16 (x86_64_originals kinds.TlsGdToLocalExec) names.R_X86_64_TLSGD
+    kinds.TlsGdToLocalExec (λ operands. operands) (IsThreadCall 8 16 2 (λ c k s k' o. ⊤))
+
+-- `mov %fs:0, %rax` and `add x@gottpoff(%rip), %rax`, where a GOT entry holds the offset, whatever
+-- state of new agrees; the flags may be anything then
+abbrev pub ToInitialExec : Type 0
+ToInitialExec =
+    (entry : ℕ) → entry < 2 ^ 64
+    → Rewritten 4 16 (x86_64_originals kinds.TlsGdToInitialExec) names.R_X86_64_TLSGD
+    kinds.TlsGdToInitialExec (λ operands. record operands { got_entry = entry })
+    (IsThreadCall 8 16 2 (λ c k s k' o.
+    ((t : State) → Agree (link c) k s t → load 8 (seen t) entry ≡ thread_offset o)
+    × ((r : ℕ) → IsTrue (is_flag r) → k'.registers r ≡ anything)))
+
+-- It returns the address of the module's block. New executes `mov %fs:0, %rax`, with prefixes or
+-- after a NOP, by n bytes, and has the thread pointer in RAX.
+abbrev pub ModuleCall : ℕ → ℕ → RewriteKind → Type 0
+ModuleCall n count kind =
+    (c : Code) (h : ℕ) (k k' : Kinds) (s s' : State) (section original : List ℕ) (o : ℕ)
+    (operands : Operands)
+    → IsBefore 3 section o operands (seen s)
+    → x86_64_matches kind section o
+    → IsRelocated names.R_X86_64_TLSLD operands o section original
+    → Stands c.old s.pc 7 (drop (o - 3) original)
+    → Stands c.new s.pc n (drop (o - 3) (rewritten (x86_64_rewrite kind) section o))
+    → HasPointer c k s → s.registers 38 ≡ c.new_half h
+    → Returns c operands 7 n (half h) (c.old_half h) k s k' s'
+    → Group (of_link (link c)) count k s k' s'
+
+abbrev pub GeneralDynamic : Type 0
+GeneralDynamic = ToLocalExec × ToInitialExec
+
+abbrev pub LocalDynamic : Type 0
+LocalDynamic =
+    ModuleCall 12 1 kinds.TlsLdToLocalExec × ModuleCall 13 1 kinds.TlsLdToLocalExecNoPlt
+    × ModuleCall 22 2 kinds.TlsLdToLocalExec64
 
 -- ---- other instructions
 
@@ -329,4 +399,6 @@ pub record Groups : Type 0 where
   pub branches : Branches
   pub descriptor_address : LeaOfDescriptor
   pub descriptor_call : CallOfDescriptor
+  pub general_dynamic : GeneralDynamic
+  pub local_dynamic : LocalDynamic
   pub others : Others

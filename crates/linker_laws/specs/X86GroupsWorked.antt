@@ -30,15 +30,15 @@ new =
     -- `addr32 call f`
     ∷ 0x67 ∷ 0xe8 ∷ 0x0c ∷ 0x00 ∷ 0x00 ∷ 0x00 ∷ []
 
--- no other instruction, and no descriptor
+-- no other instruction, and no half
 abbrev pub code : Code
 code =
     record {
       others = λ bytes s. None;
       old = bytes old;
       new = bytes new;
-      descriptor = λ h. 0;
-      offset = λ h. 0;
+      old_half = λ h. 0;
+      new_half = λ h. 0;
     }
 
 abbrev pub is_entry : ℕ → Bool

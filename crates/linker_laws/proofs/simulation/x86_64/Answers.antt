@@ -2,6 +2,7 @@ use Rattle.linker_laws.specs.X86Groups.{Reads}
 use Rattle.linker_laws.proofs.X86Groups.{are_branches, are_descriptor_calls, are_groups, are_leas}
 use Rattle.linker_laws.proofs.X86Groups.{are_others}
 use Rattle.linker_laws.proofs.X86Replaced as replaced
+use Rattle.linker_laws.proofs.X86ThreadGroups.{are_module_calls, are_thread_calls}
 use Rattle.linker_laws.proofs.simulation.x86_64.Goals as goal
 
 pub returns : goal.returns
@@ -15,6 +16,8 @@ returns c =
         branches = are_branches;
         descriptor_address = are_leas;
         descriptor_call = are_descriptor_calls;
+        general_dynamic = are_thread_calls;
+        local_dynamic = are_module_calls;
         others = are_others;
       };
     }
