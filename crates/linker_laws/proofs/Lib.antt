@@ -67,10 +67,14 @@ pub mod X86DescriptorSteps
 pub mod X86Descriptors
 pub mod X86Evex
 pub mod X86Fields
+pub mod X86Groups
+pub mod X86GroupsWorked
 pub mod X86Immediates
 pub mod X86LargeThreads
 pub mod X86Loads
 pub mod X86LocalDynamic
+pub mod X86Replaced
 pub mod X86Sections
+pub mod X86ThreadGroups
 pub mod X86Threads
 pub mod X86Values

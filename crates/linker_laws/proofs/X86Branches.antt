@@ -1,6 +1,6 @@
 -- Branches through the GOT, and direct ones.
-use Rattle.std.proofs.Common.{◌≡◌, ℕ, ◌-◌, ◌^◌, ◌<◌, ◌≤◌, List, ◌∷◌, drop, sym}
-use Rattle.std.proofs.Common.{◌∙◌, ap, arith, subst}
+use Rattle.std.proofs.Common.{◌≡◌, ℕ, ◌-◌, ◌^◌, ◌<◌, ◌≤◌, List, [], ◌∷◌, take, drop, sym}
+use Rattle.std.proofs.Common.{◌∙◌, ap, arith, subst, refl, Some}
 use Rattle.std.specs.Int.{w64, cast_unsigned}
 use Rattle.std.proofs.lemmas.List.Elements.{All-drop}
 use Rattle.linker_base.specs.Rewrite.{rewritten}
@@ -14,12 +14,13 @@ use Rattle.linker_utils.specs.declared.x86_64.rewrites.RewriteKind.TheVariants a
 use Rattle.linker_elf.specs.Applied.{IsApplied}
 use Rattle.linker_laws.proofs.Sums.{difference_below}
 use Rattle.linker_laws.specs.X86RewriteLaws.{IsBefore, DoesTheSame, address}
-use Rattle.linker_laws.specs.X86Machine.{State, load, extended, call, jump, direct, indirect}
+use Rattle.linker_laws.specs.X86Machine.{State, Target, Instruction, load, extended, call, jump}
+use Rattle.linker_laws.specs.X86Machine.{direct, indirect}
 use Rattle.linker_laws.specs.X86Machine.{decode}
 use Rattle.linker_laws.specs.X86Machine.{with_register, store_8}
 use Rattle.linker_laws.proofs.X86Bytes.{two_bytes}
 use Rattle.linker_laws.proofs.X86Codes.{pattern_there, call_codes, jump_codes}
-use Rattle.linker_laws.proofs.X86Decoding.{lead_to}
+use Rattle.linker_laws.proofs.X86Decoding.{Rewrites, begun, fewer, lead_to}
 use Rattle.linker_laws.proofs.X86Fields.{entry_field, place_field, got_row, place_row}
 use Rattle.linker_laws.proofs.X86Loads.{same_place, from_next, at_place}
 
@@ -68,50 +69,102 @@ module _ (section : List ℕ) (o : ℕ) (operands : Operands) (s : State)
       (subst (λ p. p < 2 ^ 64) (sym same) small)) bytes rest applied
       ∙ ap (λ a. sum_64 operands.symbol (cast_unsigned w64 a)) before.addend
 
-pub calls : DoesTheSame 2 (x86_64_originals kinds.CallIndirectToRelative) names.R_X86_64_GOTPCRELX
-    kinds.CallIndirectToRelative address
-calls section old new o operands s before there matches held was is =
+-- A branch of 6 bytes goes to the address that is loaded, and one of m bytes to the same.
+pub record Leads (branch : Target → Instruction) (m : ℕ) (old new : List ℕ) (target : ℕ) (s : State)
+    : Type 0 where
+  pub from : ℕ
+  pub to : ℕ
+  pub was : decode old ≡ Some (record { instruction = branch (indirect from); size = 6 })
+  pub is : decode new ≡ Some (record { instruction = branch (direct to); size = m })
+  pub loads : load 8 s (sum_64 (sum_64 s.ip 6) (extended from)) ≡ target
+  pub leads : sum_64 (sum_64 s.ip m) (extended to) ≡ target
+
+-- Code does so that begins with the 6 bytes of both.
+abbrev pub AreBranches : (Target → Instruction) → ℕ → List ℕ → List ℕ → Operands → State → Type 0
+AreBranches branch m before after operands s =
+    (old new : List ℕ) → take 6 old ≡ take 6 before → take 6 new ≡ take 6 after
+    → Leads branch m old new operands.symbol s
+
+pub calls : Rewrites 2 (x86_64_originals kinds.CallIndirectToRelative) names.R_X86_64_GOTPCRELX
+    kinds.CallIndirectToRelative address (AreBranches call 6)
+calls section old new o operands s before there matches held was is code_old code_new at at' =
     let shape = pattern_there (original 2 (byte 0xff ∷ byte 0x15 ∷ field4)) section o there in
     let code = two_bytes 0xff 0x15 (drop (o - 2) section)
     (All-drop (λ b. b < 2 ^ 8) (o - 2) section before.bytes) shape.1 in
     let codes = call_codes section old new was.rest is.rest o was.whole 0xff 0x15 code.0 shape.0
     code.1 is.whole in
+    let b = begun (0xff ∷ 0x15 ∷ []) was.rest code_old (at ∙ ap (take 6) codes.0) in
+    let b' = begun (0x67 ∷ 0xe8 ∷ []) is.rest code_new (at' ∙ ap (take 6) codes.1) in
     let place = operands.place in
-    let next = sum_64 s.ip 6 in
     let f' = number_of_bytes 4 is.rest in
-    let reached = from_next 2 s.ip place (extended f') operands.symbol (omega arith)
-    before.addresses.place before.addresses.symbol before.ip
-    (place_at section o operands s before held (difference_64 (sum_64 place o) o) place
-    (same_place place o before.addresses.place before.offset) before.addresses.place
-    (drop o (rewritten (x86_64_rewrite kinds.CallIndirectToRelative) section o)) is.rest
-    is.applied) in
-    lead_to (drop (o - 2) old) (drop (o - 2) new)
-    (record { instruction = call (indirect (number_of_bytes 4 was.rest)); size = 6 })
-    (record { instruction = call (direct f'); size = 6 }) s (ap decode codes.0)
-    (ap decode codes.1)
-    (ap (λ t. called next t s) (loaded_target section o operands s before held (drop o section)
-    was.rest was.applied ∙ sym reached))
+    record {
+      from = number_of_bytes 4 b.after;
+      to = number_of_bytes 4 b'.after;
+      was = ap decode b.is;
+      is = ap decode b'.is;
+      loads =
+          ap (λ f. load 8 s (sum_64 (sum_64 s.ip 6) (extended f))) b.field
+          ∙ loaded_target section o operands s before held (drop o section) was.rest was.applied;
+      leads =
+          ap (λ f. sum_64 (sum_64 s.ip 6) (extended f)) b'.field
+          ∙ from_next 2 s.ip place (extended f') operands.symbol (omega arith)
+          before.addresses.place before.addresses.symbol before.ip
+          (place_at section o operands s before held (difference_64 (sum_64 place o) o) place
+          (same_place place o before.addresses.place before.offset) before.addresses.place
+          (drop o (rewritten (x86_64_rewrite kinds.CallIndirectToRelative) section o)) is.rest
+          is.applied);
+    }
 
-pub jumps : DoesTheSame 2 (x86_64_originals kinds.JmpIndirectToRelative) names.R_X86_64_GOTPCRELX
-    kinds.JmpIndirectToRelative address
-jumps section old new o operands s before there matches held was is =
+pub jumps : Rewrites 2 (x86_64_originals kinds.JmpIndirectToRelative) names.R_X86_64_GOTPCRELX
+    kinds.JmpIndirectToRelative address (AreBranches jump 5)
+jumps section old new o operands s before there matches held was is code_old code_new at at' =
     let shape = pattern_there (original 2 (byte 0xff ∷ byte 0x25 ∷ field4)) section o there in
     let code = two_bytes 0xff 0x25 (drop (o - 2) section)
     (All-drop (λ b. b < 2 ^ 8) (o - 2) section before.bytes) shape.1 in
     let codes = jump_codes section old new was.rest is.rest o was.whole 0xff 0x25 code.0 shape.0
     code.1 is.whole in
+    let b = begun (0xff ∷ 0x25 ∷ []) was.rest code_old (at ∙ ap (take 6) codes.0) in
+    let b' = begun (0xe9 ∷ []) is.rest code_new
+    (fewer 5 code_new (0xe9 ∷ is.rest) (at' ∙ ap (take 6) codes.1)) in
     let place = operands.place in
     let f' = number_of_bytes 4 is.rest in
-    let reached = from_short s.ip place (extended f') operands.symbol before.addresses.place
-    before.addresses.symbol before.ip
-    (place_at section o operands s before held (difference_64 (sum_64 place (o - 1)) o)
-    (difference_64 place 1) (place_before place o shape.0 before.addresses.place before.offset)
-    (difference_below place 1)
-    (drop (o - 1) (rewritten (x86_64_rewrite kinds.JmpIndirectToRelative) section o)) is.rest
-    is.applied) in
+    record {
+      from = number_of_bytes 4 b.after;
+      to = number_of_bytes 4 b'.after;
+      was = ap decode b.is;
+      is = ap decode b'.is;
+      loads =
+          ap (λ f. load 8 s (sum_64 (sum_64 s.ip 6) (extended f))) b.field
+          ∙ loaded_target section o operands s before held (drop o section) was.rest was.applied;
+      leads =
+          ap (λ f. sum_64 (sum_64 s.ip 5) (extended f)) b'.field
+          ∙ from_short s.ip place (extended f') operands.symbol before.addresses.place
+          before.addresses.symbol before.ip
+          (place_at section o operands s before held (difference_64 (sum_64 place (o - 1)) o)
+          (difference_64 place 1) (place_before place o shape.0 before.addresses.place before.offset)
+          (difference_below place 1)
+          (drop (o - 1) (rewritten (x86_64_rewrite kinds.JmpIndirectToRelative) section o)) is.rest
+          is.applied);
+    }
+
+-- ---- both lead to one state
+
+pub same_calls : DoesTheSame 2 (x86_64_originals kinds.CallIndirectToRelative)
+    names.R_X86_64_GOTPCRELX kinds.CallIndirectToRelative address
+same_calls section old new o operands s before there matches held was is =
+    let l = calls section old new o operands s before there matches held was is (drop (o - 2) old)
+    (drop (o - 2) new) refl refl in
     lead_to (drop (o - 2) old) (drop (o - 2) new)
-    (record { instruction = jump (indirect (number_of_bytes 4 was.rest)); size = 6 })
-    (record { instruction = jump (direct f'); size = 5 }) s (ap decode codes.0)
-    (ap decode codes.1)
-    (ap (λ t. jumped t s) (loaded_target section o operands s before held (drop o section)
-    was.rest was.applied ∙ sym reached))
+    (record { instruction = call (indirect l.from); size = 6 })
+    (record { instruction = call (direct l.to); size = 6 }) s l.was l.is
+    (ap (λ t. called (sum_64 s.ip 6) t s) (l.loads ∙ sym l.leads))
+
+pub same_jumps : DoesTheSame 2 (x86_64_originals kinds.JmpIndirectToRelative)
+    names.R_X86_64_GOTPCRELX kinds.JmpIndirectToRelative address
+same_jumps section old new o operands s before there matches held was is =
+    let l = jumps section old new o operands s before there matches held was is (drop (o - 2) old)
+    (drop (o - 2) new) refl refl in
+    lead_to (drop (o - 2) old) (drop (o - 2) new)
+    (record { instruction = jump (indirect l.from); size = 6 })
+    (record { instruction = jump (direct l.to); size = 5 }) s l.was l.is
+    (ap (λ t. jumped t s) (l.loads ∙ sym l.leads))

@@ -1,18 +1,30 @@
 -- How instructions are decoded before and after a rewrite.
-use Rattle.std.proofs.Common.{◌≡◌, ℕ, ◌+◌, ◌∙◌, List, ◌∷◌, ap, sym, true, Some}
-use Rattle.std.proofs.Common.{Option, IsSomeAnd, subst, eqb}
-use Rattle.std.specs.Int.{bit_at}
+use Rattle.std.proofs.Common.{◌≡◌, ℕ, zero, suc, ◌+◌, ◌∙◌, List, [], ◌∷◌, ◌++◌, take, drop, length, ap, ap₂, sym, refl, arith, ◌≤◌}
+use Rattle.std.proofs.Common.{true, Some, None, Option, suc-add, IsSomeAnd, IsTrue, subst, eqb, get_or, ◌-◌}
+use Rattle.std.specs.Int.{w64, bit_at, from_le_bytes}
+use Rattle.std.specs.Prelude.{replicate}
 use Rattle.std.proofs.lemmas.Bool.{cond-true, cond-false}
+use Rattle.linker_base.specs.Rewrite.{rewritten, offset_after}
+use Rattle.linker_elf.specs.Choices.{operands_after}
 use Rattle.linker_elf.specs.Relocate.{number_of_bytes}
 use Rattle.linker_elf.specs.Value.{sum_64}
+use Rattle.linker_elf.specs.declared.elf.value.Operands.{Operands}
+use Rattle.linker_elf.specs.declared.x86_64.relocations.X86_64Relocation.{X86_64Relocation}
 use Rattle.linker_utils.specs.X86Rewrites as x86
-use Rattle.linker_laws.specs.X86Machine.{Prefix, Operation, State, Decoded, decode, decode_opcode}
+use Rattle.linker_laws.specs.X86Groups.{sets_flags}
+use Rattle.linker_laws.specs.X86Machine.{Prefix, Operation, Instruction, State, Decoded, decode}
+use Rattle.linker_laws.specs.X86Machine.{decode_opcode}
 use Rattle.linker_laws.specs.X86Machine.{decode_modrm, decode_relative, on_immediate, rex_prefix}
 use Rattle.linker_laws.specs.X86Machine.{rex2_prefix}
 use Rattle.linker_laws.specs.X86Machine.{immediate_operation, is_relative, is_register, reg_of}
 use Rattle.linker_laws.specs.X86Machine.{sized, operate, register, immediate, is_rex, step}
 use Rattle.linker_laws.specs.X86Machine.{execute_decoded, execute}
+use Rattle.linker_laws.specs.X86Machine.{load}
+use Rattle.linker_laws.specs.X86RewriteLaws.{DoesTheSame, IsBefore, IsRelocated}
 use Rattle.linker_laws.proofs.X86Bytes.{IsMoved}
+use Rattle.linker_utils.specs.X86RelocationsAfter.{x86_64_relocation_after}
+use Rattle.linker_utils.specs.X86Rewrites.{Original, is_one_at, x86_64_matches, x86_64_rewrite}
+use Rattle.linker_utils.specs.declared.x86_64.rewrites.RewriteKind.{RewriteKind}
 
 -- by the ModRM byte of a relative address
 pub from_relative : (p : Prefix) (opcode m : ℕ) (rest : List ℕ) → is_relative m ≡ true
@@ -43,6 +55,66 @@ pub after_rex2_byte : (p : ℕ) (rest : List ℕ) → eqb (bit_at p 7) 0 ≡ tru
     → decode (0xd5 ∷ p ∷ rest) ≡ decode_opcode (rex2_prefix p) rest
 after_rex2_byte p rest h = cond-true (eqb (bit_at p 7) 0) _ _ h
 
+-- ---- code before and after
+
+-- Bytes are some, and others that begin with the same field.
+pub record IsBegun (first rest bytes : List ℕ) : Type 0 where
+  pub after : List ℕ
+  pub is : bytes ≡ first ++ after
+  pub field : number_of_bytes 4 after ≡ number_of_bytes 4 rest
+
+pub begun : (first rest bytes : List ℕ)
+    → take (length first + 4) bytes ≡ take (length first + 4) (first ++ rest)
+    → IsBegun first rest bytes
+begun [] rest bytes e =
+    record {
+      after = bytes;
+      is = refl;
+      field = ap (λ xs. from_le_bytes w64 (xs ++ replicate 4 0)) e;
+    }
+begun (b ∷ first) rest [] e =
+    absurd (none (subst (λ m. take m [] ≡ take m (b ∷ first ++ rest)) (suc-add (length first) 4) e))
+  where
+    none : [] ≡ b ∷ take (length first + 4) (first ++ rest) → ⊥
+    none e = let long = ap length e in omega arith
+begun (b ∷ first) rest (c ∷ bytes) e =
+    let e' = subst (λ m. take m (c ∷ bytes) ≡ take m (b ∷ first ++ rest)) (suc-add (length first) 4)
+    e in
+    let more = begun first rest bytes (ap (drop 1) e') in
+    record {
+      after = more.after;
+      is = ap₂ (λ x xs. x ∷ xs) (ap (λ xs. get_or xs 0 0) e') more.is;
+      field = more.field;
+    }
+
+-- one byte fewer
+pub fewer : (m : ℕ) (xs ys : List ℕ) → take (suc m) xs ≡ take (suc m) ys → take m xs ≡ take m ys
+fewer zero xs ys e = refl
+fewer (suc m) [] [] e = refl
+fewer (suc m) [] (y ∷ ys) e = let long = ap length e in absurd (omega arith)
+fewer (suc m) (x ∷ xs) [] e = let long = ap length e in absurd (omega arith)
+fewer (suc m) (x ∷ xs) (y ∷ ys) e =
+    ap₂ (λ x xs. x ∷ xs) (ap (λ xs. get_or xs 0 0) e) (fewer m xs ys (ap (drop 1) e))
+
+-- What an instruction of m bytes does, another one of m bytes does, without memory. It goes on.
+pub record Replaces (m : ℕ) (old new : List ℕ) (s : State) : Type 0 where
+  pub instruction : Instruction
+  pub instruction' : Instruction
+  pub was : decode old ≡ Some (record { instruction = instruction; size = m })
+  pub is : decode new ≡ Some (record { instruction = instruction'; size = m })
+  pub same : execute instruction (sum_64 s.ip m) s ≡ execute instruction' (sum_64 s.ip m) s
+  pub flags : sets_flags instruction ≡ sets_flags instruction'
+  pub alone : (memory : ℕ → ℕ)
+      → execute instruction' (sum_64 s.ip m) (record s { memory = memory })
+      ≡ record (execute instruction' (sum_64 s.ip m) s) { memory = memory }
+  pub goes_on : (execute instruction' (sum_64 s.ip m) s).ip ≡ sum_64 s.ip m
+
+-- Code does so that begins with the bytes of both, up to the field n bytes after the first.
+abbrev pub AreReplaced : ℕ → List ℕ → List ℕ → State → Type 0
+AreReplaced n before after s =
+    (old new : List ℕ) → take (n + 4) old ≡ take (n + 4) before
+    → take (n + 4) new ≡ take (n + 4) after → Replaces (n + 4) old new s
+
 -- Both codes lead to one state.
 pub lead_to : (before after : List ℕ) (d e : Decoded) (s : State) → decode before ≡ Some d
     → decode after ≡ Some e
@@ -51,3 +123,46 @@ pub lead_to : (before after : List ℕ) (d e : Decoded) (s : State) → decode b
 lead_to before after d e s was is same =
     subst (λ (x : Option Decoded). IsSomeAnd (execute_decoded x s) (λ t. step after s ≡ Some t))
     (sym was) (ap (λ x. execute_decoded x s) is ∙ ap Some (sym same))
+
+pub lead : (n : ℕ) (before after : List ℕ) (s : State) → AreReplaced n before after s
+    → IsSomeAnd (step before s) (λ t. step after s ≡ Some t)
+lead n before after s replaced =
+    let r = replaced before after refl refl in
+    lead_to before after (record { instruction = r.instruction; size = n + 4 })
+    (record { instruction = r.instruction'; size = n + 4 }) s r.was r.is r.same
+
+-- ---- the laws
+
+pub map_some : {T : Type 0} (o : Option T) (P Q : T → Type 0) → ((x : T) → P x → Q x)
+    → IsSomeAnd o P → IsSomeAnd o Q
+map_some None P Q f h = h
+map_some (Some x) P Q f h = f x h
+
+-- What holds of code before and after, of operands and of a state, wherever a law's premises hold.
+abbrev pub Rewrites : ℕ → List Original → X86_64Relocation → RewriteKind → (Operands → ℕ)
+    → (List ℕ → List ℕ → Operands → State → Type 0) → Type 0
+Rewrites n instructions name kind held Holds =
+    IsSomeAnd (x86_64_relocation_after kind name) (λ after.
+    (section original relaxed : List ℕ) (o : ℕ) (operands : Operands) (s : State)
+    → IsBefore n section o operands s
+    → IsTrue (is_one_at instructions section o)
+    → x86_64_matches kind section o
+    → load 8 s operands.got_entry ≡ held operands
+    → IsRelocated name operands o section original
+    → IsRelocated after (operands_after (x86_64_rewrite kind) o operands)
+    (offset_after (x86_64_rewrite kind) o) (rewritten (x86_64_rewrite kind) section o) relaxed
+    → Holds (drop (o - n) original) (drop (o - n) relaxed) operands s)
+
+abbrev pub Replaced : ℕ → List Original → X86_64Relocation → RewriteKind → (Operands → ℕ) → Type 0
+Replaced n instructions name kind held =
+    Rewrites n instructions name kind held (λ before after operands s. AreReplaced n before after s)
+
+-- Both instructions lead to one state.
+pub law : (n : ℕ) (instructions : List Original) (name : X86_64Relocation) (kind : RewriteKind)
+    (held : Operands → ℕ) → n + 4 ≤ 15 → Replaced n instructions name kind held
+    → DoesTheSame n instructions name kind held
+law n instructions name kind held few replaced =
+    map_some (x86_64_relocation_after kind name) _ _
+    (λ after replaces section original relaxed o operands s before there matches holds was is.
+    lead n (drop (o - n) original) (drop (o - n) relaxed) s
+    (replaces section original relaxed o operands s before there matches holds was is)) replaced

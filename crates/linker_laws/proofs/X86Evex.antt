@@ -1,6 +1,6 @@
 -- Operations with EVEX, on a number from the GOT and on an immediate.
-use Rattle.std.proofs.Common.{◌≡◌, ℕ, ◌+◌, ◌-◌, ◌*◌, ◌%◌, ◌^◌, ◌<◌, ◌≤◌, List, ◌∷◌, ◌++◌, drop}
-use Rattle.std.proofs.Common.{take, refl, sym, ◌∙◌, ap, arith, Some, inl, inr, IsSomeAnd, IsTrue}
+use Rattle.std.proofs.Common.{◌≡◌, ℕ, ◌+◌, ◌-◌, ◌*◌, ◌%◌, ◌^◌, ◌<◌, ◌≤◌, List, [], ◌∷◌, ◌++◌, drop}
+use Rattle.std.proofs.Common.{take, refl, sym, ◌∙◌, ap, arith, Some, inl, inr, IsTrue}
 use Rattle.std.proofs.Common.{Bool, true, false, not, ◌&&◌, ◌||◌, eqb, bit_and, bit_or}
 use Rattle.std.specs.Int.{bit_at}
 use Rattle.std.proofs.lemmas.Bool.{and_parts, or_cases, eqb-true, cond-true, cond-false}
@@ -20,7 +20,7 @@ use Rattle.linker_laws.proofs.Sums.{difference_below}
 use Rattle.linker_laws.specs.X86RewriteLaws.{IsBefore, IsRelocatedBy, thread_offset}
 use Rattle.linker_laws.specs.X86Machine.{State, Operation, ADD, OR, ADC, SBB, AND, XOR, load}
 use Rattle.linker_laws.specs.X86Machine.{extended, reg_of, rm_of, evex_prefix, operate_into}
-use Rattle.linker_laws.specs.X86Machine.{register, relative, immediate, decode, step, is_relative}
+use Rattle.linker_laws.specs.X86Machine.{register, relative, immediate, decode, is_relative}
 use Rattle.linker_laws.specs.X86Machine.{is_register, operation_of, immediate_operation, is_evex}
 use Rattle.linker_laws.specs.X86Machine.{is_map_4, has_no_index, has_zeros, is_in_map_4}
 use Rattle.linker_laws.specs.X86Machine.{is_without_flags, destination_of, v_register, on_evex}
@@ -28,7 +28,7 @@ use Rattle.linker_laws.specs.X86Machine.{evex_modrm, into, Operand, Prefix}
 use Rattle.linker_laws.proofs.X86Bytes.{IsEvexByte, all_below, below, implied, moved_test}
 use Rattle.linker_laws.proofs.X86Bytes.{modrm_byte, IsAfterEvex, after_evex, is_false}
 use Rattle.linker_laws.proofs.X86Codes.{pattern_there, evex_codes}
-use Rattle.linker_laws.proofs.X86Decoding.{lead_to}
+use Rattle.linker_laws.proofs.X86Decoding.{AreReplaced, begun}
 use Rattle.linker_laws.proofs.X86Fields.{got_row, signed_immediate, tls_got_row, thread_row}
 use Rattle.linker_laws.proofs.X86Immediates.{absolute_operands, entry, tls_entry, long_immediate}
 use Rattle.linker_laws.proofs.X86Immediates.{offset_immediate}
@@ -230,41 +230,49 @@ module _ {opcode k number fixed : ℕ} {op : Operation}
     of_code : (second third : ℕ × ℕ) → 6 ≤ o
         → (code : IsAfterEvex opcode second third (drop (o - 6) section))
         → IsInto op code.v code.control
-        → IsSomeAnd (step (drop (o - 6) old) s) (λ t. step (drop (o - 6) new) s ≡ Some t)
-    of_code second third room code says =
+        → AreReplaced 6 (drop (o - 6) old) (drop (o - 6) new) s
+    of_code second third room code says code_old code_new at at' =
         let p = code.registers in
         let v = code.v in
         let c = code.control in
         let m = code.after.modrm in
         let codes = evex_codes section old new rest rest' o whole p v c opcode m 0x81 k
         code.after.rest room (code.is ∙ ap (λ xs. 0x62 ∷ p ∷ v ∷ c ∷ xs) code.after.is) whole' in
-        let f = number_of_bytes 4 rest in
-        let i = number_of_bytes 4 rest' in
+        let b = begun (0x62 ∷ p ∷ v ∷ c ∷ opcode ∷ m ∷ []) rest code_old (at ∙ ap (take 10) codes.0) in
+        let b' = begun
+        (0x62 ∷ x86.evex_reg_to_rm p ∷ v ∷ c ∷ 0x81 ∷ x86.modrm_reg_to_rm k m ∷ []) rest' code_new
+        (at' ∙ ap (take 10) codes.1) in
+        let f = number_of_bytes 4 b.after in
+        let i = number_of_bytes 4 b'.after in
         let e = evex_prefix p v in
         let r = reg_of m + e.reg in
         let without_flags = is_without_flags c in
         let destination = says.destination r in
         let next = sum_64 s.ip 10 in
         let size : IsSize e.bits = size_by (bit_at v 7) in
-        lead_to (drop (o - 6) old) (drop (o - 6) new)
-        (record {
-          instruction = operate_into destination without_flags op e.bits (register r) (relative f);
-          size = 10;
-        })
-        (record {
-          instruction = operate_into destination without_flags op e.bits (register r) (immediate i);
-          size = 10;
-        }) s
-        (ap decode codes.0 ∙ decoded promoted p v c m says code.is_evex code.after.relative rest)
-        (ap decode codes.1 ∙ decoded' promoted p v c m says code.is_evex code.after.relative rest')
-        (same_into op s next e.bits r f i destination without_flags
-        (loaded s next e.bits f operands.got_entry held size
-        (from_next 6 s.ip operands.place (extended f) operands.got_entry (omega arith)
-        before.addresses.place before.addresses.got_entry before.ip leads) holds small
-        ∙ sym (value e.bits size)))
+        record {
+          instruction =
+              operate_into destination without_flags op e.bits (register r) (relative f);
+          instruction' =
+              operate_into destination without_flags op e.bits (register r) (immediate i);
+          was = ap decode b.is ∙ decoded promoted p v c m says code.is_evex code.after.relative b.after;
+          is =
+              ap decode b'.is
+              ∙ decoded' promoted p v c m says code.is_evex code.after.relative b'.after;
+          same =
+              same_into op s next e.bits r f i destination without_flags
+              (loaded s next e.bits f operands.got_entry held size
+              (from_next 6 s.ip operands.place (extended f) operands.got_entry (omega arith)
+              before.addresses.place before.addresses.got_entry before.ip
+              (ap (λ f. sum_64 operands.place (extended f)) b.field ∙ leads)) holds small
+              ∙ sym (ap (λ i. extended i % 2 ^ e.bits) b'.field ∙ value e.bits size));
+          flags = refl;
+          alone = λ memory. refl;
+          goes_on = refl;
+        }
 
     with_evex_of : IsTrue (is_one_at patterns section o)
-        → IsSomeAnd (step (drop (o - 6) old) s) (λ t. step (drop (o - 6) new) s ≡ Some t)
+        → AreReplaced 6 (drop (o - 6) old) (drop (o - 6) new) s
     with_evex_of there =
         let new' = evex_new_destination fixed in
         let same' = evex_same_destination fixed in
@@ -293,7 +301,7 @@ module _ {opcode k number fixed : ℕ} {op : Operation}
       → load 8 s operands.got_entry ≡ operands.symbol
       → IsRelocatedBy got_row operands o section old
       → IsRelocatedBy signed_immediate (absolute_operands o operands) o code_after new
-      → IsSomeAnd (step (drop (o - 6) old) s) (λ t. step (drop (o - 6) new) s ≡ Some t)
+      → AreReplaced 6 (drop (o - 6) old) (drop (o - 6) new) s
   with_evex_prefix there matches holds was is =
       with_evex_of operands.symbol before.addresses.symbol holds was.rest is.rest was.whole is.whole
       (entry 6 section o operands s before (drop o section) was.rest was.applied)
@@ -307,7 +315,7 @@ module _ {opcode k number fixed : ℕ} {op : Operation}
       → load 8 s operands.got_entry ≡ thread_offset operands
       → IsRelocatedBy tls_got_row operands o section old
       → IsRelocatedBy thread_row (absolute_operands o operands) o code_after new
-      → IsSomeAnd (step (drop (o - 6) old) s) (λ t. step (drop (o - 6) new) s ≡ Some t)
+      → AreReplaced 6 (drop (o - 6) old) (drop (o - 6) new) s
   of_thread_with_evex there matches holds was is =
       with_evex_of (thread_offset operands) (difference_below operands.symbol operands.tls_base)
       holds was.rest is.rest was.whole is.whole

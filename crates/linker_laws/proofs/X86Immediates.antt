@@ -1,7 +1,6 @@
 -- Operations on a number from the GOT, and on an immediate.
 use Rattle.std.proofs.Common.{◌≡◌, ℕ, suc, ◌+◌, ◌-◌, ◌*◌, ◌%◌, ◌^◌, ◌<◌, List, [], ◌∷◌, ◌++◌}
 use Rattle.std.proofs.Common.{drop, take, refl, sym, ◌∙◌, ap, arith, Some, subst, inl, inr}
-use Rattle.std.proofs.Common.{IsSomeAnd}
 use Rattle.std.proofs.Common.{IsTrue, true, pos, length, eqb, cond, get_or, drop-cons}
 use Rattle.std.specs.Int.{w64, cast_unsigned}
 use Rattle.std.proofs.lemmas.List.Elements.{All-drop}
@@ -17,20 +16,21 @@ use Rattle.linker_elf.specs.declared.elf.value.Operands.{Operands}
 use Rattle.linker_elf.specs.Applied.{IsApplied}
 use Rattle.linker_laws.specs.Schemes.{AreAddresses}
 use Rattle.linker_laws.proofs.Sums.{difference_below}
+use Rattle.linker_laws.specs.X86Groups.{is_arithmetic, sets_flags}
 use Rattle.linker_laws.specs.X86RewriteLaws.{IsBefore, IsRelocatedBy, thread_offset}
 use Rattle.linker_laws.specs.X86Machine.{State, Prefix, Operation, Instruction, MOV, ADD, OR, ADC}
 use Rattle.linker_laws.specs.X86Machine.{SBB, AND, SUB, XOR, CMP, TEST, load, extended, reg_of}
 use Rattle.linker_laws.specs.X86Machine.{rex_prefix, rex2_prefix, no_prefix, operate, register}
 use Rattle.linker_laws.specs.X86Machine.{relative}
-use Rattle.linker_laws.specs.X86Machine.{immediate, decode, decode_opcode, step}
+use Rattle.linker_laws.specs.X86Machine.{immediate, decode, decode_opcode}
 use Rattle.linker_laws.specs.X86Machine.{execute, sized, operand_value, is_relative}
 use Rattle.linker_laws.specs.X86Machine.{immediate_operation}
 use Rattle.linker_laws.proofs.X86Bytes.{on_relative, after_rex, all_below, moved_test, modrm_byte}
 use Rattle.linker_laws.proofs.X86Bytes.{after_rex2}
 use Rattle.linker_laws.proofs.X86Codes.{pattern_there, immediate_codes, wide_codes}
 use Rattle.linker_laws.proofs.X86Codes.{rex_immediate_codes, rex2_immediate_codes}
-use Rattle.linker_laws.proofs.X86Decoding.{from_relative, from_immediate, after_rex_byte, lead_to}
-use Rattle.linker_laws.proofs.X86Decoding.{after_rex2_byte}
+use Rattle.linker_laws.proofs.X86Decoding.{AreReplaced, Replaces, begun, from_relative}
+use Rattle.linker_laws.proofs.X86Decoding.{from_immediate, after_rex_byte, after_rex2_byte}
 use Rattle.linker_laws.proofs.X86Fields.{entry_field, tls_entry_field, signed_field, got_row}
 use Rattle.linker_laws.proofs.X86Fields.{unsigned_field, thread_field, tls_got_row, thread_row}
 use Rattle.linker_laws.proofs.X86Fields.{signed_immediate, unsigned_immediate, extended_low}
@@ -52,6 +52,7 @@ pub record IsReplaced (opcode opcode' k number : ℕ) (op : Operation) : Type 0 
       → operand_value s next p.bits (relative d) ≡ operand_value s next p.bits (immediate i)
       → execute (instruction p m d) next s
       ≡ execute (operate op p.bits (register (reg_of m + p.reg)) (immediate i)) next s
+  pub flags : (p : Prefix) (m d : ℕ) → sets_flags (instruction p m d) ≡ is_arithmetic op
   pub plain' : (rest : List ℕ)
       → decode (opcode' ∷ rest) ≡ decode_opcode no_prefix (opcode' ∷ rest)
   pub moved : all_below 8 (moved_test k number) ≡ true
@@ -64,6 +65,7 @@ mov =
       plain = λ rest. refl;
       decoded = λ p m rest h. from_relative p 0x8b m rest h;
       same = λ s next m d i p e. same_operation MOV s next p.bits (reg_of m + p.reg) d i e;
+      flags = λ p m d. refl;
       plain' = λ rest. refl;
       moved = refl;
       operation = refl;
@@ -76,6 +78,7 @@ add =
       plain = λ rest. refl;
       decoded = λ p m rest h. from_relative p 0x03 m rest h;
       same = λ s next m d i p e. same_operation ADD s next p.bits (reg_of m + p.reg) d i e;
+      flags = λ p m d. refl;
       plain' = λ rest. refl;
       moved = refl;
       operation = refl;
@@ -88,6 +91,7 @@ or =
       plain = λ rest. refl;
       decoded = λ p m rest h. from_relative p 0x0b m rest h;
       same = λ s next m d i p e. same_operation OR s next p.bits (reg_of m + p.reg) d i e;
+      flags = λ p m d. refl;
       plain' = λ rest. refl;
       moved = refl;
       operation = refl;
@@ -100,6 +104,7 @@ adc =
       plain = λ rest. refl;
       decoded = λ p m rest h. from_relative p 0x13 m rest h;
       same = λ s next m d i p e. same_operation ADC s next p.bits (reg_of m + p.reg) d i e;
+      flags = λ p m d. refl;
       plain' = λ rest. refl;
       moved = refl;
       operation = refl;
@@ -112,6 +117,7 @@ sbb =
       plain = λ rest. refl;
       decoded = λ p m rest h. from_relative p 0x1b m rest h;
       same = λ s next m d i p e. same_operation SBB s next p.bits (reg_of m + p.reg) d i e;
+      flags = λ p m d. refl;
       plain' = λ rest. refl;
       moved = refl;
       operation = refl;
@@ -124,6 +130,7 @@ and =
       plain = λ rest. refl;
       decoded = λ p m rest h. from_relative p 0x23 m rest h;
       same = λ s next m d i p e. same_operation AND s next p.bits (reg_of m + p.reg) d i e;
+      flags = λ p m d. refl;
       plain' = λ rest. refl;
       moved = refl;
       operation = refl;
@@ -136,6 +143,7 @@ sub =
       plain = λ rest. refl;
       decoded = λ p m rest h. from_relative p 0x2b m rest h;
       same = λ s next m d i p e. same_operation SUB s next p.bits (reg_of m + p.reg) d i e;
+      flags = λ p m d. refl;
       plain' = λ rest. refl;
       moved = refl;
       operation = refl;
@@ -148,6 +156,7 @@ xor =
       plain = λ rest. refl;
       decoded = λ p m rest h. from_relative p 0x33 m rest h;
       same = λ s next m d i p e. same_operation XOR s next p.bits (reg_of m + p.reg) d i e;
+      flags = λ p m d. refl;
       plain' = λ rest. refl;
       moved = refl;
       operation = refl;
@@ -160,6 +169,7 @@ cmp =
       plain = λ rest. refl;
       decoded = λ p m rest h. from_relative p 0x3b m rest h;
       same = λ s next m d i p e. same_operation CMP s next p.bits (reg_of m + p.reg) d i e;
+      flags = λ p m d. refl;
       plain' = λ rest. refl;
       moved = refl;
       operation = refl;
@@ -172,6 +182,7 @@ test =
       plain = λ rest. refl;
       decoded = λ p m rest h. from_relative p 0x85 m rest h;
       same = λ s next m d i p e. same_test s next p.bits (reg_of m + p.reg) d i e;
+      flags = λ p m d. refl;
       plain' = λ rest. refl;
       moved = refl;
       operation = refl;
@@ -264,35 +275,48 @@ module _ {opcode opcode' k number : ℕ} {op : Operation}
     (replaced : IsReplaced opcode opcode' k number op) (n : ℕ) (few : n < 8) (section : List ℕ)
     (o : ℕ) (operands : Operands) (s : State) (before : IsBefore n section o operands s) (held : ℕ)
     (small : held < 2 ^ 64) (holds : load 8 s operands.got_entry ≡ held) where
-  both : (old new rest rest' : List ℕ) (m : ℕ) → is_relative m ≡ true → (p p' : Prefix)
-      → p'.bits ≡ p.bits → p'.rm ≡ p.reg → p.size + 6 ≡ n + 4 → p'.size + 6 ≡ n + 4
-      → IsSize p.bits
+  both : (old new rest rest' tail tail' : List ℕ) (m : ℕ) → is_relative m ≡ true
+      → (p p' : Prefix) → p'.bits ≡ p.bits → p'.rm ≡ p.reg → p.size + 6 ≡ n + 4
+      → p'.size + 6 ≡ n + 4 → IsSize p.bits
+      → number_of_bytes 4 tail ≡ number_of_bytes 4 rest
+      → number_of_bytes 4 tail' ≡ number_of_bytes 4 rest'
       → sum_64 operands.place (extended (number_of_bytes 4 rest))
       ≡ sum_64 operands.got_entry (2 ^ 64 - 4)
       → extended (number_of_bytes 4 rest') % 2 ^ p.bits ≡ held % 2 ^ p.bits
-      → decode old ≡ decode_opcode p (opcode ∷ m ∷ rest)
-      → decode new ≡ decode_opcode p' (opcode' ∷ x86.modrm_reg_to_rm k m ∷ rest')
-      → IsSomeAnd (step old s) (λ t. step new s ≡ Some t)
-  both old new rest rest' m by_ip p p' bits moved size size' sized leads value was is =
-      let f = number_of_bytes 4 rest in
-      let i = number_of_bytes 4 rest' in
+      → decode old ≡ decode_opcode p (opcode ∷ m ∷ tail)
+      → decode new ≡ decode_opcode p' (opcode' ∷ x86.modrm_reg_to_rm k m ∷ tail')
+      → Replaces (n + 4) old new s
+  both old new rest rest' tail tail' m by_ip p p' bits moved size size' sized field field' leads value
+      was is =
+      let f = number_of_bytes 4 tail in
+      let i = number_of_bytes 4 tail' in
       let next = sum_64 s.ip (n + 4) in
       let instruction' = operate op p'.bits (register (reg_of m + p'.rm)) (immediate i) in
-      lead_to old new (record { instruction = replaced.instruction p m f; size = n + 4 })
-      (record { instruction = instruction'; size = n + 4 }) s
-      (was ∙ replaced.decoded p m rest by_ip
-      ∙ ap (λ z. Some (record { instruction = replaced.instruction p m f; size = z })) size)
-      (is ∙ from_immediate p' opcode' k number m op rest' (modrm_byte k number m replaced.moved)
-      replaced.operation
-      ∙ ap (λ z. Some (record { instruction = instruction'; size = z })) size')
-      (replaced.same s next m f i p
-      (loaded s next p.bits f operands.got_entry held sized
-      (from_next n s.ip operands.place (extended f) operands.got_entry few before.addresses.place
-      before.addresses.got_entry before.ip leads) holds small ∙ sym value)
-      ∙ ap (λ b. execute (operate op b (register (reg_of m + p.reg)) (immediate i)) next s)
-      (sym bits)
-      ∙ ap (λ r. execute (operate op p'.bits (register (reg_of m + r)) (immediate i)) next s)
-      (sym moved))
+      record {
+        instruction = replaced.instruction p m f;
+        instruction' = instruction';
+        was =
+            was ∙ replaced.decoded p m tail by_ip
+            ∙ ap (λ z. Some (record { instruction = replaced.instruction p m f; size = z })) size;
+        is =
+            is ∙ from_immediate p' opcode' k number m op tail' (modrm_byte k number m replaced.moved)
+            replaced.operation
+            ∙ ap (λ z. Some (record { instruction = instruction'; size = z })) size';
+        same =
+            replaced.same s next m f i p
+            (loaded s next p.bits f operands.got_entry held sized
+            (from_next n s.ip operands.place (extended f) operands.got_entry few
+            before.addresses.place before.addresses.got_entry before.ip
+            (ap (λ f. sum_64 operands.place (extended f)) field ∙ leads)) holds small
+            ∙ sym (ap (λ i. extended i % 2 ^ p.bits) field' ∙ value))
+            ∙ ap (λ b. execute (operate op b (register (reg_of m + p.reg)) (immediate i)) next s)
+            (sym bits)
+            ∙ ap (λ r. execute (operate op p'.bits (register (reg_of m + r)) (immediate i)) next s)
+            (sym moved);
+        flags = replaced.flags p m f;
+        alone = λ memory. refl;
+        goes_on = refl;
+      }
 
 -- ---- the laws
 
@@ -308,21 +332,24 @@ module _ {opcode opcode' k number : ℕ} {op : Operation}
       → IsRelocatedBy got_row operands o section old
       → IsRelocatedBy unsigned_immediate (absolute_operands o operands) o
       (rewritten (Some (absolute 2 (operand opcode' k))) section o) new
-      → IsSomeAnd (step (drop (o - 2) old) s) (λ t. step (drop (o - 2) new) s ≡ Some t)
-  without_prefix before there matches holds was is =
+      → AreReplaced 2 (drop (o - 2) old) (drop (o - 2) new) s
+  without_prefix before there matches holds was is code_old code_new at at' =
       let shape = pattern_there (original 2 (rip_operand opcode)) section o there in
       let code = on_relative opcode (drop (o - 2) section)
       (All-drop (λ b. b < 2 ^ 8) (o - 2) section before.bytes) shape.1 in
       let codes = immediate_codes section old new was.rest is.rest o was.whole opcode code.modrm
       opcode' k code.rest shape.0 code.is is.whole in
+      let b = begun (opcode ∷ code.modrm ∷ []) was.rest code_old (at ∙ ap (take 6) codes.0) in
+      let b' = begun (opcode' ∷ x86.modrm_reg_to_rm k code.modrm ∷ []) is.rest code_new
+      (at' ∙ ap (take 6) codes.1) in
       both replaced 2 (omega arith) section o operands s before operands.symbol
-      before.addresses.symbol holds (drop (o - 2) old) (drop (o - 2) new) was.rest is.rest
-      code.modrm code.relative no_prefix no_prefix refl refl refl refl (inl refl)
+      before.addresses.symbol holds code_old code_new was.rest is.rest b.after b'.after
+      code.modrm code.relative no_prefix no_prefix refl refl refl refl (inl refl) b.field b'.field
       (entry 2 section o operands s before (drop o section) was.rest was.applied)
       (short_immediate 2 section o operands s before
       (drop o (rewritten (Some (absolute 2 (operand opcode' k))) section o)) is.rest is.applied)
-      (ap decode codes.0 ∙ replaced.plain (code.modrm ∷ was.rest))
-      (ap decode codes.1 ∙ replaced.plain' (x86.modrm_reg_to_rm k code.modrm ∷ is.rest))
+      (ap decode b.is ∙ replaced.plain (code.modrm ∷ b.after))
+      (ap decode b'.is ∙ replaced.plain' (x86.modrm_reg_to_rm k code.modrm ∷ b'.after))
 
   -- the same by a rewrite that has the byte before the instruction in its window
   pub within_window : IsBefore 2 section o operands s
@@ -333,8 +360,8 @@ module _ {opcode opcode' k number : ℕ} {op : Operation}
       → IsRelocatedBy got_row operands o section old
       → IsRelocatedBy unsigned_immediate (absolute_operands o operands) o
       (rewritten (Some (absolute 3 (prefixed_operand 2 opcode' k))) section o) new
-      → IsSomeAnd (step (drop (o - 2) old) s) (λ t. step (drop (o - 2) new) s ≡ Some t)
-  within_window before there matches holds was is =
+      → AreReplaced 2 (drop (o - 2) old) (drop (o - 2) new) s
+  within_window before there matches holds was is code_old code_new at at' =
       let room = matches.0.starts in
       let inside = matches.0.ends in
       let shape = pattern_there (original 2 (rip_operand opcode)) section o there in
@@ -348,15 +375,18 @@ module _ {opcode opcode' k number : ℕ} {op : Operation}
       ∙ ap (λ xs. get_or section (o - 3) 0 ∷ xs) code.is in
       let codes = wide_codes section old new was.rest is.rest o was.whole
       (get_or section (o - 3) 0) opcode code.modrm opcode' k code.rest room front is.whole in
+      let b = begun (opcode ∷ code.modrm ∷ []) was.rest code_old (at ∙ ap (take 6) codes.0) in
+      let b' = begun (opcode' ∷ x86.modrm_reg_to_rm k code.modrm ∷ []) is.rest code_new
+      (at' ∙ ap (take 6) codes.1) in
       both replaced 2 (omega arith) section o operands s before operands.symbol
-      before.addresses.symbol holds (drop (o - 2) old) (drop (o - 2) new) was.rest is.rest
-      code.modrm code.relative no_prefix no_prefix refl refl refl refl (inl refl)
+      before.addresses.symbol holds code_old code_new was.rest is.rest b.after b'.after
+      code.modrm code.relative no_prefix no_prefix refl refl refl refl (inl refl) b.field b'.field
       (entry 2 section o operands s before (drop o section) was.rest was.applied)
       (short_immediate 2 section o operands s before
       (drop o (rewritten (Some (absolute 3 (prefixed_operand 2 opcode' k))) section o)) is.rest
       is.applied)
-      (ap decode codes.0 ∙ replaced.plain (code.modrm ∷ was.rest))
-      (ap decode codes.1 ∙ replaced.plain' (x86.modrm_reg_to_rm k code.modrm ∷ is.rest))
+      (ap decode b.is ∙ replaced.plain (code.modrm ∷ b.after))
+      (ap decode b'.is ∙ replaced.plain' (x86.modrm_reg_to_rm k code.modrm ∷ b'.after))
 
   -- with REX, by what the fields come to
   with_rex_of : (held : ℕ) → held < 2 ^ 64 → IsBefore 3 section o operands s
@@ -368,8 +398,9 @@ module _ {opcode opcode' k number : ℕ} {op : Operation}
       ≡ sum_64 operands.got_entry (2 ^ 64 - 4)
       → ((bits : ℕ) → IsSize bits
       → extended (number_of_bytes 4 rest') % 2 ^ bits ≡ held % 2 ^ bits)
-      → IsSomeAnd (step (drop (o - 3) old) s) (λ t. step (drop (o - 3) new) s ≡ Some t)
-  with_rex_of held small before there holds rest rest' whole whole' leads value =
+      → AreReplaced 3 (drop (o - 3) old) (drop (o - 3) new) s
+  with_rex_of held small before there holds rest rest' whole whole' leads value code_old code_new at
+      at' =
       let shape = pattern_there (with_rex rex opcode) section o there in
       let code = after_rex opcode (drop (o - 3) section)
       (All-drop (λ b. b < 2 ^ 8) (o - 3) section before.bytes) shape.1 in
@@ -378,13 +409,16 @@ module _ {opcode opcode' k number : ℕ} {op : Operation}
       let codes = rex_immediate_codes section old new rest rest' o whole p opcode m opcode' k
       code.after.rest shape.0 (code.is ∙ ap (λ xs. p ∷ xs) code.after.is) whole' in
       let p' = x86.rex_r_to_b p in
-      both replaced 3 (omega arith) section o operands s before held small holds (drop (o - 3) old)
-      (drop (o - 3) new) rest rest' m code.after.relative (rex_prefix p) (rex_prefix p')
+      let b = begun (p ∷ opcode ∷ m ∷ []) rest code_old (at ∙ ap (take 7) codes.0) in
+      let b' = begun (p' ∷ opcode' ∷ x86.modrm_reg_to_rm k m ∷ []) rest' code_new
+      (at' ∙ ap (take 7) codes.1) in
+      both replaced 3 (omega arith) section o operands s before held small holds code_old code_new
+      rest rest' b.after b'.after m code.after.relative (rex_prefix p) (rex_prefix p')
       (ap (λ w. cond (eqb w 1) 64 32) code.is_rex.wide) (ap (λ r. 8 * r) code.is_rex.moved) refl refl
-      (rex_size p) leads (value (rex_prefix p).bits (rex_size p))
-      (ap decode codes.0 ∙ after_rex_byte p (opcode ∷ m ∷ rest) code.is_rex.is)
-      (ap decode codes.1
-      ∙ after_rex_byte p' (opcode' ∷ x86.modrm_reg_to_rm k m ∷ rest') code.is_rex.after)
+      (rex_size p) b.field b'.field leads (value (rex_prefix p).bits (rex_size p))
+      (ap decode b.is ∙ after_rex_byte p (opcode ∷ m ∷ b.after) code.is_rex.is)
+      (ap decode b'.is
+      ∙ after_rex_byte p' (opcode' ∷ x86.modrm_reg_to_rm k m ∷ b'.after) code.is_rex.after)
 
   pub with_rex_prefix : IsBefore 3 section o operands s
       → IsTrue (is_one_at (with_rex rex opcode ∷ []) section o)
@@ -394,7 +428,7 @@ module _ {opcode opcode' k number : ℕ} {op : Operation}
       → IsRelocatedBy got_row operands o section old
       → IsRelocatedBy signed_immediate (absolute_operands o operands) o
       (rewritten (Some (absolute 3 (prefixed_operand 3 opcode' k))) section o) new
-      → IsSomeAnd (step (drop (o - 3) old) s) (λ t. step (drop (o - 3) new) s ≡ Some t)
+      → AreReplaced 3 (drop (o - 3) old) (drop (o - 3) new) s
   with_rex_prefix before there matches holds was is =
       with_rex_of operands.symbol before.addresses.symbol before there holds was.rest is.rest
       was.whole is.whole (entry 3 section o operands s before (drop o section) was.rest was.applied)
@@ -410,7 +444,7 @@ module _ {opcode opcode' k number : ℕ} {op : Operation}
       → IsRelocatedBy tls_got_row operands o section old
       → IsRelocatedBy thread_row (absolute_operands o operands) o
       (rewritten (Some (absolute 3 (prefixed_operand 3 opcode' k))) section o) new
-      → IsSomeAnd (step (drop (o - 3) old) s) (λ t. step (drop (o - 3) new) s ≡ Some t)
+      → AreReplaced 3 (drop (o - 3) old) (drop (o - 3) new) s
   of_thread before there matches holds was is =
       with_rex_of (thread_offset operands) (difference_below operands.symbol operands.tls_base)
       before there holds was.rest is.rest was.whole is.whole
@@ -429,8 +463,9 @@ module _ {opcode opcode' k number : ℕ} {op : Operation}
       ≡ sum_64 operands.got_entry (2 ^ 64 - 4)
       → ((bits : ℕ) → IsSize bits
       → extended (number_of_bytes 4 rest') % 2 ^ bits ≡ held % 2 ^ bits)
-      → IsSomeAnd (step (drop (o - 4) old) s) (λ t. step (drop (o - 4) new) s ≡ Some t)
-  with_rex2_of held small before there holds rest rest' whole whole' leads value =
+      → AreReplaced 4 (drop (o - 4) old) (drop (o - 4) new) s
+  with_rex2_of held small before there holds rest rest' whole whole' leads value code_old code_new
+      at at' =
       let shape = pattern_there (with_rex2 rex2 opcode) section o there in
       let code = after_rex2 opcode (drop (o - 4) section)
       (All-drop (λ b. b < 2 ^ 8) (o - 4) section before.bytes) shape.1 in
@@ -439,13 +474,16 @@ module _ {opcode opcode' k number : ℕ} {op : Operation}
       let codes = rex2_immediate_codes section old new rest rest' o whole p opcode m opcode' k
       code.after.rest shape.0 (code.is ∙ ap (λ xs. 0xd5 ∷ p ∷ xs) code.after.is) whole' in
       let p' = x86.rex2_r_to_b p in
-      both replaced 4 (omega arith) section o operands s before held small holds (drop (o - 4) old)
-      (drop (o - 4) new) rest rest' m code.after.relative (rex2_prefix p) (rex2_prefix p')
+      let b = begun (0xd5 ∷ p ∷ opcode ∷ m ∷ []) rest code_old (at ∙ ap (take 8) codes.0) in
+      let b' = begun (0xd5 ∷ p' ∷ opcode' ∷ x86.modrm_reg_to_rm k m ∷ []) rest' code_new
+      (at' ∙ ap (take 8) codes.1) in
+      both replaced 4 (omega arith) section o operands s before held small holds code_old code_new
+      rest rest' b.after b'.after m code.after.relative (rex2_prefix p) (rex2_prefix p')
       (ap (λ w. cond (eqb w 1) 64 32) code.is_rex2.wide) code.is_rex2.moved refl refl
-      (rex2_size p) leads (value (rex2_prefix p).bits (rex2_size p))
-      (ap decode codes.0 ∙ after_rex2_byte p (opcode ∷ m ∷ rest) code.is_rex2.is)
-      (ap decode codes.1
-      ∙ after_rex2_byte p' (opcode' ∷ x86.modrm_reg_to_rm k m ∷ rest') code.is_rex2.after)
+      (rex2_size p) b.field b'.field leads (value (rex2_prefix p).bits (rex2_size p))
+      (ap decode b.is ∙ after_rex2_byte p (opcode ∷ m ∷ b.after) code.is_rex2.is)
+      (ap decode b'.is
+      ∙ after_rex2_byte p' (opcode' ∷ x86.modrm_reg_to_rm k m ∷ b'.after) code.is_rex2.after)
 
   pub with_rex2_prefix : IsBefore 4 section o operands s
       → IsTrue (is_one_at (with_rex2 rex2 opcode ∷ []) section o)
@@ -455,7 +493,7 @@ module _ {opcode opcode' k number : ℕ} {op : Operation}
       → IsRelocatedBy got_row operands o section old
       → IsRelocatedBy signed_immediate (absolute_operands o operands) o
       (rewritten (Some (absolute 3 (prefixed_operand 4 opcode' k))) section o) new
-      → IsSomeAnd (step (drop (o - 4) old) s) (λ t. step (drop (o - 4) new) s ≡ Some t)
+      → AreReplaced 4 (drop (o - 4) old) (drop (o - 4) new) s
   with_rex2_prefix before there matches holds was is =
       with_rex2_of operands.symbol before.addresses.symbol before there holds was.rest is.rest
       was.whole is.whole (entry 4 section o operands s before (drop o section) was.rest was.applied)
@@ -471,7 +509,7 @@ module _ {opcode opcode' k number : ℕ} {op : Operation}
       → IsRelocatedBy tls_got_row operands o section old
       → IsRelocatedBy thread_row (absolute_operands o operands) o
       (rewritten (Some (absolute 3 (prefixed_operand 4 opcode' k))) section o) new
-      → IsSomeAnd (step (drop (o - 4) old) s) (λ t. step (drop (o - 4) new) s ≡ Some t)
+      → AreReplaced 4 (drop (o - 4) old) (drop (o - 4) new) s
   of_thread_with_rex2 before there matches holds was is =
       with_rex2_of (thread_offset operands) (difference_below operands.symbol operands.tls_base)
       before there holds was.rest is.rest was.whole is.whole

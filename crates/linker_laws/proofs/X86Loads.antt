@@ -1,6 +1,6 @@
 -- Loads of addresses from the GOT, and `lea`.
-use Rattle.std.proofs.Common.{◌≡◌, ℕ, ◌+◌, ◌-◌, ◌^◌, ◌<◌, List, ◌∷◌, drop, refl}
-use Rattle.std.proofs.Common.{sym, ◌∙◌, ap, arith, Some, subst, inl, inr, IsSomeAnd, eqb, ℤ}
+use Rattle.std.proofs.Common.{◌≡◌, ℕ, ◌+◌, ◌-◌, ◌^◌, ◌<◌, List, [], ◌∷◌, take, drop, refl}
+use Rattle.std.proofs.Common.{sym, ◌∙◌, ap, ap₂, arith, Some, subst, inl, inr, eqb, ℤ}
 use Rattle.std.proofs.Common.{if◌then◌else◌}
 use Rattle.std.specs.Int.{w64, cast_unsigned, bit_at}
 use Rattle.std.proofs.lemmas.List.Elements.{All-drop}
@@ -17,13 +17,14 @@ use Rattle.linker_elf.specs.declared.x86_64.relocations.X86_64Relocation.TheVari
 use Rattle.linker_utils.specs.declared.x86_64.rewrites.RewriteKind.TheVariants as kinds
 use Rattle.linker_elf.specs.Applied.{IsApplied}
 use Rattle.linker_laws.specs.Schemes.{AreAddresses}
-use Rattle.linker_laws.specs.X86RewriteLaws.{IsBefore, DoesTheSame, address}
+use Rattle.linker_laws.specs.X86RewriteLaws.{IsBefore, address}
 use Rattle.linker_laws.specs.X86Machine.{State, load, extended, reg_of, rex_prefix, no_prefix, MOV}
 use Rattle.linker_laws.specs.X86Machine.{rex2_prefix}
-use Rattle.linker_laws.specs.X86Machine.{operate, register, relative, lea, decode, step}
+use Rattle.linker_laws.specs.X86Machine.{operate, register, relative, lea, decode}
 use Rattle.linker_laws.proofs.X86Bytes.{on_relative, after_rex, after_rex2}
 use Rattle.linker_laws.proofs.X86Codes.{pattern_there, lea_codes, rex_lea_codes, rex2_lea_codes}
-use Rattle.linker_laws.proofs.X86Decoding.{from_relative, after_rex_byte, after_rex2_byte, lead_to}
+use Rattle.linker_laws.proofs.X86Decoding.{Replaced, Replaces, begun, from_relative}
+use Rattle.linker_laws.proofs.X86Decoding.{after_rex_byte, after_rex2_byte}
 use Rattle.linker_laws.proofs.X86Fields.{entry_field, place_field, got_row, place_row}
 use Rattle.linker_laws.proofs.X86Values.{IsSize, loaded, same_load}
 
@@ -71,60 +72,68 @@ module _ (n : ℕ) (few : n < 8) (section : List ℕ) (o : ℕ) (operands : Oper
     (before : IsBefore n section o operands s)
     (held : load 8 s operands.got_entry ≡ operands.symbol) where
   -- what both instructions do, by the code from their first bytes
-  both : (old new rest rest' : List ℕ) (bits r : ℕ) → IsSize bits
+  both : (old new rest rest' : List ℕ) (bits r f f' : ℕ) → IsSize bits
+      → f ≡ number_of_bytes 4 rest → f' ≡ number_of_bytes 4 rest'
       → IsApplied got_row operands (drop o section) rest
       → IsApplied place_row (operands_after (x86_64_rewrite kinds.MovIndirectToLea) o operands)
       (drop o (rewritten (x86_64_rewrite kinds.MovIndirectToLea) section o)) rest'
       → decode old ≡ Some (record {
-        instruction = operate MOV bits (register r) (relative (number_of_bytes 4 rest));
+        instruction = operate MOV bits (register r) (relative f);
         size = n + 4;
       })
-      → decode new ≡ Some (record {
-        instruction = lea bits r (number_of_bytes 4 rest');
-        size = n + 4;
-      })
-      → IsSomeAnd (step old s) (λ t. step new s ≡ Some t)
-  both old new rest rest' bits r size was is was_decoded is_decoded =
+      → decode new ≡ Some (record { instruction = lea bits r f'; size = n + 4 })
+      → Replaces (n + 4) old new s
+  both old new rest rest' bits r f f' size f_is f_is' was is was_decoded is_decoded =
       let place = operands.place in
       let same = same_place place o before.addresses.place before.offset in
-      let f = number_of_bytes 4 rest in
-      let f' = number_of_bytes 4 rest' in
       let after = operands_after (x86_64_rewrite kinds.MovIndirectToLea) o operands in
       let addresses' = at_place operands (difference_64 (sum_64 place o) o) operands.addend
       before.addresses (subst (λ p. p < 2 ^ 64) (sym same) before.addresses.place) in
-      let entry = entry_field operands before.addresses (drop o section) rest was
+      let entry = ap (λ f. sum_64 place (extended f)) f_is
+      ∙ entry_field operands before.addresses (drop o section) rest was
       ∙ ap (λ a. sum_64 operands.got_entry (cast_unsigned w64 a)) before.addend in
-      let target = ap (λ p. sum_64 p (extended f')) (sym same)
+      let target = ap₂ (λ p f. sum_64 p (extended f)) (sym same) f_is'
       ∙ place_field after addresses'
       (drop o (rewritten (x86_64_rewrite kinds.MovIndirectToLea) section o)) rest' is
       ∙ ap (λ a. sum_64 operands.symbol (cast_unsigned w64 a)) before.addend in
       let next = sum_64 s.ip (n + 4) in
-      lead_to old new
-      (record { instruction = operate MOV bits (register r) (relative f); size = n + 4 })
-      (record { instruction = lea bits r f'; size = n + 4 }) s was_decoded is_decoded
-      (same_load s next bits r f f' operands.symbol
-      (loaded s next bits f operands.got_entry operands.symbol size
-      (from_next n s.ip place (extended f) operands.got_entry few before.addresses.place
-      before.addresses.got_entry before.ip entry) held before.addresses.symbol)
-      (from_next n s.ip place (extended f') operands.symbol few before.addresses.place
-      before.addresses.symbol before.ip target))
+      record {
+        instruction = operate MOV bits (register r) (relative f);
+        instruction' = lea bits r f';
+        was = was_decoded;
+        is = is_decoded;
+        same =
+            same_load s next bits r f f' operands.symbol
+            (loaded s next bits f operands.got_entry operands.symbol size
+            (from_next n s.ip place (extended f) operands.got_entry few before.addresses.place
+            before.addresses.got_entry before.ip entry) held before.addresses.symbol)
+            (from_next n s.ip place (extended f') operands.symbol few before.addresses.place
+            before.addresses.symbol before.ip target);
+        flags = refl;
+        alone = λ memory. refl;
+        goes_on = refl;
+      }
 
-pub without_prefix : DoesTheSame 2 (legacy 2 0x8b) names.R_X86_64_GOTPCRELX kinds.MovIndirectToLea
+pub without_prefix : Replaced 2 (legacy 2 0x8b) names.R_X86_64_GOTPCRELX kinds.MovIndirectToLea
     address
-without_prefix section old new o operands s before there matches held was is =
+without_prefix section old new o operands s before there matches held was is code_old code_new at at' =
     let shape = pattern_there (original 2 (rip_operand 0x8b)) section o there in
     let d = drop (o - 2) section in
     let code = on_relative 0x8b d (All-drop (λ b. b < 2 ^ 8) (o - 2) section before.bytes) shape.1 in
-    let codes = lea_codes section old new was.rest is.rest o was.whole 0x8b code.modrm code.rest
+    let m = code.modrm in
+    let codes = lea_codes section old new was.rest is.rest o was.whole 0x8b m code.rest
     shape.0 code.is is.whole in
-    both 2 (omega arith) section o operands s before held (drop (o - 2) old) (drop (o - 2) new)
-    was.rest is.rest 32 (reg_of code.modrm + 0) (inl refl) was.applied is.applied
-    (ap decode codes.0 ∙ from_relative no_prefix 0x8b code.modrm was.rest code.relative)
-    (ap decode codes.1 ∙ from_relative no_prefix 0x8d code.modrm is.rest code.relative)
+    let b = begun (0x8b ∷ m ∷ []) was.rest code_old (at ∙ ap (take 6) codes.0) in
+    let b' = begun (0x8d ∷ m ∷ []) is.rest code_new (at' ∙ ap (take 6) codes.1) in
+    both 2 (omega arith) section o operands s before held code_old code_new was.rest is.rest 32
+    (reg_of m + 0) (number_of_bytes 4 b.after) (number_of_bytes 4 b'.after) (inl refl) b.field
+    b'.field was.applied is.applied
+    (ap decode b.is ∙ from_relative no_prefix 0x8b m b.after code.relative)
+    (ap decode b'.is ∙ from_relative no_prefix 0x8d m b'.after code.relative)
 
-pub with_rex_prefix : DoesTheSame 3 (legacy 3 0x8b) names.R_X86_64_REX_GOTPCRELX
+pub with_rex_prefix : Replaced 3 (legacy 3 0x8b) names.R_X86_64_REX_GOTPCRELX
     kinds.MovIndirectToLea address
-with_rex_prefix section old new o operands s before there matches held was is =
+with_rex_prefix section old new o operands s before there matches held was is code_old code_new at at' =
     let shape = pattern_there (with_rex rex 0x8b) section o there in
     let d = drop (o - 3) section in
     let code = after_rex 0x8b d (All-drop (λ b. b < 2 ^ 8) (o - 3) section before.bytes) shape.1 in
@@ -132,21 +141,23 @@ with_rex_prefix section old new o operands s before there matches held was is =
     let m = code.after.modrm in
     let codes = rex_lea_codes section old new was.rest is.rest o was.whole p 0x8b m 0x8d code.after.rest
     shape.0 (code.is ∙ ap (λ xs. p ∷ xs) code.after.is) is.whole in
-    both 3 (omega arith) section o operands s before held (drop (o - 3) old) (drop (o - 3) new)
-    was.rest is.rest (rex_prefix p).bits (reg_of m + (rex_prefix p).reg) (rex_size p) was.applied
-    is.applied
-    (ap decode codes.0 ∙ after_rex_byte p (0x8b ∷ m ∷ was.rest) code.is_rex.is
-    ∙ from_relative (rex_prefix p) 0x8b m was.rest code.after.relative)
-    (ap decode codes.1 ∙ after_rex_byte p (0x8d ∷ m ∷ is.rest) code.is_rex.is
-    ∙ from_relative (rex_prefix p) 0x8d m is.rest code.after.relative)
+    let b = begun (p ∷ 0x8b ∷ m ∷ []) was.rest code_old (at ∙ ap (take 7) codes.0) in
+    let b' = begun (p ∷ 0x8d ∷ m ∷ []) is.rest code_new (at' ∙ ap (take 7) codes.1) in
+    both 3 (omega arith) section o operands s before held code_old code_new was.rest is.rest
+    (rex_prefix p).bits (reg_of m + (rex_prefix p).reg) (number_of_bytes 4 b.after)
+    (number_of_bytes 4 b'.after) (rex_size p) b.field b'.field was.applied is.applied
+    (ap decode b.is ∙ after_rex_byte p (0x8b ∷ m ∷ b.after) code.is_rex.is
+    ∙ from_relative (rex_prefix p) 0x8b m b.after code.after.relative)
+    (ap decode b'.is ∙ after_rex_byte p (0x8d ∷ m ∷ b'.after) code.is_rex.is
+    ∙ from_relative (rex_prefix p) 0x8d m b'.after code.after.relative)
 
 -- the same row
-pub of_any_load : DoesTheSame 3 (legacy 3 0x8b) names.R_X86_64_GOTPCREL kinds.MovIndirectToLea address
+pub of_any_load : Replaced 3 (legacy 3 0x8b) names.R_X86_64_GOTPCREL kinds.MovIndirectToLea address
 of_any_load = with_rex_prefix
 
-pub with_rex2_prefix : DoesTheSame 4 (legacy 4 0x8b) names.R_X86_64_CODE_4_GOTPCRELX
+pub with_rex2_prefix : Replaced 4 (legacy 4 0x8b) names.R_X86_64_CODE_4_GOTPCRELX
     kinds.MovIndirectToLea address
-with_rex2_prefix section old new o operands s before there matches held was is =
+with_rex2_prefix section old new o operands s before there matches held was is code_old code_new at at' =
     let shape = pattern_there (with_rex2 rex2 0x8b) section o there in
     let d = drop (o - 4) section in
     let code = after_rex2 0x8b d (All-drop (λ b. b < 2 ^ 8) (o - 4) section before.bytes) shape.1 in
@@ -154,10 +165,12 @@ with_rex2_prefix section old new o operands s before there matches held was is =
     let m = code.after.modrm in
     let codes = rex2_lea_codes section old new was.rest is.rest o was.whole p 0x8b m 0x8d
     code.after.rest shape.0 (code.is ∙ ap (λ xs. 0xd5 ∷ p ∷ xs) code.after.is) is.whole in
-    both 4 (omega arith) section o operands s before held (drop (o - 4) old) (drop (o - 4) new)
-    was.rest is.rest (rex2_prefix p).bits (reg_of m + (rex2_prefix p).reg) (rex2_size p)
-    was.applied is.applied
-    (ap decode codes.0 ∙ after_rex2_byte p (0x8b ∷ m ∷ was.rest) code.is_rex2.is
-    ∙ from_relative (rex2_prefix p) 0x8b m was.rest code.after.relative)
-    (ap decode codes.1 ∙ after_rex2_byte p (0x8d ∷ m ∷ is.rest) code.is_rex2.is
-    ∙ from_relative (rex2_prefix p) 0x8d m is.rest code.after.relative)
+    let b = begun (0xd5 ∷ p ∷ 0x8b ∷ m ∷ []) was.rest code_old (at ∙ ap (take 8) codes.0) in
+    let b' = begun (0xd5 ∷ p ∷ 0x8d ∷ m ∷ []) is.rest code_new (at' ∙ ap (take 8) codes.1) in
+    both 4 (omega arith) section o operands s before held code_old code_new was.rest is.rest
+    (rex2_prefix p).bits (reg_of m + (rex2_prefix p).reg) (number_of_bytes 4 b.after)
+    (number_of_bytes 4 b'.after) (rex2_size p) b.field b'.field was.applied is.applied
+    (ap decode b.is ∙ after_rex2_byte p (0x8b ∷ m ∷ b.after) code.is_rex2.is
+    ∙ from_relative (rex2_prefix p) 0x8b m b.after code.after.relative)
+    (ap decode b'.is ∙ after_rex2_byte p (0x8d ∷ m ∷ b'.after) code.is_rex2.is
+    ∙ from_relative (rex2_prefix p) 0x8d m b'.after code.after.relative)

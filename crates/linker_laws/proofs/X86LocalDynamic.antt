@@ -76,7 +76,7 @@ abbrev loaded : ℕ → State → State
 loaded next s = execute (load_thread 0 0) next s
 
 -- the argument of the call
-argument : (section : List ℕ) (o : ℕ) (operands : Operands) (s : State) (bytes rest : List ℕ)
+pub argument : (section : List ℕ) (o : ℕ) (operands : Operands) (s : State) (bytes rest : List ℕ)
     → IsBefore 3 section o operands s → IsApplied tls_module_row operands bytes rest
     → sum_64 (sum_64 s.ip 7) (extended (number_of_bytes 4 rest)) ≡ operands.got_entry
 argument section o operands s bytes rest before applied =
@@ -143,7 +143,7 @@ module _ (len size count : ℕ) (put : List ℕ) (offset : ℕ → ℕ) (section
             },
       ))
 
-abbrev load_bytes : List ℕ
+abbrev pub load_bytes : List ℕ
 load_bytes = 0x64 ∷ 0x48 ∷ 0x8b ∷ 0x04 ∷ 0x25 ∷ 0 ∷ 0 ∷ 0 ∷ 0 ∷ []
 
 twelve : (ip : ℕ) → sum_64 (sum_64 ip 7) 5 ≡ sum_64 ip 12
@@ -180,7 +180,7 @@ by_got = (
 )
 
 -- `data16 data16 data16 cs nopw 0(%rax,%rax,1)`
-abbrev nop_bytes : List ℕ
+abbrev pub nop_bytes : List ℕ
 nop_bytes =
     0x66 ∷ 0x66 ∷ 0x66 ∷ 0x66 ∷ 0x2e ∷ 0x0f ∷ 0x1f ∷ 0x84 ∷ 0 ∷ 0 ∷ 0 ∷ 0 ∷ 0 ∷ []
 

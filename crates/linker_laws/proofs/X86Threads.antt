@@ -60,7 +60,7 @@ load_bytes opcode modrm =
 abbrev pub plain_lea_bytes : List ℕ
 plain_lea_bytes = 0x48 ∷ 0x8d ∷ 0x3d ∷ []
 
-abbrev lea_bytes : List ℕ
+abbrev pub lea_bytes : List ℕ
 lea_bytes = 0x66 ∷ plain_lea_bytes
 
 abbrev by_plt : Original
@@ -84,7 +84,7 @@ starts_with back lead ps section o bytes h =
           (All-drop (λ b. b < 2 ^ 8) (o - back) section bytes) both.1,
     )
 
-begins_with_lea : (section : List ℕ) (o : ℕ) → All (λ b. b < 2 ^ 8) section
+pub begins_with_lea : (section : List ℕ) (o : ℕ) → All (λ b. b < 2 ^ 8) section
     → IsTrue (is_one_at general_dynamic section o)
     → (4 ≤ o) × ((rest : List ℕ) × (drop (o - 4) section ≡ lea_bytes ++ rest))
 begins_with_lea section o bytes h =
@@ -157,7 +157,7 @@ pub record Codes (old new : List ℕ) (at : ℕ) (lead bytes : List ℕ) : Type 
   pub first : drop at old ≡ lead
   pub second : drop at new ≡ bytes
 
-codes : (section old new rest rest' : List ℕ) (o opcode modrm : ℕ) (addend : ℤ → ℤ)
+pub codes : (section old new rest rest' : List ℕ) (o opcode modrm : ℕ) (addend : ℤ → ℤ)
     → All (λ b. b < 2 ^ 8) section → IsTrue (is_one_at general_dynamic section o)
     → old ≡ take o section ++ rest
     → new ≡ take (o + 8)
@@ -236,13 +236,13 @@ local_exec section old new o operands s changed returned before matches thread r
     )
 
 -- from the place of a field 8 bytes on, of the second instruction
-from_second : (ip place o e t : ℕ) → 4 ≤ o → o < 2 ^ 64 → place < 2 ^ 64 → t < 2 ^ 64
+pub from_second : (ip place o e t : ℕ) → 4 ≤ o → o < 2 ^ 64 → place < 2 ^ 64 → t < 2 ^ 64
     → ip ≡ difference_64 place 4
     → sum_64 (difference_64 (sum_64 place (o + 8)) o) e ≡ sum_64 t (2 ^ 64 - 4)
     → sum_64 (sum_64 (sum_64 ip 9) 7) e ≡ t
 from_second ip place o e t room offset small target begins leads = omega arith
 
-added : (a b fs offset : ℕ) → fs < 2 ^ 64 → a ≡ fs → b ≡ offset
+pub added : (a b fs offset : ℕ) → fs < 2 ^ 64 → a ≡ fs → b ≡ offset
     → (a % 2 ^ 64 + b + 0) % 2 ^ 64 ≡ sum_64 fs offset
 added a b fs offset small first second = omega arith
 

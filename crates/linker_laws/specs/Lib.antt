@@ -26,6 +26,8 @@ pub mod Schemes
 pub mod Simulation
 pub mod SimulationWorked
 pub mod X86Examples
+pub mod X86Groups
+pub mod X86GroupsWorked
 pub mod X86Machine
 pub mod X86RelocationLaws
 pub mod X86RewriteLaws

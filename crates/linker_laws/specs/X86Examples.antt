@@ -7,7 +7,7 @@ use Rattle.std.specs.Prelude.{length, IsTrue, IsSomeAnd, Some, None}
 use Rattle.linker_laws.specs.X86Machine.{Operation, MOV, ADD, OR, ADC, SBB, AND, SUB, XOR, CMP}
 use Rattle.linker_laws.specs.X86Machine.{TEST, Instruction, operate, operate_into, lea, lea_from}
 use Rattle.linker_laws.specs.X86Machine.{load_thread, call, jump, nop, direct}
-use Rattle.linker_laws.specs.X86Machine.{indirect, register, relative, immediate, decode, step}
+use Rattle.linker_laws.specs.X86Machine.{indirect, through, register, relative, immediate, decode, step}
 use Rattle.linker_laws.specs.X86Machine.{Flags, State, result, flags_after, bit_of, load}
 use Rattle.linker_laws.specs.X86Machine.{writes}
 
@@ -94,6 +94,9 @@ Decoding =
     -- `call *0x10(%rip)`
     × DecodesAs (0xff ∷ 0x15 ∷ 0x10 ∷ 0x00 ∷ 0x00 ∷ 0x00 ∷ [])
     (call (indirect 0x10))
+    -- `call *(%rax)`, and `call *(%r9)`
+    × DecodesAs (0xff ∷ 0x10 ∷ []) (call (through 0))
+    × DecodesAs (0x41 ∷ 0xff ∷ 0x11 ∷ []) (call (through 9))
     -- `addr32 call .+0x16`
     × DecodesAs (0x67 ∷ 0xe8 ∷ 0x10 ∷ 0x00 ∷ 0x00 ∷ 0x00 ∷ [])
     (call (direct 0x10))

@@ -145,10 +145,12 @@ pub data Operand : Type 0 where
   -- 32 bits
   immediate : ℕ → Operand
 
--- where a branch goes: so far from the next instruction, or to the address that is loaded there
+-- where a branch goes: so far from the next instruction, or to the address that is loaded there, or
+-- from a register's address
 pub data Target : Type 0 where
   direct : ℕ → Target
   indirect : ℕ → Target
+  through : ℕ → Target
 
 pub data Instruction : Type 0 where
   -- of n bits, into the first operand
@@ -184,6 +186,7 @@ write_operand (immediate i) number s = s.register
 abbrev pub target_address : State → ℕ → Target → ℕ
 target_address s next (direct d) = sum_64 next (extended d)
 target_address s next (indirect d) = load 8 s (sum_64 next (extended d))
+target_address s next (through r) = load 8 s (s.register r)
 
 -- the state after an operation on two numbers, of which the first is that of an operand
 abbrev pub perform : Operation → ℕ → Operand → ℕ → ℕ → ℕ → State → State
@@ -408,12 +411,14 @@ decode_relative p opcode m rest =
     else (if (opcode == 0xff) && (reg_of m == 4) then sized p 6 (jump (indirect d))
     else on_relative p m (operation_of opcode) rest)))
 
--- LEA of mod 10, with no SIB byte
+-- LEA of mod 10, and CALL by ff of mod 00, with no SIB byte
 abbrev pub decode_based : Prefix → ℕ → ℕ → List ℕ → Option Decoded
 decode_based p opcode m rest =
     if (opcode == 0x8d) && ((mod_of m == 2) && not (rm_of m == 4))
     then sized p 6 (lea_from p.bits (reg_of m + p.reg) (rm_of m + p.rm) (number_of_bytes 4 rest))
-    else None
+    else (if ((opcode == 0xff) && (reg_of m == 2)) && ((mod_of m == 0) && not (rm_of m == 4))
+    then sized p 2 (call (through (rm_of m + p.rm)))
+    else None)
 
 abbrev pub decode_modrm : Prefix → ℕ → List ℕ → Option Decoded
 decode_modrm p opcode [] = None

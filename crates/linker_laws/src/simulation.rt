@@ -13,6 +13,8 @@ ghost use Rattle.linker_laws.specs.RiscVGroups as riscv_groups;
 ghost use Rattle.linker_laws.specs.RiscVGroupsWorked as riscv_worked;
 ghost use Rattle.linker_laws.specs.Simulation as simulation;
 ghost use Rattle.linker_laws.specs.SimulationWorked as worked;
+ghost use Rattle.linker_laws.specs.X86Groups as x86_groups;
+ghost use Rattle.linker_laws.specs.X86GroupsWorked as x86_worked;
 
 /// Wherever a covered run of the object's code is outside a group, the run of the linked code
 /// agrees. It stops where the object's stops, and has no end where that has none. A run that one
@@ -83,4 +85,19 @@ pub fn loongarch64_worked()
     ensures worked { loongarch_worked.IsWorked }
 {
     loongarch64();
+}
+
+/// x86-64: rewritten instructions are groups, whatever the machine's other instructions do: loads
+/// of addresses and operations on numbers from the GOT, also of initial-exec, calls and jumps by a
+/// GOT entry. General- and local-dynamic TLS and descriptors are in `rewrites::x86_64` alone.
+pub fn x86_64()
+    ensures groups { x86_groups.Groups }
+{}
+
+/// x86-64: a program with three groups, of which every premise holds. Both of its runs are computed
+/// to the end.
+pub fn x86_64_worked()
+    ensures worked { x86_worked.IsWorked }
+{
+    x86_64();
 }

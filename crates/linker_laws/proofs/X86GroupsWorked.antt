@@ -1,0 +1,269 @@
+-- The worked program of x86-64.
+use Rattle.std.proofs.Common.{◌≡◌, ℕ, ◌+◌, ◌-◌, ◌*◌, ◌^◌, ◌<◌, Bool, true, false, refl, sym, ap, subst}
+use Rattle.std.proofs.Common.{arith, List, [], ◌∷◌, Some, lit<, lit≤, pos, negsuc, inl, inr, ltb-true, ltb-false}
+use Rattle.std.specs.Prelude.{◌&&◌, All, IsSomeAnd, nat_lt, if◌then◌else◌}
+use Rattle.std.specs.Option.{unwrap_or}
+use Rattle.std.proofs.lemmas.Bool.{and_parts}
+use Rattle.std.proofs.lemmas.Int.{ints}
+use Rattle.std.proofs.lemmas.List.Elements.{All-nil, All-cons}
+use Rattle.linker_elf.specs.Value.{difference_64}
+use Rattle.linker_elf.specs.declared.elf.value.Operands.{Operands}
+use Rattle.linker_laws.specs.Schemes.{AreAddresses}
+use Rattle.linker_laws.specs.Simulation.{Agree, AreOf, Group, State, anything, ends, group, of_link}
+use Rattle.linker_laws.specs.Simulation.{same}
+use Rattle.linker_laws.specs.X86Groups.{Groups, IsKnownAfter, KeepsRegisters, bytes_at, called, does, link}
+use Rattle.linker_laws.specs.X86Groups.{machine}
+use Rattle.linker_laws.specs.X86GroupsWorked.{IsWorked, bytes, code, entries, is_entry, known, new}
+use Rattle.linker_laws.specs.X86GroupsWorked.{no_entries, starting}
+
+-- ---- operands and bytes
+
+abbrev operands : ℕ → ℕ → ℕ → Operands
+operands symbol place got_entry =
+    record {
+      symbol = symbol;
+      addend = negsuc 3;
+      place = place;
+      got_entry = got_entry;
+      got_base = 0;
+      plt_entry = 0;
+      symbol_size = 0;
+      tls_base = 0x405000;
+      has_got_entry = true;
+      has_plt_entry = false;
+      has_tls_base = true;
+    }
+
+abbrev of_a : Operands
+of_a = operands 0x404020 0x401003 0x404000
+
+abbrev of_x : Operands
+of_x = operands 0x404ff0 0x40100a 0x404008
+
+abbrev of_f : Operands
+of_f = operands 0x401020 0x401010 0x404010
+
+small : (o : Operands) → o.symbol < 2 ^ 64 → o.place < 2 ^ 64 → o.got_entry < 2 ^ 64 → o.got_base < 2 ^ 64
+    → o.plt_entry < 2 ^ 64 → o.tls_base < 2 ^ 64 → AreAddresses o
+small o a b c d e f =
+    record { symbol = a; place = b; got_entry = c; got_base = d; plt_entry = e; tls_base = f }
+
+abbrev all_small : List ℕ → Bool
+all_small [] = true
+all_small (b ∷ bytes) = nat_lt b 256 && all_small bytes
+
+are_bytes : (bytes : List ℕ) → all_small bytes ≡ true → All (λ b. b < 2 ^ 8) bytes
+are_bytes [] e = All-nil _
+are_bytes (b ∷ bytes) e =
+    let both = and_parts (nat_lt b 256) (all_small bytes) e in
+    All-cons (λ b. b < 2 ^ 8) b bytes (ltb-true b 256 both.0) (are_bytes bytes both.1)
+
+-- ---- what the object has
+
+abbrev mov : List ℕ
+mov = 0x48 ∷ 0x8b ∷ 0x05 ∷ 0x00 ∷ 0x00 ∷ 0x00 ∷ 0x00 ∷ []
+
+abbrev add : List ℕ
+add = 0x48 ∷ 0x03 ∷ 0x0d ∷ 0x00 ∷ 0x00 ∷ 0x00 ∷ 0x00 ∷ []
+
+abbrev call : List ℕ
+call = 0xff ∷ 0x15 ∷ 0x00 ∷ 0x00 ∷ 0x00 ∷ 0x00 ∷ []
+
+-- ---- runs
+
+keeps : (s s' : State) → machine code.others code.old s ≡ Some s' → KeepsRegisters code known s (λ r. same) s'
+keeps s s' goes t agree =
+    subst (λ (registers : ℕ → ℕ).
+    IsSomeAnd (machine code.others code.old (record s { registers = registers }))
+    (λ u. (r : ℕ) → s'.registers r ≡ u.registers r)) (λ i r. agree.registers r i)
+    (subst (λ o. IsSomeAnd o (λ u. (r : ℕ) → s'.registers r ≡ u.registers r)) (sym goes) (λ r. refl))
+
+starts : Agree (link code) known (starting entries) (starting no_entries)
+starts =
+    record {
+      small = lit< tt;
+      pc = refl;
+      registers = λ r. refl;
+      memory = λ a below.
+          subst (λ b. AreOf (link code) 1 (if is_entry a then anything else same) (entries b + 256 * 0)
+          (0 + 256 * 0)) (let e : a ≡ a - 0 = omega arith in e) (by (is_entry a) _);
+      outside = refl;
+    }
+  where
+    by : (b : Bool) (x : ℕ)
+        → AreOf (link code) 1 (if b then anything else same) ((if b then x else 0) + 256 * 0) (0 + 256 * 0)
+    by true x = tt
+    by false x = refl
+
+abbrev s0 : State
+s0 = starting entries
+
+abbrev s1 : State
+s1 = unwrap_or (machine code.others code.old s0) s0
+
+abbrev s2 : State
+s2 = unwrap_or (machine code.others code.old s1) s1
+
+abbrev s3 : State
+s3 = called 0x401020 0x401014 s2
+
+p1 : Groups → Group (of_link (link code)) 1 known s0 known s1
+p1 g =
+    g.loads.0.1 code s0 mov (0x48 ∷ 0x8b ∷ 0x05 ∷ 0xf9 ∷ 0x2f ∷ 0x00 ∷ 0x00 ∷ [])
+    (0x48 ∷ 0x8d ∷ 0x05 ∷ 0x19 ∷ 0x30 ∷ 0x00 ∷ 0x00 ∷ []) 3 of_a
+    (record {
+      bytes = are_bytes mov refl;
+      offset = lit< tt;
+      addresses = small of_a (lit< tt) (lit< tt) (lit< tt) (lit< tt) (lit< tt) (lit< tt);
+      addend = refl;
+      ip = refl;
+    })
+    refl (record { starts = lit≤ tt; ends = lit≤ tt; admitted = refl }, refl)
+    (record {
+      rest = 0xf9 ∷ 0x2f ∷ 0x00 ∷ 0x00 ∷ [];
+      applied = record {
+        value = pos 0x2ff9;
+        value_is = refl;
+        accepted = record {
+          supported = refl;
+          long = lit≤ tt;
+          aligned = (refl, tt, tt);
+          reached = ((omega (arith, ints), omega (arith, ints)), tt, tt);
+        };
+        written = refl;
+      };
+      whole = refl;
+    })
+    (record {
+      rest = 0x19 ∷ 0x30 ∷ 0x00 ∷ 0x00 ∷ [];
+      applied = record {
+        value = pos 0x3019;
+        value_is = refl;
+        accepted = record {
+          supported = refl;
+          long = lit≤ tt;
+          aligned = (refl, tt, tt);
+          reached = ((omega (arith, ints), omega (arith, ints)), tt, tt);
+        };
+        written = refl;
+      };
+      whole = refl;
+    })
+    refl refl refl known (λ r. same) (keeps s0 s1 refl)
+
+p2 : Groups → Group (of_link (link code)) 1 known s1 known s2
+p2 g =
+    g.thread.1.0 code s1 add (0x48 ∷ 0x03 ∷ 0x0d ∷ 0xfa ∷ 0x2f ∷ 0x00 ∷ 0x00 ∷ [])
+    (0x48 ∷ 0x81 ∷ 0xc1 ∷ 0xf0 ∷ 0xff ∷ 0xff ∷ 0xff ∷ []) 3 of_x
+    (record {
+      bytes = are_bytes add refl;
+      offset = lit< tt;
+      addresses = small of_x (lit< tt) (lit< tt) (lit< tt) (lit< tt) (lit< tt) (lit< tt);
+      addend = refl;
+      ip = refl;
+    })
+    refl (record { starts = lit≤ tt; ends = lit≤ tt; admitted = refl }, refl)
+    (record {
+      rest = 0xfa ∷ 0x2f ∷ 0x00 ∷ 0x00 ∷ [];
+      applied = record {
+        value = pos 0x2ffa;
+        value_is = refl;
+        accepted = record {
+          supported = refl;
+          long = lit≤ tt;
+          aligned = (refl, tt, tt);
+          reached = ((omega (arith, ints), omega (arith, ints)), tt, tt);
+        };
+        written = refl;
+      };
+      whole = refl;
+    })
+    (record {
+      rest = 0xf0 ∷ 0xff ∷ 0xff ∷ 0xff ∷ [];
+      applied = record {
+        value = negsuc 15;
+        value_is = refl;
+        accepted = record {
+          supported = refl;
+          long = lit≤ tt;
+          aligned = (refl, tt, tt);
+          reached = ((omega (arith, ints), omega (arith, ints)), tt, tt);
+        };
+        written = refl;
+      };
+      whole = refl;
+    })
+    refl refl refl known (λ r. same) (keeps s1 s2 refl)
+
+-- The pushed bytes are no entry's.
+known_after : (a : ℕ) → IsKnownAfter 0x7ff8 (known.memory a) (known.memory a) a
+known_after a = by (nat_lt (difference_64 a 0x7ff8) 8) refl
+  where
+    by : (b : Bool) → nat_lt (difference_64 a 0x7ff8) 8 ≡ b → IsKnownAfter 0x7ff8 (known.memory a) (known.memory a) a
+    by true e =
+        let below = ltb-true (difference_64 a 0x7ff8) 8 e in
+        let none : is_entry a ≡ false = grind (arith, below) in
+        inl (below, ap (λ b. record { kind = if b then anything else same; bytes = 1; below = 0 }) none)
+    by false e =
+        let above = ltb-false (difference_64 a 0x7ff8) 8 e in
+        inr (inr (refl, λ i one. omega arith))
+
+p3 : Groups → Group (of_link (link code)) 1 known s2 known s3
+p3 g =
+    g.branches.0 code s2 call (0xff ∷ 0x15 ∷ 0xfc ∷ 0x2f ∷ 0x00 ∷ 0x00 ∷ [])
+    (0x67 ∷ 0xe8 ∷ 0x0c ∷ 0x00 ∷ 0x00 ∷ 0x00 ∷ []) 2 of_f
+    (record {
+      bytes = are_bytes call refl;
+      offset = lit< tt;
+      addresses = small of_f (lit< tt) (lit< tt) (lit< tt) (lit< tt) (lit< tt) (lit< tt);
+      addend = refl;
+      ip = refl;
+    })
+    refl (record { starts = lit≤ tt; ends = lit≤ tt; admitted = refl }, refl)
+    (record {
+      rest = 0xfc ∷ 0x2f ∷ 0x00 ∷ 0x00 ∷ [];
+      applied = record {
+        value = pos 0x2ffc;
+        value_is = refl;
+        accepted = record {
+          supported = refl;
+          long = lit≤ tt;
+          aligned = (refl, tt, tt);
+          reached = ((omega (arith, ints), omega (arith, ints)), tt, tt);
+        };
+        written = refl;
+      };
+      whole = refl;
+    })
+    (record {
+      rest = 0x0c ∷ 0x00 ∷ 0x00 ∷ 0x00 ∷ [];
+      applied = record {
+        value = pos 0xc;
+        value_is = refl;
+        accepted = record {
+          supported = refl;
+          long = lit≤ tt;
+          aligned = (refl, tt, tt);
+          reached = ((omega (arith, ints), omega (arith, ints)), tt, tt);
+        };
+        written = refl;
+      };
+      whole = refl;
+    })
+    refl refl refl known known refl refl (λ a below. known_after a)
+
+pub is_worked : Groups → IsWorked
+is_worked g =
+    record {
+      state = s3;
+      agree = starts;
+      covered =
+          group 2 1 2 _ _ _ _ _ _ (p1 g) (group 1 1 1 _ _ _ _ _ _ (p2 g)
+          (group 0 1 0 _ _ _ _ _ _ (p3 g) (ends _ _)));
+      stops = record {
+        old_stops = refl;
+        new_stops = λ t agree. ap (λ a. does code.others (bytes_at 15 (bytes new) a) t) agree.pc;
+      };
+      old_ends = record { pc = refl; rax = refl; rcx = refl; carry = refl; pushed = refl };
+      new_ends = record { pc = refl; rax = refl; rcx = refl; carry = refl; pushed = refl };
+    }
