@@ -9,7 +9,7 @@ use crate::rewriting::{RewritingError, WritingError};
 #[cfg(feature = "riscv64")]
 use crate::riscv64::{CallError, JumpError, PackError, RejectedCall};
 use crate::runs::{Fault, ItemError, ItemFault, ItemsError, RejectedItem, RewrittenItemsError};
-use crate::section::{self, RelocationError, SectionError};
+use crate::section::{self, CrelError, RelocationError, SectionError};
 use crate::utils::Uleb128Error;
 use core::error::Error;
 use core::fmt::{Display, Formatter, Result};
@@ -103,6 +103,18 @@ impl Display for RelrError {
 }
 
 impl Error for RelrError {}
+
+impl Display for CrelError {
+    fn fmt(&self, f: &mut Formatter<'_>) -> Result {
+        match self {
+            CrelError::CutOff(at) => write!(f, "the section ends in the number at {at:#x}, or there"),
+            CrelError::TooLarge(at) => write!(f, "the number at {at:#x} has more than 64 bits"),
+            CrelError::TooShort(needed) => write!(f, "the slice has fewer than {needed}"),
+        }
+    }
+}
+
+impl Error for CrelError {}
 
 impl Display for PropertyError {
     fn fmt(&self, f: &mut Formatter<'_>) -> Result {

@@ -5,6 +5,7 @@
 
 mod ascending;
 mod conditions;
+pub mod crel;
 pub mod facts;
 mod fields;
 pub mod needed;

@@ -10,7 +10,7 @@ use linker_utils::riscv64::{CallError, JumpError};
 use linker_utils::runs::{
     Fault, ItemError, ItemFault, ItemsError, RejectedItem, RewrittenItemsError,
 };
-use linker_utils::section::{self, RelocationError, SectionError};
+use linker_utils::section::{self, CrelError, RelocationError, SectionError};
 use linker_utils::utils::{self, Uleb128Error};
 use std::error::Error;
 
@@ -93,6 +93,13 @@ fn errors_of_packed_relocations_are_printed() {
     assert_eq!(texts(RelrError::NoAddress), ["no address is before the first bitmap"]);
     assert_eq!(texts(RelrError::Wraps), ["an address of a bitmap is past 2^64 - 1"]);
     assert_eq!(texts(RelrError::TooShort(3)), ["the slice has fewer than 3"]);
+}
+
+#[test]
+fn errors_of_compact_relocations_are_printed() {
+    assert_eq!(texts(CrelError::CutOff(16)), ["the section ends in the number at 0x10, or there"]);
+    assert_eq!(texts(CrelError::TooLarge(16)), ["the number at 0x10 has more than 64 bits"]);
+    assert_eq!(texts(CrelError::TooShort(3)), ["the slice has fewer than 3"]);
 }
 
 #[test]

@@ -17,5 +17,4 @@ pub mod Unique
 pub mod Untouched
 pub mod Whole
 pub mod WholeWords
-pub mod Windows
 pub mod WordsNoted

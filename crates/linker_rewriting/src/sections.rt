@@ -21,9 +21,9 @@ use crate::decisions::{AsDecision, Decision, FromDeletion, RewritingError, decid
 use crate::facts::{NO_ADDRESSES, OutputFacts, RelaxContext, SymbolFacts};
 use crate::groups::UnrelaxableGroups;
 use crate::phases::Phase;
-use crate::relocations::{relocation_in, set_relocation};
+use crate::relocations::relocation_in;
 use linker_section::facts::{Addresses, Symbol};
-use linker_section::relocations::{Rela, relocations_len};
+use linker_section::relocations::{Rela, relocations_len, set_relocation};
 use linker_utils::elf::{Architecture, InstructionRewrite};
 
 /// Rewrites the instruction of a relocation as decided. The relocation becomes the one after it.

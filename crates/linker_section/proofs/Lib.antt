@@ -2,6 +2,7 @@ pub mod All
 pub mod Claims
 pub mod RowFacts
 pub mod Composing
+pub mod Crels
 pub mod Exact
 pub mod Faults
 pub mod Fielded
@@ -20,4 +21,5 @@ pub mod Sorted
 pub mod Stepping
 pub mod Ulebs
 pub mod Valued
+pub mod Windows
 pub mod Writing

@@ -1,4 +1,5 @@
 pub mod Conditions
+pub mod Crel
 pub mod Fields
 pub mod Inner
 pub mod Needed

@@ -1,10 +1,12 @@
 //! Relocations as ELF files have them.
 
-ghost use Rattle.std.specs.Prelude.{◌≡◌, ◌+◌, ◌*◌, ◌≤◌, ◌<◌, ◌/◌, ◌↔◌, ℕ, IsTrue, length, drop};
+ghost use Rattle.std.specs.Prelude.{◌≡◌, ◌+◌, ◌*◌, ◌≤◌, ◌<◌, ◌/◌, ◌↔◌, ◌≢◌, ℕ, IsTrue, length};
+ghost use Rattle.std.specs.Prelude.{drop};
 ghost use Rattle.std.specs.Int.{w32, w64, from_le_bytes};
 ghost use Rattle.linker_section.specs.Relocations.{relocation_of, relocation_in, relocation_at};
 ghost use Rattle.linker_section.specs.Values.{offset_at, IsAscending};
 
+use linker_base::rewrite::overwrite;
 use linker_base::utils::{u32_from_slice, u64_from_slice};
 
 /// The length of a relocation in a file, of an `Elf64_Rela`.
@@ -86,6 +88,31 @@ pub(crate) fn relocation_in(relocations: &[u8], index: usize) -> Rela
     ensures { result ≡ relocation_in relocations.now index }
 {
     relocation_of(&relocations[index * RELA_LEN..][..RELA_LEN])
+}
+
+/// Writes a relocation to its 24 bytes.
+#[inline(always)]
+fn write_relocation(entry: &mut [u8], relocation: &Rela)
+    requires { length entry.old ≡ 24 }
+    ensures { relocation_of entry.new ≡ relocation.now }
+{
+    let addend = relocation.addend.cast_unsigned();
+    overwrite(entry, 0, &relocation.offset.to_le_bytes());
+    overwrite(entry, 8, &relocation.code.to_le_bytes());
+    overwrite(entry, 12, &relocation.symbol.to_le_bytes());
+    overwrite(entry, 16, &addend.to_le_bytes());
+}
+
+/// Overwrites the relocation with an index below `relocations_len`. All others stay.
+#[inline(always)]
+pub fn set_relocation(relocations: &mut [u8], index: usize, relocation: &Rela)
+    requires { index < length relocations.old / 24 }
+    ensures set { relocation_in relocations.new index ≡ relocation.now }
+    ensures others { (n : ℕ) → n < length relocations.old / 24 → n ≢ index
+        → relocation_in relocations.new n ≡ relocation_in relocations.old n }
+{
+    let at = index * RELA_LEN;
+    write_relocation(&mut relocations[at..at + RELA_LEN], relocation);
 }
 
 /// The relocation at an index of the bytes of a section of relocations, which are little-endian and

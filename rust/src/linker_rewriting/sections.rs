@@ -7,9 +7,9 @@ use crate::linker_rewriting::decisions::{AsDecision, Decision, FromDeletion, Rew
 use crate::linker_rewriting::facts::{NO_ADDRESSES, OutputFacts, RelaxContext, SymbolFacts};
 use crate::linker_rewriting::groups::UnrelaxableGroups;
 use crate::linker_rewriting::phases::Phase;
-use crate::linker_rewriting::relocations::{relocation_in, set_relocation};
+use crate::linker_rewriting::relocations::relocation_in;
 use crate::linker_section::facts::{Addresses, Symbol};
-use crate::linker_section::relocations::{Rela, relocations_len};
+use crate::linker_section::relocations::{Rela, relocations_len, set_relocation};
 use crate::elf::{Architecture, InstructionRewrite};
 
 /// Rewrites the instruction of a relocation as decided. The relocation becomes the one after it.

@@ -2,6 +2,7 @@
 // Made by tools/generate of crates/linker_section/src/relocations.rt.
 //! Relocations as ELF files have them.
 
+use crate::linker_base::rewrite::overwrite;
 use crate::linker_base::utils::{u32_from_slice, u64_from_slice};
 
 /// The length of a relocation in a file, of an `Elf64_Rela`.
@@ -67,6 +68,29 @@ pub(crate) fn relocations_from(relocations: &[u8], index: usize) -> &[u8] {
 #[inline(always)]
 pub(crate) fn relocation_in(relocations: &[u8], index: usize) -> Rela {
     relocation_of(&relocations[index * RELA_LEN..][..RELA_LEN])
+}
+
+/// Writes a relocation to its 24 bytes.
+#[inline(always)]
+fn write_relocation(entry: &mut [u8], relocation: &Rela) {
+    let addend = relocation.addend as u64;
+    overwrite(entry, 0, &relocation.offset.to_le_bytes());
+    overwrite(entry, 8, &relocation.code.to_le_bytes());
+    overwrite(entry, 12, &relocation.symbol.to_le_bytes());
+    overwrite(entry, 16, &addend.to_le_bytes());
+}
+
+/// Overwrites the relocation with an index below `relocations_len`. All others stay.
+///
+/// # Requires
+///
+/// - `index < relocations_len(relocations)`
+#[cfg_attr(debug_assertions, track_caller)]
+#[inline(always)]
+pub fn set_relocation(relocations: &mut [u8], index: usize, relocation: &Rela) {
+    debug_assert!(index < relocations_len(relocations));
+    let at = index * RELA_LEN;
+    write_relocation(&mut relocations[at..at + RELA_LEN], relocation);
 }
 
 /// The relocation at an index of the bytes of a section of relocations, which are little-endian and

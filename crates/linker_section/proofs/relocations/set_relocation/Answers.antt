@@ -1,8 +1,8 @@
 use Rattle.std.proofs.Common.{rules, ◌≡◌, ◌≢◌, ℕ, ◌+◌, ◌-◌, ◌*◌, ◌<◌, ◌≤◌, ◌⊎◌, inl, inr, ap, arith, List, length, take, drop, ◌++◌, ◌∙◌, append_assoc, sym}
 use Rattle.std.proofs.lemmas.List.{drop-drop, length-append, length-drop, length-take-le}
 use Rattle.linker_section.specs.Relocations.{relocation_of, relocation_in}
-use Rattle.linker_rewriting.proofs.Windows.{IsReplaced, in_window, below_window, above_window}
-use Rattle.linker_rewriting.proofs.relocations.set_relocation.Goals as goal
+use Rattle.linker_section.proofs.Windows.{IsReplaced, in_window, below_window, above_window}
+use Rattle.linker_section.proofs.relocations.set_relocation.Goals as goal
 use borrow.Rule.Slice.PartMut.{put_mid}
 
 replaced : (at k : ℕ) (xs ys : List ℕ) → k ≡ 24 → at + 24 ≤ length xs → length ys ≡ 24

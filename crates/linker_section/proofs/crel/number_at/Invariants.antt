@@ -1,0 +1,10 @@
+use Rattle.std.proofs.Common.{◌≡◌}
+use Rattle.linker_base.specs.Uleb.{AllContinue}
+use Rattle.linker_base.proofs.UlebLemmas.{low_groups}
+use Rattle.linker_section.proofs.crel.number_at.Given as goal
+
+abbrev pub invariant-loop-i : goal.invariant-loop-i
+invariant-loop-i l = record {
+  continue : AllContinue l.i l.bytes;
+  value : l.low ≡ low_groups l.bytes l.i;
+}
