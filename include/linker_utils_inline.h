@@ -533,6 +533,44 @@ static inline uint32_t linker_utils_read_uleb128(
         LINKER_UTILS_SLICE(const uint8_t, bytes), bytes_len, value, consumed);
 }
 
+uint32_t linker_utils_decide_rewrites_nonnull(
+    uint16_t machine, const struct linker_utils_output_facts *output,
+    const struct linker_utils_symbol_facts *symbols, size_t symbols_len,
+    const struct linker_utils_unrelaxable_groups *kept, size_t kept_len, const uint8_t *relocations,
+    size_t relocations_len, const uint8_t *section, size_t section_len,
+    struct linker_utils_decision *decisions, size_t decisions_len, size_t *faulty);
+static inline uint32_t linker_utils_decide_rewrites(
+    const struct linker_utils_link *link, const struct linker_utils_object *object,
+    const struct linker_utils_section *section, const struct linker_utils_rewritten *rewritten,
+    size_t *faulty) {
+    size_t ignored;
+    const struct linker_utils_output_facts output = {link->is_executable, link->is_fixed,
+        link->has_near_symbols};
+    return linker_utils_decide_rewrites_nonnull(
+        link->machine, &output,
+        LINKER_UTILS_SLICE(const struct linker_utils_symbol_facts, object->facts),
+        object->facts_len,
+        LINKER_UTILS_SLICE(const struct linker_utils_unrelaxable_groups, object->unrelaxable_groups),
+        object->unrelaxable_groups_len, LINKER_UTILS_RELAS(const uint8_t, section->relocations),
+        LINKER_UTILS_SLICE(const uint8_t, section->bytes), section->bytes_len,
+        LINKER_UTILS_SLICE(struct linker_utils_decision, rewritten->decisions),
+        rewritten->decisions_len, faulty ? faulty : &ignored);
+}
+
+uint32_t linker_utils_make_rewrites_nonnull(
+    uint8_t *relocations, size_t relocations_len, uint8_t *section, size_t section_len,
+    const struct linker_utils_decision *decisions, size_t decisions_len, size_t *faulty);
+static inline uint32_t linker_utils_make_rewrites(
+    const struct linker_utils_section *section, const struct linker_utils_rewritten *rewritten,
+    size_t *faulty) {
+    size_t ignored;
+    return linker_utils_make_rewrites_nonnull(
+        LINKER_UTILS_RELAS(uint8_t, section->relocations),
+        LINKER_UTILS_SLICE(uint8_t, section->bytes), section->bytes_len,
+        LINKER_UTILS_SLICE(const struct linker_utils_decision, rewritten->decisions),
+        rewritten->decisions_len, faulty ? faulty : &ignored);
+}
+
 uint32_t linker_utils_snapshot_facts_nonnull(
     const struct linker_utils_output_facts *output, const struct linker_utils_symbol_facts *symbols,
     size_t symbols_len, struct linker_utils_facts_snapshot *kept, size_t kept_len);

@@ -4,7 +4,7 @@
 use crate::elf::{Architecture, RelocateError, WriteError};
 use crate::linker_base::relaxation::{AsDeletion, RelaxDelta};
 use crate::linker_output::got::Origins;
-use crate::linker_rewriting::decisions::{AsDecision, FromDeletion, RewritingError};
+use crate::linker_rewriting::decisions::{AsDecision, DecisionError, FromDeletion, RewritingError};
 use crate::linker_rewriting::facts::{OutputFacts, SymbolFacts};
 use crate::linker_rewriting::groups::UnrelaxableGroups;
 use crate::linker_rewriting::kept::{self, FactsSnapshot};
@@ -337,6 +337,71 @@ pub fn rewrite_section<B: AsMut<[u8]>, R: AsMut<[u8]>, D: AsDecision>(
         &link.output(),
         object.facts,
         object.unrelaxable_groups,
+        section.relocations.as_mut(),
+        section.bytes.as_mut(),
+        decisions,
+    )
+}
+
+//= linker_rewriting::sections::decide_rewrites: kept = unrelaxable_groups
+///
+/// ```
+/// use linker_utils::elf::Architecture;
+/// use linker_utils::rewriting::{Decision, DecisionError, UnrelaxableGroups, SymbolFacts};
+/// use linker_utils::rewriting::{decide_rewrites, make_rewrites};
+/// use linker_utils::section::{Link, Object, Section};
+///
+/// // call *f@GOTPCREL(%rip), with R_X86_64_GOTPCRELX of symbol 1 at 2, becomes addr32 call f
+/// let mut relocations = [0; 24];
+/// (relocations[0], relocations[8], relocations[12]) = (2, 41, 1);
+/// relocations[16..].copy_from_slice(&(-4i64).to_le_bytes());
+/// let input = Section::new([0xff, 0x15, 0, 0, 0, 0], relocations);
+/// let link = Link {
+///     is_executable: true,
+///     has_near_symbols: true,
+///     ..Link::new(Architecture::X86_64)
+/// };
+/// let object = Object {
+///     facts: &[SymbolFacts::default(), SymbolFacts { is_local: true, ..SymbolFacts::default() }],
+///     unrelaxable_groups: &[UnrelaxableGroups::default(); 2],
+///     ..Object::default()
+/// };
+/// let mut decisions = [Decision::Kept];
+/// decide_rewrites(&link, &object, &input, &mut decisions).unwrap();
+///
+/// let mut output = Section::new(input.bytes, input.relocations);
+/// assert_eq!(make_rewrites(&mut output, &decisions), Ok(()));
+/// assert_eq!(output.bytes, [0x67, 0xe8, 0, 0, 0, 0]);
+/// // R_X86_64_PC32
+/// assert_eq!(output.relocations[8], 2);
+/// // the instruction isn't the one that was decided on
+/// assert_eq!(make_rewrites(&mut output, &decisions), Err(DecisionError::Changed(0)));
+/// ```
+#[inline]
+pub fn decide_rewrites<B: AsRef<[u8]>, R: AsRef<[u8]>, D: AsDecision>(
+    link: &Link,
+    object: &Object<'_>,
+    section: &Section<B, R>,
+    decisions: &mut [D],
+) -> Result<(), RewritingError> {
+    crate::linker_rewriting::sections::decide_rewrites(
+        link.architecture,
+        &link.output(),
+        object.facts,
+        object.unrelaxable_groups,
+        section.relocations.as_ref(),
+        section.bytes.as_ref(),
+        decisions,
+    )
+}
+
+//= linker_rewriting::sections::make_rewrites
+#[inline]
+pub fn make_rewrites<B: AsMut<[u8]>, R: AsMut<[u8]>, D: AsDecision>(
+    section: &mut Section<B, R>,
+    decisions: &[D],
+) -> Result<(), DecisionError> {
+    crate::linker_rewriting::sections::make_rewrites(
         section.relocations.as_mut(),
         section.bytes.as_mut(),
         decisions,

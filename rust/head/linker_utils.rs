@@ -71,7 +71,9 @@ pub mod source {
         pub use crate::linker_rewriting::kept::{
             WritingError, snapshot_facts, relocate_rewritten_section,
         };
-        pub use crate::linker_rewriting::sections::{rewrite_placed_section, rewrite_section};
+        pub use crate::linker_rewriting::sections::{
+            decide_rewrites, make_rewrites, rewrite_placed_section, rewrite_section,
+        };
         pub use crate::linker_rewriting::surveys::{survey, survey_placed_section};
         pub use crate::linker_rewriting::toc_indirection::{rewrite_toc_loads, survey_toc_loads};
         pub use crate::rewriting::*;
@@ -151,13 +153,13 @@ pub mod section {
 pub mod rewriting {
     #![doc = include_str!("../doc/rewriting.md")]
     pub use crate::link::{
-        Words, WritingError, first_changed, finish_gp_relaxation, snapshot_facts,
-        relocate_rewritten_section, rewrite_toc_loads, rewrite_global_pointer,
+        Words, WritingError, decide_rewrites, first_changed, finish_gp_relaxation, make_rewrites,
+        snapshot_facts, relocate_rewritten_section, rewrite_toc_loads, rewrite_global_pointer,
         rewrite_placed_section, rewrite_section, survey, survey_toc_loads,
         survey_global_pointer, survey_placed_section,
     };
     pub use crate::linker_rewriting::decisions::{
-        AsDecision, Decision, FromDeletion, RewritingError, Subject,
+        AsDecision, Decision, DecisionError, FromDeletion, RewritingError, Subject,
     };
     pub use crate::linker_rewriting::facts::SymbolFacts;
     pub use crate::linker_rewriting::global_pointer::{GPREL_I, GPREL_S};

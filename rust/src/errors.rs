@@ -5,7 +5,7 @@ use crate::elf::{ApplyError, FormulaError, RelocateError, Uleb128PairError, Writ
 use crate::output::{PropertyError, RelrError, RouteError, StubError};
 use crate::placement::PlaceError;
 use crate::relaxation::{OutOfMemory, SectionRelaxDeltas};
-use crate::rewriting::{RewritingError, WritingError};
+use crate::rewriting::{DecisionError, RewritingError, WritingError};
 #[cfg(feature = "riscv64")]
 use crate::riscv64::{CallError, JumpError, PackError, RejectedCall};
 use crate::runs::{Fault, ItemError, ItemFault, ItemsError, RejectedItem, RewrittenItemsError};
@@ -531,6 +531,24 @@ impl Display for RewritingError {
 }
 
 impl Error for RewritingError {}
+
+impl Display for DecisionError {
+    fn fmt(&self, f: &mut Formatter<'_>) -> Result {
+        match self {
+            DecisionError::TooShort => f.write_str("there are fewer decisions than relocations"),
+            DecisionError::Changed(index) => write!(
+                f,
+                "the instruction of the relocation at index {index} is not the one that was decided on"
+            ),
+            DecisionError::Overlaps(index) => write!(
+                f,
+                "the rewrite of the relocation at index {index} overlaps that of one before it"
+            ),
+        }
+    }
+}
+
+impl Error for DecisionError {}
 
 impl Display for WritingError {
     fn fmt(&self, f: &mut Formatter<'_>) -> Result {

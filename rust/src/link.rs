@@ -6,7 +6,7 @@
 use crate::elf::{Architecture, RelocateError, WriteError};
 use crate::linker_base::relaxation::{AsDeletion, RelaxDelta};
 use crate::linker_output::got::Origins;
-use crate::linker_rewriting::decisions::{AsDecision, FromDeletion, RewritingError};
+use crate::linker_rewriting::decisions::{AsDecision, DecisionError, FromDeletion, RewritingError};
 use crate::linker_rewriting::facts::{OutputFacts, SymbolFacts};
 use crate::linker_rewriting::groups::UnrelaxableGroups;
 use crate::linker_rewriting::kept::{self, FactsSnapshot};
@@ -410,6 +410,102 @@ pub fn rewrite_section<B: AsMut<[u8]>, R: AsMut<[u8]>, D: AsDecision>(
         &link.output(),
         object.facts,
         object.unrelaxable_groups,
+        section.relocations.as_mut(),
+        section.bytes.as_mut(),
+        decisions,
+    )
+}
+
+/// Decides what [`rewrite_section`](crate::rewriting::rewrite_section()) would do, and writes nothing but `decisions`. So a linker can
+/// decide while it scans inputs that it maps read-only, once all sections of code of the object are
+/// surveyed, and other sections may be decided by other threads at the same time. [`make_rewrites`](crate::rewriting::make_rewrites())
+/// makes the decisions, once the section is copied to the output.
+///
+/// What a relocation still requires is that of its type afterwards: the choice's `relocation`, and
+/// nothing of one that is [`Decision::Consumed`](crate::rewriting::Decision::Consumed). None is [`Decision::RewrittenWithSymbol`](crate::rewriting::Decision::RewrittenWithSymbol).
+///
+/// No decision depends on an address. A branch is rewritten by its symbol's facts alone: AArch64's
+/// to an undefined weak symbol becomes a `nop`, whose relocation has the type 0, and the `nop` after
+/// PowerPC64's call restores the TOC pointer where [`SymbolFacts`](crate::rewriting::SymbolFacts) say that the function may change
+/// it. So a linker may still choose a stub as the target of a branch that keeps its relocation.
+///
+/// # Errors
+///
+/// Those of [`rewrite_section`](crate::rewriting::rewrite_section()).
+///
+/// ```
+/// use linker_utils::elf::Architecture;
+/// use linker_utils::rewriting::{Decision, DecisionError, UnrelaxableGroups, SymbolFacts};
+/// use linker_utils::rewriting::{decide_rewrites, make_rewrites};
+/// use linker_utils::section::{Link, Object, Section};
+///
+/// // call *f@GOTPCREL(%rip), with R_X86_64_GOTPCRELX of symbol 1 at 2, becomes addr32 call f
+/// let mut relocations = [0; 24];
+/// (relocations[0], relocations[8], relocations[12]) = (2, 41, 1);
+/// relocations[16..].copy_from_slice(&(-4i64).to_le_bytes());
+/// let input = Section::new([0xff, 0x15, 0, 0, 0, 0], relocations);
+/// let link = Link {
+///     is_executable: true,
+///     has_near_symbols: true,
+///     ..Link::new(Architecture::X86_64)
+/// };
+/// let object = Object {
+///     facts: &[SymbolFacts::default(), SymbolFacts { is_local: true, ..SymbolFacts::default() }],
+///     unrelaxable_groups: &[UnrelaxableGroups::default(); 2],
+///     ..Object::default()
+/// };
+/// let mut decisions = [Decision::Kept];
+/// decide_rewrites(&link, &object, &input, &mut decisions).unwrap();
+///
+/// let mut output = Section::new(input.bytes, input.relocations);
+/// assert_eq!(make_rewrites(&mut output, &decisions), Ok(()));
+/// assert_eq!(output.bytes, [0x67, 0xe8, 0, 0, 0, 0]);
+/// // R_X86_64_PC32
+/// assert_eq!(output.relocations[8], 2);
+/// // the instruction isn't the one that was decided on
+/// assert_eq!(make_rewrites(&mut output, &decisions), Err(DecisionError::Changed(0)));
+/// ```
+#[inline]
+pub fn decide_rewrites<B: AsRef<[u8]>, R: AsRef<[u8]>, D: AsDecision>(
+    link: &Link,
+    object: &Object<'_>,
+    section: &Section<B, R>,
+    decisions: &mut [D],
+) -> Result<(), RewritingError> {
+    crate::linker_rewriting::sections::decide_rewrites(
+        link.architecture,
+        &link.output(),
+        object.facts,
+        object.unrelaxable_groups,
+        section.relocations.as_ref(),
+        section.bytes.as_ref(),
+        decisions,
+    )
+}
+
+/// Makes decisions of [`decide_rewrites`](crate::rewriting::decide_rewrites()): rewrites the instructions of a section, or of a copy, and
+/// turns its relocations into those after it. Section and relocations then are what
+/// [`rewrite_section`](crate::rewriting::rewrite_section()) leaves.
+///
+/// The relocations have to be those that were decided on, with their offsets in this section: it is
+/// called before values are written, and before the section is packed. Where these and the section
+/// are unchanged, it returns no error (`laws::decisions_are_made`). Any decisions are accepted that
+/// pass the tests below, whoever made them. What isn't tested is what is decided by other
+/// relocations: that a group is whole, and that no rewrite changes another relocation's field.
+///
+/// # Errors
+///
+/// The section and its relocations are as before. `TooShort`: there are more relocations than
+/// `decisions`. Else the error of the first relocation that has one. `Changed`: the instructions
+/// there aren't those that the decision's rewrite is meant for, as [`Relaxation::matches`](crate::architecture::Relaxation::matches) says, or
+/// what it deletes isn't in the section. `Overlaps`: it rewrites or deletes bytes that a decision
+/// before it does too, or bytes below those.
+#[inline]
+pub fn make_rewrites<B: AsMut<[u8]>, R: AsMut<[u8]>, D: AsDecision>(
+    section: &mut Section<B, R>,
+    decisions: &[D],
+) -> Result<(), DecisionError> {
+    crate::linker_rewriting::sections::make_rewrites(
         section.relocations.as_mut(),
         section.bytes.as_mut(),
         decisions,

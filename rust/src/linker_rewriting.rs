@@ -6,6 +6,7 @@
 mod agreement;
 mod calls;
 pub mod candidates;
+mod checked;
 mod codes;
 mod covered;
 pub mod decisions;

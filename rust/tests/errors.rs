@@ -5,7 +5,7 @@ use linker_utils::elf::{Architecture, RelocateError, Uleb128PairError, WriteErro
 use linker_utils::output::{PropertyError, RelrError, RouteError, StubError};
 use linker_utils::readers::{self, ReadError};
 use linker_utils::relaxation::{OutOfMemory, PackError, RejectedCall, SectionRelaxDeltas};
-use linker_utils::rewriting::{RewritingError, WritingError};
+use linker_utils::rewriting::{DecisionError, RewritingError, WritingError};
 use linker_utils::riscv64::{CallError, JumpError};
 use linker_utils::runs::{
     Fault, ItemError, ItemFault, ItemsError, RejectedItem, RewrittenItemsError,
@@ -317,6 +317,19 @@ fn errors_of_rewrites_are_printed() {
         (
             RewritingError::Overlaps(4),
             "the rewrite of the relocation at index 4 overlaps that of one before it",
+        ),
+    ] {
+        assert_eq!(texts(error), [text]);
+    }
+    for (error, text) in [
+        (DecisionError::TooShort, "there are fewer decisions than relocations"),
+        (
+            DecisionError::Changed(5),
+            "the instruction of the relocation at index 5 is not the one that was decided on",
+        ),
+        (
+            DecisionError::Overlaps(6),
+            "the rewrite of the relocation at index 6 overlaps that of one before it",
         ),
     ] {
         assert_eq!(texts(error), [text]);

@@ -57,7 +57,7 @@ PASSED = {
                      "relocations": "relocations: &[u8], relocations: &mut [u8]",
                      "address": "addresses.section: u64", "base": "base: u64",
                      "deleted": "deleted: &[Deletion]"}),
-    "rewritten": ("decisions", {"decisions": "decisions: &mut [DecisionNumbers]",
+    "rewritten": ("decisions", {"decisions": "decisions: &mut [DecisionNumbers], decisions: &[DecisionNumbers]",
                                 "deleted": "deleted: &mut [Deletion]",
                                 "deleted_used": "deleted_used: &mut usize"}),
     "branches": ("branches", {"branches": "branches: &[Branch]", "targets": "targets: &[u64]",

@@ -46,6 +46,8 @@ int main(void) {
     EXPECT(OK, relocate_all(machine, &section, NULL, 0, NULL));
     EXPECT(OK, survey(&link, &object, &section));
     EXPECT(OK, rewrite_section(&link, &object, &section, &rewritten, NULL));
+    EXPECT(OK, decide_rewrites(&link, &object, &section, &rewritten, NULL));
+    EXPECT(OK, make_rewrites(&section, &rewritten, NULL));
     uint32_t phase = LINKER_UTILS_PHASE_SHORT_PC_REL;
     EXPECT(OK, survey_placed_section(&link, &object, &section, phase));
     EXPECT(OK, rewrite_placed_section(&link, &object, &section, phase, &rewritten, NULL));

@@ -1179,6 +1179,66 @@ static void call_rewrite_section(void) {
     finish(status == LINKER_UTILS_OK);
 }
 
+static void call_decide_rewrites(void) {
+    uint16_t machine = any_machine();
+    struct buffer *section = bytes(READ, any_section_len());
+    struct buffer *known = symbol_facts(any_len(8));
+    struct buffer *kept = unrelaxable_groups(READ, any_len(8));
+    size_t symbols_len = LEN(known, struct linker_utils_symbol_facts);
+    struct buffer *given = relocations(READ, machine, section->len, symbols_len);
+    size_t needed = given->len / 24;
+    bool is_short;
+    size_t count = any_room(needed, &is_short);
+    struct buffer *decisions = place(WRITTEN, count, sizeof(struct linker_utils_decision));
+    changes(decisions, 0, needed * sizeof(struct linker_utils_decision));
+    const struct linker_utils_link *link = any_link(machine);
+    const struct linker_utils_object *object = INPUT(object, FACTS(known), GROUPS(kept));
+    const struct linker_utils_section *in = relocated(section, given);
+    const struct linker_utils_rewritten *rewritten = rewritten_of(decisions, NULL);
+    size_t *faulty = any_faulty();
+    uint32_t status = CALL(decide_rewrites, link, object, in, rewritten, faulty);
+    expect_status(status,
+                  0 OR(UNKNOWN_ARCHITECTURE) OR(SHORT_MEMORY) OR(NOT_SURVEYED) OR(OVERLAPS));
+    expect((status == LINKER_UTILS_SHORT_MEMORY) <= is_short, "the memory is long enough");
+    if (status == LINKER_UTILS_OK) expect_decisions(filled(decisions), needed, machine);
+    bool is_of_entry = status == LINKER_UTILS_NOT_SURVEYED || status == LINKER_UTILS_OVERLAPS;
+    finish_faulty(faulty, is_of_entry, needed);
+    if (is_of_entry) keep_decisions(decisions, needed);
+    finish(status == LINKER_UTILS_OK);
+}
+
+/* Decisions of any bytes, or of numbers that more often are rewrites. */
+static struct buffer *any_decisions(size_t count) {
+    struct buffer *buffer = bytes(READ, count * sizeof(struct linker_utils_decision));
+    struct linker_utils_decision *at = filled(buffer);
+    uint16_t machine = any_machine();
+    bool are_any = once_in(4);
+    for (size_t i = 0; i < count && !are_any; i++) {
+        at[i].machine = machine;
+        at[i].rewrite = (uint32_t)below(8);
+        at[i].fate = (uint8_t)below(4);
+    }
+    return buffer;
+}
+
+static void call_make_rewrites(void) {
+    struct buffer *section = bytes(WRITTEN, any_section_len());
+    struct buffer *given = relocations(WRITTEN, any_machine(), section->len, 4);
+    size_t needed = given->len / 24;
+    bool is_short;
+    struct buffer *decisions = any_decisions(any_room(needed, &is_short));
+    changes(given, 0, 24 * needed);
+    const struct linker_utils_section *in = relocated(section, given);
+    const struct linker_utils_rewritten *rewritten = rewritten_of(decisions, NULL);
+    size_t *faulty = any_faulty();
+    uint32_t status = CALL(make_rewrites, in, rewritten, faulty);
+    expect_status(status, 0 OR(SHORT_MEMORY) OR(DOES_NOT_MATCH) OR(OVERLAPS));
+    expect((status == LINKER_UTILS_SHORT_MEMORY) == is_short, "the memory is long enough");
+    bool is_of_entry = status == LINKER_UTILS_DOES_NOT_MATCH || status == LINKER_UTILS_OVERLAPS;
+    finish_faulty(faulty, is_of_entry, needed);
+    finish(status == LINKER_UTILS_OK);
+}
+
 /* A phase, or another number. */
 static uint32_t any_phase(void) {
     return once_in(16) ? (uint32_t)any_number() : (uint32_t)below(5);
@@ -2770,7 +2830,7 @@ static void (*const all[])(void) = {
     call_find, call_row_of, call_row_value, call_row_write, call_row_apply, call_row_reach,
     call_row_needs, call_row_choose, call_row_fits,
     call_relocate_all, call_needs, call_value_at, call_relocate_section, call_survey,
-    call_rewrite_section, call_has_rewrites, call_survey_placed_section, call_snapshot_facts,
+    call_rewrite_section, call_decide_rewrites, call_make_rewrites, call_has_rewrites, call_survey_placed_section, call_snapshot_facts,
     call_relocate_rewritten_section,
     call_survey_toc_loads, call_rewrite_toc_loads,
     call_survey_global_pointer, call_rewrite_global_pointer, call_finish_gp_relaxation,

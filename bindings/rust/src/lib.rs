@@ -1294,6 +1294,88 @@ pub fn rewrite_section(
         .collect())
 }
 
+/// Decides what `rewrite_section` would do. The section and its relocations are only read, and
+/// `make_rewrites` makes the decisions later. The errors are those of `rewrite_section`.
+pub fn decide_rewrites(
+    architecture: Architecture,
+    output: &OutputFacts,
+    symbols: &[SymbolFacts],
+    kept: &[UnrelaxableGroups],
+    relocations: &[u8],
+    section: &[u8],
+) -> Result<Vec<Decision>, ArrayError> {
+    let mut decisions = decisions_of(relocations)?;
+    result_over(|faulty| unsafe {
+        raw::linker_utils_decide_rewrites_nonnull(
+            architecture.machine(),
+            output,
+            symbols.as_ptr(),
+            symbols.len(),
+            kept.as_ptr(),
+            kept.len(),
+            relocations.as_ptr(),
+            relocations.len(),
+            section.as_ptr(),
+            section.len(),
+            decisions.as_mut_ptr(),
+            decisions.len(),
+            faulty,
+        )
+    })?;
+    Ok(decisions
+        .iter()
+        .map(|made| decided(architecture, made))
+        .collect())
+}
+
+/// The decision in C's numbers.
+fn numbers_of(decision: &Decision) -> raw::Decision {
+    let of = |fate: Fate, rewrite: Rewrite, relocation, symbol, addend| {
+        let (machine, rewrite, opcode_len) = rewrite.numbers();
+        let fate = fate.number() as u8;
+        raw::Decision { addend, symbol, rewrite, relocation, machine, fate, opcode_len }
+    };
+    match *decision {
+        Decision::Kept => raw::Decision::default(),
+        Decision::Consumed => {
+            let fate = Fate::Consumed.number() as u8;
+            raw::Decision { fate, ..raw::Decision::default() }
+        }
+        Decision::Rewritten { rewrite, relocation } => {
+            of(Fate::Rewritten, rewrite, relocation, 0, 0)
+        }
+        Decision::RewrittenWithSymbol { rewrite, relocation, symbol, addend } => {
+            of(Fate::RewrittenWithSymbol, rewrite, relocation, symbol, addend)
+        }
+    }
+}
+
+/// Makes the decisions of `decide_rewrites` in a copy of the section and of its relocations. The
+/// entry at fault is the first whose instruction isn't the one that was decided on
+/// (`Status::DoesNotMatch`), or whose rewrite overlaps that of one before it. Then nothing is
+/// written.
+pub fn make_rewrites(
+    relocations: &mut [u8],
+    section: &mut [u8],
+    decisions: &[Decision],
+) -> Result<(), ArrayError> {
+    let mut numbers = Vec::new();
+    let out_of_memory = |_| ArrayError::from(Status::OutOfMemory);
+    numbers.try_reserve_exact(decisions.len()).map_err(out_of_memory)?;
+    numbers.extend(decisions.iter().map(numbers_of));
+    result_over(|faulty| unsafe {
+        raw::linker_utils_make_rewrites_nonnull(
+            relocations.as_mut_ptr(),
+            relocations.len(),
+            section.as_mut_ptr(),
+            section.len(),
+            numbers.as_ptr(),
+            numbers.len(),
+            faulty,
+        )
+    })
+}
+
 /// Whether an architecture has rewrites in a phase. In one without them surveys note nothing, and each
 /// relocation stays.
 pub fn has_rewrites(architecture: Architecture, phase: Phase) -> bool {

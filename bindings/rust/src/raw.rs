@@ -611,6 +611,30 @@ extern "C" {
         consumed: *mut usize,
     ) -> u32;
     pub fn linker_utils_has_rewrites(machine: u16, phase: u32) -> bool;
+    pub fn linker_utils_decide_rewrites_nonnull(
+        machine: u16,
+        output: *const OutputFacts,
+        symbols: *const SymbolFacts,
+        symbols_len: usize,
+        kept: *const UnrelaxableGroups,
+        kept_len: usize,
+        relocations: *const u8,
+        relocations_len: usize,
+        section: *const u8,
+        section_len: usize,
+        decisions: *mut Decision,
+        decisions_len: usize,
+        faulty: *mut usize,
+    ) -> u32;
+    pub fn linker_utils_make_rewrites_nonnull(
+        relocations: *mut u8,
+        relocations_len: usize,
+        section: *mut u8,
+        section_len: usize,
+        decisions: *const Decision,
+        decisions_len: usize,
+        faulty: *mut usize,
+    ) -> u32;
     pub fn linker_utils_snapshot_facts_nonnull(
         output: *const OutputFacts,
         symbols: *const SymbolFacts,

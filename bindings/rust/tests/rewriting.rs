@@ -109,6 +109,36 @@ fn windows_ascend() {
 }
 
 #[test]
+fn decisions_are_made_later() {
+    // the sequence above, decided by an input that is only read
+    let input = relas(&[(4, 19, 1, -4), (12, 4, 2, -4)]);
+    let kept = [UnrelaxableGroups::default(); 4];
+    let decisions =
+        decide_rewrites(X86_64, &EXECUTABLE, &symbols(), &kept, &input, &GENERAL_DYNAMIC).unwrap();
+    assert!(matches!(decisions[0], Decision::Rewritten { relocation: 23, .. }));
+    assert_eq!(decisions[1..], [Decision::Consumed]);
+    let (mut relocations, mut section) = (input.clone(), GENERAL_DYNAMIC);
+    assert_eq!(make_rewrites(&mut relocations, &mut section, &decisions), Ok(()));
+    assert_eq!(relocations, relas(&[(12, 23, 1, 0), (12, 0, 2, -4)]));
+    // mov %fs:0, %rax; lea x@tpoff(%rax), %rax
+    let made = [0x64, 0x48, 0x8b, 4, 0x25, 0, 0, 0, 0, 0x48, 0x8d, 0x80, 0, 0, 0, 0];
+    assert_eq!(section, made);
+    // jmp in place of the call
+    let (mut relocations, mut section) = (input.clone(), GENERAL_DYNAMIC);
+    section[11] = 0xe9;
+    let before = section;
+    let error = |status, index| Err(ArrayError { status, index });
+    let made = make_rewrites(&mut relocations, &mut section, &decisions);
+    assert_eq!(made, error(Status::DoesNotMatch, Some(0)));
+    let (mut twice, again) = ([&input[..24], &input[..24]].concat(), [decisions[0]; 2]);
+    let (given, mut code) = (twice.clone(), GENERAL_DYNAMIC);
+    assert_eq!(make_rewrites(&mut twice, &mut code, &again), error(Status::Overlaps, Some(1)));
+    let made = make_rewrites(&mut relocations, &mut section, &decisions[..1]);
+    assert_eq!(made, error(Status::ShortMemory, None));
+    assert_eq!((relocations, section, twice, code), (input, before, given, GENERAL_DYNAMIC));
+}
+
+#[test]
 fn decisions_are_as_many_as_relocations() {
     // nop, with R_X86_64_TLSDESC_CALL
     let (mut relocations, mut section) = (relas(&[(0, 35, 1, 0)]), [0x90]);

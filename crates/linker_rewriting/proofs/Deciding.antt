@@ -8,7 +8,7 @@ use Rattle.linker_base.specs.RewriteWindow.{window_of_rewrite}
 use Rattle.linker_base.specs.declared.rewrite.DeletedBytes.{DeletedBytes}
 use Rattle.linker_utils.specs.Relaxations.{relaxation_rewrite, relaxation_deleted}
 use Rattle.linker_rewriting.specs.Candidates.{deletes_within}
-use Rattle.linker_rewriting.specs.Decisions.{deleted_end, CanBeMade, AllCanBeMade, AreApart, decision_at, is_taken, takes_next, start_by, end_by, IsDecidedAfter, IsDecidedAlone, IsDecisionAfter, IsNotSurveyed, IsOverlapping, AreDecidedIn, IsEndAfter}
+use Rattle.linker_rewriting.specs.Decisions.{deleted_end, CanBeMade, AllCanBeMade, Matches, AllMatch, AreApart, decision_at, is_taken, takes_next, start_by, end_by, IsDecidedAfter, IsDecidedAlone, IsDecisionAfter, IsNotSurveyed, IsOverlapping, AreDecidedIn, IsEndAfter}
 use Rattle.linker_rewriting.specs.Facts.{RelaxContext}
 use Rattle.linker_rewriting.specs.RiscVPcrelGroups.{IsLabelNote}
 use Rattle.linker_rewriting.specs.Notes.{is_note, AreLabelsNoted}
@@ -54,6 +54,7 @@ pub record AreDecidedTo (s : RelaxContext) (kept : List UnrelaxableGroups) (byte
     (decisions : List Decision) (end : ℕ) (taken : Bool) (k : ℕ) : Type 0 where
   pub decided : AreDecidedIn s kept bytes section decisions k
   pub made : AllCanBeMade bytes section decisions k
+  pub matching : AllMatch bytes section decisions k
   pub apart : AreApart bytes decisions k
   pub taken_is : taken ≡ is_taken decisions k
   pub ends : EndsAt start_by end_by bytes decisions end k
@@ -153,10 +154,11 @@ pub more_decided : (s : RelaxContext) (kept : List UnrelaxableGroups) (bytes sec
     → k < length old
     → IsDecidedAfter s kept bytes section k taken d
     → CanBeMade d section (relocation_in bytes k).offset
+    → Matches d section (relocation_in bytes k).offset
     → IsGrown start_by end_by bytes k d end grown
     → AreDecidedTo s kept bytes section (slice_set old k d) grown
     (takes_next d) (k + 1)
-more_decided s kept bytes section old end grown taken k d before within is can grow =
+more_decided s kept bytes section old end grown taken k d before within is can there grow =
     let new : List Decision = slice_set old k d in
     let same : AreSame old new k =
     λ n less. get_or-set_other old k n d Kept (λ e. absurd (omega (arith, e))) in
@@ -170,6 +172,9 @@ more_decided s kept bytes section old end grown taken k d before within is can g
       made = below_more (λ n. CanBeMade (decision_at new n) section (relocation_in bytes n).offset) k
           (λ n less. subst (λ x. CanBeMade x section (relocation_in bytes n).offset) (sym (same n less)) (before.made n less))
           (subst (λ x. CanBeMade x section (relocation_in bytes k).offset) (sym here) can);
+      matching = below_more (λ n. Matches (decision_at new n) section (relocation_in bytes n).offset) k
+          (λ n less. subst (λ x. Matches x section (relocation_in bytes n).offset) (sym (same n less)) (before.matching n less))
+          (subst (λ x. Matches x section (relocation_in bytes k).offset) (sym here) there);
       apart = apart_more start_by end_by bytes old new k end grown d same here before.ends before.apart grow;
       taken_is = ap takes_next (sym here) ∙ sym (taken_next new k);
       ends = ends_more start_by end_by bytes old new k end grown d same here before.ends grow;
@@ -212,7 +217,7 @@ more_kept s kept bytes section old end taken k before within isnt decided =
     subst (λ t. AreDecidedTo s kept bytes section (slice_set old k Kept) end t (k + 1)) (sym isnt)
     (more_decided s kept bytes section old end end taken k Kept before within
     (subst (λ t. IsDecidedAfter s kept bytes section k t Kept) (sym isnt) decided)
-    tt (inl (omega arith, refl)))
+    tt tt (inl (omega arith, refl)))
 
 -- ---- one more decision, and errors
 

@@ -14,7 +14,7 @@ use Rattle.linker_elf.specs.declared.x86_64.relocations.X86_64Relocation.{X86_64
 use Rattle.linker_elf.specs.declared.x86_64.relocations.X86_64Relocation.TheVariants as x86_64
 use Rattle.linker_elf.specs.declared.elf.choice.Choice.{Choice}
 use Rattle.linker_rewriting.proofs.Unique.{one_scope, one_candidate_with}
-use Rattle.linker_rewriting.specs.Decisions.{decision_at, label_decision, IsLabelDecision, CanBeMade}
+use Rattle.linker_rewriting.specs.Decisions.{decision_at, label_decision, IsLabelDecision}
 use Rattle.linker_rewriting.specs.Decisions.{rewritten_by, takes_symbol}
 use Rattle.linker_rewriting.specs.Facts.{RelaxContext}
 use Rattle.linker_rewriting.specs.Groups.{aarch64_scope_in, loongarch_scope_in, ppc64_scope_in, x86_64_scope_in}
@@ -539,14 +539,15 @@ never_kept s bytes section n r high noted is none same within in_label =
     fits_here s bytes section n r high same within in_label here
     (subst (LabelFits s bytes section) (one_index s bytes r (noted.0) high (noted.1) here) (noted.2)) none
 
-pub can_make_label : (phase : Phase) (chosen : Choice Relaxation ℕ) (high : Rela) (section : List ℕ)
-    (offset : ℕ) → CanBeMade (Rewritten chosen) section offset
-    → CanBeMade (label_decision phase chosen high) section offset
-can_make_label phase chosen high section offset can = either (takes_symbol phase chosen.relocation)
+-- what holds with another symbol and without holds of a label's decision
+pub either_label : (P : Decision → Type 0) (phase : Phase) (chosen : Choice Relaxation ℕ) (high : Rela)
+    → P (rewritten_by true chosen high) → P (rewritten_by false chosen high)
+    → P (label_decision phase chosen high)
+either_label P phase chosen high other own = either (takes_symbol phase chosen.relocation)
   where
-    either : (takes : Bool) → CanBeMade (rewritten_by takes chosen high) section offset
-    either true = can
-    either false = can
+    either : (takes : Bool) → P (rewritten_by takes chosen high)
+    either true = other
+    either false = own
 
 -- a group that doesn't stay has a high part
 pub noted_high : (s : RelaxContext) (bytes section : List ℕ) (r : Rela) → IsLabelNote s bytes section r false

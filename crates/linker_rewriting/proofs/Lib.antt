@@ -1,3 +1,4 @@
+pub mod Checked
 pub mod Deciding
 pub mod GlobalPointer
 pub mod Keeping

@@ -21,6 +21,8 @@ use Rattle.linker_rewriting.specs.declared.decisions.Decision.{Decision}
 use Rattle.linker_rewriting.specs.declared.decisions.Decision.TheVariants.{Kept, Rewritten}
 use Rattle.linker_rewriting.specs.declared.decisions.Decision.TheVariants.{Consumed}
 use Rattle.linker_rewriting.specs.declared.decisions.Decision.TheVariants.{RewrittenWithSymbol}
+use Rattle.linker_rewriting.specs.declared.decisions.DecisionError.{DecisionError}
+use Rattle.linker_rewriting.specs.declared.decisions.DecisionError.TheVariants as errors
 use Rattle.linker_rewriting.specs.declared.decisions.RewritingError.{RewritingError}
 use Rattle.linker_rewriting.specs.declared.decisions.RewritingError.TheVariants.{TooShort}
 use Rattle.linker_rewriting.specs.declared.decisions.RewritingError.TheVariants.{NotSurveyed}
@@ -43,7 +45,7 @@ use Rattle.linker_section.specs.Values.{offset_at}
 use Rattle.linker_section.specs.declared.facts.Symbol.{Symbol}
 use Rattle.linker_section.specs.declared.relocations.Rela.{Rela}
 use Rattle.linker_utils.specs.Relaxations.{relaxation_rewrite, relaxation_skipped}
-use Rattle.linker_utils.specs.Relaxations.{relaxation_deleted}
+use Rattle.linker_utils.specs.Relaxations.{relaxation_deleted, relaxation_matches}
 use Rattle.linker_utils.specs.declared.architecture.Relaxation.{Relaxation}
 use Rattle.linker_elf.specs.declared.elf.architecture.Architecture.{Architecture}
 use Rattle.linker_elf.specs.declared.riscv64.relocations.RiscVRelocation.TheVariants as riscv64
@@ -77,6 +79,13 @@ CanBeMade (RewrittenWithSymbol chosen subject) section offset =
     CanRewrite (relaxation_rewrite chosen.kind) section offset
     × (deletes_within section offset (relaxation_deleted chosen.kind) ≡ true)
 CanBeMade decision section offset = Unit {0}
+
+-- its instructions are those that the rewrite is meant for
+abbrev pub Matches : Decision → List ℕ → ℕ → Type 0
+Matches (Rewritten chosen) section offset = relaxation_matches chosen.kind section offset
+Matches (RewrittenWithSymbol chosen subject) section offset =
+    relaxation_matches chosen.kind section offset
+Matches decision section offset = Unit {0}
 
 abbrev pub decision_of : Option (Choice Relaxation ℕ) → Decision
 decision_of None = Kept
@@ -219,6 +228,10 @@ AreDecidedIn s kept bytes section decisions limit =
 abbrev pub AllCanBeMade : List ℕ → List ℕ → List Decision → ℕ → Type 0
 AllCanBeMade bytes section decisions limit =
     (n : ℕ) → n < limit → CanBeMade (decision_at decisions n) section (relocation_in bytes n).offset
+
+abbrev pub AllMatch : List ℕ → List ℕ → List Decision → ℕ → Type 0
+AllMatch bytes section decisions limit =
+    (n : ℕ) → n < limit → Matches (decision_at decisions n) section (relocation_in bytes n).offset
 
 -- before addresses are known
 abbrev pub AreDecided : Architecture → OutputFacts → List SymbolFacts → List UnrelaxableGroups → List ℕ
@@ -368,6 +381,33 @@ abbrev pub IsRejectedPlaced : RelaxContext → List UnrelaxableGroups → List �
     → RewritingError → Type 0
 IsRejectedPlaced s kept bytes section decisions room =
     IsRejectedFirst s.symbols s.values bytes (IsRejectedWith s kept bytes section decisions room)
+
+-- ---- decisions that are made later
+
+-- Why they aren't: up to the index, the one there alone is wrong. It doesn't match or can't be made,
+-- or it isn't apart from those before it.
+abbrev pub IsUnmade : List ℕ → List ℕ → List Decision → DecisionError → Type 0
+IsUnmade bytes section decisions errors.TooShort = length decisions < length bytes / 24
+IsUnmade bytes section decisions (errors.Changed n) =
+    (n < length bytes / 24) × (length bytes / 24 ≤ length decisions)
+    × AllCanBeMade bytes section decisions n × AllMatch bytes section decisions n
+    × AreApart bytes decisions n
+    × ¬ (CanBeMade (decision_at decisions n) section (relocation_in bytes n).offset
+    × Matches (decision_at decisions n) section (relocation_in bytes n).offset)
+IsUnmade bytes section decisions (errors.Overlaps n) =
+    (n < length bytes / 24) × (length bytes / 24 ≤ length decisions)
+    × AllCanBeMade bytes section decisions (n + 1) × AllMatch bytes section decisions (n + 1)
+    × AreApart bytes decisions n × ¬ AreApart bytes decisions (n + 1)
+
+-- Where all match, can be made and are apart, none of it is so.
+abbrev pub DecisionsAreMade : Type 0
+DecisionsAreMade =
+    (bytes section : List ℕ) (decisions : List Decision)
+    → length bytes / 24 ≤ length decisions
+    → AllCanBeMade bytes section decisions (length bytes / 24)
+    → AllMatch bytes section decisions (length bytes / 24)
+    → AreApart bytes decisions (length bytes / 24)
+    → (error : DecisionError) → ¬ IsUnmade bytes section decisions error
 
 -- ---- what decisions follow from
 

@@ -3,7 +3,7 @@
 ghost use Rattle.std.specs.Prelude.{◌≡◌, ◌+◌, ◌<◌, ◌≤◌, slice_get, IfSome, true};
 ghost use Rattle.linker_base.specs.Rewrite.{CanRewrite};
 ghost use Rattle.linker_utils.specs.Relaxations.{relaxation_rewrite, relaxation_skipped};
-ghost use Rattle.linker_utils.specs.Relaxations.{relaxation_deleted};
+ghost use Rattle.linker_utils.specs.Relaxations.{relaxation_deleted, relaxation_matches};
 ghost use Rattle.linker_section.specs.Relocations.{relocation_at};
 ghost use Rattle.linker_rewriting.specs.Candidates.{IsCallIn, IsTaken, IsCandidate, IsCandidateBy};
 ghost use Rattle.linker_rewriting.specs.Candidates.{calls_tls_get_addr, deletes_within};
@@ -74,7 +74,7 @@ fn finds_next(
 
 /// Whether what is deleted after a rewrite at an offset is in the section.
 #[inline(always)]
-fn deletes_within(section: &[u8], offset: u64, deleted: Option<DeletedBytes>) -> bool
+pub(crate) fn deletes_within(section: &[u8], offset: u64, deleted: Option<DeletedBytes>) -> bool
     ensures { result ≡ deletes_within section.now offset deleted }
 {
     let Some(deleted) = deleted else {
@@ -103,6 +103,8 @@ pub(crate) fn candidate_by(
     requires { index + 3 ≤ usize.MAX }
     ensures candidate { IsCandidateBy architecture symbols.now relocations.now section.now index
         relocation.now facts.now result }
+    ensures matches { IfSome result (λ chosen. relaxation_matches chosen.kind section.now
+        relocation.now.offset) }
     ensures rewritable { IfSome result (λ chosen. CanRewrite (relaxation_rewrite chosen.kind)
         section.now relocation.now.offset) }
     ensures deletes { IfSome result (λ chosen. deletes_within section.now relocation.now.offset
@@ -152,6 +154,8 @@ pub(crate) fn candidate(
     requires { index + 3 ≤ usize.MAX }
     ensures candidate { IsCandidate (context_of context.now) relocations.now section.now index
         relocation.now result }
+    ensures matches { IfSome result (λ chosen. relaxation_matches chosen.kind section.now
+        relocation.now.offset) }
     ensures rewritable { IfSome result (λ chosen. CanRewrite (relaxation_rewrite chosen.kind)
         section.now relocation.now.offset) }
     ensures deletes { IfSome result (λ chosen. deletes_within section.now relocation.now.offset

@@ -9,7 +9,7 @@ ghost use Rattle.linker_rewriting.specs.Decisions.{deleted_of, deleted_end, star
 ghost use Rattle.linker_rewriting.specs.Decisions.{AreDecidedIn, AreApart, AreClear, AllCanBeMade};
 ghost use Rattle.linker_rewriting.specs.Decisions.{IsDecisionAfter, IsEndAfter, IsRejectedIn};
 ghost use Rattle.linker_rewriting.specs.Decisions.{IsRewrittenAt, label_decision, IsLabelDecision};
-ghost use Rattle.linker_rewriting.specs.Decisions.{takes_symbol};
+ghost use Rattle.linker_rewriting.specs.Decisions.{takes_symbol, Matches, AllMatch};
 ghost use Rattle.linker_rewriting.specs.Inner.Contexts.{context_of};
 ghost use Rattle.linker_rewriting.specs.Inner.Calls.{IsLeft};
 ghost use Rattle.linker_rewriting.specs.Inner.Left.{AreKept};
@@ -126,6 +126,19 @@ pub enum RewritingError {
     Contradiction(usize),
 }
 
+/// Why decisions aren't made.
+#[derive(Clone, Copy)]
+pub enum DecisionError {
+    /// There are fewer decisions than relocations.
+    TooShort,
+    /// The instructions at the relocation with this index aren't those that its decision rewrites,
+    /// or what it deletes isn't in the section.
+    Changed(usize),
+    /// Bytes that would be rewritten or deleted at the relocation with this index are also
+    /// rewritten or deleted at one before it, or lie below such bytes.
+    Overlaps(usize),
+}
+
 impl Decision {
     /// Whether the next relocation goes, since the rewrite takes it along.
     #[inline(always)]
@@ -240,6 +253,7 @@ fn decide_label(
     ensures decision { IsLabelDecision (context_of context.now) relocations.now section.now index
         relocation.now result }
     ensures made { CanBeMade result section.now relocation.now.offset }
+    ensures matches { Matches result section.now relocation.now.offset }
 {
     if stays {
         return Decision::Kept;
@@ -279,6 +293,7 @@ fn decide(
     ensures decision { IsDecision (context_of context.now) kept.now relocations.now section.now
         index relocation.now result }
     ensures made { IfSome result (λ d. CanBeMade d section.now relocation.now.offset) }
+    ensures matches { IfSome result (λ d. Matches d section.now relocation.now.offset) }
 {
     let is_grouped = match scope_in(context.architecture, context.phase, relocation.code) {
         Scope::NotRelaxable => return Some(Decision::Kept),
@@ -353,6 +368,7 @@ fn decide_after(
     ensures decision { IsDecisionAfter (context_of context.now) kept.now relocations.now section.now
         index relocation.now is_taken result }
     ensures made { IfSome result (λ d. CanBeMade d section.now relocation.now.offset) }
+    ensures matches { IfSome result (λ d. Matches d section.now relocation.now.offset) }
 {
     if is_taken {
         return Some(Decision::Consumed);
@@ -428,6 +444,8 @@ fn decide_all<D: AsDecision>(
         → AreKept (map D.decision decisions.new) (length relocations.now / 24)) }
     ensures made { OnOk result (AllCanBeMade relocations.now section.now
         (map D.decision decisions.new) (length relocations.now / 24)) }
+    ensures matches { OnOk result (AllMatch relocations.now section.now
+        (map D.decision decisions.new) (length relocations.now / 24)) }
     ensures apart { OnOk result (AreApart relocations.now (map D.decision decisions.new)
         (length relocations.now / 24)) }
     ensures form { OnOk result
@@ -500,6 +518,8 @@ fn decide_each<D: AsDecision>(
         → AreKept (map D.decision decisions.new) (length relocations.now / 24)) }
     ensures made { OnOk result (AllCanBeMade relocations.now section.now
         (map D.decision decisions.new) (length relocations.now / 24)) }
+    ensures matches { OnOk result (AllMatch relocations.now section.now
+        (map D.decision decisions.new) (length relocations.now / 24)) }
     ensures apart { OnOk result (AreApart relocations.now (map D.decision decisions.new)
         (length relocations.now / 24)) }
     ensures form { OnOk result
@@ -531,6 +551,8 @@ pub(crate) fn decide_section<D: AsDecision>(
     ensures left { IfOk result (λ changes. changes ≡ false
         → AreKept (map D.decision decisions.new) (length relocations.now / 24)) }
     ensures made { OnOk result (AllCanBeMade relocations.now section.now
+        (map D.decision decisions.new) (length relocations.now / 24)) }
+    ensures matches { OnOk result (AllMatch relocations.now section.now
         (map D.decision decisions.new) (length relocations.now / 24)) }
     ensures apart { OnOk result (AreApart relocations.now (map D.decision decisions.new)
         (length relocations.now / 24)) }

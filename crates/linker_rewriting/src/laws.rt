@@ -1,6 +1,6 @@
 //! Laws of surveys and of sections that are rewritten by them. The functions do nothing.
 
-ghost use Rattle.linker_rewriting.specs.Decisions.{DecisionsFollow};
+ghost use Rattle.linker_rewriting.specs.Decisions.{DecisionsAreMade, DecisionsFollow};
 ghost use Rattle.linker_rewriting.specs.GlobalPointer.{ArePartsWholeAcross};
 ghost use Rattle.linker_rewriting.specs.Kept.{KeptFactsTell};
 ghost use Rattle.linker_rewriting.specs.Rewritten.{GroupsAreWholeAcross, LoadsAreWhole};
@@ -22,6 +22,12 @@ pub fn surveys_commute()
 /// table.
 pub fn decisions_follow()
     ensures { DecisionsFollow }
+{}
+
+/// Decisions of `decide_rewrites` are made by `make_rewrites`, which doesn't reject them, where the
+/// section and its relocations are those that were decided on.
+pub fn decisions_are_made()
+    ensures { DecisionsAreMade }
 {}
 
 /// Of a group all relocations of an object that no other takes along are rewritten, or none is, in

@@ -4,6 +4,7 @@ ghost use Rattle.std.specs.Prelude.{◌≡◌, ◌+◌, ◌<◌, ◌≤◌, ◌/
 ghost use Rattle.std.specs.Prelude.{map, drop, take, All};
 ghost use Rattle.linker_base.specs.Rewrite.{CanRewrite};
 ghost use Rattle.linker_utils.specs.Relaxations.{relaxation_rewrite, relaxation_deleted};
+ghost use Rattle.linker_utils.specs.Relaxations.{relaxation_matches};
 ghost use Rattle.linker_section.specs.Relocations.{relocation_in};
 ghost use Rattle.linker_section.specs.Values.{IsAscending};
 ghost use Rattle.linker_rewriting.specs.Candidates.{deletes_within};
@@ -198,6 +199,8 @@ pub(crate) fn label_candidate(
     requires high { high < length relocations.now / 24 }
     ensures candidate { IsLabelCandidate (context_of context.now) relocations.now section.now index
         relocation.now high result }
+    ensures matches { IfSome result (λ chosen. relaxation_matches chosen.kind section.now
+        relocation.now.offset) }
     ensures rewritable { IfSome result (λ chosen. CanRewrite (relaxation_rewrite chosen.kind)
         section.now relocation.now.offset) }
     ensures deletes { IfSome result (λ chosen. deletes_within section.now relocation.now.offset

@@ -8,7 +8,7 @@ ghost use Rattle.linker_rewriting.specs.Decisions.{AreClear};
 ghost use Rattle.linker_rewriting.specs.Decisions.{CanBeMade, AllCanBeMade, AreDecided, AreApart};
 ghost use Rattle.linker_rewriting.specs.Decisions.{AreDecidedIn, IsRejected, IsRejectedPlaced};
 ghost use Rattle.linker_rewriting.specs.Decisions.{decision_at, deleted_of, deleted_end};
-ghost use Rattle.linker_rewriting.specs.Decisions.{deletions_by};
+ghost use Rattle.linker_rewriting.specs.Decisions.{deletions_by, AllMatch, IsUnmade};
 ghost use Rattle.linker_rewriting.specs.Facts.{pre_layout, context};
 ghost use Rattle.linker_rewriting.specs.Inner.Left.{AreKept};
 ghost use Rattle.linker_rewriting.specs.Rewritten.{section_after, relocation_after, AreDone};
@@ -17,7 +17,9 @@ ghost use Rattle.linker_rewriting.specs.Rewritten.{GroupsAreWholeIn, LabelsAreWh
 ghost use Rattle.linker_rewriting.specs.Surveys.{MeansUnsurveyed};
 
 use crate::agreement::contradiction;
-use crate::decisions::{AsDecision, Decision, FromDeletion, RewritingError, decide_section};
+use crate::checked::check_decisions;
+use crate::decisions::{AsDecision, Decision, DecisionError, FromDeletion, RewritingError};
+use crate::decisions::decide_section;
 use crate::facts::{NO_ADDRESSES, OutputFacts, RelaxContext, SymbolFacts};
 use crate::groups::UnrelaxableGroups;
 use crate::phases::Phase;
@@ -101,6 +103,51 @@ fn make_changes<D: AsDecision>(
     if changes {
         make_all(decisions, relocations, section);
     }
+}
+
+/// Decides before layout. False if all relocations stay as they are by their codes.
+fn decide_pre_layout<D: AsDecision>(
+    architecture: Architecture,
+    output: &OutputFacts,
+    symbols: &[SymbolFacts],
+    kept: &[UnrelaxableGroups],
+    relocations: &[u8],
+    section: &[u8],
+    decisions: &mut [D],
+) -> Result<bool, RewritingError>
+    ensures enough { OnOk result (length relocations.now / 24 ≤ length decisions.old) }
+    ensures decided { OnOk result (AreDecided architecture output.now symbols.now kept.now
+        relocations.now section.now (map D.decision decisions.new) (length relocations.now / 24)) }
+    ensures left { IfOk result (λ changes. changes ≡ false
+        → AreKept (map D.decision decisions.new) (length relocations.now / 24)) }
+    ensures groups { OnOk result (GroupsAreWhole architecture relocations.now
+        (map D.decision decisions.new) (length relocations.now / 24)) }
+    ensures within { OnOk result (AllCanBeMade relocations.now section.now
+        (map D.decision decisions.new) (length relocations.now / 24)) }
+    ensures matches { OnOk result (AllMatch relocations.now section.now
+        (map D.decision decisions.new) (length relocations.now / 24)) }
+    ensures apart { OnOk result (AreApart relocations.now (map D.decision decisions.new)
+        (length relocations.now / 24)) }
+    ensures clear { OnOk result (AreClear architecture relocations.now section.now
+        (map D.decision decisions.new) (length relocations.now / 24)) }
+    ensures form { OnOk result
+        (All D.is_written (take (length relocations.now / 24) decisions.new)) }
+    ensures others_stay { drop (length relocations.now / 24) decisions.new
+        ≡ drop (length relocations.now / 24) decisions.old }
+    ensures rejected { IfErr result (IsRejected architecture output.now symbols.now kept.now
+        relocations.now section.now (map D.decision decisions.new)) }
+    ensures surveyed { IfErr result (MeansUnsurveyed (pre_layout architecture output.now symbols.now)
+        relocations.now section.now kept.now) }
+{
+    let context = RelaxContext {
+        architecture,
+        phase: Phase::PreLayout,
+        output,
+        symbols,
+        addresses: &NO_ADDRESSES,
+        values: &[],
+    };
+    decide_section(&context, kept, relocations, section, decisions)
 }
 
 /// Rewrites the instructions of a section of code as `choose` says before addresses are known, and
@@ -201,21 +248,158 @@ pub fn rewrite_section<D: AsDecision>(
     ensures section { OnErr result (section.new ≡ section.old) }
     ensures entries { OnErr result (relocations.new ≡ relocations.old) }
 {
-    let context = RelaxContext {
+    match decide_pre_layout(
         architecture,
-        phase: Phase::PreLayout,
         output,
         symbols,
-        addresses: &NO_ADDRESSES,
-        values: &[],
-    };
-    match decide_section(&context, kept, relocations, section, decisions) {
+        kept,
+        relocations,
+        section,
+        decisions,
+    ) {
         Ok(changes) => {
             make_changes(changes, decisions, relocations, section);
             Ok(())
         }
         Err(error) => Err(error),
     }
+}
+
+/// Decides what `rewrite_section` would do, and writes nothing but `decisions`. So a linker can
+/// decide while it scans inputs that it maps read-only, once all sections of code of the object are
+/// surveyed, and other sections may be decided by other threads at the same time. `make_rewrites`
+/// makes the decisions, once the section is copied to the output.
+///
+/// What a relocation still requires is that of its type afterwards: the choice's `relocation`, and
+/// nothing of one that is `Decision::Consumed`. None is `Decision::RewrittenWithSymbol`.
+///
+/// No decision depends on an address. A branch is rewritten by its symbol's facts alone: AArch64's
+/// to an undefined weak symbol becomes a `nop`, whose relocation has the type 0, and the `nop` after
+/// PowerPC64's call restores the TOC pointer where `SymbolFacts` say that the function may change
+/// it. So a linker may still choose a stub as the target of a branch that keeps its relocation.
+///
+/// # Errors
+///
+/// Those of `rewrite_section`.
+///
+/// ```
+/// use linker_rewriting::decisions::{Decision, DecisionError};
+/// use linker_rewriting::facts::{OutputFacts, SymbolFacts};
+/// use linker_rewriting::groups::UnrelaxableGroups;
+/// use linker_rewriting::sections::{decide_rewrites, make_rewrites};
+/// use linker_utils::elf::Architecture;
+///
+/// // call *f@GOTPCREL(%rip), with R_X86_64_GOTPCRELX of symbol 1 at 2, becomes addr32 call f
+/// let input = [0xff, 0x15, 0, 0, 0, 0];
+/// let mut relocations = [0; 24];
+/// (relocations[0], relocations[8], relocations[12]) = (2, 41, 1);
+/// relocations[16..].copy_from_slice(&(-4i64).to_le_bytes());
+/// let mut decisions = [Decision::Kept];
+/// decide_rewrites(
+///     Architecture::X86_64,
+///     &OutputFacts { is_executable: true, is_fixed: false, has_near_symbols: true },
+///     &[SymbolFacts { is_local: true, ..SymbolFacts::default() }; 2],
+///     &[UnrelaxableGroups::default(); 2],
+///     &relocations,
+///     &input,
+///     &mut decisions,
+/// )
+/// .unwrap();
+/// let mut section = input;
+/// assert_eq!(make_rewrites(&mut relocations, &mut section, &decisions), Ok(()));
+/// assert_eq!(section, [0x67, 0xe8, 0, 0, 0, 0]);
+/// // R_X86_64_PC32, whose instruction isn't the one that was decided on
+/// assert_eq!(relocations[8], 2);
+/// let again = make_rewrites(&mut relocations, &mut section, &decisions);
+/// assert_eq!(again, Err(DecisionError::Changed(0)));
+/// ```
+pub fn decide_rewrites<D: AsDecision>(
+    architecture: Architecture,
+    output: &OutputFacts,
+    symbols: &[SymbolFacts],
+    kept: &[UnrelaxableGroups],
+    relocations: &[u8],
+    section: &[u8],
+    decisions: &mut [D],
+) -> Result<(), RewritingError>
+    ensures decided { OnOk result (AreDecided architecture output.now symbols.now kept.now
+        relocations.now section.now (map D.decision decisions.new) (length relocations.now / 24)) }
+    ensures groups { OnOk result (GroupsAreWhole architecture relocations.now
+        (map D.decision decisions.new) (length relocations.now / 24)) }
+    ensures within { OnOk result (AllCanBeMade relocations.now section.now
+        (map D.decision decisions.new) (length relocations.now / 24)) }
+    ensures matches { OnOk result (AllMatch relocations.now section.now
+        (map D.decision decisions.new) (length relocations.now / 24)) }
+    ensures apart { OnOk result (AreApart relocations.now (map D.decision decisions.new)
+        (length relocations.now / 24)) }
+    ensures clear { OnOk result (AreClear architecture relocations.now section.now
+        (map D.decision decisions.new) (length relocations.now / 24)) }
+    ensures form { OnOk result
+        (All D.is_written (take (length relocations.now / 24) decisions.new)) }
+    ensures others_stay { drop (length relocations.now / 24) decisions.new
+        ≡ drop (length relocations.now / 24) decisions.old }
+    ensures rejected { IfErr result (IsRejected architecture output.now symbols.now kept.now
+        relocations.now section.now (map D.decision decisions.new)) }
+    ensures surveyed { IfErr result (MeansUnsurveyed (pre_layout architecture output.now symbols.now)
+        relocations.now section.now kept.now) }
+{
+    match decide_pre_layout(
+        architecture,
+        output,
+        symbols,
+        kept,
+        relocations,
+        section,
+        decisions,
+    ) {
+        Ok(_) => Ok(()),
+        Err(error) => Err(error),
+    }
+}
+
+/// Makes decisions of `decide_rewrites`: rewrites the instructions of a section, or of a copy, and
+/// turns its relocations into those after it. Section and relocations then are what
+/// `rewrite_section` leaves.
+///
+/// The relocations have to be those that were decided on, with their offsets in this section: it is
+/// called before values are written, and before the section is packed. Where these and the section
+/// are unchanged, it returns no error (`laws::decisions_are_made`). Any decisions are accepted that
+/// pass the tests below, whoever made them. What isn't tested is what is decided by other
+/// relocations: that a group is whole, and that no rewrite changes another relocation's field.
+///
+/// # Errors
+///
+/// The section and its relocations are as before. `TooShort`: there are more relocations than
+/// `decisions`. Else the error of the first relocation that has one. `Changed`: the instructions
+/// there aren't those that the decision's rewrite is meant for, as `Relaxation::matches` says, or
+/// what it deletes isn't in the section. `Overlaps`: it rewrites or deletes bytes that a decision
+/// before it does too, or bytes below those.
+pub fn make_rewrites<D: AsDecision>(
+    relocations: &mut [u8],
+    section: &mut [u8],
+    decisions: &[D],
+) -> Result<(), DecisionError>
+    ensures enough { OnOk result (length relocations.old / 24 ≤ length decisions.now) }
+    ensures within { OnOk result (AllCanBeMade relocations.old section.old
+        (map D.decision decisions.now) (length relocations.old / 24)) }
+    ensures matches { OnOk result (AllMatch relocations.old section.old
+        (map D.decision decisions.now) (length relocations.old / 24)) }
+    ensures apart { OnOk result (AreApart relocations.old (map D.decision decisions.now)
+        (length relocations.old / 24)) }
+    ensures relocations { OnOk result (AreRelocationsAfter (map D.decision decisions.now)
+        relocations.old relocations.new (length relocations.old / 24)) }
+    ensures done { OnOk result (AreDone relocations.old (map D.decision decisions.now) section.old
+        section.new (length relocations.old / 24)) }
+    ensures others { OnOk result (OthersStay relocations.old (map D.decision decisions.now)
+        section.old section.new (length relocations.old / 24)) }
+    ensures unmade { IfErr result (IsUnmade relocations.old section.old
+        (map D.decision decisions.now)) }
+    ensures section { OnErr result (section.new ≡ section.old) }
+    ensures entries { OnErr result (relocations.new ≡ relocations.old) }
+{
+    check_decisions(relocations, section, decisions)?;
+    make_all(decisions, relocations, section);
+    Ok(())
 }
 
 /// Lists what decisions delete, in the caller's memory. Returns how many there are; none where

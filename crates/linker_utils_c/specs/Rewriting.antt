@@ -6,6 +6,7 @@ use Rattle.linker_elf.specs.declared.elf.choice.Choice.{Choice}
 use Rattle.linker_rewriting.specs.Agreement.{Agree}
 use Rattle.linker_rewriting.specs.Decisions.{AreDecidedIn, AreApart, AreClear, AllCanBeMade}
 use Rattle.linker_rewriting.specs.Decisions.{IsRejectedIn, IsRejectedPlaced, deletions_by}
+use Rattle.linker_rewriting.specs.Decisions.{AllMatch, IsUnmade}
 use Rattle.linker_rewriting.specs.Facts.{RelaxContext}
 use Rattle.linker_rewriting.specs.Rewritten.{AreRelocationsAfter, AreDone, OthersStay}
 use Rattle.linker_rewriting.specs.Rewritten.{GroupsAreWholeIn}
@@ -13,6 +14,8 @@ use Rattle.linker_rewriting.specs.declared.decisions.Decision.{Decision}
 use Rattle.linker_rewriting.specs.declared.decisions.Decision.TheVariants.{Kept, Rewritten}
 use Rattle.linker_rewriting.specs.declared.decisions.Decision.TheVariants.{Consumed}
 use Rattle.linker_rewriting.specs.declared.decisions.Decision.TheVariants.{RewrittenWithSymbol}
+use Rattle.linker_rewriting.specs.declared.decisions.DecisionError.{DecisionError}
+use Rattle.linker_rewriting.specs.declared.decisions.DecisionError.TheVariants as making
 use Rattle.linker_rewriting.specs.declared.decisions.Subject.{Subject}
 use Rattle.linker_rewriting.specs.declared.decisions.RewritingError.{RewritingError}
 use Rattle.linker_rewriting.specs.declared.decisions.RewritingError.TheVariants as errors
@@ -31,7 +34,7 @@ use Rattle.linker_utils_c.specs.declared.rewriting.DecisionNumbers.{DecisionNumb
 use Rattle.linker_utils_c.specs.declared.status.Status.{Status}
 use Rattle.linker_utils_c.specs.declared.status.Status.TheVariants.{Success, ShortMemory}
 use Rattle.linker_utils_c.specs.declared.status.Status.TheVariants.{NotSurveyed, Overlaps}
-use Rattle.linker_utils_c.specs.declared.status.Status.TheVariants.{FactsContradict}
+use Rattle.linker_utils_c.specs.declared.status.Status.TheVariants.{FactsContradict, DoesNotMatch}
 
 -- ---- phases
 
@@ -160,6 +163,56 @@ IsRewriteReturned s kept bytes bytes_after section section_after old new old_fau
     × All IsWrittenDecision (take (length bytes / 24) new))
     ⊎ IsErrorReturned (IsRejectedIn s kept bytes section (decisions_in new)) bytes bytes_after
     section section_after old_faulty faulty status)
+
+-- it is decided, and neither it nor its relocations are written
+pub record AreDecidedAs (s : RelaxContext) (kept : List UnrelaxableGroups) (bytes section : List ℕ)
+    (decisions : List Decision) : Type 0 where
+  pub decided : AreDecidedIn s kept bytes section decisions (length bytes / 24)
+  pub groups : GroupsAreWholeIn s.architecture s.phase bytes decisions (length bytes / 24)
+  pub within : AllCanBeMade bytes section decisions (length bytes / 24)
+  pub matches : AllMatch bytes section decisions (length bytes / 24)
+  pub apart : AreApart bytes decisions (length bytes / 24)
+  pub clear : AreClear s.architecture bytes section decisions (length bytes / 24)
+
+abbrev pub IsDecisionReturned : RelaxContext → List UnrelaxableGroups → List ℕ → List ℕ
+    → List DecisionNumbers → List DecisionNumbers → ℕ → ℕ → ℕ → Type 0
+IsDecisionReturned s kept bytes section old new old_faulty faulty status =
+    (drop (length bytes / 24) new ≡ drop (length bytes / 24) old)
+    × (((status ≡ code Success) × (faulty ≡ old_faulty)
+    × AreDecidedAs s kept bytes section (decisions_in new)
+    × All IsWrittenDecision (take (length bytes / 24) new))
+    ⊎ IsErrorReturned (IsRejectedIn s kept bytes section (decisions_in new)) bytes bytes
+    section section old_faulty faulty status)
+
+-- it is rewritten as was decided
+pub record AreMadeAs (bytes bytes_after section section_after : List ℕ) (decisions : List Decision)
+    : Type 0 where
+  pub enough : length bytes / 24 ≤ length decisions
+  pub within : AllCanBeMade bytes section decisions (length bytes / 24)
+  pub matches : AllMatch bytes section decisions (length bytes / 24)
+  pub apart : AreApart bytes decisions (length bytes / 24)
+  pub relocations : AreRelocationsAfter decisions bytes bytes_after (length bytes / 24)
+  pub done : AreDone bytes decisions section section_after (length bytes / 24)
+  pub others : OthersStay bytes decisions section section_after (length bytes / 24)
+
+abbrev pub making_status : DecisionError → Status
+making_status making.TooShort = ShortMemory
+making_status (making.Changed n) = DoesNotMatch
+making_status (making.Overlaps n) = Overlaps
+
+abbrev pub making_faulty : DecisionError → ℕ → ℕ
+making_faulty making.TooShort old = old
+making_faulty (making.Changed n) old = n
+making_faulty (making.Overlaps n) old = n
+
+abbrev pub IsMakingReturned : List ℕ → List ℕ → List ℕ → List ℕ → List DecisionNumbers → ℕ → ℕ → ℕ
+    → Type 0
+IsMakingReturned bytes bytes_after section section_after decisions old_faulty faulty status =
+    ((status ≡ code Success) × (faulty ≡ old_faulty)
+    × AreMadeAs bytes bytes_after section section_after (decisions_in decisions))
+    ⊎ ((error : DecisionError) × IsUnmade bytes section (decisions_in decisions) error
+    × (status ≡ code (making_status error)) × (faulty ≡ making_faulty error old_faulty)
+    × (bytes_after ≡ bytes) × (section_after ≡ section))
 
 -- what is to be deleted is written first, is in the section, and is listed as it ascends
 pub record AreDeletionsTo (bytes section : List ℕ) (decisions : List Decision)

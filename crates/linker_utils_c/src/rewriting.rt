@@ -14,16 +14,19 @@ ghost use Rattle.linker_utils_c.specs.AddressLoads.{AreLoadsReturned};
 ghost use Rattle.linker_utils_c.specs.Rewriting.{phase_of, of_fate, choice_in, subject_in};
 ghost use Rattle.linker_utils_c.specs.Rewriting.{IsRewriteReturned, IsPlacedReturned};
 ghost use Rattle.linker_utils_c.specs.Rewriting.{rewriting_status, faulty_after};
-ghost use Rattle.linker_utils_c.specs.Rewriting.{IsSurveyReturned};
+ghost use Rattle.linker_utils_c.specs.Rewriting.{IsSurveyReturned, IsDecisionReturned, IsMakingReturned};
+ghost use Rattle.linker_utils_c.specs.Rewriting.{making_status, making_faulty};
 ghost use Rattle.linker_utils_c.specs.Status.{code};
 
 use crate::deltas::Deletion;
 use crate::status::Status;
-use linker_rewriting::decisions::{AsDecision, Decision, FromDeletion, RewritingError, Subject};
+use linker_rewriting::decisions::{AsDecision, Decision, DecisionError, FromDeletion};
+use linker_rewriting::decisions::{RewritingError, Subject};
 use linker_rewriting::facts::{OutputFacts, SymbolFacts};
 use linker_rewriting::groups::{UnrelaxableGroups, has_rewrites};
 use linker_rewriting::phases::Phase;
-use linker_rewriting::sections::{rewrite_placed_section, rewrite_section};
+use linker_rewriting::sections::{decide_rewrites, make_rewrites, rewrite_placed_section};
+use linker_rewriting::sections::rewrite_section;
 use linker_rewriting::surveys::{survey, survey_placed_section};
 use linker_rewriting::toc_indirection::{rewrite_toc_loads, survey_toc_loads};
 use linker_section::facts::{Addresses, Symbol};
@@ -349,6 +352,85 @@ pub extern "C" fn linker_utils_rewrite_section_nonnull(
     ) {
         Ok(()) => Status::Success.number(),
         Err(error) => put_error(error, faulty),
+    }
+}
+
+/// Decides what `linker_utils_rewrite_section` would do, and writes nothing but `decisions`, as
+/// `decide_rewrites` of `linker_rewriting`. The statuses are those of that call.
+#[unsafe(no_mangle)]
+pub extern "C" fn linker_utils_decide_rewrites_nonnull(
+    machine: u16,
+    output: &OutputFacts,
+    symbols: &[SymbolFacts],
+    kept: &[UnrelaxableGroups],
+    relocations: &[u8],
+    section: &[u8],
+    decisions: &mut [DecisionNumbers],
+    faulty: &mut usize,
+) -> u32
+    ensures known { IfSome (architecture_of machine) (λ architecture.
+        IsDecisionReturned (pre_layout architecture output.now symbols.now) kept.now relocations.now
+        section.now decisions.old decisions.new faulty.old faulty.new result) }
+    ensures unknown { IfNone (architecture_of machine)
+        ((result ≡ code Status.UnknownArchitecture) × (decisions.new ≡ decisions.old)
+        × (faulty.new ≡ faulty.old)) }
+{
+    let Some(architecture) = Architecture::from_machine(machine) else {
+        return Status::UnknownArchitecture.number();
+    };
+    match decide_rewrites(
+        architecture,
+        output,
+        symbols,
+        kept,
+        relocations,
+        section,
+        decisions,
+    ) {
+        Ok(()) => Status::Success.number(),
+        Err(error) => put_error(error, faulty),
+    }
+}
+
+/// The status of an error of `make_rewrites`. The index of the relocation at fault is written, if
+/// one is.
+#[inline(always)]
+fn put_making_error(error: DecisionError, faulty: &mut usize) -> u32
+    ensures status { result ≡ code (making_status error) }
+    ensures faulty { faulty.new ≡ making_faulty error faulty.old }
+{
+    match error {
+        DecisionError::TooShort => Status::ShortMemory.number(),
+        DecisionError::Changed(index) => {
+            *faulty = index;
+            Status::DoesNotMatch.number()
+        }
+        DecisionError::Overlaps(index) => {
+            *faulty = index;
+            Status::Overlaps.number()
+        }
+    }
+}
+
+/// Makes decisions of `linker_utils_decide_rewrites`, as `make_rewrites` of `linker_rewriting`. Any
+/// bytes are decisions.
+///
+/// `ShortMemory`, where there are fewer decisions than relocations; else why it can't rewrite the
+/// relocation at `faulty`: `DoesNotMatch` or `Overlaps`. Then the section and its relocations are
+/// unchanged.
+#[unsafe(no_mangle)]
+pub extern "C" fn linker_utils_make_rewrites_nonnull(
+    relocations: &mut [u8],
+    section: &mut [u8],
+    decisions: &[DecisionNumbers],
+    faulty: &mut usize,
+) -> u32
+    ensures { IsMakingReturned relocations.old relocations.new section.old section.new
+        decisions.now faulty.old faulty.new result }
+{
+    match make_rewrites(relocations, section, decisions) {
+        Ok(()) => Status::Success.number(),
+        Err(error) => put_making_error(error, faulty),
     }
 }
 

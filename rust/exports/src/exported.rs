@@ -2147,6 +2147,58 @@ unsafe extern "C" fn linker_utils_rewrite_section_nonnull(
 }
 
 #[unsafe(no_mangle)]
+unsafe extern "C" fn linker_utils_decide_rewrites_nonnull(
+    machine: u16,
+    output: *const OutputFacts,
+    symbols: *const SymbolFacts,
+    symbols_len: usize,
+    kept: *const UnrelaxableGroups,
+    kept_len: usize,
+    relocations: *const u8,
+    relocations_len: usize,
+    section: *const u8,
+    section_len: usize,
+    decisions: *mut DecisionNumbers,
+    decisions_len: usize,
+    faulty: *mut usize,
+) -> u32 {
+    // SAFETY: the arguments are as the head of the header says.
+    unsafe {
+        crate::rewriting::linker_utils_decide_rewrites_nonnull(
+            machine,
+            &*output,
+            from_raw_parts(symbols, symbols_len),
+            from_raw_parts(kept, kept_len),
+            from_raw_parts(relocations, relocations_len),
+            from_raw_parts(section, section_len),
+            from_raw_parts_mut(decisions, decisions_len),
+            &mut *faulty,
+        )
+    }
+}
+
+#[unsafe(no_mangle)]
+unsafe extern "C" fn linker_utils_make_rewrites_nonnull(
+    relocations: *mut u8,
+    relocations_len: usize,
+    section: *mut u8,
+    section_len: usize,
+    decisions: *const DecisionNumbers,
+    decisions_len: usize,
+    faulty: *mut usize,
+) -> u32 {
+    // SAFETY: the arguments are as the head of the header says.
+    unsafe {
+        crate::rewriting::linker_utils_make_rewrites_nonnull(
+            from_raw_parts_mut(relocations, relocations_len),
+            from_raw_parts_mut(section, section_len),
+            from_raw_parts(decisions, decisions_len),
+            &mut *faulty,
+        )
+    }
+}
+
+#[unsafe(no_mangle)]
 unsafe extern "C" fn linker_utils_rewrite_placed_section_nonnull(
     machine: u16,
     phase: u32,

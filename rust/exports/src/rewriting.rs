@@ -4,11 +4,13 @@
 
 use crate::deltas::Deletion;
 use crate::status::Status;
-use linker_utils::source::rewriting::{AsDecision, Decision, FromDeletion, RewritingError, Subject};
+use linker_utils::source::rewriting::{AsDecision, Decision, DecisionError, FromDeletion};
+use linker_utils::source::rewriting::{RewritingError, Subject};
 use linker_utils::source::rewriting::{OutputFacts, SymbolFacts};
 use linker_utils::source::rewriting::{UnrelaxableGroups, has_rewrites};
 use linker_utils::source::rewriting::Phase;
-use linker_utils::source::rewriting::{rewrite_placed_section, rewrite_section};
+use linker_utils::source::rewriting::{decide_rewrites, make_rewrites, rewrite_placed_section};
+use linker_utils::source::rewriting::rewrite_section;
 use linker_utils::source::rewriting::{survey, survey_placed_section};
 use linker_utils::source::rewriting::{rewrite_toc_loads, survey_toc_loads};
 use linker_utils::source::section::{Addresses, Symbol};
@@ -275,6 +277,70 @@ pub fn linker_utils_rewrite_section_nonnull(
     ) {
         Ok(()) => Status::Success.number(),
         Err(error) => put_error(error, faulty),
+    }
+}
+
+/// Decides what `linker_utils_rewrite_section` would do, and writes nothing but `decisions`, as
+/// `decide_rewrites` of `rewriting`. The statuses are those of that call.
+pub fn linker_utils_decide_rewrites_nonnull(
+    machine: u16,
+    output: &OutputFacts,
+    symbols: &[SymbolFacts],
+    kept: &[UnrelaxableGroups],
+    relocations: &[u8],
+    section: &[u8],
+    decisions: &mut [DecisionNumbers],
+    faulty: &mut usize,
+) -> u32 {
+    let Some(architecture) = Architecture::from_machine(machine) else {
+        return Status::UnknownArchitecture.number();
+    };
+    match decide_rewrites(
+        architecture,
+        output,
+        symbols,
+        kept,
+        relocations,
+        section,
+        decisions,
+    ) {
+        Ok(()) => Status::Success.number(),
+        Err(error) => put_error(error, faulty),
+    }
+}
+
+/// The status of an error of `make_rewrites`. The index of the relocation at fault is written, if
+/// one is.
+#[inline(always)]
+fn put_making_error(error: DecisionError, faulty: &mut usize) -> u32 {
+    match error {
+        DecisionError::TooShort => Status::ShortMemory.number(),
+        DecisionError::Changed(index) => {
+            *faulty = index;
+            Status::DoesNotMatch.number()
+        }
+        DecisionError::Overlaps(index) => {
+            *faulty = index;
+            Status::Overlaps.number()
+        }
+    }
+}
+
+/// Makes decisions of `linker_utils_decide_rewrites`, as `make_rewrites` of `rewriting`. Any
+/// bytes are decisions.
+///
+/// `ShortMemory`, where there are fewer decisions than relocations; else why it can't rewrite the
+/// relocation at `faulty`: `DoesNotMatch` or `Overlaps`. Then the section and its relocations are
+/// unchanged.
+pub fn linker_utils_make_rewrites_nonnull(
+    relocations: &mut [u8],
+    section: &mut [u8],
+    decisions: &[DecisionNumbers],
+    faulty: &mut usize,
+) -> u32 {
+    match make_rewrites(relocations, section, decisions) {
+        Ok(()) => Status::Success.number(),
+        Err(error) => put_making_error(error, faulty),
     }
 }
 

@@ -3,16 +3,20 @@
 //! random states, and compares what they leave.
 //!
 //! usage: groups [--states N] [--layouts N] [--list] [--damage] FILE..
+//!        groups --decide FILE..
 //!
 //! `--list` also prints relocations that are rewritten and of which it knows no sequence. With
 //! `--damage` a bit of each rewritten instruction is changed, and the program fails where no
 //! difference is seen of some type of relocation.
+//!
+//! With `--decide` it only compares what is decided first and made later with `rewrite_section`.
 //!
 //! Each object is linked by itself, with addresses and facts at random. Its relocations' values are
 //! written into the object's instructions, and into those after all rewrites. Both run in the
 //! emulator unicorn, with a GOT, TLS descriptors and `__tls_get_addr`. What they leave in registers,
 //! flags and memory has to be the same, but for what the ABI lets the sequence change.
 
+mod deciding;
 mod interpreter;
 mod layout;
 mod linking;
@@ -61,12 +65,13 @@ struct Options {
     layouts: u64,
     damages: bool,
     lists: bool,
+    decides: bool,
     files: Vec<String>,
 }
 
 fn options() -> Result<Options, Box<dyn Error>> {
     let mut options =
-        Options { states: 2, layouts: 1, damages: false, lists: false, files: Vec::new() };
+        Options { states: 2, layouts: 1, damages: false, lists: false, decides: false, files: Vec::new() };
     let mut arguments = std::env::args().skip(1);
     while let Some(argument) = arguments.next() {
         let mut number = || -> Result<u64, Box<dyn Error>> {
@@ -76,6 +81,7 @@ fn options() -> Result<Options, Box<dyn Error>> {
             "--states" => options.states = number()?,
             "--damage" => options.damages = true,
             "--list" => options.lists = true,
+            "--decide" => options.decides = true,
             "--layouts" => options.layouts = number()?,
             _ => options.files.push(argument),
         }
@@ -268,6 +274,9 @@ fn run_object(
 
 fn run() -> Result<bool, Box<dyn Error>> {
     let options = options()?;
+    if options.decides {
+        return deciding::run(&options.files);
+    }
     let mut report = Report::default();
     let mut machines: BTreeMap<String, Box<dyn Processor>> = BTreeMap::new();
     for file in &options.files {

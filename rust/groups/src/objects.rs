@@ -8,8 +8,8 @@ use object::read::archive::ArchiveFile;
 use object::read::elf::{FileHeader, SectionHeader, Sym};
 use std::error::Error;
 
-const LE: LittleEndian = LittleEndian;
-type Head = FileHeader64<LittleEndian>;
+pub const LE: LittleEndian = LittleEndian;
+pub type Head = FileHeader64<LittleEndian>;
 
 /// Where an object's symbol is.
 #[derive(Clone, Copy, PartialEq, Eq)]
@@ -51,28 +51,34 @@ pub struct Object {
     pub symbols: Vec<Symbol>,
 }
 
-/// Calls a function with each object of a file, and its member's name in an archive.
-pub fn each_object(
-    data: &[u8],
-    mut with: impl FnMut(&str, Object) -> Result<(), Box<dyn Error>>,
+/// Calls a function with each ELF file of an archive, and its member's name, or with the file itself.
+pub fn each_member<'a>(
+    data: &'a [u8],
+    mut with: impl FnMut(&str, &'a [u8]) -> Result<(), Box<dyn Error>>,
 ) -> Result<(), Box<dyn Error>> {
     if !data.starts_with(b"!<arch>\n") {
-        return match read(data)? {
-            Some(object) => with("", object),
-            None => Ok(()),
-        };
+        return with("", data);
     }
     for member in ArchiveFile::parse(data)?.members() {
         let member = member?;
         let name = String::from_utf8_lossy(member.name()).into_owned();
         let bytes = member.data(data)?;
-        if bytes.starts_with(b"\x7fELF")
-            && let Some(object) = read(bytes)?
-        {
-            with(&name, object)?;
+        if bytes.starts_with(b"\x7fELF") {
+            with(&name, bytes)?;
         }
     }
     Ok(())
+}
+
+/// Calls a function with each object of a file, and its member's name in an archive.
+pub fn each_object(
+    data: &[u8],
+    mut with: impl FnMut(&str, Object) -> Result<(), Box<dyn Error>>,
+) -> Result<(), Box<dyn Error>> {
+    each_member(data, |name, bytes| match read(bytes)? {
+        Some(object) => with(name, object),
+        None => Ok(()),
+    })
 }
 
 /// An object of an architecture that the library has; none of another file.

@@ -58,7 +58,7 @@ fn finds_next(
 
 /// Whether what is deleted after a rewrite at an offset is in the section.
 #[inline(always)]
-fn deletes_within(section: &[u8], offset: u64, deleted: Option<DeletedBytes>) -> bool {
+pub(crate) fn deletes_within(section: &[u8], offset: u64, deleted: Option<DeletedBytes>) -> bool {
     let Some(deleted) = deleted else {
         return true;
     };

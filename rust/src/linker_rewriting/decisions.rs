@@ -102,6 +102,20 @@ pub enum RewritingError {
     Contradiction(usize),
 }
 
+/// Why decisions aren't made.
+#[cfg_attr(not(exhaustive), non_exhaustive)]
+#[derive(Clone, Copy, Debug, PartialEq, Eq, Hash)]
+pub enum DecisionError {
+    /// There are fewer decisions than relocations.
+    TooShort,
+    /// The instructions at the relocation with this index aren't those that its decision rewrites,
+    /// or what it deletes isn't in the section.
+    Changed(usize),
+    /// Bytes that would be rewritten or deleted at the relocation with this index are also
+    /// rewritten or deleted at one before it, or lie below such bytes.
+    Overlaps(usize),
+}
+
 impl Decision {
     /// Whether the next relocation goes, since the rewrite takes it along.
     #[must_use]

@@ -3,7 +3,9 @@
 //! The rewrites of a section, made in one call for each phase.
 
 use crate::linker_rewriting::agreement::contradiction;
-use crate::linker_rewriting::decisions::{AsDecision, Decision, FromDeletion, RewritingError, decide_section};
+use crate::linker_rewriting::checked::check_decisions;
+use crate::linker_rewriting::decisions::{AsDecision, Decision, DecisionError, FromDeletion, RewritingError};
+use crate::linker_rewriting::decisions::decide_section;
 use crate::linker_rewriting::facts::{NO_ADDRESSES, OutputFacts, RelaxContext, SymbolFacts};
 use crate::linker_rewriting::groups::UnrelaxableGroups;
 use crate::linker_rewriting::phases::Phase;
@@ -59,6 +61,27 @@ fn make_changes<D: AsDecision>(
     }
 }
 
+/// Decides before layout. False if all relocations stay as they are by their codes.
+fn decide_pre_layout<D: AsDecision>(
+    architecture: Architecture,
+    output: &OutputFacts,
+    symbols: &[SymbolFacts],
+    kept: &[UnrelaxableGroups],
+    relocations: &[u8],
+    section: &[u8],
+    decisions: &mut [D],
+) -> Result<bool, RewritingError> {
+    let context = RelaxContext {
+        architecture,
+        phase: Phase::PreLayout,
+        output,
+        symbols,
+        addresses: &NO_ADDRESSES,
+        values: &[],
+    };
+    decide_section(&context, kept, relocations, section, decisions)
+}
+
 /// `crate::link::rewrite_section`, with more parameters.
 ///
 /// ```
@@ -102,21 +125,88 @@ pub fn rewrite_section<D: AsDecision>(
     section: &mut [u8],
     decisions: &mut [D],
 ) -> Result<(), RewritingError> {
-    let context = RelaxContext {
+    match decide_pre_layout(
         architecture,
-        phase: Phase::PreLayout,
         output,
         symbols,
-        addresses: &NO_ADDRESSES,
-        values: &[],
-    };
-    match decide_section(&context, kept, relocations, section, decisions) {
+        kept,
+        relocations,
+        section,
+        decisions,
+    ) {
         Ok(changes) => {
             make_changes(changes, decisions, relocations, section);
             Ok(())
         }
         Err(error) => Err(error),
     }
+}
+
+/// `crate::link::decide_rewrites`, with more parameters.
+///
+/// ```
+/// use linker_utils::source::rewriting::{Decision, DecisionError};
+/// use linker_utils::source::rewriting::{OutputFacts, SymbolFacts};
+/// use linker_utils::source::rewriting::UnrelaxableGroups;
+/// use linker_utils::source::rewriting::{decide_rewrites, make_rewrites};
+/// use linker_utils::elf::Architecture;
+///
+/// // call *f@GOTPCREL(%rip), with R_X86_64_GOTPCRELX of symbol 1 at 2, becomes addr32 call f
+/// let input = [0xff, 0x15, 0, 0, 0, 0];
+/// let mut relocations = [0; 24];
+/// (relocations[0], relocations[8], relocations[12]) = (2, 41, 1);
+/// relocations[16..].copy_from_slice(&(-4i64).to_le_bytes());
+/// let mut decisions = [Decision::Kept];
+/// decide_rewrites(
+///     Architecture::X86_64,
+///     &OutputFacts { is_executable: true, is_fixed: false, has_near_symbols: true },
+///     &[SymbolFacts { is_local: true, ..SymbolFacts::default() }; 2],
+///     &[UnrelaxableGroups::default(); 2],
+///     &relocations,
+///     &input,
+///     &mut decisions,
+/// )
+/// .unwrap();
+/// let mut section = input;
+/// assert_eq!(make_rewrites(&mut relocations, &mut section, &decisions), Ok(()));
+/// assert_eq!(section, [0x67, 0xe8, 0, 0, 0, 0]);
+/// // R_X86_64_PC32, whose instruction isn't the one that was decided on
+/// assert_eq!(relocations[8], 2);
+/// let again = make_rewrites(&mut relocations, &mut section, &decisions);
+/// assert_eq!(again, Err(DecisionError::Changed(0)));
+/// ```
+pub fn decide_rewrites<D: AsDecision>(
+    architecture: Architecture,
+    output: &OutputFacts,
+    symbols: &[SymbolFacts],
+    kept: &[UnrelaxableGroups],
+    relocations: &[u8],
+    section: &[u8],
+    decisions: &mut [D],
+) -> Result<(), RewritingError> {
+    match decide_pre_layout(
+        architecture,
+        output,
+        symbols,
+        kept,
+        relocations,
+        section,
+        decisions,
+    ) {
+        Ok(_) => Ok(()),
+        Err(error) => Err(error),
+    }
+}
+
+/// `crate::link::make_rewrites`, with more parameters.
+pub fn make_rewrites<D: AsDecision>(
+    relocations: &mut [u8],
+    section: &mut [u8],
+    decisions: &[D],
+) -> Result<(), DecisionError> {
+    check_decisions(relocations, section, decisions)?;
+    make_all(decisions, relocations, section);
+    Ok(())
 }
 
 /// Lists what decisions delete, in the caller's memory. Returns how many there are; none where

@@ -10,7 +10,7 @@ use Rattle.linker_rewriting.specs.RiscVPcrelGroups.{IsInLabel, IsLabelNote}
 use Rattle.linker_rewriting.specs.Notes.{is_note}
 use Rattle.linker_rewriting.specs.declared.decisions.Decision.TheVariants.{Kept}
 use Rattle.linker_rewriting.proofs.KeptCalls.{left_decided}
-use Rattle.linker_rewriting.specs.Decisions.{decision_at, CanBeMade, IsDecisionAfter, IsEndAfter, start_by, end_by}
+use Rattle.linker_rewriting.specs.Decisions.{decision_at, CanBeMade, Matches, IsDecisionAfter, IsEndAfter, start_by, end_by}
 use Rattle.linker_rewriting.proofs.decisions.decide_all.Goals as goal
 
 pub returns-in_default-clause-rejected : goal.returns-in_default-clause-rejected
@@ -82,6 +82,8 @@ loop-index-preserved g c =
           (subst (IsDecisionAfter s a.kept.now a.relocations.now a.section.now k r c.loop-index.is_taken) c.in-Some.is c.decide_after.ensures.decision) same)
           (subst (λ y. CanBeMade d a.section.now y.offset) same
           (subst (λ x. IfSome x (λ y. CanBeMade y a.section.now r.offset)) c.in-Some.is c.decide_after.ensures.made))
+          (subst (λ y. Matches d a.section.now y.offset) same
+          (subst (λ x. IfSome x (λ y. Matches y a.section.now r.offset)) c.in-Some.is c.decide_after.ensures.matches))
           grow));
       form = written_more g.D.AsDecision.is_written xs k c.from_decision-in-loop-index.result within c.from_decision-in-loop-index.ensures.form c.loop-index.invariant.form;
       others = drop-set-lt (length a.relocations.now / 24) xs k c.from_decision-in-loop-index.result less ∙ c.loop-index.invariant.others;

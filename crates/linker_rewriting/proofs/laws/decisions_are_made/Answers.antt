@@ -1,0 +1,5 @@
+use Rattle.linker_rewriting.proofs.Checked.{decisions_are_made}
+use Rattle.linker_rewriting.proofs.laws.decisions_are_made.Goals as goal
+
+pub returns : goal.returns
+returns c = decisions_are_made
