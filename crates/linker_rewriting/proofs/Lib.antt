@@ -1,4 +1,7 @@
+pub mod AArch64Sequences
+pub mod Chosen
 pub mod Deciding
+pub mod Entries
 pub mod GlobalPointer
 pub mod Keeping
 pub mod KeptBits
@@ -12,6 +15,7 @@ pub mod Noted
 pub mod Order
 pub mod PhaseTables
 pub mod Places
+pub mod PreLayout
 pub mod Surveying
 pub mod Unique
 pub mod Untouched
