@@ -7,60 +7,18 @@ use Rattle.linker_elf.specs.ElfNames.{IsNamed, IsNameOf, code_of}
 use Rattle.linker_elf.specs.declared.aarch64.relocations.AArch64Relocation.{AArch64Relocation}
 use Rattle.linker_elf.specs.declared.aarch64.relocations.AArch64Relocation.TheVariants as names
 use Rattle.linker_elf.specs.declared.elf.choice.Choice.{Choice}
-use Rattle.linker_final.proofs.Chosen.{chosen_at}
-use Rattle.linker_final.proofs.Entries.{IsOfEntry as IsOfEntryIn, IsOfOne as IsOfOneIn, of_entry as of_entry_in, of_one as of_one_in}
+use Rattle.linker_rewriting.proofs.AArch64Sequences.{unlabelled}
+use Rattle.linker_rewriting.proofs.Chosen.{chosen_at}
+use Rattle.linker_rewriting.proofs.Entries.{IsOfEntry as IsOfEntryIn, IsOfOne as IsOfOneIn, of_entry as of_entry_in, of_one as of_one_in}
 use Rattle.linker_final.specs.Final.{AreRewritten, Linked, count}
 use Rattle.linker_rewriting.specs.Decisions.{decision_at}
-use Rattle.linker_rewriting.specs.Groups.{IsScopeIn, aarch64_scope, aarch64_scope_in}
-use Rattle.linker_rewriting.specs.RiscVPcrelGroups.{is_labelled}
+use Rattle.linker_rewriting.specs.Groups.{IsScopeIn}
 use Rattle.linker_rewriting.specs.declared.decisions.Decision.TheVariants.{Rewritten}
-use Rattle.linker_rewriting.specs.declared.groups.Scope.{Scope}
-use Rattle.linker_rewriting.specs.declared.groups.Scope.TheVariants.{Labelled}
-use Rattle.linker_rewriting.specs.declared.phases.Phase.{Phase}
-use Rattle.linker_rewriting.specs.declared.phases.Phase.TheVariants as phases
 use Rattle.linker_section.specs.Relocations.{relocation_in}
 use Rattle.linker_utils.specs.Relaxations.{IsArchitectureChoice}
 use Rattle.linker_utils.specs.declared.architecture.Relaxation.{Relaxation}
 use Rattle.linker_utils.specs.declared.architecture.Relaxation.TheVariants as relaxations
 use Rattle.linker_elf.specs.declared.elf.architecture.Architecture.TheVariants.{AArch64}
-
--- ---- scopes
-
-early_unlabelled : (name : AArch64Relocation) → is_labelled (aarch64_scope name) ≡ false
-early_unlabelled names.R_AARCH64_CALL26 = refl
-early_unlabelled names.R_AARCH64_JUMP26 = refl
-early_unlabelled names.R_AARCH64_TLSIE_ADR_GOTTPREL_PAGE21 = refl
-early_unlabelled names.R_AARCH64_TLSIE_LD64_GOTTPREL_LO12_NC = refl
-early_unlabelled names.R_AARCH64_TLSDESC_ADR_PAGE21 = refl
-early_unlabelled names.R_AARCH64_TLSDESC_LD64_LO12 = refl
-early_unlabelled names.R_AARCH64_TLSDESC_ADD_LO12 = refl
-early_unlabelled names.R_AARCH64_TLSDESC_CALL = refl
-early_unlabelled name = refl
-
-loads_unlabelled : (name : AArch64Relocation) → is_labelled (aarch64_scope_in phases.GotToPcRel name) ≡ false
-loads_unlabelled names.R_AARCH64_ADR_GOT_PAGE = refl
-loads_unlabelled names.R_AARCH64_LD64_GOT_LO12_NC = refl
-loads_unlabelled name = refl
-
-distances_unlabelled : (name : AArch64Relocation) → is_labelled (aarch64_scope_in phases.ShortPcRel name) ≡ false
-distances_unlabelled names.R_AARCH64_ADR_PREL_PG_HI21 = refl
-distances_unlabelled names.R_AARCH64_ADD_ABS_LO12_NC = refl
-distances_unlabelled name = refl
-
-unlabelled_in : (phase : Phase) (name : AArch64Relocation)
-    → is_labelled (aarch64_scope_in phase name) ≡ false
-unlabelled_in phases.PreLayout name = early_unlabelled name
-unlabelled_in phases.TlsLocalExec name = refl
-unlabelled_in phases.GotToPcRel name = loads_unlabelled name
-unlabelled_in phases.ShortPcRel name = distances_unlabelled name
-
--- AArch64 has no labels
-unlabelled : (phase : Phase) (code : ℕ) (scope : Scope) → IsScopeIn AArch64 phase code scope
-    → scope ≡ Labelled → ⊥
-unlabelled phase code scope is labelled =
-    let no : is_labelled scope ≡ false = ap is_labelled is.value_is ∙ unlabelled_in phase is.name in
-    let yes : is_labelled scope ≡ true = ap is_labelled labelled in
-    let e : true ≡ false = sym yes ∙ no in cc
 
 -- ---- the entry
 

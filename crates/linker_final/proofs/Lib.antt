@@ -6,9 +6,6 @@ pub mod AArch64Loads
 pub mod AArch64Twice
 pub mod AArch64Written
 pub mod Branches
-pub mod Chosen
-pub mod PreLayout
-pub mod Entries
 pub mod Fields
 pub mod Inner
 pub mod InstructionFields

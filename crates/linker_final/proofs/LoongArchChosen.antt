@@ -6,9 +6,9 @@ use Rattle.linker_elf.specs.declared.elf.choice.Choice.{Choice}
 use Rattle.linker_elf.specs.declared.elf.choice.LinkFacts.{LinkFacts}
 use Rattle.linker_elf.specs.declared.loongarch64.relocations.LoongArch64Relocation.{LoongArch64Relocation}
 use Rattle.linker_elf.specs.declared.loongarch64.relocations.LoongArch64Relocation.TheVariants as names
-use Rattle.linker_final.proofs.Chosen.{IsChosen, chosen_at}
-use Rattle.linker_final.proofs.PreLayout.{AreEarly, IsListed, are_early, listed_at}
-use Rattle.linker_final.proofs.Entries.{IsOfEntry, IsOfOne, of_one}
+use Rattle.linker_rewriting.proofs.Chosen.{IsChosen, chosen_at}
+use Rattle.linker_rewriting.proofs.PreLayout.{AreEarly, IsListed, are_early, listed_at}
+use Rattle.linker_rewriting.proofs.Entries.{IsOfEntry, IsOfOne, of_one}
 use Rattle.linker_final.specs.Final.{Linked, count}
 use Rattle.linker_utils.specs.LoongArchRewrites.{HasPattern, LoongArchApplies, LoongArchEntry, loongarch_entries}
 use Rattle.linker_utils.specs.declared.loongarch64.rewrites.RewriteKind.{RewriteKind}

@@ -14,7 +14,7 @@ use Rattle.linker_elf.specs.declared.elf.RelocationKindInfo.{RelocationKindInfo}
 use Rattle.linker_elf.specs.declared.elf.choice.Choice.{Choice}
 use Rattle.linker_elf.specs.declared.loongarch64.forms.LoongArch64Instruction.TheVariants.{Shift5, Shift10}
 use Rattle.linker_elf.specs.declared.loongarch64.relocations.LoongArch64Relocation.TheVariants as names
-use Rattle.linker_final.proofs.PreLayout.{isnt}
+use Rattle.linker_rewriting.proofs.PreLayout.{isnt}
 use Rattle.linker_final.proofs.LoongArchChosen.{IsByTable, IsEntry, by_table, entry_by}
 use Rattle.linker_final.proofs.LoongArchPairs.{AreOfLoad, load_of}
 use Rattle.linker_final.proofs.LoongArchWritten.{IsAfter, applied_there, becomes}

@@ -6,8 +6,8 @@ use Rattle.linker_elf.specs.RiscVRelocations.{riscv_name}
 use Rattle.linker_elf.specs.declared.elf.choice.Choice.{Choice}
 use Rattle.linker_elf.specs.declared.elf.choice.LinkFacts.{LinkFacts}
 use Rattle.linker_elf.specs.declared.riscv64.relocations.RiscVRelocation.{RiscVRelocation}
-use Rattle.linker_final.proofs.Chosen.{choice_of, chosen_or_labelled}
-use Rattle.linker_final.proofs.Entries.{IsOfApplied, of_first}
+use Rattle.linker_rewriting.proofs.Chosen.{choice_of, chosen_or_labelled}
+use Rattle.linker_rewriting.proofs.Entries.{IsOfApplied, of_first}
 use Rattle.linker_final.specs.Final.{AreRewritten, Linked, count}
 use Rattle.linker_utils.specs.RiscVRewrites.{AppliesToRiscV, HasPattern, IsRiscVChoice, RiscVEntry, riscv_entries}
 use Rattle.linker_utils.specs.declared.riscv64.rewrites.RewriteKind.{RewriteKind}

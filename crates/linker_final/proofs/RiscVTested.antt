@@ -15,8 +15,8 @@ use Rattle.linker_elf.specs.declared.elf.value.Operands.{Operands}
 use Rattle.linker_elf.specs.declared.riscv64.forms.RiscVInstruction.TheVariants.{IType}
 use Rattle.linker_elf.specs.declared.riscv64.relocations.RiscVRelocation.{RiscVRelocation}
 use Rattle.linker_elf.specs.declared.riscv64.relocations.RiscVRelocation.TheVariants as names
-use Rattle.linker_final.proofs.Chosen.{IsChosen, chosen_or_labelled}
-use Rattle.linker_final.proofs.Entries.{IsOfApplied, of_first}
+use Rattle.linker_rewriting.proofs.Chosen.{IsChosen, chosen_or_labelled}
+use Rattle.linker_rewriting.proofs.Entries.{IsOfApplied, of_first}
 use Rattle.linker_final.specs.Final.{count}
 use Rattle.linker_final.specs.RiscVFinal.{OffsetsAreLow, OffsetsAreLowOf}
 use Rattle.linker_laws.specs.RiscVRewriteLaws.{IsLowOffset}

@@ -6,7 +6,7 @@ use Rattle.linker_elf.specs.X86Relocations.{x86_64_name, x86_64_row}
 use Rattle.linker_elf.specs.declared.elf.choice.Choice.{Choice}
 use Rattle.linker_elf.specs.declared.elf.choice.LinkFacts.{LinkFacts}
 use Rattle.linker_elf.specs.declared.x86_64.relocations.X86_64Relocation.{X86_64Relocation}
-use Rattle.linker_final.proofs.Chosen.{chosen_at}
+use Rattle.linker_rewriting.proofs.Chosen.{chosen_at}
 use Rattle.linker_final.proofs.X86Names.{unlabelled}
 use Rattle.linker_final.specs.Final.{Linked, IsLinked, count}
 use Rattle.linker_rewriting.specs.Decisions.{decision_at}

@@ -1,5 +1,8 @@
+pub mod AArch64Sequences
 pub mod Checked
+pub mod Chosen
 pub mod Deciding
+pub mod Entries
 pub mod GlobalPointer
 pub mod Keeping
 pub mod KeptBits
@@ -13,6 +16,7 @@ pub mod Noted
 pub mod Order
 pub mod PhaseTables
 pub mod Places
+pub mod PreLayout
 pub mod Surveying
 pub mod Unique
 pub mod Untouched

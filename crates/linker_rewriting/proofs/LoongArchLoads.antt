@@ -97,7 +97,7 @@ pub record IsPart (code offset : ℕ) (one part : Rela) : Type 0 where
   pub symbol_is : part.symbol ≡ one.symbol
   pub addend_is : part.addend ≡ one.addend
 
-part_is : (code offset distance : ℕ) (one part : Rela)
+pub part_is : (code offset distance : ℕ) (one part : Rela)
     → is_part code offset distance one (Some part) ≡ true → IsPart code (offset + distance) one part
 part_is code offset distance one part is =
     let a = and_parts (part.offset == offset + distance) ((part.code == code) && ((part.symbol == one.symbol) && int_eq part.addend one.addend)) is in
@@ -110,7 +110,7 @@ part_is code offset distance one part is =
       addend_is = (Decides-int_eq part.addend one.addend).0 (c.1);
     }
 
-there : (bytes : List ℕ) (n : ℕ) → n < length bytes / 24
+pub there : (bytes : List ℕ) (n : ℕ) → n < length bytes / 24
     → relocation_at bytes n ≡ Some (relocation_in bytes n)
 there bytes n within =
     cond-true (ltb n (length bytes / 24)) (Some (relocation_in bytes n)) None

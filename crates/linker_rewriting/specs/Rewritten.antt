@@ -1,5 +1,5 @@
 -- A section and its relocations after their rewrites.
-use Rattle.std.specs.Prelude.{◌≡◌, ℕ, ◌+◌, ◌<◌, ◌≤◌, ◌/◌, ◌⊎◌, ◌↔◌, List, length, get_or}
+use Rattle.std.specs.Prelude.{◌≡◌, ◌≢◌, ℕ, ◌+◌, ◌-◌, ◌<◌, ◌≤◌, ◌/◌, ◌⊎◌, ◌↔◌, List, length, get_or}
 use Rattle.std.specs.Prelude.{Option, None, Some, true, false}
 use Rattle.linker_base.specs.Rewrite.{Rewrite, rewrite_window, rewritten}
 use Rattle.linker_base.specs.Rewrite.{offset_after, addend_after}
@@ -8,7 +8,16 @@ use Rattle.linker_rewriting.specs.Decisions.{AreDecided, AreDecidedIn}
 use Rattle.linker_rewriting.specs.Facts.{RelaxContext}
 use Rattle.linker_rewriting.specs.Groups.{IsInGroupIn, symbol_of_group}
 use Rattle.linker_rewriting.specs.RiscVPcrelGroups.{IsInLabel, IsHighIn}
-use Rattle.linker_rewriting.specs.Sequences.{is_marked_load}
+use Rattle.linker_elf.specs.AArch64Relocations.{aarch64_name}
+use Rattle.linker_elf.specs.Architectures.{IsNamedValue}
+use Rattle.linker_elf.specs.ElfNames.{IsNameOf}
+use Rattle.linker_elf.specs.declared.aarch64.relocations.AArch64Relocation.{AArch64Relocation}
+use Rattle.linker_elf.specs.declared.aarch64.relocations.AArch64Relocation.TheVariants as names
+use Rattle.linker_elf.specs.declared.elf.choice.Choice.{Choice}
+use Rattle.linker_rewriting.specs.Sequences.{is_marked_load, place_in}
+use Rattle.linker_rewriting.specs.declared.sequences.Sequence.{Sequence}
+use Rattle.linker_rewriting.specs.declared.sequences.Sequence.TheVariants.{Descriptor, EntryLoad}
+use Rattle.linker_rewriting.specs.declared.sequences.Sequence.TheVariants.{PageAndOffset}
 use Rattle.linker_rewriting.specs.declared.decisions.Decision.{Decision}
 use Rattle.linker_rewriting.specs.declared.decisions.Decision.TheVariants.{Kept, Rewritten}
 use Rattle.linker_rewriting.specs.declared.decisions.Decision.TheVariants.{Consumed}
@@ -23,7 +32,12 @@ use Rattle.linker_section.specs.Relocations.{relocation_in}
 use Rattle.linker_section.specs.declared.relocations.Rela.{Rela}
 use Rattle.linker_utils.specs.Relaxations.{relaxation_rewrite}
 use Rattle.linker_elf.specs.declared.elf.architecture.Architecture.{Architecture}
+use Rattle.linker_elf.specs.declared.elf.architecture.Architecture.TheVariants.{AArch64}
 use Rattle.linker_elf.specs.declared.elf.architecture.Architecture.TheVariants.{LoongArch64}
+use Rattle.linker_utils.specs.declared.aarch64.rewrites.RewriteKind.{RewriteKind}
+use Rattle.linker_utils.specs.declared.aarch64.rewrites.RewriteKind.TheVariants as kinds
+use Rattle.linker_utils.specs.declared.architecture.Relaxation.{Relaxation}
+use Rattle.linker_utils.specs.declared.architecture.Relaxation.TheVariants as relaxations
 
 -- ---- relocations
 
@@ -140,6 +154,71 @@ LabelsAreWhole s bytes decisions limit =
     → IsHighIn s bytes (relocation_in bytes j) (Some high)
     → is_taken decisions i ≡ false → is_taken decisions j ≡ false
     → IsRewritten (decision_at decisions i) → IsRewritten (decision_at decisions j)
+
+-- ---- sequences of AArch64
+
+-- The relocation at an index has a name and is n bytes after the one at the first index, of its
+-- symbol and addend.
+pub record IsPartAt (bytes : List ℕ) (first n i : ℕ) (name : AArch64Relocation) : Type 0 where
+  pub below : i < length bytes / 24
+  pub is_name : IsNameOf aarch64_name (relocation_in bytes i).code name
+  pub offset : (relocation_in bytes i).offset ≡ (relocation_in bytes first).offset + n
+  pub symbol : (relocation_in bytes i).symbol ≡ (relocation_in bytes first).symbol
+  pub addend : (relocation_in bytes i).addend ≡ (relocation_in bytes first).addend
+
+-- an instruction is rewritten by a kind
+pub record IsRewrittenBy (kind : RewriteKind) (decision : Decision) : Type 0 where
+  pub chosen : Choice Relaxation ℕ
+  pub decided : decision ≡ Rewritten chosen
+  pub kind_is : chosen.kind ≡ relaxations.AArch64 kind
+
+-- From an index on there are the relocations of a TLS descriptor. All are rewritten, the first two
+-- by two kinds.
+pub record IsDescriptorRewritten (high low : RewriteKind) (bytes : List ℕ)
+    (decisions : List Decision) (first : ℕ) : Type 0 where
+  pub page : IsPartAt bytes first 0 first names.R_AARCH64_TLSDESC_ADR_PAGE21
+  pub load : IsPartAt bytes first 4 (first + 1) names.R_AARCH64_TLSDESC_LD64_LO12
+  pub add : IsPartAt bytes first 8 (first + 2) names.R_AARCH64_TLSDESC_ADD_LO12
+  pub call : IsPartAt bytes first 12 (first + 3) names.R_AARCH64_TLSDESC_CALL
+  pub page_decided : IsRewrittenBy high (decision_at decisions first)
+  pub load_decided : IsRewrittenBy low (decision_at decisions (first + 1))
+  pub add_decided : IsRewrittenBy kinds.ReplaceWithNop (decision_at decisions (first + 2))
+  pub call_decided : IsRewrittenBy kinds.ReplaceWithNop (decision_at decisions (first + 3))
+
+-- those of a load from the GOT
+pub record IsLoadRewritten (bytes : List ℕ) (decisions : List Decision) (first : ℕ) : Type 0 where
+  pub page : IsPartAt bytes first 0 first names.R_AARCH64_ADR_GOT_PAGE
+  pub low : IsPartAt bytes first 4 (first + 1) names.R_AARCH64_LD64_GOT_LO12_NC
+  pub page_decided : IsRewrittenBy kinds.NoOp (decision_at decisions first)
+  pub low_decided : IsRewrittenBy kinds.LdrToAdd (decision_at decisions (first + 1))
+
+-- those of an address by its page, which the second takes along
+pub record IsAddressRewritten (bytes : List ℕ) (decisions : List Decision) (first : ℕ) : Type 0
+  where
+    pub page : IsPartAt bytes first 0 first names.R_AARCH64_ADR_PREL_PG_HI21
+    pub low : IsPartAt bytes first 4 (first + 1) names.R_AARCH64_ADD_ABS_LO12_NC
+    pub page_decided : decision_at decisions first ≡ Consumed
+    pub low_decided : IsRewrittenBy kinds.AdrpAddToNopAdr (decision_at decisions (first + 1))
+
+-- all of a sequence: a descriptor's for local-exec or for initial-exec
+abbrev pub IsSequenceRewritten : Sequence → List ℕ → List Decision → ℕ → Type 0
+IsSequenceRewritten Descriptor bytes decisions first =
+    IsDescriptorRewritten kinds.MovzX0Lsl16 kinds.MovkX0 bytes decisions first
+    ⊎ IsDescriptorRewritten kinds.AdrpX0 kinds.LdrX0 bytes decisions first
+IsSequenceRewritten EntryLoad bytes decisions first = IsLoadRewritten bytes decisions first
+IsSequenceRewritten PageAndOffset bytes decisions first = IsAddressRewritten bytes decisions first
+
+-- Where one relocation at a place of a sequence doesn't stay, all of the sequence are there, and
+-- each is rewritten or taken along.
+abbrev pub SequencesAreWhole : Type 0
+SequencesAreWhole =
+    (s : RelaxContext) (kept : List UnrelaxableGroups) (bytes section : List ℕ)
+    (decisions : List Decision) (n place : ℕ) (sequence : Sequence)
+    → s.architecture ≡ AArch64
+    → AreDecidedIn s kept bytes section decisions (length bytes / 24) → n < length bytes / 24
+    → IsNamedValue aarch64_name place_in (relocation_in bytes n).code (Some (sequence, place))
+    → decision_at decisions n ≢ Kept
+    → (place ≤ n) × IsSequenceRewritten sequence bytes decisions (n - place)
 
 -- ---- pairs
 

@@ -4,6 +4,7 @@ ghost use Rattle.linker_rewriting.specs.Decisions.{DecisionsAreMade, DecisionsFo
 ghost use Rattle.linker_rewriting.specs.GlobalPointer.{ArePartsWholeAcross};
 ghost use Rattle.linker_rewriting.specs.Kept.{KeptFactsTell};
 ghost use Rattle.linker_rewriting.specs.Rewritten.{GroupsAreWholeAcross, LoadsAreWhole};
+ghost use Rattle.linker_rewriting.specs.Rewritten.{SequencesAreWhole};
 ghost use Rattle.linker_rewriting.specs.Surveys.{NotesStay, SurveysCommute};
 ghost use Rattle.linker_rewriting.specs.TocIndirection.{WordsAreWholeAcross};
 
@@ -40,6 +41,12 @@ pub fn groups_are_whole_across()
 /// other loads of its symbol are.
 pub fn loads_are_whole()
     ensures { LoadsAreWhole }
+{}
+
+/// Of a sequence of AArch64, a load from the GOT, an address by its page or a TLS descriptor, all
+/// instructions are rewritten, in any phase, or none is. The kinds of a descriptor's rewrites match.
+pub fn sequences_are_whole()
+    ensures { SequencesAreWhole }
 {}
 
 /// Where the same bits are kept of two symbols, choices read the same of them in every phase.

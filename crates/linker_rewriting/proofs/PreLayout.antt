@@ -4,7 +4,7 @@ use Rattle.std.proofs.Common.{◌≡◌, ℕ, ◌<◌, List, Bool, true, false, 
 use Rattle.std.specs.Prelude.{slice_get}
 use Rattle.linker_elf.specs.declared.elf.choice.Choice.{Choice}
 use Rattle.linker_elf.specs.declared.elf.choice.LinkFacts.{LinkFacts}
-use Rattle.linker_final.proofs.Chosen.{IsChosen}
+use Rattle.linker_rewriting.proofs.Chosen.{IsChosen}
 use Rattle.linker_rewriting.specs.Decisions.{AreDecidedIn, IsDecidedAfter, IsDecidedAlone, IsScopeDecision, decision_at, is_taken}
 use Rattle.linker_rewriting.specs.Facts.{RelaxContext, link_facts, facts_by}
 use Rattle.linker_rewriting.specs.Groups.{IsScopeIn}
