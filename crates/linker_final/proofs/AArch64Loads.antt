@@ -131,7 +131,7 @@ module _ (laws : Groups) (l : Linked) (rewriting : AreRewritten l) (aarch64 : l.
       named_after l rewriting j of.low_chosen of.together.second_below of.low_decided
       (entry kinds.LdrToAdd names.R_AARCH64_ADD_ABS_LO12_NC (to_address 4)) low_entry.kind_is low_entry.code_is (λ o. refl) (λ a. refl)
 
-  inside : second.offset + 4 ≤ length l.section
+  pub inside : second.offset + 4 ≤ length l.section
   inside = low_entry.meant.pattern.1.1.0
 
   -- the instructions of the pair

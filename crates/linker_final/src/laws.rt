@@ -5,6 +5,8 @@
 
 ghost use Rattle.linker_final.specs.AArch64Anywhere as aarch64_anywhere;
 ghost use Rattle.linker_final.specs.AArch64Final as aarch64_final;
+ghost use Rattle.linker_final.specs.AArch64Runs as aarch64_runs;
+ghost use Rattle.linker_final.specs.AArch64Section as aarch64_section;
 ghost use Rattle.linker_final.specs.AArch64Twice as aarch64_twice;
 ghost use Rattle.linker_final.specs.Final as final_bytes;
 ghost use Rattle.linker_final.specs.LoongArchFinal as loongarch64_final;
@@ -77,6 +79,20 @@ pub fn aarch64()
     ensures final_loads_twice { aarch64_twice.FinalLoadsTwice }
 {
     linker_laws::simulation::aarch64();
+}
+
+/// AArch64: all changes of a section, in all of its phases. Each instruction stays, but for the
+/// value of its relocation, or is one of those that are rewritten together. These are a group of
+/// `linker_laws::simulation` wherever old comes to their first and the premises of their law hold,
+/// also a load that two phases rewrite. So each run of old is followed up to where nothing is
+/// known, as at a group of which a premise doesn't hold: new's run agrees there.
+pub fn aarch64_sections()
+    ensures places { aarch64_section.EachPlace }
+    ensures groups { aarch64_runs.RewritesAreGroups }
+    ensures runs { aarch64_runs.RunsAreFollowed }
+{
+    linker_laws::simulation::aarch64();
+    linker_laws::simulation::runs();
 }
 
 /// RISC-V: rewritten instructions are groups of `linker_laws::simulation`, of any code that has the

@@ -1,5 +1,5 @@
 -- Of a sequence of AArch64 all relocations are rewritten, or none is.
-use Rattle.std.proofs.Common.{◌≡◌, ◌≢◌, ℕ, zero, suc, ◌+◌, ◌-◌, ◌*◌, ◌/◌, ◌<◌, ◌≤◌, ltb, ◌⊎◌, inl, inr, List, [], ◌∷◌, length, ap, sym, subst, ◌∙◌, arith, refl, Bool, true, false, Option, Some, None, slice_get}
+use Rattle.std.proofs.Common.{◌≡◌, ◌≢◌, ℕ, zero, suc, ◌+◌, ◌-◌, ◌*◌, ◌/◌, ◌<◌, ◌≤◌, ltb, ◌⊎◌, inl, inr, List, length, ap, sym, subst, ◌∙◌, arith, refl, Bool, true, false, Option, Some, None, slice_get}
 use Rattle.std.specs.Prelude.{◌&&◌, nat_le, is_some, ⊤, pos}
 use Rattle.std.specs.Ordering.{int_eq}
 use Rattle.std.proofs.lemmas.Bool.{and_parts, cases_Bool, cond-true, cond-false, leb-true, ltb-true}
@@ -20,21 +20,19 @@ use Rattle.linker_rewriting.specs.Candidates.{IsCandidate, IsCandidateWith}
 use Rattle.linker_rewriting.specs.Decisions.{AreDecidedIn, IsDecidedAfter, IsDecidedAlone, IsScopeDecision, IsGroupDecision, IsRewrittenAlone, IsRewrittenAt, decision_ahead, decision_at, decision_of, is_taken, takes_next}
 use Rattle.linker_rewriting.specs.Facts.{RelaxContext, facts_by, facts_of, link_facts}
 use Rattle.linker_rewriting.specs.Groups.{IsScopeIn, aarch64_scope, aarch64_scope_in, group_stays}
-use Rattle.linker_rewriting.specs.Rewritten.{IsAddressRewritten, IsDescriptorRewritten, IsLoadRewritten, IsPartAt, IsRewrittenBy, IsSequenceRewritten, SequencesAreWhole}
+use Rattle.linker_rewriting.specs.Rewritten.{IsAddressRewritten, IsDescriptorWhole, IsLoadRewritten, IsPartAt, IsRewrittenBy, IsWholeBy, SequencesAreWhole}
 use Rattle.linker_rewriting.specs.RiscVPcrelGroups.{is_labelled}
 use Rattle.linker_rewriting.specs.Sequences.{IsWhole, is_aarch64_part, is_descriptor, is_pair, is_part, is_whole_at, place_in}
 use Rattle.linker_rewriting.specs.declared.decisions.Decision.{Decision}
 use Rattle.linker_rewriting.specs.declared.decisions.Decision.TheVariants.{Kept, Rewritten, Consumed, RewrittenWithSymbol}
 use Rattle.linker_rewriting.specs.declared.facts.OutputFacts.{OutputFacts}
 use Rattle.linker_rewriting.specs.declared.facts.SymbolFacts.{SymbolFacts}
-use Rattle.linker_rewriting.specs.declared.groups.Group.{Group}
 use Rattle.linker_rewriting.specs.declared.groups.Group.TheVariants as groups
 use Rattle.linker_rewriting.specs.declared.groups.Scope.{Scope}
 use Rattle.linker_rewriting.specs.declared.groups.Scope.TheVariants.{NotRelaxable, Independent, Grouped, FirstOfPair, IfGroupMatches, Labelled}
 use Rattle.linker_rewriting.specs.declared.groups.UnrelaxableGroups.{UnrelaxableGroups}
 use Rattle.linker_rewriting.specs.declared.phases.Phase.{Phase}
 use Rattle.linker_rewriting.specs.declared.phases.Phase.TheVariants as phases
-use Rattle.linker_rewriting.specs.declared.sequences.Sequence.{Sequence}
 use Rattle.linker_rewriting.specs.declared.sequences.Sequence.TheVariants as sequences
 use Rattle.linker_section.specs.Relocations.{relocation_at, relocation_in}
 use Rattle.linker_section.specs.declared.facts.Addresses.{Addresses}
@@ -42,7 +40,6 @@ use Rattle.linker_section.specs.declared.facts.Symbol.{Symbol}
 use Rattle.linker_section.specs.declared.relocations.Rela.{Rela}
 use Rattle.linker_utils.specs.AArch64Rewrites.{AArch64Applies, AArch64Choice, IsAArch64Choice, aarch64_entries, aarch64_matches, descriptor_entries, erased}
 use Rattle.linker_utils.specs.Relaxations.{IsArchitectureChoice, IsChosenBy, relaxation_no_op, relaxation_skipped}
-use Rattle.linker_utils.specs.declared.aarch64.rewrites.RewriteKind.{RewriteKind}
 use Rattle.linker_utils.specs.declared.aarch64.rewrites.RewriteKind.TheVariants as kinds
 use Rattle.linker_utils.specs.declared.architecture.Relaxation.{Relaxation}
 use Rattle.linker_utils.specs.declared.architecture.Relaxation.TheVariants as relaxations
@@ -254,12 +251,12 @@ module _ (s : RelaxContext) (aarch64 : s.architecture ≡ AArch64) (kept : List 
   untaken zero below = refl
   untaken (suc n) below = takes_none n (omega (arith, below)) (decision_at decisions n) refl
 
-  alone : (n : ℕ) → n < length bytes / 24
+  pub alone : (n : ℕ) → n < length bytes / 24
       → IsDecidedAlone s kept bytes section n (relocation_in bytes n) (decision_at decisions n)
   alone n below =
       subst (λ t. IsDecidedAfter s kept bytes section n t (decision_at decisions n)) (untaken n below) (decided n below)
 
-  scope_there : (n : ℕ) (below : n < length bytes / 24)
+  pub scope_there : (n : ℕ) (below : n < length bytes / 24)
       → IsScopeIn AArch64 s.phase (relocation_in bytes n).code (alone n below).0
   scope_there n below =
       subst (λ x. IsScopeIn x s.phase (relocation_in bytes n).code (alone n below).0) aarch64 (alone n below).1
@@ -282,7 +279,7 @@ module _ (s : RelaxContext) (aarch64 : s.architecture ≡ AArch64) (kept : List 
       let is = scope_there n below in
       subst (IsNameOf aarch64_name (relocation_in bytes n).code) (is.is_name.named name named code) is.is_name
 
-  phase_is : (n : ℕ) (name : AArch64Relocation) (phase : Phase) → n < length bytes / 24
+  pub phase_is : (n : ℕ) (name : AArch64Relocation) (phase : Phase) → n < length bytes / 24
       → IsNameOf aarch64_name (relocation_in bytes n).code name
       → decision_at decisions n ≢ Kept → OnlyIn phase s.phase name → s.phase ≡ phase
   phase_is n name phase below is_name changed (inl is) = is
@@ -290,7 +287,7 @@ module _ (s : RelaxContext) (aarch64 : s.architecture ≡ AArch64) (kept : List 
       absurd (changed (subst (λ z. IsScopeDecision s kept bytes section n (relocation_in bytes n) z (decision_at decisions n)) none
       (scoped n name below is_name)))
 
-  in_phase : (n : ℕ) (name : AArch64Relocation) (phase : Phase) → n < length bytes / 24
+  pub in_phase : (n : ℕ) (name : AArch64Relocation) (phase : Phase) → n < length bytes / 24
       → IsNameOf aarch64_name (relocation_in bytes n).code name → s.phase ≡ phase
       → IsScopeDecision s kept bytes section n (relocation_in bytes n) (aarch64_scope_in phase name) (decision_at decisions n)
   in_phase n name phase below is_name is =
@@ -298,12 +295,12 @@ module _ (s : RelaxContext) (aarch64 : s.architecture ≡ AArch64) (kept : List 
       (scoped n name below is_name)
 
   -- a relocation that is rewritten
-  record IsMade (n : ℕ) : Type 0 where
+  pub record IsMade (n : ℕ) : Type 0 where
     pub chosen : Choice Relaxation ℕ
     pub is_candidate : IsCandidate s bytes section n (relocation_in bytes n) (Some chosen)
     pub decided_so : decision_at decisions n ≡ Rewritten chosen
 
-  of_group : (n : ℕ) (stays : Bool)
+  pub of_group : (n : ℕ) (stays : Bool)
       → IsGroupDecision s bytes section n (relocation_in bytes n) stays (decision_at decisions n)
       → decision_at decisions n ≢ Kept → (stays ≡ false) × IsMade n
   of_group n true is changed = absurd (changed is)
@@ -317,7 +314,7 @@ module _ (s : RelaxContext) (aarch64 : s.architecture ≡ AArch64) (kept : List 
   of_group_too n false is unkept =
       record { chosen = is.0; is_candidate = is.1; decided_so = is.2 }
 
-  of_option : (n : ℕ) (candidate : Option (Choice Relaxation ℕ))
+  pub of_option : (n : ℕ) (candidate : Option (Choice Relaxation ℕ))
       → IsCandidate s bytes section n (relocation_in bytes n) candidate
       → decision_at decisions n ≡ decision_of candidate → decision_at decisions n ≢ Kept → IsMade n
   of_option n None is same changed = absurd (changed same)
@@ -632,7 +629,7 @@ module _ (s : RelaxContext) (aarch64 : s.architecture ≡ AArch64) (kept : List 
   descriptor_rewritten : (first offset : ℕ) (one : Rela) → s.phase ≡ phases.PreLayout
       → group_stays kept groups.Descriptor one.symbol ≡ false
       → is_descriptor bytes first offset one ≡ true
-      → IsSequenceRewritten sequences.Descriptor bytes decisions first
+      → IsDescriptorWhole bytes decisions first
   descriptor_rewritten first offset one early unkept is =
       let is_page : Bool = is_aarch64_part names.R_AARCH64_TLSDESC_ADR_PAGE21 offset 0 one (relocation_at bytes first) in
       let is_load : Bool = is_aarch64_part names.R_AARCH64_TLSDESC_LD64_LO12 offset 4 one (relocation_at bytes (first + 1)) in
@@ -701,7 +698,7 @@ module _ (s : RelaxContext) (aarch64 : s.architecture ≡ AArch64) (kept : List 
       → OnlyIn phases.PreLayout s.phase name
       → aarch64_scope_in phases.PreLayout name ≡ Grouped groups.Descriptor
       → place_in name ≡ Some (sequences.Descriptor, place)
-      → (place ≤ n) × IsSequenceRewritten sequences.Descriptor bytes decisions (n - place)
+      → (place ≤ n) × IsDescriptorWhole bytes decisions (n - place)
   of_descriptor n place name below is_name changed only scope is_place =
       let r = relocation_in bytes n in
       let early = phase_is n name phases.PreLayout below is_name changed only in
@@ -717,14 +714,9 @@ module _ (s : RelaxContext) (aarch64 : s.architecture ≡ AArch64) (kept : List 
 
   -- ---- by the name
 
-  abbrev IsWholeAt : ℕ → Option (Sequence × ℕ) → Type 0
-  IsWholeAt n None = ⊤
-  IsWholeAt n (Some place) =
-      (place.1 ≤ n) × IsSequenceRewritten (place.0) bytes decisions (n - place.1)
-
-  by_name : (n : ℕ) → n < length bytes / 24 → decision_at decisions n ≢ Kept
+  pub by_name : (n : ℕ) → n < length bytes / 24 → decision_at decisions n ≢ Kept
       → (name : AArch64Relocation) → IsNameOf aarch64_name (relocation_in bytes n).code name
-      → IsWholeAt n (place_in name)
+      → IsWholeBy name bytes decisions n
   by_name n below changed names.R_AARCH64_TLSDESC_ADR_PAGE21 is =
       of_descriptor n 0 names.R_AARCH64_TLSDESC_ADR_PAGE21 below is changed (page_only s.phase) refl refl
   by_name n below changed names.R_AARCH64_TLSDESC_LD64_LO12 is =
@@ -744,6 +736,5 @@ module _ (s : RelaxContext) (aarch64 : s.architecture ≡ AArch64) (kept : List 
   by_name n below changed name is = tt
 
 pub sequences_are_whole : SequencesAreWhole
-sequences_are_whole s kept bytes section decisions n place sequence aarch64 decided below is changed =
-    subst (IsWholeAt s aarch64 kept bytes section decisions decided n) (sym is.value_is)
-    (by_name s aarch64 kept bytes section decisions decided n below changed is.name is.is_name)
+sequences_are_whole s kept bytes section decisions i name aarch64 decided below is changed =
+    by_name s aarch64 kept bytes section decisions decided i below changed name is

@@ -9,15 +9,11 @@ use Rattle.linker_rewriting.specs.Facts.{RelaxContext}
 use Rattle.linker_rewriting.specs.Groups.{IsInGroupIn, symbol_of_group}
 use Rattle.linker_rewriting.specs.RiscVPcrelGroups.{IsInLabel, IsHighIn}
 use Rattle.linker_elf.specs.AArch64Relocations.{aarch64_name}
-use Rattle.linker_elf.specs.Architectures.{IsNamedValue}
 use Rattle.linker_elf.specs.ElfNames.{IsNameOf}
 use Rattle.linker_elf.specs.declared.aarch64.relocations.AArch64Relocation.{AArch64Relocation}
 use Rattle.linker_elf.specs.declared.aarch64.relocations.AArch64Relocation.TheVariants as names
 use Rattle.linker_elf.specs.declared.elf.choice.Choice.{Choice}
-use Rattle.linker_rewriting.specs.Sequences.{is_marked_load, place_in}
-use Rattle.linker_rewriting.specs.declared.sequences.Sequence.{Sequence}
-use Rattle.linker_rewriting.specs.declared.sequences.Sequence.TheVariants.{Descriptor, EntryLoad}
-use Rattle.linker_rewriting.specs.declared.sequences.Sequence.TheVariants.{PageAndOffset}
+use Rattle.linker_rewriting.specs.Sequences.{is_marked_load}
 use Rattle.linker_rewriting.specs.declared.decisions.Decision.{Decision}
 use Rattle.linker_rewriting.specs.declared.decisions.Decision.TheVariants.{Kept, Rewritten}
 use Rattle.linker_rewriting.specs.declared.decisions.Decision.TheVariants.{Consumed}
@@ -200,25 +196,39 @@ pub record IsAddressRewritten (bytes : List ℕ) (decisions : List Decision) (fi
     pub page_decided : decision_at decisions first ≡ Consumed
     pub low_decided : IsRewrittenBy kinds.AdrpAddToNopAdr (decision_at decisions (first + 1))
 
--- all of a sequence: a descriptor's for local-exec or for initial-exec
-abbrev pub IsSequenceRewritten : Sequence → List ℕ → List Decision → ℕ → Type 0
-IsSequenceRewritten Descriptor bytes decisions first =
+-- all of a descriptor, for local-exec or for initial-exec
+abbrev pub IsDescriptorWhole : List ℕ → List Decision → ℕ → Type 0
+IsDescriptorWhole bytes decisions first =
     IsDescriptorRewritten kinds.MovzX0Lsl16 kinds.MovkX0 bytes decisions first
     ⊎ IsDescriptorRewritten kinds.AdrpX0 kinds.LdrX0 bytes decisions first
-IsSequenceRewritten EntryLoad bytes decisions first = IsLoadRewritten bytes decisions first
-IsSequenceRewritten PageAndOffset bytes decisions first = IsAddressRewritten bytes decisions first
 
--- Where one relocation at a place of a sequence doesn't stay, all of the sequence are there, and
--- each is rewritten or taken along.
+-- The sequence begins n relocations before an index.
+abbrev pub Before : ℕ → (List ℕ → List Decision → ℕ → Type 0) → List ℕ → List Decision → ℕ
+    → Type 0
+Before n Holds bytes decisions i = (n ≤ i) × Holds bytes decisions (i - n)
+
+-- what holds of the sequence that a relocation of a name is in; nothing of others
+abbrev pub IsWholeBy : AArch64Relocation → List ℕ → List Decision → ℕ → Type 0
+IsWholeBy names.R_AARCH64_TLSDESC_ADR_PAGE21 = Before 0 IsDescriptorWhole
+IsWholeBy names.R_AARCH64_TLSDESC_LD64_LO12 = Before 1 IsDescriptorWhole
+IsWholeBy names.R_AARCH64_TLSDESC_ADD_LO12 = Before 2 IsDescriptorWhole
+IsWholeBy names.R_AARCH64_TLSDESC_CALL = Before 3 IsDescriptorWhole
+IsWholeBy names.R_AARCH64_ADR_GOT_PAGE = Before 0 IsLoadRewritten
+IsWholeBy names.R_AARCH64_LD64_GOT_LO12_NC = Before 1 IsLoadRewritten
+IsWholeBy names.R_AARCH64_ADR_PREL_PG_HI21 = Before 0 IsAddressRewritten
+IsWholeBy names.R_AARCH64_ADD_ABS_LO12_NC = Before 1 IsAddressRewritten
+IsWholeBy name = λ bytes decisions i. Unit
+
+-- Where one relocation of a sequence doesn't stay, all of the sequence are there, and each is
+-- rewritten or taken along.
 abbrev pub SequencesAreWhole : Type 0
 SequencesAreWhole =
     (s : RelaxContext) (kept : List UnrelaxableGroups) (bytes section : List ℕ)
-    (decisions : List Decision) (n place : ℕ) (sequence : Sequence)
+    (decisions : List Decision) (i : ℕ) (name : AArch64Relocation)
     → s.architecture ≡ AArch64
-    → AreDecidedIn s kept bytes section decisions (length bytes / 24) → n < length bytes / 24
-    → IsNamedValue aarch64_name place_in (relocation_in bytes n).code (Some (sequence, place))
-    → decision_at decisions n ≢ Kept
-    → (place ≤ n) × IsSequenceRewritten sequence bytes decisions (n - place)
+    → AreDecidedIn s kept bytes section decisions (length bytes / 24) → i < length bytes / 24
+    → IsNameOf aarch64_name (relocation_in bytes i).code name → decision_at decisions i ≢ Kept
+    → IsWholeBy name bytes decisions i
 
 -- ---- pairs
 

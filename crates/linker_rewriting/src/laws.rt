@@ -44,7 +44,8 @@ pub fn loads_are_whole()
 {}
 
 /// Of a sequence of AArch64, a load from the GOT, an address by its page or a TLS descriptor, all
-/// instructions are rewritten, in any phase, or none is. The kinds of a descriptor's rewrites match.
+/// instructions are rewritten, in any phase, or none is. The kinds of a descriptor's rewrites
+/// match.
 pub fn sequences_are_whole()
     ensures { SequencesAreWhole }
 {}
