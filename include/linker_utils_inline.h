@@ -427,6 +427,17 @@ static inline uint32_t linker_utils_relocate_all(
         relocations_len, faulty ? faulty : &ignored);
 }
 
+uint32_t linker_utils_read_crel_nonnull(
+    const uint8_t *crel, size_t crel_len, uint8_t *relas, size_t relas_len, size_t *number,
+    uint8_t *has_addends);
+static inline uint32_t linker_utils_read_crel(
+    const uint8_t *crel, size_t crel_len, void *relas, size_t relas_len, size_t *number,
+    uint8_t *has_addends) {
+    return linker_utils_read_crel_nonnull(
+        LINKER_UTILS_SLICE(const uint8_t, crel), crel_len, LINKER_UTILS_RELAS(uint8_t, relas),
+        number, has_addends);
+}
+
 uint32_t linker_utils_fits_nonnull(
     uint16_t machine, uint32_t form, uint64_t value, const uint8_t *bytes, size_t bytes_len);
 static inline uint32_t linker_utils_fits(

@@ -39,8 +39,8 @@
     STATUS(NOT_MERGEABLE, 15, \
            "Two deletions overlap or begin at one offset, or one ends past 2^64 - 1.") \
     STATUS(TOO_LARGE, 17, \
-           "The input offset, or a bitmap's address, would be past 2^64 - 1, or a note would be " \
-           "too long.") \
+           "The input offset, or a bitmap's address, would be past 2^64 - 1, a number of compact " \
+           "relocations has more than 64 bits, or a note would be too long.") \
     STATUS(NOT_ASCENDING, 18, \
            "The queries, or the boundaries, decrease somewhere, or the addresses or types do not " \
            "ascend.") \
@@ -172,7 +172,8 @@
     STATUS(UNALIGNED_ADDRESS, 85, "An address is not a multiple of 8.") \
     STATUS(NOT_PROPERTIES, 86, "What begins at the offset is not a note of properties.") \
     STATUS(CUT_OFF, 87, \
-           "The section ends in the note, or the note in the property, that begins at the offset.") \
+           "The section ends at the offset, or in the note or number, or the note in the property, " \
+           "that begins there.") \
     STATUS(WRONG_SIZE, 88, "The property at the offset has another size than its type.") \
     STATUS(DIFFERENT_VALUES, 89, \
            "The inputs have different values of the property of the type.") \

@@ -247,6 +247,20 @@ LINKER_UTILS_MUST_USE static inline uint32_t linker_utils_relocate_all(
     const struct linker_utils_relocation_entry *relocations, size_t relocations_len,
     size_t *faulty);
 
+/* ---- Compact relocations: sections of type SHT_CREL (0x40000014), which clang writes with
+ * `-Wa,--crel`. */
+
+/* Writes the relocations of such a section's bytes, `crel`, to the beginning of `relas`, n of 24
+ * bytes, as a `section` has them. `number` becomes how many they are, with LINKER_UTILS_TOO_SHORT
+ * too. `has_addends` becomes 0 where addends are in the bytes that relocations are at, as with
+ * SHT_REL, and 0 in `relas`. LINKER_UTILS_CUT_OFF and LINKER_UTILS_TOO_LARGE, of the header;
+ * LINKER_UTILS_TOO_SHORT, of `relas`, for which no more is read; LINKER_UTILS_CUT_OFF and
+ * LINKER_UTILS_TOO_LARGE, of the first relocation that isn't well-formed. With these two `number`
+ * is the offset of a LEB128 number, or the section's end. O(n). */
+LINKER_UTILS_MUST_USE static inline uint32_t linker_utils_read_crel(
+    const uint8_t *crel, size_t crel_len, void *relas, size_t relas_len, size_t *number,
+    uint8_t *has_addends);
+
 /* ---- Needs by types: what `struct linker_utils_requirements` says of some.
  *
  * - `entry_addend`: AArch64 and PowerPC64 have an entry for each S + A. It is 0 of

@@ -1580,6 +1580,28 @@ static void call_read_relr(void) {
     finish_needed(status, needed, 0 OR(NO_ADDRESS) OR(UNALIGNED_ADDRESS) OR(TOO_LARGE) OR(TOO_SHORT));
 }
 
+static void call_read_crel(void) {
+    size_t count = below(16), len = once_in(4) ? any_count() : 8 * count + 1;
+    struct buffer *crel = place(READ, len, 1);
+    uint8_t *byte = filled(crel);
+    for (size_t at = 0; at < len; at++)
+        byte[at] = once_in(100) ? (uint8_t)any() : (uint8_t)below(once_in(8) ? 256 : 128);
+    if (len > 0 && !once_in(20)) byte[0] = (uint8_t)(8 * count + below(8));
+    struct buffer *relas = place(WRITTEN, 24 * (once_in(4) ? below(16) : count), 1);
+    uint8_t *has_addends = output(sizeof *has_addends);
+    size_t *number = output(sizeof *number);
+    uint32_t status = CALL(read_crel, crel->given, len, relas->given, relas->len / 24, number,
+                           has_addends);
+    if (status == LINKER_UTILS_OK) {
+        relas->changes_to = *number * 24;
+        expect(*has_addends <= 1, "a flag that is neither 0 nor 1");
+    }
+    expect(*number <= len, "more than bytes");
+    struct buffer *buffer = &buffers[used - 1];
+    memcpy(buffer->was, filled(buffer), sizeof *number);
+    finish_with(status, 0 OR(CUT_OFF) OR(TOO_LARGE) OR(TOO_SHORT));
+}
+
 static const uint32_t property_kinds[] = {1, 2, 0xb0000000, 0xb0008000, 0xc0000000, 0xc0000001,
                                           0xc0000002, 0xc0008002, 0xc0010002};
 enum { PROPERTY_KINDS = sizeof property_kinds / sizeof *property_kinds };
@@ -2836,7 +2858,7 @@ static void (*const all[])(void) = {
     call_survey_global_pointer, call_rewrite_global_pointer, call_finish_gp_relaxation,
     call_rewrite_placed_section, call_dynamic_types, call_dynamic_name, call_dynamic_words,
     call_entry_words, call_origins, call_static_words, call_got, call_join_flags, call_write_relr,
-    call_read_relr, call_read_properties, call_merge_properties, call_write_properties,
+    call_read_relr, call_read_crel, call_read_properties, call_merge_properties, call_write_properties,
     call_is_property_known, call_landing_property,
     call_output_facts, call_interpreter, call_address_section, call_entry_relocation,
     call_provided_symbol, call_save_restore_routines, call_provided_word, call_stub, call_write_stub,

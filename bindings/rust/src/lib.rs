@@ -1820,6 +1820,18 @@ pub fn relr_addresses(words: &[u64]) -> Result<Vec<u64>, Status> {
     addresses.map_err(|error| error.status)
 }
 
+/// The relocations of a section of type `SHT_CREL`, as other calls take them, and whether they have
+/// addends; or an error, and the offset that it is about.
+pub fn read_crel(section: &[u8]) -> Result<(Vec<u8>, bool), PropertyError> {
+    let (at, len) = (section.as_ptr(), section.len());
+    let mut has_addends = 0;
+    let relocations = filled_by(|relocations: *mut [u8; 24], room, number| unsafe {
+        let bytes = relocations.cast();
+        raw::linker_utils_read_crel_nonnull(at, len, bytes, 24 * room, number, &mut has_addends)
+    })?;
+    Ok((relocations.concat(), has_addends != 0))
+}
+
 /// A property that objects have in a note of a section `.note.gnu.property`.
 #[repr(C)]
 #[derive(Debug, Clone, Copy, Default, PartialEq, Eq)]
@@ -1925,7 +1937,7 @@ pub fn merge_notes(
 
 /// What a call writes that first says how much it needs.
 fn filled_by<T: Default + Clone>(
-    call: impl Fn(*mut T, usize, &mut usize) -> u32,
+    mut call: impl FnMut(*mut T, usize, &mut usize) -> u32,
 ) -> Result<Vec<T>, PropertyError> {
     let mut number = 0;
     let mut filled = Vec::new();

@@ -527,6 +527,14 @@ extern "C" {
         relocations_len: usize,
         faulty: *mut usize,
     ) -> u32;
+    pub fn linker_utils_read_crel_nonnull(
+        crel: *const u8,
+        crel_len: usize,
+        relas: *mut u8,
+        relas_len: usize,
+        number: *mut usize,
+        has_addends: *mut u8,
+    ) -> u32;
     pub fn linker_utils_window(machine: u16, form: u32, window: *mut usize) -> u32;
     pub fn linker_utils_fits_nonnull(
         machine: u16,

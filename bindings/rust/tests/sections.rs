@@ -220,3 +220,21 @@ fn values_are_by_what_is_known_of_symbols() {
     assert_eq!(value(RISCV, 51, 0, nowhere), Ok(None));
     assert_eq!(value(X86_64, 200, 0, variable), Err(Status::UnknownRelocation));
 }
+
+#[test]
+fn compact_relocations_are_those_of_llvm() {
+    // llvm-mc 19 -crel: `.reloc` in any order; and the numbers of llvm-readobj -r --expand-relocs
+    let section = [
+        0x27, 0xa7, 0x3f, 0x01, 0x02, 0x7c, 0xf7, 0xe0, 0xff, 0xff, 0xff, 0xff, 0xff, 0xff, 0xff, 0x01,
+        0x01, 0x7f, 0x0c, 0x07, 0x7f, 0x7f, 0x78, 0xf6, 0x0f, 0x04, 0x7c,
+    ];
+    let listed = [(0x1fa0, 2, 1, -4), (0x1010, 1, 2, 8), (0x1010, 0, 1, 0), (0x1800, 4, 1, -4)];
+    assert_eq!(read_crel(&section), Ok((relas(&listed), true)));
+    let rejected = |bytes: &[u8]| read_crel(bytes).map_err(|error| (error.status, error.number));
+    assert_eq!(rejected(&section[..26]), Err((Status::CutOff, 26)));
+    assert_eq!(rejected(&section[..8]), Err((Status::CutOff, 7)));
+    assert_eq!(rejected(&[]), Err((Status::CutOff, 0)));
+    let large = [0x0c, 0xff, 0x80, 0x80, 0x80, 0x80, 0x80, 0x80, 0x80, 0x80, 0x80, 3];
+    assert_eq!(rejected(&large), Err((Status::TooLarge, 2)));
+    assert_eq!(read_crel(&[0x02, 0xff]), Ok((vec![], false)));
+}

@@ -1,5 +1,6 @@
 pub mod AddressLoads
 pub mod Choices
+pub mod Crel
 pub mod Deltas
 pub mod Forms
 pub mod GlobalPointer

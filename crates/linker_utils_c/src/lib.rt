@@ -4,6 +4,7 @@
 mod architectures;
 mod calls;
 mod choices;
+mod crel;
 mod deltas;
 mod forms;
 mod global_pointer;

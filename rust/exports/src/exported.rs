@@ -216,6 +216,26 @@ unsafe extern "C" fn linker_utils_is_unchanged(
 }
 
 #[unsafe(no_mangle)]
+unsafe extern "C" fn linker_utils_read_crel_nonnull(
+    crel: *const u8,
+    crel_len: usize,
+    relas: *mut u8,
+    relas_len: usize,
+    number: *mut usize,
+    has_addends: *mut u8,
+) -> u32 {
+    // SAFETY: the arguments are as the head of the header says.
+    unsafe {
+        crate::crel::linker_utils_read_crel_nonnull(
+            from_raw_parts(crel, crel_len),
+            from_raw_parts_mut(relas, relas_len),
+            &mut *number,
+            &mut *has_addends,
+        )
+    }
+}
+
+#[unsafe(no_mangle)]
 unsafe extern "C" fn linker_utils_deletions_valid_nonnull(
     deletions: *const Deletion,
     deletions_len: usize,

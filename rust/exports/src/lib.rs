@@ -23,6 +23,7 @@ mod runtime;
 pub mod architectures;
 pub mod calls;
 pub mod choices;
+pub mod crel;
 pub mod deltas;
 pub mod forms;
 pub mod global_pointer;

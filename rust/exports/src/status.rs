@@ -37,8 +37,8 @@ pub enum Status {
     InvalidDeletions,
     /// Two deletions overlap or begin at one offset, or one ends past 2^64 - 1.
     NotMergeable,
-    /// The input offset, or a bitmap's address, would be past 2^64 - 1, or a note would be too
-    /// long.
+    /// The input offset, or a bitmap's address, would be past 2^64 - 1, a number of compact
+    /// relocations has more than 64 bits, or a note would be too long.
     TooLarge = 17,
     /// The queries, or the boundaries, decrease somewhere, or the addresses or types do not ascend.
     NotAscending,
@@ -187,7 +187,8 @@ pub enum Status {
     UnalignedAddress,
     /// What begins at the offset is not a note of properties.
     NotProperties,
-    /// The section ends in the note, or the note in the property, that begins at the offset.
+    /// The section ends at the offset, or in the note or number, or the note in the property, that
+    /// begins there.
     CutOff,
     /// The property at the offset has another size than its type.
     WrongSize,
