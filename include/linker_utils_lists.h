@@ -707,30 +707,37 @@ enum linker_utils_modifier {
  *       TPREL_LO12_I in -0x800..0x800
  *
  * LoongArch, with the prefixes R_LARCH_ and LINKER_UTILS_LOONGARCH64_REWRITE_:
- *   PCALA_HI20        PCALA_TO_PCADDI   PCREL20_S2         (1)
- *   PCALA_LO12        DELETE            NONE               (2)
- *   GOT_PC_HI20       PCALA_TO_PCADDI   PCREL20_S2         (3)
- *                     NO_OP             PCALA_HI20         (4)
- *   GOT_PC_LO12       DELETE            NONE               (5)
- *                     LD_TO_ADDI        PCALA_LO12         (6)
- *                     DELETE_ADDI       NONE               (7)
- *   TLS_IE_PC_HI20    REPLACE_WITH_NOP  NONE               (8)
- *                     PCALA_TO_LU12I    TLS_LE_HI20        (9)
- *   TLS_IE_PC_LO12    LOW_TO_ORI_ZERO   TLS_LE_LO12        (8)
- *                     LOW_TO_ORI        TLS_LE_LO12        (9)
- *   TLS_LD_PC_HI20    PCALA_TO_PCADDI   TLS_LD_PCREL20_S2  (10)
- *   TLS_GD_PC_HI20    PCALA_TO_PCADDI   TLS_GD_PCREL20_S2  (11)
- *   CALL36            CALL_TO_B         B26                (12)
- *                     CALL_TO_BL        B26                (12)
- *   TLS_DESC_PC_HI20  PCALA_TO_LU12I    TLS_LE_HI20        (9)
- *                     NO_OP             TLS_IE_PC_HI20     (13)
- *   TLS_DESC_PC_LO12  LOW_TO_ORI        TLS_LE_LO12        (9)
- *                     ADDI_TO_LD        TLS_IE_PC_LO12     (14)
- *   TLS_DESC_LD       REPLACE_WITH_NOP  NONE               (14)
- *   TLS_DESC_CALL     REPLACE_WITH_NOP  NONE               (14)
- *   TLS_LE_HI20_R     DELETE            NONE               (15)
- *   TLS_LE_ADD_R      DELETE            NONE               (15)
- *   TLS_LE_LO12_R     BASE_TO_TP        TLS_LE_LO12_R      (15)
+ *   PCALA_HI20        PCALA_TO_PCADDI   PCREL20_S2           (1)
+ *   PCALA_LO12        DELETE            NONE                 (2)
+ *   GOT_PC_HI20       PCALA_TO_PCADDI   PCREL20_S2           (3)
+ *                     NO_OP             PCALA_HI20           (4)
+ *   GOT_PC_LO12       DELETE            NONE                 (5)
+ *                     LD_TO_ADDI        PCALA_LO12           (6)
+ *                     DELETE_ADDI       NONE                 (7)
+ *   TLS_IE_PC_HI20    REPLACE_WITH_NOP  NONE                 (8)
+ *                     PCALA_TO_LU12I    TLS_LE_HI20          (9)
+ *   TLS_IE_PC_LO12    LOW_TO_ORI_ZERO   TLS_LE_LO12          (8)
+ *                     LOW_TO_ORI        TLS_LE_LO12          (9)
+ *   TLS_LD_PC_HI20    PCALA_TO_PCADDI   TLS_LD_PCREL20_S2    (10)
+ *   TLS_GD_PC_HI20    PCALA_TO_PCADDI   TLS_GD_PCREL20_S2    (11)
+ *   CALL36            CALL_TO_B         B26                  (12)
+ *                     CALL_TO_BL        B26                  (12)
+ *   TLS_DESC_PC_HI20  DELETE            NONE                 (13)
+ *                     REPLACE_WITH_NOP  NONE                 (8)
+ *                     PCALA_TO_LU12I    TLS_LE_HI20          (9)
+ *                     NO_OP             TLS_IE_PC_HI20       (14)
+ *                     PCALA_TO_PCADDI   TLS_DESC_PCREL20_S2  (15)
+ *   TLS_DESC_PC_LO12  LOW_TO_ORI_ZERO   TLS_LE_LO12          (8)
+ *                     LOW_TO_ORI        TLS_LE_LO12          (9)
+ *                     ADDI_TO_LD        TLS_IE_PC_LO12       (16)
+ *                     DELETE            NONE                 (17)
+ *   TLS_DESC_LD       DELETE            NONE                 (18)
+ *                     REPLACE_WITH_NOP  NONE                 (16)
+ *   TLS_DESC_CALL     DELETE            NONE                 (18)
+ *                     REPLACE_WITH_NOP  NONE                 (16)
+ *   TLS_LE_HI20_R     DELETE            NONE                 (19)
+ *   TLS_LE_ADD_R      DELETE            NONE                 (19)
+ *   TLS_LE_LO12_R     BASE_TO_TP        TLS_LE_LO12_R        (19)
  *   (1) is_pcrel_link_time_constant, is_relaxable, PCREL20_S2 in reach
  *   (2) is_pcrel_link_time_constant, is_relaxable, PCREL20_S2 at -4 in reach
  *   (3) is_local, not is_ifunc, is_pcrel_link_time_constant, is_relaxable, addend 0, PCREL20_S2 in
@@ -748,9 +755,14 @@ enum linker_utils_modifier {
  *   (10) is_relaxable, group_fits, TLS_LD_PCREL20_S2 in reach
  *   (11) is_relaxable, group_fits, TLS_GD_PCREL20_S2 in reach
  *   (12) is_pcrel_link_time_constant, is_relaxable, B26 in reach
- *   (13) is_executable, group_fits, TLS_IE_PC_HI20 in -0x80000000..0x80000000 if known
- *   (14) is_executable, group_fits
- *   (15) is_relaxable, TLS_LE_LO12_R in -0x800..0x800
+ *   (13) is_local, not is_ifunc, is_executable, is_relaxable, group_fits, addend 0, TLS_LE_LO12 in
+ *       0x0..0x1000
+ *   (14) is_executable, group_fits, TLS_IE_PC_HI20 in -0x80000000..0x80000000 if known
+ *   (15) is_relaxable, TLS_DESC_PCREL20_S2 in reach
+ *   (16) is_executable, group_fits
+ *   (17) is_relaxable, TLS_DESC_PCREL20_S2 at -4 in reach
+ *   (18) is_executable, is_relaxable, group_fits
+ *   (19) is_relaxable, TLS_LE_LO12_R in -0x800..0x800
  *
  * PowerPC64, with the prefixes R_PPC64_ and LINKER_UTILS_PPC64_REWRITE_:
  *   REL24                        NOP_TO_RESTORE_TOC     REL24              (1)

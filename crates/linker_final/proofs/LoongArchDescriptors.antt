@@ -1,6 +1,6 @@
 -- Instructions of TLS descriptors of LoongArch that became those of local-exec or of initial-exec
 -- are groups in the final bytes.
-use Rattle.std.proofs.Common.{◌≡◌, ℕ, ◌+◌, ◌<◌, ◌≤◌, List, length, refl, sym, ap, subst, inl, inr, Ok, Some, None, cond}
+use Rattle.std.proofs.Common.{◌≡◌, ◌⊎◌, ℕ, ◌+◌, ◌<◌, ◌≤◌, List, [], length, refl, sym, ap, subst, inl, inr, Ok, Some, None, cond}
 use Rattle.linker_base.specs.Bits.{field}
 use Rattle.linker_base.specs.RewriteWindow.{window_of_rewrite}
 use Rattle.linker_elf.specs.Choices.{entry}
@@ -12,13 +12,16 @@ use Rattle.linker_elf.specs.declared.elf.RelocationInstruction.TheVariants as in
 use Rattle.linker_elf.specs.declared.elf.RelocationKind.TheVariants.{GotTpOff, GotTpOffGot}
 use Rattle.linker_elf.specs.declared.elf.RelocationKindInfo.{RelocationKindInfo}
 use Rattle.linker_elf.specs.declared.elf.choice.Choice.{Choice}
+use Rattle.linker_elf.specs.declared.elf.choice.LinkFacts.{LinkFacts}
 use Rattle.linker_elf.specs.declared.elf.value.Operands.{Operands}
 use Rattle.linker_elf.specs.declared.loongarch64.forms.LoongArch64Instruction.TheVariants.{Shift5, Shift10}
 use Rattle.linker_elf.specs.declared.loongarch64.relocations.LoongArch64Relocation.{LoongArch64Relocation}
 use Rattle.linker_elf.specs.declared.loongarch64.relocations.LoongArch64Relocation.TheVariants as names
+use Rattle.linker_final.proofs.Entries.{IsOfEntry}
 use Rattle.linker_final.proofs.LoongArchAlone.{high_after, high_anywhere, high_takes, in_place, low_after, low_takes}
 use Rattle.linker_final.proofs.LoongArchChosen.{IsByTable, IsEntry, by_table, entry_by, same_kind}
 use Rattle.linker_final.proofs.LoongArchWritten.{IsAfter, becomes, named_after, relocated_there, unwritten_nop}
+use Rattle.linker_final.proofs.PreLayout.{isnt}
 use Rattle.linker_final.proofs.RiscVWritten.{stays}
 use Rattle.linker_final.proofs.Written.{are_rewritten, word_same}
 use Rattle.linker_final.specs.Final.{UntouchedInstruction, Linked, IsLinked, count, instruction_at}
@@ -26,7 +29,7 @@ use Rattle.linker_final.specs.LoongArchFinal.{Anywhere, AnywhereUnchanged, Anywh
 use Rattle.linker_laws.specs.LoongArchGroups.{CallOfDescriptor, Groups, HighEntry, HighOffset, LoadOfDescriptor, LoadsOffset}
 use Rattle.linker_laws.specs.LoongArchGroups.{LowOfDescriptor, MakesOffset}
 use Rattle.linker_laws.specs.LoongArchRewriteLaws.{IsRelocated, word_of}
-use Rattle.linker_utils.specs.LoongArchRewrites.{IsCallOfDescriptor, IsLoadOfDescriptor, IsLowOfDescriptor, IsPageOfDescriptor, page_to_initial_exec, to_initial_exec, to_local_exec}
+use Rattle.linker_utils.specs.LoongArchRewrites.{LoongArchApplies, LoongArchEntry, IsCallOfDescriptor, IsLoadOfDescriptor, IsLowOfDescriptor, IsPageOfDescriptor, page_to_initial_exec, to_initial_exec, to_local_exec}
 use Rattle.linker_utils.specs.declared.loongarch64.rewrites.RewriteKind.TheVariants as kinds
 use Rattle.linker_rewriting.specs.declared.decisions.Decision.TheVariants.{Rewritten}
 use Rattle.linker_section.specs.Relocations.{relocation_in}
@@ -36,6 +39,7 @@ use Rattle.linker_section.specs.declared.facts.Symbol.{Symbol}
 use Rattle.linker_section.specs.declared.relocations.Rela.{Rela}
 use Rattle.linker_utils.specs.Relaxations.{relaxation_rewrite}
 use Rattle.linker_utils.specs.declared.architecture.Relaxation.{Relaxation}
+use Rattle.linker_utils.specs.declared.architecture.Relaxation.TheVariants as relaxations
 use Rattle.linker_elf.specs.declared.elf.architecture.Architecture.TheVariants.{LoongArch64}
 
 -- ---- rows
@@ -79,78 +83,107 @@ entry_low =
 -- ---- entries, by the kinds of their rewrites
 
 module _ (section : List ℕ) (o : ℕ) (chosen : Choice Relaxation ℕ) where
+  abbrev IsOf : LoongArch64Relocation → LinkFacts → LoongArchEntry → Type 0
+  IsOf name facts e = IsOfEntry loongarch_name relaxations.LoongArch64 (LoongArchApplies name section o facts) e chosen
+
+  -- Before addresses are known nothing is deleted, and no offset has 12 bits.
+  of_page : (by : IsByTable names.R_LARCH_TLS_DESC_PC_HI20 section o chosen)
+      → IsOf names.R_LARCH_TLS_DESC_PC_HI20 by.facts (entry kinds.PcalaToLu12i names.R_LARCH_TLS_LE_HI20 to_local_exec)
+      ⊎ IsOf names.R_LARCH_TLS_DESC_PC_HI20 by.facts (entry kinds.NoOp names.R_LARCH_TLS_IE_PC_HI20 page_to_initial_exec)
+  of_page by =
+      elim by.one [
+        | inl short ↦ isnt by.facts.is_relaxable (by.early refl).unmarked (short.meant.1.1.1.0)
+        | inr rest ↦ elim rest [
+          | inl short ↦ isnt by.facts.has_addresses (by.early refl).unplaced (short.meant.1.1.1.1.1.0.0)
+          | inr rest ↦ elim rest [
+            | inl this ↦ inl this
+            | inr rest ↦ elim rest [
+              | inl this ↦ inr this
+              | inr rest ↦ elim rest [
+                | inl near ↦ isnt by.facts.is_relaxable (by.early refl).unmarked (near.meant.1.0)
+                | inr nothing ↦ absurd nothing
+              ]
+            ]
+          ]
+        ]
+      ]
+
+  of_low : (by : IsByTable names.R_LARCH_TLS_DESC_PC_LO12 section o chosen)
+      → IsOf names.R_LARCH_TLS_DESC_PC_LO12 by.facts (entry kinds.LowToOri names.R_LARCH_TLS_LE_LO12 to_local_exec)
+      ⊎ IsOf names.R_LARCH_TLS_DESC_PC_LO12 by.facts (entry kinds.AddiToLd names.R_LARCH_TLS_IE_PC_LO12 (to_initial_exec []))
+  of_low by =
+      elim by.one [
+        | inl short ↦ isnt by.facts.has_addresses (by.early refl).unplaced (short.meant.1.1.1.1.1.0.0)
+        | inr rest ↦ elim rest [
+          | inl this ↦ inl this
+          | inr rest ↦ elim rest [
+            | inl this ↦ inr this
+            | inr rest ↦ elim rest [
+              | inl near ↦ isnt by.facts.is_relaxable (by.early refl).unmarked (near.meant.1.0)
+              | inr nothing ↦ absurd nothing
+            ]
+          ]
+        ]
+      ]
+
   high_entry : IsKind kinds.PcalaToLu12i chosen.kind → IsByTable names.R_LARCH_TLS_DESC_PC_HI20 section o chosen
       → IsEntry kinds.PcalaToLu12i names.R_LARCH_TLS_LE_HI20 names.R_LARCH_TLS_DESC_PC_HI20 section o chosen
   high_entry kind by =
-      elim by.one [
+      elim (of_page by) [
         | inl this ↦
             entry_by names.R_LARCH_TLS_DESC_PC_HI20 section o chosen by.facts
             (entry kinds.PcalaToLu12i names.R_LARCH_TLS_LE_HI20 to_local_exec) this
-        | inr rest ↦ elim rest [
-          | inl other ↦
-              absurd (let e : kinds.PcalaToLu12i ≡ kinds.NoOp = same_kind chosen.kind kinds.PcalaToLu12i kinds.NoOp kind
-              other.kind_is in cc)
-          | inr nothing ↦ absurd nothing
-        ]
+        | inr other ↦
+            absurd (let e : kinds.PcalaToLu12i ≡ kinds.NoOp = same_kind chosen.kind kinds.PcalaToLu12i kinds.NoOp kind
+            other.kind_is in cc)
       ]
 
   page_entry : IsKind kinds.NoOp chosen.kind → IsByTable names.R_LARCH_TLS_DESC_PC_HI20 section o chosen
       → IsEntry kinds.NoOp names.R_LARCH_TLS_IE_PC_HI20 names.R_LARCH_TLS_DESC_PC_HI20 section o chosen
   page_entry kind by =
-      elim by.one [
+      elim (of_page by) [
         | inl other ↦
             absurd (let e : kinds.NoOp ≡ kinds.PcalaToLu12i = same_kind chosen.kind kinds.NoOp kinds.PcalaToLu12i kind
             other.kind_is in cc)
-        | inr rest ↦ elim rest [
-          | inl this ↦
-              entry_by names.R_LARCH_TLS_DESC_PC_HI20 section o chosen by.facts
-              (entry kinds.NoOp names.R_LARCH_TLS_IE_PC_HI20 page_to_initial_exec) this
-          | inr nothing ↦ absurd nothing
-        ]
+        | inr this ↦
+            entry_by names.R_LARCH_TLS_DESC_PC_HI20 section o chosen by.facts
+            (entry kinds.NoOp names.R_LARCH_TLS_IE_PC_HI20 page_to_initial_exec) this
       ]
 
   low_entry : IsKind kinds.LowToOri chosen.kind → IsByTable names.R_LARCH_TLS_DESC_PC_LO12 section o chosen
       → IsEntry kinds.LowToOri names.R_LARCH_TLS_LE_LO12 names.R_LARCH_TLS_DESC_PC_LO12 section o chosen
   low_entry kind by =
-      elim by.one [
+      elim (of_low by) [
         | inl this ↦
             entry_by names.R_LARCH_TLS_DESC_PC_LO12 section o chosen by.facts
             (entry kinds.LowToOri names.R_LARCH_TLS_LE_LO12 to_local_exec) this
-        | inr rest ↦ elim rest [
-          | inl other ↦
-              absurd (let e : kinds.LowToOri ≡ kinds.AddiToLd = same_kind chosen.kind kinds.LowToOri kinds.AddiToLd kind
-              other.kind_is in cc)
-          | inr nothing ↦ absurd nothing
-        ]
+        | inr other ↦
+            absurd (let e : kinds.LowToOri ≡ kinds.AddiToLd = same_kind chosen.kind kinds.LowToOri kinds.AddiToLd kind
+            other.kind_is in cc)
       ]
 
   load_entry : IsKind kinds.AddiToLd chosen.kind → IsByTable names.R_LARCH_TLS_DESC_PC_LO12 section o chosen
       → IsEntry kinds.AddiToLd names.R_LARCH_TLS_IE_PC_LO12 names.R_LARCH_TLS_DESC_PC_LO12 section o chosen
   load_entry kind by =
-      elim by.one [
+      elim (of_low by) [
         | inl other ↦
             absurd (let e : kinds.AddiToLd ≡ kinds.LowToOri = same_kind chosen.kind kinds.AddiToLd kinds.LowToOri kind
             other.kind_is in cc)
-        | inr rest ↦ elim rest [
-          | inl this ↦
-              entry_by names.R_LARCH_TLS_DESC_PC_LO12 section o chosen by.facts
-              (entry kinds.AddiToLd names.R_LARCH_TLS_IE_PC_LO12 to_initial_exec) this
-          | inr nothing ↦ absurd nothing
-        ]
+        | inr this ↦
+            entry_by names.R_LARCH_TLS_DESC_PC_LO12 section o chosen by.facts
+            (entry kinds.AddiToLd names.R_LARCH_TLS_IE_PC_LO12 (to_initial_exec [])) this
       ]
 
-  -- what goes, whichever of both it is
+  -- what becomes a `nop`, for local-exec and for initial-exec
   load_goes : IsByTable names.R_LARCH_TLS_DESC_LD section o chosen
       → IsEntry kinds.ReplaceWithNop names.R_LARCH_NONE names.R_LARCH_TLS_DESC_LD section o chosen
   load_goes by =
       elim by.one [
-        | inl this ↦
-            entry_by names.R_LARCH_TLS_DESC_LD section o chosen by.facts
-            (entry kinds.ReplaceWithNop names.R_LARCH_NONE to_local_exec) this
+        | inl gone ↦ isnt by.facts.is_relaxable (by.early refl).unmarked (gone.meant.1.1.0)
         | inr rest ↦ elim rest [
           | inl this ↦
               entry_by names.R_LARCH_TLS_DESC_LD section o chosen by.facts
-              (entry kinds.ReplaceWithNop names.R_LARCH_NONE to_initial_exec) this
+              (entry kinds.ReplaceWithNop names.R_LARCH_NONE (to_initial_exec [])) this
           | inr nothing ↦ absurd nothing
         ]
       ]
@@ -159,13 +192,11 @@ module _ (section : List ℕ) (o : ℕ) (chosen : Choice Relaxation ℕ) where
       → IsEntry kinds.ReplaceWithNop names.R_LARCH_NONE names.R_LARCH_TLS_DESC_CALL section o chosen
   call_goes by =
       elim by.one [
-        | inl this ↦
-            entry_by names.R_LARCH_TLS_DESC_CALL section o chosen by.facts
-            (entry kinds.ReplaceWithNop names.R_LARCH_NONE to_local_exec) this
+        | inl gone ↦ isnt by.facts.is_relaxable (by.early refl).unmarked (gone.meant.1.1.0)
         | inr rest ↦ elim rest [
           | inl this ↦
               entry_by names.R_LARCH_TLS_DESC_CALL section o chosen by.facts
-              (entry kinds.ReplaceWithNop names.R_LARCH_NONE to_initial_exec) this
+              (entry kinds.ReplaceWithNop names.R_LARCH_NONE (to_initial_exec [])) this
           | inr nothing ↦ absurd nothing
         ]
       ]

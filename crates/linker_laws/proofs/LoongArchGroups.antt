@@ -18,7 +18,7 @@ use Rattle.linker_elf.specs.declared.elf.value.Operands.{Operands}
 use Rattle.linker_elf.specs.declared.loongarch64.forms.LoongArch64Instruction.TheVariants.{Branch26, Shift5}
 use Rattle.linker_elf.specs.declared.loongarch64.relocations.LoongArch64Relocation.{LoongArch64Relocation}
 use Rattle.linker_elf.specs.declared.loongarch64.relocations.LoongArch64Relocation.TheVariants as names
-use Rattle.linker_laws.specs.Changes.{go_to, put, with_register}
+use Rattle.linker_laws.specs.Changes.{ChangesOpen, go_to, put, with_register}
 use Rattle.linker_laws.specs.LoongArchGroups as groups
 use Rattle.linker_laws.specs.LoongArchGroups.{AreBefore, AreDeleted, Code, HighHalf, IsFollowed, LowHalfIf}
 use Rattle.linker_laws.specs.LoongArchGroups.{LowOfDescriptor, Processor, Stands, executed, left, link, machine, seen, uses}
@@ -47,7 +47,7 @@ use Rattle.linker_laws.proofs.LoongArchSteps.{set}
 use Rattle.linker_laws.proofs.LoongArchWords.{IsHigh, IsLow, high_after, low_after, low12_is}
 use Rattle.linker_laws.proofs.RiscVGroups.{counts}
 use Rattle.linker_laws.proofs.Sums.{difference_below, sum_below}
-use Rattle.linker_utils.specs.LoongArchRewrites.{IsCall, IsLd, IsLowOfDescriptor, IsPcalau12i, rd_of, rj_of, signed_12, signed_32}
+use Rattle.linker_utils.specs.LoongArchRewrites.{IsCall, IsCallOfDescriptor, IsLd, IsLoadOfDescriptor, IsLowOfDescriptor, IsPcalau12i, rd_of, rj_of, signed_12, signed_32, unsigned_12}
 use Rattle.linker_utils.specs.declared.loongarch64.rewrites.RewriteKind.TheVariants as kinds
 
 -- ---- states
@@ -331,12 +331,29 @@ are_descriptor_pages x y pcala of is b small =
 nop_is : (before nop : List ℕ) → IsRewritten kinds.ReplaceWithNop before nop → word_of nop ≡ 0x03400000
 nop_is before nop made = word_made (λ _. 0x03400000) before nop (omega arith) made
 
-pub are_no_high_halves : groups.HighHalfToNop
-are_no_high_halves c x k s pcala nop small at next is made fits old stands =
+no_high_half : (name : LoongArch64Relocation)
+    → ((x : Operands) (pcala of : List ℕ) → IsPcalau12i (word_of pcala) → AreAddresses x → Fits32 name x → IsRelocated name x pcala of
+    → MakesPage (rd_of (word_of pcala)) x (word_of of))
+    → groups.HighHalfToNop name
+no_high_half name page c x k s pcala nop small at next is made fits old stands =
     let n = rd_of (word_of pcala) in
-    let m = page_of_entry x pcala old.relocated is small fits old.applied in
+    let m = page x pcala old.relocated is small fits old.applied in
     old_sets c k s n (near_entry x) (word_of old.relocated) (word_of nop) next (below_32 (word_of pcala))
     (ap (loaded 4 c.old) at ∙ old.stands) stands (nop_is pcala nop made)
+    (page_step x n (word_of old.relocated) (near_entry x) (seen c.processor s) m.is at m.page)
+
+pub are_no_high_halves : groups.HighHalfToNop names.R_LARCH_TLS_IE_PC_HI20
+are_no_high_halves = no_high_half names.R_LARCH_TLS_IE_PC_HI20 page_of_entry
+
+pub are_no_descriptor_high_halves : groups.HighHalfToNop names.R_LARCH_TLS_DESC_PC_HI20
+are_no_descriptor_high_halves = no_high_half names.R_LARCH_TLS_DESC_PC_HI20 page_of_descriptor
+
+pub are_deleted_descriptor_high_halves : groups.HighHalfIsDeleted names.R_LARCH_TLS_DESC_PC_HI20
+are_deleted_descriptor_high_halves c x k s pcala d small at is fits old =
+    let n = rd_of (word_of pcala) in
+    let m = page_of_descriptor x pcala old.relocated is small fits old.applied in
+    nothing_left c k s n (near_entry x) (word_of old.relocated) d (below_32 (word_of pcala))
+    (ap (loaded 4 c.old) at ∙ old.stands)
     (page_step x n (word_of old.relocated) (near_entry x) (seen c.processor s) m.is at m.page)
 
 -- ---- low halves
@@ -372,22 +389,27 @@ are_low_halves x y ld ori of is made b =
     or_step n j (word_of of) (thread_offset y) (seen c.processor t) (low_after 0x00e n j _ ori of b.written op rd rj)
     (or_value y j (word_of of) (seen c.processor t) (held t agree) (ori_bits y ori of b)))
 
-pub are_short_low_halves : groups.LowHalfToOriZero
-are_short_low_halves x y ld ori of is made fits b =
-    let n = rd_of (word_of ld) in
-    let word = word_made (λ x. 0x03800000 + rd_of x) ld ori (omega arith) made in
+-- an `ori` from `zero` with an offset of 12 bits
+short_or : (y : Operands) (n : ℕ) (low ori of : List ℕ) → rd_of (word_of low) ≡ n
+    → IsRewritten kinds.LowToOriZero low ori
+    → RowIsWithin (loongarch_row names.R_LARCH_TLS_LE_LO12) unsigned_12 y → IsRelocated names.R_LARCH_TLS_LE_LO12 y ori of
+    → (t : loongarch_machine.State) → step (word_of of) t ≡ Some (leaves n (thread_offset y) t)
+short_or y n low ori of into made fits b t =
+    let word = word_made (λ x. 0x03800000 + rd_of x) low ori (omega arith) made in
     let op : word_of ori / 2 ^ 22 ≡ 0x00e = omega arith in
     let rd : rd_of (word_of ori) ≡ n = omega arith in
     let rj : rj_of (word_of ori) ≡ 0 = omega arith in
     let d = relative symbol_address tls_base y in
     let few : d < 2 ^ 12 = small_number d (difference_below _ _) fits in
     let f = field (word_of of) 10 22 in
-    let value : bit_or 0 f ≡ thread_offset y =
-    or_shifted 0 12 f (omega arith) ∙ (let z : 0 * 2 ^ 12 + f ≡ f = omega arith in z)
-    ∙ ori_bits y ori of b ∙ (let z : field d 0 12 ≡ d = omega arith in z) ∙ offset_is y in
+    or_step n 0 (word_of of) (thread_offset y) t (low_after 0x00e n 0 _ ori of b.written op rd rj)
+    (or_shifted 0 12 f (omega arith) ∙ (let z : 0 * 2 ^ 12 + f ≡ f = omega arith in z)
+    ∙ ori_bits y ori of b ∙ (let z : field d 0 12 ≡ d = omega arith in z) ∙ offset_is y)
+
+pub are_short_low_halves : groups.LowHalfToOriZero
+are_short_low_halves x y ld ori of is made fits b =
     low_half _ x y ld of is
-    (λ c k s t agree held.
-    or_step n 0 (word_of of) (thread_offset y) (seen c.processor t) (low_after 0x00e n 0 _ ori of b.written op rd rj) value)
+    (λ c k s t agree held. short_or y (rd_of (word_of ld)) ld ori of refl made fits b (seen c.processor t))
 
 -- ---- TLS descriptors
 
@@ -415,6 +437,13 @@ are_descriptor_low_halves x y addi ori of is made b =
     (low_after 0x00e 4 4 _ ori of b.written op (rd ∙ is.1) (rj ∙ is.2))
     (or_value y 4 (word_of of) (seen c.processor t) (makes.0 t agree) (ori_bits y ori of b) ∙ makes.1))
 
+pub are_short_descriptor_low_halves : groups.LowOfDescriptorToOriZero
+are_short_descriptor_low_halves x y addi ori of is made fits b =
+    low_of_descriptor (λ c k s y number. thread_offset y ≡ number) x y addi of is
+    (λ c k s t number agree makes.
+    short_or y 4 addi ori of is.1 made fits b (seen c.processor t)
+    ∙ ap (λ v. Some (leaves 4 v (seen c.processor t))) makes)
+
 pub are_descriptor_entry_loads : groups.LowOfDescriptorToLoad
 are_descriptor_entry_loads x y addi ld of is made b =
     let e = entry_and_addend y in
@@ -429,38 +458,74 @@ are_descriptor_entry_loads x y addi ld of is made b =
     (reached e (field (word_of of) 10 22) (read 4 u) (sum_below y.got_entry _) (load_bits y ld of b) (makes.0 t agree))
     ∙ ap (λ v. Some (leaves 4 v u)) (makes.1 t agree))
 
+load_sets : (p : Processor) (s : State) (ld : List ℕ) → IsLoadOfDescriptor (word_of ld) → s.registers 4 < 2 ^ 64
+    → step (word_of ld) (seen p s) ≡ Some (leaves 1 (loaded 8 s.memory (s.registers 4)) (seen p s))
+load_sets p s ld is small =
+    let u = seen p s in
+    ap (λ w. step w u) is ∙ ap (λ a. Some (leaves 1 (loaded 8 s.memory a) u)) (whole (s.registers 4) small)
+
 pub are_descriptor_loads : groups.LoadOfDescriptorToNop
 are_descriptor_loads ld nop is made c k s next small old new =
-    let u = seen c.processor s in
     old_sets c k s 1 (loaded 8 s.memory (s.registers 4)) (word_of ld) (word_of nop) next (omega arith) old new
-    (nop_is ld nop made)
-    (ap (λ w. step w u) is ∙ ap (λ a. Some (leaves 1 (loaded 8 s.memory a) u)) (whole (s.registers 4) small))
+    (nop_is ld nop made) (load_sets c.processor s ld is small)
+
+pub are_deleted_descriptor_loads : groups.LoadOfDescriptorIsDeleted
+are_deleted_descriptor_loads c k s ld d is small old =
+    nothing_left c k s 1 (loaded 8 s.memory (s.registers 4)) (word_of ld) d (omega arith) old (load_sets c.processor s ld is small)
+
+module _ (c : Code) (s : State) (jirl : List ℕ) (is : IsCallOfDescriptor (word_of jirl)) (offset executes : ℕ) (k k' : Kinds)
+    (s' : State) (small : s.registers 1 < 2 ^ 64) where
+  -- old's call
+  called : Stands c.old s.pc jirl
+      → run executes (machine c.processor c.old) (put 1 (sum_64 s.pc 4) (s.registers 1) s) ≡ Some s'
+      → run (suc executes) (machine c.processor c.old) s ≡ Some s'
+  called old returns =
+      let p = c.processor in
+      let f = s.registers 1 in
+      let back = sum_64 s.pc 4 in
+      run_first executes (machine p c.old) s (put 1 back f s) (Some s')
+      (goes p c.old s s.pc (word_of jirl)
+      (loongarch_machine.go_to (wrapped (pos f +ℤ pos 0)) (loongarch_machine.with_register 1 back (seen p s))) refl old
+      (ap (λ w. step w (seen p s)) is)
+      ∙ ap Some (wrote p s 1 back (wrapped (pos f +ℤ pos 0)) (omega arith)
+      ∙ ap (λ a. put 1 back a s) (whole f small)))
+      returns
+
+  -- new goes to an address, and agrees
+  agreed : (t : State) → Agree (link c) k s t → register t 4 ≡ offset
+      → ChangesOpen (with_register 4 same k) (put 4 offset (sum_64 s.pc 4) s) k' s'
+      → (next : ℕ) → next ≡ c.moved (sum_64 s.pc 4) → Agree (link c) k' s' (go_to next t)
+  agreed t agree has changes next at =
+      let back = sum_64 s.pc 4 in
+      agree_open (link c) (with_register 4 same k) k' (put 4 offset back s) s' (go_to next t)
+      (agree_put_old (link c) k (go_to back s) (go_to next t) 4 same offset back
+      (agree_go (link c) k s t back next agree (sum_below s.pc 4) at) (sum_below s.pc 4) at (sym has)) changes
 
 pub are_descriptor_calls : groups.CallOfDescriptorToNop
-are_descriptor_calls jirl nop is made c offset executes k k' s s' next small held old new returns changes =
-    let p = c.processor in
-    let f = s.registers 1 in
-    let back = sum_64 s.pc 4 in
+are_descriptor_calls jirl nop is made c s next new offset executes k k' s' small held old returns changes =
     let after = sum_64 (c.moved s.pc) 4 in
-    let s1 = put 1 back f s in
     record {
       more = executes;
-      old_goes =
-          run_first executes (machine p c.old) s s1 (Some s')
-          (goes p c.old s s.pc (word_of jirl)
-          (loongarch_machine.go_to (wrapped (pos f +ℤ pos 0)) (loongarch_machine.with_register 1 back (seen p s))) refl old
-          (ap (λ w. step w (seen p s)) is)
-          ∙ ap Some (wrote p s 1 back (wrapped (pos f +ℤ pos 0)) (omega arith)
-          ∙ ap (λ a. put 1 back a s) (whole f small)))
-          returns;
+      old_goes = called c s jirl is offset executes k k' s' small old returns;
       new_goes = λ t agree.
-          holds_of (run 1 (machine p c.new) t) (Agree (link c) k' s') (go_to after t)
-          (passes p c.new t (c.moved s.pc) (word_of nop) agree.pc new (nop_is jirl nop made))
-          (agree_open (link c) (with_register 4 same k) k' (put 4 offset back s) s' (go_to after t)
-          (agree_put_old (link c) k (go_to back s) (go_to after t) 4 same offset back
-          (agree_go (link c) k s t back after agree (sum_below s.pc 4) next) (sum_below s.pc 4) next
-          (sym (held t agree))) changes);
+          holds_of (run 1 (machine c.processor c.new) t) (Agree (link c) k' s') (go_to after t)
+          (passes c.processor c.new t (c.moved s.pc) (word_of nop) agree.pc new (nop_is jirl nop made))
+          (agreed c s jirl is offset executes k k' s' small t agree (held t agree) changes after next);
       forward = λ none. omega arith;
+    }
+
+pub are_deleted_descriptor_calls : groups.CallOfDescriptorIsDeleted
+are_deleted_descriptor_calls c s jirl d is offset executes k k' s' small held old returns changes =
+    let below = d.small in
+    let next : sum_64 s.pc 4 ≡ s.pc + 4 = omega (arith, below) in
+    let back = changes.pc in
+    record {
+      more = executes;
+      old_goes = called c s jirl is offset executes k k' s' small old returns;
+      new_goes = λ t agree.
+          agreed c s jirl is offset executes k k' s' small t agree (held t agree) changes t.pc
+          (agree.pc ∙ d.moved ∙ ap c.moved (sym next));
+      forward = λ none. omega (arith, back, next);
     }
 
 -- ---- local-exec
@@ -674,6 +739,21 @@ are_near_entries relative_laws branches = (
       near_goes c.new c.processor y t n (entry_and_addend y) near.relocated
       (near_after n _ pcala pcaddi near.relocated one.register made near.applied.written) one.into_own_source.not_zero
       (below_32 (word_of addi)) here near.stands (branches.5 y small y.place pcaddi near.relocated near.applied tt)),
+  λ c x y k s pcala addi pcaddi pair l made small near kind at are.
+      let one = pair.one_register in
+      let n = rd_of (word_of addi) in
+      let a = l.high.applied in
+      addresses c 0 4 x y k s kind n (entry_and_addend x) (entry_and_addend y) at are
+      (sum_goes c.old c.processor x s n (entry_and_addend x) l.high.relocated l.low.relocated
+      (high_after 12 0x0d n _ pcala l.high.relocated a.written one.first one.register)
+      (low_after 0x00b n n _ addi l.low.relocated l.low.applied.written pair.second_is refl one.into_own_source.same)
+      one.into_own_source.not_zero (below_32 (word_of addi)) at.at l.high.stands l.low.stands
+      (relative_laws.5 x l.small x.place pcala l.high.relocated a (subst (ValueIsWithin signed_32) a.value_is l.fits)
+      (sum_64 x.place 4) addi l.low.relocated l.low.applied tt))
+      (λ t here.
+      near_goes c.new c.processor y t n (entry_and_addend y) near.relocated
+      (near_after n _ pcala pcaddi near.relocated one.register made near.applied.written) one.into_own_source.not_zero
+      (below_32 (word_of addi)) here near.stands (branches.6 y small y.place pcaddi near.relocated near.applied tt)),
 )
 
 -- ---- calls

@@ -186,7 +186,7 @@ GotToPcaddi =
     → Makes 1 (8 - deleted_by kinds.Delete) symbol_address c x y k s ld
 
 -- So do `pcalau12i rd` and `addi.d rd, rd` of the symbol, or of a GOT entry for general- or
--- local-dynamic, by the relocations before and after.
+-- local-dynamic or of a TLS descriptor, by the relocations before and after.
 abbrev pub SumToPcaddi : (name low_name after : LoongArch64Relocation) → RewriteKind
     → (Operands → ℕ) → Type 0
 SumToPcaddi name low_name after deletes address =
@@ -206,6 +206,8 @@ EntriesToPcaddi =
     names.R_LARCH_TLS_LD_PCREL20_S2 kinds.DeleteAddi entry_and_addend
     × SumToPcaddi names.R_LARCH_TLS_GD_PC_HI20 names.R_LARCH_GOT_PC_LO12
     names.R_LARCH_TLS_GD_PCREL20_S2 kinds.DeleteAddi entry_and_addend
+    × SumToPcaddi names.R_LARCH_TLS_DESC_PC_HI20 names.R_LARCH_TLS_DESC_PC_LO12
+    names.R_LARCH_TLS_DESC_PCREL20_S2 kinds.Delete entry_and_addend
 
 -- ---- instructions alone, whatever stands before them
 
@@ -249,16 +251,26 @@ PageOfDescriptor =
     (x y : Operands) (pcala pcala_of : List ℕ) → IsPcalau12i (word_of pcala)
     → IsRelocated names.R_LARCH_TLS_IE_PC_HI20 y pcala pcala_of → HighEntry pcala pcala_of x y
 
--- of initial-exec, where the offset has 12 bits: `nop`
-abbrev pub HighHalfToNop : Type 0
-HighHalfToNop =
+-- where the offset has 12 bits: `nop`
+abbrev pub HighHalfToNop : LoongArch64Relocation → Type 0
+HighHalfToNop name =
     (c : Code) (x : Operands) (k : Kinds) (s : State) (pcala nop : List ℕ)
     → AreAddresses x → s.pc ≡ x.place → IsFollowed c 4 4 s → IsPcalau12i (word_of pcala)
-    → IsRewritten kinds.ReplaceWithNop pcala nop → Fits32 names.R_LARCH_TLS_IE_PC_HI20 x
-    → Has c.old names.R_LARCH_TLS_IE_PC_HI20 x pcala → Stands c.new (c.moved s.pc) nop
+    → IsRewritten kinds.ReplaceWithNop pcala nop → Fits32 name x
+    → Has c.old name x pcala → Stands c.new (c.moved s.pc) nop
     → let n = rd_of (word_of pcala) in
     Group (of_link (link c)) 1 k s (with_unless_zero n anything k)
     (put_unless_zero n (near_entry x) (sum_64 s.pc 4) s)
+
+-- or nothing
+abbrev pub HighHalfIsDeleted : LoongArch64Relocation → Type 0
+HighHalfIsDeleted name =
+    (c : Code) (x : Operands) (k : Kinds) (s : State) (pcala : List ℕ)
+    → AreDeleted c (deleted_by kinds.Delete) s → AreAddresses x → s.pc ≡ x.place
+    → IsPcalau12i (word_of pcala) → Fits32 name x → Has c.old name x pcala
+    → let n = rd_of (word_of pcala) in
+    Group (of_link (link c)) 0 k s (with_unless_zero n anything k)
+    (put_unless_zero n (near_entry x) (s.pc + 4) s)
 
 -- `ld.d rd, rj` of initial-exec, where rj has the entry's page and the entry holds the offset. The
 -- instruction after leaves the offset too, where a premise holds.
@@ -316,6 +328,15 @@ LowOfDescriptorToOri =
     → IsRewritten kinds.LowToOri addi ori → IsRelocated names.R_LARCH_TLS_LE_LO12 y ori ori_of
     → LowOfDescriptor MakesOffset addi ori_of x y
 
+-- `ori a0, zero` leaves it, where it has 12 bits.
+abbrev pub LowOfDescriptorToOriZero : Type 0
+LowOfDescriptorToOriZero =
+    (x y : Operands) (addi ori ori_of : List ℕ) → IsLowOfDescriptor (word_of addi)
+    → IsRewritten kinds.LowToOriZero addi ori
+    → RowIsWithin (loongarch_row names.R_LARCH_TLS_LE_LO12) unsigned_12 y
+    → IsRelocated names.R_LARCH_TLS_LE_LO12 y ori ori_of
+    → LowOfDescriptor (λ c k s y number. thread_offset y ≡ number) addi ori_of x y
+
 -- `a0` has the page of an entry of initial-exec, and `ld.d a0, a0` loads what that holds.
 abbrev pub LoadsOffset : Code → Kinds → State → Operands → ℕ → Type 0
 LoadsOffset c k s y number =
@@ -341,23 +362,42 @@ LoadOfDescriptorToNop =
     (ld nop : List ℕ) → IsLoadOfDescriptor (word_of ld) → IsRewritten kinds.ReplaceWithNop ld nop
     → LoadOfDescriptor ld nop
 
--- `jirl ra, ra, 0` calls the function, which leaves an offset in `a0`. New has a `nop`, and has the
--- offset there. What else the function changes may be anything then, as is `ra`. By the psABI ("TLS
--- Descriptors") it changes no other register, and returns by `ra`. It saves others below the stack
--- pointer. Where the thread has no block yet, it makes one.
-abbrev pub CallOfDescriptor : List ℕ → List ℕ → Type 0
-CallOfDescriptor before after =
-    (c : Code) (offset executes : ℕ) (k k' : Kinds) (s s' : State) → IsFollowed c 4 4 s
-    → s.registers 1 < 2 ^ 64 → NewHas c k s 4 offset
-    → Stands c.old s.pc before → Stands c.new (c.moved s.pc) after
+-- Or it has nothing.
+abbrev pub LoadOfDescriptorIsDeleted : Type 0
+LoadOfDescriptorIsDeleted =
+    (c : Code) (k : Kinds) (s : State) (ld : List ℕ) → AreDeleted c (deleted_by kinds.Delete) s
+    → IsLoadOfDescriptor (word_of ld) → s.registers 4 < 2 ^ 64 → Stands c.old s.pc ld
+    → Group (of_link (link c)) 0 k s (with_register 1 anything k)
+    (put 1 (loaded 8 s.memory (s.registers 4)) (s.pc + 4) s)
+
+-- `jirl ra, ra, 0` calls the function, which leaves an offset in `a0`. New has n instructions in
+-- place of the call, and has the offset there. What else the function changes may be anything then,
+-- as is `ra`. By the psABI ("TLS Descriptors") it changes no other register, and returns by `ra`.
+-- It saves others below the stack pointer. Where the thread has no block yet, it makes one.
+abbrev pub HasOffset : ℕ → Code → State → List ℕ → Type 0
+HasOffset n c s jirl =
+    (offset executes : ℕ) (k k' : Kinds) (s' : State)
+    → s.registers 1 < 2 ^ 64 → NewHas c k s 4 offset → Stands c.old s.pc jirl
     → run executes (machine c.processor c.old) (put 1 (sum_64 s.pc 4) (s.registers 1) s) ≡ Some s'
     → ChangesOpen (with_register 4 same k) (put 4 offset (sum_64 s.pc 4) s) k' s'
-    → Group (of_link (link c)) 1 k s k' s'
+    → Group (of_link (link c)) n k s k' s'
+
+-- a `nop`
+abbrev pub CallOfDescriptor : List ℕ → List ℕ → Type 0
+CallOfDescriptor before after =
+    (c : Code) (s : State) → IsFollowed c 4 4 s → Stands c.new (c.moved s.pc) after
+    → HasOffset 1 c s before
 
 abbrev pub CallOfDescriptorToNop : Type 0
 CallOfDescriptorToNop =
     (jirl nop : List ℕ) → IsCallOfDescriptor (word_of jirl)
     → IsRewritten kinds.ReplaceWithNop jirl nop → CallOfDescriptor jirl nop
+
+-- or nothing
+abbrev pub CallOfDescriptorIsDeleted : Type 0
+CallOfDescriptorIsDeleted =
+    (c : Code) (s : State) (jirl : List ℕ) → AreDeleted c (deleted_by kinds.Delete) s
+    → IsCallOfDescriptor (word_of jirl) → HasOffset 0 c s jirl
 
 -- ---- local-exec, where the offset has 12 bits
 
@@ -451,15 +491,20 @@ pub record Groups : Type 0 where
   pub address : AddressToPcaddi
   pub near_entries : EntriesToPcaddi
   pub high_halves : HighHalfToLu12i names.R_LARCH_TLS_IE_PC_HI20
-  pub no_high_halves : HighHalfToNop
+  pub no_high_halves : HighHalfToNop names.R_LARCH_TLS_IE_PC_HI20
   pub low_halves : LowHalfToOri
   pub short_low_halves : LowHalfToOriZero
   pub descriptor_high_halves : HighHalfToLu12i names.R_LARCH_TLS_DESC_PC_HI20
+  pub no_descriptor_high_halves : HighHalfToNop names.R_LARCH_TLS_DESC_PC_HI20
+  pub deleted_descriptor_high_halves : HighHalfIsDeleted names.R_LARCH_TLS_DESC_PC_HI20
   pub descriptor_entries : PageOfDescriptor
   pub descriptor_low_halves : LowOfDescriptorToOri
+  pub short_descriptor_low_halves : LowOfDescriptorToOriZero
   pub descriptor_entry_loads : LowOfDescriptorToLoad
   pub descriptor_loads : LoadOfDescriptorToNop
+  pub deleted_descriptor_loads : LoadOfDescriptorIsDeleted
   pub descriptor_calls : CallOfDescriptorToNop
+  pub deleted_descriptor_calls : CallOfDescriptorIsDeleted
   pub high_offsets : OffsetLu12iIsDeleted
   pub sums : SumIsDeleted
   pub low_offsets : LowPartFromThreadPointer

@@ -57,8 +57,10 @@ meant r.R_LARCH_PCALA_LO12 s o = (λ a. ((second_of_pair IsAddi s o a).0, tt), t
 meant r.R_LARCH_CALL36 s o = (λ a. a, (λ a. a, tt))
 meant r.R_LARCH_TLS_IE_PC_HI20 s o = (λ a. (a.0, tt), (λ a. a, tt))
 meant r.R_LARCH_TLS_IE_PC_LO12 s o = (λ a. of_ld s o a, (λ a. of_ld s o a, tt))
-meant r.R_LARCH_TLS_DESC_PC_HI20 s o = (λ a. (a.0, a.1.0), (λ a. tt, tt))
-meant r.R_LARCH_TLS_DESC_PC_LO12 s o = (λ a. of_addi s o a, (λ a. into_a0 s o a, tt))
+meant r.R_LARCH_TLS_DESC_PC_HI20 s o =
+    (λ a. (a.0, tt), (λ a. (a.0, tt), (λ a. (a.0, a.1.0), (λ a. tt, (λ a. address_of_either s o a, tt)))))
+meant r.R_LARCH_TLS_DESC_PC_LO12 s o =
+    (λ a. of_addi s o a, (λ a. of_addi s o a, (λ a. into_a0 s o a, (λ a. ((second_of_pair IsAddi s o a).0, tt), tt))))
 meant r.R_LARCH_TLS_DESC_LD s o = (λ a. (a.0, tt), (λ a. (a.0, tt), tt))
 meant r.R_LARCH_TLS_DESC_CALL s o = (λ a. (a.0, tt), (λ a. (a.0, tt), tt))
 meant r.R_LARCH_TLS_LE_HI20_R s o = (λ a. (a.0, tt), tt)

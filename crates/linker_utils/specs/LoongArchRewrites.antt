@@ -232,7 +232,9 @@ HasPattern r.R_LARCH_PCALA_HI20 kind = IsPair IsAddi
 HasPattern r.R_LARCH_PCALA_LO12 kind = IsAfter 4 (IsPair IsAddi)
 HasPattern r.R_LARCH_TLS_IE_PC_HI20 kind = IsSingle IsPcalau12i
 HasPattern r.R_LARCH_TLS_IE_PC_LO12 kind = IsSingle IsLd
+HasPattern r.R_LARCH_TLS_DESC_PC_HI20 kinds.PcalaToPcaddi = IsPair IsAddi
 HasPattern r.R_LARCH_TLS_DESC_PC_HI20 kind = IsSingle IsPageOfDescriptor
+HasPattern r.R_LARCH_TLS_DESC_PC_LO12 kinds.Delete = IsAfter 4 (IsPair IsAddi)
 HasPattern r.R_LARCH_TLS_DESC_PC_LO12 kind = IsSingle IsLowOfDescriptor
 HasPattern r.R_LARCH_TLS_DESC_LD kind = IsSingle IsLoadOfDescriptor
 HasPattern r.R_LARCH_TLS_DESC_CALL kind = IsSingle IsCallOfDescriptor
@@ -273,6 +275,10 @@ bound_by_pcaddi back =
 abbrev pub entry_by_pcaddi : LoongArch64Relocation → ℕ → Conditions
 entry_by_pcaddi name back = marked ∷ group_fits ∷ in_reach name back ∷ []
 
+-- a TLS descriptor that stays, by `pcaddi`, which is n bytes before
+abbrev pub descriptor_by_pcaddi : ℕ → Conditions
+descriptor_by_pcaddi back = marked ∷ in_reach r.R_LARCH_TLS_DESC_PCREL20_S2 back ∷ []
+
 -- the definition by the distance in pages from `pcalau12i`, which is n bytes before
 abbrev pub bound_by_pages : ℕ → Conditions
 bound_by_pages back =
@@ -284,24 +290,26 @@ abbrev pub by_branch : Conditions
 by_branch = fixed_distance ∷ marked ∷ in_reach r.R_LARCH_B26 0 ∷ []
 
 -- The instructions of initial-exec and of descriptors may stand apart: all of them fit, or none is
--- rewritten. The offset from the thread pointer is in the instructions, and by `ori` alone.
+-- rewritten. The offset from the thread pointer is in the instructions, and by `ori` alone, where
+-- some facts hold too.
 abbrev pub to_local_exec : Conditions
 to_local_exec =
     bound ∷ executable ∷ group_fits ∷ addend (pos 0)
     ∷ within_if_known r.R_LARCH_TLS_LE_HI20 signed_32 0 ∷ []
 
-abbrev pub to_short_local_exec : Conditions
-to_short_local_exec =
-    bound ∷ executable ∷ group_fits ∷ addend (pos 0)
+abbrev pub to_short_local_exec : Conditions → Conditions
+to_short_local_exec facts =
+    bound ∷ executable ∷ facts ++ group_fits ∷ addend (pos 0)
     ∷ within r.R_LARCH_TLS_LE_LO12 unsigned_12 0 ∷ []
 
 -- The offset is in the GOT: the high half has the distance, and the others depend on no place.
+-- These conditions hold for local-exec too.
 abbrev pub page_to_initial_exec : Conditions
 page_to_initial_exec =
     executable ∷ group_fits ∷ within_if_known r.R_LARCH_TLS_IE_PC_HI20 signed_32 0 ∷ []
 
-abbrev pub to_initial_exec : Conditions
-to_initial_exec = executable ∷ group_fits ∷ []
+abbrev pub to_initial_exec : Conditions → Conditions
+to_initial_exec facts = executable ∷ facts ++ group_fits ∷ []
 
 -- the offset from the thread pointer in 12 signed bits
 abbrev pub by_low_part : Conditions
@@ -312,6 +320,12 @@ LoongArchEntry = Entry RewriteKind LoongArch64Relocation
 
 abbrev pub LoongArchChoice : Type 0
 LoongArchChoice = Choice RewriteKind LoongArch64Relocation
+
+-- An instruction that is left out: it is deleted where that may be, and else becomes `nop`.
+abbrev pub left_out : (Conditions → Conditions) → List LoongArchEntry → List LoongArchEntry
+left_out conditions entries =
+    entry kinds.Delete r.R_LARCH_NONE (conditions (marked ∷ []))
+    ∷ entry kinds.ReplaceWithNop r.R_LARCH_NONE (conditions []) ∷ entries
 
 abbrev pub loongarch_entries : LoongArch64Relocation → List LoongArchEntry
 loongarch_entries r.R_LARCH_GOT_PC_HI20 =
@@ -333,23 +347,23 @@ loongarch_entries r.R_LARCH_PCALA_LO12 = entry kinds.Delete r.R_LARCH_NONE (by_p
 loongarch_entries r.R_LARCH_CALL36 =
     entry kinds.CallToB r.R_LARCH_B26 by_branch ∷ entry kinds.CallToBl r.R_LARCH_B26 by_branch ∷ []
 loongarch_entries r.R_LARCH_TLS_IE_PC_HI20 =
-    entry kinds.ReplaceWithNop r.R_LARCH_NONE to_short_local_exec
+    entry kinds.ReplaceWithNop r.R_LARCH_NONE (to_short_local_exec [])
     ∷ entry kinds.PcalaToLu12i r.R_LARCH_TLS_LE_HI20 to_local_exec ∷ []
 loongarch_entries r.R_LARCH_TLS_IE_PC_LO12 =
-    entry kinds.LowToOriZero r.R_LARCH_TLS_LE_LO12 to_short_local_exec
+    entry kinds.LowToOriZero r.R_LARCH_TLS_LE_LO12 (to_short_local_exec [])
     ∷ entry kinds.LowToOri r.R_LARCH_TLS_LE_LO12 to_local_exec ∷ []
 loongarch_entries r.R_LARCH_TLS_DESC_PC_HI20 =
-    entry kinds.PcalaToLu12i r.R_LARCH_TLS_LE_HI20 to_local_exec
-    ∷ entry kinds.NoOp r.R_LARCH_TLS_IE_PC_HI20 page_to_initial_exec ∷ []
+    left_out to_short_local_exec
+    (entry kinds.PcalaToLu12i r.R_LARCH_TLS_LE_HI20 to_local_exec
+    ∷ entry kinds.NoOp r.R_LARCH_TLS_IE_PC_HI20 page_to_initial_exec
+    ∷ entry kinds.PcalaToPcaddi r.R_LARCH_TLS_DESC_PCREL20_S2 (descriptor_by_pcaddi 0) ∷ [])
 loongarch_entries r.R_LARCH_TLS_DESC_PC_LO12 =
-    entry kinds.LowToOri r.R_LARCH_TLS_LE_LO12 to_local_exec
-    ∷ entry kinds.AddiToLd r.R_LARCH_TLS_IE_PC_LO12 to_initial_exec ∷ []
-loongarch_entries r.R_LARCH_TLS_DESC_LD =
-    entry kinds.ReplaceWithNop r.R_LARCH_NONE to_local_exec
-    ∷ entry kinds.ReplaceWithNop r.R_LARCH_NONE to_initial_exec ∷ []
-loongarch_entries r.R_LARCH_TLS_DESC_CALL =
-    entry kinds.ReplaceWithNop r.R_LARCH_NONE to_local_exec
-    ∷ entry kinds.ReplaceWithNop r.R_LARCH_NONE to_initial_exec ∷ []
+    entry kinds.LowToOriZero r.R_LARCH_TLS_LE_LO12 (to_short_local_exec [])
+    ∷ entry kinds.LowToOri r.R_LARCH_TLS_LE_LO12 to_local_exec
+    ∷ entry kinds.AddiToLd r.R_LARCH_TLS_IE_PC_LO12 (to_initial_exec [])
+    ∷ entry kinds.Delete r.R_LARCH_NONE (descriptor_by_pcaddi 4) ∷ []
+loongarch_entries r.R_LARCH_TLS_DESC_LD = left_out to_initial_exec []
+loongarch_entries r.R_LARCH_TLS_DESC_CALL = left_out to_initial_exec []
 loongarch_entries r.R_LARCH_TLS_LE_HI20_R = entry kinds.Delete r.R_LARCH_NONE by_low_part ∷ []
 loongarch_entries r.R_LARCH_TLS_LE_ADD_R = entry kinds.Delete r.R_LARCH_NONE by_low_part ∷ []
 loongarch_entries r.R_LARCH_TLS_LE_LO12_R =
@@ -456,25 +470,65 @@ ReachesEntry facts =
     ConditionHolds loongarch_row facts.operands facts
     (within_if_known r.R_LARCH_TLS_IE_PC_HI20 signed_32 0)
 
--- one of the other relocations of a TLS descriptor with the first one: its choices for local-exec
--- and for initial-exec
-abbrev pub DescriptorIsChosenAlike : LoongArch64Relocation → LoongArchChoice → LoongArchChoice
-    → Type 0
-DescriptorIsChosenAlike name local initial =
-    AreChosenAlikeApart ReachesEntry r.R_LARCH_TLS_DESC_PC_HI20 name
-    ((choice kinds.PcalaToLu12i r.R_LARCH_TLS_LE_HI20, local)
-    ∷ (choice kinds.NoOp r.R_LARCH_TLS_IE_PC_HI20, initial) ∷ [])
+abbrev pub deleted : LoongArchChoice
+deleted = choice kinds.Delete r.R_LARCH_NONE
 
 abbrev pub erased : LoongArchChoice
 erased = choice kinds.ReplaceWithNop r.R_LARCH_NONE
 
+-- the choices for the `pcalau12i` of a TLS descriptor: for local-exec by two instructions, for
+-- initial-exec, and for a descriptor that stays
+abbrev pub high_offset : LoongArchChoice
+high_offset = choice kinds.PcalaToLu12i r.R_LARCH_TLS_LE_HI20
+
+abbrev pub page_of_entry : LoongArchChoice
+page_of_entry = choice kinds.NoOp r.R_LARCH_TLS_IE_PC_HI20
+
+abbrev pub near_descriptor : LoongArchChoice
+near_descriptor = choice kinds.PcalaToPcaddi r.R_LARCH_TLS_DESC_PCREL20_S2
+
+-- with those for the `addi.d`
+abbrev pub with_low : List (LoongArchChoice × LoongArchChoice)
+with_low =
+    (deleted, choice kinds.LowToOriZero r.R_LARCH_TLS_LE_LO12)
+    ∷ (erased, choice kinds.LowToOriZero r.R_LARCH_TLS_LE_LO12)
+    ∷ (high_offset, choice kinds.LowToOri r.R_LARCH_TLS_LE_LO12)
+    ∷ (page_of_entry, choice kinds.AddiToLd r.R_LARCH_TLS_IE_PC_LO12)
+    ∷ (near_descriptor, deleted) ∷ []
+
+-- where it is elsewhere than next to the `pcalau12i` of a descriptor that stays
+abbrev pub parted : List (LoongArchChoice × LoongArchChoice)
+parted =
+    (near_descriptor, choice kinds.NoOp r.R_LARCH_TLS_DESC_PC_LO12)
+    ∷ (choice kinds.NoOp r.R_LARCH_TLS_DESC_PC_HI20, deleted) ∷ []
+
+-- with those for the `ld.d` or the `jirl`
+abbrev pub with_call : LoongArch64Relocation → List (LoongArchChoice × LoongArchChoice)
+with_call name =
+    (deleted, deleted) ∷ (erased, erased) ∷ (high_offset, deleted) ∷ (high_offset, erased)
+    ∷ (page_of_entry, deleted) ∷ (page_of_entry, erased)
+    ∷ (near_descriptor, choice kinds.NoOp name) ∷ []
+
+-- one of the other relocations of a TLS descriptor with the first one
+abbrev pub DescriptorIsChosenAlike : LoongArch64Relocation
+    → List (LoongArchChoice × LoongArchChoice) → Type 0
+DescriptorIsChosenAlike = AreChosenAlikeApart ReachesEntry r.R_LARCH_TLS_DESC_PC_HI20
+
+-- the first two, next to each other
+abbrev pub AddressOfDescriptorIsChosenAlike : Type 0
+AddressOfDescriptorIsChosenAlike =
+    AreChosenAlikeIf
+    (λ section o facts. ReachesEntry facts
+    × HasPattern r.R_LARCH_TLS_DESC_PC_HI20 kinds.NoOp section o
+    × HasPattern r.R_LARCH_TLS_DESC_PC_LO12 kinds.NoOp section (o + 4))
+    4 r.R_LARCH_TLS_DESC_PC_HI20 r.R_LARCH_TLS_DESC_PC_LO12 with_low
+
 abbrev pub DescriptorsAreChosenAlike : Type 0
 DescriptorsAreChosenAlike =
-    DescriptorIsChosenAlike r.R_LARCH_TLS_DESC_PC_LO12
-    (choice kinds.LowToOri r.R_LARCH_TLS_LE_LO12)
-    (choice kinds.AddiToLd r.R_LARCH_TLS_IE_PC_LO12)
-    × DescriptorIsChosenAlike r.R_LARCH_TLS_DESC_LD erased erased
-    × DescriptorIsChosenAlike r.R_LARCH_TLS_DESC_CALL erased erased
+    DescriptorIsChosenAlike r.R_LARCH_TLS_DESC_PC_LO12 (with_low ++ parted)
+    × AddressOfDescriptorIsChosenAlike
+    × DescriptorIsChosenAlike r.R_LARCH_TLS_DESC_LD (with_call r.R_LARCH_TLS_DESC_LD)
+    × DescriptorIsChosenAlike r.R_LARCH_TLS_DESC_CALL (with_call r.R_LARCH_TLS_DESC_CALL)
 
 -- The `lu12i.w` of an offset from the thread pointer with its `add.d` or a low part, wherever both
 -- are, with the same facts but for the place: where each is an instruction that its relocation

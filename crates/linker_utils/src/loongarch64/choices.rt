@@ -98,7 +98,7 @@ const SIGNED_32: (i64, i64) = (-0x8000_0000, 0x8000_0000);
 const UNSIGNED_12: (i64, i64) = (0, 0x1000);
 
 /// The conditions of entries, by the names that the definition has for them. After some stands how
-/// many bytes before the first instruction is.
+/// many bytes before the first instruction is, and after others a further fact that has to hold.
 macro_rules! when {
     // by `pcaddi` alone
     (by_pcaddi $back:literal) => {
@@ -115,6 +115,10 @@ macro_rules! when {
     // the GOT entry of general- or local-dynamic by `pcaddi`
     (entry_by_pcaddi $name:ident, $back:literal) => {
         conditions!(RELAXABLE + GROUP_FITS, InReach($name, $back))
+    };
+    // a TLS descriptor that stays, by `pcaddi`
+    (descriptor_by_pcaddi $back:literal) => {
+        conditions!(RELAXABLE, InReach(R_LARCH_TLS_DESC_PCREL20_S2, $back))
     };
     // the definition by the distance in pages
     (bound_by_pages $back:literal) => {
@@ -137,9 +141,9 @@ macro_rules! when {
         )
     };
     // that offset by `ori` alone
-    (to_short_local_exec) => {
+    (to_short_local_exec $($fact:ident)?) => {
         conditions!(
-            BOUND + EXECUTABLE + GROUP_FITS,
+            BOUND + EXECUTABLE + GROUP_FITS $(+ $fact)?,
             Some(0),
             Within(R_LARCH_TLS_LE_LO12, UNSIGNED_12)
         )
@@ -148,9 +152,9 @@ macro_rules! when {
     (page_to_initial_exec) => {
         conditions!(EXECUTABLE + GROUP_FITS, WithinIfKnown(R_LARCH_TLS_IE_PC_HI20, SIGNED_32))
     };
-    // and of the others
-    (to_initial_exec) => {
-        conditions!(EXECUTABLE + GROUP_FITS)
+    // and of the others, which hold for local-exec too
+    (to_initial_exec $($fact:ident)?) => {
+        conditions!(EXECUTABLE + GROUP_FITS $(+ $fact)?)
     };
     // the offset from the thread pointer in 12 signed bits
     (by_low_part) => {
@@ -196,19 +200,24 @@ macro_rules! choices {
                 LowToOri at Ld => R_LARCH_TLS_LE_LO12, to_local_exec;
             ]
             R_LARCH_TLS_DESC_PC_HI20: [
+                Delete at PageOfDescriptor => R_LARCH_NONE, to_short_local_exec(RELAXABLE);
+                ReplaceWithNop at PageOfDescriptor => R_LARCH_NONE, to_short_local_exec;
                 PcalaToLu12i at PageOfDescriptor => R_LARCH_TLS_LE_HI20, to_local_exec;
                 NoOp at PageOfDescriptor => R_LARCH_TLS_IE_PC_HI20, page_to_initial_exec;
+                PcalaToPcaddi at Sum => R_LARCH_TLS_DESC_PCREL20_S2, descriptor_by_pcaddi(0);
             ]
             R_LARCH_TLS_DESC_PC_LO12: [
+                LowToOriZero at LowOfDescriptor => R_LARCH_TLS_LE_LO12, to_short_local_exec;
                 LowToOri at LowOfDescriptor => R_LARCH_TLS_LE_LO12, to_local_exec;
                 AddiToLd at LowOfDescriptor => R_LARCH_TLS_IE_PC_LO12, to_initial_exec;
+                Delete at LowOfSum => R_LARCH_NONE, descriptor_by_pcaddi(4);
             ]
             R_LARCH_TLS_DESC_LD: [
-                ReplaceWithNop at LoadOfDescriptor => R_LARCH_NONE, to_local_exec;
+                Delete at LoadOfDescriptor => R_LARCH_NONE, to_initial_exec(RELAXABLE);
                 ReplaceWithNop at LoadOfDescriptor => R_LARCH_NONE, to_initial_exec;
             ]
             R_LARCH_TLS_DESC_CALL: [
-                ReplaceWithNop at CallOfDescriptor => R_LARCH_NONE, to_local_exec;
+                Delete at CallOfDescriptor => R_LARCH_NONE, to_initial_exec(RELAXABLE);
                 ReplaceWithNop at CallOfDescriptor => R_LARCH_NONE, to_initial_exec;
             ]
             R_LARCH_TLS_LE_HI20_R: [Delete at Lu12i => R_LARCH_NONE, by_low_part]
@@ -296,7 +305,8 @@ pub fn fits(name: LoongArch64Relocation, section: &[u8], offset: u64, facts: &Li
 /// an address. And so are, wherever they are, where each is at an instruction that it requires, a
 /// high and a low half of initial-exec; the four of a TLS descriptor, all for local-exec, all for
 /// initial-exec, or none, if the high half reaches the entry of initial-exec; and the `lu12i.w` of
-/// an offset from the thread pointer, its `add.d` and its low parts.
+/// an offset from the thread pointer, its `add.d` and its low parts. Of a descriptor that stays the
+/// first two become `pcaddi`, both or neither, where they are next to each other.
 pub fn relocations_are_chosen_alike()
     ensures got { rewrites.GotPairIsChosenAlike }
     ensures entry { rewrites.EntryPairsAreChosenAlike }

@@ -183,6 +183,49 @@ fn other_offsets_go_by_the_got() {
     }
 }
 
+const OF_DESCRIPTOR: [Name; 4] = [
+    Name::R_LARCH_TLS_DESC_PC_HI20,
+    Name::R_LARCH_TLS_DESC_PC_LO12,
+    Name::R_LARCH_TLS_DESC_LD,
+    Name::R_LARCH_TLS_DESC_CALL,
+];
+
+/// The words of a descriptor that stay.
+fn descriptor_left(facts: &LinkFacts) -> Vec<u32> {
+    let words = (0..).step_by(4).zip(OF_DESCRIPTOR);
+    let left = words.map(|(at, name)| rewritten(name, DESCRIPTOR, at, facts));
+    left.filter(|(kind, _)| *kind != Kind::Delete).map(|(_, word)| word).collect()
+}
+
+/// As GNU ld 2.44 leaves them, but for those without marks.
+#[test]
+fn marked_descriptors_get_shorter() {
+    // `ori a0, zero, 0x345`; `lu12i.w a0, 0x12` and `ori a0, a0, 0x345`
+    let short = facts_of(0x1_2002_0345, 0x1_2002_0000, true);
+    assert_eq!(descriptor_left(&short), [0x038d_1404]);
+    let long = facts_of(0x1_2003_2345, 0x1_2002_0000, true);
+    assert_eq!(descriptor_left(&long), [0x1400_0244, 0x038d_1484]);
+    // `pcalau12i a0, 0x10` and `ld.d a0, a0, 0x20`
+    let initial = LinkFacts { is_local: false, ..long };
+    assert_eq!(descriptor_left(&initial), [0x1a00_0204, 0x28c0_8084]);
+    // without marks `nop`s stay
+    let unmarked = LinkFacts { is_relaxable: false, ..short };
+    assert_eq!(descriptor_left(&unmarked), [NOP, 0x038d_1404, NOP, NOP]);
+}
+
+/// One that stays, in a shared library: `pcaddi a0`, as near as that reaches, and the call.
+#[test]
+fn near_descriptors_are_made_by_pcaddi() {
+    let [.., ld, jirl] = DESCRIPTOR;
+    let facts = facts_of(0x1_2003_2345, 0x1_2002_0000, true);
+    let stays = LinkFacts { is_executable: false, group_fits: false, ..facts };
+    // `pcaddi a0, 0x3fc8`
+    assert_eq!(descriptor_left(&stays), [0x1807_f904, ld, jirl]);
+    let operands = Operands { got_entry: 0x1_2020_0100, ..facts.operands };
+    let far = LinkFacts { operands, ..stays };
+    assert_eq!(descriptor_left(&far).len(), 4);
+}
+
 /// `pcalau12i t0`, `ld.d t1, t0` and `addi.d t1, zero`.
 const PCALA_T0: u32 = 0x1a00_000c;
 
