@@ -1,18 +1,21 @@
 -- The worked program of x86-64.
-use Rattle.std.proofs.Common.{◌≡◌, ℕ, ◌+◌, ◌-◌, ◌*◌, ◌^◌, ◌<◌, Bool, true, false, refl, sym, ap, subst}
+use Rattle.std.proofs.Common.{◌≡◌, ℕ, ◌+◌, ◌-◌, ◌*◌, ◌^◌, ◌<◌, Bool, true, false, refl, sym, ◌∙◌, ◌≤◌, ap, ap₂, subst}
 use Rattle.std.proofs.Common.{arith, List, [], ◌∷◌, Some, lit<, lit≤, pos, negsuc, inl, inr, ltb-true, ltb-false}
-use Rattle.std.specs.Prelude.{◌&&◌, All, IsSomeAnd, nat_lt, if◌then◌else◌}
+use Rattle.std.specs.Prelude.{◌&&◌, ◌||◌, ◌==◌, All, IsSomeAnd, nat_le, nat_lt, if◌then◌else◌}
 use Rattle.std.specs.Option.{unwrap_or}
-use Rattle.std.proofs.lemmas.Bool.{and_parts}
+use Rattle.std.proofs.lemmas.Bool.{and_parts, cond-false, cond-true, eqb-true, le-leb, lt-ltb}
 use Rattle.std.proofs.lemmas.Int.{ints}
 use Rattle.std.proofs.lemmas.List.Elements.{All-nil, All-cons}
 use Rattle.linker_elf.specs.Value.{difference_64}
 use Rattle.linker_elf.specs.declared.elf.value.Operands.{Operands}
 use Rattle.linker_laws.specs.Schemes.{AreAddresses}
-use Rattle.linker_laws.specs.Simulation.{Agree, AreOf, Group, State, anything, ends, group, of_link}
+use Rattle.linker_laws.specs.Changes.{IsKept, put, with_register}
+use Rattle.linker_laws.specs.Simulation.{Agree, AreOf, Group, Kinds, State, anything, ends, group, half, of_link}
 use Rattle.linker_laws.specs.Simulation.{same}
 use Rattle.linker_laws.specs.X86Groups.{Groups, IsKnownAfter, KeepsRegisters, bytes_at, called, does, link}
 use Rattle.linker_laws.specs.X86Groups.{machine}
+use Rattle.linker_laws.specs.X86GroupsWorked.{IsDescriptorWorked, descriptor, descriptor_code, is_descriptor}
+use Rattle.linker_laws.specs.X86GroupsWorked.{is_open, known_but_open, new_descriptor, of_function}
 use Rattle.linker_laws.specs.X86GroupsWorked.{IsWorked, bytes, code, entries, is_entry, known, new}
 use Rattle.linker_laws.specs.X86GroupsWorked.{no_entries, starting}
 
@@ -266,4 +269,167 @@ is_worked g =
       };
       old_ends = record { pc = refl; rax = refl; rcx = refl; carry = refl; pushed = refl };
       new_ends = record { pc = refl; rax = refl; rcx = refl; carry = refl; pushed = refl };
+    }
+
+-- ---- a descriptor
+
+abbrev of_descriptor : Operands
+of_descriptor = operands 0x404ff0 0x401003 0x404000
+
+abbrev lea : List ℕ
+lea = 0x48 ∷ 0x8d ∷ 0x05 ∷ 0x00 ∷ 0x00 ∷ 0x00 ∷ 0x00 ∷ []
+
+abbrev calls : List ℕ
+calls = 0xff ∷ 0x10 ∷ []
+
+descriptor_starts : Agree (link descriptor_code) known_but_open (starting descriptor) (starting no_entries)
+descriptor_starts =
+    record {
+      small = lit< tt;
+      pc = refl;
+      registers = λ r. refl;
+      memory = λ a below.
+          subst (λ b. AreOf (link descriptor_code) 1 (if is_open a then anything else same)
+          (descriptor b + 256 * 0) (0 + 256 * 0)) (let e : a ≡ a - 0 = omega arith in e)
+          (by (is_descriptor a) (nat_le 0x7ff8 a && nat_lt a 0x8000) _);
+      outside = refl;
+    }
+  where
+    by : (b c : Bool) (x : ℕ)
+        → AreOf (link descriptor_code) 1 (if b || c then anything else same)
+        ((if b then x else 0) + 256 * 0) (0 + 256 * 0)
+    by true c x = tt
+    by false true x = tt
+    by false false x = refl
+
+abbrev d0 : State
+d0 = starting descriptor
+
+abbrev d1 : State
+d1 = put 0 0x404000 0x401007 d0
+
+abbrev in_function : State
+in_function = called 0x40100a 0x401009 d1
+
+abbrev at_ret : State
+at_ret = put 0 0xfffffffffffffff0 0x40100e in_function
+
+abbrev d2 : State
+d2 = put 4 0x8000 0x401009 at_ret
+
+abbrev with_half : Kinds
+with_half = with_register 0 (half 0) known_but_open
+
+abbrev after_call : Kinds
+after_call = with_register 0 same with_half
+
+q1 : Groups → Group (of_link (link descriptor_code)) 1 known_but_open d0 with_half d1
+q1 g =
+    g.descriptor_address.0 descriptor_code d0 lea (0x48 ∷ 0x8d ∷ 0x05 ∷ 0xf9 ∷ 0x2f ∷ 0x00 ∷ 0x00 ∷ [])
+    (0x48 ∷ 0xc7 ∷ 0xc0 ∷ 0xf0 ∷ 0xff ∷ 0xff ∷ 0xff ∷ []) 3 of_descriptor
+    (record {
+      bytes = are_bytes lea refl;
+      offset = lit< tt;
+      addresses = small of_descriptor (lit< tt) (lit< tt) (lit< tt) (lit< tt) (lit< tt) (lit< tt);
+      addend = refl;
+      ip = refl;
+    })
+    refl (record { starts = lit≤ tt; ends = lit≤ tt; admitted = refl }, refl)
+    (record {
+      rest = 0xf9 ∷ 0x2f ∷ 0x00 ∷ 0x00 ∷ [];
+      applied = record {
+        value = pos 0x2ff9;
+        value_is = refl;
+        accepted = record {
+          supported = refl;
+          long = lit≤ tt;
+          aligned = (refl, tt, tt);
+          reached = ((omega (arith, ints), omega (arith, ints)), tt, tt);
+        };
+        written = refl;
+      };
+      whole = refl;
+    })
+    (record {
+      rest = 0xf0 ∷ 0xff ∷ 0xff ∷ 0xff ∷ [];
+      applied = record {
+        value = negsuc 15;
+        value_is = refl;
+        accepted = record {
+          supported = refl;
+          long = lit≤ tt;
+          aligned = (refl, tt, tt);
+          reached = ((omega (arith, ints), omega (arith, ints)), tt, tt);
+        };
+        written = refl;
+      };
+      whole = refl;
+    })
+    refl refl 0 known_but_open refl refl
+
+-- The function changes only the 8 bytes below the stack pointer.
+only_open : (a : ℕ) → a < 2 ^ 64 → IsKept (known_but_open.memory a) (known_but_open.memory a) a d1 d2
+only_open a small = by (nat_lt (difference_64 a 0x7ff8) 8) refl
+  where
+    by : (b : Bool) → nat_lt (difference_64 a 0x7ff8) 8 ≡ b
+        → IsKept (known_but_open.memory a) (known_but_open.memory a) a d1 d2
+    by true e =
+        let below = ltb-true (difference_64 a 0x7ff8) 8 e in
+        let low : 0x7ff8 ≤ a = grind (arith, below, small) in
+        let high : a < 0x8000 = grind (arith, below, small) in
+        inl (ap (λ b. if b then anything else same)
+        (ap₂ (λ b c. is_descriptor a || (b && c)) (le-leb _ _ low) (lt-ltb _ _ high)
+        ∙ or_true (is_descriptor a)))
+      where
+        or_true : (b : Bool) → (b || true) ≡ true
+        or_true true = refl
+        or_true false = refl
+    by false e =
+        let e' = subst (λ b. nat_lt (difference_64 b 0x7ff8) 8 ≡ false)
+        (let same_address : a ≡ a - 0 = omega arith in same_address) e in
+        inr (refl, ap (λ x. x + 256 * 0) (cond-false (nat_lt (difference_64 (a - 0) 0x7ff8) 8) _ _ e'))
+
+q2 : Groups → Group (of_link (link descriptor_code)) 1 with_half d1 after_call d2
+q2 g =
+    g.descriptor_call descriptor_code 0 2 with_half after_call d1 d2 calls 0 (are_bytes calls refl)
+    (record { starts = lit≤ tt; ends = lit≤ tt; admitted = refl }, refl) refl refl refl refl
+    (record {
+      pc = refl;
+      registers = λ r. inr (refl, by r (r == 4) refl);
+      memory = λ a below. only_open a below;
+      outside = refl;
+    })
+  where
+    stack : (r : ℕ) → (r == 4) ≡ true
+        → 0x8000 ≡ (put 0 0xfffffffffffffff0 0x401009 d1).registers r
+    stack r e = ap (put 0 0xfffffffffffffff0 0x401009 d1).registers (sym (eqb-true r 4 e))
+
+    by : (r : ℕ) (b : Bool) → (r == 4) ≡ b
+        → d2.registers r ≡ (put 0 0xfffffffffffffff0 0x401009 d1).registers r
+    by r true e = cond-true (r == 4) _ _ e ∙ stack r e
+    by r false e =
+        cond-false (r == 4) _ _ e
+        ∙ ap (λ x. if r == 0 then 0xfffffffffffffff0 else x)
+        (cond-false (r == 4) 0x7ff8 (d1.registers r) e ∙ refl)
+        ∙ (again (r == 0))
+      where
+        again : (b : Bool)
+            → (if b then 0xfffffffffffffff0 else (if b then 0x404000 else d0.registers r))
+            ≡ (if b then 0xfffffffffffffff0 else (if b then 0x404000 else d0.registers r))
+        again b = refl
+
+pub is_descriptor_worked : Groups → IsDescriptorWorked
+is_descriptor_worked g =
+    record {
+      kinds = after_call;
+      state = d2;
+      agree = descriptor_starts;
+      covered = group 1 1 1 _ _ _ _ _ _ (q1 g) (group 0 1 0 _ _ _ _ _ _ (q2 g) (ends _ _));
+      stops = record {
+        old_stops = refl;
+        new_stops = λ t agree.
+            ap (λ a. does of_function (bytes_at 15 (bytes new_descriptor) a) t) agree.pc;
+      };
+      old_ends = record { pc = refl; rax = refl; stack = refl };
+      new_ends = record { pc = refl; rax = refl; stack = refl };
     }

@@ -1,6 +1,6 @@
 -- TLS sequences of the large code model.
 use Rattle.std.proofs.Common.{◌≡◌, ℕ, ◌+◌, ◌-◌, ◌%◌, ◌^◌, ◌<◌, ◌≤◌, List, [], ◌∷◌, ◌++◌, take, drop}
-use Rattle.std.proofs.Common.{sym, ◌∙◌, ap, arith, refl, pos, false, inl, inr, ◌||◌, IsTrue}
+use Rattle.std.proofs.Common.{sym, ◌∙◌, ap, arith, refl, pos, false, inl, inr, ◌||◌, IsTrue, ℤ}
 use Rattle.std.specs.Int.{w64, cast_unsigned}
 use Rattle.std.specs.List.{All}
 use Rattle.std.proofs.lemmas.Bool.{or_cases}
@@ -19,7 +19,7 @@ use Rattle.linker_laws.specs.X86Machine.{extended, execute, lea_from, nop}
 use Rattle.linker_laws.specs.X86ThreadLaws.{LocalExecLarge, AgreeAfterCall}
 use Rattle.linker_laws.proofs.X86Codes.{inside}
 use Rattle.linker_laws.proofs.X86Sections.{original_code, rewritten_code, code_after}
-use Rattle.linker_laws.proofs.X86Threads.{starts_with, load_bytes, after_load, pointer, kept_after}
+use Rattle.linker_laws.proofs.X86Threads.{Codes, starts_with, load_bytes, after_load, pointer, kept_after}
 use Rattle.linker_laws.proofs.X86Threads.{agree, by_codes, argument, offset_field}
 use Rattle.linker_laws.proofs.X86Threads.{offset_from, plain_lea_bytes}
 
@@ -42,7 +42,7 @@ begins_with_lea section o bytes h =
     ]
 
 -- `nopw 0(%rax,%rax,1)`
-abbrev nop_bytes : List ℕ
+abbrev pub nop_bytes : List ℕ
 nop_bytes = 0x66 ∷ 0x0f ∷ 0x1f ∷ 0x44 ∷ 0 ∷ 0 ∷ []
 
 abbrev put_bytes : List ℕ
@@ -64,39 +64,59 @@ following section d o room is =
     ∙ ap (drop 16) (code_after section [] o 3 3 room long (omega arith)
     (puts 3 22 put_bytes (λ o. o + 9) (λ _. pos 0)) (omega arith))
 
+-- the field, and what follows it
+abbrev pub field_and_nop : List ℕ → ℕ → ℤ → List ℕ
+field_and_nop section o value =
+    low_bytes 4 (cast_unsigned w64 value) ++ nop_bytes ++ drop 22 (drop (o - 3) section)
+
+-- by how the rewritten field was written
+module _ (section : List ℕ) (o : ℕ) (value : ℤ) (rest' : List ℕ)
+    (shape : (3 ≤ o) × ((rest : List ℕ) × (drop (o - 3) section ≡ plain_lea_bytes ++ rest)))
+    (written : rest' ≡ low_bytes 4 (cast_unsigned w64 value)
+    ++ drop 4 (drop (o + 9) (rewritten (x86_64_rewrite kinds.TlsGdToLocalExecLarge) section o))) where
+  pub splits : rest' ≡ field_and_nop section o value
+  splits =
+      written ∙ ap (λ xs. low_bytes 4 (cast_unsigned w64 value) ++ xs)
+      (following section shape.1.0 o shape.0 shape.1.1)
+
+  pub code : (old new rest : List ℕ) → old ≡ take o section ++ rest
+      → new ≡ take (o + 9) (rewritten (x86_64_rewrite kinds.TlsGdToLocalExecLarge) section o) ++ rest'
+      → Codes old new (o - 3) (plain_lea_bytes ++ rest)
+      (load_bytes 0x8d 0x80 ++ field_and_nop section o value)
+  code old new rest was is =
+      let room = shape.0 in
+      let long = inside section (plain_lea_bytes ++ shape.1.0) o 3 (omega arith) room shape.1.1
+      (omega arith) in
+      record {
+        first =
+            ap (drop (o - 3)) was ∙ original_code section rest o 3 3 room long (omega arith)
+            ∙ ap (λ xs. drop (3 - 3) (take 3 xs ++ rest)) shape.1.1;
+        second =
+            ap (drop (o - 3)) is
+            ∙ rewritten_code section rest' o 3 3 room long (omega arith)
+            (puts 3 22 put_bytes (λ o. o + 9) (λ _. pos 0)) (o + 9) 12 (omega arith) (omega arith)
+            ∙ ap (λ xs. load_bytes 0x8d 0x80 ++ xs) splits;
+      }
+
 pub local_exec : LocalExecLarge
 local_exec section old new o operands s changed returned before matches thread returns any was is =
     let shape = begins_with_lea section o before.bytes matches.1 in
-    let d = shape.1.0 in
-    let room = shape.0 in
-    let long = inside section (plain_lea_bytes ++ d) o 3 (omega arith) room shape.1.1
-    (omega arith) in
+    let value = is.applied.value in
     let after = rewritten (x86_64_rewrite kinds.TlsGdToLocalExecLarge) section o in
-    let held = low_bytes 4 (cast_unsigned w64 is.applied.value) in
-    let rest' = held ++ nop_bytes ++ drop 22 (drop (o - 3) section) in
-    let splits : is.rest ≡ rest' =
-    is.applied.written ∙ ap (λ xs. held ++ xs) (following section d o room shape.1.1) in
+    let rest' = field_and_nop section o value in
     let f = number_of_bytes 4 was.rest in
     let f' = number_of_bytes 4 rest' in
     let p = difference_64 (sum_64 operands.place (o + 9)) o in
     let leads : extended f' % 2 ^ 64 ≡ thread_offset operands =
-    ap (λ xs. extended (number_of_bytes 4 xs) % 2 ^ 64) (sym splits)
+    ap (λ xs. extended (number_of_bytes 4 xs) % 2 ^ 64)
+    (sym (splits section o value is.rest shape is.applied.written))
     ∙ offset_field 3 section o p operands s (drop (o + 9) after) is.rest before
     (difference_below (sum_64 operands.place (o + 9)) o) is.applied in
     let number = sum_64 ((after_load s).register 0) (extended f') % 2 ^ 64 in
     let next = sum_64 (sum_64 s.ip 9) 7 in
     by_codes 15 3 (o - 3) old new (plain_lea_bytes ++ was.rest) (load_bytes 0x8d 0x80 ++ rest') s
     changed returned (AgreeAfterCall changed)
-    (record {
-      first =
-          ap (drop (o - 3)) was.whole ∙ original_code section was.rest o 3 3 room long (omega arith)
-          ∙ ap (λ xs. drop (3 - 3) (take 3 xs ++ was.rest)) shape.1.1;
-      second =
-          ap (drop (o - 3)) is.whole
-          ∙ rewritten_code section is.rest o 3 3 room long (omega arith)
-          (puts 3 22 put_bytes (λ o. o + 9) (λ _. pos 0)) (o + 9) 12 (omega arith) (omega arith)
-          ∙ ap (λ xs. load_bytes 0x8d 0x80 ++ xs) splits;
-    }) (
+    (code section o value is.rest shape is.applied.written old new was.rest was.whole is.whole) (
       (λ a. refl),
       λ t called.
           let ends = agree s t

@@ -1,9 +1,9 @@
 -- x86-64's groups of general- and local-dynamic TLS.
 use Rattle.std.proofs.Common.{◌≡◌, ℕ, zero, suc, ◌+◌, ◌-◌, ◌%◌, ◌^◌, ◌<◌, ◌≤◌, refl, sym, ◌∙◌, ap, ap₂, subst}
-use Rattle.std.proofs.Common.{arith, Bool, true, false, List, [], ◌∷◌, ◌++◌, take, drop, Some, IsSomeAnd, inl, inr}
-use Rattle.std.proofs.Common.{length, get_or, lit≤, pos, IsTrue, Option, cond}
+use Rattle.std.proofs.Common.{arith, Bool, true, false, List, [], ◌∷◌, ◌++◌, take, drop, Some, inl, inr}
+use Rattle.std.proofs.Common.{length, get_or, lit≤, pos}
 use Rattle.std.specs.Int.{w64, cast_unsigned}
-use Rattle.std.specs.Prelude.{◌==◌, ◌&&◌, ◌⊎◌, if◌then◌else◌}
+use Rattle.std.specs.Prelude.{◌==◌, ◌⊎◌, if◌then◌else◌}
 use Rattle.std.proofs.lemmas.Bool.{cases_Bool, cond-false, eq-eqb}
 use Rattle.std.proofs.Math.Bool.{or-false}
 use Rattle.linker_base.specs.Rewrite.{rewritten}
@@ -11,19 +11,20 @@ use Rattle.linker_elf.specs.Applied.{IsApplied}
 use Rattle.linker_elf.specs.Relocate.{number_of_bytes}
 use Rattle.linker_elf.specs.Value.{sum_64, difference_64}
 use Rattle.linker_elf.specs.declared.elf.value.Operands.{Operands}
-use Rattle.linker_laws.specs.Changes.{ChangesOpen, go_to, put, with_register}
+use Rattle.linker_laws.specs.Changes.{go_to, put, with_register}
 use Rattle.linker_laws.specs.Schemes.{AreAddresses}
-use Rattle.linker_laws.specs.Simulation.{State, Program, Kind, Kinds, Agree, AreOf, Group, Link, anything}
+use Rattle.linker_laws.specs.Simulation.{State, Kind, Kinds, Agree, AreOf, Group, Link, anything}
 use Rattle.linker_laws.specs.Simulation.{AreStored, half, of_link, run, same}
-use Rattle.linker_laws.specs.X86Groups.{Code, GeneralDynamic, HasPointer, IsThreadCall, LocalDynamic}
+use Rattle.linker_laws.specs.X86Groups.{Code, GeneralDynamic, HasPointer, LocalDynamic}
 use Rattle.linker_laws.specs.X86Groups.{ModuleCall, Returns, Stands, ToInitialExec, ToLocalExec, bytes_at}
-use Rattle.linker_laws.specs.X86Groups.{does, is_flag, left, link, machine, seen}
-use Rattle.linker_laws.specs.X86Machine.{ADD, Instruction, decode, execute, extended, lea, lea_from, load}
-use Rattle.linker_laws.specs.X86Machine.{load_thread, nop, operate, register, relative, sum_of}
+use Rattle.linker_laws.specs.X86Groups.{ToLocalExecLarge}
+use Rattle.linker_laws.specs.X86Groups.{is_flag, left, link, machine, seen}
+use Rattle.linker_laws.specs.X86Machine.{ADD, decode, execute, extended, lea, lea_from, load}
+use Rattle.linker_laws.specs.X86Machine.{load_thread, nop, operate, register, relative}
 use Rattle.linker_laws.specs.X86RewriteLaws.{IsBefore, IsRelocatedBy, thread_offset}
 use Rattle.linker_laws.specs.X86ThreadLaws.{HasThreadPointer}
 use Rattle.linker_laws.proofs.Agreement.{agree_open, agree_put}
-use Rattle.linker_laws.proofs.CoveredRuns.{holds_of, run_first}
+use Rattle.linker_laws.proofs.CoveredRuns.{holds_of, run_first, run_on}
 use Rattle.linker_laws.proofs.Sums.{difference_below}
 use Rattle.linker_laws.proofs.X86Codes.{inside}
 use Rattle.linker_laws.proofs.X86Decoding.{IsBegun, begun}
@@ -32,7 +33,7 @@ use Rattle.linker_laws.proofs.X86Groups.{below_64, both_true, goes, one_on, star
 use Rattle.linker_laws.proofs.X86LargeThreads as larges
 use Rattle.linker_laws.proofs.X86LocalDynamic as dynamic
 use Rattle.linker_laws.proofs.X86Sections.{code_after, original_code}
-use Rattle.linker_laws.proofs.X86Threads.{Codes, added, argument, begins_with_lea, codes, from_second, itself}
+use Rattle.linker_laws.proofs.X86Threads.{added, argument, begins_with_lea, codes, from_second, itself}
 use Rattle.linker_laws.proofs.X86Threads.{lea_bytes, load_bytes, offset_field, offset_from, plain_lea_bytes}
 use Rattle.linker_laws.proofs.X86Threads.{pointer, starts_with}
 use Rattle.linker_utils.specs.X86Rewrites.{byte, field4, is_at, lea_rdi, puts, x86_64_rewrite}
@@ -178,22 +179,28 @@ module _ (section original : List ℕ) (o : ℕ)
       (omega arith)
 
   -- the `lea` after its relocation
-  plain_argument : (c : Code) (operands : Operands) (s : State) → IsBefore 3 section o operands (seen s)
-      → IsRelocatedBy tls_module_row operands o section original
+  plain_argument : (c : Code) (operands : Operands) (s : State) → operands.got_entry < 2 ^ 64
+      → (rest : List ℕ) → original ≡ take o section ++ rest
+      → sum_64 (sum_64 s.pc 7) (extended (number_of_bytes 4 rest)) ≡ operands.got_entry
       → Stands c.old s.pc 7 (drop (o - 3) original) → IsArgument c operands 7 s
-  plain_argument c operands s before was stands =
-      let b = begun plain_lea_bytes was.rest (bytes_at 15 c.old s.pc)
+  plain_argument c operands s small rest whole leads stands =
+      let b = begun plain_lea_bytes rest (bytes_at 15 c.old s.pc)
       (starts 7 c.old s.pc (drop (o - 3) original) (lit≤ tt) stands
-      ∙ ap (take 7) (lea_code was.rest was.whole)) in
+      ∙ ap (take 7) (lea_code rest whole)) in
       record {
         f = number_of_bytes 4 b.after;
         is = ap decode b.is;
         leads =
             ap (λ f. sum_64 (sum_64 s.pc 7) (extended f) % 2 ^ 64) b.field
-            ∙ ap (λ a. a % 2 ^ 64) (dynamic.argument section o operands (seen s) (drop o section) was.rest
-            before was.applied)
-            ∙ itself operands.got_entry before.addresses.got_entry;
+            ∙ ap (λ a. a % 2 ^ 64) leads ∙ itself operands.got_entry small;
       }
+
+  module_argument : (c : Code) (operands : Operands) (s : State) → IsBefore 3 section o operands (seen s)
+      → IsRelocatedBy tls_module_row operands o section original
+      → Stands c.old s.pc 7 (drop (o - 3) original) → IsArgument c operands 7 s
+  module_argument c operands s before was =
+      plain_argument c operands s before.addresses.got_entry was.rest was.whole
+      (dynamic.argument section o operands (seen s) (drop o section) was.rest before was.applied)
 
 are_halves : (c : Code) (h : ℕ) → AreOf (link c) 8 (half h) (c.old_half h) (c.new_half h)
 are_halves c h =
@@ -236,7 +243,7 @@ by_plt c h k k' s s' section original o operands before matches was at at' point
     let shape = starts_with 3 plain_lea_bytes (field4 ++ byte 0xe8 ∷ field4) section o before.bytes
     (sym (or-false (is_at pattern section o)) ∙ matches.1) in
     call_group c operands 7 12 0 (half h) (c.old_half h) (c.new_half h) k k' s s'
-    (plain_argument section original o shape c operands s before was at) returns (are_halves c h)
+    (module_argument section original o shape c operands s before was at) returns (are_halves c h)
     (by_mov c h 12 k k' s bytes (lit≤ tt)
     (starts 12 c.new s.pc _ (lit≤ tt) at'
     ∙ ap (take 12) (put_code section original o shape 12 bytes (λ o. o + 5))) refl (λ rest. refl) pointer is)
@@ -248,7 +255,7 @@ by_got c h k k' s s' section original o operands before matches was at at' point
     let shape = starts_with 3 plain_lea_bytes (field4 ++ byte 0xff ∷ byte 0x15 ∷ field4) section o
     before.bytes (sym (or-false (is_at pattern section o)) ∙ matches.1) in
     call_group c operands 7 13 0 (half h) (c.old_half h) (c.new_half h) k k' s s'
-    (plain_argument section original o shape c operands s before was at) returns (are_halves c h)
+    (module_argument section original o shape c operands s before was at) returns (are_halves c h)
     (by_mov c h 13 k k' s bytes (lit≤ tt)
     (starts 13 c.new s.pc _ (lit≤ tt) at'
     ∙ ap (take 13) (put_code section original o shape 13 bytes (λ o. o + 5))) refl (λ rest. refl) pointer is)
@@ -264,7 +271,7 @@ in_large_model c h k k' s s' section original o operands before matches was at a
     let first = opened dynamic.nop_bytes (bytes_at 15 c.new s.pc)
     (take_bytes 13 15 c.new s.pc (lit≤ tt) ∙ ap (take 13) stands) in
     call_group c operands 7 22 1 (half h) (c.old_half h) (c.new_half h) k k' s s'
-    (plain_argument section original o shape c operands s before was at) returns (are_halves c h)
+    (module_argument section original o shape c operands s before was at) returns (are_halves c h)
     (λ t agree.
     let has = pointer t agree in
     let t1 = go_to (sum_64 s.pc 13) t in
@@ -295,29 +302,27 @@ are_module_calls = (by_plt, by_got, in_large_model)
 sixteen : (a : ℕ) → sum_64 (sum_64 a 9) 7 ≡ sum_64 a 16
 sixteen a = omega arith
 
--- the code of both
-module _ (section old new : List ℕ) (o opcode modrm : ℕ) (rest rest' : List ℕ)
-    (found : Codes old new (o - 4) (lea_bytes ++ rest) (load_bytes opcode modrm ++ rest')) (c : Code)
-    (operands : Operands) (s : State) (before : IsBefore 4 section o operands (seen s))
-    (at : Stands c.old s.pc 8 (drop (o - 4) old)) (at' : Stands c.new s.pc 16 (drop (o - 4) new)) where
-  general_argument : (bytes : List ℕ) → IsApplied tls_pair_row operands bytes rest
-      → IsArgument c operands 8 s
-  general_argument bytes applied =
-      let b = begun lea_bytes rest (bytes_at 15 c.old s.pc)
-      (starts 8 c.old s.pc (drop (o - 4) old) (lit≤ tt) at ∙ ap (take 8) found.first) in
-      record {
-        f = number_of_bytes 4 b.after;
-        is = ap decode b.is;
-        leads =
-            ap (λ f. sum_64 (sum_64 s.pc 8) (extended f) % 2 ^ 64) b.field
-            ∙ ap (λ a. a % 2 ^ 64)
-            (argument 4 (omega arith) section o operands (seen s) bytes rest before applied)
-            ∙ itself operands.got_entry before.addresses.got_entry;
-      }
+-- the `lea` with a prefix
+general_argument : (section old rest bytes : List ℕ) (o : ℕ) (c : Code) (operands : Operands) (s : State)
+    → drop (o - 4) old ≡ lea_bytes ++ rest → IsBefore 4 section o operands (seen s)
+    → Stands c.old s.pc 8 (drop (o - 4) old) → IsApplied tls_pair_row operands bytes rest
+    → IsArgument c operands 8 s
+general_argument section old rest bytes o c operands s found before at applied =
+    let b = begun lea_bytes rest (bytes_at 15 c.old s.pc)
+    (starts 8 c.old s.pc (drop (o - 4) old) (lit≤ tt) at ∙ ap (take 8) found) in
+    record {
+      f = number_of_bytes 4 b.after;
+      is = ap decode b.is;
+      leads =
+          ap (λ f. sum_64 (sum_64 s.pc 8) (extended f) % 2 ^ 64) b.field
+          ∙ ap (λ a. a % 2 ^ 64)
+          (argument 4 (omega arith) section o operands (seen s) bytes rest before applied)
+          ∙ itself operands.got_entry before.addresses.got_entry;
+    }
 
-  stands : bytes_at 16 c.new s.pc ≡ take 16 (load_bytes opcode modrm ++ rest')
-  stands = at' ∙ ap (take 16) found.second
-
+-- the code of new
+module _ (opcode modrm : ℕ) (rest : List ℕ) (c : Code) (s : State)
+    (stands : bytes_at 16 c.new s.pc ≡ take 16 (load_bytes opcode modrm ++ rest)) where
   -- the first instruction
   moved : (t : State) → t.pc ≡ s.pc → HasThreadPointer (seen t)
       → machine c.others c.new t ≡ Some (put 0 (t.registers 38) (sum_64 s.pc 9) t)
@@ -327,48 +332,102 @@ module _ (section old new : List ℕ) (o opcode modrm : ℕ) (rest rest' : List 
       moves c t s.pc 9 here (ap decode first.1) thread
 
   -- the bytes of the second
-  second : s.pc < 2 ^ 64 → IsBegun (0x48 ∷ opcode ∷ modrm ∷ []) rest' (bytes_at 15 c.new (sum_64 s.pc 9))
+  second : s.pc < 2 ^ 64 → IsBegun (0x48 ∷ opcode ∷ modrm ∷ []) rest (bytes_at 15 c.new (sum_64 s.pc 9))
   second small =
-      begun (0x48 ∷ opcode ∷ modrm ∷ []) rest' (bytes_at 15 c.new (sum_64 s.pc 9))
-      (on 9 7 c.new s.pc (take 16 (load_bytes opcode modrm ++ rest')) (lit≤ tt) small stands)
+      begun (0x48 ∷ opcode ∷ modrm ∷ []) rest (bytes_at 15 c.new (sum_64 s.pc 9))
+      (on 9 7 c.new s.pc (take 16 (load_bytes opcode modrm ++ rest)) (lit≤ tt) small stands)
+
+-- `mov` and `lea` in new
+to_variable : (offset : ℕ) (rest : List ℕ) (c : Code) (s t : State)
+    → bytes_at 16 c.new s.pc ≡ take 16 (load_bytes 0x8d 0x80 ++ rest)
+    → extended (number_of_bytes 4 rest) % 2 ^ 64 ≡ offset → s.pc < 2 ^ 64 → t.pc ≡ s.pc
+    → HasThreadPointer (seen t) → t.registers 38 ≡ s.registers 38
+    → run 2 (machine c.others c.new) t
+    ≡ Some (put 0 (sum_64 (s.registers 38) offset) (sum_64 s.pc 16) t)
+to_variable offset rest c s t stands leads small here thread equal =
+    let fs = t.registers 38 in
+    let t1 = put 0 fs (sum_64 s.pc 9) t in
+    let b = second 0x8d 0x80 rest c s stands small in
+    let f' = number_of_bytes 4 b.after in
+    run_first 1 (machine c.others c.new) t t1 _ (moved 0x8d 0x80 rest c s stands t here thread)
+    (run_first 0 (machine c.others c.new) t1 _ _
+    (goes c.others (bytes_at 15 c.new (sum_64 s.pc 9)) t1
+    (record { instruction = lea_from 64 0 0 f'; size = 7 }) (ap decode b.is))
+    (ap Some (last_counts 0 fs (sum_64 fs (extended f') % 2 ^ 64) (sum_64 s.pc 9)
+    (sum_64 (sum_64 s.pc 9) 7) t)
+    ∙ ap₂ (λ x a. Some (put 0 x a t))
+    (offset_from fs (extended f') offset (ap (λ f. extended f % 2 ^ 64) b.field ∙ leads)
+    ∙ ap (λ fs. sum_64 fs offset) equal) (sixteen s.pc)))
 
 to_local_exec : ToLocalExec
 to_local_exec c s section old new o operands before there matches was is at at' k k' s' pointer any returns =
     let offset = thread_offset operands in
+    let address = sum_64 (s.registers 38) offset in
     let found = codes section old new was.rest is.rest o 0x8d 0x80 (λ _. pos 0) before.bytes matches.1
     was.whole is.whole in
     let leads = offset_field 4 section o (difference_64 (sum_64 operands.place (o + 8)) o) operands
     (seen s) (drop (o + 8) (rewritten (x86_64_rewrite kinds.TlsGdToLocalExec) section o)) is.rest before
     (difference_below (sum_64 operands.place (o + 8)) o) is.applied in
     let next = sum_64 s.pc 16 in
-    call_group c operands 8 16 1 same (sum_64 (s.registers 38) offset) (sum_64 (s.registers 38) offset) k k' s s'
-    (general_argument section old new o 0x8d 0x80 was.rest is.rest found c operands s before at at'
-    (drop o section) was.applied) returns refl
+    call_group c operands 8 16 1 same address address k k' s s'
+    (general_argument section old was.rest (drop o section) o c operands s found.first before at was.applied)
+    returns refl
     (λ t agree.
     let has = pointer t agree in
-    let fs = t.registers 38 in
-    let t1 = put 0 fs (sum_64 s.pc 9) t in
-    let b = second section old new o 0x8d 0x80 was.rest is.rest found c operands s before at at' agree.small in
-    let f' = number_of_bytes 4 b.after in
     record {
-      state = put 0 (sum_64 (s.registers 38) offset) next t;
+      state = put 0 address next t;
       goes_there =
-          run_first 1 (machine c.others c.new) t t1 _
-          (moved section old new o 0x8d 0x80 was.rest is.rest found c operands s before at at' t agree.pc has.0)
-          (run_first 0 (machine c.others c.new) t1 _ _
-          (goes c.others (bytes_at 15 c.new (sum_64 s.pc 9)) t1
-          (record { instruction = lea_from 64 0 0 f'; size = 7 }) (ap decode b.is))
-          (ap Some (last_counts 0 fs (sum_64 fs (extended f') % 2 ^ 64) (sum_64 s.pc 9)
-          (sum_64 (sum_64 s.pc 9) 7) t)
-          ∙ ap₂ (λ x a. Some (put 0 x a t))
-          (offset_from fs (extended f') offset
-          (ap (λ f. extended f % 2 ^ 64) b.field ∙ leads)
-          ∙ ap (λ fs. sum_64 fs offset) has.1) (sixteen s.pc)));
+          to_variable offset is.rest c s t (at' ∙ ap (take 16) found.second) leads agree.small agree.pc has.0
+          has.1;
       pc = refl;
       memory = refl;
       outside = refl;
       registers = λ r. inr refl;
     })
+
+-- and a NOP
+to_local_exec_large : ToLocalExecLarge
+to_local_exec_large c s section old new o operands before there matches was is at at' k k' s' pointer any
+    returns =
+    let offset = thread_offset operands in
+    let address = sum_64 (s.registers 38) offset in
+    let shape = larges.begins_with_lea section o before.bytes matches.1 in
+    let found = larges.code section o is.applied.value is.rest shape is.applied.written old new was.rest
+    was.whole is.whole in
+    let rest = larges.field_and_nop section o is.applied.value in
+    let leads = ap (λ xs. extended (number_of_bytes 4 xs) % 2 ^ 64)
+    (sym (larges.splits section o is.applied.value is.rest shape is.applied.written))
+    ∙ offset_field 3 section o (difference_64 (sum_64 operands.place (o + 9)) o) operands (seen s)
+    (drop (o + 9) (rewritten (x86_64_rewrite kinds.TlsGdToLocalExecLarge) section o)) is.rest before
+    (difference_below (sum_64 operands.place (o + 9)) o) is.applied in
+    let next = sum_64 s.pc 22 in
+    let stands = at' ∙ ap (take 22) found.second in
+    let argument = plain_argument section old o shape c operands s before.addresses.got_entry was.rest
+    was.whole
+    (argument 3 (omega arith) section o operands (seen s) (drop o section) was.rest before was.applied) at in
+    call_group c operands 7 22 2 same address address k k' s s' argument returns refl
+    (λ t agree.
+    let has = pointer t agree in
+    let t2 = put 0 address (sum_64 s.pc 16) t in
+    let third = opened larges.nop_bytes (bytes_at 15 c.new (sum_64 s.pc 16))
+    (on 16 6 c.new s.pc (take 22 (load_bytes 0x8d 0x80 ++ rest)) (lit≤ tt) agree.small stands) in
+    record {
+      state = put 0 address next t;
+      goes_there =
+          run_on 2 1 (machine c.others c.new) t t2 (Some (put 0 address next t))
+          (to_variable offset rest c s t (ap (take 16) stands) leads agree.small agree.pc has.0 has.1)
+          (run_first 0 (machine c.others c.new) t2 _ _
+          (goes c.others (bytes_at 15 c.new (sum_64 s.pc 16)) t2
+          (record { instruction = nop; size = 6 }) (ap decode third.1))
+          (ap (λ a. Some (put 0 address a t)) (sixteen_and_six s.pc)));
+      pc = refl;
+      memory = refl;
+      outside = refl;
+      registers = λ r. inr refl;
+    })
+  where
+    sixteen_and_six : (a : ℕ) → sum_64 (sum_64 a 16) 6 ≡ sum_64 a 22
+    sixteen_and_six a = omega arith
 
 to_initial_exec : ToInitialExec
 to_initial_exec entry small c s section old new o operands before there matches was is at at' k k' s' pointer
@@ -396,14 +455,15 @@ to_initial_exec entry small c s section old new o operands before there matches 
     ∙ ap (λ a. sum_64 entry (cast_unsigned w64 a)) before.addend) in
     let next = sum_64 s.pc 16 in
     call_group c operands 8 16 1 same (sum_64 (s.registers 38) offset) (sum_64 (s.registers 38) offset) k k' s s'
-    (general_argument section old new o 0x03 0x05 was.rest is.rest found c operands s before at at'
-    (drop o section) was.applied) returns refl
+    (general_argument section old was.rest (drop o section) o c operands s found.first before at was.applied)
+    returns refl
     (λ t agree.
     let has = pointer t agree in
     let fs = t.registers 38 in
     let t1 = put 0 fs (sum_64 s.pc 9) t in
     let after = sum_64 (sum_64 s.pc 9) 7 in
-    let b = second section old new o 0x03 0x05 was.rest is.rest found c operands s before at at' agree.small in
+    let stands = at' ∙ ap (take 16) found.second in
+    let b = second 0x03 0x05 is.rest c s stands agree.small in
     let f' = number_of_bytes 4 b.after in
     let add = operate ADD 64 (register 0) (relative f') in
     let value = added fs (load 8 (seen t) (sum_64 after (extended f'))) fs offset has.0.small refl
@@ -414,7 +474,7 @@ to_initial_exec entry small c s section old new o operands before there matches 
       state = left add t1 (execute add after (seen t1));
       goes_there =
           run_first 1 (machine c.others c.new) t t1 _
-          (moved section old new o 0x03 0x05 was.rest is.rest found c operands s before at at' t agree.pc has.0)
+          (moved 0x03 0x05 is.rest c s stands t agree.pc has.0)
           (run_first 0 (machine c.others c.new) t1 _ _
           (goes c.others (bytes_at 15 c.new (sum_64 s.pc 9)) t1
           (record { instruction = add; size = 7 }) (ap decode b.is)) refl);
@@ -432,4 +492,4 @@ to_initial_exec entry small c s section old new o operands before there matches 
     })
 
 pub are_thread_calls : GeneralDynamic
-are_thread_calls = (to_local_exec, to_initial_exec)
+are_thread_calls = (to_local_exec, to_initial_exec, to_local_exec_large)

@@ -1,7 +1,7 @@
 -- x86-64: rewritten instructions are groups of the simulation. No code moves.
-use Rattle.std.specs.Prelude.{◌≡◌, ℕ, zero, suc, ◌+◌, ◌-◌, ◌^◌, ◌<◌, ◌≤◌, ◌==◌, ◌&&◌, ◌⊎◌, Bool, true}
-use Rattle.std.specs.Prelude.{false, not, nat_le, nat_lt, if◌then◌else◌, List, [], ◌∷◌, take, drop}
-use Rattle.std.specs.Prelude.{Option, Some, None, IsSomeAnd, IsTrue, ⊤}
+use Rattle.std.specs.Prelude.{◌≡◌, ℕ, zero, suc, ◌+◌, ◌-◌, ◌^◌, ◌<◌, ◌≤◌, ◌==◌, ◌&&◌, ◌⊎◌, Bool}
+use Rattle.std.specs.Prelude.{true, false, not, nat_le, nat_lt, if◌then◌else◌, List, [], ◌∷◌, take}
+use Rattle.std.specs.Prelude.{drop, Option, Some, None, IsSomeAnd, IsTrue, ⊤}
 use Rattle.std.specs.List.{All}
 use Rattle.linker_base.specs.Rewrite.{rewritten, offset_after}
 use Rattle.linker_elf.specs.Choices.{operands_after}
@@ -240,7 +240,8 @@ IsKnownAfter top k k' a =
 -- The stack pointer is the same in both.
 abbrev pub IsCall : Code → Operands → State → Type 0
 IsCall c o s =
-    load 8 (seen s) o.got_entry ≡ o.symbol → (k k' : Kinds) → k.registers 4 ≡ same → k'.registers ≡ k.registers
+    load 8 (seen s) o.got_entry ≡ o.symbol
+    → (k k' : Kinds) → k.registers 4 ≡ same → k'.registers ≡ k.registers
     → ((a : ℕ) → a < 2 ^ 64
     → IsKnownAfter (difference_64 (s.registers 4) 8) (k.memory a) (k'.memory a) a)
     → Group (of_link (link c)) 1 k s k' (called o.symbol (sum_64 s.pc 6) s)
@@ -272,8 +273,8 @@ IsLea n register_of Makes c o s =
 -- `mov $x, %reg`
 abbrev pub LeaToOffset : ℕ → X86_64Relocation → (List ℕ → ℕ) → Type 0
 LeaToOffset n name register_of =
-    Rewritten n (n + 4) (lea_of_descriptor n) name (kinds.TlsDescToLocalExec n) (λ operands. operands)
-    (IsLea n register_of (λ c k s o number. thread_offset o ≡ number))
+    Rewritten n (n + 4) (lea_of_descriptor n) name (kinds.TlsDescToLocalExec n)
+    (λ operands. operands) (IsLea n register_of (λ c k s o number. thread_offset o ≡ number))
 
 -- `mov x@gottpoff(%rip), %reg`, of an entry that has what the function returns, whatever state of
 -- new agrees
@@ -304,7 +305,8 @@ CallOfDescriptor =
     → Stands c.new s.pc 2 (drop at (rewritten (x86_64_rewrite kinds.SkipTlsDescCall) calls at))
     → k.registers 0 ≡ half h
     → let next = sum_64 s.pc 2 in
-    run executes (machine c.others c.old) (called (load 8 (seen s) (s.registers 0)) next s) ≡ Some s'
+    run executes (machine c.others c.old) (called (load 8 (seen s) (s.registers 0)) next s)
+    ≡ Some s'
     → ChangesOpen (with_register 0 same k) (put 0 (c.new_half h) next s) k' s'
     → Group (of_link (link c)) 1 k s k' s'
 
@@ -355,6 +357,13 @@ ToInitialExec =
     ((t : State) → Agree (link c) k s t → load 8 (seen t) entry ≡ thread_offset o)
     × ((r : ℕ) → IsTrue (is_flag r) → k'.registers r ≡ anything)))
 
+-- In the large code model the call is by `movabs`, `add` and `call *%rax`, and a NOP is the third
+-- instruction.
+abbrev pub ToLocalExecLarge : Type 0
+ToLocalExecLarge =
+    Rewritten 3 22 (x86_64_originals kinds.TlsGdToLocalExecLarge) names.R_X86_64_TLSGD
+    kinds.TlsGdToLocalExecLarge (λ operands. operands) (IsThreadCall 7 22 3 (λ c k s k' o. ⊤))
+
 -- It returns the address of the module's block. New executes `mov %fs:0, %rax`, with prefixes or
 -- after a NOP, by n bytes, and has the thread pointer in RAX.
 abbrev pub ModuleCall : ℕ → ℕ → RewriteKind → Type 0
@@ -371,7 +380,7 @@ ModuleCall n count kind =
     → Group (of_link (link c)) count k s k' s'
 
 abbrev pub GeneralDynamic : Type 0
-GeneralDynamic = ToLocalExec × ToInitialExec
+GeneralDynamic = ToLocalExec × ToInitialExec × ToLocalExecLarge
 
 abbrev pub LocalDynamic : Type 0
 LocalDynamic =

@@ -1,10 +1,12 @@
 -- A program of x86-64 with groups, of which every premise holds, and both runs computed to the end.
 use Rattle.std.specs.Prelude.{◌≡◌, ℕ, ◌-◌, ◌/◌, ◌%◌, ◌^◌, ◌==◌, ◌&&◌, nat_lt, nat_le, Bool}
-use Rattle.std.specs.Prelude.{if◌then◌else◌, List, [], ◌∷◌, None, IsSomeAnd, slice_get}
+use Rattle.std.specs.Prelude.{if◌then◌else◌, List, [], ◌∷◌, Some, None, IsSomeAnd, slice_get, ◌||◌}
 use Rattle.std.specs.Option.{unwrap_or}
 use Rattle.linker_laws.specs.Machine.{Memory, loaded}
-use Rattle.linker_laws.specs.Simulation.{State, Kinds, Agree, Covered, Stops, of_link, run, same}
-use Rattle.linker_laws.specs.Simulation.{anything}
+use Rattle.linker_elf.specs.Value.{sum_64}
+use Rattle.linker_laws.specs.Changes.{put}
+use Rattle.linker_laws.specs.Simulation.{State, Program, Kinds, Agree, Covered, Stops, of_link, run}
+use Rattle.linker_laws.specs.Simulation.{anything, same}
 use Rattle.linker_laws.specs.SimulationWorked.{of_byte}
 use Rattle.linker_laws.specs.X86Groups.{Code, link, machine}
 
@@ -88,3 +90,87 @@ pub record IsWorked : Type 0 where
   pub stops : Stops (of_link (link code)) known state
   pub old_ends : IsSomeAnd (run 3 (machine code.others code.old) (starting entries)) Ends
   pub new_ends : IsSomeAnd (run 3 (machine code.others code.new) (starting no_entries)) Ends
+
+-- ---- a descriptor
+
+abbrev pub old_descriptor : List ℕ
+old_descriptor =
+    -- `lea x@tlsdesc(%rip), %rax`
+    0x48 ∷ 0x8d ∷ 0x05 ∷ 0xf9 ∷ 0x2f ∷ 0x00 ∷ 0x00
+    -- `call *x@tlscall(%rax)`
+    ∷ 0xff ∷ 0x10
+    -- no instruction
+    ∷ 0x00
+    -- the function: `mov 8(%rax), %rax` and `ret`
+    ∷ 0x48 ∷ 0x8b ∷ 0x40 ∷ 0x08 ∷ 0xc3 ∷ []
+
+abbrev pub new_descriptor : List ℕ
+new_descriptor =
+    -- `mov $x@tpoff, %rax`
+    0x48 ∷ 0xc7 ∷ 0xc0 ∷ 0xf0 ∷ 0xff ∷ 0xff ∷ 0xff
+    -- `xchg %ax, %ax`
+    ∷ 0x66 ∷ 0x90 ∷ []
+
+-- the function's instructions, by their first byte
+abbrev pub of_function : List ℕ → Program
+of_function [] s = None
+of_function (b ∷ bytes) s =
+    if b == 0x48
+    then Some (put 0 (loaded 8 s.memory (sum_64 (s.registers 0) 8)) (sum_64 s.pc 4) s)
+    else (if b == 0xc3
+    then Some (put 4 (sum_64 (s.registers 4) 8) (loaded 8 s.memory (s.registers 4)) s)
+    else None)
+
+abbrev pub descriptor_code : Code
+descriptor_code =
+    record {
+      others = of_function;
+      old = bytes old_descriptor;
+      new = bytes new_descriptor;
+      old_half = λ h. 0x404000;
+      new_half = λ h. 0xfffffffffffffff0;
+    }
+
+-- The descriptor has the function's address, and the offset.
+abbrev pub is_descriptor : ℕ → Bool
+is_descriptor a = nat_le 0x404000 a && nat_lt a 0x404010
+
+abbrev pub descriptor : Memory
+descriptor a =
+    if is_descriptor a
+    then (if nat_lt a 0x404008 then 0x40100a else 0xfffffffffffffff0)
+    / 256 ^ ((a - 0x404000) % 8) % 256
+    else 0
+
+-- Nothing is known of the descriptor, and of 8 bytes below the stack pointer.
+abbrev pub is_open : ℕ → Bool
+is_open a = is_descriptor a || (nat_le 0x7ff8 a && nat_lt a 0x8000)
+
+abbrev pub known_but_open : Kinds
+known_but_open =
+    record {
+      registers = λ r. same;
+      memory = λ a. of_byte (if is_open a then anything else same);
+    }
+
+-- RAX has the offset.
+pub record HasOffset (s : State) : Type 0 where
+  pub pc : s.pc ≡ 0x401009
+  pub rax : s.registers 0 ≡ 0xfffffffffffffff0
+  pub stack : s.registers 4 ≡ 0x8000
+
+-- Two groups are 4 instructions of old, of which the function has two, and 2 of new.
+pub record IsDescriptorWorked : Type 0 where
+  pub kinds : Kinds
+  pub state : State
+  pub agree :
+      Agree (link descriptor_code) known_but_open (starting descriptor) (starting no_entries)
+  pub covered :
+      Covered (of_link (link descriptor_code)) 2 2 known_but_open (starting descriptor) kinds state
+  pub stops : Stops (of_link (link descriptor_code)) kinds state
+  pub old_ends :
+      IsSomeAnd (run 4 (machine descriptor_code.others descriptor_code.old) (starting descriptor))
+      HasOffset
+  pub new_ends :
+      IsSomeAnd (run 2 (machine descriptor_code.others descriptor_code.new) (starting no_entries))
+      HasOffset

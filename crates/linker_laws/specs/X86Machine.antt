@@ -512,12 +512,19 @@ decode_long_nop (b ∷ opcode ∷ m ∷ sib ∷ rest) =
     else None
 decode_long_nop bytes = None
 
+-- after REX with W, also CALL by e8
+abbrev pub decode_wide : ℕ → List ℕ → Option Decoded
+decode_wide b [] = None
+decode_wide b (opcode ∷ rest) =
+    if opcode == 0xe8 then sized (rex_prefix b) 5 (call (direct (number_of_bytes 4 rest)))
+    else decode_opcode (rex_prefix b) (opcode ∷ rest)
+
 -- The operand-size prefix 66 changes nothing of an instruction with REX.W ("REX Prefixes"), nor of
 -- NOP, and may be there more than once. Nor does 2e, the prefix of the CS segment, change NOP.
 abbrev pub decode_data16 : List ℕ → Option Decoded
 decode_data16 [] = None
 decode_data16 (b ∷ bytes) =
-    if is_rex_w b then longer (decode_opcode (rex_prefix b) bytes)
+    if is_rex_w b then longer (decode_wide b bytes)
     else (if b == 0x90 then sized no_prefix 2 nop
     else (if b == 0x66 then longer (decode_data16 bytes)
     else (if b == 0x64 then longer (decode_fs bytes)

@@ -89,15 +89,18 @@ pub fn loongarch64_worked()
 
 /// x86-64: rewritten instructions are groups, whatever the machine's other instructions do: loads
 /// of addresses and operations on numbers from the GOT, also of initial-exec, calls and jumps by a
-/// GOT entry. General- and local-dynamic TLS and descriptors are in `rewrites::x86_64` alone.
+/// GOT entry, each instruction of a TLS descriptor, whatever stands between them, and the sequences
+/// of general- and local-dynamic TLS, with their calls.
 pub fn x86_64()
     ensures groups { x86_groups.Groups }
 {}
 
-/// x86-64: a program with three groups, of which every premise holds. Both of its runs are computed
-/// to the end.
+/// x86-64: a program with three groups, of which one is a call that pushes its return address, and
+/// one with a TLS descriptor, whose function old executes. Every premise holds, and both runs of
+/// each are computed to the end.
 pub fn x86_64_worked()
     ensures worked { x86_worked.IsWorked }
+    ensures descriptor { x86_worked.IsDescriptorWorked }
 {
     x86_64();
 }

@@ -118,6 +118,7 @@ returns-clause-decoding c = (
   refl,
   refl,
   refl,
+  refl,
 )
 
 pub returns-clause-results : goal.returns-clause-results
