@@ -130,8 +130,7 @@ struct linker_utils_object {
  * those that rewrite or pack its relocations: for others both may be constants, by a cast. */
 struct linker_utils_section {
     uint8_t *bytes; size_t bytes_len;
-    /* As the file has them: n of 24 bytes, `Elf64_Rela`, little-endian, at any alignment. Of a section
-     * of type SHT_CREL as `linker_utils_read_crel` writes them. */
+    /* As the file has them: n of 24 bytes, `Elf64_Rela`, little-endian, at any alignment. */
     void *relocations; size_t relocations_len;
     uint64_t address; /* of the first byte, from which `r_offset` counts */
     uint64_t base; /* its input offset in a run that is relaxed */

@@ -6,9 +6,9 @@
 //! it adds to the one before it. Before the first one all is 0.
 //!
 //! The flags of a relocation are the lowest bits of its first byte, three with addends and two
-//! without. Above them are the low bits of what the offset grows by, shifted right by the shift; if
-//! bit 7 is set, a ULEB128 number has those from there on. SLEB128 numbers follow of the symbol, the
-//! type and the addend, if their flags, bits 0, 1 and 2, are set.
+//! without. Above them are the low bits of what the offset grows by, shifted right by the shift. If
+//! bit 7 is set, a ULEB128 number has the bits from there on. Then come the SLEB128 numbers of the
+//! symbol, the type and the addend whose flags, bits 0, 1 and 2, are set.
 
 ghost use Rattle.std.specs.Prelude.{◌≡◌, ◌+◌, ◌<◌, ◌≤◌, ◌/◌, IfOk, IfErr, Ok, Err, ℕ, length};
 ghost use Rattle.linker_section.specs.Relocations.{relocation_in};

@@ -8,9 +8,9 @@
 //! it adds to the one before it. Before the first one all is 0.
 //!
 //! The flags of a relocation are the lowest bits of its first byte, three with addends and two
-//! without. Above them are the low bits of what the offset grows by, shifted right by the shift; if
-//! bit 7 is set, a ULEB128 number has those from there on. SLEB128 numbers follow of the symbol, the
-//! type and the addend, if their flags, bits 0, 1 and 2, are set.
+//! without. Above them are the low bits of what the offset grows by, shifted right by the shift. If
+//! bit 7 is set, a ULEB128 number has the bits from there on. Then come the SLEB128 numbers of the
+//! symbol, the type and the addend whose flags, bits 0, 1 and 2, are set.
 
 use crate::linker_section::relocations::{RELA_LEN, Rela, relocations_len, set_relocation};
 
