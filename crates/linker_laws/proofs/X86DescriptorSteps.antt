@@ -159,8 +159,8 @@ mov_step code size r q bits from t wide same is =
     ∙ ap (λ n. Some (execute (operate MOV n (register q) from) (sum_64 t.ip size) t)) wide
     ∙ ap (λ q. Some (execute (operate MOV 64 (register q) from) (sum_64 t.ip size) t)) same
 
--- A `lea` of the descriptor's address, and a `mov` of a number, into one register, which the bytes of
--- both codes name.
+-- A `lea` of the descriptor's address, and a `mov` of a number, into one register, which the bytes
+-- of both codes name.
 pub record AreLea (m : ℕ) (before old new : List ℕ) (register_of : List ℕ → ℕ) (o : Operands)
     (s : State) (number : State → ℕ) : Type 0 where
   pub r : ℕ

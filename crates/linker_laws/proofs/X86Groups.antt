@@ -14,7 +14,7 @@ use Rattle.linker_laws.specs.Machine.{Memory}
 use Rattle.linker_laws.specs.Machine as shared
 use Rattle.linker_laws.specs.Simulation.{State, Program, Kind, Kinds, Agree, AreOf, AreStored}
 use Rattle.linker_laws.specs.Simulation.{Group, half, of_link, same}
-use Rattle.linker_laws.specs.X86Groups.{Code, IsApart, IsCall, IsGroup, IsJump, IsKnownAfter, Others}
+use Rattle.linker_laws.specs.X86Groups.{Code, IsApart, IsCall, IsJump, IsKnownAfter, Others}
 use Rattle.linker_laws.specs.X86Groups.{KeepsRegisters, Reads, Stands, bytes_at, called, does}
 use Rattle.linker_laws.specs.X86Groups.{executed, flag, is_flag, left, link, machine, seen}
 use Rattle.linker_laws.specs.X86Groups.{CallOfDescriptor, IsLea, LeaOfDescriptor, LeaToEntry, LeaToOffset}
@@ -33,7 +33,7 @@ use Rattle.linker_utils.specs.declared.x86_64.rewrites.RewriteKind.TheVariants.{
 use Rattle.linker_utils.specs.declared.x86_64.rewrites.RewriteKind.TheVariants.{TlsDescToLocalExec}
 use Rattle.linker_laws.proofs.Agreement.{agree_go, agree_open, agree_put, agree_put_old}
 use Rattle.linker_laws.proofs.CoveredRuns.{holds_of, once, run_first}
-use Rattle.linker_laws.proofs.X86Branches.{AreBranches, Leads}
+use Rattle.linker_laws.proofs.X86Branches.{Leads}
 use Rattle.linker_laws.proofs.X86Branches as branches
 use Rattle.linker_laws.proofs.X86Decoding.{Replaced, Replaces, map_some}
 use Rattle.linker_laws.proofs.X86DescriptorSteps.{AreLea, LeaOf}

@@ -7,7 +7,8 @@ use Rattle.std.specs.Prelude.{length, IsTrue, IsSomeAnd, Some, None}
 use Rattle.linker_laws.specs.X86Machine.{Operation, MOV, ADD, OR, ADC, SBB, AND, SUB, XOR, CMP}
 use Rattle.linker_laws.specs.X86Machine.{TEST, Instruction, operate, operate_into, lea, lea_from}
 use Rattle.linker_laws.specs.X86Machine.{load_thread, call, jump, nop, direct}
-use Rattle.linker_laws.specs.X86Machine.{indirect, through, register, relative, immediate, decode, step}
+use Rattle.linker_laws.specs.X86Machine.{indirect, through, register, relative, immediate}
+use Rattle.linker_laws.specs.X86Machine.{decode, step}
 use Rattle.linker_laws.specs.X86Machine.{Flags, State, result, flags_after, bit_of, load}
 use Rattle.linker_laws.specs.X86Machine.{writes}
 
