@@ -105,7 +105,7 @@ pub mod link_in_ten_calls {
         survey_placed_section,
     };
     use crate::runs::{pack_run, relax, rewritten_items_into};
-    use crate::section::{memory_len, needs, relocate_section};
+    use crate::section::{memory_len, needs, read_crel, relocate_section};
 }
 
 pub mod runs {
