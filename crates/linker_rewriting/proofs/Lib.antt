@@ -1,4 +1,3 @@
-pub mod Checked
 pub mod Deciding
 pub mod GlobalPointer
 pub mod Keeping
@@ -8,6 +7,7 @@ pub mod LabelGroups
 pub mod Listing
 pub mod LoadsDecided
 pub mod LoongArchLoads
+pub mod Makeable
 pub mod Making
 pub mod Noted
 pub mod Order
