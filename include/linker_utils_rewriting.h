@@ -45,8 +45,8 @@ struct linker_utils_decision {
  * rewrites nothing: each relocation would stay. False of a phase that isn't known. */
 bool linker_utils_has_rewrites(uint16_t machine, uint32_t phase);
 
-/* ---- Kept decisions: for a linker that maps its inputs read-only, decides while it scans them, and
- * rewrites the copies in the output. */
+/* ---- Kept decisions: for a linker that maps its inputs read-only, decides while it scans them,
+ * and rewrites the copies in the output. */
 
 /* Decides what `linker_utils_rewrite_section` would do, with its errors, and writes `decisions`
  * alone. Other threads may decide other sections at the same time. No decision depends on an
@@ -61,11 +61,11 @@ LINKER_UTILS_MUST_USE static inline uint32_t linker_utils_decide_rewrites(
 /* Makes these decisions in a copy of the section and of its relocations, which then are what
  * `linker_utils_rewrite_section` leaves. It is called before values are written and before the
  * section is packed, with the relocations that were decided on. Where they and the bytes are
- * unchanged, it succeeds. Any bytes are decisions. LINKER_UTILS_SHORT_MEMORY where there are fewer
- * decisions than relocations. Then `faulty` is the first with LINKER_UTILS_DOES_NOT_MATCH, since
- * other instructions are there than its rewrite is meant for, or the section ends before what is to
- * be deleted; or with LINKER_UTILS_OVERLAPS, since the bytes of its rewrite overlap or lie below
- * those of one before it. With an error nothing is written. */
+ * unchanged, it succeeds. Any bytes are decisions. With an error nothing is written.
+ * LINKER_UTILS_SHORT_MEMORY where there are fewer decisions than relocations. Then `faulty` is the
+ * first with LINKER_UTILS_DOES_NOT_MATCH, since its rewrite is meant for other instructions, or
+ * deletes bytes after the section; or with LINKER_UTILS_OVERLAPS, since the bytes of its rewrite
+ * overlap or lie below those of one before it. */
 LINKER_UTILS_MUST_USE static inline uint32_t linker_utils_make_rewrites(
     const struct linker_utils_section *section, const struct linker_utils_rewritten *rewritten,
     size_t *faulty);

@@ -1,5 +1,4 @@
 pub mod AArch64Sequences
-pub mod Checked
 pub mod Chosen
 pub mod Deciding
 pub mod Entries
@@ -11,6 +10,7 @@ pub mod LabelGroups
 pub mod Listing
 pub mod LoadsDecided
 pub mod LoongArchLoads
+pub mod Makeable
 pub mod Making
 pub mod Noted
 pub mod Order

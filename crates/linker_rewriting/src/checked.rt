@@ -1,6 +1,6 @@
 //! Whether decisions can be made of a section's bytes as they are.
 
-ghost use Rattle.std.specs.Prelude.{◌≡◌, ◌×◌, ◌↔◌, ◌≤◌, ◌/◌, length, map, IfErr, OnOk, IsTrue, true};
+ghost use Rattle.std.specs.Prelude.{◌≡◌, ◌↔◌, ◌≤◌, ◌/◌, length, map, IfErr, OnOk, IsTrue, true};
 ghost use Rattle.linker_base.specs.Rewrite.{CanRewrite};
 ghost use Rattle.linker_rewriting.specs.Candidates.{deletes_within};
 ghost use Rattle.linker_rewriting.specs.Decisions.{AllCanBeMade, AllMatch, AreApart, IsUnmade};

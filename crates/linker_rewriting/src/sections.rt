@@ -274,9 +274,9 @@ pub fn rewrite_section<D: AsDecision>(
 /// nothing of one that is `Decision::Consumed`. None is `Decision::RewrittenWithSymbol`.
 ///
 /// No decision depends on an address. A branch is rewritten by its symbol's facts alone: AArch64's
-/// to an undefined weak symbol becomes a `nop`, whose relocation has the type 0, and the `nop` after
-/// PowerPC64's call restores the TOC pointer where `SymbolFacts` say that the function may change
-/// it. So a linker may still choose a stub as the target of a branch that keeps its relocation.
+/// to an undefined weak symbol becomes a `nop`, whose relocation has the type 0. The `nop` after
+/// PowerPC64's call restores the TOC pointer where its function may change it, by the symbol's
+/// facts. So a linker may still choose a stub as the target of a branch that keeps its relocation.
 ///
 /// # Errors
 ///

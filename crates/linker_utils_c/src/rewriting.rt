@@ -14,8 +14,8 @@ ghost use Rattle.linker_utils_c.specs.AddressLoads.{AreLoadsReturned};
 ghost use Rattle.linker_utils_c.specs.Rewriting.{phase_of, of_fate, choice_in, subject_in};
 ghost use Rattle.linker_utils_c.specs.Rewriting.{IsRewriteReturned, IsPlacedReturned};
 ghost use Rattle.linker_utils_c.specs.Rewriting.{rewriting_status, faulty_after};
-ghost use Rattle.linker_utils_c.specs.Rewriting.{IsSurveyReturned, IsDecisionReturned, IsMakingReturned};
-ghost use Rattle.linker_utils_c.specs.Rewriting.{making_status, making_faulty};
+ghost use Rattle.linker_utils_c.specs.Rewriting.{IsSurveyReturned, IsDecisionReturned};
+ghost use Rattle.linker_utils_c.specs.Rewriting.{IsMakingReturned, making_status, making_faulty};
 ghost use Rattle.linker_utils_c.specs.Status.{code};
 
 use crate::deltas::Deletion;

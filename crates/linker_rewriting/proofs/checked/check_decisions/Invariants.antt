@@ -1,5 +1,5 @@
 use Rattle.std.proofs.Common.{map}
-use Rattle.linker_rewriting.proofs.Checked.{AreChecked}
+use Rattle.linker_rewriting.proofs.Makeable.{AreChecked}
 use Rattle.linker_rewriting.proofs.checked.check_decisions.Given as goal
 
 abbrev pub invariant-loop-index : goal.invariant-loop-index

@@ -1,4 +1,4 @@
-use Rattle.linker_rewriting.proofs.Checked.{decisions_are_made}
+use Rattle.linker_rewriting.proofs.Makeable.{decisions_are_made}
 use Rattle.linker_rewriting.proofs.laws.decisions_are_made.Goals as goal
 
 pub returns : goal.returns

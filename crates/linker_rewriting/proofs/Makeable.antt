@@ -1,7 +1,7 @@
 -- Decisions tested one by one.
-use Rattle.std.proofs.Common.{◌≡◌, ℕ, suc, ◌+◌, ◌≤◌, ◌<◌, ◌/◌, ◌⊎◌, inl, inr, List, length, sym, subst, arith, refl, tt, None}
-use Rattle.linker_rewriting.proofs.Deciding.{EndsAt, IsGrown, IsReached, apart_more, ends_more}
-use Rattle.linker_rewriting.specs.Decisions.{CanBeMade, AllCanBeMade, Matches, AllMatch, AreApart, IsEndAfter, decision_at, start_by, end_by, start_at, end_at, DecisionsAreMade}
+use Rattle.std.proofs.Common.{◌≡◌, ℕ, ◌+◌, ◌≤◌, ◌<◌, ◌/◌, inl, inr, List, length, sym, subst, arith, refl, None}
+use Rattle.linker_rewriting.proofs.Deciding.{EndsAt, IsGrown, IsReached, bound_at, apart_more, ends_more}
+use Rattle.linker_rewriting.specs.Decisions.{CanBeMade, AllCanBeMade, Matches, AllMatch, AreApart, IsEndAfter, decision_at, start_by, end_by, start_at, end_at, IsUnmade, DecisionsAreMade}
 use Rattle.linker_rewriting.specs.declared.decisions.Decision.{Decision}
 use Rattle.linker_rewriting.specs.declared.decisions.Decision.TheVariants.{Kept}
 use Rattle.linker_rewriting.specs.declared.decisions.DecisionError.TheVariants.{TooShort, Changed, Overlaps}
@@ -14,6 +14,22 @@ pub record AreChecked (bytes section : List ℕ) (decisions : List Decision) (en
   pub apart : AreApart bytes decisions k
   pub ends : EndsAt start_by end_by bytes decisions end k
 
+can_more : (bytes section : List ℕ) (decisions : List Decision) (k : ℕ) (d : Decision)
+    → AllCanBeMade bytes section decisions k → decision_at decisions k ≡ d
+    → CanBeMade d section (relocation_in bytes k).offset
+    → AllCanBeMade bytes section decisions (k + 1)
+can_more bytes section decisions k d before here can =
+    below_more (λ n. CanBeMade (decision_at decisions n) section (relocation_in bytes n).offset) k before
+    (subst (λ x. CanBeMade x section (relocation_in bytes k).offset) (sym here) can)
+
+match_more : (bytes section : List ℕ) (decisions : List Decision) (k : ℕ) (d : Decision)
+    → AllMatch bytes section decisions k → decision_at decisions k ≡ d
+    → Matches d section (relocation_in bytes k).offset
+    → AllMatch bytes section decisions (k + 1)
+match_more bytes section decisions k d before here there =
+    below_more (λ n. Matches (decision_at decisions n) section (relocation_in bytes n).offset) k before
+    (subst (λ x. Matches x section (relocation_in bytes k).offset) (sym here) there)
+
 pub more_checked : (bytes section : List ℕ) (decisions : List Decision) (end grown k : ℕ) (d : Decision)
     → AreChecked bytes section decisions end k → decision_at decisions k ≡ d
     → CanBeMade d section (relocation_in bytes k).offset
@@ -21,10 +37,8 @@ pub more_checked : (bytes section : List ℕ) (decisions : List Decision) (end g
     → IsGrown start_by end_by bytes k d end grown
     → AreChecked bytes section decisions grown (k + 1)
 more_checked bytes section decisions end grown k d before here can there grow = record {
-  can = below_more (λ n. CanBeMade (decision_at decisions n) section (relocation_in bytes n).offset) k before.can
-      (subst (λ x. CanBeMade x section (relocation_in bytes k).offset) (sym here) can);
-  matching = below_more (λ n. Matches (decision_at decisions n) section (relocation_in bytes n).offset) k before.matching
-      (subst (λ x. Matches x section (relocation_in bytes k).offset) (sym here) there);
+  can = can_more bytes section decisions k d before.can here can;
+  matching = match_more bytes section decisions k d before.matching here there;
   apart = apart_more start_by end_by bytes decisions decisions k end grown d (λ n less. refl) here before.ends before.apart grow;
   ends = ends_more start_by end_by bytes decisions decisions k end grown d (λ n less. refl) here before.ends grow;
 }
@@ -36,7 +50,7 @@ kept_checked bytes section decisions end k before here =
     more_checked bytes section decisions end end k Kept before here tt tt (inl (omega arith, refl))
 
 -- one that begins below the end of those before it
-pub not_apart : (bytes : List ℕ) (decisions : List Decision) (end k : ℕ)
+not_apart : (bytes : List ℕ) (decisions : List Decision) (end k : ℕ)
     → IsReached start_by end_by bytes decisions end k
     → IsEndAfter (start_at bytes decisions k) (end_at bytes decisions k) end None
     → ¬ AreApart bytes decisions (k + 1)
@@ -45,6 +59,23 @@ not_apart bytes decisions end k (inl none) following apart =
 not_apart bytes decisions end k (inr one) following apart =
     let least = apart (one.0) k (one.1) (omega arith) (one.2) (following.0) in
     let e = following.1 in let reach = one.3 in absurd (omega (arith, e, reach, least))
+
+pub overlaps : (bytes section : List ℕ) (decisions : List Decision) (end k : ℕ) (d : Decision)
+    → AreChecked bytes section decisions end k → decision_at decisions k ≡ d
+    → CanBeMade d section (relocation_in bytes k).offset
+    → Matches d section (relocation_in bytes k).offset
+    → IsEndAfter (bound_at start_by bytes k d) (bound_at end_by bytes k d) end None
+    → k < length bytes / 24 → length bytes / 24 ≤ length decisions
+    → IsUnmade bytes section decisions (Overlaps k)
+overlaps bytes section decisions end k d before here can there following less enough = (
+  less,
+  enough,
+  can_more bytes section decisions k d before.can here can,
+  match_more bytes section decisions k d before.matching here there,
+  before.apart,
+  not_apart bytes decisions end k before.ends.reached
+  (subst (λ x. IsEndAfter (bound_at start_by bytes k x) (bound_at end_by bytes k x) end None) (sym here) following),
+)
 
 pub decisions_are_made : DecisionsAreMade
 decisions_are_made bytes section decisions enough can there apart TooShort short =

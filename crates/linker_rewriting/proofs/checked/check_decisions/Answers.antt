@@ -1,0 +1,76 @@
+use Rattle.std.proofs.Common.{◌≡◌, ◌<◌, ◌≤◌, ◌/◌, ◌∙◌, length, map, sym, subst, arith, None, Some}
+use Rattle.std.proofs.lemmas.List.{length-map, get_or-map}
+use Rattle.linker_rewriting.proofs.Makeable.{more_checked, kept_checked, overlaps}
+use Rattle.linker_rewriting.proofs.Deciding.{IsGrown, ends_within}
+use Rattle.linker_rewriting.specs.Decisions.{CanBeMade, Matches, IsEndAfter, decision_at, start_by, end_by}
+use Rattle.linker_rewriting.specs.declared.decisions.Decision.TheVariants.{Kept}
+use Rattle.linker_rewriting.proofs.checked.check_decisions.Goals as goal
+
+pub loop-index-preserved-in-Kept : goal.loop-index-preserved-in-Kept
+loop-index-preserved-in-Kept g c =
+    let a = c.args in
+    let f = g.D.AsDecision.decision in
+    let k = c.loop-index.index in
+    let within : k < length a.decisions.now =
+    (let t = c.loop-index-test.true in let e = c.relocations_len-len.ensures in let n = c.if-decisions-len.false in omega arith) in
+    let here : decision_at (map f a.decisions.now) k ≡ c.as_decision-decision.result =
+    get_or-map f a.decisions.now k c.index-decisions-index.result Kept within ∙ rw (← c.index-decisions-index.is) (sym c.as_decision-decision.ensures) in
+    kept_checked a.relocations.now a.section.now (map f a.decisions.now) c.loop-index.end k c.loop-index.invariant
+    (here ∙ c.in-Kept.is)
+
+pub span_of-start-requires : goal.span_of-start-requires
+span_of-start-requires g c =
+    let both = c.fits.ensures.0 c.if-not-fits.false in
+    ends_within c.as_decision-decision.result c.args.section.now c.relocation_in-offset.result.offset 0xffffffffffffffff (omega arith) (omega arith) (both.0)
+
+pub returns-in_default-end_after-clause-unmade : goal.returns-in_default-end_after-clause-unmade
+returns-in_default-end_after-clause-unmade g c =
+    let a = c.args in
+    let f = g.D.AsDecision.decision in
+    let k = c.loop-index.index in
+    let d = c.as_decision-decision.result in
+    let same = c.relocation_in-offset.ensures in
+    let less : k < length a.relocations.now / 24 =
+    (let t = c.loop-index-test.true in let e = c.relocations_len-len.ensures in omega arith) in
+    let within : k < length a.decisions.now =
+    (let t = c.loop-index-test.true in let e = c.relocations_len-len.ensures in let n = c.if-decisions-len.false in omega arith) in
+    let enough : length a.relocations.now / 24 ≤ length (map f a.decisions.now) =
+    (let e = c.relocations_len-len.ensures in let n = c.if-decisions-len.false in let m = length-map a.decisions.now f in omega arith) in
+    let here : decision_at (map f a.decisions.now) k ≡ d =
+    get_or-map f a.decisions.now k c.index-decisions-index.result Kept within ∙ rw (← c.index-decisions-index.is) (sym c.as_decision-decision.ensures) in
+    let both = c.fits.ensures.0 c.if-not-fits.false in
+    overlaps a.relocations.now a.section.now (map f a.decisions.now) c.loop-index.end k d c.loop-index.invariant here
+    (subst (λ y. CanBeMade d a.section.now y.offset) same (both.0))
+    (subst (λ y. Matches d a.section.now y.offset) same (both.1))
+    (subst (λ x. IsEndAfter (start_by d x.offset) (end_by d x.offset) c.loop-index.end None) same
+    (subst (λ x. IsEndAfter (x.0) (x.1) c.loop-index.end None) c.span_of-start.ensures
+    (subst (IsEndAfter (c.span_of-start.result.0) (c.span_of-start.result.1) c.loop-index.end) c.in_default-end_after.is c.end_after.ensures)))
+    less enough
+
+pub loop-index-preserved : goal.loop-index-preserved
+loop-index-preserved g c =
+    let a = c.args in
+    let f = g.D.AsDecision.decision in
+    let k = c.loop-index.index in
+    let d = c.as_decision-decision.result in
+    let end = c.in-Some.new_end in
+    let same = c.relocation_in-offset.ensures in
+    let within : k < length a.decisions.now =
+    (let t = c.loop-index-test.true in let e = c.relocations_len-len.ensures in let n = c.if-decisions-len.false in omega arith) in
+    let here : decision_at (map f a.decisions.now) k ≡ d =
+    get_or-map f a.decisions.now k c.index-decisions-index.result Kept within ∙ rw (← c.index-decisions-index.is) (sym c.as_decision-decision.ensures) in
+    let both = c.fits.ensures.0 c.if-not-fits.false in
+    let grow : IsGrown start_by end_by a.relocations.now k d c.loop-index.end end =
+    subst (λ x. IsEndAfter (start_by d x.offset) (end_by d x.offset) c.loop-index.end (Some end)) same
+    (subst (λ x. IsEndAfter (x.0) (x.1) c.loop-index.end (Some end)) c.span_of-start.ensures
+    (subst (IsEndAfter (c.span_of-start.result.0) (c.span_of-start.result.1) c.loop-index.end) c.in-Some.is c.end_after.ensures)) in
+    more_checked a.relocations.now a.section.now (map f a.decisions.now) c.loop-index.end end k d c.loop-index.invariant here
+    (subst (λ y. CanBeMade d a.section.now y.offset) same (both.0))
+    (subst (λ y. Matches d a.section.now y.offset) same (both.1))
+    grow
+
+pub returns-clause-apart : goal.returns-clause-apart
+returns-clause-apart g c =
+    let t = c.loop-index-test.false in
+    let e = c.relocations_len-len.ensures in
+    λ i j ij less some_i some_j. c.loop-index.invariant.apart i j ij (omega arith) some_i some_j
