@@ -62,10 +62,10 @@ LINKER_UTILS_MUST_USE static inline uint32_t linker_utils_decide_rewrites(
  * `linker_utils_rewrite_section` leaves. It is called before values are written and before the
  * section is packed, with the relocations that were decided on. Where they and the bytes are
  * unchanged, it succeeds. Any bytes are decisions. With an error nothing is written.
- * LINKER_UTILS_SHORT_MEMORY where there are fewer decisions than relocations. Then `faulty` is the
- * first with LINKER_UTILS_DOES_NOT_MATCH, since its rewrite is meant for other instructions, or
- * deletes bytes after the section; or with LINKER_UTILS_OVERLAPS, since the bytes of its rewrite
- * overlap or lie below those of one before it. */
+ * LINKER_UTILS_SHORT_MEMORY where there are fewer decisions than relocations. Else `faulty` is the
+ * first relocation that can't be rewritten. LINKER_UTILS_DOES_NOT_MATCH: its rewrite is meant for
+ * other instructions, or deletes bytes after the section. LINKER_UTILS_OVERLAPS: the bytes of its
+ * rewrite overlap or lie below those of one before it. */
 LINKER_UTILS_MUST_USE static inline uint32_t linker_utils_make_rewrites(
     const struct linker_utils_section *section, const struct linker_utils_rewritten *rewritten,
     size_t *faulty);

@@ -74,7 +74,7 @@ overlaps bytes section decisions end k d before here can there following less en
   match_more bytes section decisions k d before.matching here there,
   before.apart,
   not_apart bytes decisions end k before.ends.reached
-  (subst (λ x. IsEndAfter (bound_at start_by bytes k x) (bound_at end_by bytes k x) end None) (sym here) following),
+      (subst (λ x. IsEndAfter (bound_at start_by bytes k x) (bound_at end_by bytes k x) end None) (sym here) following),
 )
 
 pub decisions_are_made : DecisionsAreMade

@@ -384,8 +384,8 @@ IsRejectedPlaced s kept bytes section decisions room =
 
 -- ---- decisions that are made later
 
--- Why they aren't: up to the index, the one there alone is wrong. It doesn't match, can't be made or
--- isn't apart from those before it.
+-- Why they aren't: up to the index, the one there alone is wrong. It doesn't match, can't be made
+-- or isn't apart from those before it.
 abbrev pub IsUnmade : List ℕ → List ℕ → List Decision → DecisionError → Type 0
 IsUnmade bytes section decisions errors.TooShort = length decisions < length bytes / 24
 IsUnmade bytes section decisions (errors.Changed n) =

@@ -18,8 +18,9 @@ ghost use Rattle.linker_rewriting.specs.Surveys.{MeansUnsurveyed};
 
 use crate::agreement::contradiction;
 use crate::checked::check_decisions;
-use crate::decisions::{AsDecision, Decision, DecisionError, FromDeletion, RewritingError};
-use crate::decisions::decide_section;
+use crate::decisions::{
+    AsDecision, Decision, DecisionError, FromDeletion, RewritingError, decide_section,
+};
 use crate::facts::{NO_ADDRESSES, OutputFacts, RelaxContext, SymbolFacts};
 use crate::groups::UnrelaxableGroups;
 use crate::phases::Phase;

@@ -20,13 +20,15 @@ ghost use Rattle.linker_utils_c.specs.Status.{code};
 
 use crate::deltas::Deletion;
 use crate::status::Status;
-use linker_rewriting::decisions::{AsDecision, Decision, DecisionError, FromDeletion};
-use linker_rewriting::decisions::{RewritingError, Subject};
+use linker_rewriting::decisions::{
+    AsDecision, Decision, DecisionError, FromDeletion, RewritingError, Subject,
+};
 use linker_rewriting::facts::{OutputFacts, SymbolFacts};
 use linker_rewriting::groups::{UnrelaxableGroups, has_rewrites};
 use linker_rewriting::phases::Phase;
-use linker_rewriting::sections::{decide_rewrites, make_rewrites, rewrite_placed_section};
-use linker_rewriting::sections::rewrite_section;
+use linker_rewriting::sections::{
+    decide_rewrites, make_rewrites, rewrite_placed_section, rewrite_section,
+};
 use linker_rewriting::surveys::{survey, survey_placed_section};
 use linker_rewriting::toc_indirection::{rewrite_toc_loads, survey_toc_loads};
 use linker_section::facts::{Addresses, Symbol};

@@ -4,13 +4,15 @@
 
 use crate::deltas::Deletion;
 use crate::status::Status;
-use linker_utils::source::rewriting::{AsDecision, Decision, DecisionError, FromDeletion};
-use linker_utils::source::rewriting::{RewritingError, Subject};
+use linker_utils::source::rewriting::{
+    AsDecision, Decision, DecisionError, FromDeletion, RewritingError, Subject,
+};
 use linker_utils::source::rewriting::{OutputFacts, SymbolFacts};
 use linker_utils::source::rewriting::{UnrelaxableGroups, has_rewrites};
 use linker_utils::source::rewriting::Phase;
-use linker_utils::source::rewriting::{decide_rewrites, make_rewrites, rewrite_placed_section};
-use linker_utils::source::rewriting::rewrite_section;
+use linker_utils::source::rewriting::{
+    decide_rewrites, make_rewrites, rewrite_placed_section, rewrite_section,
+};
 use linker_utils::source::rewriting::{survey, survey_placed_section};
 use linker_utils::source::rewriting::{rewrite_toc_loads, survey_toc_loads};
 use linker_utils::source::section::{Addresses, Symbol};

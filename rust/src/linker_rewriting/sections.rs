@@ -4,8 +4,9 @@
 
 use crate::linker_rewriting::agreement::contradiction;
 use crate::linker_rewriting::checked::check_decisions;
-use crate::linker_rewriting::decisions::{AsDecision, Decision, DecisionError, FromDeletion, RewritingError};
-use crate::linker_rewriting::decisions::decide_section;
+use crate::linker_rewriting::decisions::{
+    AsDecision, Decision, DecisionError, FromDeletion, RewritingError, decide_section,
+};
 use crate::linker_rewriting::facts::{NO_ADDRESSES, OutputFacts, RelaxContext, SymbolFacts};
 use crate::linker_rewriting::groups::UnrelaxableGroups;
 use crate::linker_rewriting::phases::Phase;

@@ -29,5 +29,22 @@ pub returns-in-R_LARCH_TLS_DESC_PC_HI20-by_table-clause-table : goal.returns-in-
 returns-in-R_LARCH_TLS_DESC_PC_HI20-by_table-clause-table c =
     let is = c.in-R_LARCH_TLS_DESC_PC_HI20-by_table.is in
     let same = same_pattern c.args.name r.R_LARCH_TLS_DESC_PC_HI20 in
-    rw is (refl, (same kinds.Delete is, (refl, (same kinds.ReplaceWithNop is, (refl, (same kinds.PcalaToLu12i is,
-    (refl, (same kinds.NoOp is, (refl, (same kinds.PcalaToPcaddi is, tt))))))))))
+    rw is (
+      refl,
+      (
+        same kinds.Delete is,
+        (
+          refl,
+          (
+            same kinds.ReplaceWithNop is,
+            (
+              refl,
+              (
+                same kinds.PcalaToLu12i is,
+                (refl, (same kinds.NoOp is, (refl, (same kinds.PcalaToPcaddi is, tt)))),
+              ),
+            ),
+          ),
+        ),
+      ),
+    )
