@@ -668,6 +668,24 @@ fn lists(report: &mut Report, random: &mut Random) {
         COUNT,
         || unsafe { linker_utils_read_relr_nonnull(from, used, to, COUNT, &mut needed) },
     );
+    // the count with addends, then offsets and symbols that ascend, of the first one's type
+    let (mut crel, mut header, mut has_addends) = (Vec::new(), 8 * COUNT as u64 + 4, 0);
+    while header >= 0x80 {
+        crel.push(header as u8 | 0x80);
+        header >>= 7;
+    }
+    crel.extend([header as u8, 0x47, 1, 2, 0]);
+    crel.extend([0x41, 1].repeat(COUNT - 1));
+    let mut relas = vec![0u8; 24 * COUNT];
+    let (from, len, to) = (crel.as_ptr(), crel.len(), relas.as_mut_ptr());
+    whole(
+        report,
+        "`linker_utils_read_crel`, 100000 relocations",
+        COUNT,
+        || unsafe {
+            linker_utils_read_crel_nonnull(from, len, to, 24 * COUNT, &mut needed, &mut has_addends)
+        },
+    );
     let (machine, kind) = (X86_64, 0xc000_0002);
     let list: Vec<_> = (0..100)
         .map(|at| sathunne::Property {

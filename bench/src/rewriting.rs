@@ -236,6 +236,66 @@ fn rewrites(report: &mut Report, input: &Input) {
     report.line(&name, input.count(), true, [Some(exports), None, Some(erased), None]);
 }
 
+/// The same decided over the input as it is, and then made in a copy.
+fn decisions(report: &mut Report, input: &Input) {
+    let (section, relocations) = input.bytes.split_at(LEN);
+    let (is_executable, is_fixed, has_near_symbols) = EXECUTABLE;
+    let output = sathunne::OutputFacts {
+        is_executable,
+        is_fixed,
+        has_near_symbols,
+    };
+    let decide = move |decisions: &mut Vec<sathunne::raw::Decision>| {
+        // SAFETY: a slice's pointer and length are its own, and a reference is of one value.
+        let status = unsafe {
+            linker_utils_decide_rewrites_nonnull(
+                input.machine,
+                &output,
+                input.symbols.as_ptr(),
+                input.symbols.len(),
+                input.kept.as_ptr(),
+                input.kept.len(),
+                relocations.as_ptr(),
+                relocations.len(),
+                section.as_ptr(),
+                section.len(),
+                decisions.as_mut_ptr(),
+                decisions.len(),
+                &mut 0,
+            )
+        };
+        assert_eq!(status, 0);
+    };
+    let mut decisions = vec![sathunne::raw::Decision::default(); input.count()];
+    decide(&mut decisions);
+    let decided = Side::over(
+        decisions.clone(),
+        |_: &mut Vec<_>| (),
+        decide,
+        |decisions: &Vec<sathunne::raw::Decision>| decisions.iter().filter(|it| it.fate != 0).count(),
+    );
+    let name = format!("`linker_utils_decide_rewrites`, {}", name_of(input.machine));
+    report.line(&name, input.count(), true, [Some(decided), None, None, None]);
+    let made = anew(input, move |bytes| {
+        let (section, relocations) = bytes.split_at_mut(LEN);
+        // SAFETY: a slice's pointer and length are its own, and a reference is of one value.
+        let status = unsafe {
+            linker_utils_make_rewrites_nonnull(
+                relocations.as_mut_ptr(),
+                relocations.len(),
+                section.as_mut_ptr(),
+                section.len(),
+                decisions.as_ptr(),
+                decisions.len(),
+                &mut 0,
+            )
+        };
+        assert_eq!(status, 0);
+    });
+    let name = format!("`linker_utils_make_rewrites`, {}", name_of(input.machine));
+    report.line(&name, input.count(), true, [Some(made), None, None, None]);
+}
+
 /// Two pairs of a page and an offset in it, and a call.
 const PLACED_OF_AARCH64: [Sequence; 2] = [
     (&[0, 0, 0, 0x90, 0, 0, 0, 0x91], &[(0, 275), (4, 277)]),
@@ -812,6 +872,7 @@ pub fn rewriting(report: &mut Report) {
     for input in &inputs {
         surveys(report, input);
         rewrites(report, input);
+        decisions(report, input);
     }
     let placed = [
         input(random, X86_64, &OF_X86_64),
