@@ -5,6 +5,8 @@ use Rattle.linker_utils.specs.Relaxations.{relaxation_rewrite, relaxation_delete
 use Rattle.linker_rewriting.specs.Candidates.{deletes_within}
 use Rattle.linker_rewriting.specs.Decisions.{CanBeMade, Matches}
 use Rattle.linker_rewriting.specs.Inner.Contexts.{context_of}
+use Rattle.linker_rewriting.specs.declared.decisions.Decision.{Decision}
+use Rattle.linker_rewriting.specs.declared.decisions.Decision.TheVariants.{Rewritten}
 use Rattle.linker_rewriting.specs.RiscVPcrelGroups.{IsHighOf, IsLabelCandidate, IsLabelNote}
 use Rattle.linker_rewriting.proofs.LabelGroups.{rewritten_label, never_kept, either_label, noted_high}
 use Rattle.linker_rewriting.proofs.decisions.decide_label.Goals as goal
@@ -23,11 +25,11 @@ returns-in-Some-label_candidate-clause-decision c =
 pub returns-in-Some-label_candidate-clause-made : goal.returns-in-Some-label_candidate-clause-made
 returns-in-Some-label_candidate-clause-made c =
     let a = c.args in
-    let can = (
+    let Can : Decision → Type 0 = λ d. CanBeMade d a.section.now a.relocation.now.offset in
+    let can : Can (Rewritten c.in-Some-label_candidate.chosen) = (
       subst (λ x. IfSome x (λ y. CanRewrite (relaxation_rewrite y.kind) a.section.now a.relocation.now.offset)) c.in-Some-label_candidate.is c.label_candidate.ensures.rewritable,
       subst (λ x. IfSome x (λ y. deletes_within a.section.now a.relocation.now.offset (relaxation_deleted y.kind) ≡ true)) c.in-Some-label_candidate.is c.label_candidate.ensures.deletes,
     ) in
-    let Can = λ d. CanBeMade d a.section.now a.relocation.now.offset in
     subst Can (sym c.label_decision.ensures)
     (either_label Can a.context.now.phase c.in-Some-label_candidate.chosen c.relocation_in.result can can)
 
@@ -35,7 +37,7 @@ pub returns-in-Some-label_candidate-clause-matches : goal.returns-in-Some-label_
 returns-in-Some-label_candidate-clause-matches c =
     let a = c.args in
     let there = subst (λ x. IfSome x (λ y. relaxation_matches y.kind a.section.now a.relocation.now.offset)) c.in-Some-label_candidate.is c.label_candidate.ensures.matches in
-    let There = λ d. Matches d a.section.now a.relocation.now.offset in
+    let There : Decision → Type 0 = λ d. Matches d a.section.now a.relocation.now.offset in
     subst There (sym c.label_decision.ensures)
     (either_label There a.context.now.phase c.in-Some-label_candidate.chosen c.relocation_in.result there there)
 
