@@ -110,8 +110,8 @@ pub mod link_in_ten_calls {
     use crate::output::{write_properties, write_relr};
     use crate::placement::place_stubs;
     use crate::rewriting::{
-        snapshot_facts, relocate_rewritten_section, rewrite_placed_section, rewrite_section, survey,
-        survey_placed_section,
+        Decision, decide_rewrites, make_rewrites, snapshot_facts, relocate_rewritten_section,
+        rewrite_placed_section, rewrite_section, survey, survey_placed_section,
     };
     use crate::runs::{pack_run, relax, rewritten_items_into};
     use crate::section::{memory_len, needs, read_crel, relocate_section};
