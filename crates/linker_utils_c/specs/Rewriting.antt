@@ -1,5 +1,5 @@
 -- A section rewritten in one call, in the numbers that C sees.
-use Rattle.std.specs.Prelude.{◌≡◌, ◌⊎◌, ℕ, ◌/◌, ◌==◌, if◌then◌else◌, List, length, map}
+use Rattle.std.specs.Prelude.{◌≡◌, ◌⊎◌, ◌≤◌, ℕ, ◌/◌, ◌==◌, if◌then◌else◌, List, length, map}
 use Rattle.std.specs.Prelude.{take, drop, pos}
 use Rattle.std.specs.Prelude.{All, Option, Some, None}
 use Rattle.linker_elf.specs.declared.elf.choice.Choice.{Choice}
