@@ -17,11 +17,11 @@ use Rattle.linker_elf.specs.declared.elf.value.Operands.{Operands}
 use Rattle.linker_elf.specs.declared.loongarch64.forms.LoongArch64Instruction.TheVariants.{Shift5, Shift10}
 use Rattle.linker_elf.specs.declared.loongarch64.relocations.LoongArch64Relocation.{LoongArch64Relocation}
 use Rattle.linker_elf.specs.declared.loongarch64.relocations.LoongArch64Relocation.TheVariants as names
-use Rattle.linker_final.proofs.Entries.{IsOfEntry}
+use Rattle.linker_rewriting.proofs.Entries.{IsOfEntry}
 use Rattle.linker_final.proofs.LoongArchAlone.{high_after, high_anywhere, high_takes, in_place, low_after, low_takes}
 use Rattle.linker_final.proofs.LoongArchChosen.{IsByTable, IsEntry, by_table, entry_by, same_kind}
 use Rattle.linker_final.proofs.LoongArchWritten.{IsAfter, becomes, named_after, relocated_there, unwritten_nop}
-use Rattle.linker_final.proofs.PreLayout.{isnt}
+use Rattle.linker_rewriting.proofs.PreLayout.{isnt}
 use Rattle.linker_final.proofs.RiscVWritten.{stays}
 use Rattle.linker_final.proofs.Written.{are_rewritten, word_same}
 use Rattle.linker_final.specs.Final.{UntouchedInstruction, Linked, IsLinked, count, instruction_at}
