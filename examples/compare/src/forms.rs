@@ -124,17 +124,9 @@ fn riscv_base(before: u32, after: u32, field: u32, relocation: u32) -> Option<(F
     }
 }
 
-/// What GNU ld deletes of thread-local storage that became initial-exec or local-exec.
+/// What GNU ld deletes of thread-local storage that became local-exec.
 fn loongarch_deletion(name: &str) -> Option<(Form, u32)> {
-    let may = matches!(
-        name,
-        "R_LARCH_TLS_IE_PC_HI20"
-            | "R_LARCH_TLS_DESC_PC_HI20"
-            | "R_LARCH_TLS_DESC_PC_LO12"
-            | "R_LARCH_TLS_DESC_LD"
-            | "R_LARCH_TLS_DESC_CALL"
-            | "R_LARCH_TLS_LE_HI20"
-    );
+    let may = matches!(name, "R_LARCH_TLS_IE_PC_HI20" | "R_LARCH_TLS_LE_HI20");
     may.then_some((deletes("Delete", 0, 4), NOTHING))
 }
 
@@ -142,7 +134,7 @@ fn loongarch(name: &str, before: u32, after: u32) -> Option<(Form, u32)> {
     let (rd, rj) = (31, 31 << 5);
     match name {
         // into another register than the high part's
-        "R_LARCH_TLS_IE_PC_LO12" | "R_LARCH_TLS_DESC_PC_LO12" => {
+        "R_LARCH_TLS_IE_PC_LO12" => {
             if after >> 22 != 0x00e || (before ^ after) & rd != 0 {
                 return None; // not ori
             }
