@@ -1,205 +1,155 @@
--- Rewritten loads from the GOT of AArch64 are groups, and in the final bytes.
-use Rattle.std.proofs.Common.{◌≡◌, ℕ, ℤ, ◌+◌, ◌-◌, ◌≤◌, length, drop, false, cond, refl, sym, ap, subst, ◌∙◌, arith}
+-- Loads of AArch64 from the GOT, of which a sum is made, or in two phases `nop` and `adr`, are
+-- groups.
+use Rattle.std.proofs.Common.{◌≡◌, ℕ, ◌+◌, ◌-◌, ◌≤◌, length, drop, false, refl, sym, ap, subst, ◌∙◌, arith, Some}
 use Rattle.std.proofs.lemmas.Bool.{cond-false}
 use Rattle.std.specs.Prelude.{slice_get}
-use Rattle.linker_utils.specs.AArch64Rewrites.{is_ldr64, to_address, IsLdr64, AreOfOneRegister}
-use Rattle.linker_utils.specs.declared.aarch64.rewrites.RewriteKind.TheVariants as kinds
 use Rattle.linker_base.specs.Bits.{field}
-use Rattle.linker_elf.specs.AArch64Relocations.{aarch64_name, insn_row}
+use Rattle.linker_elf.specs.AArch64Relocations.{insn_row}
 use Rattle.linker_elf.specs.Choices.{entry}
-use Rattle.linker_elf.specs.ElfNames.{code_of}
-use Rattle.linker_elf.specs.Rows.{paged_row, signed_row, place_pages, entry_pages}
-use Rattle.linker_elf.specs.Value.{value_of}
-use Rattle.linker_elf.specs.declared.aarch64.forms.AArch64Instruction.TheVariants.{Adr, Add}
+use Rattle.linker_elf.specs.Rows.{entry_pages, paged_row, signed_row}
+use Rattle.linker_elf.specs.Value.{sum_64}
+use Rattle.linker_elf.specs.declared.aarch64.forms.AArch64Instruction.TheVariants.{Add, Adr}
 use Rattle.linker_elf.specs.declared.aarch64.relocations.AArch64Relocation.TheVariants as names
 use Rattle.linker_elf.specs.declared.elf.RelocationInstruction.TheVariants as insns
-use Rattle.linker_elf.specs.declared.elf.RelocationKind.TheVariants.{Relative, AbsoluteLowPart, GotRelative}
+use Rattle.linker_elf.specs.declared.elf.RelocationKind.TheVariants.{AbsoluteLowPart, GotRelative}
 use Rattle.linker_elf.specs.declared.elf.RelocationKindInfo.{RelocationKindInfo}
+use Rattle.linker_elf.specs.declared.elf.architecture.Architecture.TheVariants.{AArch64}
 use Rattle.linker_elf.specs.declared.elf.value.Operands.{Operands}
-use Rattle.linker_final.proofs.AArch64Chosen.{IsOfEntry, of_entry}
-use Rattle.linker_final.specs.AArch64Anywhere.{AreAppliedAt, GotLoadsAnywhere, IsAppliedAt, IsNamedAs}
-use Rattle.linker_final.specs.AArch64Final.{AreOfLoad, GotLoads, LoadIsAlike}
-use Rattle.linker_final.specs.Final.{AreRewritten, Linked, IsRewrittenByNoOther, instruction_at}
-use Rattle.linker_laws.specs.AArch64RewriteLaws.{IsRelocated, IsRewritten, following, with_entry, word_of}
-use Rattle.linker_laws.specs.AArch64Groups.{Groups}
+use Rattle.linker_final.proofs.AArch64Addresses.{adr_there, made_two, nop_there, page_row}
+use Rattle.linker_final.proofs.AArch64Written.{IsAfter, IsNew, IsOfEntry, after, becomes, has_after, named_after, of_bits, of_entry, of_part, place_of, same_value}
+use Rattle.linker_final.proofs.Written.{are_rewritten, first_same, stays, word_same}
+use Rattle.linker_final.specs.AArch64Runs.{ComesTo, IsRewrittenAgain, object, register}
+use Rattle.linker_final.specs.AArch64Section.{IsRewrittenOf, Section, offset_of}
+use Rattle.linker_final.specs.Final.{IsRewrittenByNoOther, Linked, UntouchedInstructions, instruction_at, two_at}
+use Rattle.linker_laws.specs.AArch64Groups.{Code, Groups, Has, Leaves, seen}
+use Rattle.linker_laws.specs.AArch64Machine.{load_64}
+use Rattle.linker_laws.specs.AArch64RewriteLaws.{IsPair, following, word_of}
+use Rattle.linker_laws.specs.Schemes.{symbol_address}
+use Rattle.linker_laws.specs.Simulation.{Kinds, State}
+use Rattle.linker_rewriting.specs.Rewritten.{IsLoadRewritten}
 use Rattle.linker_section.specs.Relocations.{relocation_in}
 use Rattle.linker_section.specs.Values.{operands_with}
-use Rattle.linker_section.specs.declared.facts.Addresses.{Addresses}
-use Rattle.linker_section.specs.declared.facts.Symbol.{Symbol}
 use Rattle.linker_section.specs.declared.relocations.Rela.{Rela}
+use Rattle.linker_utils.specs.AArch64Rewrites.{AArch64Entry, AreOfOneRegister, IsLdr64, is_ldr64, to_address}
 use Rattle.linker_utils.specs.Relaxations.{relaxation_rewrite}
-use Rattle.linker_elf.specs.declared.elf.architecture.Architecture.TheVariants.{AArch64}
-use Rattle.linker_final.proofs.AArch64Written.{IsAfter, applied_so, applied_there, becomes, named_after}
-use Rattle.linker_final.proofs.Written.{are_rewritten, rela, stays, word_same}
+use Rattle.linker_utils.specs.declared.aarch64.rewrites.RewriteKind.TheVariants as kinds
 
--- ---- rows
-
-abbrev pub got_row : RelocationKindInfo
+abbrev got_row : RelocationKindInfo
 got_row = paged_row entry_pages (signed_row 33 (insn_row GotRelative 12 33 Adr))
 
-abbrev pub page_after : IsAfter names.R_AARCH64_ADR_PREL_PG_HI21
+abbrev page_after : IsAfter names.R_AARCH64_ADR_PREL_PG_HI21
 page_after =
-    record {
-      row = paged_row place_pages (signed_row 33 (insn_row Relative 12 33 Adr));
-      is = refl;
-      named = tt;
-      of = record {
-        bits = record { start = 12; end = 33 };
-        insn = insns.AArch64 Adr;
-        size = refl;
-        wide = refl;
-        valued = refl;
-        unlabelled = refl;
-        alone = refl;
-        some = λ o. tt;
-      };
-    }
+    of_bits names.R_AARCH64_ADR_PREL_PG_HI21 page_row (record { start = 12; end = 33 }) (insns.AArch64 Adr)
+    refl tt refl refl refl refl refl (λ o. tt)
 
-abbrev pub low_after : IsAfter names.R_AARCH64_ADD_ABS_LO12_NC
+abbrev low_row : RelocationKindInfo
+low_row = insn_row AbsoluteLowPart 0 12 Add
+
+abbrev low_after : IsAfter names.R_AARCH64_ADD_ABS_LO12_NC
 low_after =
-    record {
-      row = insn_row AbsoluteLowPart 0 12 Add;
-      is = refl;
-      named = tt;
-      of = record {
-        bits = record { start = 0; end = 12 };
-        insn = insns.AArch64 Add;
-        size = refl;
-        wide = refl;
-        valued = refl;
-        unlabelled = refl;
-        alone = refl;
-        some = λ o. tt;
-      };
-    }
+    of_bits names.R_AARCH64_ADD_ABS_LO12_NC low_row (record { start = 0; end = 12 }) (insns.AArch64 Add)
+    refl tt refl refl refl refl refl (λ o. tt)
 
--- ---- the operands of a pair
+abbrev page_kept : AArch64Entry
+page_kept = entry kinds.NoOp names.R_AARCH64_ADR_PREL_PG_HI21 (to_address 0)
 
-module _ (addresses : Addresses) (symbol : Symbol) (is_there : symbol.is_undefined_weak ≡ false)
-    (r : Rela) (code entry : ℕ) where
-  -- S of a symbol that isn't an undefined weak one
-  there : (weak : ℕ) → cond symbol.is_undefined_weak weak symbol.address ≡ symbol.address
-  there weak = cond-false symbol.is_undefined_weak weak symbol.address is_there
+abbrev to_add : AArch64Entry
+to_add = entry kinds.LdrToAdd names.R_AARCH64_ADD_ABS_LO12_NC (to_address 4)
 
-  abbrev was : Operands
-  was = operands_with AArch64 addresses got_row symbol r entry
+module _ (laws : Groups) {l : Linked} {c : Code} (new : IsNew l c) (i : ℕ)
+    (of : IsLoadRewritten l.relocations l.decisions i) (alone : IsRewrittenByNoOther l i (offset_of l i)) where
+  abbrev page_of : IsRewrittenOf l names.R_AARCH64_ADR_GOT_PAGE i
+  page_of = of_part l i 0 i names.R_AARCH64_ADR_GOT_PAGE kinds.NoOp of.page of.page_decided
 
-  abbrev page_operands : Operands
-  page_operands = operands_with AArch64 addresses page_after.row symbol (rela r.offset code r.symbol r.addend) 0
+  abbrev low_of : IsRewrittenOf l names.R_AARCH64_LD64_GOT_LO12_NC (i + 1)
+  low_of = of_part l i 4 (i + 1) names.R_AARCH64_LD64_GOT_LO12_NC kinds.LdrToAdd of.low of.low_decided
 
-  abbrev low_operands : Operands
-  low_operands = operands_with AArch64 addresses low_after.row symbol (rela r.offset code r.symbol r.addend) 0
+  page_entry : IsOfEntry names.R_AARCH64_ADR_GOT_PAGE page_kept l.section (offset_of l i) page_of.chosen
+  page_entry = of_entry new names.R_AARCH64_ADR_GOT_PAGE i page_of tt page_kept refl
 
-  pub page_value : value_of page_after.row was ≡ value_of page_after.row page_operands
-  page_value =
-      ap (λ x. value_of page_after.row (record was { symbol = x })) (there _ ∙ sym (there _))
+  low_entry : IsOfEntry names.R_AARCH64_LD64_GOT_LO12_NC to_add l.section (offset_of l (i + 1)) low_of.chosen
+  low_entry = of_entry new names.R_AARCH64_LD64_GOT_LO12_NC (i + 1) low_of tt to_add refl
 
-  pub low_value : (offset : ℕ) (addend : ℤ) → addend ≡ r.addend
-      → value_of low_after.row (following 4 was)
-      ≡ value_of low_after.row (operands_with AArch64 addresses low_after.row symbol (rela offset code r.symbol addend) 0)
-  low_value offset addend same =
-      ap (λ x. value_of low_after.row (record was { symbol = x })) (there _ ∙ sym (there _))
-      ∙ ap (λ x. value_of low_after.row (record low_operands { addend = x })) (sym same)
+  low_inside : offset_of l (i + 1) + 4 ≤ length l.section
+  low_inside = low_entry.meant.pattern.1.1.0
 
--- ---- a pair
+  page_inside : offset_of l i + 4 ≤ length l.section
+  page_inside = let next = of.low.offset in let inside = low_inside in omega (arith, next, inside)
 
-module _ (laws : Groups) (l : Linked) (rewriting : AreRewritten l) (aarch64 : l.context.architecture ≡ AArch64)
-    (i j : ℕ) (of : AreOfLoad l i j) (alone : IsRewrittenByNoOther l i (relocation_in l.relocations i).offset) where
-  abbrev first : Rela
-  first = relocation_in l.relocations i
-
-  abbrev second : Rela
-  second = relocation_in l.relocations j
-
-  page_entry : IsOfEntry names.R_AARCH64_ADR_GOT_PAGE (entry kinds.NoOp names.R_AARCH64_ADR_PREL_PG_HI21 (to_address 0)) l.section first.offset of.page_chosen
-  page_entry =
-      of_entry l rewriting aarch64 i of.page_chosen of.together.first_below of.page_decided names.R_AARCH64_ADR_GOT_PAGE tt of.page
-      (entry kinds.NoOp names.R_AARCH64_ADR_PREL_PG_HI21 (to_address 0)) refl
-
-  low_entry : IsOfEntry names.R_AARCH64_LD64_GOT_LO12_NC (entry kinds.LdrToAdd names.R_AARCH64_ADD_ABS_LO12_NC (to_address 4)) l.section second.offset of.low_chosen
-  low_entry =
-      of_entry l rewriting aarch64 j of.low_chosen of.together.second_below of.low_decided names.R_AARCH64_LD64_GOT_LO12_NC tt of.low
-      (entry kinds.LdrToAdd names.R_AARCH64_ADD_ABS_LO12_NC (to_address 4)) refl
-
-  page_named : IsNamedAs names.R_AARCH64_ADR_PREL_PG_HI21 l i
-  page_named =
-      named_after l rewriting i of.page_chosen of.together.first_below of.page_decided
-      (entry kinds.NoOp names.R_AARCH64_ADR_PREL_PG_HI21 (to_address 0)) page_entry.kind_is page_entry.code_is (λ o. refl) (λ a. refl)
-
-  low_named : IsNamedAs names.R_AARCH64_ADD_ABS_LO12_NC l j
-  low_named =
-      named_after l rewriting j of.low_chosen of.together.second_below of.low_decided
-      (entry kinds.LdrToAdd names.R_AARCH64_ADD_ABS_LO12_NC (to_address 4)) low_entry.kind_is low_entry.code_is (λ o. refl) (λ a. refl)
-
-  pub inside : second.offset + 4 ≤ length l.section
-  inside = low_entry.meant.pattern.1.1.0
-
-  -- the instructions of the pair
-  pub is_ldr : IsLdr64 (word_of (instruction_at l.section (first.offset + 4)))
-  is_ldr =
-      subst IsLdr64 (word_same l.section (first.offset + 4))
-      (subst (λ n. IsLdr64 (word_of (drop n l.section))) of.together.next (low_entry.meant.pattern.1.1.1.0))
-
-  pub one_register : AreOfOneRegister (word_of (instruction_at l.section first.offset))
-      (word_of (instruction_at l.section (first.offset + 4)))
-  one_register =
-      let o = first.offset in
-      let next = of.together.next in
-      let back : second.offset - 4 ≡ o = omega (arith, next) in
-      let one : AreOfOneRegister (word_of (drop o l.section)) (word_of (drop (o + 4) l.section)) =
-      subst (λ n. AreOfOneRegister (word_of (drop n l.section)) (word_of (drop (o + 4) l.section))) back
-      (subst (λ n. AreOfOneRegister (word_of (drop (second.offset - 4) l.section)) (word_of (drop n l.section))) next (low_entry.meant.pattern.1.1.1.1)) in
-      subst (λ x. AreOfOneRegister x (word_of (instruction_at l.section (o + 4)))) (word_same l.section o)
-      (subst (λ x. AreOfOneRegister (word_of (drop o l.section)) x) (word_same l.section (o + 4)) one)
-
-  pub stayed : instruction_at l.rewritten first.offset ≡ instruction_at l.section first.offset
+  stayed : instruction_at l.rewritten (offset_of l i) ≡ object l i
   stayed =
-      let within = inside in
-      let next = of.together.next in
-      stays l rewriting i of.page_chosen of.together.first_below of.page_decided (ap relaxation_rewrite page_entry.kind_is) alone (omega (arith, within, next))
+      stays l (are_rewritten l new.linked) i page_of.chosen page_of.below page_of.decided (ap relaxation_rewrite page_entry.kind_is) alone page_inside
 
-  wherever : (w : Operands)
-      → AreAppliedAt names.R_AARCH64_ADR_PREL_PG_HI21 names.R_AARCH64_ADD_ABS_LO12_NC w l first.offset
-      → LoadIsAlike l i w
-  wherever w applied c k s small holds at of_entry_page of_entry_low here after =
-      let o = first.offset in
-      let page_written : IsRelocated names.R_AARCH64_ADR_PREL_PG_HI21 w (instruction_at l.section o) (instruction_at l.final o) =
-      subst (λ xs. IsRelocated names.R_AARCH64_ADR_PREL_PG_HI21 w xs (instruction_at l.final o)) stayed
-      (applied_so names.R_AARCH64_ADR_PREL_PG_HI21 page_after (with_entry applied.entry w) w (instruction_at l.rewritten o) (instruction_at l.final o) refl applied.first_is) in
-      let low_written : IsRelocated names.R_AARCH64_ADD_ABS_LO12_NC (following 4 w) (instruction_at l.rewritten (o + 4)) (instruction_at l.final (o + 4)) =
-      applied_so names.R_AARCH64_ADD_ABS_LO12_NC low_after (following 4 (with_entry applied.entry w)) (following 4 w) (instruction_at l.rewritten (o + 4)) (instruction_at l.final (o + 4)) refl applied.second_is in
-      let added : IsRewritten kinds.LdrToAdd (instruction_at l.section (o + 4)) (instruction_at l.rewritten (o + 4)) =
-      subst (λ n. IsRewritten kinds.LdrToAdd (instruction_at l.section n) (instruction_at l.rewritten n)) of.together.next
-      (becomes l rewriting j of.low_chosen of.together.second_below of.low_decided kinds.LdrToAdd is_ldr64 (λ word. 0x91000000 + field word 0 21) refl low_entry.kind_is) in
-      laws.loads c w k s (instruction_at l.section o) (instruction_at l.section (o + 4)) (instruction_at l.rewritten (o + 4))
-      (record { small = small; at = at; one_register = one_register; second_is = is_ldr }) holds added of_entry_page of_entry_low
-      (record { relocated = instruction_at l.final o; applied = page_written; stands = here })
-      (record { relocated = instruction_at l.final (o + 4); applied = low_written; stands = after })
+  module _ (k : Kinds) (s : State) (o : Operands) (at : ComesTo l s names.R_AARCH64_ADR_GOT_PAGE i o)
+      (defined : at.symbol.is_undefined_weak ≡ false) (holds : load_64 s.memory o.got_entry ≡ symbol_address o)
+      (page : Has c.old names.R_AARCH64_ADR_GOT_PAGE o (object l i))
+      (low : Has c.old names.R_AARCH64_LD64_GOT_LO12_NC (following 4 o) (object l (i + 1))) where
+    are : o ≡ operands_with AArch64 l.addresses got_row at.symbol (relocation_in l.relocations i) o.got_entry
+    are = at.are
 
-pub got_loads_anywhere : Groups → GotLoadsAnywhere
-got_loads_anywhere laws l rewriting aarch64 i j of alone = (
-  page_named laws l rewriting aarch64 i j of alone,
-  low_named laws l rewriting aarch64 i j of alone,
-  wherever laws l rewriting aarch64 i j of alone,
-)
+    place : o.place ≡ sum_64 l.addresses.section (offset_of l i)
+    place = ap (λ (x : Operands). x.place) are
 
--- ---- in the final bytes
+    symbol_is : o.symbol ≡ at.symbol.address
+    symbol_is = ap (λ (x : Operands). x.symbol) are ∙ cond-false at.symbol.is_undefined_weak _ at.symbol.address defined
 
-pub joined : Groups → GotLoads
-joined laws l linked aarch64 i j of left alone symbol is_symbol is_there got =
-    let r = relocation_in l.relocations i in
-    let q = relocation_in l.relocations j in
-    let any = got_loads_anywhere laws l (are_rewritten l linked) aarch64 i j of alone in
-    let w = operands_with AArch64 l.addresses got_row symbol r got in
-    any.2 w
-    (record {
-      entry = got;
-      first_is =
-          applied_there l linked aarch64 i of.together.first_below names.R_AARCH64_ADR_PREL_PG_HI21 page_after (any.0) (left.0) symbol is_symbol 0 refl
-          (with_entry got w) (page_value l.addresses symbol is_there r (code_of (aarch64_name names.R_AARCH64_ADR_PREL_PG_HI21)) got);
-      second_is =
-          subst (IsAppliedAt names.R_AARCH64_ADD_ABS_LO12_NC (following 4 (with_entry got w)) l) of.together.next
-          (applied_there l linked aarch64 j of.together.second_below names.R_AARCH64_ADD_ABS_LO12_NC low_after (any.1) (left.1) symbol
-          (ap (slice_get l.symbols) of.together.same_symbol ∙ is_symbol) 0 refl (following 4 (with_entry got w))
-          (low_value l.addresses symbol is_there r (code_of (aarch64_name names.R_AARCH64_ADD_ABS_LO12_NC)) got q.offset q.addend of.together.same_addend));
-    })
+    addend_is : o.addend ≡ (relocation_in l.relocations i).addend
+    addend_is = ap (λ (x : Operands). x.addend) are
+
+    together : IsPair IsLdr64 o (seen s) (object l i) (object l (i + 1))
+    together =
+        let next = of.low.offset in
+        let back : offset_of l (i + 1) - 4 ≡ offset_of l i = omega (arith, next) in
+        let second = word_same l.section (offset_of l (i + 1)) in
+        record {
+          small = at.small;
+          at = at.pc;
+          one_register =
+              subst (λ x. AreOfOneRegister x (word_of (object l (i + 1))))
+              (ap (λ n. word_of (drop n l.section)) back ∙ word_same l.section (offset_of l i))
+              (subst (AreOfOneRegister (word_of (drop (offset_of l (i + 1) - 4) l.section))) second (low_entry.meant.pattern.1.1.1.1));
+          second_is = subst IsLdr64 second (low_entry.meant.pattern.1.1.1.0);
+        }
+
+    -- in one phase
+    pub load_is_group : UntouchedInstructions l i (i + 1)
+        → Leaves 2 c o k s (register (object l (i + 1))) (symbol_address o)
+    load_is_group left =
+        let next = place_of l i (i + 1) 4 o place of.low.offset in
+        laws.loads c o k s (object l i) (object l (i + 1)) (instruction_at l.rewritten (offset_of l (i + 1))) together holds
+        (becomes new names.R_AARCH64_LD64_GOT_LO12_NC (i + 1) low_of kinds.LdrToAdd is_ldr64 (λ word. 0x91000000 + field word 0 21) refl low_entry.kind_is)
+        page low
+        (subst (Has c.new names.R_AARCH64_ADR_PREL_PG_HI21 o) stayed
+        (has_after new names.R_AARCH64_ADR_GOT_PAGE i page_of page_kept page_entry (λ o. refl) (λ a. refl) page_after (left.0)
+        at.symbol at.is_symbol 0 refl o
+        (same_value page_row (λ w v. refl) o
+        (operands_with AArch64 l.addresses page_row at.symbol (after l i names.R_AARCH64_ADR_PREL_PG_HI21) 0)
+        (symbol_is ∙ sym (cond-false at.symbol.is_undefined_weak _ at.symbol.address defined)) addend_is place)
+        place page_inside))
+        (has_after new names.R_AARCH64_LD64_GOT_LO12_NC (i + 1) low_of to_add low_entry (λ o. refl) (λ a. refl) low_after (left.1)
+        at.symbol (ap (slice_get l.symbols) of.low.symbol ∙ at.is_symbol) 0 refl (following 4 o)
+        (same_value low_row (λ w v. refl) (following 4 o)
+        (operands_with AArch64 l.addresses low_row at.symbol (after l (i + 1) names.R_AARCH64_ADD_ABS_LO12_NC) 0)
+        (symbol_is ∙ sym (cond-false at.symbol.is_undefined_weak _ at.symbol.address defined)) (addend_is ∙ sym of.low.addend) next)
+        next low_inside)
+
+    -- in two
+    pub load_again_is_group : (x : Section) (w : IsRewrittenAgain x l i) (in_again : IsNew w.again c)
+        → w.again.addresses ≡ l.addresses → w.again.symbols ≡ l.symbols
+        → Leaves 2 c o k s (register (object l (i + 1))) (symbol_address o)
+    load_again_is_group x w in_again same_addresses same_symbols =
+        let m = w.again in
+        let named : relocation_in m.relocations i ≡ relocation_in l.relocations_after i = w.relocation in
+        let was = named ∙ named_after new names.R_AARCH64_ADR_GOT_PAGE i page_of page_kept page_entry (λ o. refl) (λ a. refl) in
+        let there : offset_of m i ≡ offset_of l i = ap (λ (r : Rela). r.offset) was in
+        let here : o.place ≡ sum_64 m.addresses.section (offset_of m i) =
+        place ∙ (ap (sum_64 l.addresses.section) (sym there) ∙ ap (λ a. sum_64 a.section (offset_of m i)) (sym same_addresses)) in
+        laws.load_to_nop_and_adr c o k s (object l i) (object l (i + 1)) (two_at m.section (offset_of m i)) (two_at m.rewritten (offset_of m i)) together holds
+        (ap (λ n. word_of (two_at m.section n)) there
+        ∙ (ap word_of w.bytes ∙ (first_same l.rewritten (offset_of l i) ∙ ap word_of stayed)))
+        (made_two in_again i w.address) page low
+        (nop_there in_again i w.address w.untouched w.alone o here)
+        (adr_there in_again i w.address w.untouched w.alone o here at.symbol
+        (ap (λ symbols. slice_get symbols (relocation_in m.relocations i).symbol) same_symbols
+        ∙ (ap (λ (r : Rela). slice_get l.symbols r.symbol) was ∙ at.is_symbol))
+        defined symbol_is (addend_is ∙ sym (ap (λ (r : Rela). r.addend) was)))

@@ -1,47 +1,35 @@
 -- What stands at each place of a section of AArch64, and runs of its code.
 use Rattle.std.proofs.Common.{◌≡◌, ◌≢◌, ℕ, zero, suc, ◌+◌, ◌-◌, ◌*◌, ◌<◌, ◌≤◌, ◌⊎◌, inl, inr, List, [], ◌∷◌, length, ap, sym, subst, ◌∙◌, arith, refl, Bool, true, false}
-use Rattle.std.proofs.lemmas.Bool.{cases_eq, cases_lt}
-use Rattle.std.specs.Prelude.{IsSomeAnd, slice_get, ⊤}
+use Rattle.std.proofs.lemmas.Bool.{cases_eq, cases_lt, eq-eqb}
 use Rattle.linker_elf.specs.AArch64Relocations.{aarch64_name}
 use Rattle.linker_elf.specs.ElfNames.{IsNameOf}
-use Rattle.linker_elf.specs.Value.{sum_64}
 use Rattle.linker_elf.specs.declared.aarch64.relocations.AArch64Relocation.{AArch64Relocation}
 use Rattle.linker_elf.specs.declared.aarch64.relocations.AArch64Relocation.TheVariants as names
 use Rattle.linker_elf.specs.declared.elf.architecture.Architecture.TheVariants.{AArch64}
 use Rattle.linker_elf.specs.declared.elf.value.Operands.{Operands}
-use Rattle.linker_final.proofs.AArch64Addresses.{addresses, by}
-use Rattle.linker_final.proofs.AArch64Alone.{branches, high_halves, low_halves}
-use Rattle.linker_final.proofs.AArch64Chosen.{of_one}
-use Rattle.linker_final.proofs.AArch64Descriptors.{call_gone, descriptors, fourth_at}
-use Rattle.linker_final.proofs.AArch64Loads.{inside as load_inside, joined}
-use Rattle.linker_final.proofs.AArch64Twice.{final_loads_twice}
-use Rattle.linker_final.proofs.Phases.{last_length}
-use Rattle.linker_final.proofs.Written.{are_rewritten}
-use Rattle.linker_final.specs.AArch64Final.{AddressIsAlike, AreOfAddress, AreOfDescriptor, AreOfLoad, BranchDoesTheSame, BranchIsAlike, ForOperands, HighIsAlike, LoadIsAlike, LoadsOffset, LoadsTheSame, LowIsAlike, MakesTheSame, HoldsOffset, OffsetIsAlike, OffsetIsTheSame}
-use Rattle.linker_final.specs.AArch64Runs.{Begins, ComesTo, IsFollowed, IsLoad, Known, Knows, RewritesAreGroups, RunsAreFollowed, at_address, at_call, at_high, at_initial, at_jump, at_load, at_local, at_low, elsewhere, other, rewritten, twice}
-use Rattle.linker_final.specs.AArch64Section.{AreCalled, EachPlace, IsLinkOf, IsPhase, IsPhaseIn, IsUnchangedIn, Place, Rewrites, Section, address, begins, call, high, jump, load, low, offset_of, span, to_initial, to_local, unchanged, within}
-use Rattle.linker_final.specs.AArch64Twice.{FinalBytesLoadTheSame, IsRewrittenTwice}
-use Rattle.linker_final.specs.Final.{AreLinked, IsLinked, IsWrittenByNoOther, Linked, RewritingPhase, UntouchedInstructions, count, instruction_at, linked_by}
-use Rattle.linker_laws.specs.AArch64Groups.{Code, Groups, Leaves, Stands, go_and_link, link}
-use Rattle.linker_laws.specs.AArch64RewriteLaws.{following, thread_offset, word_of}
+use Rattle.linker_final.proofs.AArch64Addresses.{address_is_group}
+use Rattle.linker_final.proofs.AArch64Alone.{branch_is_group, high_is_group, low_is_group}
+use Rattle.linker_final.proofs.AArch64Descriptors.{initial_is_group, local_is_group}
+use Rattle.linker_final.proofs.AArch64Loads.{load_again_is_group, load_is_group}
+use Rattle.linker_final.proofs.AArch64Written.{IsNew}
+use Rattle.linker_final.specs.AArch64Runs.{Begins, IsFollowed, Known, Knows, RewritesAreGroups, RunsAreFollowed, at_address, at_call, at_high, at_initial, at_jump, at_load, at_local, at_low, elsewhere, other, rewritten}
+use Rattle.linker_final.specs.AArch64Section.{AreCalled, EachPlace, HasFinal, IsLinkOf, IsPhase, IsPhaseIn, IsUnchangedIn, Place, Rewrites, Section, address, begins, call, high, jump, load, low, offset_of, span, to_initial, to_local, unchanged, within}
+use Rattle.linker_final.specs.Final.{AreLinked, IsLinked, Linked, RewritingPhase, count, linked_by}
+use Rattle.linker_laws.specs.AArch64Groups.{Code, Groups, go_and_link, link}
+use Rattle.linker_laws.specs.AArch64Machine.{is_b, is_bl}
 use Rattle.linker_laws.specs.Changes.{go_to, with_register}
 use Rattle.linker_laws.specs.Machine.{loaded}
-use Rattle.linker_laws.specs.Schemes.{symbol_address}
 use Rattle.linker_laws.specs.Simulation.{Comparison, Group, Kinds, Next, Simulates, State, anything, by_group, by_other, of_link, stopping, uncovered}
 use Rattle.linker_rewriting.proofs.AArch64Sequences.{in_phase, of_group, of_option, scope_there, sequences_are_whole}
 use Rattle.linker_rewriting.specs.Decisions.{decision_at}
 use Rattle.linker_rewriting.specs.Groups.{group_stays}
-use Rattle.linker_rewriting.specs.Rewritten.{IsAddressRewritten, IsDescriptorRewritten, IsDescriptorWhole, IsLoadRewritten, IsWholeBy}
+use Rattle.linker_rewriting.specs.Rewritten.{IsAddressRewritten, IsDescriptorWhole, IsLoadRewritten, IsWholeBy}
 use Rattle.linker_rewriting.specs.declared.decisions.Decision.{Decision}
 use Rattle.linker_rewriting.specs.declared.decisions.Decision.TheVariants.{Kept, Rewritten, Consumed, RewrittenWithSymbol}
 use Rattle.linker_rewriting.specs.declared.groups.Group.TheVariants as groups
 use Rattle.linker_rewriting.specs.declared.phases.Phase.{Phase}
 use Rattle.linker_rewriting.specs.declared.phases.Phase.TheVariants as phases
 use Rattle.linker_section.specs.Relocations.{relocation_in}
-use Rattle.linker_section.specs.Values.{operands_with}
-use Rattle.linker_utils.specs.AArch64Rewrites.{rd_of}
-use Rattle.linker_utils.specs.declared.aarch64.rewrites.RewriteKind.{RewriteKind}
-use Rattle.linker_utils.specs.declared.aarch64.rewrites.RewriteKind.TheVariants as kinds
 
 kept_or_not : (d : Decision) → (d ≡ Kept) ⊎ (d ≢ Kept)
 kept_or_not Kept = inl refl
@@ -59,85 +47,6 @@ module _ (l : Linked) (linked : IsLinked l) (aarch64 : l.context.architecture �
     pub less : n < (span l g).1
     pub is : offset_of l i ≡ (span l g).0 + 4 * n
 
-  load_of : (first : ℕ) → IsLoadRewritten l.relocations l.decisions first → AreOfLoad l first (first + 1)
-  load_of first w =
-      record {
-        together = record {
-          first_below = w.page.below;
-          second_below = w.low.below;
-          next = w.low.offset;
-          same_symbol = w.low.symbol;
-          same_addend = w.low.addend;
-        };
-        page = w.page.is_name;
-        low = w.low.is_name;
-        page_chosen = w.page_decided.chosen;
-        page_decided = w.page_decided.decided;
-        low_chosen = w.low_decided.chosen;
-        low_decided = w.low_decided.decided;
-      }
-
-  address_by : (first : ℕ) → IsAddressRewritten l.relocations l.decisions first → AreOfAddress l first (first + 1)
-  address_by first w =
-      record {
-        together = record {
-          first_below = w.page.below;
-          second_below = w.low.below;
-          next = w.low.offset;
-          same_symbol = w.low.symbol;
-          same_addend = w.low.addend;
-        };
-        low = w.low.is_name;
-        page_decided = w.page_decided;
-        low_chosen = w.low_decided.chosen;
-        low_decided = w.low_decided.decided;
-      }
-
-  descriptor_of : (highs lows : RewriteKind) (first : ℕ)
-      → IsDescriptorRewritten highs lows l.relocations l.decisions first
-      → AreOfDescriptor l highs lows first (first + 1) (first + 2) (first + 3)
-  descriptor_of highs lows first w =
-      let a = w.load.offset in
-      let b = w.add.offset in
-      let c = w.call.offset in
-      record {
-        first = record {
-          first_below = w.page.below;
-          second_below = w.load.below;
-          next = a;
-          same_symbol = w.load.symbol;
-          same_addend = w.load.addend;
-        };
-        second = record {
-          first_below = w.load.below;
-          second_below = w.add.below;
-          next = omega (arith, a, b);
-          same_symbol = w.add.symbol ∙ sym w.load.symbol;
-          same_addend = w.add.addend ∙ sym w.load.addend;
-        };
-        third = record {
-          first_below = w.add.below;
-          second_below = w.call.below;
-          next = omega (arith, b, c);
-          same_symbol = w.call.symbol ∙ sym w.add.symbol;
-          same_addend = w.call.addend ∙ sym w.add.addend;
-        };
-        page = w.page.is_name;
-        load = w.load.is_name;
-        add = w.add.is_name;
-        call = w.call.is_name;
-        page_chosen = w.page_decided.chosen;
-        page_decided = w.page_decided.decided;
-        page_kind = w.page_decided.kind_is;
-        load_chosen = w.load_decided.chosen;
-        load_decided = w.load_decided.decided;
-        load_kind = w.load_decided.kind_is;
-        add_chosen = w.add_decided.chosen;
-        add_decided = w.add_decided.decided;
-        call_chosen = w.call_decided.chosen;
-        call_decided = w.call_decided.decided;
-      }
-
   -- the offset of a relocation of a sequence
   offset_in : (i first place : ℕ) → first + place ≡ i
       → offset_of l (first + place) ≡ offset_of l first + 4 * place
@@ -149,14 +58,14 @@ module _ (l : Linked) (linked : IsLinked l) (aarch64 : l.context.architecture �
       → IsDescriptorWhole l.relocations l.decisions first → IsIn i
   in_descriptor i first place e less is (inl w) =
       record {
-        g = to_local first (first + 1) (first + 2) (first + 3) (descriptor_of kinds.MovzX0Lsl16 kinds.MovkX0 first w);
+        g = to_local first w;
         n = place;
         less = less;
         is = offset_in i first place e is;
       }
   in_descriptor i first place e less is (inr w) =
       record {
-        g = to_initial first (first + 1) (first + 2) (first + 3) (descriptor_of kinds.AdrpX0 kinds.LdrX0 first w);
+        g = to_initial first w;
         n = place;
         less = less;
         is = offset_in i first place e is;
@@ -184,13 +93,13 @@ module _ (l : Linked) (linked : IsLinked l) (aarch64 : l.context.architecture �
       → offset_of l (first + place) ≡ offset_of l first + 4 * place
       → IsLoadRewritten l.relocations l.decisions first → IsIn i
   in_load i first place e less is w =
-      record { g = load first (first + 1) (load_of first w); n = place; less = less; is = offset_in i first place e is }
+      record { g = load first w; n = place; less = less; is = offset_in i first place e is }
 
   in_address : (i first place : ℕ) → first + place ≡ i → place < 2
       → offset_of l (first + place) ≡ offset_of l first + 4 * place
       → IsAddressRewritten l.relocations l.decisions first → IsIn i
   in_address i first place e less is w =
-      record { g = address first (first + 1) (address_by first w); n = place; less = less; is = offset_in i first place e is }
+      record { g = address first w; n = place; less = less; is = offset_in i first place e is }
 
   -- by the phase and the name
   early_in : (i : ℕ) → i < count l → decision_at l.decisions i ≢ Kept → l.context.phase ≡ phases.PreLayout
@@ -431,174 +340,46 @@ is_covered c k s (by_group n k' s' step) = true
 is_covered c k s (stopping stops) = true
 is_covered c k s uncovered = false
 
--- new has the final bytes, in terms of a phase
-abbrev HasFinal : Linked → Code → Type 0
-HasFinal l c =
-    (at : ℕ) → at + 4 ≤ length l.final
-    → loaded 4 c.new (sum_64 l.addresses.section at) ≡ word_of (instruction_at l.final at)
+module _ (laws : Groups) (x : Section) (called : AreCalled x) (c : Code)
+    (final : HasFinal x.addresses x.final c) where
+  is_new : (l : Linked) → IsPhase x l → IsNew l c
+  is_new l is =
+      let of = is_of x.phases x l is in
+      record {
+        linked = is_linked x called l is;
+        aarch64 = called.aarch64 l is;
+        final =
+            subst (λ xs. HasFinal l.addresses xs c) (sym of.final)
+            (subst (λ a. HasFinal a x.final c) (sym of.addresses) final);
+      }
 
-module _ (laws : Groups) (l : Linked) (linked : IsLinked l) (aarch64 : l.context.architecture ≡ AArch64)
-    (c : Code) (has_final : HasFinal l c) where
-  final_length : length l.final ≡ length l.section
-  final_length = linked.written.same_length ∙ (last_length l linked ∙ linked.same_length)
-
-  place_is : (s : State) (name : AArch64Relocation) (i : ℕ) (o : Operands) → ComesTo l s name i o
-      → o.place ≡ sum_64 l.addresses.section (offset_of l i)
-  place_is s name i o at = ap (λ (x : Operands). x.place) at.are
-
-  first_stands : (o : Operands) (i : ℕ) → o.place ≡ sum_64 l.addresses.section (offset_of l i)
-      → offset_of l i + 4 ≤ length l.section → Stands c.new o (instruction_at l.final (offset_of l i))
-  first_stands o i at inside =
-      ap (loaded 4 c.new) at
-      ∙ has_final (offset_of l i) (subst (λ n. offset_of l i + 4 ≤ n) (sym final_length) inside)
-
-  next_stands : (n : ℕ) (o : Operands) (i : ℕ) → o.place ≡ sum_64 l.addresses.section (offset_of l i)
-      → offset_of l i + n + 4 ≤ length l.section
-      → Stands c.new (following n o) (instruction_at l.final (offset_of l i + n))
-  next_stands n o i at inside =
-      let e : sum_64 (sum_64 l.addresses.section (offset_of l i)) n ≡ sum_64 l.addresses.section (offset_of l i + n) = omega arith in
-      ap (loaded 4 c.new) (ap (λ x. sum_64 x n) at ∙ e)
-      ∙ has_final (offset_of l i + n) (subst (λ m. offset_of l i + n + 4 ≤ m) (sym final_length) inside)
-
-  group_of : (k : Kinds) (s : State) (g : Rewrites l) (k' : Kinds) (s' : State) → Begins l c k s g k' s'
-      → Group (of_link (link c)) (span l g).1 k s k' s'
-  group_of k s g k' s' (at_load i j of o at defined left alone is_load) =
-      let law : LoadsTheSame l i at.row =
-      subst (λ x. IsSomeAnd x (LoadsTheSame l i)) at.is_row (joined laws l linked aarch64 i j of left alone) in
-      let alike : LoadIsAlike l i o =
-      subst (LoadIsAlike l i) (sym at.are) (law at.symbol at.is_symbol defined o.got_entry) in
-      let next = of.together.next in
-      let inside = load_inside laws l (are_rewritten l linked) aarch64 i j of alone in
-      let place = place_is s names.R_AARCH64_ADR_GOT_PAGE i o at in
-      alike c k s at.small is_load.entry at.pc is_load.page is_load.low
-      (first_stands o i place (omega (arith, next, inside))) (next_stands 4 o i place (omega (arith, next, inside)))
-  group_of k s g k' s' (at_address i j of o at defined none left alone high_part low_part) =
-      let law : MakesTheSame l i at.row =
-      subst (λ x. IsSomeAnd x (MakesTheSame l i)) at.is_row (addresses laws l linked aarch64 i j of left alone) in
-      let are : o ≡ operands_with AArch64 l.addresses at.row at.symbol (relocation_in l.relocations i) 0 =
-      at.are ∙ ap (operands_with AArch64 l.addresses at.row at.symbol (relocation_in l.relocations i)) none in
-      let alike : AddressIsAlike l i o = subst (AddressIsAlike l i) (sym are) (law at.symbol at.is_symbol defined) in
-      let next = of.together.next in
-      let inside = (by laws l (are_rewritten l linked) aarch64 i j of).meant.matches.1.1.0 in
-      let place = place_is s names.R_AARCH64_ADR_PREL_PG_HI21 i o at in
-      alike c k s at.small at.pc high_part low_part (first_stands o i place (omega (arith, next, inside)))
-      (next_stands 4 o i place (omega (arith, next, inside)))
-  group_of k s g k' s' (at_local i j p q of o k1 s1 at left after_left add_alone call_alone described) =
-      let law : OffsetIsTheSame l i at.row =
-      subst (λ x. IsSomeAnd x (OffsetIsTheSame l i)) at.is_row
-      ((descriptors laws).0 l linked aarch64 i j p q of left after_left add_alone call_alone) in
-      let alike : OffsetIsAlike l i o (thread_offset o) (λ c k s. ⊤) =
-      subst (λ w. OffsetIsAlike l i w (thread_offset w) (λ c k s. ⊤)) (sym at.are) (law at.symbol at.is_symbol o.got_entry) in
-      let inside = (call_gone l (are_rewritten l linked) aarch64 kinds.MovzX0Lsl16 kinds.MovkX0 i j p q of).inside in
-      let last = fourth_at l (are_rewritten l linked) aarch64 kinds.MovzX0Lsl16 kinds.MovkX0 i j p q of in
-      let place = place_is s names.R_AARCH64_TLSLE_MOVW_TPREL_G1 i o at in
-      alike c k k' s s' tt described (first_stands o i place (omega (arith, last, inside)))
-      (next_stands 4 o i place (omega (arith, last, inside))) (next_stands 8 o i place (omega (arith, last, inside)))
-      (next_stands 12 o i place (omega (arith, last, inside)))
-  group_of k s g k' s' (at_initial i j p q of o k1 s1 offset at left after_left add_alone call_alone small holds described) =
-      let law : LoadsOffset l i at.row =
-      subst (λ x. IsSomeAnd x (LoadsOffset l i)) at.is_row
-      ((descriptors laws).1 l linked aarch64 i j p q of left after_left add_alone call_alone) in
-      let alike : OffsetIsAlike l i o offset (HoldsOffset at.symbol.thread_entry offset) =
-      subst (λ w. OffsetIsAlike l i w offset (HoldsOffset at.symbol.thread_entry offset)) (sym at.are)
-      (law at.symbol at.is_symbol small o.got_entry offset) in
-      let inside = (call_gone l (are_rewritten l linked) aarch64 kinds.AdrpX0 kinds.LdrX0 i j p q of).inside in
-      let last = fourth_at l (are_rewritten l linked) aarch64 kinds.AdrpX0 kinds.LdrX0 i j p q of in
-      let place = place_is s names.R_AARCH64_TLSLE_MOVW_TPREL_G1 i o at in
-      alike c k k' s s' holds described (first_stands o i place (omega (arith, last, inside)))
-      (next_stands 4 o i place (omega (arith, last, inside))) (next_stands 8 o i place (omega (arith, last, inside)))
-      (next_stands 12 o i place (omega (arith, last, inside)))
-  group_of k s g k' s' (at_high i h of o at left entry_is offset_is not_31 of_entry) =
-      let law : ForOperands HighIsAlike l i at.row =
-      subst (λ x. IsSomeAnd x (ForOperands HighIsAlike l i)) at.is_row
-      (high_halves laws l linked aarch64 i of.chosen of.below of.is_name of.decided left) in
-      let alike : HighIsAlike l i o = subst (HighIsAlike l i) (sym at.are) (law at.symbol at.is_symbol o.got_entry) in
-      let inside : offset_of l i + 4 ≤ length l.section =
-      elim (of_one l (are_rewritten l linked) aarch64 i of.chosen of.below of.decided names.R_AARCH64_TLSIE_ADR_GOTTPREL_PAGE21 tt of.is_name) [
-        | inl this ↦ this.meant.matches.0
-        | inr nothing ↦ absurd nothing
-      ] in
-      alike c h k s at.small at.pc entry_is offset_is not_31 of_entry
-      (first_stands o i (place_is s names.R_AARCH64_TLSLE_MOVW_TPREL_G1 i o at) inside)
-  group_of k s g k' s' (at_low i h of o at left entry_is offset_is holds known has of_entry) =
-      let law : ForOperands LowIsAlike l i at.row =
-      subst (λ x. IsSomeAnd x (ForOperands LowIsAlike l i)) at.is_row
-      (low_halves laws l linked aarch64 i of.chosen of.below of.is_name of.decided left) in
-      let alike : LowIsAlike l i o = subst (LowIsAlike l i) (sym at.are) (law at.symbol at.is_symbol o.got_entry) in
-      let inside : offset_of l i + 4 ≤ length l.section =
-      elim (of_one l (are_rewritten l linked) aarch64 i of.chosen of.below of.decided names.R_AARCH64_TLSIE_LD64_GOTTPREL_LO12_NC tt of.is_name) [
-        | inl this ↦ this.meant.matches.0
-        | inr nothing ↦ absurd nothing
-      ] in
-      alike c h k s at.small at.pc entry_is offset_is holds known has of_entry
-      (first_stands o i (place_is s names.R_AARCH64_TLSLE_MOVW_TPREL_G1 i o at) inside)
-  group_of k s g k' s' (at_jump i of o at none left alone goes_on branch) =
-      let law : BranchDoesTheSame names.R_AARCH64_JUMP26 (λ k. k) go_to l i at.row =
-      subst (λ x. IsSomeAnd x (BranchDoesTheSame names.R_AARCH64_JUMP26 (λ k. k) go_to l i)) at.is_row
-      ((branches laws).0 l linked aarch64 i of.chosen of.below of.is_name of.decided left) in
-      let are : o ≡ operands_with AArch64 l.addresses at.row at.symbol (relocation_in l.relocations i) 0 =
-      at.are ∙ ap (operands_with AArch64 l.addresses at.row at.symbol (relocation_in l.relocations i)) none in
-      let alike : BranchIsAlike names.R_AARCH64_JUMP26 (λ k. k) go_to l i o =
-      subst (BranchIsAlike names.R_AARCH64_JUMP26 (λ k. k) go_to l i) (sym are) (law alone at.symbol at.is_symbol) in
-      let inside : offset_of l i + 4 ≤ length l.section =
-      elim (of_one l (are_rewritten l linked) aarch64 i of.chosen of.below of.decided names.R_AARCH64_JUMP26 tt of.is_name) [
-        | inl this ↦ this.meant.pattern.0
-        | inr nothing ↦ absurd nothing
-      ] in
-      alike c k s at.small at.pc goes_on branch (first_stands o i (place_is s names.R_AARCH64_JUMP26 i o at) inside)
-  group_of k s g k' s' (at_call i of o at none left alone goes_on branch) =
-      let known = with_register 30 anything in
-      let law : BranchDoesTheSame names.R_AARCH64_CALL26 known go_and_link l i at.row =
-      subst (λ x. IsSomeAnd x (BranchDoesTheSame names.R_AARCH64_CALL26 known go_and_link l i)) at.is_row
-      ((branches laws).1 l linked aarch64 i of.chosen of.below of.is_name of.decided left) in
-      let are : o ≡ operands_with AArch64 l.addresses at.row at.symbol (relocation_in l.relocations i) 0 =
-      at.are ∙ ap (operands_with AArch64 l.addresses at.row at.symbol (relocation_in l.relocations i)) none in
-      let alike : BranchIsAlike names.R_AARCH64_CALL26 known go_and_link l i o =
-      subst (BranchIsAlike names.R_AARCH64_CALL26 known go_and_link l i) (sym are) (law alone at.symbol at.is_symbol) in
-      let inside : offset_of l i + 4 ≤ length l.section =
-      elim (of_one l (are_rewritten l linked) aarch64 i of.chosen of.below of.decided names.R_AARCH64_CALL26 tt of.is_name) [
-        | inl this ↦ this.meant.pattern.0
-        | inr nothing ↦ absurd nothing
-      ] in
-      alike c k s at.small at.pc goes_on branch (first_stands o i (place_is s names.R_AARCH64_CALL26 i o at) inside)
+  group_of : (l : Linked) → IsPhase x l → (k : Kinds) (s : State) (g : Rewrites l) (k' : Kinds) (s' : State)
+      → Begins x l c k s g k' s' → Group (of_link (link c)) (span l g).1 k s k' s'
+  group_of l is k s g k' s' (at_load i of o at defined alone (inl left) holds page low_part) =
+      load_is_group laws (is_new l is) i of alone k s o at defined holds page low_part left
+  group_of l is k s g k' s' (at_load i of o at defined alone (inr w) holds page low_part) =
+      let here = is_of x.phases x l is in
+      let there = is_of x.phases x w.again w.is_phase in
+      load_again_is_group laws (is_new l is) i of alone k s o at defined holds page low_part x w
+      (is_new w.again w.is_phase) (there.addresses ∙ sym here.addresses) (there.symbols ∙ sym here.symbols)
+  group_of l is k s g k' s' (at_address i of o at defined left alone page low_part) =
+      address_is_group laws l c (is_new l is) i of left alone k s o at defined page low_part
+  group_of l is k s g k' s' (at_local i of o k1 s1 at left described) =
+      local_is_group laws l c (is_new l is) i of k k' s s' o at left described
+  group_of l is k s g k' s' (at_initial i of o k1 s1 offset at left small holds described) =
+      initial_is_group laws l c (is_new l is) i of k k' s s' o offset at left small holds described
+  group_of l is k s g k' s' (at_high i h of o at left entry_is offset_is not_31 has) =
+      high_is_group laws (is_new l is) i left k s o h at entry_is offset_is of not_31 has
+  group_of l is k s g k' s' (at_low i h of o at left entry_is offset_is holds known has_page has) =
+      low_is_group laws (is_new l is) i left k s o h at entry_is offset_is of holds known has_page has
+  group_of l is k s g k' s' (at_jump i of o at left alone goes_on has) =
+      branch_is_group laws (is_new l is) i left k s o names.R_AARCH64_JUMP26 tt refl is_b (λ pattern. eq-eqb _ _ (pattern.1))
+      (λ k. k) go_to (laws.branches.0) of at (ap (λ (w : Operands). w.place) at.are) alone goes_on has
+  group_of l is k s g k' s' (at_call i of o at left alone goes_on has) =
+      branch_is_group laws (is_new l is) i left k s o names.R_AARCH64_CALL26 tt refl is_bl (λ pattern. eq-eqb _ _ (pattern.1))
+      (with_register 30 anything) go_and_link (laws.branches.1) of at (ap (λ (w : Operands). w.place) at.are) alone goes_on has
 
 module _ (laws : Groups) (x : Section) (called : AreCalled x) (c : Code) (is_link : IsLinkOf x c) where
-  has_final_in : (l : Linked) → IsPhase x l → HasFinal l c
-  has_final_in l is =
-      let of = is_of x.phases x l is in
-      subst (λ xs. (at : ℕ) → at + 4 ≤ length xs → loaded 4 c.new (sum_64 l.addresses.section at) ≡ word_of (instruction_at xs at)) (sym of.final)
-      (subst (λ a. (at : ℕ) → at + 4 ≤ length x.final → loaded 4 c.new (sum_64 a.section at) ≡ word_of (instruction_at x.final at)) (sym of.addresses)
-      is_link.new)
-
-  -- a load that two phases rewrite
-  twice_of : (k : Kinds) (s : State) (l m : Linked) → IsPhase x l → IsPhase x m → (i j : ℕ)
-      → IsRewrittenTwice l m i j → UntouchedInstructions m i j → IsWrittenByNoOther m i (offset_of m i)
-      → (o : Operands) (at : ComesTo l s names.R_AARCH64_ADR_GOT_PAGE i o)
-      → at.symbol.is_undefined_weak ≡ false → IsLoad l c i o s
-      → Leaves 2 c o k s (rd_of (word_of (instruction_at l.section (offset_of l i + 4)))) (symbol_address o)
-  twice_of k s l m is_l is_m i j both left alone o at defined is_load =
-      let of = is_of x.phases x l is_l in
-      let of_m = is_of x.phases x m is_m in
-      let linked = is_linked x called l is_l in
-      let aarch64 = called.aarch64 l is_l in
-      let has_final = has_final_in l is_l in
-      let law : FinalBytesLoadTheSame l m i at.row =
-      subst (λ z. IsSomeAnd z (FinalBytesLoadTheSame l m i)) at.is_row
-      (final_loads_twice laws l m i j both (is_linked x called m is_m) left alone) in
-      let alike : LoadIsAlike (record l { final = m.final }) i o =
-      subst (LoadIsAlike (record l { final = m.final }) i)
-      (sym (at.are ∙ ap (λ a. operands_with AArch64 a at.row at.symbol (relocation_in l.relocations i) o.got_entry) (of.addresses ∙ sym of_m.addresses)))
-      (law at.symbol (ap (λ xs. slice_get xs (relocation_in l.relocations i).symbol) (of_m.symbols ∙ sym of.symbols) ∙ at.is_symbol) defined o.got_entry) in
-      let same : l.final ≡ m.final = of.final ∙ sym of_m.final in
-      let next = both.load.together.next in
-      let inside = load_inside laws l (are_rewritten l linked) aarch64 i j both.load both.alone in
-      let place = place_is laws l linked aarch64 c has_final s names.R_AARCH64_ADR_GOT_PAGE i o at in
-      alike c k s at.small is_load.entry at.pc is_load.page is_load.low
-      (subst (λ xs. Stands c.new o (instruction_at xs (offset_of l i))) same
-      (first_stands laws l linked aarch64 c has_final o i place (omega (arith, next, inside))))
-      (subst (λ xs. Stands c.new (following 4 o) (instruction_at xs (offset_of l i + 4))) same
-      (next_stands laws l linked aarch64 c has_final 4 o i place (omega (arith, next, inside))))
-
   -- what follows is known
   next_of : (k : Kinds) (s : State) → Known x c k s → Next (of_link (link c)) k s
   next_of k s (other at k' s' here in_section same goes keeps) =
@@ -606,10 +387,7 @@ module _ (laws : Groups) (x : Section) (called : AreCalled x) (c : Code) (is_lin
       (laws.others c k k' s s'
       (ap (loaded 4 c.old) here ∙ (is_link.same at in_section same ∙ sym (ap (loaded 4 c.new) here))) goes keeps)
   next_of k s (rewritten l is g k' s' is_before) =
-      by_group (span l g).1 k' s'
-      (group_of laws l (is_linked x called l is) (called.aarch64 l is) c (has_final_in l is) k s g k' s' is_before)
-  next_of k s (twice l m is_l is_m i j both left alone o at defined is_load) =
-      by_group 2 _ _ (twice_of k s l m is_l is_m i j both left alone o at defined is_load)
+      by_group (span l g).1 k' s' (group_of laws x called c is_link.new l is k s g k' s' is_before)
   next_of k s (elsewhere next) = next
 
   unknown : (k : Kinds) (s : State) (known : Known x c k s) → next_of k s known ≡ uncovered
@@ -618,8 +396,6 @@ module _ (laws : Groups) (x : Section) (called : AreCalled x) (c : Code) (is_lin
   unknown k s (other at k' s' here in_section same goes keeps) is =
       absurd (let e : true ≡ false = ap (is_covered (of_link (link c)) k s) is in cc)
   unknown k s (rewritten l phase g k' s' is_before) is =
-      absurd (let e : true ≡ false = ap (is_covered (of_link (link c)) k s) is in cc)
-  unknown k s (twice l m is_l is_m i j both left alone o at defined is_load) is =
       absurd (let e : true ≡ false = ap (is_covered (of_link (link c)) k s) is in cc)
   unknown k s (elsewhere next) is = ap elsewhere is
 
@@ -648,5 +424,4 @@ runs_are_followed laws simulates x c called is_link k s knows m =
     followed laws x called c is_link (simulates c) k s knows m
 
 pub rewrites_are_groups : Groups → RewritesAreGroups
-rewrites_are_groups laws x c called is_link l is =
-    group_of laws l (is_linked x called l is) (called.aarch64 l is) c (has_final_in laws x called c is_link l is)
+rewrites_are_groups laws x c called final = group_of laws x called c final

@@ -1,40 +1,52 @@
--- Instructions of AArch64 and their relocations in the final bytes of a section.
-use Rattle.std.proofs.Common.{◌≡◌, ℕ, ℤ, ◌+◌, ◌<◌, ◌≤◌, List, length, sym, ap, subst, ◌∙◌, refl, arith, Some, Ok, Bool, true, IsSomeAnd}
-use Rattle.std.specs.Prelude.{slice_get}
-use Rattle.linker_utils.specs.AArch64Rewrites.{AArch64Entry, aarch64_rewrite, nop, rewrites_where}
-use Rattle.linker_utils.specs.declared.aarch64.rewrites.RewriteKind.TheVariants as kinds
-use Rattle.linker_utils.specs.declared.aarch64.rewrites.RewriteKind.{RewriteKind}
+-- Rewritten instructions of AArch64 in a phase, and in code that has the final bytes.
+use Rattle.std.proofs.Common.{◌≡◌, ℕ, ℤ, ◌+◌, ◌<◌, ◌≤◌, List, [], ◌∷◌, length, sym, ap, subst, ◌∙◌, refl, arith, Option, Some, Ok, Bool, true, false, IsSomeAnd}
+use Rattle.std.specs.Prelude.{slice_get, ⊤}
 use Rattle.linker_base.specs.Rewrite.{addend_after, offset_after}
+use Rattle.linker_base.specs.declared.bit_misc.BitRange.{BitRange}
 use Rattle.linker_elf.specs.AArch64Relocations.{aarch64_name, aarch64_row}
 use Rattle.linker_elf.specs.Applied.{IsApplied}
+use Rattle.linker_elf.specs.Architectures.{IsRow}
 use Rattle.linker_elf.specs.ElfNames.{IsNamed, code_of}
+use Rattle.linker_elf.specs.Relocate.{window_len}
 use Rattle.linker_elf.specs.Rows.{bytes_row}
-use Rattle.linker_elf.specs.Value.{value_of}
+use Rattle.linker_elf.specs.Value.{sum_64, value_of}
 use Rattle.linker_elf.specs.declared.aarch64.relocations.AArch64Relocation.{AArch64Relocation}
 use Rattle.linker_elf.specs.declared.aarch64.relocations.AArch64Relocation.TheVariants as names
+use Rattle.linker_elf.specs.declared.elf.RelocationInstruction.{RelocationInstruction}
 use Rattle.linker_elf.specs.declared.elf.RelocationKind.TheVariants.{None as NoValue}
 use Rattle.linker_elf.specs.declared.elf.RelocationKindInfo.{RelocationKindInfo}
+use Rattle.linker_elf.specs.declared.elf.RelocationSize.TheVariants.{BitMasking}
+use Rattle.linker_elf.specs.declared.elf.architecture.Architecture.TheVariants.{AArch64}
 use Rattle.linker_elf.specs.declared.elf.choice.Choice.{Choice}
 use Rattle.linker_elf.specs.declared.elf.value.Operands.{Operands}
 use Rattle.linker_final.proofs.InstructionFields.{IsOfInstruction}
-use Rattle.linker_final.proofs.Phases.{relocation_left}
-use Rattle.linker_final.proofs.Written.{IsRowOf, applied_after, by_name, entry_is_there, made_there, rela, relocation_is, unwritten_without, with_operands}
-use Rattle.linker_final.specs.AArch64Anywhere.{IsAppliedAt, UntouchedAt, IsNamedAs}
-use Rattle.linker_final.specs.Final.{UntouchedInstruction, UntouchedBytes, AreRewritten, Linked, IsLinked, IsWrittenByNoOther, count, instruction_at}
-use Rattle.linker_laws.specs.AArch64RewriteLaws.{BeginsRewritten, IsRelocated, IsRewritten}
+use Rattle.linker_final.proofs.Phases.{last_length, relocation_left}
+use Rattle.linker_final.proofs.Written.{IsRowOf, applied_after, are_rewritten, by_name, entry_is_there, made_there, rela, relocation_is, unwritten_without, with_operands}
+use Rattle.linker_final.specs.AArch64Runs.{object}
+use Rattle.linker_final.specs.AArch64Section.{HasFinal, IsRewrittenOf, offset_of}
+use Rattle.linker_final.specs.Final.{IsLinked, IsWrittenByNoOther, Linked, UntouchedBytes, UntouchedInstruction, count, instruction_at}
+use Rattle.linker_laws.specs.AArch64Groups.{Code, Has, Stands}
+use Rattle.linker_laws.specs.AArch64RewriteLaws.{BeginsRewritten, IsRewritten}
+use Rattle.linker_laws.specs.Machine.{loaded}
+use Rattle.linker_rewriting.proofs.AArch64Sequences.{unlabelled}
+use Rattle.linker_rewriting.proofs.Chosen.{chosen_at}
+use Rattle.linker_rewriting.proofs.Entries.{IsOfEntry as IsOfEntryIn, IsOfOne as IsOfOneIn, of_entry as of_entry_in, of_one as of_one_in}
 use Rattle.linker_rewriting.specs.Decisions.{decision_at}
-use Rattle.linker_rewriting.specs.declared.decisions.Decision.TheVariants.{Rewritten}
+use Rattle.linker_rewriting.specs.Groups.{IsScopeIn}
+use Rattle.linker_rewriting.specs.Rewritten.{IsPartAt, IsRewrittenBy}
 use Rattle.linker_section.specs.Needed.{entry_of}
 use Rattle.linker_section.specs.Relocations.{relocation_in}
-use Rattle.linker_section.specs.Values.{entry_address, is_there, operands_by, operands_with}
+use Rattle.linker_section.specs.Values.{entry_address, has_value, is_there, names_label, operands_by, operands_with}
+use Rattle.linker_section.specs.Fields.{is_of_pair}
 use Rattle.linker_section.specs.declared.facts.Symbol.{Symbol}
 use Rattle.linker_section.specs.declared.needed.Entry.{Entry}
 use Rattle.linker_section.specs.declared.relocations.Rela.{Rela}
-use Rattle.linker_elf.specs.Architectures.{IsRow}
-use Rattle.linker_utils.specs.Relaxations.{relaxation_rewrite}
+use Rattle.linker_utils.specs.AArch64Rewrites.{AArch64Applies, AArch64Entry, HasPattern, aarch64_entries, aarch64_matches, aarch64_rewrite, rewrites_where}
+use Rattle.linker_utils.specs.Relaxations.{IsArchitectureChoice, relaxation_rewrite}
+use Rattle.linker_utils.specs.declared.aarch64.rewrites.RewriteKind.{RewriteKind}
+use Rattle.linker_utils.specs.declared.aarch64.rewrites.RewriteKind.TheVariants as kinds
 use Rattle.linker_utils.specs.declared.architecture.Relaxation.{Relaxation}
 use Rattle.linker_utils.specs.declared.architecture.Relaxation.TheVariants as relaxations
-use Rattle.linker_elf.specs.declared.elf.architecture.Architecture.TheVariants.{AArch64}
 
 -- ---- relocations that rewrites leave
 
@@ -45,105 +57,186 @@ pub record IsAfter (name : AArch64Relocation) : Type 0 where
   pub named : IsNamed (aarch64_name name)
   pub of : IsOfInstruction 4 row
 
-row_of : (l : Linked) → l.context.architecture ≡ AArch64 → (name : AArch64Relocation)
-    → IsNamed (aarch64_name name) → (row : RelocationKindInfo) → aarch64_row name ≡ Some row
-    → IsRowOf l.context.architecture (code_of (aarch64_name name)) row
-row_of l aarch64 name named row is found there =
-    by_name aarch64_name aarch64_row name named found
-    (subst (λ x. IsRow x (code_of (aarch64_name name)) found) aarch64 there) ∙ is
+-- one by a row of an instruction's bits
+abbrev pub of_bits : (name : AArch64Relocation) (row : RelocationKindInfo) (bits : BitRange)
+    (insn : RelocationInstruction) → aarch64_row name ≡ Some row → IsNamed (aarch64_name name)
+    → row.size ≡ BitMasking bits insn → window_len row ≡ 4 → has_value row.kind ≡ true
+    → names_label row.size row.kind ≡ false → is_of_pair row ≡ false
+    → ((o : Operands) → IsSomeAnd (value_of row o) (λ _. ⊤)) → IsAfter name
+of_bits name row bits insn is named size wide valued unlabelled alone some =
+    record {
+      row = row;
+      is = is;
+      named = named;
+      of = record {
+        bits = bits;
+        insn = insn;
+        size = size;
+        wide = wide;
+        valued = valued;
+        unlabelled = unlabelled;
+        alone = alone;
+        some = some;
+      };
+    }
 
--- ---- what a call of rewriting leaves
+abbrev pub after : Linked → ℕ → AArch64Relocation → Rela
+after l i name =
+    let r = relocation_in l.relocations i in rela r.offset (code_of (aarch64_name name)) r.symbol r.addend
 
--- a relocation gets a name
-pub named_after : (l : Linked) → AreRewritten l → (i : ℕ) (chosen : Choice Relaxation ℕ) → i < count l
-    → decision_at l.decisions i ≡ Rewritten chosen
-    → (e : AArch64Entry) → chosen.kind ≡ relaxations.AArch64 e.kind
-    → chosen.relocation ≡ code_of (aarch64_name e.relocation)
-    → ((o : ℕ) → offset_after (aarch64_rewrite e.kind) o ≡ o)
-    → ((a : ℤ) → addend_after (aarch64_rewrite e.kind) a ≡ a)
-    → IsNamedAs e.relocation l i
-named_after l rewriting i chosen below decided e kind_is code_is unmoved same_addend =
-    let r = relocation_in l.relocations i in
-    relocation_is l rewriting i chosen below decided (aarch64_rewrite e.kind) (code_of (aarch64_name e.relocation))
-    (ap relaxation_rewrite kind_is) code_is
-    ∙ (ap (λ x. rela x (code_of (aarch64_name e.relocation)) r.symbol (addend_after (aarch64_rewrite e.kind) r.addend)) (unmoved r.offset)
-    ∙ ap (λ x. rela r.offset (code_of (aarch64_name e.relocation)) r.symbol x) (same_addend r.addend))
+-- the relocation at an index gets a name
+abbrev pub IsNamedAs : AArch64Relocation → Linked → ℕ → Type 0
+IsNamedAs name l i = relocation_in l.relocations_after i ≡ after l i name
 
--- an instruction becomes another
-pub becomes : (l : Linked) → AreRewritten l → (i : ℕ) (chosen : Choice Relaxation ℕ) → i < count l
-    → decision_at l.decisions i ≡ Rewritten chosen
-    → (kind : RewriteKind) (test : ℕ → Bool) (new : ℕ → ℕ)
-    → aarch64_rewrite kind ≡ Some (rewrites_where test new) → chosen.kind ≡ relaxations.AArch64 kind
-    → IsRewritten kind (instruction_at l.section (relocation_in l.relocations i).offset)
-    (instruction_at l.rewritten (relocation_in l.relocations i).offset)
-becomes l rewriting i chosen below decided kind test new is kind_is =
-    let o = (relocation_in l.relocations i).offset in
-    subst (λ q. IsSomeAnd q (λ made. BeginsRewritten made (instruction_at l.section o) (instruction_at l.rewritten o))) (sym is)
-    (made_there l rewriting i chosen below decided (rewrites_where test new) (ap relaxation_rewrite kind_is ∙ is) refl)
+-- Of a formula of S, A and P alone the value is that of other operands with these.
+pub same_value : (row : RelocationKindInfo)
+    → ((w v : Operands) → value_of row w ≡ value_of row (record v { symbol = w.symbol; addend = w.addend; place = w.place }))
+    → (w v : Operands) → w.symbol ≡ v.symbol → w.addend ≡ v.addend → w.place ≡ v.place
+    → value_of row w ≡ value_of row v
+same_value row reads w v symbol addend place =
+    reads w v
+    ∙ (ap (λ x. value_of row (record v { symbol = x; addend = w.addend; place = w.place })) symbol
+    ∙ (ap (λ x. value_of row (record v { addend = x; place = w.place })) addend
+    ∙ ap (λ x. value_of row (record v { place = x })) place))
 
--- and a `nop`, which is left
-pub becomes_nop : (l : Linked) → AreRewritten l → (i : ℕ) (chosen : Choice Relaxation ℕ) → i < count l
-    → decision_at l.decisions i ≡ Rewritten chosen
-    → chosen.kind ≡ relaxations.AArch64 kinds.ReplaceWithNop
-    → UntouchedAt l (relocation_in l.relocations i).offset
-    → IsRewritten kinds.ReplaceWithNop (instruction_at l.section (relocation_in l.relocations i).offset)
-    (instruction_at l.final (relocation_in l.relocations i).offset)
-becomes_nop l rewriting i chosen below decided kind_is left =
-    subst (IsRewritten kinds.ReplaceWithNop (instruction_at l.section (relocation_in l.relocations i).offset)) (sym left)
-    (becomes l rewriting i chosen below decided kinds.ReplaceWithNop (λ _. true) (λ _. nop) refl kind_is)
+-- the place of another instruction
+pub place_of : (l : Linked) (i j n : ℕ) (o : Operands) → o.place ≡ sum_64 l.addresses.section (offset_of l i)
+    → offset_of l j ≡ offset_of l i + n → sum_64 o.place n ≡ sum_64 l.addresses.section (offset_of l j)
+place_of l i j n o place next =
+    let e : sum_64 (sum_64 l.addresses.section (offset_of l i)) n ≡ sum_64 l.addresses.section (offset_of l i + n) = omega arith in
+    ap (λ p. sum_64 p n) place ∙ (e ∙ ap (sum_64 l.addresses.section) (sym next))
 
--- A relocation is applied whose value is that of other operands.
-pub applied_so : (name : AArch64Relocation) (a : IsAfter name) (o p : Operands) (before new : List ℕ)
-    → value_of a.row p ≡ value_of a.row o → IsRelocated name o before new → IsRelocated name p before new
-applied_so name a o p before new same is =
-    subst (λ q. IsSomeAnd q (λ row. IsApplied row p before new)) (sym a.is)
-    (with_operands a.row o p before new same
-    (subst (λ q. IsSomeAnd q (λ row. IsApplied row o before new)) a.is is))
+-- ---- the rewrite that is chosen
 
--- ---- what a call that writes values does then
+-- what an entry is meant for is there, and what the relocation requires
+pub record IsMeant (name : AArch64Relocation) (section : List ℕ) (o : ℕ) (e : AArch64Entry) : Type 0
+  where
+    pub matches : aarch64_matches e.kind section o
+    pub pattern : HasPattern name section o
 
-module _ (l : Linked) (linked : IsLinked l) (aarch64 : l.context.architecture ≡ AArch64) (i : ℕ)
-    (below : i < count l) where
-  abbrev r : Rela
-  r = relocation_in l.relocations i
+abbrev pub IsOfEntry : AArch64Relocation → AArch64Entry → List ℕ → ℕ → Choice Relaxation ℕ → Type 0
+IsOfEntry name e section o = IsOfEntryIn aarch64_name relaxations.AArch64 (IsMeant name section o) e
 
-  abbrev after : AArch64Relocation → Rela
-  after name = rela r.offset (code_of (aarch64_name name)) r.symbol r.addend
+abbrev pub IsOfOne : AArch64Relocation → List AArch64Entry → List ℕ → ℕ → Choice Relaxation ℕ → Type 0
+IsOfOne name es section o = IsOfOneIn aarch64_name relaxations.AArch64 (IsMeant name section o) es
 
-  -- the relocation that a rewrite left is applied
-  pub applied_there : (name : AArch64Relocation) (a : IsAfter name) → IsNamedAs name l i
-      → UntouchedInstruction l i → (symbol : Symbol) → slice_get l.symbols r.symbol ≡ Some symbol → (got : ℕ)
-      → operands_by AArch64 l.addresses a.row (after name) symbol
-      (entry_address l.addresses symbol (entry_of a.row r.addend symbol.is_thread_local))
-      ≡ Ok (operands_with AArch64 l.addresses a.row symbol (after name) got)
-      → (o : Operands)
-      → value_of a.row o ≡ value_of a.row (operands_with AArch64 l.addresses a.row symbol (after name) got)
-      → IsAppliedAt name o l r.offset
-  applied_there name a named left symbol is_symbol got entry_is o same =
-      let w = operands_with AArch64 l.addresses a.row symbol (after name) got in
-      let there : IsApplied a.row w (instruction_at l.rewritten r.offset) (instruction_at l.final r.offset) =
-      subst (λ x. IsApplied a.row (operands_with x l.addresses a.row symbol (after name) got) (instruction_at l.rewritten r.offset) (instruction_at l.final r.offset)) aarch64
-      (applied_after l linked i below 4 (omega arith) a.row a.of (after name) named left
-      (row_of l aarch64 name a.named a.row a.is) symbol is_symbol got
-      (subst (λ x. operands_by x l.addresses a.row (after name) symbol
-      (entry_address l.addresses symbol (entry_of a.row r.addend symbol.is_thread_local))
-      ≡ Ok (operands_with x l.addresses a.row symbol (after name) got)) (sym aarch64) entry_is)) in
-      subst (λ q. IsSomeAnd q (λ row. IsApplied row o (instruction_at l.rewritten r.offset) (instruction_at l.final r.offset))) (sym a.is)
-      (with_operands a.row w o (instruction_at l.rewritten r.offset) (instruction_at l.final r.offset) same there)
+-- an instruction of a sequence is rewritten
+abbrev pub of_part : (l : Linked) (first n i : ℕ) (name : AArch64Relocation) (kind : RewriteKind)
+    → IsPartAt l.relocations first n i name → IsRewrittenBy kind (decision_at l.decisions i)
+    → IsRewrittenOf l name i
+of_part l first n i name kind part by =
+    record { below = part.below; is_name = part.is_name; chosen = by.chosen; decided = by.decided }
 
-  -- the entry of its formula is there
-  pub entry_there : (name : AArch64Relocation) (a : IsAfter name) → IsNamedAs name l i
-      → UntouchedInstruction l i → (symbol : Symbol) → slice_get l.symbols r.symbol ≡ Some symbol
-      → (entry : Entry) → entry_of a.row r.addend symbol.is_thread_local ≡ Some entry
-      → is_there l.addresses symbol entry ≡ true
-  entry_there name a named left symbol is_symbol entry is_entry =
-      entry_is_there l linked i below 4 a.row a.of (after name)
-      (relocation_left l linked i r.offset 4 left below ∙ named)
-      (row_of l aarch64 name a.named a.row a.is) symbol is_symbol entry is_entry
+-- ---- a phase
+
+-- of a section that is linked, whose final bytes new has
+pub record IsNew (l : Linked) (c : Code) : Type 0 where
+  pub linked : IsLinked l
+  pub aarch64 : l.context.architecture ≡ AArch64
+  pub final : HasFinal l.addresses l.final c
+
+module _ {l : Linked} {c : Code} (new : IsNew l c) where
+  row_of : (name : AArch64Relocation) → IsNamed (aarch64_name name) → (row : RelocationKindInfo)
+      → aarch64_row name ≡ Some row → IsRowOf l.context.architecture (code_of (aarch64_name name)) row
+  row_of name named row is found there =
+      by_name aarch64_name aarch64_row name named found
+      (subst (λ x. IsRow x (code_of (aarch64_name name)) found) new.aarch64 there) ∙ is
+
+  stands_at : (p : ℕ) (o : Operands) → o.place ≡ sum_64 l.addresses.section p → p + 4 ≤ length l.section
+      → Stands c.new o (instruction_at l.final p)
+  stands_at p o place inside =
+      let long : length l.final ≡ length l.section =
+      new.linked.written.same_length ∙ (last_length l new.linked ∙ new.linked.same_length) in
+      ap (loaded 4 c.new) place ∙ new.final p (omega (arith, inside, long))
 
   -- an instruction is left that no other relocation writes, where the own one goes
-  pub left_alone : IsNamedAs names.R_AARCH64_NONE l i → (p : ℕ) → UntouchedBytes l i p 4 → p + 4 ≤ length l.section
-      → IsWrittenByNoOther l i p → UntouchedAt l p
-  left_alone named p left inside alone =
-      unwritten_without l linked i below p left (row_of l aarch64 names.R_AARCH64_NONE tt (bytes_row NoValue 0) refl)
-      (ap (λ (x : Rela). x.code) named) inside alone
+  pub stands_left : (i : ℕ) → i < count l → IsNamedAs names.R_AARCH64_NONE l i
+      → UntouchedInstruction l i → IsWrittenByNoOther l i (offset_of l i) → offset_of l i + 4 ≤ length l.section
+      → (o : Operands) → o.place ≡ sum_64 l.addresses.section (offset_of l i)
+      → Stands c.new o (instruction_at l.rewritten (offset_of l i))
+  stands_left i below named left alone inside o place =
+      subst (Stands c.new o)
+      (unwritten_without l new.linked i below (offset_of l i) left
+      (row_of names.R_AARCH64_NONE tt (bytes_row NoValue 0) refl)
+      (ap (λ (x : Rela). x.code) named) inside alone)
+      (stands_at (offset_of l i) o place inside)
+
+  -- the entry of a formula is there
+  pub entry_there : (i : ℕ) → i < count l → (name : AArch64Relocation) (a : IsAfter name) → IsNamedAs name l i
+      → UntouchedInstruction l i → (symbol : Symbol)
+      → slice_get l.symbols (relocation_in l.relocations i).symbol ≡ Some symbol → (entry : Entry)
+      → entry_of a.row (relocation_in l.relocations i).addend symbol.is_thread_local ≡ Some entry
+      → is_there l.addresses symbol entry ≡ true
+  entry_there i below name a named left symbol is_symbol entry is_entry =
+      entry_is_there l new.linked i below 4 a.row a.of (after l i name)
+      (relocation_left l new.linked i (offset_of l i) 4 left below ∙ named)
+      (row_of name a.named a.row a.is) symbol is_symbol entry is_entry
+
+  -- an instruction that is rewritten
+  module _ (name : AArch64Relocation) (i : ℕ) (of : IsRewrittenOf l name i) where
+    -- by one of the entries of its name
+    pub of_one : IsNamed (aarch64_name name) → IsOfOne name (aarch64_entries name) l.section (offset_of l i) of.chosen
+    of_one named =
+        let r = relocation_in l.relocations i in
+        let f = chosen_at l.context l.kept l.relocations l.section l.decisions (count l) i of.chosen new.linked.decided of.below of.decided
+        (λ scope is. unlabelled l.context.phase r.code scope (subst (λ x. IsScopeIn x l.context.phase r.code scope) new.aarch64 is)) in
+        of_one_in aarch64_name relaxations.AArch64 (IsMeant name l.section r.offset) of.chosen
+        (λ n. AArch64Applies n l.section r.offset f.facts) aarch64_entries kinds.NoOp refl r.code name named of.is_name
+        (λ e applies. record { matches = applies.0.0; pattern = applies.0.1 })
+        (subst (λ x. IsArchitectureChoice x r.code l.section r.offset f.facts of.chosen) new.aarch64 f.is_choice) f.changed
+
+    -- the only one
+    pub of_entry : IsNamed (aarch64_name name) → (e : AArch64Entry) → aarch64_entries name ≡ (e ∷ [])
+        → IsOfEntry name e l.section (offset_of l i) of.chosen
+    of_entry named e only =
+        of_entry_in aarch64_name relaxations.AArch64 (IsMeant name l.section (offset_of l i)) of.chosen e
+        (aarch64_entries name) only (of_one named)
+
+    -- it becomes another
+    pub becomes : (kind : RewriteKind) (test : ℕ → Bool) (word : ℕ → ℕ)
+        → aarch64_rewrite kind ≡ Some (rewrites_where test word) → of.chosen.kind ≡ relaxations.AArch64 kind
+        → IsRewritten kind (object l i) (instruction_at l.rewritten (offset_of l i))
+    becomes kind test word is kind_is =
+        subst (λ q. IsSomeAnd q (λ made. BeginsRewritten made (object l i) (instruction_at l.rewritten (offset_of l i)))) (sym is)
+        (made_there l (are_rewritten l new.linked) i of.chosen of.below of.decided (rewrites_where test word) (ap relaxation_rewrite kind_is ∙ is) refl)
+
+    module _ (e : AArch64Entry) (by : IsOfEntry name e l.section (offset_of l i) of.chosen)
+        (unmoved : (o : ℕ) → offset_after (aarch64_rewrite e.kind) o ≡ o)
+        (same_addend : (a : ℤ) → addend_after (aarch64_rewrite e.kind) a ≡ a) where
+      -- its relocation gets a name
+      pub named_after : IsNamedAs e.relocation l i
+      named_after =
+          let r = relocation_in l.relocations i in
+          let code = code_of (aarch64_name e.relocation) in
+          relocation_is l (are_rewritten l new.linked) i of.chosen of.below of.decided (aarch64_rewrite e.kind) code (ap relaxation_rewrite by.kind_is) by.code_is
+          ∙ (ap (λ x. rela x code r.symbol (addend_after (aarch64_rewrite e.kind) r.addend)) (unmoved r.offset)
+          ∙ ap (λ x. rela r.offset code r.symbol x) (same_addend r.addend))
+
+      -- and this is applied
+      pub has_after : (a : IsAfter e.relocation) → UntouchedInstruction l i → (symbol : Symbol)
+          → slice_get l.symbols (relocation_in l.relocations i).symbol ≡ Some symbol → (got : ℕ)
+          → operands_by AArch64 l.addresses a.row (after l i e.relocation) symbol
+          (entry_address l.addresses symbol (entry_of a.row (relocation_in l.relocations i).addend symbol.is_thread_local))
+          ≡ Ok (operands_with AArch64 l.addresses a.row symbol (after l i e.relocation) got)
+          → (o : Operands)
+          → value_of a.row o ≡ value_of a.row (operands_with AArch64 l.addresses a.row symbol (after l i e.relocation) got)
+          → o.place ≡ sum_64 l.addresses.section (offset_of l i) → offset_of l i + 4 ≤ length l.section
+          → Has c.new e.relocation o (instruction_at l.rewritten (offset_of l i))
+      has_after a left symbol is_symbol got entry_is o same place inside =
+          let p = offset_of l i in
+          let r = after l i e.relocation in
+          let w = operands_with AArch64 l.addresses a.row symbol r got in
+          let there : IsApplied a.row w (instruction_at l.rewritten p) (instruction_at l.final p) =
+          subst (λ x. IsApplied a.row (operands_with x l.addresses a.row symbol r got) (instruction_at l.rewritten p) (instruction_at l.final p)) new.aarch64
+          (applied_after l new.linked i of.below 4 (omega arith) a.row a.of r named_after left
+          (row_of e.relocation a.named a.row a.is) symbol is_symbol got
+          (subst (λ x. operands_by x l.addresses a.row r symbol
+          (entry_address l.addresses symbol (entry_of a.row r.addend symbol.is_thread_local))
+          ≡ Ok (operands_with x l.addresses a.row symbol r got)) (sym new.aarch64) entry_is)) in
+          record {
+            relocated = instruction_at l.final p;
+            applied =
+                subst (λ q. IsSomeAnd q (λ row. IsApplied row o (instruction_at l.rewritten p) (instruction_at l.final p))) (sym a.is)
+                (with_operands a.row w o (instruction_at l.rewritten p) (instruction_at l.final p) same there);
+            stands = stands_at p o place inside;
+          }

@@ -1,10 +1,8 @@
 pub mod AArch64Addresses
 pub mod AArch64Alone
-pub mod AArch64Chosen
 pub mod AArch64Descriptors
 pub mod AArch64Loads
 pub mod AArch64Section
-pub mod AArch64Twice
 pub mod AArch64Written
 pub mod Branches
 pub mod Fields

@@ -9,13 +9,14 @@ use Rattle.linker_elf.specs.declared.aarch64.relocations.AArch64Relocation.{AArc
 use Rattle.linker_elf.specs.declared.aarch64.relocations.AArch64Relocation.TheVariants as names
 use Rattle.linker_elf.specs.declared.elf.architecture.Architecture.TheVariants.{AArch64}
 use Rattle.linker_elf.specs.declared.elf.choice.Choice.{Choice}
-use Rattle.linker_final.specs.AArch64Final.{AreOfAddress, AreOfDescriptor, AreOfLoad}
 use Rattle.linker_final.specs.Final.{AreLinked, Linked, RewritingPhase, count, instruction_at}
 use Rattle.linker_final.specs.Final.{linked_by}
 use Rattle.linker_laws.specs.AArch64Groups.{Code}
 use Rattle.linker_laws.specs.AArch64RewriteLaws.{word_of}
 use Rattle.linker_laws.specs.Machine.{loaded}
 use Rattle.linker_rewriting.specs.Decisions.{decision_at}
+use Rattle.linker_rewriting.specs.Rewritten.{IsAddressRewritten, IsDescriptorRewritten}
+use Rattle.linker_rewriting.specs.Rewritten.{IsLoadRewritten}
 use Rattle.linker_rewriting.specs.declared.decisions.Decision.TheVariants.{Kept, Rewritten}
 use Rattle.linker_section.specs.Relocations.{relocation_in}
 use Rattle.linker_section.specs.declared.facts.Addresses.{Addresses}
@@ -64,13 +65,15 @@ pub record IsRewrittenOf (l : Linked) (name : AArch64Relocation) (i : ℕ) : Typ
   pub chosen : Choice Relaxation ℕ
   pub decided : decision_at l.decisions i ≡ Rewritten chosen
 
--- Instructions that are rewritten together, by the indexes of their relocations. A descriptor's
+-- Instructions that are rewritten together, by the index of the first relocation. A descriptor's
 -- first two become those of two kinds.
 pub data Rewrites (l : Linked) : Type 0 where
-  load : (i j : ℕ) → AreOfLoad l i j → Rewrites l
-  address : (i j : ℕ) → AreOfAddress l i j → Rewrites l
-  to_local : (i j p q : ℕ) → AreOfDescriptor l kinds.MovzX0Lsl16 kinds.MovkX0 i j p q → Rewrites l
-  to_initial : (i j p q : ℕ) → AreOfDescriptor l kinds.AdrpX0 kinds.LdrX0 i j p q → Rewrites l
+  load : (i : ℕ) → IsLoadRewritten l.relocations l.decisions i → Rewrites l
+  address : (i : ℕ) → IsAddressRewritten l.relocations l.decisions i → Rewrites l
+  to_local : (i : ℕ)
+      → IsDescriptorRewritten kinds.MovzX0Lsl16 kinds.MovkX0 l.relocations l.decisions i → Rewrites l
+  to_initial : (i : ℕ)
+      → IsDescriptorRewritten kinds.AdrpX0 kinds.LdrX0 l.relocations l.decisions i → Rewrites l
   high : (i : ℕ) → IsRewrittenOf l names.R_AARCH64_TLSIE_ADR_GOTTPREL_PAGE21 i → Rewrites l
   low : (i : ℕ) → IsRewrittenOf l names.R_AARCH64_TLSIE_LD64_GOTTPREL_LO12_NC i → Rewrites l
   jump : (i : ℕ) → IsRewrittenOf l names.R_AARCH64_JUMP26 i → Rewrites l
@@ -78,10 +81,10 @@ pub data Rewrites (l : Linked) : Type 0 where
 
 -- the offset of the first one, and how many they are
 abbrev pub span : (l : Linked) → Rewrites l → ℕ × ℕ
-span l (load i j of) = (offset_of l i, 2)
-span l (address i j of) = (offset_of l i, 2)
-span l (to_local i j p q of) = (offset_of l i, 4)
-span l (to_initial i j p q of) = (offset_of l i, 4)
+span l (load i of) = (offset_of l i, 2)
+span l (address i of) = (offset_of l i, 2)
+span l (to_local i of) = (offset_of l i, 4)
+span l (to_initial i of) = (offset_of l i, 4)
 span l (high i of) = (offset_of l i, 1)
 span l (low i of) = (offset_of l i, 1)
 span l (jump i of) = (offset_of l i, 1)
@@ -106,14 +109,19 @@ pub data Place (x : Section) (at : ℕ) : Type 0 where
 
 -- ---- the section's link
 
+-- New has the final bytes.
+abbrev pub HasFinal : Addresses → List ℕ → Code → Type 0
+HasFinal addresses final c =
+    (at : ℕ) → at + 4 ≤ length final
+    → loaded 4 c.new (sum_64 addresses.section at) ≡ word_of (instruction_at final at)
+
 abbrev pub address_of : Section → ℕ → ℕ
 address_of x at = sum_64 x.addresses.section at
 
--- New has the final bytes. Where nothing is rewritten, old has them, too: the object's bytes and
--- the composed values of its relocations (`others`).
+-- Where nothing is rewritten, old has them, too: the object's bytes and the composed values of its
+-- relocations (`others`).
 pub record IsLinkOf (x : Section) (c : Code) : Type 0 where
-  pub new : (at : ℕ) → at + 4 ≤ length x.final
-      → loaded 4 c.new (address_of x at) ≡ word_of (instruction_at x.final at)
+  pub new : HasFinal x.addresses x.final c
   pub same : (at : ℕ) → at + 4 ≤ length x.final → IsUnchanged x at
       → loaded 4 c.old (address_of x at) ≡ loaded 4 c.new (address_of x at)
 

@@ -1,11 +1,8 @@
-pub mod AArch64Anywhere
 pub mod AArch64Executed
-pub mod AArch64Final
 pub mod AArch64Runs
 pub mod AArch64Section
 pub mod AArch64Steps
 pub mod AArch64Table
-pub mod AArch64Twice
 pub mod Branches
 pub mod Emulated
 pub mod Final

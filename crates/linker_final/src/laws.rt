@@ -3,11 +3,8 @@
 //! Each joins what `rewrite_section` and `relocate_section` leave with the laws of single rewrites
 //! of `linker_laws`.
 
-ghost use Rattle.linker_final.specs.AArch64Anywhere as aarch64_anywhere;
-ghost use Rattle.linker_final.specs.AArch64Final as aarch64_final;
 ghost use Rattle.linker_final.specs.AArch64Runs as aarch64_runs;
 ghost use Rattle.linker_final.specs.AArch64Section as aarch64_section;
-ghost use Rattle.linker_final.specs.AArch64Twice as aarch64_twice;
 ghost use Rattle.linker_final.specs.Final as final_bytes;
 ghost use Rattle.linker_final.specs.LoongArchFinal as loongarch64_final;
 ghost use Rattle.linker_final.specs.Ppc64Anywhere as ppc64_anywhere;
@@ -53,39 +50,18 @@ pub fn x86_64()
     linker_laws::rewrites::x86_64();
 }
 
-/// AArch64: rewritten instructions are groups of `linker_laws::simulation`, of any code that has
-/// the final bytes there, and of any old code that has the object's with the values of their
-/// relocations. They are each address by two instructions that became one, each load of an address
-/// from the GOT that became a sum of its page and the rest, each half of initial-exec that became a
-/// move, each sequence of a TLS descriptor that became one of local-exec or of initial-exec, and
-/// each branch to an undefined weak symbol that became `nop`. The clauses named `anywhere` are of a
-/// call of rewriting alone: what each relocation became, and that the rewritten instructions are a
-/// group once it is applied to them, whatever applies it. So another phase may come between: a load
-/// that became a sum, and then an `adr`, is a group, also in the final bytes.
-pub fn aarch64()
-    ensures addresses { aarch64_final.Addresses }
-    ensures got_loads { aarch64_final.GotLoads }
-    ensures high_halves { aarch64_final.HighHalves }
-    ensures low_halves { aarch64_final.LowHalves }
-    ensures branches { aarch64_final.Branches }
-    ensures descriptors { aarch64_final.Descriptors }
-    ensures addresses_anywhere { aarch64_anywhere.AddressesAnywhere }
-    ensures got_loads_anywhere { aarch64_anywhere.GotLoadsAnywhere }
-    ensures high_halves_anywhere { aarch64_anywhere.HighHalvesAnywhere }
-    ensures low_halves_anywhere { aarch64_anywhere.LowHalvesAnywhere }
-    ensures branches_anywhere { aarch64_anywhere.BranchesAnywhere }
-    ensures descriptors_anywhere { aarch64_anywhere.DescriptorsAnywhere }
-    ensures loads_twice { aarch64_twice.LoadsTwice }
-    ensures final_loads_twice { aarch64_twice.FinalLoadsTwice }
-{
-    linker_laws::simulation::aarch64();
-}
-
 /// AArch64: all changes of a section, in all of its phases. Each instruction stays, but for the
-/// value of its relocation, or is one of those that are rewritten together. These are a group of
-/// `linker_laws::simulation` wherever old comes to their first and the premises of their law hold,
-/// also a load that two phases rewrite. So each run of old is followed up to where nothing is
-/// known, as at a group of which a premise doesn't hold: new's run agrees there.
+/// value of its relocation, or is one of those that are rewritten together. They are each address
+/// by two instructions that became one, each load of an address from the GOT that became a sum of
+/// its page and the rest, each half of initial-exec that became a move, each sequence of a TLS
+/// descriptor that became one of local-exec or of initial-exec, and each branch to an undefined
+/// weak symbol that became `nop`.
+///
+/// These are a group of `linker_laws::simulation` wherever old comes to their first and the
+/// premises of their law hold, also a load of which another phase made an `adr`. New is any code
+/// that has the final bytes, and old any that has the object's there with the values of their
+/// relocations. So each run of old is followed up to where nothing is known, as at a group of which
+/// a premise doesn't hold: new's run agrees there.
 pub fn aarch64_sections()
     ensures places { aarch64_section.EachPlace }
     ensures groups { aarch64_runs.RewritesAreGroups }
@@ -161,11 +137,11 @@ pub fn loongarch64()
 /// `nop` after a call that restores the TOC pointer, each high and low half of an address near the
 /// TOC pointer and near the thread pointer, each instruction of initial-exec, of general-dynamic
 /// and of local-dynamic TLS, also of prefixed code, and each load of an address from the GOT that
-/// became a sum. The clauses named `anywhere` are of a call of rewriting alone, as those of AArch64
-/// are. Those named `twice` are of instructions that two calls rewrite, also in the final bytes:
-/// high and low halves of the address of a GOT entry that became those of the symbol, loads of an
-/// offset from the thread pointer and what adds it, and the arguments and calls of general-dynamic
-/// TLS. Which phase alone rewrites again what a rewrite left is a law too.
+/// became a sum. The clauses named `anywhere` are of a call of rewriting alone, as RISC-V's are.
+/// Those named `twice` are of instructions that two calls rewrite, also in the final bytes: high
+/// and low halves of the address of a GOT entry that became those of the symbol, loads of an offset
+/// from the thread pointer and what adds it, and the arguments and calls of general-dynamic TLS.
+/// Which phase alone rewrites again what a rewrite left is a law too.
 pub fn ppc64()
     ensures calls { ppc64_final.Calls }
     ensures toc_halves { ppc64_final.TocHalves }
