@@ -15,8 +15,8 @@ use Rattle.linker_elf.specs.declared.elf.RelocationKind.TheVariants.{Relative}
 use Rattle.linker_elf.specs.declared.elf.RelocationKindInfo.{RelocationKindInfo}
 use Rattle.linker_elf.specs.declared.elf.architecture.Architecture.TheVariants.{AArch64}
 use Rattle.linker_elf.specs.declared.elf.value.Operands.{Operands}
-use Rattle.linker_final.proofs.AArch64Written.{IsAfter, IsNamedAs, IsNew, IsOfEntry, after, has_after, named_after, of_bits, of_entry, of_part, place_of, same_value, stands_left}
-use Rattle.linker_final.proofs.Written.{are_rewritten, first_same, second_same, word_same}
+use Rattle.linker_final.proofs.AArch64Written.{IsAfter, IsNamedAs, IsNew, IsOfEntry, after, has_after, of_bits, of_entry, of_part, place_of, same_value, stands_left}
+use Rattle.linker_final.proofs.Written.{first_same, second_same, word_same}
 use Rattle.linker_final.specs.AArch64Runs.{ComesTo, object, register}
 use Rattle.linker_final.specs.AArch64Section.{IsRewrittenOf, offset_of}
 use Rattle.linker_final.specs.Final.{IsWrittenByNoOther, Linked, UntouchedInstructions, instruction_at, two_at}

@@ -1,5 +1,5 @@
 -- Instructions of AArch64 that are rewritten each by itself are groups.
-use Rattle.std.proofs.Common.{◌≡◌, ◌≢◌, ℕ, ◌+◌, ◌≤◌, [], ◌∷◌, length, drop, refl, ap, subst, Bool, true, eqb}
+use Rattle.std.proofs.Common.{◌≡◌, ◌≢◌, ℕ, ◌+◌, [], ◌∷◌, drop, refl, ap, subst, Bool, true, eqb}
 use Rattle.linker_elf.specs.AArch64Relocations.{aarch64_name, insn_row}
 use Rattle.linker_elf.specs.Choices.{entry, weak_zero}
 use Rattle.linker_elf.specs.ElfNames.{IsNamed}

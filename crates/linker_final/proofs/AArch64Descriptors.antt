@@ -1,9 +1,8 @@
 -- Sequences of TLS descriptors of AArch64, of which local-exec or initial-exec is made, are groups.
 use Rattle.std.proofs.Common.{◌≡◌, ℕ, ◌+◌, ◌<◌, ◌^◌, List, [], ◌∷◌, refl, sym, ap, subst, ◌∙◌, inl, inr, true, Some, None, cond}
 use Rattle.std.specs.Prelude.{slice_get}
-use Rattle.linker_elf.specs.AArch64Relocations.{aarch64_name, insn_row}
+use Rattle.linker_elf.specs.AArch64Relocations.{insn_row}
 use Rattle.linker_elf.specs.Choices.{Condition, entry}
-use Rattle.linker_elf.specs.ElfNames.{IsNamed, code_of}
 use Rattle.linker_elf.specs.Rows.{aligned_row, entry_pages, paged_row, signed_row}
 use Rattle.linker_elf.specs.Value.{sum_64, value_of}
 use Rattle.linker_elf.specs.declared.aarch64.forms.AArch64Instruction.TheVariants.{Adr, LdrRegister}

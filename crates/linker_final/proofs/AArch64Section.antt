@@ -1,5 +1,5 @@
 -- What stands at each place of a section of AArch64, and runs of its code.
-use Rattle.std.proofs.Common.{◌≡◌, ◌≢◌, ℕ, zero, suc, ◌+◌, ◌-◌, ◌*◌, ◌<◌, ◌≤◌, ◌⊎◌, inl, inr, List, [], ◌∷◌, length, ap, sym, subst, ◌∙◌, arith, refl, Bool, true, false}
+use Rattle.std.proofs.Common.{◌≡◌, ◌≢◌, ℕ, zero, suc, ◌+◌, ◌-◌, ◌*◌, ◌<◌, ◌≤◌, ◌⊎◌, inl, inr, List, [], ◌∷◌, ap, sym, subst, ◌∙◌, arith, refl, Bool, true, false}
 use Rattle.std.proofs.lemmas.Bool.{cases_eq, cases_lt, eq-eqb}
 use Rattle.linker_elf.specs.AArch64Relocations.{aarch64_name}
 use Rattle.linker_elf.specs.ElfNames.{IsNameOf}
@@ -13,7 +13,7 @@ use Rattle.linker_final.proofs.AArch64Descriptors.{initial_is_group, local_is_gr
 use Rattle.linker_final.proofs.AArch64Loads.{load_again_is_group, load_is_group}
 use Rattle.linker_final.proofs.AArch64Written.{IsNew}
 use Rattle.linker_final.specs.AArch64Runs.{Begins, IsFollowed, Known, Knows, RewritesAreGroups, RunsAreFollowed, at_address, at_call, at_high, at_initial, at_jump, at_load, at_local, at_low, elsewhere, other, rewritten}
-use Rattle.linker_final.specs.AArch64Section.{AreCalled, EachPlace, HasFinal, IsLinkOf, IsPhase, IsPhaseIn, IsUnchangedIn, Place, Rewrites, Section, address, begins, call, high, jump, load, low, offset_of, span, to_initial, to_local, unchanged, within}
+use Rattle.linker_final.specs.AArch64Section.{AreCalled, EachPlace, HasFinal, IsLinkOf, IsPhase, IsPhaseIn, IsRewrittenOf, IsUnchangedIn, Place, Rewrites, Section, address, begins, call, high, jump, load, low, offset_of, span, to_initial, to_local, unchanged, within}
 use Rattle.linker_final.specs.Final.{AreLinked, IsLinked, Linked, RewritingPhase, count, linked_by}
 use Rattle.linker_laws.specs.AArch64Groups.{Code, Groups, go_and_link, link}
 use Rattle.linker_laws.specs.AArch64Machine.{is_b, is_bl}
@@ -21,12 +21,13 @@ use Rattle.linker_laws.specs.Changes.{go_to, with_register}
 use Rattle.linker_laws.specs.Machine.{loaded}
 use Rattle.linker_laws.specs.Simulation.{Comparison, Group, Kinds, Next, Simulates, State, anything, by_group, by_other, of_link, stopping, uncovered}
 use Rattle.linker_rewriting.proofs.AArch64Sequences.{in_phase, of_group, of_option, scope_there, sequences_are_whole}
-use Rattle.linker_rewriting.specs.Decisions.{decision_at}
-use Rattle.linker_rewriting.specs.Groups.{group_stays}
-use Rattle.linker_rewriting.specs.Rewritten.{IsAddressRewritten, IsDescriptorWhole, IsLoadRewritten, IsWholeBy}
+use Rattle.linker_rewriting.specs.Decisions.{IsScopeDecision, decision_at}
+use Rattle.linker_rewriting.specs.Groups.{aarch64_scope_in, group_stays}
+use Rattle.linker_rewriting.specs.Rewritten.{IsWholeBy}
 use Rattle.linker_rewriting.specs.declared.decisions.Decision.{Decision}
 use Rattle.linker_rewriting.specs.declared.decisions.Decision.TheVariants.{Kept, Rewritten, Consumed, RewrittenWithSymbol}
 use Rattle.linker_rewriting.specs.declared.groups.Group.TheVariants as groups
+use Rattle.linker_rewriting.specs.declared.groups.Scope.TheVariants.{Grouped, Independent}
 use Rattle.linker_rewriting.specs.declared.phases.Phase.{Phase}
 use Rattle.linker_rewriting.specs.declared.phases.Phase.TheVariants as phases
 use Rattle.linker_section.specs.Relocations.{relocation_in}
@@ -47,29 +48,9 @@ module _ (l : Linked) (linked : IsLinked l) (aarch64 : l.context.architecture �
     pub less : n < (span l g).1
     pub is : offset_of l i ≡ (span l g).0 + 4 * n
 
-  -- the offset of a relocation of a sequence
-  offset_in : (i first place : ℕ) → first + place ≡ i
-      → offset_of l (first + place) ≡ offset_of l first + 4 * place
-      → offset_of l i ≡ offset_of l first + 4 * place
-  offset_in i first place e is = ap (offset_of l) (sym e) ∙ is
-
-  in_descriptor : (i first place : ℕ) → first + place ≡ i → place < 4
-      → offset_of l (first + place) ≡ offset_of l first + 4 * place
-      → IsDescriptorWhole l.relocations l.decisions first → IsIn i
-  in_descriptor i first place e less is (inl w) =
-      record {
-        g = to_local first w;
-        n = place;
-        less = less;
-        is = offset_in i first place e is;
-      }
-  in_descriptor i first place e less is (inr w) =
-      record {
-        g = to_initial first w;
-        n = place;
-        less = less;
-        is = offset_in i first place e is;
-      }
+  in_at : (i j n : ℕ) → j ≡ i → (g : Rewrites l) → n < (span l g).1 → offset_of l j ≡ (span l g).0 + 4 * n
+      → IsIn i
+  in_at i j n e g less is = record { g = g; n = n; less = less; is = ap (offset_of l) (sym e) ∙ is }
 
   whole : (i : ℕ) (name : AArch64Relocation) → i < count l → decision_at l.decisions i ≢ Kept
       → IsNameOf aarch64_name (relocation_in l.relocations i).code name
@@ -77,125 +58,107 @@ module _ (l : Linked) (linked : IsLinked l) (aarch64 : l.context.architecture �
   whole i name below changed is_name =
       sequences_are_whole l.context l.kept l.relocations l.section l.decisions i name aarch64 linked.decided below is_name changed
 
-  page_at : (first : ℕ) (w : IsDescriptorWhole l.relocations l.decisions first)
-      → (offset_of l (first + 0) ≡ offset_of l first + 4 * 0)
-      × (offset_of l (first + 1) ≡ offset_of l first + 4 * 1)
-      × (offset_of l (first + 2) ≡ offset_of l first + 4 * 2)
-      × (offset_of l (first + 3) ≡ offset_of l first + 4 * 3)
-  page_at first (inl w) =
-      let e : first + 0 ≡ first = omega arith in
-      (ap (offset_of l) e ∙ w.page.offset, w.load.offset, w.add.offset, w.call.offset)
-  page_at first (inr w) =
-      let e : first + 0 ≡ first = omega arith in
-      (ap (offset_of l) e ∙ w.page.offset, w.load.offset, w.add.offset, w.call.offset)
+  decision_in : (i : ℕ) (name : AArch64Relocation) (phase : Phase) → i < count l
+      → IsNameOf aarch64_name (relocation_in l.relocations i).code name → l.context.phase ≡ phase
+      → IsScopeDecision l.context l.kept l.relocations l.section i (relocation_in l.relocations i) (aarch64_scope_in phase name) (decision_at l.decisions i)
+  decision_in i name phase =
+      in_phase l.context aarch64 l.kept l.relocations l.section l.decisions linked.decided i name phase
 
-  in_load : (i first place : ℕ) → first + place ≡ i → place < 2
-      → offset_of l (first + place) ≡ offset_of l first + 4 * place
-      → IsLoadRewritten l.relocations l.decisions first → IsIn i
-  in_load i first place e less is w =
-      record { g = load first w; n = place; less = less; is = offset_in i first place e is }
+  -- an instruction that is rewritten by itself
+  half_of : (i : ℕ) (name : AArch64Relocation) → i < count l → decision_at l.decisions i ≢ Kept
+      → IsNameOf aarch64_name (relocation_in l.relocations i).code name
+      → IsScopeDecision l.context l.kept l.relocations l.section i (relocation_in l.relocations i) (Grouped groups.InitialExec) (decision_at l.decisions i)
+      → IsRewrittenOf l name i
+  half_of i name below changed is_name is =
+      let made = (of_group l.context aarch64 l.kept l.relocations l.section l.decisions linked.decided i
+      (group_stays l.kept groups.InitialExec (relocation_in l.relocations i).symbol) is changed).1 in
+      record { below = below; is_name = is_name; chosen = made.chosen; decided = made.decided_so }
 
-  in_address : (i first place : ℕ) → first + place ≡ i → place < 2
-      → offset_of l (first + place) ≡ offset_of l first + 4 * place
-      → IsAddressRewritten l.relocations l.decisions first → IsIn i
-  in_address i first place e less is w =
-      record { g = address first w; n = place; less = less; is = offset_in i first place e is }
+  branch_of : (i : ℕ) (name : AArch64Relocation) → i < count l → decision_at l.decisions i ≢ Kept
+      → IsNameOf aarch64_name (relocation_in l.relocations i).code name
+      → IsScopeDecision l.context l.kept l.relocations l.section i (relocation_in l.relocations i) Independent (decision_at l.decisions i)
+      → IsRewrittenOf l name i
+  branch_of i name below changed is_name is =
+      let made = of_option l.context aarch64 l.kept l.relocations l.section l.decisions linked.decided i (is.0) (is.1) (is.2) changed in
+      record { below = below; is_name = is_name; chosen = made.chosen; decided = made.decided_so }
 
   -- by the phase and the name
   early_in : (i : ℕ) → i < count l → decision_at l.decisions i ≢ Kept → l.context.phase ≡ phases.PreLayout
       → (name : AArch64Relocation) → IsNameOf aarch64_name (relocation_in l.relocations i).code name → IsIn i
   early_in i below changed early names.R_AARCH64_TLSDESC_ADR_PAGE21 is_name =
-      let w = whole i names.R_AARCH64_TLSDESC_ADR_PAGE21 below changed is_name in
-      let le = w.0 in
-      in_descriptor i (i - 0) 0 (omega (arith, le)) (omega arith) ((page_at (i - 0) (w.1)).0) (w.1)
+      elim (whole i names.R_AARCH64_TLSDESC_ADR_PAGE21 below changed is_name).1 [
+        | inl w ↦ in_at i (i - 0) 0 (omega arith) (to_local (i - 0) w) (omega arith) w.page.offset
+        | inr w ↦ in_at i (i - 0) 0 (omega arith) (to_initial (i - 0) w) (omega arith) w.page.offset
+      ]
   early_in i below changed early names.R_AARCH64_TLSDESC_LD64_LO12 is_name =
-      let w = whole i names.R_AARCH64_TLSDESC_LD64_LO12 below changed is_name in
-      let le = w.0 in
-      in_descriptor i (i - 1) 1 (omega (arith, le)) (omega arith) ((page_at (i - 1) (w.1)).1) (w.1)
+      let whole_is = whole i names.R_AARCH64_TLSDESC_LD64_LO12 below changed is_name in
+      let le = whole_is.0 in
+      elim whole_is.1 [
+        | inl w ↦ in_at i (i - 1 + 1) 1 (omega (arith, le)) (to_local (i - 1) w) (omega arith) w.load.offset
+        | inr w ↦ in_at i (i - 1 + 1) 1 (omega (arith, le)) (to_initial (i - 1) w) (omega arith) w.load.offset
+      ]
   early_in i below changed early names.R_AARCH64_TLSDESC_ADD_LO12 is_name =
-      let w = whole i names.R_AARCH64_TLSDESC_ADD_LO12 below changed is_name in
-      let le = w.0 in
-      in_descriptor i (i - 2) 2 (omega (arith, le)) (omega arith) ((page_at (i - 2) (w.1)).2) (w.1)
+      let whole_is = whole i names.R_AARCH64_TLSDESC_ADD_LO12 below changed is_name in
+      let le = whole_is.0 in
+      elim whole_is.1 [
+        | inl w ↦ in_at i (i - 2 + 2) 2 (omega (arith, le)) (to_local (i - 2) w) (omega arith) w.add.offset
+        | inr w ↦ in_at i (i - 2 + 2) 2 (omega (arith, le)) (to_initial (i - 2) w) (omega arith) w.add.offset
+      ]
   early_in i below changed early names.R_AARCH64_TLSDESC_CALL is_name =
-      let w = whole i names.R_AARCH64_TLSDESC_CALL below changed is_name in
-      let le = w.0 in
-      in_descriptor i (i - 3) 3 (omega (arith, le)) (omega arith) ((page_at (i - 3) (w.1)).3) (w.1)
+      let whole_is = whole i names.R_AARCH64_TLSDESC_CALL below changed is_name in
+      let le = whole_is.0 in
+      elim whole_is.1 [
+        | inl w ↦ in_at i (i - 3 + 3) 3 (omega (arith, le)) (to_local (i - 3) w) (omega arith) w.call.offset
+        | inr w ↦ in_at i (i - 3 + 3) 3 (omega (arith, le)) (to_initial (i - 3) w) (omega arith) w.call.offset
+      ]
   early_in i below changed early names.R_AARCH64_TLSIE_ADR_GOTTPREL_PAGE21 is_name =
-      let made = (of_group l.context aarch64 l.kept l.relocations l.section l.decisions linked.decided i
-      (group_stays l.kept groups.InitialExec (relocation_in l.relocations i).symbol)
-      (in_phase l.context aarch64 l.kept l.relocations l.section l.decisions linked.decided i names.R_AARCH64_TLSIE_ADR_GOTTPREL_PAGE21 phases.PreLayout below is_name early)
-      changed).1 in
-      record {
-        g = high i (record { below = below; is_name = is_name; chosen = made.chosen; decided = made.decided_so });
-        n = 0;
-        less = omega arith;
-        is = omega arith;
-      }
+      let name = names.R_AARCH64_TLSIE_ADR_GOTTPREL_PAGE21 in
+      in_at i i 0 refl (high i (half_of i name below changed is_name (decision_in i name phases.PreLayout below is_name early)))
+      (omega arith) (omega arith)
   early_in i below changed early names.R_AARCH64_TLSIE_LD64_GOTTPREL_LO12_NC is_name =
-      let made = (of_group l.context aarch64 l.kept l.relocations l.section l.decisions linked.decided i
-      (group_stays l.kept groups.InitialExec (relocation_in l.relocations i).symbol)
-      (in_phase l.context aarch64 l.kept l.relocations l.section l.decisions linked.decided i names.R_AARCH64_TLSIE_LD64_GOTTPREL_LO12_NC phases.PreLayout below is_name early)
-      changed).1 in
-      record {
-        g = low i (record { below = below; is_name = is_name; chosen = made.chosen; decided = made.decided_so });
-        n = 0;
-        less = omega arith;
-        is = omega arith;
-      }
+      let name = names.R_AARCH64_TLSIE_LD64_GOTTPREL_LO12_NC in
+      in_at i i 0 refl (low i (half_of i name below changed is_name (decision_in i name phases.PreLayout below is_name early)))
+      (omega arith) (omega arith)
   early_in i below changed early names.R_AARCH64_JUMP26 is_name =
-      let b = in_phase l.context aarch64 l.kept l.relocations l.section l.decisions linked.decided i names.R_AARCH64_JUMP26 phases.PreLayout below is_name early in
-      let made = of_option l.context aarch64 l.kept l.relocations l.section l.decisions linked.decided i (b.0) (b.1) (b.2) changed in
-      record {
-        g = jump i (record { below = below; is_name = is_name; chosen = made.chosen; decided = made.decided_so });
-        n = 0;
-        less = omega arith;
-        is = omega arith;
-      }
+      let name = names.R_AARCH64_JUMP26 in
+      in_at i i 0 refl (jump i (branch_of i name below changed is_name (decision_in i name phases.PreLayout below is_name early)))
+      (omega arith) (omega arith)
   early_in i below changed early names.R_AARCH64_CALL26 is_name =
-      let b = in_phase l.context aarch64 l.kept l.relocations l.section l.decisions linked.decided i names.R_AARCH64_CALL26 phases.PreLayout below is_name early in
-      let made = of_option l.context aarch64 l.kept l.relocations l.section l.decisions linked.decided i (b.0) (b.1) (b.2) changed in
-      record {
-        g = call i (record { below = below; is_name = is_name; chosen = made.chosen; decided = made.decided_so });
-        n = 0;
-        less = omega arith;
-        is = omega arith;
-      }
+      let name = names.R_AARCH64_CALL26 in
+      in_at i i 0 refl (call i (branch_of i name below changed is_name (decision_in i name phases.PreLayout below is_name early)))
+      (omega arith) (omega arith)
   early_in i below changed early name is_name =
-      absurd (changed (in_phase l.context aarch64 l.kept l.relocations l.section l.decisions linked.decided i name phases.PreLayout below is_name early))
+      absurd (changed (decision_in i name phases.PreLayout below is_name early))
 
   late_in : (i : ℕ) → i < count l → decision_at l.decisions i ≢ Kept → l.context.phase ≡ phases.GotToPcRel
       → (name : AArch64Relocation) → IsNameOf aarch64_name (relocation_in l.relocations i).code name → IsIn i
   late_in i below changed late names.R_AARCH64_ADR_GOT_PAGE is_name =
-      let w = whole i names.R_AARCH64_ADR_GOT_PAGE below changed is_name in
-      let le = w.0 in
-      let e : i - 0 + 0 ≡ i - 0 = omega arith in
-      in_load i (i - 0) 0 (omega (arith, le)) (omega arith) (ap (offset_of l) e ∙ (w.1).page.offset) (w.1)
+      let w = (whole i names.R_AARCH64_ADR_GOT_PAGE below changed is_name).1 in
+      in_at i (i - 0) 0 (omega arith) (load (i - 0) w) (omega arith) w.page.offset
   late_in i below changed late names.R_AARCH64_LD64_GOT_LO12_NC is_name =
       let w = whole i names.R_AARCH64_LD64_GOT_LO12_NC below changed is_name in
       let le = w.0 in
-      in_load i (i - 1) 1 (omega (arith, le)) (omega arith) ((w.1).low.offset) (w.1)
+      in_at i (i - 1 + 1) 1 (omega (arith, le)) (load (i - 1) (w.1)) (omega arith) (w.1).low.offset
   late_in i below changed late name is_name =
-      absurd (changed (in_phase l.context aarch64 l.kept l.relocations l.section l.decisions linked.decided i name phases.GotToPcRel below is_name late))
+      absurd (changed (decision_in i name phases.GotToPcRel below is_name late))
 
   short_in : (i : ℕ) → i < count l → decision_at l.decisions i ≢ Kept → l.context.phase ≡ phases.ShortPcRel
       → (name : AArch64Relocation) → IsNameOf aarch64_name (relocation_in l.relocations i).code name → IsIn i
-  short_in i below changed late names.R_AARCH64_ADR_PREL_PG_HI21 is_name =
-      let w = whole i names.R_AARCH64_ADR_PREL_PG_HI21 below changed is_name in
-      let le = w.0 in
-      let e : i - 0 + 0 ≡ i - 0 = omega arith in
-      in_address i (i - 0) 0 (omega (arith, le)) (omega arith) (ap (offset_of l) e ∙ (w.1).page.offset) (w.1)
-  short_in i below changed late names.R_AARCH64_ADD_ABS_LO12_NC is_name =
+  short_in i below changed short names.R_AARCH64_ADR_PREL_PG_HI21 is_name =
+      let w = (whole i names.R_AARCH64_ADR_PREL_PG_HI21 below changed is_name).1 in
+      in_at i (i - 0) 0 (omega arith) (address (i - 0) w) (omega arith) w.page.offset
+  short_in i below changed short names.R_AARCH64_ADD_ABS_LO12_NC is_name =
       let w = whole i names.R_AARCH64_ADD_ABS_LO12_NC below changed is_name in
       let le = w.0 in
-      in_address i (i - 1) 1 (omega (arith, le)) (omega arith) ((w.1).low.offset) (w.1)
-  short_in i below changed late name is_name =
-      absurd (changed (in_phase l.context aarch64 l.kept l.relocations l.section l.decisions linked.decided i name phases.ShortPcRel below is_name late))
+      in_at i (i - 1 + 1) 1 (omega (arith, le)) (address (i - 1) (w.1)) (omega arith) (w.1).low.offset
+  short_in i below changed short name is_name =
+      absurd (changed (decision_in i name phases.ShortPcRel below is_name short))
 
   by_phase : (i : ℕ) → i < count l → decision_at l.decisions i ≢ Kept → (p : Phase) → l.context.phase ≡ p
       → (name : AArch64Relocation) → IsNameOf aarch64_name (relocation_in l.relocations i).code name → IsIn i
   by_phase i below changed phases.PreLayout is = early_in i below changed is
   by_phase i below changed phases.TlsLocalExec is =
-      λ name is_name. absurd (changed (in_phase l.context aarch64 l.kept l.relocations l.section l.decisions linked.decided i name phases.TlsLocalExec below is_name is))
+      λ name is_name. absurd (changed (decision_in i name phases.TlsLocalExec below is_name is))
   by_phase i below changed phases.GotToPcRel is = late_in i below changed is
   by_phase i below changed phases.ShortPcRel is = short_in i below changed is
 

@@ -1,5 +1,5 @@
 -- Rewritten instructions of AArch64 in a phase, and in code that has the final bytes.
-use Rattle.std.proofs.Common.{◌≡◌, ℕ, ℤ, ◌+◌, ◌<◌, ◌≤◌, List, [], ◌∷◌, length, sym, ap, subst, ◌∙◌, refl, arith, Option, Some, Ok, Bool, true, false, IsSomeAnd}
+use Rattle.std.proofs.Common.{◌≡◌, ℕ, ℤ, ◌+◌, ◌<◌, ◌≤◌, List, [], ◌∷◌, length, sym, ap, subst, ◌∙◌, refl, arith, Some, Ok, Bool, true, false, IsSomeAnd}
 use Rattle.std.specs.Prelude.{slice_get, ⊤}
 use Rattle.linker_base.specs.Rewrite.{addend_after, offset_after}
 use Rattle.linker_base.specs.declared.bit_misc.BitRange.{BitRange}
@@ -24,7 +24,7 @@ use Rattle.linker_final.proofs.Phases.{last_length, relocation_left}
 use Rattle.linker_final.proofs.Written.{IsRowOf, applied_after, are_rewritten, by_name, entry_is_there, made_there, rela, relocation_is, unwritten_without, with_operands}
 use Rattle.linker_final.specs.AArch64Runs.{object}
 use Rattle.linker_final.specs.AArch64Section.{HasFinal, IsRewrittenOf, offset_of}
-use Rattle.linker_final.specs.Final.{IsLinked, IsWrittenByNoOther, Linked, UntouchedBytes, UntouchedInstruction, count, instruction_at}
+use Rattle.linker_final.specs.Final.{IsLinked, IsWrittenByNoOther, Linked, UntouchedInstruction, count, instruction_at}
 use Rattle.linker_laws.specs.AArch64Groups.{Code, Has, Stands}
 use Rattle.linker_laws.specs.AArch64RewriteLaws.{BeginsRewritten, IsRewritten}
 use Rattle.linker_laws.specs.Machine.{loaded}
