@@ -1,8 +1,9 @@
 # SPDX-License-Identifier: MIT OR Apache-2.0
-"""The tables of docs/PROOFS.md that say how many places the laws of rewrites cover, of the counts in
-docs/places.json, and which rewrites are in groups of the simulation. Each relocation for which the library chooses rewrites has to have a row, and each law
-has to be a definition of crates/linker_laws/specs, and a field of `Laws` or `Groups` there, which a
-contract ensures."""
+"""The tables of docs/CENSUS.md that say how many places the laws of rewrites cover, of the counts in
+docs/places.json, and that of docs/PROOFS.md of the rewrites that are in groups of the simulation.
+Each relocation for which the library chooses rewrites has to have a row, and each law has to be a
+definition of crates/linker_laws/specs, and a field of `Laws` or `Groups` there, which a contract
+ensures."""
 import json
 import re
 import subprocess
@@ -14,7 +15,7 @@ sys.path.append(str(ROOT / "tools/statistics"))
 import place_laws
 import places
 
-PAGE = "docs/PROOFS.md"
+PROOFS, CENSUS = "docs/PROOFS.md", "docs/CENSUS.md"
 MARKS = "<!-- made by tools/generate -->", "<!-- end of what tools/generate makes -->"
 GROUPS_MARKS = "<!-- groups, made by tools/generate -->", "<!-- end of the groups -->"
 # by machine: its name in texts, its specs, and the contract
@@ -146,7 +147,7 @@ def tables():
     """The text between the marks."""
     counts, lines = counted(), []
     for machine, (name, *_) in ARCHITECTURES.items():
-        lines += [f"#### {name}", "", f"Names have the prefix `{places.PREFIXES[machine]}`.", "",
+        lines += [f"### {name}", "", f"Names have the prefix `{places.PREFIXES[machine]}`.", "",
                   "| Relocations | Laws | Places | Covered | Not covered | Not seen in bytes |",
                   "|---|---|--:|--:|---|---|",
                   *("| " + " | ".join(cells) + " |" for cells in rows(machine, counts)), ""]
@@ -212,8 +213,9 @@ def groups():
 
 def make():
     check_rows()
-    page = (ROOT / PAGE).read_text()
-    for marks, text in ((MARKS, tables()), (GROUPS_MARKS, groups())):
+    pages = {}
+    for name, marks, text in ((CENSUS, MARKS, tables()), (PROOFS, GROUPS_MARKS, groups())):
+        page = (ROOT / name).read_text()
         start, end = page.index(marks[0]) + len(marks[0]), page.index(marks[1])
-        page = page[:start] + "\n\n" + text + page[end:]
-    return {PAGE: page}
+        pages[name] = page[:start] + "\n\n" + text + page[end:]
+    return pages

@@ -4,7 +4,7 @@
 stand that a linker may rewrite. Which relocations those are, and whether a rewrite is chosen for
 the bytes at a place, it asks the library (rust/examples/choice_places.rs); which laws of rewrites
 cover it, place_laws.py says. docs/CENSUS.md, "Places", says what the columns of the tables are, and
-docs/PROOFS.md, "Places that the laws cover", those of the laws.
+"Places that the laws cover" those of the laws.
 usage: tools/statistics/places.py [--json] FILE..
        tools/statistics/places.py --count LIBRARIES.json.. -- PROGRAMS.json..    writes docs/places.json, of
                                                     what --json prints of libraries and of programs"""
