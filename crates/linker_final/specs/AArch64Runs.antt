@@ -50,8 +50,8 @@ object l i = instruction_at l.section (offset_of l i)
 abbrev pub register : List ℕ → ℕ
 register instruction = rd_of (word_of instruction)
 
--- A phase gets the load whose first relocation has an index as the one before left it, and makes
--- an `adr` of it. Later phases, and other relocations, leave that alone.
+-- A later phase gets the load whose first relocation has an index as this one left it (`phases`
+-- says when), and makes an `adr` of it. Phases after that, and other relocations, leave it alone.
 pub record IsRewrittenAgain (x : Section) (l : Linked) (i : ℕ) : Type 0 where
   pub again : Linked
   pub is_phase : IsPhase x again
