@@ -22,7 +22,7 @@ GROUPS_MARKS = "<!-- groups, made by tools/generate -->", "<!-- end of the group
 ARCHITECTURES = {
     183: ("AArch64", ["AArch64Groups"], "aarch64"), 21: ("PowerPC64", ["Ppc64RewriteLaws"], "ppc64"),
     243: ("RISC-V", ["RiscVGroups"], "riscv64"), 258: ("LoongArch", ["LoongArchGroups"], "loongarch64"),
-    62: ("x86-64", ["X86RewriteLaws", "X86ThreadLaws"], "x86_64"),
+    62: ("x86-64", ["X86Groups"], "x86_64"),
 }
 # by the first law of a row: its premises on what jumps where and what reads which register
 ONE_PATH = "nothing jumps between them"
@@ -94,9 +94,9 @@ OPEN = {
     62: {
         "LoadsOfAddresses": "", "Operations": "", "ThreadOffsets": "",
         "GeneralDynamic": f"{ONE_PATH}; nothing reads what the call changes",
-        "LocalDynamic": f"{ONE_PATH}; nothing reads what the call changes; what the fields of "
-            "`DTPOFF32` and `DTPOFF64` are added to",
-        "Descriptors": f"{ONE_PATH}; nothing reads the flags, and memory that the function changes",
+        "LocalDynamic": f"{ONE_PATH}; nothing reads what the call changes; rax is used with offsets in "
+            "the block alone",
+        "BlockOffsets": "what it is added to",
         "LeaOfDescriptor": READ_BY_LOW,
         "CallOfDescriptor":
             "rax has what a `lea` put there; nothing reads the flags, and memory that the function "

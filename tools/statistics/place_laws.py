@@ -241,25 +241,17 @@ OF_X86 = {
     "Operations": "CODE_6_GOTPCRELX",
     "ThreadOffsets": "GOTTPOFF CODE_4_GOTTPOFF CODE_6_GOTTPOFF",
     "GeneralDynamic": "TLSGD",
-    "LocalDynamic": "TLSLD DTPOFF32 DTPOFF64",
-    "Descriptors": "GOTPC32_TLSDESC CODE_4_GOTPC32_TLSDESC TLSDESC_CALL",
-}
-LEA_RAX = {3: "488d05", 4: "d5088d05"}
-# of one instruction wherever it stands
-ALONE_OF_X86 = {
+    "LocalDynamic": "TLSLD",
+    "BlockOffsets": "DTPOFF32 DTPOFF64",
     "LeaOfDescriptor": "GOTPC32_TLSDESC CODE_4_GOTPC32_TLSDESC",
     "CallOfDescriptor": "TLSDESC_CALL",
 }
 
 
-def rows_of_x86(laws_of):
-    return [(laws, name) for laws, names in laws_of.items() for name in names.split()]
-
-
 def rows(machine):
     """The laws and relocations of a machine, in the order of the tables."""
     if machine == 62:
-        return rows_of_x86(OF_X86) + rows_of_x86(ALONE_OF_X86)
+        return [(laws, name) for laws, names in OF_X86.items() for name in names.split()]
     of_sequences = [(one.laws, name) for one in SEQUENCES[machine]
                     for _, names in one.steps for name in sorted(names - UNCHOSEN)]
     return of_sequences + [(laws, name) for laws, names, _ in ALONE[machine]
@@ -302,40 +294,18 @@ def count(machine, relocations, groups, word, found):
             found[laws, name][COVERED if holds else "registers"] += 1
 
 
-def count_of_x86(relocations, code, is_resolved, found):
+def count_of_x86(relocations, is_resolved, found):
     """Adds the places of a section. `is_resolved` says of a general- or local-dynamic sequence at an
     offset whether its call is one of `__tls_get_addr`."""
-    at_place = {(offset, name): symbol for offset, name, symbol, _, _ in relocations}
-    laws_of = {name: laws for laws, name in rows_of_x86(OF_X86)}
-    alone = {name: laws for laws, name in rows_of_x86(ALONE_OF_X86)}
+    laws_of = {name: laws for laws, name in rows(62)}
 
-    def begins(offset, count):
-        """The bytes of an instruction before its field."""
-        return code[max(0, offset - count):offset].hex()
-
-    def of_descriptor(offset, name, symbol):
-        count = 4 if name.startswith("CODE_4") else 3
-        if begins(offset, count) != LEA_RAX[count]:
-            return "registers"
-        return COVERED if at_place.get((offset + 4, "TLSDESC_CALL")) == symbol else "apart"
-
-    def verdict(offset, name, symbol, addend):
-        if name.startswith("DTPOFF"):
+    def verdict(offset, name, addend):
+        if name.startswith("DTPOFF") or name == "TLSDESC_CALL":
             return COVERED
-        if name == "TLSDESC_CALL":
-            for lea, count in (("GOTPC32_TLSDESC", 3), ("CODE_4_GOTPC32_TLSDESC", 4)):
-                if at_place.get((offset - 4, lea)) == symbol:
-                    return of_descriptor(offset - 4, lea, symbol)
-            return "apart"
         if addend != -4:
             return "addend"
-        if name in ("TLSGD", "TLSLD"):
-            return COVERED if is_resolved(offset, name) else "call"
-        return of_descriptor(offset, name, symbol) if "TLSDESC" in name else COVERED
+        return COVERED if name not in ("TLSGD", "TLSLD") or is_resolved(offset, name) else "call"
 
-    for offset, name, symbol, addend, response in relocations:
+    for offset, name, _, addend, response in relocations:
         if response == "y":
-            found[laws_of[name], name][verdict(offset, name, symbol, addend)] += 1
-            if name in alone:
-                is_behind = name == "TLSDESC_CALL" or addend == -4
-                found[alone[name], name][COVERED if is_behind else "addend"] += 1
+            found[laws_of[name], name][verdict(offset, name, addend)] += 1

@@ -155,7 +155,7 @@ class Section:
         cover the places."""
         resolved = set()
         self.count_tls_calls_of_x86(counts, all_relocations, resolved)
-        place_laws.count_of_x86(self.relocations, self.code, lambda *at: at in resolved, counts.laws)
+        place_laws.count_of_x86(self.relocations, lambda *at: at in resolved, counts.laws)
 
     def count_tls_calls_of_x86(self, counts, all_relocations, resolved):
         """Adds the sequences whose call is one of `__tls_get_addr` to those that are resolved."""

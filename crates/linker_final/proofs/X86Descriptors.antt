@@ -1,7 +1,9 @@
--- The `lea` of a descriptor's address of x86-64 and the call of its function do in the final bytes
--- what the object's do.
-use Rattle.std.proofs.Common.{◌≡◌, ℕ, ◌+◌, ◌-◌, ◌<◌, ◌≤◌, ◌||◌, Bool, List, [], ◌∷◌, drop, false, true, refl, sym, ap, subst, ◌∙◌, inl, inr, arith, IsSomeAnd, IsTrue}
+-- The `lea` of a descriptor's address of x86-64 and the call of its function are groups in the
+-- final bytes.
+use Rattle.std.proofs.Common.{◌≡◌, ℕ, ◌+◌, ◌-◌, ◌<◌, ◌≤◌, ◌||◌, Bool, List, [], ◌∷◌, drop, false, true, refl, sym, ap, subst, ◌∙◌, inl, inr, arith, IsTrue, Some, neg_ℤ, pos}
 use Rattle.linker_base.specs.Rewrite.{replaces}
+use Rattle.linker_section.specs.declared.facts.Symbol.{Symbol}
+use Rattle.linker_utils.specs.X86RelocationsAfter.{x86_64_relocation_after}
 use Rattle.linker_elf.specs.ElfNames.{IsNamed, IsNameOf, code_of}
 use Rattle.linker_elf.specs.X86Relocations.{x86_64_name}
 use Rattle.linker_elf.specs.declared.elf.choice.Choice.{Choice}
@@ -9,18 +11,21 @@ use Rattle.linker_elf.specs.declared.x86_64.relocations.X86_64Relocation.{X86_64
 use Rattle.linker_elf.specs.declared.x86_64.relocations.X86_64Relocation.TheVariants as names
 use Rattle.linker_final.proofs.Inner.{HasWindow, own_window}
 use Rattle.linker_final.proofs.X86Chosen.{IsOfTable, of_table}
-use Rattle.linker_final.proofs.X86Finals.{final_is}
+use Rattle.linker_final.proofs.PutBack.{same_windows}
+use Rattle.linker_final.proofs.X86Finals.{final_is, some_and}
 use Rattle.linker_final.proofs.X86Lawful.{AreOf, shaped_of}
 use Rattle.linker_final.proofs.X86Patterns.{of_or, or_first, or_second, there_inside}
 use Rattle.linker_final.proofs.X86Rows.{tpoff32}
 use Rattle.linker_final.proofs.X86ThreadEntries.{entry_final}
-use Rattle.linker_final.proofs.X86Windows.{HasRewrite, object_bytes, object_has, object_matches, offset_small, unrelocated}
-use Rattle.linker_final.specs.Final.{UntouchedByOthers, IsLinked, Linked, count}
-use Rattle.linker_final.specs.X86ThreadFinal.{CallDoesTheSame, DescriptorAddresses, DescriptorCalls, EntryHolds, LeaDoesTheSame, object_in, reads_entry}
+use Rattle.linker_final.proofs.X86Windows.{HasRewrite, object_bytes, object_has, object_length, object_matches, object_same, offset_small, unrelocated}
+use Rattle.linker_final.specs.Final.{UntouchedByOthers, IsLinked, Linked, count, put_back}
+use Rattle.linker_final.specs.X86Final.{StandsThere}
+use Rattle.linker_final.specs.X86ThreadFinal.{CallDoesTheSame, DescriptorAddresses, DescriptorCalls, LeaDoesTheSame, Makes}
 use Rattle.linker_laws.proofs.X86Fields.{thread_row}
-use Rattle.linker_laws.specs.X86ThreadLaws as laws
-use Rattle.linker_laws.specs.X86ThreadLaws.{AgreeBut, IsDescriptorCall, LeaToEntry, LeaToOffset, WritesNothing, after_call, reg_after_rex, reg_after_rex2}
-use Rattle.linker_laws.specs.X86Machine.{State, step}
+use Rattle.linker_laws.specs.Simulation.{State}
+use Rattle.linker_laws.specs.X86Groups as groups
+use Rattle.linker_laws.specs.X86Groups.{Code, LeaToEntry, LeaToOffset, Stands, reg_after_rex, reg_after_rex2, seen}
+use Rattle.linker_laws.specs.X86RewriteLaws.{IsBefore}
 use Rattle.linker_rewriting.specs.Decisions.{decision_at}
 use Rattle.linker_rewriting.specs.declared.decisions.Decision.TheVariants.{Rewritten}
 use Rattle.linker_section.specs.Relocations.{relocation_in}
@@ -43,6 +48,8 @@ module _ (n : ℕ) (three : 3 ≤ n) (name : X86_64Relocation) (named : IsNamed 
     → IsTrue (is_one_at (x86_64_originals (kinds.TlsDescToLocalExec n)) bytes o))
     (of_entry : (bytes : List ℕ) (o : ℕ) → IsTrue (is_one_at (lea_of_descriptor n) bytes o)
     → IsTrue (is_one_at (x86_64_originals kinds.TlsDescToInitialExec) bytes o))
+    (offset_after : x86_64_relocation_after (kinds.TlsDescToLocalExec n) name ≡ Some names.R_X86_64_TPOFF32)
+    (entry_after : x86_64_relocation_after kinds.TlsDescToInitialExec name ≡ Some names.R_X86_64_GOTTPOFF)
     (to_offset : LeaToOffset n name register_of) (to_entry : LeaToEntry n name register_of)
     (l : Linked) (linked : IsLinked l) (x86 : l.context.architecture ≡ X86_64) (i : ℕ)
     (chosen : Choice Relaxation ℕ) (below : i < count l)
@@ -57,7 +64,7 @@ module _ (n : ℕ) (three : 3 ≤ n) (name : X86_64Relocation) (named : IsNamed 
     o = r.offset
 
     abbrev object : List ℕ
-    object = object_in l o n 4
+    object = put_back (o - n) (n + 4) l.section l.final
 
     abbrev has_rewrite : (kind : RewriteKind) → chosen.kind ≡ relaxations.X86_64 kind
         → HasWindow n 4 (x86_64_rewrite kind) → IsTrue (is_one_at (lea_of_descriptor n) l.section o)
@@ -76,45 +83,53 @@ module _ (n : ℕ) (three : 3 ≤ n) (name : X86_64Relocation) (named : IsNamed 
           alone = alone;
         }
 
+    -- the state before it
+    before : (kind : RewriteKind) (has : HasRewrite l i n 4 kind) (symbol : Symbol) (entry : ℕ) (c : Code)
+        (s : State)
+        → let operands = operands_with X86_64 l.addresses thread_row symbol r entry in
+        StandsThere l i n 4 name operands c s → r.addend ≡ neg_ℤ (pos 4)
+        → IsBefore n object o operands (seen s)
+    before kind has symbol entry c s there addend =
+        record {
+          bytes = object_bytes l i n 4 kind has;
+          offset = offset_small l i n 4 kind has;
+          addresses = there.addresses;
+          addend = addend;
+          ip = there.pc;
+        }
+
     by_entry : IsOfTable (descriptor_table n) l.section o r.addend chosen
         → LeaDoesTheSame n name register_of l i chosen thread_row
     by_entry (inl this) =
-        λ symbol is_symbol entry s t c original addresses ip agree holds was.
+        λ symbol is_symbol entry c s at h k descriptor makes.
         let kind = kinds.TlsDescToLocalExec n in
         let window = own_window n 4 (x86_64_rewrite kind) (rex_mov n) refl (λ window. refl) three (omega arith) in
         let has = has_rewrite kind this.kind_is window (this.has_pattern.0) (this.has_pattern.1) in
         let there = object_has l i n 4 kind has (lea_of_descriptor n) (shaped_of n 4 (lea_of_descriptor n) shape) (this.has_pattern.0) in
         let operands = operands_with X86_64 l.addresses thread_row symbol r entry in
-        to_offset object original l.final o operands s t c
-        (record {
-          bytes = object_bytes l i n 4 kind has;
-          offset = offset_small l i n 4 kind has;
-          addresses = addresses;
-          addend = sym this.same_addend ∙ this.hold.1.1.1.0;
-          ip = ip;
-        })
-        there (object_matches l i n 4 kind has (of_offset object o there)) agree tt was
+        some_and _ (x86_64_relocation_after kind name) names.R_X86_64_TPOFF32 offset_after to_offset c s object
+        at.original l.final o operands
+        (before kind has symbol entry c s at (sym this.same_addend ∙ this.hold.1.1.1.0)) there
+        (object_matches l i n 4 kind has (of_offset object o there)) at.applied
         (final_is l i n 4 kind has names.R_X86_64_TPOFF32 tpoff32
         (ap (is_of_got X86_64) (sym is_name.code_is) ∙ not_of_got) this.code_is (omega arith) (omega arith) symbol is_symbol entry)
+        at.old at.new h k descriptor
+        (subst (λ x. Makes x symbol c k s operands (c.new_half h)) this.kind_is makes)
     by_entry (inr (inl this)) =
-        λ symbol is_symbol entry s t c original addresses ip agree holds was.
+        λ symbol is_symbol entry c s at h k descriptor makes.
         let kind = kinds.TlsDescToInitialExec in
         let window = own_window n 4 (x86_64_rewrite kind) (replaces 2 1 _) refl (λ window. refl) (omega (arith, three)) (omega arith) in
         let has = has_rewrite kind this.kind_is window (this.has_pattern.0) (this.has_pattern.1) in
         let there = object_has l i n 4 kind has (lea_of_descriptor n) (shaped_of n 4 (lea_of_descriptor n) shape) (this.has_pattern.0) in
         let operands = operands_with X86_64 l.addresses thread_row symbol r entry in
-        let held : EntryHolds true symbol operands t =
-        subst (λ b. EntryHolds b symbol operands t) (ap reads_entry this.kind_is) holds in
-        to_entry symbol.thread_entry (held.0) object original l.final o operands s t c
-        (record {
-          bytes = object_bytes l i n 4 kind has;
-          offset = offset_small l i n 4 kind has;
-          addresses = addresses;
-          addend = sym this.same_addend ∙ this.hold.1.1.0;
-          ip = ip;
-        })
-        there (object_matches l i n 4 kind has (of_entry object o there)) agree (held.1) was
+        let made : Makes (relaxations.X86_64 kind) symbol c k s operands (c.new_half h) =
+        subst (λ x. Makes x symbol c k s operands (c.new_half h)) this.kind_is makes in
+        some_and _ (x86_64_relocation_after kind name) names.R_X86_64_GOTTPOFF entry_after
+        (to_entry symbol.thread_entry (made.0)) c s object at.original l.final o operands
+        (before kind has symbol entry c s at (sym this.same_addend ∙ this.hold.1.1.0)) there
+        (object_matches l i n 4 kind has (of_entry object o there)) at.applied
         (entry_final l i n 4 kind has this.code_is symbol is_symbol (omega arith) (omega arith) entry)
+        at.old at.new h k descriptor (made.1)
     by_entry (inr (inr nothing)) = absurd nothing
 
 -- an instruction that is one of one is one of two
@@ -125,25 +140,25 @@ first a b is =
       | inr none ↦ absurd (let e : false ≡ true = none in cc)
     ]
 
-pub addresses : laws.LeaOfDescriptor → DescriptorAddresses
+pub addresses : groups.LeaOfDescriptor → DescriptorAddresses
 addresses law = (
   λ l linked x86 i chosen below is_name decided alone.
       by_entry 3 (omega arith) names.R_X86_64_GOTPC32_TLSDESC tt refl reg_after_rex ((refl, refl), tt)
       (λ bytes o is. is)
       (λ bytes o is. first (is_at (with_rex rex_w 0x8d) bytes o) (is_at (with_rex2 rex2_w 0x8d) bytes o || false) is)
-      (law.0) (law.1) l linked x86 i chosen below is_name decided alone
+      refl refl (law.0) (law.1) l linked x86 i chosen below is_name decided alone
       (of_table l linked x86 i chosen below decided names.R_X86_64_GOTPC32_TLSDESC tt is_name),
   λ l linked x86 i chosen below is_name decided alone.
       by_entry 4 (omega arith) names.R_X86_64_CODE_4_GOTPC32_TLSDESC tt refl reg_after_rex2 ((refl, refl), tt)
       (λ bytes o is. is)
       (λ bytes o is. or_second (is_at (with_rex rex_w 0x8d) bytes o) (is_at (with_rex2 rex2_w 0x8d) bytes o || false) is)
-      (law.2) (law.3) l linked x86 i chosen below is_name decided alone
+      refl refl (law.2) (law.3) l linked x86 i chosen below is_name decided alone
       (of_table l linked x86 i chosen below decided names.R_X86_64_CODE_4_GOTPC32_TLSDESC tt is_name),
 )
 
 -- ---- the call
 
-module _ (law : laws.CallOfDescriptor) (l : Linked) (linked : IsLinked l)
+module _ (law : groups.CallOfDescriptor) (l : Linked) (linked : IsLinked l)
     (x86 : l.context.architecture ≡ X86_64) (i : ℕ) (chosen : Choice Relaxation ℕ) (below : i < count l)
     (decided : decision_at l.decisions i ≡ Rewritten chosen)
     (alone : UntouchedByOthers l i (relocation_in l.relocations i).offset 2)
@@ -157,7 +172,7 @@ module _ (law : laws.CallOfDescriptor) (l : Linked) (linked : IsLinked l)
     by_call : IsOfTable (any_entry (unrelocated_by kinds.SkipTlsDescCall ∷ [])) l.section at (relocation_in l.relocations i).addend chosen
         → CallDoesTheSame l i
     by_call (inl this) =
-        λ operands s t c changed returned descriptor agree returns.
+        λ c s old new.
         let has : HasRewrite l i 0 2 skip = record {
           linked = linked;
           x86 = x86;
@@ -170,16 +185,17 @@ module _ (law : laws.CallOfDescriptor) (l : Linked) (linked : IsLinked l)
           room = there_inside 0 2 (omega arith) (x86_64_originals skip) l.section at ((refl, refl), tt) (this.has_pattern.1.1);
           alone = subst (λ start. UntouchedByOthers l i start 2) (let e : at ≡ at - 0 = omega arith in e) alone;
         } in
-        subst (λ xs. IsSomeAnd (step (drop at xs) t) (λ v. WritesNothing t v
-        × ((u : State) → IsDescriptorCall 2 changed returned s u → u.fs ≡ s.fs → AgreeBut (after_call changed s c) u v)))
-        (unrelocated l i 0 2 skip has this.code_is)
-        (law operands s t c changed returned (object_in l at 0 2) at
+        let object = put_back (at - 0) (0 + 2) l.section l.final in
+        law c s object at (object_bytes l i 0 2 skip has)
         (object_matches l i 0 2 skip has
         (object_has l i 0 2 skip has (x86_64_originals skip) (shaped_of 0 2 (x86_64_originals skip) ((refl, refl), tt)) (this.has_pattern.1.1)))
-        descriptor agree returns)
+        (old
+        ∙ same_windows at 2 l.section object (has.room.1) (object_length l i 0 2 skip has)
+        (λ j from less. object_same l i 0 2 skip has j (omega (arith, from)) less))
+        (subst (λ xs. Stands c.new s.pc 2 (drop at xs)) (sym (unrelocated l i 0 2 skip has this.code_is)) new)
     by_call (inr nothing) = absurd nothing
 
-pub calls : laws.CallOfDescriptor → DescriptorCalls
+pub calls : groups.CallOfDescriptor → DescriptorCalls
 calls law l linked x86 i chosen below is_name decided alone =
     by_call law l linked x86 i chosen below decided alone
     (of_table l linked x86 i chosen below decided names.R_X86_64_TLSDESC_CALL tt is_name)

@@ -1,4 +1,4 @@
--- A rewritten instruction of x86-64 does in the final bytes what the object's does.
+-- A rewritten instruction of x86-64 is a group in the final bytes.
 use Rattle.std.proofs.Common.{◌≡◌, ℕ, ℤ, pos, ◌+◌, ◌-◌, ◌^◌, ◌<◌, ◌≤◌, List, false, sym, ap, subst, ◌∙◌, arith, Option, Some, IsSomeAnd}
 use Rattle.std.proofs.lemmas.Bool.{cond-false}
 use Rattle.std.specs.Prelude.{slice_get}
@@ -19,8 +19,9 @@ use Rattle.linker_final.proofs.X86Patterns.{there_inside}
 use Rattle.linker_final.proofs.X86Rows.{IsAfterRow}
 use Rattle.linker_final.proofs.X86Windows.{HasRewrite, object_bytes, object_has, object_matches, offset_small, of_row, rela, relocated_after}
 use Rattle.linker_final.specs.Final.{Linked, IsLinked, UntouchedByOthers, count, put_back}
-use Rattle.linker_final.specs.X86Final.{GotOperand, got_operand, DoesTheSame, GotOperands}
-use Rattle.linker_laws.specs.X86RewriteLaws.{IsRelocated, IsBefore, Laws}
+use Rattle.linker_final.specs.X86Final.{GotOperand, got_operand, DoesTheSame, GotOperands, IsGroupOf}
+use Rattle.linker_laws.specs.X86Groups.{Groups, seen}
+use Rattle.linker_laws.specs.X86RewriteLaws.{IsRelocated, IsBefore}
 use Rattle.linker_rewriting.specs.Decisions.{decision_at}
 use Rattle.linker_rewriting.specs.declared.decisions.Decision.TheVariants.{Rewritten}
 use Rattle.linker_elf.specs.Value.{loads_plt_word}
@@ -123,7 +124,7 @@ final_is l i back end kind is after a before_is code_is low high symbol is_symbo
 
 -- ---- one instruction
 
-module _ (laws : Laws) (name : X86_64Relocation) (operand : GotOperand)
+module _ (laws : Groups) (name : X86_64Relocation) (operand : GotOperand)
     (wanted : got_operand name ≡ Some operand) (l : Linked) (linked : IsLinked l)
     (x86 : l.context.architecture ≡ X86_64) (i : ℕ) (chosen : Choice Relaxation ℕ)
     (below : i < count l) (decided : decision_at l.decisions i ≡ Rewritten chosen)
@@ -193,24 +194,26 @@ module _ (laws : Laws) (name : X86_64Relocation) (operand : GotOperand)
           final_is l i operand.back 4 kind has_rewrite after a before_is served.code_is
           (moves.0) (omega (arith, high)) symbol is_symbol entry
 
-    does_the_same : (a : IsAfterRow after) → DoesTheSame l i name operand a.row
-    does_the_same a symbol is_symbol entry s original addresses holds ip was =
-        let before : IsBefore operand.back object o (operands_of_object a symbol is_symbol entry) s =
+    does_the_same : (a : IsAfterRow after) → DoesTheSame l i chosen name operand a.row
+    does_the_same a symbol is_symbol entry c s there =
+        let operands = operands_of_object a symbol is_symbol entry in
+        let before : IsBefore operand.back object o operands (seen s) =
         record {
           bytes = object_bytes l i operand.back 4 kind has_rewrite;
           offset = small;
-          addresses = addresses;
+          addresses = there.addresses;
           addend = addend_was l.addresses after a symbol r w.made chosen.relocation entry small
               before_is (ap (is_of_got X86_64) served.code_is ∙ a.is_not_of_got)
               ∙ served.is_from_end;
-          ip = ip;
+          ip = there.pc;
         } in
-        some_and _ (x86_64_relocation_after kind name) after law.after law.law
-        object original l.final o (operands_of_object a symbol is_symbol entry) s before
+        subst (λ k. IsGroupOf k operand.held c operands s) (sym served.kind_is)
+        (some_and _ (x86_64_relocation_after kind name) after law.after law.law
+        c s object there.original l.final o operands before
         (object_has l i operand.back 4 kind has_rewrite law.instructions (shaped_of operand.back 4 law.instructions law.are_of) law.there)
         (object_matches l i operand.back 4 kind has_rewrite
         (object_has l i operand.back 4 kind has_rewrite (x86_64_originals kind) law.shaped_too (law.matches.1)))
-        holds was (relocated a symbol is_symbol entry)
+        there.applied (relocated a symbol is_symbol entry) there.old there.new)
 
     -- the row of the relocation after
     row_same : (row : RelocationKindInfo) (is_row : IsRow X86_64 chosen.relocation (Some row))
@@ -220,10 +223,10 @@ module _ (laws : Laws) (name : X86_64Relocation) (operand : GotOperand)
         ap (of_row row) (sym (is_row.value_is ∙ (ap x86_64_row same ∙ law.row.is)))
 
     pub of_any_row : (row : RelocationKindInfo) → IsRow X86_64 chosen.relocation (Some row)
-        → DoesTheSame l i name operand row
+        → DoesTheSame l i chosen name operand row
     of_any_row row is_row =
-        subst (DoesTheSame l i name operand) (row_same row is_row) (does_the_same law.row)
+        subst (DoesTheSame l i chosen name operand) (row_same row is_row) (does_the_same law.row)
 
-pub joined : Laws → GotOperands
+pub joined : Groups → GotOperands
 joined laws name operand wanted l linked x86 i chosen below decided is_name alone row is_row =
     of_any_row laws name operand wanted l linked x86 i chosen below decided is_name alone row is_row

@@ -12,8 +12,9 @@ use Rattle.linker_elf.specs.declared.x86_64.relocations.X86_64Relocation.TheVari
 use Rattle.linker_final.proofs.Inner.{IsWithin, within, lea, jump, wide}
 use Rattle.linker_final.proofs.X86Chosen.{IsOfOne, IsOfTable}
 use Rattle.linker_final.proofs.X86Rows.{IsAfterRow, pc32, absolute32, signed32, tpoff32}
-use Rattle.linker_final.specs.X86Final.{GotOperand, got_operand}
-use Rattle.linker_laws.specs.X86RewriteLaws.{DoesTheSame, Laws, address, thread_offset}
+use Rattle.linker_final.specs.X86Final.{GotOperand, IsGroupOf, got_operand}
+use Rattle.linker_laws.specs.X86Groups.{Groups, Rewritten}
+use Rattle.linker_laws.specs.X86RewriteLaws.{address, thread_offset}
 use Rattle.linker_utils.specs.declared.architecture.Relaxation.{Relaxation}
 use Rattle.linker_utils.specs.declared.architecture.Relaxation.TheVariants as relaxations
 use Rattle.linker_utils.specs.X86RelocationsAfter.{x86_64_relocation_after, immediate_of}
@@ -46,6 +47,12 @@ shaped_of n end (r ∷ rs) are =
 
 -- ---- a rewrite with its law
 
+-- An instruction with n bytes before its field is a group.
+abbrev pub Law : ℕ → List Original → X86_64Relocation → RewriteKind → (Operands → ℕ) → Type 0
+Law n instructions name kind held =
+    Rewritten n (n + 4) instructions name kind (λ operands. operands)
+    (IsGroupOf (relaxations.X86_64 kind) held)
+
 -- for a relocation of a name, with n bytes before the field, and what the GOT's entry holds
 pub record HasLaw (n : ℕ) (name : X86_64Relocation) (held : Operands → ℕ) (section : List ℕ) (o : ℕ)
     (chosen : Choice RewriteKind X86_64Relocation) : Type 0 where
@@ -55,7 +62,7 @@ pub record HasLaw (n : ℕ) (name : X86_64Relocation) (held : Operands → ℕ) 
   pub matches : x86_64_matches chosen.kind section o
   pub shaped_too : HaveShape n 4 (x86_64_originals chosen.kind)
   pub after : x86_64_relocation_after chosen.kind name ≡ Some chosen.relocation
-  pub law : DoesTheSame n instructions name chosen.kind held
+  pub law : Law n instructions name chosen.kind held
   pub within : IsWithin n (x86_64_rewrite chosen.kind)
   pub row : IsAfterRow chosen.relocation
 
@@ -70,7 +77,7 @@ pub by_pattern : (n : ℕ) (name : X86_64Relocation) (held : Operands → ℕ) (
     (e : X86Entry) → AreOf n 4 pattern → HaveShape n 4 (x86_64_originals e.kind)
     → x86_64_relocation_after e.kind name ≡ Some e.relocation
     → IsWithin n (x86_64_rewrite e.kind) → IsAfterRow e.relocation
-    → DoesTheSame n pattern name e.kind held → Serves n name held pattern e
+    → Law n pattern name e.kind held → Serves n name held pattern e
 by_pattern n name held pattern e shaped shaped_too after within row law =
     record {
       serve = λ section o is. record {
@@ -91,7 +98,7 @@ pub by_originals : (n : ℕ) (name : X86_64Relocation) (held : Operands → ℕ)
     (e : X86Entry) → AreOf n 4 (x86_64_originals e.kind)
     → x86_64_relocation_after e.kind name ≡ Some e.relocation
     → IsWithin n (x86_64_rewrite e.kind) → IsAfterRow e.relocation
-    → DoesTheSame n (x86_64_originals e.kind) name e.kind held → Serves n name held pattern e
+    → Law n (x86_64_originals e.kind) name e.kind held → Serves n name held pattern e
 by_originals n name held pattern e shaped after within row law =
     record {
       serve = λ section o is. record {
@@ -182,7 +189,7 @@ module _ (n : ℕ) (name : X86_64Relocation) where
   operation : (kind : RewriteKind) → AreOf n 4 (x86_64_originals kind)
       → x86_64_relocation_after kind name ≡ Some (immediate_of n)
       → IsWithin n (x86_64_rewrite kind) → IsAfterRow (immediate_of n)
-      → DoesTheSame n (x86_64_originals kind) name kind address
+      → Law n (x86_64_originals kind) name kind address
       → TableServes n name address (x86.operation_table n kind)
   operation kind shaped after inside row law =
       record {
@@ -200,9 +207,9 @@ module _ (n : ℕ) (name : X86_64Relocation) where
   movs : AreOf n 4 (legacy n 0x8b) → HaveShape n 4 (x86_64_originals (x86.mov_of n))
       → x86_64_relocation_after (x86.mov_of n) name ≡ Some (immediate_of n)
       → IsWithin n (x86_64_rewrite (x86.mov_of n)) → IsAfterRow (immediate_of n)
-      → DoesTheSame n (legacy n 0x8b) name (x86.mov_of n) address → 2 ≤ n
+      → Law n (legacy n 0x8b) name (x86.mov_of n) address → 2 ≤ n
       → x86_64_relocation_after kinds.MovIndirectToLea name ≡ Some names.R_X86_64_PC32
-      → DoesTheSame n (legacy n 0x8b) name kinds.MovIndirectToLea address
+      → Law n (legacy n 0x8b) name kinds.MovIndirectToLea address
       → TableServes n name address (x86.mov_table n)
   movs shaped shaped_too after inside row law long distance lea_law =
       record {
@@ -213,7 +220,7 @@ module _ (n : ℕ) (name : X86_64Relocation) where
   offset : (kind : RewriteKind) → AreOf n 4 (x86_64_originals kind)
       → x86_64_relocation_after kind name ≡ Some names.R_X86_64_TPOFF32
       → IsWithin n (x86_64_rewrite kind)
-      → DoesTheSame n (x86_64_originals kind) name kind thread_offset
+      → Law n (x86_64_originals kind) name kind thread_offset
       → TableServes n name thread_offset (x86.any_entry (x86.local_exec_by kind ∷ []))
   offset kind shaped after inside law =
       record {
@@ -246,7 +253,7 @@ module _ (n : ℕ) (name : X86_64Relocation) where
 
 -- ---- all names
 
-module _ (laws : Laws) where
+module _ (laws : Groups) where
   got_2 : (opcode : ℕ) → TableServes 2 names.R_X86_64_GOTPCRELX address (x86.got_table 2 opcode)
   got_2 opcode =
       got 2 names.R_X86_64_GOTPCRELX opcode

@@ -1,31 +1,33 @@
--- Calls of `__tls_get_addr` of x86-64 that were rewritten do in the final bytes what the object's
--- do.
-use Rattle.std.proofs.Common.{◌≡◌, ℕ, suc, ◌+◌, ◌-◌, ◌^◌, ◌<◌, ◌≤◌, ◌⊎◌, List, [], ◌∷◌, drop, is_some, true, refl, sym, ap, subst, ◌∙◌, inl, inr, arith, IsSomeAnd, neg_ℤ, pos}
+-- Calls of `__tls_get_addr` of x86-64 that were rewritten are groups in the final bytes.
+use Rattle.std.proofs.Common.{Some, ◌≡◌, ℕ, suc, ◌+◌, ◌-◌, ◌^◌, ◌<◌, ◌≤◌, ◌⊎◌, List, [], ◌∷◌, drop, is_some, true, refl, sym, ap, subst, ◌∙◌, inl, inr, arith, IsSomeAnd, neg_ℤ, pos}
 use Rattle.std.proofs.lemmas.Bool.{cases_eq, cases_lt}
 use Rattle.std.specs.Prelude.{⊤}
 use Rattle.linker_elf.specs.ElfNames.{IsNameOf, code_of}
-use Rattle.linker_elf.specs.Value.{difference_64}
 use Rattle.linker_elf.specs.X86Relocations.{x86_64_name}
 use Rattle.linker_elf.specs.declared.elf.RelocationKindInfo.{RelocationKindInfo}
 use Rattle.linker_elf.specs.declared.elf.choice.Choice.{Choice}
+use Rattle.linker_elf.specs.declared.elf.value.Operands.{Operands}
+use Rattle.linker_elf.specs.declared.x86_64.relocations.X86_64Relocation.{X86_64Relocation}
 use Rattle.linker_elf.specs.declared.x86_64.relocations.X86_64Relocation.TheVariants as names
+use Rattle.linker_base.specs.Rewrite.{rewritten}
+use Rattle.linker_utils.specs.X86RelocationsAfter.{x86_64_relocation_after}
 use Rattle.linker_final.proofs.Inner.{HasWindow, own_window}
 use Rattle.linker_final.proofs.Phases.{relocation_left}
 use Rattle.linker_final.proofs.X86Chosen.{IsOfTable, of_table}
-use Rattle.linker_final.proofs.X86Finals.{final_is}
+use Rattle.linker_final.proofs.X86Finals.{final_is, some_and}
 use Rattle.linker_final.proofs.X86Lawful.{AreOf, shaped_of}
 use Rattle.linker_final.proofs.X86Patterns.{there_inside}
 use Rattle.linker_final.proofs.X86Rows.{tpoff32}
 use Rattle.linker_final.proofs.X86ThreadEntries.{entry_final}
 use Rattle.linker_final.proofs.X86Windows.{HasRewrite, no_field, object_bytes, object_has, object_matches, offset_small, unrelocated}
-use Rattle.linker_final.specs.Final.{UntouchedByOthers, HasNoByte, UntouchedBytes, IsLinked, Linked, count}
-use Rattle.linker_final.specs.X86ThreadFinal.{AddressIsTheSame, AreAloneWithNext, BlockIsReplaced, EntryHolds, GeneralDynamic, LocalDynamic, general_dynamic, local_dynamic, object_in, reads_entry}
+use Rattle.linker_final.specs.Final.{UntouchedByOthers, HasNoByte, UntouchedBytes, IsLinked, Linked, count, put_back}
+use Rattle.linker_final.specs.X86Final.{StandsThere}
+use Rattle.linker_final.specs.X86ThreadFinal.{AddressIsTheSame, AreAloneWithNext, BlockIsReplaced, CallSequence, EntryHolds, GeneralDynamic, LocalDynamic, general_dynamic, local_dynamic}
 use Rattle.linker_laws.proofs.X86Fields.{thread_row, tls_module_row}
-use Rattle.linker_laws.specs.Schemes.{AreAddresses}
-use Rattle.linker_laws.specs.X86RewriteLaws.{IsBefore, thread_offset}
-use Rattle.linker_laws.specs.X86Machine.{State, load}
-use Rattle.linker_laws.specs.X86ThreadLaws as laws
-use Rattle.linker_laws.specs.X86ThreadLaws.{EndAlike, ReachTheSame, ReplacesCall, ReplacesModuleCall}
+use Rattle.linker_laws.specs.Simulation.{Kinds, State}
+use Rattle.linker_laws.specs.X86Groups as groups
+use Rattle.linker_laws.specs.X86Groups.{AddsOffset, Code, IsModuleCall, IsThreadCall, Stands, seen}
+use Rattle.linker_laws.specs.X86RewriteLaws.{IsBefore, IsRelocated}
 use Rattle.linker_rewriting.specs.Decisions.{IsDecidedAfter, decision_at, start_by, takes_next, written_end_by}
 use Rattle.linker_rewriting.specs.Rewritten.{relocation_after}
 use Rattle.linker_rewriting.specs.declared.decisions.Decision.TheVariants.{Rewritten, Consumed}
@@ -89,6 +91,17 @@ module _ (l : Linked) (linked : IsLinked l) (x86 : l.context.architecture ≡ X8
 abbrev any : List Original
 any = original 0 [] ∷ []
 
+-- that of a module is a group
+abbrev Law : ℕ → ℕ → ℕ → RewriteKind → Type 0
+Law back call count kind =
+    (c : Code) (s : State) (section original : List ℕ) (o : ℕ) (operands : Operands)
+    → IsBefore back section o operands (seen s)
+    → x86_64_matches kind section o
+    → IsRelocated names.R_X86_64_TLSLD operands o section original
+    → Stands c.old s.pc (back + 4) (drop (o - back) original)
+    → Stands c.new s.pc (back + (4 + call)) (drop (o - back) (rewritten (x86_64_rewrite kind) section o))
+    → IsModuleCall (back + (4 + call)) count c operands s
+
 module _ (l : Linked) (linked : IsLinked l) (x86 : l.context.architecture ≡ X86_64) (i : ℕ)
     (chosen : Choice Relaxation ℕ) (below : i < count l)
     (decided : decision_at l.decisions i ≡ Rewritten chosen)
@@ -122,7 +135,7 @@ module _ (l : Linked) (linked : IsLinked l) (x86 : l.context.architecture ≡ X8
       }
 
   abbrev object : List ℕ
-  object = object_in l o back (4 + call)
+  object = put_back (o - back) (back + (4 + call)) l.section l.final
 
   matches : x86_64_matches kind object o
   matches =
@@ -130,59 +143,72 @@ module _ (l : Linked) (linked : IsLinked l) (x86 : l.context.architecture ≡ X8
       (object_has l i back (4 + call) kind has (x86_64_originals kind)
       (shaped_of back (4 + call) (x86_64_originals kind) shape) (pattern.1.1))
 
-  before : (row : RelocationKindInfo) (symbol : Symbol) (entry : ℕ) (s : State)
-      → let operands = operands_with X86_64 l.addresses row symbol r entry in
-      AreAddresses operands → operands.addend ≡ neg_ℤ (pos 4) → s.ip ≡ difference_64 operands.place back
-      → IsBefore back object o operands s
-  before row symbol entry s addresses addend ip =
-      record {
-        bytes = object_bytes l i back (4 + call) kind has;
-        offset = offset_small l i back (4 + call) kind has;
-        addresses = addresses;
-        addend = addend;
-        ip = ip;
-      }
+  -- of a symbol and of an entry
+  module _ (row : RelocationKindInfo) (symbol : Symbol) (entry : ℕ) (name : X86_64Relocation) (c : Code)
+      (s : State)
+      (there : StandsThere l i back (4 + call) name (operands_with X86_64 l.addresses row symbol r entry) c s)
+      (addend : (operands_with X86_64 l.addresses row symbol r entry).addend ≡ neg_ℤ (pos 4)) where
+    before : IsBefore back object o (operands_with X86_64 l.addresses row symbol r entry) (seen s)
+    before =
+        record {
+          bytes = object_bytes l i back (4 + call) kind has;
+          offset = offset_small l i back (4 + call) kind has;
+          addresses = there.addresses;
+          addend = addend;
+          ip = there.pc;
+        }
+
+  abbrev q : ℕ → CallSequence
+  q count = record { back = back; call = call; count = count }
 
   -- of a variable
   module _ (count : ℕ) (is_name : IsNameOf x86_64_name r.code names.R_X86_64_TLSGD)
       (addend : r.addend ≡ neg_ℤ (pos 4)) (low : o - back ≤ window.made.offset o)
       (high : window.made.offset o + 4 ≤ o + (4 + call)) where
-    to_local : ReplacesCall back call count kind names.R_X86_64_TPOFF32 (λ operands. operands) (λ operands s. ⊤)
+    to_local : x86_64_relocation_after kind names.R_X86_64_TLSGD ≡ Some names.R_X86_64_TPOFF32
+        → groups.Rewritten back (back + (4 + call)) (x86_64_originals kind) names.R_X86_64_TLSGD kind
+        (λ operands. operands)
+        (IsThreadCall (back + 4) (back + (4 + call)) count (λ c k s k' o. ⊤))
         → chosen.relocation ≡ code_of (x86_64_name names.R_X86_64_TPOFF32)
-        → AddressIsTheSame l i chosen (record { back = back; call = call; count = count }) thread_row
-    to_local law code_is symbol is_symbol entry s changed returned original addresses ip thread returns holds was =
-        law object original l.final o (operands_with X86_64 l.addresses thread_row symbol r entry) s changed returned
-        (before thread_row symbol entry s addresses addend ip) matches thread returns tt was
+        → AddressIsTheSame l i chosen (q count) thread_row
+    to_local after_is law code_is symbol is_symbol entry c s there k k' s' pointer holds returns =
+        some_and _ (x86_64_relocation_after kind names.R_X86_64_TLSGD) names.R_X86_64_TPOFF32 after_is law c s
+        object there.original l.final o (operands_with X86_64 l.addresses thread_row symbol r entry)
+        (before thread_row symbol entry names.R_X86_64_TLSGD c s there addend) (matches.1) matches
+        there.applied
         (final_is l i back (4 + call) kind has names.R_X86_64_TPOFF32 tpoff32
         (ap (is_of_got X86_64) (sym is_name.code_is)) code_is low high symbol is_symbol entry)
+        there.old there.new k k' s' pointer tt returns
 
-    to_initial : ((held : ℕ) → held < 2 ^ 64
-        → ReplacesCall back call count kind names.R_X86_64_GOTTPOFF
-        (λ operands. record operands { got_entry = held }) (λ operands s. load 8 s held ≡ thread_offset operands))
-        → reads_entry (relaxations.X86_64 kind) ≡ true
+    to_initial : x86_64_relocation_after kind names.R_X86_64_TLSGD ≡ Some names.R_X86_64_GOTTPOFF
+        → ((held : ℕ) → held < 2 ^ 64
+        → groups.Rewritten back (back + (4 + call)) (x86_64_originals kind) names.R_X86_64_TLSGD kind
+        (λ operands. record operands { got_entry = held })
+        (IsThreadCall (back + 4) (back + (4 + call)) count (AddsOffset held)))
+        → ((symbol : Symbol) (c : Code) (k : Kinds) (s : State) (k' : Kinds) (o : Operands)
+        → EntryHolds (relaxations.X86_64 kind) symbol c k s k' o
+        → (symbol.thread_entry < 2 ^ 64) × AddsOffset symbol.thread_entry c k s k' o)
         → chosen.relocation ≡ code_of (x86_64_name names.R_X86_64_GOTTPOFF)
-        → AddressIsTheSame l i chosen (record { back = back; call = call; count = count }) thread_row
-    to_initial law reads code_is symbol is_symbol entry s changed returned original addresses ip thread returns holds was =
+        → AddressIsTheSame l i chosen (q count) thread_row
+    to_initial after_is law reads code_is symbol is_symbol entry c s there k k' s' pointer holds returns =
         let operands = operands_with X86_64 l.addresses thread_row symbol r entry in
-        let held : EntryHolds true symbol operands s =
-        subst (λ b. EntryHolds b symbol operands s) (ap reads_entry kind_is ∙ reads) holds in
-        law symbol.thread_entry (held.0) object original l.final o operands s changed returned
-        (before thread_row symbol entry s addresses addend ip) matches thread returns (held.1) was
-        (entry_final l i back (4 + call) kind has code_is symbol is_symbol low high entry)
+        let held = reads symbol c k s k' operands
+        (subst (λ x. EntryHolds x symbol c k s k' operands) kind_is holds) in
+        some_and _ (x86_64_relocation_after kind names.R_X86_64_TLSGD) names.R_X86_64_GOTTPOFF after_is
+        (law symbol.thread_entry (held.0)) c s object there.original l.final o operands
+        (before thread_row symbol entry names.R_X86_64_TLSGD c s there addend) (matches.1) matches
+        there.applied (entry_final l i back (4 + call) kind has code_is symbol is_symbol low high entry)
+        there.old there.new k k' s' pointer (held.1) returns
 
   -- of a module
-  block : (count : ℕ) → ReplacesModuleCall call count kind → back ≡ 3 → chosen.relocation ≡ 0
-      → r.addend ≡ neg_ℤ (pos 4) → BlockIsReplaced l i (record { back = back; call = call; count = count }) tls_module_row
-  block count law three code addend symbol entry s changed returned original addresses small ip thread returns was =
-      let operands = operands_with X86_64 l.addresses tls_module_row symbol r entry in
-      let image = l.addresses.module_origin in
-      let pointed = l.addresses.thread_origin in
-      subst (λ n. EndAlike call count (drop (o - n) original) (drop (o - n) l.final) s changed returned (ReachTheSame changed image pointed)) (sym three)
-      (subst (λ xs. EndAlike call count (drop (o - 3) original) (drop (o - 3) xs) s changed returned (ReachTheSame changed image pointed))
-      (unrelocated l i back (4 + call) kind has code)
-      (law.1 object original o operands image pointed s changed returned
-      (subst (λ n. IsBefore n object o operands s) three (before tls_module_row symbol entry s addresses addend ip))
-      matches thread addresses.tls_base small returns was))
+  block : (count : ℕ) → Law back call count kind → chosen.relocation ≡ 0 → r.addend ≡ neg_ℤ (pos 4)
+      → BlockIsReplaced l i (q count) tls_module_row
+  block count law code addend symbol entry c s there =
+      law c s object there.original o (operands_with X86_64 l.addresses tls_module_row symbol r entry)
+      (before tls_module_row symbol entry names.R_X86_64_TLSLD c s there addend) matches there.applied
+      there.old
+      (subst (λ xs. Stands c.new s.pc (back + (4 + call)) (drop (o - back) xs))
+      (sym (unrelocated l i back (4 + call) kind has code)) there.new)
 
 -- ---- general-dynamic
 
@@ -192,7 +218,7 @@ Variable l i chosen kind =
     AreAloneWithNext l i ((relocation_in l.relocations i).offset - q.back) (q.back + (4 + q.call))
     → AddressIsTheSame l i chosen q thread_row)
 
-pub general_dynamic_too : laws.GeneralDynamic → GeneralDynamic
+pub general_dynamic_too : groups.GeneralDynamic → GeneralDynamic
 general_dynamic_too law l linked x86 i chosen below is_name decided =
     by_entry (of_table l linked x86 i chosen below decided names.R_X86_64_TLSGD tt is_name)
   where
@@ -203,19 +229,20 @@ general_dynamic_too law l linked x86 i chosen below is_name decided =
         to_local l linked x86 i chosen below decided kinds.TlsGdToLocalExec this.kind_is 4 8
         (own_window 4 12 (x86_64_rewrite kinds.TlsGdToLocalExec) (puts 4 12 _ _ _) refl (λ window. refl) (omega arith) (omega arith))
         ((refl, refl), ((refl, refl), tt)) refl this.has_pattern alone 2 is_name
-        (sym this.same_addend ∙ this.hold.1.1.1.0) (omega arith) (omega arith) (law.0) this.code_is)
+        (sym this.same_addend ∙ this.hold.1.1.1.0) (omega arith) (omega arith) refl (law.0) this.code_is)
     by_entry (inr (inl this)) =
         subst (Variable l i chosen) (sym this.kind_is) (λ alone.
         to_local l linked x86 i chosen below decided kinds.TlsGdToLocalExecLarge this.kind_is 3 15
         (own_window 3 19 (x86_64_rewrite kinds.TlsGdToLocalExecLarge) (puts 3 22 _ _ _) refl (λ window. refl) (omega arith) (omega arith))
         ((refl, refl), ((refl, refl), tt)) refl this.has_pattern alone 3 is_name
-        (sym this.same_addend ∙ this.hold.1.1.1.0) (omega arith) (omega arith) (law.2) this.code_is)
+        (sym this.same_addend ∙ this.hold.1.1.1.0) (omega arith) (omega arith) refl (law.2) this.code_is)
     by_entry (inr (inr (inl this))) =
         subst (Variable l i chosen) (sym this.kind_is) (λ alone.
         to_initial l linked x86 i chosen below decided kinds.TlsGdToInitialExec this.kind_is 4 8
         (own_window 4 12 (x86_64_rewrite kinds.TlsGdToInitialExec) (puts 4 12 _ _ _) refl (λ window. refl) (omega arith) (omega arith))
         ((refl, refl), ((refl, refl), tt)) refl this.has_pattern alone 2 is_name
-        (sym this.same_addend ∙ this.hold.1.1.0) (omega arith) (omega arith) (law.1) refl this.code_is)
+        (sym this.same_addend ∙ this.hold.1.1.0) (omega arith) (omega arith) refl (law.1)
+        (λ symbol c k s k' o holds. holds) this.code_is)
     by_entry (inr (inr (inr nothing))) = absurd nothing
 
 -- ---- local-dynamic
@@ -226,7 +253,7 @@ Module l i kind =
     AreAloneWithNext l i ((relocation_in l.relocations i).offset - q.back) (q.back + (4 + q.call))
     → BlockIsReplaced l i q tls_module_row)
 
-pub local_dynamic_too : laws.LocalDynamic → LocalDynamic
+pub local_dynamic_too : groups.LocalDynamic → LocalDynamic
 local_dynamic_too law l linked x86 i chosen below is_name decided =
     by_entry (of_table l linked x86 i chosen below decided names.R_X86_64_TLSLD tt is_name)
   where
@@ -236,18 +263,18 @@ local_dynamic_too law l linked x86 i chosen below is_name decided =
         subst (Module l i) (sym this.kind_is) (λ alone.
         block l linked x86 i chosen below decided kinds.TlsLdToLocalExec this.kind_is 3 5
         (own_window 3 9 (x86_64_rewrite kinds.TlsLdToLocalExec) (puts 3 12 _ _ _) refl (λ window. refl) (omega arith) (omega arith))
-        ((refl, refl), tt) refl this.has_pattern alone 1 (law.0) refl this.code_is
+        ((refl, refl), tt) refl this.has_pattern alone 1 (law.0.1) this.code_is
         (sym this.same_addend ∙ this.hold.1.1.0))
     by_entry (inr (inl this)) =
         subst (Module l i) (sym this.kind_is) (λ alone.
         block l linked x86 i chosen below decided kinds.TlsLdToLocalExecNoPlt this.kind_is 3 6
         (own_window 3 10 (x86_64_rewrite kinds.TlsLdToLocalExecNoPlt) (puts 3 13 _ _ _) refl (λ window. refl) (omega arith) (omega arith))
-        ((refl, refl), tt) refl this.has_pattern alone 1 (law.1) refl this.code_is
+        ((refl, refl), tt) refl this.has_pattern alone 1 (law.1.1) this.code_is
         (sym this.same_addend ∙ this.hold.1.1.0))
     by_entry (inr (inr (inl this))) =
         subst (Module l i) (sym this.kind_is) (λ alone.
         block l linked x86 i chosen below decided kinds.TlsLdToLocalExec64 this.kind_is 3 15
         (own_window 3 19 (x86_64_rewrite kinds.TlsLdToLocalExec64) (puts 3 22 _ _ _) refl (λ window. refl) (omega arith) (omega arith))
-        ((refl, refl), ((refl, refl), tt)) refl this.has_pattern alone 2 (law.2) refl this.code_is
+        ((refl, refl), ((refl, refl), tt)) refl this.has_pattern alone 2 (law.2.1) this.code_is
         (sym this.same_addend ∙ this.hold.1.1.0))
     by_entry (inr (inr (inr nothing))) = absurd nothing

@@ -14,8 +14,7 @@ use Rattle.linker_final.proofs.PlainRows.{are_there}
 use Rattle.linker_final.proofs.X86Finals.{moved}
 use Rattle.linker_final.proofs.X86ThreadRows.{plain_entry}
 use Rattle.linker_final.proofs.X86Windows.{HasRewrite, offset_small, r_after, rela, relocated_after, row_after, within_after}
-use Rattle.linker_final.specs.Final.{Linked}
-use Rattle.linker_final.specs.X86ThreadFinal.{object_in}
+use Rattle.linker_final.specs.Final.{Linked, put_back}
 use Rattle.linker_laws.proofs.X86Fields.{thread_row, tls_got_row}
 use Rattle.linker_laws.specs.X86RewriteLaws.{IsRelocated}
 use Rattle.linker_section.specs.Relocations.{relocation_in}
@@ -77,7 +76,7 @@ module _ (l : Linked) (i back end : ℕ) (kind : RewriteKind) (is : HasRewrite l
           got_entry = symbol.thread_entry;
         })
         (offset_after (x86_64_rewrite kind) r.offset)
-        (rewritten (x86_64_rewrite kind) (object_in l r.offset back end) r.offset) l.final
+        (rewritten (x86_64_rewrite kind) (put_back (r.offset - back) (back + end) l.section l.final) r.offset) l.final
     entry_final low high entry =
         let made = is.window.made in
         let was = operands_with X86_64 l.addresses thread_row symbol r entry in

@@ -6,7 +6,7 @@ use Rattle.linker_base.specs.Rewrite.{addend_after, offset_after}
 use Rattle.linker_elf.specs.Applied.{IsApplied}
 use Rattle.linker_elf.specs.ElfNames.{IsNamed, IsNameOf, code_of}
 use Rattle.linker_elf.specs.Relocate.{number_of_bytes}
-use Rattle.linker_elf.specs.Value.{difference_64, sum_64, value_of}
+use Rattle.linker_elf.specs.Value.{sum_64, value_of}
 use Rattle.linker_elf.specs.X86Relocations.{x86_64_name, x86_64_row}
 use Rattle.linker_elf.specs.declared.elf.RelocationKind.{RelocationKind}
 use Rattle.linker_elf.specs.declared.elf.RelocationKind.TheVariants as values
@@ -24,10 +24,10 @@ use Rattle.linker_final.proofs.X86Finals.{some_and}
 use Rattle.linker_final.proofs.X86Rows.{tpoff32}
 use Rattle.linker_final.proofs.X86ThreadRows.{plain_long_thread}
 use Rattle.linker_final.proofs.X86Windows.{rela, relocated, row_after, small_byte}
-use Rattle.linker_final.specs.Final.{UntouchedBytes, IsLinked, Linked, count}
-use Rattle.linker_final.specs.X86ThreadFinal.{LeadsToTheSame, Offsets, object_in}
-use Rattle.linker_laws.proofs.X86Fields.{block_field, block_row, long_block_field, long_block_row, long_thread_field, long_thread_row, thread_field, thread_row}
-use Rattle.linker_laws.specs.Schemes.{AreAddresses, symbol_address}
+use Rattle.linker_final.specs.Final.{UntouchedBytes, IsLinked, Linked, count, put_back}
+use Rattle.linker_final.specs.X86ThreadFinal.{LeadsToTheSame, Offsets}
+use Rattle.linker_laws.proofs.X86Fields.{block_row, long_block_row, long_thread_row, thread_row}
+use Rattle.linker_laws.specs.X86Groups.{BlockOffsets, LeadToTheSame}
 use Rattle.linker_laws.specs.X86Machine.{extended}
 use Rattle.linker_laws.specs.X86RewriteLaws.{IsRelocatedBy}
 use Rattle.linker_rewriting.specs.Decisions.{decision_at}
@@ -97,7 +97,7 @@ abbrev with_symbol : Operands → ℕ → Operands
 with_symbol o symbol = record o { symbol = symbol }
 
 -- The rows of both, where the second is that of the first counted from elsewhere.
-record AreRows (n : ℕ) (read : ℕ → ℕ) (block thread : RelocationKindInfo) : Type 0 where
+record AreRows (n : ℕ) (block thread : RelocationKindInfo) : Type 0 where
   some : 0 < n
   lowest : AreLowest n
   plain : IsPlain n thread
@@ -111,12 +111,8 @@ record AreRows (n : ℕ) (read : ℕ → ℕ) (block thread : RelocationKindInfo
       → is_of_got X86_64 r.code ≡ false → is_of_got X86_64 code ≡ false → symbol.is_undefined_weak ≡ false
       → value_of thread (counted_from addresses.thread_origin (operands_with X86_64 addresses block symbol r entry))
       ≡ value_of thread (operands_with X86_64 addresses thread symbol (rela r.offset code r.symbol r.addend) 0)
-  from_block : (o : Operands) → AreAddresses o → (before after : List ℕ) → IsApplied block o before after
-      → sum_64 o.tls_base (read (number_of_bytes n after)) ≡ symbol_address o
-  from_thread : (o : Operands) → AreAddresses o → (before after : List ℕ) → IsApplied thread o before after
-      → sum_64 o.tls_base (read (number_of_bytes n after)) ≡ symbol_address o
 
-short_rows : AreRows 4 extended block_row thread_row
+short_rows : AreRows 4 block_row thread_row
 short_rows =
     record {
       some = omega arith;
@@ -129,11 +125,9 @@ short_rows =
           ap (λ x. value_of thread_row (with_symbol (counted_from addresses.thread_origin (operands_with X86_64 addresses block_row symbol r entry)) x))
           (address_is addresses symbol r.code addresses.module_origin before strong
           ∙ sym (address_is addresses symbol code addresses.thread_origin after strong));
-      from_block = block_field;
-      from_thread = thread_field;
     }
 
-long_rows : AreRows 8 (λ offset. offset) long_block_row long_thread_row
+long_rows : AreRows 8 long_block_row long_thread_row
 long_rows =
     record {
       some = omega arith;
@@ -146,28 +140,9 @@ long_rows =
           ap (λ x. value_of long_thread_row (with_symbol (counted_from addresses.thread_origin (operands_with X86_64 addresses long_block_row symbol r entry)) x))
           (address_is addresses symbol r.code addresses.module_origin before strong
           ∙ sym (address_is addresses symbol code addresses.thread_origin after strong));
-      from_block = long_block_field;
-      from_thread = long_thread_field;
     }
 
 -- ---- one field
-
--- offsets from where the block begins, and from where the thread pointer points
-same_sum : (image pointed x y a block pointer : ℕ) → image < 2 ^ 64 → pointed < 2 ^ 64
-    → block ≡ sum_64 pointer (difference_64 image pointed)
-    → sum_64 image x ≡ a → sum_64 pointed y ≡ a → sum_64 block x ≡ sum_64 pointer y
-same_sum image pointed x y a block pointer small small' is leads leads' = omega arith
-
-same_address : (n : ℕ) (read : ℕ → ℕ) (image pointed a block pointer : ℕ) (xs ys rest rest' : List ℕ)
-    → image < 2 ^ 64 → pointed < 2 ^ 64 → block ≡ sum_64 pointer (difference_64 image pointed)
-    → xs ≡ rest → ys ≡ rest'
-    → sum_64 image (read (number_of_bytes n rest)) ≡ a → sum_64 pointed (read (number_of_bytes n rest')) ≡ a
-    → sum_64 block (read (number_of_bytes n xs)) ≡ sum_64 pointer (read (number_of_bytes n ys))
-same_address n read image pointed a block pointer xs ys rest rest' small small' is xs_are ys_are leads leads' =
-    ap (λ zs. sum_64 block (read (number_of_bytes n zs))) xs_are
-    ∙ (same_sum image pointed (read (number_of_bytes n rest)) (read (number_of_bytes n rest')) a block pointer small
-    small' is leads leads'
-    ∙ ap (λ zs. sum_64 pointer (read (number_of_bytes n zs))) (sym ys_are))
 
 rest_is : (row : RelocationKindInfo) (o : Operands) (p : ℕ) (before after : List ℕ)
     (is : IsRelocatedBy row o p before after) → p ≤ length before → drop p after ≡ is.rest
@@ -175,11 +150,11 @@ rest_is row o p before after is inside =
     ap (drop p) is.whole ∙ drop_at (take p before) is.rest p (length-take-le p before inside)
 
 module _ (n : ℕ) (read : ℕ → ℕ) (block_row thread_row : RelocationKindInfo)
-    (rows : AreRows n read block_row thread_row) (name after : X86_64Relocation)
+    (rows : AreRows n block_row thread_row) (name after : X86_64Relocation)
     (is_block : x86_64_row name ≡ Some block_row) (is_thread : x86_64_row after ≡ Some thread_row)
     (name_is : is_of_got X86_64 (code_of (x86_64_name name)) ≡ false)
     (after_is : is_of_got X86_64 (code_of (x86_64_name after)) ≡ false)
-    (named : IsNamed (x86_64_name after))
+    (named : IsNamed (x86_64_name after)) (law : LeadToTheSame n read name after)
     (l : Linked) (linked : IsLinked l) (x86 : l.context.architecture ≡ X86_64) (i : ℕ)
     (chosen : Choice Relaxation ℕ) (below : i < count l)
     (is_name : IsNameOf x86_64_name (relocation_in l.relocations i).code name)
@@ -267,58 +242,46 @@ module _ (n : ℕ) (read : ℕ → ℕ) (block_row thread_row : RelocationKindIn
       linked.written.same_length ∙ (last_length l linked ∙ linked.same_length) in
       let rl = linked.written.same_length in
       let inside = field.inside in
-      let inside_final : o - 0 + (0 + n) ≤ length l.final = omega (arith, inside, rl) in
-      let object = object_in l o 0 n in
+      let inside_final : o + n ≤ length l.final = omega (arith, inside, rl) in
+      let object = put_back o n l.section l.final in
       let object_length : length object ≡ length l.final =
-      (put_back_is (o - 0) (0 + n) l.section l.final inside_final (sym final_length)).same_len in
+      (put_back_is o n l.section l.final inside_final (sym final_length)).same_len in
       let base : IsRelocatedBy thread_row counted o object l.final =
       relocated n thread_row rows.plain written counted o l.last l.final object field
       (rows.same l.addresses symbol r chosen.relocation entry before_is (ap (is_of_got X86_64) code_is ∙ after_is) strong)
       object_length (sym rl)
-      (λ at outside.
-      back_outside (o - 0) (0 + n) l.section l.final inside_final (sym final_length) at
-      (elim outside [
-        | inl ahead ↦ inl (let e : at < o - 0 = omega (arith, ahead) in e)
-        | inr following ↦ inr (let e : o - 0 + (0 + n) ≤ at = omega (arith, following) in e)
-      ])) in
+      (λ at outside. back_outside o n l.section l.final inside_final (sym final_length) at outside) in
       let of_object : IsRelocatedBy block_row operands o object original =
       some_and (λ row. IsRelocatedBy row operands o object original) (x86_64_row name) block_row is_block was in
       let room : o ≤ length object = omega (arith, inside_final, object_length) in
-      let first : sum_64 image (read (number_of_bytes n of_object.rest)) ≡ symbol_address operands =
-      ap (λ x. sum_64 x (read (number_of_bytes n of_object.rest))) (sym origin)
-      ∙ rows.from_block operands addresses (drop o object) of_object.rest of_object.applied in
-      let second : sum_64 pointed (read (number_of_bytes n base.rest)) ≡ symbol_address operands =
-      rows.from_thread counted
-      (record {
-        symbol = addresses.symbol;
-        place = addresses.place;
-        got_entry = addresses.got_entry;
-        got_base = addresses.got_base;
-        plt_entry = addresses.plt_entry;
-        tls_base = small;
-      })
-      (drop o object) base.rest base.applied in
-      same_address n read image pointed (symbol_address operands) block pointer (drop o original) (drop o l.final)
-      of_object.rest base.rest (subst (λ x. x < 2 ^ 64) origin addresses.tls_base) small is_block_address
-      (rest_is block_row operands o object original of_object room) (rest_is thread_row counted o object l.final base room)
-      first second
+      ap (λ zs. sum_64 block (read (number_of_bytes n zs)))
+      (rest_is block_row operands o object original of_object room)
+      ∙ (some_and _ (x86_64_row after) thread_row is_thread
+      (some_and _ (x86_64_row name) block_row is_block law) image pointed block pointer
+      (subst (λ x. x < 2 ^ 64) origin addresses.tls_base) small is_block_address operands (drop o object)
+      of_object.rest base.rest addresses
+      (subst (λ x. IsApplied block_row (counted_from x operands) (drop o object) of_object.rest) origin
+      of_object.applied)
+      base.applied
+      ∙ ap (λ zs. sum_64 pointer (read (number_of_bytes n zs))) {x = base.rest}
+      (sym (rest_is thread_row counted o object l.final base room)))
 
 -- ---- both lengths
 
-pub offsets : Offsets
-offsets = (
+pub offsets : BlockOffsets → Offsets
+offsets law = (
   λ l linked x86 i chosen below is_name decided stays.
       elim (of_table l linked x86 i chosen below decided names.R_X86_64_DTPOFF32 tt is_name) [
         | inl this ↦
             leads 4 extended block_row thread_row short_rows names.R_X86_64_DTPOFF32 names.R_X86_64_TPOFF32 refl refl
-            refl refl tt l linked x86 i chosen below is_name decided stays this.kind_is this.code_is
+            refl refl tt (law.0) l linked x86 i chosen below is_name decided stays this.kind_is this.code_is
         | inr nothing ↦ absurd nothing
       ],
   λ l linked x86 i chosen below is_name decided stays.
       elim (of_table l linked x86 i chosen below decided names.R_X86_64_DTPOFF64 tt is_name) [
         | inl this ↦
             leads 8 (λ offset. offset) long_block_row long_thread_row long_rows names.R_X86_64_DTPOFF64 names.R_X86_64_TPOFF64
-            refl refl refl refl tt l linked x86 i chosen below is_name decided stays this.kind_is this.code_is
+            refl refl refl refl tt (law.1) l linked x86 i chosen below is_name decided stays this.kind_is this.code_is
         | inr nothing ↦ absurd nothing
       ],
 )

@@ -300,12 +300,12 @@ module _ (l : Linked) (i back end : ℕ) (kind : RewriteKind) (is : HasRewrite l
         (linked.same_length ∙ sym fl) (omega (arith, low, a)) (omega (arith, low, high, a))
         (w.same_made l.section l.rewritten o can.starts ends linked.same_length made_there) kept)
 
-    object_same : (at : ℕ) → start ≤ at → at < o + end → get_or l.section at 0 ≡ get_or object at 0
+    pub object_same : (at : ℕ) → start ≤ at → at < o + end → get_or l.section at 0 ≡ get_or object at 0
     object_same at from less =
         let a = is.room.0 in
         sym (back_inside start len l.section l.final inside_final (sym final_length) at from (omega (arith, a, less)))
 
-    object_length : length object ≡ length l.section
+    pub object_length : length object ≡ length l.section
     object_length = (put_back_is start len l.section l.final inside_final (sym final_length)).same_len ∙ final_length
 
     -- what stands there in the section does in the object's bytes

@@ -1,8 +1,6 @@
--- x86-64: in the final bytes of a section each rewritten instruction does what the object's does
--- with the value of its relocation (x86-64 psABI, "Optimize GOTPCRELX Relocations" and "ELF
--- Handling For Thread-Local Storage").
-use Rattle.std.specs.Prelude.{◌≡◌, ℕ, ◌+◌, ◌-◌, ◌<◌, List, drop, Option, Some, None, IsSomeAnd}
-use Rattle.std.specs.Prelude.{slice_get}
+-- x86-64: in the final bytes of a section rewritten instructions are groups of the simulation
+-- (x86-64 psABI, "Optimize GOTPCRELX Relocations" and "ELF Handling For Thread-Local Storage").
+use Rattle.std.specs.Prelude.{◌≡◌, ℕ, ◌+◌, ◌-◌, ◌<◌, List, drop, Option, Some, None, slice_get}
 use Rattle.linker_elf.specs.ElfNames.{IsNameOf}
 use Rattle.linker_elf.specs.Value.{difference_64}
 use Rattle.linker_elf.specs.X86Relocations.{x86_64_name}
@@ -13,7 +11,8 @@ use Rattle.linker_elf.specs.declared.x86_64.relocations.X86_64Relocation.{X86_64
 use Rattle.linker_elf.specs.declared.x86_64.relocations.X86_64Relocation.TheVariants as names
 use Rattle.linker_final.specs.Final.{Linked, IsLinked, UntouchedByOthers, count, put_back}
 use Rattle.linker_laws.specs.Schemes.{AreAddresses}
-use Rattle.linker_laws.specs.X86Machine.{State, load, step}
+use Rattle.linker_laws.specs.Simulation.{State}
+use Rattle.linker_laws.specs.X86Groups.{Code, IsCall, IsGroup, IsJump, Stands}
 use Rattle.linker_laws.specs.X86RewriteLaws.{IsRelocated, address, thread_offset}
 use Rattle.linker_rewriting.specs.Decisions.{decision_at}
 use Rattle.linker_rewriting.specs.declared.decisions.Decision.TheVariants.{Rewritten}
@@ -22,10 +21,31 @@ use Rattle.linker_section.specs.Values.{operands_with}
 use Rattle.linker_section.specs.declared.facts.Symbol.{Symbol}
 use Rattle.linker_elf.specs.Architectures.{IsRow}
 use Rattle.linker_utils.specs.declared.architecture.Relaxation.{Relaxation}
+use Rattle.linker_utils.specs.declared.architecture.Relaxation.TheVariants as relaxations
 use Rattle.linker_elf.specs.declared.elf.architecture.Architecture.TheVariants.{X86_64}
+use Rattle.linker_utils.specs.declared.x86_64.rewrites.RewriteKind.TheVariants as kinds
 
--- The operand of an instruction that is in the GOT: how many bytes of the instruction are before
--- the field of its distance, and what the entry holds.
+-- ---- where the instructions of a group are
+
+-- The relocation at an index is applied to the object's bytes, from n before its offset to `end`
+-- after it, in their place in the final section. These bytes then stand in old, up to 4 after it,
+-- and the final ones in new. Execution of old comes to the first.
+pub record StandsThere (l : Linked) (i n end : ℕ) (name : X86_64Relocation) (o : Operands) (c : Code)
+    (s : State) : Type 0 where
+  pub original : List ℕ
+  pub addresses : AreAddresses o
+  pub pc : s.pc ≡ difference_64 o.place n
+  pub applied : IsRelocated name o (relocation_in l.relocations i).offset
+      (put_back ((relocation_in l.relocations i).offset - n) (n + end) l.section l.final) original
+  pub old :
+      Stands c.old s.pc (n + 4) (drop ((relocation_in l.relocations i).offset - n) original)
+  pub new :
+      Stands c.new s.pc (n + end) (drop ((relocation_in l.relocations i).offset - n) l.final)
+
+-- ---- operands in the GOT
+
+-- how many bytes of an instruction are before the field of its operand's distance, and what the
+-- operand's entry in the GOT holds
 pub record GotOperand : Type 0 where
   pub back : ℕ
   pub held : Operands → ℕ
@@ -44,22 +64,22 @@ got_operand names.R_X86_64_CODE_4_GOTTPOFF = operand 4 thread_offset
 got_operand names.R_X86_64_CODE_6_GOTTPOFF = operand 6 thread_offset
 got_operand name = None
 
--- The instruction of the relocation at an index, which has become one of a row. From any state
--- before it, where the entry at an address holds what the written value stands for, the final bytes
--- do what the object's bytes in their place do with the relocation's value.
-abbrev pub DoesTheSame : Linked → ℕ → X86_64Relocation → GotOperand → RelocationKindInfo → Type 0
-DoesTheSame l i name operand row =
+-- the group of an instruction, by what became of it
+abbrev pub IsGroupOf : Relaxation → (Operands → ℕ) → Code → Operands → State → Type 0
+IsGroupOf (relaxations.X86_64 kinds.CallIndirectToRelative) held = IsCall
+IsGroupOf (relaxations.X86_64 kinds.JmpIndirectToRelative) held = IsJump
+IsGroupOf kind held = IsGroup held
+
+-- The instruction of the relocation at an index, which has become one of a row, is a group.
+abbrev pub DoesTheSame : Linked → ℕ → Choice Relaxation ℕ → X86_64Relocation → GotOperand
+    → RelocationKindInfo → Type 0
+DoesTheSame l i chosen name operand row =
     let r = relocation_in l.relocations i in
     (symbol : Symbol) → slice_get l.symbols r.symbol ≡ Some symbol
-    → (entry : ℕ) (s : State) (original : List ℕ)
+    → (entry : ℕ) (c : Code) (s : State)
     → let operands = operands_with X86_64 l.addresses row symbol r entry in
-    AreAddresses operands
-    → load 8 s entry ≡ operand.held operands
-    → s.ip ≡ difference_64 operands.place operand.back
-    → IsRelocated name operands r.offset
-    (put_back (r.offset - operand.back) (operand.back + 4) l.section l.final) original
-    → IsSomeAnd (step (drop (r.offset - operand.back) original) s) (λ t.
-    step (drop (r.offset - operand.back) l.final) s ≡ Some t)
+    StandsThere l i operand.back 4 name operands c s
+    → IsGroupOf chosen.kind operand.held c operands s
 
 -- So it is of each such relocation whose instruction is rewritten, where no other rewrite or
 -- relocation has a byte of the instruction, and later phases leave it alone.
@@ -72,7 +92,7 @@ RewrittenDoTheSame name operand =
     IsNameOf x86_64_name r.code name
     → UntouchedByOthers l i (r.offset - operand.back) (operand.back + 4)
     → (row : RelocationKindInfo) → IsRow X86_64 chosen.relocation (Some row)
-    → DoesTheSame l i name operand row
+    → DoesTheSame l i chosen name operand row
 
 -- ---- the laws
 

@@ -1,7 +1,6 @@
--- x86-64: in the final bytes of a section the sequences for thread-local variables do what the
--- object's do with the values of their relocations (x86-64 psABI, "ELF Handling For Thread-Local
--- Storage").
-use Rattle.std.specs.Prelude.{◌≡◌, ◌≢◌, ℕ, ◌+◌, ◌-◌, ◌^◌, ◌<◌, ◌≤◌, Bool, true, false, ⊤}
+-- x86-64: in the final bytes of a section sequences for thread-local variables are groups of the
+-- simulation (x86-64 psABI, "ELF Handling For Thread-Local Storage").
+use Rattle.std.specs.Prelude.{◌≡◌, ◌≢◌, ℕ, ◌+◌, ◌-◌, ◌^◌, ◌<◌, ◌≤◌, false, ⊤}
 use Rattle.std.specs.Prelude.{List, drop, Option, Some, None, IsSomeAnd, slice_get}
 use Rattle.linker_elf.specs.ElfNames.{IsNameOf}
 use Rattle.linker_elf.specs.Relocate.{number_of_bytes}
@@ -13,17 +12,15 @@ use Rattle.linker_elf.specs.declared.elf.value.Operands.{Operands}
 use Rattle.linker_elf.specs.declared.x86_64.relocations.X86_64Relocation.{X86_64Relocation}
 use Rattle.linker_elf.specs.declared.x86_64.relocations.X86_64Relocation.TheVariants as names
 use Rattle.linker_final.specs.Final.{UntouchedByOthers, HasNoByte, UntouchedBytes, IsLinked, Linked}
-use Rattle.linker_final.specs.Final.{count}
-use Rattle.linker_final.specs.Final.{put_back}
+use Rattle.linker_final.specs.Final.{count, put_back}
+use Rattle.linker_final.specs.X86Final.{StandsThere}
 use Rattle.linker_laws.specs.Schemes.{AreAddresses}
-use Rattle.linker_laws.specs.X86Machine.{State, extended, load, step}
-use Rattle.linker_laws.specs.X86RewriteLaws.{IsRelocated, thread_offset}
-use Rattle.linker_laws.specs.X86ThreadLaws.{AgreeAfterCall, AgreeBut, Changes, EndAlike}
-use Rattle.linker_laws.specs.X86ThreadLaws.{HasDescriptor}
-use Rattle.linker_laws.specs.X86ThreadLaws.{HasThreadPointer, IsDescriptorCall, ReachTheSame}
-use Rattle.linker_laws.specs.X86ThreadLaws.{WritesNothing}
-use Rattle.linker_laws.specs.X86ThreadLaws.{also_register, after_call, reg_after_rex}
-use Rattle.linker_laws.specs.X86ThreadLaws.{reg_after_rex2}
+use Rattle.linker_laws.specs.Simulation.{Kinds, State}
+use Rattle.linker_laws.specs.X86Groups.{AddsOffset, Code, IsDescriptorCall, IsLea, IsModuleCall}
+use Rattle.linker_laws.specs.X86Groups.{IsThreadCall, LoadsNumber, MakesOffset, Stands}
+use Rattle.linker_laws.specs.X86Groups.{reg_after_rex, reg_after_rex2}
+use Rattle.linker_laws.specs.X86Machine.{extended}
+use Rattle.linker_laws.specs.X86RewriteLaws.{IsRelocated}
 use Rattle.linker_rewriting.specs.Decisions.{decision_at}
 use Rattle.linker_rewriting.specs.declared.decisions.Decision.TheVariants.{Rewritten}
 use Rattle.linker_section.specs.Relocations.{relocation_in}
@@ -34,11 +31,6 @@ use Rattle.linker_utils.specs.declared.architecture.Relaxation.TheVariants as re
 use Rattle.linker_elf.specs.declared.elf.architecture.Architecture.TheVariants.{X86_64}
 use Rattle.linker_utils.specs.declared.x86_64.rewrites.RewriteKind.TheVariants as kinds
 
--- the object's bytes from n before an offset to n after it, in their place in the
--- final section
-abbrev pub object_in : Linked → ℕ → ℕ → ℕ → List ℕ
-object_in l o back end = put_back (o - back) (back + end) l.section l.final
-
 -- No rewrite and no field of a relocation has one of n bytes from a start on, but those at an
 -- index and at the next one. Later phases leave them and both relocations alone.
 pub record AreAloneWithNext (l : Linked) (i start len : ℕ) : Type 0 where
@@ -46,18 +38,6 @@ pub record AreAloneWithNext (l : Linked) (i start len : ℕ) : Type 0 where
       → HasNoByte l j at
   pub left : UntouchedBytes l i start len
   pub next_left : UntouchedBytes l (i + 1) start len
-
--- a rewrite leaves an instruction that reads the variable's offset from a GOT entry
-abbrev pub reads_entry : Relaxation → Bool
-reads_entry (relaxations.X86_64 kinds.TlsGdToInitialExec) = true
-reads_entry (relaxations.X86_64 kinds.TlsDescToInitialExec) = true
-reads_entry kind = false
-
--- the symbol's entry holds it
-abbrev pub EntryHolds : Bool → Symbol → Operands → State → Type 0
-EntryHolds true symbol operands s =
-    (symbol.thread_entry < 2 ^ 64) × (load 8 s symbol.thread_entry ≡ thread_offset operands)
-EntryHolds false symbol operands s = ⊤
 
 -- of each relocation of a name that is rewritten
 abbrev pub EachRewritten : X86_64Relocation → (Linked → ℕ → Choice Relaxation ℕ → Type 0) → Type 0
@@ -93,44 +73,35 @@ local_dynamic (relaxations.X86_64 kinds.TlsLdToLocalExecNoPlt) = sequence 3 6 1
 local_dynamic (relaxations.X86_64 kinds.TlsLdToLocalExec64) = sequence 3 15 2
 local_dynamic kind = None
 
--- From any state before the `lea` of the relocation at an index, where the called function returns
--- the variable's address for the GOT's entry at an address, the final bytes end as the object's
--- with the relocation's value do when the function has returned.
+-- Where a rewrite leaves an instruction that adds the variable's offset from a GOT entry, the
+-- symbol's entry holds it.
+abbrev pub EntryHolds : Relaxation → Symbol → Code → Kinds → State → Kinds → Operands → Type 0
+EntryHolds (relaxations.X86_64 kinds.TlsGdToInitialExec) symbol c k s k' o =
+    (symbol.thread_entry < 2 ^ 64) × AddsOffset symbol.thread_entry c k s k' o
+EntryHolds kind symbol c k s k' o = ⊤
+
+-- The sequence of the relocation at an index is a group, where the called function returns the
+-- variable's address.
 abbrev pub AddressIsTheSame : Linked → ℕ → Choice Relaxation ℕ → CallSequence → RelocationKindInfo
     → Type 0
 AddressIsTheSame l i chosen q row =
     let r = relocation_in l.relocations i in
     (symbol : Symbol) → slice_get l.symbols r.symbol ≡ Some symbol
-    → (entry : ℕ) (s : State) (changed : ℕ → Bool) (returned : ℕ → ℕ) (original : List ℕ)
+    → (entry : ℕ) (c : Code) (s : State)
     → let operands = operands_with X86_64 l.addresses row symbol r entry in
-    AreAddresses operands
-    → s.ip ≡ difference_64 operands.place q.back
-    → HasThreadPointer s
-    → returned entry ≡ sum_64 s.fs (thread_offset operands)
-    → EntryHolds (reads_entry chosen.kind) symbol operands s
-    → IsRelocated names.R_X86_64_TLSGD operands r.offset
-    (object_in l r.offset q.back (4 + q.call)) original
-    → EndAlike q.call q.count (drop (r.offset - q.back) original) (drop (r.offset - q.back) l.final)
-    s changed returned (AgreeAfterCall changed)
+    StandsThere l i q.back (4 + q.call) names.R_X86_64_TLSGD operands c s
+    → IsThreadCall (q.back + 4) (q.back + (4 + q.call)) q.count (EntryHolds chosen.kind symbol) c
+    operands s
 
 -- The same where it returns the address of the module's block, whatever the relocation's symbol is.
--- rax is then the block's address in the one, and the thread pointer in the other.
+-- rax is then the block's address in old, and the thread pointer in new.
 abbrev pub BlockIsReplaced : Linked → ℕ → CallSequence → RelocationKindInfo → Type 0
 BlockIsReplaced l i q row =
     let r = relocation_in l.relocations i in
-    (symbol : Symbol) (entry : ℕ) (s : State) (changed : ℕ → Bool) (returned : ℕ → ℕ)
-    (original : List ℕ)
+    (symbol : Symbol) (entry : ℕ) (c : Code) (s : State)
     → let operands = operands_with X86_64 l.addresses row symbol r entry in
-    AreAddresses operands → l.addresses.thread_origin < 2 ^ 64
-    → s.ip ≡ difference_64 operands.place q.back
-    → HasThreadPointer s
-    → returned entry
-    ≡ sum_64 s.fs (difference_64 l.addresses.module_origin l.addresses.thread_origin)
-    → IsRelocated names.R_X86_64_TLSLD operands r.offset
-    (object_in l r.offset q.back (4 + q.call)) original
-    → EndAlike q.call q.count (drop (r.offset - q.back) original) (drop (r.offset - q.back) l.final)
-    s changed returned
-    (ReachTheSame changed l.addresses.module_origin l.addresses.thread_origin)
+    StandsThere l i q.back (4 + q.call) names.R_X86_64_TLSLD operands c s
+    → IsModuleCall (q.back + (4 + q.call)) q.count c operands s
 
 -- ---- offsets in the module's block
 
@@ -147,46 +118,36 @@ LeadsToTheSame n read name l i row =
     → let operands = operands_with X86_64 l.addresses row symbol r entry in
     AreAddresses operands → l.addresses.thread_origin < 2 ^ 64
     → block ≡ sum_64 pointer (difference_64 l.addresses.module_origin l.addresses.thread_origin)
-    → IsRelocated name operands r.offset (object_in l r.offset 0 n) original
+    → IsRelocated name operands r.offset (put_back r.offset n l.section l.final) original
     → sum_64 block (read (number_of_bytes n (drop r.offset original)))
     ≡ sum_64 pointer (read (number_of_bytes n (drop r.offset l.final)))
 
 -- ---- descriptors
 
--- Two states agree but for some registers, bytes of memory and maybe flags. The `lea` of the
--- relocation at an index, with n bytes before its field, is executed: in one of them the object's
--- with the relocation's value, and in the other the final bytes. Then they agree but for its
--- register too, which has the descriptor's address in the one and the variable's offset in the
--- other.
+-- the number that a rewritten `lea` makes: the variable's offset, or what its GOT entry has
+abbrev pub Makes : Relaxation → Symbol → Code → Kinds → State → Operands → ℕ → Type 0
+Makes (relaxations.X86_64 kinds.TlsDescToInitialExec) symbol c k s o number =
+    (symbol.thread_entry < 2 ^ 64) × LoadsNumber symbol.thread_entry c k s o number
+Makes kind symbol c k s o number = MakesOffset c k s o number
+
+-- The `lea` of the relocation at an index, with n bytes before its field, is a group. Its register
+-- has the descriptor's address in old then, and that number in new.
 abbrev pub LeaDoesTheSame : ℕ → X86_64Relocation → (List ℕ → ℕ) → Linked → ℕ → Choice Relaxation ℕ
     → RelocationKindInfo → Type 0
 LeaDoesTheSame n name register_of l i chosen row =
     let r = relocation_in l.relocations i in
-    let object = object_in l r.offset n 4 in
     (symbol : Symbol) → slice_get l.symbols r.symbol ≡ Some symbol
-    → (entry : ℕ) (s t : State) (c : Changes) (original : List ℕ)
+    → (entry : ℕ) (c : Code) (s : State)
     → let operands = operands_with X86_64 l.addresses row symbol r entry in
-    AreAddresses operands
-    → s.ip ≡ difference_64 operands.place n
-    → AgreeBut c s t
-    → EntryHolds (reads_entry chosen.kind) symbol operands t
-    → IsRelocated name operands r.offset object original
-    → let x = register_of (drop (r.offset - n) object) in
-    IsSomeAnd (step (drop (r.offset - n) original) s) (λ u.
-    IsSomeAnd (step (drop (r.offset - n) l.final) t) (λ v.
-    AgreeBut (also_register x c) u v × HasDescriptor x operands u v))
+    StandsThere l i n 4 name operands c s
+    → IsLea n register_of (Makes chosen.kind symbol) c operands s
 
--- The call is executed in the one and has returned, and the final bytes in the other, where rax has
--- those. The states agree again, but for what the called function may change.
+-- The call of the relocation at an index is a group, where rax has those.
 abbrev pub CallDoesTheSame : Linked → ℕ → Type 0
 CallDoesTheSame l i =
-    (operands : Operands) (s t : State) (c changed : Changes) (returned : ℕ → ℕ)
-    → HasDescriptor 0 operands s t → AgreeBut c s t
-    → returned operands.got_entry ≡ thread_offset operands
-    → IsSomeAnd (step (drop (relocation_in l.relocations i).offset l.final) t) (λ v.
-    WritesNothing t v
-    × ((u : State) → IsDescriptorCall 2 changed returned s u → u.fs ≡ s.fs
-    → AgreeBut (after_call changed s c) u v))
+    let o = (relocation_in l.relocations i).offset in
+    (c : Code) (s : State) → Stands c.old s.pc 2 (drop o l.section)
+    → Stands c.new s.pc 2 (drop o l.final) → IsDescriptorCall c s
 
 -- ---- the laws
 

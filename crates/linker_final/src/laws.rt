@@ -29,16 +29,13 @@ pub fn phases()
     ensures { final_bytes.UntouchedBytesAreTheSame }
 {}
 
-/// x86-64: each instruction whose operand in the GOT became an address, a distance or an offset
-/// from the thread pointer takes every state in which the GOT's entry holds that to the same state
-/// as the object's instruction does.
-///
-/// Where a call of `__tls_get_addr` was rewritten, rax is the variable's address as after the call,
-/// and what the call keeps is as it leaves it. Where one for a module's block was, rax is the
-/// thread pointer, and the offsets that became offsets from it lead from there to the same
-/// addresses. The `lea` of a descriptor's address, into any register, and the call of its function
-/// have a law each, of two runs, whatever stands between them: the variable's offset is in rax
-/// after the call in both.
+/// x86-64: rewritten instructions are groups of `linker_laws::simulation`, of any code that has the
+/// final bytes there, and of any old code that has the object's with the values of their
+/// relocations. They are each instruction whose operand in the GOT became an address, a distance or
+/// an offset from the thread pointer, each sequence with a call of `__tls_get_addr` for a variable
+/// or for a module's block, and each `lea` of a descriptor's address and call of its function. The
+/// offsets in a module's block that became offsets from the thread pointer lead from there to the
+/// same addresses.
 pub fn x86_64()
     ensures got_operands { x86_64_final.GotOperands }
     ensures general_dynamic { x86_64_threads.GeneralDynamic }
@@ -47,7 +44,7 @@ pub fn x86_64()
     ensures descriptor_addresses { x86_64_threads.DescriptorAddresses }
     ensures descriptor_calls { x86_64_threads.DescriptorCalls }
 {
-    linker_laws::rewrites::x86_64();
+    linker_laws::simulation::x86_64();
 }
 
 /// AArch64: all changes of a section, in all of its phases. Each instruction stays, but for the

@@ -63,7 +63,6 @@ pub mod X86Branches
 pub mod X86Bytes
 pub mod X86Codes
 pub mod X86Decoding
-pub mod X86DescriptorSteps
 pub mod X86Descriptors
 pub mod X86Evex
 pub mod X86Fields

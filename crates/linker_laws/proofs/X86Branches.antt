@@ -1,6 +1,6 @@
 -- Branches through the GOT, and direct ones.
 use Rattle.std.proofs.Common.{◌≡◌, ℕ, ◌-◌, ◌^◌, ◌<◌, ◌≤◌, List, [], ◌∷◌, take, drop, sym}
-use Rattle.std.proofs.Common.{◌∙◌, ap, arith, subst, refl, Some}
+use Rattle.std.proofs.Common.{◌∙◌, ap, arith, subst, Some}
 use Rattle.std.specs.Int.{w64, cast_unsigned}
 use Rattle.std.proofs.lemmas.List.Elements.{All-drop}
 use Rattle.linker_base.specs.Rewrite.{rewritten}
@@ -13,28 +13,15 @@ use Rattle.linker_elf.specs.declared.x86_64.relocations.X86_64Relocation.TheVari
 use Rattle.linker_utils.specs.declared.x86_64.rewrites.RewriteKind.TheVariants as kinds
 use Rattle.linker_elf.specs.Applied.{IsApplied}
 use Rattle.linker_laws.proofs.Sums.{difference_below}
-use Rattle.linker_laws.specs.X86RewriteLaws.{IsBefore, DoesTheSame, address}
+use Rattle.linker_laws.specs.X86RewriteLaws.{IsBefore, address}
 use Rattle.linker_laws.specs.X86Machine.{State, Target, Instruction, load, extended, call, jump}
 use Rattle.linker_laws.specs.X86Machine.{direct, indirect}
 use Rattle.linker_laws.specs.X86Machine.{decode}
-use Rattle.linker_laws.specs.X86Machine.{with_register, store_8}
 use Rattle.linker_laws.proofs.X86Bytes.{two_bytes}
 use Rattle.linker_laws.proofs.X86Codes.{pattern_there, call_codes, jump_codes}
-use Rattle.linker_laws.proofs.X86Decoding.{Rewrites, begun, fewer, lead_to}
+use Rattle.linker_laws.proofs.X86Decoding.{Rewrites, begun, fewer}
 use Rattle.linker_laws.proofs.X86Fields.{entry_field, place_field, got_row, place_row}
 use Rattle.linker_laws.proofs.X86Loads.{same_place, from_next, at_place}
-
-abbrev called : ℕ → ℕ → State → State
-called next target s =
-    let top = difference_64 (s.register 4) 8 in
-    record s {
-      ip = target;
-      register = with_register 4 top s.register;
-      memory = store_8 top next s.memory;
-    }
-
-abbrev jumped : ℕ → State → State
-jumped target s = record s { ip = target }
 
 place_before : (p o : ℕ) → 2 ≤ o → p < 2 ^ 64 → o < 2 ^ 64
     → difference_64 (sum_64 p (o - 1)) o ≡ difference_64 p 1
@@ -146,25 +133,3 @@ jumps section old new o operands s before there matches held was is code_old cod
           (drop (o - 1) (rewritten (x86_64_rewrite kinds.JmpIndirectToRelative) section o)) is.rest
           is.applied);
     }
-
--- ---- both lead to one state
-
-pub same_calls : DoesTheSame 2 (x86_64_originals kinds.CallIndirectToRelative)
-    names.R_X86_64_GOTPCRELX kinds.CallIndirectToRelative address
-same_calls section old new o operands s before there matches held was is =
-    let l = calls section old new o operands s before there matches held was is (drop (o - 2) old)
-    (drop (o - 2) new) refl refl in
-    lead_to (drop (o - 2) old) (drop (o - 2) new)
-    (record { instruction = call (indirect l.from); size = 6 })
-    (record { instruction = call (direct l.to); size = 6 }) s l.was l.is
-    (ap (λ t. called (sum_64 s.ip 6) t s) (l.loads ∙ sym l.leads))
-
-pub same_jumps : DoesTheSame 2 (x86_64_originals kinds.JmpIndirectToRelative)
-    names.R_X86_64_GOTPCRELX kinds.JmpIndirectToRelative address
-same_jumps section old new o operands s before there matches held was is =
-    let l = jumps section old new o operands s before there matches held was is (drop (o - 2) old)
-    (drop (o - 2) new) refl refl in
-    lead_to (drop (o - 2) old) (drop (o - 2) new)
-    (record { instruction = jump (indirect l.from); size = 6 })
-    (record { instruction = jump (direct l.to); size = 5 }) s l.was l.is
-    (ap (λ t. jumped t s) (l.loads ∙ sym l.leads))

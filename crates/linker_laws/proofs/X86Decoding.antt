@@ -1,5 +1,5 @@
 -- How instructions are decoded before and after a rewrite.
-use Rattle.std.proofs.Common.{◌≡◌, ℕ, zero, suc, ◌+◌, ◌∙◌, List, [], ◌∷◌, ◌++◌, take, drop, length, ap, ap₂, sym, refl, arith, ◌≤◌}
+use Rattle.std.proofs.Common.{◌≡◌, ℕ, zero, suc, ◌+◌, ◌∙◌, List, [], ◌∷◌, ◌++◌, take, drop, length, ap, ap₂, refl, arith}
 use Rattle.std.proofs.Common.{true, Some, None, Option, suc-add, IsSomeAnd, IsTrue, subst, eqb, get_or, ◌-◌}
 use Rattle.std.specs.Int.{w64, bit_at, from_le_bytes}
 use Rattle.std.specs.Prelude.{replicate}
@@ -12,15 +12,15 @@ use Rattle.linker_elf.specs.declared.elf.value.Operands.{Operands}
 use Rattle.linker_elf.specs.declared.x86_64.relocations.X86_64Relocation.{X86_64Relocation}
 use Rattle.linker_utils.specs.X86Rewrites as x86
 use Rattle.linker_laws.specs.X86Groups.{sets_flags}
-use Rattle.linker_laws.specs.X86Machine.{Prefix, Operation, Instruction, State, Decoded, decode}
+use Rattle.linker_laws.specs.X86Machine.{Prefix, Operation, Instruction, State, decode}
 use Rattle.linker_laws.specs.X86Machine.{decode_opcode}
 use Rattle.linker_laws.specs.X86Machine.{decode_modrm, decode_relative, on_immediate, rex_prefix}
 use Rattle.linker_laws.specs.X86Machine.{rex2_prefix}
 use Rattle.linker_laws.specs.X86Machine.{immediate_operation, is_relative, is_register, reg_of}
-use Rattle.linker_laws.specs.X86Machine.{sized, operate, register, immediate, is_rex, step}
-use Rattle.linker_laws.specs.X86Machine.{execute_decoded, execute}
+use Rattle.linker_laws.specs.X86Machine.{sized, operate, register, immediate, is_rex}
+use Rattle.linker_laws.specs.X86Machine.{execute}
 use Rattle.linker_laws.specs.X86Machine.{load}
-use Rattle.linker_laws.specs.X86RewriteLaws.{DoesTheSame, IsBefore, IsRelocated}
+use Rattle.linker_laws.specs.X86RewriteLaws.{IsBefore, IsRelocated}
 use Rattle.linker_laws.proofs.X86Bytes.{IsMoved}
 use Rattle.linker_utils.specs.X86RelocationsAfter.{x86_64_relocation_after}
 use Rattle.linker_utils.specs.X86Rewrites.{Original, is_one_at, x86_64_matches, x86_64_rewrite}
@@ -115,22 +115,6 @@ AreReplaced n before after s =
     (old new : List ℕ) → take (n + 4) old ≡ take (n + 4) before
     → take (n + 4) new ≡ take (n + 4) after → Replaces (n + 4) old new s
 
--- Both codes lead to one state.
-pub lead_to : (before after : List ℕ) (d e : Decoded) (s : State) → decode before ≡ Some d
-    → decode after ≡ Some e
-    → execute d.instruction (sum_64 s.ip d.size) s ≡ execute e.instruction (sum_64 s.ip e.size) s
-    → IsSomeAnd (step before s) (λ t. step after s ≡ Some t)
-lead_to before after d e s was is same =
-    subst (λ (x : Option Decoded). IsSomeAnd (execute_decoded x s) (λ t. step after s ≡ Some t))
-    (sym was) (ap (λ x. execute_decoded x s) is ∙ ap Some (sym same))
-
-pub lead : (n : ℕ) (before after : List ℕ) (s : State) → AreReplaced n before after s
-    → IsSomeAnd (step before s) (λ t. step after s ≡ Some t)
-lead n before after s replaced =
-    let r = replaced before after refl refl in
-    lead_to before after (record { instruction = r.instruction; size = n + 4 })
-    (record { instruction = r.instruction'; size = n + 4 }) s r.was r.is r.same
-
 -- ---- the laws
 
 pub map_some : {T : Type 0} (o : Option T) (P Q : T → Type 0) → ((x : T) → P x → Q x)
@@ -156,13 +140,3 @@ Rewrites n instructions name kind held Holds =
 abbrev pub Replaced : ℕ → List Original → X86_64Relocation → RewriteKind → (Operands → ℕ) → Type 0
 Replaced n instructions name kind held =
     Rewrites n instructions name kind held (λ before after operands s. AreReplaced n before after s)
-
--- Both instructions lead to one state.
-pub law : (n : ℕ) (instructions : List Original) (name : X86_64Relocation) (kind : RewriteKind)
-    (held : Operands → ℕ) → n + 4 ≤ 15 → Replaced n instructions name kind held
-    → DoesTheSame n instructions name kind held
-law n instructions name kind held few replaced =
-    map_some (x86_64_relocation_after kind name) _ _
-    (λ after replaces section original relaxed o operands s before there matches holds was is.
-    lead n (drop (o - n) original) (drop (o - n) relaxed) s
-    (replaces section original relaxed o operands s before there matches holds was is)) replaced

@@ -1,71 +1,354 @@
--- Descriptors of TLS, and offsets from the thread pointer.
-use Rattle.std.proofs.Common.{◌≡◌, ℕ, ◌+◌, ◌-◌, ◌%◌, ◌^◌, ◌<◌, ◌≤◌, List, [], ◌∷◌, ◌++◌, take, drop}
-use Rattle.std.proofs.Common.{sym}
-use Rattle.std.specs.Prelude.{not, ◌&&◌}
-use Rattle.std.proofs.Common.{◌∙◌, ap, arith, subst, refl, pos, eqb, inl, inr, IsSomeAnd}
-use Rattle.std.proofs.Common.{append_assoc, length-take, length, min}
-use Rattle.std.specs.Int.{w64, cast_unsigned}
-use Rattle.std.proofs.lemmas.Bool.{cases_Bool, eqb-true, cond-false, cond-true}
+-- The `lea` and the call of a descriptor of x86-64, each by itself.
+use Rattle.std.proofs.Common.{◌≡◌, ℕ, ◌+◌, ◌-◌, ◌*◌, ◌%◌, ◌^◌, ◌<◌, List, [], ◌∷◌, take, drop, refl, sym, ◌∙◌}
+use Rattle.std.proofs.Common.{IsTrue, ap₂, ap, arith, subst, pos, Some, IsSomeAnd, eqb, cond, bit_and, true, false, ◌++◌, append_assoc, length-take, length, min}
+use Rattle.std.specs.Prelude.{◌&&◌, ◌||◌, not}
+use Rattle.std.specs.Int.{w64, bit_at, cast_unsigned}
+use Rattle.std.specs.List.{All}
+use Rattle.std.proofs.lemmas.Bool.{eqb-true, and_parts, false≢true}
 use Rattle.std.proofs.lemmas.List.{drop_at}
-use Rattle.std.proofs.lemmas.List.Elements.{All-drop}
-use Rattle.linker_base.specs.Rewrite.{rewritten, replaces}
+use Rattle.std.proofs.lemmas.List.Elements.{All-drop, All-head, All-tail}
+use Rattle.linker_base.specs.Rewrite.{rewritten, offset_after}
+use Rattle.linker_elf.specs.Choices.{operands_after}
 use Rattle.linker_elf.specs.Relocate.{number_of_bytes}
 use Rattle.linker_elf.specs.Value.{sum_64, difference_64}
-use Rattle.linker_utils.specs.X86Rewrites.{x86_64_rewrite, absolute, prefixed_operand}
-use Rattle.linker_utils.specs.X86Rewrites.{x86_64_matches, field4}
 use Rattle.linker_elf.specs.declared.elf.value.Operands.{Operands}
+use Rattle.linker_elf.specs.declared.x86_64.relocations.X86_64Relocation.{X86_64Relocation}
 use Rattle.linker_elf.specs.declared.x86_64.relocations.X86_64Relocation.TheVariants as names
-use Rattle.linker_utils.specs.declared.x86_64.rewrites.RewriteKind.TheVariants as kinds
 use Rattle.linker_elf.specs.Applied.{IsApplied}
-use Rattle.linker_laws.specs.Schemes.{AreAddresses}
+use Rattle.linker_utils.specs.X86Rewrites as x86
+use Rattle.linker_utils.specs.X86Rewrites.{x86_64_matches, is_one_at, lea_of_descriptor, x86_64_rewrite, begins, byte, rip_operand, rex_w, rex2_w, with_rex, with_rex2}
+use Rattle.linker_utils.specs.X86RelocationsAfter.{x86_64_relocation_after}
+use Rattle.linker_utils.specs.declared.x86_64.rewrites.RewriteKind.{RewriteKind}
+use Rattle.linker_utils.specs.declared.x86_64.rewrites.RewriteKind.TheVariants as kinds
 use Rattle.linker_laws.proofs.Sums.{difference_below}
-use Rattle.linker_laws.specs.X86RewriteLaws.{IsBefore, thread_offset}
-use Rattle.linker_laws.specs.X86Machine.{State, load, extended, with_register, execute, step, lea}
-use Rattle.linker_laws.specs.X86Machine.{nop, operate, MOV, register, relative, immediate}
-use Rattle.linker_laws.specs.X86ThreadLaws.{DescriptorToLocalExec, DescriptorToInitialExec}
-use Rattle.linker_laws.specs.X86ThreadLaws.{IsDescriptorCall, AgreeInRegisters, lea_rax}
-use Rattle.linker_laws.specs.X86ThreadLaws.{WritesNothing, Changes}
-use Rattle.linker_laws.specs.X86ThreadLaws.{rex2_lea_rax}
-use Rattle.linker_laws.proofs.X86Codes.{inside, pattern_there}
-use Rattle.linker_laws.proofs.X86Fields.{descriptor_field, descriptor_row, thread_field}
-use Rattle.linker_laws.proofs.X86Fields.{tls_entry_field, thread_row, tls_got_row}
-use Rattle.linker_laws.proofs.X86Immediates.{offset_is, sum_zero, absolute_operands}
+use Rattle.linker_laws.specs.Schemes.{AreAddresses}
+use Rattle.linker_laws.specs.X86RewriteLaws.{IsBefore, IsRelocated, thread_offset}
+use Rattle.linker_laws.specs.X86Machine.{State, Operand, load, extended, decode}
+use Rattle.linker_laws.specs.X86Machine.{lea, operate, MOV, register, relative, immediate, operand_value, reg_of, rex_prefix, rex2_prefix, is_relative}
+use Rattle.linker_laws.specs.X86Groups.{reg_after_rex, reg_after_rex2}
+use Rattle.linker_laws.proofs.X86Bytes.{IsRex, IsRex2, rex_byte, rex2_byte, below, implied, same_byte, on_relative, modrm_byte}
+use Rattle.linker_laws.proofs.X86Codes.{pattern_there, rex_lea_codes, rex2_lea_codes, rex_immediate_codes, rex2_immediate_codes}
+use Rattle.linker_laws.proofs.X86Decoding.{begun, from_relative, from_immediate, after_rex_byte, after_rex2_byte}
+use Rattle.linker_laws.proofs.X86Fields.{descriptor_field, descriptor_row, thread_field, tls_entry_field, thread_row, tls_got_row}
+use Rattle.linker_laws.proofs.X86Immediates.{absolute_operands, offset_is, sum_zero}
 use Rattle.linker_laws.proofs.X86Loads.{from_next, at_place, same_place}
-use Rattle.linker_laws.proofs.X86Sections.{original_code, rewritten_code}
-use Rattle.linker_laws.proofs.X86Threads.{begin_with, itself}
+use Rattle.linker_laws.proofs.X86Threads.{itself}
 
-abbrev Agree : List ℕ → List ℕ → List ℕ → State → Changes → (ℕ → ℕ) → Type 0
-Agree a b c s changed returned =
-    IsSomeAnd (step a s) (λ before.
-    IsSomeAnd (step b s) (λ middle.
-    IsSomeAnd (step c middle) (λ after.
-    WritesNothing s after
-    × ((t : State) → IsDescriptorCall 2 changed returned before t → AgreeInRegisters changed t after))))
+-- ---- bytes
 
--- `middle` is the state after the `mov`
-agree : (s t middle : State) (changed : Changes) (returned : ℕ → ℕ) (next entry f value : ℕ) → entry < 2 ^ 64
-    → sum_64 next (extended f) ≡ entry → returned entry ≡ value
-    → middle.ip ≡ next
-    → ((r : ℕ) → middle.register r ≡ with_register 0 value s.register r)
-    → ((a : ℕ) → middle.memory a ≡ s.memory a)
-    → IsDescriptorCall 2 changed returned (execute (lea 64 0 f) next s) t
-    → AgreeInRegisters changed t (execute nop (sum_64 middle.ip 2) middle)
-agree s t middle changed returned next entry f value small argument returns ip registers memory called =
+wide_rex : (p : ℕ) → p < 2 ^ 8 → eqb (bit_and p 0xfb) 0x48 ≡ true → (eqb (bit_and p 0xf3) 0x40 ≡ true) × (bit_at p 3 ≡ 1)
+wide_rex p small h =
+    let both = and_parts (eqb (bit_and p 0xf3) 0x40) (eqb (bit_at p 3) 1)
+    (implied (eqb (bit_and p 0xfb) 0x48) (eqb (bit_and p 0xf3) 0x40 && eqb (bit_at p 3) 1)
+    (below 256 (λ p. not (eqb (bit_and p 0xfb) 0x48) || (eqb (bit_and p 0xf3) 0x40 && eqb (bit_at p 3) 1)) refl p small) h) in
+    (both.0, eqb-true (bit_at p 3) 1 both.1)
+
+wide_rex2 : (p : ℕ) → p < 2 ^ 8 → eqb (bit_and p 0xbb) 0x08 ≡ true → (eqb (bit_and p 0xb3) 0 ≡ true) × (bit_at p 3 ≡ 1)
+wide_rex2 p small h =
+    let both = and_parts (eqb (bit_and p 0xb3) 0) (eqb (bit_at p 3) 1)
+    (implied (eqb (bit_and p 0xbb) 0x08) (eqb (bit_and p 0xb3) 0 && eqb (bit_at p 3) 1)
+    (below 256 (λ p. not (eqb (bit_and p 0xbb) 0x08) || (eqb (bit_and p 0xb3) 0 && eqb (bit_at p 3) 1)) refl p small) h) in
+    (both.0, eqb-true (bit_at p 3) 1 both.1)
+
+-- the `lea` after REX, of 64 bits
+record IsLea (d : List ℕ) : Type 0 where
+  pub prefix : ℕ
+  pub modrm : ℕ
+  pub rest : List ℕ
+  pub is : d ≡ prefix ∷ 0x8d ∷ modrm ∷ rest
+  pub is_rex : IsRex prefix
+  pub wide : bit_at prefix 3 ≡ 1
+  pub relative : is_relative modrm ≡ true
+
+lea_there : (d : List ℕ) → All (λ b. b < 2 ^ 8) d → begins (rex_w ∷ rip_operand 0x8d) d ≡ true → IsLea d
+lea_there [] bytes h = absurd (false≢true h)
+lea_there (p ∷ rest) bytes h =
+    let first = and_parts (eqb (bit_and p 0xfb) 0x48) (begins (rip_operand 0x8d) rest) h in
+    let small = All-head (λ b. b < 2 ^ 8) p rest bytes in
+    let wide = wide_rex p small first.0 in
+    let after = on_relative 0x8d rest (All-tail (λ b. b < 2 ^ 8) p rest bytes) first.1 in
     record {
-      ip = called.ip ∙ ap (λ i. sum_64 i 2) (sym ip);
-      registers = λ r stays. elim (cases_Bool (eqb r 0)) [
-        | inl same ↦
-            ap t.register (eqb-true r 0 same) ∙ called.result
-            ∙ ap returned (ap (λ a. a % 2 ^ 64) argument ∙ itself entry small) ∙ returns
-            ∙ sym (registers r ∙ cond-true (eqb r 0) value (s.register r) same)
-        | inr other ↦
-            called.kept r other (sym (ap (λ b. not b && changed.registers r) other) ∙ stays)
-            ∙ cond-false (eqb r 0) (sum_64 next (extended f) % 2 ^ 64) (s.register r) other
-            ∙ sym (registers r ∙ cond-false (eqb r 0) value (s.register r) other)
-      ];
-      memory = λ a above other.
-          called.memory a (subst (λ top. top ≤ a) called.stack above) other ∙ sym (memory a);
+      prefix = p;
+      modrm = after.modrm;
+      rest = after.rest;
+      is = ap (λ xs. p ∷ xs) after.is;
+      is_rex = rex_byte p small wide.0;
+      wide = wide.1;
+      relative = after.relative;
     }
+
+-- the same after REX2
+record IsLea2 (d : List ℕ) : Type 0 where
+  pub prefix : ℕ
+  pub modrm : ℕ
+  pub rest : List ℕ
+  pub is : d ≡ 0xd5 ∷ prefix ∷ 0x8d ∷ modrm ∷ rest
+  pub is_rex2 : IsRex2 prefix
+  pub wide : bit_at prefix 3 ≡ 1
+  pub relative : is_relative modrm ≡ true
+
+lea2_there : (d : List ℕ) → All (λ b. b < 2 ^ 8) d → begins (byte 0xd5 ∷ rex2_w ∷ rip_operand 0x8d) d ≡ true → IsLea2 d
+lea2_there [] bytes h = absurd (false≢true h)
+lea2_there (b ∷ []) bytes h = absurd (false≢true (and_parts (eqb (bit_and b 0xff) 0xd5) false h).1)
+lea2_there (b ∷ p ∷ rest) bytes h =
+    let one = and_parts (eqb (bit_and b 0xff) 0xd5)
+    (eqb (bit_and p 0xbb) 0x08 && begins (rip_operand 0x8d) rest) h in
+    let two = and_parts (eqb (bit_and p 0xbb) 0x08) (begins (rip_operand 0x8d) rest) one.1 in
+    let tail = All-tail (λ b. b < 2 ^ 8) b (p ∷ rest) bytes in
+    let small = All-head (λ b. b < 2 ^ 8) p rest tail in
+    let wide = wide_rex2 p small two.0 in
+    let after = on_relative 0x8d rest (All-tail (λ b. b < 2 ^ 8) p rest tail) two.1 in
+    record {
+      prefix = p;
+      modrm = after.modrm;
+      rest = after.rest;
+      is = ap (λ x. x ∷ p ∷ rest) (same_byte b 0xd5 (All-head (λ b. b < 2 ^ 8) b (p ∷ rest) bytes) one.0)
+          ∙ ap (λ xs. 0xd5 ∷ p ∷ xs) after.is;
+      is_rex2 = rex2_byte p small wide.0;
+      wide = wide.1;
+      relative = after.relative;
+    }
+
+-- ---- operands
+
+module _ (n : ℕ) (few : n < 8) (section : List ℕ) (o : ℕ) (operands : Operands) (s : State)
+    (before : IsBefore n section o operands s) where
+  argument : (bytes rest : List ℕ) → IsApplied descriptor_row operands bytes rest
+      → sum_64 (sum_64 s.ip (n + 4)) (extended (number_of_bytes 4 rest)) ≡ operands.got_entry
+  argument bytes rest applied =
+      from_next n s.ip operands.place (extended (number_of_bytes 4 rest)) operands.got_entry
+      few before.addresses.place before.addresses.got_entry before.ip
+      (descriptor_field operands before.addresses bytes rest applied
+      ∙ ap (λ a. sum_64 operands.got_entry (cast_unsigned w64 a)) before.addend)
+
+  -- the offset, which is in the field of the new instruction
+  offset_there : (f' : ℕ) (bytes rest : List ℕ) → f' ≡ number_of_bytes 4 rest
+      → IsApplied thread_row (absolute_operands o operands) bytes rest
+      → extended f' % 2 ^ 64 ≡ thread_offset operands
+  offset_there f' bytes rest f_is applied =
+      let p = difference_64 (sum_64 operands.place o) o in
+      ap (λ f. extended f % 2 ^ 64) f_is
+      ∙ offset_is (extended (number_of_bytes 4 rest)) operands.symbol operands.tls_base
+      before.addresses.symbol before.addresses.tls_base
+      (thread_field (absolute_operands o operands)
+      (at_place operands p (pos 0) before.addresses (difference_below (sum_64 operands.place o) o))
+      bytes rest applied
+      ∙ sum_zero operands.symbol before.addresses.symbol)
+
+  -- what is loaded from the entry
+  entry_there : (entry : ℕ) → entry < 2 ^ 64 → (f' : ℕ) (bytes rest : List ℕ)
+      → f' ≡ number_of_bytes 4 rest
+      → IsApplied tls_got_row
+      (record operands { place = difference_64 (sum_64 operands.place o) o; got_entry = entry })
+      bytes rest
+      → (t : State) → s.ip ≡ t.ip
+      → load 8 t (sum_64 (sum_64 t.ip (n + 4)) (extended f')) ≡ load 8 t entry
+  entry_there entry small f' bytes rest f_is applied t at =
+      let place = operands.place in
+      let p = difference_64 (sum_64 place o) o in
+      let operands' : Operands = record operands { place = p; got_entry = entry } in
+      let addresses' : AreAddresses operands' = record {
+        symbol = before.addresses.symbol;
+        place = difference_below (sum_64 place o) o;
+        got_entry = small;
+        got_base = before.addresses.got_base;
+        plt_entry = before.addresses.plt_entry;
+        tls_base = before.addresses.tls_base;
+      } in
+      ap₂ (λ a f. load 8 t (sum_64 (sum_64 a (n + 4)) (extended f))) (sym at) f_is
+      ∙ ap (load 8 t) (from_next n s.ip place (extended (number_of_bytes 4 rest)) entry few
+      before.addresses.place small before.ip
+      (ap (λ q. sum_64 q (extended (number_of_bytes 4 rest)))
+      (sym (same_place place o before.addresses.place before.offset))
+      ∙ tls_entry_field operands' addresses' bytes rest applied
+      ∙ ap (λ a. sum_64 entry (cast_unsigned w64 a)) before.addend))
+
+-- ---- instructions
+
+-- A `lea` of the descriptor's address, and a `mov` of a number, into one register, which the bytes
+-- of the `lea` name.
+pub record AreLea (m : ℕ) (old new : List ℕ) (register_of : List ℕ → ℕ) (o : Operands)
+    (s : State) (number : State → ℕ) : Type 0 where
+  pub r : ℕ
+  pub f : ℕ
+  pub from : Operand
+  pub was : decode old ≡ Some (record { instruction = lea 64 r f; size = m })
+  pub is : decode new ≡ Some (record { instruction = operate MOV 64 (register r) from; size = m })
+  pub leads : sum_64 (sum_64 s.ip m) (extended f) % 2 ^ 64 ≡ o.got_entry
+  pub value : (t : State) → s.ip ≡ t.ip → operand_value t (sum_64 t.ip m) 64 from ≡ number t
+  pub in_code : register_of old ≡ r
+
+-- code that begins with the bytes of both, up to the field n bytes after the first
+abbrev pub LeaOf : ℕ → X86_64Relocation → (List ℕ → ℕ) → RewriteKind → (Operands → Operands)
+    → (Operands → State → ℕ) → Type 0
+LeaOf n name register_of kind relocated number =
+    IsSomeAnd (x86_64_relocation_after kind name) (λ after.
+    (section original relaxed : List ℕ) (o : ℕ) (operands : Operands) (s : State)
+    → IsBefore n section o operands s
+    → IsTrue (is_one_at (lea_of_descriptor n) section o)
+    → x86_64_matches kind section o
+    → IsRelocated name operands o section original
+    → IsRelocated after (relocated (operands_after (x86_64_rewrite kind) o operands))
+    (offset_after (x86_64_rewrite kind) o) (rewritten (x86_64_rewrite kind) section o) relaxed
+    → (old new : List ℕ) → take (n + 4) old ≡ take (n + 4) (drop (o - n) original)
+    → take (n + 4) new ≡ take (n + 4) (drop (o - n) relaxed)
+    → AreLea (n + 4) old new register_of operands s (number operands))
+
+-- by the decoded instructions, of 64 bits
+are_lea : (n : ℕ) → n < 8 → (section : List ℕ) (o : ℕ) (operands : Operands) (s : State)
+    (old new rest : List ℕ) (register_of : List ℕ → ℕ) (number : State → ℕ) (r q bits bits' f : ℕ)
+    (from : Operand) → IsBefore n section o operands s
+    → IsApplied descriptor_row operands (drop o section) rest → f ≡ number_of_bytes 4 rest
+    → bits ≡ 64 → bits' ≡ 64 → q ≡ r
+    → decode old ≡ Some (record { instruction = lea bits r f; size = n + 4 })
+    → decode new ≡ Some (record { instruction = operate MOV bits' (register q) from; size = n + 4 })
+    → ((t : State) → s.ip ≡ t.ip → operand_value t (sum_64 t.ip (n + 4)) 64 from ≡ number t)
+    → register_of old ≡ r → AreLea (n + 4) old new register_of operands s number
+are_lea n few section o operands s old new rest register_of number r q bits bits' f from at applied f_is
+    wide wide' same was is value in_code =
+    record {
+      r = r;
+      f = f;
+      from = from;
+      was = was ∙ ap (λ b. Some (record { instruction = lea b r f; size = n + 4 })) wide;
+      is =
+          is ∙ ap (λ b. Some (record { instruction = operate MOV b (register q) from; size = n + 4 })) wide'
+          ∙ ap (λ q. Some (record { instruction = operate MOV 64 (register q) from; size = n + 4 })) same;
+      leads =
+          ap (λ f. sum_64 (sum_64 s.ip (n + 4)) (extended f) % 2 ^ 64) f_is
+          ∙ ap (λ a. a % 2 ^ 64) (argument n few section o operands s at (drop o section) rest applied)
+          ∙ itself operands.got_entry at.addresses.got_entry;
+      value = value;
+      in_code = in_code;
+    }
+
+-- ---- the `lea` after REX
+
+pub to_offset : LeaOf 3 names.R_X86_64_GOTPC32_TLSDESC reg_after_rex (kinds.TlsDescToLocalExec 3)
+    (λ operands. operands) (λ o t. thread_offset o)
+to_offset section old new o operands s before there matches was is code_old code_new at at' =
+    let shape = pattern_there (with_rex rex_w 0x8d) section o there in
+    let code = lea_there (drop (o - 3) section) (All-drop (λ b. b < 2 ^ 8) (o - 3) section before.bytes) shape.1 in
+    let p = code.prefix in
+    let p' = x86.rex_r_to_b p in
+    let m = code.modrm in
+    let r = reg_of m + (rex_prefix p).reg in
+    let bits : (rex_prefix p).bits ≡ 64 = ap (λ w. cond (eqb w 1) 64 32) code.wide in
+    let codes = rex_immediate_codes section old new was.rest is.rest o was.whole p 0x8d m 0xc7 0xc0 code.rest shape.0 code.is is.whole in
+    let b = begun (p ∷ 0x8d ∷ m ∷ []) was.rest code_old (at ∙ ap (take 7) codes.0) in
+    let b' = begun (p' ∷ 0xc7 ∷ x86.modrm_reg_to_rm 0xc0 m ∷ []) is.rest code_new (at' ∙ ap (take 7) codes.1) in
+    are_lea 3 (omega arith) section o operands s code_old code_new was.rest reg_after_rex
+    (λ t. thread_offset operands) r (reg_of m + (rex_prefix p').rm) (rex_prefix p).bits (rex_prefix p').bits
+    (number_of_bytes 4 b.after) (immediate (number_of_bytes 4 b'.after)) before was.applied b.field bits
+    (ap (λ w. cond (eqb w 1) 64 32) code.is_rex.wide ∙ bits) (ap (λ b. reg_of m + 8 * b) code.is_rex.moved)
+    (ap decode b.is ∙ after_rex_byte p (0x8d ∷ m ∷ b.after) code.is_rex.is
+    ∙ from_relative (rex_prefix p) 0x8d m b.after code.relative)
+    (ap decode b'.is ∙ after_rex_byte p' (0xc7 ∷ x86.modrm_reg_to_rm 0xc0 m ∷ b'.after) code.is_rex.after
+    ∙ from_immediate (rex_prefix p') 0xc7 0xc0 0 m MOV b'.after (modrm_byte 0xc0 0 m refl) refl)
+    (λ t same. offset_there 3 (omega arith) section o operands s before (number_of_bytes 4 b'.after)
+    (drop o (rewritten (x86_64_rewrite (kinds.TlsDescToLocalExec 3)) section o)) is.rest b'.field is.applied)
+    (ap reg_after_rex b.is)
+
+pub to_entry : (entry : ℕ) → entry < 2 ^ 64
+    → LeaOf 3 names.R_X86_64_GOTPC32_TLSDESC reg_after_rex kinds.TlsDescToInitialExec
+    (λ operands. record operands { got_entry = entry }) (λ o t. load 8 t entry)
+to_entry entry small section old new o operands s before there matches was is code_old code_new at at' =
+    let shape = pattern_there (with_rex rex_w 0x8d) section o there in
+    let code = lea_there (drop (o - 3) section) (All-drop (λ b. b < 2 ^ 8) (o - 3) section before.bytes) shape.1 in
+    let p = code.prefix in
+    let m = code.modrm in
+    let r = reg_of m + (rex_prefix p).reg in
+    let bits : (rex_prefix p).bits ≡ 64 = ap (λ w. cond (eqb w 1) 64 32) code.wide in
+    let codes = rex_lea_codes section old new was.rest is.rest o was.whole p 0x8d m 0x8b code.rest shape.0 code.is is.whole in
+    let b = begun (p ∷ 0x8d ∷ m ∷ []) was.rest code_old (at ∙ ap (take 7) codes.0) in
+    let b' = begun (p ∷ 0x8b ∷ m ∷ []) is.rest code_new (at' ∙ ap (take 7) codes.1) in
+    are_lea 3 (omega arith) section o operands s code_old code_new was.rest reg_after_rex
+    (λ t. load 8 t entry) r r (rex_prefix p).bits (rex_prefix p).bits
+    (number_of_bytes 4 b.after) (relative (number_of_bytes 4 b'.after)) before was.applied b.field bits bits refl
+    (ap decode b.is ∙ after_rex_byte p (0x8d ∷ m ∷ b.after) code.is_rex.is
+    ∙ from_relative (rex_prefix p) 0x8d m b.after code.relative)
+    (ap decode b'.is ∙ after_rex_byte p (0x8b ∷ m ∷ b'.after) code.is_rex.is
+    ∙ from_relative (rex_prefix p) 0x8b m b'.after code.relative)
+    (entry_there 3 (omega arith) section o operands s before entry small (number_of_bytes 4 b'.after)
+    (drop o (rewritten (x86_64_rewrite kinds.TlsDescToInitialExec) section o)) is.rest b'.field is.applied)
+    (ap reg_after_rex b.is)
+
+-- ---- the `lea` after REX2
+
+pub rex2_to_offset : LeaOf 4 names.R_X86_64_CODE_4_GOTPC32_TLSDESC reg_after_rex2 (kinds.TlsDescToLocalExec 4)
+    (λ operands. operands) (λ o t. thread_offset o)
+rex2_to_offset section old new o operands s before there matches was is code_old code_new at at' =
+    let shape = pattern_there (with_rex2 rex2_w 0x8d) section o there in
+    let code = lea2_there (drop (o - 4) section) (All-drop (λ b. b < 2 ^ 8) (o - 4) section before.bytes) shape.1 in
+    let p = code.prefix in
+    let p' = x86.rex2_r_to_b p in
+    let m = code.modrm in
+    let r = reg_of m + (rex2_prefix p).reg in
+    let bits : (rex2_prefix p).bits ≡ 64 = ap (λ w. cond (eqb w 1) 64 32) code.wide in
+    let codes = rex2_immediate_codes section old new was.rest is.rest o was.whole p 0x8d m 0xc7 0xc0 code.rest shape.0 code.is is.whole in
+    let b = begun (0xd5 ∷ p ∷ 0x8d ∷ m ∷ []) was.rest code_old (at ∙ ap (take 8) codes.0) in
+    let b' = begun (0xd5 ∷ p' ∷ 0xc7 ∷ x86.modrm_reg_to_rm 0xc0 m ∷ []) is.rest code_new
+    (at' ∙ ap (take 8) codes.1) in
+    are_lea 4 (omega arith) section o operands s code_old code_new was.rest reg_after_rex2
+    (λ t. thread_offset operands) r (reg_of m + (rex2_prefix p').rm) (rex2_prefix p).bits (rex2_prefix p').bits
+    (number_of_bytes 4 b.after) (immediate (number_of_bytes 4 b'.after)) before was.applied b.field bits
+    (ap (λ w. cond (eqb w 1) 64 32) code.is_rex2.wide ∙ bits) (ap (λ b. reg_of m + b) code.is_rex2.moved)
+    (ap decode b.is ∙ after_rex2_byte p (0x8d ∷ m ∷ b.after) code.is_rex2.is
+    ∙ from_relative (rex2_prefix p) 0x8d m b.after code.relative)
+    (ap decode b'.is ∙ after_rex2_byte p' (0xc7 ∷ x86.modrm_reg_to_rm 0xc0 m ∷ b'.after) code.is_rex2.after
+    ∙ from_immediate (rex2_prefix p') 0xc7 0xc0 0 m MOV b'.after (modrm_byte 0xc0 0 m refl) refl)
+    (λ t same. offset_there 4 (omega arith) section o operands s before (number_of_bytes 4 b'.after)
+    (drop o (rewritten (x86_64_rewrite (kinds.TlsDescToLocalExec 4)) section o)) is.rest b'.field is.applied)
+    (ap reg_after_rex2 b.is)
+
+pub rex2_to_entry : (entry : ℕ) → entry < 2 ^ 64
+    → LeaOf 4 names.R_X86_64_CODE_4_GOTPC32_TLSDESC reg_after_rex2 kinds.TlsDescToInitialExec
+    (λ operands. record operands { got_entry = entry }) (λ o t. load 8 t entry)
+rex2_to_entry entry small section old new o operands s before there matches was is code_old code_new at at' =
+    let shape = pattern_there (with_rex2 rex2_w 0x8d) section o there in
+    let code = lea2_there (drop (o - 4) section) (All-drop (λ b. b < 2 ^ 8) (o - 4) section before.bytes) shape.1 in
+    let p = code.prefix in
+    let m = code.modrm in
+    let r = reg_of m + (rex2_prefix p).reg in
+    let bits : (rex2_prefix p).bits ≡ 64 = ap (λ w. cond (eqb w 1) 64 32) code.wide in
+    let codes = rex2_lea_codes section old new was.rest is.rest o was.whole p 0x8d m 0x8b code.rest shape.0 code.is is.whole in
+    let b = begun (0xd5 ∷ p ∷ 0x8d ∷ m ∷ []) was.rest code_old (at ∙ ap (take 8) codes.0) in
+    let b' = begun (0xd5 ∷ p ∷ 0x8b ∷ m ∷ []) is.rest code_new (at' ∙ ap (take 8) codes.1) in
+    are_lea 4 (omega arith) section o operands s code_old code_new was.rest reg_after_rex2
+    (λ t. load 8 t entry) r r (rex2_prefix p).bits (rex2_prefix p).bits
+    (number_of_bytes 4 b.after) (relative (number_of_bytes 4 b'.after)) before was.applied b.field bits bits refl
+    (ap decode b.is ∙ after_rex2_byte p (0x8d ∷ m ∷ b.after) code.is_rex2.is
+    ∙ from_relative (rex2_prefix p) 0x8d m b.after code.relative)
+    (ap decode b'.is ∙ after_rex2_byte p (0x8b ∷ m ∷ b'.after) code.is_rex2.is
+    ∙ from_relative (rex2_prefix p) 0x8b m b'.after code.relative)
+    (entry_there 4 (omega arith) section o operands s before entry small (number_of_bytes 4 b'.after)
+    (drop o (rewritten (x86_64_rewrite kinds.TlsDescToInitialExec) section o)) is.rest b'.field is.applied)
+    (ap reg_after_rex2 b.is)
+
+-- ---- the call
+
+-- `call *(%rax)`
+pub call_code : (calls : List ℕ) (at : ℕ) → All (λ b. b < 2 ^ 8) calls
+    → x86_64_matches kinds.SkipTlsDescCall calls at
+    → (rest : List ℕ) × (drop at calls ≡ 0xff ∷ 0x10 ∷ rest)
+call_code calls at bytes matches =
+    let shape = pattern_there (x86.original 0 (byte 0xff ∷ byte 0x10 ∷ [])) calls at matches.1 in
+    let same : at - 0 ≡ at = omega arith in
+    subst (λ i. (rest : List ℕ) × (drop i calls ≡ 0xff ∷ 0x10 ∷ rest)) same
+    (there (drop (at - 0) calls) (All-drop (λ b. b < 2 ^ 8) (at - 0) calls bytes) shape.1)
+  where
+    there : (d : List ℕ) → All (λ b. b < 2 ^ 8) d → begins (byte 0xff ∷ byte 0x10 ∷ []) d ≡ true
+        → (rest : List ℕ) × (d ≡ 0xff ∷ 0x10 ∷ rest)
+    there [] bytes h = absurd (false≢true h)
+    there (b ∷ []) bytes h = absurd (false≢true (and_parts (eqb (bit_and b 0xff) 0xff) false h).1)
+    there (b ∷ m ∷ rest) bytes h =
+        let one = and_parts (eqb (bit_and b 0xff) 0xff) (eqb (bit_and m 0xff) 0x10 && true) h in
+        let two = and_parts (eqb (bit_and m 0xff) 0x10) true one.1 in (
+          rest,
+          ap (λ x. x ∷ m ∷ rest) (same_byte b 0xff (All-head (λ b. b < 2 ^ 8) b (m ∷ rest) bytes) one.0)
+              ∙ ap (λ x. 0xff ∷ x ∷ rest) (same_byte m 0x10 (All-head (λ b. b < 2 ^ 8) m rest
+              (All-tail (λ b. b < 2 ^ 8) b (m ∷ rest) bytes)) two.0),
+        )
 
 -- what is left of the call
 pub nop_code : (calls : List ℕ) (at : ℕ) → x86_64_matches kinds.SkipTlsDescCall calls at
@@ -78,196 +361,3 @@ nop_code calls at matches =
     ∙ ap (drop at) (append_assoc (take at calls) (0x66 ∷ 0x90 ∷ []) (drop (at + 2) calls))
     ∙ drop_at (take at calls) (0x66 ∷ 0x90 ∷ drop (at + 2) calls) at
     (length-take at calls ∙ (let e : min at (length calls) ≡ at = omega arith in e))
-
-by_codes : (a b c a' b' c' : List ℕ) (s : State) (changed : Changes) (returned : ℕ → ℕ) → a ≡ a' → b ≡ b' → c ≡ c'
-    → Agree a' b' c' s changed returned → Agree a b c s changed returned
-by_codes a b c a' b' c' s changed returned e f g h =
-    subst (λ x. Agree x b c s changed returned) (sym e)
-    (subst (λ x. Agree a' x c s changed returned) (sym f)
-    (subst (λ x. Agree a' b' x s changed returned) (sym g) h))
-
-module _ (n : ℕ) (few : n < 8) (section : List ℕ) (o : ℕ) (operands : Operands) (s : State)
-    (before : IsBefore n section o operands s) where
-  pub argument : (bytes rest : List ℕ) → IsApplied descriptor_row operands bytes rest
-      → sum_64 (sum_64 s.ip (n + 4)) (extended (number_of_bytes 4 rest)) ≡ operands.got_entry
-  argument bytes rest applied =
-      from_next n s.ip operands.place (extended (number_of_bytes 4 rest)) operands.got_entry
-      few before.addresses.place before.addresses.got_entry before.ip
-      (descriptor_field operands before.addresses bytes rest applied
-      ∙ ap (λ a. sum_64 operands.got_entry (cast_unsigned w64 a)) before.addend)
-
-  -- the immediate of local-exec
-  pub offset : (bytes rest : List ℕ)
-      → IsApplied thread_row (absolute_operands o operands) bytes rest
-      → extended (number_of_bytes 4 rest) % 2 ^ 64 ≡ thread_offset operands
-  offset bytes rest applied =
-      let p = difference_64 (sum_64 operands.place o) o in
-      offset_is (extended (number_of_bytes 4 rest)) operands.symbol operands.tls_base
-      before.addresses.symbol before.addresses.tls_base
-      (thread_field (absolute_operands o operands)
-      (at_place operands p (pos 0) before.addresses (difference_below (sum_64 operands.place o) o))
-      bytes rest applied
-      ∙ sum_zero operands.symbol before.addresses.symbol)
-
-  -- the entry that initial-exec loads
-  pub other_entry : (entry : ℕ) → entry < 2 ^ 64 → (bytes rest : List ℕ)
-      → IsApplied tls_got_row
-      (record operands { place = difference_64 (sum_64 operands.place o) o; got_entry = entry })
-      bytes rest
-      → sum_64 (sum_64 s.ip (n + 4)) (extended (number_of_bytes 4 rest)) ≡ entry
-  other_entry entry small bytes rest applied =
-      let place = operands.place in
-      let p = difference_64 (sum_64 place o) o in
-      let operands' : Operands = record operands { place = p; got_entry = entry } in
-      let addresses' : AreAddresses operands' = record {
-        symbol = before.addresses.symbol;
-        place = difference_below (sum_64 place o) o;
-        got_entry = small;
-        got_base = before.addresses.got_base;
-        plt_entry = before.addresses.plt_entry;
-        tls_base = before.addresses.tls_base;
-      } in
-      from_next n s.ip place (extended (number_of_bytes 4 rest)) entry few before.addresses.place
-      small before.ip
-      (ap (λ q. sum_64 q (extended (number_of_bytes 4 rest)))
-      (sym (same_place place o before.addresses.place before.offset))
-      ∙ tls_entry_field operands' addresses' bytes rest applied
-      ∙ ap (λ a. sum_64 entry (cast_unsigned w64 a)) before.addend)
-
-pub local_exec : DescriptorToLocalExec lea_rax names.R_X86_64_GOTPC32_TLSDESC
-local_exec section old new o operands s changed returned before there matches returns any was is calls at
-    called =
-    let shape = pattern_there lea_rax section o there in
-    let d = begin_with (0x48 ∷ 0x8d ∷ 0x05 ∷ []) field4 (drop (o - 3) section)
-    (All-drop (λ b. b < 2 ^ 8) (o - 3) section before.bytes) shape.1 in
-    let room = shape.0 in
-    let long = inside section (0x48 ∷ 0x8d ∷ 0x05 ∷ d.0) o 3 (omega arith) room d.1
-    (omega arith) in
-    let f = number_of_bytes 4 was.rest in
-    let f' = number_of_bytes 4 is.rest in
-    let leads = offset 3 (omega arith) section o operands s before
-    (drop o (rewritten (x86_64_rewrite (kinds.TlsDescToLocalExec 3)) section o)) is.rest
-    is.applied in
-    let next = sum_64 s.ip 7 in
-    by_codes (drop (o - 3) old) (drop (o - 3) new)
-    (drop at (rewritten (x86_64_rewrite kinds.SkipTlsDescCall) calls at))
-    (0x48 ∷ 0x8d ∷ 0x05 ∷ was.rest) (0x48 ∷ 0xc7 ∷ 0xc0 ∷ is.rest)
-    (0x66 ∷ 0x90 ∷ drop (at + 2) calls) s changed returned
-    (ap (drop (o - 3)) was.whole ∙ original_code section was.rest o 3 3 room long (omega arith)
-    ∙ ap (λ xs. drop (3 - 3) (take 3 xs ++ was.rest)) d.1)
-    (ap (drop (o - 3)) is.whole
-    ∙ rewritten_code section is.rest o 3 3 room long (omega arith)
-    (absolute 3 (prefixed_operand 3 0xc7 0xc0)) o 3 (omega arith) (omega arith)
-    ∙ ap (λ d. drop (3 - 3) (take 3 (take (3 - 3) d
-    ++ prefixed_operand 3 0xc7 0xc0 (take 3 (drop (3 - 3) d)) ++ drop (3 - 3 + 3) d)
-    ++ is.rest)) d.1)
-    (nop_code calls at called) (
-      (λ a. refl),
-      λ t c. agree s t (execute (operate MOV 64 (register 0) (immediate f')) next s) changed returned next
-          operands.got_entry f (extended f' % 2 ^ 64) before.addresses.got_entry
-          (argument 3 (omega arith) section o operands s before (drop o section) was.rest was.applied)
-          (returns ∙ sym leads) refl (λ r. refl) (λ a. refl) c,
-    )
-
-pub initial_exec : DescriptorToInitialExec lea_rax names.R_X86_64_GOTPC32_TLSDESC
-initial_exec entry small section old new o operands s changed returned before there matches returns
-    holds was is calls at called =
-    let shape = pattern_there lea_rax section o there in
-    let d = begin_with (0x48 ∷ 0x8d ∷ 0x05 ∷ []) field4 (drop (o - 3) section)
-    (All-drop (λ b. b < 2 ^ 8) (o - 3) section before.bytes) shape.1 in
-    let room = shape.0 in
-    let long = inside section (0x48 ∷ 0x8d ∷ 0x05 ∷ d.0) o 3 (omega arith) room d.1
-    (omega arith) in
-    let f = number_of_bytes 4 was.rest in
-    let f' = number_of_bytes 4 is.rest in
-    let leads = other_entry 3 (omega arith) section o operands s before entry small
-    (drop o (rewritten (x86_64_rewrite kinds.TlsDescToInitialExec) section o)) is.rest
-    is.applied in
-    let next = sum_64 s.ip 7 in
-    by_codes (drop (o - 3) old) (drop (o - 3) new)
-    (drop at (rewritten (x86_64_rewrite kinds.SkipTlsDescCall) calls at))
-    (0x48 ∷ 0x8d ∷ 0x05 ∷ was.rest) (0x48 ∷ 0x8b ∷ 0x05 ∷ is.rest)
-    (0x66 ∷ 0x90 ∷ drop (at + 2) calls) s changed returned
-    (ap (drop (o - 3)) was.whole ∙ original_code section was.rest o 3 3 room long (omega arith)
-    ∙ ap (λ xs. drop (3 - 3) (take 3 xs ++ was.rest)) d.1)
-    (ap (drop (o - 3)) is.whole
-    ∙ rewritten_code section is.rest o 3 3 room long (omega arith)
-    (replaces 2 1 (λ _. 0x8b ∷ [])) o 3 (omega arith) (omega arith)
-    ∙ ap (λ d. drop (3 - 3) (take 3 (take (3 - 2) d ++ (0x8b ∷ []) ++ drop (3 - 2 + 1) d)
-    ++ is.rest)) d.1)
-    (nop_code calls at called) (
-      (λ a. refl),
-      λ t c. agree s t (execute (operate MOV 64 (register 0) (relative f')) next s) changed returned next
-          operands.got_entry f (load 8 s (sum_64 next (extended f'))) before.addresses.got_entry
-          (argument 3 (omega arith) section o operands s before (drop o section) was.rest was.applied)
-          (returns ∙ sym (ap (load 8 s) leads ∙ holds)) refl (λ r. refl) (λ a. refl) c,
-    )
-
-pub rex2_local_exec : DescriptorToLocalExec rex2_lea_rax names.R_X86_64_CODE_4_GOTPC32_TLSDESC
-rex2_local_exec section old new o operands s changed returned before there matches returns any was is calls
-    at called =
-    let shape = pattern_there rex2_lea_rax section o there in
-    let d = begin_with (0xd5 ∷ 0x08 ∷ 0x8d ∷ 0x05 ∷ []) field4 (drop (o - 4) section)
-    (All-drop (λ b. b < 2 ^ 8) (o - 4) section before.bytes) shape.1 in
-    let room = shape.0 in
-    let long = inside section (0xd5 ∷ 0x08 ∷ 0x8d ∷ 0x05 ∷ d.0) o 4 (omega arith) room d.1
-    (omega arith) in
-    let f = number_of_bytes 4 was.rest in
-    let f' = number_of_bytes 4 is.rest in
-    let leads = offset 4 (omega arith) section o operands s before
-    (drop o (rewritten (x86_64_rewrite (kinds.TlsDescToLocalExec 4)) section o)) is.rest
-    is.applied in
-    let next = sum_64 s.ip 8 in
-    by_codes (drop (o - 4) old) (drop (o - 4) new)
-    (drop at (rewritten (x86_64_rewrite kinds.SkipTlsDescCall) calls at))
-    (0xd5 ∷ 0x08 ∷ 0x8d ∷ 0x05 ∷ was.rest) (0xd5 ∷ 0x08 ∷ 0xc7 ∷ 0xc0 ∷ is.rest)
-    (0x66 ∷ 0x90 ∷ drop (at + 2) calls) s changed returned
-    (ap (drop (o - 4)) was.whole ∙ original_code section was.rest o 4 4 room long (omega arith)
-    ∙ ap (λ xs. drop (4 - 4) (take 4 xs ++ was.rest)) d.1)
-    (ap (drop (o - 4)) is.whole
-    ∙ rewritten_code section is.rest o 4 4 room long (omega arith)
-    (absolute 3 (prefixed_operand 4 0xc7 0xc0)) o 4 (omega arith) (omega arith)
-    ∙ ap (λ d. drop (4 - 4) (take 4 (take (4 - 3) d
-    ++ prefixed_operand 4 0xc7 0xc0 (take 3 (drop (4 - 3) d)) ++ drop (4 - 3 + 3) d)
-    ++ is.rest)) d.1)
-    (nop_code calls at called) (
-      (λ a. refl),
-      λ t c. agree s t (execute (operate MOV 64 (register 0) (immediate f')) next s) changed returned next
-          operands.got_entry f (extended f' % 2 ^ 64) before.addresses.got_entry
-          (argument 4 (omega arith) section o operands s before (drop o section) was.rest was.applied)
-          (returns ∙ sym leads) refl (λ r. refl) (λ a. refl) c,
-    )
-
-pub rex2_initial_exec : DescriptorToInitialExec rex2_lea_rax names.R_X86_64_CODE_4_GOTPC32_TLSDESC
-rex2_initial_exec entry small section old new o operands s changed returned before there matches returns
-    holds was is calls at called =
-    let shape = pattern_there rex2_lea_rax section o there in
-    let d = begin_with (0xd5 ∷ 0x08 ∷ 0x8d ∷ 0x05 ∷ []) field4 (drop (o - 4) section)
-    (All-drop (λ b. b < 2 ^ 8) (o - 4) section before.bytes) shape.1 in
-    let room = shape.0 in
-    let long = inside section (0xd5 ∷ 0x08 ∷ 0x8d ∷ 0x05 ∷ d.0) o 4 (omega arith) room d.1
-    (omega arith) in
-    let f = number_of_bytes 4 was.rest in
-    let f' = number_of_bytes 4 is.rest in
-    let leads = other_entry 4 (omega arith) section o operands s before entry small
-    (drop o (rewritten (x86_64_rewrite kinds.TlsDescToInitialExec) section o)) is.rest
-    is.applied in
-    let next = sum_64 s.ip 8 in
-    by_codes (drop (o - 4) old) (drop (o - 4) new)
-    (drop at (rewritten (x86_64_rewrite kinds.SkipTlsDescCall) calls at))
-    (0xd5 ∷ 0x08 ∷ 0x8d ∷ 0x05 ∷ was.rest) (0xd5 ∷ 0x08 ∷ 0x8b ∷ 0x05 ∷ is.rest)
-    (0x66 ∷ 0x90 ∷ drop (at + 2) calls) s changed returned
-    (ap (drop (o - 4)) was.whole ∙ original_code section was.rest o 4 4 room long (omega arith)
-    ∙ ap (λ xs. drop (4 - 4) (take 4 xs ++ was.rest)) d.1)
-    (ap (drop (o - 4)) is.whole
-    ∙ rewritten_code section is.rest o 4 4 room long (omega arith)
-    (replaces 2 1 (λ _. 0x8b ∷ [])) o 4 (omega arith) (omega arith)
-    ∙ ap (λ d. drop (4 - 4) (take 4 (take (4 - 2) d ++ (0x8b ∷ []) ++ drop (4 - 2 + 1) d)
-    ++ is.rest)) d.1)
-    (nop_code calls at called) (
-      (λ a. refl),
-      λ t c. agree s t (execute (operate MOV 64 (register 0) (relative f')) next s) changed returned next
-          operands.got_entry f (load 8 s (sum_64 next (extended f'))) before.addresses.got_entry
-          (argument 4 (omega arith) section o operands s before (drop o section) was.rest was.applied)
-          (returns ∙ sym (ap (load 8 s) leads ∙ holds)) refl (λ r. refl) (λ a. refl) c,
-    )

@@ -22,7 +22,7 @@ use Rattle.linker_laws.specs.X86Groups as groups
 use Rattle.linker_laws.specs.X86Machine as x86_machine
 use Rattle.linker_laws.specs.X86Machine.{MOV, lea, load, nop, operate, register, through}
 use Rattle.linker_laws.specs.X86RewriteLaws.{thread_offset}
-use Rattle.linker_laws.specs.X86ThreadLaws.{reg_after_rex, reg_after_rex2}
+use Rattle.linker_laws.specs.X86Groups.{LoadsNumber, MakesOffset, reg_after_rex, reg_after_rex2}
 use Rattle.linker_elf.specs.declared.x86_64.relocations.X86_64Relocation.TheVariants as names
 use Rattle.linker_laws.specs.X86Machine.{Decoded, bit_of, call, decode, direct, execute, indirect, jump}
 use Rattle.linker_laws.specs.X86Machine.{store_8}
@@ -36,9 +36,8 @@ use Rattle.linker_laws.proofs.CoveredRuns.{holds_of, once, run_first}
 use Rattle.linker_laws.proofs.X86Branches.{Leads}
 use Rattle.linker_laws.proofs.X86Branches as branches
 use Rattle.linker_laws.proofs.X86Decoding.{Replaced, Replaces, map_some}
-use Rattle.linker_laws.proofs.X86DescriptorSteps.{AreLea, LeaOf}
-use Rattle.linker_laws.proofs.X86DescriptorSteps as leas
-use Rattle.linker_laws.proofs.X86Descriptors.{nop_code}
+use Rattle.linker_laws.proofs.X86Descriptors.{AreLea, LeaOf}
+use Rattle.linker_laws.proofs.X86Descriptors as leas
 
 -- ---- bytes of code
 
@@ -317,12 +316,12 @@ second_true true b e = e
 second_true false b e = absurd (true≢false (sym e))
 
 is_lea : (n : ℕ) (register_of : List ℕ → ℕ) (Makes : Code → Kinds → State → Operands → ℕ → Type 0)
-    (c : Code) (o : Operands) (s : State) (before : List ℕ) (number : x86_machine.State → ℕ)
-    → AreLea (n + 4) before (bytes_at 15 c.old s.pc) (bytes_at 15 c.new s.pc) register_of o (seen s) number
+    (c : Code) (o : Operands) (s : State) (number : x86_machine.State → ℕ)
+    → AreLea (n + 4) (bytes_at 15 c.old s.pc) (bytes_at 15 c.new s.pc) register_of o (seen s) number
     → ((k : Kinds) (made : ℕ) → Makes c k s o made → (t : State) → Agree (link c) k s t
     → number (seen (record t { pc = s.pc })) ≡ made)
     → IsLea n register_of Makes c o s
-is_lea n register_of Makes c o s before number l made h k descriptor makes =
+is_lea n register_of Makes c o s number l made h k descriptor makes =
     let next = sum_64 s.pc (n + 4) in
     subst (λ r. Group (of_link (link c)) 1 k s (with_register r (half h) k) (put r o.got_entry next s))
     (sym l.in_code)
@@ -355,8 +354,7 @@ to_offset : (n : ℕ) (name : X86_64Relocation) (register_of : List ℕ → ℕ)
 to_offset n name register_of few law =
     map_some (x86_64_relocation_after (TlsDescToLocalExec n) name) _ _
     (λ after facts c s section original relaxed o operands before there matches was is at at'.
-    is_lea n register_of (λ c k s o number. thread_offset o ≡ number) c operands s (drop (o - n) section)
-    (λ t. thread_offset operands)
+    is_lea n register_of MakesOffset c operands s (λ t. thread_offset operands)
     (facts section original relaxed o operands (seen s) before there matches was is
     (bytes_at 15 c.old s.pc) (bytes_at 15 c.new s.pc)
     (starts (n + 4) c.old s.pc (drop (o - n) original) few at)
@@ -371,9 +369,7 @@ to_entry : (n : ℕ) (name : X86_64Relocation) (register_of : List ℕ → ℕ) 
 to_entry n name register_of few law entry small =
     map_some (x86_64_relocation_after TlsDescToInitialExec name) _ _
     (λ after facts c s section original relaxed o operands before there matches was is at at'.
-    is_lea n register_of
-    (λ c k s o number. (t : State) → Agree (link c) k s t → load 8 (seen t) entry ≡ number) c operands s
-    (drop (o - n) section) (λ t. load 8 t entry)
+    is_lea n register_of (LoadsNumber entry) c operands s (λ t. load 8 t entry)
     (facts section original relaxed o operands (seen s) before there matches was is
     (bytes_at 15 c.old s.pc) (bytes_at 15 c.new s.pc)
     (starts (n + 4) c.old s.pc (drop (o - n) original) few at)
@@ -389,14 +385,14 @@ are_leas = (
 )
 
 pub are_descriptor_calls : CallOfDescriptor
-are_descriptor_calls c h executes k k' s s' calls at bytes matches old new has returns changes =
+are_descriptor_calls c s calls at bytes matches old new h executes k k' s' has returns changes =
     let next = sum_64 s.pc 2 in
     let was = begins_with 0xff 0x10 (bytes_at 15 c.old s.pc) (drop at calls)
     (starts 2 c.old s.pc (drop at calls) (lit≤ tt) old) (leas.call_code calls at bytes matches) in
     let is = begins_with 0x66 0x90 (bytes_at 15 c.new s.pc)
     (drop at (rewritten (x86_64_rewrite SkipTlsDescCall) calls at))
     (starts 2 c.new s.pc (drop at (rewritten (x86_64_rewrite SkipTlsDescCall) calls at)) (lit≤ tt) new)
-    (drop (at + 2) calls, nop_code calls at matches) in
+    (drop (at + 2) calls, leas.nop_code calls at matches) in
     record {
       more = executes;
       old_goes =

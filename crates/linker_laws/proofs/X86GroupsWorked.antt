@@ -391,8 +391,9 @@ only_open a small = by (nat_lt (difference_64 a 0x7ff8) 8) refl
 
 q2 : Groups → Group (of_link (link descriptor_code)) 1 with_half d1 after_call d2
 q2 g =
-    g.descriptor_call descriptor_code 0 2 with_half after_call d1 d2 calls 0 (are_bytes calls refl)
-    (record { starts = lit≤ tt; ends = lit≤ tt; admitted = refl }, refl) refl refl refl refl
+    g.descriptor_call descriptor_code d1 calls 0 (are_bytes calls refl)
+    (record { starts = lit≤ tt; ends = lit≤ tt; admitted = refl }, refl) refl refl 0 2 with_half
+    after_call d2 refl refl
     (record {
       pc = refl;
       registers = λ r. inr (refl, by r (r == 4) refl);

@@ -17,12 +17,11 @@ use Rattle.linker_laws.specs.Simulation.{State, Kind, Kinds, Agree, AreOf, Group
 use Rattle.linker_laws.specs.Simulation.{AreStored, half, of_link, run, same}
 use Rattle.linker_laws.specs.X86Groups.{Code, GeneralDynamic, HasPointer, LocalDynamic}
 use Rattle.linker_laws.specs.X86Groups.{ModuleCall, Returns, Stands, ToInitialExec, ToLocalExec, bytes_at}
-use Rattle.linker_laws.specs.X86Groups.{ToLocalExecLarge}
+use Rattle.linker_laws.specs.X86Groups.{HasThreadPointer, ToLocalExecLarge}
 use Rattle.linker_laws.specs.X86Groups.{is_flag, left, link, machine, seen}
 use Rattle.linker_laws.specs.X86Machine.{ADD, decode, execute, extended, lea, lea_from, load}
 use Rattle.linker_laws.specs.X86Machine.{load_thread, nop, operate, register, relative}
 use Rattle.linker_laws.specs.X86RewriteLaws.{IsBefore, IsRelocatedBy, thread_offset}
-use Rattle.linker_laws.specs.X86ThreadLaws.{HasThreadPointer}
 use Rattle.linker_laws.proofs.Agreement.{agree_open, agree_put}
 use Rattle.linker_laws.proofs.CoveredRuns.{holds_of, run_first, run_on}
 use Rattle.linker_laws.proofs.Sums.{difference_below}
@@ -237,62 +236,71 @@ by_mov c h n k k' s bytes few stands size decoded pointer is t agree =
     }
 
 by_plt : ModuleCall 12 1 kinds.TlsLdToLocalExec
-by_plt c h k k' s s' section original o operands before matches was at at' pointer is returns =
-    let pattern = original_at 3 (lea_rdi ++ byte 0xe8 ∷ field4) in
-    let bytes = 0x66 ∷ 0x66 ∷ 0x66 ∷ dynamic.load_bytes in
-    let shape = starts_with 3 plain_lea_bytes (field4 ++ byte 0xe8 ∷ field4) section o before.bytes
-    (sym (or-false (is_at pattern section o)) ∙ matches.1) in
-    call_group c operands 7 12 0 (half h) (c.old_half h) (c.new_half h) k k' s s'
-    (module_argument section original o shape c operands s before was at) returns (are_halves c h)
-    (by_mov c h 12 k k' s bytes (lit≤ tt)
-    (starts 12 c.new s.pc _ (lit≤ tt) at'
-    ∙ ap (take 12) (put_code section original o shape 12 bytes (λ o. o + 5))) refl (λ rest. refl) pointer is)
+by_plt = (
+  refl,
+  λ c s section original o operands before matches was at at' h k k' s' pointer is returns.
+      let pattern = original_at 3 (lea_rdi ++ byte 0xe8 ∷ field4) in
+      let bytes = 0x66 ∷ 0x66 ∷ 0x66 ∷ dynamic.load_bytes in
+      let shape = starts_with 3 plain_lea_bytes (field4 ++ byte 0xe8 ∷ field4) section o before.bytes
+      (sym (or-false (is_at pattern section o)) ∙ matches.1) in
+      call_group c operands 7 12 0 (half h) (c.old_half h) (c.new_half h) k k' s s'
+      (module_argument section original o shape c operands s before was at) returns (are_halves c h)
+      (by_mov c h 12 k k' s bytes (lit≤ tt)
+      (starts 12 c.new s.pc _ (lit≤ tt) at'
+      ∙ ap (take 12) (put_code section original o shape 12 bytes (λ o. o + 5))) refl (λ rest. refl) pointer is),
+)
 
 by_got : ModuleCall 13 1 kinds.TlsLdToLocalExecNoPlt
-by_got c h k k' s s' section original o operands before matches was at at' pointer is returns =
-    let pattern = original_at 3 (lea_rdi ++ byte 0xff ∷ byte 0x15 ∷ field4) in
-    let bytes = 0x66 ∷ 0x66 ∷ 0x66 ∷ 0x66 ∷ dynamic.load_bytes in
-    let shape = starts_with 3 plain_lea_bytes (field4 ++ byte 0xff ∷ byte 0x15 ∷ field4) section o
-    before.bytes (sym (or-false (is_at pattern section o)) ∙ matches.1) in
-    call_group c operands 7 13 0 (half h) (c.old_half h) (c.new_half h) k k' s s'
-    (module_argument section original o shape c operands s before was at) returns (are_halves c h)
-    (by_mov c h 13 k k' s bytes (lit≤ tt)
-    (starts 13 c.new s.pc _ (lit≤ tt) at'
-    ∙ ap (take 13) (put_code section original o shape 13 bytes (λ o. o + 5))) refl (λ rest. refl) pointer is)
+by_got = (
+  refl,
+  λ c s section original o operands before matches was at at' h k k' s' pointer is returns.
+      let pattern = original_at 3 (lea_rdi ++ byte 0xff ∷ byte 0x15 ∷ field4) in
+      let bytes = 0x66 ∷ 0x66 ∷ 0x66 ∷ 0x66 ∷ dynamic.load_bytes in
+      let shape = starts_with 3 plain_lea_bytes (field4 ++ byte 0xff ∷ byte 0x15 ∷ field4) section o
+      before.bytes (sym (or-false (is_at pattern section o)) ∙ matches.1) in
+      call_group c operands 7 13 0 (half h) (c.old_half h) (c.new_half h) k k' s s'
+      (module_argument section original o shape c operands s before was at) returns (are_halves c h)
+      (by_mov c h 13 k k' s bytes (lit≤ tt)
+      (starts 13 c.new s.pc _ (lit≤ tt) at'
+      ∙ ap (take 13) (put_code section original o shape 13 bytes (λ o. o + 5))) refl (λ rest. refl) pointer is),
+)
 
 twenty_two : (a : ℕ) → sum_64 (sum_64 a 13) 9 ≡ sum_64 a 22
 twenty_two a = omega arith
 
 in_large_model : ModuleCall 22 2 kinds.TlsLdToLocalExec64
-in_large_model c h k k' s s' section original o operands before matches was at at' pointer is returns =
-    let bytes = dynamic.nop_bytes ++ dynamic.load_bytes in
-    let shape = larges.begins_with_lea section o before.bytes matches.1 in
-    let stands = at' ∙ ap (take 22) (put_code section original o shape 22 bytes (λ o. o + 15)) in
-    let first = opened dynamic.nop_bytes (bytes_at 15 c.new s.pc)
-    (take_bytes 13 15 c.new s.pc (lit≤ tt) ∙ ap (take 13) stands) in
-    call_group c operands 7 22 1 (half h) (c.old_half h) (c.new_half h) k k' s s'
-    (module_argument section original o shape c operands s before was at) returns (are_halves c h)
-    (λ t agree.
-    let has = pointer t agree in
-    let t1 = go_to (sum_64 s.pc 13) t in
-    let second = opened dynamic.load_bytes (bytes_at 15 c.new (sum_64 s.pc 13))
-    (on 13 9 c.new s.pc bytes (lit≤ tt) agree.small stands) in
-    record {
-      state = put 0 (t.registers 38) (sum_64 s.pc 22) t;
-      goes_there =
-          run_first 1 (machine c.others c.new) t t1 _
-          (ap (λ a. machine c.others c.new (record t { pc = a })) agree.pc
-          ∙ goes c.others (bytes_at 15 c.new s.pc) (record t { pc = s.pc })
-          (record { instruction = nop; size = 13 }) (ap decode first.1))
-          (run_first 0 (machine c.others c.new) t1 _ _
-          (moves c t1 (sum_64 s.pc 13) 9 refl (ap decode second.1)
-          (record { small = has.0.small; word = has.0.word }))
-          (ap (λ a. Some (put 0 (t.registers 38) a t)) (twenty_two s.pc)));
-      pc = refl;
-      memory = refl;
-      outside = refl;
-      registers = has_pointer c h (sum_64 s.pc 22) k' s t is has.1;
-    })
+in_large_model = (
+  refl,
+  λ c s section original o operands before matches was at at' h k k' s' pointer is returns.
+      let bytes = dynamic.nop_bytes ++ dynamic.load_bytes in
+      let shape = larges.begins_with_lea section o before.bytes matches.1 in
+      let stands = at' ∙ ap (take 22) (put_code section original o shape 22 bytes (λ o. o + 15)) in
+      let first = opened dynamic.nop_bytes (bytes_at 15 c.new s.pc)
+      (take_bytes 13 15 c.new s.pc (lit≤ tt) ∙ ap (take 13) stands) in
+      call_group c operands 7 22 1 (half h) (c.old_half h) (c.new_half h) k k' s s'
+      (module_argument section original o shape c operands s before was at) returns (are_halves c h)
+      (λ t agree.
+      let has = pointer t agree in
+      let t1 = go_to (sum_64 s.pc 13) t in
+      let second = opened dynamic.load_bytes (bytes_at 15 c.new (sum_64 s.pc 13))
+      (on 13 9 c.new s.pc bytes (lit≤ tt) agree.small stands) in
+      record {
+        state = put 0 (t.registers 38) (sum_64 s.pc 22) t;
+        goes_there =
+            run_first 1 (machine c.others c.new) t t1 _
+            (ap (λ a. machine c.others c.new (record t { pc = a })) agree.pc
+            ∙ goes c.others (bytes_at 15 c.new s.pc) (record t { pc = s.pc })
+            (record { instruction = nop; size = 13 }) (ap decode first.1))
+            (run_first 0 (machine c.others c.new) t1 _ _
+            (moves c t1 (sum_64 s.pc 13) 9 refl (ap decode second.1)
+            (record { small = has.0.small; word = has.0.word }))
+            (ap (λ a. Some (put 0 (t.registers 38) a t)) (twenty_two s.pc)));
+        pc = refl;
+        memory = refl;
+        outside = refl;
+        registers = has_pointer c h (sum_64 s.pc 22) k' s t is has.1;
+      }),
+)
 
 pub are_module_calls : LocalDynamic
 are_module_calls = (by_plt, by_got, in_large_model)

@@ -31,4 +31,3 @@ pub mod X86GroupsWorked
 pub mod X86Machine
 pub mod X86RelocationLaws
 pub mod X86RewriteLaws
-pub mod X86ThreadLaws

@@ -1,24 +1,28 @@
--- x86-64: rewritten instructions are groups of the simulation. No code moves.
+-- x86-64: rewritten instructions are groups of the simulation (x86-64 psABI, "Optimize GOTPCRELX
+-- Relocations" and "ELF Handling For Thread-Local Storage"). No code moves.
 use Rattle.std.specs.Prelude.{◌≡◌, ℕ, zero, suc, ◌+◌, ◌-◌, ◌^◌, ◌<◌, ◌≤◌, ◌==◌, ◌&&◌, ◌⊎◌, Bool}
 use Rattle.std.specs.Prelude.{true, false, not, nat_le, nat_lt, if◌then◌else◌, List, [], ◌∷◌, take}
 use Rattle.std.specs.Prelude.{drop, Option, Some, None, IsSomeAnd, IsTrue, ⊤}
 use Rattle.std.specs.List.{All}
 use Rattle.linker_base.specs.Rewrite.{rewritten, offset_after}
+use Rattle.linker_elf.specs.Applied.{IsApplied}
 use Rattle.linker_elf.specs.Choices.{operands_after}
+use Rattle.linker_elf.specs.Relocate.{number_of_bytes}
 use Rattle.linker_elf.specs.Value.{sum_64, difference_64}
+use Rattle.linker_elf.specs.X86Relocations.{x86_64_row}
 use Rattle.linker_elf.specs.declared.elf.value.Operands.{Operands}
 use Rattle.linker_elf.specs.declared.x86_64.relocations.X86_64Relocation.{X86_64Relocation}
 use Rattle.linker_elf.specs.declared.x86_64.relocations.X86_64Relocation.TheVariants as names
 use Rattle.linker_laws.specs.Changes.{ChangesOpen, go_to, put, with_register}
+use Rattle.linker_laws.specs.Schemes.{AreAddresses}
 use Rattle.linker_laws.specs.Simulation.{State, Program, Machine, Link, Kind, Kinds, Stored, Agree}
 use Rattle.linker_laws.specs.Simulation.{AreOf, Group, Other, anything, half, of_link, run, same}
 use Rattle.linker_laws.specs.SimulationWorked.{of_byte}
 use Rattle.linker_laws.specs.X86Machine as x86_machine
 use Rattle.linker_laws.specs.X86Machine.{Flags, Operation, Instruction, Decoded, MOV, operate}
 use Rattle.linker_laws.specs.X86Machine.{operate_into, bit_of, decode, execute, load, store_8}
-use Rattle.linker_laws.specs.X86RewriteLaws.{EachPrefix, IsBefore, IsRelocated, address}
-use Rattle.linker_laws.specs.X86RewriteLaws.{thread_offset}
-use Rattle.linker_laws.specs.X86ThreadLaws.{HasThreadPointer, reg_after_rex, reg_after_rex2}
+use Rattle.linker_laws.specs.X86Machine.{extended, reg_of, rex2_prefix, rex_prefix}
+use Rattle.linker_laws.specs.X86RewriteLaws.{IsBefore, IsRelocated, address, thread_offset}
 use Rattle.linker_utils.specs.X86RelocationsAfter.{x86_64_relocation_after}
 use Rattle.linker_utils.specs.X86Rewrites.{Original, is_one_at, lea_of_descriptor, legacy}
 use Rattle.linker_utils.specs.X86Rewrites.{x86_64_matches, x86_64_originals, x86_64_rewrite}
@@ -166,6 +170,12 @@ Reads n instructions name kind held =
 
 -- ---- addresses
 
+-- with no prefix, with REX and with REX2, by the bytes before the field
+abbrev pub EachPrefix : (ℕ → X86_64Relocation → Type 0) → Type 0
+EachPrefix Holds =
+    Holds 2 names.R_X86_64_GOTPCRELX × Holds 3 names.R_X86_64_REX_GOTPCRELX
+    × Holds 4 names.R_X86_64_CODE_4_GOTPCRELX
+
 -- `mov` from the GOT, and `lea`
 abbrev pub IsLoad : ℕ → X86_64Relocation → Type 0
 IsLoad n name = Reads n (legacy n 0x8b) name kinds.MovIndirectToLea address
@@ -260,6 +270,25 @@ Branches =
 
 -- ---- TLS descriptors, each instruction by itself
 
+-- the register that the reg field of an instruction with an opcode of one byte names, after REX,
+-- and after d5 and the byte of REX2
+abbrev pub reg_after_rex : List ℕ → ℕ
+reg_after_rex (p ∷ opcode ∷ m ∷ rest) = reg_of m + (rex_prefix p).reg
+reg_after_rex bytes = 0
+
+abbrev pub reg_after_rex2 : List ℕ → ℕ
+reg_after_rex2 (d5 ∷ p ∷ opcode ∷ m ∷ rest) = reg_of m + (rex2_prefix p).reg
+reg_after_rex2 bytes = 0
+
+-- the number that new's instruction makes: the offset
+abbrev pub MakesOffset : Code → Kinds → State → Operands → ℕ → Type 0
+MakesOffset c k s o number = thread_offset o ≡ number
+
+-- or what a GOT entry has, whatever state of new agrees
+abbrev pub LoadsNumber : ℕ → Code → Kinds → State → Operands → ℕ → Type 0
+LoadsNumber entry c k s o number =
+    (t : State) → Agree (link c) k s t → load 8 (seen t) entry ≡ number
+
 -- `lea x@tlsdesc(%rip), %reg` leaves a half: the descriptor's address in old, and the offset in
 -- new.
 abbrev pub IsLea : ℕ → (List ℕ → ℕ) → (Code → Kinds → State → Operands → ℕ → Type 0) → Code
@@ -274,17 +303,14 @@ IsLea n register_of Makes c o s =
 abbrev pub LeaToOffset : ℕ → X86_64Relocation → (List ℕ → ℕ) → Type 0
 LeaToOffset n name register_of =
     Rewritten n (n + 4) (lea_of_descriptor n) name (kinds.TlsDescToLocalExec n)
-    (λ operands. operands) (IsLea n register_of (λ c k s o number. thread_offset o ≡ number))
+    (λ operands. operands) (IsLea n register_of MakesOffset)
 
--- `mov x@gottpoff(%rip), %reg`, of an entry that has what the function returns, whatever state of
--- new agrees
+-- `mov x@gottpoff(%rip), %reg`, of an entry that has what the function returns
 abbrev pub LeaToEntry : ℕ → X86_64Relocation → (List ℕ → ℕ) → Type 0
 LeaToEntry n name register_of =
     (entry : ℕ) → entry < 2 ^ 64
     → Rewritten n (n + 4) (lea_of_descriptor n) name kinds.TlsDescToInitialExec
-    (λ operands. record operands { got_entry = entry })
-    (IsLea n register_of (λ c k s o number.
-    (t : State) → Agree (link c) k s t → load 8 (seen t) entry ≡ number))
+    (λ operands. record operands { got_entry = entry }) (IsLea n register_of (LoadsNumber entry))
 
 abbrev pub LeaOfDescriptor : Type 0
 LeaOfDescriptor =
@@ -297,20 +323,29 @@ LeaOfDescriptor =
 -- in RAX. New has a `nop`, and has the offset there. What else the function changes may be anything
 -- then, as may memory below the stack pointer and the flags. By the psABI ("TLS Descriptors") it
 -- changes no other register. Where the thread has no block yet, it makes one.
-abbrev pub CallOfDescriptor : Type 0
-CallOfDescriptor =
-    (c : Code) (h executes : ℕ) (k k' : Kinds) (s s' : State) (calls : List ℕ) (at : ℕ)
-    → All (λ b. b < 2 ^ 8) calls → x86_64_matches kinds.SkipTlsDescCall calls at
-    → Stands c.old s.pc 2 (drop at calls)
-    → Stands c.new s.pc 2 (drop at (rewritten (x86_64_rewrite kinds.SkipTlsDescCall) calls at))
-    → k.registers 0 ≡ half h
+abbrev pub IsDescriptorCall : Code → State → Type 0
+IsDescriptorCall c s =
+    (h executes : ℕ) (k k' : Kinds) (s' : State) → k.registers 0 ≡ half h
     → let next = sum_64 s.pc 2 in
     run executes (machine c.others c.old) (called (load 8 (seen s) (s.registers 0)) next s)
     ≡ Some s'
     → ChangesOpen (with_register 0 same k) (put 0 (c.new_half h) next s) k' s'
     → Group (of_link (link c)) 1 k s k' s'
 
+abbrev pub CallOfDescriptor : Type 0
+CallOfDescriptor =
+    (c : Code) (s : State) (calls : List ℕ) (at : ℕ)
+    → All (λ b. b < 2 ^ 8) calls → x86_64_matches kinds.SkipTlsDescCall calls at
+    → Stands c.old s.pc 2 (drop at calls)
+    → Stands c.new s.pc 2 (drop at (rewritten (x86_64_rewrite kinds.SkipTlsDescCall) calls at))
+    → IsDescriptorCall c s
+
 -- ---- general- and local-dynamic
+
+-- The thread pointer is the first word of what it points to.
+pub record HasThreadPointer (s : x86_machine.State) : Type 0 where
+  pub small : s.fs < 2 ^ 64
+  pub word : load 8 s s.fs ≡ s.fs
 
 -- Whatever state of new agrees, it has old's thread pointer, which is the first word of what it
 -- points to.
@@ -346,16 +381,19 @@ ToLocalExec =
     Rewritten 4 16 (x86_64_originals kinds.TlsGdToLocalExec) names.R_X86_64_TLSGD
     kinds.TlsGdToLocalExec (λ operands. operands) (IsThreadCall 8 16 2 (λ c k s k' o. ⊤))
 
--- `mov %fs:0, %rax` and `add x@gottpoff(%rip), %rax`, where a GOT entry holds the offset, whatever
--- state of new agrees; the flags may be anything then
+-- The GOT entry at an address holds the offset. The flags may be anything then.
+abbrev pub AddsOffset : ℕ → Code → Kinds → State → Kinds → Operands → Type 0
+AddsOffset entry c k s k' o =
+    LoadsNumber entry c k s o (thread_offset o)
+    × ((r : ℕ) → IsTrue (is_flag r) → k'.registers r ≡ anything)
+
+-- `mov %fs:0, %rax` and `add x@gottpoff(%rip), %rax`
 abbrev pub ToInitialExec : Type 0
 ToInitialExec =
     (entry : ℕ) → entry < 2 ^ 64
     → Rewritten 4 16 (x86_64_originals kinds.TlsGdToInitialExec) names.R_X86_64_TLSGD
     kinds.TlsGdToInitialExec (λ operands. record operands { got_entry = entry })
-    (IsThreadCall 8 16 2 (λ c k s k' o.
-    ((t : State) → Agree (link c) k s t → load 8 (seen t) entry ≡ thread_offset o)
-    × ((r : ℕ) → IsTrue (is_flag r) → k'.registers r ≡ anything)))
+    (IsThreadCall 8 16 2 (AddsOffset entry))
 
 -- In the large code model the call is by `movabs`, `add` and `call *%rax`, and a NOP is the third
 -- instruction.
@@ -366,18 +404,22 @@ ToLocalExecLarge =
 
 -- It returns the address of the module's block. New executes `mov %fs:0, %rax`, with prefixes or
 -- after a NOP, by n bytes, and has the thread pointer in RAX.
+abbrev pub IsModuleCall : ℕ → ℕ → Code → Operands → State → Type 0
+IsModuleCall n count c o s =
+    (h : ℕ) (k k' : Kinds) (s' : State) → HasPointer c k s → s.registers 38 ≡ c.new_half h
+    → Returns c o 7 n (half h) (c.old_half h) k s k' s'
+    → Group (of_link (link c)) count k s k' s'
+
 abbrev pub ModuleCall : ℕ → ℕ → RewriteKind → Type 0
 ModuleCall n count kind =
-    (c : Code) (h : ℕ) (k k' : Kinds) (s s' : State) (section original : List ℕ) (o : ℕ)
-    (operands : Operands)
+    (x86_64_relocation_after kind names.R_X86_64_TLSLD ≡ Some names.R_X86_64_NONE)
+    × ((c : Code) (s : State) (section original : List ℕ) (o : ℕ) (operands : Operands)
     → IsBefore 3 section o operands (seen s)
     → x86_64_matches kind section o
     → IsRelocated names.R_X86_64_TLSLD operands o section original
     → Stands c.old s.pc 7 (drop (o - 3) original)
     → Stands c.new s.pc n (drop (o - 3) (rewritten (x86_64_rewrite kind) section o))
-    → HasPointer c k s → s.registers 38 ≡ c.new_half h
-    → Returns c operands 7 n (half h) (c.old_half h) k s k' s'
-    → Group (of_link (link c)) count k s k' s'
+    → IsModuleCall n count c operands s)
 
 abbrev pub GeneralDynamic : Type 0
 GeneralDynamic = ToLocalExec × ToInitialExec × ToLocalExecLarge
@@ -386,6 +428,28 @@ abbrev pub LocalDynamic : Type 0
 LocalDynamic =
     ModuleCall 12 1 kinds.TlsLdToLocalExec × ModuleCall 13 1 kinds.TlsLdToLocalExecNoPlt
     × ModuleCall 22 2 kinds.TlsLdToLocalExec64
+
+-- ---- offsets in a module's block
+
+-- Fields of n bytes hold a symbol's offset in the block and its offset from the thread pointer.
+-- Added to the addresses of both they are the same address. As addresses in the TLS segment's
+-- image, the block begins at `image`, and the thread pointer points to `pointed`.
+abbrev pub LeadToTheSame : ℕ → (ℕ → ℕ) → X86_64Relocation → X86_64Relocation → Type 0
+LeadToTheSame n read in_block from_pointer =
+    IsSomeAnd (x86_64_row in_block) (λ row.
+    IsSomeAnd (x86_64_row from_pointer) (λ row'.
+    (image pointed block pointer : ℕ) → image < 2 ^ 64 → pointed < 2 ^ 64
+    → block ≡ sum_64 pointer (difference_64 image pointed)
+    → (operands : Operands) (bytes rest rest' : List ℕ) → AreAddresses operands
+    → IsApplied row (record operands { tls_base = image }) bytes rest
+    → IsApplied row' (record operands { tls_base = pointed }) bytes rest'
+    → sum_64 block (read (number_of_bytes n rest)) ≡ sum_64 pointer (read (number_of_bytes n rest'))))
+
+-- One of 32 bits is sign-extended.
+abbrev pub BlockOffsets : Type 0
+BlockOffsets =
+    LeadToTheSame 4 extended names.R_X86_64_DTPOFF32 names.R_X86_64_TPOFF32
+    × LeadToTheSame 8 (λ offset. offset) names.R_X86_64_DTPOFF64 names.R_X86_64_TPOFF64
 
 -- ---- other instructions
 
@@ -410,4 +474,5 @@ pub record Groups : Type 0 where
   pub descriptor_call : CallOfDescriptor
   pub general_dynamic : GeneralDynamic
   pub local_dynamic : LocalDynamic
+  pub block_offsets : BlockOffsets
   pub others : Others

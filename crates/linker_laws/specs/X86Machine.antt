@@ -3,7 +3,7 @@
 -- instruction). Code isn't part of the memory here.
 use Rattle.std.specs.Prelude.{ℕ, zero, suc, ◌+◌, ◌-◌, ◌*◌, ◌/◌, ◌%◌, ◌^◌, ◌==◌, ◌&&◌, Bool}
 use Rattle.std.specs.Prelude.{true, false, not, if◌then◌else◌, nat_lt, List, [], ◌∷◌, Option, Some}
-use Rattle.std.specs.Prelude.{None, bit_and, bit_or, bit_xor, drop}
+use Rattle.std.specs.Prelude.{None, bit_and, bit_or, bit_xor}
 use Rattle.std.specs.Int.{w64, bit_at, byte_at, cast_unsigned}
 use Rattle.linker_base.specs.Bits.{field, signed}
 use Rattle.linker_elf.specs.Relocate.{number_of_bytes}
@@ -555,21 +555,3 @@ execute_decoded (Some d) s = Some (execute d.instruction (sum_64 s.ip d.size) s)
 -- the state after the instruction that bytes begin with
 abbrev pub step : List ℕ → State → Option State
 step bytes s = execute_decoded (decode bytes) s
-
--- CALL and JMP
-abbrev pub is_branch : Instruction → Bool
-is_branch (call target) = true
-is_branch (jump target) = true
-is_branch other = false
-
-abbrev pub run_decoded : (List ℕ → State → Option State) → Option Decoded → List ℕ → State
-    → Option State
-run_decoded others None bytes s = None
-run_decoded others (Some d) bytes s =
-    if is_branch d.instruction then None
-    else others (drop d.size bytes) (execute d.instruction (sum_64 s.ip d.size) s)
-
--- the state after n instructions, each after the one before it; none where one is a branch
-abbrev pub run : ℕ → List ℕ → State → Option State
-run zero bytes s = Some s
-run (suc n) bytes s = run_decoded (run n) (decode bytes) bytes s

@@ -1,18 +1,16 @@
-//! Laws of rewrites: the instructions after a rewrite compute what those before it do.
+//! Laws of PowerPC64's rewrites: the instructions after a rewrite compute what those before it do.
+//! Those of the other architectures are in `simulation`.
 //!
-//! The functions do nothing, and the contract of each has the laws of one architecture, which are
-//! the fields of `Laws` in `specs/`. They are over a machine that executes the instructions that
-//! rewrites read or write: from the same state the instructions before a rewrite and those after
-//! it, each with their relocations applied, end in states that are alike. Further clauses are
-//! examples of what the machine does.
+//! The functions do nothing. The laws are the fields of `Laws` in `specs/`. They are over a machine
+//! that executes the instructions that rewrites read or write: from the same state the instructions
+//! before a rewrite and those after it, each with their relocations applied, end in states that are
+//! alike. The other clauses are examples of what the machines do.
 
 ghost use Rattle.linker_laws.specs.AArch64RewriteLaws as aarch64_laws;
 ghost use Rattle.linker_laws.specs.AArch64Worked as aarch64_worked;
 ghost use Rattle.linker_laws.specs.Ppc64RewriteLaws as ppc64_laws;
 ghost use Rattle.linker_laws.specs.RiscVExamples as riscv_examples;
 ghost use Rattle.linker_laws.specs.X86Examples as x86_examples;
-ghost use Rattle.linker_laws.specs.X86RewriteLaws as x86_laws;
-ghost use Rattle.linker_laws.specs.X86ThreadLaws as x86_thread_laws;
 
 /// AArch64: the bytes of instructions that a rewrite leaves may be a section's, from the
 /// instruction on. What they compute is in `simulation::aarch64`.
@@ -46,16 +44,10 @@ pub fn riscv64()
     ensures sequences { riscv_examples.Sequences }
 {}
 
-/// x86-64: with no prefix, with REX, REX2 and EVEX, an instruction that takes an address or an
-/// offset from the GOT, and what a rewrite leaves of it, take every state to the same state. The
-/// sequences of general-dynamic, initial-exec and local-exec TLS have the same result in rax, also
-/// in the large code model, and so have descriptors, whose `lea`, into any register, and call have
-/// a law each too, of two runs, whatever stands between them. Where local-dynamic TLS becomes
-/// local-exec, rax and the offset that is added to it have the same sum. The examples are bytes of
-/// assemblers and results of a processor; those of EVEX are of the decoding alone.
+/// x86-64: examples of what bytes are, and of what instructions do: bytes of assemblers and results
+/// of a processor. Those of EVEX are of the decoding alone. What rewritten instructions compute is
+/// in `simulation::x86_64`.
 pub fn x86_64()
-    ensures laws { x86_laws.Laws }
-    ensures thread_laws { x86_thread_laws.Laws }
     ensures decoding { x86_examples.Decoding }
     ensures results { x86_examples.Results }
     ensures states { x86_examples.States }

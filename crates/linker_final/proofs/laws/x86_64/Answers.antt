@@ -6,12 +6,12 @@ use Rattle.linker_final.proofs.laws.x86_64.Goals as goal
 
 pub returns : goal.returns
 returns c =
-    let threads = c.x86_64.ensures.thread_laws in
+    let groups = c.x86_64.ensures.groups in
     record {
-      got_operands = joined c.x86_64.ensures.laws;
-      general_dynamic = general_dynamic_too threads.general_dynamic;
-      local_dynamic = local_dynamic_too threads.local_dynamic;
-      offsets = offsets;
-      descriptor_addresses = addresses threads.descriptor_address;
-      descriptor_calls = calls threads.descriptor_call;
+      got_operands = joined groups;
+      general_dynamic = general_dynamic_too groups.general_dynamic;
+      local_dynamic = local_dynamic_too groups.local_dynamic;
+      offsets = offsets groups.block_offsets;
+      descriptor_addresses = addresses groups.descriptor_address;
+      descriptor_calls = calls groups.descriptor_call;
     }
