@@ -66,12 +66,11 @@ fn main() -> Result<(), Error> {
             globals.insert(it.name(LE, symbols.strings())?, describe(&member, it));
         }
         start += (file.len() as u64).next_multiple_of(0x1000);
-        machines.push(header.e_machine(LE));
+        machines.push(Architecture::from_machine(header.e_machine(LE)).ok_or("a machine is unknown")?);
         members.push(member);
     }
     machines.dedup();
     let [machine] = machines[..] else { return Err("the members are of no machine, or of several".into()) };
-    let machine = Architecture::from_machine(machine).ok_or("the machine is unknown")?;
     let (target, link) = (Target::of(machine), Link::new(machine));
     let origins = Some(target.origins(START, 0x100_0000, 64));
     let link = Link { got_base: target.got_base(GOT), origins, module_entry: Some(GOT), ..link };

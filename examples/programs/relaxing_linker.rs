@@ -33,8 +33,7 @@ fn main() -> Result<(), Box<dyn Error>> {
         let tables = sections.relocation_sections(LE, symbols.section())?;
         let is_riscv = header.e_type(LE) == ET_REL && header.e_machine(LE) == EM_RISCV;
         let own = header.e_flags(LE);
-        let joined = target.join_flags(flags.unwrap_or(own), own);
-        flags = Some(joined.ok_or("the objects are for different ABIs")?);
+        flags = Some(target.join_flags(flags.unwrap_or(own), own).ok_or("the objects' ABIs differ")?);
         for (index, it) in sections.iter().enumerate() {
             let has = |flag: u32| it.sh_flags(LE) & u64::from(flag) != 0;
             let (alignment, size) = (it.sh_addralign(LE).max(2), it.sh_size(LE));
