@@ -1,15 +1,17 @@
 /* SPDX-License-Identifier: MIT OR Apache-2.0 */
 /* Relocations: what is known of them and of their symbols, and the values of all. */
 #include "link.h"
-#include "linker_utils_types.h"
 
 /* Prints where a relocation is, and its name, as "b.o: .text+0x1c: R_RISCV_JAL". The offset is the
  * object's. */
 void print_place(const struct section *s, const Elf64_Rela *r) {
-    const char *name = linker_utils_type_name(machine, type_of(r));
+    uint8_t name[LINKER_UTILS_NAME_SIZE];
+    size_t len = 0;
     uint64_t offset, at = s->table->sh_offset + (uint64_t)(r - s->relocations) * sizeof *r;
     memcpy(&offset, s->object->bytes + at, sizeof offset);
-    fprintf(stderr, "%s: %s+0x%" PRIx64 ": %s", s->object->path, s->name, offset, name ? name : "");
+    if (linker_utils_relocation_name(machine, type_of(r), name, sizeof name, &len)) len = 0;
+    fprintf(stderr, "%s: %s+0x%" PRIx64 ": %.*s", s->object->path, s->name, offset, (int)len,
+            (const char *)name);
 }
 
 void check(const struct section *s, const Elf64_Rela *r, uint32_t status) {
