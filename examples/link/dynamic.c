@@ -3,9 +3,6 @@
  * relocations that are left to it, and the tables that say so. */
 #include "link.h"
 
-struct linker_utils_link linked = {.is_executable = true, .is_fixed = true};
-const char *own_name;
-
 /* A word that the dynamic linker fills. */
 struct dynamic_row {
     const struct output *output;
@@ -14,8 +11,6 @@ struct dynamic_row {
     const struct symbol *symbol;
     int64_t addend;
 };
-
-struct output *relr; /* null where relative relocations aren't packed */
 
 static struct dynamic_row *rows;
 static size_t rows_len, rows_room, listed_len = 1, imports_len;
@@ -249,18 +244,13 @@ static void make_packed(void) {
                                      !strcmp(l->versions[i].name, "GLIBC_ABI_DT_RELR");
 }
 
-/* Writes the words, and bitmaps without a bit after them; what is added stands in each place. */
+/* Writes the words, and bitmaps without a bit after them. */
 static void write_packed(void) {
     uint64_t *places = zeros(rows_len, sizeof *places), *words = (uint64_t *)relr->bytes;
     size_t len = packed_places(NULL, places), used = 0;
     expect_ok(linker_utils_write_relr(places, len, words, relr->len / 8, &used));
     while (used < relr->len / 8) words[used++] = 1;
     free(places);
-    for (const struct dynamic_row *row = rows; row < rows + rows_len; row++) {
-        const struct symbol *s = row->symbol;
-        uint64_t value = address_of(s->output, s->offset) + (uint64_t)row->addend;
-        if (is_packed(row)) memcpy(row->output->bytes + row->offset, &value, sizeof value);
-    }
 }
 
 static void put_entry(int64_t tag, uint64_t value) {
@@ -351,19 +341,18 @@ bool write_dynamic(void) {
     Elf64_Rela *to = (Elf64_Rela *)rela->bytes;
     if (relr && relr->len) write_packed();
     for (const struct dynamic_row *row = rows; row < rows + rows_len; row++) {
-        if (is_packed(row)) continue;
         const struct symbol *s = row->symbol;
         bool is_looked_up = s->is_imported || row->type == types.copy;
         bool is_of_copy = row->type == types.word && !is_looked_up; /* which came later */
         bool is_offset = row->type == types.thread_offset || row->type == types.module_offset ||
                          row->type == types.descriptor;
         uint64_t at = address_of(s->output, s->offset) - (is_offset ? tls.image : 0);
-        to->r_offset = address_of(row->output, row->offset);
-        to->r_info = ELF64_R_INFO((uint64_t)(is_looked_up ? s->dynamic : 0),
-                                  is_of_copy ? types.relative : row->type);
-        to->r_addend = (int64_t)((uint64_t)row->addend + (is_looked_up ? 0 : at));
-        if (row->type == types.module_number) to->r_addend = 0;
-        to++;
+        uint64_t added = (uint64_t)row->addend + (is_looked_up ? 0 : at);
+        uint64_t info = ELF64_R_INFO((uint64_t)(is_looked_up ? s->dynamic : 0),
+                                     is_of_copy ? types.relative : row->type);
+        if (row->type == types.module_number) added = 0;
+        if (is_packed(row)) memcpy(row->output->bytes + row->offset, &added, sizeof added);
+        else *to++ = (Elf64_Rela){address_of(row->output, row->offset), info, (int64_t)added};
     }
     if (rela->len) qsort(rela->bytes, rela->len / sizeof *to, sizeof *to, by_symbol);
     if (!is_dynamic) return false;

@@ -3,10 +3,6 @@
  * functions whose address is in a word, and thunks for branches that don't reach their target. */
 #include "link.h"
 
-struct symbol module = {.name = "", .elf = {.st_shndx = SHN_ABS}};
-struct linker_utils_dynamic_types types;
-struct linker_utils_got known_got;
-
 /* Code that the linker adds, and where it goes: to the address in a word, or to its target. It is
  * written once addresses are known. */
 struct stub {
@@ -181,7 +177,7 @@ static void add_thunk(struct section *s, Elf64_Rela *r, const struct linker_util
     struct kind *kind = kind_of(s, r);
     struct symbol *to = symbol_at(s, r);
     if (!kind->needs[0].may_use_stub || to->is_thunk) return;
-    bool reaches_all = !kind->reach.has_range || span < (uint64_t)kind->reach.max / 2;
+    bool reaches_all = !kind->row.reach.has_range || span < (uint64_t)kind->row.reach.max / 2;
     bool is_near = reaches_all && to->output && to->offset <= to->output->len && !to->has_stub &&
                    !r->r_addend;
     bool *is_direct = &kind->is_direct[to->elf.st_other & ~3];

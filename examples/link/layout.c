@@ -2,9 +2,12 @@
 /* Which sections the linked file has, what is in them, and where they are. */
 #include "link.h"
 
-struct output *outputs[MOST_OUTPUTS + 3];
-size_t outputs_len;
-uint64_t span;
+/* Adds a section to the linked file. */
+static struct output *add_output(struct output made) {
+    if (outputs_len == MOST_OUTPUTS) fail("too many sections");
+    made.align = 1;
+    return outputs[outputs_len++] = keep(&made, sizeof made);
+}
 
 /* The section of the linked file that a section of an object goes into. */
 struct output *output_of(const char *name) {
@@ -21,9 +24,7 @@ struct output *output_of(const char *name) {
     }
     EACH_OUTPUT(o) if (o->name == kind) return o;
     EACH_OUTPUT(o) if (!strcmp(o->name, kind)) return o;
-    if (outputs_len == MOST_OUTPUTS) fail("too many sections");
-    struct output made = {.name = kind, .align = 1, .priority = priority};
-    return outputs[outputs_len++] = keep(&made, sizeof made);
+    return add_output((struct output){.name = kind, .priority = priority});
 }
 
 static unsigned rank_of(const struct output *o) {
@@ -62,9 +63,6 @@ void sort_outputs(void) {
     qsort(outputs, outputs_len, sizeof *outputs, by_address);
 }
 
-/* How many bytes the shortest instruction has. */
-uint64_t code_unit(void) { return linker_utils_code_unit(machine, machine_flags); }
-
 /* The offset of new room at a section's end. Gaps in code have instructions that trap, or zeros, as
  * ld.lld's; where code shrinks they are as long as may be needed. */
 uint64_t make_room(struct output *o, uint64_t align, uint64_t len) {
@@ -102,10 +100,8 @@ static struct output *part_for(struct output *o, uint64_t len) {
     if (!o->room || o->room + len <= MOST_PART ||
         linker_utils_get_stub(machine, LINKER_UTILS_STUB_JUMP, &stub))
         return o;
-    if (outputs_len == MOST_OUTPUTS) fail("too many sections");
-    struct output made = {.name = o->name, .align = 1, .priority = o->priority,
-                          .part = o->part + 1, .whole = o->whole ? o->whole : o};
-    return outputs[outputs_len++] = o->behind = keep(&made, sizeof made);
+    return o->behind = add_output((struct output){.name = o->name, .priority = o->priority,
+                                                  .part = o->part + 1, .whole = o->whole ? o->whole : o});
 }
 
 /* Says which section a section goes into, and what that one is like. */
@@ -178,7 +174,7 @@ static const struct output *first_tls; /* null where there is no thread-local st
 
 static void begin_run(struct place *p, uint64_t address) {
     struct run *run = p->run ? p->run + 1 : runs;
-    *run = (struct run){.start = address};
+    *run = (struct run){.is = {.start = address}};
     *p = (struct place){.run = run, .low = address, .high = address};
 }
 
@@ -191,7 +187,7 @@ static void skip(struct place *p, uint64_t len) {
 static void align_next(struct place *p, struct output *o, uint64_t align) {
     uint64_t unit = code_unit(), len = round_up(p->low, align) - p->low;
     if (p->low != p->high) {
-        uint64_t address = p->run->start + p->at;
+        uint64_t address = p->run->is.start + p->at;
         if (align < unit) align = unit;
         len = round_up(address + align - unit, unit) - address;
         o->before = alignment_item(p->at, align, len);
@@ -271,8 +267,9 @@ void place_outputs(void) {
 
 /* The address of what was at an offset of a run. */
 static uint64_t address_in(const struct run *run, uint64_t offset) {
-    return run->start + linker_utils_deltas_input_to_output_by_heads(
-                            run->deltas, run->deltas_len, run->heads, run->heads_len, offset);
+    const struct linker_utils_run *is = &run->is;
+    return is->start + linker_utils_deltas_input_to_output_by_heads(
+                           is->deltas, is->deltas_len, run->heads, run->heads_len, offset);
 }
 
 /* Sets the addresses of the sections, by what the runs lose. */

@@ -2,7 +2,6 @@
 /* Shared libraries: what they define, of which versions, and what they refer to. */
 #include "link.h"
 
-struct library *libraries;
 static struct library **libraries_end = &libraries;
 
 /* Bytes of a section, which have to be in it. */

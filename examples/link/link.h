@@ -31,6 +31,11 @@
 
 #include "linker_utils.h"
 
+/* what all files share is defined in main.c, and declared in the others */
+#ifndef SHARED
+#define SHARED extern
+#endif
+
 #define MOST_ALIGN UINT64_C(0x10000)    /* of a section */
 #define BASE UINT64_C(0x400000)         /* where the file's header is, if no section is placed */
 #define HEADERS UINT64_C(0x400)         /* room for the headers there */
@@ -78,10 +83,9 @@ enum { NEAR = 100, FROM_POINTER };
  * as far as the addresses of the command line allow it. Their offsets in it count from before bytes
  * are deleted. */
 struct run {
-    uint64_t start;
-    struct linker_utils_delta *deltas;
+    struct linker_utils_run is;
     struct linker_utils_block_head *heads; /* of the deltas */
-    size_t deltas_len, heads_len;
+    size_t heads_len;
 };
 
 /* A section of the linked file, or a part of it: long code has thunks between its parts, and one
@@ -191,54 +195,55 @@ struct entry {
     uint32_t class;     /* `enum linker_utils_entry_class` */
 };
 
-/* What the library says of a type of relocations, computed once for each. */
-struct kind {
-    struct linker_utils_relocation_info row;
-    struct linker_utils_relocation_reach reach;
-    struct linker_utils_requirements needs[2]; /* without an addend; of a thread-local symbol */
+/* What the library says of each type of relocations, computed once; the row has a name then. */
+SHARED struct kind {
+    struct linker_utils_row row;
+    struct linker_utils_requirements needs[2]; /* with the addend 1; of a thread-local symbol */
     uint32_t role;                             /* `enum linker_utils_role`, at a ULEB128 number */
-    bool is_known, is_direct[256]; /* by `st_other`: a branch that reaches needs no thunk */
-};
+    bool is_direct[256]; /* by `st_other`: a branch that reaches needs no thunk */
+} kinds[2048];
 
 /* The TLS segment: where its image is, its length and alignment, and what offsets count from. */
-struct tls {
+SHARED struct tls {
     uint64_t image, len, align;
     struct linker_utils_origins origins;
     bool has_base; /* whether `module_base` is at the thread pointer, or at the module's origin */
-};
+} tls;
 
-extern uint16_t machine;
+SHARED uint16_t machine;
 /* `e_flags` of all objects; the kind of stubs to the address in a word, by whether code is protected */
-extern uint32_t machine_flags, load_kind;
+SHARED uint32_t machine_flags, load_kind;
 /* whether a dynamic linker loads the linked file, whether the machine's code may become shorter,
  * whether instructions are rewritten that need not be, whether PowerPC64's local-exec is, which
  * ld.lld leaves, and RISC-V's addresses near the global pointer; whether an object says that code is
  * on the stack */
-extern bool is_dynamic, shrinks, relaxes, has_short_offsets, relaxes_near, has_code_on_stack;
-extern bool has_far_symbols;
-extern struct linker_utils_link linked; /* its addresses so far as these are known */
-extern struct linker_utils_dynamic_types types;
-extern struct linker_utils_got known_got; /* likewise */
-extern const char *own_name;         /* of a shared library, by `-soname`; null where it has none */
-extern struct object *objects;       /* in the order in which they are read */
-extern struct library *libraries;    /* in their order */
+SHARED bool is_dynamic, shrinks, relaxes, has_short_offsets, relaxes_near, has_code_on_stack;
+SHARED bool has_far_symbols;
+SHARED struct linker_utils_link linked; /* its addresses so far as these are known */
+SHARED struct linker_utils_dynamic_types types;
+SHARED struct linker_utils_got known_got; /* likewise */
+SHARED const char *own_name;         /* of a shared library, by `-soname`; null where it has none */
+SHARED struct object *objects;       /* in the order in which they are read */
+SHARED struct library *libraries;    /* in their order */
 /* all that objects mention, in their order; `_TLS_MODULE_BASE_`, null where no object requires it;
  * and what has the entry of the GOT that is the module's, if any */
-extern struct symbol *symbols, *module_base, module;
+SHARED struct symbol *symbols, *module_base, module;
 /* all, and null after them; those of the linker; and those of these that are null where there are
  * none */
-extern struct output *outputs[MOST_OUTPUTS + 3];
-extern struct output *headers, *got, *stubs, *slots, *rela, *frames, *index_of, *bss, *note;
-extern struct output *relr, *interpreter, *dynamic, *dynsym, *dynstr, *hash_table, *versym, *verneed;
-extern size_t symbols_len, outputs_len;
+SHARED struct output *outputs[MOST_OUTPUTS + 3];
+SHARED struct output *headers, *got, *stubs, *slots, *rela, *frames, *index_of, *bss, *note;
+SHARED struct output *relr, *interpreter, *dynamic, *dynsym, *dynstr, *hash_table, *versym, *verneed;
+SHARED size_t symbols_len, outputs_len;
 /* the length of the linked file's addresses; the dynamic section's tag that says that code is
  * protected, 0 where there is none */
-extern uint64_t span, plt_tag;
-extern struct tls tls;
-extern struct kind kinds[2048]; /* by type */
-extern struct linker_utils_unrelaxable_groups *kept; /* which groups of the last object stay */
+SHARED uint64_t span, plt_tag;
+SHARED struct linker_utils_unrelaxable_groups *kept; /* which groups of the last object stay */
 
 static inline int order(uint64_t a, uint64_t b) { return a < b ? -1 : a > b; }
+
+static inline uint64_t round_up(uint64_t at, uint64_t align) {
+    return (at + align - 1) & ~(align - 1);
+}
 
 /* By the number that each begins with. */
 static inline int by_number(const void *left, const void *right) {
@@ -256,6 +261,8 @@ static inline uint32_t type_of(const Elf64_Rela *r) { return ELF64_R_TYPE(r->r_i
 /* The symbol of a relocation of a section. */
 #define symbol_at(s, r) ((s)->object->symbols[ELF64_R_SYM((r)->r_info)])
 
+/* How many bytes the shortest instruction has. */
+static inline uint64_t code_unit(void) { return linker_utils_code_unit(machine, machine_flags); }
 
 /* Reads ahead the symbol of a relocation that comes soon. */
 static inline void expect_symbol(const struct section *s, const Elf64_Rela *r) {
@@ -270,7 +277,6 @@ void progress(const char *step, const struct object *o), end_line(const char *en
 void expect_ok(uint32_t status);
 void *zeros(uint64_t count, size_t size), *take(uint64_t count, size_t size);
 void *grow(void *array, size_t need, size_t *room, size_t size);
-uint64_t round_up(uint64_t at, uint64_t align);
 void *keep(const void *value, size_t size);
 /* objects.c */
 void read_heads(struct object *o, uint16_t type, const char *otherwise);
@@ -289,7 +295,7 @@ bool is_ifunc(const struct symbol *s), is_undefined_weak(const struct symbol *s)
 bool is_here(const struct symbol *s), is_needed(const struct symbol *s);
 /* layout.c */
 struct output *output_of(const char *name);
-uint64_t code_unit(void), make_room(struct output *o, uint64_t align, uint64_t len);
+uint64_t make_room(struct output *o, uint64_t align, uint64_t len);
 uint64_t append(struct output *o, uint64_t align, const void *bytes, uint64_t len);
 uint64_t address_of(const struct output *o, uint64_t offset);
 uint32_t add_name(struct output *o, const char *text);
@@ -303,10 +309,16 @@ void print_place(const struct section *s, const Elf64_Rela *r);
 void check(const struct section *s, const Elf64_Rela *r, uint32_t status);
 void read_relocations(struct section *s);
 struct kind *ask_kind(const struct section *s, const Elf64_Rela *r, struct kind *kind);
-struct linker_utils_requirements needs_of(const struct section *s, const Elf64_Rela *r);
 static inline struct kind *kind_of(const struct section *s, const Elf64_Rela *r) {
     struct kind *kind = &kinds[type_of(r) < 2048 ? type_of(r) : 2047];
-    return kind->is_known ? kind : ask_kind(s, r, kind);
+    return *kind->row.name ? kind : ask_kind(s, r, kind);
+}
+/* What a relocation requires. The addend of its entry is its own, or 0. */
+static inline struct linker_utils_requirements needs_of(const struct section *s,
+                                                        const Elf64_Rela *r) {
+    struct linker_utils_requirements needs = kind_of(s, r)->needs[is_thread_local(symbol_at(s, r))];
+    needs.entry_addend *= r->r_addend;
+    return needs;
 }
 struct linker_utils_symbol known_symbol(const struct symbol *s, int64_t addend);
 struct linker_utils_section section_of(const struct section *s);

@@ -12,13 +12,8 @@
  * on. */
 #include <time.h>
 #include <unistd.h>
+#define SHARED
 #include "link.h"
-
-uint16_t machine;
-uint32_t machine_flags;
-bool is_dynamic, shrinks, relaxes = true, has_short_offsets, relaxes_near, has_code_on_stack;
-struct output *headers, *got, *stubs, *slots, *rela, *frames, *index_of, *interpreter, *dynamic;
-struct output *bss, *note, *dynsym, *dynstr, *hash_table, *versym, *verneed;
 
 static const char usage[] =
     "usage: link [-s] [--no-relax | --short-offsets | --relax-gp] [-pie | -shared [-soname NAME]]"
@@ -77,8 +72,6 @@ void *grow(void *array, size_t need, size_t *room, size_t size) {
     return more;
 }
 
-uint64_t round_up(uint64_t at, uint64_t align) { return (at + align - 1) & ~(align - 1); }
-
 /* A section that the linker itself fills; a table has a type, elements of so many bytes where these
  * are more than one, and refers to another. */
 static struct output *own_section(const char *name, uint64_t flags, uint32_t type,
@@ -114,7 +107,7 @@ static void make_sections(void) {
     const char *name = is_dynamic ? ".rela.dyn" : ".rela_iplt";
     rela = own_section(name, 0, SHT_RELA, sizeof(Elf64_Rela), dynsym);
     if (is_dynamic && packs) relr = own_section(".relr.dyn", 0, SHT_RELR, 8, NULL);
-    module.output = got;
+    module = (struct symbol){.name = "", .elf = {.st_shndx = SHN_ABS}, .output = got};
     list_symbol(&module);
 }
 
@@ -151,6 +144,7 @@ static void read_arguments(char **argument) {
 }
 
 int main(int argc, char **argv) {
+    relaxes = linked.is_executable = linked.is_fixed = true;
     if (argc > 0) read_arguments(argv + 1);
     is_dynamic = libraries || !linked.is_fixed;
     if (is_dynamic && is_placed) fail("--section-start is for static executables");

@@ -8,18 +8,11 @@
 
 #include "link.h"
 
-struct bytes {
-    const uint8_t *at;
-    uint64_t len;
-};
-
 struct archive {
-    struct object file;
-    struct bytes names; /* the long ones of members */
-    bool *is_loaded;    /* by half of a member's offset */
+    struct object file, names; /* with the long names of members */
+    bool *is_loaded;           /* by half of a member's offset */
 };
 
-struct object *objects;
 static struct object **objects_end = &objects;
 static struct object *reading; /* a stack of those whose undefined symbols are to be looked up */
 
@@ -157,9 +150,8 @@ void read_heads(struct object *o, uint16_t type, const char *otherwise) {
 }
 
 /* Reads an object, and puts it after the others. */
-static void read_object(const char *path, struct bytes file) {
-    struct object made = {.path = path, .bytes = file.at, .len = file.len};
-    struct object *o = *objects_end = keep(&made, sizeof made);
+static void read_object(struct object file) {
+    struct object *o = *objects_end = keep(&file, sizeof file);
     objects_end = &o->next;
     read_heads(o, ET_REL, "not a relocatable object");
     const struct section *table = NULL;
@@ -185,30 +177,32 @@ static void read_object(const char *path, struct bytes file) {
 }
 
 /* What an archive's member has after its header. */
-static struct bytes member_at(const struct archive *a, uint64_t offset) {
+static struct object member_at(const struct archive *a, uint64_t offset) {
     const struct ar_hdr *head = (const void *)bytes_at(&a->file, offset, sizeof *head);
     char *end = NULL;
     bool holds = !memcmp(head->ar_fmag, ARFMAG, 2); /* no digit, so that the number ends there */
     uint64_t len = holds ? strtoull(head->ar_size, &end, 10) : 0;
     demand(&a->file, holds && end != head->ar_size, "a member's header is not there");
-    return (struct bytes){bytes_at(&a->file, offset + sizeof *head, len), len};
+    return (struct object){.bytes = bytes_at(&a->file, offset + sizeof *head, len), .len = len};
 }
 
 /* Reads a member that the index names. */
 void load_member(struct archive *a, uint64_t offset) {
     if (a->is_loaded[offset / 2]) return;
     a->is_loaded[offset / 2] = true;
-    struct bytes member = member_at(a, offset), name = {a->file.bytes + offset, 16};
-    if (*name.at == '/') {
-        uint64_t at = strtoull((const char *)name.at + 1, NULL, 10);
+    struct object member = member_at(a, offset);
+    const char *name = (const char *)a->file.bytes + offset;
+    size_t most = sizeof ((struct ar_hdr *)NULL)->ar_name;
+    if (*name == '/') {
+        uint64_t at = strtoull(name + 1, NULL, 10);
         demand(&a->file, at < a->names.len, "a member's name is not there");
-        name = (struct bytes){a->names.at + at, a->names.len - at};
+        name = (const char *)a->names.bytes + at, most = a->names.len - at;
     }
-    const uint8_t *slash = memchr(name.at, '/', name.len);
-    int name_len = (int)(slash ? slash - name.at : (ptrdiff_t)name.len);
-    char *path = take(strlen(a->file.path) + (size_t)name_len + 3, 1);
-    sprintf(path, "%s(%.*s)", a->file.path, name_len, (const char *)name.at);
-    read_object(path, member);
+    const char *slash = memchr(name, '/', most);
+    int len = (int)(slash ? slash - name : (ptrdiff_t)most);
+    member.path = take(strlen(a->file.path) + (size_t)len + 3, 1);
+    sprintf((char *)member.path, "%s(%.*s)", a->file.path, len, name);
+    read_object(member);
 }
 
 static uint32_t big_endian(const uint8_t *bytes) {
@@ -219,23 +213,23 @@ static uint32_t big_endian(const uint8_t *bytes) {
 static void read_archive(struct object file) {
     struct archive made = {.file = file, .is_loaded = take(file.len / 2 + 1, 1)};
     struct archive *a = keep(&made, sizeof made);
-    struct bytes index = {NULL, 0}, member;
+    struct object index = {.len = 0};
     /* the special ones are first */
     for (uint64_t at = SARMAG, i = 0; i < 2 && at < file.len; i++) {
         const char *name = (const char *)file.bytes + at;
-        member = member_at(a, at);
+        struct object member = member_at(a, at);
         if (!memcmp(name, "/ ", 2)) index = member;
         else if (!memcmp(name, "// ", 3)) a->names = member;
         at += sizeof(struct ar_hdr) + member.len + member.len % 2;
     }
     if (file.len == SARMAG) return;
     demand(&a->file, index.len >= 4, "an archive without an index");
-    uint64_t count = big_endian(index.at);
+    uint64_t count = big_endian(index.bytes);
     demand(&a->file, count <= (index.len - 4) / 4, "the index ends too early");
-    const char *end = (const char *)index.at + index.len, *text = end - index.len + 4 * (count + 1);
+    const char *end = (const char *)index.bytes + index.len, *text = end - index.len + 4 * (count + 1);
     for (uint64_t i = 1; i <= count; i++) {
         const char *next = memchr(text, 0, (size_t)(end - text));
-        uint64_t at = big_endian(index.at + 4 * i);
+        uint64_t at = big_endian(index.bytes + 4 * i);
         demand(&a->file, next, "the index ends too early");
         if (at % 2 || at >= file.len || file.len - at < sizeof(struct ar_hdr) ||
             memcmp(((const struct ar_hdr *)(file.bytes + at))->ar_fmag, ARFMAG, 2))
@@ -259,6 +253,6 @@ void read_file(const char *path) {
     demand(&o, o.len < 8 || memcmp(o.bytes, "!<thin>\n", 8), "a thin archive");
     if (o.len >= SARMAG && !memcmp(o.bytes, "!<arch>\n", SARMAG)) read_archive(o);
     else if (o.len >= 18 && !memcmp(o.bytes, ELFMAG, 4) && o.bytes[16] == ET_DYN) read_library(o);
-    else read_object(path, (struct bytes){o.bytes, o.len});
+    else read_object(o);
     resolve_all();
 }

@@ -4,9 +4,6 @@
 
 #define MOST_PROPERTIES 32 /* of an object, and of all */
 
-uint32_t load_kind = LINKER_UTILS_STUB_LOAD;
-uint64_t plt_tag;
-
 /* The value of a type of properties; 0 where there is none. */
 static uint64_t value_of(uint32_t kind, const struct linker_utils_property *all, size_t len) {
     while (len > 0 && all[len - 1].kind != kind) len--;
@@ -42,6 +39,7 @@ void merge_properties(const char *flag) {
         if (status) fail_of(o, "%s: %s", note->name, linker_utils_status_text(status));
         memcpy(all, made, len * sizeof *all);
     }
+    load_kind = LINKER_UTILS_STUB_LOAD;
     if (value_of(landing.kind, all, len) & landing.bit)
         load_kind = LINKER_UTILS_STUB_LANDING_LOAD, plt_tag = landing.plt_tag;
     expect_ok(linker_utils_write_properties(machine, all, len, bytes, sizeof bytes, &len));

@@ -67,14 +67,13 @@ static void leave_whole_items(struct section *s) {
 /* Writes code anew: what becomes shorter, and without what it loses, with what is left of the gaps
  * between its sections. Their relocations go to where their bytes are. */
 static void pack_output(struct output *o) {
-    const struct run *run = o->run;
+    struct linker_utils_run part = o->run->is;
     uint8_t *packed = zeros(o->len, 1);
     uint64_t from = 0, to = 0, start = address_of(o, 0);
     for (struct section *s = o->first; s; s = s->behind) {
         leave_whole_items(s);
         struct linker_utils_section here = section_of(s);
-        struct linker_utils_run part = {run->start, items + s->first_item, s->items_len,
-                                        run->deltas, run->deltas_len};
+        part.items = items + s->first_item, part.items_len = s->items_len;
         uint64_t at = address_of(o, s->offset) - start;
         size_t len = linker_utils_packed_run_len(&here, &part), faulty = SIZE_MAX;
         memcpy(packed + to, o->bytes + from, at - to);
@@ -110,20 +109,21 @@ static void relax_run(struct run *run) {
                    .longest = (uint32_t)unit, .count = 1}};
     size_t len = items_len;
     stay = zeros(len, sizeof *stay);
-    struct linker_utils_run all = {run->start, items, len, NULL, 0};
+    run->is.items = items, run->is.items_len = len;
     struct linker_utils_relaxed relaxed = {zeros(len, 1), len, stay, len, zeros(len + 1, 8),
                                            len + 1, zeros(len, sizeof(size_t)), len};
-    uint32_t status = linker_utils_relax(&all, &relaxed, &at);
+    uint32_t status = linker_utils_relax(&run->is, &relaxed, &at);
     EACH_SECTION(s)
         if (status && s->output && s->output->run == run && at - s->first_item < s->items_len)
             check_items(s, makers[at], status);
     if (status) fail("the code can't be relaxed: %s", linker_utils_status_text(status));
     free(relaxed.places), free(relaxed.freed), free(relaxed.shapes);
-    run->deltas = zeros(len, sizeof *run->deltas);
-    expect_ok(linker_utils_run_deltas(&all, &relaxed, run->deltas, len, &run->deltas_len));
-    run->heads_len = linker_utils_deltas_block_count(run->deltas, run->deltas_len);
+    struct linker_utils_delta *deltas = zeros(len, sizeof *deltas);
+    expect_ok(linker_utils_run_deltas(&run->is, &relaxed, deltas, len, &len));
+    run->is.deltas = deltas, run->is.deltas_len = len;
+    run->heads_len = linker_utils_deltas_block_count(deltas, len);
     run->heads = zeros(run->heads_len, sizeof *run->heads);
-    expect_ok(linker_utils_deltas_heads(run->deltas, run->deltas_len, run->heads, run->heads_len));
+    expect_ok(linker_utils_deltas_heads(deltas, len, run->heads, run->heads_len));
     EACH_OUTPUT(o) if (o->run == run && o->shrinks) pack_output(o);
     free(items), free(makers), free(stay);
 }
@@ -136,7 +136,7 @@ void relax(void) {
             rewrite_object(o, phase, phase);
         rewrite_object(o, NEAR, NEAR);
     }
-    EACH_OUTPUT(o) if (shrinks && !o->run->deltas) relax_run(o->run);
+    EACH_OUTPUT(o) if (shrinks && !o->run->is.deltas) relax_run(o->run);
     set_addresses();
     EACH_OUTPUT(o) {
         uint64_t align = o->flags & SHF_TLS && o->address == tls.image ? tls.align : o->align;

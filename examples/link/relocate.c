@@ -2,9 +2,6 @@
 /* Relocations: what is known of them and of their symbols, and the values of all. */
 #include "link.h"
 
-struct tls tls;
-struct kind kinds[2048];
-
 /* Prints where a relocation is, and its name, as "b.o: .text+0x1c: R_RISCV_JAL". The offset is the
  * object's. */
 void print_place(const struct section *s, const Elf64_Rela *r) {
@@ -48,22 +45,11 @@ struct kind *ask_kind(const struct section *s, const Elf64_Rela *r, struct kind 
     uint32_t type = type_of(r);
     for (; asked < 256; asked++)
         changes |= linker_utils_uleb128_role(machine, asked) == LINKER_UTILS_ROLE_ADDS;
-    check(s, r, linker_utils_relocation(machine, type, &kind->row));
-    check(s, r, linker_utils_reach(machine, type, &kind->reach));
+    check(s, r, linker_utils_row_of(linker_utils_find(machine, type), &kind->row));
     for (int is_tls = 0; is_tls < 2; is_tls++)
-        check(s, r, linker_utils_needs(machine, type, 0, is_tls, &kind->needs[is_tls]));
+        check(s, r, linker_utils_needs(machine, type, 1, is_tls, &kind->needs[is_tls]));
     if (changes) kind->role = linker_utils_uleb128_role(machine, type);
-    kind->is_known = true;
     return kind;
-}
-
-/* What a relocation requires. */
-struct linker_utils_requirements needs_of(const struct section *s, const Elf64_Rela *r) {
-    bool is_tls = is_thread_local(symbol_at(s, r));
-    struct linker_utils_requirements needs = kind_of(s, r)->needs[is_tls];
-    if (needs.entry_class && r->r_addend)
-        expect_ok(linker_utils_needs(machine, type_of(r), r->r_addend, is_tls, &needs));
-    return needs;
 }
 
 /* What is known of a symbol, and of its entries in the GOT for an addend. */
@@ -123,7 +109,7 @@ void relocate_section(struct section *s, const struct linker_utils_object *known
                                                               memory_len, &at);
     if (!status) return;
     const Elf64_Rela *r = &s->relocations[at < s->relocations_len ? at : 0];
-    const struct linker_utils_relocation_reach *reach = &kind_of(s, r)->reach;
+    const struct linker_utils_relocation_reach *reach = &kind_of(s, r)->row.reach;
     if (status == LINKER_UTILS_OUT_OF_REACH &&
         !linker_utils_value_at(&linked, known, &here, at, &value))
         fail_at(s, r, " out of reach: %" PRId64 " is not in [%" PRId64 ", %" PRId64 "), to '%s'",

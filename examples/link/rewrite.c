@@ -7,7 +7,6 @@
 /* What is known of the symbols of one object after another, and their addresses once they are. */
 static struct linker_utils_symbol_facts *facts;
 static struct linker_utils_symbol *values;
-struct linker_utils_unrelaxable_groups *kept;
 static bool *kept_high_parts;
 static struct linker_utils_object known;
 static const struct symbol *tls_get_addr;

@@ -3,10 +3,6 @@
  * the linker itself defines. */
 #include "link.h"
 
-struct symbol *symbols, *module_base;
-size_t symbols_len;
-bool has_far_symbols;
-
 /* The global symbols by their names, in at most half of the cells. */
 static struct cell {
     struct symbol *symbol;

@@ -35,6 +35,7 @@ static void *guarded_calloc(size_t count, size_t size) {
 #define free(block) ((void)(block))
 #endif
 #define BLOCK ((size_t)0)
+#define SHARED
 
 /* A file in a block of its own. */
 static void *read_block(size_t len, int file) {

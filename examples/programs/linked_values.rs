@@ -8,9 +8,8 @@ fn main() -> Result<(), Box<dyn std::error::Error>> {
     let header = FileHeader64::<LE>::parse(file)?;
     let sections = header.sections(header.endian()?, file)?;
     let machine = Architecture::from_machine(header.e_machine(LE)).ok_or("its machine is unknown")?;
-    let symbols: Vec<_> = sections.symbols(LE, file, SHT_SYMTAB)?.iter().map(|it| Symbol {
-        address: it.st_value(LE), size: it.st_size(LE), other: it.st_other(),
-        is_undefined_weak: it.is_undefined(LE) && it.st_bind() == STB_WEAK, ..Symbol::default()
+    let symbols: Vec<_> = sections.symbols(LE, file, SHT_SYMTAB)?.iter().map(|it| {
+        Symbol::from_elf(it.st_info(), it.st_other(), it.st_shndx(LE), it.st_value(LE), it.st_size(LE))
     }).collect();
     let got = sections.section_by_name(LE, b".got").map_or(0, |(_, got)| got.sh_addr(LE));
     let link = Link { got_base: Target::of(machine).got_base(got), ..Link::new(machine) };
@@ -19,7 +18,7 @@ fn main() -> Result<(), Box<dyn std::error::Error>> {
     for it in sections.iter().filter(|it| it.sh_type(LE) == SHT_RELA && it.sh_info(LE) != 0) {
         let section = sections.section(SectionIndex(it.sh_info(LE) as usize))?;
         let relas = it.data(LE, file)?;
-        for rela in (0..).map_while(|index| relocation_at(relas, index)) {
+        for rela in relocations(relas) {
             let row = machine.row(rela.code).ok_or("a relocation's type is unknown")?;
             let start = rela.offset.wrapping_sub(section.sh_addr(LE)) as usize;
             let bytes = section.data(LE, file)?.get(start..).and_then(|it| it.get(..row.window()));

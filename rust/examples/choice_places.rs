@@ -16,6 +16,7 @@ use linker_utils::elf::{Architecture, LinkFacts, Operands};
 use linker_utils::loongarch64::{self, LoongArch64Relocation};
 use linker_utils::ppc64::{self, Ppc64Relocation};
 use linker_utils::riscv64::{self, RiscVRelocation};
+use linker_utils::section::{Rela, relocations};
 use linker_utils::x86_64::{self, X86_64Relocation};
 use std::collections::BTreeSet;
 use std::io::{self, BufReader, BufWriter, ErrorKind, Read, Write};
@@ -82,16 +83,12 @@ fn response(
     section: &[u8],
     rela: &[u8],
 ) -> Vec<u8> {
-    let of = |entry: &[u8]| {
-        let offset = u64::from_le_bytes(entry[..8].try_into().expect("8 bytes"));
-        let code = u32::from_le_bytes(entry[8..12].try_into().expect("4 bytes"));
-        match codes.contains(&code) {
-            false => b'-',
-            true if is_chosen(architecture, code, section, offset) => b'y',
-            true => b'n',
-        }
+    let of = |it: Rela| match codes.contains(&it.code) {
+        false => b'-',
+        true if is_chosen(architecture, it.code, section, it.offset) => b'y',
+        true => b'n',
     };
-    rela.chunks_exact(24).map(of).collect()
+    relocations(rela).map(of).collect()
 }
 
 fn bytes(input: &mut impl Read, len: u64) -> io::Result<Vec<u8>> {

@@ -7,7 +7,7 @@ use linker_utils::output::{Target, entry_words, static_words};
 use linker_utils::rewriting::{Decision, UnrelaxableGroups, Phase, SymbolFacts};
 use linker_utils::rewriting::{rewrite_placed_section, rewrite_section, survey, survey_placed_section};
 use linker_utils::section::{EntryClass, Link, Object, Section, Symbol};
-use linker_utils::section::{memory_len, needs, relocate_section, relocation_at};
+use linker_utils::section::{memory_len, needs, relocate_section, relocations};
 use linker_utils::x86_64::X86_64Relocation::*;
 
 /// Where the linker puts the code, the GOT and the TLS image.
@@ -39,7 +39,7 @@ fn link(
     let origins = target.origins(image, 8, 1);
     (link.origins, link.got_base) = (Some(origins), target.got_base(got));
     let mut words = Vec::new();
-    for relocation in (0..count).filter_map(|index| relocation_at(section.relocations, index)) {
+    for relocation in relocations(section.relocations) {
         let symbol = &mut symbols[relocation.symbol as usize];
         let needed = needs(architecture, relocation.code, relocation.addend, symbol.is_thread_local);
         let Some(entry) = needed.and_then(|needed| needed.entry) else { continue };

@@ -139,7 +139,7 @@ pub mod reading {
 
 pub mod section {
     #![doc = include_str!("../doc/section.md")]
-    pub use crate::link::{Link, Object, Section, SectionError, relocate_section};
+    pub use crate::link::{Link, Object, Section, SectionError, relocate_section, relocations};
     pub use crate::linker_section::crel::{Crel, CrelError, read_crel};
     pub use crate::linker_section::facts::{Addresses, Symbol};
     pub use crate::linker_section::needed::{Entry, EntryClass, Requirements, needs};

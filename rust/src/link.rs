@@ -13,11 +13,12 @@ use crate::linker_rewriting::kept::{self, FactsSnapshot};
 use crate::linker_rewriting::phases::Phase;
 use crate::linker_rewriting::{surveys, toc_indirection};
 use crate::linker_runs::items::{
-    self, AsItem, AsRelocation, ItemsError, RewrittenItemsError, SectionItems,
+    self, AsItem, AsRelocation, ItemsError, Relocation, RewrittenItemsError, SectionItems,
 };
 use crate::linker_runs::packing::{self, Machine, RejectedItem};
+use crate::linker_runs::relaxation::Alignment;
 use crate::linker_section::facts::{Addresses, Symbol};
-use crate::linker_section::relocations::relocation_at;
+use crate::linker_section::relocations::{RELA_LEN, Rela, relocation_at, relocation_of};
 use crate::linker_section::sections::{self, RelocationError};
 
 /// What a linker knows of an output. [`Link::new`] has no fact; addresses are known once sections
@@ -142,6 +143,101 @@ impl<B, R> Section<B, R> {
             address: 0,
             base: 0,
         }
+    }
+}
+
+/// The relocations of a section as they stand in the file, one by one: [`relocation_at`] of each
+/// index.
+///
+/// ```
+/// use linker_utils::section::{relocation_at, relocations};
+///
+/// let mut entries = [0; 48];
+/// (entries[24], entries[32]) = (4, 24);
+/// assert_eq!(relocations(&entries).map(|it| it.code).collect::<Vec<_>>(), [0, 24]);
+/// assert_eq!(relocations(&entries).nth(1), relocation_at(&entries, 1));
+/// ```
+#[inline]
+pub fn relocations(
+    entries: &[u8],
+) -> impl DoubleEndedIterator<Item = Rela> + ExactSizeIterator + Clone {
+    entries.chunks_exact(RELA_LEN).map(relocation_of)
+}
+
+impl Symbol {
+    /// What a file's table of symbols says of a symbol, by the fields of `Elf64_Sym`. The address is
+    /// `st_value`, which in an object counts from the start of the section `st_shndx`.
+    ///
+    /// ```
+    /// use linker_utils::section::Symbol;
+    ///
+    /// // STB_WEAK and STT_NOTYPE, of SHN_UNDEF
+    /// assert!(Symbol::from_elf(0x20, 0, 0, 0, 0).is_undefined_weak);
+    /// // STB_GLOBAL and STT_TLS
+    /// let variable = Symbol::from_elf(0x16, 0, 3, 0x40, 8);
+    /// assert_eq!((variable.address, variable.size, variable.is_thread_local), (0x40, 8, true));
+    /// ```
+    #[must_use]
+    #[inline]
+    pub const fn from_elf(
+        st_info: u8,
+        st_other: u8,
+        st_shndx: u16,
+        st_value: u64,
+        st_size: u64,
+    ) -> Symbol {
+        Symbol {
+            address: st_value,
+            size: st_size,
+            stub: 0,
+            address_entry: 0,
+            thread_entry: 0,
+            module_entry: 0,
+            descriptor: 0,
+            entry_addend: 0,
+            other: st_other,
+            is_thread_local: st_info & 15 == 6,
+            is_undefined_weak: st_info >> 4 == 2 && st_shndx == 0,
+        }
+    }
+}
+
+impl Relocation {
+    /// A relocation of a section, which refers to an input offset of the run, as the fields `target`
+    /// and `may_compress` say.
+    #[must_use]
+    #[inline]
+    pub const fn new(relocation: Rela, target: Option<u64>, may_compress: bool) -> Relocation {
+        Relocation {
+            offset: relocation.offset,
+            code: relocation.code,
+            has_symbol: relocation.symbol != 0,
+            addend: relocation.addend,
+            target,
+            may_compress,
+        }
+    }
+}
+
+impl Alignment {
+    /// The alignment before a section of a run, from the end of what is before it on: with so many nops
+    /// that the section is aligned wherever that ends. The section begins `nops` bytes above `offset`.
+    ///
+    /// # Requires
+    ///
+    /// - `alignment` is a power of two, at most `1 << 31`.
+    ///
+    /// ```
+    /// use linker_utils::runs::Alignment;
+    ///
+    /// assert_eq!(Alignment::before(0x1006, 16).nops, 26);
+    /// ```
+    #[must_use]
+    #[inline]
+    pub const fn before(offset: u64, alignment: u64) -> Alignment {
+        debug_assert!(alignment.is_power_of_two() && alignment <= 1 << 31);
+        let nops = (offset.wrapping_neg() & (alignment - 1)) + alignment;
+        Alignment { offset, nops: nops as u32, alignment, max_skip: None }
     }
 }
 

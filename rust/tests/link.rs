@@ -326,18 +326,12 @@ fn compare(architecture: Architecture, random: &mut Random, counts: &mut [usize;
 
     // the calls of a run, and what they become
     let Some(machine) = Machine::of(architecture) else { return };
-    let listed: Vec<Relocation> = (0..count)
-        .filter_map(|index| section::relocation_at(&before.relocations, index))
-        .map(|it| Relocation {
-            offset: it.offset,
-            code: it.code,
-            has_symbol: it.symbol != 0,
-            addend: it.addend,
-            // near, or out of reach of `pcaddi`
-            target: (it.symbol != 0).then_some(base + u64::from(it.symbol % 2) * 0x40_0000),
-            may_compress: true,
-        })
-        .collect();
+    let listed = section::relocations(&before.relocations).map(|it| {
+        // near, or out of reach of `pcaddi`
+        let target = base + u64::from(it.symbol % 2) * 0x40_0000;
+        Relocation::new(it, (it.symbol != 0).then_some(target), true)
+    });
+    let listed: Vec<_> = listed.collect();
     let none = Item::Aligned(Alignment { offset: 0, nops: 0, alignment: 1, max_skip: None });
     let gone = [(random.below(20), 4)];
     let len = listed.len() + gone.len();

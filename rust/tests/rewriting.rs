@@ -138,9 +138,7 @@ fn rewritten_in(
                 &mut decisions,
             )
             .unwrap();
-            let relocations = (0..decisions.len())
-                .map(|index| relocation_at(&entries, index).unwrap())
-                .collect();
+            let relocations = section::relocations(&entries).collect();
             (Section { bytes, relocations }, decisions)
         })
         .collect()
@@ -1051,9 +1049,7 @@ fn placed(
                 &mut deleted,
             )
             .unwrap();
-            let relocations = (0..it.relocations.len())
-                .map(|index| relocation_at(&entries, index).unwrap())
-                .collect();
+            let relocations = section::relocations(&entries).collect();
             (Section { bytes, relocations }, deleted[..len].to_vec())
         })
         .collect()
@@ -2029,8 +2025,7 @@ fn with_addresses(
         &mut decisions,
     )
     .unwrap();
-    let relocations = (0..decisions.len()).map(|index| relocation_at(&entries, index).unwrap());
-    let relocations = relocations.collect();
+    let relocations = section::relocations(&entries).collect();
     (kept, Section { bytes, relocations }, decisions)
 }
 

@@ -5,6 +5,7 @@ mod random;
 
 use compare::{Counts, Line, compare, elf, report};
 use linker_utils::elf::Operands;
+use linker_utils::section::relocations;
 use object::{Object, ObjectSection, ObjectSymbol};
 use random::Random;
 use std::collections::HashMap;
@@ -77,9 +78,7 @@ fn codes(inputs: &[(String, Vec<u8>)]) -> Vec<u32> {
             }
             let name = format!(".rela{}", section.name().unwrap());
             let Some(table) = file.section_by_name(&name) else { continue };
-            for entry in table.data().unwrap().chunks_exact(24) {
-                all.push(u32::from_le_bytes(entry[8..12].try_into().unwrap()));
-            }
+            all.extend(relocations(table.data().unwrap()).map(|it| it.code));
         }
     }
     all

@@ -4,6 +4,7 @@
 mod random;
 
 use compare::{Counts, Line, compare, elf, report};
+use linker_utils::section::relocations;
 use object::read::elf::ElfFile64;
 use object::{LittleEndian, Object, ObjectSection, ObjectSymbol};
 use random::Random;
@@ -56,9 +57,7 @@ fn rows_of(folder: &str, names: [&str; 2]) -> (Vec<Line>, Counts) {
 fn table(bytes: &[u8], section: &str) -> Vec<(u64, u32)> {
     let it = ElfFile64::<LittleEndian>::parse(bytes).unwrap();
     let Some(table) = it.section_by_name(&format!(".rela{section}")) else { return Vec::new() };
-    let entries = table.data().unwrap().chunks_exact(24);
-    let number = |bytes: &[u8]| u64::from_le_bytes(bytes.try_into().unwrap());
-    entries.map(|entry| (number(&entry[..8]), number(&entry[8..16]) as u32)).collect()
+    relocations(table.data().unwrap()).map(|it| (it.offset, it.code)).collect()
 }
 
 /// GNU ld, and ld.lld for RISC-V, wrote into the files where they have each relocation.

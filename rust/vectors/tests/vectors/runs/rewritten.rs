@@ -13,7 +13,7 @@ use linker_utils::runs::shapes::fixed;
 use linker_utils::runs::{Fault, Item, ItemFault, Relocation, RewrittenItemsError, Run, Site};
 use linker_utils::runs::{first_faulty, pack_run, packed_run_len, relax, rewritten_items_into};
 use linker_utils::section::{Link, Object, Section, Symbol};
-use linker_utils::section::{memory_len, relocate_section, relocation_at};
+use linker_utils::section::{memory_len, relocate_section, relocations};
 
 /// Where the section begins in its run, and where the run does.
 const BASE: u64 = 0x100;
@@ -92,26 +92,17 @@ fn expect(
 ) {
     let (mut section, deleted) = without_thread_offsets(architecture, section, entries);
     assert_eq!(deleted, [(8, 4), (12, 4)]);
-    let relocations: Vec<_> = (0..entries.len())
-        .map(|index| relocation_at(&section.relocations, index).unwrap())
-        .map(|it| Relocation {
-            offset: it.offset,
-            code: it.code,
-            has_symbol: it.symbol != 0,
-            addend: it.addend,
-            target: is_in_run(it.symbol, f),
-            may_compress: true,
-        })
+    let listed: Vec<_> = relocations(&section.relocations)
+        .map(|it| Relocation::new(it, is_in_run(it.symbol, f), true))
         .collect();
-    let mut items = vec![aligned(0, 0, 1, None); relocations.len() + 2];
-    let mut makers = vec![0; relocations.len() + 2];
-    let (listed, of) = (&mut items, &mut makers);
-    let count =
-        rewritten_items_into(machine, &section, &relocations, &deleted, listed, of).unwrap();
+    let mut items = vec![aligned(0, 0, 1, None); listed.len() + 2];
+    let mut makers = vec![0; listed.len() + 2];
+    let (all, of) = (&mut items, &mut makers);
+    let count = rewritten_items_into(machine, &section, &listed, &deleted, all, of).unwrap();
     items.truncate(count);
     for (item, &maker) in items.iter().zip(&makers) {
-        let offset = relocations.get(maker).map(|it| it.offset);
-        let offset = offset.unwrap_or_else(|| deleted[maker - relocations.len()].0);
+        let offset = listed.get(maker).map(|it| it.offset);
+        let offset = offset.unwrap_or_else(|| deleted[maker - listed.len()].0);
         assert_eq!(item.offset(), BASE + offset);
     }
     assert_eq!(first_faulty(&items, START), None);
@@ -123,8 +114,7 @@ fn expect(
     pack_run(machine, &mut section, &run, &mut packed).unwrap();
     assert_eq!(packed, expected);
     let is_mark = |code| code == 0 || code == 51 || code == 100; // `R_RISCV_RELAX`, `R_LARCH_RELAX`
-    let left: Vec<_> = (0..entries.len())
-        .map(|index| relocation_at(&section.relocations, index).unwrap())
+    let left: Vec<_> = relocations(&section.relocations)
         .filter(|it| !is_mark(it.code))
         .map(|it| (it.offset, it.code))
         .collect();
