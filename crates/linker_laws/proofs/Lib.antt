@@ -35,6 +35,8 @@ pub mod Ppc64Calls
 pub mod Ppc64Copies
 pub mod Ppc64Direct
 pub mod Ppc64Entries
+pub mod Ppc64Groups
+pub mod Ppc64GroupsWorked
 pub mod Ppc64Halves
 pub mod Ppc64IndexedWords
 pub mod Ppc64LowHalves

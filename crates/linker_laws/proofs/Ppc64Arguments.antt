@@ -115,7 +115,7 @@ argument_to_offset f o s t c addi addi_of ld at entry offset p alike made own le
     (step_ld f y x a t (same_parts parts.opcode_is parts.rt_is parts.ra_is after.0) (after.1 ∙ low))
     (ap (loaded 8 t.memory) address ∙ holds) alike
 
-nothing_added : (t : ℕ) (m : ℤ) → m ≡ pos 0 → moved t (m *ℤ pos (2 ^ 16)) ≡ sum_64 t 0
+pub nothing_added : (t : ℕ) (m : ℤ) → m ≡ pos 0 → moved t (m *ℤ pos (2 ^ 16)) ≡ sum_64 t 0
 nothing_added t m none =
     ap (λ z. moved t (z *ℤ pos (2 ^ 16))) none ∙ wrapped_is (pos t +ℤ pos 0) 0 (t + 0) (omega (arith, ints))
 
@@ -198,11 +198,9 @@ call_to_sum f call changes c o s t bl made alike is_made thread p =
     (ap rb_of last) (ap (λ w. field w 0 11) last))
     (ap (λ n. sum_64 n (t.registers 13)) p.argument.new_is ∙ ap (from_thread o) thread)
 
-adds_4096 : (t : ℕ) → moved (sum_64 t 0) ((ppc64_form D).machine 0x38631000) ≡ sum_64 t 0x1000
+pub adds_4096 : (n : ℕ) → moved n ((ppc64_form D).machine 0x38631000) ≡ sum_64 n 0x1000
 unfolding place_sum
-adds_4096 t =
-    wrapped_is (pos (sum_64 t 0) +ℤ pos 0x1000) 0 (sum_64 t 0 + 0x1000) (omega (arith, ints))
-    ∙ (let same : (sum_64 t 0 + 0x1000) % 2 ^ 64 ≡ sum_64 t 0x1000 = omega arith in same)
+adds_4096 n = wrapped_is (pos n +ℤ pos 0x1000) 0 (n + 0x1000) (omega (arith, ints))
 
 pub call_to_block : laws.CallToBlock
 call_to_block f call changes c s t bl made alike is_made p =
@@ -215,4 +213,5 @@ call_to_block f call changes c s t bl made alike is_made p =
     (record { opcode_is = ap opcode_of last; rt_is = ap rt_of last; ra_is = ap ra_of last }))
     (ap (λ n. moved n ((ppc64_form D).machine w)) p.argument.new_is
     ∙ ap (λ k. moved (sum_64 (s.registers 13) 0) ((ppc64_form D).machine k)) last
-    ∙ adds_4096 (s.registers 13))
+    ∙ adds_4096 (sum_64 (s.registers 13) 0)
+    ∙ (let same : sum_64 (sum_64 (s.registers 13) 0) 0x1000 ≡ sum_64 (s.registers 13) 0x1000 = omega arith in same))

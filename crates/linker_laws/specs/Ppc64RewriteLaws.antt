@@ -27,6 +27,7 @@ use Rattle.linker_laws.specs.Machine.{loaded, moved, also, but}
 use Rattle.linker_laws.specs.Ppc64Machine.{State, Formats, base, step, run, RunAlikeBut}
 use Rattle.linker_laws.specs.Ppc64Machine.{step_prefixed, AreAlikeBut}
 use Rattle.linker_laws.specs.Ppc64Machine.{write, go_on, gone_on, but_loaded, access_with, Access}
+use Rattle.linker_laws.specs.Ppc64Machine.{accessed}
 use Rattle.linker_laws.specs.Ppc64Machine.{loads, loads_signed, stores, word_access_with}
 use Rattle.linker_laws.specs.Ppc64Machine.{loads_single, loads_double, stores_single, stores_double}
 use Rattle.linker_laws.specs.Ppc64Machine.{no_access}
@@ -642,10 +643,11 @@ after_access c loads_single r = record c { floats = but r c.floats }
 after_access c loads_double r = record c { floats = but r c.floats }
 after_access c a r = c
 
--- Instructions: the test of their words, what they require of an address, and what may differ after
--- them.
+-- Instructions: the test of their words, what they do with an address and require of it, and what
+-- may differ after them.
 pub record Use : Type 1 where
   pub test : ℕ → Bool
+  pub does : Formats → ℕ → ℕ → State → State
   pub Requires : Changes → ℕ → ℕ → Type 0
   pub after : Changes → ℕ → Changes
 
@@ -654,6 +656,7 @@ abbrev pub adds : (ℕ → Bool) → Use
 adds test =
     record {
       test = test;
+      does = λ f word address. write (rt_of word) address;
       Requires = λ c word address. ⊤;
       after = λ c word. without_register (rt_of word) c;
     }
@@ -662,6 +665,7 @@ abbrev pub accesses : (ℕ → Bool) → (ℕ → Access) → Use
 accesses test access =
     record {
       test = test;
+      does = λ f word address. accessed f (access word) (rt_of word) address;
       Requires = λ c word address. ReadsSame c (access word) (rt_of word) address;
       after = λ c word. after_access c (access word) (rt_of word);
     }
@@ -1090,5 +1094,4 @@ pub record Laws : Type 0 where
   pub branch_sum : BranchToSum
   pub load_variable : LoadToVariable
   pub sum_variable : SumToVariable
-  pub toc_at_entry : TocAtEntry
   pub toc : RestoresToc

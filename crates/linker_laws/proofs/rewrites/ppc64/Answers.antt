@@ -13,7 +13,6 @@ use Rattle.linker_laws.proofs.Ppc64Offsets.{offset_to_high_half, offset_to_low_h
 use Rattle.linker_laws.proofs.Ppc64WholeWords.{word_access_near_toc}
 use Rattle.linker_laws.proofs.Ppc64IndexedWords.{word_access_to_local_exec}
 use Rattle.linker_laws.proofs.Ppc64Threads.{general_to_local, general_to_initial, local_dynamic}
-use Rattle.linker_laws.proofs.Ppc64Entries.{toc_at_entry}
 use Rattle.linker_laws.proofs.Ppc64Prefixed.{pld_to_paddi}
 use Rattle.linker_laws.proofs.Ppc64PrefixedThreads.{argument_to_block, argument_to_load, argument_to_variable}
 use Rattle.linker_laws.proofs.Ppc64PrefixedThreads.{branch_to_nop, branch_to_sum, load_to_variable, sum_to_variable}
@@ -63,7 +62,6 @@ returns c =
         branch_sum = branch_to_sum;
         load_variable = load_to_variable laws.prefixed;
         sum_variable = sum_to_variable;
-        toc_at_entry = toc_at_entry laws.relative laws.absolute;
         toc = restores_toc;
       };
     }
