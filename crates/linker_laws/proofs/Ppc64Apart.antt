@@ -25,8 +25,7 @@ use Rattle.linker_laws.specs.Ppc64Machine.{loads, loads_signed, stores, loads_si
 use Rattle.linker_laws.specs.Ppc64Machine.{stores_single, stores_double, no_access}
 use Rattle.linker_laws.proofs.AArch64Pairs.{word_is, word_made}
 use Rattle.linker_laws.proofs.Ppc64Addresses.{ld_parts, reads_ds, same_parts}
-use Rattle.linker_laws.proofs.Ppc64Copies.{thread_halves}
-use Rattle.linker_laws.proofs.Ppc64Threads.{entry_small}
+use Rattle.linker_laws.proofs.Ppc64Copies.{entry_small, thread_halves}
 use Rattle.linker_laws.proofs.Ppc64Words.{HasParts, d_after, ds_after, step_addi, step_ld, sum_from, set, step_addis, step_nop}
 use Rattle.linker_laws.proofs.Sums.{sum_below}
 

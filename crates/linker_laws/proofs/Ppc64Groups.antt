@@ -34,16 +34,14 @@ use Rattle.linker_laws.proofs.Agreement.{unchanged as nothing_changes}
 use Rattle.linker_laws.proofs.CoveredRuns.{holds_of, run_first}
 use Rattle.linker_laws.proofs.Ppc64Addresses.{ld_parts, reads_ds, same_parts, some_of}
 use Rattle.linker_laws.proofs.Ppc64Apart.{Does, High, IsBase, Keeps, base_some, general_leads, got_leads, module_leads, offset_leads, toc_leads}
-use Rattle.linker_laws.proofs.Ppc64Arguments.{adds_4096, nothing_added}
 use Rattle.linker_laws.proofs.Ppc64Calls.{first_made, restores_toc, second_made}
-use Rattle.linker_laws.proofs.Ppc64Copies.{addis_13_parts, no_immediate, thread_halves}
+use Rattle.linker_laws.proofs.Ppc64Copies.{addis_13_parts, adds_4096, no_immediate, nothing_added, thread_halves}
 use Rattle.linker_laws.proofs.Ppc64Entries.{LeavesToc, address_leaves, distance_leaves}
 use Rattle.linker_laws.proofs.Ppc64LowHalves.{OverSteps, steps}
 use Rattle.linker_laws.proofs.Ppc64Offsets.{OffsetSteps, SumSteps, accesses_offset, adds_offset, words_offset}
 use Rattle.linker_laws.proofs.Ppc64Prefixed.{HasPrefixedParts, paddi_parts, paddi_sets, pld_parts, pld_sets, prefixed_after, set_8, step_paddi, step_paddi_over, step_pld}
 use Rattle.linker_laws.proofs.Ppc64PrefixedThreads.{VariableSteps, access_to_direct, displacement_is, general_entry, loads_thread, module_entry, offset_entry, over_thread, pla_parts, sum_to_move, variable_there}
-use Rattle.linker_laws.proofs.Ppc64Threads.{step_bl}
-use Rattle.linker_laws.proofs.Ppc64Words.{HasParts, d_after, ds_after, set, step_add, step_addi, step_ld, step_nop, wrapped_is}
+use Rattle.linker_laws.proofs.Ppc64Words.{HasParts, d_after, ds_after, set, step_addi, step_bl, step_ld, step_nop, wrapped_is}
 use Rattle.linker_laws.proofs.Sums.{sum_below}
 use Rattle.linker_laws.proofs.Words.{two_words}
 use Rattle.linker_utils.specs.Ppc64Rewrites.{addi_of_thread, is_pla, two_words as two_words_of}

@@ -28,8 +28,8 @@ use Rattle.linker_laws.proofs.AArch64Pairs.{word_made}
 use Rattle.linker_laws.proofs.Ppc64Accesses.{step_access}
 use Rattle.linker_laws.proofs.Ppc64Addresses.{same_parts, some_of}
 use Rattle.linker_laws.proofs.Ppc64Apart.{Does, IsBase, IsUse, Keeps, accesses, base_some, does_so, sums}
-use Rattle.linker_laws.proofs.Ppc64Direct.{d_access_parts}
-use Rattle.linker_laws.proofs.Ppc64WholeWords.{ds_parts, step_word}
+use Rattle.linker_laws.proofs.Ppc64Accesses.{d_access_parts}
+use Rattle.linker_laws.proofs.Ppc64Accesses.{ds_parts, step_word}
 use Rattle.linker_laws.proofs.Ppc64Words.{HasParts, d_after, ds_after, set, step_addi, wrapped_is}
 use Rattle.linker_laws.proofs.RiscVMachine.{address_is}
 use Rattle.linker_laws.proofs.Sums.{lift, sum_below}

@@ -23,9 +23,9 @@ use Rattle.linker_laws.proofs.Ppc64Accesses.{step_access, step_indexed}
 use Rattle.linker_laws.proofs.Ppc64Addresses.{same_parts, ld_parts, add_parts, reads_ds}
 use Rattle.linker_laws.proofs.Ppc64Apart.{Does, IsUse, accesses, agree_also, base_some, does_so, steps_so, sums, written_is}
 use Rattle.linker_laws.proofs.Ppc64Copies.{addis_13_parts, thread_halves}
-use Rattle.linker_laws.proofs.Ppc64Direct.{indexed_parts}
-use Rattle.linker_laws.proofs.Ppc64IndexedWords.{indexed_word_parts, is_direct, step_indexed_word, below}
-use Rattle.linker_laws.proofs.Ppc64WholeWords.{step_word}
+use Rattle.linker_laws.proofs.Ppc64Accesses.{indexed_parts}
+use Rattle.linker_laws.proofs.Ppc64Accesses.{indexed_word_parts, is_direct, step_indexed_word, below}
+use Rattle.linker_laws.proofs.Ppc64Accesses.{step_word}
 use Rattle.linker_laws.proofs.Ppc64Words.{HasParts, d_after, ds_after, set, step_addis, step_addi, step_ld, step_add}
 
 pub offset_to_high_half : relocation_laws.ThreadAddresses → laws.OffsetToHighHalf

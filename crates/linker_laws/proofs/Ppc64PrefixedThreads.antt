@@ -32,14 +32,14 @@ use Rattle.linker_laws.proofs.Ppc64Addresses.{add_parts}
 use Rattle.linker_laws.proofs.Ppc64Apart.{Does, base_some, does_so}
 use Rattle.linker_laws.proofs.Ppc64Apart.{accesses as accesses_use}
 use Rattle.linker_laws.proofs.Ppc64Calls.{back, first_made, second_made}
-use Rattle.linker_laws.proofs.Ppc64Direct.{indexed_parts}
-use Rattle.linker_laws.proofs.Ppc64IndexedWords.{below, indexed_word_parts, is_direct, step_indexed_word}
+use Rattle.linker_laws.proofs.Ppc64Accesses.{indexed_parts}
+use Rattle.linker_laws.proofs.Ppc64Accesses.{below, indexed_word_parts, is_direct, step_indexed_word}
 use Rattle.linker_laws.proofs.Ppc64LowHalves.{whole_from}
 use Rattle.linker_laws.proofs.Ppc64Offsets.{SumSteps, accesses_sum, adds_sum, words_sum}
 use Rattle.linker_laws.proofs.Ppc64Prefixed.{HasPrefixedParts, of_words, pld_parts, prefixed_after, set_8, step_paddi, step_paddi_over, step_pld}
-use Rattle.linker_laws.proofs.Ppc64Threads.{entry_small, step_bl}
-use Rattle.linker_laws.proofs.Ppc64WholeWords.{step_word}
-use Rattle.linker_laws.proofs.Ppc64Words.{set, step_add, step_nop, wrapped_is}
+use Rattle.linker_laws.proofs.Ppc64Copies.{entry_small}
+use Rattle.linker_laws.proofs.Ppc64Accesses.{step_word}
+use Rattle.linker_laws.proofs.Ppc64Words.{set, step_add, step_bl, step_nop, wrapped_is}
 use Rattle.linker_laws.proofs.RiscVMachine.{address_is, times_one}
 use Rattle.linker_laws.proofs.Sums.{sum_below}
 use Rattle.linker_laws.proofs.Words.{two_words}
