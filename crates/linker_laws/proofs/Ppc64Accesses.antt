@@ -4,21 +4,14 @@ use Rattle.linker_elf.specs.Ppc64.{ppc64_form}
 use Rattle.linker_elf.specs.Relocate.{ppc64_reads}
 use Rattle.linker_elf.specs.Value.{sum_64}
 use Rattle.linker_elf.specs.declared.ppc64.forms.Ppc64Instruction.TheVariants.{D, Ds}
-use Rattle.linker_laws.proofs.AArch64Pairs.{word_made, word_is}
-use Rattle.linker_laws.proofs.Ppc64Addresses.{some_of, addis_parts, ld_parts, same_parts, reads_ds}
-use Rattle.linker_laws.proofs.Ppc64Words.{HasParts, d_after, ds_after, sum_leads, sum_from, set, base_back, step_addis, step_nop, run_more}
-use Rattle.linker_laws.proofs.RiscVMachine.{times_one, address_is}
-use Rattle.linker_laws.proofs.Sums.{sum_below}
-use Rattle.linker_laws.specs.Machine.{loaded, stored, extended, moved, wrapped}
-use Rattle.linker_laws.specs.Ppc64Machine.{State, Formats, Access, loads, loads_signed, stores, loads_single, loads_double, stores_single, stores_double, no_access, accessed, access_with, decode, access, loads_register, stores_register, with_number, step, execute, by_opcode, base, go_on, word_access, of_58, of_62, word_access_with}
-use Rattle.linker_laws.specs.Ppc64RewriteLaws.{word_of, two, thread_offset, is_d_over_base, access_number, ds_access}
-use Rattle.linker_laws.specs.Schemes.{symbol_address, IsAddress}
-use Rattle.linker_utils.specs.Ppc64Rewrites.{is_access, is_store, opcode_of, rt_of, ra_of, rb_of, access_of, is_d_access, is_indexed, is_over_thread, keeps_base, over_base, by_displacement, addis_of_thread, nop, is_indexed_word, is_word_access, by_word_displacement, registers_of, is_ds_access}
-use Rattle.std.proofs.Common.{◌≡◌, ℕ, ◌+◌, ◌*◌, ◌-◌, ◌<◌, ◌%◌, Bool, true, false, refl, sym, ◌∙◌, ap, arith, eqb, cond, if◌then◌else◌, Some, ◌≢◌, ◌^◌, [], ◌∷◌, pos, ◌*ℤ◌, subst, ◌+ℤ◌, inl, inr}
-use Rattle.std.proofs.lemmas.Bool.{and_parts, or_parts, ne_eqb, cond-true, cond-false, false≢true, ltb-true, lt-ltb, eqb-true, or_cases}
+use Rattle.linker_laws.proofs.Ppc64Addresses.{some_of, reads_ds}
+use Rattle.linker_laws.specs.Machine.{moved}
+use Rattle.linker_laws.specs.Ppc64Machine.{State, Formats, Access, loads, loads_signed, stores, accessed, access_with, decode, access, step, execute, by_opcode, base, go_on, word_access, of_58, of_62, word_access_with}
+use Rattle.linker_laws.specs.Ppc64RewriteLaws.{two, is_d_over_base, access_number, ds_access}
+use Rattle.linker_utils.specs.Ppc64Rewrites.{is_access, is_store, opcode_of, rt_of, ra_of, rb_of, access_of, is_d_access, is_indexed, is_over_thread, keeps_base, is_indexed_word, is_word_access, by_word_displacement, registers_of, is_ds_access}
+use Rattle.std.proofs.Common.{◌≡◌, ℕ, ◌+◌, ◌*◌, ◌-◌, ◌<◌, ◌%◌, Bool, true, false, refl, sym, ◌∙◌, ap, arith, cond, if◌then◌else◌, Some, ◌≢◌, ◌^◌, inl, inr}
+use Rattle.std.proofs.lemmas.Bool.{and_parts, ne_eqb, cond-true, cond-false, ltb-true, lt-ltb, eqb-true, or_cases}
 use Rattle.std.specs.Prelude.{◌&&◌, ◌||◌, ◌==◌, not, nat_lt}
-use Rattle.linker_laws.specs.Ppc64RelocationLaws as relocation_laws
-use Rattle.linker_laws.specs.Ppc64RewriteLaws as laws
 
 -- ---- the accesses by their numbers
 
@@ -112,7 +105,6 @@ indexed_parts x h =
     }
 
 -- ---- of whole words
-
 
 -- `ld`, `lwa` or `std`, whatever its displacement
 pub record IsDs (x : ℕ) : Type 0 where

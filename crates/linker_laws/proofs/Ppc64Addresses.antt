@@ -1,28 +1,15 @@
 -- PowerPC64: addresses from the TOC pointer.
-use Rattle.std.proofs.Common.{◌≡◌, ◌≢◌, ℕ, ◌+◌, ◌^◌, refl, sym, ◌∙◌, ap, arith, List, eqb, true}
-use Rattle.std.proofs.Common.{[], ◌∷◌, pos, ◌*ℤ◌, ◌+ℤ◌, cond, Some, subst, ◌-◌, ◌%◌}
+use Rattle.std.proofs.Common.{◌≡◌, ◌≢◌, ℕ, refl, sym, ◌∙◌, ap, true}
+use Rattle.std.proofs.Common.{cond, ◌-◌, ◌%◌}
 use Rattle.std.specs.Prelude.{◌&&◌, ◌||◌, ◌==◌, not}
-use Rattle.std.proofs.lemmas.Bool.{and_parts, eqb-true, false≢true, cond-true, cond-false, eq-eqb, ne_eqb}
+use Rattle.std.proofs.lemmas.Bool.{and_parts, eqb-true, false≢true}
 use Rattle.linker_base.specs.Bits.{field}
 use Rattle.linker_elf.specs.Ppc64.{ppc64_form}
 use Rattle.linker_utils.specs.Ppc64Rewrites.{is_addis_of_toc, is_ld, is_add_of_thread, is_over_thread}
-use Rattle.linker_utils.specs.Ppc64Rewrites.{opcode_of, rt_of, ra_of, rb_of, registers_of, nop, addis_of_thread, over_base}
+use Rattle.linker_utils.specs.Ppc64Rewrites.{opcode_of, rt_of, ra_of, rb_of}
 use Rattle.linker_elf.specs.Relocate.{ppc64_reads}
-use Rattle.linker_elf.specs.declared.elf.value.Operands.{Operands}
-use Rattle.linker_elf.specs.declared.ppc64.forms.Ppc64Instruction.TheVariants.{D, Ds}
-use Rattle.linker_laws.specs.Ppc64RelocationLaws as relocation_laws
-use Rattle.linker_laws.specs.Schemes.{symbol_address, IsAddress}
-use Rattle.linker_laws.specs.Machine.{moved, loaded}
-use Rattle.linker_laws.specs.Ppc64RewriteLaws.{word_of, two, IsTocPair, thread_offset}
-use Rattle.linker_laws.specs.Ppc64RewriteLaws as laws
-use Rattle.linker_laws.specs.Ppc64Machine.{State, Formats, base, step, go_on}
-use Rattle.linker_laws.proofs.AArch64Pairs.{word_made, word_is}
-use Rattle.linker_laws.proofs.Ppc64Words.{HasParts, d_after, ds_after, sum_leads, set, base_back}
-use Rattle.linker_laws.proofs.Ppc64Words.{step_addis, step_addi, step_ld, run_more}
-use Rattle.linker_laws.proofs.Ppc64Words.{step_add, step_nop, sum_from}
-use Rattle.linker_laws.proofs.RiscVMachine.{times_one, address_is}
-use Rattle.linker_elf.specs.Value.{sum_64}
-use Rattle.linker_laws.proofs.Sums.{sum_below}
+use Rattle.linker_elf.specs.declared.ppc64.forms.Ppc64Instruction.TheVariants.{Ds}
+use Rattle.linker_laws.proofs.Ppc64Words.{HasParts}
 
 pub some_of : (n : ℕ) → not (n == 0) ≡ true → n ≢ 0
 some_of n h e = false≢true (sym (ap (λ k. not (k == 0)) e) ∙ h)

@@ -1,12 +1,10 @@
 -- PowerPC64: arguments and calls of `__tls_get_addr`, each in two runs.
-use Rattle.std.proofs.Common.{◌≡◌, ℕ, ◌+◌, ◌%◌, ◌^◌, refl, sym, ◌∙◌, ap, subst}
-use Rattle.std.proofs.Common.{arith, List, [], ◌∷◌, eqb, ℤ, pos, ◌*ℤ◌, ◌+ℤ◌, Some, Option, drop, inl, inr}
+use Rattle.std.proofs.Common.{◌≡◌, ℕ, ◌+◌, refl, sym, ◌∙◌, ap, subst}
+use Rattle.std.proofs.Common.{arith, List, [], ◌∷◌, eqb, Some, Option, drop, inl, inr}
 use Rattle.std.specs.Prelude.{◌&&◌, ◌||◌, ◌==◌, not, IsSomeAnd}
 use Rattle.std.proofs.lemmas.Bool.{and_parts, or_parts, eqb-true, cond-true, cond-false}
 use Rattle.std.proofs.lemmas.Bool.Decides.{eqb_tells}
-use Rattle.std.proofs.lemmas.Int.{ints}
 use Rattle.linker_base.specs.Bits.{field}
-use Rattle.linker_base.specs.Form.{place_sum}
 use Rattle.linker_elf.specs.Ppc64.{ppc64_form}
 use Rattle.linker_elf.specs.Value.{sum_64}
 use Rattle.linker_elf.specs.declared.elf.value.Operands.{Operands}
@@ -25,7 +23,7 @@ use Rattle.linker_laws.proofs.Ppc64Apart.{steps_so, agree_also, base_some, writt
 use Rattle.linker_laws.proofs.Ppc64Calls.{first_made, second_made}
 use Rattle.linker_laws.proofs.Ppc64Copies.{addis_13_parts, block_above, no_immediate, nothing_added, thread_halves}
 use Rattle.linker_laws.proofs.Ppc64Words.{HasParts, d_after, ds_after, set, step_addis, step_addi, step_ld}
-use Rattle.linker_laws.proofs.Ppc64Words.{step_add, step_bl, step_nop, run_more, wrapped_is}
+use Rattle.linker_laws.proofs.Ppc64Words.{step_add, step_bl, step_nop, run_more}
 
 -- ---- arguments
 

@@ -1,12 +1,11 @@
 -- PowerPC64's groups.
 use Rattle.std.proofs.Common.{◌≡◌, ◌≢◌, ℕ, suc, ◌+◌, ◌-◌, ◌*◌, ◌^◌, ◌<◌, ◌≤◌, Bool, true, false, refl, sym, ◌∙◌, ap, subst, subst₂}
-use Rattle.std.proofs.Common.{arith, List, drop, take, ◌/◌, Option, Some, None, pos, ◌+ℤ◌, ◌*ℤ◌, inl, inr, not, eqb, true≢false}
+use Rattle.std.proofs.Common.{arith, List, drop, take, ◌/◌, Some, pos, ◌+ℤ◌, ◌*ℤ◌, inl, inr, not, eqb, true≢false}
 use Rattle.std.specs.Prelude.{◌==◌, ◌&&◌, if◌then◌else◌, nat_lt, is_some, IsSomeAnd}
 use Rattle.std.proofs.lemmas.Bool.{and_parts, cond-true, cond-false, cases_lt, eq-eqb, eqb-true, lt-ltb, le-ltb, ne_eqb}
 use Rattle.std.proofs.lemmas.Bool.Decides.{eqb_tells}
 use Rattle.std.proofs.lemmas.Int.{ints}
 use Rattle.linker_base.specs.Bits.{field}
-use Rattle.linker_base.specs.Form.{place_sum}
 use Rattle.linker_elf.specs.Ppc64.{ppc64_form}
 use Rattle.linker_elf.specs.Value.{sum_64}
 use Rattle.linker_elf.specs.declared.elf.value.Operands.{Operands}
@@ -38,7 +37,7 @@ use Rattle.linker_laws.proofs.Ppc64Calls.{first_made, restores_toc, second_made}
 use Rattle.linker_laws.proofs.Ppc64Copies.{addis_13_parts, adds_4096, no_immediate, nothing_added, thread_halves}
 use Rattle.linker_laws.proofs.Ppc64Entries.{LeavesToc, address_leaves, distance_leaves}
 use Rattle.linker_laws.proofs.Ppc64LowHalves.{OverSteps, steps}
-use Rattle.linker_laws.proofs.Ppc64Offsets.{OffsetSteps, SumSteps, accesses_offset, adds_offset, words_offset}
+use Rattle.linker_laws.proofs.Ppc64Offsets.{OffsetSteps, accesses_offset, adds_offset, words_offset}
 use Rattle.linker_laws.proofs.Ppc64Prefixed.{HasPrefixedParts, paddi_parts, paddi_sets, pld_parts, pld_sets, prefixed_after, set_8, step_paddi, step_paddi_over, step_pld}
 use Rattle.linker_laws.proofs.Ppc64PrefixedThreads.{VariableSteps, access_to_direct, displacement_is, general_entry, loads_thread, module_entry, offset_entry, over_thread, pla_parts, sum_to_move, variable_there}
 use Rattle.linker_laws.proofs.Ppc64Words.{HasParts, d_after, ds_after, set, step_addi, step_bl, step_ld, step_nop, wrapped_is}

@@ -58,7 +58,7 @@ offset_to_high_half thread f o s t c ld addis_13 small alike is made entry leads
       },
     )
 
--- The steps of instructions by the sum of an offset and the thread pointer, and of what they become.
+-- The steps of instructions by the sum of an offset and the thread pointer.
 pub record SumSteps (how : laws.Use) : Type 0 where
   pub is_use : IsUse how
   pub old : (f : Formats) (s : State) (insn : List ℕ) (offset : ℕ) → how.test (word_of insn) ≡ true

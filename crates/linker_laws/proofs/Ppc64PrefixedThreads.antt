@@ -16,24 +16,23 @@ use Rattle.linker_elf.specs.declared.ppc64.forms.Ppc64Instruction.TheVariants.{D
 use Rattle.linker_elf.specs.declared.ppc64.relocations.Ppc64Relocation.TheVariants as names
 use Rattle.linker_utils.specs.Ppc64Rewrites.{opcode_of, rt_of, ra_of, rb_of, access_of, registers_of, nop}
 use Rattle.linker_utils.specs.Ppc64Rewrites.{addi_of_thread, by_displacement, by_word_displacement, direct, ld_of}
-use Rattle.linker_utils.specs.Ppc64Rewrites.{is_access, is_add_of_thread, is_indexed, is_indexed_any, is_indexed_word, is_pla, is_pld, is_word_access, move_of, to_move}
+use Rattle.linker_utils.specs.Ppc64Rewrites.{is_access, is_add_of_thread, is_indexed, is_indexed_any, is_indexed_word, is_pla, is_word_access, move_of, to_move}
 use Rattle.linker_utils.specs.Ppc64Rewrites.{two_words as both_words}
 use Rattle.linker_utils.specs.declared.ppc64.rewrites.RewriteKind.{RewriteKind}
 use Rattle.linker_utils.specs.declared.ppc64.rewrites.RewriteKind.TheVariants as kinds
 use Rattle.linker_laws.specs.Machine.{moved, loaded}
-use Rattle.linker_laws.specs.Ppc64Machine.{State, Formats, Access, accessed, access_with, write, base, by_opcode, execute, go_on, go_to, next_pc, step, step_prefixed, word_access_with}
+use Rattle.linker_laws.specs.Ppc64Machine.{State, Formats, Access, accessed, access_with, write, by_opcode, execute, go_on, go_to, next_pc, step, step_prefixed, word_access_with}
 use Rattle.linker_laws.specs.Ppc64RelocationLaws as relocation_laws
-use Rattle.linker_laws.specs.Ppc64RewriteLaws.{AgreeBut, Changes, IsRelocated, StepSo, after_access, ReadsSame, accesses, adds, both, from_thread, prefixed_of, thread_offset, with_entry, without_register, word_of}
+use Rattle.linker_laws.specs.Ppc64RewriteLaws.{AgreeBut, Changes, IsRelocated, accesses, adds, both, from_thread, prefixed_of, thread_offset, with_entry, without_register, word_of}
 use Rattle.linker_laws.specs.Ppc64RewriteLaws as laws
 use Rattle.linker_laws.specs.Schemes.{AreAddresses, symbol_address}
 use Rattle.linker_laws.proofs.AArch64Pairs.{word_made, word_is}
-use Rattle.linker_laws.proofs.Ppc64Accesses.{step_access, step_indexed}
-use Rattle.linker_laws.proofs.Ppc64Addresses.{add_parts}
+use Rattle.linker_laws.proofs.Ppc64Accesses.{step_access}
 use Rattle.linker_laws.proofs.Ppc64Apart.{Does, base_some, does_so}
 use Rattle.linker_laws.proofs.Ppc64Apart.{accesses as accesses_use}
 use Rattle.linker_laws.proofs.Ppc64Calls.{back, first_made, second_made}
 use Rattle.linker_laws.proofs.Ppc64Accesses.{indexed_parts}
-use Rattle.linker_laws.proofs.Ppc64Accesses.{below, indexed_word_parts, is_direct, step_indexed_word}
+use Rattle.linker_laws.proofs.Ppc64Accesses.{below, indexed_word_parts, is_direct}
 use Rattle.linker_laws.proofs.Ppc64LowHalves.{whole_from}
 use Rattle.linker_laws.proofs.Ppc64Offsets.{SumSteps, accesses_sum, adds_sum, words_sum}
 use Rattle.linker_laws.proofs.Ppc64Prefixed.{HasPrefixedParts, of_words, pld_parts, prefixed_after, set_8, step_paddi, step_paddi_over, step_pld}

@@ -1,9 +1,8 @@
 -- Words of PowerPC64 to which a relocation was applied, and the steps of their instructions.
-use Rattle.std.proofs.Common.{◌≡◌, ◌≢◌, ℕ, ◌+◌, ◌*◌, ◌%◌, ◌^◌, ◌<◌, Bool, true, false, refl, sym, ◌∙◌, ap}
-use Rattle.std.proofs.Common.{subst, arith, List, [], ◌∷◌, eqb, cond, ℤ, pos, ◌+ℤ◌, ◌*ℤ◌, Some, None}
-use Rattle.std.specs.Prelude.{IsSomeAnd, ◌&&◌, ◌||◌, not}
+use Rattle.std.proofs.Common.{◌≡◌, ◌≢◌, ℕ, ◌+◌, ◌*◌, ◌%◌, ◌^◌, ◌<◌, refl, sym, ◌∙◌, ap}
+use Rattle.std.proofs.Common.{arith, List, [], ◌∷◌, eqb, ℤ, pos, ◌+ℤ◌, ◌*ℤ◌, Some, None}
 use Rattle.std.specs.Int.{w32, from_le_bytes}
-use Rattle.std.proofs.lemmas.Bool.{eq-eqb, ne_eqb, cond-true, cond-false, false≢true}
+use Rattle.std.proofs.lemmas.Bool.{eq-eqb, ne_eqb, cond-true, cond-false}
 use Rattle.std.proofs.lemmas.Int.{ints}
 use Rattle.linker_base.specs.Bits.{field}
 use Rattle.linker_base.specs.Form.{bits_to}
@@ -19,7 +18,7 @@ use Rattle.linker_laws.proofs.Sums.{lift, lifted_is}
 use Rattle.linker_laws.specs.Machine.{moved, wrapped, loaded}
 use Rattle.linker_laws.specs.Ppc64Machine.{State, Formats, step, run, execute, by_opcode, of_58}
 use Rattle.linker_laws.specs.Ppc64Machine.{base, write, go_on, go_to, next_pc, continue}
-use Rattle.linker_laws.specs.Ppc64Machine.{AreAlikeBut, RunAlikeBut, shifted_sum, d_address}
+use Rattle.linker_laws.specs.Ppc64Machine.{shifted_sum, d_address}
 use Rattle.linker_laws.specs.Ppc64Machine.{ds_address}
 use Rattle.linker_laws.proofs.AArch64Words.{field_kept}
 use Rattle.linker_laws.proofs.RiscVMachine.{address_is, moved_twice}

@@ -18,7 +18,7 @@ use Rattle.linker_laws.specs.Ppc64RewriteLaws.{IsPrefixed, IsRelocated, IsRewrit
 use Rattle.linker_laws.specs.Ppc64RewriteLaws.{LowHalfLeads, Use, accesses, adds, ds_access}
 use Rattle.linker_laws.specs.Ppc64RewriteLaws.{entry_from_toc, four_on, from_thread, from_toc}
 use Rattle.linker_laws.specs.Ppc64RewriteLaws.{indexed_access, is_d_over, is_ds_over_base}
-use Rattle.linker_laws.specs.Ppc64RewriteLaws.{prefixed_target, thread_offset, with_entry, word_of}
+use Rattle.linker_laws.specs.Ppc64RewriteLaws.{prefixed_target, thread_offset, word_of}
 use Rattle.linker_laws.specs.Schemes.{AreAddresses, symbol_address}
 use Rattle.linker_laws.specs.Simulation.{State, Program, Machine, Link, Kind, Kinds, Agree, Group}
 use Rattle.linker_laws.specs.Simulation.{Other, anything, half, of_link, run, same}

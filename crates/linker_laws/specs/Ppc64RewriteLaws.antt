@@ -1,13 +1,13 @@
--- PowerPC64: rewritten sequences compute what the original ones do (64-bit ELF V2 ABI for Power,
+-- PowerPC64: each rewritten instruction does what the original does (64-bit ELF V2 ABI for Power,
 -- "TOC Optimizations" and "TLS Linkage Optimizations").
 use Rattle.std.specs.Prelude.{◌≡◌, ◌≢◌, ◌<◌, ◌∷◌, [], ℕ, Bool, false, ◌==◌, ◌&&◌, ◌||◌, not, List}
 use Rattle.std.specs.Prelude.{take, IsTrue, IsSomeAnd, drop, Option, Some, ◌^◌, if◌then◌else◌}
 use Rattle.std.specs.Prelude.{zero, suc, ⊤}
 use Rattle.std.specs.Int.{w32, w64, from_le_bytes}
 use Rattle.linker_utils.specs.Ppc64Rewrites.{is_addis_of_toc, is_ld, is_add_of_thread, is_call}
-use Rattle.linker_utils.specs.Ppc64Rewrites.{is_indexed, is_store, is_d_access, is_addi}
+use Rattle.linker_utils.specs.Ppc64Rewrites.{is_indexed, is_d_access, is_addi}
 use Rattle.linker_utils.specs.Ppc64Rewrites.{is_ds_access, is_indexed_word, is_pld, is_addis_over}
-use Rattle.linker_utils.specs.Ppc64Rewrites.{is_vector_access, is_addis_of_entry, is_addi_of_toc}
+use Rattle.linker_utils.specs.Ppc64Rewrites.{is_vector_access}
 use Rattle.linker_utils.specs.Ppc64Rewrites.{is_bl, is_indexed_any, is_pla}
 use Rattle.linker_elf.specs.Ppc64Relocations.{ppc64_row}
 use Rattle.linker_elf.specs.Relocate.{ppc64_reads}
@@ -24,7 +24,7 @@ use Rattle.linker_utils.specs.declared.ppc64.rewrites.RewriteKind.TheVariants as
 use Rattle.linker_elf.specs.Applied.{IsApplied}
 use Rattle.linker_laws.specs.Schemes.{AreAddresses, symbol_address}
 use Rattle.linker_laws.specs.Machine.{loaded, moved, also, but}
-use Rattle.linker_laws.specs.Ppc64Machine.{State, Formats, base, step, run, RunAlikeBut}
+use Rattle.linker_laws.specs.Ppc64Machine.{State, Formats, base, step, run}
 use Rattle.linker_laws.specs.Ppc64Machine.{step_prefixed, AreAlikeBut}
 use Rattle.linker_laws.specs.Ppc64Machine.{write, go_on, gone_on, access_with, Access}
 use Rattle.linker_laws.specs.Ppc64Machine.{accessed}
@@ -55,15 +55,6 @@ abbrev pub two : List ℕ → List ℕ → List ℕ
 two first second = word_of first ∷ word_of second ∷ []
 
 -- ---- the address of a symbol, by its GOT entry or by its distance from the TOC pointer
-
--- `addis rX,2`, and an instruction over rX, which are executed next. Register 2 is the TOC pointer.
-pub record IsTocPair (test : ℕ → Bool) (o : Operands) (s : State) (addis second : List ℕ) : Type 0
-  where
-    pub small : AreAddresses o
-    pub toc : s.registers 2 ≡ o.got_base
-    pub first_is : IsTrue (is_addis_of_toc (word_of addis))
-    pub second_is : IsTrue (test (word_of second))
-    pub base : ra_of (word_of second) ≡ rt_of (word_of addis)
 
 -- ---- the offset of a variable from the thread pointer, by its GOT entry or in the instructions
 
@@ -206,21 +197,9 @@ NearArgument name =
     → Leaves f (only (rt_of (word_of addi))) (one addi_of_entry) s (rt_of (word_of addi))
     (λ n. n ≡ o.got_entry)
 
--- So do `addis rX,2` and `addi rT,rX`.
-abbrev pub PairArgument : Ppc64Relocation → Ppc64Relocation → Type 0
-PairArgument high low =
-    (f : Formats) (o : Operands) (s : State) (addis addi : List ℕ)
-    → IsTocPair is_addi o s addis addi → (at : ℕ) (addis_of_entry addi_of_entry : List ℕ)
-    → IsRelocated high o addis addis_of_entry
-    → IsRelocated low (at_place at o) addi addi_of_entry
-    → Leaves f (λ n. n == rt_of (word_of addi) || n == rt_of (word_of addis))
-    (two addis_of_entry addi_of_entry) s (rt_of (word_of addi)) (λ n. n ≡ o.got_entry)
-
 abbrev pub Arguments : Type 0
 Arguments =
     NearArgument names.R_PPC64_GOT_TLSGD16 × NearArgument names.R_PPC64_GOT_TLSLD16
-    × PairArgument names.R_PPC64_GOT_TLSGD16_HA names.R_PPC64_GOT_TLSGD16_LO
-    × PairArgument names.R_PPC64_GOT_TLSLD16_HA names.R_PPC64_GOT_TLSLD16_LO
 
 -- What takes the place of a call, where register 3 has a number, leaves another one there.
 abbrev pub CallLeaves : Formats → List ℕ → ℕ → ℕ → Type 0

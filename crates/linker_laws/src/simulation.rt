@@ -91,8 +91,8 @@ pub fn loongarch64_worked()
 
 /// PowerPC64: rewritten instructions are groups, whatever the machine's other instructions do, and
 /// each by itself, whatever stands between them: the halves of addresses near the TOC pointer and
-/// the thread pointer, arguments of `__tls_get_addr` and its calls, prefixed instructions, and those
-/// that leave the TOC pointer.
+/// the thread pointer, arguments of `__tls_get_addr` and its calls, prefixed instructions, and
+/// those that leave the TOC pointer.
 pub fn ppc64()
     ensures groups { ppc64_groups.Groups }
 {

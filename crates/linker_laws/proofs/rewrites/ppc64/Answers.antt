@@ -19,7 +19,7 @@ returns c =
     record {
       laws = record {
         near_initial_exec = near_initial_exec laws.thread laws.displacements;
-        arguments = arguments laws.entries laws.displacements;
+        arguments = arguments laws.displacements;
         argument_to_local = argument_to_local laws.thread;
         near_argument_to_initial = near_argument_to_initial laws.displacements;
         argument_to_module = argument_to_module;
