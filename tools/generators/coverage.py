@@ -69,11 +69,11 @@ OPEN = {
         "TocAtEntry": "r12 has the address of the `addis`, and the `addi` is 4 bytes after it",
         "HighHalfToNop": READ_BY_LOW, "HighHalfStays": READ_BY_LOW, "LoadToSum": HAS_BASE,
         "LowHalfOverBase": f"{HAS_BASE}; what it loads or stores keeps agreement",
-        "OffsetToHighHalf": f"{HAS_BASE}; what reads rT",
+        "OffsetToHighHalf": "the base leads to the entry; what reads rT",
         "OffsetToLowHalf":
             "the base has what the load put there; what it loads or stores keeps agreement",
-        "ArgumentToHighHalf": f"{HAS_BASE}; what reads rT",
-        "ArgumentToThread": f"{HAS_BASE}; what reads rT",
+        "ArgumentToHighHalf": "the base leads to the entry; what reads rT",
+        "ArgumentToThread": "the base leads to the entry; what reads rT",
         "CallToLowHalf":
             "r3 has what an argument's instruction put there; nothing reads what the call changes",
         "Calls":

@@ -22,11 +22,11 @@ pub fn aarch64()
     ensures runs { aarch64_worked.WorkedRuns }
 {}
 
-/// PowerPC64: what each rewritten instruction does in two runs, of the object's code and of the new
-/// one, which are alike except for some registers and bytes of memory, whatever stands between them:
-/// the high and the low halves, the arguments of `__tls_get_addr` and its calls, each instruction of
-/// a thread-local sequence of prefixed code, and the TOC pointer restored after a call. Its
-/// instructions are groups, too (`simulation::ppc64`).
+/// PowerPC64: what each rewritten instruction does in two runs, of the object's code and of the
+/// new one, which are alike except for some registers and bytes of memory, whatever stands between
+/// them: the high and the low halves, the arguments of `__tls_get_addr` and its calls, each
+/// instruction of a thread-local sequence of prefixed code, and the TOC pointer restored after a
+/// call. Its instructions are groups, too (`simulation::ppc64`).
 pub fn ppc64()
     ensures laws { ppc64_laws.Laws }
 {
