@@ -20,7 +20,7 @@ MARKS = "<!-- made by tools/generate -->", "<!-- end of what tools/generate make
 GROUPS_MARKS = "<!-- groups, made by tools/generate -->", "<!-- end of the groups -->"
 # by machine: its name in texts, its specs, and the contract
 ARCHITECTURES = {
-    183: ("AArch64", ["AArch64Groups"], "aarch64"), 21: ("PowerPC64", ["Ppc64RewriteLaws"], "ppc64"),
+    183: ("AArch64", ["AArch64Groups"], "aarch64"), 21: ("PowerPC64", ["Ppc64Groups"], "ppc64"),
     243: ("RISC-V", ["RiscVGroups"], "riscv64"), 258: ("LoongArch", ["LoongArchGroups"], "loongarch64"),
     62: ("x86-64", ["X86Groups"], "x86_64"),
 }
@@ -66,30 +66,20 @@ OPEN = {
         "Calls": "nothing else reads rd",
     },
     21: {
-        "AddiNearToc": f"{ONE_PATH}; nothing else reads rX",
-        "GotToAddress": f"{ONE_PATH}; nothing else reads rX",
-        "InitialExecToLocalExec": f"{ONE_PATH}; nothing else reads rX and rY",
-        "GeneralDynamicToLocalExec":
-            f"{ONE_PATH}; nothing else reads rX, and nothing what the call changes",
-        "LocalDynamicToLocalExec":
-            f"{ONE_PATH}; nothing else reads rX, and nothing what the call changes",
         "PldToPaddi": "", "RestoresToc": "r2 was stored at r1 + 24",
-        "NearInitialExecToLocalExec": "nothing else reads rT",
-        "Arguments": "nothing but calls with marks reads copies of rT",
         "TocAtEntry": "r12 has the address of the `addis`, and the `addi` is 4 bytes after it",
-        "HighHalfToNop": READ_BY_LOW, "HighHalfOfSymbol": READ_BY_LOW, "LoadToSum": HAS_BASE,
-        "LowHalfOverBase": f"{HAS_BASE}; what it loads or stores is the same in both runs",
-        "OffsetToHighHalf": f"{HAS_BASE}; what reads rT",
+        "HighHalfToNop": READ_BY_LOW, "HighHalfStays": READ_BY_LOW, "LoadToSum": HAS_BASE,
+        "LowHalfOverBase": f"{HAS_BASE}; what it loads or stores keeps agreement",
+        "OffsetToHighHalf": "the base leads to the entry; what reads rT",
         "OffsetToLowHalf":
-            "the base has what the load put there; what it loads or stores is the same in both runs",
-        "ArgumentToHighHalf": f"{HAS_BASE}; what reads rT",
-        "ArgumentToThread": f"{HAS_BASE}; what reads rT",
+            "the base has what the load put there; what it loads or stores keeps agreement",
+        "ArgumentToHighHalf": "the base leads to the entry; what reads rT",
+        "ArgumentToThread": "the base leads to the entry; what reads rT",
         "CallToLowHalf":
             "r3 has what an argument's instruction put there; nothing reads what the call changes",
-        "CallToBlock":
+        "Calls":
             "r3 has what an argument's instruction put there; nothing reads what the call changes",
-        "ArgumentToVariable": "what reads rT", "ArgumentToBlock": "what reads rT",
-        "LoadToVariable": "what reads rT",
+        "ToVariable": "what reads rT", "ArgumentToBlock": "what reads rT",
     },
     62: {
         "LoadsOfAddresses": "", "Operations": "", "ThreadOffsets": "",

@@ -66,48 +66,19 @@ def keeps_base_of_loongarch(words):
 
 # ---- PowerPC64
 
-def rt(word):
-    return bits(word, 21, 26)
-
-
-def ra(word):
-    return bits(word, 16, 21)
-
-
-def is_toc_pair(words):
-    """IsTocPair; what the second instruction is, the choice has tested."""
-    return ra(words[1]) == rt(words[0])
-
-
-def is_thread_access(words):
-    """InitialExecToLocalExec, IsThreadAccess."""
-    addis, ld, third = words
-    is_indexed = bits(third, 0, 6) in (0x2A, 0x2E)
-    number = bits(third, 6, 11)
-    is_store = number == 4 if bits(third, 0, 6) == 0x2A else number in (4, 6, 12)
-    return (is_toc_pair(words) and ra(third) == rt(ld) and 13 not in (rt(ld), rt(addis))
-            and not (is_indexed and is_store and rt(third) == rt(addis)))
-
-
 def is_over_toc(words):
-    """IsOverToc."""
-    return ra(words[0]) == 2
-
-
-def is_tls_call(words):
-    """IsTlsCall."""
-    return is_toc_pair(words) and rt(words[0]) != 13
+    """Its base leads to the entry, as OffsetToHighHalf, ArgumentToHighHalf and ArgumentToThread ask."""
+    return bits(words[0], 16, 21) == 2
 
 
 def has_word_form(words):
-    """LowHalfOverBase, of `ld`, `lwa` and `std`, `lq` and accesses of vector registers. Those of other
-    instructions have no relocation for them."""
-    return words[0] >> 26 in (56, 57, 58, 61, 62)
+    """LowHalfOverBase, of `ld`, `lwa` and `std`."""
+    return words[0] >> 26 in (58, 62)
 
 
 def has_no_word_form(words):
-    """... of `addi` and the other accesses."""
-    return not has_word_form(words)
+    """... of `addi` and the other accesses, but not of `lq` and of vector registers."""
+    return words[0] >> 26 not in (56, 57, 58, 61, 62)
 
 
 # ---- the laws
@@ -136,13 +107,7 @@ class Sequence:
             return "apart"
         is_asked_for = "n" not in [response.get(member) for member in members]
         is_theirs = is_asked_for and self.test([word(at[step]) for step in sorted(at)])
-        return COVERED if is_theirs and self.have_forms(members, word) else "registers"
-
-    @staticmethod
-    def have_forms(members, word):
-        """WordAccessNearToc has the relocation of `ld`, `lwa` and `std`, and the other laws haven't."""
-        return all(name.endswith("_DS") == (word(offset) >> 26 in (58, 62))
-                   for offset, name in members if name.startswith("TOC16_LO"))
+        return COVERED if is_theirs else "registers"
 
 
 def sequence(laws, names, test=lambda words: True):
@@ -169,16 +134,7 @@ SEQUENCES = {
         sequence("AddressToPcaddi", "PCALA_HI20 PCALA_LO12"),
         sequence("EntriesToPcaddi", "TLS_GD_PC_HI20|TLS_LD_PC_HI20 GOT_PC_LO12"),
     ],
-    21: [
-        sequence("AddiNearToc AccessNearToc WordAccessNearToc", "TOC16_HA TOC16_LO|TOC16_LO_DS",
-                 is_toc_pair),
-        sequence("GotToAddress", "GOT16_HA GOT16_LO_DS", is_toc_pair),
-        sequence("InitialExecToLocalExec AccessToLocalExec WordAccessToLocalExec",
-                 "GOT_TPREL16_HA GOT_TPREL16_LO_DS TLS", is_thread_access),
-        sequence("GeneralDynamicToLocalExec GeneralDynamicToInitialExec",
-                 "GOT_TLSGD16_HA GOT_TLSGD16_LO TLSGD", is_tls_call),
-        sequence("LocalDynamicToLocalExec", "GOT_TLSLD16_HA GOT_TLSLD16_LO TLSLD", is_tls_call),
-    ],
+    21: [],
 }
 # of a sequence's relocations those that no rewrite is chosen for
 UNCHOSEN = {"ADR_PREL_PG_HI21", "ADR_PREL_PG_HI21_NC"}
@@ -213,24 +169,20 @@ ALONE = {
     ],
     21: [
         ("PldToPaddi", "GOT_PCREL34", None), ("RestoresToc", "REL24", None),
-        ("NearInitialExecToLocalExec", "GOT_TPREL16_DS", is_over_toc),
-        ("Arguments ArgumentToLocalExec NearArgumentToInitialExec", "GOT_TLSGD16", is_over_toc),
-        ("Arguments ArgumentToModule", "GOT_TLSLD16", is_over_toc),
         ("TocAtEntry", "REL16_HA REL16_LO", None),
         ("HighHalfToNop", "TOC16_HA TPREL16_HA GOT_TPREL16_HA GOT_TLSLD16_HA", None),
-        ("HighHalfToNop HighHalfOfEntry", "GOT_TLSGD16_HA", None),
-        ("HighHalfOfSymbol", "GOT16_HA", None), ("LoadToSum", "GOT16_LO_DS", None),
+        ("HighHalfToNop HighHalfStays", "GOT_TLSGD16_HA", None),
+        ("HighHalfStays", "GOT16_HA", None), ("LoadToSum", "GOT16_LO_DS", None),
         ("LowHalfOverBase", "TOC16_LO TPREL16_LO", has_no_word_form),
         ("LowHalfOverBase", "TOC16_LO_DS TPREL16_LO_DS", has_word_form),
-        ("OffsetToHighHalf", "GOT_TPREL16_LO_DS", None),
+        ("OffsetToHighHalf", "GOT_TPREL16_LO_DS", None), ("OffsetToHighHalf", "GOT_TPREL16_DS", is_over_toc),
         ("OffsetToLowHalf SumToVariable", "TLS", None),
         ("ArgumentToHighHalf ArgumentToOffset", "GOT_TLSGD16_LO", None),
-        ("ArgumentToThread", "GOT_TLSLD16_LO", None),
-        ("CallToLowHalf CallToSum BranchToNop BranchToSum", "TLSGD", None),
-        ("CallToBlock BranchToNop", "TLSLD", None),
-        ("ArgumentToVariable ArgumentToLoad", "GOT_TLSGD_PCREL34", None),
-        ("ArgumentToBlock", "GOT_TLSLD_PCREL34", None),
-        ("LoadToVariable", "GOT_TPREL_PCREL34", None),
+        ("ArgumentToHighHalf ArgumentToOffset", "GOT_TLSGD16", is_over_toc),
+        ("ArgumentToThread", "GOT_TLSLD16_LO", None), ("ArgumentToThread", "GOT_TLSLD16", is_over_toc),
+        ("CallToLowHalf Calls", "TLSGD", None), ("Calls", "TLSLD", None),
+        ("ToVariable ArgumentToLoad", "GOT_TLSGD_PCREL34", None),
+        ("ArgumentToBlock", "GOT_TLSLD_PCREL34", None), ("ToVariable", "GOT_TPREL_PCREL34", None),
     ],
 }
 # of x86-64, by relocations

@@ -1,134 +1,19 @@
--- PowerPC64: accesses from states that are alike.
-use Rattle.std.proofs.Common.{◌≡◌, ℕ, ◌+◌, ◌*◌, ◌-◌, ◌<◌, ◌%◌, Bool, true, false, refl, sym, ◌∙◌, ap}
-use Rattle.std.proofs.Common.{arith, eqb, cond, if◌then◌else◌, Some}
-use Rattle.std.specs.Prelude.{◌&&◌, ◌||◌, ◌==◌, not, nat_lt}
-use Rattle.std.proofs.lemmas.Bool.{and_parts, or_parts, ne_eqb, cond-true, cond-false, false≢true}
-use Rattle.std.proofs.lemmas.Bool.{ltb-true, lt-ltb}
+-- PowerPC64: loads and stores, by their words.
 use Rattle.linker_base.specs.Bits.{field}
-use Rattle.linker_utils.specs.Ppc64Rewrites.{is_access, is_store}
-use Rattle.linker_utils.specs.Ppc64Rewrites.{opcode_of, rt_of, ra_of, rb_of, access_of}
 use Rattle.linker_elf.specs.Ppc64.{ppc64_form}
+use Rattle.linker_elf.specs.Relocate.{ppc64_reads}
 use Rattle.linker_elf.specs.Value.{sum_64}
-use Rattle.linker_elf.specs.declared.ppc64.forms.Ppc64Instruction.TheVariants.{D}
-use Rattle.linker_laws.specs.Machine.{loaded, stored, extended, moved}
-use Rattle.linker_laws.specs.Ppc64Machine.{State, Formats, Access, loads, loads_signed, stores}
-use Rattle.linker_laws.specs.Ppc64Machine.{loads_single, loads_double, stores_single, stores_double}
-use Rattle.linker_laws.specs.Ppc64Machine.{no_access, accessed, access_with, AreAlikeBut, decode}
-use Rattle.linker_laws.specs.Ppc64Machine.{access, loads_register, stores_register, with_number, but_loaded, step, execute, by_opcode, base, go_on}
-
-pick : (b d : Bool) (v w p q : ℕ) → (d && not b) ≡ false → v ≡ w → (d ≡ false → p ≡ q)
-    → cond b v p ≡ cond b w q
-pick true d v w p q h e k = e
-pick false false v w p q h e k = k refl
-pick false true v w p q h e k = absurd (false≢true (sym h))
-
-still : (d : Bool) → (d && true) ≡ false → d ≡ false
-still false h = refl
-still true h = absurd (false≢true (sym h))
-
-kept : (differing : ℕ → Bool) (s t : State) (a : Access) (r : ℕ) → AreAlikeBut differing s t
-    → loads_register a ≡ false → (n : ℕ) → but_loaded differing a r n ≡ false
-    → s.registers n ≡ t.registers n
-kept differing s t a r h none n other =
-    h.registers n
-    (still (differing n) (sym (ap (λ b. differing n && not (b && n == r)) none) ∙ other))
-
-pub accessed_alike : (f : Formats) (differing : ℕ → Bool) (a : Access) (r address : ℕ) (s t : State)
-    → AreAlikeBut differing s t → (stores_register a ≡ true → differing r ≡ false)
-    → AreAlikeBut (but_loaded differing a r) (accessed f a r address s) (accessed f a r address t)
-accessed_alike f differing (loads k) r address s t h stores_other =
-    record {
-      registers = λ n other. pick (eqb n r) (differing n) _ _ _ _ other (ap (λ m. loaded k m address) h.memory) (h.registers n);
-      floats = h.floats;
-      link = h.link;
-      pc = h.pc;
-      memory = h.memory;
-    }
-accessed_alike f differing (loads_signed k) r address s t h stores_other =
-    record {
-      registers = λ n other. pick (eqb n r) (differing n) _ _ _ _ other
-          (ap (λ m. extended (8 * k) (loaded k m address)) h.memory) (h.registers n);
-      floats = h.floats;
-      link = h.link;
-      pc = h.pc;
-      memory = h.memory;
-    }
-accessed_alike f differing (stores k) r address s t h stores_other =
-    record {
-      registers = kept differing s t (stores k) r h refl;
-      floats = h.floats;
-      link = h.link;
-      pc = h.pc;
-      memory = ap (λ v. stored k v address s.memory) (h.registers r (stores_other refl))
-          ∙ ap (stored k (t.registers r) address) h.memory;
-    }
-accessed_alike f differing loads_single r address s t h stores_other =
-    record {
-      registers = kept differing s t loads_single r h refl;
-      floats = ap (λ m. with_number r (f.widened (loaded 4 m address)) s.floats) h.memory
-          ∙ ap (with_number r (f.widened (loaded 4 t.memory address))) h.floats;
-      link = h.link;
-      pc = h.pc;
-      memory = h.memory;
-    }
-accessed_alike f differing loads_double r address s t h stores_other =
-    record {
-      registers = kept differing s t loads_double r h refl;
-      floats = ap (λ m. with_number r (loaded 8 m address) s.floats) h.memory
-          ∙ ap (with_number r (loaded 8 t.memory address)) h.floats;
-      link = h.link;
-      pc = h.pc;
-      memory = h.memory;
-    }
-accessed_alike f differing stores_single r address s t h stores_other =
-    record {
-      registers = kept differing s t stores_single r h refl;
-      floats = h.floats;
-      link = h.link;
-      pc = h.pc;
-      memory = ap (λ g. stored 4 (f.narrowed (g r)) address s.memory) h.floats
-          ∙ ap (stored 4 (f.narrowed (t.floats r)) address) h.memory;
-    }
-accessed_alike f differing stores_double r address s t h stores_other =
-    record {
-      registers = kept differing s t stores_double r h refl;
-      floats = h.floats;
-      link = h.link;
-      pc = h.pc;
-      memory = ap (λ g. stored 8 (g r) address s.memory) h.floats
-          ∙ ap (stored 8 (t.floats r) address) h.memory;
-    }
-accessed_alike f differing no_access r address s t h stores_other =
-    record {
-      registers = kept differing s t no_access r h refl;
-      floats = h.floats;
-      link = h.link;
-      pc = h.pc;
-      memory = h.memory;
-    }
+use Rattle.linker_elf.specs.declared.ppc64.forms.Ppc64Instruction.TheVariants.{D, Ds}
+use Rattle.linker_laws.proofs.Ppc64Addresses.{some_of, reads_ds}
+use Rattle.linker_laws.specs.Machine.{moved}
+use Rattle.linker_laws.specs.Ppc64Machine.{State, Formats, Access, loads, loads_signed, stores, accessed, access_with, decode, access, step, execute, by_opcode, base, go_on, word_access, of_58, of_62, word_access_with}
+use Rattle.linker_laws.specs.Ppc64RewriteLaws.{two, is_d_over_base, access_number, ds_access}
+use Rattle.linker_utils.specs.Ppc64Rewrites.{is_access, is_store, opcode_of, rt_of, ra_of, rb_of, access_of, is_d_access, is_indexed, is_over_thread, keeps_base, is_indexed_word, is_word_access, by_word_displacement, registers_of, is_ds_access}
+use Rattle.std.proofs.Common.{◌≡◌, ℕ, ◌+◌, ◌*◌, ◌-◌, ◌<◌, ◌%◌, Bool, true, false, refl, sym, ◌∙◌, ap, arith, cond, if◌then◌else◌, Some, ◌≢◌, ◌^◌, inl, inr}
+use Rattle.std.proofs.lemmas.Bool.{and_parts, ne_eqb, cond-true, cond-false, ltb-true, lt-ltb, eqb-true, or_cases}
+use Rattle.std.specs.Prelude.{◌&&◌, ◌||◌, ◌==◌, not, nat_lt}
 
 -- ---- the accesses by their numbers
-
-no_store : (b0 b2 b8 b10 b16 b18 b20 b22 : Bool)
-    → stores_register (if b0 then loads 4 else (if b2 then loads 1 else (if false then stores 4 else (
-    if false then stores 1 else (if b8 then loads 2 else (if b10 then loads_signed 2 else (
-    if false then stores 2 else (if b16 then loads_single else (if b18 then loads_double else (
-    if b20 then stores_single else (if b22 then stores_double else no_access))))))))))) ≡ false
-no_store true b2 b8 b10 b16 b18 b20 b22 = refl
-no_store false true b8 b10 b16 b18 b20 b22 = refl
-no_store false false true b10 b16 b18 b20 b22 = refl
-no_store false false false true b16 b18 b20 b22 = refl
-no_store false false false false true b18 b20 b22 = refl
-no_store false false false false false true b20 b22 = refl
-no_store false false false false false false true b22 = refl
-no_store false false false false false false false true = refl
-no_store false false false false false false false false = refl
-
-pub stores_by_number : (n : ℕ) → is_store n ≡ false → stores_register (access_with n) ≡ false
-stores_by_number n none =
-    let first = or_parts (n == 4 || n == 6) (n == 12) none in
-    let second = or_parts (n == 4) (n == 6) first.0 in
-    rw (second.0, second.1, first.1) (no_store (n == 0) (n == 2) (n == 8) (n == 10) (n == 16) (n == 18) (n == 20) (n == 22))
 
 pub decode_access : (x n : ℕ) → opcode_of x ≡ 32 + n → is_access n ≡ true
     → decode x ≡ access (access_with n)
@@ -172,23 +57,208 @@ step_indexed f x b s op low is rb =
     ∙ ap (λ k. Some (go_on (accessed f (access_with (access_of x)) (rt_of x)
     (sum_64 (base (ra_of x) s) (s.registers k)) s))) rb
 
-pub alike_on : (differing : ℕ → Bool) (s t : State) → AreAlikeBut differing s t
-    → AreAlikeBut differing (go_on s) (go_on t)
-alike_on differing s t h =
+-- ---- by a displacement
+
+-- an access by a displacement over a register
+pub record IsDAccess (x : ℕ) : Type 0 where
+  pub opcode_is : opcode_of x ≡ 32 + access_number x
+  pub known : is_access (access_number x) ≡ true
+  pub over_some : ra_of x ≢ 0
+
+pub d_access_parts : (x : ℕ) → is_d_over_base x ≡ true → IsDAccess x
+d_access_parts x h =
+    let first = and_parts (is_d_access x) (not (ra_of x == 0)) h in
+    let second = and_parts (field x 31 32 == 1 && is_access (field x 26 31))
+    (keeps_base (is_store (field x 26 31)) x) first.0 in
+    let third = and_parts (field x 31 32 == 1) (is_access (field x 26 31)) second.0 in
+    let top : field x 31 32 ≡ 1 = eqb-true _ _ third.0 in
     record {
-      registers = h.registers;
-      floats = h.floats;
-      link = h.link;
-      pc = ap (λ k. sum_64 k 4) h.pc;
-      memory = h.memory;
+      opcode_is = omega arith;
+      known = third.1;
+      over_some = some_of (ra_of x) first.1;
     }
 
-other_stored : (b c st : Bool) → not (b && c) ≡ true → (b ≡ false → st ≡ false) → st ≡ true → c ≡ false
-other_stored true false st h k e = refl
-other_stored true true st h k e = absurd (false≢true h)
-other_stored false c st h k e = absurd (false≢true (sym (k refl) ∙ e))
+-- ---- by a sum
 
--- the register that is stored isn't the base
-pub stores_other : (n r a : ℕ) → not (is_store n && r == a) ≡ true
-    → stores_register (access_with n) ≡ true → (r == a) ≡ false
-stores_other n r a h = other_stored (is_store n) (r == a) (stores_register (access_with n)) h (stores_by_number n)
+-- an access by a sum with the thread pointer
+pub record IsIndexed (x : ℕ) : Type 0 where
+  pub opcode_is : opcode_of x ≡ 31
+  pub rb_is : rb_of x ≡ 13
+  pub low : field x 0 6 ≡ 0x2e
+  pub known : is_access (access_of x) ≡ true
+  pub over_some : ra_of x ≢ 0
+
+pub indexed_parts : (x : ℕ) → is_indexed x ≡ true → IsIndexed x
+indexed_parts x h =
+    let first = and_parts (is_over_thread x && field x 0 6 == 0x2e && is_access (access_of x))
+    (keeps_base (is_store (access_of x)) x) h in
+    let second = and_parts (is_over_thread x && field x 0 6 == 0x2e) (is_access (access_of x)) first.0 in
+    let third = and_parts (is_over_thread x) (field x 0 6 == 0x2e) second.0 in
+    let fourth = and_parts (opcode_of x == 31 && field x 11 16 == 13) (not (ra_of x == 0)) third.0 in
+    let fifth = and_parts (opcode_of x == 31) (field x 11 16 == 13) fourth.0 in
+    record {
+      opcode_is = eqb-true _ _ fifth.0;
+      rb_is = eqb-true _ _ fifth.1;
+      low = eqb-true _ _ third.1;
+      known = second.1;
+      over_some = some_of (ra_of x) fourth.1;
+    }
+
+-- ---- of whole words
+
+-- `ld`, `lwa` or `std`, whatever its displacement
+pub record IsDs (x : ℕ) : Type 0 where
+  pub decodes : (y : ℕ) → opcode_of y ≡ opcode_of x → field y 0 2 ≡ field x 0 2
+      → decode y ≡ word_access (ds_access x)
+  pub reads : (y : ℕ) → opcode_of y ≡ opcode_of x → ppc64_reads Ds y ≡ (ppc64_form Ds).machine y
+
+loads_58 : (x k : ℕ) → opcode_of x ≡ 58 → field x 0 2 ≡ k
+    → ds_access x ≡ (if k == 0 then loads 8 else loads_signed 4)
+loads_58 x k op low =
+    ap (λ n. if n == 62 then stores 8 else (if field x 0 2 == 0 then loads 8 else loads_signed 4)) op
+    ∙ ap (λ n. if n == 0 then loads 8 else loads_signed 4) low
+
+pub reads_62 : (x : ℕ) → opcode_of x ≡ 62 → ppc64_reads Ds x ≡ (ppc64_form Ds).machine x
+reads_62 x op =
+    ap (λ n. cond (n == 56 || (n == 6 || n == 61 && field x 0 2 == 1))
+    ((ppc64_form Ds).machine (x - x % 16)) ((ppc64_form Ds).machine x)) op
+
+of_58_with : (x k : ℕ) (a : Access) → opcode_of x ≡ 58 → field x 0 2 ≡ k → of_58 k ≡ word_access a
+    → (if k == 0 then loads 8 else loads_signed 4) ≡ a → IsDs x
+of_58_with x k a op low is same =
+    record {
+      decodes = λ y o l.
+          ap (λ n. by_opcode n y) (o ∙ op) ∙ ap of_58 (l ∙ low) ∙ is ∙ ap word_access (sym (loads_58 x k op low ∙ same));
+      reads = λ y o. reads_ds y (o ∙ op);
+    }
+
+pub ds_parts : (x : ℕ) → is_ds_access x ≡ true → IsDs x
+ds_parts x h = elim (or_cases (opcode_of x == 58 && (field x 0 2 == 0 || field x 0 2 == 2))
+    (opcode_of x == 62 && field x 0 2 == 0 && keeps_base true x) h) [
+      | inl load ↦
+          let parts = and_parts (opcode_of x == 58) (field x 0 2 == 0 || field x 0 2 == 2) load in
+          elim (or_cases (field x 0 2 == 0) (field x 0 2 == 2) parts.1) [
+            | inl zero ↦ of_58_with x 0 (loads 8) (eqb-true _ _ parts.0) (eqb-true _ _ zero) refl refl
+            | inr two ↦ of_58_with x 2 (loads_signed 4) (eqb-true _ _ parts.0) (eqb-true _ _ two) refl refl
+          ]
+      | inr st ↦
+          let parts = and_parts (opcode_of x == 62 && field x 0 2 == 0) (keeps_base true x) st in
+          let more = and_parts (opcode_of x == 62) (field x 0 2 == 0) parts.0 in
+          let op : opcode_of x ≡ 62 = eqb-true _ _ more.0 in
+          let low : field x 0 2 ≡ 0 = eqb-true _ _ more.1 in
+          record {
+            decodes = λ y o l.
+                ap (λ n. by_opcode n y) (o ∙ op) ∙ ap of_62 (l ∙ low)
+                ∙ ap word_access (sym (ap (λ n. if n == 62 then stores 8 else (
+                if field x 0 2 == 0 then loads 8 else loads_signed 4)) op));
+            reads = λ y o. reads_62 y (o ∙ op);
+          }
+    ]
+
+pub step_word : (f : Formats) (x r b : ℕ) (a : Access) (s : State) → decode x ≡ word_access a
+    → rt_of x ≡ r → ra_of x ≡ b
+    → step f x s ≡ Some (go_on (accessed f a r (moved (base b s) ((ppc64_form Ds).machine x)) s))
+step_word f x r b a s is rt ra =
+    ap (λ i. execute f i x s) is
+    ∙ ap (λ k. Some (go_on (accessed f a k (moved (base (ra_of x) s) ((ppc64_form Ds).machine x)) s))) rt
+    ∙ ap (λ k. Some (go_on (accessed f a r (moved (base k s) ((ppc64_form Ds).machine x)) s))) ra
+
+pub record IsIndexedWord (x : ℕ) : Type 0 where
+  pub opcode_is : opcode_of x ≡ 31
+  pub rb_is : rb_of x ≡ 13
+  pub low : field x 0 6 ≡ 0x2a
+  pub known : is_word_access (access_of x) ≡ true
+  pub over_some : ra_of x ≢ 0
+
+pub indexed_word_parts : (x : ℕ) → is_indexed_word x ≡ true → IsIndexedWord x
+indexed_word_parts x h =
+    let first = and_parts (is_over_thread x && field x 0 6 == 0x2a && is_word_access (access_of x))
+    (keeps_base (access_of x == 4) x) h in
+    let second = and_parts (is_over_thread x && field x 0 6 == 0x2a) (is_word_access (access_of x)) first.0 in
+    let third = and_parts (is_over_thread x) (field x 0 6 == 0x2a) second.0 in
+    let fourth = and_parts (opcode_of x == 31 && field x 11 16 == 13) (not (ra_of x == 0)) third.0 in
+    let fifth = and_parts (opcode_of x == 31) (field x 11 16 == 13) fourth.0 in
+    record {
+      opcode_is = eqb-true _ _ fifth.0;
+      rb_is = eqb-true _ _ fifth.1;
+      low = eqb-true _ _ third.1;
+      known = second.1;
+      over_some = some_of (ra_of x) fourth.1;
+    }
+
+-- What an indexed access w has become, whatever its displacement.
+pub record IsDirect (w d : ℕ) : Type 0 where
+  pub decodes : (y : ℕ) → opcode_of y ≡ opcode_of d → field y 0 2 ≡ field d 0 2
+      → decode y ≡ word_access (word_access_with (access_of w))
+  pub reads : (y : ℕ) → opcode_of y ≡ opcode_of d → ppc64_reads Ds y ≡ (ppc64_form Ds).machine y
+  pub rt_is : rt_of d ≡ rt_of w
+  pub ra_is : ra_of d ≡ ra_of w
+
+loads_directly : (w d k n : ℕ) (a : Access) → d ≡ 58 * 2 ^ 26 + registers_of w + k → k < 4
+    → of_58 k ≡ word_access a → access_of w ≡ n → word_access_with n ≡ a → IsDirect w d
+loads_directly w d k n a is small known number same =
+    let op : opcode_of d ≡ 58 = omega arith in
+    let low : field d 0 2 ≡ k = omega arith in
+    record {
+      decodes = λ y o l.
+          ap (λ m. by_opcode m y) (o ∙ op) ∙ ap of_58 (l ∙ low) ∙ known
+          ∙ ap word_access (sym (ap word_access_with number ∙ same));
+      reads = λ y o. reads_ds y (o ∙ op);
+      rt_is = omega arith;
+      ra_is = omega arith;
+    }
+
+stores_directly : (w d : ℕ) → d ≡ 62 * 2 ^ 26 + registers_of w → access_of w ≡ 4 → IsDirect w d
+stores_directly w d is number =
+    let op : opcode_of d ≡ 62 = omega arith in
+    let low : field d 0 2 ≡ 0 = omega arith in
+    record {
+      decodes = λ y o l.
+          ap (λ m. by_opcode m y) (o ∙ op) ∙ ap of_62 (l ∙ low)
+          ∙ ap (λ m. word_access (word_access_with m)) (sym number);
+      reads = λ y o. reads_62 y (o ∙ op);
+      rt_is = omega arith;
+      ra_is = omega arith;
+    }
+
+pub is_direct : (w d : ℕ) → is_word_access (access_of w) ≡ true → d ≡ by_word_displacement w → IsDirect w d
+is_direct w d known is = elim (or_cases (access_of w == 0 || access_of w == 4) (access_of w == 10) known) [
+  | inl some ↦ elim (or_cases (access_of w == 0) (access_of w == 4) some) [
+    | inl zero ↦
+        let e : access_of w ≡ 0 = eqb-true _ _ zero in
+        loads_directly w d 0 0 (loads 8)
+        (is ∙ ap (λ m. (if m == 4 then 62 else 58) * 2 ^ 26 + registers_of w + (if m == 10 then 2 else 0)) e)
+        (omega arith) refl e refl
+    | inr four ↦
+        let e : access_of w ≡ 4 = eqb-true _ _ four in
+        let whole : d ≡ 62 * 2 ^ 26 + registers_of w + 0 =
+        is ∙ ap (λ m. (if m == 4 then 62 else 58) * 2 ^ 26 + registers_of w + (if m == 10 then 2 else 0)) e in
+        stores_directly w d (omega arith) e
+  ]
+  | inr ten ↦
+      let e : access_of w ≡ 10 = eqb-true _ _ ten in
+      loads_directly w d 2 10 (loads_signed 4)
+      (is ∙ ap (λ m. (if m == 4 then 62 else 58) * 2 ^ 26 + registers_of w + (if m == 10 then 2 else 0)) e)
+      (omega arith) refl e refl
+]
+
+pub step_indexed_word : (f : Formats) (x b : ℕ) (s : State) → opcode_of x ≡ 31 → field x 0 6 ≡ 0x2a
+    → is_word_access (access_of x) ≡ true → rb_of x ≡ b
+    → step f x s
+    ≡ Some (go_on (accessed f (word_access_with (access_of x)) (rt_of x)
+    (sum_64 (base (ra_of x) s) (s.registers b)) s))
+step_indexed_word f x b s op low is rb =
+    ap (λ k. execute f (by_opcode k x) x s) op
+    ∙ ap (λ i. execute f i x s)
+    (cond-false _ _ _ (ne_eqb (field x 0 11) 0x214 (λ e. omega arith))
+    ∙ cond-false _ _ _ (ap (λ k. k == 0x2e && is_access (access_of x)) low)
+    ∙ cond-true _ _ _ (ap (λ k. k == 0x2a && is_word_access (access_of x)) low ∙ is))
+    ∙ ap (λ k. Some (go_on (accessed f (word_access_with (access_of x)) (rt_of x)
+    (sum_64 (base (ra_of x) s) (s.registers k)) s))) rb
+
+pub below : (w : ℕ) (a b : Bool)
+    → (if a then 62 else 58) * 2 ^ 26 + registers_of w + (if b then 2 else 0) < 2 ^ 32
+below w true true = omega arith
+below w true false = omega arith
+below w false true = omega arith
+below w false false = omega arith

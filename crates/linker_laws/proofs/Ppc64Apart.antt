@@ -20,13 +20,12 @@ use Rattle.linker_laws.specs.Machine.{Memory, moved, loaded, stored, but, extend
 use Rattle.linker_laws.specs.Ppc64RewriteLaws.{word_of, IsRelocated, IsRewritten, AgreeBut, Changes, StepSo}
 use Rattle.linker_laws.specs.Ppc64RewriteLaws.{with_register, without_register, AreSame, ReadsSame, after_access}
 use Rattle.linker_laws.specs.Ppc64RewriteLaws as laws
-use Rattle.linker_laws.specs.Ppc64Machine.{State, Formats, Access, base, step, go_on, accessed, with_number}
+use Rattle.linker_laws.specs.Ppc64Machine.{State, Formats, Access, base, step, go_on, accessed, with_number, write}
 use Rattle.linker_laws.specs.Ppc64Machine.{loads, loads_signed, stores, loads_single, loads_double}
 use Rattle.linker_laws.specs.Ppc64Machine.{stores_single, stores_double, no_access}
 use Rattle.linker_laws.proofs.AArch64Pairs.{word_is, word_made}
 use Rattle.linker_laws.proofs.Ppc64Addresses.{ld_parts, reads_ds, same_parts}
-use Rattle.linker_laws.proofs.Ppc64Copies.{thread_halves}
-use Rattle.linker_laws.proofs.Ppc64Threads.{entry_small}
+use Rattle.linker_laws.proofs.Ppc64Copies.{entry_small, thread_halves}
 use Rattle.linker_laws.proofs.Ppc64Words.{HasParts, d_after, ds_after, step_addi, step_ld, sum_from, set, step_addis, step_nop}
 use Rattle.linker_laws.proofs.Sums.{sum_below}
 
@@ -78,17 +77,17 @@ but_written r v w differing g k same h n kept = elim (eqb_tells n r) [
       cond-false (eqb n r) v (g n) other.0 ∙ h n alone ∙ sym (cond-false (eqb n r) w (k n) other.0)
 ]
 
-pub agree_but : (n v w : ℕ) (c : Changes) (s t : State) → v ≡ w → AgreeBut c s t
-    → AgreeBut (without_register n c) (set n v s) (set n w t)
+agree_but : (n v w : ℕ) (c : Changes) (s t : State) → v ≡ w → AgreeBut c s t
+    → AgreeBut (without_register n c) (write n v s) (write n w t)
 agree_but n v w c s t same alike =
     record {
       registers = but_written n v w c.registers s.registers t.registers same alike.registers;
       floats = alike.floats;
       memory = alike.memory;
-      pc = ap (λ p. sum_64 p 4) alike.pc;
+      pc = alike.pc;
     }
 
-pub agree_on : (c : Changes) (s t : State) → AgreeBut c s t → AgreeBut c (go_on s) (go_on t)
+agree_on : (c : Changes) (s t : State) → AgreeBut c s t → AgreeBut c (go_on s) (go_on t)
 agree_on c s t alike =
     record {
       registers = alike.registers;
@@ -113,7 +112,7 @@ stored_same n v w differing m k address same h at kept =
     ∙ ap (cond (nat_lt (difference_64 at address) n)
     (field w (8 * difference_64 at address) (8 * difference_64 at address + 8))) (h at kept)
 
-pub accessed_agree : (f : Formats) (c : Changes) (a : Access) (r address : ℕ) (s t : State)
+accessed_agree : (f : Formats) (c : Changes) (a : Access) (r address : ℕ) (s t : State)
     → AgreeBut c s t → ReadsSame c a r address
     → AgreeBut (after_access c a r) (accessed f a r address s) (accessed f a r address t)
 accessed_agree f c (loads k) r address s t h same =
@@ -172,7 +171,7 @@ accessed_agree f c stores_double r address s t h same =
 accessed_agree f c no_access r address s t h same =
     record { registers = h.registers; floats = h.floats; memory = h.memory; pc = h.pc }
 
-pub accessed_link : (f : Formats) (a : Access) (r address : ℕ) (s : State)
+accessed_link : (f : Formats) (a : Access) (r address : ℕ) (s : State)
     → (accessed f a r address s).link ≡ s.link
 accessed_link f (loads k) r address s = refl
 accessed_link f (loads_signed k) r address s = refl
@@ -182,6 +181,42 @@ accessed_link f loads_double r address s = refl
 accessed_link f stores_single r address s = refl
 accessed_link f stores_double r address s = refl
 accessed_link f no_access r address s = refl
+
+-- ---- what instructions do with an address
+
+-- One does so, and goes on.
+abbrev pub Does : Formats → (State → State) → ℕ → State → Type 0
+Does f does x s = step f x s ≡ Some (go_on (does s))
+
+pub record IsUse (how : laws.Use) : Type 0 where
+  pub agrees : (f : Formats) (c : Changes) (word address : ℕ) (s t : State) → AgreeBut c s t
+      → how.Requires c word address
+      → AgreeBut (how.after c word) (how.does f word address s) (how.does f word address t)
+  pub links : (f : Formats) (word address : ℕ) (s : State) → (how.does f word address s).link ≡ s.link
+
+pub sums : (test : ℕ → Bool) → IsUse (laws.adds test)
+sums test =
+    record {
+      agrees = λ f c word address s t alike any. agree_but (rt_of word) address address c s t refl alike;
+      links = λ f word address s. refl;
+    }
+
+pub accesses : (test : ℕ → Bool) (access : ℕ → Access) → IsUse (laws.accesses test access)
+accesses test access =
+    record {
+      agrees = λ f c word address s t alike reads.
+          accessed_agree f c (access word) (rt_of word) address s t alike reads;
+      links = λ f word address s. accessed_link f (access word) (rt_of word) address s;
+    }
+
+-- Both runs do the same with one address.
+pub does_so : (f : Formats) (how : laws.Use) (c : Changes) (x y word address : ℕ) (s t : State) → IsUse how
+    → AgreeBut c s t → how.Requires c word address → Does f (how.does f word address) x s
+    → Does f (how.does f word address) y t → StepSo f x s y t (AgreeBut (how.after c word))
+does_so f how c x y word address s t is alike requires first second =
+    steps_so f x y s t (go_on (how.does f word address s)) (go_on (how.does f word address t)) _ first second
+    (is.links f word address s) (is.links f word address t)
+    (agree_on _ _ _ (is.agrees f c word address s t alike requires))
 
 pub base_some : (r : ℕ) (s : State) → r ≢ 0 → base r s ≡ s.registers r
 base_some r s some = cond-false (eqb r 0) 0 (s.registers r) (ne_eqb r 0 some)
@@ -224,40 +259,68 @@ to_nop r kind high address Low is_base is_blank keeps leads f o s t c addis blan
           (leads o small (s.registers r) addis addis_of a)),
     )
 
+-- From what a relocated `addis` makes low halves lead to an address.
+abbrev pub High : Ppc64Relocation → (Operands → ℕ → ℕ) → (Operands → ℕ → ℕ → Type 0) → Type 0
+High name address Low =
+    (o : Operands) → AreAddresses o → (n : ℕ) (addis after : List ℕ) → IsRelocated name o addis after
+    → Low o (moved n ((ppc64_form D).machine (word_of after) *ℤ pos (2 ^ 16))) (address o n)
+
+pub toc_leads : relocation_laws.TocAddresses
+    → High names.R_PPC64_TOC16_HA laws.from_toc
+    (λ o n a. laws.Leads names.R_PPC64_TOC16_LO D o n a × laws.Leads names.R_PPC64_TOC16_LO_DS Ds o n a)
+toc_leads toc o small n addis after a = (
+  λ there insn over l. sum_from o.got_base (symbol_address o) n _ _ small.got_base (sum_below o.symbol _)
+      (toc.0 o small o.place addis after a tt there insn over l tt),
+  λ there insn over l. sum_from o.got_base (symbol_address o) n _ _ small.got_base (sum_below o.symbol _)
+      (toc.1 o small o.place addis after a tt there insn over l tt),
+)
+
+pub got_leads : relocation_laws.GotAddresses
+    → High names.R_PPC64_GOT16_HA laws.entry_from_toc (laws.Leads names.R_PPC64_GOT16_LO_DS Ds)
+got_leads got o small n addis after a there insn over l =
+    sum_from o.got_base o.got_entry n _ _ small.got_base small.got_entry
+    (got.0 o small o.place addis after a tt there insn over l tt)
+
+pub offset_leads : relocation_laws.EntryAddresses
+    → High names.R_PPC64_GOT_TPREL16_HA laws.entry_from_toc (laws.Leads names.R_PPC64_GOT_TPREL16_LO_DS Ds)
+offset_leads entries o small n addis after a there insn over l =
+    sum_from o.got_base o.got_entry n _ _ small.got_base small.got_entry
+    (entries.0 o small o.place addis after a tt there insn over l tt)
+
+pub general_leads : relocation_laws.EntryAddresses
+    → High names.R_PPC64_GOT_TLSGD16_HA laws.entry_from_toc (laws.Leads names.R_PPC64_GOT_TLSGD16_LO D)
+general_leads entries o small n addis after a there insn over l =
+    sum_from o.got_base o.got_entry n _ _ small.got_base small.got_entry
+    (entries.1 o small o.place addis after a tt there insn over l tt)
+
+pub module_leads : relocation_laws.EntryAddresses
+    → High names.R_PPC64_GOT_TLSLD16_HA laws.entry_from_toc (laws.Leads names.R_PPC64_GOT_TLSLD16_LO D)
+module_leads entries o small n addis after a there insn over l =
+    sum_from o.got_base o.got_entry n _ _ small.got_base small.got_entry
+    (entries.2 o small o.place addis after a tt there insn over l tt)
+
 pub high_half_to_nop : relocation_laws.TocAddresses → relocation_laws.ThreadAddresses
     → relocation_laws.EntryAddresses → laws.HighHalfToNop
 high_half_to_nop toc thread entries = (
   to_nop 2 kinds.AddisToNop names.R_PPC64_TOC16_HA laws.from_toc
       (λ o n a. laws.Leads names.R_PPC64_TOC16_LO D o n a × laws.Leads names.R_PPC64_TOC16_LO_DS Ds o n a)
-      (λ s. refl)
-      (λ addis blank made. word_is nop blank (omega arith) made) (λ o x y a. d_after _ _ x y a.written)
-      (λ o small n addis after a. (
-        λ there insn over l. sum_from o.got_base (symbol_address o) n _ _ small.got_base (sum_below o.symbol _)
-            (toc.0 o small o.place addis after a tt there insn over l tt),
-        λ there insn over l. sum_from o.got_base (symbol_address o) n _ _ small.got_base (sum_below o.symbol _)
-            (toc.1 o small o.place addis after a tt there insn over l tt),
-      )),
+      (λ s. refl) (λ addis blank made. word_is nop blank (omega arith) made)
+      (λ o x y a. d_after _ _ x y a.written) (toc_leads toc),
   to_nop 13 kinds.AddisThreadToNop names.R_PPC64_TPREL16_HA laws.from_thread laws.LowHalfLeads (λ s. refl)
       (λ addis blank made. word_is nop blank (omega arith) made) (λ o x y a. d_after _ _ x y a.written)
       (thread_halves thread),
   to_nop 2 kinds.AddisToNop names.R_PPC64_GOT_TPREL16_HA laws.entry_from_toc
       (laws.Leads names.R_PPC64_GOT_TPREL16_LO_DS Ds) (λ s. refl)
       (λ addis blank made. word_is nop blank (omega arith) made) (λ o x y a. d_after _ _ x y a.written)
-      (λ o small n addis after a there insn over l.
-      sum_from o.got_base o.got_entry n _ _ small.got_base small.got_entry
-      (entries.0 o small o.place addis after a tt there insn over l tt)),
+      (offset_leads entries),
   to_nop 2 kinds.AddisToNop names.R_PPC64_GOT_TLSGD16_HA laws.entry_from_toc
       (laws.Leads names.R_PPC64_GOT_TLSGD16_LO D) (λ s. refl)
       (λ addis blank made. word_is nop blank (omega arith) made) (λ o x y a. d_after _ _ x y a.written)
-      (λ o small n addis after a there insn over l.
-      sum_from o.got_base o.got_entry n _ _ small.got_base small.got_entry
-      (entries.1 o small o.place addis after a tt there insn over l tt)),
+      (general_leads entries),
   to_nop 2 kinds.AddisToNop names.R_PPC64_GOT_TLSLD16_HA laws.entry_from_toc
       (laws.Leads names.R_PPC64_GOT_TLSLD16_LO D) (λ s. refl)
       (λ addis blank made. word_is nop blank (omega arith) made) (λ o x y a. d_after _ _ x y a.written)
-      (λ o small n addis after a there insn over l.
-      sum_from o.got_base o.got_entry n _ _ small.got_base small.got_entry
-      (entries.2 o small o.place addis after a tt there insn over l tt)),
+      (module_leads entries),
 )
 
 pub high_half_of_entry : relocation_laws.EntryAddresses → laws.HighHalfOfEntry
@@ -276,13 +339,10 @@ high_half_of_entry entries f o s t c addis small alike is entry below addis1 add
     refl refl (
       agree_also x _ _ c s t alike,
       written_is (λ n. laws.Leads names.R_PPC64_GOT_TLSGD16_LO D o n (laws.entry_from_toc o (s.registers 2)))
-          x (moved (s.registers 2) m1) s
-          (λ there insn over l. sum_from o.got_base o.got_entry (s.registers 2) _ _ small.got_base small.got_entry
-          (entries.1 o small o.place addis addis1 a1 tt there insn over l tt)),
+          x (moved (s.registers 2) m1) s (general_leads entries o small (s.registers 2) addis addis1 a1),
       written_is (λ n. laws.Leads names.R_PPC64_GOT_TPREL16_LO_DS Ds e n (laws.entry_from_toc e (t.registers 2)))
           x (moved (t.registers 2) m2) t
-          (λ there insn over l. sum_from o.got_base entry (t.registers 2) _ _ small.got_base below
-          (entries.0 e (entry_small entry o below small) o.place addis addis2 a2 tt there insn over l tt)),
+          (offset_leads entries e (entry_small entry o below small) (t.registers 2) addis addis2 a2),
     )
 
 -- ---- the address of a symbol in place of a load of it
@@ -302,13 +362,9 @@ high_half_of_symbol got toc f o s t c addis small alike is addis1 addis2 a1 a2 =
     refl refl (
       agree_also x _ _ c s t alike,
       written_is (λ n. laws.Leads names.R_PPC64_GOT16_LO_DS Ds o n (laws.entry_from_toc o (s.registers 2)))
-          x (moved (s.registers 2) m1) s
-          (λ there insn over l. sum_from o.got_base o.got_entry (s.registers 2) _ _ small.got_base small.got_entry
-          (got.0 o small o.place addis addis1 a1 tt there insn over l tt)),
+          x (moved (s.registers 2) m1) s (got_leads got o small (s.registers 2) addis addis1 a1),
       written_is (λ n. laws.Leads names.R_PPC64_TOC16_LO D o n (laws.from_toc o (t.registers 2)))
-          x (moved (t.registers 2) m2) t
-          (λ there insn over l. sum_from o.got_base (symbol_address o) (t.registers 2) _ _ small.got_base (sum_below o.symbol _)
-          (toc.0 o small o.place addis addis2 a2 tt there insn over l tt)),
+          x (moved (t.registers 2) m2) t (toc_leads toc o small (t.registers 2) addis addis2 a2).0,
     )
 
 pub load_to_sum : laws.LoadToSum
@@ -336,4 +392,4 @@ load_to_sum f o s t c ld addi alike is made entry address leads holds leads_too 
     (step_ld f w z a s (same_parts load.parts.opcode_is refl refl after.0) (after.1 ∙ load.low))
     (step_addi f y z a t
     (same_parts parts.opcode_is parts.rt_is parts.ra_is (d_after _ _ addi addi1 d1.written)))
-    refl refl (agree_but z _ _ c s t (ap (loaded 8 s.memory) from ∙ holds ∙ sym new) alike)
+    refl refl (agree_on _ _ _ (agree_but z _ _ c s t (ap (loaded 8 s.memory) from ∙ holds ∙ sym new) alike))

@@ -1,12 +1,10 @@
 -- PowerPC64: arguments and calls of `__tls_get_addr`, each in two runs.
-use Rattle.std.proofs.Common.{◌≡◌, ℕ, ◌+◌, ◌%◌, ◌^◌, refl, sym, ◌∙◌, ap, subst}
-use Rattle.std.proofs.Common.{arith, List, [], ◌∷◌, eqb, ℤ, pos, ◌*ℤ◌, ◌+ℤ◌, Some, Option, drop, inl, inr}
+use Rattle.std.proofs.Common.{◌≡◌, ℕ, ◌+◌, refl, sym, ◌∙◌, ap, subst}
+use Rattle.std.proofs.Common.{arith, List, [], ◌∷◌, eqb, Some, Option, drop, inl, inr}
 use Rattle.std.specs.Prelude.{◌&&◌, ◌||◌, ◌==◌, not, IsSomeAnd}
 use Rattle.std.proofs.lemmas.Bool.{and_parts, or_parts, eqb-true, cond-true, cond-false}
 use Rattle.std.proofs.lemmas.Bool.Decides.{eqb_tells}
-use Rattle.std.proofs.lemmas.Int.{ints}
 use Rattle.linker_base.specs.Bits.{field}
-use Rattle.linker_base.specs.Form.{place_sum}
 use Rattle.linker_elf.specs.Ppc64.{ppc64_form}
 use Rattle.linker_elf.specs.Value.{sum_64}
 use Rattle.linker_elf.specs.declared.elf.value.Operands.{Operands}
@@ -23,10 +21,9 @@ use Rattle.linker_laws.proofs.AArch64Pairs.{word_made}
 use Rattle.linker_laws.proofs.Ppc64Addresses.{same_parts, some_of, reads_ds}
 use Rattle.linker_laws.proofs.Ppc64Apart.{steps_so, agree_also, base_some, written_is}
 use Rattle.linker_laws.proofs.Ppc64Calls.{first_made, second_made}
-use Rattle.linker_laws.proofs.Ppc64Copies.{addis_13_parts, thread_halves, no_immediate}
-use Rattle.linker_laws.proofs.Ppc64Threads.{step_bl}
+use Rattle.linker_laws.proofs.Ppc64Copies.{addis_13_parts, block_above, no_immediate, nothing_added, thread_halves}
 use Rattle.linker_laws.proofs.Ppc64Words.{HasParts, d_after, ds_after, set, step_addis, step_addi, step_ld}
-use Rattle.linker_laws.proofs.Ppc64Words.{step_add, step_nop, run_more, wrapped_is}
+use Rattle.linker_laws.proofs.Ppc64Words.{step_add, step_bl, step_nop, run_more}
 
 -- ---- arguments
 
@@ -115,10 +112,6 @@ argument_to_offset f o s t c addi addi_of ld at entry offset p alike made own le
     (step_ld f y x a t (same_parts parts.opcode_is parts.rt_is parts.ra_is after.0) (after.1 ∙ low))
     (ap (loaded 8 t.memory) address ∙ holds) alike
 
-nothing_added : (t : ℕ) (m : ℤ) → m ≡ pos 0 → moved t (m *ℤ pos (2 ^ 16)) ≡ sum_64 t 0
-nothing_added t m none =
-    ap (λ z. moved t (z *ℤ pos (2 ^ 16))) none ∙ wrapped_is (pos t +ℤ pos 0) 0 (t + 0) (omega (arith, ints))
-
 pub argument_to_thread : laws.ArgumentToThread
 argument_to_thread f o s t c addi addi_of addis_13 at entry p alike made =
     let x = rt_of (word_of addi) in
@@ -198,12 +191,6 @@ call_to_sum f call changes c o s t bl made alike is_made thread p =
     (ap rb_of last) (ap (λ w. field w 0 11) last))
     (ap (λ n. sum_64 n (t.registers 13)) p.argument.new_is ∙ ap (from_thread o) thread)
 
-adds_4096 : (t : ℕ) → moved (sum_64 t 0) ((ppc64_form D).machine 0x38631000) ≡ sum_64 t 0x1000
-unfolding place_sum
-adds_4096 t =
-    wrapped_is (pos (sum_64 t 0) +ℤ pos 0x1000) 0 (sum_64 t 0 + 0x1000) (omega (arith, ints))
-    ∙ (let same : (sum_64 t 0 + 0x1000) % 2 ^ 64 ≡ sum_64 t 0x1000 = omega arith in same)
-
 pub call_to_block : laws.CallToBlock
 call_to_block f call changes c s t bl made alike is_made p =
     let first = first_made made nop 0x38631000 (omega arith) (omega arith) is_made in
@@ -215,4 +202,4 @@ call_to_block f call changes c s t bl made alike is_made p =
     (record { opcode_is = ap opcode_of last; rt_is = ap rt_of last; ra_is = ap ra_of last }))
     (ap (λ n. moved n ((ppc64_form D).machine w)) p.argument.new_is
     ∙ ap (λ k. moved (sum_64 (s.registers 13) 0) ((ppc64_form D).machine k)) last
-    ∙ adds_4096 (s.registers 13))
+    ∙ block_above (s.registers 13))

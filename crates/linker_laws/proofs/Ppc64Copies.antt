@@ -1,8 +1,9 @@
 -- PowerPC64: one instruction of a thread-local sequence by itself, and arguments that are copied.
-use Rattle.std.proofs.Common.{◌≡◌, ◌≢◌, ℕ, ◌+◌, ◌*◌, ◌/◌, ◌^◌, ◌<◌, ◌%◌, refl, sym, ◌∙◌, ap}
+use Rattle.std.proofs.Common.{◌≡◌, ℕ, ◌+◌, ◌*◌, ◌/◌, ◌^◌, ◌<◌, ◌%◌, refl, sym, ◌∙◌, ap}
 use Rattle.std.proofs.Common.{subst, arith, List, [], ◌∷◌, eqb, ℤ, pos, ◌*ℤ◌, ◌+ℤ◌, Some, drop}
-use Rattle.std.specs.Prelude.{◌||◌, ◌==◌, not, IsSomeAnd}
-use Rattle.std.proofs.lemmas.Bool.{and_parts, or_parts, eqb-true, cond-true, cond-false, eq-eqb}
+use Rattle.std.proofs.lemmas.Int.{ints}
+use Rattle.std.specs.Prelude.{◌==◌, not, IsSomeAnd}
+use Rattle.std.proofs.lemmas.Bool.{and_parts, eqb-true, cond-true, cond-false, eq-eqb}
 use Rattle.linker_base.specs.Bits.{field, signed}
 use Rattle.linker_base.specs.Form.{place_sum, replaced}
 use Rattle.linker_base.proofs.ConsecutiveBits.{consecutive_bits_sum}
@@ -15,22 +16,34 @@ use Rattle.linker_utils.specs.Ppc64Rewrites.{is_addi, is_ld, opcode_of, rt_of, r
 use Rattle.linker_utils.specs.Ppc64Rewrites.{registers_of, addis_of_thread, nop}
 use Rattle.linker_utils.specs.declared.ppc64.rewrites.RewriteKind.TheVariants as kinds
 use Rattle.linker_laws.specs.Ppc64RelocationLaws as relocation_laws
-use Rattle.linker_laws.specs.Schemes.{symbol_address, IsAddress, AreAddresses}
+use Rattle.linker_laws.specs.Schemes.{symbol_address, AreAddresses}
 use Rattle.linker_elf.specs.declared.ppc64.relocations.Ppc64Relocation.TheVariants as names
 use Rattle.linker_laws.proofs.Sums.{sum_below}
 use Rattle.linker_laws.specs.Machine.{moved, loaded}
-use Rattle.linker_laws.specs.Ppc64RewriteLaws.{word_of, thread_offset, Leaves, only, IsOverToc, IsTocPair}
+use Rattle.linker_laws.specs.Ppc64RewriteLaws.{word_of, thread_offset, Leaves, only, IsOverToc}
 use Rattle.linker_laws.specs.Ppc64RewriteLaws.{with_entry}
 use Rattle.linker_laws.specs.Ppc64RewriteLaws as laws
 use Rattle.linker_laws.specs.Ppc64Machine.{State, Formats, base, step, go_on, AreAlikeBut}
 use Rattle.linker_laws.proofs.AArch64Pairs.{word_made}
-use Rattle.linker_laws.proofs.Ppc64Addresses.{addis_parts, ld_parts, same_parts, some_of, reads_ds}
+use Rattle.linker_laws.proofs.Ppc64Addresses.{ld_parts, same_parts, reads_ds}
 use Rattle.linker_laws.proofs.Ppc64Calls.{first_made, second_made}
-use Rattle.linker_laws.proofs.Ppc64Threads.{entry_small, module_base}
-use Rattle.linker_laws.proofs.Ppc64Words.{HasParts, d_after, ds_after, set, base_back, run_more}
-use Rattle.linker_laws.proofs.Ppc64Words.{sum_leads, sum_from, step_addis, step_addi, step_ld}
-use Rattle.linker_laws.proofs.Ppc64Words.{step_add, step_nop}
+use Rattle.linker_laws.proofs.Ppc64Words.{HasParts, d_after, ds_after, set, run_more}
+use Rattle.linker_laws.proofs.Ppc64Words.{sum_from, step_addis, step_addi, step_ld}
+use Rattle.linker_laws.proofs.Ppc64Words.{step_add, step_nop, wrapped_is}
 use Rattle.linker_laws.proofs.RiscVMachine.{times_one, address_is}
+
+-- the operands with another GOT entry
+pub entry_small : (entry : ℕ) (o : Operands) → entry < 2 ^ 64 → AreAddresses o
+    → AreAddresses (with_entry entry o)
+entry_small entry o below small =
+    record {
+      symbol = small.symbol;
+      place = small.place;
+      got_entry = below;
+      got_base = small.got_base;
+      plt_entry = small.plt_entry;
+      tls_base = small.tls_base;
+    }
 
 -- ---- what is left
 
@@ -41,25 +54,6 @@ leaves_one f w s r v Is steps holds =
       subst Is (sym (cond-true (eqb r r) v (s.registers r) (eq-eqb r r refl))) holds,
       record {
         registers = λ n same. sym (cond-false (eqb n r) v (s.registers n) same);
-        floats = refl;
-        link = refl;
-        pc = refl;
-        memory = refl;
-      },
-    )
-
-leaves_two : (f : Formats) (w1 w2 : ℕ) (s : State) (x h r v : ℕ) (Is : ℕ → Type 0)
-    → step f w1 s ≡ Some (set x h s) → step f w2 (set x h s) ≡ Some (set r v (set x h s))
-    → Is v → Leaves f (λ n. n == r || n == x) (w1 ∷ w2 ∷ []) s r Is
-leaves_two f w1 w2 s x h r v Is first second holds =
-    let s1 = set x h s in
-    subst (λ q. IsSomeAnd q (λ t. Is (t.registers r) × AreAlikeBut (λ n. n == r || n == x) (go_on (go_on s)) t))
-    (sym (run_more f w1 w2 [] s s1 (set r v s1) first refl second)) (
-      subst Is (sym (cond-true (eqb r r) v (s1.registers r) (eq-eqb r r refl))) holds,
-      record {
-        registers = λ n same.
-            let none = or_parts (eqb n r) (eqb n x) same in
-            sym (cond-false (eqb n r) v (s1.registers n) none.0 ∙ cond-false (eqb n x) h (s.registers n) none.1);
         floats = refl;
         link = refl;
         pc = refl;
@@ -95,50 +89,14 @@ near_entry f o s addi w p parts leads =
     (step_addi f w (rt_of (word_of addi)) 2 s (same_parts (eqb-true _ _ both.0) refl p.base parts))
     (ap (λ t. moved t ((ppc64_form D).machine w)) p.toc ∙ leads)
 
-pair_entry : (f : Formats) (o : Operands) (s : State) (addis addi : List ℕ) (w1 w2 : ℕ) → IsTocPair is_addi o s addis addi
-    → HasParts 15 (rt_of (word_of addis)) 2 w1
-    → HasParts (opcode_of (word_of addi)) (rt_of (word_of addi)) (ra_of (word_of addi)) w2
-    → IsAddress ((pos o.got_base +ℤ ((ppc64_form D).machine w1 *ℤ pos (2 ^ 16))) +ℤ (ppc64_form D).machine w2)
-    o.got_entry
-    → Leaves f (λ n. n == rt_of (word_of addi) || n == rt_of (word_of addis)) (w1 ∷ w2 ∷ []) s (rt_of (word_of addi))
-    (λ n. n ≡ o.got_entry)
-pair_entry f o s addis addi w1 w2 p first second leads =
-    let x = rt_of (word_of addis) in
-    let r = rt_of (word_of addi) in
-    let both = and_parts (opcode_of (word_of addi) == 14) (not (ra_of (word_of addi) == 0)) p.second_is in
-    let some : x ≢ 0 = λ e. some_of (ra_of (word_of addi)) both.1 (p.base ∙ e) in
-    let a = (ppc64_form D).machine w1 *ℤ pos (2 ^ 16) in
-    let b = (ppc64_form D).machine w2 in
-    let h = moved (s.registers 2) a in
-    let s1 = set x h s in
-    leaves_two f w1 w2 s x h r (moved (base (ra_of (word_of addi)) s1) b) (λ n. n ≡ o.got_entry)
-    (step_addis f w1 x 2 s first)
-    (step_addi f w2 r (ra_of (word_of addi)) s1 (same_parts (eqb-true _ _ both.0) refl refl second))
-    (ap (λ k. moved (base k s1) b) p.base
-    ∙ ap (λ k. moved k b) (base_back x h s some)
-    ∙ ap (λ t. moved (moved t a) b) p.toc
-    ∙ sum_leads o.got_base o.got_entry a b leads)
-
-pub arguments : relocation_laws.EntryAddresses → relocation_laws.Displacements → laws.Arguments
-arguments entries near = (
+pub arguments : relocation_laws.Displacements → laws.Arguments
+arguments near = (
   λ f o s addi addi1 p l1.
       near_entry f o s addi (word_of addi1) p (d_after _ _ addi addi1 l1.written)
       (times_one o.got_base _ ∙ address_is _ _ (near.4 o p.small o.place addi addi1 l1 tt)),
   λ f o s addi addi1 p l1.
       near_entry f o s addi (word_of addi1) p (d_after _ _ addi addi1 l1.written)
       (times_one o.got_base _ ∙ address_is _ _ (near.5 o p.small o.place addi addi1 l1 tt)),
-  λ f o s addis addi p at addis1 addi1 a1 l1.
-      let first = addis_parts (word_of addis) p.first_is in
-      pair_entry f o s addis addi (word_of addis1) (word_of addi1) p
-      (same_parts first.opcode_is refl first.ra_is (d_after _ _ addis addis1 a1.written))
-      (d_after _ _ addi addi1 l1.written)
-      (entries.1 o p.small o.place addis addis1 a1 tt at addi addi1 l1 tt),
-  λ f o s addis addi p at addis1 addi1 a1 l1.
-      let first = addis_parts (word_of addis) p.first_is in
-      pair_entry f o s addis addi (word_of addis1) (word_of addi1) p
-      (same_parts first.opcode_is refl first.ra_is (d_after _ _ addis addis1 a1.written))
-      (d_after _ _ addi addi1 l1.written)
-      (entries.2 o p.small o.place addis addis1 a1 tt at addi addi1 l1 tt),
 )
 
 -- ---- `addis rT,13`
@@ -248,41 +206,6 @@ near_argument_to_initial near f o s addi bl ld made p entry below holds is_ld is
     (step_ld f w r 2 s (same_parts ld_is.opcode_is ld_is.rt_is (ld_is.ra_is ∙ p.base) after.0) (after.1 ∙ low))
     (adds_thread f o bl made s number is_made (ap (loaded 8 s.memory) address ∙ holds))
 
-pub argument_to_initial : relocation_laws.EntryAddresses → laws.ArgumentToInitialExec
-argument_to_initial entries f o s addis addi bl ld made p entry below holds is_ld is_made at addis2 ld2 a2 d2 =
-    let x = rt_of (word_of addis) in
-    let r = rt_of (word_of addi) in
-    let e = with_entry entry o in
-    let first = addis_parts (word_of addis) p.first_is in
-    let both = and_parts (opcode_of (word_of addi) == 14) (not (ra_of (word_of addi) == 0)) p.second_is in
-    let some : x ≢ 0 = λ z. some_of (ra_of (word_of addi)) both.1 (p.base ∙ z) in
-    let word : word_of ld ≡ 0xe8000000 + registers_of (word_of addi) =
-    word_made (λ w. 0xe8000000 + registers_of w) addi ld (omega arith) is_ld in
-    let ld_is : HasParts 58 r (ra_of (word_of addi)) (word_of ld) =
-    record { opcode_is = omega arith; rt_is = omega arith; ra_is = omega arith } in
-    let low : field (word_of ld) 0 2 ≡ 0 = omega arith in
-    let after = ds_after _ _ ld ld2 d2.written in
-    let w1 = word_of addis2 in
-    let w2 = word_of ld2 in
-    let a = (ppc64_form D).machine w1 *ℤ pos (2 ^ 16) in
-    let b = (ppc64_form Ds).machine w2 in
-    let h = moved (s.registers 2) a in
-    let s1 = set x h s in
-    let number = loaded 8 s.memory (moved (base (ra_of (word_of addi)) s1) b) in
-    let address : moved (base (ra_of (word_of addi)) s1) b ≡ entry =
-    ap (λ k. moved (base k s1) b) p.base
-    ∙ ap (λ k. moved k b) (base_back x h s some)
-    ∙ ap (λ t. moved (moved t a) b) p.toc
-    ∙ sum_leads o.got_base entry a b
-    (subst (λ z. IsAddress ((pos o.got_base +ℤ a) +ℤ z) entry)
-    (reads_ds w2 (after.0.opcode_is ∙ ld_is.opcode_is))
-    (entries.0 e (entry_small entry o below p.small) o.place addis addis2 a2 tt at ld ld2 d2 tt)) in
-    leaves_two f w1 w2 s x h r number (laws.CallAddsThread f o made s)
-    (step_addis f w1 x 2 s (same_parts first.opcode_is refl first.ra_is (d_after _ _ addis addis2 a2.written)))
-    (step_ld f w2 r (ra_of (word_of addi)) s1
-    (same_parts ld_is.opcode_is ld_is.rt_is ld_is.ra_is after.0) (after.1 ∙ low))
-    (adds_thread f o bl made s number is_made (ap (loaded 8 s.memory) address ∙ holds))
-
 -- ---- local-dynamic to local-exec
 
 -- the immediate of `addis rT,13,0`
@@ -291,11 +214,17 @@ no_immediate r word small is =
     let none : word / 2 ^ 0 % 2 ^ 16 * 2 ^ 0 ≡ 0 = omega arith in
     ap (signed 16) (consecutive_bits_sum replaced 16 0 0 0 word refl ∙ none)
 
-adds_nothing : (t : ℕ) (m : ℤ) → m ≡ pos 0
-    → moved (moved t (m *ℤ pos (2 ^ 16))) ((ppc64_form D).machine 0x38631000) ≡ sum_64 t 0x1000
+pub nothing_added : (t : ℕ) (m : ℤ) → m ≡ pos 0 → moved t (m *ℤ pos (2 ^ 16)) ≡ sum_64 t 0
+nothing_added t m none =
+    ap (λ z. moved t (z *ℤ pos (2 ^ 16))) none ∙ wrapped_is (pos t +ℤ pos 0) 0 (t + 0) (omega (arith, ints))
+
+pub adds_4096 : (n : ℕ) → moved n ((ppc64_form D).machine 0x38631000) ≡ sum_64 n 0x1000
 unfolding place_sum
-adds_nothing t m none =
-    ap (λ z. moved (moved t (z *ℤ pos (2 ^ 16))) ((ppc64_form D).machine 0x38631000)) none ∙ module_base t
+adds_4096 n = wrapped_is (pos n +ℤ pos 0x1000) 0 (n + 0x1000) (omega (arith, ints))
+
+pub block_above : (t : ℕ) → moved (sum_64 t 0) ((ppc64_form D).machine 0x38631000) ≡ sum_64 t 0x1000
+block_above t =
+    adds_4096 (sum_64 t 0) ∙ (let same : sum_64 (sum_64 t 0) 0x1000 ≡ sum_64 t 0x1000 = omega arith in same)
 
 pub argument_to_module : laws.ArgumentToModule
 argument_to_module f s addi bl addis_13 made is_addis_13 is_made =
@@ -317,4 +246,6 @@ argument_to_module f s addi bl addis_13 made is_addis_13 is_made =
     (record { opcode_is = ap opcode_of last; rt_is = ap rt_of last; ra_is = ap ra_of last }))
     (ap (λ n. moved n ((ppc64_form D).machine w2)) three
     ∙ ap (λ w. moved h ((ppc64_form D).machine w)) last
-    ∙ adds_nothing (s.registers 13) ((ppc64_form D).machine w1) (no_immediate r w1 (omega arith) word)))
+    ∙ ap (λ n. moved n ((ppc64_form D).machine 0x38631000))
+    (nothing_added (s.registers 13) ((ppc64_form D).machine w1) (no_immediate r w1 (omega arith) word))
+    ∙ block_above (s.registers 13)))

@@ -1,5 +1,5 @@
 -- PowerPC64: instructions with a low half over the base of the high half, each in two runs.
-use Rattle.std.proofs.Common.{◌≡◌, ℕ, ◌+◌, ◌%◌, ◌^◌, ◌<◌, refl, sym, ◌∙◌, ap}
+use Rattle.std.proofs.Common.{◌≡◌, ℕ, ◌+◌, ◌%◌, ◌^◌, ◌<◌, refl, sym, true, ◌∙◌, ap}
 use Rattle.std.proofs.Common.{arith, List, ℤ, pos, ◌+ℤ◌, ◌*ℤ◌, Some}
 use Rattle.std.specs.Prelude.{◌==◌, not}
 use Rattle.std.proofs.lemmas.Bool.{and_parts, eqb-true}
@@ -21,16 +21,15 @@ use Rattle.linker_laws.specs.Ppc64RelocationLaws as relocation_laws
 use Rattle.linker_laws.specs.Schemes.{AreAddresses, symbol_address, IsAddress}
 use Rattle.linker_laws.specs.Machine.{moved}
 use Rattle.linker_laws.specs.Ppc64RewriteLaws.{word_of, IsRelocated, IsRewritten, at_place}
-use Rattle.linker_laws.specs.Ppc64RewriteLaws.{access_number, ds_access, is_d_over, is_ds_over_base}
+use Rattle.linker_laws.specs.Ppc64RewriteLaws.{access_number, ds_access, is_d_over, is_d_over_base, is_ds_over_base}
 use Rattle.linker_laws.specs.Ppc64RewriteLaws as laws
-use Rattle.linker_laws.specs.Ppc64Machine.{base, go_on, accessed, access_with}
+use Rattle.linker_laws.specs.Ppc64Machine.{State, Formats, base, go_on, accessed, access_with}
 use Rattle.linker_laws.proofs.AArch64Pairs.{word_made}
 use Rattle.linker_laws.proofs.Ppc64Accesses.{step_access}
 use Rattle.linker_laws.proofs.Ppc64Addresses.{same_parts, some_of}
-use Rattle.linker_laws.proofs.Ppc64Apart.{steps_so, agree_but, agree_on, accessed_agree, accessed_link, base_some}
-use Rattle.linker_laws.proofs.Ppc64Apart.{Keeps, IsBase}
-use Rattle.linker_laws.proofs.Ppc64Direct.{d_access_parts}
-use Rattle.linker_laws.proofs.Ppc64WholeWords.{ds_parts, step_word}
+use Rattle.linker_laws.proofs.Ppc64Apart.{Does, IsBase, IsUse, Keeps, accesses, base_some, does_so, sums}
+use Rattle.linker_laws.proofs.Ppc64Accesses.{d_access_parts}
+use Rattle.linker_laws.proofs.Ppc64Accesses.{ds_parts, step_word}
 use Rattle.linker_laws.proofs.Ppc64Words.{HasParts, d_after, ds_after, set, step_addi, wrapped_is}
 use Rattle.linker_laws.proofs.RiscVMachine.{address_is}
 use Rattle.linker_laws.proofs.Sums.{lift, sum_below}
@@ -71,94 +70,111 @@ KeepsLow name =
     (o : Operands) (before after : List ℕ) → IsRelocated name o before after
     → field (word_of after) 0 2 ≡ field (word_of before) 0 2
 
+-- The steps of instructions by a low half over any register, and of those over r.
+pub record OverSteps (r : ℕ) (kind : RewriteKind) (low whole : Ppc64Relocation) (form : Ppc64Instruction)
+    (address : Operands → ℕ → ℕ) (how : laws.Use) : Type 0 where
+  pub is_use : IsUse how
+  pub old : (f : Formats) (o : Operands) (s : State) (insn insn_of : List ℕ) (target at : ℕ)
+      → how.test (word_of insn) ≡ true → laws.Leads low form o (s.registers (ra_of (word_of insn))) target
+      → IsRelocated low (at_place at o) insn insn_of
+      → Does f (how.does f (word_of insn) target) (word_of insn_of) s
+  pub new : (f : Formats) (o : Operands) (t : State) (insn over over_of : List ℕ) → AreAddresses o
+      → how.test (word_of insn) ≡ true → IsRewritten kind insn over → IsRelocated whole o over over_of
+      → Does f (how.does f (word_of insn) (address o (t.registers r))) (word_of over_of) t
+
+over_base_law : (r : ℕ) (kind : RewriteKind) (low whole : Ppc64Relocation) (form : Ppc64Instruction)
+    (address : Operands → ℕ → ℕ) (how : laws.Use) → OverSteps r kind low whole form address how
+    → laws.OverBase r kind low whole form address how
+over_base_law r kind low whole form address how steps f o s t c insn over small alike is made leads requires at
+    insn_of over_of l d =
+    does_so f how c (word_of insn_of) (word_of over_of) (word_of insn) (address o (t.registers r)) s t steps.is_use alike
+    requires (steps.old f o s insn insn_of (address o (t.registers r)) at is leads l)
+    (steps.new f o t insn over over_of small is made d)
+
 addi_over : (r : ℕ) (kind : RewriteKind) (low whole : Ppc64Relocation) (address : Operands → ℕ → ℕ)
-    → IsOver r kind low whole D address → laws.OverBase r kind low whole D address (laws.adds is_addi)
-addi_over r kind low whole address e f o s t c insn over small alike is made leads any at insn_of over_of l d =
-    let x = word_of insn in
-    let z = rt_of x in
-    let both = and_parts (opcode_of x == 14) (not (ra_of x == 0)) is in
-    let op = eqb-true (opcode_of x) 14 both.0 in
-    let w = word_of insn_of in
-    let y = word_of over_of in
-    let parts = over_base_parts r x (word_of over) e.small (e.made insn over made) in
-    let old : moved (base (ra_of x) s) ((ppc64_form D).machine w) ≡ address o (t.registers r) =
-    ap (λ n. moved n ((ppc64_form D).machine w)) (base_some (ra_of x) s (some_of (ra_of x) both.1))
-    ∙ leads at insn insn_of l in
-    let new : moved (base r t) ((ppc64_form D).machine y) ≡ address o (t.registers r) =
-    ap (λ n. moved n ((ppc64_form D).machine y)) (e.is_base t)
-    ∙ e.leads o small (t.registers r) over over_of d in
-    steps_so f w y s t (set z (moved (base (ra_of x) s) ((ppc64_form D).machine w)) s)
-    (set z (moved (base r t) ((ppc64_form D).machine y)) t) _
-    (step_addi f w z (ra_of x) s (same_parts op refl refl (e.low_keeps (at_place at o) insn insn_of l)))
-    (step_addi f y z r t
-    (same_parts (parts.opcode_is ∙ op) parts.rt_is parts.ra_is (e.whole_keeps o over over_of d)))
-    refl refl (agree_but z _ _ c s t (old ∙ sym new) alike)
+    → IsOver r kind low whole D address → OverSteps r kind low whole D address (laws.adds is_addi)
+addi_over r kind low whole address e =
+    record {
+      is_use = sums is_addi;
+      old = λ f o s insn insn_of target at is leads l.
+          let x = word_of insn in
+          let w = word_of insn_of in
+          let both = and_parts (opcode_of x == 14) (not (ra_of x == 0)) is in
+          step_addi f w (rt_of x) (ra_of x) s
+          (same_parts (eqb-true _ _ both.0) refl refl (e.low_keeps (at_place at o) insn insn_of l))
+          ∙ ap (λ n. Some (set (rt_of x) n s))
+          (ap (λ n. moved n ((ppc64_form D).machine w)) (base_some (ra_of x) s (some_of (ra_of x) both.1))
+          ∙ leads at insn insn_of l);
+      new = λ f o t insn over over_of small is made d.
+          let x = word_of insn in
+          let y = word_of over_of in
+          let both = and_parts (opcode_of x == 14) (not (ra_of x == 0)) is in
+          let parts = over_base_parts r x (word_of over) e.small (e.made insn over made) in
+          step_addi f y (rt_of x) r t
+          (same_parts (parts.opcode_is ∙ eqb-true _ _ both.0) parts.rt_is parts.ra_is (e.whole_keeps o over over_of d))
+          ∙ ap (λ n. Some (set (rt_of x) n t))
+          (ap (λ n. moved n ((ppc64_form D).machine y)) (e.is_base t) ∙ e.leads o small (t.registers r) over over_of d);
+    }
 
 access_over : (r : ℕ) (kind : RewriteKind) (low whole : Ppc64Relocation) (address : Operands → ℕ → ℕ)
-    → IsOver r kind low whole D address → laws.OverBase r kind low whole D address is_d_over
-access_over r kind low whole address e f o s t c insn over small alike is made leads reads at insn_of over_of l d =
-    let x = word_of insn in
-    let z = rt_of x in
-    let n = access_number x in
-    let acc = access_with n in
-    let p = d_access_parts x is in
-    let w = word_of insn_of in
-    let y = word_of over_of in
-    let A = address o (t.registers r) in
-    let parts = over_base_parts r x (word_of over) e.small (e.made insn over made) in
-    let before = e.low_keeps (at_place at o) insn insn_of l in
-    let after = e.whole_keeps o over over_of d in
-    let old : moved (base (ra_of x) s) ((ppc64_form D).machine w) ≡ A =
-    ap (λ n. moved n ((ppc64_form D).machine w)) (base_some (ra_of x) s p.over_some)
-    ∙ leads at insn insn_of l in
-    let new : moved (base r t) ((ppc64_form D).machine y) ≡ A =
-    ap (λ n. moved n ((ppc64_form D).machine y)) (e.is_base t)
-    ∙ e.leads o small (t.registers r) over over_of d in
-    steps_so f w y s t (go_on (accessed f acc z A s)) (go_on (accessed f acc z A t)) _
-    (step_access f w n z (ra_of x) s (before.opcode_is ∙ p.opcode_is) p.known before.rt_is before.ra_is
-    ∙ ap (λ k. Some (go_on (accessed f acc z k s))) old)
-    (step_access f y n z r t (after.opcode_is ∙ parts.opcode_is ∙ p.opcode_is) p.known
-    (after.rt_is ∙ parts.rt_is) (after.ra_is ∙ parts.ra_is)
-    ∙ ap (λ k. Some (go_on (accessed f acc z k t))) new)
-    (accessed_link f acc z A s) (accessed_link f acc z A t)
-    (agree_on _ _ _ (accessed_agree f c acc z A s t alike reads))
+    → IsOver r kind low whole D address → OverSteps r kind low whole D address is_d_over
+access_over r kind low whole address e =
+    record {
+      is_use = accesses is_d_over_base (λ word. access_with (access_number word));
+      old = λ f o s insn insn_of target at is leads l.
+          let x = word_of insn in
+          let w = word_of insn_of in
+          let p = d_access_parts x is in
+          let before = e.low_keeps (at_place at o) insn insn_of l in
+          step_access f w (access_number x) (rt_of x) (ra_of x) s (before.opcode_is ∙ p.opcode_is) p.known before.rt_is
+          before.ra_is
+          ∙ ap (λ k. Some (go_on (accessed f (access_with (access_number x)) (rt_of x) k s)))
+          (ap (λ n. moved n ((ppc64_form D).machine w)) (base_some (ra_of x) s p.over_some) ∙ leads at insn insn_of l);
+      new = λ f o t insn over over_of small is made d.
+          let x = word_of insn in
+          let y = word_of over_of in
+          let p = d_access_parts x is in
+          let parts = over_base_parts r x (word_of over) e.small (e.made insn over made) in
+          let after = e.whole_keeps o over over_of d in
+          step_access f y (access_number x) (rt_of x) r t (after.opcode_is ∙ parts.opcode_is ∙ p.opcode_is) p.known
+          (after.rt_is ∙ parts.rt_is) (after.ra_is ∙ parts.ra_is)
+          ∙ ap (λ k. Some (go_on (accessed f (access_with (access_number x)) (rt_of x) k t)))
+          (ap (λ n. moved n ((ppc64_form D).machine y)) (e.is_base t) ∙ e.leads o small (t.registers r) over over_of d);
+    }
 
 word_access_over : (r : ℕ) (kind : RewriteKind) (low whole : Ppc64Relocation) (address : Operands → ℕ → ℕ)
     → IsOver r kind low whole Ds address → KeepsLow low → KeepsLow whole
-    → laws.OverBase r kind low whole Ds address (laws.accesses is_ds_over_base ds_access)
-word_access_over r kind low whole address e low_bits whole_bits f o s t c insn over small alike is made leads reads
-    at insn_of over_of l d =
-    let x = word_of insn in
-    let z = rt_of x in
-    let acc = ds_access x in
-    let both = and_parts (is_ds_access x) (not (ra_of x == 0)) is in
-    let p = ds_parts x both.0 in
-    let w = word_of insn_of in
-    let y = word_of over_of in
-    let A = address o (t.registers r) in
-    let word = e.made insn over made in
-    let parts = over_base_parts r x (word_of over) e.small word in
-    let before = e.low_keeps (at_place at o) insn insn_of l in
-    let after = e.whole_keeps o over over_of d in
-    let op = after.opcode_is ∙ parts.opcode_is in
-    let old : moved (base (ra_of x) s) ((ppc64_form Ds).machine w) ≡ A =
-    ap (λ n. moved n ((ppc64_form Ds).machine w)) (base_some (ra_of x) s (some_of (ra_of x) both.1))
-    ∙ ap (moved (s.registers (ra_of x))) (sym (p.reads w before.opcode_is))
-    ∙ leads at insn insn_of l in
-    let new : moved (base r t) ((ppc64_form Ds).machine y) ≡ A =
-    ap (λ n. moved n ((ppc64_form Ds).machine y)) (e.is_base t)
-    ∙ ap (moved (t.registers r)) (sym (p.reads y op))
-    ∙ e.leads o small (t.registers r) over over_of d in
-    steps_so f w y s t (go_on (accessed f acc z A s)) (go_on (accessed f acc z A t)) _
-    (step_word f w z (ra_of x) acc s
-    (p.decodes w before.opcode_is (low_bits (at_place at o) insn insn_of l)) before.rt_is before.ra_is
-    ∙ ap (λ k. Some (go_on (accessed f acc z k s))) old)
-    (step_word f y z r acc t
-    (p.decodes y op (whole_bits o over over_of d ∙ over_base_low r x (word_of over) word))
-    (after.rt_is ∙ parts.rt_is) (after.ra_is ∙ parts.ra_is)
-    ∙ ap (λ k. Some (go_on (accessed f acc z k t))) new)
-    (accessed_link f acc z A s) (accessed_link f acc z A t)
-    (agree_on _ _ _ (accessed_agree f c acc z A s t alike reads))
+    → OverSteps r kind low whole Ds address (laws.accesses is_ds_over_base ds_access)
+word_access_over r kind low whole address e low_bits whole_bits =
+    record {
+      is_use = accesses is_ds_over_base ds_access;
+      old = λ f o s insn insn_of target at is leads l.
+          let x = word_of insn in
+          let w = word_of insn_of in
+          let both = and_parts (is_ds_access x) (not (ra_of x == 0)) is in
+          let p = ds_parts x both.0 in
+          let before = e.low_keeps (at_place at o) insn insn_of l in
+          step_word f w (rt_of x) (ra_of x) (ds_access x) s
+          (p.decodes w before.opcode_is (low_bits (at_place at o) insn insn_of l)) before.rt_is before.ra_is
+          ∙ ap (λ k. Some (go_on (accessed f (ds_access x) (rt_of x) k s)))
+          (ap (λ n. moved n ((ppc64_form Ds).machine w)) (base_some (ra_of x) s (some_of (ra_of x) both.1))
+          ∙ ap (moved (s.registers (ra_of x))) (sym (p.reads w before.opcode_is)) ∙ leads at insn insn_of l);
+      new = λ f o t insn over over_of small is made d.
+          let x = word_of insn in
+          let y = word_of over_of in
+          let both = and_parts (is_ds_access x) (not (ra_of x == 0)) is in
+          let p = ds_parts x both.0 in
+          let word = e.made insn over made in
+          let parts = over_base_parts r x (word_of over) e.small word in
+          let after = e.whole_keeps o over over_of d in
+          let op = after.opcode_is ∙ parts.opcode_is in
+          step_word f y (rt_of x) r (ds_access x) t
+          (p.decodes y op (whole_bits o over over_of d ∙ over_base_low r x (word_of over) word))
+          (after.rt_is ∙ parts.rt_is) (after.ra_is ∙ parts.ra_is)
+          ∙ ap (λ k. Some (go_on (accessed f (ds_access x) (rt_of x) k t)))
+          (ap (λ n. moved n ((ppc64_form Ds).machine y)) (e.is_base t)
+          ∙ ap (moved (t.registers r)) (sym (p.reads y op)) ∙ e.leads o small (t.registers r) over over_of d);
+    }
 
 vector_over : (r : ℕ) (kind : RewriteKind) (low whole : Ppc64Relocation) (address : Operands → ℕ → ℕ)
     → IsOver r kind low whole Ds address → laws.VectorOverBase r kind low whole address
@@ -243,16 +259,43 @@ thread_ds near =
           (near.7 o small o.place over after a tt);
     }
 
+-- their steps
+pub record Steps : Type 0 where
+  pub toc_sums : OverSteps 2 kinds.BaseToToc names.R_PPC64_TOC16_LO names.R_PPC64_TOC16 D laws.from_toc (laws.adds is_addi)
+  pub toc_accesses : OverSteps 2 kinds.BaseToToc names.R_PPC64_TOC16_LO names.R_PPC64_TOC16 D laws.from_toc is_d_over
+  pub toc_words :
+      OverSteps 2 kinds.BaseToToc names.R_PPC64_TOC16_LO_DS names.R_PPC64_TOC16_DS Ds laws.from_toc
+      (laws.accesses is_ds_over_base ds_access)
+  pub thread_sums :
+      OverSteps 13 kinds.BaseToThread names.R_PPC64_TPREL16_LO names.R_PPC64_TPREL16 D laws.from_thread (laws.adds is_addi)
+  pub thread_accesses :
+      OverSteps 13 kinds.BaseToThread names.R_PPC64_TPREL16_LO names.R_PPC64_TPREL16 D laws.from_thread is_d_over
+  pub thread_words :
+      OverSteps 13 kinds.BaseToThread names.R_PPC64_TPREL16_LO_DS names.R_PPC64_TPREL16_DS Ds laws.from_thread
+      (laws.accesses is_ds_over_base ds_access)
+
+pub steps : relocation_laws.Displacements → Steps
+steps near =
+    record {
+      toc_sums = addi_over 2 _ _ _ _ (toc_d near);
+      toc_accesses = access_over 2 _ _ _ _ (toc_d near);
+      toc_words = word_access_over 2 _ _ _ _ (toc_ds near) (λ o x y a. (ds_after _ _ x y a.written).1)
+          (λ o x y a. (ds_after _ _ x y a.written).1);
+      thread_sums = addi_over 13 _ _ _ _ (thread_d near);
+      thread_accesses = access_over 13 _ _ _ _ (thread_d near);
+      thread_words = word_access_over 13 _ _ _ _ (thread_ds near) (λ o x y a. (ds_after _ _ x y a.written).1)
+          (λ o x y a. (ds_after _ _ x y a.written).1);
+    }
+
 pub low_half_over_base : relocation_laws.Displacements → laws.LowHalfOverBase
-low_half_over_base near = (
-  addi_over 2 _ _ _ _ (toc_d near),
-  access_over 2 _ _ _ _ (toc_d near),
-  word_access_over 2 _ _ _ _ (toc_ds near) (λ o x y a. (ds_after _ _ x y a.written).1)
-      (λ o x y a. (ds_after _ _ x y a.written).1),
-  vector_over 2 _ _ _ _ (toc_ds near),
-  addi_over 13 _ _ _ _ (thread_d near),
-  access_over 13 _ _ _ _ (thread_d near),
-  word_access_over 13 _ _ _ _ (thread_ds near) (λ o x y a. (ds_after _ _ x y a.written).1)
-      (λ o x y a. (ds_after _ _ x y a.written).1),
-  vector_over 13 _ _ _ _ (thread_ds near),
-)
+low_half_over_base near =
+    let s = steps near in (
+      over_base_law 2 _ _ _ _ _ _ s.toc_sums,
+      over_base_law 2 _ _ _ _ _ _ s.toc_accesses,
+      over_base_law 2 _ _ _ _ _ _ s.toc_words,
+      vector_over 2 _ _ _ _ (toc_ds near),
+      over_base_law 13 _ _ _ _ _ _ s.thread_sums,
+      over_base_law 13 _ _ _ _ _ _ s.thread_accesses,
+      over_base_law 13 _ _ _ _ _ _ s.thread_words,
+      vector_over 13 _ _ _ _ (thread_ds near),
+    )

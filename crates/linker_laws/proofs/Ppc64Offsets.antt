@@ -1,29 +1,31 @@
 -- PowerPC64: instructions of initial-exec, each in two runs.
-use Rattle.std.proofs.Common.{◌≡◌, ◌+◌, ◌^◌, refl, sym, ◌∙◌, ap, arith}
-use Rattle.std.proofs.Common.{pos, ◌*ℤ◌, Some}
+use Rattle.std.proofs.Common.{◌≡◌, ℕ, ◌+◌, ◌^◌, refl, sym, ◌∙◌, ap, arith}
+use Rattle.std.proofs.Common.{List, pos, ◌*ℤ◌, Some, true}
 use Rattle.std.specs.Prelude.{◌==◌}
 use Rattle.linker_elf.specs.Ppc64.{ppc64_form}
 use Rattle.linker_elf.specs.Value.{sum_64}
+use Rattle.linker_elf.specs.declared.elf.value.Operands.{Operands}
 use Rattle.linker_elf.specs.declared.ppc64.forms.Ppc64Instruction.TheVariants.{D, Ds}
 use Rattle.linker_utils.specs.Ppc64Rewrites.{opcode_of, rt_of, ra_of, access_of, registers_of}
 use Rattle.linker_utils.specs.Ppc64Rewrites.{addis_of_thread, by_displacement, by_word_displacement}
 use Rattle.linker_utils.specs.Ppc64Rewrites.{is_add_of_thread, is_indexed, is_indexed_word}
+use Rattle.linker_utils.specs.declared.ppc64.rewrites.RewriteKind.{RewriteKind}
 use Rattle.linker_utils.specs.declared.ppc64.rewrites.RewriteKind.TheVariants as kinds
+use Rattle.linker_elf.specs.declared.ppc64.relocations.Ppc64Relocation.{Ppc64Relocation}
 use Rattle.linker_elf.specs.declared.ppc64.relocations.Ppc64Relocation.TheVariants as names
 use Rattle.linker_laws.specs.Ppc64RelocationLaws as relocation_laws
 use Rattle.linker_laws.specs.Machine.{moved, loaded}
-use Rattle.linker_laws.specs.Ppc64RewriteLaws.{word_of, from_thread, thread_offset}
+use Rattle.linker_laws.specs.Ppc64RewriteLaws.{IsRelocated, IsRewritten, word_of, from_thread, thread_offset}
 use Rattle.linker_laws.specs.Ppc64RewriteLaws as laws
-use Rattle.linker_laws.specs.Ppc64Machine.{base, go_on, accessed, access_with, word_access_with}
+use Rattle.linker_laws.specs.Ppc64Machine.{State, Formats, base, go_on, accessed, access_with, word_access_with}
 use Rattle.linker_laws.proofs.AArch64Pairs.{word_made}
 use Rattle.linker_laws.proofs.Ppc64Accesses.{step_access, step_indexed}
 use Rattle.linker_laws.proofs.Ppc64Addresses.{same_parts, ld_parts, add_parts, reads_ds}
-use Rattle.linker_laws.proofs.Ppc64Apart.{steps_so, agree_also, agree_but, agree_on, accessed_agree, accessed_link}
-use Rattle.linker_laws.proofs.Ppc64Apart.{base_some, written_is}
+use Rattle.linker_laws.proofs.Ppc64Apart.{Does, IsUse, accesses, agree_also, base_some, does_so, steps_so, sums, written_is}
 use Rattle.linker_laws.proofs.Ppc64Copies.{addis_13_parts, thread_halves}
-use Rattle.linker_laws.proofs.Ppc64Direct.{indexed_parts}
-use Rattle.linker_laws.proofs.Ppc64IndexedWords.{indexed_word_parts, is_direct, step_indexed_word, below}
-use Rattle.linker_laws.proofs.Ppc64WholeWords.{step_word}
+use Rattle.linker_laws.proofs.Ppc64Accesses.{indexed_parts}
+use Rattle.linker_laws.proofs.Ppc64Accesses.{indexed_word_parts, is_direct, step_indexed_word, below}
+use Rattle.linker_laws.proofs.Ppc64Accesses.{step_word}
 use Rattle.linker_laws.proofs.Ppc64Words.{HasParts, d_after, ds_after, set, step_addis, step_addi, step_ld, step_add}
 
 pub offset_to_high_half : relocation_laws.ThreadAddresses → laws.OffsetToHighHalf
@@ -56,83 +58,127 @@ offset_to_high_half thread f o s t c ld addis_13 small alike is made entry leads
       },
     )
 
-adds_offset : laws.OverOffset kinds.AddToAddi names.R_PPC64_TPREL16_LO (laws.adds is_add_of_thread)
-adds_offset f o s t c insn direct small alike is made has any at direct1 d1 =
-    let x = word_of insn in
-    let z = rt_of x in
-    let p = add_parts x is in
-    let word : word_of direct ≡ 0x38000000 + registers_of x =
-    word_made (λ w. 0x38000000 + registers_of w) insn direct (omega arith) made in
-    let parts : HasParts 14 z (ra_of x) (word_of direct) =
-    record { opcode_is = omega arith; rt_is = omega arith; ra_is = omega arith } in
-    let y = word_of direct1 in
-    let old : sum_64 (s.registers (ra_of x)) (s.registers 13) ≡ from_thread o (s.registers 13) =
-    ap (λ n. sum_64 n (s.registers 13)) has.offset_is in
-    let new : moved (base (ra_of x) t) ((ppc64_form D).machine y) ≡ from_thread o (s.registers 13) =
-    ap (λ n. moved n ((ppc64_form D).machine y)) (base_some (ra_of x) t p.over_some)
-    ∙ has.leads.0 at direct direct1 d1 in
-    steps_so f x y s t (set z (sum_64 (s.registers (ra_of x)) (s.registers 13)) s)
-    (set z (moved (base (ra_of x) t) ((ppc64_form D).machine y)) t) _
-    (step_add f x z (ra_of x) 13 s (record { opcode_is = p.opcode_is; rt_is = refl; ra_is = refl }) p.rb_is p.low)
-    (step_addi f y z (ra_of x) t
-    (same_parts parts.opcode_is parts.rt_is parts.ra_is (d_after _ _ direct direct1 d1.written)))
-    refl refl (agree_but z _ _ c s t (old ∙ sym new) alike)
+-- The steps of instructions by the sum of an offset and the thread pointer.
+pub record SumSteps (how : laws.Use) : Type 0 where
+  pub is_use : IsUse how
+  pub old : (f : Formats) (s : State) (insn : List ℕ) (offset : ℕ) → how.test (word_of insn) ≡ true
+      → s.registers (ra_of (word_of insn)) ≡ offset
+      → Does f (how.does f (word_of insn) (sum_64 offset (s.registers 13))) (word_of insn) s
 
-accesses_offset : laws.OverOffset kinds.IndexedToD names.R_PPC64_TPREL16_LO
+pub record OffsetSteps (kind : RewriteKind) (low : Ppc64Relocation) (how : laws.Use) : Type 0 where
+  pub sum : SumSteps how
+  pub new : (f : Formats) (o : Operands) (t : State) (insn direct direct_of : List ℕ) (target at : ℕ)
+      → how.test (word_of insn) ≡ true → IsRewritten kind insn direct
+      → laws.LowHalfLeads o (t.registers (ra_of (word_of insn))) target
+      → IsRelocated low (laws.at_place at o) direct direct_of
+      → Does f (how.does f (word_of insn) target) (word_of direct_of) t
+
+over_offset : (kind : RewriteKind) (low : Ppc64Relocation) (how : laws.Use) → OffsetSteps kind low how
+    → laws.OverOffset kind low how
+over_offset kind low how steps f o s t c insn direct small alike is made has requires at direct_of d =
+    does_so f how c (word_of insn) (word_of direct_of) (word_of insn) (from_thread o (s.registers 13)) s t
+    steps.sum.is_use alike requires (steps.sum.old f s insn (thread_offset o) is has.offset_is)
+    (steps.new f o t insn direct direct_of (from_thread o (s.registers 13)) at is made has.leads d)
+
+pub adds_sum : SumSteps (laws.adds is_add_of_thread)
+adds_sum =
+    record {
+      is_use = sums is_add_of_thread;
+      old = λ f s insn offset is has.
+          let x = word_of insn in
+          let p = add_parts x is in
+          step_add f x (rt_of x) (ra_of x) 13 s
+          (record { opcode_is = p.opcode_is; rt_is = refl; ra_is = refl }) p.rb_is p.low
+          ∙ ap (λ n. Some (set (rt_of x) (sum_64 n (s.registers 13)) s)) has;
+    }
+
+pub accesses_sum : SumSteps (laws.accesses is_indexed (λ word. access_with (access_of word)))
+accesses_sum =
+    record {
+      is_use = accesses is_indexed (λ word. access_with (access_of word));
+      old = λ f s insn offset is has.
+          let x = word_of insn in
+          let p = indexed_parts x is in
+          step_indexed f x 13 s p.opcode_is p.low p.known p.rb_is
+          ∙ ap (λ k. Some (go_on (accessed f (access_with (access_of x)) (rt_of x) (sum_64 k (s.registers 13)) s)))
+          (base_some (ra_of x) s p.over_some ∙ has);
+    }
+
+pub words_sum : SumSteps (laws.accesses is_indexed_word (λ word. word_access_with (access_of word)))
+words_sum =
+    record {
+      is_use = accesses is_indexed_word (λ word. word_access_with (access_of word));
+      old = λ f s insn offset is has.
+          let x = word_of insn in
+          let p = indexed_word_parts x is in
+          step_indexed_word f x 13 s p.opcode_is p.low p.known p.rb_is
+          ∙ ap (λ k. Some (go_on (accessed f (word_access_with (access_of x)) (rt_of x) (sum_64 k (s.registers 13)) s)))
+          (base_some (ra_of x) s p.over_some ∙ has);
+    }
+
+pub adds_offset : OffsetSteps kinds.AddToAddi names.R_PPC64_TPREL16_LO (laws.adds is_add_of_thread)
+adds_offset =
+    record {
+      sum = adds_sum;
+      new = λ f o t insn direct direct_of target at is made leads d.
+          let x = word_of insn in
+          let z = rt_of x in
+          let p = add_parts x is in
+          let y = word_of direct_of in
+          let word : word_of direct ≡ 0x38000000 + registers_of x =
+          word_made (λ w. 0x38000000 + registers_of w) insn direct (omega arith) made in
+          let parts : HasParts 14 z (ra_of x) (word_of direct) =
+          record { opcode_is = omega arith; rt_is = omega arith; ra_is = omega arith } in
+          step_addi f y z (ra_of x) t
+          (same_parts parts.opcode_is parts.rt_is parts.ra_is (d_after _ _ direct direct_of d.written))
+          ∙ ap (λ n. Some (set z n t))
+          (ap (λ n. moved n ((ppc64_form D).machine y)) (base_some (ra_of x) t p.over_some) ∙ leads.0 at direct direct_of d);
+    }
+
+pub accesses_offset : OffsetSteps kinds.IndexedToD names.R_PPC64_TPREL16_LO
     (laws.accesses is_indexed (λ word. access_with (access_of word)))
-accesses_offset f o s t c insn direct small alike is made has reads at direct1 d1 =
-    let x = word_of insn in
-    let z = rt_of x in
-    let n = access_of x in
-    let acc = access_with n in
-    let A = from_thread o (s.registers 13) in
-    let p = indexed_parts x is in
-    let word : word_of direct ≡ by_displacement x =
-    word_made by_displacement insn direct (omega arith) made in
-    let op : opcode_of (word_of direct) ≡ 32 + n = omega arith in
-    let rt : rt_of (word_of direct) ≡ z = omega arith in
-    let ra : ra_of (word_of direct) ≡ ra_of x = omega arith in
-    let after = d_after _ _ direct direct1 d1.written in
-    let y = word_of direct1 in
-    let new : moved (base (ra_of x) t) ((ppc64_form D).machine y) ≡ A =
-    ap (λ n. moved n ((ppc64_form D).machine y)) (base_some (ra_of x) t p.over_some)
-    ∙ has.leads.0 at direct direct1 d1 in
-    steps_so f x y s t (go_on (accessed f acc z A s)) (go_on (accessed f acc z A t)) _
-    (step_indexed f x 13 s p.opcode_is p.low p.known p.rb_is
-    ∙ ap (λ k. Some (go_on (accessed f acc z (sum_64 k (s.registers 13)) s)))
-    (base_some (ra_of x) s p.over_some ∙ has.offset_is))
-    (step_access f y n z (ra_of x) t (after.opcode_is ∙ op) p.known (after.rt_is ∙ rt) (after.ra_is ∙ ra)
-    ∙ ap (λ k. Some (go_on (accessed f acc z k t))) new)
-    (accessed_link f acc z A s) (accessed_link f acc z A t)
-    (agree_on _ _ _ (accessed_agree f c acc z A s t alike reads))
+accesses_offset =
+    record {
+      sum = accesses_sum;
+      new = λ f o t insn direct direct_of target at is made leads d.
+          let x = word_of insn in
+          let z = rt_of x in
+          let n = access_of x in
+          let p = indexed_parts x is in
+          let word : word_of direct ≡ by_displacement x =
+          word_made by_displacement insn direct (omega arith) made in
+          let op : opcode_of (word_of direct) ≡ 32 + n = omega arith in
+          let rt : rt_of (word_of direct) ≡ z = omega arith in
+          let ra : ra_of (word_of direct) ≡ ra_of x = omega arith in
+          let after = d_after _ _ direct direct_of d.written in
+          let y = word_of direct_of in
+          step_access f y n z (ra_of x) t (after.opcode_is ∙ op) p.known (after.rt_is ∙ rt) (after.ra_is ∙ ra)
+          ∙ ap (λ k. Some (go_on (accessed f (access_with n) z k t)))
+          (ap (λ n. moved n ((ppc64_form D).machine y)) (base_some (ra_of x) t p.over_some) ∙ leads.0 at direct direct_of d);
+    }
 
-word_accesses_offset : laws.OverOffset kinds.IndexedToDs names.R_PPC64_TPREL16_LO_DS
+pub words_offset : OffsetSteps kinds.IndexedToDs names.R_PPC64_TPREL16_LO_DS
     (laws.accesses is_indexed_word (λ word. word_access_with (access_of word)))
-word_accesses_offset f o s t c insn direct small alike is made has reads at direct1 d1 =
-    let x = word_of insn in
-    let z = rt_of x in
-    let n = access_of x in
-    let acc = word_access_with n in
-    let A = from_thread o (s.registers 13) in
-    let p = indexed_word_parts x is in
-    let word : word_of direct ≡ by_word_displacement x =
-    word_made by_word_displacement insn direct (below x (n == 4) (n == 10)) made in
-    let turned = is_direct x (word_of direct) p.known word in
-    let after = ds_after _ _ direct direct1 d1.written in
-    let y = word_of direct1 in
-    let new : moved (base (ra_of x) t) ((ppc64_form Ds).machine y) ≡ A =
-    ap (λ n. moved n ((ppc64_form Ds).machine y)) (base_some (ra_of x) t p.over_some)
-    ∙ ap (moved (t.registers (ra_of x))) (sym (turned.reads y after.0.opcode_is))
-    ∙ has.leads.1 at direct direct1 d1 in
-    steps_so f x y s t (go_on (accessed f acc z A s)) (go_on (accessed f acc z A t)) _
-    (step_indexed_word f x 13 s p.opcode_is p.low p.known p.rb_is
-    ∙ ap (λ k. Some (go_on (accessed f acc z (sum_64 k (s.registers 13)) s)))
-    (base_some (ra_of x) s p.over_some ∙ has.offset_is))
-    (step_word f y z (ra_of x) acc t (turned.decodes y after.0.opcode_is after.1) (after.0.rt_is ∙ turned.rt_is)
-    (after.0.ra_is ∙ turned.ra_is)
-    ∙ ap (λ k. Some (go_on (accessed f acc z k t))) new)
-    (accessed_link f acc z A s) (accessed_link f acc z A t)
-    (agree_on _ _ _ (accessed_agree f c acc z A s t alike reads))
+words_offset =
+    record {
+      sum = words_sum;
+      new = λ f o t insn direct direct_of target at is made leads d.
+          let x = word_of insn in
+          let z = rt_of x in
+          let n = access_of x in
+          let p = indexed_word_parts x is in
+          let word : word_of direct ≡ by_word_displacement x =
+          word_made by_word_displacement insn direct (below x (n == 4) (n == 10)) made in
+          let turned = is_direct x (word_of direct) p.known word in
+          let after = ds_after _ _ direct direct_of d.written in
+          let y = word_of direct_of in
+          step_word f y z (ra_of x) (word_access_with n) t (turned.decodes y after.0.opcode_is after.1)
+          (after.0.rt_is ∙ turned.rt_is) (after.0.ra_is ∙ turned.ra_is)
+          ∙ ap (λ k. Some (go_on (accessed f (word_access_with n) z k t)))
+          (ap (λ n. moved n ((ppc64_form Ds).machine y)) (base_some (ra_of x) t p.over_some)
+          ∙ ap (moved (t.registers (ra_of x))) (sym (turned.reads y after.0.opcode_is)) ∙ leads.1 at direct direct_of d);
+    }
 
 pub offset_to_low_half : laws.OffsetToLowHalf
-offset_to_low_half = (adds_offset, accesses_offset, word_accesses_offset)
+offset_to_low_half =
+    (over_offset _ _ _ adds_offset, over_offset _ _ _ accesses_offset, over_offset _ _ _ words_offset)

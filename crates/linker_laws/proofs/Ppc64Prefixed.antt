@@ -7,13 +7,16 @@ use Rattle.linker_base.specs.Bits.{field}
 use Rattle.linker_base.specs.Form.{ImmediateBit, bits_to}
 use Rattle.linker_base.specs.declared.bit_misc.BitRange.{BitRange}
 use Rattle.linker_elf.specs.Ppc64.{ppc64_form}
-use Rattle.linker_utils.specs.Ppc64Rewrites.{opcode_of, rt_of, ra_of, li_of, two_words as both_words}
+use Rattle.linker_utils.specs.Ppc64Rewrites.{is_pld, opcode_of, rt_of, ra_of, li_of, two_words as both_words}
+use Rattle.linker_utils.specs.declared.ppc64.rewrites.RewriteKind.TheVariants as kinds
 use Rattle.linker_elf.specs.Relocate.{InstructionWritten}
 use Rattle.linker_elf.specs.Value.{sum_64}
 use Rattle.linker_elf.specs.declared.elf.RelocationInstruction.TheVariants.{Ppc64}
+use Rattle.linker_elf.specs.declared.elf.value.Operands.{Operands}
 use Rattle.linker_elf.specs.declared.ppc64.forms.Ppc64Instruction.TheVariants.{Prefixed}
+use Rattle.linker_elf.specs.declared.ppc64.relocations.Ppc64Relocation.TheVariants as names
 use Rattle.linker_laws.specs.Ppc64RelocationLaws as relocation_laws
-use Rattle.linker_laws.specs.Schemes.{symbol_address}
+use Rattle.linker_laws.specs.Schemes.{AreAddresses, symbol_address}
 use Rattle.linker_laws.specs.Machine.{moved, loaded}
 use Rattle.linker_laws.specs.Ppc64RewriteLaws.{word_of, prefixed_of}
 use Rattle.linker_laws.specs.Ppc64RewriteLaws as laws
@@ -98,37 +101,63 @@ step_paddi_over f both rt ra s h =
     ∙ ap (λ r. Some (set_8 r (moved (base (ra_of (both / 2 ^ 32)) s) m) s)) h.rt_is
     ∙ ap (λ a. Some (set_8 rt (moved (base a s) m) s)) h.ra_is
 
-pub pld_to_paddi : relocation_laws.Prefixes → laws.PldToPaddi
-pld_to_paddi prefixes f o s pld paddi small at low high is holds made pld1 paddi2 a1 a2 =
-    let w2 = word_of (drop 4 pld) in
-    let rt = rt_of w2 in
-    let first = and_parts (field (word_of pld) 18 32 == 0x104 && opcode_of w2 == 57) (ra_of w2 == 0) is in
-    let second = and_parts (field (word_of pld) 18 32 == 0x104) (opcode_of w2 == 57) first.0 in
-    let old = of_words (word_of pld) w2 (prefixed_of pld) 0x104 57 rt 0 (two_words pld) low high
-    (eqb-true _ _ second.0) (eqb-true _ _ second.1) refl (eqb-true _ _ first.1) in
-    let turned : li_of (rt_of (word_of (drop 4 pld))) < 2 ^ 32 = omega arith in
+pub pld_parts : (pld : List ℕ) → word_of pld < 2 ^ 32 → word_of (drop 4 pld) < 2 ^ 32
+    → is_pld (word_of pld) (word_of (drop 4 pld)) ≡ true
+    → HasPrefixedParts 0x104 57 (laws.prefixed_target pld) 0 (prefixed_of pld)
+pld_parts pld low high is =
+    let w = word_of (drop 4 pld) in
+    let first = and_parts (field (word_of pld) 18 32 == 0x104 && opcode_of w == 57) (ra_of w == 0) is in
+    let second = and_parts (field (word_of pld) 18 32 == 0x104) (opcode_of w == 57) first.0 in
+    of_words (word_of pld) w (prefixed_of pld) 0x104 57 (rt_of w) 0 (two_words pld) low high
+    (eqb-true _ _ second.0) (eqb-true _ _ second.1) refl (eqb-true _ _ first.1)
+
+-- `pld rT` of the GOT entry
+pub pld_sets : relocation_laws.Prefixes → (f : Formats) (o : Operands) (s : State) (pld pld_of : List ℕ) (number : ℕ)
+    → laws.IsPrefixed is_pld o s pld → laws.IsRelocated names.R_PPC64_GOT_PCREL34 o pld pld_of
+    → loaded 8 s.memory o.got_entry ≡ number
+    → step_prefixed f (prefixed_of pld_of) s ≡ Some (set_8 (laws.prefixed_target pld) number s)
+pld_sets prefixes f o s pld pld_of number p a holds =
+    let rt = laws.prefixed_target pld in
+    let x = prefixed_of pld_of in
+    let m = (ppc64_form Prefixed).machine x in
+    step_pld f x rt s
+    (prefixed_after _ _ pld pld_of 0x104 57 rt 0 a.written (pld_parts pld p.prefix_below p.word_below p.insn_is))
+    ∙ ap (λ v. Some (set_8 rt v s))
+    (ap (loaded 8 s.memory)
+    (ap (λ t. moved t m) p.at ∙ times_one o.place m ∙ address_is _ _ (prefixes.1 o p.small o.place pld pld_of a tt))
+    ∙ holds)
+
+pub paddi_parts : (pld paddi : List ℕ) → laws.IsRewritten kinds.PldToPaddi pld paddi
+    → HasPrefixedParts 0x184 14 (laws.prefixed_target pld) 0 (prefixed_of paddi)
+paddi_parts pld paddi made =
+    let rt = laws.prefixed_target pld in
+    let turned : li_of rt < 2 ^ 32 = omega arith in
     let made_words = made ∙ ap (λ w. both_words 0x06100000 (li_of (rt_of w))) (back pld) in
     let p1 = first_made paddi 0x06100000 (li_of rt) (omega arith) turned made_words in
     let p2 = second_made paddi 0x06100000 (li_of rt) (omega arith) turned made_words in
-    let new = of_words 0x06100000 (li_of rt) (prefixed_of paddi) 0x184 14 rt 0
+    of_words 0x06100000 (li_of rt) (prefixed_of paddi) 0x184 14 rt 0
     (two_words paddi ∙ ap (λ w. w + word_of (drop 4 paddi) * 2 ^ 32) p1 ∙ ap (λ w. 0x06100000 + w * 2 ^ 32) p2)
-    (omega arith) turned refl (omega arith) (omega arith) (omega arith) in
-    let x = prefixed_of pld1 in
+    (omega arith) turned refl (omega arith) (omega arith) (omega arith)
+
+-- `paddi rT` of the address
+pub paddi_sets : relocation_laws.Prefixes → (f : Formats) (o : Operands) (s : State) (pld paddi paddi_of : List ℕ)
+    → AreAddresses o → s.pc ≡ o.place → laws.IsRewritten kinds.PldToPaddi pld paddi
+    → laws.IsRelocated names.R_PPC64_PCREL34 o paddi paddi_of
+    → step_prefixed f (prefixed_of paddi_of) s ≡ Some (set_8 (laws.prefixed_target pld) (symbol_address o) s)
+paddi_sets prefixes f o s pld paddi paddi_of small at made a =
+    let rt = laws.prefixed_target pld in
+    let m = (ppc64_form Prefixed).machine (prefixed_of paddi_of) in
+    step_paddi f (prefixed_of paddi_of) rt s
+    (prefixed_after _ _ paddi paddi_of 0x184 14 rt 0 a.written (paddi_parts pld paddi made))
+    ∙ ap (λ v. Some (set_8 rt v s))
+    (ap (λ t. moved t m) at ∙ times_one o.place m ∙ address_is _ _ (prefixes.0 o small o.place paddi paddi_of a tt))
+
+pub pld_to_paddi : relocation_laws.Prefixes → laws.PldToPaddi
+pld_to_paddi prefixes f o s pld paddi small at low high is holds made pld1 paddi2 a1 a2 =
+    let left = pld_sets prefixes f o s pld pld1 (symbol_address o)
+    (record { small = small; at = at; prefix_below = low; word_below = high; insn_is = is }) a1 holds in
+    let right = paddi_sets prefixes f o s pld paddi paddi2 small at made a2 in
     let y = prefixed_of paddi2 in
-    let entry : moved s.pc ((ppc64_form Prefixed).machine x) ≡ o.got_entry =
-    ap (λ t. moved t ((ppc64_form Prefixed).machine x)) at ∙ times_one o.place ((ppc64_form Prefixed).machine x)
-    ∙ address_is _ _ (prefixes.1 o small o.place pld pld1 a1 tt) in
-    let symbol : moved s.pc ((ppc64_form Prefixed).machine y) ≡ symbol_address o =
-    ap (λ t. moved t ((ppc64_form Prefixed).machine y)) at ∙ times_one o.place ((ppc64_form Prefixed).machine y)
-    ∙ address_is _ _ (prefixes.0 o small o.place paddi paddi2 a2 tt) in
-    let t = set_8 rt (symbol_address o) s in
-    let left : step_prefixed f x s ≡ Some t =
-    step_pld f x rt s (prefixed_after _ _ pld pld1 0x104 57 rt 0 a1.written old)
-    ∙ ap (λ v. Some (set_8 rt (loaded 8 s.memory v) s)) entry
-    ∙ ap (λ v. Some (set_8 rt v s)) holds in
-    let right : step_prefixed f y s ≡ Some t =
-    step_paddi f y rt s (prefixed_after _ _ paddi paddi2 0x184 14 rt 0 a2.written new)
-    ∙ ap (λ v. Some (set_8 rt v s)) symbol in
     subst (λ r. IsSomeAnd r (λ t. IsSomeAnd (step_prefixed f y s) (λ u. AreAlikeBut (λ _. false) t u))) (sym left)
-    (subst (λ r. IsSomeAnd r (λ u. AreAlikeBut (λ _. false) t u)) (sym right)
+    (subst (λ r. IsSomeAnd r (λ u. AreAlikeBut (λ _. false) (set_8 (laws.prefixed_target pld) (symbol_address o) s) u)) (sym right)
     (record { registers = λ n any. refl; floats = refl; link = refl; pc = refl; memory = refl }))

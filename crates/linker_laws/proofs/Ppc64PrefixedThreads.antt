@@ -16,27 +16,29 @@ use Rattle.linker_elf.specs.declared.ppc64.forms.Ppc64Instruction.TheVariants.{D
 use Rattle.linker_elf.specs.declared.ppc64.relocations.Ppc64Relocation.TheVariants as names
 use Rattle.linker_utils.specs.Ppc64Rewrites.{opcode_of, rt_of, ra_of, rb_of, access_of, registers_of, nop}
 use Rattle.linker_utils.specs.Ppc64Rewrites.{addi_of_thread, by_displacement, by_word_displacement, direct, ld_of}
-use Rattle.linker_utils.specs.Ppc64Rewrites.{is_access, is_add_of_thread, is_indexed, is_indexed_any, is_indexed_word, is_pla, is_pld, is_word_access, move_of, to_move}
+use Rattle.linker_utils.specs.Ppc64Rewrites.{is_access, is_add_of_thread, is_indexed, is_indexed_any, is_indexed_word, is_pla, is_word_access, move_of, to_move}
 use Rattle.linker_utils.specs.Ppc64Rewrites.{two_words as both_words}
+use Rattle.linker_utils.specs.declared.ppc64.rewrites.RewriteKind.{RewriteKind}
 use Rattle.linker_utils.specs.declared.ppc64.rewrites.RewriteKind.TheVariants as kinds
 use Rattle.linker_laws.specs.Machine.{moved, loaded}
-use Rattle.linker_laws.specs.Ppc64Machine.{State, Formats, Access, accessed, access_with, base, by_opcode, execute, go_on, go_to, next_pc, step, step_prefixed, word_access_with}
+use Rattle.linker_laws.specs.Ppc64Machine.{State, Formats, Access, accessed, access_with, write, by_opcode, execute, go_on, go_to, next_pc, step, step_prefixed, word_access_with}
 use Rattle.linker_laws.specs.Ppc64RelocationLaws as relocation_laws
-use Rattle.linker_laws.specs.Ppc64RewriteLaws.{AgreeBut, Changes, IsRelocated, StepSo, after_access, ReadsSame, accesses, adds, both, from_thread, prefixed_of, thread_offset, with_entry, without_register, word_of}
+use Rattle.linker_laws.specs.Ppc64RewriteLaws.{AgreeBut, Changes, IsRelocated, accesses, adds, both, from_thread, prefixed_of, thread_offset, with_entry, without_register, word_of}
 use Rattle.linker_laws.specs.Ppc64RewriteLaws as laws
 use Rattle.linker_laws.specs.Schemes.{AreAddresses, symbol_address}
 use Rattle.linker_laws.proofs.AArch64Pairs.{word_made, word_is}
-use Rattle.linker_laws.proofs.Ppc64Accesses.{step_access, step_indexed}
-use Rattle.linker_laws.proofs.Ppc64Addresses.{add_parts}
-use Rattle.linker_laws.proofs.Ppc64Apart.{accessed_agree, accessed_link, agree_but, agree_on, base_some, steps_so}
+use Rattle.linker_laws.proofs.Ppc64Accesses.{step_access}
+use Rattle.linker_laws.proofs.Ppc64Apart.{Does, base_some, does_so}
+use Rattle.linker_laws.proofs.Ppc64Apart.{accesses as accesses_use}
 use Rattle.linker_laws.proofs.Ppc64Calls.{back, first_made, second_made}
-use Rattle.linker_laws.proofs.Ppc64Direct.{indexed_parts}
-use Rattle.linker_laws.proofs.Ppc64IndexedWords.{below, indexed_word_parts, is_direct, step_indexed_word}
+use Rattle.linker_laws.proofs.Ppc64Accesses.{indexed_parts}
+use Rattle.linker_laws.proofs.Ppc64Accesses.{below, indexed_word_parts, is_direct}
 use Rattle.linker_laws.proofs.Ppc64LowHalves.{whole_from}
-use Rattle.linker_laws.proofs.Ppc64Prefixed.{HasPrefixedParts, of_words, prefixed_after, set_8, step_paddi, step_paddi_over, step_pld}
-use Rattle.linker_laws.proofs.Ppc64Threads.{entry_small, step_bl}
-use Rattle.linker_laws.proofs.Ppc64WholeWords.{step_word}
-use Rattle.linker_laws.proofs.Ppc64Words.{set, step_add, step_nop, wrapped_is}
+use Rattle.linker_laws.proofs.Ppc64Offsets.{SumSteps, accesses_sum, adds_sum, words_sum}
+use Rattle.linker_laws.proofs.Ppc64Prefixed.{HasPrefixedParts, of_words, pld_parts, prefixed_after, set_8, step_paddi, step_paddi_over, step_pld}
+use Rattle.linker_laws.proofs.Ppc64Copies.{entry_small}
+use Rattle.linker_laws.proofs.Ppc64Accesses.{step_word}
+use Rattle.linker_laws.proofs.Ppc64Words.{set, step_add, step_bl, step_nop, wrapped_is}
 use Rattle.linker_laws.proofs.RiscVMachine.{address_is, times_one}
 use Rattle.linker_laws.proofs.Sums.{sum_below}
 use Rattle.linker_laws.proofs.Words.{two_words}
@@ -75,7 +77,7 @@ prefixed_so f x y s t r v w number other c first second is is_other alike =
 
 -- ---- their words
 
-pla_parts : (paddi : List ℕ) → word_of paddi < 2 ^ 32 → word_of (drop 4 paddi) < 2 ^ 32
+pub pla_parts : (paddi : List ℕ) → word_of paddi < 2 ^ 32 → word_of (drop 4 paddi) < 2 ^ 32
     → is_pla (word_of paddi) (word_of (drop 4 paddi)) ≡ true
     → HasPrefixedParts 0x184 14 (laws.prefixed_target paddi) 0 (prefixed_of paddi)
 pla_parts paddi low high is =
@@ -83,16 +85,6 @@ pla_parts paddi low high is =
     let first = and_parts (field (word_of paddi) 18 32 == 0x184 && opcode_of w == 14) (ra_of w == 0) is in
     let second = and_parts (field (word_of paddi) 18 32 == 0x184) (opcode_of w == 14) first.0 in
     of_words (word_of paddi) w (prefixed_of paddi) 0x184 14 (rt_of w) 0 (two_words paddi) low high
-    (eqb-true _ _ second.0) (eqb-true _ _ second.1) refl (eqb-true _ _ first.1)
-
-pld_parts : (pld : List ℕ) → word_of pld < 2 ^ 32 → word_of (drop 4 pld) < 2 ^ 32
-    → is_pld (word_of pld) (word_of (drop 4 pld)) ≡ true
-    → HasPrefixedParts 0x104 57 (laws.prefixed_target pld) 0 (prefixed_of pld)
-pld_parts pld low high is =
-    let w = word_of (drop 4 pld) in
-    let first = and_parts (field (word_of pld) 18 32 == 0x104 && opcode_of w == 57) (ra_of w == 0) is in
-    let second = and_parts (field (word_of pld) 18 32 == 0x104) (opcode_of w == 57) first.0 in
-    of_words (word_of pld) w (prefixed_of pld) 0x104 57 (rt_of w) 0 (two_words pld) low high
     (eqb-true _ _ second.0) (eqb-true _ _ second.1) refl (eqb-true _ _ first.1)
 
 -- what was made of a window
@@ -104,11 +96,11 @@ made_words after a b small below made =
     ∙ ap (λ w. a + w * 2 ^ 32) (second_made after a b small below made)
 
 -- `paddi rT,13,n`
-record IsOverThread (n : ℕ) (rt : ℕ) (over : List ℕ) : Type 0 where
-  number_is : prefixed_of over ≡ 0x06000000 + addi_of_thread n rt * 2 ^ 32
-  parts : HasPrefixedParts 0x180 14 rt 13 (prefixed_of over)
+pub record IsOverThread (n : ℕ) (rt : ℕ) (over : List ℕ) : Type 0 where
+  pub number_is : prefixed_of over ≡ 0x06000000 + addi_of_thread n rt * 2 ^ 32
+  pub parts : HasPrefixedParts 0x180 14 rt 13 (prefixed_of over)
 
-over_thread : (n : ℕ) (before over : List ℕ) → n < 2 ^ 16
+pub over_thread : (n : ℕ) (before over : List ℕ) → n < 2 ^ 16
     → take 8 over ≡ both_words 0x06000000 (addi_of_thread n (rt_of (word_of (drop 4 (take 8 before)))))
     → IsOverThread n (laws.prefixed_target before) over
 over_thread n before over small made =
@@ -123,7 +115,7 @@ over_thread n before over small made =
           (omega (arith, small, register)) (omega (arith, small, register)) (omega (arith, small, register));
     }
 
-loads_thread : (before pld : List ℕ)
+pub loads_thread : (before pld : List ℕ)
     → take 8 pld ≡ both_words 0x04100000 (ld_of (rt_of (word_of (drop 4 (take 8 before)))))
     → HasPrefixedParts 0x104 57 (laws.prefixed_target before) 0 (prefixed_of pld)
 loads_thread before pld made =
@@ -136,7 +128,7 @@ loads_thread before pld made =
     (omega (arith, register)) (omega (arith, register)) (omega (arith, register))
 
 -- the displacement of `paddi rT,13,n`
-displacement_is : (rt both : ℕ) → both ≡ 0x06000000 + addi_of_thread 0x1000 rt * 2 ^ 32
+pub displacement_is : (rt both : ℕ) → both ≡ 0x06000000 + addi_of_thread 0x1000 rt * 2 ^ 32
     → (ppc64_form Prefixed).machine both ≡ pos 0x1000
 displacement_is rt both is =
     let low : both / 2 ^ 32 % 2 ^ 16 * 2 ^ 0 ≡ 0x1000 = omega (arith, is) in
@@ -149,21 +141,21 @@ displacement_is rt both is =
 
 module _ (prefixes : relocation_laws.Prefixes) where
   -- what an instruction relative to itself leads to
-  general_entry : (o : Operands) (s : State) (insn after : List ℕ) → AreAddresses o → s.pc ≡ o.place
+  pub general_entry : (o : Operands) (s : State) (insn after : List ℕ) → AreAddresses o → s.pc ≡ o.place
       → IsRelocated names.R_PPC64_GOT_TLSGD_PCREL34 o insn after
       → moved s.pc ((ppc64_form Prefixed).machine (prefixed_of after)) ≡ o.got_entry
   general_entry o s insn after small at a =
       let m = (ppc64_form Prefixed).machine (prefixed_of after) in
       ap (λ p. moved p m) at ∙ times_one o.place m ∙ address_is _ _ (prefixes.2 o small o.place insn after a tt)
 
-  module_entry : (o : Operands) (s : State) (insn after : List ℕ) → AreAddresses o → s.pc ≡ o.place
+  pub module_entry : (o : Operands) (s : State) (insn after : List ℕ) → AreAddresses o → s.pc ≡ o.place
       → IsRelocated names.R_PPC64_GOT_TLSLD_PCREL34 o insn after
       → moved s.pc ((ppc64_form Prefixed).machine (prefixed_of after)) ≡ o.got_entry
   module_entry o s insn after small at a =
       let m = (ppc64_form Prefixed).machine (prefixed_of after) in
       ap (λ p. moved p m) at ∙ times_one o.place m ∙ address_is _ _ (prefixes.3 o small o.place insn after a tt)
 
-  offset_entry : (o : Operands) (s : State) (insn after : List ℕ) → AreAddresses o → s.pc ≡ o.place
+  pub offset_entry : (o : Operands) (s : State) (insn after : List ℕ) → AreAddresses o → s.pc ≡ o.place
       → IsRelocated names.R_PPC64_GOT_TPREL_PCREL34 o insn after
       → moved s.pc ((ppc64_form Prefixed).machine (prefixed_of after)) ≡ o.got_entry
   offset_entry o s insn after small at a =
@@ -171,7 +163,7 @@ module _ (prefixes : relocation_laws.Prefixes) where
       ap (λ p. moved p m) at ∙ times_one o.place m ∙ address_is _ _ (prefixes.4 o small o.place insn after a tt)
 
   -- `paddi rT,13` with the offset
-  variable_there : (o : Operands) (n : ℕ) (over after : List ℕ) → AreAddresses o
+  pub variable_there : (o : Operands) (n : ℕ) (over after : List ℕ) → AreAddresses o
       → IsRelocated names.R_PPC64_TPREL34 o over after
       → moved n ((ppc64_form Prefixed).machine (prefixed_of after)) ≡ from_thread o n
   variable_there o n over after small a =
@@ -295,65 +287,65 @@ step_move f x r a s op low from second to =
     ∙ ap (λ n. Some (set n (s.registers (rt_of x)) s)) to
     ∙ ap (λ n. Some (set r (s.registers n) s)) from
 
--- What is written in one run is there in the other.
-agree_kept : (n v : ℕ) (c : Changes) (s t : State) → v ≡ t.registers n → AgreeBut c s t
-    → AgreeBut (without_register n c) (set n v s) (go_on t)
-agree_kept n v c s t is alike =
-    record {
-      registers = λ m kept. elim (eqb_tells m n) [
-        | inl same ↦ cond-true (eqb m n) v (s.registers m) same.0 ∙ is ∙ ap t.registers (sym same.1)
-        | inr other ↦
-            cond-false (eqb m n) v (s.registers m) other.0
-            ∙ alike.registers m (sym (ap (λ b. not b && c.registers m) other.0) ∙ kept)
-      ];
-      floats = alike.floats;
-      memory = alike.memory;
-      pc = ap (λ p. sum_64 p 4) alike.pc;
-    }
-
-sum_to_move : laws.OverVariable kinds.AddToMove (adds is_add_of_thread)
-sum_to_move f o s t c insn new alike is made has any =
-    let x = word_of insn in
-    let z = rt_of x in
-    let a = ra_of x in
-    let p = add_parts x is in
-    let A = from_thread o (s.registers 13) in
-    let to : z < 32 = omega arith in
-    let from : a < 32 = omega arith in
-    let moves : move_of z a < 2 ^ 32 = omega (arith, to, from) in
-    let word : word_of new ≡ to_move x =
-    word_made to_move insn new (elim (cases_Bool (z == a)) [
-      | inl same ↦ subst (λ w. w < 2 ^ 32) (sym (cond-true (z == a) nop (move_of z a) same)) (omega arith)
-      | inr other ↦ subst (λ w. w < 2 ^ 32) (sym (cond-false (z == a) nop (move_of z a) other)) moves
-    ]) made in
-    let old : sum_64 (s.registers a) (s.registers 13) ≡ A = ap (λ n. sum_64 n (s.registers 13)) has.entry_is in
-    let y = word_of new in
-    let first = step_add f x z a 13 s (record { opcode_is = p.opcode_is; rt_is = refl; ra_is = refl }) p.rb_is p.low in
-    elim (eqb_tells z a) [
-      | inl same ↦
-          let blank : y ≡ nop = word ∙ cond-true (z == a) nop (move_of z a) same.0 in
-          steps_so f x y s t (set z (sum_64 (s.registers a) (s.registers 13)) s) (go_on t) _ first
-          (step_nop f y t blank) refl refl
-          (agree_kept z (sum_64 (s.registers a) (s.registers 13)) c s t (old ∙ sym (ap t.registers same.1 ∙ has.new_is)) alike)
-      | inr differs ↦
-          let moved_is : y ≡ move_of z a = word ∙ cond-false (z == a) nop (move_of z a) differs.0 in
-          let op : opcode_of y ≡ 31 = omega (arith, moved_is, to, from) in
-          let low : field y 0 11 ≡ 0x378 = omega (arith, moved_is, to, from) in
-          let rs : rt_of y ≡ a = omega (arith, moved_is, to, from) in
-          let rb : rb_of y ≡ a = omega (arith, moved_is, to, from) in
-          let ra : ra_of y ≡ z = omega (arith, moved_is, to, from) in
-          steps_so f x y s t (set z (sum_64 (s.registers a) (s.registers 13)) s) (set z (t.registers a) t) _ first
-          (step_move f y z a t op low rs rb ra) refl refl
-          (agree_but z _ _ c s t (old ∙ sym has.new_is) alike)
+-- A register has the number that is written.
+kept : (n v : ℕ) (t : State) → t.registers n ≡ v → write n v t ≡ t
+kept n v t is = λ i. record t { registers = λ m. by m i }
+  where
+    by : (m : ℕ) → (if m == n then v else t.registers m) ≡ t.registers m
+    by m = elim (eqb_tells m n) [
+      | inl same ↦ cond-true (eqb m n) v (t.registers m) same.0 ∙ sym is ∙ ap t.registers (sym same.1)
+      | inr other ↦ cond-false (eqb m n) v (t.registers m) other.0
     ]
 
-accesses_so : (f : Formats) (x y : ℕ) (s t : State) (c : Changes) (a : Access) (z address : ℕ)
-    → step f x s ≡ Some (go_on (accessed f a z address s)) → step f y t ≡ Some (go_on (accessed f a z address t))
-    → AgreeBut c s t → ReadsSame c a z address → StepSo f x s y t (AgreeBut (after_access c a z))
-accesses_so f x y s t c a z address first second alike reads =
-    steps_so f x y s t (go_on (accessed f a z address s)) (go_on (accessed f a z address t)) _ first second
-    (accessed_link f a z address s) (accessed_link f a z address t)
-    (agree_on _ _ _ (accessed_agree f c a z address s t alike reads))
+-- The steps of instructions that become the same without the thread pointer.
+pub record VariableSteps (kind : RewriteKind) (how : laws.Use) : Type 0 where
+  pub sum : SumSteps how
+  pub new : (f : Formats) (t : State) (insn direct : List ℕ) (a b : ℕ) → how.test (word_of insn) ≡ true
+      → laws.IsRewritten kind insn direct → t.registers (ra_of (word_of insn)) ≡ sum_64 a b
+      → Does f (how.does f (word_of insn) (sum_64 a b)) (word_of direct) t
+
+over_variable : (kind : RewriteKind) (how : laws.Use) → VariableSteps kind how → laws.OverVariable kind how
+over_variable kind how steps f o s t c insn direct alike is made has requires =
+    does_so f how c (word_of insn) (word_of direct) (word_of insn) (from_thread o (s.registers 13)) s t
+    steps.sum.is_use alike requires (steps.sum.old f s insn (thread_offset o) is has.entry_is)
+    (steps.new f t insn direct (thread_offset o) (s.registers 13) is made has.new_is)
+
+pub sum_to_move : VariableSteps kinds.AddToMove (adds is_add_of_thread)
+sum_to_move =
+    record {
+      sum = adds_sum;
+      new = λ f t insn direct a b is made has. by f t insn direct (sum_64 a b) made has;
+    }
+  where
+    by : (f : Formats) (t : State) (insn direct : List ℕ) (target : ℕ) → laws.IsRewritten kinds.AddToMove insn direct
+        → t.registers (ra_of (word_of insn)) ≡ target
+        → step f (word_of direct) t ≡ Some (set (rt_of (word_of insn)) target t)
+    by f t insn direct target made has =
+        let x = word_of insn in
+        let y = word_of direct in
+        let z = rt_of x in
+        let a = ra_of x in
+        let to : z < 32 = omega arith in
+        let from : a < 32 = omega arith in
+        let moves : move_of z a < 2 ^ 32 = omega (arith, to, from) in
+        let word : y ≡ to_move x =
+        word_made to_move insn direct (elim (cases_Bool (z == a)) [
+          | inl same ↦ subst (λ w. w < 2 ^ 32) (sym (cond-true (z == a) nop (move_of z a) same)) (omega arith)
+          | inr other ↦ subst (λ w. w < 2 ^ 32) (sym (cond-false (z == a) nop (move_of z a) other)) moves
+        ]) made in
+        elim (eqb_tells z a) [
+          | inl same ↦
+              step_nop f y t (word ∙ cond-true (z == a) nop (move_of z a) same.0)
+              ∙ ap (λ u. Some (go_on u)) (sym (kept z target t (ap t.registers same.1 ∙ has)))
+          | inr differs ↦
+              let moved_is : y ≡ move_of z a = word ∙ cond-false (z == a) nop (move_of z a) differs.0 in
+              let op : opcode_of y ≡ 31 = omega (arith, moved_is, to, from) in
+              let low : field y 0 11 ≡ 0x378 = omega (arith, moved_is, to, from) in
+              let rs : rt_of y ≡ a = omega (arith, moved_is, to, from) in
+              let rb : rb_of y ≡ a = omega (arith, moved_is, to, from) in
+              let ra : ra_of y ≡ z = omega (arith, moved_is, to, from) in
+              step_move f y z a t op low rs rb ra ∙ ap (λ n. Some (set z n t)) has
+        ]
 
 -- the displacement 0
 nothing_added : (a b : ℕ) (m : ℤ) → m ≡ pos 0 → moved (sum_64 a b) m ≡ sum_64 a b
@@ -384,76 +376,88 @@ direct_below x = elim (cases_Bool (field x 0 6 == 0x2e)) [
       (below x (access_of x == 4) (access_of x == 10))
 ]
 
-module _ (f : Formats) (o : Operands) (s t : State) (c : Changes) (insn new : List ℕ) (alike : AgreeBut c s t)
-    (made : word_of new ≡ direct (word_of insn))
-    (has : laws.HasNumbers (ra_of (word_of insn)) (thread_offset o) (from_thread o (s.registers 13)) s t)
-    (reads : ReadsSame c (laws.indexed_access (word_of insn)) (rt_of (word_of insn)) (from_thread o (s.registers 13))) where
+-- the access of either form
+module _ (f : Formats) (insn : List ℕ) where
   abbrev x : ℕ
   x = word_of insn
 
-  abbrev y : ℕ
-  y = word_of new
+  abbrev n : ℕ
+  n = access_of x
 
-  abbrev z : ℕ
-  z = rt_of x
+  is_short : is_indexed x ≡ true → laws.indexed_access x ≡ access_with n
+  is_short is = cond-true (field x 0 6 == 0x2e) (access_with n) (word_access_with n) (eq-eqb _ _ (indexed_parts x is).low)
 
-  abbrev A : ℕ
-  A = from_thread o (s.registers 13)
+  is_whole : is_indexed_word x ≡ true → laws.indexed_access x ≡ word_access_with n
+  is_whole is =
+      cond-false (field x 0 6 == 0x2e) (access_with n) (word_access_with n)
+      (ap (λ k. k == 0x2e) (indexed_word_parts x is).low)
 
-  -- of one access
-  by_access : (a : Access) → laws.indexed_access x ≡ a → step f x s ≡ Some (go_on (accessed f a z A s))
-      → step f y t ≡ Some (go_on (accessed f a z A t))
-      → StepSo f x s y t (AgreeBut (after_access c (laws.indexed_access x) z))
-  by_access a is first second =
-      subst (λ b. StepSo f x s y t (AgreeBut (after_access c b z))) (sym is)
-      (accesses_so f x y s t c a z A first second alike (subst (λ b. ReadsSame c b z A) is reads))
+  of_access : (a : Access) (y address : ℕ) (s : State) → laws.indexed_access x ≡ a
+      → Does f (accessed f a (rt_of x) address) y s → Does f (accessed f (laws.indexed_access x) (rt_of x) address) y s
+  of_access a y address s is goes = subst (λ b. Does f (accessed f b (rt_of x) address) y s) (sym is) goes
 
-  short : is_indexed x ≡ true → StepSo f x s y t (AgreeBut (after_access c (laws.indexed_access x) z))
-  short is =
-      let n = access_of x in
-      let p = indexed_parts x is in
-      let six : (field x 0 6 == 0x2e) ≡ true = eq-eqb _ _ p.low in
-      let word : y ≡ by_displacement x = made ∙ cond-true (field x 0 6 == 0x2e) (by_displacement x) (by_word_displacement x) six in
-      let op : opcode_of y ≡ 32 + n = omega (arith, word) in
-      let rt : rt_of y ≡ z = omega (arith, word) in
-      let ra : ra_of y ≡ ra_of x = omega (arith, word) in
-      let low : y / 2 ^ 0 % 2 ^ 16 * 2 ^ 0 ≡ 0 = omega (arith, word) in
-      let address : moved (base (ra_of x) t) ((ppc64_form D).machine y) ≡ A =
-      ap (λ n. moved n ((ppc64_form D).machine y)) (base_some (ra_of x) t p.over_some ∙ has.new_is)
-      ∙ nothing_added (thread_offset o) (s.registers 13) ((ppc64_form D).machine y) (no_displacement y low) in
-      by_access (access_with n) (cond-true (field x 0 6 == 0x2e) (access_with n) (word_access_with n) six)
-      (step_indexed f x 13 s p.opcode_is p.low p.known p.rb_is
-      ∙ ap (λ k. Some (go_on (accessed f (access_with n) z (sum_64 k (s.registers 13)) s)))
-      (base_some (ra_of x) s p.over_some ∙ has.entry_is))
-      (step_access f y n z (ra_of x) t op p.known rt ra
-      ∙ ap (λ k. Some (go_on (accessed f (access_with n) z k t))) address)
+  module _ (new : List ℕ) (t : State) (a b : ℕ) (made : word_of new ≡ direct x)
+      (has : t.registers (ra_of x) ≡ sum_64 a b) where
+    abbrev y : ℕ
+    y = word_of new
 
-  whole : is_indexed_word x ≡ true → StepSo f x s y t (AgreeBut (after_access c (laws.indexed_access x) z))
-  whole is =
-      let n = access_of x in
-      let p = indexed_word_parts x is in
-      let six : (field x 0 6 == 0x2e) ≡ false = ap (λ k. k == 0x2e) p.low in
-      let word : y ≡ by_word_displacement x = made ∙ cond-false (field x 0 6 == 0x2e) (by_displacement x) (by_word_displacement x) six in
-      let turned = is_direct x y p.known word in
-      let address : moved (base (ra_of x) t) ((ppc64_form Ds).machine y) ≡ A =
-      ap (λ n. moved n ((ppc64_form Ds).machine y)) (base_some (ra_of x) t p.over_some ∙ has.new_is)
-      ∙ nothing_added (thread_offset o) (s.registers 13) ((ppc64_form Ds).machine y)
-      (no_word_displacement y (whole_words x y (n == 4) (n == 10) word)) in
-      by_access (word_access_with n) (cond-false (field x 0 6 == 0x2e) (access_with n) (word_access_with n) six)
-      (step_indexed_word f x 13 s p.opcode_is p.low p.known p.rb_is
-      ∙ ap (λ k. Some (go_on (accessed f (word_access_with n) z (sum_64 k (s.registers 13)) s)))
-      (base_some (ra_of x) s p.over_some ∙ has.entry_is))
-      (step_word f y z (ra_of x) (word_access_with n) t (turned.decodes y refl refl) turned.rt_is turned.ra_is
-      ∙ ap (λ k. Some (go_on (accessed f (word_access_with n) z k t))) address)
+    short : is_indexed x ≡ true → Does f (accessed f (access_with n) (rt_of x) (sum_64 a b)) y t
+    short is =
+        let p = indexed_parts x is in
+        let word : y ≡ by_displacement x =
+        made ∙ cond-true (field x 0 6 == 0x2e) (by_displacement x) (by_word_displacement x) (eq-eqb _ _ p.low) in
+        let op : opcode_of y ≡ 32 + n = omega (arith, word) in
+        let rt : rt_of y ≡ rt_of x = omega (arith, word) in
+        let ra : ra_of y ≡ ra_of x = omega (arith, word) in
+        let low : y / 2 ^ 0 % 2 ^ 16 * 2 ^ 0 ≡ 0 = omega (arith, word) in
+        step_access f y n (rt_of x) (ra_of x) t op p.known rt ra
+        ∙ ap (λ k. Some (go_on (accessed f (access_with n) (rt_of x) k t)))
+        (ap (λ n. moved n ((ppc64_form D).machine y)) (base_some (ra_of x) t p.over_some ∙ has)
+        ∙ nothing_added a b ((ppc64_form D).machine y) (no_displacement y low))
 
-access_to_direct : laws.OverVariable kinds.IndexedToDirect (accesses is_indexed_any laws.indexed_access)
-access_to_direct f o s t c insn new alike is made has reads =
-    let x = word_of insn in
-    let word = word_made direct insn new (direct_below x) made in
-    elim (or_cases (is_indexed x) (is_indexed_word x) is) [
-      | inl one ↦ short f o s t c insn new alike word has reads one
-      | inr one ↦ whole f o s t c insn new alike word has reads one
-    ]
+    whole : is_indexed_word x ≡ true → Does f (accessed f (word_access_with n) (rt_of x) (sum_64 a b)) y t
+    whole is =
+        let p = indexed_word_parts x is in
+        let six : (field x 0 6 == 0x2e) ≡ false = ap (λ k. k == 0x2e) p.low in
+        let word : y ≡ by_word_displacement x =
+        made ∙ cond-false (field x 0 6 == 0x2e) (by_displacement x) (by_word_displacement x) six in
+        let turned = is_direct x y p.known word in
+        step_word f y (rt_of x) (ra_of x) (word_access_with n) t (turned.decodes y refl refl) turned.rt_is turned.ra_is
+        ∙ ap (λ k. Some (go_on (accessed f (word_access_with n) (rt_of x) k t)))
+        (ap (λ n. moved n ((ppc64_form Ds).machine y)) (base_some (ra_of x) t p.over_some ∙ has)
+        ∙ nothing_added a b ((ppc64_form Ds).machine y)
+        (no_word_displacement y (whole_words x y (n == 4) (n == 10) word)))
+
+pub access_to_direct : VariableSteps kinds.IndexedToDirect (accesses is_indexed_any laws.indexed_access)
+access_to_direct =
+    record {
+      sum = record {
+        is_use = accesses_use is_indexed_any laws.indexed_access;
+        old = λ f s insn offset is has.
+            let x = word_of insn in
+            let a = sum_64 offset (s.registers 13) in
+            elim (or_cases (is_indexed x) (is_indexed_word x) is) [
+              | inl one ↦
+                  of_access f insn (access_with (access_of x)) x a s (is_short f insn one)
+                  (accesses_sum.old f s insn offset one has)
+              | inr one ↦
+                  of_access f insn (word_access_with (access_of x)) x a s (is_whole f insn one)
+                  (words_sum.old f s insn offset one has)
+            ];
+      };
+      new = λ f t insn new a b is made has.
+          let x = word_of insn in
+          let y = word_of new in
+          let word = word_made direct insn new (direct_below x) made in
+          elim (or_cases (is_indexed x) (is_indexed_word x) is) [
+            | inl one ↦
+                of_access f insn (access_with (access_of x)) y (sum_64 a b) t (is_short f insn one)
+                (short f insn new t a b word has one)
+            | inr one ↦
+                of_access f insn (word_access_with (access_of x)) y (sum_64 a b) t (is_whole f insn one)
+                (whole f insn new t a b word has one)
+          ];
+    }
 
 pub sum_to_variable : laws.SumToVariable
-sum_to_variable = (sum_to_move, access_to_direct)
+sum_to_variable = (over_variable _ _ sum_to_move, over_variable _ _ access_to_direct)

@@ -1,9 +1,8 @@
 -- Words of PowerPC64 to which a relocation was applied, and the steps of their instructions.
-use Rattle.std.proofs.Common.{◌≡◌, ◌≢◌, ℕ, ◌+◌, ◌*◌, ◌%◌, ◌^◌, ◌<◌, Bool, true, false, refl, sym, ◌∙◌, ap}
-use Rattle.std.proofs.Common.{subst, arith, List, [], ◌∷◌, eqb, cond, ℤ, pos, ◌+ℤ◌, ◌*ℤ◌, Some, None}
-use Rattle.std.specs.Prelude.{IsSomeAnd, ◌&&◌, ◌||◌, not}
+use Rattle.std.proofs.Common.{◌≡◌, ◌≢◌, ℕ, ◌+◌, ◌*◌, ◌%◌, ◌^◌, ◌<◌, refl, sym, ◌∙◌, ap}
+use Rattle.std.proofs.Common.{arith, List, [], ◌∷◌, eqb, ℤ, pos, ◌+ℤ◌, ◌*ℤ◌, Some, None}
 use Rattle.std.specs.Int.{w32, from_le_bytes}
-use Rattle.std.proofs.lemmas.Bool.{eq-eqb, ne_eqb, cond-true, cond-false, false≢true}
+use Rattle.std.proofs.lemmas.Bool.{eq-eqb, ne_eqb, cond-true, cond-false}
 use Rattle.std.proofs.lemmas.Int.{ints}
 use Rattle.linker_base.specs.Bits.{field}
 use Rattle.linker_base.specs.Form.{bits_to}
@@ -13,13 +12,13 @@ use Rattle.linker_utils.specs.Ppc64Rewrites.{opcode_of, rt_of, ra_of, rb_of, nop
 use Rattle.linker_elf.specs.Relocate.{InstructionWritten}
 use Rattle.linker_elf.specs.Value.{sum_64, difference_64}
 use Rattle.linker_elf.specs.declared.elf.RelocationInstruction.TheVariants.{Ppc64}
-use Rattle.linker_elf.specs.declared.ppc64.forms.Ppc64Instruction.TheVariants.{D, Ds}
+use Rattle.linker_elf.specs.declared.ppc64.forms.Ppc64Instruction.TheVariants.{Branch24, D, Ds}
 use Rattle.linker_laws.specs.Schemes.{IsAddress}
 use Rattle.linker_laws.proofs.Sums.{lift, lifted_is}
 use Rattle.linker_laws.specs.Machine.{moved, wrapped, loaded}
 use Rattle.linker_laws.specs.Ppc64Machine.{State, Formats, step, run, execute, by_opcode, of_58}
-use Rattle.linker_laws.specs.Ppc64Machine.{base, write, go_on, next_pc, continue}
-use Rattle.linker_laws.specs.Ppc64Machine.{AreAlikeBut, RunAlikeBut, shifted_sum, d_address}
+use Rattle.linker_laws.specs.Ppc64Machine.{base, write, go_on, go_to, next_pc, continue}
+use Rattle.linker_laws.specs.Ppc64Machine.{shifted_sum, d_address}
 use Rattle.linker_laws.specs.Ppc64Machine.{ds_address}
 use Rattle.linker_laws.proofs.AArch64Words.{field_kept}
 use Rattle.linker_laws.proofs.RiscVMachine.{address_is, moved_twice}
@@ -128,6 +127,12 @@ step_add f x r a b s p rb low =
 pub step_nop : (f : Formats) (x : ℕ) (s : State) → x ≡ nop → step f x s ≡ Some (go_on s)
 step_nop f x s is = ap (λ w. step f w s) is
 
+pub step_bl : (f : Formats) (x : ℕ) (s : State) → opcode_of x ≡ 18 → field x 0 2 ≡ 1
+    → step f x s ≡ Some (go_to (moved s.pc ((ppc64_form Branch24).machine x)) (record s { link = next_pc s }))
+step_bl f x s op low =
+    ap (λ k. execute f (by_opcode k x) x s) op
+    ∙ ap (λ i. execute f i x s) (cond-true (eqb (field x 0 2) 1) _ _ (eq-eqb _ _ low))
+
 -- ---- sequences
 
 pub run_more : (f : Formats) (x y : ℕ) (words : List ℕ) (s t u : State) → step f x s ≡ Some t
@@ -135,31 +140,3 @@ pub run_more : (f : Formats) (x y : ℕ) (words : List ℕ) (s t u : State) → 
 run_more f x y words s t u first on rest =
     ap (continue (next_pc s) (λ r. run f (y ∷ words) r)) first
     ∙ cond-true (eqb t.pc (next_pc s)) (run f (y ∷ words) t) None (eq-eqb t.pc (next_pc s) on) ∙ rest
-
-pub alike_runs : (f : Formats) (differing : ℕ → Bool) (old new : List ℕ) (s t u : State)
-    → run f old s ≡ Some t → run f new s ≡ Some u → AreAlikeBut differing t u
-    → RunAlikeBut f differing old new s
-alike_runs f differing old new s t u first second alike =
-    subst (λ r. IsSomeAnd r (λ t. IsSomeAnd (run f new s) (λ u. AreAlikeBut differing t u)))
-    (sym first)
-    (subst (λ r. IsSomeAnd r (λ u. AreAlikeBut differing t u)) (sym second) alike)
-
--- A register that only one of the two has written last
-pub last_counts : (x y : Bool) (v w u h r : ℕ) → (x && not y) ≡ false → v ≡ w
-    → cond y v (cond x u r) ≡ cond y w (cond x h r)
-last_counts x true v w u h r any e = e
-last_counts false false v w u h r any e = refl
-last_counts true false v w u h r any e = absurd (false≢true (sym any))
-
-pub three_count : (x y z : Bool) (v w off u h r : ℕ) → ((x || y) && not z) ≡ false → v ≡ w
-    → cond z v (cond y off (cond x h r)) ≡ cond z w (cond y u r)
-three_count x y true v w off u h r any e = e
-three_count false false false v w off u h r any e = refl
-three_count true y false v w off u h r any e = absurd (false≢true (sym any))
-three_count false true false v w off u h r any e = absurd (false≢true (sym any))
-
-pub once_counts : (x y : Bool) (v w u r : ℕ) → (x && not y) ≡ false → v ≡ w
-    → cond y v (cond x u r) ≡ cond y w r
-once_counts x true v w u r any e = e
-once_counts false false v w u r any e = refl
-once_counts true false v w u r any e = absurd (false≢true (sym any))

@@ -13,6 +13,8 @@ pub mod LoongArchMachine
 pub mod LoongArchRelocationLaws
 pub mod LoongArchRewriteLaws
 pub mod Machine
+pub mod Ppc64Groups
+pub mod Ppc64GroupsWorked
 pub mod Ppc64Machine
 pub mod Ppc64RelocationLaws
 pub mod Ppc64RewriteLaws

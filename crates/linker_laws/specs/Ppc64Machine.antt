@@ -2,9 +2,9 @@
 -- "Branch Facility", "Fixed-Point Facility" and "Floating-Point Facility"). Any address can be read
 -- and written, and code is apart from memory. None of the instructions changes the condition
 -- register.
-use Rattle.std.specs.Prelude.{◌≡◌, ℕ, ◌-◌, ◌*◌, ◌/◌, ◌^◌, ◌==◌, ◌&&◌, not, nat_lt, Bool}
-use Rattle.std.specs.Prelude.{if◌then◌else◌, true, false, List, [], ◌∷◌, pos, ◌*ℤ◌}
-use Rattle.std.specs.Prelude.{Option, Some, None, IsSomeAnd}
+use Rattle.std.specs.Prelude.{◌≡◌, ℕ, ◌-◌, ◌*◌, ◌/◌, ◌^◌, ◌==◌, ◌&&◌, nat_lt, Bool}
+use Rattle.std.specs.Prelude.{if◌then◌else◌, false, List, [], ◌∷◌, pos, ◌*ℤ◌}
+use Rattle.std.specs.Prelude.{Option, Some, None}
 use Rattle.linker_base.specs.Bits.{field}
 use Rattle.linker_elf.specs.Ppc64.{ppc64_form}
 use Rattle.linker_utils.specs.Ppc64Rewrites.{is_access, is_word_access}
@@ -63,16 +63,6 @@ pub data Access : Type 0 where
   stores_single : Access
   stores_double : Access
   no_access : Access
-
--- whether a register of the fixed-point facility is written, or read
-abbrev pub loads_register : Access → Bool
-loads_register (loads n) = true
-loads_register (loads_signed n) = true
-loads_register a = false
-
-abbrev pub stores_register : Access → Bool
-stores_register (stores n) = true
-stores_register a = false
 
 -- by the opcode less 32, or the upper half of the extended opcode
 abbrev pub access_with : ℕ → Access
@@ -242,12 +232,3 @@ pub record AreAlikeBut (differing : ℕ → Bool) (s t : State) : Type 0 where
   pub link : s.link ≡ t.link
   pub pc : s.pc ≡ t.pc
   pub memory : s.memory ≡ t.memory
-
--- Both sequences run, and end in such states.
-abbrev pub RunAlikeBut : Formats → (ℕ → Bool) → List ℕ → List ℕ → State → Type 0
-RunAlikeBut f differing old new s =
-    IsSomeAnd (run f old s) (λ t. IsSomeAnd (run f new s) (λ u. AreAlikeBut differing t u))
-
--- registers that differ, but for one that an access loads
-abbrev pub but_loaded : (ℕ → Bool) → Access → ℕ → ℕ → Bool
-but_loaded differing a r n = differing n && not (loads_register a && n == r)

@@ -1,13 +1,13 @@
--- PowerPC64: rewritten sequences compute what the original ones do (64-bit ELF V2 ABI for Power,
+-- PowerPC64: each rewritten instruction does what the original does (64-bit ELF V2 ABI for Power,
 -- "TOC Optimizations" and "TLS Linkage Optimizations").
 use Rattle.std.specs.Prelude.{◌≡◌, ◌≢◌, ◌<◌, ◌∷◌, [], ℕ, Bool, false, ◌==◌, ◌&&◌, ◌||◌, not, List}
 use Rattle.std.specs.Prelude.{take, IsTrue, IsSomeAnd, drop, Option, Some, ◌^◌, if◌then◌else◌}
 use Rattle.std.specs.Prelude.{zero, suc, ⊤}
 use Rattle.std.specs.Int.{w32, w64, from_le_bytes}
 use Rattle.linker_utils.specs.Ppc64Rewrites.{is_addis_of_toc, is_ld, is_add_of_thread, is_call}
-use Rattle.linker_utils.specs.Ppc64Rewrites.{is_indexed, is_store, is_d_access, is_addi}
+use Rattle.linker_utils.specs.Ppc64Rewrites.{is_indexed, is_d_access, is_addi}
 use Rattle.linker_utils.specs.Ppc64Rewrites.{is_ds_access, is_indexed_word, is_pld, is_addis_over}
-use Rattle.linker_utils.specs.Ppc64Rewrites.{is_vector_access, is_addis_of_entry, is_addi_of_toc}
+use Rattle.linker_utils.specs.Ppc64Rewrites.{is_vector_access}
 use Rattle.linker_utils.specs.Ppc64Rewrites.{is_bl, is_indexed_any, is_pla}
 use Rattle.linker_elf.specs.Ppc64Relocations.{ppc64_row}
 use Rattle.linker_elf.specs.Relocate.{ppc64_reads}
@@ -24,9 +24,10 @@ use Rattle.linker_utils.specs.declared.ppc64.rewrites.RewriteKind.TheVariants as
 use Rattle.linker_elf.specs.Applied.{IsApplied}
 use Rattle.linker_laws.specs.Schemes.{AreAddresses, symbol_address}
 use Rattle.linker_laws.specs.Machine.{loaded, moved, also, but}
-use Rattle.linker_laws.specs.Ppc64Machine.{State, Formats, base, step, run, RunAlikeBut}
+use Rattle.linker_laws.specs.Ppc64Machine.{State, Formats, base, step, run}
 use Rattle.linker_laws.specs.Ppc64Machine.{step_prefixed, AreAlikeBut}
-use Rattle.linker_laws.specs.Ppc64Machine.{write, go_on, gone_on, but_loaded, access_with, Access}
+use Rattle.linker_laws.specs.Ppc64Machine.{write, go_on, gone_on, access_with, Access}
+use Rattle.linker_laws.specs.Ppc64Machine.{accessed}
 use Rattle.linker_laws.specs.Ppc64Machine.{loads, loads_signed, stores, word_access_with}
 use Rattle.linker_laws.specs.Ppc64Machine.{loads_single, loads_double, stores_single, stores_double}
 use Rattle.linker_laws.specs.Ppc64Machine.{no_access}
@@ -53,112 +54,13 @@ at_place at o = record o { place = at }
 abbrev pub two : List ℕ → List ℕ → List ℕ
 two first second = word_of first ∷ word_of second ∷ []
 
-abbrev pub three : List ℕ → List ℕ → List ℕ → List ℕ
-three first second third = word_of first ∷ word_of second ∷ word_of third ∷ []
-
 -- ---- the address of a symbol, by its GOT entry or by its distance from the TOC pointer
-
--- `addis rX,2`, and an instruction over rX, which are executed next. Register 2 is the TOC pointer.
-pub record IsTocPair (test : ℕ → Bool) (o : Operands) (s : State) (addis second : List ℕ) : Type 0
-  where
-    pub small : AreAddresses o
-    pub toc : s.registers 2 ≡ o.got_base
-    pub first_is : IsTrue (is_addis_of_toc (word_of addis))
-    pub second_is : IsTrue (test (word_of second))
-    pub base : ra_of (word_of second) ≡ rt_of (word_of addis)
-
--- register x, unless it is y too
-abbrev pub is_only : ℕ → ℕ → ℕ → Bool
-is_only x y n = n == x && not (n == y)
-
--- `addis rX,2` and `ld rY,x(rX)` of the GOT entry, which holds the address of the symbol, and
--- `addis rX,2` and `addi rY,rX`: the same but for rX, which has the high part.
-abbrev pub GotToAddress : Type 0
-GotToAddress =
-    (f : Formats) (o : Operands) (s : State) (addis ld addi : List ℕ) → IsTocPair is_ld o s addis ld
-    → loaded 8 s.memory o.got_entry ≡ symbol_address o → IsRewritten kinds.LdToAddi ld addi
-    → (at : ℕ) (addis_of_entry ld_of_entry addis_of_symbol addi_of_symbol : List ℕ)
-    → IsRelocated names.R_PPC64_GOT16_HA o addis addis_of_entry
-    → IsRelocated names.R_PPC64_GOT16_LO_DS (at_place at o) ld ld_of_entry
-    → IsRelocated names.R_PPC64_TOC16_HA o addis addis_of_symbol
-    → IsRelocated names.R_PPC64_TOC16_LO (at_place at o) addi addi_of_symbol
-    → RunAlikeBut f (is_only (rt_of (word_of addis)) (rt_of (word_of ld)))
-    (two addis_of_entry ld_of_entry) (two addis_of_symbol addi_of_symbol) s
 
 -- ---- the offset of a variable from the thread pointer, by its GOT entry or in the instructions
 
 -- S + A, less the address that the thread pointer has
 abbrev pub thread_offset : Operands → ℕ
 thread_offset o = difference_64 (symbol_address o) o.tls_base
-
--- `addis rX,2`, `ld rY,x(rX)` of the GOT entry, which the dynamic linker has set to the offset, and
--- `add rZ,rY,13`; and `nop`, `addis rY,13` and `addi rZ,rY`: the same but for rX and rY.
-abbrev pub InitialExecToLocalExec : Type 0
-InitialExecToLocalExec =
-    (f : Formats) (o : Operands) (s : State) (addis ld add blank addis_13 addi : List ℕ)
-    → IsTocPair is_ld o s addis ld → IsTrue (is_add_of_thread (word_of add))
-    → ra_of (word_of add) ≡ rt_of (word_of ld) → rt_of (word_of ld) ≢ 13
-    → rt_of (word_of addis) ≢ 13
-    → loaded 8 s.memory o.got_entry ≡ thread_offset o
-    → IsRewritten kinds.AddisToNop addis blank → IsRewritten kinds.LdToAddisThread ld addis_13
-    → IsRewritten kinds.AddToAddi add addi
-    → (at there : ℕ) (addis_of_entry ld_of_entry addis_of_symbol addi_of_symbol : List ℕ)
-    → IsRelocated names.R_PPC64_GOT_TPREL16_HA o addis addis_of_entry
-    → IsRelocated names.R_PPC64_GOT_TPREL16_LO_DS (at_place at o) ld ld_of_entry
-    → IsRelocated names.R_PPC64_TPREL16_HA o addis_13 addis_of_symbol
-    → IsRelocated names.R_PPC64_TPREL16_LO (at_place there o) addi addi_of_symbol
-    → RunAlikeBut f
-    (λ n. (n == rt_of (word_of addis) || n == rt_of (word_of ld)) && not (n == rt_of (word_of add)))
-    (three addis_of_entry ld_of_entry add) (three blank addis_of_symbol addi_of_symbol) s
-
--- Instructions of initial-exec after which one accesses the variable; x and y are the registers
--- that the `addis` and the `ld` write.
-pub record IsThreadAccess (test : ℕ → Bool) (o : Operands) (s : State) (addis ld indexed : List ℕ)
-    : Type 0 where
-  pub pair : IsTocPair is_ld o s addis ld
-  pub is_access : IsTrue (test (word_of indexed))
-  pub over : ra_of (word_of indexed) ≡ rt_of (word_of ld)
-  pub not_13 : rt_of (word_of ld) ≢ 13
-  pub high_not_13 : rt_of (word_of addis) ≢ 13
-  -- no store of the high part
-  pub keeps_high : IsTrue (not (is_store (access_of (word_of indexed))
-      && rt_of (word_of indexed) == rt_of (word_of addis)))
-
--- `lwzx rZ,rY,13` and so on, and `lwz rZ,x(rY)`: the same but for rX and rY.
-abbrev pub AccessToLocalExec : Type 0
-AccessToLocalExec =
-    (f : Formats) (o : Operands) (s : State) (addis ld indexed blank addis_13 direct : List ℕ)
-    → IsThreadAccess is_indexed o s addis ld indexed
-    → loaded 8 s.memory o.got_entry ≡ thread_offset o
-    → IsRewritten kinds.AddisToNop addis blank → IsRewritten kinds.LdToAddisThread ld addis_13
-    → IsRewritten kinds.IndexedToD indexed direct
-    → (at there : ℕ) (addis_of_entry ld_of_entry addis_of_symbol access_of_symbol : List ℕ)
-    → IsRelocated names.R_PPC64_GOT_TPREL16_HA o addis addis_of_entry
-    → IsRelocated names.R_PPC64_GOT_TPREL16_LO_DS (at_place at o) ld ld_of_entry
-    → IsRelocated names.R_PPC64_TPREL16_HA o addis_13 addis_of_symbol
-    → IsRelocated names.R_PPC64_TPREL16_LO (at_place there o) direct access_of_symbol
-    → RunAlikeBut f
-    (but_loaded (λ n. n == rt_of (word_of addis) || n == rt_of (word_of ld))
-    (access_with (access_of (word_of indexed))) (rt_of (word_of indexed)))
-    (three addis_of_entry ld_of_entry indexed) (three blank addis_of_symbol access_of_symbol) s
-
--- `ldx rZ,rY,13` and so on, and `ld rZ,x(rY)`: the same but for rX and rY.
-abbrev pub WordAccessToLocalExec : Type 0
-WordAccessToLocalExec =
-    (f : Formats) (o : Operands) (s : State) (addis ld indexed blank addis_13 direct : List ℕ)
-    → IsThreadAccess is_indexed_word o s addis ld indexed
-    → loaded 8 s.memory o.got_entry ≡ thread_offset o
-    → IsRewritten kinds.AddisToNop addis blank → IsRewritten kinds.LdToAddisThread ld addis_13
-    → IsRewritten kinds.IndexedToDs indexed direct
-    → (at there : ℕ) (addis_of_entry ld_of_entry addis_of_symbol access_of_symbol : List ℕ)
-    → IsRelocated names.R_PPC64_GOT_TPREL16_HA o addis addis_of_entry
-    → IsRelocated names.R_PPC64_GOT_TPREL16_LO_DS (at_place at o) ld ld_of_entry
-    → IsRelocated names.R_PPC64_TPREL16_HA o addis_13 addis_of_symbol
-    → IsRelocated names.R_PPC64_TPREL16_LO_DS (at_place there o) direct access_of_symbol
-    → RunAlikeBut f
-    (but_loaded (λ n. n == rt_of (word_of addis) || n == rt_of (word_of ld))
-    (word_access_with (access_of (word_of indexed))) (rt_of (word_of indexed)))
-    (three addis_of_entry ld_of_entry indexed) (three blank addis_of_symbol access_of_symbol) s
 
 -- ---- a distance from the TOC pointer whose high part is 0
 
@@ -169,21 +71,6 @@ access_number word = field word 26 31
 abbrev pub is_d_over_base : ℕ → Bool
 is_d_over_base word = is_d_access word && not (ra_of word == 0)
 
--- `nop`, and the same over register 2: the same but for rX.
-abbrev pub AccessNearToc : Type 0
-AccessNearToc =
-    (f : Formats) (o : Operands) (s : State) (addis insn blank over : List ℕ)
-    → IsTocPair is_d_over_base o s addis insn
-    → IsRewritten kinds.AddisToNop addis blank → IsRewritten kinds.BaseToToc insn over
-    → (at : ℕ) (addis_of_symbol insn_of_symbol over_of_symbol : List ℕ)
-    → IsRelocated names.R_PPC64_TOC16_HA o addis addis_of_symbol
-    → IsRelocated names.R_PPC64_TOC16_LO (at_place at o) insn insn_of_symbol
-    → IsRelocated names.R_PPC64_TOC16 o over over_of_symbol
-    → RunAlikeBut f
-    (but_loaded (λ n. n == rt_of (word_of addis)) (access_with (access_number (word_of insn)))
-    (rt_of (word_of insn)))
-    (two addis_of_symbol insn_of_symbol) (two blank over_of_symbol) s
-
 -- what `ld`, `lwa` and `std` access
 abbrev pub ds_access : ℕ → Access
 ds_access word =
@@ -192,33 +79,6 @@ ds_access word =
 
 abbrev pub is_ds_over_base : ℕ → Bool
 is_ds_over_base word = is_ds_access word && not (ra_of word == 0)
-
--- the same of these
-abbrev pub WordAccessNearToc : Type 0
-WordAccessNearToc =
-    (f : Formats) (o : Operands) (s : State) (addis insn blank over : List ℕ)
-    → IsTocPair is_ds_over_base o s addis insn
-    → IsRewritten kinds.AddisToNop addis blank → IsRewritten kinds.BaseToToc insn over
-    → (at : ℕ) (addis_of_symbol insn_of_symbol over_of_symbol : List ℕ)
-    → IsRelocated names.R_PPC64_TOC16_HA o addis addis_of_symbol
-    → IsRelocated names.R_PPC64_TOC16_LO_DS (at_place at o) insn insn_of_symbol
-    → IsRelocated names.R_PPC64_TOC16_DS o over over_of_symbol
-    → RunAlikeBut f
-    (but_loaded (λ n. n == rt_of (word_of addis)) (ds_access (word_of insn)) (rt_of (word_of insn)))
-    (two addis_of_symbol insn_of_symbol) (two blank over_of_symbol) s
-
--- the same of `addi`
-abbrev pub AddiNearToc : Type 0
-AddiNearToc =
-    (f : Formats) (o : Operands) (s : State) (addis insn blank over : List ℕ)
-    → IsTocPair is_addi o s addis insn
-    → IsRewritten kinds.AddisToNop addis blank → IsRewritten kinds.BaseToToc insn over
-    → (at : ℕ) (addis_of_symbol insn_of_symbol over_of_symbol : List ℕ)
-    → IsRelocated names.R_PPC64_TOC16_HA o addis addis_of_symbol
-    → IsRelocated names.R_PPC64_TOC16_LO (at_place at o) insn insn_of_symbol
-    → IsRelocated names.R_PPC64_TOC16 o over over_of_symbol
-    → RunAlikeBut f (is_only (rt_of (word_of addis)) (rt_of (word_of insn)))
-    (two addis_of_symbol insn_of_symbol) (two blank over_of_symbol) s
 
 abbrev pub is_vector_over_base : ℕ → Bool
 is_vector_over_base word = is_vector_access word && not (ra_of word == 0)
@@ -231,22 +91,6 @@ address_read word s = moved (base (ra_of word) s) (ppc64_reads Ds word)
 pub record HaveSameAccess (x y : ℕ) : Type 0 where
   pub opcode : opcode_of x ≡ opcode_of y
   pub register : rt_of x ≡ rt_of y
-
--- `lq` and accesses of vector registers, of which the machine has none: `addis rX,2` and one over
--- rX, and `nop` and the same over register 2, access one address.
-abbrev pub VectorAccessNearToc : Type 0
-VectorAccessNearToc =
-    (f : Formats) (o : Operands) (s : State) (addis insn blank over : List ℕ)
-    → IsTocPair is_vector_over_base o s addis insn
-    → IsRewritten kinds.AddisToNop addis blank → IsRewritten kinds.BaseToToc insn over
-    → (at : ℕ) (addis_of_symbol insn_of_symbol over_of_symbol : List ℕ)
-    → IsRelocated names.R_PPC64_TOC16_HA o addis addis_of_symbol
-    → IsRelocated names.R_PPC64_TOC16_LO_DS (at_place at o) insn insn_of_symbol
-    → IsRelocated names.R_PPC64_TOC16_DS o over over_of_symbol
-    → IsSomeAnd (step f (word_of addis_of_symbol) s) (λ t.
-    IsSomeAnd (step f (word_of blank) s) (λ u.
-    address_read (word_of insn_of_symbol) t ≡ address_read (word_of over_of_symbol) u))
-    × HaveSameAccess (word_of insn_of_symbol) (word_of over_of_symbol)
 
 -- ---- relative to the instruction
 
@@ -291,93 +135,9 @@ pub record Returns (c : Changes) (number : ℕ) (u v : State) : Type 0 where
   pub memory : (a : ℕ) → c.memory a ≡ false → v.memory a ≡ u.memory a
   pub back : v.pc ≡ u.link
 
--- register x too, and register 3 not: it has the number
-abbrev pub and_register : ℕ → Changes → Changes
-and_register x c =
-    record c { registers = λ n. if n == 3 then false else (n == x || c.registers n) }
-
-abbrev pub is_argument : ℕ → Bool
-is_argument word = is_addi word && rt_of word == 3
-
--- `addis rX,2`, `addi 3,rX` of the GOT entry, `bl __tls_get_addr` and `nop`, which are executed
--- next. `call` says in which state a called function returns, if it does.
-pub record IsTlsCall (call : State → Option State) (c : Changes) (number : ℕ) (o : Operands)
-    (s : State) (addis addi bl : List ℕ) : Type 0 where
-  pub pair : IsTocPair is_argument o s addis addi
-  pub not_13 : rt_of (word_of addis) ≢ 13
-  pub call_is : IsTrue (is_call (word_of bl) (word_of (drop 4 bl)))
-  pub returns : (u v : State) → u.registers 3 ≡ o.got_entry → u.registers 13 ≡ s.registers 13
-      → call u ≡ Some v → Returns c number u v
-
-abbrev pub four : List ℕ → List ℕ → List ℕ → List ℕ → List ℕ
-four a b c d = word_of a ∷ word_of b ∷ word_of c ∷ word_of d ∷ []
-
--- The old sequence ends in a call, which returns to one more instruction. The new one ends after
--- that.
-abbrev pub RunAlikeAfterCall : Formats → (State → Option State) → Changes → List ℕ → ℕ → List ℕ
-    → State → Type 0
-RunAlikeAfterCall f call c old following new s =
-    IsSomeAnd (run f old s) (λ u. (v : State) → call u ≡ Some v
-    → IsSomeAnd (step f following v) (λ t. IsSomeAnd (run f new s) (λ w. AgreeBut c t w)))
-
--- The function returns the address of the variable in the thread: `nop`, `addis 3,13`, `nop` and
--- `addi 3,3` compute it.
-abbrev pub GeneralDynamicToLocalExec : Type 0
-GeneralDynamicToLocalExec =
-    (f : Formats) (call : State → Option State) (c : Changes) (o : Operands) (s : State)
-    (addis addi bl : List ℕ)
-    → IsTlsCall call c (sum_64 (thread_offset o) (s.registers 13)) o s addis addi bl
-    → (blank addis_13 made : List ℕ)
-    → IsRewritten kinds.AddisToNop addis blank → IsRewritten kinds.AddiToAddisThread addi addis_13
-    → IsRewritten kinds.CallToAddi bl made
-    → (at there : ℕ) (addis_of_entry addi_of_entry addis_of_symbol addi_of_symbol : List ℕ)
-    → IsRelocated names.R_PPC64_GOT_TLSGD16_HA o addis addis_of_entry
-    → IsRelocated names.R_PPC64_GOT_TLSGD16_LO (at_place at o) addi addi_of_entry
-    → IsRelocated names.R_PPC64_TPREL16_HA o addis_13 addis_of_symbol
-    → IsRelocated names.R_PPC64_TPREL16_LO (at_place there o) (drop 4 made) addi_of_symbol
-    → RunAlikeAfterCall f call (and_register (rt_of (word_of addis)) c)
-    (three addis_of_entry addi_of_entry bl) (word_of (drop 4 bl))
-    (four blank addis_of_symbol made addi_of_symbol) s
-
 -- the operands with another GOT entry
 abbrev pub with_entry : ℕ → Operands → Operands
 with_entry entry o = record o { got_entry = entry }
-
--- The GOT entry of initial-exec, at another address, holds the offset: `addis`, `ld 3`, `nop` and
--- `add 3,3,13` compute the address.
-abbrev pub GeneralDynamicToInitialExec : Type 0
-GeneralDynamicToInitialExec =
-    (f : Formats) (call : State → Option State) (c : Changes) (o : Operands) (s : State)
-    (addis addi bl : List ℕ)
-    → IsTlsCall call c (sum_64 (thread_offset o) (s.registers 13)) o s addis addi bl
-    → (entry : ℕ) → entry < 2 ^ 64 → loaded 8 s.memory entry ≡ thread_offset o
-    → (ld made : List ℕ)
-    → IsRewritten kinds.AddiToLd addi ld → IsRewritten kinds.CallToAdd bl made
-    → (at : ℕ) (addis_of_call addi_of_call addis_of_entry ld_of_entry : List ℕ)
-    → IsRelocated names.R_PPC64_GOT_TLSGD16_HA o addis addis_of_call
-    → IsRelocated names.R_PPC64_GOT_TLSGD16_LO (at_place at o) addi addi_of_call
-    → IsRelocated names.R_PPC64_GOT_TPREL16_HA (with_entry entry o) addis addis_of_entry
-    → IsRelocated names.R_PPC64_GOT_TPREL16_LO_DS (at_place at (with_entry entry o)) ld ld_of_entry
-    → RunAlikeAfterCall f call (and_register (rt_of (word_of addis)) c)
-    (three addis_of_call addi_of_call bl) (word_of (drop 4 bl))
-    (four addis_of_entry ld_of_entry made (drop 4 made)) s
-
--- The function returns the address 0x8000 above the first byte of the executable's block, which is
--- 0x1000 above the thread pointer: `nop`, `addis 3,13,0`, `nop` and `addi 3,3,4096` compute it.
-abbrev pub LocalDynamicToLocalExec : Type 0
-LocalDynamicToLocalExec =
-    (f : Formats) (call : State → Option State) (c : Changes) (o : Operands) (s : State)
-    (addis addi bl : List ℕ)
-    → IsTlsCall call c (sum_64 (s.registers 13) 0x1000) o s addis addi bl
-    → (blank addis_13 made : List ℕ)
-    → IsRewritten kinds.AddisToNop addis blank → IsRewritten kinds.AddiToAddisThread addi addis_13
-    → IsRewritten kinds.CallToAddi4096 bl made
-    → (at : ℕ) (addis_of_entry addi_of_entry : List ℕ)
-    → IsRelocated names.R_PPC64_GOT_TLSLD16_HA o addis addis_of_entry
-    → IsRelocated names.R_PPC64_GOT_TLSLD16_LO (at_place at o) addi addi_of_entry
-    → RunAlikeAfterCall f call (and_register (rt_of (word_of addis)) c)
-    (three addis_of_entry addi_of_entry bl) (word_of (drop 4 bl))
-    (four blank addis_13 made (drop 4 made)) s
 
 -- ---- one instruction of a sequence whose instructions are apart
 
@@ -437,21 +197,9 @@ NearArgument name =
     → Leaves f (only (rt_of (word_of addi))) (one addi_of_entry) s (rt_of (word_of addi))
     (λ n. n ≡ o.got_entry)
 
--- So do `addis rX,2` and `addi rT,rX`.
-abbrev pub PairArgument : Ppc64Relocation → Ppc64Relocation → Type 0
-PairArgument high low =
-    (f : Formats) (o : Operands) (s : State) (addis addi : List ℕ)
-    → IsTocPair is_addi o s addis addi → (at : ℕ) (addis_of_entry addi_of_entry : List ℕ)
-    → IsRelocated high o addis addis_of_entry
-    → IsRelocated low (at_place at o) addi addi_of_entry
-    → Leaves f (λ n. n == rt_of (word_of addi) || n == rt_of (word_of addis))
-    (two addis_of_entry addi_of_entry) s (rt_of (word_of addi)) (λ n. n ≡ o.got_entry)
-
 abbrev pub Arguments : Type 0
 Arguments =
     NearArgument names.R_PPC64_GOT_TLSGD16 × NearArgument names.R_PPC64_GOT_TLSLD16
-    × PairArgument names.R_PPC64_GOT_TLSGD16_HA names.R_PPC64_GOT_TLSGD16_LO
-    × PairArgument names.R_PPC64_GOT_TLSLD16_HA names.R_PPC64_GOT_TLSLD16_LO
 
 -- What takes the place of a call, where register 3 has a number, leaves another one there.
 abbrev pub CallLeaves : Formats → List ℕ → ℕ → ℕ → Type 0
@@ -488,19 +236,6 @@ NearArgumentToInitialExec =
     → IsRelocated names.R_PPC64_GOT_TPREL16_DS (with_entry entry o) ld ld_of_entry
     → Leaves f (only (rt_of (word_of addi))) (one ld_of_entry) s (rt_of (word_of addi))
     (CallAddsThread f o made s)
-
--- `ld rT,rX` of it in place of `addi rT,rX`, after `addis rX,2`.
-abbrev pub ArgumentToInitialExec : Type 0
-ArgumentToInitialExec =
-    (f : Formats) (o : Operands) (s : State) (addis addi bl ld made : List ℕ)
-    → IsTocPair is_addi o s addis addi
-    → (entry : ℕ) → entry < 2 ^ 64 → loaded 8 s.memory entry ≡ thread_offset o
-    → IsRewritten kinds.AddiToLd addi ld → IsRewritten kinds.CallToAdd bl made
-    → (at : ℕ) (addis_of_entry ld_of_entry : List ℕ)
-    → IsRelocated names.R_PPC64_GOT_TPREL16_HA (with_entry entry o) addis addis_of_entry
-    → IsRelocated names.R_PPC64_GOT_TPREL16_LO_DS (at_place at (with_entry entry o)) ld ld_of_entry
-    → Leaves f (λ n. n == rt_of (word_of addi) || n == rt_of (word_of addis))
-    (two addis_of_entry ld_of_entry) s (rt_of (word_of addi)) (CallAddsThread f o made s)
 
 -- `addis rT,13,0` in place of the `addi`, and `nop` and `addi 3,3,4096` in place of the call:
 -- 0x1000 above the thread pointer.
@@ -642,10 +377,11 @@ after_access c loads_single r = record c { floats = but r c.floats }
 after_access c loads_double r = record c { floats = but r c.floats }
 after_access c a r = c
 
--- Instructions: the test of their words, what they require of an address, and what may differ after
--- them.
+-- Instructions: the test of their words, what they do with an address and require of it, and what
+-- may differ after them.
 pub record Use : Type 1 where
   pub test : ℕ → Bool
+  pub does : Formats → ℕ → ℕ → State → State
   pub Requires : Changes → ℕ → ℕ → Type 0
   pub after : Changes → ℕ → Changes
 
@@ -654,6 +390,7 @@ abbrev pub adds : (ℕ → Bool) → Use
 adds test =
     record {
       test = test;
+      does = λ f word address. write (rt_of word) address;
       Requires = λ c word address. ⊤;
       after = λ c word. without_register (rt_of word) c;
     }
@@ -662,6 +399,7 @@ abbrev pub accesses : (ℕ → Bool) → (ℕ → Access) → Use
 accesses test access =
     record {
       test = test;
+      does = λ f word address. accessed f (access word) (rt_of word) address;
       Requires = λ c word address. ReadsSame c (access word) (rt_of word) address;
       after = λ c word. after_access c (access word) (rt_of word);
     }
@@ -1018,22 +756,6 @@ SumToVariable =
 abbrev pub four_on : Operands → Operands
 four_on o = record o { place = sum_64 o.place 4; symbol = sum_64 o.symbol 4 }
 
--- `addis 2,12` and `addi 2,2` add the distance from the function's entry, which register 12 has,
--- and `lis 2` and `addi 2,2` make the address: the same.
-abbrev pub TocAtEntry : Type 0
-TocAtEntry =
-    (f : Formats) (o : Operands) (s : State) (addis addi lis following : List ℕ) → AreAddresses o
-    → s.registers 12 ≡ o.place
-    → IsTrue (is_addis_of_entry (word_of addis)) → IsTrue (is_addi_of_toc (word_of addi))
-    → IsRewritten kinds.AddisToLis addis lis → IsRewritten kinds.AddiAfterLis addi following
-    → (at : ℕ) (addis_of_distance addi_of_distance lis_of_address addi_of_address : List ℕ)
-    → IsRelocated names.R_PPC64_REL16_HA o addis addis_of_distance
-    → IsRelocated names.R_PPC64_REL16_LO (four_on o) addi addi_of_distance
-    → IsRelocated names.R_PPC64_ADDR16_HA o lis lis_of_address
-    → IsRelocated names.R_PPC64_ADDR16_LO (at_place at o) following addi_of_address
-    → RunAlikeBut f (λ _. false) (two addis_of_distance addi_of_distance)
-    (two lis_of_address addi_of_address) s
-
 -- ---- the TOC pointer after a call
 
 -- In place of the `nop` to which a call returns, register 2 gets the doubleword at r1 + 24, and all
@@ -1052,24 +774,12 @@ RestoresToc =
 
 -- what `rewrites` ensures
 pub record Laws : Type 0 where
-  pub got : GotToAddress
-  pub initial_exec : InitialExecToLocalExec
-  pub initial_exec_access : AccessToLocalExec
-  pub initial_exec_word_access : WordAccessToLocalExec
   pub prefixed : PldToPaddi
-  pub general_to_local : GeneralDynamicToLocalExec
-  pub general_to_initial : GeneralDynamicToInitialExec
-  pub local_dynamic : LocalDynamicToLocalExec
   pub near_initial_exec : NearInitialExecToLocalExec
   pub arguments : Arguments
   pub argument_to_local : ArgumentToLocalExec
-  pub argument_to_initial : ArgumentToInitialExec
   pub near_argument_to_initial : NearArgumentToInitialExec
   pub argument_to_module : ArgumentToModule
-  pub near_toc : AddiNearToc
-  pub access_near_toc : AccessNearToc
-  pub word_access_near_toc : WordAccessNearToc
-  pub vector_access_near_toc : VectorAccessNearToc
   pub high_half : HighHalfToNop
   pub low_half : LowHalfOverBase
   pub offset_high_half : OffsetToHighHalf
@@ -1090,5 +800,4 @@ pub record Laws : Type 0 where
   pub branch_sum : BranchToSum
   pub load_variable : LoadToVariable
   pub sum_variable : SumToVariable
-  pub toc_at_entry : TocAtEntry
   pub toc : RestoresToc

@@ -20,15 +20,11 @@ pub fn aarch64()
     ensures runs { aarch64_worked.WorkedRuns }
 {}
 
-/// PowerPC64: the address of a symbol by its distance from the TOC pointer or from the instruction
-/// and not by its GOT entry, and by one instruction where the distance from the TOC pointer has no
-/// high part; the address of a variable, and loads and stores of it, by its offset from the thread
-/// pointer and not by a GOT entry or a call of `__tls_get_addr`; what is left in a register by one
-/// instruction of such a sequence, in the small code model and where the argument of
-/// `__tls_get_addr` is copied; the TOC pointer at the entry of a function, by its address, and
-/// restored after a call. The high and the low halves, the arguments of `__tls_get_addr` and its
-/// calls, and each instruction of a thread-local sequence of prefixed code have a law each (from
-/// `high_half` to `sum_variable`), of two runs, whatever stands between them.
+/// PowerPC64: what each rewritten instruction does in two runs, of the object's code and of the
+/// new one, which are alike except for some registers and bytes of memory, whatever stands between
+/// them: the high and the low halves, the arguments of `__tls_get_addr` and its calls, each
+/// instruction of a thread-local sequence of prefixed code, and the TOC pointer restored after a
+/// call. Its instructions are groups, too (`simulation::ppc64`).
 pub fn ppc64()
     ensures laws { ppc64_laws.Laws }
 {

@@ -9,6 +9,8 @@ ghost use Rattle.linker_laws.specs.AArch64GroupsWorked as aarch64_worked;
 ghost use Rattle.linker_laws.specs.Chains as chains;
 ghost use Rattle.linker_laws.specs.LoongArchGroups as loongarch_groups;
 ghost use Rattle.linker_laws.specs.LoongArchGroupsWorked as loongarch_worked;
+ghost use Rattle.linker_laws.specs.Ppc64Groups as ppc64_groups;
+ghost use Rattle.linker_laws.specs.Ppc64GroupsWorked as ppc64_worked;
 ghost use Rattle.linker_laws.specs.RiscVGroups as riscv_groups;
 ghost use Rattle.linker_laws.specs.RiscVGroupsWorked as riscv_worked;
 ghost use Rattle.linker_laws.specs.Simulation as simulation;
@@ -85,6 +87,24 @@ pub fn loongarch64_worked()
     ensures worked { loongarch_worked.IsWorked }
 {
     loongarch64();
+}
+
+/// PowerPC64: rewritten instructions are groups, whatever the machine's other instructions do, and
+/// each by itself, whatever stands between them: the halves of addresses near the TOC pointer and
+/// the thread pointer, arguments of `__tls_get_addr` and its calls, prefixed instructions, and
+/// those that leave the TOC pointer.
+pub fn ppc64()
+    ensures groups { ppc64_groups.Groups }
+{
+    crate::relocations::ppc64();
+}
+
+/// PowerPC64: a program with five groups, of which every premise holds. Both of its runs are
+/// computed to the end.
+pub fn ppc64_worked()
+    ensures worked { ppc64_worked.IsWorked }
+{
+    ppc64();
 }
 
 /// x86-64: rewritten instructions are groups, whatever the machine's other instructions do: loads

@@ -1,23 +1,16 @@
 -- The laws of PowerPC64.
-use Rattle.linker_laws.proofs.Ppc64Addresses.{got_to_address, initial_exec, addi_near_toc}
 use Rattle.linker_laws.proofs.Ppc64Apart.{high_half_to_nop, high_half_of_entry, high_half_of_symbol, load_to_sum}
 use Rattle.linker_laws.proofs.Ppc64Arguments.{argument_to_high_half, argument_to_offset, argument_to_thread}
 use Rattle.linker_laws.proofs.Ppc64Arguments.{call_to_low_half, call_to_sum, call_to_block}
 use Rattle.linker_laws.proofs.Ppc64Calls.{restores_toc}
 use Rattle.linker_laws.proofs.Ppc64Copies.{arguments, near_initial_exec, argument_to_local}
-use Rattle.linker_laws.proofs.Ppc64Copies.{argument_to_initial, near_argument_to_initial}
+use Rattle.linker_laws.proofs.Ppc64Copies.{near_argument_to_initial}
 use Rattle.linker_laws.proofs.Ppc64Copies.{argument_to_module}
-use Rattle.linker_laws.proofs.Ppc64Direct.{access_near_toc, access_to_local_exec}
 use Rattle.linker_laws.proofs.Ppc64LowHalves.{low_half_over_base}
 use Rattle.linker_laws.proofs.Ppc64Offsets.{offset_to_high_half, offset_to_low_half}
-use Rattle.linker_laws.proofs.Ppc64WholeWords.{word_access_near_toc}
-use Rattle.linker_laws.proofs.Ppc64IndexedWords.{word_access_to_local_exec}
-use Rattle.linker_laws.proofs.Ppc64Threads.{general_to_local, general_to_initial, local_dynamic}
-use Rattle.linker_laws.proofs.Ppc64Entries.{toc_at_entry}
 use Rattle.linker_laws.proofs.Ppc64Prefixed.{pld_to_paddi}
 use Rattle.linker_laws.proofs.Ppc64PrefixedThreads.{argument_to_block, argument_to_load, argument_to_variable}
 use Rattle.linker_laws.proofs.Ppc64PrefixedThreads.{branch_to_nop, branch_to_sum, load_to_variable, sum_to_variable}
-use Rattle.linker_laws.proofs.Ppc64Vectors.{vector_access_near_toc}
 use Rattle.linker_laws.proofs.rewrites.ppc64.Goals as goal
 
 pub returns : goal.returns
@@ -25,24 +18,12 @@ returns c =
     let laws = c.ppc64.ensures in
     record {
       laws = record {
-        got = got_to_address laws.got laws.toc;
-        initial_exec = initial_exec laws.entries laws.thread;
-        initial_exec_access = access_to_local_exec laws.entries laws.thread;
-        access_near_toc = access_near_toc laws.toc laws.displacements;
-        word_access_near_toc = word_access_near_toc laws.toc laws.displacements;
-        initial_exec_word_access = word_access_to_local_exec laws.entries laws.thread;
-        general_to_local = general_to_local laws.entries laws.thread;
-        general_to_initial = general_to_initial laws.entries;
-        local_dynamic = local_dynamic laws.entries;
         near_initial_exec = near_initial_exec laws.thread laws.displacements;
-        arguments = arguments laws.entries laws.displacements;
+        arguments = arguments laws.displacements;
         argument_to_local = argument_to_local laws.thread;
-        argument_to_initial = argument_to_initial laws.entries;
         near_argument_to_initial = near_argument_to_initial laws.displacements;
         argument_to_module = argument_to_module;
         prefixed = pld_to_paddi laws.prefixed;
-        near_toc = addi_near_toc laws.toc laws.displacements;
-        vector_access_near_toc = vector_access_near_toc laws.toc laws.displacements;
         high_half = high_half_to_nop laws.toc laws.thread laws.entries;
         low_half = low_half_over_base laws.displacements;
         offset_high_half = offset_to_high_half laws.thread;
@@ -63,7 +44,6 @@ returns c =
         branch_sum = branch_to_sum;
         load_variable = load_to_variable laws.prefixed;
         sum_variable = sum_to_variable;
-        toc_at_entry = toc_at_entry laws.relative laws.absolute;
         toc = restores_toc;
       };
     }

@@ -1,0 +1,240 @@
+-- The worked program of PowerPC64.
+use Rattle.std.proofs.Common.{◌≡◌, ℕ, ◌^◌, ◌<◌, Bool, true, false, refl, sym, subst, ap, [], ◌∷◌, lit<, lit≤, pos, List}
+use Rattle.std.proofs.Common.{arith, eqb-true, true≢false}
+use Rattle.std.specs.Prelude.{◌&&◌, ◌==◌, IsSomeAnd}
+use Rattle.std.proofs.lemmas.Int.{ints}
+use Rattle.linker_base.specs.Form.{place_sum}
+use Rattle.linker_elf.specs.declared.elf.value.Operands.{Operands}
+use Rattle.linker_elf.specs.declared.ppc64.forms.Ppc64Instruction.TheVariants.{D, Ds}
+use Rattle.linker_elf.specs.declared.ppc64.relocations.Ppc64Relocation.TheVariants as names
+use Rattle.linker_laws.specs.Changes.{put, with_register}
+use Rattle.linker_laws.specs.Ppc64Groups.{Groups, Leaves, Low, NewLeads, execute, high_part, instruction_at, link, machine, used}
+use Rattle.linker_laws.specs.Ppc64GroupsWorked.{IsWorked, code, known, new, old, starting}
+use Rattle.linker_laws.specs.LoongArchGroupsWorked.{words}
+use Rattle.linker_laws.specs.Ppc64RewriteLaws.{IsRelocated, LowHalfLeads, adds, entry_from_toc, from_thread, from_toc}
+use Rattle.linker_laws.specs.Schemes.{AreAddresses}
+use Rattle.linker_laws.specs.Simulation.{Agree, Group, Kinds, State, anything, ends, group, half, of_link, run, same}
+use Rattle.linker_laws.proofs.AArch64GroupsWorked.{relocated}
+use Rattle.linker_laws.proofs.Ppc64Groups.{sum_keeps}
+use Rattle.linker_utils.specs.Ppc64Rewrites.{is_add_of_thread, is_addi}
+
+-- ---- operands
+
+abbrev operands : ℕ → Operands
+operands symbol =
+    record {
+      symbol = symbol;
+      addend = pos 0;
+      place = 0x10000;
+      got_entry = 0x20010;
+      got_base = 0x20000;
+      plt_entry = 0;
+      symbol_size = 0;
+      tls_base = 0;
+      has_got_entry = true;
+      has_plt_entry = false;
+      has_tls_base = true;
+    }
+
+small : (symbol : ℕ) → symbol < 2 ^ 64 → AreAddresses (operands symbol)
+small symbol below =
+    record {
+      symbol = below;
+      place = lit< tt;
+      got_entry = lit< tt;
+      got_base = lit< tt;
+      plt_entry = lit< tt;
+      tls_base = lit< tt;
+    }
+
+abbrev near : Operands
+near = operands 0x20120
+
+abbrev variable : Operands
+variable = operands 0x54344
+
+-- ---- relocations
+
+abbrev addis : List ℕ
+addis = 0x00 ∷ 0x00 ∷ 0x62 ∷ 0x3c ∷ []
+
+abbrev addi : List ℕ
+addi = 0x00 ∷ 0x00 ∷ 0x63 ∷ 0x38 ∷ []
+
+abbrev over : List ℕ
+over = 0x00 ∷ 0x00 ∷ 0x62 ∷ 0x38 ∷ []
+
+abbrev high : List ℕ
+high = 0x00 ∷ 0x00 ∷ 0x82 ∷ 0x3c ∷ []
+
+abbrev load : List ℕ
+load = 0x00 ∷ 0x00 ∷ 0x84 ∷ 0xe8 ∷ []
+
+abbrev load_of : List ℕ
+load_of = 0x10 ∷ 0x00 ∷ 0x84 ∷ 0xe8 ∷ []
+
+abbrev high_13 : List ℕ
+high_13 = 0x00 ∷ 0x00 ∷ 0x8d ∷ 0x3c ∷ []
+
+abbrev high_13_of : List ℕ
+high_13_of = 0x05 ∷ 0x00 ∷ 0x8d ∷ 0x3c ∷ []
+
+abbrev add : List ℕ
+add = 0x14 ∷ 0x6a ∷ 0xa4 ∷ 0x7c ∷ []
+
+abbrev direct : List ℕ
+direct = 0x00 ∷ 0x00 ∷ 0xa4 ∷ 0x38 ∷ []
+
+abbrev nop : List ℕ
+nop = 0x00 ∷ 0x00 ∷ 0x00 ∷ 0x60 ∷ []
+
+addis_is : IsRelocated names.R_PPC64_TOC16_HA near addis addis
+addis_is =
+    relocated _ _ _ (pos 0x8120) 0x3c620000 refl refl (lit≤ tt) (refl, tt, λ e. refl)
+    ((omega (arith, ints), omega (arith, ints)), lit< tt, tt) refl refl
+
+addi_is : IsRelocated names.R_PPC64_TOC16_LO near addi (0x20 ∷ 0x01 ∷ 0x63 ∷ 0x38 ∷ [])
+addi_is =
+    relocated _ _ _ (pos 0x120) 0x38630000 refl refl (lit≤ tt) (refl, tt, λ e. refl) (tt, lit< tt, tt) refl refl
+
+over_is : IsRelocated names.R_PPC64_TOC16 near over (0x20 ∷ 0x01 ∷ 0x62 ∷ 0x38 ∷ [])
+over_is =
+    relocated _ _ _ (pos 0x120) 0x38620000 refl refl (lit≤ tt) (refl, tt, λ e. refl)
+    ((omega (arith, ints), omega (arith, ints)), lit< tt, tt) refl refl
+
+high_is : IsRelocated names.R_PPC64_GOT_TPREL16_HA variable high high
+high_is =
+    relocated _ _ _ (pos 0x8010) 0x3c820000 refl refl (lit≤ tt) (refl, tt, λ e. refl)
+    ((omega (arith, ints), omega (arith, ints)), lit< tt, tt) refl refl
+
+load_is : IsRelocated names.R_PPC64_GOT_TPREL16_LO_DS variable load load_of
+load_is =
+    relocated _ _ _ (pos 0x10) 0xe8840000 refl refl (lit≤ tt) (refl, (λ e. refl), λ e. refl) (tt, lit< tt, tt) refl refl
+
+high_13_is : IsRelocated names.R_PPC64_TPREL16_HA variable high_13 high_13_of
+high_13_is =
+    relocated _ _ _ (pos 0x5c344) 0x3c8d0000 refl refl (lit≤ tt) (refl, tt, λ e. refl)
+    ((omega (arith, ints), omega (arith, ints)), lit< tt, tt) refl refl
+
+direct_is : IsRelocated names.R_PPC64_TPREL16_LO variable direct (0x44 ∷ 0x43 ∷ 0xa4 ∷ 0x38 ∷ [])
+direct_is =
+    relocated _ _ _ (pos 0x54344) 0x38a40000 refl refl (lit≤ tt) (refl, tt, λ e. refl) (tt, lit< tt, tt) refl refl
+
+-- ---- runs
+
+starts : Agree (link code) known starting starting
+starts =
+    record {
+      small = lit< tt;
+      pc = refl;
+      registers = λ r. refl;
+      memory = λ a below. refl;
+      outside = refl;
+    }
+
+abbrev s1 : State
+s1 = put 3 (high_part addis starting) 0x10004 starting
+
+abbrev s2 : State
+s2 = used code.processor (adds is_addi) 0x38630000 0x20120 s1
+
+abbrev s3 : State
+s3 = put 4 (high_part high s2) 0x1000c s2
+
+abbrev s4 : State
+s4 = put 4 0x54344 0x10010 s3
+
+abbrev s5 : State
+s5 = used code.processor (adds is_add_of_thread) 0x7ca46a14 0x54351 s4
+
+abbrev k1 : Kinds
+k1 = with_register 3 anything known
+
+abbrev k2 : Kinds
+k2 = with_register 3 same k1
+
+abbrev k3 : Kinds
+k3 = with_register 4 anything k2
+
+abbrev k4 : Kinds
+k4 = with_register 4 (half 0) k3
+
+abbrev k5 : Kinds
+k5 = with_register 5 same k4
+
+made_high : 0x5000d ≡ high_part high_13_of s3
+unfolding place_sum
+made_high = refl
+
+old_end : IsSomeAnd (run 5 (machine code.processor (words old)) starting)
+    (λ s. (s.pc ≡ 0x10014) × (s.registers 3 ≡ 0x20120) × (s.registers 5 ≡ 0x54351))
+unfolding place_sum
+old_end = (refl, refl, refl)
+
+new_end : IsSomeAnd (run 5 (machine code.processor (words new)) starting)
+    (λ s. (s.pc ≡ 0x10014) × (s.registers 3 ≡ 0x20120) × (s.registers 5 ≡ 0x54351))
+unfolding place_sum
+new_end = (refl, refl, refl)
+
+second : (a b : Bool) → (a && b) ≡ true → b ≡ true
+second true b e = e
+second false b e = absurd (true≢false (sym e))
+
+module _ (g : Groups) where
+  -- near the TOC pointer
+  toc : (Low names.R_PPC64_TOC16_LO D from_toc near (high_part addis starting) (starting.registers 2)
+      × Low names.R_PPC64_TOC16_LO_DS Ds from_toc near (high_part addis starting) (starting.registers 2))
+      × Leaves 4 code known starting 3 anything (high_part addis starting)
+  toc =
+      g.high_halves.0 code near known starting addis nop (small 0x20120 (lit< tt)) refl refl
+      (record { relocated = addis; applied = addis_is; stands = (refl, tt) }) (refl, tt)
+
+  p2 : Group (of_link (link code)) 1 k1 s1 k2 s2
+  p2 =
+      g.low_halves.0 code near k1 s1 addi over (small 0x20120 (lit< tt)) refl refl refl (toc.0).0
+      (record { relocated = 0x20 ∷ 0x01 ∷ 0x63 ∷ 0x38 ∷ []; applied = addi_is; stands = (refl, tt) })
+      (record { relocated = 0x20 ∷ 0x01 ∷ 0x62 ∷ 0x38 ∷ []; applied = over_is; stands = (refl, tt) }) k2
+      (λ t agree. sum_keeps code k1 s1 t is_addi 0x38630000 0x20120 agree)
+
+  -- of initial-exec
+  entry : Low names.R_PPC64_GOT_TPREL16_LO_DS Ds entry_from_toc variable (high_part high s2) (s2.registers 2)
+      × Leaves 4 code k2 s2 4 anything (high_part high s2)
+  entry =
+      g.high_halves.2 code variable k2 s2 high nop (small 0x54344 (lit< tt)) refl refl
+      (record { relocated = high; applied = high_is; stands = (refl, tt) }) (refl, tt)
+
+  offset : LowHalfLeads variable (code.new_half 0) (from_thread variable (s3.registers 13))
+      × Leaves 4 code k3 s3 4 (half 0) 0x54344
+  offset =
+      g.offsets code variable k3 s3 load high_13 (small 0x54344 (lit< tt)) refl refl
+      (record { at = 0x20010; leads = entry.0; holds = refl })
+      (record { relocated = load_of; applied = load_is; stands = (refl, tt) }) 0 refl
+      (record { relocated = high_13_of; applied = high_13_is; stands = (refl, tt) }) (refl, made_high)
+
+  leads : NewLeads code variable k4 s4 4
+  leads t agree =
+      subst (λ n. LowHalfLeads variable n (from_thread variable 13))
+      (sym (eqb-true (t.registers 4) 0x5000d (second true (t.registers 4 == 0x5000d) (agree.registers 4)))) offset.0
+
+  p5 : Group (of_link (link code)) 1 k4 s4 k5 s5
+  p5 =
+      g.low_offsets.0 code variable k4 s4 add direct refl refl refl leads (refl, tt)
+      (record { relocated = 0x44 ∷ 0x43 ∷ 0xa4 ∷ 0x38 ∷ []; applied = direct_is; stands = (refl, tt) }) k5
+      (λ t agree. sum_keeps code k4 s4 t is_add_of_thread 0x7ca46a14 0x54351 agree)
+
+  pub is_worked : IsWorked
+  is_worked =
+      record {
+        kinds = k5;
+        state = s5;
+        agree = starts;
+        covered =
+            group 4 1 4 _ _ _ _ _ _ toc.1 (group 3 1 3 _ _ _ _ _ _ p2 (group 2 1 2 _ _ _ _ _ _ entry.1
+            (group 1 1 1 _ _ _ _ _ _ offset.1 (group 0 1 0 _ _ _ _ _ _ p5 (ends k5 s5)))));
+        stops = record {
+          old_stops = refl;
+          new_stops = λ t agree. ap (λ a. execute code.processor (instruction_at (words new) a) t) agree.pc;
+        };
+        old_ends = old_end;
+        new_ends = new_end;
+      }

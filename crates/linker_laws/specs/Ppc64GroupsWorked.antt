@@ -1,0 +1,69 @@
+-- A program of PowerPC64 with groups, of which every premise holds, and both runs computed to the
+-- end.
+use Rattle.std.specs.Prelude.{◌≡◌, ℕ, ◌-◌, ◌/◌, ◌%◌, ◌^◌, ◌==◌, ◌&&◌, nat_lt, nat_le}
+use Rattle.std.specs.Prelude.{if◌then◌else◌, List, [], ◌∷◌, None, IsSomeAnd}
+use Rattle.linker_laws.specs.LoongArchGroupsWorked.{words}
+use Rattle.linker_laws.specs.Ppc64Groups.{Code, link, machine}
+use Rattle.linker_laws.specs.Simulation.{State, Kinds, Agree, Covered, Stops, of_link, run, same}
+use Rattle.linker_laws.specs.SimulationWorked.{of_byte}
+
+-- No instruction is at the end.
+abbrev pub old : List ℕ
+old =
+    0x3c620000  -- addis r3, r2, 0
+    ∷ 0x38630120  -- addi r3, r3, 0x120
+    ∷ 0x3c820000  -- addis r4, r2, 0
+    ∷ 0xe8840010  -- ld r4, 0x10(r4)
+    ∷ 0x7ca46a14  -- add r5, r4, r13
+    ∷ []
+
+abbrev pub new : List ℕ
+new =
+    0x60000000  -- nop
+    ∷ 0x38620120  -- addi r3, r2, 0x120
+    ∷ 0x60000000  -- nop
+    ∷ 0x3c8d0005  -- addis r4, r13, 5
+    ∷ 0x38a44344  -- addi r5, r4, 0x4344
+    ∷ []
+
+-- no other instruction
+abbrev pub code : Code
+code =
+    record {
+      processor = record {
+        others = λ number s. None;
+        formats = record { widened = λ n. n; narrowed = λ n. n };
+      };
+      old = words old;
+      new = words new;
+      old_half = λ h. 0x54344;
+      new_half = λ h. 0x5000d;
+    }
+
+-- the TOC pointer in r2, and the offset in the entry at 0x20010
+abbrev pub starting : State
+starting =
+    record {
+      pc = 0x10000;
+      registers = λ r. if r == 2 then 0x20000 else r;
+      memory = λ a. if nat_le 0x20010 a && nat_lt a 0x20018 then 0x54344 / 256 ^ (a - 0x20010) % 256
+          else 0;
+      outside = λ n. 0;
+    }
+
+abbrev pub known : Kinds
+known = record { registers = λ r. same; memory = λ a. of_byte same }
+
+-- Five groups, each of one instruction in both.
+pub record IsWorked : Type 0 where
+  pub kinds : Kinds
+  pub state : State
+  pub agree : Agree (link code) known starting starting
+  pub covered : Covered (of_link (link code)) 5 5 known starting kinds state
+  pub stops : Stops (of_link (link code)) kinds state
+  pub old_ends :
+      IsSomeAnd (run 5 (machine code.processor (words old)) starting)
+      (λ s. (s.pc ≡ 0x10014) × (s.registers 3 ≡ 0x20120) × (s.registers 5 ≡ 0x54351))
+  pub new_ends :
+      IsSomeAnd (run 5 (machine code.processor (words new)) starting)
+      (λ s. (s.pc ≡ 0x10014) × (s.registers 3 ≡ 0x20120) × (s.registers 5 ≡ 0x54351))
