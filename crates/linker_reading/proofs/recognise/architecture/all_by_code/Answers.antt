@@ -1,4 +1,4 @@
-use Rattle.std.proofs.Common.{◌≡◌, ◌+◌, ◌-◌, ◌++◌, ◌<◌, None, suc, length, get_or, map, take, replicate, set, ap, sym, ◌∙◌, arith}
+use Rattle.std.proofs.Common.{◌≡◌, ◌+◌, ◌-◌, ◌++◌, ◌<◌, ◌≤◌, None, suc, length, get_or, map, take, replicate, set, ap, sym, ◌∙◌, arith}
 use Rattle.std.proofs.lemmas.List.{append-nil, take_all}
 use Rattle.linker_reading.specs.FoundByCode.{by_code}
 use Rattle.linker_elf.specs.Architectures.{of_some}
@@ -29,7 +29,7 @@ pub returns : goal.returns
 returns g c =
     let f = of_some (by_code g.N.RecognisedName.how) in
     let found = c.args.found in
-    let past = c.loop-index-test.false in
+    let past : 6 ≤ c.loop-index.index = c.loop-index-test.false in
     c.loop-index.invariant
     ∙ ap (λ xs. map f xs ++ replicate (6 - c.loop-index.index) None) (take_all c.loop-index.index found (omega (arith, past, c.requires)))
     ∙ ap (λ n. map f found ++ replicate n None) (let e : 6 - c.loop-index.index ≡ 0 = omega (arith, past) in e)
