@@ -20,6 +20,7 @@ pub mod LoongArchPackedSites
 pub mod LoongArchPackedStays
 pub mod LoongArchPairs
 pub mod LoongArchWritten
+pub mod Noise
 pub mod Others
 pub mod PackedBytes
 pub mod PackedInstructions

@@ -1,5 +1,5 @@
 -- What was found of the choices of a table.
-use Rattle.std.proofs.Common.{◌≡◌, ◌≢◌, ◌↔◌, ◌<◌, ◌≤◌, ◌+◌, ℕ, zero, suc, List, [], ◌∷◌, length, get_or, set, slice_get, Option, Some, None, refl, sym, ap, ◌∙◌, inl, inr, ⊎_elim, arith}
+use Rattle.std.proofs.Common.{◌≡◌, ◌≢◌, ◌↔◌, ◌<◌, ◌≤◌, ◌+◌, ℕ, zero, suc, List, [], ◌∷◌, length, get_or, replicate, set, slice_get, Option, Some, None, refl, sym, ap, ◌∙◌, inl, inr, ⊎_elim, arith}
 use Rattle.std.proofs.lemmas.Bool.{cases_lt, cases_eq}
 use Rattle.std.proofs.lemmas.List.{get_or-set_same, get_or-set_other, length-set}
 use Rattle.linker_elf.specs.Choices.{choice}
@@ -44,7 +44,22 @@ one_of a (x ∷ xs) (suc i) e = inr (one_of a xs i e)
 
 -- ---- one choice more
 
+none_in : {B : Type 0} (n i : ℕ) (b : B) → get_or (replicate n None) i None ≡ Some b → ⊥
+none_in zero i b e = not_none None b refl e
+none_in (suc n) zero b e = not_none None b refl e
+none_in (suc n) (suc i) b e = none_in n i b e
+
 module _ {A B : Type 0} (of : B → A) (IsSo : B → Type 0) (choices : List A) where
+  pub none_found : AreFoundOfFirst of IsSo choices (replicate 6 None) 0
+  none_found =
+      record {
+        lengths = refl;
+        first = λ i b e. absurd (none_in 6 i b e);
+        placed = λ i b e. absurd (none_in 6 i b e);
+        so = λ i b e. absurd (none_in 6 i b e);
+        all = λ i b h. absurd (omega (arith, h));
+      }
+
   -- the same choice has a place before
   pub same_again : (found : List (Option B)) (n : ℕ) → AreFoundOfFirst of IsSo choices found n → IsRepeated choices n
       → AreFoundOfFirst of IsSo choices found (n + 1)

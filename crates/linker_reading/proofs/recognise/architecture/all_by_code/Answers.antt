@@ -1,4 +1,5 @@
-use Rattle.std.proofs.Common.{◌≡◌, ◌+◌, ◌-◌, ◌++◌, ◌<◌, None, suc, length, get_or, map, take, replicate, set, ap, sym, ◌∙◌, arith}
+use Rattle.std.proofs.Common.{◌≡◌, ◌+◌, ◌-◌, ◌++◌, ◌<◌, ◌≤◌, None, suc, length, get_or, map, take, replicate, set, ap, sym, ◌∙◌, arith}
+use Rattle.std.proofs.lemmas.List.{append-nil, take_all}
 use Rattle.linker_reading.specs.FoundByCode.{by_code}
 use Rattle.linker_elf.specs.Architectures.{of_some}
 use Rattle.linker_reading.proofs.Tables.{mapped_more, same_more, none_of}
@@ -23,3 +24,13 @@ loop-index-preserved g c =
           ∙ same_more f found i (6 - (i + 1)) c.index-found-index.result None within
           (ap f (none_of (get_or found i c.index-found-index.result) (sym c.is_some.ensures ∙ w.if-is_some.false))) ∙ next
     ]
+
+pub returns : goal.returns
+returns g c =
+    let f = of_some (by_code g.N.RecognisedName.how) in
+    let found = c.args.found in
+    let past : 6 ≤ c.loop-index.index = c.loop-index-test.false in
+    c.loop-index.invariant
+    ∙ ap (λ xs. map f xs ++ replicate (6 - c.loop-index.index) None) (take_all c.loop-index.index found (omega (arith, past, c.requires)))
+    ∙ ap (λ n. map f found ++ replicate n None) (let e : 6 - c.loop-index.index ≡ 0 = omega (arith, past) in e)
+    ∙ append-nil (map f found)

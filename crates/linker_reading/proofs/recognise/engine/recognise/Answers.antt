@@ -4,10 +4,16 @@ use Rattle.linker_elf.specs.declared.elf.choice.Choice.{Choice}
 use Rattle.linker_reading.specs.Inner.Found.{IsMeant, AreFoundOfFirst, IsRepeated}
 use Rattle.linker_reading.specs.Recognised.{choices_at}
 use Rattle.linker_reading.specs.declared.recognise.engine.Recognised.{Recognised}
-use Rattle.linker_reading.proofs.Found.{one_more, same_again, found_in_table, are_distinct, chosen_found}
+use Rattle.linker_reading.proofs.Found.{none_found, one_more, same_again, found_in_table, are_distinct, chosen_found}
 use Rattle.linker_reading.proofs.Tables.{taken_at, repeated_in, repeated_of, taken_few}
 use Rattle.linker_reading.proofs.recognise.engine.recognise.Goals.{in-Some, in_default}
 use Rattle.linker_reading.proofs.recognise.engine.recognise.Goals as goal
+
+pub loop-index-init : goal.loop-index-init
+loop-index-init g c =
+    none_found (λ (m : Recognised g.row.N-Kind.Denot g.row.N.Denot). m.choice)
+    (IsMeant g.N.RecognisedName.how c.args.original.now c.args.offset c.args.others.now c.args.linked.now)
+    (choices_at g.N.RecognisedName.how c.args.name c.args.original.now c.args.offset)
 
 pub loop-index-preserved : goal.loop-index-preserved
 loop-index-preserved g c =
@@ -44,6 +50,9 @@ returns-clause-any g c =
     chosen_found g.N.RecognisedName.how c.args.name c.args.original.now c.args.offset c.args.others.now c.args.linked.now c.loop-index.found g.met.N.RecognisedName.laws.chosen_matches
     (found_in_table g.N.RecognisedName.how c.args.name c.args.original.now c.args.offset c.args.others.now c.args.linked.now c.loop-index.found c.loop-index.index c.loop-index.invariant
     (let few : length choices ≤ c.listed-choices.result.1 = taken_few c.listed-choices.result.0 choices c.listed-choices.result.1 c.listed-choices.ensures.choices in omega (arith, few, c.loop-index-test.false)))
+
+pub returns-clause-placed : goal.returns-clause-placed
+returns-clause-placed g c = c.loop-index.invariant.placed
 
 pub returns-clause-once : goal.returns-clause-once
 returns-clause-once g c =

@@ -1,0 +1,44 @@
+-- The numbers before a row's instruction, with the powers of 2 written out, since `2 ^ n` takes n
+-- steps.
+use Rattle.std.proofs.Common.{◌≡◌, ℕ, ◌+◌, ◌*◌, ◌/◌, ◌%◌, ◌^◌, ◌==◌, ◌&&◌, Bool, true, List, [], ◌∷◌, refl, ap, ◌∙◌}
+use Rattle.std.specs.Prelude.{if◌then◌else◌}
+use Rattle.std.specs.List.{list_all}
+use Rattle.linker_final.specs.Steps.{Executed, Group, at, pc}
+
+abbrev noise_64 : ℕ → ℕ
+noise_64 k =
+    let n = k * 0x9e3779b97f4a7c15f39cc0605cedc8341082276bf3a27251f86c6a11d0c18e95 % 0x10000000000000000 in
+    n * n / 0x100000000 % 0x10000000000000000
+
+abbrev pub noise_256 : ℕ → ℕ
+noise_256 k =
+    let n = k * 0x9e3779b97f4a7c15f39cc0605cedc8341082276bf3a27251f86c6a11d0c18e95
+    % 0x10000000000000000000000000000000000000000000000000000000000000000 in
+    n * n / 0x100000000000000000000000000000000
+    % 0x10000000000000000000000000000000000000000000000000000000000000000
+
+abbrev pub quick_high : ℕ → ℕ → ℕ → ℕ
+quick_high unit row place =
+    let number = noise_64 (256 * row + place) in
+    if place == pc then 7 * 2 ^ 44 + unit * (number % 2 ^ 30) else (
+    if place == at then 6 * 2 ^ 44 + number % 2 ^ 30 else number)
+
+abbrev pub quick_low : ℕ → ℕ → ℕ
+quick_low row place =
+    let number = noise_64 (256 * row + place) in
+    let part = 2 ^ 33 * (number % 3) in
+    if place == pc then part + 2 ^ 20 + 2 ^ 14 * row + 2 ^ 10 + 4 * (number / 3 % 3584) else (
+    if place == at then part + 2 ^ 26 + number / 3 % 2 ^ 24 else number)
+
+same_all : {A : Type 0} (f g : A → Bool) → ((a : A) → f a ≡ g a) → (xs : List A) → list_all f xs ≡ list_all g xs
+same_all f g same [] = refl
+same_all f g same (x ∷ xs) = ap (λ b. b && list_all f xs) (same x) ∙ ap (λ b. g x && b) (same_all f g same xs)
+
+-- the rows of all groups pass a test that is the same as one that they pass
+pub groups_pass : (slow quick : Group → Executed → Bool) → ((g : Group) (e : Executed) → slow g e ≡ quick g e)
+    → (groups : List Group) → list_all (λ (g : Group). list_all (quick g) g.rows) groups ≡ true
+    → list_all (λ (g : Group). list_all (slow g) g.rows) groups ≡ true
+groups_pass slow quick same groups pass =
+    same_all (λ (g : Group). list_all (slow g) g.rows) (λ (g : Group). list_all (quick g) g.rows)
+    (λ (g : Group). same_all (slow g) (quick g) (same g) g.rows) groups
+    ∙ pass
