@@ -109,3 +109,69 @@ returns-in-NopToRestoreToc-clause-bytes c =
     (made.edited
     ∙ two s o _ _ _ _ (all_kept (first s o) (subst (λ n. n < 2 ^ 32) (first_of_window (drop o s)) (elim made.word [ inl none ↦ search rules | inr small ↦ small ])))
     (set_alone 0xe8410018 (first s o)))
+
+pub returns-in-AddisToNop-clause-bytes : goal.returns-in-AddisToNop-clause-bytes
+returns-in-AddisToNop-clause-bytes c =
+    let s = c.args.section_bytes.now in
+    let o = c.args.offset_in_section.now - 0 in
+    rw c.in-AddisToNop.is (c.apply-in-AddisToNop.ensures.edited ∙ one s o _ _ (set_alone 0x60000000 (word s o)))
+
+pub returns-in-IndexedToD-clause-bytes : goal.returns-in-IndexedToD-clause-bytes
+returns-in-IndexedToD-clause-bytes c = rw c.in-IndexedToD.is c.apply-in-IndexedToD.ensures.edited
+
+pub returns-in-IndexedToDs-clause-bytes : goal.returns-in-IndexedToDs-clause-bytes
+returns-in-IndexedToDs-clause-bytes c = rw c.in-IndexedToDs.is c.apply-in-IndexedToDs.ensures.edited
+
+pub returns-in-CallToAddi-clause-bytes : goal.returns-in-CallToAddi-clause-bytes
+returns-in-CallToAddi-clause-bytes c =
+    let s = c.args.section_bytes.now in
+    let o = c.args.offset_in_section.now - 0 in
+    rw c.in-CallToAddi.is (c.apply-in-CallToAddi.ensures.edited ∙ two s o _ _ _ _ (set_alone 0x60000000 (first s o)) (set_alone 0x38630000 (first s o)))
+
+pub returns-in-CallToAdd-clause-bytes : goal.returns-in-CallToAdd-clause-bytes
+returns-in-CallToAdd-clause-bytes c =
+    let s = c.args.section_bytes.now in
+    let o = c.args.offset_in_section.now - 0 in
+    rw c.in-CallToAdd.is (c.apply-in-CallToAdd.ensures.edited ∙ two s o _ _ _ _ (set_alone 0x60000000 (first s o)) (set_alone 0x7c636a14 (first s o)))
+
+pub returns-in-CallToAddi4096-clause-bytes : goal.returns-in-CallToAddi4096-clause-bytes
+returns-in-CallToAddi4096-clause-bytes c =
+    let s = c.args.section_bytes.now in
+    let o = c.args.offset_in_section.now - 0 in
+    rw c.in-CallToAddi4096.is (c.apply-in-CallToAddi4096.ensures.edited ∙ two s o _ _ _ _ (set_alone 0x60000000 (first s o)) (set_alone 0x38631000 (first s o)))
+
+pub returns-in-AddisToLis-clause-bytes : goal.returns-in-AddisToLis-clause-bytes
+returns-in-AddisToLis-clause-bytes c =
+    let s = c.args.section_bytes.now in
+    let o = c.args.offset_in_section.now - 0 in
+    rw c.in-AddisToLis.is (c.apply-in-AddisToLis.ensures.edited ∙ one s o _ _ (set_alone 0x3c400000 (word s o)))
+
+pub returns-in-AddiAfterLis-clause-bytes : goal.returns-in-AddiAfterLis-clause-bytes
+returns-in-AddiAfterLis-clause-bytes c =
+    let s = c.args.section_bytes.now in
+    let o = c.args.offset_in_section.now - 0 in
+    rw c.in-AddiAfterLis.is (c.apply-in-AddiAfterLis.ensures.edited ∙ one s o _ _ (set_alone 0x38420000 (word s o)))
+
+pub returns-in-AddisThreadToNop-clause-bytes : goal.returns-in-AddisThreadToNop-clause-bytes
+returns-in-AddisThreadToNop-clause-bytes c =
+    let s = c.args.section_bytes.now in
+    let o = c.args.offset_in_section.now - 0 in
+    rw c.in-AddisThreadToNop.is (c.apply-in-AddisThreadToNop.ensures.edited ∙ one s o _ _ (set_alone 0x60000000 (word s o)))
+
+pub returns-in-AddToMove-clause-bytes : goal.returns-in-AddToMove-clause-bytes
+returns-in-AddToMove-clause-bytes c = rw c.in-AddToMove.is c.apply-in-AddToMove.ensures.edited
+
+pub returns-in-IndexedToDirect-clause-bytes : goal.returns-in-IndexedToDirect-clause-bytes
+returns-in-IndexedToDirect-clause-bytes c = rw c.in-IndexedToDirect.is c.apply-in-IndexedToDirect.ensures.edited
+
+pub returns-in-BranchToNop-clause-bytes : goal.returns-in-BranchToNop-clause-bytes
+returns-in-BranchToNop-clause-bytes c =
+    let s = c.args.section_bytes.now in
+    let o = c.args.offset_in_section.now - 0 in
+    rw c.in-BranchToNop.is (c.apply-in-BranchToNop.ensures.edited ∙ one s o _ _ (set_alone 0x60000000 (word s o)))
+
+pub returns-in-BranchToAdd-clause-bytes : goal.returns-in-BranchToAdd-clause-bytes
+returns-in-BranchToAdd-clause-bytes c =
+    let s = c.args.section_bytes.now in
+    let o = c.args.offset_in_section.now - 0 in
+    rw c.in-BranchToAdd.is (c.apply-in-BranchToAdd.ensures.edited ∙ one s o _ _ (set_alone 0x7c636a14 (word s o)))
