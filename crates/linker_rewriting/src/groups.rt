@@ -2,8 +2,7 @@
 //! are rewritten, or none is.
 
 ghost use Rattle.std.specs.Prelude.{◌≡◌};
-ghost use Rattle.linker_rewriting.specs.Groups.{IsScope, IsScopeIn, aarch64_scope, loongarch_scope};
-ghost use Rattle.linker_rewriting.specs.Groups.{ppc64_scope, x86_64_scope, keeps, with_kept};
+ghost use Rattle.linker_rewriting.specs.Groups.{IsScope, IsScopeIn, keeps, with_kept};
 ghost use Rattle.linker_rewriting.specs.Groups.{aarch64_scope_in, loongarch_scope_in};
 ghost use Rattle.linker_rewriting.specs.Groups.{ppc64_scope_in, riscv_scope_in, x86_64_scope_in};
 ghost use Rattle.linker_rewriting.specs.Groups.{is_mark, IsMark, symbol_of_group, stays_at};
@@ -119,108 +118,20 @@ impl UnrelaxableGroups {
     }
 }
 
-/// The scope of a relocation of AArch64.
-#[inline(always)]
-fn aarch64_scope(name: AArch64Relocation) -> Scope
-    ensures { result ≡ aarch64_scope name }
-{
-    match name {
-        AArch64Relocation::R_AARCH64_CALL26 | AArch64Relocation::R_AARCH64_JUMP26 =>
-            Scope::Independent,
-        AArch64Relocation::R_AARCH64_TLSIE_ADR_GOTTPREL_PAGE21
-        | AArch64Relocation::R_AARCH64_TLSIE_LD64_GOTTPREL_LO12_NC => {
-            Scope::Grouped(Group::InitialExec)
+/// The scope of a name in a phase, by a list for each phase. What isn't listed isn't rewritten.
+macro_rules! scopes {
+    (
+        $phase:ident, $name:ident: $names:ident
+        $($in:ident { $($scope:expr => $($listed:ident)+;)* })*
+    ) => {
+        match $phase {
+            $(Phase::$in => match $name {
+                $($($names::$listed)|+ => $scope,)*
+                _ => Scope::NotRelaxable,
+            },)*
+            _ => Scope::NotRelaxable,
         }
-        AArch64Relocation::R_AARCH64_TLSDESC_ADR_PAGE21
-        | AArch64Relocation::R_AARCH64_TLSDESC_LD64_LO12
-        | AArch64Relocation::R_AARCH64_TLSDESC_ADD_LO12
-        | AArch64Relocation::R_AARCH64_TLSDESC_CALL => Scope::Grouped(Group::Descriptor),
-        _ => Scope::NotRelaxable,
-    }
-}
-
-/// The scope of a relocation of LoongArch.
-#[inline(always)]
-fn loongarch_scope(name: LoongArch64Relocation) -> Scope
-    ensures { result ≡ loongarch_scope name }
-{
-    match name {
-        LoongArch64Relocation::R_LARCH_GOT_PC_HI20 | LoongArch64Relocation::R_LARCH_GOT_PC_LO12 =>
-            Scope::Independent,
-        LoongArch64Relocation::R_LARCH_TLS_IE_PC_HI20
-        | LoongArch64Relocation::R_LARCH_TLS_IE_PC_LO12
-        | LoongArch64Relocation::R_LARCH_TLS_IE64_PC_LO20
-        | LoongArch64Relocation::R_LARCH_TLS_IE64_PC_HI12 => Scope::Grouped(Group::InitialExec),
-        LoongArch64Relocation::R_LARCH_TLS_DESC_PC_HI20
-        | LoongArch64Relocation::R_LARCH_TLS_DESC_PC_LO12
-        | LoongArch64Relocation::R_LARCH_TLS_DESC64_PC_LO20
-        | LoongArch64Relocation::R_LARCH_TLS_DESC64_PC_HI12
-        | LoongArch64Relocation::R_LARCH_TLS_DESC_LD
-        | LoongArch64Relocation::R_LARCH_TLS_DESC_CALL => Scope::Grouped(Group::Descriptor),
-        _ => Scope::NotRelaxable,
-    }
-}
-
-/// The scope of a relocation of PowerPC64.
-#[inline(always)]
-fn ppc64_scope(name: Ppc64Relocation) -> Scope
-    ensures { result ≡ ppc64_scope name }
-{
-    match name {
-        Ppc64Relocation::R_PPC64_REL24 | Ppc64Relocation::R_PPC64_GOT_PCREL34 => Scope::Independent,
-        Ppc64Relocation::R_PPC64_GOT16
-        | Ppc64Relocation::R_PPC64_GOT16_DS
-        | Ppc64Relocation::R_PPC64_GOT16_LO
-        | Ppc64Relocation::R_PPC64_GOT16_LO_DS
-        | Ppc64Relocation::R_PPC64_GOT16_HI
-        | Ppc64Relocation::R_PPC64_GOT16_HA => Scope::Grouped(Group::GotLoad),
-        Ppc64Relocation::R_PPC64_GOT_TPREL16_DS
-        | Ppc64Relocation::R_PPC64_GOT_TPREL16_LO_DS
-        | Ppc64Relocation::R_PPC64_GOT_TPREL16_HI
-        | Ppc64Relocation::R_PPC64_GOT_TPREL16_HA
-        | Ppc64Relocation::R_PPC64_GOT_TPREL_PCREL34
-        | Ppc64Relocation::R_PPC64_TLS => Scope::Grouped(Group::InitialExec),
-        Ppc64Relocation::R_PPC64_GOT_TLSGD16
-        | Ppc64Relocation::R_PPC64_GOT_TLSGD16_LO
-        | Ppc64Relocation::R_PPC64_GOT_TLSGD16_HI
-        | Ppc64Relocation::R_PPC64_GOT_TLSGD16_HA
-        | Ppc64Relocation::R_PPC64_GOT_TLSGD_PCREL34
-        | Ppc64Relocation::R_PPC64_TLSGD => Scope::Grouped(Group::GeneralDynamic),
-        Ppc64Relocation::R_PPC64_GOT_TLSLD16
-        | Ppc64Relocation::R_PPC64_GOT_TLSLD16_LO
-        | Ppc64Relocation::R_PPC64_GOT_TLSLD16_HI
-        | Ppc64Relocation::R_PPC64_GOT_TLSLD16_HA
-        | Ppc64Relocation::R_PPC64_GOT_TLSLD_PCREL34
-        | Ppc64Relocation::R_PPC64_TLSLD => Scope::Grouped(Group::LocalDynamic),
-        _ => Scope::NotRelaxable,
-    }
-}
-
-/// The scope of a relocation of x86-64.
-#[inline(always)]
-fn x86_64_scope(name: X86_64Relocation) -> Scope
-    ensures { result ≡ x86_64_scope name }
-{
-    match name {
-        X86_64Relocation::R_X86_64_GOTPCREL
-        | X86_64Relocation::R_X86_64_GOTPCRELX
-        | X86_64Relocation::R_X86_64_REX_GOTPCRELX
-        | X86_64Relocation::R_X86_64_CODE_4_GOTPCRELX
-        | X86_64Relocation::R_X86_64_CODE_6_GOTPCRELX
-        | X86_64Relocation::R_X86_64_GOTTPOFF
-        | X86_64Relocation::R_X86_64_CODE_4_GOTTPOFF
-        | X86_64Relocation::R_X86_64_CODE_6_GOTTPOFF
-        | X86_64Relocation::R_X86_64_TLSGD => Scope::Independent,
-        X86_64Relocation::R_X86_64_TLSLD
-        | X86_64Relocation::R_X86_64_DTPOFF32
-        | X86_64Relocation::R_X86_64_DTPOFF64 => Scope::Grouped(Group::LocalDynamic),
-        X86_64Relocation::R_X86_64_GOTPC32_TLSDESC
-        | X86_64Relocation::R_X86_64_CODE_4_GOTPC32_TLSDESC
-        | X86_64Relocation::R_X86_64_CODE_5_GOTPC32_TLSDESC
-        | X86_64Relocation::R_X86_64_CODE_6_GOTPC32_TLSDESC
-        | X86_64Relocation::R_X86_64_TLSDESC_CALL => Scope::Grouped(Group::Descriptor),
-        _ => Scope::NotRelaxable,
-    }
+    };
 }
 
 /// The scope of a relocation of AArch64 in a phase.
@@ -228,19 +139,22 @@ fn x86_64_scope(name: X86_64Relocation) -> Scope
 fn aarch64_scope_in(phase: Phase, name: AArch64Relocation) -> Scope
     ensures { result ≡ aarch64_scope_in phase name }
 {
-    match phase {
-        Phase::PreLayout => aarch64_scope(name),
-        Phase::GotToPcRel => match name {
-            AArch64Relocation::R_AARCH64_ADR_GOT_PAGE
-            | AArch64Relocation::R_AARCH64_LD64_GOT_LO12_NC => Scope::Grouped(Group::GotLoad),
-            _ => Scope::NotRelaxable,
-        },
-        Phase::ShortPcRel => match name {
-            AArch64Relocation::R_AARCH64_ADR_PREL_PG_HI21 => Scope::FirstOfPair,
-            AArch64Relocation::R_AARCH64_ADD_ABS_LO12_NC => Scope::Independent,
-            _ => Scope::NotRelaxable,
-        },
-        Phase::TlsLocalExec => Scope::NotRelaxable,
+    scopes! {
+        phase, name: AArch64Relocation
+        PreLayout {
+            Scope::Independent => R_AARCH64_CALL26 R_AARCH64_JUMP26;
+            Scope::Grouped(Group::InitialExec) => R_AARCH64_TLSIE_ADR_GOTTPREL_PAGE21
+                R_AARCH64_TLSIE_LD64_GOTTPREL_LO12_NC;
+            Scope::Grouped(Group::Descriptor) => R_AARCH64_TLSDESC_ADR_PAGE21
+                R_AARCH64_TLSDESC_LD64_LO12 R_AARCH64_TLSDESC_ADD_LO12 R_AARCH64_TLSDESC_CALL;
+        }
+        GotToPcRel {
+            Scope::Grouped(Group::GotLoad) => R_AARCH64_ADR_GOT_PAGE R_AARCH64_LD64_GOT_LO12_NC;
+        }
+        ShortPcRel {
+            Scope::FirstOfPair => R_AARCH64_ADR_PREL_PG_HI21;
+            Scope::Independent => R_AARCH64_ADD_ABS_LO12_NC;
+        }
     }
 }
 
@@ -249,25 +163,17 @@ fn aarch64_scope_in(phase: Phase, name: AArch64Relocation) -> Scope
 fn riscv_scope_in(phase: Phase, name: RiscVRelocation) -> Scope
     ensures { result ≡ riscv_scope_in phase name }
 {
-    match phase {
-        Phase::TlsLocalExec => match name {
-            RiscVRelocation::R_RISCV_TPREL_HI20
-            | RiscVRelocation::R_RISCV_TPREL_ADD
-            | RiscVRelocation::R_RISCV_TPREL_LO12_I
-            | RiscVRelocation::R_RISCV_TPREL_LO12_S => Scope::Grouped(Group::InitialExec),
-            RiscVRelocation::R_RISCV_TLSDESC_HI20
-            | RiscVRelocation::R_RISCV_TLSDESC_LOAD_LO12
-            | RiscVRelocation::R_RISCV_TLSDESC_ADD_LO12
-            | RiscVRelocation::R_RISCV_TLSDESC_CALL => Scope::Labelled,
-            _ => Scope::NotRelaxable,
-        },
-        Phase::GotToPcRel => match name {
-            RiscVRelocation::R_RISCV_GOT_HI20
-            | RiscVRelocation::R_RISCV_PCREL_LO12_I
-            | RiscVRelocation::R_RISCV_PCREL_LO12_S => Scope::Labelled,
-            _ => Scope::NotRelaxable,
-        },
-        Phase::PreLayout | Phase::ShortPcRel => Scope::NotRelaxable,
+    scopes! {
+        phase, name: RiscVRelocation
+        TlsLocalExec {
+            Scope::Grouped(Group::InitialExec) => R_RISCV_TPREL_HI20 R_RISCV_TPREL_ADD
+                R_RISCV_TPREL_LO12_I R_RISCV_TPREL_LO12_S;
+            Scope::Labelled => R_RISCV_TLSDESC_HI20 R_RISCV_TLSDESC_LOAD_LO12
+                R_RISCV_TLSDESC_ADD_LO12 R_RISCV_TLSDESC_CALL;
+        }
+        GotToPcRel {
+            Scope::Labelled => R_RISCV_GOT_HI20 R_RISCV_PCREL_LO12_I R_RISCV_PCREL_LO12_S;
+        }
     }
 }
 
@@ -276,15 +182,20 @@ fn riscv_scope_in(phase: Phase, name: RiscVRelocation) -> Scope
 fn loongarch_scope_in(phase: Phase, name: LoongArch64Relocation) -> Scope
     ensures { result ≡ loongarch_scope_in phase name }
 {
-    match phase {
-        Phase::PreLayout => loongarch_scope(name),
-        Phase::TlsLocalExec => match name {
-            LoongArch64Relocation::R_LARCH_TLS_LE_HI20_R
-            | LoongArch64Relocation::R_LARCH_TLS_LE_ADD_R
-            | LoongArch64Relocation::R_LARCH_TLS_LE_LO12_R => Scope::Grouped(Group::InitialExec),
-            _ => Scope::NotRelaxable,
-        },
-        Phase::GotToPcRel | Phase::ShortPcRel => Scope::NotRelaxable,
+    scopes! {
+        phase, name: LoongArch64Relocation
+        PreLayout {
+            Scope::Independent => R_LARCH_GOT_PC_HI20 R_LARCH_GOT_PC_LO12;
+            Scope::Grouped(Group::InitialExec) => R_LARCH_TLS_IE_PC_HI20 R_LARCH_TLS_IE_PC_LO12
+                R_LARCH_TLS_IE64_PC_LO20 R_LARCH_TLS_IE64_PC_HI12;
+            Scope::Grouped(Group::Descriptor) => R_LARCH_TLS_DESC_PC_HI20 R_LARCH_TLS_DESC_PC_LO12
+                R_LARCH_TLS_DESC64_PC_LO20 R_LARCH_TLS_DESC64_PC_HI12 R_LARCH_TLS_DESC_LD
+                R_LARCH_TLS_DESC_CALL;
+        }
+        TlsLocalExec {
+            Scope::Grouped(Group::InitialExec) => R_LARCH_TLS_LE_HI20_R R_LARCH_TLS_LE_ADD_R
+                R_LARCH_TLS_LE_LO12_R;
+        }
     }
 }
 
@@ -293,21 +204,30 @@ fn loongarch_scope_in(phase: Phase, name: LoongArch64Relocation) -> Scope
 fn ppc64_scope_in(phase: Phase, name: Ppc64Relocation) -> Scope
     ensures { result ≡ ppc64_scope_in phase name }
 {
-    match phase {
-        Phase::PreLayout => ppc64_scope(name),
-        Phase::TlsLocalExec => match name {
-            Ppc64Relocation::R_PPC64_TPREL16_HA
-            | Ppc64Relocation::R_PPC64_TPREL16_LO
-            | Ppc64Relocation::R_PPC64_TPREL16_LO_DS => Scope::Grouped(Group::InitialExec),
-            _ => Scope::NotRelaxable,
-        },
-        Phase::ShortPcRel => match name {
-            Ppc64Relocation::R_PPC64_TOC16_HA
-            | Ppc64Relocation::R_PPC64_TOC16_LO
-            | Ppc64Relocation::R_PPC64_TOC16_LO_DS => Scope::IfGroupMatches(Group::GotLoad),
-            _ => Scope::NotRelaxable,
-        },
-        Phase::GotToPcRel => Scope::NotRelaxable,
+    scopes! {
+        phase, name: Ppc64Relocation
+        PreLayout {
+            Scope::Independent => R_PPC64_REL24 R_PPC64_GOT_PCREL34;
+            Scope::Grouped(Group::GotLoad) => R_PPC64_GOT16 R_PPC64_GOT16_DS R_PPC64_GOT16_LO
+                R_PPC64_GOT16_LO_DS R_PPC64_GOT16_HI R_PPC64_GOT16_HA;
+            Scope::Grouped(Group::InitialExec) => R_PPC64_GOT_TPREL16_DS
+                R_PPC64_GOT_TPREL16_LO_DS R_PPC64_GOT_TPREL16_HI R_PPC64_GOT_TPREL16_HA
+                R_PPC64_GOT_TPREL_PCREL34 R_PPC64_TLS;
+            Scope::Grouped(Group::GeneralDynamic) => R_PPC64_GOT_TLSGD16 R_PPC64_GOT_TLSGD16_LO
+                R_PPC64_GOT_TLSGD16_HI R_PPC64_GOT_TLSGD16_HA R_PPC64_GOT_TLSGD_PCREL34
+                R_PPC64_TLSGD;
+            Scope::Grouped(Group::LocalDynamic) => R_PPC64_GOT_TLSLD16 R_PPC64_GOT_TLSLD16_LO
+                R_PPC64_GOT_TLSLD16_HI R_PPC64_GOT_TLSLD16_HA R_PPC64_GOT_TLSLD_PCREL34
+                R_PPC64_TLSLD;
+        }
+        TlsLocalExec {
+            Scope::Grouped(Group::InitialExec) => R_PPC64_TPREL16_HA R_PPC64_TPREL16_LO
+                R_PPC64_TPREL16_LO_DS;
+        }
+        ShortPcRel {
+            Scope::IfGroupMatches(Group::GotLoad) => R_PPC64_TOC16_HA R_PPC64_TOC16_LO
+                R_PPC64_TOC16_LO_DS;
+        }
     }
 }
 
@@ -316,9 +236,18 @@ fn ppc64_scope_in(phase: Phase, name: Ppc64Relocation) -> Scope
 fn x86_64_scope_in(phase: Phase, name: X86_64Relocation) -> Scope
     ensures { result ≡ x86_64_scope_in phase name }
 {
-    match phase {
-        Phase::PreLayout => x86_64_scope(name),
-        Phase::TlsLocalExec | Phase::GotToPcRel | Phase::ShortPcRel => Scope::NotRelaxable,
+    scopes! {
+        phase, name: X86_64Relocation
+        PreLayout {
+            Scope::Independent => R_X86_64_GOTPCREL R_X86_64_GOTPCRELX R_X86_64_REX_GOTPCRELX
+                R_X86_64_CODE_4_GOTPCRELX R_X86_64_CODE_6_GOTPCRELX R_X86_64_GOTTPOFF
+                R_X86_64_CODE_4_GOTTPOFF R_X86_64_CODE_6_GOTTPOFF R_X86_64_TLSGD;
+            Scope::Grouped(Group::LocalDynamic) => R_X86_64_TLSLD R_X86_64_DTPOFF32
+                R_X86_64_DTPOFF64;
+            Scope::Grouped(Group::Descriptor) => R_X86_64_GOTPC32_TLSDESC
+                R_X86_64_CODE_4_GOTPC32_TLSDESC R_X86_64_CODE_5_GOTPC32_TLSDESC
+                R_X86_64_CODE_6_GOTPC32_TLSDESC R_X86_64_TLSDESC_CALL;
+        }
     }
 }
 

@@ -115,140 +115,42 @@ impl UnrelaxableGroups {
     }
 }
 
-/// The scope of a relocation of AArch64.
-#[cfg(feature = "aarch64")]
-#[inline(always)]
-fn aarch64_scope(name: AArch64Relocation) -> Scope {
-    match name {
-        #[cfg(feature = "aarch64")]
-        AArch64Relocation::R_AARCH64_CALL26 | AArch64Relocation::R_AARCH64_JUMP26 =>
-            Scope::Independent,
-        #[cfg(feature = "aarch64")]
-        AArch64Relocation::R_AARCH64_TLSIE_ADR_GOTTPREL_PAGE21
-        | AArch64Relocation::R_AARCH64_TLSIE_LD64_GOTTPREL_LO12_NC => {
-            Scope::Grouped(Group::InitialExec)
+/// The scope of a name in a phase, by a list for each phase. What isn't listed isn't rewritten.
+macro_rules! scopes {
+    (
+        $phase:ident, $name:ident: $names:ident
+        $($in:ident { $($scope:expr => $($listed:ident)+;)* })*
+    ) => {
+        match $phase {
+            $(Phase::$in => match $name {
+                $($($names::$listed)|+ => $scope,)*
+                _ => Scope::NotRelaxable,
+            },)*
+            _ => Scope::NotRelaxable,
         }
-        #[cfg(feature = "aarch64")]
-        AArch64Relocation::R_AARCH64_TLSDESC_ADR_PAGE21
-        | AArch64Relocation::R_AARCH64_TLSDESC_LD64_LO12
-        | AArch64Relocation::R_AARCH64_TLSDESC_ADD_LO12
-        | AArch64Relocation::R_AARCH64_TLSDESC_CALL => Scope::Grouped(Group::Descriptor),
-        _ => Scope::NotRelaxable,
-    }
-}
-
-/// The scope of a relocation of LoongArch.
-#[cfg(feature = "loongarch64")]
-#[inline(always)]
-fn loongarch_scope(name: LoongArch64Relocation) -> Scope {
-    match name {
-        #[cfg(feature = "loongarch64")]
-        LoongArch64Relocation::R_LARCH_GOT_PC_HI20 | LoongArch64Relocation::R_LARCH_GOT_PC_LO12 =>
-            Scope::Independent,
-        #[cfg(feature = "loongarch64")]
-        LoongArch64Relocation::R_LARCH_TLS_IE_PC_HI20
-        | LoongArch64Relocation::R_LARCH_TLS_IE_PC_LO12
-        | LoongArch64Relocation::R_LARCH_TLS_IE64_PC_LO20
-        | LoongArch64Relocation::R_LARCH_TLS_IE64_PC_HI12 => Scope::Grouped(Group::InitialExec),
-        #[cfg(feature = "loongarch64")]
-        LoongArch64Relocation::R_LARCH_TLS_DESC_PC_HI20
-        | LoongArch64Relocation::R_LARCH_TLS_DESC_PC_LO12
-        | LoongArch64Relocation::R_LARCH_TLS_DESC64_PC_LO20
-        | LoongArch64Relocation::R_LARCH_TLS_DESC64_PC_HI12
-        | LoongArch64Relocation::R_LARCH_TLS_DESC_LD
-        | LoongArch64Relocation::R_LARCH_TLS_DESC_CALL => Scope::Grouped(Group::Descriptor),
-        _ => Scope::NotRelaxable,
-    }
-}
-
-/// The scope of a relocation of PowerPC64.
-#[cfg(feature = "ppc64")]
-#[inline(always)]
-fn ppc64_scope(name: Ppc64Relocation) -> Scope {
-    match name {
-        #[cfg(feature = "ppc64")]
-        Ppc64Relocation::R_PPC64_REL24 | Ppc64Relocation::R_PPC64_GOT_PCREL34 => Scope::Independent,
-        #[cfg(feature = "ppc64")]
-        Ppc64Relocation::R_PPC64_GOT16
-        | Ppc64Relocation::R_PPC64_GOT16_DS
-        | Ppc64Relocation::R_PPC64_GOT16_LO
-        | Ppc64Relocation::R_PPC64_GOT16_LO_DS
-        | Ppc64Relocation::R_PPC64_GOT16_HI
-        | Ppc64Relocation::R_PPC64_GOT16_HA => Scope::Grouped(Group::GotLoad),
-        #[cfg(feature = "ppc64")]
-        Ppc64Relocation::R_PPC64_GOT_TPREL16_DS
-        | Ppc64Relocation::R_PPC64_GOT_TPREL16_LO_DS
-        | Ppc64Relocation::R_PPC64_GOT_TPREL16_HI
-        | Ppc64Relocation::R_PPC64_GOT_TPREL16_HA
-        | Ppc64Relocation::R_PPC64_GOT_TPREL_PCREL34
-        | Ppc64Relocation::R_PPC64_TLS => Scope::Grouped(Group::InitialExec),
-        #[cfg(feature = "ppc64")]
-        Ppc64Relocation::R_PPC64_GOT_TLSGD16
-        | Ppc64Relocation::R_PPC64_GOT_TLSGD16_LO
-        | Ppc64Relocation::R_PPC64_GOT_TLSGD16_HI
-        | Ppc64Relocation::R_PPC64_GOT_TLSGD16_HA
-        | Ppc64Relocation::R_PPC64_GOT_TLSGD_PCREL34
-        | Ppc64Relocation::R_PPC64_TLSGD => Scope::Grouped(Group::GeneralDynamic),
-        #[cfg(feature = "ppc64")]
-        Ppc64Relocation::R_PPC64_GOT_TLSLD16
-        | Ppc64Relocation::R_PPC64_GOT_TLSLD16_LO
-        | Ppc64Relocation::R_PPC64_GOT_TLSLD16_HI
-        | Ppc64Relocation::R_PPC64_GOT_TLSLD16_HA
-        | Ppc64Relocation::R_PPC64_GOT_TLSLD_PCREL34
-        | Ppc64Relocation::R_PPC64_TLSLD => Scope::Grouped(Group::LocalDynamic),
-        _ => Scope::NotRelaxable,
-    }
-}
-
-/// The scope of a relocation of x86-64.
-#[cfg(feature = "x86_64")]
-#[inline(always)]
-fn x86_64_scope(name: X86_64Relocation) -> Scope {
-    match name {
-        #[cfg(feature = "x86_64")]
-        X86_64Relocation::R_X86_64_GOTPCREL
-        | X86_64Relocation::R_X86_64_GOTPCRELX
-        | X86_64Relocation::R_X86_64_REX_GOTPCRELX
-        | X86_64Relocation::R_X86_64_CODE_4_GOTPCRELX
-        | X86_64Relocation::R_X86_64_CODE_6_GOTPCRELX
-        | X86_64Relocation::R_X86_64_GOTTPOFF
-        | X86_64Relocation::R_X86_64_CODE_4_GOTTPOFF
-        | X86_64Relocation::R_X86_64_CODE_6_GOTTPOFF
-        | X86_64Relocation::R_X86_64_TLSGD => Scope::Independent,
-        #[cfg(feature = "x86_64")]
-        X86_64Relocation::R_X86_64_TLSLD
-        | X86_64Relocation::R_X86_64_DTPOFF32
-        | X86_64Relocation::R_X86_64_DTPOFF64 => Scope::Grouped(Group::LocalDynamic),
-        #[cfg(feature = "x86_64")]
-        X86_64Relocation::R_X86_64_GOTPC32_TLSDESC
-        | X86_64Relocation::R_X86_64_CODE_4_GOTPC32_TLSDESC
-        | X86_64Relocation::R_X86_64_CODE_5_GOTPC32_TLSDESC
-        | X86_64Relocation::R_X86_64_CODE_6_GOTPC32_TLSDESC
-        | X86_64Relocation::R_X86_64_TLSDESC_CALL => Scope::Grouped(Group::Descriptor),
-        _ => Scope::NotRelaxable,
-    }
+    };
 }
 
 /// The scope of a relocation of AArch64 in a phase.
 #[cfg(feature = "aarch64")]
 #[inline(always)]
 fn aarch64_scope_in(phase: Phase, name: AArch64Relocation) -> Scope {
-    match phase {
-        Phase::PreLayout => aarch64_scope(name),
-        Phase::GotToPcRel => match name {
-            #[cfg(feature = "aarch64")]
-            AArch64Relocation::R_AARCH64_ADR_GOT_PAGE
-            | AArch64Relocation::R_AARCH64_LD64_GOT_LO12_NC => Scope::Grouped(Group::GotLoad),
-            _ => Scope::NotRelaxable,
-        },
-        Phase::ShortPcRel => match name {
-            #[cfg(feature = "aarch64")]
-            AArch64Relocation::R_AARCH64_ADR_PREL_PG_HI21 => Scope::FirstOfPair,
-            #[cfg(feature = "aarch64")]
-            AArch64Relocation::R_AARCH64_ADD_ABS_LO12_NC => Scope::Independent,
-            _ => Scope::NotRelaxable,
-        },
-        Phase::TlsLocalExec => Scope::NotRelaxable,
+    scopes! {
+        phase, name: AArch64Relocation
+        PreLayout {
+            Scope::Independent => R_AARCH64_CALL26 R_AARCH64_JUMP26;
+            Scope::Grouped(Group::InitialExec) => R_AARCH64_TLSIE_ADR_GOTTPREL_PAGE21
+                R_AARCH64_TLSIE_LD64_GOTTPREL_LO12_NC;
+            Scope::Grouped(Group::Descriptor) => R_AARCH64_TLSDESC_ADR_PAGE21
+                R_AARCH64_TLSDESC_LD64_LO12 R_AARCH64_TLSDESC_ADD_LO12 R_AARCH64_TLSDESC_CALL;
+        }
+        GotToPcRel {
+            Scope::Grouped(Group::GotLoad) => R_AARCH64_ADR_GOT_PAGE R_AARCH64_LD64_GOT_LO12_NC;
+        }
+        ShortPcRel {
+            Scope::FirstOfPair => R_AARCH64_ADR_PREL_PG_HI21;
+            Scope::Independent => R_AARCH64_ADD_ABS_LO12_NC;
+        }
     }
 }
 
@@ -256,28 +158,17 @@ fn aarch64_scope_in(phase: Phase, name: AArch64Relocation) -> Scope {
 #[cfg(feature = "riscv64")]
 #[inline(always)]
 fn riscv_scope_in(phase: Phase, name: RiscVRelocation) -> Scope {
-    match phase {
-        Phase::TlsLocalExec => match name {
-            #[cfg(feature = "riscv64")]
-            RiscVRelocation::R_RISCV_TPREL_HI20
-            | RiscVRelocation::R_RISCV_TPREL_ADD
-            | RiscVRelocation::R_RISCV_TPREL_LO12_I
-            | RiscVRelocation::R_RISCV_TPREL_LO12_S => Scope::Grouped(Group::InitialExec),
-            #[cfg(feature = "riscv64")]
-            RiscVRelocation::R_RISCV_TLSDESC_HI20
-            | RiscVRelocation::R_RISCV_TLSDESC_LOAD_LO12
-            | RiscVRelocation::R_RISCV_TLSDESC_ADD_LO12
-            | RiscVRelocation::R_RISCV_TLSDESC_CALL => Scope::Labelled,
-            _ => Scope::NotRelaxable,
-        },
-        Phase::GotToPcRel => match name {
-            #[cfg(feature = "riscv64")]
-            RiscVRelocation::R_RISCV_GOT_HI20
-            | RiscVRelocation::R_RISCV_PCREL_LO12_I
-            | RiscVRelocation::R_RISCV_PCREL_LO12_S => Scope::Labelled,
-            _ => Scope::NotRelaxable,
-        },
-        Phase::PreLayout | Phase::ShortPcRel => Scope::NotRelaxable,
+    scopes! {
+        phase, name: RiscVRelocation
+        TlsLocalExec {
+            Scope::Grouped(Group::InitialExec) => R_RISCV_TPREL_HI20 R_RISCV_TPREL_ADD
+                R_RISCV_TPREL_LO12_I R_RISCV_TPREL_LO12_S;
+            Scope::Labelled => R_RISCV_TLSDESC_HI20 R_RISCV_TLSDESC_LOAD_LO12
+                R_RISCV_TLSDESC_ADD_LO12 R_RISCV_TLSDESC_CALL;
+        }
+        GotToPcRel {
+            Scope::Labelled => R_RISCV_GOT_HI20 R_RISCV_PCREL_LO12_I R_RISCV_PCREL_LO12_S;
+        }
     }
 }
 
@@ -285,16 +176,20 @@ fn riscv_scope_in(phase: Phase, name: RiscVRelocation) -> Scope {
 #[cfg(feature = "loongarch64")]
 #[inline(always)]
 fn loongarch_scope_in(phase: Phase, name: LoongArch64Relocation) -> Scope {
-    match phase {
-        Phase::PreLayout => loongarch_scope(name),
-        Phase::TlsLocalExec => match name {
-            #[cfg(feature = "loongarch64")]
-            LoongArch64Relocation::R_LARCH_TLS_LE_HI20_R
-            | LoongArch64Relocation::R_LARCH_TLS_LE_ADD_R
-            | LoongArch64Relocation::R_LARCH_TLS_LE_LO12_R => Scope::Grouped(Group::InitialExec),
-            _ => Scope::NotRelaxable,
-        },
-        Phase::GotToPcRel | Phase::ShortPcRel => Scope::NotRelaxable,
+    scopes! {
+        phase, name: LoongArch64Relocation
+        PreLayout {
+            Scope::Independent => R_LARCH_GOT_PC_HI20 R_LARCH_GOT_PC_LO12;
+            Scope::Grouped(Group::InitialExec) => R_LARCH_TLS_IE_PC_HI20 R_LARCH_TLS_IE_PC_LO12
+                R_LARCH_TLS_IE64_PC_LO20 R_LARCH_TLS_IE64_PC_HI12;
+            Scope::Grouped(Group::Descriptor) => R_LARCH_TLS_DESC_PC_HI20 R_LARCH_TLS_DESC_PC_LO12
+                R_LARCH_TLS_DESC64_PC_LO20 R_LARCH_TLS_DESC64_PC_HI12 R_LARCH_TLS_DESC_LD
+                R_LARCH_TLS_DESC_CALL;
+        }
+        TlsLocalExec {
+            Scope::Grouped(Group::InitialExec) => R_LARCH_TLS_LE_HI20_R R_LARCH_TLS_LE_ADD_R
+                R_LARCH_TLS_LE_LO12_R;
+        }
     }
 }
 
@@ -302,23 +197,30 @@ fn loongarch_scope_in(phase: Phase, name: LoongArch64Relocation) -> Scope {
 #[cfg(feature = "ppc64")]
 #[inline(always)]
 fn ppc64_scope_in(phase: Phase, name: Ppc64Relocation) -> Scope {
-    match phase {
-        Phase::PreLayout => ppc64_scope(name),
-        Phase::TlsLocalExec => match name {
-            #[cfg(feature = "ppc64")]
-            Ppc64Relocation::R_PPC64_TPREL16_HA
-            | Ppc64Relocation::R_PPC64_TPREL16_LO
-            | Ppc64Relocation::R_PPC64_TPREL16_LO_DS => Scope::Grouped(Group::InitialExec),
-            _ => Scope::NotRelaxable,
-        },
-        Phase::ShortPcRel => match name {
-            #[cfg(feature = "ppc64")]
-            Ppc64Relocation::R_PPC64_TOC16_HA
-            | Ppc64Relocation::R_PPC64_TOC16_LO
-            | Ppc64Relocation::R_PPC64_TOC16_LO_DS => Scope::IfGroupMatches(Group::GotLoad),
-            _ => Scope::NotRelaxable,
-        },
-        Phase::GotToPcRel => Scope::NotRelaxable,
+    scopes! {
+        phase, name: Ppc64Relocation
+        PreLayout {
+            Scope::Independent => R_PPC64_REL24 R_PPC64_GOT_PCREL34;
+            Scope::Grouped(Group::GotLoad) => R_PPC64_GOT16 R_PPC64_GOT16_DS R_PPC64_GOT16_LO
+                R_PPC64_GOT16_LO_DS R_PPC64_GOT16_HI R_PPC64_GOT16_HA;
+            Scope::Grouped(Group::InitialExec) => R_PPC64_GOT_TPREL16_DS
+                R_PPC64_GOT_TPREL16_LO_DS R_PPC64_GOT_TPREL16_HI R_PPC64_GOT_TPREL16_HA
+                R_PPC64_GOT_TPREL_PCREL34 R_PPC64_TLS;
+            Scope::Grouped(Group::GeneralDynamic) => R_PPC64_GOT_TLSGD16 R_PPC64_GOT_TLSGD16_LO
+                R_PPC64_GOT_TLSGD16_HI R_PPC64_GOT_TLSGD16_HA R_PPC64_GOT_TLSGD_PCREL34
+                R_PPC64_TLSGD;
+            Scope::Grouped(Group::LocalDynamic) => R_PPC64_GOT_TLSLD16 R_PPC64_GOT_TLSLD16_LO
+                R_PPC64_GOT_TLSLD16_HI R_PPC64_GOT_TLSLD16_HA R_PPC64_GOT_TLSLD_PCREL34
+                R_PPC64_TLSLD;
+        }
+        TlsLocalExec {
+            Scope::Grouped(Group::InitialExec) => R_PPC64_TPREL16_HA R_PPC64_TPREL16_LO
+                R_PPC64_TPREL16_LO_DS;
+        }
+        ShortPcRel {
+            Scope::IfGroupMatches(Group::GotLoad) => R_PPC64_TOC16_HA R_PPC64_TOC16_LO
+                R_PPC64_TOC16_LO_DS;
+        }
     }
 }
 
@@ -326,9 +228,18 @@ fn ppc64_scope_in(phase: Phase, name: Ppc64Relocation) -> Scope {
 #[cfg(feature = "x86_64")]
 #[inline(always)]
 fn x86_64_scope_in(phase: Phase, name: X86_64Relocation) -> Scope {
-    match phase {
-        Phase::PreLayout => x86_64_scope(name),
-        Phase::TlsLocalExec | Phase::GotToPcRel | Phase::ShortPcRel => Scope::NotRelaxable,
+    scopes! {
+        phase, name: X86_64Relocation
+        PreLayout {
+            Scope::Independent => R_X86_64_GOTPCREL R_X86_64_GOTPCRELX R_X86_64_REX_GOTPCRELX
+                R_X86_64_CODE_4_GOTPCRELX R_X86_64_CODE_6_GOTPCRELX R_X86_64_GOTTPOFF
+                R_X86_64_CODE_4_GOTTPOFF R_X86_64_CODE_6_GOTTPOFF R_X86_64_TLSGD;
+            Scope::Grouped(Group::LocalDynamic) => R_X86_64_TLSLD R_X86_64_DTPOFF32
+                R_X86_64_DTPOFF64;
+            Scope::Grouped(Group::Descriptor) => R_X86_64_GOTPC32_TLSDESC
+                R_X86_64_CODE_4_GOTPC32_TLSDESC R_X86_64_CODE_5_GOTPC32_TLSDESC
+                R_X86_64_CODE_6_GOTPC32_TLSDESC R_X86_64_TLSDESC_CALL;
+        }
     }
 }
 
