@@ -137,11 +137,10 @@ impl WordBits {
 }
 
 impl WordTest {
-    /// Whether it holds of instructions. By reference, as rows are: LLVM then sees the tests of a
-    /// constant row as it inlines, and doesn't compile each kind of test for each rewrite.
+    /// Whether it holds of instructions.
     #[inline(always)]
-    pub(crate) fn holds(&self, words: Words) -> bool {
-        match *self {
+    pub(crate) fn holds(self, words: Words) -> bool {
+        match self {
             WordTest::Is(bits, number) => bits.of(words) == number,
             WordTest::IsNot(bits, number) => bits.of(words) != number,
             WordTest::IsEither(bits, first, second) => {
@@ -305,7 +304,7 @@ fn word_of(section: &[u8], start: u64, second: bool) -> u32 {
 impl RewriteRow {
     /// Whether the instructions that the rewrite is for are at an offset of a section.
     #[inline(always)]
-    pub(crate) fn is_for(&self, section: &[u8], offset: u64) -> bool {
+    pub(crate) fn is_for(self, section: &[u8], offset: u64) -> bool {
         self.len == 0
             || self.back <= offset
                 && (!self.aligned || (offset - self.back) % 4 == 0)
@@ -314,7 +313,7 @@ impl RewriteRow {
 
     /// The bytes that the rewrite writes.
     #[inline(always)]
-    pub(crate) fn window(&self) -> RewriteWindow {
+    pub(crate) fn window(self) -> RewriteWindow {
         let (back, len) = match self.edits {
             [] => (0, 0),
             [_] => (self.back, 4),
@@ -325,7 +324,7 @@ impl RewriteRow {
 
     /// Whether `apply` may be called at an offset of a section.
     #[inline(always)]
-    pub(crate) fn can_apply(&self, section: &[u8], offset: u64) -> bool {
+    pub(crate) fn can_apply(self, section: &[u8], offset: u64) -> bool {
         let RewriteWindow { back, len } = self.window();
         len == 0
             || has_window(section, offset, back, len)
@@ -337,7 +336,7 @@ impl RewriteRow {
 
     /// Rewrites the first instructions, at an offset of a section.
     #[inline(always)]
-    pub(crate) fn apply(&self, section: &mut [u8], offset: u64) {
+    pub(crate) fn apply(self, section: &mut [u8], offset: u64) {
         if let [first, more @ ..] = self.edits {
             let start = offset - self.back;
             let word = u32_from_slice(&section[start as usize..]);
@@ -354,7 +353,7 @@ impl RewriteRow {
 
     /// What happens to the next relocation.
     #[inline(always)]
-    pub(crate) fn next_modifier(&self) -> RelocationModifier {
+    pub(crate) fn next_modifier(self) -> RelocationModifier {
         match self.skipped {
             Some(_) => RelocationModifier::SkipNextRelocation,
             None => RelocationModifier::Normal,
@@ -387,7 +386,7 @@ macro_rules! by_row {
     ) => {
         match $value {
             $(RewriteKind::$kind => {
-                let $row = &$crate::rewrite_rows::RewriteRow {
+                let $row = $crate::rewrite_rows::RewriteRow {
                     len: $len,
                     back: $crate::rewrite_rows::or!(0; $($back)?),
                     aligned: $crate::rewrite_rows::or!(false; $($aligned)?),

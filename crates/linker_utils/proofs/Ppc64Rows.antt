@@ -10,10 +10,9 @@ use Rattle.std.proofs.Math.Bool as bools
 use Rattle.std.specs.Int.Bits.{and_zero_r, or_zero_l, or_zero_r}
 use Rattle.std.specs.Int.{w32, from_le_bytes}
 use Rattle.linker_base.specs.Bits.{field}
-use Rattle.linker_base.specs.Rewrite.{IsRewritable, replaces}
 use Rattle.linker_elf.specs.Originals.{HasWord}
 use Rattle.linker_utils.specs.Inner.RewriteRows.{is_among, set_by}
-use Rattle.linker_utils.specs.Ppc64Rewrites.{opcode_of, rt_of, ra_of, rb_of, access_of, registers_of, over_base, is_over_base, is_over_thread, is_ld, is_indexed, is_indexed_word, is_indexed_any, is_access, is_store, is_word_access, keeps_base, ppc64_rewrites}
+use Rattle.linker_utils.specs.Ppc64Rewrites.{opcode_of, rt_of, ra_of, rb_of, access_of, registers_of, over_base, is_over_base, is_over_thread, is_indexed, is_indexed_word, is_indexed_any, is_access, is_store, is_word_access, keeps_base, ppc64_rewrites}
 
 -- a test is true of each number below n
 abbrev all_below : ℕ → (ℕ → Bool) → Bool
@@ -79,23 +78,6 @@ over_base_tests w =
           ((λ zero. false≢true (sym (ap not (eq-eqb (ra_of w) 0 zero)) ∙ parts.0)), (sets.0, (sets.1, tt)))),
       λ t. is ∙ and_from _ _ (ap not (ne_eqb (ra_of w) 0 t.0)) (and_from _ _ t.1.0 t.1.1.0),
     )
-
-of_other : (n : ℕ) → not (n == 0) ≡ true → n ≢ 0
-of_other n h = λ zero. false≢true (sym (ap not (eq-eqb n 0 zero)) ∙ h)
-
--- the tests of `ld` into a register that isn't 0
-pub ld_tests : (w : ℕ) → IsTrue (is_ld w && not (rt_of w == 0))
-    ↔ ((opcode_of w ≡ 58) × ((field w 0 2 ≡ 0) × ((ra_of w ≢ 0) × ((rt_of w ≢ 0) × ⊤))))
-ld_tests w = (
-  λ h. (let into = and_parts (is_ld w) (not (rt_of w == 0)) h in
-      let over = and_parts (opcode_of w == 58 && field w 0 2 == 0) (not (ra_of w == 0)) into.0 in
-      let codes = and_parts (opcode_of w == 58) (field w 0 2 == 0) over.0 in
-      (eqb-true _ _ codes.0, (eqb-true _ _ codes.1, (of_other (ra_of w) over.1, (of_other (rt_of w) into.1, tt))))),
-  λ t. and_from (is_ld w) (not (rt_of w == 0))
-      (and_from (opcode_of w == 58 && field w 0 2 == 0) (not (ra_of w == 0))
-      (and_from _ _ (eq-eqb _ _ t.0) (eq-eqb _ _ t.1.0)) (ap not (ne_eqb (ra_of w) 0 t.1.1.0)))
-      (ap not (ne_eqb (rt_of w) 0 t.1.1.1.0)),
-)
 
 -- indexed accesses by their number and whether both registers are the same
 abbrev of_words : ℕ → Bool → Bool
@@ -262,13 +244,6 @@ module _ (P Tests : ℕ → Type 0) (same : (w : ℕ) → P w ↔ Tests w) (s : 
         let before : (o - 1) % 4 ≡ 0 = omega (arith, place) in
         (at 1 ((o - 1) % 4 ≡ 0) enough).1 (before, h.1)),
   )
-
--- the four bytes are there
-pub rewritable : (back : ℕ) (Tests Placed : Type 0) (bytes : List ℕ → List ℕ) (s : List ℕ) (o : ℕ)
-    → (◌≡◌ {A = ℕ} 4 0) ⊎ (back ≤ o) × ((o - back + 4 ≤ length s) × Tests) × Placed
-    → IsRewritable (replaces back 4 bytes) s o
-rewritable back Tests Placed bytes s o h =
-    elim h [ inl none ↦ absurd (omega (arith, none)) | inr all ↦ record { starts = all.0; ends = all.1.0; admitted = refl } ]
 
 -- there is no number above the last one
 pub past_last : (n : ℕ) → 28 ≤ n → None ≡ slice_get ppc64_rewrites n

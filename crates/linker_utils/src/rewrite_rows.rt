@@ -154,13 +154,12 @@ impl WordBits {
 }
 
 impl WordTest {
-    /// Whether it holds of instructions. By reference, as rows are: LLVM then sees the tests of a
-    /// constant row as it inlines, and doesn't compile each kind of test for each rewrite.
+    /// Whether it holds of instructions.
     #[inline(always)]
-    pub(crate) fn holds(&self, words: Words) -> bool
-        ensures { IsTrue result ↔ Holds words self.now }
+    pub(crate) fn holds(self, words: Words) -> bool
+        ensures { IsTrue result ↔ Holds words self }
     {
-        match *self {
+        match self {
             WordTest::Is(bits, number) => bits.of(words) == number,
             WordTest::IsNot(bits, number) => bits.of(words) != number,
             WordTest::IsEither(bits, first, second) => {
@@ -351,10 +350,10 @@ fn word_of(section: &[u8], start: u64, second: bool) -> u32
 impl RewriteRow {
     /// Whether the instructions that the rewrite is for are at an offset of a section.
     #[inline(always)]
-    pub(crate) fn is_for(&self, section: &[u8], offset: u64) -> bool
-        requires whole { (self.now.len ≡ 0) ⊎ (4 ≤ self.now.len) }
-        requires few { length self.now.tests.now ≤ 6 }
-        ensures { IsTrue result ↔ IsFor self.now section.now offset }
+    pub(crate) fn is_for(self, section: &[u8], offset: u64) -> bool
+        requires whole { (self.len ≡ 0) ⊎ (4 ≤ self.len) }
+        requires few { length self.tests.now ≤ 6 }
+        ensures { IsTrue result ↔ IsFor self section.now offset }
     {
         self.len == 0
             || self.back <= offset
@@ -364,8 +363,8 @@ impl RewriteRow {
 
     /// The bytes that the rewrite writes.
     #[inline(always)]
-    pub(crate) fn window(&self) -> RewriteWindow
-        ensures { result ≡ window_of_rewrite (row_rewrite self.now) }
+    pub(crate) fn window(self) -> RewriteWindow
+        ensures { result ≡ window_of_rewrite (row_rewrite self) }
     {
         let (back, len) = match self.edits {
             [] => (0, 0),
@@ -377,8 +376,8 @@ impl RewriteRow {
 
     /// Whether `apply` may be called at an offset of a section.
     #[inline(always)]
-    pub(crate) fn can_apply(&self, section: &[u8], offset: u64) -> bool
-        ensures { IsTrue result ↔ CanApply self.now section.now offset }
+    pub(crate) fn can_apply(self, section: &[u8], offset: u64) -> bool
+        ensures { IsTrue result ↔ CanApply self section.now offset }
     {
         let RewriteWindow { back, len } = self.window();
         len == 0
@@ -391,11 +390,11 @@ impl RewriteRow {
 
     /// Rewrites the first instructions, at an offset of a section.
     #[inline(always)]
-    pub(crate) fn apply(&self, section: &mut [u8], offset: u64)
-        requires { CanRewrite (row_rewrite self.now) section.old offset }
-        ensures edited { section.new ≡ rewritten (row_rewrite self.now) section.old offset }
-        ensures word { (self.now.edits.now ≡ [])
-            ⊎ (from_le_bytes w32 (take 4 (drop (offset - self.now.back) section.old)) < 2 ^ 32) }
+    pub(crate) fn apply(self, section: &mut [u8], offset: u64)
+        requires { CanRewrite (row_rewrite self) section.old offset }
+        ensures edited { section.new ≡ rewritten (row_rewrite self) section.old offset }
+        ensures word { (self.edits.now ≡ [])
+            ⊎ (from_le_bytes w32 (take 4 (drop (offset - self.back) section.old)) < 2 ^ 32) }
     {
         if let [first, more @ ..] = self.edits {
             let start = offset - self.back;
@@ -413,8 +412,8 @@ impl RewriteRow {
 
     /// What happens to the next relocation.
     #[inline(always)]
-    pub(crate) fn next_modifier(&self) -> RelocationModifier
-        ensures { result ≡ modifier_of self.now.skipped }
+    pub(crate) fn next_modifier(self) -> RelocationModifier
+        ensures { result ≡ modifier_of self.skipped }
     {
         match self.skipped {
             Some(_) => RelocationModifier::SkipNextRelocation,
@@ -448,7 +447,7 @@ macro_rules! by_row {
     ) => {
         match $value {
             $(RewriteKind::$kind => {
-                let $row = &$crate::rewrite_rows::RewriteRow {
+                let $row = $crate::rewrite_rows::RewriteRow {
                     len: $len,
                     back: $crate::rewrite_rows::or!(0; $($back)?),
                     aligned: $crate::rewrite_rows::or!(false; $($aligned)?),

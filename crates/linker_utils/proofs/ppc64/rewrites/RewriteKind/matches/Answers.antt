@@ -1,4 +1,4 @@
-use Rattle.linker_utils.proofs.Ppc64Rows.{at_any, at_multiple, at_mark, ld_tests, rewritable, over_base_tests, indexed_tests, indexed_word_tests, indexed_any_tests}
+use Rattle.linker_utils.proofs.Ppc64Rows.{at_any, at_multiple, at_mark, over_base_tests, indexed_tests, indexed_word_tests, indexed_any_tests}
 use Rattle.linker_utils.proofs.ppc64.rewrites.RewriteKind.matches.Goals as goal
 
 pub returns-in-BaseToToc-clause-exactly : goal.returns-in-BaseToToc-clause-exactly
@@ -6,12 +6,6 @@ returns-in-BaseToToc-clause-exactly c =
     let tests = at_any _ _ over_base_tests c.args.section.now c.args.offset in
     let is_for = c.is_for-in-BaseToToc.ensures in
     rw c.in-BaseToToc.is (λ is. tests.0 (is_for.0 is), λ there. is_for.1 (tests.1 there))
-
-pub returns-in-LdToAddisThread-clause-exactly : goal.returns-in-LdToAddisThread-clause-exactly
-returns-in-LdToAddisThread-clause-exactly c =
-    let tests = at_any _ _ ld_tests c.args.section.now c.args.offset in
-    let is_for = c.is_for-in-LdToAddisThread.ensures in
-    rw c.in-LdToAddisThread.is (λ is. tests.0 (is_for.0 is), λ there. is_for.1 (tests.1 there))
 
 pub returns-in-IndexedToD-clause-exactly : goal.returns-in-IndexedToD-clause-exactly
 returns-in-IndexedToD-clause-exactly c =
@@ -36,15 +30,3 @@ returns-in-IndexedToDirect-clause-exactly c =
     let tests = at_mark _ _ indexed_any_tests c.args.section.now c.args.offset in
     let is_for = c.is_for-in-IndexedToDirect.ensures in
     rw c.in-IndexedToDirect.is (λ is. tests.0 (is_for.0 is), λ there. is_for.1 (tests.1 there))
-
-pub returns-in-IndexedToD-clause-rewritable : goal.returns-in-IndexedToD-clause-rewritable
-returns-in-IndexedToD-clause-rewritable c =
-    rw c.in-IndexedToD.is (λ is. rewritable 0 _ _ _ c.args.section.now c.args.offset (c.is_for-in-IndexedToD.ensures.0 is))
-
-pub returns-in-IndexedToDs-clause-rewritable : goal.returns-in-IndexedToDs-clause-rewritable
-returns-in-IndexedToDs-clause-rewritable c =
-    rw c.in-IndexedToDs.is (λ is. rewritable 0 _ _ _ c.args.section.now c.args.offset (c.is_for-in-IndexedToDs.ensures.0 is))
-
-pub returns-in-IndexedToDirect-clause-rewritable : goal.returns-in-IndexedToDirect-clause-rewritable
-returns-in-IndexedToDirect-clause-rewritable c =
-    rw c.in-IndexedToDirect.is (λ is. rewritable 1 _ _ _ c.args.section.now c.args.offset (c.is_for-in-IndexedToDirect.ensures.0 is))
