@@ -29,7 +29,8 @@ struct linker_utils_unrelaxable_groups {
 };
 
 /* What becomes of a relocation and of its instruction. All except `fate` is 0 where the instruction
- * isn't rewritten. */
+ * isn't rewritten. With LINKER_UTILS_FATE_REWRITTEN `linker_utils_decide_rewrites` writes a number
+ * of the bytes that are rewritten into `symbol`. */
 struct linker_utils_decision {
     /* With LINKER_UTILS_FATE_REWRITTEN_WITH_SYMBOL what the relocation gets first; else 0. */
     int64_t addend;
@@ -63,9 +64,11 @@ LINKER_UTILS_MUST_USE static inline uint32_t linker_utils_decide_rewrites(
  * section is packed, with the relocations that were decided on. Where they and the bytes are
  * unchanged, it succeeds. Any bytes are decisions. With an error nothing is written.
  * LINKER_UTILS_SHORT_MEMORY where there are fewer decisions than relocations. Else `faulty` is the
- * first relocation that can't be rewritten. LINKER_UTILS_DOES_NOT_MATCH: its rewrite is meant for
- * other instructions, or deletes bytes after the section. LINKER_UTILS_OVERLAPS: the bytes of its
- * rewrite overlap or lie below those of one before it. */
+ * first relocation that can't be rewritten. LINKER_UTILS_DOES_NOT_MATCH: the bytes to rewrite
+ * aren't those that were decided on, or its rewrite is meant for other instructions, or deletes
+ * bytes after the section. Each change of one byte is noticed, and any where no more than four are
+ * rewritten. LINKER_UTILS_OVERLAPS: the bytes of its rewrite overlap or lie below those of one
+ * before it. */
 LINKER_UTILS_MUST_USE static inline uint32_t linker_utils_make_rewrites(
     const struct linker_utils_section *section, const struct linker_utils_rewritten *rewritten,
     size_t *faulty);

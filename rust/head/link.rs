@@ -4,7 +4,9 @@
 use crate::elf::{Architecture, RelocateError, WriteError};
 use crate::linker_base::relaxation::{AsDeletion, RelaxDelta};
 use crate::linker_output::got::Origins;
-use crate::linker_rewriting::decisions::{AsDecision, DecisionError, FromDeletion, RewritingError};
+use crate::linker_rewriting::decisions::{
+    AsDecision, AsKeptDecision, DecisionError, FromDeletion, RewritingError,
+};
 use crate::linker_rewriting::facts::{OutputFacts, SymbolFacts};
 use crate::linker_rewriting::groups::UnrelaxableGroups;
 use crate::linker_rewriting::kept::{self, FactsSnapshot};
@@ -443,8 +445,8 @@ pub fn rewrite_section<B: AsMut<[u8]>, R: AsMut<[u8]>, D: AsDecision>(
 ///
 /// ```
 /// use linker_utils::elf::Architecture;
-/// use linker_utils::rewriting::{Decision, DecisionError, UnrelaxableGroups, SymbolFacts};
-/// use linker_utils::rewriting::{decide_rewrites, make_rewrites};
+/// use linker_utils::rewriting::{AsDecision, Decision, DecisionError, KeptDecision};
+/// use linker_utils::rewriting::{UnrelaxableGroups, SymbolFacts, decide_rewrites, make_rewrites};
 /// use linker_utils::section::{Link, Object, Section};
 ///
 /// // call *f@GOTPCREL(%rip), with R_X86_64_GOTPCRELX of symbol 1 at 2, becomes addr32 call f
@@ -462,7 +464,7 @@ pub fn rewrite_section<B: AsMut<[u8]>, R: AsMut<[u8]>, D: AsDecision>(
 ///     unrelaxable_groups: &[UnrelaxableGroups::default(); 2],
 ///     ..Object::default()
 /// };
-/// let mut decisions = [Decision::Kept];
+/// let mut decisions = [KeptDecision::from_decision(Decision::Kept)];
 /// decide_rewrites(&link, &object, &input, &mut decisions).unwrap();
 ///
 /// let mut output = Section::new(input.bytes, input.relocations);
@@ -474,7 +476,7 @@ pub fn rewrite_section<B: AsMut<[u8]>, R: AsMut<[u8]>, D: AsDecision>(
 /// assert_eq!(make_rewrites(&mut output, &decisions), Err(DecisionError::Changed(0)));
 /// ```
 #[inline]
-pub fn decide_rewrites<B: AsRef<[u8]>, R: AsRef<[u8]>, D: AsDecision>(
+pub fn decide_rewrites<B: AsRef<[u8]>, R: AsRef<[u8]>, D: AsKeptDecision>(
     link: &Link,
     object: &Object<'_>,
     section: &Section<B, R>,
@@ -493,7 +495,7 @@ pub fn decide_rewrites<B: AsRef<[u8]>, R: AsRef<[u8]>, D: AsDecision>(
 
 //= linker_rewriting::sections::make_rewrites
 #[inline]
-pub fn make_rewrites<B: AsMut<[u8]>, R: AsMut<[u8]>, D: AsDecision>(
+pub fn make_rewrites<B: AsMut<[u8]>, R: AsMut<[u8]>, D: AsKeptDecision>(
     section: &mut Section<B, R>,
     decisions: &[D],
 ) -> Result<(), DecisionError> {

@@ -159,7 +159,8 @@ pub mod rewriting {
         survey_global_pointer, survey_placed_section,
     };
     pub use crate::linker_rewriting::decisions::{
-        AsDecision, Decision, DecisionError, FromDeletion, RewritingError, Subject,
+        AsDecision, AsKeptDecision, Decision, DecisionError, FromDeletion, KeptDecision,
+        RewritingError, Subject,
     };
     pub use crate::linker_rewriting::facts::SymbolFacts;
     pub use crate::linker_rewriting::global_pointer::{GPREL_I, GPREL_S};

@@ -169,7 +169,8 @@ pub mod rewriting {
     #[cfg(feature = "riscv64")]
     pub use crate::link::{finish_gp_relaxation, rewrite_global_pointer, survey_global_pointer};
     pub use crate::linker_rewriting::decisions::{
-        AsDecision, Decision, DecisionError, FromDeletion, RewritingError, Subject,
+        AsDecision, AsKeptDecision, Decision, DecisionError, FromDeletion, KeptDecision,
+        RewritingError, Subject,
     };
     pub use crate::linker_rewriting::facts::SymbolFacts;
     #[cfg(feature = "riscv64")]

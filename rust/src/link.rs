@@ -6,7 +6,9 @@
 use crate::elf::{Architecture, RelocateError, WriteError};
 use crate::linker_base::relaxation::{AsDeletion, RelaxDelta};
 use crate::linker_output::got::Origins;
-use crate::linker_rewriting::decisions::{AsDecision, DecisionError, FromDeletion, RewritingError};
+use crate::linker_rewriting::decisions::{
+    AsDecision, AsKeptDecision, DecisionError, FromDeletion, RewritingError,
+};
 use crate::linker_rewriting::facts::{OutputFacts, SymbolFacts};
 use crate::linker_rewriting::groups::UnrelaxableGroups;
 use crate::linker_rewriting::kept::{self, FactsSnapshot};
@@ -531,8 +533,8 @@ pub fn rewrite_section<B: AsMut<[u8]>, R: AsMut<[u8]>, D: AsDecision>(
 ///
 /// ```
 /// use linker_utils::elf::Architecture;
-/// use linker_utils::rewriting::{Decision, DecisionError, UnrelaxableGroups, SymbolFacts};
-/// use linker_utils::rewriting::{decide_rewrites, make_rewrites};
+/// use linker_utils::rewriting::{AsDecision, Decision, DecisionError, KeptDecision};
+/// use linker_utils::rewriting::{UnrelaxableGroups, SymbolFacts, decide_rewrites, make_rewrites};
 /// use linker_utils::section::{Link, Object, Section};
 ///
 /// // call *f@GOTPCREL(%rip), with R_X86_64_GOTPCRELX of symbol 1 at 2, becomes addr32 call f
@@ -550,7 +552,7 @@ pub fn rewrite_section<B: AsMut<[u8]>, R: AsMut<[u8]>, D: AsDecision>(
 ///     unrelaxable_groups: &[UnrelaxableGroups::default(); 2],
 ///     ..Object::default()
 /// };
-/// let mut decisions = [Decision::Kept];
+/// let mut decisions = [KeptDecision::from_decision(Decision::Kept)];
 /// decide_rewrites(&link, &object, &input, &mut decisions).unwrap();
 ///
 /// let mut output = Section::new(input.bytes, input.relocations);
@@ -562,7 +564,7 @@ pub fn rewrite_section<B: AsMut<[u8]>, R: AsMut<[u8]>, D: AsDecision>(
 /// assert_eq!(make_rewrites(&mut output, &decisions), Err(DecisionError::Changed(0)));
 /// ```
 #[inline]
-pub fn decide_rewrites<B: AsRef<[u8]>, R: AsRef<[u8]>, D: AsDecision>(
+pub fn decide_rewrites<B: AsRef<[u8]>, R: AsRef<[u8]>, D: AsKeptDecision>(
     link: &Link,
     object: &Object<'_>,
     section: &Section<B, R>,
@@ -585,19 +587,25 @@ pub fn decide_rewrites<B: AsRef<[u8]>, R: AsRef<[u8]>, D: AsDecision>(
 ///
 /// The relocations have to be those that were decided on, with their offsets in this section: it is
 /// called before values are written, and before the section is packed. Where these and the section
-/// are unchanged, it returns no error (`laws::decisions_are_made`). Any decisions are accepted that
-/// pass the tests below, whoever made them. What isn't tested is what is decided by other
-/// relocations: that a group is whole, and that no rewrite changes another relocation's field.
+/// are unchanged, it returns no error (`laws::decisions_are_made`). Each byte that a rewrite
+/// overwrites is tested, by a number of 32 bits that is kept with the decision. It is another one
+/// where one of the bytes is, and of up to four bytes it is those bytes (`laws::bytes_tell`).
+///
+/// Any decisions are accepted that pass the tests below, whoever made them. With
+/// [`Decision::RewrittenWithSymbol`](crate::rewriting::Decision::RewrittenWithSymbol), which [`decide_rewrites`](crate::rewriting::decide_rewrites()) never decides, no number is kept. What
+/// isn't tested is what is decided by other relocations: that a group is whole, and that no rewrite
+/// changes another relocation's field.
 ///
 /// # Errors
 ///
 /// The section and its relocations are as before. `TooShort`: there are more relocations than
-/// `decisions`. Else the error of the first relocation that has one. `Changed`: the instructions
-/// there aren't those that the decision's rewrite is meant for, as [`Relaxation::matches`](crate::architecture::Relaxation::matches) says, or
-/// what it deletes isn't in the section. `Overlaps`: it rewrites or deletes bytes that a decision
-/// before it does too, or bytes below those.
+/// `decisions`. Else the error of the first relocation that has one. `Changed`: the bytes that its
+/// rewrite overwrites have another number than is kept, or the instructions aren't those that the
+/// rewrite is meant for, as [`Relaxation::matches`](crate::architecture::Relaxation::matches) says, or what it deletes isn't in the section.
+/// `Overlaps`: it rewrites or deletes bytes that a decision before it does too, or bytes below
+/// those.
 #[inline]
-pub fn make_rewrites<B: AsMut<[u8]>, R: AsMut<[u8]>, D: AsDecision>(
+pub fn make_rewrites<B: AsMut<[u8]>, R: AsMut<[u8]>, D: AsKeptDecision>(
     section: &mut Section<B, R>,
     decisions: &[D],
 ) -> Result<(), DecisionError> {

@@ -476,6 +476,18 @@ pub enum Decision {
     },
 }
 
+/// A decision of `decide_rewrites`, with a number of the bytes that it was made on.
+#[repr(transparent)]
+#[derive(Debug, Clone, Copy, PartialEq, Eq)]
+pub struct KeptDecision(raw::Decision);
+
+impl KeptDecision {
+    /// What becomes of the relocation and of its instruction.
+    pub fn kind(&self) -> Decision {
+        decided(&self.0)
+    }
+}
+
 /// The types of the dynamic relocations that a linker emits. Each field is explained at
 /// `struct linker_utils_dynamic_types` in `include/linker_utils_outputs.h`.
 #[repr(C)]
@@ -1235,9 +1247,10 @@ fn decisions_of(relocations: &[u8]) -> Result<Vec<raw::Decision>, ArrayError> {
     Ok(decisions)
 }
 
-fn decided(architecture: Architecture, made: &raw::Decision) -> Decision {
+fn decided(made: &raw::Decision) -> Decision {
     let rewrite = || {
-        Rewrite::from_numbers(architecture, made.rewrite, made.opcode_len)
+        Architecture::from_machine(made.machine)
+            .and_then(|of| Rewrite::from_numbers(of, made.rewrite, made.opcode_len))
             .expect("a rewrite of the architecture")
     };
     match Fate::from_number(made.fate.into()) {
@@ -1288,10 +1301,7 @@ pub fn rewrite_section(
             faulty,
         )
     })?;
-    Ok(decisions
-        .iter()
-        .map(|made| decided(architecture, made))
-        .collect())
+    Ok(decisions.iter().map(decided).collect())
 }
 
 /// Decides what `rewrite_section` would do. The section and its relocations are only read, and
@@ -1303,7 +1313,7 @@ pub fn decide_rewrites(
     kept: &[UnrelaxableGroups],
     relocations: &[u8],
     section: &[u8],
-) -> Result<Vec<Decision>, ArrayError> {
+) -> Result<Vec<KeptDecision>, ArrayError> {
     let mut decisions = decisions_of(relocations)?;
     result_over(|faulty| unsafe {
         raw::linker_utils_decide_rewrites_nonnull(
@@ -1322,55 +1332,26 @@ pub fn decide_rewrites(
             faulty,
         )
     })?;
-    Ok(decisions
-        .iter()
-        .map(|made| decided(architecture, made))
-        .collect())
-}
-
-/// The decision in C's numbers.
-fn numbers_of(decision: &Decision) -> raw::Decision {
-    let of = |fate: Fate, rewrite: Rewrite, relocation, symbol, addend| {
-        let (machine, rewrite, opcode_len) = rewrite.numbers();
-        let fate = fate.number() as u8;
-        raw::Decision { addend, symbol, rewrite, relocation, machine, fate, opcode_len }
-    };
-    match *decision {
-        Decision::Kept => raw::Decision::default(),
-        Decision::Consumed => {
-            let fate = Fate::Consumed.number() as u8;
-            raw::Decision { fate, ..raw::Decision::default() }
-        }
-        Decision::Rewritten { rewrite, relocation } => {
-            of(Fate::Rewritten, rewrite, relocation, 0, 0)
-        }
-        Decision::RewrittenWithSymbol { rewrite, relocation, symbol, addend } => {
-            of(Fate::RewrittenWithSymbol, rewrite, relocation, symbol, addend)
-        }
-    }
+    Ok(decisions.into_iter().map(KeptDecision).collect())
 }
 
 /// Makes the decisions of `decide_rewrites` in a copy of the section and of its relocations. The
-/// entry at fault is the first whose instruction isn't the one that was decided on
+/// entry at fault is the first whose bytes aren't those that were decided on
 /// (`Status::DoesNotMatch`), or whose rewrite overlaps that of one before it. Then nothing is
 /// written.
 pub fn make_rewrites(
     relocations: &mut [u8],
     section: &mut [u8],
-    decisions: &[Decision],
+    decisions: &[KeptDecision],
 ) -> Result<(), ArrayError> {
-    let mut numbers = Vec::new();
-    let out_of_memory = |_| ArrayError::from(Status::OutOfMemory);
-    numbers.try_reserve_exact(decisions.len()).map_err(out_of_memory)?;
-    numbers.extend(decisions.iter().map(numbers_of));
     result_over(|faulty| unsafe {
         raw::linker_utils_make_rewrites_nonnull(
             relocations.as_mut_ptr(),
             relocations.len(),
             section.as_mut_ptr(),
             section.len(),
-            numbers.as_ptr(),
-            numbers.len(),
+            decisions.as_ptr().cast(),
+            decisions.len(),
             faulty,
         )
     })
@@ -1497,10 +1478,7 @@ pub fn rewrite_toc_loads(
             faulty,
         )
     })?;
-    Ok(decisions
-        .iter()
-        .map(|made| decided(architecture, made))
-        .collect())
+    Ok(decisions.iter().map(decided).collect())
 }
 
 /// Rewrites the instructions of a section of code in a phase once addresses are known, as
@@ -1543,7 +1521,7 @@ pub fn rewrite_placed_section(
     Ok((
         decisions
             .iter()
-            .map(|made| decided(architecture, made))
+            .map(decided)
             .collect(),
         deleted,
     ))
@@ -1620,7 +1598,7 @@ pub fn rewrite_global_pointer(
         )
     })?;
     deleted.truncate(used);
-    let made = decisions.iter().map(|made| decided(architecture, made));
+    let made = decisions.iter().map(decided);
     Ok((made.collect(), deleted))
 }
 

@@ -115,17 +115,17 @@ fn decisions_are_made_later() {
     let kept = [UnrelaxableGroups::default(); 4];
     let decisions =
         decide_rewrites(X86_64, &EXECUTABLE, &symbols(), &kept, &input, &GENERAL_DYNAMIC).unwrap();
-    assert!(matches!(decisions[0], Decision::Rewritten { relocation: 23, .. }));
-    assert_eq!(decisions[1..], [Decision::Consumed]);
+    assert!(matches!(decisions[0].kind(), Decision::Rewritten { relocation: 23, .. }));
+    assert_eq!(decisions[1].kind(), Decision::Consumed);
     let (mut relocations, mut section) = (input.clone(), GENERAL_DYNAMIC);
     assert_eq!(make_rewrites(&mut relocations, &mut section, &decisions), Ok(()));
     assert_eq!(relocations, relas(&[(12, 23, 1, 0), (12, 0, 2, -4)]));
     // mov %fs:0, %rax; lea x@tpoff(%rax), %rax
     let made = [0x64, 0x48, 0x8b, 4, 0x25, 0, 0, 0, 0, 0x48, 0x8d, 0x80, 0, 0, 0, 0];
     assert_eq!(section, made);
-    // jmp in place of the call
+    // another distance of the lea, which the rewrite overwrites
     let (mut relocations, mut section) = (input.clone(), GENERAL_DYNAMIC);
-    section[11] = 0xe9;
+    section[4] ^= 1;
     let before = section;
     let error = |status, index| Err(ArrayError { status, index });
     let made = make_rewrites(&mut relocations, &mut section, &decisions);

@@ -1,10 +1,12 @@
 pub mod AArch64Sequences
+pub mod Bytes
 pub mod Chosen
 pub mod Deciding
 pub mod Entries
 pub mod GlobalPointer
 pub mod Keeping
 pub mod KeptBits
+pub mod KeptBytes
 pub mod KeptCalls
 pub mod LabelGroups
 pub mod Listing

@@ -1,6 +1,6 @@
 -- What becomes of a section's relocations and of their instructions.
-use Rattle.std.specs.Prelude.{◌≡◌, ℕ, zero, suc, ◌+◌, ◌-◌, ◌<◌, ◌≤◌, ◌/◌, ◌⊎◌, ◌++◌, max, Bool}
-use Rattle.std.specs.Prelude.{true}
+use Rattle.std.specs.Prelude.{◌≡◌, ℕ, zero, suc, ◌+◌, ◌-◌, ◌*◌, ◌^◌, ◌%◌, ◌<◌, ◌≤◌, ◌/◌, ◌⊎◌, ◌++◌}
+use Rattle.std.specs.Prelude.{max, Bool, true}
 use Rattle.std.specs.Prelude.{false, IsTrue, ◌↔◌, List, [], ◌∷◌, length, get_or, Option, Some, None}
 use Rattle.std.specs.Prelude.{is_some, ◌≢◌, ◌==◌}
 use Rattle.linker_base.specs.Rewrite.{CanRewrite}
@@ -384,30 +384,77 @@ IsRejectedPlaced s kept bytes section decisions room =
 
 -- ---- decisions that are made later
 
--- Why they aren't: up to the index, the one there alone is wrong. It doesn't match, can't be made
--- or isn't apart from those before it.
-abbrev pub IsUnmade : List ℕ → List ℕ → List Decision → DecisionError → Type 0
-IsUnmade bytes section decisions errors.TooShort = length decisions < length bytes / 24
-IsUnmade bytes section decisions (errors.Changed n) =
+-- the 32 bits of a number, turned up by 8
+abbrev pub turned : ℕ → ℕ
+turned number = number % 2 ^ 24 * 2 ^ 8 + number / 2 ^ 24
+
+-- A number of the n bytes from a place on: with each of them it is turned, and the byte is added.
+-- That of four bytes is the word that they are, the first byte highest.
+abbrev pub bytes_number : List ℕ → ℕ → ℕ → ℕ
+bytes_number section start zero = 0
+bytes_number section start (suc n) =
+    (turned (bytes_number section start n) + get_or section (start + n) 0) % 2 ^ 32
+
+abbrev pub window_number : RewriteWindow → List ℕ → ℕ → ℕ
+window_number window section offset = bytes_number section (offset - window.back) window.len
+
+-- what is kept with a decision is the number of the bytes that it rewrites
+abbrev pub KeepsBytes : Decision → ℕ → List ℕ → ℕ → Type 0
+KeepsBytes (Rewritten chosen) number section offset =
+    number ≡ window_number (window_of_rewrite (relaxation_rewrite chosen.kind)) section offset
+KeepsBytes decision number section offset = Unit {0}
+
+abbrev pub AllKeepBytes : List ℕ → List ℕ → List Decision → List ℕ → ℕ → Type 0
+AllKeepBytes bytes section decisions numbers limit =
+    (n : ℕ) → n < limit → KeepsBytes (decision_at decisions n) (get_or numbers n 0) section
+    (relocation_in bytes n).offset
+
+abbrev pub AreBytes : List ℕ → Type 0
+AreBytes section = (at : ℕ) → get_or section at 0 < 2 ^ 8
+
+-- Of bytes of which one alone is another, the number is another too.
+abbrev pub OneByteTells : Type 0
+OneByteTells =
+    (section other : List ℕ) (start len at : ℕ) → AreBytes section → AreBytes other → start ≤ at
+    → at < start + len → ((i : ℕ) → i ≢ at → get_or section i 0 ≡ get_or other i 0)
+    → get_or section at 0 ≢ get_or other at 0
+    → bytes_number section start len ≢ bytes_number other start len
+
+-- Up to four bytes with the same number are the same.
+abbrev pub WordsTell : Type 0
+WordsTell =
+    (section other : List ℕ) (start len : ℕ) → AreBytes section → AreBytes other → len ≤ 4
+    → bytes_number section start len ≡ bytes_number other start len
+    → (i : ℕ) → i < len → get_or section (start + i) 0 ≡ get_or other (start + i) 0
+
+-- Why they aren't: up to the index, the one there alone is wrong. It doesn't match, can't be made,
+-- was made on other bytes, or isn't apart from those before it.
+abbrev pub IsUnmade : List ℕ → List ℕ → List Decision → List ℕ → DecisionError → Type 0
+IsUnmade bytes section decisions numbers errors.TooShort = length decisions < length bytes / 24
+IsUnmade bytes section decisions numbers (errors.Changed n) =
     (n < length bytes / 24) × (length bytes / 24 ≤ length decisions)
     × AllCanBeMade bytes section decisions n × AllMatch bytes section decisions n
-    × AreApart bytes decisions n
+    × AllKeepBytes bytes section decisions numbers n × AreApart bytes decisions n
     × ¬ (CanBeMade (decision_at decisions n) section (relocation_in bytes n).offset
-    × Matches (decision_at decisions n) section (relocation_in bytes n).offset)
-IsUnmade bytes section decisions (errors.Overlaps n) =
+    × Matches (decision_at decisions n) section (relocation_in bytes n).offset
+    × KeepsBytes (decision_at decisions n) (get_or numbers n 0) section
+    (relocation_in bytes n).offset)
+IsUnmade bytes section decisions numbers (errors.Overlaps n) =
     (n < length bytes / 24) × (length bytes / 24 ≤ length decisions)
     × AllCanBeMade bytes section decisions (n + 1) × AllMatch bytes section decisions (n + 1)
-    × AreApart bytes decisions n × ¬ AreApart bytes decisions (n + 1)
+    × AllKeepBytes bytes section decisions numbers (n + 1) × AreApart bytes decisions n
+    × ¬ AreApart bytes decisions (n + 1)
 
--- Where all match, can be made and are apart, none of it is so.
+-- Where all match, can be made, were made on these bytes and are apart, none of it is so.
 abbrev pub DecisionsAreMade : Type 0
 DecisionsAreMade =
-    (bytes section : List ℕ) (decisions : List Decision)
+    (bytes section : List ℕ) (decisions : List Decision) (numbers : List ℕ)
     → length bytes / 24 ≤ length decisions
     → AllCanBeMade bytes section decisions (length bytes / 24)
     → AllMatch bytes section decisions (length bytes / 24)
+    → AllKeepBytes bytes section decisions numbers (length bytes / 24)
     → AreApart bytes decisions (length bytes / 24)
-    → (error : DecisionError) → ¬ IsUnmade bytes section decisions error
+    → (error : DecisionError) → ¬ IsUnmade bytes section decisions numbers error
 
 -- ---- what decisions follow from
 

@@ -1,18 +1,57 @@
-//! Whether decisions can be made of a section's bytes as they are.
+//! Whether decisions can be made of a section's bytes as they are, by a number of the bytes that
+//! they were made on.
 
-ghost use Rattle.std.specs.Prelude.{◌≡◌, ◌↔◌, ◌≤◌, ◌/◌, length, map, IfErr, OnOk, IsTrue, true};
+ghost use Rattle.std.specs.Prelude.{◌≡◌, ◌↔◌, ◌≤◌, ◌<◌, ◌+◌, ◌/◌, length, map, take, drop};
+ghost use Rattle.std.specs.Prelude.{All, IfErr, OnOk, IsTrue, true};
 ghost use Rattle.linker_base.specs.Rewrite.{CanRewrite};
+ghost use Rattle.linker_base.specs.RewriteWindow.{window_of_rewrite};
 ghost use Rattle.linker_rewriting.specs.Candidates.{deletes_within};
-ghost use Rattle.linker_rewriting.specs.Decisions.{AllCanBeMade, AllMatch, AreApart, IsUnmade};
-ghost use Rattle.linker_rewriting.specs.Decisions.{CanBeMade, Matches};
+ghost use Rattle.linker_rewriting.specs.Decisions.{AllCanBeMade, AllMatch, AllKeepBytes, AreApart};
+ghost use Rattle.linker_rewriting.specs.Decisions.{CanBeMade, Matches, KeepsBytes, IsUnmade};
+ghost use Rattle.linker_rewriting.specs.Decisions.{bytes_number, window_number, turned};
 ghost use Rattle.linker_utils.specs.Relaxations.{relaxation_rewrite, relaxation_deleted};
 ghost use Rattle.linker_utils.specs.Relaxations.{relaxation_matches};
 
 use crate::candidates::deletes_within;
-use crate::decisions::{AsDecision, Decision, DecisionError, end_after, span_of};
+use crate::decisions::{AsKeptDecision, Decision, DecisionError, end_after, span_of};
 use crate::relocations::relocation_in;
 use linker_section::relocations::relocations_len;
 use linker_utils::architecture::Relaxation;
+use linker_utils::elf::InstructionRewrite;
+
+/// The bits of a number, turned up by 8.
+#[inline(always)]
+fn turned(number: u32) -> u32
+    ensures { result ≡ turned number }
+{
+    number % (1 << 24) * (1 << 8) + number / (1 << 24)
+}
+
+/// A number of the bytes of a section from a place on, which is another where one of them is.
+fn bytes_number(section: &[u8], start: u64, len: u64) -> u32
+    requires { start + len ≤ length section.now }
+    ensures { result ≡ bytes_number section.now start len }
+{
+    let mut number: u32 = 0;
+    for index in 0..len {
+        number = turned(number).wrapping_add(u32::from(section[(start + index) as usize]));
+    }
+    number
+}
+
+/// That of the bytes that a rewrite at an offset writes.
+#[inline(always)]
+fn window_number(kind: Relaxation, section: &[u8], offset: u64) -> u32
+    requires { CanRewrite (relaxation_rewrite kind) section.now offset }
+    ensures { result ≡ window_number (window_of_rewrite (relaxation_rewrite kind)) section.now
+        offset }
+{
+    let window = kind.window();
+    if window.len == 0 {
+        return 0;
+    }
+    bytes_number(section, offset - window.back, window.len)
+}
 
 /// Whether a rewrite's instructions are at an offset, and what it deletes is in the section.
 #[inline(always)]
@@ -24,21 +63,52 @@ fn is_there(kind: Relaxation, section: &[u8], offset: u64) -> bool
     kind.matches(section, offset) && deletes_within(section, offset, kind.deleted())
 }
 
-/// Whether a decision can be made at an offset, of instructions that its rewrite is meant for.
+/// Whether a decision can be made at an offset, of instructions that its rewrite is meant for and
+/// of bytes with a number.
 #[inline(always)]
-fn fits(decision: &Decision, section: &[u8], offset: u64) -> bool
+fn fits(decision: &Decision, number: u32, section: &[u8], offset: u64) -> bool
     ensures { IsTrue result ↔ (CanBeMade decision.now section.now offset
-        × Matches decision.now section.now offset) }
+        × Matches decision.now section.now offset
+        × KeepsBytes decision.now number section.now offset) }
 {
     match decision {
-        Decision::Rewritten(choice) => is_there(choice.kind, section, offset),
+        Decision::Rewritten(choice) => {
+            is_there(choice.kind, section, offset)
+                && window_number(choice.kind, section, offset) == number
+        }
         Decision::RewrittenWithSymbol(choice, _) => is_there(choice.kind, section, offset),
         _ => true,
     }
 }
 
+/// Keeps a number of the bytes that each decision rewrites.
+pub(crate) fn keep_bytes<D: AsKeptDecision>(
+    relocations: &[u8],
+    section: &[u8],
+    decisions: &mut [D],
+)
+    requires enough { length relocations.now / 24 ≤ length decisions.old }
+    requires made { AllCanBeMade relocations.now section.now (map D.decision decisions.old)
+        (length relocations.now / 24) }
+    requires form { All D.is_written (take (length relocations.now / 24) decisions.old) }
+    ensures decisions { map D.decision decisions.new ≡ map D.decision decisions.old }
+    ensures bytes { AllKeepBytes relocations.now section.now (map D.decision decisions.new)
+        (map D.bytes decisions.new) (length relocations.now / 24) }
+    ensures form { All D.is_kept (take (length relocations.now / 24) decisions.new) }
+    ensures others_stay { drop (length relocations.now / 24) decisions.new
+        ≡ drop (length relocations.now / 24) decisions.old }
+{
+    for index in 0..relocations_len(relocations) {
+        let Decision::Rewritten(choice) = decisions[index].as_decision() else {
+            continue;
+        };
+        let offset = relocation_in(relocations, index).offset;
+        decisions[index] = D::from_choice(choice, window_number(choice.kind, section, offset));
+    }
+}
+
 /// Tests that decisions can be made of a section as it is.
-pub(crate) fn check_decisions<D: AsDecision>(
+pub(crate) fn check_decisions<D: AsKeptDecision>(
     relocations: &[u8],
     section: &[u8],
     decisions: &[D],
@@ -48,10 +118,13 @@ pub(crate) fn check_decisions<D: AsDecision>(
         (map D.decision decisions.now) (length relocations.now / 24)) }
     ensures matches { OnOk result (AllMatch relocations.now section.now
         (map D.decision decisions.now) (length relocations.now / 24)) }
+    ensures bytes { OnOk result (AllKeepBytes relocations.now section.now
+        (map D.decision decisions.now) (map D.bytes decisions.now)
+        (length relocations.now / 24)) }
     ensures apart { OnOk result (AreApart relocations.now (map D.decision decisions.now)
         (length relocations.now / 24)) }
     ensures unmade { IfErr result (IsUnmade relocations.now section.now
-        (map D.decision decisions.now)) }
+        (map D.decision decisions.now) (map D.bytes decisions.now)) }
 {
     let len = relocations_len(relocations);
     if decisions.len() < len {
@@ -59,12 +132,13 @@ pub(crate) fn check_decisions<D: AsDecision>(
     }
     let mut end = 0;
     for index in 0..len {
-        let decision = decisions[index].as_decision();
+        let kept = decisions[index];
+        let decision = kept.as_decision();
         if let Decision::Kept = decision {
             continue;
         }
         let offset = relocation_in(relocations, index).offset;
-        if !fits(&decision, section, offset) {
+        if !fits(&decision, kept.bytes(), section, offset) {
             return Err(DecisionError::Changed(index));
         }
         let (start, own) = span_of(&decision, offset);

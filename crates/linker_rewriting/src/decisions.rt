@@ -1,7 +1,7 @@
 //! What becomes of each relocation of a section and of its instruction.
 
 ghost use Rattle.std.specs.Prelude.{◌≡◌, ◌<◌, ◌≤◌, ◌+◌, ◌-◌, ◌/◌, length, map, IfSome, IfErr};
-ghost use Rattle.std.specs.Prelude.{OnOk, IfOk, All, take, drop, true, false};
+ghost use Rattle.std.specs.Prelude.{ℕ, OnOk, IfOk, All, take, drop, true, false};
 ghost use Rattle.linker_rewriting.specs.declared.decisions.Decision.{Decision as decisions};
 ghost use Rattle.linker_section.specs.Relocations.{relocation_in, relocation_at};
 ghost use Rattle.linker_rewriting.specs.Decisions.{takes_next, window_of, IsDecision, CanBeMade};
@@ -93,6 +93,82 @@ impl AsDecision for Decision {
     }
 }
 
+/// A decision that is made later, and a number of the bytes that it was made on.
+#[derive(Clone, Copy)]
+pub struct KeptDecision {
+    /// The decision.
+    pub decision: Decision,
+    /// What stands for the bytes that it rewrites. 0 of one that rewrites none.
+    pub bytes: u32,
+}
+
+impl AsDecision for KeptDecision {
+    ghost use Rattle.std.specs.Prelude.{⊤};
+
+    ghost decision = { λ d. d.decision };
+
+    ghost is_written = { λ _. ⊤ };
+
+    #[inline(always)]
+    fn as_decision(self) -> Decision {
+        self.decision
+    }
+
+    #[inline(always)]
+    fn from_decision(made: Decision) -> KeptDecision {
+        KeptDecision {
+            decision: made,
+            bytes: 0,
+        }
+    }
+}
+
+/// What becomes of a relocation later: a `KeptDecision`, or an element of the caller's own array
+/// that says as much.
+pub trait AsKeptDecision: AsDecision {
+    /// The number of the bytes that it rewrites, in a contract.
+    ghost bytes: { Self → ℕ };
+
+    /// Whether it is one of the forms that are kept, in a contract.
+    ghost is_kept: { Self → Type 0 };
+
+    /// The number of the bytes that it rewrites.
+    fn bytes(self) -> u32
+        ensures { result ≡ bytes self };
+
+    /// The form that a rewrite of bytes with a number is kept in.
+    fn from_choice(choice: Choice<Relaxation, u32>, number: u32) -> Self
+        ensures decision { Self.decision result ≡ decisions.Rewritten choice }
+        ensures bytes { bytes result ≡ number }
+        ensures form { is_kept result };
+
+    /// A form that is written is kept as it is.
+    ghost keeps_written: { (d : Self) → Self.is_written d → is_kept d };
+}
+
+impl AsKeptDecision for KeptDecision {
+    ghost use Rattle.std.specs.Prelude.{⊤};
+
+    ghost bytes = { λ d. d.bytes };
+
+    ghost is_kept = { λ _. ⊤ };
+
+    #[inline(always)]
+    fn bytes(self) -> u32 {
+        self.bytes
+    }
+
+    #[inline(always)]
+    fn from_choice(choice: Choice<Relaxation, u32>, bytes: u32) -> KeptDecision {
+        KeptDecision {
+            decision: Decision::Rewritten(choice),
+            bytes,
+        }
+    }
+
+    ghost keeps_written = { λ d is. tt };
+}
+
 /// What deletions are listed in: pairs of an offset and how many bytes, or the caller's own
 /// structs.
 pub trait FromDeletion: AsDeletion {
@@ -131,8 +207,8 @@ pub enum RewritingError {
 pub enum DecisionError {
     /// There are fewer decisions than relocations.
     TooShort,
-    /// The instructions at the relocation with this index aren't those that its decision rewrites,
-    /// or what it deletes isn't in the section.
+    /// The instructions at the relocation with this index aren't those that its decision was made
+    /// on or rewrites, or what it deletes isn't in the section.
     Changed(usize),
     /// Bytes that would be rewritten or deleted at the relocation with this index are also
     /// rewritten or deleted at one before it, or lie below such bytes.

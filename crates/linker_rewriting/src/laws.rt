@@ -1,6 +1,7 @@
 //! Laws of surveys and of sections that are rewritten by them. The functions do nothing.
 
 ghost use Rattle.linker_rewriting.specs.Decisions.{DecisionsAreMade, DecisionsFollow};
+ghost use Rattle.linker_rewriting.specs.Decisions.{OneByteTells, WordsTell};
 ghost use Rattle.linker_rewriting.specs.GlobalPointer.{ArePartsWholeAcross};
 ghost use Rattle.linker_rewriting.specs.Kept.{KeptFactsTell};
 ghost use Rattle.linker_rewriting.specs.Rewritten.{GroupsAreWholeAcross, LoadsAreWhole};
@@ -29,6 +30,13 @@ pub fn decisions_follow()
 /// section and its relocations are those that were decided on.
 pub fn decisions_are_made()
     ensures { DecisionsAreMade }
+{}
+
+/// The number that is kept of bytes is another one where one of them is. Of up to four bytes it
+/// tells each.
+pub fn bytes_tell()
+    ensures one { OneByteTells }
+    ensures words { WordsTell }
 {}
 
 /// Of a group all relocations of an object that no other takes along are rewritten, or none is, in

@@ -8,7 +8,7 @@ ghost use Rattle.linker_rewriting.specs.Decisions.{AreClear};
 ghost use Rattle.linker_rewriting.specs.Decisions.{CanBeMade, AllCanBeMade, AreDecided, AreApart};
 ghost use Rattle.linker_rewriting.specs.Decisions.{AreDecidedIn, IsRejected, IsRejectedPlaced};
 ghost use Rattle.linker_rewriting.specs.Decisions.{decision_at, deleted_of, deleted_end};
-ghost use Rattle.linker_rewriting.specs.Decisions.{deletions_by, AllMatch, IsUnmade};
+ghost use Rattle.linker_rewriting.specs.Decisions.{deletions_by, AllMatch, AllKeepBytes, IsUnmade};
 ghost use Rattle.linker_rewriting.specs.Facts.{pre_layout, context};
 ghost use Rattle.linker_rewriting.specs.Inner.Left.{AreKept};
 ghost use Rattle.linker_rewriting.specs.Rewritten.{section_after, relocation_after, AreDone};
@@ -17,9 +17,10 @@ ghost use Rattle.linker_rewriting.specs.Rewritten.{GroupsAreWholeIn, LabelsAreWh
 ghost use Rattle.linker_rewriting.specs.Surveys.{MeansUnsurveyed};
 
 use crate::agreement::contradiction;
-use crate::checked::check_decisions;
+use crate::checked::{check_decisions, keep_bytes};
 use crate::decisions::{
-    AsDecision, Decision, DecisionError, FromDeletion, RewritingError, decide_section,
+    AsDecision, AsKeptDecision, Decision, DecisionError, FromDeletion, RewritingError,
+    decide_section,
 };
 use crate::facts::{NO_ADDRESSES, OutputFacts, RelaxContext, SymbolFacts};
 use crate::groups::UnrelaxableGroups;
@@ -284,7 +285,7 @@ pub fn rewrite_section<D: AsDecision>(
 /// Those of `rewrite_section`.
 ///
 /// ```
-/// use linker_rewriting::decisions::{Decision, DecisionError};
+/// use linker_rewriting::decisions::{AsDecision, Decision, DecisionError, KeptDecision};
 /// use linker_rewriting::facts::{OutputFacts, SymbolFacts};
 /// use linker_rewriting::groups::UnrelaxableGroups;
 /// use linker_rewriting::sections::{decide_rewrites, make_rewrites};
@@ -295,7 +296,7 @@ pub fn rewrite_section<D: AsDecision>(
 /// let mut relocations = [0; 24];
 /// (relocations[0], relocations[8], relocations[12]) = (2, 41, 1);
 /// relocations[16..].copy_from_slice(&(-4i64).to_le_bytes());
-/// let mut decisions = [Decision::Kept];
+/// let mut decisions = [KeptDecision::from_decision(Decision::Kept)];
 /// decide_rewrites(
 ///     Architecture::X86_64,
 ///     &OutputFacts { is_executable: true, is_fixed: false, has_near_symbols: true },
@@ -314,7 +315,7 @@ pub fn rewrite_section<D: AsDecision>(
 /// let again = make_rewrites(&mut relocations, &mut section, &decisions);
 /// assert_eq!(again, Err(DecisionError::Changed(0)));
 /// ```
-pub fn decide_rewrites<D: AsDecision>(
+pub fn decide_rewrites<D: AsKeptDecision>(
     architecture: Architecture,
     output: &OutputFacts,
     symbols: &[SymbolFacts],
@@ -331,12 +332,15 @@ pub fn decide_rewrites<D: AsDecision>(
         (map D.decision decisions.new) (length relocations.now / 24)) }
     ensures matches { OnOk result (AllMatch relocations.now section.now
         (map D.decision decisions.new) (length relocations.now / 24)) }
+    ensures bytes { OnOk result (AllKeepBytes relocations.now section.now
+        (map D.decision decisions.new) (map D.bytes decisions.new)
+        (length relocations.now / 24)) }
     ensures apart { OnOk result (AreApart relocations.now (map D.decision decisions.new)
         (length relocations.now / 24)) }
     ensures clear { OnOk result (AreClear architecture relocations.now section.now
         (map D.decision decisions.new) (length relocations.now / 24)) }
     ensures form { OnOk result
-        (All D.is_written (take (length relocations.now / 24) decisions.new)) }
+        (All D.is_kept (take (length relocations.now / 24) decisions.new)) }
     ensures others_stay { drop (length relocations.now / 24) decisions.new
         ≡ drop (length relocations.now / 24) decisions.old }
     ensures rejected { IfErr result (IsRejected architecture output.now symbols.now kept.now
@@ -353,7 +357,12 @@ pub fn decide_rewrites<D: AsDecision>(
         section,
         decisions,
     ) {
-        Ok(_) => Ok(()),
+        Ok(changes) => {
+            if changes {
+                keep_bytes(relocations, section, decisions);
+            }
+            Ok(())
+        }
         Err(error) => Err(error),
     }
 }
@@ -364,18 +373,24 @@ pub fn decide_rewrites<D: AsDecision>(
 ///
 /// The relocations have to be those that were decided on, with their offsets in this section: it is
 /// called before values are written, and before the section is packed. Where these and the section
-/// are unchanged, it returns no error (`laws::decisions_are_made`). Any decisions are accepted that
-/// pass the tests below, whoever made them. What isn't tested is what is decided by other
-/// relocations: that a group is whole, and that no rewrite changes another relocation's field.
+/// are unchanged, it returns no error (`laws::decisions_are_made`). Each byte that a rewrite
+/// overwrites is tested, by a number of 32 bits that is kept with the decision. It is another one
+/// where one of the bytes is, and of up to four bytes it is those bytes (`laws::bytes_tell`).
+///
+/// Any decisions are accepted that pass the tests below, whoever made them. With
+/// `Decision::RewrittenWithSymbol`, which `decide_rewrites` never decides, no number is kept. What
+/// isn't tested is what is decided by other relocations: that a group is whole, and that no rewrite
+/// changes another relocation's field.
 ///
 /// # Errors
 ///
 /// The section and its relocations are as before. `TooShort`: there are more relocations than
-/// `decisions`. Else the error of the first relocation that has one. `Changed`: the instructions
-/// there aren't those that the decision's rewrite is meant for, as `Relaxation::matches` says, or
-/// what it deletes isn't in the section. `Overlaps`: it rewrites or deletes bytes that a decision
-/// before it does too, or bytes below those.
-pub fn make_rewrites<D: AsDecision>(
+/// `decisions`. Else the error of the first relocation that has one. `Changed`: the bytes that its
+/// rewrite overwrites have another number than is kept, or the instructions aren't those that the
+/// rewrite is meant for, as `Relaxation::matches` says, or what it deletes isn't in the section.
+/// `Overlaps`: it rewrites or deletes bytes that a decision before it does too, or bytes below
+/// those.
+pub fn make_rewrites<D: AsKeptDecision>(
     relocations: &mut [u8],
     section: &mut [u8],
     decisions: &[D],
@@ -385,6 +400,9 @@ pub fn make_rewrites<D: AsDecision>(
         (map D.decision decisions.now) (length relocations.old / 24)) }
     ensures matches { OnOk result (AllMatch relocations.old section.old
         (map D.decision decisions.now) (length relocations.old / 24)) }
+    ensures bytes { OnOk result (AllKeepBytes relocations.old section.old
+        (map D.decision decisions.now) (map D.bytes decisions.now)
+        (length relocations.old / 24)) }
     ensures apart { OnOk result (AreApart relocations.old (map D.decision decisions.now)
         (length relocations.old / 24)) }
     ensures relocations { OnOk result (AreRelocationsAfter (map D.decision decisions.now)
@@ -394,7 +412,7 @@ pub fn make_rewrites<D: AsDecision>(
     ensures others { OnOk result (OthersStay relocations.old (map D.decision decisions.now)
         section.old section.new (length relocations.old / 24)) }
     ensures unmade { IfErr result (IsUnmade relocations.old section.old
-        (map D.decision decisions.now)) }
+        (map D.decision decisions.now) (map D.bytes decisions.now)) }
     ensures section { OnErr result (section.new ≡ section.old) }
     ensures entries { OnErr result (relocations.new ≡ relocations.old) }
 {

@@ -2,11 +2,12 @@
 use Rattle.std.specs.Prelude.{◌≡◌, ◌⊎◌, ◌≤◌, ℕ, ◌/◌, ◌==◌, if◌then◌else◌, List, length, map}
 use Rattle.std.specs.Prelude.{take, drop, pos}
 use Rattle.std.specs.Prelude.{All, Option, Some, None}
+use Rattle.std.proofs.Common.{ap}
 use Rattle.linker_elf.specs.declared.elf.choice.Choice.{Choice}
 use Rattle.linker_rewriting.specs.Agreement.{Agree}
 use Rattle.linker_rewriting.specs.Decisions.{AreDecidedIn, AreApart, AreClear, AllCanBeMade}
 use Rattle.linker_rewriting.specs.Decisions.{IsRejectedIn, IsRejectedPlaced, deletions_by}
-use Rattle.linker_rewriting.specs.Decisions.{AllMatch, IsUnmade}
+use Rattle.linker_rewriting.specs.Decisions.{AllMatch, AllKeepBytes, IsUnmade}
 use Rattle.linker_rewriting.specs.Facts.{RelaxContext}
 use Rattle.linker_rewriting.specs.Rewritten.{AreRelocationsAfter, AreDone, OthersStay}
 use Rattle.linker_rewriting.specs.Rewritten.{GroupsAreWholeIn}
@@ -111,6 +112,27 @@ IsWrittenAs Consumed numbers = numbers ≡ of_fate 2
 abbrev pub IsWrittenDecision : DecisionNumbers → Type 0
 IsWrittenDecision numbers = IsWrittenAs (decision_in numbers) numbers
 
+-- How one is kept: the symbol is then a number of the bytes that are rewritten.
+abbrev pub IsKeptAs : Decision → DecisionNumbers → Type 0
+IsKeptAs (Rewritten chosen) numbers = (numbers.fate ≡ 1) × (numbers.addend ≡ pos 0)
+IsKeptAs decision numbers = IsWrittenAs decision numbers
+
+abbrev pub IsKeptDecision : DecisionNumbers → Type 0
+IsKeptDecision numbers = IsKeptAs (decision_in numbers) numbers
+
+abbrev pub numbers_in : List DecisionNumbers → List ℕ
+numbers_in decisions = map (λ numbers. numbers.symbol) decisions
+
+kept_as : (decision : Decision) (numbers : DecisionNumbers) → IsWrittenAs decision numbers
+    → IsKeptAs decision numbers
+kept_as (Rewritten chosen) numbers is = (is.0, ap (λ (s : Subject). s.addend) (is.1))
+kept_as (RewrittenWithSymbol chosen subject) numbers is = is
+kept_as Kept numbers is = is
+kept_as Consumed numbers is = is
+
+pub is_kept : (numbers : DecisionNumbers) → IsWrittenDecision numbers → IsKeptDecision numbers
+is_kept numbers is = kept_as (decision_in numbers) numbers is
+
 -- ---- a section
 
 -- it is surveyed, or its symbols contradict each other and nothing is noted
@@ -166,11 +188,12 @@ IsRewriteReturned s kept bytes bytes_after section section_after old new old_fau
 
 -- it is decided, and neither it nor its relocations are written
 pub record AreDecidedAs (s : RelaxContext) (kept : List UnrelaxableGroups) (bytes section : List ℕ)
-    (decisions : List Decision) : Type 0 where
+    (decisions : List Decision) (numbers : List ℕ) : Type 0 where
   pub decided : AreDecidedIn s kept bytes section decisions (length bytes / 24)
   pub groups : GroupsAreWholeIn s.architecture s.phase bytes decisions (length bytes / 24)
   pub within : AllCanBeMade bytes section decisions (length bytes / 24)
   pub matches : AllMatch bytes section decisions (length bytes / 24)
+  pub kept_bytes : AllKeepBytes bytes section decisions numbers (length bytes / 24)
   pub apart : AreApart bytes decisions (length bytes / 24)
   pub clear : AreClear s.architecture bytes section decisions (length bytes / 24)
 
@@ -179,17 +202,18 @@ abbrev pub IsDecisionReturned : RelaxContext → List UnrelaxableGroups → List
 IsDecisionReturned s kept bytes section old new old_faulty faulty status =
     (drop (length bytes / 24) new ≡ drop (length bytes / 24) old)
     × (((status ≡ code Success) × (faulty ≡ old_faulty)
-    × AreDecidedAs s kept bytes section (decisions_in new)
-    × All IsWrittenDecision (take (length bytes / 24) new))
+    × AreDecidedAs s kept bytes section (decisions_in new) (numbers_in new)
+    × All IsKeptDecision (take (length bytes / 24) new))
     ⊎ IsErrorReturned (IsRejectedIn s kept bytes section (decisions_in new)) bytes bytes
     section section old_faulty faulty status)
 
 -- it is rewritten as was decided
 pub record AreMadeAs (bytes bytes_after section section_after : List ℕ) (decisions : List Decision)
-    : Type 0 where
+    (numbers : List ℕ) : Type 0 where
   pub enough : length bytes / 24 ≤ length decisions
   pub within : AllCanBeMade bytes section decisions (length bytes / 24)
   pub matches : AllMatch bytes section decisions (length bytes / 24)
+  pub kept_bytes : AllKeepBytes bytes section decisions numbers (length bytes / 24)
   pub apart : AreApart bytes decisions (length bytes / 24)
   pub relocations : AreRelocationsAfter decisions bytes bytes_after (length bytes / 24)
   pub done : AreDone bytes decisions section section_after (length bytes / 24)
@@ -209,8 +233,10 @@ abbrev pub IsMakingReturned : List ℕ → List ℕ → List ℕ → List ℕ �
     → Type 0
 IsMakingReturned bytes bytes_after section section_after decisions old_faulty faulty status =
     ((status ≡ code Success) × (faulty ≡ old_faulty)
-    × AreMadeAs bytes bytes_after section section_after (decisions_in decisions))
-    ⊎ ((error : DecisionError) × IsUnmade bytes section (decisions_in decisions) error
+    × AreMadeAs bytes bytes_after section section_after (decisions_in decisions)
+    (numbers_in decisions))
+    ⊎ ((error : DecisionError)
+    × IsUnmade bytes section (decisions_in decisions) (numbers_in decisions) error
     × (status ≡ code (making_status error)) × (faulty ≡ making_faulty error old_faulty)
     × (bytes_after ≡ bytes) × (section_after ≡ section))
 

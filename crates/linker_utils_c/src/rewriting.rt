@@ -21,7 +21,7 @@ ghost use Rattle.linker_utils_c.specs.Status.{code};
 use crate::deltas::Deletion;
 use crate::status::Status;
 use linker_rewriting::decisions::{
-    AsDecision, Decision, DecisionError, FromDeletion, RewritingError, Subject,
+    AsDecision, AsKeptDecision, Decision, DecisionError, FromDeletion, RewritingError, Subject,
 };
 use linker_rewriting::facts::{OutputFacts, SymbolFacts};
 use linker_rewriting::groups::{UnrelaxableGroups, has_rewrites};
@@ -41,7 +41,8 @@ use linker_utils::elf::{Architecture, Choice};
 pub struct DecisionNumbers {
     /// The addend that the relocation gets before the rewrite, if its fate is 3; else 0.
     pub addend: i64,
-    /// The index of the symbol that the relocation gets, if its fate is 3; else 0.
+    /// The index of the symbol that the relocation gets, if its fate is 3. With the fate 1 a number
+    /// of the bytes that the rewrite was decided on, if it is kept; else 0.
     pub symbol: u32,
     /// The rewrite's number; 0 of a relocation whose instruction isn't rewritten, as the fields
     /// below but `fate`.
@@ -169,6 +170,33 @@ impl AsDecision for DecisionNumbers {
             Decision::RewrittenWithSymbol(choice, subject) => of_choice(3, choice, subject),
         }
     }
+}
+
+impl AsKeptDecision for DecisionNumbers {
+    ghost use Rattle.linker_utils_c.specs.Rewriting.{IsKeptDecision, is_kept};
+
+    ghost bytes = { λ numbers. numbers.symbol };
+
+    ghost is_kept = { IsKeptDecision };
+
+    #[inline(always)]
+    fn bytes(self) -> u32 {
+        self.symbol
+    }
+
+    #[inline(always)]
+    fn from_choice(choice: Choice<Relaxation, u32>, number: u32) -> DecisionNumbers {
+        of_choice(
+            1,
+            choice,
+            Subject {
+                symbol: number,
+                addend: 0,
+            },
+        )
+    }
+
+    ghost keeps_written = { is_kept };
 }
 
 impl FromDeletion for Deletion {

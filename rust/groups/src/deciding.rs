@@ -1,13 +1,13 @@
 // SPDX-License-Identifier: MIT OR Apache-2.0
 //! Rewrites that four threads decide over files that are mapped read-only, and that are made later in
-//! copies, beside `rewrite_section`. Then each byte that one rewrites is changed.
+//! copies, beside `rewrite_section`. Then each byte that one rewrites is changed, and it isn't made.
 
 use crate::objects::{Head, LE, each_member};
 use linker_utils::architecture::Relaxation;
 use linker_utils::elf::Architecture;
 use linker_utils::rewriting::{
-    Decision, DecisionError, Phase, RewritingError, SymbolFacts, UnrelaxableGroups, decide_rewrites,
-    has_rewrites, make_rewrites, rewrite_section, survey,
+    AsDecision, Decision, DecisionError, KeptDecision, Phase, RewritingError, SymbolFacts,
+    UnrelaxableGroups, decide_rewrites, has_rewrites, make_rewrites, rewrite_section, survey,
 };
 use linker_utils::section::{Link, Object, Section, relocation_at, relocations_len};
 use object::elf;
@@ -101,7 +101,7 @@ fn read(data: &'static [u8], is_static: bool) -> Result<Option<Input>, Box<dyn E
 struct Decided {
     input: usize,
     section: usize,
-    decisions: Vec<Decision>,
+    decisions: Vec<KeptDecision>,
     result: Result<(), RewritingError>,
 }
 
@@ -115,7 +115,8 @@ fn decide(inputs: &[Input]) -> Vec<Decided> {
         let &(input, section) = all.get(next.fetch_add(1, Ordering::Relaxed))?;
         let of = &inputs[input];
         let code = &of.code[section];
-        let mut decisions = vec![Decision::Kept; relocations_len(code.relocations)];
+        let kept = KeptDecision::from_decision(Decision::Kept);
+        let mut decisions = vec![kept; relocations_len(code.relocations)];
         let result = decide_rewrites(&of.link, &of.object(), code, &mut decisions);
         Some(Decided { input, section, decisions, result })
     };
@@ -138,9 +139,8 @@ fn rewrite(decision: &Decision) -> Option<Relaxation> {
 struct Count {
     sections: u64,
     rewritten: u64,
-    /// Changed bytes with which the section is no longer rewritten.
+    /// Changed bytes with which the section is no longer rewritten: all.
     rejected: u64,
-    accepted: u64,
 }
 
 /// Makes what was decided in a copy, and in copies of which one byte is changed.
@@ -158,7 +158,7 @@ fn make(input: &Input, decided: &Decided, count: &mut Count) -> Result<(), Strin
     if result.is_err() {
         return Ok(());
     }
-    if &others != decisions {
+    if !others.iter().eq(decisions.iter().map(|kept| &kept.decision)) {
         return Err("other decisions".into());
     }
     let mut made = copy();
@@ -168,39 +168,30 @@ fn make(input: &Input, decided: &Decided, count: &mut Count) -> Result<(), Strin
     }
     let offset = |index| relocation_at(code.relocations, index).map_or(0, |it| it.offset);
     let all: Vec<(usize, Relaxation)> = (0..decisions.len())
-        .filter_map(|index| Some((index, rewrite(&decisions[index])?)))
+        .filter_map(|index| Some((index, rewrite(&decisions[index].decision)?)))
         .collect();
     let mut changed = copy();
-    for &(index, kind) in &all {
+    for &(index, _) in &all {
         count.rewritten += 1;
-        let window = decisions[index].window();
+        let window = decisions[index].decision.window();
         let start = (offset(index) - window.back) as usize;
-        let mut is_rejected = false;
         for at in start..start + window.len as usize {
             changed.bytes[at] ^= 0xff;
-            let found =
-                all.iter().find(|(at, kind)| !kind.matches(&changed.bytes, offset(*at)));
-            let Some(&(first, _)) = found else {
-                count.accepted += 1;
-                changed.bytes[at] ^= 0xff;
-                continue;
-            };
+            // or one before it whose instructions are also tested there
+            let (first, _) = all
+                .iter()
+                .find(|&&(at, kind)| at == index || !kind.matches(&changed.bytes, offset(at)))
+                .expect("at least this one");
             let before = changed.bytes.clone();
             let error = make_rewrites(&mut changed, decisions);
-            if error != Err(DecisionError::Changed(first)) {
+            if error != Err(DecisionError::Changed(*first)) {
                 return Err(format!("{error:?} where {first} is changed at {at:#x}"));
             }
             if changed.bytes != before || changed.relocations != code.relocations {
                 return Err(format!("written in spite of {error:?}"));
             }
             count.rejected += 1;
-            is_rejected |= first == index;
             changed.bytes[at] ^= 0xff;
-        }
-        // any instruction becomes a `nop`
-        let takes_any = format!("{kind:?}").contains("ReplaceWithNop");
-        if !is_rejected && window.len > 0 && !takes_any {
-            return Err(format!("{kind:?} of the relocation at {index} takes any bytes"));
         }
     }
     Ok(())
@@ -233,8 +224,8 @@ pub fn run(files: &[String]) -> Result<bool, Box<dyn Error>> {
     let mut is_whole = !counts.is_empty();
     for (name, (architecture, count)) in &counts {
         println!(
-            "{name}: {} sections decided, {} rewrites, {} changed bytes rejected, {} accepted",
-            count.sections, count.rewritten, count.rejected, count.accepted
+            "{name}: {} sections decided, {} rewrites, {} changed bytes rejected",
+            count.sections, count.rewritten, count.rejected
         );
         is_whole &= !has_rewrites(*architecture, Phase::PreLayout) || count.rejected > 0;
     }

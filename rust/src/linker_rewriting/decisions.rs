@@ -68,6 +68,57 @@ impl AsDecision for Decision {
     }
 }
 
+/// A decision that is made later, and a number of the bytes that it was made on.
+#[derive(Clone, Copy, Debug, PartialEq, Eq, Hash)]
+pub struct KeptDecision {
+    /// The decision.
+    pub decision: Decision,
+    /// What stands for the bytes that it rewrites. 0 of one that rewrites none.
+    pub bytes: u32,
+}
+
+impl AsDecision for KeptDecision {
+    #[inline(always)]
+    fn as_decision(self) -> Decision {
+        self.decision
+    }
+
+    #[inline(always)]
+    fn from_decision(made: Decision) -> KeptDecision {
+        KeptDecision {
+            decision: made,
+            bytes: 0,
+        }
+    }
+}
+
+/// What becomes of a relocation later: a [`KeptDecision`](crate::rewriting::KeptDecision), or an element of the caller's own array
+/// that says as much.
+pub trait AsKeptDecision: AsDecision {
+    /// The number of the bytes that it rewrites.
+    #[must_use]
+    fn bytes(self) -> u32;
+
+    /// The form that a rewrite of bytes with a number is kept in.
+    #[must_use]
+    fn from_choice(choice: Choice<Relaxation, u32>, number: u32) -> Self;
+}
+
+impl AsKeptDecision for KeptDecision {
+    #[inline(always)]
+    fn bytes(self) -> u32 {
+        self.bytes
+    }
+
+    #[inline(always)]
+    fn from_choice(choice: Choice<Relaxation, u32>, bytes: u32) -> KeptDecision {
+        KeptDecision {
+            decision: Decision::Rewritten(choice),
+            bytes,
+        }
+    }
+}
+
 /// What deletions are listed in: pairs of an offset and how many bytes, or the caller's own
 /// structs.
 pub trait FromDeletion: AsDeletion {
@@ -108,8 +159,8 @@ pub enum RewritingError {
 pub enum DecisionError {
     /// There are fewer decisions than relocations.
     TooShort,
-    /// The instructions at the relocation with this index aren't those that its decision rewrites,
-    /// or what it deletes isn't in the section.
+    /// The instructions at the relocation with this index aren't those that its decision was made
+    /// on or rewrites, or what it deletes isn't in the section.
     Changed(usize),
     /// Bytes that would be rewritten or deleted at the relocation with this index are also
     /// rewritten or deleted at one before it, or lie below such bytes.

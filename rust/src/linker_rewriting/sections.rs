@@ -3,9 +3,10 @@
 //! The rewrites of a section, made in one call for each phase.
 
 use crate::linker_rewriting::agreement::contradiction;
-use crate::linker_rewriting::checked::check_decisions;
+use crate::linker_rewriting::checked::{check_decisions, keep_bytes};
 use crate::linker_rewriting::decisions::{
-    AsDecision, Decision, DecisionError, FromDeletion, RewritingError, decide_section,
+    AsDecision, AsKeptDecision, Decision, DecisionError, FromDeletion, RewritingError,
+    decide_section,
 };
 use crate::linker_rewriting::facts::{NO_ADDRESSES, OutputFacts, RelaxContext, SymbolFacts};
 use crate::linker_rewriting::groups::UnrelaxableGroups;
@@ -146,7 +147,7 @@ pub fn rewrite_section<D: AsDecision>(
 /// `crate::link::decide_rewrites`, with more parameters.
 ///
 /// ```
-/// use linker_utils::source::rewriting::{Decision, DecisionError};
+/// use linker_utils::source::rewriting::{AsDecision, Decision, DecisionError, KeptDecision};
 /// use linker_utils::source::rewriting::{OutputFacts, SymbolFacts};
 /// use linker_utils::source::rewriting::UnrelaxableGroups;
 /// use linker_utils::source::rewriting::{decide_rewrites, make_rewrites};
@@ -157,7 +158,7 @@ pub fn rewrite_section<D: AsDecision>(
 /// let mut relocations = [0; 24];
 /// (relocations[0], relocations[8], relocations[12]) = (2, 41, 1);
 /// relocations[16..].copy_from_slice(&(-4i64).to_le_bytes());
-/// let mut decisions = [Decision::Kept];
+/// let mut decisions = [KeptDecision::from_decision(Decision::Kept)];
 /// decide_rewrites(
 ///     Architecture::X86_64,
 ///     &OutputFacts { is_executable: true, is_fixed: false, has_near_symbols: true },
@@ -176,7 +177,7 @@ pub fn rewrite_section<D: AsDecision>(
 /// let again = make_rewrites(&mut relocations, &mut section, &decisions);
 /// assert_eq!(again, Err(DecisionError::Changed(0)));
 /// ```
-pub fn decide_rewrites<D: AsDecision>(
+pub fn decide_rewrites<D: AsKeptDecision>(
     architecture: Architecture,
     output: &OutputFacts,
     symbols: &[SymbolFacts],
@@ -194,13 +195,18 @@ pub fn decide_rewrites<D: AsDecision>(
         section,
         decisions,
     ) {
-        Ok(_) => Ok(()),
+        Ok(changes) => {
+            if changes {
+                keep_bytes(relocations, section, decisions);
+            }
+            Ok(())
+        }
         Err(error) => Err(error),
     }
 }
 
 /// `crate::link::make_rewrites`, with more parameters.
-pub fn make_rewrites<D: AsDecision>(
+pub fn make_rewrites<D: AsKeptDecision>(
     relocations: &mut [u8],
     section: &mut [u8],
     decisions: &[D],

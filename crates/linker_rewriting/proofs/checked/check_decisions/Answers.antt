@@ -1,8 +1,10 @@
+use Rattle.std.specs.Prelude.{get_or}
 use Rattle.std.proofs.Common.{◌≡◌, ◌<◌, ◌≤◌, ◌/◌, ◌∙◌, length, map, sym, subst, arith, None, Some}
 use Rattle.std.proofs.lemmas.List.{length-map, get_or-map}
-use Rattle.linker_rewriting.proofs.Makeable.{more_checked, kept_checked, overlaps}
+use Rattle.linker_rewriting.proofs.Makeable.{Fits, more_checked, kept_checked, overlaps}
 use Rattle.linker_rewriting.proofs.Deciding.{IsGrown, ends_within}
-use Rattle.linker_rewriting.specs.Decisions.{CanBeMade, Matches, IsEndAfter, decision_at, start_by, end_by}
+use Rattle.linker_rewriting.specs.Decisions.{IsEndAfter, decision_at, start_by, end_by}
+use Rattle.linker_section.specs.Relocations.{relocation_in}
 use Rattle.linker_rewriting.specs.declared.decisions.Decision.TheVariants.{Kept}
 use Rattle.linker_rewriting.proofs.checked.check_decisions.Goals as goal
 
@@ -10,12 +12,13 @@ pub loop-index-preserved-in-Kept : goal.loop-index-preserved-in-Kept
 loop-index-preserved-in-Kept g c =
     let a = c.args in
     let f = g.D.AsDecision.decision in
+    let numbers = map g.D.AsKeptDecision.bytes a.decisions.now in
     let k = c.loop-index.index in
     let within : k < length a.decisions.now =
     (let t = c.loop-index-test.true in let e = c.relocations_len-len.ensures in let n = c.if-decisions-len.false in omega arith) in
     let here : decision_at (map f a.decisions.now) k ≡ c.as_decision-decision.result =
     get_or-map f a.decisions.now k c.index-decisions-index.result Kept within ∙ rw (← c.index-decisions-index.is) (sym c.as_decision-decision.ensures) in
-    kept_checked a.relocations.now a.section.now (map f a.decisions.now) c.loop-index.end k c.loop-index.invariant
+    kept_checked a.relocations.now a.section.now (map f a.decisions.now) numbers c.loop-index.end k c.loop-index.invariant
     (here ∙ c.in-Kept.is)
 
 pub span_of-start-requires : goal.span_of-start-requires
@@ -27,6 +30,7 @@ pub returns-in_default-end_after-clause-unmade : goal.returns-in_default-end_aft
 returns-in_default-end_after-clause-unmade g c =
     let a = c.args in
     let f = g.D.AsDecision.decision in
+    let numbers = map g.D.AsKeptDecision.bytes a.decisions.now in
     let k = c.loop-index.index in
     let d = c.as_decision-decision.result in
     let same = c.relocation_in-offset.ensures in
@@ -39,9 +43,11 @@ returns-in_default-end_after-clause-unmade g c =
     let here : decision_at (map f a.decisions.now) k ≡ d =
     get_or-map f a.decisions.now k c.index-decisions-index.result Kept within ∙ rw (← c.index-decisions-index.is) (sym c.as_decision-decision.ensures) in
     let both = c.fits.ensures.0 c.if-not-fits.false in
-    overlaps a.relocations.now a.section.now (map f a.decisions.now) c.loop-index.end k d c.loop-index.invariant here
-    (subst (λ y. CanBeMade d a.section.now y.offset) same (both.0))
-    (subst (λ y. Matches d a.section.now y.offset) same (both.1))
+    let number : get_or numbers k 0 ≡ c.bytes.result =
+    get_or-map g.D.AsKeptDecision.bytes a.decisions.now k c.index-decisions-index.result 0 within ∙ rw (← c.index-decisions-index.is) (sym c.bytes.ensures) in
+    overlaps a.relocations.now a.section.now (map f a.decisions.now) numbers c.loop-index.end k d c.loop-index.invariant here
+    (subst (λ n. Fits d n a.section.now (relocation_in a.relocations.now k).offset) (sym number)
+    (subst (λ y. Fits d c.bytes.result a.section.now y.offset) same both))
     (subst (λ x. IsEndAfter (start_by d x.offset) (end_by d x.offset) c.loop-index.end None) same
     (subst (λ x. IsEndAfter (x.0) (x.1) c.loop-index.end None) c.span_of-start.ensures
     (subst (IsEndAfter (c.span_of-start.result.0) (c.span_of-start.result.1) c.loop-index.end) c.in_default-end_after.is c.end_after.ensures)))
@@ -51,6 +57,7 @@ pub loop-index-preserved : goal.loop-index-preserved
 loop-index-preserved g c =
     let a = c.args in
     let f = g.D.AsDecision.decision in
+    let numbers = map g.D.AsKeptDecision.bytes a.decisions.now in
     let k = c.loop-index.index in
     let d = c.as_decision-decision.result in
     let end = c.in-Some.new_end in
@@ -60,13 +67,15 @@ loop-index-preserved g c =
     let here : decision_at (map f a.decisions.now) k ≡ d =
     get_or-map f a.decisions.now k c.index-decisions-index.result Kept within ∙ rw (← c.index-decisions-index.is) (sym c.as_decision-decision.ensures) in
     let both = c.fits.ensures.0 c.if-not-fits.false in
+    let number : get_or numbers k 0 ≡ c.bytes.result =
+    get_or-map g.D.AsKeptDecision.bytes a.decisions.now k c.index-decisions-index.result 0 within ∙ rw (← c.index-decisions-index.is) (sym c.bytes.ensures) in
     let grow : IsGrown start_by end_by a.relocations.now k d c.loop-index.end end =
     subst (λ x. IsEndAfter (start_by d x.offset) (end_by d x.offset) c.loop-index.end (Some end)) same
     (subst (λ x. IsEndAfter (x.0) (x.1) c.loop-index.end (Some end)) c.span_of-start.ensures
     (subst (IsEndAfter (c.span_of-start.result.0) (c.span_of-start.result.1) c.loop-index.end) c.in-Some.is c.end_after.ensures)) in
-    more_checked a.relocations.now a.section.now (map f a.decisions.now) c.loop-index.end end k d c.loop-index.invariant here
-    (subst (λ y. CanBeMade d a.section.now y.offset) same (both.0))
-    (subst (λ y. Matches d a.section.now y.offset) same (both.1))
+    more_checked a.relocations.now a.section.now (map f a.decisions.now) numbers c.loop-index.end end k d c.loop-index.invariant here
+    (subst (λ n. Fits d n a.section.now (relocation_in a.relocations.now k).offset) (sym number)
+    (subst (λ y. Fits d c.bytes.result a.section.now y.offset) same both))
     grow
 
 pub returns-clause-apart : goal.returns-clause-apart
