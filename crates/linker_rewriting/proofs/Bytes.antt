@@ -47,20 +47,20 @@ one_byte_tells section other start zero at bytes others from before same differs
 one_byte_tells section other start (suc n) at bytes others from before same differs e =
     elim (cases_lt at (start + n)) [
       | inl earlier ↦
-        let byte : get_or section (start + n) 0 ≡ get_or other (start + n) 0 =
-        same (start + n) (λ is. absurd (omega (arith, is, earlier))) in
-        one_byte_tells section other start n at bytes others from earlier same differs
-        (number_same (bytes_number section start n) (bytes_number other start n) (get_or other (start + n) 0)
-        (below section start n) (below other start n)
-        (ap (λ b. (turned (bytes_number section start n) + b) % 2 ^ 32) (sym byte) ∙ e))
+          let byte : get_or section (start + n) 0 ≡ get_or other (start + n) 0 =
+          same (start + n) (λ is. absurd (omega (arith, is, earlier))) in
+          one_byte_tells section other start n at bytes others from earlier same differs
+          (number_same (bytes_number section start n) (bytes_number other start n) (get_or other (start + n) 0)
+          (below section start n) (below other start n)
+          (ap (λ b. (turned (bytes_number section start n) + b) % 2 ^ 32) (sym byte) ∙ e))
       | inr from_it ↦
-        let is : at ≡ start + n = omega (arith, from_it, before) in
-        let number : bytes_number section start n ≡ bytes_number other start n =
-        same_numbers section other start n (λ i less. same (start + i) (λ here. absurd (omega (arith, here, is, less)))) in
-        differs (subst (λ k. get_or section k 0 ≡ get_or other k 0) (sym is)
-        (byte_same (turned (bytes_number other start n)) (get_or section (start + n) 0) (get_or other (start + n) 0)
-        (bytes (start + n)) (others (start + n))
-        (ap (λ a. (turned a + get_or section (start + n) 0) % 2 ^ 32) (sym number) ∙ e)))
+          let is : at ≡ start + n = omega (arith, from_it, before) in
+          let number : bytes_number section start n ≡ bytes_number other start n =
+          same_numbers section other start n (λ i less. same (start + i) (λ here. absurd (omega (arith, here, is, less)))) in
+          differs (subst (λ k. get_or section k 0 ≡ get_or other k 0) (sym is)
+          (byte_same (turned (bytes_number other start n)) (get_or section (start + n) 0) (get_or other (start + n) 0)
+          (bytes (start + n)) (others (start + n))
+          (ap (λ a. (turned a + get_or section (start + n) 0) % 2 ^ 32) (sym number) ∙ e)))
     ]
 
 -- ---- up to four
@@ -106,8 +106,8 @@ words_tell section other start (suc n) bytes others few e i less =
     (bytes (start + n)) (others (start + n)) e in
     elim (cases_lt i n) [
       | inl earlier ↦
-        words_tell section other start n bytes others (omega (arith, few)) (both.0) i earlier
+          words_tell section other start n bytes others (omega (arith, few)) (both.0) i earlier
       | inr last ↦
-        let is : i ≡ n = omega (arith, last, less) in
-        subst (λ k. get_or section (start + k) 0 ≡ get_or other (start + k) 0) (sym is) (both.1)
+          let is : i ≡ n = omega (arith, last, less) in
+          subst (λ k. get_or section (start + k) 0 ≡ get_or other (start + k) 0) (sym is) (both.1)
     ]

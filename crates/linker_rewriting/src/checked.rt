@@ -82,11 +82,7 @@ fn fits(decision: &Decision, number: u32, section: &[u8], offset: u64) -> bool
 }
 
 /// Keeps a number of the bytes that each decision rewrites.
-pub(crate) fn keep_bytes<D: AsKeptDecision>(
-    relocations: &[u8],
-    section: &[u8],
-    decisions: &mut [D],
-)
+pub(crate) fn keep_bytes<D: AsKeptDecision>(relocations: &[u8], section: &[u8], decisions: &mut [D])
     requires enough { length relocations.now / 24 ≤ length decisions.old }
     requires made { AllCanBeMade relocations.now section.now (map D.decision decisions.old)
         (length relocations.now / 24) }

@@ -30,11 +30,12 @@ returns-clause-site_deleted c = λ valid.
     let inside = c.in_ok-jump.ensures.inside in
     let jump = c.in_ok-jump.ensures.jump valid in
     let wide : FitsSigned w64 c.in_ok-jump.jump.distance = first_of (search rules, omega (arith, ints)) in
-    let test = c.jal_site.ensures in
-    (λ is. absurd ((jal_rejected OfAuipc (deletions_of c.args.deltas.now.deltas) c.args.section.now (c.args.site, c.args.target) (to_z w64 (of_z w64 c.in_ok-jump.jump.distance)) c.jal_site.result
-    (c.args.site + 4 ≤ length c.args.section.now) (to_z-of_z w64 c.in_ok-jump.jump.distance wide ∙ jump.distance) inside jump.kept tt inside.0
-    test.accepted (λ is room. omega (arith, test.out_of_section.0 is)) test.odd_distance test.too_far SiteDeleted is).1 jump.kept),
-    λ fails. absurd (fails.1 jump.kept))
+    let test = c.jal_site.ensures in (
+      λ is. absurd ((jal_rejected OfAuipc (deletions_of c.args.deltas.now.deltas) c.args.section.now (c.args.site, c.args.target) (to_z w64 (of_z w64 c.in_ok-jump.jump.distance)) c.jal_site.result
+          (c.args.site + 4 ≤ length c.args.section.now) (to_z-of_z w64 c.in_ok-jump.jump.distance wide ∙ jump.distance) inside jump.kept tt inside.0
+          test.accepted (λ is room. omega (arith, test.out_of_section.0 is)) test.odd_distance test.too_far SiteDeleted is).1 jump.kept),
+      λ fails. absurd (fails.1 jump.kept),
+    )
 
 pub returns-clause-odd_distance : goal.returns-clause-odd_distance
 returns-clause-odd_distance c = λ valid.
