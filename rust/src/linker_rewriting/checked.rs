@@ -56,11 +56,7 @@ fn fits(decision: &Decision, number: u32, section: &[u8], offset: u64) -> bool {
 }
 
 /// Keeps a number of the bytes that each decision rewrites.
-pub(crate) fn keep_bytes<D: AsKeptDecision>(
-    relocations: &[u8],
-    section: &[u8],
-    decisions: &mut [D],
-) {
+pub(crate) fn keep_bytes<D: AsKeptDecision>(relocations: &[u8], section: &[u8], decisions: &mut [D]) {
     for index in 0..relocations_len(relocations) {
         let Decision::Rewritten(choice) = decisions[index].as_decision() else {
             continue;
