@@ -1,20 +1,19 @@
 -- What the tests of a pair and the bits of `tp` mean.
-use Rattle.std.proofs.Common.{◌≡◌, ℕ, ◌+◌, ◌*◌, ◌-◌, ◌/◌, ◌%◌, ◌^◌, ◌<◌, ◌≢◌, ◌≤◌, ◌↔◌, List, length, ◌∙◌, ap, arith, bit_and, bit_or}
+use Rattle.std.proofs.Common.{◌≡◌, ℕ, ◌+◌, ◌*◌, ◌-◌, ◌/◌, ◌%◌, ◌^◌, ◌<◌, ◌≢◌, ◌≤◌, ◌↔◌, List, length, refl, ◌∙◌, ap, arith, bit_and, bit_or}
 use Rattle.std.specs.Bool.{⊤}
-use Rattle.std.proofs.lemmas.Nat.{and_assoc, and_block, and_le_r, and_mask, or_disjoint}
+use Rattle.std.proofs.lemmas.Nat.{and_block, and_mask}
+use Rattle.linker_utils.proofs.RewriteRows.{kept_and_set}
 use Rattle.linker_utils.specs.LoongArchRewrites.{IsPair, IsPcalau12i, rd_of, rj_of, tp, word_at}
 
 -- the bits of `tp` in place of those of the first source register
 pub over_tp : (word : ℕ) → word < 2 ^ 32
     → bit_or (bit_and word 0xfffffc1f) 0x40 ≡ word - rj_of word * 2 ^ 5 + tp * 2 ^ 5
 over_tp word small =
-    let apart : bit_and (bit_and word 0xfffffc1f) 0x40 ≡ 0 =
-    and_assoc 0x40 word 0xfffffc1f ∙ omega (arith, and_le_r word 0) in
     let parts : word ≡ word / 2 ^ 10 * 2 ^ 10 + word % 2 ^ 10 = omega arith in
     let kept : bit_and word 0xfffffc1f ≡ bit_and (word / 2 ^ 10) 0x3fffff * 2 ^ 10 + bit_and (word % 2 ^ 10) 0x1f =
     ap (λ n. bit_and n 0xfffffc1f) parts
     ∙ and_block 10 (word / 2 ^ 10) 0x3fffff (word % 2 ^ 10) 0x1f (omega arith) (omega arith) in
-    or_disjoint (bit_and word 0xfffffc1f) 0x40 apart
+    kept_and_set 0xfffffc1f 0x40 word refl
     ∙ omega (arith, small, kept, and_mask (word / 2 ^ 10) 22, and_mask (word % 2 ^ 10) 5)
 
 -- a pair with P

@@ -1,48 +1,15 @@
 -- PowerPC64: what the tests of rows, and the bits that they keep and set, mean.
-use Rattle.std.proofs.Common.{◌≡◌, ◌≢◌, ◌↔◌, ℕ, zero, suc, ◌+◌, ◌*◌, ◌-◌, ◌/◌, ◌%◌, ◌^◌, ◌<◌, ◌≤◌, ◌⊎◌, Bool, true, false, refl, sym, ◌∙◌, ap, arith, bit_and, bit_or, inl, inr, IsTrue, List, length, drop, subst, slice_get, None}
+use Rattle.std.proofs.Common.{◌≡◌, ◌≢◌, ◌↔◌, ℕ, ◌+◌, ◌*◌, ◌-◌, ◌/◌, ◌%◌, ◌^◌, ◌<◌, ◌⊎◌, Bool, true, false, refl, sym, ◌∙◌, ap, arith, bit_and, bit_or, inl, inr, IsTrue}
 use Rattle.std.specs.Bool.{⊤}
 use Rattle.std.specs.Prelude.{◌&&◌, ◌||◌, ◌==◌, not, nat_lt}
-use Rattle.std.proofs.lemmas.Bool.{and_parts, and_from, eqb-true, eq-eqb, ne_eqb, or_left, or_right, false≢true}
-use Rattle.std.proofs.lemmas.Nat.{and_assoc, and_block, and_mask, or_disjoint}
-use Rattle.std.proofs.lemmas.Option.{slice_get_past}
-use Rattle.std.proofs.Math.Nat.{eq-or-lt_of_le}
+use Rattle.std.proofs.lemmas.Bool.{agree_below, agree_below_at, and_parts, and_from, eqb-true, eq-eqb, ne_eqb, or_left, or_right, false≢true}
+use Rattle.std.proofs.lemmas.Nat.{and_block, and_mask}
 use Rattle.std.proofs.Math.Bool as bools
-use Rattle.std.specs.Int.Bits.{and_zero_r, or_zero_l, or_zero_r}
-use Rattle.std.specs.Int.{w32, from_le_bytes}
+use Rattle.std.specs.Int.Bits.{or_zero_r}
 use Rattle.linker_base.specs.Bits.{field}
-use Rattle.linker_elf.specs.Originals.{HasWord}
 use Rattle.linker_utils.specs.Inner.RewriteRows.{is_among, set_by}
-use Rattle.linker_utils.specs.Ppc64Rewrites.{opcode_of, rt_of, ra_of, rb_of, access_of, registers_of, over_base, is_over_base, is_over_thread, is_indexed, is_indexed_word, is_indexed_any, is_access, is_store, is_word_access, keeps_base, ppc64_rewrites}
-
--- a test is true of each number below n
-abbrev all_below : ℕ → (ℕ → Bool) → Bool
-all_below zero p = true
-all_below (suc n) p = p n && all_below n p
-
-below : (n : ℕ) (p : ℕ → Bool) → all_below n p ≡ true → (k : ℕ) → k < n → p k ≡ true
-below zero p h k small = absurd (omega (arith, small))
-below (suc n) p h k small =
-    let parts = and_parts (p n) (all_below n p) h in
-    let le : k ≤ n = omega (arith, small) in
-    elim (eq-or-lt_of_le le) [ inl same ↦ ap p same ∙ parts.0 | inr less ↦ below n p parts.1 k less ]
-
-abbrev same : Bool → Bool → Bool
-same true b = b
-same false b = not b
-
-of_same : (a b : Bool) → same a b ≡ true → a ≡ b
-of_same true true h = refl
-of_same false false h = refl
-of_same true false h = sym h
-of_same false true h = h
-
--- two tests agree with both registers the same, and with different ones
-abbrev both : (Bool → Bool) → (Bool → Bool) → Bool
-both f g = same (f true) (g true) && same (f false) (g false)
-
-of_both : (f g : Bool → Bool) (one : Bool) → both f g ≡ true → f one ≡ g one
-of_both f g true h = of_same (f true) (g true) (and_parts _ _ h).0
-of_both f g false h = of_same (f false) (g false) (and_parts _ _ h).1
+use Rattle.linker_utils.proofs.RewriteRows.{kept_and_set}
+use Rattle.linker_utils.specs.Ppc64Rewrites.{opcode_of, rt_of, ra_of, rb_of, access_of, over_base, is_over_base, is_over_thread, is_indexed, is_indexed_word, is_indexed_any, is_access, is_store, is_word_access, keeps_base}
 
 -- an access over its base by the opcode, the lowest two bits, and whether both registers are the
 -- same
@@ -57,11 +24,16 @@ by_sets op low one =
     is_among (set_by (low % 4) 0x4555155500004000 0x2155155500004000 0x2755155500004000 0x2355155500004000) op
     && not (is_among 0x4000105000000000 op && one)
 
+abbrev agree_of : Bool → ℕ → Bool
+agree_of one op = agree_below (λ low. by_opcode op low one) (λ low. by_sets op low one) 4
+
+all_agree : (one : Bool) → agree_below (agree_of one) (λ _. true) 64 ≡ true
+all_agree true = refl
+all_agree false = refl
+
 agree : (op low : ℕ) (one : Bool) → op < 64 → low < 4 → by_opcode op low one ≡ by_sets op low one
 agree op low one small few =
-    of_both (by_opcode op low) (by_sets op low) one
-    (below 4 (λ low. both (by_opcode op low) (by_sets op low))
-    (below 64 (λ op. all_below 4 (λ low. both (by_opcode op low) (by_sets op low))) refl op small) low few)
+    agree_below_at (λ low. by_opcode op low one) (λ low. by_sets op low one) 4 low (agree_below_at (agree_of one) (λ _. true) 64 op (all_agree one) small) few
 
 -- the tests of an instruction over its base
 pub over_base_tests : (w : ℕ) → IsTrue (is_over_base w)
@@ -90,10 +62,12 @@ abbrev in_set : ℕ → ℕ → Bool → Bool
 in_set set n one = is_among set n && not (is_among 0x1050 n && one)
 
 agree_words : (n : ℕ) (one : Bool) → n < 32 → of_words n one ≡ in_set 0x411 n one
-agree_words n one small = of_both (of_words n) (in_set 0x411 n) one (below 32 (λ n. both (of_words n) (in_set 0x411 n)) refl n small)
+agree_words n true small = agree_below_at (λ n. of_words n true) (λ n. in_set 0x411 n true) 32 n refl small
+agree_words n false small = agree_below_at (λ n. of_words n false) (λ n. in_set 0x411 n false) 32 n refl small
 
 agree_others : (n : ℕ) (one : Bool) → n < 32 → of_others n one ≡ in_set 0x551555 n one
-agree_others n one small = of_both (of_others n) (in_set 0x551555 n) one (below 32 (λ n. both (of_others n) (in_set 0x551555 n)) refl n small)
+agree_others n true small = agree_below_at (λ n. of_others n true) (λ n. in_set 0x551555 n true) 32 n refl small
+agree_others n false small = agree_below_at (λ n. of_others n false) (λ n. in_set 0x551555 n false) 32 n refl small
 
 -- the tests of an indexed access, by the set of the lowest six bits
 abbrev pub Indexed : Type 0 → ℕ → Type 0
@@ -172,27 +146,6 @@ indexed_any_tests w = (
   ],
 )
 
--- bits that are kept, and others that are set
-kept_and_set : (m s w : ℕ) → bit_and m s ≡ 0 → bit_or (bit_and w m) s ≡ bit_and w m + s
-kept_and_set m s w apart = or_disjoint (bit_and w m) s (and_assoc s w m ∙ ap (bit_and w) apart ∙ and_zero_r w)
-
-pub set_alone : (s w : ℕ) → bit_or (bit_and w 0) s ≡ s
-set_alone s w = ap (λ n. bit_or n s) (and_zero_r w) ∙ or_zero_l s
-
-pub over_registers : (s w : ℕ) → bit_and 0x03ff0000 s ≡ 0 → bit_or (bit_and w 0x03ff0000) s ≡ s + registers_of w
-over_registers s w apart =
-    let parts : w ≡ w / 2 ^ 16 * 2 ^ 16 + w % 2 ^ 16 = omega arith in
-    let kept : bit_and w 0x03ff0000 ≡ bit_and (w / 2 ^ 16) 0x3ff * 2 ^ 16 + bit_and (w % 2 ^ 16) 0 =
-    ap (λ n. bit_and n 0x03ff0000) parts ∙ and_block 16 (w / 2 ^ 16) 0x3ff (w % 2 ^ 16) 0 (omega arith) (omega arith) in
-    kept_and_set 0x03ff0000 s w apart ∙ omega (arith, kept, and_mask (w / 2 ^ 16) 10, and_zero_r (w % 2 ^ 16))
-
-pub over_target : (s w : ℕ) → bit_and 0x03e00000 s ≡ 0 → bit_or (bit_and w 0x03e00000) s ≡ s + rt_of w * 2 ^ 21
-over_target s w apart =
-    let parts : w ≡ w / 2 ^ 21 * 2 ^ 21 + w % 2 ^ 21 = omega arith in
-    let kept : bit_and w 0x03e00000 ≡ bit_and (w / 2 ^ 21) 0x1f * 2 ^ 21 + bit_and (w % 2 ^ 21) 0 =
-    ap (λ n. bit_and n 0x03e00000) parts ∙ and_block 21 (w / 2 ^ 21) 0x1f (w % 2 ^ 21) 0 (omega arith) (omega arith) in
-    kept_and_set 0x03e00000 s w apart ∙ omega (arith, kept, and_mask (w / 2 ^ 21) 5, and_zero_r (w % 2 ^ 21))
-
 pub with_base : (ra w : ℕ) → bit_and 0xffe0ffff (ra * 2 ^ 16) ≡ 0 → bit_or (bit_and w 0xffe0ffff) (ra * 2 ^ 16) ≡ over_base ra w
 with_base ra w apart =
     let parts : w ≡ w / 2 ^ 21 * 2 ^ 21 + w % 2 ^ 21 = omega arith in
@@ -204,47 +157,3 @@ with_base ra w apart =
 -- an instruction that is kept whole
 pub all_kept : (w : ℕ) → w < 2 ^ 32 → bit_or (bit_and w 0xffffffff) 0 ≡ w
 all_kept w small = or_zero_r (bit_and w 0xffffffff) ∙ omega (arith, small, and_mask w 32)
-
--- The tests of a row hold at an offset, which is placed as it says.
-abbrev For : ℕ → ℕ → (ℕ → Type 0) → Type 0 → List ℕ → ℕ → Type 0
-For len back Tests Placed s o =
-    (len ≡ 0) ⊎ (back ≤ o) × ((o - back + len ≤ length s) × Tests (from_le_bytes w32 (drop (o - back) s))) × Placed
-
-module _ (P Tests : ℕ → Type 0) (same : (w : ℕ) → P w ↔ Tests w) (s : List ℕ) (o : ℕ) where
-  at : (back : ℕ) (Placed : Type 0) → back ≤ o → For 4 back Tests Placed s o ↔ (Placed × HasWord s (o - back) P)
-  at back Placed enough = (
-    λ h. elim h [ inl none ↦ absurd (omega (arith, none)) | inr all ↦ (all.2, (all.1.0, (same _).1 all.1.1)) ],
-    λ h. inr (enough, (h.1.0, (same _).0 h.1.1), h.0),
-  )
-
-  no_back : o - 0 ≡ o
-  no_back = omega arith
-
-  pub at_any : For 4 0 Tests ⊤ s o ↔ HasWord s o P
-  at_any =
-      let is = at 0 ⊤ (omega arith) in
-      (λ h. subst (λ n. HasWord s n P) no_back (is.0 h).1, λ h. is.1 (tt, subst (λ n. HasWord s n P) (sym no_back) h))
-
-  pub at_multiple : For 4 0 Tests ((o - 0) % 4 ≡ 0) s o ↔ ((o % 4 ≡ 0) × HasWord s o P)
-  at_multiple =
-      let is = at 0 ((o - 0) % 4 ≡ 0) (omega arith) in
-      (λ h. subst (λ n. (n % 4 ≡ 0) × HasWord s n P) no_back (is.0 h), λ h. is.1 (subst (λ n. (n % 4 ≡ 0) × HasWord s n P) (sym no_back) h))
-
-  back_one : For 4 1 Tests ((o - 1) % 4 ≡ 0) s o → 1 ≤ o
-  back_one h = elim h [ inl none ↦ absurd (omega (arith, none)) | inr all ↦ all.0 ]
-
-  pub at_mark : For 4 1 Tests ((o - 1) % 4 ≡ 0) s o ↔ ((o % 4 ≡ 1) × HasWord s (o - 1) P)
-  at_mark = (
-    λ h. (let enough = back_one h in
-        let is = (at 1 ((o - 1) % 4 ≡ 0) enough).0 h in
-        let place = is.0 in
-        let there : o % 4 ≡ 1 = omega (arith, place, enough) in (there, is.1)),
-    λ h. (let place = h.0 in
-        let enough : 1 ≤ o = omega (arith, place) in
-        let before : (o - 1) % 4 ≡ 0 = omega (arith, place) in
-        (at 1 ((o - 1) % 4 ≡ 0) enough).1 (before, h.1)),
-  )
-
--- there is no number above the last one
-pub past_last : (n : ℕ) → 28 ≤ n → None ≡ slice_get ppc64_rewrites n
-past_last n past = sym (slice_get_past ppc64_rewrites n past)

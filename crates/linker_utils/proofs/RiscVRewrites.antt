@@ -1,91 +1,75 @@
--- What the RISC-V rewrites put, and the high parts that are 0 or fit `c.lui`.
-use Rattle.std.proofs.Common.{◌≡◌, ℕ, Some, ◌+◌, ◌-◌, ◌*◌, ◌/◌, ◌%◌, ◌^◌, ◌<◌, ◌≤◌, true, eqb, refl, ap, sym, subst, ◌∙◌, arith, List, [], ◌∷◌, length, take, drop, inl, inr, ℤ, pos, negsuc, ◌+ℤ◌, ◌-ℤ◌, ◌≤ℤ◌}
-use Rattle.std.specs.Int.{w16, w32, w64, from_le_bytes, to_le_bytes, cast_signed, int_div_euclid}
-use Rattle.std.specs.Int.RustNames.{bit_or}
-use lib.Bits.{bit_and}
-use Rattle.std.proofs.lemmas.Bool.{agree_below_at, eqb-true, cases_lt}
+-- What the tests of RISC-V's rows, and the bits that they keep and set, mean; and the high parts
+-- that are 0 or fit `c.lui`.
+use Rattle.std.proofs.Common.{◌≡◌, ◌↔◌, ℕ, ◌+◌, ◌-◌, ◌*◌, ◌/◌, ◌%◌, ◌^◌, ◌<◌, ◌≤◌, refl, sym, subst, ap, ◌∙◌, arith, bit_and, bit_or, IsTrue, List, [], ◌∷◌, take, inl, inr, ℤ, pos, negsuc, ◌+ℤ◌, ◌-ℤ◌, ◌≤ℤ◌}
+use Rattle.std.specs.Bool.{⊤}
+use Rattle.std.specs.Prelude.{◌&&◌, ◌==◌, nat_le, not}
+use Rattle.std.specs.Int.{w16, w64, from_le_bytes, cast_signed, int_div_euclid}
+use Rattle.std.specs.Int.Bits.{or_zero_r}
+use Rattle.std.proofs.lemmas.Bool.{agree_below_at, cases_lt}
 use Rattle.std.proofs.lemmas.Int.{ints, to_z_pos}
-use Rattle.std.proofs.lemmas.List.{take_rest}
-use Rattle.std.proofs.lemmas.Nat.{and_mask, mod_below, or_shifted}
+use Rattle.std.proofs.lemmas.Nat.{and_block, and_mask}
 use Rattle.linker_base.specs.Bits.{field, signed}
 use Rattle.linker_base.specs.Form.{place_sum}
-use Rattle.linker_base.specs.Rewrite.{Rewrite, rewritten}
 use Rattle.linker_elf.specs.RiscV.{riscv_places, IsPairRange}
-use Rattle.linker_utils.specs.RiscVRewrites.{riscv_rewrite, call_to_jal, hi20_to_clui, rs1_to_zero, FitsClui, HoldsHigh}
-use Rattle.linker_utils.specs.declared.riscv64.rewrites.RewriteKind.{RewriteKind}
+use Rattle.linker_elf.specs.Originals.{HasWord}
+use Rattle.linker_riscv64.specs.RiscVFields.{opcode_of, funct3_of, rs1_of, rs2_of}
+use Rattle.linker_utils.specs.RiscVRewrites.{adds_low12, load_to_addi, with_rs1, IsLowOverOther, FitsClui, HoldsHigh}
 use Rattle.linker_elf.specs.declared.riscv64.forms.RiscVInstruction.TheVariants.{UType, CluiType}
-use Rattle.linker_riscv64.proofs.Jumps.{jal_of, word_of_front}
 use Rattle.linker_base.proofs.Bits.{cast_negative}
 use Rattle.linker_base.proofs.Pairs.{signed_cases}
 use Rattle.linker_elf.proofs.RiscV.{clui_laid, u_laid, pair_of}
+use Rattle.linker_utils.proofs.RewriteRows.{For, at_any, kept_and_set, kept_field}
 
--- ---- a call made a jump
+-- ---- the bits that rows keep and set
 
--- the register's bits, as the code takes them
-destination_bits : (x : ℕ) → bit_and (x / 128) 31 ≡ field x 7 12
-destination_bits x = and_mask (x / 128) 5
+-- all but the opcode and the function
+pub of_load : (w : ℕ) → bit_or (bit_and w 0xffff8f80) 0x13 ≡ load_to_addi w
+of_load w =
+    let parts : w ≡ w / 2 ^ 15 * 2 ^ 15 + w % 2 ^ 15 = omega arith in
+    let kept : bit_and w 0xffff8f80 ≡ bit_and (w / 2 ^ 15) 0x1ffff * 2 ^ 15 + bit_and (w % 2 ^ 15) 0xf80 =
+    ap (λ n. bit_and n 0xffff8f80) parts ∙ and_block 15 (w / 2 ^ 15) 0x1ffff (w % 2 ^ 15) 0xf80 (omega arith) (omega arith) in
+    let register = sym (or_zero_r (bit_and (w % 2 ^ 15) 0xf80)) ∙ kept_field 7 5 0 (w % 2 ^ 15) refl in
+    kept_and_set 0xffff8f80 0x13 w refl ∙ omega (arith, kept, register, and_mask (w / 2 ^ 15) 17)
 
-jal_code : (x : ℕ) → bit_or 111 (bit_and (x / 128) 31 * 128 % 4294967296) ≡ 0x6f + field x 7 12 * 128
-jal_code x =
-    ap (λ r. bit_or 111 (r * 128 % 4294967296)) (destination_bits x)
-    ∙ jal_of (field x 7 12) (mod_below (x / 2 ^ 7) (2 ^ 5) (omega arith))
+-- all but the first source register
+pub over_rs1 : (register w : ℕ) → w < 2 ^ 32 → bit_and 0xfff07fff (register * 2 ^ 15) ≡ 0
+    → bit_or (bit_and w 0xfff07fff) (register * 2 ^ 15) ≡ with_rs1 register w
+over_rs1 register w small apart =
+    let parts : w ≡ w / 2 ^ 20 * 2 ^ 20 + w % 2 ^ 20 = omega arith in
+    let kept : bit_and w 0xfff07fff ≡ bit_and (w / 2 ^ 20) 0xfff * 2 ^ 20 + bit_and (w % 2 ^ 20) 0x7fff =
+    ap (λ n. bit_and n 0xfff07fff) parts ∙ and_block 20 (w / 2 ^ 20) 0xfff (w % 2 ^ 20) 0x7fff (omega arith) (omega arith) in
+    kept_and_set 0xfff07fff (register * 2 ^ 15) w apart
+    ∙ omega (arith, small, kept, and_mask (w / 2 ^ 20) 12, and_mask (w % 2 ^ 20) 15)
 
-pub call_made : (s ys : List ℕ) (o x : ℕ) → x ≡ from_le_bytes w32 (take (length s - o) (drop o s))
-    → ys ≡ to_le_bytes w32 (bit_or 111 (bit_and (x / 128) 31 * 128 % 4294967296))
-    → ys ≡ call_to_jal (take 4 (drop (o - 0) s))
-call_made s ys o x e y =
-    let word : x ≡ from_le_bytes w32 (take 4 (drop (o - 0) s)) =
-    e ∙ ap (from_le_bytes w32) (take_rest s o) ∙ sym (word_of_front (drop o s)) ∙ ap (λ k. from_le_bytes w32 (take 4 (drop k s))) (omega arith) in
-    y ∙ ap (to_le_bytes w32) (jal_code x ∙ ap (λ w. 0x6f + field w 7 12 * 128) word)
+pub without_rs1 : (w : ℕ) → w < 2 ^ 32 → bit_or (bit_and w 0xfff07fff) 0 ≡ w - field w 15 20 * 2 ^ 15
+without_rs1 w small = let made = over_rs1 0 w small refl in omega (arith, made)
 
--- the rewrite of a kind that is known
-pub rewritten_as : (kind known : RewriteKind) (r : Rewrite) (s after : List ℕ) (o : ℕ) → kind ≡ known → riscv_rewrite known ≡ Some r → after ≡ rewritten (Some r) s o → after ≡ rewritten (riscv_rewrite kind) s o
-rewritten_as kind known r s after o e k h = h ∙ ap (λ t. rewritten t s o) (sym k ∙ ap riscv_rewrite (sym e))
+-- ---- the tests of a low part
 
--- ---- the bytes
+abbrev AddsLow : ℕ → Type 0
+AddsLow w = IsTrue (adds_low12 (opcode_of w) (funct3_of w))
 
+pub adds_low : (s : List ℕ) (o : ℕ) → For 4 0 (λ w. AddsLow w × ⊤) ⊤ s o ↔ HasWord s o AddsLow
+adds_low s o = at_any AddsLow (λ w. AddsLow w × ⊤) (λ w. (λ h. (h, tt), λ t. t.0)) s o
+
+-- those of one over another register
+pub low_over_other : (w : ℕ)
+    → (IsTrue (adds_low12 (opcode_of w) (funct3_of w))
+    × (IsTrue (not (nat_le 0x23 (opcode_of w) && nat_le (opcode_of w) 0x23 && rs2_of w == rs1_of w)) × ⊤))
+    ↔ IsLowOverOther w
+low_over_other w =
+    let small : opcode_of w < 128 = omega arith in
+    let store = agree_below_at (λ n. nat_le 0x23 n && nat_le n 0x23) (λ n. n == 0x23) 128 (opcode_of w) refl small in
+    let same = ap (λ b. not (b && rs2_of w == rs1_of w)) store in (
+      λ h. (h.0, sym same ∙ h.1.0),
+      λ h. (h.0, (same ∙ h.1, tt)),
+    )
+
+-- the bytes of a half
 pub half_of_front : (xs : List ℕ) → from_le_bytes w16 (take 2 xs) ≡ from_le_bytes w16 xs
 half_of_front [] = refl
 half_of_front (a ∷ []) = refl
 half_of_front (a ∷ b ∷ xs) = refl
-
-clui_register : (r : ℕ) → r < 32 → bit_or 24577 (r * 128) ≡ 24577 + r * 128
-clui_register r h =
-    eqb-true (bit_or 24577 (r * 128)) (24577 + r * 128) (agree_below_at (λ k. eqb (bit_or 24577 (k * 128)) (24577 + k * 128)) (λ _. true) 32 r refl h)
-
--- the half as the code makes it
-clui_code : (x : ℕ) → bit_or 24577 (bit_and (x / 128) 31 * 128 % 65536) ≡ 0x6001 + field x 7 12 * 128
-clui_code x =
-    let register : bit_and (x / 128) 31 ≡ x / 128 % 32 = and_mask (x / 128) 5 in
-    ap (λ r. bit_or 24577 (r * 128 % 65536)) register
-    ∙ ap (bit_or 24577) (let small : x / 128 % 32 * 128 % 65536 ≡ x / 128 % 32 * 128 = omega arith in small)
-    ∙ clui_register (x / 128 % 32) (omega arith)
-
-pub clui_made : (s ys : List ℕ) (o x : ℕ) → x ≡ from_le_bytes w16 (take (length s - o) (drop o s))
-    → ys ≡ to_le_bytes w16 (bit_or 24577 (bit_and (x / 128) 31 * 128 % 65536))
-    → ys ≡ hi20_to_clui (take 2 (drop (o - 0) s))
-clui_made s ys o x e y =
-    let half : x ≡ from_le_bytes w16 (take 2 (drop (o - 0) s)) =
-    e ∙ ap (from_le_bytes w16) (take_rest s o) ∙ sym (half_of_front (drop o s)) ∙ ap (λ k. from_le_bytes w16 (take 2 (drop k s))) (omega arith) in
-    y ∙ ap (to_le_bytes w16) (clui_code x ∙ ap (λ w. 0x6001 + field w 7 12 * 128) half)
-
--- the word as the code makes it
-rs1_code : (x : ℕ) → x < 2 ^ 32 → bit_or (x / 1048576 * 1048576 % 4294967296) (bit_and x 32767) ≡ x - field x 15 20 * 2 ^ 15
-rs1_code x h =
-    let whole : x / 1048576 * 1048576 % 4294967296 ≡ x / 1048576 * 1048576 = omega arith in
-    let mask : bit_and x 32767 ≡ x % 32768 = and_mask x 15 in
-    ap (λ y. bit_or y (bit_and x 32767)) whole
-    ∙ ap (bit_or (x / 1048576 * 1048576)) mask
-    ∙ or_shifted (x / 1048576) 20 (x % 32768) (omega arith)
-    ∙ omega arith
-
-pub rs1_made : (s ys : List ℕ) (o x : ℕ) → x < 2 ^ 32 → x ≡ from_le_bytes w32 (take (length s - o) (drop o s))
-    → ys ≡ to_le_bytes w32 (bit_or (x / 1048576 * 1048576 % 4294967296) (bit_and x 32767))
-    → ys ≡ rs1_to_zero (take 4 (drop (o - 0) s))
-rs1_made s ys o x small e y =
-    let word : x ≡ from_le_bytes w32 (take 4 (drop (o - 0) s)) =
-    e ∙ ap (from_le_bytes w32) (take_rest s o) ∙ sym (word_of_front (drop o s)) ∙ ap (λ k. from_le_bytes w32 (take 4 (drop k s))) (omega arith) in
-    y ∙ ap (to_le_bytes w32) (rs1_code x small ∙ ap (λ w. w - field w 15 20 * 2 ^ 15) word)
 
 -- ---- high parts
 

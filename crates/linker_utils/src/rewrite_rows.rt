@@ -2,8 +2,9 @@
 //! what is deleted.
 
 ghost use Rattle.std.specs.Prelude.{◌≡◌, ◌≤◌, ◌<◌, ◌+◌, ◌-◌, ◌^◌, ◌↔◌, ◌⊎◌, IsTrue, length, take};
-ghost use Rattle.std.specs.Prelude.{drop, []};
-ghost use Rattle.std.specs.Int.{w32, from_le_bytes};
+ghost use Rattle.std.specs.Prelude.{drop};
+ghost use Rattle.std.specs.Int.{w16, w32, from_le_bytes};
+ghost use Rattle.linker_base.specs.Bits.{field};
 ghost use Rattle.linker_base.specs.Rewrite.{CanRewrite, rewritten};
 ghost use Rattle.linker_base.specs.RewriteWindow.{window_of_rewrite};
 ghost use Rattle.linker_utils.specs.Inner.RewriteRows.{number_in, is_among, set_by, Holds, AllHold};
@@ -12,12 +13,13 @@ ghost use Rattle.linker_utils.specs.Inner.RewriteRows.{row_rewrite, modifier_of,
 ghost use Rattle.linker_utils.specs.Inner.RewriteRows.{special_of};
 ghost use Rattle.linker_utils.specs.Ppc64Rewrites.{by_displacement, by_word_displacement};
 ghost use Rattle.linker_utils.specs.Ppc64Rewrites.{registers_of};
+ghost use Rattle.linker_utils.specs.RiscVRewrites.{adds_low12};
 
 use linker_base::relaxation::RelocationModifier;
 use linker_base::rewrite::{DeletedBytes, RewriteWindow, has_window, overwrite};
 use linker_base::utils::u32_from_slice;
 
-/// The instruction of 4 bytes at an offset, and the one after it, or 0 where there is none.
+/// The instruction at an offset, and the one 4 bytes after it, or 0 where there is none.
 #[derive(Clone, Copy)]
 pub(crate) struct Words {
     /// The one at the offset.
@@ -58,6 +60,8 @@ pub(crate) enum WordTest {
     IsAmong(WordBits, WordBits, u64, u64, u64, u64),
     /// Both differ, if another is one of a set.
     DifferAmong(WordBits, u64, WordBits, WordBits),
+    /// RISC-V: the first instruction adds a signed immediate of 12 bits to a register.
+    AddsLow12,
 }
 
 /// How an instruction is made that isn't of kept and set bits (Power ISA, "Instruction Formats").
@@ -101,6 +105,8 @@ pub(crate) struct RewriteRow {
     pub required: Option<WordTest>,
     /// The instructions that it writes in their place: none, one or two.
     pub edits: &'static [WordEdit],
+    /// Whether it writes one of 2 bytes.
+    pub half: bool,
     /// The bytes that are then deleted.
     pub deleted: Option<DeletedBytes>,
     /// How many bytes after the offset the relocation is that is skipped.
@@ -130,6 +136,21 @@ fn is_among(set: u64, number: u32) -> bool
     ensures { result ≡ is_among set number }
 {
     set >> (number % 64) & 1 == 1
+}
+
+/// Whether an instruction of RISC-V adds a signed immediate of 12 bits to its source register.
+#[inline]
+fn adds_low12(word: u32) -> bool
+    ensures { result ≡ adds_low12 (field word 0 7) (field word 12 15) }
+{
+    let function = (word >> 12) % 8;
+    match word % 0x80 {
+        0x13 | 0x1b | 0x67 => function == 0,
+        0x03 => function < 7,
+        0x23 => function < 4,
+        0x07 | 0x27 => 0 < function && function < 5,
+        _ => false,
+    }
 }
 
 impl WordBits {
@@ -183,6 +204,7 @@ impl WordTest {
             WordTest::DifferAmong(bits, set, one, other) => {
                 !(is_among(set, bits.of(words)) && one.of(words) == other.of(words))
             }
+            WordTest::AddsLow12 => adds_low12(words.first),
         }
     }
 }
@@ -239,15 +261,31 @@ pub(crate) fn word_at(section: &[u8], offset: u64) -> u32
     u32_from_slice(&section[offset as usize..])
 }
 
+/// That of 2 bytes.
+#[inline(always)]
+fn half_at(section: &[u8], offset: u64) -> u32
+    requires { offset + 2 ≤ length section.now }
+    ensures whole { result ≡ from_le_bytes w16 (drop offset section.now) }
+    ensures window { result ≡ from_le_bytes w16 (take 2 (drop offset section.now)) }
+{
+    let start = offset as usize;
+    u32::from(u16::from_le_bytes([section[start], section[start + 1]]))
+}
+
 /// The first two instructions of n bytes at an offset of a section.
 #[inline(always)]
 fn words_at(section: &[u8], offset: u64, len: u64) -> Words
     requires window { offset + len ≤ length section.now }
-    requires whole { 4 ≤ len }
     ensures { result ≡ words_at section.now offset len }
 {
     Words {
-        first: word_at(section, offset),
+        first: if 4 <= len {
+            word_at(section, offset)
+        } else if 2 <= len {
+            half_at(section, offset)
+        } else {
+            0
+        },
         second: if 8 <= len {
             word_at(section, offset + 4)
         } else {
@@ -259,7 +297,6 @@ fn words_at(section: &[u8], offset: u64, len: u64) -> Words
 /// Whether instructions of n bytes for which all tests hold are at an offset of a section.
 #[inline(always)]
 pub(crate) fn are_at(tests: &'static [WordTest], section: &[u8], offset: u64, len: u64) -> bool
-    requires whole { 4 ≤ len }
     requires few { length tests.now ≤ 6 }
     ensures { IsTrue result ↔ AreAt section.now offset len tests.now }
 {
@@ -351,7 +388,6 @@ impl RewriteRow {
     /// Whether the instructions that the rewrite is for are at an offset of a section.
     #[inline(always)]
     pub(crate) fn is_for(self, section: &[u8], offset: u64) -> bool
-        requires whole { (self.len ≡ 0) ⊎ (4 ≤ self.len) }
         requires few { length self.tests.now ≤ 6 }
         ensures { IsTrue result ↔ IsFor self section.now offset }
     {
@@ -368,7 +404,7 @@ impl RewriteRow {
     {
         let (back, len) = match self.edits {
             [] => (0, 0),
-            [_] => (self.back, 4),
+            [_] => (self.back, if self.half { 2 } else { 4 }),
             [_, _, ..] => (self.back, 8),
         };
         RewriteWindow { back, len }
@@ -383,7 +419,7 @@ impl RewriteRow {
         len == 0
             || has_window(section, offset, back, len)
                 && match self.required {
-                    Some(test) => test.holds(words_at(section, offset - back, 4)),
+                    Some(test) => test.holds(words_at(section, offset - back, len)),
                     None => true,
                 }
     }
@@ -393,17 +429,24 @@ impl RewriteRow {
     pub(crate) fn apply(self, section: &mut [u8], offset: u64)
         requires { CanRewrite (row_rewrite self) section.old offset }
         ensures edited { section.new ≡ rewritten (row_rewrite self) section.old offset }
-        ensures word { (self.edits.now ≡ [])
+        ensures word { ((window_of_rewrite (row_rewrite self)).len < 4)
             ⊎ (from_le_bytes w32 (take 4 (drop (offset - self.back) section.old)) < 2 ^ 32) }
     {
         if let [first, more @ ..] = self.edits {
             let start = offset - self.back;
-            let word = u32_from_slice(&section[start as usize..]);
             match more {
-                [] => overwrite(section, start, &first.of(word).to_le_bytes()),
+                [] if self.half => {
+                    let half = first.of(half_at(section, start));
+                    overwrite(section, start, &half.to_le_bytes()[..2]);
+                }
+                [] => {
+                    let word = first.of(u32_from_slice(&section[start as usize..]));
+                    overwrite(section, start, &word.to_le_bytes());
+                }
                 [second, ..] => {
-                    let next = word_of(section, start, second.of_second);
-                    let both = u64::from(first.of(word)) + (u64::from(second.of(next)) << 32);
+                    let word = first.of(u32_from_slice(&section[start as usize..]));
+                    let next = second.of(word_of(section, start, second.of_second));
+                    let both = u64::from(word) + (u64::from(next) << 32);
                     overwrite(section, start, &both.to_le_bytes());
                 }
             }
@@ -426,24 +469,24 @@ impl RewriteRow {
 /// the length of the instructions, how far before the offset they begin, whether they are aligned,
 /// their tests, and the one that `apply` requires too; the macro `$tests` makes an array of them.
 /// Then it has the bits kept and set of each instruction that is written, those of the second at 4,
-/// or how one is made instead; where 4 bytes are deleted; where a relocation is skipped; how far
-/// the offset moves; and the addend after.
+/// or how one is made instead, and whether it has 2 bytes; where bytes are deleted, and how many if
+/// not 4; where a relocation is skipped; how far the offset moves; and the addend after.
 macro_rules! by_row {
     (
         $tests:ident, kinds;
         $($kind:ident: $len:literal $(back $back:literal)? $(aligned $aligned:literal)?
             [$($of:tt)*] $(required $given:ident)?
             $(keep $keep:literal $(at $at:literal)? set $set:literal)* $(special $special:ident)?
-            $(delete $start:literal)? $(skip $skip:literal)? $(moved $moved:literal)?
-            $(addend $addend:literal)?;)*
+            $(half $half:literal)? $(delete $start:literal $(count $count:literal)?)?
+            $(skip $skip:literal)? $(moved $moved:literal)? $(addend $addend:literal)?;)*
     ) => { [$(RewriteKind::$kind),*] };
     (
         $tests:ident, $value:expr, $row:ident => $use:expr;
         $($kind:ident: $len:literal $(back $back:literal)? $(aligned $aligned:literal)?
             [$($of:tt)*] $(required $given:ident)?
             $(keep $keep:literal $(at $at:literal)? set $set:literal)* $(special $special:ident)?
-            $(delete $start:literal)? $(skip $skip:literal)? $(moved $moved:literal)?
-            $(addend $addend:literal)?;)*
+            $(half $half:literal)? $(delete $start:literal $(count $count:literal)?)?
+            $(skip $skip:literal)? $(moved $moved:literal)? $(addend $addend:literal)?;)*
     ) => {
         match $value {
             $(RewriteKind::$kind => {
@@ -467,9 +510,13 @@ macro_rules! by_row {
                             special: Some($crate::rewrite_rows::Special::$special),
                         },)?
                     ],
-                    deleted: $crate::rewrite_rows::or!(
-                        None; $(Some(linker_base::rewrite::DeletedBytes { start: $start, count: 4 }))?
-                    ),
+                    half: $crate::rewrite_rows::or!(false; $($half)?),
+                    deleted: $crate::rewrite_rows::or!(None; $(Some(
+                        linker_base::rewrite::DeletedBytes {
+                            start: $start,
+                            count: $crate::rewrite_rows::or!(4; $($count)?),
+                        }
+                    ))?),
                     skipped: $crate::rewrite_rows::or!(None; $(Some($skip))?),
                     moved: $crate::rewrite_rows::or!(0; $($moved)?),
                     addend: $crate::rewrite_rows::or!(None; $(Some($addend))?),

@@ -203,58 +203,15 @@ macro_rules! rewrites {
     };
 }
 
-/// No rewrite has a number above the last one.
-#[inline(always)]
-fn none_past_last(number: u32) -> Option<RewriteKind> {
-    None
-}
-
-/// The rewrite of prefixed thread-local storage with a number. None above the last.
-#[inline(always)]
-fn prefixed_rewrite(number: u32) -> Option<RewriteKind> {
-    let kind = match number {
-        20 => RewriteKind::PldToPaddiThread,
-        21 => RewriteKind::AddToMove,
-        22 => RewriteKind::IndexedToDirect,
-        23 => RewriteKind::PaddiToPaddiThread,
-        24 => RewriteKind::PaddiToPld,
-        25 => RewriteKind::PaddiToPaddi4096,
-        26 => RewriteKind::BranchToNop,
-        27 => RewriteKind::BranchToAdd,
-        _ => return none_past_last(number),
-    };
-    Some(kind)
-}
+/// The rewrites by their numbers.
+const KINDS: &[RewriteKind] = &rewrites!(kinds);
 
 impl RewriteKind {
     /// The rewrite with a number, its place in the enum. None above the last.
     #[must_use]
     #[inline(always)]
     pub fn from_number(number: u32) -> Option<RewriteKind> {
-        let kind = match number {
-            0 => RewriteKind::NoOp,
-            1 => RewriteKind::AddisToNop,
-            2 => RewriteKind::BaseToToc,
-            3 => RewriteKind::LdToAddi,
-            4 => RewriteKind::PldToPaddi,
-            5 => RewriteKind::LdToAddisThread,
-            6 => RewriteKind::AddToAddi,
-            7 => RewriteKind::IndexedToD,
-            8 => RewriteKind::IndexedToDs,
-            9 => RewriteKind::AddiToAddisThread,
-            10 => RewriteKind::AddiToLd,
-            11 => RewriteKind::CallToAddi,
-            12 => RewriteKind::CallToAdd,
-            13 => RewriteKind::CallToAddi4096,
-            14 => RewriteKind::NopToRestoreToc,
-            15 => RewriteKind::KeepAddis,
-            16 => RewriteKind::AddisToLis,
-            17 => RewriteKind::AddiAfterLis,
-            18 => RewriteKind::AddisThreadToNop,
-            19 => RewriteKind::BaseToThread,
-            _ => return prefixed_rewrite(number),
-        };
-        Some(kind)
+        KINDS.get(number as usize).copied()
     }
 
     /// The rewrite's number, which `from_number` takes.

@@ -2,15 +2,12 @@
 // Made by tools/generate of crates/linker_utils/src/riscv64/rewrites.rt.
 //! RISC-V: relaxation rewrites.
 
-use super::RelaxationKind;
-use crate::linker_base::bit_misc::BitExtraction;
+use crate::rewrite_rows::WordTest::{AddsLow12, AreSame, Is, IsNot};
+use crate::rewrite_rows::{bits, by_row};
 use crate::linker_base::relaxation::RelocationModifier;
-use crate::linker_base::rewrite::{DeletedBytes, RewriteWindow, has_window, overwrite, window_is_in};
-use crate::linker_base::utils::u32_from_slice;
+use crate::linker_base::rewrite::{DeletedBytes, RewriteWindow};
 use crate::linker_elf::elf::InstructionRewrite;
 use crate::linker_elf::riscv64::RiscVRelocation;
-use crate::linker_riscv64::fields::{base, destination, function, opcode, stores_base, word_at};
-use crate::linker_riscv64::{is_call_pair, is_plain_call};
 
 /// A rewrite of one instruction, or of a pair whose second instruction is then deleted.
 #[cfg_attr(not(exhaustive), non_exhaustive)]
@@ -70,141 +67,89 @@ pub enum RewriteKind {
     LdToAddiZero,
 }
 
-/// The instruction at an offset of the section, by its four bytes alone.
-#[inline(always)]
-fn window_at(section: &[u8], offset: u64) -> u32 {
-    u32_from_slice(&section[offset as usize..])
+/// A test of the instruction at a place: its opcode and function, and its registers (RISC-V
+/// unprivileged ISA, "Base Instruction Formats").
+macro_rules! test {
+    ($at:expr, opcode $number:literal) => { Is(bits!($at, 0, 0x7f), $number) };
+    ($at:expr, lui) => { test!($at, opcode 0x37) };
+    ($at:expr, auipc) => { test!($at, opcode 0x17) };
+    // the lowest two bits, and the function, of an instruction of 2 bytes
+    ($at:expr, quadrant $number:literal) => { Is(bits!($at, 0, 0x3), $number) };
+    ($at:expr, function_of_half $number:literal) => { Is(bits!($at, 13, 0x7), $number) };
+    ($at:expr, function $number:literal) => { Is(bits!($at, 12, 0x7), $number) };
+    ($at:expr, into $register:literal) => { Is(bits!($at, 7, 0x1f), $register) };
+    ($at:expr, not_into $register:literal) => { IsNot(bits!($at, 7, 0x1f), $register) };
+    ($at:expr, into_first) => { AreSame(bits!($at, 7, 0x1f), bits!(0, 7, 0x1f)) };
+    ($at:expr, from_first) => { AreSame(bits!($at, 15, 0x1f), bits!(0, 7, 0x1f)) };
+    // an immediate, or a register and a further function
+    ($at:expr, upper $number:literal) => { Is(bits!($at, 20, 0xfff), $number) };
+    ($at:expr, adds_low12) => { AddsLow12 };
+    // no `sb`, `sh`, `sw` or `sd` of its own base
+    ($at:expr, stores_other) => {
+        DifferWhere(bits!($at, 0, 0x7f), 0x23, 0x23, bits!($at, 20, 0x1f), bits!($at, 15, 0x1f))
+    };
 }
 
-/// The two bytes at an offset of the section.
-#[inline(always)]
-fn half_at(section: &[u8], offset: u64) -> u16 {
-    let start = offset as usize;
-    u16::from_le_bytes([section[start], section[start + 1]])
+/// Tests, each of the first instruction or of the one n bytes after it.
+macro_rules! tests {
+    // `auipc`, and `jalr` from its register
+    (call $($links:tt)*) => {
+        tests![
+            auipc, opcode 0x67 at 4, function 0 at 4, from_first at 4, $($links)* at 4, not_into 0
+        ]
+    };
+    (ld) => { tests![opcode 0x03, function 3] };
+    (add_tp) => { tests![opcode 0x33, function 0, upper 4] };
+    (addi_a0) => { tests![opcode 0x13, function 0, into 10] };
+    // `jalr t0, 0(rs1)`, which calls the function of a TLS descriptor
+    (jalr_t0) => { tests![opcode 0x67, function 0, into 5, upper 0] };
+    (c_lui) => { tests![quadrant 1, function_of_half 3, not_into 0, not_into 2] };
+    ($($test:ident $($number:literal)? $(at $at:literal)?),*) => {
+        [$(test!($crate::rewrite_rows::or!(0; $($at)?), $test $($number)?)),*]
+    };
 }
 
-/// Writes an instruction at an offset of the section.
-#[inline(always)]
-fn put_word(section: &mut [u8], offset: u64, word: u32) {
-    overwrite(section, offset, &word.to_le_bytes());
+pub(super) use test;
+pub(super) use tests;
+
+/// The rewrites. Bits 7 to 11 are the destination register, and 15 to 19 the first source register.
+macro_rules! rewrites {
+    ($($use:tt)*) => {
+        by_row! { tests, $($use)*;
+            NoOp: 0 [];
+            ReplaceWithNop: 4 [] keep 0 set 0x0001_0001;
+            CallToJal: 8 [call into_first] keep 0xf80 set 0x6f delete 4 skip 0;
+            Hi20ToCLui: 4 [lui, not_into 0, not_into 2]
+                keep 0xf80 set 0x6001 half true delete 2 count 2;
+            Hi20Delete: 4 [lui] delete 0 skip 0;
+            Lo12Rs1ToZero: 4 [adds_low12] keep 0xfff0_7fff set 0;
+            TailToJal: 8 [call into 0] keep 0 set 0x6f delete 4 skip 0;
+            TailToCJ: 8 [call into 0] keep 0 set 0xa001 half true delete 2 count 6 skip 0;
+            Delete: 4 [] delete 0;
+            ReplaceWithLongNop: 4 [] keep 0 set 0x13;
+            BaseToTp: 4 [adds_low12] keep 0xfff0_7fff set 0x0002_0000;
+            AddiToLui: 4 [addi_a0] keep 0 set 0x537;
+            AddiToAuipc: 4 [addi_a0] keep 0 set 0x517;
+            CallToAddi: 4 [jalr_t0] keep 0 set 0x0005_0513;
+            CallToAddiZero: 4 [jalr_t0] keep 0 set 0x513;
+            CallToLd: 4 [jalr_t0] keep 0 set 0x0005_3503;
+            LdToAddi: 4 [ld] keep 0xffff_8f80 set 0x13;
+            CLuiToCLi: 2 [c_lui] keep 0xf80 set 0x4001 half true;
+            AuipcToLui: 4 [auipc] keep 0xf80 set 0x37;
+            LdToAddiZero: 4 [ld] keep 0xf80 set 0x13;
+        }
+    };
 }
 
-/// Bits 20 to 31 of an instruction, which are an immediate, or a register and a further function.
-#[inline(always)]
-fn upper_bits(word: u32) -> u64 {
-    u64::from(word).extract_bit_range(20..32)
-}
-
-/// `lui`.
-#[inline(always)]
-pub(super) fn is_lui(word: u32) -> bool {
-    opcode(word) == 0x37
-}
-
-/// `auipc`.
-#[inline(always)]
-pub(super) fn is_auipc(word: u32) -> bool {
-    opcode(word) == 0x17
-}
-
-/// `ld`.
-#[inline(always)]
-pub(super) fn is_ld(word: u32) -> bool {
-    opcode(word) == 0x03 && function(word) == 3
-}
-
-/// `add rd, rs1, tp`.
-#[inline(always)]
-pub(super) fn is_add_tp(word: u32) -> bool {
-    opcode(word) == 0x33 && function(word) == 0 && upper_bits(word) == 4
-}
-
-/// `addi a0, rs1`.
-#[inline(always)]
-pub(super) fn is_addi_to_a0(word: u32) -> bool {
-    opcode(word) == 0x13 && function(word) == 0 && destination(word) == 10
-}
-
-/// `jalr t0, 0(rs1)`, which calls the function of a TLS descriptor.
-#[inline(always)]
-fn is_call_of_descriptor(word: u32) -> bool {
-    opcode(word) == 0x67 && function(word) == 0 && destination(word) == 5 && upper_bits(word) == 0
-}
-
-/// `c.lui`.
-#[inline(always)]
-fn is_c_lui(half: u16) -> bool {
-    let rd = u32::from(half) >> 7 & 0x1f;
-    half % 4 == 1 && half >> 13 == 3 && RelaxationKind::rd_valid_for_clui(rd)
-}
-
-/// The instruction with x4, the thread pointer, as its first source register.
-#[inline(always)]
-fn over_tp(word: u32) -> u32 {
-    word - base(word) * 0x8000 + 4 * 0x8000
-}
-
-/// Whether an instruction adds a signed immediate of 12 bits to its source register.
-#[inline]
-fn adds_immediate(word: u32) -> bool {
-    let funct3 = function(word);
-    match opcode(word) {
-        0x13 | 0x1b | 0x67 => funct3 == 0,
-        0x03 => funct3 < 7,
-        0x23 => funct3 < 4,
-        0x07 | 0x27 => 0 < funct3 && funct3 < 5,
-        _ => false,
-    }
-}
-
-/// Whether an instruction adds a signed immediate of 12 bits to a register that another one can
-/// replace.
-#[inline(always)]
-pub(super) fn is_low_over_other(word: u32) -> bool {
-    adds_immediate(word) && !stores_base(word)
-}
-
-/// Whether the eight bytes at an offset of the section are a tail call: an `auipc`, and a `jalr`
-/// from its register that links none.
-#[inline(always)]
-fn is_tail_call(section: &[u8], offset: u64) -> bool {
-    if !has_window(section, offset, 0, 8) {
-        return false;
-    }
-    let auipc = word_at(section, offset);
-    let jalr = word_at(section, offset + 4);
-    destination(jalr) == 0 && destination(auipc) != 0 && is_call_pair(auipc, jalr)
-}
+/// The rewrites by their numbers.
+const KINDS: &[RewriteKind] = &rewrites!(kinds);
 
 impl RewriteKind {
     /// The rewrite with a number, its place in the enum. None above the last.
     #[must_use]
     #[inline(always)]
     pub fn from_number(number: u32) -> Option<RewriteKind> {
-        let kind = match number {
-            0 => RewriteKind::NoOp,
-            1 => RewriteKind::ReplaceWithNop,
-            2 => RewriteKind::CallToJal,
-            3 => RewriteKind::Hi20ToCLui,
-            4 => RewriteKind::Hi20Delete,
-            5 => RewriteKind::Lo12Rs1ToZero,
-            6 => RewriteKind::TailToJal,
-            7 => RewriteKind::TailToCJ,
-            8 => RewriteKind::Delete,
-            9 => RewriteKind::ReplaceWithLongNop,
-            10 => RewriteKind::BaseToTp,
-            11 => RewriteKind::AddiToLui,
-            12 => RewriteKind::AddiToAuipc,
-            13 => RewriteKind::CallToAddi,
-            14 => RewriteKind::CallToAddiZero,
-            15 => RewriteKind::CallToLd,
-            16 => RewriteKind::LdToAddi,
-            17 => RewriteKind::CLuiToCLi,
-            18 => RewriteKind::AuipcToLui,
-            19 => RewriteKind::LdToAddiZero,
-            _ => return None,
-        };
-        Some(kind)
+        KINDS.get(number as usize).copied()
     }
 
     /// The rewrite's number, which `from_number` takes.
@@ -226,58 +171,7 @@ impl RewriteKind {
         debug_assert!(self.can_apply(section_bytes, *offset_in_section));
         let _ = addend;
         let offset = *offset_in_section;
-        match self {
-            RewriteKind::NoOp | RewriteKind::Hi20Delete | RewriteKind::Delete => {}
-            RewriteKind::ReplaceWithNop => {
-                overwrite(section_bytes, offset, &[0x01, 0x00, 0x01, 0x00]);
-            }
-            RewriteKind::CallToJal => {
-                let auipc = u32_from_slice(&section_bytes[offset as usize..]);
-                let jal = 0x6f | (auipc >> 7 & 0x1f) << 7;
-                put_word(section_bytes, offset, jal);
-            }
-            RewriteKind::Hi20ToCLui => {
-                let lui = half_at(section_bytes, offset);
-                let c_lui = 0x6001 | (lui >> 7 & 0x1f) << 7;
-                overwrite(section_bytes, offset, &c_lui.to_le_bytes());
-            }
-            RewriteKind::Lo12Rs1ToZero => {
-                let word = u32_from_slice(&section_bytes[offset as usize..]);
-                let from_x0 = word >> 20 << 20 | word & 0x7fff;
-                put_word(section_bytes, offset, from_x0);
-            }
-            RewriteKind::TailToJal => {
-                overwrite(section_bytes, offset, &[0x6f, 0x00, 0x00, 0x00]);
-            }
-            RewriteKind::TailToCJ => overwrite(section_bytes, offset, &[0x01, 0xa0]),
-            RewriteKind::ReplaceWithLongNop => put_word(section_bytes, offset, 0x0000_0013),
-            RewriteKind::BaseToTp => {
-                let word = window_at(section_bytes, offset);
-                put_word(section_bytes, offset, over_tp(word));
-            }
-            RewriteKind::AddiToLui => put_word(section_bytes, offset, 0x0000_0537),
-            RewriteKind::AddiToAuipc => put_word(section_bytes, offset, 0x0000_0517),
-            RewriteKind::CallToAddi => put_word(section_bytes, offset, 0x0005_0513),
-            RewriteKind::CallToAddiZero => put_word(section_bytes, offset, 0x0000_0513),
-            RewriteKind::CallToLd => put_word(section_bytes, offset, 0x0005_3503),
-            RewriteKind::LdToAddi => {
-                let ld = window_at(section_bytes, offset);
-                let rd = destination(ld);
-                put_word(section_bytes, offset, (ld >> 15 << 15) + (rd << 7) + 0x13);
-            }
-            RewriteKind::CLuiToCLi => {
-                let rd = half_at(section_bytes, offset) / 128 % 32;
-                overwrite(section_bytes, offset, &(0x4001 + rd * 128).to_le_bytes());
-            }
-            RewriteKind::AuipcToLui => {
-                let rd = destination(window_at(section_bytes, offset));
-                put_word(section_bytes, offset, (rd << 7) + 0x37);
-            }
-            RewriteKind::LdToAddiZero => {
-                let rd = destination(window_at(section_bytes, offset));
-                put_word(section_bytes, offset, (rd << 7) + 0x13);
-            }
-        }
+        rewrites!(self, row => row.apply(section_bytes, offset))
     }
 
     /// Whether `apply` may be called at an offset of a section: the bytes that it rewrites lie in
@@ -285,7 +179,7 @@ impl RewriteKind {
     #[must_use]
     #[inline(always)]
     pub fn can_apply(self, section: &[u8], offset: u64) -> bool {
-        window_is_in(section, offset, self.window())
+        rewrites!(self, row => row.can_apply(section, offset))
     }
 
     /// The bytes that `apply` writes, which begin at the offset: none for `NoOp`, `Hi20Delete` and
@@ -294,12 +188,7 @@ impl RewriteKind {
     #[must_use]
     #[inline]
     pub fn window(self) -> RewriteWindow {
-        let len = match self {
-            RewriteKind::NoOp | RewriteKind::Hi20Delete | RewriteKind::Delete => 0,
-            RewriteKind::Hi20ToCLui | RewriteKind::TailToCJ | RewriteKind::CLuiToCLi => 2,
-            _ => 4,
-        };
-        RewriteWindow { back: 0, len }
+        rewrites!(self, row => row.window())
     }
 
     /// Whether the instruction that begins at an offset of a section, or the pair, is one that the
@@ -312,34 +201,7 @@ impl RewriteKind {
     #[must_use]
     #[inline(always)]
     pub fn matches(self, section: &[u8], offset: u64) -> bool {
-        match self {
-            RewriteKind::NoOp => true,
-            RewriteKind::CLuiToCLi => {
-                has_window(section, offset, 0, 2) && is_c_lui(half_at(section, offset))
-            }
-            RewriteKind::TailToJal | RewriteKind::TailToCJ => is_tail_call(section, offset),
-            RewriteKind::CallToJal => {
-                is_plain_call(section, offset) && destination(word_at(section, offset)) != 0
-            }
-            _ if !has_window(section, offset, 0, 4) => false,
-            RewriteKind::ReplaceWithNop | RewriteKind::Delete | RewriteKind::ReplaceWithLongNop =>
-                true,
-            RewriteKind::Hi20ToCLui => {
-                let word = word_at(section, offset);
-                opcode(word) == 0x37 && RelaxationKind::rd_valid_for_clui(destination(word))
-            }
-            RewriteKind::Hi20Delete => opcode(word_at(section, offset)) == 0x37,
-            RewriteKind::Lo12Rs1ToZero | RewriteKind::BaseToTp => {
-                adds_immediate(word_at(section, offset))
-            }
-            RewriteKind::AddiToLui | RewriteKind::AddiToAuipc => {
-                is_addi_to_a0(word_at(section, offset))
-            }
-            RewriteKind::CallToAddi | RewriteKind::CallToAddiZero | RewriteKind::CallToLd =>
-                is_call_of_descriptor(word_at(section, offset)),
-            RewriteKind::LdToAddi | RewriteKind::LdToAddiZero => { is_ld(word_at(section, offset)) }
-            RewriteKind::AuipcToLui => is_auipc(word_at(section, offset)),
-        }
+        rewrites!(self, row => row.is_for(section, offset))
     }
 
     /// What happens to the next relocation: `CallToJal`, `TailToJal`, `TailToCJ` and `Hi20Delete`
@@ -347,13 +209,7 @@ impl RewriteKind {
     #[must_use]
     #[inline]
     pub fn next_modifier(&self) -> RelocationModifier {
-        match self {
-            RewriteKind::CallToJal
-            | RewriteKind::Hi20Delete
-            | RewriteKind::TailToJal
-            | RewriteKind::TailToCJ => RelocationModifier::SkipNextRelocation,
-            _ => RelocationModifier::Normal,
-        }
+        rewrites!(*self, row => row.next_modifier())
     }
 
     /// Where the relocation is that `next_modifier` skips, in bytes from the offset of the
@@ -362,7 +218,7 @@ impl RewriteKind {
     #[must_use]
     #[inline]
     pub fn skipped_offset(self) -> Option<u64> {
-        matches!(self.next_modifier(), RelocationModifier::SkipNextRelocation).then_some(0)
+        rewrites!(self, row => row.skipped)
     }
 
     /// The bytes to be deleted after the rewrite. `None` where there are none: only `CallToJal`,
@@ -378,14 +234,7 @@ impl RewriteKind {
     #[must_use]
     #[inline]
     pub fn deleted(self) -> Option<DeletedBytes> {
-        let (start, count) = match self {
-            RewriteKind::CallToJal | RewriteKind::TailToJal => (4, 4),
-            RewriteKind::TailToCJ => (2, 6),
-            RewriteKind::Hi20ToCLui => (2, 2),
-            RewriteKind::Hi20Delete | RewriteKind::Delete => (0, 4),
-            _ => return None,
-        };
-        Some(DeletedBytes { start, count })
+        rewrites!(self, row => row.deleted)
     }
 }
 

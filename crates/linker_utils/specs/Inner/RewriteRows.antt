@@ -4,13 +4,15 @@ use Rattle.std.specs.Prelude.{◌⊎◌, ⊤, length, drop}
 use Rattle.std.specs.Prelude.{Option, None, Some, bit_and, bit_or, IsTrue, not, nat_le, ◌&&◌, ◌||◌}
 use Rattle.std.specs.Prelude.{◌==◌}
 use Rattle.std.specs.Prelude.{◌%◌, if◌then◌else◌, Bool, true, false, IfSome}
-use Rattle.std.specs.Int.{w32, w64, from_le_bytes, to_le_bytes}
+use Rattle.std.specs.Int.{w16, w32, w64, from_le_bytes, to_le_bytes}
 use Rattle.linker_base.specs.Bits.{field}
 use Rattle.linker_base.specs.Rewrite.{Rewrite, replaces, CanRewrite}
+use Rattle.linker_base.specs.RewriteWindow.{window_of_rewrite}
 use Rattle.linker_base.specs.declared.relaxation.RelocationModifier.{RelocationModifier}
 use Rattle.linker_base.specs.declared.relaxation.RelocationModifier.TheVariants.{Normal}
 use Rattle.linker_base.specs.declared.relaxation.RelocationModifier.TheVariants.{SkipNextRelocation}
 use Rattle.linker_utils.specs.Ppc64Rewrites.{by_displacement, by_word_displacement, direct, to_move}
+use Rattle.linker_utils.specs.RiscVRewrites.{adds_low12}
 use Rattle.linker_utils.specs.declared.rewrite_rows.Special.{Special}
 use Rattle.linker_utils.specs.declared.rewrite_rows.Special.TheVariants as specials
 use Rattle.linker_utils.specs.declared.rewrite_rows.WordBits.{WordBits}
@@ -45,11 +47,14 @@ number_of word bits =
 abbrev pub number_in : Words → WordBits → ℕ
 number_in words bits = number_of (if bits.of_second then words.second else words.first) bits
 
--- the instruction at an offset, and the one after it where n bytes have two
+-- the instruction at an offset, of 2 bytes where n bytes have no more, and the one after it where
+-- they have two
 abbrev pub words_at : List ℕ → ℕ → ℕ → Words
 words_at section o len =
     record {
-      first = from_le_bytes w32 (drop o section);
+      first =
+          if nat_le 4 len then from_le_bytes w32 (drop o section)
+          else if nat_le 2 len then from_le_bytes w16 (drop o section) else 0;
       second = if nat_le 8 len then from_le_bytes w32 (drop (o + 4) section) else 0;
     }
 
@@ -81,6 +86,7 @@ Holds words (test.IsAmong some by first second third fourth) =
 Holds words (test.DifferAmong some set one other) =
     IsTrue (not (is_among set (number_in words some)
     && number_in words one == number_in words other))
+Holds words test.AddsLow12 = IsTrue (adds_low12 (field words.first 0 7) (field words.first 12 15))
 
 abbrev pub AllHold : Words → List WordTest → Type 0
 AllHold words [] = ⊤
@@ -123,25 +129,32 @@ abbrev pub word_of : Bool → List ℕ → ℕ
 word_of false window = from_le_bytes w32 window
 word_of true window = from_le_bytes w32 (drop 4 window)
 
-abbrev pub edits : ℕ → List WordEdit → Option Rewrite
-edits back [] = None
-edits back (edit ∷ []) =
-    Some (replaces back 4 (λ window. to_le_bytes w32 (edited (from_le_bytes w32 window) edit)))
-edits back (first ∷ second ∷ more) =
+-- one of 2 bytes, or of 4
+abbrev pub edit_of : Bool → ℕ → WordEdit → Rewrite
+edit_of half back edit =
+    replaces back (if half then 2 else 4) (λ window.
+    if half then to_le_bytes w16 (edited (from_le_bytes w16 window) edit)
+    else to_le_bytes w32 (edited (from_le_bytes w32 window) edit))
+
+abbrev pub edits : Bool → ℕ → List WordEdit → Option Rewrite
+edits half back [] = None
+edits half back (edit ∷ []) = Some (edit_of half back edit)
+edits half back (first ∷ second ∷ more) =
     Some (replaces back 8 (λ window.
     to_le_bytes w64 (edited (from_le_bytes w32 window) first
     + edited (word_of second.of_second window) second * 2 ^ 32)))
 
 -- a row's rewrite
 abbrev pub row_rewrite : RewriteRow → Option Rewrite
-row_rewrite row = edits row.back row.edits.now
+row_rewrite row = edits row.half row.back row.edits.now
 
 -- It can be done at an offset, and what it requires is there.
 abbrev pub CanApply : RewriteRow → List ℕ → ℕ → Type 0
 CanApply row section o =
-    (row.edits.now ≡ [])
+    let window = window_of_rewrite (row_rewrite row) in
+    (window.len ≡ 0)
     ⊎ CanRewrite (row_rewrite row) section o
-    × IfSome row.required (Holds (words_at section (o - row.back) 4))
+    × IfSome row.required (Holds (words_at section (o - window.back) window.len))
 
 -- the next relocation is skipped, if one is
 abbrev pub modifier_of : Option ℕ → RelocationModifier

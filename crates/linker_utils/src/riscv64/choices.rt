@@ -11,14 +11,14 @@ ghost use Rattle.linker_utils.specs.Inner.RiscVChoices.{IsThere, riscv_tables};
 ghost use Rattle.linker_utils.specs.RiscVRewrites as rewrites;
 ghost use Rattle.linker_utils.specs.declared.riscv64.rewrites.RewriteKind.TheVariants as kinds;
 
-use super::rewrites::{is_add_tp, is_addi_to_a0, is_auipc, is_ld, is_low_over_other, is_lui};
+use super::rewrites::{test, tests};
 use super::{RewriteKind, RiscVRelocation, RiscVRelocation as Names};
-use linker_base::rewrite::has_window;
+use crate::rewrite_rows::WordTest::{AddsLow12, DifferWhere, Is};
+use crate::rewrite_rows::{are_at, bits};
 use linker_elf::elf::choice_table::{
     ChoiceTable, Chosen, RewriteSet, SIGNED_12, Table, by_table, choice_by, conditions,
 };
 use linker_elf::elf::{Choice, LinkFacts, Operands};
-use linker_riscv64::fields::word_at;
 
 /// The instructions that an entry is for: what its rewrite is meant for, or another one.
 pub enum Pattern {
@@ -46,13 +46,12 @@ impl RewriteSet for RewriteKind {
     fn matches_at(self, originals: &Pattern, section: &[u8], offset: u64) -> bool {
         match originals {
             Pattern::OfRewrite => self.matches(section, offset),
-            _ if !has_window(section, offset, 0, 4) => false,
-            Pattern::Lui => is_lui(word_at(section, offset)),
-            Pattern::AddTp => is_add_tp(word_at(section, offset)),
-            Pattern::Auipc => is_auipc(word_at(section, offset)),
-            Pattern::Ld => is_ld(word_at(section, offset)),
-            Pattern::AddiToA0 => is_addi_to_a0(word_at(section, offset)),
-            Pattern::LowOverOther => is_low_over_other(word_at(section, offset)),
+            Pattern::Lui => are_at(&tests![lui], section, offset, 4),
+            Pattern::AddTp => are_at(&tests![add_tp], section, offset, 4),
+            Pattern::Auipc => are_at(&tests![auipc], section, offset, 4),
+            Pattern::Ld => are_at(&tests![ld], section, offset, 4),
+            Pattern::AddiToA0 => are_at(&tests![addi_a0], section, offset, 4),
+            Pattern::LowOverOther => are_at(&tests![adds_low12, stores_other], section, offset, 4),
         }
     }
 

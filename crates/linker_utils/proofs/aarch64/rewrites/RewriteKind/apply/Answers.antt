@@ -1,14 +1,15 @@
-use Rattle.std.proofs.Common.{◌≡◌, ◌<◌, ℕ, List, ◌∙◌, ◌++◌, ◌+◌, ◌-◌, ◌*◌, ◌^◌, ap, arith, take, drop, bit_and, bit_or}
+use Rattle.std.proofs.Common.{◌≡◌, ℕ, List, refl, ◌∙◌, ◌++◌, ◌+◌, ◌-◌, ◌*◌, ◌^◌, ap, arith, take, drop, bit_and, bit_or}
 use Rattle.std.proofs.lemmas.Nat.{and_mask}
 use Rattle.std.specs.Int.{w32, w64, from_le_bytes, to_le_bytes}
-use Rattle.std.specs.Int.Bits.{and_zero_r, or_shifted_r, or_zero_l, or_zero_r}
+use Rattle.std.specs.Int.Bits.{or_zero_r}
 use Rattle.linker_utils.specs.AArch64Rewrites.{nop, rd_of}
+use Rattle.linker_utils.proofs.RewriteRows.{kept_and_set, one_word, set_alone}
 use Rattle.linker_utils.proofs.aarch64.rewrites.RewriteKind.apply.Goals as goal
 
 cleared : (mask : ℕ) (s : List ℕ) (o : ℕ) → let kept = bit_and (from_le_bytes w32 (take 4 (drop o s))) mask in
     take o s ++ to_le_bytes w32 (bit_or kept 0) ++ drop (o + 4) s ≡ take o s ++ to_le_bytes w32 kept ++ drop (o + 4) s
 cleared mask s o =
-    ap (λ w. take o s ++ to_le_bytes w32 w ++ drop (o + 4) s) (or_zero_r (bit_and (from_le_bytes w32 (take 4 (drop o s))) mask))
+    one_word s o _ _ (or_zero_r (bit_and (from_le_bytes w32 (take 4 (drop o s))) mask))
 
 pub returns-in-AdrpToAdr-clause-bytes : goal.returns-in-AdrpToAdr-clause-bytes
 returns-in-AdrpToAdr-clause-bytes c =
@@ -24,9 +25,8 @@ returns-in-LdrToAdr-clause-bytes c =
 
 pair : (word : ℕ) → bit_or (bit_and word 0) 0xd503201f + bit_or (bit_and word 0x1f) 0x10000000 * 2 ^ 32 ≡ nop + (0x10000000 + rd_of word) * 2 ^ 32
 pair word =
-    let first : bit_or (bit_and word 0) 0xd503201f ≡ nop = ap (λ n. bit_or n 0xd503201f) (and_zero_r word) ∙ or_zero_l 0xd503201f in
-    let small : bit_and word 0x1f < 2 ^ 5 = omega (arith, and_mask word 5) in
-    let second : bit_or (bit_and word 0x1f) 0x10000000 ≡ 0x10000000 + bit_and word 0x1f = or_shifted_r 0x800000 5 (bit_and word 0x1f) small in
+    let first : bit_or (bit_and word 0) 0xd503201f ≡ nop = set_alone 0xd503201f word in
+    let second = kept_and_set 0x1f 0x10000000 word refl in
     omega (arith, first, second, and_mask word 5)
 
 pub returns-in-AdrpAddToNopAdr-clause-bytes : goal.returns-in-AdrpAddToNopAdr-clause-bytes

@@ -1,6 +1,7 @@
-use Rattle.std.proofs.Common.{rules, inl, inr, ◌∙◌, ◌++◌, ◌+◌, ◌-◌, ap, take, drop}
-use Rattle.std.specs.Int.{w32, from_le_bytes, to_le_bytes}
+use Rattle.std.proofs.Common.{inl, inr, ◌∙◌, ◌-◌, take, drop, arith}
+use Rattle.std.specs.Int.{w32, from_le_bytes}
 use Rattle.linker_utils.proofs.LoongArchRows.{over_tp}
+use Rattle.linker_utils.proofs.RewriteRows.{one_word}
 use Rattle.linker_utils.proofs.loongarch64.rewrites.RewriteKind.apply.Goals as goal
 
 pub returns-in-BaseToTp-clause-bytes : goal.returns-in-BaseToTp-clause-bytes
@@ -10,4 +11,4 @@ returns-in-BaseToTp-clause-bytes c =
     let made = c.apply-in-BaseToTp.ensures in
     rw c.in-BaseToTp.is
     (made.edited
-    ∙ ap (λ w. take o s ++ to_le_bytes w32 w ++ drop (o + 4) s) (over_tp (from_le_bytes w32 (take 4 (drop o s))) (elim made.word [ inl none ↦ search rules | inr small ↦ small ])))
+    ∙ one_word s o _ _ (over_tp (from_le_bytes w32 (take 4 (drop o s))) (elim made.word [ inl less ↦ absurd (omega (arith, less)) | inr small ↦ small ])))

@@ -1,8 +1,8 @@
-use Rattle.std.proofs.Common.{◌≡◌, ◌<◌, ℕ, List, refl, subst, bit_and, bit_or, inl, inr, rules, ◌∙◌, ◌++◌, ◌+◌, ◌-◌, ◌*◌, ◌^◌, ap, arith, take, drop}
+use Rattle.std.proofs.Common.{◌≡◌, ◌<◌, ℕ, List, refl, subst, bit_and, bit_or, inl, inr, ◌∙◌, ◌++◌, ◌+◌, ◌-◌, ◌*◌, ◌^◌, ap, arith, take, drop}
 use Rattle.std.specs.Int.{w32, w64, from_le_bytes, to_le_bytes}
 use Rattle.linker_utils.specs.Ppc64Rewrites.{rt_of}
-use Rattle.linker_utils.proofs.RewriteRows.{first_of_window}
-use Rattle.linker_utils.proofs.Ppc64Rows.{all_kept, over_registers, over_target, set_alone, with_base}
+use Rattle.linker_utils.proofs.RewriteRows.{first_of_window, kept_field, one_word, set_alone}
+use Rattle.linker_utils.proofs.Ppc64Rows.{all_kept, with_base}
 use Rattle.linker_utils.proofs.ppc64.rewrites.RewriteKind.apply.Goals as goal
 
 abbrev word : List ℕ → ℕ → ℕ
@@ -14,13 +14,10 @@ first s o = from_le_bytes w32 (take 8 (drop o s))
 abbrev second : List ℕ → ℕ → ℕ
 second s o = from_le_bytes w32 (drop 4 (take 8 (drop o s)))
 
-one : (s : List ℕ) (o a b : ℕ) → a ≡ b → take o s ++ to_le_bytes w32 a ++ drop (o + 4) s ≡ take o s ++ to_le_bytes w32 b ++ drop (o + 4) s
-one s o a b is = ap (λ n. take o s ++ to_le_bytes w32 n ++ drop (o + 4) s) is
-
 -- `addi rT,13,n`
 of_thread : (n w : ℕ) → bit_and 0x03e00000 (0x380d0000 + n) ≡ 0
     → bit_or (bit_and w 0x03e00000) (0x380d0000 + n) ≡ 0x380d0000 + rt_of w * 2 ^ 21 + n
-of_thread n w apart = over_target (0x380d0000 + n) w apart ∙ omega arith
+of_thread n w apart = kept_field 21 5 (0x380d0000 + n) w apart ∙ omega arith
 
 two : (s : List ℕ) (o a b m n : ℕ) → a ≡ b → m ≡ n
     → take o s ++ to_le_bytes w64 (a + m * 2 ^ 32) ++ drop (o + 8) s ≡ take o s ++ to_le_bytes w64 (b + n * 2 ^ 32) ++ drop (o + 8) s
@@ -32,49 +29,49 @@ pub returns-in-BaseToToc-clause-bytes : goal.returns-in-BaseToToc-clause-bytes
 returns-in-BaseToToc-clause-bytes c =
     let s = c.args.section_bytes.now in
     let o = c.args.offset_in_section.now - 0 in
-    rw c.in-BaseToToc.is (c.apply-in-BaseToToc.ensures.edited ∙ one s o _ _ (with_base 2 (word s o) refl))
+    rw c.in-BaseToToc.is (c.apply-in-BaseToToc.ensures.edited ∙ one_word s o _ _ (with_base 2 (word s o) refl))
 
 pub returns-in-LdToAddi-clause-bytes : goal.returns-in-LdToAddi-clause-bytes
 returns-in-LdToAddi-clause-bytes c =
     let s = c.args.section_bytes.now in
     let o = c.args.offset_in_section.now - 0 in
-    rw c.in-LdToAddi.is (c.apply-in-LdToAddi.ensures.edited ∙ one s o _ _ (over_registers 0x38000000 (word s o) refl))
+    rw c.in-LdToAddi.is (c.apply-in-LdToAddi.ensures.edited ∙ one_word s o _ _ (kept_field 16 10 0x38000000 (word s o) refl))
 
 pub returns-in-LdToAddisThread-clause-bytes : goal.returns-in-LdToAddisThread-clause-bytes
 returns-in-LdToAddisThread-clause-bytes c =
     let s = c.args.section_bytes.now in
     let o = c.args.offset_in_section.now - 0 in
-    rw c.in-LdToAddisThread.is (c.apply-in-LdToAddisThread.ensures.edited ∙ one s o _ _ (over_target 0x3c0d0000 (word s o) refl))
+    rw c.in-LdToAddisThread.is (c.apply-in-LdToAddisThread.ensures.edited ∙ one_word s o _ _ (kept_field 21 5 0x3c0d0000 (word s o) refl))
 
 pub returns-in-AddToAddi-clause-bytes : goal.returns-in-AddToAddi-clause-bytes
 returns-in-AddToAddi-clause-bytes c =
     let s = c.args.section_bytes.now in
     let o = c.args.offset_in_section.now - 0 in
-    rw c.in-AddToAddi.is (c.apply-in-AddToAddi.ensures.edited ∙ one s o _ _ (over_registers 0x38000000 (word s o) refl))
+    rw c.in-AddToAddi.is (c.apply-in-AddToAddi.ensures.edited ∙ one_word s o _ _ (kept_field 16 10 0x38000000 (word s o) refl))
 
 pub returns-in-AddiToAddisThread-clause-bytes : goal.returns-in-AddiToAddisThread-clause-bytes
 returns-in-AddiToAddisThread-clause-bytes c =
     let s = c.args.section_bytes.now in
     let o = c.args.offset_in_section.now - 0 in
-    rw c.in-AddiToAddisThread.is (c.apply-in-AddiToAddisThread.ensures.edited ∙ one s o _ _ (over_target 0x3c0d0000 (word s o) refl))
+    rw c.in-AddiToAddisThread.is (c.apply-in-AddiToAddisThread.ensures.edited ∙ one_word s o _ _ (kept_field 21 5 0x3c0d0000 (word s o) refl))
 
 pub returns-in-AddiToLd-clause-bytes : goal.returns-in-AddiToLd-clause-bytes
 returns-in-AddiToLd-clause-bytes c =
     let s = c.args.section_bytes.now in
     let o = c.args.offset_in_section.now - 0 in
-    rw c.in-AddiToLd.is (c.apply-in-AddiToLd.ensures.edited ∙ one s o _ _ (over_registers 0xe8000000 (word s o) refl))
+    rw c.in-AddiToLd.is (c.apply-in-AddiToLd.ensures.edited ∙ one_word s o _ _ (kept_field 16 10 0xe8000000 (word s o) refl))
 
 pub returns-in-BaseToThread-clause-bytes : goal.returns-in-BaseToThread-clause-bytes
 returns-in-BaseToThread-clause-bytes c =
     let s = c.args.section_bytes.now in
     let o = c.args.offset_in_section.now - 0 in
-    rw c.in-BaseToThread.is (c.apply-in-BaseToThread.ensures.edited ∙ one s o _ _ (with_base 13 (word s o) refl))
+    rw c.in-BaseToThread.is (c.apply-in-BaseToThread.ensures.edited ∙ one_word s o _ _ (with_base 13 (word s o) refl))
 
 pub returns-in-PldToPaddi-clause-bytes : goal.returns-in-PldToPaddi-clause-bytes
 returns-in-PldToPaddi-clause-bytes c =
     let s = c.args.section_bytes.now in
     let o = c.args.offset_in_section.now - 0 in
-    rw c.in-PldToPaddi.is (c.apply-in-PldToPaddi.ensures.edited ∙ two s o _ _ _ _ (set_alone 0x06100000 (first s o)) (over_target 0x38000000 (second s o) refl))
+    rw c.in-PldToPaddi.is (c.apply-in-PldToPaddi.ensures.edited ∙ two s o _ _ _ _ (set_alone 0x06100000 (first s o)) (kept_field 21 5 0x38000000 (second s o) refl))
 
 pub returns-in-PldToPaddiThread-clause-bytes : goal.returns-in-PldToPaddiThread-clause-bytes
 returns-in-PldToPaddiThread-clause-bytes c =
@@ -92,7 +89,7 @@ pub returns-in-PaddiToPld-clause-bytes : goal.returns-in-PaddiToPld-clause-bytes
 returns-in-PaddiToPld-clause-bytes c =
     let s = c.args.section_bytes.now in
     let o = c.args.offset_in_section.now - 0 in
-    rw c.in-PaddiToPld.is (c.apply-in-PaddiToPld.ensures.edited ∙ two s o _ _ _ _ (set_alone 0x04100000 (first s o)) (over_target 0xe4000000 (second s o) refl))
+    rw c.in-PaddiToPld.is (c.apply-in-PaddiToPld.ensures.edited ∙ two s o _ _ _ _ (set_alone 0x04100000 (first s o)) (kept_field 21 5 0xe4000000 (second s o) refl))
 
 pub returns-in-PaddiToPaddi4096-clause-bytes : goal.returns-in-PaddiToPaddi4096-clause-bytes
 returns-in-PaddiToPaddi4096-clause-bytes c =
@@ -107,5 +104,5 @@ returns-in-NopToRestoreToc-clause-bytes c =
     let made = c.apply-in-NopToRestoreToc.ensures in
     rw c.in-NopToRestoreToc.is
     (made.edited
-    ∙ two s o _ _ _ _ (all_kept (first s o) (subst (λ n. n < 2 ^ 32) (first_of_window (drop o s)) (elim made.word [ inl none ↦ search rules | inr small ↦ small ])))
+    ∙ two s o _ _ _ _ (all_kept (first s o) (subst (λ n. n < 2 ^ 32) (first_of_window (drop o s)) (elim made.word [ inl less ↦ absurd (omega (arith, less)) | inr small ↦ small ])))
     (set_alone 0xe8410018 (first s o)))

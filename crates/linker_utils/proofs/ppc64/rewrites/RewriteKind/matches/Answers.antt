@@ -1,4 +1,5 @@
-use Rattle.linker_utils.proofs.Ppc64Rows.{at_any, at_multiple, at_mark, over_base_tests, indexed_tests, indexed_word_tests, indexed_any_tests}
+use Rattle.linker_utils.proofs.RewriteRows.{at_any, at_multiple, at_mark}
+use Rattle.linker_utils.proofs.Ppc64Rows.{over_base_tests, indexed_tests, indexed_word_tests, indexed_any_tests}
 use Rattle.linker_utils.proofs.ppc64.rewrites.RewriteKind.matches.Goals as goal
 
 pub returns-in-BaseToToc-clause-exactly : goal.returns-in-BaseToToc-clause-exactly

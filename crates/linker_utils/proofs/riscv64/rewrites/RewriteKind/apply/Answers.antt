@@ -1,40 +1,59 @@
-use Rattle.std.proofs.Common.{◌∙◌, ap, sym, refl, arith, rules}
-use Rattle.std.specs.Int.{w16, from_le_bytes}
-use Rattle.std.proofs.lemmas.List.{take_rest}
-use Rattle.linker_base.specs.Rewrite.{replaces}
-use Rattle.linker_base.proofs.Rewrites.{overwritten}
-use Rattle.linker_utils.specs.RiscVRewrites.{two_nops, call_to_jal, hi20_to_clui, rs1_to_zero}
-use Rattle.linker_utils.specs.declared.riscv64.rewrites.RewriteKind.TheVariants.{ReplaceWithNop, CallToJal, Hi20ToCLui, Lo12Rs1ToZero}
-use Rattle.linker_utils.proofs.RiscVRewrites.{call_made, rewritten_as, clui_made, rs1_made}
+use Rattle.std.proofs.Common.{◌∙◌, ◌-◌, List, ℕ, refl, inl, inr, arith, take, drop}
+use Rattle.std.specs.Int.{w16, w32, from_le_bytes}
+use Rattle.linker_utils.proofs.RewriteRows.{kept_field, one_half, one_word}
+use Rattle.linker_utils.proofs.RiscVRewrites.{of_load, over_rs1, without_rs1}
 use Rattle.linker_utils.proofs.riscv64.rewrites.RewriteKind.apply.Goals as goal
 
-pub returns-in-ReplaceWithNop-clause-bytes : goal.returns-in-ReplaceWithNop-clause-bytes
-returns-in-ReplaceWithNop-clause-bytes c =
-    let s = c.args.section_bytes.now in
-    let o = c.args.offset_in_section.now in
-    rewritten_as c.args.self ReplaceWithNop (replaces 0 4 two_nops) s c.overwrite.new.section o c.in-ReplaceWithNop.is refl
-    (c.overwrite.ensures ∙ overwritten (replaces 0 4 two_nops) s (two_nops s) o o (omega arith) refl refl)
+abbrev word : List ℕ → ℕ → ℕ
+word s o = from_le_bytes w32 (take 4 (drop o s))
+
+abbrev half : List ℕ → ℕ → ℕ
+half s o = from_le_bytes w16 (take 2 (drop o s))
 
 pub returns-in-CallToJal-clause-bytes : goal.returns-in-CallToJal-clause-bytes
 returns-in-CallToJal-clause-bytes c =
     let s = c.args.section_bytes.now in
-    let o = c.args.offset_in_section.now in
-    let made = call_made s _ o c.u32_from_slice-auipc.result c.u32_from_slice-auipc.ensures refl in
-    rewritten_as c.args.self CallToJal (replaces 0 4 call_to_jal) s c.put_word.new.section o c.in-CallToJal.is refl
-    (c.put_word.ensures ∙ overwritten (replaces 0 4 call_to_jal) s _ o o (omega arith) (search rules) made)
+    let o = c.args.offset_in_section.now - 0 in
+    rw c.in-CallToJal.is (c.apply-in-CallToJal.ensures.edited ∙ one_word s o _ _ (kept_field 7 5 0x6f (word s o) refl))
 
 pub returns-in-Hi20ToCLui-clause-bytes : goal.returns-in-Hi20ToCLui-clause-bytes
 returns-in-Hi20ToCLui-clause-bytes c =
     let s = c.args.section_bytes.now in
-    let o = c.args.offset_in_section.now in
-    let made = clui_made s _ o c.half_at-lui.result (c.half_at-lui.ensures.whole ∙ ap (from_le_bytes w16) (sym (take_rest s o))) c.to_le_bytes.ensures in
-    rewritten_as c.args.self Hi20ToCLui (replaces 0 2 hi20_to_clui) s c.overwrite-in-Hi20ToCLui.new.section o c.in-Hi20ToCLui.is refl
-    (c.overwrite-in-Hi20ToCLui.ensures ∙ overwritten (replaces 0 2 hi20_to_clui) s _ o o (omega arith) (search rules) made)
+    let o = c.args.offset_in_section.now - 0 in
+    rw c.in-Hi20ToCLui.is (c.apply-in-Hi20ToCLui.ensures.edited ∙ one_half s o _ _ (kept_field 7 5 0x6001 (half s o) refl))
 
 pub returns-in-Lo12Rs1ToZero-clause-bytes : goal.returns-in-Lo12Rs1ToZero-clause-bytes
 returns-in-Lo12Rs1ToZero-clause-bytes c =
     let s = c.args.section_bytes.now in
-    let o = c.args.offset_in_section.now in
-    let made = rs1_made s _ o c.u32_from_slice-word.result (search rules) c.u32_from_slice-word.ensures refl in
-    rewritten_as c.args.self Lo12Rs1ToZero (replaces 0 4 rs1_to_zero) s c.put_word-in-Lo12Rs1ToZero.new.section o c.in-Lo12Rs1ToZero.is refl
-    (c.put_word-in-Lo12Rs1ToZero.ensures ∙ overwritten (replaces 0 4 rs1_to_zero) s _ o o (omega arith) (search rules) made)
+    let o = c.args.offset_in_section.now - 0 in
+    rw c.in-Lo12Rs1ToZero.is (c.apply-in-Lo12Rs1ToZero.ensures.edited ∙ one_word s o _ _ (without_rs1 (word s o) (elim c.apply-in-Lo12Rs1ToZero.ensures.word [ inl less ↦ absurd (omega (arith, less)) | inr small ↦ small ])))
+
+pub returns-in-BaseToTp-clause-bytes : goal.returns-in-BaseToTp-clause-bytes
+returns-in-BaseToTp-clause-bytes c =
+    let s = c.args.section_bytes.now in
+    let o = c.args.offset_in_section.now - 0 in
+    rw c.in-BaseToTp.is (c.apply-in-BaseToTp.ensures.edited ∙ one_word s o _ _ (over_rs1 4 (word s o) (elim c.apply-in-BaseToTp.ensures.word [ inl less ↦ absurd (omega (arith, less)) | inr small ↦ small ]) refl))
+
+pub returns-in-LdToAddi-clause-bytes : goal.returns-in-LdToAddi-clause-bytes
+returns-in-LdToAddi-clause-bytes c =
+    let s = c.args.section_bytes.now in
+    let o = c.args.offset_in_section.now - 0 in
+    rw c.in-LdToAddi.is (c.apply-in-LdToAddi.ensures.edited ∙ one_word s o _ _ (of_load (word s o)))
+
+pub returns-in-CLuiToCLi-clause-bytes : goal.returns-in-CLuiToCLi-clause-bytes
+returns-in-CLuiToCLi-clause-bytes c =
+    let s = c.args.section_bytes.now in
+    let o = c.args.offset_in_section.now - 0 in
+    rw c.in-CLuiToCLi.is (c.apply-in-CLuiToCLi.ensures.edited ∙ one_half s o _ _ (kept_field 7 5 0x4001 (half s o) refl))
+
+pub returns-in-AuipcToLui-clause-bytes : goal.returns-in-AuipcToLui-clause-bytes
+returns-in-AuipcToLui-clause-bytes c =
+    let s = c.args.section_bytes.now in
+    let o = c.args.offset_in_section.now - 0 in
+    rw c.in-AuipcToLui.is (c.apply-in-AuipcToLui.ensures.edited ∙ one_word s o _ _ (kept_field 7 5 0x37 (word s o) refl))
+
+pub returns-in-LdToAddiZero-clause-bytes : goal.returns-in-LdToAddiZero-clause-bytes
+returns-in-LdToAddiZero-clause-bytes c =
+    let s = c.args.section_bytes.now in
+    let o = c.args.offset_in_section.now - 0 in
+    rw c.in-LdToAddiZero.is (c.apply-in-LdToAddiZero.ensures.edited ∙ one_word s o _ _ (kept_field 7 5 0x13 (word s o) refl))
