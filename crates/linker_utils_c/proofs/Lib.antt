@@ -1,6 +1,7 @@
 pub mod Decisions
 pub mod DeltaLists
 pub mod Found
+pub mod Named
 pub mod Placing
 pub mod Provided
 pub mod Relocating
