@@ -28,16 +28,8 @@ pub mod PackedSites
 pub mod Phases
 pub mod PlainRows
 pub mod Ppc64Again
-pub mod Ppc64Arguments
-pub mod Ppc64Calls
 pub mod Ppc64Chosen
-pub mod Ppc64Halves
-pub mod Ppc64Loads
-pub mod Ppc64Near
-pub mod Ppc64Offsets
-pub mod Ppc64Prefixed
-pub mod Ppc64Twice
-pub mod Ppc64TwiceArguments
+pub mod Ppc64Groups
 pub mod Ppc64Written
 pub mod PutBack
 pub mod Relaxed
@@ -55,7 +47,6 @@ pub mod RiscVPackedDeletions
 pub mod RiscVTested
 pub mod RiscVWritten
 pub mod SameDecisions
-pub mod Twice
 pub mod Written
 pub mod X86Chosen
 pub mod X86Descriptors

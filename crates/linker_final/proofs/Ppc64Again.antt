@@ -6,7 +6,7 @@ use Rattle.linker_elf.specs.declared.elf.choice.Choice.{Choice}
 use Rattle.linker_elf.specs.declared.ppc64.relocations.Ppc64Relocation.{Ppc64Relocation}
 use Rattle.linker_elf.specs.declared.ppc64.relocations.Ppc64Relocation.TheVariants as names
 use Rattle.linker_final.specs.Final.{AreRewritten, Linked, count}
-use Rattle.linker_final.specs.Ppc64Twice.{IsOfNoPhase, IsOfPhase, RewrittenAgain}
+use Rattle.linker_final.specs.Ppc64Final.{IsOfNoPhase, IsOfPhase, RewrittenAgain}
 use Rattle.linker_rewriting.specs.Decisions.{IsDecidedAfter, IsScopeDecision, decision_at, is_taken}
 use Rattle.linker_rewriting.specs.Facts.{RelaxContext}
 use Rattle.linker_rewriting.specs.Groups.{IsScopeIn, ppc64_scope_in}

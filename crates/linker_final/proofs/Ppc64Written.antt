@@ -1,5 +1,5 @@
 -- Instructions of PowerPC64 and their relocations in the final bytes of a section.
-use Rattle.std.proofs.Common.{true, ◌≡◌, ◌⊎◌, ℕ, ◌+◌, ◌-◌, ◌<◌, ◌≤◌, List, length, take, drop, sym, ap, subst, ◌∙◌, refl, arith, Some, Ok, IsSomeAnd}
+use Rattle.std.proofs.Common.{true, ◌≡◌, ◌⊎◌, ℕ, ◌+◌, ◌-◌, ◌<◌, ◌≤◌, length, take, drop, sym, ap, subst, ◌∙◌, refl, arith, inl, inr, Some, None, Ok, IsSomeAnd, cond}
 use Rattle.std.proofs.lemmas.List.{take-take}
 use Rattle.std.specs.Prelude.{IsTrue, slice_get}
 use Rattle.linker_base.specs.Rewrite.{Rewrite, addend_after, offset_after}
@@ -20,12 +20,9 @@ use Rattle.linker_final.proofs.InstructionFields.{IsOfInstruction}
 use Rattle.linker_final.proofs.Phases.{relocation_left}
 use Rattle.linker_final.proofs.Written.{IsRowOf, apart_with, applied_after, by_name, entry_is_there, made_there, rela, relocation_is, unwritten_but, unwritten_without, with_operands, word_same}
 use Rattle.linker_final.specs.Final.{UntouchedBytes, AreRewritten, Linked, IsLinked, IsWrittenByNoOther, count, instruction_at}
-use Rattle.linker_final.specs.Ppc64Anywhere.{Becomes, Goes, UntouchedAt, named_as}
-use Rattle.linker_final.specs.Ppc64Final.{final, object, offset_of}
-use Rattle.linker_final.specs.Ppc64PrefixedFinal.{marked_object, marked_offset}
-use Rattle.linker_laws.specs.Ppc64RewriteLaws.{IsRelocated, IsRewritten, at_place, with_entry, word_of}
-use Rattle.linker_laws.specs.Schemes.{AreAddresses}
-use Rattle.linker_utils.specs.Ppc64Rewrites.{HasTest, ppc64_rewrite, rewrites_marked, rewrites_word}
+use Rattle.linker_final.specs.Ppc64Final.{FinalBytes, IsApplied as IsAppliedIn, offset_of}
+use Rattle.linker_laws.specs.Ppc64RewriteLaws.{IsRelocated, IsRewritten, word_of}
+use Rattle.linker_utils.specs.Ppc64Rewrites.{HasTest, ppc64_rewrite, rewrites_marked}
 use Rattle.linker_utils.specs.declared.ppc64.rewrites.RewriteKind.{RewriteKind}
 use Rattle.linker_rewriting.specs.Decisions.{decision_at}
 use Rattle.linker_rewriting.specs.Rewritten.{IsDone, IsMade}
@@ -35,6 +32,7 @@ use Rattle.linker_section.specs.Relocations.{relocation_in}
 use Rattle.linker_section.specs.Values.{entry_address, is_there, operands_by, operands_with}
 use Rattle.linker_section.specs.declared.facts.Symbol.{Symbol}
 use Rattle.linker_section.specs.declared.needed.Entry.{Entry}
+use Rattle.linker_section.specs.declared.needed.EntryClass.TheVariants.{ThreadOffset}
 use Rattle.linker_section.specs.declared.relocations.Rela.{Rela}
 use Rattle.linker_elf.specs.Architectures.{IsRow}
 use Rattle.linker_utils.specs.Relaxations.{relaxation_rewrite}
@@ -62,6 +60,10 @@ pub no_row : (l : Linked) → l.context.architecture ≡ Ppc64
     → IsRowOf l.context.architecture 0 (bytes_row NoValue 0)
 no_row l ppc64 = row_of l ppc64 names.R_PPC64_NONE tt (bytes_row NoValue 0) refl
 
+-- where the instruction begins whose second byte is at the relocation
+abbrev pub marked_offset : Linked → ℕ → ℕ
+marked_offset l i = offset_of l i - 1
+
 -- ---- what a call of rewriting leaves
 
 module _ (l : Linked) (rewriting : AreRewritten l) (i : ℕ) (chosen : Choice Relaxation ℕ)
@@ -81,11 +83,11 @@ module _ (l : Linked) (rewriting : AreRewritten l) (i : ℕ) (chosen : Choice Re
       relocation_is l rewriting i chosen below decided (ppc64_rewrite kind) (code_of (ppc64_name name))
       (ap relaxation_rewrite kind_is) code_is
 
-  -- that of a word has its place
-  pub word_after : (name : Ppc64Relocation) → chosen.relocation ≡ code_of (ppc64_name name)
-      → (new : ℕ → ℕ) → ppc64_rewrite kind ≡ Some (rewrites_word new)
-      → relocation_in l.relocations_after i ≡ named_as name r
-  word_after name code_is new is =
+  pub made_after : (name : Ppc64Relocation) → chosen.relocation ≡ code_of (ppc64_name name)
+      → (made : Rewrite) → ppc64_rewrite kind ≡ Some made
+      → relocation_in l.relocations_after i
+      ≡ rela (made.offset r.offset) (code_of (ppc64_name name)) r.symbol (made.addend r.addend)
+  made_after name code_is made is =
       after_is name code_is
       ∙ ap (λ q. rela (offset_after q r.offset) (code_of (ppc64_name name)) r.symbol (addend_after q r.addend)) is
 
@@ -96,15 +98,9 @@ module _ (l : Linked) (rewriting : AreRewritten l) (i : ℕ) (chosen : Choice Re
       subst (λ q. IsSomeAnd q (λ (m : Rewrite). take m.len (take made.len (drop r.offset l.rewritten)) ≡ m.bytes (take m.len (take made.len (drop r.offset l.section))))) (sym is)
       (made_there l rewriting i chosen below decided made (ap relaxation_rewrite kind_is ∙ is) back)
 
-  -- an instruction becomes another, which is left
-  pub becomes_left : (new : ℕ → ℕ) → ppc64_rewrite kind ≡ Some (rewrites_word new)
-      → UntouchedAt l (offset_of l i) → IsRewritten kind (object l i) (final l i)
-  becomes_left new is left =
-      subst (IsRewritten kind (object l i)) (sym left) (becomes (rewrites_word new) is refl)
-
   -- of the instruction whose second byte is at the relocation
   pub becomes_marked : (new : ℕ → ℕ) → ppc64_rewrite kind ≡ Some (rewrites_marked new)
-      → IsRewritten kind (marked_object l i) (instruction_at l.rewritten (marked_offset l i))
+      → IsRewritten kind (instruction_at l.section (marked_offset l i)) (instruction_at l.rewritten (marked_offset l i))
   becomes_marked new is =
       let o = r.offset in
       let made = rewrites_marked new in
@@ -112,7 +108,7 @@ module _ (l : Linked) (rewriting : AreRewritten l) (i : ℕ) (chosen : Choice Re
       subst (λ d. IsDone d o l.section l.rewritten) decided (rewriting.done i below) in
       let there : IsMade (Some made) o l.section l.rewritten =
       subst (λ q. IsMade q o l.section l.rewritten) (ap relaxation_rewrite kind_is ∙ is) done in
-      subst (λ q. IsSomeAnd q (λ (m : Rewrite). take m.len (instruction_at l.rewritten (marked_offset l i)) ≡ m.bytes (take m.len (marked_object l i)))) (sym is)
+      subst (λ q. IsSomeAnd q (λ (m : Rewrite). take m.len (instruction_at l.rewritten (marked_offset l i)) ≡ m.bytes (take m.len (instruction_at l.section (marked_offset l i))))) (sym is)
       (take-take 4 4 (drop (o - 1) l.rewritten) (omega arith)
       ∙ (there ∙ ap made.bytes (sym (take-take 4 4 (drop (o - 1) l.section) (omega arith)))))
 
@@ -123,17 +119,8 @@ test_at l p test is = subst (λ w. IsTrue (test w)) (word_same l.section p) (is.
 
 -- what is in the instruction at a relocation
 pub test_there : (l : Linked) (i : ℕ) (test : ℕ → _) → HasTest test l.section (offset_of l i)
-    → IsTrue (test (word_of (object l i)))
+    → IsTrue (test (word_of (instruction_at l.section (offset_of l i))))
 test_there l i test is = subst (λ w. IsTrue (test w)) (word_same l.section (offset_of l i)) (is.1)
-
--- A relocation is applied whose value is that of other operands.
-pub applied_so : (n : ℕ) (name : Ppc64Relocation) (a : IsAfter n name) (o p : Operands)
-    (before new : List ℕ) → value_of a.row p ≡ value_of a.row o → IsRelocated name o before new
-    → IsRelocated name p before new
-applied_so n name a o p before new same is =
-    subst (λ q. IsSomeAnd q (λ row. IsApplied row p before new)) (sym a.is)
-    (with_operands a.row o p before new same
-    (subst (λ q. IsSomeAnd q (λ row. IsApplied row o before new)) a.is is))
 
 -- ---- what a call that writes values does then
 
@@ -177,7 +164,7 @@ module _ (l : Linked) (linked : IsLinked l) (ppc64 : l.context.architecture ≡ 
 
   -- an instruction is left that no other relocation writes, where the own one goes
   pub left_alone : (after : Rela) → relocation_in l.relocations_after i ≡ after → after.code ≡ 0
-      → (p : ℕ) → UntouchedBytes l i p 4 → p + 4 ≤ length l.section → IsWrittenByNoOther l i p → UntouchedAt l p
+      → (p : ℕ) → UntouchedBytes l i p 4 → p + 4 ≤ length l.section → IsWrittenByNoOther l i p → instruction_at l.final p ≡ instruction_at l.rewritten p
   left_alone after is_after gone p left inside alone =
       unwritten_without l linked i below p left (no_row l ppc64) (ap (λ (x : Rela). x.code) is_after ∙ gone) inside alone
 
@@ -186,40 +173,12 @@ module _ (l : Linked) (linked : IsLinked l) (ppc64 : l.context.architecture ≡ 
       → relocation_in l.relocations_after i ≡ after → after.code ≡ code_of (ppc64_name name)
       → (p : ℕ) → UntouchedBytes l i p 4 → p + 4 ≤ length l.section
       → (p + 4 ≤ after.offset) ⊎ (after.offset + 4 ≤ p)
-      → IsWrittenByNoOther l i p → UntouchedAt l p
+      → IsWrittenByNoOther l i p → instruction_at l.final p ≡ instruction_at l.rewritten p
   left_beside name a after is_after code p left inside beside alone =
       unwritten_but l linked i p left inside
       (apart_with l i after (relocation_left l linked i p 4 left below ∙ is_after) a.row
       (subst (λ x. IsRowOf l.context.architecture x a.row) (sym code) (row_of l ppc64 name a.named a.row a.is))
       4 a.of p beside) alone
-
--- What holds anywhere holds in the final bytes: where a relocation is applied, and where one goes.
-
-pub in_final : (l : Linked) (linked : IsLinked l) (ppc64 : l.context.architecture ≡ Ppc64) (i : ℕ)
-    (below : i < count l) (name : Ppc64Relocation) (a : IsAfter 4 name)
-    (Holds : ℕ → Operands → Type 0) → Becomes name l i Holds → UntouchedBytes l i (offset_of l i) 4
-    → (symbol : Symbol) → slice_get l.symbols (relocation_in l.relocations i).symbol ≡ Some symbol
-    → (got : ℕ)
-    → operands_by Ppc64 l.addresses a.row (named_as name (relocation_in l.relocations i)) symbol
-    (entry_address l.addresses symbol (entry_of a.row (relocation_in l.relocations i).addend symbol.is_thread_local))
-    ≡ Ok (operands_with Ppc64 l.addresses a.row symbol (named_as name (relocation_in l.relocations i)) got)
-    → (o : Operands) → AreAddresses o
-    → value_of a.row (at_place o.place (with_entry got o))
-    ≡ value_of a.row (operands_with Ppc64 l.addresses a.row symbol (named_as name (relocation_in l.relocations i)) got)
-    → Holds got o
-in_final l linked ppc64 i below name a Holds holds left symbol is_symbol got entry_is o small same =
-    holds.1 o got small (
-      o.place,
-      applied_there l linked ppc64 i below 4 (omega arith) name a (named_as name (relocation_in l.relocations i)) (holds.0) refl left
-          symbol is_symbol got entry_is (at_place o.place (with_entry got o)) same,
-    )
-
-pub gone_in_final : (l : Linked) (linked : IsLinked l) (ppc64 : l.context.architecture ≡ Ppc64)
-    (i : ℕ) (below : i < count l) (Holds : Operands → Type 0) → Goes l i Holds
-    → UntouchedBytes l i (offset_of l i) 4 → offset_of l i + 4 ≤ length l.section → IsWrittenByNoOther l i (offset_of l i)
-    → (o : Operands) → AreAddresses o → Holds o
-gone_in_final l linked ppc64 i below Holds holds left inside alone =
-    holds.1 (left_alone l linked ppc64 i below (named_as names.R_PPC64_NONE (relocation_in l.relocations i)) (holds.0) refl (offset_of l i) left inside alone)
 
 -- ---- rows
 
@@ -509,4 +468,77 @@ entry_prefixed_after =
         alone = refl;
         some = λ o. tt;
       };
+    }
+
+-- ---- the theorem
+
+-- of a relocation without an entry
+written : (n : ℕ) → 0 < n → (name : Ppc64Relocation) (a : IsAfter n name)
+    → ((l : Linked) (r : Rela) (symbol : Symbol)
+    → operands_by Ppc64 l.addresses a.row r symbol (entry_address l.addresses symbol (entry_of a.row r.addend symbol.is_thread_local))
+    ≡ Ok (operands_with Ppc64 l.addresses a.row symbol r 0))
+    → ((l : Linked) (r : Rela) (symbol : Symbol) (any : ℕ)
+    → value_of a.row (operands_with Ppc64 l.addresses a.row symbol r any)
+    ≡ value_of a.row (operands_with Ppc64 l.addresses a.row symbol r 0))
+    → IsAppliedIn n (λ symbol any. any) name
+written n some name a none same l linked ppc64 i below code left =
+    let r = relocation_in l.relocations_after i in
+    subst (λ q. IsSomeAnd q (λ row. (symbol : Symbol) (any : ℕ) → slice_get l.symbols r.symbol ≡ Some symbol
+    → IsRelocated name (operands_with Ppc64 l.addresses row symbol r any)
+    (take n (drop r.offset l.rewritten)) (take n (drop r.offset l.final)))) (sym a.is)
+    (λ symbol any is_symbol.
+    applied_there l linked ppc64 i below n some name a r refl code left symbol is_symbol 0 (none l r symbol)
+    (operands_with Ppc64 l.addresses a.row symbol r any) (same l r symbol any))
+
+-- and of one with that of an offset
+written_by_entry : (n : ℕ) → 0 < n → (name : Ppc64Relocation) (a : IsAfter n name)
+    → ((r : Rela) (symbol : Symbol) → entry_of a.row r.addend symbol.is_thread_local
+    ≡ Some (record { class = ThreadOffset; addend = r.addend }))
+    → IsAppliedIn n (λ symbol any. symbol.thread_entry) name
+written_by_entry n some name a has l linked ppc64 i below code left =
+    let r = relocation_in l.relocations_after i in
+    subst (λ q. IsSomeAnd q (λ row. (symbol : Symbol) (any : ℕ) → slice_get l.symbols r.symbol ≡ Some symbol
+    → IsRelocated name (operands_with Ppc64 l.addresses row symbol r symbol.thread_entry)
+    (take n (drop r.offset l.rewritten)) (take n (drop r.offset l.final)))) (sym a.is)
+    (λ symbol any is_symbol.
+    applied_there l linked ppc64 i below n some name a r refl code left symbol is_symbol symbol.thread_entry
+    (ap (λ e. operands_by Ppc64 l.addresses a.row r symbol (entry_address l.addresses symbol e)) (has r symbol)
+    ∙ ap (λ b. operands_by Ppc64 l.addresses a.row r symbol (cond b (Some symbol.thread_entry) None))
+    (entry_there l linked ppc64 i below n name a r refl code left symbol is_symbol
+    (record { class = ThreadOffset; addend = r.addend }) (has r symbol)))
+    (operands_with Ppc64 l.addresses a.row symbol r symbol.thread_entry) refl)
+
+pub final_bytes : FinalBytes
+final_bytes =
+    record {
+      calls = written 4 (omega arith) names.R_PPC64_REL24 call_after (λ l r s. refl) (λ l r s any. refl);
+      near_toc = (
+        written 4 (omega arith) names.R_PPC64_TOC16 toc_after (λ l r s. refl) (λ l r s any. refl),
+        written 4 (omega arith) names.R_PPC64_TOC16_DS toc_words_after (λ l r s. refl) (λ l r s any. refl),
+        written 4 (omega arith) names.R_PPC64_TOC16_HA toc_high_after (λ l r s. refl) (λ l r s any. refl),
+        written 4 (omega arith) names.R_PPC64_TOC16_LO toc_low_after (λ l r s. refl) (λ l r s any. refl),
+        written 8 (omega arith) names.R_PPC64_PCREL34 distance_after (λ l r s. refl) (λ l r s any. refl),
+      );
+      near_thread = (
+        written 4 (omega arith) names.R_PPC64_TPREL16 thread_after (λ l r s. refl) (λ l r s any. refl),
+        written 4 (omega arith) names.R_PPC64_TPREL16_DS thread_words_after (λ l r s. refl) (λ l r s any. refl),
+        written 4 (omega arith) names.R_PPC64_TPREL16_HA thread_high_after (λ l r s. refl) (λ l r s any. refl),
+        written 4 (omega arith) names.R_PPC64_TPREL16_LO thread_low_after (λ l r s. refl) (λ l r s any. refl),
+        written 4 (omega arith) names.R_PPC64_TPREL16_LO_DS thread_low_words_after (λ l r s. refl) (λ l r s any. refl),
+        written 8 (omega arith) names.R_PPC64_TPREL34 thread_prefixed_after (λ l r s. refl) (λ l r s any. refl),
+      );
+      by_entries = (
+        written_by_entry 4 (omega arith) names.R_PPC64_GOT_TPREL16_HA entry_high_after (λ r s. refl),
+        written_by_entry 4 (omega arith) names.R_PPC64_GOT_TPREL16_LO_DS entry_low_after (λ r s. refl),
+        written_by_entry 4 (omega arith) names.R_PPC64_GOT_TPREL16_DS near_entry_after (λ r s. refl),
+        written_by_entry 8 (omega arith) names.R_PPC64_GOT_TPREL_PCREL34 entry_prefixed_after (λ r s. refl),
+      );
+      gone = λ l linked ppc64 i p below code left inside alone.
+          left_alone l linked ppc64 i below (relocation_in l.relocations_after i) refl code p left inside alone;
+      before_low_half = λ l linked ppc64 i p below apart left inside alone.
+          left_beside l linked ppc64 i below names.R_PPC64_TPREL16_LO thread_low_after (relocation_in l.relocations_after i) refl
+          (apart.0) p left inside (inl (apart.1)) alone;
+      after_call = λ l linked ppc64 i p below apart left inside alone.
+          left_beside l linked ppc64 i below names.R_PPC64_REL24 call_after (relocation_in l.relocations_after i) refl
+          (apart.0) p left inside (inr (apart.1)) alone;
     }

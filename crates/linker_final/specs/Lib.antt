@@ -14,14 +14,11 @@ pub mod LoongArchPacked
 pub mod LoongArchSteps
 pub mod LoongArchTable
 pub mod Packed
-pub mod Ppc64Anywhere
 pub mod Ppc64Executed
 pub mod Ppc64Final
 pub mod Ppc64FunctionsExecuted
-pub mod Ppc64PrefixedFinal
 pub mod Ppc64Steps
 pub mod Ppc64Table
-pub mod Ppc64Twice
 pub mod Ppc64VectorsExecuted
 pub mod Relaxed
 pub mod RiscVExecuted
@@ -33,7 +30,6 @@ pub mod RiscVSteps
 pub mod RiscVTable
 pub mod Sequences
 pub mod Steps
-pub mod Twice
 pub mod X86Executed
 pub mod X86Final
 pub mod X86Steps

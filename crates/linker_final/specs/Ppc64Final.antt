@@ -1,550 +1,262 @@
--- PowerPC64: in the final bytes of a section rewritten instructions do what the object's do with
--- the values of their relocations (64-bit ELF V2 ABI for Power, "TOC Optimizations" and "TLS
--- Linkage Optimizations"). Most are rewritten each by itself, and the theorem of one is of two
--- runs: of the object's instruction with the value of its relocation, and of the final bytes.
-use Rattle.std.specs.Prelude.{◌≡◌, ◌⊎◌, ℕ, ◌+◌, ◌<◌, ◌^◌, List, Some}
-use Rattle.std.specs.Prelude.{IsSomeAnd, IsTrue, Option, slice_get, false}
-use Rattle.linker_elf.specs.ElfNames.{IsNameOf}
+-- PowerPC64: rewritten instructions are groups of the simulation (64-bit ELF V2 ABI for Power, "TOC
+-- Optimizations" and "TLS Linkage Optimizations"). This is of one call that rewrites, whatever
+-- applies the relocations that it leaves. So another phase may come between, and one may rewrite
+-- them again. In the final bytes they are applied.
+use Rattle.std.specs.Prelude.{◌≡◌, ◌⊎◌, ℕ, ◌+◌, ◌-◌, ◌<◌, ◌≤◌, IsSomeAnd}
+use Rattle.std.specs.Prelude.{length, take, drop, slice_get, Some}
+use Rattle.linker_elf.specs.ElfNames.{IsNameOf, code_of}
 use Rattle.linker_elf.specs.Ppc64Relocations.{ppc64_name, ppc64_row}
 use Rattle.linker_elf.specs.Value.{sum_64}
+use Rattle.linker_elf.specs.declared.elf.architecture.Architecture.TheVariants.{Ppc64}
 use Rattle.linker_elf.specs.declared.elf.choice.Choice.{Choice}
-use Rattle.linker_elf.specs.declared.elf.value.Operands.{Operands}
-use Rattle.linker_elf.specs.declared.ppc64.forms.Ppc64Instruction.{Ppc64Instruction}
-use Rattle.linker_elf.specs.declared.ppc64.forms.Ppc64Instruction.TheVariants.{D, Ds}
 use Rattle.linker_elf.specs.declared.ppc64.relocations.Ppc64Relocation.{Ppc64Relocation}
 use Rattle.linker_elf.specs.declared.ppc64.relocations.Ppc64Relocation.TheVariants as names
-use Rattle.linker_final.specs.Final.{Linked, IsLinked, count, instruction_at, two_at}
-use Rattle.linker_final.specs.Final.{UntouchedBytes, IsRewrittenByNoOther, IsWrittenByNoOther}
-use Rattle.linker_final.specs.Ppc64PrefixedFinal.{BlockArgumentIsAlike, BranchToNopIsAlike}
-use Rattle.linker_final.specs.Ppc64PrefixedFinal.{BranchToSumIsAlike, EntryArgumentIsAlike}
-use Rattle.linker_final.specs.Ppc64PrefixedFinal.{OverVariableIsAlike, PrefixedOffsetIsAlike}
-use Rattle.linker_final.specs.Ppc64PrefixedFinal.{VariableArgumentIsAlike, marked_offset}
-use Rattle.linker_laws.specs.Machine.{loaded}
-use Rattle.linker_laws.specs.Ppc64Machine.{State, Formats, AreAlikeBut, step, step_prefixed, write}
-use Rattle.linker_laws.specs.Ppc64Machine.{access_with, go_on, word_access_with}
-use Rattle.linker_laws.specs.Ppc64RewriteLaws.{indexed_access}
-use Rattle.linker_laws.specs.Ppc64RewriteLaws.{AgreeBut, Changes, IsRelocated, Leads, LowHalfLeads}
-use Rattle.linker_laws.specs.Ppc64RewriteLaws.{StepSo, Use, accesses, adds, is_d_over, ds_access}
-use Rattle.linker_laws.specs.Ppc64RewriteLaws.{HaveSameAccess, address_read, is_ds_over_base}
-use Rattle.linker_laws.specs.Ppc64RewriteLaws.{CallLeaves, CallSo, HasArgument, HasOffset, IsCall}
-use Rattle.linker_laws.specs.Ppc64RewriteLaws.{Leaves, both, one, only}
-use Rattle.linker_laws.specs.Ppc64RewriteLaws.{entry_from_toc, from_thread, from_toc, prefixed_of}
-use Rattle.linker_laws.specs.Ppc64RewriteLaws.{without_register}
-use Rattle.linker_laws.specs.Ppc64RewriteLaws.{thread_offset, with_entry, with_register}
-use Rattle.linker_laws.specs.Ppc64RewriteLaws.{is_vector_over_base, word_of, two}
-use Rattle.linker_laws.specs.Schemes.{AreAddresses, symbol_address}
-use Rattle.linker_utils.specs.Ppc64Rewrites.{access_of, is_add_of_thread, is_addi, is_indexed}
-use Rattle.linker_utils.specs.Ppc64Rewrites.{is_indexed_any, is_indexed_word, ra_of, rt_of}
-use Rattle.linker_utils.specs.declared.ppc64.rewrites.RewriteKind.{RewriteKind}
-use Rattle.linker_utils.specs.declared.ppc64.rewrites.RewriteKind.TheVariants as kinds
+use Rattle.linker_final.specs.Final.{AreBytes, AreRewritten, IsLinked, IsRewrittenByNoOther}
+use Rattle.linker_final.specs.Final.{IsWrittenByNoOther, Linked, UntouchedBytes, count}
+use Rattle.linker_final.specs.Final.{instruction_at}
+use Rattle.linker_laws.specs.Ppc64Groups as groups
+use Rattle.linker_laws.specs.Ppc64Groups.{AreGroup, CallTo, LowOverBase, WordOverBase}
+use Rattle.linker_laws.specs.Ppc64RewriteLaws.{IsRelocated, from_thread, from_toc}
 use Rattle.linker_rewriting.specs.Decisions.{decision_at}
 use Rattle.linker_rewriting.specs.declared.decisions.Decision.TheVariants.{Rewritten}
+use Rattle.linker_rewriting.specs.declared.phases.Phase.{Phase}
+use Rattle.linker_rewriting.specs.declared.phases.Phase.TheVariants as phases
 use Rattle.linker_section.specs.Relocations.{relocation_in}
 use Rattle.linker_section.specs.Values.{operands_with}
 use Rattle.linker_section.specs.declared.facts.Symbol.{Symbol}
+use Rattle.linker_section.specs.declared.relocations.Rela.{Rela}
 use Rattle.linker_utils.specs.declared.architecture.Relaxation.{Relaxation}
 use Rattle.linker_utils.specs.declared.architecture.Relaxation.TheVariants as relaxations
-use Rattle.linker_elf.specs.declared.elf.architecture.Architecture.TheVariants.{Ppc64}
+use Rattle.linker_utils.specs.declared.ppc64.rewrites.RewriteKind.{RewriteKind}
+use Rattle.linker_utils.specs.declared.ppc64.rewrites.RewriteKind.TheVariants as kinds
 
--- ---- of one relocation
+-- ---- what a call of rewriting leaves
 
--- the offset of the relocation at an index, and the object's and the final instruction there
 abbrev pub offset_of : Linked → ℕ → ℕ
 offset_of l i = (relocation_in l.relocations i).offset
 
-abbrev pub object : Linked → ℕ → List ℕ
-object l i = instruction_at l.section (offset_of l i)
+-- a relocation that gets a name, and one that is then of the next instruction
+abbrev pub named_as : Ppc64Relocation → Rela → Rela
+named_as name r = record r { code = code_of (ppc64_name name) }
 
-abbrev pub final : Linked → ℕ → List ℕ
-final l i = instruction_at l.final (offset_of l i)
+abbrev pub named_after : Ppc64Relocation → Rela → Rela
+named_after name r = record (named_as name r) { offset = r.offset + 4 }
 
--- It holds for the operands that the formula of a row has for it, wherever a GOT entry is.
-abbrev pub ForOperands : Ppc64Relocation → Linked → ℕ → (Symbol → Operands → Type 0) → Type 0
-ForOperands name l i Holds =
-    IsSomeAnd (ppc64_row name) (λ row. (symbol : Symbol) (entry : ℕ)
-    → slice_get l.symbols (relocation_in l.relocations i).symbol ≡ Some symbol
-    → let o = operands_with Ppc64 l.addresses row symbol (relocation_in l.relocations i) entry in
-    AreAddresses o → Holds symbol o)
+-- what is said of the rewrite of the relocation at an index
+abbrev pub OfRewrite : Type 1
+OfRewrite = Linked → ℕ → Choice Relaxation ℕ → Type 0
 
--- It is rewritten so, and P holds.
-abbrev pub IfRewrittenBy : RewriteKind → Choice Relaxation ℕ → Type 0 → Type 0
-IfRewrittenBy kind chosen P = (chosen.kind ≡ relaxations.Ppc64 kind) × P
+-- The relocation becomes another one, and n bytes from an offset on are a group with what they
+-- become.
+pub record Becomes (kind : RewriteKind) (after : Rela) (at n : ℕ) (AreSo : AreGroup) (l : Linked)
+    (i : ℕ) (chosen : Choice Relaxation ℕ) : Type 0 where
+  pub kind_is : chosen.kind ≡ relaxations.Ppc64 kind
+  pub after_is : relocation_in l.relocations_after i ≡ after
+  pub inside : at + n ≤ length l.section
+  pub group : AreSo (take n (drop at l.section)) (take n (drop at l.rewritten))
 
--- It holds where later phases leave the relocation and n bytes from an offset on alone.
-abbrev pub IfUntouched : ℕ → Linked → ℕ → ℕ → Type 0 → Type 0
-IfUntouched len l i o Holds = UntouchedBytes l i o len → Holds
+-- of an instruction at the relocation, which gets a name
+abbrev pub Word : RewriteKind → Ppc64Relocation → AreGroup → OfRewrite
+Word kind name AreSo l i =
+    Becomes kind (named_as name (relocation_in l.relocations i)) (offset_of l i) 4 AreSo l i
+
+-- of one that stays, where no other rewrite has a byte of it
+abbrev pub Kept : Ppc64Relocation → AreGroup → OfRewrite
+Kept name AreSo l i =
+    Word kinds.KeepAddis name
+    (λ before after. IsRewrittenByNoOther l i (offset_of l i) → AreSo before after) l i
+
+-- of 8 bytes
+abbrev pub Two : RewriteKind → Ppc64Relocation → AreGroup → OfRewrite
+Two kind name AreSo l i =
+    Becomes kind (named_as name (relocation_in l.relocations i)) (offset_of l i) 8
+    (λ before after. AreBytes l.section → AreSo before after) l i
+
+-- of a call and of the `nop` after it, which gets the relocation
+abbrev pub Call : RewriteKind → Ppc64Relocation → AreGroup → OfRewrite
+Call kind name AreSo l i =
+    Becomes kind (named_after name (relocation_in l.relocations i)) (offset_of l i) 8 AreSo l i
+
+-- of an instruction whose second byte is at the relocation, which goes
+abbrev pub Marked : RewriteKind → AreGroup → OfRewrite
+Marked kind AreSo l i =
+    Becomes kind (named_as names.R_PPC64_NONE (relocation_in l.relocations i)) (offset_of l i - 1) 4
+    AreSo l i
+
+-- what P says, or what Q does
+abbrev pub Either : OfRewrite → OfRewrite → OfRewrite
+Either P Q l i chosen = P l i chosen ⊎ Q l i chosen
 
 -- each relocation of a name whose instruction is rewritten
-abbrev pub EachChosen : Ppc64Relocation → (Linked → ℕ → Choice Relaxation ℕ → Type 0) → Type 0
-EachChosen name Holds =
-    (l : Linked) → IsLinked l → l.context.architecture ≡ Ppc64
+abbrev pub Each : Ppc64Relocation → OfRewrite → Type 0
+Each name Holds =
+    (l : Linked) → AreRewritten l → l.context.architecture ≡ Ppc64
     → (i : ℕ) (chosen : Choice Relaxation ℕ) → i < count l
     → IsNameOf ppc64_name (relocation_in l.relocations i).code name
     → decision_at l.decisions i ≡ Rewritten chosen → Holds l i chosen
 
--- where later phases leave it and n bytes from its offset on alone
-abbrev pub EachRewritten : ℕ → Ppc64Relocation → (Linked → ℕ → Choice Relaxation ℕ → Type 0)
-    → Type 0
-EachRewritten len name Holds =
-    EachChosen name (λ l i chosen. IfUntouched len l i (offset_of l i) (Holds l i chosen))
+-- The call stays.
+abbrev pub CallAndToc : AreGroup
+CallAndToc before after = (take 4 after ≡ take 4 before) × groups.RestoresToc before after
 
--- ---- calls
+-- Every rewritten instruction is a group.
+pub record RewritesAreGroups : Type 0 where
+  pub calls : Each names.R_PPC64_REL24 (Two kinds.NopToRestoreToc names.R_PPC64_REL24 CallAndToc)
+  -- near the TOC pointer
+  pub toc_highs :
+      Each names.R_PPC64_TOC16_HA (Word kinds.AddisToNop names.R_PPC64_NONE groups.TocHigh)
+  pub toc_lows : Each names.R_PPC64_TOC16_LO (Word kinds.BaseToToc names.R_PPC64_TOC16
+      (LowOverBase 2 names.R_PPC64_TOC16_LO names.R_PPC64_TOC16 from_toc))
+  pub toc_words : Each names.R_PPC64_TOC16_LO_DS (Word kinds.BaseToToc names.R_PPC64_TOC16_DS
+      (WordOverBase 2 names.R_PPC64_TOC16_LO_DS names.R_PPC64_TOC16_DS from_toc))
+  -- near the thread pointer
+  pub thread_highs :
+      Each names.R_PPC64_TPREL16_HA
+      (Word kinds.AddisThreadToNop names.R_PPC64_NONE groups.ThreadHigh)
+  pub thread_lows : Each names.R_PPC64_TPREL16_LO (Word kinds.BaseToThread names.R_PPC64_TPREL16
+      (LowOverBase 13 names.R_PPC64_TPREL16_LO names.R_PPC64_TPREL16 from_thread))
+  pub thread_words :
+      Each names.R_PPC64_TPREL16_LO_DS (Word kinds.BaseToThread names.R_PPC64_TPREL16_DS
+      (WordOverBase 13 names.R_PPC64_TPREL16_LO_DS names.R_PPC64_TPREL16_DS from_thread))
+  -- loads of addresses
+  pub prefixed_loads :
+      Each names.R_PPC64_GOT_PCREL34 (Two kinds.PldToPaddi names.R_PPC64_PCREL34 groups.PldToPaddi)
+  pub address_highs :
+      Each names.R_PPC64_GOT16_HA (Kept names.R_PPC64_TOC16_HA groups.AddressHigh)
+  pub loads :
+      Each names.R_PPC64_GOT16_LO_DS (Word kinds.LdToAddi names.R_PPC64_TOC16_LO groups.LoadToSum)
+  -- initial-exec
+  pub offset_highs :
+      Each names.R_PPC64_GOT_TPREL16_HA (Word kinds.AddisToNop names.R_PPC64_NONE groups.OffsetHigh)
+  pub offsets :
+      Each names.R_PPC64_GOT_TPREL16_LO_DS (Word kinds.LdToAddisThread names.R_PPC64_TPREL16_HA
+      (groups.OffsetToHighHalf names.R_PPC64_GOT_TPREL16_LO_DS))
+  pub near_offsets :
+      Each names.R_PPC64_GOT_TPREL16_DS (Word kinds.LdToAddisThread names.R_PPC64_TPREL16_HA
+      (groups.OffsetToHighHalf names.R_PPC64_GOT_TPREL16_DS))
+  pub prefixed_offsets : Each names.R_PPC64_GOT_TPREL_PCREL34
+      (Two kinds.PldToPaddiThread names.R_PPC64_TPREL34 groups.LoadToVariable)
+  pub over_offsets : Each names.R_PPC64_TLS
+      (Either (Word kinds.AddToAddi names.R_PPC64_TPREL16_LO groups.AddOverOffset)
+      (Either (Word kinds.IndexedToD names.R_PPC64_TPREL16_LO groups.AccessOverOffset)
+      (Either (Word kinds.IndexedToDs names.R_PPC64_TPREL16_LO_DS groups.WordOverOffset)
+      (Either (Marked kinds.AddToMove groups.SumOverVariable)
+      (Marked kinds.IndexedToDirect groups.AccessOverVariable)))))
+  -- general-dynamic, for local-exec and for initial-exec
+  pub general_highs : Each names.R_PPC64_GOT_TLSGD16_HA
+      (Either (Word kinds.AddisToNop names.R_PPC64_NONE groups.GeneralHigh)
+      (Kept names.R_PPC64_GOT_TPREL16_HA groups.EntryHigh))
+  pub arguments : Each names.R_PPC64_GOT_TLSGD16_LO
+      (Either (Word kinds.AddiToAddisThread names.R_PPC64_TPREL16_HA
+      (groups.ArgumentToHighHalf names.R_PPC64_GOT_TLSGD16_LO))
+      (Word kinds.AddiToLd names.R_PPC64_GOT_TPREL16_LO_DS
+      (groups.ArgumentToOffset names.R_PPC64_GOT_TLSGD16_LO names.R_PPC64_GOT_TPREL16_LO_DS)))
+  pub near_arguments : Each names.R_PPC64_GOT_TLSGD16
+      (Either (Word kinds.AddiToAddisThread names.R_PPC64_TPREL16_HA
+      (groups.ArgumentToHighHalf names.R_PPC64_GOT_TLSGD16))
+      (Word kinds.AddiToLd names.R_PPC64_GOT_TPREL16_DS
+      (groups.ArgumentToOffset names.R_PPC64_GOT_TLSGD16 names.R_PPC64_GOT_TPREL16_DS)))
+  pub prefixed_arguments : Each names.R_PPC64_GOT_TLSGD_PCREL34
+      (Either (Two kinds.PaddiToPaddiThread names.R_PPC64_TPREL34 groups.ArgumentToVariable)
+      (Two kinds.PaddiToPld names.R_PPC64_GOT_TPREL_PCREL34 groups.ArgumentToLoad))
+  pub general_calls : Each names.R_PPC64_TLSGD
+      (Either (Word kinds.BranchToNop names.R_PPC64_NONE (CallTo 1 groups.keep_number))
+      (Either (Word kinds.BranchToAdd names.R_PPC64_NONE (CallTo 1 sum_64))
+      (Either (Call kinds.CallToAddi names.R_PPC64_TPREL16_LO groups.CallToLowHalf)
+      (Call kinds.CallToAdd names.R_PPC64_NONE (CallTo 2 sum_64)))))
+  -- local-dynamic
+  pub module_highs :
+      Each names.R_PPC64_GOT_TLSLD16_HA (Word kinds.AddisToNop names.R_PPC64_NONE groups.ModuleHigh)
+  pub module_arguments :
+      Each names.R_PPC64_GOT_TLSLD16_LO (Word kinds.AddiToAddisThread names.R_PPC64_NONE
+      (groups.ArgumentToThread names.R_PPC64_GOT_TLSLD16_LO))
+  pub near_module_arguments :
+      Each names.R_PPC64_GOT_TLSLD16 (Word kinds.AddiToAddisThread names.R_PPC64_NONE
+      (groups.ArgumentToThread names.R_PPC64_GOT_TLSLD16))
+  pub prefixed_blocks : Each names.R_PPC64_GOT_TLSLD_PCREL34
+      (Two kinds.PaddiToPaddi4096 names.R_PPC64_NONE groups.ArgumentToBlock)
+  pub module_calls : Each names.R_PPC64_TLSLD
+      (Either (Word kinds.BranchToNop names.R_PPC64_NONE (CallTo 1 groups.keep_number))
+      (Call kinds.CallToAddi4096 names.R_PPC64_NONE (CallTo 2 groups.add_block)))
 
--- In place of the `nop` to which a call returns register 2 gets the doubleword at r1 + 24.
-abbrev pub NopRestoresToc : Linked → ℕ → Type 0
-NopRestoresToc l i =
-    let following = offset_of l i + 4 in
-    (f : Formats) (s : State)
-    → (step f (word_of (instruction_at l.section following)) s ≡ Some (go_on s))
-    × (step f (word_of (instruction_at l.final following)) s
-    ≡ Some (go_on (write 2 (loaded 8 s.memory (sum_64 (s.registers 1) 24)) s)))
+-- ---- in the final bytes
 
--- The call is the object's with the value of its relocation.
-abbrev pub RestoresToc : Linked → ℕ → Operands → Type 0
-RestoresToc l i o =
-    IsRelocated names.R_PPC64_REL24 o (object l i) (final l i)
-    × (IsWrittenByNoOther l i (offset_of l i + 4) → NopRestoresToc l i)
+-- Where later phases leave it and n bytes alone, a relocation of a name that a rewrite left is
+-- applied to them. A GOT entry is where a function of its symbol and of any address says.
+abbrev pub IsApplied : ℕ → (Symbol → ℕ → ℕ) → Ppc64Relocation → Type 0
+IsApplied n entry name =
+    (l : Linked) → IsLinked l → l.context.architecture ≡ Ppc64 → (i : ℕ) → i < count l
+    → let r = relocation_in l.relocations_after i in
+    r.code ≡ code_of (ppc64_name name) → UntouchedBytes l i r.offset n
+    → IsSomeAnd (ppc64_row name) (λ row. (symbol : Symbol) (any : ℕ)
+    → slice_get l.symbols r.symbol ≡ Some symbol
+    → IsRelocated name (operands_with Ppc64 l.addresses row symbol r (entry symbol any))
+    (take n (drop r.offset l.rewritten)) (take n (drop r.offset l.final)))
 
--- of every call that is rewritten
-abbrev pub Calls : Type 0
-Calls =
-    EachRewritten 8 names.R_PPC64_REL24
-    (λ l i chosen. ForOperands names.R_PPC64_REL24 l i (λ symbol. RestoresToc l i))
+-- An instruction in which no other relocation has a field is the rewritten one, where the field of
+-- the own relocation isn't there either.
+abbrev pub IsLeft : (Rela → ℕ → Type 0) → Type 0
+IsLeft IsApart =
+    (l : Linked) → IsLinked l → l.context.architecture ≡ Ppc64 → (i p : ℕ) → i < count l
+    → IsApart (relocation_in l.relocations_after i) p → UntouchedBytes l i p 4
+    → p + 4 ≤ length l.section → IsWrittenByNoOther l i p
+    → instruction_at l.final p ≡ instruction_at l.rewritten p
 
--- ---- halves
+abbrev pub has_name : Ppc64Relocation → Rela → Type 0
+has_name name r = r.code ≡ code_of (ppc64_name name)
 
--- It holds where no other relocation has a field in the instruction.
-abbrev pub IfAlone : Linked → ℕ → Type 0 → Type 0
-IfAlone l i Holds = IsWrittenByNoOther l i (offset_of l i) → Holds
+-- to a word, or to 8 bytes
+abbrev pub OfWord : Ppc64Relocation → Type 0
+OfWord = IsApplied 4 (λ symbol any. any)
 
--- A high half over a register became `nop`. In the object's run its register then has a number from
--- which the low halves lead to the address.
-abbrev pub NopIsAlike : ℕ → Ppc64Relocation → (Operands → ℕ → ℕ) → (Operands → ℕ → ℕ → Type 0)
-    → Linked → ℕ → Operands → Type 0
-NopIsAlike register high address LowHalvesLead l i o =
-    (f : Formats) (s t : State) (c : Changes) (addis : List ℕ) → AgreeBut c s t
-    → IsRelocated high o (object l i) addis
-    → let x = rt_of (word_of (object l i)) in
-    StepSo f (word_of addis) s (word_of (final l i)) t
-    (λ u v. AgreeBut (with_register x c) u v
-    × LowHalvesLead o (u.registers x) (address o (s.registers register)))
+abbrev pub OfTwo : Ppc64Relocation → Type 0
+OfTwo = IsApplied 8 (λ symbol any. any)
 
--- A low half over a register that leads to the address, and the final instruction over the base.
-abbrev pub OverBaseIsAlike : ℕ → Ppc64Relocation → Ppc64Instruction → (Operands → ℕ → ℕ) → Use
-    → Linked → ℕ → Operands → Type 0
-OverBaseIsAlike register low form address does l i o =
-    let word = word_of (object l i) in
-    (f : Formats) (s t : State) (c : Changes) (insn : List ℕ) → AgreeBut c s t
-    → IsTrue (does.test word)
-    → let target = address o (t.registers register) in
-    Leads low form o (s.registers (ra_of word)) target → does.Requires c word target
-    → IsRelocated low o (object l i) insn
-    → StepSo f (word_of insn) s (word_of (final l i)) t (AgreeBut (does.after c word))
+-- by the entry of an offset
+abbrev pub ByOffset : ℕ → Ppc64Relocation → Type 0
+ByOffset n = IsApplied n (λ symbol any. symbol.thread_entry)
 
--- `lq` and accesses of vector registers: of one address
-abbrev pub VectorIsAlike : ℕ → Ppc64Relocation → (Operands → ℕ → ℕ) → Linked → ℕ → Operands → Type 0
-VectorIsAlike register low address l i o =
-    let word = word_of (object l i) in
-    (s t : State) (insn : List ℕ) → IsTrue (is_vector_over_base word)
-    → Leads low Ds o (s.registers (ra_of word)) (address o (t.registers register))
-    → IsRelocated low o (object l i) insn
-    → (address_read (word_of insn) s ≡ address_read (word_of (final l i)) t)
-    × HaveSameAccess (word_of insn) (word_of (final l i))
+-- what the final bytes have, by the names that rewrites leave
+pub record FinalBytes : Type 0 where
+  pub calls : OfWord names.R_PPC64_REL24
+  pub near_toc :
+      OfWord names.R_PPC64_TOC16 × OfWord names.R_PPC64_TOC16_DS × OfWord names.R_PPC64_TOC16_HA
+      × OfWord names.R_PPC64_TOC16_LO × OfTwo names.R_PPC64_PCREL34
+  pub near_thread :
+      OfWord names.R_PPC64_TPREL16 × OfWord names.R_PPC64_TPREL16_DS
+      × OfWord names.R_PPC64_TPREL16_HA × OfWord names.R_PPC64_TPREL16_LO
+      × OfWord names.R_PPC64_TPREL16_LO_DS × OfTwo names.R_PPC64_TPREL34
+  pub by_entries :
+      ByOffset 4 names.R_PPC64_GOT_TPREL16_HA × ByOffset 4 names.R_PPC64_GOT_TPREL16_LO_DS
+      × ByOffset 4 names.R_PPC64_GOT_TPREL16_DS × ByOffset 8 names.R_PPC64_GOT_TPREL_PCREL34
+  pub gone : IsLeft (λ r p. has_name names.R_PPC64_NONE r)
+  pub before_low_half : IsLeft (λ r p. has_name names.R_PPC64_TPREL16_LO r × (p + 4 ≤ r.offset))
+  pub after_call : IsLeft (λ r p. has_name names.R_PPC64_REL24 r × (r.offset + 4 ≤ p))
 
--- the low halves of D-form: an address in a register, and accesses
-abbrev pub LowHalf : ℕ → Ppc64Relocation → (Operands → ℕ → ℕ) → Type 0
-LowHalf register low address =
-    EachRewritten 4 low (λ l i chosen. ForOperands low l i (λ symbol o.
-    OverBaseIsAlike register low D address (adds is_addi) l i o
-    × OverBaseIsAlike register low D address is_d_over l i o))
+-- ---- what is rewritten again
 
--- and those of DS-form
-abbrev pub WordLowHalf : ℕ → Ppc64Relocation → (Operands → ℕ → ℕ) → Type 0
-WordLowHalf register low address =
-    EachRewritten 4 low (λ l i chosen. ForOperands low l i (λ symbol o.
-    OverBaseIsAlike register low Ds address (accesses is_ds_over_base ds_access) l i o
-    × VectorIsAlike register low address l i o))
+-- Instructions with a relocation of a name are rewritten in one phase alone, or in none.
+abbrev pub IsOfPhase : Phase → Ppc64Relocation → Type 0
+IsOfPhase phase name = Each name (λ l i chosen. l.context.phase ≡ phase)
 
--- the high half of an address near the TOC pointer, and of one near the thread pointer
-abbrev pub TocHighIsAlike : Linked → ℕ → Operands → Type 0
-TocHighIsAlike =
-    NopIsAlike 2 names.R_PPC64_TOC16_HA from_toc
-    (λ o n a. Leads names.R_PPC64_TOC16_LO D o n a × Leads names.R_PPC64_TOC16_LO_DS Ds o n a)
+abbrev pub IsOfNoPhase : Ppc64Relocation → Type 0
+IsOfNoPhase name = Each name (λ l i chosen. ⊥)
 
-abbrev pub ThreadHighIsAlike : Linked → ℕ → Operands → Type 0
-ThreadHighIsAlike = NopIsAlike 13 names.R_PPC64_TPREL16_HA from_thread LowHalfLeads
-
--- of every half of an address near the TOC pointer
-abbrev pub TocHalves : Type 0
-TocHalves =
-    EachRewritten 4 names.R_PPC64_TOC16_HA (λ l i chosen. ForOperands names.R_PPC64_TOC16_HA l i
-    (λ symbol o. IfAlone l i (TocHighIsAlike l i o)))
-    × LowHalf 2 names.R_PPC64_TOC16_LO from_toc × WordLowHalf 2 names.R_PPC64_TOC16_LO_DS from_toc
-
--- of every half of an address near the thread pointer
-abbrev pub ThreadHalves : Type 0
-ThreadHalves =
-    EachRewritten 4 names.R_PPC64_TPREL16_HA (λ l i chosen. ForOperands names.R_PPC64_TPREL16_HA l i
-    (λ symbol o. IfAlone l i (ThreadHighIsAlike l i o)))
-    × LowHalf 13 names.R_PPC64_TPREL16_LO from_thread
-    × WordLowHalf 13 names.R_PPC64_TPREL16_LO_DS from_thread
-
--- ---- initial-exec
-
--- `ld rT` of the GOT entry of the offset, over a register that leads to it, and `addis rT,13`
-abbrev pub OffsetIsAlike : Linked → ℕ → Operands → Type 0
-OffsetIsAlike l i o =
-    let word = word_of (object l i) in
-    (f : Formats) (s t : State) (c : Changes) (ld : List ℕ) (entry : ℕ) → AgreeBut c s t
-    → Leads names.R_PPC64_GOT_TPREL16_LO_DS Ds o (s.registers (ra_of word)) entry
-    → loaded 8 s.memory entry ≡ thread_offset o
-    → IsRelocated names.R_PPC64_GOT_TPREL16_LO_DS o (object l i) ld
-    → StepSo f (word_of ld) s (word_of (final l i)) t
-    (λ u v. AgreeBut (with_register (rt_of word) c) u v
-    × HasOffset o (rt_of word) (t.registers 13) u v)
-
--- `ld rT,x(2)` of it, and `addis rT,13`
-abbrev pub NearOffsetIsAlike : Linked → ℕ → Operands → Type 0
-NearOffsetIsAlike l i o =
-    let rt = rt_of (word_of (object l i)) in
-    (f : Formats) (s : State) (ld : List ℕ) → s.registers 2 ≡ o.got_base
-    → ra_of (word_of (object l i)) ≡ 2 → loaded 8 s.memory o.got_entry ≡ thread_offset o
-    → IsRelocated names.R_PPC64_GOT_TPREL16_DS o (object l i) ld
-    → Leaves f (only rt) (one ld) s rt (λ n. n ≡ thread_offset o)
-    × Leaves f (only rt) (one (final l i)) s rt
-    (λ n. LowHalfLeads o n (sum_64 (thread_offset o) (s.registers 13)))
-
--- an instruction with the sum of the offset and r13, and one with a low half
-abbrev pub OverOffsetIsAlike : Use → Linked → ℕ → Operands → Type 0
-OverOffsetIsAlike does l i o =
-    let word = word_of (object l i) in
-    (f : Formats) (s t : State) (c : Changes) → AgreeBut c s t
-    → HasOffset o (ra_of word) (s.registers 13) s t
-    → does.Requires c word (from_thread o (s.registers 13))
-    → StepSo f word s (word_of (final l i)) t (AgreeBut (does.after c word))
-
--- the high half of the entry
-abbrev pub HighIsAlike : Linked → ℕ → Operands → Type 0
-HighIsAlike =
-    NopIsAlike 2 names.R_PPC64_GOT_TPREL16_HA entry_from_toc
-    (Leads names.R_PPC64_GOT_TPREL16_LO_DS Ds)
-
--- of an instruction of prefixed code, which begins a byte before the relocation, where no other
--- relocation has a field in it
-abbrev pub MarkedIsAlike : Use → Linked → ℕ → Operands → Type 0
-MarkedIsAlike does l i o =
-    let at = marked_offset l i in
-    IfUntouched 4 l i at (IsWrittenByNoOther l i at → OverVariableIsAlike does l i o)
-
--- an `add`, and loads and stores
-abbrev pub VariableIsAlike : Linked → ℕ → Choice Relaxation ℕ → Operands → Type 0
-VariableIsAlike l i chosen o =
-    IfRewrittenBy kinds.AddToAddi chosen
-    (IfUntouched 4 l i (offset_of l i) (OverOffsetIsAlike (adds is_add_of_thread) l i o))
-    ⊎ IfRewrittenBy kinds.IndexedToD chosen (IfUntouched 4 l i (offset_of l i)
-    (OverOffsetIsAlike (accesses is_indexed (λ word. access_with (access_of word))) l i o))
-    ⊎ IfRewrittenBy kinds.IndexedToDs chosen (IfUntouched 4 l i (offset_of l i)
-    (OverOffsetIsAlike (accesses is_indexed_word (λ word. word_access_with (access_of word)))
-    l i o))
-    ⊎ IfRewrittenBy kinds.AddToMove chosen (MarkedIsAlike (adds is_add_of_thread) l i o)
-    ⊎ IfRewrittenBy kinds.IndexedToDirect chosen (MarkedIsAlike (accesses is_indexed_any indexed_access) l i o)
-
--- of every instruction of initial-exec: S is an offset of the thread's, as in the relocations after
-abbrev pub InitialExec : Type 0
-InitialExec =
-    EachRewritten 4 names.R_PPC64_GOT_TPREL16_HA (λ l i chosen.
-    ForOperands names.R_PPC64_TPREL16_HA l i (λ symbol o. IfAlone l i (HighIsAlike l i o)))
-    × EachRewritten 4 names.R_PPC64_GOT_TPREL16_LO_DS (λ l i chosen.
-    ForOperands names.R_PPC64_TPREL16_HA l i (λ symbol. OffsetIsAlike l i))
-    × EachRewritten 4 names.R_PPC64_GOT_TPREL16_DS (λ l i chosen.
-    ForOperands names.R_PPC64_TPREL16_HA l i (λ symbol. NearOffsetIsAlike l i))
-    × EachChosen names.R_PPC64_TLS (λ l i chosen.
-    ForOperands names.R_PPC64_TPREL16_HA l i (λ symbol. VariableIsAlike l i chosen))
-
--- ---- arguments of `__tls_get_addr`
-
--- `addi rT` of a GOT entry, over a register that leads to it, and the final instruction, after
--- which rT has another number
-abbrev pub ArgumentIsAlike : Ppc64Relocation → (State → ℕ → Type 0) → Linked → ℕ → Operands
-    → Formats → State → State → Type 0
-ArgumentIsAlike low Is l i o f s t =
-    let word = word_of (object l i) in
-    (c : Changes) (addi : List ℕ) (entry : ℕ) → AgreeBut c s t
-    → Leads low D o (s.registers (ra_of word)) entry
-    → IsRelocated low o (object l i) addi
-    → StepSo f (word_of addi) s (word_of (final l i)) t
-    (λ u v. AgreeBut (with_register (rt_of word) c) u v × HasArgument (rt_of word) entry (Is t) u v)
-
--- The high half of the entry of general-dynamic became that of the offset's, at another address.
-abbrev pub EntryIsAlike : Linked → ℕ → ℕ → Operands → Type 0
-EntryIsAlike l i entry o =
-    IsRewrittenByNoOther l i (offset_of l i) → entry < 2 ^ 64
-    → (f : Formats) (s t : State) (c : Changes) (addis : List ℕ) → AgreeBut c s t
-    → IsRelocated names.R_PPC64_GOT_TLSGD16_HA o (object l i) addis
-    → let x = rt_of (word_of (object l i)) in
-    let own = with_entry entry o in
-    StepSo f (word_of addis) s (word_of (final l i)) t
-    (λ u v. AgreeBut (with_register x c) u v
-    × Leads names.R_PPC64_GOT_TLSGD16_LO D o (u.registers x) (entry_from_toc o (s.registers 2))
-    × Leads names.R_PPC64_GOT_TPREL16_LO_DS Ds own (v.registers x)
-    (entry_from_toc own (t.registers 2)))
-
--- `addis rT,13`, from which low halves lead to the variable
-abbrev pub HighArgumentIsAlike : Linked → ℕ → Operands → Type 0
-HighArgumentIsAlike l i o =
-    (f : Formats) (s t : State)
-    → ArgumentIsAlike names.R_PPC64_GOT_TLSGD16_LO
-    (λ t n. LowHalfLeads o n (from_thread o (t.registers 13))) l i o f s t
-
--- `ld rT` of the entry of the offset, over a register that leads to that
-abbrev pub LoadedArgumentIsAlike : Linked → ℕ → ℕ → Operands → Type 0
-LoadedArgumentIsAlike l i entry o =
-    let own = with_entry entry o in
-    let ra = ra_of (word_of (object l i)) in
-    entry < 2 ^ 64 → (f : Formats) (s t : State) (offset : ℕ)
-    → Leads names.R_PPC64_GOT_TPREL16_LO_DS Ds own (t.registers ra) offset
-    → loaded 8 t.memory offset ≡ thread_offset o
-    → ArgumentIsAlike names.R_PPC64_GOT_TLSGD16_LO (λ t n. n ≡ thread_offset o) l i o f s t
-
--- `addis rT,13,0`
-abbrev pub ThreadArgumentIsAlike : Linked → ℕ → Operands → Type 0
-ThreadArgumentIsAlike l i o =
-    (f : Formats) (s t : State)
-    → ArgumentIsAlike names.R_PPC64_GOT_TLSLD16_LO (λ t n. n ≡ sum_64 (t.registers 13) 0)
-    l i o f s t
-
--- ---- calls of `__tls_get_addr`
-
--- the final instructions at a call and after it
-abbrev pub final_call : Linked → ℕ → List ℕ
-final_call l i = two (final l i) (instruction_at l.final (offset_of l i + 4))
-
--- A call returns a number, which the final instructions make of what register 3 has in their run.
-abbrev pub CallIsAlike : ℕ → (ℕ → Type 0) → Linked → ℕ → Formats → State → State → Type 0
-CallIsAlike number Is l i f s t =
-    (call : State → Option State) (changes c : Changes) (bl : List ℕ)
-    → AgreeBut c s t → IsCall call changes number Is s t bl
-    → CallSo f call (without_register 3 (both c changes)) bl s (final_call l i) t
-
--- `nop` and `addi 3,3` with a low half: the address of the variable
-abbrev pub CallToLowHalfIsAlike : Linked → ℕ → Operands → Type 0
-CallToLowHalfIsAlike l i o =
-    (f : Formats) (s t : State)
-    → let number = from_thread o (s.registers 13) in
-    CallIsAlike number (λ n. LowHalfLeads o n number) l i f s t
-
--- `nop` and `add 3,3,13`: the same
-abbrev pub CallToSumIsAlike : Linked → ℕ → Operands → Type 0
-CallToSumIsAlike l i o =
-    (f : Formats) (s t : State) → t.registers 13 ≡ s.registers 13
-    → CallIsAlike (from_thread o (s.registers 13)) (λ n. n ≡ thread_offset o) l i f s t
-
--- `nop` and `addi 3,3,4096`: 0x1000 above the thread pointer
-abbrev pub CallToBlockIsAlike : Linked → ℕ → Type 0
-CallToBlockIsAlike l i =
-    (f : Formats) (s t : State)
-    → CallIsAlike (sum_64 (s.registers 13) 0x1000) (λ n. n ≡ sum_64 (s.registers 13) 0) l i f s t
-
--- It holds where no other relocation has a field in the instruction after the call.
-abbrev pub IfAloneAfter : Linked → ℕ → Type 0 → Type 0
-IfAloneAfter l i Holds = IsWrittenByNoOther l i (offset_of l i + 4) → Holds
-
--- It holds where later phases leave the call of the relocation at an index alone.
-abbrev pub IfUntouchedCall : Linked → ℕ → Type 0 → Type 0
-IfUntouchedCall l j = IfUntouched 8 l j (offset_of l j)
-
--- the same of a call alone, in which no other relocation has a field
-abbrev pub IfBranchIsAlone : Linked → ℕ → Type 0 → Type 0
-IfBranchIsAlone l i Holds = IfUntouched 4 l i (offset_of l i) (IfAlone l i Holds)
-
--- the high half of the entry
-abbrev pub NoEntryIsAlike : Linked → ℕ → Operands → Type 0
-NoEntryIsAlike =
-    NopIsAlike 2 names.R_PPC64_GOT_TLSGD16_HA entry_from_toc (Leads names.R_PPC64_GOT_TLSGD16_LO D)
-
--- for local-exec, and for initial-exec
-abbrev pub GeneralHighIsAlike : Linked → ℕ → Choice Relaxation ℕ → Symbol → Operands → Type 0
-GeneralHighIsAlike l i chosen symbol o =
-    IfRewrittenBy kinds.AddisToNop chosen (IfAlone l i (NoEntryIsAlike l i o))
-    ⊎ IfRewrittenBy kinds.KeepAddis chosen (EntryIsAlike l i symbol.thread_entry o)
-
-abbrev pub GeneralArgumentIsAlike : Linked → ℕ → Choice Relaxation ℕ → Symbol → Operands → Type 0
-GeneralArgumentIsAlike l i chosen symbol o =
-    IfRewrittenBy kinds.AddiToAddisThread chosen (HighArgumentIsAlike l i o)
-    ⊎ IfRewrittenBy kinds.AddiToLd chosen (LoadedArgumentIsAlike l i symbol.thread_entry o)
-
--- and for both of prefixed code
-abbrev pub GeneralCallIsAlike : Linked → ℕ → Choice Relaxation ℕ → Operands → Type 0
-GeneralCallIsAlike l i chosen o =
-    IfRewrittenBy kinds.BranchToNop chosen (IfBranchIsAlone l i (BranchToNopIsAlike l i))
-    ⊎ IfRewrittenBy kinds.BranchToAdd chosen (IfBranchIsAlone l i (BranchToSumIsAlike l i o))
-    ⊎ IfRewrittenBy kinds.CallToAddi chosen (IfUntouchedCall l i (IfAlone l i (CallToLowHalfIsAlike l i o)))
-    ⊎ IfRewrittenBy kinds.CallToAdd chosen
-    (IfUntouchedCall l i (IfAlone l i (IfAloneAfter l i (CallToSumIsAlike l i o))))
-
--- of every instruction of general-dynamic whose argument has two halves
-abbrev pub GeneralDynamic : Type 0
-GeneralDynamic =
-    EachRewritten 4 names.R_PPC64_GOT_TLSGD16_HA (λ l i chosen.
-    ForOperands names.R_PPC64_TPREL16_HA l i (GeneralHighIsAlike l i chosen))
-    × EachRewritten 4 names.R_PPC64_GOT_TLSGD16_LO (λ l i chosen.
-    ForOperands names.R_PPC64_TPREL16_HA l i (GeneralArgumentIsAlike l i chosen))
-    × EachChosen names.R_PPC64_TLSGD (λ l i chosen.
-    ForOperands names.R_PPC64_TPREL16_HA l i (λ symbol. GeneralCallIsAlike l i chosen))
-
--- the high half of the module's entry
-abbrev pub NoModuleIsAlike : Linked → ℕ → Operands → Type 0
-NoModuleIsAlike =
-    NopIsAlike 2 names.R_PPC64_GOT_TLSLD16_HA entry_from_toc (Leads names.R_PPC64_GOT_TLSLD16_LO D)
-
-abbrev pub ModuleCallIsAlike : Linked → ℕ → Choice Relaxation ℕ → Type 0
-ModuleCallIsAlike l i chosen =
-    IfRewrittenBy kinds.BranchToNop chosen (IfBranchIsAlone l i (BranchToNopIsAlike l i))
-    ⊎ IfRewrittenBy kinds.CallToAddi4096 chosen
-    (IfUntouchedCall l i (IfAlone l i (IfAloneAfter l i (CallToBlockIsAlike l i))))
-
--- of every such instruction of local-dynamic
-abbrev pub LocalDynamic : Type 0
-LocalDynamic =
-    EachRewritten 4 names.R_PPC64_GOT_TLSLD16_HA (λ l i chosen.
-    ForOperands names.R_PPC64_GOT_TLSLD16_HA l i (λ symbol o. IfAlone l i (NoModuleIsAlike l i o)))
-    × EachRewritten 4 names.R_PPC64_GOT_TLSLD16_LO (λ l i chosen.
-    ForOperands names.R_PPC64_GOT_TLSLD16_HA l i (λ symbol o.
-    IfAlone l i (ThreadArgumentIsAlike l i o)))
-    × EachChosen names.R_PPC64_TLSLD ModuleCallIsAlike
-
--- ---- prefixed instructions of thread-local sequences
-
--- for local-exec, and for initial-exec
-abbrev pub PrefixedArgumentIsAlike : Linked → ℕ → Choice Relaxation ℕ → Symbol → Operands → Type 0
-PrefixedArgumentIsAlike l i chosen symbol o =
-    IfRewrittenBy kinds.PaddiToPaddiThread chosen (VariableArgumentIsAlike l i o)
-    ⊎ IfRewrittenBy kinds.PaddiToPld chosen (EntryArgumentIsAlike l i symbol.thread_entry o)
-
--- of every prefixed instruction of general-dynamic, local-dynamic and initial-exec
-abbrev pub PrefixedThreads : Type 0
-PrefixedThreads =
-    EachRewritten 8 names.R_PPC64_GOT_TLSGD_PCREL34 (λ l i chosen.
-    ForOperands names.R_PPC64_TPREL34 l i (PrefixedArgumentIsAlike l i chosen))
-    × EachRewritten 8 names.R_PPC64_GOT_TLSLD_PCREL34 (λ l i chosen.
-    ForOperands names.R_PPC64_GOT_TLSLD_PCREL34 l i (λ symbol o.
-    IfAlone l i (IfAloneAfter l i (BlockArgumentIsAlike l i o))))
-    × EachRewritten 8 names.R_PPC64_GOT_TPREL_PCREL34 (λ l i chosen.
-    ForOperands names.R_PPC64_TPREL34 l i (λ symbol. PrefixedOffsetIsAlike l i))
-
--- ---- arguments near the TOC pointer
-
--- `addi rT,2` leaves the address of the entry in rT.
-abbrev pub LeavesEntry : Ppc64Relocation → Linked → ℕ → Operands → Type 0
-LeavesEntry name l i o =
-    let rt = rt_of (word_of (object l i)) in
-    (f : Formats) (s : State) (addi : List ℕ) → s.registers 2 ≡ o.got_base
-    → ra_of (word_of (object l i)) ≡ 2 → IsRelocated name o (object l i) addi
-    → Leaves f (only rt) (one addi) s rt (λ n. n ≡ o.got_entry)
-
--- The relocation at an index is the mark of a call, which is rewritten so.
-pub record IsCallBy (l : Linked) (mark : Ppc64Relocation) (kind : RewriteKind) (j : ℕ) : Type 0
-  where
-    pub below : j < count l
-    pub is_name : IsNameOf ppc64_name (relocation_in l.relocations j).code mark
-    pub chosen : Choice Relaxation ℕ
-    pub decided : decision_at l.decisions j ≡ Rewritten chosen
-    pub kind_is : chosen.kind ≡ relaxations.Ppc64 kind
-
--- The relocations at two indexes are of one S + A.
-pub record AreOfOne (l : Linked) (i j : ℕ) : Type 0 where
-  pub same_symbol : (relocation_in l.relocations j).symbol ≡ (relocation_in l.relocations i).symbol
-  pub same_addend : (relocation_in l.relocations j).addend ≡ (relocation_in l.relocations i).addend
-
--- `addis rT,13` leaves a number of which the final words at a call make the variable's address.
-abbrev pub NearToLocalExec : Linked → ℕ → ℕ → Operands → Type 0
-NearToLocalExec l i j o =
-    let rt = rt_of (word_of (object l i)) in
-    (f : Formats) (s : State)
-    → Leaves f (only rt) (one (final l i)) s rt
-    (λ n. CallLeaves f (final_call l j) n (from_thread o (s.registers 13)))
-
--- So does `ld rT,x(2)` of the entry of the offset, where r13 stays.
-abbrev pub NearToInitialExec : Linked → ℕ → ℕ → ℕ → Operands → Type 0
-NearToInitialExec l i j entry o =
-    let rt = rt_of (word_of (object l i)) in
-    entry < 2 ^ 64 → (f : Formats) (s : State) → s.registers 2 ≡ o.got_base
-    → ra_of (word_of (object l i)) ≡ 2 → loaded 8 s.memory entry ≡ thread_offset o
-    → Leaves f (only rt) (one (final l i)) s rt
-    (λ n. (t : State) → t.registers 3 ≡ n → t.registers 13 ≡ s.registers 13
-    → Leaves f (only 3) (final_call l j) t 3 (λ m. m ≡ from_thread o (s.registers 13)))
-
--- `addis rT,13,0` leaves one of which they make the address 0x1000 above the thread pointer.
-abbrev pub NearToModule : Linked → ℕ → ℕ → Type 0
-NearToModule l i j =
-    let rt = rt_of (word_of (object l i)) in
-    (f : Formats) (s : State)
-    → Leaves f (only rt) (one (final l i)) s rt
-    (λ n. CallLeaves f (final_call l j) n (sum_64 (s.registers 13) 0x1000))
-
--- for local-exec, and for initial-exec, where no other relocation has a field in the call
-abbrev pub NearIsAlike : Linked → ℕ → Choice Relaxation ℕ → Symbol → Operands → Type 0
-NearIsAlike l i chosen symbol o =
-    LeavesEntry names.R_PPC64_GOT_TLSGD16 l i o
-    × (IfRewrittenBy kinds.AddiToAddisThread chosen ((j : ℕ)
-    → IsCallBy l names.R_PPC64_TLSGD kinds.CallToAddi j → AreOfOne l i j
-    → IfUntouchedCall l j (IfAlone l j (NearToLocalExec l i j o)))
-    ⊎ IfRewrittenBy kinds.AddiToLd chosen ((j : ℕ) → IsCallBy l names.R_PPC64_TLSGD kinds.CallToAdd j
-    → IfUntouchedCall l j
-    (IfAlone l j (IfAloneAfter l j (NearToInitialExec l i j symbol.thread_entry o)))))
-
--- of every argument of `__tls_get_addr` near the TOC pointer
-abbrev pub NearArguments : Type 0
-NearArguments =
-    EachRewritten 4 names.R_PPC64_GOT_TLSGD16 (λ l i chosen.
-    ForOperands names.R_PPC64_TPREL16_HA l i (NearIsAlike l i chosen))
-    × EachRewritten 4 names.R_PPC64_GOT_TLSLD16 (λ l i chosen.
-    ForOperands names.R_PPC64_GOT_TLSLD16 l i (λ symbol o.
-    LeavesEntry names.R_PPC64_GOT_TLSLD16 l i o
-    × ((j : ℕ) → IsCallBy l names.R_PPC64_TLSLD kinds.CallToAddi4096 j
-    → IfUntouchedCall l j (IfAlone l i (IfAlone l j (IfAloneAfter l j (NearToModule l i j)))))))
-
--- ---- loads of addresses
-
--- `pld rT` of the GOT entry, which holds the address, and `paddi rT`
-abbrev pub PrefixedIsAlike : Linked → ℕ → Operands → Type 0
-PrefixedIsAlike l i o =
-    (f : Formats) (s : State) (pld : List ℕ) → s.pc ≡ o.place
-    → loaded 8 s.memory o.got_entry ≡ symbol_address o
-    → IsRelocated names.R_PPC64_GOT_PCREL34 o (two_at l.section (offset_of l i)) pld
-    → IsSomeAnd (step_prefixed f (prefixed_of pld) s) (λ t.
-    IsSomeAnd (step_prefixed f (prefixed_of (two_at l.final (offset_of l i))) s) (λ u.
-    AreAlikeBut (λ _. false) t u))
-
--- The high half of the entry's address became that of the symbol's.
-abbrev pub SymbolIsAlike : Linked → ℕ → Operands → Type 0
-SymbolIsAlike l i o =
-    IsRewrittenByNoOther l i (offset_of l i)
-    → (f : Formats) (s t : State) (c : Changes) (addis : List ℕ) → AgreeBut c s t
-    → IsRelocated names.R_PPC64_GOT16_HA o (object l i) addis
-    → let x = rt_of (word_of (object l i)) in
-    StepSo f (word_of addis) s (word_of (final l i)) t
-    (λ u v. AgreeBut (with_register x c) u v
-    × Leads names.R_PPC64_GOT16_LO_DS Ds o (u.registers x) (entry_from_toc o (s.registers 2))
-    × Leads names.R_PPC64_TOC16_LO D o (v.registers x) (from_toc o (t.registers 2)))
-
--- `ld rT` of the entry, which holds the address, and `addi rT`
-abbrev pub LoadIsAlike : Linked → ℕ → Operands → Type 0
-LoadIsAlike l i o =
-    let word = word_of (object l i) in
-    (f : Formats) (s t : State) (c : Changes) (ld : List ℕ) (entry address : ℕ) → AgreeBut c s t
-    → Leads names.R_PPC64_GOT16_LO_DS Ds o (s.registers (ra_of word)) entry
-    → loaded 8 s.memory entry ≡ address
-    → Leads names.R_PPC64_TOC16_LO D o (t.registers (ra_of word)) address
-    → IsRelocated names.R_PPC64_GOT16_LO_DS o (object l i) ld
-    → StepSo f (word_of ld) s (word_of (final l i)) t (AgreeBut (without_register (rt_of word) c))
-
--- of every load of an address from the GOT
-abbrev pub Loads : Type 0
-Loads =
-    EachRewritten 8 names.R_PPC64_GOT_PCREL34 (λ l i chosen.
-    ForOperands names.R_PPC64_PCREL34 l i (λ symbol. PrefixedIsAlike l i))
-    × EachRewritten 4 names.R_PPC64_GOT16_HA (λ l i chosen.
-    ForOperands names.R_PPC64_TOC16_HA l i (λ symbol. SymbolIsAlike l i))
-    × EachRewritten 4 names.R_PPC64_GOT16_LO_DS (λ l i chosen.
-    ForOperands names.R_PPC64_TOC16_LO l i (λ symbol. LoadIsAlike l i))
+-- The names that rewrites lead to, and the phase that rewrites their instructions. To those of
+-- entries general-dynamic leads before addresses are known, and no later phase rewrites them.
+abbrev pub RewrittenAgain : Type 0
+RewrittenAgain =
+    IsOfPhase phases.PreLayout names.R_PPC64_GOT_TPREL16_HA
+    × IsOfPhase phases.PreLayout names.R_PPC64_GOT_TPREL16_LO_DS
+    × IsOfPhase phases.PreLayout names.R_PPC64_GOT_TPREL16_DS
+    × IsOfPhase phases.PreLayout names.R_PPC64_GOT_TPREL_PCREL34
+    × IsOfPhase phases.PreLayout names.R_PPC64_REL24
+    × IsOfPhase phases.TlsLocalExec names.R_PPC64_TPREL16_HA
+    × IsOfPhase phases.TlsLocalExec names.R_PPC64_TPREL16_LO
+    × IsOfPhase phases.TlsLocalExec names.R_PPC64_TPREL16_LO_DS
+    × IsOfPhase phases.ShortPcRel names.R_PPC64_TOC16_HA
+    × IsOfPhase phases.ShortPcRel names.R_PPC64_TOC16_LO
+    × IsOfNoPhase names.R_PPC64_NONE × IsOfNoPhase names.R_PPC64_PCREL34
+    × IsOfNoPhase names.R_PPC64_TPREL34
+    × IsOfNoPhase names.R_PPC64_TOC16 × IsOfNoPhase names.R_PPC64_TOC16_DS
+    × IsOfNoPhase names.R_PPC64_TPREL16 × IsOfNoPhase names.R_PPC64_TPREL16_DS

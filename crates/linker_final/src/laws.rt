@@ -7,9 +7,7 @@ ghost use Rattle.linker_final.specs.AArch64Runs as aarch64_runs;
 ghost use Rattle.linker_final.specs.AArch64Section as aarch64_section;
 ghost use Rattle.linker_final.specs.Final as final_bytes;
 ghost use Rattle.linker_final.specs.LoongArchFinal as loongarch64_final;
-ghost use Rattle.linker_final.specs.Ppc64Anywhere as ppc64_anywhere;
 ghost use Rattle.linker_final.specs.Ppc64Final as ppc64_final;
-ghost use Rattle.linker_final.specs.Ppc64Twice as ppc64_twice;
 ghost use Rattle.linker_final.specs.RiscVFinal as riscv64_final;
 ghost use Rattle.linker_final.specs.RiscVNear as riscv64_near;
 ghost use Rattle.linker_final.specs.X86Final as x86_64_final;
@@ -130,44 +128,16 @@ pub fn loongarch64()
     linker_laws::simulation::loongarch64();
 }
 
-/// PowerPC64: rewritten instructions do in the final bytes what the object's do. They are each
-/// `nop` after a call that restores the TOC pointer, each high and low half of an address near the
-/// TOC pointer and near the thread pointer, each instruction of initial-exec, of general-dynamic
-/// and of local-dynamic TLS, also of prefixed code, and each load of an address from the GOT that
-/// became a sum. The clauses named `anywhere` are of a call of rewriting alone, as RISC-V's are.
-/// Those named `twice` are of instructions that two calls rewrite, also in the final bytes: high
-/// and low halves of the address of a GOT entry that became those of the symbol, loads of an offset
-/// from the thread pointer and what adds it, and the arguments and calls of general-dynamic TLS.
-/// Which phase alone rewrites again what a rewrite left is a law too.
+/// PowerPC64: each rewritten instruction is a group of `linker_laws::simulation`, of any code that
+/// has it there with the relocation that is left applied to it, and of any old code that has the
+/// object's with the value of its relocation. This is of a call of rewriting alone. Phases may
+/// rewrite one after the other, each what the one before left: their groups compose
+/// (`linker_laws::simulation::runs`). Which phase alone rewrites again what a rewrite left is a law
+/// too. In the final bytes the relocations that are left are applied.
 pub fn ppc64()
-    ensures calls { ppc64_final.Calls }
-    ensures toc_halves { ppc64_final.TocHalves }
-    ensures thread_halves { ppc64_final.ThreadHalves }
-    ensures initial_exec { ppc64_final.InitialExec }
-    ensures general_dynamic { ppc64_final.GeneralDynamic }
-    ensures local_dynamic { ppc64_final.LocalDynamic }
-    ensures near_arguments { ppc64_final.NearArguments }
-    ensures loads { ppc64_final.Loads }
-    ensures prefixed_threads { ppc64_final.PrefixedThreads }
-    ensures calls_anywhere { ppc64_anywhere.CallsAnywhere }
-    ensures toc_halves_anywhere { ppc64_anywhere.TocHalvesAnywhere }
-    ensures thread_halves_anywhere { ppc64_anywhere.ThreadHalvesAnywhere }
-    ensures initial_exec_anywhere { ppc64_anywhere.InitialExecAnywhere }
-    ensures general_dynamic_anywhere { ppc64_anywhere.GeneralDynamicAnywhere }
-    ensures local_dynamic_anywhere { ppc64_anywhere.LocalDynamicAnywhere }
-    ensures near_arguments_anywhere { ppc64_anywhere.NearArgumentsAnywhere }
-    ensures loads_anywhere { ppc64_anywhere.LoadsAnywhere }
-    ensures prefixed_threads_anywhere { ppc64_anywhere.PrefixedThreadsAnywhere }
-    ensures loads_twice { ppc64_twice.LoadsTwice }
-    ensures steps_compose { ppc64_twice.StepsCompose }
-    ensures initial_exec_twice { ppc64_twice.InitialExecTwice }
-    ensures general_dynamic_twice { ppc64_twice.GeneralDynamicTwice }
-    ensures near_arguments_twice { ppc64_twice.NearArgumentsTwice }
-    ensures rewritten_again { ppc64_twice.RewrittenAgain }
-    ensures final_loads_twice { ppc64_twice.FinalLoadsTwice }
-    ensures final_initial_exec_twice { ppc64_twice.FinalInitialExecTwice }
-    ensures final_general_dynamic_twice { ppc64_twice.FinalGeneralDynamicTwice }
-    ensures final_near_arguments_twice { ppc64_twice.FinalNearArgumentsTwice }
+    ensures groups { ppc64_final.RewritesAreGroups }
+    ensures final_bytes { ppc64_final.FinalBytes }
+    ensures rewritten_again { ppc64_final.RewrittenAgain }
 {
-    linker_laws::rewrites::ppc64();
+    linker_laws::simulation::ppc64();
 }

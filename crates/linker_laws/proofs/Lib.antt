@@ -30,7 +30,6 @@ pub mod LoongArchWords
 pub mod Ppc64Accesses
 pub mod Ppc64Addresses
 pub mod Ppc64Apart
-pub mod Ppc64Arguments
 pub mod Ppc64Calls
 pub mod Ppc64Copies
 pub mod Ppc64Entries

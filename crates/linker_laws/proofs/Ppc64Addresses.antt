@@ -5,7 +5,7 @@ use Rattle.std.specs.Prelude.{◌&&◌, ◌||◌, ◌==◌, not}
 use Rattle.std.proofs.lemmas.Bool.{and_parts, eqb-true, false≢true}
 use Rattle.linker_base.specs.Bits.{field}
 use Rattle.linker_elf.specs.Ppc64.{ppc64_form}
-use Rattle.linker_utils.specs.Ppc64Rewrites.{is_addis_of_toc, is_ld, is_add_of_thread, is_over_thread}
+use Rattle.linker_utils.specs.Ppc64Rewrites.{is_ld, is_add_of_thread, is_over_thread}
 use Rattle.linker_utils.specs.Ppc64Rewrites.{opcode_of, rt_of, ra_of, rb_of}
 use Rattle.linker_elf.specs.Relocate.{ppc64_reads}
 use Rattle.linker_elf.specs.declared.ppc64.forms.Ppc64Instruction.TheVariants.{Ds}
@@ -13,16 +13,6 @@ use Rattle.linker_laws.proofs.Ppc64Words.{HasParts}
 
 pub some_of : (n : ℕ) → not (n == 0) ≡ true → n ≢ 0
 some_of n h e = false≢true (sym (ap (λ k. not (k == 0)) e) ∙ h)
-
--- `addis rT,2`
-pub addis_parts : (x : ℕ) → is_addis_of_toc x ≡ true → HasParts 15 (rt_of x) 2 x
-addis_parts x h =
-    let both = and_parts (opcode_of x == 15) (ra_of x == 2) h in
-    record {
-      opcode_is = eqb-true _ _ both.0;
-      rt_is = refl;
-      ra_is = eqb-true _ _ both.1;
-    }
 
 pub record IsLd (x : ℕ) : Type 0 where
   pub parts : HasParts 58 (rt_of x) (ra_of x) x

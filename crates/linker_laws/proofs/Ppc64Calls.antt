@@ -1,15 +1,15 @@
 -- PowerPC64: what takes the place of a `nop` after a call.
 use Rattle.std.proofs.Common.{◌≡◌, ℕ, ◌^◌, ◌<◌, refl, sym, ◌∙◌, ap, arith, List, [], ◌∷◌}
-use Rattle.std.proofs.Common.{take, drop, Some}
+use Rattle.std.proofs.Common.{take, drop, Some, true}
 use Rattle.std.specs.Prelude.{◌&&◌, ◌==◌}
 use Rattle.std.proofs.lemmas.Bool.{and_parts, eqb-true}
 use Rattle.linker_base.specs.Bits.{field}
 use Rattle.linker_base.specs.Form.{place_sum}
-use Rattle.linker_utils.specs.Ppc64Rewrites.{opcode_of, nop, two_words}
+use Rattle.linker_utils.specs.Ppc64Rewrites.{is_call, opcode_of, nop, two_words}
 use Rattle.linker_elf.specs.Value.{sum_64}
 use Rattle.linker_laws.specs.Machine.{loaded}
-use Rattle.linker_laws.specs.Ppc64RewriteLaws.{word_of}
-use Rattle.linker_laws.specs.Ppc64RewriteLaws as laws
+use Rattle.linker_laws.specs.Ppc64RewriteLaws.{IsRewritten, word_of}
+use Rattle.linker_utils.specs.declared.ppc64.rewrites.RewriteKind.TheVariants as kinds
 use Rattle.linker_laws.specs.Ppc64Machine.{State, Formats, step, write, go_on}
 use Rattle.linker_laws.proofs.Ppc64Words.{step_nop}
 
@@ -55,13 +55,15 @@ restored_step : (f : Formats) (s : State)
 unfolding place_sum
 restored_step f s = refl
 
-pub restores_toc : laws.RestoresToc
+pub restores_toc : (f : Formats) (s : State) (call restored : List ℕ) → word_of call < 2 ^ 32
+    → is_call (word_of call) (word_of (drop 4 call)) ≡ true → IsRewritten kinds.NopToRestoreToc call restored
+    → (step f (word_of (drop 4 call)) s ≡ Some (go_on s))
+    × (step f (word_of (drop 4 restored)) s ≡ Some (go_on (write 2 (loaded 8 s.memory (sum_64 (s.registers 1) 24)) s)))
 restores_toc f s call restored small is made =
     let parts = and_parts (opcode_of (word_of call) == 18 && field (word_of call) 0 2 == 1)
     (word_of (drop 4 call) == nop) is in
     let made_words : take 8 restored ≡ two_words (word_of call) 0xe8410018 =
     made ∙ ap (λ w. two_words w 0xe8410018) (front call) in (
-      first_made restored (word_of call) 0xe8410018 small (omega arith) made_words,
       step_nop f (word_of (drop 4 call)) s (eqb-true _ _ parts.1),
       ap (λ w. step f w s) (second_made restored (word_of call) 0xe8410018 small (omega arith) made_words)
           ∙ restored_step f s,

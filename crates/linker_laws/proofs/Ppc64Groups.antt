@@ -1,7 +1,7 @@
 -- PowerPC64's groups.
 use Rattle.std.proofs.Common.{◌≡◌, ◌≢◌, ℕ, suc, ◌+◌, ◌-◌, ◌*◌, ◌^◌, ◌<◌, ◌≤◌, Bool, true, false, refl, sym, ◌∙◌, ap, subst, subst₂}
 use Rattle.std.proofs.Common.{arith, List, drop, take, ◌/◌, Some, pos, ◌+ℤ◌, ◌*ℤ◌, inl, inr, not, eqb, true≢false}
-use Rattle.std.specs.Prelude.{◌==◌, ◌&&◌, if◌then◌else◌, nat_lt, is_some, IsSomeAnd}
+use Rattle.std.specs.Prelude.{IsTrue, ◌==◌, ◌&&◌, if◌then◌else◌, nat_lt, is_some, IsSomeAnd}
 use Rattle.std.proofs.lemmas.Bool.{and_parts, cond-true, cond-false, cases_lt, eq-eqb, eqb-true, lt-ltb, le-ltb, ne_eqb}
 use Rattle.std.proofs.lemmas.Bool.Decides.{eqb_tells}
 use Rattle.std.proofs.lemmas.Int.{ints}
@@ -41,9 +41,10 @@ use Rattle.linker_laws.proofs.Ppc64Offsets.{OffsetSteps, accesses_offset, adds_o
 use Rattle.linker_laws.proofs.Ppc64Prefixed.{HasPrefixedParts, paddi_parts, paddi_sets, pld_parts, pld_sets, prefixed_after, set_8, step_paddi, step_paddi_over, step_pld}
 use Rattle.linker_laws.proofs.Ppc64PrefixedThreads.{VariableSteps, access_to_direct, displacement_is, general_entry, loads_thread, module_entry, offset_entry, over_thread, pla_parts, sum_to_move, variable_there}
 use Rattle.linker_laws.proofs.Ppc64Words.{HasParts, d_after, ds_after, set, step_addi, step_bl, step_ld, step_nop, wrapped_is}
+use Rattle.linker_laws.proofs.RiscVMachine.{address_is, times_one}
 use Rattle.linker_laws.proofs.Sums.{sum_below}
 use Rattle.linker_laws.proofs.Words.{two_words}
-use Rattle.linker_utils.specs.Ppc64Rewrites.{addi_of_thread, is_pla, two_words as two_words_of}
+use Rattle.linker_utils.specs.Ppc64Rewrites.{addi_of_thread, is_addi, is_addis_over, is_call, is_ld, is_pla, is_pld, two_words as two_words_of}
 use Rattle.linker_utils.specs.Ppc64Rewrites.{addis_of_thread, nop, opcode_of, ra_of, registers_of, rt_of}
 use Rattle.linker_utils.specs.declared.ppc64.rewrites.RewriteKind.{RewriteKind}
 use Rattle.linker_utils.specs.declared.ppc64.rewrites.RewriteKind.TheVariants as kinds
@@ -257,8 +258,8 @@ high_is r b x s p is_base =
 to_nop : (r : ℕ) (kind : RewriteKind) (name : Ppc64Relocation) (address : Operands → ℕ → ℕ)
     (Leads : Operands → ℕ → ℕ → Type 0) → IsBase r
     → ((addis blank : List ℕ) → IsRewritten kind addis blank → word_of blank ≡ nop) → Keeps name
-    → High name address Leads → groups.ToNop r kind name (λ o n b. Leads o n (address o b))
-to_nop r kind name address Leads is_base is_blank keeps leads c o k s addis blank small is made old new =
+    → High name address Leads → groups.Rewrites (is_addis_over r) kind (groups.ToNop r name (λ o n b. Leads o n (address o b)))
+to_nop r kind name address Leads is_base is_blank keeps leads addis blank is made c o k s small old new =
     let x = rt_of (word_of addis) in
     let both = and_parts (opcode_of (word_of addis) == 15) (ra_of (word_of addis) == r) is in
     let w = word_of old.relocated in
@@ -294,9 +295,9 @@ are_high_halves toc thread entries = (
 kept_high : (name after : Ppc64Relocation) (address address_after : Operands → ℕ → ℕ)
     (OldLeads NewLeads : Operands → ℕ → ℕ → Type 0) → Keeps name → Keeps after → High name address OldLeads
     → High after address_after NewLeads
-    → groups.Kept name after (λ o n b. OldLeads o n (address o b)) (λ o n b. NewLeads o n (address_after o b))
-kept_high name after address address_after OldLeads NewLeads keeps keeps_after leads leads_after c h x y k s addis small
-    below is none toc old new halves =
+    → groups.Stays (groups.Kept name after (λ o n b. OldLeads o n (address o b)) (λ o n b. NewLeads o n (address_after o b)))
+kept_high name after address address_after OldLeads NewLeads keeps keeps_after leads leads_after addis is none c h x y k s
+    small below toc old new halves =
     let r = rt_of (word_of addis) in
     let both = and_parts (opcode_of (word_of addis) == 15) (ra_of (word_of addis) == 2) is in
     let v = word_of old.relocated in
@@ -370,8 +371,8 @@ addi_sets f low o s addi addi_of rt ra number keeps parts some a leads =
     ∙ ap (λ n. Some (set rt n (seen s)))
     (ap (λ n. moved n ((ppc64_form D).machine w)) (base_some ra (seen s) some) ∙ leads o.place addi addi_of a)
 
-pub are_loads : groups.LoadToSum
-are_loads c address x y k s ld addi is made takes leads old new =
+pub are_loads : groups.Rewrites is_ld kinds.LdToAddi groups.LoadToSum
+are_loads ld addi is made c address x y k s takes leads old new =
     let w = word_of ld in
     let load = ld_parts w is in
     let word : word_of addi ≡ 0x38000000 + registers_of w =
@@ -423,8 +424,8 @@ sum_keeps c k s t test word address agree =
 
 over_base : (r : ℕ) (kind : RewriteKind) (low whole : Ppc64Relocation) (form : Ppc64Instruction)
     (address : Operands → ℕ → ℕ) (how : Use) → OverSteps r kind low whole form address how
-    → groups.OverBase r kind low whole form address how
-over_base r kind low whole form address how steps c o k s insn over small is made stays leads old new =
+    → (insn over : List ℕ) → IsRewritten kind insn over → groups.OverBase r low whole form address how insn over
+over_base r kind low whole form address how steps insn over made c o k s small is stays leads old new =
     let f = c.processor.formats in
     let target = address o (s.registers r) in
     uses c how (word_of insn) target k s (word_of old.relocated) (word_of new.relocated) old.stands.0 new.stands.0
@@ -437,12 +438,22 @@ over_base r kind low whole form address how steps c o k s insn over small is mad
 pub are_low_halves : relocation_laws.Displacements → groups.LowHalfOverBase
 are_low_halves near =
     let s = steps near in (
-      over_base 2 _ _ _ _ _ _ s.toc_sums,
-      over_base 2 _ _ _ _ _ _ s.toc_accesses,
-      over_base 2 _ _ _ _ _ _ s.toc_words,
-      over_base 13 _ _ _ _ _ _ s.thread_sums,
-      over_base 13 _ _ _ _ _ _ s.thread_accesses,
-      over_base 13 _ _ _ _ _ _ s.thread_words,
+      λ insn over is made. (
+        over_base 2 _ _ _ _ _ _ s.toc_sums insn over made,
+        over_base 2 _ _ _ _ _ _ s.toc_accesses insn over made,
+      ),
+      λ insn over is made. (
+        over_base 2 _ _ _ _ _ _ s.toc_words insn over made,
+        s.toc_vectors insn over made,
+      ),
+      λ insn over is made. (
+        over_base 13 _ _ _ _ _ _ s.thread_sums insn over made,
+        over_base 13 _ _ _ _ _ _ s.thread_accesses insn over made,
+      ),
+      λ insn over is made. (
+        over_base 13 _ _ _ _ _ _ s.thread_words insn over made,
+        s.thread_vectors insn over made,
+      ),
     )
 
 -- ---- initial-exec
@@ -470,8 +481,9 @@ makes_high thread c o k s number rt addis_13 small below word first h stays new 
           (are_half c h _ _ (halves.0, refl)),
     )
 
-offsets : relocation_laws.ThreadAddresses → (low : Ppc64Relocation) → KeepsDs low → groups.OffsetToHighHalf low
-offsets thread low keeps c o k s ld addis_13 small is made takes old =
+offsets : relocation_laws.ThreadAddresses → (low : Ppc64Relocation) → KeepsDs low
+    → groups.Rewrites is_ld kinds.LdToAddisThread (groups.OffsetToHighHalf low)
+offsets thread low keeps ld addis_13 is made c o k s small takes old =
     let w = word_of ld in
     let load = ld_parts w is in
     makes_high thread c o k s (thread_offset o) (rt_of w) addis_13 small (below_32 w)
@@ -480,15 +492,17 @@ offsets thread low keeps c o k s ld addis_13 small is made takes old =
     (ld_sets c.processor.formats low o s ld old.relocated (rt_of w) (ra_of w) (thread_offset o) keeps load.parts load.low
     load.over_some old.applied takes))
 
-pub are_offsets : relocation_laws.ThreadAddresses → groups.OffsetToHighHalf names.R_PPC64_GOT_TPREL16_LO_DS
+pub are_offsets : relocation_laws.ThreadAddresses
+    → groups.Rewrites is_ld kinds.LdToAddisThread (groups.OffsetToHighHalf names.R_PPC64_GOT_TPREL16_LO_DS)
 are_offsets thread = offsets thread names.R_PPC64_GOT_TPREL16_LO_DS (λ o x y a. ds_after _ _ x y a.written)
 
-pub are_near_offsets : relocation_laws.ThreadAddresses → groups.OffsetToHighHalf names.R_PPC64_GOT_TPREL16_DS
+pub are_near_offsets : relocation_laws.ThreadAddresses
+    → groups.Rewrites is_ld kinds.LdToAddisThread (groups.OffsetToHighHalf names.R_PPC64_GOT_TPREL16_DS)
 are_near_offsets thread = offsets thread names.R_PPC64_GOT_TPREL16_DS (λ o x y a. ds_after _ _ x y a.written)
 
 over_offset : (kind : RewriteKind) (low : Ppc64Relocation) (how : Use) → OffsetSteps kind low how
-    → groups.OverOffset kind low how
-over_offset kind low how steps c o k s insn direct is made has leads old new =
+    → groups.Rewrites how.test kind (groups.OverOffset low how)
+over_offset kind low how steps insn direct is made c o k s has leads old new =
     let f = c.processor.formats in
     let target = from_thread o (s.registers 13) in
     uses c how (word_of insn) target k s (word_of insn) (word_of new.relocated) old.0 new.stands.0
@@ -501,37 +515,51 @@ are_low_offsets = (over_offset _ _ _ adds_offset, over_offset _ _ _ accesses_off
 
 -- ---- arguments of `__tls_get_addr`
 
+pub are_near_entries : relocation_laws.Displacements → groups.NearEntries
+are_near_entries near o small = (
+  λ at insn over a. times_one o.got_base _ ∙ address_is _ _ (near.3 o small o.place insn over
+      (record { value = a.value; value_is = a.value_is; accepted = a.accepted; written = a.written }) tt),
+  λ at insn over a. times_one o.got_base _ ∙ address_is _ _ (near.4 o small o.place insn over
+      (record { value = a.value; value_is = a.value_is; accepted = a.accepted; written = a.written }) tt),
+  λ at insn over a. times_one o.got_base _ ∙ address_is _ _ (near.5 o small o.place insn over
+      (record { value = a.value; value_is = a.value_is; accepted = a.accepted; written = a.written }) tt),
+)
+
 argument : (low : Ppc64Relocation) → Keeps low → (c : Code) (o : Operands) (entry : ℕ) (s : State) (addi : List ℕ)
-    → groups.IsArgument low c o entry s addi
+    → IsTrue (is_addi (word_of addi)) → groups.IsArgument low c o entry s addi
     → machine c.processor c.old s ≡ Some (put (rt_of (word_of addi)) entry (sum_64 s.pc 4) s)
-argument low keeps c o entry s addi p =
+argument low keeps c o entry s addi is p =
     let x = word_of addi in
-    let both = and_parts (opcode_of x == 14) (not (ra_of x == 0)) p.is in
+    let both = and_parts (opcode_of x == 14) (not (ra_of x == 0)) is in
     sets c.processor c.old s (word_of p.old.relocated) (rt_of x) entry p.old.stands.0 (below_32 x)
     (addi_sets c.processor.formats low o s addi p.old.relocated (rt_of x) (ra_of x) entry keeps
     (record { opcode_is = eqb-true _ _ both.0; rt_is = refl; ra_is = refl }) (some_of (ra_of x) both.1) p.old.applied p.leads)
 
-arguments : relocation_laws.ThreadAddresses → (low : Ppc64Relocation) → Keeps low → groups.ArgumentToHighHalf low
-arguments thread low keeps c o entry k s addi addis_13 p made =
+arguments : relocation_laws.ThreadAddresses → (low : Ppc64Relocation) → Keeps low
+    → groups.Rewrites is_addi kinds.AddiToAddisThread (groups.ArgumentToHighHalf low)
+arguments thread low keeps addi addis_13 is made c o entry k s p =
     makes_high thread c o k s entry (rt_of (word_of addi)) addis_13 p.small (below_32 (word_of addi))
-    (word_made (λ w. addis_of_thread (rt_of w)) addi addis_13 (omega arith) made) (argument low keeps c o entry s addi p)
+    (word_made (λ w. addis_of_thread (rt_of w)) addi addis_13 (omega arith) made) (argument low keeps c o entry s addi is p)
 
-pub are_arguments : relocation_laws.ThreadAddresses → groups.ArgumentToHighHalf names.R_PPC64_GOT_TLSGD16_LO
+pub are_arguments : relocation_laws.ThreadAddresses
+    → groups.Rewrites is_addi kinds.AddiToAddisThread (groups.ArgumentToHighHalf names.R_PPC64_GOT_TLSGD16_LO)
 are_arguments thread = arguments thread names.R_PPC64_GOT_TLSGD16_LO (λ o x y a. d_after _ _ x y a.written)
 
-pub are_near_arguments : relocation_laws.ThreadAddresses → groups.ArgumentToHighHalf names.R_PPC64_GOT_TLSGD16
+pub are_near_arguments : relocation_laws.ThreadAddresses
+    → groups.Rewrites is_addi kinds.AddiToAddisThread (groups.ArgumentToHighHalf names.R_PPC64_GOT_TLSGD16)
 are_near_arguments thread = arguments thread names.R_PPC64_GOT_TLSGD16 (λ o x y a. d_after _ _ x y a.written)
 
-argument_offsets : (low after : Ppc64Relocation) → Keeps low → KeepsDs after → groups.ArgumentToOffset low after
-argument_offsets low after keeps keeps_ds c h x y entry k s addi ld p made old_is takes new =
+argument_offsets : (low after : Ppc64Relocation) → Keeps low → KeepsDs after
+    → groups.Rewrites is_addi kinds.AddiToLd (groups.ArgumentToOffset low after)
+argument_offsets low after keeps keeps_ds addi ld is made c h x y entry k s p old_is takes new =
     let w = word_of addi in
-    let both = and_parts (opcode_of w == 14) (not (ra_of w == 0)) p.is in
+    let both = and_parts (opcode_of w == 14) (not (ra_of w == 0)) is in
     let word : word_of ld ≡ 0xe8000000 + registers_of w =
     word_made (λ w. 0xe8000000 + registers_of w) addi ld (omega arith) made in
     let parts : HasParts 58 (rt_of w) (ra_of w) (word_of ld) =
     record { opcode_is = omega arith; rt_is = omega arith; ra_is = omega arith } in
     let zero : field (word_of ld) 0 2 ≡ 0 = omega arith in
-    leaves c k s 4 (rt_of w) (half h) entry (c.new_half h) (argument low keeps c x entry s addi p)
+    leaves c k s 4 (rt_of w) (half h) entry (c.new_half h) (argument low keeps c x entry s addi is p)
     (λ t agree.
     sets c.processor c.new t (word_of new.relocated) (rt_of w) (c.new_half h) (ap (loaded 4 c.new) agree.pc ∙ new.stands.0)
     (below_32 w)
@@ -539,23 +567,24 @@ argument_offsets low after keeps keeps_ds c h x y entry k s addi ld p made old_i
     (some_of (ra_of w) both.1) new.applied (takes t agree)))
     (are_half c h _ _ (old_is, refl))
 
-pub are_argument_offsets : groups.ArgumentToOffset names.R_PPC64_GOT_TLSGD16_LO names.R_PPC64_GOT_TPREL16_LO_DS
+pub are_argument_offsets : groups.Rewrites is_addi kinds.AddiToLd (groups.ArgumentToOffset names.R_PPC64_GOT_TLSGD16_LO names.R_PPC64_GOT_TPREL16_LO_DS)
 are_argument_offsets =
     argument_offsets names.R_PPC64_GOT_TLSGD16_LO names.R_PPC64_GOT_TPREL16_LO_DS (λ o x y a. d_after _ _ x y a.written)
     (λ o x y a. ds_after _ _ x y a.written)
 
-pub are_near_argument_offsets : groups.ArgumentToOffset names.R_PPC64_GOT_TLSGD16 names.R_PPC64_GOT_TPREL16_DS
+pub are_near_argument_offsets : groups.Rewrites is_addi kinds.AddiToLd (groups.ArgumentToOffset names.R_PPC64_GOT_TLSGD16 names.R_PPC64_GOT_TPREL16_DS)
 are_near_argument_offsets =
     argument_offsets names.R_PPC64_GOT_TLSGD16 names.R_PPC64_GOT_TPREL16_DS (λ o x y a. d_after _ _ x y a.written)
     (λ o x y a. ds_after _ _ x y a.written)
 
-module_arguments : (low : Ppc64Relocation) → Keeps low → groups.ArgumentToThread low
-module_arguments low keeps c h o entry k s addi addis_13 p made stays halves new =
+module_arguments : (low : Ppc64Relocation) → Keeps low
+    → groups.Rewrites is_addi kinds.AddiToAddisThread (groups.ArgumentToThread low)
+module_arguments low keeps addi addis_13 is made c h o entry k s p stays halves new =
     let rt = rt_of (word_of addi) in
     let w = word_of addis_13 in
     let word = word_made (λ w. addis_of_thread (rt_of w)) addi addis_13 (omega arith) made in
     let parts = addis_13_parts rt w (below_32 (word_of addi)) word in
-    leaves c k s 4 rt (half h) entry (sum_64 (s.registers 13) 0) (argument low keeps c o entry s addi p)
+    leaves c k s 4 rt (half h) entry (sum_64 (s.registers 13) 0) (argument low keeps c o entry s addi is p)
     (λ t agree.
     sets c.processor c.new t w rt (shifted_sum w (seen t)) (ap (loaded 4 c.new) agree.pc ∙ new.0) (below_32 (word_of addi))
     (step_high c.processor.formats w rt 13 (seen t) parts)
@@ -565,10 +594,10 @@ module_arguments low keeps c h o entry k s addi addis_13 p made stays halves new
     ∙ ap (λ n. sum_64 n 0) (same_register c k s t 13 stays agree)))
     (are_half c h _ _ halves)
 
-pub are_module_arguments : groups.ArgumentToThread names.R_PPC64_GOT_TLSLD16_LO
+pub are_module_arguments : groups.Rewrites is_addi kinds.AddiToAddisThread (groups.ArgumentToThread names.R_PPC64_GOT_TLSLD16_LO)
 are_module_arguments = module_arguments names.R_PPC64_GOT_TLSLD16_LO (λ o x y a. d_after _ _ x y a.written)
 
-pub are_near_module_arguments : groups.ArgumentToThread names.R_PPC64_GOT_TLSLD16
+pub are_near_module_arguments : groups.Rewrites is_addi kinds.AddiToAddisThread (groups.ArgumentToThread names.R_PPC64_GOT_TLSLD16)
 are_near_module_arguments = module_arguments names.R_PPC64_GOT_TLSLD16 (λ o x y a. d_after _ _ x y a.written)
 
 -- ---- calls of `__tls_get_addr`
@@ -600,8 +629,8 @@ in_place c t first second value stands stands_after blank goes_on =
     (once p c.new u (put 3 value (sum_64 t.pc 8) t)
     (sets p c.new u second 3 value stands_after (omega arith) goes_on ∙ ap (λ a. Some (put 3 value a t)) (eight t.pc)))
 
-pub are_call_low_halves : groups.CallToLowHalf
-are_call_low_halves c o k k' s s' bl made r is_made leads first low =
+pub are_call_low_halves : groups.Rewrites groups.is_any kinds.CallToAddi groups.CallToLowHalf
+are_call_low_halves before made is is_made c o k k' s s' bl r leads first low =
     let f = c.processor.formats in
     let number = from_thread o (s.registers 13) in
     let blank = first_made made nop 0x38630000 (omega arith) (omega arith) is_made in
@@ -628,10 +657,10 @@ call_of_two : (kind : RewriteKind) (result : ℕ → ℕ → ℕ) (second : ℕ)
     → ((bl made : List ℕ) → IsRewritten kind bl made → AreMade second made)
     → ((f : Formats) (s : ppc64_machine.State)
     → step f second s ≡ Some (set 3 (result (s.registers 3) (s.registers 13)) s))
-    → groups.CallTo 2 kind result
-call_of_two kind result second are steps c number k k' s s' bl made r is_made stays has new =
+    → groups.Rewrites groups.is_any kind (groups.CallTo 2 result)
+call_of_two kind result second are steps before made is is_made c number k k' s s' bl r stays has new =
     let f = c.processor.formats in
-    let words = are bl made is_made in
+    let words = are before made is_made in
     let value = result number (s.registers 13) in
     value_group (link c) 1 r.executes k k' s s' 3 value (sum_64 s.pc 8) (sum_below s.pc 8)
     (calls 2 c value k k' s s' bl r r.stands.0) r.changes
@@ -648,15 +677,15 @@ call_of_one : (kind : RewriteKind) (result : ℕ → ℕ → ℕ)
     → ((p : Processor) (code : ℕ → ℕ) (t : State) (bl made : List ℕ) (number : ℕ) → IsRewritten kind bl made
     → loaded 4 code t.pc ≡ word_of made → t.registers 3 ≡ number
     → machine p code t ≡ Some (put 3 (result number (t.registers 13)) (sum_64 t.pc 4) t))
-    → groups.CallTo 1 kind result
-call_of_one kind result steps c number k k' s s' bl made r is_made stays has new =
+    → groups.Rewrites groups.is_any kind (groups.CallTo 1 result)
+call_of_one kind result steps before made is is_made c number k k' s s' bl r stays has new =
     let p = c.processor in
     let value = result number (s.registers 13) in
     value_group (link c) 0 r.executes k k' s s' 3 value (sum_64 s.pc 4) (sum_below s.pc 4)
     (calls 1 c value k k' s s' bl r r.stands.0) r.changes
     (λ t agree.
     once p c.new t (put 3 value (sum_64 s.pc 4) t)
-    (steps p c.new t bl made number is_made (ap (loaded 4 c.new) agree.pc ∙ new.0) (has t agree)
+    (steps p c.new t before made number is_made (ap (loaded 4 c.new) agree.pc ∙ new.0) (has t agree)
     ∙ ap (λ n. Some (put 3 (result number n) (sum_64 t.pc 4) t)) (same_register c k s t 13 stays agree)
     ∙ ap (λ a. Some (put 3 value (sum_64 a 4) t)) agree.pc))
 
@@ -678,13 +707,13 @@ are_calls = (
         last = second_made made nop 0x7c636a14 (omega arith) (omega arith) is;
       })
       adds_thread,
-  call_of_two kinds.CallToAddi4096 (λ number thread. sum_64 number 0x1000) 0x38631000
+  call_of_two kinds.CallToAddi4096 groups.add_block 0x38631000
       (λ bl made is. record {
         blank = first_made made nop 0x38631000 (omega arith) (omega arith) is;
         last = second_made made nop 0x38631000 (omega arith) (omega arith) is;
       })
       adds_block,
-  call_of_one kinds.BranchToNop (λ number thread. number)
+  call_of_one kinds.BranchToNop groups.keep_number
       (λ p code t bl made number is stands has.
       passes p code t (word_of made) stands (word_is nop made (omega arith) is)
       ∙ ap Some (sym (unchanged 3 number (sum_64 t.pc 4) t has))),
@@ -728,21 +757,20 @@ new_stands : (c : Code) (k : Kinds) (s t : State) (bytes : List ℕ) → Agree (
     → Stands 2 c.new t.pc bytes
 new_stands c k s t bytes agree stands = subst (λ a. Stands 2 c.new a bytes) (sym agree.pc) stands
 
-pub are_prefixed : relocation_laws.Prefixes → groups.PldToPaddi
-are_prefixed prefixes c o k s pld paddi r made holds new =
+pub are_prefixed : relocation_laws.Prefixes → groups.RewritesBoth is_pld kinds.PldToPaddi groups.PldToPaddi
+are_prefixed prefixes pld paddi is made c o k s r holds new =
     let p = c.processor in
     let rt = prefixed_target pld in
-    let i = r.is in
     leaves c k s 8 rt same (symbol_address o) (symbol_address o)
     (sets_8 p c.old s r.old.relocated 0x104 57 0 rt (symbol_address o) r.old.stands
     (prefixed_after _ _ pld r.old.relocated 0x104 57 rt 0 r.old.applied.written
-    (pld_parts pld i.prefix_below i.word_below i.insn_is)) refl (below_prefixed pld)
-    (pld_sets prefixes p.formats o (seen s) pld r.old.relocated (symbol_address o) i r.old.applied holds))
+    (pld_parts pld is.prefix_below is.word_below is.is)) refl (below_prefixed pld)
+    (pld_sets prefixes p.formats o (seen s) pld r.old.relocated (symbol_address o) r.small r.at is r.old.applied holds))
     (λ t agree.
     sets_8 p c.new t new.relocated 0x184 14 0 rt (symbol_address o) (new_stands c k s t new.relocated agree new.stands)
     (prefixed_after _ _ paddi new.relocated 0x184 14 rt 0 new.applied.written (paddi_parts pld paddi made)) refl
     (below_prefixed pld)
-    (paddi_sets prefixes p.formats o (seen t) pld paddi new.relocated i.small (agree.pc ∙ i.at) made new.applied))
+    (paddi_sets prefixes p.formats o (seen t) pld paddi new.relocated r.small (agree.pc ∙ r.at) made new.applied))
     refl
 
 -- a relocation that keeps what isn't the field of a prefixed instruction
@@ -753,14 +781,13 @@ KeepsPrefixed name =
 
 -- `paddi rT` of a GOT entry
 pla_sets : (c : Code) (name : Ppc64Relocation) (o : Operands) (s : State) (insn : List ℕ)
-    → KeepsPrefixed name → (r : groups.IsRelative is_pla name c o s insn)
+    → KeepsPrefixed name → groups.IsPrefixed is_pla insn → (r : groups.IsRelative name c o s insn)
     → moved s.pc ((ppc64_form Prefixed).machine (prefixed_of r.old.relocated)) ≡ o.got_entry
     → machine c.processor c.old s ≡ Some (put (prefixed_target insn) o.got_entry (sum_64 s.pc 8) s)
-pla_sets c name o s insn keeps r leads =
+pla_sets c name o s insn keeps is r leads =
     let rt = prefixed_target insn in
-    let i = r.is in
     let parts =
-    keeps o insn r.old.relocated 0x184 14 rt 0 r.old.applied (pla_parts insn i.prefix_below i.word_below i.insn_is) in
+    keeps o insn r.old.relocated 0x184 14 rt 0 r.old.applied (pla_parts insn is.prefix_below is.word_below is.is) in
     sets_8 c.processor c.old s r.old.relocated 0x184 14 0 rt o.got_entry r.old.stands parts refl (below_prefixed insn)
     (step_paddi c.processor.formats (prefixed_of r.old.relocated) rt (seen s) parts
     ∙ ap (λ n. Some (set_8 rt n (seen s))) leads)
@@ -782,40 +809,45 @@ variable_sets prefixes c o k s t insn over small made stays new agree =
     (variable_there prefixes o (t.registers 13) over new.relocated small new.applied
     ∙ ap (from_thread o) (same_register c k s t 13 stays agree)))
 
-pub are_variables : relocation_laws.Prefixes → groups.ToVariable
-are_variables prefixes = (
-  λ c o number k s paddi over r made is stays new h halves.
-      leaves c k s 8 (prefixed_target paddi) (half h) number (from_thread o (s.registers 13))
-      (pla_sets c names.R_PPC64_GOT_TLSGD_PCREL34 o s paddi
-      (λ o x y p op rt ra a. prefixed_after _ _ x y p op rt ra a.written) r
-      (general_entry prefixes o (seen s) paddi r.old.relocated r.is.small r.is.at r.old.applied)
-      ∙ ap (λ n. Some (put (prefixed_target paddi) n (sum_64 s.pc 8) s)) (sym is))
-      (λ t agree. variable_sets prefixes c o k s t paddi over r.is.small made stays new agree)
-      (are_half c h _ _ halves),
-  λ c o number k s pld over r made holds stays new h halves.
-      let i = r.is in
-      let rt = prefixed_target pld in
-      let parts =
-      prefixed_after _ _ pld r.old.relocated 0x104 57 rt 0 r.old.applied.written
-      (pld_parts pld i.prefix_below i.word_below i.insn_is) in
-      leaves c k s 8 rt (half h) number (from_thread o (s.registers 13))
-      (sets_8 c.processor c.old s r.old.relocated 0x104 57 0 rt number r.old.stands parts refl (below_prefixed pld)
-      (step_pld c.processor.formats (prefixed_of r.old.relocated) rt (seen s) parts
-      ∙ ap (λ n. Some (set_8 rt n (seen s)))
-      (ap (loaded 8 s.memory) (offset_entry prefixes o (seen s) pld r.old.relocated i.small i.at r.old.applied) ∙ holds.1)))
-      (λ t agree. variable_sets prefixes c o k s t pld over i.small made stays new agree)
-      (are_half c h _ _ halves),
-)
+argument_variables : relocation_laws.Prefixes
+    → groups.RewritesBoth is_pla kinds.PaddiToPaddiThread groups.ArgumentToVariable
+argument_variables prefixes paddi over is made c o number k s r number_is stays new h halves =
+    leaves c k s 8 (prefixed_target paddi) (half h) number (from_thread o (s.registers 13))
+    (pla_sets c names.R_PPC64_GOT_TLSGD_PCREL34 o s paddi
+    (λ o x y p op rt ra a. prefixed_after _ _ x y p op rt ra a.written) is r
+    (general_entry prefixes o (seen s) paddi r.old.relocated r.small r.at r.old.applied)
+    ∙ ap (λ n. Some (put (prefixed_target paddi) n (sum_64 s.pc 8) s)) (sym number_is))
+    (λ t agree. variable_sets prefixes c o k s t paddi over r.small made stays new agree)
+    (are_half c h _ _ halves)
 
-pub are_prefixed_loads : relocation_laws.Prefixes → groups.ArgumentToLoad
-are_prefixed_loads prefixes c x y offset k s paddi pld r made small at holds new h halves =
+loaded_variables : relocation_laws.Prefixes
+    → groups.RewritesBoth is_pld kinds.PldToPaddiThread groups.LoadToVariable
+loaded_variables prefixes pld over is made c o number k s r holds stays new h halves =
+    let rt = prefixed_target pld in
+    let parts =
+    prefixed_after _ _ pld r.old.relocated 0x104 57 rt 0 r.old.applied.written
+    (pld_parts pld is.prefix_below is.word_below is.is) in
+    leaves c k s 8 rt (half h) number (from_thread o (s.registers 13))
+    (sets_8 c.processor c.old s r.old.relocated 0x104 57 0 rt number r.old.stands parts refl (below_prefixed pld)
+    (step_pld c.processor.formats (prefixed_of r.old.relocated) rt (seen s) parts
+    ∙ ap (λ n. Some (set_8 rt n (seen s)))
+    (ap (loaded 8 s.memory) (offset_entry prefixes o (seen s) pld r.old.relocated r.small r.at r.old.applied) ∙ holds.1)))
+    (λ t agree. variable_sets prefixes c o k s t pld over r.small made stays new agree)
+    (are_half c h _ _ halves)
+
+pub are_variables : relocation_laws.Prefixes → groups.ToVariable
+are_variables prefixes = (argument_variables prefixes, loaded_variables prefixes)
+
+pub are_prefixed_loads : relocation_laws.Prefixes
+    → groups.RewritesBoth is_pla kinds.PaddiToPld groups.ArgumentToLoad
+are_prefixed_loads prefixes paddi pld is made c x y offset k s r small at holds new h halves =
     let rt = prefixed_target paddi in
     let parts =
     prefixed_after _ _ pld new.relocated 0x104 57 rt 0 new.applied.written (loads_thread paddi pld made) in
     leaves c k s 8 rt (half h) x.got_entry offset
     (pla_sets c names.R_PPC64_GOT_TLSGD_PCREL34 x s paddi
-    (λ o x y p op rt ra a. prefixed_after _ _ x y p op rt ra a.written) r
-    (general_entry prefixes x (seen s) paddi r.old.relocated r.is.small r.is.at r.old.applied))
+    (λ o x y p op rt ra a. prefixed_after _ _ x y p op rt ra a.written) is r
+    (general_entry prefixes x (seen s) paddi r.old.relocated r.small r.at r.old.applied))
     (λ t agree.
     sets_8 c.processor c.new t new.relocated 0x104 57 0 rt offset (new_stands c k s t new.relocated agree new.stands) parts
     refl (below_prefixed paddi)
@@ -825,26 +857,28 @@ are_prefixed_loads prefixes c x y offset k s paddi pld r made small at holds new
     ∙ holds t agree)))
     (are_half c h _ _ halves)
 
-pub are_prefixed_blocks : relocation_laws.Prefixes → groups.ArgumentToBlock
-are_prefixed_blocks prefixes c o k s paddi over r made stays new h halves =
+pub are_prefixed_blocks : relocation_laws.Prefixes
+    → groups.RewritesBoth is_pla kinds.PaddiToPaddi4096 groups.ArgumentToBlock
+are_prefixed_blocks prefixes paddi over is made c o k s r stays new h halves =
     let rt = prefixed_target paddi in
-    let is = over_thread 0x1000 paddi over (omega arith) made in
+    let there = over_thread 0x1000 paddi over (omega arith) made in
     leaves c k s 8 rt (half h) o.got_entry (sum_64 (s.registers 13) 0x1000)
     (pla_sets c names.R_PPC64_GOT_TLSLD_PCREL34 o s paddi
-    (λ o x y p op rt ra a. prefixed_after _ _ x y p op rt ra a.written) r
-    (module_entry prefixes o (seen s) paddi r.old.relocated r.is.small r.is.at r.old.applied))
+    (λ o x y p op rt ra a. prefixed_after _ _ x y p op rt ra a.written) is r
+    (module_entry prefixes o (seen s) paddi r.old.relocated r.small r.at r.old.applied))
     (λ t agree.
     sets_8 c.processor c.new t over 0x180 14 13 rt (sum_64 (s.registers 13) 0x1000) (new_stands c k s t over agree new)
-    is.parts refl (below_prefixed paddi)
-    (step_paddi_over c.processor.formats (prefixed_of over) rt 13 (seen t) is.parts
+    there.parts refl (below_prefixed paddi)
+    (step_paddi_over c.processor.formats (prefixed_of over) rt 13 (seen t) there.parts
     ∙ ap (λ n. Some (set_8 rt n (seen t)))
-    (ap (moved (t.registers 13)) (displacement_is rt (prefixed_of over) is.number_is)
+    (ap (moved (t.registers 13)) (displacement_is rt (prefixed_of over) there.number_is)
     ∙ wrapped_is (pos (t.registers 13) +ℤ pos 0x1000) 0 (t.registers 13 + 0x1000) (omega (arith, ints))
     ∙ ap (λ n. sum_64 n 0x1000) (same_register c k s t 13 stays agree))))
     (are_half c h _ _ halves)
 
-over_variable : (kind : RewriteKind) (how : Use) → VariableSteps kind how → groups.OverVariable kind how
-over_variable kind how steps c offset k s insn direct is made has leads old new =
+over_variable : (kind : RewriteKind) (how : Use) → VariableSteps kind how
+    → groups.Rewrites how.test kind (groups.OverVariable how)
+over_variable kind how steps insn direct is made c offset k s has leads old new =
     let f = c.processor.formats in
     uses c how (word_of insn) (sum_64 offset (s.registers 13)) k s (word_of insn) (word_of direct) old.0 new.0
     (steps.sum.old f (seen s) insn offset is has)
@@ -886,18 +920,18 @@ are_entries relative absolute c o k s addis addi lis following small at has is_a
     made_after new.applied new_after.applied)
     ∙ ap (λ a. Some (put 2 (symbol_address o) (sum_64 a 8) t)) agree.pc)
 
-pub are_toc : groups.RestoresToc
-are_toc c k s call restored small is made old new holds =
+pub are_toc : groups.RewritesBoth is_call kinds.NopToRestoreToc groups.RestoresToc
+are_toc call restored is made c k s old new holds =
     let p = c.processor in
     let toc = s.registers 2 in
     let next = sum_64 s.pc 4 in
     subst (λ u. Group (of_link (link c)) 1 k s (with_register 2 same k) u) (unchanged 2 toc next s refl)
     (leaves c k s 4 2 same toc toc
-    (goes p c.old s (word_of (drop 4 call)) (go_on (seen s)) old.0 (restores_toc p.formats (seen s) call restored small is made).1
+    (goes p c.old s (word_of (drop 4 call)) (go_on (seen s)) old.0 (restores_toc p.formats (seen s) call restored is.prefix_below is.is made).0
     ∙ ap Some (went s next ∙ sym (unchanged 2 toc next s refl)))
     (λ t agree.
     sets p c.new t (word_of (drop 4 restored)) 2 (loaded 8 t.memory (sum_64 (t.registers 1) 24))
-    (ap (loaded 4 c.new) agree.pc ∙ new.0) (omega arith) (restores_toc p.formats (seen t) call restored small is made).2
+    (ap (loaded 4 c.new) agree.pc ∙ new.0) (omega arith) (restores_toc p.formats (seen t) call restored is.prefix_below is.is made).1
     ∙ ap (λ n. Some (put 2 n (sum_64 t.pc 4) t)) (holds t agree))
     refl)
 

@@ -186,12 +186,12 @@ module _ (g : Groups) where
       × Low names.R_PPC64_TOC16_LO_DS Ds from_toc near (high_part addis starting) (starting.registers 2))
       × Leaves 4 code known starting 3 anything (high_part addis starting)
   toc =
-      g.high_halves.0 code near known starting addis nop (small 0x20120 (lit< tt)) refl refl
+      g.high_halves.0 addis nop refl refl code near known starting (small 0x20120 (lit< tt))
       (record { relocated = addis; applied = addis_is; stands = (refl, tt) }) (refl, tt)
 
   p2 : Group (of_link (link code)) 1 k1 s1 k2 s2
   p2 =
-      g.low_halves.0 code near k1 s1 addi over (small 0x20120 (lit< tt)) refl refl refl (toc.0).0
+      (g.low_halves.0 addi over refl refl).0 code near k1 s1 (small 0x20120 (lit< tt)) refl refl (toc.0).0
       (record { relocated = 0x20 ∷ 0x01 ∷ 0x63 ∷ 0x38 ∷ []; applied = addi_is; stands = (refl, tt) })
       (record { relocated = 0x20 ∷ 0x01 ∷ 0x62 ∷ 0x38 ∷ []; applied = over_is; stands = (refl, tt) }) k2
       (λ t agree. sum_keeps code k1 s1 t is_addi 0x38630000 0x20120 agree)
@@ -200,13 +200,13 @@ module _ (g : Groups) where
   entry : Low names.R_PPC64_GOT_TPREL16_LO_DS Ds entry_from_toc variable (high_part high s2) (s2.registers 2)
       × Leaves 4 code k2 s2 4 anything (high_part high s2)
   entry =
-      g.high_halves.2 code variable k2 s2 high nop (small 0x54344 (lit< tt)) refl refl
+      g.high_halves.2 high nop refl refl code variable k2 s2 (small 0x54344 (lit< tt))
       (record { relocated = high; applied = high_is; stands = (refl, tt) }) (refl, tt)
 
   offset : LowHalfLeads variable (code.new_half 0) (from_thread variable (s3.registers 13))
       × Leaves 4 code k3 s3 4 (half 0) 0x54344
   offset =
-      g.offsets code variable k3 s3 load high_13 (small 0x54344 (lit< tt)) refl refl
+      g.offsets load high_13 refl refl code variable k3 s3 (small 0x54344 (lit< tt))
       (record { at = 0x20010; leads = entry.0; holds = refl })
       (record { relocated = load_of; applied = load_is; stands = (refl, tt) }) 0 refl
       (record { relocated = high_13_of; applied = high_13_is; stands = (refl, tt) }) (refl, made_high)
@@ -218,7 +218,7 @@ module _ (g : Groups) where
 
   p5 : Group (of_link (link code)) 1 k4 s4 k5 s5
   p5 =
-      g.low_offsets.0 code variable k4 s4 add direct refl refl refl leads (refl, tt)
+      g.low_offsets.0 add direct refl refl code variable k4 s4 refl leads (refl, tt)
       (record { relocated = 0x44 ∷ 0x43 ∷ 0xa4 ∷ 0x38 ∷ []; applied = direct_is; stands = (refl, tt) }) k5
       (λ t agree. sum_keeps code k4 s4 t is_add_of_thread 0x7ca46a14 0x54351 agree)
 

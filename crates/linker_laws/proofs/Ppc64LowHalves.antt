@@ -21,13 +21,14 @@ use Rattle.linker_laws.specs.Ppc64RelocationLaws as relocation_laws
 use Rattle.linker_laws.specs.Schemes.{AreAddresses, symbol_address, IsAddress}
 use Rattle.linker_laws.specs.Machine.{moved}
 use Rattle.linker_laws.specs.Ppc64RewriteLaws.{word_of, IsRelocated, IsRewritten, at_place}
-use Rattle.linker_laws.specs.Ppc64RewriteLaws.{access_number, ds_access, is_d_over, is_d_over_base, is_ds_over_base}
+use Rattle.linker_laws.specs.Ppc64RewriteLaws.{access_number, ds_access, is_d_over, is_ds_over_base}
+use Rattle.linker_laws.specs.Ppc64Groups as groups
 use Rattle.linker_laws.specs.Ppc64RewriteLaws as laws
 use Rattle.linker_laws.specs.Ppc64Machine.{State, Formats, base, go_on, accessed, access_with}
 use Rattle.linker_laws.proofs.AArch64Pairs.{word_made}
 use Rattle.linker_laws.proofs.Ppc64Accesses.{step_access}
 use Rattle.linker_laws.proofs.Ppc64Addresses.{same_parts, some_of}
-use Rattle.linker_laws.proofs.Ppc64Apart.{Does, IsBase, IsUse, Keeps, accesses, base_some, does_so, sums}
+use Rattle.linker_laws.proofs.Ppc64Apart.{Does, IsBase, Keeps, base_some}
 use Rattle.linker_laws.proofs.Ppc64Accesses.{d_access_parts}
 use Rattle.linker_laws.proofs.Ppc64Accesses.{ds_parts, step_word}
 use Rattle.linker_laws.proofs.Ppc64Words.{HasParts, d_after, ds_after, set, step_addi, wrapped_is}
@@ -73,7 +74,6 @@ KeepsLow name =
 -- The steps of instructions by a low half over any register, and of those over r.
 pub record OverSteps (r : ℕ) (kind : RewriteKind) (low whole : Ppc64Relocation) (form : Ppc64Instruction)
     (address : Operands → ℕ → ℕ) (how : laws.Use) : Type 0 where
-  pub is_use : IsUse how
   pub old : (f : Formats) (o : Operands) (s : State) (insn insn_of : List ℕ) (target at : ℕ)
       → how.test (word_of insn) ≡ true → laws.Leads low form o (s.registers (ra_of (word_of insn))) target
       → IsRelocated low (at_place at o) insn insn_of
@@ -82,20 +82,10 @@ pub record OverSteps (r : ℕ) (kind : RewriteKind) (low whole : Ppc64Relocation
       → how.test (word_of insn) ≡ true → IsRewritten kind insn over → IsRelocated whole o over over_of
       → Does f (how.does f (word_of insn) (address o (t.registers r))) (word_of over_of) t
 
-over_base_law : (r : ℕ) (kind : RewriteKind) (low whole : Ppc64Relocation) (form : Ppc64Instruction)
-    (address : Operands → ℕ → ℕ) (how : laws.Use) → OverSteps r kind low whole form address how
-    → laws.OverBase r kind low whole form address how
-over_base_law r kind low whole form address how steps f o s t c insn over small alike is made leads requires at
-    insn_of over_of l d =
-    does_so f how c (word_of insn_of) (word_of over_of) (word_of insn) (address o (t.registers r)) s t steps.is_use alike
-    requires (steps.old f o s insn insn_of (address o (t.registers r)) at is leads l)
-    (steps.new f o t insn over over_of small is made d)
-
 addi_over : (r : ℕ) (kind : RewriteKind) (low whole : Ppc64Relocation) (address : Operands → ℕ → ℕ)
     → IsOver r kind low whole D address → OverSteps r kind low whole D address (laws.adds is_addi)
 addi_over r kind low whole address e =
     record {
-      is_use = sums is_addi;
       old = λ f o s insn insn_of target at is leads l.
           let x = word_of insn in
           let w = word_of insn_of in
@@ -120,7 +110,6 @@ access_over : (r : ℕ) (kind : RewriteKind) (low whole : Ppc64Relocation) (addr
     → IsOver r kind low whole D address → OverSteps r kind low whole D address is_d_over
 access_over r kind low whole address e =
     record {
-      is_use = accesses is_d_over_base (λ word. access_with (access_number word));
       old = λ f o s insn insn_of target at is leads l.
           let x = word_of insn in
           let w = word_of insn_of in
@@ -147,7 +136,6 @@ word_access_over : (r : ℕ) (kind : RewriteKind) (low whole : Ppc64Relocation) 
     → OverSteps r kind low whole Ds address (laws.accesses is_ds_over_base ds_access)
 word_access_over r kind low whole address e low_bits whole_bits =
     record {
-      is_use = accesses is_ds_over_base ds_access;
       old = λ f o s insn insn_of target at is leads l.
           let x = word_of insn in
           let w = word_of insn_of in
@@ -177,19 +165,20 @@ word_access_over r kind low whole address e low_bits whole_bits =
     }
 
 vector_over : (r : ℕ) (kind : RewriteKind) (low whole : Ppc64Relocation) (address : Operands → ℕ → ℕ)
-    → IsOver r kind low whole Ds address → laws.VectorOverBase r kind low whole address
-vector_over r kind low whole address e o s t insn over small is made leads at insn_of over_of l d =
+    → IsOver r kind low whole Ds address → (insn over : List ℕ) → IsRewritten kind insn over
+    → groups.VectorOverBase r low whole address insn over
+vector_over r kind low whole address e insn over made o s t small is leads insn_of over_of l d =
     let x = word_of insn in
     let both = and_parts (is_vector_access x) (not (ra_of x == 0)) is in
     let w = word_of insn_of in
     let y = word_of over_of in
     let parts = over_base_parts r x (word_of over) e.small (e.made insn over made) in
-    let before = e.low_keeps (at_place at o) insn insn_of l in
+    let before = e.low_keeps o insn insn_of l in
     let after = e.whole_keeps o over over_of d in
     let old : laws.address_read w s ≡ address o (t.registers r) =
     ap (λ k. moved (base k s) (ppc64_reads Ds w)) before.ra_is
     ∙ ap (λ n. moved n (ppc64_reads Ds w)) (base_some (ra_of x) s (some_of (ra_of x) both.1))
-    ∙ leads at insn insn_of l in
+    ∙ leads o.place insn insn_of l in
     let new : laws.address_read y t ≡ address o (t.registers r) =
     ap (λ k. moved (base k t) (ppc64_reads Ds y)) (after.ra_is ∙ parts.ra_is)
     ∙ ap (λ n. moved n (ppc64_reads Ds y)) (e.is_base t)
@@ -270,6 +259,10 @@ pub record Steps : Type 0 where
       OverSteps 13 kinds.BaseToThread names.R_PPC64_TPREL16_LO names.R_PPC64_TPREL16 D laws.from_thread (laws.adds is_addi)
   pub thread_accesses :
       OverSteps 13 kinds.BaseToThread names.R_PPC64_TPREL16_LO names.R_PPC64_TPREL16 D laws.from_thread is_d_over
+  pub toc_vectors : (insn over : List ℕ) → IsRewritten kinds.BaseToToc insn over
+      → groups.VectorOverBase 2 names.R_PPC64_TOC16_LO_DS names.R_PPC64_TOC16_DS laws.from_toc insn over
+  pub thread_vectors : (insn over : List ℕ) → IsRewritten kinds.BaseToThread insn over
+      → groups.VectorOverBase 13 names.R_PPC64_TPREL16_LO_DS names.R_PPC64_TPREL16_DS laws.from_thread insn over
   pub thread_words :
       OverSteps 13 kinds.BaseToThread names.R_PPC64_TPREL16_LO_DS names.R_PPC64_TPREL16_DS Ds laws.from_thread
       (laws.accesses is_ds_over_base ds_access)
@@ -281,21 +274,10 @@ steps near =
       toc_accesses = access_over 2 _ _ _ _ (toc_d near);
       toc_words = word_access_over 2 _ _ _ _ (toc_ds near) (λ o x y a. (ds_after _ _ x y a.written).1)
           (λ o x y a. (ds_after _ _ x y a.written).1);
+      toc_vectors = vector_over 2 _ _ _ _ (toc_ds near);
+      thread_vectors = vector_over 13 _ _ _ _ (thread_ds near);
       thread_sums = addi_over 13 _ _ _ _ (thread_d near);
       thread_accesses = access_over 13 _ _ _ _ (thread_d near);
       thread_words = word_access_over 13 _ _ _ _ (thread_ds near) (λ o x y a. (ds_after _ _ x y a.written).1)
           (λ o x y a. (ds_after _ _ x y a.written).1);
     }
-
-pub low_half_over_base : relocation_laws.Displacements → laws.LowHalfOverBase
-low_half_over_base near =
-    let s = steps near in (
-      over_base_law 2 _ _ _ _ _ _ s.toc_sums,
-      over_base_law 2 _ _ _ _ _ _ s.toc_accesses,
-      over_base_law 2 _ _ _ _ _ _ s.toc_words,
-      vector_over 2 _ _ _ _ (toc_ds near),
-      over_base_law 13 _ _ _ _ _ _ s.thread_sums,
-      over_base_law 13 _ _ _ _ _ _ s.thread_accesses,
-      over_base_law 13 _ _ _ _ _ _ s.thread_words,
-      vector_over 13 _ _ _ _ (thread_ds near),
-    )

@@ -1,66 +1,33 @@
 -- PowerPC64: instructions of initial-exec, each in two runs.
-use Rattle.std.proofs.Common.{◌≡◌, ℕ, ◌+◌, ◌^◌, refl, sym, ◌∙◌, ap, arith}
-use Rattle.std.proofs.Common.{List, pos, ◌*ℤ◌, Some, true}
+use Rattle.std.proofs.Common.{◌≡◌, ℕ, ◌+◌, refl, sym, ◌∙◌, ap, arith}
+use Rattle.std.proofs.Common.{List, Some, true}
 use Rattle.std.specs.Prelude.{◌==◌}
 use Rattle.linker_elf.specs.Ppc64.{ppc64_form}
 use Rattle.linker_elf.specs.Value.{sum_64}
 use Rattle.linker_elf.specs.declared.elf.value.Operands.{Operands}
 use Rattle.linker_elf.specs.declared.ppc64.forms.Ppc64Instruction.TheVariants.{D, Ds}
 use Rattle.linker_utils.specs.Ppc64Rewrites.{opcode_of, rt_of, ra_of, access_of, registers_of}
-use Rattle.linker_utils.specs.Ppc64Rewrites.{addis_of_thread, by_displacement, by_word_displacement}
+use Rattle.linker_utils.specs.Ppc64Rewrites.{by_displacement, by_word_displacement}
 use Rattle.linker_utils.specs.Ppc64Rewrites.{is_add_of_thread, is_indexed, is_indexed_word}
 use Rattle.linker_utils.specs.declared.ppc64.rewrites.RewriteKind.{RewriteKind}
 use Rattle.linker_utils.specs.declared.ppc64.rewrites.RewriteKind.TheVariants as kinds
 use Rattle.linker_elf.specs.declared.ppc64.relocations.Ppc64Relocation.{Ppc64Relocation}
 use Rattle.linker_elf.specs.declared.ppc64.relocations.Ppc64Relocation.TheVariants as names
-use Rattle.linker_laws.specs.Ppc64RelocationLaws as relocation_laws
-use Rattle.linker_laws.specs.Machine.{moved, loaded}
-use Rattle.linker_laws.specs.Ppc64RewriteLaws.{IsRelocated, IsRewritten, word_of, from_thread, thread_offset}
+use Rattle.linker_laws.specs.Machine.{moved}
+use Rattle.linker_laws.specs.Ppc64RewriteLaws.{IsRelocated, IsRewritten, word_of}
 use Rattle.linker_laws.specs.Ppc64RewriteLaws as laws
-use Rattle.linker_laws.specs.Ppc64Machine.{State, Formats, base, go_on, accessed, access_with, word_access_with}
+use Rattle.linker_laws.specs.Ppc64Machine.{State, Formats, go_on, accessed, access_with, word_access_with}
 use Rattle.linker_laws.proofs.AArch64Pairs.{word_made}
 use Rattle.linker_laws.proofs.Ppc64Accesses.{step_access, step_indexed}
-use Rattle.linker_laws.proofs.Ppc64Addresses.{same_parts, ld_parts, add_parts, reads_ds}
-use Rattle.linker_laws.proofs.Ppc64Apart.{Does, IsUse, accesses, agree_also, base_some, does_so, steps_so, sums, written_is}
-use Rattle.linker_laws.proofs.Ppc64Copies.{addis_13_parts, thread_halves}
+use Rattle.linker_laws.proofs.Ppc64Addresses.{same_parts, add_parts}
+use Rattle.linker_laws.proofs.Ppc64Apart.{Does, base_some}
 use Rattle.linker_laws.proofs.Ppc64Accesses.{indexed_parts}
 use Rattle.linker_laws.proofs.Ppc64Accesses.{indexed_word_parts, is_direct, step_indexed_word, below}
 use Rattle.linker_laws.proofs.Ppc64Accesses.{step_word}
-use Rattle.linker_laws.proofs.Ppc64Words.{HasParts, d_after, ds_after, set, step_addis, step_addi, step_ld, step_add}
-
-pub offset_to_high_half : relocation_laws.ThreadAddresses → laws.OffsetToHighHalf
-offset_to_high_half thread f o s t c ld addis_13 small alike is made entry leads holds at ld1 addis1 l1 a1 =
-    let x = rt_of (word_of ld) in
-    let load = ld_parts (word_of ld) is in
-    let after = ds_after _ _ ld ld1 l1.written in
-    let w = word_of ld1 in
-    let b = (ppc64_form Ds).machine w in
-    let number = loaded 8 s.memory (moved (base (ra_of (word_of ld)) s) b) in
-    let address : moved (base (ra_of (word_of ld)) s) b ≡ entry =
-    ap (λ n. moved n b) (base_some (ra_of (word_of ld)) s load.over_some)
-    ∙ ap (moved (s.registers (ra_of (word_of ld)))) (sym (reads_ds w (after.0.opcode_is ∙ load.parts.opcode_is)))
-    ∙ leads at ld ld1 l1 in
-    let word : word_of addis_13 ≡ addis_of_thread x =
-    word_made (λ w. addis_of_thread (rt_of w)) ld addis_13 (omega arith) made in
-    let parts = addis_13_parts x (word_of addis_13) (omega arith) word in
-    let y = word_of addis1 in
-    let high = moved (t.registers 13) ((ppc64_form D).machine y *ℤ pos (2 ^ 16)) in
-    steps_so f w y s t (set x number s) (set x high t) _
-    (step_ld f w x (ra_of (word_of ld)) s (same_parts load.parts.opcode_is refl refl after.0) (after.1 ∙ load.low))
-    (step_addis f y x 13 t
-    (same_parts parts.opcode_is parts.rt_is parts.ra_is (d_after _ _ addis_13 addis1 a1.written)))
-    refl refl (
-      agree_also x number high c s t alike,
-      record {
-        offset_is = written_is (λ n. n ≡ thread_offset o) x number s (ap (loaded 8 s.memory) address ∙ holds);
-        leads = written_is (λ n. laws.LowHalfLeads o n (from_thread o (t.registers 13))) x high t
-            (thread_halves thread o small (t.registers 13) addis_13 addis1 a1);
-      },
-    )
+use Rattle.linker_laws.proofs.Ppc64Words.{HasParts, d_after, ds_after, set, step_addi, step_add}
 
 -- The steps of instructions by the sum of an offset and the thread pointer.
 pub record SumSteps (how : laws.Use) : Type 0 where
-  pub is_use : IsUse how
   pub old : (f : Formats) (s : State) (insn : List ℕ) (offset : ℕ) → how.test (word_of insn) ≡ true
       → s.registers (ra_of (word_of insn)) ≡ offset
       → Does f (how.does f (word_of insn) (sum_64 offset (s.registers 13))) (word_of insn) s
@@ -73,17 +40,9 @@ pub record OffsetSteps (kind : RewriteKind) (low : Ppc64Relocation) (how : laws.
       → IsRelocated low (laws.at_place at o) direct direct_of
       → Does f (how.does f (word_of insn) target) (word_of direct_of) t
 
-over_offset : (kind : RewriteKind) (low : Ppc64Relocation) (how : laws.Use) → OffsetSteps kind low how
-    → laws.OverOffset kind low how
-over_offset kind low how steps f o s t c insn direct small alike is made has requires at direct_of d =
-    does_so f how c (word_of insn) (word_of direct_of) (word_of insn) (from_thread o (s.registers 13)) s t
-    steps.sum.is_use alike requires (steps.sum.old f s insn (thread_offset o) is has.offset_is)
-    (steps.new f o t insn direct direct_of (from_thread o (s.registers 13)) at is made has.leads d)
-
 pub adds_sum : SumSteps (laws.adds is_add_of_thread)
 adds_sum =
     record {
-      is_use = sums is_add_of_thread;
       old = λ f s insn offset is has.
           let x = word_of insn in
           let p = add_parts x is in
@@ -95,7 +54,6 @@ adds_sum =
 pub accesses_sum : SumSteps (laws.accesses is_indexed (λ word. access_with (access_of word)))
 accesses_sum =
     record {
-      is_use = accesses is_indexed (λ word. access_with (access_of word));
       old = λ f s insn offset is has.
           let x = word_of insn in
           let p = indexed_parts x is in
@@ -107,7 +65,6 @@ accesses_sum =
 pub words_sum : SumSteps (laws.accesses is_indexed_word (λ word. word_access_with (access_of word)))
 words_sum =
     record {
-      is_use = accesses is_indexed_word (λ word. word_access_with (access_of word));
       old = λ f s insn offset is has.
           let x = word_of insn in
           let p = indexed_word_parts x is in
@@ -178,7 +135,3 @@ words_offset =
           (ap (λ n. moved n ((ppc64_form Ds).machine y)) (base_some (ra_of x) t p.over_some)
           ∙ ap (moved (t.registers (ra_of x))) (sym (turned.reads y after.0.opcode_is)) ∙ leads.1 at direct direct_of d);
     }
-
-pub offset_to_low_half : laws.OffsetToLowHalf
-offset_to_low_half =
-    (over_offset _ _ _ adds_offset, over_offset _ _ _ accesses_offset, over_offset _ _ _ words_offset)

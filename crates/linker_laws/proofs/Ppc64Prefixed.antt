@@ -1,7 +1,7 @@
 -- PowerPC64: prefixed instructions.
-use Rattle.std.proofs.Common.{◌≡◌, ℕ, ◌+◌, ◌*◌, ◌/◌, ◌^◌, ◌<◌, ◌++◌, refl, sym, ◌∙◌, ap, subst, arith, List}
-use Rattle.std.proofs.Common.{[], false, drop, Some, true, ℤ}
-use Rattle.std.specs.Prelude.{◌&&◌, ◌==◌, IsSomeAnd}
+use Rattle.std.proofs.Common.{◌≡◌, ℕ, ◌+◌, ◌*◌, ◌/◌, ◌^◌, ◌<◌, ◌++◌, refl, ◌∙◌, ap, arith, List}
+use Rattle.std.proofs.Common.{[], drop, Some, true, ℤ}
+use Rattle.std.specs.Prelude.{◌&&◌, ◌==◌}
 use Rattle.std.proofs.lemmas.Bool.{and_parts, eqb-true, cond-true, cond-false, eq-eqb}
 use Rattle.linker_base.specs.Bits.{field}
 use Rattle.linker_base.specs.Form.{ImmediateBit, bits_to}
@@ -19,8 +19,9 @@ use Rattle.linker_laws.specs.Ppc64RelocationLaws as relocation_laws
 use Rattle.linker_laws.specs.Schemes.{AreAddresses, symbol_address}
 use Rattle.linker_laws.specs.Machine.{moved, loaded}
 use Rattle.linker_laws.specs.Ppc64RewriteLaws.{word_of, prefixed_of}
+use Rattle.linker_laws.specs.Ppc64Groups as groups
 use Rattle.linker_laws.specs.Ppc64RewriteLaws as laws
-use Rattle.linker_laws.specs.Ppc64Machine.{State, Formats, base, step_prefixed, write, go_to, AreAlikeBut}
+use Rattle.linker_laws.specs.Ppc64Machine.{State, Formats, base, step_prefixed, write, go_to}
 use Rattle.linker_laws.proofs.AArch64Words.{field_kept}
 use Rattle.linker_laws.proofs.Ppc64Calls.{first_made, second_made, back}
 use Rattle.linker_laws.proofs.RiscVMachine.{times_one, address_is}
@@ -113,18 +114,18 @@ pld_parts pld low high is =
 
 -- `pld rT` of the GOT entry
 pub pld_sets : relocation_laws.Prefixes → (f : Formats) (o : Operands) (s : State) (pld pld_of : List ℕ) (number : ℕ)
-    → laws.IsPrefixed is_pld o s pld → laws.IsRelocated names.R_PPC64_GOT_PCREL34 o pld pld_of
+    → AreAddresses o → s.pc ≡ o.place → groups.IsPrefixed is_pld pld → laws.IsRelocated names.R_PPC64_GOT_PCREL34 o pld pld_of
     → loaded 8 s.memory o.got_entry ≡ number
     → step_prefixed f (prefixed_of pld_of) s ≡ Some (set_8 (laws.prefixed_target pld) number s)
-pld_sets prefixes f o s pld pld_of number p a holds =
+pld_sets prefixes f o s pld pld_of number small at p a holds =
     let rt = laws.prefixed_target pld in
     let x = prefixed_of pld_of in
     let m = (ppc64_form Prefixed).machine x in
     step_pld f x rt s
-    (prefixed_after _ _ pld pld_of 0x104 57 rt 0 a.written (pld_parts pld p.prefix_below p.word_below p.insn_is))
+    (prefixed_after _ _ pld pld_of 0x104 57 rt 0 a.written (pld_parts pld p.prefix_below p.word_below p.is))
     ∙ ap (λ v. Some (set_8 rt v s))
     (ap (loaded 8 s.memory)
-    (ap (λ t. moved t m) p.at ∙ times_one o.place m ∙ address_is _ _ (prefixes.1 o p.small o.place pld pld_of a tt))
+    (ap (λ t. moved t m) at ∙ times_one o.place m ∙ address_is _ _ (prefixes.1 o small o.place pld pld_of a tt))
     ∙ holds)
 
 pub paddi_parts : (pld paddi : List ℕ) → laws.IsRewritten kinds.PldToPaddi pld paddi
@@ -151,13 +152,3 @@ paddi_sets prefixes f o s pld paddi paddi_of small at made a =
     (prefixed_after _ _ paddi paddi_of 0x184 14 rt 0 a.written (paddi_parts pld paddi made))
     ∙ ap (λ v. Some (set_8 rt v s))
     (ap (λ t. moved t m) at ∙ times_one o.place m ∙ address_is _ _ (prefixes.0 o small o.place paddi paddi_of a tt))
-
-pub pld_to_paddi : relocation_laws.Prefixes → laws.PldToPaddi
-pld_to_paddi prefixes f o s pld paddi small at low high is holds made pld1 paddi2 a1 a2 =
-    let left = pld_sets prefixes f o s pld pld1 (symbol_address o)
-    (record { small = small; at = at; prefix_below = low; word_below = high; insn_is = is }) a1 holds in
-    let right = paddi_sets prefixes f o s pld paddi paddi2 small at made a2 in
-    let y = prefixed_of paddi2 in
-    subst (λ r. IsSomeAnd r (λ t. IsSomeAnd (step_prefixed f y s) (λ u. AreAlikeBut (λ _. false) t u))) (sym left)
-    (subst (λ r. IsSomeAnd r (λ u. AreAlikeBut (λ _. false) (set_8 (laws.prefixed_target pld) (symbol_address o) s) u)) (sym right)
-    (record { registers = λ n any. refl; floats = refl; link = refl; pc = refl; memory = refl }))

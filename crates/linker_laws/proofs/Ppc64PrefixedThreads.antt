@@ -1,8 +1,8 @@
 -- PowerPC64: instructions of thread-local sequences of prefixed code, each in two runs.
 use Rattle.std.proofs.Common.{◌≡◌, ℕ, ◌+◌, ◌*◌, ◌/◌, ◌%◌, ◌^◌, ◌<◌, refl, sym, ◌∙◌, ap, subst, arith, List}
-use Rattle.std.proofs.Common.{eqb, ℤ, pos, ◌+ℤ◌, Some, Option, drop, take, inl, inr, Bool, true, false}
-use Rattle.std.specs.Prelude.{◌&&◌, ◌||◌, ◌==◌, not, IsSomeAnd, if◌then◌else◌}
-use Rattle.std.proofs.lemmas.Bool.{and_parts, or_parts, or_cases, cases_Bool, eqb-true, cond-true, cond-false, eq-eqb}
+use Rattle.std.proofs.Common.{eqb, ℤ, pos, ◌+ℤ◌, Some, drop, take, inl, inr, Bool, true, false}
+use Rattle.std.specs.Prelude.{◌&&◌, ◌==◌, if◌then◌else◌}
+use Rattle.std.proofs.lemmas.Bool.{and_parts, or_cases, cases_Bool, eqb-true, cond-true, cond-false, eq-eqb}
 use Rattle.std.proofs.lemmas.Bool.Decides.{eqb_tells}
 use Rattle.std.proofs.lemmas.Int.{ints}
 use Rattle.linker_base.specs.Bits.{field, signed}
@@ -12,7 +12,7 @@ use Rattle.linker_base.proofs.Places.{sums}
 use Rattle.linker_elf.specs.Ppc64.{ppc64_form}
 use Rattle.linker_elf.specs.Value.{sum_64}
 use Rattle.linker_elf.specs.declared.elf.value.Operands.{Operands}
-use Rattle.linker_elf.specs.declared.ppc64.forms.Ppc64Instruction.TheVariants.{D, Ds, Branch24, Prefixed}
+use Rattle.linker_elf.specs.declared.ppc64.forms.Ppc64Instruction.TheVariants.{D, Ds, Prefixed}
 use Rattle.linker_elf.specs.declared.ppc64.relocations.Ppc64Relocation.TheVariants as names
 use Rattle.linker_utils.specs.Ppc64Rewrites.{opcode_of, rt_of, ra_of, rb_of, access_of, registers_of, nop}
 use Rattle.linker_utils.specs.Ppc64Rewrites.{addi_of_thread, by_displacement, by_word_displacement, direct, ld_of}
@@ -20,60 +20,26 @@ use Rattle.linker_utils.specs.Ppc64Rewrites.{is_access, is_add_of_thread, is_ind
 use Rattle.linker_utils.specs.Ppc64Rewrites.{two_words as both_words}
 use Rattle.linker_utils.specs.declared.ppc64.rewrites.RewriteKind.{RewriteKind}
 use Rattle.linker_utils.specs.declared.ppc64.rewrites.RewriteKind.TheVariants as kinds
-use Rattle.linker_laws.specs.Machine.{moved, loaded}
-use Rattle.linker_laws.specs.Ppc64Machine.{State, Formats, Access, accessed, access_with, write, by_opcode, execute, go_on, go_to, next_pc, step, step_prefixed, word_access_with}
+use Rattle.linker_laws.specs.Machine.{moved}
+use Rattle.linker_laws.specs.Ppc64Machine.{State, Formats, Access, accessed, access_with, write, by_opcode, execute, go_on, step, word_access_with}
 use Rattle.linker_laws.specs.Ppc64RelocationLaws as relocation_laws
-use Rattle.linker_laws.specs.Ppc64RewriteLaws.{AgreeBut, Changes, IsRelocated, accesses, adds, both, from_thread, prefixed_of, thread_offset, with_entry, without_register, word_of}
+use Rattle.linker_laws.specs.Ppc64RewriteLaws.{IsRelocated, accesses, adds, from_thread, prefixed_of, word_of}
 use Rattle.linker_laws.specs.Ppc64RewriteLaws as laws
 use Rattle.linker_laws.specs.Schemes.{AreAddresses, symbol_address}
-use Rattle.linker_laws.proofs.AArch64Pairs.{word_made, word_is}
+use Rattle.linker_laws.proofs.AArch64Pairs.{word_made}
 use Rattle.linker_laws.proofs.Ppc64Accesses.{step_access}
-use Rattle.linker_laws.proofs.Ppc64Apart.{Does, base_some, does_so}
-use Rattle.linker_laws.proofs.Ppc64Apart.{accesses as accesses_use}
+use Rattle.linker_laws.proofs.Ppc64Apart.{Does, base_some}
 use Rattle.linker_laws.proofs.Ppc64Calls.{back, first_made, second_made}
 use Rattle.linker_laws.proofs.Ppc64Accesses.{indexed_parts}
 use Rattle.linker_laws.proofs.Ppc64Accesses.{below, indexed_word_parts, is_direct}
 use Rattle.linker_laws.proofs.Ppc64LowHalves.{whole_from}
 use Rattle.linker_laws.proofs.Ppc64Offsets.{SumSteps, accesses_sum, adds_sum, words_sum}
-use Rattle.linker_laws.proofs.Ppc64Prefixed.{HasPrefixedParts, of_words, pld_parts, prefixed_after, set_8, step_paddi, step_paddi_over, step_pld}
-use Rattle.linker_laws.proofs.Ppc64Copies.{entry_small}
+use Rattle.linker_laws.proofs.Ppc64Prefixed.{HasPrefixedParts, of_words}
 use Rattle.linker_laws.proofs.Ppc64Accesses.{step_word}
-use Rattle.linker_laws.proofs.Ppc64Words.{set, step_add, step_bl, step_nop, wrapped_is}
+use Rattle.linker_laws.proofs.Ppc64Words.{set, step_nop, wrapped_is}
 use Rattle.linker_laws.proofs.RiscVMachine.{address_is, times_one}
 use Rattle.linker_laws.proofs.Sums.{sum_below}
 use Rattle.linker_laws.proofs.Words.{two_words}
-
--- ---- two runs of prefixed instructions
-
--- Both write one register.
-prefixed_so : (f : Formats) (x y : List ℕ) (s t : State) (r v w number other : ℕ) (c : Changes)
-    → step_prefixed f (prefixed_of x) s ≡ Some (set_8 r v s)
-    → step_prefixed f (prefixed_of y) t ≡ Some (set_8 r w t)
-    → v ≡ number → w ≡ other → AgreeBut c s t → laws.PrefixedSo f x s y t (laws.Writes r number other c)
-prefixed_so f x y s t r v w number other c first second is is_other alike =
-    subst (λ q. IsSomeAnd q (λ u. IsSomeAnd (step_prefixed f (prefixed_of y) t) (λ k.
-    (u.link ≡ s.link) × (k.link ≡ t.link) × laws.Writes r number other c u k))) (sym first)
-    (subst (λ q. IsSomeAnd q (λ k.
-    (s.link ≡ s.link) × (k.link ≡ t.link) × laws.Writes r number other c (set_8 r v s) k)) (sym second) (
-      refl,
-      refl,
-      (
-        record {
-          registers = λ m kept.
-              let parts = or_parts (eqb m r) (c.registers m) kept in
-              cond-false (eqb m r) v (s.registers m) parts.0
-              ∙ alike.registers m parts.1
-              ∙ sym (cond-false (eqb m r) w (t.registers m) parts.0);
-          floats = alike.floats;
-          memory = alike.memory;
-          pc = ap (λ p. sum_64 p 8) alike.pc;
-        },
-        record {
-          entry_is = cond-true (eqb r r) v (s.registers r) (eq-eqb r r refl) ∙ is;
-          new_is = cond-true (eqb r r) w (t.registers r) (eq-eqb r r refl) ∙ is_other;
-        },
-      ),
-    ))
 
 -- ---- their words
 
@@ -137,7 +103,7 @@ displacement_is rt both is =
     ∙ ap (λ x. x + place_sum (bits_to 16 33 0) both) (consecutive_bits_sum replaced 16 0 32 0 both refl ∙ low)
     ∙ ap (λ x. 0x1000 + x) (consecutive_bits_sum replaced 18 16 0 0 both refl ∙ high))
 
--- ---- arguments and loads
+-- ---- what they lead to
 
 module _ (prefixes : relocation_laws.Prefixes) where
   -- what an instruction relative to itself leads to
@@ -170,106 +136,7 @@ module _ (prefixes : relocation_laws.Prefixes) where
       whole_from o.tls_base (symbol_address o) n ((ppc64_form Prefixed).machine (prefixed_of after)) small.tls_base
       (sum_below o.symbol _) (prefixes.8 o small o.place over after a tt)
 
-  pub argument_to_variable : laws.ArgumentToVariable
-  argument_to_variable f o s t c paddi over p alike made paddi1 over2 a1 a2 =
-      let rt = laws.prefixed_target paddi in
-      let old = pla_parts paddi p.prefix_below p.word_below p.insn_is in
-      let new = over_thread 0 paddi over (omega arith) made in
-      prefixed_so f paddi1 over2 s t rt _ _ o.got_entry (from_thread o (t.registers 13)) c
-      (step_paddi f (prefixed_of paddi1) rt s (prefixed_after _ _ paddi paddi1 0x184 14 rt 0 a1.written old))
-      (step_paddi_over f (prefixed_of over2) rt 13 t (prefixed_after _ _ over over2 0x180 14 rt 13 a2.written new.parts))
-      (general_entry o s paddi paddi1 p.small p.at a1)
-      (variable_there o (t.registers 13) over over2 p.small a2) alike
-
-  pub argument_to_load : laws.ArgumentToLoad
-  argument_to_load f o s t c paddi pld p alike made entry short holds paddi1 pld2 a1 a2 =
-      let rt = laws.prefixed_target paddi in
-      let own = with_entry entry o in
-      let old = pla_parts paddi p.prefix_below p.word_below p.insn_is in
-      let new = loads_thread paddi pld made in
-      prefixed_so f paddi1 pld2 s t rt _ _ o.got_entry (thread_offset o) c
-      (step_paddi f (prefixed_of paddi1) rt s (prefixed_after _ _ paddi paddi1 0x184 14 rt 0 a1.written old))
-      (step_pld f (prefixed_of pld2) rt t (prefixed_after _ _ pld pld2 0x104 57 rt 0 a2.written new))
-      (general_entry o s paddi paddi1 p.small p.at a1)
-      (ap (loaded 8 t.memory) (offset_entry own t pld pld2 (entry_small entry o short p.small) (sym alike.pc ∙ p.at) a2) ∙ holds) alike
-
-  pub argument_to_block : laws.ArgumentToBlock
-  argument_to_block f o s t c paddi over p alike made paddi1 a1 =
-      let rt = laws.prefixed_target paddi in
-      let old = pla_parts paddi p.prefix_below p.word_below p.insn_is in
-      let new = over_thread 0x1000 paddi over (omega arith) made in
-      let n = t.registers 13 in
-      prefixed_so f paddi1 over s t rt _ _ o.got_entry (sum_64 n 0x1000) c
-      (step_paddi f (prefixed_of paddi1) rt s (prefixed_after _ _ paddi paddi1 0x184 14 rt 0 a1.written old))
-      (step_paddi_over f (prefixed_of over) rt 13 t new.parts)
-      (module_entry o s paddi paddi1 p.small p.at a1)
-      (ap (moved n) (displacement_is rt (prefixed_of over) new.number_is)
-      ∙ wrapped_is (pos n +ℤ pos 0x1000) 0 (n + 0x1000) (omega (arith, ints))) alike
-
-  pub load_to_variable : laws.LoadToVariable
-  load_to_variable f o s t c pld over p alike made holds pld1 over2 a1 a2 =
-      let rt = laws.prefixed_target pld in
-      let old = pld_parts pld p.prefix_below p.word_below p.insn_is in
-      let new = over_thread 0 pld over (omega arith) made in
-      prefixed_so f pld1 over2 s t rt _ _ (thread_offset o) (from_thread o (t.registers 13)) c
-      (step_pld f (prefixed_of pld1) rt s (prefixed_after _ _ pld pld1 0x104 57 rt 0 a1.written old))
-      (step_paddi_over f (prefixed_of over2) rt 13 t (prefixed_after _ _ over over2 0x180 14 rt 13 a2.written new.parts))
-      (ap (loaded 8 s.memory) (offset_entry o s pld pld1 p.small p.at a1) ∙ holds)
-      (variable_there o (t.registers 13) over over2 p.small a2) alike
-
 -- ---- calls
-
--- After a word in place of the call register 3 has the number that the function returns.
-branch_so : (f : Formats) (call : State → Option State) (changes c : Changes) (number other : ℕ) (s t w : State)
-    (bl new : List ℕ) → AgreeBut c s t → laws.IsBranch call changes number other s t bl
-    → step f (word_of new) t ≡ Some w → w.registers 3 ≡ number
-    → ((n : ℕ) → eqb n 3 ≡ false → w.registers n ≡ t.registers n)
-    → w.floats ≡ t.floats → w.memory ≡ t.memory → w.link ≡ t.link → w.pc ≡ sum_64 t.pc 4
-    → laws.BranchSo f call (without_register 3 (both c changes)) bl s new t
-branch_so f call changes c number other s t w bl new alike p steps is kept floats memory link pc =
-    let all = without_register 3 (both c changes) in
-    let parts = and_parts (opcode_of (word_of bl) == 18) (field (word_of bl) 0 2 == 1) p.bl_is in
-    let called = go_to (moved s.pc ((ppc64_form Branch24).machine (word_of bl))) (record s { link = next_pc s }) in
-    subst (λ q. IsSomeAnd q (λ u. (v : State) → call u ≡ Some v
-    → IsSomeAnd (step f (word_of new) t) (λ w. (w.link ≡ t.link) × AgreeBut all v w)))
-    (sym (step_bl f (word_of bl) s (eqb-true _ _ parts.0) (eqb-true _ _ parts.1)))
-    (λ v returned.
-    let r = p.returns called v p.argument.entry_is refl returned in
-    subst (λ q. IsSomeAnd q (λ w. (w.link ≡ t.link) × AgreeBut all v w)) (sym steps) (
-      link,
-      record {
-        registers = λ n same. elim (eqb_tells n 3) [
-          | inl three ↦ ap v.registers three.1 ∙ r.number_is ∙ sym is ∙ ap w.registers (sym three.1)
-          | inr differs ↦
-              let some = sym (ap (λ b. not b && (c.registers n || changes.registers n)) differs.0) ∙ same in
-              let none = or_parts (c.registers n) (changes.registers n) some in
-              r.registers n differs.1 none.1 ∙ alike.registers n none.0 ∙ sym (kept n differs.0)
-        ];
-        floats = λ n same.
-            let none = or_parts (c.floats n) (changes.floats n) same in
-            r.floats n none.1 ∙ alike.floats n none.0 ∙ ap (λ g. g n) (sym floats);
-        memory = λ a same.
-            let none = or_parts (c.memory a) (changes.memory a) same in
-            r.memory a none.1 ∙ alike.memory a none.0 ∙ ap (λ g. g a) (sym memory);
-        pc = r.back ∙ ap (λ q. sum_64 q 4) alike.pc ∙ sym pc;
-      },
-    ))
-
-pub branch_to_nop : laws.BranchToNop
-branch_to_nop f call changes c number s t bl blank alike made p =
-    branch_so f call changes c number number s t (go_on t) bl blank alike p
-    (step_nop f (word_of blank) t (word_is nop blank (omega arith) made)) p.argument.new_is (λ n differs. refl) refl refl refl refl
-
-pub branch_to_sum : laws.BranchToSum
-branch_to_sum f call changes c o s t bl add alike made thread p =
-    let word = word_is 0x7c636a14 add (omega arith) made in
-    let v = sum_64 (t.registers 3) (t.registers 13) in
-    branch_so f call changes c (from_thread o (s.registers 13)) (thread_offset o) s t (set 3 v t) bl add alike p
-    (step_add f (word_of add) 3 3 13 t
-    (record { opcode_is = ap opcode_of word; rt_is = ap rt_of word; ra_is = ap ra_of word })
-    (ap rb_of word) (ap (λ w. field w 0 11) word))
-    (ap (λ n. sum_64 n (t.registers 13)) p.argument.new_is ∙ ap (from_thread o) thread)
-    (λ n differs. cond-false (eqb n 3) v (t.registers n) differs) refl refl refl refl
 
 -- ---- sums and accesses
 
@@ -303,12 +170,6 @@ pub record VariableSteps (kind : RewriteKind) (how : laws.Use) : Type 0 where
   pub new : (f : Formats) (t : State) (insn direct : List ℕ) (a b : ℕ) → how.test (word_of insn) ≡ true
       → laws.IsRewritten kind insn direct → t.registers (ra_of (word_of insn)) ≡ sum_64 a b
       → Does f (how.does f (word_of insn) (sum_64 a b)) (word_of direct) t
-
-over_variable : (kind : RewriteKind) (how : laws.Use) → VariableSteps kind how → laws.OverVariable kind how
-over_variable kind how steps f o s t c insn direct alike is made has requires =
-    does_so f how c (word_of insn) (word_of direct) (word_of insn) (from_thread o (s.registers 13)) s t
-    steps.sum.is_use alike requires (steps.sum.old f s insn (thread_offset o) is has.entry_is)
-    (steps.new f t insn direct (thread_offset o) (s.registers 13) is made has.new_is)
 
 pub sum_to_move : VariableSteps kinds.AddToMove (adds is_add_of_thread)
 sum_to_move =
@@ -432,7 +293,6 @@ pub access_to_direct : VariableSteps kinds.IndexedToDirect (accesses is_indexed_
 access_to_direct =
     record {
       sum = record {
-        is_use = accesses_use is_indexed_any laws.indexed_access;
         old = λ f s insn offset is has.
             let x = word_of insn in
             let a = sum_64 offset (s.registers 13) in
@@ -458,6 +318,3 @@ access_to_direct =
                 (whole f insn new t a b word has one)
           ];
     }
-
-pub sum_to_variable : laws.SumToVariable
-sum_to_variable = (over_variable _ _ sum_to_move, over_variable _ _ access_to_direct)

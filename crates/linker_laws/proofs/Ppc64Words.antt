@@ -1,6 +1,6 @@
 -- Words of PowerPC64 to which a relocation was applied, and the steps of their instructions.
 use Rattle.std.proofs.Common.{◌≡◌, ◌≢◌, ℕ, ◌+◌, ◌*◌, ◌%◌, ◌^◌, ◌<◌, refl, sym, ◌∙◌, ap}
-use Rattle.std.proofs.Common.{arith, List, [], ◌∷◌, eqb, ℤ, pos, ◌+ℤ◌, ◌*ℤ◌, Some, None}
+use Rattle.std.proofs.Common.{arith, List, [], eqb, ℤ, pos, ◌+ℤ◌, ◌*ℤ◌, Some}
 use Rattle.std.specs.Int.{w32, from_le_bytes}
 use Rattle.std.proofs.lemmas.Bool.{eq-eqb, ne_eqb, cond-true, cond-false}
 use Rattle.std.proofs.lemmas.Int.{ints}
@@ -16,8 +16,8 @@ use Rattle.linker_elf.specs.declared.ppc64.forms.Ppc64Instruction.TheVariants.{B
 use Rattle.linker_laws.specs.Schemes.{IsAddress}
 use Rattle.linker_laws.proofs.Sums.{lift, lifted_is}
 use Rattle.linker_laws.specs.Machine.{moved, wrapped, loaded}
-use Rattle.linker_laws.specs.Ppc64Machine.{State, Formats, step, run, execute, by_opcode, of_58}
-use Rattle.linker_laws.specs.Ppc64Machine.{base, write, go_on, go_to, next_pc, continue}
+use Rattle.linker_laws.specs.Ppc64Machine.{State, Formats, step, execute, by_opcode, of_58}
+use Rattle.linker_laws.specs.Ppc64Machine.{base, write, go_on, go_to, next_pc}
 use Rattle.linker_laws.specs.Ppc64Machine.{shifted_sum, d_address}
 use Rattle.linker_laws.specs.Ppc64Machine.{ds_address}
 use Rattle.linker_laws.proofs.AArch64Words.{field_kept}
@@ -134,9 +134,3 @@ step_bl f x s op low =
     ∙ ap (λ i. execute f i x s) (cond-true (eqb (field x 0 2) 1) _ _ (eq-eqb _ _ low))
 
 -- ---- sequences
-
-pub run_more : (f : Formats) (x y : ℕ) (words : List ℕ) (s t u : State) → step f x s ≡ Some t
-    → t.pc ≡ next_pc s → run f (y ∷ words) t ≡ Some u → run f (x ∷ y ∷ words) s ≡ Some u
-run_more f x y words s t u first on rest =
-    ap (continue (next_pc s) (λ r. run f (y ∷ words) r)) first
-    ∙ cond-true (eqb t.pc (next_pc s)) (run f (y ∷ words) t) None (eq-eqb t.pc (next_pc s) on) ∙ rest

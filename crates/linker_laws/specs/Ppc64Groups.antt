@@ -1,7 +1,8 @@
 -- PowerPC64: rewritten instructions are groups of the simulation, each by itself, whatever stands
 -- before it. No code moves.
 use Rattle.std.specs.Prelude.{◌≡◌, ℕ, zero, suc, ◌+◌, ◌-◌, ◌*◌, ◌^◌, ◌<◌, ◌==◌, ◌&&◌, nat_lt, Bool}
-use Rattle.std.specs.Prelude.{if◌then◌else◌, List, drop, Option, Some, None, IsSomeAnd, IsTrue, ⊤}
+use Rattle.std.specs.Prelude.{if◌then◌else◌, List, drop, Option, Some, None, IsSomeAnd, IsTrue}
+use Rattle.std.specs.Prelude.{⊤, true}
 use Rattle.linker_elf.specs.Ppc64.{ppc64_form}
 use Rattle.linker_elf.specs.Value.{sum_64}
 use Rattle.linker_elf.specs.declared.elf.value.Operands.{Operands}
@@ -14,7 +15,8 @@ use Rattle.linker_laws.specs.Machine.{loaded, moved}
 use Rattle.linker_laws.specs.Ppc64Machine as ppc64_machine
 use Rattle.linker_laws.specs.Ppc64Machine.{Formats, access_with, go_on, shifted_sum, step}
 use Rattle.linker_laws.specs.Ppc64Machine.{step_prefixed, word_access_with}
-use Rattle.linker_laws.specs.Ppc64RewriteLaws.{IsPrefixed, IsRelocated, IsRewritten, Leads}
+use Rattle.linker_laws.specs.Ppc64RewriteLaws.{HaveSameAccess, IsRelocated, IsRewritten, Leads}
+use Rattle.linker_laws.specs.Ppc64RewriteLaws.{address_read, is_vector_over_base}
 use Rattle.linker_laws.specs.Ppc64RewriteLaws.{LowHalfLeads, Use, accesses, adds, ds_access}
 use Rattle.linker_laws.specs.Ppc64RewriteLaws.{entry_from_toc, four_on, from_thread, from_toc}
 use Rattle.linker_laws.specs.Ppc64RewriteLaws.{indexed_access, is_d_over, is_ds_over_base}
@@ -143,61 +145,101 @@ pub record Takes (low : Ppc64Relocation) (o : Operands) (s : State) (base number
   pub leads : Leads low Ds o base at
   pub holds : loaded 8 s.memory at ≡ number
 
+-- ---- laws
+
+-- bytes before a rewrite and after it, which are a group
+abbrev pub AreGroup : Type 1
+AreGroup = List ℕ → List ℕ → Type 0
+
+-- An instruction of a sort and what a rewrite makes of it are a group.
+abbrev pub Rewrites : (ℕ → Bool) → RewriteKind → AreGroup → Type 0
+Rewrites test kind AreSo =
+    (before after : List ℕ) → IsTrue (test (word_of before)) → IsRewritten kind before after
+    → AreSo before after
+
+abbrev pub is_any : ℕ → Bool
+is_any word = true
+
 -- ---- high halves
 
 -- `addis rX` over a register becomes `nop`.
-abbrev pub ToNop : ℕ → RewriteKind → Ppc64Relocation → (Operands → ℕ → ℕ → Type 0) → Type 0
-ToNop register kind name LowHalvesLead =
-    (c : Code) (o : Operands) (k : Kinds) (s : State) (addis blank : List ℕ) → AreAddresses o
-    → IsTrue (is_addis_over register (word_of addis)) → IsRewritten kind addis blank
+abbrev pub ToNop : ℕ → Ppc64Relocation → (Operands → ℕ → ℕ → Type 0) → AreGroup
+ToNop register name LowHalvesLead addis blank =
+    (c : Code) (o : Operands) (k : Kinds) (s : State) → AreAddresses o
     → (old : Has 1 c.old s.pc name o addis) → Stands 1 c.new s.pc blank
     → let number = high_part old.relocated s in
     LowHalvesLead o number (s.registers register)
     × Leaves 4 c k s (rt_of (word_of addis)) anything number
 
-abbrev pub HighHalfToNop : Type 0
-HighHalfToNop =
-    ToNop 2 kinds.AddisToNop names.R_PPC64_TOC16_HA (λ o n base.
+abbrev pub TocHigh : AreGroup
+TocHigh =
+    ToNop 2 names.R_PPC64_TOC16_HA (λ o n base.
     Low names.R_PPC64_TOC16_LO D from_toc o n base
     × Low names.R_PPC64_TOC16_LO_DS Ds from_toc o n base)
-    × ToNop 13 kinds.AddisThreadToNop names.R_PPC64_TPREL16_HA
-    (λ o n base. LowHalfLeads o n (from_thread o base))
-    × ToNop 2 kinds.AddisToNop names.R_PPC64_GOT_TPREL16_HA
-    (Low names.R_PPC64_GOT_TPREL16_LO_DS Ds entry_from_toc)
-    × ToNop 2 kinds.AddisToNop names.R_PPC64_GOT_TLSGD16_HA
-    (Low names.R_PPC64_GOT_TLSGD16_LO D entry_from_toc)
-    × ToNop 2 kinds.AddisToNop names.R_PPC64_GOT_TLSLD16_HA
-    (Low names.R_PPC64_GOT_TLSLD16_LO D entry_from_toc)
+
+abbrev pub ThreadHigh : AreGroup
+ThreadHigh =
+    ToNop 13 names.R_PPC64_TPREL16_HA (λ o n base. LowHalfLeads o n (from_thread o base))
+
+abbrev pub OffsetHigh : AreGroup
+OffsetHigh =
+    ToNop 2 names.R_PPC64_GOT_TPREL16_HA (Low names.R_PPC64_GOT_TPREL16_LO_DS Ds entry_from_toc)
+
+abbrev pub GeneralHigh : AreGroup
+GeneralHigh =
+    ToNop 2 names.R_PPC64_GOT_TLSGD16_HA (Low names.R_PPC64_GOT_TLSGD16_LO D entry_from_toc)
+
+abbrev pub ModuleHigh : AreGroup
+ModuleHigh =
+    ToNop 2 names.R_PPC64_GOT_TLSLD16_HA (Low names.R_PPC64_GOT_TLSLD16_LO D entry_from_toc)
+
+abbrev pub HighHalfToNop : Type 0
+HighHalfToNop =
+    Rewrites (is_addis_over 2) kinds.AddisToNop TocHigh
+    × Rewrites (is_addis_over 13) kinds.AddisThreadToNop ThreadHigh
+    × Rewrites (is_addis_over 2) kinds.AddisToNop OffsetHigh
+    × Rewrites (is_addis_over 2) kinds.AddisToNop GeneralHigh
+    × Rewrites (is_addis_over 2) kinds.AddisToNop ModuleHigh
 
 -- `addis rX,2` stays, with another relocation. Both are half h.
 abbrev pub Kept : (name after : Ppc64Relocation) → (OldLeads NewLeads : Operands → ℕ → ℕ → Type 0)
-    → Type 0
-Kept name after OldLeads NewLeads =
-    (c : Code) (h : ℕ) (x y : Operands) (k : Kinds) (s : State) (addis : List ℕ) → AreAddresses x
-    → AreAddresses y → IsTrue (is_addis_of_toc (word_of addis))
-    → ppc64_rewrite kinds.KeepAddis ≡ None → k.registers 2 ≡ same
-    → (old : Has 1 c.old s.pc name x addis) (new : Has 1 c.new s.pc after y addis)
+    → AreGroup
+Kept name after OldLeads NewLeads addis addis_after =
+    (c : Code) (h : ℕ) (x y : Operands) (k : Kinds) (s : State) → AreAddresses x → AreAddresses y
+    → k.registers 2 ≡ same
+    → (old : Has 1 c.old s.pc name x addis) (new : Has 1 c.new s.pc after y addis_after)
     → AreHalves c h (high_part old.relocated s) (high_part new.relocated s)
     → OldLeads x (c.old_half h) (s.registers 2) × NewLeads y (c.new_half h) (s.registers 2)
     × Leaves 4 c k s (rt_of (word_of addis)) (half h) (c.old_half h)
 
--- of the GOT entry of an address and of the address, and of the GOT entries of general-dynamic and
--- of initial-exec
-abbrev pub HighHalfStays : Type 0
-HighHalfStays =
+-- of the GOT entry of an address and of the address
+abbrev pub AddressHigh : AreGroup
+AddressHigh =
     Kept names.R_PPC64_GOT16_HA names.R_PPC64_TOC16_HA
     (Low names.R_PPC64_GOT16_LO_DS Ds entry_from_toc) (Low names.R_PPC64_TOC16_LO D from_toc)
-    × Kept names.R_PPC64_GOT_TLSGD16_HA names.R_PPC64_GOT_TPREL16_HA
+
+-- of the GOT entries of general-dynamic and of initial-exec
+abbrev pub EntryHigh : AreGroup
+EntryHigh =
+    Kept names.R_PPC64_GOT_TLSGD16_HA names.R_PPC64_GOT_TPREL16_HA
     (Low names.R_PPC64_GOT_TLSGD16_LO D entry_from_toc)
     (Low names.R_PPC64_GOT_TPREL16_LO_DS Ds entry_from_toc)
+
+-- The rewrite changes nothing.
+abbrev pub Stays : AreGroup → Type 0
+Stays AreSo =
+    (addis : List ℕ) → IsTrue (is_addis_of_toc (word_of addis))
+    → ppc64_rewrite kinds.KeepAddis ≡ None → AreSo addis addis
+
+abbrev pub HighHalfStays : Type 0
+HighHalfStays = Stays AddressHigh × Stays EntryHigh
 
 -- ---- low halves
 
 -- `ld rY` of the GOT entry, which holds the address, becomes `addi rY`.
-abbrev pub LoadToSum : Type 0
-LoadToSum =
-    (c : Code) (address : ℕ) (x y : Operands) (k : Kinds) (s : State) (ld addi : List ℕ)
-    → IsTrue (is_ld (word_of ld)) → IsRewritten kinds.LdToAddi ld addi
+abbrev pub LoadToSum : AreGroup
+LoadToSum ld addi =
+    (c : Code) (address : ℕ) (x y : Operands) (k : Kinds) (s : State)
     → Takes names.R_PPC64_GOT16_LO_DS x s (s.registers (ra_of (word_of ld))) address
     → NewHas c k s (ra_of (word_of ld)) (λ n. Leads names.R_PPC64_TOC16_LO D y n address)
     → Has 1 c.old s.pc names.R_PPC64_GOT16_LO_DS x ld
@@ -216,28 +258,48 @@ Uses c how word address k s =
     → Group (of_link (link c)) 1 k s k' (after s)
 
 -- An instruction over a register that has a high half becomes the same over the base register.
-abbrev pub OverBase : ℕ → RewriteKind → (low whole : Ppc64Relocation) → Ppc64Instruction
-    → (Operands → ℕ → ℕ) → Use → Type 0
-OverBase register kind low whole form address how =
-    (c : Code) (o : Operands) (k : Kinds) (s : State) (insn over : List ℕ) → AreAddresses o
-    → IsTrue (how.test (word_of insn)) → IsRewritten kind insn over → k.registers register ≡ same
+abbrev pub OverBase : ℕ → (low whole : Ppc64Relocation) → Ppc64Instruction
+    → (Operands → ℕ → ℕ) → Use → AreGroup
+OverBase register low whole form address how insn over =
+    (c : Code) (o : Operands) (k : Kinds) (s : State) → AreAddresses o
+    → IsTrue (how.test (word_of insn)) → k.registers register ≡ same
     → let target = address o (s.registers register) in
     Leads low form o (s.registers (ra_of (word_of insn))) target
     → Has 1 c.old s.pc low o insn → Has 1 c.new s.pc whole o over
     → Uses c how (word_of insn) target k s
 
+-- sums of addresses, and loads and stores
+abbrev pub LowOverBase : ℕ → (low whole : Ppc64Relocation) → (Operands → ℕ → ℕ) → AreGroup
+LowOverBase register low whole address insn over =
+    OverBase register low whole D address (adds is_addi) insn over
+    × OverBase register low whole D address is_d_over insn over
+
+-- `lq` and accesses of vector registers, which the machine doesn't have: of one address
+abbrev pub VectorOverBase : ℕ → (low whole : Ppc64Relocation) → (Operands → ℕ → ℕ) → AreGroup
+VectorOverBase register low whole address insn over =
+    (o : Operands) (s t : ppc64_machine.State) → AreAddresses o
+    → IsTrue (is_vector_over_base (word_of insn))
+    → Leads low Ds o (s.registers (ra_of (word_of insn))) (address o (t.registers register))
+    → (low_of whole_of : List ℕ) → IsRelocated low o insn low_of → IsRelocated whole o over whole_of
+    → (address_read (word_of low_of) s ≡ address_read (word_of whole_of) t)
+    × HaveSameAccess (word_of low_of) (word_of whole_of)
+
+-- loads and stores of whole words, and these
+abbrev pub WordOverBase : ℕ → (low whole : Ppc64Relocation) → (Operands → ℕ → ℕ) → AreGroup
+WordOverBase register low whole address insn over =
+    OverBase register low whole Ds address (accesses is_ds_over_base ds_access) insn over
+    × VectorOverBase register low whole address insn over
+
 abbrev pub LowHalfOverBase : Type 0
 LowHalfOverBase =
-    OverBase 2 kinds.BaseToToc names.R_PPC64_TOC16_LO names.R_PPC64_TOC16 D from_toc (adds is_addi)
-    × OverBase 2 kinds.BaseToToc names.R_PPC64_TOC16_LO names.R_PPC64_TOC16 D from_toc is_d_over
-    × OverBase 2 kinds.BaseToToc names.R_PPC64_TOC16_LO_DS names.R_PPC64_TOC16_DS Ds from_toc
-    (accesses is_ds_over_base ds_access)
-    × OverBase 13 kinds.BaseToThread names.R_PPC64_TPREL16_LO names.R_PPC64_TPREL16 D from_thread
-    (adds is_addi)
-    × OverBase 13 kinds.BaseToThread names.R_PPC64_TPREL16_LO names.R_PPC64_TPREL16 D from_thread
-    is_d_over
-    × OverBase 13 kinds.BaseToThread names.R_PPC64_TPREL16_LO_DS names.R_PPC64_TPREL16_DS Ds
-    from_thread (accesses is_ds_over_base ds_access)
+    Rewrites is_any kinds.BaseToToc
+    (LowOverBase 2 names.R_PPC64_TOC16_LO names.R_PPC64_TOC16 from_toc)
+    × Rewrites is_any kinds.BaseToToc
+    (WordOverBase 2 names.R_PPC64_TOC16_LO_DS names.R_PPC64_TOC16_DS from_toc)
+    × Rewrites is_any kinds.BaseToThread
+    (LowOverBase 13 names.R_PPC64_TPREL16_LO names.R_PPC64_TPREL16 from_thread)
+    × Rewrites is_any kinds.BaseToThread
+    (WordOverBase 13 names.R_PPC64_TPREL16_LO_DS names.R_PPC64_TPREL16_DS from_thread)
 
 -- ---- initial-exec
 
@@ -255,63 +317,79 @@ MakesHighHalf c o k s number rt addis_13 =
     × Leaves 4 c k s rt (half h) number
 
 -- `ld rT` of the GOT entry, which holds the offset
-abbrev pub OffsetToHighHalf : Ppc64Relocation → Type 0
-OffsetToHighHalf low =
-    (c : Code) (o : Operands) (k : Kinds) (s : State) (ld addis_13 : List ℕ) → AreAddresses o
-    → IsTrue (is_ld (word_of ld)) → IsRewritten kinds.LdToAddisThread ld addis_13
+abbrev pub OffsetToHighHalf : Ppc64Relocation → AreGroup
+OffsetToHighHalf low ld addis_13 =
+    (c : Code) (o : Operands) (k : Kinds) (s : State) → AreAddresses o
     → Takes low o s (s.registers (ra_of (word_of ld))) (thread_offset o) → Has 1 c.old s.pc low o ld
     → MakesHighHalf c o k s (thread_offset o) (rt_of (word_of ld)) addis_13
 
 -- `add rT,rY,13`, or a load or a store by that sum, becomes the same by a low half over rY.
-abbrev pub OverOffset : RewriteKind → Ppc64Relocation → Use → Type 0
-OverOffset kind low how =
-    (c : Code) (o : Operands) (k : Kinds) (s : State) (insn direct : List ℕ)
-    → IsTrue (how.test (word_of insn)) → IsRewritten kind insn direct
+abbrev pub OverOffset : Ppc64Relocation → Use → AreGroup
+OverOffset low how insn direct =
+    (c : Code) (o : Operands) (k : Kinds) (s : State)
     → s.registers (ra_of (word_of insn)) ≡ thread_offset o
     → NewLeads c o k s (ra_of (word_of insn)) → Stands 1 c.old s.pc insn
     → Has 1 c.new s.pc low o direct
     → Uses c how (word_of insn) (from_thread o (s.registers 13)) k s
 
-abbrev pub OffsetToLowHalf : Type 0
-OffsetToLowHalf =
-    OverOffset kinds.AddToAddi names.R_PPC64_TPREL16_LO (adds is_add_of_thread)
-    × OverOffset kinds.IndexedToD names.R_PPC64_TPREL16_LO
+abbrev pub AddOverOffset : AreGroup
+AddOverOffset = OverOffset names.R_PPC64_TPREL16_LO (adds is_add_of_thread)
+
+abbrev pub AccessOverOffset : AreGroup
+AccessOverOffset =
+    OverOffset names.R_PPC64_TPREL16_LO
     (accesses is_indexed (λ word. access_with (access_of word)))
-    × OverOffset kinds.IndexedToDs names.R_PPC64_TPREL16_LO_DS
+
+abbrev pub WordOverOffset : AreGroup
+WordOverOffset =
+    OverOffset names.R_PPC64_TPREL16_LO_DS
     (accesses is_indexed_word (λ word. word_access_with (access_of word)))
 
+abbrev pub OffsetToLowHalf : Type 0
+OffsetToLowHalf =
+    Rewrites is_add_of_thread kinds.AddToAddi AddOverOffset
+    × Rewrites is_indexed kinds.IndexedToD AccessOverOffset
+    × Rewrites is_indexed_word kinds.IndexedToDs WordOverOffset
+
 -- ---- arguments of `__tls_get_addr`
+
+-- From the address of the TOC the whole distances of GOT entries lead to these.
+abbrev pub NearEntries : Type 0
+NearEntries =
+    (o : Operands) → AreAddresses o
+    → Leads names.R_PPC64_GOT_TPREL16_DS Ds o o.got_base o.got_entry
+    × Leads names.R_PPC64_GOT_TLSGD16 D o o.got_base o.got_entry
+    × Leads names.R_PPC64_GOT_TLSLD16 D o o.got_base o.got_entry
 
 -- `addi rT` of a GOT entry
 pub record IsArgument (low : Ppc64Relocation) (c : Code) (o : Operands) (entry : ℕ) (s : State)
     (addi : List ℕ) : Type 0 where
   pub small : AreAddresses o
-  pub is : IsTrue (is_addi (word_of addi))
   pub leads : Leads low D o (s.registers (ra_of (word_of addi))) entry
   pub old : Has 1 c.old s.pc low o addi
 
 -- of general-dynamic: `addis rT,13`
-abbrev pub ArgumentToHighHalf : Ppc64Relocation → Type 0
-ArgumentToHighHalf low =
-    (c : Code) (o : Operands) (entry : ℕ) (k : Kinds) (s : State) (addi addis_13 : List ℕ)
-    → IsArgument low c o entry s addi → IsRewritten kinds.AddiToAddisThread addi addis_13
+abbrev pub ArgumentToHighHalf : Ppc64Relocation → AreGroup
+ArgumentToHighHalf low addi addis_13 =
+    (c : Code) (o : Operands) (entry : ℕ) (k : Kinds) (s : State)
+    → IsArgument low c o entry s addi
     → MakesHighHalf c o k s entry (rt_of (word_of addi)) addis_13
 
 -- or `ld rT` of the GOT entry of initial-exec, which holds an offset
-abbrev pub ArgumentToOffset : (low after : Ppc64Relocation) → Type 0
-ArgumentToOffset low after =
-    (c : Code) (h : ℕ) (x y : Operands) (entry : ℕ) (k : Kinds) (s : State) (addi ld : List ℕ)
-    → IsArgument low c x entry s addi → IsRewritten kinds.AddiToLd addi ld
+abbrev pub ArgumentToOffset : (low after : Ppc64Relocation) → AreGroup
+ArgumentToOffset low after addi ld =
+    (c : Code) (h : ℕ) (x y : Operands) (entry : ℕ) (k : Kinds) (s : State)
+    → IsArgument low c x entry s addi
     → c.old_half h ≡ entry
     → ((t : State) → Agree (link c) k s t
     → Takes after y t (t.registers (ra_of (word_of addi))) (c.new_half h))
     → Has 1 c.new s.pc after y ld → Leaves 4 c k s (rt_of (word_of addi)) (half h) entry
 
 -- of local-dynamic: `addis rT,13,0`
-abbrev pub ArgumentToThread : Ppc64Relocation → Type 0
-ArgumentToThread low =
-    (c : Code) (h : ℕ) (o : Operands) (entry : ℕ) (k : Kinds) (s : State) (addi addis_13 : List ℕ)
-    → IsArgument low c o entry s addi → IsRewritten kinds.AddiToAddisThread addi addis_13
+abbrev pub ArgumentToThread : Ppc64Relocation → AreGroup
+ArgumentToThread low addi addis_13 =
+    (c : Code) (h : ℕ) (o : Operands) (entry : ℕ) (k : Kinds) (s : State)
+    → IsArgument low c o entry s addi
     → k.registers 13 ≡ same → AreHalves c h entry (sum_64 (s.registers 13) 0)
     → Stands 1 c.new s.pc addis_13 → Leaves 4 c k s (rt_of (word_of addi)) (half h) entry
 
@@ -335,43 +413,61 @@ pub record Returns (n : ℕ) (c : Code) (number : ℕ) (k : Kinds) (s : State) (
       ChangesOpen (with_register 3 same k) (put 3 number (sum_64 s.pc (4 * n)) s) k' s'
 
 -- `nop` and `addi 3,3`, from the high half of a variable's offset
-abbrev pub CallToLowHalf : Type 0
-CallToLowHalf =
-    (c : Code) (o : Operands) (k k' : Kinds) (s s' : State) (bl made : List ℕ)
-    → Returns 2 c (from_thread o (s.registers 13)) k s k' s' bl
-    → IsRewritten kinds.CallToAddi bl made → NewLeads c o k s 3 → Stands 1 c.new s.pc made
+abbrev pub CallToLowHalf : AreGroup
+CallToLowHalf before made =
+    (c : Code) (o : Operands) (k k' : Kinds) (s s' : State) (bl : List ℕ)
+    → Returns 2 c (from_thread o (s.registers 13)) k s k' s' bl → NewLeads c o k s 3 → Stands 1 c.new s.pc made
     → Has 1 c.new (sum_64 s.pc 4) names.R_PPC64_TPREL16_LO o (drop 4 made)
     → Group (of_link (link c)) 2 k s k' s'
 
 -- n words in place of the call, which make a number of one in r3 and of r13
-abbrev pub CallTo : ℕ → RewriteKind → (ℕ → ℕ → ℕ) → Type 0
-CallTo n kind result =
-    (c : Code) (number : ℕ) (k k' : Kinds) (s s' : State) (bl made : List ℕ)
-    → Returns n c (result number (s.registers 13)) k s k' s' bl → IsRewritten kind bl made
+abbrev pub CallTo : ℕ → (ℕ → ℕ → ℕ) → AreGroup
+CallTo n result before made =
+    (c : Code) (number : ℕ) (k k' : Kinds) (s s' : State) (bl : List ℕ)
+    → Returns n c (result number (s.registers 13)) k s k' s' bl
     → k.registers 13 ≡ same → NewHas c k s 3 (λ x. x ≡ number) → Stands n c.new s.pc made
     → Group (of_link (link c)) n k s k' s'
+
+abbrev pub add_block : ℕ → ℕ → ℕ
+add_block number thread = sum_64 number 0x1000
+
+abbrev pub keep_number : ℕ → ℕ → ℕ
+keep_number number thread = number
 
 -- `nop` and `add 3,3,13`, `nop` and `addi 3,3,4096`, `nop`, and `add 3,3,13`
 abbrev pub Calls : Type 0
 Calls =
-    CallTo 2 kinds.CallToAdd sum_64
-    × CallTo 2 kinds.CallToAddi4096 (λ number thread. sum_64 number 0x1000)
-    × CallTo 1 kinds.BranchToNop (λ number thread. number)
-    × CallTo 1 kinds.BranchToAdd sum_64
+    Rewrites is_any kinds.CallToAdd (CallTo 2 sum_64)
+    × Rewrites is_any kinds.CallToAddi4096 (CallTo 2 add_block)
+    × Rewrites is_any kinds.BranchToNop (CallTo 1 keep_number)
+    × Rewrites is_any kinds.BranchToAdd (CallTo 1 sum_64)
 
 -- ---- prefixed instructions
 
+-- Two words of 32 bits are of a sort.
+pub record IsPrefixed (test : ℕ → ℕ → Bool) (insn : List ℕ) : Type 0 where
+  pub prefix_below : word_of insn < 2 ^ 32
+  pub word_below : word_of (drop 4 insn) < 2 ^ 32
+  pub is : IsTrue (test (word_of insn) (word_of (drop 4 insn)))
+
+-- So are an instruction of 8 bytes, and what a rewrite makes of it.
+abbrev pub RewritesBoth : (ℕ → ℕ → Bool) → RewriteKind → AreGroup → Type 0
+RewritesBoth test kind AreSo =
+    (before after : List ℕ) → IsPrefixed test before → IsRewritten kind before after
+    → AreSo before after
+
 -- One that is relative to itself stands in old, with a relocation.
-pub record IsRelative (test : ℕ → ℕ → Bool) (name : Ppc64Relocation) (c : Code) (o : Operands)
-    (s : State) (insn : List ℕ) : Type 0 where
-  pub is : IsPrefixed test o (seen s) insn
+pub record IsRelative (name : Ppc64Relocation) (c : Code) (o : Operands) (s : State)
+    (insn : List ℕ) : Type 0 where
+  pub small : AreAddresses o
+  pub at : s.pc ≡ o.place
   pub old : Has 2 c.old s.pc name o insn
 
 -- `pld rT` of the GOT entry, which holds the address, becomes `paddi rT`.
-abbrev pub PldToPaddi : Type 0
-PldToPaddi =
-    (c : Code) (o : Operands) (k : Kinds) (s : State) (pld paddi : List ℕ)
-    → IsRelative is_pld names.R_PPC64_GOT_PCREL34 c o s pld → IsRewritten kinds.PldToPaddi pld paddi
+abbrev pub PldToPaddi : AreGroup
+PldToPaddi pld paddi =
+    (c : Code) (o : Operands) (k : Kinds) (s : State)
+    → IsRelative names.R_PPC64_GOT_PCREL34 c o s pld
     → loaded 8 s.memory o.got_entry ≡ symbol_address o
     → Has 2 c.new s.pc names.R_PPC64_PCREL34 o paddi
     → Leaves 8 c k s (prefixed_target pld) same (symbol_address o)
@@ -382,57 +478,66 @@ LeavesHalf c k s rt old new =
     (h : ℕ) → AreHalves c h old new → Leaves 8 c k s rt (half h) old
 
 -- `paddi rT,13` of a variable's offset stands in new.
-abbrev pub MakesVariable : (ℕ → ℕ → Bool) → Ppc64Relocation → RewriteKind
-    → (Operands → State → ℕ → Type 0) → Type 0
-MakesVariable test name kind OldMakes =
-    (c : Code) (o : Operands) (number : ℕ) (k : Kinds) (s : State) (insn over : List ℕ)
-    → IsRelative test name c o s insn → IsRewritten kind insn over → OldMakes o s number
+abbrev pub MakesVariable : Ppc64Relocation → (Operands → State → ℕ → Type 0) → AreGroup
+MakesVariable name OldMakes insn over =
+    (c : Code) (o : Operands) (number : ℕ) (k : Kinds) (s : State)
+    → IsRelative name c o s insn → OldMakes o s number
     → k.registers 13 ≡ same → Has 2 c.new s.pc names.R_PPC64_TPREL34 o over
     → LeavesHalf c k s (prefixed_target insn) number (from_thread o (s.registers 13))
 
--- `paddi rT` of the GOT entry of general-dynamic, and `pld rT` of that of initial-exec, which holds
--- the offset
-abbrev pub ToVariable : Type 0
-ToVariable =
-    MakesVariable is_pla names.R_PPC64_GOT_TLSGD_PCREL34 kinds.PaddiToPaddiThread
-    (λ o s number. number ≡ o.got_entry)
-    × MakesVariable is_pld names.R_PPC64_GOT_TPREL_PCREL34 kinds.PldToPaddiThread
+-- `paddi rT` of the GOT entry of general-dynamic
+abbrev pub ArgumentToVariable : AreGroup
+ArgumentToVariable =
+    MakesVariable names.R_PPC64_GOT_TLSGD_PCREL34 (λ o s number. number ≡ o.got_entry)
+
+-- `pld rT` of that of initial-exec, which holds the offset
+abbrev pub LoadToVariable : AreGroup
+LoadToVariable =
+    MakesVariable names.R_PPC64_GOT_TPREL_PCREL34
     (λ o s number. (number ≡ thread_offset o) × (loaded 8 s.memory o.got_entry ≡ number))
 
+abbrev pub ToVariable : Type 0
+ToVariable =
+    RewritesBoth is_pla kinds.PaddiToPaddiThread ArgumentToVariable
+    × RewritesBoth is_pld kinds.PldToPaddiThread LoadToVariable
+
 -- `paddi rT` of the GOT entry of general-dynamic becomes `pld rT` of that of initial-exec.
-abbrev pub ArgumentToLoad : Type 0
-ArgumentToLoad =
-    (c : Code) (x y : Operands) (offset : ℕ) (k : Kinds) (s : State) (paddi pld : List ℕ)
-    → IsRelative is_pla names.R_PPC64_GOT_TLSGD_PCREL34 c x s paddi
-    → IsRewritten kinds.PaddiToPld paddi pld → AreAddresses y → s.pc ≡ y.place
+abbrev pub ArgumentToLoad : AreGroup
+ArgumentToLoad paddi pld =
+    (c : Code) (x y : Operands) (offset : ℕ) (k : Kinds) (s : State)
+    → IsRelative names.R_PPC64_GOT_TLSGD_PCREL34 c x s paddi → AreAddresses y → s.pc ≡ y.place
     → ((t : State) → Agree (link c) k s t → loaded 8 t.memory y.got_entry ≡ offset)
     → Has 2 c.new s.pc names.R_PPC64_GOT_TPREL_PCREL34 y pld
     → LeavesHalf c k s (prefixed_target paddi) x.got_entry offset
 
 -- `paddi rT` of the GOT entry of local-dynamic becomes `paddi rT,13,4096`.
-abbrev pub ArgumentToBlock : Type 0
-ArgumentToBlock =
-    (c : Code) (o : Operands) (k : Kinds) (s : State) (paddi over : List ℕ)
-    → IsRelative is_pla names.R_PPC64_GOT_TLSLD_PCREL34 c o s paddi
-    → IsRewritten kinds.PaddiToPaddi4096 paddi over → k.registers 13 ≡ same
+abbrev pub ArgumentToBlock : AreGroup
+ArgumentToBlock paddi over =
+    (c : Code) (o : Operands) (k : Kinds) (s : State)
+    → IsRelative names.R_PPC64_GOT_TLSLD_PCREL34 c o s paddi → k.registers 13 ≡ same
     → Stands 2 c.new s.pc over
     → LeavesHalf c k s (prefixed_target paddi) o.got_entry (sum_64 (s.registers 13) 0x1000)
 
 -- `add rT,rY,13`, or a load or a store by that sum, becomes the same without r13. In old rY has an
 -- offset, and in new the sum.
-abbrev pub OverVariable : RewriteKind → Use → Type 0
-OverVariable kind how =
-    (c : Code) (offset : ℕ) (k : Kinds) (s : State) (insn direct : List ℕ)
-    → IsTrue (how.test (word_of insn)) → IsRewritten kind insn direct
+abbrev pub OverVariable : Use → AreGroup
+OverVariable how insn direct =
+    (c : Code) (offset : ℕ) (k : Kinds) (s : State)
     → let address = sum_64 offset (s.registers 13) in
     s.registers (ra_of (word_of insn)) ≡ offset
     → NewHas c k s (ra_of (word_of insn)) (λ n. n ≡ address) → Stands 1 c.old s.pc insn
     → Stands 1 c.new s.pc direct → Uses c how (word_of insn) address k s
 
+abbrev pub SumOverVariable : AreGroup
+SumOverVariable = OverVariable (adds is_add_of_thread)
+
+abbrev pub AccessOverVariable : AreGroup
+AccessOverVariable = OverVariable (accesses is_indexed_any indexed_access)
+
 abbrev pub SumToVariable : Type 0
 SumToVariable =
-    OverVariable kinds.AddToMove (adds is_add_of_thread)
-    × OverVariable kinds.IndexedToDirect (accesses is_indexed_any indexed_access)
+    Rewrites is_add_of_thread kinds.AddToMove SumOverVariable
+    × Rewrites is_indexed_any kinds.IndexedToDirect AccessOverVariable
 
 -- ---- the TOC pointer
 
@@ -452,12 +557,9 @@ TocAtEntry =
     (put 2 (symbol_address o) (sum_64 s.pc 8) s)
 
 -- The `nop` to which a call returns becomes `ld 2,24(1)`. There new has what r2 has in old.
-abbrev pub RestoresToc : Type 0
-RestoresToc =
-    (c : Code) (k : Kinds) (s : State) (call restored : List ℕ) → word_of call < 2 ^ 32
-    → IsTrue (is_call (word_of call) (word_of (drop 4 call)))
-    → IsRewritten kinds.NopToRestoreToc call restored
-    → Stands 1 c.old s.pc (drop 4 call) → Stands 1 c.new s.pc (drop 4 restored)
+abbrev pub RestoresToc : AreGroup
+RestoresToc call restored =
+    (c : Code) (k : Kinds) (s : State) → Stands 1 c.old s.pc (drop 4 call) → Stands 1 c.new s.pc (drop 4 restored)
     → ((t : State) → Agree (link c) k s t
     → loaded 8 t.memory (sum_64 (t.registers 1) 24) ≡ s.registers 2)
     → Group (of_link (link c)) 1 k s (with_register 2 same k) (go_to (sum_64 s.pc 4) s)
@@ -478,26 +580,33 @@ Others =
 pub record Groups : Type 0 where
   pub high_halves : HighHalfToNop
   pub kept_high_halves : HighHalfStays
-  pub loads : LoadToSum
+  pub loads : Rewrites is_ld kinds.LdToAddi LoadToSum
   pub low_halves : LowHalfOverBase
-  pub offsets : OffsetToHighHalf names.R_PPC64_GOT_TPREL16_LO_DS
-  pub near_offsets : OffsetToHighHalf names.R_PPC64_GOT_TPREL16_DS
+  pub offsets :
+      Rewrites is_ld kinds.LdToAddisThread (OffsetToHighHalf names.R_PPC64_GOT_TPREL16_LO_DS)
+  pub near_offsets :
+      Rewrites is_ld kinds.LdToAddisThread (OffsetToHighHalf names.R_PPC64_GOT_TPREL16_DS)
   pub low_offsets : OffsetToLowHalf
-  pub arguments : ArgumentToHighHalf names.R_PPC64_GOT_TLSGD16_LO
-  pub near_arguments : ArgumentToHighHalf names.R_PPC64_GOT_TLSGD16
-  pub argument_offsets :
-      ArgumentToOffset names.R_PPC64_GOT_TLSGD16_LO names.R_PPC64_GOT_TPREL16_LO_DS
-  pub near_argument_offsets :
-      ArgumentToOffset names.R_PPC64_GOT_TLSGD16 names.R_PPC64_GOT_TPREL16_DS
-  pub module_arguments : ArgumentToThread names.R_PPC64_GOT_TLSLD16_LO
-  pub near_module_arguments : ArgumentToThread names.R_PPC64_GOT_TLSLD16
-  pub call_low_halves : CallToLowHalf
+  pub arguments :
+      Rewrites is_addi kinds.AddiToAddisThread (ArgumentToHighHalf names.R_PPC64_GOT_TLSGD16_LO)
+  pub near_arguments :
+      Rewrites is_addi kinds.AddiToAddisThread (ArgumentToHighHalf names.R_PPC64_GOT_TLSGD16)
+  pub argument_offsets : Rewrites is_addi kinds.AddiToLd
+      (ArgumentToOffset names.R_PPC64_GOT_TLSGD16_LO names.R_PPC64_GOT_TPREL16_LO_DS)
+  pub near_argument_offsets : Rewrites is_addi kinds.AddiToLd
+      (ArgumentToOffset names.R_PPC64_GOT_TLSGD16 names.R_PPC64_GOT_TPREL16_DS)
+  pub module_arguments :
+      Rewrites is_addi kinds.AddiToAddisThread (ArgumentToThread names.R_PPC64_GOT_TLSLD16_LO)
+  pub near_module_arguments :
+      Rewrites is_addi kinds.AddiToAddisThread (ArgumentToThread names.R_PPC64_GOT_TLSLD16)
+  pub call_low_halves : Rewrites is_any kinds.CallToAddi CallToLowHalf
   pub calls : Calls
-  pub prefixed : PldToPaddi
+  pub prefixed : RewritesBoth is_pld kinds.PldToPaddi PldToPaddi
   pub variables : ToVariable
-  pub prefixed_loads : ArgumentToLoad
-  pub prefixed_blocks : ArgumentToBlock
+  pub prefixed_loads : RewritesBoth is_pla kinds.PaddiToPld ArgumentToLoad
+  pub prefixed_blocks : RewritesBoth is_pla kinds.PaddiToPaddi4096 ArgumentToBlock
   pub variable_sums : SumToVariable
   pub entries : TocAtEntry
-  pub toc : RestoresToc
+  pub toc : RewritesBoth is_call kinds.NopToRestoreToc RestoresToc
+  pub near_entries : NearEntries
   pub others : Others

@@ -2,8 +2,8 @@
 -- "Branch Facility", "Fixed-Point Facility" and "Floating-Point Facility"). Any address can be read
 -- and written, and code is apart from memory. None of the instructions changes the condition
 -- register.
-use Rattle.std.specs.Prelude.{◌≡◌, ℕ, ◌-◌, ◌*◌, ◌/◌, ◌^◌, ◌==◌, ◌&&◌, nat_lt, Bool}
-use Rattle.std.specs.Prelude.{if◌then◌else◌, false, List, [], ◌∷◌, pos, ◌*ℤ◌}
+use Rattle.std.specs.Prelude.{ℕ, ◌-◌, ◌*◌, ◌/◌, ◌^◌, ◌==◌, ◌&&◌, nat_lt}
+use Rattle.std.specs.Prelude.{if◌then◌else◌, pos, ◌*ℤ◌}
 use Rattle.std.specs.Prelude.{Option, Some, None}
 use Rattle.linker_base.specs.Bits.{field}
 use Rattle.linker_elf.specs.Ppc64.{ppc64_form}
@@ -206,29 +206,4 @@ step_prefixed f both s =
 
 -- ---- sequences
 
--- on after some instructions
-abbrev pub gone_on : List ℕ → State → State
-gone_on [] s = s
-gone_on (word ∷ words) s = gone_on words (go_on s)
-
--- what a run is after its first instruction, if that goes on to the next
-abbrev pub continue : ℕ → (State → Option State) → Option State → Option State
-continue next rest None = None
-continue next rest (Some s) = if s.pc == next then rest s else None
-
--- Words that stand one after the other from the state's address up are executed, each after the one
--- before it, and then the last, which may go anywhere.
-abbrev pub run : Formats → List ℕ → State → Option State
-run f [] s = Some s
-run f (word ∷ []) s = step f word s
-run f (word ∷ words) s = continue (next_pc s) (run f words) (step f word s)
-
 -- ---- states that are alike
-
--- The states differ in no more than some registers.
-pub record AreAlikeBut (differing : ℕ → Bool) (s t : State) : Type 0 where
-  pub registers : (n : ℕ) → differing n ≡ false → s.registers n ≡ t.registers n
-  pub floats : s.floats ≡ t.floats
-  pub link : s.link ≡ t.link
-  pub pc : s.pc ≡ t.pc
-  pub memory : s.memory ≡ t.memory

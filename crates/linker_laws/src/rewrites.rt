@@ -1,14 +1,10 @@
-//! Laws of PowerPC64's rewrites: the instructions after a rewrite compute what those before it do.
-//! Those of the other architectures are in `simulation`.
+//! Examples of what the machines do that the laws of rewrites are over, and of what bytes are. What
+//! rewritten instructions compute is in `simulation`.
 //!
-//! The functions do nothing. The laws are the fields of `Laws` in `specs/`. They are over a machine
-//! that executes the instructions that rewrites read or write: from the same state the instructions
-//! before a rewrite and those after it, each with their relocations applied, end in states that are
-//! alike. The other clauses are examples of what the machines do.
+//! The functions do nothing.
 
 ghost use Rattle.linker_laws.specs.AArch64RewriteLaws as aarch64_laws;
 ghost use Rattle.linker_laws.specs.AArch64Worked as aarch64_worked;
-ghost use Rattle.linker_laws.specs.Ppc64RewriteLaws as ppc64_laws;
 ghost use Rattle.linker_laws.specs.RiscVExamples as riscv_examples;
 ghost use Rattle.linker_laws.specs.X86Examples as x86_examples;
 
@@ -19,17 +15,6 @@ pub fn aarch64()
     ensures steps { aarch64_worked.WorkedSteps }
     ensures runs { aarch64_worked.WorkedRuns }
 {}
-
-/// PowerPC64: what each rewritten instruction does in two runs, of the object's code and of the
-/// new one, which are alike except for some registers and bytes of memory, whatever stands between
-/// them: the high and the low halves, the arguments of `__tls_get_addr` and its calls, each
-/// instruction of a thread-local sequence of prefixed code, and the TOC pointer restored after a
-/// call. Its instructions are groups, too (`simulation::ppc64`).
-pub fn ppc64()
-    ensures laws { ppc64_laws.Laws }
-{
-    crate::relocations::ppc64();
-}
 
 /// RISC-V: examples of what bytes are, and of what instructions do. What rewritten instructions
 /// compute is in `simulation::riscv64`.

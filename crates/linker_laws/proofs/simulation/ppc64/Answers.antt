@@ -28,6 +28,7 @@ returns c =
         variable_sums = proofs.are_variable_sums;
         entries = proofs.are_entries laws.relative laws.absolute;
         toc = proofs.are_toc;
+        near_entries = proofs.are_near_entries laws.displacements;
         others = proofs.are_others;
       };
     }
