@@ -17,8 +17,8 @@ use Rattle.linker_elf.specs.declared.elf.architecture.Architecture.TheVariants.{
 use Rattle.linker_elf.specs.declared.elf.value.Operands.{Operands}
 use Rattle.linker_final.proofs.AArch64Written.{IsAfter, IsNamedAs, IsNew, IsOfEntry, after, has_after, of_bits, of_entry, of_part, place_of, same_value, stands_left}
 use Rattle.linker_final.proofs.Written.{first_same, second_same, word_same}
-use Rattle.linker_final.specs.AArch64Runs.{ComesTo, object, register}
-use Rattle.linker_final.specs.AArch64Section.{IsRewrittenOf, offset_of}
+use Rattle.linker_final.specs.AArch64Section.{ComesTo, IsRewrittenOf, object, register}
+use Rattle.linker_final.specs.SectionRuns.{offset_of}
 use Rattle.linker_final.specs.Final.{IsWrittenByNoOther, Linked, UntouchedInstructions, instruction_at, two_at}
 use Rattle.linker_laws.specs.AArch64Groups.{Code, Groups, Has, Leaves, Stands, seen}
 use Rattle.linker_laws.specs.AArch64RewriteLaws.{IsPair, IsRewritten, following, word_of}

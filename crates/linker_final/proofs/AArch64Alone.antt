@@ -15,8 +15,8 @@ use Rattle.linker_elf.specs.declared.elf.architecture.Architecture.TheVariants.{
 use Rattle.linker_elf.specs.declared.elf.value.Operands.{Operands}
 use Rattle.linker_final.proofs.AArch64Written.{IsAfter, IsNew, becomes, has_after, named_after, of_bits, of_entry, stands_left}
 use Rattle.linker_final.proofs.Written.{word_same}
-use Rattle.linker_final.specs.AArch64Runs.{ComesTo, object, register}
-use Rattle.linker_final.specs.AArch64Section.{IsRewrittenOf, offset_of}
+use Rattle.linker_final.specs.AArch64Section.{ComesTo, IsRewrittenOf, object, register}
+use Rattle.linker_final.specs.SectionRuns.{offset_of}
 use Rattle.linker_final.specs.Final.{IsWrittenByNoOther, Linked, UntouchedInstruction, instruction_at}
 use Rattle.linker_laws.specs.AArch64Groups.{BranchToNop, Code, Groups, Has, Leaves, link}
 use Rattle.linker_laws.specs.AArch64Machine.{load_64}

@@ -16,8 +16,8 @@ use Rattle.linker_elf.specs.declared.elf.choice.Choice.{Choice}
 use Rattle.linker_elf.specs.declared.elf.value.Operands.{Operands}
 use Rattle.linker_final.proofs.AArch64Alone.{high_after, high_row, low_after, low_row}
 use Rattle.linker_final.proofs.AArch64Written.{IsAfter, IsNew, IsOfEntry, IsOfOne, after, becomes, entry_there, has_after, named_after, of_bits, of_one, of_part, place_of, stands_left}
-use Rattle.linker_final.specs.AArch64Runs.{ComesTo, HoldsOffset, IsDescriptorLeft, object}
-use Rattle.linker_final.specs.AArch64Section.{IsRewrittenOf, offset_of}
+use Rattle.linker_final.specs.AArch64Section.{ComesTo, HoldsOffset, IsDescriptorLeft, IsRewrittenOf, object}
+use Rattle.linker_final.specs.SectionRuns.{offset_of}
 use Rattle.linker_final.specs.Final.{IsWrittenByNoOther, Linked, UntouchedInstruction, instruction_at}
 use Rattle.linker_laws.specs.AArch64Groups.{Code, Descriptor, EndsInNops, Groups, Stands, link}
 use Rattle.linker_laws.specs.AArch64RewriteLaws.{following, thread_offset, with_entry}

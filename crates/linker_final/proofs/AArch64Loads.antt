@@ -18,8 +18,8 @@ use Rattle.linker_elf.specs.declared.elf.value.Operands.{Operands}
 use Rattle.linker_final.proofs.AArch64Addresses.{adr_there, made_two, nop_there, page_row}
 use Rattle.linker_final.proofs.AArch64Written.{IsAfter, IsNew, IsOfEntry, after, becomes, has_after, named_after, of_bits, of_entry, of_part, place_of, same_value}
 use Rattle.linker_final.proofs.Written.{are_rewritten, first_same, stays, word_same}
-use Rattle.linker_final.specs.AArch64Runs.{ComesTo, IsRewrittenAgain, object, register}
-use Rattle.linker_final.specs.AArch64Section.{IsRewrittenOf, Section, offset_of}
+use Rattle.linker_final.specs.AArch64Section.{ComesTo, IsRewrittenAgain, IsRewrittenOf, object, register}
+use Rattle.linker_final.specs.SectionRuns.{Section, offset_of}
 use Rattle.linker_final.specs.Final.{IsRewrittenByNoOther, Linked, UntouchedInstructions, instruction_at, two_at}
 use Rattle.linker_laws.specs.AArch64Groups.{Code, Groups, Has, Leaves, seen}
 use Rattle.linker_laws.specs.AArch64Machine.{load_64}

@@ -22,8 +22,8 @@ use Rattle.linker_elf.specs.declared.elf.value.Operands.{Operands}
 use Rattle.linker_final.proofs.InstructionFields.{IsOfInstruction}
 use Rattle.linker_final.proofs.Phases.{last_length, relocation_left}
 use Rattle.linker_final.proofs.Written.{IsRowOf, applied_after, are_rewritten, by_name, entry_is_there, made_there, rela, relocation_is, unwritten_without, with_operands}
-use Rattle.linker_final.specs.AArch64Runs.{object}
-use Rattle.linker_final.specs.AArch64Section.{HasFinal, IsRewrittenOf, offset_of}
+use Rattle.linker_final.specs.AArch64Section.{HasFinal, IsRewrittenOf, object}
+use Rattle.linker_final.specs.SectionRuns.{offset_of}
 use Rattle.linker_final.specs.Final.{IsLinked, IsWrittenByNoOther, Linked, UntouchedInstruction, count, instruction_at}
 use Rattle.linker_laws.specs.AArch64Groups.{Code, Has, Stands}
 use Rattle.linker_laws.specs.AArch64RewriteLaws.{BeginsRewritten, IsRewritten}

@@ -1,5 +1,5 @@
 -- What a rewrite changes lies in its instruction.
-use Rattle.std.proofs.Common.{◌≡◌, ℕ, suc, ℤ, ◌+◌, ◌-◌, ◌<◌, ◌≤◌, ◌⊎◌, List, [], ◌∷◌, ◌++◌, length, take, drop, get_or, true, refl, sym, ap, ◌∙◌, inl, inr, arith, Option, Some, append_assoc, drop-cons}
+use Rattle.std.proofs.Common.{◌≡◌, ℕ, suc, ℤ, ◌+◌, ◌-◌, ◌<◌, ◌≤◌, ◌⊎◌, List, [], ◌∷◌, ◌++◌, length, take, drop, get_or, true, refl, sym, ap, subst, ◌∙◌, inl, inr, arith, Option, Some, append_assoc, drop-cons}
 use Rattle.std.proofs.lemmas.List.{take_more}
 use Rattle.linker_base.specs.Rewrite.{Rewrite, rewritten, rewrite_window}
 use Rattle.linker_utils.specs.X86Rewrites.{absolute, operand, prefixed_operand, puts, x86_64_rewrite}
@@ -21,6 +21,11 @@ pub record HasWindow (n end : ℕ) (rewrite : Option Rewrite) : Type 0 where
   pub outer : (o at : ℕ) → made.back ≤ o → n ≤ o → o - n ≤ at
       → (at < o - inner.back) ⊎ (o - inner.back + inner.len ≤ at)
       → (at < o - made.back) ⊎ (o - made.back + made.len ≤ at)
+  -- bytes before the instruction stay
+  pub low : (before after : List ℕ) (o at : ℕ) → made.back ≤ o → o - made.back + made.len ≤ length before
+      → length after ≡ length before
+      → rewrite_window made after o ≡ made.bytes (rewrite_window made before o)
+      → o - made.back ≤ at → at < o - n → get_or after at 0 ≡ get_or before at 0
   pub back : inner.back ≤ n
   pub ends : inner.len ≤ inner.back + end
 
@@ -37,6 +42,7 @@ own_window n end rewrite r is admits low high =
       same = λ bytes o starts ends. refl;
       same_made = λ before after o starts ends long is_made. is_made;
       outer = λ o at starts long from outside. outside;
+      low = λ before after o at starts ends long is_made from less. absurd (omega (arith, low, from, less));
       back = low;
       ends = high;
     }
@@ -121,6 +127,11 @@ module _ (opcode k : ℕ) where
                 | inl below ↦ absurd (omega (arith, below, from))
                 | inr above ↦ inr (omega (arith, above, starts))
               ];
+          low = λ before after o at starts ends long is_made from less.
+              let e : o - 3 ≡ at = omega (arith, starts, from, less) in
+              subst (λ j. get_or after j 0 ≡ get_or before j 0) e
+              (ap (λ xs. get_or xs 0 0)
+              (sym (window after o starts (omega (arith, ends, long))) ∙ (is_made ∙ written before o starts ends)));
           back = omega arith;
           ends = omega arith;
         };

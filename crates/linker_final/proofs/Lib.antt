@@ -47,6 +47,7 @@ pub mod RiscVPackedDeletions
 pub mod RiscVTested
 pub mod RiscVWritten
 pub mod SameDecisions
+pub mod SectionRuns
 pub mod Written
 pub mod X86Chosen
 pub mod X86Descriptors
@@ -55,6 +56,7 @@ pub mod X86Lawful
 pub mod X86Names
 pub mod X86Patterns
 pub mod X86Rows
+pub mod X86Section
 pub mod X86ThreadCalls
 pub mod X86ThreadEntries
 pub mod X86ThreadOffsets

@@ -3,7 +3,7 @@ use Rattle.std.proofs.Common.{◌≡◌, ℕ, ◌+◌, ◌-◌, ◌<◌, ◌≤�
 use Rattle.std.proofs.lemmas.Bool.{cases_lt}
 use Rattle.std.proofs.lemmas.List.{length-append, length-drop, length-take-le, get_or-drop, get_or-take, ext_get_or}
 use Rattle.linker_base.specs.Rewrite.{Rewrite, rewritten, rewrite_window}
-use Rattle.linker_final.specs.Final.{put_back}
+use Rattle.linker_final.specs.X86Section.{put_back}
 use Rattle.linker_section.proofs.Windows.{IsReplaced, in_window, outside_window}
 
 -- a byte of n from a start on

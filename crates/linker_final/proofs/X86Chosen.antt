@@ -17,7 +17,7 @@ use Rattle.linker_utils.specs.Relaxations.{IsArchitectureChoice, relaxation_no_o
 use Rattle.linker_utils.specs.declared.architecture.Relaxation.{Relaxation}
 use Rattle.linker_utils.specs.declared.architecture.Relaxation.TheVariants as relaxations
 use Rattle.linker_elf.specs.declared.elf.architecture.Architecture.TheVariants.{X86_64}
-use Rattle.linker_utils.specs.X86Rewrites.{HasPattern, IsX86Choice, Original, Table, X86Entry, opcode_at, x86_64_after, x86_64_table}
+use Rattle.linker_utils.specs.X86Rewrites.{HasPattern, Original, Table, X86Entry, opcode_at, x86_64_after, x86_64_table}
 use Rattle.linker_utils.specs.declared.x86_64.rewrites.RewriteKind.{RewriteKind}
 use Rattle.linker_utils.specs.declared.x86_64.rewrites.RewriteKind.TheVariants as kinds
 
@@ -62,6 +62,33 @@ module _ (name : X86_64Relocation) (section : List ℕ) (o : ℕ) (facts : LinkF
 abbrev pub IsOfTable : Table → List ℕ → ℕ → ℤ → Choice Relaxation ℕ → Type 0
 IsOfTable t section o addend chosen = IsOfOne t.instructions t.entries section o addend chosen
 
+-- of the relocation at an index
+pub record HasTable (l : Linked) (i : ℕ) (chosen : Choice Relaxation ℕ) : Type 0 where
+  pub name : X86_64Relocation
+  pub is_name : IsNameOf x86_64_name (relocation_in l.relocations i).code name
+  pub is : IsOfTable (x86_64_table name (opcode_at name l.section (relocation_in l.relocations i).offset))
+      l.section (relocation_in l.relocations i).offset (relocation_in l.relocations i).addend chosen
+
+pub has_table : (l : Linked) → IsLinked l → l.context.architecture ≡ X86_64 → (i : ℕ)
+    → (chosen : Choice Relaxation ℕ) → i < count l → decision_at l.decisions i ≡ Rewritten chosen
+    → HasTable l i chosen
+has_table l linked x86 i chosen below decided =
+    let r = relocation_in l.relocations i in
+    let c = chosen_at l.context l.kept l.relocations l.section l.decisions (count l) i chosen linked.decided below decided
+    (λ scope is. unlabelled l.context.phase r.code scope (subst (λ x. IsScopeIn x l.context.phase r.code scope) x86 is)) in
+    let h = subst (λ x. IsArchitectureChoice x r.code l.section r.offset c.facts chosen) x86 c.is_choice in
+    let t = x86_64_table h.name (opcode_at h.name l.section r.offset) in
+    record {
+      name = h.name;
+      is_name = h.is_name;
+      is = by_first h.name l.section r.offset c.facts r.addend c.addend chosen h.named h.kind_is h.code_is
+          (λ e. c.changed (
+            subst relaxation_no_op (sym (h.kind_is ∙ ap (λ (q : Choice RewriteKind X86_64Relocation). relaxations.X86_64 q.kind) e)) refl,
+            h.code_is ∙ (ap (λ (q : Choice RewriteKind X86_64Relocation). code_of (x86_64_name q.relocation)) e ∙ h.is_name.code_is),
+          ))
+          t.instructions t.entries h.is_choice;
+    }
+
 pub of_table : (l : Linked) → IsLinked l → l.context.architecture ≡ X86_64 → (i : ℕ)
     → (chosen : Choice Relaxation ℕ) → i < count l
     → decision_at l.decisions i ≡ Rewritten chosen
@@ -71,15 +98,6 @@ pub of_table : (l : Linked) → IsLinked l → l.context.architecture ≡ X86_64
     l.section (relocation_in l.relocations i).offset (relocation_in l.relocations i).addend chosen
 of_table l linked x86 i chosen below decided name named is_name =
     let r = relocation_in l.relocations i in
-    let c = chosen_at l.context l.kept l.relocations l.section l.decisions (count l) i chosen linked.decided below decided
-    (λ scope is. unlabelled l.context.phase r.code scope (subst (λ x. IsScopeIn x l.context.phase r.code scope) x86 is)) in
-    let h = subst (λ x. IsArchitectureChoice x r.code l.section r.offset c.facts chosen) x86 c.is_choice in
-    let same : h.name ≡ name = h.is_name.named name named is_name.code_is in
-    let t = x86_64_table name (opcode_at name l.section r.offset) in
-    by_first name l.section r.offset c.facts r.addend c.addend chosen h.named h.kind_is h.code_is
-    (λ e. c.changed (
-      subst relaxation_no_op (sym (h.kind_is ∙ ap (λ (q : Choice RewriteKind X86_64Relocation). relaxations.X86_64 q.kind) e)) refl,
-      h.code_is ∙ (ap (λ (q : Choice RewriteKind X86_64Relocation). code_of (x86_64_name q.relocation)) e ∙ is_name.code_is),
-    ))
-    t.instructions t.entries
-    (subst (λ x. IsX86Choice x l.section r.offset c.facts h.named) same h.is_choice)
+    let t = has_table l linked x86 i chosen below decided in
+    subst (λ n. IsOfTable (x86_64_table n (opcode_at n l.section r.offset)) l.section r.offset r.addend chosen)
+    (t.is_name.named name named is_name.code_is) t.is

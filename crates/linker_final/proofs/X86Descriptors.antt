@@ -1,6 +1,7 @@
 -- The `lea` of a descriptor's address of x86-64 and the call of its function are groups in the
 -- final bytes.
-use Rattle.std.proofs.Common.{◌≡◌, ℕ, ◌+◌, ◌-◌, ◌<◌, ◌≤◌, ◌||◌, Bool, List, [], ◌∷◌, drop, false, true, refl, sym, ap, subst, ◌∙◌, inl, inr, arith, IsTrue, Some, neg_ℤ, pos}
+use Rattle.std.proofs.Common.{◌≡◌, ℕ, ◌+◌, ◌-◌, ◌^◌, ◌<◌, ◌≤◌, ◌||◌, Bool, List, [], ◌∷◌, length, drop, false, true, refl, sym, ap, subst, ◌∙◌, inl, inr, arith, IsTrue, Some, neg_ℤ, pos}
+use Rattle.std.specs.Prelude.{slice_get}
 use Rattle.linker_base.specs.Rewrite.{replaces}
 use Rattle.linker_section.specs.declared.facts.Symbol.{Symbol}
 use Rattle.linker_utils.specs.X86RelocationsAfter.{x86_64_relocation_after}
@@ -10,17 +11,17 @@ use Rattle.linker_elf.specs.declared.elf.choice.Choice.{Choice}
 use Rattle.linker_elf.specs.declared.x86_64.relocations.X86_64Relocation.{X86_64Relocation}
 use Rattle.linker_elf.specs.declared.x86_64.relocations.X86_64Relocation.TheVariants as names
 use Rattle.linker_final.proofs.Inner.{HasWindow, own_window}
-use Rattle.linker_final.proofs.X86Chosen.{IsOfTable, of_table}
+use Rattle.linker_final.proofs.Phases.{last_length}
+use Rattle.linker_final.proofs.X86Chosen.{IsOfTable}
 use Rattle.linker_final.proofs.PutBack.{same_windows}
 use Rattle.linker_final.proofs.X86Finals.{final_is, some_and}
 use Rattle.linker_final.proofs.X86Lawful.{AreOf, shaped_of}
 use Rattle.linker_final.proofs.X86Patterns.{of_or, or_first, or_second, there_inside}
 use Rattle.linker_final.proofs.X86Rows.{tpoff32}
 use Rattle.linker_final.proofs.X86ThreadEntries.{entry_final}
-use Rattle.linker_final.proofs.X86Windows.{HasRewrite, object_bytes, object_has, object_length, object_matches, object_same, offset_small, unrelocated}
-use Rattle.linker_final.specs.Final.{UntouchedByOthers, IsLinked, Linked, count, put_back}
-use Rattle.linker_final.specs.X86Final.{StandsThere}
-use Rattle.linker_final.specs.X86ThreadFinal.{CallDoesTheSame, DescriptorAddresses, DescriptorCalls, LeaDoesTheSame, Makes}
+use Rattle.linker_final.proofs.X86Windows.{HasRewrite, IsLawful, LawAt, StandsThere, object_bytes, object_has, object_length, object_matches, object_same, of_field, of_row, offset_small, unrelocated}
+use Rattle.linker_final.specs.Final.{UntouchedByOthers, IsLinked, Linked, count}
+use Rattle.linker_final.specs.X86Section.{Makes, Window, call, lea, put_back, window, window_of}
 use Rattle.linker_laws.proofs.X86Fields.{thread_row}
 use Rattle.linker_laws.specs.Simulation.{State}
 use Rattle.linker_laws.specs.X86Groups as groups
@@ -55,7 +56,7 @@ module _ (n : ℕ) (three : 3 ≤ n) (name : X86_64Relocation) (named : IsNamed 
     (chosen : Choice Relaxation ℕ) (below : i < count l)
     (is_name : IsNameOf x86_64_name (relocation_in l.relocations i).code name)
     (decided : decision_at l.decisions i ≡ Rewritten chosen)
-    (alone : UntouchedByOthers l i ((relocation_in l.relocations i).offset - n) (n + 4))
+    (is : window_of name chosen.kind ≡ Some (window (lea register_of) n 4 1)) (small : n < 2 ^ 64)
   where
     abbrev r : Rela
     r = relocation_in l.relocations i
@@ -66,10 +67,35 @@ module _ (n : ℕ) (three : 3 ≤ n) (name : X86_64Relocation) (named : IsNamed 
     abbrev object : List ℕ
     object = put_back (o - n) (n + 4) l.section l.final
 
-    abbrev has_rewrite : (kind : RewriteKind) → chosen.kind ≡ relaxations.X86_64 kind
+    room : IsTrue (is_one_at (lea_of_descriptor n) l.section o) → (n ≤ o) × (o + 4 ≤ length l.section)
+    room there = there_inside n 4 (omega arith) (lea_of_descriptor n) l.section o shape there
+
+    abbrev w : Window
+    w = window (lea register_of) n 4 1
+
+    -- by its rewrite
+    lawful : (kind : RewriteKind) → chosen.kind ≡ relaxations.X86_64 kind → HasWindow n 4 (x86_64_rewrite kind)
+        → IsTrue (is_one_at (lea_of_descriptor n) l.section o) → x86_64_matches kind l.section o
+        → (UntouchedByOthers l i (o - n) (n + 4) → (symbol : Symbol) → slice_get l.symbols r.symbol ≡ Some symbol
+        → LawAt l i name thread_row w chosen.kind symbol)
+        → IsLawful l i chosen name w
+    lawful kind kind_is has_window there matches law =
+        record {
+          is = is;
+          kind = kind;
+          kind_is = kind_is;
+          window = has_window;
+          matches = matches;
+          room = room there;
+          law = λ alone symbol o c s final pc object.
+              of_field l linked i chosen name w small (room there) symbol o c s final pc object
+              thread_row (ap (of_row object.row) (object.by.1)) (law alone symbol (object.by.0));
+        }
+
+    abbrev has_rewrite : UntouchedByOthers l i (o - n) (n + 4) → (kind : RewriteKind) → chosen.kind ≡ relaxations.X86_64 kind
         → HasWindow n 4 (x86_64_rewrite kind) → IsTrue (is_one_at (lea_of_descriptor n) l.section o)
         → x86_64_matches kind l.section o → HasRewrite l i n 4 kind
-    has_rewrite kind kind_is window there matches =
+    has_rewrite alone kind kind_is has_window there matches =
         record {
           linked = linked;
           x86 = x86;
@@ -77,9 +103,9 @@ module _ (n : ℕ) (three : 3 ≤ n) (name : X86_64Relocation) (named : IsNamed 
           below = below;
           decided = decided;
           kind_is = kind_is;
-          window = window;
+          window = has_window;
           matches = matches;
-          room = there_inside n 4 (omega arith) (lea_of_descriptor n) l.section o shape there;
+          room = room there;
           alone = alone;
         }
 
@@ -98,13 +124,14 @@ module _ (n : ℕ) (three : 3 ≤ n) (name : X86_64Relocation) (named : IsNamed 
           ip = there.pc;
         }
 
-    by_entry : IsOfTable (descriptor_table n) l.section o r.addend chosen
-        → LeaDoesTheSame n name register_of l i chosen thread_row
-    by_entry (inl this) =
-        λ symbol is_symbol entry c s at h k descriptor makes.
+    pub lea_is_lawful : IsOfTable (descriptor_table n) l.section o r.addend chosen
+        → IsLawful l i chosen name w
+    lea_is_lawful (inl this) =
         let kind = kinds.TlsDescToLocalExec n in
-        let window = own_window n 4 (x86_64_rewrite kind) (rex_mov n) refl (λ window. refl) three (omega arith) in
-        let has = has_rewrite kind this.kind_is window (this.has_pattern.0) (this.has_pattern.1) in
+        let has_window = own_window n 4 (x86_64_rewrite kind) (rex_mov n) refl (λ window. refl) three (omega arith) in
+        lawful kind this.kind_is has_window (this.has_pattern.0) (this.has_pattern.1)
+        (λ alone symbol is_symbol entry c s at h k descriptor makes.
+        let has = has_rewrite alone kind this.kind_is has_window (this.has_pattern.0) (this.has_pattern.1) in
         let there = object_has l i n 4 kind has (lea_of_descriptor n) (shaped_of n 4 (lea_of_descriptor n) shape) (this.has_pattern.0) in
         let operands = operands_with X86_64 l.addresses thread_row symbol r entry in
         some_and _ (x86_64_relocation_after kind name) names.R_X86_64_TPOFF32 offset_after to_offset c s object
@@ -114,12 +141,13 @@ module _ (n : ℕ) (three : 3 ≤ n) (name : X86_64Relocation) (named : IsNamed 
         (final_is l i n 4 kind has names.R_X86_64_TPOFF32 tpoff32
         (ap (is_of_got X86_64) (sym is_name.code_is) ∙ not_of_got) this.code_is (omega arith) (omega arith) symbol is_symbol entry)
         at.old at.new h k descriptor
-        (subst (λ x. Makes x symbol c k s operands (c.new_half h)) this.kind_is makes)
-    by_entry (inr (inl this)) =
-        λ symbol is_symbol entry c s at h k descriptor makes.
+        (subst (λ x. Makes x symbol c k s operands (c.new_half h)) this.kind_is makes))
+    lea_is_lawful (inr (inl this)) =
         let kind = kinds.TlsDescToInitialExec in
-        let window = own_window n 4 (x86_64_rewrite kind) (replaces 2 1 _) refl (λ window. refl) (omega (arith, three)) (omega arith) in
-        let has = has_rewrite kind this.kind_is window (this.has_pattern.0) (this.has_pattern.1) in
+        let has_window = own_window n 4 (x86_64_rewrite kind) (replaces 2 1 _) refl (λ window. refl) (omega (arith, three)) (omega arith) in
+        lawful kind this.kind_is has_window (this.has_pattern.0) (this.has_pattern.1)
+        (λ alone symbol is_symbol entry c s at h k descriptor makes.
+        let has = has_rewrite alone kind this.kind_is has_window (this.has_pattern.0) (this.has_pattern.1) in
         let there = object_has l i n 4 kind has (lea_of_descriptor n) (shaped_of n 4 (lea_of_descriptor n) shape) (this.has_pattern.0) in
         let operands = operands_with X86_64 l.addresses thread_row symbol r entry in
         let made : Makes (relaxations.X86_64 kind) symbol c k s operands (c.new_half h) =
@@ -129,8 +157,8 @@ module _ (n : ℕ) (three : 3 ≤ n) (name : X86_64Relocation) (named : IsNamed 
         (before kind has symbol entry c s at (sym this.same_addend ∙ this.hold.1.1.0)) there
         (object_matches l i n 4 kind has (of_entry object o there)) at.applied
         (entry_final l i n 4 kind has this.code_is symbol is_symbol (omega arith) (omega arith) entry)
-        at.old at.new h k descriptor (made.1)
-    by_entry (inr (inr nothing)) = absurd nothing
+        at.old at.new h k descriptor (made.1))
+    lea_is_lawful (inr (inr nothing)) = absurd nothing
 
 -- an instruction that is one of one is one of two
 first : (a b : Bool) → (a || false) ≡ true → (a || b) ≡ true
@@ -140,28 +168,35 @@ first a b is =
       | inr none ↦ absurd (let e : false ≡ true = none in cc)
     ]
 
-pub addresses : groups.LeaOfDescriptor → DescriptorAddresses
-addresses law = (
-  λ l linked x86 i chosen below is_name decided alone.
-      by_entry 3 (omega arith) names.R_X86_64_GOTPC32_TLSDESC tt refl reg_after_rex ((refl, refl), tt)
-      (λ bytes o is. is)
-      (λ bytes o is. first (is_at (with_rex rex_w 0x8d) bytes o) (is_at (with_rex2 rex2_w 0x8d) bytes o || false) is)
-      refl refl (law.0) (law.1) l linked x86 i chosen below is_name decided alone
-      (of_table l linked x86 i chosen below decided names.R_X86_64_GOTPC32_TLSDESC tt is_name),
-  λ l linked x86 i chosen below is_name decided alone.
-      by_entry 4 (omega arith) names.R_X86_64_CODE_4_GOTPC32_TLSDESC tt refl reg_after_rex2 ((refl, refl), tt)
-      (λ bytes o is. is)
-      (λ bytes o is. or_second (is_at (with_rex rex_w 0x8d) bytes o) (is_at (with_rex2 rex2_w 0x8d) bytes o || false) is)
-      refl refl (law.2) (law.3) l linked x86 i chosen below is_name decided alone
-      (of_table l linked x86 i chosen below decided names.R_X86_64_CODE_4_GOTPC32_TLSDESC tt is_name),
-)
+module _ (law : groups.LeaOfDescriptor) (l : Linked) (linked : IsLinked l) (x86 : l.context.architecture ≡ X86_64)
+    (i : ℕ) (chosen : Choice Relaxation ℕ) (below : i < count l) (decided : decision_at l.decisions i ≡ Rewritten chosen)
+  where
+    abbrev it : Rela
+    it = relocation_in l.relocations i
+
+    pub with_rex_is_lawful : IsNameOf x86_64_name it.code names.R_X86_64_GOTPC32_TLSDESC
+        → IsOfTable (descriptor_table 3) l.section it.offset it.addend chosen
+        → IsLawful l i chosen names.R_X86_64_GOTPC32_TLSDESC (window (lea reg_after_rex) 3 4 1)
+    with_rex_is_lawful is_name =
+        lea_is_lawful 3 (omega arith) names.R_X86_64_GOTPC32_TLSDESC tt refl reg_after_rex ((refl, refl), tt)
+        (λ bytes o is. is)
+        (λ bytes o is. first (is_at (with_rex rex_w 0x8d) bytes o) (is_at (with_rex2 rex2_w 0x8d) bytes o || false) is)
+        refl refl (law.0) (law.1) l linked x86 i chosen below is_name decided refl (omega arith)
+
+    pub with_rex2_is_lawful : IsNameOf x86_64_name it.code names.R_X86_64_CODE_4_GOTPC32_TLSDESC
+        → IsOfTable (descriptor_table 4) l.section it.offset it.addend chosen
+        → IsLawful l i chosen names.R_X86_64_CODE_4_GOTPC32_TLSDESC (window (lea reg_after_rex2) 4 4 1)
+    with_rex2_is_lawful is_name =
+        lea_is_lawful 4 (omega arith) names.R_X86_64_CODE_4_GOTPC32_TLSDESC tt refl reg_after_rex2 ((refl, refl), tt)
+        (λ bytes o is. is)
+        (λ bytes o is. or_second (is_at (with_rex rex_w 0x8d) bytes o) (is_at (with_rex2 rex2_w 0x8d) bytes o || false) is)
+        refl refl (law.2) (law.3) l linked x86 i chosen below is_name decided refl (omega arith)
 
 -- ---- the call
 
 module _ (law : groups.CallOfDescriptor) (l : Linked) (linked : IsLinked l)
     (x86 : l.context.architecture ≡ X86_64) (i : ℕ) (chosen : Choice Relaxation ℕ) (below : i < count l)
     (decided : decision_at l.decisions i ≡ Rewritten chosen)
-    (alone : UntouchedByOthers l i (relocation_in l.relocations i).offset 2)
   where
     abbrev at : ℕ
     at = (relocation_in l.relocations i).offset
@@ -169,33 +204,43 @@ module _ (law : groups.CallOfDescriptor) (l : Linked) (linked : IsLinked l)
     abbrev skip : RewriteKind
     skip = kinds.SkipTlsDescCall
 
-    by_call : IsOfTable (any_entry (unrelocated_by kinds.SkipTlsDescCall ∷ [])) l.section at (relocation_in l.relocations i).addend chosen
-        → CallDoesTheSame l i
-    by_call (inl this) =
-        λ c s old new.
-        let has : HasRewrite l i 0 2 skip = record {
-          linked = linked;
-          x86 = x86;
-          chosen = chosen;
-          below = below;
-          decided = decided;
+    pub call_is_lawful : IsOfTable (any_entry (unrelocated_by kinds.SkipTlsDescCall ∷ [])) l.section at (relocation_in l.relocations i).addend chosen
+        → IsLawful l i chosen names.R_X86_64_TLSDESC_CALL (window call 0 2 1)
+    call_is_lawful (inl this) =
+        let room = there_inside 0 2 (omega arith) (x86_64_originals skip) l.section at ((refl, refl), tt) (this.has_pattern.1.1) in
+        let has_window = own_window 0 2 (x86_64_rewrite skip) (replaces 0 2 _) refl (λ window. refl) (omega arith) (omega arith) in
+        record {
+          is = refl;
+          kind = skip;
           kind_is = this.kind_is;
-          window = own_window 0 2 (x86_64_rewrite skip) (replaces 0 2 _) refl (λ window. refl) (omega arith) (omega arith);
+          window = has_window;
           matches = this.has_pattern.1;
-          room = there_inside 0 2 (omega arith) (x86_64_originals skip) l.section at ((refl, refl), tt) (this.has_pattern.1.1);
-          alone = subst (λ start. UntouchedByOthers l i start 2) (let e : at ≡ at - 0 = omega arith in e) alone;
-        } in
-        let object = put_back (at - 0) (0 + 2) l.section l.final in
-        law c s object at (object_bytes l i 0 2 skip has)
-        (object_matches l i 0 2 skip has
-        (object_has l i 0 2 skip has (x86_64_originals skip) (shaped_of 0 2 (x86_64_originals skip) ((refl, refl), tt)) (this.has_pattern.1.1)))
-        (old
-        ∙ same_windows at 2 l.section object (has.room.1) (object_length l i 0 2 skip has)
-        (λ j from less. object_same l i 0 2 skip has j (omega (arith, from)) less))
-        (subst (λ xs. Stands c.new s.pc 2 (drop at xs)) (sym (unrelocated l i 0 2 skip has this.code_is)) new)
-    by_call (inr nothing) = absurd nothing
-
-pub calls : groups.CallOfDescriptor → DescriptorCalls
-calls law l linked x86 i chosen below is_name decided alone =
-    by_call law l linked x86 i chosen below decided alone
-    (of_table l linked x86 i chosen below decided names.R_X86_64_TLSDESC_CALL tt is_name)
+          room = room;
+          law = λ alone symbol o c s final pc old.
+              let has : HasRewrite l i 0 2 skip = record {
+                linked = linked;
+                x86 = x86;
+                chosen = chosen;
+                below = below;
+                decided = decided;
+                kind_is = this.kind_is;
+                window = has_window;
+                matches = this.has_pattern.1;
+                room = room;
+                alone = alone;
+              } in
+              let high = room.1 in
+              let long : length l.final ≡ length l.section =
+              linked.written.same_length ∙ (last_length l linked ∙ linked.same_length) in
+              let object = put_back (at - 0) (0 + 2) l.section l.final in
+              law c s object at (object_bytes l i 0 2 skip has)
+              (object_matches l i 0 2 skip has
+              (object_has l i 0 2 skip has (x86_64_originals skip) (shaped_of 0 2 (x86_64_originals skip) ((refl, refl), tt)) (this.has_pattern.1.1)))
+              (old
+              ∙ same_windows at 2 l.section object (has.room.1) (object_length l i 0 2 skip has)
+              (λ j from less. object_same l i 0 2 skip has j (omega (arith, from)) less))
+              (subst (λ xs. Stands c.new s.pc 2 (drop at xs)) (sym (unrelocated l i 0 2 skip has this.code_is))
+              (subst (λ n. Stands c.new s.pc 2 (drop n l.final)) (let e : at - 0 ≡ at = omega arith in e)
+              (subst (λ a. Stands c.new a 2 (drop (at - 0) l.final)) (sym pc) (final (at - 0) 2 (omega (arith, high, long))))));
+        }
+    call_is_lawful (inr nothing) = absurd nothing

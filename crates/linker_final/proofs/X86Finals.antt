@@ -1,5 +1,5 @@
 -- A rewritten instruction of x86-64 is a group in the final bytes.
-use Rattle.std.proofs.Common.{◌≡◌, ℕ, ℤ, pos, ◌+◌, ◌-◌, ◌^◌, ◌<◌, ◌≤◌, List, false, sym, ap, subst, ◌∙◌, arith, Option, Some, IsSomeAnd}
+use Rattle.std.proofs.Common.{◌≡◌, ℕ, ℤ, pos, ◌+◌, ◌-◌, ◌^◌, ◌<◌, ◌≤◌, List, length, false, refl, sym, ap, subst, ◌∙◌, arith, Option, Some, IsSomeAnd}
 use Rattle.std.proofs.lemmas.Bool.{cond-false}
 use Rattle.std.specs.Prelude.{slice_get}
 use Rattle.linker_base.specs.Rewrite.{Rewrite, rewritten, offset_after}
@@ -14,12 +14,12 @@ use Rattle.linker_elf.specs.declared.x86_64.relocations.X86_64Relocation.{X86_64
 use Rattle.linker_final.proofs.Inner.{HasWindow}
 use Rattle.linker_final.proofs.X86Chosen.{of_table}
 use Rattle.linker_final.proofs.X86Lawful.{HasLaw, IsServed, of_choice, shaped_of}
-use Rattle.linker_final.proofs.X86Names.{got_name}
+use Rattle.linker_final.proofs.X86Names.{GotOperand, got_name, got_operand}
 use Rattle.linker_final.proofs.X86Patterns.{there_inside}
 use Rattle.linker_final.proofs.X86Rows.{IsAfterRow}
-use Rattle.linker_final.proofs.X86Windows.{HasRewrite, object_bytes, object_has, object_matches, offset_small, of_row, rela, relocated_after}
-use Rattle.linker_final.specs.Final.{Linked, IsLinked, UntouchedByOthers, count, put_back}
-use Rattle.linker_final.specs.X86Final.{GotOperand, got_operand, DoesTheSame, GotOperands, IsGroupOf}
+use Rattle.linker_final.proofs.X86Windows.{HasRewrite, IsLawful, LawAt, object_bytes, object_has, object_matches, of_field, of_row, offset_small, rela, relocated_after}
+use Rattle.linker_final.specs.Final.{Linked, IsLinked, UntouchedByOthers, count}
+use Rattle.linker_final.specs.X86Section.{IsGroupOf, Window, in_got, put_back, window, window_of}
 use Rattle.linker_laws.specs.X86Groups.{Groups, seen}
 use Rattle.linker_laws.specs.X86RewriteLaws.{IsRelocated, IsBefore}
 use Rattle.linker_rewriting.specs.Decisions.{decision_at}
@@ -129,13 +129,19 @@ module _ (laws : Groups) (name : X86_64Relocation) (operand : GotOperand)
     (x86 : l.context.architecture ≡ X86_64) (i : ℕ) (chosen : Choice Relaxation ℕ)
     (below : i < count l) (decided : decision_at l.decisions i ≡ Rewritten chosen)
     (is_name : IsNameOf x86_64_name (relocation_in l.relocations i).code name)
-    (alone : UntouchedByOthers l i ((relocation_in l.relocations i).offset - operand.back) (operand.back + 4))
   where
     abbrev r : Rela
     r = relocation_in l.relocations i
 
     abbrev o : ℕ
     o = r.offset
+
+    abbrev around : Window
+    around = window (in_got operand.held) operand.back 4 1
+
+    abbrev DoesTheSame : RelocationKindInfo → Type 0
+    DoesTheSame row =
+        (symbol : Symbol) → slice_get l.symbols r.symbol ≡ Some symbol → LawAt l i name row around chosen.kind symbol
 
     served : IsServed operand.back name operand.held l.section o r.addend chosen
     served =
@@ -152,68 +158,72 @@ module _ (laws : Groups) (name : X86_64Relocation) (operand : GotOperand)
     abbrev w : HasWindow operand.back 4 (x86_64_rewrite kind)
     w = law.within.window
 
-    abbrev has_rewrite : HasRewrite l i operand.back 4 kind
-    has_rewrite =
-        record {
-          linked = linked;
-          x86 = x86;
-          chosen = chosen;
-          below = below;
-          decided = decided;
-          kind_is = served.kind_is;
-          window = w;
-          matches = law.matches;
-          room = there_inside operand.back 4 (omega arith) law.instructions l.section o law.are_of law.there;
-          alone = alone;
-        }
-
-    abbrev object : List ℕ
-    object = put_back (o - operand.back) (operand.back + 4) l.section l.final
-
-    small : o < 2 ^ 64
-    small = offset_small l i operand.back 4 kind has_rewrite
-
     abbrev after : X86_64Relocation
     after = served.named.relocation
 
-    before_is : is_of_got X86_64 r.code ≡ false
-    before_is =
-        let got = got_name name operand wanted in
-        ap (is_of_got X86_64) (sym is_name.code_is) ∙ got.is_not_of_got
+    room : (operand.back ≤ o) × (o + 4 ≤ length l.section)
+    room = there_inside operand.back 4 (omega arith) law.instructions l.section o law.are_of law.there
 
-    module _ (a : IsAfterRow after) (symbol : Symbol) (is_symbol : slice_get l.symbols r.symbol ≡ Some symbol)
-        (entry : ℕ) where
-      abbrev operands_of_object : Operands
-      operands_of_object = operands_with X86_64 l.addresses a.row symbol r entry
+    module _ (alone : UntouchedByOthers l i (o - operand.back) (operand.back + 4)) where
+      abbrev has_rewrite : HasRewrite l i operand.back 4 kind
+      has_rewrite =
+          record {
+            linked = linked;
+            x86 = x86;
+            chosen = chosen;
+            below = below;
+            decided = decided;
+            kind_is = served.kind_is;
+            window = w;
+            matches = law.matches;
+            room = room;
+            alone = alone;
+          }
 
-      relocated : IsRelocated after (operands_after (x86_64_rewrite kind) o operands_of_object)
-          (offset_after (x86_64_rewrite kind) o) (rewritten (x86_64_rewrite kind) object o) l.final
-      relocated =
-          let moves = law.within.moves o (has_rewrite.room.0) in
-          let high = moves.1 in
-          final_is l i operand.back 4 kind has_rewrite after a before_is served.code_is
-          (moves.0) (omega (arith, high)) symbol is_symbol entry
+      abbrev object : List ℕ
+      object = put_back (o - operand.back) (operand.back + 4) l.section l.final
 
-    does_the_same : (a : IsAfterRow after) → DoesTheSame l i chosen name operand a.row
-    does_the_same a symbol is_symbol entry c s there =
-        let operands = operands_of_object a symbol is_symbol entry in
-        let before : IsBefore operand.back object o operands (seen s) =
-        record {
-          bytes = object_bytes l i operand.back 4 kind has_rewrite;
-          offset = small;
-          addresses = there.addresses;
-          addend = addend_was l.addresses after a symbol r w.made chosen.relocation entry small
-              before_is (ap (is_of_got X86_64) served.code_is ∙ a.is_not_of_got)
-              ∙ served.is_from_end;
-          ip = there.pc;
-        } in
-        subst (λ k. IsGroupOf k operand.held c operands s) (sym served.kind_is)
-        (some_and _ (x86_64_relocation_after kind name) after law.after law.law
-        c s object there.original l.final o operands before
-        (object_has l i operand.back 4 kind has_rewrite law.instructions (shaped_of operand.back 4 law.instructions law.are_of) law.there)
-        (object_matches l i operand.back 4 kind has_rewrite
-        (object_has l i operand.back 4 kind has_rewrite (x86_64_originals kind) law.shaped_too (law.matches.1)))
-        there.applied (relocated a symbol is_symbol entry) there.old there.new)
+      small : o < 2 ^ 64
+      small = offset_small l i operand.back 4 kind has_rewrite
+
+      before_is : is_of_got X86_64 r.code ≡ false
+      before_is =
+          let got = got_name name operand wanted in
+          ap (is_of_got X86_64) (sym is_name.code_is) ∙ got.is_not_of_got
+
+      module _ (a : IsAfterRow after) (symbol : Symbol) (is_symbol : slice_get l.symbols r.symbol ≡ Some symbol)
+          (entry : ℕ) where
+        abbrev operands_of_object : Operands
+        operands_of_object = operands_with X86_64 l.addresses a.row symbol r entry
+
+        relocated : IsRelocated after (operands_after (x86_64_rewrite kind) o operands_of_object)
+            (offset_after (x86_64_rewrite kind) o) (rewritten (x86_64_rewrite kind) object o) l.final
+        relocated =
+            let moves = law.within.moves o (has_rewrite.room.0) in
+            let high = moves.1 in
+            final_is l i operand.back 4 kind has_rewrite after a before_is served.code_is
+            (moves.0) (omega (arith, high)) symbol is_symbol entry
+
+      does_the_same : (a : IsAfterRow after) → DoesTheSame a.row
+      does_the_same a symbol is_symbol entry c s there =
+          let operands = operands_of_object a symbol is_symbol entry in
+          let before : IsBefore operand.back object o operands (seen s) =
+          record {
+            bytes = object_bytes l i operand.back 4 kind has_rewrite;
+            offset = small;
+            addresses = there.addresses;
+            addend = addend_was l.addresses after a symbol r w.made chosen.relocation entry small
+                before_is (ap (is_of_got X86_64) served.code_is ∙ a.is_not_of_got)
+                ∙ served.is_from_end;
+            ip = there.pc;
+          } in
+          subst (λ k. IsGroupOf k operand.held c operands s) (sym served.kind_is)
+          (some_and _ (x86_64_relocation_after kind name) after law.after law.law
+          c s object there.original l.final o operands before
+          (object_has l i operand.back 4 kind has_rewrite law.instructions (shaped_of operand.back 4 law.instructions law.are_of) law.there)
+          (object_matches l i operand.back 4 kind has_rewrite
+          (object_has l i operand.back 4 kind has_rewrite (x86_64_originals kind) law.shaped_too (law.matches.1)))
+          there.applied (relocated a symbol is_symbol entry) there.old there.new)
 
     -- the row of the relocation after
     row_same : (row : RelocationKindInfo) (is_row : IsRow X86_64 chosen.relocation (Some row))
@@ -222,11 +232,21 @@ module _ (laws : Groups) (name : X86_64Relocation) (operand : GotOperand)
         let same = is_row.is_name.named after law.row.named (sym served.code_is) in
         ap (of_row row) (sym (is_row.value_is ∙ (ap x86_64_row same ∙ law.row.is)))
 
-    pub of_any_row : (row : RelocationKindInfo) → IsRow X86_64 chosen.relocation (Some row)
-        → DoesTheSame l i chosen name operand row
-    of_any_row row is_row =
-        subst (DoesTheSame l i chosen name operand) (row_same row is_row) (does_the_same law.row)
+    of_any_row : UntouchedByOthers l i (o - operand.back) (operand.back + 4) → (row : RelocationKindInfo)
+        → IsRow X86_64 chosen.relocation (Some row) → DoesTheSame row
+    of_any_row alone row is_row = subst DoesTheSame (row_same row is_row) (does_the_same alone law.row)
 
-pub joined : Groups → GotOperands
-joined laws name operand wanted l linked x86 i chosen below decided is_name alone row is_row =
-    of_any_row laws name operand wanted l linked x86 i chosen below decided is_name alone row is_row
+    pub got_is_lawful : window_of name chosen.kind ≡ Some around → operand.back < 2 ^ 64
+        → IsLawful l i chosen name around
+    got_is_lawful is small =
+        record {
+          is = is;
+          kind = kind;
+          kind_is = served.kind_is;
+          window = w;
+          matches = law.matches;
+          room = room;
+          law = λ alone symbol o c s final pc object.
+              of_field l linked i chosen name around small room symbol o c s final pc object
+              object.row refl (of_any_row alone object.row (object.by.1) symbol (object.by.0));
+        }

@@ -11,8 +11,9 @@ use Rattle.linker_elf.specs.declared.x86_64.relocations.X86_64Relocation.{X86_64
 use Rattle.linker_elf.specs.declared.x86_64.relocations.X86_64Relocation.TheVariants as names
 use Rattle.linker_final.proofs.Inner.{IsWithin, within, lea, jump, wide}
 use Rattle.linker_final.proofs.X86Chosen.{IsOfOne, IsOfTable}
+use Rattle.linker_final.proofs.X86Names.{GotOperand, got_operand}
 use Rattle.linker_final.proofs.X86Rows.{IsAfterRow, pc32, absolute32, signed32, tpoff32}
-use Rattle.linker_final.specs.X86Final.{GotOperand, IsGroupOf, got_operand}
+use Rattle.linker_final.specs.X86Section.{IsGroupOf}
 use Rattle.linker_laws.specs.X86Groups.{Groups, Rewritten}
 use Rattle.linker_laws.specs.X86RewriteLaws.{address, thread_offset}
 use Rattle.linker_utils.specs.declared.architecture.Relaxation.{Relaxation}

@@ -1,10 +1,11 @@
 -- The names of relocations of operands in the GOT.
-use Rattle.std.proofs.Common.{◌≡◌, ℕ, true, false, refl, sym, ap, ◌∙◌, Some, None}
+use Rattle.std.proofs.Common.{◌≡◌, ℕ, true, false, refl, sym, ap, ◌∙◌, Option, Some, None}
 use Rattle.linker_elf.specs.ElfNames.{IsNamed, code_of}
 use Rattle.linker_elf.specs.X86Relocations.{x86_64_name}
+use Rattle.linker_elf.specs.declared.elf.value.Operands.{Operands}
 use Rattle.linker_elf.specs.declared.x86_64.relocations.X86_64Relocation.{X86_64Relocation}
 use Rattle.linker_elf.specs.declared.x86_64.relocations.X86_64Relocation.TheVariants as names
-use Rattle.linker_final.specs.X86Final.{GotOperand, got_operand}
+use Rattle.linker_laws.specs.X86RewriteLaws.{address, thread_offset}
 use Rattle.linker_rewriting.specs.Groups.{IsScopeIn, x86_64_scope_in}
 use Rattle.linker_rewriting.specs.RiscVPcrelGroups.{is_labelled}
 use Rattle.linker_rewriting.specs.declared.groups.Scope.{Scope}
@@ -13,6 +14,26 @@ use Rattle.linker_rewriting.specs.declared.phases.Phase.{Phase}
 use Rattle.linker_rewriting.specs.declared.phases.Phase.TheVariants as phases
 use Rattle.linker_section.specs.Values.{is_of_got}
 use Rattle.linker_elf.specs.declared.elf.architecture.Architecture.TheVariants.{X86_64}
+
+-- how many bytes of an instruction are before the field of its operand's distance, and what the
+-- operand's entry in the GOT holds
+pub record GotOperand : Type 0 where
+  pub back : ℕ
+  pub held : Operands → ℕ
+
+abbrev pub operand : ℕ → (Operands → ℕ) → Option GotOperand
+operand back held = Some (record { back = back; held = held })
+
+abbrev pub got_operand : X86_64Relocation → Option GotOperand
+got_operand names.R_X86_64_GOTPCREL = operand 3 address
+got_operand names.R_X86_64_GOTPCRELX = operand 2 address
+got_operand names.R_X86_64_REX_GOTPCRELX = operand 3 address
+got_operand names.R_X86_64_CODE_4_GOTPCRELX = operand 4 address
+got_operand names.R_X86_64_CODE_6_GOTPCRELX = operand 6 address
+got_operand names.R_X86_64_GOTTPOFF = operand 3 thread_offset
+got_operand names.R_X86_64_CODE_4_GOTTPOFF = operand 4 thread_offset
+got_operand names.R_X86_64_CODE_6_GOTTPOFF = operand 6 thread_offset
+got_operand name = None
 
 -- a code of its own, which isn't that of the GOT's address
 pub record IsGotName (name : X86_64Relocation) : Type 0 where

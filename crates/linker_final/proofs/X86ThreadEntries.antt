@@ -14,7 +14,8 @@ use Rattle.linker_final.proofs.PlainRows.{are_there}
 use Rattle.linker_final.proofs.X86Finals.{moved}
 use Rattle.linker_final.proofs.X86ThreadRows.{plain_entry}
 use Rattle.linker_final.proofs.X86Windows.{HasRewrite, offset_small, r_after, rela, relocated_after, row_after, within_after}
-use Rattle.linker_final.specs.Final.{Linked, put_back}
+use Rattle.linker_final.specs.Final.{Linked}
+use Rattle.linker_final.specs.X86Section.{put_back}
 use Rattle.linker_laws.proofs.X86Fields.{thread_row, tls_got_row}
 use Rattle.linker_laws.specs.X86RewriteLaws.{IsRelocated}
 use Rattle.linker_section.specs.Relocations.{relocation_in}

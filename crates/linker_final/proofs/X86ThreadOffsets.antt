@@ -24,8 +24,8 @@ use Rattle.linker_final.proofs.X86Finals.{some_and}
 use Rattle.linker_final.proofs.X86Rows.{tpoff32}
 use Rattle.linker_final.proofs.X86ThreadRows.{plain_long_thread}
 use Rattle.linker_final.proofs.X86Windows.{rela, relocated, row_after, small_byte}
-use Rattle.linker_final.specs.Final.{UntouchedBytes, IsLinked, Linked, count, put_back}
-use Rattle.linker_final.specs.X86ThreadFinal.{LeadsToTheSame, Offsets}
+use Rattle.linker_final.specs.Final.{UntouchedBytes, IsLinked, Linked, count}
+use Rattle.linker_final.specs.X86Section.{LeadsToTheSame, Offsets, put_back}
 use Rattle.linker_laws.proofs.X86Fields.{block_row, long_block_row, long_thread_row, thread_row}
 use Rattle.linker_laws.specs.X86Groups.{BlockOffsets, LeadToTheSame}
 use Rattle.linker_laws.specs.X86Machine.{extended}

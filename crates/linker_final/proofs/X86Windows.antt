@@ -9,7 +9,7 @@ use Rattle.linker_base.specs.RewriteWindow.{window_of_rewrite}
 use Rattle.linker_elf.specs.ElfNames.{IsNamed, code_of}
 use Rattle.linker_elf.specs.Relocate.{IsWritten, low_bytes, number_of_bytes, number_written, window_len, size_len}
 use Rattle.linker_elf.specs.Rows.{bytes_row}
-use Rattle.linker_elf.specs.Value.{value_of}
+use Rattle.linker_elf.specs.Value.{difference_64, sum_64, value_of}
 use Rattle.linker_elf.specs.X86Relocations.{x86_64_name, x86_64_row}
 use Rattle.linker_elf.specs.declared.elf.RelocationKind.TheVariants.{None as NoValue}
 use Rattle.linker_elf.specs.declared.elf.RelocationKindInfo.{RelocationKindInfo}
@@ -24,7 +24,12 @@ use Rattle.linker_final.proofs.PlainRows.{IsPlain}
 use Rattle.linker_final.proofs.PutBack.{put_back_is, back_inside, back_outside, back_rewritten, same_windows}
 use Rattle.linker_final.proofs.X86Lawful.{HaveShape}
 use Rattle.linker_final.proofs.X86Patterns.{one_same}
-use Rattle.linker_final.specs.Final.{Linked, IsLinked, UntouchedByOthers, AreBytes, count, put_back}
+use Rattle.linker_final.specs.Final.{Linked, IsLinked, UntouchedByOthers, AreBytes, count}
+use Rattle.linker_final.specs.SectionRuns.{offset_of}
+use Rattle.linker_final.specs.X86Section.{HasFinal, HasObject, IsObject, LawOf, Window, put_back, window_of}
+use Rattle.linker_laws.specs.Schemes.{AreAddresses}
+use Rattle.linker_laws.specs.Simulation.{State}
+use Rattle.linker_laws.specs.X86Groups.{Code, Stands}
 use Rattle.linker_laws.specs.X86RewriteLaws.{IsRelocated, IsRelocatedBy}
 use Rattle.linker_rewriting.specs.Decisions.{decision_at, start_at, written_end_at, start_by, written_end_by}
 use Rattle.linker_rewriting.specs.Rewritten.{IsDone, IsMade, relocation_after}
@@ -35,7 +40,8 @@ use Rattle.linker_section.proofs.Rows.{one_info}
 use Rattle.linker_section.specs.Fields.{IsField, field_end, field_len}
 use Rattle.linker_section.specs.Relocations.{relocation_in}
 use Rattle.linker_section.specs.Sections.{IsInNoField, IsRowValue}
-use Rattle.linker_section.specs.Values.{operands_of, offset_at}
+use Rattle.linker_section.specs.Values.{operands_of, operands_with, offset_at}
+use Rattle.linker_section.specs.declared.facts.Symbol.{Symbol}
 use Rattle.linker_section.specs.declared.relocations.Rela.{Rela}
 use Rattle.linker_elf.specs.Architectures.{IsRow}
 use Rattle.linker_utils.specs.Relaxations.{relaxation_rewrite}
@@ -87,14 +93,14 @@ after_by : (chosen : Choice Relaxation ℕ) (made : Rewrite) (r : Rela)
 after_by chosen made r is =
     ap (λ q. rela (offset_after q r.offset) chosen.relocation r.symbol (addend_after q r.addend)) is
 
-start_is : (decision : Decision) (chosen : Choice Relaxation ℕ) (made : Rewrite) (o : ℕ)
+pub start_is : (decision : Decision) (chosen : Choice Relaxation ℕ) (made : Rewrite) (o : ℕ)
     → decision ≡ Rewritten chosen → relaxation_rewrite chosen.kind ≡ Some made
     → start_by decision o ≡ o - made.back
 start_is decision chosen made o decided is =
     ap (λ d. start_by d o) decided
     ∙ ap (λ q. o - (window_of_rewrite q).back) is
 
-end_is : (decision : Decision) (chosen : Choice Relaxation ℕ) (made : Rewrite) (o : ℕ)
+pub end_is : (decision : Decision) (chosen : Choice Relaxation ℕ) (made : Rewrite) (o : ℕ)
     → decision ≡ Rewritten chosen → relaxation_rewrite chosen.kind ≡ Some made
     → written_end_by decision o ≡ o - made.back + made.len
 end_is decision chosen made o decided is =
@@ -450,3 +456,65 @@ module _ (l : Linked) (i back end : ℕ) (kind : RewriteKind) (is : HasRewrite l
               | inl ahead ↦ inl (omega (arith, ahead, offset))
               | inr following ↦ inr (omega (arith, following, offset, long))
             ]
+
+-- ---- laws of what is rewritten
+
+-- The relocation at an index is applied to the object's bytes, from n before its offset to `end`
+-- after it. These bytes then stand in old, up to 4 after it, and the final ones in new.
+pub record StandsThere (l : Linked) (i n end : ℕ) (name : X86_64Relocation) (o : Operands) (c : Code) (s : State)
+    : Type 0 where
+  pub original : List ℕ
+  pub addresses : AreAddresses o
+  pub pc : s.pc ≡ difference_64 o.place n
+  pub applied : IsRelocated name o (offset_of l i) (put_back (offset_of l i - n) (n + end) l.section l.final) original
+  pub old : Stands c.old s.pc (n + 4) (drop (offset_of l i - n) original)
+  pub new : Stands c.new s.pc (n + end) (drop (offset_of l i - n) l.final)
+
+-- what holds where they do
+abbrev pub LawAt : Linked → ℕ → X86_64Relocation → RelocationKindInfo → Window → Relaxation → Symbol → Type 0
+LawAt l i name row w kind symbol =
+    (entry : ℕ) (c : Code) (s : State)
+    → let operands = operands_with X86_64 l.addresses row symbol (relocation_in l.relocations i) entry in
+    StandsThere l i w.back w.end name operands c s → LawOf w.form w kind symbol c operands s
+
+-- A rewrite has a window, and a law.
+pub record IsLawful (l : Linked) (i : ℕ) (chosen : Choice Relaxation ℕ) (name : X86_64Relocation) (w : Window)
+    : Type 0 where
+  pub is : window_of name chosen.kind ≡ Some w
+  pub kind : RewriteKind
+  pub kind_is : chosen.kind ≡ relaxations.X86_64 kind
+  pub window : HasWindow w.back w.end (x86_64_rewrite kind)
+  pub matches : x86_64_matches kind l.section (offset_of l i)
+  pub room : (w.back ≤ offset_of l i) × (offset_of l i + w.end ≤ length l.section)
+  pub law : UntouchedByOthers l i (offset_of l i - w.back) (w.back + w.end)
+      → (symbol : Symbol) (o : Operands) (c : Code) (s : State) → HasFinal l.addresses l.final c
+      → s.pc ≡ sum_64 l.addresses.section (offset_of l i - w.back)
+      → HasObject w.form l i name chosen.relocation w symbol o c s → LawOf w.form w chosen.kind symbol c o s
+
+-- that of a relocation with a field
+module _ (l : Linked) (linked : IsLinked l) (i : ℕ) (chosen : Choice Relaxation ℕ) (name : X86_64Relocation)
+    (w : Window) (small : w.back < 2 ^ 64)
+    (room : (w.back ≤ offset_of l i) × (offset_of l i + w.end ≤ length l.section))
+    (symbol : Symbol) (o : Operands) (c : Code) (s : State) (final : HasFinal l.addresses l.final c)
+    (pc : s.pc ≡ sum_64 l.addresses.section (offset_of l i - w.back))
+    (object : IsObject l i name chosen.relocation w symbol o c s) where
+  pub of_field : (row : RelocationKindInfo) → row ≡ object.row → LawAt l i name row w chosen.kind symbol
+      → LawOf w.form w chosen.kind symbol c o s
+  of_field row same law =
+      let low = room.0 in
+      let high = room.1 in
+      let long : length l.final ≡ length l.section =
+      linked.written.same_length ∙ (last_length l linked ∙ linked.same_length) in
+      let e : sum_64 l.addresses.section (offset_of l i - w.back)
+      ≡ difference_64 (sum_64 l.addresses.section (offset_of l i)) w.back = omega (arith, low, small) in
+      subst (λ x. StandsThere l i w.back w.end name x c s → LawOf w.form w chosen.kind symbol c x s) (sym object.are)
+      (subst (λ x. LawAt l i name x w chosen.kind symbol) same law object.entry c s)
+      (record {
+        original = object.original;
+        addresses = object.addresses;
+        pc = pc ∙ (e ∙ ap (λ (x : Operands). difference_64 x.place w.back) (sym object.are));
+        applied = object.applied;
+        old = object.old;
+        new = subst (λ a. Stands c.new a (w.back + w.end) (drop (offset_of l i - w.back) l.final)) (sym pc)
+            (final (offset_of l i - w.back) (w.back + w.end) (omega (arith, low, high, long)));
+      })

@@ -1,62 +1,39 @@
--- AArch64: the code of a section that is linked, in one phase or in several: what stands at each
--- place, and the section as a link of the simulation.
-use Rattle.std.specs.Prelude.{◌≡◌, ◌≢◌, ℕ, ◌+◌, ◌*◌, ◌<◌, ◌≤◌, ◌⊎◌}
-use Rattle.std.specs.Prelude.{List, [], ◌∷◌, length}
-use Rattle.linker_elf.specs.AArch64Relocations.{aarch64_name}
+-- AArch64: what the rewrites of a section are, and where they begin in a run of old.
+use Rattle.std.specs.Prelude.{◌≡◌, ℕ, ◌+◌, ◌<◌, ◌≤◌, List, length, ◌≢◌, ◌*◌, ◌^◌, ◌⊎◌, Some}
+use Rattle.std.specs.Prelude.{IsSomeAnd, false, slice_get}
+use Rattle.linker_elf.specs.AArch64Relocations.{aarch64_name, aarch64_row}
 use Rattle.linker_elf.specs.ElfNames.{IsNameOf}
+use Rattle.linker_elf.specs.LoongArch.{page}
 use Rattle.linker_elf.specs.Value.{sum_64}
 use Rattle.linker_elf.specs.declared.aarch64.relocations.AArch64Relocation.{AArch64Relocation}
 use Rattle.linker_elf.specs.declared.aarch64.relocations.AArch64Relocation.TheVariants as names
 use Rattle.linker_elf.specs.declared.elf.architecture.Architecture.TheVariants.{AArch64}
 use Rattle.linker_elf.specs.declared.elf.choice.Choice.{Choice}
-use Rattle.linker_final.specs.Final.{AreLinked, Linked, RewritingPhase, count, instruction_at}
-use Rattle.linker_final.specs.Final.{linked_by}
-use Rattle.linker_laws.specs.AArch64Groups.{Code}
-use Rattle.linker_laws.specs.AArch64RewriteLaws.{word_of}
+use Rattle.linker_elf.specs.declared.elf.value.Operands.{Operands}
+use Rattle.linker_final.specs.Final.{Linked, count, instruction_at, IsRewrittenByNoOther}
+use Rattle.linker_final.specs.Final.{IsWrittenByNoOther, UntouchedInstruction}
+use Rattle.linker_final.specs.Final.{UntouchedInstructions, two_at}
+use Rattle.linker_final.specs.SectionRuns.{offset_of, IsPhase, Rewriting, Section}
+use Rattle.linker_laws.specs.AArch64Groups.{Code, Descriptor, Has, go_and_link, link}
+use Rattle.linker_laws.specs.AArch64Machine.{load_64}
+use Rattle.linker_laws.specs.AArch64RewriteLaws.{word_of, following, thread_offset}
+use Rattle.linker_laws.specs.Changes.{go_to, put, with_register}
 use Rattle.linker_laws.specs.Machine.{loaded}
+use Rattle.linker_laws.specs.Schemes.{AreAddresses, plt_address, symbol_address}
+use Rattle.linker_laws.specs.Simulation.{Agree, Kinds, State, anything, half, same}
 use Rattle.linker_rewriting.specs.Decisions.{decision_at}
 use Rattle.linker_rewriting.specs.Rewritten.{IsAddressRewritten, IsDescriptorRewritten}
 use Rattle.linker_rewriting.specs.Rewritten.{IsLoadRewritten}
-use Rattle.linker_rewriting.specs.declared.decisions.Decision.TheVariants.{Kept, Rewritten}
+use Rattle.linker_rewriting.specs.declared.decisions.Decision.TheVariants.{Rewritten, Kept}
 use Rattle.linker_section.specs.Relocations.{relocation_in}
+use Rattle.linker_section.specs.Values.{operands_with}
 use Rattle.linker_section.specs.declared.facts.Addresses.{Addresses}
 use Rattle.linker_section.specs.declared.facts.Symbol.{Symbol}
+use Rattle.linker_utils.specs.AArch64Rewrites.{rd_of}
 use Rattle.linker_utils.specs.declared.aarch64.rewrites.RewriteKind.TheVariants as kinds
 use Rattle.linker_utils.specs.declared.architecture.Relaxation.{Relaxation}
 
--- ---- a section
-
--- What is passed to the calls for a section, in one phase or in several, and what they leave.
-pub record Section : Type 0 where
-  pub phases : List RewritingPhase
-  pub relocations : List ℕ
-  pub section : List ℕ
-  pub relocations_last : List ℕ
-  pub last : List ℕ
-  pub addresses : Addresses
-  pub symbols : List Symbol
-  pub final : List ℕ
-
--- one of some phases, with those after it as later ones
-abbrev pub IsPhaseIn : List RewritingPhase → Section → Linked → Type 0
-IsPhaseIn [] x l = ⊥
-IsPhaseIn (p ∷ later) x l =
-    (l ≡ linked_by p later x.relocations_last x.last x.addresses x.symbols x.final)
-    ⊎ IsPhaseIn later x l
-
-abbrev pub IsPhase : Section → Linked → Type 0
-IsPhase x = IsPhaseIn x.phases x
-
--- All calls returned OK.
-pub record AreCalled (x : Section) : Type 0 where
-  pub linked : AreLinked x.phases x.relocations x.section x.relocations_last x.last x.addresses
-      x.symbols x.final
-  pub aarch64 : (l : Linked) → IsPhase x l → l.context.architecture ≡ AArch64
-
-abbrev pub offset_of : Linked → ℕ → ℕ
-offset_of l i = (relocation_in l.relocations i).offset
-
--- ---- what stands at a place
+-- ---- what is rewritten
 
 -- the relocation at an index has a name, and its instruction is rewritten
 pub record IsRewrittenOf (l : Linked) (name : AArch64Relocation) (i : ℕ) : Type 0 where
@@ -90,43 +67,142 @@ span l (low i of) = (offset_of l i, 1)
 span l (jump i of) = (offset_of l i, 1)
 span l (call i of) = (offset_of l i, 1)
 
--- In a phase an instruction has no byte of one whose relocation doesn't stay.
-abbrev pub IsUnchangedIn : Linked → ℕ → Type 0
-IsUnchangedIn l at =
-    (i : ℕ) → i < count l → decision_at l.decisions i ≢ Kept
-    → (at + 4 ≤ offset_of l i) ⊎ (offset_of l i + 4 ≤ at)
-
-abbrev pub IsUnchanged : Section → ℕ → Type 0
-IsUnchanged x at = (l : Linked) → IsPhase x l → IsUnchangedIn l at
-
--- An instruction stays in all phases, or in one it is the first of what is rewritten together, or
--- has another byte of that.
-pub data Place (x : Section) (at : ℕ) : Type 0 where
-  unchanged : IsUnchanged x at → Place x at
-  begins : (l : Linked) → IsPhase x l → (g : Rewrites l) → at ≡ (span l g).0 → Place x at
-  within : (l : Linked) → IsPhase x l → (g : Rewrites l) → (span l g).0 < at + 4
-      → at < (span l g).0 + 4 * (span l g).1 → Place x at
-
--- ---- the section's link
-
--- New has the final bytes.
+-- new has the final bytes
 abbrev pub HasFinal : Addresses → List ℕ → Code → Type 0
 HasFinal addresses final c =
     (at : ℕ) → at + 4 ≤ length final
     → loaded 4 c.new (sum_64 addresses.section at) ≡ word_of (instruction_at final at)
 
-abbrev pub address_of : Section → ℕ → ℕ
-address_of x at = sum_64 x.addresses.section at
+-- ---- where old comes to it
 
--- Where nothing is rewritten, old has them, too: the object's bytes and the composed values of its
--- relocations (`others`).
-pub record IsLinkOf (x : Section) (c : Code) : Type 0 where
-  pub new : HasFinal x.addresses x.final c
-  pub same : (at : ℕ) → at + 4 ≤ length x.final → IsUnchanged x at
-      → loaded 4 c.old (address_of x at) ≡ loaded 4 c.new (address_of x at)
+-- Old comes to the instruction of a relocation. Its operands are those by the row of a name, with
+-- a GOT entry anywhere.
+pub record ComesTo (l : Linked) (s : State) (name : AArch64Relocation) (i : ℕ) (o : Operands)
+    : Type 0 where
+  pub pc : s.pc ≡ o.place
+  pub small : AreAddresses o
+  pub symbol : Symbol
+  pub is_symbol : slice_get l.symbols (relocation_in l.relocations i).symbol ≡ Some symbol
+  pub are :
+      IsSomeAnd (aarch64_row name)
+      (λ row. o
+      ≡ operands_with AArch64 l.addresses row symbol (relocation_in l.relocations i) o.got_entry)
 
--- ---- the law
+-- the object's instruction of a relocation
+abbrev pub object : Linked → ℕ → List ℕ
+object l i = instruction_at l.section (offset_of l i)
 
--- Something stands at each place of a section.
-abbrev pub EachPlace : Type 0
-EachPlace = (x : Section) → AreCalled x → (at : ℕ) → Place x at
+abbrev pub register : List ℕ → ℕ
+register instruction = rd_of (word_of instruction)
+
+-- A later phase gets the load whose first relocation has an index as this one left it (`phases`
+-- says when), and makes an `adr` of it. Phases after that, and other relocations, leave it alone.
+pub record IsRewrittenAgain (x : Section) (l : Linked) (i : ℕ) : Type 0 where
+  pub again : Linked
+  pub is_phase : IsPhase x again
+  pub relocation : relocation_in again.relocations i ≡ relocation_in l.relocations_after i
+  pub bytes : two_at again.section (offset_of l i) ≡ two_at l.rewritten (offset_of l i)
+  pub address : IsAddressRewritten again.relocations again.decisions i
+  pub untouched : UntouchedInstructions again i (i + 1)
+  pub alone : IsWrittenByNoOther again i (offset_of again i)
+
+-- Later phases, and other relocations, leave alone what became of a descriptor.
+pub record IsDescriptorLeft (l : Linked) (i : ℕ) : Type 0 where
+  pub first : UntouchedInstructions l i (i + 1)
+  pub second : UntouchedInstructions l (i + 2) (i + 3)
+  pub add : IsWrittenByNoOther l (i + 2) (offset_of l (i + 2))
+  pub call : IsWrittenByNoOther l (i + 3) (offset_of l (i + 3))
+
+-- The GOT's entry of the offset, at an address, holds the number that the function returns,
+-- whatever state of new agrees.
+abbrev pub HoldsOffset : ℕ → ℕ → Code → Kinds → State → Type 0
+HoldsOffset entry offset c k s =
+    (t : State) → Agree (link c) k s t → load_64 t.memory entry ≡ offset
+
+-- Old comes to instructions that are rewritten together. It has the object's, with the values of
+-- their relocations. Later phases and other relocations leave them alone, or a load becomes an
+-- `adr`, and what else their law requires holds. They leave kinds and a state.
+pub data Begins (x : Section) (l : Linked) (c : Code) (k : Kinds) (s : State)
+    : Rewrites l → Kinds → State → Type 0
+  where
+    at_load : (i : ℕ) (of : IsLoadRewritten l.relocations l.decisions i) (o : Operands)
+        (at : ComesTo l s names.R_AARCH64_ADR_GOT_PAGE i o) → at.symbol.is_undefined_weak ≡ false
+        → IsRewrittenByNoOther l i (offset_of l i)
+        → UntouchedInstructions l i (i + 1) ⊎ IsRewrittenAgain x l i
+        → load_64 s.memory o.got_entry ≡ symbol_address o
+        → Has c.old names.R_AARCH64_ADR_GOT_PAGE o (object l i)
+        → Has c.old names.R_AARCH64_LD64_GOT_LO12_NC (following 4 o) (object l (i + 1))
+        → Begins x l c k s (load i of) (with_register (register (object l (i + 1))) same k)
+        (put (register (object l (i + 1))) (symbol_address o) (sum_64 o.place 8) s)
+    at_address : (i : ℕ) (of : IsAddressRewritten l.relocations l.decisions i) (o : Operands)
+        (at : ComesTo l s names.R_AARCH64_ADR_PREL_PG_HI21 i o)
+        → at.symbol.is_undefined_weak ≡ false
+        → UntouchedInstructions l i (i + 1) → IsWrittenByNoOther l i (offset_of l i)
+        → Has c.old names.R_AARCH64_ADR_PREL_PG_HI21 o (two_at l.section (offset_of l i))
+        → Has c.old names.R_AARCH64_ADD_ABS_LO12_NC (following 4 o) (object l (i + 1))
+        → Begins x l c k s (address i of) (with_register (register (object l (i + 1))) same k)
+        (put (register (object l (i + 1))) (symbol_address o) (sum_64 o.place 8) s)
+    at_local : (i : ℕ)
+        (of : IsDescriptorRewritten kinds.MovzX0Lsl16 kinds.MovkX0 l.relocations l.decisions i)
+        (o : Operands) (k' : Kinds) (s' : State)
+        → ComesTo l s names.R_AARCH64_TLSLE_MOVW_TPREL_G1 i o → IsDescriptorLeft l i
+        → Descriptor c o (thread_offset o) k s k' s' (object l i) (object l (i + 1))
+        (object l (i + 2)) (object l (i + 3))
+        → Begins x l c k s (to_local i of) k' s'
+    at_initial : (i : ℕ)
+        (of : IsDescriptorRewritten kinds.AdrpX0 kinds.LdrX0 l.relocations l.decisions i)
+        (o : Operands) (k' : Kinds) (s' : State) (offset : ℕ)
+        (at : ComesTo l s names.R_AARCH64_TLSLE_MOVW_TPREL_G1 i o) → IsDescriptorLeft l i
+        → at.symbol.thread_entry < 2 ^ 64 → HoldsOffset at.symbol.thread_entry offset c k s
+        → Descriptor c o offset k s k' s' (object l i) (object l (i + 1)) (object l (i + 2))
+        (object l (i + 3))
+        → Begins x l c k s (to_initial i of) k' s'
+    at_high : (i h : ℕ) (of : IsRewrittenOf l names.R_AARCH64_TLSIE_ADR_GOTTPREL_PAGE21 i)
+        (o : Operands) → ComesTo l s names.R_AARCH64_TLSLE_MOVW_TPREL_G1 i o
+        → UntouchedInstruction l i → c.entry h ≡ o.got_entry → c.offset h ≡ thread_offset o
+        → register (object l i) ≢ 31
+        → Has c.old names.R_AARCH64_TLSIE_ADR_GOTTPREL_PAGE21 o (object l i)
+        → Begins x l c k s (high i of) (with_register (register (object l i)) (half h) k)
+        (put (register (object l i)) (page o.got_entry) (sum_64 o.place 4) s)
+    at_low : (i h : ℕ) (of : IsRewrittenOf l names.R_AARCH64_TLSIE_LD64_GOTTPREL_LO12_NC i)
+        (o : Operands) → ComesTo l s names.R_AARCH64_TLSLE_MOVW_TPREL_G1 i o
+        → UntouchedInstruction l i → c.entry h ≡ o.got_entry → c.offset h ≡ thread_offset o
+        → load_64 s.memory o.got_entry ≡ thread_offset o
+        → k.registers (register (object l i)) ≡ half h
+        → s.registers (register (object l i)) ≡ page o.got_entry
+        → Has c.old names.R_AARCH64_TLSIE_LD64_GOTTPREL_LO12_NC o (object l i)
+        → Begins x l c k s (low i of) (with_register (register (object l i)) same k)
+        (put (register (object l i)) (thread_offset o) (sum_64 o.place 4) s)
+    at_jump : (i : ℕ) (of : IsRewrittenOf l names.R_AARCH64_JUMP26 i) (o : Operands)
+        → ComesTo l s names.R_AARCH64_JUMP26 i o → UntouchedInstruction l i
+        → IsWrittenByNoOther l i (offset_of l i) → plt_address o ≡ sum_64 o.place 4
+        → Has c.old names.R_AARCH64_JUMP26 o (object l i)
+        → Begins x l c k s (jump i of) k (go_to (sum_64 o.place 4) s)
+    at_call : (i : ℕ) (of : IsRewrittenOf l names.R_AARCH64_CALL26 i) (o : Operands)
+        → ComesTo l s names.R_AARCH64_CALL26 i o → UntouchedInstruction l i
+        → IsWrittenByNoOther l i (offset_of l i) → plt_address o ≡ sum_64 o.place 4
+        → Has c.old names.R_AARCH64_CALL26 o (object l i)
+        → Begins x l c k s (call i of) (with_register 30 anything k)
+        (go_and_link (sum_64 o.place 4) s)
+
+-- a byte that no instruction has whose relocation doesn't stay
+abbrev pub StaysBy : Linked → ℕ → ℕ → Type 0
+StaysBy l b i =
+    decision_at l.decisions i ≢ Kept → (b < offset_of l i) ⊎ (offset_of l i + 4 ≤ b)
+
+abbrev pub Stays : Linked → ℕ → Type 0
+Stays l b = (i : ℕ) → i < count l → StaysBy l b i
+
+abbrev pub rewriting : Rewriting
+rewriting =
+    record {
+      architecture = AArch64;
+      Code = Code;
+      link = link;
+      HasFinal = HasFinal;
+      Stays = Stays;
+      Rewrites = Rewrites;
+      span = λ l g. ((span l g).0, (span l g).0 + 4 * (span l g).1);
+      executed = λ l g. (span l g).1;
+      Begins = Begins;
+    }

@@ -1,6 +1,6 @@
 -- A section of code of an object as a linker rewrites it, in one phase or in several, and then
 -- writes its values.
-use Rattle.std.specs.Prelude.{◌≡◌, ◌≢◌, ◌⊎◌, ℕ, ◌+◌, ◌/◌, ◌^◌, ◌<◌, ◌≤◌, List, [], ◌∷◌, ◌++◌}
+use Rattle.std.specs.Prelude.{◌≡◌, ◌≢◌, ◌⊎◌, ℕ, ◌+◌, ◌/◌, ◌^◌, ◌<◌, ◌≤◌, List, [], ◌∷◌}
 use Rattle.std.specs.Prelude.{length, take, drop, get_or, ℤ, Some}
 use Rattle.std.specs.List.{All}
 use Rattle.linker_elf.specs.declared.elf.RelocationKindInfo.{RelocationKindInfo}
@@ -306,11 +306,6 @@ IsWrittenByNoOther l i o =
     → (row : RelocationKindInfo)
     → IsField l.context.architecture l.relocations_last l.last j row
     → (at < offset_at l.relocations_last j) ⊎ (field_end l.relocations_last l.last j row ≤ at)
-
--- bytes with n of others, from a start on
-abbrev pub put_back : ℕ → ℕ → List ℕ → List ℕ → List ℕ
-put_back start len others bytes =
-    take start bytes ++ take len (drop start others) ++ drop (start + len) bytes
 
 -- ---- what no rewrite took
 

@@ -1,5 +1,4 @@
 pub mod AArch64Executed
-pub mod AArch64Runs
 pub mod AArch64Section
 pub mod AArch64Steps
 pub mod AArch64Table
@@ -28,9 +27,9 @@ pub mod RiscVNear
 pub mod RiscVPacked
 pub mod RiscVSteps
 pub mod RiscVTable
+pub mod SectionRuns
 pub mod Sequences
 pub mod Steps
 pub mod X86Executed
-pub mod X86Final
+pub mod X86Section
 pub mod X86Steps
-pub mod X86ThreadFinal

@@ -3,15 +3,14 @@
 //! Each joins what `rewrite_section` and `relocate_section` leave with the laws of single rewrites
 //! of `linker_laws`.
 
-ghost use Rattle.linker_final.specs.AArch64Runs as aarch64_runs;
 ghost use Rattle.linker_final.specs.AArch64Section as aarch64_section;
 ghost use Rattle.linker_final.specs.Final as final_bytes;
 ghost use Rattle.linker_final.specs.LoongArchFinal as loongarch64_final;
 ghost use Rattle.linker_final.specs.Ppc64Final as ppc64_final;
 ghost use Rattle.linker_final.specs.RiscVFinal as riscv64_final;
 ghost use Rattle.linker_final.specs.RiscVNear as riscv64_near;
-ghost use Rattle.linker_final.specs.X86Final as x86_64_final;
-ghost use Rattle.linker_final.specs.X86ThreadFinal as x86_64_threads;
+ghost use Rattle.linker_final.specs.SectionRuns as section_runs;
+ghost use Rattle.linker_final.specs.X86Section as x86_64_section;
 
 /// All architectures: what no rewrite took. Each byte that neither a rewrite nor a field has is the
 /// object's. Each relocation that is neither rewritten nor taken along is the object's, and its
@@ -27,22 +26,21 @@ pub fn phases()
     ensures { final_bytes.UntouchedBytesAreTheSame }
 {}
 
-/// x86-64: rewritten instructions are groups of `linker_laws::simulation`, of any code that has the
-/// final bytes there, and of any old code that has the object's with the values of their
-/// relocations. They are each instruction whose operand in the GOT became an address, a distance or
-/// an offset from the thread pointer, each sequence with a call of `__tls_get_addr` for a variable
-/// or for a module's block, and each `lea` of a descriptor's address and call of its function. The
+/// x86-64: all changes of a section, in all of its phases, as `aarch64_sections` says of AArch64's.
+/// Each byte stays, but for the values of relocations, or is one of instructions that are rewritten
+/// together. They are each instruction whose operand in the GOT became an address, a distance or an
+/// offset from the thread pointer, each sequence with a call of `__tls_get_addr` for a variable or
+/// for a module's block, and each `lea` of a descriptor's address and call of its function. The
 /// offsets in a module's block that became offsets from the thread pointer lead from there to the
 /// same addresses.
-pub fn x86_64()
-    ensures got_operands { x86_64_final.GotOperands }
-    ensures general_dynamic { x86_64_threads.GeneralDynamic }
-    ensures local_dynamic { x86_64_threads.LocalDynamic }
-    ensures offsets { x86_64_threads.Offsets }
-    ensures descriptor_addresses { x86_64_threads.DescriptorAddresses }
-    ensures descriptor_calls { x86_64_threads.DescriptorCalls }
+pub fn x86_64_sections()
+    ensures places { section_runs.EachPlace x86_64_section.rewriting }
+    ensures groups { section_runs.RewritesAreGroups x86_64_section.rewriting }
+    ensures runs { section_runs.RunsAreFollowed x86_64_section.rewriting }
+    ensures offsets { x86_64_section.Offsets }
 {
     linker_laws::simulation::x86_64();
+    linker_laws::simulation::runs();
 }
 
 /// AArch64: all changes of a section, in all of its phases. Each instruction stays, but for the
@@ -58,9 +56,9 @@ pub fn x86_64()
 /// relocations. So each run of old is followed up to where nothing is known, as at a group of which
 /// a premise doesn't hold: new's run agrees there.
 pub fn aarch64_sections()
-    ensures places { aarch64_section.EachPlace }
-    ensures groups { aarch64_runs.RewritesAreGroups }
-    ensures runs { aarch64_runs.RunsAreFollowed }
+    ensures places { section_runs.EachPlace aarch64_section.rewriting }
+    ensures groups { section_runs.RewritesAreGroups aarch64_section.rewriting }
+    ensures runs { section_runs.RunsAreFollowed aarch64_section.rewriting }
 {
     linker_laws::simulation::aarch64();
     linker_laws::simulation::runs();

@@ -1,0 +1,162 @@
+-- What stands at each place of a section, and runs of its code, of any architecture.
+use Rattle.std.proofs.Common.{◌≡◌, ℕ, zero, suc, ◌+◌, ◌-◌, ◌<◌, ◌≤◌, ◌⊎◌, inl, inr, List, [], ◌∷◌, ap, sym, subst, arith, refl, Bool, true, false}
+use Rattle.std.proofs.lemmas.Bool.{cases_eq, cases_lt}
+use Rattle.linker_final.specs.Final.{AreLinked, IsLinked, Linked, RewritingPhase, linked_by}
+use Rattle.linker_final.specs.SectionRuns.{AreCalled, AreLeft, EachPlace, IsFollowed, IsPhase, IsPhaseIn, Known, Knows, Place, Rewriting, RewritesAreGroups, RunsAreFollowed, Section, begins, comparison, elsewhere, rewritten, unchanged, within}
+use Rattle.linker_laws.specs.Simulation.{Comparison, Kinds, Next, Simulates, State, by_group, uncovered}
+
+-- all below a limit, or what one of them shows
+pub each_or : {Q : Type 0} (P : ℕ → Type 0) (m : ℕ) → ((i : ℕ) → i < m → P i ⊎ Q)
+    → ((i : ℕ) → i < m → P i) ⊎ Q
+each_or P zero one = inl (λ i less. absurd (omega (arith, less)))
+each_or P (suc m) one =
+    elim (each_or P m (λ i less. one i (omega (arith, less)))) [
+      | inl all ↦ elim (one m (omega arith)) [
+        | inl last ↦ inl (λ i less. elim (cases_lt i m) [
+          | inl before ↦ all i before
+          | inr past ↦ let e : m ≡ i = omega (arith, less, past) in subst P e last
+        ])
+        | inr shown ↦ inr shown
+      ]
+      | inr shown ↦ inr shown
+    ]
+
+-- ---- phases
+
+-- what the calls left, from some phase on
+each_linked : (phases : List RewritingPhase) (relocations section : List ℕ) (x : Section)
+    → AreLinked phases relocations section x.relocations_last x.last x.addresses x.symbols x.final
+    → (l : Linked) → IsPhaseIn phases x l → IsLinked l
+each_linked [] relocations section x are l is = absurd is
+each_linked (p ∷ later) relocations section x are l (inl is) = subst IsLinked (sym is) (are.1)
+each_linked (p ∷ later) relocations section x are l (inr is) =
+    each_linked later p.relocations_after p.rewritten x (are.2) l is
+
+pub record IsOf (x : Section) (l : Linked) : Type 0 where
+  pub final : l.final ≡ x.final
+  pub addresses : l.addresses ≡ x.addresses
+  pub symbols : l.symbols ≡ x.symbols
+
+pub is_of : (phases : List RewritingPhase) (x : Section) (l : Linked) → IsPhaseIn phases x l → IsOf x l
+is_of [] x l is = absurd is
+is_of (p ∷ later) x l (inl is) =
+    record {
+      final = ap (λ (m : Linked). m.final) is;
+      addresses = ap (λ (m : Linked). m.addresses) is;
+      symbols = ap (λ (m : Linked). m.symbols) is;
+    }
+is_of (p ∷ later) x l (inr is) = is_of later x l is
+
+-- ---- an architecture
+
+-- a byte is of instructions that are rewritten together
+pub record IsIn (r : Rewriting) (l : Linked) (b : ℕ) : Type 0 where
+  pub g : r.Rewrites l
+  pub first : (r.span l g).0 ≤ b
+  pub last : b < (r.span l g).1
+
+abbrev pub AreIn : Rewriting → Type 0
+AreIn r =
+    (l : Linked) → IsLinked l → l.context.architecture ≡ r.architecture → (b : ℕ) → r.Stays l b ⊎ IsIn r l b
+
+module _ (r : Rewriting) where
+  pub is_linked : (x : Section) → AreCalled r x → (l : Linked) → IsPhase x l → IsLinked l
+  is_linked x called = each_linked x.phases x.relocations x.section x called.linked
+
+  pub final_in : (x : Section) (l : Linked) → IsPhase x l → (c : r.Code) → r.HasFinal x.addresses x.final c
+      → r.HasFinal l.addresses l.final c
+  final_in x l is c final =
+      let of = is_of x.phases x l is in
+      subst (λ xs. r.HasFinal l.addresses xs c) (sym of.final)
+      (subst (λ a. r.HasFinal a x.final c) (sym of.addresses) final)
+
+  -- ---- what stands at a place
+
+  module _ (are_in : AreIn r) (x : Section) (called : AreCalled r x) (at n : ℕ) where
+    -- in a phase an instruction stays, or it doesn't
+    place_of : (l : Linked) → IsPhase x l → AreLeft r at n l ⊎ Place r x at n
+    place_of l is =
+        elim (each_or (λ j. r.Stays l (at + j)) n (λ j less. by j less (are_in l (is_linked x called l is) (called.architecture l is) (at + j)))) [
+          | inl all ↦ inl (λ b from less.
+              let e : at + (b - at) ≡ b = omega (arith, from) in
+              subst (r.Stays l) e (all (b - at) (omega (arith, from, less))))
+          | inr place ↦ inr place
+        ]
+      where
+        by : (j : ℕ) → j < n → r.Stays l (at + j) ⊎ IsIn r l (at + j) → r.Stays l (at + j) ⊎ Place r x at n
+        by j less (inl stays) = inl stays
+        by j less (inr w) =
+            let first = w.first in
+            let last = w.last in
+            elim (cases_eq at (r.span l w.g).0) [
+              | inl e ↦ inr (begins l is w.g e)
+              | inr differs ↦ inr (within l is w.g (omega (arith, first, less)) (omega (arith, last)))
+            ]
+
+    -- in all of some phases it stays, or it doesn't in one
+    place_in : (phases : List RewritingPhase) → ((l : Linked) → IsPhaseIn phases x l → IsPhase x l)
+        → ((l : Linked) → IsPhaseIn phases x l → AreLeft r at n l) ⊎ Place r x at n
+    place_in [] are = inl (λ l is. absurd is)
+    place_in (p ∷ later) are =
+        elim (place_of (linked_by p later x.relocations_last x.last x.addresses x.symbols x.final) (are _ (inl refl))) [
+          | inl none ↦ elim (place_in later (λ m is. are m (inr is))) [
+            | inl all ↦ inl (λ m is. elim is [
+              | inl first ↦ subst (AreLeft r at n) (sym first) none
+              | inr other ↦ all m other
+            ])
+            | inr one ↦ inr one
+          ]
+          | inr one ↦ inr one
+        ]
+
+  pub each_place : AreIn r → EachPlace r
+  each_place are_in x called at n =
+      elim (place_in are_in x called at n x.phases (λ l is. is)) [
+        | inl all ↦ unchanged all
+        | inr one ↦ one
+      ]
+
+  -- ---- runs
+
+  abbrev is_covered : (c : Comparison) (k : c.Known) (s : State) → Next c k s → Bool
+  is_covered c k s uncovered = false
+  is_covered c k s next = true
+
+  module _ (groups : RewritesAreGroups r) (x : Section) (called : AreCalled r x) (c : r.Code)
+      (final : r.HasFinal x.addresses x.final c) where
+    -- what follows is known
+    next_of : (k : Kinds) (s : State) → Known r x c k s → Next (comparison r c) k s
+    next_of k s (rewritten l is g k' s' begins_so) =
+        by_group (r.executed l g) k' s' (groups x c called final l is k s g k' s' begins_so)
+    next_of k s (elsewhere next) = next
+
+    unknown : (k : Kinds) (s : State) (known : Known r x c k s) → next_of k s known ≡ uncovered
+        → known ≡ elsewhere uncovered
+    unfolding next_of
+    unknown k s (rewritten l phase g k' s' begins_so) is =
+        absurd (let e : true ≡ false = ap (is_covered (comparison r c) k s) is in cc)
+    unknown k s (elsewhere next) is = ap elsewhere is
+
+    followed : Simulates (comparison r c) → (k : Kinds) (s : State) (knows : Knows r x c k s) (m : ℕ)
+        → IsFollowed r x c k s knows m
+    followed simulates k s knows m =
+        let w = simulates.covers k s (λ q n k' s' covered. next_of k' s' (knows q n k' s' covered)) m in
+        record {
+          q = w.q;
+          n = w.n;
+          kinds_then = w.known;
+          state = w.state;
+          covered = w.covered;
+          far = elim w.far [
+            | inl enough ↦ inl enough
+            | inr short ↦ elim short [
+              | inl stops ↦ inr (inl stops)
+              | inr nothing ↦ inr (inr (unknown w.known w.state (knows w.q w.n w.known w.state w.covered) nothing))
+            ]
+          ];
+          agrees = λ t agree. simulates.follows w.q w.n k w.known s w.state t w.covered agree;
+        }
+
+  pub runs_are_followed : RewritesAreGroups r → ((c : r.Code) → Simulates (comparison r c)) → RunsAreFollowed r
+  runs_are_followed groups simulates x c called final k s knows m =
+      followed groups x called c final (simulates c) k s knows m

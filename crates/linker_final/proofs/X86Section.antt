@@ -1,0 +1,208 @@
+-- The rewrites of a section of x86-64: each is of instructions that are rewritten together, and
+-- these are groups.
+use Rattle.std.proofs.Common.{◌≡◌, ℕ, ◌+◌, ◌-◌, ◌^◌, ◌<◌, ◌≤◌, ◌⊎◌, get_or, sym, ap, subst, ◌∙◌, refl, arith, inl, inr, Some, None}
+use Rattle.std.proofs.lemmas.Bool.{cases_lt}
+use Rattle.std.specs.Option.{unwrap_or}
+use Rattle.linker_base.specs.Rewrite.{CanRewrite, IsRewritable}
+use Rattle.linker_base.specs.RewriteWindow.{window_of_rewrite}
+use Rattle.linker_elf.specs.ElfNames.{IsNamed, IsNameOf}
+use Rattle.linker_elf.specs.X86Relocations.{x86_64_name}
+use Rattle.linker_elf.specs.declared.elf.architecture.Architecture.TheVariants.{X86_64}
+use Rattle.linker_elf.specs.declared.elf.choice.Choice.{Choice}
+use Rattle.linker_elf.specs.declared.elf.value.Operands.{Operands}
+use Rattle.linker_elf.specs.declared.x86_64.relocations.X86_64Relocation.{X86_64Relocation}
+use Rattle.linker_elf.specs.declared.x86_64.relocations.X86_64Relocation.TheVariants as names
+use Rattle.linker_final.proofs.SectionRuns.{AreIn, IsIn, each_or, final_in, is_linked}
+use Rattle.linker_final.proofs.X86Chosen.{IsOfTable, has_table}
+use Rattle.linker_final.proofs.X86Descriptors.{call_is_lawful, with_rex2_is_lawful, with_rex_is_lawful}
+use Rattle.linker_final.proofs.X86Finals.{got_is_lawful}
+use Rattle.linker_final.proofs.X86Names.{got_operand, operand, unlabelled}
+use Rattle.linker_final.proofs.X86ThreadCalls.{Lawful, module_is_lawful, variable_is_lawful}
+use Rattle.linker_final.proofs.X86Windows.{IsLawful, end_is, start_is}
+use Rattle.linker_final.specs.Final.{IsLinked, IsOutside, Linked, count}
+use Rattle.linker_final.specs.SectionRuns.{RewritesAreGroups, offset_of}
+use Rattle.linker_final.specs.X86Section.{Window, call, in_got, lea, rewriting, window, window_of}
+use Rattle.linker_laws.specs.X86Groups.{Groups, reg_after_rex, reg_after_rex2}
+use Rattle.linker_laws.specs.X86RewriteLaws.{address, thread_offset}
+use Rattle.linker_rewriting.proofs.Chosen.{chosen_or_labelled}
+use Rattle.linker_rewriting.specs.Decisions.{decision_at, start_by, written_end_by}
+use Rattle.linker_rewriting.specs.Groups.{IsScopeIn}
+use Rattle.linker_rewriting.specs.Rewritten.{IsDone, IsMade}
+use Rattle.linker_rewriting.specs.declared.decisions.Decision.{Decision}
+use Rattle.linker_rewriting.specs.declared.decisions.Decision.TheVariants.{Kept, Rewritten, Consumed, RewrittenWithSymbol}
+use Rattle.linker_rewriting.specs.declared.groups.Scope.TheVariants.{Labelled}
+use Rattle.linker_section.specs.Relocations.{relocation_in}
+use Rattle.linker_utils.specs.Relaxations.{relaxation_rewrite}
+use Rattle.linker_utils.specs.X86Rewrites.{opcode_at, x86_64_table}
+use Rattle.linker_utils.specs.declared.architecture.Relaxation.{Relaxation}
+
+-- ---- the law of a name
+
+module _ (laws : Groups) (l : Linked) (linked : IsLinked l) (x86 : l.context.architecture ≡ X86_64) (i : ℕ)
+    (chosen : Choice Relaxation ℕ) (below : i < count l) (decided : decision_at l.decisions i ≡ Rewritten chosen) where
+  -- a rewrite has a law, or it leaves the instruction
+  abbrev Outcome : X86_64Relocation → Type 0
+  Outcome name =
+      IsNamed (x86_64_name name)
+      × (Lawful l i chosen name ⊎ ((window_of name chosen.kind ≡ None) × (relaxation_rewrite chosen.kind ≡ None)))
+
+  got : (name : X86_64Relocation) (back : ℕ) (held : Operands → ℕ) → got_operand name ≡ operand back held
+      → IsNameOf x86_64_name (relocation_in l.relocations i).code name → IsNamed (x86_64_name name)
+      → window_of name chosen.kind ≡ Some (window (in_got held) back 4 1) → back < 2 ^ 64 → Outcome name
+  got name back held wanted is_name named is few = (
+    named,
+    inl (window (in_got held) back 4 1, got_is_lawful laws name (record { back = back; held = held }) wanted l linked x86 i chosen below decided is_name is few),
+  )
+
+  by_name : (name : X86_64Relocation) → IsNameOf x86_64_name (relocation_in l.relocations i).code name
+      → IsOfTable (x86_64_table name (opcode_at name l.section (offset_of l i))) l.section (offset_of l i) (relocation_in l.relocations i).addend chosen
+      → Outcome name
+  by_name names.R_X86_64_GOTPCREL is_name of = got names.R_X86_64_GOTPCREL 3 address refl is_name tt refl (omega arith)
+  by_name names.R_X86_64_GOTPCRELX is_name of = got names.R_X86_64_GOTPCRELX 2 address refl is_name tt refl (omega arith)
+  by_name names.R_X86_64_REX_GOTPCRELX is_name of = got names.R_X86_64_REX_GOTPCRELX 3 address refl is_name tt refl (omega arith)
+  by_name names.R_X86_64_CODE_4_GOTPCRELX is_name of = got names.R_X86_64_CODE_4_GOTPCRELX 4 address refl is_name tt refl (omega arith)
+  by_name names.R_X86_64_CODE_6_GOTPCRELX is_name of = got names.R_X86_64_CODE_6_GOTPCRELX 6 address refl is_name tt refl (omega arith)
+  by_name names.R_X86_64_GOTTPOFF is_name of = got names.R_X86_64_GOTTPOFF 3 thread_offset refl is_name tt refl (omega arith)
+  by_name names.R_X86_64_CODE_4_GOTTPOFF is_name of = got names.R_X86_64_CODE_4_GOTTPOFF 4 thread_offset refl is_name tt refl (omega arith)
+  by_name names.R_X86_64_CODE_6_GOTTPOFF is_name of = got names.R_X86_64_CODE_6_GOTTPOFF 6 thread_offset refl is_name tt refl (omega arith)
+  by_name names.R_X86_64_TLSGD is_name of =
+      (tt, inl (variable_is_lawful laws.general_dynamic l linked x86 i chosen below is_name decided of))
+  by_name names.R_X86_64_TLSLD is_name of =
+      (tt, inl (module_is_lawful laws.local_dynamic l linked x86 i chosen below decided of))
+  by_name names.R_X86_64_GOTPC32_TLSDESC is_name of = (
+    tt,
+    inl (window (lea reg_after_rex) 3 4 1, with_rex_is_lawful laws.descriptor_address l linked x86 i chosen below decided is_name of),
+  )
+  by_name names.R_X86_64_CODE_4_GOTPC32_TLSDESC is_name of = (
+    tt,
+    inl (window (lea reg_after_rex2) 4 4 1, with_rex2_is_lawful laws.descriptor_address l linked x86 i chosen below decided is_name of),
+  )
+  by_name names.R_X86_64_TLSDESC_CALL is_name of = (
+    tt,
+    inl (window call 0 2 1, call_is_lawful laws.descriptor_call l linked x86 i chosen below decided of),
+  )
+  by_name names.R_X86_64_DTPOFF32 is_name (inl this) = (tt, inr (refl, ap relaxation_rewrite this.kind_is))
+  by_name names.R_X86_64_DTPOFF32 is_name (inr nothing) = absurd nothing
+  by_name names.R_X86_64_DTPOFF64 is_name (inl this) = (tt, inr (refl, ap relaxation_rewrite this.kind_is))
+  by_name names.R_X86_64_DTPOFF64 is_name (inr nothing) = absurd nothing
+  by_name name is_name of = absurd of
+
+  -- of instructions that are rewritten together
+  law_there : (name : X86_64Relocation) (w : Window) → IsNameOf x86_64_name (relocation_in l.relocations i).code name
+      → window_of name chosen.kind ≡ Some w → IsLawful l i chosen name w
+  law_there name w is_name is =
+      let t = has_table l linked x86 i chosen below decided in
+      let made = by_name t.name t.is_name t.is in
+      let same : name ≡ t.name = is_name.named t.name (made.0) t.is_name.code_is in
+      let there : window_of t.name chosen.kind ≡ Some w = ap (λ n. window_of n chosen.kind) (sym same) ∙ is in
+      subst (λ n. IsLawful l i chosen n w) (sym same)
+      (elim (made.1) [
+        | inl found ↦
+            let law = found.1 in
+            let e : found.0 ≡ w = ap (λ q. unwrap_or q w) (sym law.is ∙ there) in
+            subst (IsLawful l i chosen t.name) e law
+        | inr none ↦ absurd (let e : None ≡ Some w = sym (none.0) ∙ there in cc)
+      ])
+
+-- ---- which bytes stay
+
+module _ (laws : Groups) (l : Linked) (linked : IsLinked l) (x86 : l.context.architecture ≡ X86_64) (b : ℕ) where
+  abbrev Shown : Type 0
+  Shown = (get_or l.rewritten b 0 ≡ get_or l.section b 0) ⊎ IsIn rewriting l b
+
+  -- a rewrite without a window has no byte
+  spared : (i : ℕ) (d : Decision) → decision_at l.decisions i ≡ d → start_by d (offset_of l i) ≡ offset_of l i - 0
+      → written_end_by d (offset_of l i) ≡ offset_of l i - 0 + 0 → IsOutside l.relocations l.decisions i b
+  spared i d is starts ends =
+      let o = offset_of l i in
+      subst (λ x. (b < start_by x o) ⊎ (written_end_by x o ≤ b)) (sym is)
+      (elim (cases_lt b o) [
+        | inl before ↦ inl (subst (λ z. b < z) (sym starts) (let e : b < o - 0 = omega (arith, before) in e))
+        | inr past ↦ inr (subst (λ z. z ≤ b) (sym ends) (let e : o - 0 + 0 ≤ b = omega (arith, past) in e))
+      ])
+
+  -- one with a law
+  in_window : (i : ℕ) (chosen : Choice Relaxation ℕ) → i < count l → decision_at l.decisions i ≡ Rewritten chosen
+      → (name : X86_64Relocation) → IsNameOf x86_64_name (relocation_in l.relocations i).code name
+      → (w : Window) → IsLawful l i chosen name w → IsOutside l.relocations l.decisions i b ⊎ Shown
+  in_window i chosen below decided name is_name w law =
+      let o = offset_of l i in
+      let has_window = law.window in
+      let made = has_window.made in
+      let inner = has_window.inner in
+      let made_is : relaxation_rewrite chosen.kind ≡ Some made = ap relaxation_rewrite law.kind_is ∙ has_window.is in
+      let can : IsRewritable made l.section o = subst (λ q. CanRewrite q l.section o) has_window.is (law.matches.0) in
+      elim (cases_lt b (o - made.back)) [
+        | inl before ↦
+            inl (inl (subst (λ z. b < z) (sym (start_is (decision_at l.decisions i) chosen made o decided made_is)) before))
+        | inr from ↦ elim (cases_lt b (o - made.back + made.len)) [
+          | inr past ↦
+              inl (inr (subst (λ z. z ≤ b) (sym (end_is (decision_at l.decisions i) chosen made o decided made_is)) past))
+          | inl less ↦ inr (elim (cases_lt b (o - w.back)) [
+            | inl low ↦ inl (has_window.low l.section l.rewritten o b can.starts can.ends linked.same_length
+                (subst (λ q. IsMade q o l.section l.rewritten) made_is
+                (subst (λ d. IsDone d o l.section l.rewritten) decided (linked.done i below))) from low)
+            | inr high ↦ inr (record {
+              g = record {
+                i = i;
+                below = below;
+                name = name;
+                is_name = is_name;
+                chosen = chosen;
+                decided = decided;
+                window = w;
+                is = law.is;
+              };
+              first = high;
+              last = elim (cases_lt b (o - inner.back + inner.len)) [
+                | inl inside ↦
+                    let back = has_window.back in
+                    let ends = has_window.ends in
+                    let long = law.room.0 in
+                    omega (arith, inside, back, ends, long)
+                | inr past ↦ elim (has_window.outer o b can.starts (law.room.0) high (inr past)) [
+                  | inl low ↦ absurd (omega (arith, low, from))
+                  | inr out ↦ absurd (omega (arith, out, less))
+                ]
+              ];
+            })
+          ])
+        ]
+      ]
+
+  by_decision : (i : ℕ) → i < count l → (d : Decision) → decision_at l.decisions i ≡ d
+      → IsOutside l.relocations l.decisions i b ⊎ Shown
+  by_decision i below Kept is = inl (spared i Kept is refl refl)
+  by_decision i below Consumed is = inl (spared i Consumed is refl refl)
+  by_decision i below (Rewritten chosen) is =
+      let o = offset_of l i in
+      let t = has_table l linked x86 i chosen below is in
+      elim ((by_name laws l linked x86 i chosen below is t.name t.is_name t.is).1) [
+        | inl found ↦ in_window i chosen below is t.name t.is_name (found.0) (found.1)
+        | inr none ↦ inl (spared i (Rewritten chosen) is (ap (λ q. o - (window_of_rewrite q).back) (none.1))
+            (ap (λ q. o - (window_of_rewrite q).back + (window_of_rewrite q).len) (none.1)))
+      ]
+  by_decision i below (RewrittenWithSymbol chosen subject) is =
+      let r = relocation_in l.relocations i in
+      elim (chosen_or_labelled l.context l.kept l.relocations l.section l.decisions (count l) i (RewrittenWithSymbol chosen subject) chosen linked.decided below is refl) [
+        | inl alone ↦ absurd (let e : RewrittenWithSymbol chosen subject ≡ Rewritten chosen = alone.is in cc)
+        | inr label ↦ absurd (unlabelled l.context.phase r.code Labelled
+            (subst (λ x. IsScopeIn x l.context.phase r.code Labelled) x86 label.scope_is) refl)
+      ]
+
+pub are_in : Groups → AreIn rewriting
+are_in laws l linked x86 b =
+    elim (each_or (λ i. IsOutside l.relocations l.decisions i b) (count l)
+    (λ i below. by_decision laws l linked x86 b i below (decision_at l.decisions i) refl)) [
+      | inl none ↦ inl (linked.others b none)
+      | inr shown ↦ shown
+    ]
+
+-- ---- groups
+
+pub rewrites_are_groups : Groups → RewritesAreGroups rewriting
+rewrites_are_groups laws x c called final l is k s g k' s' begins =
+    let law = law_there laws l (is_linked rewriting x called l is) (called.architecture l is) g.i g.chosen g.below g.decided
+    g.name g.window g.is_name g.is in
+    begins.by_law (law.law begins.alone begins.symbol begins.operands c s (final_in rewriting x l is c final)
+    begins.pc begins.object)
