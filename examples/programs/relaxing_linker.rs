@@ -2,10 +2,8 @@
 //! Links RISC-V objects into a static executable that begins at `_start`: lays out and relaxes all
 //! sections, and then packs and relocates one after another. A GOT, thread-local storage, groups, and
 //! common and absolute symbols are errors.    usage: relaxing_linker OUTPUT OBJECT..
-use linker_utils::runs::{Alignment, Item, Machine::RiscV64, Relocation, Run, first_faulty};
-use linker_utils::runs::{pack_run, packed_run_len, relax, section_items};
-use linker_utils::section::{Link, Object, Section, Symbol, memory_len, relocate_section, relocations};
-use linker_utils::{elf::Architecture::RiscV, output::Target};
+use linker_utils::runs::{Machine::RiscV64, *};
+use linker_utils::{elf::Architecture::RiscV, output::Target, section::*};
 use object::{LittleEndian as LE, SectionIndex, elf::*, read::elf::*};
 use std::{collections::HashMap, error::Error, fs, iter, os::unix::fs::PermissionsExt};
 
@@ -21,10 +19,9 @@ struct Placed {
 }
 
 fn main() -> Result<(), Box<dyn Error>> {
-    let [_, output, paths @ ..] = &std::env::args().collect::<Vec<_>>()[..] else {
-        return Err("usage: relaxing_linker OUTPUT OBJECT..".into());
-    };
-    let files = paths.iter().map(fs::read).collect::<Result<Vec<_>, _>>()?;
+    let mut paths = std::env::args().skip(1);
+    let output = paths.next().ok_or("usage: relaxing_linker OUTPUT OBJECT..")?;
+    let files = paths.map(fs::read).collect::<Result<Vec<_>, _>>()?;
     let (target, mut objects, mut list, mut flags) = (Target::of(RiscV), vec![], vec![], None);
     for (object, file) in files.iter().enumerate() {
         let (file, header) = (&file[..], FileHeader64::<LE>::parse(&file[..])?);
@@ -124,18 +121,16 @@ fn main() -> Result<(), Box<dyn Error>> {
     let head = [&head[..], &[flags | 64 << 32 | 56 << 48, 2], &load(5, START, code_end), &load(6, data, end)];
     let mut image = head.concat().into_iter().flat_map(u64::to_le_bytes).collect::<Vec<_>>();
     image.resize((end - START + PAGE) as usize, 0);
-    for Placed { of, mut section, items, .. } in list {
+    for Placed { of, section, items, .. } in list {
         let values = objects[of.0].1.iter().map(|it| Symbol { address: address(it.address), ..*it });
         let object = Object { values: &values.collect::<Vec<_>>(), ..Object::default() };
         let run = Run { start: START, items: &items[1..], deltas: deletions.deltas() };
         let len = packed_run_len(section.base, section.bytes.len(), run.deltas);
         let bytes = &mut image[(address(section.base) - START + PAGE) as usize..][..len];
-        pack_run(RiscV64, &mut section, &run, bytes)?;
-        let mut memory = vec![0; memory_len(&section.relocations)];
-        let packed = Section::new(bytes, section.relocations);
-        let mut packed = Section { address: address(section.base), ..packed };
+        let mut packed = run.pack(RiscV64, section, bytes)?;
+        let mut memory = vec![0; memory_len(&packed.relocations)];
         relocate_section(&Link::new(RiscV), &object, &mut packed, &mut memory)?;
     }
-    fs::write(output, image)?;
+    fs::write(&output, image)?;
     Ok(fs::set_permissions(output, fs::Permissions::from_mode(0o755))?)
 }

@@ -4,7 +4,7 @@
 //! inlined over functions of the proved source, which have a parameter for each fact.
 
 use crate::elf::{Architecture, RelocateError, WriteError};
-use crate::linker_base::relaxation::{AsDeletion, RelaxDelta};
+use crate::linker_base::relaxation::{AsDeletion, DeltaSlice, RelaxDelta};
 use crate::linker_output::got::Origins;
 use crate::linker_rewriting::decisions::{
     AsDecision, AsKeptDecision, DecisionError, FromDeletion, RewritingError,
@@ -1379,4 +1379,40 @@ pub fn pack_run<B: AsRef<[u8]>, R: AsMut<[u8]>, I: AsItem>(
         section.relocations.as_mut(),
         packed,
     )
+}
+
+impl<I: AsItem> Run<'_, I> {
+    /// [`pack_run`] of a section of the run. Returns the packed section, `packed` and the moved
+    /// relocations, at the address that it then has.
+    ///
+    /// # Requires
+    ///
+    /// - what [`pack_run`] requires
+    ///
+    /// ```
+    /// use linker_utils::runs::{Item, Machine, Run, Site, relax, shapes};
+    /// use linker_utils::section::Section;
+    ///
+    /// // a section with auipc ra, 0 and jalr ra, 0(ra), a call of the ret in the section after it
+    /// let call = Site { offset: 0, len: 8, target: 8, shapes: shapes::riscv64::CALL };
+    /// let items = [Item::Site(call)];
+    /// let plan = relax(&items, 0x1000).unwrap();
+    /// let run = Run { start: 0x1000, items: &items[1..], deltas: plan.deletions.deltas() };
+    /// let ret = Section { base: 8, ..Section::new([0x67, 0x80, 0, 0], []) };
+    /// let packed = run.pack(Machine::RiscV64, ret, [0; 4]).unwrap();
+    /// assert_eq!((packed.address, packed.bytes), (0x1004, [0x67, 0x80, 0, 0]));
+    /// ```
+    #[inline]
+    #[cfg_attr(debug_assertions, track_caller)]
+    pub fn pack<B: AsRef<[u8]>, R: AsMut<[u8]>, P: AsMut<[u8]>>(
+        &self,
+        machine: Machine,
+        mut section: Section<B, R>,
+        mut packed: P,
+    ) -> Result<Section<P, R>, RejectedItem> {
+        pack_run(machine, &mut section, self, packed.as_mut())?;
+        let offset = DeltaSlice::new(self.deltas).input_to_output_offset(section.base);
+        let address = self.start.wrapping_add(offset);
+        Ok(Section { address, ..Section::new(packed, section.relocations) })
+    }
 }

@@ -369,6 +369,13 @@ fn compare(architecture: Architecture, random: &mut Random, counts: &mut [usize;
         let Written { bytes, relocations, packed, .. } = it;
         source::runs::pack_run(machine, bytes, base, items, deltas, start, relocations, packed)
     });
+    let run = Run { start, items, deltas };
+    let mut section = Section { base, ..Section::new(before.bytes, before.relocations) };
+    let packed = run.pack(machine, section.clone(), before.packed.clone());
+    let written = runs::pack_run(machine, &mut section, &run, &mut before.packed);
+    let address = start + plan.deletions.input_to_output_offset(base);
+    let same = |()| Section { address, ..Section::new(before.packed, section.relocations) };
+    assert_eq!(packed, written.map(same));
 }
 
 #[test]
