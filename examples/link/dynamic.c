@@ -199,7 +199,7 @@ static void list_dynamic(void) {
             bool is_import = s->is_imported && !is_defined(s) && !s->is_canonical;
             bool is_found = s->is_exported && (s->output || s->elf.st_shndx == SHN_ABS);
             if (is_here ? !is_found && !s->is_canonical : !is_import) continue;
-            listed[listed_len++] = s;
+            listed[listed_len++] = s, s->hash = hash_of(s->name);
             if (version_of(s)) version_of(s)->number = 1;
         }
     }

@@ -20,9 +20,8 @@ static uint64_t add_stub(struct output *o, uint32_t kind, const char *name,
                          const struct output *target, uint64_t target_offset) {
     struct linker_utils_stub stub;
     if (linker_utils_get_stub(machine, kind, &stub)) fail("there is no stub to '%s'", name);
-    struct stub made = {.part = {.name = name, .output = o, .len = stub.len}, .before = added,
-                        .target = target, .target_offset = target_offset, .kind = kind};
-    added = keep(&made, sizeof made);
+    added = NEW(struct stub, .part = {.name = name, .output = o, .len = stub.len}, .before = added,
+                .target = target, .target_offset = target_offset, .kind = kind);
     add_part_of(o, &added->part, 8);
     return added->part.offset + stub.entry;
 }
@@ -64,8 +63,7 @@ static void add_entry(struct section *s, Elf64_Rela *r,
         fail_at(s, r, " is not supported");
     while (*at && ((*at)->class != needs->entry_class || (*at)->addend != needs->entry_addend))
         at = &(*at)->next;
-    struct entry made = {.addend = needs->entry_addend, .class = needs->entry_class};
-    if (!*at) *at = keep(&made, sizeof made);
+    if (!*at) *at = NEW(struct entry, .addend = needs->entry_addend, .class = needs->entry_class);
     got->has_bytes = true;
     if (needs->entry_addend) refer(s->object, r, to, needs->entry_addend);
 }
@@ -164,11 +162,11 @@ static struct symbol *thunk_to(struct output *o, struct symbol *s, uint64_t abov
     struct symbol *t = s->thunks;
     while (t && (t->output != o || t->elf.st_value != above)) t = t->thunks;
     if (t) return t;
-    struct symbol made = {.object = s->object, .name = s->name, .output = o, .is_thunk = true,
-                          .elf = {.st_shndx = SHN_ABS, .st_value = above}, .thunks = s->thunks};
-    made.offset = add_stub(o, LINKER_UTILS_STUB_JUMP, s->name, s->has_stub ? stubs : s->output,
-                         (s->has_stub ? s->stub : s->offset) + above);
-    return s->thunks = keep(&made, sizeof made);
+    uint64_t entry = add_stub(o, LINKER_UTILS_STUB_JUMP, s->name, s->has_stub ? stubs : s->output,
+                              (s->has_stub ? s->stub : s->offset) + above);
+    return s->thunks = NEW(struct symbol, .object = s->object, .name = s->name, .output = o,
+                           .offset = entry, .is_thunk = true, .thunks = s->thunks,
+                           .elf = {.st_shndx = SHN_ABS, .st_value = above});
 }
 
 /* Has a branch in code go by a thunk, if it doesn't reach its target, or its function expects other

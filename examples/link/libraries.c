@@ -80,14 +80,13 @@ void find_version(struct symbol *s) {
                 define_there(s, l, i);
         }
     s->name = memcpy(take(len + 1, 1), s->name, len);
-    s->hash = hash_of(s->name);
 }
 
 void read_library(struct object file) {
     const char *slash = strrchr(file.path, '/');
-    struct library made = {.file = file, .name = slash ? slash + 1 : file.path,
-                           .versions = take(MOST_VERSIONS + 1, sizeof *made.versions)};
-    struct library *l = *libraries_end = keep(&made, sizeof made);
+    struct library *l = *libraries_end =
+        NEW(struct library, .file = file, .name = slash ? slash + 1 : file.path,
+            .versions = take(MOST_VERSIONS + 1, sizeof(struct version)));
     libraries_end = &l->next;
     read_heads(&l->file, ET_DYN, "not a shared library");
     EACH_SECTION_OF(&l->file, s) {

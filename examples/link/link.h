@@ -76,6 +76,9 @@ enum { NEAR = 100, FROM_POINTER };
     (fprintf(stderr, "%s: %s: ", (s)->object->path, (s)->name), fail(__VA_ARGS__))
 #define fail_at(s, r, ...) (print_place(s, r), fail(__VA_ARGS__))
 
+/* a struct with these fields, for good */
+#define NEW(type, ...) keep(&(type){__VA_ARGS__}, sizeof(type))
+
 /* the bytes of a section in the linked file */
 #define BYTES_OF(s) (s)->output->bytes + (s)->offset, (s)->len
 
@@ -177,7 +180,7 @@ struct symbol {
     bool is_listed : 1, needs_stub : 1, is_thunk : 1, is_imported : 1, is_exported : 1;
     bool is_copied : 1, has_stub : 1, is_canonical : 1, has_group : 1, is_saver : 1, is_far : 1;
     bool is_required : 1;
-    uint32_t hash;               /* of a global one's name */
+    uint32_t hash;               /* of a dynamic one's name */
     const struct object *object; /* null where only an index of an archive names it */
     const char *name;
     struct archive *archive; /* which can define it; null where none can */

@@ -135,8 +135,7 @@ static void read_arguments(char **argument) {
         else if (!strcmp(it, "-pie")) linked.is_fixed = false;
         else if (!strcmp(it, "-shared")) linked.is_fixed = linked.is_executable = false;
         else if (!strcmp(it, "--pack-dyn-relocs=relr")) packs = true;
-        else if (!strcmp(it, "-z") && protects) argument++;
-        else if (!strcmp(it, "-z") && forces) flag = *++argument;
+        else if (!strcmp(it, "-z") && (protects || forces)) flag = forces ? next : flag, argument++;
         else if (!strcmp(it, "-o") && argument[1]) path = *++argument;
         else if (!strcmp(it, "-soname") && argument[1]) own_name = *++argument;
         else read_file(it);

@@ -211,8 +211,7 @@ static uint32_t big_endian(const uint8_t *bytes) {
 
 /* Offers what the index of an archive names. A member that is needed already is read at once. */
 static void read_archive(struct object file) {
-    struct archive made = {.file = file, .is_loaded = take(file.len / 2 + 1, 1)};
-    struct archive *a = keep(&made, sizeof made);
+    struct archive *a = NEW(struct archive, .file = file, .is_loaded = take(file.len / 2 + 1, 1));
     struct object index = {.len = 0};
     /* the special ones are first */
     for (uint64_t at = SARMAG, i = 0; i < 2 && at < file.len; i++) {

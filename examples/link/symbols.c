@@ -48,8 +48,8 @@ static struct cell *cell_of(const char *name, uint32_t hash) {
     return &cells[at];
 }
 
-/* The same, where there is room for one more. */
-static struct cell *find(const char *name, uint32_t hash) {
+/* The global symbol of a name, whether an object mentions it or not. */
+struct symbol *named_by(const char *name, uint32_t hash) {
     if (2 * named_len >= cells_len) {
         struct cell *before = cells, *end = before + cells_len;
         cells_len = cells_len ? 4 * cells_len : 1 << 12;
@@ -57,16 +57,11 @@ static struct cell *find(const char *name, uint32_t hash) {
         for (struct cell *c = before; c < end; c++) if (c->symbol) *cell_of(NULL, c->hash) = *c;
         free(before);
     }
-    return cell_of(name, hash);
-}
-
-/* The global symbol of a name, whether an object mentions it or not. */
-struct symbol *named_by(const char *name, uint32_t hash) {
-    struct cell *cell = find(name, hash);
+    struct cell *cell = cell_of(name, hash);
     if (cell->symbol) return cell->symbol;
     named_len++;
     *cell = (struct cell){take(1, sizeof *cell->symbol), hash};
-    cell->symbol->name = name, cell->symbol->hash = hash;
+    cell->symbol->name = name;
     return cell->symbol;
 }
 
@@ -132,7 +127,7 @@ void list_symbol(struct symbol *s) {
 
 /* A symbol at an offset of a section, if an object refers to it and none defines it; else null. */
 static struct symbol *define(const char *name, struct output *output, uint64_t offset) {
-    struct symbol *s = find(name, hash_of(name))->symbol;
+    struct symbol *s = cells ? cell_of(name, hash_of(name))->symbol : NULL;
     if (!s || !s->object || is_defined(s)) return NULL;
     s->elf.st_shndx = SHN_ABS;
     if (is_dynamic) s->elf.st_other = STV_HIDDEN;
