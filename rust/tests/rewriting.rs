@@ -1760,6 +1760,27 @@ fn labels_of_one_symbol_are_apart() {
 }
 
 #[test]
+fn at_the_high_part_of_a_descriptor_the_call_says_what_it_becomes() {
+    use linker_utils::elf::LinkFacts;
+    use linker_utils::riscv64::{RewriteKind, RiscVRelocation as Names, choose};
+    let (auipc, jalr) = (words(&[0x0000_0517]), words(&[0x0005_82e7]));
+    for (is_executable, is_local, kind, after) in [
+        (true, true, RewriteKind::Delete, Names::R_RISCV_TPREL_LO12_I),
+        (true, false, RewriteKind::Delete, Names::R_RISCV_PCREL_LO12_I),
+        (false, true, RewriteKind::NoOp, Names::R_RISCV_TLSDESC_CALL),
+    ] {
+        let facts = LinkFacts {
+            is_executable,
+            is_local,
+            is_relaxable: true,
+            ..LinkFacts::default()
+        };
+        assert_eq!(choose(Names::R_RISCV_TLSDESC_HI20, &auipc, 0, &facts).kind, kind);
+        assert_eq!(choose(Names::R_RISCV_TLSDESC_CALL, &jalr, 0, &facts).relocation, after);
+    }
+}
+
+#[test]
 fn descriptors_of_riscv_become_offsets() {
     // auipc a0, %tlsdesc_hi(x); ld a1, %tlsdesc_load_lo(label)(a0);
     // addi a0, a0, %tlsdesc_add_lo(label); jalr t0, 0(a1), %tlsdesc_call(label)
