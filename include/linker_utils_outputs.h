@@ -78,6 +78,30 @@ uint8_t linker_utils_filler(uint16_t machine, uint64_t offset);
 LINKER_UTILS_MUST_USE static inline uint32_t linker_utils_interpreter(
     uint16_t machine, uint32_t flags, uint8_t *path, size_t path_len, size_t *path_used);
 
+/* What an output's dynamic section says to the dynamic linker; all 0 for nothing. */
+struct linker_utils_dynamic_facts {
+    uint64_t first_entry; /* the address of the lazy PLT's first entry, after its head */
+    /* Bits that an output of PowerPC64 has: PPC64_OPT_TLS if its calls of `__tls_get_addr` go by
+     * `__tls_get_addr_opt`; PPC64_OPT_MULTI_TOC if it has more than one TOC; PPC64_OPT_LOCALENTRY
+     * if calls of shared libraries' functions don't save the TOC pointer. */
+    uint64_t options;
+    bool has_lazy_plt;
+    bool has_landing_plt;   /* indirect branches may go to the PLT's entries, as IBT and BTI want */
+    bool has_signed_plt;    /* the PLT's entries authenticate what they load (`-z pac-plt`) */
+    bool has_variant_calls; /* a jump slot's symbol has STO_AARCH64_VARIANT_PCS, or RISC-V's bit */
+};
+
+/* The entry with an index, from 0 on, of those that the dynamic section has by the psABI:
+ * DT_AARCH64_BTI_PLT, DT_AARCH64_PAC_PLT, DT_AARCH64_VARIANT_PCS; DT_RISCV_VARIANT_CC;
+ * DT_PPC64_GLINK, DT_PPC64_OPT. LINKER_UTILS_NOT_PROVIDED from their number on. */
+struct linker_utils_dynamic_entry {
+    uint64_t tag;
+    uint64_t value;
+};
+LINKER_UTILS_MUST_USE uint32_t linker_utils_get_dynamic_entry(
+    uint16_t machine, const struct linker_utils_dynamic_facts *facts, size_t index,
+    struct linker_utils_dynamic_entry *entry);
+
 /* A symbol that a linker defines if an object refers to it. */
 struct linker_utils_provided_symbol {
     uint64_t offset; /* how many bytes above its place */
@@ -158,9 +182,8 @@ bool linker_utils_is_property_known(uint16_t machine, uint32_t kind);
  * the linker adds it to them (`-z force-ibt` and `-z force-bti`). Then the output takes
  * LINKER_UTILS_STUB_LANDING_LOAD, or a lazy PLT of a form for such code. */
 struct linker_utils_landing_property {
-    uint64_t bit;     /* as a mask of the property's value */
-    uint64_t plt_tag; /* of `.dynamic`, with the value 0: DT_AARCH64_BTI_PLT; or 0 for none */
-    uint32_t kind;    /* the property's type */
+    uint64_t bit;  /* as a mask of the property's value */
+    uint32_t kind; /* the property's type */
 };
 
 /* What says that the architecture's code is so protected. LINKER_UTILS_NOT_PROVIDED where it has no

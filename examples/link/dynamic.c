@@ -283,6 +283,8 @@ static void put_function(int64_t tag, const char *name) {
 /* Makes the entries, or writes them once addresses are known. */
 static void put_entries(void) {
     static uint32_t name;
+    struct linker_utils_dynamic_facts of = {.has_landing_plt = load_kind != LINKER_UTILS_STUB_LOAD};
+    struct linker_utils_dynamic_entry entry;
     bool is_static = false;
     if (own_name && !name) name = add_name(dynstr, own_name);
     dynamic->len = 0;
@@ -302,7 +304,8 @@ static void put_entries(void) {
     put_table(verneed, DT_VERNEED, 0, 0);
     if (verneed->len) put_entry(DT_VERNEEDNUM, verneed->info);
     for (size_t i = 0; i < rows_len; i++) is_static |= rows[i].type == types.thread_offset;
-    if (plt_tag) put_entry((int64_t)plt_tag, 0);
+    for (size_t i = 0; !linker_utils_get_dynamic_entry(machine, &of, i, &entry); i++)
+        put_entry((int64_t)entry.tag, entry.value);
     if (linked.is_executable) put_entry(DT_DEBUG, 0);
     put_entry(DT_FLAGS, DF_BIND_NOW | (!linked.is_executable && is_static ? DF_STATIC_TLS : 0));
     put_entry(DT_FLAGS_1, DF_1_NOW | (linked.is_executable && !linked.is_fixed ? DF_1_PIE : 0));

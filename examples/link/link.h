@@ -237,9 +237,7 @@ SHARED struct output *outputs[MOST_OUTPUTS + 3];
 SHARED struct output *headers, *got, *stubs, *slots, *rela, *frames, *index_of, *bss, *note;
 SHARED struct output *relr, *interpreter, *dynamic, *dynsym, *dynstr, *hash_table, *versym, *verneed;
 SHARED size_t symbols_len, outputs_len;
-/* the length of the linked file's addresses; the dynamic section's tag that says that code is
- * protected, 0 where there is none */
-SHARED uint64_t span, plt_tag;
+SHARED uint64_t span; /* the length of the linked file's addresses */
 SHARED struct linker_utils_unrelaxable_groups *kept; /* which groups of the last object stay */
 
 static inline int order(uint64_t a, uint64_t b) { return a < b ? -1 : a > b; }

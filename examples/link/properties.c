@@ -41,7 +41,7 @@ void merge_properties(const char *flag) {
     }
     load_kind = LINKER_UTILS_STUB_LOAD;
     if (value_of(landing.kind, all, len) & landing.bit)
-        load_kind = LINKER_UTILS_STUB_LANDING_LOAD, plt_tag = landing.plt_tag;
+        load_kind = LINKER_UTILS_STUB_LANDING_LOAD;
     expect_ok(linker_utils_write_properties(machine, all, len, bytes, sizeof bytes, &len));
     if (len) append(note, 8, bytes, len);
 }

@@ -203,6 +203,7 @@ pub mod output {
     pub use crate::linker_output::relr::{RelrError, read_relr, write_relr};
     pub use crate::linker_output::routes::{Route, RouteError};
     pub use crate::linker_output::stubs::{Stub, StubError, StubField, StubKind};
+    pub use crate::linker_output::tags::{DynamicEntry, DynamicFacts, DynamicTag, TagRule};
     pub use crate::linker_output::description::Target;
 }
 

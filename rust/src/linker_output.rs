@@ -27,5 +27,6 @@ pub mod relr;
 mod riscv64;
 pub mod routes;
 pub mod stubs;
+pub mod tags;
 #[cfg(feature = "x86_64")]
 mod x86_64;

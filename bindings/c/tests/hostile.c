@@ -1737,6 +1737,18 @@ static void call_entry_relocation(void) {
     finish_with(status, 0 UNKNOWN OR(NOT_PROVIDED));
 }
 
+static void call_dynamic_entry(void) {
+    const struct linker_utils_dynamic_facts *facts =
+        INPUT(dynamic_facts, .first_entry = any_number(), .options = any_number(),
+              .has_lazy_plt = once_in(2), .has_landing_plt = once_in(2),
+              .has_signed_plt = once_in(2), .has_variant_calls = once_in(2));
+    struct linker_utils_dynamic_entry *entry = output(sizeof *entry);
+    size_t index = once_in(4) ? (size_t)any_number() : below(4);
+    uint32_t status = CALL(get_dynamic_entry, any_machine(), facts, index, entry);
+    expect(status || (index < 3 && entry->tag / 8 == 0x70000000 / 8), "no tag of a processor");
+    finish_with(status, 0 UNKNOWN OR(NOT_PROVIDED));
+}
+
 static void call_provided_symbol(void) {
     struct buffer *name = bytes(WRITTEN, any_len(LINKER_UTILS_NAME_SIZE));
     size_t *name_used = output(sizeof(size_t));
@@ -2861,7 +2873,7 @@ static void (*const all[])(void) = {
     call_read_relr, call_read_crel, call_read_properties, call_merge_properties, call_write_properties,
     call_is_property_known, call_landing_property,
     call_output_facts, call_interpreter, call_address_section, call_entry_relocation,
-    call_provided_symbol, call_save_restore_routines, call_provided_word, call_stub, call_write_stub,
+    call_dynamic_entry, call_provided_symbol, call_save_restore_routines, call_provided_word, call_stub, call_write_stub,
     call_lazy_plt, call_write_lazy_header, call_write_lazy_entry, call_lazy_words, call_route_at,
     call_route_by_word,
     call_most_stubs, call_place_stubs, call_clui_rel_info, call_jal_site, call_jal_site_with, call_relax_call,

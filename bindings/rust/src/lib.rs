@@ -1842,8 +1842,6 @@ pub fn is_property_known(architecture: Architecture, kind: u32) -> bool {
 pub struct LandingProperty {
     /// As a mask of the property's value.
     pub bit: u64,
-    /// The tag of `.dynamic` that says so of the PLT; 0 where there is none.
-    pub plt_tag: u64,
     /// The property's type.
     pub kind: u32,
 }
@@ -1982,6 +1980,34 @@ pub fn provided_symbols(architecture: Architecture) -> Vec<ProvidedSymbol> {
         })
     };
     (0..).map_while(symbol).collect()
+}
+
+/// What an output's dynamic section says to the dynamic linker. By default nothing.
+#[repr(C)]
+#[derive(Debug, Clone, Copy, Default, PartialEq, Eq)]
+pub struct DynamicFacts {
+    /// The address of the lazy PLT's first entry, after its head.
+    pub first_entry: u64,
+    /// `PPC64_OPT_TLS`, `PPC64_OPT_MULTI_TOC` and `PPC64_OPT_LOCALENTRY`.
+    pub options: u64,
+    pub has_lazy_plt: bool,
+    /// Indirect branches may go to the PLT's entries.
+    pub has_landing_plt: bool,
+    /// The PLT's entries authenticate what they load.
+    pub has_signed_plt: bool,
+    /// A jump slot's symbol has `STO_AARCH64_VARIANT_PCS`, or RISC-V's bit.
+    pub has_variant_calls: bool,
+}
+
+/// The entries, each a tag and a value, that the dynamic section has by the architecture's psABI.
+pub fn dynamic_entries(architecture: Architecture, facts: &DynamicFacts) -> Vec<(u64, u64)> {
+    let mut found = raw::DynamicEntry::default();
+    let mut entry = |index| unsafe {
+        let machine = architecture.machine();
+        let status = raw::linker_utils_get_dynamic_entry(machine, facts, index, &mut found);
+        (status == 0).then_some((found.tag, found.value))
+    };
+    (0..).map_while(|index| entry(index)).collect()
 }
 
 /// The functions that compilers call and linkers provide.

@@ -4,10 +4,10 @@
 //! requires of pointers and counts, and does, is said there. No pointer to a slice may be null.
 
 pub use crate::{
-    Addresses, BlockHead, Branch, Call, Deletion, Delta, DynamicTypes, FactsSnapshot, FieldBits,
-    FieldValue, Item, LandingProperty, LazyEntry, LazyPlt, Operands, Origins, OutputFacts,
-    PlacedStub, Property, Rela, Relocation, RewriteWindow, Shape, Shapes, Stub, StubShape, Symbol,
-    SymbolFacts, UnrelaxableGroups,
+    Addresses, BlockHead, Branch, Call, Deletion, Delta, DynamicFacts, DynamicTypes, FactsSnapshot,
+    FieldBits, FieldValue, Item, LandingProperty, LazyEntry, LazyPlt, Operands, Origins,
+    OutputFacts, PlacedStub, Property, Rela, Relocation, RewriteWindow, Shape, Shapes, Stub,
+    StubShape, Symbol, SymbolFacts, UnrelaxableGroups,
 };
 use std::ffi::c_char;
 
@@ -171,6 +171,14 @@ pub struct Choice {
 pub struct WordTypes {
     pub first: u32,
     pub second: u32,
+}
+
+/// `struct linker_utils_dynamic_entry`.
+#[repr(C)]
+#[derive(Debug, Clone, Copy, Default, PartialEq, Eq)]
+pub struct DynamicEntry {
+    pub tag: u64,
+    pub value: u64,
 }
 
 /// `struct linker_utils_provided_symbol`.
@@ -999,6 +1007,12 @@ extern "C" {
         path: *mut u8,
         path_len: usize,
         path_used: *mut usize,
+    ) -> u32;
+    pub fn linker_utils_get_dynamic_entry(
+        machine: u16,
+        facts: *const DynamicFacts,
+        index: usize,
+        entry: *mut DynamicEntry,
     ) -> u32;
     pub fn linker_utils_get_provided_symbol_nonnull(
         machine: u16,

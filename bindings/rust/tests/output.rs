@@ -72,6 +72,29 @@ fn note(properties: &[(u32, u32)]) -> Vec<u8> {
     words.iter().flat_map(|word| word.to_le_bytes()).collect()
 }
 
+/// As GNU ld 2.40 and ld.lld 19 write them, with `-z force-bti`, `-z pac-plt` and all.
+#[test]
+fn dynamic_sections_have_the_tags_that_linkers_write() {
+    let nothing = DynamicFacts::default();
+    let plt = DynamicFacts { has_lazy_plt: true, first_entry: 0x10310, ..nothing };
+    let bti = DynamicFacts { has_landing_plt: true, ..plt };
+    let all = DynamicFacts { has_signed_plt: true, has_variant_calls: true, options: 5, ..bti };
+    for (architecture, facts, entries) in [
+        (AARCH64, plt, vec![]),
+        (AARCH64, bti, vec![(0x7000_0001, 0)]),
+        (AARCH64, all, vec![(0x7000_0001, 0), (0x7000_0003, 0), (0x7000_0005, 0)]),
+        (RISCV, bti, vec![]),
+        (RISCV, all, vec![(0x7000_0001, 0)]),
+        (PPC64, nothing, vec![(0x7000_0003, 0)]),
+        (PPC64, plt, vec![(0x7000_0000, 0x102f0), (0x7000_0003, 0)]),
+        (PPC64, all, vec![(0x7000_0000, 0x102f0), (0x7000_0003, 5)]),
+        (LOONGARCH, all, vec![]),
+        (X86_64, all, vec![]),
+    ] {
+        assert_eq!(dynamic_entries(architecture, &facts), entries, "{architecture:?} {facts:?}");
+    }
+}
+
 #[test]
 fn properties_are_merged() {
     // X86_FEATURE_1_AND, X86_ISA_1_NEEDED, X86_ISA_1_USED
@@ -85,9 +108,7 @@ fn properties_are_merged() {
     assert_eq!(merge_notes(X86_64, &[&[]]), Ok(vec![]));
     assert!(is_property_known(X86_64, feature) && !is_property_known(PPC64, feature));
     let ibt = landing_property(X86_64);
-    assert_eq!(ibt, Ok(LandingProperty { bit: 1, plt_tag: 0, kind: feature }));
-    // DT_AARCH64_BTI_PLT
-    assert_eq!(landing_property(AARCH64).map(|bti| bti.plt_tag), Ok(0x7000_0001));
+    assert_eq!(ibt, Ok(LandingProperty { bit: 1, kind: feature }));
     assert_eq!(landing_property(PPC64), Err(Status::NotProvided));
     let unknown = note(&[(0xc002_0000, 1)]);
     let read = read_properties(X86_64, &unknown);

@@ -5,9 +5,11 @@ use Rattle.std.specs.Prelude.{codes, [], None, Some, ◌∷◌, pos}
 use Rattle.linker_elf.specs.AArch64Relocations.{aarch64_name}
 use Rattle.linker_elf.specs.declared.aarch64.relocations.AArch64Relocation.TheVariants as r
 use Rattle.linker_output.specs.Stubs.{StubCode}
-use Rattle.linker_output.specs.Tables.{field_of, kind, kind_of, units_of, no_flags, only}
+use Rattle.linker_output.specs.Tables.{field_of, kind, kind_of, units_of, no_flags, only, tag}
 use Rattle.linker_output.specs.Tables.{four, plain_stub, data_stub, code_of_words}
 use Rattle.linker_output.specs.View.{Description}
+use Rattle.linker_output.specs.declared.tags.TagRule.TheVariants.{LandingPlt, SignedPlt}
+use Rattle.linker_output.specs.declared.tags.TagRule.TheVariants.{VariantCalls}
 use Rattle.linker_output.specs.declared.got.ThreadPointer.TheVariants.{BelowImage}
 use Rattle.linker_elf.specs.declared.elf.architecture.Architecture.TheVariants.{AArch64}
 
@@ -33,6 +35,9 @@ aarch64_output =
             thread_offset = kind 1030 (codes "R_AARCH64_TLS_TPREL");
             descriptor = Some (kind 1031 (codes "R_AARCH64_TLSDESC"));
           };
+      -- DT_AARCH64_BTI_PLT, DT_AARCH64_PAC_PLT, DT_AARCH64_VARIANT_PCS
+      dynamic_tags =
+          tag 0x70000001 LandingPlt ∷ tag 0x70000003 SignedPlt ∷ tag 0x70000005 VariantCalls ∷ [];
       -- 16 bytes above the thread pointer are the run-time library's
       thread_pointer = BelowImage 16 0;
       module_bias = 0;
@@ -48,9 +53,8 @@ aarch64_output =
       runs = [];
       interpreter_flags = 0;
       paths = only (codes "/lib/ld-linux-aarch64.so.1");
-      -- GNU_PROPERTY_AARCH64_FEATURE_1_AND, its bit BTI, and DT_AARCH64_BTI_PLT
-      landing_property =
-          Some (record { kind = 0xc0000000; bit = 1; plt_tag = Some 0x70000001 });
+      -- GNU_PROPERTY_AARCH64_FEATURE_1_AND, and its bit BTI
+      landing_property = Some (record { kind = 0xc0000000; bit = 1 });
       instructions = AArch64;
       load_stub = by_word;
       -- `bti c`, and the same

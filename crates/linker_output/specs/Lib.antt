@@ -27,6 +27,7 @@ pub mod RiscVStubs
 pub mod Routes
 pub mod Stubs
 pub mod Tables
+pub mod Tags
 pub mod Targets
 pub mod View
 pub mod X86LazyPlt

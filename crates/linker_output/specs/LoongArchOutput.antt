@@ -41,6 +41,7 @@ loongarch_output =
             thread_offset = kind 11 (codes "R_LARCH_TLS_TPREL64");
             descriptor = Some (kind 14 (codes "R_LARCH_TLS_DESC64"));
           };
+      dynamic_tags = [];
       thread_pointer = BelowImage 0 0;
       module_bias = 0;
       got = record { header = None; bias = 0 };

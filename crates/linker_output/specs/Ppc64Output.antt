@@ -7,9 +7,10 @@ use Rattle.linker_elf.specs.declared.ppc64.relocations.Ppc64Relocation.TheVarian
 use Rattle.linker_output.specs.Layout.{Run}
 use Rattle.linker_output.specs.Stubs.{StubCode}
 use Rattle.linker_output.specs.Tables.{field_of, code_of_words, kind, kind_of, units_of, symbol}
-use Rattle.linker_output.specs.Tables.{only}
+use Rattle.linker_output.specs.Tables.{only, tag}
 use Rattle.linker_output.specs.Tables.{four, load_of, plain_stub}
 use Rattle.linker_output.specs.View.{Description}
+use Rattle.linker_output.specs.declared.tags.TagRule.TheVariants.{LazyPlt, Options}
 use Rattle.linker_output.specs.declared.got.ThreadPointer.TheVariants.{BelowImage}
 use Rattle.linker_output.specs.declared.got.GotHeader.TheVariants.{Base}
 use Rattle.linker_output.specs.declared.layout.SymbolPlace.TheVariants.{Got}
@@ -110,6 +111,8 @@ ppc64_output =
             thread_offset = kind_of (ppc64_name r.R_PPC64_TPREL64);
             descriptor = None;
           };
+      -- DT_PPC64_GLINK, DT_PPC64_OPT
+      dynamic_tags = tag 0x70000000 LazyPlt ∷ tag 0x70000003 Options ∷ [];
       thread_pointer = BelowImage 0 0x7000;
       module_bias = 0x8000;
       -- the TOC pointer is 0x8000 above the GOT, whose first word has it

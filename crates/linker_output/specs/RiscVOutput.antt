@@ -3,8 +3,9 @@
 use Rattle.std.specs.Prelude.{codes, [], ◌∷◌, Some, ℕ, ◌+◌, None}
 use Rattle.linker_elf.specs.RiscVRelocations.{riscv_name}
 use Rattle.linker_elf.specs.declared.riscv64.relocations.RiscVRelocation.TheVariants as r
-use Rattle.linker_output.specs.Tables.{field_of, kind, kind_of, symbol, path, four, plain_stub}
+use Rattle.linker_output.specs.Tables.{field_of, kind, kind_of, symbol, path, four, plain_stub, tag}
 use Rattle.linker_output.specs.View.{Description}
+use Rattle.linker_output.specs.declared.tags.TagRule.TheVariants.{VariantCalls}
 use Rattle.linker_output.specs.declared.got.ThreadPointer.TheVariants.{BelowImage}
 use Rattle.linker_output.specs.declared.got.GotHeader.TheVariants.{Dynamic}
 use Rattle.linker_output.specs.declared.layout.SymbolPlace.TheVariants.{SmallData}
@@ -45,6 +46,8 @@ riscv_output =
             thread_offset = kind 11 (codes "R_RISCV_TLS_TPREL64");
             descriptor = Some (kind 12 (codes "R_RISCV_TLSDESC"));
           };
+      -- DT_RISCV_VARIANT_CC
+      dynamic_tags = tag 0x70000001 VariantCalls ∷ [];
       thread_pointer = BelowImage 0 0;
       module_bias = 0x800;
       got = record { header = Some Dynamic; bias = 0 };

@@ -13,9 +13,14 @@ use Rattle.linker_output.specs.declared.flags.FlagRules.{FlagRules}
 use Rattle.linker_output.specs.declared.layout.CodeUnit.{CodeUnit}
 use Rattle.linker_output.specs.declared.layout.SymbolPlace.{SymbolPlace}
 use Rattle.linker_output.specs.declared.stubs.StubField.{StubField}
+use Rattle.linker_output.specs.declared.tags.DynamicTag.{DynamicTag}
+use Rattle.linker_output.specs.declared.tags.TagRule.{TagRule}
 
 abbrev pub kind : ℕ → List ℕ → DynamicKind
 kind code name = record { code = code; name = name }
+
+abbrev pub tag : ℕ → TagRule → DynamicTag
+tag number rule = record { tag = number; rule = rule }
 
 abbrev pub kind_of : ElfName → DynamicKind
 kind_of name = kind (code_of name) (text_of name)

@@ -22,6 +22,7 @@ use Rattle.linker_output.specs.declared.stubs.StubKind.TheVariants.{Load, Jump}
 use Rattle.linker_output.specs.declared.stubs.StubKind.TheVariants.{Far, FarRelative, LandingLoad}
 use Rattle.linker_output.specs.declared.stubs.StubKind.TheVariants.{TocLoad, TocFar}
 use Rattle.linker_output.specs.declared.stubs.StubKind.TheVariants.{PrefixedLoad, PrefixedJump}
+use Rattle.linker_output.specs.declared.tags.DynamicTag.{DynamicTag}
 use Rattle.linker_output.specs.declared.description.Target.{Target}
 use Rattle.linker_elf.specs.declared.elf.architecture.Architecture.{Architecture}
 
@@ -34,6 +35,7 @@ pub record Symbol : Type 0 where
 -- what an architecture's psABI, or its linkers, lay down for an output
 pub record Description : Type 0 where
   pub dynamic : DynamicKinds
+  pub dynamic_tags : List DynamicTag
   pub thread_pointer : ThreadPointer
   pub module_bias : ℕ
   pub got : GotLayout
@@ -150,6 +152,7 @@ abbrev pub view : Target → Description
 view t =
     record {
       dynamic = view_types t.dynamic;
+      dynamic_tags = t.dynamic_tags.now;
       thread_pointer = t.thread_pointer;
       module_bias = t.module_bias;
       got = t.got;

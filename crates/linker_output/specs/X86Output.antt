@@ -26,6 +26,7 @@ x86_64_output =
             thread_offset = kind_of (x86_64_name r.R_X86_64_TPOFF64);
             descriptor = Some (kind 36 (codes "R_X86_64_TLSDESC"));
           };
+      dynamic_tags = [];
       thread_pointer = AboveImage;
       module_bias = 0;
       got = record { header = None; bias = 0 };
@@ -40,7 +41,7 @@ x86_64_output =
       interpreter_flags = 0;
       paths = only (codes "/lib64/ld-linux-x86-64.so.2");
       -- GNU_PROPERTY_X86_FEATURE_1_AND, and its bit IBT
-      landing_property = Some (record { kind = 0xc0000002; bit = 1; plt_tag = None });
+      landing_property = Some (record { kind = 0xc0000002; bit = 1 });
       instructions = X86_64;
       -- `jmp *word(%rip)`, of which the field is relative to the next instruction, and 2 of `int3`
       load_stub =

@@ -11,6 +11,7 @@ use crate::got::{GotLayout, ThreadPointer};
 use crate::layout::{CodeUnit, Interpreter, ProvidedSymbol, SaveRestoreRoutines};
 use crate::properties::LandingProperty;
 use crate::stubs::Stub;
+use crate::tags::DynamicTag;
 use linker_elf::elf::architecture::by_architecture;
 use linker_utils::elf::Architecture;
 
@@ -28,6 +29,8 @@ macro_rules! target_of {
 pub struct Target {
     /// The dynamic relocations.
     pub dynamic: DynamicTypes,
+    /// The tags that only its dynamic sections have.
+    pub dynamic_tags: &'static [DynamicTag],
     /// Where the thread pointer is.
     pub thread_pointer: ThreadPointer,
     /// How far above the TLS image the address is that offsets in a module's block count from.

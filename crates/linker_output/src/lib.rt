@@ -24,4 +24,5 @@ pub mod relr;
 mod riscv64;
 pub mod routes;
 pub mod stubs;
+pub mod tags;
 mod x86_64;

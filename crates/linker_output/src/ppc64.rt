@@ -10,6 +10,7 @@ use crate::layout::{
     Interpreter, ProvidedSymbol, RunWord, SaveRestoreRoutines, SymbolPlace, WORDS,
 };
 use crate::stubs::{Stub, StubField, field};
+use crate::tags::{DynamicTag, TagRule, tag};
 use linker_utils::elf::{AllowedRange, Architecture};
 
 /// `std 0, 16(1)`.
@@ -136,6 +137,10 @@ pub(crate) static TARGET: Target = Target {
         thread_offset: named!(73, "R_PPC64_TPREL64"),
         descriptor: None,
     },
+    dynamic_tags: &[
+        tag!(0x7000_0000, LazyPlt), // DT_PPC64_GLINK
+        tag!(0x7000_0003, Options), // DT_PPC64_OPT
+    ],
     thread_pointer: ThreadPointer::BelowImage {
         reserved: 0,
         bias: 0x7000,

@@ -68,8 +68,6 @@ pub struct LandingProperty {
     pub kind: u32,
     /// The bit, as a mask of the property's value.
     pub bit: u64,
-    /// The tag of `.dynamic` that says so of the PLT, with the value 0: `DT_AARCH64_BTI_PLT`.
-    pub plt_tag: Option<u64>,
 }
 
 /// Why properties aren't read, merged or written.

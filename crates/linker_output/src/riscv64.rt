@@ -6,6 +6,7 @@ use crate::flags::FlagRules;
 use crate::got::{GotHeader, GotLayout, ThreadPointer};
 use crate::layout::{CodeUnit, Interpreter, ProvidedSymbol, SymbolPlace};
 use crate::stubs::{Stub, StubField, field};
+use crate::tags::{DynamicTag, TagRule, tag};
 use linker_utils::elf::{AllowedRange, Architecture};
 
 /// The description.
@@ -22,6 +23,9 @@ pub(crate) static TARGET: Target = Target {
         thread_offset: named!(11, "R_RISCV_TLS_TPREL64"),
         descriptor: Some(named!(12, "R_RISCV_TLSDESC")),
     },
+    dynamic_tags: &[
+        tag!(0x7000_0001, VariantCalls), // DT_RISCV_VARIANT_CC
+    ],
     thread_pointer: ThreadPointer::BelowImage {
         reserved: 0,
         bias: 0,

@@ -16,6 +16,7 @@ use Rattle.linker_output.specs.declared.stubs.StubKind.TheVariants.{Load, Jump}
 use Rattle.linker_output.specs.declared.stubs.StubKind.TheVariants.{Far, FarRelative, LandingLoad}
 use Rattle.linker_output.specs.declared.stubs.StubKind.TheVariants.{TocLoad, TocFar}
 use Rattle.linker_output.specs.declared.stubs.StubKind.TheVariants.{PrefixedLoad, PrefixedJump}
+use Rattle.linker_output.specs.declared.tags.DynamicEntry.{DynamicEntry}
 use Rattle.linker_section.specs.declared.needed.EntryClass.{EntryClass}
 use Rattle.linker_section.specs.declared.needed.EntryClass.TheVariants.{Address, ThreadOffset}
 use Rattle.linker_section.specs.declared.needed.EntryClass.TheVariants.{ModuleOffset, Module}
@@ -124,6 +125,11 @@ AreFlagsReturned None old new status = (status ≡ code DifferentFlags) × (new 
 AreFlagsReturned (Some flags) old new status = (status ≡ code Success) × (new ≡ flags)
 
 -- ---- what linkers provide
+
+-- an entry of the dynamic section
+abbrev pub IsEntryReturned : Option DynamicEntry → DynamicEntry → DynamicEntry → ℕ → Type 0
+IsEntryReturned None old new status = (status ≡ code NotProvided) × (new ≡ old)
+IsEntryReturned (Some entry) old new status = (status ≡ code Success) × (new ≡ entry)
 
 abbrev pub place_number : SymbolPlace → ℕ
 place_number ThreadLocal = 0

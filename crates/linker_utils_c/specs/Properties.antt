@@ -8,7 +8,6 @@ use Rattle.linker_output.specs.declared.properties.Property.{Property}
 use Rattle.linker_output.specs.declared.properties.PropertyError.{PropertyError}
 use Rattle.linker_output.specs.declared.properties.PropertyError.TheVariants as errors
 use Rattle.linker_elf.specs.declared.elf.architecture.Architecture.{Architecture}
-use Rattle.linker_utils_c.specs.Output.{number_or_none}
 use Rattle.linker_utils_c.specs.Status.{code}
 use Rattle.linker_utils_c.specs.declared.properties.LandingNumbers.{LandingNumbers}
 use Rattle.linker_utils_c.specs.declared.status.Status.{Status}
@@ -79,12 +78,7 @@ IsNoteWritten architecture properties before =
 
 -- what says that code is protected
 abbrev pub landing_numbers : LandingProperty → LandingNumbers
-landing_numbers landing =
-    record {
-      bit = landing.bit;
-      plt_tag = number_or_none landing.plt_tag;
-      kind = landing.kind;
-    }
+landing_numbers landing = record { bit = landing.bit; kind = landing.kind }
 
 abbrev pub IsLandingReturned : Option LandingProperty → LandingNumbers → LandingNumbers → ℕ → Type 0
 IsLandingReturned None old new status = (status ≡ code NotProvided) × (new ≡ old)

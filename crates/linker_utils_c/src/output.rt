@@ -9,6 +9,7 @@ ghost use Rattle.linker_output.specs.Dynamic.{name_of, dynamic_words};
 ghost use Rattle.linker_output.specs.Flags.{joined_flags};
 ghost use Rattle.linker_output.specs.Got.{origins_of, entry_words, static_words, got_header_of};
 ghost use Rattle.linker_output.specs.Layout.{unit_by, path_of};
+ghost use Rattle.linker_output.specs.Tags.{entries};
 ghost use Rattle.linker_output.specs.Targets.{target_of};
 ghost use Rattle.linker_output.specs.View.{view};
 ghost use Rattle.linker_elf.specs.Machines.{architecture_of};
@@ -18,7 +19,7 @@ ghost use Rattle.linker_utils_c.specs.Output.{place_number, IsTextReturned, IsHe
 ghost use Rattle.linker_utils_c.specs.Output.{AreWordsReturned, AreStaticReturned};
 ghost use Rattle.linker_utils_c.specs.Output.{AreFlagsReturned, IsSymbolReturned, IsRunReturned};
 ghost use Rattle.linker_utils_c.specs.Output.{IsWordReturned, IsStubReturned, IsStubWritten};
-ghost use Rattle.linker_utils_c.specs.Output.{entry_words_of, IsFoundWord};
+ghost use Rattle.linker_utils_c.specs.Output.{entry_words_of, IsFoundWord, IsEntryReturned};
 ghost use Rattle.linker_utils_c.specs.Relocations.{IsCopied};
 ghost use Rattle.linker_utils_c.specs.Status.{code};
 
@@ -28,6 +29,7 @@ use linker_output::description::Target;
 use linker_output::got::{Origins, entry_words, static_words};
 use linker_output::layout::SymbolPlace;
 use linker_output::stubs::{StubError, StubKind};
+use linker_output::tags::{DynamicEntry, DynamicFacts};
 use linker_section::needed::EntryClass;
 use linker_utils::elf::Architecture;
 
@@ -518,6 +520,34 @@ pub extern "C" fn linker_utils_entry_relocation(
     match Target::of(architecture).entry_code(r_type) {
         Some(found) => {
             *entry_type = found;
+            Status::Success.number()
+        }
+        None => Status::NotProvided.number(),
+    }
+}
+
+/// Writes the entry with an index, of those that an output's dynamic section has by the
+/// architecture's psABI. The first that applies of `UnknownArchitecture`; `NotProvided`, of an
+/// index that is too large.
+#[unsafe(no_mangle)]
+pub extern "C" fn linker_utils_get_dynamic_entry(
+    machine: u16,
+    facts: &DynamicFacts,
+    index: usize,
+    entry: &mut DynamicEntry,
+) -> u32
+    ensures known { IfSome (architecture_of machine) (λ architecture. IsEntryReturned
+        (slice_get (entries (target_of architecture).dynamic_tags facts.now) index) entry.old
+        entry.new result) }
+    ensures unknown { IfNone (architecture_of machine)
+        ((result ≡ code Status.UnknownArchitecture) × (entry.new ≡ entry.old)) }
+{
+    let Some(architecture) = Architecture::from_machine(machine) else {
+        return Status::UnknownArchitecture.number();
+    };
+    match Target::of(architecture).dynamic_entry(facts, index) {
+        Some(found) => {
+            *entry = found;
             Status::Success.number()
         }
         None => Status::NotProvided.number(),

@@ -21,8 +21,6 @@ use linker_utils::elf::Architecture;
 pub struct LandingNumbers {
     /// The bit, as a mask of the property's value.
     pub bit: u64,
-    /// The tag of `.dynamic` that says so of the PLT; 0 where there is none.
-    pub plt_tag: u64,
     /// The property's type.
     pub kind: u32,
 }
@@ -153,10 +151,6 @@ pub extern "C" fn linker_utils_get_landing_property(
     };
     *landing = LandingNumbers {
         bit: property.bit,
-        plt_tag: match property.plt_tag {
-            Some(tag) => tag,
-            None => 0,
-        },
         kind: property.kind,
     };
     Status::Success.number()

@@ -33,6 +33,8 @@ use linker_utils::elf::RewriteWindow;
 use linker_utils::relaxation::BlockHead;
 use linker_utils::relaxation::RelaxDelta;
 use linker_utils::riscv64::Call;
+use linker_utils::source::output::DynamicEntry;
+use linker_utils::source::output::DynamicFacts;
 use linker_utils::source::output::LazyEntry;
 use linker_utils::source::output::Origins;
 use linker_utils::source::output::Property;
@@ -1020,6 +1022,24 @@ unsafe extern "C" fn linker_utils_entry_relocation(
             machine,
             r_type,
             &mut *entry_type,
+        )
+    }
+}
+
+#[unsafe(no_mangle)]
+unsafe extern "C" fn linker_utils_get_dynamic_entry(
+    machine: u16,
+    facts: *const DynamicFacts,
+    index: usize,
+    entry: *mut DynamicEntry,
+) -> u32 {
+    // SAFETY: the arguments are as the head of the header says.
+    unsafe {
+        crate::output::linker_utils_get_dynamic_entry(
+            machine,
+            &*facts,
+            index,
+            &mut *entry,
         )
     }
 }

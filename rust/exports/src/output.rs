@@ -9,6 +9,7 @@ use linker_utils::source::output::Target;
 use linker_utils::source::output::{Origins, entry_words, static_words};
 use linker_utils::source::output::SymbolPlace;
 use linker_utils::source::output::{StubError, StubKind};
+use linker_utils::source::output::{DynamicEntry, DynamicFacts};
 use linker_utils::source::section::EntryClass;
 use linker_utils::elf::Architecture;
 
@@ -393,6 +394,27 @@ pub fn linker_utils_entry_relocation(
     match Target::of(architecture).entry_code(r_type) {
         Some(found) => {
             *entry_type = found;
+            Status::Success.number()
+        }
+        None => Status::NotProvided.number(),
+    }
+}
+
+/// Writes the entry with an index, of those that an output's dynamic section has by the
+/// architecture's psABI. The first that applies of `UnknownArchitecture`; `NotProvided`, of an
+/// index that is too large.
+pub fn linker_utils_get_dynamic_entry(
+    machine: u16,
+    facts: &DynamicFacts,
+    index: usize,
+    entry: &mut DynamicEntry,
+) -> u32 {
+    let Some(architecture) = Architecture::from_machine(machine) else {
+        return Status::UnknownArchitecture.number();
+    };
+    match Target::of(architecture).dynamic_entry(facts, index) {
+        Some(found) => {
+            *entry = found;
             Status::Success.number()
         }
         None => Status::NotProvided.number(),

@@ -9,6 +9,7 @@ use crate::linker_output::got::{GotLayout, ThreadPointer};
 use crate::linker_output::layout::{Interpreter, WORDS};
 use crate::linker_output::properties::LandingProperty;
 use crate::linker_output::stubs::{Stub, StubField, field};
+use crate::linker_output::tags::{DynamicTag, TagRule, tag};
 use crate::elf::{AllowedRange, Architecture};
 
 /// The stub to the address that a word has, after other code of a length.
@@ -46,6 +47,11 @@ pub(crate) static TARGET: Target = Target {
         thread_offset: named!(1030, "R_AARCH64_TLS_TPREL"),
         descriptor: Some(named!(1031, "R_AARCH64_TLSDESC")),
     },
+    dynamic_tags: &[
+        tag!(0x7000_0001, LandingPlt), // DT_AARCH64_BTI_PLT
+        tag!(0x7000_0003, SignedPlt), // DT_AARCH64_PAC_PLT
+        tag!(0x7000_0005, VariantCalls), // DT_AARCH64_VARIANT_PCS
+    ],
     thread_pointer: ThreadPointer::BelowImage {
         reserved: 16,
         bias: 0,
@@ -71,11 +77,10 @@ pub(crate) static TARGET: Target = Target {
         flags: 0,
         path: "/lib/ld-linux-aarch64.so.1",
     }],
-    // GNU_PROPERTY_AARCH64_FEATURE_1_AND, its bit BTI, and DT_AARCH64_BTI_PLT
+    // GNU_PROPERTY_AARCH64_FEATURE_1_AND, and its bit BTI
     landing_property: Some(LandingProperty {
         kind: 0xc000_0000,
         bit: 1,
-        plt_tag: Some(0x7000_0001),
     }),
     instructions: Architecture::AArch64,
     load_stub: load_stub!(&[], 0),

@@ -9,6 +9,7 @@ use crate::linker_output::got::{GotLayout, ThreadPointer};
 use crate::linker_output::layout::{CodeUnit, Interpreter, ProvidedSymbol, SaveRestoreRoutines};
 use crate::linker_output::properties::LandingProperty;
 use crate::linker_output::stubs::Stub;
+use crate::linker_output::tags::DynamicTag;
 use crate::linker_elf::elf::architecture::by_architecture;
 use crate::elf::Architecture;
 
@@ -26,6 +27,8 @@ macro_rules! target_of {
 pub struct Target {
     /// The dynamic relocations.
     pub dynamic: DynamicTypes,
+    /// The tags that only its dynamic sections have.
+    pub dynamic_tags: &'static [DynamicTag],
     /// Where the thread pointer is.
     pub thread_pointer: ThreadPointer,
     /// How far above the TLS image the address is that offsets in a module's block count from.

@@ -24,6 +24,7 @@ pub(crate) static TARGET: Target = Target {
         thread_offset: named!(11, "R_LARCH_TLS_TPREL64"),
         descriptor: Some(named!(14, "R_LARCH_TLS_DESC64")),
     },
+    dynamic_tags: &[],
     thread_pointer: ThreadPointer::BelowImage {
         reserved: 0,
         bias: 0,

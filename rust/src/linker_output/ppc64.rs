@@ -12,6 +12,7 @@ use crate::linker_output::layout::{
     Interpreter, ProvidedSymbol, RunWord, SaveRestoreRoutines, SymbolPlace, WORDS,
 };
 use crate::linker_output::stubs::{Stub, StubField, field};
+use crate::linker_output::tags::{DynamicTag, TagRule, tag};
 use crate::elf::{AllowedRange, Architecture};
 
 /// `std 0, 16(1)`.
@@ -138,6 +139,10 @@ pub(crate) static TARGET: Target = Target {
         thread_offset: named!(73, "R_PPC64_TPREL64"),
         descriptor: None,
     },
+    dynamic_tags: &[
+        tag!(0x7000_0000, LazyPlt), // DT_PPC64_GLINK
+        tag!(0x7000_0003, Options), // DT_PPC64_OPT
+    ],
     thread_pointer: ThreadPointer::BelowImage {
         reserved: 0,
         bias: 0x7000,

@@ -8,6 +8,7 @@ use crate::linker_output::flags::FlagRules;
 use crate::linker_output::got::{GotHeader, GotLayout, ThreadPointer};
 use crate::linker_output::layout::{CodeUnit, Interpreter, ProvidedSymbol, SymbolPlace};
 use crate::linker_output::stubs::{Stub, StubField, field};
+use crate::linker_output::tags::{DynamicTag, TagRule, tag};
 use crate::elf::{AllowedRange, Architecture};
 
 /// The description.
@@ -24,6 +25,9 @@ pub(crate) static TARGET: Target = Target {
         thread_offset: named!(11, "R_RISCV_TLS_TPREL64"),
         descriptor: Some(named!(12, "R_RISCV_TLSDESC")),
     },
+    dynamic_tags: &[
+        tag!(0x7000_0001, VariantCalls), // DT_RISCV_VARIANT_CC
+    ],
     thread_pointer: ThreadPointer::BelowImage {
         reserved: 0,
         bias: 0,

@@ -25,6 +25,7 @@ pub(crate) static TARGET: Target = Target {
         thread_offset: named!(18, "R_X86_64_TPOFF64"),
         descriptor: Some(named!(36, "R_X86_64_TLSDESC")),
     },
+    dynamic_tags: &[],
     thread_pointer: ThreadPointer::AboveImage,
     module_bias: 0,
     got: GotLayout {
@@ -59,7 +60,6 @@ pub(crate) static TARGET: Target = Target {
     landing_property: Some(LandingProperty {
         kind: 0xc000_0002,
         bit: 1,
-        plt_tag: None,
     }),
     instructions: Architecture::X86_64,
     load_stub: Stub {

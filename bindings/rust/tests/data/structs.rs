@@ -100,6 +100,12 @@ layout! {
     "linker_utils_word_types": raw::WordTypes {
         first, second,
     }
+    "linker_utils_dynamic_facts": raw::DynamicFacts {
+        first_entry, options, has_lazy_plt, has_landing_plt, has_signed_plt, has_variant_calls,
+    }
+    "linker_utils_dynamic_entry": raw::DynamicEntry {
+        tag, value,
+    }
     "linker_utils_provided_symbol": raw::ProvidedSymbol {
         offset, place,
     }
@@ -110,7 +116,7 @@ layout! {
         kind, value, version,
     }
     "linker_utils_landing_property": raw::LandingProperty {
-        bit, plt_tag, kind,
+        bit, kind,
     }
     "linker_utils_lazy_plt": raw::LazyPlt {
         header_len, entry_len, alignment, header_words,
