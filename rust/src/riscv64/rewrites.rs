@@ -165,8 +165,8 @@ impl RewriteKind {
     /// # Requires
     ///
     /// - `self.can_apply(section_bytes, *offset_in_section)`
+    #[inline]
     #[cfg_attr(debug_assertions, track_caller)]
-    #[inline(always)]
     pub fn apply(self, section_bytes: &mut [u8], offset_in_section: &mut u64, addend: &mut i64) {
         debug_assert!(self.can_apply(section_bytes, *offset_in_section));
         let _ = addend;
@@ -198,8 +198,8 @@ impl RewriteKind {
     /// stores, which add the low part, `LdToAddi` and `LdToAddiZero` for `ld`, and `AuipcToLui` for
     /// `auipc`. The instructions of a TLS descriptor are `addi a0, rs1` and `jalr t0, 0(rs1)`.
     /// `CLuiToCLi` needs only two bytes.
+    #[inline]
     #[must_use]
-    #[inline(always)]
     pub fn matches(self, section: &[u8], offset: u64) -> bool {
         rewrites!(self, row => row.is_for(section, offset))
     }

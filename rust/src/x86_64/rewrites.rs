@@ -546,8 +546,8 @@ impl RewriteKind {
 
     /// Whether `apply` may be called at an offset of a section: the bytes that it rewrites lie in
     /// the section. The instruction is not tested.
+    #[inline]
     #[must_use]
-    #[inline(always)]
     pub fn can_apply(self, section: &[u8], offset: u64) -> bool {
         rewrites!(self => [can section offset])
     }
@@ -583,7 +583,7 @@ impl RewriteKind {
     }
 
     /// `matches`, where the caller knows the rewrite.
-    #[inline(always)]
+    #[inline]
     pub(super) fn matches_inline(self, section: &[u8], offset: u64) -> bool {
         self.can_apply(section, offset) && self.is_for(section, offset)
     }
