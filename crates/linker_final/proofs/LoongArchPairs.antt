@@ -1,17 +1,13 @@
 -- The relocations of a load from the GOT of LoongArch stand next to each other, and both are
 -- rewritten.
-use Rattle.std.proofs.Common.{◌≡◌, ℕ, suc, ◌∙◌, ◌+◌, ◌-◌, ◌/◌, ◌<◌, ltb, inl, inr, List, length, ap, sym, subst, arith, refl, Bool, true, false, Option, Some, None}
-use Rattle.std.specs.Prelude.{◌&&◌, ◌==◌, nat_le}
-use Rattle.std.specs.Ordering.{int_eq}
-use Rattle.std.proofs.lemmas.Bool.{eqb-true, lt-ltb, le-ltb, cond-true, cond-false, and_parts, cases_lt, cases_Bool}
-use Rattle.std.proofs.lemmas.Bool.Decides.{Decides-int_eq}
+use Rattle.std.proofs.Common.{◌≡◌, ℕ, suc, ◌∙◌, ◌+◌, ◌-◌, ◌<◌, inl, inr, List, ap, sym, subst, arith, refl, true, false, Option, Some, None}
+use Rattle.std.proofs.lemmas.Bool.{cases_Bool}
 use Rattle.linker_elf.specs.ElfNames.{IsNamed, IsNameOf, code_of}
 use Rattle.linker_elf.specs.LoongArchRelocations.{loongarch_name}
 use Rattle.linker_elf.specs.declared.elf.choice.Choice.{Choice}
 use Rattle.linker_elf.specs.declared.elf.choice.LinkFacts.{LinkFacts}
 use Rattle.linker_elf.specs.declared.loongarch64.relocations.LoongArch64Relocation.{LoongArch64Relocation}
 use Rattle.linker_elf.specs.declared.loongarch64.relocations.LoongArch64Relocation.TheVariants as names
-use Rattle.linker_rewriting.proofs.PreLayout.{isnt}
 use Rattle.linker_final.specs.Final.{Linked, count}
 use Rattle.linker_rewriting.proofs.LoongArchLoads.{loads_are_whole}
 use Rattle.linker_rewriting.specs.Candidates.{IsCandidate, IsCandidateWith}
@@ -19,11 +15,12 @@ use Rattle.linker_rewriting.specs.Decisions.{AreDecidedIn, IsDecidedAfter, IsDec
 use Rattle.linker_rewriting.specs.Facts.{RelaxContext, pre_layout, link_facts}
 use Rattle.linker_rewriting.specs.Groups.{IsScopeIn, loongarch_scope_in}
 use Rattle.linker_rewriting.specs.Rewritten.{IsLoadAt, IsRewritten}
-use Rattle.linker_rewriting.specs.Sequences.{IsWhole, is_load_at, is_loongarch_part, is_mark_of, is_marked_in, is_marked_load, is_part, mark_code, place_in_load}
+use Rattle.linker_rewriting.proofs.SequenceMembers.{among, are_there}
+use Rattle.linker_rewriting.specs.Sequences.{are_members, is_marked_in, is_whole, marked_load}
 use Rattle.linker_rewriting.specs.declared.decisions.Decision.{Decision}
 use Rattle.linker_rewriting.specs.declared.decisions.Decision.TheVariants.{Kept, Rewritten, Consumed}
 use Rattle.linker_rewriting.specs.declared.phases.Phase.TheVariants.{PreLayout}
-use Rattle.linker_section.specs.Relocations.{relocation_at, relocation_in}
+use Rattle.linker_section.specs.Relocations.{relocation_in}
 use Rattle.linker_section.specs.declared.relocations.Rela.{Rela}
 use Rattle.linker_utils.specs.declared.architecture.Relaxation.{Relaxation}
 use Rattle.linker_elf.specs.declared.elf.architecture.Architecture.TheVariants.{LoongArch64}
@@ -45,92 +42,17 @@ pub record AreOfLoad (l : Linked) (i j : ℕ) : Type 0 where
 
 -- ---- the relocations of a load
 
-there : (bytes : List ℕ) (n : ℕ) → n < length bytes / 24
-    → relocation_at bytes n ≡ Some (relocation_in bytes n)
-there bytes n within =
-    cond-true (ltb n (length bytes / 24)) (Some (relocation_in bytes n)) None
-    (lt-ltb n (length bytes / 24) within)
-
--- a test of what is at an index holds of nothing else
-inside : (bytes : List ℕ) (n : ℕ) (test : Option Rela → Bool) → test None ≡ false
-    → test (relocation_at bytes n) ≡ true → n < length bytes / 24
-inside bytes n test none is =
-    elim (cases_lt n (length bytes / 24)) [
-      | inl within ↦ within
-      | inr past ↦
-          let missing : relocation_at bytes n ≡ None =
-          cond-false (ltb n (length bytes / 24)) (Some (relocation_in bytes n)) None
-          (le-ltb n (length bytes / 24) past) in
-          isnt (test None) none (sym (ap test missing) ∙ is)
-    ]
-
-record IsPart (code offset : ℕ) (one part : Rela) : Type 0 where
-  pub offset_is : part.offset ≡ offset
-  pub code_is : part.code ≡ code
-  pub symbol_is : part.symbol ≡ one.symbol
-  pub addend_is : part.addend ≡ one.addend
-
-part_is : (code offset distance : ℕ) (one part : Rela)
-    → is_part code offset distance one (Some part) ≡ true → IsPart code (offset + distance) one part
-part_is code offset distance one part is =
-    let a = and_parts (part.offset == offset + distance) ((part.code == code) && ((part.symbol == one.symbol) && int_eq part.addend one.addend)) is in
-    let b = and_parts (part.code == code) ((part.symbol == one.symbol) && int_eq part.addend one.addend) (a.1) in
-    let c = and_parts (part.symbol == one.symbol) (int_eq part.addend one.addend) (b.1) in
-    record {
-      offset_is = eqb-true part.offset (offset + distance) (a.0);
-      code_is = eqb-true part.code code (b.0);
-      symbol_is = eqb-true part.symbol one.symbol (c.0);
-      addend_is = (Decides-int_eq part.addend one.addend).0 (c.1);
-    }
-
-record IsLoad (bytes : List ℕ) (n : ℕ) : Type 0 where
-  pub all : IsLoadAt bytes n
-  pub mark_code_is : (relocation_in bytes (n + 1)).code ≡ code_of (loongarch_name names.R_LARCH_RELAX)
-  pub within : n + 2 < length bytes / 24
-  pub low : IsPart (code_of (loongarch_name names.R_LARCH_GOT_PC_LO12)) ((relocation_in bytes n).offset + 4)
-      (relocation_in bytes n) (relocation_in bytes (n + 2))
-
-load_is : (bytes : List ℕ) (n : ℕ) → IsLoadAt bytes n → IsLoad bytes n
-load_is bytes n is =
-    let one = relocation_in bytes n in
-    let mine = relocation_in bytes (n + 1) in
-    let code = code_of (loongarch_name names.R_LARCH_RELAX) in
-    let first : Bool = is_loongarch_part names.R_LARCH_GOT_PC_HI20 one.offset 0 one (relocation_at bytes n) in
-    let mark : Bool = is_mark_of (mark_code LoongArch64) one.offset 0 (relocation_at bytes (n + 1)) in
-    let second : Bool = is_loongarch_part names.R_LARCH_GOT_PC_LO12 one.offset 4 one (relocation_at bytes (n + 2)) in
-    let last : Bool = is_mark_of (mark_code LoongArch64) one.offset 4 (relocation_at bytes (n + 3)) in
-    let a = and_parts first (mark && (second && last)) is in
-    let b = and_parts mark (second && last) (a.1) in
-    let c = and_parts second last (b.1) in
-    let within : n + 2 < length bytes / 24 =
-    inside bytes (n + 2) (is_loongarch_part names.R_LARCH_GOT_PC_LO12 one.offset 4 one) refl (c.0) in
-    let marked : is_mark_of (mark_code LoongArch64) one.offset 0 (Some mine) ≡ true =
-    subst (λ x. is_mark_of (mark_code LoongArch64) one.offset 0 x ≡ true) (there bytes (n + 1) (omega (arith, within))) (b.0) in
-    let m = and_parts (mine.offset == one.offset + 0) (mine.code == code) marked in
-    record {
-      all = is;
-      mark_code_is = eqb-true mine.code code (m.1);
-      within = within;
-      low = part_is (code_of (loongarch_name names.R_LARCH_GOT_PC_LO12)) one.offset 4 one (relocation_in bytes (n + 2))
-          (subst (λ x. is_part (code_of (loongarch_name names.R_LARCH_GOT_PC_LO12)) one.offset 4 one x ≡ true)
-          (there bytes (n + 2) within) (c.0));
-    }
-
 -- the first of a sequence that is whole is that of a load
 whole_is : (bytes : List ℕ) (n : ℕ)
     → IsNameOf loongarch_name (relocation_in bytes n).code names.R_LARCH_GOT_PC_HI20
-    → IsWhole LoongArch64 bytes n (relocation_in bytes n) true → IsLoadAt bytes n
+    → is_whole LoongArch64 bytes n (relocation_in bytes n) ≡ true → IsLoadAt bytes n
 whole_is bytes n is_name whole =
     let r = relocation_in bytes n in
-    let same : (whole.1).name ≡ names.R_LARCH_GOT_PC_HI20 = (whole.1).is_name.named names.R_LARCH_GOT_PC_HI20 tt is_name.code_is in
-    let place : whole.0 ≡ Some 0 = (whole.1).value_is ∙ ap place_in_load same in
-    let is : is_load_at bytes n r (Some 0) ≡ true = sym (whole.2 ∙ ap (is_load_at bytes n r) place) in
-    let a = and_parts (nat_le 0 n) (nat_le 0 r.offset && is_marked_load bytes (n - 0) (r.offset - 0) r) is in
-    let b = and_parts (nat_le 0 r.offset) (is_marked_load bytes (n - 0) (r.offset - 0) r) (a.1) in
+    let all = among marked_load 0 0 bytes n r (ap (λ c. is_whole LoongArch64 bytes n (record r { code = c })) is_name.code_is ∙ whole) in
     let first : n - 0 ≡ n = omega arith in
     let offset : r.offset - 0 ≡ r.offset = omega arith in
-    subst (λ k. is_marked_load bytes n k r ≡ true) offset
-    (subst (λ k. is_marked_load bytes k (r.offset - 0) r ≡ true) first (b.1))
+    subst (λ k. are_members marked_load bytes n 0 k r ≡ true) offset
+    (subst (λ k. are_members marked_load bytes k 0 (r.offset - 0) r ≡ true) first (all.1))
 
 -- ---- decisions
 
@@ -185,12 +107,12 @@ module _ (l : Linked) (all : AreDecidedIn l.context l.kept l.relocations l.secti
 -- a candidate's sequence is whole
 whole_with : (s : RelaxContext) (bytes section : List ℕ) (n : ℕ) (r : Rela) (chosen : Choice Relaxation ℕ)
     (facts : Option LinkFacts) → IsCandidateWith s bytes section n r facts (Some chosen)
-    → IsWhole s.architecture bytes n r true
+    → is_whole s.architecture bytes n r ≡ true
 whole_with s bytes section n r chosen None is = absurd (let e : Some chosen ≡ None = is in cc)
 whole_with s bytes section n r chosen (Some facts) is = is.3
 
 whole_of : (s : RelaxContext) (bytes section : List ℕ) (n : ℕ) (r : Rela) (chosen : Choice Relaxation ℕ)
-    → IsCandidate s bytes section n r (Some chosen) → IsWhole s.architecture bytes n r true
+    → IsCandidate s bytes section n r (Some chosen) → is_whole s.architecture bytes n r ≡ true
 whole_of s bytes section n r chosen =
     whole_with s bytes section n r chosen
     (link_facts s.phase s.output s.symbols s.addresses s.values r r (is_marked_in s.phase s.architecture bytes n r))
@@ -219,29 +141,30 @@ load_of l all context i chosen below is_name decided =
     let taken : is_taken l.decisions i ≡ false = rewritten_alone l all context i below chosen decided in
     let page = by_scope l all context i below names.R_LARCH_GOT_PC_HI20 tt (sym is_name.code_is) taken in
     let page_made = of_candidate (decision_at l.decisions i) (page.1.0) (page.1.2) (subst IsRewritten (sym decided) tt) in
-    let whole : IsWhole l.context.architecture l.relocations i r true =
+    let whole : is_whole l.context.architecture l.relocations i r ≡ true =
     whole_of l.context l.relocations l.section i r page_made.chosen
     (subst (IsCandidate l.context l.relocations l.section i r) page_made.candidate_is (page.1.1)) in
-    let load = load_is l.relocations i
-    (whole_is l.relocations i is_name (subst (λ x. IsWhole x l.relocations i r true) loongarch whole)) in
-    let within = load.within in
+    let is = whole_is l.relocations i is_name (subst (λ x. is_whole x l.relocations i r ≡ true) loongarch whole) in
+    let load = are_there marked_load r.offset r l.relocations i 0 is in
+    let second = load.1.1.0 in
+    let within = second.below in
     let mark : i + 1 < count l = omega (arith, within) in
-    let low_code = load.low.code_is in
+    let low_code = second.code_is in
     let taken_low : is_taken l.decisions (i + 2) ≡ false =
     subst (λ k. is_taken l.decisions k ≡ false) (let e : suc (i + 1) ≡ i + 2 = omega arith in e)
-    (mark_takes l all context (i + 1) mark load.mark_code_is) in
+    (mark_takes l all context (i + 1) mark (load.1.0).code_is) in
     let both = loads_are_whole l.context.output l.context.symbols l.kept l.relocations l.section l.decisions (count l) i
     (subst (λ x. AreDecidedIn x l.kept l.relocations l.section l.decisions (count l)) context all)
-    within (omega arith) load.all taken taken_low in
+    within (omega arith) is taken taken_low in
     let by = by_scope l all context (i + 2) within names.R_LARCH_GOT_PC_LO12 tt low_code taken_low in
     let made = of_candidate (decision_at l.decisions (i + 2)) (by.1.0) (by.1.2)
     (both.0 (subst IsRewritten (sym decided) tt)) in
     record {
       page_below = below;
       low_below = within;
-      next = load.low.offset_is;
-      same_symbol = load.low.symbol_is;
-      same_addend = load.low.addend_is;
+      next = second.offset_is;
+      same_symbol = (second.of refl).0;
+      same_addend = (second.of refl).1;
       page = is_name;
       low = by.0;
       page_chosen = chosen;

@@ -1,8 +1,7 @@
 -- Of a sequence of AArch64 all relocations are rewritten, or none is.
-use Rattle.std.proofs.Common.{◌≡◌, ◌≢◌, ℕ, zero, suc, ◌+◌, ◌-◌, ◌*◌, ◌/◌, ◌<◌, ◌≤◌, ltb, ◌⊎◌, inl, inr, List, length, ap, sym, subst, ◌∙◌, arith, refl, Bool, true, false, Option, Some, None, slice_get}
-use Rattle.std.specs.Prelude.{◌&&◌, nat_le, is_some, ⊤, pos}
-use Rattle.std.specs.Ordering.{int_eq}
-use Rattle.std.proofs.lemmas.Bool.{and_parts, cases_Bool, cond-true, cond-false, leb-true, ltb-true}
+use Rattle.std.proofs.Common.{◌≡◌, ◌≢◌, ℕ, zero, suc, ◌+◌, ◌-◌, ◌/◌, ◌<◌, ◌≤◌, ltb, ◌⊎◌, inl, inr, List, length, ap, sym, subst, ◌∙◌, arith, refl, Bool, true, false, Option, Some, None, slice_get}
+use Rattle.std.specs.Prelude.{◌&&◌, is_some, ⊤}
+use Rattle.std.proofs.lemmas.Bool.{cases_Bool, cond-true, cond-false}
 use Rattle.linker_elf.specs.AArch64Relocations.{aarch64_name}
 use Rattle.linker_elf.specs.Choices.{IsBound, IsFirst, choice}
 use Rattle.linker_elf.specs.ElfNames.{IsNamed, IsNameOf, code_of}
@@ -13,16 +12,16 @@ use Rattle.linker_elf.specs.declared.elf.choice.Choice.{Choice}
 use Rattle.linker_elf.specs.declared.elf.choice.LinkFacts.{LinkFacts}
 use Rattle.linker_rewriting.proofs.Chosen.{IsChosen, chosen_at, chosen_or_labelled}
 use Rattle.linker_rewriting.proofs.Entries.{IsOfOne, of_one}
-use Rattle.linker_rewriting.proofs.LoongArchLoads.{IsPart, part_is, there}
+use Rattle.linker_rewriting.proofs.SequenceMembers.{IsThere, among, are_there, at_first, there}
 use Rattle.linker_rewriting.proofs.PreLayout.{are_early}
-use Rattle.linker_rewriting.proofs.Unique.{one_candidate, one_scope, one_whole}
+use Rattle.linker_rewriting.proofs.Unique.{one_candidate, one_scope}
 use Rattle.linker_rewriting.specs.Candidates.{IsCandidate, IsCandidateWith}
 use Rattle.linker_rewriting.specs.Decisions.{AreDecidedIn, IsDecidedAfter, IsDecidedAlone, IsScopeDecision, IsGroupDecision, IsRewrittenAlone, IsRewrittenAt, decision_ahead, decision_at, decision_of, is_taken, takes_next}
 use Rattle.linker_rewriting.specs.Facts.{RelaxContext, facts_by, facts_of, link_facts}
-use Rattle.linker_rewriting.specs.Groups.{IsScopeIn, aarch64_scope, aarch64_scope_in, group_stays}
+use Rattle.linker_rewriting.specs.Groups.{IsScopeIn, aarch64_scope_in, group_stays}
 use Rattle.linker_rewriting.specs.Rewritten.{IsAddressRewritten, IsDescriptorWhole, IsLoadRewritten, IsPartAt, IsRewrittenBy, IsWholeBy, SequencesAreWhole}
 use Rattle.linker_rewriting.specs.RiscVPcrelGroups.{is_labelled}
-use Rattle.linker_rewriting.specs.Sequences.{IsWhole, is_aarch64_part, is_descriptor, is_pair, is_part, is_whole_at, place_in}
+use Rattle.linker_rewriting.specs.Sequences.{are_members, descriptor, got_load, is_among, is_typed, is_whole, member, page_and_offset}
 use Rattle.linker_rewriting.specs.declared.decisions.Decision.{Decision}
 use Rattle.linker_rewriting.specs.declared.decisions.Decision.TheVariants.{Kept, Rewritten, Consumed, RewrittenWithSymbol}
 use Rattle.linker_rewriting.specs.declared.facts.OutputFacts.{OutputFacts}
@@ -33,7 +32,9 @@ use Rattle.linker_rewriting.specs.declared.groups.Scope.TheVariants.{NotRelaxabl
 use Rattle.linker_rewriting.specs.declared.groups.UnrelaxableGroups.{UnrelaxableGroups}
 use Rattle.linker_rewriting.specs.declared.phases.Phase.{Phase}
 use Rattle.linker_rewriting.specs.declared.phases.Phase.TheVariants as phases
-use Rattle.linker_rewriting.specs.declared.sequences.Sequence.TheVariants as sequences
+use Rattle.linker_rewriting.specs.declared.sequences.Member.{Member}
+use Rattle.linker_rewriting.specs.declared.sequences.Tie.{Tie}
+use Rattle.linker_rewriting.specs.declared.sequences.Tie.TheVariants as ties
 use Rattle.linker_section.specs.Relocations.{relocation_at, relocation_in}
 use Rattle.linker_section.specs.declared.facts.Addresses.{Addresses}
 use Rattle.linker_section.specs.declared.facts.Symbol.{Symbol}
@@ -46,33 +47,13 @@ use Rattle.linker_utils.specs.declared.architecture.Relaxation.TheVariants as re
 
 -- ---- scopes
 
-early_unlabelled : (name : AArch64Relocation) → is_labelled (aarch64_scope name) ≡ false
-early_unlabelled names.R_AARCH64_CALL26 = refl
-early_unlabelled names.R_AARCH64_JUMP26 = refl
-early_unlabelled names.R_AARCH64_TLSIE_ADR_GOTTPREL_PAGE21 = refl
-early_unlabelled names.R_AARCH64_TLSIE_LD64_GOTTPREL_LO12_NC = refl
-early_unlabelled names.R_AARCH64_TLSDESC_ADR_PAGE21 = refl
-early_unlabelled names.R_AARCH64_TLSDESC_LD64_LO12 = refl
-early_unlabelled names.R_AARCH64_TLSDESC_ADD_LO12 = refl
-early_unlabelled names.R_AARCH64_TLSDESC_CALL = refl
-early_unlabelled name = refl
-
-loads_unlabelled : (name : AArch64Relocation) → is_labelled (aarch64_scope_in phases.GotToPcRel name) ≡ false
-loads_unlabelled names.R_AARCH64_ADR_GOT_PAGE = refl
-loads_unlabelled names.R_AARCH64_LD64_GOT_LO12_NC = refl
-loads_unlabelled name = refl
-
-distances_unlabelled : (name : AArch64Relocation) → is_labelled (aarch64_scope_in phases.ShortPcRel name) ≡ false
-distances_unlabelled names.R_AARCH64_ADR_PREL_PG_HI21 = refl
-distances_unlabelled names.R_AARCH64_ADD_ABS_LO12_NC = refl
-distances_unlabelled name = refl
-
 unlabelled_in : (phase : Phase) (name : AArch64Relocation)
     → is_labelled (aarch64_scope_in phase name) ≡ false
-unlabelled_in phases.PreLayout name = early_unlabelled name
+unlabelled_in phases.PreLayout names.R_AARCH64_CALL26 = refl
 unlabelled_in phases.TlsLocalExec name = refl
-unlabelled_in phases.GotToPcRel name = loads_unlabelled name
-unlabelled_in phases.ShortPcRel name = distances_unlabelled name
+unlabelled_in phases.GotToPcRel names.R_AARCH64_ADR_GOT_PAGE = refl
+unlabelled_in phases.ShortPcRel names.R_AARCH64_ADR_PREL_PG_HI21 = refl
+unlabelled_in phase name = refl
 
 -- AArch64 has no labels
 pub unlabelled : (phase : Phase) (code : ℕ) (scope : Scope) → IsScopeIn AArch64 phase code scope
@@ -86,53 +67,14 @@ unlabelled phase code scope is labelled =
 abbrev OnlyIn : Phase → Phase → AArch64Relocation → Type 0
 OnlyIn phase other name = (other ≡ phase) ⊎ (aarch64_scope_in other name ≡ NotRelaxable)
 
-page_only : (p : Phase) → OnlyIn phases.PreLayout p names.R_AARCH64_TLSDESC_ADR_PAGE21
-page_only phases.PreLayout = inl refl
-page_only phases.TlsLocalExec = inr refl
-page_only phases.GotToPcRel = inr refl
-page_only phases.ShortPcRel = inr refl
-
-load_only : (p : Phase) → OnlyIn phases.PreLayout p names.R_AARCH64_TLSDESC_LD64_LO12
-load_only phases.PreLayout = inl refl
-load_only phases.TlsLocalExec = inr refl
-load_only phases.GotToPcRel = inr refl
-load_only phases.ShortPcRel = inr refl
-
-add_only : (p : Phase) → OnlyIn phases.PreLayout p names.R_AARCH64_TLSDESC_ADD_LO12
-add_only phases.PreLayout = inl refl
-add_only phases.TlsLocalExec = inr refl
-add_only phases.GotToPcRel = inr refl
-add_only phases.ShortPcRel = inr refl
-
-call_only : (p : Phase) → OnlyIn phases.PreLayout p names.R_AARCH64_TLSDESC_CALL
-call_only phases.PreLayout = inl refl
-call_only phases.TlsLocalExec = inr refl
-call_only phases.GotToPcRel = inr refl
-call_only phases.ShortPcRel = inr refl
-
-got_page_only : (p : Phase) → OnlyIn phases.GotToPcRel p names.R_AARCH64_ADR_GOT_PAGE
-got_page_only phases.PreLayout = inr refl
-got_page_only phases.TlsLocalExec = inr refl
-got_page_only phases.GotToPcRel = inl refl
-got_page_only phases.ShortPcRel = inr refl
-
-got_low_only : (p : Phase) → OnlyIn phases.GotToPcRel p names.R_AARCH64_LD64_GOT_LO12_NC
-got_low_only phases.PreLayout = inr refl
-got_low_only phases.TlsLocalExec = inr refl
-got_low_only phases.GotToPcRel = inl refl
-got_low_only phases.ShortPcRel = inr refl
-
-high_only : (p : Phase) → OnlyIn phases.ShortPcRel p names.R_AARCH64_ADR_PREL_PG_HI21
-high_only phases.PreLayout = inr refl
-high_only phases.TlsLocalExec = inr refl
-high_only phases.GotToPcRel = inr refl
-high_only phases.ShortPcRel = inl refl
-
-low_only : (p : Phase) → OnlyIn phases.ShortPcRel p names.R_AARCH64_ADD_ABS_LO12_NC
-low_only phases.PreLayout = inr refl
-low_only phases.TlsLocalExec = inr refl
-low_only phases.GotToPcRel = inr refl
-low_only phases.ShortPcRel = inl refl
+only_in : (phase : Phase) (name : AArch64Relocation)
+    → OnlyIn phase phases.PreLayout name × OnlyIn phase phases.TlsLocalExec name
+    × OnlyIn phase phases.GotToPcRel name × OnlyIn phase phases.ShortPcRel name
+    → (other : Phase) → OnlyIn phase other name
+only_in phase name all phases.PreLayout = all.0
+only_in phase name all phases.TlsLocalExec = all.1
+only_in phase name all phases.GotToPcRel = all.2
+only_in phase name all phases.ShortPcRel = all.3
 
 -- what the first of a pair waits for
 independent_is : (name : AArch64Relocation) → aarch64_scope_in phases.ShortPcRel name ≡ Independent
@@ -141,30 +83,6 @@ independent_is names.R_AARCH64_ADR_PREL_PG_HI21 is =
     absurd (let e : FirstOfPair ≡ Independent = is in cc)
 independent_is names.R_AARCH64_ADD_ABS_LO12_NC is = refl
 independent_is name is = absurd (let e : NotRelaxable ≡ Independent = is in cc)
-
--- ---- parts
-
-record IsPartThere (code offset : ℕ) (one : Rela) (bytes : List ℕ) (i : ℕ) : Type 0 where
-  pub below : i < length bytes / 24
-  pub is : IsPart code offset one (relocation_in bytes i)
-
-part_at : (code offset distance : ℕ) (one : Rela) (bytes : List ℕ) (i : ℕ)
-    → is_part code offset distance one (relocation_at bytes i) ≡ true
-    → IsPartThere code (offset + distance) one bytes i
-part_at code offset distance one bytes i is =
-    elim (cases_Bool (ltb i (length bytes / 24))) [
-      | inl within ↦
-          let below = ltb-true i (length bytes / 24) within in
-          record {
-            below = below;
-            is = part_is code offset distance one (relocation_in bytes i)
-                (subst (λ x. is_part code offset distance one x ≡ true) (there bytes i below) is);
-          }
-      | inr out ↦
-          let none : relocation_at bytes i ≡ None =
-          cond-false (ltb i (length bytes / 24)) (Some (relocation_in bytes i)) None out in
-          absurd (let e : false ≡ true = subst (λ x. is_part code offset distance one x ≡ true) none is in cc)
-    ]
 
 -- ---- what a descriptor's instruction becomes
 
@@ -175,15 +93,15 @@ abbrev IsMember : LinkFacts → AArch64Choice → AArch64Choice → AArch64Choic
 IsMember f local initial named =
     (IsLocal f × (named ≡ local)) ⊎ ((IsLocal f → ⊥) × (named ≡ initial))
 
-member : (name : AArch64Relocation) (n : ℕ) (section : List ℕ) (at : ℕ) (f : LinkFacts)
+one_of_two : (name : AArch64Relocation) (n : ℕ) (section : List ℕ) (at : ℕ) (f : LinkFacts)
     (local initial named : AArch64Choice) → f.has_addresses ≡ false
     → (aarch64_matches initial.kind section at → aarch64_matches local.kind section at)
     → (named ≡ choice kinds.NoOp name → ⊥)
     → IsFirst (AArch64Applies name section at f) (descriptor_entries n local initial) (choice kinds.NoOp name) named
     → IsMember f local initial named
-member name n section at f local initial named early matches changed (inl h) =
+one_of_two name n section at f local initial named early matches changed (inl h) =
     inl ((h.0.1.0, h.0.1.1.0), h.1)
-member name n section at f local initial named early matches changed (inr (fails, inl h)) =
+one_of_two name n section at f local initial named early matches changed (inr (fails, inl h)) =
     inr (
       λ l. fails (
         (matches h.0.0.0, h.0.0.1),
@@ -191,7 +109,7 @@ member name n section at f local initial named early matches changed (inr (fails
       ),
       h.1,
     )
-member name n section at f local initial named early matches changed (inr (fails, inr h)) =
+one_of_two name n section at f local initial named early matches changed (inr (fails, inr h)) =
     absurd (changed h.1)
 
 -- of one symbol and addend the facts are the same
@@ -324,33 +242,41 @@ module _ (s : RelaxContext) (aarch64 : s.architecture ≡ AArch64) (kept : List 
   -- all of its sequence are there
   whole_with : (n : ℕ) (chosen : Choice Relaxation ℕ) (f : Option LinkFacts)
       → IsCandidateWith s bytes section n (relocation_in bytes n) f (Some chosen)
-      → IsWhole s.architecture bytes n (relocation_in bytes n) true
+      → is_whole s.architecture bytes n (relocation_in bytes n) ≡ true
   whole_with n chosen None is = absurd (let e : Some chosen ≡ None = is in cc)
   whole_with n chosen (Some f) is = is.3
 
-  whole : (n : ℕ) (name : AArch64Relocation) (chosen : Choice Relaxation ℕ)
+  -- what a member of its name is among
+  abbrev IsAmong : List Member → ℕ → ℕ → ℕ → AArch64Relocation → Type 0
+  IsAmong all place distance n name =
+      is_whole AArch64 bytes n (record (relocation_in bytes n) { code = code_of (aarch64_name name) })
+      ≡ (is_among all place distance bytes n (relocation_in bytes n) && true)
+
+  whole : (all : List Member) (place distance n : ℕ) (name : AArch64Relocation) (chosen : Choice Relaxation ℕ)
       → IsNameOf aarch64_name (relocation_in bytes n).code name
       → IsCandidate s bytes section n (relocation_in bytes n) (Some chosen)
-      → is_whole_at bytes n (relocation_in bytes n) (place_in name) ≡ true
-  whole n name chosen is_name is =
-      let has : IsWhole AArch64 bytes n (relocation_in bytes n) true =
-      subst (λ x. IsWhole x bytes n (relocation_in bytes n) true) aarch64 (whole_with n chosen _ is) in
-      sym (one_whole AArch64 bytes n (relocation_in bytes n) true (is_whole_at bytes n (relocation_in bytes n) (place_in name)) has
-      (place_in name, record { name = name; is_name = is_name; value_is = refl }, refl))
+      → IsAmong all place distance n name
+      → (place ≤ n) × (are_members all bytes (n - place) 0 ((relocation_in bytes n).offset - distance) (relocation_in bytes n) ≡ true)
+  whole all place distance n name chosen is_name is at =
+      let r = relocation_in bytes n in
+      among all place distance bytes n r
+      (sym at
+      ∙ (ap (λ c. is_whole AArch64 bytes n (record r { code = c })) is_name.code_is
+      ∙ subst (λ x. is_whole x bytes n r ≡ true) aarch64 (whole_with n chosen _ is)))
 
-  part : (name : AArch64Relocation) → IsNamed (aarch64_name name) → (high offset distance first i : ℕ) (one : Rela)
-      → IsPart high (offset + 0) one (relocation_in bytes first)
-      → IsPartThere (code_of (aarch64_name name)) (offset + distance) one bytes i
+  part : (name : AArch64Relocation) (tie : Tie) (offset distance first i : ℕ) (head : Member) (one : Rela)
+      → IsNamed (aarch64_name name) → is_typed tie ≡ true → is_typed head.tie ≡ true → head.distance ≡ 0
+      → IsThere head offset one bytes first → IsThere (member (aarch64_name name) distance tie) offset one bytes i
       → IsPartAt bytes first distance i name
-  part name named high offset distance first i one begins there =
-      let at = there.is.offset_is in
+  part name tie offset distance first i head one named typed head_typed at_start begins there =
+      let at = there.offset_is in
       let start = begins.offset_is in
       record {
         below = there.below;
-        is_name = named_at i name there.below named (sym there.is.code_is);
-        offset = omega (arith, at, start);
-        symbol = there.is.symbol_is ∙ sym begins.symbol_is;
-        addend = there.is.addend_is ∙ sym begins.addend_is;
+        is_name = named_at i name there.below named (sym there.code_is);
+        offset = omega (arith, at, start, at_start);
+        symbol = (there.of typed).0 ∙ sym (begins.of head_typed).0;
+        addend = (there.of typed).1 ∙ sym (begins.of head_typed).1;
       }
 
   -- the rewrite of a name
@@ -376,21 +302,19 @@ module _ (s : RelaxContext) (aarch64 : s.architecture ≡ AArch64) (kept : List 
 
   load_rewritten : (first offset : ℕ) (one : Rela) → s.phase ≡ phases.GotToPcRel
       → group_stays kept groups.GotLoad one.symbol ≡ false
-      → is_pair names.R_AARCH64_ADR_GOT_PAGE names.R_AARCH64_LD64_GOT_LO12_NC bytes first offset one ≡ true
+      → are_members got_load bytes first 0 offset one ≡ true
       → IsLoadRewritten bytes decisions first
   load_rewritten first offset one late unkept is =
-      let is_high : Bool = is_aarch64_part names.R_AARCH64_ADR_GOT_PAGE offset 0 one (relocation_at bytes first) in
-      let is_low : Bool = is_aarch64_part names.R_AARCH64_LD64_GOT_LO12_NC offset 4 one (relocation_at bytes (first + 1)) in
-      let a = and_parts (int_eq one.addend (pos 0)) (is_high && is_low) is in
-      let b = and_parts is_high is_low (a.1) in
-      let high = part_at (code_of (aarch64_name names.R_AARCH64_ADR_GOT_PAGE)) offset 0 one bytes first (b.0) in
-      let low = part_at (code_of (aarch64_name names.R_AARCH64_LD64_GOT_LO12_NC)) offset 4 one bytes (first + 1) (b.1) in
-      let page = part names.R_AARCH64_ADR_GOT_PAGE tt (code_of (aarch64_name names.R_AARCH64_ADR_GOT_PAGE)) offset 0 first first one high.is high in
-      let lower = part names.R_AARCH64_LD64_GOT_LO12_NC tt (code_of (aarch64_name names.R_AARCH64_ADR_GOT_PAGE)) offset 4 first (first + 1) one high.is low in
+      let all = are_there got_load offset one bytes first 0 is in
+      let head = member (aarch64_name names.R_AARCH64_ADR_GOT_PAGE) 0 ties.Symbol in
+      let high = at_first head offset one bytes first (all.0) in
+      let low = all.1.0 in
+      let page = part names.R_AARCH64_ADR_GOT_PAGE ties.Symbol offset 0 first first head one tt refl refl refl high high in
+      let lower = part names.R_AARCH64_LD64_GOT_LO12_NC ties.Symbol offset 4 first (first + 1) head one tt refl refl refl high low in
       let page_made = got_made first names.R_AARCH64_ADR_GOT_PAGE refl page.below page.is_name late
-      (ap (group_stays kept groups.GotLoad) high.is.symbol_is ∙ unkept) in
+      (ap (group_stays kept groups.GotLoad) (high.of refl).0 ∙ unkept) in
       let low_made = got_made (first + 1) names.R_AARCH64_LD64_GOT_LO12_NC refl lower.below lower.is_name late
-      (ap (group_stays kept groups.GotLoad) low.is.symbol_is ∙ unkept) in
+      (ap (group_stays kept groups.GotLoad) (low.of refl).0 ∙ unkept) in
       record {
         page = page;
         low = lower;
@@ -405,24 +329,20 @@ module _ (s : RelaxContext) (aarch64 : s.architecture ≡ AArch64) (kept : List 
       }
 
   -- one of its two relocations doesn't stay
-  of_load : (n place : ℕ) (name : AArch64Relocation) → n < length bytes / 24
+  of_load : (n place distance : ℕ) (name : AArch64Relocation) → n < length bytes / 24
       → IsNameOf aarch64_name (relocation_in bytes n).code name → decision_at decisions n ≢ Kept
       → OnlyIn phases.GotToPcRel s.phase name
       → aarch64_scope_in phases.GotToPcRel name ≡ Grouped groups.GotLoad
-      → place_in name ≡ Some (sequences.EntryLoad, place)
+      → IsAmong got_load place distance n name
       → (place ≤ n) × IsLoadRewritten bytes decisions (n - place)
-  of_load n place name below is_name changed only scope is_place =
+  of_load n place distance name below is_name changed only scope at =
       let r = relocation_in bytes n in
       let late = phase_is n name phases.GotToPcRel below is_name changed only in
       let made = of_group n (group_stays kept groups.GotLoad r.symbol)
       (subst (λ z. IsScopeDecision s kept bytes section n r z (decision_at decisions n)) scope
       (in_phase n name phases.GotToPcRel below is_name late)) changed in
-      let all : is_whole_at bytes n r (Some (sequences.EntryLoad, place)) ≡ true =
-      subst (λ x. is_whole_at bytes n r x ≡ true) is_place (whole n name made.1.chosen is_name made.1.is_candidate) in
-      let pair : Bool = is_pair names.R_AARCH64_ADR_GOT_PAGE names.R_AARCH64_LD64_GOT_LO12_NC bytes (n - place) (r.offset - 4 * place) r in
-      let a = and_parts (nat_le place n) (nat_le (4 * place) r.offset && pair) all in
-      let b = and_parts (nat_le (4 * place) r.offset) pair (a.1) in
-      (leb-true place n (a.0), load_rewritten (n - place) (r.offset - 4 * place) r late (made.0) (b.1))
+      let all = whole got_load place distance n name made.1.chosen is_name made.1.is_candidate at in
+      (all.0, load_rewritten (n - place) (r.offset - distance) r late (made.0) (all.1))
 
   -- ---- an address by its page
 
@@ -452,18 +372,15 @@ module _ (s : RelaxContext) (aarch64 : s.architecture ≡ AArch64) (kept : List 
   address_rewritten : (first offset : ℕ) (one : Rela) (chosen : Choice Relaxation ℕ)
       → s.phase ≡ phases.ShortPcRel
       → IsCandidate s bytes section (first + 1) (relocation_in bytes (first + 1)) (Some chosen)
-      → is_pair names.R_AARCH64_ADR_PREL_PG_HI21 names.R_AARCH64_ADD_ABS_LO12_NC bytes first offset one ≡ true
+      → are_members page_and_offset bytes first 0 offset one ≡ true
       → IsAddressRewritten bytes decisions first
   address_rewritten first offset one chosen late candidate is =
       let next = relocation_in bytes (first + 1) in
-      let is_high : Bool = is_aarch64_part names.R_AARCH64_ADR_PREL_PG_HI21 offset 0 one (relocation_at bytes first) in
-      let is_low : Bool = is_aarch64_part names.R_AARCH64_ADD_ABS_LO12_NC offset 4 one (relocation_at bytes (first + 1)) in
-      let a = and_parts (int_eq one.addend (pos 0)) (is_high && is_low) is in
-      let b = and_parts is_high is_low (a.1) in
-      let high = part_at (code_of (aarch64_name names.R_AARCH64_ADR_PREL_PG_HI21)) offset 0 one bytes first (b.0) in
-      let low = part_at (code_of (aarch64_name names.R_AARCH64_ADD_ABS_LO12_NC)) offset 4 one bytes (first + 1) (b.1) in
-      let page = part names.R_AARCH64_ADR_PREL_PG_HI21 tt (code_of (aarch64_name names.R_AARCH64_ADR_PREL_PG_HI21)) offset 0 first first one high.is high in
-      let lower = part names.R_AARCH64_ADD_ABS_LO12_NC tt (code_of (aarch64_name names.R_AARCH64_ADR_PREL_PG_HI21)) offset 4 first (first + 1) one high.is low in
+      let all = are_there page_and_offset offset one bytes first 0 is in
+      let head = member (aarch64_name names.R_AARCH64_ADR_PREL_PG_HI21) 0 ties.Symbol in
+      let high = at_first head offset one bytes first (all.0) in
+      let page = part names.R_AARCH64_ADR_PREL_PG_HI21 ties.Symbol offset 0 first first head one tt refl refl refl high high in
+      let lower = part names.R_AARCH64_ADD_ABS_LO12_NC ties.Symbol offset 4 first (first + 1) head one tt refl refl refl high (all.1.0) in
       let low_by = in_phase (first + 1) names.R_AARCH64_ADD_ABS_LO12_NC phases.ShortPcRel lower.below lower.is_name late in
       let low_same = one_candidate s bytes section (first + 1) next (low_by.0) (Some chosen) (low_by.1) candidate in
       let low_made : IsMade (first + 1) =
@@ -493,22 +410,19 @@ module _ (s : RelaxContext) (aarch64 : s.architecture ≡ AArch64) (kept : List 
       → (1 ≤ n) × IsAddressRewritten bytes decisions (n - 1)
   of_second n chosen late is_name candidate =
       let r = relocation_in bytes n in
-      let all = whole n names.R_AARCH64_ADD_ABS_LO12_NC chosen is_name candidate in
-      let pair : Bool = is_pair names.R_AARCH64_ADR_PREL_PG_HI21 names.R_AARCH64_ADD_ABS_LO12_NC bytes (n - 1) (r.offset - 4 * 1) r in
-      let a = and_parts (nat_le 1 n) (nat_le (4 * 1) r.offset && pair) all in
-      let b = and_parts (nat_le (4 * 1) r.offset) pair (a.1) in
-      let some = leb-true 1 n (a.0) in
+      let all = whole page_and_offset 1 4 n names.R_AARCH64_ADD_ABS_LO12_NC chosen is_name candidate refl in
+      let some = all.0 in
       let e : n ≡ n - 1 + 1 = omega (arith, some) in (
         some,
-        address_rewritten (n - 1) (r.offset - 4 * 1) r chosen late
-            (subst (λ m. IsCandidate s bytes section m (relocation_in bytes m) (Some chosen)) e candidate) (b.1),
+        address_rewritten (n - 1) (r.offset - 4) r chosen late
+            (subst (λ m. IsCandidate s bytes section m (relocation_in bytes m) (Some chosen)) e candidate) (all.1),
       )
 
   of_low : (n : ℕ) → n < length bytes / 24
       → IsNameOf aarch64_name (relocation_in bytes n).code names.R_AARCH64_ADD_ABS_LO12_NC
       → decision_at decisions n ≢ Kept → (1 ≤ n) × IsAddressRewritten bytes decisions (n - 1)
   of_low n below is_name changed =
-      let late = phase_is n names.R_AARCH64_ADD_ABS_LO12_NC phases.ShortPcRel below is_name changed (low_only s.phase) in
+      let late = phase_is n names.R_AARCH64_ADD_ABS_LO12_NC phases.ShortPcRel below is_name changed (only_in phases.ShortPcRel names.R_AARCH64_ADD_ABS_LO12_NC (inr refl, inr refl, inr refl, inl refl) s.phase) in
       let by = in_phase n names.R_AARCH64_ADD_ABS_LO12_NC phases.ShortPcRel below is_name late in
       let made = of_option n (by.0) (by.1) (by.2) changed in
       of_second n made.chosen late is_name made.is_candidate
@@ -544,7 +458,7 @@ module _ (s : RelaxContext) (aarch64 : s.architecture ≡ AArch64) (kept : List 
       → IsNameOf aarch64_name (relocation_in bytes n).code names.R_AARCH64_ADR_PREL_PG_HI21
       → decision_at decisions n ≢ Kept → IsAddressRewritten bytes decisions n
   of_high n below is_name changed =
-      let late = phase_is n names.R_AARCH64_ADR_PREL_PG_HI21 phases.ShortPcRel below is_name changed (high_only s.phase) in
+      let late = phase_is n names.R_AARCH64_ADR_PREL_PG_HI21 phases.ShortPcRel below is_name changed (only_in phases.ShortPcRel names.R_AARCH64_ADR_PREL_PG_HI21 (inr refl, inr refl, inr refl, inl refl) s.phase) in
       let by = in_phase n names.R_AARCH64_ADR_PREL_PG_HI21 phases.ShortPcRel below is_name late in
       ahead n (by.0) (relocation_at bytes (n + 1)) refl (by.1) (by.2) changed late
 
@@ -579,7 +493,7 @@ module _ (s : RelaxContext) (aarch64 : s.architecture ≡ AArch64) (kept : List 
             (subst (λ p. link_facts p s.output s.symbols s.addresses s.values r r is.marked ≡ Some is.facts) early is.facts_are);
         named = c.named;
         kind_is = c.kind_is;
-        is_member = member name n section r.offset is.facts local initial c.named
+        is_member = one_of_two name n section r.offset is.facts local initial c.named
             (are_early s section r made.chosen early isnt is).unplaced (matches r.offset)
             (λ e. is.changed (
               subst relaxation_no_op (sym (c.kind_is ∙ ap (λ (q : AArch64Choice). relaxations.AArch64 q.kind) e)) refl,
@@ -628,33 +542,27 @@ module _ (s : RelaxContext) (aarch64 : s.architecture ≡ AArch64) (kept : List 
 
   descriptor_rewritten : (first offset : ℕ) (one : Rela) → s.phase ≡ phases.PreLayout
       → group_stays kept groups.Descriptor one.symbol ≡ false
-      → is_descriptor bytes first offset one ≡ true
+      → are_members descriptor bytes first 0 offset one ≡ true
       → IsDescriptorWhole bytes decisions first
   descriptor_rewritten first offset one early unkept is =
-      let is_page : Bool = is_aarch64_part names.R_AARCH64_TLSDESC_ADR_PAGE21 offset 0 one (relocation_at bytes first) in
-      let is_load : Bool = is_aarch64_part names.R_AARCH64_TLSDESC_LD64_LO12 offset 4 one (relocation_at bytes (first + 1)) in
-      let is_add : Bool = is_aarch64_part names.R_AARCH64_TLSDESC_ADD_LO12 offset 8 one (relocation_at bytes (first + 2)) in
-      let is_call : Bool = is_aarch64_part names.R_AARCH64_TLSDESC_CALL offset 12 one (relocation_at bytes (first + 3)) in
-      let a = and_parts is_page (is_load && (is_add && is_call)) is in
-      let b = and_parts is_load (is_add && is_call) (a.1) in
-      let c = and_parts is_add is_call (b.1) in
-      let code = code_of (aarch64_name names.R_AARCH64_TLSDESC_ADR_PAGE21) in
-      let high = part_at code offset 0 one bytes first (a.0) in
-      let second = part_at (code_of (aarch64_name names.R_AARCH64_TLSDESC_LD64_LO12)) offset 4 one bytes (first + 1) (b.0) in
-      let third = part_at (code_of (aarch64_name names.R_AARCH64_TLSDESC_ADD_LO12)) offset 8 one bytes (first + 2) (c.0) in
-      let fourth = part_at (code_of (aarch64_name names.R_AARCH64_TLSDESC_CALL)) offset 12 one bytes (first + 3) (c.1) in
-      let page = part names.R_AARCH64_TLSDESC_ADR_PAGE21 tt code offset 0 first first one high.is high in
-      let load = part names.R_AARCH64_TLSDESC_LD64_LO12 tt code offset 4 first (first + 1) one high.is second in
-      let add = part names.R_AARCH64_TLSDESC_ADD_LO12 tt code offset 8 first (first + 2) one high.is third in
-      let call = part names.R_AARCH64_TLSDESC_CALL tt code offset 12 first (first + 3) one high.is fourth in
+      let all = are_there descriptor offset one bytes first 0 is in
+      let head = member (aarch64_name names.R_AARCH64_TLSDESC_ADR_PAGE21) 0 ties.Subject in
+      let high = at_first head offset one bytes first (all.0) in
+      let second = all.1.0 in
+      let third = all.1.1.0 in
+      let fourth = all.1.1.1.0 in
+      let page = part names.R_AARCH64_TLSDESC_ADR_PAGE21 ties.Subject offset 0 first first head one tt refl refl refl high high in
+      let load = part names.R_AARCH64_TLSDESC_LD64_LO12 ties.Subject offset 4 first (first + 1) head one tt refl refl refl high second in
+      let add = part names.R_AARCH64_TLSDESC_ADD_LO12 ties.Subject offset 8 first (first + 2) head one tt refl refl refl high third in
+      let call = part names.R_AARCH64_TLSDESC_CALL ties.Subject offset 12 first (first + 3) head one tt refl refl refl high fourth in
       let page_made = descriptor_made first names.R_AARCH64_TLSDESC_ADR_PAGE21 refl page.below page.is_name early
-      (ap (group_stays kept groups.Descriptor) high.is.symbol_is ∙ unkept) in
+      (ap (group_stays kept groups.Descriptor) (high.of refl).0 ∙ unkept) in
       let load_made = descriptor_made (first + 1) names.R_AARCH64_TLSDESC_LD64_LO12 refl load.below load.is_name early
-      (ap (group_stays kept groups.Descriptor) second.is.symbol_is ∙ unkept) in
+      (ap (group_stays kept groups.Descriptor) (second.of refl).0 ∙ unkept) in
       let add_made = descriptor_made (first + 2) names.R_AARCH64_TLSDESC_ADD_LO12 refl add.below add.is_name early
-      (ap (group_stays kept groups.Descriptor) third.is.symbol_is ∙ unkept) in
+      (ap (group_stays kept groups.Descriptor) (third.of refl).0 ∙ unkept) in
       let call_made = descriptor_made (first + 3) names.R_AARCH64_TLSDESC_CALL refl call.below call.is_name early
-      (ap (group_stays kept groups.Descriptor) fourth.is.symbol_is ∙ unkept) in
+      (ap (group_stays kept groups.Descriptor) (fourth.of refl).0 ∙ unkept) in
       let p = described first names.R_AARCH64_TLSDESC_ADR_PAGE21 0
       (choice kinds.MovzX0Lsl16 names.R_AARCH64_TLSLE_MOVW_TPREL_G1) (choice kinds.AdrpX0 names.R_AARCH64_TLSIE_ADR_GOTTPREL_PAGE21)
       tt refl (λ o m. m) page.below page.is_name page_made early in
@@ -693,24 +601,20 @@ module _ (s : RelaxContext) (aarch64 : s.architecture ≡ AArch64) (kept : List 
         ]
       ]
 
-  of_descriptor : (n place : ℕ) (name : AArch64Relocation) → n < length bytes / 24
+  of_descriptor : (n place distance : ℕ) (name : AArch64Relocation) → n < length bytes / 24
       → IsNameOf aarch64_name (relocation_in bytes n).code name → decision_at decisions n ≢ Kept
       → OnlyIn phases.PreLayout s.phase name
       → aarch64_scope_in phases.PreLayout name ≡ Grouped groups.Descriptor
-      → place_in name ≡ Some (sequences.Descriptor, place)
+      → IsAmong descriptor place distance n name
       → (place ≤ n) × IsDescriptorWhole bytes decisions (n - place)
-  of_descriptor n place name below is_name changed only scope is_place =
+  of_descriptor n place distance name below is_name changed only scope at =
       let r = relocation_in bytes n in
       let early = phase_is n name phases.PreLayout below is_name changed only in
       let made = of_group n (group_stays kept groups.Descriptor r.symbol)
       (subst (λ z. IsScopeDecision s kept bytes section n r z (decision_at decisions n)) scope
       (in_phase n name phases.PreLayout below is_name early)) changed in
-      let all : is_whole_at bytes n r (Some (sequences.Descriptor, place)) ≡ true =
-      subst (λ x. is_whole_at bytes n r x ≡ true) is_place (whole n name made.1.chosen is_name made.1.is_candidate) in
-      let four : Bool = is_descriptor bytes (n - place) (r.offset - 4 * place) r in
-      let a = and_parts (nat_le place n) (nat_le (4 * place) r.offset && four) all in
-      let b = and_parts (nat_le (4 * place) r.offset) four (a.1) in
-      (leb-true place n (a.0), descriptor_rewritten (n - place) (r.offset - 4 * place) r early (made.0) (b.1))
+      let all = whole descriptor place distance n name made.1.chosen is_name made.1.is_candidate at in
+      (all.0, descriptor_rewritten (n - place) (r.offset - distance) r early (made.0) (all.1))
 
   -- ---- by the name
 
@@ -718,17 +622,17 @@ module _ (s : RelaxContext) (aarch64 : s.architecture ≡ AArch64) (kept : List 
       → (name : AArch64Relocation) → IsNameOf aarch64_name (relocation_in bytes n).code name
       → IsWholeBy name bytes decisions n
   by_name n below changed names.R_AARCH64_TLSDESC_ADR_PAGE21 is =
-      of_descriptor n 0 names.R_AARCH64_TLSDESC_ADR_PAGE21 below is changed (page_only s.phase) refl refl
+      of_descriptor n 0 0 names.R_AARCH64_TLSDESC_ADR_PAGE21 below is changed (only_in phases.PreLayout names.R_AARCH64_TLSDESC_ADR_PAGE21 (inl refl, inr refl, inr refl, inr refl) s.phase) refl refl
   by_name n below changed names.R_AARCH64_TLSDESC_LD64_LO12 is =
-      of_descriptor n 1 names.R_AARCH64_TLSDESC_LD64_LO12 below is changed (load_only s.phase) refl refl
+      of_descriptor n 1 4 names.R_AARCH64_TLSDESC_LD64_LO12 below is changed (only_in phases.PreLayout names.R_AARCH64_TLSDESC_LD64_LO12 (inl refl, inr refl, inr refl, inr refl) s.phase) refl refl
   by_name n below changed names.R_AARCH64_TLSDESC_ADD_LO12 is =
-      of_descriptor n 2 names.R_AARCH64_TLSDESC_ADD_LO12 below is changed (add_only s.phase) refl refl
+      of_descriptor n 2 8 names.R_AARCH64_TLSDESC_ADD_LO12 below is changed (only_in phases.PreLayout names.R_AARCH64_TLSDESC_ADD_LO12 (inl refl, inr refl, inr refl, inr refl) s.phase) refl refl
   by_name n below changed names.R_AARCH64_TLSDESC_CALL is =
-      of_descriptor n 3 names.R_AARCH64_TLSDESC_CALL below is changed (call_only s.phase) refl refl
+      of_descriptor n 3 12 names.R_AARCH64_TLSDESC_CALL below is changed (only_in phases.PreLayout names.R_AARCH64_TLSDESC_CALL (inl refl, inr refl, inr refl, inr refl) s.phase) refl refl
   by_name n below changed names.R_AARCH64_ADR_GOT_PAGE is =
-      of_load n 0 names.R_AARCH64_ADR_GOT_PAGE below is changed (got_page_only s.phase) refl refl
+      of_load n 0 0 names.R_AARCH64_ADR_GOT_PAGE below is changed (only_in phases.GotToPcRel names.R_AARCH64_ADR_GOT_PAGE (inr refl, inr refl, inl refl, inr refl) s.phase) refl refl
   by_name n below changed names.R_AARCH64_LD64_GOT_LO12_NC is =
-      of_load n 1 names.R_AARCH64_LD64_GOT_LO12_NC below is changed (got_low_only s.phase) refl refl
+      of_load n 1 4 names.R_AARCH64_LD64_GOT_LO12_NC below is changed (only_in phases.GotToPcRel names.R_AARCH64_LD64_GOT_LO12_NC (inr refl, inr refl, inl refl, inr refl) s.phase) refl refl
   by_name n below changed names.R_AARCH64_ADR_PREL_PG_HI21 is =
       let e : n ≡ n - 0 = omega arith in
       (omega arith, subst (IsAddressRewritten bytes decisions) e (of_high n below is changed))

@@ -19,6 +19,7 @@ pub mod Order
 pub mod PhaseTables
 pub mod Places
 pub mod PreLayout
+pub mod SequenceMembers
 pub mod Surveying
 pub mod Unique
 pub mod Untouched

@@ -1,9 +1,6 @@
 -- Of a marked load from LoongArch's GOT both instructions are rewritten, or neither is.
-use Rattle.std.proofs.Common.{◌≡◌, ℕ, ℤ, ◌∙◌, ◌+◌, ◌-◌, ◌*◌, ◌/◌, ◌<◌, ◌≤◌, ◌⊎◌, ◌↔◌, ltb, inl, inr, List, [], length, ap, sym, subst, arith, refl, Bool, true, false, Option, Some, None, slice_get}
-use Rattle.std.specs.Prelude.{◌&&◌, ◌==◌, nat_le}
-use Rattle.std.specs.Ordering.{int_eq}
-use Rattle.std.proofs.lemmas.Bool.{eqb-true, le-leb, lt-ltb, cond-true, and_parts}
-use Rattle.std.proofs.lemmas.Bool.Decides.{Decides-int_eq}
+use Rattle.std.proofs.Common.{◌≡◌, ℕ, ℤ, ◌∙◌, ◌+◌, ◌-◌, ◌≤◌, ◌⊎◌, ◌↔◌, inl, inr, List, [], ap, sym, subst, arith, refl, Bool, true, false, Option, Some, None, slice_get}
+use Rattle.std.specs.Prelude.{◌&&◌}
 use Rattle.linker_elf.specs.Choices.{choice}
 use Rattle.linker_elf.specs.ElfNames.{code_of, IsNamed, IsNameOf}
 use Rattle.linker_elf.specs.LoongArchRelocations.{loongarch_name}
@@ -14,20 +11,22 @@ use Rattle.linker_elf.specs.declared.loongarch64.relocations.LoongArch64Relocati
 use Rattle.linker_utils.specs.LoongArchRewrites.{IsLoongArchChoice, IsPair, IsLd, LoongArchChoice, loongarch_deleted}
 use Rattle.linker_utils.specs.declared.loongarch64.rewrites.RewriteKind.{RewriteKind as LoongArchKind}
 use Rattle.linker_utils.specs.declared.loongarch64.rewrites.RewriteKind.TheVariants as kinds
-use Rattle.linker_rewriting.proofs.Unique.{one_whole, true_or_false}
+use Rattle.linker_rewriting.proofs.SequenceMembers.{IsOf, among_is, are_there, at_first}
+use Rattle.linker_rewriting.proofs.Unique.{true_or_false}
 use Rattle.linker_rewriting.specs.Candidates.{IsCandidate, IsCandidateWith, IsCandidateBy, IsTaken, deletes_within}
 use Rattle.linker_rewriting.specs.Decisions.{IsDecidedAfter, IsDecidedAlone, IsScopeDecision, decision_at, decision_of}
 use Rattle.linker_rewriting.specs.Facts.{RelaxContext, pre_layout, facts_of, facts_by, no_addresses}
 use Rattle.linker_rewriting.specs.Groups.{loongarch_scope_in}
-use Rattle.linker_rewriting.specs.Rewritten.{IsLoadAt, IsRewritten, LoadsAreWhole}
-use Rattle.linker_rewriting.specs.Sequences.{IsWhole, is_marked_load, is_load_at, is_loongarch_part, is_part, is_mark_of, mark_code}
+use Rattle.linker_rewriting.specs.Rewritten.{IsRewritten, LoadsAreWhole}
+use Rattle.linker_rewriting.specs.Sequences.{are_members, is_among, is_whole, marked_load, member}
+use Rattle.linker_rewriting.specs.declared.sequences.Tie.TheVariants.{Subject}
 use Rattle.linker_rewriting.specs.declared.decisions.Decision.{Decision}
 use Rattle.linker_rewriting.specs.declared.facts.OutputFacts.{OutputFacts}
 use Rattle.linker_rewriting.specs.declared.facts.SymbolFacts.{SymbolFacts}
 use Rattle.linker_rewriting.specs.declared.groups.UnrelaxableGroups.{UnrelaxableGroups}
 use Rattle.linker_rewriting.specs.declared.groups.Scope.TheVariants.{Independent}
 use Rattle.linker_rewriting.specs.declared.phases.Phase.TheVariants.{PreLayout}
-use Rattle.linker_section.specs.Relocations.{relocation_in, relocation_at}
+use Rattle.linker_section.specs.Relocations.{relocation_in}
 use Rattle.linker_section.specs.declared.relocations.Rela.{Rela}
 use Rattle.linker_utils.specs.Relaxations.{IsArchitectureChoice, IsUnchanged, relaxation_skipped, relaxation_deleted, relaxation_no_op}
 use Rattle.linker_utils.specs.declared.architecture.Relaxation.{Relaxation}
@@ -91,96 +90,25 @@ alike section o output symbol addend a b high low =
 
 -- ---- their relocations
 
-pub record IsPart (code offset : ℕ) (one part : Rela) : Type 0 where
-  pub offset_is : part.offset ≡ offset
-  pub code_is : part.code ≡ code
-  pub symbol_is : part.symbol ≡ one.symbol
-  pub addend_is : part.addend ≡ one.addend
-
-pub part_is : (code offset distance : ℕ) (one part : Rela)
-    → is_part code offset distance one (Some part) ≡ true → IsPart code (offset + distance) one part
-part_is code offset distance one part is =
-    let a = and_parts (part.offset == offset + distance) ((part.code == code) && ((part.symbol == one.symbol) && int_eq part.addend one.addend)) is in
-    let b = and_parts (part.code == code) ((part.symbol == one.symbol) && int_eq part.addend one.addend) (a.1) in
-    let c = and_parts (part.symbol == one.symbol) (int_eq part.addend one.addend) (b.1) in
-    record {
-      offset_is = eqb-true part.offset (offset + distance) (a.0);
-      code_is = eqb-true part.code code (b.0);
-      symbol_is = eqb-true part.symbol one.symbol (c.0);
-      addend_is = (Decides-int_eq part.addend one.addend).0 (c.1);
-    }
-
-pub there : (bytes : List ℕ) (n : ℕ) → n < length bytes / 24
-    → relocation_at bytes n ≡ Some (relocation_in bytes n)
-there bytes n within =
-    cond-true (ltb n (length bytes / 24)) (Some (relocation_in bytes n)) None
-    (lt-ltb n (length bytes / 24) within)
-
-pub record IsLoad (bytes : List ℕ) (n : ℕ) : Type 0 where
-  pub all : IsLoadAt bytes n
-  pub high : IsPart (code_of (loongarch_name r.R_LARCH_GOT_PC_HI20)) ((relocation_in bytes n).offset + 0)
-      (relocation_in bytes n) (relocation_in bytes n)
-  pub low : IsPart (code_of (loongarch_name r.R_LARCH_GOT_PC_LO12)) ((relocation_in bytes n).offset + 4)
-      (relocation_in bytes n) (relocation_in bytes (n + 2))
-
-load_is : (bytes : List ℕ) (n : ℕ) → n + 2 < length bytes / 24 → IsLoadAt bytes n → IsLoad bytes n
-load_is bytes n within is =
-    let one = relocation_in bytes n in
-    let first : Bool = is_loongarch_part r.R_LARCH_GOT_PC_HI20 one.offset 0 one (relocation_at bytes n) in
-    let mark : Bool = is_mark_of (mark_code LoongArch64) one.offset 0 (relocation_at bytes (n + 1)) in
-    let second : Bool = is_loongarch_part r.R_LARCH_GOT_PC_LO12 one.offset 4 one (relocation_at bytes (n + 2)) in
-    let last : Bool = is_mark_of (mark_code LoongArch64) one.offset 4 (relocation_at bytes (n + 3)) in
-    let a = and_parts first (mark && (second && last)) is in
-    let b = and_parts mark (second && last) (a.1) in
-    let c = and_parts second last (b.1) in
-    record {
-      all = is;
-      high = part_is (code_of (loongarch_name r.R_LARCH_GOT_PC_HI20)) one.offset 0 one one
-          (subst (λ x. is_part (code_of (loongarch_name r.R_LARCH_GOT_PC_HI20)) one.offset 0 one x ≡ true)
-          (there bytes n (omega (arith, within))) (a.0));
-      low = part_is (code_of (loongarch_name r.R_LARCH_GOT_PC_LO12)) one.offset 4 one (relocation_in bytes (n + 2))
-          (subst (λ x. is_part (code_of (loongarch_name r.R_LARCH_GOT_PC_LO12)) one.offset 4 one x ≡ true)
-          (there bytes (n + 2) within) (c.0));
-    }
-
 -- of a relocation it reads the symbol and the addend alone
 abbrev load_of : List ℕ → ℕ → ℕ → ℕ → ℤ → Bool
 load_of bytes n offset symbol addend =
-    is_marked_load bytes n offset (record { offset = 0; code = 0; symbol = symbol; addend = addend })
+    are_members marked_load bytes n 0 offset (record { offset = 0; code = 0; symbol = symbol; addend = addend })
 
-same_load : (bytes : List ℕ) (n offset : ℕ) (one part : Rela) → part.symbol ≡ one.symbol
-    → part.addend ≡ one.addend
-    → is_marked_load bytes n offset part ≡ is_marked_load bytes n offset one
-same_load bytes n offset one part symbol addend =
-    ap (λ x. load_of bytes n offset x part.addend) symbol
-    ∙ ap (load_of bytes n offset one.symbol) addend
+same_load : (bytes : List ℕ) (n offset : ℕ) (one part : Rela) → IsOf one part
+    → are_members marked_load bytes n 0 offset part ≡ are_members marked_load bytes n 0 offset one
+same_load bytes n offset one part same =
+    ap (λ x. load_of bytes n offset x part.addend) (same.0)
+    ∙ ap (load_of bytes n offset one.symbol) (same.1)
 
-le_is : (a b : ℕ) → a ≤ b → nat_le a b ≡ true
-le_is a b le = le-leb a b le
-
-at_place : (bytes : List ℕ) (n : ℕ) (one : Rela) (place first offset : ℕ) → 2 * place ≤ n
-    → 4 * place ≤ one.offset → n - 2 * place ≡ first → one.offset - 4 * place ≡ offset
-    → is_marked_load bytes first offset one ≡ true → is_load_at bytes n one (Some place) ≡ true
-at_place bytes n one place first offset le low is_first is_offset is =
-    ap (λ b. b && (nat_le (4 * place) one.offset && is_marked_load bytes (n - 2 * place) (one.offset - 4 * place) one)) (le_is (2 * place) n le)
-    ∙ (ap (λ b. b && is_marked_load bytes (n - 2 * place) (one.offset - 4 * place) one) (le_is (4 * place) one.offset low)
-    ∙ (ap (λ k. is_marked_load bytes k (one.offset - 4 * place) one) is_first
-    ∙ (ap (λ k. is_marked_load bytes first k one) is_offset ∙ is)))
-
-high_place : (bytes : List ℕ) (n : ℕ) → IsLoad bytes n
-    → is_load_at bytes n (relocation_in bytes n) (Some 0) ≡ true
-high_place bytes n load =
-    at_place bytes n (relocation_in bytes n) 0 n (relocation_in bytes n).offset (omega arith)
-    (omega arith) (omega arith) (omega arith) load.all
-
-low_place : (bytes : List ℕ) (n : ℕ) → IsLoad bytes n
-    → is_load_at bytes (n + 2) (relocation_in bytes (n + 2)) (Some 1) ≡ true
-low_place bytes n load =
-    let at = load.low.offset_is in
-    at_place bytes (n + 2) (relocation_in bytes (n + 2)) 1 n (relocation_in bytes n).offset (omega arith)
-    (omega (arith, at)) (omega arith) (omega (arith, at))
-    (same_load bytes n (relocation_in bytes n).offset (relocation_in bytes n) (relocation_in bytes (n + 2))
-    load.low.symbol_is load.low.addend_is ∙ load.all)
+-- a half of a name is among all of its load
+half_whole : (bytes : List ℕ) (n : ℕ) (r : Rela) (code place distance : ℕ) → code ≡ r.code
+    → is_whole LoongArch64 bytes n (record r { code = code })
+    ≡ (is_among marked_load place distance bytes n r && true)
+    → is_among marked_load place distance bytes n r ≡ true → is_whole LoongArch64 bytes n r ≡ true
+half_whole bytes n r code place distance same at all =
+    ap (λ c. is_whole LoongArch64 bytes n (record r { code = c })) (sym same)
+    ∙ (at ∙ ap (λ b. b && true) all)
 
 -- ---- candidates
 
@@ -211,13 +139,13 @@ abbrev Lacks : List SymbolFacts → List ℕ → List ℕ → ℕ → Rela → C
 Lacks symbols bytes section n one chosen =
     IsUnchanged one.code chosen
     ⊎ (IsTaken LoongArch64 symbols bytes n one.offset (relaxation_skipped chosen.kind) false
-    ⊎ (IsWhole LoongArch64 bytes n one false
+    ⊎ ((is_whole LoongArch64 bytes n one ≡ false)
     ⊎ (deletes_within section one.offset (relaxation_deleted chosen.kind) ≡ false)))
 
 lacks_nothing : (symbols : List SymbolFacts) (bytes section : List ℕ) (n : ℕ) (one : Rela)
     (chosen : Choice Relaxation ℕ) (kind : LoongArchKind)
     → chosen.kind ≡ relaxations.LoongArch64 kind → loongarch_deleted kind ≡ None
-    → (IsUnchanged one.code chosen → ⊥) → IsWhole LoongArch64 bytes n one true
+    → (IsUnchanged one.code chosen → ⊥) → is_whole LoongArch64 bytes n one ≡ true
     → Lacks symbols bytes section n one chosen → ⊥
 lacks_nothing symbols bytes section n one chosen kind is none changes whole lacks =
     elim lacks [
@@ -225,7 +153,7 @@ lacks_nothing symbols bytes section n one chosen kind is none changes whole lack
       | inr other ↦ elim other [
         | inl taken ↦ isnt (subst (λ k. IsTaken LoongArch64 symbols bytes n one.offset (relaxation_skipped k) false) is taken)
         | inr less ↦ elim less [
-          | inl lone ↦ true_or_false (one_whole LoongArch64 bytes n one true false whole lone)
+          | inl lone ↦ true_or_false (sym whole ∙ lone)
           | inr deletes ↦ true_or_false
               (sym (ap (λ k. deletes_within section one.offset (relaxation_deleted k)) is
               ∙ ap (deletes_within section one.offset) none) ∙ deletes)
@@ -248,8 +176,8 @@ record AreHalves (bytes : List ℕ) (n : ℕ) (high low : Rela) : Type 0 where
   pub high_code : code_of (loongarch_name r.R_LARCH_GOT_PC_HI20) ≡ high.code
   pub low_code : code_of (loongarch_name r.R_LARCH_GOT_PC_LO12) ≡ low.code
   pub low_offset : low.offset ≡ high.offset + 4
-  pub high_whole : IsWhole LoongArch64 bytes n high true
-  pub low_whole : IsWhole LoongArch64 bytes (n + 2) low true
+  pub high_whole : is_whole LoongArch64 bytes n high ≡ true
+  pub low_whole : is_whole LoongArch64 bytes (n + 2) low ≡ true
 
 high_alone : (symbols : List SymbolFacts) (bytes section : List ℕ) (n : ℕ) (high low : Rela)
     (output : OutputFacts) (symbol : SymbolFacts) (addend : ℤ) (x : Choice Relaxation ℕ)
@@ -358,9 +286,12 @@ loads_are_whole output symbols kept bytes section decisions limit n decided with
     let s : RelaxContext = pre_layout LoongArch64 output symbols in
     let high = relocation_in bytes n in
     let low = relocation_in bytes (n + 2) in
-    let load = load_is bytes n (omega (arith, within, all)) is in
-    let high_code : code_of (loongarch_name r.R_LARCH_GOT_PC_HI20) ≡ high.code = sym load.high.code_is in
-    let low_code : code_of (loongarch_name r.R_LARCH_GOT_PC_LO12) ≡ low.code = sym load.low.code_is in
+    let load = are_there marked_load high.offset high bytes n 0 is in
+    let second = load.1.1.0 in
+    let at = second.offset_is in
+    let high_code : code_of (loongarch_name r.R_LARCH_GOT_PC_HI20) ≡ high.code =
+    sym (at_first (member (loongarch_name r.R_LARCH_GOT_PC_HI20) 0 Subject) high.offset high bytes n (load.0)).code_is in
+    let low_code : code_of (loongarch_name r.R_LARCH_GOT_PC_LO12) ≡ low.code = sym second.code_is in
     let a = alone output symbols kept bytes section n high r.R_LARCH_GOT_PC_HI20 (decision_at decisions n) tt high_code refl
     (subst (λ t. IsDecidedAfter s kept bytes section n t (decision_at decisions n)) taken (decided n (omega (arith, within)))) in
     let b = alone output symbols kept bytes section (n + 2) low r.R_LARCH_GOT_PC_LO12 (decision_at decisions (n + 2)) tt low_code refl
@@ -368,21 +299,16 @@ loads_are_whole output symbols kept bytes section decisions limit n decided with
     let are : AreHalves bytes n high low = record {
       high_code = high_code;
       low_code = low_code;
-      low_offset = load.low.offset_is;
-      high_whole = (
-        Some 0,
-        record { name = r.R_LARCH_GOT_PC_HI20; is_name = a.is_name; value_is = refl },
-        sym (high_place bytes n load),
-      );
-      low_whole = (
-        Some 1,
-        record { name = r.R_LARCH_GOT_PC_LO12; is_name = b.is_name; value_is = refl },
-        sym (low_place bytes n load),
-      );
+      low_offset = at;
+      high_whole = half_whole bytes n high _ 0 0 high_code refl
+          (among_is marked_load 0 0 bytes n n high.offset high (omega arith) (omega arith) (omega arith) (omega arith) is);
+      low_whole = half_whole bytes (n + 2) low _ 2 4 low_code refl
+          (among_is marked_load 2 4 bytes (n + 2) n high.offset low (omega arith) (omega (arith, at)) (omega arith) (omega (arith, at))
+          (same_load bytes n high.offset high low (second.of refl) ∙ is));
     } in
     let both = by_symbol output symbols bytes section n high low (slice_get symbols high.symbol) a.candidate b.candidate are
-    load.low.addend_is a.is_candidate
+    (second.of refl).1 a.is_candidate
     (subst (λ z. IsCandidateWith s bytes section (n + 2) low (facts_by PreLayout output no_addresses [] low low false (slice_get symbols z)) b.candidate)
-    load.low.symbol_is b.is_candidate) in
+    (second.of refl).0 b.is_candidate) in
     subst (λ d. IsRewritten d ↔ IsRewritten (decision_at decisions (n + 2))) (sym a.decided)
     (subst (λ d. IsRewritten (decision_of a.candidate) ↔ IsRewritten d) (sym b.decided) both)

@@ -13,7 +13,7 @@ use Rattle.linker_elf.specs.ElfNames.{IsNameOf}
 use Rattle.linker_elf.specs.declared.aarch64.relocations.AArch64Relocation.{AArch64Relocation}
 use Rattle.linker_elf.specs.declared.aarch64.relocations.AArch64Relocation.TheVariants as names
 use Rattle.linker_elf.specs.declared.elf.choice.Choice.{Choice}
-use Rattle.linker_rewriting.specs.Sequences.{is_marked_load}
+use Rattle.linker_rewriting.specs.Sequences.{are_members, marked_load}
 use Rattle.linker_rewriting.specs.declared.decisions.Decision.{Decision}
 use Rattle.linker_rewriting.specs.declared.decisions.Decision.TheVariants.{Kept, Rewritten}
 use Rattle.linker_rewriting.specs.declared.decisions.Decision.TheVariants.{Consumed}
@@ -235,7 +235,7 @@ SequencesAreWhole =
 -- the relocations from an index on are those of a marked load from LoongArch's GOT
 abbrev pub IsLoadAt : List ℕ → ℕ → Type 0
 IsLoadAt bytes n =
-    is_marked_load bytes n (relocation_in bytes n).offset (relocation_in bytes n) ≡ true
+    are_members marked_load bytes n 0 (relocation_in bytes n).offset (relocation_in bytes n) ≡ true
 
 -- Both instructions of such a load are rewritten, or neither is. The second one's relocation is the
 -- next but one, after the first one's mark.

@@ -3,32 +3,29 @@
 -- address by its page (ELF for the Arm 64-bit Architecture, "Relocation optimization"); of
 -- LoongArch those of a load from the GOT (LoongArch ELF psABI, relaxation). And marks of what may
 -- be relaxed.
-use Rattle.std.specs.Prelude.{◌≡◌, ℕ, ◌+◌, ◌-◌, ◌*◌, ◌==◌, ◌&&◌, nat_le, Bool, true, false, pos}
-use Rattle.std.specs.Prelude.{List, Option, Some, None}
+use Rattle.std.specs.Prelude.{ℕ, ◌+◌, ◌-◌, ◌==◌, ◌&&◌, nat_le, Bool, true, false, cond, pos}
+use Rattle.std.specs.Prelude.{List, [], ◌∷◌, Option, Some, None}
 use Rattle.std.specs.Ordering.{int_eq}
 use Rattle.linker_elf.specs.AArch64Relocations.{aarch64_name}
-use Rattle.linker_elf.specs.ElfNames.{code_of}
+use Rattle.linker_elf.specs.ElfNames.{ElfName, code_of}
 use Rattle.linker_elf.specs.LoongArchRelocations.{loongarch_name}
 use Rattle.linker_elf.specs.Ppc64Relocations.{ppc64_name}
 use Rattle.linker_elf.specs.RiscVRelocations.{riscv_name}
-use Rattle.linker_elf.specs.declared.aarch64.relocations.AArch64Relocation.{AArch64Relocation}
 use Rattle.linker_elf.specs.declared.aarch64.relocations.AArch64Relocation.TheVariants as aarch64
-use Rattle.linker_elf.specs.declared.loongarch64.relocations.LoongArch64Relocation.{LoongArch64Relocation}
+use Rattle.linker_elf.specs.declared.elf.architecture.Architecture.{Architecture}
+use Rattle.linker_elf.specs.declared.elf.architecture.Architecture.TheVariants.{AArch64, RiscV}
+use Rattle.linker_elf.specs.declared.elf.architecture.Architecture.TheVariants.{LoongArch64}
+use Rattle.linker_elf.specs.declared.elf.architecture.Architecture.TheVariants.{Ppc64}
 use Rattle.linker_elf.specs.declared.loongarch64.relocations.LoongArch64Relocation.TheVariants as loongarch64
 use Rattle.linker_elf.specs.declared.ppc64.relocations.Ppc64Relocation.TheVariants as ppc64
 use Rattle.linker_elf.specs.declared.riscv64.relocations.RiscVRelocation.TheVariants as riscv64
 use Rattle.linker_rewriting.specs.declared.phases.Phase.{Phase}
 use Rattle.linker_rewriting.specs.declared.phases.Phase.TheVariants.{PreLayout}
-use Rattle.linker_rewriting.specs.declared.sequences.Sequence.{Sequence}
-use Rattle.linker_rewriting.specs.declared.sequences.Sequence.TheVariants.{Descriptor, EntryLoad}
-use Rattle.linker_rewriting.specs.declared.sequences.Sequence.TheVariants.{PageAndOffset}
+use Rattle.linker_rewriting.specs.declared.sequences.Member.{Member}
+use Rattle.linker_rewriting.specs.declared.sequences.Tie.{Tie}
+use Rattle.linker_rewriting.specs.declared.sequences.Tie.TheVariants.{Subject, Symbol, Mark}
 use Rattle.linker_section.specs.Relocations.{relocation_at}
 use Rattle.linker_section.specs.declared.relocations.Rela.{Rela}
-use Rattle.linker_elf.specs.Architectures.{IsNamedValue}
-use Rattle.linker_elf.specs.declared.elf.architecture.Architecture.{Architecture}
-use Rattle.linker_elf.specs.declared.elf.architecture.Architecture.TheVariants.{AArch64, RiscV}
-use Rattle.linker_elf.specs.declared.elf.architecture.Architecture.TheVariants.{LoongArch64}
-use Rattle.linker_elf.specs.declared.elf.architecture.Architecture.TheVariants.{Ppc64}
 
 -- ---- marks
 
@@ -38,17 +35,16 @@ mark_code RiscV = Some (code_of (riscv_name riscv64.R_RISCV_RELAX))
 mark_code LoongArch64 = Some (code_of (loongarch_name loongarch64.R_LARCH_RELAX))
 mark_code architecture = None
 
--- a relocation is a mark, n bytes after an offset
-abbrev pub is_mark_of : Option ℕ → ℕ → ℕ → Option Rela → Bool
-is_mark_of None offset distance r = false
-is_mark_of (Some code) offset distance None = false
-is_mark_of (Some code) offset distance (Some r) =
-    (r.offset == offset + distance) && (r.code == code)
+-- a relocation is a mark at an offset
+abbrev pub is_mark_of : Option ℕ → ℕ → Option Rela → Bool
+is_mark_of None offset r = false
+is_mark_of (Some code) offset None = false
+is_mark_of (Some code) offset (Some r) = (r.offset == offset) && (r.code == code)
 
 -- a mark stands after a relocation with an index
 abbrev pub is_marked_at : Architecture → List ℕ → ℕ → Rela → Bool
 is_marked_at architecture bytes n r =
-    is_mark_of (mark_code architecture) r.offset 0 (relocation_at bytes (n + 1))
+    is_mark_of (mark_code architecture) r.offset (relocation_at bytes (n + 1))
 
 -- What is marked in a phase. Before addresses are known it is a call of PowerPC64's prefixed code:
 -- after the mark of a call, and at the same offset, its own relocation is R_PPC64_REL24_NOTOC.
@@ -59,98 +55,95 @@ mark_code_in phase architecture = mark_code architecture
 
 abbrev pub is_marked_in : Phase → Architecture → List ℕ → ℕ → Rela → Bool
 is_marked_in phase architecture bytes n r =
-    is_mark_of (mark_code_in phase architecture) r.offset 0 (relocation_at bytes (n + 1))
+    is_mark_of (mark_code_in phase architecture) r.offset (relocation_at bytes (n + 1))
 
--- ---- sequences of AArch64
+-- ---- the members of sequences
 
--- the sequence that a relocation is of, and its place there
-abbrev pub place_in : AArch64Relocation → Option (Sequence × ℕ)
-place_in aarch64.R_AARCH64_TLSDESC_ADR_PAGE21 = Some (Descriptor, 0)
-place_in aarch64.R_AARCH64_TLSDESC_LD64_LO12 = Some (Descriptor, 1)
-place_in aarch64.R_AARCH64_TLSDESC_ADD_LO12 = Some (Descriptor, 2)
-place_in aarch64.R_AARCH64_TLSDESC_CALL = Some (Descriptor, 3)
-place_in aarch64.R_AARCH64_ADR_GOT_PAGE = Some (EntryLoad, 0)
-place_in aarch64.R_AARCH64_LD64_GOT_LO12_NC = Some (EntryLoad, 1)
-place_in aarch64.R_AARCH64_ADR_PREL_PG_HI21 = Some (PageAndOffset, 0)
-place_in aarch64.R_AARCH64_ADD_ABS_LO12_NC = Some (PageAndOffset, 1)
-place_in name = None
+abbrev pub member : ElfName → ℕ → Tie → Member
+member name distance tie = record { r_type = code_of name; distance = distance; tie = tie }
 
--- a relocation is n bytes after an offset, has a code, and is of the symbol and the addend
--- of another one
-abbrev pub is_part : ℕ → ℕ → ℕ → Rela → Option Rela → Bool
-is_part code offset distance r None = false
-is_part code offset distance r (Some part) =
-    (part.offset == offset + distance) && ((part.code == code)
-    && ((part.symbol == r.symbol) && int_eq part.addend r.addend))
+abbrev pub descriptor : List Member
+descriptor =
+    member (aarch64_name aarch64.R_AARCH64_TLSDESC_ADR_PAGE21) 0 Subject
+    ∷ member (aarch64_name aarch64.R_AARCH64_TLSDESC_LD64_LO12) 4 Subject
+    ∷ member (aarch64_name aarch64.R_AARCH64_TLSDESC_ADD_LO12) 8 Subject
+    ∷ member (aarch64_name aarch64.R_AARCH64_TLSDESC_CALL) 12 Subject
+    ∷ []
 
-abbrev pub is_aarch64_part : AArch64Relocation → ℕ → ℕ → Rela → Option Rela → Bool
-is_aarch64_part name = is_part (code_of (aarch64_name name))
+abbrev pub got_load : List Member
+got_load =
+    member (aarch64_name aarch64.R_AARCH64_ADR_GOT_PAGE) 0 Symbol
+    ∷ member (aarch64_name aarch64.R_AARCH64_LD64_GOT_LO12_NC) 4 Symbol
+    ∷ []
 
--- those from an index on are all of a descriptor that begins at an offset, four bytes apart
-abbrev pub is_descriptor : List ℕ → ℕ → ℕ → Rela → Bool
-is_descriptor bytes first offset r =
-    is_aarch64_part aarch64.R_AARCH64_TLSDESC_ADR_PAGE21 offset 0 r (relocation_at bytes first)
-    && (is_aarch64_part aarch64.R_AARCH64_TLSDESC_LD64_LO12 offset 4 r
-    (relocation_at bytes (first + 1))
-    && (is_aarch64_part aarch64.R_AARCH64_TLSDESC_ADD_LO12 offset 8 r
-    (relocation_at bytes (first + 2))
-    && is_aarch64_part aarch64.R_AARCH64_TLSDESC_CALL offset 12 r
-    (relocation_at bytes (first + 3))))
+abbrev pub page_and_offset : List Member
+page_and_offset =
+    member (aarch64_name aarch64.R_AARCH64_ADR_PREL_PG_HI21) 0 Symbol
+    ∷ member (aarch64_name aarch64.R_AARCH64_ADD_ABS_LO12_NC) 4 Symbol
+    ∷ []
 
--- two with the addend 0, four bytes apart
-abbrev pub is_pair : AArch64Relocation → AArch64Relocation → List ℕ → ℕ → ℕ → Rela → Bool
-is_pair high low bytes first offset r =
-    int_eq r.addend (pos 0)
-    && (is_aarch64_part high offset 0 r (relocation_at bytes first)
-    && is_aarch64_part low offset 4 r (relocation_at bytes (first + 1)))
+-- each instruction has its mark
+abbrev pub marked_load : List Member
+marked_load =
+    member (loongarch_name loongarch64.R_LARCH_GOT_PC_HI20) 0 Subject
+    ∷ member (loongarch_name loongarch64.R_LARCH_RELAX) 0 Mark
+    ∷ member (loongarch_name loongarch64.R_LARCH_GOT_PC_LO12) 4 Subject
+    ∷ member (loongarch_name loongarch64.R_LARCH_RELAX) 4 Mark
+    ∷ []
 
-abbrev pub is_all : Sequence → List ℕ → ℕ → ℕ → Rela → Bool
-is_all Descriptor = is_descriptor
-is_all EntryLoad = is_pair aarch64.R_AARCH64_ADR_GOT_PAGE aarch64.R_AARCH64_LD64_GOT_LO12_NC
-is_all PageAndOffset =
-    is_pair aarch64.R_AARCH64_ADR_PREL_PG_HI21 aarch64.R_AARCH64_ADD_ABS_LO12_NC
+abbrev pub sequences : Architecture → List (List Member)
+sequences AArch64 = descriptor ∷ got_load ∷ page_and_offset ∷ []
+sequences LoongArch64 = marked_load ∷ []
+sequences architecture = []
 
--- a relocation with an index, at a place of a sequence, is among all of it
-abbrev pub is_whole_at : List ℕ → ℕ → Rela → Option (Sequence × ℕ) → Bool
-is_whole_at bytes n r None = true
-is_whole_at bytes n r (Some place) =
-    nat_le (place.1) n && (nat_le (4 * place.1) r.offset
-    && is_all (place.0) bytes (n - place.1) (r.offset - 4 * place.1) r)
+-- ---- all of a sequence
 
--- ---- the pair of LoongArch
+-- a relocation is of the symbol and the addend of another one of its sequence
+abbrev pub is_tied : Tie → Rela → Rela → Bool
+is_tied Subject r found = (found.symbol == r.symbol) && int_eq found.addend r.addend
+is_tied Symbol r found =
+    ((found.symbol == r.symbol) && int_eq found.addend r.addend) && int_eq r.addend (pos 0)
+is_tied Mark r found = true
 
--- the place of a relocation of a load from the GOT
-abbrev pub place_in_load : LoongArch64Relocation → Option ℕ
-place_in_load loongarch64.R_LARCH_GOT_PC_HI20 = Some 0
-place_in_load loongarch64.R_LARCH_GOT_PC_LO12 = Some 1
-place_in_load name = None
+-- a relocation is a member of a sequence that begins at an offset
+abbrev pub is_member : Member → ℕ → Rela → Option Rela → Bool
+is_member m offset r None = false
+is_member m offset r (Some found) =
+    (found.offset == offset + m.distance) && ((found.code == m.r_type) && is_tied m.tie r found)
 
-abbrev pub is_loongarch_part : LoongArch64Relocation → ℕ → ℕ → Rela → Option Rela → Bool
-is_loongarch_part name = is_part (code_of (loongarch_name name))
+-- those from a place on are all there, of a sequence whose first relocation has an index
+abbrev pub are_members : List Member → List ℕ → ℕ → ℕ → ℕ → Rela → Bool
+are_members [] bytes first place offset r = true
+are_members (m ∷ ms) bytes first place offset r =
+    is_member m offset r (relocation_at bytes (first + place))
+    && are_members ms bytes first (place + 1) offset r
 
--- those from an index on are of a load at an offset, each with its mark after it
-abbrev pub is_marked_load : List ℕ → ℕ → ℕ → Rela → Bool
-is_marked_load bytes first offset r =
-    is_loongarch_part loongarch64.R_LARCH_GOT_PC_HI20 offset 0 r (relocation_at bytes first)
-    && (is_mark_of (mark_code LoongArch64) offset 0 (relocation_at bytes (first + 1))
-    && (is_loongarch_part loongarch64.R_LARCH_GOT_PC_LO12 offset 4 r
-    (relocation_at bytes (first + 2))
-    && is_mark_of (mark_code LoongArch64) offset 4 (relocation_at bytes (first + 3))))
+-- all of a sequence are there, of which a relocation with an index is at a place
+abbrev pub is_among : List Member → ℕ → ℕ → List ℕ → ℕ → Rela → Bool
+is_among all place distance bytes n r =
+    nat_le place n && (nat_le distance r.offset
+    && are_members all bytes (n - place) 0 (r.offset - distance) r)
 
-abbrev pub is_load_at : List ℕ → ℕ → Rela → Option ℕ → Bool
-is_load_at bytes n r None = true
-is_load_at bytes n r (Some place) =
-    nat_le (2 * place) n && (nat_le (4 * place) r.offset
-    && is_marked_load bytes (n - 2 * place) (r.offset - 4 * place) r)
+-- a type is that of a member
+abbrev pub is_typed : Tie → Bool
+is_typed Mark = false
+is_typed tie = true
 
--- ---- of any architecture
+abbrev pub is_place : Member → ℕ → Bool
+is_place m code = (m.r_type == code) && is_typed m.tie
 
--- it is of no such sequence, or all of the sequence are next to it
-abbrev pub IsWhole : Architecture → List ℕ → ℕ → Rela → Bool → Type 0
-IsWhole AArch64 bytes n r whole =
-    (place : Option (Sequence × ℕ)) × IsNamedValue aarch64_name place_in r.code place
-    × (whole ≡ is_whole_at bytes n r place)
-IsWhole LoongArch64 bytes n r whole =
-    (place : Option ℕ) × IsNamedValue loongarch_name place_in_load r.code place
-    × (whole ≡ is_load_at bytes n r place)
-IsWhole architecture bytes n r whole = whole ≡ true
+-- a relocation is at no place of a sequence from one on, or all of the sequence are there
+abbrev pub is_whole_in : List Member → List Member → ℕ → List ℕ → ℕ → Rela → Bool
+is_whole_in all [] place bytes n r = true
+is_whole_in all (m ∷ ms) place bytes n r =
+    cond (is_place m r.code) (is_among all place m.distance bytes n r)
+    (is_whole_in all ms (place + 1) bytes n r)
+
+abbrev pub are_whole : List (List Member) → List ℕ → ℕ → Rela → Bool
+are_whole [] bytes n r = true
+are_whole (all ∷ others) bytes n r =
+    is_whole_in all all 0 bytes n r && are_whole others bytes n r
+
+-- of an architecture
+abbrev pub is_whole : Architecture → List ℕ → ℕ → Rela → Bool
+is_whole architecture = are_whole (sequences architecture)

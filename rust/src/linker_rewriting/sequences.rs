@@ -14,17 +14,6 @@ use crate::ppc64::Ppc64Relocation;
 #[cfg(feature = "riscv64")]
 use crate::riscv64::RiscVRelocation;
 
-/// A sequence of AArch64 whose relocations are next to each other.
-#[derive(Clone, Copy, Debug, PartialEq, Eq)]
-pub(crate) enum Sequence {
-    /// The four of a TLS descriptor.
-    Descriptor,
-    /// Both of a load from the GOT.
-    EntryLoad,
-    /// Both of an address by its page.
-    PageAndOffset,
-}
-
 /// The code of the mark of an instruction that may be relaxed.
 #[inline(always)]
 fn mark_code(architecture: Architecture) -> Option<u32> {
@@ -37,16 +26,16 @@ fn mark_code(architecture: Architecture) -> Option<u32> {
     }
 }
 
-/// Whether a relocation is a mark with a code, n bytes after an offset.
+/// Whether a relocation is a mark with a code at an offset.
 #[inline(always)]
-fn is_mark_of(code: Option<u32>, offset: u64, distance: u64, relocation: Option<Rela>) -> bool {
+fn is_mark_of(code: Option<u32>, offset: u64, relocation: Option<Rela>) -> bool {
     let Some(code) = code else {
         return false;
     };
     let Some(relocation) = relocation else {
         return false;
     };
-    relocation.offset.checked_sub(offset) == Some(distance) && relocation.code == code
+    relocation.offset == offset && relocation.code == code
 }
 
 /// Whether a mark stands after a relocation with an index.
@@ -58,7 +47,7 @@ pub(crate) fn is_marked_at(
     relocation: &Rela,
 ) -> bool {
     let next = relocation_at(relocations, index + 1);
-    is_mark_of(mark_code(architecture), relocation.offset, 0, next)
+    is_mark_of(mark_code(architecture), relocation.offset, next)
 }
 
 /// The code of what is marked in a phase: before addresses are known a call of PowerPC64's prefixed
@@ -93,246 +82,136 @@ pub(crate) fn is_marked_in(
 ) -> bool {
     let next = relocation_at(relocations, index + 1);
     let code = mark_code_in(phase, architecture);
-    is_mark_of(code, relocation.offset, 0, next)
+    is_mark_of(code, relocation.offset, next)
 }
 
-/// The sequence that a relocation of AArch64 is of, and its place there.
-#[cfg(feature = "aarch64")]
+/// What ties a relocation to the others of its sequence.
+#[derive(Clone, Copy)]
+pub(crate) enum Tie {
+    /// It is of their symbol and addend.
+    Subject,
+    /// The same, and the addend is 0.
+    Symbol,
+    /// It marks that the instruction may be relaxed, whatever it is of.
+    Mark,
+}
+
+/// A relocation of a sequence.
+#[derive(Clone, Copy)]
+pub(crate) struct Member {
+    /// Its type.
+    pub r_type: u32,
+    /// How many bytes it is after the first one.
+    pub distance: u64,
+    /// What ties it to the others.
+    pub tie: Tie,
+}
+
+/// Whether a relocation is tied to another one of its sequence.
 #[inline(always)]
-fn place_in(name: AArch64Relocation) -> Option<(Sequence, usize)> {
-    match name {
-        #[cfg(feature = "aarch64")]
-        AArch64Relocation::R_AARCH64_TLSDESC_ADR_PAGE21 => Some((Sequence::Descriptor, 0)),
-        #[cfg(feature = "aarch64")]
-        AArch64Relocation::R_AARCH64_TLSDESC_LD64_LO12 => Some((Sequence::Descriptor, 1)),
-        #[cfg(feature = "aarch64")]
-        AArch64Relocation::R_AARCH64_TLSDESC_ADD_LO12 => Some((Sequence::Descriptor, 2)),
-        #[cfg(feature = "aarch64")]
-        AArch64Relocation::R_AARCH64_TLSDESC_CALL => Some((Sequence::Descriptor, 3)),
-        #[cfg(feature = "aarch64")]
-        AArch64Relocation::R_AARCH64_ADR_GOT_PAGE => Some((Sequence::EntryLoad, 0)),
-        #[cfg(feature = "aarch64")]
-        AArch64Relocation::R_AARCH64_LD64_GOT_LO12_NC => Some((Sequence::EntryLoad, 1)),
-        #[cfg(feature = "aarch64")]
-        AArch64Relocation::R_AARCH64_ADR_PREL_PG_HI21 => Some((Sequence::PageAndOffset, 0)),
-        #[cfg(feature = "aarch64")]
-        AArch64Relocation::R_AARCH64_ADD_ABS_LO12_NC => Some((Sequence::PageAndOffset, 1)),
-        _ => None,
+fn is_tied(tie: Tie, relocation: &Rela, found: &Rela) -> bool {
+    let is_same = found.symbol == relocation.symbol && found.addend == relocation.addend;
+    match tie {
+        Tie::Subject => is_same,
+        Tie::Symbol => is_same && relocation.addend == 0,
+        Tie::Mark => true,
     }
 }
 
-/// Whether a relocation is n bytes after an offset, has a code, and is of the symbol and the
-/// addend of another one.
+/// Whether a relocation is a member of a sequence at an offset, tied to another one.
 #[inline(always)]
-fn is_part(code: u32, offset: u64, distance: u64, relocation: &Rela, part: Option<Rela>) -> bool {
-    let Some(part) = part else {
+fn is_member(member: Member, offset: u64, relocation: &Rela, found: Option<Rela>) -> bool {
+    let Some(found) = found else {
         return false;
     };
-    part.offset.checked_sub(offset) == Some(distance)
-        && part.code == code
-        && part.symbol == relocation.symbol
-        && part.addend == relocation.addend
+    found.offset.checked_sub(offset) == Some(member.distance)
+        && found.code == member.r_type
+        && is_tied(member.tie, relocation, &found)
 }
 
-/// The same by a name of AArch64.
-#[cfg(feature = "aarch64")]
+/// Whether the relocations from an index on are the members of a sequence at an offset.
 #[inline(always)]
-fn is_aarch64_part(
-    name: AArch64Relocation,
-    offset: u64,
-    distance: u64,
-    relocation: &Rela,
-    part: Option<Rela>,
-) -> bool {
-    is_part(name.elf_code(), offset, distance, relocation, part)
-}
-
-/// Whether the relocations from an index on are those of a TLS descriptor that begins at an offset,
-/// of the symbol and the addend of a relocation.
-#[cfg(feature = "aarch64")]
-fn is_descriptor(relocations: &[u8], first: usize, offset: u64, relocation: &Rela) -> bool {
-    is_aarch64_part(
-        AArch64Relocation::R_AARCH64_TLSDESC_ADR_PAGE21,
-        offset,
-        0,
-        relocation,
-        relocation_at(relocations, first),
-    ) && is_aarch64_part(
-        AArch64Relocation::R_AARCH64_TLSDESC_LD64_LO12,
-        offset,
-        4,
-        relocation,
-        relocation_at(relocations, first + 1),
-    ) && is_aarch64_part(
-        AArch64Relocation::R_AARCH64_TLSDESC_ADD_LO12,
-        offset,
-        8,
-        relocation,
-        relocation_at(relocations, first + 2),
-    ) && is_aarch64_part(
-        AArch64Relocation::R_AARCH64_TLSDESC_CALL,
-        offset,
-        12,
-        relocation,
-        relocation_at(relocations, first + 3),
-    )
-}
-
-/// Whether the relocations from an index on are a pair with these names at an offset, of the symbol
-/// of a relocation and without an addend.
-#[cfg(feature = "aarch64")]
-fn is_pair(
-    high: AArch64Relocation,
-    low: AArch64Relocation,
+fn are_members(
+    members: &[Member],
     relocations: &[u8],
     first: usize,
     offset: u64,
     relocation: &Rela,
 ) -> bool {
-    relocation.addend == 0
-        && is_aarch64_part(
-            high,
-            offset,
-            0,
-            relocation,
-            relocation_at(relocations, first),
-        )
-        && is_aarch64_part(
-            low,
-            offset,
-            4,
-            relocation,
-            relocation_at(relocations, first + 1),
-        )
-}
-
-/// Whether the relocations from an index on are all of a sequence at an offset.
-#[cfg(feature = "aarch64")]
-#[inline(always)]
-fn is_all(
-    sequence: Sequence,
-    relocations: &[u8],
-    first: usize,
-    offset: u64,
-    relocation: &Rela,
-) -> bool {
-    match sequence {
-        Sequence::Descriptor => is_descriptor(relocations, first, offset, relocation),
-        Sequence::EntryLoad => is_pair(
-            AArch64Relocation::R_AARCH64_ADR_GOT_PAGE,
-            AArch64Relocation::R_AARCH64_LD64_GOT_LO12_NC,
-            relocations,
-            first,
-            offset,
-            relocation,
-        ),
-        Sequence::PageAndOffset => is_pair(
-            AArch64Relocation::R_AARCH64_ADR_PREL_PG_HI21,
-            AArch64Relocation::R_AARCH64_ADD_ABS_LO12_NC,
-            relocations,
-            first,
-            offset,
-            relocation,
-        ),
+    for (place, &member) in members.iter().enumerate() {
+        let found = relocation_at(relocations, first + place);
+        if !is_member(member, offset, relocation, found) {
+            return false;
+        }
     }
+    true
 }
 
-/// Whether a relocation with an index, at a place of a sequence of AArch64, is among all of it.
-#[cfg(feature = "aarch64")]
-fn is_whole_at(
+/// Whether all of a sequence are there, of which the relocation with an index is at a place, n
+/// bytes after the first one.
+#[inline(always)]
+fn is_among(
+    members: &[Member],
+    place: usize,
+    distance: u64,
     relocations: &[u8],
     index: usize,
     relocation: &Rela,
-    place: Option<(Sequence, usize)>,
 ) -> bool {
-    let Some((sequence, place)) = place else {
-        return true;
-    };
-    if index < place {
+    if index < place || relocation.offset < distance {
         return false;
     }
-    let back = 4 * place as u64;
-    if relocation.offset < back {
-        return false;
-    }
-    is_all(
-        sequence,
+    are_members(
+        members,
         relocations,
         index - place,
-        relocation.offset - back,
+        relocation.offset - distance,
         relocation,
     )
 }
 
-/// The place of a relocation of a load from LoongArch's GOT.
-#[cfg(feature = "loongarch64")]
+/// Whether a relocation with a type may be a member, and isn't its mark.
 #[inline(always)]
-fn place_in_load(name: LoongArch64Relocation) -> Option<usize> {
-    match name {
-        #[cfg(feature = "loongarch64")]
-        LoongArch64Relocation::R_LARCH_GOT_PC_HI20 => Some(0),
-        #[cfg(feature = "loongarch64")]
-        LoongArch64Relocation::R_LARCH_GOT_PC_LO12 => Some(1),
-        _ => None,
+fn is_place(member: Member, code: u32) -> bool {
+    member.r_type == code && !matches!(member.tie, Tie::Mark)
+}
+
+/// Whether the relocation with an index is at no place of a sequence, or all of it are there.
+#[inline(always)]
+fn is_whole_in(members: &[Member], relocations: &[u8], index: usize, relocation: &Rela) -> bool {
+    for (place, &member) in members.iter().enumerate() {
+        if is_place(member, relocation.code) {
+            return is_among(
+                members,
+                place,
+                member.distance,
+                relocations,
+                index,
+                relocation,
+            );
+        }
     }
+    true
 }
 
-/// Whether a relocation is n bytes after an offset, has a name of LoongArch, and is of the
-/// symbol and the addend of another one.
-#[cfg(feature = "loongarch64")]
-#[inline(always)]
-fn is_loongarch_part(
-    name: LoongArch64Relocation,
-    offset: u64,
-    distance: u64,
-    relocation: &Rela,
-    part: Option<Rela>,
-) -> bool {
-    is_part(name.elf_code(), offset, distance, relocation, part)
-}
-
-/// Whether the relocations from an index on are those of a load from LoongArch's GOT at an offset,
-/// each with its mark after it.
-#[cfg(feature = "loongarch64")]
-fn is_marked_load(relocations: &[u8], first: usize, offset: u64, relocation: &Rela) -> bool {
-    let mark = mark_code(Architecture::LoongArch64);
-    is_loongarch_part(
-        LoongArch64Relocation::R_LARCH_GOT_PC_HI20,
-        offset,
-        0,
-        relocation,
-        relocation_at(relocations, first),
-    ) && is_mark_of(mark, offset, 0, relocation_at(relocations, first + 1))
-        && is_loongarch_part(
-            LoongArch64Relocation::R_LARCH_GOT_PC_LO12,
-            offset,
-            4,
-            relocation,
-            relocation_at(relocations, first + 2),
-        )
-        && is_mark_of(mark, offset, 4, relocation_at(relocations, first + 3))
-}
-
-/// Whether a relocation with an index, at a place of a load from LoongArch's GOT, is among all of
-/// it.
-#[cfg(feature = "loongarch64")]
-fn is_load_at(relocations: &[u8], index: usize, relocation: &Rela, place: Option<usize>) -> bool {
-    let Some(place) = place else {
-        return true;
+/// Whether a relocation is whole in each of these sequences, whose members are a name, how many
+/// bytes it is after the first one, and its tie.
+macro_rules! sequences {
+    (
+        $relocations:ident, $index:ident, $relocation:ident: $names:ident
+        $([$($name:ident $distance:literal $tie:ident),+])+
+    ) => {
+        $(is_whole_in(
+            &[$(Member {
+                r_type: $names::$name.elf_code(),
+                distance: $distance,
+                tie: Tie::$tie,
+            }),+],
+            $relocations,
+            $index,
+            $relocation,
+        ))&&+
     };
-    if index < 2 * place {
-        return false;
-    }
-    let back = 4 * place as u64;
-    if relocation.offset < back {
-        return false;
-    }
-    is_marked_load(
-        relocations,
-        index - 2 * place,
-        relocation.offset - back,
-        relocation,
-    )
 }
 
 /// Whether a relocation with an index is of no sequence whose relocations are next to each other,
@@ -346,15 +225,19 @@ pub(crate) fn is_whole(
 ) -> bool {
     match architecture {
         #[cfg(feature = "aarch64")]
-        Architecture::AArch64 => {
-            let place = place_in(AArch64Relocation::from_elf(relocation.code));
-            is_whole_at(relocations, index, relocation, place)
-        }
+        Architecture::AArch64 => sequences! {
+            relocations, index, relocation: AArch64Relocation
+            [R_AARCH64_TLSDESC_ADR_PAGE21 0 Subject, R_AARCH64_TLSDESC_LD64_LO12 4 Subject,
+                R_AARCH64_TLSDESC_ADD_LO12 8 Subject, R_AARCH64_TLSDESC_CALL 12 Subject]
+            [R_AARCH64_ADR_GOT_PAGE 0 Symbol, R_AARCH64_LD64_GOT_LO12_NC 4 Symbol]
+            [R_AARCH64_ADR_PREL_PG_HI21 0 Symbol, R_AARCH64_ADD_ABS_LO12_NC 4 Symbol]
+        },
         #[cfg(feature = "loongarch64")]
-        Architecture::LoongArch64 => {
-            let place = place_in_load(LoongArch64Relocation::from_elf(relocation.code));
-            is_load_at(relocations, index, relocation, place)
-        }
+        Architecture::LoongArch64 => sequences! {
+            relocations, index, relocation: LoongArch64Relocation
+            [R_LARCH_GOT_PC_HI20 0 Subject, R_LARCH_RELAX 0 Mark,
+                R_LARCH_GOT_PC_LO12 4 Subject, R_LARCH_RELAX 4 Mark]
+        },
         _ => true,
     }
 }
