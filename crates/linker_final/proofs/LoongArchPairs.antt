@@ -16,7 +16,7 @@ use Rattle.linker_rewriting.specs.Facts.{RelaxContext, pre_layout, link_facts}
 use Rattle.linker_rewriting.specs.Groups.{IsScopeIn, loongarch_scope_in}
 use Rattle.linker_rewriting.specs.Rewritten.{IsLoadAt, IsRewritten}
 use Rattle.linker_rewriting.proofs.SequenceMembers.{among, are_there}
-use Rattle.linker_rewriting.specs.Sequences.{are_members, is_marked_in, is_whole, marked_load}
+use Rattle.linker_rewriting.specs.Sequences.{IsWhole, are_members, is_marked_in, is_whole, marked_load}
 use Rattle.linker_rewriting.specs.declared.decisions.Decision.{Decision}
 use Rattle.linker_rewriting.specs.declared.decisions.Decision.TheVariants.{Kept, Rewritten, Consumed}
 use Rattle.linker_rewriting.specs.declared.phases.Phase.TheVariants.{PreLayout}
@@ -45,10 +45,10 @@ pub record AreOfLoad (l : Linked) (i j : ℕ) : Type 0 where
 -- the first of a sequence that is whole is that of a load
 whole_is : (bytes : List ℕ) (n : ℕ)
     → IsNameOf loongarch_name (relocation_in bytes n).code names.R_LARCH_GOT_PC_HI20
-    → is_whole LoongArch64 bytes n (relocation_in bytes n) ≡ true → IsLoadAt bytes n
+    → IsWhole LoongArch64 bytes n (relocation_in bytes n) true → IsLoadAt bytes n
 whole_is bytes n is_name whole =
     let r = relocation_in bytes n in
-    let all = among marked_load 0 0 bytes n r (ap (λ c. is_whole LoongArch64 bytes n (record r { code = c })) is_name.code_is ∙ whole) in
+    let all = among marked_load 0 0 bytes n r (ap (λ c. is_whole LoongArch64 bytes n (record r { code = c })) is_name.code_is ∙ sym whole) in
     let first : n - 0 ≡ n = omega arith in
     let offset : r.offset - 0 ≡ r.offset = omega arith in
     subst (λ k. are_members marked_load bytes n 0 k r ≡ true) offset
@@ -107,12 +107,12 @@ module _ (l : Linked) (all : AreDecidedIn l.context l.kept l.relocations l.secti
 -- a candidate's sequence is whole
 whole_with : (s : RelaxContext) (bytes section : List ℕ) (n : ℕ) (r : Rela) (chosen : Choice Relaxation ℕ)
     (facts : Option LinkFacts) → IsCandidateWith s bytes section n r facts (Some chosen)
-    → is_whole s.architecture bytes n r ≡ true
+    → IsWhole s.architecture bytes n r true
 whole_with s bytes section n r chosen None is = absurd (let e : Some chosen ≡ None = is in cc)
 whole_with s bytes section n r chosen (Some facts) is = is.3
 
 whole_of : (s : RelaxContext) (bytes section : List ℕ) (n : ℕ) (r : Rela) (chosen : Choice Relaxation ℕ)
-    → IsCandidate s bytes section n r (Some chosen) → is_whole s.architecture bytes n r ≡ true
+    → IsCandidate s bytes section n r (Some chosen) → IsWhole s.architecture bytes n r true
 whole_of s bytes section n r chosen =
     whole_with s bytes section n r chosen
     (link_facts s.phase s.output s.symbols s.addresses s.values r r (is_marked_in s.phase s.architecture bytes n r))
@@ -141,10 +141,10 @@ load_of l all context i chosen below is_name decided =
     let taken : is_taken l.decisions i ≡ false = rewritten_alone l all context i below chosen decided in
     let page = by_scope l all context i below names.R_LARCH_GOT_PC_HI20 tt (sym is_name.code_is) taken in
     let page_made = of_candidate (decision_at l.decisions i) (page.1.0) (page.1.2) (subst IsRewritten (sym decided) tt) in
-    let whole : is_whole l.context.architecture l.relocations i r ≡ true =
+    let whole : IsWhole l.context.architecture l.relocations i r true =
     whole_of l.context l.relocations l.section i r page_made.chosen
     (subst (IsCandidate l.context l.relocations l.section i r) page_made.candidate_is (page.1.1)) in
-    let is = whole_is l.relocations i is_name (subst (λ x. is_whole x l.relocations i r ≡ true) loongarch whole) in
+    let is = whole_is l.relocations i is_name (subst (λ x. IsWhole x l.relocations i r true) loongarch whole) in
     let load = are_there marked_load r.offset r l.relocations i 0 is in
     let second = load.1.1.0 in
     let within = second.below in

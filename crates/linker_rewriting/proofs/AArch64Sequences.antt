@@ -21,7 +21,7 @@ use Rattle.linker_rewriting.specs.Facts.{RelaxContext, facts_by, facts_of, link_
 use Rattle.linker_rewriting.specs.Groups.{IsScopeIn, aarch64_scope_in, group_stays}
 use Rattle.linker_rewriting.specs.Rewritten.{IsAddressRewritten, IsDescriptorWhole, IsLoadRewritten, IsPartAt, IsRewrittenBy, IsWholeBy, SequencesAreWhole}
 use Rattle.linker_rewriting.specs.RiscVPcrelGroups.{is_labelled}
-use Rattle.linker_rewriting.specs.Sequences.{are_members, descriptor, got_load, is_among, is_typed, is_whole, member, page_and_offset}
+use Rattle.linker_rewriting.specs.Sequences.{IsWhole, are_members, descriptor, got_load, is_among, is_typed, is_whole, member, page_and_offset}
 use Rattle.linker_rewriting.specs.declared.decisions.Decision.{Decision}
 use Rattle.linker_rewriting.specs.declared.decisions.Decision.TheVariants.{Kept, Rewritten, Consumed, RewrittenWithSymbol}
 use Rattle.linker_rewriting.specs.declared.facts.OutputFacts.{OutputFacts}
@@ -242,7 +242,7 @@ module _ (s : RelaxContext) (aarch64 : s.architecture ≡ AArch64) (kept : List 
   -- all of its sequence are there
   whole_with : (n : ℕ) (chosen : Choice Relaxation ℕ) (f : Option LinkFacts)
       → IsCandidateWith s bytes section n (relocation_in bytes n) f (Some chosen)
-      → is_whole s.architecture bytes n (relocation_in bytes n) ≡ true
+      → IsWhole s.architecture bytes n (relocation_in bytes n) true
   whole_with n chosen None is = absurd (let e : Some chosen ≡ None = is in cc)
   whole_with n chosen (Some f) is = is.3
 
@@ -262,7 +262,7 @@ module _ (s : RelaxContext) (aarch64 : s.architecture ≡ AArch64) (kept : List 
       among all place distance bytes n r
       (sym at
       ∙ (ap (λ c. is_whole AArch64 bytes n (record r { code = c })) is_name.code_is
-      ∙ subst (λ x. is_whole x bytes n r ≡ true) aarch64 (whole_with n chosen _ is)))
+      ∙ sym (let has : IsWhole AArch64 bytes n r true = subst (λ x. IsWhole x bytes n r true) aarch64 (whole_with n chosen _ is) in has)))
 
   part : (name : AArch64Relocation) (tie : Tie) (offset distance first i : ℕ) (head : Member) (one : Rela)
       → IsNamed (aarch64_name name) → is_typed tie ≡ true → is_typed head.tie ≡ true → head.distance ≡ 0

@@ -18,7 +18,7 @@ use Rattle.linker_rewriting.specs.Decisions.{IsDecidedAfter, IsDecidedAlone, IsS
 use Rattle.linker_rewriting.specs.Facts.{RelaxContext, pre_layout, facts_of, facts_by, no_addresses}
 use Rattle.linker_rewriting.specs.Groups.{loongarch_scope_in}
 use Rattle.linker_rewriting.specs.Rewritten.{IsRewritten, LoadsAreWhole}
-use Rattle.linker_rewriting.specs.Sequences.{are_members, is_among, is_whole, marked_load, member}
+use Rattle.linker_rewriting.specs.Sequences.{IsWhole, are_members, is_among, is_whole, marked_load, member}
 use Rattle.linker_rewriting.specs.declared.sequences.Tie.TheVariants.{Subject}
 use Rattle.linker_rewriting.specs.declared.decisions.Decision.{Decision}
 use Rattle.linker_rewriting.specs.declared.facts.OutputFacts.{OutputFacts}
@@ -105,10 +105,10 @@ same_load bytes n offset one part same =
 half_whole : (bytes : List ℕ) (n : ℕ) (r : Rela) (code place distance : ℕ) → code ≡ r.code
     → is_whole LoongArch64 bytes n (record r { code = code })
     ≡ (is_among marked_load place distance bytes n r && true)
-    → is_among marked_load place distance bytes n r ≡ true → is_whole LoongArch64 bytes n r ≡ true
+    → is_among marked_load place distance bytes n r ≡ true → IsWhole LoongArch64 bytes n r true
 half_whole bytes n r code place distance same at all =
-    ap (λ c. is_whole LoongArch64 bytes n (record r { code = c })) (sym same)
-    ∙ (at ∙ ap (λ b. b && true) all)
+    sym (ap (λ c. is_whole LoongArch64 bytes n (record r { code = c })) (sym same)
+    ∙ (at ∙ ap (λ b. b && true) all))
 
 -- ---- candidates
 
@@ -139,13 +139,13 @@ abbrev Lacks : List SymbolFacts → List ℕ → List ℕ → ℕ → Rela → C
 Lacks symbols bytes section n one chosen =
     IsUnchanged one.code chosen
     ⊎ (IsTaken LoongArch64 symbols bytes n one.offset (relaxation_skipped chosen.kind) false
-    ⊎ ((is_whole LoongArch64 bytes n one ≡ false)
+    ⊎ (IsWhole LoongArch64 bytes n one false
     ⊎ (deletes_within section one.offset (relaxation_deleted chosen.kind) ≡ false)))
 
 lacks_nothing : (symbols : List SymbolFacts) (bytes section : List ℕ) (n : ℕ) (one : Rela)
     (chosen : Choice Relaxation ℕ) (kind : LoongArchKind)
     → chosen.kind ≡ relaxations.LoongArch64 kind → loongarch_deleted kind ≡ None
-    → (IsUnchanged one.code chosen → ⊥) → is_whole LoongArch64 bytes n one ≡ true
+    → (IsUnchanged one.code chosen → ⊥) → IsWhole LoongArch64 bytes n one true
     → Lacks symbols bytes section n one chosen → ⊥
 lacks_nothing symbols bytes section n one chosen kind is none changes whole lacks =
     elim lacks [
@@ -153,7 +153,7 @@ lacks_nothing symbols bytes section n one chosen kind is none changes whole lack
       | inr other ↦ elim other [
         | inl taken ↦ isnt (subst (λ k. IsTaken LoongArch64 symbols bytes n one.offset (relaxation_skipped k) false) is taken)
         | inr less ↦ elim less [
-          | inl lone ↦ true_or_false (sym whole ∙ lone)
+          | inl lone ↦ true_or_false (whole ∙ sym lone)
           | inr deletes ↦ true_or_false
               (sym (ap (λ k. deletes_within section one.offset (relaxation_deleted k)) is
               ∙ ap (deletes_within section one.offset) none) ∙ deletes)
@@ -176,8 +176,8 @@ record AreHalves (bytes : List ℕ) (n : ℕ) (high low : Rela) : Type 0 where
   pub high_code : code_of (loongarch_name r.R_LARCH_GOT_PC_HI20) ≡ high.code
   pub low_code : code_of (loongarch_name r.R_LARCH_GOT_PC_LO12) ≡ low.code
   pub low_offset : low.offset ≡ high.offset + 4
-  pub high_whole : is_whole LoongArch64 bytes n high ≡ true
-  pub low_whole : is_whole LoongArch64 bytes (n + 2) low ≡ true
+  pub high_whole : IsWhole LoongArch64 bytes n high true
+  pub low_whole : IsWhole LoongArch64 bytes (n + 2) low true
 
 high_alone : (symbols : List SymbolFacts) (bytes section : List ℕ) (n : ℕ) (high low : Rela)
     (output : OutputFacts) (symbol : SymbolFacts) (addend : ℤ) (x : Choice Relaxation ℕ)

@@ -4,7 +4,9 @@ use Rattle.std.specs.Prelude.{◌&&◌, ◌==◌, nat_le, cond, pos}
 use Rattle.std.specs.Ordering.{int_eq}
 use Rattle.std.proofs.lemmas.Bool.{and_parts, cases_lt, cond-true, cond-false, eqb-true, le-leb, le-ltb, leb-true, lt-ltb}
 use Rattle.std.proofs.lemmas.Bool.Decides.{Decides-int_eq}
-use Rattle.linker_rewriting.specs.Sequences.{are_members, is_among, is_member, is_place, is_tied, is_typed, is_whole_in}
+use Rattle.linker_elf.specs.declared.elf.architecture.Architecture.{Architecture}
+use Rattle.linker_elf.specs.declared.elf.architecture.Architecture.TheVariants.{AArch64, RiscV, LoongArch64, Ppc64, X86_64}
+use Rattle.linker_rewriting.specs.Sequences.{IsWhole, are_members, is_among, is_member, is_place, is_tied, is_typed, is_whole, is_whole_in}
 use Rattle.linker_rewriting.specs.declared.sequences.Member.{Member}
 use Rattle.linker_rewriting.specs.declared.sequences.Tie.{Tie}
 use Rattle.linker_rewriting.specs.declared.sequences.Tie.TheVariants.{Subject, Symbol, Mark}
@@ -20,8 +22,8 @@ pub members_left : (ms : List Member) (bytes : List ℕ) (first offset : ℕ) (r
     ≡ (is && are_members (drop (k + 1) ms) bytes first (k + 1) offset r)
 members_left ms bytes first offset r k d found is less found_is is_so =
     let e : are_members (drop k ms) bytes first k offset r
-        ≡ (is_member (get_or ms k d) offset r (relocation_at bytes (first + k))
-        && are_members (drop (k + 1) ms) bytes first (k + 1) offset r) =
+    ≡ (is_member (get_or ms k d) offset r (relocation_at bytes (first + k))
+    && are_members (drop (k + 1) ms) bytes first (k + 1) offset r) =
     rw (drop-cons ms k d, add-one) refl in
     e
     ∙ ap (λ x. x && are_members (drop (k + 1) ms) bytes first (k + 1) offset r)
@@ -34,8 +36,8 @@ pub places_left : (all ms : List Member) (bytes : List ℕ) (n : ℕ) (r : Rela)
     (is_whole_in all (drop (k + 1) ms) (k + 1) bytes n r)
 places_left all ms bytes n r k d is less is_so =
     let e : is_whole_in all (drop k ms) k bytes n r
-        ≡ cond (is_place (get_or ms k d) r.code) (is_among all k (get_or ms k d).distance bytes n r)
-        (is_whole_in all (drop (k + 1) ms) (k + 1) bytes n r) =
+    ≡ cond (is_place (get_or ms k d) r.code) (is_among all k (get_or ms k d).distance bytes n r)
+    (is_whole_in all (drop (k + 1) ms) (k + 1) bytes n r) =
     rw (drop-cons ms k d, add-one) refl in
     e
     ∙ ap (λ x. cond x (is_among all k (get_or ms k d).distance bytes n r) (is_whole_in all (drop (k + 1) ms) (k + 1) bytes n r)) (sym is_so)
@@ -114,6 +116,14 @@ pub at_first : (m : Member) (offset : ℕ) (one : Rela) (bytes : List ℕ) (firs
 at_first m offset one bytes first = subst (IsThere m offset one bytes) (let e : first + 0 ≡ first = omega arith in e)
 
 -- ---- the sequence that one is among
+
+pub whole_so : (architecture : Architecture) (bytes : List ℕ) (n : ℕ) (r : Rela) (whole : Bool)
+    → whole ≡ is_whole architecture bytes n r → IsWhole architecture bytes n r whole
+whole_so AArch64 bytes n r whole is = is
+whole_so LoongArch64 bytes n r whole is = is
+whole_so RiscV bytes n r whole is = is
+whole_so Ppc64 bytes n r whole is = is
+whole_so X86_64 bytes n r whole is = is
 
 pub among_is : (all : List Member) (place distance : ℕ) (bytes : List ℕ) (n first offset : ℕ) (r : Rela)
     → place ≤ n → distance ≤ r.offset → n - place ≡ first → r.offset - distance ≡ offset

@@ -39,7 +39,7 @@ use Rattle.linker_utils.specs.declared.architecture.Relaxation.{Relaxation}
 use Rattle.linker_utils.specs.declared.architecture.Relaxation.TheVariants as relaxations
 use Rattle.linker_rewriting.specs.Candidates.{IsCallIn, IsTaken, IsCandidate, IsCandidateBy, IsCandidateWith, IsMatched, at_base, calls_tls_get_addr, deletes_within}
 use Rattle.linker_rewriting.specs.Facts.{RelaxContext, link_facts}
-use Rattle.linker_rewriting.specs.Sequences.{is_marked_in}
+use Rattle.linker_rewriting.specs.Sequences.{IsWhole, is_marked_in}
 use Rattle.linker_rewriting.specs.declared.facts.SymbolFacts.{SymbolFacts}
 use Rattle.linker_section.specs.Relocations.{relocation_at, relocation_in}
 use Rattle.linker_section.specs.declared.relocations.Rela.{Rela}
@@ -256,6 +256,14 @@ one_taken architecture symbols bytes n offset None x y a b = a ∙ sym b
 one_taken architecture symbols bytes n offset (Some distance) x y a b =
     one_call architecture symbols offset distance (relocation_at bytes (n + 1)) x y a b
 
+one_whole : (architecture : Architecture) (bytes : List ℕ) (n : ℕ) (r : Rela) (x y : Bool)
+    → IsWhole architecture bytes n r x → IsWhole architecture bytes n r y → x ≡ y
+one_whole AArch64 bytes n r x y a b = a ∙ sym b
+one_whole LoongArch64 bytes n r x y a b = a ∙ sym b
+one_whole RiscV bytes n r x y a b = a ∙ sym b
+one_whole Ppc64 bytes n r x y a b = a ∙ sym b
+one_whole X86_64 bytes n r x y a b = a ∙ sym b
+
 pub true_or_false : true ≡ false → ⊥
 true_or_false e = cc
 
@@ -273,7 +281,7 @@ not_both architecture symbols bytes section n r facts x a b =
             (one_taken architecture symbols bytes n r.offset (relaxation_skipped x.kind) true false (a.2)
             (subst (λ z. IsTaken architecture symbols bytes n r.offset (relaxation_skipped z.kind) false) same taken))
         | inr less ↦ elim less [
-          | inl whole ↦ true_or_false (sym (a.3) ∙ whole)
+          | inl whole ↦ true_or_false (one_whole architecture bytes n r true false (a.3) whole)
           | inr deletes ↦ true_or_false
               (sym (a.4) ∙ subst (λ z. deletes_within section r.offset (relaxation_deleted z.kind) ≡ false) same deletes)
         ]

@@ -5,7 +5,7 @@ use Rattle.linker_base.specs.declared.rewrite.DeletedBytes.{DeletedBytes}
 use Rattle.linker_elf.specs.declared.elf.choice.Choice.{Choice}
 use Rattle.linker_elf.specs.declared.elf.choice.LinkFacts.{LinkFacts}
 use Rattle.linker_rewriting.specs.Facts.{RelaxContext, link_facts}
-use Rattle.linker_rewriting.specs.Sequences.{is_whole, is_marked_in}
+use Rattle.linker_rewriting.specs.Sequences.{IsWhole, is_marked_in}
 use Rattle.linker_rewriting.specs.declared.facts.SymbolFacts.{SymbolFacts}
 use Rattle.linker_section.specs.Relocations.{relocation_at}
 use Rattle.linker_section.specs.declared.relocations.Rela.{Rela}
@@ -48,14 +48,14 @@ IsCandidateBy architecture symbols bytes section n r facts (Some chosen) =
     IsArchitectureChoice architecture r.code section r.offset facts chosen
     × (¬ IsUnchanged r.code chosen)
     × IsTaken architecture symbols bytes n r.offset (relaxation_skipped chosen.kind) true
-    × (is_whole architecture bytes n r ≡ true)
+    × IsWhole architecture bytes n r true
     × (deletes_within section r.offset (relaxation_deleted chosen.kind) ≡ true)
 IsCandidateBy architecture symbols bytes section n r facts None =
     (chosen : Choice Relaxation ℕ)
     × IsArchitectureChoice architecture r.code section r.offset facts chosen
     × (IsUnchanged r.code chosen
     ⊎ (IsTaken architecture symbols bytes n r.offset (relaxation_skipped chosen.kind) false
-    ⊎ ((is_whole architecture bytes n r ≡ false)
+    ⊎ (IsWhole architecture bytes n r false
     ⊎ (deletes_within section r.offset (relaxation_deleted chosen.kind) ≡ false))))
 
 -- none where a table has no entry for the symbol

@@ -50,7 +50,7 @@ aarch64_scope aarch64.R_AARCH64_TLSDESC_CALL = Grouped Descriptor
 aarch64_scope name = NotRelaxable
 
 abbrev pub loongarch_scope : LoongArch64Relocation → Scope
--- each where all of its pair is next to it (`is_whole`), so that the pair is the group
+-- each where all of its pair is next to it (`IsWhole`), so that the pair is the group
 loongarch_scope loongarch64.R_LARCH_GOT_PC_HI20 = Independent
 loongarch_scope loongarch64.R_LARCH_GOT_PC_LO12 = Independent
 loongarch_scope loongarch64.R_LARCH_TLS_IE_PC_HI20 = Grouped InitialExec

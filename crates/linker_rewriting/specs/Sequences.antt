@@ -3,7 +3,7 @@
 -- address by its page (ELF for the Arm 64-bit Architecture, "Relocation optimization"); of
 -- LoongArch those of a load from the GOT (LoongArch ELF psABI, relaxation). And marks of what may
 -- be relaxed.
-use Rattle.std.specs.Prelude.{ℕ, ◌+◌, ◌-◌, ◌==◌, ◌&&◌, nat_le, Bool, true, false, cond, pos}
+use Rattle.std.specs.Prelude.{◌≡◌, ℕ, ◌+◌, ◌-◌, ◌==◌, ◌&&◌, nat_le, Bool, true, false, cond, pos}
 use Rattle.std.specs.Prelude.{List, [], ◌∷◌, Option, Some, None}
 use Rattle.std.specs.Ordering.{int_eq}
 use Rattle.linker_elf.specs.AArch64Relocations.{aarch64_name}
@@ -147,3 +147,9 @@ are_whole (all ∷ others) bytes n r =
 -- of an architecture
 abbrev pub is_whole : Architecture → List ℕ → ℕ → Rela → Bool
 is_whole architecture = are_whole (sequences architecture)
+
+-- the same as a fact, by cases, so that of any architecture it stays folded
+abbrev pub IsWhole : Architecture → List ℕ → ℕ → Rela → Bool → Type 0
+IsWhole AArch64 bytes n r whole = whole ≡ is_whole AArch64 bytes n r
+IsWhole LoongArch64 bytes n r whole = whole ≡ is_whole LoongArch64 bytes n r
+IsWhole architecture bytes n r whole = whole ≡ true

@@ -1,6 +1,8 @@
-use Rattle.std.proofs.Common.{inl, inr, subst, sym, ◌∙◌, eq-eqb}
+use Rattle.std.proofs.Common.{inl, inr, subst, eq-eqb}
 use Rattle.std.proofs.lemmas.Bool.{eqb-true}
+use Rattle.linker_rewriting.proofs.SequenceMembers.{whole_so}
 use Rattle.linker_rewriting.specs.Candidates.{IsTaken}
+use Rattle.linker_rewriting.specs.Sequences.{IsWhole}
 use Rattle.linker_utils.specs.Relaxations.{IsUnchanged, relaxation_skipped}
 use Rattle.linker_rewriting.proofs.candidates.candidate_by.Goals as goal
 
@@ -26,7 +28,8 @@ returns-then-not-is_whole-clause-candidate c =
     let a = c.args in (
       c.choose-chosen.result,
       c.choose-chosen.ensures.chosen,
-      inr (inr (inl (sym c.is_whole.ensures ∙ c.if-not-is_whole.true))),
+      inr (inr (inl (subst (IsWhole a.architecture a.relocations.now a.index a.relocation.now) c.if-not-is_whole.true
+          (whole_so a.architecture a.relocations.now a.index a.relocation.now c.is_whole.result c.is_whole.ensures)))),
     )
 
 pub returns-clause-candidate : goal.returns-clause-candidate
@@ -39,6 +42,7 @@ returns-clause-candidate c =
       c.choose-chosen.ensures.chosen,
       changed,
       subst (IsTaken a.architecture a.symbols.now a.relocations.now a.index r.offset (relaxation_skipped c.choose-chosen.result.kind)) c.if-not-finds_next.false c.finds_next.ensures,
-      sym c.is_whole.ensures ∙ c.if-not-is_whole.false,
+      subst (IsWhole a.architecture a.relocations.now a.index r) c.if-not-is_whole.false
+          (whole_so a.architecture a.relocations.now a.index r c.is_whole.result c.is_whole.ensures),
       cc,
     )

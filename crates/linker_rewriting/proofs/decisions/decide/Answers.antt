@@ -1,0 +1,39 @@
+use Rattle.std.proofs.Common.{◌≡◌, ◌∙◌, sym, subst, refl, false, Some}
+use Rattle.linker_rewriting.specs.Candidates.{IsCandidate}
+use Rattle.linker_rewriting.specs.Decisions.{IsGroupDecision, IsMatchedDecision}
+use Rattle.linker_rewriting.specs.Groups.{IsScopeIn, group_stays}
+use Rattle.linker_rewriting.specs.Inner.Contexts.{context_of}
+use Rattle.linker_rewriting.specs.declared.decisions.Decision.TheVariants.{Rewritten}
+use Rattle.linker_rewriting.specs.declared.groups.Scope.TheVariants.{Grouped, IfGroupMatches, Independent}
+use Rattle.linker_rewriting.proofs.decisions.decide.Goals as goal
+use Rattle.linker_rewriting.proofs.decisions.decide.Goals.{in-Grouped+else-group_stays, in-IfGroupMatches+else-group_stays-2, in-Independent}
+
+pub returns-in-Some-clause-decision : goal.returns-in-Some-clause-decision
+returns-in-Some-clause-decision c =
+    let a = c.args in
+    let s = context_of a.context.now in
+    let r = a.relocation.now in
+    let d = Rewritten c.in-Some.choice in
+    let is : IsCandidate s a.relocations.now a.section.now a.index r (Some c.in-Some.choice) =
+    subst (IsCandidate s a.relocations.now a.section.now a.index r) c.in-Some.is c.candidate.ensures.candidate in
+    elim c.match-scope_in.branch [
+      | in-Grouped+else-group_stays w ↦ (
+        Grouped w.in-Grouped.group,
+        subst (IsScopeIn s.architecture s.phase r.code) w.in-Grouped.is c.scope_in.ensures,
+        subst (λ b. IsGroupDecision s a.relocations.now a.section.now a.index r b d)
+            (sym (let no : group_stays a.kept.now w.in-Grouped.group r.symbol ≡ false = sym w.group_stays.ensures ∙ w.if-group_stays.false in no))
+            (c.in-Some.choice, is, refl),
+      )
+      | in-IfGroupMatches+else-group_stays-2 w ↦ (
+        IfGroupMatches w.in-IfGroupMatches.group,
+        subst (IsScopeIn s.architecture s.phase r.code) w.in-IfGroupMatches.is c.scope_in.ensures,
+        subst (λ b. IsMatchedDecision s a.relocations.now a.section.now a.index r b d)
+            (sym (let no : group_stays a.kept.now w.in-IfGroupMatches.group r.symbol ≡ false = sym w.group_stays-in-IfGroupMatches.ensures ∙ w.if-group_stays-2.false in no))
+            (Some c.in-Some.choice, is, refl),
+      )
+      | in-Independent w ↦ (
+        Independent,
+        subst (IsScopeIn s.architecture s.phase r.code) w.in-Independent.is c.scope_in.ensures,
+        (Some c.in-Some.choice, is, refl),
+      )
+    ]
