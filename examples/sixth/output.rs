@@ -76,6 +76,7 @@ pub(crate) static TARGET: Target = Target {
             path: "/lib/ld-sixth.so.1",
         },
     ],
+    dynamic_tags: &[],
     landing_property: None,
     instructions: Architecture::Sixth,
     load_stub: Stub {

@@ -589,6 +589,7 @@ fn a_further_architecture_is_a_value() {
         runs: &[],
         interpreter_flags: 0,
         interpreters: &[],
+        dynamic_tags: &[],
         landing_property: None,
         instructions: Architecture::RiscV,
         // `nop` in front, and after
