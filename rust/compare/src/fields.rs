@@ -3,7 +3,7 @@
 // build.rs writes.
 
 use linker_utils::elf::{Operands, RelocationNumbers, RewriteWindow};
-use linker_utils::output::{LazyEntry, Origins, Property};
+use linker_utils::output::{DynamicEntry, DynamicFacts, LazyEntry, Origins, Property};
 use linker_utils::placement::{Branch, StubShape};
 use linker_utils::recognise::FieldBits;
 use linker_utils::relaxation::{BlockHead, Call, RelaxDelta};
@@ -30,6 +30,11 @@ fields! { FactsSnapshot: bits, }
 fields! { Property: kind, value, version, }
 fields! { Origins: thread_pointer, module_block, }
 fields! { LazyEntry: address, word, header, index, }
+fields! {
+    DynamicFacts: first_entry, options, has_lazy_plt, has_landing_plt, has_signed_plt,
+    has_variant_calls,
+}
+fields! { DynamicEntry: tag, value, }
 fields! { Branch: offset, target, max_backward, max_forward, }
 fields! { StubShape: len, unit, max_backward, max_forward, }
 fields! {
