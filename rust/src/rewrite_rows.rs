@@ -399,62 +399,65 @@ impl RewriteRow {
     }
 }
 
-/// What a row is used for, in an arm for each rewrite, and there of a constant row. Each row has
-/// the length of the instructions, how far before the offset they begin, whether they are aligned,
-/// their tests, and the one that `apply` requires too; the macro `$tests` makes an array of them.
-/// Then it has the bits kept and set of each instruction that is written, those of the second at 4,
-/// or how one is made instead, and whether it has 2 bytes; where bytes are deleted, and how many if
-/// not 4; where a relocation is skipped; how far the offset moves; and the addend after.
-macro_rules! by_row {
+/// A row: the length of the instructions, how far before the offset they begin, whether they are
+/// aligned, their tests, of which the macro `$tests` makes an array, and the one that `apply`
+/// requires too. Then it has the bits kept and set of each instruction that is written, those of
+/// the second at 4, or how one is made instead, and whether it has 2 bytes; where bytes are
+/// deleted, and how many if not 4; where a relocation is skipped; how far the offset moves; and the
+/// addend after.
+macro_rules! row {
     (
-        $tests:ident, kinds;
-        $($kind:ident: $len:literal $(back $back:literal)? $(aligned $aligned:literal)?
-            [$($of:tt)*] $(required $given:ident)?
-            $(keep $keep:literal $(at $at:literal)? set $set:literal)* $(special $special:ident)?
-            $(half $half:literal)? $(delete $start:literal $(count $count:literal)?)?
-            $(skip $skip:literal)? $(moved $moved:literal)? $(addend $addend:literal)?;)*
-    ) => { [$(RewriteKind::$kind),*] };
-    (
-        $tests:ident, $value:expr, $row:ident => $use:expr;
-        $($kind:ident: $len:literal $(back $back:literal)? $(aligned $aligned:literal)?
-            [$($of:tt)*] $(required $given:ident)?
-            $(keep $keep:literal $(at $at:literal)? set $set:literal)* $(special $special:ident)?
-            $(half $half:literal)? $(delete $start:literal $(count $count:literal)?)?
-            $(skip $skip:literal)? $(moved $moved:literal)? $(addend $addend:literal)?;)*
+        $tests:ident $len:literal $(back $back:literal)? $(aligned $aligned:literal)?
+        [$($of:tt)*] $(required $given:ident)?
+        $(keep $keep:literal $(at $at:literal)? set $set:literal)* $(special $special:ident)?
+        $(half $half:literal)? $(delete $start:literal $(count $count:literal)?)?
+        $(skip $skip:literal)? $(moved $moved:literal)? $(addend $addend:literal)?
     ) => {
+        $crate::rewrite_rows::RewriteRow {
+            len: $len,
+            back: $crate::rewrite_rows::or!(0; $($back)?),
+            aligned: $crate::rewrite_rows::or!(false; $($aligned)?),
+            tests: &$tests![$($given,)? $($of)*],
+            required: $crate::rewrite_rows::or!(None; $($tests![required $given])?),
+            edits: &[
+                $($crate::rewrite_rows::WordEdit {
+                    keep: $keep,
+                    of_second: $crate::rewrite_rows::or!(0; $($at)?) != 0,
+                    set: $set,
+                    special: None,
+                },)*
+                $($crate::rewrite_rows::WordEdit {
+                    keep: 0,
+                    of_second: false,
+                    set: 0,
+                    special: Some($crate::rewrite_rows::Special::$special),
+                },)?
+            ],
+            half: $crate::rewrite_rows::or!(false; $($half)?),
+            deleted: $crate::rewrite_rows::or!(None; $(Some(crate::linker_base::rewrite::DeletedBytes {
+                start: $start,
+                count: $crate::rewrite_rows::or!(4; $($count)?),
+            }))?),
+            skipped: $crate::rewrite_rows::or!(None; $(Some($skip))?),
+            moved: $crate::rewrite_rows::or!(0; $($moved)?),
+            addend: $crate::rewrite_rows::or!(None; $(Some($addend))?),
+        }
+    };
+}
+
+/// What a row is used for, in an arm for each rewrite, and there of a constant row; or the rewrite
+/// with a number.
+macro_rules! by_row {
+    ($tests:ident, numbered $number:expr; $($kind:ident { $($row:tt)* })*) => {
+        match $number {
+            $(number if number == RewriteKind::$kind as u32 => Some(RewriteKind::$kind),)*
+            _ => None,
+        }
+    };
+    ($tests:ident, $value:expr, $row:ident => $use:expr; $($kind:ident { $($of:tt)* })*) => {
         match $value {
             $(RewriteKind::$kind => {
-                let $row = $crate::rewrite_rows::RewriteRow {
-                    len: $len,
-                    back: $crate::rewrite_rows::or!(0; $($back)?),
-                    aligned: $crate::rewrite_rows::or!(false; $($aligned)?),
-                    tests: &$tests![$($given,)? $($of)*],
-                    required: $crate::rewrite_rows::or!(None; $($tests![required $given])?),
-                    edits: &[
-                        $($crate::rewrite_rows::WordEdit {
-                            keep: $keep,
-                            of_second: $crate::rewrite_rows::or!(0; $($at)?) != 0,
-                            set: $set,
-                            special: None,
-                        },)*
-                        $($crate::rewrite_rows::WordEdit {
-                            keep: 0,
-                            of_second: false,
-                            set: 0,
-                            special: Some($crate::rewrite_rows::Special::$special),
-                        },)?
-                    ],
-                    half: $crate::rewrite_rows::or!(false; $($half)?),
-                    deleted: $crate::rewrite_rows::or!(None; $(Some(
-                        crate::linker_base::rewrite::DeletedBytes {
-                            start: $start,
-                            count: $crate::rewrite_rows::or!(4; $($count)?),
-                        }
-                    ))?),
-                    skipped: $crate::rewrite_rows::or!(None; $(Some($skip))?),
-                    moved: $crate::rewrite_rows::or!(0; $($moved)?),
-                    addend: $crate::rewrite_rows::or!(None; $(Some($addend))?),
-                };
+                let $row = $crate::rewrite_rows::row!($tests $($of)*);
                 $use
             })*
         }
@@ -503,5 +506,6 @@ macro_rules! same_name {
 pub(crate) use bits;
 pub(crate) use by_row;
 pub(crate) use or;
+pub(crate) use row;
 pub(crate) use same_name;
 pub(crate) use top;

@@ -1,12 +1,10 @@
 -- Bits of instructions, and places of those.
-use Rattle.std.proofs.Common.{◌≡◌, ◌≤◌, ◌⊎◌, ◌↔◌, ℕ, Bor, Option, None, Some, option_copied, slice_get, ◌+◌, ◌-◌, ◌*◌, ◌/◌, ◌%◌, ◌^◌, ◌==◌, Bool, true, false, List, [], ◌∷◌, take, drop, length, inl, inr, subst, ◌++◌, refl, sym, ◌∙◌, ap, arith, bit_and, bit_or}
+use Rattle.std.proofs.Common.{◌≡◌, ◌≤◌, ◌⊎◌, ◌↔◌, ℕ, ◌+◌, ◌-◌, ◌*◌, ◌/◌, ◌%◌, ◌^◌, ◌==◌, Bool, true, false, List, [], ◌∷◌, take, drop, length, inl, inr, subst, ◌++◌, refl, sym, ◌∙◌, ap, arith, bit_and, bit_or}
 use Rattle.std.specs.Bool.{⊤}
 use Rattle.std.proofs.lemmas.Bool.{eqb-true}
 use Rattle.std.proofs.lemmas.List.{drop-drop}
 use Rattle.std.proofs.lemmas.Nat.{and_assoc, and_block, and_mask, mod_below, or_disjoint, pow_pos}
 use Rattle.std.proofs.Math.Nat.{add-zero, add_comm, div-add-mod, mul_comm}
-use Rattle.std.proofs.lemmas.Option.{slice_get_past, slice_get_read}
-use Rattle.std.specs.Slice.{IsItemAt}
 use Rattle.std.specs.Int.{w16, w32, from_le_bytes, to_le_bytes}
 use Rattle.std.specs.Int.Bits.{and_zero_r, or_zero_l}
 use Rattle.linker_elf.specs.Originals.{HasWord}
@@ -117,8 +115,3 @@ module _ (P Tests : ℕ → Type 0) (same : (w : ℕ) → P w ↔ Tests w) (s : 
         let before : (o - 1) % 4 ≡ 0 = omega (arith, place) in
         (at 1 ((o - 1) % 4 ≡ 0) enough).1 (before, h.1)),
   )
-
--- what a table's `get` lends
-pub copied_item : {X : Type 0} (xs : List X) (i : ℕ) (r : Option (Bor X)) → IsItemAt xs i r → option_copied r ≡ slice_get xs i
-copied_item xs i None h = sym (slice_get_past xs i h.3)
-copied_item xs i (Some x) h = sym (slice_get_read xs (length xs) i x.now refl h.3.0 h.1)

@@ -12,15 +12,6 @@ use crate::linker_elf::elf::{InstructionRewrite, OtherRelocation};
 /// A rewrite of one instruction, or of a pair (ELF for the Arm 64-bit Architecture, "Relocation
 /// optimization"). Except for `AdrpAddToNopAdr` the window is the instruction's 4 bytes, which
 /// begin at the offset. The destination register of an instruction is its bits 0 to 4.
-///
-/// ```
-/// use linker_utils::aarch64::RewriteKind;
-///
-/// let (mut adrp, mut offset, mut addend) = (0xb000_0003u32.to_le_bytes(), 0, 0);
-/// assert!(RewriteKind::AdrpToAdr.can_apply(&adrp, offset));
-/// RewriteKind::AdrpToAdr.apply(&mut adrp, &mut offset, &mut addend);
-/// assert_eq!(u32::from_le_bytes(adrp), 0x3000_0003);
-/// ```
 #[derive(Debug, Default, Clone, Copy, PartialEq, Eq, Hash, PartialOrd, Ord)]
 pub enum RewriteKind {
     /// Leaves the instruction as it is; only the kind of its relocation changes.
@@ -98,26 +89,23 @@ pub(super) use tests;
 macro_rules! rewrites {
     ($($use:tt)*) => {
         by_row! { tests, $($use)*;
-            NoOp: 0 [];
-            ReplaceWithNop: 4 [] keep 0 set 0xd503_201f;
-            MovzX0Lsl16: 4 [adrp, into 0] keep 0 set 0xd2a0_0000;
-            MovkX0: 4 [ldr_64, from 0] keep 0 set 0xf280_0000;
-            MovzXnLsl16: 4 [adrp] keep 0x1f set 0xd2a0_0000;
-            MovkXn: 4 [ldr_64, not_into 31] required from_itself keep 0x1f set 0xf280_0000;
-            AdrpToAdr: 4 [adrp] keep 0x7fff_ffff set 0;
-            AdrpX0: 4 [adrp, into 0] keep 0 set 0x9000_0000;
-            LdrX0: 4 [ldr_64, from 0] keep 0 set 0xf940_0000;
-            AddToAdr: 4 [add_64, not_into 31] keep 0x76ff_ffff set 0;
-            LdrToAdr: 4 [ldr_64] keep 0x76ff_ffff set 0;
-            LdrToAdd: 4 [not_into 31] required ldr_64 keep 0x001f_ffff set 0x9100_0000;
-            AdrpAddToNopAdr: 8 back 4 [pair_with add_64]
-                keep 0 set 0xd503_201f keep 0x1f set 0x1000_0000;
+            NoOp { 0 [] }
+            ReplaceWithNop { 4 [] keep 0 set 0xd503_201f }
+            MovzX0Lsl16 { 4 [adrp, into 0] keep 0 set 0xd2a0_0000 }
+            MovkX0 { 4 [ldr_64, from 0] keep 0 set 0xf280_0000 }
+            MovzXnLsl16 { 4 [adrp] keep 0x1f set 0xd2a0_0000 }
+            MovkXn { 4 [ldr_64, not_into 31] required from_itself keep 0x1f set 0xf280_0000 }
+            AdrpToAdr { 4 [adrp] keep 0x7fff_ffff set 0 }
+            AdrpX0 { 4 [adrp, into 0] keep 0 set 0x9000_0000 }
+            LdrX0 { 4 [ldr_64, from 0] keep 0 set 0xf940_0000 }
+            AddToAdr { 4 [add_64, not_into 31] keep 0x76ff_ffff set 0 }
+            LdrToAdr { 4 [ldr_64] keep 0x76ff_ffff set 0 }
+            LdrToAdd { 4 [not_into 31] required ldr_64 keep 0x001f_ffff set 0x9100_0000 }
+            AdrpAddToNopAdr { 8 back 4 [pair_with add_64]
+                keep 0 set 0xd503_201f keep 0x1f set 0x1000_0000 }
         }
     };
 }
-
-/// The rewrites by their numbers.
-const KINDS: &[RewriteKind] = &rewrites!(kinds);
 
 /// Whether `adrp xN` and `add xN, xN, #imm` or `ldr xN, [xN, #imm]`, both of 64 bits, stand next to
 /// each other: the second instruction at an offset of the section, and the `adrp` 4 bytes before
@@ -136,7 +124,7 @@ impl RewriteKind {
     #[must_use]
     #[inline(always)]
     pub fn from_number(number: u32) -> Option<RewriteKind> {
-        KINDS.get(number as usize).copied()
+        rewrites!(numbered number)
     }
 
     /// The rewrite's number, which `from_number` takes.

@@ -32,20 +32,17 @@ impl RewriteSet for RewriteKind {
     }
 }
 
-/// The conditions of entries, by the names that the definition has for them.
+/// The conditions of entries, by the names that the definition has for them. A further fact makes
+/// those that it calls `called_to_`.
 macro_rules! when {
     // the high part of the distance from the TOC pointer is 0
-    (without_high_part) => {
-        conditions!(EXCLUSIVE_TOC_BASE, InReach(R_PPC64_TOC16))
-    };
+    (without_high_part) => { conditions!(EXCLUSIVE_TOC_BASE, InReach(R_PPC64_TOC16)) };
     // the high part of the offset from the thread pointer is 0
     (without_high_offset) => {
         conditions!(BOUND + EXECUTABLE + EXCLUSIVE_TOC_BASE + GROUP_FITS, InReach(R_PPC64_TPREL16))
     };
     // the address by its distance from the TOC pointer or the instruction
-    (to_distance $name:ident) => {
-        conditions!(BOUND + FIXED_DISTANCE, InReachIfKnown($name))
-    };
+    (to_distance $name:ident) => { conditions!(BOUND + FIXED_DISTANCE, InReachIfKnown($name)) };
     // the offset from the thread pointer in the instructions
     (to_local_exec) => {
         conditions!(BOUND + EXECUTABLE + GROUP_FITS, InReachIfKnown(R_PPC64_TPREL16_HA))
@@ -66,31 +63,18 @@ macro_rules! when {
     (to_near_initial_exec) => {
         conditions!(EXECUTABLE + GROUP_FITS, InReachIfKnown(R_PPC64_GOT_TPREL16_DS))
     };
-    // the module's block from the thread pointer
-    (to_module) => {
-        conditions!(EXECUTABLE + GROUP_FITS)
-    };
-    // the offset from the thread pointer in a prefixed instruction
-    (to_prefixed_local_exec) => {
-        conditions!(BOUND + EXECUTABLE + GROUP_FITS, InReachIfKnown(R_PPC64_TPREL34))
-    };
-    // the same in the GOT, at any distance from the instruction
-    (to_prefixed_initial_exec) => {
-        conditions!(EXECUTABLE + GROUP_FITS)
-    };
-    // the same at a call of prefixed code, which has `R_PPC64_REL24_NOTOC`
-    (called_to_local_exec) => {
+    // the offset from the thread pointer in a prefixed instruction; with `RELAXABLE` at a call of
+    // prefixed code, which has `R_PPC64_REL24_NOTOC`, as of the two below
+    (to_prefixed_local_exec $($fact:ident)?) => {
         conditions!(
-            BOUND + EXECUTABLE + RELAXABLE + GROUP_FITS,
+            BOUND + EXECUTABLE + GROUP_FITS $(+ $fact)?,
             InReachIfKnown(R_PPC64_TPREL34)
         )
     };
-    (called_to_initial_exec) => {
-        conditions!(EXECUTABLE + RELAXABLE + GROUP_FITS)
-    };
-    (called_to_module) => {
-        conditions!(EXECUTABLE + RELAXABLE + GROUP_FITS)
-    };
+    // the same in the GOT, at any distance from the instruction
+    (to_prefixed_initial_exec $($fact:ident)?) => { when!(to_module $($fact)?) };
+    // the module's block from the thread pointer
+    (to_module $($fact:ident)?) => { conditions!(EXECUTABLE + GROUP_FITS $(+ $fact)?) };
     // the address in place of the distance from a function's entry, by the `addis` and by the
     // `addi` after it, which have the addends 0 and 4
     (to_address $addend:literal) => {
@@ -101,9 +85,7 @@ macro_rules! when {
         )
     };
     // a call may change the TOC pointer
-    (after_call) => {
-        conditions!(CHANGED_TOC)
-    };
+    (after_call) => { conditions!(CHANGED_TOC) };
 }
 
 /// The entries of each relocation.
@@ -147,8 +129,8 @@ macro_rules! choices {
                 PaddiToPld => R_PPC64_GOT_TPREL_PCREL34, to_prefixed_initial_exec;
             ]
             R_PPC64_TLSGD: [
-                BranchToNop => R_PPC64_NONE, called_to_local_exec;
-                BranchToAdd => R_PPC64_NONE, called_to_initial_exec;
+                BranchToNop => R_PPC64_NONE, to_prefixed_local_exec(RELAXABLE);
+                BranchToAdd => R_PPC64_NONE, to_prefixed_initial_exec(RELAXABLE);
                 CallToAddi => R_PPC64_TPREL16_LO, to_local_exec;
                 CallToAdd => R_PPC64_NONE, to_initial_exec;
             ]
@@ -157,7 +139,7 @@ macro_rules! choices {
             R_PPC64_GOT_TLSLD16: [AddiToAddisThread => R_PPC64_NONE, to_module]
             R_PPC64_GOT_TLSLD_PCREL34: [PaddiToPaddi4096 => R_PPC64_NONE, to_module]
             R_PPC64_TLSLD: [
-                BranchToNop => R_PPC64_NONE, called_to_module;
+                BranchToNop => R_PPC64_NONE, to_module(RELAXABLE);
                 CallToAddi4096 => R_PPC64_NONE, to_module;
             ]
             R_PPC64_REL24: [NopToRestoreToc => R_PPC64_REL24, after_call]
@@ -236,16 +218,7 @@ pub fn choose(
 }
 
 /// Whether a relocation can be rewritten, if all others of its sequence can: whether `choose` with
-/// `group_fits` changes it.
-///
-/// ```
-/// use linker_utils::elf::LinkFacts;
-/// use linker_utils::ppc64::{Ppc64Relocation, fits};
-///
-/// // lwaux 3,9,13 with x@tls, which has no form by an offset
-/// let facts = LinkFacts { is_local: true, is_executable: true, ..LinkFacts::default() };
-/// assert!(!fits(Ppc64Relocation::R_PPC64_TLS, &0x7c69_6aeau32.to_le_bytes(), 0, &facts));
-/// ```
+/// `group_fits` changes it. `architecture::fits` has an example.
 #[must_use]
 #[doc = include_str!("../../doc/choices/fits.md")]
 pub fn fits(name: Ppc64Relocation, section: &[u8], offset: u64, facts: &LinkFacts) -> bool {

@@ -166,52 +166,50 @@ macro_rules! tests {
 macro_rules! rewrites {
     ($($use:tt)*) => {
         by_row! { tests, $($use)*;
-            NoOp: 0 [];
-            AddisToNop: 4 [opcode 15, over 2] keep 0 set 0x6000_0000;
-            BaseToToc: 4 [over_not 0, accesses, stores_other] keep 0xffe0_ffff set 0x0002_0000;
-            LdToAddi: 4 [opcode 58, low_2 0, over_not 0] keep 0x03ff_0000 set 0x3800_0000;
-            PldToPaddi: 8 [pld] keep 0 set 0x0610_0000 keep 0x03e0_0000 at 4 set 0x3800_0000;
-            LdToAddisThread: 4 [opcode 58, low_2 0, over_not 0, into_not 0]
-                keep 0x03e0_0000 set 0x3c0d_0000;
-            AddToAddi: 4 aligned true [over_thread low_11 0x214] keep 0x03ff_0000 set 0x3800_0000;
-            IndexedToD: 4 aligned true [indexed low_6 0x2e] special ToD;
-            IndexedToDs: 4 aligned true [indexed low_6 0x2a] special ToDs;
-            AddiToAddisThread: 4 [opcode 14, over_not 0] keep 0x03e0_0000 set 0x3c0d_0000;
-            AddiToLd: 4 [opcode 14, over_not 0] keep 0x03ff_0000 set 0xe800_0000;
-            CallToAddi: 8 [bl_nop] keep 0 set 0x6000_0000 keep 0 set 0x3863_0000 skip 0 moved 4;
-            CallToAdd: 8 [bl_nop] keep 0 set 0x6000_0000 keep 0 set 0x7c63_6a14 skip 0 moved 4;
-            CallToAddi4096: 8 [bl_nop]
-                keep 0 set 0x6000_0000 keep 0 set 0x3863_1000 skip 0 moved 4;
-            NopToRestoreToc: 8 [bl_nop] keep 0xffff_ffff set 0 keep 0 set 0xe841_0018;
-            KeepAddis: 4 [opcode 15, over 2];
-            AddisToLis: 4 [high 0x3c4c] keep 0 set 0x3c40_0000;
-            AddiAfterLis: 4 [high 0x3842] keep 0 set 0x3842_0000 addend 0;
-            AddisThreadToNop: 4 [opcode 15, over 13] keep 0 set 0x6000_0000;
-            BaseToThread: 4 [over_not 0, accesses, stores_other] keep 0xffe0_ffff set 0x000d_0000;
-            PldToPaddiThread: 8 [pld] keep 0 set 0x0600_0000 keep 0x03e0_0000 at 4 set 0x380d_0000;
-            AddToMove: 4 back 1 aligned true [over_thread low_11 0x214] special ToMove;
-            IndexedToDirect: 4 back 1 aligned true [indexed low_6_either 0x2a 0x2e]
-                special ToEither;
-            PaddiToPaddiThread: 8 [paddi]
-                keep 0 set 0x0600_0000 keep 0x03e0_0000 at 4 set 0x380d_0000;
-            PaddiToPld: 8 [paddi] keep 0 set 0x0410_0000 keep 0x03e0_0000 at 4 set 0xe400_0000;
-            PaddiToPaddi4096: 8 [paddi]
-                keep 0 set 0x0600_0000 keep 0x03e0_0000 at 4 set 0x380d_1000;
-            BranchToNop: 4 [opcode 18, low_2 1] keep 0 set 0x6000_0000 skip 0;
-            BranchToAdd: 4 [opcode 18, low_2 1] keep 0 set 0x7c63_6a14 skip 0;
+            NoOp { 0 [] }
+            AddisToNop { 4 [opcode 15, over 2] keep 0 set 0x6000_0000 }
+            BaseToToc { 4 [over_not 0, accesses, stores_other] keep 0xffe0_ffff set 0x0002_0000 }
+            LdToAddi { 4 [opcode 58, low_2 0, over_not 0] keep 0x03ff_0000 set 0x3800_0000 }
+            PldToPaddi { 8 [pld] keep 0 set 0x0610_0000 keep 0x03e0_0000 at 4 set 0x3800_0000 }
+            LdToAddisThread { 4 [opcode 58, low_2 0, over_not 0, into_not 0]
+                keep 0x03e0_0000 set 0x3c0d_0000 }
+            AddToAddi { 4 aligned true [over_thread low_11 0x214] keep 0x03ff_0000 set 0x3800_0000 }
+            IndexedToD { 4 aligned true [indexed low_6 0x2e] special ToD }
+            IndexedToDs { 4 aligned true [indexed low_6 0x2a] special ToDs }
+            AddiToAddisThread { 4 [opcode 14, over_not 0] keep 0x03e0_0000 set 0x3c0d_0000 }
+            AddiToLd { 4 [opcode 14, over_not 0] keep 0x03ff_0000 set 0xe800_0000 }
+            CallToAddi { 8 [bl_nop] keep 0 set 0x6000_0000 keep 0 set 0x3863_0000 skip 0 moved 4 }
+            CallToAdd { 8 [bl_nop] keep 0 set 0x6000_0000 keep 0 set 0x7c63_6a14 skip 0 moved 4 }
+            CallToAddi4096 { 8 [bl_nop]
+                keep 0 set 0x6000_0000 keep 0 set 0x3863_1000 skip 0 moved 4 }
+            NopToRestoreToc { 8 [bl_nop] keep 0xffff_ffff set 0 keep 0 set 0xe841_0018 }
+            KeepAddis { 4 [opcode 15, over 2] }
+            AddisToLis { 4 [high 0x3c4c] keep 0 set 0x3c40_0000 }
+            AddiAfterLis { 4 [high 0x3842] keep 0 set 0x3842_0000 addend 0 }
+            AddisThreadToNop { 4 [opcode 15, over 13] keep 0 set 0x6000_0000 }
+            BaseToThread { 4 [over_not 0, accesses, stores_other] keep 0xffe0_ffff set 0x000d_0000 }
+            PldToPaddiThread { 8 [pld]
+                keep 0 set 0x0600_0000 keep 0x03e0_0000 at 4 set 0x380d_0000 }
+            AddToMove { 4 back 1 aligned true [over_thread low_11 0x214] special ToMove }
+            IndexedToDirect { 4 back 1 aligned true [indexed low_6_either 0x2a 0x2e]
+                special ToEither }
+            PaddiToPaddiThread { 8 [paddi]
+                keep 0 set 0x0600_0000 keep 0x03e0_0000 at 4 set 0x380d_0000 }
+            PaddiToPld { 8 [paddi] keep 0 set 0x0410_0000 keep 0x03e0_0000 at 4 set 0xe400_0000 }
+            PaddiToPaddi4096 { 8 [paddi]
+                keep 0 set 0x0600_0000 keep 0x03e0_0000 at 4 set 0x380d_1000 }
+            BranchToNop { 4 [opcode 18, low_2 1] keep 0 set 0x6000_0000 skip 0 }
+            BranchToAdd { 4 [opcode 18, low_2 1] keep 0 set 0x7c63_6a14 skip 0 }
         }
     };
 }
-
-/// The rewrites by their numbers.
-const KINDS: &[RewriteKind] = &rewrites!(kinds);
 
 impl RewriteKind {
     /// The rewrite with a number, its place in the enum. None above the last.
     #[must_use]
     #[inline(always)]
     pub fn from_number(number: u32) -> Option<RewriteKind> {
-        KINDS.get(number as usize).copied()
+        rewrites!(numbered number)
     }
 
     /// The rewrite's number, which `from_number` takes.
@@ -282,13 +280,6 @@ impl RewriteKind {
     ///
     /// The rewrite needs a relocation there whose type `may_be_skipped` and whose symbol is
     /// `__tls_get_addr`.
-    ///
-    /// ```
-    /// use linker_utils::ppc64::RewriteKind;
-    ///
-    /// assert_eq!(RewriteKind::CallToAddi.skipped_offset(), Some(0));
-    /// assert_eq!(RewriteKind::NopToRestoreToc.skipped_offset(), None);
-    /// ```
     #[must_use]
     #[inline]
     pub fn skipped_offset(self) -> Option<u64> {

@@ -116,40 +116,37 @@ pub(super) use tests;
 macro_rules! rewrites {
     ($($use:tt)*) => {
         by_row! { tests, $($use)*;
-            NoOp: 0 [];
-            ReplaceWithNop: 4 [] keep 0 set 0x0001_0001;
-            CallToJal: 8 [call into_first] keep 0xf80 set 0x6f delete 4 skip 0;
-            Hi20ToCLui: 4 [lui, not_into 0, not_into 2]
-                keep 0xf80 set 0x6001 half true delete 2 count 2;
-            Hi20Delete: 4 [lui] delete 0 skip 0;
-            Lo12Rs1ToZero: 4 [adds_low12] keep 0xfff0_7fff set 0;
-            TailToJal: 8 [call into 0] keep 0 set 0x6f delete 4 skip 0;
-            TailToCJ: 8 [call into 0] keep 0 set 0xa001 half true delete 2 count 6 skip 0;
-            Delete: 4 [] delete 0;
-            ReplaceWithLongNop: 4 [] keep 0 set 0x13;
-            BaseToTp: 4 [adds_low12] keep 0xfff0_7fff set 0x0002_0000;
-            AddiToLui: 4 [addi_a0] keep 0 set 0x537;
-            AddiToAuipc: 4 [addi_a0] keep 0 set 0x517;
-            CallToAddi: 4 [jalr_t0] keep 0 set 0x0005_0513;
-            CallToAddiZero: 4 [jalr_t0] keep 0 set 0x513;
-            CallToLd: 4 [jalr_t0] keep 0 set 0x0005_3503;
-            LdToAddi: 4 [ld] keep 0xffff_8f80 set 0x13;
-            CLuiToCLi: 2 [c_lui] keep 0xf80 set 0x4001 half true;
-            AuipcToLui: 4 [auipc] keep 0xf80 set 0x37;
-            LdToAddiZero: 4 [ld] keep 0xf80 set 0x13;
+            NoOp { 0 [] }
+            ReplaceWithNop { 4 [] keep 0 set 0x0001_0001 }
+            CallToJal { 8 [call into_first] keep 0xf80 set 0x6f delete 4 skip 0 }
+            Hi20ToCLui { 4 [lui, not_into 0, not_into 2]
+                keep 0xf80 set 0x6001 half true delete 2 count 2 }
+            Hi20Delete { 4 [lui] delete 0 skip 0 }
+            Lo12Rs1ToZero { 4 [adds_low12] keep 0xfff0_7fff set 0 }
+            TailToJal { 8 [call into 0] keep 0 set 0x6f delete 4 skip 0 }
+            TailToCJ { 8 [call into 0] keep 0 set 0xa001 half true delete 2 count 6 skip 0 }
+            Delete { 4 [] delete 0 }
+            ReplaceWithLongNop { 4 [] keep 0 set 0x13 }
+            BaseToTp { 4 [adds_low12] keep 0xfff0_7fff set 0x0002_0000 }
+            AddiToLui { 4 [addi_a0] keep 0 set 0x537 }
+            AddiToAuipc { 4 [addi_a0] keep 0 set 0x517 }
+            CallToAddi { 4 [jalr_t0] keep 0 set 0x0005_0513 }
+            CallToAddiZero { 4 [jalr_t0] keep 0 set 0x513 }
+            CallToLd { 4 [jalr_t0] keep 0 set 0x0005_3503 }
+            LdToAddi { 4 [ld] keep 0xffff_8f80 set 0x13 }
+            CLuiToCLi { 2 [c_lui] keep 0xf80 set 0x4001 half true }
+            AuipcToLui { 4 [auipc] keep 0xf80 set 0x37 }
+            LdToAddiZero { 4 [ld] keep 0xf80 set 0x13 }
         }
     };
 }
-
-/// The rewrites by their numbers.
-const KINDS: &[RewriteKind] = &rewrites!(kinds);
 
 impl RewriteKind {
     /// The rewrite with a number, its place in the enum. None above the last.
     #[must_use]
     #[inline(always)]
     pub fn from_number(number: u32) -> Option<RewriteKind> {
-        KINDS.get(number as usize).copied()
+        rewrites!(numbered number)
     }
 
     /// The rewrite's number, which `from_number` takes.

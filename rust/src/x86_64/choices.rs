@@ -2,7 +2,7 @@
 // Made by tools/generate of crates/linker_utils/src/x86_64/choices.rt.
 //! Which rewrite is chosen for a relocation of x86-64.
 
-use super::rewrites::{by_row, is_lea_of_descriptor, is_legacy, of_row, rewrites};
+use super::rewrites::{after, by_row, is_lea_of_descriptor, is_legacy, of_row, rewrites};
 use super::{RewriteKind, X86_64Relocation, X86_64Relocation as Names};
 use crate::rewrite_rows::or;
 use crate::linker_elf::elf::choice_table::{
@@ -83,13 +83,9 @@ macro_rules! when {
         )
     };
     // nothing is relocated any more
-    (unrelocated) => {
-        conditions!(EXECUTABLE + GROUP_FITS)
-    };
+    (unrelocated) => { conditions!(EXECUTABLE + GROUP_FITS) };
     // the same of a call for the module's TLS block
-    (module) => {
-        conditions!(EXECUTABLE + GROUP_FITS, Some(END_OF_FIELD))
-    };
+    (module) => { conditions!(EXECUTABLE + GROUP_FITS, Some(END_OF_FIELD)) };
     // an offset in the module's TLS block becomes one from the thread pointer
     (from_thread_pointer $name:ident) => {
         conditions!(EXECUTABLE + LOCAL_EXEC_BASE, InReachIfKnown($name))
@@ -326,17 +322,7 @@ pub fn choose(
 }
 
 /// Whether a relocation can be rewritten, if all others of its sequence can: whether `choose` with
-/// `group_fits` changes it.
-///
-/// ```
-/// use linker_utils::elf::LinkFacts;
-/// use linker_utils::x86_64::{X86_64Relocation, fits};
-///
-/// // call *x@tlscall(%rax) in an executable, and a call through another register
-/// let facts = LinkFacts { is_executable: true, ..LinkFacts::default() };
-/// assert!(fits(X86_64Relocation::R_X86_64_TLSDESC_CALL, &[0xff, 0x10], 0, &facts));
-/// assert!(!fits(X86_64Relocation::R_X86_64_TLSDESC_CALL, &[0xff, 0x11], 0, &facts));
-/// ```
+/// `group_fits` changes it. `architecture::fits` has an example.
 #[must_use]
 #[doc = include_str!("../../doc/choices/fits.md")]
 pub fn fits(name: X86_64Relocation, section: &[u8], offset: u64, facts: &LinkFacts) -> bool {

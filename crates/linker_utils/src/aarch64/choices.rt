@@ -111,9 +111,7 @@ macro_rules! when {
         conditions!(BOUND + FIXED_DISTANCE, InReachIfKnown(R_AARCH64_ADR_PREL_PG_HI21, $back))
     };
     // by `adr` alone, which reaches 1 MiB
-    (to_adr) => {
-        conditions!(FIXED_DISTANCE, InReach(R_AARCH64_ADR_PREL_LO21))
-    };
+    (to_adr) => { conditions!(FIXED_DISTANCE, InReach(R_AARCH64_ADR_PREL_LO21)) };
     // the offset from the thread pointer in the instructions; with `GROUP_FITS` by halves that may
     // stand apart
     (to_local_exec $($fact:ident)?) => {
@@ -127,9 +125,7 @@ macro_rules! when {
         conditions!(EXECUTABLE, InReachIfKnown(R_AARCH64_TLSIE_ADR_GOTTPREL_PAGE21, $back))
     };
     // the address of the symbol is 0
-    (to_next) => {
-        conditions!(WEAK_ZERO)
-    };
+    (to_next) => { conditions!(WEAK_ZERO) };
 }
 
 /// The entries of each relocation.
@@ -224,17 +220,7 @@ pub fn choose(
 }
 
 /// Whether a relocation can be rewritten, if all others of its sequence can: whether `choose` with
-/// `group_fits` changes it.
-///
-/// ```
-/// use linker_utils::aarch64::{AArch64Relocation, fits};
-/// use linker_utils::elf::LinkFacts;
-///
-/// // `adrp x3, :got:v` and `ldr x3, [x3, :got_lo12:v]`, where v may be of another file
-/// let section = [0x03, 0, 0, 0x90, 0x63, 0, 0x40, 0xf9];
-/// let name = AArch64Relocation::R_AARCH64_ADR_GOT_PAGE;
-/// assert!(!fits(name, &section, 0, &LinkFacts::default()));
-/// ```
+/// `group_fits` changes it. `architecture::fits` has an example.
 pub fn fits(name: AArch64Relocation, section: &[u8], offset: u64, facts: &LinkFacts) -> bool
     ensures { IsTrue result
         ↔ Fits (rewrites.IsAArch64Choice name section.now offset)

@@ -129,9 +129,7 @@ macro_rules! when {
         )
     };
     // by `b` or `bl`
-    (by_branch) => {
-        conditions!(FIXED_DISTANCE + RELAXABLE, InReach(R_LARCH_B26))
-    };
+    (by_branch) => { conditions!(FIXED_DISTANCE + RELAXABLE, InReach(R_LARCH_B26)) };
     // the offset from the thread pointer in the instructions, which may stand apart
     (to_local_exec) => {
         conditions!(
@@ -153,13 +151,9 @@ macro_rules! when {
         conditions!(EXECUTABLE + GROUP_FITS, WithinIfKnown(R_LARCH_TLS_IE_PC_HI20, SIGNED_32))
     };
     // and of the others, which hold for local-exec too
-    (to_initial_exec $($fact:ident)?) => {
-        conditions!(EXECUTABLE + GROUP_FITS $(+ $fact)?)
-    };
+    (to_initial_exec $($fact:ident)?) => { conditions!(EXECUTABLE + GROUP_FITS $(+ $fact)?) };
     // the offset from the thread pointer in 12 signed bits
-    (by_low_part) => {
-        conditions!(RELAXABLE, Within(R_LARCH_TLS_LE_LO12_R, SIGNED_12))
-    };
+    (by_low_part) => { conditions!(RELAXABLE, Within(R_LARCH_TLS_LE_LO12_R, SIGNED_12)) };
 }
 
 /// The entries of each relocation.
@@ -279,18 +273,7 @@ pub fn choose(
 }
 
 /// Whether a relocation can be rewritten, if all others of its sequence can: whether `choose` with
-/// `group_fits` changes it.
-///
-/// ```
-/// use linker_utils::elf::LinkFacts;
-/// use linker_utils::loongarch64::{LoongArch64Relocation, fits};
-///
-/// // pcalau12i a0, 0 and ld.d a1, a0, 0, which leaves the address of the GOT entry in a0
-/// let section = [0x04, 0, 0, 0x1a, 0x85, 0, 0xc0, 0x28];
-/// let mut facts = LinkFacts { is_local: true, ..LinkFacts::default() };
-/// facts.is_pcrel_link_time_constant = true;
-/// assert!(!fits(LoongArch64Relocation::R_LARCH_GOT_PC_HI20, &section, 0, &facts));
-/// ```
+/// `group_fits` changes it. `architecture::fits` has an example.
 pub fn fits(name: LoongArch64Relocation, section: &[u8], offset: u64, facts: &LinkFacts) -> bool
     ensures { IsTrue result
         ↔ Fits (rewrites.IsLoongArchChoice name section.now offset)

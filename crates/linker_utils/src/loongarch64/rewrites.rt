@@ -106,27 +106,24 @@ pub(super) use tests;
 macro_rules! rewrites {
     ($($use:tt)*) => {
         by_row! { tests, $($use)*;
-            NoOp: 0 [];
-            ReplaceWithNop: 4 [] keep 0 set 0x0340_0000;
-            LdToAddi: 4 [ld_d, from_itself, not_into_zero] keep 0x003f_ffff set 0x02c0_0000;
-            AddiToLd: 4 [addi_d, from_itself, not_into_zero] keep 0x003f_ffff set 0x28c0_0000;
-            PcalaToPcaddi: 8 [pair_with addi_d_or_ld_d] keep 0x1f set 0x1800_0000;
-            CallToBl: 8 [pcaddu18i, not_into_zero, jirl at 4, from_first at 4, into 1 at 4]
-                keep 0 set 0x5400_0000 delete 4;
-            CallToB: 8 [pcaddu18i, not_into_zero, jirl at 4, from_first at 4, into 0 at 4]
-                keep 0 set 0x5000_0000 delete 4;
-            PcalaToLu12i: 4 [pcalau12i] keep 0x1f set 0x1400_0000;
-            LowToOri: 4 [addi_d_or_ld_d] keep 0x3ff set 0x0380_0000;
-            LowToOriZero: 4 [addi_d_or_ld_d] keep 0x1f set 0x0380_0000;
-            BaseToTp: 4 [adds_low] keep 0xffff_fc1f set 0x40;
-            Delete: 4 [] delete 0;
-            DeleteAddi: 4 [addi_d, from_itself, not_into_zero] delete 0;
+            NoOp { 0 [] }
+            ReplaceWithNop { 4 [] keep 0 set 0x0340_0000 }
+            LdToAddi { 4 [ld_d, from_itself, not_into_zero] keep 0x003f_ffff set 0x02c0_0000 }
+            AddiToLd { 4 [addi_d, from_itself, not_into_zero] keep 0x003f_ffff set 0x28c0_0000 }
+            PcalaToPcaddi { 8 [pair_with addi_d_or_ld_d] keep 0x1f set 0x1800_0000 }
+            CallToBl { 8 [pcaddu18i, not_into_zero, jirl at 4, from_first at 4, into 1 at 4]
+                keep 0 set 0x5400_0000 delete 4 }
+            CallToB { 8 [pcaddu18i, not_into_zero, jirl at 4, from_first at 4, into 0 at 4]
+                keep 0 set 0x5000_0000 delete 4 }
+            PcalaToLu12i { 4 [pcalau12i] keep 0x1f set 0x1400_0000 }
+            LowToOri { 4 [addi_d_or_ld_d] keep 0x3ff set 0x0380_0000 }
+            LowToOriZero { 4 [addi_d_or_ld_d] keep 0x1f set 0x0380_0000 }
+            BaseToTp { 4 [adds_low] keep 0xffff_fc1f set 0x40 }
+            Delete { 4 [] delete 0 }
+            DeleteAddi { 4 [addi_d, from_itself, not_into_zero] delete 0 }
         }
     };
 }
-
-/// The rewrites by their numbers.
-const KINDS: &[RewriteKind] = &rewrites!(kinds);
 
 impl RewriteKind {
     /// The rewrite with a number, its place in the enum. None above the last.
@@ -134,7 +131,7 @@ impl RewriteKind {
     pub fn from_number(number: u32) -> Option<RewriteKind>
         ensures { result ≡ slice_get loongarch64_rewrites number }
     {
-        KINDS.get(number as usize).copied()
+        rewrites!(numbered number)
     }
 
     /// The rewrite's number, which `from_number` takes.
@@ -201,14 +198,6 @@ impl RewriteKind {
 
     /// The bytes to be deleted after the rewrite: the `jirl` of a call after `CallToBl` and
     /// `CallToB`, and the instruction itself for `Delete` and `DeleteAddi`. `None` for the others.
-    ///
-    /// ```
-    /// use linker_utils::loongarch64::RewriteKind;
-    ///
-    /// // the deletion of the jirl of a call at offset 8
-    /// let deleted = RewriteKind::CallToBl.deleted().unwrap();
-    /// assert_eq!((8 + deleted.start, deleted.count), (12, 4));
-    /// ```
     #[inline]
     pub fn deleted(self) -> Option<DeletedBytes>
         ensures { result ≡ loongarch_deleted self }

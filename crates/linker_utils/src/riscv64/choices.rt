@@ -65,9 +65,7 @@ impl RewriteSet for RewriteKind {
 /// fact stands that has to hold.
 macro_rules! when {
     // a `jal` reaches the symbol
-    (by_jump) => {
-        conditions!(FIXED_DISTANCE + RELAXABLE + WITHOUT_PLT, InReach(R_RISCV_JAL))
-    };
+    (by_jump) => { conditions!(FIXED_DISTANCE + RELAXABLE + WITHOUT_PLT, InReach(R_RISCV_JAL)) };
     // a `c.j` reaches it
     (by_short_jump) => {
         conditions!(
@@ -76,17 +74,13 @@ macro_rules! when {
         )
     };
     // 12 signed bits hold the address
-    (with_low_part $($fact:ident)?) => {
-        conditions!(FIXED_ADDRESS $(+ $fact)?, Low12)
-    };
+    (with_low_part $($fact:ident)?) => { conditions!(FIXED_ADDRESS $(+ $fact)?, Low12) };
     // a `c.lui` holds the high part
     (by_short_high_part) => {
         conditions!(FIXED_ADDRESS + COMPRESSIBLE + RELAXABLE, InReach(R_RISCV_RVC_LUI))
     };
     // 12 signed bits hold the offset from the thread pointer
-    (by_low_offset) => {
-        conditions!(RELAXABLE, Within(R_RISCV_TPREL_LO12_I, SIGNED_12))
-    };
+    (by_low_offset) => { conditions!(RELAXABLE, Within(R_RISCV_TPREL_LO12_I, SIGNED_12)) };
     // that offset in two instructions in place of a descriptor
     (to_local_exec $($fact:ident)?) => {
         conditions!(BOUND + EXECUTABLE $(+ $fact)?, Some(0), InReachIfKnown(R_RISCV_TPREL_HI20))
@@ -248,16 +242,7 @@ pub fn choose(
 }
 
 /// Whether a relocation can be rewritten, if all others of its sequence can: whether `choose` with
-/// `group_fits` changes it.
-///
-/// ```
-/// use linker_utils::elf::LinkFacts;
-/// use linker_utils::riscv64::{RiscVRelocation, fits};
-///
-/// // a low part is rewritten at `ld a0, 0(a0)`, and isn't at an auipc, whatever the linker knows
-/// let auipc = [0x17, 0x05, 0, 0];
-/// assert!(!fits(RiscVRelocation::R_RISCV_PCREL_LO12_I, &auipc, 0, &LinkFacts::default()));
-/// ```
+/// `group_fits` changes it. `architecture::fits` has an example.
 pub fn fits(name: RiscVRelocation, section: &[u8], offset: u64, facts: &LinkFacts) -> bool
     ensures { IsTrue result
         ↔ Fits (rewrites.IsRiscVChoice name section.now offset) (choice kinds.NoOp name) facts.now }

@@ -1,20 +1,18 @@
 //! Relaxation rewrites of x86-64.
 
-ghost use Rattle.linker_utils.specs.X86Rewrites.{x86_64_rewrites};
 ghost use Rattle.std.proofs.Common.{ap};
 ghost use Rattle.std.specs.Prelude.{slice_get, ◌≡◌, ◌≤◌, ◌↔◌, ◌∷◌, [], IsTrue, Some};
 ghost use Rattle.std.specs.Prelude.{◌<◌, length, IfSome, IfNone};
 ghost use Rattle.linker_base.specs.Rewrite.{IsRewritable, CanRewrite, rewritten, offset_after};
 ghost use Rattle.linker_base.specs.Rewrite.{addend_after};
 ghost use Rattle.linker_base.specs.RewriteWindow.{window_of_rewrite};
-ghost use Rattle.linker_utils.specs.X86Rewrites.{rex_reg_to_rm, evex_reg_to_rm};
-ghost use Rattle.linker_utils.specs.X86Rewrites.{modrm_reg_to_rm, operand, prefixed_operand};
-ghost use Rattle.linker_utils.specs.X86Rewrites.{evex_operand, absolute, by_immediate};
-ghost use Rattle.linker_utils.specs.X86Rewrites.{x86_64_rewrite, x86_64_modifier, KeepsRegister};
+ghost use Rattle.linker_utils.specs.X86Rewrites.{rex_reg_to_rm, evex_reg_to_rm, modrm_reg_to_rm};
+ghost use Rattle.linker_utils.specs.X86Rewrites.{prefixed_operand, absolute, by_immediate};
 ghost use Rattle.linker_utils.specs.X86Rewrites.{original, begins, is_at, is_one_at, legacy};
 ghost use Rattle.linker_utils.specs.X86Rewrites.{legacy_or_evex, lea_of_descriptor};
+ghost use Rattle.linker_utils.specs.X86Rewrites.{x86_64_rewrites, x86_64_rewrite, x86_64_modifier};
 ghost use Rattle.linker_utils.specs.X86Rewrites.{x86_64_originals, x86_64_matches, x86_64_skipped};
-ghost use Rattle.linker_utils.specs.X86Rewrites.{HaveFieldAt, x86_64_may_be_skipped};
+ghost use Rattle.linker_utils.specs.X86Rewrites.{x86_64_may_be_skipped, KeepsRegister, HaveFieldAt};
 ghost use Rattle.linker_base.specs.declared.relaxation.RelocationModifier.TheVariants.{Normal};
 ghost use Rattle.linker_base.specs.declared.relaxation.RelocationModifier.TheVariants.{SkipNextRelocation};
 ghost use Rattle.linker_utils.specs.declared.x86_64.rewrites.RewriteKind.TheVariants.{NoOp};
@@ -128,18 +126,6 @@ fn moved_modrm(others: u8, byte: u8) -> u8
     others + (byte >> 3 & 7)
 }
 
-/// Rewrites an opcode and a ModRM byte.
-#[inline(always)]
-fn put_operand(section: &mut [u8], offset: u64, opcode: u8, others: u8)
-    requires inside { IsRewritable (absolute 2 (operand opcode others)) section.old offset }
-    requires room { others ≤ 0xf8 }
-    ensures { section.new
-        ≡ rewritten (Some (absolute 2 (operand opcode others))) section.old offset }
-{
-    let byte = section[(offset - 1) as usize];
-    overwrite(section, offset - 2, &[opcode, moved_modrm(others, byte)]);
-}
-
 /// Rewrites a prefix byte, an opcode and a ModRM byte.
 #[inline(always)]
 fn put_prefixed(section: &mut [u8], offset: u64, n: u8, opcode: u8, others: u8)
@@ -155,22 +141,6 @@ fn put_prefixed(section: &mut [u8], offset: u64, n: u8, opcode: u8, others: u8)
     overwrite(section, offset - 3, &[front, opcode, last]);
 }
 
-/// Rewrites an EVEX byte, and the opcode and ModRM byte that begin three bytes after it.
-#[inline(always)]
-fn put_evex(section: &mut [u8], offset: u64, opcode: u8, others: u8)
-    requires inside { IsRewritable (absolute 5 (evex_operand opcode others)) section.old offset }
-    requires room { others ≤ 0xf8 }
-    ensures { section.new
-        ≡ rewritten (Some (absolute 5 (evex_operand opcode others))) section.old offset }
-{
-    let start = (offset - 5) as usize;
-    let front = moved_evex(section[start]);
-    let second = section[start + 1];
-    let third = section[start + 2];
-    let last = moved_modrm(others, section[start + 4]);
-    overwrite(section, offset - 5, &[front, second, third, opcode, last]);
-}
-
 /// Rewrites an operation, with any prefix or none, to take an immediate.
 #[inline(always)]
 fn put_immediate(section: &mut [u8], offset: u64, n: u8, opcode: u8, others: u8)
@@ -181,8 +151,17 @@ fn put_immediate(section: &mut [u8], offset: u64, n: u8, opcode: u8, others: u8)
     match n {
         3 => put_prefixed(section, offset, 3, opcode, others),
         4 => put_prefixed(section, offset, 4, opcode, others),
-        6 => put_evex(section, offset, opcode, others),
-        _ => put_operand(section, offset, opcode, others),
+        6 => {
+            let start = (offset - 5) as usize;
+            let front = moved_evex(section[start]);
+            let (second, third) = (section[start + 1], section[start + 2]);
+            let last = moved_modrm(others, section[start + 4]);
+            overwrite(section, offset - 5, &[front, second, third, opcode, last]);
+        }
+        _ => {
+            let last = moved_modrm(others, section[(offset - 1) as usize]);
+            overwrite(section, offset - 2, &[opcode, last]);
+        }
     }
 }
 
@@ -197,55 +176,27 @@ fn call_put_immediate(section: &mut [u8], offset: u64, n: u8, opcode: u8, others
     put_immediate(section, offset, n, opcode, others);
 }
 
-/// The masks and values of an instruction's bytes. Each word is that of the definition.
+/// The masks and values of an instruction's bytes. Each word is that of the definition. With
+/// `operand` a ModRM byte, of an address relative to the instruction pointer, and a field follow.
 macro_rules! pattern {
-    ($($byte:tt)*) => {
-        [$(pattern_byte!($byte)),*]
-    };
+    (operand $($byte:tt)*) => { pattern!($($byte)* rip any any any any) };
+    ($($byte:tt)*) => { [$(pattern_byte!($byte)),*] };
 }
 
 macro_rules! pattern_byte {
-    (any) => {
-        (0, 0)
-    };
-    (rip) => {
-        (0xc7, 0x05)
-    };
-    (rex) => {
-        (0xf3, 0x40)
-    };
-    (rex_w) => {
-        (0xfb, 0x48)
-    };
-    (rex2) => {
-        (0xb3, 0x00)
-    };
-    (rex2_w) => {
-        (0xbb, 0x08)
-    };
-    (evex_registers) => {
-        (0x6f, 0x64)
-    };
-    (evex_any_v) => {
-        (0x07, 0x04)
-    };
-    (evex_no_v) => {
-        (0x7f, 0x7c)
-    };
-    ((evex_new_destination $fixed:ident)) => {
-        (0xf3 | $fixed, 0x10)
-    };
-    ((evex_same_destination $fixed:ident)) => {
-        (0xfb | $fixed, 0x08)
-    };
-    ($value:expr) => {
-        (0xff, $value)
-    };
+    (any) => { (0, 0) };
+    (rip) => { (0xc7, 0x05) };
+    (rex) => { (0xf3, 0x40) };
+    (rex_w) => { (0xfb, 0x48) };
+    (rex2) => { (0xb3, 0x00) };
+    (rex2_w) => { (0xbb, 0x08) };
+    (evex_registers) => { (0x6f, 0x64) };
+    (evex_any_v) => { (0x07, 0x04) };
+    (evex_no_v) => { (0x7f, 0x7c) };
+    ((evex_new_destination $fixed:ident)) => { (0xf3 | $fixed, 0x10) };
+    ((evex_same_destination $fixed:ident)) => { (0xfb | $fixed, 0x08) };
+    ($value:expr) => { (0xff, $value) };
 }
-
-const REX_LEA: [(u8, u8); 7] = pattern!(rex_w 0x8d rip any any any any);
-
-const REX2_LEA: [(u8, u8); 8] = pattern!(0xd5 rex2_w 0x8d rip any any any any);
 
 const GENERAL_DYNAMIC: [(u8, u8); 16] = pattern!(
     0x66 0x48 0x8d 0x3d any any any any 0x66 0x66 0x48 0xe8 any any any any
@@ -319,19 +270,9 @@ pub(super) fn is_legacy(section: &[u8], offset: u64, n: u8, opcode: u8) -> bool
     ensures { result ≡ is_one_at (legacy n opcode) section.now offset }
 {
     match n {
-        2 => is_original(section, offset, 2, &pattern!(opcode rip any any any any)),
-        3 => is_original(
-            section,
-            offset,
-            3,
-            &pattern!(rex opcode rip any any any any),
-        ),
-        4 => is_original(
-            section,
-            offset,
-            4,
-            &pattern!(0xd5 rex2 opcode rip any any any any),
-        ),
+        2 => is_original(section, offset, 2, &pattern!(operand opcode)),
+        3 => is_original(section, offset, 3, &pattern!(operand rex opcode)),
+        4 => is_original(section, offset, 4, &pattern!(operand 0xd5 rex2 opcode)),
         _ => false,
     }
 }
@@ -341,23 +282,16 @@ pub(super) fn is_legacy(section: &[u8], offset: u64, n: u8, opcode: u8) -> bool
 fn is_legacy_or_evex(section: &[u8], offset: u64, n: u8, fixed: u8, opcode: u8) -> bool
     ensures { result ≡ is_one_at (legacy_or_evex n fixed opcode) section.now offset }
 {
-    if n == 6 {
-        is_either(
-            section,
-            offset,
-            6,
-            &pattern!(
-                0x62 evex_registers evex_any_v (evex_new_destination fixed) opcode rip
-                any any any any
-            ),
-            &pattern!(
-                0x62 evex_registers evex_no_v (evex_same_destination fixed) opcode rip
-                any any any any
-            ),
-        )
-    } else {
-        is_legacy(section, offset, n, opcode)
+    if n != 6 {
+        return is_legacy(section, offset, n, opcode);
     }
+    is_either(
+        section,
+        offset,
+        6,
+        &pattern!(operand 0x62 evex_registers evex_any_v (evex_new_destination fixed) opcode),
+        &pattern!(operand 0x62 evex_registers evex_no_v (evex_same_destination fixed) opcode),
+    )
 }
 
 /// Whether the `lea` of a TLS descriptor is there.
@@ -366,8 +300,8 @@ pub(super) fn is_lea_of_descriptor(section: &[u8], offset: u64, n: u8) -> bool
     ensures { result ≡ is_one_at (lea_of_descriptor n) section.now offset }
 {
     match n {
-        3 => is_original(section, offset, 3, &REX_LEA),
-        4 => is_original(section, offset, 4, &REX2_LEA),
+        3 => is_original(section, offset, 3, &pattern!(operand rex_w 0x8d)),
+        4 => is_original(section, offset, 4, &pattern!(operand 0xd5 rex2_w 0x8d)),
         _ => false,
     }
 }
@@ -380,26 +314,15 @@ macro_rules! edit {
         let bytes = $bytes;
         overwrite($section, $offset - $back, &bytes);
     };
-    ($section:ident, $offset:expr; $put:ident $($of:tt)*) => {
-        $put($section, $offset, $($of),*);
-    };
+    ($section:ident, $offset:expr; $put:ident $($of:tt)*) => { $put($section, $offset, $($of),*); };
 }
 
 /// How many bytes before the field the first one is that an edit writes, and how many it writes.
 macro_rules! window {
-    () => {
-        (0, 0)
-    };
-    (put $back:literal $bytes:tt) => {
-        ($back, $bytes.len() as u64)
-    };
-    (put_operand $($of:tt)*) => {
-        (2, 2)
-    };
-    (put_prefixed $($of:tt)*) => {
-        (3, 3)
-    };
-    ($put_immediate:ident $n:ident $($of:tt)*) => {
+    () => { (0, 0) };
+    (put $back:literal $bytes:tt) => { ($back, $bytes.len() as u64) };
+    (put_prefixed $($of:tt)*) => { (3, 3) };
+    ($put_immediate:ident $n:tt $($of:tt)*) => {
         match $n {
             3 | 4 => (3, 3),
             6 => (5, 5),
@@ -411,9 +334,7 @@ macro_rules! window {
 /// Whether what a rewrite is for is there: bytes of which n are before the field, one of two
 /// sequences, an instruction that a function tests, or anything.
 macro_rules! is_there {
-    ($section:ident, $offset:ident;) => {
-        true
-    };
+    ($section:ident, $offset:ident;) => { true };
     ($section:ident, $offset:ident; $back:literal $($byte:tt)*) => {
         is_original($section, $offset, $back, &pattern!($($byte)*))
     };
@@ -423,59 +344,56 @@ macro_rules! is_there {
     ($section:ident, $offset:ident; $test:ident $first:literal or $second:literal) => {
         $test($section, $offset, $first) || $test($section, $offset, $second)
     };
-    ($section:ident, $offset:ident; $test:ident $($of:tt)*) => {
-        $test($section, $offset, $($of),*)
+    ($section:ident, $offset:ident; $is:ident $($of:tt)*) => { $is($section, $offset, $($of),*) };
+}
+
+/// What a row says, by the name of what is asked. A row has the rewrite's number, what it is for,
+/// and its edit; then the addend after, how far the offset moves on or back, and how many bytes
+/// after the offset the relocation is that is skipped, where there are such.
+macro_rules! of_row {
+    ([number] $n:expr, $number:literal $($row:tt)*) => { ($number, $n) };
+    ([is $section:ident $offset:ident] $n:expr, $number:literal [$($is:tt)*] $($row:tt)*) => {
+        is_there!($section, $offset; $($is)*)
+    };
+    ([can $section:ident $offset:ident] $n:expr, $number:literal $is:tt [] $($row:tt)*) => { true };
+    ([can $section:ident $offset:ident] $n:expr, $number:literal $is:tt $edit:tt $($row:tt)*) => {{
+        let (back, len) = of_row!([window] $n, $number $is $edit);
+        has_window($section, $offset, back, len)
+    }};
+    ([window] $n:expr, $number:literal $is:tt [$($edit:tt)*] $($row:tt)*) => { window!($($edit)*) };
+    (
+        $asked:tt $n:expr, $number:literal $is:tt [$($edit:tt)*] $(addend $addend:literal)?
+        $(on $on:literal)? $(back $back:literal)? $(skip $skip:literal)?
+    ) => {
+        after!($asked [$($edit)*] [$($addend)?] [$($on)?] [$($back)?] [$($skip)?])
     };
 }
 
-/// What a row says, by the name of what is asked.
-macro_rules! of_row {
-    ([number] $number:literal, $n:expr, $is:tt, $edit:tt, $moved:tt, $skip:expr) => {
-        ($number, $n)
-    };
-    ([window] $number:literal, $n:expr, $is:tt, [$($edit:tt)*], $moved:tt, $skip:expr) => {
-        window!($($edit)*)
-    };
-    ([can $section:ident $offset:ident]
-        $number:literal, $n:expr, $is:tt, [], $moved:tt, $skip:expr) => {
-        true
-    };
-    ([can $section:ident $offset:ident]
-        $number:literal, $n:expr, $is:tt, [$($edit:tt)*], $moved:tt, $skip:expr) => {{
-        let (back, len) = window!($($edit)*);
-        has_window($section, $offset, back, len)
-    }};
-    ([skip] $number:literal, $n:expr, $is:tt, $edit:tt, $moved:tt, $skip:expr) => {
-        $skip
-    };
-    ([is $section:ident $offset:ident]
-        $number:literal, $n:expr, [$($is:tt)*], $edit:tt, $moved:tt, $skip:expr) => {
-        is_there!($section, $offset; $($is)*)
-    };
-    ([edit $section:ident $offset:ident $addend:ident]
-        $number:literal, $n:expr, $is:tt, [$($edit:tt)*],
-        ($($new:literal)? $(on $on:literal)? $(back $back:literal)?), $skip:expr) => {{
+/// What a row says of its edit, and of what is after it.
+macro_rules! after {
+    ([skip] $edit:tt $new:tt $on:tt $back:tt [$($skip:literal)?]) => { or!(None; $(Some($skip))?) };
+    (
+        [edit $section:ident $offset:ident $addend:ident] [$($edit:tt)*]
+        [$($new:literal)?] [$($on:literal)?] [$($back:literal)?] $skip:tt
+    ) => {{
         edit!($section, *$offset; $($edit)*);
         $(*$addend = $new;)?
         $(*$offset += $on;)?
         $(*$offset -= $back;)?
     }};
-    ([after $offset:ident $addend:expr]
-        $number:literal, $n:expr, $is:tt, $edit:tt,
-        ($($new:literal)? $(on $on:literal)? $(back $back:literal)?), $skip:expr) => {
+    (
+        [after $offset:ident $addend:expr] $edit:tt
+        [$($new:literal)?] [$($on:literal)?] [$($back:literal)?] $skip:tt
+    ) => {
         ($offset$(.wrapping_add($on))?$(.saturating_sub($back))?, or!($addend; $($new)?))
     };
 }
 
-/// A match over the rewrites or their numbers. A row has the rewrite's number, what it is for, and
-/// its edit; then the addend after, how far the offset moves on or back, and how many bytes after
-/// the offset the relocation is that is skipped, where there are such.
+/// A match over the rewrites or their numbers.
 macro_rules! by_row {
     (
         kinds $value:expr, $len:expr;
-        $($kind:ident$(($n:ident))?: $number:literal [$($is:tt)*] [$($edit:tt)*]
-            $(addend $addend:literal)? $(on $on:literal)? $(back $back:literal)?
-            $(skip $skip:literal)?;)*
+        $($kind:ident$(($n:ident))? { $number:literal $($row:tt)* })*
     ) => {
         match $value {
             $($number => {
@@ -485,22 +403,17 @@ macro_rules! by_row {
             _ => return None,
         }
     };
-    (
-        $value:expr => $asked:tt;
-        $($kind:ident$(($n:ident))?: $number:literal [$($is:tt)*] [$($edit:tt)*]
-            $(addend $addend:literal)? $(on $on:literal)? $(back $back:literal)?
-            $(skip $skip:literal)?;)*
-    ) => {
+    ($value:expr => $asked:tt; $($kind:ident$(($n:ident))? { $($row:tt)* })*) => {
         match $value {
             $(RewriteKind::$kind$(($n))? => {
                 $(let _ = $n;)?
-                of_row!($asked $number, or!(0; $($n)?), [$($is)*], [$($edit)*],
-                    ($($addend)? $(on $on)? $(back $back)?), or!(None; $(Some($skip))?))
+                of_row!($asked or!(0; $($n)?), $($row)*)
             })*
         }
     };
 }
 
+pub(super) use after;
 pub(super) use by_row;
 pub(super) use of_row;
 
@@ -509,59 +422,60 @@ pub(super) use of_row;
 macro_rules! rewrites {
     ($($use:tt)*) => {
         by_row! { $($use)*;
-            MovIndirectToLea: 0 [is_legacy 2 0x8b] [put 2 [0x8d]];
-            MovIndirectToAbsolute: 1 [is_legacy 2 0x8b] [put_operand 0xc7 0xc0] addend 0;
-            RexMovIndirectToAbsolute(n): 2 [is_legacy n 0x8b] [put_prefixed n 0xc7 0xc0] addend 0;
-            RexAddIndirectToAbsolute(n): 3 [is_legacy_or_evex n 0 0x03] [put_immediate n 0x81 0xc0]
-                addend 0;
-            RexSubIndirectToAbsolute(n): 4 [is_legacy n 0x2b] [put_prefixed n 0x81 0xe8] addend 0;
-            RexCmpIndirectToAbsolute(n): 5 [is_legacy n 0x3b] [put_prefixed n 0x81 0xf8] addend 0;
-            CallIndirectToRelative: 6 [2 0xff 0x15 any any any any] [put 2 [0x67, 0xe8]];
-            JmpIndirectToRelative: 7 [2 0xff 0x25 any any any any]
-                [put 2 [0xe9, 0, 0, 0, 0, 0x90]] back 1;
-            NoOp: 8 [] [];
+            MovIndirectToLea { 0 [is_legacy 2 0x8b] [put 2 [0x8d]] }
+            MovIndirectToAbsolute { 1 [is_legacy 2 0x8b] [put_immediate 2 0xc7 0xc0] addend 0 }
+            RexMovIndirectToAbsolute(n) { 2 [is_legacy n 0x8b] [put_prefixed n 0xc7 0xc0] addend 0 }
+            RexAddIndirectToAbsolute(n) { 3 [is_legacy_or_evex n 0 0x03] [put_immediate n 0x81 0xc0]
+                addend 0 }
+            RexSubIndirectToAbsolute(n) { 4 [is_legacy n 0x2b] [put_prefixed n 0x81 0xe8] addend 0 }
+            RexCmpIndirectToAbsolute(n) { 5 [is_legacy n 0x3b] [put_prefixed n 0x81 0xf8] addend 0 }
+            CallIndirectToRelative { 6 [2 0xff 0x15 any any any any] [put 2 [0x67, 0xe8]] }
+            JmpIndirectToRelative { 7 [2 0xff 0x25 any any any any]
+                [put 2 [0xe9, 0, 0, 0, 0, 0x90]] back 1 }
+            NoOp { 8 [] [] }
             // `mov %fs:0, %rax; lea x(%rax), %rax`, before its field
-            TlsGdToLocalExec: 9 [GENERAL_DYNAMIC or GENERAL_DYNAMIC_BY_GOT after 4]
+            TlsGdToLocalExec { 9 [GENERAL_DYNAMIC or GENERAL_DYNAMIC_BY_GOT after 4]
                 [put 4 [0x64, 0x48, 0x8b, 0x04, 0x25, 0, 0, 0, 0, 0x48, 0x8d, 0x80]]
-                addend 0 on 8 skip 8;
+                addend 0 on 8 skip 8 }
             // the same, its field, and `nopw (%rax,%rax)`
-            TlsGdToLocalExecLarge: 10 [LARGE_BY_RBX or LARGE_BY_R15 after 3]
+            TlsGdToLocalExecLarge { 10 [LARGE_BY_RBX or LARGE_BY_R15 after 3]
                 [put 3 [
                     0x64, 0x48, 0x8b, 0x04, 0x25, 0, 0, 0, 0, 0x48, 0x8d, 0x80, 0, 0, 0, 0, 0x66,
                     0x0f, 0x1f, 0x44, 0, 0
-                ]] addend 0 on 9 skip 6;
+                ]] addend 0 on 9 skip 6 }
             // `mov %fs:0, %rax`, with prefixes that do nothing
-            TlsLdToLocalExec: 11
+            TlsLdToLocalExec { 11
                 [3 0x48 0x8d 0x3d any any any any 0xe8 any any any any]
-                [put 3 [0x66, 0x66, 0x66, 0x64, 0x48, 0x8b, 0x04, 0x25, 0, 0, 0, 0]] on 5 skip 5;
-            TlsLdToLocalExecNoPlt: 12
+                [put 3 [0x66, 0x66, 0x66, 0x64, 0x48, 0x8b, 0x04, 0x25, 0, 0, 0, 0]] on 5 skip 5 }
+            TlsLdToLocalExecNoPlt { 12
                 [3 0x48 0x8d 0x3d any any any any 0xff 0x15 any any any any]
                 [put 3 [0x66, 0x66, 0x66, 0x66, 0x64, 0x48, 0x8b, 0x04, 0x25, 0, 0, 0, 0]]
-                on 5 skip 6;
+                on 5 skip 6 }
             // `nopw %cs:(%rax,%rax)` before it
-            TlsLdToLocalExec64: 13 [LARGE_BY_RBX or LARGE_BY_R15 after 3]
+            TlsLdToLocalExec64 { 13 [LARGE_BY_RBX or LARGE_BY_R15 after 3]
                 [put 3 [
                     0x66, 0x66, 0x66, 0x66, 0x2e, 0x0f, 0x1f, 0x84, 0, 0, 0, 0, 0, 0x64, 0x48, 0x8b,
                     0x04, 0x25, 0, 0, 0, 0
-                ]] on 15 skip 6;
+                ]] on 15 skip 6 }
             // `mov %fs:0, %rax; add x@GOTTPOFF(%rip), %rax`, before its field
-            TlsGdToInitialExec: 14 [GENERAL_DYNAMIC or GENERAL_DYNAMIC_BY_GOT after 4]
-                [put 4 [0x64, 0x48, 0x8b, 0x04, 0x25, 0, 0, 0, 0, 0x48, 0x03, 0x05]] on 8 skip 8;
-            TlsDescToLocalExec(n): 15 [is_lea_of_descriptor n] [put_prefixed n 0xc7 0xc0] addend 0;
-            TlsDescToInitialExec: 16 [is_lea_of_descriptor 3 or 4] [put 2 [0x8b]];
-            SkipTlsDescCall: 17 [0 0xff 0x10] [put 0 [0x66, 0x90]];
-            RexAdcIndirectToAbsolute(n): 18 [is_legacy_or_evex n 4 0x13]
-                [call_put_immediate n 0x81 0xd0] addend 0;
-            RexAndIndirectToAbsolute(n): 19 [is_legacy_or_evex n 0 0x23]
-                [call_put_immediate n 0x81 0xe0] addend 0;
-            RexOrIndirectToAbsolute(n): 20 [is_legacy_or_evex n 0 0x0b]
-                [call_put_immediate n 0x81 0xc8] addend 0;
-            RexSbbIndirectToAbsolute(n): 21 [is_legacy_or_evex n 4 0x1b]
-                [call_put_immediate n 0x81 0xd8] addend 0;
-            RexXorIndirectToAbsolute(n): 22 [is_legacy_or_evex n 0 0x33]
-                [call_put_immediate n 0x81 0xf0] addend 0;
-            RexTestIndirectToAbsolute(n): 23 [is_legacy n 0x85] [call_put_immediate n 0xf7 0xc0]
-                addend 0;
+            TlsGdToInitialExec { 14 [GENERAL_DYNAMIC or GENERAL_DYNAMIC_BY_GOT after 4]
+                [put 4 [0x64, 0x48, 0x8b, 0x04, 0x25, 0, 0, 0, 0, 0x48, 0x03, 0x05]] on 8 skip 8 }
+            TlsDescToLocalExec(n) { 15 [is_lea_of_descriptor n] [put_prefixed n 0xc7 0xc0]
+                addend 0 }
+            TlsDescToInitialExec { 16 [is_lea_of_descriptor 3 or 4] [put 2 [0x8b]] }
+            SkipTlsDescCall { 17 [0 0xff 0x10] [put 0 [0x66, 0x90]] }
+            RexAdcIndirectToAbsolute(n) { 18 [is_legacy_or_evex n 4 0x13]
+                [call_put_immediate n 0x81 0xd0] addend 0 }
+            RexAndIndirectToAbsolute(n) { 19 [is_legacy_or_evex n 0 0x23]
+                [call_put_immediate n 0x81 0xe0] addend 0 }
+            RexOrIndirectToAbsolute(n) { 20 [is_legacy_or_evex n 0 0x0b]
+                [call_put_immediate n 0x81 0xc8] addend 0 }
+            RexSbbIndirectToAbsolute(n) { 21 [is_legacy_or_evex n 4 0x1b]
+                [call_put_immediate n 0x81 0xd8] addend 0 }
+            RexXorIndirectToAbsolute(n) { 22 [is_legacy_or_evex n 0 0x33]
+                [call_put_immediate n 0x81 0xf0] addend 0 }
+            RexTestIndirectToAbsolute(n) { 23 [is_legacy n 0x85] [call_put_immediate n 0xf7 0xc0]
+                addend 0 }
         }
     };
 }
