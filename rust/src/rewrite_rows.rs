@@ -186,44 +186,27 @@ impl WordTest {
     }
 }
 
+/// Whether tests hold of instructions, of which there are at most as many as names.
+macro_rules! named_hold {
+    ($tests:expr, $words:ident; $last:ident) => {
+        match $tests {
+            [] => true,
+            [$last, ..] => $last.holds($words),
+        }
+    };
+    ($tests:expr, $words:ident; $test:ident $($names:ident)+) => {
+        match $tests {
+            [] => true,
+            [$test, more @ ..] => $test.holds($words) && named_hold!(more, $words; $($names)+),
+        }
+    };
+}
+
 /// Whether all tests hold of instructions. Of constant tests LLVM leaves what they compare: so
 /// there is no loop.
 #[inline(always)]
 pub(crate) fn all_hold(tests: &'static [WordTest], words: Words) -> bool {
-    match tests {
-        [] => true,
-        [a, more @ ..] => {
-            a.holds(words)
-                && match more {
-                    [] => true,
-                    [b, more @ ..] => {
-                        b.holds(words)
-                            && match more {
-                                [] => true,
-                                [c, more @ ..] => {
-                                    c.holds(words)
-                                        && match more {
-                                            [] => true,
-                                            [d, more @ ..] => {
-                                                d.holds(words)
-                                                    && match more {
-                                                        [] => true,
-                                                        [e, more @ ..] => {
-                                                            e.holds(words)
-                                                                && match more {
-                                                                    [] => true,
-                                                                    [f, ..] => f.holds(words),
-                                                                }
-                                                        }
-                                                    }
-                                            }
-                                        }
-                                }
-                            }
-                    }
-                }
-        }
-    }
+    named_hold!(tests, words; a b c d e f)
 }
 
 /// The instruction at an offset of a section.
