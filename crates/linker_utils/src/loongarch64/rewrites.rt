@@ -28,7 +28,7 @@ use linker_elf::elf::InstructionRewrite;
 /// RewriteKind::LdToAddi.apply(&mut ld, &mut offset, &mut addend);
 /// assert_eq!(u32::from_le_bytes(ld), 0x02c0_0084);
 /// ```
-#[derive(Debug, Default, Clone, Copy, PartialEq, Eq)]
+#[derive(Default, Clone, Copy, PartialEq, Eq)]
 pub enum RewriteKind {
     /// Leaves the instruction as it is; only the kind of its relocation changes.
     #[default]

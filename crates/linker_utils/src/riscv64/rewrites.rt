@@ -17,7 +17,7 @@ use linker_elf::elf::InstructionRewrite;
 use linker_elf::riscv64::RiscVRelocation;
 
 /// A rewrite of one instruction, or of a pair whose second instruction is then deleted.
-#[derive(Debug, Default, Clone, Copy, PartialEq, Eq)]
+#[derive(Default, Clone, Copy, PartialEq, Eq)]
 pub enum RewriteKind {
     /// Leaves the instruction as it is; only the kind of its relocation changes.
     #[default]

@@ -39,7 +39,7 @@ use linker_elf::elf::InstructionRewrite;
 /// assert_eq!(section, [0xe9, 0, 0, 0, 0, 0x90]);
 /// assert_eq!((offset, addend), (1, -4));
 /// ```
-#[derive(Debug, Default, Clone, Copy, PartialEq, Eq)]
+#[derive(Default, Clone, Copy, PartialEq, Eq)]
 pub enum RewriteKind {
     /// Turns `mov x@GOTPCREL(%rip), %reg` into `lea x(%rip), %reg`.
     MovIndirectToLea,
