@@ -22,7 +22,7 @@ use crate::linker_elf::elf::architecture::{architectures, by_architecture};
 
 /// A rewrite of one of the architectures.
 #[cfg_attr(not(exhaustive), non_exhaustive)]
-#[derive(Debug, Clone, Copy, PartialEq, Eq, Hash, PartialOrd, Ord)]
+#[derive(Clone, Copy, PartialEq, Eq, Debug, Hash, PartialOrd, Ord)]
 pub enum Relaxation {
     #[cfg(feature = "aarch64")]
     AArch64(aarch64::RewriteKind),

@@ -3,7 +3,6 @@
 //! Rewrites as data. A row has the instructions that a rewrite is for, what it makes of them, and
 //! what is deleted.
 
-use crate::linker_base::relaxation::RelocationModifier;
 use crate::linker_base::rewrite::{DeletedBytes, RewriteWindow, has_window, overwrite};
 use crate::linker_base::utils::u32_from_slice;
 
@@ -78,10 +77,10 @@ pub(crate) struct WordEdit {
     pub special: Option<Special>,
 }
 
-/// A rewrite.
+/// The instructions that a rewrite is for.
 #[derive(Clone, Copy)]
-pub(crate) struct RewriteRow {
-    /// How many bytes the instructions have. A rewrite of none is for any offset.
+pub(crate) struct Original {
+    /// How many bytes they have. A rewrite of none is for any offset.
     pub len: u64,
     /// How many bytes before the relocation's offset the first one is.
     pub back: u64,
@@ -89,16 +88,19 @@ pub(crate) struct RewriteRow {
     pub aligned: bool,
     /// What has to hold of them.
     pub tests: &'static [WordTest],
-    /// The one of these tests that `apply` requires of the first instruction, if any.
+}
+
+/// What a rewrite writes.
+#[derive(Clone, Copy)]
+pub(crate) struct Replacement {
+    /// How many bytes before the relocation's offset the first instruction is.
+    pub back: u64,
+    /// What `apply` requires of the instruction before, if anything.
     pub required: Option<WordTest>,
-    /// The instructions that it writes in their place: none, one or two.
+    /// The instructions that it writes in the place of others: none, one or two.
     pub edits: &'static [WordEdit],
     /// Whether it writes one of 2 bytes.
     pub half: bool,
-    /// The bytes that are then deleted.
-    pub deleted: Option<DeletedBytes>,
-    /// How many bytes after the offset the relocation is that is skipped.
-    pub skipped: Option<u64>,
     /// How many bytes the offset moves on.
     pub moved: u64,
     /// The addend after, if it isn't the one before.
@@ -315,8 +317,8 @@ fn word_of(section: &[u8], start: u64, second: bool) -> u32 {
     }
 }
 
-impl RewriteRow {
-    /// Whether the instructions that the rewrite is for are at an offset of a section.
+impl Original {
+    /// Whether the instructions are at an offset of a section.
     #[inline(always)]
     pub(crate) fn is_for(self, section: &[u8], offset: u64) -> bool {
         self.len == 0
@@ -324,10 +326,12 @@ impl RewriteRow {
                 && (!self.aligned || (offset - self.back) % 4 == 0)
                 && are_at(self.tests, section, offset - self.back, self.len)
     }
+}
 
+impl Replacement {
     /// The bytes that the rewrite writes.
     #[inline(always)]
-    pub(crate) fn window(self) -> RewriteWindow {
+    fn window(self) -> RewriteWindow {
         let (back, len) = match self.edits {
             [] => (0, 0),
             [_] => (self.back, if self.half { 2 } else { 4 }),
@@ -371,24 +375,38 @@ impl RewriteRow {
             }
         }
     }
-
-    /// What happens to the next relocation.
-    #[inline(always)]
-    pub(crate) fn next_modifier(self) -> RelocationModifier {
-        match self.skipped {
-            Some(_) => RelocationModifier::SkipNextRelocation,
-            None => RelocationModifier::Normal,
-        }
-    }
 }
 
-/// A row: the length of the instructions, how far before the offset they begin, whether they are
-/// aligned, their tests, of which the macro `$tests` makes an array, and the one that `apply`
-/// requires too. Then it has the bits kept and set of each instruction that is written, those of
-/// the second at 4, or how one is made instead, and whether it has 2 bytes; where bytes are
-/// deleted, and how many if not 4; where a relocation is skipped; how far the offset moves; and the
-/// addend after.
-macro_rules! row {
+/// What the row of a rewrite is for. A row has the length of the instructions, how far before the
+/// offset they begin, whether they are aligned, their tests, of which the macro `$tests` makes an
+/// array, and the one that `apply` requires too. Then it has the bits kept and set of each
+/// instruction that is written, those of the second at 4, or how one is made instead, and whether
+/// it has 2 bytes; where bytes are deleted, and how many if not 4; where a relocation is skipped;
+/// how far the offset moves; and the addend after.
+macro_rules! original {
+    (
+        $tests:ident $len:literal $(back $back:literal)? $(aligned $aligned:literal)?
+        [$($of:tt)*] required $given:ident $($row:tt)*
+    ) => {
+        $crate::rewrite_rows::original!(
+            $tests $len $(back $back)? $(aligned $aligned)? [$given, $($of)*]
+        )
+    };
+    (
+        $tests:ident $len:literal $(back $back:literal)? $(aligned $aligned:literal)?
+        [$($of:tt)*] $($row:tt)*
+    ) => {
+        $crate::rewrite_rows::Original {
+            len: $len,
+            back: $crate::rewrite_rows::or!(0; $($back)?),
+            aligned: $crate::rewrite_rows::or!(false; $($aligned)?),
+            tests: &$tests![$($of)*],
+        }
+    };
+}
+
+/// What the row of a rewrite writes.
+macro_rules! replacement {
     (
         $tests:ident $len:literal $(back $back:literal)? $(aligned $aligned:literal)?
         [$($of:tt)*] $(required $given:ident)?
@@ -396,11 +414,8 @@ macro_rules! row {
         $(half $half:literal)? $(delete $start:literal $(count $count:literal)?)?
         $(skip $skip:literal)? $(moved $moved:literal)? $(addend $addend:literal)?
     ) => {
-        $crate::rewrite_rows::RewriteRow {
-            len: $len,
+        $crate::rewrite_rows::Replacement {
             back: $crate::rewrite_rows::or!(0; $($back)?),
-            aligned: $crate::rewrite_rows::or!(false; $($aligned)?),
-            tests: &$tests![$($given,)? $($of)*],
             required: $crate::rewrite_rows::or!(None; $($tests![required $given])?),
             edits: &[
                 $($crate::rewrite_rows::WordEdit {
@@ -417,19 +432,49 @@ macro_rules! row {
                 },)?
             ],
             half: $crate::rewrite_rows::or!(false; $($half)?),
-            deleted: $crate::rewrite_rows::or!(None; $(Some(crate::linker_base::rewrite::DeletedBytes {
-                start: $start,
-                count: $crate::rewrite_rows::or!(4; $($count)?),
-            }))?),
-            skipped: $crate::rewrite_rows::or!(None; $(Some($skip))?),
             moved: $crate::rewrite_rows::or!(0; $($moved)?),
             addend: $crate::rewrite_rows::or!(None; $(Some($addend))?),
         }
     };
 }
 
-/// What a row is used for, in an arm for each rewrite, and there of a constant row; or the rewrite
-/// with a number.
+/// Where a row has a relocation skipped.
+macro_rules! skipped {
+    () => { None };
+    (skip $skip:literal $($row:tt)*) => { Some($skip) };
+    ($other:tt $($row:tt)*) => { $crate::rewrite_rows::skipped!($($row)*) };
+}
+
+/// The bytes that a row has deleted.
+macro_rules! deleted {
+    () => { None };
+    (delete $start:literal count $count:literal $($row:tt)*) => {
+        Some(crate::linker_base::rewrite::DeletedBytes { start: $start, count: $count })
+    };
+    (delete $start:literal $($row:tt)*) => {
+        Some(crate::linker_base::rewrite::DeletedBytes { start: $start, count: 4 })
+    };
+    ($other:tt $($row:tt)*) => { $crate::rewrite_rows::deleted!($($row)*) };
+}
+
+/// The bytes that a row has written: with how far before the offset they begin, and how many they
+/// are by what was read of the row so far.
+macro_rules! window {
+    ($back:tt, 0;) => { crate::linker_base::rewrite::RewriteWindow { back: 0, len: 0 } };
+    ($back:tt, $len:tt;) => { crate::linker_base::rewrite::RewriteWindow { back: $back, len: $len } };
+    ($back:tt, 0; keep $($row:tt)*) => { $crate::rewrite_rows::window!($back, 4; $($row)*) };
+    ($back:tt, 4; keep $($row:tt)*) => { $crate::rewrite_rows::window!($back, 8; $($row)*) };
+    ($back:tt, 0; special $($row:tt)*) => { $crate::rewrite_rows::window!($back, 4; $($row)*) };
+    ($back:tt, 4; half $($row:tt)*) => { $crate::rewrite_rows::window!($back, 2; $($row)*) };
+    ($back:tt, $len:tt; $other:tt $($row:tt)*) => {
+        $crate::rewrite_rows::window!($back, $len; $($row)*)
+    };
+    ($len:tt back $back:tt $($row:tt)*) => { $crate::rewrite_rows::window!($back, 0; $($row)*) };
+    ($len:tt $($row:tt)*) => { $crate::rewrite_rows::window!(0, 0; $($row)*) };
+}
+
+/// A part of a row, by the macro of its name, or what such a part is used for, in an arm for each
+/// rewrite, and there of constants; or the rewrite with a number.
 macro_rules! by_row {
     ($tests:ident, numbered $number:expr; $($kind:ident { $($row:tt)* })*) => {
         match $number {
@@ -437,10 +482,15 @@ macro_rules! by_row {
             _ => None,
         }
     };
-    ($tests:ident, $value:expr, $row:ident => $use:expr; $($kind:ident { $($of:tt)* })*) => {
+    ($tests:ident, $value:expr => $part:ident; $($kind:ident { $($row:tt)* })*) => {
+        match $value {
+            $(RewriteKind::$kind => $crate::rewrite_rows::$part!($($row)*),)*
+        }
+    };
+    ($tests:ident, $value:expr, $part:ident $row:ident => $use:expr; $($kind:ident { $($of:tt)* })*) => {
         match $value {
             $(RewriteKind::$kind => {
-                let $row = $crate::rewrite_rows::row!($tests $($of)*);
+                let $row = $crate::rewrite_rows::$part!($tests $($of)*);
                 $use
             })*
         }
@@ -488,7 +538,11 @@ macro_rules! same_name {
 
 pub(crate) use bits;
 pub(crate) use by_row;
+pub(crate) use deleted;
 pub(crate) use or;
-pub(crate) use row;
+pub(crate) use original;
+pub(crate) use replacement;
 pub(crate) use same_name;
+pub(crate) use skipped;
 pub(crate) use top;
+pub(crate) use window;

@@ -10,27 +10,40 @@ use Rattle.linker_rewriting.specs.declared.phases.Phase.TheVariants.{PreLayout, 
 use Rattle.linker_section.specs.declared.facts.Addresses.{Addresses}
 use Rattle.linker_section.specs.declared.facts.Symbol.{Symbol}
 
--- a bit al a number
-record IsBit (worth : ℕ) (b : Bool) : Type 0 where
-  pub digit : ℕ
-  pub small : digit < 2
-  pub is : bit_if worth b ≡ worth * digit
+-- a bit's number
+digit : Bool → ℕ
+digit true = 1
+digit false = 0
 
-bit_of : (worth : ℕ) (b : Bool) → IsBit worth b
-bit_of worth true = record { digit = 1; small = omega arith; is = omega arith }
-bit_of worth false = record { digit = 0; small = omega arith; is = omega arith }
+is_small : (b : Bool) → digit b < 2
+unfolding digit
+is_small true = omega arith
+is_small false = omega arith
 
-same_bit : (b c : Bool) → (bit_of 1 b).digit ≡ (bit_of 1 c).digit → b ≡ c
-unfolding bit_of
+same_bit : (b c : Bool) → digit b ≡ digit c → b ≡ c
+unfolding digit
 same_bit true true same = refl
 same_bit false false same = refl
 same_bit true false same = absurd (omega (arith, same))
 same_bit false true same = absurd (omega (arith, same))
 
-digit_same : (worth : ℕ) (b : Bool) → (bit_of worth b).digit ≡ (bit_of 1 b).digit
-unfolding bit_of
-digit_same worth true = refl
-digit_same worth false = refl
+weighed : (worth : ℕ) (b : Bool) → bit_if worth b ≡ worth * digit b
+unfolding digit
+weighed worth true = omega arith
+weighed worth false = omega arith
+
+-- numbers whose lowest bits are `b` and `c`
+record AreSplit (b c : Bool) (n m : ℕ) : Type 0 where
+  pub bit : b ≡ c
+  pub rest : n ≡ m
+
+split : (b c : Bool) (n m : ℕ) → digit b + 2 * n ≡ digit c + 2 * m → AreSplit b c n m
+split b c n m same =
+    let small = is_small b in let small_too = is_small c in
+    record {
+      bit = same_bit b c (omega (arith, same, small, small_too));
+      rest = omega (arith, same, small, small_too);
+    }
 
 -- what choices read
 record AreSame (output other : OutputFacts) (symbol another : SymbolFacts) : Type 0 where
@@ -44,61 +57,56 @@ record AreSame (output other : OutputFacts) (symbol another : SymbolFacts) : Typ
   pub is_ifunc : symbol.is_ifunc ≡ another.is_ifunc
   pub is_local : symbol.is_local ≡ another.is_local
 
-of_bits : (worth : ℕ) (b c : Bool) → (bit_of worth b).digit ≡ (bit_of worth c).digit → b ≡ c
-of_bits worth b c same =
-    same_bit b c (sym (digit_same worth b) ∙ (same ∙ digit_same worth c))
+-- the bits of an output, from bit 8 on
+output_digits : OutputFacts → ℕ
+output_digits output =
+    digit output.is_executable + 2 * (digit output.is_fixed + 2 * (digit output.has_near_symbols + 2 * 16))
+
+digits : OutputFacts → SymbolFacts → ℕ
+digits output symbol =
+    digit symbol.is_local + 2 * (digit symbol.is_ifunc + 2 * (digit symbol.is_absolute
+    + 2 * (digit symbol.is_undefined_weak + 2 * (digit symbol.is_tls_get_addr
+    + 2 * (symbol.other / 32 + 8 * output_digits output)))))
+
+are_digits : (output : OutputFacts) (symbol : SymbolFacts) → kept_bits output symbol ≡ digits output symbol
+unfolding digits output_digits
+are_digits output symbol =
+    let h = weighed (2 ^ 10) output.has_near_symbols in
+    let a = weighed (2 ^ 9) output.is_fixed in
+    let b = weighed (2 ^ 8) output.is_executable in
+    let c = weighed 16 symbol.is_tls_get_addr in
+    let d = weighed 8 symbol.is_undefined_weak in
+    let e = weighed 4 symbol.is_absolute in
+    let f = weighed 2 symbol.is_ifunc in
+    let g = weighed 1 symbol.is_local in
+    omega (arith, h, a, b, c, d, e, f, g)
 
 same_facts : (output other : OutputFacts) (symbol another : SymbolFacts)
     → symbol.other < 2 ^ 8 → another.other < 2 ^ 8
     → kept_bits output symbol ≡ kept_bits other another → AreSame output other symbol another
+unfolding digits output_digits
 same_facts output other symbol another small small_too same =
-    let h = bit_of (2 ^ 10) output.has_near_symbols in
-    let a = bit_of (2 ^ 9) output.is_fixed in
-    let b = bit_of (2 ^ 8) output.is_executable in
-    let c = bit_of 16 symbol.is_tls_get_addr in
-    let d = bit_of 8 symbol.is_undefined_weak in
-    let e = bit_of 4 symbol.is_absolute in
-    let f = bit_of 2 symbol.is_ifunc in
-    let g = bit_of 1 symbol.is_local in
-    let h' = bit_of (2 ^ 10) other.has_near_symbols in
-    let a' = bit_of (2 ^ 9) other.is_fixed in
-    let b' = bit_of (2 ^ 8) other.is_executable in
-    let c' = bit_of 16 another.is_tls_get_addr in
-    let d' = bit_of 8 another.is_undefined_weak in
-    let e' = bit_of 4 another.is_absolute in
-    let f' = bit_of 2 another.is_ifunc in
-    let g' = bit_of 1 another.is_local in
-    let hi = h.is in let hi' = h'.is in
-    let ai = a.is in let al = a.small in let ai' = a'.is in let al' = a'.small in
-    let bi = b.is in let bs = b.small in let bi' = b'.is in let bs' = b'.small in
-    let ci = c.is in let cs = c.small in let ci' = c'.is in let cs' = c'.small in
-    let di = d.is in let ds = d.small in let di' = d'.is in let ds' = d'.small in
-    let ei = e.is in let es = e.small in let ei' = e'.is in let es' = e'.small in
-    let fi = f.is in let fs = f.small in let fi' = f'.is in let fs' = f'.small in
-    let gi = g.is in let gs = g.small in let gi' = g'.is in let gs' = g'.small in
-    let sums : 1024 * h.digit + 512 * a.digit + 256 * b.digit + symbol.other / 32 * 32 + 16 * c.digit + 8 * d.digit + 4 * e.digit + 2 * f.digit + g.digit
-    ≡ 1024 * h'.digit + 512 * a'.digit + 256 * b'.digit + another.other / 32 * 32 + 16 * c'.digit + 8 * d'.digit + 4 * e'.digit + 2 * f'.digit + g'.digit =
-    omega (arith, same, hi, hi', ai, ai', bi, bi', ci, ci', di, di', ei, ei', fi, fi', gi, gi') in
-    let g_is : g.digit ≡ g'.digit = omega (arith, sums, gs, gs') in
-    let f_is : f.digit ≡ f'.digit = omega (arith, sums, gs, gs', fs, fs', g_is) in
-    let e_is : e.digit ≡ e'.digit = omega (arith, sums, f_is, g_is, es, es') in
-    let d_is : d.digit ≡ d'.digit = omega (arith, sums, f_is, g_is, e_is, ds, ds') in
-    let c_is : c.digit ≡ c'.digit = omega (arith, sums, f_is, g_is, e_is, d_is, cs, cs') in
-    let t_is : symbol.other / 32 ≡ another.other / 32 =
-    omega (arith, sums, f_is, g_is, e_is, d_is, c_is, small, small_too) in
-    let b_is : b.digit ≡ b'.digit = omega (arith, sums, f_is, g_is, e_is, d_is, c_is, t_is, bs, bs') in
-    let a_is : a.digit ≡ a'.digit = omega (arith, sums, f_is, g_is, e_is, d_is, c_is, t_is, b_is, al, al') in
-    let h_is : h.digit ≡ h'.digit = omega (arith, sums, f_is, g_is, e_is, d_is, c_is, t_is, b_is, a_is) in
+    let local = split _ _ _ _ (sym (are_digits output symbol) ∙ (same ∙ are_digits other another)) in
+    let ifunc = split _ _ _ _ local.rest in
+    let absolute = split _ _ _ _ ifunc.rest in
+    let weak = split _ _ _ _ absolute.rest in
+    let get_addr = split _ _ _ _ weak.rest in
+    let whole : symbol.other / 32 + 8 * output_digits output ≡ another.other / 32 + 8 * output_digits other =
+    get_addr.rest in
+    let rest : output_digits output ≡ output_digits other = omega (arith, whole, small, small_too) in
+    let executable = split _ _ _ _ rest in
+    let fixed = split _ _ _ _ executable.rest in
+    let near = split _ _ 16 16 fixed.rest in
     record {
-      has_near_symbols = of_bits (2 ^ 10) output.has_near_symbols other.has_near_symbols h_is;
-      is_fixed = of_bits (2 ^ 9) output.is_fixed other.is_fixed a_is;
-      is_executable = of_bits (2 ^ 8) output.is_executable other.is_executable b_is;
-      toc = t_is;
-      is_tls_get_addr = of_bits 16 symbol.is_tls_get_addr another.is_tls_get_addr c_is;
-      is_undefined_weak = of_bits 8 symbol.is_undefined_weak another.is_undefined_weak d_is;
-      is_absolute = of_bits 4 symbol.is_absolute another.is_absolute e_is;
-      is_ifunc = of_bits 2 symbol.is_ifunc another.is_ifunc f_is;
-      is_local = of_bits 1 symbol.is_local another.is_local g_is;
+      has_near_symbols = near.bit;
+      is_fixed = fixed.bit;
+      is_executable = executable.bit;
+      toc = omega (arith, whole, small, small_too);
+      is_tls_get_addr = get_addr.bit;
+      is_undefined_weak = weak.bit;
+      is_absolute = absolute.bit;
+      is_ifunc = ifunc.bit;
+      is_local = local.bit;
     }
 
 early : (output other : OutputFacts) (symbol another : SymbolFacts)

@@ -52,6 +52,11 @@ one_word s o a b is = ap (λ n. take o s ++ to_le_bytes w32 n ++ drop (o + 4) s)
 pub one_half : (s : List ℕ) (o a b : ℕ) → a ≡ b → take o s ++ to_le_bytes w16 a ++ drop (o + 2) s ≡ take o s ++ to_le_bytes w16 b ++ drop (o + 2) s
 one_half s o a b is = ap (λ n. take o s ++ to_le_bytes w16 n ++ drop (o + 2) s) is
 
+-- a word, or a half, of set bits alone
+pub word_alone : (n : ℕ) (s : List ℕ) (o : ℕ) → let word = from_le_bytes w32 (take 4 (drop o s)) in
+    take o s ++ to_le_bytes w32 (bit_or (bit_and word 0) n) ++ drop (o + 4) s ≡ take o s ++ to_le_bytes w32 n ++ drop (o + 4) s
+word_alone n s o = one_word s o _ _ (set_alone n (from_le_bytes w32 (take 4 (drop o s))))
+
 second_word : (xs : List ℕ) → from_le_bytes w32 (drop 4 xs) ≡ from_le_bytes w32 (drop 4 (take 8 xs))
 second_word [] = refl
 second_word (a ∷ []) = refl

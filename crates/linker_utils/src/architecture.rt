@@ -24,7 +24,7 @@ use crate::{aarch64, loongarch64};
 use linker_elf::elf::architecture::{architectures, by_architecture};
 
 /// A rewrite of one of the architectures.
-#[derive(Debug, Clone, Copy, PartialEq, Eq)]
+#[derive(Clone, Copy, PartialEq, Eq)]
 pub enum Relaxation {
     AArch64(aarch64::RewriteKind),
     RiscV(riscv64::RewriteKind),

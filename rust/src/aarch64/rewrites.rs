@@ -146,7 +146,7 @@ impl RewriteKind {
         debug_assert!(self.can_apply(section_bytes, *offset_in_section));
         let _ = addend;
         let offset = *offset_in_section;
-        rewrites!(self, row => row.apply(section_bytes, offset))
+        rewrites!(self, replacement row => row.apply(section_bytes, offset))
     }
 
     /// Whether `apply` may be called at an offset of a section: the window lies in the section,
@@ -155,7 +155,7 @@ impl RewriteKind {
     #[must_use]
     #[inline(always)]
     pub fn can_apply(self, section: &[u8], offset: u64) -> bool {
-        rewrites!(self, row => row.can_apply(section, offset))
+        rewrites!(self, replacement row => row.can_apply(section, offset))
     }
 
     /// The bytes that `apply` writes: the instruction's 4. For `AdrpAddToNopAdr` they are the
@@ -163,7 +163,7 @@ impl RewriteKind {
     #[must_use]
     #[inline]
     pub fn window(self) -> RewriteWindow {
-        rewrites!(self, row => row.window())
+        rewrites!(self => window)
     }
 
     /// Whether the instruction at an offset of a section, or the pair that ends there, is one that
@@ -171,7 +171,7 @@ impl RewriteKind {
     /// any offset and `ReplaceWithNop` for any instruction in the section.
     #[must_use]
     pub fn matches(self, section: &[u8], offset: u64) -> bool {
-        rewrites!(self, row => row.is_for(section, offset))
+        rewrites!(self, original row => row.is_for(section, offset))
     }
 
     /// What happens to the next relocation: it is applied as usual.

@@ -22,7 +22,7 @@ use crate::linker_elf::elf::InstructionRewrite;
 /// assert_eq!(u32::from_le_bytes(ld), 0x02c0_0084);
 /// ```
 #[cfg_attr(not(exhaustive), non_exhaustive)]
-#[derive(Debug, Default, Clone, Copy, PartialEq, Eq, Hash, PartialOrd, Ord)]
+#[derive(Default, Clone, Copy, PartialEq, Eq, Debug, Hash, PartialOrd, Ord)]
 pub enum RewriteKind {
     /// Leaves the instruction as it is; only the kind of its relocation changes.
     #[default]
@@ -146,7 +146,7 @@ impl RewriteKind {
         debug_assert!(self.can_apply(section_bytes, *offset_in_section));
         let _ = addend;
         let offset = *offset_in_section;
-        rewrites!(self, row => row.apply(section_bytes, offset))
+        rewrites!(self, replacement row => row.apply(section_bytes, offset))
     }
 
     /// Whether `apply` may be called at an offset of a section: the bytes that it rewrites lie in
@@ -161,7 +161,7 @@ impl RewriteKind {
     #[must_use]
     #[inline]
     pub fn window(self) -> RewriteWindow {
-        rewrites!(self, row => row.window())
+        rewrites!(self => window)
     }
 
     /// Whether the instruction that begins at an offset of a section, or the pair, is one that the
@@ -171,7 +171,7 @@ impl RewriteKind {
     /// numbers and vectors with a signed offset of 12 bits.
     #[must_use]
     pub fn matches(self, section: &[u8], offset: u64) -> bool {
-        rewrites!(self, row => row.is_for(section, offset))
+        rewrites!(self, original row => row.is_for(section, offset))
     }
 
     /// What happens to the next relocation: it is applied as usual.
@@ -186,7 +186,7 @@ impl RewriteKind {
     #[must_use]
     #[inline]
     pub fn deleted(self) -> Option<DeletedBytes> {
-        rewrites!(self, row => row.deleted)
+        rewrites!(self => deleted)
     }
 }
 

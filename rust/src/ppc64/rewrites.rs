@@ -25,7 +25,7 @@ use crate::linker_elf::ppc64::Ppc64Relocation;
 /// assert_eq!(u32::from_le_bytes(ld), 0x392a_0000);
 /// ```
 #[cfg_attr(not(exhaustive), non_exhaustive)]
-#[derive(Debug, Default, Clone, Copy, PartialEq, Eq, Hash, PartialOrd, Ord)]
+#[derive(Default, Clone, Copy, PartialEq, Eq, Debug, Hash, PartialOrd, Ord)]
 pub enum RewriteKind {
     /// Leaves the instruction as it is; only the kind of its relocation changes.
     #[default]
@@ -231,7 +231,7 @@ impl RewriteKind {
     pub fn apply(self, section_bytes: &mut [u8], offset_in_section: &mut u64, addend: &mut i64) {
         debug_assert!(self.can_apply(section_bytes, *offset_in_section));
         let offset = *offset_in_section;
-        rewrites!(self, row => {
+        rewrites!(self, replacement row => {
             row.apply(section_bytes, offset);
             *offset_in_section = offset + row.moved;
             *addend = row.addend.unwrap_or(*addend);
@@ -251,7 +251,7 @@ impl RewriteKind {
     #[must_use]
     #[inline]
     pub fn window(self) -> RewriteWindow {
-        rewrites!(self, row => row.window())
+        rewrites!(self => window)
     }
 
     /// Whether the instruction at an offset of a section is one that the rewrite is meant for:
@@ -262,7 +262,7 @@ impl RewriteKind {
     /// `R_PPC64_TLS` of prefixed code.
     #[must_use]
     pub fn matches(self, section: &[u8], offset: u64) -> bool {
-        rewrites!(self, row => row.is_for(section, offset))
+        rewrites!(self, original row => row.is_for(section, offset))
     }
 
     /// What happens to the next relocation: it is skipped after `CallToAddi`, `CallToAdd`,
@@ -271,7 +271,10 @@ impl RewriteKind {
     #[must_use]
     #[inline]
     pub fn next_modifier(&self) -> RelocationModifier {
-        rewrites!(*self, row => row.next_modifier())
+        match self.skipped_offset() {
+            Some(_) => RelocationModifier::SkipNextRelocation,
+            None => RelocationModifier::Normal,
+        }
     }
 
     /// Where the relocation is that `next_modifier` skips, in bytes from the offset of the
@@ -283,7 +286,7 @@ impl RewriteKind {
     #[must_use]
     #[inline]
     pub fn skipped_offset(self) -> Option<u64> {
-        rewrites!(self, row => row.skipped)
+        rewrites!(self => skipped)
     }
 }
 

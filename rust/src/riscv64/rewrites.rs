@@ -5,13 +5,13 @@
 use crate::rewrite_rows::WordTest::{AddsLow12, AreSame, Is, IsNot};
 use crate::rewrite_rows::{bits, by_row};
 use crate::linker_base::relaxation::RelocationModifier;
-use crate::linker_base::rewrite::{DeletedBytes, RewriteWindow};
+use crate::linker_base::rewrite::{DeletedBytes, RewriteWindow, window_is_in};
 use crate::linker_elf::elf::InstructionRewrite;
 use crate::linker_elf::riscv64::RiscVRelocation;
 
 /// A rewrite of one instruction, or of a pair whose second instruction is then deleted.
 #[cfg_attr(not(exhaustive), non_exhaustive)]
-#[derive(Debug, Default, Clone, Copy, PartialEq, Eq, Hash, PartialOrd, Ord)]
+#[derive(Default, Clone, Copy, PartialEq, Eq, Debug, Hash, PartialOrd, Ord)]
 pub enum RewriteKind {
     /// Leaves the instruction as it is; only the kind of its relocation changes.
     #[default]
@@ -168,7 +168,7 @@ impl RewriteKind {
         debug_assert!(self.can_apply(section_bytes, *offset_in_section));
         let _ = addend;
         let offset = *offset_in_section;
-        rewrites!(self, row => row.apply(section_bytes, offset))
+        rewrites!(self, replacement row => row.apply(section_bytes, offset))
     }
 
     /// Whether `apply` may be called at an offset of a section: the bytes that it rewrites lie in
@@ -176,7 +176,7 @@ impl RewriteKind {
     #[must_use]
     #[inline(always)]
     pub fn can_apply(self, section: &[u8], offset: u64) -> bool {
-        rewrites!(self, row => row.can_apply(section, offset))
+        window_is_in(section, offset, self.window())
     }
 
     /// The bytes that `apply` writes, which begin at the offset: none for `NoOp`, `Hi20Delete` and
@@ -185,7 +185,7 @@ impl RewriteKind {
     #[must_use]
     #[inline]
     pub fn window(self) -> RewriteWindow {
-        rewrites!(self, row => row.window())
+        rewrites!(self => window)
     }
 
     /// Whether the instruction that begins at an offset of a section, or the pair, is one that the
@@ -198,7 +198,7 @@ impl RewriteKind {
     #[inline]
     #[must_use]
     pub fn matches(self, section: &[u8], offset: u64) -> bool {
-        rewrites!(self, row => row.is_for(section, offset))
+        rewrites!(self, original row => row.is_for(section, offset))
     }
 
     /// What happens to the next relocation: `CallToJal`, `TailToJal`, `TailToCJ` and `Hi20Delete`
@@ -206,7 +206,10 @@ impl RewriteKind {
     #[must_use]
     #[inline]
     pub fn next_modifier(&self) -> RelocationModifier {
-        rewrites!(*self, row => row.next_modifier())
+        match self.skipped_offset() {
+            Some(_) => RelocationModifier::SkipNextRelocation,
+            None => RelocationModifier::Normal,
+        }
     }
 
     /// Where the relocation is that `next_modifier` skips, in bytes from the offset of the
@@ -215,7 +218,7 @@ impl RewriteKind {
     #[must_use]
     #[inline]
     pub fn skipped_offset(self) -> Option<u64> {
-        rewrites!(self, row => row.skipped)
+        rewrites!(self => skipped)
     }
 
     /// The bytes to be deleted after the rewrite. `None` where there are none: only `CallToJal`,
@@ -231,7 +234,7 @@ impl RewriteKind {
     #[must_use]
     #[inline]
     pub fn deleted(self) -> Option<DeletedBytes> {
-        rewrites!(self, row => row.deleted)
+        rewrites!(self => deleted)
     }
 }
 

@@ -5,7 +5,7 @@
 use super::X86_64Relocation;
 use crate::rewrite_rows::or;
 use crate::linker_base::relaxation::RelocationModifier;
-use crate::linker_base::rewrite::{RewriteWindow, has_window, overwrite};
+use crate::linker_base::rewrite::{RewriteWindow, overwrite, window_is_in};
 use crate::linker_elf::elf::InstructionRewrite;
 
 /// A rewrite of the instructions around a relocated field of 4 or 8 bytes, whose offset is the
@@ -25,7 +25,7 @@ use crate::linker_elf::elf::InstructionRewrite;
 /// assert_eq!((offset, addend), (1, -4));
 /// ```
 #[cfg_attr(not(exhaustive), non_exhaustive)]
-#[derive(Debug, Default, Clone, Copy, PartialEq, Eq, Hash, PartialOrd, Ord)]
+#[derive(Default, Clone, Copy, PartialEq, Eq, Debug, Hash, PartialOrd, Ord)]
 pub enum RewriteKind {
     /// Turns `mov x@GOTPCREL(%rip), %reg` into `lea x(%rip), %reg`.
     MovIndirectToLea,
@@ -304,11 +304,6 @@ macro_rules! of_row {
     ([is $section:ident $offset:ident] $n:expr, $number:literal [$($is:tt)*] $($row:tt)*) => {
         is_there!($section, $offset; $($is)*)
     };
-    ([can $section:ident $offset:ident] $n:expr, $number:literal $is:tt [] $($row:tt)*) => { true };
-    ([can $section:ident $offset:ident] $n:expr, $number:literal $is:tt $edit:tt $($row:tt)*) => {{
-        let (back, len) = of_row!([window] $n, $number $is $edit);
-        has_window($section, $offset, back, len)
-    }};
     ([window] $n:expr, $number:literal $is:tt [$($edit:tt)*] $($row:tt)*) => { window!($($edit)*) };
     (
         $asked:tt $n:expr, $number:literal $is:tt [$($edit:tt)*] $(addend $addend:literal)?
@@ -475,7 +470,7 @@ impl RewriteKind {
     #[inline]
     #[must_use]
     pub fn can_apply(self, section: &[u8], offset: u64) -> bool {
-        rewrites!(self => [can section offset])
+        window_is_in(section, offset, self.window())
     }
 
     /// The bytes that `apply` writes; none for `NoOp`. The field whose value is written afterwards

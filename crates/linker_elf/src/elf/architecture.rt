@@ -29,7 +29,7 @@ use linker_base::utils::{self, Uleb128Error};
 pub const HANDLE_UNIT: u32 = 0x1_0000;
 
 /// Why a pair of relocations at a ULEB128 number isn't written.
-#[derive(Debug, Clone, Copy, PartialEq, Eq)]
+#[derive(Clone, Copy, PartialEq, Eq)]
 pub enum Uleb128PairError {
     /// The first relocation is none that sets or adds to such a number.
     NotFirst,
@@ -40,7 +40,7 @@ pub enum Uleb128PairError {
 /// The architectures whose relocations and instructions the library knows. A variant's number is
 /// `e_machine` in the ELF header of its files: `EM_AARCH64`, `EM_RISCV`, `EM_LOONGARCH`, `EM_PPC64`
 /// and `EM_X86_64` (ELF specification, "ELF Header").
-#[derive(Debug, Clone, Copy, PartialEq, Eq)]
+#[derive(Clone, Copy, PartialEq, Eq)]
 pub enum Architecture {
     /// AArch64, little-endian.
     AArch64 = 183,

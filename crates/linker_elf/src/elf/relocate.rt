@@ -41,7 +41,7 @@ pub enum RelocateError {
 }
 
 /// Why a relocation isn't applied.
-#[derive(Debug, Clone, Copy, PartialEq, Eq)]
+#[derive(Clone, Copy, PartialEq, Eq)]
 pub enum ApplyError {
     /// It has no value.
     Formula(FormulaError),
@@ -349,7 +349,7 @@ impl RelocationKindInfo {
 }
 
 /// Why a relocation's value isn't written, and which values can be.
-#[derive(Debug, Clone, Copy, PartialEq, Eq)]
+#[derive(Clone, Copy, PartialEq, Eq)]
 pub struct WriteError {
     /// Why.
     pub error: RelocateError,

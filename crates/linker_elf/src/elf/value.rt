@@ -58,7 +58,7 @@ pub struct Operands {
 }
 
 /// Why a relocation's formula has no value.
-#[derive(Debug, Clone, Copy, PartialEq, Eq)]
+#[derive(Clone, Copy, PartialEq, Eq)]
 pub enum FormulaError {
     /// It has the address of an entry of the GOT, or of the word that PowerPC64's calls load, and
     /// there is none.

@@ -8,9 +8,6 @@ use Rattle.std.specs.Int.{w16, w32, w64, from_le_bytes, to_le_bytes}
 use Rattle.linker_base.specs.Bits.{field}
 use Rattle.linker_base.specs.Rewrite.{Rewrite, replaces, CanRewrite}
 use Rattle.linker_base.specs.RewriteWindow.{window_of_rewrite}
-use Rattle.linker_base.specs.declared.relaxation.RelocationModifier.{RelocationModifier}
-use Rattle.linker_base.specs.declared.relaxation.RelocationModifier.TheVariants.{Normal}
-use Rattle.linker_base.specs.declared.relaxation.RelocationModifier.TheVariants.{SkipNextRelocation}
 use Rattle.linker_utils.specs.Ppc64Rewrites.{by_displacement, by_word_displacement, direct, to_move}
 use Rattle.linker_utils.specs.RiscVRewrites.{adds_low12}
 use Rattle.linker_utils.specs.declared.rewrite_rows.Special.{Special}
@@ -18,7 +15,8 @@ use Rattle.linker_utils.specs.declared.rewrite_rows.Special.TheVariants as speci
 use Rattle.linker_utils.specs.declared.rewrite_rows.WordBits.{WordBits}
 use Rattle.linker_utils.specs.declared.rewrite_rows.Words.{Words}
 use Rattle.linker_utils.specs.declared.rewrite_rows.WordEdit.{WordEdit}
-use Rattle.linker_utils.specs.declared.rewrite_rows.RewriteRow.{RewriteRow}
+use Rattle.linker_utils.specs.declared.rewrite_rows.Original.{Original}
+use Rattle.linker_utils.specs.declared.rewrite_rows.Replacement.{Replacement}
 use Rattle.linker_utils.specs.declared.rewrite_rows.WordTest.{WordTest}
 use Rattle.linker_utils.specs.declared.rewrite_rows.WordTest.TheVariants as test
 
@@ -103,7 +101,7 @@ IsPlaced false o = ⊤
 IsPlaced true o = o % 4 ≡ 0
 
 -- Those of a row are.
-abbrev pub IsFor : RewriteRow → List ℕ → ℕ → Type 0
+abbrev pub IsFor : Original → List ℕ → ℕ → Type 0
 IsFor row section o =
     (row.len ≡ 0)
     ⊎ (row.back ≤ o) × AreAt section (o - row.back) row.len row.tests.now
@@ -145,18 +143,13 @@ edits half back (first ∷ second ∷ more) =
     + edited (word_of second.of_second window) second * 2 ^ 32)))
 
 -- a row's rewrite
-abbrev pub row_rewrite : RewriteRow → Option Rewrite
+abbrev pub row_rewrite : Replacement → Option Rewrite
 row_rewrite row = edits row.half row.back row.edits.now
 
 -- It can be done at an offset, and what it requires is there.
-abbrev pub CanApply : RewriteRow → List ℕ → ℕ → Type 0
+abbrev pub CanApply : Replacement → List ℕ → ℕ → Type 0
 CanApply row section o =
     let window = window_of_rewrite (row_rewrite row) in
     (window.len ≡ 0)
     ⊎ CanRewrite (row_rewrite row) section o
     × IfSome row.required (Holds (words_at section (o - window.back) window.len))
-
--- the next relocation is skipped, if one is
-abbrev pub modifier_of : Option ℕ → RelocationModifier
-modifier_of None = Normal
-modifier_of (Some n) = SkipNextRelocation

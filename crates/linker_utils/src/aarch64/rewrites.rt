@@ -157,7 +157,7 @@ impl RewriteKind {
     {
         let _ = addend;
         let offset = *offset_in_section;
-        rewrites!(self, row => row.apply(section_bytes, offset))
+        rewrites!(self, replacement row => row.apply(section_bytes, offset))
     }
 
     /// Whether `apply` may be called at an offset of a section: the window lies in the section,
@@ -167,7 +167,7 @@ impl RewriteKind {
     pub fn can_apply(self, section: &[u8], offset: u64) -> bool
         ensures { IsTrue result ↔ CanRewrite (aarch64_rewrite self) section.now offset }
     {
-        rewrites!(self, row => row.can_apply(section, offset))
+        rewrites!(self, replacement row => row.can_apply(section, offset))
     }
 
     /// The bytes that `apply` writes: the instruction's 4. For `AdrpAddToNopAdr` they are the
@@ -176,7 +176,7 @@ impl RewriteKind {
     pub fn window(self) -> RewriteWindow
         ensures { result ≡ window_of_rewrite (aarch64_rewrite self) }
     {
-        rewrites!(self, row => row.window())
+        rewrites!(self => window)
     }
 
     /// Whether the instruction at an offset of a section, or the pair that ends there, is one that
@@ -186,7 +186,7 @@ impl RewriteKind {
         ensures exactly { IsTrue result ↔ aarch64_matches self section.now offset }
         ensures rewritable { IsTrue result → CanRewrite (aarch64_rewrite self) section.now offset }
     {
-        rewrites!(self, row => row.is_for(section, offset))
+        rewrites!(self, original row => row.is_for(section, offset))
     }
 
     /// What happens to the next relocation: it is applied as usual.

@@ -28,7 +28,7 @@ use linker_elf::elf::InstructionRewrite;
 /// RewriteKind::LdToAddi.apply(&mut ld, &mut offset, &mut addend);
 /// assert_eq!(u32::from_le_bytes(ld), 0x02c0_0084);
 /// ```
-#[derive(Debug, Default, Clone, Copy, PartialEq, Eq)]
+#[derive(Default, Clone, Copy, PartialEq, Eq)]
 pub enum RewriteKind {
     /// Leaves the instruction as it is; only the kind of its relocation changes.
     #[default]
@@ -155,7 +155,7 @@ impl RewriteKind {
     {
         let _ = addend;
         let offset = *offset_in_section;
-        rewrites!(self, row => row.apply(section_bytes, offset))
+        rewrites!(self, replacement row => row.apply(section_bytes, offset))
     }
 
     /// Whether `apply` may be called at an offset of a section: the bytes that it rewrites lie in
@@ -172,7 +172,7 @@ impl RewriteKind {
     pub fn window(self) -> RewriteWindow
         ensures { result ≡ window_of_rewrite (loongarch_rewrite self) }
     {
-        rewrites!(self, row => row.window())
+        rewrites!(self => window)
     }
 
     /// Whether the instruction that begins at an offset of a section, or the pair, is one that the
@@ -185,7 +185,7 @@ impl RewriteKind {
         ensures rewritable { IsTrue result
             → CanRewrite (loongarch_rewrite self) section.now offset }
     {
-        rewrites!(self, row => row.is_for(section, offset))
+        rewrites!(self, original row => row.is_for(section, offset))
     }
 
     /// What happens to the next relocation: it is applied as usual.
@@ -202,7 +202,7 @@ impl RewriteKind {
     pub fn deleted(self) -> Option<DeletedBytes>
         ensures { result ≡ loongarch_deleted self }
     {
-        rewrites!(self, row => row.deleted)
+        rewrites!(self => deleted)
     }
 }
 

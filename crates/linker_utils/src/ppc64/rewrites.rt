@@ -33,7 +33,7 @@ use linker_elf::ppc64::Ppc64Relocation;
 /// RewriteKind::LdToAddi.apply(&mut ld, &mut offset, &mut addend);
 /// assert_eq!(u32::from_le_bytes(ld), 0x392a_0000);
 /// ```
-#[derive(Debug, Default, Clone, Copy, PartialEq, Eq)]
+#[derive(Default, Clone, Copy, PartialEq, Eq)]
 pub enum RewriteKind {
     /// Leaves the instruction as it is; only the kind of its relocation changes.
     #[default]
@@ -242,7 +242,7 @@ impl RewriteKind {
         ensures addend { addend.new ≡ addend_after (ppc64_rewrite self) addend.old }
     {
         let offset = *offset_in_section;
-        rewrites!(self, row => {
+        rewrites!(self, replacement row => {
             row.apply(section_bytes, offset);
             *offset_in_section = offset + row.moved;
             *addend = row.addend.unwrap_or(*addend);
@@ -264,7 +264,7 @@ impl RewriteKind {
     pub fn window(self) -> RewriteWindow
         ensures { result ≡ window_of_rewrite (ppc64_rewrite self) }
     {
-        rewrites!(self, row => row.window())
+        rewrites!(self => window)
     }
 
     /// Whether the instruction at an offset of a section is one that the rewrite is meant for:
@@ -277,7 +277,7 @@ impl RewriteKind {
         ensures exactly { IsTrue result ↔ ppc64_matches self section.now offset }
         ensures rewritable { IsTrue result → CanRewrite (ppc64_rewrite self) section.now offset }
     {
-        rewrites!(self, row => row.is_for(section, offset))
+        rewrites!(self, original row => row.is_for(section, offset))
     }
 
     /// What happens to the next relocation: it is skipped after `CallToAddi`, `CallToAdd`,
@@ -287,7 +287,10 @@ impl RewriteKind {
     pub fn next_modifier(&self) -> RelocationModifier
         ensures { result ≡ ppc64_modifier self.now }
     {
-        rewrites!(*self, row => row.next_modifier())
+        match self.skipped_offset() {
+            Some(_) => RelocationModifier::SkipNextRelocation,
+            None => RelocationModifier::Normal,
+        }
     }
 
     /// Where the relocation is that `next_modifier` skips, in bytes from the offset of the
@@ -302,7 +305,7 @@ impl RewriteKind {
         ensures skipped { IfSome result (λ _. ppc64_modifier self ≡ SkipNextRelocation) }
         ensures kept { IfNone result (ppc64_modifier self ≡ Normal) }
     {
-        rewrites!(self, row => row.skipped)
+        rewrites!(self => skipped)
     }
 }
 

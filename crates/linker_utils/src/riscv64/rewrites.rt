@@ -12,12 +12,12 @@ ghost use Rattle.linker_utils.specs.declared.riscv64.rewrites.RewriteKind.TheVar
 use crate::rewrite_rows::WordTest::{AddsLow12, AreSame, Is, IsNot};
 use crate::rewrite_rows::{bits, by_row};
 use linker_base::relaxation::RelocationModifier;
-use linker_base::rewrite::{DeletedBytes, RewriteWindow};
+use linker_base::rewrite::{DeletedBytes, RewriteWindow, window_is_in};
 use linker_elf::elf::InstructionRewrite;
 use linker_elf::riscv64::RiscVRelocation;
 
 /// A rewrite of one instruction, or of a pair whose second instruction is then deleted.
-#[derive(Debug, Default, Clone, Copy, PartialEq, Eq)]
+#[derive(Default, Clone, Copy, PartialEq, Eq)]
 pub enum RewriteKind {
     /// Leaves the instruction as it is; only the kind of its relocation changes.
     #[default]
@@ -177,7 +177,7 @@ impl RewriteKind {
     {
         let _ = addend;
         let offset = *offset_in_section;
-        rewrites!(self, row => row.apply(section_bytes, offset))
+        rewrites!(self, replacement row => row.apply(section_bytes, offset))
     }
 
     /// Whether `apply` may be called at an offset of a section: the bytes that it rewrites lie in
@@ -186,7 +186,7 @@ impl RewriteKind {
     pub fn can_apply(self, section: &[u8], offset: u64) -> bool
         ensures { IsTrue result ↔ CanRewrite (riscv_rewrite self) section.now offset }
     {
-        rewrites!(self, row => row.can_apply(section, offset))
+        window_is_in(section, offset, self.window())
     }
 
     /// The bytes that `apply` writes, which begin at the offset: none for `NoOp`, `Hi20Delete` and
@@ -196,7 +196,7 @@ impl RewriteKind {
     pub fn window(self) -> RewriteWindow
         ensures { result ≡ window_of_rewrite (riscv_rewrite self) }
     {
-        rewrites!(self, row => row.window())
+        rewrites!(self => window)
     }
 
     /// Whether the instruction that begins at an offset of a section, or the pair, is one that the
@@ -211,7 +211,7 @@ impl RewriteKind {
         ensures exactly { IsTrue result ↔ riscv_matches self section.now offset }
         ensures rewritable { IsTrue result → CanRewrite (riscv_rewrite self) section.now offset }
     {
-        rewrites!(self, row => row.is_for(section, offset))
+        rewrites!(self, original row => row.is_for(section, offset))
     }
 
     /// What happens to the next relocation: `CallToJal`, `TailToJal`, `TailToCJ` and `Hi20Delete`
@@ -220,7 +220,10 @@ impl RewriteKind {
     pub fn next_modifier(&self) -> RelocationModifier
         ensures { result ≡ riscv_modifier self.now }
     {
-        rewrites!(*self, row => row.next_modifier())
+        match self.skipped_offset() {
+            Some(_) => RelocationModifier::SkipNextRelocation,
+            None => RelocationModifier::Normal,
+        }
     }
 
     /// Where the relocation is that `next_modifier` skips, in bytes from the offset of the
@@ -233,7 +236,7 @@ impl RewriteKind {
             (λ _. riscv_modifier self ≡ RelocationModifier.SkipNextRelocation) }
         ensures kept { IfNone result (riscv_modifier self ≡ RelocationModifier.Normal) }
     {
-        rewrites!(self, row => row.skipped)
+        rewrites!(self => skipped)
     }
 
     /// The bytes to be deleted after the rewrite. `None` where there are none: only `CallToJal`,
@@ -250,7 +253,7 @@ impl RewriteKind {
     pub fn deleted(self) -> Option<DeletedBytes>
         ensures { result ≡ riscv_deleted self }
     {
-        rewrites!(self, row => row.deleted)
+        rewrites!(self => deleted)
     }
 }
 

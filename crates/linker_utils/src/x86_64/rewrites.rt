@@ -20,7 +20,7 @@ ghost use Rattle.linker_utils.specs.declared.x86_64.rewrites.RewriteKind.TheVari
 use super::X86_64Relocation;
 use crate::rewrite_rows::or;
 use linker_base::relaxation::RelocationModifier;
-use linker_base::rewrite::{RewriteWindow, has_window, overwrite};
+use linker_base::rewrite::{RewriteWindow, overwrite, window_is_in};
 use linker_elf::elf::InstructionRewrite;
 
 /// A rewrite of the instructions around a relocated field of 4 or 8 bytes, whose offset is the
@@ -39,7 +39,7 @@ use linker_elf::elf::InstructionRewrite;
 /// assert_eq!(section, [0xe9, 0, 0, 0, 0, 0x90]);
 /// assert_eq!((offset, addend), (1, -4));
 /// ```
-#[derive(Debug, Default, Clone, Copy, PartialEq, Eq)]
+#[derive(Default, Clone, Copy, PartialEq, Eq)]
 pub enum RewriteKind {
     /// Turns `mov x@GOTPCREL(%rip), %reg` into `lea x(%rip), %reg`.
     MovIndirectToLea,
@@ -355,11 +355,6 @@ macro_rules! of_row {
     ([is $section:ident $offset:ident] $n:expr, $number:literal [$($is:tt)*] $($row:tt)*) => {
         is_there!($section, $offset; $($is)*)
     };
-    ([can $section:ident $offset:ident] $n:expr, $number:literal $is:tt [] $($row:tt)*) => { true };
-    ([can $section:ident $offset:ident] $n:expr, $number:literal $is:tt $edit:tt $($row:tt)*) => {{
-        let (back, len) = of_row!([window] $n, $number $is $edit);
-        has_window($section, $offset, back, len)
-    }};
     ([window] $n:expr, $number:literal $is:tt [$($edit:tt)*] $($row:tt)*) => { window!($($edit)*) };
     (
         $asked:tt $n:expr, $number:literal $is:tt [$($edit:tt)*] $(addend $addend:literal)?
@@ -539,7 +534,7 @@ impl RewriteKind {
     pub fn can_apply(self, section: &[u8], offset: u64) -> bool
         ensures { IsTrue result ↔ CanRewrite (x86_64_rewrite self) section.now offset }
     {
-        rewrites!(self => [can section offset])
+        window_is_in(section, offset, self.window())
     }
 
     /// The bytes that `apply` writes; none for `NoOp`. The field whose value is written afterwards

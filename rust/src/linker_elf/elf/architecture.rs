@@ -25,7 +25,7 @@ pub const HANDLE_UNIT: u32 = 0x1_0000;
 
 /// Why a pair of relocations at a ULEB128 number isn't written.
 #[cfg_attr(not(exhaustive), non_exhaustive)]
-#[derive(Debug, Clone, Copy, PartialEq, Eq, Hash)]
+#[derive(Clone, Copy, PartialEq, Eq, Debug, Hash)]
 pub enum Uleb128PairError {
     /// The first relocation is none that sets or adds to such a number.
     NotFirst,
@@ -37,7 +37,7 @@ pub enum Uleb128PairError {
 /// `e_machine` in the ELF header of its files: [`EM_AARCH64`](crate::elf::EM_AARCH64), [`EM_RISCV`](crate::elf::EM_RISCV), [`EM_LOONGARCH`](crate::elf::EM_LOONGARCH), [`EM_PPC64`](crate::elf::EM_PPC64)
 /// and [`EM_X86_64`](crate::elf::EM_X86_64) (ELF specification, "ELF Header").
 #[cfg_attr(not(exhaustive), non_exhaustive)]
-#[derive(Debug, Clone, Copy, PartialEq, Eq, Hash, PartialOrd, Ord)]
+#[derive(Clone, Copy, PartialEq, Eq, Debug, Hash, PartialOrd, Ord)]
 pub enum Architecture {
     /// AArch64, little-endian.
     #[cfg(feature = "aarch64")]

@@ -41,7 +41,7 @@ pub enum RelocateError {
 
 /// Why a relocation isn't applied.
 #[cfg_attr(not(exhaustive), non_exhaustive)]
-#[derive(Debug, Clone, Copy, PartialEq, Eq, Hash)]
+#[derive(Clone, Copy, PartialEq, Eq, Debug, Hash)]
 pub enum ApplyError {
     /// It has no value.
     Formula(FormulaError),
@@ -315,7 +315,7 @@ impl RelocationKindInfo {
 }
 
 /// Why a relocation's value isn't written, and which values can be.
-#[derive(Debug, Clone, Copy, PartialEq, Eq, Hash)]
+#[derive(Clone, Copy, PartialEq, Eq, Debug, Hash)]
 pub struct WriteError {
     /// Why.
     pub error: RelocateError,

@@ -55,7 +55,7 @@ pub struct Operands {
 
 /// Why a relocation's formula has no value.
 #[cfg_attr(not(exhaustive), non_exhaustive)]
-#[derive(Debug, Clone, Copy, PartialEq, Eq, Hash)]
+#[derive(Clone, Copy, PartialEq, Eq, Debug, Hash)]
 pub enum FormulaError {
     /// It has the address of an entry of the GOT, or of the word that PowerPC64's calls load, and
     /// there is none.

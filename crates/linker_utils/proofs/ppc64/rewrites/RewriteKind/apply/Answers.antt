@@ -1,7 +1,7 @@
 use Rattle.std.proofs.Common.{◌≡◌, ◌<◌, ℕ, List, refl, subst, bit_and, bit_or, inl, inr, ◌∙◌, ◌++◌, ◌+◌, ◌-◌, ◌*◌, ◌^◌, ap, arith, take, drop}
 use Rattle.std.specs.Int.{w32, w64, from_le_bytes, to_le_bytes}
 use Rattle.linker_utils.specs.Ppc64Rewrites.{rt_of}
-use Rattle.linker_utils.proofs.RewriteRows.{first_of_window, kept_field, one_word, set_alone}
+use Rattle.linker_utils.proofs.RewriteRows.{first_of_window, kept_field, one_word, set_alone, word_alone}
 use Rattle.linker_utils.proofs.Ppc64Rows.{all_kept, with_base}
 use Rattle.linker_utils.proofs.ppc64.rewrites.RewriteKind.apply.Goals as goal
 
@@ -106,3 +106,45 @@ returns-in-NopToRestoreToc-clause-bytes c =
     (made.edited
     ∙ two s o _ _ _ _ (all_kept (first s o) (subst (λ n. n < 2 ^ 32) (first_of_window (drop o s)) (elim made.word [ inl less ↦ absurd (omega (arith, less)) | inr small ↦ small ])))
     (set_alone 0xe8410018 (first s o)))
+
+pub returns-in-AddisToNop-clause-bytes : goal.returns-in-AddisToNop-clause-bytes
+returns-in-AddisToNop-clause-bytes c =
+    rw c.in-AddisToNop.is (c.apply-in-AddisToNop.ensures.edited ∙ word_alone 0x60000000 c.args.section_bytes.now (c.args.offset_in_section.now - 0))
+
+pub returns-in-AddisToLis-clause-bytes : goal.returns-in-AddisToLis-clause-bytes
+returns-in-AddisToLis-clause-bytes c =
+    rw c.in-AddisToLis.is (c.apply-in-AddisToLis.ensures.edited ∙ word_alone 0x3c400000 c.args.section_bytes.now (c.args.offset_in_section.now - 0))
+
+pub returns-in-AddiAfterLis-clause-bytes : goal.returns-in-AddiAfterLis-clause-bytes
+returns-in-AddiAfterLis-clause-bytes c =
+    rw c.in-AddiAfterLis.is (c.apply-in-AddiAfterLis.ensures.edited ∙ word_alone 0x38420000 c.args.section_bytes.now (c.args.offset_in_section.now - 0))
+
+pub returns-in-AddisThreadToNop-clause-bytes : goal.returns-in-AddisThreadToNop-clause-bytes
+returns-in-AddisThreadToNop-clause-bytes c =
+    rw c.in-AddisThreadToNop.is (c.apply-in-AddisThreadToNop.ensures.edited ∙ word_alone 0x60000000 c.args.section_bytes.now (c.args.offset_in_section.now - 0))
+
+pub returns-in-BranchToNop-clause-bytes : goal.returns-in-BranchToNop-clause-bytes
+returns-in-BranchToNop-clause-bytes c =
+    rw c.in-BranchToNop.is (c.apply-in-BranchToNop.ensures.edited ∙ word_alone 0x60000000 c.args.section_bytes.now (c.args.offset_in_section.now - 0))
+
+pub returns-in-BranchToAdd-clause-bytes : goal.returns-in-BranchToAdd-clause-bytes
+returns-in-BranchToAdd-clause-bytes c =
+    rw c.in-BranchToAdd.is (c.apply-in-BranchToAdd.ensures.edited ∙ word_alone 0x7c636a14 c.args.section_bytes.now (c.args.offset_in_section.now - 0))
+
+pub returns-in-CallToAddi-clause-bytes : goal.returns-in-CallToAddi-clause-bytes
+returns-in-CallToAddi-clause-bytes c =
+    let s = c.args.section_bytes.now in
+    let o = c.args.offset_in_section.now - 0 in
+    rw c.in-CallToAddi.is (c.apply-in-CallToAddi.ensures.edited ∙ two s o _ _ _ _ (set_alone 0x60000000 (first s o)) (set_alone 0x38630000 (first s o)))
+
+pub returns-in-CallToAdd-clause-bytes : goal.returns-in-CallToAdd-clause-bytes
+returns-in-CallToAdd-clause-bytes c =
+    let s = c.args.section_bytes.now in
+    let o = c.args.offset_in_section.now - 0 in
+    rw c.in-CallToAdd.is (c.apply-in-CallToAdd.ensures.edited ∙ two s o _ _ _ _ (set_alone 0x60000000 (first s o)) (set_alone 0x7c636a14 (first s o)))
+
+pub returns-in-CallToAddi4096-clause-bytes : goal.returns-in-CallToAddi4096-clause-bytes
+returns-in-CallToAddi4096-clause-bytes c =
+    let s = c.args.section_bytes.now in
+    let o = c.args.offset_in_section.now - 0 in
+    rw c.in-CallToAddi4096.is (c.apply-in-CallToAddi4096.ensures.edited ∙ two s o _ _ _ _ (set_alone 0x60000000 (first s o)) (set_alone 0x38631000 (first s o)))

@@ -1,6 +1,6 @@
 use Rattle.std.proofs.Common.{◌∙◌, ◌-◌, List, ℕ, refl, inl, inr, arith, take, drop}
 use Rattle.std.specs.Int.{w16, w32, from_le_bytes}
-use Rattle.linker_utils.proofs.RewriteRows.{kept_field, one_half, one_word}
+use Rattle.linker_utils.proofs.RewriteRows.{kept_field, one_half, one_word, word_alone}
 use Rattle.linker_utils.proofs.RiscVRewrites.{of_load, over_rs1, without_rs1}
 use Rattle.linker_utils.proofs.riscv64.rewrites.RewriteKind.apply.Goals as goal
 
@@ -57,3 +57,35 @@ returns-in-LdToAddiZero-clause-bytes c =
     let s = c.args.section_bytes.now in
     let o = c.args.offset_in_section.now - 0 in
     rw c.in-LdToAddiZero.is (c.apply-in-LdToAddiZero.ensures.edited ∙ one_word s o _ _ (kept_field 7 5 0x13 (word s o) refl))
+
+pub returns-in-ReplaceWithNop-clause-bytes : goal.returns-in-ReplaceWithNop-clause-bytes
+returns-in-ReplaceWithNop-clause-bytes c =
+    rw c.in-ReplaceWithNop.is (c.apply-in-ReplaceWithNop.ensures.edited ∙ word_alone 0x00010001 c.args.section_bytes.now (c.args.offset_in_section.now - 0))
+
+pub returns-in-TailToJal-clause-bytes : goal.returns-in-TailToJal-clause-bytes
+returns-in-TailToJal-clause-bytes c =
+    rw c.in-TailToJal.is (c.apply-in-TailToJal.ensures.edited ∙ word_alone 0x6f c.args.section_bytes.now (c.args.offset_in_section.now - 0))
+
+pub returns-in-ReplaceWithLongNop-clause-bytes : goal.returns-in-ReplaceWithLongNop-clause-bytes
+returns-in-ReplaceWithLongNop-clause-bytes c =
+    rw c.in-ReplaceWithLongNop.is (c.apply-in-ReplaceWithLongNop.ensures.edited ∙ word_alone 0x13 c.args.section_bytes.now (c.args.offset_in_section.now - 0))
+
+pub returns-in-AddiToLui-clause-bytes : goal.returns-in-AddiToLui-clause-bytes
+returns-in-AddiToLui-clause-bytes c =
+    rw c.in-AddiToLui.is (c.apply-in-AddiToLui.ensures.edited ∙ word_alone 0x537 c.args.section_bytes.now (c.args.offset_in_section.now - 0))
+
+pub returns-in-AddiToAuipc-clause-bytes : goal.returns-in-AddiToAuipc-clause-bytes
+returns-in-AddiToAuipc-clause-bytes c =
+    rw c.in-AddiToAuipc.is (c.apply-in-AddiToAuipc.ensures.edited ∙ word_alone 0x517 c.args.section_bytes.now (c.args.offset_in_section.now - 0))
+
+pub returns-in-CallToAddi-clause-bytes : goal.returns-in-CallToAddi-clause-bytes
+returns-in-CallToAddi-clause-bytes c =
+    rw c.in-CallToAddi.is (c.apply-in-CallToAddi.ensures.edited ∙ word_alone 0x00050513 c.args.section_bytes.now (c.args.offset_in_section.now - 0))
+
+pub returns-in-CallToAddiZero-clause-bytes : goal.returns-in-CallToAddiZero-clause-bytes
+returns-in-CallToAddiZero-clause-bytes c =
+    rw c.in-CallToAddiZero.is (c.apply-in-CallToAddiZero.ensures.edited ∙ word_alone 0x513 c.args.section_bytes.now (c.args.offset_in_section.now - 0))
+
+pub returns-in-CallToLd-clause-bytes : goal.returns-in-CallToLd-clause-bytes
+returns-in-CallToLd-clause-bytes c =
+    rw c.in-CallToLd.is (c.apply-in-CallToLd.ensures.edited ∙ word_alone 0x00053503 c.args.section_bytes.now (c.args.offset_in_section.now - 0))
