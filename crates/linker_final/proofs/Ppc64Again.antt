@@ -1,12 +1,12 @@
 -- In which phase alone PowerPC64's relocations of a name are rewritten.
-use Rattle.std.proofs.Common.{◌≡◌, ℕ, ◌<◌, List, Bool, true, false, refl, sym, ap, subst, ◌∙◌}
-use Rattle.linker_elf.specs.ElfNames.{IsNamed, IsNameOf}
+use Rattle.std.proofs.Common.{◌≡◌, ℕ, List, Bool, true, false, refl, sym, ap, subst, ◌∙◌}
+use Rattle.linker_elf.specs.ElfNames.{IsNamed, code_of}
 use Rattle.linker_elf.specs.Ppc64Relocations.{ppc64_name}
 use Rattle.linker_elf.specs.declared.elf.choice.Choice.{Choice}
 use Rattle.linker_elf.specs.declared.ppc64.relocations.Ppc64Relocation.{Ppc64Relocation}
 use Rattle.linker_elf.specs.declared.ppc64.relocations.Ppc64Relocation.TheVariants as names
-use Rattle.linker_final.specs.Final.{AreRewritten, Linked, count}
-use Rattle.linker_final.specs.Ppc64Final.{IsOfNoPhase, IsOfPhase, RewrittenAgain}
+use Rattle.linker_final.specs.Final.{AreRewritten, Linked}
+use Rattle.linker_final.specs.Ppc64Section.{IsOfNoPhase, IsOfPhase, Rewrites, RewrittenAgain}
 use Rattle.linker_rewriting.specs.Decisions.{IsDecidedAfter, IsScopeDecision, decision_at, is_taken}
 use Rattle.linker_rewriting.specs.Facts.{RelaxContext}
 use Rattle.linker_rewriting.specs.Groups.{IsScopeIn, ppc64_scope_in}
@@ -41,15 +41,14 @@ module _ (s : RelaxContext) (kept : List UnrelaxableGroups) (bytes section : Lis
   of_scope false is = (is.0, is.1, listed (is.0) (is.2))
 
 -- the name has one in the phase that rewrites it
-in_scope : (l : Linked) → AreRewritten l → l.context.architecture ≡ Ppc64 → (i : ℕ) (chosen : Choice Relaxation ℕ)
-    → i < count l → (name : Ppc64Relocation) → IsNamed (ppc64_name name)
-    → IsNameOf ppc64_name (relocation_in l.relocations i).code name
-    → decision_at l.decisions i ≡ Rewritten chosen → ppc64_scope_in l.context.phase name ≡ NotRelaxable → ⊥
-in_scope l rewriting ppc64 i chosen below name named is_name decided unlisted =
-    let code = (relocation_in l.relocations i).code in
-    let there = of_scope l.context l.kept l.relocations l.section i (decision_at l.decisions i) chosen decided (is_taken l.decisions i) (rewriting.decided i below) in
+in_scope : (l : Linked) → AreRewritten l → l.context.architecture ≡ Ppc64 → (g : Rewrites l) (name : Ppc64Relocation)
+    → IsNamed (ppc64_name name) → g.name ≡ name → ppc64_scope_in l.context.phase name ≡ NotRelaxable → ⊥
+in_scope l rewriting ppc64 g name named is_name unlisted =
+    let code = (relocation_in l.relocations g.i).code in
+    let there = of_scope l.context l.kept l.relocations l.section g.i (decision_at l.decisions g.i) g.chosen g.decided (is_taken l.decisions g.i) (rewriting.decided g.i g.below) in
     let is = subst (λ x. IsScopeIn x l.context.phase code (there.0)) ppc64 (there.1) in
-    there.2 (is.value_is ∙ (ap (ppc64_scope_in l.context.phase) (is.is_name.named name named is_name.code_is) ∙ unlisted))
+    let of_code : code_of (ppc64_name name) ≡ code = ap (λ n. code_of (ppc64_name n)) (sym is_name) ∙ g.is_name.code_is in
+    there.2 (is.value_is ∙ (ap (ppc64_scope_in l.context.phase) (is.is_name.named name named of_code) ∙ unlisted))
 
 -- ---- phases
 
@@ -90,8 +89,8 @@ is_of_none name early offsets loads distances phases.ShortPcRel listed = listed 
 
 of_phase : (name : Ppc64Relocation) → IsNamed (ppc64_name name) → (phase : Phase)
     → ((other : Phase) → (IsNotRelaxable other name → ⊥) → other ≡ phase) → IsOfPhase phase name
-of_phase name named phase only l rewriting ppc64 i chosen below is_name decided =
-    only l.context.phase (in_scope l rewriting ppc64 i chosen below name named is_name decided)
+of_phase name named phase only l rewriting ppc64 g is =
+    only l.context.phase (in_scope l rewriting ppc64 g name named is)
 
 of_early : (name : Ppc64Relocation) → IsNamed (ppc64_name name) → IsNotRelaxable phases.TlsLocalExec name
     → IsNotRelaxable phases.GotToPcRel name → IsNotRelaxable phases.ShortPcRel name → IsOfPhase phases.PreLayout name
@@ -108,12 +107,11 @@ of_distances : (name : Ppc64Relocation) → IsNamed (ppc64_name name) → IsNotR
 of_distances name named early offsets loads =
     of_phase name named phases.ShortPcRel (is_of_distances name early offsets loads)
 
-of_none : (name : Ppc64Relocation) → IsNamed (ppc64_name name) → IsNotRelaxable phases.PreLayout name
+pub of_none : (name : Ppc64Relocation) → IsNamed (ppc64_name name) → IsNotRelaxable phases.PreLayout name
     → IsNotRelaxable phases.TlsLocalExec name → IsNotRelaxable phases.GotToPcRel name → IsNotRelaxable phases.ShortPcRel name
     → IsOfNoPhase name
-of_none name named early offsets loads distances l rewriting ppc64 i chosen below is_name decided =
-    is_of_none name early offsets loads distances l.context.phase
-    (in_scope l rewriting ppc64 i chosen below name named is_name decided)
+of_none name named early offsets loads distances l rewriting ppc64 g is =
+    is_of_none name early offsets loads distances l.context.phase (in_scope l rewriting ppc64 g name named is)
 
 pub rewritten_again : RewrittenAgain
 rewritten_again = (
