@@ -18,7 +18,7 @@ use Rattle.linker_elf.specs.declared.ppc64.relocations.Ppc64Relocation.TheVarian
 use Rattle.linker_final.proofs.Phases.{left_within}
 use Rattle.linker_final.proofs.Ppc64Again.{of_none}
 use Rattle.linker_final.proofs.Ppc64Chosen.{IsOfEntry, IsOfOne}
-use Rattle.linker_final.proofs.Ppc64Written.{Writes, after_is, becomes, becomes_marked, call_after, distance, entry_high, entry_low, entry_prefixed, left_alone, left_beside, made_after, marked_offset, near_entry, test_at, test_there, thread, thread_high, thread_low, thread_low_after, thread_low_words, thread_prefixed, thread_words, toc, toc_high, toc_low, toc_words}
+use Rattle.linker_final.proofs.Ppc64Written.{Writes, after_is, becomes, becomes_marked, call_after, distance, entry_high, entry_low, entry_prefixed, left_alone, left_beside, made_after, marked_offset, near_entry, test_at, thread, thread_high, thread_low, thread_low_after, thread_low_words, thread_prefixed, thread_words, toc, toc_high, toc_low, toc_words}
 use Rattle.linker_final.proofs.RiscVOffsets.{mapped}
 use Rattle.linker_final.proofs.PutBack.{window_byte, window_length}
 use Rattle.linker_final.proofs.Written.{are_rewritten, first_same, outside_of, second_same, spared, stays, word_front, word_same}
@@ -97,16 +97,20 @@ second_in bytes o = ap (take 4) (second_same bytes o) ∙ take-take 4 4 (drop (o
 abbrev is_load : ℕ → Bool
 is_load word = is_ld word && not (eqb (rt_of word) 0)
 
--- of n words from an offset on
+-- n words from an offset on, where the final bytes stand in new and nothing else changes them
+abbrev pub Final : Linked → ℕ → ℕ → ℕ → Left → Type 0
+Final l i at n left =
+    UntouchedByOthers l i at (4 * n) → (c : Code) (pc : ℕ) → Stands n c.new pc (drop at l.final)
+    → (symbol : Symbol) (any : ℕ) → slice_get l.symbols (relocation_in l.relocations_after i).symbol ≡ Some symbol
+    → IsMade left l i symbol any c n pc (take (4 * n) (drop at l.rewritten))
+
 pub record IsLawful (l : Linked) (i : ℕ) (chosen : Choice Relaxation ℕ) (kind : RewriteKind) (at n : ℕ) (law : Law)
     : Type 0 where
   pub kind_is : chosen.kind ≡ relaxations.Ppc64 kind
   pub some : 0 < n
   pub group : IsRewrittenByNoOther l i at
       → law.IsGroup (take (4 * n) (drop at l.section)) (take (4 * n) (drop at l.rewritten))
-  pub final : UntouchedByOthers l i at (4 * n) → (c : Code) (pc : ℕ) → Stands n c.new pc (drop at l.final)
-      → (symbol : Symbol) (any : ℕ) → slice_get l.symbols (relocation_in l.relocations_after i).symbol ≡ Some symbol
-      → IsMade law.left l i symbol any c n pc (take (4 * n) (drop at l.rewritten))
+  pub final : Final l i at n law.left
   -- a byte outside stays, or no rewrite has it
   pub others : (b : ℕ) → (b < at) ⊎ (at + 4 * n ≤ b)
       → IsOutside l.relocations l.decisions i b ⊎ (get_or l.rewritten b 0 ≡ get_or l.section b 0)
@@ -128,18 +132,12 @@ module _ (l : Linked) (linked : IsLinked l) (ppc64 : l.context.architecture ≡ 
   abbrev after : Rela
   after = relocation_in l.relocations_after i
 
-  abbrev Final : ℕ → ℕ → Left → Type 0
-  Final at n left =
-      UntouchedByOthers l i at (4 * n) → (c : Code) (pc : ℕ) → Stands n c.new pc (drop at l.final)
-      → (symbol : Symbol) (any : ℕ) → slice_get l.symbols after.symbol ≡ Some symbol
-      → IsMade left l i symbol any c n pc (take (4 * n) (drop at l.rewritten))
-
   -- n words at an offset, from what is known of the relocation that is left
   record After (n : ℕ) : Type 0 where
     pub name : Ppc64Relocation
     pub left : Left
     pub final : (at : ℕ) → at + 4 * n ≤ length l.section → after.offset ≡ at → after.code ≡ code_of (ppc64_name name)
-        → Final at n left
+        → Final l i at n left
 
   unwritten : (start len p : ℕ) → start ≤ p → p + 4 ≤ start + len → UntouchedByOthers l i start len
       → IsWrittenByNoOther l i p
@@ -153,13 +151,13 @@ module _ (l : Linked) (linked : IsLinked l) (ppc64 : l.context.architecture ≡ 
       left_alone l linked ppc64 i below after refl gone p (left_within l i start len p 4 low high alone.left) inside
       (unwritten start len p low high alone)
 
-  one_left : (at : ℕ) → at + 4 ≤ length l.section → after.code ≡ 0 → Final at 1 none
+  one_left : (at : ℕ) → at + 4 ≤ length l.section → after.code ≡ 0 → Final l i at 1 none
   one_left at inside gone alone c pc stands symbol any is_symbol =
       one_stands c.new pc (drop at l.final) (instruction_at l.rewritten at)
       (left_word at 4 at (omega arith) (omega arith) inside gone alone
       ∙ sym (take-take 4 4 (drop at l.rewritten) (omega arith))) stands
 
-  two_left : (at : ℕ) → at + 8 ≤ length l.section → after.code ≡ 0 → Final at 2 none
+  two_left : (at : ℕ) → at + 8 ≤ length l.section → after.code ≡ 0 → Final l i at 2 none
   two_left at inside gone alone c pc stands symbol any is_symbol =
       two_stand c.new pc (drop at l.final) (two_at l.rewritten at)
       (left_word at 8 at (omega arith) (omega arith) (omega (arith, inside)) gone alone
@@ -253,7 +251,7 @@ module _ (l : Linked) (linked : IsLinked l) (ppc64 : l.context.architecture ≡ 
       → (ppc64_matches kind l.section o → HasTest test l.section o)
       → IsOfEntry (entry kind a.name conditions) l.section o chosen → IsLawful l i chosen kind o 1 (law a.left AreSo)
   of_sort kind a conditions test AreSo so new is meant =
-      word kind a conditions test AreSo so new is (λ m. ((meant m).0, test_there l i test (meant m)))
+      word kind a conditions test AreSo so new is (λ m. ((meant m).0, test_at l o test (meant m)))
 
   load : (AreSo : AreGroup) → Rewrites is_ld kinds.LdToAddisThread AreSo
       → IsOfEntry (entry kinds.LdToAddisThread names.R_PPC64_TPREL16_HA to_local_exec) l.section o chosen
@@ -262,7 +260,7 @@ module _ (l : Linked) (linked : IsLinked l) (ppc64 : l.context.architecture ≡ 
       let w = word_of (instruction_at l.section o) in
       word kinds.LdToAddisThread (named names.R_PPC64_TPREL16_HA thread_high) to_local_exec is_ld AreSo so
       (λ word. addis_of_thread (rt_of word)) refl
-      (λ m. (m.0, (and_parts (is_ld w) (not (eqb (rt_of w) 0)) (test_there l i is_load m)).0))
+      (λ m. (m.0, (and_parts (is_ld w) (not (eqb (rt_of w) 0)) (test_at l o is_load m)).0))
 
   kept : (a : After 1) (conditions : Conditions) (AreSo : AreGroup) → groups.Stays AreSo
       → IsOfEntry (entry kinds.KeepAddis a.name conditions) l.section o chosen
@@ -276,7 +274,7 @@ module _ (l : Linked) (linked : IsLinked l) (ppc64 : l.context.architecture ≡ 
         some = omega arith;
         group = λ alone.
             subst (AreSo before) (sym (stays l rewriting i chosen below decided none_is alone (by.meant.0)))
-            (so before (test_there l i is_addis_of_toc by.meant) refl);
+            (so before (test_at l o is_addis_of_toc by.meant) refl);
         final = a.final o (by.meant.0) (ap (λ (r : Rela). r.offset) left) (ap (λ (r : Rela). r.code) left);
         others = λ b apart. inl (spared l i (Rewritten chosen) decided (ap window_of_rewrite none_is) b);
       }
@@ -327,7 +325,7 @@ module _ (l : Linked) (linked : IsLinked l) (ppc64 : l.context.architecture ≡ 
   -- of a call and what follows it
   call : (kind : RewriteKind) (name : Ppc64Relocation) (left : Left) (conditions : Conditions) (AreSo : AreGroup)
       → Rewrites groups.is_any kind AreSo → (new : ℕ) → ppc64_rewrite kind ≡ Some (rewrites_call new)
-      → (o + 8 ≤ length l.section → after.offset ≡ o + 4 → after.code ≡ code_of (ppc64_name name) → Final o 2 left)
+      → (o + 8 ≤ length l.section → after.offset ≡ o + 4 → after.code ≡ code_of (ppc64_name name) → Final l i o 2 left)
       → (ppc64_matches kind l.section o → HasTwo is_call l.section o)
       → IsOfEntry (entry kind name conditions) l.section o chosen → IsLawful l i chosen kind o 2 (law left AreSo)
   call kind name left conditions AreSo so new is final meant by =
@@ -345,7 +343,7 @@ module _ (l : Linked) (linked : IsLinked l) (ppc64 : l.context.architecture ≡ 
 
   -- the low half in its second word
   low_half : o + 8 ≤ length l.section → after.offset ≡ o + 4 → after.code ≡ code_of (ppc64_name names.R_PPC64_TPREL16_LO)
-      → Final o 2 (to_second names.R_PPC64_TPREL16_LO)
+      → Final l i o 2 (to_second names.R_PPC64_TPREL16_LO)
   low_half inside offset code alone c pc stands symbol any is_symbol = (
     one_stands c.new pc (drop o l.final) (two_at l.rewritten o)
         (left_beside l linked ppc64 i below names.R_PPC64_TPREL16_LO thread_low_after after refl code o

@@ -121,11 +121,6 @@ pub test_at : (l : Linked) (p : ℕ) (test : ℕ → _) → HasTest test l.secti
     → IsTrue (test (word_of (instruction_at l.section p)))
 test_at l p test is = subst (λ w. IsTrue (test w)) (word_same l.section p) (is.1)
 
--- what is in the instruction at a relocation
-pub test_there : (l : Linked) (i : ℕ) (test : ℕ → _) → HasTest test l.section (offset_of l i)
-    → IsTrue (test (word_of (instruction_at l.section (offset_of l i))))
-test_there l i test is = subst (λ w. IsTrue (test w)) (word_same l.section (offset_of l i)) (is.1)
-
 -- ---- what a call that writes values does then
 
 module _ (l : Linked) (linked : IsLinked l) (ppc64 : l.context.architecture ≡ Ppc64) (i : ℕ)

@@ -23,6 +23,7 @@ use Rattle.linker_final.proofs.PlainRows.{IsPlain}
 use Rattle.linker_final.proofs.PutBack.{put_back_is, back_inside, back_outside, back_rewritten, same_windows}
 use Rattle.linker_final.proofs.X86Lawful.{HaveShape}
 use Rattle.linker_final.proofs.X86Patterns.{one_same}
+use Rattle.linker_final.proofs.Written.{outside_of}
 use Rattle.linker_final.specs.Final.{Linked, IsLinked, UntouchedByOthers, AreBytes, count}
 use Rattle.linker_final.specs.SectionRuns.{offset_of}
 use Rattle.linker_final.specs.X86Section.{HasFinal, HasObject, IsObject, LawOf, Window, put_back, window_of}
