@@ -491,6 +491,6 @@ module _ (l : Linked) (linked : IsLinked l) (ppc64 : l.context.architecture ≡ 
       (tt, (kinds.BranchToNop, word kinds.BranchToNop gone called_to_module groups.is_any (CallTo 1 groups.keep_number) (laws.calls.2) (λ _. nop) refl (λ m. (m.0, refl)) by))
   by_name laws names.R_PPC64_TLSLD is_name (inr rest) =
       (tt, (kinds.CallToAddi4096, call kinds.CallToAddi4096 names.R_PPC64_NONE none to_module (CallTo 2 groups.add_block) (laws.calls.1) 0x38631000 refl (λ inside offset. two_left o inside) (λ m. m) (only rest)))
-  by_name laws names.R_PPC64_REL16_HA is_name of = absurd (unlisted names.R_PPC64_REL16_HA is_name (of_none names.R_PPC64_REL16_HA tt refl refl refl refl))
-  by_name laws names.R_PPC64_REL16_LO is_name of = absurd (unlisted names.R_PPC64_REL16_LO is_name (of_none names.R_PPC64_REL16_LO tt refl refl refl refl))
+  by_name laws names.R_PPC64_REL16_HA is_name of = absurd (unlisted names.R_PPC64_REL16_HA is_name (of_none names.R_PPC64_REL16_HA tt refl refl refl))
+  by_name laws names.R_PPC64_REL16_LO is_name of = absurd (unlisted names.R_PPC64_REL16_LO is_name (of_none names.R_PPC64_REL16_LO tt refl refl refl))
   by_name laws name is_name of = absurd of
