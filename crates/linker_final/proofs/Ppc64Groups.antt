@@ -148,7 +148,7 @@ module _ (l : Linked) (linked : IsLinked l) (ppc64 : l.context.architecture ≡ 
   left_word : (start len p : ℕ) → start ≤ p → p + 4 ≤ start + len → p + 4 ≤ length l.section → after.code ≡ 0
       → UntouchedByOthers l i start len → instruction_at l.final p ≡ instruction_at l.rewritten p
   left_word start len p low high inside gone alone =
-      left_alone l linked ppc64 i below after refl gone p (left_within l i start len p 4 low high alone.left) inside
+      left_alone l linked ppc64 i below gone p (left_within l i start len p 4 low high alone.left) inside
       (unwritten start len p low high alone)
 
   one_left : (at : ℕ) → at + 4 ≤ length l.section → after.code ≡ 0 → Final l i at 1 none
@@ -280,8 +280,7 @@ module _ (l : Linked) (linked : IsLinked l) (ppc64 : l.context.architecture ≡ 
       }
 
   -- two words
-  both : (test : ℕ → ℕ → Bool) → HasTwo test l.section (o)
-      → IsPrefixed test (two_at l.section (o))
+  both : (test : ℕ → ℕ → Bool) → HasTwo test l.section o → IsPrefixed test (two_at l.section o)
   both test meant =
       let p = o in
       let inside = meant.0 in
@@ -346,7 +345,7 @@ module _ (l : Linked) (linked : IsLinked l) (ppc64 : l.context.architecture ≡ 
       → Final l i o 2 (to_second names.R_PPC64_TPREL16_LO)
   low_half inside offset code alone c pc stands symbol any is_symbol = (
     one_stands c.new pc (drop o l.final) (two_at l.rewritten o)
-        (left_beside l linked ppc64 i below names.R_PPC64_TPREL16_LO thread_low_after after refl code o
+        (left_beside l linked ppc64 i below names.R_PPC64_TPREL16_LO thread_low_after code o
         (left_within l i o 8 o 4 (omega arith) (omega arith) alone.left) (omega (arith, inside)) (inl (omega (arith, offset)))
         (unwritten o 8 o (omega arith) (omega arith) alone)
         ∙ sym (take-take 4 8 (drop o l.rewritten) (omega arith))) (stands.0, tt),
@@ -396,7 +395,7 @@ module _ (l : Linked) (linked : IsLinked l) (ppc64 : l.context.architecture ≡ 
             (subst (Stands 1 c.new s.pc) (same_after ∙ sym (second_same l.rewritten o)) new);
         final = λ alone c pc stands symbol any is_symbol.
             one_stands c.new pc (drop (o + 4) l.final) (instruction_at l.rewritten (o + 4))
-            (left_beside l linked ppc64 i below names.R_PPC64_REL24 call_after after refl (ap (λ (r : Rela). r.code) left) (o + 4)
+            (left_beside l linked ppc64 i below names.R_PPC64_REL24 call_after (ap (λ (r : Rela). r.code) left) (o + 4)
             alone.left (omega (arith, following)) (inr (omega (arith, offset)))
             (unwritten (o + 4) 4 (o + 4) (omega arith) (omega arith) alone)
             ∙ sym (take-take 4 4 (drop (o + 4) l.rewritten) (omega arith))) stands;

@@ -125,59 +125,57 @@ test_at l p test is = subst (λ w. IsTrue (test w)) (word_same l.section p) (is.
 
 module _ (l : Linked) (linked : IsLinked l) (ppc64 : l.context.architecture ≡ Ppc64) (i : ℕ)
     (below : i < count l) where
+  abbrev became : Rela
+  became = relocation_in l.relocations_after i
+
+  row_there : (n : ℕ) (name : Ppc64Relocation) (a : IsAfter n name) → became.code ≡ code_of (ppc64_name name)
+      → IsRowOf l.context.architecture became.code a.row
+  row_there n name a code =
+      subst (λ x. IsRowOf l.context.architecture x a.row) (sym code) (row_of l ppc64 name a.named a.row a.is)
+
   -- the relocation that a rewrite left is applied to n bytes
-  pub applied_there : (n : ℕ) → 0 < n → (name : Ppc64Relocation) (a : IsAfter n name) (after : Rela)
-      → relocation_in l.relocations_after i ≡ after → after.code ≡ code_of (ppc64_name name)
-      → UntouchedBytes l i after.offset n → (symbol : Symbol) → slice_get l.symbols after.symbol ≡ Some symbol → (got : ℕ)
-      → operands_by Ppc64 l.addresses a.row after symbol
-      (entry_address l.addresses symbol (entry_of a.row after.addend symbol.is_thread_local))
-      ≡ Ok (operands_with Ppc64 l.addresses a.row symbol after got)
+  pub applied_there : (n : ℕ) → 0 < n → (name : Ppc64Relocation) (a : IsAfter n name) → became.code ≡ code_of (ppc64_name name)
+      → UntouchedBytes l i became.offset n → (symbol : Symbol) → slice_get l.symbols became.symbol ≡ Some symbol → (got : ℕ)
+      → operands_by Ppc64 l.addresses a.row became symbol
+      (entry_address l.addresses symbol (entry_of a.row became.addend symbol.is_thread_local))
+      ≡ Ok (operands_with Ppc64 l.addresses a.row symbol became got)
       → (o : Operands)
-      → value_of a.row o ≡ value_of a.row (operands_with Ppc64 l.addresses a.row symbol after got)
-      → IsRelocated name o (take n (drop after.offset l.rewritten)) (take n (drop after.offset l.final))
-  applied_there n some name a after is_after code left symbol is_symbol got entry_is o same =
-      let w = operands_with Ppc64 l.addresses a.row symbol after got in
-      let there : IsApplied a.row w (take n (drop after.offset l.rewritten)) (take n (drop after.offset l.final)) =
-      subst (λ x. IsApplied a.row (operands_with x l.addresses a.row symbol after got)
-      (take n (drop after.offset l.rewritten)) (take n (drop after.offset l.final))) ppc64
-      (applied_after l linked i below n some a.row a.of after is_after left
-      (subst (λ x. IsRowOf l.context.architecture x a.row) (sym code) (row_of l ppc64 name a.named a.row a.is))
-      symbol is_symbol got
-      (subst (λ x. operands_by x l.addresses a.row after symbol
-      (entry_address l.addresses symbol (entry_of a.row after.addend symbol.is_thread_local))
-      ≡ Ok (operands_with x l.addresses a.row symbol after got)) (sym ppc64) entry_is)) in
-      subst (λ q. IsSomeAnd q (λ row. IsApplied row o (take n (drop after.offset l.rewritten)) (take n (drop after.offset l.final)))) (sym a.is)
+      → value_of a.row o ≡ value_of a.row (operands_with Ppc64 l.addresses a.row symbol became got)
+      → IsRelocated name o (take n (drop became.offset l.rewritten)) (take n (drop became.offset l.final))
+  applied_there n some name a code left symbol is_symbol got entry_is o same =
+      let w = operands_with Ppc64 l.addresses a.row symbol became got in
+      let there : IsApplied a.row w (take n (drop became.offset l.rewritten)) (take n (drop became.offset l.final)) =
+      subst (λ x. IsApplied a.row (operands_with x l.addresses a.row symbol became got)
+      (take n (drop became.offset l.rewritten)) (take n (drop became.offset l.final))) ppc64
+      (applied_after l linked i below n some a.row a.of became refl left (row_there n name a code) symbol is_symbol got
+      (subst (λ x. operands_by x l.addresses a.row became symbol
+      (entry_address l.addresses symbol (entry_of a.row became.addend symbol.is_thread_local))
+      ≡ Ok (operands_with x l.addresses a.row symbol became got)) (sym ppc64) entry_is)) in
+      subst (λ q. IsSomeAnd q (λ row. IsApplied row o (take n (drop became.offset l.rewritten)) (take n (drop became.offset l.final)))) (sym a.is)
       (with_operands a.row w o _ _ same there)
 
   -- the entry of its formula is there
-  pub entry_there : (n : ℕ) (name : Ppc64Relocation) (a : IsAfter n name) (after : Rela)
-      → relocation_in l.relocations_after i ≡ after → after.code ≡ code_of (ppc64_name name)
-      → UntouchedBytes l i after.offset n → (symbol : Symbol) → slice_get l.symbols after.symbol ≡ Some symbol
-      → (entry : Entry) → entry_of a.row after.addend symbol.is_thread_local ≡ Some entry
+  pub entry_there : (n : ℕ) (name : Ppc64Relocation) (a : IsAfter n name) → became.code ≡ code_of (ppc64_name name)
+      → UntouchedBytes l i became.offset n → (symbol : Symbol) → slice_get l.symbols became.symbol ≡ Some symbol
+      → (entry : Entry) → entry_of a.row became.addend symbol.is_thread_local ≡ Some entry
       → is_there l.addresses symbol entry ≡ true
-  entry_there n name a after is_after code left symbol is_symbol entry is_entry =
-      entry_is_there l linked i below n a.row a.of after
-      (relocation_left l linked i after.offset n left below ∙ is_after)
-      (subst (λ x. IsRowOf l.context.architecture x a.row) (sym code) (row_of l ppc64 name a.named a.row a.is))
-      symbol is_symbol entry is_entry
+  entry_there n name a code left symbol is_symbol entry is_entry =
+      entry_is_there l linked i below n a.row a.of became (relocation_left l linked i became.offset n left below)
+      (row_there n name a code) symbol is_symbol entry is_entry
 
   -- an instruction is left that no other relocation writes, where the own one goes
-  pub left_alone : (after : Rela) → relocation_in l.relocations_after i ≡ after → after.code ≡ 0
-      → (p : ℕ) → UntouchedBytes l i p 4 → p + 4 ≤ length l.section → IsWrittenByNoOther l i p → instruction_at l.final p ≡ instruction_at l.rewritten p
-  left_alone after is_after gone p left inside alone =
-      unwritten_without l linked i below p left (no_row l ppc64) (ap (λ (x : Rela). x.code) is_after ∙ gone) inside alone
+  pub left_alone : became.code ≡ 0 → (p : ℕ) → UntouchedBytes l i p 4 → p + 4 ≤ length l.section
+      → IsWrittenByNoOther l i p → instruction_at l.final p ≡ instruction_at l.rewritten p
+  left_alone gone p left inside alone = unwritten_without l linked i below p left (no_row l ppc64) gone inside alone
 
   -- and one beside that of the own relocation
-  pub left_beside : (name : Ppc64Relocation) (a : IsAfter 4 name) (after : Rela)
-      → relocation_in l.relocations_after i ≡ after → after.code ≡ code_of (ppc64_name name)
+  pub left_beside : (name : Ppc64Relocation) (a : IsAfter 4 name) → became.code ≡ code_of (ppc64_name name)
       → (p : ℕ) → UntouchedBytes l i p 4 → p + 4 ≤ length l.section
-      → (p + 4 ≤ after.offset) ⊎ (after.offset + 4 ≤ p)
+      → (p + 4 ≤ became.offset) ⊎ (became.offset + 4 ≤ p)
       → IsWrittenByNoOther l i p → instruction_at l.final p ≡ instruction_at l.rewritten p
-  left_beside name a after is_after code p left inside beside alone =
+  left_beside name a code p left inside beside alone =
       unwritten_but l linked i p left inside
-      (apart_with l i after (relocation_left l linked i p 4 left below ∙ is_after) a.row
-      (subst (λ x. IsRowOf l.context.architecture x a.row) (sym code) (row_of l ppc64 name a.named a.row a.is))
-      4 a.of p beside) alone
+      (apart_with l i became (relocation_left l linked i p 4 left below) a.row (row_there 4 name a code) 4 a.of p beside) alone
 
 -- ---- rows
 
@@ -241,7 +239,7 @@ written n some name a none same l linked ppc64 i below code left =
     → IsRelocated name (operands_with Ppc64 l.addresses row symbol r any)
     (take n (drop r.offset l.rewritten)) (take n (drop r.offset l.final)))) (sym a.is)
     (λ symbol any is_symbol.
-    applied_there l linked ppc64 i below n some name a r refl code left symbol is_symbol 0 (none l r symbol)
+    applied_there l linked ppc64 i below n some name a code left symbol is_symbol 0 (none l r symbol)
     (operands_with Ppc64 l.addresses a.row symbol r any) (same l r symbol any))
 
 -- and of one with that of an offset
@@ -255,10 +253,10 @@ written_by_entry n some name a has l linked ppc64 i below code left =
     → IsRelocated name (operands_with Ppc64 l.addresses row symbol r symbol.thread_entry)
     (take n (drop r.offset l.rewritten)) (take n (drop r.offset l.final)))) (sym a.is)
     (λ symbol any is_symbol.
-    applied_there l linked ppc64 i below n some name a r refl code left symbol is_symbol symbol.thread_entry
+    applied_there l linked ppc64 i below n some name a code left symbol is_symbol symbol.thread_entry
     (ap (λ e. operands_by Ppc64 l.addresses a.row r symbol (entry_address l.addresses symbol e)) (has r symbol)
     ∙ ap (λ b. operands_by Ppc64 l.addresses a.row r symbol (cond b (Some symbol.thread_entry) None))
-    (entry_there l linked ppc64 i below n name a r refl code left symbol is_symbol
+    (entry_there l linked ppc64 i below n name a code left symbol is_symbol
     (record { class = ThreadOffset; addend = r.addend }) (has r symbol)))
     (operands_with Ppc64 l.addresses a.row symbol r symbol.thread_entry) refl)
 
