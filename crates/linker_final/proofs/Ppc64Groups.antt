@@ -23,7 +23,7 @@ use Rattle.linker_final.proofs.RiscVOffsets.{mapped}
 use Rattle.linker_final.proofs.PutBack.{window_byte, window_length}
 use Rattle.linker_final.proofs.Written.{are_rewritten, first_same, outside_of, second_same, spared, stays, word_front, word_same}
 use Rattle.linker_final.specs.Final.{AreBytes, AreRewritten, IsLinked, IsOutside, IsRewrittenByNoOther, IsWrittenByNoOther, Linked, UntouchedByOthers, UntouchedBytes, count, instruction_at, two_at}
-use Rattle.linker_final.specs.Ppc64Section.{HasApplied, IsMade, IsOfNoPhase, Law, Left, Restores, applied, entry_by, law, law_of, none, shape, to_second}
+use Rattle.linker_final.specs.Ppc64Section.{AreLeftAlone, HasApplied, IsMade, IsOfNoPhase, Law, Left, Restores, applied, entry_by, law, law_of, name_of, none, of_call, shape, to_second}
 use Rattle.linker_final.specs.SectionRuns.{offset_of}
 use Rattle.linker_laws.proofs.Words.{word_below}
 use Rattle.linker_laws.specs.Ppc64Groups as groups
@@ -97,17 +97,17 @@ second_in bytes o = ap (take 4) (second_same bytes o) ∙ take-take 4 4 (drop (o
 abbrev is_load : ℕ → Bool
 is_load word = is_ld word && not (eqb (rt_of word) 0)
 
--- n words from an offset on, where the final bytes stand in new and nothing else changes them
+-- n words from an offset on, where the final bytes stand in new and are left alone
 abbrev pub Final : Linked → ℕ → ℕ → ℕ → Left → Type 0
 Final l i at n left =
-    UntouchedByOthers l i at (4 * n) → (c : Code) (pc : ℕ) → Stands n c.new pc (drop at l.final)
+    AreLeftAlone left l i at (4 * n) → (c : Code) (pc : ℕ) → Stands n c.new pc (drop at l.final)
     → (symbol : Symbol) (any : ℕ) → slice_get l.symbols (relocation_in l.relocations_after i).symbol ≡ Some symbol
     → IsMade left l i symbol any c n pc (take (4 * n) (drop at l.rewritten))
 
 pub record IsLawful (l : Linked) (i : ℕ) (chosen : Choice Relaxation ℕ) (kind : RewriteKind) (at n : ℕ) (law : Law)
     : Type 0 where
   pub kind_is : chosen.kind ≡ relaxations.Ppc64 kind
-  pub some : 0 < n
+  pub code_is : chosen.relocation ≡ code_of (ppc64_name (name_of law.left))
   pub group : IsRewrittenByNoOther l i at
       → law.IsGroup (take (4 * n) (drop at l.section)) (take (4 * n) (drop at l.rewritten))
   pub final : Final l i at n law.left
@@ -134,10 +134,9 @@ module _ (l : Linked) (linked : IsLinked l) (ppc64 : l.context.architecture ≡ 
 
   -- n words at an offset, from what is known of the relocation that is left
   record After (n : ℕ) : Type 0 where
-    pub name : Ppc64Relocation
     pub left : Left
-    pub final : (at : ℕ) → at + 4 * n ≤ length l.section → after.offset ≡ at → after.code ≡ code_of (ppc64_name name)
-        → Final l i at n left
+    pub final : (at : ℕ) → at + 4 * n ≤ length l.section → after.offset ≡ at
+        → after.code ≡ code_of (ppc64_name (name_of left)) → Final l i at n left
 
   unwritten : (start len p : ℕ) → start ≤ p → p + 4 ≤ start + len → UntouchedByOthers l i start len
       → IsWrittenByNoOther l i p
@@ -183,29 +182,27 @@ module _ (l : Linked) (linked : IsLinked l) (ppc64 : l.context.architecture ≡ 
       (ppc64_row name) (writes l linked ppc64 i below code (subst (λ p. UntouchedBytes l i p m) (sym offset) left))
 
   abbrev gone : After 1
-  gone = record { name = names.R_PPC64_NONE; left = none; final = λ at inside offset code. one_left at inside code }
+  gone = record { left = none; final = λ at inside offset code. one_left at inside code }
 
   abbrev both_gone : After 2
   both_gone =
-      record { name = names.R_PPC64_NONE; left = none; final = λ at inside offset code. two_left at inside code }
+      record { left = none; final = λ at inside offset code. two_left at inside code }
 
   abbrev named : (name : Ppc64Relocation) → Writes 4 (entry_by name) name → After 1
   named name writes =
       record {
-        name = name;
         left = applied name;
         final = λ at inside offset code alone c pc stands.
-            applied_left 1 4 name writes at offset code alone.left c pc
+            applied_left 1 4 name writes at offset code alone c pc
             (one_stands c.new pc (drop at l.final) (instruction_at l.final at) (sym (take-take 4 4 (drop at l.final) (omega arith))) stands);
       }
 
   abbrev both_named : (name : Ppc64Relocation) → Writes 8 (entry_by name) name → After 2
   both_named name writes =
       record {
-        name = name;
         left = applied name;
         final = λ at inside offset code alone c pc stands.
-            applied_left 2 8 name writes at offset code alone.left c pc
+            applied_left 2 8 name writes at offset code alone c pc
             (two_stand c.new pc (drop at l.final) (two_at l.final at) (sym (take-take 4 8 (drop at l.final) (omega arith)))
             (ap (take 4) (drop-drop 4 at l.final) ∙ sym (second_in l.final at)) stands);
       }
@@ -231,13 +228,13 @@ module _ (l : Linked) (linked : IsLinked l) (ppc64 : l.context.architecture ≡ 
       → Rewrites test kind AreSo → (new : ℕ → ℕ) → ppc64_rewrite kind ≡ Some (rewrites_word new)
       → (ppc64_matches kind l.section o
       → (o + 4 ≤ length l.section) × IsTrue (test (word_of (instruction_at l.section o))))
-      → IsOfEntry (entry kind a.name conditions) l.section o chosen → IsLawful l i chosen kind o 1 (law a.left AreSo)
+      → IsOfEntry (entry kind (name_of a.left) conditions) l.section o chosen → IsLawful l i chosen kind o 1 (law a.left AreSo)
   word kind a conditions test AreSo so new is meant by =
       let there = meant by.meant in
-      let left = made_after l rewriting i chosen below decided kind by.kind_is a.name by.code_is (rewrites_word new) is in
+      let left = made_after l rewriting i chosen below decided kind by.kind_is (name_of a.left) by.code_is (rewrites_word new) is in
       record {
         kind_is = by.kind_is;
-        some = omega arith;
+        code_is = by.code_is;
         group = λ alone.
             so (instruction_at l.section o) (instruction_at l.rewritten o) (there.1)
             (becomes l rewriting i chosen below decided kind by.kind_is (rewrites_word new) is refl);
@@ -249,7 +246,7 @@ module _ (l : Linked) (linked : IsLinked l) (ppc64 : l.context.architecture ≡ 
   of_sort : (kind : RewriteKind) (a : After 1) (conditions : Conditions) (test : ℕ → Bool) (AreSo : AreGroup)
       → Rewrites test kind AreSo → (new : ℕ → ℕ) → ppc64_rewrite kind ≡ Some (rewrites_word new)
       → (ppc64_matches kind l.section o → HasTest test l.section o)
-      → IsOfEntry (entry kind a.name conditions) l.section o chosen → IsLawful l i chosen kind o 1 (law a.left AreSo)
+      → IsOfEntry (entry kind (name_of a.left) conditions) l.section o chosen → IsLawful l i chosen kind o 1 (law a.left AreSo)
   of_sort kind a conditions test AreSo so new is meant =
       word kind a conditions test AreSo so new is (λ m. ((meant m).0, test_at l o test (meant m)))
 
@@ -263,15 +260,15 @@ module _ (l : Linked) (linked : IsLinked l) (ppc64 : l.context.architecture ≡ 
       (λ m. (m.0, (and_parts (is_ld w) (not (eqb (rt_of w) 0)) (test_at l o is_load m)).0))
 
   kept : (a : After 1) (conditions : Conditions) (AreSo : AreGroup) → groups.Stays AreSo
-      → IsOfEntry (entry kinds.KeepAddis a.name conditions) l.section o chosen
+      → IsOfEntry (entry kinds.KeepAddis (name_of a.left) conditions) l.section o chosen
       → IsLawful l i chosen kinds.KeepAddis o 1 (law a.left AreSo)
   kept a conditions AreSo so by =
       let before = instruction_at l.section o in
-      let left = after_is l rewriting i chosen below decided kinds.KeepAddis by.kind_is a.name by.code_is in
+      let left = after_is l rewriting i chosen below decided kinds.KeepAddis by.kind_is (name_of a.left) by.code_is in
       let none_is : relaxation_rewrite chosen.kind ≡ None = ap relaxation_rewrite by.kind_is in
       record {
         kind_is = by.kind_is;
-        some = omega arith;
+        code_is = by.code_is;
         group = λ alone.
             subst (AreSo before) (sym (stays l rewriting i chosen below decided none_is alone (by.meant.0)))
             (so before (test_at l o is_addis_of_toc by.meant) refl);
@@ -306,14 +303,14 @@ module _ (l : Linked) (linked : IsLinked l) (ppc64 : l.context.architecture ≡ 
   of_two : (kind : RewriteKind) (a : After 2) (conditions : Conditions) (test : ℕ → ℕ → Bool) (AreSo : AreGroup)
       → RewritesBoth test kind AreSo → (bytes : List ℕ → List ℕ) → ppc64_rewrite kind ≡ Some (replaces 0 8 bytes)
       → (ppc64_matches kind l.section o → HasTwo test l.section o)
-      → IsOfEntry (entry kind a.name conditions) l.section o chosen → IsLawful l i chosen kind o 2 (law a.left AreSo)
+      → IsOfEntry (entry kind (name_of a.left) conditions) l.section o chosen → IsLawful l i chosen kind o 2 (law a.left AreSo)
   of_two kind a conditions test AreSo so bytes is meant by =
       let there = meant by.meant in
       let following = there.1.0 in
-      let left = made_after l rewriting i chosen below decided kind by.kind_is a.name by.code_is (replaces 0 8 bytes) is in
+      let left = made_after l rewriting i chosen below decided kind by.kind_is (name_of a.left) by.code_is (replaces 0 8 bytes) is in
       record {
         kind_is = by.kind_is;
-        some = omega arith;
+        code_is = by.code_is;
         group = λ alone.
             so (two_at l.section o) (two_at l.rewritten o) (both test there)
             (becomes l rewriting i chosen below decided kind by.kind_is (replaces 0 8 bytes) is refl);
@@ -322,17 +319,17 @@ module _ (l : Linked) (linked : IsLinked l) (ppc64 : l.context.architecture ≡ 
       }
 
   -- of a call and what follows it
-  call : (kind : RewriteKind) (name : Ppc64Relocation) (left : Left) (conditions : Conditions) (AreSo : AreGroup)
+  call : (kind : RewriteKind) (left : Left) (conditions : Conditions) (AreSo : AreGroup)
       → Rewrites groups.is_any kind AreSo → (new : ℕ) → ppc64_rewrite kind ≡ Some (rewrites_call new)
-      → (o + 8 ≤ length l.section → after.offset ≡ o + 4 → after.code ≡ code_of (ppc64_name name) → Final l i o 2 left)
+      → (o + 8 ≤ length l.section → after.offset ≡ o + 4 → after.code ≡ code_of (ppc64_name (name_of left)) → Final l i o 2 left)
       → (ppc64_matches kind l.section o → HasTwo is_call l.section o)
-      → IsOfEntry (entry kind name conditions) l.section o chosen → IsLawful l i chosen kind o 2 (law left AreSo)
-  call kind name left conditions AreSo so new is final meant by =
+      → IsOfEntry (entry kind (name_of left) conditions) l.section o chosen → IsLawful l i chosen kind o 2 (law left AreSo)
+  call kind left conditions AreSo so new is final meant by =
       let following = (meant by.meant).1.0 in
-      let made = made_after l rewriting i chosen below decided kind by.kind_is name by.code_is (rewrites_call new) is in
+      let made = made_after l rewriting i chosen below decided kind by.kind_is (name_of left) by.code_is (rewrites_call new) is in
       record {
         kind_is = by.kind_is;
-        some = omega arith;
+        code_is = by.code_is;
         group = λ alone.
             so (two_at l.section o) (two_at l.rewritten o) refl
             (becomes l rewriting i chosen below decided kind by.kind_is (rewrites_call new) is refl);
@@ -368,7 +365,7 @@ module _ (l : Linked) (linked : IsLinked l) (ppc64 : l.context.architecture ≡ 
       let left = made_after l rewriting i chosen below decided kind by.kind_is names.R_PPC64_NONE by.code_is (rewrites_marked new) is in
       record {
         kind_is = by.kind_is;
-        some = omega arith;
+        code_is = by.code_is;
         group = λ alone.
             so (instruction_at l.section (marked_offset l i)) (instruction_at l.rewritten (marked_offset l i))
             (test_at l (marked_offset l i) test there) (becomes_marked l rewriting i chosen below decided kind by.kind_is new is);
@@ -379,7 +376,7 @@ module _ (l : Linked) (linked : IsLinked l) (ppc64 : l.context.architecture ≡ 
   -- of the `nop` after a call that may change the TOC pointer
   restores : RewritesBoth is_call kinds.NopToRestoreToc groups.RestoresToc
       → IsOfEntry (entry kinds.NopToRestoreToc names.R_PPC64_REL24 (changed_toc ∷ [])) l.section o chosen
-      → IsLawful l i chosen kinds.NopToRestoreToc (o + 4) 1 (law none Restores)
+      → IsLawful l i chosen kinds.NopToRestoreToc (o + 4) 1 (law of_call Restores)
   restores so by =
       let following = by.meant.1.0 in
       let left = made_after l rewriting i chosen below decided kinds.NopToRestoreToc by.kind_is names.R_PPC64_REL24 by.code_is (replaces 0 8 restores_toc) refl in
@@ -388,7 +385,7 @@ module _ (l : Linked) (linked : IsLinked l) (ppc64 : l.context.architecture ≡ 
       let apart = others_at kinds.NopToRestoreToc by.kind_is (replaces 0 8 restores_toc) refl refl in
       record {
         kind_is = by.kind_is;
-        some = omega arith;
+        code_is = by.code_is;
         group = λ alone call restored same same_after c k s old new.
             so (two_at l.section o) (two_at l.rewritten o) (both is_call by.meant) made c k s
             (subst (Stands 1 c.old s.pc) (same ∙ sym (second_same l.section o)) old)
@@ -475,9 +472,9 @@ module _ (l : Linked) (linked : IsLinked l) (ppc64 : l.context.architecture ≡ 
   by_name laws names.R_PPC64_TLSGD is_name (inr (inl by)) =
       (tt, (kinds.BranchToAdd, word kinds.BranchToAdd gone called_to_initial_exec groups.is_any (CallTo 1 sum_64) (laws.calls.3) (λ _. 0x7c636a14) refl (λ m. (m.0, refl)) by))
   by_name laws names.R_PPC64_TLSGD is_name (inr (inr (inl by))) =
-      (tt, (kinds.CallToAddi, call kinds.CallToAddi names.R_PPC64_TPREL16_LO (to_second names.R_PPC64_TPREL16_LO) to_local_exec groups.CallToLowHalf laws.call_low_halves 0x38630000 refl low_half (λ m. m) by))
+      (tt, (kinds.CallToAddi, call kinds.CallToAddi (to_second names.R_PPC64_TPREL16_LO) to_local_exec groups.CallToLowHalf laws.call_low_halves 0x38630000 refl low_half (λ m. m) by))
   by_name laws names.R_PPC64_TLSGD is_name (inr (inr (inr rest))) =
-      (tt, (kinds.CallToAdd, call kinds.CallToAdd names.R_PPC64_NONE none to_initial_exec (CallTo 2 sum_64) (laws.calls.0) 0x7c636a14 refl (λ inside offset. two_left o inside) (λ m. m) (only rest)))
+      (tt, (kinds.CallToAdd, call kinds.CallToAdd none to_initial_exec (CallTo 2 sum_64) (laws.calls.0) 0x7c636a14 refl (λ inside offset. two_left o inside) (λ m. m) (only rest)))
   by_name laws names.R_PPC64_GOT_TLSLD16_HA is_name of =
       (tt, (kinds.AddisToNop, of_sort kinds.AddisToNop gone to_module (is_addis_over 2) groups.ModuleHigh (laws.high_halves.4) (λ _. nop) refl (λ m. m) (only of)))
   by_name laws names.R_PPC64_GOT_TLSLD16_LO is_name of =
@@ -489,7 +486,7 @@ module _ (l : Linked) (linked : IsLinked l) (ppc64 : l.context.architecture ≡ 
   by_name laws names.R_PPC64_TLSLD is_name (inl by) =
       (tt, (kinds.BranchToNop, word kinds.BranchToNop gone called_to_module groups.is_any (CallTo 1 groups.keep_number) (laws.calls.2) (λ _. nop) refl (λ m. (m.0, refl)) by))
   by_name laws names.R_PPC64_TLSLD is_name (inr rest) =
-      (tt, (kinds.CallToAddi4096, call kinds.CallToAddi4096 names.R_PPC64_NONE none to_module (CallTo 2 groups.add_block) (laws.calls.1) 0x38631000 refl (λ inside offset. two_left o inside) (λ m. m) (only rest)))
+      (tt, (kinds.CallToAddi4096, call kinds.CallToAddi4096 none to_module (CallTo 2 groups.add_block) (laws.calls.1) 0x38631000 refl (λ inside offset. two_left o inside) (λ m. m) (only rest)))
   by_name laws names.R_PPC64_REL16_HA is_name of = absurd (unlisted names.R_PPC64_REL16_HA is_name (of_none names.R_PPC64_REL16_HA tt refl refl refl))
   by_name laws names.R_PPC64_REL16_LO is_name of = absurd (unlisted names.R_PPC64_REL16_LO is_name (of_none names.R_PPC64_REL16_LO tt refl refl refl))
   by_name laws name is_name of = absurd of

@@ -12,7 +12,7 @@ use Rattle.linker_final.proofs.Ppc64Groups.{IsLawful, by_name}
 use Rattle.linker_final.proofs.SectionRuns.{AreIn, IsIn, each_or, is_linked, without_label}
 use Rattle.linker_final.proofs.Written.{spared}
 use Rattle.linker_final.specs.Final.{IsLinked, IsOutside, Linked, count}
-use Rattle.linker_final.specs.Ppc64Section.{kind_at, kind_by, kind_of, law_of, rewriting, shape, span}
+use Rattle.linker_final.specs.Ppc64Section.{NamesAreLeft, kind_at, kind_by, kind_of, law_of, rewriting, shape, span}
 use Rattle.linker_final.specs.SectionRuns.{RewritesAreGroups, offset_of}
 use Rattle.linker_laws.specs.Ppc64Groups.{Groups}
 use Rattle.linker_rewriting.specs.Decisions.{decision_at}
@@ -97,9 +97,12 @@ pub rewrites_are_groups : Groups → RewritesAreGroups rewriting
 rewrites_are_groups laws x c called l is k s g k' s' begins =
     let linked = is_linked rewriting x called l is in
     let law = law_there laws l linked (called.architecture l is) g.i g.chosen g.below g.decided g.name g.is_name in
-    let some = law.some in
     elim begins.new [
-      | inl final ↦ begins.by_law (law.group (λ j at lj isnt from less. (final.0.others j at lj isnt from (omega (arith, less, some))).0))
+      | inl final ↦ begins.by_law (law.group begins.alone)
           (law.final (final.0) c s.pc (final.1) begins.symbol begins.entry begins.is_symbol)
-      | inr between ↦ begins.by_law (law.group (between.0)) (between.1)
+      | inr made ↦ begins.by_law (law.group begins.alone) made
     ]
+
+pub names_are_left : Groups → NamesAreLeft
+names_are_left laws l linked ppc64 g =
+    (law_there laws l linked ppc64 g.i g.chosen g.below g.decided g.name g.is_name).code_is

@@ -2,15 +2,15 @@
 -- V2 ABI for Power, "TOC Optimizations" and "TLS Linkage Optimizations").
 use Rattle.std.specs.Prelude.{◌≡◌, ◌⊎◌, ℕ, ◌+◌, ◌-◌, ◌*◌, ◌<◌, ◌≤◌, IsSomeAnd}
 use Rattle.std.specs.Prelude.{List, take, drop, get_or, slice_get, Some}
-use Rattle.linker_elf.specs.ElfNames.{IsNameOf}
+use Rattle.linker_elf.specs.ElfNames.{IsNameOf, code_of}
 use Rattle.linker_elf.specs.Ppc64Relocations.{ppc64_name, ppc64_row}
 use Rattle.linker_elf.specs.Value.{sum_64}
 use Rattle.linker_elf.specs.declared.elf.architecture.Architecture.TheVariants.{Ppc64}
 use Rattle.linker_elf.specs.declared.elf.choice.Choice.{Choice}
 use Rattle.linker_elf.specs.declared.ppc64.relocations.Ppc64Relocation.{Ppc64Relocation}
 use Rattle.linker_elf.specs.declared.ppc64.relocations.Ppc64Relocation.TheVariants as names
-use Rattle.linker_final.specs.Final.{AreRewritten, IsRewrittenByNoOther, Linked, UntouchedByOthers}
-use Rattle.linker_final.specs.Final.{count}
+use Rattle.linker_final.specs.Final.{AreRewritten, IsLinked, IsRewrittenByNoOther, Linked, count}
+use Rattle.linker_final.specs.Final.{UntouchedBytes, UntouchedByOthers}
 use Rattle.linker_final.specs.SectionRuns.{Rewriting, Section, offset_of}
 use Rattle.linker_laws.specs.Ppc64Groups as groups
 use Rattle.linker_laws.specs.Ppc64Groups.{AreGroup, CallTo, Code, Has, LowOverBase, Stands}
@@ -83,12 +83,19 @@ pub record Stays (l : Linked) (b : ℕ) : Type 0 where
 
 -- ---- their laws
 
--- Which relocation is left of the words: none; one of a name, which is applied to all of them, or
--- to the second.
+-- Which relocation is left: none; one of a name, which is applied to all words, or to the second;
+-- that of the call before them.
 pub data Left : Type 0 where
   none : Left
   applied : Ppc64Relocation → Left
   to_second : Ppc64Relocation → Left
+  of_call : Left
+
+abbrev pub name_of : Left → Ppc64Relocation
+name_of none = names.R_PPC64_NONE
+name_of (applied name) = name
+name_of (to_second name) = name
+name_of of_call = names.R_PPC64_REL24
 
 pub record Law : Type 1 where
   pub left : Left
@@ -106,7 +113,7 @@ Restores nop ld =
 
 -- by the relocation, and what becomes of the instruction
 abbrev pub law_of : Ppc64Relocation → RewriteKind → Law
-law_of names.R_PPC64_REL24 kinds.NopToRestoreToc = law none Restores
+law_of names.R_PPC64_REL24 kinds.NopToRestoreToc = law of_call Restores
 -- near the TOC pointer
 law_of names.R_PPC64_TOC16_HA kinds.AddisToNop = law none groups.TocHigh
 law_of names.R_PPC64_TOC16_LO kinds.BaseToToc =
@@ -209,20 +216,25 @@ HasApplied name l i symbol any c n at words =
     (entry_by name symbol any)) words)
 
 abbrev pub IsMade : Left → Linked → ℕ → Symbol → ℕ → Code → ℕ → ℕ → List ℕ → Type 0
-IsMade none l i symbol any c n at words = Stands n c.new at words
 IsMade (applied name) l i symbol any c n at words = HasApplied name l i symbol any c n at words
 IsMade (to_second name) l i symbol any c n at words =
     Stands 1 c.new at words × HasApplied name l i symbol any c 1 (sum_64 at 4) (drop 4 words)
+IsMade left l i symbol any c n at words = Stands n c.new at words
 
--- New has the final bytes, which later phases and other relocations leave alone. Or new has what
--- this phase leaves, with its relocation applied, as code between two phases has.
+-- Later phases leave n bytes from a start on alone, and other relocations those of a word without
+-- one.
+abbrev pub AreLeftAlone : Left → Linked → ℕ → ℕ → ℕ → Type 0
+AreLeftAlone (applied name) = UntouchedBytes
+AreLeftAlone left = UntouchedByOthers
+
+-- New has the final bytes, which are left alone. Or new has what this phase leaves, with its
+-- relocation applied, as code between two phases has.
 abbrev pub IsNew : (l : Linked) → Code → State → Rewrites l → Symbol → ℕ → Type 0
 IsNew l c s g symbol any =
-    (UntouchedByOthers l g.i (span l g.i).0 (4 * (shape_at l g.i).1)
+    (AreLeftAlone (law_at l g).left l g.i (span l g.i).0 (4 * (shape_at l g.i).1)
     × Stands (shape_at l g.i).1 c.new s.pc (drop (span l g.i).0 l.final))
-    ⊎ (IsRewrittenByNoOther l g.i (span l g.i).0
-    × IsMade (law_at l g).left l g.i symbol any c (shape_at l g.i).1 s.pc
-    (words_at l g.i l.rewritten))
+    ⊎ IsMade (law_at l g).left l g.i symbol any c (shape_at l g.i).1 s.pc
+    (words_at l g.i l.rewritten)
 
 -- Old comes to what is rewritten, and new has what became of it. What else its law requires holds,
 -- as that old has the words before with their relocation applied. So by it they leave kinds and a
@@ -230,6 +242,7 @@ IsNew l c s g symbol any =
 pub record Begins (x : Section) (l : Linked) (c : Code) (k : Kinds) (s : State) (g : Rewrites l)
     (k' : Kinds) (s' : State) : Type 0 where
   pub pc : s.pc ≡ sum_64 l.addresses.section (span l g.i).0
+  pub alone : IsRewrittenByNoOther l g.i (span l g.i).0
   pub symbol : Symbol
   pub is_symbol : slice_get l.symbols (relocation_in l.relocations_after g.i).symbol ≡ Some symbol
   pub entry : ℕ
@@ -253,6 +266,12 @@ rewriting =
     }
 
 -- ---- what is rewritten again
+
+-- A rewrite leaves the relocation that its law is of (`relocation_after`).
+abbrev pub NamesAreLeft : Type 0
+NamesAreLeft =
+    (l : Linked) → IsLinked l → l.context.architecture ≡ Ppc64 → (g : Rewrites l)
+    → g.chosen.relocation ≡ code_of (ppc64_name (name_of (law_at l g).left))
 
 -- Instructions with a relocation of a name are rewritten in one phase alone, or in none.
 abbrev pub IsOfPhase : Phase → Ppc64Relocation → Type 0

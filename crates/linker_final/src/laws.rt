@@ -130,12 +130,13 @@ pub fn loongarch64()
 /// AArch64's. Each byte stays, but for the values of relocations, or is of an instruction that is
 /// rewritten, or of a call with the `nop` after it. New is any code that has the final bytes there,
 /// or what a phase left with its relocation applied, as code between phases has: what two of them
-/// rewrite is a group of both (`linker_laws::simulation::runs`). Which phase alone rewrites again
-/// what a rewrite left is a law, too.
+/// rewrite is a group of both (`linker_laws::simulation::runs`). Which relocation a rewrite leaves
+/// is a law, too, and which phase alone rewrites it again.
 pub fn ppc64_sections()
     ensures places { section_runs.EachPlace ppc64_section.rewriting }
     ensures groups { section_runs.RewritesAreGroups ppc64_section.rewriting }
     ensures runs { section_runs.RunsAreFollowed ppc64_section.rewriting }
+    ensures names { ppc64_section.NamesAreLeft }
     ensures rewritten_again { ppc64_section.RewrittenAgain }
 {
     linker_laws::simulation::ppc64();

@@ -1,5 +1,5 @@
 use Rattle.linker_final.proofs.Ppc64Again.{rewritten_again}
-use Rattle.linker_final.proofs.Ppc64Section.{are_in, rewrites_are_groups}
+use Rattle.linker_final.proofs.Ppc64Section.{are_in, names_are_left, rewrites_are_groups}
 use Rattle.linker_final.proofs.SectionRuns.{each_place, runs_are_followed}
 use Rattle.linker_final.proofs.laws.ppc64_sections.Goals as goal
 use Rattle.linker_final.specs.Ppc64Section.{rewriting}
@@ -14,5 +14,6 @@ returns c =
       places = each_place rewriting (are_in laws);
       groups = groups;
       runs = runs_are_followed rewriting groups (λ code. c.runs.ensures.simulates (one (link code)));
+      names = names_are_left laws;
       rewritten_again = rewritten_again;
     }
