@@ -200,7 +200,7 @@ module _ (laws : Groups) (x : Section) (called : AreCalled rewriting x) (c : Cod
       record {
         linked = is_linked rewriting x called l is;
         aarch64 = called.architecture l is;
-        final = final_in rewriting x l is c final;
+        final = final_in (λ addresses final. HasFinal addresses final c) x l is final;
       }
 
   group_of : (l : Linked) → IsPhase x l → (k : Kinds) (s : State) (g : Rewrites l) (k' : Kinds) (s' : State)
@@ -230,4 +230,5 @@ module _ (laws : Groups) (x : Section) (called : AreCalled rewriting x) (c : Cod
       (with_register 30 anything) go_and_link (laws.branches.1) of at (ap (λ (w : Operands). w.place) at.are) alone goes_on has
 
 pub rewrites_are_groups : Groups → RewritesAreGroups rewriting
-rewrites_are_groups laws x c called final = group_of laws x called c final
+rewrites_are_groups laws x c called l is k s g k' s' begins =
+    group_of laws x called c (begins.0) l is k s g k' s' (begins.1)

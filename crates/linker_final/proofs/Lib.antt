@@ -30,6 +30,7 @@ pub mod PlainRows
 pub mod Ppc64Again
 pub mod Ppc64Chosen
 pub mod Ppc64Groups
+pub mod Ppc64Section
 pub mod Ppc64Written
 pub mod PutBack
 pub mod Relaxed

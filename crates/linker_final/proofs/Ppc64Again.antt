@@ -1,12 +1,12 @@
 -- In which phase alone PowerPC64's relocations of a name are rewritten.
-use Rattle.std.proofs.Common.{◌≡◌, ℕ, ◌<◌, List, Bool, true, false, refl, sym, ap, subst, ◌∙◌}
-use Rattle.linker_elf.specs.ElfNames.{IsNamed, IsNameOf}
+use Rattle.std.proofs.Common.{◌≡◌, ◌⊎◌, ℕ, List, Bool, true, false, refl, sym, ap, subst, ◌∙◌, inl, inr}
+use Rattle.linker_elf.specs.ElfNames.{IsNamed, code_of}
 use Rattle.linker_elf.specs.Ppc64Relocations.{ppc64_name}
 use Rattle.linker_elf.specs.declared.elf.choice.Choice.{Choice}
 use Rattle.linker_elf.specs.declared.ppc64.relocations.Ppc64Relocation.{Ppc64Relocation}
 use Rattle.linker_elf.specs.declared.ppc64.relocations.Ppc64Relocation.TheVariants as names
-use Rattle.linker_final.specs.Final.{AreRewritten, Linked, count}
-use Rattle.linker_final.specs.Ppc64Final.{IsOfNoPhase, IsOfPhase, RewrittenAgain}
+use Rattle.linker_final.specs.Final.{AreRewritten, Linked}
+use Rattle.linker_final.specs.Ppc64Section.{IsOfNoPhase, Rewrites, RewrittenAgain}
 use Rattle.linker_rewriting.specs.Decisions.{IsDecidedAfter, IsScopeDecision, decision_at, is_taken}
 use Rattle.linker_rewriting.specs.Facts.{RelaxContext}
 use Rattle.linker_rewriting.specs.Groups.{IsScopeIn, ppc64_scope_in}
@@ -41,97 +41,60 @@ module _ (s : RelaxContext) (kept : List UnrelaxableGroups) (bytes section : Lis
   of_scope false is = (is.0, is.1, listed (is.0) (is.2))
 
 -- the name has one in the phase that rewrites it
-in_scope : (l : Linked) → AreRewritten l → l.context.architecture ≡ Ppc64 → (i : ℕ) (chosen : Choice Relaxation ℕ)
-    → i < count l → (name : Ppc64Relocation) → IsNamed (ppc64_name name)
-    → IsNameOf ppc64_name (relocation_in l.relocations i).code name
-    → decision_at l.decisions i ≡ Rewritten chosen → ppc64_scope_in l.context.phase name ≡ NotRelaxable → ⊥
-in_scope l rewriting ppc64 i chosen below name named is_name decided unlisted =
-    let code = (relocation_in l.relocations i).code in
-    let there = of_scope l.context l.kept l.relocations l.section i (decision_at l.decisions i) chosen decided (is_taken l.decisions i) (rewriting.decided i below) in
+in_scope : (l : Linked) → AreRewritten l → l.context.architecture ≡ Ppc64 → (g : Rewrites l) (name : Ppc64Relocation)
+    → IsNamed (ppc64_name name) → g.name ≡ name → ppc64_scope_in l.context.phase name ≡ NotRelaxable → ⊥
+in_scope l rewriting ppc64 g name named is_name unlisted =
+    let code = (relocation_in l.relocations g.i).code in
+    let there = of_scope l.context l.kept l.relocations l.section g.i (decision_at l.decisions g.i) g.chosen g.decided (is_taken l.decisions g.i) (rewriting.decided g.i g.below) in
     let is = subst (λ x. IsScopeIn x l.context.phase code (there.0)) ppc64 (there.1) in
-    there.2 (is.value_is ∙ (ap (ppc64_scope_in l.context.phase) (is.is_name.named name named is_name.code_is) ∙ unlisted))
+    let of_code : code_of (ppc64_name name) ≡ code = ap (λ n. code_of (ppc64_name n)) (sym is_name) ∙ g.is_name.code_is in
+    there.2 (is.value_is ∙ (ap (ppc64_scope_in l.context.phase) (is.is_name.named name named of_code) ∙ unlisted))
 
 -- ---- phases
 
-abbrev IsNotRelaxable : Phase → Ppc64Relocation → Type 0
-IsNotRelaxable phase name = ppc64_scope_in phase name ≡ NotRelaxable
+-- a phase doesn't list a name, or something holds of the phase
+abbrev Unlisted : Ppc64Relocation → (Phase → Type 0) → Phase → Type 0
+Unlisted name P phase = (ppc64_scope_in phase name ≡ NotRelaxable) ⊎ P phase
 
--- one that lists a name, where others don't
-is_early : (name : Ppc64Relocation) → IsNotRelaxable phases.TlsLocalExec name → IsNotRelaxable phases.GotToPcRel name
-    → IsNotRelaxable phases.ShortPcRel name → (phase : Phase) → (IsNotRelaxable phase name → ⊥) → phase ≡ phases.PreLayout
-is_early name offsets loads distances phases.PreLayout listed = refl
-is_early name offsets loads distances phases.TlsLocalExec listed = absurd (listed offsets)
-is_early name offsets loads distances phases.GotToPcRel listed = absurd (listed loads)
-is_early name offsets loads distances phases.ShortPcRel listed = absurd (listed distances)
+shown : {A B : Type 0} → A ⊎ B → (A → ⊥) → B
+shown (inl a) none = absurd (none a)
+shown (inr b) none = b
 
-is_of_offsets : (name : Ppc64Relocation) → IsNotRelaxable phases.PreLayout name → IsNotRelaxable phases.GotToPcRel name
-    → IsNotRelaxable phases.ShortPcRel name → (phase : Phase) → (IsNotRelaxable phase name → ⊥) → phase ≡ phases.TlsLocalExec
-is_of_offsets name early loads distances phases.TlsLocalExec listed = refl
-is_of_offsets name early loads distances phases.PreLayout listed = absurd (listed early)
-is_of_offsets name early loads distances phases.GotToPcRel listed = absurd (listed loads)
-is_of_offsets name early loads distances phases.ShortPcRel listed = absurd (listed distances)
+of_name : (name : Ppc64Relocation) → IsNamed (ppc64_name name) → (P : Phase → Type 0) → Unlisted name P phases.PreLayout
+    → Unlisted name P phases.TlsLocalExec → Unlisted name P phases.ShortPcRel → (l : Linked) → AreRewritten l
+    → l.context.architecture ≡ Ppc64 → (g : Rewrites l) → g.name ≡ name → P l.context.phase
+of_name name named P early offsets distances l rewriting ppc64 g is =
+    by l.context.phase (in_scope l rewriting ppc64 g name named is)
+  where
+    by : (phase : Phase) → (ppc64_scope_in phase name ≡ NotRelaxable → ⊥) → P phase
+    by phases.PreLayout listed = shown early listed
+    by phases.TlsLocalExec listed = shown offsets listed
+    by phases.GotToPcRel listed = absurd (listed refl)
+    by phases.ShortPcRel listed = shown distances listed
 
-is_of_distances : (name : Ppc64Relocation) → IsNotRelaxable phases.PreLayout name → IsNotRelaxable phases.TlsLocalExec name
-    → IsNotRelaxable phases.GotToPcRel name → (phase : Phase) → (IsNotRelaxable phase name → ⊥) → phase ≡ phases.ShortPcRel
-is_of_distances name early offsets loads phases.ShortPcRel listed = refl
-is_of_distances name early offsets loads phases.PreLayout listed = absurd (listed early)
-is_of_distances name early offsets loads phases.TlsLocalExec listed = absurd (listed offsets)
-is_of_distances name early offsets loads phases.GotToPcRel listed = absurd (listed loads)
-
-is_of_none : (name : Ppc64Relocation) → IsNotRelaxable phases.PreLayout name → IsNotRelaxable phases.TlsLocalExec name
-    → IsNotRelaxable phases.GotToPcRel name → IsNotRelaxable phases.ShortPcRel name
-    → (phase : Phase) → (IsNotRelaxable phase name → ⊥) → ⊥
-is_of_none name early offsets loads distances phases.PreLayout listed = listed early
-is_of_none name early offsets loads distances phases.TlsLocalExec listed = listed offsets
-is_of_none name early offsets loads distances phases.GotToPcRel listed = listed loads
-is_of_none name early offsets loads distances phases.ShortPcRel listed = listed distances
-
--- ---- names
-
-of_phase : (name : Ppc64Relocation) → IsNamed (ppc64_name name) → (phase : Phase)
-    → ((other : Phase) → (IsNotRelaxable other name → ⊥) → other ≡ phase) → IsOfPhase phase name
-of_phase name named phase only l rewriting ppc64 i chosen below is_name decided =
-    only l.context.phase (in_scope l rewriting ppc64 i chosen below name named is_name decided)
-
-of_early : (name : Ppc64Relocation) → IsNamed (ppc64_name name) → IsNotRelaxable phases.TlsLocalExec name
-    → IsNotRelaxable phases.GotToPcRel name → IsNotRelaxable phases.ShortPcRel name → IsOfPhase phases.PreLayout name
-of_early name named offsets loads distances =
-    of_phase name named phases.PreLayout (is_early name offsets loads distances)
-
-of_offsets : (name : Ppc64Relocation) → IsNamed (ppc64_name name) → IsNotRelaxable phases.PreLayout name
-    → IsNotRelaxable phases.GotToPcRel name → IsNotRelaxable phases.ShortPcRel name → IsOfPhase phases.TlsLocalExec name
-of_offsets name named early loads distances =
-    of_phase name named phases.TlsLocalExec (is_of_offsets name early loads distances)
-
-of_distances : (name : Ppc64Relocation) → IsNamed (ppc64_name name) → IsNotRelaxable phases.PreLayout name
-    → IsNotRelaxable phases.TlsLocalExec name → IsNotRelaxable phases.GotToPcRel name → IsOfPhase phases.ShortPcRel name
-of_distances name named early offsets loads =
-    of_phase name named phases.ShortPcRel (is_of_distances name early offsets loads)
-
-of_none : (name : Ppc64Relocation) → IsNamed (ppc64_name name) → IsNotRelaxable phases.PreLayout name
-    → IsNotRelaxable phases.TlsLocalExec name → IsNotRelaxable phases.GotToPcRel name → IsNotRelaxable phases.ShortPcRel name
+pub of_none : (name : Ppc64Relocation) → IsNamed (ppc64_name name) → ppc64_scope_in phases.PreLayout name ≡ NotRelaxable
+    → ppc64_scope_in phases.TlsLocalExec name ≡ NotRelaxable → ppc64_scope_in phases.ShortPcRel name ≡ NotRelaxable
     → IsOfNoPhase name
-of_none name named early offsets loads distances l rewriting ppc64 i chosen below is_name decided =
-    is_of_none name early offsets loads distances l.context.phase
-    (in_scope l rewriting ppc64 i chosen below name named is_name decided)
+of_none name named early offsets distances =
+    of_name name named (λ p. ⊥) (inl early) (inl offsets) (inl distances)
 
 pub rewritten_again : RewrittenAgain
 rewritten_again = (
-  of_early names.R_PPC64_GOT_TPREL16_HA tt refl refl refl,
-  of_early names.R_PPC64_GOT_TPREL16_LO_DS tt refl refl refl,
-  of_early names.R_PPC64_GOT_TPREL16_DS tt refl refl refl,
-  of_early names.R_PPC64_GOT_TPREL_PCREL34 tt refl refl refl,
-  of_early names.R_PPC64_REL24 tt refl refl refl,
-  of_offsets names.R_PPC64_TPREL16_HA tt refl refl refl,
-  of_offsets names.R_PPC64_TPREL16_LO tt refl refl refl,
-  of_offsets names.R_PPC64_TPREL16_LO_DS tt refl refl refl,
-  of_distances names.R_PPC64_TOC16_HA tt refl refl refl,
-  of_distances names.R_PPC64_TOC16_LO tt refl refl refl,
-  of_none names.R_PPC64_NONE tt refl refl refl refl,
-  of_none names.R_PPC64_PCREL34 tt refl refl refl refl,
-  of_none names.R_PPC64_TPREL34 tt refl refl refl refl,
-  of_none names.R_PPC64_TOC16 tt refl refl refl refl,
-  of_none names.R_PPC64_TOC16_DS tt refl refl refl refl,
-  of_none names.R_PPC64_TPREL16 tt refl refl refl refl,
-  of_none names.R_PPC64_TPREL16_DS tt refl refl refl refl,
+  of_name names.R_PPC64_GOT_TPREL16_HA tt (λ p. p ≡ phases.PreLayout) (inr refl) (inl refl) (inl refl),
+  of_name names.R_PPC64_GOT_TPREL16_LO_DS tt (λ p. p ≡ phases.PreLayout) (inr refl) (inl refl) (inl refl),
+  of_name names.R_PPC64_GOT_TPREL16_DS tt (λ p. p ≡ phases.PreLayout) (inr refl) (inl refl) (inl refl),
+  of_name names.R_PPC64_GOT_TPREL_PCREL34 tt (λ p. p ≡ phases.PreLayout) (inr refl) (inl refl) (inl refl),
+  of_name names.R_PPC64_REL24 tt (λ p. p ≡ phases.PreLayout) (inr refl) (inl refl) (inl refl),
+  of_name names.R_PPC64_TPREL16_HA tt (λ p. p ≡ phases.TlsLocalExec) (inl refl) (inr refl) (inl refl),
+  of_name names.R_PPC64_TPREL16_LO tt (λ p. p ≡ phases.TlsLocalExec) (inl refl) (inr refl) (inl refl),
+  of_name names.R_PPC64_TPREL16_LO_DS tt (λ p. p ≡ phases.TlsLocalExec) (inl refl) (inr refl) (inl refl),
+  of_name names.R_PPC64_TOC16_HA tt (λ p. p ≡ phases.ShortPcRel) (inl refl) (inl refl) (inr refl),
+  of_name names.R_PPC64_TOC16_LO tt (λ p. p ≡ phases.ShortPcRel) (inl refl) (inl refl) (inr refl),
+  of_none names.R_PPC64_NONE tt refl refl refl,
+  of_none names.R_PPC64_PCREL34 tt refl refl refl,
+  of_none names.R_PPC64_TPREL34 tt refl refl refl,
+  of_none names.R_PPC64_TOC16 tt refl refl refl,
+  of_none names.R_PPC64_TOC16_DS tt refl refl refl,
+  of_none names.R_PPC64_TPREL16 tt refl refl refl,
+  of_none names.R_PPC64_TPREL16_DS tt refl refl refl,
 )

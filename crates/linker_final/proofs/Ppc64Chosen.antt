@@ -1,14 +1,15 @@
 -- The rewrite that is chosen for a relocation of PowerPC64.
-use Rattle.std.proofs.Common.{◌≡◌, ℕ, ◌<◌, List, [], ◌∷◌, true, false, refl, sym, ap, subst, ◌∙◌}
-use Rattle.linker_elf.specs.Choices.{Entry}
-use Rattle.linker_elf.specs.ElfNames.{IsNamed, IsNameOf, code_of}
+use Rattle.std.proofs.Common.{◌≡◌, ℕ, ◌<◌, List, [], ◌∷◌, true, false, refl, sym, ap, subst, ◌∙◌, inl, inr}
+use Rattle.linker_elf.specs.Choices.{Entry, choice}
+use Rattle.linker_elf.specs.ElfNames.{IsNameOf, code_of}
 use Rattle.linker_elf.specs.Ppc64Relocations.{ppc64_name}
 use Rattle.linker_elf.specs.declared.elf.choice.Choice.{Choice}
+use Rattle.linker_elf.specs.declared.elf.choice.LinkFacts.{LinkFacts}
 use Rattle.linker_elf.specs.declared.ppc64.relocations.Ppc64Relocation.{Ppc64Relocation}
 use Rattle.linker_elf.specs.declared.ppc64.relocations.Ppc64Relocation.TheVariants as names
 use Rattle.linker_rewriting.proofs.Chosen.{chosen_at}
-use Rattle.linker_rewriting.proofs.Entries.{IsOfEntry as IsOfEntryIn, IsOfOne as IsOfOneIn, of_entry as of_entry_in, of_one as of_one_in}
-use Rattle.linker_final.specs.Final.{AreRewritten, Linked, count}
+use Rattle.linker_rewriting.proofs.Entries.{IsOfApplied, IsOfEntry as IsOfEntryIn, IsOfOne as IsOfOneIn, of_first}
+use Rattle.linker_final.specs.Final.{IsLinked, Linked, count}
 use Rattle.linker_utils.specs.Ppc64Rewrites.{Ppc64Applies, ppc64_entries, ppc64_matches}
 use Rattle.linker_utils.specs.declared.ppc64.rewrites.RewriteKind.{RewriteKind}
 use Rattle.linker_utils.specs.declared.ppc64.rewrites.RewriteKind.TheVariants as kinds
@@ -21,7 +22,7 @@ use Rattle.linker_rewriting.specs.declared.groups.Scope.TheVariants.{Labelled}
 use Rattle.linker_rewriting.specs.declared.phases.Phase.{Phase}
 use Rattle.linker_rewriting.specs.declared.phases.Phase.TheVariants as phases
 use Rattle.linker_section.specs.Relocations.{relocation_in}
-use Rattle.linker_utils.specs.Relaxations.{IsArchitectureChoice}
+use Rattle.linker_utils.specs.Relaxations.{IsArchitectureChoice, relaxation_no_op}
 use Rattle.linker_utils.specs.declared.architecture.Relaxation.{Relaxation}
 use Rattle.linker_utils.specs.declared.architecture.Relaxation.TheVariants as relaxations
 use Rattle.linker_elf.specs.declared.elf.architecture.Architecture.TheVariants.{Ppc64}
@@ -77,7 +78,7 @@ unlabelled_in phases.GotToPcRel name = refl
 unlabelled_in phases.ShortPcRel name = distances_unlabelled name
 
 -- PowerPC64 has no labels
-unlabelled : (phase : Phase) (code : ℕ) (scope : Scope) → IsScopeIn Ppc64 phase code scope
+pub unlabelled : (phase : Phase) (code : ℕ) (scope : Scope) → IsScopeIn Ppc64 phase code scope
     → scope ≡ Labelled → ⊥
 unlabelled phase code scope is labelled =
     let no : is_labelled scope ≡ false = ap is_labelled is.value_is ∙ unlabelled_in phase is.name in
@@ -94,39 +95,41 @@ abbrev pub IsOfOne : List (Entry RewriteKind Ppc64Relocation) → List ℕ → �
 IsOfOne es section o =
     IsOfOneIn ppc64_name relaxations.Ppc64 (λ (e : Entry RewriteKind Ppc64Relocation). ppc64_matches e.kind section o) es
 
--- a relocation that is rewritten has the name of its code
-pub named_there : (l : Linked) → AreRewritten l → l.context.architecture ≡ Ppc64 → (i : ℕ)
-    (chosen : Choice Relaxation ℕ) → i < count l → decision_at l.decisions i ≡ Rewritten chosen
-    → (name : Ppc64Relocation) → IsNamed (ppc64_name name)
-    → code_of (ppc64_name name) ≡ (relocation_in l.relocations i).code
-    → IsNameOf ppc64_name (relocation_in l.relocations i).code name
-named_there l rewriting ppc64 i chosen below decided name named code =
+-- of the relocation at an index
+pub record HasEntry (l : Linked) (i : ℕ) (chosen : Choice Relaxation ℕ) : Type 0 where
+  pub name : Ppc64Relocation
+  pub is_name : IsNameOf ppc64_name (relocation_in l.relocations i).code name
+  pub of : IsOfOne (ppc64_entries name) l.section (relocation_in l.relocations i).offset chosen
+
+module _ (section : List ℕ) (o : ℕ) (facts : LinkFacts) (chosen : Choice Relaxation ℕ)
+    (named : Choice RewriteKind Ppc64Relocation) (kind_is : chosen.kind ≡ relaxations.Ppc64 named.kind)
+    (code_is : chosen.relocation ≡ code_of (ppc64_name named.relocation)) where
+  of_applied : (es : List (Entry RewriteKind Ppc64Relocation)) → IsOfApplied (Ppc64Applies section o facts) es named
+      → IsOfOne es section o chosen
+  of_applied [] nothing = absurd nothing
+  of_applied (e ∷ es) (inl this) =
+      inl (record {
+        kind_is = kind_is ∙ ap (λ (q : Choice RewriteKind Ppc64Relocation). relaxations.Ppc64 q.kind) (this.1);
+        code_is = code_is ∙ ap (λ (q : Choice RewriteKind Ppc64Relocation). code_of (ppc64_name q.relocation)) (this.1);
+        meant = this.0.0;
+      })
+  of_applied (e ∷ es) (inr other) = inr (of_applied es other)
+
+pub has_entry : (l : Linked) → IsLinked l → l.context.architecture ≡ Ppc64 → (i : ℕ) (chosen : Choice Relaxation ℕ)
+    → i < count l → decision_at l.decisions i ≡ Rewritten chosen → HasEntry l i chosen
+has_entry l linked ppc64 i chosen below decided =
     let r = relocation_in l.relocations i in
-    let c = chosen_at l.context l.kept l.relocations l.section l.decisions (count l) i chosen rewriting.decided below decided
+    let c = chosen_at l.context l.kept l.relocations l.section l.decisions (count l) i chosen linked.decided below decided
     (λ scope is. unlabelled l.context.phase r.code scope (subst (λ x. IsScopeIn x l.context.phase r.code scope) ppc64 is)) in
-    let is = subst (λ x. IsArchitectureChoice x r.code l.section r.offset c.facts chosen) ppc64 c.is_choice in
-    subst (IsNameOf ppc64_name r.code) (is.is_name.named name named code) is.is_name
-
-module _ (l : Linked) (rewriting : AreRewritten l) (ppc64 : l.context.architecture ≡ Ppc64) (i : ℕ)
-    (chosen : Choice Relaxation ℕ) (below : i < count l)
-    (decided : decision_at l.decisions i ≡ Rewritten chosen)
-    (name : Ppc64Relocation) (named : IsNamed (ppc64_name name))
-    (is_name : IsNameOf ppc64_name (relocation_in l.relocations i).code name)
-  where
-    pub of_one : IsOfOne (ppc64_entries name) l.section (relocation_in l.relocations i).offset chosen
-    of_one =
-        let r = relocation_in l.relocations i in
-        let c = chosen_at l.context l.kept l.relocations l.section l.decisions (count l) i chosen rewriting.decided below decided
-        (λ scope is. unlabelled l.context.phase r.code scope (subst (λ x. IsScopeIn x l.context.phase r.code scope) ppc64 is)) in
-        of_one_in ppc64_name relaxations.Ppc64 (λ (e : Entry RewriteKind Ppc64Relocation). ppc64_matches e.kind l.section r.offset) chosen
-        (λ n. Ppc64Applies l.section r.offset c.facts) ppc64_entries kinds.NoOp refl r.code name named is_name
-        (λ e applies. applies.0)
-        (subst (λ x. IsArchitectureChoice x r.code l.section r.offset c.facts chosen) ppc64 c.is_choice) c.changed
-
-    -- the only one
-    pub of_entry : (e : Entry RewriteKind Ppc64Relocation) → ppc64_entries name ≡ (e ∷ [])
-        → IsOfEntry e l.section (relocation_in l.relocations i).offset chosen
-    of_entry e only =
-        of_entry_in ppc64_name relaxations.Ppc64
-        (λ (e : Entry RewriteKind Ppc64Relocation). ppc64_matches e.kind l.section (relocation_in l.relocations i).offset) chosen
-        e (ppc64_entries name) only of_one
+    let h = subst (λ x. IsArchitectureChoice x r.code l.section r.offset c.facts chosen) ppc64 c.is_choice in
+    record {
+      name = h.name;
+      is_name = h.is_name;
+      of = of_applied l.section r.offset c.facts chosen h.named h.kind_is h.code_is (ppc64_entries h.name)
+          (of_first (Ppc64Applies l.section r.offset c.facts) (ppc64_entries h.name) (choice kinds.NoOp h.name) h.named
+          (λ e. c.changed (
+            subst relaxation_no_op (sym (h.kind_is ∙ ap (λ (q : Choice RewriteKind Ppc64Relocation). relaxations.Ppc64 q.kind) e)) refl,
+            h.code_is ∙ (ap (λ (q : Choice RewriteKind Ppc64Relocation). code_of (ppc64_name q.relocation)) e ∙ h.is_name.code_is),
+          ))
+          h.is_choice);
+    }

@@ -1,32 +1,45 @@
 -- Each rewritten instruction of PowerPC64 is a group.
-use Rattle.std.proofs.Common.{◌≡◌, ℕ, Bool, ◌+◌, ◌*◌, ◌^◌, ◌<◌, ◌≤◌, List, [], ◌∷◌, length, drop, take, refl, sym, ap, subst, ◌∙◌, arith, inl, inr, Some, not, eqb}
+use Rattle.std.proofs.Common.{◌≡◌, ◌⊎◌, ℕ, Bool, ◌+◌, ◌-◌, ◌*◌, ◌^◌, ◌<◌, ◌≤◌, List, [], ◌∷◌, length, drop, take, get_or, refl, sym, ap, subst, ◌∙◌, arith, inl, inr, Some, not, eqb, IsSomeAnd, None}
 use Rattle.std.proofs.lemmas.Bool.{and_parts, cases_lt}
-use Rattle.std.proofs.lemmas.List.{get_or_past, length-drop, take-take}
+use Rattle.std.proofs.lemmas.List.{drop-drop, get_or_past, length-drop, take-take}
 use Rattle.std.proofs.lemmas.List.Elements.{All-drop, All-take, All-get_or}
 use Rattle.std.proofs.lemmas.Nat.{le_bytes_4}
-use Rattle.std.specs.Prelude.{IsTrue, ◌&&◌}
-use Rattle.std.specs.Int.{w32, to_le_bytes, byte_at}
-use Rattle.linker_base.specs.Rewrite.{replaces}
+use Rattle.std.specs.Prelude.{IsTrue, ◌&&◌, slice_get}
+use Rattle.std.specs.Int.{w32, from_le_bytes, to_le_bytes, byte_at}
+use Rattle.linker_base.specs.Rewrite.{Rewrite, replaces}
 use Rattle.linker_elf.specs.Choices.{changed_toc, entry}
+use Rattle.linker_elf.specs.ElfNames.{IsNamed, IsNameOf, code_of}
+use Rattle.linker_elf.specs.Ppc64Relocations.{ppc64_name, ppc64_row}
 use Rattle.linker_elf.specs.Value.{sum_64}
+use Rattle.linker_elf.specs.declared.elf.architecture.Architecture.TheVariants.{Ppc64}
 use Rattle.linker_elf.specs.declared.elf.choice.Choice.{Choice}
 use Rattle.linker_elf.specs.declared.ppc64.relocations.Ppc64Relocation.{Ppc64Relocation}
 use Rattle.linker_elf.specs.declared.ppc64.relocations.Ppc64Relocation.TheVariants as names
-use Rattle.linker_final.proofs.Ppc64Chosen.{IsOfEntry, of_entry, of_one}
-use Rattle.linker_final.proofs.Ppc64Written.{after_is, becomes, becomes_marked, made_after, marked_offset, test_at, test_there}
-use Rattle.linker_final.proofs.PutBack.{window_length}
-use Rattle.linker_final.proofs.Written.{first_same, second_same, stays, word_same}
-use Rattle.linker_final.specs.Final.{AreBytes, AreRewritten, Linked, count, instruction_at, two_at}
-use Rattle.linker_final.specs.Ppc64Final.{Call, CallAndToc, Kept, Marked, RewritesAreGroups, Two, Word, offset_of}
+use Rattle.linker_final.proofs.Phases.{left_within}
+use Rattle.linker_final.proofs.Ppc64Again.{of_none}
+use Rattle.linker_final.proofs.Ppc64Chosen.{IsOfEntry, IsOfOne}
+use Rattle.linker_final.proofs.Ppc64Written.{Writes, after_is, becomes, becomes_marked, call_after, distance, entry_high, entry_low, entry_prefixed, left_alone, left_beside, made_after, marked_offset, near_entry, test_at, thread, thread_high, thread_low, thread_low_after, thread_low_words, thread_prefixed, thread_words, toc, toc_high, toc_low, toc_words}
+use Rattle.linker_final.proofs.RiscVOffsets.{mapped}
+use Rattle.linker_final.proofs.PutBack.{window_byte, window_length}
+use Rattle.linker_final.proofs.Written.{are_rewritten, first_same, outside_of, second_same, spared, stays, word_front, word_same}
+use Rattle.linker_final.specs.Final.{AreBytes, AreRewritten, IsLinked, IsOutside, IsRewrittenByNoOther, IsWrittenByNoOther, Linked, UntouchedByOthers, UntouchedBytes, count, instruction_at, two_at}
+use Rattle.linker_final.specs.Ppc64Section.{AreLeftAlone, HasApplied, IsMade, IsOfNoPhase, Law, Left, Restores, applied, entry_by, law, law_of, name_of, none, of_call, shape, to_second}
+use Rattle.linker_final.specs.SectionRuns.{offset_of}
 use Rattle.linker_laws.proofs.Words.{word_below}
 use Rattle.linker_laws.specs.Ppc64Groups as groups
-use Rattle.linker_laws.specs.Ppc64Groups.{AreGroup, CallTo, Groups, IsPrefixed, LowOverBase, Rewrites, RewritesBoth, WordOverBase}
-use Rattle.linker_laws.specs.Ppc64RewriteLaws.{from_thread, from_toc, word_of}
+use Rattle.linker_laws.specs.Ppc64Groups.{AreGroup, CallTo, Code, Groups, Has, IsPrefixed, LowOverBase, Rewrites, RewritesBoth, Stands, WordOverBase}
+use Rattle.linker_laws.specs.Ppc64RewriteLaws.{IsRelocated, from_thread, from_toc, word_of}
+use Rattle.linker_base.specs.RewriteWindow.{window_of_rewrite}
 use Rattle.linker_rewriting.specs.Decisions.{decision_at}
 use Rattle.linker_rewriting.specs.declared.decisions.Decision.TheVariants.{Rewritten}
-use Rattle.linker_utils.specs.Ppc64Rewrites.{Conditions, HasTest, HasTwo, addis_of_thread, by_displacement, by_word_displacement, called_to_initial_exec, called_to_local_exec, called_to_module, direct, is_addi, is_addis_of_toc, is_add_of_thread, is_addis_over, is_call, is_indexed, is_indexed_any, is_indexed_word, is_ld, is_pla, is_pld, nop, over_base, paddi, paddi_of_thread, pld, ppc64_rewrite, registers_of, restores_toc, rewrites_call, rewrites_marked, rewrites_word, rt_of, to_distance, to_initial_exec, to_local_exec, to_local_exec_words, to_module, to_move, to_near_initial_exec, to_prefixed_initial_exec, to_prefixed_local_exec, to_toc_distance, two_words, without_high_offset, without_high_part}
+use Rattle.linker_section.specs.Relocations.{relocation_in}
+use Rattle.linker_section.specs.Values.{operands_with}
+use Rattle.linker_section.specs.declared.facts.Symbol.{Symbol}
+use Rattle.linker_section.specs.declared.relocations.Rela.{Rela}
+use Rattle.linker_utils.specs.Ppc64Rewrites.{Conditions, HasTest, HasTwo, addis_of_thread, by_displacement, by_word_displacement, called_to_initial_exec, called_to_local_exec, called_to_module, direct, is_addi, is_addis_of_toc, is_add_of_thread, is_addis_over, is_call, is_indexed, is_indexed_any, is_indexed_word, is_ld, is_pla, is_pld, nop, over_base, paddi, paddi_of_thread, pld, ppc64_entries, ppc64_matches, ppc64_rewrite, registers_of, restores_toc, rewrites_call, rewrites_marked, rewrites_word, rt_of, to_distance, to_initial_exec, to_local_exec, to_local_exec_words, to_module, to_move, to_near_initial_exec, to_prefixed_initial_exec, to_prefixed_local_exec, to_toc_distance, two_words, without_high_offset, without_high_part}
 use Rattle.linker_utils.specs.Relaxations.{relaxation_rewrite}
 use Rattle.linker_utils.specs.declared.architecture.Relaxation.{Relaxation}
+use Rattle.linker_utils.specs.declared.architecture.Relaxation.TheVariants as relaxations
 use Rattle.linker_utils.specs.declared.ppc64.rewrites.RewriteKind.{RewriteKind}
 use Rattle.linker_utils.specs.declared.ppc64.rewrites.RewriteKind.TheVariants as kinds
 
@@ -45,7 +58,7 @@ first_bytes a small =
     ∙ ap (λ x. byte_at 0 a ∷ byte_at 1 a ∷ byte_at 2 a ∷ x ∷ []) e3))
 
 -- the `bl` stays
-call_stays : (before after : List ℕ) (o : ℕ) → AreBytes before → o + 4 ≤ length before
+pub call_stays : (before after : List ℕ) (o : ℕ) → AreBytes before → o + 4 ≤ length before
     → take 8 (two_at after o) ≡ restores_toc (take 8 (two_at before o))
     → instruction_at after o ≡ instruction_at before o
 call_stays before after o small inside made =
@@ -64,62 +77,209 @@ call_stays before after o small inside made =
       | inr most ↦ subst (λ y. y < 256) (sym (get_or_past (instruction_at before o) i 0 (omega (arith, long, most)))) (omega arith)
     ]) same))
 
--- ---- one rewrite
+-- ---- words that stand
+
+one_stands : (code : ℕ → ℕ) (at : ℕ) (xs ys : List ℕ) → take 4 xs ≡ take 4 ys → Stands 1 code at xs → Stands 1 code at ys
+one_stands code at xs ys same is =
+    (is.0 ∙ (sym (word_front xs) ∙ (ap (from_le_bytes w32) same ∙ word_front ys)), is.1)
+
+two_stand : (code : ℕ → ℕ) (at : ℕ) (xs ys : List ℕ) → take 4 xs ≡ take 4 ys → take 4 (drop 4 xs) ≡ take 4 (drop 4 ys)
+    → Stands 2 code at xs → Stands 2 code at ys
+two_stand code at xs ys first second is =
+    (is.0 ∙ (sym (word_front xs) ∙ (ap (from_le_bytes w32) first ∙ word_front ys)), one_stands code (sum_64 at 4) (drop 4 xs) (drop 4 ys) second is.1)
+
+-- the second of two in bytes
+second_in : (bytes : List ℕ) (o : ℕ) → take 4 (drop 4 (two_at bytes o)) ≡ instruction_at bytes (o + 4)
+second_in bytes o = ap (take 4) (second_same bytes o) ∙ take-take 4 4 (drop (o + 4) bytes) (omega arith)
+
+-- ---- what a rewrite leaves
 
 abbrev is_load : ℕ → Bool
 is_load word = is_ld word && not (eqb (rt_of word) 0)
 
-module _ (l : Linked) (rewriting : AreRewritten l) (i : ℕ) (chosen : Choice Relaxation ℕ)
-    (below : i < count l) (decided : decision_at l.decisions i ≡ Rewritten chosen) where
+-- n words from an offset on, where the final bytes stand in new and are left alone
+abbrev pub Final : Linked → ℕ → ℕ → ℕ → Left → Type 0
+Final l i at n left =
+    AreLeftAlone left l i at (4 * n) → (c : Code) (pc : ℕ) → Stands n c.new pc (drop at l.final)
+    → (symbol : Symbol) (any : ℕ) → slice_get l.symbols (relocation_in l.relocations_after i).symbol ≡ Some symbol
+    → IsMade left l i symbol any c n pc (take (4 * n) (drop at l.rewritten))
+
+pub record IsLawful (l : Linked) (i : ℕ) (chosen : Choice Relaxation ℕ) (kind : RewriteKind) (at n : ℕ) (law : Law)
+    : Type 0 where
+  pub kind_is : chosen.kind ≡ relaxations.Ppc64 kind
+  pub code_is : chosen.relocation ≡ code_of (ppc64_name (name_of law.left))
+  pub group : IsRewrittenByNoOther l i at
+      → law.IsGroup (take (4 * n) (drop at l.section)) (take (4 * n) (drop at l.rewritten))
+  pub final : Final l i at n law.left
+  -- a byte outside stays, or no rewrite has it
+  pub others : (b : ℕ) → (b < at) ⊎ (at + 4 * n ≤ b)
+      → IsOutside l.relocations l.decisions i b ⊎ (get_or l.rewritten b 0 ≡ get_or l.section b 0)
+
+abbrev pub Lawful : Linked → ℕ → Choice Relaxation ℕ → Ppc64Relocation → Type 0
+Lawful l i chosen name =
+    (kind : RewriteKind)
+    × IsLawful l i chosen kind (shape kind (offset_of l i)).0 (shape kind (offset_of l i)).1 (law_of name kind)
+
+only : {A : Type 0} → A ⊎ ⊥ → A
+only (inl this) = this
+only (inr nothing) = absurd nothing
+
+module _ (l : Linked) (linked : IsLinked l) (ppc64 : l.context.architecture ≡ Ppc64) (i : ℕ)
+    (chosen : Choice Relaxation ℕ) (below : i < count l) (decided : decision_at l.decisions i ≡ Rewritten chosen) where
+  abbrev o : ℕ
+  o = offset_of l i
+
+  abbrev after : Rela
+  after = relocation_in l.relocations_after i
+
+  -- n words at an offset, from what is known of the relocation that is left
+  record After (n : ℕ) : Type 0 where
+    pub left : Left
+    pub final : (at : ℕ) → at + 4 * n ≤ length l.section → after.offset ≡ at
+        → after.code ≡ code_of (ppc64_name (name_of left)) → Final l i at n left
+
+  unwritten : (start len p : ℕ) → start ≤ p → p + 4 ≤ start + len → UntouchedByOthers l i start len
+      → IsWrittenByNoOther l i p
+  unwritten start len p low high alone j at lj isnt from less row field =
+      (alone.others j at lj isnt (omega (arith, low, from)) (omega (arith, high, less))).1 row field
+
+  -- without a relocation
+  left_word : (start len p : ℕ) → start ≤ p → p + 4 ≤ start + len → p + 4 ≤ length l.section → after.code ≡ 0
+      → UntouchedByOthers l i start len → instruction_at l.final p ≡ instruction_at l.rewritten p
+  left_word start len p low high inside gone alone =
+      left_alone l linked ppc64 i below gone p (left_within l i start len p 4 low high alone.left) inside
+      (unwritten start len p low high alone)
+
+  one_left : (at : ℕ) → at + 4 ≤ length l.section → after.code ≡ 0 → Final l i at 1 none
+  one_left at inside gone alone c pc stands symbol any is_symbol =
+      one_stands c.new pc (drop at l.final) (instruction_at l.rewritten at)
+      (left_word at 4 at (omega arith) (omega arith) inside gone alone
+      ∙ sym (take-take 4 4 (drop at l.rewritten) (omega arith))) stands
+
+  two_left : (at : ℕ) → at + 8 ≤ length l.section → after.code ≡ 0 → Final l i at 2 none
+  two_left at inside gone alone c pc stands symbol any is_symbol =
+      two_stand c.new pc (drop at l.final) (two_at l.rewritten at)
+      (left_word at 8 at (omega arith) (omega arith) (omega (arith, inside)) gone alone
+      ∙ sym (take-take 4 8 (drop at l.rewritten) (omega arith)))
+      (ap (take 4) (drop-drop 4 at l.final)
+      ∙ (left_word at 8 (at + 4) (omega arith) (omega arith) (omega (arith, inside)) gone alone
+      ∙ sym (second_in l.rewritten at))) stands
+
+  -- with one of a name, to m bytes
+  applied_left : (n m : ℕ) (name : Ppc64Relocation) → Writes m (entry_by name) name → (at : ℕ) → after.offset ≡ at
+      → after.code ≡ code_of (ppc64_name name) → UntouchedBytes l i at m → (c : Code) (pc : ℕ)
+      → Stands n c.new pc (take m (drop at l.final)) → (symbol : Symbol) (any : ℕ)
+      → slice_get l.symbols after.symbol ≡ Some symbol
+      → IsSomeAnd (ppc64_row name) (λ row. Has n c.new pc name (operands_with Ppc64 l.addresses row symbol after (entry_by name symbol any)) (take m (drop at l.rewritten)))
+  applied_left n m name writes at offset code left c pc stands symbol any is_symbol =
+      mapped (λ row has.
+      record {
+        relocated = take m (drop at l.final);
+        applied = subst (λ p. IsRelocated name (operands_with Ppc64 l.addresses row symbol after (entry_by name symbol any)) (take m (drop p l.rewritten)) (take m (drop p l.final))) offset
+            (has symbol any is_symbol);
+        stands = stands;
+      })
+      (ppc64_row name) (writes l linked ppc64 i below code (subst (λ p. UntouchedBytes l i p m) (sym offset) left))
+
+  abbrev gone : After 1
+  gone = record { left = none; final = λ at inside offset code. one_left at inside code }
+
+  abbrev both_gone : After 2
+  both_gone =
+      record { left = none; final = λ at inside offset code. two_left at inside code }
+
+  abbrev named : (name : Ppc64Relocation) → Writes 4 (entry_by name) name → After 1
+  named name writes =
+      record {
+        left = applied name;
+        final = λ at inside offset code alone c pc stands.
+            applied_left 1 4 name writes at offset code alone c pc
+            (one_stands c.new pc (drop at l.final) (instruction_at l.final at) (sym (take-take 4 4 (drop at l.final) (omega arith))) stands);
+      }
+
+  abbrev both_named : (name : Ppc64Relocation) → Writes 8 (entry_by name) name → After 2
+  both_named name writes =
+      record {
+        left = applied name;
+        final = λ at inside offset code alone c pc stands.
+            applied_left 2 8 name writes at offset code alone c pc
+            (two_stand c.new pc (drop at l.final) (two_at l.final at) (sym (take-take 4 8 (drop at l.final) (omega arith)))
+            (ap (take 4) (drop-drop 4 at l.final) ∙ sym (second_in l.final at)) stands);
+      }
+
+  -- ---- bytes that it leaves
+
+  -- no byte outside is of the rewrite
+  others_at : (kind : RewriteKind) → chosen.kind ≡ relaxations.Ppc64 kind → (made : Rewrite) → ppc64_rewrite kind ≡ Some made
+      → made.back ≡ 0 → (b : ℕ) → (b < o) ⊎ (o + made.len ≤ b) → IsOutside l.relocations l.decisions i b
+  others_at kind kind_is made is back b apart =
+      outside_of l i chosen (Some made) decided (ap relaxation_rewrite kind_is ∙ is) b (elim apart [
+        | inl before ↦ inl (omega (arith, before, back))
+        | inr past ↦ inr (omega (arith, past, back))
+      ])
+
+  -- ---- one rewrite
+
+  abbrev rewriting : AreRewritten l
+  rewriting = are_rewritten l linked
+
   -- of a word
-  word : (kind : RewriteKind) (name : Ppc64Relocation) (conditions : Conditions) (test : ℕ → Bool) (AreSo : AreGroup)
+  word : (kind : RewriteKind) (a : After 1) (conditions : Conditions) (test : ℕ → Bool) (AreSo : AreGroup)
       → Rewrites test kind AreSo → (new : ℕ → ℕ) → ppc64_rewrite kind ≡ Some (rewrites_word new)
-      → IsOfEntry (entry kind name conditions) l.section (offset_of l i) chosen → offset_of l i + 4 ≤ length l.section
-      → IsTrue (test (word_of (instruction_at l.section (offset_of l i)))) → Word kind name AreSo l i chosen
-  word kind name conditions test AreSo law new is by inside tested =
+      → (ppc64_matches kind l.section o
+      → (o + 4 ≤ length l.section) × IsTrue (test (word_of (instruction_at l.section o))))
+      → IsOfEntry (entry kind (name_of a.left) conditions) l.section o chosen → IsLawful l i chosen kind o 1 (law a.left AreSo)
+  word kind a conditions test AreSo so new is meant by =
+      let there = meant by.meant in
+      let left = made_after l rewriting i chosen below decided kind by.kind_is (name_of a.left) by.code_is (rewrites_word new) is in
       record {
         kind_is = by.kind_is;
-        after_is = made_after l rewriting i chosen below decided kind by.kind_is name by.code_is (rewrites_word new) is;
-        inside = inside;
-        group = law (instruction_at l.section (offset_of l i)) (instruction_at l.rewritten (offset_of l i)) tested
+        code_is = by.code_is;
+        group = λ alone.
+            so (instruction_at l.section o) (instruction_at l.rewritten o) (there.1)
             (becomes l rewriting i chosen below decided kind by.kind_is (rewrites_word new) is refl);
+        final = a.final o (there.0) (ap (λ (r : Rela). r.offset) left) (ap (λ (r : Rela). r.code) left);
+        others = λ b apart. inl (others_at kind by.kind_is (rewrites_word new) is refl b apart);
       }
 
   -- of one of a sort
-  of_sort : (kind : RewriteKind) (name : Ppc64Relocation) (conditions : Conditions) (test : ℕ → Bool) (AreSo : AreGroup)
+  of_sort : (kind : RewriteKind) (a : After 1) (conditions : Conditions) (test : ℕ → Bool) (AreSo : AreGroup)
       → Rewrites test kind AreSo → (new : ℕ → ℕ) → ppc64_rewrite kind ≡ Some (rewrites_word new)
-      → IsOfEntry (entry kind name conditions) l.section (offset_of l i) chosen → HasTest test l.section (offset_of l i)
-      → Word kind name AreSo l i chosen
-  of_sort kind name conditions test AreSo law new is by meant =
-      word kind name conditions test AreSo law new is by (meant.0) (test_there l i test meant)
+      → (ppc64_matches kind l.section o → HasTest test l.section o)
+      → IsOfEntry (entry kind (name_of a.left) conditions) l.section o chosen → IsLawful l i chosen kind o 1 (law a.left AreSo)
+  of_sort kind a conditions test AreSo so new is meant =
+      word kind a conditions test AreSo so new is (λ m. ((meant m).0, test_at l o test (meant m)))
 
-  load : (conditions : Conditions) (AreSo : AreGroup) → Rewrites is_ld kinds.LdToAddisThread AreSo
-      → IsOfEntry (entry kinds.LdToAddisThread names.R_PPC64_TPREL16_HA conditions) l.section (offset_of l i) chosen
-      → Word kinds.LdToAddisThread names.R_PPC64_TPREL16_HA AreSo l i chosen
-  load conditions AreSo law by =
-      let w = word_of (instruction_at l.section (offset_of l i)) in
-      word kinds.LdToAddisThread names.R_PPC64_TPREL16_HA conditions is_ld AreSo law (λ word. addis_of_thread (rt_of word)) refl by
-      (by.meant.0) (and_parts (is_ld w) (not (eqb (rt_of w) 0)) (test_there l i is_load by.meant)).0
+  load : (AreSo : AreGroup) → Rewrites is_ld kinds.LdToAddisThread AreSo
+      → IsOfEntry (entry kinds.LdToAddisThread names.R_PPC64_TPREL16_HA to_local_exec) l.section o chosen
+      → IsLawful l i chosen kinds.LdToAddisThread o 1 (law (applied names.R_PPC64_TPREL16_HA) AreSo)
+  load AreSo so =
+      let w = word_of (instruction_at l.section o) in
+      word kinds.LdToAddisThread (named names.R_PPC64_TPREL16_HA thread_high) to_local_exec is_ld AreSo so
+      (λ word. addis_of_thread (rt_of word)) refl
+      (λ m. (m.0, (and_parts (is_ld w) (not (eqb (rt_of w) 0)) (test_at l o is_load m)).0))
 
-  kept : (name : Ppc64Relocation) (conditions : Conditions) (AreSo : AreGroup) → groups.Stays AreSo
-      → IsOfEntry (entry kinds.KeepAddis name conditions) l.section (offset_of l i) chosen → Kept name AreSo l i chosen
-  kept name conditions AreSo law by =
-      let before = instruction_at l.section (offset_of l i) in
+  kept : (a : After 1) (conditions : Conditions) (AreSo : AreGroup) → groups.Stays AreSo
+      → IsOfEntry (entry kinds.KeepAddis (name_of a.left) conditions) l.section o chosen
+      → IsLawful l i chosen kinds.KeepAddis o 1 (law a.left AreSo)
+  kept a conditions AreSo so by =
+      let before = instruction_at l.section o in
+      let left = after_is l rewriting i chosen below decided kinds.KeepAddis by.kind_is (name_of a.left) by.code_is in
+      let none_is : relaxation_rewrite chosen.kind ≡ None = ap relaxation_rewrite by.kind_is in
       record {
         kind_is = by.kind_is;
-        after_is = after_is l rewriting i chosen below decided kinds.KeepAddis by.kind_is name by.code_is;
-        inside = by.meant.0;
+        code_is = by.code_is;
         group = λ alone.
-            subst (AreSo before)
-            (sym (stays l rewriting i chosen below decided (ap relaxation_rewrite by.kind_is) alone (by.meant.0)))
-            (law before (test_there l i is_addis_of_toc by.meant) refl);
+            subst (AreSo before) (sym (stays l rewriting i chosen below decided none_is alone (by.meant.0)))
+            (so before (test_at l o is_addis_of_toc by.meant) refl);
+        final = a.final o (by.meant.0) (ap (λ (r : Rela). r.offset) left) (ap (λ (r : Rela). r.code) left);
+        others = λ b apart. inl (spared l i (Rewritten chosen) decided (ap window_of_rewrite none_is) b);
       }
 
   -- two words
-  both : (test : ℕ → ℕ → Bool) → AreBytes l.section → HasTwo test l.section (offset_of l i)
-      → IsPrefixed test (two_at l.section (offset_of l i))
-  both test bytes meant =
-      let p = offset_of l i in
+  both : (test : ℕ → ℕ → Bool) → HasTwo test l.section o → IsPrefixed test (two_at l.section o)
+  both test meant =
+      let p = o in
       let inside = meant.0 in
       let following = meant.1.0 in
       let first : word_of (two_at l.section p) ≡ word_of (drop p l.section) =
@@ -129,9 +289,9 @@ module _ (l : Linked) (rewriting : AreRewritten l) (i : ℕ) (chosen : Choice Re
       let d1 = length-drop p l.section in
       let d2 = length-drop (p + 4) l.section in
       let small1 : word_of (drop p l.section) < 2 ^ 32 =
-      word_below (drop p l.section) (All-drop (λ b. b < 2 ^ 8) p l.section bytes) (omega (arith, inside, d1)) in
+      word_below (drop p l.section) (All-drop (λ b. b < 2 ^ 8) p l.section linked.section_bytes) (omega (arith, inside, d1)) in
       let small2 : word_of (drop (p + 4) l.section) < 2 ^ 32 =
-      word_below (drop (p + 4) l.section) (All-drop (λ b. b < 2 ^ 8) (p + 4) l.section bytes) (omega (arith, following, d2)) in
+      word_below (drop (p + 4) l.section) (All-drop (λ b. b < 2 ^ 8) (p + 4) l.section linked.section_bytes) (omega (arith, following, d2)) in
       record {
         prefix_below = omega (arith, first, small1);
         word_below = omega (arith, second, small2);
@@ -140,174 +300,193 @@ module _ (l : Linked) (rewriting : AreRewritten l) (i : ℕ) (chosen : Choice Re
       }
 
   -- of 8 bytes, by the rewrite of these
-  of_two : (kind : RewriteKind) (name : Ppc64Relocation) (conditions : Conditions) (test : ℕ → ℕ → Bool) (AreSo : AreGroup)
+  of_two : (kind : RewriteKind) (a : After 2) (conditions : Conditions) (test : ℕ → ℕ → Bool) (AreSo : AreGroup)
       → RewritesBoth test kind AreSo → (bytes : List ℕ → List ℕ) → ppc64_rewrite kind ≡ Some (replaces 0 8 bytes)
-      → IsOfEntry (entry kind name conditions) l.section (offset_of l i) chosen → HasTwo test l.section (offset_of l i)
-      → Two kind name AreSo l i chosen
-  of_two kind name conditions test AreSo law bytes is by meant =
-      let following = meant.1.0 in
+      → (ppc64_matches kind l.section o → HasTwo test l.section o)
+      → IsOfEntry (entry kind (name_of a.left) conditions) l.section o chosen → IsLawful l i chosen kind o 2 (law a.left AreSo)
+  of_two kind a conditions test AreSo so bytes is meant by =
+      let there = meant by.meant in
+      let following = there.1.0 in
+      let left = made_after l rewriting i chosen below decided kind by.kind_is (name_of a.left) by.code_is (replaces 0 8 bytes) is in
       record {
         kind_is = by.kind_is;
-        after_is = made_after l rewriting i chosen below decided kind by.kind_is name by.code_is (replaces 0 8 bytes) is;
-        inside = omega (arith, following);
-        group = λ small.
-            law (two_at l.section (offset_of l i)) (two_at l.rewritten (offset_of l i)) (both test small meant)
+        code_is = by.code_is;
+        group = λ alone.
+            so (two_at l.section o) (two_at l.rewritten o) (both test there)
             (becomes l rewriting i chosen below decided kind by.kind_is (replaces 0 8 bytes) is refl);
+        final = a.final o (omega (arith, following)) (ap (λ (r : Rela). r.offset) left) (ap (λ (r : Rela). r.code) left);
+        others = λ b apart. inl (others_at kind by.kind_is (replaces 0 8 bytes) is refl b apart);
       }
 
   -- of a call and what follows it
-  call : (kind : RewriteKind) (name : Ppc64Relocation) (conditions : Conditions) (AreSo : AreGroup)
+  call : (kind : RewriteKind) (left : Left) (conditions : Conditions) (AreSo : AreGroup)
       → Rewrites groups.is_any kind AreSo → (new : ℕ) → ppc64_rewrite kind ≡ Some (rewrites_call new)
-      → IsOfEntry (entry kind name conditions) l.section (offset_of l i) chosen → HasTwo is_call l.section (offset_of l i)
-      → Call kind name AreSo l i chosen
-  call kind name conditions AreSo law new is by meant =
-      let following = meant.1.0 in
+      → (o + 8 ≤ length l.section → after.offset ≡ o + 4 → after.code ≡ code_of (ppc64_name (name_of left)) → Final l i o 2 left)
+      → (ppc64_matches kind l.section o → HasTwo is_call l.section o)
+      → IsOfEntry (entry kind (name_of left) conditions) l.section o chosen → IsLawful l i chosen kind o 2 (law left AreSo)
+  call kind left conditions AreSo so new is final meant by =
+      let following = (meant by.meant).1.0 in
+      let made = made_after l rewriting i chosen below decided kind by.kind_is (name_of left) by.code_is (rewrites_call new) is in
       record {
         kind_is = by.kind_is;
-        after_is = made_after l rewriting i chosen below decided kind by.kind_is name by.code_is (rewrites_call new) is;
-        inside = omega (arith, following);
-        group = law (two_at l.section (offset_of l i)) (two_at l.rewritten (offset_of l i)) refl
+        code_is = by.code_is;
+        group = λ alone.
+            so (two_at l.section o) (two_at l.rewritten o) refl
             (becomes l rewriting i chosen below decided kind by.kind_is (rewrites_call new) is refl);
+        final = final (omega (arith, following)) (ap (λ (r : Rela). r.offset) made) (ap (λ (r : Rela). r.code) made);
+        others = λ b apart. inl (others_at kind by.kind_is (rewrites_call new) is refl b apart);
       }
+
+  -- the low half in its second word
+  low_half : o + 8 ≤ length l.section → after.offset ≡ o + 4 → after.code ≡ code_of (ppc64_name names.R_PPC64_TPREL16_LO)
+      → Final l i o 2 (to_second names.R_PPC64_TPREL16_LO)
+  low_half inside offset code alone c pc stands symbol any is_symbol = (
+    one_stands c.new pc (drop o l.final) (two_at l.rewritten o)
+        (left_beside l linked ppc64 i below names.R_PPC64_TPREL16_LO thread_low_after code o
+        (left_within l i o 8 o 4 (omega arith) (omega arith) alone.left) (omega (arith, inside)) (inl (omega (arith, offset)))
+        (unwritten o 8 o (omega arith) (omega arith) alone)
+        ∙ sym (take-take 4 8 (drop o l.rewritten) (omega arith))) (stands.0, tt),
+    subst (λ words. HasApplied names.R_PPC64_TPREL16_LO l i symbol any c 1 (sum_64 pc 4) words) (sym (second_same l.rewritten o))
+        (applied_left 1 4 names.R_PPC64_TPREL16_LO thread_low (o + 4) offset code
+        (left_within l i o 8 (o + 4) 4 (omega arith) (omega arith) alone.left) c (sum_64 pc 4)
+        (one_stands c.new (sum_64 pc 4) (drop 4 (drop o l.final)) (instruction_at l.final (o + 4))
+        (ap (take 4) (drop-drop 4 o l.final) ∙ sym (take-take 4 4 (drop (o + 4) l.final) (omega arith))) (stands.1))
+        symbol any is_symbol),
+  )
 
   -- of an instruction that begins before its mark
-  marked : (kind : RewriteKind) (conditions : Conditions) (test : ℕ → Bool) (AreSo : AreGroup) → Rewrites test kind AreSo
+  marked : (kind : RewriteKind) (test : ℕ → Bool) (AreSo : AreGroup) → Rewrites test kind AreSo
       → (new : ℕ → ℕ) → ppc64_rewrite kind ≡ Some (rewrites_marked new)
-      → IsOfEntry (entry kind names.R_PPC64_NONE conditions) l.section (offset_of l i) chosen
-      → HasTest test l.section (marked_offset l i) → Marked kind AreSo l i chosen
-  marked kind conditions test AreSo law new is by meant =
+      → (ppc64_matches kind l.section o → HasTest test l.section (marked_offset l i))
+      → IsOfEntry (entry kind names.R_PPC64_NONE to_prefixed_local_exec) l.section o chosen
+      → IsLawful l i chosen kind (o - 1) 1 (law none AreSo)
+  marked kind test AreSo so new is meant by =
+      let there = meant by.meant in
+      let left = made_after l rewriting i chosen below decided kind by.kind_is names.R_PPC64_NONE by.code_is (rewrites_marked new) is in
       record {
         kind_is = by.kind_is;
-        after_is = made_after l rewriting i chosen below decided kind by.kind_is names.R_PPC64_NONE by.code_is (rewrites_marked new) is;
-        inside = meant.0;
-        group = law (instruction_at l.section (marked_offset l i)) (instruction_at l.rewritten (marked_offset l i))
-            (test_at l (marked_offset l i) test meant) (becomes_marked l rewriting i chosen below decided kind by.kind_is new is);
+        code_is = by.code_is;
+        group = λ alone.
+            so (instruction_at l.section (marked_offset l i)) (instruction_at l.rewritten (marked_offset l i))
+            (test_at l (marked_offset l i) test there) (becomes_marked l rewriting i chosen below decided kind by.kind_is new is);
+        final = one_left (o - 1) (there.0) (ap (λ (r : Rela). r.code) left);
+        others = λ b apart. inl (outside_of l i chosen (Some (rewrites_marked new)) decided (ap relaxation_rewrite by.kind_is ∙ is) b apart);
       }
 
-  -- a call that may change the TOC pointer
-  and_call : Groups → IsOfEntry (entry kinds.NopToRestoreToc names.R_PPC64_REL24 (changed_toc ∷ [])) l.section (offset_of l i) chosen
-      → Two kinds.NopToRestoreToc names.R_PPC64_REL24 CallAndToc l i chosen
-  and_call laws by =
-      let p = offset_of l i in
-      let of = of_two kinds.NopToRestoreToc names.R_PPC64_REL24 (changed_toc ∷ []) is_call groups.RestoresToc laws.toc restores_toc
-      refl by by.meant in
+  -- of the `nop` after a call that may change the TOC pointer
+  restores : RewritesBoth is_call kinds.NopToRestoreToc groups.RestoresToc
+      → IsOfEntry (entry kinds.NopToRestoreToc names.R_PPC64_REL24 (changed_toc ∷ [])) l.section o chosen
+      → IsLawful l i chosen kinds.NopToRestoreToc (o + 4) 1 (law of_call Restores)
+  restores so by =
+      let following = by.meant.1.0 in
+      let left = made_after l rewriting i chosen below decided kinds.NopToRestoreToc by.kind_is names.R_PPC64_REL24 by.code_is (replaces 0 8 restores_toc) refl in
+      let offset = ap (λ (r : Rela). r.offset) left in
+      let made = becomes l rewriting i chosen below decided kinds.NopToRestoreToc by.kind_is (replaces 0 8 restores_toc) refl refl in
+      let apart = others_at kinds.NopToRestoreToc by.kind_is (replaces 0 8 restores_toc) refl refl in
       record {
-        kind_is = of.kind_is;
-        after_is = of.after_is;
-        inside = of.inside;
-        group = λ small. (
-          take-take 4 8 (drop p l.rewritten) (omega arith)
-              ∙ call_stays l.section l.rewritten p small (by.meant.0)
-              (becomes l rewriting i chosen below decided kinds.NopToRestoreToc by.kind_is (replaces 0 8 restores_toc) refl refl)
-              ∙ sym (take-take 4 8 (drop p l.section) (omega arith)),
-          of.group small,
-        );
+        kind_is = by.kind_is;
+        code_is = by.code_is;
+        group = λ alone call restored same same_after c k s old new.
+            so (two_at l.section o) (two_at l.rewritten o) (both is_call by.meant) made c k s
+            (subst (Stands 1 c.old s.pc) (same ∙ sym (second_same l.section o)) old)
+            (subst (Stands 1 c.new s.pc) (same_after ∙ sym (second_same l.rewritten o)) new);
+        final = λ alone c pc stands symbol any is_symbol.
+            one_stands c.new pc (drop (o + 4) l.final) (instruction_at l.rewritten (o + 4))
+            (left_beside l linked ppc64 i below names.R_PPC64_REL24 call_after (ap (λ (r : Rela). r.code) left) (o + 4)
+            alone.left (omega (arith, following)) (inr (omega (arith, offset)))
+            (unwritten (o + 4) 4 (o + 4) (omega arith) (omega arith) alone)
+            ∙ sym (take-take 4 4 (drop (o + 4) l.rewritten) (omega arith))) stands;
+        others = λ b outside. elim outside [
+          | inl before ↦ elim (cases_lt b o) [
+            | inl ahead ↦ inl (apart b (inl ahead))
+            | inr from ↦ inr (sym (window_byte o 4 b l.rewritten from before)
+                ∙ (ap (λ xs. get_or xs (b - o) 0) (call_stays l.section l.rewritten o linked.section_bytes (by.meant.0) made)
+                ∙ window_byte o 4 b l.section from before))
+          ]
+          | inr past ↦ inl (apart b (inr (omega (arith, past))))
+        ];
       }
 
--- ---- the theorem
+  -- ---- by the name
 
-pub rewrites_are_groups : Groups → RewritesAreGroups
-rewrites_are_groups laws =
-    record {
-      calls = λ l rewriting ppc64 i chosen below is_name decided.
-          let by = of_entry l rewriting ppc64 i chosen below decided names.R_PPC64_REL24 tt is_name (entry kinds.NopToRestoreToc names.R_PPC64_REL24 (changed_toc ∷ [])) refl in
-          and_call l rewriting i chosen below decided laws by;
-      toc_highs = λ l rewriting ppc64 i chosen below is_name decided.
-          let by = of_entry l rewriting ppc64 i chosen below decided names.R_PPC64_TOC16_HA tt is_name (entry kinds.AddisToNop names.R_PPC64_NONE without_high_part) refl in
-          of_sort l rewriting i chosen below decided kinds.AddisToNop names.R_PPC64_NONE without_high_part (is_addis_over 2) groups.TocHigh (laws.high_halves.0) (λ _. nop) refl by (by.meant);
-      toc_lows = λ l rewriting ppc64 i chosen below is_name decided.
-          let by = of_entry l rewriting ppc64 i chosen below decided names.R_PPC64_TOC16_LO tt is_name (entry kinds.BaseToToc names.R_PPC64_TOC16 without_high_part) refl in
-          word l rewriting i chosen below decided kinds.BaseToToc names.R_PPC64_TOC16 without_high_part groups.is_any (LowOverBase 2 names.R_PPC64_TOC16_LO names.R_PPC64_TOC16 from_toc) (laws.low_halves.0) (over_base 2) refl by (by.meant.0) refl;
-      toc_words = λ l rewriting ppc64 i chosen below is_name decided.
-          let by = of_entry l rewriting ppc64 i chosen below decided names.R_PPC64_TOC16_LO_DS tt is_name (entry kinds.BaseToToc names.R_PPC64_TOC16_DS without_high_part) refl in
-          word l rewriting i chosen below decided kinds.BaseToToc names.R_PPC64_TOC16_DS without_high_part groups.is_any (WordOverBase 2 names.R_PPC64_TOC16_LO_DS names.R_PPC64_TOC16_DS from_toc) (laws.low_halves.1) (over_base 2) refl by (by.meant.0) refl;
-      thread_highs = λ l rewriting ppc64 i chosen below is_name decided.
-          let by = of_entry l rewriting ppc64 i chosen below decided names.R_PPC64_TPREL16_HA tt is_name (entry kinds.AddisThreadToNop names.R_PPC64_NONE without_high_offset) refl in
-          of_sort l rewriting i chosen below decided kinds.AddisThreadToNop names.R_PPC64_NONE without_high_offset (is_addis_over 13) groups.ThreadHigh (laws.high_halves.1) (λ _. nop) refl by (by.meant);
-      thread_lows = λ l rewriting ppc64 i chosen below is_name decided.
-          let by = of_entry l rewriting ppc64 i chosen below decided names.R_PPC64_TPREL16_LO tt is_name (entry kinds.BaseToThread names.R_PPC64_TPREL16 without_high_offset) refl in
-          word l rewriting i chosen below decided kinds.BaseToThread names.R_PPC64_TPREL16 without_high_offset groups.is_any (LowOverBase 13 names.R_PPC64_TPREL16_LO names.R_PPC64_TPREL16 from_thread) (laws.low_halves.2) (over_base 13) refl by (by.meant.0) refl;
-      thread_words = λ l rewriting ppc64 i chosen below is_name decided.
-          let by = of_entry l rewriting ppc64 i chosen below decided names.R_PPC64_TPREL16_LO_DS tt is_name (entry kinds.BaseToThread names.R_PPC64_TPREL16_DS without_high_offset) refl in
-          word l rewriting i chosen below decided kinds.BaseToThread names.R_PPC64_TPREL16_DS without_high_offset groups.is_any (WordOverBase 13 names.R_PPC64_TPREL16_LO_DS names.R_PPC64_TPREL16_DS from_thread) (laws.low_halves.3) (over_base 13) refl by (by.meant.0) refl;
-      prefixed_loads = λ l rewriting ppc64 i chosen below is_name decided.
-          let by = of_entry l rewriting ppc64 i chosen below decided names.R_PPC64_GOT_PCREL34 tt is_name (entry kinds.PldToPaddi names.R_PPC64_PCREL34 to_distance) refl in
-          of_two l rewriting i chosen below decided kinds.PldToPaddi names.R_PPC64_PCREL34 to_distance is_pld groups.PldToPaddi laws.prefixed paddi refl by by.meant;
-      address_highs = λ l rewriting ppc64 i chosen below is_name decided.
-          let by = of_entry l rewriting ppc64 i chosen below decided names.R_PPC64_GOT16_HA tt is_name (entry kinds.KeepAddis names.R_PPC64_TOC16_HA to_toc_distance) refl in
-          kept l rewriting i chosen below decided names.R_PPC64_TOC16_HA to_toc_distance groups.AddressHigh (laws.kept_high_halves.0) by;
-      loads = λ l rewriting ppc64 i chosen below is_name decided.
-          let by = of_entry l rewriting ppc64 i chosen below decided names.R_PPC64_GOT16_LO_DS tt is_name (entry kinds.LdToAddi names.R_PPC64_TOC16_LO to_toc_distance) refl in
-          of_sort l rewriting i chosen below decided kinds.LdToAddi names.R_PPC64_TOC16_LO to_toc_distance is_ld groups.LoadToSum laws.loads (λ word. 0x38000000 + registers_of word) refl by (by.meant);
-      offset_highs = λ l rewriting ppc64 i chosen below is_name decided.
-          let by = of_entry l rewriting ppc64 i chosen below decided names.R_PPC64_GOT_TPREL16_HA tt is_name (entry kinds.AddisToNop names.R_PPC64_NONE to_local_exec) refl in
-          of_sort l rewriting i chosen below decided kinds.AddisToNop names.R_PPC64_NONE to_local_exec (is_addis_over 2) groups.OffsetHigh (laws.high_halves.2) (λ _. nop) refl by (by.meant);
-      offsets = λ l rewriting ppc64 i chosen below is_name decided.
-          let by = of_entry l rewriting ppc64 i chosen below decided names.R_PPC64_GOT_TPREL16_LO_DS tt is_name (entry kinds.LdToAddisThread names.R_PPC64_TPREL16_HA to_local_exec) refl in
-          load l rewriting i chosen below decided to_local_exec (groups.OffsetToHighHalf names.R_PPC64_GOT_TPREL16_LO_DS) laws.offsets by;
-      near_offsets = λ l rewriting ppc64 i chosen below is_name decided.
-          let by = of_entry l rewriting ppc64 i chosen below decided names.R_PPC64_GOT_TPREL16_DS tt is_name (entry kinds.LdToAddisThread names.R_PPC64_TPREL16_HA to_local_exec) refl in
-          load l rewriting i chosen below decided to_local_exec (groups.OffsetToHighHalf names.R_PPC64_GOT_TPREL16_DS) laws.near_offsets by;
-      prefixed_offsets = λ l rewriting ppc64 i chosen below is_name decided.
-          let by = of_entry l rewriting ppc64 i chosen below decided names.R_PPC64_GOT_TPREL_PCREL34 tt is_name (entry kinds.PldToPaddiThread names.R_PPC64_TPREL34 to_prefixed_local_exec) refl in
-          of_two l rewriting i chosen below decided kinds.PldToPaddiThread names.R_PPC64_TPREL34 to_prefixed_local_exec is_pld groups.LoadToVariable (laws.variables.1) (paddi_of_thread 0) refl by by.meant;
-      over_offsets = λ l rewriting ppc64 i chosen below is_name decided.
-          elim (of_one l rewriting ppc64 i chosen below decided names.R_PPC64_TLS tt is_name) [
-            | inl by ↦ inl (of_sort l rewriting i chosen below decided kinds.AddToAddi names.R_PPC64_TPREL16_LO to_local_exec is_add_of_thread groups.AddOverOffset (laws.low_offsets.0) (λ word. 0x38000000 + registers_of word) refl by (by.meant.1))
-            | inr (inl by) ↦ inr (inl (of_sort l rewriting i chosen below decided kinds.IndexedToD names.R_PPC64_TPREL16_LO to_local_exec is_indexed groups.AccessOverOffset (laws.low_offsets.1) by_displacement refl by (by.meant.1)))
-            | inr (inr (inl by)) ↦ inr (inr (inl (of_sort l rewriting i chosen below decided kinds.IndexedToDs names.R_PPC64_TPREL16_LO_DS to_local_exec_words is_indexed_word groups.WordOverOffset (laws.low_offsets.2) by_word_displacement refl by (by.meant.1))))
-            | inr (inr (inr (inl by))) ↦ inr (inr (inr (inl (marked l rewriting i chosen below decided kinds.AddToMove to_prefixed_local_exec is_add_of_thread groups.SumOverVariable (laws.variable_sums.0) to_move refl by (by.meant.1)))))
-            | inr (inr (inr (inr (inl by)))) ↦ inr (inr (inr (inr ((marked l rewriting i chosen below decided kinds.IndexedToDirect to_prefixed_local_exec is_indexed_any groups.AccessOverVariable (laws.variable_sums.1) direct refl by (by.meant.1))))))
-            | inr (inr (inr (inr (inr nothing)))) ↦ absurd nothing
-          ];
-      general_highs = λ l rewriting ppc64 i chosen below is_name decided.
-          elim (of_one l rewriting ppc64 i chosen below decided names.R_PPC64_GOT_TLSGD16_HA tt is_name) [
-            | inl by ↦ inl (of_sort l rewriting i chosen below decided kinds.AddisToNop names.R_PPC64_NONE to_local_exec (is_addis_over 2) groups.GeneralHigh (laws.high_halves.3) (λ _. nop) refl by (by.meant))
-            | inr (inl by) ↦ inr ((kept l rewriting i chosen below decided names.R_PPC64_GOT_TPREL16_HA to_initial_exec groups.EntryHigh (laws.kept_high_halves.1) by))
-            | inr (inr nothing) ↦ absurd nothing
-          ];
-      arguments = λ l rewriting ppc64 i chosen below is_name decided.
-          elim (of_one l rewriting ppc64 i chosen below decided names.R_PPC64_GOT_TLSGD16_LO tt is_name) [
-            | inl by ↦ inl (of_sort l rewriting i chosen below decided kinds.AddiToAddisThread names.R_PPC64_TPREL16_HA to_local_exec is_addi (groups.ArgumentToHighHalf names.R_PPC64_GOT_TLSGD16_LO) laws.arguments (λ word. addis_of_thread (rt_of word)) refl by (by.meant))
-            | inr (inl by) ↦ inr ((of_sort l rewriting i chosen below decided kinds.AddiToLd names.R_PPC64_GOT_TPREL16_LO_DS to_initial_exec is_addi (groups.ArgumentToOffset names.R_PPC64_GOT_TLSGD16_LO names.R_PPC64_GOT_TPREL16_LO_DS) laws.argument_offsets (λ word. 0xe8000000 + registers_of word) refl by (by.meant)))
-            | inr (inr nothing) ↦ absurd nothing
-          ];
-      near_arguments = λ l rewriting ppc64 i chosen below is_name decided.
-          elim (of_one l rewriting ppc64 i chosen below decided names.R_PPC64_GOT_TLSGD16 tt is_name) [
-            | inl by ↦ inl (of_sort l rewriting i chosen below decided kinds.AddiToAddisThread names.R_PPC64_TPREL16_HA to_local_exec is_addi (groups.ArgumentToHighHalf names.R_PPC64_GOT_TLSGD16) laws.near_arguments (λ word. addis_of_thread (rt_of word)) refl by (by.meant))
-            | inr (inl by) ↦ inr ((of_sort l rewriting i chosen below decided kinds.AddiToLd names.R_PPC64_GOT_TPREL16_DS to_near_initial_exec is_addi (groups.ArgumentToOffset names.R_PPC64_GOT_TLSGD16 names.R_PPC64_GOT_TPREL16_DS) laws.near_argument_offsets (λ word. 0xe8000000 + registers_of word) refl by (by.meant)))
-            | inr (inr nothing) ↦ absurd nothing
-          ];
-      prefixed_arguments = λ l rewriting ppc64 i chosen below is_name decided.
-          elim (of_one l rewriting ppc64 i chosen below decided names.R_PPC64_GOT_TLSGD_PCREL34 tt is_name) [
-            | inl by ↦ inl (of_two l rewriting i chosen below decided kinds.PaddiToPaddiThread names.R_PPC64_TPREL34 to_prefixed_local_exec is_pla groups.ArgumentToVariable (laws.variables.0) (paddi_of_thread 0) refl by by.meant)
-            | inr (inl by) ↦ inr ((of_two l rewriting i chosen below decided kinds.PaddiToPld names.R_PPC64_GOT_TPREL_PCREL34 to_prefixed_initial_exec is_pla groups.ArgumentToLoad laws.prefixed_loads pld refl by by.meant))
-            | inr (inr nothing) ↦ absurd nothing
-          ];
-      general_calls = λ l rewriting ppc64 i chosen below is_name decided.
-          elim (of_one l rewriting ppc64 i chosen below decided names.R_PPC64_TLSGD tt is_name) [
-            | inl by ↦ inl (word l rewriting i chosen below decided kinds.BranchToNop names.R_PPC64_NONE called_to_local_exec groups.is_any (CallTo 1 groups.keep_number) (laws.calls.2) (λ _. nop) refl by (by.meant.0) refl)
-            | inr (inl by) ↦ inr (inl (word l rewriting i chosen below decided kinds.BranchToAdd names.R_PPC64_NONE called_to_initial_exec groups.is_any (CallTo 1 sum_64) (laws.calls.3) (λ _. 0x7c636a14) refl by (by.meant.0) refl))
-            | inr (inr (inl by)) ↦ inr (inr (inl (call l rewriting i chosen below decided kinds.CallToAddi names.R_PPC64_TPREL16_LO to_local_exec groups.CallToLowHalf laws.call_low_halves 0x38630000 refl by by.meant)))
-            | inr (inr (inr (inl by))) ↦ inr (inr (inr ((call l rewriting i chosen below decided kinds.CallToAdd names.R_PPC64_NONE to_initial_exec (CallTo 2 sum_64) (laws.calls.0) 0x7c636a14 refl by by.meant))))
-            | inr (inr (inr (inr nothing))) ↦ absurd nothing
-          ];
-      module_highs = λ l rewriting ppc64 i chosen below is_name decided.
-          let by = of_entry l rewriting ppc64 i chosen below decided names.R_PPC64_GOT_TLSLD16_HA tt is_name (entry kinds.AddisToNop names.R_PPC64_NONE to_module) refl in
-          of_sort l rewriting i chosen below decided kinds.AddisToNop names.R_PPC64_NONE to_module (is_addis_over 2) groups.ModuleHigh (laws.high_halves.4) (λ _. nop) refl by (by.meant);
-      module_arguments = λ l rewriting ppc64 i chosen below is_name decided.
-          let by = of_entry l rewriting ppc64 i chosen below decided names.R_PPC64_GOT_TLSLD16_LO tt is_name (entry kinds.AddiToAddisThread names.R_PPC64_NONE to_module) refl in
-          of_sort l rewriting i chosen below decided kinds.AddiToAddisThread names.R_PPC64_NONE to_module is_addi (groups.ArgumentToThread names.R_PPC64_GOT_TLSLD16_LO) laws.module_arguments (λ word. addis_of_thread (rt_of word)) refl by (by.meant);
-      near_module_arguments = λ l rewriting ppc64 i chosen below is_name decided.
-          let by = of_entry l rewriting ppc64 i chosen below decided names.R_PPC64_GOT_TLSLD16 tt is_name (entry kinds.AddiToAddisThread names.R_PPC64_NONE to_module) refl in
-          of_sort l rewriting i chosen below decided kinds.AddiToAddisThread names.R_PPC64_NONE to_module is_addi (groups.ArgumentToThread names.R_PPC64_GOT_TLSLD16) laws.near_module_arguments (λ word. addis_of_thread (rt_of word)) refl by (by.meant);
-      prefixed_blocks = λ l rewriting ppc64 i chosen below is_name decided.
-          let by = of_entry l rewriting ppc64 i chosen below decided names.R_PPC64_GOT_TLSLD_PCREL34 tt is_name (entry kinds.PaddiToPaddi4096 names.R_PPC64_NONE to_module) refl in
-          of_two l rewriting i chosen below decided kinds.PaddiToPaddi4096 names.R_PPC64_NONE to_module is_pla groups.ArgumentToBlock laws.prefixed_blocks (paddi_of_thread 0x1000) refl by by.meant;
-      module_calls = λ l rewriting ppc64 i chosen below is_name decided.
-          elim (of_one l rewriting ppc64 i chosen below decided names.R_PPC64_TLSLD tt is_name) [
-            | inl by ↦ inl (word l rewriting i chosen below decided kinds.BranchToNop names.R_PPC64_NONE called_to_module groups.is_any (CallTo 1 groups.keep_number) (laws.calls.2) (λ _. nop) refl by (by.meant.0) refl)
-            | inr (inl by) ↦ inr ((call l rewriting i chosen below decided kinds.CallToAddi4096 names.R_PPC64_NONE to_module (CallTo 2 groups.add_block) (laws.calls.1) 0x38631000 refl by by.meant))
-            | inr (inr nothing) ↦ absurd nothing
-          ];
-    }
+  unlisted : (name : Ppc64Relocation) → IsNameOf ppc64_name (relocation_in l.relocations i).code name → IsOfNoPhase name → ⊥
+  unlisted name is_name never =
+      never l rewriting ppc64
+      (record { i = i; below = below; name = name; is_name = is_name; chosen = chosen; decided = decided }) refl
+
+  pub by_name : Groups → (name : Ppc64Relocation) → IsNameOf ppc64_name (relocation_in l.relocations i).code name
+      → IsOfOne (ppc64_entries name) l.section o chosen → IsNamed (ppc64_name name) × Lawful l i chosen name
+  by_name laws names.R_PPC64_REL24 is_name of = (tt, (kinds.NopToRestoreToc, restores laws.toc (only of)))
+  by_name laws names.R_PPC64_TOC16_HA is_name of =
+      (tt, (kinds.AddisToNop, of_sort kinds.AddisToNop gone without_high_part (is_addis_over 2) groups.TocHigh (laws.high_halves.0) (λ _. nop) refl (λ m. m) (only of)))
+  by_name laws names.R_PPC64_TOC16_LO is_name of =
+      (tt, (kinds.BaseToToc, word kinds.BaseToToc (named names.R_PPC64_TOC16 toc) without_high_part groups.is_any (LowOverBase 2 names.R_PPC64_TOC16_LO names.R_PPC64_TOC16 from_toc) (laws.low_halves.0) (over_base 2) refl (λ m. (m.0, refl)) (only of)))
+  by_name laws names.R_PPC64_TOC16_LO_DS is_name of =
+      (tt, (kinds.BaseToToc, word kinds.BaseToToc (named names.R_PPC64_TOC16_DS toc_words) without_high_part groups.is_any (WordOverBase 2 names.R_PPC64_TOC16_LO_DS names.R_PPC64_TOC16_DS from_toc) (laws.low_halves.1) (over_base 2) refl (λ m. (m.0, refl)) (only of)))
+  by_name laws names.R_PPC64_TPREL16_HA is_name of =
+      (tt, (kinds.AddisThreadToNop, of_sort kinds.AddisThreadToNop gone without_high_offset (is_addis_over 13) groups.ThreadHigh (laws.high_halves.1) (λ _. nop) refl (λ m. m) (only of)))
+  by_name laws names.R_PPC64_TPREL16_LO is_name of =
+      (tt, (kinds.BaseToThread, word kinds.BaseToThread (named names.R_PPC64_TPREL16 thread) without_high_offset groups.is_any (LowOverBase 13 names.R_PPC64_TPREL16_LO names.R_PPC64_TPREL16 from_thread) (laws.low_halves.2) (over_base 13) refl (λ m. (m.0, refl)) (only of)))
+  by_name laws names.R_PPC64_TPREL16_LO_DS is_name of =
+      (tt, (kinds.BaseToThread, word kinds.BaseToThread (named names.R_PPC64_TPREL16_DS thread_words) without_high_offset groups.is_any (WordOverBase 13 names.R_PPC64_TPREL16_LO_DS names.R_PPC64_TPREL16_DS from_thread) (laws.low_halves.3) (over_base 13) refl (λ m. (m.0, refl)) (only of)))
+  by_name laws names.R_PPC64_GOT_PCREL34 is_name of =
+      (tt, (kinds.PldToPaddi, of_two kinds.PldToPaddi (both_named names.R_PPC64_PCREL34 distance) to_distance is_pld groups.PldToPaddi laws.prefixed paddi refl (λ m. m) (only of)))
+  by_name laws names.R_PPC64_GOT16_HA is_name of =
+      (tt, (kinds.KeepAddis, kept (named names.R_PPC64_TOC16_HA toc_high) to_toc_distance groups.AddressHigh (laws.kept_high_halves.0) (only of)))
+  by_name laws names.R_PPC64_GOT16_LO_DS is_name of =
+      (tt, (kinds.LdToAddi, of_sort kinds.LdToAddi (named names.R_PPC64_TOC16_LO toc_low) to_toc_distance is_ld groups.LoadToSum laws.loads (λ word. 0x38000000 + registers_of word) refl (λ m. m) (only of)))
+  by_name laws names.R_PPC64_GOT_TPREL16_HA is_name of =
+      (tt, (kinds.AddisToNop, of_sort kinds.AddisToNop gone to_local_exec (is_addis_over 2) groups.OffsetHigh (laws.high_halves.2) (λ _. nop) refl (λ m. m) (only of)))
+  by_name laws names.R_PPC64_GOT_TPREL16_LO_DS is_name of = (tt, (kinds.LdToAddisThread, load (groups.OffsetToHighHalf names.R_PPC64_GOT_TPREL16_LO_DS) laws.offsets (only of)))
+  by_name laws names.R_PPC64_GOT_TPREL16_DS is_name of = (tt, (kinds.LdToAddisThread, load (groups.OffsetToHighHalf names.R_PPC64_GOT_TPREL16_DS) laws.near_offsets (only of)))
+  by_name laws names.R_PPC64_GOT_TPREL_PCREL34 is_name of =
+      (tt, (kinds.PldToPaddiThread, of_two kinds.PldToPaddiThread (both_named names.R_PPC64_TPREL34 thread_prefixed) to_prefixed_local_exec is_pld groups.LoadToVariable (laws.variables.1) (paddi_of_thread 0) refl (λ m. m) (only of)))
+  by_name laws names.R_PPC64_TLS is_name (inl by) =
+      (tt, (kinds.AddToAddi, of_sort kinds.AddToAddi (named names.R_PPC64_TPREL16_LO thread_low) to_local_exec is_add_of_thread groups.AddOverOffset (laws.low_offsets.0) (λ word. 0x38000000 + registers_of word) refl (λ m. m.1) by))
+  by_name laws names.R_PPC64_TLS is_name (inr (inl by)) =
+      (tt, (kinds.IndexedToD, of_sort kinds.IndexedToD (named names.R_PPC64_TPREL16_LO thread_low) to_local_exec is_indexed groups.AccessOverOffset (laws.low_offsets.1) by_displacement refl (λ m. m.1) by))
+  by_name laws names.R_PPC64_TLS is_name (inr (inr (inl by))) =
+      (tt, (kinds.IndexedToDs, of_sort kinds.IndexedToDs (named names.R_PPC64_TPREL16_LO_DS thread_low_words) to_local_exec_words is_indexed_word groups.WordOverOffset (laws.low_offsets.2) by_word_displacement refl (λ m. m.1) by))
+  by_name laws names.R_PPC64_TLS is_name (inr (inr (inr (inl by)))) =
+      (tt, (kinds.AddToMove, marked kinds.AddToMove is_add_of_thread groups.SumOverVariable (laws.variable_sums.0) to_move refl (λ m. m.1) by))
+  by_name laws names.R_PPC64_TLS is_name (inr (inr (inr (inr rest)))) =
+      (tt, (kinds.IndexedToDirect, marked kinds.IndexedToDirect is_indexed_any groups.AccessOverVariable (laws.variable_sums.1) direct refl (λ m. m.1) (only rest)))
+  by_name laws names.R_PPC64_GOT_TLSGD16_HA is_name (inl by) =
+      (tt, (kinds.AddisToNop, of_sort kinds.AddisToNop gone to_local_exec (is_addis_over 2) groups.GeneralHigh (laws.high_halves.3) (λ _. nop) refl (λ m. m) by))
+  by_name laws names.R_PPC64_GOT_TLSGD16_HA is_name (inr rest) =
+      (tt, (kinds.KeepAddis, kept (named names.R_PPC64_GOT_TPREL16_HA entry_high) to_initial_exec groups.EntryHigh (laws.kept_high_halves.1) (only rest)))
+  by_name laws names.R_PPC64_GOT_TLSGD16_LO is_name (inl by) =
+      (tt, (kinds.AddiToAddisThread, of_sort kinds.AddiToAddisThread (named names.R_PPC64_TPREL16_HA thread_high) to_local_exec is_addi (groups.ArgumentToHighHalf names.R_PPC64_GOT_TLSGD16_LO) laws.arguments (λ word. addis_of_thread (rt_of word)) refl (λ m. m) by))
+  by_name laws names.R_PPC64_GOT_TLSGD16_LO is_name (inr rest) =
+      (tt, (kinds.AddiToLd, of_sort kinds.AddiToLd (named names.R_PPC64_GOT_TPREL16_LO_DS entry_low) to_initial_exec is_addi (groups.ArgumentToOffset names.R_PPC64_GOT_TLSGD16_LO names.R_PPC64_GOT_TPREL16_LO_DS) laws.argument_offsets (λ word. 0xe8000000 + registers_of word) refl (λ m. m) (only rest)))
+  by_name laws names.R_PPC64_GOT_TLSGD16 is_name (inl by) =
+      (tt, (kinds.AddiToAddisThread, of_sort kinds.AddiToAddisThread (named names.R_PPC64_TPREL16_HA thread_high) to_local_exec is_addi (groups.ArgumentToHighHalf names.R_PPC64_GOT_TLSGD16) laws.near_arguments (λ word. addis_of_thread (rt_of word)) refl (λ m. m) by))
+  by_name laws names.R_PPC64_GOT_TLSGD16 is_name (inr rest) =
+      (tt, (kinds.AddiToLd, of_sort kinds.AddiToLd (named names.R_PPC64_GOT_TPREL16_DS near_entry) to_near_initial_exec is_addi (groups.ArgumentToOffset names.R_PPC64_GOT_TLSGD16 names.R_PPC64_GOT_TPREL16_DS) laws.near_argument_offsets (λ word. 0xe8000000 + registers_of word) refl (λ m. m) (only rest)))
+  by_name laws names.R_PPC64_GOT_TLSGD_PCREL34 is_name (inl by) =
+      (tt, (kinds.PaddiToPaddiThread, of_two kinds.PaddiToPaddiThread (both_named names.R_PPC64_TPREL34 thread_prefixed) to_prefixed_local_exec is_pla groups.ArgumentToVariable (laws.variables.0) (paddi_of_thread 0) refl (λ m. m) by))
+  by_name laws names.R_PPC64_GOT_TLSGD_PCREL34 is_name (inr rest) =
+      (tt, (kinds.PaddiToPld, of_two kinds.PaddiToPld (both_named names.R_PPC64_GOT_TPREL_PCREL34 entry_prefixed) to_prefixed_initial_exec is_pla groups.ArgumentToLoad laws.prefixed_loads pld refl (λ m. m) (only rest)))
+  by_name laws names.R_PPC64_TLSGD is_name (inl by) =
+      (tt, (kinds.BranchToNop, word kinds.BranchToNop gone called_to_local_exec groups.is_any (CallTo 1 groups.keep_number) (laws.calls.2) (λ _. nop) refl (λ m. (m.0, refl)) by))
+  by_name laws names.R_PPC64_TLSGD is_name (inr (inl by)) =
+      (tt, (kinds.BranchToAdd, word kinds.BranchToAdd gone called_to_initial_exec groups.is_any (CallTo 1 sum_64) (laws.calls.3) (λ _. 0x7c636a14) refl (λ m. (m.0, refl)) by))
+  by_name laws names.R_PPC64_TLSGD is_name (inr (inr (inl by))) =
+      (tt, (kinds.CallToAddi, call kinds.CallToAddi (to_second names.R_PPC64_TPREL16_LO) to_local_exec groups.CallToLowHalf laws.call_low_halves 0x38630000 refl low_half (λ m. m) by))
+  by_name laws names.R_PPC64_TLSGD is_name (inr (inr (inr rest))) =
+      (tt, (kinds.CallToAdd, call kinds.CallToAdd none to_initial_exec (CallTo 2 sum_64) (laws.calls.0) 0x7c636a14 refl (λ inside offset. two_left o inside) (λ m. m) (only rest)))
+  by_name laws names.R_PPC64_GOT_TLSLD16_HA is_name of =
+      (tt, (kinds.AddisToNop, of_sort kinds.AddisToNop gone to_module (is_addis_over 2) groups.ModuleHigh (laws.high_halves.4) (λ _. nop) refl (λ m. m) (only of)))
+  by_name laws names.R_PPC64_GOT_TLSLD16_LO is_name of =
+      (tt, (kinds.AddiToAddisThread, of_sort kinds.AddiToAddisThread gone to_module is_addi (groups.ArgumentToThread names.R_PPC64_GOT_TLSLD16_LO) laws.module_arguments (λ word. addis_of_thread (rt_of word)) refl (λ m. m) (only of)))
+  by_name laws names.R_PPC64_GOT_TLSLD16 is_name of =
+      (tt, (kinds.AddiToAddisThread, of_sort kinds.AddiToAddisThread gone to_module is_addi (groups.ArgumentToThread names.R_PPC64_GOT_TLSLD16) laws.near_module_arguments (λ word. addis_of_thread (rt_of word)) refl (λ m. m) (only of)))
+  by_name laws names.R_PPC64_GOT_TLSLD_PCREL34 is_name of =
+      (tt, (kinds.PaddiToPaddi4096, of_two kinds.PaddiToPaddi4096 both_gone to_module is_pla groups.ArgumentToBlock laws.prefixed_blocks (paddi_of_thread 0x1000) refl (λ m. m) (only of)))
+  by_name laws names.R_PPC64_TLSLD is_name (inl by) =
+      (tt, (kinds.BranchToNop, word kinds.BranchToNop gone called_to_module groups.is_any (CallTo 1 groups.keep_number) (laws.calls.2) (λ _. nop) refl (λ m. (m.0, refl)) by))
+  by_name laws names.R_PPC64_TLSLD is_name (inr rest) =
+      (tt, (kinds.CallToAddi4096, call kinds.CallToAddi4096 none to_module (CallTo 2 groups.add_block) (laws.calls.1) 0x38631000 refl (λ inside offset. two_left o inside) (λ m. m) (only rest)))
+  by_name laws names.R_PPC64_REL16_HA is_name of = absurd (unlisted names.R_PPC64_REL16_HA is_name (of_none names.R_PPC64_REL16_HA tt refl refl refl))
+  by_name laws names.R_PPC64_REL16_LO is_name of = absurd (unlisted names.R_PPC64_REL16_LO is_name (of_none names.R_PPC64_REL16_LO tt refl refl refl))
+  by_name laws name is_name of = absurd of

@@ -1,18 +1,21 @@
 -- Instructions of PowerPC64 and their relocations in the final bytes of a section.
-use Rattle.std.proofs.Common.{true, ◌≡◌, ◌⊎◌, ℕ, ◌+◌, ◌-◌, ◌<◌, ◌≤◌, length, take, drop, sym, ap, subst, ◌∙◌, refl, arith, inl, inr, Some, None, Ok, IsSomeAnd, cond}
+use Rattle.std.proofs.Common.{true, false, ◌≡◌, ◌⊎◌, ℕ, ◌+◌, ◌-◌, ◌<◌, ◌≤◌, length, take, drop, sym, ap, subst, ◌∙◌, refl, arith, Some, None, Ok, IsSomeAnd, cond}
 use Rattle.std.proofs.lemmas.List.{take-take}
-use Rattle.std.specs.Prelude.{IsTrue, slice_get}
+use Rattle.std.specs.Prelude.{IsTrue, slice_get, ⊤}
 use Rattle.linker_base.specs.Rewrite.{Rewrite, addend_after, offset_after}
 use Rattle.linker_elf.specs.Applied.{IsApplied}
 use Rattle.linker_elf.specs.ElfNames.{IsNamed, code_of}
 use Rattle.linker_elf.specs.Ppc64Relocations.{ppc64_name, ppc64_row, branch_row, high_adjusted_row, low_ds_row, low_row, prefixed_row}
+use Rattle.linker_elf.specs.Relocate.{window_len}
 use Rattle.linker_elf.specs.Rows.{bytes_row, signed_row}
 use Rattle.linker_elf.specs.Value.{value_of}
 use Rattle.linker_elf.specs.declared.elf.RelocationInstruction.TheVariants as insns
 use Rattle.linker_elf.specs.declared.elf.RelocationKind.TheVariants.{None as NoValue, GotTpOff, GotTpOffGotBase, Relative, SymRelGotBase, TpOff}
 use Rattle.linker_elf.specs.declared.elf.RelocationKindInfo.{RelocationKindInfo}
+use Rattle.linker_elf.specs.declared.elf.RelocationSize.TheVariants.{BitMasking}
 use Rattle.linker_elf.specs.declared.elf.choice.Choice.{Choice}
 use Rattle.linker_elf.specs.declared.elf.value.Operands.{Operands}
+use Rattle.linker_elf.specs.declared.ppc64.forms.Ppc64Instruction.{Ppc64Instruction}
 use Rattle.linker_elf.specs.declared.ppc64.forms.Ppc64Instruction.TheVariants.{Branch24, D, Ds, Prefixed}
 use Rattle.linker_elf.specs.declared.ppc64.relocations.Ppc64Relocation.{Ppc64Relocation}
 use Rattle.linker_elf.specs.declared.ppc64.relocations.Ppc64Relocation.TheVariants as names
@@ -20,16 +23,17 @@ use Rattle.linker_final.proofs.InstructionFields.{IsOfInstruction}
 use Rattle.linker_final.proofs.Phases.{relocation_left}
 use Rattle.linker_final.proofs.Written.{IsRowOf, apart_with, applied_after, by_name, entry_is_there, made_there, rela, relocation_is, unwritten_but, unwritten_without, with_operands, word_same}
 use Rattle.linker_final.specs.Final.{UntouchedBytes, AreRewritten, Linked, IsLinked, IsWrittenByNoOther, count, instruction_at}
-use Rattle.linker_final.specs.Ppc64Final.{FinalBytes, IsApplied as IsAppliedIn, offset_of}
+use Rattle.linker_final.specs.SectionRuns.{offset_of}
 use Rattle.linker_laws.specs.Ppc64RewriteLaws.{IsRelocated, IsRewritten, word_of}
 use Rattle.linker_utils.specs.Ppc64Rewrites.{HasTest, ppc64_rewrite, rewrites_marked}
 use Rattle.linker_utils.specs.declared.ppc64.rewrites.RewriteKind.{RewriteKind}
 use Rattle.linker_rewriting.specs.Decisions.{decision_at}
 use Rattle.linker_rewriting.specs.Rewritten.{IsDone, IsMade}
 use Rattle.linker_rewriting.specs.declared.decisions.Decision.TheVariants.{Rewritten}
+use Rattle.linker_section.specs.Fields.{is_of_pair}
 use Rattle.linker_section.specs.Needed.{entry_of}
 use Rattle.linker_section.specs.Relocations.{relocation_in}
-use Rattle.linker_section.specs.Values.{entry_address, is_there, operands_by, operands_with}
+use Rattle.linker_section.specs.Values.{entry_address, has_value, is_there, names_label, operands_by, operands_with}
 use Rattle.linker_section.specs.declared.facts.Symbol.{Symbol}
 use Rattle.linker_section.specs.declared.needed.Entry.{Entry}
 use Rattle.linker_section.specs.declared.needed.EntryClass.TheVariants.{ThreadOffset}
@@ -117,360 +121,108 @@ pub test_at : (l : Linked) (p : ℕ) (test : ℕ → _) → HasTest test l.secti
     → IsTrue (test (word_of (instruction_at l.section p)))
 test_at l p test is = subst (λ w. IsTrue (test w)) (word_same l.section p) (is.1)
 
--- what is in the instruction at a relocation
-pub test_there : (l : Linked) (i : ℕ) (test : ℕ → _) → HasTest test l.section (offset_of l i)
-    → IsTrue (test (word_of (instruction_at l.section (offset_of l i))))
-test_there l i test is = subst (λ w. IsTrue (test w)) (word_same l.section (offset_of l i)) (is.1)
-
 -- ---- what a call that writes values does then
 
 module _ (l : Linked) (linked : IsLinked l) (ppc64 : l.context.architecture ≡ Ppc64) (i : ℕ)
     (below : i < count l) where
+  abbrev became : Rela
+  became = relocation_in l.relocations_after i
+
+  row_there : (n : ℕ) (name : Ppc64Relocation) (a : IsAfter n name) → became.code ≡ code_of (ppc64_name name)
+      → IsRowOf l.context.architecture became.code a.row
+  row_there n name a code =
+      subst (λ x. IsRowOf l.context.architecture x a.row) (sym code) (row_of l ppc64 name a.named a.row a.is)
+
   -- the relocation that a rewrite left is applied to n bytes
-  pub applied_there : (n : ℕ) → 0 < n → (name : Ppc64Relocation) (a : IsAfter n name) (after : Rela)
-      → relocation_in l.relocations_after i ≡ after → after.code ≡ code_of (ppc64_name name)
-      → UntouchedBytes l i after.offset n → (symbol : Symbol) → slice_get l.symbols after.symbol ≡ Some symbol → (got : ℕ)
-      → operands_by Ppc64 l.addresses a.row after symbol
-      (entry_address l.addresses symbol (entry_of a.row after.addend symbol.is_thread_local))
-      ≡ Ok (operands_with Ppc64 l.addresses a.row symbol after got)
+  pub applied_there : (n : ℕ) → 0 < n → (name : Ppc64Relocation) (a : IsAfter n name) → became.code ≡ code_of (ppc64_name name)
+      → UntouchedBytes l i became.offset n → (symbol : Symbol) → slice_get l.symbols became.symbol ≡ Some symbol → (got : ℕ)
+      → operands_by Ppc64 l.addresses a.row became symbol
+      (entry_address l.addresses symbol (entry_of a.row became.addend symbol.is_thread_local))
+      ≡ Ok (operands_with Ppc64 l.addresses a.row symbol became got)
       → (o : Operands)
-      → value_of a.row o ≡ value_of a.row (operands_with Ppc64 l.addresses a.row symbol after got)
-      → IsRelocated name o (take n (drop after.offset l.rewritten)) (take n (drop after.offset l.final))
-  applied_there n some name a after is_after code left symbol is_symbol got entry_is o same =
-      let w = operands_with Ppc64 l.addresses a.row symbol after got in
-      let there : IsApplied a.row w (take n (drop after.offset l.rewritten)) (take n (drop after.offset l.final)) =
-      subst (λ x. IsApplied a.row (operands_with x l.addresses a.row symbol after got)
-      (take n (drop after.offset l.rewritten)) (take n (drop after.offset l.final))) ppc64
-      (applied_after l linked i below n some a.row a.of after is_after left
-      (subst (λ x. IsRowOf l.context.architecture x a.row) (sym code) (row_of l ppc64 name a.named a.row a.is))
-      symbol is_symbol got
-      (subst (λ x. operands_by x l.addresses a.row after symbol
-      (entry_address l.addresses symbol (entry_of a.row after.addend symbol.is_thread_local))
-      ≡ Ok (operands_with x l.addresses a.row symbol after got)) (sym ppc64) entry_is)) in
-      subst (λ q. IsSomeAnd q (λ row. IsApplied row o (take n (drop after.offset l.rewritten)) (take n (drop after.offset l.final)))) (sym a.is)
+      → value_of a.row o ≡ value_of a.row (operands_with Ppc64 l.addresses a.row symbol became got)
+      → IsRelocated name o (take n (drop became.offset l.rewritten)) (take n (drop became.offset l.final))
+  applied_there n some name a code left symbol is_symbol got entry_is o same =
+      let w = operands_with Ppc64 l.addresses a.row symbol became got in
+      let there : IsApplied a.row w (take n (drop became.offset l.rewritten)) (take n (drop became.offset l.final)) =
+      subst (λ x. IsApplied a.row (operands_with x l.addresses a.row symbol became got)
+      (take n (drop became.offset l.rewritten)) (take n (drop became.offset l.final))) ppc64
+      (applied_after l linked i below n some a.row a.of became refl left (row_there n name a code) symbol is_symbol got
+      (subst (λ x. operands_by x l.addresses a.row became symbol
+      (entry_address l.addresses symbol (entry_of a.row became.addend symbol.is_thread_local))
+      ≡ Ok (operands_with x l.addresses a.row symbol became got)) (sym ppc64) entry_is)) in
+      subst (λ q. IsSomeAnd q (λ row. IsApplied row o (take n (drop became.offset l.rewritten)) (take n (drop became.offset l.final)))) (sym a.is)
       (with_operands a.row w o _ _ same there)
 
   -- the entry of its formula is there
-  pub entry_there : (n : ℕ) (name : Ppc64Relocation) (a : IsAfter n name) (after : Rela)
-      → relocation_in l.relocations_after i ≡ after → after.code ≡ code_of (ppc64_name name)
-      → UntouchedBytes l i after.offset n → (symbol : Symbol) → slice_get l.symbols after.symbol ≡ Some symbol
-      → (entry : Entry) → entry_of a.row after.addend symbol.is_thread_local ≡ Some entry
+  pub entry_there : (n : ℕ) (name : Ppc64Relocation) (a : IsAfter n name) → became.code ≡ code_of (ppc64_name name)
+      → UntouchedBytes l i became.offset n → (symbol : Symbol) → slice_get l.symbols became.symbol ≡ Some symbol
+      → (entry : Entry) → entry_of a.row became.addend symbol.is_thread_local ≡ Some entry
       → is_there l.addresses symbol entry ≡ true
-  entry_there n name a after is_after code left symbol is_symbol entry is_entry =
-      entry_is_there l linked i below n a.row a.of after
-      (relocation_left l linked i after.offset n left below ∙ is_after)
-      (subst (λ x. IsRowOf l.context.architecture x a.row) (sym code) (row_of l ppc64 name a.named a.row a.is))
-      symbol is_symbol entry is_entry
+  entry_there n name a code left symbol is_symbol entry is_entry =
+      entry_is_there l linked i below n a.row a.of became (relocation_left l linked i became.offset n left below)
+      (row_there n name a code) symbol is_symbol entry is_entry
 
   -- an instruction is left that no other relocation writes, where the own one goes
-  pub left_alone : (after : Rela) → relocation_in l.relocations_after i ≡ after → after.code ≡ 0
-      → (p : ℕ) → UntouchedBytes l i p 4 → p + 4 ≤ length l.section → IsWrittenByNoOther l i p → instruction_at l.final p ≡ instruction_at l.rewritten p
-  left_alone after is_after gone p left inside alone =
-      unwritten_without l linked i below p left (no_row l ppc64) (ap (λ (x : Rela). x.code) is_after ∙ gone) inside alone
+  pub left_alone : became.code ≡ 0 → (p : ℕ) → UntouchedBytes l i p 4 → p + 4 ≤ length l.section
+      → IsWrittenByNoOther l i p → instruction_at l.final p ≡ instruction_at l.rewritten p
+  left_alone gone p left inside alone = unwritten_without l linked i below p left (no_row l ppc64) gone inside alone
 
   -- and one beside that of the own relocation
-  pub left_beside : (name : Ppc64Relocation) (a : IsAfter 4 name) (after : Rela)
-      → relocation_in l.relocations_after i ≡ after → after.code ≡ code_of (ppc64_name name)
+  pub left_beside : (name : Ppc64Relocation) (a : IsAfter 4 name) → became.code ≡ code_of (ppc64_name name)
       → (p : ℕ) → UntouchedBytes l i p 4 → p + 4 ≤ length l.section
-      → (p + 4 ≤ after.offset) ⊎ (after.offset + 4 ≤ p)
+      → (p + 4 ≤ became.offset) ⊎ (became.offset + 4 ≤ p)
       → IsWrittenByNoOther l i p → instruction_at l.final p ≡ instruction_at l.rewritten p
-  left_beside name a after is_after code p left inside beside alone =
+  left_beside name a code p left inside beside alone =
       unwritten_but l linked i p left inside
-      (apart_with l i after (relocation_left l linked i p 4 left below ∙ is_after) a.row
-      (subst (λ x. IsRowOf l.context.architecture x a.row) (sym code) (row_of l ppc64 name a.named a.row a.is))
-      4 a.of p beside) alone
+      (apart_with l i became (relocation_left l linked i p 4 left below) a.row (row_there 4 name a code) 4 a.of p beside) alone
 
 -- ---- rows
 
-abbrev pub toc_after : IsAfter 4 names.R_PPC64_TOC16
-toc_after =
+-- of bits of an instruction
+abbrev after_of : (n : ℕ) (name : Ppc64Relocation) (row : RelocationKindInfo) (start end : ℕ) (insn : Ppc64Instruction)
+    → ppc64_row name ≡ Some row → IsNamed (ppc64_name name)
+    → row.size ≡ BitMasking (record { start = start; end = end }) (insns.Ppc64 insn) → window_len row ≡ n
+    → has_value row.kind ≡ true → names_label row.size row.kind ≡ false → is_of_pair row ≡ false
+    → ((o : Operands) → IsSomeAnd (value_of row o) (λ _. ⊤)) → IsAfter n name
+after_of n name row start end insn is named size wide valued unlabelled alone some =
     record {
-      row = signed_row 16 (low_row SymRelGotBase);
-      is = refl;
-      named = tt;
+      row = row;
+      is = is;
+      named = named;
       of = record {
-        bits = record { start = 0; end = 16 };
-        insn = insns.Ppc64 D;
-        size = refl;
-        wide = refl;
-        valued = refl;
-        unlabelled = refl;
-        alone = refl;
-        some = λ o. tt;
-      };
-    }
-
-abbrev pub toc_words_after : IsAfter 4 names.R_PPC64_TOC16_DS
-toc_words_after =
-    record {
-      row = signed_row 16 (low_ds_row SymRelGotBase);
-      is = refl;
-      named = tt;
-      of = record {
-        bits = record { start = 0; end = 16 };
-        insn = insns.Ppc64 Ds;
-        size = refl;
-        wide = refl;
-        valued = refl;
-        unlabelled = refl;
-        alone = refl;
-        some = λ o. tt;
-      };
-    }
-
-abbrev pub thread_after : IsAfter 4 names.R_PPC64_TPREL16
-thread_after =
-    record {
-      row = signed_row 16 (low_row TpOff);
-      is = refl;
-      named = tt;
-      of = record {
-        bits = record { start = 0; end = 16 };
-        insn = insns.Ppc64 D;
-        size = refl;
-        wide = refl;
-        valued = refl;
-        unlabelled = refl;
-        alone = refl;
-        some = λ o. tt;
-      };
-    }
-
-abbrev pub thread_words_after : IsAfter 4 names.R_PPC64_TPREL16_DS
-thread_words_after =
-    record {
-      row = signed_row 16 (low_ds_row TpOff);
-      is = refl;
-      named = tt;
-      of = record {
-        bits = record { start = 0; end = 16 };
-        insn = insns.Ppc64 Ds;
-        size = refl;
-        wide = refl;
-        valued = refl;
-        unlabelled = refl;
-        alone = refl;
-        some = λ o. tt;
-      };
-    }
-
-abbrev pub thread_high_after : IsAfter 4 names.R_PPC64_TPREL16_HA
-thread_high_after =
-    record {
-      row = high_adjusted_row TpOff;
-      is = refl;
-      named = tt;
-      of = record {
-        bits = record { start = 16; end = 32 };
-        insn = insns.Ppc64 D;
-        size = refl;
-        wide = refl;
-        valued = refl;
-        unlabelled = refl;
-        alone = refl;
-        some = λ o. tt;
+        bits = record { start = start; end = end };
+        insn = insns.Ppc64 insn;
+        size = size;
+        wide = wide;
+        valued = valued;
+        unlabelled = unlabelled;
+        alone = alone;
+        some = some;
       };
     }
 
 abbrev pub thread_low_after : IsAfter 4 names.R_PPC64_TPREL16_LO
 thread_low_after =
-    record {
-      row = low_row TpOff;
-      is = refl;
-      named = tt;
-      of = record {
-        bits = record { start = 0; end = 16 };
-        insn = insns.Ppc64 D;
-        size = refl;
-        wide = refl;
-        valued = refl;
-        unlabelled = refl;
-        alone = refl;
-        some = λ o. tt;
-      };
-    }
-
-abbrev pub thread_low_words_after : IsAfter 4 names.R_PPC64_TPREL16_LO_DS
-thread_low_words_after =
-    record {
-      row = low_ds_row TpOff;
-      is = refl;
-      named = tt;
-      of = record {
-        bits = record { start = 0; end = 16 };
-        insn = insns.Ppc64 Ds;
-        size = refl;
-        wide = refl;
-        valued = refl;
-        unlabelled = refl;
-        alone = refl;
-        some = λ o. tt;
-      };
-    }
-
-abbrev pub entry_high_after : IsAfter 4 names.R_PPC64_GOT_TPREL16_HA
-entry_high_after =
-    record {
-      row = high_adjusted_row GotTpOffGotBase;
-      is = refl;
-      named = tt;
-      of = record {
-        bits = record { start = 16; end = 32 };
-        insn = insns.Ppc64 D;
-        size = refl;
-        wide = refl;
-        valued = refl;
-        unlabelled = refl;
-        alone = refl;
-        some = λ o. tt;
-      };
-    }
-
-abbrev pub entry_low_after : IsAfter 4 names.R_PPC64_GOT_TPREL16_LO_DS
-entry_low_after =
-    record {
-      row = low_ds_row GotTpOffGotBase;
-      is = refl;
-      named = tt;
-      of = record {
-        bits = record { start = 0; end = 16 };
-        insn = insns.Ppc64 Ds;
-        size = refl;
-        wide = refl;
-        valued = refl;
-        unlabelled = refl;
-        alone = refl;
-        some = λ o. tt;
-      };
-    }
+    after_of 4 names.R_PPC64_TPREL16_LO (low_row TpOff) 0 16 D refl tt refl refl refl refl refl (λ o. tt)
 
 abbrev pub call_after : IsAfter 4 names.R_PPC64_REL24
 call_after =
-    record {
-      row = branch_row Relative 26 Branch24;
-      is = refl;
-      named = tt;
-      of = record {
-        bits = record { start = 0; end = 26 };
-        insn = insns.Ppc64 Branch24;
-        size = refl;
-        wide = refl;
-        valued = refl;
-        unlabelled = refl;
-        alone = refl;
-        some = λ o. tt;
-      };
-    }
+    after_of 4 names.R_PPC64_REL24 (branch_row Relative 26 Branch24) 0 26 Branch24 refl tt refl refl refl refl refl (λ o. tt)
 
-abbrev pub distance_after : IsAfter 8 names.R_PPC64_PCREL34
-distance_after =
-    record {
-      row = prefixed_row Relative;
-      is = refl;
-      named = tt;
-      of = record {
-        bits = record { start = 0; end = 34 };
-        insn = insns.Ppc64 Prefixed;
-        size = refl;
-        wide = refl;
-        valued = refl;
-        unlabelled = refl;
-        alone = refl;
-        some = λ o. tt;
-      };
-    }
+-- ---- what the final bytes have
 
-abbrev pub toc_high_after : IsAfter 4 names.R_PPC64_TOC16_HA
-toc_high_after =
-    record {
-      row = high_adjusted_row SymRelGotBase;
-      is = refl;
-      named = tt;
-      of = record {
-        bits = record { start = 16; end = 32 };
-        insn = insns.Ppc64 D;
-        size = refl;
-        wide = refl;
-        valued = refl;
-        unlabelled = refl;
-        alone = refl;
-        some = λ o. tt;
-      };
-    }
-
-abbrev pub toc_low_after : IsAfter 4 names.R_PPC64_TOC16_LO
-toc_low_after =
-    record {
-      row = low_row SymRelGotBase;
-      is = refl;
-      named = tt;
-      of = record {
-        bits = record { start = 0; end = 16 };
-        insn = insns.Ppc64 D;
-        size = refl;
-        wide = refl;
-        valued = refl;
-        unlabelled = refl;
-        alone = refl;
-        some = λ o. tt;
-      };
-    }
-
-abbrev pub near_entry_after : IsAfter 4 names.R_PPC64_GOT_TPREL16_DS
-near_entry_after =
-    record {
-      row = signed_row 16 (low_ds_row GotTpOffGotBase);
-      is = refl;
-      named = tt;
-      of = record {
-        bits = record { start = 0; end = 16 };
-        insn = insns.Ppc64 Ds;
-        size = refl;
-        wide = refl;
-        valued = refl;
-        unlabelled = refl;
-        alone = refl;
-        some = λ o. tt;
-      };
-    }
-
-abbrev pub thread_prefixed_after : IsAfter 8 names.R_PPC64_TPREL34
-thread_prefixed_after =
-    record {
-      row = prefixed_row TpOff;
-      is = refl;
-      named = tt;
-      of = record {
-        bits = record { start = 0; end = 34 };
-        insn = insns.Ppc64 Prefixed;
-        size = refl;
-        wide = refl;
-        valued = refl;
-        unlabelled = refl;
-        alone = refl;
-        some = λ o. tt;
-      };
-    }
-
-abbrev pub entry_prefixed_after : IsAfter 8 names.R_PPC64_GOT_TPREL_PCREL34
-entry_prefixed_after =
-    record {
-      row = prefixed_row GotTpOff;
-      is = refl;
-      named = tt;
-      of = record {
-        bits = record { start = 0; end = 34 };
-        insn = insns.Ppc64 Prefixed;
-        size = refl;
-        wide = refl;
-        valued = refl;
-        unlabelled = refl;
-        alone = refl;
-        some = λ o. tt;
-      };
-    }
-
--- ---- the theorem
+-- Where later phases leave it and n bytes alone, a relocation of a name that a rewrite left is
+-- applied to them. A GOT entry is where a function of its symbol and of any address says.
+abbrev pub Writes : ℕ → (Symbol → ℕ → ℕ) → Ppc64Relocation → Type 0
+Writes n entry name =
+    (l : Linked) → IsLinked l → l.context.architecture ≡ Ppc64 → (i : ℕ) → i < count l
+    → let r = relocation_in l.relocations_after i in
+    r.code ≡ code_of (ppc64_name name) → UntouchedBytes l i r.offset n
+    → IsSomeAnd (ppc64_row name) (λ row. (symbol : Symbol) (any : ℕ)
+    → slice_get l.symbols r.symbol ≡ Some symbol
+    → IsRelocated name (operands_with Ppc64 l.addresses row symbol r (entry symbol any))
+    (take n (drop r.offset l.rewritten)) (take n (drop r.offset l.final)))
 
 -- of a relocation without an entry
 written : (n : ℕ) → 0 < n → (name : Ppc64Relocation) (a : IsAfter n name)
@@ -480,65 +232,122 @@ written : (n : ℕ) → 0 < n → (name : Ppc64Relocation) (a : IsAfter n name)
     → ((l : Linked) (r : Rela) (symbol : Symbol) (any : ℕ)
     → value_of a.row (operands_with Ppc64 l.addresses a.row symbol r any)
     ≡ value_of a.row (operands_with Ppc64 l.addresses a.row symbol r 0))
-    → IsAppliedIn n (λ symbol any. any) name
+    → Writes n (λ symbol any. any) name
 written n some name a none same l linked ppc64 i below code left =
     let r = relocation_in l.relocations_after i in
     subst (λ q. IsSomeAnd q (λ row. (symbol : Symbol) (any : ℕ) → slice_get l.symbols r.symbol ≡ Some symbol
     → IsRelocated name (operands_with Ppc64 l.addresses row symbol r any)
     (take n (drop r.offset l.rewritten)) (take n (drop r.offset l.final)))) (sym a.is)
     (λ symbol any is_symbol.
-    applied_there l linked ppc64 i below n some name a r refl code left symbol is_symbol 0 (none l r symbol)
+    applied_there l linked ppc64 i below n some name a code left symbol is_symbol 0 (none l r symbol)
     (operands_with Ppc64 l.addresses a.row symbol r any) (same l r symbol any))
 
 -- and of one with that of an offset
 written_by_entry : (n : ℕ) → 0 < n → (name : Ppc64Relocation) (a : IsAfter n name)
     → ((r : Rela) (symbol : Symbol) → entry_of a.row r.addend symbol.is_thread_local
     ≡ Some (record { class = ThreadOffset; addend = r.addend }))
-    → IsAppliedIn n (λ symbol any. symbol.thread_entry) name
+    → Writes n (λ symbol any. symbol.thread_entry) name
 written_by_entry n some name a has l linked ppc64 i below code left =
     let r = relocation_in l.relocations_after i in
     subst (λ q. IsSomeAnd q (λ row. (symbol : Symbol) (any : ℕ) → slice_get l.symbols r.symbol ≡ Some symbol
     → IsRelocated name (operands_with Ppc64 l.addresses row symbol r symbol.thread_entry)
     (take n (drop r.offset l.rewritten)) (take n (drop r.offset l.final)))) (sym a.is)
     (λ symbol any is_symbol.
-    applied_there l linked ppc64 i below n some name a r refl code left symbol is_symbol symbol.thread_entry
+    applied_there l linked ppc64 i below n some name a code left symbol is_symbol symbol.thread_entry
     (ap (λ e. operands_by Ppc64 l.addresses a.row r symbol (entry_address l.addresses symbol e)) (has r symbol)
     ∙ ap (λ b. operands_by Ppc64 l.addresses a.row r symbol (cond b (Some symbol.thread_entry) None))
-    (entry_there l linked ppc64 i below n name a r refl code left symbol is_symbol
+    (entry_there l linked ppc64 i below n name a code left symbol is_symbol
     (record { class = ThreadOffset; addend = r.addend }) (has r symbol)))
     (operands_with Ppc64 l.addresses a.row symbol r symbol.thread_entry) refl)
 
-pub final_bytes : FinalBytes
-final_bytes =
-    record {
-      calls = written 4 (omega arith) names.R_PPC64_REL24 call_after (λ l r s. refl) (λ l r s any. refl);
-      near_toc = (
-        written 4 (omega arith) names.R_PPC64_TOC16 toc_after (λ l r s. refl) (λ l r s any. refl),
-        written 4 (omega arith) names.R_PPC64_TOC16_DS toc_words_after (λ l r s. refl) (λ l r s any. refl),
-        written 4 (omega arith) names.R_PPC64_TOC16_HA toc_high_after (λ l r s. refl) (λ l r s any. refl),
-        written 4 (omega arith) names.R_PPC64_TOC16_LO toc_low_after (λ l r s. refl) (λ l r s any. refl),
-        written 8 (omega arith) names.R_PPC64_PCREL34 distance_after (λ l r s. refl) (λ l r s any. refl),
-      );
-      near_thread = (
-        written 4 (omega arith) names.R_PPC64_TPREL16 thread_after (λ l r s. refl) (λ l r s any. refl),
-        written 4 (omega arith) names.R_PPC64_TPREL16_DS thread_words_after (λ l r s. refl) (λ l r s any. refl),
-        written 4 (omega arith) names.R_PPC64_TPREL16_HA thread_high_after (λ l r s. refl) (λ l r s any. refl),
-        written 4 (omega arith) names.R_PPC64_TPREL16_LO thread_low_after (λ l r s. refl) (λ l r s any. refl),
-        written 4 (omega arith) names.R_PPC64_TPREL16_LO_DS thread_low_words_after (λ l r s. refl) (λ l r s any. refl),
-        written 8 (omega arith) names.R_PPC64_TPREL34 thread_prefixed_after (λ l r s. refl) (λ l r s any. refl),
-      );
-      by_entries = (
-        written_by_entry 4 (omega arith) names.R_PPC64_GOT_TPREL16_HA entry_high_after (λ r s. refl),
-        written_by_entry 4 (omega arith) names.R_PPC64_GOT_TPREL16_LO_DS entry_low_after (λ r s. refl),
-        written_by_entry 4 (omega arith) names.R_PPC64_GOT_TPREL16_DS near_entry_after (λ r s. refl),
-        written_by_entry 8 (omega arith) names.R_PPC64_GOT_TPREL_PCREL34 entry_prefixed_after (λ r s. refl),
-      );
-      gone = λ l linked ppc64 i p below code left inside alone.
-          left_alone l linked ppc64 i below (relocation_in l.relocations_after i) refl code p left inside alone;
-      before_low_half = λ l linked ppc64 i p below apart left inside alone.
-          left_beside l linked ppc64 i below names.R_PPC64_TPREL16_LO thread_low_after (relocation_in l.relocations_after i) refl
-          (apart.0) p left inside (inl (apart.1)) alone;
-      after_call = λ l linked ppc64 i p below apart left inside alone.
-          left_beside l linked ppc64 i below names.R_PPC64_REL24 call_after (relocation_in l.relocations_after i) refl
-          (apart.0) p left inside (inr (apart.1)) alone;
-    }
+pub toc : Writes 4 (λ symbol any. any) names.R_PPC64_TOC16
+toc =
+    written 4 (omega arith) names.R_PPC64_TOC16
+    (after_of 4 names.R_PPC64_TOC16 (signed_row 16 (low_row SymRelGotBase)) 0 16 D refl tt refl refl refl refl refl (λ o. tt))
+    (λ l r s. refl) (λ l r s any. refl)
+
+pub toc_words : Writes 4 (λ symbol any. any) names.R_PPC64_TOC16_DS
+toc_words =
+    written 4 (omega arith) names.R_PPC64_TOC16_DS
+    (after_of 4 names.R_PPC64_TOC16_DS (signed_row 16 (low_ds_row SymRelGotBase)) 0 16 Ds refl tt refl refl refl refl refl (λ o. tt))
+    (λ l r s. refl) (λ l r s any. refl)
+
+pub toc_high : Writes 4 (λ symbol any. any) names.R_PPC64_TOC16_HA
+toc_high =
+    written 4 (omega arith) names.R_PPC64_TOC16_HA
+    (after_of 4 names.R_PPC64_TOC16_HA (high_adjusted_row SymRelGotBase) 16 32 D refl tt refl refl refl refl refl (λ o. tt))
+    (λ l r s. refl) (λ l r s any. refl)
+
+pub toc_low : Writes 4 (λ symbol any. any) names.R_PPC64_TOC16_LO
+toc_low =
+    written 4 (omega arith) names.R_PPC64_TOC16_LO
+    (after_of 4 names.R_PPC64_TOC16_LO (low_row SymRelGotBase) 0 16 D refl tt refl refl refl refl refl (λ o. tt))
+    (λ l r s. refl) (λ l r s any. refl)
+
+pub distance : Writes 8 (λ symbol any. any) names.R_PPC64_PCREL34
+distance =
+    written 8 (omega arith) names.R_PPC64_PCREL34
+    (after_of 8 names.R_PPC64_PCREL34 (prefixed_row Relative) 0 34 Prefixed refl tt refl refl refl refl refl (λ o. tt))
+    (λ l r s. refl) (λ l r s any. refl)
+
+pub thread : Writes 4 (λ symbol any. any) names.R_PPC64_TPREL16
+thread =
+    written 4 (omega arith) names.R_PPC64_TPREL16
+    (after_of 4 names.R_PPC64_TPREL16 (signed_row 16 (low_row TpOff)) 0 16 D refl tt refl refl refl refl refl (λ o. tt))
+    (λ l r s. refl) (λ l r s any. refl)
+
+pub thread_words : Writes 4 (λ symbol any. any) names.R_PPC64_TPREL16_DS
+thread_words =
+    written 4 (omega arith) names.R_PPC64_TPREL16_DS
+    (after_of 4 names.R_PPC64_TPREL16_DS (signed_row 16 (low_ds_row TpOff)) 0 16 Ds refl tt refl refl refl refl refl (λ o. tt))
+    (λ l r s. refl) (λ l r s any. refl)
+
+pub thread_high : Writes 4 (λ symbol any. any) names.R_PPC64_TPREL16_HA
+thread_high =
+    written 4 (omega arith) names.R_PPC64_TPREL16_HA
+    (after_of 4 names.R_PPC64_TPREL16_HA (high_adjusted_row TpOff) 16 32 D refl tt refl refl refl refl refl (λ o. tt))
+    (λ l r s. refl) (λ l r s any. refl)
+
+pub thread_low : Writes 4 (λ symbol any. any) names.R_PPC64_TPREL16_LO
+thread_low =
+    written 4 (omega arith) names.R_PPC64_TPREL16_LO
+    thread_low_after
+    (λ l r s. refl) (λ l r s any. refl)
+
+pub thread_low_words : Writes 4 (λ symbol any. any) names.R_PPC64_TPREL16_LO_DS
+thread_low_words =
+    written 4 (omega arith) names.R_PPC64_TPREL16_LO_DS
+    (after_of 4 names.R_PPC64_TPREL16_LO_DS (low_ds_row TpOff) 0 16 Ds refl tt refl refl refl refl refl (λ o. tt))
+    (λ l r s. refl) (λ l r s any. refl)
+
+pub thread_prefixed : Writes 8 (λ symbol any. any) names.R_PPC64_TPREL34
+thread_prefixed =
+    written 8 (omega arith) names.R_PPC64_TPREL34
+    (after_of 8 names.R_PPC64_TPREL34 (prefixed_row TpOff) 0 34 Prefixed refl tt refl refl refl refl refl (λ o. tt))
+    (λ l r s. refl) (λ l r s any. refl)
+
+-- ---- by the entry of an offset
+
+pub entry_high : Writes 4 (λ symbol any. symbol.thread_entry) names.R_PPC64_GOT_TPREL16_HA
+entry_high =
+    written_by_entry 4 (omega arith) names.R_PPC64_GOT_TPREL16_HA
+    (after_of 4 names.R_PPC64_GOT_TPREL16_HA (high_adjusted_row GotTpOffGotBase) 16 32 D refl tt refl refl refl refl refl (λ o. tt))
+    (λ r s. refl)
+
+pub entry_low : Writes 4 (λ symbol any. symbol.thread_entry) names.R_PPC64_GOT_TPREL16_LO_DS
+entry_low =
+    written_by_entry 4 (omega arith) names.R_PPC64_GOT_TPREL16_LO_DS
+    (after_of 4 names.R_PPC64_GOT_TPREL16_LO_DS (low_ds_row GotTpOffGotBase) 0 16 Ds refl tt refl refl refl refl refl (λ o. tt))
+    (λ r s. refl)
+
+pub near_entry : Writes 4 (λ symbol any. symbol.thread_entry) names.R_PPC64_GOT_TPREL16_DS
+near_entry =
+    written_by_entry 4 (omega arith) names.R_PPC64_GOT_TPREL16_DS
+    (after_of 4 names.R_PPC64_GOT_TPREL16_DS (signed_row 16 (low_ds_row GotTpOffGotBase)) 0 16 Ds refl tt refl refl refl refl refl (λ o. tt))
+    (λ r s. refl)
+
+pub entry_prefixed : Writes 8 (λ symbol any. symbol.thread_entry) names.R_PPC64_GOT_TPREL_PCREL34
+entry_prefixed =
+    written_by_entry 8 (omega arith) names.R_PPC64_GOT_TPREL_PCREL34
+    (after_of 8 names.R_PPC64_GOT_TPREL_PCREL34 (prefixed_row GotTpOff) 0 34 Prefixed refl tt refl refl refl refl refl (λ o. tt))
+    (λ r s. refl)

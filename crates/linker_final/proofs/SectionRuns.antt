@@ -1,9 +1,22 @@
 -- What stands at each place of a section, and runs of its code, of any architecture.
 use Rattle.std.proofs.Common.{◌≡◌, ℕ, zero, suc, ◌+◌, ◌-◌, ◌<◌, ◌≤◌, ◌⊎◌, inl, inr, List, [], ◌∷◌, ap, sym, subst, arith, refl, Bool, true, false}
 use Rattle.std.proofs.lemmas.Bool.{cases_eq, cases_lt}
-use Rattle.linker_final.specs.Final.{AreLinked, IsLinked, Linked, RewritingPhase, linked_by}
+use Rattle.linker_elf.specs.declared.elf.architecture.Architecture.{Architecture}
+use Rattle.linker_elf.specs.declared.elf.choice.Choice.{Choice}
+use Rattle.linker_final.specs.Final.{AreLinked, IsLinked, Linked, RewritingPhase, count, linked_by}
 use Rattle.linker_final.specs.SectionRuns.{AreCalled, AreLeft, EachPlace, IsFollowed, IsPhase, IsPhaseIn, Known, Knows, Place, Rewriting, RewritesAreGroups, RunsAreFollowed, Section, begins, comparison, elsewhere, rewritten, unchanged, within}
 use Rattle.linker_laws.specs.Simulation.{Comparison, Kinds, Next, Simulates, State, by_group, uncovered}
+use Rattle.linker_rewriting.proofs.Chosen.{chosen_or_labelled}
+use Rattle.linker_rewriting.specs.Decisions.{decision_at}
+use Rattle.linker_rewriting.specs.Groups.{IsScopeIn}
+use Rattle.linker_rewriting.specs.declared.decisions.Decision.TheVariants.{Rewritten, RewrittenWithSymbol}
+use Rattle.linker_rewriting.specs.declared.decisions.Subject.{Subject}
+use Rattle.linker_rewriting.specs.declared.groups.Scope.{Scope}
+use Rattle.linker_rewriting.specs.declared.groups.Scope.TheVariants.{Labelled}
+use Rattle.linker_rewriting.specs.declared.phases.Phase.{Phase}
+use Rattle.linker_section.specs.Relocations.{relocation_in}
+use Rattle.linker_section.specs.declared.facts.Addresses.{Addresses}
+use Rattle.linker_utils.specs.declared.architecture.Relaxation.{Relaxation}
 
 -- all below a limit, or what one of them shows
 pub each_or : {Q : Type 0} (P : ℕ → Type 0) (m : ℕ) → ((i : ℕ) → i < m → P i ⊎ Q)
@@ -47,6 +60,25 @@ is_of (p ∷ later) x l (inl is) =
     }
 is_of (p ∷ later) x l (inr is) = is_of later x l is
 
+pub final_in : (Has : Addresses → List ℕ → Type 0) (x : Section) (l : Linked) → IsPhase x l → Has x.addresses x.final
+    → Has l.addresses l.final
+final_in Has x l is final =
+    let of = is_of x.phases x l is in
+    subst (Has l.addresses) (sym of.final) (subst (λ a. Has a x.final) (sym of.addresses) final)
+
+-- where relocations have no labels
+pub without_label : {architecture : Architecture} (l : Linked) → IsLinked l → l.context.architecture ≡ architecture
+    → ((phase : Phase) (code : ℕ) (scope : Scope) → IsScopeIn architecture phase code scope → scope ≡ Labelled → ⊥)
+    → (i : ℕ) (chosen : Choice Relaxation ℕ) (subject : Subject) → i < count l
+    → decision_at l.decisions i ≡ RewrittenWithSymbol chosen subject → ⊥
+without_label l linked same unlabelled i chosen subject below is =
+    let code = (relocation_in l.relocations i).code in
+    elim (chosen_or_labelled l.context l.kept l.relocations l.section l.decisions (count l) i (RewrittenWithSymbol chosen subject) chosen linked.decided below is refl) [
+      | inl alone ↦ let e : RewrittenWithSymbol chosen subject ≡ Rewritten chosen = alone.is in cc
+      | inr label ↦ unlabelled l.context.phase code Labelled
+          (subst (λ x. IsScopeIn x l.context.phase code Labelled) same label.scope_is) refl
+    ]
+
 -- ---- an architecture
 
 -- a byte is of instructions that are rewritten together
@@ -62,13 +94,6 @@ AreIn r =
 module _ (r : Rewriting) where
   pub is_linked : (x : Section) → AreCalled r x → (l : Linked) → IsPhase x l → IsLinked l
   is_linked x called = each_linked x.phases x.relocations x.section x called.linked
-
-  pub final_in : (x : Section) (l : Linked) → IsPhase x l → (c : r.Code) → r.HasFinal x.addresses x.final c
-      → r.HasFinal l.addresses l.final c
-  final_in x l is c final =
-      let of = is_of x.phases x l is in
-      subst (λ xs. r.HasFinal l.addresses xs c) (sym of.final)
-      (subst (λ a. r.HasFinal a x.final c) (sym of.addresses) final)
 
   -- ---- what stands at a place
 
@@ -122,12 +147,11 @@ module _ (r : Rewriting) where
   is_covered c k s uncovered = false
   is_covered c k s next = true
 
-  module _ (groups : RewritesAreGroups r) (x : Section) (called : AreCalled r x) (c : r.Code)
-      (final : r.HasFinal x.addresses x.final c) where
+  module _ (groups : RewritesAreGroups r) (x : Section) (called : AreCalled r x) (c : r.Code) where
     -- what follows is known
     next_of : (k : Kinds) (s : State) → Known r x c k s → Next (comparison r c) k s
     next_of k s (rewritten l is g k' s' begins_so) =
-        by_group (r.executed l g) k' s' (groups x c called final l is k s g k' s' begins_so)
+        by_group (r.executed l g) k' s' (groups x c called l is k s g k' s' begins_so)
     next_of k s (elsewhere next) = next
 
     unknown : (k : Kinds) (s : State) (known : Known r x c k s) → next_of k s known ≡ uncovered
@@ -158,5 +182,4 @@ module _ (r : Rewriting) where
         }
 
   pub runs_are_followed : RewritesAreGroups r → ((c : r.Code) → Simulates (comparison r c)) → RunsAreFollowed r
-  runs_are_followed groups simulates x c called final k s knows m =
-      followed groups x called c final (simulates c) k s knows m
+  runs_are_followed groups simulates x c called k s knows m = followed groups x called c (simulates c) k s knows m

@@ -1,11 +1,12 @@
 -- Instructions and their relocations in the bytes that rewrites leave, and in the final bytes.
 use Rattle.std.proofs.Common.{◌≡◌, ℕ, ℤ, ◌+◌, ◌-◌, ◌/◌, ◌<◌, ◌≤◌, ◌⊎◌, List, [], ◌∷◌, length, take, drop, sym, ap, subst, ◌∙◌, refl, inl, inr, arith, Option, Some, None, Ok, Err, Result, true}
-use Rattle.std.proofs.lemmas.Bool.{cases_eq, cases_Bool, cond-true, cond-false}
+use Rattle.std.proofs.lemmas.Bool.{cases_eq, cases_lt, cases_Bool, cond-true, cond-false}
 use Rattle.std.proofs.lemmas.List.{take-take, drop-drop, drop-take}
 use Rattle.std.specs.Int.{w32, from_le_bytes}
 use Rattle.std.specs.Prelude.{slice_get}
 use Rattle.linker_base.specs.Rewrite.{Rewrite, addend_after, offset_after}
 use Rattle.linker_base.specs.RewriteWindow.{window_of_rewrite}
+use Rattle.linker_base.specs.declared.rewrite.RewriteWindow.{RewriteWindow}
 use Rattle.linker_elf.specs.Applied.{IsApplied}
 use Rattle.linker_elf.specs.ElfNames.{ElfName, IsNamed, code_of}
 use Rattle.linker_elf.specs.Rows.{bytes_row}
@@ -17,9 +18,10 @@ use Rattle.linker_elf.specs.declared.elf.value.Operands.{Operands}
 use Rattle.linker_final.proofs.InstructionFields.{IsOfInstruction, applied, instruction_len}
 use Rattle.linker_final.proofs.Phases.{bytes_left, last_as_many, last_length, last_within, relocation_left}
 use Rattle.linker_final.proofs.PutBack.{same_windows}
-use Rattle.linker_final.specs.Final.{AreRewritten, Linked, UntouchedBytes, IsLinked, IsRewrittenByNoOther, IsWrittenByNoOther, count, instruction_at, two_at}
-use Rattle.linker_rewriting.specs.Decisions.{decision_at, start_at, start_by, written_end_at, written_end_by}
+use Rattle.linker_final.specs.Final.{AreRewritten, Linked, UntouchedBytes, IsLinked, IsOutside, IsRewrittenByNoOther, IsWrittenByNoOther, count, instruction_at, two_at}
+use Rattle.linker_rewriting.specs.Decisions.{decision_at, start_at, start_by, window_of, written_end_at, written_end_by}
 use Rattle.linker_rewriting.specs.Rewritten.{IsDone, IsMade, relocation_after}
+use Rattle.linker_rewriting.specs.declared.decisions.Decision.{Decision}
 use Rattle.linker_rewriting.specs.declared.decisions.Decision.TheVariants.{Rewritten}
 use Rattle.linker_section.specs.Fields.{IsField, field_end, field_len}
 use Rattle.linker_section.specs.Needed.{entry_of}
@@ -180,6 +182,31 @@ entry_is_there l linked i below n row of after is_after only symbol is_symbol en
           (ap (operands_in l.context.architecture l.addresses row after) is_symbol
           ∙ ap (operands_by l.context.architecture l.addresses row after symbol) none))
     ]
+
+-- ---- bytes that a rewrite hasn't
+
+pub outside_of : (l : Linked) (i : ℕ) (chosen : Choice Relaxation ℕ) (rewrite : Option Rewrite)
+    → decision_at l.decisions i ≡ Rewritten chosen → relaxation_rewrite chosen.kind ≡ rewrite → (b : ℕ)
+    → let o = (relocation_in l.relocations i).offset in
+    (b < o - (window_of_rewrite rewrite).back)
+    ⊎ (o - (window_of_rewrite rewrite).back + (window_of_rewrite rewrite).len ≤ b)
+    → IsOutside l.relocations l.decisions i b
+outside_of l i chosen rewrite decided is b apart =
+    let o = (relocation_in l.relocations i).offset in
+    subst (λ d. (b < start_by d o) ⊎ (written_end_by d o ≤ b)) (sym decided)
+    (subst (λ q. (b < o - (window_of_rewrite q).back) ⊎ (o - (window_of_rewrite q).back + (window_of_rewrite q).len ≤ b)) (sym is) apart)
+
+-- of a decision without one
+pub spared : (l : Linked) (i : ℕ) (d : Decision) → decision_at l.decisions i ≡ d
+    → window_of d ≡ record { back = 0; len = 0 } → (b : ℕ) → IsOutside l.relocations l.decisions i b
+spared l i d is none b =
+    let o = (relocation_in l.relocations i).offset in
+    subst (λ x. (b < start_by x o) ⊎ (written_end_by x o ≤ b)) (sym is)
+    (subst (λ (w : RewriteWindow). (b < o - w.back) ⊎ (o - w.back + w.len ≤ b)) (sym none)
+    (elim (cases_lt b o) [
+      | inl before ↦ inl (omega (arith, before))
+      | inr past ↦ inr (omega (arith, past))
+    ]))
 
 -- ---- bytes that rewrites leave
 

@@ -1,6 +1,6 @@
 -- The rewrites of a section of x86-64: each is of instructions that are rewritten together, and
 -- these are groups.
-use Rattle.std.proofs.Common.{◌≡◌, ℕ, ◌+◌, ◌-◌, ◌^◌, ◌<◌, ◌≤◌, ◌⊎◌, get_or, sym, ap, subst, ◌∙◌, refl, arith, inl, inr, Some, None}
+use Rattle.std.proofs.Common.{◌≡◌, ℕ, ◌+◌, ◌-◌, ◌^◌, ◌<◌, ◌⊎◌, get_or, sym, ap, subst, ◌∙◌, refl, arith, inl, inr, Some, None}
 use Rattle.std.proofs.lemmas.Bool.{cases_lt}
 use Rattle.std.specs.Option.{unwrap_or}
 use Rattle.linker_base.specs.Rewrite.{CanRewrite, IsRewritable}
@@ -12,25 +12,23 @@ use Rattle.linker_elf.specs.declared.elf.choice.Choice.{Choice}
 use Rattle.linker_elf.specs.declared.elf.value.Operands.{Operands}
 use Rattle.linker_elf.specs.declared.x86_64.relocations.X86_64Relocation.{X86_64Relocation}
 use Rattle.linker_elf.specs.declared.x86_64.relocations.X86_64Relocation.TheVariants as names
-use Rattle.linker_final.proofs.SectionRuns.{AreIn, IsIn, each_or, final_in, is_linked}
+use Rattle.linker_final.proofs.SectionRuns.{AreIn, IsIn, each_or, final_in, is_linked, without_label}
+use Rattle.linker_final.proofs.Written.{outside_of, spared}
 use Rattle.linker_final.proofs.X86Chosen.{IsOfTable, has_table}
 use Rattle.linker_final.proofs.X86Descriptors.{call_is_lawful, with_rex2_is_lawful, with_rex_is_lawful}
 use Rattle.linker_final.proofs.X86Finals.{got_is_lawful}
 use Rattle.linker_final.proofs.X86Names.{got_operand, operand, unlabelled}
 use Rattle.linker_final.proofs.X86ThreadCalls.{Lawful, module_is_lawful, variable_is_lawful}
-use Rattle.linker_final.proofs.X86Windows.{IsLawful, end_is, start_is}
+use Rattle.linker_final.proofs.X86Windows.{IsLawful}
 use Rattle.linker_final.specs.Final.{IsLinked, IsOutside, Linked, count}
 use Rattle.linker_final.specs.SectionRuns.{RewritesAreGroups, offset_of}
-use Rattle.linker_final.specs.X86Section.{Window, call, in_got, lea, rewriting, window, window_of}
+use Rattle.linker_final.specs.X86Section.{HasFinal, Window, call, in_got, lea, rewriting, window, window_of}
 use Rattle.linker_laws.specs.X86Groups.{Groups, reg_after_rex, reg_after_rex2}
 use Rattle.linker_laws.specs.X86RewriteLaws.{address, thread_offset}
-use Rattle.linker_rewriting.proofs.Chosen.{chosen_or_labelled}
-use Rattle.linker_rewriting.specs.Decisions.{decision_at, start_by, written_end_by}
-use Rattle.linker_rewriting.specs.Groups.{IsScopeIn}
+use Rattle.linker_rewriting.specs.Decisions.{decision_at}
 use Rattle.linker_rewriting.specs.Rewritten.{IsDone, IsMade}
 use Rattle.linker_rewriting.specs.declared.decisions.Decision.{Decision}
 use Rattle.linker_rewriting.specs.declared.decisions.Decision.TheVariants.{Kept, Rewritten, Consumed, RewrittenWithSymbol}
-use Rattle.linker_rewriting.specs.declared.groups.Scope.TheVariants.{Labelled}
 use Rattle.linker_section.specs.Relocations.{relocation_in}
 use Rattle.linker_utils.specs.Relaxations.{relaxation_rewrite}
 use Rattle.linker_utils.specs.X86Rewrites.{opcode_at, x86_64_table}
@@ -110,17 +108,6 @@ module _ (laws : Groups) (l : Linked) (linked : IsLinked l) (x86 : l.context.arc
   abbrev Shown : Type 0
   Shown = (get_or l.rewritten b 0 ≡ get_or l.section b 0) ⊎ IsIn rewriting l b
 
-  -- a rewrite without a window has no byte
-  spared : (i : ℕ) (d : Decision) → decision_at l.decisions i ≡ d → start_by d (offset_of l i) ≡ offset_of l i - 0
-      → written_end_by d (offset_of l i) ≡ offset_of l i - 0 + 0 → IsOutside l.relocations l.decisions i b
-  spared i d is starts ends =
-      let o = offset_of l i in
-      subst (λ x. (b < start_by x o) ⊎ (written_end_by x o ≤ b)) (sym is)
-      (elim (cases_lt b o) [
-        | inl before ↦ inl (subst (λ z. b < z) (sym starts) (let e : b < o - 0 = omega (arith, before) in e))
-        | inr past ↦ inr (subst (λ z. z ≤ b) (sym ends) (let e : o - 0 + 0 ≤ b = omega (arith, past) in e))
-      ])
-
   -- one with a law
   in_window : (i : ℕ) (chosen : Choice Relaxation ℕ) → i < count l → decision_at l.decisions i ≡ Rewritten chosen
       → (name : X86_64Relocation) → IsNameOf x86_64_name (relocation_in l.relocations i).code name
@@ -134,10 +121,10 @@ module _ (laws : Groups) (l : Linked) (linked : IsLinked l) (x86 : l.context.arc
       let can : IsRewritable made l.section o = subst (λ q. CanRewrite q l.section o) has_window.is (law.matches.0) in
       elim (cases_lt b (o - made.back)) [
         | inl before ↦
-            inl (inl (subst (λ z. b < z) (sym (start_is (decision_at l.decisions i) chosen made o decided made_is)) before))
+            inl (outside_of l i chosen (Some made) decided made_is b (inl before))
         | inr from ↦ elim (cases_lt b (o - made.back + made.len)) [
           | inr past ↦
-              inl (inr (subst (λ z. z ≤ b) (sym (end_is (decision_at l.decisions i) chosen made o decided made_is)) past))
+              inl (outside_of l i chosen (Some made) decided made_is b (inr past))
           | inl less ↦ inr (elim (cases_lt b (o - w.back)) [
             | inl low ↦ inl (has_window.low l.section l.rewritten o b can.starts can.ends linked.same_length
                 (subst (λ q. IsMade q o l.section l.rewritten) made_is
@@ -172,23 +159,17 @@ module _ (laws : Groups) (l : Linked) (linked : IsLinked l) (x86 : l.context.arc
 
   by_decision : (i : ℕ) → i < count l → (d : Decision) → decision_at l.decisions i ≡ d
       → IsOutside l.relocations l.decisions i b ⊎ Shown
-  by_decision i below Kept is = inl (spared i Kept is refl refl)
-  by_decision i below Consumed is = inl (spared i Consumed is refl refl)
+  by_decision i below Kept is = inl (spared l i Kept is refl b)
+  by_decision i below Consumed is = inl (spared l i Consumed is refl b)
   by_decision i below (Rewritten chosen) is =
       let o = offset_of l i in
       let t = has_table l linked x86 i chosen below is in
       elim ((by_name laws l linked x86 i chosen below is t.name t.is_name t.is).1) [
         | inl found ↦ in_window i chosen below is t.name t.is_name (found.0) (found.1)
-        | inr none ↦ inl (spared i (Rewritten chosen) is (ap (λ q. o - (window_of_rewrite q).back) (none.1))
-            (ap (λ q. o - (window_of_rewrite q).back + (window_of_rewrite q).len) (none.1)))
+        | inr none ↦ inl (spared l i (Rewritten chosen) is (ap window_of_rewrite (none.1)) b)
       ]
   by_decision i below (RewrittenWithSymbol chosen subject) is =
-      let r = relocation_in l.relocations i in
-      elim (chosen_or_labelled l.context l.kept l.relocations l.section l.decisions (count l) i (RewrittenWithSymbol chosen subject) chosen linked.decided below is refl) [
-        | inl alone ↦ absurd (let e : RewrittenWithSymbol chosen subject ≡ Rewritten chosen = alone.is in cc)
-        | inr label ↦ absurd (unlabelled l.context.phase r.code Labelled
-            (subst (λ x. IsScopeIn x l.context.phase r.code Labelled) x86 label.scope_is) refl)
-      ]
+      absurd (without_label l linked x86 unlabelled i chosen subject below is)
 
 pub are_in : Groups → AreIn rewriting
 are_in laws l linked x86 b =
@@ -201,8 +182,9 @@ are_in laws l linked x86 b =
 -- ---- groups
 
 pub rewrites_are_groups : Groups → RewritesAreGroups rewriting
-rewrites_are_groups laws x c called final l is k s g k' s' begins =
+rewrites_are_groups laws x c called l is k s g k' s' both =
+    let begins = both.1 in
     let law = law_there laws l (is_linked rewriting x called l is) (called.architecture l is) g.i g.chosen g.below g.decided
     g.name g.window g.is_name g.is in
-    begins.by_law (law.law begins.alone begins.symbol begins.operands c s (final_in rewriting x l is c final)
-    begins.pc begins.object)
+    begins.by_law (law.law begins.alone begins.symbol begins.operands c s
+    (final_in (λ addresses final. HasFinal addresses final c) x l is (both.0)) begins.pc begins.object)

@@ -5,7 +5,6 @@ use Rattle.std.proofs.lemmas.List.{length-drop, drop-drop, take-append-drop, ext
 use Rattle.std.proofs.lemmas.List.Elements.{All-append, All-take, All-drop, All-get_or}
 use Rattle.std.specs.Int.{w64, from_le_bytes, cast_unsigned}
 use Rattle.linker_base.specs.Rewrite.{Rewrite, CanRewrite, IsRewritable, rewritten, rewrite_window, offset_after, addend_after}
-use Rattle.linker_base.specs.RewriteWindow.{window_of_rewrite}
 use Rattle.linker_elf.specs.ElfNames.{IsNamed, code_of}
 use Rattle.linker_elf.specs.Relocate.{IsWritten, low_bytes, number_of_bytes, number_written, window_len, size_len}
 use Rattle.linker_elf.specs.Rows.{bytes_row}
@@ -24,6 +23,7 @@ use Rattle.linker_final.proofs.PlainRows.{IsPlain}
 use Rattle.linker_final.proofs.PutBack.{put_back_is, back_inside, back_outside, back_rewritten, same_windows}
 use Rattle.linker_final.proofs.X86Lawful.{HaveShape}
 use Rattle.linker_final.proofs.X86Patterns.{one_same}
+use Rattle.linker_final.proofs.Written.{outside_of}
 use Rattle.linker_final.specs.Final.{Linked, IsLinked, UntouchedByOthers, AreBytes, count}
 use Rattle.linker_final.specs.SectionRuns.{offset_of}
 use Rattle.linker_final.specs.X86Section.{HasFinal, HasObject, IsObject, LawOf, Window, put_back, window_of}
@@ -31,9 +31,8 @@ use Rattle.linker_laws.specs.Schemes.{AreAddresses}
 use Rattle.linker_laws.specs.Simulation.{State}
 use Rattle.linker_laws.specs.X86Groups.{Code, Stands}
 use Rattle.linker_laws.specs.X86RewriteLaws.{IsRelocated, IsRelocatedBy}
-use Rattle.linker_rewriting.specs.Decisions.{decision_at, start_at, written_end_at, start_by, written_end_by}
+use Rattle.linker_rewriting.specs.Decisions.{decision_at, start_at, written_end_at}
 use Rattle.linker_rewriting.specs.Rewritten.{IsDone, IsMade, relocation_after}
-use Rattle.linker_rewriting.specs.declared.decisions.Decision.{Decision}
 use Rattle.linker_rewriting.specs.declared.decisions.Decision.TheVariants.{Rewritten}
 use Rattle.linker_section.proofs.Fronts.{HaveSameWindow, accepted_same}
 use Rattle.linker_section.proofs.Rows.{one_info}
@@ -92,20 +91,6 @@ after_by : (chosen : Choice Relaxation ℕ) (made : Rewrite) (r : Rela)
     ≡ rela (made.offset r.offset) chosen.relocation r.symbol (made.addend r.addend)
 after_by chosen made r is =
     ap (λ q. rela (offset_after q r.offset) chosen.relocation r.symbol (addend_after q r.addend)) is
-
-pub start_is : (decision : Decision) (chosen : Choice Relaxation ℕ) (made : Rewrite) (o : ℕ)
-    → decision ≡ Rewritten chosen → relaxation_rewrite chosen.kind ≡ Some made
-    → start_by decision o ≡ o - made.back
-start_is decision chosen made o decided is =
-    ap (λ d. start_by d o) decided
-    ∙ ap (λ q. o - (window_of_rewrite q).back) is
-
-pub end_is : (decision : Decision) (chosen : Choice Relaxation ℕ) (made : Rewrite) (o : ℕ)
-    → decision ≡ Rewritten chosen → relaxation_rewrite chosen.kind ≡ Some made
-    → written_end_by decision o ≡ o - made.back + made.len
-end_is decision chosen made o decided is =
-    ap (λ d. written_end_by d o) decided
-    ∙ ap (λ q. o - (window_of_rewrite q).back + (window_of_rewrite q).len) is
 
 -- ---- the field in bytes that were put back
 
@@ -276,10 +261,7 @@ module _ (l : Linked) (i back end : ℕ) (kind : RewriteKind) (is : HasRewrite l
         let window = w.outer o at starts back from outside in
         linked.others at (λ j lj. elim (cases_eq j i) [
           | inl same ↦ subst (λ k. (at < start_at l.relocations l.decisions k) ⊎ (written_end_at l.relocations l.decisions k ≤ at)) (sym same)
-              (elim window [
-                | inl ahead ↦ inl (subst (λ x. at < x) (sym (start_is (decision_at l.decisions i) chosen w.made o is.decided made_is)) ahead)
-                | inr following ↦ inr (subst (λ x. x ≤ at) (sym (end_is (decision_at l.decisions i) chosen w.made o is.decided made_is)) following)
-              ])
+              (outside_of l i chosen (Some w.made) is.decided made_is at window)
           | inr isnt ↦ (is.alone.others j at lj isnt from less).0
         ])
 

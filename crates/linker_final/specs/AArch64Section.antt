@@ -199,10 +199,9 @@ rewriting =
       architecture = AArch64;
       Code = Code;
       link = link;
-      HasFinal = HasFinal;
       Stays = Stays;
       Rewrites = Rewrites;
       span = λ l g. ((span l g).0, (span l g).0 + 4 * (span l g).1);
       executed = λ l g. (span l g).1;
-      Begins = Begins;
+      Begins = λ x l c k s g k' s'. HasFinal x.addresses x.final c × Begins x l c k s g k' s';
     }

@@ -14,8 +14,8 @@ pub mod LoongArchSteps
 pub mod LoongArchTable
 pub mod Packed
 pub mod Ppc64Executed
-pub mod Ppc64Final
 pub mod Ppc64FunctionsExecuted
+pub mod Ppc64Section
 pub mod Ppc64Steps
 pub mod Ppc64Table
 pub mod Ppc64VectorsExecuted

@@ -42,8 +42,6 @@ pub record Rewriting : Type 1 where
   -- old's code and new's
   pub Code : Type 0
   pub link : Code → Link
-  -- new has the final bytes
-  pub HasFinal : Addresses → List ℕ → Code → Type 0
   -- in a phase the byte at an offset stays
   pub Stays : Linked → ℕ → Type 0
   -- Instructions that are rewritten together: the offset of their first byte, that of the first
@@ -51,7 +49,8 @@ pub record Rewriting : Type 1 where
   pub Rewrites : Linked → Type 0
   pub span : (l : Linked) → Rewrites l → ℕ × ℕ
   pub executed : (l : Linked) → Rewrites l → ℕ
-  -- Old comes to them, and the premises of their law hold. They leave kinds and a state.
+  -- Old comes to them, new has what became of them, and the premises of their law hold. They leave
+  -- kinds and a state.
   pub Begins : Section → (l : Linked) → Code → Kinds → State → Rewrites l → Kinds → State → Type 0
 
 abbrev pub comparison : (r : Rewriting) → r.Code → Comparison
@@ -114,12 +113,12 @@ EachPlace r = (x : Section) → AreCalled r x → (at n : ℕ) → Place r x at 
 -- What old comes to is a group.
 abbrev pub RewritesAreGroups : Rewriting → Type 0
 RewritesAreGroups r =
-    (x : Section) (c : r.Code) → AreCalled r x → r.HasFinal x.addresses x.final c → (l : Linked)
-    → IsPhase x l → (k : Kinds) (s : State) (g : r.Rewrites l) (k' : Kinds) (s' : State)
-    → r.Begins x l c k s g k' s' → Group (comparison r c) (r.executed l g) k s k' s'
+    (x : Section) (c : r.Code) → AreCalled r x → (l : Linked) → IsPhase x l → (k : Kinds) (s : State)
+    (g : r.Rewrites l) (k' : Kinds) (s' : State) → r.Begins x l c k s g k' s'
+    → Group (comparison r c) (r.executed l g) k s k' s'
 
 -- Each run of old is followed.
 abbrev pub RunsAreFollowed : Rewriting → Type 0
 RunsAreFollowed r =
-    (x : Section) (c : r.Code) → AreCalled r x → r.HasFinal x.addresses x.final c → (k : Kinds)
-    (s : State) (knows : Knows r x c k s) (m : ℕ) → IsFollowed r x c k s knows m
+    (x : Section) (c : r.Code) → AreCalled r x → (k : Kinds) (s : State) (knows : Knows r x c k s)
+    (m : ℕ) → IsFollowed r x c k s knows m

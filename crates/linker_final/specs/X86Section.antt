@@ -191,12 +191,11 @@ rewriting =
       architecture = X86_64;
       Code = Code;
       link = link;
-      HasFinal = HasFinal;
       Stays = λ l b. get_or l.rewritten b 0 ≡ get_or l.section b 0;
       Rewrites = Rewrites;
       span = span;
       executed = λ l g. g.window.count;
-      Begins = Begins;
+      Begins = λ x l c k s g k' s'. HasFinal x.addresses x.final c × Begins x l c k s g k' s';
     }
 
 -- ---- offsets in the module's block

@@ -6,7 +6,7 @@
 ghost use Rattle.linker_final.specs.AArch64Section as aarch64_section;
 ghost use Rattle.linker_final.specs.Final as final_bytes;
 ghost use Rattle.linker_final.specs.LoongArchFinal as loongarch64_final;
-ghost use Rattle.linker_final.specs.Ppc64Final as ppc64_final;
+ghost use Rattle.linker_final.specs.Ppc64Section as ppc64_section;
 ghost use Rattle.linker_final.specs.RiscVFinal as riscv64_final;
 ghost use Rattle.linker_final.specs.RiscVNear as riscv64_near;
 ghost use Rattle.linker_final.specs.SectionRuns as section_runs;
@@ -126,16 +126,19 @@ pub fn loongarch64()
     linker_laws::simulation::loongarch64();
 }
 
-/// PowerPC64: each rewritten instruction is a group of `linker_laws::simulation`, of any code that
-/// has it there with the relocation that is left applied to it, and of any old code that has the
-/// object's with the value of its relocation. This is of a call of rewriting alone. Phases may
-/// rewrite one after the other, each what the one before left: their groups compose
-/// (`linker_laws::simulation::runs`). Which phase alone rewrites again what a rewrite left is a law
-/// too. In the final bytes the relocations that are left are applied.
-pub fn ppc64()
-    ensures groups { ppc64_final.RewritesAreGroups }
-    ensures final_bytes { ppc64_final.FinalBytes }
-    ensures rewritten_again { ppc64_final.RewrittenAgain }
+/// PowerPC64: all changes of a section, in all of its phases, as `aarch64_sections` says of
+/// AArch64's. Each byte stays, but for the values of relocations, or is of an instruction that is
+/// rewritten, or of a call with the `nop` after it. New is any code that has the final bytes there,
+/// or what a phase left with its relocation applied, as code between phases has: what two of them
+/// rewrite is a group of both (`linker_laws::simulation::runs`). Which relocation a rewrite leaves
+/// is a law, too, and which phase alone rewrites it again.
+pub fn ppc64_sections()
+    ensures places { section_runs.EachPlace ppc64_section.rewriting }
+    ensures groups { section_runs.RewritesAreGroups ppc64_section.rewriting }
+    ensures runs { section_runs.RunsAreFollowed ppc64_section.rewriting }
+    ensures names { ppc64_section.NamesAreLeft }
+    ensures rewritten_again { ppc64_section.RewrittenAgain }
 {
     linker_laws::simulation::ppc64();
+    linker_laws::simulation::runs();
 }

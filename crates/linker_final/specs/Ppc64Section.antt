@@ -1,0 +1,304 @@
+-- PowerPC64: what the rewrites of a section are, and where they begin in a run of old (64-bit ELF
+-- V2 ABI for Power, "TOC Optimizations" and "TLS Linkage Optimizations").
+use Rattle.std.specs.Prelude.{◌≡◌, ◌⊎◌, ℕ, ◌+◌, ◌-◌, ◌*◌, ◌<◌, ◌≤◌, IsSomeAnd}
+use Rattle.std.specs.Prelude.{List, take, drop, get_or, slice_get, Some}
+use Rattle.linker_elf.specs.ElfNames.{IsNameOf, code_of}
+use Rattle.linker_elf.specs.Ppc64Relocations.{ppc64_name, ppc64_row}
+use Rattle.linker_elf.specs.Value.{sum_64}
+use Rattle.linker_elf.specs.declared.elf.architecture.Architecture.TheVariants.{Ppc64}
+use Rattle.linker_elf.specs.declared.elf.choice.Choice.{Choice}
+use Rattle.linker_elf.specs.declared.ppc64.relocations.Ppc64Relocation.{Ppc64Relocation}
+use Rattle.linker_elf.specs.declared.ppc64.relocations.Ppc64Relocation.TheVariants as names
+use Rattle.linker_final.specs.Final.{AreRewritten, IsLinked, IsRewrittenByNoOther, Linked, count}
+use Rattle.linker_final.specs.Final.{UntouchedBytes, UntouchedByOthers}
+use Rattle.linker_final.specs.SectionRuns.{Rewriting, Section, offset_of}
+use Rattle.linker_laws.specs.Ppc64Groups as groups
+use Rattle.linker_laws.specs.Ppc64Groups.{AreGroup, CallTo, Code, Has, LowOverBase, Stands}
+use Rattle.linker_laws.specs.Ppc64Groups.{WordOverBase, link}
+use Rattle.linker_laws.specs.Ppc64RewriteLaws.{from_thread, from_toc}
+use Rattle.linker_laws.specs.Simulation.{Group, Kinds, State, of_link}
+use Rattle.linker_rewriting.specs.Decisions.{decision_at}
+use Rattle.linker_rewriting.specs.declared.decisions.Decision.{Decision}
+use Rattle.linker_rewriting.specs.declared.decisions.Decision.TheVariants.{Rewritten}
+use Rattle.linker_rewriting.specs.declared.phases.Phase.{Phase}
+use Rattle.linker_rewriting.specs.declared.phases.Phase.TheVariants as phases
+use Rattle.linker_section.specs.Relocations.{relocation_in}
+use Rattle.linker_section.specs.Values.{operands_with}
+use Rattle.linker_section.specs.declared.facts.Symbol.{Symbol}
+use Rattle.linker_utils.specs.declared.architecture.Relaxation.{Relaxation}
+use Rattle.linker_utils.specs.declared.architecture.Relaxation.TheVariants as relaxations
+use Rattle.linker_utils.specs.declared.ppc64.rewrites.RewriteKind.{RewriteKind}
+use Rattle.linker_utils.specs.declared.ppc64.rewrites.RewriteKind.TheVariants as kinds
+
+-- ---- what is rewritten
+
+-- what is at the relocation with an index
+pub record Rewrites (l : Linked) : Type 0 where
+  pub i : ℕ
+  pub below : i < count l
+  pub name : Ppc64Relocation
+  pub is_name : IsNameOf ppc64_name (relocation_in l.relocations i).code name
+  pub chosen : Choice Relaxation ℕ
+  pub decided : decision_at l.decisions i ≡ Rewritten chosen
+
+abbrev pub kind_by : Relaxation → RewriteKind
+kind_by (relaxations.Ppc64 kind) = kind
+kind_by kind = kinds.NoOp
+
+abbrev pub kind_of : Decision → RewriteKind
+kind_of (Rewritten chosen) = kind_by chosen.kind
+kind_of decision = kinds.NoOp
+
+abbrev pub kind_at : Linked → ℕ → RewriteKind
+kind_at l i = kind_of (decision_at l.decisions i)
+
+-- By what becomes of it, and the offset of its relocation: the offset of the first word, how many
+-- words old has, and how many instructions new has. A mark is at the second byte of an instruction.
+-- Of a call that may change r2 it is the `nop` after it.
+abbrev pub shape : RewriteKind → ℕ → ℕ × ℕ × ℕ
+shape kinds.NoOp o = (o, 0, 0)
+shape kinds.NopToRestoreToc o = (o + 4, 1, 1)
+shape kinds.AddToMove o = (o - 1, 1, 1)
+shape kinds.IndexedToDirect o = (o - 1, 1, 1)
+shape kinds.PldToPaddi o = (o, 2, 1)
+shape kinds.PldToPaddiThread o = (o, 2, 1)
+shape kinds.PaddiToPaddiThread o = (o, 2, 1)
+shape kinds.PaddiToPld o = (o, 2, 1)
+shape kinds.PaddiToPaddi4096 o = (o, 2, 1)
+shape kinds.CallToAddi o = (o, 2, 2)
+shape kinds.CallToAdd o = (o, 2, 2)
+shape kinds.CallToAddi4096 o = (o, 2, 2)
+shape kind o = (o, 1, 1)
+
+abbrev pub shape_at : Linked → ℕ → ℕ × ℕ × ℕ
+shape_at l i = shape (kind_at l i) (offset_of l i)
+
+abbrev pub span : Linked → ℕ → ℕ × ℕ
+span l i = ((shape_at l i).0, (shape_at l i).0 + 4 * (shape_at l i).1)
+
+-- In a phase a byte is the same, and nothing has it that is rewritten.
+pub record Stays (l : Linked) (b : ℕ) : Type 0 where
+  pub same : get_or l.rewritten b 0 ≡ get_or l.section b 0
+  pub apart : (i : ℕ) → i < count l → (b < (span l i).0) ⊎ ((span l i).1 ≤ b)
+
+-- ---- their laws
+
+-- Which relocation is left: none; one of a name, which is applied to all words, or to the second;
+-- that of the call before them.
+pub data Left : Type 0 where
+  none : Left
+  applied : Ppc64Relocation → Left
+  to_second : Ppc64Relocation → Left
+  of_call : Left
+
+abbrev pub name_of : Left → Ppc64Relocation
+name_of none = names.R_PPC64_NONE
+name_of (applied name) = name
+name_of (to_second name) = name
+name_of of_call = names.R_PPC64_REL24
+
+pub record Law : Type 1 where
+  pub left : Left
+  -- the words before and after
+  pub IsGroup : AreGroup
+
+abbrev pub law : Left → AreGroup → Law
+law left IsGroup = record { left = left; IsGroup = IsGroup }
+
+-- of the `nop` after a call
+abbrev pub Restores : AreGroup
+Restores nop ld =
+    (call restored : List ℕ) → drop 4 call ≡ nop → drop 4 restored ≡ ld
+    → groups.RestoresToc call restored
+
+-- by the relocation, and what becomes of the instruction
+abbrev pub law_of : Ppc64Relocation → RewriteKind → Law
+law_of names.R_PPC64_REL24 kinds.NopToRestoreToc = law of_call Restores
+-- near the TOC pointer
+law_of names.R_PPC64_TOC16_HA kinds.AddisToNop = law none groups.TocHigh
+law_of names.R_PPC64_TOC16_LO kinds.BaseToToc =
+    law (applied names.R_PPC64_TOC16)
+    (LowOverBase 2 names.R_PPC64_TOC16_LO names.R_PPC64_TOC16 from_toc)
+law_of names.R_PPC64_TOC16_LO_DS kinds.BaseToToc =
+    law (applied names.R_PPC64_TOC16_DS)
+    (WordOverBase 2 names.R_PPC64_TOC16_LO_DS names.R_PPC64_TOC16_DS from_toc)
+-- near the thread pointer
+law_of names.R_PPC64_TPREL16_HA kinds.AddisThreadToNop = law none groups.ThreadHigh
+law_of names.R_PPC64_TPREL16_LO kinds.BaseToThread =
+    law (applied names.R_PPC64_TPREL16)
+    (LowOverBase 13 names.R_PPC64_TPREL16_LO names.R_PPC64_TPREL16 from_thread)
+law_of names.R_PPC64_TPREL16_LO_DS kinds.BaseToThread =
+    law (applied names.R_PPC64_TPREL16_DS)
+    (WordOverBase 13 names.R_PPC64_TPREL16_LO_DS names.R_PPC64_TPREL16_DS from_thread)
+-- loads of addresses
+law_of names.R_PPC64_GOT_PCREL34 kinds.PldToPaddi =
+    law (applied names.R_PPC64_PCREL34) groups.PldToPaddi
+law_of names.R_PPC64_GOT16_HA kinds.KeepAddis =
+    law (applied names.R_PPC64_TOC16_HA) groups.AddressHigh
+law_of names.R_PPC64_GOT16_LO_DS kinds.LdToAddi =
+    law (applied names.R_PPC64_TOC16_LO) groups.LoadToSum
+-- initial-exec
+law_of names.R_PPC64_GOT_TPREL16_HA kinds.AddisToNop = law none groups.OffsetHigh
+law_of names.R_PPC64_GOT_TPREL16_LO_DS kinds.LdToAddisThread =
+    law (applied names.R_PPC64_TPREL16_HA)
+    (groups.OffsetToHighHalf names.R_PPC64_GOT_TPREL16_LO_DS)
+law_of names.R_PPC64_GOT_TPREL16_DS kinds.LdToAddisThread =
+    law (applied names.R_PPC64_TPREL16_HA) (groups.OffsetToHighHalf names.R_PPC64_GOT_TPREL16_DS)
+law_of names.R_PPC64_GOT_TPREL_PCREL34 kinds.PldToPaddiThread =
+    law (applied names.R_PPC64_TPREL34) groups.LoadToVariable
+law_of names.R_PPC64_TLS kinds.AddToAddi =
+    law (applied names.R_PPC64_TPREL16_LO) groups.AddOverOffset
+law_of names.R_PPC64_TLS kinds.IndexedToD =
+    law (applied names.R_PPC64_TPREL16_LO) groups.AccessOverOffset
+law_of names.R_PPC64_TLS kinds.IndexedToDs =
+    law (applied names.R_PPC64_TPREL16_LO_DS) groups.WordOverOffset
+law_of names.R_PPC64_TLS kinds.AddToMove = law none groups.SumOverVariable
+law_of names.R_PPC64_TLS kinds.IndexedToDirect = law none groups.AccessOverVariable
+-- general-dynamic, for local-exec and for initial-exec
+law_of names.R_PPC64_GOT_TLSGD16_HA kinds.AddisToNop = law none groups.GeneralHigh
+law_of names.R_PPC64_GOT_TLSGD16_HA kinds.KeepAddis =
+    law (applied names.R_PPC64_GOT_TPREL16_HA) groups.EntryHigh
+law_of names.R_PPC64_GOT_TLSGD16_LO kinds.AddiToAddisThread =
+    law (applied names.R_PPC64_TPREL16_HA)
+    (groups.ArgumentToHighHalf names.R_PPC64_GOT_TLSGD16_LO)
+law_of names.R_PPC64_GOT_TLSGD16_LO kinds.AddiToLd =
+    law (applied names.R_PPC64_GOT_TPREL16_LO_DS)
+    (groups.ArgumentToOffset names.R_PPC64_GOT_TLSGD16_LO names.R_PPC64_GOT_TPREL16_LO_DS)
+law_of names.R_PPC64_GOT_TLSGD16 kinds.AddiToAddisThread =
+    law (applied names.R_PPC64_TPREL16_HA) (groups.ArgumentToHighHalf names.R_PPC64_GOT_TLSGD16)
+law_of names.R_PPC64_GOT_TLSGD16 kinds.AddiToLd =
+    law (applied names.R_PPC64_GOT_TPREL16_DS)
+    (groups.ArgumentToOffset names.R_PPC64_GOT_TLSGD16 names.R_PPC64_GOT_TPREL16_DS)
+law_of names.R_PPC64_GOT_TLSGD_PCREL34 kinds.PaddiToPaddiThread =
+    law (applied names.R_PPC64_TPREL34) groups.ArgumentToVariable
+law_of names.R_PPC64_GOT_TLSGD_PCREL34 kinds.PaddiToPld =
+    law (applied names.R_PPC64_GOT_TPREL_PCREL34) groups.ArgumentToLoad
+law_of names.R_PPC64_TLSGD kinds.BranchToNop = law none (CallTo 1 groups.keep_number)
+law_of names.R_PPC64_TLSGD kinds.BranchToAdd = law none (CallTo 1 sum_64)
+law_of names.R_PPC64_TLSGD kinds.CallToAddi =
+    law (to_second names.R_PPC64_TPREL16_LO) groups.CallToLowHalf
+law_of names.R_PPC64_TLSGD kinds.CallToAdd = law none (CallTo 2 sum_64)
+-- local-dynamic
+law_of names.R_PPC64_GOT_TLSLD16_HA kinds.AddisToNop = law none groups.ModuleHigh
+law_of names.R_PPC64_GOT_TLSLD16_LO kinds.AddiToAddisThread =
+    law none (groups.ArgumentToThread names.R_PPC64_GOT_TLSLD16_LO)
+law_of names.R_PPC64_GOT_TLSLD16 kinds.AddiToAddisThread =
+    law none (groups.ArgumentToThread names.R_PPC64_GOT_TLSLD16)
+law_of names.R_PPC64_GOT_TLSLD_PCREL34 kinds.PaddiToPaddi4096 = law none groups.ArgumentToBlock
+law_of names.R_PPC64_TLSLD kinds.BranchToNop = law none (CallTo 1 groups.keep_number)
+law_of names.R_PPC64_TLSLD kinds.CallToAddi4096 = law none (CallTo 2 groups.add_block)
+-- nothing else is rewritten
+law_of name kind = law none (λ before after. ⊥)
+
+abbrev pub law_at : (l : Linked) → Rewrites l → Law
+law_at l g = law_of g.name (kind_at l g.i)
+
+-- ---- where old comes to them
+
+-- the words before or after
+abbrev pub words_at : Linked → ℕ → List ℕ → List ℕ
+words_at l i bytes = take (4 * (shape_at l i).1) (drop (shape_at l i).0 bytes)
+
+-- the GOT entry that a relocation takes: that of a variable's offset, or any
+abbrev pub entry_by : Ppc64Relocation → Symbol → ℕ → ℕ
+entry_by names.R_PPC64_GOT_TPREL16_HA symbol any = symbol.thread_entry
+entry_by names.R_PPC64_GOT_TPREL16_LO_DS symbol any = symbol.thread_entry
+entry_by names.R_PPC64_GOT_TPREL16_DS symbol any = symbol.thread_entry
+entry_by names.R_PPC64_GOT_TPREL_PCREL34 symbol any = symbol.thread_entry
+entry_by name symbol any = any
+
+-- At an address new has n words with the relocation applied that is left.
+abbrev pub HasApplied : Ppc64Relocation → Linked → ℕ → Symbol → ℕ → Code → ℕ → ℕ → List ℕ → Type 0
+HasApplied name l i symbol any c n at words =
+    IsSomeAnd (ppc64_row name)
+    (λ row. Has n c.new at name
+    (operands_with Ppc64 l.addresses row symbol (relocation_in l.relocations_after i)
+    (entry_by name symbol any)) words)
+
+abbrev pub IsMade : Left → Linked → ℕ → Symbol → ℕ → Code → ℕ → ℕ → List ℕ → Type 0
+IsMade (applied name) l i symbol any c n at words = HasApplied name l i symbol any c n at words
+IsMade (to_second name) l i symbol any c n at words =
+    Stands 1 c.new at words × HasApplied name l i symbol any c 1 (sum_64 at 4) (drop 4 words)
+IsMade left l i symbol any c n at words = Stands n c.new at words
+
+-- Later phases leave n bytes from a start on alone, and other relocations those of a word without
+-- one.
+abbrev pub AreLeftAlone : Left → Linked → ℕ → ℕ → ℕ → Type 0
+AreLeftAlone (applied name) = UntouchedBytes
+AreLeftAlone left = UntouchedByOthers
+
+-- New has the final bytes, which are left alone. Or new has what this phase leaves, with its
+-- relocation applied, as code between two phases has.
+abbrev pub IsNew : (l : Linked) → Code → State → Rewrites l → Symbol → ℕ → Type 0
+IsNew l c s g symbol any =
+    (AreLeftAlone (law_at l g).left l g.i (span l g.i).0 (4 * (shape_at l g.i).1)
+    × Stands (shape_at l g.i).1 c.new s.pc (drop (span l g.i).0 l.final))
+    ⊎ IsMade (law_at l g).left l g.i symbol any c (shape_at l g.i).1 s.pc
+    (words_at l g.i l.rewritten)
+
+-- Old comes to what is rewritten, and new has what became of it. What else its law requires holds,
+-- as that old has the words before with their relocation applied. So by it they leave kinds and a
+-- state.
+pub record Begins (x : Section) (l : Linked) (c : Code) (k : Kinds) (s : State) (g : Rewrites l)
+    (k' : Kinds) (s' : State) : Type 0 where
+  pub pc : s.pc ≡ sum_64 l.addresses.section (span l g.i).0
+  pub alone : IsRewrittenByNoOther l g.i (span l g.i).0
+  pub symbol : Symbol
+  pub is_symbol : slice_get l.symbols (relocation_in l.relocations_after g.i).symbol ≡ Some symbol
+  pub entry : ℕ
+  pub new : IsNew l c s g symbol entry
+  pub by_law : (law_at l g).IsGroup (words_at l g.i l.section) (words_at l g.i l.rewritten)
+      → IsMade (law_at l g).left l g.i symbol entry c (shape_at l g.i).1 s.pc
+      (words_at l g.i l.rewritten)
+      → Group (of_link (link c)) (shape_at l g.i).2 k s k' s'
+
+abbrev pub rewriting : Rewriting
+rewriting =
+    record {
+      architecture = Ppc64;
+      Code = Code;
+      link = link;
+      Stays = Stays;
+      Rewrites = Rewrites;
+      span = λ l g. span l g.i;
+      executed = λ l g. (shape_at l g.i).2;
+      Begins = Begins;
+    }
+
+-- ---- what is rewritten again
+
+-- A rewrite leaves the relocation that its law is of (`relocation_after`).
+abbrev pub NamesAreLeft : Type 0
+NamesAreLeft =
+    (l : Linked) → IsLinked l → l.context.architecture ≡ Ppc64 → (g : Rewrites l)
+    → g.chosen.relocation ≡ code_of (ppc64_name (name_of (law_at l g).left))
+
+-- Instructions with a relocation of a name are rewritten in one phase alone, or in none.
+abbrev pub IsOfPhase : Phase → Ppc64Relocation → Type 0
+IsOfPhase phase name =
+    (l : Linked) → AreRewritten l → l.context.architecture ≡ Ppc64 → (g : Rewrites l)
+    → g.name ≡ name → l.context.phase ≡ phase
+
+abbrev pub IsOfNoPhase : Ppc64Relocation → Type 0
+IsOfNoPhase name =
+    (l : Linked) → AreRewritten l → l.context.architecture ≡ Ppc64 → (g : Rewrites l)
+    → g.name ≡ name → ⊥
+
+-- The names that rewrites lead to, and the phase that rewrites their instructions. To those of
+-- entries general-dynamic leads before addresses are known, and no later phase rewrites them.
+abbrev pub RewrittenAgain : Type 0
+RewrittenAgain =
+    IsOfPhase phases.PreLayout names.R_PPC64_GOT_TPREL16_HA
+    × IsOfPhase phases.PreLayout names.R_PPC64_GOT_TPREL16_LO_DS
+    × IsOfPhase phases.PreLayout names.R_PPC64_GOT_TPREL16_DS
+    × IsOfPhase phases.PreLayout names.R_PPC64_GOT_TPREL_PCREL34
+    × IsOfPhase phases.PreLayout names.R_PPC64_REL24
+    × IsOfPhase phases.TlsLocalExec names.R_PPC64_TPREL16_HA
+    × IsOfPhase phases.TlsLocalExec names.R_PPC64_TPREL16_LO
+    × IsOfPhase phases.TlsLocalExec names.R_PPC64_TPREL16_LO_DS
+    × IsOfPhase phases.ShortPcRel names.R_PPC64_TOC16_HA
+    × IsOfPhase phases.ShortPcRel names.R_PPC64_TOC16_LO
+    × IsOfNoPhase names.R_PPC64_NONE × IsOfNoPhase names.R_PPC64_PCREL34
+    × IsOfNoPhase names.R_PPC64_TPREL34
+    × IsOfNoPhase names.R_PPC64_TOC16 × IsOfNoPhase names.R_PPC64_TOC16_DS
+    × IsOfNoPhase names.R_PPC64_TPREL16 × IsOfNoPhase names.R_PPC64_TPREL16_DS
