@@ -109,6 +109,12 @@ macro_rules! row_of {
     };
 }
 
+macro_rules! applied_of {
+    ($of:ident $module:ident $names:ident ($code:expr, $operands:expr, $dest:expr)) => {
+        crate::$module::apply(crate::$module::$names::from_elf($code), $operands, $dest)
+    };
+}
+
 macro_rules! text_of {
     ($of:ident $module:ident $names:ident ($code:expr)) => {
         match crate::$module::$names::from_elf($code) {
@@ -191,10 +197,7 @@ impl Architecture {
         ensures { (row : Option RelocationKindInfo) × IsRow self code row
             × IsAppliedIfKnown row operands.now dest.old dest.new result }
     {
-        match self.row(code) {
-            Some(row) => Some(row.apply(operands, dest)),
-            None => None,
-        }
+        by_architecture!(self, applied_of(code, operands, dest))
     }
 
     /// The handle of the relocation with a code: a number that names both, by which the library

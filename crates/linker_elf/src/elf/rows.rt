@@ -5,7 +5,7 @@ ghost use Rattle.std.specs.Prelude.{true, false, slice_get};
 ghost use Rattle.std.specs.Option.{unwrap_or};
 ghost use Rattle.linker_elf.specs.Agrees.{RowFits};
 ghost use Rattle.linker_elf.specs.Applied.{IsApplied, IsRejected};
-ghost use Rattle.linker_elf.specs.AppliedRows.{IsAppliedBy, IsWrittenOrRejected};
+ghost use Rattle.linker_elf.specs.AppliedRows.{IsAppliedBy, IsAppliedIfKnown, IsWrittenOrRejected};
 ghost use Rattle.linker_elf.specs.Entries.{IsGotAnswer, IsPltAnswer};
 ghost use Rattle.linker_elf.specs.Facts.{facts_of};
 ghost use Rattle.linker_elf.specs.Relocate.{Reaches, IsInReach, WritesRow, RejectsValue};
@@ -347,15 +347,24 @@ impl Row {
         ensures ok { OnOk result (WritesRow self.now value dest.old dest.new) }
         ensures err { IfErr result (RejectsValue self.now value dest.old dest.new) }
     {
-        write_row(self.entry, value, dest)
+        self.write_in(value, dest, false)
+    }
+
+    /// The same. With `in_place` all of it is inlined: by a constant row little is left of it.
+    #[inline(always)]
+    fn write_in(&self, value: i64, dest: &mut [u8], in_place: bool) -> Result<(), RelocateError>
+        ensures ok { OnOk result (WritesRow self.now value dest.old dest.new) }
+        ensures err { IfErr result (RejectsValue self.now value dest.old dest.new) }
+    {
+        write_row(self.entry, value, dest, in_place)
     }
 
     /// The same, with `ApplyError`.
     #[inline(always)]
-    fn write_applied(&self, value: i64, dest: &mut [u8]) -> Result<(), ApplyError>
+    fn write_applied(&self, value: i64, dest: &mut [u8], in_place: bool) -> Result<(), ApplyError>
         ensures { IsWrittenOrRejected self.now value dest.old dest.new result }
     {
-        match self.write(value, dest) {
+        match self.write_in(value, dest, in_place) {
             Ok(()) => Ok(()),
             Err(error) => Err(ApplyError::Write(error)),
         }
@@ -367,8 +376,21 @@ impl Row {
     pub fn apply(&self, operands: &Operands, dest: &mut [u8]) -> Result<(), ApplyError>
         ensures { IsAppliedBy self.now operands.now dest.old dest.new result }
     {
+        self.apply_in(operands, dest, false)
+    }
+
+    /// The same, inlined with `in_place`.
+    #[inline(always)]
+    fn apply_in(
+        &self,
+        operands: &Operands,
+        dest: &mut [u8],
+        in_place: bool,
+    ) -> Result<(), ApplyError>
+        ensures { IsAppliedBy self.now operands.now dest.old dest.new result }
+    {
         match self.value(operands) {
-            Ok(value) => self.write_applied(value, dest),
+            Ok(value) => self.write_applied(value, dest, in_place),
             Err(error) => Err(ApplyError::Formula(error)),
         }
     }
@@ -387,6 +409,22 @@ impl Row {
     }
 }
 
+/// `Row::apply` of a row, if there is one.
+#[inline(always)]
+pub(crate) fn apply_known(
+    row: Option<Row>,
+    operands: &Operands,
+    dest: &mut [u8],
+    in_place: bool,
+) -> Option<Result<(), ApplyError>>
+    ensures { IsAppliedIfKnown row operands.now dest.old dest.new result }
+{
+    match row {
+        Some(row) => Some(row.apply_in(operands, dest, in_place)),
+        None => None,
+    }
+}
+
 /// Whether a value is a multiple of an alignment, which is `low_bits` plus 1. Only the contract
 /// uses `_alignment`.
 #[inline(always)]
@@ -399,9 +437,14 @@ fn has_no_bits(low_bits: u8, value: i64, _alignment: u64) -> bool
 }
 
 /// `Row::write`, of the row of an entry. Only rows that don't take all values look at the
-/// instruction.
+/// instruction. With `in_place` the bits of an instruction are written here.
 #[inline(always)]
-fn write_row(entry: &'static TableRow, value: i64, dest: &mut [u8]) -> Result<(), RelocateError>
+fn write_row(
+    entry: &'static TableRow,
+    value: i64,
+    dest: &mut [u8],
+    in_place: bool,
+) -> Result<(), RelocateError>
     requires { IsSound entry.now }
     ensures ok { OnOk result (WritesRow (info_of entry.now) value dest.old dest.new) }
     ensures err { IfErr result (RejectsValue (info_of entry.now) value dest.old dest.new) }
@@ -418,7 +461,7 @@ fn write_row(entry: &'static TableRow, value: i64, dest: &mut [u8]) -> Result<()
     match tests.bytes {
         4 => store(4, value.cast_unsigned(), dest),
         8 => store(8, value.cast_unsigned(), dest),
-        _ => write_plain(entry, value, dest),
+        _ => write_form(entry, value, dest, in_place),
     }
     Ok(())
 }
@@ -450,6 +493,35 @@ fn write_plain(entry: &'static TableRow, value: i64, dest: &mut [u8])
             RelocationInstruction::AArch64(insn) => write_aarch64(insn, range, value, dest),
             _ => write_field(insn, range, value, dest),
         },
+    }
+}
+
+/// The same, inlined.
+#[inline(always)]
+fn write_inlined(entry: &'static TableRow, value: i64, dest: &mut [u8])
+    requires sound { IsSound entry.now }
+    requires takes { takes_all (info_of entry.now) ≡ true }
+    requires room { window_len (info_of entry.now) ≤ length dest.old }
+    ensures { IsWritten entry.now.size entry.now.kind value dest.old dest.new }
+{
+    match entry.size {
+        RelocationSize::ByteSize(len) => write_number(entry.kind, len as usize, value, dest),
+        RelocationSize::BitMasking { range, insn } => write_field(insn, range, value, dest),
+    }
+}
+
+/// Either.
+#[inline(always)]
+fn write_form(entry: &'static TableRow, value: i64, dest: &mut [u8], in_place: bool)
+    requires sound { IsSound entry.now }
+    requires takes { takes_all (info_of entry.now) ≡ true }
+    requires room { window_len (info_of entry.now) ≤ length dest.old }
+    ensures { IsWritten entry.now.size entry.now.kind value dest.old dest.new }
+{
+    if in_place {
+        write_inlined(entry, value, dest);
+    } else {
+        write_plain(entry, value, dest);
     }
 }
 
@@ -509,6 +581,19 @@ impl RelocationKindInfo {
         }
         Ok(())
     }
+}
+
+/// `Row::apply` of a name's row. Those that are listed have code of their own, of which LLVM leaves
+/// what is the formula's and the form's.
+macro_rules! applied {
+    (($names:ident, $name:expr, $operands:expr, $dest:expr) $($often:ident)+) => {
+        match $name {
+            $($names::$often => {
+                $crate::elf::rows::apply_known(row($names::$often), $operands, $dest, true)
+            })+
+            _ => $crate::elf::rows::apply_known(row($name), $operands, $dest, false),
+        }
+    };
 }
 
 /// What is made of the relocations of an architecture. Its `relocations!` lists them as `code NAME
@@ -917,6 +1002,7 @@ macro_rules! entry {
     (@ $make:ident $entry:ident $formula:ident) => { $crate::elf::EntryUse::$entry };
 }
 
+pub(crate) use applied;
 pub(crate) use bits;
 pub(crate) use bound;
 pub(crate) use entry;

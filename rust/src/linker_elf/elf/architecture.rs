@@ -114,6 +114,12 @@ macro_rules! row_of {
     };
 }
 
+macro_rules! applied_of {
+    ($of:ident $module:ident $names:ident ($code:expr, $operands:expr, $dest:expr)) => {
+        crate::linker_elf::$module::apply(crate::linker_elf::$module::$names::from_elf($code), $operands, $dest)
+    };
+}
+
 macro_rules! text_of {
     ($of:ident $module:ident $names:ident ($code:expr)) => {
         match crate::linker_elf::$module::$names::from_elf($code) {
@@ -190,10 +196,7 @@ impl Architecture {
         operands: &Operands,
         dest: &mut [u8],
     ) -> Option<Result<(), ApplyError>> {
-        match self.row(code) {
-            Some(row) => Some(row.apply(operands, dest)),
-            None => None,
-        }
+        by_architecture!(self, applied_of(code, operands, dest))
     }
 
     /// The handle of the relocation with a code: a number that names both, by which the library

@@ -291,13 +291,19 @@ impl Row {
     /// - The bytes after `window` are unchanged. A relocation without a value writes nothing.
     #[inline(always)]
     pub fn write(&self, value: i64, dest: &mut [u8]) -> Result<(), RelocateError> {
-        write_row(self.entry, value, dest)
+        self.write_in(value, dest, false)
+    }
+
+    /// The same. With `in_place` all of it is inlined: by a constant row little is left of it.
+    #[inline(always)]
+    fn write_in(&self, value: i64, dest: &mut [u8], in_place: bool) -> Result<(), RelocateError> {
+        write_row(self.entry, value, dest, in_place)
     }
 
     /// The same, with [`ApplyError`](crate::elf::ApplyError).
     #[inline(always)]
-    fn write_applied(&self, value: i64, dest: &mut [u8]) -> Result<(), ApplyError> {
-        match self.write(value, dest) {
+    fn write_applied(&self, value: i64, dest: &mut [u8], in_place: bool) -> Result<(), ApplyError> {
+        match self.write_in(value, dest, in_place) {
             Ok(()) => Ok(()),
             Err(error) => Err(ApplyError::Write(error)),
         }
@@ -307,8 +313,19 @@ impl Row {
     /// an error nothing is written.
     #[inline(always)]
     pub fn apply(&self, operands: &Operands, dest: &mut [u8]) -> Result<(), ApplyError> {
+        self.apply_in(operands, dest, false)
+    }
+
+    /// The same, inlined with `in_place`.
+    #[inline(always)]
+    fn apply_in(
+        &self,
+        operands: &Operands,
+        dest: &mut [u8],
+        in_place: bool,
+    ) -> Result<(), ApplyError> {
         match self.value(operands) {
-            Ok(value) => self.write_applied(value, dest),
+            Ok(value) => self.write_applied(value, dest, in_place),
             Err(error) => Err(ApplyError::Formula(error)),
         }
     }
@@ -325,6 +342,20 @@ impl Row {
     }
 }
 
+/// `Row::apply` of a row, if there is one.
+#[inline(always)]
+pub(crate) fn apply_known(
+    row: Option<Row>,
+    operands: &Operands,
+    dest: &mut [u8],
+    in_place: bool,
+) -> Option<Result<(), ApplyError>> {
+    match row {
+        Some(row) => Some(row.apply_in(operands, dest, in_place)),
+        None => None,
+    }
+}
+
 /// Whether a value is a multiple of an alignment, which is `low_bits` plus 1. Only the contract
 /// uses `_alignment`.
 #[inline(always)]
@@ -333,9 +364,14 @@ fn has_no_bits(low_bits: u8, value: i64, _alignment: u64) -> bool {
 }
 
 /// [`Row::write`](crate::elf::Row::write), of the row of an entry. Only rows that don't take all values look at the
-/// instruction.
+/// instruction. With `in_place` the bits of an instruction are written here.
 #[inline(always)]
-fn write_row(entry: &'static TableRow, value: i64, dest: &mut [u8]) -> Result<(), RelocateError> {
+fn write_row(
+    entry: &'static TableRow,
+    value: i64,
+    dest: &mut [u8],
+    in_place: bool,
+) -> Result<(), RelocateError> {
     let tests = &entry.tests;
     if !tests.takes_all
         || dest.len() < tests.window
@@ -348,7 +384,7 @@ fn write_row(entry: &'static TableRow, value: i64, dest: &mut [u8]) -> Result<()
     match tests.bytes {
         4 => store(4, value as u64, dest),
         8 => store(8, value as u64, dest),
-        _ => write_plain(entry, value, dest),
+        _ => write_form(entry, value, dest, in_place),
     }
     Ok(())
 }
@@ -372,6 +408,25 @@ fn write_plain(entry: &'static TableRow, value: i64, dest: &mut [u8]) {
             RelocationInstruction::AArch64(insn) => write_aarch64(insn, range, value, dest),
             _ => write_field(insn, range, value, dest),
         },
+    }
+}
+
+/// The same, inlined.
+#[inline(always)]
+fn write_inlined(entry: &'static TableRow, value: i64, dest: &mut [u8]) {
+    match entry.size {
+        RelocationSize::ByteSize(len) => write_number(entry.kind, len as usize, value, dest),
+        RelocationSize::BitMasking { range, insn } => write_field(insn, range, value, dest),
+    }
+}
+
+/// Either.
+#[inline(always)]
+fn write_form(entry: &'static TableRow, value: i64, dest: &mut [u8], in_place: bool) {
+    if in_place {
+        write_inlined(entry, value, dest);
+    } else {
+        write_plain(entry, value, dest);
     }
 }
 
@@ -419,6 +474,19 @@ impl RelocationKindInfo {
         }
         Ok(())
     }
+}
+
+/// `Row::apply` of a name's row. Those that are listed have code of their own, of which LLVM leaves
+/// what is the formula's and the form's.
+macro_rules! applied {
+    (($names:ident, $name:expr, $operands:expr, $dest:expr) $($often:ident)+) => {
+        match $name {
+            $($names::$often => {
+                $crate::linker_elf::elf::rows::apply_known(row($names::$often), $operands, $dest, true)
+            })+
+            _ => $crate::linker_elf::elf::rows::apply_known(row($name), $operands, $dest, false),
+        }
+    };
 }
 
 /// What is made of the relocations of an architecture. Its `relocations!` lists them as `code NAME
@@ -822,6 +890,7 @@ macro_rules! entry {
     (@ $make:ident $entry:ident $formula:ident) => { $crate::linker_elf::elf::EntryUse::$entry };
 }
 
+pub(crate) use applied;
 pub(crate) use bits;
 pub(crate) use bound;
 pub(crate) use entry;
