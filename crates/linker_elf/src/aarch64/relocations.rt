@@ -338,7 +338,7 @@ pub fn row(name: AArch64Relocation) -> Option<Row>
 }
 
 /// `Row::apply` of a name's row. None of a name without a row.
-#[inline(never)]
+#[inline(always)]
 pub(crate) fn apply(
     name: AArch64Relocation,
     operands: &Operands,
@@ -347,7 +347,8 @@ pub(crate) fn apply(
     ensures { IsAppliedIfKnown (aarch64_row name) operands.now dest.old dest.new result }
 {
     applied! { (AArch64Relocation, name, operands, dest)
-        R_AARCH64_ADR_PREL_PG_HI21 R_AARCH64_ADD_ABS_LO12_NC R_AARCH64_JUMP26 R_AARCH64_CALL26 R_AARCH64_LDST64_ABS_LO12_NC
+        R_AARCH64_CALL26 R_AARCH64_JUMP26 R_AARCH64_ADR_PREL_PG_HI21 R_AARCH64_ADD_ABS_LO12_NC
+        R_AARCH64_LDST64_ABS_LO12_NC
     }
 }
 

@@ -223,7 +223,7 @@ pub fn row(name: RiscVRelocation) -> Option<Row>
 }
 
 /// `Row::apply` of a name's row. None of a name without a row.
-#[inline(never)]
+#[inline(always)]
 pub(crate) fn apply(
     name: RiscVRelocation,
     operands: &Operands,

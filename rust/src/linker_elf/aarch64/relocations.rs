@@ -324,14 +324,15 @@ pub const fn row(name: AArch64Relocation) -> Option<Row> {
 }
 
 /// `Row::apply` of a name's row. None of a name without a row.
-#[inline(never)]
+#[inline(always)]
 pub(crate) fn apply(
     name: AArch64Relocation,
     operands: &Operands,
     dest: &mut [u8],
 ) -> Option<Result<(), ApplyError>> {
     applied! { (AArch64Relocation, name, operands, dest)
-        R_AARCH64_ADR_PREL_PG_HI21 R_AARCH64_ADD_ABS_LO12_NC R_AARCH64_JUMP26 R_AARCH64_CALL26 R_AARCH64_LDST64_ABS_LO12_NC
+        R_AARCH64_CALL26 R_AARCH64_JUMP26 R_AARCH64_ADR_PREL_PG_HI21 R_AARCH64_ADD_ABS_LO12_NC
+        R_AARCH64_LDST64_ABS_LO12_NC
     }
 }
 

@@ -364,7 +364,7 @@ fn has_no_bits(low_bits: u8, value: i64, _alignment: u64) -> bool {
 }
 
 /// [`Row::write`](crate::elf::Row::write), of the row of an entry. Only rows that don't take all values look at the
-/// instruction. With `in_place` the bits of an instruction are written here.
+/// instruction. `in_place` is as of `write_form`.
 #[inline(always)]
 fn write_row(
     entry: &'static TableRow,
@@ -411,22 +411,14 @@ fn write_plain(entry: &'static TableRow, value: i64, dest: &mut [u8]) {
     }
 }
 
-/// The same, inlined.
-#[inline(always)]
-fn write_inlined(entry: &'static TableRow, value: i64, dest: &mut [u8]) {
-    match entry.size {
-        RelocationSize::ByteSize(len) => write_number(entry.kind, len as usize, value, dest),
-        RelocationSize::BitMasking { range, insn } => write_field(insn, range, value, dest),
-    }
-}
-
-/// Either.
+/// The same. With `in_place` the bits of an instruction are written here.
 #[inline(always)]
 fn write_form(entry: &'static TableRow, value: i64, dest: &mut [u8], in_place: bool) {
-    if in_place {
-        write_inlined(entry, value, dest);
-    } else {
-        write_plain(entry, value, dest);
+    match entry.size {
+        RelocationSize::BitMasking { range, insn } if in_place => {
+            write_field(insn, range, value, dest)
+        }
+        _ => write_plain(entry, value, dest),
     }
 }
 

@@ -252,7 +252,7 @@ pub const fn row(name: LoongArch64Relocation) -> Option<Row> {
 }
 
 /// `Row::apply` of a name's row. None of a name without a row.
-#[inline(never)]
+#[inline(always)]
 pub(crate) fn apply(
     name: LoongArch64Relocation,
     operands: &Operands,

@@ -310,7 +310,7 @@ pub const fn row(name: Ppc64Relocation) -> Option<Row> {
 }
 
 /// `Row::apply` of a name's row. None of a name without a row.
-#[inline(never)]
+#[inline(always)]
 pub(crate) fn apply(
     name: Ppc64Relocation,
     operands: &Operands,

@@ -165,7 +165,7 @@ pub const fn row(name: X86_64Relocation) -> Option<Row> {
 }
 
 /// `Row::apply` of a name's row. None of a name without a row.
-#[inline(never)]
+#[inline(always)]
 pub(crate) fn apply(
     name: X86_64Relocation,
     operands: &Operands,

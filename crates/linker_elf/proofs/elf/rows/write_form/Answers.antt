@@ -4,7 +4,7 @@ use Rattle.std.proofs.lemmas.Int.{to_z-of_z}
 use Rattle.linker_elf.specs.Relocate.{InstructionWritten, IsWritten}
 use Rattle.linker_elf.specs.Inner.RowTables.{info_of, is_plain}
 use Rattle.linker_elf.proofs.PlainRows.{takes, written}
-use Rattle.linker_elf.proofs.elf.rows.write_inlined.Goals as goal
+use Rattle.linker_elf.proofs.elf.rows.write_form.Goals as goal
 
 pub returns-in-BitMasking : goal.returns-in-BitMasking
 returns-in-BitMasking c =
