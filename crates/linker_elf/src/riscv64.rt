@@ -4,5 +4,4 @@ pub(crate) mod forms;
 mod relocations;
 
 pub use forms::RiscVInstruction;
-pub(crate) use relocations::apply;
 pub use relocations::{RiscVRelocation, clui_row, relocation_type_from_raw, row};

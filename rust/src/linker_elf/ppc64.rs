@@ -7,6 +7,5 @@ mod relocations;
 mod sequences;
 
 pub use forms::{DQ_UNIT, Ppc64Instruction};
-pub(crate) use relocations::apply;
 pub use relocations::{Ppc64Relocation, relocation_type_from_raw, row};
 pub use sequences::write_ha_lo;

@@ -4,5 +4,4 @@
 
 mod relocations;
 
-pub(crate) use relocations::apply;
 pub use relocations::{X86_64Relocation, relocation_from_raw, row};

@@ -3,15 +3,14 @@
 ghost use Rattle.std.specs.Prelude.{◌≡◌, IfSome};
 ghost use denote.Enum.Declared.{tag_of};
 ghost use Rattle.linker_elf.specs.Agrees.{RowAgrees, RowFits};
-ghost use Rattle.linker_elf.specs.AppliedRows.{IsAppliedIfKnown};
 ghost use Rattle.linker_elf.specs.ElfNames.{IsNameOf, code_of, text_of};
 ghost use Rattle.linker_elf.specs.Readings.{RowReadsNoOther};
 ghost use Rattle.linker_elf.specs.AArch64Relocations.{aarch64_name, aarch64_row};
 ghost use Rattle.linker_elf.specs.contracts.aarch64.relocations.AArch64Relocation as names;
 
 use crate::elf::choice_table::RelocationName;
-use crate::elf::rows::{TableRow, applied, info_in, listed, row_in, text_at};
-use crate::elf::{ApplyError, Operands, RelocationKindInfo, Row};
+use crate::elf::rows::{TableRow, info_in, listed, row_in, text_at};
+use crate::elf::{RelocationKindInfo, Row};
 use std::fmt;
 
 /// The relocations of AArch64, by their names in ELF for the Arm 64-bit Architecture, "Relocation".
@@ -335,21 +334,6 @@ pub fn row(name: AArch64Relocation) -> Option<Row>
     ensures others { IfSome result RowReadsNoOther }
 {
     row_in(&ROWS[index(name)])
-}
-
-/// `Row::apply` of a name's row. None of a name without a row.
-#[inline(always)]
-pub(crate) fn apply(
-    name: AArch64Relocation,
-    operands: &Operands,
-    dest: &mut [u8],
-) -> Option<Result<(), ApplyError>>
-    ensures { IsAppliedIfKnown (aarch64_row name) operands.now dest.old dest.new result }
-{
-    applied! { (AArch64Relocation, name, operands, dest)
-        R_AARCH64_CALL26 R_AARCH64_JUMP26 R_AARCH64_ADR_PREL_PG_HI21 R_AARCH64_ADD_ABS_LO12_NC
-        R_AARCH64_LDST64_ABS_LO12_NC
-    }
 }
 
 impl RelocationName for AArch64Relocation {

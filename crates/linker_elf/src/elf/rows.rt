@@ -5,7 +5,7 @@ ghost use Rattle.std.specs.Prelude.{true, false, slice_get};
 ghost use Rattle.std.specs.Option.{unwrap_or};
 ghost use Rattle.linker_elf.specs.Agrees.{RowFits};
 ghost use Rattle.linker_elf.specs.Applied.{IsApplied, IsRejected};
-ghost use Rattle.linker_elf.specs.AppliedRows.{IsAppliedBy, IsAppliedIfKnown, IsWrittenOrRejected};
+ghost use Rattle.linker_elf.specs.AppliedRows.{IsAppliedBy, IsWrittenOrRejected};
 ghost use Rattle.linker_elf.specs.Entries.{IsGotAnswer, IsPltAnswer};
 ghost use Rattle.linker_elf.specs.Facts.{facts_of};
 ghost use Rattle.linker_elf.specs.Relocate.{Reaches, IsInReach, WritesRow, RejectsValue};
@@ -381,7 +381,7 @@ impl Row {
 
     /// The same, inlined with `in_place`.
     #[inline(always)]
-    fn apply_in(
+    pub(crate) fn apply_in(
         &self,
         operands: &Operands,
         dest: &mut [u8],
@@ -406,22 +406,6 @@ impl Row {
             Some(value) => self.write(value, dest).is_ok(),
             None => false,
         }
-    }
-}
-
-/// `Row::apply` of a row, if there is one.
-#[inline(always)]
-pub(crate) fn apply_known(
-    row: Option<Row>,
-    operands: &Operands,
-    dest: &mut [u8],
-    in_place: bool,
-) -> Option<Result<(), ApplyError>>
-    ensures { IsAppliedIfKnown row operands.now dest.old dest.new result }
-{
-    match row {
-        Some(row) => Some(row.apply_in(operands, dest, in_place)),
-        None => None,
     }
 }
 
@@ -568,19 +552,6 @@ impl RelocationKindInfo {
         }
         Ok(())
     }
-}
-
-/// `Row::apply` of a name's row. Those that are listed have code of their own, of which LLVM leaves
-/// what is the formula's and the form's.
-macro_rules! applied {
-    (($names:ident, $name:expr, $operands:expr, $dest:expr) $($often:ident)+) => {
-        match $name {
-            $($names::$often => {
-                $crate::elf::rows::apply_known(row($names::$often), $operands, $dest, true)
-            })+
-            _ => $crate::elf::rows::apply_known(row($name), $operands, $dest, false),
-        }
-    };
 }
 
 /// What is made of the relocations of an architecture. Its `relocations!` lists them as `code NAME
@@ -989,7 +960,6 @@ macro_rules! entry {
     (@ $make:ident $entry:ident $formula:ident) => { $crate::elf::EntryUse::$entry };
 }
 
-pub(crate) use applied;
 pub(crate) use bits;
 pub(crate) use bound;
 pub(crate) use entry;

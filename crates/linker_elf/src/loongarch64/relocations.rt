@@ -3,7 +3,6 @@
 ghost use Rattle.std.specs.Prelude.{◌≡◌, IfSome};
 ghost use denote.Enum.Declared.{tag_of};
 ghost use Rattle.linker_elf.specs.Agrees.{LoongArchRowAgrees, RowFits};
-ghost use Rattle.linker_elf.specs.AppliedRows.{IsAppliedIfKnown};
 ghost use Rattle.linker_elf.specs.ElfNames.{IsNameOf, code_of, text_of};
 ghost use Rattle.linker_elf.specs.Readings.{LoongArchRowReadsNoOther};
 ghost use Rattle.linker_elf.specs.LoongArchRelocations.{loongarch_name, loongarch_row};
@@ -12,10 +11,8 @@ ghost use Rattle.linker_elf.specs.Inner.RowTables.{with_raw_kind};
 ghost use Rattle.linker_elf.specs.contracts.loongarch64.relocations.LoongArch64Relocation as names;
 
 use crate::elf::choice_table::RelocationName;
-use crate::elf::rows::{TableRow, applied, listed, raw_info_in, row_in, text_at};
-use crate::elf::{
-    ApplyError, Operands, RelocationKind, RelocationKindInfo, Row, SIZE_2KB, Uleb128Role,
-};
+use crate::elf::rows::{TableRow, listed, raw_info_in, row_in, text_at};
+use crate::elf::{RelocationKind, RelocationKindInfo, Row, SIZE_2KB, Uleb128Role};
 use std::fmt;
 
 /// The relocations of LoongArch, by their names in the LoongArch ELF psABI, "Relocation Types".
@@ -267,20 +264,6 @@ pub fn row(name: LoongArch64Relocation) -> Option<Row>
     ensures others { IfSome result (LoongArchRowReadsNoOther name) }
 {
     row_in(&ROWS[index(name)])
-}
-
-/// `Row::apply` of a name's row. None of a name without a row.
-#[inline(always)]
-pub(crate) fn apply(
-    name: LoongArch64Relocation,
-    operands: &Operands,
-    dest: &mut [u8],
-) -> Option<Result<(), ApplyError>>
-    ensures { IsAppliedIfKnown (loongarch_row name) operands.now dest.old dest.new result }
-{
-    applied! { (LoongArch64Relocation, name, operands, dest)
-        R_LARCH_64 R_LARCH_B26 R_LARCH_PCALA_HI20 R_LARCH_CALL36
-    }
 }
 
 impl RelocationName for LoongArch64Relocation {

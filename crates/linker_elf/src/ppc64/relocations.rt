@@ -3,7 +3,6 @@
 ghost use Rattle.std.specs.Prelude.{◌≡◌, IfSome};
 ghost use denote.Enum.Declared.{tag_of};
 ghost use Rattle.linker_elf.specs.Agrees.{RowAgrees, RowFits};
-ghost use Rattle.linker_elf.specs.AppliedRows.{IsAppliedIfKnown};
 ghost use Rattle.linker_elf.specs.ElfNames.{IsNameOf, code_of, text_of};
 ghost use Rattle.linker_elf.specs.Readings.{RowReadsNoOther};
 ghost use Rattle.linker_elf.specs.Ppc64Relocations.{ppc64_name, ppc64_relocation, ppc64_row};
@@ -11,8 +10,8 @@ ghost use Rattle.linker_elf.specs.Rows.{raw_row};
 ghost use Rattle.linker_elf.specs.contracts.ppc64.relocations.Ppc64Relocation as names;
 
 use crate::elf::choice_table::RelocationName;
-use crate::elf::rows::{TableRow, applied, listed, raw_info_in, row_in, text_at};
-use crate::elf::{ApplyError, Operands, RelocationKindInfo, Row};
+use crate::elf::rows::{TableRow, listed, raw_info_in, row_in, text_at};
+use crate::elf::{RelocationKindInfo, Row};
 use std::fmt;
 
 /// The relocations of PowerPC64, by their names in the 64-bit ELF V2 ABI for Power, "Relocation
@@ -322,20 +321,6 @@ pub fn row(name: Ppc64Relocation) -> Option<Row>
     ensures others { IfSome result RowReadsNoOther }
 {
     row_in(&ROWS[index(name)])
-}
-
-/// `Row::apply` of a name's row. None of a name without a row.
-#[inline(always)]
-pub(crate) fn apply(
-    name: Ppc64Relocation,
-    operands: &Operands,
-    dest: &mut [u8],
-) -> Option<Result<(), ApplyError>>
-    ensures { IsAppliedIfKnown (ppc64_row name) operands.now dest.old dest.new result }
-{
-    applied! { (Ppc64Relocation, name, operands, dest)
-        R_PPC64_REL24 R_PPC64_ADDR64 R_PPC64_TOC16_LO R_PPC64_TOC16_HA
-    }
 }
 
 impl RelocationName for Ppc64Relocation {

@@ -3,7 +3,6 @@
 ghost use Rattle.std.specs.Prelude.{◌≡◌, IfSome};
 ghost use denote.Enum.Declared.{tag_of};
 ghost use Rattle.linker_elf.specs.Agrees.{RowAgrees, RowFits};
-ghost use Rattle.linker_elf.specs.AppliedRows.{IsAppliedIfKnown};
 ghost use Rattle.linker_elf.specs.ElfNames.{IsNameOf, code_of, text_of};
 ghost use Rattle.linker_elf.specs.Readings.{RowReadsNoOther};
 ghost use Rattle.linker_elf.specs.RiscVRelocations.{riscv_relocation, riscv_name, riscv_row};
@@ -11,8 +10,8 @@ ghost use Rattle.linker_elf.specs.RiscVRelocations.{riscv_uleb128_role, clui_row
 ghost use Rattle.linker_elf.specs.contracts.riscv64.relocations.RiscVRelocation as names;
 
 use crate::elf::choice_table::RelocationName;
-use crate::elf::rows::{TableRow, applied, listed, raw_info_in, row_in, text_at};
-use crate::elf::{ApplyError, Operands, RelocationKindInfo, Row, Uleb128Role};
+use crate::elf::rows::{TableRow, listed, raw_info_in, row_in, text_at};
+use crate::elf::{RelocationKindInfo, Row, Uleb128Role};
 use std::fmt;
 
 /// The relocations of RISC-V, by their names in the RISC-V ELF psABI, "Relocations". `from_elf`
@@ -220,20 +219,6 @@ pub fn row(name: RiscVRelocation) -> Option<Row>
     ensures others { IfSome result RowReadsNoOther }
 {
     row_in(&ROWS[index(name)])
-}
-
-/// `Row::apply` of a name's row. None of a name without a row.
-#[inline(always)]
-pub(crate) fn apply(
-    name: RiscVRelocation,
-    operands: &Operands,
-    dest: &mut [u8],
-) -> Option<Result<(), ApplyError>>
-    ensures { IsAppliedIfKnown (riscv_relocation name).row operands.now dest.old dest.new result }
-{
-    applied! { (RiscVRelocation, name, operands, dest)
-        R_RISCV_BRANCH R_RISCV_JAL R_RISCV_CALL_PLT R_RISCV_PCREL_HI20 R_RISCV_PCREL_LO12_I
-    }
 }
 
 impl RelocationName for RiscVRelocation {

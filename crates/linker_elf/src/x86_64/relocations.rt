@@ -2,15 +2,14 @@
 
 ghost use Rattle.std.specs.Prelude.{◌≡◌};
 ghost use denote.Enum.Declared.{tag_of};
-ghost use Rattle.linker_elf.specs.AppliedRows.{IsAppliedIfKnown};
 ghost use Rattle.linker_elf.specs.ElfNames.{IsNameOf, code_of, text_of};
 ghost use Rattle.linker_elf.specs.Rows.{raw_row};
 ghost use Rattle.linker_elf.specs.X86Relocations.{x86_64_name, x86_64_relocation, x86_64_row};
 ghost use Rattle.linker_elf.specs.contracts.x86_64.relocations.X86_64Relocation as names;
 
 use crate::elf::choice_table::RelocationName;
-use crate::elf::rows::{TableRow, applied, listed, raw_info_in, row_in, text_at};
-use crate::elf::{ApplyError, Operands, RelocationKindInfo, Row};
+use crate::elf::rows::{TableRow, listed, raw_info_in, row_in, text_at};
+use crate::elf::{RelocationKindInfo, Row};
 use std::fmt;
 
 /// The relocations of x86-64, by their names in the x86-64 psABI, "Relocation Types". `from_elf`
@@ -173,20 +172,6 @@ pub fn row(name: X86_64Relocation) -> Option<Row>
     ensures { result ≡ x86_64_row name }
 {
     row_in(&ROWS[index(name)])
-}
-
-/// `Row::apply` of a name's row. None of a name without a row.
-#[inline(always)]
-pub(crate) fn apply(
-    name: X86_64Relocation,
-    operands: &Operands,
-    dest: &mut [u8],
-) -> Option<Result<(), ApplyError>>
-    ensures { IsAppliedIfKnown (x86_64_row name) operands.now dest.old dest.new result }
-{
-    applied! { (X86_64Relocation, name, operands, dest)
-        R_X86_64_64 R_X86_64_PC32 R_X86_64_PLT32 R_X86_64_GOTPCREL R_X86_64_32S R_X86_64_REX_GOTPCRELX
-    }
 }
 
 impl RelocationName for X86_64Relocation {

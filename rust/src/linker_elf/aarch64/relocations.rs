@@ -3,8 +3,8 @@
 //! What the relocations of AArch64 mean.
 
 use crate::linker_elf::elf::choice_table::RelocationName;
-use crate::linker_elf::elf::rows::{TableRow, applied, info_in, listed, row_in, text_at};
-use crate::linker_elf::elf::{ApplyError, Operands, RelocationKindInfo, Row};
+use crate::linker_elf::elf::rows::{TableRow, info_in, listed, row_in, text_at};
+use crate::linker_elf::elf::{RelocationKindInfo, Row};
 use core::fmt;
 
 /// The relocations of AArch64, by their names in ELF for the Arm 64-bit Architecture, "Relocation".
@@ -321,19 +321,6 @@ const fn index(name: AArch64Relocation) -> usize {
 #[inline(always)]
 pub const fn row(name: AArch64Relocation) -> Option<Row> {
     row_in(&ROWS[index(name)])
-}
-
-/// `Row::apply` of a name's row. None of a name without a row.
-#[inline(always)]
-pub(crate) fn apply(
-    name: AArch64Relocation,
-    operands: &Operands,
-    dest: &mut [u8],
-) -> Option<Result<(), ApplyError>> {
-    applied! { (AArch64Relocation, name, operands, dest)
-        R_AARCH64_CALL26 R_AARCH64_JUMP26 R_AARCH64_ADR_PREL_PG_HI21 R_AARCH64_ADD_ABS_LO12_NC
-        R_AARCH64_LDST64_ABS_LO12_NC
-    }
 }
 
 impl RelocationName for AArch64Relocation {

@@ -318,7 +318,7 @@ impl Row {
 
     /// The same, inlined with `in_place`.
     #[inline(always)]
-    fn apply_in(
+    pub(crate) fn apply_in(
         &self,
         operands: &Operands,
         dest: &mut [u8],
@@ -339,20 +339,6 @@ impl Row {
             Some(value) => self.write(value, dest).is_ok(),
             None => false,
         }
-    }
-}
-
-/// `Row::apply` of a row, if there is one.
-#[inline(always)]
-pub(crate) fn apply_known(
-    row: Option<Row>,
-    operands: &Operands,
-    dest: &mut [u8],
-    in_place: bool,
-) -> Option<Result<(), ApplyError>> {
-    match row {
-        Some(row) => Some(row.apply_in(operands, dest, in_place)),
-        None => None,
     }
 }
 
@@ -466,19 +452,6 @@ impl RelocationKindInfo {
         }
         Ok(())
     }
-}
-
-/// `Row::apply` of a name's row. Those that are listed have code of their own, of which LLVM leaves
-/// what is the formula's and the form's.
-macro_rules! applied {
-    (($names:ident, $name:expr, $operands:expr, $dest:expr) $($often:ident)+) => {
-        match $name {
-            $($names::$often => {
-                $crate::linker_elf::elf::rows::apply_known(row($names::$often), $operands, $dest, true)
-            })+
-            _ => $crate::linker_elf::elf::rows::apply_known(row($name), $operands, $dest, false),
-        }
-    };
 }
 
 /// What is made of the relocations of an architecture. Its `relocations!` lists them as `code NAME
@@ -882,7 +855,6 @@ macro_rules! entry {
     (@ $make:ident $entry:ident $formula:ident) => { $crate::linker_elf::elf::EntryUse::$entry };
 }
 
-pub(crate) use applied;
 pub(crate) use bits;
 pub(crate) use bound;
 pub(crate) use entry;

@@ -3,10 +3,8 @@
 //! What the relocations of LoongArch mean.
 
 use crate::linker_elf::elf::choice_table::RelocationName;
-use crate::linker_elf::elf::rows::{TableRow, applied, listed, raw_info_in, row_in, text_at};
-use crate::linker_elf::elf::{
-    ApplyError, Operands, RelocationKind, RelocationKindInfo, Row, SIZE_2KB, Uleb128Role,
-};
+use crate::linker_elf::elf::rows::{TableRow, listed, raw_info_in, row_in, text_at};
+use crate::linker_elf::elf::{RelocationKind, RelocationKindInfo, Row, SIZE_2KB, Uleb128Role};
 use core::fmt;
 
 /// The relocations of LoongArch, by their names in the LoongArch ELF psABI, "Relocation Types".
@@ -249,18 +247,6 @@ const fn index(name: LoongArch64Relocation) -> usize {
 #[inline(always)]
 pub const fn row(name: LoongArch64Relocation) -> Option<Row> {
     row_in(&ROWS[index(name)])
-}
-
-/// `Row::apply` of a name's row. None of a name without a row.
-#[inline(always)]
-pub(crate) fn apply(
-    name: LoongArch64Relocation,
-    operands: &Operands,
-    dest: &mut [u8],
-) -> Option<Result<(), ApplyError>> {
-    applied! { (LoongArch64Relocation, name, operands, dest)
-        R_LARCH_64 R_LARCH_B26 R_LARCH_PCALA_HI20 R_LARCH_CALL36
-    }
 }
 
 impl RelocationName for LoongArch64Relocation {

@@ -3,8 +3,8 @@
 //! What the relocations of PowerPC64 mean.
 
 use crate::linker_elf::elf::choice_table::RelocationName;
-use crate::linker_elf::elf::rows::{TableRow, applied, listed, raw_info_in, row_in, text_at};
-use crate::linker_elf::elf::{ApplyError, Operands, RelocationKindInfo, Row};
+use crate::linker_elf::elf::rows::{TableRow, listed, raw_info_in, row_in, text_at};
+use crate::linker_elf::elf::{RelocationKindInfo, Row};
 use core::fmt;
 
 /// The relocations of PowerPC64, by their names in the 64-bit ELF V2 ABI for Power, "Relocation
@@ -307,18 +307,6 @@ const fn index(name: Ppc64Relocation) -> usize {
 #[inline(always)]
 pub const fn row(name: Ppc64Relocation) -> Option<Row> {
     row_in(&ROWS[index(name)])
-}
-
-/// `Row::apply` of a name's row. None of a name without a row.
-#[inline(always)]
-pub(crate) fn apply(
-    name: Ppc64Relocation,
-    operands: &Operands,
-    dest: &mut [u8],
-) -> Option<Result<(), ApplyError>> {
-    applied! { (Ppc64Relocation, name, operands, dest)
-        R_PPC64_REL24 R_PPC64_ADDR64 R_PPC64_TOC16_LO R_PPC64_TOC16_HA
-    }
 }
 
 impl RelocationName for Ppc64Relocation {

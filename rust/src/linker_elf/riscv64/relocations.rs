@@ -3,8 +3,8 @@
 //! What the relocations of RISC-V mean.
 
 use crate::linker_elf::elf::choice_table::RelocationName;
-use crate::linker_elf::elf::rows::{TableRow, applied, listed, raw_info_in, row_in, text_at};
-use crate::linker_elf::elf::{ApplyError, Operands, RelocationKindInfo, Row, Uleb128Role};
+use crate::linker_elf::elf::rows::{TableRow, listed, raw_info_in, row_in, text_at};
+use crate::linker_elf::elf::{RelocationKindInfo, Row, Uleb128Role};
 use core::fmt;
 
 /// The relocations of RISC-V, by their names in the RISC-V ELF psABI, "Relocations". `from_elf`
@@ -203,18 +203,6 @@ const fn index(name: RiscVRelocation) -> usize {
 #[inline(always)]
 pub const fn row(name: RiscVRelocation) -> Option<Row> {
     row_in(&ROWS[index(name)])
-}
-
-/// `Row::apply` of a name's row. None of a name without a row.
-#[inline(always)]
-pub(crate) fn apply(
-    name: RiscVRelocation,
-    operands: &Operands,
-    dest: &mut [u8],
-) -> Option<Result<(), ApplyError>> {
-    applied! { (RiscVRelocation, name, operands, dest)
-        R_RISCV_BRANCH R_RISCV_JAL R_RISCV_CALL_PLT R_RISCV_PCREL_HI20 R_RISCV_PCREL_LO12_I
-    }
 }
 
 impl RelocationName for RiscVRelocation {

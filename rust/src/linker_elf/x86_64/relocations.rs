@@ -3,8 +3,8 @@
 //! What the relocations of x86-64 mean.
 
 use crate::linker_elf::elf::choice_table::RelocationName;
-use crate::linker_elf::elf::rows::{TableRow, applied, listed, raw_info_in, row_in, text_at};
-use crate::linker_elf::elf::{ApplyError, Operands, RelocationKindInfo, Row};
+use crate::linker_elf::elf::rows::{TableRow, listed, raw_info_in, row_in, text_at};
+use crate::linker_elf::elf::{RelocationKindInfo, Row};
 use core::fmt;
 
 /// The relocations of x86-64, by their names in the x86-64 psABI, "Relocation Types". `from_elf`
@@ -162,18 +162,6 @@ const fn index(name: X86_64Relocation) -> usize {
 #[inline(always)]
 pub const fn row(name: X86_64Relocation) -> Option<Row> {
     row_in(&ROWS[index(name)])
-}
-
-/// `Row::apply` of a name's row. None of a name without a row.
-#[inline(always)]
-pub(crate) fn apply(
-    name: X86_64Relocation,
-    operands: &Operands,
-    dest: &mut [u8],
-) -> Option<Result<(), ApplyError>> {
-    applied! { (X86_64Relocation, name, operands, dest)
-        R_X86_64_64 R_X86_64_PC32 R_X86_64_PLT32 R_X86_64_GOTPCREL R_X86_64_32S R_X86_64_REX_GOTPCRELX
-    }
 }
 
 impl RelocationName for X86_64Relocation {
