@@ -109,6 +109,17 @@ macro_rules! row_of {
     };
 }
 
+/// `Architecture::apply`. Each listed code has code of its own, of which LLVM leaves what is the
+/// formula's and the form's.
+macro_rules! applied {
+    (($architecture:expr, $code:expr, $operands:expr, $dest:expr) $($often:literal)+) => {
+        match $code {
+            $($often => $architecture.apply_in($code, $operands, $dest, true),)+
+            _ => $architecture.apply_in($code, $operands, $dest, false),
+        }
+    };
+}
+
 macro_rules! text_of {
     ($of:ident $module:ident $names:ident ($code:expr)) => {
         match crate::$module::$names::from_elf($code) {
@@ -191,8 +202,34 @@ impl Architecture {
         ensures { (row : Option RelocationKindInfo) × IsRow self code row
             × IsAppliedIfKnown row operands.now dest.old dest.new result }
     {
+        match self {
+            // ADR_PREL_PG_HI21, ADD_ABS_LO12_NC, JUMP26, CALL26, LDST64_ABS_LO12_NC
+            Architecture::AArch64 => { applied!((self, code, operands, dest) 275 277 282 283 286) }
+            // BRANCH, JAL, CALL_PLT, PCREL_HI20, PCREL_LO12_I
+            Architecture::RiscV => applied!((self, code, operands, dest) 16 17 19 23 24),
+            // 64, B26, PCALA_HI20, CALL36
+            Architecture::LoongArch64 => applied!((self, code, operands, dest) 2 66 71 110),
+            // REL24, ADDR64, TOC16_LO, TOC16_HA
+            Architecture::Ppc64 => applied!((self, code, operands, dest) 10 38 48 50),
+            // 64, PC32, PLT32, GOTPCREL, 32S, REX_GOTPCRELX
+            Architecture::X86_64 => applied!((self, code, operands, dest) 1 2 4 9 11 42),
+        }
+    }
+
+    /// The same, inlined with `in_place`.
+    #[inline(always)]
+    fn apply_in(
+        self,
+        code: u32,
+        operands: &Operands,
+        dest: &mut [u8],
+        in_place: bool,
+    ) -> Option<Result<(), ApplyError>>
+        ensures { (row : Option RelocationKindInfo) × IsRow self code row
+            × IsAppliedIfKnown row operands.now dest.old dest.new result }
+    {
         match self.row(code) {
-            Some(row) => Some(row.apply(operands, dest)),
+            Some(row) => Some(row.apply_in(operands, dest, in_place)),
             None => None,
         }
     }

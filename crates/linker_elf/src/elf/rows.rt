@@ -347,15 +347,24 @@ impl Row {
         ensures ok { OnOk result (WritesRow self.now value dest.old dest.new) }
         ensures err { IfErr result (RejectsValue self.now value dest.old dest.new) }
     {
-        write_row(self.entry, value, dest)
+        self.write_in(value, dest, false)
+    }
+
+    /// The same. With `in_place` all of it is inlined: by a constant row little is left of it.
+    #[inline(always)]
+    fn write_in(&self, value: i64, dest: &mut [u8], in_place: bool) -> Result<(), RelocateError>
+        ensures ok { OnOk result (WritesRow self.now value dest.old dest.new) }
+        ensures err { IfErr result (RejectsValue self.now value dest.old dest.new) }
+    {
+        write_row(self.entry, value, dest, in_place)
     }
 
     /// The same, with `ApplyError`.
     #[inline(always)]
-    fn write_applied(&self, value: i64, dest: &mut [u8]) -> Result<(), ApplyError>
+    fn write_applied(&self, value: i64, dest: &mut [u8], in_place: bool) -> Result<(), ApplyError>
         ensures { IsWrittenOrRejected self.now value dest.old dest.new result }
     {
-        match self.write(value, dest) {
+        match self.write_in(value, dest, in_place) {
             Ok(()) => Ok(()),
             Err(error) => Err(ApplyError::Write(error)),
         }
@@ -367,8 +376,21 @@ impl Row {
     pub fn apply(&self, operands: &Operands, dest: &mut [u8]) -> Result<(), ApplyError>
         ensures { IsAppliedBy self.now operands.now dest.old dest.new result }
     {
+        self.apply_in(operands, dest, false)
+    }
+
+    /// The same, inlined with `in_place`.
+    #[inline(always)]
+    pub(crate) fn apply_in(
+        &self,
+        operands: &Operands,
+        dest: &mut [u8],
+        in_place: bool,
+    ) -> Result<(), ApplyError>
+        ensures { IsAppliedBy self.now operands.now dest.old dest.new result }
+    {
         match self.value(operands) {
-            Ok(value) => self.write_applied(value, dest),
+            Ok(value) => self.write_applied(value, dest, in_place),
             Err(error) => Err(ApplyError::Formula(error)),
         }
     }
@@ -399,9 +421,14 @@ fn has_no_bits(low_bits: u8, value: i64, _alignment: u64) -> bool
 }
 
 /// `Row::write`, of the row of an entry. Only rows that don't take all values look at the
-/// instruction.
+/// instruction. `in_place` is as of `write_form`.
 #[inline(always)]
-fn write_row(entry: &'static TableRow, value: i64, dest: &mut [u8]) -> Result<(), RelocateError>
+fn write_row(
+    entry: &'static TableRow,
+    value: i64,
+    dest: &mut [u8],
+    in_place: bool,
+) -> Result<(), RelocateError>
     requires { IsSound entry.now }
     ensures ok { OnOk result (WritesRow (info_of entry.now) value dest.old dest.new) }
     ensures err { IfErr result (RejectsValue (info_of entry.now) value dest.old dest.new) }
@@ -418,7 +445,7 @@ fn write_row(entry: &'static TableRow, value: i64, dest: &mut [u8]) -> Result<()
     match tests.bytes {
         4 => store(4, value.cast_unsigned(), dest),
         8 => store(8, value.cast_unsigned(), dest),
-        _ => write_plain(entry, value, dest),
+        _ => write_form(entry, value, dest, in_place),
     }
     Ok(())
 }
@@ -450,6 +477,22 @@ fn write_plain(entry: &'static TableRow, value: i64, dest: &mut [u8])
             RelocationInstruction::AArch64(insn) => write_aarch64(insn, range, value, dest),
             _ => write_field(insn, range, value, dest),
         },
+    }
+}
+
+/// The same. With `in_place` the bits of an instruction are written here.
+#[inline(always)]
+fn write_form(entry: &'static TableRow, value: i64, dest: &mut [u8], in_place: bool)
+    requires sound { IsSound entry.now }
+    requires takes { takes_all (info_of entry.now) ≡ true }
+    requires room { window_len (info_of entry.now) ≤ length dest.old }
+    ensures { IsWritten entry.now.size entry.now.kind value dest.old dest.new }
+{
+    match entry.size {
+        RelocationSize::BitMasking { range, insn } if in_place => {
+            write_field(insn, range, value, dest)
+        }
+        _ => write_plain(entry, value, dest),
     }
 }
 

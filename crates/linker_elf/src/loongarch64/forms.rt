@@ -102,7 +102,7 @@ impl LoongArch64Instruction {
 
     /// Writes a value into the instruction or pair that `dest` begins with. Only the form's bits
     /// change. `negative` is ignored.
-    #[inline]
+    #[inline(always)]
     pub fn write_to_value(self, extracted_value: u64, negative: bool, dest: &mut [u8])
         requires room { byte_len (loongarch_form self).window ≤ length dest.old }
         requires fits { Fits (loongarch_form self) extracted_value

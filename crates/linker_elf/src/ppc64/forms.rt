@@ -85,7 +85,7 @@ impl Ppc64Instruction {
 
     /// Writes a value into the instruction that `dest` begins with. Only the form's bits change.
     /// `negative` is ignored.
-    #[inline]
+    #[inline(always)]
     pub fn write_to_value(self, extracted_value: u64, negative: bool, dest: &mut [u8])
         requires { byte_len (ppc64_form self).window ≤ length dest.old }
         ensures written { Written (ppc64_form self) extracted_value negative

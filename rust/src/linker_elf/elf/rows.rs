@@ -291,13 +291,19 @@ impl Row {
     /// - The bytes after `window` are unchanged. A relocation without a value writes nothing.
     #[inline(always)]
     pub fn write(&self, value: i64, dest: &mut [u8]) -> Result<(), RelocateError> {
-        write_row(self.entry, value, dest)
+        self.write_in(value, dest, false)
+    }
+
+    /// The same. With `in_place` all of it is inlined: by a constant row little is left of it.
+    #[inline(always)]
+    fn write_in(&self, value: i64, dest: &mut [u8], in_place: bool) -> Result<(), RelocateError> {
+        write_row(self.entry, value, dest, in_place)
     }
 
     /// The same, with [`ApplyError`](crate::elf::ApplyError).
     #[inline(always)]
-    fn write_applied(&self, value: i64, dest: &mut [u8]) -> Result<(), ApplyError> {
-        match self.write(value, dest) {
+    fn write_applied(&self, value: i64, dest: &mut [u8], in_place: bool) -> Result<(), ApplyError> {
+        match self.write_in(value, dest, in_place) {
             Ok(()) => Ok(()),
             Err(error) => Err(ApplyError::Write(error)),
         }
@@ -307,8 +313,19 @@ impl Row {
     /// an error nothing is written.
     #[inline(always)]
     pub fn apply(&self, operands: &Operands, dest: &mut [u8]) -> Result<(), ApplyError> {
+        self.apply_in(operands, dest, false)
+    }
+
+    /// The same, inlined with `in_place`.
+    #[inline(always)]
+    pub(crate) fn apply_in(
+        &self,
+        operands: &Operands,
+        dest: &mut [u8],
+        in_place: bool,
+    ) -> Result<(), ApplyError> {
         match self.value(operands) {
-            Ok(value) => self.write_applied(value, dest),
+            Ok(value) => self.write_applied(value, dest, in_place),
             Err(error) => Err(ApplyError::Formula(error)),
         }
     }
@@ -333,9 +350,14 @@ fn has_no_bits(low_bits: u8, value: i64, _alignment: u64) -> bool {
 }
 
 /// [`Row::write`](crate::elf::Row::write), of the row of an entry. Only rows that don't take all values look at the
-/// instruction.
+/// instruction. `in_place` is as of `write_form`.
 #[inline(always)]
-fn write_row(entry: &'static TableRow, value: i64, dest: &mut [u8]) -> Result<(), RelocateError> {
+fn write_row(
+    entry: &'static TableRow,
+    value: i64,
+    dest: &mut [u8],
+    in_place: bool,
+) -> Result<(), RelocateError> {
     let tests = &entry.tests;
     if !tests.takes_all
         || dest.len() < tests.window
@@ -348,7 +370,7 @@ fn write_row(entry: &'static TableRow, value: i64, dest: &mut [u8]) -> Result<()
     match tests.bytes {
         4 => store(4, value as u64, dest),
         8 => store(8, value as u64, dest),
-        _ => write_plain(entry, value, dest),
+        _ => write_form(entry, value, dest, in_place),
     }
     Ok(())
 }
@@ -372,6 +394,17 @@ fn write_plain(entry: &'static TableRow, value: i64, dest: &mut [u8]) {
             RelocationInstruction::AArch64(insn) => write_aarch64(insn, range, value, dest),
             _ => write_field(insn, range, value, dest),
         },
+    }
+}
+
+/// The same. With `in_place` the bits of an instruction are written here.
+#[inline(always)]
+fn write_form(entry: &'static TableRow, value: i64, dest: &mut [u8], in_place: bool) {
+    match entry.size {
+        RelocationSize::BitMasking { range, insn } if in_place => {
+            write_field(insn, range, value, dest)
+        }
+        _ => write_plain(entry, value, dest),
     }
 }
 

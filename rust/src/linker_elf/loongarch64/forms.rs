@@ -88,7 +88,7 @@ impl LoongArch64Instruction {
     /// - room: `self.window() <= dest.len()`
     /// - fits: `self.fits(extracted_value, dest)`
     #[cfg_attr(debug_assertions, track_caller)]
-    #[inline]
+    #[inline(always)]
     pub fn write_to_value(self, extracted_value: u64, negative: bool, dest: &mut [u8]) {
         debug_assert!(self.window() <= dest.len());
         debug_assert!(self.fits(extracted_value, dest));

@@ -77,7 +77,7 @@ impl Ppc64Instruction {
     ///
     /// - `self.window() <= dest.len()`
     #[cfg_attr(debug_assertions, track_caller)]
-    #[inline]
+    #[inline(always)]
     pub fn write_to_value(self, extracted_value: u64, negative: bool, dest: &mut [u8]) {
         debug_assert!(self.window() <= dest.len());
         let insn = RelocationInstruction::Ppc64(self);

@@ -47,6 +47,6 @@ returns-in_default-clause-ok c =
     let low : entry.tests.least ≤ℤ v = omega (arith, ints, c.if-value-tests.false) in
     let high : v ≤ℤ entry.tests.last = omega (arith, ints, c.if-tests-value.false) in
     let aligned : IsAligned entry.numbers.alignment v = subst (IsAligned entry.numbers.alignment) (to_z-of_z w64 v c.ranges.value) (c.has_no_bits.ensures.0 c.if-not-has_no_bits.false) in
-    writes_row (info_of entry) v bytes c.write_plain.new.dest c.ranges.value
+    writes_row (info_of entry) v bytes c.write_form.new.dest c.ranges.value
     (accepted_by entry v bytes c.ranges.value c.requires c.if-not-tests.false long aligned low high)
-    (subst (λ z. IsWritten entry.size entry.kind z bytes c.write_plain.new.dest) (to_z-of_z w64 v c.ranges.value) c.write_plain.ensures)
+    (subst (λ z. IsWritten entry.size entry.kind z bytes c.write_form.new.dest) (to_z-of_z w64 v c.ranges.value) c.write_form.ensures)

@@ -1,0 +1,21 @@
+use Rattle.std.proofs.Common.{◌≡◌, subst, sym, true}
+use Rattle.std.specs.Int.{w64}
+use Rattle.std.proofs.lemmas.Int.{to_z-of_z}
+use Rattle.linker_elf.specs.Relocate.{InstructionWritten, IsWritten}
+use Rattle.linker_elf.specs.Inner.RowTables.{info_of, is_plain}
+use Rattle.linker_elf.proofs.PlainRows.{takes, written}
+use Rattle.linker_elf.proofs.elf.rows.write_form.Goals as goal
+
+pub returns-in-BitMasking : goal.returns-in-BitMasking
+returns-in-BitMasking c =
+    let entry = c.args.entry.now in
+    let before = c.args.dest.now in
+    let after = c.write_field.new.dest in
+    let bits = c.in-BitMasking.range in
+    let insn = c.in-BitMasking.insn in
+    let plain = (takes (info_of entry) c.requires.takes).plain in
+    subst (λ s. IsWritten s entry.kind c.args.value before after) (sym c.in-BitMasking.is)
+    (written bits insn entry.kind c.args.value before after
+    (subst (λ s. is_plain s entry.kind ≡ true) c.in-BitMasking.is plain)
+    (subst (λ v. InstructionWritten insn bits v before after) (to_z-of_z w64 c.args.value c.ranges.value)
+    c.write_field.ensures))
