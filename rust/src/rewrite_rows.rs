@@ -140,7 +140,7 @@ fn adds_low12(word: u32) -> bool {
 impl WordBits {
     /// The number in them.
     #[inline(always)]
-    fn of(self, words: Words) -> u32 {
+    fn of(&self, words: Words) -> u32 {
         let word = if self.of_second {
             words.second
         } else {
@@ -158,8 +158,8 @@ impl WordBits {
 impl WordTest {
     /// Whether it holds of instructions.
     #[inline(always)]
-    pub(crate) fn holds(self, words: Words) -> bool {
-        match self {
+    pub(crate) fn holds(&self, words: Words) -> bool {
+        match *self {
             WordTest::Is(bits, number) => bits.of(words) == number,
             WordTest::IsNot(bits, number) => bits.of(words) != number,
             WordTest::IsEither(bits, first, second) => {
@@ -299,7 +299,7 @@ impl Special {
 impl WordEdit {
     /// The instruction, where the one before is this word.
     #[inline(always)]
-    fn of(self, word: u32) -> u32 {
+    fn of(&self, word: u32) -> u32 {
         match self.special {
             None => word & self.keep | self.set,
             Some(special) => special.of(word),
@@ -320,7 +320,7 @@ fn word_of(section: &[u8], start: u64, second: bool) -> u32 {
 impl Original {
     /// Whether the instructions are at an offset of a section.
     #[inline(always)]
-    pub(crate) fn is_for(self, section: &[u8], offset: u64) -> bool {
+    pub(crate) fn is_for(&self, section: &[u8], offset: u64) -> bool {
         self.len == 0
             || self.back <= offset
                 && (!self.aligned || (offset - self.back) % 4 == 0)
@@ -331,7 +331,7 @@ impl Original {
 impl Replacement {
     /// The bytes that the rewrite writes.
     #[inline(always)]
-    fn window(self) -> RewriteWindow {
+    fn window(&self) -> RewriteWindow {
         let (back, len) = match self.edits {
             [] => (0, 0),
             [_] => (self.back, if self.half { 2 } else { 4 }),
@@ -342,7 +342,7 @@ impl Replacement {
 
     /// Whether `apply` may be called at an offset of a section.
     #[inline(always)]
-    pub(crate) fn can_apply(self, section: &[u8], offset: u64) -> bool {
+    pub(crate) fn can_apply(&self, section: &[u8], offset: u64) -> bool {
         let RewriteWindow { back, len } = self.window();
         len == 0
             || has_window(section, offset, back, len)
@@ -354,7 +354,7 @@ impl Replacement {
 
     /// Rewrites the first instructions, at an offset of a section.
     #[inline(always)]
-    pub(crate) fn apply(self, section: &mut [u8], offset: u64) {
+    pub(crate) fn apply(&self, section: &mut [u8], offset: u64) {
         if let [first, more @ ..] = self.edits {
             let start = offset - self.back;
             match more {
@@ -490,7 +490,7 @@ macro_rules! by_row {
     ($tests:ident, $value:expr, $part:ident $row:ident => $use:expr; $($kind:ident { $($of:tt)* })*) => {
         match $value {
             $(RewriteKind::$kind => {
-                let $row = $crate::rewrite_rows::$part!($tests $($of)*);
+                let $row = &$crate::rewrite_rows::$part!($tests $($of)*);
                 $use
             })*
         }

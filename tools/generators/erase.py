@@ -47,6 +47,8 @@ IMPORTS = {r"Vec": "alloc::vec::Vec", r"String": "alloc::string::String",
            r"fallible_\w+|try_reserve|push_reserved|Alloc(Error|Failed)|InlineText|Fail": "crate::support::*"}
 # What `rust/additions.txt` adds that isn't an attribute.
 WORDS_ADDED = {"const", "pub(crate)"}
+# In its place: the method takes `self` by reference.
+BY_REFERENCE = "&self"
 ADDITIONS = "rust/additions.txt"
 # Paths of the source, and those here.
 SHOWN_AS = {r"reading::recognise(?:::fields)?": "recognise", r"reading::\w+": "reading", r"section::\w+": "section",
@@ -215,8 +217,20 @@ def additions(text):
     return added
 
 
+def take_by_reference(source, it):
+    """A method takes what it took by value by reference, and reads it there."""
+    if source[it.opening + 1] != "self":
+        source.stop(it.fn, f"`{it.name}` doesn't take `self`")
+    for at in (at for at in source.places("self") if it.opening < at < source.close[it.body]):
+        if source[at + 1] != "." or at == it.opening + 1:
+            source.replace_tokens(at, at + 1, "&self" if at == it.opening + 1 else "*self")
+
+
 def add(source, added, found):
     """Adds attributes to items, and words before a `fn` or a field."""
+    for it in source.functions:
+        if not it.trait and BY_REFERENCE in added.get(f"{it.owner}::{it.name}", ()):
+            take_by_reference(source, it)
     places = [(f"{it.owner}::{it.name}".removeprefix("::"), it.first, it.fn)
               for it in source.functions if not it.trait]
     for it in source.items:
@@ -231,7 +245,7 @@ def add(source, added, found):
         indent = "\n" + source.text[:start].rpartition("\n")[2]
         derive = next((i for i in range(first, at) if source.is_at(i, "derive (")), 0)
         for word in added[name]:
-            if WITHOUT.fullmatch(word):
+            if WITHOUT.fullmatch(word) or word == BY_REFERENCE:
                 continue
             if word in WORDS_ADDED:
                 source.replace(place, place, word + " ")
@@ -244,10 +258,11 @@ def add(source, added, found):
 
 def make_constants(text):
     """An array of numbers becomes a constant: a caller's crate knows its numbers, and none of a static.
-    Rust writes it to no stack. So do tables of choices."""
+    Rust writes it to no stack. So do tables of choices. A row of rewrites is one by reference."""
     text = text.replace(", and a constant would be written to the stack at each\n/// use.", ".")
     text = re.sub(r"(?m)^static (\w+): (\[u64; \d+\]|\[Table<\w+>; \d+\]) =(\s+)", r"const \1: &\2 =\3&", text)
-    return re.sub(r"(?m)^static (?=\w+: (&\[)?Table\b)", "const ", text)
+    text = re.sub(r"(?m)^static (?=\w+: (&\[)?Table\b)", "const ", text)
+    return re.sub(r"(let \$row = )(?=\$crate::rewrite_rows::\$part!)", r"\1&", text)
 
 
 def move_into_assertions(text):
