@@ -221,8 +221,8 @@ IsMade (to_second name) l i symbol any c n at words =
     Stands 1 c.new at words × HasApplied name l i symbol any c 1 (sum_64 at 4) (drop 4 words)
 IsMade left l i symbol any c n at words = Stands n c.new at words
 
--- Later phases leave n bytes from a start on alone, and other relocations those of a word without
--- one.
+-- Later phases leave n bytes from a start on alone. So do other relocations, unless the one that is
+-- left is applied to all of them.
 abbrev pub AreLeftAlone : Left → Linked → ℕ → ℕ → ℕ → Type 0
 AreLeftAlone (applied name) = UntouchedBytes
 AreLeftAlone left = UntouchedByOthers
@@ -265,13 +265,15 @@ rewriting =
       Begins = Begins;
     }
 
--- ---- what is rewritten again
+-- ---- what a rewrite leaves
 
 -- A rewrite leaves the relocation that its law is of (`relocation_after`).
 abbrev pub NamesAreLeft : Type 0
 NamesAreLeft =
     (l : Linked) → IsLinked l → l.context.architecture ≡ Ppc64 → (g : Rewrites l)
     → g.chosen.relocation ≡ code_of (ppc64_name (name_of (law_at l g).left))
+
+-- ---- what is rewritten again
 
 -- Instructions with a relocation of a name are rewritten in one phase alone, or in none.
 abbrev pub IsOfPhase : Phase → Ppc64Relocation → Type 0
