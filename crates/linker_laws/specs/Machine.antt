@@ -3,7 +3,7 @@
 use Rattle.std.specs.Prelude.{ℕ, zero, suc, ◌+◌, ◌*◌, ◌^◌, ◌<◌, ℤ, pos, ◌+ℤ◌, nat_lt, List}
 use Rattle.std.specs.Prelude.{◌++◌, length, ◌≡◌, take, drop, Option, IsSomeAnd, All, if◌then◌else◌}
 use Rattle.std.specs.Int.{int_rem_euclid, w64, cast_unsigned}
-use Rattle.std.specs.Prelude.{unsigned_abs, Bool, not, ◌&&◌, ◌||◌, ◌==◌}
+use Rattle.std.specs.Prelude.{unsigned_abs}
 use Rattle.linker_base.specs.Bits.{field, signed}
 use Rattle.linker_elf.specs.Value.{sum_64, difference_64}
 use Rattle.linker_elf.specs.declared.elf.RelocationKindInfo.{RelocationKindInfo}
@@ -23,15 +23,6 @@ moved n z = wrapped (pos n +ℤ z)
 -- n bits in two's complement, extended to 64
 abbrev pub extended : ℕ → ℕ → ℕ
 extended n v = cast_unsigned w64 (signed n v)
-
--- ---- sets of registers
-
--- register n too, and all but register n
-abbrev pub also : ℕ → (ℕ → Bool) → ℕ → Bool
-also n differs m = m == n || differs m
-
-abbrev pub but : ℕ → (ℕ → Bool) → ℕ → Bool
-but n differs m = not (m == n) && differs m
 
 -- ---- memory
 
