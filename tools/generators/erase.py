@@ -300,7 +300,8 @@ def erase(source, contracts, moved, is_std, taking, added, found):
     for name in re.findall(r"(?m)^macro_rules! (\w+)", text):
         text = re.sub(rf"(?m)^pub (?=use {name};)", "pub(crate) ", text)
     # an addition that inlines takes the place of the source's
-    text = re.sub(r"(#\[(?:cfg_attr\(.*, inline\(always\)\)|inline)\]\n(?: *#\[.*\]\n)*?) *#\[inline\(always\)\]\n",
+    text = re.sub(r"(#\[(?:cfg_attr\(.*, inline\(always\)\)|inline(?:\(always\))?)\]\n(?: *#\[.*\]\n)*?)"
+                  r" *#\[inline(?:\(always\))?\]\n",
                   r"\1", text)
     # in docs, and in `use` of exports: a module here has the items of all of these there
     for there, here in SHOWN_AS.items():

@@ -182,8 +182,8 @@ impl RewriteKind {
     /// The bytes that `apply` writes, which begin at the offset: none for `NoOp`, `Hi20Delete` and
     /// `Delete`, 2 for `Hi20ToCLui`, `TailToCJ` and `CLuiToCLi`, and 4 for the others. Those that
     /// are then deleted (`deleted`) may lie after them.
+    #[inline(always)]
     #[must_use]
-    #[inline]
     pub fn window(self) -> RewriteWindow {
         rewrites!(self => window)
     }

@@ -467,8 +467,8 @@ impl RewriteKind {
 
     /// Whether `apply` may be called at an offset of a section: the bytes that it rewrites lie in
     /// the section. The instruction is not tested.
-    #[inline]
     #[must_use]
+    #[inline(always)]
     pub fn can_apply(self, section: &[u8], offset: u64) -> bool {
         window_is_in(section, offset, self.window())
     }
@@ -476,8 +476,8 @@ impl RewriteKind {
     /// The bytes that `apply` writes; none for `NoOp`. The field whose value is written afterwards
     /// lies after them, as the last 4 of the 16 bytes of a general-dynamic sequence; but
     /// `JmpIndirectToRelative` and `TlsGdToLocalExecLarge` write 0 to their field.
+    #[inline(always)]
     #[must_use]
-    #[inline]
     pub fn window(self) -> RewriteWindow {
         let (back, len) = rewrites!(self => [window]);
         RewriteWindow { back, len }
@@ -504,7 +504,7 @@ impl RewriteKind {
     }
 
     /// `matches`, where the caller knows the rewrite.
-    #[inline]
+    #[inline(always)]
     pub(super) fn matches_inline(self, section: &[u8], offset: u64) -> bool {
         self.can_apply(section, offset) && self.is_for(section, offset)
     }
