@@ -318,7 +318,7 @@ fn rewrites_of(architecture: &str) -> Numbers {
     let source = repository(&format!("crates/{source}.rt"));
     let (_, list) = source.split_once("        by_row! {").expect("the list");
     let (list, _) = list.split_once("        }").expect("its end");
-    let names = list.lines().filter_map(|line| line.strip_prefix("            ")?.split_once(": "));
+    let names = list.lines().filter_map(|line| line.strip_prefix("            ")?.split_once(" { "));
     let numbered = names.zip(0..).map(|((name, _), at)| (name.to_string(), at));
     numbered.collect()
 }
