@@ -31,10 +31,9 @@ macro_rules! by_code {
             /// Above the codes of all names, which ascend.
             const END: usize = $names::ALL[$names::ALL.len() - 1].elf_code() as usize + 1;
 
-            /// The rows by their codes, and after them that of all other codes. A code that has no
-            /// row takes no branch of its own.
-            static ROWS: [Option<RelocationKindInfo>; END + 1] = {
-                let mut rows = [None; END + 1];
+            /// The rows by their codes.
+            static ROWS: [Option<RelocationKindInfo>; END] = {
+                let mut rows = [None; END];
                 let mut at = 0;
                 while at < $names::ALL.len() {
                     let name = $names::ALL[at];
@@ -49,7 +48,7 @@ macro_rules! by_code {
             #[inline]
             pub const fn $row(r_type: u32) -> Option<RelocationKindInfo> {
                 let code = r_type as usize;
-                ROWS[if code < END { code } else { END }]
+                if code < END { ROWS[code] } else { None }
             }
 
             $($more)*
