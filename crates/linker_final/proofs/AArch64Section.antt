@@ -1,7 +1,7 @@
 -- The rewrites of a section of AArch64: each is of instructions that are rewritten together, and
 -- these are groups.
-use Rattle.std.proofs.Common.{◌≡◌, ◌≢◌, ℕ, ◌+◌, ◌-◌, ◌*◌, ◌<◌, ◌≤◌, ◌⊎◌, inl, inr, ap, sym, ◌∙◌, arith, refl}
-use Rattle.std.proofs.lemmas.Bool.{cases_lt, eq-eqb}
+use Rattle.std.proofs.Common.{◌≡◌, ◌≢◌, ℕ, ◌+◌, ◌-◌, ◌*◌, ◌<◌, ◌≤◌, inl, inr, ap, sym, ◌∙◌, arith, refl}
+use Rattle.std.proofs.lemmas.Bool.{eq-eqb}
 use Rattle.linker_elf.specs.AArch64Relocations.{aarch64_name}
 use Rattle.linker_elf.specs.ElfNames.{IsNameOf}
 use Rattle.linker_elf.specs.declared.aarch64.relocations.AArch64Relocation.{AArch64Relocation}
@@ -13,8 +13,8 @@ use Rattle.linker_final.proofs.AArch64Alone.{branch_is_group, high_is_group, low
 use Rattle.linker_final.proofs.AArch64Descriptors.{initial_is_group, local_is_group}
 use Rattle.linker_final.proofs.AArch64Loads.{load_again_is_group, load_is_group}
 use Rattle.linker_final.proofs.AArch64Written.{IsNew}
-use Rattle.linker_final.proofs.SectionRuns.{AreIn, IsIn, each_or, final_in, is_linked, is_of}
-use Rattle.linker_final.specs.AArch64Section.{Begins, HasFinal, IsRewrittenOf, Rewrites, Stays, StaysBy, address, at_address, at_call, at_high, at_initial, at_jump, at_load, at_local, at_low, call, high, jump, load, low, rewriting, span, to_initial, to_local}
+use Rattle.linker_final.proofs.SectionRuns.{AreIn, beside_or, final_in, is_linked, is_of}
+use Rattle.linker_final.specs.AArch64Section.{Begins, HasFinal, IsRewrittenOf, Rewrites, address, at_address, at_call, at_high, at_initial, at_jump, at_load, at_local, at_low, call, high, jump, load, low, rewriting, span, to_initial, to_local}
 use Rattle.linker_final.specs.Final.{IsLinked, Linked, count}
 use Rattle.linker_final.specs.SectionRuns.{AreCalled, IsPhase, RewritesAreGroups, Section, offset_of}
 use Rattle.linker_laws.specs.AArch64Groups.{Code, Groups, go_and_link, link}
@@ -25,19 +25,12 @@ use Rattle.linker_rewriting.proofs.AArch64Sequences.{in_phase, of_group, of_opti
 use Rattle.linker_rewriting.specs.Decisions.{IsScopeDecision, decision_at}
 use Rattle.linker_rewriting.specs.Groups.{aarch64_scope_in, group_stays}
 use Rattle.linker_rewriting.specs.Rewritten.{IsWholeBy}
-use Rattle.linker_rewriting.specs.declared.decisions.Decision.{Decision}
-use Rattle.linker_rewriting.specs.declared.decisions.Decision.TheVariants.{Kept, Rewritten, Consumed, RewrittenWithSymbol}
+use Rattle.linker_rewriting.specs.declared.decisions.Decision.TheVariants.{Kept}
 use Rattle.linker_rewriting.specs.declared.groups.Group.TheVariants as groups
 use Rattle.linker_rewriting.specs.declared.groups.Scope.TheVariants.{Grouped, Independent}
 use Rattle.linker_rewriting.specs.declared.phases.Phase.{Phase}
 use Rattle.linker_rewriting.specs.declared.phases.Phase.TheVariants as phases
 use Rattle.linker_section.specs.Relocations.{relocation_in}
-
-kept_or_not : (d : Decision) → (d ≡ Kept) ⊎ (d ≢ Kept)
-kept_or_not Kept = inl refl
-kept_or_not (Rewritten chosen) = inr (λ e. cc)
-kept_or_not (RewrittenWithSymbol chosen subject) = inr (λ e. cc)
-kept_or_not Consumed = inr (λ e. cc)
 
 -- ---- what stands at a place
 
@@ -169,27 +162,13 @@ module _ (l : Linked) (linked : IsLinked l) (aarch64 : l.context.architecture �
       let is = scope_there l.context aarch64 l.kept l.relocations l.section l.decisions linked.decided i below in
       by_phase i below changed l.context.phase refl is.name is.is_name
 
-  in_one : (b : ℕ) → Stays l b ⊎ IsIn rewriting l b
-  in_one b =
-      each_or (StaysBy l b) (count l) (λ i below.
-      let o = offset_of l i in
-      elim (cases_lt b o) [
-        | inl before ↦ inl (λ changed. inl before)
-        | inr from ↦ elim (cases_lt b (o + 4)) [
-          | inl less ↦ elim (kept_or_not (decision_at l.decisions i)) [
-            | inl stays ↦ inl (λ changed. absurd (changed stays))
-            | inr changed ↦
-                let w = each_in i below changed in
-                let first = w.first in
-                let last = w.last in
-                inr (record { g = w.g; first = omega (arith, first, from); last = omega (arith, last, less) })
-          ]
-          | inr past ↦ inl (λ changed. inr past)
-        ]
-      ])
-
 pub are_in : AreIn rewriting
-are_in l linked aarch64 b = in_one l linked aarch64 b
+are_in l linked aarch64 b =
+    beside_or l b (λ i below changed from less.
+    let w = each_in l linked aarch64 i below changed in
+    let first = w.first in
+    let last = w.last in
+    record { g = w.g; first = omega (arith, first, from); last = omega (arith, last, less) })
 
 -- ---- groups
 

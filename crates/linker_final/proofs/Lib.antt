@@ -45,6 +45,7 @@ pub mod RiscVNops
 pub mod RiscVOffsets
 pub mod RiscVPackedCalls
 pub mod RiscVPackedDeletions
+pub mod RiscVSection
 pub mod RiscVTested
 pub mod RiscVWritten
 pub mod SameDecisions

@@ -8,6 +8,7 @@ use Rattle.linker_elf.specs.Value.{sum_64}
 use Rattle.linker_elf.specs.declared.elf.RelocationInstruction.TheVariants as insns
 use Rattle.linker_elf.specs.declared.elf.RelocationKind.TheVariants.{Absolute}
 use Rattle.linker_elf.specs.declared.elf.choice.Choice.{Choice}
+use Rattle.linker_elf.specs.declared.elf.value.Operands.{Operands}
 use Rattle.linker_elf.specs.declared.riscv64.forms.RiscVInstruction.TheVariants.{IType, UType}
 use Rattle.linker_elf.specs.declared.riscv64.relocations.RiscVRelocation.TheVariants as names
 use Rattle.linker_final.proofs.InstructionFields.{IsOfInstruction}
@@ -15,8 +16,8 @@ use Rattle.linker_final.proofs.RiscVChosen.{IsOfEntry, IsOfSome, of_some}
 use Rattle.linker_final.proofs.RiscVDescriptors.{Becomes, after_is, made_there, relocated, same_kind}
 use Rattle.linker_final.proofs.RiscVWritten.{IsAfter, becomes, long_there, made_is, rewritten_after}
 use Rattle.linker_final.proofs.Written.{are_rewritten}
-use Rattle.linker_final.specs.Final.{AreRewritten, Linked, instruction_at}
-use Rattle.linker_final.specs.RiscVFinal.{FixedAddresses, FixedAddressesAnywhere, FixedAddressIsTheSameAnywhere, IsAddiOfLoad, IsLuiOfLoad, named_as}
+use Rattle.linker_final.specs.Final.{AreRewritten, IsLinked, Linked, UntouchedInstructions, instruction_at}
+use Rattle.linker_final.specs.RiscVFinal.{FixedAddressIsTheSame, FixedAddressIsTheSameAnywhere, IsAddiOfLoad, IsLuiOfLoad, IsOfDescriptor, LowAddressIsAlike, named_as}
 use Rattle.linker_laws.specs.Machine.{Relocated}
 use Rattle.linker_laws.specs.RiscVGroups.{Groups, Has}
 use Rattle.linker_laws.specs.RiscVRewriteLaws.{after_rewrite}
@@ -52,6 +53,17 @@ ld_inside section o chosen (inr (inl this)) = this.pattern.0
 ld_inside section o chosen (inr (inr (inl this))) = this.pattern.0
 ld_inside section o chosen (inr (inr (inr nothing))) = absurd nothing
 
+zero_becomes : (section : List ℕ) (o : ℕ) (chosen : Choice Relaxation ℕ)
+    → chosen.kind ≡ relaxations.RiscV kinds.LdToAddiZero
+    → IsOfSome names.R_RISCV_PCREL_LO12_I (riscv_entries names.R_RISCV_PCREL_LO12_I) section o chosen
+    → Becomes names.R_RISCV_LO12_I section o chosen
+zero_becomes section o chosen kind (inl this) = record { code_is = this.code_is; inside = this.pattern.0 }
+zero_becomes section o chosen kind (inr (inl this)) =
+    absurd (let e : kinds.LdToAddiZero ≡ kinds.LdToAddi = same_kind chosen.kind kinds.LdToAddiZero kinds.LdToAddi kind this.kind_is in cc)
+zero_becomes section o chosen kind (inr (inr (inl this))) =
+    absurd (let e : kinds.LdToAddiZero ≡ kinds.LdToAddi = same_kind chosen.kind kinds.LdToAddiZero kinds.LdToAddi kind this.kind_is in cc)
+zero_becomes section o chosen kind (inr (inr (inr nothing))) = absurd nothing
+
 -- ---- rows
 
 abbrev high_row : IsAfter names.R_RISCV_HI20
@@ -70,10 +82,10 @@ of_high_row =
       some = λ o. tt;
     }
 
-abbrev low_row : IsAfter names.R_RISCV_LO12_I
+abbrev pub low_row : IsAfter names.R_RISCV_LO12_I
 low_row = record { row = pair_row Absolute 32 IType; is = refl; named = tt }
 
-abbrev of_low_row : IsOfInstruction 4 (pair_row Absolute 32 IType)
+abbrev pub of_low_row : IsOfInstruction 4 (pair_row Absolute 32 IType)
 of_low_row =
     record {
       bits = record { start = 0; end = 32 };
@@ -107,13 +119,13 @@ module _ (groups : Groups) (l : Linked) (rewriting : AreRewritten l) (riscv : l.
             (of_some l rewriting riscv low (RewrittenWithSymbol r.chosen r.subject) r.chosen r.below r.decided refl names.R_RISCV_PCREL_LO12_I tt r.name_is);
       }
 
-  high_after : relocation_in l.relocations_after high
+  pub high_after : relocation_in l.relocations_after high
       ≡ named_as names.R_RISCV_HI20 (relocation_in l.relocations high) (relocation_in l.relocations high)
   high_after =
       rewritten_after l rewriting high of_high.chosen of_high.below kinds.AuipcToLui names.R_RISCV_HI20 lui_entry.kind_is lui_entry.code_is
       (λ o. refl) (λ a. refl) of_high.decided
 
-  low_after : relocation_in l.relocations_after low
+  pub low_after : relocation_in l.relocations_after low
       ≡ named_as names.R_RISCV_LO12_I (relocation_in l.relocations low) (relocation_in l.relocations high)
   low_after =
       after_is l rewriting high names.R_RISCV_PCREL_LO12_I 4 kinds.LdToAddi low of_low.rewritten names.R_RISCV_LO12_I low_made
@@ -129,23 +141,18 @@ module _ (groups : Groups) (l : Linked) (rewriting : AreRewritten l) (riscv : l.
       made_there l rewriting high names.R_RISCV_PCREL_LO12_I 4 kinds.LdToAddi low of_low.rewritten names.R_RISCV_LO12_I low_made
       load_to_addi refl (λ o. refl) (λ a. refl)
 
-  wherever : FixedAddressIsTheSameAnywhere l high
+  pub wherever : FixedAddressIsTheSameAnywhere l high
   wherever x y c k s before load addresses one new =
       groups.got_to_fixed_address c x y k s (instruction_at l.section o) (instruction_at l.section (o + 4)) before load addresses one
       (subst (λ xs. Has 4 c.new y.place (riscv_row names.R_RISCV_HI20) y xs) lui_there (new.0))
       (subst (λ xs. Has 4 c.new (sum_64 y.place 4) (riscv_row names.R_RISCV_LO12_I) y xs) addi_there (new.1))
 
-pub fixed_addresses_anywhere : Groups → FixedAddressesAnywhere
-fixed_addresses_anywhere groups l rewriting riscv high low of_high of_low = (
-  high_after groups l rewriting riscv high low of_high of_low,
-  low_after groups l rewriting riscv high low of_high of_low,
-  wherever groups l rewriting riscv high low of_high of_low,
-)
-
 here : (o : ℕ) → o + 0 ≡ o
 here o = omega arith
 
-pub fixed_addresses : Groups → FixedAddresses
+pub fixed_addresses : (groups : Groups) (l : Linked) → IsLinked l → l.context.architecture ≡ RiscV → (high low : ℕ)
+    → IsLuiOfLoad l high → IsAddiOfLoad l high low → UntouchedInstructions l high low
+    → FixedAddressIsTheSame l high low_row.row
 fixed_addresses groups l linked riscv high low of_high of_low left symbol is_symbol x c k s before load addresses one stands =
     let rewriting = are_rewritten l linked in
     let first = relocation_in l.relocations high in
@@ -175,3 +182,29 @@ fixed_addresses groups l linked riscv high low of_high of_low left symbol is_sym
       record { relocated = instruction_at l.final o; applied = lui; stands = stands.0 },
       record { relocated = instruction_at l.final (o + 4); applied = addi; stands = stands.1 },
     )
+
+-- ---- the `ld` alone
+
+module _ (groups : Groups) (l : Linked) (rewriting : AreRewritten l) (riscv : l.context.architecture ≡ RiscV)
+    (high low : ℕ) (of : IsOfDescriptor l high names.R_RISCV_PCREL_LO12_I 4 kinds.LdToAddiZero low) where
+  abbrev place : ℕ
+  place = (relocation_in l.relocations high).offset
+
+  zero_made : Becomes names.R_RISCV_LO12_I l.section (relocation_in l.relocations low).offset of.chosen
+  zero_made =
+      zero_becomes l.section (relocation_in l.relocations low).offset of.chosen of.kind_is
+      (of_some l rewriting riscv low (RewrittenWithSymbol of.chosen of.subject) of.chosen of.below of.decided refl names.R_RISCV_PCREL_LO12_I tt of.name_is)
+
+  pub zero_after : relocation_in l.relocations_after low
+      ≡ named_as names.R_RISCV_LO12_I (relocation_in l.relocations low) (relocation_in l.relocations high)
+  zero_after =
+      after_is l rewriting high names.R_RISCV_PCREL_LO12_I 4 kinds.LdToAddiZero low of names.R_RISCV_LO12_I zero_made
+      (of_destination 0x13) refl (λ o. refl) (λ a. refl)
+
+  pub low_wherever : (x y : Operands)
+      → LowAddressIsAlike l high (λ c. Has 4 c.new y.place (riscv_row names.R_RISCV_LO12_I) y (instruction_at l.rewritten (place + 4))) x y
+  low_wherever x y c k s before load one is_low new =
+      groups.got_to_low_address c x y k s (instruction_at l.section place) (instruction_at l.section (place + 4)) before load one is_low
+      (subst (λ xs. Has 4 c.new y.place (riscv_row names.R_RISCV_LO12_I) y xs)
+      (made_there l rewriting high names.R_RISCV_PCREL_LO12_I 4 kinds.LdToAddiZero low of names.R_RISCV_LO12_I zero_made
+      (of_destination 0x13) refl (λ o. refl) (λ a. refl)) new)

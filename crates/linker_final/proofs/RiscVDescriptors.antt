@@ -23,7 +23,8 @@ use Rattle.linker_final.proofs.RiscVOffsets.{low_i, of_low_i}
 use Rattle.linker_final.proofs.RiscVWritten.{IsAfter, applied_there, becomes, bytes_there, long_there, made_is, redirected_after, word_bytes}
 use Rattle.linker_final.specs.Final.{instruction_at}
 use Rattle.linker_final.specs.Final.{AreBytes, AreRewritten, UntouchedInstruction, Linked, IsLinked, count}
-use Rattle.linker_final.specs.RiscVFinal.{Descriptors, DescriptorsAnywhere, IsOfDescriptor, OffsetIsTheSameAnywhere, ShortDescriptors, ShortDescriptorsAnywhere, ShortOffsetIsTheSameAnywhere, named_as}
+use Rattle.linker_final.specs.RiscVFinal.{IsOfDescriptor, OffsetIsTheSameAnywhere, ShortOffsetIsTheSameAnywhere, named_as}
+use Rattle.linker_final.specs.RiscVSection.{descriptor_law, final, short_law}
 use Rattle.linker_laws.specs.Machine.{Relocated}
 use Rattle.linker_laws.specs.RiscVGroups.{Groups, Has}
 use Rattle.linker_laws.specs.RiscVRewriteLaws.{after_rewrite}
@@ -204,12 +205,12 @@ module _ (groups : Groups) (l : Linked) (rewriting : AreRewritten l) (riscv : l.
   abbrev o : ℕ
   o = (relocation_in l.relocations high).offset
 
-  add_after : relocation_in l.relocations_after add ≡ named_as names.R_RISCV_TPREL_HI20 (relocation_in l.relocations add) (relocation_in l.relocations high)
+  pub add_after : relocation_in l.relocations_after add ≡ named_as names.R_RISCV_TPREL_HI20 (relocation_in l.relocations add) (relocation_in l.relocations high)
   add_after =
       after_is l rewriting high names.R_RISCV_TLSDESC_ADD_LO12 8 kinds.AddiToLui add of_add names.R_RISCV_TPREL_HI20 add_made
       (λ _. 0x537) refl (λ o. refl) (λ a. refl)
 
-  call_after : relocation_in l.relocations_after call ≡ named_as names.R_RISCV_TPREL_LO12_I (relocation_in l.relocations call) (relocation_in l.relocations high)
+  pub call_after : relocation_in l.relocations_after call ≡ named_as names.R_RISCV_TPREL_LO12_I (relocation_in l.relocations call) (relocation_in l.relocations high)
   call_after =
       after_is l rewriting high names.R_RISCV_TLSDESC_CALL 12 kinds.CallToAddi call of_call names.R_RISCV_TPREL_LO12_I call_made
       (λ _. 0x50513) refl (λ o. refl) (λ a. refl)
@@ -224,7 +225,7 @@ module _ (groups : Groups) (l : Linked) (rewriting : AreRewritten l) (riscv : l.
       made_there l rewriting high names.R_RISCV_TLSDESC_CALL 12 kinds.CallToAddi call of_call names.R_RISCV_TPREL_LO12_I call_made
       (λ _. 0x50513) refl (λ o. refl) (λ a. refl)
 
-  wherever : OffsetIsTheSameAnywhere l high
+  pub wherever : OffsetIsTheSameAnywhere l high
   wherever x y addresses c n at k k' s s' d one nops new =
       let following = of_add.following in
       let after_call = of_call.following in
@@ -238,14 +239,10 @@ module _ (groups : Groups) (l : Linked) (rewriting : AreRewritten l) (riscv : l.
       (subst (λ xs. Has 4 c.new at (riscv_row names.R_RISCV_TPREL_HI20) y xs) lui_there (new.0))
       (subst (λ xs. Has 4 c.new (sum_64 at 4) (riscv_row names.R_RISCV_TPREL_LO12_I) y xs) addi_there (new.1))
 
-pub descriptors_anywhere : Groups → DescriptorsAnywhere
-descriptors_anywhere groups l rewriting riscv high add call of_add of_call = (
-  add_after groups l rewriting riscv high add call of_add of_call,
-  call_after groups l rewriting riscv high add call of_add of_call,
-  wherever groups l rewriting riscv high add call of_add of_call,
-)
-
-pub descriptors : Groups → Descriptors
+pub descriptors : (groups : Groups) (l : Linked) (linked : IsLinked l) → l.context.architecture ≡ RiscV
+    → (high add call : ℕ) → IsOfDescriptor l high names.R_RISCV_TLSDESC_ADD_LO12 8 kinds.AddiToLui add
+    → IsOfDescriptor l high names.R_RISCV_TLSDESC_CALL 12 kinds.CallToAddi call
+    → descriptor_law l high add call (final linked)
 descriptors groups l linked riscv high add call of_add of_call left symbol is_symbol x addresses c n at k k' s s' d one nops stands =
     let rewriting = are_rewritten l linked in
     let first = relocation_in l.relocations high in
@@ -285,7 +282,7 @@ module _ (groups : Groups) (l : Linked) (rewriting : AreRewritten l) (riscv : l.
       short_becomes l.section (relocation_in l.relocations call).offset of_call.chosen of_call.kind_is
       (of_some l rewriting riscv call (RewrittenWithSymbol of_call.chosen of_call.subject) of_call.chosen of_call.below of_call.decided refl names.R_RISCV_TLSDESC_CALL tt of_call.name_is)
 
-  short_after : relocation_in l.relocations_after call ≡ named_as names.R_RISCV_TPREL_LO12_I (relocation_in l.relocations call) (relocation_in l.relocations high)
+  pub short_after : relocation_in l.relocations_after call ≡ named_as names.R_RISCV_TPREL_LO12_I (relocation_in l.relocations call) (relocation_in l.relocations high)
   short_after =
       after_is l rewriting high names.R_RISCV_TLSDESC_CALL 12 kinds.CallToAddiZero call of_call names.R_RISCV_TPREL_LO12_I short_made
       (λ _. 0x513) refl (λ o. refl) (λ a. refl)
@@ -295,7 +292,7 @@ module _ (groups : Groups) (l : Linked) (rewriting : AreRewritten l) (riscv : l.
       made_there l rewriting high names.R_RISCV_TLSDESC_CALL 12 kinds.CallToAddiZero call of_call names.R_RISCV_TPREL_LO12_I short_made
       (λ _. 0x513) refl (λ o. refl) (λ a. refl)
 
-  short_wherever : ShortOffsetIsTheSameAnywhere l high
+  pub short_wherever : ShortOffsetIsTheSameAnywhere l high
   short_wherever x y is_low c n at k k' s s' d one nops new =
       let following = of_call.following in
       let inside = short_made.inside in
@@ -304,11 +301,9 @@ module _ (groups : Groups) (l : Linked) (rewriting : AreRewritten l) (riscv : l.
       d one is_low nops (long_there l.section (place + 12) (omega (arith, following, inside)))
       (subst (λ xs. Has 4 c.new at (riscv_row names.R_RISCV_TPREL_LO12_I) y xs) short_there new)
 
-pub short_descriptors_anywhere : Groups → ShortDescriptorsAnywhere
-short_descriptors_anywhere groups l rewriting riscv high call of_call =
-    (short_after groups l rewriting riscv high call of_call, short_wherever groups l rewriting riscv high call of_call)
-
-pub short_descriptors : Groups → ShortDescriptors
+pub short_descriptors : (groups : Groups) (l : Linked) (linked : IsLinked l) → l.context.architecture ≡ RiscV
+    → (high call : ℕ) → IsOfDescriptor l high names.R_RISCV_TLSDESC_CALL 12 kinds.CallToAddiZero call
+    → short_law l high call (final linked)
 short_descriptors groups l linked riscv high call of_call left symbol is_symbol x is_low c n at k k' s s' d one nops stands =
     let rewriting = are_rewritten l linked in
     let first = relocation_in l.relocations high in

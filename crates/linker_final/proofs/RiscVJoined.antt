@@ -4,7 +4,7 @@ use Rattle.std.specs.Prelude.{slice_get}
 use Rattle.linker_base.specs.declared.bit_misc.BitRange.{BitRange}
 use Rattle.linker_elf.specs.Applied.{IsApplied}
 use Rattle.linker_elf.specs.ElfNames.{code_of}
-use Rattle.linker_elf.specs.RiscVRelocations.{riscv_name, riscv_row}
+use Rattle.linker_elf.specs.RiscVRelocations.{riscv_name}
 use Rattle.linker_elf.specs.Value.{value_of}
 use Rattle.linker_elf.specs.declared.elf.RelocationInstruction.TheVariants as insns
 use Rattle.linker_elf.specs.declared.elf.value.Operands.{Operands}
@@ -15,16 +15,22 @@ use Rattle.linker_final.proofs.InstructionFields.{IsOfInstruction, applied_found
 use Rattle.linker_final.proofs.Joined.{following, code_is, addend_is, final_inside, kept_there, own_there, rewritten_inside, symbol_is, within}
 use Rattle.linker_final.proofs.Labels.{low_found}
 use Rattle.linker_final.proofs.Phases.{later_bytes}
-use Rattle.linker_final.proofs.RiscVDescriptors.{descriptors_anywhere, high_tp, of_high_tp, short_descriptors_anywhere}
-use Rattle.linker_final.proofs.RiscVLoads.{got_loads_anywhere, high_after, low_after, of_high}
-use Rattle.linker_final.proofs.RiscVOffsets.{low_i, of_low_i, low_s, of_low_s, low_parts_anywhere, mapped}
+use Rattle.linker_final.proofs.RiscVAddresses as addresses
+use Rattle.linker_final.proofs.RiscVAddresses.{low_row, of_low_row}
+use Rattle.linker_final.proofs.RiscVDescriptors as descriptors
+use Rattle.linker_final.proofs.RiscVDescriptors.{high_tp, of_high_tp}
+use Rattle.linker_final.proofs.RiscVLoads as loads
+use Rattle.linker_final.proofs.RiscVLoads.{high_after, low_after, of_high}
+use Rattle.linker_final.proofs.RiscVOffsets.{IsLow, anywhere_of, low_i, mapped, of_low_i}
 use Rattle.linker_final.proofs.RiscVWritten.{IsAfter, bytes_there, long_there, row_in}
 use Rattle.linker_final.proofs.Written.{rela, with_operands}
 use Rattle.linker_final.specs.Final.{AreBytes, UntouchedInstructions, UntouchedInstruction, IsRewrittenByNoOther, Linked, count, instruction_at}
 use Rattle.linker_final.specs.Joined.{IsRewrittenAndPacked, IsKeptInstruction, final_instruction}
 use Rattle.linker_final.specs.Packed.{Packed, architecture_of, place_of}
-use Rattle.linker_final.specs.RiscVFinal.{IsOfDescriptor, LoadsTheSameAnywhere, LowPartsAnywhereOf, named_as}
-use Rattle.linker_final.specs.RiscVJoined.{AreOfFinalLoad, FinalBytesLoadTheSame, FinalLowPartDoesTheSame, PackedDescriptors, PackedGotLoads, PackedLowParts, PackedLowPartsOf, PackedShortDescriptors, final_operands}
+use Rattle.linker_final.specs.RiscVFinal.{IsOfDescriptor, LoadsTheSameAnywhere, named_as}
+use Rattle.linker_final.specs.RiscVJoined.{AreOfFinalLoad, FinalBytesLoadTheSame, FinalLowPartDoesTheSame, final_operands}
+use Rattle.linker_final.specs.RiscVSection.{IsNamedAs, IsRewrittenOf, descriptor_law, low_address_law, low_law, packed, short_law}
+use Rattle.linker_final.specs.SectionRuns.{offset_of}
 use Rattle.linker_laws.specs.Machine.{Relocated}
 use Rattle.linker_laws.specs.RiscVGroups.{Groups}
 use Rattle.linker_laws.specs.RiscVRewriteLaws.{action_at, offset_row}
@@ -34,7 +40,6 @@ use Rattle.linker_runs.specs.declared.packing.Machine.TheVariants.{RiscV64}
 use Rattle.linker_section.specs.Needed.{entry_of}
 use Rattle.linker_section.specs.Relocations.{relocation_in}
 use Rattle.linker_section.specs.Values.{entry_address, operands_by, operands_in, operands_of, operands_with}
-use Rattle.linker_section.specs.declared.facts.Addresses.{Addresses}
 use Rattle.linker_section.specs.declared.facts.Symbol.{Symbol}
 use Rattle.linker_section.specs.declared.relocations.Rela.{Rela}
 use Rattle.linker_elf.specs.Architectures.{IsRow}
@@ -96,34 +101,24 @@ module _ (l : Linked) (p : Packed) (joined : IsRewrittenAndPacked l p) (riscv : 
 
 -- ---- low parts
 
-packed_of : (name : RiscVRelocation) (a : IsAfter name) (of : IsOfInstruction 4 a.row)
-    (is_row : riscv_row name ≡ Some a.row)
-    (no_entry : (addresses : Addresses) (r : Rela) (symbol : Symbol)
-    → operands_by RiscV addresses a.row r symbol
-    (entry_address addresses symbol (entry_of a.row r.addend symbol.is_thread_local))
-    ≡ Ok (operands_with RiscV addresses a.row symbol r 0))
-    → LowPartsAnywhereOf name → PackedLowPartsOf name
-packed_of name a of is_row no_entry anywhere l p joined riscv i chosen below is_name decided kept left =
+pub packed_low_part : (groups : Groups) (name : RiscVRelocation) (of : IsLow name) (l : Linked) (p : Packed)
+    (joined : IsRewrittenAndPacked l p) (riscv : p.machine ≡ RiscV64) (i : ℕ) → IsRewrittenOf l name i
+    → IsSomeAnd (action_at l.section (offset_of l i)) (low_law name l i (packed p joined riscv))
+packed_low_part groups name of l p joined riscv i is =
     let r = relocation_in l.relocations i in
-    let any = anywhere l joined.rewritten (joined.architecture ∙ ap architecture_of riscv) i chosen below is_name decided in
-    mapped (λ action law is_of.
-    subst (λ q. IsSomeAnd q (FinalLowPartDoesTheSame l p i action)) (sym is_row)
+    let row = of.after.row in
+    let any = anywhere_of groups name of l joined.rewritten (joined.architecture ∙ ap architecture_of riscv) i is in
+    mapped (λ action law kept left is_of.
+    subst (λ q. IsSomeAnd q (FinalLowPartDoesTheSame l p i action)) (sym of.is_row)
     (λ symbol is_symbol x c k k' s at one low base known old stands keeps.
-    let y = final_operands p i a.row symbol in
+    let y = final_operands p i row symbol in
     let new : Relocated (offset_row action) y (instruction_at l.rewritten r.offset) (final_instruction p r.offset) =
-    subst (λ q. Relocated q y (instruction_at l.rewritten r.offset) (final_instruction p r.offset)) (sym (is_of ∙ is_row))
-    (relocated_own l p joined riscv i below name a r (any.0) kept left of symbol
-    (no_entry p.addresses (relocation_in p.relocations_after i) symbol) is_symbol) in
+    subst (λ q. Relocated q y (instruction_at l.rewritten r.offset) (final_instruction p r.offset)) (sym (is_of ∙ of.is_row))
+    (relocated_own l p joined riscv i is.below name of.after r (any.0) kept left of.of symbol
+    (of.no_entry p.addresses (relocation_in p.relocations_after i) symbol) is_symbol) in
     law x y c k k' s at one low base known old
     (record { relocated = final_instruction p r.offset; applied = new; stands = stands }) keeps))
     (action_at l.section r.offset) (any.1)
-
-pub packed_low_parts : Groups → PackedLowParts
-packed_low_parts groups =
-    let any = low_parts_anywhere groups in (
-      packed_of names.R_RISCV_TPREL_LO12_I low_i of_low_i refl (λ addresses r symbol. refl) (any.0),
-      packed_of names.R_RISCV_TPREL_LO12_S low_s of_low_s refl (λ addresses r symbol. refl) (any.1),
-    )
 
 -- ---- loads from the GOT
 
@@ -136,11 +131,15 @@ module _ (groups : Groups) (l : Linked) (p : Packed) (joined : IsRewrittenAndPac
   abbrev second : Rela
   second = relocation_in l.relocations j
 
-  any : (relocation_in l.relocations_after i ≡ named_as names.R_RISCV_PCREL_HI20 first first)
-      × (relocation_in l.relocations_after j ≡ named_as names.R_RISCV_PCREL_LO12_I second second)
-      × LoadsTheSameAnywhere l i
-  any =
-      got_loads_anywhere groups l joined.rewritten (joined.architecture ∙ ap architecture_of riscv) i j of.pair alone
+  is_riscv : l.context.architecture ≡ RiscV
+  is_riscv = joined.architecture ∙ ap architecture_of riscv
+
+  any : IsNamedAs l i names.R_RISCV_PCREL_HI20 i × IsNamedAs l j names.R_RISCV_PCREL_LO12_I j × LoadsTheSameAnywhere l i
+  any = (
+    loads.high_is groups l joined.rewritten is_riscv i j of.pair alone,
+    loads.low_is groups l joined.rewritten is_riscv i j of.pair alone,
+    loads.wherever groups l joined.rewritten is_riscv i j of.pair alone,
+  )
 
   module _ (symbol : Symbol)
       (is_symbol : slice_get p.symbols (relocation_in p.relocations_after i).symbol ≡ Some symbol) where
@@ -163,7 +162,7 @@ module _ (groups : Groups) (l : Linked) (p : Packed) (joined : IsRewrittenAndPac
         let below = within l p joined i of.pair.first_below (code_of (riscv_name names.R_RISCV_PCREL_HI20)) first.symbol first.addend (any.0) of.high_kept (left.0) in
         let below' = within l p joined j of.pair.second_below (code_of (riscv_name names.R_RISCV_PCREL_LO12_I)) second.symbol second.addend (any.1) of.low_kept (left.1) in
         let row = row_is l p joined riscv i of.pair.first_below names.R_RISCV_PCREL_HI20 high_after first (any.0) of.high_kept (left.0) in
-        let low_row = row_is l p joined riscv j of.pair.second_below names.R_RISCV_PCREL_LO12_I low_after second (any.1) of.low_kept (left.1) in
+        let row_of_low = row_is l p joined riscv j of.pair.second_below names.R_RISCV_PCREL_LO12_I low_after second (any.1) of.low_kept (left.1) in
         let taken : operands_of architecture p.addresses p.symbols high_after.row (relocation_in bytes i) ≡ Ok y =
         subst (λ x. operands_of x p.addresses p.symbols high_after.row (relocation_in bytes i) ≡ Ok y) (sym is)
         (ap (operands_in RiscV p.addresses high_after.row (relocation_in bytes i)) is_symbol) in
@@ -173,10 +172,10 @@ module _ (groups : Groups) (l : Linked) (p : Packed) (joined : IsRewrittenAndPac
         (applied_found architecture p.addresses bytes p.symbols p.packed p.final written
         j below' 4 (omega arith) low_after.row bits (insns.RiscV IType) refl refl refl refl y
         (low_found architecture p.addresses bytes p.symbols p.packed written.can.apart
-        i below high_after.row row refl y taken (relocation_in bytes j) low_after.row low_row refl refl
+        i below high_after.row row refl y taken (relocation_in bytes j) low_after.row row_of_low refl refl
         of.label of.label_is of.labels tt (written.can.found j) (written.can.are_found j below'))))
 
-  loads_the_same : FinalBytesLoadTheSame l p i high_after.row
+  pub loads_the_same : FinalBytesLoadTheSame l p i high_after.row
   loads_the_same symbol is_symbol x over not_zero c k kind s small new_small at holds are old old_ld stands =
       let o = first.offset in
       let next = following l p joined i of.pair.first_below (code_of (riscv_name names.R_RISCV_PCREL_HI20)) first.symbol first.addend (any.0) of.high_kept (left.0) in
@@ -188,8 +187,20 @@ module _ (groups : Groups) (l : Linked) (p : Packed) (joined : IsRewrittenAndPac
         record { relocated = instruction_at p.final (place_of p o + 4); applied = lower; stands = stands.1 },
       )
 
-pub packed_got_loads : Groups → PackedGotLoads
-packed_got_loads groups l p joined riscv i j of left alone = loads_the_same groups l p joined riscv i j of left alone
+pub packed_low_address : (groups : Groups) (l : Linked) (p : Packed) (joined : IsRewrittenAndPacked l p)
+    (riscv : p.machine ≡ RiscV64) (high low : ℕ)
+    → IsOfDescriptor l high names.R_RISCV_PCREL_LO12_I 4 kinds.LdToAddiZero low
+    → low_address_law l high low (packed p joined riscv)
+packed_low_address groups l p joined riscv high low of kept left symbol is_symbol x c k s before load one is_low stands =
+    let is_riscv : l.context.architecture ≡ RiscV = joined.architecture ∙ ap architecture_of riscv in
+    let after = addresses.zero_after groups l joined.rewritten is_riscv high low of in
+    let first = relocation_in l.relocations high in
+    let y = final_operands p low low_row.row symbol in
+    let new : Relocated (Some low_row.row) y (instruction_at l.rewritten (first.offset + 4)) (final_instruction p (first.offset + 4)) =
+    subst (λ n. Relocated (Some low_row.row) y (instruction_at l.rewritten n) (final_instruction p n)) of.following
+    (relocated_own l p joined riscv low of.below names.R_RISCV_LO12_I low_row first after kept left of_low_row symbol refl is_symbol) in
+    addresses.low_wherever groups l joined.rewritten is_riscv high low of x y c k s before load one is_low
+    (record { relocated = final_instruction p (first.offset + 4); applied = new; stands = stands })
 
 -- ---- TLS descriptors
 
@@ -213,14 +224,19 @@ module _ (l : Linked) (p : Packed) (joined : IsRewrittenAndPacked l p) (riscv : 
       (relocated_own l p joined riscv call of_call.below names.R_RISCV_TPREL_LO12_I low_i (relocation_in l.relocations high)
       call_after kept left of_low_i symbol refl is_symbol)
 
-pub packed_short_descriptors : Groups → PackedShortDescriptors
+pub packed_short_descriptors : (groups : Groups) (l : Linked) (p : Packed) (joined : IsRewrittenAndPacked l p)
+    (riscv : p.machine ≡ RiscV64) (high call : ℕ)
+    → IsOfDescriptor l high names.R_RISCV_TLSDESC_CALL 12 kinds.CallToAddiZero call
+    → short_law l high call (packed p joined riscv)
 packed_short_descriptors groups l p joined riscv high call of_call kept left symbol is_symbol x is_low c n at k k' s s' d one nops stands =
-    let any = short_descriptors_anywhere groups l joined.rewritten (joined.architecture ∙ ap architecture_of riscv) high call of_call in
+    let is_riscv : l.context.architecture ≡ RiscV = joined.architecture ∙ ap architecture_of riscv in
+    let after = descriptors.short_after groups l joined.rewritten is_riscv high call of_call in
     let place = (relocation_in l.relocations high).offset in
-    (any.1) x (final_operands p call low_i.row symbol) is_low c n at k k' s s' d one nops
+    descriptors.short_wherever groups l joined.rewritten is_riscv high call of_call
+    x (final_operands p call low_i.row symbol) is_low c n at k k' s s' d one nops
     (record {
       relocated = final_instruction p (place + 12);
-      applied = call_relocated l p joined riscv high call kinds.CallToAddiZero of_call (any.0) kept left symbol is_symbol;
+      applied = call_relocated l p joined riscv high call kinds.CallToAddiZero of_call after kept left symbol is_symbol;
       stands = stands;
     })
 
@@ -287,19 +303,26 @@ module _ (l : Linked) (p : Packed) (joined : IsRewrittenAndPacked l p) (riscv : 
       ∙ subst (λ n. place_of p (n + 4) ≡ place_of p n + 4) of_add.following
       (following l p joined add of_add.below (code_of (riscv_name names.R_RISCV_TPREL_HI20)) subject.symbol subject.addend add_after add_kept (left.0))
 
-pub packed_descriptors : Groups → PackedDescriptors
+pub packed_descriptors : (groups : Groups) (l : Linked) (p : Packed) (joined : IsRewrittenAndPacked l p)
+    (riscv : p.machine ≡ RiscV64) (high add call : ℕ)
+    → IsOfDescriptor l high names.R_RISCV_TLSDESC_ADD_LO12 8 kinds.AddiToLui add
+    → IsOfDescriptor l high names.R_RISCV_TLSDESC_CALL 12 kinds.CallToAddi call
+    → descriptor_law l high add call (packed p joined riscv)
 packed_descriptors groups l p joined riscv high add call of_add of_call add_kept call_kept left symbol is_symbol x addresses c n at k k' s s' d one nops stands =
-    let any = descriptors_anywhere groups l joined.rewritten (joined.architecture ∙ ap architecture_of riscv) high add call of_add of_call in
+    let is_riscv : l.context.architecture ≡ RiscV = joined.architecture ∙ ap architecture_of riscv in
+    let lui_after = descriptors.add_after groups l joined.rewritten is_riscv high add call of_add of_call in
+    let addi_after = descriptors.call_after groups l joined.rewritten is_riscv high add call of_add of_call in
     let o = (relocation_in l.relocations high).offset in
     let y = final_operands p call low_i.row symbol in
     let low : Relocated (Some low_i.row) y (instruction_at l.rewritten (o + 12)) (instruction_at p.final (place_of p (o + 8) + 4)) =
     subst (λ q. Relocated (Some low_i.row) y (instruction_at l.rewritten (o + 12)) (instruction_at p.final q))
-    (call_following l p joined riscv high add call of_add of_call (any.0) (any.1) add_kept call_kept left)
-    (call_relocated l p joined riscv high call kinds.CallToAddi of_call (any.1) call_kept (left.1) symbol is_symbol) in
-    (any.2) x y addresses c n at k k' s s' d one nops (
+    (call_following l p joined riscv high add call of_add of_call lui_after addi_after add_kept call_kept left)
+    (call_relocated l p joined riscv high call kinds.CallToAddi of_call addi_after call_kept (left.1) symbol is_symbol) in
+    descriptors.wherever groups l joined.rewritten is_riscv high add call of_add of_call
+    x y addresses c n at k k' s s' d one nops (
       record {
         relocated = final_instruction p (o + 8);
-        applied = add_relocated l p joined riscv high add call of_add of_call (any.0) (any.1) add_kept call_kept left symbol is_symbol;
+        applied = add_relocated l p joined riscv high add call of_add of_call lui_after addi_after add_kept call_kept left symbol is_symbol;
         stands = stands.0;
       },
       record { relocated = instruction_at p.final (place_of p (o + 8) + 4); applied = low; stands = stands.1 },

@@ -1,4 +1,4 @@
--- Rewritten loads from the GOT of RISC-V are groups in the final bytes.
+-- Rewritten loads from the GOT of RISC-V are groups, wherever they go and in the final bytes.
 use Rattle.std.proofs.Common.{◌≡◌, ℕ, ◌+◌, ◌≤◌, List, [], ◌∷◌, length, refl, sym, ap, subst, ◌∙◌, arith, inl, inr, Some, Ok}
 use Rattle.std.specs.Prelude.{slice_get}
 use Rattle.std.specs.Int.{w32, from_le_bytes}
@@ -23,7 +23,7 @@ use Rattle.linker_final.proofs.Phases.{bytes_left, last_length}
 use Rattle.linker_final.proofs.RiscVWritten.{IsAfter, applied_there, becomes, bytes_there, last_is, long_there, made_is, rewritten_after, row_after, stays, within_after, word_bytes}
 use Rattle.linker_final.specs.Final.{IsRewrittenByNoOther, instruction_at}
 use Rattle.linker_final.specs.Final.{AreBytes, UntouchedInstructions, AreRewritten, Linked, IsLinked}
-use Rattle.linker_final.specs.RiscVFinal.{AreOfLoad, AreOfPair, GotLoads, GotLoadsAnywhere, LoadsTheSame, LoadsTheSameAnywhere, named_as}
+use Rattle.linker_final.specs.RiscVFinal.{AreOfLoad, AreOfPair, LoadsTheSame, LoadsTheSameAnywhere, named_as}
 use Rattle.linker_laws.specs.Machine.{Relocated}
 use Rattle.linker_laws.specs.RiscVGroups.{Groups, Has}
 use Rattle.linker_laws.specs.RiscVRewriteLaws.{IsLoadFromGot, after_rewrite, word_of}
@@ -108,12 +108,12 @@ module _ (groups : Groups) (l : Linked) (rewriting : AreRewritten l) (riscv : l.
       low_of l.section second.offset of.low_chosen of.low_becomes
       (of_some l rewriting riscv j (Rewritten of.low_chosen) of.low_chosen of.second_below of.low_decided refl names.R_RISCV_PCREL_LO12_I tt of.low)
 
-  high_is : relocation_in l.relocations_after i ≡ named_as names.R_RISCV_PCREL_HI20 first first
+  pub high_is : relocation_in l.relocations_after i ≡ named_as names.R_RISCV_PCREL_HI20 first first
   high_is =
       rewritten_after l rewriting i of.high_chosen of.first_below kinds.NoOp names.R_RISCV_PCREL_HI20 high_entry.kind_is high_entry.code_is
       (λ o. refl) (λ a. refl) of.high_decided
 
-  low_is : relocation_in l.relocations_after j ≡ named_as names.R_RISCV_PCREL_LO12_I second second
+  pub low_is : relocation_in l.relocations_after j ≡ named_as names.R_RISCV_PCREL_LO12_I second second
   low_is =
       rewritten_after l rewriting j of.low_chosen of.second_below kinds.LdToAddi names.R_RISCV_PCREL_LO12_I low_entry.kind_is low_entry.code_is
       (λ o. refl) (λ a. refl) of.low_decided
@@ -137,7 +137,7 @@ module _ (groups : Groups) (l : Linked) (rewriting : AreRewritten l) (riscv : l.
       (becomes l rewriting j of.second_below (Rewritten of.low_chosen) of.low_decided load_to_addi
       (λ done. subst (λ k. IsMade (relaxation_rewrite k) second.offset l.section l.rewritten) low_entry.kind_is done) (low_entry.pattern.0))
 
-  wherever : LoadsTheSameAnywhere l i
+  pub wherever : LoadsTheSameAnywhere l i
   wherever x y over not_zero c k kind s small new_small at holds are old old_ld new =
       let o = first.offset in
       let auipc = instruction_at l.section o in
@@ -151,13 +151,6 @@ module _ (groups : Groups) (l : Linked) (rewriting : AreRewritten l) (riscv : l.
       groups.got c x y k kind s auipc ld small new_small at (omega (arith, long)) together holds are old old_ld
       (subst (λ xs. Has 4 c.new y.place (riscv_row names.R_RISCV_PCREL_HI20) y xs) auipc_there (new.0))
       (subst (λ xs. Has 4 c.new (sum_64 y.place 4) (riscv_row names.R_RISCV_PCREL_LO12_I) y xs) addi_there (new.1))
-
-pub got_loads_anywhere : Groups → GotLoadsAnywhere
-got_loads_anywhere groups l rewriting riscv i j of alone = (
-  high_is groups l rewriting riscv i j of alone,
-  low_is groups l rewriting riscv i j of alone,
-  wherever groups l rewriting riscv i j of alone,
-)
 
 -- ---- in the final bytes
 
@@ -227,7 +220,7 @@ module _ (groups : Groups) (l : Linked) (linked : IsLinked l) (riscv : l.context
         i within high_after.row is_row refl operands taken (relocation_in bytes j) low_after.row low_row refl refl
         of.label label_is (of.labels ∙ sym at_high) tt (linked.written.can.found j) (linked.written.can.are_found j within'))))
 
-  loads_the_same : LoadsTheSame l i high_after.row
+  pub loads_the_same : LoadsTheSame l i high_after.row
   loads_the_same symbol is_symbol x over not_zero c k kind s small new_small at holds are old old_ld stands =
       let o = one.offset in
       let y = operands symbol is_symbol in
@@ -260,6 +253,3 @@ module _ (groups : Groups) (l : Linked) (linked : IsLinked l) (riscv : l.context
         record { relocated = instruction_at l.final o; applied = high; stands = stands.0 },
         record { relocated = instruction_at l.final (o + 4); applied = low; stands = stands.1 },
       )
-
-pub joined : Groups → GotLoads
-joined groups l linked riscv i j of left alone = loads_the_same groups l linked riscv i j of left alone

@@ -1,15 +1,16 @@
 -- What stands at each place of a section, and runs of its code, of any architecture.
-use Rattle.std.proofs.Common.{◌≡◌, ℕ, zero, suc, ◌+◌, ◌-◌, ◌<◌, ◌≤◌, ◌⊎◌, inl, inr, List, [], ◌∷◌, ap, sym, subst, arith, refl, Bool, true, false}
+use Rattle.std.proofs.Common.{◌≡◌, ◌≢◌, ℕ, zero, suc, ◌+◌, ◌-◌, ◌<◌, ◌≤◌, ◌⊎◌, inl, inr, List, [], ◌∷◌, ap, sym, subst, arith, refl, Bool, true, false}
 use Rattle.std.proofs.lemmas.Bool.{cases_eq, cases_lt}
 use Rattle.linker_elf.specs.declared.elf.architecture.Architecture.{Architecture}
 use Rattle.linker_elf.specs.declared.elf.choice.Choice.{Choice}
-use Rattle.linker_final.specs.Final.{AreLinked, IsLinked, Linked, RewritingPhase, count, linked_by}
-use Rattle.linker_final.specs.SectionRuns.{AreCalled, AreLeft, EachPlace, IsFollowed, IsPhase, IsPhaseIn, Known, Knows, Place, Rewriting, RewritesAreGroups, RunsAreFollowed, Section, begins, comparison, elsewhere, rewritten, unchanged, within}
+use Rattle.linker_final.specs.Final.{AreInTurn, IsLinked, Linked, RewritingPhase, count, linked_by}
+use Rattle.linker_final.specs.SectionRuns.{AreCalled, AreLeft, EachPlace, IsBeside, IsBesideAll, IsFollowed, IsPhase, IsPhaseIn, Known, Knows, Place, Rewriting, RewritesAreGroups, RunsAreFollowed, Section, begins, comparison, elsewhere, offset_of, rewritten, unchanged, within}
 use Rattle.linker_laws.specs.Simulation.{Comparison, Kinds, Next, Simulates, State, by_group, uncovered}
 use Rattle.linker_rewriting.proofs.Chosen.{chosen_or_labelled}
 use Rattle.linker_rewriting.specs.Decisions.{decision_at}
 use Rattle.linker_rewriting.specs.Groups.{IsScopeIn}
-use Rattle.linker_rewriting.specs.declared.decisions.Decision.TheVariants.{Rewritten, RewrittenWithSymbol}
+use Rattle.linker_rewriting.specs.declared.decisions.Decision.{Decision}
+use Rattle.linker_rewriting.specs.declared.decisions.Decision.TheVariants.{Consumed, Kept, Rewritten, RewrittenWithSymbol}
 use Rattle.linker_rewriting.specs.declared.decisions.Subject.{Subject}
 use Rattle.linker_rewriting.specs.declared.groups.Scope.{Scope}
 use Rattle.linker_rewriting.specs.declared.groups.Scope.TheVariants.{Labelled}
@@ -37,13 +38,13 @@ each_or P (suc m) one =
 -- ---- phases
 
 -- what the calls left, from some phase on
-each_linked : (phases : List RewritingPhase) (relocations section : List ℕ) (x : Section)
-    → AreLinked phases relocations section x.relocations_last x.last x.addresses x.symbols x.final
-    → (l : Linked) → IsPhaseIn phases x l → IsLinked l
-each_linked [] relocations section x are l is = absurd is
-each_linked (p ∷ later) relocations section x are l (inl is) = subst IsLinked (sym is) (are.1)
-each_linked (p ∷ later) relocations section x are l (inr is) =
-    each_linked later p.relocations_after p.rewritten x (are.2) l is
+each_linked : (Ensured : Linked → Type 0) (phases : List RewritingPhase) (relocations section : List ℕ) (x : Section)
+    → AreInTurn Ensured phases relocations section x.relocations_last x.last x.addresses x.symbols x.final
+    → (l : Linked) → IsPhaseIn phases x l → Ensured l
+each_linked Ensured [] relocations section x are l is = absurd is
+each_linked Ensured (p ∷ later) relocations section x are l (inl is) = subst Ensured (sym is) (are.1)
+each_linked Ensured (p ∷ later) relocations section x are l (inr is) =
+    each_linked Ensured later p.relocations_after p.rewritten x (are.2) l is
 
 pub record IsOf (x : Section) (l : Linked) : Type 0 where
   pub final : l.final ≡ x.final
@@ -79,6 +80,31 @@ without_label l linked same unlabelled i chosen subject below is =
           (subst (λ x. IsScopeIn x l.context.phase code Labelled) same label.scope_is) refl
     ]
 
+-- ---- instructions of 4 bytes
+
+kept_or_not : (d : Decision) → (d ≡ Kept) ⊎ (d ≢ Kept)
+kept_or_not Kept = inl refl
+kept_or_not (Rewritten chosen) = inr (λ e. cc)
+kept_or_not (RewrittenWithSymbol chosen subject) = inr (λ e. cc)
+kept_or_not Consumed = inr (λ e. cc)
+
+-- a byte is of none whose relocation doesn't stay, or what one shows of which it is
+pub beside_or : {Q : Type 0} (l : Linked) (b : ℕ)
+    → ((i : ℕ) → i < count l → decision_at l.decisions i ≢ Kept → offset_of l i ≤ b → b < offset_of l i + 4 → Q)
+    → IsBesideAll l b ⊎ Q
+beside_or l b each =
+    each_or (IsBeside l b) (count l) (λ i below.
+    elim (cases_lt b (offset_of l i)) [
+      | inl before ↦ inl (λ changed. inl before)
+      | inr from ↦ elim (cases_lt b (offset_of l i + 4)) [
+        | inl less ↦ elim (kept_or_not (decision_at l.decisions i)) [
+          | inl stays ↦ inl (λ changed. absurd (changed stays))
+          | inr changed ↦ inr (each i below changed from less)
+        ]
+        | inr past ↦ inl (λ changed. inr past)
+      ]
+    ])
+
 -- ---- an architecture
 
 -- a byte is of instructions that are rewritten together
@@ -89,11 +115,11 @@ pub record IsIn (r : Rewriting) (l : Linked) (b : ℕ) : Type 0 where
 
 abbrev pub AreIn : Rewriting → Type 0
 AreIn r =
-    (l : Linked) → IsLinked l → l.context.architecture ≡ r.architecture → (b : ℕ) → r.Stays l b ⊎ IsIn r l b
+    (l : Linked) → r.Ensured l → l.context.architecture ≡ r.architecture → (b : ℕ) → r.Stays l b ⊎ IsIn r l b
 
 module _ (r : Rewriting) where
-  pub is_linked : (x : Section) → AreCalled r x → (l : Linked) → IsPhase x l → IsLinked l
-  is_linked x called = each_linked x.phases x.relocations x.section x called.linked
+  pub is_linked : (x : Section) → AreCalled r x → (l : Linked) → IsPhase x l → r.Ensured l
+  is_linked x called = each_linked r.Ensured x.phases x.relocations x.section x called.linked
 
   -- ---- what stands at a place
 

@@ -10,10 +10,11 @@ use Rattle.linker_elf.specs.declared.aarch64.relocations.AArch64Relocation.TheVa
 use Rattle.linker_elf.specs.declared.elf.architecture.Architecture.TheVariants.{AArch64}
 use Rattle.linker_elf.specs.declared.elf.choice.Choice.{Choice}
 use Rattle.linker_elf.specs.declared.elf.value.Operands.{Operands}
-use Rattle.linker_final.specs.Final.{Linked, count, instruction_at, IsRewrittenByNoOther}
+use Rattle.linker_final.specs.Final.{IsLinked, IsRewrittenByNoOther, Linked, count}
+use Rattle.linker_final.specs.Final.{instruction_at}
 use Rattle.linker_final.specs.Final.{IsWrittenByNoOther, UntouchedInstruction}
 use Rattle.linker_final.specs.Final.{UntouchedInstructions, two_at}
-use Rattle.linker_final.specs.SectionRuns.{offset_of, IsPhase, Rewriting, Section}
+use Rattle.linker_final.specs.SectionRuns.{IsBesideAll, IsPhase, Rewriting, Section, offset_of}
 use Rattle.linker_laws.specs.AArch64Groups.{Code, Descriptor, Has, go_and_link, link}
 use Rattle.linker_laws.specs.AArch64Machine.{load_64}
 use Rattle.linker_laws.specs.AArch64RewriteLaws.{word_of, following, thread_offset}
@@ -24,7 +25,7 @@ use Rattle.linker_laws.specs.Simulation.{Agree, Kinds, State, anything, half, sa
 use Rattle.linker_rewriting.specs.Decisions.{decision_at}
 use Rattle.linker_rewriting.specs.Rewritten.{IsAddressRewritten, IsDescriptorRewritten}
 use Rattle.linker_rewriting.specs.Rewritten.{IsLoadRewritten}
-use Rattle.linker_rewriting.specs.declared.decisions.Decision.TheVariants.{Rewritten, Kept}
+use Rattle.linker_rewriting.specs.declared.decisions.Decision.TheVariants.{Rewritten}
 use Rattle.linker_section.specs.Relocations.{relocation_in}
 use Rattle.linker_section.specs.Values.{operands_with}
 use Rattle.linker_section.specs.declared.facts.Addresses.{Addresses}
@@ -185,21 +186,14 @@ pub data Begins (x : Section) (l : Linked) (c : Code) (k : Kinds) (s : State)
         → Begins x l c k s (call i of) (with_register 30 anything k)
         (go_and_link (sum_64 o.place 4) s)
 
--- a byte that no instruction has whose relocation doesn't stay
-abbrev pub StaysBy : Linked → ℕ → ℕ → Type 0
-StaysBy l b i =
-    decision_at l.decisions i ≢ Kept → (b < offset_of l i) ⊎ (offset_of l i + 4 ≤ b)
-
-abbrev pub Stays : Linked → ℕ → Type 0
-Stays l b = (i : ℕ) → i < count l → StaysBy l b i
-
 abbrev pub rewriting : Rewriting
 rewriting =
     record {
       architecture = AArch64;
       Code = Code;
       link = link;
-      Stays = Stays;
+      Ensured = IsLinked;
+      Stays = IsBesideAll;
       Rewrites = Rewrites;
       span = λ l g. ((span l g).0, (span l g).0 + 4 * (span l g).1);
       executed = λ l g. (span l g).1;

@@ -191,15 +191,21 @@ linked context kept relocations section decisions relocations_after rewritten
     (rewriting_phase context kept relocations section decisions relocations_after rewritten) []
     relocations_after rewritten addresses symbols final
 
--- Phases succeed one after the other, and then values are written. Each phase is one that the laws
--- are about, with those after it as later ones, and takes what the one before left.
+-- Phases succeed one after the other. Each takes what the one before left, and something is ensured
+-- of each, with those after it as later ones.
+abbrev pub AreInTurn : (Linked → Type 0) → List RewritingPhase → List ℕ → List ℕ → List ℕ → List ℕ
+    → Addresses → List Symbol → List ℕ → Type 0
+AreInTurn Ensured [] relocations section relocations_last last addresses symbols final = Unit {0}
+AreInTurn Ensured (p ∷ phases) relocations section relocations_last last addresses symbols final =
+    Takes p relocations section
+    × Ensured (linked_by p phases relocations_last last addresses symbols final)
+    × AreInTurn Ensured phases p.relocations_after p.rewritten relocations_last last addresses
+    symbols final
+
+-- They do, and then values are written. Each phase is one that the laws are about.
 abbrev pub AreLinked : List RewritingPhase → List ℕ → List ℕ → List ℕ → List ℕ → Addresses
     → List Symbol → List ℕ → Type 0
-AreLinked [] relocations section relocations_last last addresses symbols final = Unit {0}
-AreLinked (p ∷ phases) relocations section relocations_last last addresses symbols final =
-    Takes p relocations section
-    × IsLinked (linked_by p phases relocations_last last addresses symbols final)
-    × AreLinked phases p.relocations_after p.rewritten relocations_last last addresses symbols final
+AreLinked = AreInTurn IsLinked
 
 -- why a section isn't linked: the bytes are then as before, or rewritten
 abbrev pub IsLinkCause : Architecture → OutputFacts → List SymbolFacts → List UnrelaxableGroups

@@ -25,6 +25,7 @@ pub mod RiscVFinal
 pub mod RiscVJoined
 pub mod RiscVNear
 pub mod RiscVPacked
+pub mod RiscVSection
 pub mod RiscVSteps
 pub mod RiscVTable
 pub mod SectionRuns

@@ -258,6 +258,7 @@ rewriting =
       architecture = Ppc64;
       Code = Code;
       link = link;
+      Ensured = IsLinked;
       Stays = Stays;
       Rewrites = Rewrites;
       span = λ l g. span l g.i;

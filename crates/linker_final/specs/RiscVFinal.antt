@@ -11,15 +11,15 @@ use Rattle.linker_elf.specs.declared.elf.choice.Choice.{Choice}
 use Rattle.linker_elf.specs.declared.elf.value.Operands.{Operands}
 use Rattle.linker_elf.specs.declared.riscv64.relocations.RiscVRelocation.{RiscVRelocation}
 use Rattle.linker_elf.specs.declared.riscv64.relocations.RiscVRelocation.TheVariants as names
-use Rattle.linker_final.specs.Final.{IsRewrittenByNoOther, IsWrittenByNoOther}
+use Rattle.linker_final.specs.Final.{IsWrittenByNoOther}
 use Rattle.linker_final.specs.Final.{instruction_at}
-use Rattle.linker_final.specs.Final.{UntouchedInstructions, AreRewritten, UntouchedInstruction}
+use Rattle.linker_final.specs.Final.{AreRewritten, UntouchedInstruction}
 use Rattle.linker_final.specs.Final.{Linked, IsLinked}
 use Rattle.linker_final.specs.Final.{count}
 use Rattle.linker_laws.specs.Machine.{loaded}
 use Rattle.linker_laws.specs.RiscVMachine.{Action, register, rs1_of}
 use Rattle.linker_laws.specs.RiscVRewriteLaws.{HaveOneOffset, HaveOneTarget}
-use Rattle.linker_laws.specs.RiscVRewriteLaws.{IsLowOffset, action_at}
+use Rattle.linker_laws.specs.RiscVRewriteLaws.{IsLow12, IsLowOffset}
 use Rattle.linker_laws.specs.RiscVRewriteLaws.{of_entry, offset_row, word_of}
 use Rattle.linker_laws.specs.RiscVGroups.{AreBefore, AreDeleted, AreNops, Code, Descriptor, Has}
 use Rattle.linker_laws.specs.RiscVGroups.{LeavesAddress, LoadFromGot, Stands}
@@ -138,29 +138,24 @@ abbrev pub IsDeleted : Linked → ℕ → Type 0
 IsDeleted l i = deleted_of (decision_at l.decisions i) ≡ deleted_from 0 4
 
 -- A `lui` of a number of 12 bits is deleted, which is a group.
-abbrev pub HighPartGoes : Linked → ℕ → RelocationKindInfo → Type 0
-HighPartGoes l i row =
-    let r = relocation_in l.relocations i in
-    let lui = instruction_at l.section r.offset in
+abbrev pub HighPartGoes : Linked → ℕ → Type 0
+HighPartGoes l i =
+    let lui = instruction_at l.section (relocation_in l.relocations i).offset in
     let rd = rd_of (word_of lui) in
-    IsDeleted l i
-    × ((symbol : Symbol) → slice_get l.symbols r.symbol ≡ Some symbol
-    → let operands = operands_with RiscV l.addresses row symbol r 0 in
-    (c : Code) (k : Kinds) (s : State) → AreDeleted c 4 s → IsLowOffset operands
-    → Has 4 c.old s.pc (riscv_row names.R_RISCV_TPREL_HI20) operands lui
-    → Group (of_link (link c)) 0 k s (with_register rd anything k) (put rd 0 (s.pc + 4) s))
+    (x : Operands) (c : Code) (k : Kinds) (s : State) → AreDeleted c 4 s → IsLowOffset x
+    → Has 4 c.old s.pc (riscv_row names.R_RISCV_TPREL_HI20) x lui
+    → Group (of_link (link c)) 0 k s (with_register rd anything k) (put rd 0 (s.pc + 4) s)
 
 -- So is an `add` of the thread pointer to a register with 0.
 abbrev pub SumGoes : Linked → ℕ → Type 0
 SumGoes l i =
     let add = instruction_at l.section (relocation_in l.relocations i).offset in
     let rd = rd_of (word_of add) in
-    IsDeleted l i
-    × ((c : Code) (k : Kinds) (s : State) → AreDeleted c 4 s
+    (c : Code) (k : Kinds) (s : State) → AreDeleted c 4 s
     → register (seen s) (rs1_of (word_of add)) ≡ 0 → s.registers tp < 2 ^ 64
     → Stands 4 c.old s.pc add
     → Group (of_link (link c)) 0 k s (with_register rd anything k)
-    (put rd (s.registers tp) (s.pc + 4) s))
+    (put rd (s.registers tp) (s.pc + 4) s)
 
 -- ---- TLS descriptors
 
@@ -297,73 +292,17 @@ FixedAddressIsTheSameAnywhere l high =
     × Has 4 c.new (sum_64 y.place 4) (riscv_row names.R_RISCV_LO12_I) y
     (instruction_at l.rewritten (o + 4))) x y
 
+-- The `auipc` is deleted, and the `ld` became an `addi` of a number of 12 bits.
+abbrev pub LowAddressIsAlike : Linked → ℕ → (Code → Type 0) → Operands → Operands → Type 0
+LowAddressIsAlike l high NewHas x y =
+    let o = (relocation_in l.relocations high).offset in
+    let auipc = instruction_at l.section o in
+    let ld = instruction_at l.section (o + 4) in
+    (c : Code) (k : Kinds) (s : State) → AreBefore c 8 4 x y s
+    → (load : LoadFromGot c x s auipc ld) → HaveOneTarget x y → IsLow12 y → NewHas c
+    → LeavesAddress 1 c x k s auipc ld load
+
 -- ---- the laws
-
--- of every load of an address from the GOT that a linker rewrites, and later phases leave alone,
--- where no other rewrite has a byte of the `auipc`
-abbrev pub GotLoads : Type 0
-GotLoads =
-    (l : Linked) → IsLinked l → l.context.architecture ≡ RiscV
-    → (i j : ℕ) → AreOfLoad l i j → UntouchedInstructions l i j
-    → IsRewrittenByNoOther l i (relocation_in l.relocations i).offset
-    → IsSomeAnd (riscv_row names.R_RISCV_PCREL_HI20) (LoadsTheSame l i)
-
--- of every load that became the address itself, which later phases leave alone
-abbrev pub FixedAddresses : Type 0
-FixedAddresses =
-    (l : Linked) → IsLinked l → l.context.architecture ≡ RiscV → (high low : ℕ)
-    → IsLuiOfLoad l high → IsAddiOfLoad l high low → UntouchedInstructions l high low
-    → IsSomeAnd (riscv_row names.R_RISCV_LO12_I) (FixedAddressIsTheSame l high)
-
--- of every low part with a relocation of a name whose instruction is rewritten, and is one that the
--- relocation is of: a store with that of stores. Later phases leave it alone.
-abbrev pub LowPartsOf : RiscVRelocation → Type 0
-LowPartsOf name =
-    (l : Linked) → IsLinked l → l.context.architecture ≡ RiscV
-    → (i : ℕ) (chosen : Choice Relaxation ℕ) → i < count l
-    → IsNameOf riscv_name (relocation_in l.relocations i).code name
-    → decision_at l.decisions i ≡ Rewritten chosen → UntouchedInstruction l i
-    → IsSomeAnd (action_at l.section (relocation_in l.relocations i).offset) (λ action.
-    offset_row action ≡ riscv_row name
-    → IsSomeAnd (riscv_row name) (LowPartDoesTheSame l i action))
-
-abbrev pub LowParts : Type 0
-LowParts = LowPartsOf names.R_RISCV_TPREL_LO12_I × LowPartsOf names.R_RISCV_TPREL_LO12_S
-
--- of every `lui` of such an offset, and of every `add`
-abbrev pub HighParts : Type 0
-HighParts =
-    (l : Linked) → IsLinked l → l.context.architecture ≡ RiscV
-    → (i : ℕ) (chosen : Choice Relaxation ℕ) → i < count l
-    → IsNameOf riscv_name (relocation_in l.relocations i).code names.R_RISCV_TPREL_HI20
-    → decision_at l.decisions i ≡ Rewritten chosen
-    → IsSomeAnd (riscv_row names.R_RISCV_TPREL_HI20) (HighPartGoes l i)
-
-abbrev pub Sums : Type 0
-Sums =
-    (l : Linked) → IsLinked l → l.context.architecture ≡ RiscV
-    → (i : ℕ) (chosen : Choice Relaxation ℕ) → i < count l
-    → IsNameOf riscv_name (relocation_in l.relocations i).code names.R_RISCV_TPREL_ADD
-    → decision_at l.decisions i ≡ Rewritten chosen → SumGoes l i
-
--- of every sequence of a TLS descriptor whose last two instructions became those of local-exec, and
--- of every one whose last alone did, where the offset is a number of 12 bits. Later phases leave
--- them alone.
-abbrev pub Descriptors : Type 0
-Descriptors =
-    (l : Linked) → IsLinked l → l.context.architecture ≡ RiscV → (high add call : ℕ)
-    → IsOfDescriptor l high names.R_RISCV_TLSDESC_ADD_LO12 8 kinds.AddiToLui add
-    → IsOfDescriptor l high names.R_RISCV_TLSDESC_CALL 12 kinds.CallToAddi call → UntouchedInstructions l add call
-    → IsSomeAnd (riscv_row names.R_RISCV_TPREL_LO12_I) (OffsetIsTheSame 2
-    (λ o c at. Stands 4 c.new at (instruction_at l.final (o + 8))
-    × Stands 4 c.new (sum_64 at 4) (instruction_at l.final (o + 12))) AreAddresses l high)
-
-abbrev pub ShortDescriptors : Type 0
-ShortDescriptors =
-    (l : Linked) → IsLinked l → l.context.architecture ≡ RiscV → (high call : ℕ)
-    → IsOfDescriptor l high names.R_RISCV_TLSDESC_CALL 12 kinds.CallToAddiZero call
-    → UntouchedInstruction l call → IsSomeAnd (riscv_row names.R_RISCV_TPREL_LO12_I) (OffsetIsTheSame 1
-    (λ o c at. Stands 4 c.new at (instruction_at l.final (o + 12))) IsLowOffset l high)
 
 -- of every instruction of a descriptor that became a nop, which later phases leave alone, where no
 -- other relocation has a field in it
@@ -397,64 +336,3 @@ abbrev pub OffsetsAreLow : Type 0
 OffsetsAreLow =
     OffsetsAreLowOf names.R_RISCV_TPREL_HI20 × OffsetsAreLowOf names.R_RISCV_TPREL_LO12_I
     × OffsetsAreLowOf names.R_RISCV_TPREL_LO12_S
-
--- of every load from the GOT
-abbrev pub GotLoadsAnywhere : Type 0
-GotLoadsAnywhere =
-    (l : Linked) → AreRewritten l → l.context.architecture ≡ RiscV
-    → (i j : ℕ) → AreOfPair l i j
-    → IsRewrittenByNoOther l i (relocation_in l.relocations i).offset
-    → let r = relocation_in l.relocations i in
-    let low = relocation_in l.relocations j in
-    (relocation_in l.relocations_after i ≡ named_as names.R_RISCV_PCREL_HI20 r r)
-    × (relocation_in l.relocations_after j ≡ named_as names.R_RISCV_PCREL_LO12_I low low)
-    × LoadsTheSameAnywhere l i
-
--- of every load that became the address itself
-abbrev pub FixedAddressesAnywhere : Type 0
-FixedAddressesAnywhere =
-    (l : Linked) → AreRewritten l → l.context.architecture ≡ RiscV → (high low : ℕ)
-    → IsLuiOfLoad l high → IsAddiOfLoad l high low
-    → let r = relocation_in l.relocations high in
-    (relocation_in l.relocations_after high ≡ named_as names.R_RISCV_HI20 r r)
-    × (relocation_in l.relocations_after low
-    ≡ named_as names.R_RISCV_LO12_I (relocation_in l.relocations low) r)
-    × FixedAddressIsTheSameAnywhere l high
-
--- of every low part
-abbrev pub LowPartsAnywhereOf : RiscVRelocation → Type 0
-LowPartsAnywhereOf name =
-    (l : Linked) → AreRewritten l → l.context.architecture ≡ RiscV
-    → (i : ℕ) (chosen : Choice Relaxation ℕ) → i < count l
-    → IsNameOf riscv_name (relocation_in l.relocations i).code name
-    → decision_at l.decisions i ≡ Rewritten chosen
-    → let r = relocation_in l.relocations i in
-    (relocation_in l.relocations_after i ≡ named_as name r r)
-    × IsSomeAnd (action_at l.section r.offset) (LowPartDoesTheSameAnywhere l i)
-
-abbrev pub LowPartsAnywhere : Type 0
-LowPartsAnywhere =
-    LowPartsAnywhereOf names.R_RISCV_TPREL_LO12_I × LowPartsAnywhereOf names.R_RISCV_TPREL_LO12_S
-
--- of every sequence of a TLS descriptor whose last two instructions, or last one, became those of
--- local-exec
-abbrev pub DescriptorsAnywhere : Type 0
-DescriptorsAnywhere =
-    (l : Linked) → AreRewritten l → l.context.architecture ≡ RiscV → (high add call : ℕ)
-    → IsOfDescriptor l high names.R_RISCV_TLSDESC_ADD_LO12 8 kinds.AddiToLui add
-    → IsOfDescriptor l high names.R_RISCV_TLSDESC_CALL 12 kinds.CallToAddi call
-    → let r = relocation_in l.relocations high in
-    (relocation_in l.relocations_after add
-    ≡ named_as names.R_RISCV_TPREL_HI20 (relocation_in l.relocations add) r)
-    × (relocation_in l.relocations_after call
-    ≡ named_as names.R_RISCV_TPREL_LO12_I (relocation_in l.relocations call) r)
-    × OffsetIsTheSameAnywhere l high
-
-abbrev pub ShortDescriptorsAnywhere : Type 0
-ShortDescriptorsAnywhere =
-    (l : Linked) → AreRewritten l → l.context.architecture ≡ RiscV → (high call : ℕ)
-    → IsOfDescriptor l high names.R_RISCV_TLSDESC_CALL 12 kinds.CallToAddiZero call
-    → (relocation_in l.relocations_after call
-    ≡ named_as names.R_RISCV_TPREL_LO12_I (relocation_in l.relocations call)
-    (relocation_in l.relocations high))
-    × ShortOffsetIsTheSameAnywhere l high

@@ -1,31 +1,28 @@
 -- RISC-V: in the final bytes of a section that was rewritten and then packed, rewritten
 -- instructions do what the object's do with the values of their relocations.
-use Rattle.std.specs.Prelude.{◌≡◌, ℕ, ◌+◌, ◌<◌, Some, IsSomeAnd}
+use Rattle.std.specs.Prelude.{◌≡◌, ℕ, ◌+◌, ◌<◌, Some}
 use Rattle.std.specs.Prelude.{slice_get}
 use Rattle.linker_elf.specs.ElfNames.{IsNameOf}
-use Rattle.linker_elf.specs.RiscVRelocations.{riscv_name, riscv_row}
+use Rattle.linker_elf.specs.RiscVRelocations.{riscv_name}
 use Rattle.linker_elf.specs.Value.{sum_64, difference_64}
 use Rattle.linker_elf.specs.declared.elf.RelocationKindInfo.{RelocationKindInfo}
 use Rattle.linker_elf.specs.declared.elf.choice.Choice.{Choice}
 use Rattle.linker_elf.specs.declared.elf.value.Operands.{Operands}
 use Rattle.linker_elf.specs.declared.riscv64.relocations.RiscVRelocation.{RiscVRelocation}
 use Rattle.linker_elf.specs.declared.riscv64.relocations.RiscVRelocation.TheVariants as names
-use Rattle.linker_final.specs.Final.{UntouchedInstructions, UntouchedInstruction}
-use Rattle.linker_final.specs.Final.{IsRewrittenByNoOther, Linked}
+use Rattle.linker_final.specs.Final.{UntouchedInstruction}
+use Rattle.linker_final.specs.Final.{Linked}
 use Rattle.linker_final.specs.Final.{count, instruction_at}
 use Rattle.linker_final.specs.Joined.{IsRewrittenAndPacked, IsKeptInstruction, final_instruction}
 use Rattle.linker_final.specs.Packed.{Packed, IsUnwritten, StayTogether, place_of}
-use Rattle.linker_final.specs.RiscVFinal.{AreOfPair, IsOfDescriptor}
+use Rattle.linker_final.specs.RiscVFinal.{AreOfPair}
 use Rattle.linker_final.specs.RiscVFinal.{IsNop, LoadIsAlike, LowPartIsAlike, OffsetIsAlike}
 use Rattle.linker_laws.specs.RiscVGroups.{Stands}
 use Rattle.linker_laws.specs.RiscVMachine.{Action}
 use Rattle.linker_laws.specs.RiscVRewriteLaws.{IsLowOffset}
-use Rattle.linker_laws.specs.RiscVRewriteLaws.{action_at}
-use Rattle.linker_laws.specs.RiscVRewriteLaws.{offset_row}
 use Rattle.linker_laws.specs.Schemes.{AreAddresses}
 use Rattle.linker_rewriting.specs.Decisions.{decision_at}
 use Rattle.linker_rewriting.specs.declared.decisions.Decision.TheVariants.{RewrittenWithSymbol}
-use Rattle.linker_rewriting.specs.declared.decisions.Decision.TheVariants.{Rewritten}
 use Rattle.linker_rewriting.specs.declared.decisions.Subject.{Subject}
 use Rattle.linker_utils.specs.declared.riscv64.rewrites.RewriteKind.TheVariants as kinds
 use Rattle.linker_runs.specs.declared.packing.Machine.TheVariants.{RiscV64}
@@ -104,50 +101,6 @@ FinalShortOffsetIsTheSame l p high last row =
     → OffsetIsAlike l o 1 (λ c at. Stands 4 c.new at (final_instruction p (o + 12))) x y
 
 -- ---- the laws
-
--- of every load of an address from the GOT that is rewritten, and later phases leave alone, where
--- no other rewrite has a byte of the `auipc`
-abbrev pub PackedGotLoads : Type 0
-PackedGotLoads =
-    (l : Linked) (p : Packed) → IsRewrittenAndPacked l p → p.machine ≡ RiscV64
-    → (i j : ℕ) → AreOfFinalLoad l p i j → UntouchedInstructions l i j
-    → IsRewrittenByNoOther l i (relocation_in l.relocations i).offset
-    → IsSomeAnd (riscv_row names.R_RISCV_PCREL_HI20) (FinalBytesLoadTheSame l p i)
-
--- of every low part that is rewritten, which later phases leave alone, and whose instruction then
--- stays
-abbrev pub PackedLowPartsOf : RiscVRelocation → Type 0
-PackedLowPartsOf name =
-    (l : Linked) (p : Packed) → IsRewrittenAndPacked l p → p.machine ≡ RiscV64
-    → (i : ℕ) (chosen : Choice Relaxation ℕ) → i < count l
-    → IsNameOf riscv_name (relocation_in l.relocations i).code name
-    → decision_at l.decisions i ≡ Rewritten chosen → IsKeptInstruction p i → UntouchedInstruction l i
-    → IsSomeAnd (action_at l.section (relocation_in l.relocations i).offset) (λ action.
-    offset_row action ≡ riscv_row name
-    → IsSomeAnd (riscv_row name) (FinalLowPartDoesTheSame l p i action))
-
-abbrev pub PackedLowParts : Type 0
-PackedLowParts =
-    PackedLowPartsOf names.R_RISCV_TPREL_LO12_I × PackedLowPartsOf names.R_RISCV_TPREL_LO12_S
-
--- of every sequence of a TLS descriptor whose last two instructions, or last one, became those of
--- local-exec, are left alone by later phases, and stay then
-abbrev pub PackedDescriptors : Type 0
-PackedDescriptors =
-    (l : Linked) (p : Packed) → IsRewrittenAndPacked l p → p.machine ≡ RiscV64
-    → (high add call : ℕ)
-    → IsOfDescriptor l high names.R_RISCV_TLSDESC_ADD_LO12 8 kinds.AddiToLui add
-    → IsOfDescriptor l high names.R_RISCV_TLSDESC_CALL 12 kinds.CallToAddi call
-    → IsKeptInstruction p add → IsKeptInstruction p call → UntouchedInstructions l add call
-    → IsSomeAnd (riscv_row names.R_RISCV_TPREL_LO12_I) (FinalOffsetIsTheSame l p high call)
-
-abbrev pub PackedShortDescriptors : Type 0
-PackedShortDescriptors =
-    (l : Linked) (p : Packed) → IsRewrittenAndPacked l p → p.machine ≡ RiscV64
-    → (high call : ℕ)
-    → IsOfDescriptor l high names.R_RISCV_TLSDESC_CALL 12 kinds.CallToAddiZero call
-    → IsKeptInstruction p call → UntouchedInstruction l call
-    → IsSomeAnd (riscv_row names.R_RISCV_TPREL_LO12_I) (FinalShortOffsetIsTheSame l p high call)
 
 -- of every instruction of a descriptor that became a nop, which later phases leave alone, and which
 -- stays then, where no relocation has a field in it

@@ -1,10 +1,12 @@
 -- The code of a section that is linked, in one phase or in several: what stands at each place, and
 -- runs of it. What is of one architecture is a parameter (`Rewriting`).
-use Rattle.std.specs.Prelude.{◌≡◌, ℕ, ◌+◌, ◌<◌, ◌≤◌, ◌⊎◌, List, [], ◌∷◌, IsSomeAnd}
+use Rattle.std.specs.Prelude.{◌≡◌, ℕ, ◌+◌, ◌<◌, ◌≤◌, ◌≢◌, ◌⊎◌, List, [], ◌∷◌, IsSomeAnd}
 use Rattle.linker_elf.specs.declared.elf.architecture.Architecture.{Architecture}
-use Rattle.linker_final.specs.Final.{AreLinked, Linked, RewritingPhase, linked_by}
+use Rattle.linker_final.specs.Final.{AreInTurn, Linked, RewritingPhase, count, linked_by}
 use Rattle.linker_laws.specs.Simulation.{Agree, Comparison, Covered, Group, Kinds, Link, Next}
 use Rattle.linker_laws.specs.Simulation.{State, Stops, of_link, run, uncovered}
+use Rattle.linker_rewriting.specs.Decisions.{decision_at}
+use Rattle.linker_rewriting.specs.declared.decisions.Decision.TheVariants.{Kept}
 use Rattle.linker_section.specs.Relocations.{relocation_in}
 use Rattle.linker_section.specs.declared.facts.Addresses.{Addresses}
 use Rattle.linker_section.specs.declared.facts.Symbol.{Symbol}
@@ -35,6 +37,14 @@ IsPhase x = IsPhaseIn x.phases x
 abbrev pub offset_of : Linked → ℕ → ℕ
 offset_of l i = (relocation_in l.relocations i).offset
 
+-- a byte that the instruction of a relocation, of 4 bytes, doesn't have unless the relocation stays
+abbrev pub IsBeside : Linked → ℕ → ℕ → Type 0
+IsBeside l b i =
+    decision_at l.decisions i ≢ Kept → (b < offset_of l i) ⊎ (offset_of l i + 4 ≤ b)
+
+abbrev pub IsBesideAll : Linked → ℕ → Type 0
+IsBesideAll l b = (i : ℕ) → i < count l → IsBeside l b i
+
 -- ---- an architecture
 
 pub record Rewriting : Type 1 where
@@ -42,6 +52,8 @@ pub record Rewriting : Type 1 where
   -- old's code and new's
   pub Code : Type 0
   pub link : Code → Link
+  -- what the calls ensure of a phase
+  pub Ensured : Linked → Type 0
   -- in a phase the byte at an offset stays
   pub Stays : Linked → ℕ → Type 0
   -- Instructions that are rewritten together: the offset of their first byte, that of the first
@@ -58,8 +70,8 @@ comparison r c = of_link (r.link c)
 
 -- All calls returned OK.
 pub record AreCalled (r : Rewriting) (x : Section) : Type 0 where
-  pub linked : AreLinked x.phases x.relocations x.section x.relocations_last x.last x.addresses
-      x.symbols x.final
+  pub linked : AreInTurn r.Ensured x.phases x.relocations x.section x.relocations_last x.last
+      x.addresses x.symbols x.final
   pub architecture : (l : Linked) → IsPhase x l → l.context.architecture ≡ r.architecture
 
 -- ---- what stands at a place

@@ -191,6 +191,7 @@ rewriting =
       architecture = X86_64;
       Code = Code;
       link = link;
+      Ensured = IsLinked;
       Stays = λ l b. get_or l.rewritten b 0 ≡ get_or l.section b 0;
       Rewrites = Rewrites;
       span = span;

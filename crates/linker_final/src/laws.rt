@@ -8,7 +8,9 @@ ghost use Rattle.linker_final.specs.Final as final_bytes;
 ghost use Rattle.linker_final.specs.LoongArchFinal as loongarch64_final;
 ghost use Rattle.linker_final.specs.Ppc64Section as ppc64_section;
 ghost use Rattle.linker_final.specs.RiscVFinal as riscv64_final;
+ghost use Rattle.linker_final.specs.RiscVJoined as riscv64_joined;
 ghost use Rattle.linker_final.specs.RiscVNear as riscv64_near;
+ghost use Rattle.linker_final.specs.RiscVSection as riscv64_section;
 ghost use Rattle.linker_final.specs.SectionRuns as section_runs;
 ghost use Rattle.linker_final.specs.X86Section as x86_64_section;
 
@@ -64,32 +66,28 @@ pub fn aarch64_sections()
     linker_laws::simulation::runs();
 }
 
-/// RISC-V: rewritten instructions are groups of `linker_laws::simulation`, of any code that has the
-/// final bytes there, and of any old code that has the object's with the values of their
-/// relocations. They are each load of an address from the GOT that became a sum of the place and
-/// the distance, or `lui` and `addi` of the address, each low part of an offset that is over the
-/// thread pointer, and each sequence of a TLS descriptor that became one of local-exec. What became
-/// a nop is one. The high part and the sum of such an offset are deleted, and are groups of which
-/// new has nothing. The offset had 12 bits when rewrites were chosen. The clauses named `anywhere`
-/// are of a call of rewriting alone: what each relocation became, and that the rewritten
-/// instructions are a group wherever a linker applies it, as in a section that it packs first.
-pub fn riscv64()
-    ensures got_loads { riscv64_final.GotLoads }
-    ensures fixed_addresses { riscv64_final.FixedAddresses }
-    ensures low_parts { riscv64_final.LowParts }
-    ensures high_parts { riscv64_final.HighParts }
-    ensures sums { riscv64_final.Sums }
-    ensures descriptors { riscv64_final.Descriptors }
-    ensures short_descriptors { riscv64_final.ShortDescriptors }
+/// RISC-V: all changes of a section, in all of its phases, as `aarch64_sections` says of AArch64's.
+/// Each byte stays, but for the values of relocations, or is of the instruction of a relocation that
+/// is rewritten. Those with a law are each load of an address from the GOT that became a sum of the
+/// place and the distance, or `lui` and `addi` of the address, each low part of an offset that is
+/// over the thread pointer, and each sequence of a TLS descriptor that became one of local-exec. The
+/// high part and the sum of such an offset are deleted: new has nothing of them. The offset had 12
+/// bits when rewrites were chosen.
+///
+/// New is any code that has what became of them with the values of the relocations that are left,
+/// wherever that goes. Or it has the section's final bytes, or those of the section that was packed
+/// after its phases. What became a nop of a descriptor is one in both.
+pub fn riscv64_sections()
+    ensures places { section_runs.EachPlace riscv64_section.rewriting }
+    ensures groups { section_runs.RewritesAreGroups riscv64_section.rewriting }
+    ensures runs { section_runs.RunsAreFollowed riscv64_section.rewriting }
+    ensures relocations { riscv64_section.RelocationsAreLeft }
     ensures nops { riscv64_final.Nops }
+    ensures packed_nops { riscv64_joined.PackedNops }
     ensures offsets_are_low { riscv64_final.OffsetsAreLow }
-    ensures got_loads_anywhere { riscv64_final.GotLoadsAnywhere }
-    ensures fixed_addresses_anywhere { riscv64_final.FixedAddressesAnywhere }
-    ensures low_parts_anywhere { riscv64_final.LowPartsAnywhere }
-    ensures descriptors_anywhere { riscv64_final.DescriptorsAnywhere }
-    ensures short_descriptors_anywhere { riscv64_final.ShortDescriptorsAnywhere }
 {
     linker_laws::simulation::riscv64();
+    linker_laws::simulation::runs();
 }
 
 /// RISC-V: each low part that `rewrite_global_pointer` takes is a group of

@@ -13,7 +13,6 @@ ghost use Rattle.linker_final.specs.Packed as packed;
 ghost use Rattle.linker_final.specs.Packed.{architecture_of, packed_as, IsPackCause, IsPacked};
 ghost use Rattle.linker_final.specs.Relaxed as relaxed;
 ghost use Rattle.linker_final.specs.Relaxed.{AreRelaxedAndPacked};
-ghost use Rattle.linker_final.specs.RiscVJoined as riscv_joined;
 ghost use Rattle.linker_final.specs.RiscVPacked as riscv_packed;
 ghost use Rattle.linker_runs.specs.Choosing.{AreItems, IsRelaxation};
 ghost use Rattle.linker_runs.specs.Deleting.{deletions_of_run};
@@ -218,22 +217,6 @@ pub fn shorter_riscv64()
     ensures branches { RiscVBranchesGo }
 {
     linker_laws::relocations::riscv64();
-    linker_laws::simulation::riscv64();
-}
-
-/// RISC-V: what was rewritten before the section was packed, and stays, is a group of
-/// `linker_laws::simulation`. Old has the object's instructions with the values of their
-/// relocations, in a layout of its own, and new the final bytes. It is each load of an address from
-/// the GOT that became a sum of the place and the distance, each low part of an offset that is over
-/// the thread pointer, and each sequence of a TLS descriptor that became one of local-exec. What
-/// became a nop is one.
-pub fn joined_riscv64()
-    ensures got_loads { riscv_joined.PackedGotLoads }
-    ensures low_parts { riscv_joined.PackedLowParts }
-    ensures descriptors { riscv_joined.PackedDescriptors }
-    ensures short_descriptors { riscv_joined.PackedShortDescriptors }
-    ensures nops { riscv_joined.PackedNops }
-{
     linker_laws::simulation::riscv64();
 }
 
