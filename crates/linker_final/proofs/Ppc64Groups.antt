@@ -19,9 +19,8 @@ use Rattle.linker_final.proofs.Phases.{left_within}
 use Rattle.linker_final.proofs.Ppc64Again.{of_none}
 use Rattle.linker_final.proofs.Ppc64Chosen.{IsOfEntry, IsOfOne}
 use Rattle.linker_final.proofs.Ppc64Written.{Writes, after_is, becomes, becomes_marked, call_after, distance, entry_high, entry_low, entry_prefixed, left_alone, left_beside, made_after, marked_offset, near_entry, test_at, thread, thread_high, thread_low, thread_low_after, thread_low_words, thread_prefixed, thread_words, toc, toc_high, toc_low, toc_words}
-use Rattle.linker_final.proofs.RiscVOffsets.{mapped}
 use Rattle.linker_final.proofs.PutBack.{window_byte, window_length}
-use Rattle.linker_final.proofs.Written.{are_rewritten, first_same, outside_of, second_same, spared, stays, word_front, word_same}
+use Rattle.linker_final.proofs.Written.{are_rewritten, first_same, mapped, outside_of, second_same, spared, stays, word_front, word_same}
 use Rattle.linker_final.specs.Final.{AreBytes, AreRewritten, IsLinked, IsOutside, IsRewrittenByNoOther, IsWrittenByNoOther, Linked, UntouchedByOthers, UntouchedBytes, count, instruction_at, two_at}
 use Rattle.linker_final.specs.Ppc64Section.{AreLeftAlone, HasApplied, IsMade, IsOfNoPhase, Law, Left, Restores, applied, entry_by, law, law_of, name_of, none, of_call, shape, to_second}
 use Rattle.linker_final.specs.SectionRuns.{offset_of}

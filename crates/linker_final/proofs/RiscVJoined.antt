@@ -21,9 +21,9 @@ use Rattle.linker_final.proofs.RiscVDescriptors as descriptors
 use Rattle.linker_final.proofs.RiscVDescriptors.{high_tp, of_high_tp}
 use Rattle.linker_final.proofs.RiscVLoads as loads
 use Rattle.linker_final.proofs.RiscVLoads.{high_after, low_after, of_high}
-use Rattle.linker_final.proofs.RiscVOffsets.{IsLow, anywhere_of, low_i, mapped, of_low_i}
+use Rattle.linker_final.proofs.RiscVOffsets.{IsLow, anywhere_of, low_i, of_low_i}
 use Rattle.linker_final.proofs.RiscVWritten.{IsAfter, bytes_there, long_there, row_in}
-use Rattle.linker_final.proofs.Written.{rela, with_operands}
+use Rattle.linker_final.proofs.Written.{mapped, rela, with_operands}
 use Rattle.linker_final.specs.Final.{AreBytes, UntouchedInstructions, UntouchedInstruction, IsRewrittenByNoOther, Linked, count, instruction_at}
 use Rattle.linker_final.specs.Joined.{IsRewrittenAndPacked, IsKeptInstruction, final_instruction}
 use Rattle.linker_final.specs.Packed.{Packed, architecture_of, place_of}

@@ -1,6 +1,6 @@
 -- Low parts of RISC-V that became ones over the thread pointer are groups, and what is deleted
 -- before them.
-use Rattle.std.proofs.Common.{◌≡◌, ℕ, ◌+◌, ◌≤◌, List, [], ◌∷◌, length, refl, sym, ap, subst, ◌∙◌, arith, Option, Some, None, Ok, IsSomeAnd}
+use Rattle.std.proofs.Common.{◌≡◌, ℕ, ◌+◌, ◌≤◌, List, [], ◌∷◌, length, refl, sym, ap, subst, ◌∙◌, arith, Option, Some, Ok, IsSomeAnd}
 use Rattle.std.specs.Prelude.{IsTrue}
 use Rattle.std.specs.Int.{w32, from_le_bytes}
 use Rattle.linker_elf.specs.Applied.{IsApplied}
@@ -13,7 +13,7 @@ use Rattle.linker_elf.specs.declared.elf.RelocationKind.TheVariants.{TpOff}
 use Rattle.linker_elf.specs.declared.riscv64.forms.RiscVInstruction.TheVariants.{IType, SType}
 use Rattle.linker_elf.specs.declared.riscv64.relocations.RiscVRelocation.{RiscVRelocation}
 use Rattle.linker_elf.specs.declared.riscv64.relocations.RiscVRelocation.TheVariants as names
-use Rattle.linker_final.proofs.Written.{are_rewritten, rela, word_same}
+use Rattle.linker_final.proofs.Written.{are_rewritten, mapped, rela, word_same}
 use Rattle.linker_final.proofs.InstructionFields.{IsOfInstruction}
 use Rattle.linker_final.proofs.Phases.{last_length}
 use Rattle.linker_final.proofs.RiscVChosen.{IsOfEntry, of_entry}
@@ -77,11 +77,6 @@ of_low_s =
     }
 
 -- ---- one instruction
-
-pub mapped : {A : Type 0} {P Q : A → Type 0} → ((x : A) → P x → Q x) → (value : Option A)
-    → IsSomeAnd value P → IsSomeAnd value Q
-mapped each None is = is
-mapped each (Some x) is = each x is
 
 abbrev by_word : ℕ → Option Action
 by_word word = action_of (opcode_of word) (funct3_of word)

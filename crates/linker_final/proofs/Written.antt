@@ -1,5 +1,5 @@
 -- Instructions and their relocations in the bytes that rewrites leave, and in the final bytes.
-use Rattle.std.proofs.Common.{◌≡◌, ℕ, ℤ, ◌+◌, ◌-◌, ◌/◌, ◌<◌, ◌≤◌, ◌⊎◌, List, [], ◌∷◌, length, take, drop, sym, ap, subst, ◌∙◌, refl, inl, inr, arith, Option, Some, None, Ok, Err, Result, true}
+use Rattle.std.proofs.Common.{◌≡◌, ℕ, ℤ, ◌+◌, ◌-◌, ◌/◌, ◌<◌, ◌≤◌, ◌⊎◌, List, [], ◌∷◌, length, take, drop, sym, ap, subst, ◌∙◌, refl, inl, inr, arith, Option, Some, None, IsSomeAnd, Ok, Err, Result, true}
 use Rattle.std.proofs.lemmas.Bool.{cases_eq, cases_lt, cases_Bool, cond-true, cond-false}
 use Rattle.std.proofs.lemmas.List.{take-take, drop-drop, drop-take}
 use Rattle.std.specs.Int.{w32, from_le_bytes}
@@ -65,6 +65,12 @@ pub second_same : (bytes : List ℕ) (o : ℕ) → drop 4 (two_at bytes o) ≡ i
 second_same bytes o = drop-take 4 4 (drop o bytes) ∙ ap (take 4) (drop-drop 4 o bytes)
 
 -- ---- rows
+
+-- what follows of each value follows of one that is there
+pub mapped : {A : Type 0} {P Q : A → Type 0} → ((x : A) → P x → Q x) → (value : Option A)
+    → IsSomeAnd value P → IsSomeAnd value Q
+mapped each None is = is
+mapped each (Some x) is = each x is
 
 -- what the code of a name means
 pub by_name : {N A : Type 0} (elf : N → ElfName) (meaning : N → A) (name : N) → IsNamed (elf name)
