@@ -1,6 +1,6 @@
 -- The rewrites of a section of AArch64: each is of instructions that are rewritten together, and
 -- these are groups.
-use Rattle.std.proofs.Common.{◌≡◌, ◌≢◌, ℕ, ◌+◌, ◌-◌, ◌*◌, ◌<◌, ◌≤◌, inl, inr, ap, sym, ◌∙◌, arith, refl}
+use Rattle.std.proofs.Common.{◌≡◌, ◌≢◌, ℕ, ◌+◌, ◌-◌, ◌*◌, ◌<◌, ◌≤◌, inl, inr, ap, sym, subst, ◌∙◌, arith, refl}
 use Rattle.std.proofs.lemmas.Bool.{eq-eqb}
 use Rattle.linker_elf.specs.AArch64Relocations.{aarch64_name}
 use Rattle.linker_elf.specs.ElfNames.{IsNameOf}
@@ -209,5 +209,6 @@ module _ (laws : Groups) (x : Section) (called : AreCalled rewriting x) (c : Cod
       (with_register 30 anything) go_and_link (laws.branches.1) of at (ap (λ (w : Operands). w.place) at.are) alone goes_on has
 
 pub rewrites_are_groups : Groups → RewritesAreGroups rewriting
-rewrites_are_groups laws x c called l is k s g k' s' begins =
-    group_of laws x called c (begins.0) l is k s g k' s' (begins.1)
+rewrites_are_groups laws x c called l is k s g n k' s' begins =
+    subst (λ m. Group (of_link (link c)) m k s k' s') (sym begins.0)
+    (group_of laws x called c (begins.1) l is k s g k' s' (begins.2))

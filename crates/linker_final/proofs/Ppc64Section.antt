@@ -94,7 +94,7 @@ are_in laws l linked ppc64 b =
 -- ---- groups
 
 pub rewrites_are_groups : Groups → RewritesAreGroups rewriting
-rewrites_are_groups laws x c called l is k s g k' s' begins =
+rewrites_are_groups laws x c called l is k s g n k' s' begins =
     let linked = is_linked rewriting x called l is in
     let law = law_there laws l linked (called.architecture l is) g.i g.chosen g.below g.decided g.name g.is_name in
     elim begins.new [

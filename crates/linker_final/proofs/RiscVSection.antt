@@ -1,87 +1,194 @@
 -- The rewrites of a section of RISC-V: each is of an instruction of its relocation, and those that
 -- have a law are groups.
-use Rattle.std.proofs.Common.{◌≡◌}
+use Rattle.std.proofs.Common.{◌≡◌, ◌≢◌, ℕ, zero, suc, ◌<◌, List, [], ◌∷◌, Bool, true, false, Some, None, inl, inr, ap, sym, subst, ◌∙◌, refl, arith}
+use Rattle.std.proofs.lemmas.Bool.{or_parts}
+use Rattle.std.specs.List.{list_any}
+use Rattle.std.specs.Prelude.{is_some}
+use Rattle.linker_elf.specs.ElfNames.{IsNamed, IsNameOf}
+use Rattle.linker_elf.specs.RiscVRelocations.{riscv_name}
 use Rattle.linker_elf.specs.declared.elf.architecture.Architecture.TheVariants.{RiscV}
+use Rattle.linker_elf.specs.declared.elf.choice.Choice.{Choice}
+use Rattle.linker_elf.specs.declared.riscv64.relocations.RiscVRelocation.{RiscVRelocation}
 use Rattle.linker_elf.specs.declared.riscv64.relocations.RiscVRelocation.TheVariants as names
 use Rattle.linker_final.proofs.RiscVAddresses as addresses
+use Rattle.linker_final.proofs.RiscVChosen.{IsOfSome, of_some}
 use Rattle.linker_final.proofs.RiscVDescriptors as descriptors
 use Rattle.linker_final.proofs.RiscVJoined as joined
 use Rattle.linker_final.proofs.RiscVLoads as loads
 use Rattle.linker_final.proofs.RiscVOffsets as offsets
 use Rattle.linker_final.proofs.SectionRuns.{AreIn, beside_or, is_linked}
-use Rattle.linker_final.specs.Final.{AreRewritten, Linked}
-use Rattle.linker_final.specs.RiscVSection.{HasLaw, Leaves, New, RelocationsAreLeft, Rewrites, anywhere, descriptor, final, fixed, high_part, law, load, low_address, low_part, low_store, packed, part, rewriting, short_descriptor, sum}
-use Rattle.linker_final.specs.SectionRuns.{RewritesAreGroups}
+use Rattle.linker_final.specs.Final.{AreRewritten, Linked, count}
+use Rattle.linker_final.specs.RiscVSection.{Changes, Lawful, Leaves, New, RelocationsAreLeft, anywhere, descriptor, final, fixed, high_part, law, load, low_address, low_part, low_store, packed, rewriting, short_descriptor, sum}
+use Rattle.linker_final.specs.SectionRuns.{RewritesAreGroups, offset_of}
 use Rattle.linker_laws.specs.RiscVGroups.{Groups}
+use Rattle.linker_rewriting.proofs.Chosen.{choice_of}
+use Rattle.linker_rewriting.specs.Decisions.{IsDecidedAfter, IsGroupDecision, IsScopeDecision, decision_at, is_taken, takes_next}
+use Rattle.linker_rewriting.specs.Groups.{IsScopeIn, group_stays, riscv_scope_in}
+use Rattle.linker_rewriting.specs.declared.decisions.Decision.{Decision}
+use Rattle.linker_rewriting.specs.declared.decisions.Decision.TheVariants.{Consumed, Kept, Rewritten, RewrittenWithSymbol}
+use Rattle.linker_rewriting.specs.declared.groups.Scope.{Scope}
+use Rattle.linker_rewriting.specs.declared.groups.Scope.TheVariants.{Grouped, NotRelaxable}
+use Rattle.linker_rewriting.specs.declared.phases.Phase.{Phase}
+use Rattle.linker_rewriting.specs.declared.phases.Phase.TheVariants as phases
+use Rattle.linker_section.specs.Relocations.{relocation_in}
+use Rattle.linker_utils.specs.RiscVRewrites.{RiscVEntry, riscv_entries, riscv_skipped}
+use Rattle.linker_utils.specs.Relaxations.{relaxation_skipped}
+use Rattle.linker_utils.specs.declared.architecture.Relaxation.{Relaxation}
+
+-- ---- what stands at a place
+
+abbrev skips : List RiscVEntry → Bool
+skips = list_any (λ (e : RiscVEntry). is_some (riscv_skipped e.kind))
+
+-- no entry of a name that a phase rewrites has the next relocation go
+skips_none : (phase : Phase) (name : RiscVRelocation) → riscv_scope_in phase name ≢ NotRelaxable
+    → IsNamed (riscv_name name) × (skips (riscv_entries name) ≡ false)
+skips_none phases.TlsLocalExec names.R_RISCV_TPREL_HI20 scoped = (tt, refl)
+skips_none phases.TlsLocalExec names.R_RISCV_TPREL_ADD scoped = (tt, refl)
+skips_none phases.TlsLocalExec names.R_RISCV_TPREL_LO12_I scoped = (tt, refl)
+skips_none phases.TlsLocalExec names.R_RISCV_TPREL_LO12_S scoped = (tt, refl)
+skips_none phases.TlsLocalExec names.R_RISCV_TLSDESC_HI20 scoped = (tt, refl)
+skips_none phases.TlsLocalExec names.R_RISCV_TLSDESC_LOAD_LO12 scoped = (tt, refl)
+skips_none phases.TlsLocalExec names.R_RISCV_TLSDESC_ADD_LO12 scoped = (tt, refl)
+skips_none phases.TlsLocalExec names.R_RISCV_TLSDESC_CALL scoped = (tt, refl)
+skips_none phases.GotToPcRel names.R_RISCV_GOT_HI20 scoped = (tt, refl)
+skips_none phases.GotToPcRel names.R_RISCV_PCREL_LO12_I scoped = (tt, refl)
+skips_none phases.GotToPcRel names.R_RISCV_PCREL_LO12_S scoped = (tt, refl)
+skips_none phase name scoped = absurd (scoped refl)
+
+of_entry : (name : RiscVRelocation) (section : List ℕ) (o : ℕ) (chosen : Choice Relaxation ℕ) (es : List RiscVEntry)
+    → skips es ≡ false → IsOfSome name es section o chosen → is_some (relaxation_skipped chosen.kind) ≡ false
+of_entry name section o chosen [] none nothing = absurd nothing
+of_entry name section o chosen (e ∷ es) none (inl this) =
+    ap (λ k. is_some (relaxation_skipped k)) this.kind_is ∙ (or_parts (is_some (riscv_skipped e.kind)) (skips es) none).0
+of_entry name section o chosen (e ∷ es) none (inr other) =
+    of_entry name section o chosen es (or_parts (is_some (riscv_skipped e.kind)) (skips es) none).1 other
+
+module _ (l : Linked) (made : AreRewritten l) (riscv : l.context.architecture ≡ RiscV) (i : ℕ) (below : i < count l)
+  where
+    abbrev By : Scope → Type 0
+    By scope =
+        IsScopeDecision l.context l.kept l.relocations l.section i (relocation_in l.relocations i) scope (decision_at l.decisions i)
+
+    record IsScoped : Type 0 where
+      pub name : RiscVRelocation
+      pub is_name : IsNameOf riscv_name (relocation_in l.relocations i).code name
+      pub by : By (riscv_scope_in l.context.phase name)
+
+    scoped : is_taken l.decisions i ≡ false → IsScoped
+    scoped free =
+        let alone = subst (λ t. IsDecidedAfter l.context l.kept l.relocations l.section i t (decision_at l.decisions i)) free (made.decided i below) in
+        let scope = subst (λ x. IsScopeIn x l.context.phase (relocation_in l.relocations i).code (alone.0)) riscv (alone.1) in
+        record { name = scope.name; is_name = scope.is_name; by = subst By scope.value_is (alone.2) }
+
+    skipped_by : IsScoped → (d : Decision) (chosen : Choice Relaxation ℕ) → decision_at l.decisions i ≡ d
+        → choice_of d ≡ Some chosen → is_some (relaxation_skipped chosen.kind) ≡ false
+    skipped_by w d chosen is by =
+        let stays : riscv_scope_in l.context.phase w.name ≢ NotRelaxable = λ none.
+        let e : None ≡ Some chosen = sym (ap choice_of (subst By none w.by)) ∙ (ap choice_of is ∙ by) in cc in
+        let all = skips_none l.context.phase w.name stays in
+        of_entry w.name l.section (offset_of l i) chosen (riscv_entries w.name) (all.1)
+        (of_some l made riscv i d chosen below is by w.name (all.0) w.is_name)
+
+    takes_none : IsScoped → (d : Decision) → decision_at l.decisions i ≡ d → takes_next d ≡ false
+    takes_none w Kept is = refl
+    takes_none w Consumed is = refl
+    takes_none w (Rewritten chosen) is = skipped_by w (Rewritten chosen) chosen is refl
+    takes_none w (RewrittenWithSymbol chosen subject) is =
+        skipped_by w (RewrittenWithSymbol chosen subject) chosen is refl
+
+    by_group : (stays : Bool) → IsGroupDecision l.context l.relocations l.section i (relocation_in l.relocations i) stays (decision_at l.decisions i)
+        → decision_at l.decisions i ≢ Kept → (chosen : Choice Relaxation ℕ) × (decision_at l.decisions i ≡ Rewritten chosen)
+    by_group true is changed = absurd (changed is)
+    by_group false is changed = (is.0, is.2)
+
+    by_scope : (scope : Scope) → By scope → decision_at l.decisions i ≢ Kept → Changes scope (decision_at l.decisions i)
+    by_scope NotRelaxable is changed = absurd (changed is)
+    by_scope (Grouped group) is changed = by_group (group_stays l.kept group (relocation_in l.relocations i).symbol) is changed
+    by_scope scope is changed = changed
+
+untaken : (l : Linked) → AreRewritten l → l.context.architecture ≡ RiscV → (i : ℕ) → i < count l
+    → is_taken l.decisions i ≡ false
+untaken l made riscv zero below = refl
+untaken l made riscv (suc i) below =
+    let before : i < count l = omega (arith, below) in
+    takes_none l made riscv i before (scoped l made riscv i before (untaken l made riscv i before)) (decision_at l.decisions i) refl
 
 pub are_in : AreIn rewriting
 are_in l made riscv b =
-    beside_or l b (λ i below changed from less. record { g = part i below changed; first = from; last = less })
+    beside_or l b (λ i below changed from less.
+    let w = scoped l made riscv i below (untaken l made riscv i below) in
+    record {
+      g = record {
+        i = i;
+        below = below;
+        name = w.name;
+        is_name = w.is_name;
+        changes = by_scope l made riscv i below (riscv_scope_in l.context.phase w.name) w.by changed;
+      };
+      first = from;
+      last = less;
+    })
+
+-- ---- laws
 
 module _ (groups : Groups) (l : Linked) (made : AreRewritten l) (riscv : l.context.architecture ≡ RiscV) where
-  leaves : (g : Rewrites l) → Leaves l g
-  leaves (load i j of alone) =
+  leaves : (i : ℕ) (g : Lawful l i) → Leaves l i g
+  leaves i (load j of alone) =
       (loads.high_is groups l made riscv i j of alone, loads.low_is groups l made riscv i j of alone)
-  leaves (fixed i j high low) =
+  leaves i (fixed j high low) =
       (addresses.high_after groups l made riscv i j high low, addresses.low_after groups l made riscv i j high low)
-  leaves (low_address i j high low) = addresses.zero_after groups l made riscv i j low
-  leaves (descriptor i add call nops of_add of_call) = (
+  leaves i (low_address j high low) = addresses.zero_after groups l made riscv i j low
+  leaves i (descriptor add call of_add of_call) = (
     descriptors.add_after groups l made riscv i add call of_add of_call,
     descriptors.call_after groups l made riscv i add call of_add of_call,
   )
-  leaves (short_descriptor i call nops of) = descriptors.short_after groups l made riscv i call of
-  leaves (low_part i of) = (offsets.anywhere_of groups names.R_RISCV_TPREL_LO12_I offsets.of_load l made riscv i of).0
-  leaves (low_store i of) = (offsets.anywhere_of groups names.R_RISCV_TPREL_LO12_S offsets.of_store l made riscv i of).0
-  leaves (high_part i of) = (offsets.high_part_goes groups l made riscv i of).0
-  leaves (sum i of) = (offsets.sum_goes groups l made riscv i of).0
-  leaves (part i below changed) = tt
+  leaves i (short_descriptor call of) = descriptors.short_after groups l made riscv i call of
+  leaves i (low_part of) = (offsets.anywhere_of groups names.R_RISCV_TPREL_LO12_I offsets.of_load l made riscv i of).0
+  leaves i (low_store of) = (offsets.anywhere_of groups names.R_RISCV_TPREL_LO12_S offsets.of_store l made riscv i of).0
+  leaves i (high_part of) = (offsets.high_part_goes groups l made riscv i of).0
+  leaves i (sum of) = (offsets.sum_goes groups l made riscv i of).0
 
-  law_there : (g : Rewrites l) → HasLaw l g → (new : New l) → law l g new
-  law_there (load i j of alone) lawful anywhere = loads.wherever groups l made riscv i j of alone
-  law_there (load i j of alone) lawful (final linked) =
+  law_there : (i : ℕ) (g : Lawful l i) (new : New l) → law l i g new
+  law_there i (load j of alone) anywhere = loads.wherever groups l made riscv i j of alone
+  law_there i (load j of alone) (final linked) =
       λ of left. loads.loads_the_same groups l linked riscv i j of left alone
-  law_there (load i j of alone) lawful (packed p both is) =
+  law_there i (load j of alone) (packed p both is) =
       λ of left. joined.loads_the_same groups l p both is i j of left alone
-  law_there (fixed i j high low) lawful anywhere = addresses.wherever groups l made riscv i j high low
-  law_there (fixed i j high low) lawful (final linked) =
-      addresses.fixed_addresses groups l linked riscv i j high low
-  law_there (fixed i j high low) lawful (packed p both is) = addresses.wherever groups l made riscv i j high low
-  law_there (low_address i j high low) lawful anywhere = addresses.low_wherever groups l made riscv i j low
-  law_there (low_address i j high low) lawful (final linked) = addresses.low_wherever groups l made riscv i j low
-  law_there (low_address i j high low) lawful (packed p both is) =
-      joined.packed_low_address groups l p both is i j low
-  law_there (descriptor i add call nops of_add of_call) lawful anywhere =
+  law_there i (fixed j high low) (final linked) = addresses.fixed_addresses groups l linked riscv i j high low
+  law_there i (fixed j high low) new = addresses.wherever groups l made riscv i j high low
+  law_there i (low_address j high low) (packed p both is) = joined.packed_low_address groups l p both is i j low
+  law_there i (low_address j high low) new = addresses.low_wherever groups l made riscv i j low
+  law_there i (descriptor add call of_add of_call) anywhere =
       descriptors.wherever groups l made riscv i add call of_add of_call
-  law_there (descriptor i add call nops of_add of_call) lawful (final linked) =
+  law_there i (descriptor add call of_add of_call) (final linked) =
       descriptors.descriptors groups l linked riscv i add call of_add of_call
-  law_there (descriptor i add call nops of_add of_call) lawful (packed p both is) =
+  law_there i (descriptor add call of_add of_call) (packed p both is) =
       joined.packed_descriptors groups l p both is i add call of_add of_call
-  law_there (short_descriptor i call nops of) lawful anywhere =
-      descriptors.short_wherever groups l made riscv i call of
-  law_there (short_descriptor i call nops of) lawful (final linked) =
+  law_there i (short_descriptor call of) anywhere = descriptors.short_wherever groups l made riscv i call of
+  law_there i (short_descriptor call of) (final linked) =
       descriptors.short_descriptors groups l linked riscv i call of
-  law_there (short_descriptor i call nops of) lawful (packed p both is) =
+  law_there i (short_descriptor call of) (packed p both is) =
       joined.packed_short_descriptors groups l p both is i call of
-  law_there (low_part i of) lawful anywhere =
+  law_there i (low_part of) anywhere =
       (offsets.anywhere_of groups names.R_RISCV_TPREL_LO12_I offsets.of_load l made riscv i of).1
-  law_there (low_part i of) lawful (final linked) =
+  law_there i (low_part of) (final linked) =
       offsets.low_parts_of groups names.R_RISCV_TPREL_LO12_I offsets.of_load l linked riscv i of
-  law_there (low_part i of) lawful (packed p both is) =
+  law_there i (low_part of) (packed p both is) =
       joined.packed_low_part groups names.R_RISCV_TPREL_LO12_I offsets.of_load l p both is i of
-  law_there (low_store i of) lawful anywhere =
+  law_there i (low_store of) anywhere =
       (offsets.anywhere_of groups names.R_RISCV_TPREL_LO12_S offsets.of_store l made riscv i of).1
-  law_there (low_store i of) lawful (final linked) =
+  law_there i (low_store of) (final linked) =
       offsets.low_parts_of groups names.R_RISCV_TPREL_LO12_S offsets.of_store l linked riscv i of
-  law_there (low_store i of) lawful (packed p both is) =
+  law_there i (low_store of) (packed p both is) =
       joined.packed_low_part groups names.R_RISCV_TPREL_LO12_S offsets.of_store l p both is i of
-  law_there (high_part i of) lawful new = (offsets.high_part_goes groups l made riscv i of).1
-  law_there (sum i of) lawful new = (offsets.sum_goes groups l made riscv i of).1
-  law_there (part i below changed) lawful new = absurd lawful
+  law_there i (high_part of) new = (offsets.high_part_goes groups l made riscv i of).1
+  law_there i (sum of) new = (offsets.sum_goes groups l made riscv i of).1
 
 pub relocations_are_left : Groups → RelocationsAreLeft
 relocations_are_left = leaves
 
 pub rewrites_are_groups : Groups → RewritesAreGroups rewriting
-rewrites_are_groups groups x c called l is k s g k' s' begins =
+rewrites_are_groups groups x c called l is k s g n k' s' begins =
     begins.by_law
-    (law_there groups l (is_linked rewriting x called l is) (called.architecture l is) g begins.lawful begins.new)
+    (law_there groups l (is_linked rewriting x called l is) (called.architecture l is) g.i begins.lawful begins.new)

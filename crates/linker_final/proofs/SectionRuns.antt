@@ -176,14 +176,14 @@ module _ (r : Rewriting) where
   module _ (groups : RewritesAreGroups r) (x : Section) (called : AreCalled r x) (c : r.Code) where
     -- what follows is known
     next_of : (k : Kinds) (s : State) → Known r x c k s → Next (comparison r c) k s
-    next_of k s (rewritten l is g k' s' begins_so) =
-        by_group (r.executed l g) k' s' (groups x c called l is k s g k' s' begins_so)
+    next_of k s (rewritten l is g n k' s' begins_so) =
+        by_group n k' s' (groups x c called l is k s g n k' s' begins_so)
     next_of k s (elsewhere next) = next
 
     unknown : (k : Kinds) (s : State) (known : Known r x c k s) → next_of k s known ≡ uncovered
         → known ≡ elsewhere uncovered
     unfolding next_of
-    unknown k s (rewritten l phase g k' s' begins_so) is =
+    unknown k s (rewritten l phase g n k' s' begins_so) is =
         absurd (let e : true ≡ false = ap (is_covered (comparison r c) k s) is in cc)
     unknown k s (elsewhere next) is = ap elsewhere is
 

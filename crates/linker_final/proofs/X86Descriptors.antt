@@ -56,7 +56,7 @@ module _ (n : ℕ) (three : 3 ≤ n) (name : X86_64Relocation) (named : IsNamed 
     (chosen : Choice Relaxation ℕ) (below : i < count l)
     (is_name : IsNameOf x86_64_name (relocation_in l.relocations i).code name)
     (decided : decision_at l.decisions i ≡ Rewritten chosen)
-    (is : window_of name chosen.kind ≡ Some (window (lea register_of) n 4 1)) (small : n < 2 ^ 64)
+    (is : window_of name chosen.kind ≡ Some (window (lea register_of) n 4)) (small : n < 2 ^ 64)
   where
     abbrev r : Rela
     r = relocation_in l.relocations i
@@ -71,7 +71,7 @@ module _ (n : ℕ) (three : 3 ≤ n) (name : X86_64Relocation) (named : IsNamed 
     room there = there_inside n 4 (omega arith) (lea_of_descriptor n) l.section o shape there
 
     abbrev w : Window
-    w = window (lea register_of) n 4 1
+    w = window (lea register_of) n 4
 
     -- by its rewrite
     lawful : (kind : RewriteKind) → chosen.kind ≡ relaxations.X86_64 kind → HasWindow n 4 (x86_64_rewrite kind)
@@ -176,7 +176,7 @@ module _ (law : groups.LeaOfDescriptor) (l : Linked) (linked : IsLinked l) (x86 
 
     pub with_rex_is_lawful : IsNameOf x86_64_name it.code names.R_X86_64_GOTPC32_TLSDESC
         → IsOfTable (descriptor_table 3) l.section it.offset it.addend chosen
-        → IsLawful l i chosen names.R_X86_64_GOTPC32_TLSDESC (window (lea reg_after_rex) 3 4 1)
+        → IsLawful l i chosen names.R_X86_64_GOTPC32_TLSDESC (window (lea reg_after_rex) 3 4)
     with_rex_is_lawful is_name =
         lea_is_lawful 3 (omega arith) names.R_X86_64_GOTPC32_TLSDESC tt refl reg_after_rex ((refl, refl), tt)
         (λ bytes o is. is)
@@ -185,7 +185,7 @@ module _ (law : groups.LeaOfDescriptor) (l : Linked) (linked : IsLinked l) (x86 
 
     pub with_rex2_is_lawful : IsNameOf x86_64_name it.code names.R_X86_64_CODE_4_GOTPC32_TLSDESC
         → IsOfTable (descriptor_table 4) l.section it.offset it.addend chosen
-        → IsLawful l i chosen names.R_X86_64_CODE_4_GOTPC32_TLSDESC (window (lea reg_after_rex2) 4 4 1)
+        → IsLawful l i chosen names.R_X86_64_CODE_4_GOTPC32_TLSDESC (window (lea reg_after_rex2) 4 4)
     with_rex2_is_lawful is_name =
         lea_is_lawful 4 (omega arith) names.R_X86_64_CODE_4_GOTPC32_TLSDESC tt refl reg_after_rex2 ((refl, refl), tt)
         (λ bytes o is. is)
@@ -205,7 +205,7 @@ module _ (law : groups.CallOfDescriptor) (l : Linked) (linked : IsLinked l)
     skip = kinds.SkipTlsDescCall
 
     pub call_is_lawful : IsOfTable (any_entry (unrelocated_by kinds.SkipTlsDescCall ∷ [])) l.section at (relocation_in l.relocations i).addend chosen
-        → IsLawful l i chosen names.R_X86_64_TLSDESC_CALL (window call 0 2 1)
+        → IsLawful l i chosen names.R_X86_64_TLSDESC_CALL (window call 0 2)
     call_is_lawful (inl this) =
         let room = there_inside 0 2 (omega arith) (x86_64_originals skip) l.section at ((refl, refl), tt) (this.has_pattern.1.1) in
         let has_window = own_window 0 2 (x86_64_rewrite skip) (replaces 0 2 _) refl (λ window. refl) (omega arith) (omega arith) in

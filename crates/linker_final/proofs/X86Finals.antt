@@ -137,7 +137,7 @@ module _ (laws : Groups) (name : X86_64Relocation) (operand : GotOperand)
     o = r.offset
 
     abbrev around : Window
-    around = window (in_got operand.held) operand.back 4 1
+    around = window (in_got operand.held) operand.back 4
 
     abbrev DoesTheSame : RelocationKindInfo → Type 0
     DoesTheSame row =

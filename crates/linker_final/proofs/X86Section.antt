@@ -46,10 +46,10 @@ module _ (laws : Groups) (l : Linked) (linked : IsLinked l) (x86 : l.context.arc
 
   got : (name : X86_64Relocation) (back : ℕ) (held : Operands → ℕ) → got_operand name ≡ operand back held
       → IsNameOf x86_64_name (relocation_in l.relocations i).code name → IsNamed (x86_64_name name)
-      → window_of name chosen.kind ≡ Some (window (in_got held) back 4 1) → back < 2 ^ 64 → Outcome name
+      → window_of name chosen.kind ≡ Some (window (in_got held) back 4) → back < 2 ^ 64 → Outcome name
   got name back held wanted is_name named is few = (
     named,
-    inl (window (in_got held) back 4 1, got_is_lawful laws name (record { back = back; held = held }) wanted l linked x86 i chosen below decided is_name is few),
+    inl (window (in_got held) back 4, got_is_lawful laws name (record { back = back; held = held }) wanted l linked x86 i chosen below decided is_name is few),
   )
 
   by_name : (name : X86_64Relocation) → IsNameOf x86_64_name (relocation_in l.relocations i).code name
@@ -69,15 +69,15 @@ module _ (laws : Groups) (l : Linked) (linked : IsLinked l) (x86 : l.context.arc
       (tt, inl (module_is_lawful laws.local_dynamic l linked x86 i chosen below decided of))
   by_name names.R_X86_64_GOTPC32_TLSDESC is_name of = (
     tt,
-    inl (window (lea reg_after_rex) 3 4 1, with_rex_is_lawful laws.descriptor_address l linked x86 i chosen below decided is_name of),
+    inl (window (lea reg_after_rex) 3 4, with_rex_is_lawful laws.descriptor_address l linked x86 i chosen below decided is_name of),
   )
   by_name names.R_X86_64_CODE_4_GOTPC32_TLSDESC is_name of = (
     tt,
-    inl (window (lea reg_after_rex2) 4 4 1, with_rex2_is_lawful laws.descriptor_address l linked x86 i chosen below decided is_name of),
+    inl (window (lea reg_after_rex2) 4 4, with_rex2_is_lawful laws.descriptor_address l linked x86 i chosen below decided is_name of),
   )
   by_name names.R_X86_64_TLSDESC_CALL is_name of = (
     tt,
-    inl (window call 0 2 1, call_is_lawful laws.descriptor_call l linked x86 i chosen below decided of),
+    inl (window call 0 2, call_is_lawful laws.descriptor_call l linked x86 i chosen below decided of),
   )
   by_name names.R_X86_64_DTPOFF32 is_name (inl this) = (tt, inr (refl, ap relaxation_rewrite this.kind_is))
   by_name names.R_X86_64_DTPOFF32 is_name (inr nothing) = absurd nothing
@@ -182,7 +182,7 @@ are_in laws l linked x86 b =
 -- ---- groups
 
 pub rewrites_are_groups : Groups → RewritesAreGroups rewriting
-rewrites_are_groups laws x c called l is k s g k' s' both =
+rewrites_are_groups laws x c called l is k s g n k' s' both =
     let begins = both.1 in
     let law = law_there laws l (is_linked rewriting x called l is) (called.architecture l is) g.i g.chosen g.below g.decided
     g.name g.window g.is_name g.is in

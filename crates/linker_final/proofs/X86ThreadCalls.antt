@@ -70,25 +70,25 @@ module _ (l : Linked) (linked : IsLinked l) (x86 : l.context.architecture ≡ X8
   abbrev o : ℕ
   o = r.offset
 
-  abbrev around : Form → ℕ → Window
-  around form count = window form back (4 + call) count
+  abbrev around : Form → Window
+  around form = window form back (4 + call)
 
   room : (back ≤ o) × (o + (4 + call) ≤ length l.section)
   room = there_inside back (4 + call) (omega arith) (x86_64_originals kind) l.section o shape (pattern.1.1)
 
   -- of a name with a law
-  sequence : (name : X86_64Relocation) (form : Form) (count : ℕ)
-      → window_of name (relaxations.X86_64 kind) ≡ Some (around form count) → back < 2 ^ 64
+  sequence : (name : X86_64Relocation) (form : Form)
+      → window_of name (relaxations.X86_64 kind) ≡ Some (around form) → back < 2 ^ 64
       → ((symbol : Symbol) (w : Operands) (c : Code) (s : State)
-      → HasObject form l i name chosen.relocation (around form count) symbol w c s
-      → IsObject l i name chosen.relocation (around form count) symbol w c s)
+      → HasObject form l i name chosen.relocation (around form) symbol w c s
+      → IsObject l i name chosen.relocation (around form) symbol w c s)
       → (row : RelocationKindInfo)
       → (UntouchedByOthers l i (o - back) (back + (4 + call)) → (symbol : Symbol) (other : RelocationKindInfo)
       → AreBy form l i chosen.relocation symbol other
-      → (row ≡ other) × LawAt l i name row (around form count) chosen.kind symbol)
+      → (row ≡ other) × LawAt l i name row (around form) chosen.kind symbol)
       → Lawful l i chosen name
-  sequence name form count is few has row law = (
-    around form count,
+  sequence name form is few has row law = (
+    around form,
     record {
       is = ap (window_of name) kind_is ∙ is;
       kind = kind;
@@ -99,7 +99,7 @@ module _ (l : Linked) (linked : IsLinked l) (x86 : l.context.architecture ≡ X8
       law = λ alone symbol w c s final pc there.
           let object = has symbol w c s there in
           let made = law alone symbol object.row object.by in
-          of_field l linked i chosen name (around form count) few room symbol w c s final pc object row (made.0) (made.1);
+          of_field l linked i chosen name (around form) few room symbol w c s final pc object row (made.0) (made.1);
     },
   )
 
@@ -153,7 +153,7 @@ module _ (l : Linked) (linked : IsLinked l) (x86 : l.context.architecture ≡ X8
           (IsThreadCall (back + 4) (back + (4 + call)) count (λ c k s k' o. ⊤))
           → chosen.relocation ≡ code_of (x86_64_name names.R_X86_64_TPOFF32)
           → (symbol : Symbol) → slice_get l.symbols r.symbol ≡ Some symbol
-          → LawAt l i names.R_X86_64_TLSGD thread_row (around variable count) chosen.kind symbol
+          → LawAt l i names.R_X86_64_TLSGD thread_row (around (variable count)) chosen.kind symbol
       to_local after_is law code_is symbol is_symbol entry c s there k k' s' pointer holds returns =
           some_and _ (x86_64_relocation_after kind names.R_X86_64_TLSGD) names.R_X86_64_TPOFF32 after_is law c s
           object there.original l.final o (operands_with X86_64 l.addresses thread_row symbol r entry)
@@ -173,7 +173,7 @@ module _ (l : Linked) (linked : IsLinked l) (x86 : l.context.architecture ≡ X8
           → (symbol.thread_entry < 2 ^ 64) × AddsOffset symbol.thread_entry c k s k' o)
           → chosen.relocation ≡ code_of (x86_64_name names.R_X86_64_GOTTPOFF)
           → (symbol : Symbol) → slice_get l.symbols r.symbol ≡ Some symbol
-          → LawAt l i names.R_X86_64_TLSGD thread_row (around variable count) chosen.kind symbol
+          → LawAt l i names.R_X86_64_TLSGD thread_row (around (variable count)) chosen.kind symbol
       to_initial after_is law reads code_is symbol is_symbol entry c s there k k' s' pointer holds returns =
           let operands = operands_with X86_64 l.addresses thread_row symbol r entry in
           let held = reads symbol c k s k' operands
@@ -186,7 +186,7 @@ module _ (l : Linked) (linked : IsLinked l) (x86 : l.context.architecture ≡ X8
 
     -- of a module
     module_law : (count : ℕ) → Law back call count kind → chosen.relocation ≡ 0 → r.addend ≡ neg_ℤ (pos 4)
-        → (symbol : Symbol) → LawAt l i names.R_X86_64_TLSLD tls_module_row (around block count) chosen.kind symbol
+        → (symbol : Symbol) → LawAt l i names.R_X86_64_TLSLD tls_module_row (around (block count)) chosen.kind symbol
     module_law count law code addend symbol entry c s there =
         law c s object there.original o (operands_with X86_64 l.addresses tls_module_row symbol r entry)
         (before tls_module_row symbol entry names.R_X86_64_TLSLD c s there addend) matches there.applied
@@ -207,7 +207,7 @@ module _ (law : groups.GeneralDynamic) (l : Linked) (linked : IsLinked l) (x86 :
       let window = own_window 4 12 (x86_64_rewrite kind) (puts 4 12 _ _ _) refl (λ window. refl) (omega arith) (omega arith) in
       let shape : AreOf 4 12 (x86_64_originals kind) = ((refl, refl), ((refl, refl), tt)) in
       sequence l linked x86 i chosen below decided kind this.kind_is 4 8 window shape this.has_pattern
-      names.R_X86_64_TLSGD variable 2 refl (omega arith) (λ symbol w c s object. object) thread_row (λ alone symbol row by. (
+      names.R_X86_64_TLSGD (variable 2) refl (omega arith) (λ symbol w c s object. object) thread_row (λ alone symbol row by. (
         ap (of_row row) (by.1),
         to_local l linked x86 i chosen below decided kind this.kind_is 4 8 window shape this.has_pattern alone 2 is_name
             (sym this.same_addend ∙ this.hold.1.1.1.0) (omega arith) (omega arith) refl (law.0) this.code_is symbol (by.0),
@@ -217,7 +217,7 @@ module _ (law : groups.GeneralDynamic) (l : Linked) (linked : IsLinked l) (x86 :
       let window = own_window 3 19 (x86_64_rewrite kind) (puts 3 22 _ _ _) refl (λ window. refl) (omega arith) (omega arith) in
       let shape : AreOf 3 19 (x86_64_originals kind) = ((refl, refl), ((refl, refl), tt)) in
       sequence l linked x86 i chosen below decided kind this.kind_is 3 15 window shape this.has_pattern
-      names.R_X86_64_TLSGD variable 3 refl (omega arith) (λ symbol w c s object. object) thread_row (λ alone symbol row by. (
+      names.R_X86_64_TLSGD (variable 3) refl (omega arith) (λ symbol w c s object. object) thread_row (λ alone symbol row by. (
         ap (of_row row) (by.1),
         to_local l linked x86 i chosen below decided kind this.kind_is 3 15 window shape this.has_pattern alone 3 is_name
             (sym this.same_addend ∙ this.hold.1.1.1.0) (omega arith) (omega arith) refl (law.2) this.code_is symbol (by.0),
@@ -227,7 +227,7 @@ module _ (law : groups.GeneralDynamic) (l : Linked) (linked : IsLinked l) (x86 :
       let window = own_window 4 12 (x86_64_rewrite kind) (puts 4 12 _ _ _) refl (λ window. refl) (omega arith) (omega arith) in
       let shape : AreOf 4 12 (x86_64_originals kind) = ((refl, refl), ((refl, refl), tt)) in
       sequence l linked x86 i chosen below decided kind this.kind_is 4 8 window shape this.has_pattern
-      names.R_X86_64_TLSGD variable 2 refl (omega arith) (λ symbol w c s object. object) thread_row (λ alone symbol row by. (
+      names.R_X86_64_TLSGD (variable 2) refl (omega arith) (λ symbol w c s object. object) thread_row (λ alone symbol row by. (
         ap (of_row row) (by.1),
         to_initial l linked x86 i chosen below decided kind this.kind_is 4 8 window shape this.has_pattern alone 2 is_name
             (sym this.same_addend ∙ this.hold.1.1.0) (omega arith) (omega arith) refl (law.1) (λ symbol c k s k' o holds. holds) this.code_is symbol (by.0),
@@ -241,12 +241,12 @@ module _ (law : groups.LocalDynamic) (l : Linked) (linked : IsLinked l) (x86 : l
     (decided : decision_at l.decisions i ≡ Rewritten chosen) where
   by_kind : (kind : RewriteKind) (call n : ℕ) (has_window : HasWindow 3 (4 + call) (x86_64_rewrite kind))
       → AreOf 3 (4 + call) (x86_64_originals kind)
-      → sequence_of (relaxations.X86_64 kind) ≡ Some (window block 3 (4 + call) n) → Law 3 call n kind
+      → sequence_of (relaxations.X86_64 kind) ≡ Some (window (block n) 3 (4 + call)) → Law 3 call n kind
       → IsOfEntry any (module_by kind) l.section (relocation_in l.relocations i).offset (relocation_in l.relocations i).addend chosen
       → Lawful l i chosen names.R_X86_64_TLSLD
   by_kind kind call n has_window shape is of this =
       sequence l linked x86 i chosen below decided kind this.kind_is 3 call has_window shape this.has_pattern names.R_X86_64_TLSLD
-      block n is (omega arith) (λ symbol w c s object. object) tls_module_row (λ alone symbol row by. (
+      (block n) is (omega arith) (λ symbol w c s object. object) tls_module_row (λ alone symbol row by. (
         ap (of_row row) by,
         module_law l linked x86 i chosen below decided kind this.kind_is 3 call has_window shape this.has_pattern alone n of
             this.code_is (sym this.same_addend ∙ this.hold.1.1.0) symbol,

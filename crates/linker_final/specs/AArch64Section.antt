@@ -196,6 +196,7 @@ rewriting =
       Stays = IsBesideAll;
       Rewrites = Rewrites;
       span = λ l g. ((span l g).0, (span l g).0 + 4 * (span l g).1);
-      executed = λ l g. (span l g).1;
-      Begins = λ x l c k s g k' s'. HasFinal x.addresses x.final c × Begins x l c k s g k' s';
+      Begins =
+          λ x l c k s g n k' s'. (n ≡ (span l g).1) × HasFinal x.addresses x.final c
+          × Begins x l c k s g k' s';
     }

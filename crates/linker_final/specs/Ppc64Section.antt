@@ -52,25 +52,25 @@ kind_of decision = kinds.NoOp
 abbrev pub kind_at : Linked → ℕ → RewriteKind
 kind_at l i = kind_of (decision_at l.decisions i)
 
--- By what becomes of it, and the offset of its relocation: the offset of the first word, how many
--- words old has, and how many instructions new has. A mark is at the second byte of an instruction.
--- Of a call that may change r2 it is the `nop` after it.
-abbrev pub shape : RewriteKind → ℕ → ℕ × ℕ × ℕ
-shape kinds.NoOp o = (o, 0, 0)
-shape kinds.NopToRestoreToc o = (o + 4, 1, 1)
-shape kinds.AddToMove o = (o - 1, 1, 1)
-shape kinds.IndexedToDirect o = (o - 1, 1, 1)
-shape kinds.PldToPaddi o = (o, 2, 1)
-shape kinds.PldToPaddiThread o = (o, 2, 1)
-shape kinds.PaddiToPaddiThread o = (o, 2, 1)
-shape kinds.PaddiToPld o = (o, 2, 1)
-shape kinds.PaddiToPaddi4096 o = (o, 2, 1)
-shape kinds.CallToAddi o = (o, 2, 2)
-shape kinds.CallToAdd o = (o, 2, 2)
-shape kinds.CallToAddi4096 o = (o, 2, 2)
-shape kind o = (o, 1, 1)
+-- By what becomes of it, and the offset of its relocation: the offset of the first word, and how
+-- many words it has. A mark is at the second byte of an instruction. Of a call that may change r2
+-- it is the `nop` after it.
+abbrev pub shape : RewriteKind → ℕ → ℕ × ℕ
+shape kinds.NoOp o = (o, 0)
+shape kinds.NopToRestoreToc o = (o + 4, 1)
+shape kinds.AddToMove o = (o - 1, 1)
+shape kinds.IndexedToDirect o = (o - 1, 1)
+shape kinds.PldToPaddi o = (o, 2)
+shape kinds.PldToPaddiThread o = (o, 2)
+shape kinds.PaddiToPaddiThread o = (o, 2)
+shape kinds.PaddiToPld o = (o, 2)
+shape kinds.PaddiToPaddi4096 o = (o, 2)
+shape kinds.CallToAddi o = (o, 2)
+shape kinds.CallToAdd o = (o, 2)
+shape kinds.CallToAddi4096 o = (o, 2)
+shape kind o = (o, 1)
 
-abbrev pub shape_at : Linked → ℕ → ℕ × ℕ × ℕ
+abbrev pub shape_at : Linked → ℕ → ℕ × ℕ
 shape_at l i = shape (kind_at l i) (offset_of l i)
 
 abbrev pub span : Linked → ℕ → ℕ × ℕ
@@ -237,10 +237,10 @@ IsNew l c s g symbol any =
     (words_at l g.i l.rewritten)
 
 -- Old comes to what is rewritten, and new has what became of it. What else its law requires holds,
--- as that old has the words before with their relocation applied. So by it they leave kinds and a
--- state.
+-- as that old has the words before with their relocation applied. So by it new executes n
+-- instructions, and they leave kinds and a state.
 pub record Begins (x : Section) (l : Linked) (c : Code) (k : Kinds) (s : State) (g : Rewrites l)
-    (k' : Kinds) (s' : State) : Type 0 where
+    (n : ℕ) (k' : Kinds) (s' : State) : Type 0 where
   pub pc : s.pc ≡ sum_64 l.addresses.section (span l g.i).0
   pub alone : IsRewrittenByNoOther l g.i (span l g.i).0
   pub symbol : Symbol
@@ -250,7 +250,7 @@ pub record Begins (x : Section) (l : Linked) (c : Code) (k : Kinds) (s : State) 
   pub by_law : (law_at l g).IsGroup (words_at l g.i l.section) (words_at l g.i l.rewritten)
       → IsMade (law_at l g).left l g.i symbol entry c (shape_at l g.i).1 s.pc
       (words_at l g.i l.rewritten)
-      → Group (of_link (link c)) (shape_at l g.i).2 k s k' s'
+      → Group (of_link (link c)) n k s k' s'
 
 abbrev pub rewriting : Rewriting
 rewriting =
@@ -262,7 +262,6 @@ rewriting =
       Stays = Stays;
       Rewrites = Rewrites;
       span = λ l g. span l g.i;
-      executed = λ l g. (shape_at l g.i).2;
       Begins = Begins;
     }
 

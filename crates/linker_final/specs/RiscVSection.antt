@@ -29,7 +29,11 @@ use Rattle.linker_laws.specs.RiscVRewriteLaws.{IsLowOffset, action_at, offset_ro
 use Rattle.linker_laws.specs.Schemes.{AreAddresses}
 use Rattle.linker_laws.specs.Simulation.{Group, Kinds, State, of_link}
 use Rattle.linker_rewriting.specs.Decisions.{decision_at}
+use Rattle.linker_rewriting.specs.Groups.{riscv_scope_in}
+use Rattle.linker_rewriting.specs.declared.decisions.Decision.{Decision}
 use Rattle.linker_rewriting.specs.declared.decisions.Decision.TheVariants.{Kept, Rewritten}
+use Rattle.linker_rewriting.specs.declared.groups.Scope.{Scope}
+use Rattle.linker_rewriting.specs.declared.groups.Scope.TheVariants.{Grouped, NotRelaxable}
 use Rattle.linker_runs.specs.declared.packing.Machine.TheVariants.{RiscV64}
 use Rattle.linker_section.specs.Relocations.{relocation_in}
 use Rattle.linker_section.specs.declared.facts.Symbol.{Symbol}
@@ -45,39 +49,40 @@ pub record IsRewrittenOf (l : Linked) (name : RiscVRelocation) (i : ℕ) : Type 
   pub chosen : Choice Relaxation ℕ
   pub decided : decision_at l.decisions i ≡ Rewritten chosen
 
--- Instructions that are rewritten together, by the indexes of their relocations: loads from the GOT
--- that became sums of the place and the distance, or fixed addresses by two instructions or by one;
--- sequences of TLS descriptors that became two instructions of local-exec, or one, after some nops;
--- low parts that are over the thread pointer, and what is deleted before them. Or the instruction of
--- one relocation of these or others, which has no law by itself.
-pub data Rewrites (l : Linked) : Type 0 where
-  load : (i j : ℕ) → AreOfPair l i j → IsRewrittenByNoOther l i (offset_of l i) → Rewrites l
-  fixed : (i j : ℕ) → IsLuiOfLoad l i → IsAddiOfLoad l i j → Rewrites l
-  low_address : (i j : ℕ) → IsDeleted l i
-      → IsOfDescriptor l i names.R_RISCV_PCREL_LO12_I 4 kinds.LdToAddiZero j → Rewrites l
-  descriptor : (i add call nops : ℕ)
-      → IsOfDescriptor l i names.R_RISCV_TLSDESC_ADD_LO12 8 kinds.AddiToLui add
-      → IsOfDescriptor l i names.R_RISCV_TLSDESC_CALL 12 kinds.CallToAddi call → Rewrites l
-  short_descriptor : (i call nops : ℕ)
-      → IsOfDescriptor l i names.R_RISCV_TLSDESC_CALL 12 kinds.CallToAddiZero call → Rewrites l
-  low_part : (i : ℕ) → IsRewrittenOf l names.R_RISCV_TPREL_LO12_I i → Rewrites l
-  low_store : (i : ℕ) → IsRewrittenOf l names.R_RISCV_TPREL_LO12_S i → Rewrites l
-  high_part : (i : ℕ) → IsRewrittenOf l names.R_RISCV_TPREL_HI20 i → Rewrites l
-  sum : (i : ℕ) → IsRewrittenOf l names.R_RISCV_TPREL_ADD i → Rewrites l
-  part : (i : ℕ) → i < count l → decision_at l.decisions i ≢ Kept → Rewrites l
+-- what becomes of an instruction by the scope of its name
+abbrev pub Changes : Scope → Decision → Type 0
+Changes NotRelaxable decision = ⊥
+Changes (Grouped group) decision = (chosen : Choice Relaxation ℕ) × (decision ≡ Rewritten chosen)
+Changes scope decision = decision ≢ Kept
 
--- the offset of the first one, how many bytes they have, and how many instructions new has
-abbrev pub shape : (l : Linked) → Rewrites l → ℕ × ℕ × ℕ
-shape l (load i j of alone) = (offset_of l i, 8, 2)
-shape l (fixed i j high low) = (offset_of l i, 8, 2)
-shape l (low_address i j high low) = (offset_of l i, 8, 1)
-shape l (descriptor i add call nops of_add of_call) = (offset_of l i, 16, nops + 2)
-shape l (short_descriptor i call nops of) = (offset_of l i, 16, nops + 1)
-shape l (low_part i of) = (offset_of l i, 4, 1)
-shape l (low_store i of) = (offset_of l i, 4, 1)
-shape l (high_part i of) = (offset_of l i, 4, 0)
-shape l (sum i of) = (offset_of l i, 4, 0)
-shape l (part i below changed) = (offset_of l i, 4, 0)
+-- The instruction of the relocation at an index, which doesn't stay. It is of one of the names that
+-- a phase rewrites (`riscv_scope_in`): by itself, or with all of its label.
+pub record Rewrites (l : Linked) : Type 0 where
+  pub i : ℕ
+  pub below : i < count l
+  pub name : RiscVRelocation
+  pub is_name : IsNameOf riscv_name (relocation_in l.relocations i).code name
+  pub changes : Changes (riscv_scope_in l.context.phase name) (decision_at l.decisions i)
+
+-- Instructions that have a law, the first of which is at the relocation with an index: loads from
+-- the GOT that became sums of the place and the distance, or fixed addresses by two instructions or
+-- by one; sequences of TLS descriptors that became two instructions of local-exec, or one, after
+-- some nops; low parts that are over the thread pointer, and what is deleted before them. The other
+-- indexes are of their further relocations. Loads and descriptors that stand apart have no law.
+pub data Lawful (l : Linked) (i : ℕ) : Type 0 where
+  load : (j : ℕ) → AreOfPair l i j → IsRewrittenByNoOther l i (offset_of l i) → Lawful l i
+  fixed : (j : ℕ) → IsLuiOfLoad l i → IsAddiOfLoad l i j → Lawful l i
+  low_address : (j : ℕ) → IsDeleted l i
+      → IsOfDescriptor l i names.R_RISCV_PCREL_LO12_I 4 kinds.LdToAddiZero j → Lawful l i
+  descriptor : (add call : ℕ)
+      → IsOfDescriptor l i names.R_RISCV_TLSDESC_ADD_LO12 8 kinds.AddiToLui add
+      → IsOfDescriptor l i names.R_RISCV_TLSDESC_CALL 12 kinds.CallToAddi call → Lawful l i
+  short_descriptor : (call : ℕ)
+      → IsOfDescriptor l i names.R_RISCV_TLSDESC_CALL 12 kinds.CallToAddiZero call → Lawful l i
+  low_part : IsRewrittenOf l names.R_RISCV_TPREL_LO12_I i → Lawful l i
+  low_store : IsRewrittenOf l names.R_RISCV_TPREL_LO12_S i → Lawful l i
+  high_part : IsRewrittenOf l names.R_RISCV_TPREL_HI20 i → Lawful l i
+  sum : IsRewrittenOf l names.R_RISCV_TPREL_ADD i → Lawful l i
 
 -- ---- what a rewrite leaves
 
@@ -87,24 +92,24 @@ IsNamedAs l i name subject =
     relocation_in l.relocations_after i
     ≡ named_as name (relocation_in l.relocations i) (relocation_in l.relocations subject)
 
-abbrev pub Leaves : (l : Linked) → Rewrites l → Type 0
-Leaves l (load i j of alone) =
+abbrev pub Leaves : (l : Linked) (i : ℕ) → Lawful l i → Type 0
+Leaves l i (load j of alone) =
     IsNamedAs l i names.R_RISCV_PCREL_HI20 i × IsNamedAs l j names.R_RISCV_PCREL_LO12_I j
-Leaves l (fixed i j high low) =
+Leaves l i (fixed j high low) =
     IsNamedAs l i names.R_RISCV_HI20 i × IsNamedAs l j names.R_RISCV_LO12_I i
-Leaves l (low_address i j high low) = IsNamedAs l j names.R_RISCV_LO12_I i
-Leaves l (descriptor i add call nops of_add of_call) =
+Leaves l i (low_address j high low) = IsNamedAs l j names.R_RISCV_LO12_I i
+Leaves l i (descriptor add call of_add of_call) =
     IsNamedAs l add names.R_RISCV_TPREL_HI20 i × IsNamedAs l call names.R_RISCV_TPREL_LO12_I i
-Leaves l (short_descriptor i call nops of) = IsNamedAs l call names.R_RISCV_TPREL_LO12_I i
-Leaves l (low_part i of) = IsNamedAs l i names.R_RISCV_TPREL_LO12_I i
-Leaves l (low_store i of) = IsNamedAs l i names.R_RISCV_TPREL_LO12_S i
-Leaves l (high_part i of) = IsDeleted l i
-Leaves l (sum i of) = IsDeleted l i
-Leaves l (part i below changed) = Unit {0}
+Leaves l i (short_descriptor call of) = IsNamedAs l call names.R_RISCV_TPREL_LO12_I i
+Leaves l i (low_part of) = IsNamedAs l i names.R_RISCV_TPREL_LO12_I i
+Leaves l i (low_store of) = IsNamedAs l i names.R_RISCV_TPREL_LO12_S i
+Leaves l i (high_part of) = IsDeleted l i
+Leaves l i (sum of) = IsDeleted l i
 
 abbrev pub RelocationsAreLeft : Type 0
 RelocationsAreLeft =
-    (l : Linked) → AreRewritten l → l.context.architecture ≡ RiscV → (g : Rewrites l) → Leaves l g
+    (l : Linked) → AreRewritten l → l.context.architecture ≡ RiscV → (i : ℕ) (g : Lawful l i)
+    → Leaves l i g
 
 -- ---- their laws
 
@@ -175,33 +180,29 @@ low_law name l i (packed p joined riscv) action =
     IsKeptInstruction p i → UntouchedInstruction l i → offset_row action ≡ riscv_row name
     → IsSomeAnd (riscv_row name) (FinalLowPartDoesTheSame l p i action)
 
-abbrev pub law : (l : Linked) → Rewrites l → New l → Type 0
-law l (load i j of alone) new = load_law l i j new
-law l (fixed i j high low) new = fixed_law l i j new
-law l (low_address i j high low) new = low_address_law l i j new
-law l (descriptor i add call nops of_add of_call) new = descriptor_law l i add call new
-law l (short_descriptor i call nops of) new = short_law l i call new
-law l (low_part i of) new =
+abbrev pub law : (l : Linked) (i : ℕ) → Lawful l i → New l → Type 0
+law l i (load j of alone) new = load_law l i j new
+law l i (fixed j high low) new = fixed_law l i j new
+law l i (low_address j high low) new = low_address_law l i j new
+law l i (descriptor add call of_add of_call) new = descriptor_law l i add call new
+law l i (short_descriptor call of) new = short_law l i call new
+law l i (low_part of) new =
     IsSomeAnd (action_at l.section (offset_of l i)) (low_law names.R_RISCV_TPREL_LO12_I l i new)
-law l (low_store i of) new =
+law l i (low_store of) new =
     IsSomeAnd (action_at l.section (offset_of l i)) (low_law names.R_RISCV_TPREL_LO12_S l i new)
-law l (high_part i of) new = HighPartGoes l i
-law l (sum i of) new = SumGoes l i
-law l (part i below changed) new = ⊥
+law l i (high_part of) new = HighPartGoes l i
+law l i (sum of) new = SumGoes l i
 
 -- ---- where old comes to it
 
-abbrev pub HasLaw : (l : Linked) → Rewrites l → Type 0
-HasLaw l (part i below changed) = ⊥
-HasLaw l g = Unit {0}
-
--- Old comes to them, and new has what became of them. What their law requires holds, as that old
--- has the object's, with the values of their relocations. So by it they leave kinds and a state.
+-- Old comes to the first of instructions that have a law, and new has what became of them. What the
+-- law requires holds, as that old has the object's, with the values of their relocations. So by it
+-- new executes n, and they leave kinds and a state.
 pub record Begins (x : Section) (l : Linked) (c : Code) (k : Kinds) (s : State) (g : Rewrites l)
-    (k' : Kinds) (s' : State) : Type 0 where
-  pub lawful : HasLaw l g
+    (n : ℕ) (k' : Kinds) (s' : State) : Type 0 where
+  pub lawful : Lawful l g.i
   pub new : New l
-  pub by_law : law l g new → Group (of_link (link c)) (shape l g).2 k s k' s'
+  pub by_law : law l g.i lawful new → Group (of_link (link c)) n k s k' s'
 
 -- The calls succeeded, whatever becomes of the section after the phases.
 abbrev pub rewriting : Rewriting
@@ -213,7 +214,6 @@ rewriting =
       Ensured = AreRewritten;
       Stays = IsBesideAll;
       Rewrites = Rewrites;
-      span = λ l g. ((shape l g).0, (shape l g).0 + (shape l g).1);
-      executed = λ l g. (shape l g).2;
+      span = λ l g. (offset_of l g.i, offset_of l g.i + 4);
       Begins = Begins;
     }

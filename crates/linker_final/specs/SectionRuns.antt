@@ -56,14 +56,14 @@ pub record Rewriting : Type 1 where
   pub Ensured : Linked → Type 0
   -- in a phase the byte at an offset stays
   pub Stays : Linked → ℕ → Type 0
-  -- Instructions that are rewritten together: the offset of their first byte, that of the first
-  -- after them, and how many new has.
+  -- Instructions that are rewritten together: the offset of their first byte, and that of the first
+  -- after them.
   pub Rewrites : Linked → Type 0
   pub span : (l : Linked) → Rewrites l → ℕ × ℕ
-  pub executed : (l : Linked) → Rewrites l → ℕ
-  -- Old comes to them, new has what became of them, and the premises of their law hold. They leave
-  -- kinds and a state.
-  pub Begins : Section → (l : Linked) → Code → Kinds → State → Rewrites l → Kinds → State → Type 0
+  -- Old comes to them, new has what became of them, and the premises of their law hold. So new
+  -- executes a number of instructions, and they leave kinds and a state.
+  pub Begins : Section → (l : Linked) → Code → Kinds → State → Rewrites l → ℕ → Kinds → State
+      → Type 0
 
 abbrev pub comparison : (r : Rewriting) → r.Code → Comparison
 comparison r c = of_link (r.link c)
@@ -93,8 +93,8 @@ pub data Place (r : Rewriting) (x : Section) (at n : ℕ) : Type 0 where
 -- What is known at a state of old's run: that old comes to instructions that are rewritten
 -- together; elsewhere, as at one that stays or outside the section, anything, also nothing.
 pub data Known (r : Rewriting) (x : Section) (c : r.Code) (k : Kinds) (s : State) : Type 0 where
-  rewritten : (l : Linked) → IsPhase x l → (g : r.Rewrites l) (k' : Kinds) (s' : State)
-      → r.Begins x l c k s g k' s' → Known r x c k s
+  rewritten : (l : Linked) → IsPhase x l → (g : r.Rewrites l) (n : ℕ) (k' : Kinds) (s' : State)
+      → r.Begins x l c k s g n k' s' → Known r x c k s
   elsewhere : Next (comparison r c) k s → Known r x c k s
 
 abbrev pub Knows : (r : Rewriting) → Section → r.Code → Kinds → State → Type 0
@@ -126,8 +126,8 @@ EachPlace r = (x : Section) → AreCalled r x → (at n : ℕ) → Place r x at 
 abbrev pub RewritesAreGroups : Rewriting → Type 0
 RewritesAreGroups r =
     (x : Section) (c : r.Code) → AreCalled r x → (l : Linked) → IsPhase x l → (k : Kinds) (s : State)
-    (g : r.Rewrites l) (k' : Kinds) (s' : State) → r.Begins x l c k s g k' s'
-    → Group (comparison r c) (r.executed l g) k s k' s'
+    (g : r.Rewrites l) (n : ℕ) (k' : Kinds) (s' : State) → r.Begins x l c k s g n k' s'
+    → Group (comparison r c) n k s k' s'
 
 -- Each run of old is followed.
 abbrev pub RunsAreFollowed : Rewriting → Type 0

@@ -36,51 +36,50 @@ use Rattle.linker_utils.specs.declared.x86_64.rewrites.RewriteKind.TheVariants a
 -- ---- what is rewritten
 
 -- an operand in the GOT, whose entry holds a number; a `lea` of a GOT entry and a call of
--- `__tls_get_addr` for a variable, or for a module's block; the `lea` of a descriptor's address
--- into a register, and the call of its function
+-- `__tls_get_addr` for a variable, or for a module's block, and how many instructions new has; the
+-- `lea` of a descriptor's address into a register, and the call of its function
 pub data Form : Type 0 where
   in_got : (Operands → ℕ) → Form
-  variable : Form
-  block : Form
+  variable : ℕ → Form
+  block : ℕ → Form
   lea : (List ℕ → ℕ) → Form
   call : Form
 
 -- Instructions that are rewritten together: how many bytes they have before the offset of their
--- relocation, and from there on, and how many instructions new has.
+-- relocation, and from there on.
 pub record Window : Type 0 where
   pub form : Form
   pub back : ℕ
   pub end : ℕ
-  pub count : ℕ
 
-abbrev pub window : Form → ℕ → ℕ → ℕ → Window
-window form back end count = record { form = form; back = back; end = end; count = count }
+abbrev pub window : Form → ℕ → ℕ → Window
+window form back end = record { form = form; back = back; end = end }
 
 -- those of a call of `__tls_get_addr`, by what becomes of them
 abbrev pub sequence_of : Relaxation → Option Window
-sequence_of (relaxations.X86_64 kinds.TlsGdToLocalExec) = Some (window variable 4 12 2)
-sequence_of (relaxations.X86_64 kinds.TlsGdToInitialExec) = Some (window variable 4 12 2)
-sequence_of (relaxations.X86_64 kinds.TlsGdToLocalExecLarge) = Some (window variable 3 19 3)
-sequence_of (relaxations.X86_64 kinds.TlsLdToLocalExec) = Some (window block 3 9 1)
-sequence_of (relaxations.X86_64 kinds.TlsLdToLocalExecNoPlt) = Some (window block 3 10 1)
-sequence_of (relaxations.X86_64 kinds.TlsLdToLocalExec64) = Some (window block 3 19 2)
+sequence_of (relaxations.X86_64 kinds.TlsGdToLocalExec) = Some (window (variable 2) 4 12)
+sequence_of (relaxations.X86_64 kinds.TlsGdToInitialExec) = Some (window (variable 2) 4 12)
+sequence_of (relaxations.X86_64 kinds.TlsGdToLocalExecLarge) = Some (window (variable 3) 3 19)
+sequence_of (relaxations.X86_64 kinds.TlsLdToLocalExec) = Some (window (block 1) 3 9)
+sequence_of (relaxations.X86_64 kinds.TlsLdToLocalExecNoPlt) = Some (window (block 1) 3 10)
+sequence_of (relaxations.X86_64 kinds.TlsLdToLocalExec64) = Some (window (block 2) 3 19)
 sequence_of kind = None
 
 -- by the relocation
 abbrev pub window_of : X86_64Relocation → Relaxation → Option Window
-window_of names.R_X86_64_GOTPCREL kind = Some (window (in_got address) 3 4 1)
-window_of names.R_X86_64_GOTPCRELX kind = Some (window (in_got address) 2 4 1)
-window_of names.R_X86_64_REX_GOTPCRELX kind = Some (window (in_got address) 3 4 1)
-window_of names.R_X86_64_CODE_4_GOTPCRELX kind = Some (window (in_got address) 4 4 1)
-window_of names.R_X86_64_CODE_6_GOTPCRELX kind = Some (window (in_got address) 6 4 1)
-window_of names.R_X86_64_GOTTPOFF kind = Some (window (in_got thread_offset) 3 4 1)
-window_of names.R_X86_64_CODE_4_GOTTPOFF kind = Some (window (in_got thread_offset) 4 4 1)
-window_of names.R_X86_64_CODE_6_GOTTPOFF kind = Some (window (in_got thread_offset) 6 4 1)
+window_of names.R_X86_64_GOTPCREL kind = Some (window (in_got address) 3 4)
+window_of names.R_X86_64_GOTPCRELX kind = Some (window (in_got address) 2 4)
+window_of names.R_X86_64_REX_GOTPCRELX kind = Some (window (in_got address) 3 4)
+window_of names.R_X86_64_CODE_4_GOTPCRELX kind = Some (window (in_got address) 4 4)
+window_of names.R_X86_64_CODE_6_GOTPCRELX kind = Some (window (in_got address) 6 4)
+window_of names.R_X86_64_GOTTPOFF kind = Some (window (in_got thread_offset) 3 4)
+window_of names.R_X86_64_CODE_4_GOTTPOFF kind = Some (window (in_got thread_offset) 4 4)
+window_of names.R_X86_64_CODE_6_GOTTPOFF kind = Some (window (in_got thread_offset) 6 4)
 window_of names.R_X86_64_TLSGD kind = sequence_of kind
 window_of names.R_X86_64_TLSLD kind = sequence_of kind
-window_of names.R_X86_64_GOTPC32_TLSDESC kind = Some (window (lea reg_after_rex) 3 4 1)
-window_of names.R_X86_64_CODE_4_GOTPC32_TLSDESC kind = Some (window (lea reg_after_rex2) 4 4 1)
-window_of names.R_X86_64_TLSDESC_CALL kind = Some (window call 0 2 1)
+window_of names.R_X86_64_GOTPC32_TLSDESC kind = Some (window (lea reg_after_rex) 3 4)
+window_of names.R_X86_64_CODE_4_GOTPC32_TLSDESC kind = Some (window (lea reg_after_rex2) 4 4)
+window_of names.R_X86_64_TLSDESC_CALL kind = Some (window call 0 2)
 window_of name kind = None
 
 -- They are at the relocation with an index.
@@ -120,9 +119,9 @@ Makes kind symbol c k s o number = MakesOffset c k s o number
 
 abbrev pub LawOf : Form → Window → Relaxation → Symbol → Code → Operands → State → Type 0
 LawOf (in_got held) w kind symbol = IsGroupOf kind held
-LawOf variable w kind symbol =
-    IsThreadCall (w.back + 4) (w.back + w.end) w.count (EntryHolds kind symbol)
-LawOf block w kind symbol = IsModuleCall (w.back + w.end) w.count
+LawOf (variable n) w kind symbol =
+    IsThreadCall (w.back + 4) (w.back + w.end) n (EntryHolds kind symbol)
+LawOf (block n) w kind symbol = IsModuleCall (w.back + w.end) n
 LawOf (lea register_of) w kind symbol = IsLea w.back register_of (Makes kind symbol)
 LawOf call w kind symbol = λ c o. IsDescriptorCall c
 
@@ -136,7 +135,7 @@ put_back start len others bytes =
 -- Operands are by the row of what a relocation of the GOT became, or of an offset from the thread
 -- pointer. Those of a module's block are of any symbol.
 abbrev pub AreBy : Form → Linked → ℕ → ℕ → Symbol → RelocationKindInfo → Type 0
-AreBy block l i code symbol row = x86_64_row names.R_X86_64_TLSLD ≡ Some row
+AreBy (block n) l i code symbol row = x86_64_row names.R_X86_64_TLSLD ≡ Some row
 AreBy (in_got held) l i code symbol row =
     (slice_get l.symbols (relocation_in l.relocations i).symbol ≡ Some symbol)
     × IsRow X86_64 code (Some row)
@@ -166,9 +165,9 @@ HasObject form l i name code w symbol o c s = IsObject l i name code w symbol o 
 
 -- Old comes to instructions that are rewritten together. Later phases and other relocations leave
 -- them alone; that of a call of `__tls_get_addr` has no field any more. What else their law
--- requires holds, so that by it they leave kinds and a state.
+-- requires holds, so that by it new executes n, and they leave kinds and a state.
 pub record Begins (x : Section) (l : Linked) (c : Code) (k : Kinds) (s : State) (g : Rewrites l)
-    (k' : Kinds) (s' : State) : Type 0 where
+    (n : ℕ) (k' : Kinds) (s' : State) : Type 0 where
   pub pc : s.pc ≡ sum_64 l.addresses.section (span l g).0
   pub alone : UntouchedByOthers l g.i (span l g).0 (g.window.back + g.window.end)
   pub symbol : Symbol
@@ -176,7 +175,7 @@ pub record Begins (x : Section) (l : Linked) (c : Code) (k : Kinds) (s : State) 
   pub object :
       HasObject g.window.form l g.i g.name g.chosen.relocation g.window symbol operands c s
   pub by_law : LawOf g.window.form g.window g.chosen.kind symbol c operands s
-      → Group (of_link (link c)) g.window.count k s k' s'
+      → Group (of_link (link c)) n k s k' s'
 
 -- new has the final bytes
 abbrev pub HasFinal : Addresses → List ℕ → Code → Type 0
@@ -195,8 +194,7 @@ rewriting =
       Stays = λ l b. get_or l.rewritten b 0 ≡ get_or l.section b 0;
       Rewrites = Rewrites;
       span = span;
-      executed = λ l g. g.window.count;
-      Begins = λ x l c k s g k' s'. HasFinal x.addresses x.final c × Begins x l c k s g k' s';
+      Begins = λ x l c k s g n k' s'. HasFinal x.addresses x.final c × Begins x l c k s g n k' s';
     }
 
 -- ---- offsets in the module's block

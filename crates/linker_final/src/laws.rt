@@ -67,12 +67,12 @@ pub fn aarch64_sections()
 }
 
 /// RISC-V: all changes of a section, in all of its phases, as `aarch64_sections` says of AArch64's.
-/// Each byte stays, but for the values of relocations, or is of the instruction of a relocation that
-/// is rewritten. Those with a law are each load of an address from the GOT that became a sum of the
-/// place and the distance, or `lui` and `addi` of the address, each low part of an offset that is
-/// over the thread pointer, and each sequence of a TLS descriptor that became one of local-exec. The
-/// high part and the sum of such an offset are deleted: new has nothing of them. The offset had 12
-/// bits when rewrites were chosen.
+/// Each byte stays, but for the values of relocations, or is of an instruction of local-exec, of a
+/// load from the GOT or of a TLS descriptor. Those with a law are each load of an address that
+/// became a sum of the place and the distance, or `lui` and `addi` of the address, or `addi` alone,
+/// each low part of an offset that is over the thread pointer, and each sequence of a descriptor
+/// that became one of local-exec. The high part and the sum of such an offset are deleted: new has
+/// nothing of them. The offset had 12 bits when rewrites were chosen.
 ///
 /// New is any code that has what became of them with the values of the relocations that are left,
 /// wherever that goes. Or it has the section's final bytes, or those of the section that was packed
