@@ -1,6 +1,6 @@
 -- Values that are found by the facts of rows.
 use Rattle.std.proofs.Common.{◌≡◌, ℕ, ℤ, ◌<◌, ◌/◌, Bool, true, false, true≢false, not, ◌&&◌, List, length, Option, Some, None, Result, Ok, Err, refl, sym, ap, subst, ◌∙◌}
-use Rattle.std.specs.Prelude.{IfSome, slice_get}
+use Rattle.std.specs.Prelude.{IfSome, slice_get, if◌then◌else◌}
 use Rattle.std.proofs.lemmas.Bool.{cond-true, ltb-true, lt-ltb, or_left, or_right}
 use Rattle.linker_elf.specs.Facts.{way_of}
 use Rattle.linker_elf.specs.Relocate.{window_len}
@@ -14,9 +14,10 @@ use Rattle.linker_section.specs.Conditions.{is_tp_off, lacks_stub, needs_upper}
 use Rattle.linker_section.specs.Fields.{is_of_pair}
 use Rattle.linker_section.specs.Inner.Facts.{When, SaysWay, is_plain_way, is_offset_way, is_high_way, is_plain, is_high, is_low, is_quick}
 use Rattle.linker_section.specs.Inner.Quick.{IsPlainValue, IsQuickValue, IsHighValue, HasHighValue}
+use Rattle.linker_section.specs.Needed.{may_use_stub}
 use Rattle.linker_section.specs.Relocations.{relocation_in}
 use Rattle.linker_elf.specs.Value.{is_offset}
-use Rattle.linker_section.specs.Values.{has_value, names_label, is_high_part, is_defined, lacks_origin, operands_of, value_by, own_value, low_by, low_value, low_operands, offset_at, IsHighPart, IsHighPartAt, IsValueBy, IsLowValue}
+use Rattle.linker_section.specs.Values.{has_value, names_label, is_high_part, is_defined, lacks_origin, operands_of, value_by, own_value, low_by, low_value, low_operands, offset_at, IsHighPart, IsHighPartAt, IsValueBy, IsLowValue, address_of, target_of}
 use Rattle.linker_section.specs.declared.facts.Addresses.{Addresses}
 use Rattle.linker_section.specs.declared.facts.Symbol.{Symbol}
 use Rattle.linker_section.specs.declared.quick.HighPart.{HighPart}
@@ -32,6 +33,17 @@ and_false : (a b c : Bool) → (a && b) ≡ false → (a && (b && c)) ≡ false
 and_false false b c isnt = refl
 and_false true false c isnt = refl
 and_false true true c isnt = absurd (true≢false isnt)
+
+without_stub : (may : Bool) (x y : ℕ) → (if may && false then x else y) ≡ y
+without_stub false x y = refl
+without_stub true x y = refl
+
+-- a symbol without a stub that isn't undefined and weak is reached by its address
+pub own_target : (architecture : Architecture) (addresses : Addresses) (row : RelocationKindInfo)
+    (symbol : Symbol) (place : ℕ) → symbol.stub ≡ 0 → symbol.is_undefined_weak ≡ false
+    → target_of architecture addresses row symbol place ≡ address_of row symbol
+own_target architecture addresses row symbol place none strong =
+    rw (none, strong) (without_stub (may_use_stub row.size row.kind) 0 (address_of row symbol))
 
 -- ---- a plain relocation
 

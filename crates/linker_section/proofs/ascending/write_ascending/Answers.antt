@@ -128,3 +128,22 @@ returns-clause-ok c =
     let inv = l.invariant in
     only_run a.architecture a.addresses.now bytes a.symbols.now a.section.now l.section l.memory l.index inv.below inv.front.order.apart
     (there_isnt bytes l.rest.now l.index inv.rest c.in_default.ensures.cases)
+
+pub write_quickly-requires-clause-within : goal.write_quickly-requires-clause-within
+write_quickly-requires-clause-within c =
+    let l = c.loop-entry in
+    let len = c.in-Some.ensures.cases.2 in
+    there_is c.args.relocations.now l.rest.now l.index l.invariant.rest (omega (arith, len))
+
+pub write_slowly-requires-clause-within : goal.write_slowly-requires-clause-within
+write_slowly-requires-clause-within c =
+    let l = c.loop-entry in
+    let len = c.in-Some.ensures.cases.2 in
+    there_is c.args.relocations.now l.rest.now l.index l.invariant.rest (omega (arith, len))
+
+pub loop-entry-smaller-in-Some-write_quickly : goal.loop-entry-smaller-in-Some-write_quickly
+loop-entry-smaller-in-Some-write_quickly c =
+    let l = c.loop-entry in
+    let len = c.in-Some.ensures.cases.2 in
+    let there = there_is c.args.relocations.now l.rest.now l.index l.invariant.rest (omega (arith, len)) in
+    omega (arith, there)

@@ -1,0 +1,9 @@
+use Rattle.std.proofs.Common.{arith}
+use Rattle.std.proofs.lemmas.Bool.Decides.{nat_tests}
+use Rattle.std.proofs.lemmas.List.{take_rest}
+use Rattle.linker_section.proofs.conditions.has_offset.Goals as goal
+
+pub returns-then-there-window : goal.returns-then-there-window
+returns-then-there-window c =
+    let short = rw (take_rest c.args.section.now c.args.offset) at c.if-there-window.true in
+    (λ _ _ fits. absurd (omega (arith, short, fits)), λ _. grind (arith, nat_tests, c.if-there-window.true))

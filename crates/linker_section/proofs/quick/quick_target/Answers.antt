@@ -1,0 +1,18 @@
+use Rattle.std.proofs.Common.{◌≡◌, ◌∙◌, sym, false, arith}
+use Rattle.std.proofs.lemmas.Bool.{eqb-true, not-false}
+use Rattle.linker_section.proofs.QuickValues.{own_target}
+use Rattle.linker_section.proofs.quick.quick_target.Goals.{then-symbol-ne0, else-symbol-ne0}
+use Rattle.linker_section.proofs.quick.quick_target.Goals as goal
+
+pub returns-else-symbol : goal.returns-else-symbol
+returns-else-symbol c =
+    let a = c.args in
+    elim c.if-symbol-ne0.branch [
+      | then-symbol-ne0 w ↦
+          let none = eqb-true a.symbol.now.stub 0 (not-false _ (sym w.value-is ∙ c.if-symbol.false)) in
+          absurd (omega arith)
+      | else-symbol-ne0 w ↦
+          let none : a.symbol.now.stub ≡ 0 = omega arith in
+          let strong : a.symbol.now.is_undefined_weak ≡ false = sym w.value-is ∙ c.if-symbol.false in
+          c.own_address.ensures ∙ sym (own_target a.architecture a.addresses.now a.row.now a.symbol.now a.place none strong)
+    ]
