@@ -326,7 +326,6 @@ fn merge_into(
 /// assert_eq!((merged[0].kind, merged[0].value), (0xc000_8002, 1));
 /// # Ok::<(), linker_output::properties::PropertyError>(())
 /// ```
-#[tactic(auto, using(crate::proofs::MergingLaws::commutative, crate::proofs::MergingLaws::associative))]
 pub fn merge_properties(
     architecture: Architecture,
     first: &[Property],
