@@ -20,6 +20,12 @@ padded_most unit n h = omega arith
 pub size_least : (shape : StubShape) (group : Group) → shape.len * stubs_in group ≤ size_of shape group
 size_least shape group = padded_least shape.unit (shape.len * stubs_in group)
 
+-- some of the stubs at a boundary take no more bytes than all
+pub some_least : (shape : StubShape) (group : Group) (n : ℕ) → n ≤ stubs_in group
+    → shape.len * n ≤ size_of shape group
+some_least shape group n few =
+    omega (arith, mul-le-mul_left shape.len few, size_least shape group)
+
 pub bytes_next : (shape : StubShape) (groups : List Group) (k : ℕ) → bytes_before shape groups (k + 1) ≡ bytes_before shape groups k + size_of shape (group_at groups k)
 unfolding bytes_before
 bytes_next shape groups k = rw add-one refl
