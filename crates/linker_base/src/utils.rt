@@ -160,7 +160,7 @@ pub fn read_uleb128(content: &mut &[u8]) -> Result<u64>
 }
 
 /// Why a ULEB128 number isn't written.
-#[derive(Debug, Clone, Copy, PartialEq, Eq)]
+#[derive(Clone, Copy, PartialEq, Eq)]
 pub enum Uleb128Error {
     /// The bytes end before the existing number does.
     Ended,

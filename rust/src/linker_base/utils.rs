@@ -140,7 +140,7 @@ pub fn read_uleb128(content: &mut &[u8]) -> Result<u64> {
 
 /// Why a ULEB128 number isn't written.
 #[cfg_attr(not(exhaustive), non_exhaustive)]
-#[derive(Debug, Clone, Copy, PartialEq, Eq, Hash)]
+#[derive(Clone, Copy, PartialEq, Eq, Debug, Hash)]
 pub enum Uleb128Error {
     /// The bytes end before the existing number does.
     Ended,

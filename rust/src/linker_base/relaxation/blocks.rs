@@ -13,7 +13,7 @@ pub const BLOCK_LEN: usize = 64;
 
 /// The first delta of a block, as far as a search reads it.
 #[repr(C)]
-#[derive(Debug, Clone, Copy, PartialEq, Eq, Hash)]
+#[derive(Debug, Clone, Copy, Hash, PartialEq, Eq)]
 pub struct BlockHead {
     /// The input offset of the block's first delta.
     pub input_offset: u64,
