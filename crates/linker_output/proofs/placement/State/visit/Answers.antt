@@ -1,7 +1,40 @@
+use Rattle.std.proofs.Common.{◌≡◌, subst, arith}
 use Rattle.linker_output.specs.Placement.{branch_at}
+use Rattle.std.proofs.lemmas.List.{get_or_read}
+use Rattle.linker_output.specs.declared.placement.Way.TheVariants.{Direct}
+use Rattle.linker_output.specs.Inner.Placement.{IsLostBy, IsServedBy, SameStubs, way_at}
 use Rattle.linker_output.proofs.Going.{spare_reaches}
 use Rattle.linker_output.proofs.placement.State.visit.Goals as goal
 
 pub raise-requires-clause-needed : goal.raise-requires-clause-needed
 raise-requires-clause-needed c = λ spare.
     (c.is_lost-lost.ensures.lost c.if-lost.true).target (spare_reaches c.args.code.now c.args.before.now (branch_at c.args.code.now.branches.now c.args.index) c.requires.most spare)
+
+pub returns-then-lost : goal.returns-then-lost
+returns-then-lost c =
+    let a = c.args in
+    let raise = c.in_ok-raise.ensures in
+    let is : c.index-way.result.now ≡ way_at a.self.now.ways.items a.index = get_or_read a.self.now.ways.items a.index c.index-way.result.now (omega arith) c.index-way.ensures Direct in
+    record {
+      state = raise.state;
+      may_share = raise.may_share;
+      visited = (
+        raise.same c.if-branch.false,
+        record {
+          within = c.requires.within;
+          lost = subst (IsLostBy a.code.now a.before.now a.places.now (branch_at a.code.now.branches.now a.index)) is (c.is_lost-lost.ensures.lost c.if-lost.true);
+          out = raise.out c.if-branch.false;
+        },
+      );
+    }
+
+pub returns : goal.returns
+returns c =
+    let a = c.args in
+    let is : c.index-way.result.now ≡ way_at a.self.now.ways.items a.index = get_or_read a.self.now.ways.items a.index c.index-way.result.now (omega arith) c.index-way.ensures Direct in
+    let kept : SameStubs a.self.now c.note-2.new.self = subst (λ s. SameStubs s c.note-2.new.self) (c.in_ok-go_early.ensures.same c.if-branch-2.false) c.note-2.ensures.stubs in
+    record {
+      state = c.note-2.ensures.state;
+      may_share = kept.may_share;
+      visited = (kept, subst (IsServedBy a.code.now a.before.now a.places.now (branch_at a.code.now.branches.now a.index)) is (c.is_lost-lost.ensures.served c.if-lost.false));
+    }
