@@ -113,10 +113,6 @@ pub(crate) struct Replacement {
     pub edits: &'static [WordEdit],
     /// Whether it writes one of 2 bytes.
     pub half: bool,
-    /// How many bytes the offset moves on.
-    pub moved: u64,
-    /// The addend after, if it isn't the one before.
-    pub addend: Option<i64>,
 }
 
 /// One of four sets.
@@ -191,12 +187,13 @@ impl WordTest {
             }
             WordTest::IsEitherOrWithin(bits, first, second, from, to) => {
                 let number = bits.of(words);
-                number == first || number == second || from <= number && number <= to
+                (number == first) | (number == second) | (from <= number) & (number <= to)
             }
             WordTest::AreSame(bits, others) => { bits.of(words) == others.of(words) }
             WordTest::DifferWhere(bits, from, to, one, other) => {
                 let number = bits.of(words);
-                !(from <= number && number <= to && one.of(words) == other.of(words))
+                let are_same = one.of(words) == other.of(words);
+                !((from <= number) & (number <= to) & are_same)
             }
             WordTest::IsAmong(bits, by, first, second, third, fourth) => {
                 let by = by.of(words) % 4;
@@ -204,27 +201,26 @@ impl WordTest {
                 is_among(set, bits.of(words))
             }
             WordTest::DifferAmong(bits, set, one, other) => {
-                !(is_among(set, bits.of(words)) && one.of(words) == other.of(words))
+                let are_same = one.of(words) == other.of(words);
+                !(is_among(set, bits.of(words)) & are_same)
             }
             WordTest::AddsLow12 => adds_low12(words.first),
         }
     }
 }
 
-/// Whether tests hold of instructions, of which there are at most as many as names.
-macro_rules! named_hold {
-    ($tests:expr, $words:ident; $last:ident) => {
-        match $tests {
-            [] => true,
-            [$last, ..] => $last.holds($words),
-        }
-    };
-    ($tests:expr, $words:ident; $test:ident $($names:ident)+) => {
-        match $tests {
-            [] => true,
-            [$test, more @ ..] => $test.holds($words) && named_hold!(more, $words; $($names)+),
-        }
-    };
+/// Whether up to three tests hold of instructions.
+#[inline(always)]
+fn few_hold(tests: &'static [WordTest], words: Words) -> bool
+    requires few { length tests.now ≤ 3 }
+    ensures { IsTrue result ↔ AllHold words tests.now }
+{
+    match tests {
+        [] => true,
+        [a] => a.holds(words),
+        [a, b] => a.holds(words) && b.holds(words),
+        [a, b, c, ..] => a.holds(words) && b.holds(words) && c.holds(words),
+    }
 }
 
 /// Whether all tests hold of instructions. Of constant tests LLVM leaves what they compare: so
@@ -234,7 +230,12 @@ pub(crate) fn all_hold(tests: &'static [WordTest], words: Words) -> bool
     requires few { length tests.now ≤ 6 }
     ensures { IsTrue result ↔ AllHold words tests.now }
 {
-    named_hold!(tests, words; a b c d e f)
+    match tests {
+        [a, b, c, more @ ..] => {
+            a.holds(words) && b.holds(words) && c.holds(words) && few_hold(more, words)
+        }
+        _ => few_hold(tests, words),
+    }
 }
 
 /// The instruction at an offset of a section.
@@ -446,7 +447,7 @@ impl Replacement {
 /// array, and the one that `apply` requires too. Then it has the bits kept and set of each
 /// instruction that is written, those of the second at 4, or how one is made instead, and whether
 /// it has 2 bytes; where bytes are deleted, and how many if not 4; where a relocation is skipped;
-/// how far the offset moves; and the addend after.
+/// and how far the offset moves, or the addend after.
 macro_rules! original {
     (
         $tests:ident $len:literal $(back $back:literal)? $(aligned $aligned:literal)?
@@ -496,8 +497,6 @@ macro_rules! replacement {
                 },)?
             ],
             half: $crate::rewrite_rows::or!(false; $($half)?),
-            moved: $crate::rewrite_rows::or!(0; $($moved)?),
-            addend: $crate::rewrite_rows::or!(None; $(Some($addend))?),
         }
     };
 }
@@ -538,7 +537,8 @@ macro_rules! window {
 }
 
 /// A part of a row, by the macro of its name, or what such a part is used for, in an arm for each
-/// rewrite, and there of constants; or the rewrite with a number.
+/// rewrite, and there of constants, and what the macro `$after` then makes of the row; or the
+/// rewrite with a number.
 macro_rules! by_row {
     ($tests:ident, numbered $number:expr; $($kind:ident { $($row:tt)* })*) => {
         match $number {
@@ -556,6 +556,18 @@ macro_rules! by_row {
             $(RewriteKind::$kind => {
                 let $row = $crate::rewrite_rows::$part!($tests $($of)*);
                 $use
+            })*
+        }
+    };
+    (
+        $tests:ident, $value:expr, $part:ident $row:ident => $use:expr, $after:ident $places:tt;
+        $($kind:ident { $($of:tt)* })*
+    ) => {
+        match $value {
+            $(RewriteKind::$kind => {
+                let $row = $crate::rewrite_rows::$part!($tests $($of)*);
+                $use;
+                $after!($places $($of)*);
             })*
         }
     };

@@ -204,6 +204,14 @@ macro_rules! rewrites {
     };
 }
 
+/// Moves the offset on, or sets the addend, where a row says so.
+macro_rules! after {
+    ($places:tt) => {};
+    ([$offset:ident $addend:ident] moved $moved:literal) => { *$offset += $moved; };
+    ([$offset:ident $addend:ident] addend $value:literal) => { *$addend = $value; };
+    ($places:tt $other:tt $($row:tt)*) => { after!($places $($row)*) };
+}
+
 impl RewriteKind {
     /// The rewrite with a number, its place in the enum. None above the last.
     #[must_use]
@@ -231,11 +239,11 @@ impl RewriteKind {
     pub fn apply(self, section_bytes: &mut [u8], offset_in_section: &mut u64, addend: &mut i64) {
         debug_assert!(self.can_apply(section_bytes, *offset_in_section));
         let offset = *offset_in_section;
-        rewrites!(self, replacement row => {
-            row.apply(section_bytes, offset);
-            *offset_in_section = offset + row.moved;
-            *addend = row.addend.unwrap_or(*addend);
-        })
+        rewrites!(
+            self,
+            replacement row => row.apply(section_bytes, offset),
+            after [offset_in_section addend]
+        )
     }
 
     /// Whether `apply` may be called at an offset of a section: the window lies in the section. The

@@ -1,6 +1,8 @@
-use Rattle.std.proofs.Common.{◌≡◌, ◌<◌, ℕ, List, refl, subst, bit_and, bit_or, inl, inr, ◌∙◌, ◌++◌, ◌+◌, ◌-◌, ◌*◌, ◌^◌, ap, arith, take, drop}
+use Rattle.std.proofs.Common.{◌≡◌, ◌<◌, ℕ, List, refl, subst, sym, bit_and, bit_or, inl, inr, ◌∙◌, ◌++◌, ◌+◌, ◌-◌, ◌*◌, ◌^◌, ap, arith, take, drop}
 use Rattle.std.specs.Int.{w32, w64, from_le_bytes, to_le_bytes}
-use Rattle.linker_utils.specs.Ppc64Rewrites.{rt_of}
+use Rattle.linker_base.specs.Rewrite.{rewritten}
+use Rattle.linker_utils.specs.declared.ppc64.rewrites.RewriteKind.{RewriteKind}
+use Rattle.linker_utils.specs.Ppc64Rewrites.{ppc64_rewrite, rt_of}
 use Rattle.linker_utils.proofs.RewriteRows.{first_of_window, kept_field, one_word, set_alone, word_alone}
 use Rattle.linker_utils.proofs.Ppc64Rows.{all_kept, with_base}
 use Rattle.linker_utils.proofs.ppc64.rewrites.RewriteKind.apply.Goals as goal
@@ -25,126 +27,129 @@ two s o a b m n is are =
     ap (λ k. take o s ++ to_le_bytes w64 (k + m * 2 ^ 32) ++ drop (o + 8) s) is
     ∙ ap (λ k. take o s ++ to_le_bytes w64 (b + k * 2 ^ 32) ++ drop (o + 8) s) are
 
+-- the bytes that a rewrite leaves, by its name
+of_kind : (s new : List ℕ) (o : ℕ) {kind k : RewriteKind} → kind ≡ k → new ≡ rewritten (ppc64_rewrite k) s o → new ≡ rewritten (ppc64_rewrite kind) s o
+of_kind s new o is made = made ∙ ap (λ kind. rewritten (ppc64_rewrite kind) s o) (sym is)
+
 pub returns-in-BaseToToc-clause-bytes : goal.returns-in-BaseToToc-clause-bytes
 returns-in-BaseToToc-clause-bytes c =
     let s = c.args.section_bytes.now in
     let o = c.args.offset_in_section.now - 0 in
-    rw c.in-BaseToToc.is (c.apply-in-BaseToToc.ensures.edited ∙ one_word s o _ _ (with_base 2 (word s o) refl))
+    of_kind c.args.section_bytes.now _ c.args.offset_in_section.now c.in-BaseToToc.is (c.apply-in-BaseToToc.ensures.edited ∙ one_word s o _ _ (with_base 2 (word s o) refl))
 
 pub returns-in-LdToAddi-clause-bytes : goal.returns-in-LdToAddi-clause-bytes
 returns-in-LdToAddi-clause-bytes c =
     let s = c.args.section_bytes.now in
     let o = c.args.offset_in_section.now - 0 in
-    rw c.in-LdToAddi.is (c.apply-in-LdToAddi.ensures.edited ∙ one_word s o _ _ (kept_field 16 10 0x38000000 (word s o) refl))
+    of_kind c.args.section_bytes.now _ c.args.offset_in_section.now c.in-LdToAddi.is (c.apply-in-LdToAddi.ensures.edited ∙ one_word s o _ _ (kept_field 16 10 0x38000000 (word s o) refl))
 
 pub returns-in-LdToAddisThread-clause-bytes : goal.returns-in-LdToAddisThread-clause-bytes
 returns-in-LdToAddisThread-clause-bytes c =
     let s = c.args.section_bytes.now in
     let o = c.args.offset_in_section.now - 0 in
-    rw c.in-LdToAddisThread.is (c.apply-in-LdToAddisThread.ensures.edited ∙ one_word s o _ _ (kept_field 21 5 0x3c0d0000 (word s o) refl))
+    of_kind c.args.section_bytes.now _ c.args.offset_in_section.now c.in-LdToAddisThread.is (c.apply-in-LdToAddisThread.ensures.edited ∙ one_word s o _ _ (kept_field 21 5 0x3c0d0000 (word s o) refl))
 
 pub returns-in-AddToAddi-clause-bytes : goal.returns-in-AddToAddi-clause-bytes
 returns-in-AddToAddi-clause-bytes c =
     let s = c.args.section_bytes.now in
     let o = c.args.offset_in_section.now - 0 in
-    rw c.in-AddToAddi.is (c.apply-in-AddToAddi.ensures.edited ∙ one_word s o _ _ (kept_field 16 10 0x38000000 (word s o) refl))
+    of_kind c.args.section_bytes.now _ c.args.offset_in_section.now c.in-AddToAddi.is (c.apply-in-AddToAddi.ensures.edited ∙ one_word s o _ _ (kept_field 16 10 0x38000000 (word s o) refl))
 
 pub returns-in-AddiToAddisThread-clause-bytes : goal.returns-in-AddiToAddisThread-clause-bytes
 returns-in-AddiToAddisThread-clause-bytes c =
     let s = c.args.section_bytes.now in
     let o = c.args.offset_in_section.now - 0 in
-    rw c.in-AddiToAddisThread.is (c.apply-in-AddiToAddisThread.ensures.edited ∙ one_word s o _ _ (kept_field 21 5 0x3c0d0000 (word s o) refl))
+    of_kind c.args.section_bytes.now _ c.args.offset_in_section.now c.in-AddiToAddisThread.is (c.apply-in-AddiToAddisThread.ensures.edited ∙ one_word s o _ _ (kept_field 21 5 0x3c0d0000 (word s o) refl))
 
 pub returns-in-AddiToLd-clause-bytes : goal.returns-in-AddiToLd-clause-bytes
 returns-in-AddiToLd-clause-bytes c =
     let s = c.args.section_bytes.now in
     let o = c.args.offset_in_section.now - 0 in
-    rw c.in-AddiToLd.is (c.apply-in-AddiToLd.ensures.edited ∙ one_word s o _ _ (kept_field 16 10 0xe8000000 (word s o) refl))
+    of_kind c.args.section_bytes.now _ c.args.offset_in_section.now c.in-AddiToLd.is (c.apply-in-AddiToLd.ensures.edited ∙ one_word s o _ _ (kept_field 16 10 0xe8000000 (word s o) refl))
 
 pub returns-in-BaseToThread-clause-bytes : goal.returns-in-BaseToThread-clause-bytes
 returns-in-BaseToThread-clause-bytes c =
     let s = c.args.section_bytes.now in
     let o = c.args.offset_in_section.now - 0 in
-    rw c.in-BaseToThread.is (c.apply-in-BaseToThread.ensures.edited ∙ one_word s o _ _ (with_base 13 (word s o) refl))
+    of_kind c.args.section_bytes.now _ c.args.offset_in_section.now c.in-BaseToThread.is (c.apply-in-BaseToThread.ensures.edited ∙ one_word s o _ _ (with_base 13 (word s o) refl))
 
 pub returns-in-PldToPaddi-clause-bytes : goal.returns-in-PldToPaddi-clause-bytes
 returns-in-PldToPaddi-clause-bytes c =
     let s = c.args.section_bytes.now in
     let o = c.args.offset_in_section.now - 0 in
-    rw c.in-PldToPaddi.is (c.apply-in-PldToPaddi.ensures.edited ∙ two s o _ _ _ _ (set_alone 0x06100000 (first s o)) (kept_field 21 5 0x38000000 (second s o) refl))
+    of_kind c.args.section_bytes.now _ c.args.offset_in_section.now c.in-PldToPaddi.is (c.apply-in-PldToPaddi.ensures.edited ∙ two s o _ _ _ _ (set_alone 0x06100000 (first s o)) (kept_field 21 5 0x38000000 (second s o) refl))
 
 pub returns-in-PldToPaddiThread-clause-bytes : goal.returns-in-PldToPaddiThread-clause-bytes
 returns-in-PldToPaddiThread-clause-bytes c =
     let s = c.args.section_bytes.now in
     let o = c.args.offset_in_section.now - 0 in
-    rw c.in-PldToPaddiThread.is (c.apply-in-PldToPaddiThread.ensures.edited ∙ two s o _ _ _ _ (set_alone 0x06000000 (first s o)) (of_thread 0 (second s o) refl))
+    of_kind c.args.section_bytes.now _ c.args.offset_in_section.now c.in-PldToPaddiThread.is (c.apply-in-PldToPaddiThread.ensures.edited ∙ two s o _ _ _ _ (set_alone 0x06000000 (first s o)) (of_thread 0 (second s o) refl))
 
 pub returns-in-PaddiToPaddiThread-clause-bytes : goal.returns-in-PaddiToPaddiThread-clause-bytes
 returns-in-PaddiToPaddiThread-clause-bytes c =
     let s = c.args.section_bytes.now in
     let o = c.args.offset_in_section.now - 0 in
-    rw c.in-PaddiToPaddiThread.is (c.apply-in-PaddiToPaddiThread.ensures.edited ∙ two s o _ _ _ _ (set_alone 0x06000000 (first s o)) (of_thread 0 (second s o) refl))
+    of_kind c.args.section_bytes.now _ c.args.offset_in_section.now c.in-PaddiToPaddiThread.is (c.apply-in-PaddiToPaddiThread.ensures.edited ∙ two s o _ _ _ _ (set_alone 0x06000000 (first s o)) (of_thread 0 (second s o) refl))
 
 pub returns-in-PaddiToPld-clause-bytes : goal.returns-in-PaddiToPld-clause-bytes
 returns-in-PaddiToPld-clause-bytes c =
     let s = c.args.section_bytes.now in
     let o = c.args.offset_in_section.now - 0 in
-    rw c.in-PaddiToPld.is (c.apply-in-PaddiToPld.ensures.edited ∙ two s o _ _ _ _ (set_alone 0x04100000 (first s o)) (kept_field 21 5 0xe4000000 (second s o) refl))
+    of_kind c.args.section_bytes.now _ c.args.offset_in_section.now c.in-PaddiToPld.is (c.apply-in-PaddiToPld.ensures.edited ∙ two s o _ _ _ _ (set_alone 0x04100000 (first s o)) (kept_field 21 5 0xe4000000 (second s o) refl))
 
 pub returns-in-PaddiToPaddi4096-clause-bytes : goal.returns-in-PaddiToPaddi4096-clause-bytes
 returns-in-PaddiToPaddi4096-clause-bytes c =
     let s = c.args.section_bytes.now in
     let o = c.args.offset_in_section.now - 0 in
-    rw c.in-PaddiToPaddi4096.is (c.apply-in-PaddiToPaddi4096.ensures.edited ∙ two s o _ _ _ _ (set_alone 0x06000000 (first s o)) (of_thread 0x1000 (second s o) refl))
+    of_kind c.args.section_bytes.now _ c.args.offset_in_section.now c.in-PaddiToPaddi4096.is (c.apply-in-PaddiToPaddi4096.ensures.edited ∙ two s o _ _ _ _ (set_alone 0x06000000 (first s o)) (of_thread 0x1000 (second s o) refl))
 
 pub returns-in-NopToRestoreToc-clause-bytes : goal.returns-in-NopToRestoreToc-clause-bytes
 returns-in-NopToRestoreToc-clause-bytes c =
     let s = c.args.section_bytes.now in
     let o = c.args.offset_in_section.now - 0 in
     let made = c.apply-in-NopToRestoreToc.ensures in
-    rw c.in-NopToRestoreToc.is
-    (made.edited
+    of_kind c.args.section_bytes.now _ c.args.offset_in_section.now c.in-NopToRestoreToc.is (made.edited
     ∙ two s o _ _ _ _ (all_kept (first s o) (subst (λ n. n < 2 ^ 32) (first_of_window (drop o s)) (elim made.word [ inl less ↦ absurd (omega (arith, less)) | inr small ↦ small ])))
     (set_alone 0xe8410018 (first s o)))
 
 pub returns-in-AddisToNop-clause-bytes : goal.returns-in-AddisToNop-clause-bytes
 returns-in-AddisToNop-clause-bytes c =
-    rw c.in-AddisToNop.is (c.apply-in-AddisToNop.ensures.edited ∙ word_alone 0x60000000 c.args.section_bytes.now (c.args.offset_in_section.now - 0))
+    of_kind c.args.section_bytes.now _ c.args.offset_in_section.now c.in-AddisToNop.is (c.apply-in-AddisToNop.ensures.edited ∙ word_alone 0x60000000 c.args.section_bytes.now (c.args.offset_in_section.now - 0))
 
 pub returns-in-AddisToLis-clause-bytes : goal.returns-in-AddisToLis-clause-bytes
 returns-in-AddisToLis-clause-bytes c =
-    rw c.in-AddisToLis.is (c.apply-in-AddisToLis.ensures.edited ∙ word_alone 0x3c400000 c.args.section_bytes.now (c.args.offset_in_section.now - 0))
+    of_kind c.args.section_bytes.now _ c.args.offset_in_section.now c.in-AddisToLis.is (c.apply-in-AddisToLis.ensures.edited ∙ word_alone 0x3c400000 c.args.section_bytes.now (c.args.offset_in_section.now - 0))
 
 pub returns-in-AddiAfterLis-clause-bytes : goal.returns-in-AddiAfterLis-clause-bytes
 returns-in-AddiAfterLis-clause-bytes c =
-    rw c.in-AddiAfterLis.is (c.apply-in-AddiAfterLis.ensures.edited ∙ word_alone 0x38420000 c.args.section_bytes.now (c.args.offset_in_section.now - 0))
+    of_kind c.args.section_bytes.now _ c.args.offset_in_section.now c.in-AddiAfterLis.is (c.apply-in-AddiAfterLis.ensures.edited ∙ word_alone 0x38420000 c.args.section_bytes.now (c.args.offset_in_section.now - 0))
 
 pub returns-in-AddisThreadToNop-clause-bytes : goal.returns-in-AddisThreadToNop-clause-bytes
 returns-in-AddisThreadToNop-clause-bytes c =
-    rw c.in-AddisThreadToNop.is (c.apply-in-AddisThreadToNop.ensures.edited ∙ word_alone 0x60000000 c.args.section_bytes.now (c.args.offset_in_section.now - 0))
+    of_kind c.args.section_bytes.now _ c.args.offset_in_section.now c.in-AddisThreadToNop.is (c.apply-in-AddisThreadToNop.ensures.edited ∙ word_alone 0x60000000 c.args.section_bytes.now (c.args.offset_in_section.now - 0))
 
 pub returns-in-BranchToNop-clause-bytes : goal.returns-in-BranchToNop-clause-bytes
 returns-in-BranchToNop-clause-bytes c =
-    rw c.in-BranchToNop.is (c.apply-in-BranchToNop.ensures.edited ∙ word_alone 0x60000000 c.args.section_bytes.now (c.args.offset_in_section.now - 0))
+    of_kind c.args.section_bytes.now _ c.args.offset_in_section.now c.in-BranchToNop.is (c.apply-in-BranchToNop.ensures.edited ∙ word_alone 0x60000000 c.args.section_bytes.now (c.args.offset_in_section.now - 0))
 
 pub returns-in-BranchToAdd-clause-bytes : goal.returns-in-BranchToAdd-clause-bytes
 returns-in-BranchToAdd-clause-bytes c =
-    rw c.in-BranchToAdd.is (c.apply-in-BranchToAdd.ensures.edited ∙ word_alone 0x7c636a14 c.args.section_bytes.now (c.args.offset_in_section.now - 0))
+    of_kind c.args.section_bytes.now _ c.args.offset_in_section.now c.in-BranchToAdd.is (c.apply-in-BranchToAdd.ensures.edited ∙ word_alone 0x7c636a14 c.args.section_bytes.now (c.args.offset_in_section.now - 0))
 
 pub returns-in-CallToAddi-clause-bytes : goal.returns-in-CallToAddi-clause-bytes
 returns-in-CallToAddi-clause-bytes c =
     let s = c.args.section_bytes.now in
     let o = c.args.offset_in_section.now - 0 in
-    rw c.in-CallToAddi.is (c.apply-in-CallToAddi.ensures.edited ∙ two s o _ _ _ _ (set_alone 0x60000000 (first s o)) (set_alone 0x38630000 (first s o)))
+    of_kind c.args.section_bytes.now _ c.args.offset_in_section.now c.in-CallToAddi.is (c.apply-in-CallToAddi.ensures.edited ∙ two s o _ _ _ _ (set_alone 0x60000000 (first s o)) (set_alone 0x38630000 (first s o)))
 
 pub returns-in-CallToAdd-clause-bytes : goal.returns-in-CallToAdd-clause-bytes
 returns-in-CallToAdd-clause-bytes c =
     let s = c.args.section_bytes.now in
     let o = c.args.offset_in_section.now - 0 in
-    rw c.in-CallToAdd.is (c.apply-in-CallToAdd.ensures.edited ∙ two s o _ _ _ _ (set_alone 0x60000000 (first s o)) (set_alone 0x7c636a14 (first s o)))
+    of_kind c.args.section_bytes.now _ c.args.offset_in_section.now c.in-CallToAdd.is (c.apply-in-CallToAdd.ensures.edited ∙ two s o _ _ _ _ (set_alone 0x60000000 (first s o)) (set_alone 0x7c636a14 (first s o)))
 
 pub returns-in-CallToAddi4096-clause-bytes : goal.returns-in-CallToAddi4096-clause-bytes
 returns-in-CallToAddi4096-clause-bytes c =
     let s = c.args.section_bytes.now in
     let o = c.args.offset_in_section.now - 0 in
-    rw c.in-CallToAddi4096.is (c.apply-in-CallToAddi4096.ensures.edited ∙ two s o _ _ _ _ (set_alone 0x60000000 (first s o)) (set_alone 0x38631000 (first s o)))
+    of_kind c.args.section_bytes.now _ c.args.offset_in_section.now c.in-CallToAddi4096.is (c.apply-in-CallToAddi4096.ensures.edited ∙ two s o _ _ _ _ (set_alone 0x60000000 (first s o)) (set_alone 0x38631000 (first s o)))
