@@ -24,7 +24,7 @@ use crate::ppc64::DQ_UNIT;
 use linker_base::bit_misc::{BitExtraction, BitRange};
 
 /// Why a relocation's value isn't written.
-#[derive(Debug, Clone, Copy, PartialEq, Eq)]
+#[derive(Clone, Copy, PartialEq, Eq)]
 pub enum RelocateError {
     /// The relocation is one of a pair that computes a ULEB128 number, whose length is not the
     /// row's to know: `utils::write_uleb128` writes it. Or it is `R_LARCH_CALL30`: no manual says

@@ -23,7 +23,7 @@ use crate::linker_base::bit_misc::{BitExtraction, BitRange};
 
 /// Why a relocation's value isn't written.
 #[cfg_attr(not(exhaustive), non_exhaustive)]
-#[derive(Debug, Clone, Copy, PartialEq, Eq, Hash)]
+#[derive(Clone, Copy, PartialEq, Eq, Debug, Hash)]
 pub enum RelocateError {
     /// The relocation is one of a pair that computes a ULEB128 number, whose length is not the
     /// row's to know: `utils::write_uleb128` writes it. Or it is `R_LARCH_CALL30`: no manual says
