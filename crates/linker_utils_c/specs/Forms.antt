@@ -1,10 +1,11 @@
 -- The numbers by which C names forms of instructions.
-use Rattle.std.specs.Prelude.{◌≡◌, ◌<◌, ◌≤◌, Bool, length, drop, ℕ, List}
-use Rattle.std.specs.Prelude.{Option, None, Some, Result, Ok, Err}
-use Rattle.std.specs.Int.{byte_len}
+use Rattle.std.specs.Prelude.{◌≡◌, ◌≢◌, ◌<◌, ◌≤◌, Bool, length, drop, ℕ, List}
+use Rattle.std.specs.Prelude.{Option, None, Some, Result, Ok, Err, MatchResult}
+use Rattle.std.specs.Int.{byte_len, cast_unsigned, w64}
 use Rattle.linker_base.specs.Form.{Form, window_of, Fits, Written, MachineReads, IsReadBack}
 use Rattle.linker_elf.specs.Architectures.{form_of_number}
 use Rattle.linker_elf.specs.Machines.{architecture_of}
+use Rattle.linker_elf.specs.Numbers.{flag_number}
 use Rattle.linker_elf.specs.declared.elf.architecture.Architecture.{Architecture}
 use Rattle.linker_elf.specs.declared.elf.architecture.Architecture.TheVariants.{X86_64}
 use Rattle.linker_elf.specs.declared.elf.RelocationInstruction.{RelocationInstruction}
@@ -12,7 +13,7 @@ use Rattle.linker_utils_c.specs.declared.status.Status.{Status}
 use Rattle.linker_utils_c.specs.declared.status.Status.TheVariants.{Success, UnknownArchitecture}
 use Rattle.linker_utils_c.specs.declared.status.Status.TheVariants.{UnknownForm, TooShort}
 use Rattle.linker_utils_c.specs.declared.status.Status.TheVariants.{DoesNotFit}
-use Rattle.linker_utils_c.specs.Status.{code}
+use Rattle.linker_utils_c.specs.Status.{code, HasRoom}
 
 -- a form, or that there is none
 abbrev pub form_or_unknown : Option RelocationInstruction → Result RelocationInstruction Status
@@ -27,6 +28,12 @@ form_among (Some architecture) form = form_or_unknown (form_of_number architectu
 
 abbrev pub named_form : ℕ → ℕ → Result RelocationInstruction Status
 named_form machine form = form_among (architecture_of machine) form
+
+-- what was found: the form, or the number of the status that says what is unknown
+abbrev pub IsFormFound : Result RelocationInstruction Status → Result RelocationInstruction ℕ
+    → Type 0
+IsFormFound named found = MatchResult found (λ form. named ≡ Ok form)
+    (λ number. (status : Status) × (named ≡ Err status) × (number ≡ code status))
 
 -- the status says whether a value can be written to the instruction that the bytes begin with
 pub record TakesValue (form : Form) (value : ℕ) (bytes : List ℕ) (status : ℕ) : Type 0 where
@@ -43,3 +50,19 @@ pub record HasValue (form : Form) (value : ℕ) (negative : Bool)
   pub rest : drop (byte_len form.window) after ≡ drop (byte_len form.window) before
   pub machine : MachineReads form value negative (window_of form before) (window_of form after)
   pub restored : IsReadBack form value negative (window_of form before) → after ≡ before
+
+-- a value was written, or the status says why it wasn't
+pub record IsWrite (form : Form) (value : ℕ) (negative : Bool) (before after : List ℕ)
+    (status : ℕ) : Type 0 where
+  pub takes : TakesValue form value before status
+  pub written : status ≡ code Success → HasValue form value negative before after
+
+-- a value was read from the instruction that the bytes begin with, and the form's flag, or the
+-- status says why not
+pub record IsRead (form : Form) (bytes : List ℕ) (old new old_flag new_flag status : ℕ)
+    : Type 0 where
+  pub room : HasRoom (byte_len form.window) bytes status
+  pub number : status ≡ code Success
+      → new ≡ cast_unsigned w64 (form.reading (window_of form bytes))
+  pub flag : status ≡ code Success → new_flag ≡ flag_number (form.flag (window_of form bytes))
+  pub unchanged : status ≢ code Success → (new ≡ old) × (new_flag ≡ old_flag)

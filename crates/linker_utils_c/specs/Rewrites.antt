@@ -54,3 +54,9 @@ pub record IsRewritten (rewrite : Option Rewrite) (before after : List ℕ) (fro
   pub bytes : after ≡ rewritten rewrite before from
   pub offset : to ≡ offset_after rewrite from
   pub addend : new ≡ addend_after rewrite old
+
+-- a rewrite was applied, or the status says why it wasn't
+pub record IsApplied (rewrite : Option Rewrite) (before after : List ℕ) (from to : ℕ)
+    (old new : ℤ) (status : ℕ) : Type 0 where
+  pub takes : TakesRewrite rewrite before from status
+  pub rewritten : status ≡ code Success → IsRewritten rewrite before after from to old new

@@ -71,7 +71,7 @@ pub extern "C" fn linker_utils_jal_site_with_nonnull(
 {
     match chosen_register(link) {
         Some(register) => { jump_status(riscv64::jal_site_with(section, site, distance, register)) }
-        None => Status::UnknownLinkRegister.number(),
+        None => Status::UnknownLinkRegister as u32,
     }
 }
 
@@ -103,12 +103,12 @@ pub(crate) fn jump_status(outcome: Result<(), JumpError>) -> u32
     ensures numbered { IfErr outcome (λ error. result ≡ code (error_status error)) }
 {
     match outcome {
-        Ok(()) => Status::Success.number(),
-        Err(JumpError::NotACall) => Status::NotACall.number(),
-        Err(JumpError::Call(CallError::OutOfSection)) => Status::OutOfSection.number(),
-        Err(JumpError::Call(CallError::SiteDeleted)) => Status::SiteDeleted.number(),
-        Err(JumpError::Call(CallError::OddDistance)) => Status::OddDistance.number(),
-        Err(JumpError::Call(CallError::TooFar)) => Status::TooFar.number(),
+        Ok(()) => Status::Success as u32,
+        Err(JumpError::NotACall) => Status::NotACall as u32,
+        Err(JumpError::Call(CallError::OutOfSection)) => Status::OutOfSection as u32,
+        Err(JumpError::Call(CallError::SiteDeleted)) => Status::SiteDeleted as u32,
+        Err(JumpError::Call(CallError::OddDistance)) => Status::OddDistance as u32,
+        Err(JumpError::Call(CallError::TooFar)) => Status::TooFar as u32,
     }
 }
 
@@ -161,7 +161,7 @@ fn call_status(outcome: Result<(), CallError>) -> u32
     ensures too_far { (result ≡ code Status.TooFar) ↔ (outcome ≡ Err CallError.TooFar) }
 {
     match outcome {
-        Ok(()) => Status::Success.number(),
+        Ok(()) => Status::Success as u32,
         Err(error) => jump_status(Err(JumpError::Call(error))),
     }
 }

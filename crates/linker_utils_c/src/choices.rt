@@ -1,6 +1,6 @@
 //! Which rewrite a linker chooses, by `e_machine` and `r_type` of ELF files.
 
-ghost use Rattle.std.specs.Prelude.{◌≡◌, ℕ, ◌↔◌, IfSome, IfNone, IsTrue, Some, false};
+ghost use Rattle.std.specs.Prelude.{◌≡◌, ℕ, ◌↔◌, MatchOption, IsTrue, Some, false};
 ghost use Rattle.linker_utils.specs.Relaxations.{IsArchitectureChoice, IsFit};
 ghost use Rattle.linker_utils.specs.Relaxations.{relaxation_architecture};
 ghost use Rattle.linker_elf.specs.Machines.{architecture_of};
@@ -165,18 +165,18 @@ pub extern "C" fn linker_utils_choose_nonnull(
     facts: &LinkFactNumbers,
     choice: &mut ChoiceNumbers,
 ) -> u32
-    ensures known { IfSome (architecture_of machine) (λ architecture. (result ≡ code Status.Success)
+    ensures { MatchOption (architecture_of machine)
+        ((result ≡ code Status.UnknownArchitecture) × (choice.new ≡ choice.old))
+        (λ architecture. (result ≡ code Status.Success)
         × (chosen : Choice Relaxation ℕ)
         × IsArchitectureChoice architecture r_type section.now offset (facts_of facts.now) chosen
         × IsChoiceInNumbers architecture chosen choice.new) }
-    ensures unknown { IfNone (architecture_of machine)
-        ((result ≡ code Status.UnknownArchitecture) × (choice.new ≡ choice.old)) }
 {
     let Some(architecture) = Architecture::from_machine(machine) else {
-        return Status::UnknownArchitecture.number();
+        return Status::UnknownArchitecture as u32;
     };
     *choice = choose_in_numbers(architecture, r_type, section, offset, &facts.facts());
-    Status::Success.number()
+    Status::Success as u32
 }
 
 /// Whether the relocation with `r_type` can be rewritten if each other one of its sequence can:
@@ -189,9 +189,10 @@ pub extern "C" fn linker_utils_relocation_fits_nonnull(
     offset: u64,
     facts: &LinkFactNumbers,
 ) -> bool
-    ensures known { IfSome (architecture_of machine) (λ architecture.
+    ensures { MatchOption (architecture_of machine)
+        (result ≡ false)
+        (λ architecture.
         IsFit architecture r_type section.now offset (facts_of facts.now) result) }
-    ensures unknown { IfNone (architecture_of machine) (result ≡ false) }
 {
     let Some(architecture) = Architecture::from_machine(machine) else {
         return false;

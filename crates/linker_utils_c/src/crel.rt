@@ -17,14 +17,14 @@ fn status_of(read: Result<Crel, CrelError>, number: &mut usize, has_addends: &mu
     let (status, value) = match read {
         Ok(crel) => {
             *has_addends = u8::from(crel.has_addends);
-            (Status::Success, crel.count)
+            (Status::Success as u32, crel.count)
         }
-        Err(CrelError::CutOff(at)) => (Status::CutOff, at),
-        Err(CrelError::TooLarge(at)) => (Status::TooLarge, at),
-        Err(CrelError::TooShort(needed)) => (Status::TooShort, needed),
+        Err(CrelError::CutOff(at)) => (Status::CutOff as u32, at),
+        Err(CrelError::TooLarge(at)) => (Status::TooLarge as u32, at),
+        Err(CrelError::TooShort(needed)) => (Status::TooShort as u32, needed),
     };
     *number = value;
-    status.number()
+    status
 }
 
 /// Writes the relocations of a section of type `SHT_CREL` to the beginning of `relas`, as

@@ -48,10 +48,10 @@ pub extern "C" fn linker_utils_deletions_valid_nonnull(
     ensures faulty_stays { result ≢ code Status.InvalidDeletions → faulty.new ≡ faulty.old }
 {
     match first_invalid(deletions) {
-        None => Status::Success.number(),
+        None => Status::Success as u32,
         Some(at) => {
             *faulty = at;
-            Status::InvalidDeletions.number()
+            Status::InvalidDeletions as u32
         }
     }
 }
@@ -76,13 +76,13 @@ pub extern "C" fn linker_utils_deltas_create_nonnull(
 {
     if let Some(at) = first_invalid(deletions) {
         *faulty = at;
-        return Status::InvalidDeletions.number();
+        return Status::InvalidDeletions as u32;
     }
     if deltas.len() != deletions.len() {
-        return Status::DifferentLengths.number();
+        return Status::DifferentLengths as u32;
     }
     fill(deletions, deltas);
-    Status::Success.number()
+    Status::Success as u32
 }
 
 fn fill(deletions: &[Deletion], deltas: &mut [RelaxDelta])
@@ -119,7 +119,7 @@ pub extern "C" fn linker_utils_deltas_create_in_one_pass_nonnull(
     ensures faulty_stays { result ≢ code Status.InvalidDeletions → faulty.new ≡ faulty.old }
 {
     if deltas.len() == deletions.len() && fill_valid(deletions, deltas) {
-        return Status::Success.number();
+        return Status::Success as u32;
     }
     linker_utils_deltas_create_nonnull(deletions, deltas, faulty)
 }
@@ -182,10 +182,10 @@ pub extern "C" fn linker_utils_deltas_output_to_input_nonnull(
     ensures unchanged { result ≢ code Status.Success → input_offset.new ≡ input_offset.old }
 {
     match DeltaSlice::new(deltas).output_to_input_offset(output_offset) {
-        None => Status::TooLarge.number(),
+        None => Status::TooLarge as u32,
         Some(offset) => {
             *input_offset = offset;
-            Status::Success.number()
+            Status::Success as u32
         }
     }
 }
@@ -230,14 +230,14 @@ pub extern "C" fn linker_utils_deltas_translate_all_nonnull(
     ensures faulty_stays { result ≢ code Status.NotAscending → faulty.new ≡ faulty.old }
 {
     if outputs.len() != queries.len() {
-        return Status::DifferentLengths.number();
+        return Status::DifferentLengths as u32;
     }
     if !DeltaSlice::can_translate_all(queries) {
         *faulty = first_decrease(queries);
-        return Status::NotAscending.number();
+        return Status::NotAscending as u32;
     }
     DeltaSlice::new(deltas).translate_all(queries, outputs);
-    Status::Success.number()
+    Status::Success as u32
 }
 
 // The index of the first query that is less than the one before it.

@@ -1,6 +1,6 @@
 //! RISC-V's addresses near the global pointer or 0, without their high part.
 
-ghost use Rattle.std.specs.Prelude.{◌≡◌, ◌/◌, ℕ, length, IfSome, IfNone};
+ghost use Rattle.std.specs.Prelude.{◌≡◌, ◌/◌, ℕ, length, MatchOption};
 ghost use Rattle.linker_rewriting.specs.Agreement.{Agree, IsContradiction};
 ghost use Rattle.linker_rewriting.specs.Facts.{context};
 ghost use Rattle.linker_rewriting.specs.GlobalPointer.{AreSymbolsSurveyed};
@@ -35,17 +35,17 @@ pub extern "C" fn linker_utils_survey_global_pointer_nonnull(
     section: &[u8],
     kept: &mut [bool],
 ) -> u32
-    ensures known { IfSome (architecture_of machine) (λ architecture.
+    ensures { MatchOption (architecture_of machine)
+        ((result ≡ code Status.UnknownArchitecture) × (kept.new ≡ kept.old))
+        (λ architecture.
         IsSurveyReturned (AreSymbolsSurveyed (context architecture Phase.ShortPcRel output.now
         symbols.now addresses.now values.now) global_pointer relocations.now section.now kept.old
         kept.new (length relocations.now / 24) × Agree symbols.now values.now relocations.now)
         ((symbol : ℕ) × IsContradiction symbols.now values.now relocations.now symbol)
         (kept.new ≡ kept.old) result) }
-    ensures unknown { IfNone (architecture_of machine)
-        ((result ≡ code Status.UnknownArchitecture) × (kept.new ≡ kept.old)) }
 {
     let Some(architecture) = Architecture::from_machine(machine) else {
-        return Status::UnknownArchitecture.number();
+        return Status::UnknownArchitecture as u32;
     };
     survey_status(survey_global_pointer(
         architecture,
@@ -85,18 +85,18 @@ pub extern "C" fn linker_utils_rewrite_global_pointer_nonnull(
     deleted_used: &mut usize,
     faulty: &mut usize,
 ) -> u32
-    ensures known { IfSome (architecture_of machine) (λ architecture.
+    ensures { MatchOption (architecture_of machine)
+        ((result ≡ code Status.UnknownArchitecture) × (relocations.new ≡ relocations.old)
+        × (decisions.new ≡ decisions.old) × (deleted.new ≡ deleted.old)
+        × (deleted_used.new ≡ deleted_used.old) × (faulty.new ≡ faulty.old))
+        (λ architecture.
         ArePartsReturned (context architecture Phase.ShortPcRel output.now symbols.now addresses.now
         values.now) global_pointer kept.now relocations.old relocations.new section.now
         decisions.old decisions.new deleted.old deleted.new deleted_used.old deleted_used.new
         faulty.old faulty.new result) }
-    ensures unknown { IfNone (architecture_of machine)
-        ((result ≡ code Status.UnknownArchitecture) × (relocations.new ≡ relocations.old)
-        × (decisions.new ≡ decisions.old) × (deleted.new ≡ deleted.old)
-        × (deleted_used.new ≡ deleted_used.old) × (faulty.new ≡ faulty.old)) }
 {
     let Some(architecture) = Architecture::from_machine(machine) else {
-        return Status::UnknownArchitecture.number();
+        return Status::UnknownArchitecture as u32;
     };
     match rewrite_global_pointer(
         architecture,
@@ -113,7 +113,7 @@ pub extern "C" fn linker_utils_rewrite_global_pointer_nonnull(
     ) {
         Ok(len) => {
             *deleted_used = len;
-            Status::Success.number()
+            Status::Success as u32
         }
         Err(error) => put_error(error, faulty),
     }
@@ -138,10 +138,10 @@ pub extern "C" fn linker_utils_finish_gp_relaxation_nonnull(
         relocations.new section.old section.new faulty.old faulty.new result }
 {
     match finish_gp_relaxation(addresses, values, global_pointer, relocations, section) {
-        Ok(()) => Status::Success.number(),
+        Ok(()) => Status::Success as u32,
         Err(index) => {
             *faulty = index;
-            Status::OutOfReach.number()
+            Status::OutOfReach as u32
         }
     }
 }

@@ -38,10 +38,10 @@ pub extern "C" fn linker_utils_deltas_heads_nonnull(
 {
     let deltas = DeltaSlice::new(deltas);
     if heads.len() != deltas.block_count() {
-        return Status::DifferentLengths.number();
+        return Status::DifferentLengths as u32;
     }
     deltas.write_heads(heads);
-    Status::Success.number()
+    Status::Success as u32
 }
 
 /// `linker_utils_deltas_input_to_output` of deltas with the heads of their blocks. Where the heads
@@ -88,10 +88,10 @@ pub extern "C" fn linker_utils_deltas_output_to_input_by_heads_nonnull(
     ensures unchanged { result ≢ code Status.Success → input_offset.new ≡ input_offset.old }
 {
     match DeltaSlice::new(deltas).output_to_input_by_heads(heads, output_offset) {
-        None => Status::TooLarge.number(),
+        None => Status::TooLarge as u32,
         Some(offset) => {
             *input_offset = offset;
-            Status::Success.number()
+            Status::Success as u32
         }
     }
 }

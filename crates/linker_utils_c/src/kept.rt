@@ -1,6 +1,6 @@
 //! What choices of rewrites read of symbols, kept until values are written.
 
-ghost use Rattle.std.specs.Prelude.{◌≡◌, ◌≢◌, length, IfSome, IfNone};
+ghost use Rattle.std.specs.Prelude.{◌≡◌, ◌≢◌, length, MatchOption};
 ghost use Rattle.linker_rewriting.specs.Kept.{AreKept};
 ghost use Rattle.linker_elf.specs.Machines.{architecture_of};
 ghost use Rattle.linker_utils_c.specs.Kept.{IsRewrittenReturned};
@@ -30,10 +30,10 @@ pub extern "C" fn linker_utils_snapshot_facts_nonnull(
         → (result ≡ code Status.DifferentLengths) × (kept.new ≡ kept.old) }
 {
     if kept.len() != symbols.len() {
-        return Status::DifferentLengths.number();
+        return Status::DifferentLengths as u32;
     }
     snapshot_facts(output, symbols, kept);
-    Status::Success.number()
+    Status::Success as u32
 }
 
 /// Writes the values of a section whose instructions were rewritten, as
@@ -55,18 +55,18 @@ pub extern "C" fn linker_utils_relocate_rewritten_section_nonnull(
     memory: &mut [u64],
     faulty: &mut usize,
 ) -> u32
-    ensures known { IfSome (architecture_of machine) (λ architecture.
+    ensures { MatchOption (architecture_of machine)
+        ((result ≡ code Status.UnknownArchitecture) × (section.new ≡ section.old)
+        × (faulty.new ≡ faulty.old))
+        (λ architecture.
         IsRewrittenReturned architecture output.now facts.now kept.now addresses.now relocations.now
         symbols.now section.old section.new memory.old faulty.old faulty.new result) }
-    ensures unknown { IfNone (architecture_of machine)
-        ((result ≡ code Status.UnknownArchitecture) × (section.new ≡ section.old)
-        × (faulty.new ≡ faulty.old)) }
 {
     let Some(architecture) = Architecture::from_machine(machine) else {
-        return Status::UnknownArchitecture.number();
+        return Status::UnknownArchitecture as u32;
     };
     if memory.len() < memory_len(relocations) {
-        return Status::ShortMemory.number();
+        return Status::ShortMemory as u32;
     }
     match relocate_rewritten_section(
         architecture,
@@ -79,18 +79,18 @@ pub extern "C" fn linker_utils_relocate_rewritten_section_nonnull(
         section,
         memory,
     ) {
-        Ok(()) => Status::Success.number(),
+        Ok(()) => Status::Success as u32,
         Err(WritingError::Contradiction(symbol)) => {
             *faulty = symbol;
-            Status::FactsContradict.number()
+            Status::FactsContradict as u32
         }
         Err(WritingError::Changed(index)) => {
             *faulty = index;
-            Status::FactsChanged.number()
+            Status::FactsChanged as u32
         }
         Err(WritingError::NeedsStub(index)) => {
             *faulty = index;
-            Status::NeedsStub.number()
+            Status::NeedsStub as u32
         }
         Err(WritingError::Section(error)) => {
             *faulty = error.index;

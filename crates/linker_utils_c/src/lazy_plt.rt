@@ -1,6 +1,6 @@
 //! Lazy PLTs: the code of headers and entries, and what their words hold at first.
 
-ghost use Rattle.std.specs.Prelude.{◌≡◌, Some, None, IfSome, IfNone};
+ghost use Rattle.std.specs.Prelude.{◌≡◌, Some, None, IfSome, IfNone, MatchOption};
 ghost use Rattle.linker_output.specs.LazyPlt.{view_plt, word_by, word_in, header_places};
 ghost use Rattle.linker_output.specs.LazyPlts.{lazy_plt_of};
 ghost use Rattle.linker_elf.specs.Machines.{architecture_of};
@@ -73,19 +73,19 @@ pub extern "C" fn linker_utils_get_lazy_plt(
     form: u32,
     plt: &mut LazyPltNumbers,
 ) -> u32
-    ensures known { IfSome (architecture_of machine) (λ architecture.
+    ensures { MatchOption (architecture_of machine)
+        ((result ≡ code Status.UnknownArchitecture) × (plt.new ≡ plt.old))
+        (λ architecture.
         IsPltReturned (plt_in architecture (form_of form)) plt.old plt.new result) }
-    ensures unknown { IfNone (architecture_of machine)
-        ((result ≡ code Status.UnknownArchitecture) × (plt.new ≡ plt.old)) }
 {
     let Some(architecture) = Architecture::from_machine(machine) else {
-        return Status::UnknownArchitecture.number();
+        return Status::UnknownArchitecture as u32;
     };
     let Some(found) = plt_in(architecture, form) else {
-        return Status::UnknownStub.number();
+        return Status::UnknownStub as u32;
     };
     *plt = numbers_in(found);
-    Status::Success.number()
+    Status::Success as u32
 }
 
 /// The lengths of a lazy PLT.
@@ -105,9 +105,9 @@ fn status_in(written: Result<(), StubError>) -> u32
     ensures { result ≡ code (written_status written) }
 {
     match written {
-        Ok(()) => Status::Success.number(),
-        Err(StubError::Missing) => Status::UnknownStub.number(),
-        Err(StubError::TooShort) => Status::TooShort.number(),
+        Ok(()) => Status::Success as u32,
+        Err(StubError::Missing) => Status::UnknownStub as u32,
+        Err(StubError::TooShort) => Status::TooShort as u32,
         Err(StubError::Field(error)) => status_of(Err(error)),
     }
 }
@@ -124,18 +124,18 @@ pub extern "C" fn linker_utils_write_lazy_header_nonnull(
     words: u64,
     bytes: &mut [u8],
 ) -> u32
-    ensures known { IfSome (architecture_of machine) (λ architecture.
+    ensures { MatchOption (architecture_of machine)
+        ((result ≡ code Status.UnknownArchitecture) × (bytes.new ≡ bytes.old))
+        (λ architecture.
         IsHeaderWritten (plt_in architecture (form_of form)) header words bytes.old bytes.new
         result) }
-    ensures unknown { IfNone (architecture_of machine)
-        ((result ≡ code Status.UnknownArchitecture) × (bytes.new ≡ bytes.old)) }
 {
     let Some(architecture) = Architecture::from_machine(machine) else {
-        return Status::UnknownArchitecture.number();
+        return Status::UnknownArchitecture as u32;
     };
     match plt_in(architecture, form) {
         Some(plt) => put_header(plt, header, words, bytes),
-        None => Status::UnknownStub.number(),
+        None => Status::UnknownStub as u32,
     }
 }
 
@@ -156,17 +156,17 @@ pub extern "C" fn linker_utils_write_lazy_entry_nonnull(
     entry: &LazyEntry,
     bytes: &mut [u8],
 ) -> u32
-    ensures known { IfSome (architecture_of machine) (λ architecture.
+    ensures { MatchOption (architecture_of machine)
+        ((result ≡ code Status.UnknownArchitecture) × (bytes.new ≡ bytes.old))
+        (λ architecture.
         IsEntryWritten (plt_in architecture (form_of form)) entry.now bytes.old bytes.new result) }
-    ensures unknown { IfNone (architecture_of machine)
-        ((result ≡ code Status.UnknownArchitecture) × (bytes.new ≡ bytes.old)) }
 {
     let Some(architecture) = Architecture::from_machine(machine) else {
-        return Status::UnknownArchitecture.number();
+        return Status::UnknownArchitecture as u32;
     };
     match plt_in(architecture, form) {
         Some(plt) => put_entry(plt, entry, bytes),
-        None => Status::UnknownStub.number(),
+        None => Status::UnknownStub as u32,
     }
 }
 
@@ -187,21 +187,21 @@ pub extern "C" fn linker_utils_lazy_header_word(
     header: u64,
     word: &mut u64,
 ) -> u32
-    ensures known { IfSome (architecture_of machine) (λ architecture.
+    ensures { MatchOption (architecture_of machine)
+        ((result ≡ code Status.UnknownArchitecture) × (word.new ≡ word.old))
+        (λ architecture.
         IsFoundWord (word_in (lazy_plt_of architecture).header_words index dynamic header) word.old
         word.new result) }
-    ensures unknown { IfNone (architecture_of machine)
-        ((result ≡ code Status.UnknownArchitecture) × (word.new ≡ word.old)) }
 {
     let Some(architecture) = Architecture::from_machine(machine) else {
-        return Status::UnknownArchitecture.number();
+        return Status::UnknownArchitecture as u32;
     };
     match LazyPlt::of(architecture).header_word(index, dynamic, header) {
         Some(found) => {
             *word = found;
-            Status::Success.number()
+            Status::Success as u32
         }
-        None => Status::NotProvided.number(),
+        None => Status::NotProvided as u32,
     }
 }
 
@@ -215,9 +215,10 @@ pub extern "C" fn linker_utils_lazy_entry_word(
     header: u64,
     dynamic: u64,
 ) -> u64
-    ensures known { IfSome (architecture_of machine) (λ architecture.
+    ensures { MatchOption (architecture_of machine)
+        (result ≡ 0)
+        (λ architecture.
         result ≡ first_word (plt_in architecture (form_of form)) entry header dynamic) }
-    ensures unknown { IfNone (architecture_of machine) (result ≡ 0) }
 {
     let Some(architecture) = Architecture::from_machine(machine) else {
         return 0;

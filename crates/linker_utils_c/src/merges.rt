@@ -35,15 +35,15 @@ pub extern "C" fn linker_utils_deletions_mergeable_nonnull(
 {
     let slice = DeltaSlice::new(deltas);
     if slice.can_merge_ascending(additional) {
-        return Status::Success.number();
+        return Status::Success as u32;
     }
     if let Some(_) = first_invalid(deltas) {
-        return Status::InvalidDeletions.number();
+        return Status::InvalidDeletions as u32;
     }
     if !slice.can_merge_sorted(alloc, additional) {
-        return Status::NotMergeable.number();
+        return Status::NotMergeable as u32;
     }
-    Status::Success.number()
+    Status::Success as u32
 }
 
 /// Writes the deltas of the old and the additional deletions, sorted, as many as both. The
@@ -74,24 +74,24 @@ pub extern "C" fn linker_utils_deltas_merge_nonnull(
         → result ≢ code Status.NotMergeable → faulty.new ≡ faulty.old }
 {
     if merged.len() < deltas.len() || merged.len() - deltas.len() != additional.len() {
-        return Status::DifferentLengths.number();
+        return Status::DifferentLengths as u32;
     }
     let slice = DeltaSlice::new(deltas);
     if slice.can_merge_ascending(additional) {
         slice.merge_ascending(additional, merged);
-        return Status::Success.number();
+        return Status::Success as u32;
     }
     match merge_sorted(alloc, deltas, additional, merged) {
-        Ok(()) => Status::Success.number(),
+        Ok(()) => Status::Success as u32,
         Err(MergeError::Invalid(at)) => {
             *faulty = at;
-            Status::InvalidDeletions.number()
+            Status::InvalidDeletions as u32
         }
         Err(MergeError::Overlapping(at)) => {
             *faulty = at;
-            Status::NotMergeable.number()
+            Status::NotMergeable as u32
         }
-        Err(MergeError::OutOfMemory) => Status::OutOfMemory.number(),
+        Err(MergeError::OutOfMemory) => Status::OutOfMemory as u32,
     }
 }
 

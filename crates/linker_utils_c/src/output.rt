@@ -1,7 +1,7 @@
 //! What a linker adds to an output: dynamic relocations, words of the GOT, `e_flags`, the symbols
 //! and functions that linkers provide, and the code of stubs.
 
-ghost use Rattle.std.specs.Prelude.{◌≡◌, IfSome, IfNone, Some, None, bit_or};
+ghost use Rattle.std.specs.Prelude.{◌≡◌, MatchOption, Some, None, bit_or};
 ghost use Rattle.std.specs.Prelude.{slice_get, slice_index, ◌%◌};
 ghost use Rattle.linker_elf.specs.Value.{sum_64};
 ghost use Rattle.linker_output.specs.Addresses.{entry_code_of, section_name};
@@ -107,16 +107,16 @@ pub struct StubNumbers {
 /// Writes the codes of the dynamic relocations of an architecture. `UnknownArchitecture`.
 #[unsafe(no_mangle)]
 pub extern "C" fn linker_utils_get_dynamic_types(machine: u16, types: &mut DynamicCodes) -> u32
-    ensures known { IfSome (architecture_of machine) (λ architecture. (result ≡ code Status.Success)
+    ensures { MatchOption (architecture_of machine)
+        ((result ≡ code Status.UnknownArchitecture) × (types.new ≡ types.old))
+        (λ architecture. (result ≡ code Status.Success)
         × (types.new ≡ codes_of (target_of architecture).dynamic)) }
-    ensures unknown { IfNone (architecture_of machine)
-        ((result ≡ code Status.UnknownArchitecture) × (types.new ≡ types.old)) }
 {
     let Some(architecture) = Architecture::from_machine(machine) else {
-        return Status::UnknownArchitecture.number();
+        return Status::UnknownArchitecture as u32;
     };
     *types = codes_in(Target::of(architecture));
-    Status::Success.number()
+    Status::Success as u32
 }
 
 /// The codes of a description.
@@ -147,11 +147,11 @@ fn put_text(text: &str, out: &mut [u8], used: &mut usize) -> u32
 {
     let len = text.len();
     if out.len() < len {
-        return Status::TooShort.number();
+        return Status::TooShort as u32;
     }
     out[..len].copy_from_slice(text.as_bytes());
     *used = len;
-    Status::Success.number()
+    Status::Success as u32
 }
 
 /// Writes the name of a type of dynamic relocations, as "R_X86_64_RELATIVE", to the beginning of
@@ -164,19 +164,19 @@ pub extern "C" fn linker_utils_dynamic_name_nonnull(
     name: &mut [u8],
     name_used: &mut usize,
 ) -> u32
-    ensures known { IfSome (architecture_of machine) (λ architecture.
+    ensures { MatchOption (architecture_of machine)
+        ((result ≡ code Status.UnknownArchitecture) × (name.new ≡ name.old)
+        × (name_used.new ≡ name_used.old))
+        (λ architecture.
         IsTextReturned (name_of (target_of architecture).dynamic r_type)
         (code Status.UnknownRelocation) name.old name.new name_used.old name_used.new result) }
-    ensures unknown { IfNone (architecture_of machine)
-        ((result ≡ code Status.UnknownArchitecture) × (name.new ≡ name.old)
-        × (name_used.new ≡ name_used.old)) }
 {
     let Some(architecture) = Architecture::from_machine(machine) else {
-        return Status::UnknownArchitecture.number();
+        return Status::UnknownArchitecture as u32;
     };
     match Target::of(architecture).dynamic_name(r_type) {
         Some(text) => put_text(text, name, name_used),
-        None => Status::UnknownRelocation.number(),
+        None => Status::UnknownRelocation as u32,
     }
 }
 
@@ -237,24 +237,24 @@ pub extern "C" fn linker_utils_dynamic_words(
     is_executable: bool,
     words: &mut WordCodes,
 ) -> u32
-    ensures known { IfSome (architecture_of machine) (λ architecture.
+    ensures { MatchOption (architecture_of machine)
+        ((result ≡ code Status.UnknownArchitecture) × (words.new ≡ words.old))
+        (λ architecture.
         AreWordsReturned (target_of architecture).dynamic (class_of entry_class) is_bound
         is_executable words.old words.new result) }
-    ensures unknown { IfNone (architecture_of machine)
-        ((result ≡ code Status.UnknownArchitecture) × (words.new ≡ words.old)) }
 {
     let Some(architecture) = Architecture::from_machine(machine) else {
-        return Status::UnknownArchitecture.number();
+        return Status::UnknownArchitecture as u32;
     };
     let Some(class) = class_of(entry_class) else {
-        return Status::UnknownEntryClass.number();
+        return Status::UnknownEntryClass as u32;
     };
     let codes = Target::of(architecture).dynamic_words(class, is_bound, is_executable);
     *words = WordCodes {
         first: code_or_none(codes[0]),
         second: code_or_none(codes[1]),
     };
-    Status::Success.number()
+    Status::Success as u32
 }
 
 /// How many words of 8 bytes an entry of a class has; 0 of a number that is no class.
@@ -281,7 +281,7 @@ pub extern "C" fn linker_utils_static_words(
         result }
 {
     let Some(class) = class_of(entry_class) else {
-        return Status::UnknownEntryClass.number();
+        return Status::UnknownEntryClass as u32;
     };
     match static_words(class, address, *origins) {
         Some(both) => {
@@ -289,9 +289,9 @@ pub extern "C" fn linker_utils_static_words(
                 first: both[0],
                 second: both[1],
             };
-            Status::Success.number()
+            Status::Success as u32
         }
-        None => Status::UnknownEntryClass.number(),
+        None => Status::UnknownEntryClass as u32,
     }
 }
 
@@ -305,17 +305,17 @@ pub extern "C" fn linker_utils_get_origins(
     alignment: u64,
     origins: &mut Origins,
 ) -> u32
-    ensures known { IfSome (architecture_of machine) (λ architecture. (result ≡ code Status.Success)
+    ensures { MatchOption (architecture_of machine)
+        ((result ≡ code Status.UnknownArchitecture) × (origins.new ≡ origins.old))
+        (λ architecture. (result ≡ code Status.Success)
         × (origins.new ≡ origins_of (target_of architecture).thread_pointer
         (target_of architecture).module_bias image image_len alignment)) }
-    ensures unknown { IfNone (architecture_of machine)
-        ((result ≡ code Status.UnknownArchitecture) × (origins.new ≡ origins.old)) }
 {
     let Some(architecture) = Architecture::from_machine(machine) else {
-        return Status::UnknownArchitecture.number();
+        return Status::UnknownArchitecture as u32;
     };
     *origins = Target::of(architecture).origins(image, image_len, alignment);
-    Status::Success.number()
+    Status::Success as u32
 }
 
 /// Writes what offsets from the GOT count from, and its first word where that isn't an entry, by
@@ -327,14 +327,14 @@ pub extern "C" fn linker_utils_get_got(
     dynamic: u64,
     got: &mut GotNumbers,
 ) -> u32
-    ensures known { IfSome (architecture_of machine) (λ architecture. (result ≡ code Status.Success)
+    ensures { MatchOption (architecture_of machine)
+        ((result ≡ code Status.UnknownArchitecture) × (got.new ≡ got.old))
+        (λ architecture. (result ≡ code Status.Success)
         × (got.new.base ≡ sum_64 address (target_of architecture).got.bias)
         × IsHeader (got_header_of (target_of architecture).got address dynamic) got.new) }
-    ensures unknown { IfNone (architecture_of machine)
-        ((result ≡ code Status.UnknownArchitecture) × (got.new ≡ got.old)) }
 {
     let Some(architecture) = Architecture::from_machine(machine) else {
-        return Status::UnknownArchitecture.number();
+        return Status::UnknownArchitecture as u32;
     };
     let target = Target::of(architecture);
     let (has_header, header) = match target.got_header(address, dynamic) {
@@ -346,7 +346,7 @@ pub extern "C" fn linker_utils_get_got(
         header,
         has_header,
     };
-    Status::Success.number()
+    Status::Success as u32
 }
 
 /// Writes `e_flags` of two objects that are linked, as `Target::join_flags`. The first that applies
@@ -358,21 +358,21 @@ pub extern "C" fn linker_utils_join_flags(
     second: u32,
     joined: &mut u32,
 ) -> u32
-    ensures known { IfSome (architecture_of machine) (λ architecture.
+    ensures { MatchOption (architecture_of machine)
+        ((result ≡ code Status.UnknownArchitecture) × (joined.new ≡ joined.old))
+        (λ architecture.
         AreFlagsReturned (joined_flags (target_of architecture).flags first second) joined.old
         joined.new result) }
-    ensures unknown { IfNone (architecture_of machine)
-        ((result ≡ code Status.UnknownArchitecture) × (joined.new ≡ joined.old)) }
 {
     let Some(architecture) = Architecture::from_machine(machine) else {
-        return Status::UnknownArchitecture.number();
+        return Status::UnknownArchitecture as u32;
     };
     match Target::of(architecture).join_flags(first, second) {
         Some(flags) => {
             *joined = flags;
-            Status::Success.number()
+            Status::Success as u32
         }
-        None => Status::DifferentFlags.number(),
+        None => Status::DifferentFlags as u32,
     }
 }
 
@@ -380,9 +380,10 @@ pub extern "C" fn linker_utils_join_flags(
 /// unchanged for a machine that isn't known.
 #[unsafe(no_mangle)]
 pub extern "C" fn linker_utils_output_flags(machine: u16, joined: u32) -> u32
-    ensures known { IfSome (architecture_of machine) (λ architecture.
+    ensures { MatchOption (architecture_of machine)
+        (result ≡ joined)
+        (λ architecture.
         result ≡ bit_or joined (target_of architecture).flags.own) }
-    ensures unknown { IfNone (architecture_of machine) (result ≡ joined) }
 {
     match Architecture::from_machine(machine) {
         Some(architecture) => Target::of(architecture).output_flags(joined),
@@ -394,9 +395,10 @@ pub extern "C" fn linker_utils_output_flags(machine: u16, joined: u32) -> u32
 /// known.
 #[unsafe(no_mangle)]
 pub extern "C" fn linker_utils_page(machine: u16) -> u64
-    ensures known { IfSome (architecture_of machine) (λ architecture.
+    ensures { MatchOption (architecture_of machine)
+        (result ≡ 0)
+        (λ architecture.
         result ≡ (target_of architecture).page) }
-    ensures unknown { IfNone (architecture_of machine) (result ≡ 0) }
 {
     match Architecture::from_machine(machine) {
         Some(architecture) => page_of(Target::of(architecture)),
@@ -416,9 +418,10 @@ fn page_of(target: &Target) -> u64
 /// that isn't known.
 #[unsafe(no_mangle)]
 pub extern "C" fn linker_utils_code_unit(machine: u16, flags: u32) -> u64
-    ensures known { IfSome (architecture_of machine) (λ architecture.
+    ensures { MatchOption (architecture_of machine)
+        (result ≡ 0)
+        (λ architecture.
         result ≡ unit_by (target_of architecture).code_unit flags) }
-    ensures unknown { IfNone (architecture_of machine) (result ≡ 0) }
 {
     match Architecture::from_machine(machine) {
         Some(architecture) => Target::of(architecture).unit(flags),
@@ -430,9 +433,10 @@ pub extern "C" fn linker_utils_code_unit(machine: u16, flags: u32) -> u64
 /// isn't known.
 #[unsafe(no_mangle)]
 pub extern "C" fn linker_utils_filler(machine: u16, offset: u64) -> u8
-    ensures known { IfSome (architecture_of machine) (λ architecture.
+    ensures { MatchOption (architecture_of machine)
+        (result ≡ 0)
+        (λ architecture.
         result ≡ slice_index (target_of architecture).filler (offset % 4)) }
-    ensures unknown { IfNone (architecture_of machine) (result ≡ 0) }
 {
     match Architecture::from_machine(machine) {
         Some(architecture) => Target::of(architecture).filler(offset),
@@ -450,20 +454,20 @@ pub extern "C" fn linker_utils_interpreter_nonnull(
     path: &mut [u8],
     path_used: &mut usize,
 ) -> u32
-    ensures known { IfSome (architecture_of machine) (λ architecture.
+    ensures { MatchOption (architecture_of machine)
+        ((result ≡ code Status.UnknownArchitecture) × (path.new ≡ path.old)
+        × (path_used.new ≡ path_used.old))
+        (λ architecture.
         IsTextReturned (path_of (target_of architecture).paths
         (target_of architecture).interpreter_flags flags) (code Status.NotProvided) path.old
         path.new path_used.old path_used.new result) }
-    ensures unknown { IfNone (architecture_of machine)
-        ((result ≡ code Status.UnknownArchitecture) × (path.new ≡ path.old)
-        × (path_used.new ≡ path_used.old)) }
 {
     let Some(architecture) = Architecture::from_machine(machine) else {
-        return Status::UnknownArchitecture.number();
+        return Status::UnknownArchitecture as u32;
     };
     match Target::of(architecture).interpreter(flags) {
         Some(text) => put_text(text, path, path_used),
-        None => Status::NotProvided.number(),
+        None => Status::NotProvided as u32,
     }
 }
 
@@ -476,15 +480,15 @@ pub extern "C" fn linker_utils_address_section_nonnull(
     name: &mut [u8],
     name_used: &mut usize,
 ) -> u32
-    ensures known { IfSome (architecture_of machine) (λ architecture.
+    ensures { MatchOption (architecture_of machine)
+        ((result ≡ code Status.UnknownArchitecture) × (name.new ≡ name.old)
+        × (name_used.new ≡ name_used.old))
+        (λ architecture.
         IsTextReturned (section_name (target_of architecture).addresses) (code Status.NotProvided)
         name.old name.new name_used.old name_used.new result) }
-    ensures unknown { IfNone (architecture_of machine)
-        ((result ≡ code Status.UnknownArchitecture) × (name.new ≡ name.old)
-        × (name_used.new ≡ name_used.old)) }
 {
     let Some(architecture) = Architecture::from_machine(machine) else {
-        return Status::UnknownArchitecture.number();
+        return Status::UnknownArchitecture as u32;
     };
     put_section_name(Target::of(architecture), name, name_used)
 }
@@ -495,7 +499,7 @@ fn put_section_name(target: &Target, name: &mut [u8], name_used: &mut usize) -> 
 {
     match &target.address_section {
         Some(section) => put_text(section.name, name, name_used),
-        None => Status::NotProvided.number(),
+        None => Status::NotProvided as u32,
     }
 }
 
@@ -508,21 +512,21 @@ pub extern "C" fn linker_utils_entry_relocation(
     r_type: u32,
     entry_type: &mut u32,
 ) -> u32
-    ensures known { IfSome (architecture_of machine) (λ architecture. IsFoundWord
+    ensures { MatchOption (architecture_of machine)
+        ((result ≡ code Status.UnknownArchitecture) × (entry_type.new ≡ entry_type.old))
+        (λ architecture. IsFoundWord
         (entry_code_of (target_of architecture).addresses r_type) entry_type.old entry_type.new
         result) }
-    ensures unknown { IfNone (architecture_of machine)
-        ((result ≡ code Status.UnknownArchitecture) × (entry_type.new ≡ entry_type.old)) }
 {
     let Some(architecture) = Architecture::from_machine(machine) else {
-        return Status::UnknownArchitecture.number();
+        return Status::UnknownArchitecture as u32;
     };
     match Target::of(architecture).entry_code(r_type) {
         Some(found) => {
             *entry_type = found;
-            Status::Success.number()
+            Status::Success as u32
         }
-        None => Status::NotProvided.number(),
+        None => Status::NotProvided as u32,
     }
 }
 
@@ -536,21 +540,21 @@ pub extern "C" fn linker_utils_get_dynamic_entry(
     index: usize,
     entry: &mut DynamicEntry,
 ) -> u32
-    ensures known { IfSome (architecture_of machine) (λ architecture. IsEntryReturned
+    ensures { MatchOption (architecture_of machine)
+        ((result ≡ code Status.UnknownArchitecture) × (entry.new ≡ entry.old))
+        (λ architecture. IsEntryReturned
         (slice_get (entries (target_of architecture).dynamic_tags facts.now) index) entry.old
         entry.new result) }
-    ensures unknown { IfNone (architecture_of machine)
-        ((result ≡ code Status.UnknownArchitecture) × (entry.new ≡ entry.old)) }
 {
     let Some(architecture) = Architecture::from_machine(machine) else {
-        return Status::UnknownArchitecture.number();
+        return Status::UnknownArchitecture as u32;
     };
     match Target::of(architecture).dynamic_entry(facts, index) {
         Some(found) => {
             *entry = found;
-            Status::Success.number()
+            Status::Success as u32
         }
-        None => Status::NotProvided.number(),
+        None => Status::NotProvided as u32,
     }
 }
 
@@ -577,15 +581,15 @@ pub extern "C" fn linker_utils_get_provided_symbol_nonnull(
     name_used: &mut usize,
     symbol: &mut SymbolNumbers,
 ) -> u32
-    ensures known { IfSome (architecture_of machine) (λ architecture.
+    ensures { MatchOption (architecture_of machine)
+        ((result ≡ code Status.UnknownArchitecture) × (name.new ≡ name.old)
+        × (name_used.new ≡ name_used.old) × (symbol.new ≡ symbol.old))
+        (λ architecture.
         IsSymbolReturned (slice_get (target_of architecture).symbols index) name.old name.new
         name_used.old name_used.new symbol.old symbol.new result) }
-    ensures unknown { IfNone (architecture_of machine)
-        ((result ≡ code Status.UnknownArchitecture) × (name.new ≡ name.old)
-        × (name_used.new ≡ name_used.old) × (symbol.new ≡ symbol.old)) }
 {
     let Some(architecture) = Architecture::from_machine(machine) else {
-        return Status::UnknownArchitecture.number();
+        return Status::UnknownArchitecture as u32;
     };
     put_symbol(Target::of(architecture), index, name, name_used, symbol)
 }
@@ -601,10 +605,10 @@ fn put_symbol(
         name_used.old name_used.new symbol.old symbol.new result }
 {
     let Some(provided) = target.symbols.get(index) else {
-        return Status::NotProvided.number();
+        return Status::NotProvided as u32;
     };
     if name.len() < provided.name.len() {
-        return Status::TooShort.number();
+        return Status::TooShort as u32;
     }
     *symbol = SymbolNumbers {
         offset: provided.offset,
@@ -624,15 +628,15 @@ pub extern "C" fn linker_utils_get_save_restore_routines_nonnull(
     prefix_used: &mut usize,
     run: &mut RunNumbers,
 ) -> u32
-    ensures known { IfSome (architecture_of machine) (λ architecture.
+    ensures { MatchOption (architecture_of machine)
+        ((result ≡ code Status.UnknownArchitecture) × (prefix.new ≡ prefix.old)
+        × (prefix_used.new ≡ prefix_used.old) × (run.new ≡ run.old))
+        (λ architecture.
         IsRunReturned (slice_get (target_of architecture).runs index) prefix.old prefix.new
         prefix_used.old prefix_used.new run.old run.new result) }
-    ensures unknown { IfNone (architecture_of machine)
-        ((result ≡ code Status.UnknownArchitecture) × (prefix.new ≡ prefix.old)
-        × (prefix_used.new ≡ prefix_used.old) × (run.new ≡ run.old)) }
 {
     let Some(architecture) = Architecture::from_machine(machine) else {
-        return Status::UnknownArchitecture.number();
+        return Status::UnknownArchitecture as u32;
     };
     put_run(Target::of(architecture), index, prefix, prefix_used, run)
 }
@@ -648,10 +652,10 @@ fn put_run(
         prefix_used.old prefix_used.new run.old run.new result }
 {
     let Some(provided) = target.runs.get(index) else {
-        return Status::NotProvided.number();
+        return Status::NotProvided as u32;
     };
     if prefix.len() < provided.prefix.len() {
-        return Status::TooShort.number();
+        return Status::TooShort as u32;
     }
     *run = RunNumbers {
         len: provided.len(),
@@ -671,14 +675,14 @@ pub extern "C" fn linker_utils_provided_word(
     index: u64,
     word: &mut u32,
 ) -> u32
-    ensures known { IfSome (architecture_of machine) (λ architecture.
+    ensures { MatchOption (architecture_of machine)
+        ((result ≡ code Status.UnknownArchitecture) × (word.new ≡ word.old))
+        (λ architecture.
         IsWordReturned (slice_get (target_of architecture).runs run) index word.old word.new
         result) }
-    ensures unknown { IfNone (architecture_of machine)
-        ((result ≡ code Status.UnknownArchitecture) × (word.new ≡ word.old)) }
 {
     let Some(architecture) = Architecture::from_machine(machine) else {
-        return Status::UnknownArchitecture.number();
+        return Status::UnknownArchitecture as u32;
     };
     put_word(Target::of(architecture), run, index, word)
 }
@@ -687,14 +691,14 @@ fn put_word(target: &Target, run: usize, index: u64, word: &mut u32) -> u32
     ensures { IsWordReturned (slice_get (view target.now).runs run) index word.old word.new result }
 {
     let Some(provided) = target.runs.get(run) else {
-        return Status::NotProvided.number();
+        return Status::NotProvided as u32;
     };
     match provided.word_at(index) {
         Some(found) => {
             *word = found;
-            Status::Success.number()
+            Status::Success as u32
         }
-        None => Status::NotProvided.number(),
+        None => Status::NotProvided as u32,
     }
 }
 
@@ -734,14 +738,14 @@ fn kind_of(number: u32) -> Option<StubKind>
 /// kind.
 #[unsafe(no_mangle)]
 pub extern "C" fn linker_utils_get_stub(machine: u16, kind: u32, stub: &mut StubNumbers) -> u32
-    ensures known { IfSome (architecture_of machine) (λ architecture.
+    ensures { MatchOption (architecture_of machine)
+        ((result ≡ code Status.UnknownArchitecture) × (stub.new ≡ stub.old))
+        (λ architecture.
         IsStubReturned (stub_in (target_of architecture) (stub_kind_of kind)) stub.old stub.new
         result) }
-    ensures unknown { IfNone (architecture_of machine)
-        ((result ≡ code Status.UnknownArchitecture) × (stub.new ≡ stub.old)) }
 {
     let Some(architecture) = Architecture::from_machine(machine) else {
-        return Status::UnknownArchitecture.number();
+        return Status::UnknownArchitecture as u32;
     };
     put_stub(Target::of(architecture), kind, stub)
 }
@@ -751,7 +755,7 @@ fn put_stub(target: &Target, kind: u32, numbers: &mut StubNumbers) -> u32
         result }
 {
     let Some(kind) = kind_of(kind) else {
-        return Status::UnknownStub.number();
+        return Status::UnknownStub as u32;
     };
     match target.stub(kind) {
         Some(stub) => {
@@ -759,9 +763,9 @@ fn put_stub(target: &Target, kind: u32, numbers: &mut StubNumbers) -> u32
                 len: stub.len(),
                 entry: stub.entry,
             };
-            Status::Success.number()
+            Status::Success as u32
         }
-        None => Status::UnknownStub.number(),
+        None => Status::UnknownStub as u32,
     }
 }
 
@@ -777,15 +781,15 @@ pub extern "C" fn linker_utils_write_stub_nonnull(
     target: u64,
     bytes: &mut [u8],
 ) -> u32
-    ensures known { IfSome (architecture_of machine) (λ architecture.
+    ensures { MatchOption (architecture_of machine)
+        ((result ≡ code Status.UnknownArchitecture) × (bytes.new ≡ bytes.old))
+        (λ architecture.
         IsStubWritten (target_of architecture).instructions
         (stub_in (target_of architecture) (stub_kind_of kind)) place target bytes.old bytes.new
         result) }
-    ensures unknown { IfNone (architecture_of machine)
-        ((result ≡ code Status.UnknownArchitecture) × (bytes.new ≡ bytes.old)) }
 {
     let Some(architecture) = Architecture::from_machine(machine) else {
-        return Status::UnknownArchitecture.number();
+        return Status::UnknownArchitecture as u32;
     };
     write_by(Target::of(architecture), kind, place, target, bytes)
 }
@@ -796,12 +800,12 @@ fn write_by(description: &Target, kind: u32, place: u64, target: u64, bytes: &mu
         result }
 {
     let Some(kind) = kind_of(kind) else {
-        return Status::UnknownStub.number();
+        return Status::UnknownStub as u32;
     };
     match description.write_stub(kind, place, target, bytes) {
-        Ok(()) => Status::Success.number(),
-        Err(StubError::Missing) => Status::UnknownStub.number(),
-        Err(StubError::TooShort) => Status::TooShort.number(),
+        Ok(()) => Status::Success as u32,
+        Err(StubError::Missing) => Status::UnknownStub as u32,
+        Err(StubError::TooShort) => Status::TooShort as u32,
         Err(StubError::Field(error)) => status_of(Err(error)),
     }
 }

@@ -1,6 +1,6 @@
 //! Program properties.
 
-ghost use Rattle.std.specs.Prelude.{◌≡◌, IfSome, IfNone};
+ghost use Rattle.std.specs.Prelude.{◌≡◌, MatchOption};
 ghost use Rattle.linker_elf.specs.Machines.{architecture_of};
 ghost use Rattle.linker_output.specs.Targets.{target_of};
 ghost use Rattle.linker_utils_c.specs.Properties.{has_rule, property_status, number_by};
@@ -32,19 +32,19 @@ fn status_of(made: Result<usize, PropertyError>, number: &mut usize) -> u32
     ensures number { number.new ≡ number_by made number.old }
 {
     let (status, value) = match made {
-        Ok(count) => (Status::Success, count),
-        Err(PropertyError::NotProperties(at)) => (Status::NotProperties, at),
-        Err(PropertyError::CutOff(at)) => (Status::CutOff, at),
-        Err(PropertyError::WrongSize(at)) => (Status::WrongSize, at),
-        Err(PropertyError::NotAscending(at)) => (Status::NotAscending, at),
-        Err(PropertyError::Differs(kind)) => (Status::DifferentValues, kind as usize),
-        Err(PropertyError::Unknown(kind)) => (Status::UnknownProperty, kind as usize),
-        Err(PropertyError::TooLarge(kind)) => (Status::DoesNotFit, kind as usize),
-        Err(PropertyError::TooMany) => (Status::TooLarge, *number),
-        Err(PropertyError::TooShort(needed)) => (Status::TooShort, needed),
+        Ok(count) => (Status::Success as u32, count),
+        Err(PropertyError::NotProperties(at)) => (Status::NotProperties as u32, at),
+        Err(PropertyError::CutOff(at)) => (Status::CutOff as u32, at),
+        Err(PropertyError::WrongSize(at)) => (Status::WrongSize as u32, at),
+        Err(PropertyError::NotAscending(at)) => (Status::NotAscending as u32, at),
+        Err(PropertyError::Differs(kind)) => (Status::DifferentValues as u32, kind as usize),
+        Err(PropertyError::Unknown(kind)) => (Status::UnknownProperty as u32, kind as usize),
+        Err(PropertyError::TooLarge(kind)) => (Status::DoesNotFit as u32, kind as usize),
+        Err(PropertyError::TooMany) => (Status::TooLarge as u32, *number),
+        Err(PropertyError::TooShort(needed)) => (Status::TooShort as u32, needed),
     };
     *number = value;
-    status.number()
+    status
 }
 
 /// Whether a type of properties has a rule, as `property_rule`. False of an unknown architecture.
@@ -69,14 +69,14 @@ pub extern "C" fn linker_utils_read_properties_nonnull(
     properties: &mut [Property],
     number: &mut usize,
 ) -> u32
-    ensures known { IfSome (architecture_of machine) (λ architecture. ArePropertiesRead architecture
-        notes.now properties.old properties.new number.old number.new result) }
-    ensures unknown { IfNone (architecture_of machine)
+    ensures { MatchOption (architecture_of machine)
         ((result ≡ code Status.UnknownArchitecture) × (properties.new ≡ properties.old)
-        × (number.new ≡ number.old)) }
+        × (number.new ≡ number.old))
+        (λ architecture. ArePropertiesRead architecture
+        notes.now properties.old properties.new number.old number.new result) }
 {
     let Some(architecture) = Architecture::from_machine(machine) else {
-        return Status::UnknownArchitecture.number();
+        return Status::UnknownArchitecture as u32;
     };
     status_of(read_properties(architecture, notes, properties), number)
 }
@@ -93,15 +93,15 @@ pub extern "C" fn linker_utils_merge_properties_nonnull(
     properties: &mut [Property],
     number: &mut usize,
 ) -> u32
-    ensures known { IfSome (architecture_of machine) (λ architecture.
+    ensures { MatchOption (architecture_of machine)
+        ((result ≡ code Status.UnknownArchitecture) × (properties.new ≡ properties.old)
+        × (number.new ≡ number.old))
+        (λ architecture.
         ArePropertiesMerged architecture first.now second.now properties.old properties.new
         number.old number.new result) }
-    ensures unknown { IfNone (architecture_of machine)
-        ((result ≡ code Status.UnknownArchitecture) × (properties.new ≡ properties.old)
-        × (number.new ≡ number.old)) }
 {
     let Some(architecture) = Architecture::from_machine(machine) else {
-        return Status::UnknownArchitecture.number();
+        return Status::UnknownArchitecture as u32;
     };
     let merged = merge_properties(architecture, first, second, properties);
     status_of(merged, number)
@@ -119,14 +119,14 @@ pub extern "C" fn linker_utils_write_properties_nonnull(
     note: &mut [u8],
     number: &mut usize,
 ) -> u32
-    ensures known { IfSome (architecture_of machine) (λ architecture. IsNoteWritten architecture
-        properties.now note.old note.new number.old number.new result) }
-    ensures unknown { IfNone (architecture_of machine)
+    ensures { MatchOption (architecture_of machine)
         ((result ≡ code Status.UnknownArchitecture) × (note.new ≡ note.old)
-        × (number.new ≡ number.old)) }
+        × (number.new ≡ number.old))
+        (λ architecture. IsNoteWritten architecture
+        properties.now note.old note.new number.old number.new result) }
 {
     let Some(architecture) = Architecture::from_machine(machine) else {
-        return Status::UnknownArchitecture.number();
+        return Status::UnknownArchitecture as u32;
     };
     status_of(write_properties(architecture, properties, note), number)
 }
@@ -138,20 +138,20 @@ pub extern "C" fn linker_utils_get_landing_property(
     machine: u16,
     landing: &mut LandingNumbers,
 ) -> u32
-    ensures known { IfSome (architecture_of machine) (λ architecture. IsLandingReturned
+    ensures { MatchOption (architecture_of machine)
+        ((result ≡ code Status.UnknownArchitecture) × (landing.new ≡ landing.old))
+        (λ architecture. IsLandingReturned
         (target_of architecture).landing_property landing.old landing.new result) }
-    ensures unknown { IfNone (architecture_of machine)
-        ((result ≡ code Status.UnknownArchitecture) × (landing.new ≡ landing.old)) }
 {
     let Some(architecture) = Architecture::from_machine(machine) else {
-        return Status::UnknownArchitecture.number();
+        return Status::UnknownArchitecture as u32;
     };
     let Some(property) = Target::of(architecture).landing_property else {
-        return Status::NotProvided.number();
+        return Status::NotProvided as u32;
     };
     *landing = LandingNumbers {
         bit: property.bit,
         kind: property.kind,
     };
-    Status::Success.number()
+    Status::Success as u32
 }

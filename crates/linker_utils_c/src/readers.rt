@@ -16,10 +16,10 @@ pub extern "C" fn linker_utils_u32_from_slice_nonnull(bytes: &[u8], value: &mut 
     ensures unchanged { result ≢ code Status.Success → value.new ≡ value.old }
 {
     if bytes.len() < 4 {
-        return Status::TooShort.number();
+        return Status::TooShort as u32;
     }
     *value = utils::u32_from_slice(bytes);
-    Status::Success.number()
+    Status::Success as u32
 }
 
 /// The little-endian number of the first eight bytes, into `value`. The error is `TooShort`.
@@ -30,10 +30,10 @@ pub extern "C" fn linker_utils_u64_from_slice_nonnull(bytes: &[u8], value: &mut 
     ensures unchanged { result ≢ code Status.Success → value.new ≡ value.old }
 {
     if bytes.len() < 8 {
-        return Status::TooShort.number();
+        return Status::TooShort as u32;
     }
     *value = utils::u64_from_slice(bytes);
-    Status::Success.number()
+    Status::Success as u32
 }
 
 /// The little-endian number of the first four bytes, into `value`, and how many bytes it took, into
@@ -55,9 +55,9 @@ pub extern "C" fn linker_utils_read_u32_nonnull(
         Ok(number) => {
             *value = number;
             *consumed = bytes.len() - content.len();
-            Status::Success.number()
+            Status::Success as u32
         }
-        Err(_) => Status::TooShort.number(),
+        Err(_) => Status::TooShort as u32,
     }
 }
 
@@ -84,9 +84,9 @@ pub extern "C" fn linker_utils_read_uleb128_nonnull(
         Ok(number) => {
             *value = number;
             *consumed = bytes.len() - content.len();
-            Status::Success.number()
+            Status::Success as u32
         }
-        Err(_) if bytes.len() < 10 => Status::Uleb128Ended.number(),
-        Err(_) => Status::Uleb128TooLarge.number(),
+        Err(_) if bytes.len() < 10 => Status::Uleb128Ended as u32,
+        Err(_) => Status::Uleb128TooLarge as u32,
     }
 }

@@ -1,7 +1,7 @@
 //! The numbers in immediates; what stands in the fields of linked relocations, and the addresses
 //! after it.
 
-ghost use Rattle.std.specs.Prelude.{◌≡◌, Option, Some, IfOk, IfErr, IfSome, IfNone};
+ghost use Rattle.std.specs.Prelude.{◌≡◌, Option, Some, MatchOption, MatchResult};
 ghost use Rattle.linker_elf.specs.declared.elf.RelocationKindInfo.{RelocationKindInfo};
 ghost use Rattle.linker_elf.specs.Architectures.{IsRow};
 ghost use Rattle.linker_elf.specs.Machines.{architecture_of};
@@ -30,14 +30,13 @@ pub extern "C" fn linker_utils_operand_nonnull(
     bytes: &[u8],
     number: &mut i64,
 ) -> u32
-    ensures known { IfOk (named_form machine form)
-        (λ named. IsOperandReturned named bytes.now number.old number.new result) }
-    ensures unknown { IfErr (named_form machine form)
+    ensures { MatchResult (named_form machine form)
+        (λ named. IsOperandReturned named bytes.now number.old number.new result)
         (λ status. (result ≡ code status) × (number.new ≡ number.old)) }
 {
     match form_of(machine, form) {
         Ok(named) => put_operand(named, bytes, number),
-        Err(status) => status.number(),
+        Err(status) => status,
     }
 }
 
@@ -48,9 +47,9 @@ fn put_operand(form: RelocationInstruction, bytes: &[u8], number: &mut i64) -> u
     match operand(form, bytes) {
         Some(found) => {
             *number = found;
-            Status::Success.number()
+            Status::Success as u32
         }
-        None => Status::DoesNotMatch.number(),
+        None => Status::DoesNotMatch as u32,
     }
 }
 
@@ -107,18 +106,17 @@ pub extern "C" fn linker_utils_read_value_nonnull(
     bytes: &[u8],
     value: &mut FieldValueNumbers,
 ) -> u32
-    ensures known { IfSome (architecture_of machine)
+    ensures { MatchOption (architecture_of machine)
+        ((result ≡ code Status.UnknownArchitecture) × (value.new ≡ value.old))
         (λ architecture. (meaning : Option RelocationKindInfo) × IsRow architecture r_type meaning
         × IsValueRead meaning bytes.now value.old value.new result) }
-    ensures unknown { IfNone (architecture_of machine)
-        ((result ≡ code Status.UnknownArchitecture) × (value.new ≡ value.old)) }
 {
     let Some(architecture) = Architecture::from_machine(machine) else {
-        return Status::UnknownArchitecture.number();
+        return Status::UnknownArchitecture as u32;
     };
     match architecture.row(r_type) {
         Some(meaning) => read_row(&meaning, bytes, value),
-        None => Status::UnknownRelocation.number(),
+        None => Status::UnknownRelocation as u32,
     }
 }
 
@@ -129,13 +127,13 @@ fn read_row(row: &Row, bytes: &[u8], value: &mut FieldValueNumbers) -> u32
     match read(row, bytes) {
         Some(field) => {
             *value = FieldValueNumbers::of(field);
-            Status::Success.number()
+            Status::Success as u32
         }
         None => {
             if bytes.len() < row.window() {
-                Status::TooShort.number()
+                Status::TooShort as u32
             } else {
-                Status::HoldsNoValue.number()
+                Status::HoldsNoValue as u32
             }
         }
     }
@@ -163,13 +161,13 @@ fn put_address(
     ensures { IsAddress terms solution reference.old reference.new address.old address.new result }
 {
     match terms {
-        None => Status::NoAddress.number(),
+        None => Status::NoAddress as u32,
         Some(terms) => match solution {
-            None => Status::NoAddress.number(),
+            None => Status::NoAddress as u32,
             Some(solution) => {
                 *reference = reference_number(terms.reference);
                 *address = FieldValueNumbers::of(solution);
-                Status::Success.number()
+                Status::Success as u32
             }
         },
     }
@@ -187,7 +185,7 @@ fn solve_row(
 {
     let field = value.field();
     if !field.is_proper() {
-        return Status::BadFieldValue.number();
+        return Status::BadFieldValue as u32;
     }
     let info = row.info();
     let solution = solve(&info, &field, operands);
@@ -209,20 +207,19 @@ pub extern "C" fn linker_utils_solve(
     reference: &mut u32,
     address: &mut FieldValueNumbers,
 ) -> u32
-    ensures known { IfSome (architecture_of machine)
+    ensures { MatchOption (architecture_of machine)
+        ((result ≡ code Status.UnknownArchitecture) × (reference.new ≡ reference.old)
+        × (address.new ≡ address.old))
         (λ architecture. (meaning : Option RelocationKindInfo) × IsRow architecture r_type meaning
         × IsValueSolved meaning (field_of value.now) operands.now reference.old
         reference.new address.old address.new result) }
-    ensures unknown { IfNone (architecture_of machine)
-        ((result ≡ code Status.UnknownArchitecture) × (reference.new ≡ reference.old)
-        × (address.new ≡ address.old)) }
 {
     let Some(architecture) = Architecture::from_machine(machine) else {
-        return Status::UnknownArchitecture.number();
+        return Status::UnknownArchitecture as u32;
     };
     match architecture.row(r_type) {
         Some(meaning) => solve_row(&meaning, value, operands, reference, address),
-        None => Status::UnknownRelocation.number(),
+        None => Status::UnknownRelocation as u32,
     }
 }
 
@@ -231,10 +228,10 @@ fn put_whole(joined: Option<FieldValue>, whole: &mut FieldValueNumbers) -> u32
     ensures { IsWhole joined whole.old whole.new result }
 {
     match joined {
-        None => Status::NotHalves.number(),
+        None => Status::NotHalves as u32,
         Some(joined) => {
             *whole = FieldValueNumbers::of(joined);
-            Status::Success.number()
+            Status::Success as u32
         }
     }
 }
@@ -252,7 +249,7 @@ pub extern "C" fn linker_utils_join(
     let high = high.field();
     let low = low.field();
     if !high.is_proper() || !low.is_proper() {
-        return Status::BadFieldValue.number();
+        return Status::BadFieldValue as u32;
     }
     put_whole(join(&high, &low), whole)
 }

@@ -1,6 +1,6 @@
 //! What a linker made of a relocation, by the bytes before and after, and the bits of its field.
 
-ghost use Rattle.std.specs.Prelude.{◌≡◌, ◌≤◌, IfSome, IfNone, Option, Some, false, length};
+ghost use Rattle.std.specs.Prelude.{◌≡◌, ◌≤◌, MatchOption, Option, Some, false, length};
 ghost use Rattle.linker_elf.specs.Entries.{IsAnswerOf};
 ghost use Rattle.linker_elf.specs.declared.elf.RelocationKindInfo.{RelocationKindInfo};
 ghost use Rattle.linker_elf.specs.Architectures.{IsRow};
@@ -37,18 +37,17 @@ pub extern "C" fn linker_utils_field_bits_nonnull(
     bytes: &[u8],
     bits: &mut u64,
 ) -> u32
-    ensures known { IfSome (architecture_of machine)
+    ensures { MatchOption (architecture_of machine)
+        ((result ≡ code Status.UnknownArchitecture) × (bits.new ≡ bits.old))
         (λ architecture. (meaning : Option RelocationKindInfo) × IsRow architecture r_type meaning
         × AreBitsOf meaning bytes.now bits.old bits.new result) }
-    ensures unknown { IfNone (architecture_of machine)
-        ((result ≡ code Status.UnknownArchitecture) × (bits.new ≡ bits.old)) }
 {
     let Some(architecture) = Architecture::from_machine(machine) else {
-        return Status::UnknownArchitecture.number();
+        return Status::UnknownArchitecture as u32;
     };
     match architecture.row(r_type) {
         Some(meaning) => put_bits(&meaning, bytes, bits),
-        None => Status::UnknownRelocation.number(),
+        None => Status::UnknownRelocation as u32,
     }
 }
 
@@ -57,10 +56,10 @@ fn put_bits(row: &Row, bytes: &[u8], bits: &mut u64) -> u32
     ensures { AreBitsOf (Some row.now) bytes.now bits.old bits.new result }
 {
     if bytes.len() < row.window() {
-        return Status::TooShort.number();
+        return Status::TooShort as u32;
     }
     *bits = field_bits(row, bytes);
-    Status::Success.number()
+    Status::Success as u32
 }
 
 /// Whether two windows of the same length, which begin with the field of the relocation with
@@ -73,10 +72,10 @@ pub extern "C" fn linker_utils_same_but_for_nonnull(
     a: &[u8],
     b: &[u8],
 ) -> bool
-    ensures known { IfSome (architecture_of machine)
+    ensures { MatchOption (architecture_of machine)
+        (result ≡ false)
         (λ architecture. (meaning : Option RelocationKindInfo) × IsRow architecture r_type meaning
         × IsAnswerOf (IsSameness a.now b.now) meaning result) }
-    ensures unknown { IfNone (architecture_of machine) (result ≡ false) }
 {
     let Some(architecture) = Architecture::from_machine(machine) else {
         return false;
@@ -154,19 +153,20 @@ pub extern "C" fn linker_utils_recognise_window_nonnull(
     offset: u64,
     window: &mut RewriteWindow,
 ) -> u32
-    ensures known { IfSome (architecture_of machine) (λ architecture.
+    ensures { MatchOption (architecture_of machine)
+        ((result ≡ code Status.UnknownArchitecture)
+        × (window.new ≡ window.old))
+        (λ architecture.
         IsWindowGiven architecture r_type original.now offset window.old window.new result) }
-    ensures unknown { IfNone (architecture_of machine) ((result ≡ code Status.UnknownArchitecture)
-        × (window.new ≡ window.old)) }
 {
     let Some(architecture) = Architecture::from_machine(machine) else {
-        return Status::UnknownArchitecture.number();
+        return Status::UnknownArchitecture as u32;
     };
     if original.len() > MAX_WINDOW {
-        return Status::WindowTooLong.number();
+        return Status::WindowTooLong as u32;
     }
     *window = window_of(architecture, r_type, original, offset);
-    Status::Success.number()
+    Status::Success as u32
 }
 
 /// Writes which rewrites, and relocations after them, a linker may have made at the relocation with
@@ -186,14 +186,15 @@ pub extern "C" fn linker_utils_recognise_nonnull(
     found: &mut [RecognisedNumbers],
     count: &mut usize,
 ) -> u32
-    ensures known { IfSome (architecture_of machine) (λ architecture.
+    ensures { MatchOption (architecture_of machine)
+        ((result ≡ code Status.UnknownArchitecture)
+        × (found.new ≡ found.old) × (count.new ≡ count.old))
+        (λ architecture.
         AreRecognised architecture r_type original.now offset others.now linked.now found.old
         found.new count.old count.new result) }
-    ensures unknown { IfNone (architecture_of machine) ((result ≡ code Status.UnknownArchitecture)
-        × (found.new ≡ found.old) × (count.new ≡ count.old)) }
 {
     let Some(architecture) = Architecture::from_machine(machine) else {
-        return Status::UnknownArchitecture.number();
+        return Status::UnknownArchitecture as u32;
     };
     recognise_into(
         architecture,
@@ -221,14 +222,14 @@ fn recognise_into(
         found.new count.old count.new result }
 {
     if found.len() != CANDIDATES {
-        return Status::DifferentLengths.number();
+        return Status::DifferentLengths as u32;
     }
     if original.len() > MAX_WINDOW {
-        return Status::WindowTooLong.number();
+        return Status::WindowTooLong as u32;
     }
     let made = recognise(architecture, r_type, original, offset, others, linked);
     *count = write_found(&made, found);
-    Status::Success.number()
+    Status::Success as u32
 }
 
 /// Writes the choice that `linker_utils_choose` makes by these facts, if it leaves the linked
@@ -245,17 +246,18 @@ pub extern "C" fn linker_utils_recognise_chosen_nonnull(
     facts: &LinkFactNumbers,
     found: &mut RecognisedNumbers,
 ) -> u32
-    ensures known { IfSome (architecture_of machine) (λ architecture.
+    ensures { MatchOption (architecture_of machine)
+        ((result ≡ code Status.UnknownArchitecture)
+        × (found.new ≡ found.old))
+        (λ architecture.
         IsRecognised architecture r_type original.now offset others.now linked.now
         (facts_of facts.now) found.old found.new result) }
-    ensures unknown { IfNone (architecture_of machine) ((result ≡ code Status.UnknownArchitecture)
-        × (found.new ≡ found.old)) }
 {
     let Some(architecture) = Architecture::from_machine(machine) else {
-        return Status::UnknownArchitecture.number();
+        return Status::UnknownArchitecture as u32;
     };
     if original.len() > MAX_WINDOW {
-        return Status::WindowTooLong.number();
+        return Status::WindowTooLong as u32;
     }
     put_chosen(
         recognise_chosen(
@@ -278,9 +280,9 @@ fn put_chosen(made: Option<Recognised<Relaxation, u32>>, found: &mut RecognisedN
     match made {
         Some(made) => {
             *found = numbers_of(made);
-            Status::Success.number()
+            Status::Success as u32
         }
-        None => Status::LeavesOtherBytes.number(),
+        None => Status::LeavesOtherBytes as u32,
     }
 }
 
@@ -331,9 +333,9 @@ fn put_destination(
     match found {
         Some(found) => {
             *destination = destination_in(&found, st_other);
-            Status::Success.number()
+            Status::Success as u32
         }
-        None => Status::NoAddress.number(),
+        None => Status::NoAddress as u32,
     }
 }
 
@@ -354,7 +356,7 @@ fn put_destination_of(
 {
     let choice = &made.choice;
     let Some(kind) = Relaxation::from_number(architecture, choice.rewrite, choice.opcode_len) else {
-        return Status::UnknownRewrite.number();
+        return Status::UnknownRewrite as u32;
     };
     let made = Recognised {
         choice: Choice {
@@ -385,17 +387,18 @@ pub extern "C" fn linker_utils_get_destination_nonnull(
     st_other: u8,
     destination: &mut DestinationNumbers,
 ) -> u32
-    ensures known { IfSome (architecture_of machine) (λ architecture.
+    ensures { MatchOption (architecture_of machine)
+        ((result ≡ code Status.UnknownArchitecture)
+        × (destination.new ≡ destination.old))
+        (λ architecture.
         IsDestinationReturned architecture made.now original.now offset
         operands.now st_other destination.old destination.new result) }
-    ensures unknown { IfNone (architecture_of machine) ((result ≡ code Status.UnknownArchitecture)
-        × (destination.new ≡ destination.old)) }
 {
     let Some(architecture) = Architecture::from_machine(machine) else {
-        return Status::UnknownArchitecture.number();
+        return Status::UnknownArchitecture as u32;
     };
     if original.len() > MAX_WINDOW {
-        return Status::WindowTooLong.number();
+        return Status::WindowTooLong as u32;
     }
     put_destination_of(
         architecture,

@@ -1,7 +1,7 @@
 //! A run of items that is relaxed, in arrays of the caller's.
 
 ghost use Rattle.std.specs.Prelude.{◌≡◌, ◌≢◌, ◌+◌, ◌-◌, ◌^◌, ◌<◌, ◌≤◌, ◌↔◌, ◌⊎◌, ℕ, IsTrue};
-ghost use Rattle.std.specs.Prelude.{IfSome, IfNone, length, take, slice_index_or};
+ghost use Rattle.std.specs.Prelude.{MatchOption, length, take, slice_index_or};
 ghost use Rattle.linker_runs.specs.Relaxing.{AreInOrder};
 ghost use Rattle.linker_runs.specs.Choosing.{AreItems, IsRelaxation};
 ghost use Rattle.linker_runs.specs.Deleting.{deletions_of_run};
@@ -105,25 +105,24 @@ impl AsItem for ItemNumbers {
 fn status_of(fault: Fault) -> u32
     ensures { result ≡ code (fault_status fault) }
 {
-    let status = match fault {
-        Fault::Overlaps => Status::ItemsOverlap,
-        Fault::TooHigh => Status::EndsTooHigh,
-        Fault::TooManyShapes => Status::TooManyShapes,
-        Fault::ShapeTooLong => Status::ShapeTooLong,
-        Fault::ShapesNotAscending => Status::ShapesNotAscending,
-        Fault::BadGranularity => Status::BadGranularity,
-        Fault::BadReach => Status::BadReach,
-        Fault::BadAlignment => Status::BadAlignment,
-        Fault::UnevenShape => Status::UnevenShape,
-        Fault::Misaligned => Status::Misaligned,
-        Fault::AlignmentBelowGranularity => Status::AlignmentBelowGranularity,
-        Fault::UnevenEnd => Status::UnevenEnd,
-        Fault::TooFewNops => Status::TooFewNops,
-        Fault::UnevenNops => Status::UnevenNops,
-        Fault::TargetInside => Status::TargetInside,
-        Fault::MayBeMisaligned => Status::MayBeMisaligned,
-    };
-    status.number()
+    match fault {
+        Fault::Overlaps => Status::ItemsOverlap as u32,
+        Fault::TooHigh => Status::EndsTooHigh as u32,
+        Fault::TooManyShapes => Status::TooManyShapes as u32,
+        Fault::ShapeTooLong => Status::ShapeTooLong as u32,
+        Fault::ShapesNotAscending => Status::ShapesNotAscending as u32,
+        Fault::BadGranularity => Status::BadGranularity as u32,
+        Fault::BadReach => Status::BadReach as u32,
+        Fault::BadAlignment => Status::BadAlignment as u32,
+        Fault::UnevenShape => Status::UnevenShape as u32,
+        Fault::Misaligned => Status::Misaligned as u32,
+        Fault::AlignmentBelowGranularity => Status::AlignmentBelowGranularity as u32,
+        Fault::UnevenEnd => Status::UnevenEnd as u32,
+        Fault::TooFewNops => Status::TooFewNops as u32,
+        Fault::UnevenNops => Status::UnevenNops as u32,
+        Fault::TargetInside => Status::TargetInside as u32,
+        Fault::MayBeMisaligned => Status::MayBeMisaligned as u32,
+    }
 }
 
 #[inline]
@@ -150,17 +149,16 @@ fn shapes_named(number: u32) -> Option<Shapes>
 /// and `_LO12`. The error is `UnknownShapes`, and `shapes` is unchanged then.
 #[unsafe(no_mangle)]
 pub extern "C" fn linker_utils_standard_shapes(number: u32, shapes: &mut Shapes) -> u32
-    ensures known { IfSome (standard_shapes number)
+    ensures { MatchOption (standard_shapes number)
+        ((result ≡ code Status.UnknownShapes) × (shapes.new ≡ shapes.old))
         (λ named. (result ≡ code Status.Success) × (shapes.new ≡ named)) }
-    ensures unknown { IfNone (standard_shapes number)
-        ((result ≡ code Status.UnknownShapes) × (shapes.new ≡ shapes.old)) }
 {
     match shapes_named(number) {
         Some(named) => {
             *shapes = named;
-            Status::Success.number()
+            Status::Success as u32
         }
-        None => Status::UnknownShapes.number(),
+        None => Status::UnknownShapes as u32,
     }
 }
 
@@ -180,7 +178,7 @@ pub extern "C" fn linker_utils_items_relaxable_nonnull(
     ensures faulty_stays { result ≡ code Status.Success → faulty.new ≡ faulty.old }
 {
     match first_faulty(items, start) {
-        None => Status::Success.number(),
+        None => Status::Success as u32,
         Some(found) => {
             *faulty = found.index;
             status_of(found.fault)
@@ -227,12 +225,12 @@ pub extern "C" fn linker_utils_relax_nonnull(
         places.len(),
         freed.len(),
     ) {
-        return Status::DifferentLengths.number();
+        return Status::DifferentLengths as u32;
     }
     match first_faulty(items, start) {
         None => {
             relax_into(items, start, shapes, kept, places, freed);
-            Status::Success.number()
+            Status::Success as u32
         }
         Some(found) => {
             *faulty = found.index;
@@ -276,10 +274,10 @@ pub extern "C" fn linker_utils_run_deltas_nonnull(
         → (deltas.new ≡ deltas.old) × (len.new ≡ len.old) }
 {
     if kept.len() != items.len() || deltas.len() != items.len() {
-        return Status::DifferentLengths.number();
+        return Status::DifferentLengths as u32;
     }
     *len = write_deltas(items, kept, deltas);
-    Status::Success.number()
+    Status::Success as u32
 }
 
 /// The delta of an item of which n bytes stay, after deletions of n bytes.

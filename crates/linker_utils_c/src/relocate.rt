@@ -1,6 +1,6 @@
 //! Relocations: their values, their reach, and writing them.
 
-ghost use Rattle.std.specs.Prelude.{◌≡◌, IfSome, IfNone, Option};
+ghost use Rattle.std.specs.Prelude.{◌≡◌, MatchOption, Option};
 ghost use Rattle.linker_elf.specs.declared.elf.Uleb128Role.{Uleb128Role};
 ghost use Rattle.linker_elf.specs.declared.elf.RelocationKindInfo.{RelocationKindInfo};
 ghost use Rattle.linker_elf.specs.Reach.{reach_of};
@@ -20,13 +20,13 @@ use linker_utils::elf::{
 use linker_utils::utils::{self, Uleb128Error};
 
 #[inline(always)]
-pub(crate) fn value_status(error: FormulaError) -> Status
-    ensures { result ≡ value_status error }
+pub(crate) fn value_status(error: FormulaError) -> u32
+    ensures { result ≡ code (value_status error) }
 {
     match error {
-        FormulaError::NoEntry => Status::NoEntry,
-        FormulaError::NoTlsBase => Status::NoTlsBase,
-        FormulaError::NoValue => Status::NoValue,
+        FormulaError::NoEntry => Status::NoEntry as u32,
+        FormulaError::NoTlsBase => Status::NoTlsBase as u32,
+        FormulaError::NoValue => Status::NoValue as u32,
     }
 }
 
@@ -39,11 +39,11 @@ pub(crate) fn value_by(row: Option<Row>, operands: &Operands, value: &mut i64) -
         Some(row) => match row.value(operands) {
             Ok(number) => {
                 *value = number;
-                Status::Success.number()
+                Status::Success as u32
             }
-            Err(error) => value_status(error).number(),
+            Err(error) => value_status(error),
         },
-        None => Status::UnknownRelocation.number(),
+        None => Status::UnknownRelocation as u32,
     }
 }
 
@@ -56,15 +56,14 @@ pub extern "C" fn linker_utils_value(
     operands: &Operands,
     value: &mut i64,
 ) -> u32
-    ensures known { IfSome (architecture_of machine)
+    ensures { MatchOption (architecture_of machine)
+        ((result ≡ code Status.UnknownArchitecture) × (value.new ≡ value.old))
         (λ architecture. (meaning : Option RelocationKindInfo)
         × IsRow architecture r_type meaning
         × IsValueOf meaning operands.now result value.old value.new) }
-    ensures unknown { IfNone (architecture_of machine)
-        ((result ≡ code Status.UnknownArchitecture) × (value.new ≡ value.old)) }
 {
     let Some(architecture) = Architecture::from_machine(machine) else {
-        return Status::UnknownArchitecture.number();
+        return Status::UnknownArchitecture as u32;
     };
     value_by(architecture.row(r_type), operands, value)
 }
@@ -108,9 +107,9 @@ pub(crate) fn reach_by(row: Option<Row>, reach: &mut Reach) -> u32
     match row {
         Some(row) => {
             *reach = reach_in(&row);
-            Status::Success.number()
+            Status::Success as u32
         }
-        None => Status::UnknownRelocation.number(),
+        None => Status::UnknownRelocation as u32,
     }
 }
 
@@ -118,14 +117,13 @@ pub(crate) fn reach_by(row: Option<Row>, reach: &mut Reach) -> u32
 /// `UnknownRelocation`.
 #[unsafe(no_mangle)]
 pub extern "C" fn linker_utils_reach(machine: u16, r_type: u32, reach: &mut Reach) -> u32
-    ensures known { IfSome (architecture_of machine)
+    ensures { MatchOption (architecture_of machine)
+        ((result ≡ code Status.UnknownArchitecture) × (reach.new ≡ reach.old))
         (λ architecture. (meaning : Option RelocationKindInfo)
         × IsRow architecture r_type meaning × IsReachOf meaning result reach.old reach.new) }
-    ensures unknown { IfNone (architecture_of machine)
-        ((result ≡ code Status.UnknownArchitecture) × (reach.new ≡ reach.old)) }
 {
     let Some(architecture) = Architecture::from_machine(machine) else {
-        return Status::UnknownArchitecture.number();
+        return Status::UnknownArchitecture as u32;
     };
     reach_by(architecture.row(r_type), reach)
 }
@@ -135,11 +133,11 @@ pub(crate) fn status_of(outcome: Result<(), RelocateError>) -> u32
     ensures { result ≡ code (write_status outcome) }
 {
     match outcome {
-        Ok(()) => Status::Success.number(),
-        Err(RelocateError::Unsupported) => Status::Unsupported.number(),
-        Err(RelocateError::TooShort) => Status::TooShort.number(),
-        Err(RelocateError::Misaligned) => Status::Misaligned.number(),
-        Err(RelocateError::OutOfReach) => Status::OutOfReach.number(),
+        Ok(()) => Status::Success as u32,
+        Err(RelocateError::Unsupported) => Status::Unsupported as u32,
+        Err(RelocateError::TooShort) => Status::TooShort as u32,
+        Err(RelocateError::Misaligned) => Status::Misaligned as u32,
+        Err(RelocateError::OutOfReach) => Status::OutOfReach as u32,
     }
 }
 
@@ -150,7 +148,7 @@ pub(crate) fn write_by(row: Option<Row>, value: i64, dest: &mut [u8]) -> u32
 {
     match row {
         Some(row) => status_of(row.write(value, dest)),
-        None => Status::UnknownRelocation.number(),
+        None => Status::UnknownRelocation as u32,
     }
 }
 
@@ -171,13 +169,13 @@ pub extern "C" fn linker_utils_relocate_nonnull(
     value: i64,
     dest: &mut [u8],
 ) -> u32
-    ensures known { IfSome (architecture_of machine) (λ architecture.
+    ensures { MatchOption (architecture_of machine)
+        ((result ≡ code Status.UnknownArchitecture) × (dest.new ≡ dest.old))
+        (λ architecture.
         IsRelocated architecture r_type value dest.old dest.new result) }
-    ensures unknown { IfNone (architecture_of machine)
-        ((result ≡ code Status.UnknownArchitecture) × (dest.new ≡ dest.old)) }
 {
     let Some(architecture) = Architecture::from_machine(machine) else {
-        return Status::UnknownArchitecture.number();
+        return Status::UnknownArchitecture as u32;
     };
     relocate(architecture, r_type, value, dest)
 }
@@ -206,7 +204,7 @@ fn relocate_at(
     ensures { IsRelocatedAt architecture offset r_type value section.old section.new result }
 {
     if (section.len() as u64) < offset {
-        return Status::TooShort.number();
+        return Status::TooShort as u32;
     }
     relocate(architecture, r_type, value, &mut section[offset as usize..])
 }
@@ -230,13 +228,13 @@ fn relocate_all(
             relocation.value,
             section,
         );
-        if status != Status::Success.number() {
+        if status != Status::Success as u32 {
             *faulty = at;
             return status;
         }
         at += 1;
     }
-    Status::Success.number()
+    Status::Success as u32
 }
 
 /// Writes the values of the relocations of one section, in order. It stops at the first that is
@@ -250,15 +248,15 @@ pub extern "C" fn linker_utils_relocate_all_nonnull(
     relocations: &[Relocation],
     faulty: &mut usize,
 ) -> u32
-    ensures known { IfSome (architecture_of machine) (λ architecture.
+    ensures { MatchOption (architecture_of machine)
+        ((result ≡ code Status.UnknownArchitecture) × (section.new ≡ section.old)
+        × (faulty.new ≡ faulty.old))
+        (λ architecture.
         AreRelocatedOrRejected architecture relocations.now section.old section.new
         faulty.old faulty.new result) }
-    ensures unknown { IfNone (architecture_of machine)
-        ((result ≡ code Status.UnknownArchitecture) × (section.new ≡ section.old)
-        × (faulty.new ≡ faulty.old)) }
 {
     let Some(architecture) = Architecture::from_machine(machine) else {
-        return Status::UnknownArchitecture.number();
+        return Status::UnknownArchitecture as u32;
     };
     relocate_all(architecture, section, relocations, faulty)
 }
@@ -267,9 +265,10 @@ pub extern "C" fn linker_utils_relocate_all_nonnull(
 /// every other number of an architecture or a relocation.
 #[unsafe(no_mangle)]
 pub extern "C" fn linker_utils_uleb128_role(machine: u16, r_type: u32) -> u32
-    ensures known { IfSome (architecture_of machine) (λ architecture. (role : Option Uleb128Role)
+    ensures { MatchOption (architecture_of machine)
+        (result ≡ 0)
+        (λ architecture. (role : Option Uleb128Role)
         × IsRole architecture r_type role × (result ≡ role_number role)) }
-    ensures unknown { IfNone (architecture_of machine) (result ≡ 0) }
 {
     let Some(architecture) = Architecture::from_machine(machine) else {
         return 0;
@@ -287,10 +286,10 @@ pub(crate) fn uleb_status_of(outcome: Result<(), Uleb128Error>) -> u32
     ensures { result ≡ code (uleb_status outcome) }
 {
     match outcome {
-        Ok(()) => Status::Success.number(),
-        Err(Uleb128Error::Ended) => Status::Uleb128Ended.number(),
-        Err(Uleb128Error::TooLarge) => Status::Uleb128TooLarge.number(),
-        Err(Uleb128Error::DoesNotFit) => Status::DoesNotFit.number(),
+        Ok(()) => Status::Success as u32,
+        Err(Uleb128Error::Ended) => Status::Uleb128Ended as u32,
+        Err(Uleb128Error::TooLarge) => Status::Uleb128TooLarge as u32,
+        Err(Uleb128Error::DoesNotFit) => Status::DoesNotFit as u32,
     }
 }
 
@@ -315,18 +314,18 @@ pub extern "C" fn linker_utils_write_uleb128_pair_nonnull(
     first: u64,
     second: u64,
 ) -> u32
-    ensures known { IfSome (architecture_of machine) (λ architecture. (role : Option Uleb128Role)
+    ensures { MatchOption (architecture_of machine)
+        ((result ≡ code Status.UnknownArchitecture) × (dest.new ≡ dest.old))
+        (λ architecture. (role : Option Uleb128Role)
         × IsRole architecture r_type role
         × IsPairReturned role dest.old first second dest.new result) }
-    ensures unknown { IfNone (architecture_of machine)
-        ((result ≡ code Status.UnknownArchitecture) × (dest.new ≡ dest.old)) }
 {
     let Some(architecture) = Architecture::from_machine(machine) else {
-        return Status::UnknownArchitecture.number();
+        return Status::UnknownArchitecture as u32;
     };
     match architecture.write_uleb128_pair(r_type, dest, first, second) {
-        Ok(()) => Status::Success.number(),
-        Err(Uleb128PairError::NotFirst) => Status::UnknownRelocation.number(),
+        Ok(()) => Status::Success as u32,
+        Err(Uleb128PairError::NotFirst) => Status::UnknownRelocation as u32,
         Err(Uleb128PairError::Number(error)) => uleb_status_of(Err(error)),
     }
 }

@@ -1,6 +1,6 @@
 //! What relocations mean, and their names, by `e_machine` and `r_type` of ELF files.
 
-ghost use Rattle.std.specs.Prelude.{◌≡◌, ◌≢◌, ◌≤◌, Option, IfSome, IfNone, length, false};
+ghost use Rattle.std.specs.Prelude.{◌≡◌, ◌≢◌, ◌≤◌, Option, MatchOption, length, false};
 ghost use Rattle.linker_elf.specs.Entries.{IsAnswerOf, IsGotAnswer, IsPltAnswer};
 ghost use Rattle.linker_elf.specs.declared.elf.RelocationKindInfo.{RelocationKindInfo};
 ghost use Rattle.linker_elf.specs.Architectures.{IsRow, IsElfName};
@@ -24,21 +24,20 @@ pub extern "C" fn linker_utils_relocation(
     r_type: u32,
     info: &mut RelocationNumbers,
 ) -> u32
-    ensures known { IfSome (architecture_of machine)
+    ensures { MatchOption (architecture_of machine)
+        ((result ≡ code Status.UnknownArchitecture) × (info.new ≡ info.old))
         (λ architecture. (meaning : Option RelocationKindInfo)
         × IsRow architecture r_type meaning × IsReturned meaning result info.old info.new) }
-    ensures unknown { IfNone (architecture_of machine)
-        ((result ≡ code Status.UnknownArchitecture) × (info.new ≡ info.old)) }
 {
     let Some(architecture) = Architecture::from_machine(machine) else {
-        return Status::UnknownArchitecture.number();
+        return Status::UnknownArchitecture as u32;
     };
     match architecture.row(r_type) {
         Some(row) => {
             *info = *row.numbers();
-            Status::Success.number()
+            Status::Success as u32
         }
-        None => Status::UnknownRelocation.number(),
+        None => Status::UnknownRelocation as u32,
     }
 }
 
@@ -54,10 +53,10 @@ pub extern "C" fn linker_utils_clui_rel_info(info: &mut RelocationNumbers)
 /// False where either is unknown.
 #[unsafe(no_mangle)]
 pub extern "C" fn linker_utils_asks_for_got(machine: u16, r_type: u32) -> bool
-    ensures known { IfSome (architecture_of machine)
+    ensures { MatchOption (architecture_of machine)
+        (result ≡ false)
         (λ architecture. (meaning : Option RelocationKindInfo)
         × IsRow architecture r_type meaning × IsAnswerOf IsGotAnswer meaning result) }
-    ensures unknown { IfNone (architecture_of machine) (result ≡ false) }
 {
     match Architecture::from_machine(machine) {
         Some(architecture) => architecture.asks_for_got(r_type),
@@ -69,10 +68,10 @@ pub extern "C" fn linker_utils_asks_for_got(machine: u16, r_type: u32) -> bool
 /// with `e_machine` `machine`. False where either is unknown.
 #[unsafe(no_mangle)]
 pub extern "C" fn linker_utils_may_use_plt(machine: u16, r_type: u32) -> bool
-    ensures known { IfSome (architecture_of machine)
+    ensures { MatchOption (architecture_of machine)
+        (result ≡ false)
         (λ architecture. (meaning : Option RelocationKindInfo)
         × IsRow architecture r_type meaning × IsAnswerOf IsPltAnswer meaning result) }
-    ensures unknown { IfNone (architecture_of machine) (result ≡ false) }
 {
     match Architecture::from_machine(machine) {
         Some(architecture) => architecture.may_use_plt(r_type),
@@ -84,9 +83,9 @@ pub extern "C" fn linker_utils_may_use_plt(machine: u16, r_type: u32) -> bool
 /// with `e_machine` `machine`. False where either is unknown.
 #[unsafe(no_mangle)]
 pub extern "C" fn linker_utils_may_be_skipped(machine: u16, r_type: u32) -> bool
-    ensures known { IfSome (architecture_of machine)
+    ensures { MatchOption (architecture_of machine)
+        (result ≡ false)
         (λ architecture. IsSkippable architecture r_type result) }
-    ensures unknown { IfNone (architecture_of machine) (result ≡ false) }
 {
     match Architecture::from_machine(machine) {
         Some(architecture) => may_be_skipped(architecture, r_type),
@@ -105,25 +104,25 @@ pub extern "C" fn linker_utils_relocation_name_nonnull(
     name: &mut [u8],
     name_used: &mut usize,
 ) -> u32
-    ensures known { IfSome (architecture_of machine) (λ architecture. (elf : ElfName)
+    ensures outcome { MatchOption (architecture_of machine)
+        ((result ≡ code Status.UnknownArchitecture) × (name.new ≡ name.old)
+        × (name_used.new ≡ name_used.old))
+        (λ architecture. (elf : ElfName)
         × IsElfName architecture r_type elf
         × IsNameCopied elf name.old name.new name_used.old name_used.new result) }
-    ensures unknown { IfNone (architecture_of machine)
-        ((result ≡ code Status.UnknownArchitecture) × (name.new ≡ name.old)
-        × (name_used.new ≡ name_used.old)) }
     ensures room { 64 ≤ length name.old → result ≢ code Status.TooShort }
 {
     let Some(architecture) = Architecture::from_machine(machine) else {
-        return Status::UnknownArchitecture.number();
+        return Status::UnknownArchitecture as u32;
     };
     let Some(text) = architecture.name(r_type) else {
-        return Status::UnknownRelocation.number();
+        return Status::UnknownRelocation as u32;
     };
     let len = text.len();
     if name.len() < len {
-        return Status::TooShort.number();
+        return Status::TooShort as u32;
     }
     name[..len].copy_from_slice(text.as_bytes());
     *name_used = len;
-    Status::Success.number()
+    Status::Success as u32
 }

@@ -1,11 +1,11 @@
 //! Rewrites of instructions, by `e_machine` and a rewrite's number.
 
-ghost use Rattle.std.specs.Prelude.{◌≡◌, ◌≢◌, IfOk, IfErr, IfSome, IfNone, slice_get};
+ghost use Rattle.std.specs.Prelude.{◌≡◌, ◌≢◌, MatchOption, MatchResult, slice_get};
 ghost use Rattle.linker_base.specs.Rewrite.{CanRewrite};
 ghost use Rattle.linker_utils.specs.RiscVRewrites.{riscv_rewrite, riscv_rewrites};
 ghost use Rattle.linker_utils.specs.Relaxations.{relaxation_rewrite, relaxation_modifier};
 ghost use Rattle.linker_utils_c.specs.Rewrites.{named_rewrite, modifier_number, TakesRewrite};
-ghost use Rattle.linker_utils_c.specs.Rewrites.{IsRewritten, MatchesRewrite};
+ghost use Rattle.linker_utils_c.specs.Rewrites.{IsApplied, MatchesRewrite};
 ghost use Rattle.linker_base.specs.RewriteWindow.{window_of_rewrite};
 ghost use Rattle.linker_utils_c.specs.Status.{code};
 
@@ -18,18 +18,17 @@ use linker_utils::{riscv64, x86_64};
 
 // Whether a rewrite, if there is one, can be applied.
 #[inline(always)]
-fn test_by<R: InstructionRewrite>(rewrite: Option<R>, section: &[u8], offset: u64) -> Status
-    ensures known { IfSome rewrite (λ named.
-        TakesRewrite (R.rewrite named) section.now offset (code result)) }
-    ensures unknown { IfNone rewrite (result ≡ Status.UnknownRewrite) }
+fn test_by<R: InstructionRewrite>(rewrite: Option<R>, section: &[u8], offset: u64) -> u32
+    ensures { MatchOption rewrite (result ≡ code Status.UnknownRewrite)
+        (λ named. TakesRewrite (R.rewrite named) section.now offset result) }
 {
     let Some(named) = rewrite else {
-        return Status::UnknownRewrite;
+        return Status::UnknownRewrite as u32;
     };
     if !named.can_apply(section, offset) {
-        return Status::CannotApply;
+        return Status::CannotApply as u32;
     }
-    Status::Success
+    Status::Success as u32
 }
 
 // Applies a rewrite, if there is one.
@@ -39,42 +38,32 @@ fn apply_by<R: InstructionRewrite>(
     section: &mut [u8],
     offset: &mut u64,
     addend: &mut i64,
-) -> Status
-    ensures known { IfSome rewrite (λ named.
-        TakesRewrite (R.rewrite named) section.old offset.old (code result)) }
-    ensures rewritten { IfSome rewrite (λ named. result ≡ Status.Success
-        → IsRewritten (R.rewrite named) section.old section.new offset.old offset.new
-        addend.old addend.new) }
-    ensures unknown { IfNone rewrite (result ≡ Status.UnknownRewrite) }
-    ensures section_stays { result ≢ Status.Success → section.new ≡ section.old }
-    ensures offset_stays { result ≢ Status.Success → offset.new ≡ offset.old }
-    ensures addend_stays { result ≢ Status.Success → addend.new ≡ addend.old }
+) -> u32
+    ensures outcome { MatchOption rewrite (result ≡ code Status.UnknownRewrite)
+        (λ named. IsApplied (R.rewrite named) section.old section.new offset.old offset.new
+        addend.old addend.new result) }
+    ensures unchanged { result ≢ code Status.Success → (section.new ≡ section.old)
+        × (offset.new ≡ offset.old) × (addend.new ≡ addend.old) }
 {
     let Some(named) = rewrite else {
-        return Status::UnknownRewrite;
+        return Status::UnknownRewrite as u32;
     };
     if !named.can_apply(section, *offset) {
-        return Status::CannotApply;
+        return Status::CannotApply as u32;
     }
     named.apply(section, offset, addend);
-    Status::Success
+    Status::Success as u32
 }
 
 // Applies a rewrite of RISC-V. It isn't inlined, so that `linker_utils_apply` stays small: the kit
 // drops `inline(always)` of very large functions.
 #[inline(never)]
 fn apply_riscv(rewrite: u32, section: &mut [u8], offset: &mut u64, addend: &mut i64) -> u32
-    ensures known { IfSome (slice_get riscv_rewrites rewrite)
-        (λ named. TakesRewrite (riscv_rewrite named) section.old offset.old result) }
-    ensures rewritten { IfSome (slice_get riscv_rewrites rewrite)
-        (λ named. result ≡ code Status.Success
-        → IsRewritten (riscv_rewrite named) section.old section.new
-        offset.old offset.new addend.old addend.new) }
-    ensures unknown { IfNone (slice_get riscv_rewrites rewrite)
-        (result ≡ code Status.UnknownRewrite) }
-    ensures section_stays { result ≢ code Status.Success → section.new ≡ section.old }
-    ensures offset_stays { result ≢ code Status.Success → offset.new ≡ offset.old }
-    ensures addend_stays { result ≢ code Status.Success → addend.new ≡ addend.old }
+    ensures outcome { MatchOption (slice_get riscv_rewrites rewrite)
+        (result ≡ code Status.UnknownRewrite) (λ named. IsApplied (riscv_rewrite named)
+        section.old section.new offset.old offset.new addend.old addend.new result) }
+    ensures unchanged { result ≢ code Status.Success → (section.new ≡ section.old)
+        × (offset.new ≡ offset.old) × (addend.new ≡ addend.old) }
 {
     apply_by(
         riscv64::RewriteKind::from_number(rewrite),
@@ -82,7 +71,6 @@ fn apply_riscv(rewrite: u32, section: &mut [u8], offset: &mut u64, addend: &mut 
         offset,
         addend,
     )
-    .number()
 }
 
 // Applies a rewrite of x86-64. It isn't inlined, so that `linker_utils_apply` stays small. In this
@@ -95,16 +83,11 @@ fn apply_x86_64(
     addend: &mut i64,
     offset: &mut u64,
 ) -> u32
-    ensures known { IfOk (named_rewrite 62 rewrite opcode_len)
-        (λ named. TakesRewrite (relaxation_rewrite named) section.old offset.old result) }
-    ensures rewritten { IfOk (named_rewrite 62 rewrite opcode_len)
-        (λ named. result ≡ code Status.Success
-        → IsRewritten (relaxation_rewrite named) section.old section.new
-        offset.old offset.new addend.old addend.new) }
-    ensures unknown { IfErr (named_rewrite 62 rewrite opcode_len) (λ status. result ≡ code status) }
-    ensures section_stays { result ≢ code Status.Success → section.new ≡ section.old }
-    ensures offset_stays { result ≢ code Status.Success → offset.new ≡ offset.old }
-    ensures addend_stays { result ≢ code Status.Success → addend.new ≡ addend.old }
+    ensures outcome { MatchResult (named_rewrite 62 rewrite opcode_len)
+        (λ named. IsApplied (relaxation_rewrite named) section.old section.new offset.old offset.new
+        addend.old addend.new result) (λ status. result ≡ code status) }
+    ensures unchanged { result ≢ code Status.Success → (section.new ≡ section.old)
+        × (offset.new ≡ offset.old) × (addend.new ≡ addend.old) }
 {
     apply_by(
         x86_64::RewriteKind::from_number(rewrite, opcode_len),
@@ -112,7 +95,6 @@ fn apply_x86_64(
         offset,
         addend,
     )
-    .number()
 }
 
 // Applies the rewrite of a machine and a number, if there is one.
@@ -125,26 +107,20 @@ fn apply_of(
     offset: &mut u64,
     addend: &mut i64,
 ) -> u32
-    ensures known { IfOk (named_rewrite machine rewrite opcode_len)
-        (λ named. TakesRewrite (relaxation_rewrite named) section.old offset.old result) }
-    ensures rewritten { IfOk (named_rewrite machine rewrite opcode_len)
-        (λ named. result ≡ code Status.Success
-        → IsRewritten (relaxation_rewrite named) section.old section.new
-        offset.old offset.new addend.old addend.new) }
-    ensures unknown { IfErr (named_rewrite machine rewrite opcode_len)
-        (λ status. result ≡ code status) }
-    ensures section_stays { result ≢ code Status.Success → section.new ≡ section.old }
-    ensures offset_stays { result ≢ code Status.Success → offset.new ≡ offset.old }
-    ensures addend_stays { result ≢ code Status.Success → addend.new ≡ addend.old }
+    ensures outcome { MatchResult (named_rewrite machine rewrite opcode_len)
+        (λ named. IsApplied (relaxation_rewrite named) section.old section.new offset.old offset.new
+        addend.old addend.new result) (λ status. result ≡ code status) }
+    ensures unchanged { result ≢ code Status.Success → (section.new ≡ section.old)
+        × (offset.new ≡ offset.old) × (addend.new ≡ addend.old) }
 {
     let Some(architecture) = Architecture::from_machine(machine) else {
-        return Status::UnknownArchitecture.number();
+        return Status::UnknownArchitecture as u32;
     };
     match architecture {
         Architecture::RiscV => apply_riscv(rewrite, section, offset, addend),
         Architecture::X86_64 => apply_x86_64(opcode_len, rewrite, section, addend, offset),
         _ => by_architecture!(architecture, known(of => {
-            apply_by(Relaxation::from_number(of, rewrite, opcode_len), section, offset, addend).number()
+            apply_by(Relaxation::from_number(of, rewrite, opcode_len), section, offset, addend)
         })),
     }
 }
@@ -159,17 +135,11 @@ fn apply_any(
     offset: &mut u64,
     addend: &mut i64,
 ) -> u32
-    ensures known { IfOk (named_rewrite machine rewrite opcode_len)
-        (λ named. TakesRewrite (relaxation_rewrite named) section.old offset.old result) }
-    ensures rewritten { IfOk (named_rewrite machine rewrite opcode_len)
-        (λ named. result ≡ code Status.Success
-        → IsRewritten (relaxation_rewrite named) section.old section.new
-        offset.old offset.new addend.old addend.new) }
-    ensures unknown { IfErr (named_rewrite machine rewrite opcode_len)
-        (λ status. result ≡ code status) }
-    ensures section_stays { result ≢ code Status.Success → section.new ≡ section.old }
-    ensures offset_stays { result ≢ code Status.Success → offset.new ≡ offset.old }
-    ensures addend_stays { result ≢ code Status.Success → addend.new ≡ addend.old }
+    ensures outcome { MatchResult (named_rewrite machine rewrite opcode_len)
+        (λ named. IsApplied (relaxation_rewrite named) section.old section.new offset.old offset.new
+        addend.old addend.new result) (λ status. result ≡ code status) }
+    ensures unchanged { result ≢ code Status.Success → (section.new ≡ section.old)
+        × (offset.new ≡ offset.old) × (addend.new ≡ addend.old) }
 {
     apply_of(machine, rewrite, opcode_len, section, offset, addend)
 }
@@ -193,16 +163,15 @@ pub extern "C" fn linker_utils_can_apply_nonnull(
     section: &[u8],
     offset: u64,
 ) -> u32
-    ensures known { IfOk (named_rewrite machine rewrite opcode_len)
-        (λ named. TakesRewrite (relaxation_rewrite named) section.now offset result) }
-    ensures unknown { IfErr (named_rewrite machine rewrite opcode_len)
+    ensures { MatchResult (named_rewrite machine rewrite opcode_len)
+        (λ named. TakesRewrite (relaxation_rewrite named) section.now offset result)
         (λ status. result ≡ code status) }
 {
     let Some(architecture) = Architecture::from_machine(machine) else {
-        return Status::UnknownArchitecture.number();
+        return Status::UnknownArchitecture as u32;
     };
     by_architecture!(architecture, known(of => {
-        test_by(Relaxation::from_number(of, rewrite, opcode_len), section, offset).number()
+        test_by(Relaxation::from_number(of, rewrite, opcode_len), section, offset)
     }))
 }
 
@@ -217,24 +186,22 @@ pub extern "C" fn linker_utils_matches_nonnull(
     section: &[u8],
     offset: u64,
 ) -> u32
-    ensures known { IfOk (named_rewrite machine rewrite opcode_len)
-        (λ named. MatchesRewrite named section.now offset result) }
-    ensures rewritable { IfOk (named_rewrite machine rewrite opcode_len)
-        (λ named. result ≡ code Status.Success
-        → CanRewrite (relaxation_rewrite named) section.now offset) }
-    ensures unknown { IfErr (named_rewrite machine rewrite opcode_len)
+    ensures { MatchResult (named_rewrite machine rewrite opcode_len)
+        (λ named. MatchesRewrite named section.now offset result
+        × (result ≡ code Status.Success
+        → CanRewrite (relaxation_rewrite named) section.now offset))
         (λ status. result ≡ code status) }
 {
     let Some(architecture) = Architecture::from_machine(machine) else {
-        return Status::UnknownArchitecture.number();
+        return Status::UnknownArchitecture as u32;
     };
     let Some(named) = Relaxation::from_number(architecture, rewrite, opcode_len) else {
-        return Status::UnknownRewrite.number();
+        return Status::UnknownRewrite as u32;
     };
     if !named.matches(section, offset) {
-        return Status::DoesNotMatch.number();
+        return Status::DoesNotMatch as u32;
     }
-    Status::Success.number()
+    Status::Success as u32
 }
 
 /// Rewrites the instruction at an offset of a section, and sets the offset and the addend to those
@@ -249,17 +216,11 @@ pub extern "C" fn linker_utils_apply_nonnull(
     offset: &mut u64,
     addend: &mut i64,
 ) -> u32
-    ensures known { IfOk (named_rewrite machine rewrite opcode_len)
-        (λ named. TakesRewrite (relaxation_rewrite named) section.old offset.old result) }
-    ensures rewritten { IfOk (named_rewrite machine rewrite opcode_len)
-        (λ named. result ≡ code Status.Success
-        → IsRewritten (relaxation_rewrite named) section.old section.new
-        offset.old offset.new addend.old addend.new) }
-    ensures unknown { IfErr (named_rewrite machine rewrite opcode_len)
-        (λ status. result ≡ code status) }
-    ensures section_stays { result ≢ code Status.Success → section.new ≡ section.old }
-    ensures offset_stays { result ≢ code Status.Success → offset.new ≡ offset.old }
-    ensures addend_stays { result ≢ code Status.Success → addend.new ≡ addend.old }
+    ensures outcome { MatchResult (named_rewrite machine rewrite opcode_len)
+        (λ named. IsApplied (relaxation_rewrite named) section.old section.new offset.old offset.new
+        addend.old addend.new result) (λ status. result ≡ code status) }
+    ensures unchanged { result ≢ code Status.Success → (section.new ≡ section.old)
+        × (offset.new ≡ offset.old) × (addend.new ≡ addend.old) }
 {
     // Most relocations take rewrite 0, which changes nothing except on x86-64. So 0 needs no jump
     // through a table, and no room on the stack.
@@ -281,20 +242,19 @@ pub extern "C" fn linker_utils_rewrite_window(
     opcode_len: u8,
     window: &mut RewriteWindow,
 ) -> u32
-    ensures found { IfOk (named_rewrite machine rewrite opcode_len)
+    ensures { MatchResult (named_rewrite machine rewrite opcode_len)
         (λ named. (result ≡ code Status.Success)
-        × (window.new ≡ window_of_rewrite (relaxation_rewrite named))) }
-    ensures unknown { IfErr (named_rewrite machine rewrite opcode_len)
+        × (window.new ≡ window_of_rewrite (relaxation_rewrite named)))
         (λ status. (result ≡ code status) × (window.new ≡ window.old)) }
 {
     let Some(architecture) = Architecture::from_machine(machine) else {
-        return Status::UnknownArchitecture.number();
+        return Status::UnknownArchitecture as u32;
     };
     let Some(named) = Relaxation::from_number(architecture, rewrite, opcode_len) else {
-        return Status::UnknownRewrite.number();
+        return Status::UnknownRewrite as u32;
     };
     *window = named.window();
-    Status::Success.number()
+    Status::Success as u32
 }
 
 /// What becomes of the relocation after that of the rewritten instruction, into `modifier`: 0 where
@@ -307,18 +267,17 @@ pub extern "C" fn linker_utils_next_modifier(
     opcode_len: u8,
     modifier: &mut u32,
 ) -> u32
-    ensures found { IfOk (named_rewrite machine rewrite opcode_len)
+    ensures { MatchResult (named_rewrite machine rewrite opcode_len)
         (λ named. (result ≡ code Status.Success)
-        × (modifier.new ≡ modifier_number (relaxation_modifier named))) }
-    ensures unknown { IfErr (named_rewrite machine rewrite opcode_len)
+        × (modifier.new ≡ modifier_number (relaxation_modifier named)))
         (λ status. (result ≡ code status) × (modifier.new ≡ modifier.old)) }
 {
     let Some(architecture) = Architecture::from_machine(machine) else {
-        return Status::UnknownArchitecture.number();
+        return Status::UnknownArchitecture as u32;
     };
     let Some(named) = Relaxation::from_number(architecture, rewrite, opcode_len) else {
-        return Status::UnknownRewrite.number();
+        return Status::UnknownRewrite as u32;
     };
     *modifier = number_of(named.next_modifier());
-    Status::Success.number()
+    Status::Success as u32
 }

@@ -1,6 +1,6 @@
 //! The rewrites of a section in one call, before addresses are known and once they are.
 
-ghost use Rattle.std.specs.Prelude.{◌≡◌, ◌/◌, ℕ, length, IfSome, IfNone, Some, false, OnOk, OnErr};
+ghost use Rattle.std.specs.Prelude.{◌≡◌, ◌/◌, ℕ, length, Some, false, OnOk, OnErr, MatchOption};
 ghost use Rattle.linker_output.specs.Addresses.{entry_code_of};
 ghost use Rattle.linker_output.specs.Targets.{target_of};
 ghost use Rattle.linker_rewriting.specs.Agreement.{Agree, IsContradiction};
@@ -224,14 +224,16 @@ fn phase_of(number: u32) -> Option<Phase>
 /// of a machine or a phase that isn't known.
 #[unsafe(no_mangle)]
 pub extern "C" fn linker_utils_has_rewrites(machine: u16, phase: u32) -> bool
-    ensures known { IfSome (architecture_of machine) (λ architecture. IfSome (phase_of phase)
+    ensures { MatchOption (architecture_of machine) (result ≡ false)
+        (λ architecture. MatchOption (phase_of phase) (result ≡ false)
         (λ when. result ≡ has_rewrites architecture when)) }
-    ensures unknown_machine { IfNone (architecture_of machine) (result ≡ false) }
-    ensures unknown_phase { IfNone (phase_of phase) (result ≡ false) }
 {
-    match (Architecture::from_machine(machine), phase_of(phase)) {
-        (Some(architecture), Some(phase)) => has_rewrites(architecture, phase),
-        _ => false,
+    let Some(architecture) = Architecture::from_machine(machine) else {
+        return false;
+    };
+    match phase_of(phase) {
+        Some(phase) => has_rewrites(architecture, phase),
+        None => false,
     }
 }
 
@@ -246,17 +248,17 @@ pub extern "C" fn linker_utils_survey_nonnull(
     section: &[u8],
     kept: &mut [UnrelaxableGroups],
 ) -> u32
-    ensures known { IfSome (architecture_of machine) (λ architecture. (result ≡ code Status.Success)
+    ensures { MatchOption (architecture_of machine)
+        ((result ≡ code Status.UnknownArchitecture) × (kept.new ≡ kept.old))
+        (λ architecture. (result ≡ code Status.Success)
         × IsSurveyed architecture output.now symbols.now relocations.now section.now kept.old
         kept.new (length relocations.now / 24)) }
-    ensures unknown { IfNone (architecture_of machine)
-        ((result ≡ code Status.UnknownArchitecture) × (kept.new ≡ kept.old)) }
 {
     let Some(architecture) = Architecture::from_machine(machine) else {
-        return Status::UnknownArchitecture.number();
+        return Status::UnknownArchitecture as u32;
     };
     survey(architecture, output, symbols, relocations, section, kept);
-    Status::Success.number()
+    Status::Success as u32
 }
 
 /// Notes which groups of an object stay in a phase once addresses are known, by one of its
@@ -274,22 +276,21 @@ pub extern "C" fn linker_utils_survey_placed_section_nonnull(
     section: &[u8],
     kept: &mut [UnrelaxableGroups],
 ) -> u32
-    ensures known { IfSome (architecture_of machine) (λ architecture. IfSome (phase_of phase)
+    ensures { MatchOption (architecture_of machine)
+        ((result ≡ code Status.UnknownArchitecture) × (kept.new ≡ kept.old))
+        (λ architecture. MatchOption (phase_of phase)
+        ((result ≡ code Status.UnknownPhase) × (kept.new ≡ kept.old))
         (λ when. IsSurveyReturned (IsSurveyedIn (context architecture when output.now symbols.now
         addresses.now values.now) relocations.now section.now kept.old kept.new
         (length relocations.now / 24) × Agree symbols.now values.now relocations.now)
         ((symbol : ℕ) × IsContradiction symbols.now values.now relocations.now symbol)
         (kept.new ≡ kept.old) result)) }
-    ensures unknown_phase { IfSome (architecture_of machine) (λ _. IfNone (phase_of phase)
-        ((result ≡ code Status.UnknownPhase) × (kept.new ≡ kept.old))) }
-    ensures unknown { IfNone (architecture_of machine)
-        ((result ≡ code Status.UnknownArchitecture) × (kept.new ≡ kept.old)) }
 {
     let Some(architecture) = Architecture::from_machine(machine) else {
-        return Status::UnknownArchitecture.number();
+        return Status::UnknownArchitecture as u32;
     };
     let Some(phase) = phase_of(phase) else {
-        return Status::UnknownPhase.number();
+        return Status::UnknownPhase as u32;
     };
     survey_status(survey_placed_section(
         architecture,
@@ -311,8 +312,8 @@ pub(crate) fn survey_status(surveyed: Result<(), usize>) -> u32
     ensures err { OnErr surveyed (result ≡ code Status.FactsContradict) }
 {
     match surveyed {
-        Ok(()) => Status::Success.number(),
-        Err(_) => Status::FactsContradict.number(),
+        Ok(()) => Status::Success as u32,
+        Err(_) => Status::FactsContradict as u32,
     }
 }
 
@@ -324,18 +325,18 @@ pub(crate) fn put_error(error: RewritingError, faulty: &mut usize) -> u32
     ensures faulty { faulty.new ≡ faulty_after error faulty.old }
 {
     match error {
-        RewritingError::TooShort => Status::ShortMemory.number(),
+        RewritingError::TooShort => Status::ShortMemory as u32,
         RewritingError::NotSurveyed(index) => {
             *faulty = index;
-            Status::NotSurveyed.number()
+            Status::NotSurveyed as u32
         }
         RewritingError::Overlaps(index) => {
             *faulty = index;
-            Status::Overlaps.number()
+            Status::Overlaps as u32
         }
         RewritingError::Contradiction(symbol) => {
             *faulty = symbol;
-            Status::FactsContradict.number()
+            Status::FactsContradict as u32
         }
     }
 }
@@ -359,17 +360,17 @@ pub extern "C" fn linker_utils_rewrite_section_nonnull(
     decisions: &mut [DecisionNumbers],
     faulty: &mut usize,
 ) -> u32
-    ensures known { IfSome (architecture_of machine) (λ architecture.
+    ensures { MatchOption (architecture_of machine)
+        ((result ≡ code Status.UnknownArchitecture) × (relocations.new ≡ relocations.old)
+        × (section.new ≡ section.old) × (decisions.new ≡ decisions.old)
+        × (faulty.new ≡ faulty.old))
+        (λ architecture.
         IsRewriteReturned (pre_layout architecture output.now symbols.now) kept.now relocations.old
         relocations.new section.old section.new decisions.old decisions.new faulty.old faulty.new
         result) }
-    ensures unknown { IfNone (architecture_of machine)
-        ((result ≡ code Status.UnknownArchitecture) × (relocations.new ≡ relocations.old)
-        × (section.new ≡ section.old) × (decisions.new ≡ decisions.old)
-        × (faulty.new ≡ faulty.old)) }
 {
     let Some(architecture) = Architecture::from_machine(machine) else {
-        return Status::UnknownArchitecture.number();
+        return Status::UnknownArchitecture as u32;
     };
     match rewrite_section(
         architecture,
@@ -380,7 +381,7 @@ pub extern "C" fn linker_utils_rewrite_section_nonnull(
         section,
         decisions,
     ) {
-        Ok(()) => Status::Success.number(),
+        Ok(()) => Status::Success as u32,
         Err(error) => put_error(error, faulty),
     }
 }
@@ -398,15 +399,15 @@ pub extern "C" fn linker_utils_decide_rewrites_nonnull(
     decisions: &mut [DecisionNumbers],
     faulty: &mut usize,
 ) -> u32
-    ensures known { IfSome (architecture_of machine) (λ architecture.
+    ensures { MatchOption (architecture_of machine)
+        ((result ≡ code Status.UnknownArchitecture) × (decisions.new ≡ decisions.old)
+        × (faulty.new ≡ faulty.old))
+        (λ architecture.
         IsDecisionReturned (pre_layout architecture output.now symbols.now) kept.now relocations.now
         section.now decisions.old decisions.new faulty.old faulty.new result) }
-    ensures unknown { IfNone (architecture_of machine)
-        ((result ≡ code Status.UnknownArchitecture) × (decisions.new ≡ decisions.old)
-        × (faulty.new ≡ faulty.old)) }
 {
     let Some(architecture) = Architecture::from_machine(machine) else {
-        return Status::UnknownArchitecture.number();
+        return Status::UnknownArchitecture as u32;
     };
     match decide_rewrites(
         architecture,
@@ -417,7 +418,7 @@ pub extern "C" fn linker_utils_decide_rewrites_nonnull(
         section,
         decisions,
     ) {
-        Ok(()) => Status::Success.number(),
+        Ok(()) => Status::Success as u32,
         Err(error) => put_error(error, faulty),
     }
 }
@@ -430,14 +431,14 @@ fn put_making_error(error: DecisionError, faulty: &mut usize) -> u32
     ensures faulty { faulty.new ≡ making_faulty error faulty.old }
 {
     match error {
-        DecisionError::TooShort => Status::ShortMemory.number(),
+        DecisionError::TooShort => Status::ShortMemory as u32,
         DecisionError::Changed(index) => {
             *faulty = index;
-            Status::DoesNotMatch.number()
+            Status::DoesNotMatch as u32
         }
         DecisionError::Overlaps(index) => {
             *faulty = index;
-            Status::Overlaps.number()
+            Status::Overlaps as u32
         }
     }
 }
@@ -459,7 +460,7 @@ pub extern "C" fn linker_utils_make_rewrites_nonnull(
         decisions.now faulty.old faulty.new result }
 {
     match make_rewrites(relocations, section, decisions) {
-        Ok(()) => Status::Success.number(),
+        Ok(()) => Status::Success as u32,
         Err(error) => put_making_error(error, faulty),
     }
 }
@@ -490,27 +491,26 @@ pub extern "C" fn linker_utils_rewrite_placed_section_nonnull(
     deleted_used: &mut usize,
     faulty: &mut usize,
 ) -> u32
-    ensures known { IfSome (architecture_of machine) (λ architecture. IfSome (phase_of phase)
+    ensures { MatchOption (architecture_of machine)
+        ((result ≡ code Status.UnknownArchitecture) × (relocations.new ≡ relocations.old)
+        × (section.new ≡ section.old) × (decisions.new ≡ decisions.old)
+        × (deleted.new ≡ deleted.old) × (deleted_used.new ≡ deleted_used.old)
+        × (faulty.new ≡ faulty.old))
+        (λ architecture. MatchOption (phase_of phase)
+        ((result ≡ code Status.UnknownPhase) × (relocations.new ≡ relocations.old)
+        × (section.new ≡ section.old) × (decisions.new ≡ decisions.old)
+        × (deleted.new ≡ deleted.old) × (deleted_used.new ≡ deleted_used.old)
+        × (faulty.new ≡ faulty.old))
         (λ when. IsPlacedReturned (context architecture when output.now symbols.now addresses.now
         values.now) kept.now relocations.old relocations.new section.old section.new decisions.old
         decisions.new deleted.old deleted.new deleted_used.old deleted_used.new
         faulty.old faulty.new result)) }
-    ensures unknown_phase { IfSome (architecture_of machine) (λ _. IfNone (phase_of phase)
-        ((result ≡ code Status.UnknownPhase) × (relocations.new ≡ relocations.old)
-        × (section.new ≡ section.old) × (decisions.new ≡ decisions.old)
-        × (deleted.new ≡ deleted.old) × (deleted_used.new ≡ deleted_used.old)
-        × (faulty.new ≡ faulty.old))) }
-    ensures unknown { IfNone (architecture_of machine)
-        ((result ≡ code Status.UnknownArchitecture) × (relocations.new ≡ relocations.old)
-        × (section.new ≡ section.old) × (decisions.new ≡ decisions.old)
-        × (deleted.new ≡ deleted.old) × (deleted_used.new ≡ deleted_used.old)
-        × (faulty.new ≡ faulty.old)) }
 {
     let Some(architecture) = Architecture::from_machine(machine) else {
-        return Status::UnknownArchitecture.number();
+        return Status::UnknownArchitecture as u32;
     };
     let Some(phase) = phase_of(phase) else {
-        return Status::UnknownPhase.number();
+        return Status::UnknownPhase as u32;
     };
     match rewrite_placed_section(
         architecture,
@@ -527,7 +527,7 @@ pub extern "C" fn linker_utils_rewrite_placed_section_nonnull(
     ) {
         Ok(len) => {
             *deleted_used = len;
-            Status::Success.number()
+            Status::Success as u32
         }
         Err(error) => put_error(error, faulty),
     }
@@ -548,17 +548,17 @@ pub extern "C" fn linker_utils_survey_toc_loads_nonnull(
     section: &[u8],
     kept: &mut [bool],
 ) -> u32
-    ensures known { IfSome (architecture_of machine) (λ architecture.
+    ensures { MatchOption (architecture_of machine)
+        ((result ≡ code Status.UnknownArchitecture) × (kept.new ≡ kept.old))
+        (λ architecture.
         IsSurveyReturned (AreLoadsSurveyed (context architecture Phase.ShortPcRel output.now
         symbols.now addresses.now values.now) words_start words.now relocations.now section.now
         kept.old kept.new (length relocations.now / 24)
         × Agree symbols.now values.now relocations.now)
         ((symbol : ℕ) × IsContradiction symbols.now values.now relocations.now symbol) (kept.new ≡ kept.old) result) }
-    ensures unknown { IfNone (architecture_of machine)
-        ((result ≡ code Status.UnknownArchitecture) × (kept.new ≡ kept.old)) }
 {
     let Some(architecture) = Architecture::from_machine(machine) else {
-        return Status::UnknownArchitecture.number();
+        return Status::UnknownArchitecture as u32;
     };
     survey_status(survey_toc_loads(
         architecture,
@@ -599,19 +599,19 @@ pub extern "C" fn linker_utils_rewrite_toc_loads_nonnull(
     decisions: &mut [DecisionNumbers],
     faulty: &mut usize,
 ) -> u32
-    ensures known { IfSome (architecture_of machine) (λ architecture.
-        AreLoadsReturned (context architecture Phase.ShortPcRel output.now symbols.now addresses.now
-        values.now) words_start words.now kept.now relocations.old relocations.new section.old
-        section.new decisions.old decisions.new faulty.old faulty.new result) }
-    ensures loads { (architecture : Architecture) (r_type : ℕ)
-        → entry_code_of (target_of architecture).addresses r_type ≡ entry_code architecture r_type }
-    ensures unknown { IfNone (architecture_of machine)
+    ensures rewritten { MatchOption (architecture_of machine)
         ((result ≡ code Status.UnknownArchitecture) × (relocations.new ≡ relocations.old)
         × (section.new ≡ section.old) × (decisions.new ≡ decisions.old)
-        × (faulty.new ≡ faulty.old)) }
+        × (faulty.new ≡ faulty.old))
+        (λ architecture. AreLoadsReturned (context architecture Phase.ShortPcRel output.now
+        symbols.now addresses.now values.now) words_start words.now kept.now relocations.old
+        relocations.new section.old section.new decisions.old decisions.new faulty.old faulty.new
+        result) }
+    ensures loads { (architecture : Architecture) (r_type : ℕ)
+        → entry_code_of (target_of architecture).addresses r_type ≡ entry_code architecture r_type }
 {
     let Some(architecture) = Architecture::from_machine(machine) else {
-        return Status::UnknownArchitecture.number();
+        return Status::UnknownArchitecture as u32;
     };
     match rewrite_toc_loads(
         architecture,
@@ -626,7 +626,7 @@ pub extern "C" fn linker_utils_rewrite_toc_loads_nonnull(
         section,
         decisions,
     ) {
-        Ok(()) => Status::Success.number(),
+        Ok(()) => Status::Success as u32,
         Err(error) => put_error(error, faulty),
     }
 }

@@ -1,6 +1,6 @@
 //! How branches go to their targets.
 
-ghost use Rattle.std.specs.Prelude.{◌≡◌, IfSome, IfNone};
+ghost use Rattle.std.specs.Prelude.{◌≡◌, MatchOption};
 ghost use Rattle.linker_output.specs.Targets.{target_of};
 ghost use Rattle.linker_output.specs.View.{view};
 ghost use Rattle.linker_section.specs.Relocations.{relocation_at};
@@ -81,10 +81,10 @@ fn route_status_of(error: RouteError) -> u32
     ensures { result ≡ code (route_status error) }
 {
     match error {
-        RouteError::NotABranch => Status::NotABranch.number(),
-        RouteError::Value(error) => value_status_of(error).number(),
-        RouteError::NoRoom => Status::NoRoom.number(),
-        RouteError::NoStub => Status::UnknownStub.number(),
+        RouteError::NotABranch => Status::NotABranch as u32,
+        RouteError::Value(error) => value_status_of(error),
+        RouteError::NoRoom => Status::NoRoom as u32,
+        RouteError::NoStub => Status::UnknownStub as u32,
         RouteError::Write(error) => status_of(Err(error)),
     }
 }
@@ -97,7 +97,7 @@ fn put_route(found: Result<Route, RouteError>, route: &mut RouteNumbers) -> u32
     match found {
         Ok(found) => {
             *route = in_numbers(found);
-            Status::Success.number()
+            Status::Success as u32
         }
         Err(error) => route_status_of(error),
     }
@@ -116,14 +116,14 @@ pub extern "C" fn linker_utils_route_at_nonnull(
     section: &[u8],
     route: &mut RouteNumbers,
 ) -> u32
-    ensures known { IfSome (architecture_of machine) (λ architecture.
+    ensures { MatchOption (architecture_of machine)
+        ((result ≡ code Status.UnknownArchitecture) × (route.new ≡ route.old))
+        (λ architecture.
         IsRouteAt (target_of architecture) addresses.now symbols.now
         (relocation_at relocations.now index) section.now result route.old route.new) }
-    ensures unknown { IfNone (architecture_of machine)
-        ((result ≡ code Status.UnknownArchitecture) × (route.new ≡ route.old)) }
 {
     let Some(architecture) = Architecture::from_machine(machine) else {
-        return Status::UnknownArchitecture.number();
+        return Status::UnknownArchitecture as u32;
     };
     let target = Target::of(architecture);
     route_at(
@@ -150,10 +150,10 @@ fn route_at(
         (relocation_at relocations.now index) section.now result route.old route.new }
 {
     let Some(relocation) = relocation_at(relocations, index) else {
-        return Status::TooShort.number();
+        return Status::TooShort as u32;
     };
     let Some(symbol) = symbols.get(relocation.symbol as usize) else {
-        return Status::NoSymbol.number();
+        return Status::NoSymbol as u32;
     };
     put_route(target.route(addresses, symbol, &relocation, section), route)
 }
@@ -170,14 +170,14 @@ pub extern "C" fn linker_utils_route_by_word_nonnull(
     section: &[u8],
     route: &mut RouteNumbers,
 ) -> u32
-    ensures known { IfSome (architecture_of machine) (λ architecture.
+    ensures { MatchOption (architecture_of machine)
+        ((result ≡ code Status.UnknownArchitecture) × (route.new ≡ route.old))
+        (λ architecture.
         IsWordRouteAt (target_of architecture) word (relocation_at relocations.now index)
         section.now result route.old route.new) }
-    ensures unknown { IfNone (architecture_of machine)
-        ((result ≡ code Status.UnknownArchitecture) × (route.new ≡ route.old)) }
 {
     let Some(architecture) = Architecture::from_machine(machine) else {
-        return Status::UnknownArchitecture.number();
+        return Status::UnknownArchitecture as u32;
     };
     route_by_word(
         Target::of(architecture),
@@ -202,6 +202,6 @@ fn route_by_word(
 {
     match relocation_at(relocations, index) {
         Some(relocation) => put_route(target.route_by_word(word, &relocation, section), route),
-        None => Status::TooShort.number(),
+        None => Status::TooShort as u32,
     }
 }

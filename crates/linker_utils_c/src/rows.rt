@@ -1,6 +1,6 @@
 //! Relocations by handles: one look-up by `e_machine` and `r_type`, and all calls by its result.
 
-ghost use Rattle.std.specs.Prelude.{◌≡◌, ◌%◌, IfSome, IfNone, Option, pos, false};
+ghost use Rattle.std.specs.Prelude.{◌≡◌, ◌%◌, MatchOption, Option, pos, false};
 ghost use Rattle.linker_elf.specs.AppliedRows.{IsAppliedIfKnown};
 ghost use Rattle.linker_elf.specs.ElfNames.{ElfName};
 ghost use Rattle.linker_elf.specs.declared.elf.RelocationKindInfo.{RelocationKindInfo};
@@ -41,10 +41,10 @@ fn row_of(handle: u32) -> Option<Row>
 /// architecture isn't known, or no meaning.
 #[unsafe(no_mangle)]
 pub extern "C" fn linker_utils_find(machine: u16, r_type: u32) -> u32
-    ensures known { IfSome (architecture_of machine)
+    ensures { MatchOption (architecture_of machine)
+        (result ≡ 0)
         (λ architecture. (meaning : Option RelocationKindInfo)
         × IsRow architecture r_type meaning × IsFound architecture r_type meaning result) }
-    ensures unknown { IfNone (architecture_of machine) (result ≡ 0) }
 {
     let Some(architecture) = Architecture::from_machine(machine) else {
         return 0;
@@ -78,10 +78,10 @@ fn status_applied(outcome: Option<Result<(), ApplyError>>) -> u32
     ensures { result ≡ code (apply_status outcome) }
 {
     match outcome {
-        Some(Ok(())) => Status::Success.number(),
-        Some(Err(ApplyError::Formula(error))) => value_status(error).number(),
+        Some(Ok(())) => Status::Success as u32,
+        Some(Err(ApplyError::Formula(error))) => value_status(error),
         Some(Err(ApplyError::Write(error))) => status_of(Err(error)),
-        None => Status::UnknownRelocation.number(),
+        None => Status::UnknownRelocation as u32,
     }
 }
 
@@ -139,7 +139,7 @@ pub extern "C" fn linker_utils_row_needs(
             let needs = needs(architecture, handle % HANDLE_UNIT, addend, is_thread_local);
             needs_by(needs, required)
         }
-        None => Status::UnknownRelocation.number(),
+        None => Status::UnknownRelocation as u32,
     }
 }
 
@@ -158,15 +158,15 @@ pub extern "C" fn linker_utils_row_choose_nonnull(
         choice.new }
 {
     let Some(architecture) = Architecture::of_handle(handle) else {
-        return Status::UnknownRelocation.number();
+        return Status::UnknownRelocation as u32;
     };
     let r_type = handle % HANDLE_UNIT;
     match architecture.row(r_type) {
         Some(_) => {
             *choice = choose_in_numbers(architecture, r_type, section, offset, &facts.facts());
-            Status::Success.number()
+            Status::Success as u32
         }
-        None => Status::UnknownRelocation.number(),
+        None => Status::UnknownRelocation as u32,
     }
 }
 
@@ -297,14 +297,14 @@ pub extern "C" fn linker_utils_row_of(handle: u32, row: &mut RowNumbers) -> u32
         row.new }
 {
     let Some(architecture) = Architecture::of_handle(handle) else {
-        return Status::UnknownRelocation.number();
+        return Status::UnknownRelocation as u32;
     };
     let r_type = handle % HANDLE_UNIT;
     match architecture.row(r_type) {
         Some(found) => {
             *row = row_numbers(architecture, r_type, &found);
-            Status::Success.number()
+            Status::Success as u32
         }
-        None => Status::UnknownRelocation.number(),
+        None => Status::UnknownRelocation as u32,
     }
 }

@@ -1,6 +1,6 @@
 //! The items that a section's relocations make, in arrays of the caller's.
 
-ghost use Rattle.std.specs.Prelude.{◌≡◌, ◌≢◌, ◌+◌, ◌↔◌, IsTrue, IfSome, IfNone, length};
+ghost use Rattle.std.specs.Prelude.{◌≡◌, ◌≢◌, ◌+◌, ◌↔◌, IsTrue, MatchOption, length};
 ghost use Rattle.std.specs.Prelude.{take, drop};
 ghost use Rattle.linker_utils_c.specs.Deltas.{pairs_in};
 ghost use Rattle.linker_utils_c.specs.PackRuns.{packing_machine};
@@ -80,13 +80,13 @@ pub extern "C" fn linker_utils_section_items_nonnull(
     len: &mut usize,
     faulty: &mut usize,
 ) -> u32
-    ensures known { IfSome (packing_machine machine) (λ of. AreListedBy
+    ensures outcome { MatchOption (packing_machine machine)
+        (result ≡ code Status.UnknownArchitecture)
+        (λ of. AreListedBy
         (length relocations.now) (length items.old) (length makers.old)
         (base + length section.now) (AreItemsOrMalformed of section.now base
         (relocations_in relocations.now) (take len.new items.new) (take len.new makers.new)
         faulty.new result) result) }
-    ensures unknown { IfNone (packing_machine machine)
-        (result ≡ code Status.UnknownArchitecture) }
     ensures others_stay { result ≡ code Status.Success
         → (drop len.new items.new ≡ drop len.new items.old)
         × (drop len.new makers.new ≡ drop len.new makers.old) }
@@ -95,22 +95,22 @@ pub extern "C" fn linker_utils_section_items_nonnull(
     ensures faulty_stays { result ≢ code Status.MalformedRelocation → faulty.new ≡ faulty.old }
 {
     let Some(of) = packing_machine(machine) else {
-        return Status::UnknownArchitecture.number();
+        return Status::UnknownArchitecture as u32;
     };
     if items.len() != relocations.len() || makers.len() != relocations.len() {
-        return Status::DifferentLengths.number();
+        return Status::DifferentLengths as u32;
     }
     if section.len() as u64 > u64::MAX - base {
-        return Status::EndsTooHigh.number();
+        return Status::EndsTooHigh as u32;
     }
     match section_items_into(of, section, base, relocations, items, makers) {
         Ok(count) => {
             *len = count;
-            Status::Success.number()
+            Status::Success as u32
         }
         Err(index) => {
             *faulty = index;
-            Status::MalformedRelocation.number()
+            Status::MalformedRelocation as u32
         }
     }
 }
@@ -145,13 +145,13 @@ pub extern "C" fn linker_utils_rewritten_items_nonnull(
     len: &mut usize,
     faulty: &mut usize,
 ) -> u32
-    ensures known { IfSome (packing_machine machine) (λ of. AreListedBy
+    ensures outcome { MatchOption (packing_machine machine)
+        (result ≡ code Status.UnknownArchitecture)
+        (λ of. AreListedBy
         (length relocations.now + length deleted.now) (length items.old) (length makers.old)
         (base + length section.now) (AreRewrittenOrFaulty of section.now base
         (relocations_in relocations.now) (pairs_in deleted.now) (take len.new items.new)
         (take len.new makers.new) faulty.new result) result) }
-    ensures unknown { IfNone (packing_machine machine)
-        (result ≡ code Status.UnknownArchitecture) }
     ensures others_stay { result ≡ code Status.Success
         → (drop len.new items.new ≡ drop len.new items.old)
         × (drop len.new makers.new ≡ drop len.new makers.old) }
@@ -163,32 +163,32 @@ pub extern "C" fn linker_utils_rewritten_items_nonnull(
         → faulty.new ≡ faulty.old }
 {
     let Some(of) = packing_machine(machine) else {
-        return Status::UnknownArchitecture.number();
+        return Status::UnknownArchitecture as u32;
     };
     if !has_both(items.len(), relocations.len(), deleted.len())
         || !has_both(makers.len(), relocations.len(), deleted.len())
     {
-        return Status::DifferentLengths.number();
+        return Status::DifferentLengths as u32;
     }
     if section.len() as u64 > u64::MAX - base {
-        return Status::EndsTooHigh.number();
+        return Status::EndsTooHigh as u32;
     }
     match rewritten_items_into(of, section, base, relocations, deleted, items, makers) {
         Ok(count) => {
             *len = count;
-            Status::Success.number()
+            Status::Success as u32
         }
         Err(RewrittenItemsError::Malformed(index)) => {
             *faulty = index;
-            Status::MalformedRelocation.number()
+            Status::MalformedRelocation as u32
         }
         Err(RewrittenItemsError::Misplaced(index)) => {
             *faulty = index;
-            Status::InvalidDeletions.number()
+            Status::InvalidDeletions as u32
         }
         Err(RewrittenItemsError::Overlaps(index)) => {
             *faulty = index;
-            Status::ItemsOverlap.number()
+            Status::ItemsOverlap as u32
         }
     }
 }

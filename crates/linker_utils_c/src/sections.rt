@@ -1,6 +1,6 @@
 //! What a section's relocations require, their values, and writing all of them.
 
-ghost use Rattle.std.specs.Prelude.{◌≡◌, Option, IfSome, IfNone};
+ghost use Rattle.std.specs.Prelude.{◌≡◌, Option, MatchOption};
 ghost use Rattle.linker_elf.specs.declared.elf.RelocationKindInfo.{RelocationKindInfo};
 ghost use Rattle.linker_section.specs.Needed.{needs_in};
 ghost use Rattle.linker_section.specs.Relocations.{relocation_at};
@@ -87,9 +87,9 @@ pub(crate) fn needs_by(needs: Option<Requirements>, required: &mut RequirementNu
     match needs {
         Some(needs) => {
             *required = in_numbers(&needs);
-            Status::Success.number()
+            Status::Success as u32
         }
-        None => Status::UnknownRelocation.number(),
+        None => Status::UnknownRelocation as u32,
     }
 }
 
@@ -104,14 +104,14 @@ pub extern "C" fn linker_utils_needs(
     is_thread_local: bool,
     required: &mut RequirementNumbers,
 ) -> u32
-    ensures known { IfSome (architecture_of machine) (λ architecture.
+    ensures { MatchOption (architecture_of machine)
+        ((result ≡ code Status.UnknownArchitecture) × (required.new ≡ required.old))
+        (λ architecture.
         (row : Option RelocationKindInfo) × IsRow architecture r_type row
         × IsNeedsReturned (needs_in row addend is_thread_local) result required.old required.new) }
-    ensures unknown { IfNone (architecture_of machine)
-        ((result ≡ code Status.UnknownArchitecture) × (required.new ≡ required.old)) }
 {
     let Some(architecture) = Architecture::from_machine(machine) else {
-        return Status::UnknownArchitecture.number();
+        return Status::UnknownArchitecture as u32;
     };
     needs_by(
         needs(architecture, r_type, addend, is_thread_local),
@@ -121,18 +121,18 @@ pub extern "C" fn linker_utils_needs(
 
 /// Why a relocation has no value.
 #[inline(always)]
-pub(crate) fn value_status_of(error: ValueError) -> Status
-    ensures { result ≡ value_status error }
+pub(crate) fn value_status_of(error: ValueError) -> u32
+    ensures { result ≡ code (value_status error) }
 {
     match error {
-        ValueError::UnknownType => Status::UnknownRelocation,
-        ValueError::NoSymbol => Status::NoSymbol,
-        ValueError::NoEntry => Status::NoEntry,
-        ValueError::NoTlsBase => Status::NoTlsBase,
-        ValueError::NoHighPart => Status::NoHighPart,
-        ValueError::NotAligned => Status::NotAligned,
-        ValueError::NeedsStub => Status::NeedsStub,
-        ValueError::OutOfReach => Status::OutOfReach,
+        ValueError::UnknownType => Status::UnknownRelocation as u32,
+        ValueError::NoSymbol => Status::NoSymbol as u32,
+        ValueError::NoEntry => Status::NoEntry as u32,
+        ValueError::NoTlsBase => Status::NoTlsBase as u32,
+        ValueError::NoHighPart => Status::NoHighPart as u32,
+        ValueError::NotAligned => Status::NotAligned as u32,
+        ValueError::NeedsStub => Status::NeedsStub as u32,
+        ValueError::OutOfReach => Status::OutOfReach as u32,
     }
 }
 
@@ -148,25 +148,25 @@ pub extern "C" fn linker_utils_value_at_nonnull(
     index: usize,
     value: &mut i64,
 ) -> u32
-    ensures known { IfSome (architecture_of machine) (λ architecture.
+    ensures { MatchOption (architecture_of machine)
+        ((result ≡ code Status.UnknownArchitecture) × (value.new ≡ value.old))
+        (λ architecture.
         IsValueAt architecture addresses.now relocations.now symbols.now
         (relocation_at relocations.now index) result value.old value.new) }
-    ensures unknown { IfNone (architecture_of machine)
-        ((result ≡ code Status.UnknownArchitecture) × (value.new ≡ value.old)) }
 {
     let Some(architecture) = Architecture::from_machine(machine) else {
-        return Status::UnknownArchitecture.number();
+        return Status::UnknownArchitecture as u32;
     };
     let Some(relocation) = relocation_at(relocations, index) else {
-        return Status::TooShort.number();
+        return Status::TooShort as u32;
     };
     match value_of(architecture, addresses, relocations, symbols, &relocation) {
         Ok(Some(number)) => {
             *value = number;
-            Status::Success.number()
+            Status::Success as u32
         }
-        Ok(None) => Status::NoValue.number(),
-        Err(error) => value_status_of(error).number(),
+        Ok(None) => Status::NoValue as u32,
+        Err(error) => value_status_of(error),
     }
 }
 
@@ -184,9 +184,9 @@ pub(crate) fn status_of_error(error: RelocationError) -> u32
     ensures { result ≡ code (relocation_status error) }
 {
     match error {
-        RelocationError::Value(error) => value_status_of(error).number(),
-        RelocationError::Overlaps => Status::Overlaps.number(),
-        RelocationError::OtherLength => Status::OtherLength.number(),
+        RelocationError::Value(error) => value_status_of(error),
+        RelocationError::Overlaps => Status::Overlaps as u32,
+        RelocationError::OtherLength => Status::OtherLength as u32,
         RelocationError::Write(error) => status_of(Err(error)),
         RelocationError::Uleb128(error) => uleb_status_of(Err(error)),
     }
@@ -205,18 +205,18 @@ pub extern "C" fn linker_utils_relocate_section_nonnull(
     memory: &mut [u64],
     faulty: &mut usize,
 ) -> u32
-    ensures known { IfSome (architecture_of machine) (λ architecture.
+    ensures { MatchOption (architecture_of machine)
+        ((result ≡ code Status.UnknownArchitecture) × (section.new ≡ section.old)
+        × (faulty.new ≡ faulty.old))
+        (λ architecture.
         IsSectionReturned architecture addresses.now relocations.now symbols.now section.old
         section.new memory.old faulty.old faulty.new result) }
-    ensures unknown { IfNone (architecture_of machine)
-        ((result ≡ code Status.UnknownArchitecture) × (section.new ≡ section.old)
-        × (faulty.new ≡ faulty.old)) }
 {
     let Some(architecture) = Architecture::from_machine(machine) else {
-        return Status::UnknownArchitecture.number();
+        return Status::UnknownArchitecture as u32;
     };
     if memory.len() < memory_len(relocations) {
-        return Status::ShortMemory.number();
+        return Status::ShortMemory as u32;
     }
     match relocate_section(
         architecture,
@@ -226,7 +226,7 @@ pub extern "C" fn linker_utils_relocate_section_nonnull(
         section,
         memory,
     ) {
-        Ok(()) => Status::Success.number(),
+        Ok(()) => Status::Success as u32,
         Err(error) => {
             *faulty = error.index;
             status_of_error(error.error)

@@ -26,13 +26,13 @@ pub extern "C" fn linker_utils_write_mov_sequence_nonnull(
     ensures unchanged { result ≢ code Status.Success → dest.new ≡ dest.old }
 {
     if dest.len() < 16 {
-        return Status::TooShort.number();
+        return Status::TooShort as u32;
     }
     if rd > 30 {
-        return Status::BadRegister.number();
+        return Status::BadRegister as u32;
     }
     aarch64::write_mov_sequence(dest, rd, value);
-    Status::Success.number()
+    Status::Success as u32
 }
 
 /// LoongArch: makes the five instructions compute the address `target`, with the first at
@@ -48,10 +48,10 @@ pub extern "C" fn linker_utils_write_address_sequence_nonnull(
     ensures unchanged { result ≢ code Status.Success → dest.new ≡ dest.old }
 {
     if dest.len() < 20 {
-        return Status::TooShort.number();
+        return Status::TooShort as u32;
     }
     loongarch64::write_address_sequence(dest, pc, target);
-    Status::Success.number()
+    Status::Success as u32
 }
 
 /// LoongArch: the number whose bits 32 to 51 and 52 to 63 complete the address `s`, relative to
@@ -77,8 +77,8 @@ pub extern "C" fn linker_utils_write_ha_lo_nonnull(ha: &mut [u8], lo: &mut [u8],
     ensures lo_unchanged { result ≢ code Status.Success → lo.new ≡ lo.old }
 {
     if ha.len() < 4 || lo.len() < 4 {
-        return Status::TooShort.number();
+        return Status::TooShort as u32;
     }
     ppc64::write_ha_lo(ha, lo, value);
-    Status::Success.number()
+    Status::Success as u32
 }

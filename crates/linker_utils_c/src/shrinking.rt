@@ -33,9 +33,9 @@ pub extern "C" fn linker_utils_calls_shrinkable_nonnull(
     match first_not_shrinkable(deltas, calls) {
         Some(index) => {
             *faulty = index;
-            Status::CallsNotShrinkable.number()
+            Status::CallsNotShrinkable as u32
         }
-        None => Status::Success.number(),
+        None => Status::Success as u32,
     }
 }
 
@@ -68,12 +68,12 @@ pub extern "C" fn linker_utils_shrink_calls_nonnull(
     ensures faulty_stays { result ≢ code Status.CallsNotShrinkable → faulty.new ≡ faulty.old }
 {
     if chosen.len() != calls.len() {
-        return Status::DifferentLengths.number();
+        return Status::DifferentLengths as u32;
     }
     if let Some(index) = first_not_shrinkable(deltas, calls) {
         *faulty = index;
-        return Status::CallsNotShrinkable.number();
+        return Status::CallsNotShrinkable as u32;
     }
     shrink_calls_into(deltas, calls, chosen);
-    Status::Success.number()
+    Status::Success as u32
 }

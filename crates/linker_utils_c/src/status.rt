@@ -1,10 +1,7 @@
 //! What a call returns.
 
-ghost use Rattle.std.specs.Prelude.{◌≡◌};
-ghost use Rattle.linker_utils_c.specs.Status.{code};
-
 /// What a call returns: the sentences of `include/linker_utils.h`. 11 and 16 are unused.
-#[derive(Clone, Copy, PartialEq, Eq)]
+#[derive(Clone, Copy)]
 pub enum Status {
     /// Success.
     Success,
@@ -197,14 +194,4 @@ pub enum Status {
     DifferentValues,
     /// The type of the property has no rule.
     UnknownProperty,
-}
-
-impl Status {
-    /// The number that C sees.
-    #[inline]
-    pub fn number(self) -> u32
-        ensures { result ≡ code self }
-    {
-        self as u32
-    }
 }

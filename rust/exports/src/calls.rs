@@ -25,7 +25,7 @@ pub fn linker_utils_jal_site_with_nonnull(
 ) -> u32 {
     match chosen_register(link) {
         Some(register) => { jump_status(riscv64::jal_site_with(section, site, distance, register)) }
-        None => Status::UnknownLinkRegister.number(),
+        None => Status::UnknownLinkRegister as u32,
     }
 }
 
@@ -41,12 +41,12 @@ pub(crate) fn chosen_register(link: u32) -> Option<LinkRegister> {
 // The status of a call that has become a jump, or of why it hasn't.
 pub(crate) fn jump_status(outcome: Result<(), JumpError>) -> u32 {
     match outcome {
-        Ok(()) => Status::Success.number(),
-        Err(JumpError::NotACall) => Status::NotACall.number(),
-        Err(JumpError::Call(CallError::OutOfSection)) => Status::OutOfSection.number(),
-        Err(JumpError::Call(CallError::SiteDeleted)) => Status::SiteDeleted.number(),
-        Err(JumpError::Call(CallError::OddDistance)) => Status::OddDistance.number(),
-        Err(JumpError::Call(CallError::TooFar)) => Status::TooFar.number(),
+        Ok(()) => Status::Success as u32,
+        Err(JumpError::NotACall) => Status::NotACall as u32,
+        Err(JumpError::Call(CallError::OutOfSection)) => Status::OutOfSection as u32,
+        Err(JumpError::Call(CallError::SiteDeleted)) => Status::SiteDeleted as u32,
+        Err(JumpError::Call(CallError::OddDistance)) => Status::OddDistance as u32,
+        Err(JumpError::Call(CallError::TooFar)) => Status::TooFar as u32,
     }
 }
 
@@ -67,7 +67,7 @@ pub fn linker_utils_relax_call_nonnull(
 #[inline(always)]
 fn call_status(outcome: Result<(), CallError>) -> u32 {
     match outcome {
-        Ok(()) => Status::Success.number(),
+        Ok(()) => Status::Success as u32,
         Err(error) => jump_status(Err(JumpError::Call(error))),
     }
 }

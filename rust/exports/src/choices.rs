@@ -150,10 +150,10 @@ pub fn linker_utils_choose_nonnull(
     choice: &mut ChoiceNumbers,
 ) -> u32 {
     let Some(architecture) = Architecture::from_machine(machine) else {
-        return Status::UnknownArchitecture.number();
+        return Status::UnknownArchitecture as u32;
     };
     *choice = choose_in_numbers(architecture, r_type, section, offset, &facts.facts());
-    Status::Success.number()
+    Status::Success as u32
 }
 
 /// Whether the relocation with `r_type` can be rewritten if each other one of its sequence can:

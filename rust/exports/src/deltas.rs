@@ -33,10 +33,10 @@ pub fn linker_utils_deletions_valid_nonnull(
     faulty: &mut usize,
 ) -> u32 {
     match first_invalid(deletions) {
-        None => Status::Success.number(),
+        None => Status::Success as u32,
         Some(at) => {
             *faulty = at;
-            Status::InvalidDeletions.number()
+            Status::InvalidDeletions as u32
         }
     }
 }
@@ -50,13 +50,13 @@ pub fn linker_utils_deltas_create_nonnull(
 ) -> u32 {
     if let Some(at) = first_invalid(deletions) {
         *faulty = at;
-        return Status::InvalidDeletions.number();
+        return Status::InvalidDeletions as u32;
     }
     if deltas.len() != deletions.len() {
-        return Status::DifferentLengths.number();
+        return Status::DifferentLengths as u32;
     }
     fill(deletions, deltas);
-    Status::Success.number()
+    Status::Success as u32
 }
 
 fn fill(deletions: &[Deletion], deltas: &mut [RelaxDelta]) {
@@ -78,7 +78,7 @@ pub fn linker_utils_deltas_create_in_one_pass_nonnull(
     faulty: &mut usize,
 ) -> u32 {
     if deltas.len() == deletions.len() && fill_valid(deletions, deltas) {
-        return Status::Success.number();
+        return Status::Success as u32;
     }
     linker_utils_deltas_create_nonnull(deletions, deltas, faulty)
 }
@@ -125,10 +125,10 @@ pub fn linker_utils_deltas_output_to_input_nonnull(
     input_offset: &mut u64,
 ) -> u32 {
     match DeltaSlice::new(deltas).output_to_input_offset(output_offset) {
-        None => Status::TooLarge.number(),
+        None => Status::TooLarge as u32,
         Some(offset) => {
             *input_offset = offset;
-            Status::Success.number()
+            Status::Success as u32
         }
     }
 }
@@ -154,14 +154,14 @@ pub fn linker_utils_deltas_translate_all_nonnull(
     faulty: &mut usize,
 ) -> u32 {
     if outputs.len() != queries.len() {
-        return Status::DifferentLengths.number();
+        return Status::DifferentLengths as u32;
     }
     if !DeltaSlice::can_translate_all(queries) {
         *faulty = first_decrease(queries);
-        return Status::NotAscending.number();
+        return Status::NotAscending as u32;
     }
     DeltaSlice::new(deltas).translate_all(queries, outputs);
-    Status::Success.number()
+    Status::Success as u32
 }
 
 // The index of the first query that is less than the one before it.

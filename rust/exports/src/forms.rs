@@ -9,21 +9,21 @@ use linker_utils::elf::{
     RelocationInstruction, RiscVInstruction,
 };
 
-/// The form of an architecture and a number, or which of the two is unknown.
+/// The form of an architecture and a number, or the status that says which of the two is unknown.
 #[inline(always)]
-fn form_in(architecture: Architecture, form: u32) -> Result<RelocationInstruction, Status> {
+fn form_in(architecture: Architecture, form: u32) -> Result<RelocationInstruction, u32> {
     match architecture {
-        Architecture::X86_64 => Err(Status::UnknownArchitecture),
-        _ => architecture.form(form).ok_or(Status::UnknownForm),
+        Architecture::X86_64 => Err(Status::UnknownArchitecture as u32),
+        _ => architecture.form(form).ok_or(Status::UnknownForm as u32),
     }
 }
 
 /// The same by a machine.
 #[inline(always)]
-pub(crate) fn form_of(machine: u16, form: u32) -> Result<RelocationInstruction, Status> {
+pub(crate) fn form_of(machine: u16, form: u32) -> Result<RelocationInstruction, u32> {
     match Architecture::from_machine(machine) {
         Some(architecture) => form_in(architecture, form),
-        None => Err(Status::UnknownArchitecture),
+        None => Err(Status::UnknownArchitecture as u32),
     }
 }
 
@@ -33,9 +33,9 @@ pub fn linker_utils_window(machine: u16, form: u32, window: &mut usize) -> u32 {
     match form_of(machine, form) {
         Ok(named) => {
             *window = named.window();
-            Status::Success.number()
+            Status::Success as u32
         }
-        Err(status) => status.number(),
+        Err(status) => status,
     }
 }
 
@@ -48,40 +48,34 @@ pub fn linker_utils_fits_nonnull(
     bytes: &[u8],
 ) -> u32 {
     match form_of(machine, form) {
-        Ok(named) => fit(named, value, bytes).number(),
-        Err(status) => status.number(),
+        Ok(named) => fit(named, value, bytes),
+        Err(status) => status,
     }
 }
 
 #[inline(always)]
-fn fit<F: InstructionForm>(form: F, value: u64, bytes: &[u8]) -> Status {
+fn fit<F: InstructionForm>(form: F, value: u64, bytes: &[u8]) -> u32 {
     if bytes.len() < form.window() {
-        return Status::TooShort;
+        return Status::TooShort as u32;
     }
     if !form.fits(value, bytes) {
-        return Status::DoesNotFit;
+        return Status::DoesNotFit as u32;
     }
-    Status::Success
+    Status::Success as u32
 }
 
 // Writes a value by a form, if there is one: `RelocationInstruction` would require its architecture
 // again.
 #[inline(always)]
-fn write_by<F: InstructionForm>(
-    form: Option<F>,
-    value: u64,
-    negative: bool,
-    dest: &mut [u8],
-) -> Status {
+fn write_by<F: InstructionForm>(form: Option<F>, value: u64, negative: bool, dest: &mut [u8]) -> u32 {
     let Some(named) = form else {
-        return Status::UnknownForm;
+        return Status::UnknownForm as u32;
     };
     let status = fit(named, value, dest);
-    if status != Status::Success {
-        return status;
+    if status == Status::Success as u32 {
+        named.write(value, negative, dest);
     }
-    named.write(value, negative, dest);
-    Status::Success
+    status
 }
 
 /// Writes a value and its sign into the instruction that `dest` begins with, and changes no bit but
@@ -95,35 +89,27 @@ pub fn linker_utils_write_nonnull(
     dest: &mut [u8],
 ) -> u32 {
     let Some(architecture) = Architecture::from_machine(machine) else {
-        return Status::UnknownArchitecture.number();
+        return Status::UnknownArchitecture as u32;
     };
     match architecture {
-        Architecture::AArch64 => write_by(
-            AArch64Instruction::from_number(form),
-            value,
-            negative,
-            dest,
-        ).number(),
-        Architecture::RiscV => write_by(
-            RiscVInstruction::from_number(form),
-            value,
-            negative,
-            dest,
-        ).number(),
-        Architecture::LoongArch64 => write_by(
-            LoongArch64Instruction::from_number(form),
-            value,
-            negative,
-            dest,
-        )
-        .number(),
-        Architecture::Ppc64 => write_by(
-            Ppc64Instruction::from_number(form),
-            value,
-            negative,
-            dest,
-        ).number(),
-        Architecture::X86_64 => Status::UnknownArchitecture.number(),
+        Architecture::AArch64 => {
+            write_by(AArch64Instruction::from_number(form), value, negative, dest)
+        }
+        Architecture::RiscV => {
+            write_by(RiscVInstruction::from_number(form), value, negative, dest)
+        }
+        Architecture::LoongArch64 => {
+            write_by(
+                LoongArch64Instruction::from_number(form),
+                value,
+                negative,
+                dest,
+            )
+        }
+        Architecture::Ppc64 => {
+            write_by(Ppc64Instruction::from_number(form), value, negative, dest)
+        }
+        Architecture::X86_64 => Status::UnknownArchitecture as u32,
     }
 }
 
@@ -134,22 +120,22 @@ const LONGEST_WINDOW: usize = 8;
 // Reads a value by a form, if there is one.
 #[inline(always)]
 fn read_by(
-    form: Result<RelocationInstruction, Status>,
+    form: Result<RelocationInstruction, u32>,
     bytes: &[u8],
     value: &mut u64,
     negative: &mut u8,
-) -> Status {
+) -> u32 {
     let named = match form {
         Ok(named) => named,
         Err(status) => return status,
     };
     if bytes.len() < LONGEST_WINDOW && bytes.len() < named.window() {
-        return Status::TooShort;
+        return Status::TooShort as u32;
     }
     let (number, flag) = named.read(bytes);
     *value = number;
     *negative = u8::from(flag);
-    Status::Success
+    Status::Success as u32
 }
 
 /// Reads the value in the instruction that `bytes` begins with, modulo 2^64, and the form's flag,
@@ -163,9 +149,9 @@ pub fn linker_utils_read_nonnull(
     negative: &mut u8,
 ) -> u32 {
     let Some(architecture) = Architecture::from_machine(machine) else {
-        return Status::UnknownArchitecture.number();
+        return Status::UnknownArchitecture as u32;
     };
     by_architecture!(architecture, known(of => {
-        read_by(form_in(of, form), bytes, value, negative).number()
+        read_by(form_in(of, form), bytes, value, negative)
     }))
 }

@@ -28,7 +28,7 @@ pub fn linker_utils_survey_global_pointer_nonnull(
     kept: &mut [bool],
 ) -> u32 {
     let Some(architecture) = Architecture::from_machine(machine) else {
-        return Status::UnknownArchitecture.number();
+        return Status::UnknownArchitecture as u32;
     };
     survey_status(survey_global_pointer(
         architecture,
@@ -68,7 +68,7 @@ pub fn linker_utils_rewrite_global_pointer_nonnull(
     faulty: &mut usize,
 ) -> u32 {
     let Some(architecture) = Architecture::from_machine(machine) else {
-        return Status::UnknownArchitecture.number();
+        return Status::UnknownArchitecture as u32;
     };
     match rewrite_global_pointer(
         architecture,
@@ -85,7 +85,7 @@ pub fn linker_utils_rewrite_global_pointer_nonnull(
     ) {
         Ok(len) => {
             *deleted_used = len;
-            Status::Success.number()
+            Status::Success as u32
         }
         Err(error) => put_error(error, faulty),
     }
@@ -106,10 +106,10 @@ pub fn linker_utils_finish_gp_relaxation_nonnull(
     faulty: &mut usize,
 ) -> u32 {
     match finish_gp_relaxation(addresses, values, global_pointer, relocations, section) {
-        Ok(()) => Status::Success.number(),
+        Ok(()) => Status::Success as u32,
         Err(index) => {
             *faulty = index;
-            Status::OutOfReach.number()
+            Status::OutOfReach as u32
         }
     }
 }

@@ -20,10 +20,10 @@ pub fn linker_utils_snapshot_facts_nonnull(
     kept: &mut [FactsSnapshot],
 ) -> u32 {
     if kept.len() != symbols.len() {
-        return Status::DifferentLengths.number();
+        return Status::DifferentLengths as u32;
     }
     snapshot_facts(output, symbols, kept);
-    Status::Success.number()
+    Status::Success as u32
 }
 
 /// Writes the values of a section whose instructions were rewritten, as
@@ -45,10 +45,10 @@ pub fn linker_utils_relocate_rewritten_section_nonnull(
     faulty: &mut usize,
 ) -> u32 {
     let Some(architecture) = Architecture::from_machine(machine) else {
-        return Status::UnknownArchitecture.number();
+        return Status::UnknownArchitecture as u32;
     };
     if memory.len() < memory_len(relocations) {
-        return Status::ShortMemory.number();
+        return Status::ShortMemory as u32;
     }
     match relocate_rewritten_section(
         architecture,
@@ -61,18 +61,18 @@ pub fn linker_utils_relocate_rewritten_section_nonnull(
         section,
         memory,
     ) {
-        Ok(()) => Status::Success.number(),
+        Ok(()) => Status::Success as u32,
         Err(WritingError::Contradiction(symbol)) => {
             *faulty = symbol;
-            Status::FactsContradict.number()
+            Status::FactsContradict as u32
         }
         Err(WritingError::Changed(index)) => {
             *faulty = index;
-            Status::FactsChanged.number()
+            Status::FactsChanged as u32
         }
         Err(WritingError::NeedsStub(index)) => {
             *faulty = index;
-            Status::NeedsStub.number()
+            Status::NeedsStub as u32
         }
         Err(WritingError::Section(error)) => {
             *faulty = error.index;

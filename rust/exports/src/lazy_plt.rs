@@ -59,13 +59,13 @@ pub fn linker_utils_get_lazy_plt(
     plt: &mut LazyPltNumbers,
 ) -> u32 {
     let Some(architecture) = Architecture::from_machine(machine) else {
-        return Status::UnknownArchitecture.number();
+        return Status::UnknownArchitecture as u32;
     };
     let Some(found) = plt_in(architecture, form) else {
-        return Status::UnknownStub.number();
+        return Status::UnknownStub as u32;
     };
     *plt = numbers_in(found);
-    Status::Success.number()
+    Status::Success as u32
 }
 
 /// The lengths of a lazy PLT.
@@ -81,9 +81,9 @@ fn numbers_in(plt: &LazyPlt) -> LazyPltNumbers {
 /// The status of code that is written or not.
 fn status_in(written: Result<(), StubError>) -> u32 {
     match written {
-        Ok(()) => Status::Success.number(),
-        Err(StubError::Missing) => Status::UnknownStub.number(),
-        Err(StubError::TooShort) => Status::TooShort.number(),
+        Ok(()) => Status::Success as u32,
+        Err(StubError::Missing) => Status::UnknownStub as u32,
+        Err(StubError::TooShort) => Status::TooShort as u32,
         Err(StubError::Field(error)) => status_of(Err(error)),
     }
 }
@@ -100,11 +100,11 @@ pub fn linker_utils_write_lazy_header_nonnull(
     bytes: &mut [u8],
 ) -> u32 {
     let Some(architecture) = Architecture::from_machine(machine) else {
-        return Status::UnknownArchitecture.number();
+        return Status::UnknownArchitecture as u32;
     };
     match plt_in(architecture, form) {
         Some(plt) => put_header(plt, header, words, bytes),
-        None => Status::UnknownStub.number(),
+        None => Status::UnknownStub as u32,
     }
 }
 
@@ -122,11 +122,11 @@ pub fn linker_utils_write_lazy_entry_nonnull(
     bytes: &mut [u8],
 ) -> u32 {
     let Some(architecture) = Architecture::from_machine(machine) else {
-        return Status::UnknownArchitecture.number();
+        return Status::UnknownArchitecture as u32;
     };
     match plt_in(architecture, form) {
         Some(plt) => put_entry(plt, entry, bytes),
-        None => Status::UnknownStub.number(),
+        None => Status::UnknownStub as u32,
     }
 }
 
@@ -144,14 +144,14 @@ pub fn linker_utils_lazy_header_word(
     word: &mut u64,
 ) -> u32 {
     let Some(architecture) = Architecture::from_machine(machine) else {
-        return Status::UnknownArchitecture.number();
+        return Status::UnknownArchitecture as u32;
     };
     match LazyPlt::of(architecture).header_word(index, dynamic, header) {
         Some(found) => {
             *word = found;
-            Status::Success.number()
+            Status::Success as u32
         }
-        None => Status::NotProvided.number(),
+        None => Status::NotProvided as u32,
     }
 }
 

@@ -87,10 +87,10 @@ pub struct StubNumbers {
 /// Writes the codes of the dynamic relocations of an architecture. `UnknownArchitecture`.
 pub fn linker_utils_get_dynamic_types(machine: u16, types: &mut DynamicCodes) -> u32 {
     let Some(architecture) = Architecture::from_machine(machine) else {
-        return Status::UnknownArchitecture.number();
+        return Status::UnknownArchitecture as u32;
     };
     *types = codes_in(Target::of(architecture));
-    Status::Success.number()
+    Status::Success as u32
 }
 
 /// The codes of a description.
@@ -117,11 +117,11 @@ fn codes_in(target: &Target) -> DynamicCodes {
 fn put_text(text: &str, out: &mut [u8], used: &mut usize) -> u32 {
     let len = text.len();
     if out.len() < len {
-        return Status::TooShort.number();
+        return Status::TooShort as u32;
     }
     out[..len].copy_from_slice(text.as_bytes());
     *used = len;
-    Status::Success.number()
+    Status::Success as u32
 }
 
 /// Writes the name of a type of dynamic relocations, as "R_X86_64_RELATIVE", to the beginning of
@@ -134,11 +134,11 @@ pub fn linker_utils_dynamic_name_nonnull(
     name_used: &mut usize,
 ) -> u32 {
     let Some(architecture) = Architecture::from_machine(machine) else {
-        return Status::UnknownArchitecture.number();
+        return Status::UnknownArchitecture as u32;
     };
     match Target::of(architecture).dynamic_name(r_type) {
         Some(text) => put_text(text, name, name_used),
-        None => Status::UnknownRelocation.number(),
+        None => Status::UnknownRelocation as u32,
     }
 }
 
@@ -195,17 +195,17 @@ pub fn linker_utils_dynamic_words(
     words: &mut WordCodes,
 ) -> u32 {
     let Some(architecture) = Architecture::from_machine(machine) else {
-        return Status::UnknownArchitecture.number();
+        return Status::UnknownArchitecture as u32;
     };
     let Some(class) = class_of(entry_class) else {
-        return Status::UnknownEntryClass.number();
+        return Status::UnknownEntryClass as u32;
     };
     let codes = Target::of(architecture).dynamic_words(class, is_bound, is_executable);
     *words = WordCodes {
         first: code_or_none(codes[0]),
         second: code_or_none(codes[1]),
     };
-    Status::Success.number()
+    Status::Success as u32
 }
 
 /// How many words of 8 bytes an entry of a class has; 0 of a number that is no class.
@@ -225,7 +225,7 @@ pub fn linker_utils_static_words(
     words: &mut EntryWords,
 ) -> u32 {
     let Some(class) = class_of(entry_class) else {
-        return Status::UnknownEntryClass.number();
+        return Status::UnknownEntryClass as u32;
     };
     match static_words(class, address, *origins) {
         Some(both) => {
@@ -233,9 +233,9 @@ pub fn linker_utils_static_words(
                 first: both[0],
                 second: both[1],
             };
-            Status::Success.number()
+            Status::Success as u32
         }
-        None => Status::UnknownEntryClass.number(),
+        None => Status::UnknownEntryClass as u32,
     }
 }
 
@@ -249,10 +249,10 @@ pub fn linker_utils_get_origins(
     origins: &mut Origins,
 ) -> u32 {
     let Some(architecture) = Architecture::from_machine(machine) else {
-        return Status::UnknownArchitecture.number();
+        return Status::UnknownArchitecture as u32;
     };
     *origins = Target::of(architecture).origins(image, image_len, alignment);
-    Status::Success.number()
+    Status::Success as u32
 }
 
 /// Writes what offsets from the GOT count from, and its first word where that isn't an entry, by
@@ -264,7 +264,7 @@ pub fn linker_utils_get_got(
     got: &mut GotNumbers,
 ) -> u32 {
     let Some(architecture) = Architecture::from_machine(machine) else {
-        return Status::UnknownArchitecture.number();
+        return Status::UnknownArchitecture as u32;
     };
     let target = Target::of(architecture);
     let (has_header, header) = match target.got_header(address, dynamic) {
@@ -276,7 +276,7 @@ pub fn linker_utils_get_got(
         header,
         has_header,
     };
-    Status::Success.number()
+    Status::Success as u32
 }
 
 /// Writes `e_flags` of two objects that are linked, as `Target::join_flags`. The first that applies
@@ -288,14 +288,14 @@ pub fn linker_utils_join_flags(
     joined: &mut u32,
 ) -> u32 {
     let Some(architecture) = Architecture::from_machine(machine) else {
-        return Status::UnknownArchitecture.number();
+        return Status::UnknownArchitecture as u32;
     };
     match Target::of(architecture).join_flags(first, second) {
         Some(flags) => {
             *joined = flags;
-            Status::Success.number()
+            Status::Success as u32
         }
-        None => Status::DifferentFlags.number(),
+        None => Status::DifferentFlags as u32,
     }
 }
 
@@ -351,11 +351,11 @@ pub fn linker_utils_interpreter_nonnull(
     path_used: &mut usize,
 ) -> u32 {
     let Some(architecture) = Architecture::from_machine(machine) else {
-        return Status::UnknownArchitecture.number();
+        return Status::UnknownArchitecture as u32;
     };
     match Target::of(architecture).interpreter(flags) {
         Some(text) => put_text(text, path, path_used),
-        None => Status::NotProvided.number(),
+        None => Status::NotProvided as u32,
     }
 }
 
@@ -368,7 +368,7 @@ pub fn linker_utils_address_section_nonnull(
     name_used: &mut usize,
 ) -> u32 {
     let Some(architecture) = Architecture::from_machine(machine) else {
-        return Status::UnknownArchitecture.number();
+        return Status::UnknownArchitecture as u32;
     };
     put_section_name(Target::of(architecture), name, name_used)
 }
@@ -376,7 +376,7 @@ pub fn linker_utils_address_section_nonnull(
 fn put_section_name(target: &Target, name: &mut [u8], name_used: &mut usize) -> u32 {
     match &target.address_section {
         Some(section) => put_text(section.name, name, name_used),
-        None => Status::NotProvided.number(),
+        None => Status::NotProvided as u32,
     }
 }
 
@@ -389,14 +389,14 @@ pub fn linker_utils_entry_relocation(
     entry_type: &mut u32,
 ) -> u32 {
     let Some(architecture) = Architecture::from_machine(machine) else {
-        return Status::UnknownArchitecture.number();
+        return Status::UnknownArchitecture as u32;
     };
     match Target::of(architecture).entry_code(r_type) {
         Some(found) => {
             *entry_type = found;
-            Status::Success.number()
+            Status::Success as u32
         }
-        None => Status::NotProvided.number(),
+        None => Status::NotProvided as u32,
     }
 }
 
@@ -410,14 +410,14 @@ pub fn linker_utils_get_dynamic_entry(
     entry: &mut DynamicEntry,
 ) -> u32 {
     let Some(architecture) = Architecture::from_machine(machine) else {
-        return Status::UnknownArchitecture.number();
+        return Status::UnknownArchitecture as u32;
     };
     match Target::of(architecture).dynamic_entry(facts, index) {
         Some(found) => {
             *entry = found;
-            Status::Success.number()
+            Status::Success as u32
         }
-        None => Status::NotProvided.number(),
+        None => Status::NotProvided as u32,
     }
 }
 
@@ -442,7 +442,7 @@ pub fn linker_utils_get_provided_symbol_nonnull(
     symbol: &mut SymbolNumbers,
 ) -> u32 {
     let Some(architecture) = Architecture::from_machine(machine) else {
-        return Status::UnknownArchitecture.number();
+        return Status::UnknownArchitecture as u32;
     };
     put_symbol(Target::of(architecture), index, name, name_used, symbol)
 }
@@ -455,10 +455,10 @@ fn put_symbol(
     symbol: &mut SymbolNumbers,
 ) -> u32 {
     let Some(provided) = target.symbols.get(index) else {
-        return Status::NotProvided.number();
+        return Status::NotProvided as u32;
     };
     if name.len() < provided.name.len() {
-        return Status::TooShort.number();
+        return Status::TooShort as u32;
     }
     *symbol = SymbolNumbers {
         offset: provided.offset,
@@ -478,7 +478,7 @@ pub fn linker_utils_get_save_restore_routines_nonnull(
     run: &mut RunNumbers,
 ) -> u32 {
     let Some(architecture) = Architecture::from_machine(machine) else {
-        return Status::UnknownArchitecture.number();
+        return Status::UnknownArchitecture as u32;
     };
     put_run(Target::of(architecture), index, prefix, prefix_used, run)
 }
@@ -491,10 +491,10 @@ fn put_run(
     run: &mut RunNumbers,
 ) -> u32 {
     let Some(provided) = target.runs.get(index) else {
-        return Status::NotProvided.number();
+        return Status::NotProvided as u32;
     };
     if prefix.len() < provided.prefix.len() {
-        return Status::TooShort.number();
+        return Status::TooShort as u32;
     }
     *run = RunNumbers {
         len: provided.len(),
@@ -514,21 +514,21 @@ pub fn linker_utils_provided_word(
     word: &mut u32,
 ) -> u32 {
     let Some(architecture) = Architecture::from_machine(machine) else {
-        return Status::UnknownArchitecture.number();
+        return Status::UnknownArchitecture as u32;
     };
     put_word(Target::of(architecture), run, index, word)
 }
 
 fn put_word(target: &Target, run: usize, index: u64, word: &mut u32) -> u32 {
     let Some(provided) = target.runs.get(run) else {
-        return Status::NotProvided.number();
+        return Status::NotProvided as u32;
     };
     match provided.word_at(index) {
         Some(found) => {
             *word = found;
-            Status::Success.number()
+            Status::Success as u32
         }
-        None => Status::NotProvided.number(),
+        None => Status::NotProvided as u32,
     }
 }
 
@@ -566,14 +566,14 @@ fn kind_of(number: u32) -> Option<StubKind> {
 /// kind.
 pub fn linker_utils_get_stub(machine: u16, kind: u32, stub: &mut StubNumbers) -> u32 {
     let Some(architecture) = Architecture::from_machine(machine) else {
-        return Status::UnknownArchitecture.number();
+        return Status::UnknownArchitecture as u32;
     };
     put_stub(Target::of(architecture), kind, stub)
 }
 
 fn put_stub(target: &Target, kind: u32, numbers: &mut StubNumbers) -> u32 {
     let Some(kind) = kind_of(kind) else {
-        return Status::UnknownStub.number();
+        return Status::UnknownStub as u32;
     };
     match target.stub(kind) {
         Some(stub) => {
@@ -581,9 +581,9 @@ fn put_stub(target: &Target, kind: u32, numbers: &mut StubNumbers) -> u32 {
                 len: stub.len(),
                 entry: stub.entry,
             };
-            Status::Success.number()
+            Status::Success as u32
         }
-        None => Status::UnknownStub.number(),
+        None => Status::UnknownStub as u32,
     }
 }
 
@@ -599,19 +599,19 @@ pub fn linker_utils_write_stub_nonnull(
     bytes: &mut [u8],
 ) -> u32 {
     let Some(architecture) = Architecture::from_machine(machine) else {
-        return Status::UnknownArchitecture.number();
+        return Status::UnknownArchitecture as u32;
     };
     write_by(Target::of(architecture), kind, place, target, bytes)
 }
 
 fn write_by(description: &Target, kind: u32, place: u64, target: u64, bytes: &mut [u8]) -> u32 {
     let Some(kind) = kind_of(kind) else {
-        return Status::UnknownStub.number();
+        return Status::UnknownStub as u32;
     };
     match description.write_stub(kind, place, target, bytes) {
-        Ok(()) => Status::Success.number(),
-        Err(StubError::Missing) => Status::UnknownStub.number(),
-        Err(StubError::TooShort) => Status::TooShort.number(),
+        Ok(()) => Status::Success as u32,
+        Err(StubError::Missing) => Status::UnknownStub as u32,
+        Err(StubError::TooShort) => Status::TooShort as u32,
         Err(StubError::Field(error)) => status_of(Err(error)),
     }
 }

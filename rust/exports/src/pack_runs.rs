@@ -17,16 +17,15 @@ pub(crate) fn packing_machine(machine: u16) -> Option<Machine> {
 
 #[inline]
 fn status_of(error: ItemError) -> u32 {
-    let status = match error {
-        ItemError::Overlaps => Status::ItemsOverlap,
-        ItemError::OutOfSection => Status::ItemOutOfSection,
-        ItemError::DeletedOutside => Status::DeletedOutside,
-        ItemError::NotItsFirstBytes => Status::NotItsFirstBytes,
-        ItemError::NotItsInstructions => Status::NotItsInstructions,
-        ItemError::NoShape => Status::NoShape,
-        ItemError::OutOfReach => Status::TargetOutOfReach,
-    };
-    status.number()
+    match error {
+        ItemError::Overlaps => Status::ItemsOverlap as u32,
+        ItemError::OutOfSection => Status::ItemOutOfSection as u32,
+        ItemError::DeletedOutside => Status::DeletedOutside as u32,
+        ItemError::NotItsFirstBytes => Status::NotItsFirstBytes as u32,
+        ItemError::NotItsInstructions => Status::NotItsInstructions as u32,
+        ItemError::NoShape => Status::NoShape as u32,
+        ItemError::OutOfReach => Status::TargetOutOfReach as u32,
+    }
 }
 
 /// How many bytes of a section of a relaxed run stay: as many as `linker_utils_pack_run` writes.
@@ -55,12 +54,12 @@ pub fn linker_utils_has_its_instructions_nonnull(
     item: &ItemNumbers,
 ) -> u32 {
     let Some(known) = packing_machine(machine) else {
-        return Status::UnknownArchitecture.number();
+        return Status::UnknownArchitecture as u32;
     };
     if has_its_instructions(known, section, base, &item.as_item()) {
-        Status::Success.number()
+        Status::Success as u32
     } else {
-        Status::NotItsInstructions.number()
+        Status::NotItsInstructions as u32
     }
 }
 
@@ -101,7 +100,7 @@ pub fn linker_utils_pack_run_nonnull(
             packed,
             faulty,
         ),
-        None => Status::UnknownArchitecture.number(),
+        None => Status::UnknownArchitecture as u32,
     }
 }
 
@@ -117,10 +116,10 @@ fn pack(
     faulty: &mut usize,
 ) -> u32 {
     if section.len() as u64 > u64::MAX - base {
-        return Status::EndsTooHigh.number();
+        return Status::EndsTooHigh as u32;
     }
     if packed.len() != packed_run_len(base, section.len(), deltas) {
-        return Status::DifferentLengths.number();
+        return Status::DifferentLengths as u32;
     }
     match pack_run(
         machine,
@@ -132,7 +131,7 @@ fn pack(
         relocations,
         packed,
     ) {
-        Ok(()) => Status::Success.number(),
+        Ok(()) => Status::Success as u32,
         Err(rejected) => {
             *faulty = rejected.index;
             status_of(rejected.error)

@@ -31,7 +31,7 @@ pub fn linker_utils_pack_nonnull(
 ) -> u32 {
     match chosen_register(link) {
         Some(register) => pack(section, deltas, calls, register, packed, faulty),
-        None => Status::UnknownLinkRegister.number(),
+        None => Status::UnknownLinkRegister as u32,
     }
 }
 
@@ -45,13 +45,13 @@ fn pack(
 ) -> u32 {
     if let Some(index) = first_not_apart(calls) {
         *faulty = index;
-        return Status::CallsNotApart.number();
+        return Status::CallsNotApart as u32;
     }
     if packed.len() != packed_len(section, deltas) {
-        return Status::DifferentLengths.number();
+        return Status::DifferentLengths as u32;
     }
     match pack_into(section, deltas, calls, register, packed) {
-        Ok(()) => Status::Success.number(),
+        Ok(()) => Status::Success as u32,
         Err(rejected) => {
             *faulty = rejected.index;
             jump_status(Err(rejected.error))

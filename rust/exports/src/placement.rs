@@ -52,15 +52,15 @@ fn put_ways(stubs: &[Option<usize>], ways: &mut [usize]) {
 }
 
 /// Why no stubs are placed.
-fn place_status(error: &PlaceError) -> Status {
+fn place_status(error: &PlaceError) -> u32 {
     match error {
-        PlaceError::OutOfMemory => Status::OutOfMemory,
-        PlaceError::NoLength => Status::StubWithoutLength,
-        PlaceError::NotAscending(_) => Status::NotAscending,
-        PlaceError::NoTarget(_) => Status::NoTarget,
-        PlaceError::TooLong => Status::CodeTooLong,
-        PlaceError::NoBoundary(_, _) => Status::NoBoundary,
-        PlaceError::StubTooFar(_, _) => Status::StubTooFar,
+        PlaceError::OutOfMemory => Status::OutOfMemory as u32,
+        PlaceError::NoLength => Status::StubWithoutLength as u32,
+        PlaceError::NotAscending(_) => Status::NotAscending as u32,
+        PlaceError::NoTarget(_) => Status::NoTarget as u32,
+        PlaceError::TooLong => Status::CodeTooLong as u32,
+        PlaceError::NoBoundary(_, _) => Status::NoBoundary as u32,
+        PlaceError::StubTooFar(_, _) => Status::StubTooFar as u32,
     }
 }
 
@@ -90,11 +90,11 @@ fn place(
             put_ways(&placement.stubs, ways);
             before.copy_from_slice(&placement.layout.before);
             *stubs_used = placement.layout.stubs.len();
-            Status::Success.number()
+            Status::Success as u32
         }
         Err(error) => {
             put_faulty(&error, faulty);
-            place_status(&error).number()
+            place_status(&error)
         }
     }
 }
@@ -133,10 +133,10 @@ pub fn linker_utils_place_stubs_nonnull(
     faulty: &mut usize,
 ) -> u32 {
     if !have_lengths(branches.len(), boundaries.len(), ways.len(), before.len()) {
-        return Status::DifferentLengths.number();
+        return Status::DifferentLengths as u32;
     }
     if is_short(stubs.len(), branches.len()) {
-        return Status::ShortMemory.number();
+        return Status::ShortMemory as u32;
     }
     let code = Code {
         branches,

@@ -23,19 +23,19 @@ pub struct LandingNumbers {
 /// about.
 fn status_of(made: Result<usize, PropertyError>, number: &mut usize) -> u32 {
     let (status, value) = match made {
-        Ok(count) => (Status::Success, count),
-        Err(PropertyError::NotProperties(at)) => (Status::NotProperties, at),
-        Err(PropertyError::CutOff(at)) => (Status::CutOff, at),
-        Err(PropertyError::WrongSize(at)) => (Status::WrongSize, at),
-        Err(PropertyError::NotAscending(at)) => (Status::NotAscending, at),
-        Err(PropertyError::Differs(kind)) => (Status::DifferentValues, kind as usize),
-        Err(PropertyError::Unknown(kind)) => (Status::UnknownProperty, kind as usize),
-        Err(PropertyError::TooLarge(kind)) => (Status::DoesNotFit, kind as usize),
-        Err(PropertyError::TooMany) => (Status::TooLarge, *number),
-        Err(PropertyError::TooShort(needed)) => (Status::TooShort, needed),
+        Ok(count) => (Status::Success as u32, count),
+        Err(PropertyError::NotProperties(at)) => (Status::NotProperties as u32, at),
+        Err(PropertyError::CutOff(at)) => (Status::CutOff as u32, at),
+        Err(PropertyError::WrongSize(at)) => (Status::WrongSize as u32, at),
+        Err(PropertyError::NotAscending(at)) => (Status::NotAscending as u32, at),
+        Err(PropertyError::Differs(kind)) => (Status::DifferentValues as u32, kind as usize),
+        Err(PropertyError::Unknown(kind)) => (Status::UnknownProperty as u32, kind as usize),
+        Err(PropertyError::TooLarge(kind)) => (Status::DoesNotFit as u32, kind as usize),
+        Err(PropertyError::TooMany) => (Status::TooLarge as u32, *number),
+        Err(PropertyError::TooShort(needed)) => (Status::TooShort as u32, needed),
     };
     *number = value;
-    status.number()
+    status
 }
 
 /// Whether a type of properties has a rule, as `property_rule`. False of an unknown architecture.
@@ -57,7 +57,7 @@ pub fn linker_utils_read_properties_nonnull(
     number: &mut usize,
 ) -> u32 {
     let Some(architecture) = Architecture::from_machine(machine) else {
-        return Status::UnknownArchitecture.number();
+        return Status::UnknownArchitecture as u32;
     };
     status_of(read_properties(architecture, notes, properties), number)
 }
@@ -74,7 +74,7 @@ pub fn linker_utils_merge_properties_nonnull(
     number: &mut usize,
 ) -> u32 {
     let Some(architecture) = Architecture::from_machine(machine) else {
-        return Status::UnknownArchitecture.number();
+        return Status::UnknownArchitecture as u32;
     };
     let merged = merge_properties(architecture, first, second, properties);
     status_of(merged, number)
@@ -92,7 +92,7 @@ pub fn linker_utils_write_properties_nonnull(
     number: &mut usize,
 ) -> u32 {
     let Some(architecture) = Architecture::from_machine(machine) else {
-        return Status::UnknownArchitecture.number();
+        return Status::UnknownArchitecture as u32;
     };
     status_of(write_properties(architecture, properties, note), number)
 }
@@ -104,14 +104,14 @@ pub fn linker_utils_get_landing_property(
     landing: &mut LandingNumbers,
 ) -> u32 {
     let Some(architecture) = Architecture::from_machine(machine) else {
-        return Status::UnknownArchitecture.number();
+        return Status::UnknownArchitecture as u32;
     };
     let Some(property) = Target::of(architecture).landing_property else {
-        return Status::NotProvided.number();
+        return Status::NotProvided as u32;
     };
     *landing = LandingNumbers {
         bit: property.bit,
         kind: property.kind,
     };
-    Status::Success.number()
+    Status::Success as u32
 }

@@ -8,19 +8,19 @@ use linker_utils::utils;
 /// The little-endian number of the first four bytes, into `value`. The error is `TooShort`.
 pub fn linker_utils_u32_from_slice_nonnull(bytes: &[u8], value: &mut u32) -> u32 {
     if bytes.len() < 4 {
-        return Status::TooShort.number();
+        return Status::TooShort as u32;
     }
     *value = utils::u32_from_slice(bytes);
-    Status::Success.number()
+    Status::Success as u32
 }
 
 /// The little-endian number of the first eight bytes, into `value`. The error is `TooShort`.
 pub fn linker_utils_u64_from_slice_nonnull(bytes: &[u8], value: &mut u64) -> u32 {
     if bytes.len() < 8 {
-        return Status::TooShort.number();
+        return Status::TooShort as u32;
     }
     *value = utils::u64_from_slice(bytes);
-    Status::Success.number()
+    Status::Success as u32
 }
 
 /// The little-endian number of the first four bytes, into `value`, and how many bytes it took, into
@@ -35,9 +35,9 @@ pub fn linker_utils_read_u32_nonnull(
         Ok(number) => {
             *value = number;
             *consumed = bytes.len() - content.len();
-            Status::Success.number()
+            Status::Success as u32
         }
-        Err(_) => Status::TooShort.number(),
+        Err(_) => Status::TooShort as u32,
     }
 }
 
@@ -53,9 +53,9 @@ pub fn linker_utils_read_uleb128_nonnull(
         Ok(number) => {
             *value = number;
             *consumed = bytes.len() - content.len();
-            Status::Success.number()
+            Status::Success as u32
         }
-        Err(_) if bytes.len() < 10 => Status::Uleb128Ended.number(),
-        Err(_) => Status::Uleb128TooLarge.number(),
+        Err(_) if bytes.len() < 10 => Status::Uleb128Ended as u32,
+        Err(_) => Status::Uleb128TooLarge as u32,
     }
 }

@@ -23,7 +23,7 @@ pub fn linker_utils_operand_nonnull(
 ) -> u32 {
     match form_of(machine, form) {
         Ok(named) => put_operand(named, bytes, number),
-        Err(status) => status.number(),
+        Err(status) => status,
     }
 }
 
@@ -32,9 +32,9 @@ fn put_operand(form: RelocationInstruction, bytes: &[u8], number: &mut i64) -> u
     match operand(form, bytes) {
         Some(found) => {
             *number = found;
-            Status::Success.number()
+            Status::Success as u32
         }
-        None => Status::DoesNotMatch.number(),
+        None => Status::DoesNotMatch as u32,
     }
 }
 
@@ -87,11 +87,11 @@ pub fn linker_utils_read_value_nonnull(
     value: &mut FieldValueNumbers,
 ) -> u32 {
     let Some(architecture) = Architecture::from_machine(machine) else {
-        return Status::UnknownArchitecture.number();
+        return Status::UnknownArchitecture as u32;
     };
     match architecture.row(r_type) {
         Some(meaning) => read_row(&meaning, bytes, value),
-        None => Status::UnknownRelocation.number(),
+        None => Status::UnknownRelocation as u32,
     }
 }
 
@@ -100,13 +100,13 @@ fn read_row(row: &Row, bytes: &[u8], value: &mut FieldValueNumbers) -> u32 {
     match read(row, bytes) {
         Some(field) => {
             *value = FieldValueNumbers::of(field);
-            Status::Success.number()
+            Status::Success as u32
         }
         None => {
             if bytes.len() < row.window() {
-                Status::TooShort.number()
+                Status::TooShort as u32
             } else {
-                Status::HoldsNoValue.number()
+                Status::HoldsNoValue as u32
             }
         }
     }
@@ -130,13 +130,13 @@ fn put_address(
     address: &mut FieldValueNumbers,
 ) -> u32 {
     match terms {
-        None => Status::NoAddress.number(),
+        None => Status::NoAddress as u32,
         Some(terms) => match solution {
-            None => Status::NoAddress.number(),
+            None => Status::NoAddress as u32,
             Some(solution) => {
                 *reference = reference_number(terms.reference);
                 *address = FieldValueNumbers::of(solution);
-                Status::Success.number()
+                Status::Success as u32
             }
         },
     }
@@ -151,7 +151,7 @@ fn solve_row(
 ) -> u32 {
     let field = value.field();
     if !field.is_proper() {
-        return Status::BadFieldValue.number();
+        return Status::BadFieldValue as u32;
     }
     let info = row.info();
     let solution = solve(&info, &field, operands);
@@ -173,21 +173,21 @@ pub fn linker_utils_solve(
     address: &mut FieldValueNumbers,
 ) -> u32 {
     let Some(architecture) = Architecture::from_machine(machine) else {
-        return Status::UnknownArchitecture.number();
+        return Status::UnknownArchitecture as u32;
     };
     match architecture.row(r_type) {
         Some(meaning) => solve_row(&meaning, value, operands, reference, address),
-        None => Status::UnknownRelocation.number(),
+        None => Status::UnknownRelocation as u32,
     }
 }
 
 #[inline(always)]
 fn put_whole(joined: Option<FieldValue>, whole: &mut FieldValueNumbers) -> u32 {
     match joined {
-        None => Status::NotHalves.number(),
+        None => Status::NotHalves as u32,
         Some(joined) => {
             *whole = FieldValueNumbers::of(joined);
-            Status::Success.number()
+            Status::Success as u32
         }
     }
 }
@@ -202,7 +202,7 @@ pub fn linker_utils_join(
     let high = high.field();
     let low = low.field();
     if !high.is_proper() || !low.is_proper() {
-        return Status::BadFieldValue.number();
+        return Status::BadFieldValue as u32;
     }
     put_whole(join(&high, &low), whole)
 }

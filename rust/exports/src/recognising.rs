@@ -24,21 +24,21 @@ pub fn linker_utils_field_bits_nonnull(
     bits: &mut u64,
 ) -> u32 {
     let Some(architecture) = Architecture::from_machine(machine) else {
-        return Status::UnknownArchitecture.number();
+        return Status::UnknownArchitecture as u32;
     };
     match architecture.row(r_type) {
         Some(meaning) => put_bits(&meaning, bytes, bits),
-        None => Status::UnknownRelocation.number(),
+        None => Status::UnknownRelocation as u32,
     }
 }
 
 #[inline(always)]
 fn put_bits(row: &Row, bytes: &[u8], bits: &mut u64) -> u32 {
     if bytes.len() < row.window() {
-        return Status::TooShort.number();
+        return Status::TooShort as u32;
     }
     *bits = field_bits(row, bytes);
-    Status::Success.number()
+    Status::Success as u32
 }
 
 /// Whether two windows of the same length, which begin with the field of the relocation with
@@ -119,13 +119,13 @@ pub fn linker_utils_recognise_window_nonnull(
     window: &mut RewriteWindow,
 ) -> u32 {
     let Some(architecture) = Architecture::from_machine(machine) else {
-        return Status::UnknownArchitecture.number();
+        return Status::UnknownArchitecture as u32;
     };
     if original.len() > MAX_WINDOW {
-        return Status::WindowTooLong.number();
+        return Status::WindowTooLong as u32;
     }
     *window = window_of(architecture, r_type, original, offset);
-    Status::Success.number()
+    Status::Success as u32
 }
 
 /// Writes which rewrites, and relocations after them, a linker may have made at the relocation with
@@ -145,7 +145,7 @@ pub fn linker_utils_recognise_nonnull(
     count: &mut usize,
 ) -> u32 {
     let Some(architecture) = Architecture::from_machine(machine) else {
-        return Status::UnknownArchitecture.number();
+        return Status::UnknownArchitecture as u32;
     };
     recognise_into(
         architecture,
@@ -170,14 +170,14 @@ fn recognise_into(
     count: &mut usize,
 ) -> u32 {
     if found.len() != CANDIDATES {
-        return Status::DifferentLengths.number();
+        return Status::DifferentLengths as u32;
     }
     if original.len() > MAX_WINDOW {
-        return Status::WindowTooLong.number();
+        return Status::WindowTooLong as u32;
     }
     let made = recognise(architecture, r_type, original, offset, others, linked);
     *count = write_found(&made, found);
-    Status::Success.number()
+    Status::Success as u32
 }
 
 /// Writes the choice that `linker_utils_choose` makes by these facts, if it leaves the linked
@@ -194,10 +194,10 @@ pub fn linker_utils_recognise_chosen_nonnull(
     found: &mut RecognisedNumbers,
 ) -> u32 {
     let Some(architecture) = Architecture::from_machine(machine) else {
-        return Status::UnknownArchitecture.number();
+        return Status::UnknownArchitecture as u32;
     };
     if original.len() > MAX_WINDOW {
-        return Status::WindowTooLong.number();
+        return Status::WindowTooLong as u32;
     }
     put_chosen(
         recognise_chosen(
@@ -218,9 +218,9 @@ fn put_chosen(made: Option<Recognised<Relaxation, u32>>, found: &mut RecognisedN
     match made {
         Some(made) => {
             *found = numbers_of(made);
-            Status::Success.number()
+            Status::Success as u32
         }
-        None => Status::LeavesOtherBytes.number(),
+        None => Status::LeavesOtherBytes as u32,
     }
 }
 
@@ -267,9 +267,9 @@ fn put_destination(
     match found {
         Some(found) => {
             *destination = destination_in(&found, st_other);
-            Status::Success.number()
+            Status::Success as u32
         }
-        None => Status::NoAddress.number(),
+        None => Status::NoAddress as u32,
     }
 }
 
@@ -285,7 +285,7 @@ fn put_destination_of(
 ) -> u32 {
     let choice = &made.choice;
     let Some(kind) = Relaxation::from_number(architecture, choice.rewrite, choice.opcode_len) else {
-        return Status::UnknownRewrite.number();
+        return Status::UnknownRewrite as u32;
     };
     let made = Recognised {
         choice: Choice {
@@ -316,10 +316,10 @@ pub fn linker_utils_get_destination_nonnull(
     destination: &mut DestinationNumbers,
 ) -> u32 {
     let Some(architecture) = Architecture::from_machine(machine) else {
-        return Status::UnknownArchitecture.number();
+        return Status::UnknownArchitecture as u32;
     };
     if original.len() > MAX_WINDOW {
-        return Status::WindowTooLong.number();
+        return Status::WindowTooLong as u32;
     }
     put_destination_of(
         architecture,

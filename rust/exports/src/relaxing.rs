@@ -89,25 +89,24 @@ impl AsItem for ItemNumbers {
 
 #[inline]
 fn status_of(fault: Fault) -> u32 {
-    let status = match fault {
-        Fault::Overlaps => Status::ItemsOverlap,
-        Fault::TooHigh => Status::EndsTooHigh,
-        Fault::TooManyShapes => Status::TooManyShapes,
-        Fault::ShapeTooLong => Status::ShapeTooLong,
-        Fault::ShapesNotAscending => Status::ShapesNotAscending,
-        Fault::BadGranularity => Status::BadGranularity,
-        Fault::BadReach => Status::BadReach,
-        Fault::BadAlignment => Status::BadAlignment,
-        Fault::UnevenShape => Status::UnevenShape,
-        Fault::Misaligned => Status::Misaligned,
-        Fault::AlignmentBelowGranularity => Status::AlignmentBelowGranularity,
-        Fault::UnevenEnd => Status::UnevenEnd,
-        Fault::TooFewNops => Status::TooFewNops,
-        Fault::UnevenNops => Status::UnevenNops,
-        Fault::TargetInside => Status::TargetInside,
-        Fault::MayBeMisaligned => Status::MayBeMisaligned,
-    };
-    status.number()
+    match fault {
+        Fault::Overlaps => Status::ItemsOverlap as u32,
+        Fault::TooHigh => Status::EndsTooHigh as u32,
+        Fault::TooManyShapes => Status::TooManyShapes as u32,
+        Fault::ShapeTooLong => Status::ShapeTooLong as u32,
+        Fault::ShapesNotAscending => Status::ShapesNotAscending as u32,
+        Fault::BadGranularity => Status::BadGranularity as u32,
+        Fault::BadReach => Status::BadReach as u32,
+        Fault::BadAlignment => Status::BadAlignment as u32,
+        Fault::UnevenShape => Status::UnevenShape as u32,
+        Fault::Misaligned => Status::Misaligned as u32,
+        Fault::AlignmentBelowGranularity => Status::AlignmentBelowGranularity as u32,
+        Fault::UnevenEnd => Status::UnevenEnd as u32,
+        Fault::TooFewNops => Status::TooFewNops as u32,
+        Fault::UnevenNops => Status::UnevenNops as u32,
+        Fault::TargetInside => Status::TargetInside as u32,
+        Fault::MayBeMisaligned => Status::MayBeMisaligned as u32,
+    }
 }
 
 #[inline]
@@ -134,9 +133,9 @@ pub fn linker_utils_standard_shapes(number: u32, shapes: &mut Shapes) -> u32 {
     match shapes_named(number) {
         Some(named) => {
             *shapes = named;
-            Status::Success.number()
+            Status::Success as u32
         }
-        None => Status::UnknownShapes.number(),
+        None => Status::UnknownShapes as u32,
     }
 }
 
@@ -151,7 +150,7 @@ pub fn linker_utils_items_relaxable_nonnull(
     faulty: &mut usize,
 ) -> u32 {
     match first_faulty(items, start) {
-        None => Status::Success.number(),
+        None => Status::Success as u32,
         Some(found) => {
             *faulty = found.index;
             status_of(found.fault)
@@ -185,12 +184,12 @@ pub fn linker_utils_relax_nonnull(
         places.len(),
         freed.len(),
     ) {
-        return Status::DifferentLengths.number();
+        return Status::DifferentLengths as u32;
     }
     match first_faulty(items, start) {
         None => {
             relax_into(items, start, shapes, kept, places, freed);
-            Status::Success.number()
+            Status::Success as u32
         }
         Some(found) => {
             *faulty = found.index;
@@ -218,10 +217,10 @@ pub fn linker_utils_run_deltas_nonnull(
     len: &mut usize,
 ) -> u32 {
     if kept.len() != items.len() || deltas.len() != items.len() {
-        return Status::DifferentLengths.number();
+        return Status::DifferentLengths as u32;
     }
     *len = write_deltas(items, kept, deltas);
-    Status::Success.number()
+    Status::Success as u32
 }
 
 /// The delta of an item of which n bytes stay, after deletions of n bytes.

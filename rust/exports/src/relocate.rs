@@ -9,11 +9,11 @@ use linker_utils::elf::{
 use linker_utils::utils::{self, Uleb128Error};
 
 #[inline(always)]
-pub(crate) fn value_status(error: FormulaError) -> Status {
+pub(crate) fn value_status(error: FormulaError) -> u32 {
     match error {
-        FormulaError::NoEntry => Status::NoEntry,
-        FormulaError::NoTlsBase => Status::NoTlsBase,
-        FormulaError::NoValue => Status::NoValue,
+        FormulaError::NoEntry => Status::NoEntry as u32,
+        FormulaError::NoTlsBase => Status::NoTlsBase as u32,
+        FormulaError::NoValue => Status::NoValue as u32,
     }
 }
 
@@ -24,11 +24,11 @@ pub(crate) fn value_by(row: Option<Row>, operands: &Operands, value: &mut i64) -
         Some(row) => match row.value(operands) {
             Ok(number) => {
                 *value = number;
-                Status::Success.number()
+                Status::Success as u32
             }
-            Err(error) => value_status(error).number(),
+            Err(error) => value_status(error),
         },
-        None => Status::UnknownRelocation.number(),
+        None => Status::UnknownRelocation as u32,
     }
 }
 
@@ -41,7 +41,7 @@ pub fn linker_utils_value(
     value: &mut i64,
 ) -> u32 {
     let Some(architecture) = Architecture::from_machine(machine) else {
-        return Status::UnknownArchitecture.number();
+        return Status::UnknownArchitecture as u32;
     };
     value_by(architecture.row(r_type), operands, value)
 }
@@ -81,9 +81,9 @@ pub(crate) fn reach_by(row: Option<Row>, reach: &mut Reach) -> u32 {
     match row {
         Some(row) => {
             *reach = reach_in(&row);
-            Status::Success.number()
+            Status::Success as u32
         }
-        None => Status::UnknownRelocation.number(),
+        None => Status::UnknownRelocation as u32,
     }
 }
 
@@ -91,7 +91,7 @@ pub(crate) fn reach_by(row: Option<Row>, reach: &mut Reach) -> u32 {
 /// `UnknownRelocation`.
 pub fn linker_utils_reach(machine: u16, r_type: u32, reach: &mut Reach) -> u32 {
     let Some(architecture) = Architecture::from_machine(machine) else {
-        return Status::UnknownArchitecture.number();
+        return Status::UnknownArchitecture as u32;
     };
     reach_by(architecture.row(r_type), reach)
 }
@@ -99,11 +99,11 @@ pub fn linker_utils_reach(machine: u16, r_type: u32, reach: &mut Reach) -> u32 {
 #[inline(always)]
 pub(crate) fn status_of(outcome: Result<(), RelocateError>) -> u32 {
     match outcome {
-        Ok(()) => Status::Success.number(),
-        Err(RelocateError::Unsupported) => Status::Unsupported.number(),
-        Err(RelocateError::TooShort) => Status::TooShort.number(),
-        Err(RelocateError::Misaligned) => Status::Misaligned.number(),
-        Err(RelocateError::OutOfReach) => Status::OutOfReach.number(),
+        Ok(()) => Status::Success as u32,
+        Err(RelocateError::Unsupported) => Status::Unsupported as u32,
+        Err(RelocateError::TooShort) => Status::TooShort as u32,
+        Err(RelocateError::Misaligned) => Status::Misaligned as u32,
+        Err(RelocateError::OutOfReach) => Status::OutOfReach as u32,
     }
 }
 
@@ -112,7 +112,7 @@ pub(crate) fn status_of(outcome: Result<(), RelocateError>) -> u32 {
 pub(crate) fn write_by(row: Option<Row>, value: i64, dest: &mut [u8]) -> u32 {
     match row {
         Some(row) => status_of(row.write(value, dest)),
-        None => Status::UnknownRelocation.number(),
+        None => Status::UnknownRelocation as u32,
     }
 }
 
@@ -131,7 +131,7 @@ pub fn linker_utils_relocate_nonnull(
     dest: &mut [u8],
 ) -> u32 {
     let Some(architecture) = Architecture::from_machine(machine) else {
-        return Status::UnknownArchitecture.number();
+        return Status::UnknownArchitecture as u32;
     };
     relocate(architecture, r_type, value, dest)
 }
@@ -158,7 +158,7 @@ fn relocate_at(
     section: &mut [u8],
 ) -> u32 {
     if (section.len() as u64) < offset {
-        return Status::TooShort.number();
+        return Status::TooShort as u32;
     }
     relocate(architecture, r_type, value, &mut section[offset as usize..])
 }
@@ -179,13 +179,13 @@ fn relocate_all(
             relocation.value,
             section,
         );
-        if status != Status::Success.number() {
+        if status != Status::Success as u32 {
             *faulty = at;
             return status;
         }
         at += 1;
     }
-    Status::Success.number()
+    Status::Success as u32
 }
 
 /// Writes the values of the relocations of one section, in order. It stops at the first that is
@@ -199,7 +199,7 @@ pub fn linker_utils_relocate_all_nonnull(
     faulty: &mut usize,
 ) -> u32 {
     let Some(architecture) = Architecture::from_machine(machine) else {
-        return Status::UnknownArchitecture.number();
+        return Status::UnknownArchitecture as u32;
     };
     relocate_all(architecture, section, relocations, faulty)
 }
@@ -221,10 +221,10 @@ pub fn linker_utils_uleb128_role(machine: u16, r_type: u32) -> u32 {
 #[inline(always)]
 pub(crate) fn uleb_status_of(outcome: Result<(), Uleb128Error>) -> u32 {
     match outcome {
-        Ok(()) => Status::Success.number(),
-        Err(Uleb128Error::Ended) => Status::Uleb128Ended.number(),
-        Err(Uleb128Error::TooLarge) => Status::Uleb128TooLarge.number(),
-        Err(Uleb128Error::DoesNotFit) => Status::DoesNotFit.number(),
+        Ok(()) => Status::Success as u32,
+        Err(Uleb128Error::Ended) => Status::Uleb128Ended as u32,
+        Err(Uleb128Error::TooLarge) => Status::Uleb128TooLarge as u32,
+        Err(Uleb128Error::DoesNotFit) => Status::DoesNotFit as u32,
     }
 }
 
@@ -246,11 +246,11 @@ pub fn linker_utils_write_uleb128_pair_nonnull(
     second: u64,
 ) -> u32 {
     let Some(architecture) = Architecture::from_machine(machine) else {
-        return Status::UnknownArchitecture.number();
+        return Status::UnknownArchitecture as u32;
     };
     match architecture.write_uleb128_pair(r_type, dest, first, second) {
-        Ok(()) => Status::Success.number(),
-        Err(Uleb128PairError::NotFirst) => Status::UnknownRelocation.number(),
+        Ok(()) => Status::Success as u32,
+        Err(Uleb128PairError::NotFirst) => Status::UnknownRelocation as u32,
         Err(Uleb128PairError::Number(error)) => uleb_status_of(Err(error)),
     }
 }

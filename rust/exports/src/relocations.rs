@@ -15,14 +15,14 @@ pub fn linker_utils_relocation(
     info: &mut RelocationNumbers,
 ) -> u32 {
     let Some(architecture) = Architecture::from_machine(machine) else {
-        return Status::UnknownArchitecture.number();
+        return Status::UnknownArchitecture as u32;
     };
     match architecture.row(r_type) {
         Some(row) => {
             *info = *row.numbers();
-            Status::Success.number()
+            Status::Success as u32
         }
-        None => Status::UnknownRelocation.number(),
+        None => Status::UnknownRelocation as u32,
     }
 }
 
@@ -69,16 +69,16 @@ pub fn linker_utils_relocation_name_nonnull(
     name_used: &mut usize,
 ) -> u32 {
     let Some(architecture) = Architecture::from_machine(machine) else {
-        return Status::UnknownArchitecture.number();
+        return Status::UnknownArchitecture as u32;
     };
     let Some(text) = architecture.name(r_type) else {
-        return Status::UnknownRelocation.number();
+        return Status::UnknownRelocation as u32;
     };
     let len = text.len();
     if name.len() < len {
-        return Status::TooShort.number();
+        return Status::TooShort as u32;
     }
     name[..len].copy_from_slice(text.as_bytes());
     *name_used = len;
-    Status::Success.number()
+    Status::Success as u32
 }

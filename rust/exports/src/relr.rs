@@ -10,15 +10,15 @@ fn status_of(written: Result<usize, RelrError>, needed: &mut usize) -> u32 {
     match written {
         Ok(count) => {
             *needed = count;
-            Status::Success.number()
+            Status::Success as u32
         }
-        Err(RelrError::Unaligned) => Status::UnalignedAddress.number(),
-        Err(RelrError::NotAscending) => Status::NotAscending.number(),
-        Err(RelrError::NoAddress) => Status::NoAddress.number(),
-        Err(RelrError::Wraps) => Status::TooLarge.number(),
+        Err(RelrError::Unaligned) => Status::UnalignedAddress as u32,
+        Err(RelrError::NotAscending) => Status::NotAscending as u32,
+        Err(RelrError::NoAddress) => Status::NoAddress as u32,
+        Err(RelrError::Wraps) => Status::TooLarge as u32,
         Err(RelrError::TooShort(count)) => {
             *needed = count;
-            Status::TooShort.number()
+            Status::TooShort as u32
         }
     }
 }

@@ -11,14 +11,14 @@ use linker_utils::{riscv64, x86_64};
 
 // Whether a rewrite, if there is one, can be applied.
 #[inline(always)]
-fn test_by<R: InstructionRewrite>(rewrite: Option<R>, section: &[u8], offset: u64) -> Status {
+fn test_by<R: InstructionRewrite>(rewrite: Option<R>, section: &[u8], offset: u64) -> u32 {
     let Some(named) = rewrite else {
-        return Status::UnknownRewrite;
+        return Status::UnknownRewrite as u32;
     };
     if !named.can_apply(section, offset) {
-        return Status::CannotApply;
+        return Status::CannotApply as u32;
     }
-    Status::Success
+    Status::Success as u32
 }
 
 // Applies a rewrite, if there is one.
@@ -28,15 +28,15 @@ fn apply_by<R: InstructionRewrite>(
     section: &mut [u8],
     offset: &mut u64,
     addend: &mut i64,
-) -> Status {
+) -> u32 {
     let Some(named) = rewrite else {
-        return Status::UnknownRewrite;
+        return Status::UnknownRewrite as u32;
     };
     if !named.can_apply(section, *offset) {
-        return Status::CannotApply;
+        return Status::CannotApply as u32;
     }
     named.apply(section, offset, addend);
-    Status::Success
+    Status::Success as u32
 }
 
 // Applies a rewrite of RISC-V. It isn't inlined, so that `linker_utils_apply` stays small: the kit
@@ -49,7 +49,6 @@ fn apply_riscv(rewrite: u32, section: &mut [u8], offset: &mut u64, addend: &mut 
         offset,
         addend,
     )
-    .number()
 }
 
 // Applies a rewrite of x86-64. It isn't inlined, so that `linker_utils_apply` stays small. In this
@@ -68,7 +67,6 @@ fn apply_x86_64(
         offset,
         addend,
     )
-    .number()
 }
 
 // Applies the rewrite of a machine and a number, if there is one.
@@ -82,13 +80,13 @@ fn apply_of(
     addend: &mut i64,
 ) -> u32 {
     let Some(architecture) = Architecture::from_machine(machine) else {
-        return Status::UnknownArchitecture.number();
+        return Status::UnknownArchitecture as u32;
     };
     match architecture {
         Architecture::RiscV => apply_riscv(rewrite, section, offset, addend),
         Architecture::X86_64 => apply_x86_64(opcode_len, rewrite, section, addend, offset),
         _ => by_architecture!(architecture, known(of => {
-            apply_by(Relaxation::from_number(of, rewrite, opcode_len), section, offset, addend).number()
+            apply_by(Relaxation::from_number(of, rewrite, opcode_len), section, offset, addend)
         })),
     }
 }
@@ -123,10 +121,10 @@ pub fn linker_utils_can_apply_nonnull(
     offset: u64,
 ) -> u32 {
     let Some(architecture) = Architecture::from_machine(machine) else {
-        return Status::UnknownArchitecture.number();
+        return Status::UnknownArchitecture as u32;
     };
     by_architecture!(architecture, known(of => {
-        test_by(Relaxation::from_number(of, rewrite, opcode_len), section, offset).number()
+        test_by(Relaxation::from_number(of, rewrite, opcode_len), section, offset)
     }))
 }
 
@@ -141,15 +139,15 @@ pub fn linker_utils_matches_nonnull(
     offset: u64,
 ) -> u32 {
     let Some(architecture) = Architecture::from_machine(machine) else {
-        return Status::UnknownArchitecture.number();
+        return Status::UnknownArchitecture as u32;
     };
     let Some(named) = Relaxation::from_number(architecture, rewrite, opcode_len) else {
-        return Status::UnknownRewrite.number();
+        return Status::UnknownRewrite as u32;
     };
     if !named.matches(section, offset) {
-        return Status::DoesNotMatch.number();
+        return Status::DoesNotMatch as u32;
     }
-    Status::Success.number()
+    Status::Success as u32
 }
 
 /// Rewrites the instruction at an offset of a section, and sets the offset and the addend to those
@@ -183,13 +181,13 @@ pub fn linker_utils_rewrite_window(
     window: &mut RewriteWindow,
 ) -> u32 {
     let Some(architecture) = Architecture::from_machine(machine) else {
-        return Status::UnknownArchitecture.number();
+        return Status::UnknownArchitecture as u32;
     };
     let Some(named) = Relaxation::from_number(architecture, rewrite, opcode_len) else {
-        return Status::UnknownRewrite.number();
+        return Status::UnknownRewrite as u32;
     };
     *window = named.window();
-    Status::Success.number()
+    Status::Success as u32
 }
 
 /// What becomes of the relocation after that of the rewritten instruction, into `modifier`: 0 where
@@ -202,11 +200,11 @@ pub fn linker_utils_next_modifier(
     modifier: &mut u32,
 ) -> u32 {
     let Some(architecture) = Architecture::from_machine(machine) else {
-        return Status::UnknownArchitecture.number();
+        return Status::UnknownArchitecture as u32;
     };
     let Some(named) = Relaxation::from_number(architecture, rewrite, opcode_len) else {
-        return Status::UnknownRewrite.number();
+        return Status::UnknownRewrite as u32;
     };
     *modifier = number_of(named.next_modifier());
-    Status::Success.number()
+    Status::Success as u32
 }

@@ -181,9 +181,12 @@ fn phase_of(number: u32) -> Option<Phase> {
 /// Whether an architecture has rewrites in a phase, as `has_rewrites` of `rewriting`. False
 /// of a machine or a phase that isn't known.
 pub fn linker_utils_has_rewrites(machine: u16, phase: u32) -> bool {
-    match (Architecture::from_machine(machine), phase_of(phase)) {
-        (Some(architecture), Some(phase)) => has_rewrites(architecture, phase),
-        _ => false,
+    let Some(architecture) = Architecture::from_machine(machine) else {
+        return false;
+    };
+    match phase_of(phase) {
+        Some(phase) => has_rewrites(architecture, phase),
+        None => false,
     }
 }
 
@@ -198,10 +201,10 @@ pub fn linker_utils_survey_nonnull(
     kept: &mut [UnrelaxableGroups],
 ) -> u32 {
     let Some(architecture) = Architecture::from_machine(machine) else {
-        return Status::UnknownArchitecture.number();
+        return Status::UnknownArchitecture as u32;
     };
     survey(architecture, output, symbols, relocations, section, kept);
-    Status::Success.number()
+    Status::Success as u32
 }
 
 /// Notes which groups of an object stay in a phase once addresses are known, by one of its
@@ -219,10 +222,10 @@ pub fn linker_utils_survey_placed_section_nonnull(
     kept: &mut [UnrelaxableGroups],
 ) -> u32 {
     let Some(architecture) = Architecture::from_machine(machine) else {
-        return Status::UnknownArchitecture.number();
+        return Status::UnknownArchitecture as u32;
     };
     let Some(phase) = phase_of(phase) else {
-        return Status::UnknownPhase.number();
+        return Status::UnknownPhase as u32;
     };
     survey_status(survey_placed_section(
         architecture,
@@ -241,8 +244,8 @@ pub fn linker_utils_survey_placed_section_nonnull(
 #[inline(always)]
 pub(crate) fn survey_status(surveyed: Result<(), usize>) -> u32 {
     match surveyed {
-        Ok(()) => Status::Success.number(),
-        Err(_) => Status::FactsContradict.number(),
+        Ok(()) => Status::Success as u32,
+        Err(_) => Status::FactsContradict as u32,
     }
 }
 
@@ -251,18 +254,18 @@ pub(crate) fn survey_status(surveyed: Result<(), usize>) -> u32 {
 #[inline(always)]
 pub(crate) fn put_error(error: RewritingError, faulty: &mut usize) -> u32 {
     match error {
-        RewritingError::TooShort => Status::ShortMemory.number(),
+        RewritingError::TooShort => Status::ShortMemory as u32,
         RewritingError::NotSurveyed(index) => {
             *faulty = index;
-            Status::NotSurveyed.number()
+            Status::NotSurveyed as u32
         }
         RewritingError::Overlaps(index) => {
             *faulty = index;
-            Status::Overlaps.number()
+            Status::Overlaps as u32
         }
         RewritingError::Contradiction(symbol) => {
             *faulty = symbol;
-            Status::FactsContradict.number()
+            Status::FactsContradict as u32
         }
     }
 }
@@ -286,7 +289,7 @@ pub fn linker_utils_rewrite_section_nonnull(
     faulty: &mut usize,
 ) -> u32 {
     let Some(architecture) = Architecture::from_machine(machine) else {
-        return Status::UnknownArchitecture.number();
+        return Status::UnknownArchitecture as u32;
     };
     match rewrite_section(
         architecture,
@@ -297,7 +300,7 @@ pub fn linker_utils_rewrite_section_nonnull(
         section,
         decisions,
     ) {
-        Ok(()) => Status::Success.number(),
+        Ok(()) => Status::Success as u32,
         Err(error) => put_error(error, faulty),
     }
 }
@@ -315,7 +318,7 @@ pub fn linker_utils_decide_rewrites_nonnull(
     faulty: &mut usize,
 ) -> u32 {
     let Some(architecture) = Architecture::from_machine(machine) else {
-        return Status::UnknownArchitecture.number();
+        return Status::UnknownArchitecture as u32;
     };
     match decide_rewrites(
         architecture,
@@ -326,7 +329,7 @@ pub fn linker_utils_decide_rewrites_nonnull(
         section,
         decisions,
     ) {
-        Ok(()) => Status::Success.number(),
+        Ok(()) => Status::Success as u32,
         Err(error) => put_error(error, faulty),
     }
 }
@@ -336,14 +339,14 @@ pub fn linker_utils_decide_rewrites_nonnull(
 #[inline(always)]
 fn put_making_error(error: DecisionError, faulty: &mut usize) -> u32 {
     match error {
-        DecisionError::TooShort => Status::ShortMemory.number(),
+        DecisionError::TooShort => Status::ShortMemory as u32,
         DecisionError::Changed(index) => {
             *faulty = index;
-            Status::DoesNotMatch.number()
+            Status::DoesNotMatch as u32
         }
         DecisionError::Overlaps(index) => {
             *faulty = index;
-            Status::Overlaps.number()
+            Status::Overlaps as u32
         }
     }
 }
@@ -361,7 +364,7 @@ pub fn linker_utils_make_rewrites_nonnull(
     faulty: &mut usize,
 ) -> u32 {
     match make_rewrites(relocations, section, decisions) {
-        Ok(()) => Status::Success.number(),
+        Ok(()) => Status::Success as u32,
         Err(error) => put_making_error(error, faulty),
     }
 }
@@ -392,10 +395,10 @@ pub fn linker_utils_rewrite_placed_section_nonnull(
     faulty: &mut usize,
 ) -> u32 {
     let Some(architecture) = Architecture::from_machine(machine) else {
-        return Status::UnknownArchitecture.number();
+        return Status::UnknownArchitecture as u32;
     };
     let Some(phase) = phase_of(phase) else {
-        return Status::UnknownPhase.number();
+        return Status::UnknownPhase as u32;
     };
     match rewrite_placed_section(
         architecture,
@@ -412,7 +415,7 @@ pub fn linker_utils_rewrite_placed_section_nonnull(
     ) {
         Ok(len) => {
             *deleted_used = len;
-            Status::Success.number()
+            Status::Success as u32
         }
         Err(error) => put_error(error, faulty),
     }
@@ -433,7 +436,7 @@ pub fn linker_utils_survey_toc_loads_nonnull(
     kept: &mut [bool],
 ) -> u32 {
     let Some(architecture) = Architecture::from_machine(machine) else {
-        return Status::UnknownArchitecture.number();
+        return Status::UnknownArchitecture as u32;
     };
     survey_status(survey_toc_loads(
         architecture,
@@ -474,7 +477,7 @@ pub fn linker_utils_rewrite_toc_loads_nonnull(
     faulty: &mut usize,
 ) -> u32 {
     let Some(architecture) = Architecture::from_machine(machine) else {
-        return Status::UnknownArchitecture.number();
+        return Status::UnknownArchitecture as u32;
     };
     match rewrite_toc_loads(
         architecture,
@@ -489,7 +492,7 @@ pub fn linker_utils_rewrite_toc_loads_nonnull(
         section,
         decisions,
     ) {
-        Ok(()) => Status::Success.number(),
+        Ok(()) => Status::Success as u32,
         Err(error) => put_error(error, faulty),
     }
 }

@@ -68,10 +68,10 @@ fn in_numbers(route: Route) -> RouteNumbers {
 /// Why a branch goes no way.
 fn route_status_of(error: RouteError) -> u32 {
     match error {
-        RouteError::NotABranch => Status::NotABranch.number(),
-        RouteError::Value(error) => value_status_of(error).number(),
-        RouteError::NoRoom => Status::NoRoom.number(),
-        RouteError::NoStub => Status::UnknownStub.number(),
+        RouteError::NotABranch => Status::NotABranch as u32,
+        RouteError::Value(error) => value_status_of(error),
+        RouteError::NoRoom => Status::NoRoom as u32,
+        RouteError::NoStub => Status::UnknownStub as u32,
         RouteError::Write(error) => status_of(Err(error)),
     }
 }
@@ -82,7 +82,7 @@ fn put_route(found: Result<Route, RouteError>, route: &mut RouteNumbers) -> u32 
     match found {
         Ok(found) => {
             *route = in_numbers(found);
-            Status::Success.number()
+            Status::Success as u32
         }
         Err(error) => route_status_of(error),
     }
@@ -101,7 +101,7 @@ pub fn linker_utils_route_at_nonnull(
     route: &mut RouteNumbers,
 ) -> u32 {
     let Some(architecture) = Architecture::from_machine(machine) else {
-        return Status::UnknownArchitecture.number();
+        return Status::UnknownArchitecture as u32;
     };
     let target = Target::of(architecture);
     route_at(
@@ -125,10 +125,10 @@ fn route_at(
     route: &mut RouteNumbers,
 ) -> u32 {
     let Some(relocation) = relocation_at(relocations, index) else {
-        return Status::TooShort.number();
+        return Status::TooShort as u32;
     };
     let Some(symbol) = symbols.get(relocation.symbol as usize) else {
-        return Status::NoSymbol.number();
+        return Status::NoSymbol as u32;
     };
     put_route(target.route(addresses, symbol, &relocation, section), route)
 }
@@ -145,7 +145,7 @@ pub fn linker_utils_route_by_word_nonnull(
     route: &mut RouteNumbers,
 ) -> u32 {
     let Some(architecture) = Architecture::from_machine(machine) else {
-        return Status::UnknownArchitecture.number();
+        return Status::UnknownArchitecture as u32;
     };
     route_by_word(
         Target::of(architecture),
@@ -167,6 +167,6 @@ fn route_by_word(
 ) -> u32 {
     match relocation_at(relocations, index) {
         Some(relocation) => put_route(target.route_by_word(word, &relocation, section), route),
-        None => Status::TooShort.number(),
+        None => Status::TooShort as u32,
     }
 }

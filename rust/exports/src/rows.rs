@@ -46,10 +46,10 @@ pub fn linker_utils_row_write_nonnull(handle: u32, value: i64, dest: &mut [u8]) 
 #[inline(always)]
 fn status_applied(outcome: Option<Result<(), ApplyError>>) -> u32 {
     match outcome {
-        Some(Ok(())) => Status::Success.number(),
-        Some(Err(ApplyError::Formula(error))) => value_status(error).number(),
+        Some(Ok(())) => Status::Success as u32,
+        Some(Err(ApplyError::Formula(error))) => value_status(error),
         Some(Err(ApplyError::Write(error))) => status_of(Err(error)),
-        None => Status::UnknownRelocation.number(),
+        None => Status::UnknownRelocation as u32,
     }
 }
 
@@ -91,7 +91,7 @@ pub fn linker_utils_row_needs(
             let needs = needs(architecture, handle % HANDLE_UNIT, addend, is_thread_local);
             needs_by(needs, required)
         }
-        None => Status::UnknownRelocation.number(),
+        None => Status::UnknownRelocation as u32,
     }
 }
 
@@ -105,15 +105,15 @@ pub fn linker_utils_row_choose_nonnull(
     choice: &mut ChoiceNumbers,
 ) -> u32 {
     let Some(architecture) = Architecture::of_handle(handle) else {
-        return Status::UnknownRelocation.number();
+        return Status::UnknownRelocation as u32;
     };
     let r_type = handle % HANDLE_UNIT;
     match architecture.row(r_type) {
         Some(_) => {
             *choice = choose_in_numbers(architecture, r_type, section, offset, &facts.facts());
-            Status::Success.number()
+            Status::Success as u32
         }
-        None => Status::UnknownRelocation.number(),
+        None => Status::UnknownRelocation as u32,
     }
 }
 
@@ -226,14 +226,14 @@ fn row_numbers(architecture: Architecture, r_type: u32, row: &Row) -> RowNumbers
 /// What a relocation means and requires, by its handle. `UnknownRelocation`.
 pub fn linker_utils_row_of(handle: u32, row: &mut RowNumbers) -> u32 {
     let Some(architecture) = Architecture::of_handle(handle) else {
-        return Status::UnknownRelocation.number();
+        return Status::UnknownRelocation as u32;
     };
     let r_type = handle % HANDLE_UNIT;
     match architecture.row(r_type) {
         Some(found) => {
             *row = row_numbers(architecture, r_type, &found);
-            Status::Success.number()
+            Status::Success as u32
         }
-        None => Status::UnknownRelocation.number(),
+        None => Status::UnknownRelocation as u32,
     }
 }

@@ -70,22 +70,22 @@ pub fn linker_utils_section_items_nonnull(
     faulty: &mut usize,
 ) -> u32 {
     let Some(of) = packing_machine(machine) else {
-        return Status::UnknownArchitecture.number();
+        return Status::UnknownArchitecture as u32;
     };
     if items.len() != relocations.len() || makers.len() != relocations.len() {
-        return Status::DifferentLengths.number();
+        return Status::DifferentLengths as u32;
     }
     if section.len() as u64 > u64::MAX - base {
-        return Status::EndsTooHigh.number();
+        return Status::EndsTooHigh as u32;
     }
     match section_items_into(of, section, base, relocations, items, makers) {
         Ok(count) => {
             *len = count;
-            Status::Success.number()
+            Status::Success as u32
         }
         Err(index) => {
             *faulty = index;
-            Status::MalformedRelocation.number()
+            Status::MalformedRelocation as u32
         }
     }
 }
@@ -118,32 +118,32 @@ pub fn linker_utils_rewritten_items_nonnull(
     faulty: &mut usize,
 ) -> u32 {
     let Some(of) = packing_machine(machine) else {
-        return Status::UnknownArchitecture.number();
+        return Status::UnknownArchitecture as u32;
     };
     if !has_both(items.len(), relocations.len(), deleted.len())
         || !has_both(makers.len(), relocations.len(), deleted.len())
     {
-        return Status::DifferentLengths.number();
+        return Status::DifferentLengths as u32;
     }
     if section.len() as u64 > u64::MAX - base {
-        return Status::EndsTooHigh.number();
+        return Status::EndsTooHigh as u32;
     }
     match rewritten_items_into(of, section, base, relocations, deleted, items, makers) {
         Ok(count) => {
             *len = count;
-            Status::Success.number()
+            Status::Success as u32
         }
         Err(RewrittenItemsError::Malformed(index)) => {
             *faulty = index;
-            Status::MalformedRelocation.number()
+            Status::MalformedRelocation as u32
         }
         Err(RewrittenItemsError::Misplaced(index)) => {
             *faulty = index;
-            Status::InvalidDeletions.number()
+            Status::InvalidDeletions as u32
         }
         Err(RewrittenItemsError::Overlaps(index)) => {
             *faulty = index;
-            Status::ItemsOverlap.number()
+            Status::ItemsOverlap as u32
         }
     }
 }

@@ -69,9 +69,9 @@ pub(crate) fn needs_by(needs: Option<Requirements>, required: &mut RequirementNu
     match needs {
         Some(needs) => {
             *required = in_numbers(&needs);
-            Status::Success.number()
+            Status::Success as u32
         }
-        None => Status::UnknownRelocation.number(),
+        None => Status::UnknownRelocation as u32,
     }
 }
 
@@ -86,7 +86,7 @@ pub fn linker_utils_needs(
     required: &mut RequirementNumbers,
 ) -> u32 {
     let Some(architecture) = Architecture::from_machine(machine) else {
-        return Status::UnknownArchitecture.number();
+        return Status::UnknownArchitecture as u32;
     };
     needs_by(
         needs(architecture, r_type, addend, is_thread_local),
@@ -96,16 +96,16 @@ pub fn linker_utils_needs(
 
 /// Why a relocation has no value.
 #[inline(always)]
-pub(crate) fn value_status_of(error: ValueError) -> Status {
+pub(crate) fn value_status_of(error: ValueError) -> u32 {
     match error {
-        ValueError::UnknownType => Status::UnknownRelocation,
-        ValueError::NoSymbol => Status::NoSymbol,
-        ValueError::NoEntry => Status::NoEntry,
-        ValueError::NoTlsBase => Status::NoTlsBase,
-        ValueError::NoHighPart => Status::NoHighPart,
-        ValueError::NotAligned => Status::NotAligned,
-        ValueError::NeedsStub => Status::NeedsStub,
-        ValueError::OutOfReach => Status::OutOfReach,
+        ValueError::UnknownType => Status::UnknownRelocation as u32,
+        ValueError::NoSymbol => Status::NoSymbol as u32,
+        ValueError::NoEntry => Status::NoEntry as u32,
+        ValueError::NoTlsBase => Status::NoTlsBase as u32,
+        ValueError::NoHighPart => Status::NoHighPart as u32,
+        ValueError::NotAligned => Status::NotAligned as u32,
+        ValueError::NeedsStub => Status::NeedsStub as u32,
+        ValueError::OutOfReach => Status::OutOfReach as u32,
     }
 }
 
@@ -121,18 +121,18 @@ pub fn linker_utils_value_at_nonnull(
     value: &mut i64,
 ) -> u32 {
     let Some(architecture) = Architecture::from_machine(machine) else {
-        return Status::UnknownArchitecture.number();
+        return Status::UnknownArchitecture as u32;
     };
     let Some(relocation) = relocation_at(relocations, index) else {
-        return Status::TooShort.number();
+        return Status::TooShort as u32;
     };
     match value_of(architecture, addresses, relocations, symbols, &relocation) {
         Ok(Some(number)) => {
             *value = number;
-            Status::Success.number()
+            Status::Success as u32
         }
-        Ok(None) => Status::NoValue.number(),
-        Err(error) => value_status_of(error).number(),
+        Ok(None) => Status::NoValue as u32,
+        Err(error) => value_status_of(error),
     }
 }
 
@@ -145,9 +145,9 @@ pub fn linker_utils_relocate_memory_nonnull(relocations: &[u8]) -> usize {
 #[inline(always)]
 pub(crate) fn status_of_error(error: RelocationError) -> u32 {
     match error {
-        RelocationError::Value(error) => value_status_of(error).number(),
-        RelocationError::Overlaps => Status::Overlaps.number(),
-        RelocationError::OtherLength => Status::OtherLength.number(),
+        RelocationError::Value(error) => value_status_of(error),
+        RelocationError::Overlaps => Status::Overlaps as u32,
+        RelocationError::OtherLength => Status::OtherLength as u32,
         RelocationError::Write(error) => status_of(Err(error)),
         RelocationError::Uleb128(error) => uleb_status_of(Err(error)),
     }
@@ -166,10 +166,10 @@ pub fn linker_utils_relocate_section_nonnull(
     faulty: &mut usize,
 ) -> u32 {
     let Some(architecture) = Architecture::from_machine(machine) else {
-        return Status::UnknownArchitecture.number();
+        return Status::UnknownArchitecture as u32;
     };
     if memory.len() < memory_len(relocations) {
-        return Status::ShortMemory.number();
+        return Status::ShortMemory as u32;
     }
     match relocate_section(
         architecture,
@@ -179,7 +179,7 @@ pub fn linker_utils_relocate_section_nonnull(
         section,
         memory,
     ) {
-        Ok(()) => Status::Success.number(),
+        Ok(()) => Status::Success as u32,
         Err(error) => {
             *faulty = error.index;
             status_of_error(error.error)

@@ -13,13 +13,13 @@ pub fn linker_utils_write_mov_sequence_nonnull(
     value: u64,
 ) -> u32 {
     if dest.len() < 16 {
-        return Status::TooShort.number();
+        return Status::TooShort as u32;
     }
     if rd > 30 {
-        return Status::BadRegister.number();
+        return Status::BadRegister as u32;
     }
     aarch64::write_mov_sequence(dest, rd, value);
-    Status::Success.number()
+    Status::Success as u32
 }
 
 /// LoongArch: makes the five instructions compute the address `target`, with the first at
@@ -30,10 +30,10 @@ pub fn linker_utils_write_address_sequence_nonnull(
     target: u64,
 ) -> u32 {
     if dest.len() < 20 {
-        return Status::TooShort.number();
+        return Status::TooShort as u32;
     }
     loongarch64::write_address_sequence(dest, pc, target);
-    Status::Success.number()
+    Status::Success as u32
 }
 
 /// LoongArch: the number whose bits 32 to 51 and 52 to 63 complete the address `s`, relative to
@@ -46,8 +46,8 @@ pub fn linker_utils_highest_relocation_with_bias(s: u64, pc: u64) -> u64 {
 /// and its low half into `lo`. The error is `TooShort` where one has fewer than 4 bytes.
 pub fn linker_utils_write_ha_lo_nonnull(ha: &mut [u8], lo: &mut [u8], value: u64) -> u32 {
     if ha.len() < 4 || lo.len() < 4 {
-        return Status::TooShort.number();
+        return Status::TooShort as u32;
     }
     ppc64::write_ha_lo(ha, lo, value);
-    Status::Success.number()
+    Status::Success as u32
 }

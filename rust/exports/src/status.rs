@@ -3,7 +3,7 @@
 //! What a call returns.
 
 /// What a call returns: the sentences of `include/linker_utils.h`. 11 and 16 are unused.
-#[derive(Clone, Copy, PartialEq, Eq)]
+#[derive(Clone, Copy)]
 pub enum Status {
     /// Success.
     Success,
@@ -196,12 +196,4 @@ pub enum Status {
     DifferentValues,
     /// The type of the property has no rule.
     UnknownProperty,
-}
-
-impl Status {
-    /// The number that C sees.
-    #[inline]
-    pub fn number(self) -> u32 {
-        self as u32
-    }
 }

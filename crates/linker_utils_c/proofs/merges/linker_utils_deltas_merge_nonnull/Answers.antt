@@ -1,4 +1,4 @@
-use Rattle.std.proofs.Common.{◌++◌, ◌+◌, inl, inr, rules}
+use Rattle.std.proofs.Common.{◌++◌, ◌+◌, inl, inr, rules, refl}
 use Rattle.linker_base.specs.Deletions.{AreDisjoint, IsValid}
 use Rattle.linker_base.specs.Deltas.{deletions_of}
 use Rattle.linker_base.specs.Listed.{IsFirstInvalid, IsFirstOverlapping}
@@ -9,18 +9,18 @@ use Rattle.linker_utils_c.proofs.merges.linker_utils_deltas_merge_nonnull.Goals 
 
 pub returns-in-Ok-clause-outcome : goal.returns-in-Ok-clause-outcome
 returns-in-Ok-clause-outcome c same =
-    inl (c.number-in-Ok.ensures, c.in-Ok.ensures.outcome.0, c.in-Ok.ensures.outcome.1)
+    inl (refl, c.in-Ok.ensures.outcome.0, c.in-Ok.ensures.outcome.1)
 
 pub returns-in-Err-OutOfMemory-clause-outcome : goal.returns-in-Err-OutOfMemory-clause-outcome
 returns-in-Err-OutOfMemory-clause-outcome c same =
     let valid : IsValid (deletions_of c.args.deltas.now) × AreDisjoint (deletions_of c.args.deltas.now ++ pairs_in c.args.additional.now) = search rules in
-    inr (inl (c.number-in-Err-OutOfMemory.ensures, valid.0, valid.1))
+    inr (inl (refl, valid.0, valid.1))
 
 pub returns-in-Err-Invalid-clause-outcome : goal.returns-in-Err-Invalid-clause-outcome
 returns-in-Err-Invalid-clause-outcome c same =
     let first : IsFirstInvalid (deletions_of c.args.deltas.now) c.in-Err-Invalid.at = search rules in
     inr (inr (inl (
-      c.number-in-Err-Invalid.ensures,
+      refl,
       λ valid. first.here (IsValid-take (deletions_of c.args.deltas.now) (c.in-Err-Invalid.at + 1) valid),
       first,
     )))
@@ -29,7 +29,7 @@ pub returns-in-Err-Overlapping-clause-outcome : goal.returns-in-Err-Overlapping-
 returns-in-Err-Overlapping-clause-outcome c same =
     let first : IsValid (deletions_of c.args.deltas.now) × IsFirstOverlapping (deletions_of c.args.deltas.now) (pairs_in c.args.additional.now) c.in-Err-Overlapping.at = search rules in
     inr (inr (inr (
-      c.number-in-Err-Overlapping.ensures,
+      refl,
       first.0,
       overlapping_denies (deletions_of c.args.deltas.now) (pairs_in c.args.additional.now) c.in-Err-Overlapping.at first.1,
       first.1,

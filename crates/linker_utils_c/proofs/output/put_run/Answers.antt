@@ -9,7 +9,7 @@ pub returns-in_default : goal.returns-in_default
 returns-in_default c =
     let all = c.args.target.now.runs.now in
     let none : slice_get all c.args.index ≡ None = slice_get_past all c.args.index (omega (arith, c.in_default.ensures.lookup)) in
-    rw (runs_at all c.args.index ∙ ap (option_map view_run) none) (c.number.ensures, refl, refl, refl)
+    rw (runs_at all c.args.index ∙ ap (option_map view_run) none) (refl, refl, refl, refl)
 
 pub returns-then-prefix-provided : goal.returns-then-prefix-provided
 returns-then-prefix-provided c =
@@ -20,7 +20,7 @@ returns-then-prefix-provided c =
     rw (runs_at all c.args.index ∙ ap (option_map view_run) here) (record {
       copied = record {
         fits = λ fits. absurd (omega (arith, fits, c.if-prefix-provided.true));
-        short = λ short. (c.number-then-prefix-provided.ensures, refl, refl);
+        short = λ short. (refl, refl, refl);
       };
       fits = λ fits. absurd (omega (arith, fits, c.if-prefix-provided.true));
       short = λ short. refl;

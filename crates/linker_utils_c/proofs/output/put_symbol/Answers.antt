@@ -8,7 +8,7 @@ pub returns-in_default : goal.returns-in_default
 returns-in_default c =
     let all = c.args.target.now.symbols.now in
     let none : slice_get all c.args.index ≡ None = slice_get_past all c.args.index (omega (arith, c.in_default.ensures.lookup)) in
-    rw (symbols_at all c.args.index ∙ ap (option_map view_symbol) none) (c.number.ensures, refl, refl, refl)
+    rw (symbols_at all c.args.index ∙ ap (option_map view_symbol) none) (refl, refl, refl, refl)
 
 pub returns-then-name-provided : goal.returns-then-name-provided
 returns-then-name-provided c =
@@ -19,7 +19,7 @@ returns-then-name-provided c =
     rw (symbols_at all c.args.index ∙ ap (option_map view_symbol) here) (record {
       copied = record {
         fits = λ fits. absurd (omega (arith, fits, c.if-name-provided.true));
-        short = λ short. (c.number-then-name-provided.ensures, refl, refl);
+        short = λ short. (refl, refl, refl);
       };
       fits = λ fits. absurd (omega (arith, fits, c.if-name-provided.true));
       short = λ short. refl;

@@ -9,7 +9,7 @@ pub returns-in_default : goal.returns-in_default
 returns-in_default c =
     let all = c.args.target.now.runs.now in
     let none : slice_get all c.args.run ≡ None = slice_get_past all c.args.run (omega (arith, c.in_default.ensures.lookup)) in
-    rw (runs_at all c.args.run ∙ ap (option_map view_run) none) (c.number.ensures, refl)
+    rw (runs_at all c.args.run ∙ ap (option_map view_run) none) (refl, refl)
 
 pub returns-in-Some-word_at : goal.returns-in-Some-word_at
 returns-in-Some-word_at c =
@@ -18,7 +18,7 @@ returns-in-Some-word_at c =
     let here : slice_get all c.args.run ≡ Some c.in-Some.provided.now =
     slice_get_read all (length all) c.args.run c.in-Some.provided.now refl lookup.3.0 lookup.1 in
     rw (runs_at all c.args.run ∙ ap (option_map view_run) here) (
-    rw (sym c.word_at.ensures ∙ c.in-Some-word_at.is) (c.number-in-Some-word_at.ensures, refl)
+    rw (sym c.word_at.ensures ∙ c.in-Some-word_at.is) (refl, refl)
     )
 
 pub returns-in-None : goal.returns-in-None
@@ -28,5 +28,5 @@ returns-in-None c =
     let here : slice_get all c.args.run ≡ Some c.in-Some.provided.now =
     slice_get_read all (length all) c.args.run c.in-Some.provided.now refl lookup.3.0 lookup.1 in
     rw (runs_at all c.args.run ∙ ap (option_map view_run) here) (
-    rw (sym c.word_at.ensures ∙ c.in-None.is) (c.number-in-None.ensures, refl)
+    rw (sym c.word_at.ensures ∙ c.in-None.is) (refl, refl)
     )

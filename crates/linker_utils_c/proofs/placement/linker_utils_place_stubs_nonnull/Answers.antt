@@ -6,17 +6,17 @@ use Rattle.linker_utils_c.proofs.placement.linker_utils_place_stubs_nonnull.Goal
 pub returns-then-not-have_lengths : goal.returns-then-not-have_lengths
 returns-then-not-have_lengths c =
     let old : Arrays = record { stubs = c.args.stubs.now; stubs_used = c.args.stubs_used.now; ways = c.args.ways.now; before = c.args.before.now } in
-    of_different c.args.branches.now c.args.targets.now c.args.boundaries.now c.args.shape.now old c.args.faulty.now c.number.result
+    of_different c.args.branches.now c.args.targets.now c.args.boundaries.now c.args.shape.now old c.args.faulty.now _
     (λ have. (let e = c.have_lengths.ensures.1 (have.ways, have.before) in let f = c.if-not-have_lengths.true in cc))
-    c.number.ensures
+    refl
 
 pub returns-then-is_short : goal.returns-then-is_short
 returns-then-is_short c =
     let old : Arrays = record { stubs = c.args.stubs.now; stubs_used = c.args.stubs_used.now; ways = c.args.ways.now; before = c.args.before.now } in
     let lengths = c.have_lengths.ensures.0 c.if-not-have_lengths.false in
-    of_short c.args.branches.now c.args.targets.now c.args.boundaries.now c.args.shape.now old c.args.faulty.now c.number-then-is_short.result
+    of_short c.args.branches.now c.args.targets.now c.args.boundaries.now c.args.shape.now old c.args.faulty.now _
     (record { ways = lengths.0; before = lengths.1 }) (c.is_short.ensures.short c.if-is_short.true)
-    c.number-then-is_short.ensures
+    refl
 
 pub returns : goal.returns
 returns c =

@@ -5,7 +5,7 @@ use Rattle.linker_utils_c.proofs.placement.place.Goals as goal
 pub returns-in-Ok : goal.returns-in-Ok
 returns-in-Ok c = inl (
   c.in-Ok.placement,
-  c.number.ensures,
+  refl,
   c.in-Ok.ensures.ok,
   c.in-Ok.ensures.shared,
   record {

@@ -1,5 +1,5 @@
 -- The bytes that follow the number that was read.
-use Rattle.std.proofs.Common.{◌≡◌, ◌+◌, ◌-◌, ◌∙◌, ℕ, List, length, drop, ap, sym, subst, arith}
+use Rattle.std.proofs.Common.{◌≡◌, ◌+◌, ◌-◌, ◌∙◌, ℕ, List, length, drop, ap, sym, subst, arith, refl}
 use Rattle.linker_base.specs.Uleb.{Uleb}
 use Rattle.std.proofs.lemmas.List.{length-drop}
 use Rattle.linker_utils_c.proofs.readers.linker_utils_read_uleb128_nonnull.Goals as goal
@@ -17,7 +17,7 @@ returns-in-Ok-clause-number c success =
 pub returns-in-Ok-clause-accepted : goal.returns-in-Ok-clause-accepted
 returns-in-Ok-clause-accepted c n rest read =
     let is = c.in-Ok.ensures.accepted n rest read in
-    (c.number.ensures, (let e = is.0 in cc), taken _ _ _ c.in-Ok.ensures.number ∙ is.1)
+    (refl, (let e = is.0 in cc), taken _ _ _ c.in-Ok.ensures.number ∙ is.1)
 
 pub returns-in-Err-clause-accepted : goal.returns-in-Err-clause-accepted
 returns-in-Err-clause-accepted c n rest read = absurd (let e = (c.in-Err.ensures.accepted n rest read).0 in cc)

@@ -10,15 +10,15 @@ use Rattle.linker_utils_c.proofs.relocate.relocate_all.Goals as goal
 abbrev nothing : Relocation
 nothing = record { offset = 0; value = pos 0; r_type = 0 }
 
-pub returns-then-status-number : goal.returns-then-status-number
-returns-then-status-number c =
+pub returns-then-status : goal.returns-then-status
+returns-then-status c =
     let rs = c.args.relocations.now in
     let it = get_or rs c.loop-at.at nothing in
     let fits : FitsSigned w64 it.value = search rules in
     let applied : IsApplied c.args.architecture it c.loop-at.section c.relocate_at-status.new.section c.relocate_at-status.result =
     subst (λ v. IsRelocatedAt c.args.architecture it.offset it.r_type v c.loop-at.section c.relocate_at-status.new.section c.relocate_at-status.result) (to_z-of_z w64 it.value fits) c.relocate_at-status.ensures in
     record {
-      success = λ h. absurd (c.if-status-number.true (h ∙ sym c.number.ensures));
+      success = λ h. absurd (c.if-status.true h);
       rejected = λ h. record {
         within = c.loop-at-test.true;
         middle = c.loop-at.section;
@@ -33,7 +33,7 @@ loop-at-preserved c =
     let it = get_or rs c.loop-at.at nothing in
     let fits : FitsSigned w64 it.value = search rules in
     let applied : IsApplied c.args.architecture it c.loop-at.section c.relocate_at-status.new.section 0 =
-    subst (λ s. IsApplied c.args.architecture it c.loop-at.section c.relocate_at-status.new.section s) (c.if-status-number.false ∙ c.number.ensures)
+    subst (λ s. IsApplied c.args.architecture it c.loop-at.section c.relocate_at-status.new.section s) (c.if-status.false)
     (subst (λ v. IsRelocatedAt c.args.architecture it.offset it.r_type v c.loop-at.section c.relocate_at-status.new.section c.relocate_at-status.result) (to_z-of_z w64 it.value fits) c.relocate_at-status.ensures) in
     record {
       inside = omega (arith, c.loop-at-test.true);

@@ -1,14 +1,14 @@
-use Rattle.std.proofs.Common.{◌∙◌, sym, subst, Some}
+use Rattle.std.proofs.Common.{◌∙◌, sym, subst, Some, refl}
 use Rattle.linker_elf.specs.Architectures.{IsRow}
 use Rattle.linker_utils_c.specs.Relocations.{InNumbers}
 use Rattle.linker_utils_c.proofs.RelocationNumbers.{are_numbers}
 use Rattle.linker_utils_c.proofs.relocations.linker_utils_relocation.Goals as goal
 
-pub returns-in-Some-row-clause-known : goal.returns-in-Some-row-clause-known
-returns-in-Some-row-clause-known c =
+pub returns-in-Some-row : goal.returns-in-Some-row
+returns-in-Some-row c =
     let row = c.in-Some-row.row in
     rw (sym c.from_machine.ensures ∙ c.in-Some.is) (
       Some row,
       subst (IsRow c.in-Some.architecture c.args.r_type) c.in-Some-row.is c.row.ensures,
-      (c.number-in-Some-row.ensures, subst (InNumbers row) (sym c.numbers.ensures) (are_numbers row)),
+      (refl, subst (InNumbers row) (sym c.numbers.ensures) (are_numbers row)),
     )

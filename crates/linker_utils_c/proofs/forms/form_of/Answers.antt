@@ -1,0 +1,6 @@
+use Rattle.std.proofs.Common.{◌∙◌, refl, sym}
+use Rattle.linker_utils_c.specs.declared.status.Status.TheVariants.{UnknownArchitecture}
+use Rattle.linker_utils_c.proofs.forms.form_of.Goals as goal
+
+pub returns-in-None : goal.returns-in-None
+returns-in-None c = (UnknownArchitecture, rw (sym c.from_machine.ensures ∙ c.in-None.is) refl, refl)
