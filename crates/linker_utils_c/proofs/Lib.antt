@@ -7,3 +7,4 @@ pub mod Provided
 pub mod Relocating
 pub mod RelocationNumbers
 pub mod RunItems
+pub mod Statuses

@@ -1,5 +1,9 @@
 -- Packed sections of a run, in the numbers that C sees.
-use Rattle.std.specs.Prelude.{◌≡◌, ◌⊎◌, ℕ, List, [], ◌∷◌, Option, None, Some}
+use Rattle.std.specs.Prelude.{◌≡◌, ◌≢◌, ◌+◌, ◌^◌, ◌<◌, ◌≤◌, ◌⊎◌, ◌↔◌, ℕ, List, [], ◌∷◌, length}
+use Rattle.std.specs.Prelude.{Option, None, Some}
+use Rattle.linker_base.specs.Deltas.{deletions_of}
+use Rattle.linker_base.specs.Listed.{AreValidDeltas}
+use Rattle.linker_base.specs.declared.relaxation.RelaxDelta.{RelaxDelta}
 use Rattle.linker_elf.specs.Machines.{architecture_of}
 use Rattle.linker_elf.specs.declared.elf.architecture.Architecture.{Architecture}
 use Rattle.linker_runs.specs.declared.relaxation.Item.{Item}
@@ -9,7 +13,8 @@ use Rattle.linker_runs.specs.declared.packing.ItemError.TheVariants as errors
 use Rattle.linker_runs.specs.Machines.{machine_of}
 use Rattle.linker_runs.specs.Moved.{AreMoved}
 use Rattle.linker_runs.specs.Origins.{HasItsInstructions}
-use Rattle.linker_runs.specs.Packing.{Section, IsPackedRun, IsFirstRejected}
+use Rattle.linker_runs.specs.Packing.{Section, section_of, packed_offset, IsPackedRun}
+use Rattle.linker_runs.specs.Packing.{IsFirstRejected}
 use Rattle.linker_utils_c.specs.declared.status.Status.{Status}
 use Rattle.linker_utils_c.specs.declared.status.Status.TheVariants.{Success, ItemsOverlap}
 use Rattle.linker_utils_c.specs.declared.status.Status.TheVariants.{ItemOutOfSection}
@@ -17,7 +22,8 @@ use Rattle.linker_utils_c.specs.declared.status.Status.TheVariants.{DeletedOutsi
 use Rattle.linker_utils_c.specs.declared.status.Status.TheVariants.{NotItsFirstBytes}
 use Rattle.linker_utils_c.specs.declared.status.Status.TheVariants.{NotItsInstructions, NoShape}
 use Rattle.linker_utils_c.specs.declared.status.Status.TheVariants.{TargetOutOfReach}
-use Rattle.linker_utils_c.specs.Status.{code}
+use Rattle.linker_utils_c.specs.declared.status.Status.TheVariants.{EndsTooHigh, DifferentLengths}
+use Rattle.linker_utils_c.specs.Status.{code, IsOneOf}
 
 -- the machine of an architecture whose sections are packed
 abbrev pub packed_as : Option Architecture → Option Machine
@@ -62,3 +68,21 @@ abbrev pub SaysOfInstructions : Machine → List ℕ → ℕ → Item → ℕ �
 SaysOfInstructions machine section base item status =
     ((status ≡ code Success) × HasItsInstructions machine section base item)
     ⊎ ((status ≡ code NotItsInstructions) × ¬ HasItsInstructions machine section base item)
+
+-- what a pack of a section that begins at the input offset `base` returns, with any deltas
+pub record IsRunReturned (machine : Machine) (deltas : List RelaxDelta) (section : List ℕ)
+    (base start : ℕ) (items : List Item) (before after packed_before packed : List ℕ)
+    (faulty_before faulty status : ℕ) : Type 0 where
+  pub listed : IsOneOf (Success ∷ EndsTooHigh ∷ DifferentLengths ∷ item_statuses) status
+  pub too_high : (status ≡ code EndsTooHigh) ↔ (2 ^ 64 ≤ base + length section)
+  pub different_lengths : AreValidDeltas deltas → base + length section < 2 ^ 64
+      → (status ≡ code DifferentLengths)
+      ↔ (length packed_before
+      ≢ packed_offset (section_of section base (deletions_of deltas) start)
+      (base + length section))
+  pub outcome : AreValidDeltas deltas → (status ≡ code EndsTooHigh)
+      ⊎ (status ≡ code DifferentLengths)
+      ⊎ IsRunPackedOrRejected machine (section_of section base (deletions_of deltas) start) items
+      before after packed faulty status
+  pub unchanged : status ≢ code Success → (packed ≡ packed_before) × (after ≡ before)
+  pub faulty_stays : ¬ IsOneOf item_statuses status → faulty ≡ faulty_before

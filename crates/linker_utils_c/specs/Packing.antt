@@ -1,6 +1,12 @@
 -- Packing by the numbers that C sees.
-use Rattle.std.specs.Prelude.{◌≡◌, ◌⊎◌, ℕ, zero, suc, List, [], ◌∷◌, Option, None, Some, map, All}
-use Rattle.linker_riscv64.specs.Packing.{call_of, CanJump, IsFirstRejected, IsPacked}
+use Rattle.std.specs.Prelude.{◌≡◌, ◌≢◌, ◌⊎◌, ◌↔◌, ℕ, zero, suc, List, [], ◌∷◌, Option, None}
+use Rattle.std.specs.Prelude.{Some, map, All, length}
+use Rattle.linker_base.specs.Deletions.{rank}
+use Rattle.linker_base.specs.Deltas.{deletions_of}
+use Rattle.linker_base.specs.Listed.{AreValidDeltas}
+use Rattle.linker_base.specs.declared.relaxation.RelaxDelta.{RelaxDelta}
+use Rattle.linker_riscv64.specs.Packing.{call_of, AreApart, CanJump, IsFirstNotApart}
+use Rattle.linker_riscv64.specs.Packing.{IsFirstRejected, IsPacked}
 use Rattle.linker_riscv64.specs.declared.calls.Call.{Call}
 use Rattle.linker_riscv64.specs.declared.calls.LinkRegister.{LinkRegister}
 use Rattle.linker_riscv64.specs.declared.calls.LinkRegister.TheVariants.{OfAuipc, OfJalr}
@@ -11,7 +17,8 @@ use Rattle.linker_utils_c.specs.declared.status.Status.{Status}
 use Rattle.linker_utils_c.specs.declared.status.Status.TheVariants.{Success, OutOfSection}
 use Rattle.linker_utils_c.specs.declared.status.Status.TheVariants.{SiteDeleted, OddDistance}
 use Rattle.linker_utils_c.specs.declared.status.Status.TheVariants.{TooFar, NotACall, CallsNotApart}
-use Rattle.linker_utils_c.specs.Status.{code}
+use Rattle.linker_utils_c.specs.declared.status.Status.TheVariants.{DifferentLengths}
+use Rattle.linker_utils_c.specs.Status.{code, IsOneOf}
 
 -- the calls as pairs of a site and a target
 abbrev pub calls_in : List Call → List (ℕ × ℕ)
@@ -59,3 +66,19 @@ abbrev pub IsPackedOrRejected : LinkRegister → List (ℕ × ℕ) → List ℕ 
 IsPackedOrRejected link deletions section calls packed faulty status =
     IsPackedWhole link deletions section calls packed status
     ⊎ IsCallRejected link deletions section calls faulty status
+
+-- what a pack returns, with any deltas
+pub record IsPackReturned (link : LinkRegister) (deltas : List RelaxDelta) (section : List ℕ)
+    (calls : List (ℕ × ℕ)) (before after : List ℕ) (faulty_before faulty status : ℕ)
+    : Type 0 where
+  pub listed : IsOneOf (Success ∷ DifferentLengths ∷ call_statuses) status
+  pub not_apart : (status ≡ code CallsNotApart) ↔ ¬ AreApart calls
+  pub different_lengths : AreValidDeltas deltas → AreApart calls
+      → length before ≢ rank (deletions_of deltas) (length section)
+      → status ≡ code DifferentLengths
+  pub packed : AreValidDeltas deltas → AreApart calls
+      → length before ≡ rank (deletions_of deltas) (length section)
+      → IsPackedOrRejected link (deletions_of deltas) section calls after faulty status
+  pub unchanged : status ≢ code Success → after ≡ before
+  pub faulty_call : status ≡ code CallsNotApart → IsFirstNotApart calls faulty
+  pub faulty_stays : ¬ IsOneOf call_statuses status → faulty ≡ faulty_before

@@ -1,15 +1,13 @@
 //! The sections of a relaxed run, packed.
 
-ghost use Rattle.std.specs.Prelude.{◌≡◌, ◌≢◌, ◌+◌, ◌-◌, ◌^◌, ◌<◌, ◌≤◌, ◌↔◌, ◌⊎◌, ◌∷◌, length};
-ghost use Rattle.std.specs.Prelude.{IsNone, IfSome, MatchOption};
+ghost use Rattle.std.specs.Prelude.{◌≡◌, ◌+◌, ◌-◌, ◌^◌, ◌<◌, ◌≤◌, MatchOption};
 ghost use Rattle.linker_base.specs.Deletions.{rank};
 ghost use Rattle.linker_base.specs.Deltas.{deletions_of};
 ghost use Rattle.linker_base.specs.Listed.{AreValidDeltas};
-ghost use Rattle.linker_runs.specs.Packing.{section_of, packed_offset};
-ghost use Rattle.linker_utils_c.specs.PackRuns.{packing_machine, item_status, item_statuses};
-ghost use Rattle.linker_utils_c.specs.PackRuns.{IsRunPackedOrRejected, SaysOfInstructions};
+ghost use Rattle.linker_utils_c.specs.PackRuns.{packing_machine, item_status, IsRunReturned};
+ghost use Rattle.linker_utils_c.specs.PackRuns.{SaysOfInstructions};
 ghost use Rattle.linker_utils_c.specs.Relaxing.{item_of, items_in};
-ghost use Rattle.linker_utils_c.specs.Status.{code, IsOneOf};
+ghost use Rattle.linker_utils_c.specs.Status.{code};
 
 use crate::relaxing::ItemNumbers;
 use crate::status::Status;
@@ -112,25 +110,11 @@ pub extern "C" fn linker_utils_pack_run_nonnull(
     packed: &mut [u8],
     faulty: &mut usize,
 ) -> u32
-    ensures listed { IsOneOf (Status.Success ∷ Status.UnknownArchitecture ∷ Status.EndsTooHigh
-        ∷ Status.DifferentLengths ∷ item_statuses) result }
-    ensures unknown_machine { (result ≡ code Status.UnknownArchitecture)
-        ↔ IsNone (packing_machine machine) }
-    ensures too_high { IfSome (packing_machine machine) (λ known.
-        (result ≡ code Status.EndsTooHigh) ↔ (2 ^ 64 ≤ base + length section.now)) }
-    ensures different_lengths { AreValidDeltas deltas.now → IfSome (packing_machine machine)
-        (λ known. base + length section.now < 2 ^ 64
-        → (result ≡ code Status.DifferentLengths)
-        ↔ (length packed.old
-        ≢ packed_offset (section_of section.now base (deletions_of deltas.now) start)
-        (base + length section.now))) }
-    ensures outcome { AreValidDeltas deltas.now → IfSome (packing_machine machine) (λ known.
-        (result ≡ code Status.EndsTooHigh) ⊎ (result ≡ code Status.DifferentLengths)
-        ⊎ IsRunPackedOrRejected known (section_of section.now base (deletions_of deltas.now) start)
-        (items_in items.now) relocations.old relocations.new packed.new faulty.new result) }
-    ensures unchanged { result ≢ code Status.Success
-        → (packed.new ≡ packed.old) × (relocations.new ≡ relocations.old) }
-    ensures faulty_stays { ¬ IsOneOf item_statuses result → faulty.new ≡ faulty.old }
+    ensures { MatchOption (packing_machine machine)
+        ((result ≡ code Status.UnknownArchitecture) × (packed.new ≡ packed.old)
+        × (relocations.new ≡ relocations.old) × (faulty.new ≡ faulty.old))
+        (λ known. IsRunReturned known deltas.now section.now base start (items_in items.now)
+        relocations.old relocations.new packed.old packed.new faulty.old faulty.new result) }
 {
     match packing_machine(machine) {
         Some(known) => pack(
@@ -159,23 +143,8 @@ fn pack(
     packed: &mut [u8],
     faulty: &mut usize,
 ) -> u32
-    ensures listed { IsOneOf (Status.Success ∷ Status.EndsTooHigh ∷ Status.DifferentLengths
-        ∷ item_statuses) result }
-    ensures known { result ≢ code Status.UnknownArchitecture }
-    ensures too_high { (result ≡ code Status.EndsTooHigh) ↔ (2 ^ 64 ≤ base + length section.now) }
-    ensures different_lengths { AreValidDeltas deltas.now → base + length section.now < 2 ^ 64
-        → (result ≡ code Status.DifferentLengths)
-        ↔ (length packed.old
-        ≢ packed_offset (section_of section.now base (deletions_of deltas.now) start)
-        (base + length section.now)) }
-    ensures outcome { AreValidDeltas deltas.now → (result ≡ code Status.EndsTooHigh)
-        ⊎ (result ≡ code Status.DifferentLengths)
-        ⊎ IsRunPackedOrRejected machine
-        (section_of section.now base (deletions_of deltas.now) start) (items_in items.now)
-        relocations.old relocations.new packed.new faulty.new result }
-    ensures unchanged { result ≢ code Status.Success
-        → (packed.new ≡ packed.old) × (relocations.new ≡ relocations.old) }
-    ensures faulty_stays { ¬ IsOneOf item_statuses result → faulty.new ≡ faulty.old }
+    ensures { IsRunReturned machine deltas.now section.now base start (items_in items.now)
+        relocations.old relocations.new packed.old packed.new faulty.old faulty.new result }
 {
     if section.len() as u64 > u64::MAX - base {
         return Status::EndsTooHigh as u32;

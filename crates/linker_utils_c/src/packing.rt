@@ -1,13 +1,11 @@
 //! The kept bytes of a section, with its calls made jumps.
 
-ghost use Rattle.std.specs.Prelude.{◌≡◌, ◌≢◌, ◌↔◌, ◌∷◌, IsNone, IfSome, length};
+ghost use Rattle.std.specs.Prelude.{◌≡◌, MatchOption, length};
 ghost use Rattle.linker_base.specs.Deletions.{rank};
 ghost use Rattle.linker_base.specs.Deltas.{deletions_of};
 ghost use Rattle.linker_base.specs.Listed.{AreValidDeltas};
-ghost use Rattle.linker_riscv64.specs.Packing.{AreApart, IsFirstNotApart};
-ghost use Rattle.linker_utils_c.specs.Status.{code, IsOneOf};
-ghost use Rattle.linker_utils_c.specs.Packing.{calls_in, named_link, call_statuses};
-ghost use Rattle.linker_utils_c.specs.Packing.{IsPackedOrRejected};
+ghost use Rattle.linker_utils_c.specs.Status.{code};
+ghost use Rattle.linker_utils_c.specs.Packing.{calls_in, named_link, IsPackReturned};
 
 use crate::calls::{chosen_register, jump_status};
 use crate::status::Status;
@@ -41,24 +39,11 @@ pub extern "C" fn linker_utils_pack_nonnull(
     packed: &mut [u8],
     faulty: &mut usize,
 ) -> u32
-    ensures listed { IsOneOf (Status.Success ∷ Status.UnknownLinkRegister
-        ∷ Status.DifferentLengths ∷ call_statuses) result }
-    ensures unknown_link { (result ≡ code Status.UnknownLinkRegister) ↔ IsNone (named_link link) }
-    ensures not_apart { IfSome (named_link link) (λ register.
-        (result ≡ code Status.CallsNotApart) ↔ ¬ AreApart (calls_in calls.now)) }
-    ensures different_lengths { AreValidDeltas deltas.now → IfSome (named_link link) (λ register.
-        AreApart (calls_in calls.now)
-        → length packed.old ≢ rank (deletions_of deltas.now) (length section.now)
-        → result ≡ code Status.DifferentLengths) }
-    ensures packed { AreValidDeltas deltas.now → IfSome (named_link link) (λ register.
-        AreApart (calls_in calls.now)
-        → length packed.old ≡ rank (deletions_of deltas.now) (length section.now)
-        → IsPackedOrRejected register (deletions_of deltas.now) section.now (calls_in calls.now)
-        packed.new faulty.new result) }
-    ensures unchanged { result ≢ code Status.Success → packed.new ≡ packed.old }
-    ensures faulty_call { result ≡ code Status.CallsNotApart
-        → IsFirstNotApart (calls_in calls.now) faulty.new }
-    ensures faulty_stays { ¬ IsOneOf call_statuses result → faulty.new ≡ faulty.old }
+    ensures { MatchOption (named_link link)
+        ((result ≡ code Status.UnknownLinkRegister) × (packed.new ≡ packed.old)
+        × (faulty.new ≡ faulty.old))
+        (λ register. IsPackReturned register deltas.now section.now (calls_in calls.now) packed.old
+        packed.new faulty.old faulty.new result) }
 {
     match chosen_register(link) {
         Some(register) => pack(section, deltas, calls, register, packed, faulty),
@@ -74,20 +59,8 @@ fn pack(
     packed: &mut [u8],
     faulty: &mut usize,
 ) -> u32
-    ensures listed { IsOneOf (Status.Success ∷ Status.DifferentLengths ∷ call_statuses) result }
-    ensures known { result ≢ code Status.UnknownLinkRegister }
-    ensures not_apart { (result ≡ code Status.CallsNotApart) ↔ ¬ AreApart (calls_in calls.now) }
-    ensures different_lengths { AreValidDeltas deltas.now → AreApart (calls_in calls.now)
-        → length packed.old ≢ rank (deletions_of deltas.now) (length section.now)
-        → result ≡ code Status.DifferentLengths }
-    ensures packed { AreValidDeltas deltas.now → AreApart (calls_in calls.now)
-        → length packed.old ≡ rank (deletions_of deltas.now) (length section.now)
-        → IsPackedOrRejected register (deletions_of deltas.now) section.now (calls_in calls.now)
-        packed.new faulty.new result }
-    ensures unchanged { result ≢ code Status.Success → packed.new ≡ packed.old }
-    ensures faulty_call { result ≡ code Status.CallsNotApart
-        → IsFirstNotApart (calls_in calls.now) faulty.new }
-    ensures faulty_stays { ¬ IsOneOf call_statuses result → faulty.new ≡ faulty.old }
+    ensures { IsPackReturned register deltas.now section.now (calls_in calls.now) packed.old
+        packed.new faulty.old faulty.new result }
 {
     if let Some(index) = first_not_apart(calls) {
         *faulty = index;
