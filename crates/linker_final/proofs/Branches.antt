@@ -20,6 +20,7 @@ use Rattle.linker_elf.specs.declared.loongarch64.relocations.LoongArch64Relocati
 use Rattle.linker_elf.specs.declared.riscv64.forms.RiscVInstruction.TheVariants.{BType, CbType, CjType, JType}
 use Rattle.linker_elf.specs.declared.riscv64.relocations.RiscVRelocation.{RiscVRelocation}
 use Rattle.linker_elf.specs.declared.riscv64.relocations.RiscVRelocation.TheVariants as riscv_names
+use Rattle.linker_final.proofs.InstructionFields.{some_value}
 use Rattle.linker_final.proofs.PackedBytes.{addresses}
 use Rattle.linker_final.proofs.PackedInstructions.{places}
 use Rattle.linker_final.specs.Branches.{Goes, LoongArchBranchesGo, RiscVBranchesGo, final_number}
@@ -34,10 +35,6 @@ use Rattle.linker_section.specs.Values.{has_value, names_label, offset_at, opera
 use Rattle.linker_section.specs.declared.facts.Addresses.{Addresses}
 use Rattle.linker_section.specs.declared.facts.Symbol.{Symbol}
 use Rattle.linker_section.specs.declared.relocations.Rela.{Rela}
-
-some_value : (v : Option ℤ) → IsSomeAnd v (λ _. ⊤) → (z : ℤ) × (v ≡ Some z)
-some_value None nothing = absurd nothing
-some_value (Some z) there = (z, refl)
 
 -- by a row of an instruction that takes no entry
 goes : (machine : Machine) (row : RelocationKindInfo) (bits : BitRange) (insn : RelocationInstruction)

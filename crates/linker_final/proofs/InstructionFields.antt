@@ -1,6 +1,6 @@
 -- The relocation of an instruction in the final bytes of a section: it is applied to the bytes
 -- between.
-use Rattle.std.proofs.Common.{◌≡◌, ℕ, ◌/◌, ◌<◌, List, length, take, drop, true, false, cond, subst, ◌∙◌, arith, Ok, Some, IsSomeAnd}
+use Rattle.std.proofs.Common.{◌≡◌, ℕ, ℤ, ◌/◌, ◌<◌, List, length, take, drop, true, false, cond, subst, ◌∙◌, refl, arith, Ok, Option, Some, None, IsSomeAnd}
 use Rattle.std.proofs.lemmas.Bool.{cond-true, cond-false}
 use Rattle.std.specs.Prelude.{⊤}
 use Rattle.linker_base.specs.declared.bit_misc.BitRange.{BitRange}
@@ -31,6 +31,27 @@ pub record IsOfInstruction (n : ℕ) (row : RelocationKindInfo) : Type 0 where
   pub unlabelled : names_label row.size row.kind ≡ false
   pub alone : is_of_pair row ≡ false
   pub some : (o : Operands) → IsSomeAnd (value_of row o) (λ _. ⊤)
+
+pub some_value : (v : Option ℤ) → IsSomeAnd v (λ _. ⊤) → (z : ℤ) × (v ≡ Some z)
+some_value None nothing = absurd nothing
+some_value (Some z) there = (z, refl)
+
+-- whichever bits it has
+pub of_bits : {n : ℕ} {row : RelocationKindInfo} {bits : BitRange} {insn : RelocationInstruction}
+    → row.size ≡ BitMasking bits insn → window_len row ≡ n → has_value row.kind ≡ true
+    → names_label row.size row.kind ≡ false → is_of_pair row ≡ false
+    → ((o : Operands) → IsSomeAnd (value_of row o) (λ _. ⊤)) → IsOfInstruction n row
+of_bits size wide valued unlabelled alone some =
+    record {
+      bits = _;
+      insn = _;
+      size = size;
+      wide = wide;
+      valued = valued;
+      unlabelled = unlabelled;
+      alone = alone;
+      some = some;
+    }
 
 pub plain_len : (n : ℕ) (row : RelocationKindInfo) → window_len row ≡ n → has_value row.kind ≡ true
     → is_of_pair row ≡ false → (bytes : List ℕ) → field_len row bytes ≡ n

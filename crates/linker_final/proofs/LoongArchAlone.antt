@@ -5,15 +5,14 @@ use Rattle.linker_elf.specs.Choices.{entry}
 use Rattle.linker_elf.specs.ElfNames.{IsNameOf, code_of}
 use Rattle.linker_elf.specs.LoongArchRelocations.{loongarch_name, high_row, low_row}
 use Rattle.linker_elf.specs.Value.{value_of}
-use Rattle.linker_elf.specs.declared.elf.RelocationInstruction.TheVariants as insns
 use Rattle.linker_elf.specs.declared.elf.RelocationKind.TheVariants.{TpOff}
 use Rattle.linker_elf.specs.declared.elf.RelocationKindInfo.{RelocationKindInfo}
 use Rattle.linker_elf.specs.declared.elf.choice.Choice.{Choice}
 use Rattle.linker_elf.specs.declared.elf.value.Operands.{Operands}
-use Rattle.linker_elf.specs.declared.loongarch64.forms.LoongArch64Instruction.TheVariants.{Shift5, Shift10}
 use Rattle.linker_elf.specs.declared.loongarch64.relocations.LoongArch64Relocation.{LoongArch64Relocation}
 use Rattle.linker_elf.specs.declared.loongarch64.relocations.LoongArch64Relocation.TheVariants as names
 use Rattle.linker_rewriting.proofs.PreLayout.{isnt}
+use Rattle.linker_final.proofs.InstructionFields.{of_bits}
 use Rattle.linker_final.proofs.LoongArchChosen.{IsByTable, IsEntry, by_table, entry_by}
 use Rattle.linker_final.proofs.LoongArchWritten.{IsAfter, becomes, named_after, relocated_there}
 use Rattle.linker_final.proofs.Written.{are_rewritten, word_same}
@@ -42,16 +41,7 @@ high_after =
       row = high_row TpOff;
       is = refl;
       named = tt;
-      of = record {
-        bits = record { start = 12; end = 32 };
-        insn = insns.LoongArch64 Shift5;
-        size = refl;
-        wide = refl;
-        valued = refl;
-        unlabelled = refl;
-        alone = refl;
-        some = λ o. tt;
-      };
+      of = of_bits refl refl refl refl refl (λ o. tt);
     }
 
 abbrev pub low_after : IsAfter names.R_LARCH_TLS_LE_LO12
@@ -60,16 +50,7 @@ low_after =
       row = low_row TpOff;
       is = refl;
       named = tt;
-      of = record {
-        bits = record { start = 0; end = 12 };
-        insn = insns.LoongArch64 Shift10;
-        size = refl;
-        wide = refl;
-        valued = refl;
-        unlabelled = refl;
-        alone = refl;
-        some = λ o. tt;
-      };
+      of = of_bits refl refl refl refl refl (λ o. tt);
     }
 
 abbrev pub part_after : IsAfter names.R_LARCH_TLS_LE_LO12_R
@@ -78,16 +59,7 @@ part_after =
       row = low_row TpOff;
       is = refl;
       named = tt;
-      of = record {
-        bits = record { start = 0; end = 12 };
-        insn = insns.LoongArch64 Shift10;
-        size = refl;
-        wide = refl;
-        valued = refl;
-        unlabelled = refl;
-        alone = refl;
-        some = λ o. tt;
-      };
+      of = of_bits refl refl refl refl refl (λ o. tt);
     }
 
 -- ---- entries

@@ -8,16 +8,15 @@ use Rattle.linker_elf.specs.ElfNames.{code_of}
 use Rattle.linker_elf.specs.LoongArchRelocations.{loongarch_name, low_row, rounded_row}
 use Rattle.linker_elf.specs.Rows.{entry_pages, paged_row}
 use Rattle.linker_elf.specs.Value.{value_of}
-use Rattle.linker_elf.specs.declared.elf.RelocationInstruction.TheVariants as insns
 use Rattle.linker_elf.specs.declared.elf.RelocationKind.TheVariants.{GotTpOff, GotTpOffGot}
 use Rattle.linker_elf.specs.declared.elf.RelocationKindInfo.{RelocationKindInfo}
 use Rattle.linker_elf.specs.declared.elf.choice.Choice.{Choice}
 use Rattle.linker_elf.specs.declared.elf.choice.LinkFacts.{LinkFacts}
 use Rattle.linker_elf.specs.declared.elf.value.Operands.{Operands}
-use Rattle.linker_elf.specs.declared.loongarch64.forms.LoongArch64Instruction.TheVariants.{Shift5, Shift10}
 use Rattle.linker_elf.specs.declared.loongarch64.relocations.LoongArch64Relocation.{LoongArch64Relocation}
 use Rattle.linker_elf.specs.declared.loongarch64.relocations.LoongArch64Relocation.TheVariants as names
 use Rattle.linker_rewriting.proofs.Entries.{IsOfEntry}
+use Rattle.linker_final.proofs.InstructionFields.{of_bits}
 use Rattle.linker_final.proofs.LoongArchAlone.{high_after, high_anywhere, high_takes, in_place, low_after, low_takes}
 use Rattle.linker_final.proofs.LoongArchChosen.{IsByTable, IsEntry, by_table, entry_by, same_kind}
 use Rattle.linker_final.proofs.LoongArchWritten.{IsAfter, becomes, named_after, relocated_there, unwritten_nop}
@@ -50,16 +49,7 @@ entry_high =
       row = paged_row entry_pages (rounded_row GotTpOff);
       is = refl;
       named = tt;
-      of = record {
-        bits = record { start = 12; end = 32 };
-        insn = insns.LoongArch64 Shift5;
-        size = refl;
-        wide = refl;
-        valued = refl;
-        unlabelled = refl;
-        alone = refl;
-        some = λ o. tt;
-      };
+      of = of_bits refl refl refl refl refl (λ o. tt);
     }
 
 abbrev pub entry_low : IsAfter names.R_LARCH_TLS_IE_PC_LO12
@@ -68,16 +58,7 @@ entry_low =
       row = low_row GotTpOffGot;
       is = refl;
       named = tt;
-      of = record {
-        bits = record { start = 0; end = 12 };
-        insn = insns.LoongArch64 Shift10;
-        size = refl;
-        wide = refl;
-        valued = refl;
-        unlabelled = refl;
-        alone = refl;
-        some = λ o. tt;
-      };
+      of = of_bits refl refl refl refl refl (λ o. tt);
     }
 
 -- ---- entries, by the kinds of their rewrites

@@ -8,13 +8,12 @@ use Rattle.linker_elf.specs.ElfNames.{code_of}
 use Rattle.linker_elf.specs.LoongArchRelocations.{loongarch_name, low_row, rounded_row}
 use Rattle.linker_elf.specs.Rows.{paged_row, place_pages, entry_pages}
 use Rattle.linker_elf.specs.Value.{value_of}
-use Rattle.linker_elf.specs.declared.elf.RelocationInstruction.TheVariants as insns
 use Rattle.linker_elf.specs.declared.elf.RelocationKind.TheVariants.{Relative, AbsoluteLowPart, GotRelative}
 use Rattle.linker_elf.specs.declared.elf.RelocationKindInfo.{RelocationKindInfo}
 use Rattle.linker_elf.specs.declared.elf.choice.Choice.{Choice}
-use Rattle.linker_elf.specs.declared.loongarch64.forms.LoongArch64Instruction.TheVariants.{Shift5, Shift10}
 use Rattle.linker_elf.specs.declared.loongarch64.relocations.LoongArch64Relocation.TheVariants as names
 use Rattle.linker_rewriting.proofs.PreLayout.{isnt}
+use Rattle.linker_final.proofs.InstructionFields.{of_bits}
 use Rattle.linker_final.proofs.LoongArchChosen.{IsByTable, IsEntry, by_table, entry_by}
 use Rattle.linker_final.proofs.LoongArchPairs.{AreOfLoad, load_of}
 use Rattle.linker_final.proofs.LoongArchWritten.{IsAfter, applied_there, becomes}
@@ -46,16 +45,7 @@ page_after =
       row = paged_row place_pages (rounded_row Relative);
       is = refl;
       named = tt;
-      of = record {
-        bits = record { start = 12; end = 32 };
-        insn = insns.LoongArch64 Shift5;
-        size = refl;
-        wide = refl;
-        valued = refl;
-        unlabelled = refl;
-        alone = refl;
-        some = λ o. tt;
-      };
+      of = of_bits refl refl refl refl refl (λ o. tt);
     }
 
 abbrev low_after : IsAfter names.R_LARCH_PCALA_LO12
@@ -64,16 +54,7 @@ low_after =
       row = low_row AbsoluteLowPart;
       is = refl;
       named = tt;
-      of = record {
-        bits = record { start = 0; end = 12 };
-        insn = insns.LoongArch64 Shift10;
-        size = refl;
-        wide = refl;
-        valued = refl;
-        unlabelled = refl;
-        alone = refl;
-        some = λ o. tt;
-      };
+      of = of_bits refl refl refl refl refl (λ o. tt);
     }
 
 -- ---- operands

@@ -1,7 +1,7 @@
 -- LoongArch: calls and addresses that stay, in the final bytes of a packed section.
 use Rattle.std.proofs.Common.{◌≡◌, ℕ, ◌+◌, ◌^◌, ◌<◌, take, drop, refl, sym, ap, subst, ◌∙◌, arith, true, false, Option, Some, None, Ok, IsSomeAnd}
 use Rattle.std.proofs.lemmas.List.Elements.{All-drop, All-take}
-use Rattle.std.specs.Prelude.{⊤, ℤ, slice_get}
+use Rattle.std.specs.Prelude.{⊤, slice_get}
 use Rattle.linker_base.specs.declared.bit_misc.BitRange.{BitRange}
 use Rattle.linker_elf.specs.Applied.{IsApplied}
 use Rattle.linker_elf.specs.LoongArchRelocations.{loongarch_row}
@@ -15,6 +15,7 @@ use Rattle.linker_elf.specs.declared.elf.RelocationSize.TheVariants.{BitMasking}
 use Rattle.linker_elf.specs.declared.elf.value.Operands.{Operands}
 use Rattle.linker_elf.specs.declared.loongarch64.relocations.LoongArch64Relocation.{LoongArch64Relocation}
 use Rattle.linker_elf.specs.declared.loongarch64.relocations.LoongArch64Relocation.TheVariants as names
+use Rattle.linker_final.proofs.InstructionFields.{some_value}
 use Rattle.linker_final.proofs.LoongArchPackedSites.{Made, both_call, both_make, by_addi, by_ld, either, first_of_window, from_there, second_at, second_of_window}
 use Rattle.linker_final.proofs.PackedBytes.{place_after, places_inside, stay_inside}
 use Rattle.linker_final.proofs.PackedInstructions.{instructions}
@@ -46,10 +47,6 @@ high_row = the_row (loongarch_row names.R_LARCH_PCALA_HI20)
 
 abbrev low_row : RelocationKindInfo
 low_row = the_row (loongarch_row names.R_LARCH_PCALA_LO12)
-
-some_value : (v : Option ℤ) → IsSomeAnd v (λ _. ⊤) → (z : ℤ) × (v ≡ Some z)
-some_value None nothing = absurd nothing
-some_value (Some z) there = (z, refl)
 
 -- The relocation of an instruction that stays is applied to it.
 module _ (p : Packed) (is : IsPacked p) (machine : p.machine ≡ LoongArch64) (i : ℕ)

@@ -5,13 +5,12 @@ use Rattle.std.specs.Int.{w32, from_le_bytes, to_le_bytes}
 use Rattle.linker_elf.specs.Choices.{entry}
 use Rattle.linker_elf.specs.RiscVRelocations.{pair_row, riscv_row}
 use Rattle.linker_elf.specs.Value.{sum_64}
-use Rattle.linker_elf.specs.declared.elf.RelocationInstruction.TheVariants as insns
 use Rattle.linker_elf.specs.declared.elf.RelocationKind.TheVariants.{Absolute}
 use Rattle.linker_elf.specs.declared.elf.choice.Choice.{Choice}
 use Rattle.linker_elf.specs.declared.elf.value.Operands.{Operands}
 use Rattle.linker_elf.specs.declared.riscv64.forms.RiscVInstruction.TheVariants.{IType, UType}
 use Rattle.linker_elf.specs.declared.riscv64.relocations.RiscVRelocation.TheVariants as names
-use Rattle.linker_final.proofs.InstructionFields.{IsOfInstruction}
+use Rattle.linker_final.proofs.InstructionFields.{IsOfInstruction, of_bits}
 use Rattle.linker_final.proofs.RiscVChosen.{IsOfEntry, IsOfSome, of_some}
 use Rattle.linker_final.proofs.RiscVDescriptors.{Becomes, after_is, made_there, relocated, same_kind}
 use Rattle.linker_final.proofs.RiscVWritten.{IsAfter, becomes, long_there, made_is, rewritten_after}
@@ -70,33 +69,13 @@ abbrev high_row : IsAfter names.R_RISCV_HI20
 high_row = record { row = pair_row Absolute 32 UType; is = refl; named = tt }
 
 abbrev of_high_row : IsOfInstruction 4 (pair_row Absolute 32 UType)
-of_high_row =
-    record {
-      bits = record { start = 0; end = 32 };
-      insn = insns.RiscV UType;
-      size = refl;
-      wide = refl;
-      valued = refl;
-      unlabelled = refl;
-      alone = refl;
-      some = λ o. tt;
-    }
+of_high_row = of_bits refl refl refl refl refl (λ o. tt)
 
 abbrev pub low_row : IsAfter names.R_RISCV_LO12_I
 low_row = record { row = pair_row Absolute 32 IType; is = refl; named = tt }
 
 abbrev pub of_low_row : IsOfInstruction 4 (pair_row Absolute 32 IType)
-of_low_row =
-    record {
-      bits = record { start = 0; end = 32 };
-      insn = insns.RiscV IType;
-      size = refl;
-      wide = refl;
-      valued = refl;
-      unlabelled = refl;
-      alone = refl;
-      some = λ o. tt;
-    }
+of_low_row = of_bits refl refl refl refl refl (λ o. tt)
 
 -- ---- the pair
 

@@ -8,7 +8,6 @@ use Rattle.linker_elf.specs.Applied.{IsApplied}
 use Rattle.linker_elf.specs.ElfNames.{code_of}
 use Rattle.linker_elf.specs.RiscVRelocations.{pair_row, riscv_name, riscv_row}
 use Rattle.linker_elf.specs.Value.{sum_64, value_of}
-use Rattle.linker_elf.specs.declared.elf.RelocationInstruction.TheVariants as insns
 use Rattle.linker_elf.specs.declared.elf.RelocationKind.TheVariants.{TpOff}
 use Rattle.linker_elf.specs.declared.elf.choice.Choice.{Choice}
 use Rattle.linker_elf.specs.declared.elf.value.Operands.{Operands}
@@ -16,7 +15,7 @@ use Rattle.linker_elf.specs.declared.riscv64.forms.RiscVInstruction.TheVariants.
 use Rattle.linker_elf.specs.declared.riscv64.relocations.RiscVRelocation.{RiscVRelocation}
 use Rattle.linker_elf.specs.declared.riscv64.relocations.RiscVRelocation.TheVariants as names
 use Rattle.linker_final.proofs.Written.{are_rewritten, rela, with_operands}
-use Rattle.linker_final.proofs.InstructionFields.{IsOfInstruction}
+use Rattle.linker_final.proofs.InstructionFields.{IsOfInstruction, of_bits}
 use Rattle.linker_final.proofs.Phases.{last_length}
 use Rattle.linker_final.proofs.RiscVChosen.{IsOfSome, of_some, of_subject}
 use Rattle.linker_final.proofs.RiscVOffsets.{low_i, of_low_i}
@@ -102,17 +101,7 @@ abbrev pub high_tp : IsAfter names.R_RISCV_TPREL_HI20
 high_tp = record { row = pair_row TpOff 32 UType; is = refl; named = tt }
 
 abbrev pub of_high_tp : IsOfInstruction 4 (pair_row TpOff 32 UType)
-of_high_tp =
-    record {
-      bits = record { start = 0; end = 32 };
-      insn = insns.RiscV UType;
-      size = refl;
-      wide = refl;
-      valued = refl;
-      unlabelled = refl;
-      alone = refl;
-      some = λ o. tt;
-    }
+of_high_tp = of_bits refl refl refl refl refl (λ o. tt)
 
 -- ---- one instruction
 

@@ -16,7 +16,7 @@ use Rattle.linker_elf.specs.declared.elf.value.Operands.{Operands}
 use Rattle.linker_elf.specs.declared.riscv64.forms.RiscVInstruction.TheVariants.{UType, IType}
 use Rattle.linker_elf.specs.declared.riscv64.relocations.RiscVRelocation.TheVariants as names
 use Rattle.linker_final.proofs.Written.{are_rewritten, word_same}
-use Rattle.linker_final.proofs.InstructionFields.{IsOfInstruction, applied_found}
+use Rattle.linker_final.proofs.InstructionFields.{IsOfInstruction, applied_found, of_bits}
 use Rattle.linker_final.proofs.Labels.{low_found}
 use Rattle.linker_final.proofs.RiscVChosen.{IsOfEntry, IsOfSome, of_some}
 use Rattle.linker_final.proofs.Phases.{bytes_left, last_length}
@@ -48,17 +48,7 @@ abbrev pub high_after : IsAfter names.R_RISCV_PCREL_HI20
 high_after = record { row = pair_row formulas.Relative 32 UType; is = refl; named = tt }
 
 abbrev pub of_high : IsOfInstruction 4 (pair_row formulas.Relative 32 UType)
-of_high =
-    record {
-      bits = record { start = 0; end = 32 };
-      insn = insns.RiscV UType;
-      size = refl;
-      wide = refl;
-      valued = refl;
-      unlabelled = refl;
-      alone = refl;
-      some = λ o. tt;
-    }
+of_high = of_bits refl refl refl refl refl (λ o. tt)
 
 abbrev pub low_after : IsAfter names.R_RISCV_PCREL_LO12_I
 low_after = record { row = pair_row formulas.RelativeRiscVLow12 32 IType; is = refl; named = tt }

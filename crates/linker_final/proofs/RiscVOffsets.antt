@@ -8,13 +8,12 @@ use Rattle.linker_elf.specs.Choices.{entry}
 use Rattle.linker_elf.specs.ElfNames.{code_of}
 use Rattle.linker_elf.specs.Originals.{HasWord}
 use Rattle.linker_elf.specs.RiscVRelocations.{pair_row, riscv_name, riscv_row}
-use Rattle.linker_elf.specs.declared.elf.RelocationInstruction.TheVariants as insns
 use Rattle.linker_elf.specs.declared.elf.RelocationKind.TheVariants.{TpOff}
 use Rattle.linker_elf.specs.declared.riscv64.forms.RiscVInstruction.TheVariants.{IType, SType}
 use Rattle.linker_elf.specs.declared.riscv64.relocations.RiscVRelocation.{RiscVRelocation}
 use Rattle.linker_elf.specs.declared.riscv64.relocations.RiscVRelocation.TheVariants as names
 use Rattle.linker_final.proofs.Written.{are_rewritten, mapped, rela, word_same}
-use Rattle.linker_final.proofs.InstructionFields.{IsOfInstruction}
+use Rattle.linker_final.proofs.InstructionFields.{IsOfInstruction, of_bits}
 use Rattle.linker_final.proofs.Phases.{last_length}
 use Rattle.linker_final.proofs.RiscVChosen.{IsOfEntry, of_entry}
 use Rattle.linker_final.proofs.RiscVWritten.{IsAfter, applied_there, becomes, bytes_there, long_there, made_is, rewritten_after, word_bytes}
@@ -48,33 +47,13 @@ abbrev pub low_i : IsAfter names.R_RISCV_TPREL_LO12_I
 low_i = record { row = pair_row TpOff 32 IType; is = refl; named = tt }
 
 abbrev pub of_low_i : IsOfInstruction 4 (pair_row TpOff 32 IType)
-of_low_i =
-    record {
-      bits = record { start = 0; end = 32 };
-      insn = insns.RiscV IType;
-      size = refl;
-      wide = refl;
-      valued = refl;
-      unlabelled = refl;
-      alone = refl;
-      some = λ o. tt;
-    }
+of_low_i = of_bits refl refl refl refl refl (λ o. tt)
 
 abbrev pub low_s : IsAfter names.R_RISCV_TPREL_LO12_S
 low_s = record { row = pair_row TpOff 32 SType; is = refl; named = tt }
 
 abbrev pub of_low_s : IsOfInstruction 4 (pair_row TpOff 32 SType)
-of_low_s =
-    record {
-      bits = record { start = 0; end = 32 };
-      insn = insns.RiscV SType;
-      size = refl;
-      wide = refl;
-      valued = refl;
-      unlabelled = refl;
-      alone = refl;
-      some = λ o. tt;
-    }
+of_low_s = of_bits refl refl refl refl refl (λ o. tt)
 
 -- ---- one instruction
 

@@ -1,15 +1,15 @@
 -- RISC-V: where calls go in the final bytes of a packed section.
-use Rattle.std.proofs.Common.{◌≡◌, ◌≢◌, ℕ, ◌+◌, ◌-◌, ◌%◌, ◌^◌, ◌<◌, ◌≤◌, inl, inr, List, length, take, drop, refl, sym, ap, subst, ◌∙◌, arith, Option, Some, None, Ok, IsSomeAnd}
+use Rattle.std.proofs.Common.{◌≡◌, ◌≢◌, ℕ, ◌+◌, ◌-◌, ◌%◌, ◌^◌, ◌<◌, ◌≤◌, inl, inr, List, length, take, drop, refl, sym, ap, subst, ◌∙◌, arith, Some, Ok, IsSomeAnd}
 use Rattle.std.proofs.lemmas.List.{drop-drop, drop-take, take-take, take_all}
 use Rattle.std.proofs.lemmas.List.Elements.{All-drop, All-take}
 use Rattle.std.specs.Int.{w32, from_le_bytes}
-use Rattle.std.specs.Prelude.{⊤, ℤ}
 use Rattle.linker_elf.specs.RiscVRelocations.{riscv_relocation}
 use Rattle.linker_elf.specs.Applied.{IsApplied}
 use Rattle.linker_elf.specs.Value.{value_of}
 use Rattle.linker_elf.specs.declared.elf.value.Operands.{Operands}
 use Rattle.linker_elf.specs.declared.riscv64.relocations.RiscVRelocation.{RiscVRelocation}
 use Rattle.linker_elf.specs.declared.riscv64.relocations.RiscVRelocation.TheVariants as names
+use Rattle.linker_final.proofs.InstructionFields.{some_value}
 use Rattle.linker_final.proofs.PackedBytes.{stay_inside, places_inside}
 use Rattle.linker_final.proofs.PackedInstructions.{instructions}
 use Rattle.linker_final.proofs.PackedSites.{site_becomes, site_inside, site_length, site_small}
@@ -158,10 +158,6 @@ sites groups p is riscv i site of name of_call =
 
 row_of_call : (name : RiscVRelocation) → IsOfCall name → (riscv_relocation name).row ≡ Some call_row
 row_of_call name of = of_either (λ n. (riscv_relocation n).row ≡ Some call_row) name of refl refl
-
-some_value : (v : Option ℤ) → IsSomeAnd v (λ _. ⊤) → (z : ℤ) × (v ≡ Some z)
-some_value None nothing = absurd nothing
-some_value (Some z) there = (z, refl)
 
 pub long_calls : Groups → LongCallsStay
 long_calls groups p is riscv i name stays symbol symbol_is small other_name of =
