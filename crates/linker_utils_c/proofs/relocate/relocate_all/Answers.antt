@@ -1,4 +1,4 @@
-use Rattle.std.proofs.Common.{rules, take, get_or, subst, sym, arith, pos, ◌∙◌, FitsSigned}
+use Rattle.std.proofs.Common.{rules, take, get_or, subst, arith, pos, FitsSigned}
 use Rattle.std.specs.Int.{w64}
 use Rattle.std.proofs.lemmas.Int.{to_z-of_z}
 use Rattle.std.proofs.lemmas.List.{take_more, get_or_default}
