@@ -19,6 +19,7 @@ pub mod LoongArchPackedDeletions
 pub mod LoongArchPackedSites
 pub mod LoongArchPackedStays
 pub mod LoongArchPairs
+pub mod LoongArchSection
 pub mod LoongArchWritten
 pub mod Noise
 pub mod Others

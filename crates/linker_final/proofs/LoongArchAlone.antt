@@ -1,27 +1,27 @@
--- Instructions of LoongArch that are rewritten each by itself are groups in the final bytes.
-use Rattle.std.proofs.Common.{◌≡◌, ℕ, ◌+◌, ◌*◌, ◌-◌, ◌/◌, ◌^◌, ◌<◌, List, IsTrue, Ok, Some, refl, subst, inl, inr}
+-- Instructions of LoongArch that are rewritten each by itself are groups with what new has: those
+-- of initial-exec and of local-exec.
+use Rattle.std.proofs.Common.{◌≡◌, ℕ, ◌+◌, ◌*◌, ◌-◌, ◌/◌, ◌^◌, ◌<◌, ◌≤◌, List, length, IsTrue, Ok, Some, refl, subst, inl, inr}
+use Rattle.std.specs.Prelude.{⊤}
 use Rattle.linker_base.specs.Bits.{field}
 use Rattle.linker_elf.specs.Choices.{entry}
-use Rattle.linker_elf.specs.ElfNames.{IsNameOf, code_of}
-use Rattle.linker_elf.specs.LoongArchRelocations.{loongarch_name, high_row, low_row}
-use Rattle.linker_elf.specs.Value.{value_of}
+use Rattle.linker_elf.specs.ElfNames.{IsNamed, IsNameOf}
+use Rattle.linker_elf.specs.LoongArchRelocations.{high_row, loongarch_name, low_row}
 use Rattle.linker_elf.specs.declared.elf.RelocationKind.TheVariants.{TpOff}
-use Rattle.linker_elf.specs.declared.elf.RelocationKindInfo.{RelocationKindInfo}
+use Rattle.linker_elf.specs.declared.elf.architecture.Architecture.TheVariants.{LoongArch64}
 use Rattle.linker_elf.specs.declared.elf.choice.Choice.{Choice}
 use Rattle.linker_elf.specs.declared.elf.value.Operands.{Operands}
 use Rattle.linker_elf.specs.declared.loongarch64.relocations.LoongArch64Relocation.{LoongArch64Relocation}
 use Rattle.linker_elf.specs.declared.loongarch64.relocations.LoongArch64Relocation.TheVariants as names
-use Rattle.linker_rewriting.proofs.PreLayout.{isnt}
 use Rattle.linker_final.proofs.InstructionFields.{of_bits}
 use Rattle.linker_final.proofs.LoongArchChosen.{IsByTable, IsEntry, by_table, entry_by}
-use Rattle.linker_final.proofs.LoongArchWritten.{IsAfter, becomes, named_after, relocated_there}
-use Rattle.linker_final.proofs.Written.{are_rewritten, word_same}
-use Rattle.linker_final.specs.Final.{AreRewritten, UntouchedInstruction, Linked, IsLinked, count, instruction_at}
-use Rattle.linker_final.specs.LoongArchFinal.{Anywhere, HighHalves, HighHalvesAnywhere, InPlace, LowHalves, LowHalvesAnywhere, LowParts, MovedLowParts, named_as}
-use Rattle.linker_laws.specs.LoongArchGroups.{Groups, HighHalfToLu12i, HighOffset, LowHalf}
-use Rattle.linker_laws.specs.LoongArchRewriteLaws.{word_of}
-use Rattle.linker_utils.specs.LoongArchRewrites.{IsLd, IsPcalau12i, adds_low12, by_low_part, rd_of, rj_of, to_local_exec, tp}
-use Rattle.linker_utils.specs.declared.loongarch64.rewrites.RewriteKind.TheVariants as kinds
+use Rattle.linker_final.proofs.LoongArchWritten.{IsAfter, becomes, named_after}
+use Rattle.linker_final.proofs.Written.{word_same}
+use Rattle.linker_final.specs.Final.{AreRewritten, Linked, count, instruction_at}
+use Rattle.linker_final.specs.LoongArchSection.{HasEntry, IsAlone, IsLeft, IsMade, Law, Left, any, applied, entry_by as entry_of_name, law_of, named_as, none}
+use Rattle.linker_final.specs.SectionRuns.{offset_of}
+use Rattle.linker_laws.specs.LoongArchGroups.{Groups}
+use Rattle.linker_laws.specs.LoongArchRewriteLaws.{IsRewritten}
+use Rattle.linker_rewriting.proofs.PreLayout.{isnt}
 use Rattle.linker_rewriting.specs.Decisions.{decision_at}
 use Rattle.linker_rewriting.specs.declared.decisions.Decision.TheVariants.{Rewritten}
 use Rattle.linker_section.specs.Relocations.{relocation_in}
@@ -29,192 +29,215 @@ use Rattle.linker_section.specs.Values.{operands_in, operands_with}
 use Rattle.linker_section.specs.declared.facts.Addresses.{Addresses}
 use Rattle.linker_section.specs.declared.facts.Symbol.{Symbol}
 use Rattle.linker_section.specs.declared.relocations.Rela.{Rela}
+use Rattle.linker_utils.specs.LoongArchRewrites.{IsAddTp, IsLd, IsLu12i, IsPcalau12i, adds_low12, by_low_part, loongarch_rewrite, rd_of, rewrites_word, rj_of, to_local_exec, tp}
 use Rattle.linker_utils.specs.declared.architecture.Relaxation.{Relaxation}
-use Rattle.linker_utils.specs.declared.architecture.Relaxation.TheVariants as relaxations
-use Rattle.linker_elf.specs.declared.elf.architecture.Architecture.TheVariants.{LoongArch64}
+use Rattle.linker_utils.specs.declared.loongarch64.rewrites.RewriteKind.{RewriteKind}
+use Rattle.linker_utils.specs.declared.loongarch64.rewrites.RewriteKind.TheVariants as kinds
 
--- ---- rows
+-- ---- what is left
 
-abbrev pub high_after : IsAfter names.R_LARCH_TLS_LE_HI20
-high_after =
+-- the operands that a formula takes
+pub record Takes (name : LoongArch64Relocation) : Type 0 where
+  pub after : IsAfter name
+  pub taken : (addresses : Addresses) (r : Rela) (symbol : Symbol) → HasEntry name addresses symbol
+      → operands_in LoongArch64 addresses after.row r (Some symbol)
+      ≡ Ok (operands_with LoongArch64 addresses after.row symbol r (entry_of_name name symbol))
+
+abbrev pub high_offset : Takes names.R_LARCH_TLS_LE_HI20
+high_offset =
     record {
-      row = high_row TpOff;
-      is = refl;
-      named = tt;
-      of = of_bits refl refl refl refl refl (λ o. tt);
+      after = record { row = high_row TpOff; is = refl; named = tt; of = of_bits refl refl refl refl refl (λ o. tt) };
+      taken = λ addresses r symbol there. refl;
     }
 
-abbrev pub low_after : IsAfter names.R_LARCH_TLS_LE_LO12
-low_after =
+abbrev pub low_offset : Takes names.R_LARCH_TLS_LE_LO12
+low_offset =
     record {
-      row = low_row TpOff;
-      is = refl;
-      named = tt;
-      of = of_bits refl refl refl refl refl (λ o. tt);
+      after = record { row = low_row TpOff; is = refl; named = tt; of = of_bits refl refl refl refl refl (λ o. tt) };
+      taken = λ addresses r symbol there. refl;
     }
 
-abbrev pub part_after : IsAfter names.R_LARCH_TLS_LE_LO12_R
-part_after =
+abbrev part_offset : Takes names.R_LARCH_TLS_LE_LO12_R
+part_offset =
     record {
-      row = low_row TpOff;
-      is = refl;
-      named = tt;
-      of = of_bits refl refl refl refl refl (λ o. tt);
+      after = record { row = low_row TpOff; is = refl; named = tt; of = of_bits refl refl refl refl refl (λ o. tt) };
+      taken = λ addresses r symbol there. refl;
     }
+
+-- ---- a rewrite
+
+abbrev pub IsWritable : Left → Linked → ℕ → Type 0
+IsWritable none l i = offset_of l i + 4 ≤ length l.section
+IsWritable (applied name) l i = Takes name
+IsWritable any l i = ⊤
+
+pub record IsLawful (l : Linked) (i : ℕ) (kind : Relaxation) (law : Law) : Type 0 where
+  pub writable : IsWritable law.left l i
+  pub left : IsLeft law.left l i
+  pub group : IsAlone kind l i → (u y : Operands) (after : List ℕ)
+      → IsMade law.left y (instruction_at l.rewritten (offset_of l i)) after
+      → law.IsGroup (instruction_at l.section (offset_of l i)) after u y
+
+module _ (l : Linked) (made : AreRewritten l) (i : ℕ) (chosen : Choice Relaxation ℕ) (below : i < count l)
+    (decided : decision_at l.decisions i ≡ Rewritten chosen) where
+  abbrev pub before : List ℕ
+  before = instruction_at l.section (offset_of l i)
+
+  abbrev pub rewritten : List ℕ
+  rewritten = instruction_at l.rewritten (offset_of l i)
+
+  pub left_by : (kind : RewriteKind) (name old : LoongArch64Relocation) → IsEntry kind name old l.section (offset_of l i) chosen
+      → relocation_in l.relocations_after i ≡ named_as name (relocation_in l.relocations i)
+  left_by kind name old by = named_after l made i chosen below decided kind by.kind_is name by.code_is
+
+  pub becomes_by : (kind : RewriteKind) (name old : LoongArch64Relocation) → IsEntry kind name old l.section (offset_of l i) chosen
+      → (new : ℕ → ℕ) → loongarch_rewrite kind ≡ Some (rewrites_word new) → IsRewritten kind before rewritten
+  becomes_by kind name old by = becomes l made.done i chosen below decided kind by.kind_is
 
 -- ---- entries
 
-high_entry : (section : List ℕ) (o : ℕ) (chosen : Choice Relaxation ℕ)
-    → IsByTable names.R_LARCH_TLS_IE_PC_HI20 section o chosen
-    → IsEntry kinds.PcalaToLu12i names.R_LARCH_TLS_LE_HI20 names.R_LARCH_TLS_IE_PC_HI20 section o chosen
-high_entry section o chosen by =
-    elim by.one [
-      | inl short ↦ isnt by.facts.has_addresses (by.early refl).unplaced (short.meant.1.1.1.1.1.0.0)
-      | inr rest ↦ elim rest [
+module _ (section : List ℕ) (o : ℕ) (chosen : Choice Relaxation ℕ) where
+  high_entry : IsByTable names.R_LARCH_TLS_IE_PC_HI20 section o chosen
+      → IsEntry kinds.PcalaToLu12i names.R_LARCH_TLS_LE_HI20 names.R_LARCH_TLS_IE_PC_HI20 section o chosen
+  high_entry by =
+      elim by.one [
+        | inl short ↦ isnt by.facts.has_addresses (by.early refl).unplaced (short.meant.1.1.1.1.1.0.0)
+        | inr rest ↦ elim rest [
+          | inl this ↦
+              entry_by names.R_LARCH_TLS_IE_PC_HI20 section o chosen by.facts
+              (entry kinds.PcalaToLu12i names.R_LARCH_TLS_LE_HI20 to_local_exec) this
+          | inr nothing ↦ absurd nothing
+        ]
+      ]
+
+  low_entry : IsByTable names.R_LARCH_TLS_IE_PC_LO12 section o chosen
+      → IsEntry kinds.LowToOri names.R_LARCH_TLS_LE_LO12 names.R_LARCH_TLS_IE_PC_LO12 section o chosen
+  low_entry by =
+      elim by.one [
+        | inl short ↦ isnt by.facts.has_addresses (by.early refl).unplaced (short.meant.1.1.1.1.1.0.0)
+        | inr rest ↦ elim rest [
+          | inl this ↦
+              entry_by names.R_LARCH_TLS_IE_PC_LO12 section o chosen by.facts
+              (entry kinds.LowToOri names.R_LARCH_TLS_LE_LO12 to_local_exec) this
+          | inr nothing ↦ absurd nothing
+        ]
+      ]
+
+  lu12i_entry : IsByTable names.R_LARCH_TLS_LE_HI20_R section o chosen
+      → IsEntry kinds.Delete names.R_LARCH_NONE names.R_LARCH_TLS_LE_HI20_R section o chosen
+  lu12i_entry by =
+      elim by.one [
         | inl this ↦
-            entry_by names.R_LARCH_TLS_IE_PC_HI20 section o chosen by.facts
-            (entry kinds.PcalaToLu12i names.R_LARCH_TLS_LE_HI20 to_local_exec) this
+            entry_by names.R_LARCH_TLS_LE_HI20_R section o chosen by.facts
+            (entry kinds.Delete names.R_LARCH_NONE by_low_part) this
         | inr nothing ↦ absurd nothing
       ]
-    ]
 
-low_entry : (section : List ℕ) (o : ℕ) (chosen : Choice Relaxation ℕ)
-    → IsByTable names.R_LARCH_TLS_IE_PC_LO12 section o chosen
-    → IsEntry kinds.LowToOri names.R_LARCH_TLS_LE_LO12 names.R_LARCH_TLS_IE_PC_LO12 section o chosen
-low_entry section o chosen by =
-    elim by.one [
-      | inl short ↦ isnt by.facts.has_addresses (by.early refl).unplaced (short.meant.1.1.1.1.1.0.0)
-      | inr rest ↦ elim rest [
+  sum_entry : IsByTable names.R_LARCH_TLS_LE_ADD_R section o chosen
+      → IsEntry kinds.Delete names.R_LARCH_NONE names.R_LARCH_TLS_LE_ADD_R section o chosen
+  sum_entry by =
+      elim by.one [
         | inl this ↦
-            entry_by names.R_LARCH_TLS_IE_PC_LO12 section o chosen by.facts
-            (entry kinds.LowToOri names.R_LARCH_TLS_LE_LO12 to_local_exec) this
+            entry_by names.R_LARCH_TLS_LE_ADD_R section o chosen by.facts
+            (entry kinds.Delete names.R_LARCH_NONE by_low_part) this
         | inr nothing ↦ absurd nothing
       ]
-    ]
 
-part_entry : (section : List ℕ) (o : ℕ) (chosen : Choice Relaxation ℕ)
-    → IsByTable names.R_LARCH_TLS_LE_LO12_R section o chosen
-    → IsEntry kinds.BaseToTp names.R_LARCH_TLS_LE_LO12_R names.R_LARCH_TLS_LE_LO12_R section o chosen
-part_entry section o chosen by =
-    elim by.one [
-      | inl this ↦
-          entry_by names.R_LARCH_TLS_LE_LO12_R section o chosen by.facts
-          (entry kinds.BaseToTp names.R_LARCH_TLS_LE_LO12_R by_low_part) this
-      | inr nothing ↦ absurd nothing
-    ]
+  part_entry : IsByTable names.R_LARCH_TLS_LE_LO12_R section o chosen
+      → IsEntry kinds.BaseToTp names.R_LARCH_TLS_LE_LO12_R names.R_LARCH_TLS_LE_LO12_R section o chosen
+  part_entry by =
+      elim by.one [
+        | inl this ↦
+            entry_by names.R_LARCH_TLS_LE_LO12_R section o chosen by.facts
+            (entry kinds.BaseToTp names.R_LARCH_TLS_LE_LO12_R by_low_part) this
+        | inr nothing ↦ absurd nothing
+      ]
 
--- ---- halves, wherever the section goes then
+-- ---- laws
 
--- a `pcalau12i` of a name that became `lu12i.w`
-pub high_anywhere : (name : LoongArch64Relocation) → HighHalfToLu12i name
-    → (l : Linked) → AreRewritten l → (i : ℕ) (chosen : Choice Relaxation ℕ) → i < count l
-    → decision_at l.decisions i ≡ Rewritten chosen
-    → chosen.kind ≡ relaxations.LoongArch64 kinds.PcalaToLu12i
-    → chosen.relocation ≡ code_of (loongarch_name names.R_LARCH_TLS_LE_HI20)
-    → IsPcalau12i (word_of (instruction_at l.section (relocation_in l.relocations i).offset))
-    → (relocation_in l.relocations_after i ≡ named_as names.R_LARCH_TLS_LE_HI20 (relocation_in l.relocations i))
-    × Anywhere names.R_LARCH_TLS_LE_HI20 (HighOffset name) l i
-high_anywhere name law l made i chosen below decided kind_is code_is is_pcala = (
-  named_after l made i chosen below decided kinds.PcalaToLu12i kind_is names.R_LARCH_TLS_LE_HI20 code_is,
-  λ x y lu12i of_offset.
-      let o = (relocation_in l.relocations i).offset in
-      law x y (instruction_at l.section o) (instruction_at l.rewritten o) lu12i is_pcala
-      (becomes l made.done i chosen below decided kinds.PcalaToLu12i kind_is (λ word. 0x14000000 + rd_of word) refl)
-      of_offset,
-)
+module _ (groups : Groups) (l : Linked) (made : AreRewritten l) (loongarch : l.context.architecture ≡ LoongArch64)
+    (i : ℕ) (chosen : Choice Relaxation ℕ) (below : i < count l)
+    (decided : decision_at l.decisions i ≡ Rewritten chosen) where
+  abbrev section_word : List ℕ
+  section_word = before l made i chosen below decided
 
-pub high_halves_anywhere : Groups → HighHalvesAnywhere
-high_halves_anywhere groups l made loongarch i chosen below is_name decided any =
-    let o = (relocation_in l.relocations i).offset in
-    let by = high_entry l.section o chosen
-    (by_table l made.decided loongarch i chosen below decided names.R_LARCH_TLS_IE_PC_HI20 tt is_name) in
-    high_anywhere names.R_LARCH_TLS_IE_PC_HI20 groups.high_halves l made i chosen below decided by.kind_is by.code_is
-    (subst IsPcalau12i (word_same l.section o) (by.pattern.1))
+  abbrev rewritten_word : List ℕ
+  rewritten_word = rewritten l made i chosen below decided
 
-pub low_halves_anywhere : Groups → LowHalvesAnywhere
-low_halves_anywhere groups l made loongarch i chosen below is_name decided any =
-    let o = (relocation_in l.relocations i).offset in
-    let by = low_entry l.section o chosen
-    (by_table l made.decided loongarch i chosen below decided names.R_LARCH_TLS_IE_PC_LO12 tt is_name) in (
-      named_after l made i chosen below decided kinds.LowToOri by.kind_is names.R_LARCH_TLS_LE_LO12 by.code_is,
-      λ x y ori of_offset.
-          groups.low_halves x y (instruction_at l.section o) (instruction_at l.rewritten o) ori
-          (subst IsLd (word_same l.section o) (by.pattern.1))
-          (becomes l made.done i chosen below decided kinds.LowToOri by.kind_is (λ word. 0x03800000 + field word 0 10) refl)
-          of_offset,
-    )
+  abbrev HasLaw : LoongArch64Relocation → Type 0
+  HasLaw name =
+      IsNameOf loongarch_name (relocation_in l.relocations i).code name
+      → IsLawful l i chosen.kind (law_of name chosen.kind)
 
--- ---- halves in place
+  pub table : (name : LoongArch64Relocation) → IsNamed (loongarch_name name)
+      → IsNameOf loongarch_name (relocation_in l.relocations i).code name
+      → IsByTable name l.section (offset_of l i) chosen
+  table = by_table l made.decided loongarch i chosen below decided
 
--- A formula of the offset takes no entry of the GOT, and no other operands than that of the high
--- half.
-pub record TakesOffset (row : RelocationKindInfo) : Type 0 where
-  pub taken : (addresses : Addresses) (r : Rela) (symbol : Symbol)
-      → operands_in LoongArch64 addresses row r (Some symbol) ≡ Ok (operands_with LoongArch64 addresses row symbol r 0)
-  pub same : (addresses : Addresses) (r : Rela) (symbol : Symbol) (got code : ℕ)
-      → value_of row (operands_with LoongArch64 addresses high_after.row symbol r got)
-      ≡ value_of row (operands_with LoongArch64 addresses row symbol (record r { code = code }) 0)
+  -- initial-exec
+  pub high_half : HasLaw names.R_LARCH_TLS_IE_PC_HI20
+  high_half is_name =
+      let name = names.R_LARCH_TLS_IE_PC_HI20 in
+      let by = high_entry l.section (offset_of l i) chosen (table name tt is_name) in
+      record {
+        writable = high_offset;
+        left = left_by l made i chosen below decided kinds.PcalaToLu12i names.R_LARCH_TLS_LE_HI20 name by;
+        group = λ alone u y after made_so.
+            groups.high_halves u y section_word rewritten_word after
+            (subst IsPcalau12i (word_same l.section (offset_of l i)) (by.pattern.1))
+            (becomes_by l made i chosen below decided kinds.PcalaToLu12i names.R_LARCH_TLS_LE_HI20 name by (λ word. 0x14000000 + rd_of word) refl)
+            made_so;
+      }
 
-pub high_takes : TakesOffset high_after.row
-high_takes =
-    record { taken = λ addresses r symbol. refl; same = λ addresses r symbol got code. refl }
+  pub low_half : HasLaw names.R_LARCH_TLS_IE_PC_LO12
+  low_half is_name =
+      let name = names.R_LARCH_TLS_IE_PC_LO12 in
+      let by = low_entry l.section (offset_of l i) chosen (table name tt is_name) in
+      record {
+        writable = low_offset;
+        left = left_by l made i chosen below decided kinds.LowToOri names.R_LARCH_TLS_LE_LO12 name by;
+        group = λ alone u y after made_so.
+            groups.low_halves u y section_word rewritten_word after
+            (subst IsLd (word_same l.section (offset_of l i)) (by.pattern.1))
+            (becomes_by l made i chosen below decided kinds.LowToOri names.R_LARCH_TLS_LE_LO12 name by (λ word. 0x03800000 + field word 0 10) refl)
+            made_so;
+      }
 
-pub low_takes : TakesOffset low_after.row
-low_takes =
-    record { taken = λ addresses r symbol. refl; same = λ addresses r symbol got code. refl }
+  -- local-exec
+  pub high_part : HasLaw names.R_LARCH_TLS_LE_HI20_R
+  high_part is_name =
+      let name = names.R_LARCH_TLS_LE_HI20_R in
+      let by = lu12i_entry l.section (offset_of l i) chosen (table name tt is_name) in
+      record {
+        writable = by.pattern.0;
+        left = left_by l made i chosen below decided kinds.Delete names.R_LARCH_NONE name by;
+        group = λ alone u y after made_so c x k s gone small at low has.
+            groups.high_offsets c x k s section_word gone small at
+            (subst IsLu12i (word_same l.section (offset_of l i)) (by.pattern.1)) low has;
+      }
 
-pub in_place : (Holds : List ℕ → List ℕ → Operands → Operands → Type 0) (l : Linked) → IsLinked l
-    → l.context.architecture ≡ LoongArch64 → (i : ℕ) → i < count l → UntouchedInstruction l i
-    → (name : LoongArch64Relocation) (a : IsAfter name) → TakesOffset a.row
-    → (relocation_in l.relocations_after i ≡ named_as name (relocation_in l.relocations i)) × Anywhere name Holds l i
-    → InPlace Holds l i high_after.row
-in_place Holds l linked loongarch i below left name a takes any symbol is_symbol got =
-    let r = relocation_in l.relocations i in
-    let w = operands_with LoongArch64 l.addresses high_after.row symbol r got in
-    (any.1) w w (instruction_at l.final r.offset)
-    (relocated_there l linked loongarch i below name a (any.0) left symbol 0
-    (takes.taken l.addresses (named_as name r) symbol) is_symbol w
-    (takes.same l.addresses r symbol got (code_of (loongarch_name name))))
+  pub sum : HasLaw names.R_LARCH_TLS_LE_ADD_R
+  sum is_name =
+      let name = names.R_LARCH_TLS_LE_ADD_R in
+      let by = sum_entry l.section (offset_of l i) chosen (table name tt is_name) in
+      record {
+        writable = by.pattern.0;
+        left = left_by l made i chosen below decided kinds.Delete names.R_LARCH_NONE name by;
+        group = λ alone u y after made_so c k s gone zero wide stands.
+            groups.sums c k s section_word gone
+            (subst IsAddTp (word_same l.section (offset_of l i)) (by.pattern.1)) zero wide stands;
+      }
 
-pub high_halves : Groups → HighHalves
-high_halves groups l linked loongarch i chosen below is_name decided left any =
-    in_place (HighOffset names.R_LARCH_TLS_IE_PC_HI20) l linked loongarch i below left
-    names.R_LARCH_TLS_LE_HI20 high_after high_takes
-    (high_halves_anywhere groups l (are_rewritten l linked) loongarch i chosen below is_name decided any)
-
-pub low_halves : Groups → LowHalves
-low_halves groups l linked loongarch i chosen below is_name decided left any =
-    in_place LowHalf l linked loongarch i below left names.R_LARCH_TLS_LE_LO12 low_after low_takes
-    (low_halves_anywhere groups l (are_rewritten l linked) loongarch i chosen below is_name decided any)
-
--- ---- low parts over the thread pointer
-
-pub moved_low_parts : Groups → MovedLowParts
-moved_low_parts groups l all done loongarch i chosen below is_name decided x y base of_base =
-    let o = (relocation_in l.relocations i).offset in
-    let by = part_entry l.section o chosen
-    (by_table l all loongarch i chosen below decided names.R_LARCH_TLS_LE_LO12_R tt is_name) in
-    groups.low_offsets x y (instruction_at l.section o) (instruction_at l.rewritten o) base
-    (subst (λ word. IsTrue (adds_low12 (word / 2 ^ 22))) (word_same l.section o) (by.pattern.1.0))
-    (becomes l done i chosen below decided kinds.BaseToTp by.kind_is (λ word. word - rj_of word * 2 ^ 5 + tp * 2 ^ 5) refl)
-    of_base
-
--- what becomes of its relocation
-pub part_named : (l : Linked) → AreRewritten l → l.context.architecture ≡ LoongArch64
-    → (i : ℕ) (chosen : Choice Relaxation ℕ) → i < count l
-    → IsNameOf loongarch_name (relocation_in l.relocations i).code names.R_LARCH_TLS_LE_LO12_R
-    → decision_at l.decisions i ≡ Rewritten chosen
-    → relocation_in l.relocations_after i ≡ named_as names.R_LARCH_TLS_LE_LO12_R (relocation_in l.relocations i)
-part_named l made loongarch i chosen below is_name decided =
-    let by = part_entry l.section (relocation_in l.relocations i).offset chosen
-    (by_table l made.decided loongarch i chosen below decided names.R_LARCH_TLS_LE_LO12_R tt is_name) in
-    named_after l made i chosen below decided kinds.BaseToTp by.kind_is names.R_LARCH_TLS_LE_LO12_R by.code_is
-
-pub low_parts : Groups → LowParts
-low_parts groups l linked loongarch i chosen below is_name decided left any symbol is_symbol got =
-    let r = relocation_in l.relocations i in
-    let w = operands_with LoongArch64 l.addresses part_after.row symbol r got in
-    moved_low_parts groups l linked.decided linked.done loongarch i chosen below is_name decided
-    w w (instruction_at l.final r.offset)
-    (relocated_there l linked loongarch i below names.R_LARCH_TLS_LE_LO12_R part_after
-    (part_named l (are_rewritten l linked) loongarch i chosen below is_name decided) left symbol 0 refl is_symbol w refl)
+  pub low_part : HasLaw names.R_LARCH_TLS_LE_LO12_R
+  low_part is_name =
+      let name = names.R_LARCH_TLS_LE_LO12_R in
+      let by = part_entry l.section (offset_of l i) chosen (table name tt is_name) in
+      record {
+        writable = part_offset;
+        left = left_by l made i chosen below decided kinds.BaseToTp name name by;
+        group = λ alone u y after made_so.
+            groups.low_offsets u y section_word rewritten_word after
+            (subst (λ word. IsTrue (adds_low12 (word / 2 ^ 22))) (word_same l.section (offset_of l i)) (by.pattern.1.0))
+            (becomes_by l made i chosen below decided kinds.BaseToTp name name by (λ word. word - rj_of word * 2 ^ 5 + tp * 2 ^ 5) refl)
+            made_so;
+      }

@@ -1,5 +1,5 @@
 -- The rewrite that is chosen for a relocation of LoongArch is one of its table.
-use Rattle.std.proofs.Common.{◌≡◌, ℕ, ◌<◌, List, true, false, refl, sym, ap, subst, ◌∙◌}
+use Rattle.std.proofs.Common.{◌≡◌, ℕ, ◌<◌, List, Bool, true, false, refl, sym, ap, subst, ◌∙◌}
 use Rattle.linker_elf.specs.ElfNames.{IsNamed, IsNameOf, code_of}
 use Rattle.linker_elf.specs.LoongArchRelocations.{loongarch_name}
 use Rattle.linker_elf.specs.declared.elf.choice.Choice.{Choice}
@@ -15,13 +15,13 @@ use Rattle.linker_utils.specs.declared.loongarch64.rewrites.RewriteKind.{Rewrite
 use Rattle.linker_utils.specs.declared.loongarch64.rewrites.RewriteKind.TheVariants as kinds
 use Rattle.linker_rewriting.specs.Decisions.{AreDecidedIn, decision_at}
 use Rattle.linker_rewriting.specs.Groups.{IsScopeIn, loongarch_scope, loongarch_scope_in}
-use Rattle.linker_rewriting.specs.RiscVPcrelGroups.{is_labelled}
 use Rattle.linker_rewriting.specs.declared.decisions.Decision.TheVariants.{Rewritten}
 use Rattle.linker_rewriting.specs.declared.groups.Scope.{Scope}
-use Rattle.linker_rewriting.specs.declared.groups.Scope.TheVariants.{Labelled, NotRelaxable}
+use Rattle.linker_rewriting.specs.declared.groups.Scope.TheVariants.{Grouped, Independent, Labelled, NotRelaxable}
 use Rattle.linker_rewriting.specs.declared.phases.Phase.{Phase}
 use Rattle.linker_rewriting.specs.declared.phases.Phase.TheVariants as phases
 use Rattle.linker_section.specs.Relocations.{relocation_in}
+use Rattle.linker_section.specs.declared.relocations.Rela.{Rela}
 use Rattle.linker_utils.specs.Relaxations.{IsArchitectureChoice}
 use Rattle.linker_utils.specs.declared.architecture.Relaxation.{Relaxation}
 use Rattle.linker_utils.specs.declared.architecture.Relaxation.TheVariants as relaxations
@@ -29,41 +29,49 @@ use Rattle.linker_elf.specs.declared.elf.architecture.Architecture.TheVariants.{
 
 -- ---- scopes
 
-early_unlabelled : (name : LoongArch64Relocation) → is_labelled (loongarch_scope name) ≡ false
-early_unlabelled names.R_LARCH_GOT_PC_HI20 = refl
-early_unlabelled names.R_LARCH_GOT_PC_LO12 = refl
-early_unlabelled names.R_LARCH_TLS_IE_PC_HI20 = refl
-early_unlabelled names.R_LARCH_TLS_IE_PC_LO12 = refl
-early_unlabelled names.R_LARCH_TLS_IE64_PC_LO20 = refl
-early_unlabelled names.R_LARCH_TLS_IE64_PC_HI12 = refl
-early_unlabelled names.R_LARCH_TLS_DESC_PC_HI20 = refl
-early_unlabelled names.R_LARCH_TLS_DESC_PC_LO12 = refl
-early_unlabelled names.R_LARCH_TLS_DESC64_PC_LO20 = refl
-early_unlabelled names.R_LARCH_TLS_DESC64_PC_HI12 = refl
-early_unlabelled names.R_LARCH_TLS_DESC_LD = refl
-early_unlabelled names.R_LARCH_TLS_DESC_CALL = refl
-early_unlabelled name = refl
+-- a relocation is decided by itself, or with its group
+abbrev pub is_plain : Scope → Bool
+is_plain NotRelaxable = true
+is_plain Independent = true
+is_plain (Grouped group) = true
+is_plain scope = false
 
-thread_unlabelled : (name : LoongArch64Relocation) → is_labelled (loongarch_scope_in phases.TlsLocalExec name) ≡ false
-thread_unlabelled names.R_LARCH_TLS_LE_HI20_R = refl
-thread_unlabelled names.R_LARCH_TLS_LE_ADD_R = refl
-thread_unlabelled names.R_LARCH_TLS_LE_LO12_R = refl
-thread_unlabelled name = refl
+early_plain : (name : LoongArch64Relocation) → is_plain (loongarch_scope name) ≡ true
+early_plain names.R_LARCH_GOT_PC_HI20 = refl
+early_plain names.R_LARCH_GOT_PC_LO12 = refl
+early_plain names.R_LARCH_TLS_IE_PC_HI20 = refl
+early_plain names.R_LARCH_TLS_IE_PC_LO12 = refl
+early_plain names.R_LARCH_TLS_IE64_PC_LO20 = refl
+early_plain names.R_LARCH_TLS_IE64_PC_HI12 = refl
+early_plain names.R_LARCH_TLS_DESC_PC_HI20 = refl
+early_plain names.R_LARCH_TLS_DESC_PC_LO12 = refl
+early_plain names.R_LARCH_TLS_DESC64_PC_LO20 = refl
+early_plain names.R_LARCH_TLS_DESC64_PC_HI12 = refl
+early_plain names.R_LARCH_TLS_DESC_LD = refl
+early_plain names.R_LARCH_TLS_DESC_CALL = refl
+early_plain name = refl
 
-unlabelled_in : (phase : Phase) (name : LoongArch64Relocation)
-    → is_labelled (loongarch_scope_in phase name) ≡ false
-unlabelled_in phases.PreLayout name = early_unlabelled name
-unlabelled_in phases.TlsLocalExec name = thread_unlabelled name
-unlabelled_in phases.GotToPcRel name = refl
-unlabelled_in phases.ShortPcRel name = refl
+thread_plain : (name : LoongArch64Relocation) → is_plain (loongarch_scope_in phases.TlsLocalExec name) ≡ true
+thread_plain names.R_LARCH_TLS_LE_HI20_R = refl
+thread_plain names.R_LARCH_TLS_LE_ADD_R = refl
+thread_plain names.R_LARCH_TLS_LE_LO12_R = refl
+thread_plain name = refl
+
+plain_in : (phase : Phase) (name : LoongArch64Relocation)
+    → is_plain (loongarch_scope_in phase name) ≡ true
+plain_in phases.PreLayout name = early_plain name
+plain_in phases.TlsLocalExec name = thread_plain name
+plain_in phases.GotToPcRel name = refl
+plain_in phases.ShortPcRel name = refl
+
+pub plain : (phase : Phase) (code : ℕ) (scope : Scope) → IsScopeIn LoongArch64 phase code scope → is_plain scope ≡ true
+plain phase code scope is = ap is_plain is.value_is ∙ plain_in phase is.name
 
 -- LoongArch has no labels
-unlabelled : (phase : Phase) (code : ℕ) (scope : Scope) → IsScopeIn LoongArch64 phase code scope
+pub unlabelled : (phase : Phase) (code : ℕ) (scope : Scope) → IsScopeIn LoongArch64 phase code scope
     → scope ≡ Labelled → ⊥
 unlabelled phase code scope is labelled =
-    let no : is_labelled scope ≡ false = ap is_labelled is.value_is ∙ unlabelled_in phase is.name in
-    let yes : is_labelled scope ≡ true = ap is_labelled labelled in
-    let e : true ≡ false = sym yes ∙ no in cc
+    let e : true ≡ false = sym (plain phase code scope is) ∙ ap is_plain labelled in cc
 
 -- what has no scope in the phase of offsets from the thread pointer has one before addresses are
 -- known
@@ -85,33 +93,39 @@ pub record IsByTable (name : LoongArch64Relocation) (section : List ℕ) (o : �
       (loongarch_entries name) chosen
   pub early : loongarch_scope_in phases.TlsLocalExec name ≡ NotRelaxable → AreEarly facts
 
-pub by_table : (l : Linked)
-    → AreDecidedIn l.context l.kept l.relocations l.section l.decisions (count l)
-    → l.context.architecture ≡ LoongArch64
-    → (i : ℕ) (chosen : Choice Relaxation ℕ) → i < count l → decision_at l.decisions i ≡ Rewritten chosen
-    → (name : LoongArch64Relocation) → IsNamed (loongarch_name name)
-    → IsNameOf loongarch_name (relocation_in l.relocations i).code name
-    → IsByTable name l.section (relocation_in l.relocations i).offset chosen
-by_table l all loongarch i chosen below decided name named is_name =
-    let r = relocation_in l.relocations i in
-    let c : IsChosen l.context l.section r chosen =
-    chosen_at l.context l.kept l.relocations l.section l.decisions (count l) i chosen all below decided
-    (λ scope is. unlabelled l.context.phase r.code scope (subst (λ x. IsScopeIn x l.context.phase r.code scope) loongarch is)) in
-    let listed : IsListed l.context r =
-    listed_at l.context l.kept l.relocations l.section l.decisions (count l) i chosen all below decided in
-    let scope = subst (λ x. IsScopeIn x l.context.phase r.code listed.scope) loongarch listed.is_scope in
-    let same : scope.name ≡ name = scope.is_name.named name named is_name.code_is in
-    record {
-      facts = c.facts;
-      one = of_one loongarch_name relaxations.LoongArch64 (LoongArchApplies name l.section r.offset c.facts) chosen
-          (λ n. LoongArchApplies n l.section r.offset c.facts) loongarch_entries kinds.NoOp refl r.code name named is_name
-          (λ e applies. applies)
-          (subst (λ x. IsArchitectureChoice x r.code l.section r.offset c.facts chosen) loongarch c.is_choice) c.changed;
-      early = λ without. are_early l.context l.section r chosen
-          (only_early name without l.context.phase
-          (λ unlisted. listed.listed (scope.value_is ∙ (ap (loongarch_scope_in l.context.phase) same ∙ unlisted))))
-          (λ ppc64. let e : LoongArch64 ≡ Ppc64 = sym loongarch ∙ ppc64 in cc) c;
-    }
+module _ (l : Linked) (all : AreDecidedIn l.context l.kept l.relocations l.section l.decisions (count l))
+    (loongarch : l.context.architecture ≡ LoongArch64) (i : ℕ) (chosen : Choice Relaxation ℕ) (below : i < count l)
+    (decided : decision_at l.decisions i ≡ Rewritten chosen) where
+  abbrev r : Rela
+  r = relocation_in l.relocations i
+
+  pub is_chosen : IsChosen l.context l.section r chosen
+  is_chosen =
+      chosen_at l.context l.kept l.relocations l.section l.decisions (count l) i chosen all below decided
+      (λ scope is. unlabelled l.context.phase r.code scope (subst (λ x. IsScopeIn x l.context.phase r.code scope) loongarch is))
+
+  pub choice_there : IsArchitectureChoice LoongArch64 r.code l.section r.offset is_chosen.facts chosen
+  choice_there =
+      subst (λ x. IsArchitectureChoice x r.code l.section r.offset is_chosen.facts chosen) loongarch is_chosen.is_choice
+
+  pub by_table : (name : LoongArch64Relocation) → IsNamed (loongarch_name name) → IsNameOf loongarch_name r.code name
+      → IsByTable name l.section r.offset chosen
+  by_table name named is_name =
+      let facts = is_chosen.facts in
+      let listed : IsListed l.context r =
+      listed_at l.context l.kept l.relocations l.section l.decisions (count l) i chosen all below decided in
+      let scope = subst (λ x. IsScopeIn x l.context.phase r.code listed.scope) loongarch listed.is_scope in
+      let same : scope.name ≡ name = scope.is_name.named name named is_name.code_is in
+      record {
+        facts = facts;
+        one = of_one loongarch_name relaxations.LoongArch64 (LoongArchApplies name l.section r.offset facts) chosen
+            (λ n. LoongArchApplies n l.section r.offset facts) loongarch_entries kinds.NoOp refl r.code name named is_name
+            (λ e applies. applies) choice_there is_chosen.changed;
+        early = λ without. are_early l.context l.section r chosen
+            (only_early name without l.context.phase
+            (λ unlisted. listed.listed (scope.value_is ∙ (ap (loongarch_scope_in l.context.phase) same ∙ unlisted))))
+            (λ ppc64. let e : LoongArch64 ≡ Ppc64 = sym loongarch ∙ ppc64 in cc) is_chosen;
+      }
 
 -- one that was chosen
 pub record IsEntry (kind : RewriteKind) (relocation name : LoongArch64Relocation) (section : List ℕ)

@@ -1,16 +1,17 @@
 -- Rewritten loads from the GOT of LoongArch are groups in the final bytes.
-use Rattle.std.proofs.Common.{◌≡◌, ℕ, ℤ, ◌+◌, drop, List, refl, sym, ap, subst, ◌∙◌, arith, inl, inr}
+use Rattle.std.proofs.Common.{◌≡◌, ℕ, ℤ, ◌+◌, ◌<◌, drop, List, refl, sym, ap, subst, ◌∙◌, arith, inl, inr, IsSomeAnd}
 use Rattle.std.specs.Prelude.{slice_get}
 use Rattle.linker_base.specs.Bits.{field}
 use Rattle.linker_elf.specs.Applied.{IsApplied}
 use Rattle.linker_elf.specs.Choices.{entry}
-use Rattle.linker_elf.specs.ElfNames.{code_of}
-use Rattle.linker_elf.specs.LoongArchRelocations.{loongarch_name, low_row, rounded_row}
+use Rattle.linker_elf.specs.ElfNames.{IsNameOf, code_of}
+use Rattle.linker_elf.specs.LoongArchRelocations.{loongarch_name, loongarch_row, low_row, rounded_row}
 use Rattle.linker_elf.specs.Rows.{paged_row, place_pages, entry_pages}
 use Rattle.linker_elf.specs.Value.{value_of}
 use Rattle.linker_elf.specs.declared.elf.RelocationKind.TheVariants.{Relative, AbsoluteLowPart, GotRelative}
 use Rattle.linker_elf.specs.declared.elf.RelocationKindInfo.{RelocationKindInfo}
 use Rattle.linker_elf.specs.declared.elf.choice.Choice.{Choice}
+use Rattle.linker_elf.specs.declared.loongarch64.relocations.LoongArch64Relocation.{LoongArch64Relocation}
 use Rattle.linker_elf.specs.declared.loongarch64.relocations.LoongArch64Relocation.TheVariants as names
 use Rattle.linker_rewriting.proofs.PreLayout.{isnt}
 use Rattle.linker_final.proofs.InstructionFields.{of_bits}
@@ -18,13 +19,15 @@ use Rattle.linker_final.proofs.LoongArchChosen.{IsByTable, IsEntry, by_table, en
 use Rattle.linker_final.proofs.LoongArchPairs.{AreOfLoad, load_of}
 use Rattle.linker_final.proofs.LoongArchWritten.{IsAfter, applied_there, becomes}
 use Rattle.linker_final.proofs.Written.{are_rewritten, rela, stays, with_operands, word_same}
-use Rattle.linker_final.specs.Final.{UntouchedInstructions, Linked, IsLinked, IsRewrittenByNoOther, instruction_at}
-use Rattle.linker_final.specs.LoongArchFinal.{GotLoads, LoadsTheSame}
+use Rattle.linker_final.specs.Final.{UntouchedInstructions, Linked, IsLinked, IsRewrittenByNoOther, count, instruction_at}
+use Rattle.linker_final.specs.LoongArchSection.{IsLoad, LoadsTheSame}
 use Rattle.linker_laws.specs.LoongArchGroups.{Groups}
 use Rattle.linker_laws.specs.LoongArchRewriteLaws.{IsPair, IsRewritten, following, word_of}
 use Rattle.linker_utils.specs.LoongArchRewrites.{AreOfOneRegister, IsLd, bound_by_pages}
 use Rattle.linker_utils.specs.declared.loongarch64.rewrites.RewriteKind.TheVariants as kinds
+use Rattle.linker_rewriting.specs.Decisions.{decision_at}
 use Rattle.linker_rewriting.specs.Facts.{RelaxContext}
+use Rattle.linker_rewriting.specs.declared.decisions.Decision.TheVariants.{Rewritten}
 use Rattle.linker_section.specs.Relocations.{relocation_in}
 use Rattle.linker_section.specs.Values.{operands_with}
 use Rattle.linker_section.specs.declared.facts.Addresses.{Addresses}
@@ -163,7 +166,11 @@ module _ (groups : Groups) (l : Linked) (linked : IsLinked l) (loongarch : l.con
       (record { relocated = instruction_at l.final o; applied = page_written; stands = page_stands })
       (record { relocated = instruction_at l.final (o + 4); applied = low_written; stands = low_stands })
 
-pub got_loads : Groups → GotLoads
-got_loads groups l linked context i chosen below is_name decided left alone =
-    loads_the_same groups l linked (ap (λ (x : RelaxContext). x.architecture) context) i (i + 2)
-    (load_of l linked.decided context i chosen below is_name decided) left alone
+pub load_is : Groups → (l : Linked) (i : ℕ) (chosen : Choice Relaxation ℕ) (name : LoongArch64Relocation) → i < count l
+    → IsNameOf loongarch_name (relocation_in l.relocations i).code name
+    → decision_at l.decisions i ≡ Rewritten chosen → IsLoad l i name
+    → IsSomeAnd (loongarch_row names.R_LARCH_GOT_PC_HI20) (LoadsTheSame l i)
+load_is groups l i chosen name below is_name decided of =
+    loads_the_same groups l of.linked (ap (λ (x : RelaxContext). x.architecture) of.early) i (i + 2)
+    (load_of l of.linked.decided of.early i chosen below
+    (subst (IsNameOf loongarch_name (relocation_in l.relocations i).code) of.is is_name) decided) of.left of.alone

@@ -17,7 +17,7 @@ use Rattle.linker_elf.specs.declared.loongarch64.relocations.LoongArch64Relocati
 use Rattle.linker_final.proofs.InstructionFields.{IsOfInstruction}
 use Rattle.linker_final.proofs.Written.{IsRowOf, applied_after, are_rewritten, by_name, rela, unwritten_without, with_operands}
 use Rattle.linker_final.specs.Final.{AreRewritten, UntouchedInstruction, Linked, IsLinked, IsWrittenByNoOther, count, instruction_at}
-use Rattle.linker_final.specs.LoongArchFinal.{named_as}
+use Rattle.linker_final.specs.LoongArchSection.{named_as}
 use Rattle.linker_laws.specs.LoongArchRewriteLaws.{BeginsRewritten, IsRelocated, IsRewritten}
 use Rattle.linker_utils.specs.LoongArchRewrites.{loongarch_rewrite, rewrites_word}
 use Rattle.linker_utils.specs.declared.loongarch64.rewrites.RewriteKind.{RewriteKind}

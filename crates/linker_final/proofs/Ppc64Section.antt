@@ -75,7 +75,7 @@ module _ (laws : Groups) (l : Linked) (linked : IsLinked l) (ppc64 : l.context.a
       let t = has_entry l linked ppc64 i chosen below is in
       (law_there laws l linked ppc64 i chosen below is t.name t.is_name).others b apart
   outside i below apart (RewrittenWithSymbol chosen subject) is =
-      absurd (without_label l linked ppc64 unlabelled i chosen subject below is)
+      absurd (without_label l linked.decided ppc64 unlabelled i chosen subject below is)
 
 pub are_in : Groups → AreIn rewriting
 are_in laws l linked ppc64 b =

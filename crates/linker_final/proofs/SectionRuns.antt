@@ -3,11 +3,11 @@ use Rattle.std.proofs.Common.{◌≡◌, ◌≢◌, ℕ, zero, suc, ◌+◌, ◌
 use Rattle.std.proofs.lemmas.Bool.{cases_eq, cases_lt}
 use Rattle.linker_elf.specs.declared.elf.architecture.Architecture.{Architecture}
 use Rattle.linker_elf.specs.declared.elf.choice.Choice.{Choice}
-use Rattle.linker_final.specs.Final.{AreInTurn, IsLinked, Linked, RewritingPhase, count, linked_by}
+use Rattle.linker_final.specs.Final.{AreInTurn, Linked, RewritingPhase, count, linked_by}
 use Rattle.linker_final.specs.SectionRuns.{AreCalled, AreLeft, EachPlace, IsBeside, IsBesideAll, IsFollowed, IsPhase, IsPhaseIn, Known, Knows, Place, Rewriting, RewritesAreGroups, RunsAreFollowed, Section, begins, comparison, elsewhere, offset_of, rewritten, unchanged, within}
 use Rattle.linker_laws.specs.Simulation.{Comparison, Kinds, Next, Simulates, State, by_group, uncovered}
 use Rattle.linker_rewriting.proofs.Chosen.{chosen_or_labelled}
-use Rattle.linker_rewriting.specs.Decisions.{decision_at}
+use Rattle.linker_rewriting.specs.Decisions.{AreDecidedIn, decision_at}
 use Rattle.linker_rewriting.specs.Groups.{IsScopeIn}
 use Rattle.linker_rewriting.specs.declared.decisions.Decision.{Decision}
 use Rattle.linker_rewriting.specs.declared.decisions.Decision.TheVariants.{Consumed, Kept, Rewritten, RewrittenWithSymbol}
@@ -68,13 +68,14 @@ final_in Has x l is final =
     subst (Has l.addresses) (sym of.final) (subst (λ a. Has a x.final) (sym of.addresses) final)
 
 -- where relocations have no labels
-pub without_label : {architecture : Architecture} (l : Linked) → IsLinked l → l.context.architecture ≡ architecture
+pub without_label : {architecture : Architecture} (l : Linked)
+    → AreDecidedIn l.context l.kept l.relocations l.section l.decisions (count l) → l.context.architecture ≡ architecture
     → ((phase : Phase) (code : ℕ) (scope : Scope) → IsScopeIn architecture phase code scope → scope ≡ Labelled → ⊥)
     → (i : ℕ) (chosen : Choice Relaxation ℕ) (subject : Subject) → i < count l
     → decision_at l.decisions i ≡ RewrittenWithSymbol chosen subject → ⊥
-without_label l linked same unlabelled i chosen subject below is =
+without_label l decided same unlabelled i chosen subject below is =
     let code = (relocation_in l.relocations i).code in
-    elim (chosen_or_labelled l.context l.kept l.relocations l.section l.decisions (count l) i (RewrittenWithSymbol chosen subject) chosen linked.decided below is refl) [
+    elim (chosen_or_labelled l.context l.kept l.relocations l.section l.decisions (count l) i (RewrittenWithSymbol chosen subject) chosen decided below is refl) [
       | inl alone ↦ let e : RewrittenWithSymbol chosen subject ≡ Rewritten chosen = alone.is in cc
       | inr label ↦ unlabelled l.context.phase code Labelled
           (subst (λ x. IsScopeIn x l.context.phase code Labelled) same label.scope_is) refl

@@ -169,7 +169,7 @@ module _ (laws : Groups) (l : Linked) (linked : IsLinked l) (x86 : l.context.arc
         | inr none ↦ inl (spared l i (Rewritten chosen) is (ap window_of_rewrite (none.1)) b)
       ]
   by_decision i below (RewrittenWithSymbol chosen subject) is =
-      absurd (without_label l linked x86 unlabelled i chosen subject below is)
+      absurd (without_label l linked.decided x86 unlabelled i chosen subject below is)
 
 pub are_in : Groups → AreIn rewriting
 are_in laws l linked x86 b =

@@ -7,9 +7,8 @@ pub mod Emulated
 pub mod Final
 pub mod Joined
 pub mod LoongArchExecuted
-pub mod LoongArchFinal
-pub mod LoongArchJoined
 pub mod LoongArchPacked
+pub mod LoongArchSection
 pub mod LoongArchSteps
 pub mod LoongArchTable
 pub mod Packed

@@ -5,7 +5,7 @@
 
 ghost use Rattle.linker_final.specs.AArch64Section as aarch64_section;
 ghost use Rattle.linker_final.specs.Final as final_bytes;
-ghost use Rattle.linker_final.specs.LoongArchFinal as loongarch64_final;
+ghost use Rattle.linker_final.specs.LoongArchSection as loongarch64_section;
 ghost use Rattle.linker_final.specs.Ppc64Section as ppc64_section;
 ghost use Rattle.linker_final.specs.RiscVFinal as riscv64_final;
 ghost use Rattle.linker_final.specs.RiscVJoined as riscv64_joined;
@@ -104,24 +104,21 @@ pub fn riscv64_global_pointer()
     linker_laws::relocations::riscv64();
 }
 
-/// LoongArch: rewritten instructions are groups in the final bytes. They are each load of an
-/// address from the GOT that became a sum of its page and the rest, each half of initial-exec that
-/// became a half of local-exec, each instruction of a TLS descriptor that became one of local-exec
-/// or of initial-exec, and each low part of local-exec over the thread pointer, also where
-/// instructions before it are deleted then. All but the loads are groups wherever a linker applies
-/// their relocations, as in a section that it packs first.
-pub fn loongarch64()
-    ensures got_loads { loongarch64_final.GotLoads }
-    ensures high_halves { loongarch64_final.HighHalves }
-    ensures low_halves { loongarch64_final.LowHalves }
-    ensures descriptors { loongarch64_final.Descriptors }
-    ensures low_parts { loongarch64_final.LowParts }
-    ensures moved_low_parts { loongarch64_final.MovedLowParts }
-    ensures high_halves_anywhere { loongarch64_final.HighHalvesAnywhere }
-    ensures low_halves_anywhere { loongarch64_final.LowHalvesAnywhere }
-    ensures descriptors_anywhere { loongarch64_final.DescriptorsAnywhere }
+/// LoongArch: all changes of a section, in all of its phases, as `aarch64_sections` says of
+/// AArch64's. Each byte stays, but for the values of relocations, or is of an instruction that is
+/// rewritten. They are each load of an address from the GOT that became a sum of its page and the
+/// rest, each half of initial-exec that became a half of local-exec, each instruction of a TLS
+/// descriptor that became one of local-exec or of initial-exec, each low part of local-exec over
+/// the thread pointer, and what is deleted before it. A load is a group in the final bytes, and the
+/// others also wherever a linker applies their relocations, and in a section that was packed.
+pub fn loongarch64_sections()
+    ensures places { section_runs.EachPlace loongarch64_section.rewriting }
+    ensures groups { section_runs.RewritesAreGroups loongarch64_section.rewriting }
+    ensures runs { section_runs.RunsAreFollowed loongarch64_section.rewriting }
+    ensures relocations { loongarch64_section.RelocationsAreLeft }
 {
     linker_laws::simulation::loongarch64();
+    linker_laws::simulation::runs();
 }
 
 /// PowerPC64: all changes of a section, in all of its phases, as `aarch64_sections` says of

@@ -7,7 +7,6 @@ ghost use Rattle.linker_base.specs.Deltas.{deletions_of};
 ghost use Rattle.linker_base.specs.Listed.{AreValidDeltas};
 ghost use Rattle.linker_elf.specs.Value.{sum_64};
 ghost use Rattle.linker_final.specs.Branches.{LoongArchBranchesGo, RiscVBranchesGo};
-ghost use Rattle.linker_final.specs.LoongArchJoined as loongarch_joined;
 ghost use Rattle.linker_final.specs.LoongArchPacked as loongarch_packed;
 ghost use Rattle.linker_final.specs.Packed as packed;
 ghost use Rattle.linker_final.specs.Packed.{architecture_of, packed_as, IsPackCause, IsPacked};
@@ -239,19 +238,5 @@ pub fn shorter_loongarch64()
     ensures branches { LoongArchBranchesGo }
 {
     linker_laws::relocations::loongarch64();
-    linker_laws::simulation::loongarch64();
-}
-
-/// LoongArch: what was rewritten before the section was packed, and stays, is a group in the final
-/// bytes, each with the value of its relocation in its own layout. It is each low part of
-/// local-exec that is over the thread pointer, each half of initial-exec that became one of
-/// local-exec, and each instruction of a TLS descriptor that became one of local-exec or of
-/// initial-exec. What became `nop` is one.
-pub fn joined_loongarch64()
-    ensures low_parts { loongarch_joined.PackedLowParts }
-    ensures high_halves { loongarch_joined.PackedHighHalves }
-    ensures low_halves { loongarch_joined.PackedLowHalves }
-    ensures descriptors { loongarch_joined.PackedDescriptors }
-{
     linker_laws::simulation::loongarch64();
 }
