@@ -1,22 +1,9 @@
-use Rattle.std.proofs.Common.{◌/◌, length, map, rules}
+use Rattle.std.proofs.Common.{◌/◌, length, map, refl, rules}
 use Rattle.linker_rewriting.specs.Facts.{context}
 use Rattle.linker_rewriting.proofs.Listing.{all_fit}
 use Rattle.linker_rewriting.proofs.Noted.{means_unsurveyed}
 use Rattle.linker_rewriting.proofs.Whole.{whole, labels_whole}
 use Rattle.linker_rewriting.proofs.sections.rewrite_placed_section.Goals as goal
-
-pub returns-in-Err-clause-surveyed : goal.returns-in-Err-clause-surveyed
-returns-in-Err-clause-surveyed g c =
-    let a = c.args in
-    means_unsurveyed (context a.architecture a.phase a.output.now a.symbols.now a.addresses.now a.values.now)
-    a.kept.now a.relocations.now a.section.now (map g.D.AsDecision.decision c.decide_section.new.decisions) _ c.in-Err.ensures.rejected
-
-pub returns-in-Some-list_changes-clause-groups : goal.returns-in-Some-list_changes-clause-groups
-returns-in-Some-list_changes-clause-groups g c =
-    let a = c.args in
-    whole (context a.architecture a.phase a.output.now a.symbols.now a.addresses.now a.values.now)
-    a.kept.now a.relocations.now a.section.now (map g.D.AsDecision.decision c.decide_section.new.decisions)
-    (length a.relocations.now / 24) c.in-Ok.ensures.decided
 
 pub list_changes-requires-clause-fit : goal.list_changes-requires-clause-fit
 list_changes-requires-clause-fit g c =
@@ -24,9 +11,56 @@ list_changes-requires-clause-fit g c =
     all_fit a.relocations.now a.section.now (map g.D.AsDecision.decision c.decide_section.new.decisions)
     (length a.relocations.now / 24) _ c.in-Ok.ensures.made (search rules)
 
-pub returns-in-Some-list_changes-clause-labels : goal.returns-in-Some-list_changes-clause-labels
-returns-in-Some-list_changes-clause-labels g c =
+pub returns-in-Some-list_changes : goal.returns-in-Some-list_changes
+returns-in-Some-list_changes g c =
     let a = c.args in
-    labels_whole (context a.architecture a.phase a.output.now a.symbols.now a.addresses.now a.values.now)
-    a.kept.now a.relocations.now a.section.now (map g.D.AsDecision.decision c.decide_section.new.decisions)
-    (length a.relocations.now / 24) c.in-Ok.ensures.decided
+    let s = context a.architecture a.phase a.output.now a.symbols.now a.addresses.now a.values.now in
+    let ds = map g.D.AsDecision.decision c.decide_section.new.decisions in
+    let e = c.in-Ok.ensures in
+    let m = c.make_changes.ensures in
+    let l = c.in-Some-list_changes.ensures in
+    record {
+      agree = search rules;
+      decided = e.decided;
+      groups = whole s a.kept.now a.relocations.now a.section.now ds (length a.relocations.now / 24) e.decided;
+      apart = e.apart;
+      clear = e.clear;
+      within = e.made;
+      relocations = m.relocations;
+      done = m.done;
+      others = m.others;
+      listed = l.listed;
+      labels = labels_whole s a.kept.now a.relocations.now a.section.now ds (length a.relocations.now / 24) e.decided;
+      form = e.form;
+      others_stay = c.decide_section.ensures.others_stay;
+      deletions_stay = l.others_stay;
+      rejected = tt;
+      surveyed = tt;
+      section = tt;
+      entries = tt;
+    }
+
+pub returns-in-Err : goal.returns-in-Err
+returns-in-Err g c =
+    let a = c.args in
+    record {
+      agree = tt;
+      decided = tt;
+      groups = tt;
+      apart = tt;
+      clear = tt;
+      within = tt;
+      relocations = tt;
+      done = tt;
+      others = tt;
+      listed = tt;
+      labels = tt;
+      form = tt;
+      others_stay = c.decide_section.ensures.others_stay;
+      deletions_stay = tt;
+      rejected = search rules;
+      surveyed = means_unsurveyed (context a.architecture a.phase a.output.now a.symbols.now a.addresses.now a.values.now)
+          a.kept.now a.relocations.now a.section.now (map g.D.AsDecision.decision c.decide_section.new.decisions) _ c.in-Err.ensures.rejected;
+      section = refl;
+      entries = refl;
+    }
