@@ -20,7 +20,7 @@ returns-in-Some-list_changes g c =
     let m = c.make_changes.ensures in
     let l = c.in-Some-list_changes.ensures in
     record {
-      agree = search rules;
+      agree = c.in_default.ensures;
       decided = e.decided;
       groups = whole s a.kept.now a.relocations.now a.section.now ds (length a.relocations.now / 24) e.decided;
       apart = e.apart;
