@@ -30,6 +30,12 @@ module _ (start : ℕ) (items : List Item) (old new : List ℕ) (i : ℕ) (are :
         omega arith;
   }
 
+  pub next_short : choice_of old i < 2 → ((k : ℕ) → choice_of old k ≤ 2) → (k : ℕ) → choice_of new k ≤ 2
+  next_short less short k = ⊎_elim
+      (λ (same : k ≡ i). let e = ap (choice_of new) same in let h = here in omega arith)
+      (λ (apart : (k < i) ⊎ (i < k)). let e = others k (λ e. absurd (omega arith)) in let h = short k in omega arith)
+      (cases_order k i)
+
   pub next_forced : is_in_reach_cautiously items (choice_of old) i ≡ false → AreForced items old → AreForced items new
   next_forced out forced other reached k low = ⊎_elim
       (λ (same : k ≡ i).

@@ -1,6 +1,7 @@
 use Rattle.std.proofs.Common.{◌≡◌, ◌+◌, ◌<◌, ◌≤◌, ◌∙◌, ap, map, subst, sym, length, ⊎_elim, arith}
 use Rattle.std.proofs.lemmas.Bool.{both_ways, cases_lt}
-use Rattle.std.proofs.lemmas.List.{length-map}
+use Rattle.std.proofs.lemmas.List.{drop-set-lt, length-map}
+use Rattle.std.proofs.lemmas.Grind.{drop_more_same}
 use Rattle.linker_runs.specs.Relaxing.{offset_of, end_of}
 use Rattle.linker_runs.specs.RewrittenItems.{deleted_at}
 use Rattle.linker_runs.specs.SectionItems.{Makes}
@@ -31,3 +32,11 @@ returns-clause-listed g c = λ m s rs len is before.
     (omega (arith, so_far.few, all.ensures.range.1, c.requires.index, c.requires.room, all.auto.out))
     (omega (arith, so_far.few, all.ensures.range.1, c.requires.index, c.requires.makers, all.auto.makers))
     made c.from_item.ensures.form following (end ∙ sym (ap end_of there)) (λ more. next (omega (arith, more, count)))
+
+pub returns-clause-others_stay : goal.returns-clause-others_stay
+returns-clause-others_stay g c =
+    let all = c.list_deletions-all in
+    let n = all.result.count in (
+      drop-set-lt (n + 1) all.new.out n _ (omega arith) ∙ drop_more_same all.new.out c.args.out.now n all.ensures.others_stay.0,
+      drop-set-lt (n + 1) all.new.makers n _ (omega arith) ∙ drop_more_same all.new.makers c.args.makers.now n all.ensures.others_stay.1,
+    )

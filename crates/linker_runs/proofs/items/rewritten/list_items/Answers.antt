@@ -1,4 +1,4 @@
-use Rattle.std.proofs.Common.{◌≡◌, ◌∙◌, ◌<◌, ◌≤◌, ℕ, List, map, inl, inr, ⊎_elim, length, take, arith, subst}
+use Rattle.std.proofs.Common.{◌≡◌, ◌∙◌, ◌<◌, ◌≤◌, ℕ, List, map, inl, inr, ⊎_elim, length, suc, take, add-one, arith, subst}
 use Rattle.std.specs.Prelude.{MatchOption}
 use Rattle.std.proofs.lemmas.Bool.{cases_lt}
 use Rattle.std.proofs.lemmas.List.{length-map}
@@ -94,3 +94,21 @@ returns-clause-others_stay g c =
       all.ensures.others_stay.0 ∙ drop_same_from c.loop-index.out c.args.out.now c.loop-index.listed.count all.result.count more walked.others,
       all.ensures.others_stay.1 ∙ drop_same_from c.loop-index.makers c.args.makers.now c.loop-index.listed.count all.result.count more walked.makers_stay,
     )
+
+pub list_item-requires-clause-gone : goal.list_item-requires-clause-gone
+list_item-requires-clause-gone g c = omega (arith, c.loop-index.invariant.walked.gone, length-map c.args.deleted.now g.L.AsDeletion.deletion)
+
+pub list_item-requires-clause-apart : goal.list_item-requires-clause-apart
+list_item-requires-clause-apart g c = λ k below. rw add-one (c.requires.placed (suc k) (omega (arith, below))).0
+
+pub list_deletions-requires-clause-gone : goal.list_deletions-requires-clause-gone
+list_deletions-requires-clause-gone g c = omega (arith, c.loop-index.invariant.walked.gone, length-map c.args.deleted.now g.L.AsDeletion.deletion)
+
+pub list_deletions-requires-clause-apart : goal.list_deletions-requires-clause-apart
+list_deletions-requires-clause-apart g c = λ k below. rw add-one (c.requires.placed (suc k) (omega (arith, below))).0
+
+pub returns-clause-form : goal.returns-clause-form
+returns-clause-form g c =
+    let rs : List Relocation = map g.R.AsRelocation.relocation c.args.relocations.now in
+    let all = length-map c.args.relocations.now g.R.AsRelocation.relocation in
+    (c.list_deletions.ensures.listed c.args.machine c.args.section.now rs c.loop-index.index all (omega (arith, all)) c.loop-index.invariant.walked.listed).form

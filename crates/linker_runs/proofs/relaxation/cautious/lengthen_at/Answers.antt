@@ -1,8 +1,9 @@
-use Rattle.std.proofs.Common.{◌≡◌, ◌+◌, ◌∙◌, false, get_or, refl, ap, sym, ⊎_elim, arith}
+use Rattle.std.proofs.Common.{◌≡◌, ◌+◌, ◌∙◌, ℕ, false, get_or, refl, ap, sym, ⊎_elim, set, sum, arith}
+use Rattle.std.proofs.lemmas.List.Sums.{sum_by-set}
 use Rattle.linker_runs.specs.Relaxing.{item_at, choice_of, place_of, target_of, item_reaches}
 use Rattle.linker_runs.specs.Choosing.{cautious_before, freed_cautiously}
 use Rattle.linker_runs.specs.Inner.Relaxing.{is_in_reach_cautiously}
-use Rattle.linker_runs.proofs.Sweeps.{next_layout, next_forced}
+use Rattle.linker_runs.proofs.Sweeps.{next_layout, next_forced, next_short}
 use Rattle.linker_runs.proofs.relaxation.cautious.lengthen_at.Goals as goal
 use Rattle.linker_runs.proofs.relaxation.cautious.lengthen_at.Goals.{then-place-index, else-place-index}
 
@@ -32,3 +33,20 @@ returns-clause-forced g c =
     ∙ ap (λ x. item_reaches (item_at items i) (choice i) (get_or freed i 0) x) (sym there)
     ∙ ap (λ it. item_reaches it (choice i) (get_or freed i 0) c.if-place-index.there) (sym c.at-item.ensures) ∙ sym c.reaches.ensures.reached ∙ c.if-reaches.false in
     next_forced c.args.start items c.args.shapes.now _ i c.requires.items c.requires.within c.requires.shapes refl out
+
+pub returns-clause-short : goal.returns-clause-short
+returns-clause-short g c =
+    next_short c.args.start c.args.items.now c.args.shapes.now _ c.args.index c.requires.items c.requires.within c.requires.shapes refl (c.reaches.ensures.can_grow c.if-reaches.false) c.requires.short
+
+pub returns-then-place-len-clause-reached : goal.returns-then-place-len-clause-reached
+returns-then-place-len-clause-reached g c = λ _. ⊎_elim
+    (λ is. absurd (omega (arith, is, c.requires.placed.within c.args.index c.requires.within)))
+    (λ far. far.1.cautiously (choice_of c.args.shapes.now))
+    (c.requires.placed.each c.args.index c.requires.within)
+
+pub returns-clause-longer : goal.returns-clause-longer
+returns-clause-longer g c = λ _.
+    let xs = c.args.shapes.now in
+    let shape = choice_of xs c.args.index in
+    let more : sum (set xs c.args.index (shape + 1)) + shape ≡ sum xs + (shape + 1) = sum_by-set (λ (x : ℕ). x) xs c.args.index (shape + 1) 0 (omega arith) in
+    omega arith
