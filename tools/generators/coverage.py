@@ -8,6 +8,7 @@ import json
 import re
 import subprocess
 import sys
+import textwrap
 from pathlib import Path
 
 ROOT = Path(__file__).resolve().parents[2]
@@ -183,8 +184,8 @@ def check_rows():
 
 
 def groups():
-    """The table of the rewrites that the laws of groups name."""
-    lines = ["| | Rewrites | In groups | Not in groups |", "|---|--:|--:|---|"]
+    """How many rewrites the laws of groups name."""
+    parts = []
     for name, (file, *_), function in ARCHITECTURES.values():
         enum = (ROOT / f"crates/linker_utils/src/{function}/rewrites.rt").read_text()
         enum = enum.partition("pub enum RewriteKind {")[2].partition("\n}")[0]
@@ -196,9 +197,9 @@ def groups():
         if unknown := used.difference(kinds):
             sys.exit(f"tools/generate: {path.name} names no rewrites: {sorted(unknown)}")
         left = [kind for kind in kinds if kind not in used]
-        lines.append(f"| {name} | {len(kinds)} | {len(used)} | "
-                     f"{'all' if left == kinds else ', '.join(f'`{kind}`' for kind in left) or 'none'} |")
-    return "\n".join(lines) + "\n\n"
+        without = f" (not {', '.join(f'`{kind}`' for kind in left)})" * bool(left)
+        parts.append(f"{name} {len(used)} of {len(kinds)}{without}")
+    return textwrap.fill("; ".join(parts), 100) + ".\n\n"
 
 
 def make():
