@@ -10,12 +10,12 @@ use Rattle.linker_elf.specs.Rows.{paged_row, place_pages, signed_row}
 use Rattle.linker_elf.specs.Value.{sum_64}
 use Rattle.linker_elf.specs.declared.aarch64.forms.AArch64Instruction.TheVariants.{Adr}
 use Rattle.linker_elf.specs.declared.aarch64.relocations.AArch64Relocation.TheVariants as names
-use Rattle.linker_elf.specs.declared.elf.RelocationInstruction.TheVariants as insns
 use Rattle.linker_elf.specs.declared.elf.RelocationKind.TheVariants.{Relative}
 use Rattle.linker_elf.specs.declared.elf.RelocationKindInfo.{RelocationKindInfo}
 use Rattle.linker_elf.specs.declared.elf.architecture.Architecture.TheVariants.{AArch64}
 use Rattle.linker_elf.specs.declared.elf.value.Operands.{Operands}
-use Rattle.linker_final.proofs.AArch64Written.{IsAfter, IsNamedAs, IsNew, IsOfEntry, after, has_after, of_bits, of_entry, of_part, place_of, same_value, stands_left}
+use Rattle.linker_final.proofs.InstructionFields.{of_bits}
+use Rattle.linker_final.proofs.AArch64Written.{IsAfter, IsNamedAs, IsNew, IsOfEntry, after, has_after, of_entry, of_part, place_of, same_value, stands_left}
 use Rattle.linker_final.proofs.Written.{first_same, second_same, word_same}
 use Rattle.linker_final.specs.AArch64Section.{ComesTo, IsRewrittenOf, object, register}
 use Rattle.linker_final.specs.SectionRuns.{offset_of}
@@ -39,9 +39,7 @@ abbrev adr_row : RelocationKindInfo
 adr_row = signed_row 21 (insn_row Relative 0 21 Adr)
 
 abbrev adr_after : IsAfter names.R_AARCH64_ADR_PREL_LO21
-adr_after =
-    of_bits names.R_AARCH64_ADR_PREL_LO21 adr_row (record { start = 0; end = 21 }) (insns.AArch64 Adr)
-    refl tt refl refl refl refl refl (λ o. tt)
+adr_after = record { row = adr_row; is = refl; named = tt; of = of_bits refl refl refl refl refl (λ o. tt) }
 
 abbrev to_nop_adr : AArch64Entry
 to_nop_adr = entry kinds.AdrpAddToNopAdr names.R_AARCH64_ADR_PREL_LO21 to_adr

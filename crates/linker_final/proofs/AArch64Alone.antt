@@ -8,12 +8,12 @@ use Rattle.linker_elf.specs.Value.{sum_64, value_of}
 use Rattle.linker_elf.specs.declared.aarch64.forms.AArch64Instruction.TheVariants.{Movkz, Movnz}
 use Rattle.linker_elf.specs.declared.aarch64.relocations.AArch64Relocation.{AArch64Relocation}
 use Rattle.linker_elf.specs.declared.aarch64.relocations.AArch64Relocation.TheVariants as names
-use Rattle.linker_elf.specs.declared.elf.RelocationInstruction.TheVariants as insns
 use Rattle.linker_elf.specs.declared.elf.RelocationKind.TheVariants.{TpOff}
 use Rattle.linker_elf.specs.declared.elf.RelocationKindInfo.{RelocationKindInfo}
 use Rattle.linker_elf.specs.declared.elf.architecture.Architecture.TheVariants.{AArch64}
 use Rattle.linker_elf.specs.declared.elf.value.Operands.{Operands}
-use Rattle.linker_final.proofs.AArch64Written.{IsAfter, IsNew, becomes, has_after, named_after, of_bits, of_entry, stands_left}
+use Rattle.linker_final.proofs.InstructionFields.{of_bits}
+use Rattle.linker_final.proofs.AArch64Written.{IsAfter, IsNew, becomes, has_after, named_after, of_entry, stands_left}
 use Rattle.linker_final.proofs.Written.{word_same}
 use Rattle.linker_final.specs.AArch64Section.{ComesTo, IsRewrittenOf, object, register}
 use Rattle.linker_final.specs.SectionRuns.{offset_of}
@@ -33,17 +33,13 @@ abbrev pub high_row : RelocationKindInfo
 high_row = insn_row TpOff 16 32 Movnz
 
 abbrev pub high_after : IsAfter names.R_AARCH64_TLSLE_MOVW_TPREL_G1
-high_after =
-    of_bits names.R_AARCH64_TLSLE_MOVW_TPREL_G1 high_row (record { start = 16; end = 32 }) (insns.AArch64 Movnz)
-    refl tt refl refl refl refl refl (λ o. tt)
+high_after = record { row = high_row; is = refl; named = tt; of = of_bits refl refl refl refl refl (λ o. tt) }
 
 abbrev pub low_row : RelocationKindInfo
 low_row = insn_row TpOff 0 16 Movkz
 
 abbrev pub low_after : IsAfter names.R_AARCH64_TLSLE_MOVW_TPREL_G0_NC
-low_after =
-    of_bits names.R_AARCH64_TLSLE_MOVW_TPREL_G0_NC low_row (record { start = 0; end = 16 }) (insns.AArch64 Movkz)
-    refl tt refl refl refl refl refl (λ o. tt)
+low_after = record { row = low_row; is = refl; named = tt; of = of_bits refl refl refl refl refl (λ o. tt) }
 
 module _ (laws : Groups) {l : Linked} {c : Code} (new : IsNew l c) (i : ℕ) (left : UntouchedInstruction l i)
     (k : Kinds) (s : State) (o : Operands) where

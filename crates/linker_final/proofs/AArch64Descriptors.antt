@@ -8,14 +8,14 @@ use Rattle.linker_elf.specs.Value.{sum_64, value_of}
 use Rattle.linker_elf.specs.declared.aarch64.forms.AArch64Instruction.TheVariants.{Adr, LdrRegister}
 use Rattle.linker_elf.specs.declared.aarch64.relocations.AArch64Relocation.{AArch64Relocation}
 use Rattle.linker_elf.specs.declared.aarch64.relocations.AArch64Relocation.TheVariants as names
-use Rattle.linker_elf.specs.declared.elf.RelocationInstruction.TheVariants as insns
 use Rattle.linker_elf.specs.declared.elf.RelocationKind.TheVariants.{GotTpOff, GotTpOffGot}
 use Rattle.linker_elf.specs.declared.elf.RelocationKindInfo.{RelocationKindInfo}
 use Rattle.linker_elf.specs.declared.elf.architecture.Architecture.TheVariants.{AArch64}
 use Rattle.linker_elf.specs.declared.elf.choice.Choice.{Choice}
 use Rattle.linker_elf.specs.declared.elf.value.Operands.{Operands}
 use Rattle.linker_final.proofs.AArch64Alone.{high_after, high_row, low_after, low_row}
-use Rattle.linker_final.proofs.AArch64Written.{IsAfter, IsNew, IsOfEntry, IsOfOne, after, becomes, entry_there, has_after, named_after, of_bits, of_one, of_part, place_of, stands_left}
+use Rattle.linker_final.proofs.InstructionFields.{of_bits}
+use Rattle.linker_final.proofs.AArch64Written.{IsAfter, IsNew, IsOfEntry, IsOfOne, after, becomes, entry_there, has_after, named_after, of_one, of_part, place_of, stands_left}
 use Rattle.linker_final.specs.AArch64Section.{ComesTo, HoldsOffset, IsDescriptorLeft, IsRewrittenOf, object}
 use Rattle.linker_final.specs.SectionRuns.{offset_of}
 use Rattle.linker_final.specs.Final.{IsWrittenByNoOther, Linked, UntouchedInstruction, instruction_at}
@@ -162,17 +162,13 @@ abbrev page_row : RelocationKindInfo
 page_row = paged_row entry_pages (signed_row 33 (insn_row GotTpOff 12 33 Adr))
 
 abbrev page_after : IsAfter names.R_AARCH64_TLSIE_ADR_GOTTPREL_PAGE21
-page_after =
-    of_bits names.R_AARCH64_TLSIE_ADR_GOTTPREL_PAGE21 page_row (record { start = 12; end = 33 }) (insns.AArch64 Adr)
-    refl tt refl refl refl refl refl (λ o. tt)
+page_after = record { row = page_row; is = refl; named = tt; of = of_bits refl refl refl refl refl (λ o. tt) }
 
 abbrev load_row : RelocationKindInfo
 load_row = aligned_row 8 (insn_row GotTpOffGot 3 12 LdrRegister)
 
 abbrev load_after : IsAfter names.R_AARCH64_TLSIE_LD64_GOTTPREL_LO12_NC
-load_after =
-    of_bits names.R_AARCH64_TLSIE_LD64_GOTTPREL_LO12_NC load_row (record { start = 3; end = 12 }) (insns.AArch64 LdrRegister)
-    refl tt refl refl refl refl refl (λ o. tt)
+load_after = record { row = load_row; is = refl; named = tt; of = of_bits refl refl refl refl refl (λ o. tt) }
 
 pub initial_is_group : Groups → (l : Linked) (c : Code) (new : IsNew l c) (i : ℕ)
     (of : IsDescriptorRewritten kinds.AdrpX0 kinds.LdrX0 l.relocations l.decisions i) (k k' : Kinds)

@@ -10,13 +10,13 @@ use Rattle.linker_elf.specs.Rows.{entry_pages, paged_row, signed_row}
 use Rattle.linker_elf.specs.Value.{sum_64}
 use Rattle.linker_elf.specs.declared.aarch64.forms.AArch64Instruction.TheVariants.{Add, Adr}
 use Rattle.linker_elf.specs.declared.aarch64.relocations.AArch64Relocation.TheVariants as names
-use Rattle.linker_elf.specs.declared.elf.RelocationInstruction.TheVariants as insns
 use Rattle.linker_elf.specs.declared.elf.RelocationKind.TheVariants.{AbsoluteLowPart, GotRelative}
 use Rattle.linker_elf.specs.declared.elf.RelocationKindInfo.{RelocationKindInfo}
 use Rattle.linker_elf.specs.declared.elf.architecture.Architecture.TheVariants.{AArch64}
 use Rattle.linker_elf.specs.declared.elf.value.Operands.{Operands}
 use Rattle.linker_final.proofs.AArch64Addresses.{adr_there, made_two, nop_there, page_row}
-use Rattle.linker_final.proofs.AArch64Written.{IsAfter, IsNew, IsOfEntry, after, becomes, has_after, named_after, of_bits, of_entry, of_part, place_of, same_value}
+use Rattle.linker_final.proofs.InstructionFields.{of_bits}
+use Rattle.linker_final.proofs.AArch64Written.{IsAfter, IsNew, IsOfEntry, after, becomes, has_after, named_after, of_entry, of_part, place_of, same_value}
 use Rattle.linker_final.proofs.Written.{are_rewritten, first_same, stays, word_same}
 use Rattle.linker_final.specs.AArch64Section.{ComesTo, IsRewrittenAgain, IsRewrittenOf, object, register}
 use Rattle.linker_final.specs.SectionRuns.{Section, offset_of}
@@ -38,17 +38,13 @@ abbrev got_row : RelocationKindInfo
 got_row = paged_row entry_pages (signed_row 33 (insn_row GotRelative 12 33 Adr))
 
 abbrev page_after : IsAfter names.R_AARCH64_ADR_PREL_PG_HI21
-page_after =
-    of_bits names.R_AARCH64_ADR_PREL_PG_HI21 page_row (record { start = 12; end = 33 }) (insns.AArch64 Adr)
-    refl tt refl refl refl refl refl (λ o. tt)
+page_after = record { row = page_row; is = refl; named = tt; of = of_bits refl refl refl refl refl (λ o. tt) }
 
 abbrev low_row : RelocationKindInfo
 low_row = insn_row AbsoluteLowPart 0 12 Add
 
 abbrev low_after : IsAfter names.R_AARCH64_ADD_ABS_LO12_NC
-low_after =
-    of_bits names.R_AARCH64_ADD_ABS_LO12_NC low_row (record { start = 0; end = 12 }) (insns.AArch64 Add)
-    refl tt refl refl refl refl refl (λ o. tt)
+low_after = record { row = low_row; is = refl; named = tt; of = of_bits refl refl refl refl refl (λ o. tt) }
 
 abbrev page_kept : AArch64Entry
 page_kept = entry kinds.NoOp names.R_AARCH64_ADR_PREL_PG_HI21 (to_address 0)

@@ -1,21 +1,17 @@
 -- Rewritten instructions of AArch64 in a phase, and in code that has the final bytes.
-use Rattle.std.proofs.Common.{◌≡◌, ℕ, ℤ, ◌+◌, ◌<◌, ◌≤◌, List, [], ◌∷◌, length, sym, ap, subst, ◌∙◌, refl, arith, Some, Ok, Bool, true, false, IsSomeAnd}
-use Rattle.std.specs.Prelude.{slice_get, ⊤}
+use Rattle.std.proofs.Common.{◌≡◌, ℕ, ℤ, ◌+◌, ◌<◌, ◌≤◌, List, [], ◌∷◌, length, sym, ap, subst, ◌∙◌, refl, arith, Some, Ok, Bool, true, IsSomeAnd}
+use Rattle.std.specs.Prelude.{slice_get}
 use Rattle.linker_base.specs.Rewrite.{addend_after, offset_after}
-use Rattle.linker_base.specs.declared.bit_misc.BitRange.{BitRange}
 use Rattle.linker_elf.specs.AArch64Relocations.{aarch64_name, aarch64_row}
 use Rattle.linker_elf.specs.Applied.{IsApplied}
 use Rattle.linker_elf.specs.Architectures.{IsRow}
 use Rattle.linker_elf.specs.ElfNames.{IsNamed, code_of}
-use Rattle.linker_elf.specs.Relocate.{window_len}
 use Rattle.linker_elf.specs.Rows.{bytes_row}
 use Rattle.linker_elf.specs.Value.{sum_64, value_of}
 use Rattle.linker_elf.specs.declared.aarch64.relocations.AArch64Relocation.{AArch64Relocation}
 use Rattle.linker_elf.specs.declared.aarch64.relocations.AArch64Relocation.TheVariants as names
-use Rattle.linker_elf.specs.declared.elf.RelocationInstruction.{RelocationInstruction}
 use Rattle.linker_elf.specs.declared.elf.RelocationKind.TheVariants.{None as NoValue}
 use Rattle.linker_elf.specs.declared.elf.RelocationKindInfo.{RelocationKindInfo}
-use Rattle.linker_elf.specs.declared.elf.RelocationSize.TheVariants.{BitMasking}
 use Rattle.linker_elf.specs.declared.elf.architecture.Architecture.TheVariants.{AArch64}
 use Rattle.linker_elf.specs.declared.elf.choice.Choice.{Choice}
 use Rattle.linker_elf.specs.declared.elf.value.Operands.{Operands}
@@ -36,8 +32,7 @@ use Rattle.linker_rewriting.specs.Groups.{IsScopeIn}
 use Rattle.linker_rewriting.specs.Rewritten.{IsPartAt, IsRewrittenBy}
 use Rattle.linker_section.specs.Needed.{entry_of}
 use Rattle.linker_section.specs.Relocations.{relocation_in}
-use Rattle.linker_section.specs.Values.{entry_address, has_value, is_there, names_label, operands_by, operands_with}
-use Rattle.linker_section.specs.Fields.{is_of_pair}
+use Rattle.linker_section.specs.Values.{entry_address, is_there, operands_by, operands_with}
 use Rattle.linker_section.specs.declared.facts.Symbol.{Symbol}
 use Rattle.linker_section.specs.declared.needed.Entry.{Entry}
 use Rattle.linker_section.specs.declared.relocations.Rela.{Rela}
@@ -56,29 +51,6 @@ pub record IsAfter (name : AArch64Relocation) : Type 0 where
   pub is : aarch64_row name ≡ Some row
   pub named : IsNamed (aarch64_name name)
   pub of : IsOfInstruction 4 row
-
--- one by a row of an instruction's bits
-abbrev pub of_bits : (name : AArch64Relocation) (row : RelocationKindInfo) (bits : BitRange)
-    (insn : RelocationInstruction) → aarch64_row name ≡ Some row → IsNamed (aarch64_name name)
-    → row.size ≡ BitMasking bits insn → window_len row ≡ 4 → has_value row.kind ≡ true
-    → names_label row.size row.kind ≡ false → is_of_pair row ≡ false
-    → ((o : Operands) → IsSomeAnd (value_of row o) (λ _. ⊤)) → IsAfter name
-of_bits name row bits insn is named size wide valued unlabelled alone some =
-    record {
-      row = row;
-      is = is;
-      named = named;
-      of = record {
-        bits = bits;
-        insn = insn;
-        size = size;
-        wide = wide;
-        valued = valued;
-        unlabelled = unlabelled;
-        alone = alone;
-        some = some;
-      };
-    }
 
 abbrev pub after : Linked → ℕ → AArch64Relocation → Rela
 after l i name =

@@ -5,7 +5,7 @@ use Rattle.linker_elf.specs.Applied.{IsApplied}
 use Rattle.linker_elf.specs.declared.elf.RelocationKindInfo.{RelocationKindInfo}
 use Rattle.linker_elf.specs.declared.elf.value.Operands.{Operands}
 use Rattle.linker_final.proofs.InstructionFields.{IsOfInstruction, applied}
-use Rattle.linker_final.proofs.PackedBytes.{packed_there, place_after, places_inside, same_there, stay_inside}
+use Rattle.linker_final.proofs.PackedBytes.{packed_there, places_inside, same_there, stay_inside}
 use Rattle.linker_final.proofs.Phases.{later_as_many, later_bytes, later_keep, later_length}
 use Rattle.linker_final.proofs.Written.{rela}
 use Rattle.linker_final.specs.Final.{UntouchedInstruction, UntouchedBytes, Linked, count, instruction_at}
@@ -53,16 +53,10 @@ module _ (l : Linked) (p : Packed) (joined : IsRewrittenAndPacked l p) (i : ℕ)
   pub code_is : after.code ≡ code
   code_is = kept.code ∙ ap (λ (x : Rela). x.code) before_is
 
-  pub symbol_is : after.symbol ≡ symbol
-  symbol_is = (joined.packed.moved i within).symbol ∙ ap (λ (x : Rela). x.symbol) before_is
-
-  pub addend_is : after.addend ≡ addend
-  addend_is = (joined.packed.moved i within).addend ∙ ap (λ (x : Rela). x.addend) before_is
-
   offset_is : offset_at p.relocations i ≡ o
   offset_is = ap (λ (x : Rela). x.offset) before_is
 
-  place_is : offset_at p.relocations_after i ≡ place_of p o
+  pub place_is : offset_at p.relocations_after i ≡ place_of p o
   place_is = (joined.packed.moved i within).offset (omega (arith, (kept.bytes 0 (omega arith)).inside)) ∙ ap (place_of p) offset_is
 
   stay : StayTogether p o 4
@@ -82,18 +76,17 @@ module _ (l : Linked) (p : Packed) (joined : IsRewrittenAndPacked l p) (i : ℕ)
       let len = joined.packed.written.same_length in
       omega (arith, inside, len)
 
-  pub following : place_of p (o + 4) ≡ place_of p o + 4
-  following = place_after p joined.packed o 4 (omega arith) stay
+  pub same_kept : instruction_at p.packed (place_of p o) ≡ instruction_at l.rewritten o
+  same_kept =
+      same_there p joined.packed o 4 (omega arith) stay
+      ∙ (ap (λ bytes. instruction_at bytes o) joined.bytes ∙ later_bytes l joined.later i o 4 left)
 
   -- what is written there, is written to what was rewritten
-  pub kept_there : (row : RelocationKindInfo) (y : Operands)
+  kept_there : (row : RelocationKindInfo) (y : Operands)
       → IsApplied row y (instruction_at p.packed (offset_at p.relocations_after i)) (instruction_at p.final (offset_at p.relocations_after i))
       → IsApplied row y (instruction_at l.rewritten o) (instruction_at p.final (place_of p o))
   kept_there row y there =
-      let same : instruction_at p.packed (place_of p o) ≡ instruction_at l.rewritten o =
-      same_there p joined.packed o 4 (omega arith) stay
-      ∙ (ap (λ bytes. instruction_at bytes o) joined.bytes ∙ later_bytes l joined.later i o 4 left) in
-      subst (λ bytes. IsApplied row y bytes (instruction_at p.final (place_of p o))) same
+      subst (λ bytes. IsApplied row y bytes (instruction_at p.final (place_of p o))) same_kept
       (subst (λ n. IsApplied row y (instruction_at p.packed n) (instruction_at p.final n)) place_is there)
 
   -- so is the value of its own symbol

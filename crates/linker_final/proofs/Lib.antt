@@ -39,13 +39,13 @@ pub mod RelocatedFields
 pub mod RiscVAddresses
 pub mod RiscVChosen
 pub mod RiscVDescriptors
-pub mod RiscVJoined
 pub mod RiscVLoads
 pub mod RiscVNear
 pub mod RiscVNops
 pub mod RiscVOffsets
 pub mod RiscVPackedCalls
 pub mod RiscVPackedDeletions
+pub mod RiscVParts
 pub mod RiscVSection
 pub mod RiscVTested
 pub mod RiscVWritten

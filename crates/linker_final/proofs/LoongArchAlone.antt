@@ -17,7 +17,7 @@ use Rattle.linker_final.proofs.LoongArchChosen.{IsByTable, IsEntry, by_table, en
 use Rattle.linker_final.proofs.LoongArchWritten.{IsAfter, becomes, named_after}
 use Rattle.linker_final.proofs.Written.{word_same}
 use Rattle.linker_final.specs.Final.{AreRewritten, Linked, count, instruction_at}
-use Rattle.linker_final.specs.LoongArchSection.{HasEntry, IsAlone, IsLeft, IsMade, Law, Left, any, applied, entry_by as entry_of_name, law_of, named_as, none}
+use Rattle.linker_final.specs.LoongArchSection.{HasEntry, IsAlone, IsLeft, IsMade, Law, Left, applied, entry_by as entry_of_name, law_of, named_as, none, without_law}
 use Rattle.linker_final.specs.SectionRuns.{offset_of}
 use Rattle.linker_laws.specs.LoongArchGroups.{Groups}
 use Rattle.linker_laws.specs.LoongArchRewriteLaws.{IsRewritten}
@@ -69,7 +69,7 @@ part_offset =
 abbrev pub IsWritable : Left → Linked → ℕ → Type 0
 IsWritable none l i = offset_of l i + 4 ≤ length l.section
 IsWritable (applied name) l i = Takes name
-IsWritable any l i = ⊤
+IsWritable without_law l i = ⊤
 
 pub record IsLawful (l : Linked) (i : ℕ) (kind : Relaxation) (law : Law) : Type 0 where
   pub writable : IsWritable law.left l i

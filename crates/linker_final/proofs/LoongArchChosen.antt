@@ -140,13 +140,3 @@ pub entry_by : (name : LoongArch64Relocation) (section : List ℕ) (o : ℕ) (ch
     → IsEntry e.kind e.relocation name section o chosen
 entry_by name section o chosen facts e this =
     record { kind_is = this.kind_is; code_is = this.code_is; pattern = this.meant.0 }
-
--- ---- kinds
-
-abbrev kind_in : RewriteKind → Relaxation → RewriteKind
-kind_in other (relaxations.LoongArch64 kind) = kind
-kind_in other relaxation = other
-
-pub same_kind : (k : Relaxation) (x y : RewriteKind) → k ≡ relaxations.LoongArch64 x
-    → k ≡ relaxations.LoongArch64 y → x ≡ y
-same_kind k x y is_x is_y = ap (kind_in x) (sym is_x ∙ is_y)

@@ -2,7 +2,6 @@
 -- are groups, each by itself.
 use Rattle.std.proofs.Common.{◌≡◌, ◌⊎◌, ℕ, ◌+◌, ◌<◌, List, [], refl, sym, ap, subst, inl, inr, Some, None, cond}
 use Rattle.linker_base.specs.Bits.{field}
-use Rattle.linker_base.specs.RewriteWindow.{window_of_rewrite}
 use Rattle.linker_elf.specs.Choices.{entry}
 use Rattle.linker_elf.specs.ElfNames.{IsNameOf}
 use Rattle.linker_elf.specs.LoongArchRelocations.{loongarch_name, low_row, rounded_row}
@@ -16,8 +15,7 @@ use Rattle.linker_elf.specs.declared.loongarch64.relocations.LoongArch64Relocati
 use Rattle.linker_final.proofs.InstructionFields.{of_bits}
 use Rattle.linker_final.proofs.LoongArchAlone.{IsLawful, Takes, becomes_by, before, high_offset, left_by, low_offset, rewritten, table}
 use Rattle.linker_final.proofs.LoongArchChosen.{IsByTable, IsEntry, entry_by}
-use Rattle.linker_final.proofs.RiscVWritten.{stays}
-use Rattle.linker_final.proofs.Written.{word_same}
+use Rattle.linker_final.proofs.Written.{stays, word_same}
 use Rattle.linker_final.specs.Final.{AreRewritten, Linked, count}
 use Rattle.linker_final.specs.LoongArchSection.{law_of}
 use Rattle.linker_final.specs.SectionRuns.{offset_of}
@@ -172,7 +170,7 @@ module _ (groups : Groups) (l : Linked) (made : AreRewritten l) (loongarch : l.c
               left = left_by l made i chosen below decided kinds.NoOp names.R_LARCH_TLS_IE_PC_HI20 name is;
               group = λ alone u y after made_so.
                   let stayed : new ≡ old =
-                  stays l made i below (Rewritten chosen) decided (ap (λ k. window_of_rewrite (relaxation_rewrite k)) is.kind_is) alone (is.pattern.0) in
+                  stays l made i chosen below decided (ap relaxation_rewrite is.kind_is) alone (is.pattern.0) in
                   groups.descriptor_entries u y old after (page_is.0)
                   (subst (λ bytes. IsRelocated names.R_LARCH_TLS_IE_PC_HI20 y bytes after) stayed made_so);
             } in

@@ -16,7 +16,7 @@ use Rattle.linker_final.proofs.LoongArchWritten.{IsAfter, as_named, relocated_th
 use Rattle.linker_final.proofs.Written.{IsRowOf, row_in, with_operands}
 use Rattle.linker_final.specs.Final.{IsLinked, Linked, UntouchedInstruction, count, instruction_at}
 use Rattle.linker_final.specs.Joined.{IsKeptInstruction, IsRewrittenAndPacked, final_instruction}
-use Rattle.linker_final.specs.LoongArchSection.{AreOf, IsFinal, IsKept, IsLeft, IsMade, IsNew, Left, any, anywhere, applied, entry_by, final, named_as, none, packed}
+use Rattle.linker_final.specs.LoongArchSection.{AreOf, IsFinal, IsKept, IsLeft, IsMade, IsNew, Left, anywhere, applied, entry_by, final, named_as, none, packed, without_law}
 use Rattle.linker_final.specs.Packed.{Packed, architecture_of}
 use Rattle.linker_final.specs.SectionRuns.{offset_of}
 use Rattle.linker_laws.specs.LoongArchRewriteLaws.{IsRelocated}
@@ -90,7 +90,7 @@ module _ (l : Linked) (loongarch : l.context.architecture ≡ LoongArch64) (i : 
       subst (λ q. IsSomeAnd q (λ row. y ≡ operands_with LoongArch64 l.addresses row here.symbol after (entry_by name here.symbol))) takes.after.is here.are in
       relocated_there l linked loongarch i below name takes.after after_is left here.symbol (entry_by name here.symbol)
       (takes.taken l.addresses after here.symbol here.has_entry) here.is_symbol y (ap (value_of takes.after.row) are)
-  in_final any writable after_is linked left y of = tt
+  in_final without_law writable after_is linked left y of = of
 
   in_packed : (left : Left) → IsWritable left l i → IsLeft left l i → (p : Packed) → IsRewrittenAndPacked l p
       → p.machine ≡ loongarch64 → UntouchedInstruction l i → (y : Operands) → IsKept left l p i y
@@ -104,7 +104,7 @@ module _ (l : Linked) (loongarch : l.context.architecture ≡ LoongArch64) (i : 
       subst (λ q. IsSomeAnd q (λ row. y ≡ operands_with LoongArch64 p.addresses row of.symbol after (entry_by name of.symbol))) takes.after.is of.are in
       relocated_kept l p joined machine i below name takes.after after_is (stays.0) left of.symbol (entry_by name of.symbol)
       (takes.taken p.addresses after of.symbol of.has_entry) of.is_symbol y (ap (value_of takes.after.row) are)
-  in_packed any writable after_is p joined machine left y stays = tt
+  in_packed without_law writable after_is p joined machine left y stays = stays
 
   pub is_made : (left : Left) → IsWritable left l i → IsLeft left l i → (y : Operands) (bytes : List ℕ)
       → IsNew left l i y bytes → IsMade left y rewritten bytes

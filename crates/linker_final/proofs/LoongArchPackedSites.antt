@@ -1,7 +1,7 @@
 -- LoongArch: what sites do in the final bytes of a packed section.
 use Rattle.std.proofs.Common.{◌≡◌, ◌≢◌, ℕ, ◌+◌, ◌/◌, ◌^◌, ◌<◌, ◌≤◌, inl, inr, Bool, true, false, not, eqb, if◌then◌else◌, List, [], ◌∷◌, length, take, drop, IsSomeAnd, refl, sym, ap, subst, ◌∙◌, arith, pos, ◌+ℤ◌, ◌*ℤ◌, ℤ, Some}
 use Rattle.std.proofs.lemmas.Bool.{ne_eqb, cond-true, cond-false, or_parts}
-use Rattle.std.proofs.lemmas.List.{drop-drop, drop-take, length-drop, take-take}
+use Rattle.std.proofs.lemmas.List.{drop-drop, length-drop}
 use Rattle.std.proofs.lemmas.List.Elements.{All-drop, All-take}
 use Rattle.std.specs.Prelude.{◌==◌}
 use Rattle.linker_base.specs.Bits.{field, signed}
@@ -38,6 +38,7 @@ use Rattle.linker_laws.specs.Machine.{Relocated, loaded, wrapped}
 use Rattle.linker_laws.specs.Schemes.{AreAddresses, IsAddress, entry_and_addend, plt_address, symbol_address}
 use Rattle.linker_utils.specs.LoongArchRewrites.{AreOfOneRegister, IsAddi, IsCall, IsLd, rd_of, rj_of, signed_32, word_at}
 use Rattle.linker_utils.specs.declared.loongarch64.rewrites.RewriteKind.TheVariants as kinds
+use Rattle.linker_final.proofs.Written.{back_of_pair, front_of_pair}
 use Rattle.linker_riscv64.proofs.Jumps.{word_of_front}
 use Rattle.linker_runs.specs.LoongArchSites.{IsBranch, IsCall36At, IsFarCall, IsPcalaAt, IsPcaddi, LoongArchBecomes, destination}
 use Rattle.linker_runs.specs.LoongArchSites.LoongArchBecomes.{jump, call, far_call, address, far_address as far_pair}
@@ -313,13 +314,6 @@ sum_run x y n target old_high old_low high low one op rd a d leads s at =
 
 -- ---- what the words of a window are
 
-pub first_of_window : (bytes : List ℕ) → word_of (take 8 bytes) ≡ word_of bytes
-first_of_window bytes =
-    sym (word_of_front (take 8 bytes)) ∙ ap word_of (take-take 4 8 bytes (omega arith)) ∙ word_of_front bytes
-
-pub second_of_window : (bytes : List ℕ) → word_of (drop 4 (take 8 bytes)) ≡ word_of (drop 4 bytes)
-second_of_window bytes = ap word_of (drop-take 4 4 bytes) ∙ word_of_front (drop 4 bytes)
-
 pub second_at : (section : List ℕ) (o : ℕ) → word_of (drop 4 (drop o section)) ≡ word_at section (o + 4)
 second_at section o = ap word_of (drop-drop 4 o section)
 
@@ -404,7 +398,7 @@ module _ (calls : relocation_laws.Calls) (section : List ℕ) (o : ℕ) (bytes :
       } in
       let same : plt_address y ≡ target = omega (arith, reach) in
       subst (λ n. Called (pair code (drop 4 code)) link base (sum_64 place 8) n t) same
-      (either is (take 8 there) (omega (arith, wide)) (first_of_window there) (second_of_window there ∙ second_at section o) y code
+      (either is (take 8 there) (omega (arith, wide)) (front_of_pair there) (back_of_pair there ∙ second_at section o) y code
       (record {
         applied = goes.relocated;
         len = len ∙ sym wide;

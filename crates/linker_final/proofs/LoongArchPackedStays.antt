@@ -16,7 +16,8 @@ use Rattle.linker_elf.specs.declared.elf.value.Operands.{Operands}
 use Rattle.linker_elf.specs.declared.loongarch64.relocations.LoongArch64Relocation.{LoongArch64Relocation}
 use Rattle.linker_elf.specs.declared.loongarch64.relocations.LoongArch64Relocation.TheVariants as names
 use Rattle.linker_final.proofs.InstructionFields.{some_value}
-use Rattle.linker_final.proofs.LoongArchPackedSites.{Made, both_call, both_make, by_addi, by_ld, either, first_of_window, from_there, second_at, second_of_window}
+use Rattle.linker_final.proofs.LoongArchPackedSites.{Made, both_call, both_make, by_addi, by_ld, either, from_there, second_at}
+use Rattle.linker_final.proofs.Written.{back_of_pair, front_of_pair}
 use Rattle.linker_final.proofs.PackedBytes.{place_after, places_inside, stay_inside}
 use Rattle.linker_final.proofs.PackedInstructions.{instructions}
 use Rattle.linker_final.proofs.PutBack.{window_length}
@@ -100,8 +101,8 @@ long_calls law p is machine i stays at symbol symbol_is small x small_x original
     both_call (pair original (drop 4 original)) (pair code (drop 4 code)) link base
     (sum_64 x.place 8) (sum_64 y.place 8) (plt_address x) (plt_address y) s t alike
     (from_there law section o is.section_bytes inside at x original relocated small_x s hs)
-    (either law section o is.section_bytes inside at (take 8 there) (omega (arith, wide)) (first_of_window there)
-    (second_of_window there ∙ second_at section o) y code
+    (either law section o is.section_bytes inside at (take 8 there) (omega (arith, wide)) (front_of_pair there)
+    (back_of_pair there ∙ second_at section o) y code
     (record {
       applied = applied p is machine i names.R_LARCH_CALL36 8 stays call_row _ _ refl refl refl refl refl symbol symbol_is y refl tt;
       len = window_length (place_of p o) 8 p.final (omega (arith, fits, same)) ∙ sym wide;

@@ -117,7 +117,7 @@ module _ (groups : Groups) (l : Linked) (made : AreRewritten l) (loongarch : l.c
   by_name names.R_LARCH_TLS_LE_HI20_R = alone.high_part groups l made loongarch i chosen below decided
   by_name names.R_LARCH_TLS_LE_ADD_R = alone.sum groups l made loongarch i chosen below decided
   by_name names.R_LARCH_TLS_LE_LO12_R = alone.low_part groups l made loongarch i chosen below decided
-  by_name name = λ is_name. record { writable = tt; left = tt; group = λ alone_so u y after made_so. tt }
+  by_name name = λ is_name. record { writable = tt; left = tt; group = λ alone_so u y after made_so. made_so }
 
 pub relocations_are_left : Groups → RelocationsAreLeft
 relocations_are_left groups l made loongarch g =

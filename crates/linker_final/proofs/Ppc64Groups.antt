@@ -20,7 +20,8 @@ use Rattle.linker_final.proofs.Ppc64Again.{of_none}
 use Rattle.linker_final.proofs.Ppc64Chosen.{IsOfEntry, IsOfOne}
 use Rattle.linker_final.proofs.Ppc64Written.{Writes, after_is, becomes, becomes_marked, call_after, distance, entry_high, entry_low, entry_prefixed, left_alone, left_beside, made_after, marked_offset, near_entry, test_at, thread, thread_high, thread_low, thread_low_after, thread_low_words, thread_prefixed, thread_words, toc, toc_high, toc_low, toc_words}
 use Rattle.linker_final.proofs.PutBack.{window_byte, window_length}
-use Rattle.linker_final.proofs.Written.{are_rewritten, first_same, mapped, outside_of, second_same, spared, stays, word_front, word_same}
+use Rattle.linker_final.proofs.Written.{are_rewritten, first_same, mapped, outside_of, second_same, spared, stays, word_same}
+use Rattle.linker_riscv64.proofs.Jumps.{word_of_front}
 use Rattle.linker_final.specs.Final.{AreBytes, AreRewritten, IsLinked, IsOutside, IsRewrittenByNoOther, IsWrittenByNoOther, Linked, UntouchedByOthers, UntouchedBytes, count, instruction_at, two_at}
 use Rattle.linker_final.specs.Ppc64Section.{AreLeftAlone, HasApplied, IsMade, IsOfNoPhase, Law, Left, Restores, applied, entry_by, law, law_of, name_of, none, of_call, shape, to_second}
 use Rattle.linker_final.specs.SectionRuns.{offset_of}
@@ -80,12 +81,12 @@ call_stays before after o small inside made =
 
 one_stands : (code : ℕ → ℕ) (at : ℕ) (xs ys : List ℕ) → take 4 xs ≡ take 4 ys → Stands 1 code at xs → Stands 1 code at ys
 one_stands code at xs ys same is =
-    (is.0 ∙ (sym (word_front xs) ∙ (ap (from_le_bytes w32) same ∙ word_front ys)), is.1)
+    (is.0 ∙ (sym (word_of_front xs) ∙ (ap (from_le_bytes w32) same ∙ word_of_front ys)), is.1)
 
 two_stand : (code : ℕ → ℕ) (at : ℕ) (xs ys : List ℕ) → take 4 xs ≡ take 4 ys → take 4 (drop 4 xs) ≡ take 4 (drop 4 ys)
     → Stands 2 code at xs → Stands 2 code at ys
 two_stand code at xs ys first second is =
-    (is.0 ∙ (sym (word_front xs) ∙ (ap (from_le_bytes w32) first ∙ word_front ys)), one_stands code (sum_64 at 4) (drop 4 xs) (drop 4 ys) second is.1)
+    (is.0 ∙ (sym (word_of_front xs) ∙ (ap (from_le_bytes w32) first ∙ word_of_front ys)), one_stands code (sum_64 at 4) (drop 4 xs) (drop 4 ys) second is.1)
 
 -- the second of two in bytes
 second_in : (bytes : List ℕ) (o : ℕ) → take 4 (drop 4 (two_at bytes o)) ≡ instruction_at bytes (o + 4)

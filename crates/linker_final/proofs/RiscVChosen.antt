@@ -1,5 +1,5 @@
 -- The rewrite that is chosen for a relocation of RISC-V.
-use Rattle.std.proofs.Common.{◌≡◌, ℕ, ◌<◌, Bool, true, false, List, [], ◌∷◌, refl, sym, ap, subst, ◌∙◌, inl, inr, ◌⊎◌, Option, Some, None}
+use Rattle.std.proofs.Common.{◌≡◌, ℕ, ◌+◌, ◌<◌, ◌≤◌, length, Bool, true, false, List, [], ◌∷◌, refl, sym, ap, subst, ◌∙◌, inl, inr, ◌⊎◌, Option, Some, None}
 use Rattle.linker_elf.specs.Choices.{choice}
 use Rattle.linker_elf.specs.ElfNames.{IsNamed, IsNameOf, code_of}
 use Rattle.linker_elf.specs.RiscVRelocations.{riscv_name}
@@ -13,13 +13,16 @@ use Rattle.linker_utils.specs.RiscVRewrites.{AppliesToRiscV, HasPattern, IsRiscV
 use Rattle.linker_utils.specs.declared.riscv64.rewrites.RewriteKind.{RewriteKind}
 use Rattle.linker_utils.specs.declared.riscv64.rewrites.RewriteKind.TheVariants as kinds
 use Rattle.linker_rewriting.specs.Candidates.{IsCandidateWith}
+use Rattle.linker_rewriting.specs.Groups.{IsScopeIn}
+use Rattle.linker_rewriting.specs.declared.groups.Scope.TheVariants.{Labelled}
+use Rattle.linker_elf.specs.declared.elf.architecture.Architecture.{Architecture}
 use Rattle.linker_rewriting.specs.Decisions.{IsLabelDecision, decision_at, label_decision}
 use Rattle.linker_rewriting.specs.Decisions.{rewritten_by, takes_symbol}
 use Rattle.linker_rewriting.specs.Facts.{RelaxContext}
 use Rattle.linker_rewriting.proofs.LabelGroups.{one_index}
 use Rattle.linker_rewriting.specs.RiscVPcrelGroups.{IsHighIn, IsLabelCandidate, label_facts}
 use Rattle.linker_rewriting.specs.declared.decisions.Decision.{Decision}
-use Rattle.linker_rewriting.specs.declared.decisions.Decision.TheVariants.{Kept, RewrittenWithSymbol, Rewritten}
+use Rattle.linker_rewriting.specs.declared.decisions.Decision.TheVariants.{RewrittenWithSymbol, Rewritten}
 use Rattle.linker_rewriting.specs.declared.decisions.Subject.{Subject}
 use Rattle.linker_rewriting.specs.declared.phases.Phase.{Phase}
 use Rattle.linker_section.specs.Relocations.{relocation_in}
@@ -28,47 +31,6 @@ use Rattle.linker_utils.specs.Relaxations.{IsArchitectureChoice, IsUnchanged, re
 use Rattle.linker_utils.specs.declared.architecture.Relaxation.{Relaxation}
 use Rattle.linker_utils.specs.declared.architecture.Relaxation.TheVariants as relaxations
 use Rattle.linker_elf.specs.declared.elf.architecture.Architecture.TheVariants.{RiscV}
-
--- ---- choices by some facts
-
--- a relocation's rewrite, by its own facts or by those of its label
-pub record IsChosenAnyhow (s : RelaxContext) (section : List ℕ) (r : Rela) (chosen : Choice Relaxation ℕ)
-    : Type 0 where
-  pub facts : LinkFacts
-  pub is_choice : IsArchitectureChoice s.architecture r.code section r.offset facts chosen
-  pub changed : ¬ IsUnchanged r.code chosen
-
-by_facts : (s : RelaxContext) (bytes section : List ℕ) (n : ℕ) (r : Rela) (chosen : Choice Relaxation ℕ)
-    (facts : Option LinkFacts) → IsCandidateWith s bytes section n r facts (Some chosen)
-    → IsChosenAnyhow s section r chosen
-by_facts s bytes section n r chosen None is = absurd (let e : Some chosen ≡ None = is in cc)
-by_facts s bytes section n r chosen (Some facts) is =
-    record { facts = facts; is_choice = is.0; changed = is.1 }
-
-abbrev chosen_in : Choice Relaxation ℕ → Option (Choice Relaxation ℕ) → Choice Relaxation ℕ
-chosen_in other None = other
-chosen_in other (Some chosen) = chosen
-
-label_choice : (phase : Phase) (chosen : Choice Relaxation ℕ) (high : Rela)
-    → choice_of (label_decision phase chosen high) ≡ Some chosen
-label_choice phase chosen high = either (takes_symbol phase chosen.relocation)
-  where
-    either : (takes : Bool) → choice_of (rewritten_by takes chosen high) ≡ Some chosen
-    either true = refl
-    either false = refl
-
-by_label : (s : RelaxContext) (bytes section : List ℕ) (n : ℕ) (r : Rela) (decision : Decision)
-    (chosen : Choice Relaxation ℕ) → choice_of decision ≡ Some chosen
-    → IsLabelDecision s bytes section n r decision → IsChosenAnyhow s section r chosen
-by_label s bytes section n r decision chosen by (inl stays) =
-    absurd (let e : Some chosen ≡ None = sym by ∙ ap choice_of (stays.1) in cc)
-by_label s bytes section n r decision chosen by (inr of) =
-    let high = of.0 in
-    let mine = of.3 in
-    let same : mine ≡ chosen =
-    ap (chosen_in mine) (sym (label_choice s.phase mine (relocation_in bytes high)) ∙ (sym (ap choice_of (of.5)) ∙ by)) in
-    by_facts s bytes section n r chosen (label_facts s bytes n r high)
-    (subst (λ c. IsLabelCandidate s bytes section n r high (Some c)) same (of.4))
 
 -- ---- subjects
 
@@ -88,15 +50,84 @@ of_phase phase chosen mine subject high is = either (takes_symbol phase mine.rel
     either true same = ap (subject_in subject) same
     either false same = absurd (let e : RewrittenWithSymbol chosen subject ≡ Rewritten mine = same in cc)
 
-of_high : (s : RelaxContext) (bytes section : List ℕ) (n : ℕ) (r : Rela) (chosen : Choice Relaxation ℕ)
-    (subject : Subject) (high : ℕ) → IsHighIn s bytes r (Some high)
-    → IsLabelDecision s bytes section n r (RewrittenWithSymbol chosen subject)
-    → subject ≡ subject_of (relocation_in bytes high)
-of_high s bytes section n r chosen subject high is_high (inl stays) =
-    absurd (let e : RewrittenWithSymbol chosen subject ≡ Kept = stays.1 in cc)
-of_high s bytes section n r chosen subject high is_high (inr of) =
-    of_phase s.phase chosen (of.3) subject (relocation_in bytes (of.0)) (of.5)
-    ∙ ap (λ m. subject_of (relocation_in bytes m)) (one_index s bytes r (of.0) high (of.1) is_high)
+-- ---- choices by some facts
+
+-- they are those of the high part at the label, whose symbol and addend are a subject
+pub record IsOfHigh (s : RelaxContext) (bytes : List ℕ) (n : ℕ) (r : Rela) (facts : LinkFacts) (subject : Subject)
+    : Type 0 where
+  pub scope_is : IsScopeIn s.architecture s.phase r.code Labelled
+  pub high : ℕ
+  pub is_high : IsHighIn s bytes r (Some high)
+  pub facts_are : label_facts s bytes n r high ≡ Some facts
+  pub subject_is : subject ≡ subject_of (relocation_in bytes high)
+
+-- a relocation's rewrite, by its own facts or by those of its label
+pub record IsChosenAnyhow (s : RelaxContext) (bytes section : List ℕ) (n : ℕ) (r : Rela) (decision : Decision)
+    (chosen : Choice Relaxation ℕ) : Type 0 where
+  pub facts : LinkFacts
+  pub is_choice : IsArchitectureChoice s.architecture r.code section r.offset facts chosen
+  pub changed : ¬ IsUnchanged r.code chosen
+  pub of_high : (subject : Subject) → decision ≡ RewrittenWithSymbol chosen subject → IsOfHigh s bytes n r facts subject
+
+abbrev chosen_in : Choice Relaxation ℕ → Option (Choice Relaxation ℕ) → Choice Relaxation ℕ
+chosen_in other None = other
+chosen_in other (Some chosen) = chosen
+
+label_choice : (phase : Phase) (chosen : Choice Relaxation ℕ) (high : Rela)
+    → choice_of (label_decision phase chosen high) ≡ Some chosen
+label_choice phase chosen high = either (takes_symbol phase chosen.relocation)
+  where
+    either : (takes : Bool) → choice_of (rewritten_by takes chosen high) ≡ Some chosen
+    either true = refl
+    either false = refl
+
+module _ (s : RelaxContext) (bytes section : List ℕ) (n : ℕ) (r : Rela) (decision : Decision)
+    (chosen : Choice Relaxation ℕ) (by : choice_of decision ≡ Some chosen)
+    (scope_is : IsScopeIn s.architecture s.phase r.code Labelled) where
+  by_facts : (high : ℕ) → IsHighIn s bytes r (Some high)
+      → ((subject : Subject) → decision ≡ RewrittenWithSymbol chosen subject → subject ≡ subject_of (relocation_in bytes high))
+      → (facts : Option LinkFacts) → label_facts s bytes n r high ≡ facts → IsCandidateWith s bytes section n r facts (Some chosen)
+      → IsChosenAnyhow s bytes section n r decision chosen
+  by_facts high is_high subject_is None are is = absurd (let e : Some chosen ≡ None = is in cc)
+  by_facts high is_high subject_is (Some facts) are is =
+      record {
+        facts = facts;
+        is_choice = is.0;
+        changed = is.1;
+        of_high = λ subject to. record {
+          scope_is = scope_is;
+          high = high;
+          is_high = is_high;
+          facts_are = are;
+          subject_is = subject_is subject to;
+        };
+      }
+
+  by_label : IsLabelDecision s bytes section n r decision → IsChosenAnyhow s bytes section n r decision chosen
+  by_label (inl stays) = absurd (let e : Some chosen ≡ None = sym by ∙ ap choice_of (stays.1) in cc)
+  by_label (inr of) =
+      let high = of.0 in
+      let mine = of.3 in
+      let same : mine ≡ chosen =
+      ap (chosen_in mine) (sym (label_choice s.phase mine (relocation_in bytes high)) ∙ (sym (ap choice_of (of.5)) ∙ by)) in
+      by_facts high (of.1) (λ subject to. of_phase s.phase chosen mine subject (relocation_in bytes high) (sym to ∙ of.5))
+      (label_facts s bytes n r high) refl
+      (subst (λ c. IsLabelCandidate s bytes section n r high (Some c)) same (of.4))
+
+pub anyhow : (l : Linked) → AreRewritten l → (i : ℕ) (decision : Decision) (chosen : Choice Relaxation ℕ) → i < count l
+    → decision_at l.decisions i ≡ decision → choice_of decision ≡ Some chosen
+    → IsChosenAnyhow l.context l.relocations l.section i (relocation_in l.relocations i) decision chosen
+anyhow l made i decision chosen below decided by =
+    elim (chosen_or_labelled l.context l.kept l.relocations l.section l.decisions (count l) i decision chosen made.decided below decided by) [
+      | inl own ↦ record {
+        facts = own.chosen.facts;
+        is_choice = own.chosen.is_choice;
+        changed = own.chosen.changed;
+        of_high = λ subject to. absurd (let e : Rewritten chosen ≡ RewrittenWithSymbol chosen subject = sym own.is ∙ to in cc);
+      }
+      | inr label ↦
+          by_label l.context l.relocations l.section i (relocation_in l.relocations i) decision chosen by label.scope_is label.label_is
+    ]
 
 -- a relocation gets the symbol and the addend of the high part at its label
 pub of_subject : (l : Linked) → AreRewritten l → (n : ℕ) (chosen : Choice Relaxation ℕ) (subject : Subject)
@@ -104,13 +135,39 @@ pub of_subject : (l : Linked) → AreRewritten l → (n : ℕ) (chosen : Choice 
     → (high : ℕ) → IsHighIn l.context l.relocations (relocation_in l.relocations n) (Some high)
     → subject ≡ subject_of (relocation_in l.relocations high)
 of_subject l made n chosen subject below decided high is_high =
-    elim (chosen_or_labelled l.context l.kept l.relocations l.section l.decisions (count l) n (RewrittenWithSymbol chosen subject) chosen made.decided below decided refl) [
-      | inl alone ↦ absurd (let e : RewrittenWithSymbol chosen subject ≡ Rewritten chosen = alone.is in cc)
-      | inr label ↦
-          of_high l.context l.relocations l.section n (relocation_in l.relocations n) chosen subject high is_high label.label_is
-    ]
+    let of = (anyhow l made n (RewrittenWithSymbol chosen subject) chosen below decided refl).of_high subject refl in
+    of.subject_is
+    ∙ ap (λ m. subject_of (relocation_in l.relocations m))
+    (one_index l.context l.relocations (relocation_in l.relocations n) of.high high of.is_high is_high)
 
 -- ---- the entry
+
+-- the choice is that of an entry of the name, which applies
+pub record IsOfTable (name : RiscVRelocation) (section : List ℕ) (o : ℕ) (facts : LinkFacts) (chosen : Choice Relaxation ℕ)
+    : Type 0 where
+  pub named : Choice RewriteKind RiscVRelocation
+  pub kind_is : chosen.kind ≡ relaxations.RiscV named.kind
+  pub code_is : chosen.relocation ≡ code_of (riscv_name named.relocation)
+  pub applies : IsOfApplied (AppliesToRiscV (HasPattern name) section o facts) (riscv_entries name) named
+
+pub of_table : (architecture : Architecture) → architecture ≡ RiscV → (code : ℕ) (section : List ℕ) (o : ℕ)
+    (facts : LinkFacts) (chosen : Choice Relaxation ℕ) → IsArchitectureChoice architecture code section o facts chosen
+    → ¬ IsUnchanged code chosen → (name : RiscVRelocation) → IsNamed (riscv_name name) → IsNameOf riscv_name code name
+    → IsOfTable name section o facts chosen
+of_table architecture riscv code section o facts chosen is changed name named is_name =
+    let h = subst (λ x. IsArchitectureChoice x code section o facts chosen) riscv is in
+    let same : h.name ≡ name = h.is_name.named name named is_name.code_is in
+    record {
+      named = h.named;
+      kind_is = h.kind_is;
+      code_is = h.code_is;
+      applies = of_first (AppliesToRiscV (HasPattern name) section o facts) (riscv_entries name) (choice kinds.NoOp name) h.named
+          (λ e. changed (
+            subst relaxation_no_op (sym (h.kind_is ∙ ap (λ (q : Choice RewriteKind RiscVRelocation). relaxations.RiscV q.kind) e)) refl,
+            h.code_is ∙ (ap (λ (q : Choice RewriteKind RiscVRelocation). code_of (riscv_name q.relocation)) e ∙ is_name.code_is),
+          ))
+          (subst (λ x. IsRiscVChoice x section o facts h.named) same h.is_choice);
+    }
 
 pub record IsOfEntry (name : RiscVRelocation) (e : RiscVEntry) (section : List ℕ) (o : ℕ)
     (chosen : Choice Relaxation ℕ) : Type 0 where
@@ -139,6 +196,40 @@ of_named name section o facts chosen named kind_is code_is (e ∷ es) (inl this)
 of_named name section o facts chosen named kind_is code_is (e ∷ es) (inr other) =
     inr (of_named name section o facts chosen named kind_is code_is es other)
 
+-- ---- those of one kind
+
+abbrev pub kind_in : RewriteKind → Relaxation → RewriteKind
+kind_in other (relaxations.RiscV kind) = kind
+kind_in other relaxation = other
+
+-- the relocation after a rewrite, of an instruction in the section
+pub record Becomes (name : RiscVRelocation) (section : List ℕ) (o : ℕ) (chosen : Choice Relaxation ℕ)
+    : Type 0 where
+  pub code_is : chosen.relocation ≡ code_of (riscv_name name)
+  pub inside : o + 4 ≤ length section
+
+-- Each entry is of another kind, or has a relocation and requires an instruction.
+abbrev pub EachBecomes : RiscVRelocation → RewriteKind → RiscVRelocation → List RiscVEntry → Type 0
+EachBecomes name kind after [] = Unit {0}
+EachBecomes name kind after (e ∷ es) =
+    ((kind ≡ e.kind → ⊥)
+    ⊎ ((e.relocation ≡ after)
+    × ((section : List ℕ) (o : ℕ) → HasPattern name e.kind section o → o + 4 ≤ length section)))
+    × EachBecomes name kind after es
+
+becomes_by : (name after : RiscVRelocation) (kind : RewriteKind) (section : List ℕ) (o : ℕ) (chosen : Choice Relaxation ℕ)
+    → chosen.kind ≡ relaxations.RiscV kind → (es : List RiscVEntry) → EachBecomes name kind after es
+    → IsOfSome name es section o chosen → Becomes after section o chosen
+becomes_by name after kind section o chosen is [] each nothing = absurd nothing
+becomes_by name after kind section o chosen is (e ∷ es) each (inl this) =
+    elim (each.0) [
+      | inl isnt ↦ absurd (isnt (ap (kind_in kind) (sym is ∙ this.kind_is)))
+      | inr so ↦
+          record { code_is = this.code_is ∙ ap (λ r. code_of (riscv_name r)) (so.0); inside = so.1 section o this.pattern }
+    ]
+becomes_by name after kind section o chosen is (e ∷ es) each (inr other) =
+    becomes_by name after kind section o chosen is es (each.1) other
+
 module _ (l : Linked) (made : AreRewritten l) (riscv : l.context.architecture ≡ RiscV) (i : ℕ)
     (decision : Decision) (chosen : Choice Relaxation ℕ) (below : i < count l)
     (decided : decision_at l.decisions i ≡ decision) (by : choice_of decision ≡ Some chosen)
@@ -148,26 +239,11 @@ module _ (l : Linked) (made : AreRewritten l) (riscv : l.context.architecture �
     abbrev r : Rela
     r = relocation_in l.relocations i
 
-    anyhow : IsChosenAnyhow l.context l.section r chosen
-    anyhow =
-        elim (chosen_or_labelled l.context l.kept l.relocations l.section l.decisions (count l) i decision chosen made.decided below decided by) [
-          | inl own ↦
-              record { facts = own.chosen.facts; is_choice = own.chosen.is_choice; changed = own.chosen.changed }
-          | inr label ↦ by_label l.context l.relocations l.section i r decision chosen by label.label_is
-        ]
-
     pub of_some : IsOfSome name (riscv_entries name) l.section r.offset chosen
     of_some =
-        let c = anyhow in
-        let h = subst (λ x. IsArchitectureChoice x r.code l.section r.offset c.facts chosen) riscv c.is_choice in
-        let same : h.name ≡ name = h.is_name.named name named is_name.code_is in
-        of_named name l.section r.offset c.facts chosen h.named h.kind_is h.code_is (riscv_entries name)
-        (of_first (AppliesToRiscV (HasPattern name) l.section r.offset c.facts) (riscv_entries name) (choice kinds.NoOp name) h.named
-        (λ e. c.changed (
-          subst relaxation_no_op (sym (h.kind_is ∙ ap (λ (q : Choice RewriteKind RiscVRelocation). relaxations.RiscV q.kind) e)) refl,
-          h.code_is ∙ (ap (λ (q : Choice RewriteKind RiscVRelocation). code_of (riscv_name q.relocation)) e ∙ is_name.code_is),
-        ))
-        (subst (λ x. IsRiscVChoice x l.section r.offset c.facts h.named) same h.is_choice))
+        let c = anyhow l made i decision chosen below decided by in
+        let h = of_table l.context.architecture riscv r.code l.section r.offset c.facts chosen c.is_choice c.changed name named is_name in
+        of_named name l.section r.offset c.facts chosen h.named h.kind_is h.code_is (riscv_entries name) h.applies
 
     -- the only one
     pub of_entry : (e : RiscVEntry) → riscv_entries name ≡ (e ∷ [])
@@ -177,3 +253,8 @@ module _ (l : Linked) (made : AreRewritten l) (riscv : l.context.architecture �
           | inl this ↦ this
           | inr nothing ↦ absurd nothing
         ]
+
+    pub becomes_of : (after : RiscVRelocation) (kind : RewriteKind) → chosen.kind ≡ relaxations.RiscV kind
+        → EachBecomes name kind after (riscv_entries name) → Becomes after l.section r.offset chosen
+    becomes_of after kind is each =
+        becomes_by name after kind l.section r.offset chosen is (riscv_entries name) each of_some

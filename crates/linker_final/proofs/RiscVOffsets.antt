@@ -1,59 +1,56 @@
 -- Low parts of RISC-V that became ones over the thread pointer are groups, and what is deleted
 -- before them.
-use Rattle.std.proofs.Common.{◌≡◌, ℕ, ◌+◌, ◌≤◌, List, [], ◌∷◌, length, refl, sym, ap, subst, ◌∙◌, arith, Option, Some, Ok, IsSomeAnd}
+use Rattle.std.proofs.Common.{◌≡◌, ℕ, List, [], ◌∷◌, refl, sym, ap, subst, ◌∙◌, arith, Option, IsSomeAnd}
 use Rattle.std.specs.Prelude.{IsTrue}
-use Rattle.std.specs.Int.{w32, from_le_bytes}
-use Rattle.linker_elf.specs.Applied.{IsApplied}
 use Rattle.linker_elf.specs.Choices.{entry}
 use Rattle.linker_elf.specs.ElfNames.{code_of}
 use Rattle.linker_elf.specs.Originals.{HasWord}
-use Rattle.linker_elf.specs.RiscVRelocations.{pair_row, riscv_name, riscv_row}
+use Rattle.linker_elf.specs.RiscVRelocations.{pair_row, riscv_name}
 use Rattle.linker_elf.specs.declared.elf.RelocationKind.TheVariants.{TpOff}
 use Rattle.linker_elf.specs.declared.riscv64.forms.RiscVInstruction.TheVariants.{IType, SType}
 use Rattle.linker_elf.specs.declared.riscv64.relocations.RiscVRelocation.{RiscVRelocation}
 use Rattle.linker_elf.specs.declared.riscv64.relocations.RiscVRelocation.TheVariants as names
-use Rattle.linker_final.proofs.Written.{are_rewritten, mapped, rela, word_same}
-use Rattle.linker_final.proofs.InstructionFields.{IsOfInstruction, of_bits}
-use Rattle.linker_final.proofs.Phases.{last_length}
+use Rattle.linker_final.proofs.Written.{mapped, word_same}
+use Rattle.linker_final.proofs.InstructionFields.{of_bits}
 use Rattle.linker_final.proofs.RiscVChosen.{IsOfEntry, of_entry}
-use Rattle.linker_final.proofs.RiscVWritten.{IsAfter, applied_there, becomes, bytes_there, long_there, made_is, rewritten_after, word_bytes}
-use Rattle.linker_final.specs.Final.{instruction_at}
-use Rattle.linker_final.specs.Final.{AreBytes, AreRewritten, IsLinked, Linked}
-use Rattle.linker_final.specs.RiscVFinal.{HighPartGoes, IsDeleted, LowPartDoesTheSame, LowPartDoesTheSameAnywhere, SumGoes}
-use Rattle.linker_final.specs.RiscVSection.{IsNamedAs, IsRewrittenOf, final, low_law}
+use Rattle.linker_final.proofs.RiscVParts.{MadePart, has_own, part_alone}
+use Rattle.linker_final.proofs.RiscVWritten.{IsOwn, long_there}
+use Rattle.linker_final.specs.Final.{AreRewritten, Linked, instruction_at}
+use Rattle.linker_final.specs.RiscVFinal.{HighPartGoes, IsDeleted, SumGoes}
+use Rattle.linker_final.specs.RiscVSection.{IsRewrittenOf, New, low_law}
 use Rattle.linker_final.specs.SectionRuns.{offset_of}
-use Rattle.linker_laws.specs.Machine.{Relocated}
 use Rattle.linker_laws.specs.RiscVMachine.{Action, action_of}
 use Rattle.linker_laws.specs.RiscVGroups.{Groups, Has}
-use Rattle.linker_laws.specs.RiscVRewriteLaws.{action_at, after_rewrite, offset_row}
+use Rattle.linker_laws.specs.RiscVRewriteLaws.{action_at, offset_row}
 use Rattle.linker_riscv64.specs.RiscVFields.{funct3_of, opcode_of}
 use Rattle.linker_utils.specs.RiscVRewrites.{IsAddTp, HasPattern, IsLui, adds_low12, by_low_offset, riscv_entries, riscv_matches, tp, with_rs1}
 use Rattle.linker_utils.specs.declared.riscv64.rewrites.RewriteKind.TheVariants as kinds
 use Rattle.linker_rewriting.specs.Decisions.{deleted_of}
-use Rattle.linker_rewriting.specs.Rewritten.{IsMade}
 use Rattle.linker_rewriting.specs.declared.decisions.Decision.TheVariants.{Rewritten}
-use Rattle.linker_section.specs.Needed.{entry_of}
 use Rattle.linker_section.specs.Relocations.{relocation_in}
-use Rattle.linker_section.specs.Values.{entry_address, operands_by, operands_with}
-use Rattle.linker_section.specs.declared.facts.Addresses.{Addresses}
-use Rattle.linker_section.specs.declared.facts.Symbol.{Symbol}
-use Rattle.linker_section.specs.declared.relocations.Rela.{Rela}
-use Rattle.linker_utils.specs.Relaxations.{relaxation_deleted, relaxation_rewrite}
+use Rattle.linker_utils.specs.Relaxations.{relaxation_deleted}
+use Rattle.linker_utils.specs.declared.architecture.Relaxation.TheVariants as relaxations
 use Rattle.linker_elf.specs.declared.elf.architecture.Architecture.TheVariants.{RiscV}
 
 -- ---- rows
 
-abbrev pub low_i : IsAfter names.R_RISCV_TPREL_LO12_I
-low_i = record { row = pair_row TpOff 32 IType; is = refl; named = tt }
+abbrev pub low_i : IsOwn names.R_RISCV_TPREL_LO12_I
+low_i =
+    record {
+      after = record { row = pair_row TpOff 32 IType; is = refl; named = tt };
+      of = of_bits refl refl refl refl refl (λ o. tt);
+      is_row = refl;
+      no_entry = λ addresses r symbol. refl;
+    }
 
-abbrev pub of_low_i : IsOfInstruction 4 (pair_row TpOff 32 IType)
-of_low_i = of_bits refl refl refl refl refl (λ o. tt)
-
-abbrev pub low_s : IsAfter names.R_RISCV_TPREL_LO12_S
-low_s = record { row = pair_row TpOff 32 SType; is = refl; named = tt }
-
-abbrev pub of_low_s : IsOfInstruction 4 (pair_row TpOff 32 SType)
-of_low_s = of_bits refl refl refl refl refl (λ o. tt)
+abbrev low_s : IsOwn names.R_RISCV_TPREL_LO12_S
+low_s =
+    record {
+      after = record { row = pair_row TpOff 32 SType; is = refl; named = tt };
+      of = of_bits refl refl refl refl refl (λ o. tt);
+      is_row = refl;
+      no_entry = λ addresses r symbol. refl;
+    }
 
 -- ---- one instruction
 
@@ -62,111 +59,45 @@ by_word word = action_of (opcode_of word) (funct3_of word)
 
 -- a relocation of low parts, which has one rewrite
 pub record IsLow (name : RiscVRelocation) : Type 0 where
-  pub after : IsAfter name
-  pub of : IsOfInstruction 4 after.row
-  pub is_row : riscv_row name ≡ Some after.row
+  pub own : IsOwn name
   pub entries : riscv_entries name ≡ (entry kinds.BaseToTp name by_low_offset ∷ [])
   pub adds : (section : List ℕ) (o : ℕ) → HasPattern name kinds.BaseToTp section o → riscv_matches kinds.BaseToTp section o
-  pub no_entry : (addresses : Addresses) (r : Rela) (symbol : Symbol)
-      → operands_by RiscV addresses after.row r symbol
-      (entry_address addresses symbol (entry_of after.row r.addend symbol.is_thread_local))
-      ≡ Ok (operands_with RiscV addresses after.row symbol r 0)
 
 abbrev pub of_load : IsLow names.R_RISCV_TPREL_LO12_I
-of_load =
-    record {
-      after = low_i;
-      of = of_low_i;
-      is_row = refl;
-      entries = refl;
-      adds = λ section o pattern. pattern;
-      no_entry = λ addresses r symbol. refl;
-    }
+of_load = record { own = low_i; entries = refl; adds = λ section o pattern. pattern }
 
 abbrev pub of_store : IsLow names.R_RISCV_TPREL_LO12_S
-of_store =
-    record {
-      after = low_s;
-      of = of_low_s;
-      is_row = refl;
-      entries = refl;
-      adds = λ section o pattern. (pattern.0, pattern.1.0);
-      no_entry = λ addresses r symbol. refl;
-    }
+of_store = record { own = low_s; entries = refl; adds = λ section o pattern. (pattern.0, pattern.1.0) }
 
-module _ (groups : Groups) (name : RiscVRelocation) (low : IsLow name) where
-  abbrev a : IsAfter name
-  a = low.after
+module _ (groups : Groups) (name : RiscVRelocation) (low : IsLow name) (l : Linked) (rewriting : AreRewritten l)
+    (riscv : l.context.architecture ≡ RiscV) (i : ℕ) (is : IsRewrittenOf l name i) where
+  abbrev instruction : List ℕ
+  instruction = instruction_at l.section (offset_of l i)
 
-  pub anywhere_of : (l : Linked) → AreRewritten l → l.context.architecture ≡ RiscV → (i : ℕ) → IsRewrittenOf l name i
-      → IsNamedAs l i name i × IsSomeAnd (action_at l.section (offset_of l i)) (LowPartDoesTheSameAnywhere l i)
-  anywhere_of l rewritten riscv i is =
-      let chosen = is.chosen in
-      let below = is.below in
-      let is_name = is.is_name in
-      let decided = is.decided in
-      let r = relocation_in l.relocations i in
-      let o = r.offset in
-      let instruction = instruction_at l.section o in
-      let by : IsOfEntry name (entry kinds.BaseToTp name by_low_offset) l.section o chosen =
-      of_entry l rewritten riscv i (Rewritten chosen) chosen below decided refl name a.named is_name
+  adds_low : riscv_matches kinds.BaseToTp l.section (offset_of l i) × (is.chosen.kind ≡ relaxations.RiscV kinds.BaseToTp)
+      × (is.chosen.relocation ≡ code_of (riscv_name name))
+  adds_low =
+      let by : IsOfEntry name (entry kinds.BaseToTp name by_low_offset) l.section (offset_of l i) is.chosen =
+      of_entry l rewriting riscv i (Rewritten is.chosen) is.chosen is.below is.decided refl name low.own.after.named is.is_name
       (entry kinds.BaseToTp name by_low_offset) low.entries in
-      let there = low.adds l.section o by.pattern in
-      let inside : o + 4 ≤ length l.section = there.0 in
-      let long : length instruction ≡ 4 = long_there l.section o inside in
+      (low.adds l.section (offset_of l i) by.pattern, by.kind_is, by.code_is)
+
+  pub low_part_is : MadePart l name i i kinds.BaseToTp instruction
+  low_part_is =
+      part_alone l rewriting kinds.BaseToTp (with_rs1 tp) refl i is.chosen is.below is.decided (adds_low.1) name (adds_low.2)
+      (adds_low.0.0)
+
+  pub low_parts : (new : New l) → IsSomeAnd (action_at l.section (offset_of l i)) (low_law name l i new)
+  low_parts new =
+      let long = low_part_is.long in
       let matches : riscv_matches kinds.BaseToTp instruction 0 =
-      (omega (arith, long), subst (λ word. IsTrue (adds_low12 (opcode_of word) (funct3_of word))) (word_same l.section o) (there.1)) in
-      let made : instruction_at l.rewritten o ≡ after_rewrite kinds.BaseToTp instruction 0 =
-      becomes l rewritten i below (Rewritten chosen) decided (with_rs1 tp)
-      (λ done. subst (λ k. IsMade (relaxation_rewrite k) o l.section l.rewritten) by.kind_is done) inside in (
-        rewritten_after l rewritten i chosen below kinds.BaseToTp name by.kind_is by.code_is (λ o. refl) (λ a. refl) decided,
-        subst (λ word. IsSomeAnd (by_word word) (LowPartDoesTheSameAnywhere l i)) (sym (word_same l.section o))
-            (mapped (λ action group x y c k k' s at one small base known old new keeps.
-            group c x y k k' s at one small base known old
-            (subst (λ xs. Has 4 c.new y.place (offset_row action) y xs) made new) keeps)
-            (action_at instruction 0) (groups.low_offsets instruction matches)),
-      )
-
-  pub low_parts_of : (l : Linked) (linked : IsLinked l) → l.context.architecture ≡ RiscV → (i : ℕ) → IsRewrittenOf l name i
-      → IsSomeAnd (action_at l.section (offset_of l i)) (low_law name l i (final linked))
-  low_parts_of l linked riscv i is =
-      let chosen = is.chosen in
-      let below = is.below in
-      let is_name = is.is_name in
-      let decided = is.decided in
-      let r = relocation_in l.relocations i in
-      let o = r.offset in
-      let instruction = instruction_at l.section o in
-      let by : IsOfEntry name (entry kinds.BaseToTp name by_low_offset) l.section o chosen =
-      of_entry l (are_rewritten l linked) riscv i (Rewritten chosen) chosen below decided refl name a.named is_name
-      (entry kinds.BaseToTp name by_low_offset) low.entries in
-      let inside : o + 4 ≤ length l.section = (low.adds l.section o by.pattern).0 in
-      let made =
-      becomes l (are_rewritten l linked) i below (Rewritten chosen) decided (with_rs1 tp)
-      (λ done. subst (λ k. IsMade (relaxation_rewrite k) o l.section l.rewritten) by.kind_is done) inside
-      ∙ made_is (with_rs1 tp) instruction (long_there l.section o inside) in
-      let any = anywhere_of l (are_rewritten l linked) riscv i is in
-      let after = rela o (code_of (riscv_name name)) r.symbol r.addend in
-      let sl = linked.same_length in
-      let fl = linked.written.same_length in
-      let ll = last_length l linked in
-      let final_inside : o + 4 ≤ length l.final = omega (arith, inside, sl, ll, fl) in
-      mapped (λ action law left is_of.
-      subst (λ q. IsSomeAnd q (LowPartDoesTheSame l i action)) (sym low.is_row)
-      (λ symbol is_symbol x c k k' s at one small base known old stands keeps.
-      let y = operands_with RiscV l.addresses a.row symbol r 0 in
-      let written : IsApplied a.row y (instruction_at l.rewritten o) (instruction_at l.final o) =
-      applied_there l linked riscv i below name a after (any.0) left refl low.of symbol 0 (low.no_entry l.addresses after symbol) is_symbol in
-      let new : Relocated (offset_row action) y (instruction_at l.rewritten o) (instruction_at l.final o) =
-      record {
-        applied = subst (λ q. IsSomeAnd q (λ row. IsApplied row y (instruction_at l.rewritten o) (instruction_at l.final o))) (sym (is_of ∙ low.is_row)) written;
-        len = long_there l.final o final_inside ∙ sym (ap length made);
-        old_bytes = subst AreBytes (sym made) (word_bytes (with_rs1 tp (from_le_bytes w32 instruction)));
-        bytes = bytes_there l.final o linked.final_bytes;
-      } in
-      law x y c k k' s at one small base known old
-      (record { relocated = instruction_at l.final o; applied = new; stands = stands }) keeps))
-      (action_at l.section o) (any.1)
+      (omega (arith, long), subst (λ word. IsTrue (adds_low12 (opcode_of word) (funct3_of word))) (word_same l.section (offset_of l i)) (adds_low.0.1)) in
+      subst (λ word. IsSomeAnd (by_word word) (low_law name l i new)) (sym (word_same l.section (offset_of l i)))
+      (mapped (λ action group c x y k k' s at one small base known old has keeps.
+      group c x y k k' s at one small base known old
+      (subst (Has 4 c.new y.place (offset_row action) y) low_part_is.made
+      (has_own l riscv name i i low_part_is.part low.own new (offset_row action) y c.new y.place has)) keeps)
+      (action_at instruction 0) (groups.low_offsets instruction matches))
 
 -- ---- what is deleted
 

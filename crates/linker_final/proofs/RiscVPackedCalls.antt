@@ -1,6 +1,6 @@
 -- RISC-V: where calls go in the final bytes of a packed section.
 use Rattle.std.proofs.Common.{◌≡◌, ◌≢◌, ℕ, ◌+◌, ◌-◌, ◌%◌, ◌^◌, ◌<◌, ◌≤◌, inl, inr, List, length, take, drop, refl, sym, ap, subst, ◌∙◌, arith, Some, Ok, IsSomeAnd}
-use Rattle.std.proofs.lemmas.List.{drop-drop, drop-take, take-take, take_all}
+use Rattle.std.proofs.lemmas.List.{drop-drop, take_all}
 use Rattle.std.proofs.lemmas.List.Elements.{All-drop, All-take}
 use Rattle.std.specs.Int.{w32, from_le_bytes}
 use Rattle.linker_elf.specs.RiscVRelocations.{riscv_relocation}
@@ -22,7 +22,7 @@ use Rattle.linker_laws.proofs.RiscVMachine.{address_is}
 use Rattle.linker_laws.specs.RiscVGroups.{CallStays, Groups}
 use Rattle.linker_laws.specs.RiscVRelocationLaws.{even}
 use Rattle.linker_laws.specs.Schemes.{AreAddresses, plt_address}
-use Rattle.linker_riscv64.proofs.Jumps.{word_of_front}
+use Rattle.linker_final.proofs.Written.{back_of_pair, front_of_pair}
 use Rattle.linker_riscv64.specs.RiscVCalls.{IsCallPair, word_at}
 use Rattle.linker_riscv64.specs.RiscVFields.{rd_of}
 use Rattle.linker_runs.specs.Origins.{HasItsInstructions}
@@ -46,32 +46,21 @@ of_either P name (inr e) first second = subst P (sym e) second
 
 -- ---- the words of a call
 
-first_of_window : (bytes : List ℕ) → from_le_bytes w32 (take 8 bytes) ≡ from_le_bytes w32 bytes
-first_of_window bytes =
-    sym (word_of_front (take 8 bytes))
-    ∙ ap (from_le_bytes w32) (take-take 4 8 bytes (omega arith))
-    ∙ word_of_front bytes
-
-second_of_window : (bytes : List ℕ)
-    → from_le_bytes w32 (drop 4 (take 8 bytes)) ≡ from_le_bytes w32 (drop 4 bytes)
-second_of_window bytes =
-    ap (from_le_bytes w32) (drop-take 4 4 bytes) ∙ word_of_front (drop 4 bytes)
-
 module _ (groups : Groups) (section : List ℕ) (o : ℕ) (bytes : AreBytes section)
     (is : IsCallAt section o) (inside : o + 8 ≤ length section) where
   abbrev window : List ℕ
   window = take 8 (drop o section)
 
   second_is : from_le_bytes w32 (drop 4 window) ≡ word_at section (o + 4)
-  second_is = second_of_window (drop o section) ∙ ap (from_le_bytes w32) (drop-drop 4 o section)
+  second_is = back_of_pair (drop o section) ∙ ap (from_le_bytes w32) (drop-drop 4 o section)
 
   pair : IsCallPair (from_le_bytes w32 window) (from_le_bytes w32 (drop 4 window))
   pair =
-      subst (λ w. IsCallPair w (from_le_bytes w32 (drop 4 window))) (sym (first_of_window (drop o section)))
+      subst (λ w. IsCallPair w (from_le_bytes w32 (drop 4 window))) (sym (front_of_pair (drop o section)))
       (subst (λ w. IsCallPair (word_at section o) w) (sym second_is) is.pair)
 
   some : rd_of (from_le_bytes w32 window) ≢ 0
-  some none = is.not_zero (ap rd_of (sym (first_of_window (drop o section))) ∙ none)
+  some none = is.not_zero (ap rd_of (sym (front_of_pair (drop o section))) ∙ none)
 
   -- where both instructions stay
   long : (y : Operands) (target : ℕ) (final : List ℕ) → AreAddresses y → target ≡ even plt_address y

@@ -13,12 +13,11 @@ use Rattle.linker_elf.specs.declared.riscv64.relocations.RiscVRelocation.TheVari
 use Rattle.linker_final.proofs.RiscVAddresses as addresses
 use Rattle.linker_final.proofs.RiscVChosen.{IsOfSome, of_some}
 use Rattle.linker_final.proofs.RiscVDescriptors as descriptors
-use Rattle.linker_final.proofs.RiscVJoined as joined
 use Rattle.linker_final.proofs.RiscVLoads as loads
 use Rattle.linker_final.proofs.RiscVOffsets as offsets
 use Rattle.linker_final.proofs.SectionRuns.{AreIn, beside_or, is_linked}
 use Rattle.linker_final.specs.Final.{AreRewritten, Linked, count}
-use Rattle.linker_final.specs.RiscVSection.{Changes, Lawful, Leaves, New, RelocationsAreLeft, anywhere, descriptor, final, fixed, high_part, law, load, low_address, low_part, low_store, packed, rewriting, short_descriptor, sum}
+use Rattle.linker_final.specs.RiscVSection.{Changes, Lawful, Leaves, New, RelocationsAreLeft, descriptor, fixed, high_part, law, load, low_address, low_part, low_store, rewriting, short_descriptor, sum}
 use Rattle.linker_final.specs.SectionRuns.{RewritesAreGroups, offset_of}
 use Rattle.linker_laws.specs.RiscVGroups.{Groups}
 use Rattle.linker_rewriting.proofs.Chosen.{choice_of}
@@ -135,53 +134,29 @@ are_in l made riscv b =
 module _ (groups : Groups) (l : Linked) (made : AreRewritten l) (riscv : l.context.architecture ≡ RiscV) where
   leaves : (i : ℕ) (g : Lawful l i) → Leaves l i g
   leaves i (load j of alone) =
-      (loads.high_is groups l made riscv i j of alone, loads.low_is groups l made riscv i j of alone)
+      ((loads.high groups l made riscv i j of alone).left, (loads.low groups l made riscv i j of alone).part.left)
   leaves i (fixed j high low) =
-      (addresses.high_after groups l made riscv i j high low, addresses.low_after groups l made riscv i j high low)
-  leaves i (low_address j high low) = addresses.zero_after groups l made riscv i j low
-  leaves i (descriptor add call of_add of_call) = (
-    descriptors.add_after groups l made riscv i add call of_add of_call,
-    descriptors.call_after groups l made riscv i add call of_add of_call,
-  )
-  leaves i (short_descriptor call of) = descriptors.short_after groups l made riscv i call of
-  leaves i (low_part of) = (offsets.anywhere_of groups names.R_RISCV_TPREL_LO12_I offsets.of_load l made riscv i of).0
-  leaves i (low_store of) = (offsets.anywhere_of groups names.R_RISCV_TPREL_LO12_S offsets.of_store l made riscv i of).0
+      ((addresses.lui groups l made riscv i j high).part.left, (addresses.addi groups l made riscv i j low).part.left)
+  leaves i (low_address j high low) = (addresses.addi_alone groups l made riscv i j low).part.left
+  leaves i (descriptor add call of_add of_call) =
+      ((descriptors.lui groups l made riscv i add of_add).part.left, (descriptors.addi groups l made riscv i call of_call).part.left)
+  leaves i (short_descriptor call of) = (descriptors.addi_alone groups l made riscv i call of).part.left
+  leaves i (low_part of) = (offsets.low_part_is groups names.R_RISCV_TPREL_LO12_I offsets.of_load l made riscv i of).part.left
+  leaves i (low_store of) = (offsets.low_part_is groups names.R_RISCV_TPREL_LO12_S offsets.of_store l made riscv i of).part.left
   leaves i (high_part of) = (offsets.high_part_goes groups l made riscv i of).0
   leaves i (sum of) = (offsets.sum_goes groups l made riscv i of).0
 
   law_there : (i : ℕ) (g : Lawful l i) (new : New l) → law l i g new
-  law_there i (load j of alone) anywhere = loads.wherever groups l made riscv i j of alone
-  law_there i (load j of alone) (final linked) =
-      λ of left. loads.loads_the_same groups l linked riscv i j of left alone
-  law_there i (load j of alone) (packed p both is) =
-      λ of left. joined.loads_the_same groups l p both is i j of left alone
-  law_there i (fixed j high low) (final linked) = addresses.fixed_addresses groups l linked riscv i j high low
-  law_there i (fixed j high low) new = addresses.wherever groups l made riscv i j high low
-  law_there i (low_address j high low) (packed p both is) = joined.packed_low_address groups l p both is i j low
-  law_there i (low_address j high low) new = addresses.low_wherever groups l made riscv i j low
-  law_there i (descriptor add call of_add of_call) anywhere =
-      descriptors.wherever groups l made riscv i add call of_add of_call
-  law_there i (descriptor add call of_add of_call) (final linked) =
-      descriptors.descriptors groups l linked riscv i add call of_add of_call
-  law_there i (descriptor add call of_add of_call) (packed p both is) =
-      joined.packed_descriptors groups l p both is i add call of_add of_call
-  law_there i (short_descriptor call of) anywhere = descriptors.short_wherever groups l made riscv i call of
-  law_there i (short_descriptor call of) (final linked) =
-      descriptors.short_descriptors groups l linked riscv i call of
-  law_there i (short_descriptor call of) (packed p both is) =
-      joined.packed_short_descriptors groups l p both is i call of
-  law_there i (low_part of) anywhere =
-      (offsets.anywhere_of groups names.R_RISCV_TPREL_LO12_I offsets.of_load l made riscv i of).1
-  law_there i (low_part of) (final linked) =
-      offsets.low_parts_of groups names.R_RISCV_TPREL_LO12_I offsets.of_load l linked riscv i of
-  law_there i (low_part of) (packed p both is) =
-      joined.packed_low_part groups names.R_RISCV_TPREL_LO12_I offsets.of_load l p both is i of
-  law_there i (low_store of) anywhere =
-      (offsets.anywhere_of groups names.R_RISCV_TPREL_LO12_S offsets.of_store l made riscv i of).1
-  law_there i (low_store of) (final linked) =
-      offsets.low_parts_of groups names.R_RISCV_TPREL_LO12_S offsets.of_store l linked riscv i of
-  law_there i (low_store of) (packed p both is) =
-      joined.packed_low_part groups names.R_RISCV_TPREL_LO12_S offsets.of_store l p both is i of
+  law_there i (load j of alone) new = loads.loads groups l made riscv i j of alone new
+  law_there i (fixed j high low) new = addresses.fixed_addresses groups l made riscv i j high low new
+  law_there i (low_address j high low) new = addresses.low_addresses groups l made riscv i j high low new
+  law_there i (descriptor add call of_add of_call) new =
+      descriptors.descriptors groups l made riscv i add call of_add of_call new
+  law_there i (short_descriptor call of) new = descriptors.short_descriptors groups l made riscv i call of new
+  law_there i (low_part of) new =
+      offsets.low_parts groups names.R_RISCV_TPREL_LO12_I offsets.of_load l made riscv i of new
+  law_there i (low_store of) new =
+      offsets.low_parts groups names.R_RISCV_TPREL_LO12_S offsets.of_store l made riscv i of new
   law_there i (high_part of) new = (offsets.high_part_goes groups l made riscv i of).1
   law_there i (sum of) new = (offsets.sum_goes groups l made riscv i of).1
 

@@ -1,35 +1,43 @@
 -- What the choice of a rewrite over the thread pointer tested: the offset is a number of 12 bits.
-use Rattle.std.proofs.Common.{◌≡◌, ℕ, [], ◌∷◌, Bool, true, false, refl, sym, ap, subst, ◌∙◌, inl, inr, arith, List, Option, Some, None}
+use Rattle.std.proofs.Common.{◌≡◌, ◌≢◌, ◌⊎◌, ◌^◌, ◌<◌, ◌≤◌, ◌-◌, ◌*◌, ◌<ℤ◌, ◌≤ℤ◌, ℤ, neg_ℤ, pos, negsuc, ℕ, [], ◌∷◌, Bool, true, false, refl, sym, ap, subst, ◌∙◌, inl, inr, arith, List, Option, Some, None}
 use Rattle.std.specs.Prelude.{if◌then◌else◌, slice_get}
 use Rattle.std.specs.Int.{w64, cast_signed, cast_unsigned}
-use Rattle.linker_elf.specs.Choices.{HasAddresses, choice, entry, low_12_bounds}
-use Rattle.linker_elf.specs.Elf.{IsWithin}
-use Rattle.linker_elf.specs.ElfNames.{IsNamed, IsNameOf, code_of}
+use Rattle.linker_elf.specs.Choices.{AllHold, HasAddresses, entry, low_12_bounds, operands_before}
+use Rattle.linker_elf.specs.Elf.{IsWithin, bit_bounds}
+use Rattle.linker_elf.specs.Relocate.{Reaches}
+use Rattle.linker_elf.specs.declared.elf.Sign.TheVariants.{Signed}
+use Rattle.std.proofs.lemmas.Bool.{cases_lt}
+use Rattle.std.proofs.lemmas.Int.{ints, to_z_pos}
+use Rattle.linker_base.proofs.Bits.{cast_negative}
+use Rattle.linker_elf.specs.Reach.{riscv_pair_bounds}
+use Rattle.linker_elf.specs.ElfNames.{IsNamed, IsNameOf}
 use Rattle.linker_elf.specs.RiscVRelocations.{pair_row, riscv_name}
 use Rattle.linker_elf.specs.Value.{difference_64, sum_64}
-use Rattle.linker_elf.specs.declared.elf.RelocationKind.TheVariants.{TpOff}
+use Rattle.linker_elf.specs.declared.elf.RelocationKind.TheVariants.{GotTpOff, TpOff}
 use Rattle.linker_elf.specs.declared.elf.RelocationKindInfo.{RelocationKindInfo}
 use Rattle.linker_elf.specs.declared.elf.choice.Choice.{Choice}
 use Rattle.linker_elf.specs.declared.elf.choice.LinkFacts.{LinkFacts}
 use Rattle.linker_elf.specs.declared.elf.value.Operands.{Operands}
-use Rattle.linker_elf.specs.declared.riscv64.forms.RiscVInstruction.TheVariants.{IType}
+use Rattle.linker_elf.specs.declared.riscv64.forms.RiscVInstruction.TheVariants.{IType, UType}
 use Rattle.linker_elf.specs.declared.riscv64.relocations.RiscVRelocation.{RiscVRelocation}
 use Rattle.linker_elf.specs.declared.riscv64.relocations.RiscVRelocation.TheVariants as names
 use Rattle.linker_rewriting.proofs.Chosen.{IsChosen, chosen_or_labelled}
-use Rattle.linker_rewriting.proofs.Entries.{IsOfApplied, of_first}
+use Rattle.linker_rewriting.proofs.Entries.{IsOfApplied}
+use Rattle.linker_final.proofs.RiscVChosen.{anyhow, kind_in, of_table}
+use Rattle.linker_rewriting.specs.declared.decisions.Subject.{Subject}
 use Rattle.linker_final.specs.Final.{count}
-use Rattle.linker_final.specs.RiscVFinal.{OffsetsAreLow, OffsetsAreLowOf}
+use Rattle.linker_final.specs.RiscVFinal.{IsNotRewrittenBy, NoneIsInitialExec, OffsetsAreLow, OffsetsAreLowOf}
 use Rattle.linker_laws.specs.RiscVRewriteLaws.{IsLowOffset}
-use Rattle.linker_utils.specs.RiscVRewrites.{AppliesToRiscV, HasPattern, IsRiscVChoice, by_low_offset, riscv_entries}
+use Rattle.linker_utils.specs.RiscVRewrites.{AppliesToRiscV, HasPattern, RiscVEntry, by_low_offset, riscv_entries, riscv_row_of}
 use Rattle.linker_utils.specs.declared.riscv64.rewrites.RewriteKind.{RewriteKind}
 use Rattle.linker_utils.specs.declared.riscv64.rewrites.RewriteKind.TheVariants as kinds
-use Rattle.linker_rewriting.specs.Facts.{RelaxContext, address_in, facts_at, facts_by, facts_with}
+use Rattle.linker_rewriting.specs.Facts.{RelaxContext, address_in, facts_at, facts_by, facts_with, link_facts, placed_facts}
 use Rattle.linker_rewriting.specs.Groups.{IsScopeIn, riscv_scope_in}
-use Rattle.linker_rewriting.specs.RiscVPcrelGroups.{is_labelled}
-use Rattle.linker_rewriting.specs.declared.decisions.Decision.TheVariants.{Rewritten}
+use Rattle.linker_rewriting.specs.RiscVPcrelGroups.{is_label_marked, is_labelled, without_entry}
+use Rattle.linker_rewriting.specs.declared.decisions.Decision.TheVariants.{Rewritten, RewrittenWithSymbol}
 use Rattle.linker_rewriting.specs.declared.facts.OutputFacts.{OutputFacts}
 use Rattle.linker_rewriting.specs.declared.facts.SymbolFacts.{SymbolFacts}
-use Rattle.linker_rewriting.specs.declared.groups.Scope.TheVariants.{Labelled}
+use Rattle.linker_rewriting.specs.declared.groups.Scope.TheVariants.{Labelled, NotRelaxable}
 use Rattle.linker_rewriting.specs.declared.phases.Phase.{Phase}
 use Rattle.linker_rewriting.specs.declared.phases.Phase.TheVariants as phases
 use Rattle.linker_section.specs.Relocations.{relocation_in}
@@ -37,62 +45,48 @@ use Rattle.linker_section.specs.Values.{operands_with}
 use Rattle.linker_section.specs.declared.facts.Addresses.{Addresses}
 use Rattle.linker_section.specs.declared.facts.Symbol.{Symbol}
 use Rattle.linker_section.specs.declared.relocations.Rela.{Rela}
-use Rattle.linker_utils.specs.Relaxations.{IsArchitectureChoice, relaxation_no_op}
 use Rattle.linker_utils.specs.declared.architecture.Relaxation.{Relaxation}
-use Rattle.linker_utils.specs.declared.architecture.Relaxation.TheVariants as relaxations
 use Rattle.linker_elf.specs.declared.elf.architecture.Architecture.TheVariants.{RiscV}
 
--- ---- the operands of the facts
+-- ---- the facts
 
-abbrev operands_in : Operands → Option LinkFacts → Operands
-operands_in other None = other
-operands_in other (Some facts) = facts.operands
-
-abbrev has_addresses_in : Option LinkFacts → Bool
-has_addresses_in None = false
-has_addresses_in (Some facts) = facts.has_addresses
+abbrev facts_in : LinkFacts → Option LinkFacts → LinkFacts
+facts_in other None = other
+facts_in other (Some facts) = facts
 
 -- those once addresses are known
-abbrev placed : Addresses → Symbol → Rela → Operands
-placed addresses value r =
-    record {
-      addend = r.addend;
-      symbol = address_in addresses value;
-      place = sum_64 addresses.section r.offset;
-      got_entry = 0;
-      got_base = addresses.got_base;
-      plt_entry = 0;
-      symbol_size = 0;
-      tls_base = addresses.thread_origin;
-      has_got_entry = false;
-      has_plt_entry = false;
-      has_tls_base = addresses.has_tls;
-    }
+record ArePlaced (phase : Phase) (output : OutputFacts) (addresses : Addresses) (values : List Symbol) (r : Rela)
+    (marked : Bool) (facts : LinkFacts) : Type 0 where
+  pub symbol : SymbolFacts
+  pub value : Symbol
+  pub is_value : slice_get values r.symbol ≡ Some value
+  pub are : facts ≡ placed_facts phase output addresses symbol value r.offset r.addend marked
 
 module _ (output : OutputFacts) (addresses : Addresses) (values : List Symbol) (r : Rela)
-    (marked : Bool) (value : Symbol) (is_value : slice_get values r.symbol ≡ Some value)
-    (facts : LinkFacts) (known : facts.has_addresses ≡ true) where
-  by_value : (phase : Phase) (symbol : SymbolFacts)
-      → facts_with phase output addresses r r marked symbol (slice_get values r.symbol) ≡ Some facts
-      → facts.operands ≡ placed addresses value r
-  by_value phase symbol is =
-      ap (operands_in facts.operands)
-      (sym is ∙ ap (facts_with phase output addresses r r marked symbol) is_value)
+    (marked : Bool) (facts : LinkFacts) where
+  by_value : (phase : Phase) (symbol : SymbolFacts) (value : Option Symbol) → slice_get values r.symbol ≡ value
+      → facts_with phase output addresses r r marked symbol value ≡ Some facts
+      → ArePlaced phase output addresses values r marked facts
+  by_value phase symbol None there is = absurd (let e : None ≡ Some facts = is in cc)
+  by_value phase symbol (Some value) there is =
+      record { symbol = symbol; value = value; is_value = there; are = ap (facts_in facts) (sym is) }
 
-  by_phase : (phase : Phase) (symbol : SymbolFacts)
+  -- an address is known, or it isn't the phase before
+  by_phase : (phase : Phase) (symbol : SymbolFacts) → (facts.has_addresses ≡ true) ⊎ (phase ≢ phases.PreLayout)
       → facts_at phase output addresses values r r marked symbol ≡ Some facts
-      → facts.operands ≡ placed addresses value r
-  by_phase phases.PreLayout symbol is =
-      absurd (let e : false ≡ true = ap has_addresses_in is ∙ known in cc)
-  by_phase phases.TlsLocalExec symbol is = by_value phases.TlsLocalExec symbol is
-  by_phase phases.GotToPcRel symbol is = by_value phases.GotToPcRel symbol is
-  by_phase phases.ShortPcRel symbol is = by_value phases.ShortPcRel symbol is
+      → ArePlaced phase output addresses values r marked facts
+  by_phase phases.PreLayout symbol (inl known) is =
+      absurd (let e : false ≡ true = ap (λ (f : Option LinkFacts). (facts_in facts f).has_addresses) is ∙ known in cc)
+  by_phase phases.PreLayout symbol (inr late) is = absurd (late refl)
+  by_phase phases.TlsLocalExec symbol late is = by_value phases.TlsLocalExec symbol (slice_get values r.symbol) refl is
+  by_phase phases.GotToPcRel symbol late is = by_value phases.GotToPcRel symbol (slice_get values r.symbol) refl is
+  by_phase phases.ShortPcRel symbol late is = by_value phases.ShortPcRel symbol (slice_get values r.symbol) refl is
 
-  by_symbol : (phase : Phase) (symbol : Option SymbolFacts)
+  by_symbol : (phase : Phase) (symbol : Option SymbolFacts) → (facts.has_addresses ≡ true) ⊎ (phase ≢ phases.PreLayout)
       → facts_by phase output addresses values r r marked symbol ≡ Some facts
-      → facts.operands ≡ placed addresses value r
-  by_symbol phase None is = absurd (let e : None ≡ Some facts = is in cc)
-  by_symbol phase (Some symbol) is = by_phase phase symbol is
+      → ArePlaced phase output addresses values r marked facts
+  by_symbol phase None late is = absurd (let e : None ≡ Some facts = is in cc)
+  by_symbol phase (Some symbol) late is = by_phase phase symbol late is
 
 -- ---- the offset
 
@@ -125,17 +119,22 @@ address_is addresses value is =
 abbrev row : RelocationKindInfo
 row = pair_row TpOff 32 IType
 
+abbrev symbol_in : Symbol → Option Symbol → Symbol
+symbol_in other None = other
+symbol_in other (Some symbol) = symbol
+
 -- what the entry's last condition says
 by_test : (s : RelaxContext) (section : List ℕ) (r : Rela) (chosen : Choice Relaxation ℕ)
     (c : IsChosen s section r chosen) (value : Symbol) → slice_get s.values r.symbol ≡ Some value
     → value.is_thread_local ≡ true → HasAddresses c.facts → IsTested c.facts.operands
     → IsLowOffset (operands_with RiscV s.addresses row value r 0)
 by_test s section r chosen c value is_value thread_local known is =
-    let operands : c.facts.operands ≡ placed s.addresses value r =
-    by_symbol s.output s.addresses s.values r c.marked value is_value c.facts known s.phase (slice_get s.symbols r.symbol) c.facts_are in
-    let low : IsLowBy (placed s.addresses value r) = subst IsLowBy operands (without_bias c.facts.operands is) in
+    let placed = by_symbol s.output s.addresses s.values r c.marked c.facts s.phase (slice_get s.symbols r.symbol) (inl known) c.facts_are in
+    let same : placed.value ≡ value = ap (symbol_in value) (sym placed.is_value ∙ is_value) in
+    let low : IsLowBy (placed_facts s.phase s.output s.addresses placed.symbol placed.value r.offset r.addend c.marked).operands =
+    subst (λ (f : LinkFacts). IsLowBy f.operands) placed.are (without_bias c.facts.operands is) in
     subst (λ a. IsWithin (Some low_12_bounds) (cast_signed w64 (difference_64 (sum_64 a (cast_unsigned w64 r.addend)) s.addresses.thread_origin)))
-    (address_is s.addresses value thread_local) low
+    (ap (address_in s.addresses) same ∙ address_is s.addresses value thread_local) low
 
 module _ (name : RiscVRelocation) (named : IsNamed (riscv_name name)) (kind : RewriteKind)
     (after : RiscVRelocation)
@@ -157,43 +156,117 @@ module _ (name : RiscVRelocation) (named : IsNamed (riscv_name name)) (kind : Re
         | inr label ↦
             absurd (not_labelled s.phase r.code is_name (subst (λ x. IsScopeIn x s.phase r.code Labelled) riscv label.scope_is))
       ] in
-      let h = subst (λ x. IsArchitectureChoice x r.code l.section r.offset c.facts chosen) riscv c.is_choice in
-      let same : h.name ≡ name = h.is_name.named name named is_name.code_is in
-      let found =
-      of_first (AppliesToRiscV (HasPattern name) l.section r.offset c.facts) (riscv_entries name) (choice kinds.NoOp name) h.named
-      (λ e. c.changed (
-        subst relaxation_no_op (sym (h.kind_is ∙ ap (λ (q : Choice RewriteKind RiscVRelocation). relaxations.RiscV q.kind) e)) refl,
-        h.code_is ∙ (ap (λ (q : Choice RewriteKind RiscVRelocation). code_of (riscv_name q.relocation)) e ∙ is_name.code_is),
-      ))
-      (subst (λ x. IsRiscVChoice x l.section r.offset c.facts h.named) same h.is_choice) in
-      elim (subst (λ es. IsOfApplied (AppliesToRiscV (HasPattern name) l.section r.offset c.facts) es h.named) entries found) [
+      let h = of_table s.architecture riscv r.code l.section r.offset c.facts chosen c.is_choice c.changed name named is_name in
+      elim (subst (λ es. IsOfApplied (AppliesToRiscV (HasPattern name) l.section r.offset c.facts) es h.named) entries h.applies) [
         | inl this ↦
             let test = this.0.1.1.0 in
             by_test s l.section r chosen c value is_value thread_local (test.0) (test.1)
         | inr nothing ↦ absurd nothing
       ]
 
-no_label_high : (phase : Phase) → is_labelled (riscv_scope_in phase names.R_RISCV_TPREL_HI20) ≡ false
-no_label_high phases.PreLayout = refl
-no_label_high phases.TlsLocalExec = refl
-no_label_high phases.GotToPcRel = refl
-no_label_high phases.ShortPcRel = refl
-
-no_label_low : (phase : Phase) → is_labelled (riscv_scope_in phase names.R_RISCV_TPREL_LO12_I) ≡ false
-no_label_low phases.PreLayout = refl
-no_label_low phases.TlsLocalExec = refl
-no_label_low phases.GotToPcRel = refl
-no_label_low phases.ShortPcRel = refl
-
-no_label_store : (phase : Phase) → is_labelled (riscv_scope_in phase names.R_RISCV_TPREL_LO12_S) ≡ false
-no_label_store phases.PreLayout = refl
-no_label_store phases.TlsLocalExec = refl
-no_label_store phases.GotToPcRel = refl
-no_label_store phases.ShortPcRel = refl
+no_label : (name : RiscVRelocation) → is_labelled (riscv_scope_in phases.TlsLocalExec name) ≡ false
+    → is_labelled (riscv_scope_in phases.GotToPcRel name) ≡ false → (phase : Phase)
+    → is_labelled (riscv_scope_in phase name) ≡ false
+no_label name late placed phases.PreLayout = refl
+no_label name late placed phases.TlsLocalExec = late
+no_label name late placed phases.GotToPcRel = placed
+no_label name late placed phases.ShortPcRel = refl
 
 pub offsets_are_low : OffsetsAreLow
 offsets_are_low = (
-  low_of names.R_RISCV_TPREL_HI20 tt kinds.Delete names.R_RISCV_NONE refl no_label_high,
-  low_of names.R_RISCV_TPREL_LO12_I tt kinds.BaseToTp names.R_RISCV_TPREL_LO12_I refl no_label_low,
-  low_of names.R_RISCV_TPREL_LO12_S tt kinds.BaseToTp names.R_RISCV_TPREL_LO12_S refl no_label_store,
+  low_of names.R_RISCV_TPREL_HI20 tt kinds.Delete names.R_RISCV_NONE refl (no_label names.R_RISCV_TPREL_HI20 refl refl),
+  low_of names.R_RISCV_TPREL_LO12_I tt kinds.BaseToTp names.R_RISCV_TPREL_LO12_I refl (no_label names.R_RISCV_TPREL_LO12_I refl refl),
+  low_of names.R_RISCV_TPREL_LO12_S tt kinds.BaseToTp names.R_RISCV_TPREL_LO12_S refl (no_label names.R_RISCV_TPREL_LO12_S refl refl),
+)
+
+-- ---- no entry of the GOT is in reach
+
+abbrev entry_row : RelocationKindInfo
+entry_row = pair_row GotTpOff 32 UType
+
+addend_is : (z : ℤ) → IsWithin (Some (bit_bounds 63 Signed)) z
+    → (cast_unsigned w64 z < 2 ^ 62) ⊎ ((2 ^ 64 - 2 ^ 62 ≤ cast_unsigned w64 z) × (cast_unsigned w64 z < 2 ^ 64))
+addend_is (pos m) near = inl (let high : pos m <ℤ pos (2 ^ 62) = near.1 in omega (arith, ints))
+addend_is (negsuc m) near = inr (let low : neg_ℤ (pos (2 ^ 62)) ≤ℤ negsuc m = near.0 in (omega (arith, ints), omega (arith, ints)))
+
+-- half of all addresses away
+far : (o : Operands) → o.got_entry ≡ sum_64 o.place (2 ^ 63) → IsWithin (Some (bit_bounds 63 Signed)) o.addend
+    → Reaches entry_row (operands_before 0 o) → ⊥
+far o is near reaches =
+    let a = cast_unsigned w64 o.addend in
+    let n = difference_64 (sum_64 (sum_64 o.got_entry a) 0) (difference_64 o.place 0) in
+    let middle : (2 ^ 62 ≤ n) × (n < 3 * 2 ^ 62) = elim (addend_is o.addend near) [
+      | inl less ↦ (omega (arith, is, less), omega (arith, is, less))
+      | inr more ↦ (let from = more.0 in let below = more.1 in (omega (arith, is, from, below), omega (arith, is, from, below)))
+    ] in
+    let from = middle.0 in
+    let below = middle.1 in
+    elim (cases_lt n (2 ^ 63)) [
+      | inl low ↦
+          let g = subst (IsWithin (Some riscv_pair_bounds)) (to_z_pos w64 n low) reaches.within in
+          let b = g.1 in omega (arith, ints, from)
+      | inr high ↦
+          let g = subst (IsWithin (Some riscv_pair_bounds)) (cast_negative n (omega arith) high) reaches.within in
+          let b = g.0 in omega (arith, ints, below)
+    ]
+
+without_entry_is : (f : Option LinkFacts) (facts : LinkFacts) → without_entry f ≡ Some facts → (mine : LinkFacts) × (f ≡ Some mine)
+    × (facts ≡ record mine { operands = record mine.operands { got_entry = sum_64 mine.operands.place (2 ^ 63) } })
+without_entry_is None facts is = absurd (let e : None ≡ Some facts = is in cc)
+without_entry_is (Some mine) facts is = (mine, refl, ap (facts_in facts) (sym is))
+
+-- Each entry is of another kind, or requires one.
+abbrev EachReaches : RewriteKind → List RiscVEntry → Type 0
+EachReaches kind [] = Unit {0}
+EachReaches kind (e ∷ es) =
+    ((kind ≡ e.kind → ⊥)
+    ⊎ ((facts : LinkFacts) → AllHold riscv_row_of facts.operands facts e.conditions → HasAddresses facts
+    → Reaches entry_row (operands_before 0 facts.operands)))
+    × EachReaches kind es
+
+reaches : (name : RiscVRelocation) (kind : RewriteKind) (section : List ℕ) (o : ℕ) (facts : LinkFacts)
+    (named : Choice RewriteKind RiscVRelocation) → kind ≡ named.kind → HasAddresses facts → (es : List RiscVEntry)
+    → EachReaches kind es → IsOfApplied (AppliesToRiscV (HasPattern name) section o facts) es named
+    → Reaches entry_row (operands_before 0 facts.operands)
+reaches name kind section o facts named is known [] each nothing = absurd nothing
+reaches name kind section o facts named is known (e ∷ es) each (inl this) =
+    elim (each.0) [
+      | inl isnt ↦ absurd (isnt (is ∙ ap (λ (q : Choice RewriteKind RiscVRelocation). q.kind) (this.1)))
+      | inr requires_one ↦ requires_one facts (this.0.1) known
+    ]
+reaches name kind section o facts named is known (e ∷ es) each (inr other) =
+    reaches name kind section o facts named is known es (each.1) other
+
+never : (name : RiscVRelocation) → IsNamed (riscv_name name) → (kind : RewriteKind) → EachReaches kind (riscv_entries name)
+    → IsNotRewrittenBy name kind
+never name named kind each l rewriting riscv i chosen subject below is_name decided near is =
+    let s = l.context in
+    let r = relocation_in l.relocations i in
+    let c = anyhow l rewriting i (RewrittenWithSymbol chosen subject) chosen below decided refl in
+    let of = c.of_high subject refl in
+    let high = relocation_in l.relocations of.high in
+    let scope = subst (λ x. IsScopeIn x s.phase r.code Labelled) riscv of.scope_is in
+    let late : s.phase ≢ phases.PreLayout =
+    λ early. let e : Labelled ≡ NotRelaxable = scope.value_is ∙ ap (λ (p : Phase). riscv_scope_in p scope.name) early in cc in
+    let marked = is_label_marked s.architecture s.phase l.relocations i r of.high in
+    let own = without_entry_is (link_facts s.phase s.output s.symbols s.addresses s.values high high marked) c.facts of.facts_are in
+    let placed = by_symbol s.output s.addresses s.values high marked (own.0) s.phase (slice_get s.symbols high.symbol) (inr late) (own.1) in
+    let known : c.facts.has_addresses ≡ true =
+    ap (λ (f : LinkFacts). f.has_addresses) (own.2) ∙ ap (λ (f : LinkFacts). f.has_addresses) placed.are in
+    let addend : c.facts.operands.addend ≡ subject.addend =
+    ap (λ (f : LinkFacts). f.operands.addend) (own.2)
+    ∙ (ap (λ (f : LinkFacts). f.operands.addend) placed.are ∙ sym (ap (λ (q : Subject). q.addend) of.subject_is)) in
+    let entry_is : c.facts.operands.got_entry ≡ sum_64 c.facts.operands.place (2 ^ 63) =
+    ap (λ (f : LinkFacts). f.operands.got_entry) (own.2)
+    ∙ sym (ap (λ (f : LinkFacts). sum_64 f.operands.place (2 ^ 63)) (own.2)) in
+    let h = of_table s.architecture riscv r.code l.section r.offset c.facts chosen c.is_choice c.changed name named is_name in
+    far c.facts.operands entry_is (subst (IsWithin (Some (bit_bounds 63 Signed))) (sym addend) near)
+    (reaches name kind l.section r.offset c.facts h.named (ap (kind_in kind) (sym is ∙ h.kind_is)) known (riscv_entries name) each h.applies)
+
+pub none_is_initial_exec : NoneIsInitialExec
+none_is_initial_exec = (
+  never names.R_RISCV_TLSDESC_ADD_LO12 tt kinds.AddiToAuipc
+      (inl (λ e. cc), (inl (λ e. cc), (inl (λ e. cc), (inr (λ facts holds known. holds.1.0 known), tt)))),
+  never names.R_RISCV_TLSDESC_CALL tt kinds.CallToLd
+      (inl (λ e. cc), (inl (λ e. cc), (inr (λ facts holds known. holds.1.0 known), tt))),
 )

@@ -1,5 +1,5 @@
 -- Instructions and their relocations in the bytes that rewrites leave, and in the final bytes.
-use Rattle.std.proofs.Common.{◌≡◌, ℕ, ℤ, ◌+◌, ◌-◌, ◌/◌, ◌<◌, ◌≤◌, ◌⊎◌, List, [], ◌∷◌, length, take, drop, sym, ap, subst, ◌∙◌, refl, inl, inr, arith, Option, Some, None, IsSomeAnd, Ok, Err, Result, true}
+use Rattle.std.proofs.Common.{◌≡◌, ℕ, ℤ, ◌+◌, ◌-◌, ◌/◌, ◌<◌, ◌≤◌, ◌⊎◌, List, length, take, drop, sym, ap, subst, ◌∙◌, refl, inl, inr, arith, Option, Some, None, IsSomeAnd, Ok, Err, Result, true}
 use Rattle.std.proofs.lemmas.Bool.{cases_eq, cases_lt, cases_Bool, cond-true, cond-false}
 use Rattle.std.proofs.lemmas.List.{take-take, drop-drop, drop-take}
 use Rattle.std.specs.Int.{w32, from_le_bytes}
@@ -18,8 +18,9 @@ use Rattle.linker_elf.specs.declared.elf.value.Operands.{Operands}
 use Rattle.linker_final.proofs.InstructionFields.{IsOfInstruction, applied, instruction_len}
 use Rattle.linker_final.proofs.Phases.{bytes_left, last_as_many, last_length, last_within, relocation_left}
 use Rattle.linker_final.proofs.PutBack.{same_windows}
+use Rattle.linker_riscv64.proofs.Jumps.{word_of_front}
 use Rattle.linker_final.specs.Final.{AreRewritten, Linked, UntouchedBytes, IsLinked, IsOutside, IsRewrittenByNoOther, IsWrittenByNoOther, count, instruction_at, two_at}
-use Rattle.linker_rewriting.specs.Decisions.{decision_at, start_at, start_by, window_of, written_end_at, written_end_by}
+use Rattle.linker_rewriting.specs.Decisions.{decision_at, start_by, window_of, written_end_at, written_end_by}
 use Rattle.linker_rewriting.specs.Rewritten.{IsDone, IsMade, relocation_after}
 use Rattle.linker_rewriting.specs.declared.decisions.Decision.{Decision}
 use Rattle.linker_rewriting.specs.declared.decisions.Decision.TheVariants.{Rewritten}
@@ -41,25 +42,24 @@ use Rattle.linker_elf.specs.declared.elf.architecture.Architecture.{Architecture
 
 -- ---- words
 
--- that of the first four bytes
-pub word_front : (xs : List ℕ) → from_le_bytes w32 (take 4 xs) ≡ from_le_bytes w32 xs
-word_front [] = refl
-word_front (a ∷ []) = refl
-word_front (a ∷ b ∷ []) = refl
-word_front (a ∷ b ∷ c ∷ []) = refl
-word_front (a ∷ b ∷ c ∷ d ∷ xs) = refl
-
 pub word_same : (bytes : List ℕ) (o : ℕ)
     → from_le_bytes w32 (drop o bytes) ≡ from_le_bytes w32 (instruction_at bytes o)
-word_same bytes o = sym (word_front (drop o bytes))
+word_same bytes o = sym (word_of_front (drop o bytes))
 
 -- of two instructions
 
+pub front_of_pair : (bytes : List ℕ) → from_le_bytes w32 (take 8 bytes) ≡ from_le_bytes w32 bytes
+front_of_pair bytes =
+    sym (word_of_front (take 8 bytes)) ∙ ap (from_le_bytes w32) (take-take 4 8 bytes (omega arith))
+    ∙ word_of_front bytes
+
+pub back_of_pair : (bytes : List ℕ)
+    → from_le_bytes w32 (drop 4 (take 8 bytes)) ≡ from_le_bytes w32 (drop 4 bytes)
+back_of_pair bytes = ap (from_le_bytes w32) (drop-take 4 4 bytes) ∙ word_of_front (drop 4 bytes)
+
 pub first_same : (bytes : List ℕ) (o : ℕ)
     → from_le_bytes w32 (two_at bytes o) ≡ from_le_bytes w32 (instruction_at bytes o)
-first_same bytes o =
-    sym (word_front (two_at bytes o))
-    ∙ ap (from_le_bytes w32) (take-take 4 8 (drop o bytes) (omega arith))
+first_same bytes o = front_of_pair (drop o bytes) ∙ word_same bytes o
 
 pub second_same : (bytes : List ℕ) (o : ℕ) → drop 4 (two_at bytes o) ≡ instruction_at bytes (o + 4)
 second_same bytes o = drop-take 4 4 (drop o bytes) ∙ ap (take 4) (drop-drop 4 o bytes)
@@ -275,24 +275,6 @@ module _ (l : Linked) (rewriting : AreRewritten l) (i : ℕ) (chosen : Choice Re
           ap (λ d. written_end_by d r.offset) decided
           ∙ ap (λ q. r.offset - (window_of_rewrite q).back + (window_of_rewrite q).len) is in
           omega (arith, end, from)
-
-  -- nor is one ahead of the window of the own rewrite, which begins at the relocation
-  pub stays_ahead : (made : Rewrite) → relaxation_rewrite chosen.kind ≡ Some made → made.back ≡ 0
-      → (p : ℕ) → p + 4 ≤ r.offset → IsRewrittenByNoOther l i p → p + 4 ≤ length l.section
-      → instruction_at l.rewritten p ≡ instruction_at l.section p
-  stays_ahead made is back p ahead alone inside =
-      let long = rewriting.same_length in
-      same_windows p 4 l.rewritten l.section (omega (arith, inside, long)) (sym long)
-      (λ at from less. rewriting.others at (λ j lj. elim (cases_eq j i) [
-        | inl same ↦ inl (subst (λ k. at < start_at l.relocations l.decisions k) (sym same) (own at less))
-        | inr isnt ↦ alone j at lj isnt from less
-      ]))
-    where
-      own : (at : ℕ) → at < p + 4 → at < start_at l.relocations l.decisions i
-      own at less =
-          let start : start_at l.relocations l.decisions i ≡ r.offset - made.back =
-          ap (λ d. start_by d r.offset) decided ∙ ap (λ q. r.offset - (window_of_rewrite q).back) is in
-          omega (arith, start, back, less, ahead)
 
 -- ---- bytes that no relocation writes
 

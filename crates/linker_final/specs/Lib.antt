@@ -21,7 +21,6 @@ pub mod Ppc64VectorsExecuted
 pub mod Relaxed
 pub mod RiscVExecuted
 pub mod RiscVFinal
-pub mod RiscVJoined
 pub mod RiscVNear
 pub mod RiscVPacked
 pub mod RiscVSection

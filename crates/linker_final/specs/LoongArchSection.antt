@@ -57,11 +57,11 @@ pub record Rewrites (l : Linked) : Type 0 where
 
 -- ---- their laws
 
--- Which relocation is left: none; one of a name; or no law says.
+-- Which relocation is left: none, or one of a name. What has no law leaves any.
 pub data Left : Type 0 where
   none : Left
   applied : LoongArch64Relocation → Left
-  any : Left
+  without_law : Left
 
 -- Bytes of old and of new are a group, with the operands of both.
 pub record Law : Type 1 where
@@ -116,8 +116,8 @@ law_of names.R_LARCH_TLS_DESC_CALL kind = gone CallOfDescriptor
 law_of names.R_LARCH_TLS_LE_HI20_R kind = gone HighPartGoes
 law_of names.R_LARCH_TLS_LE_ADD_R kind = gone SumGoes
 law_of names.R_LARCH_TLS_LE_LO12_R kind = law names.R_LARCH_TLS_LE_LO12_R LowPart
--- a part of a load has none
-law_of name kind = record { left = any; IsGroup = λ before after x y. ⊤ }
+-- A part of a load that stands apart has no law.
+law_of name kind = record { left = without_law; IsGroup = λ before after x y. ⊥ }
 
 abbrev pub law_at : (l : Linked) → Rewrites l → Law
 law_at l g = law_of g.name g.chosen.kind
@@ -149,11 +149,12 @@ pub record AreOf (name : LoongArch64Relocation) (addresses : Addresses) (symbols
   pub are : IsSomeAnd (loongarch_row name)
       (λ row. y ≡ operands_with LoongArch64 addresses row symbol r (entry_by name symbol))
 
--- Bytes are those that a rewrite leaves, with the relocation applied that is left.
+-- Bytes are those that a rewrite leaves, with the relocation applied that is left. None are of what
+-- has no law.
 abbrev pub IsMade : Left → Operands → List ℕ → List ℕ → Type 0
 IsMade none y rewritten after = after ≡ rewritten
 IsMade (applied name) y rewritten after = IsRelocated name y rewritten after
-IsMade any y rewritten after = ⊤
+IsMade without_law y rewritten after = ⊥
 
 -- The operands are those of the relocation in the section's final layout. Where none is left, no
 -- other one has a field there.
@@ -161,7 +162,7 @@ abbrev pub IsFinal : Left → Linked → ℕ → Operands → Type 0
 IsFinal none l i y = IsWrittenByNoOther l i (offset_of l i)
 IsFinal (applied name) l i y =
     AreOf name l.addresses l.symbols (relocation_in l.relocations_after i) y
-IsFinal any l i y = ⊤
+IsFinal without_law l i y = ⊥
 
 -- The same in the section that is packed, where the instruction stays.
 abbrev pub IsKept : Left → Linked → Packed → ℕ → Operands → Type 0
@@ -170,7 +171,7 @@ IsKept none l p i y =
 IsKept (applied name) l p i y =
     IsKeptInstruction p i
     × AreOf name p.addresses p.symbols (relocation_in p.relocations_after i) y
-IsKept any l p i y = ⊤
+IsKept without_law l p i y = ⊥
 
 -- New has what a rewrite left of the instruction of the relocation at an index, wherever that goes.
 -- Or it has the section's final bytes, or those of the section that is packed after its phases,
@@ -256,7 +257,7 @@ IsLeft none l i =
     ≡ named_as names.R_LARCH_NONE (relocation_in l.relocations i)
 IsLeft (applied name) l i =
     relocation_in l.relocations_after i ≡ named_as name (relocation_in l.relocations i)
-IsLeft any l i = ⊤
+IsLeft without_law l i = ⊤
 
 abbrev pub RelocationsAreLeft : Type 0
 RelocationsAreLeft =

@@ -1,25 +1,22 @@
 -- RISC-V: rewritten instructions are groups of the simulation. Old has the object's, with the
--- values of their relocations, and new the final bytes of a section (RISC-V ELF psABI, "PC-Relative
--- Symbol Addresses", "Local-Exec TLS Relaxation", "TLS Descriptors -> Local Exec Relaxation").
-use Rattle.std.specs.Prelude.{◌≡◌, ◌≢◌, ℕ, ◌+◌, ◌<◌, ◌^◌, List}
+-- values of their relocations, and new what became of them (RISC-V ELF psABI, "PC-Relative Symbol
+-- Addresses", "Local-Exec TLS Relaxation", "TLS Descriptors -> Local Exec Relaxation").
+use Rattle.std.specs.Prelude.{◌≡◌, ◌≢◌, ℕ, ◌+◌, ◌*◌, ◌<◌, ◌^◌, List}
 use Rattle.std.specs.Prelude.{Some, IsSomeAnd, slice_get, true}
+use Rattle.linker_elf.specs.Elf.{IsWithin, bit_bounds}
 use Rattle.linker_elf.specs.ElfNames.{IsNameOf, code_of}
 use Rattle.linker_elf.specs.RiscVRelocations.{riscv_name, riscv_row}
-use Rattle.linker_elf.specs.Value.{sum_64, difference_64}
+use Rattle.linker_elf.specs.Value.{sum_64}
 use Rattle.linker_elf.specs.declared.elf.RelocationKindInfo.{RelocationKindInfo}
+use Rattle.linker_elf.specs.declared.elf.Sign.TheVariants.{Signed}
 use Rattle.linker_elf.specs.declared.elf.choice.Choice.{Choice}
 use Rattle.linker_elf.specs.declared.elf.value.Operands.{Operands}
 use Rattle.linker_elf.specs.declared.riscv64.relocations.RiscVRelocation.{RiscVRelocation}
 use Rattle.linker_elf.specs.declared.riscv64.relocations.RiscVRelocation.TheVariants as names
-use Rattle.linker_final.specs.Final.{IsWrittenByNoOther}
-use Rattle.linker_final.specs.Final.{instruction_at}
-use Rattle.linker_final.specs.Final.{AreRewritten, UntouchedInstruction}
-use Rattle.linker_final.specs.Final.{Linked, IsLinked}
-use Rattle.linker_final.specs.Final.{count}
+use Rattle.linker_final.specs.Final.{AreRewritten, Linked, count, instruction_at}
 use Rattle.linker_laws.specs.Machine.{loaded}
 use Rattle.linker_laws.specs.RiscVMachine.{Action, register, rs1_of}
-use Rattle.linker_laws.specs.RiscVRewriteLaws.{HaveOneOffset, HaveOneTarget}
-use Rattle.linker_laws.specs.RiscVRewriteLaws.{IsLow12, IsLowOffset}
+use Rattle.linker_laws.specs.RiscVRewriteLaws.{HaveOneOffset, HaveOneTarget, IsLowOffset}
 use Rattle.linker_laws.specs.RiscVRewriteLaws.{of_entry, offset_row, word_of}
 use Rattle.linker_laws.specs.RiscVGroups.{AreBefore, AreDeleted, AreNops, Code, Descriptor, Has}
 use Rattle.linker_laws.specs.RiscVGroups.{LeavesAddress, LoadFromGot, Stands}
@@ -63,64 +60,40 @@ pub record AreOfPair (l : Linked) (i j : ℕ) : Type 0 where
   pub low_decided : decision_at l.decisions j ≡ Rewritten low_chosen
   pub low_becomes : low_chosen.relocation ≡ code_of (riscv_name names.R_RISCV_PCREL_LO12_I)
 
--- The symbol of the second labels the `auipc`.
-pub record AreOfLoad (l : Linked) (i j : ℕ) : Type 0 where
-  pub pair : AreOfPair l i j
-  pub label : Symbol
-  pub label_is : slice_get l.symbols (relocation_in l.relocations j).symbol ≡ Some label
-  pub labels : difference_64 label.address l.addresses.section
-      ≡ (relocation_in l.relocations i).offset
-
 -- The pair is a group, with what new has. The entry holds S + A, and both addresses are of a kind.
--- The `ld` is over the register of the `auipc`, which isn't x0.
-abbrev pub LoadIsAlike : List ℕ → List ℕ → (Code → Type 0) → Operands → Operands → Type 0
-LoadIsAlike auipc ld NewHas x y =
+abbrev pub LoadIsAlike : Linked → ℕ → (Operands → Code → Type 0) → Type 0
+LoadIsAlike l i NewHas =
+    let o = (relocation_in l.relocations i).offset in
+    let auipc = instruction_at l.section o in
+    let ld = instruction_at l.section (o + 4) in
     let base = rd_of (word_of auipc) in
     let rd = rd_of (word_of ld) in
     rs1_of (word_of ld) ≡ base → base ≢ 0
-    → (c : Code) (k : Kinds) (kind : Kind) (s : State) → AreAddresses x → AreAddresses y
-    → AreBefore c 8 8 x y s → loaded 8 s.memory (entry_and_addend x) ≡ symbol_address x
+    → (c : Code) (x y : Operands) (k : Kinds) (kind : Kind) (s : State)
+    → AreAddresses x → AreAddresses y → AreBefore c 8 8 x y s → loaded 8 s.memory (entry_and_addend x) ≡ symbol_address x
     → AreOf (link c) 8 kind (symbol_address x) (symbol_address y)
     → (old : Has 4 c.old x.place (riscv_row names.R_RISCV_GOT_HI20) x auipc)
     → Has 4 c.old (sum_64 x.place 4) (riscv_row names.R_RISCV_PCREL_LO12_I) (of_entry x) ld
-    → NewHas c
+    → NewHas y c
     → Group (of_link (link c)) 2 k s (with_register rd kind (with_register base anything k))
     (put rd (symbol_address x) (sum_64 x.place 8)
     (put base (upper_from x.place old.relocated) (sum_64 x.place 4) s))
-
--- New has the final bytes.
-abbrev pub LoadsTheSame : Linked → ℕ → RelocationKindInfo → Type 0
-LoadsTheSame l i row =
-    let r = relocation_in l.relocations i in
-    let o = r.offset in
-    (symbol : Symbol) → slice_get l.symbols r.symbol ≡ Some symbol → (x : Operands)
-    → let y = operands_with RiscV l.addresses row symbol r 0 in
-    LoadIsAlike (instruction_at l.section o) (instruction_at l.section (o + 4))
-    (λ c. Stands 4 c.new y.place (instruction_at l.final o)
-    × Stands 4 c.new (sum_64 y.place 4) (instruction_at l.final (o + 4))) x y
 
 -- ---- low parts of offsets from the thread pointer
 
 -- An instruction adds the low part of an offset x, a number of 12 bits, to a register with the
 -- thread pointer's number. It is a group, with what new has. What it does with the sum keeps
 -- agreement.
-abbrev pub LowPartIsAlike : Action → List ℕ → (Code → Type 0) → Operands → Operands → Type 0
-LowPartIsAlike action low NewHas x y =
-    (c : Code) (k k' : Kinds) (s : State) → AreBefore c 4 4 x y s → HaveOneOffset x y
-    → IsLowOffset x → register (seen s) (rs1_of (word_of low)) ≡ s.registers tp
-    → k.registers tp ≡ same → Has 4 c.old x.place (offset_row action) x low → NewHas c
+abbrev pub LowPartIsAlike : Linked → ℕ → (Operands → Code → Type 0) → Action → Type 0
+LowPartIsAlike l i NewHas action =
+    let low = instruction_at l.section (relocation_in l.relocations i).offset in
+    (c : Code) (x y : Operands) (k k' : Kinds) (s : State) → AreBefore c 4 4 x y s
+    → HaveOneOffset x y → IsLowOffset x
+    → register (seen s) (rs1_of (word_of low)) ≡ s.registers tp → k.registers tp ≡ same
+    → Has 4 c.old x.place (offset_row action) x low → NewHas y c
     → let after = uses action (word_of low) (sum_64 (s.registers tp) (thread_offset x)) in
     ((t : State) → Agree (link c) k s t → Agree (link c) k' (after s) (after t))
     → Group (of_link (link c)) 1 k s k' (after s)
-
--- New has the final bytes.
-abbrev pub LowPartDoesTheSame : Linked → ℕ → Action → RelocationKindInfo → Type 0
-LowPartDoesTheSame l i action row =
-    let r = relocation_in l.relocations i in
-    (symbol : Symbol) → slice_get l.symbols r.symbol ≡ Some symbol → (x : Operands)
-    → let y = operands_with RiscV l.addresses row symbol r 0 in
-    LowPartIsAlike action (instruction_at l.section r.offset)
-    (λ c. Stands 4 c.new y.place (instruction_at l.final r.offset)) x y
 
 -- In the context by which rewrites were chosen, the offset of a thread-local symbol is a number of
 -- 12 bits.
@@ -174,33 +147,24 @@ pub record IsOfDescriptor (l : Linked) (high : ℕ) (name : RiscVRelocation) (di
   pub decided : decision_at l.decisions n ≡ RewrittenWithSymbol chosen subject
   pub kind_is : chosen.kind ≡ relaxations.RiscV kind
 
--- The object's sequence, whose high part is at an offset, is a group. New has n nops where the
--- first instructions were, and then m others from an address on.
-abbrev pub OffsetIsAlike : Linked → ℕ → ℕ → (Code → ℕ → Type 0) → Operands → Operands → Type 0
-OffsetIsAlike l o m NewHas x y =
-    (c : Code) (n at : ℕ) (k k' : Kinds) (s s' : State)
+-- The object's sequence, whose high part is at an index, is a group. New has n nops where the first
+-- instructions were, and then m others from an address on. What is said of the operands holds.
+abbrev pub OffsetIsAlike : Linked → ℕ → ℕ → (Operands → Type 0) → (Operands → Code → ℕ → Type 0)
+    → Type 0
+OffsetIsAlike l high m Said NewHas =
+    let o = (relocation_in l.relocations high).offset in
+    (c : Code) (n at : ℕ) (x y : Operands) (k k' : Kinds) (s s' : State)
     → Descriptor c x (thread_offset x) k s k' s' (instruction_at l.section o)
     (instruction_at l.section (o + 4)) (instruction_at l.section (o + 8))
     (instruction_at l.section (o + 12))
-    → HaveOneOffset x y → AreNops c n m x at → NewHas c at
+    → HaveOneOffset x y → Said y → AreNops c n m x at → NewHas y c at
     → Group (of_link (link c)) (n + m) k s k' s'
-
--- New's are some final bytes, by the offset. What is said of the operands holds.
-abbrev pub OffsetIsTheSame : ℕ → (ℕ → Code → ℕ → Type 0) → (Operands → Type 0) → Linked → ℕ
-    → RelocationKindInfo → Type 0
-OffsetIsTheSame m NewHas Said l high row =
-    let r = relocation_in l.relocations high in
-    (symbol : Symbol) → slice_get l.symbols r.symbol ≡ Some symbol → (x : Operands)
-    → let y = operands_with RiscV l.addresses row symbol r 0 in
-    Said y → OffsetIsAlike l r.offset m (NewHas r.offset) x y
 
 -- The bytes of an instruction that became a nop of four bytes are one.
 abbrev pub IsNop : List ℕ → List ℕ → Type 0
 IsNop before nop =
     riscv_matches kinds.ReplaceWithLongNop before 0
     × (nop ≡ after_rewrite kinds.ReplaceWithLongNop before 0)
-
--- ---- wherever the section goes before its values are written
 
 -- what a relocation becomes that gets a name, and the symbol and the addend of another
 abbrev pub named_as : RiscVRelocation → Rela → Rela → Rela
@@ -211,43 +175,6 @@ named_as name r subject =
       symbol = subject.symbol;
       addend = subject.addend;
     }
-
--- New has the rewritten instructions with the values of theirs.
-abbrev pub LoadsTheSameAnywhere : Linked → ℕ → Type 0
-LoadsTheSameAnywhere l i =
-    let o = (relocation_in l.relocations i).offset in
-    (x y : Operands)
-    → LoadIsAlike (instruction_at l.section o) (instruction_at l.section (o + 4))
-    (λ c. Has 4 c.new y.place (riscv_row names.R_RISCV_PCREL_HI20) y (instruction_at l.rewritten o)
-    × Has 4 c.new (sum_64 y.place 4) (riscv_row names.R_RISCV_PCREL_LO12_I) y
-    (instruction_at l.rewritten (o + 4))) x y
-
--- The relocation of a low part stays, and new has the rewritten instruction with its value.
-abbrev pub LowPartDoesTheSameAnywhere : Linked → ℕ → Action → Type 0
-LowPartDoesTheSameAnywhere l i action =
-    let o = (relocation_in l.relocations i).offset in
-    (x y : Operands)
-    → LowPartIsAlike action (instruction_at l.section o)
-    (λ c. Has 4 c.new y.place (offset_row action) y (instruction_at l.rewritten o)) x y
-
--- New has the rewritten `addi` and `jalr` of a descriptor with the values of their relocations, or
--- the `jalr` alone, where the offset is a number of 12 bits.
-abbrev pub OffsetIsTheSameAnywhere : Linked → ℕ → Type 0
-OffsetIsTheSameAnywhere l high =
-    let o = (relocation_in l.relocations high).offset in
-    (x y : Operands) → AreAddresses y
-    → OffsetIsAlike l o 2 (λ c at.
-    Has 4 c.new at (riscv_row names.R_RISCV_TPREL_HI20) y (instruction_at l.rewritten (o + 8))
-    × Has 4 c.new (sum_64 at 4) (riscv_row names.R_RISCV_TPREL_LO12_I) y
-    (instruction_at l.rewritten (o + 12))) x y
-
-abbrev pub ShortOffsetIsTheSameAnywhere : Linked → ℕ → Type 0
-ShortOffsetIsTheSameAnywhere l high =
-    let o = (relocation_in l.relocations high).offset in
-    (x y : Operands) → IsLowOffset y
-    → OffsetIsAlike l o 1 (λ c at.
-    Has 4 c.new at (riscv_row names.R_RISCV_TPREL_LO12_I) y (instruction_at l.rewritten (o + 12)))
-    x y
 
 -- ---- loads of fixed addresses from the GOT
 
@@ -264,62 +191,17 @@ pub record IsAddiOfLoad (l : Linked) (high low : ℕ) : Type 0 where
   pub rewritten : IsOfDescriptor l high names.R_RISCV_PCREL_LO12_I 4 kinds.LdToAddi low
   pub becomes : rewritten.chosen.relocation ≡ code_of (riscv_name names.R_RISCV_LO12_I)
 
--- The object's pair is a group, with what new has, where S + A is the same in both layouts.
-abbrev pub FixedAddressIsAlike : List ℕ → List ℕ → (Code → Type 0) → Operands → Operands → Type 0
-FixedAddressIsAlike auipc ld NewHas x y =
-    (c : Code) (k : Kinds) (s : State) → AreBefore c 8 8 x y s
-    → (load : LoadFromGot c x s auipc ld) → AreAddresses y → HaveOneTarget x y → NewHas c
-    → LeavesAddress 2 c x k s auipc ld load
-
--- New has the final bytes.
-abbrev pub FixedAddressIsTheSame : Linked → ℕ → RelocationKindInfo → Type 0
-FixedAddressIsTheSame l high row =
-    let r = relocation_in l.relocations high in
-    let o = r.offset in
-    (symbol : Symbol) → slice_get l.symbols r.symbol ≡ Some symbol → (x : Operands)
-    → let y = operands_with RiscV l.addresses row symbol r 0 in
-    FixedAddressIsAlike (instruction_at l.section o) (instruction_at l.section (o + 4))
-    (λ c. Stands 4 c.new y.place (instruction_at l.final o)
-    × Stands 4 c.new (sum_64 y.place 4) (instruction_at l.final (o + 4))) x y
-
--- New has the rewritten instructions with the values of theirs.
-abbrev pub FixedAddressIsTheSameAnywhere : Linked → ℕ → Type 0
-FixedAddressIsTheSameAnywhere l high =
-    let o = (relocation_in l.relocations high).offset in
-    (x y : Operands)
-    → FixedAddressIsAlike (instruction_at l.section o) (instruction_at l.section (o + 4))
-    (λ c. Has 4 c.new y.place (riscv_row names.R_RISCV_HI20) y (instruction_at l.rewritten o)
-    × Has 4 c.new (sum_64 y.place 4) (riscv_row names.R_RISCV_LO12_I) y
-    (instruction_at l.rewritten (o + 4))) x y
-
--- The `auipc` is deleted, and the `ld` became an `addi` of a number of 12 bits.
-abbrev pub LowAddressIsAlike : Linked → ℕ → (Code → Type 0) → Operands → Operands → Type 0
-LowAddressIsAlike l high NewHas x y =
+-- The object's pair is a group, in whose place new has n instructions, where S + A is the same in
+-- both layouts, and what is said of the operands holds.
+abbrev pub AddressIsAlike : Linked → ℕ → ℕ → (Operands → Type 0) → (Operands → Code → Type 0)
+    → Type 0
+AddressIsAlike l high n Said NewHas =
     let o = (relocation_in l.relocations high).offset in
     let auipc = instruction_at l.section o in
     let ld = instruction_at l.section (o + 4) in
-    (c : Code) (k : Kinds) (s : State) → AreBefore c 8 4 x y s
-    → (load : LoadFromGot c x s auipc ld) → HaveOneTarget x y → IsLow12 y → NewHas c
-    → LeavesAddress 1 c x k s auipc ld load
-
--- ---- the laws
-
--- of every instruction of a descriptor that became a nop, which later phases leave alone, where no
--- other relocation has a field in it
-abbrev pub NopsOf : RiscVRelocation → Type 0
-NopsOf name =
-    (l : Linked) → IsLinked l → l.context.architecture ≡ RiscV
-    → (i : ℕ) (chosen : Choice Relaxation ℕ) (subject : Subject) → i < count l
-    → IsNameOf riscv_name (relocation_in l.relocations i).code name
-    → decision_at l.decisions i ≡ RewrittenWithSymbol chosen subject
-    → chosen.kind ≡ relaxations.RiscV kinds.ReplaceWithLongNop → UntouchedInstruction l i
-    → let o = (relocation_in l.relocations i).offset in
-    IsWrittenByNoOther l i o → IsNop (instruction_at l.section o) (instruction_at l.final o)
-
-abbrev pub Nops : Type 0
-Nops =
-    NopsOf names.R_RISCV_TLSDESC_HI20 × NopsOf names.R_RISCV_TLSDESC_LOAD_LO12
-    × NopsOf names.R_RISCV_TLSDESC_ADD_LO12
+    (c : Code) (x y : Operands) (k : Kinds) (s : State) → AreBefore c 8 (4 * n) x y s
+    → (load : LoadFromGot c x s auipc ld) → HaveOneTarget x y → Said y → NewHas y c
+    → LeavesAddress n c x k s auipc ld load
 
 -- ---- of what is left by the call that rewrites
 
@@ -336,3 +218,19 @@ abbrev pub OffsetsAreLow : Type 0
 OffsetsAreLow =
     OffsetsAreLowOf names.R_RISCV_TPREL_HI20 × OffsetsAreLowOf names.R_RISCV_TPREL_LO12_I
     × OffsetsAreLowOf names.R_RISCV_TPREL_LO12_S
+
+-- No instruction of a TLS descriptor becomes one of initial-exec, whose entry of the GOT is out of
+-- reach when rewrites are chosen. Its addend is a number of 63 bits.
+abbrev pub IsNotRewrittenBy : RiscVRelocation → RewriteKind → Type 0
+IsNotRewrittenBy name kind =
+    (l : Linked) → AreRewritten l → l.context.architecture ≡ RiscV
+    → (i : ℕ) (chosen : Choice Relaxation ℕ) (subject : Subject) → i < count l
+    → IsNameOf riscv_name (relocation_in l.relocations i).code name
+    → decision_at l.decisions i ≡ RewrittenWithSymbol chosen subject
+    → IsWithin (Some (bit_bounds 63 Signed)) subject.addend
+    → chosen.kind ≢ relaxations.RiscV kind
+
+abbrev pub NoneIsInitialExec : Type 0
+NoneIsInitialExec =
+    IsNotRewrittenBy names.R_RISCV_TLSDESC_ADD_LO12 kinds.AddiToAuipc
+    × IsNotRewrittenBy names.R_RISCV_TLSDESC_CALL kinds.CallToLd

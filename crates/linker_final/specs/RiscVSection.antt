@@ -1,43 +1,44 @@
 -- RISC-V: what the rewrites of a section are, and where they begin in a run of old.
-use Rattle.std.specs.Prelude.{◌≡◌, ◌≢◌, ℕ, ◌+◌, ◌<◌, IsSomeAnd, Some, slice_get}
+use Rattle.std.specs.Prelude.{◌≡◌, ◌≢◌, ℕ, ◌+◌, ◌<◌, IsSomeAnd, List, Option, Some, slice_get}
 use Rattle.linker_elf.specs.ElfNames.{IsNameOf}
 use Rattle.linker_elf.specs.RiscVRelocations.{riscv_name, riscv_row}
-use Rattle.linker_elf.specs.Value.{sum_64}
+use Rattle.linker_elf.specs.Value.{difference_64, sum_64, value_of}
+use Rattle.linker_elf.specs.declared.elf.RelocationKindInfo.{RelocationKindInfo}
 use Rattle.linker_elf.specs.declared.elf.architecture.Architecture.TheVariants.{RiscV}
 use Rattle.linker_elf.specs.declared.elf.choice.Choice.{Choice}
 use Rattle.linker_elf.specs.declared.elf.value.Operands.{Operands}
 use Rattle.linker_elf.specs.declared.riscv64.relocations.RiscVRelocation.{RiscVRelocation}
 use Rattle.linker_elf.specs.declared.riscv64.relocations.RiscVRelocation.TheVariants as names
-use Rattle.linker_final.specs.Final.{AreRewritten, IsLinked, IsRewrittenByNoOther, Linked, count}
-use Rattle.linker_final.specs.Final.{UntouchedInstruction, UntouchedInstructions, instruction_at}
+use Rattle.linker_final.specs.Final.{AreRewritten, IsLinked, IsRewrittenByNoOther}
+use Rattle.linker_final.specs.Final.{IsWrittenByNoOther, Linked, UntouchedInstruction, count}
+use Rattle.linker_final.specs.Final.{instruction_at}
 use Rattle.linker_final.specs.Joined.{IsKeptInstruction, IsRewrittenAndPacked, final_instruction}
-use Rattle.linker_final.specs.Packed.{Packed}
-use Rattle.linker_final.specs.RiscVFinal.{AreOfLoad, AreOfPair, FixedAddressIsTheSame}
-use Rattle.linker_final.specs.RiscVFinal.{FixedAddressIsTheSameAnywhere, HighPartGoes, IsAddiOfLoad}
-use Rattle.linker_final.specs.RiscVFinal.{IsDeleted, IsLuiOfLoad, IsOfDescriptor, LoadsTheSame}
-use Rattle.linker_final.specs.RiscVFinal.{LoadsTheSameAnywhere, LowPartDoesTheSame}
-use Rattle.linker_final.specs.RiscVFinal.{LowPartDoesTheSameAnywhere, OffsetIsTheSame}
-use Rattle.linker_final.specs.RiscVFinal.{OffsetIsTheSameAnywhere, ShortOffsetIsTheSameAnywhere}
-use Rattle.linker_final.specs.RiscVFinal.{LowAddressIsAlike, SumGoes, named_as}
-use Rattle.linker_final.specs.RiscVJoined.{AreOfFinalLoad, FinalBytesLoadTheSame}
-use Rattle.linker_final.specs.RiscVJoined.{FinalLowPartDoesTheSame, FinalOffsetIsTheSame}
-use Rattle.linker_final.specs.RiscVJoined.{FinalShortOffsetIsTheSame, final_operands}
+use Rattle.linker_final.specs.Packed.{IsUnwritten, Packed, StayTogether, place_of}
+use Rattle.linker_final.specs.RiscVFinal.{AddressIsAlike, AreOfPair, HighPartGoes, IsAddiOfLoad}
+use Rattle.linker_final.specs.RiscVFinal.{IsDeleted, IsLuiOfLoad, IsNop, IsOfDescriptor}
+use Rattle.linker_final.specs.RiscVFinal.{LoadIsAlike, LowPartIsAlike, OffsetIsAlike, SumGoes}
+use Rattle.linker_final.specs.RiscVFinal.{named_as}
 use Rattle.linker_final.specs.SectionRuns.{IsBesideAll, Rewriting, Section, offset_of}
 use Rattle.linker_laws.specs.RiscVGroups.{Code, Has, Stands, link}
 use Rattle.linker_laws.specs.RiscVMachine.{Action}
-use Rattle.linker_laws.specs.RiscVRewriteLaws.{IsLowOffset, action_at, offset_row}
+use Rattle.linker_laws.specs.RiscVRewriteLaws.{IsLow12, IsLowOffset, action_at, offset_row}
 use Rattle.linker_laws.specs.Schemes.{AreAddresses}
 use Rattle.linker_laws.specs.Simulation.{Group, Kinds, State, of_link}
 use Rattle.linker_rewriting.specs.Decisions.{decision_at}
 use Rattle.linker_rewriting.specs.Groups.{riscv_scope_in}
 use Rattle.linker_rewriting.specs.declared.decisions.Decision.{Decision}
 use Rattle.linker_rewriting.specs.declared.decisions.Decision.TheVariants.{Kept, Rewritten}
+use Rattle.linker_rewriting.specs.declared.decisions.Decision.TheVariants.{RewrittenWithSymbol}
+use Rattle.linker_rewriting.specs.declared.decisions.Subject.{Subject}
 use Rattle.linker_rewriting.specs.declared.groups.Scope.{Scope}
 use Rattle.linker_rewriting.specs.declared.groups.Scope.TheVariants.{Grouped, NotRelaxable}
 use Rattle.linker_runs.specs.declared.packing.Machine.TheVariants.{RiscV64}
 use Rattle.linker_section.specs.Relocations.{relocation_in}
+use Rattle.linker_section.specs.Values.{operands_with}
+use Rattle.linker_section.specs.declared.facts.Addresses.{Addresses}
 use Rattle.linker_section.specs.declared.facts.Symbol.{Symbol}
 use Rattle.linker_utils.specs.declared.architecture.Relaxation.{Relaxation}
+use Rattle.linker_utils.specs.declared.architecture.Relaxation.TheVariants as relaxations
 use Rattle.linker_utils.specs.declared.riscv64.rewrites.RewriteKind.TheVariants as kinds
 
 -- ---- what is rewritten
@@ -111,7 +112,7 @@ RelocationsAreLeft =
     (l : Linked) → AreRewritten l → l.context.architecture ≡ RiscV → (i : ℕ) (g : Lawful l i)
     → Leaves l i g
 
--- ---- their laws
+-- ---- what new has
 
 -- New has what became of them with the values of their relocations, wherever that is. Or it has the
 -- section's final bytes, or those of the section once it is packed.
@@ -120,78 +121,103 @@ pub data New (l : Linked) : Type 0 where
   final : IsLinked l → New l
   packed : (p : Packed) → IsRewrittenAndPacked l p → p.machine ≡ RiscV64 → New l
 
--- Later phases leave them alone, and packing keeps them.
-abbrev pub load_law : (l : Linked) → ℕ → ℕ → New l → Type 0
-load_law l i j anywhere = LoadsTheSameAnywhere l i
-load_law l i j (final linked) =
-    AreOfLoad l i j → UntouchedInstructions l i j
-    → IsSomeAnd (riscv_row names.R_RISCV_PCREL_HI20) (LoadsTheSame l i)
-load_law l i j (packed p joined riscv) =
-    AreOfFinalLoad l p i j → UntouchedInstructions l i j
-    → IsSomeAnd (riscv_row names.R_RISCV_PCREL_HI20) (FinalBytesLoadTheSame l p i)
+-- What the rewrite left of the instruction of the relocation at an index stands at an address, with
+-- the value of operands in a relocation with a row. In the final bytes the relocation is said to
+-- have that value by what values are made of. Later phases leave it alone, and packing keeps it.
+abbrev pub HasPart : (l : Linked) → New l → Option RelocationKindInfo → ℕ
+    → (Addresses → List Symbol → List ℕ → Type 0) → Operands → (ℕ → ℕ) → ℕ → Type 0
+HasPart l anywhere row n IsSaid y code at =
+    Has 4 code at row y (instruction_at l.rewritten (offset_of l n))
+HasPart l (final linked) row n IsSaid y code at =
+    UntouchedInstruction l n × IsSaid l.addresses l.symbols l.relocations_last
+    × Stands 4 code at (instruction_at l.final (offset_of l n))
+HasPart l (packed p joined riscv) row n IsSaid y code at =
+    IsKeptInstruction p n × UntouchedInstruction l n
+    × IsSaid p.addresses p.symbols p.relocations_after
+    × Stands 4 code at (final_instruction p (offset_of l n))
 
-abbrev pub fixed_law : (l : Linked) → ℕ → ℕ → New l → Type 0
-fixed_law l i j (final linked) =
-    UntouchedInstructions l i j
-    → IsSomeAnd (riscv_row names.R_RISCV_LO12_I) (FixedAddressIsTheSame l i)
-fixed_law l i j new = FixedAddressIsTheSameAnywhere l i
+-- The relocation has the row of a name, and the value is that of its symbol.
+abbrev pub HasValue : RiscVRelocation → Option RelocationKindInfo → ℕ → Operands → Addresses
+    → List Symbol → List ℕ → Type 0
+HasValue name row n y addresses symbols relocations =
+    let r = relocation_in relocations n in
+    (symbol : Symbol) × (slice_get symbols r.symbol ≡ Some symbol) × (row ≡ riscv_row name)
+    × IsSomeAnd row (λ row.
+    value_of row y ≡ value_of row (operands_with RiscV addresses row symbol r 0))
 
-abbrev pub low_address_law : (l : Linked) → ℕ → ℕ → New l → Type 0
-low_address_law l i j (packed p joined riscv) =
-    IsKeptInstruction p j → UntouchedInstruction l j
-    → IsSomeAnd (riscv_row names.R_RISCV_LO12_I) (λ row. (symbol : Symbol)
-    → slice_get p.symbols (relocation_in p.relocations_after j).symbol ≡ Some symbol
-    → (x : Operands) → let y = final_operands p j row symbol in
-    LowAddressIsAlike l i (λ c. Stands 4 c.new y.place (final_instruction p (offset_of l i + 4))) x
-    y)
-low_address_law l i j new =
-    (x y : Operands)
-    → LowAddressIsAlike l i (λ c. Has 4 c.new y.place (riscv_row names.R_RISCV_LO12_I) y
-    (instruction_at l.rewritten (offset_of l i + 4))) x y
+abbrev pub HasOwn : (l : Linked) → New l → RiscVRelocation → Option RelocationKindInfo → ℕ
+    → Operands → (ℕ → ℕ) → ℕ → Type 0
+HasOwn l new name row n y = HasPart l new row n (HasValue name row n y) y
 
-abbrev pub descriptor_law : (l : Linked) → ℕ → ℕ → ℕ → New l → Type 0
-descriptor_law l i add call anywhere = OffsetIsTheSameAnywhere l i
-descriptor_law l i add call (final linked) =
-    UntouchedInstructions l add call
-    → IsSomeAnd (riscv_row names.R_RISCV_TPREL_LO12_I) (OffsetIsTheSame 2
-    (λ o c at. Stands 4 c.new at (instruction_at l.final (o + 8))
-    × Stands 4 c.new (sum_64 at 4) (instruction_at l.final (o + 12))) AreAddresses l i)
-descriptor_law l i add call (packed p joined riscv) =
-    IsKeptInstruction p add → IsKeptInstruction p call → UntouchedInstructions l add call
-    → IsSomeAnd (riscv_row names.R_RISCV_TPREL_LO12_I) (FinalOffsetIsTheSame l p i call)
+abbrev pub HasNamed : (l : Linked) → New l → RiscVRelocation → ℕ → Operands → (ℕ → ℕ) → ℕ → Type 0
+HasNamed l new name = HasOwn l new name (riscv_row name)
 
-abbrev pub short_law : (l : Linked) → ℕ → ℕ → New l → Type 0
-short_law l i call anywhere = ShortOffsetIsTheSameAnywhere l i
-short_law l i call (final linked) =
-    UntouchedInstruction l call
-    → IsSomeAnd (riscv_row names.R_RISCV_TPREL_LO12_I) (OffsetIsTheSame 1
-    (λ o c at. Stands 4 c.new at (instruction_at l.final (o + 12))) IsLowOffset l i)
-short_law l i call (packed p joined riscv) =
-    IsKeptInstruction p call → UntouchedInstruction l call
-    → IsSomeAnd (riscv_row names.R_RISCV_TPREL_LO12_I) (FinalShortOffsetIsTheSame l p i call)
+-- Its symbol labels the relocation at another index, whose value it has.
+abbrev pub HasLow : (l : Linked) → New l → ℕ → ℕ → Operands → (ℕ → ℕ) → ℕ → Type 0
+HasLow l new i j =
+    HasPart l new (riscv_row names.R_RISCV_PCREL_LO12_I) j (λ addresses symbols relocations.
+    (label : Symbol) × (slice_get symbols (relocation_in relocations j).symbol ≡ Some label)
+    × (difference_64 label.address addresses.section ≡ (relocation_in relocations i).offset))
 
--- of an instruction that the relocation of a name is of: a store with that of stores
+-- ---- their laws
+
+-- of a low part: a store with the relocation of stores
 abbrev pub low_law : RiscVRelocation → (l : Linked) → ℕ → New l → Action → Type 0
-low_law name l i anywhere action = LowPartDoesTheSameAnywhere l i action
-low_law name l i (final linked) action =
-    UntouchedInstruction l i → offset_row action ≡ riscv_row name
-    → IsSomeAnd (riscv_row name) (LowPartDoesTheSame l i action)
-low_law name l i (packed p joined riscv) action =
-    IsKeptInstruction p i → UntouchedInstruction l i → offset_row action ≡ riscv_row name
-    → IsSomeAnd (riscv_row name) (FinalLowPartDoesTheSame l p i action)
+low_law name l i new action =
+    LowPartIsAlike l i (λ y c. HasOwn l new name (offset_row action) i y c.new y.place) action
 
 abbrev pub law : (l : Linked) (i : ℕ) → Lawful l i → New l → Type 0
-law l i (load j of alone) new = load_law l i j new
-law l i (fixed j high low) new = fixed_law l i j new
-law l i (low_address j high low) new = low_address_law l i j new
-law l i (descriptor add call of_add of_call) new = descriptor_law l i add call new
-law l i (short_descriptor call of) new = short_law l i call new
+law l i (load j of alone) new =
+    LoadIsAlike l i (λ y c. HasNamed l new names.R_RISCV_PCREL_HI20 i y c.new y.place
+    × HasLow l new i j y c.new (sum_64 y.place 4))
+law l i (fixed j high low) new =
+    AddressIsAlike l i 2 AreAddresses (λ y c. HasNamed l new names.R_RISCV_HI20 i y c.new y.place
+    × HasNamed l new names.R_RISCV_LO12_I j y c.new (sum_64 y.place 4))
+law l i (low_address j high low) new =
+    AddressIsAlike l i 1 IsLow12 (λ y c.
+    HasNamed l new names.R_RISCV_LO12_I j y c.new y.place)
+law l i (descriptor add call of_add of_call) new =
+    OffsetIsAlike l i 2 AreAddresses (λ y c at.
+    HasNamed l new names.R_RISCV_TPREL_HI20 add y c.new at
+    × HasNamed l new names.R_RISCV_TPREL_LO12_I call y c.new (sum_64 at 4))
+law l i (short_descriptor call of) new =
+    OffsetIsAlike l i 1 IsLowOffset (λ y c at.
+    HasNamed l new names.R_RISCV_TPREL_LO12_I call y c.new at)
 law l i (low_part of) new =
     IsSomeAnd (action_at l.section (offset_of l i)) (low_law names.R_RISCV_TPREL_LO12_I l i new)
 law l i (low_store of) new =
     IsSomeAnd (action_at l.section (offset_of l i)) (low_law names.R_RISCV_TPREL_LO12_S l i new)
 law l i (high_part of) new = HighPartGoes l i
 law l i (sum of) new = SumGoes l i
+
+-- ---- nops
+
+-- The bytes of an instruction that became a nop of four bytes are one. No other relocation has a
+-- field in the final ones.
+abbrev pub BecomesNop : (l : Linked) → New l → ℕ → Type 0
+BecomesNop l anywhere i =
+    IsNop (instruction_at l.section (offset_of l i)) (instruction_at l.rewritten (offset_of l i))
+BecomesNop l (final linked) i =
+    UntouchedInstruction l i → IsWrittenByNoOther l i (offset_of l i)
+    → IsNop (instruction_at l.section (offset_of l i)) (instruction_at l.final (offset_of l i))
+BecomesNop l (packed p joined riscv) i =
+    UntouchedInstruction l i → StayTogether p (offset_of l i) 4
+    → IsUnwritten p (place_of p (offset_of l i)) 4
+    → IsNop (instruction_at l.section (offset_of l i)) (final_instruction p (offset_of l i))
+
+-- of every instruction of a descriptor that became one
+abbrev pub NopsOf : RiscVRelocation → Type 0
+NopsOf name =
+    (l : Linked) → AreRewritten l → l.context.architecture ≡ RiscV → (new : New l)
+    (i : ℕ) (chosen : Choice Relaxation ℕ) (subject : Subject) → i < count l
+    → IsNameOf riscv_name (relocation_in l.relocations i).code name
+    → decision_at l.decisions i ≡ RewrittenWithSymbol chosen subject
+    → chosen.kind ≡ relaxations.RiscV kinds.ReplaceWithLongNop → BecomesNop l new i
+
+abbrev pub Nops : Type 0
+Nops =
+    NopsOf names.R_RISCV_TLSDESC_HI20 × NopsOf names.R_RISCV_TLSDESC_LOAD_LO12
+    × NopsOf names.R_RISCV_TLSDESC_ADD_LO12
 
 -- ---- where old comes to it
 

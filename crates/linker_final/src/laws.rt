@@ -8,7 +8,6 @@ ghost use Rattle.linker_final.specs.Final as final_bytes;
 ghost use Rattle.linker_final.specs.LoongArchSection as loongarch64_section;
 ghost use Rattle.linker_final.specs.Ppc64Section as ppc64_section;
 ghost use Rattle.linker_final.specs.RiscVFinal as riscv64_final;
-ghost use Rattle.linker_final.specs.RiscVJoined as riscv64_joined;
 ghost use Rattle.linker_final.specs.RiscVNear as riscv64_near;
 ghost use Rattle.linker_final.specs.RiscVSection as riscv64_section;
 ghost use Rattle.linker_final.specs.SectionRuns as section_runs;
@@ -71,20 +70,21 @@ pub fn aarch64_sections()
 /// load from the GOT or of a TLS descriptor. Those with a law are each load of an address that
 /// became a sum of the place and the distance, or `lui` and `addi` of the address, or `addi` alone,
 /// each low part of an offset that is over the thread pointer, and each sequence of a descriptor
-/// that became one of local-exec. The high part and the sum of such an offset are deleted: new has
-/// nothing of them. The offset had 12 bits when rewrites were chosen.
+/// that became one of local-exec. None becomes one of initial-exec, if its addend has 63 bits. The
+/// high part and the sum of such an offset are deleted: new has nothing of them. The offset had 12
+/// bits when rewrites were chosen.
 ///
 /// New is any code that has what became of them with the values of the relocations that are left,
 /// wherever that goes. Or it has the section's final bytes, or those of the section that was packed
-/// after its phases. What became a nop of a descriptor is one in both.
+/// after its phases. What became a nop of a descriptor is one in each.
 pub fn riscv64_sections()
     ensures places { section_runs.EachPlace riscv64_section.rewriting }
     ensures groups { section_runs.RewritesAreGroups riscv64_section.rewriting }
     ensures runs { section_runs.RunsAreFollowed riscv64_section.rewriting }
     ensures relocations { riscv64_section.RelocationsAreLeft }
-    ensures nops { riscv64_final.Nops }
-    ensures packed_nops { riscv64_joined.PackedNops }
+    ensures nops { riscv64_section.Nops }
     ensures offsets_are_low { riscv64_final.OffsetsAreLow }
+    ensures none_is_initial_exec { riscv64_final.NoneIsInitialExec }
 {
     linker_laws::simulation::riscv64();
     linker_laws::simulation::runs();
@@ -110,7 +110,8 @@ pub fn riscv64_global_pointer()
 /// rest, each half of initial-exec that became a half of local-exec, each instruction of a TLS
 /// descriptor that became one of local-exec or of initial-exec, each low part of local-exec over
 /// the thread pointer, and what is deleted before it. A load is a group in the final bytes, and the
-/// others also wherever a linker applies their relocations, and in a section that was packed.
+/// others also wherever a linker applies their relocations, and in a section that was packed. Parts
+/// of a load that stand apart have no law.
 pub fn loongarch64_sections()
     ensures places { section_runs.EachPlace loongarch64_section.rewriting }
     ensures groups { section_runs.RewritesAreGroups loongarch64_section.rewriting }

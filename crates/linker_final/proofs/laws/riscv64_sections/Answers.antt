@@ -1,6 +1,6 @@
-use Rattle.linker_final.proofs.RiscVNops.{nops, packed_nops}
+use Rattle.linker_final.proofs.RiscVNops.{nops}
 use Rattle.linker_final.proofs.RiscVSection.{are_in, relocations_are_left, rewrites_are_groups}
-use Rattle.linker_final.proofs.RiscVTested.{offsets_are_low}
+use Rattle.linker_final.proofs.RiscVTested.{none_is_initial_exec, offsets_are_low}
 use Rattle.linker_final.proofs.SectionRuns.{each_place, runs_are_followed}
 use Rattle.linker_final.proofs.laws.riscv64_sections.Goals as goal
 use Rattle.linker_final.specs.RiscVSection.{rewriting}
@@ -17,6 +17,6 @@ returns c =
       runs = runs_are_followed rewriting groups (λ code. c.runs.ensures.simulates (one (link code)));
       relocations = relocations_are_left laws;
       nops = nops;
-      packed_nops = packed_nops;
       offsets_are_low = offsets_are_low;
+      none_is_initial_exec = none_is_initial_exec;
     }
