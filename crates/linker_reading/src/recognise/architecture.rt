@@ -1,9 +1,10 @@
 //! What a linker made of a relocation, by its architecture and its code.
 
-ghost use Rattle.std.specs.Prelude.{◌≡◌, ◌≤◌, length, map};
-ghost use Rattle.linker_reading.specs.FoundByCode.{by_code, AreFound, IsFoundChosen};
+ghost use Rattle.std.specs.Prelude.{◌≡◌, ◌≤◌, ℕ, length, map};
+ghost use Rattle.linker_reading.specs.FoundByCode.{by_code, AreFound, IsFoundBy, IsFoundChosen};
 ghost use Rattle.linker_reading.specs.Windows.{IsWindowOf};
 ghost use Rattle.linker_elf.specs.Architectures.{of_some};
+ghost use Rattle.linker_elf.specs.ElfNames.{IsNameOf};
 
 use crate::recognise::engine::{self, CANDIDATES, Recognised, RecognisedName};
 use crate::recognise::fields::FieldBits;
@@ -53,6 +54,23 @@ fn all_by_code<N: RecognisedName>(
         }
     }
     by_code
+}
+
+/// The choice that `choose` makes for a name, as `recognise_chosen` of this crate says, so.
+#[inline(always)]
+fn chosen_by_code<N: RecognisedName>(
+    name: N,
+    original: &[u8],
+    offset: u64,
+    others: &[FieldBits],
+    linked: &[u8],
+    facts: &LinkFacts,
+) -> Option<Recognised<Relaxation, u32>>
+    requires { length original.now ≤ 64 }
+    ensures { (code : ℕ) → IsNameOf N.how.elf_name code name
+        → IsFoundBy N.how code original.now offset others.now linked.now facts.now result }
+{
+    coded(engine::recognise_chosen(name, original, offset, others, linked, facts))
 }
 
 /// Which rewrites, and relocations after them, a linker may have made at the relocation with a
@@ -106,7 +124,7 @@ pub fn recognise_chosen(
         facts.now result }
 {
     by_architecture!(architecture, found_of(code, name => {
-        coded(engine::recognise_chosen(name, original, offset, others, linked, facts))
+        chosen_by_code(name, original, offset, others, linked, facts)
     }))
 }
 

@@ -47,6 +47,19 @@ fn all_by_code<N: RecognisedName>(
     by_code
 }
 
+/// The choice that `choose` makes for a name, as [`recognise_chosen`](crate::recognise::recognise_chosen()) of this crate says, so.
+#[inline(always)]
+fn chosen_by_code<N: RecognisedName>(
+    name: N,
+    original: &[u8],
+    offset: u64,
+    others: &[FieldBits],
+    linked: &[u8],
+    facts: &LinkFacts,
+) -> Option<Recognised<Relaxation, u32>> {
+    coded(engine::recognise_chosen(name, original, offset, others, linked, facts))
+}
+
 /// `crate::recognise::recognise`, with more parameters.
 ///
 /// ```
@@ -94,7 +107,7 @@ pub fn recognise_chosen(
 ) -> Option<Recognised<Relaxation, u32>> {
     debug_assert!(original.len() <= 64);
     by_architecture!(architecture, found_of(code, name => {
-        coded(engine::recognise_chosen(name, original, offset, others, linked, facts))
+        chosen_by_code(name, original, offset, others, linked, facts)
     }))
 }
 
