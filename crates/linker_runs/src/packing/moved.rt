@@ -1,7 +1,6 @@
 //! The relocations of a packed section.
 
-ghost use Rattle.std.specs.Prelude.{◌≡◌, ◌≢◌, ◌+◌, ◌*◌, ◌/◌, ◌<◌, ◌^◌, ℕ, List, length};
-ghost use Rattle.std.specs.Prelude.{MatchOption, drop};
+ghost use Rattle.std.specs.Prelude.{◌≡◌, ◌+◌, ◌<◌, ◌^◌, ℕ, List, length, MatchOption};
 ghost use Rattle.linker_base.specs.Deltas.{deletions_of};
 ghost use Rattle.linker_base.specs.Inner.Packing.{IsPosition};
 ghost use Rattle.linker_base.specs.Listed.{AreValidDeltas};
@@ -10,15 +9,13 @@ ghost use Rattle.linker_runs.specs.Moved.{BecomesCode, BeginsAt, IsMoved};
 ghost use Rattle.linker_runs.specs.Inner.Packing.{AreReady};
 ghost use Rattle.linker_runs.specs.Packing.{section_of};
 ghost use Rattle.linker_runs.specs.Relaxing.{item_at, AreApart};
-ghost use Rattle.linker_section.specs.Relocations.{relocation_in, relocation_of};
 
 use crate::items::{AsItem, ItemList};
-use crate::packing::{Machine, put_bytes};
+use crate::packing::Machine;
 use crate::relaxation::Item;
 use linker_base::packing::{Position, position_from, position_of};
 use linker_base::relaxation::RelaxDelta;
-use linker_base::rewrite::overwrite;
-use linker_section::relocations::{RELA_LEN, Rela, relocation_at, relocations_len};
+use linker_section::relocations::{RELA_LEN, Rela, relocation_at, relocations_len, set_relocation};
 use linker_utils::loongarch64::LoongArch64Relocation;
 use linker_utils::riscv64::RiscVRelocation;
 
@@ -166,51 +163,6 @@ fn moved<I: AsItem>(
     after
 }
 
-/// The relocation with an index below `relocations_len`.
-#[inline(always)]
-fn relocation_in(relocations: &[u8], index: usize) -> Rela
-    requires { index < length relocations.now / 24 }
-    ensures { result ≡ relocation_in relocations.now index }
-{
-    match relocation_at(relocations, index) {
-        Some(relocation) => relocation,
-        None => Rela {
-            offset: 0,
-            code: 0,
-            symbol: 0,
-            addend: 0,
-        },
-    }
-}
-
-/// Writes a relocation to its 24 bytes.
-#[inline(always)]
-fn write_relocation(entry: &mut [u8], relocation: &Rela)
-    requires { length entry.old ≡ 24 }
-    ensures { relocation_of entry.new ≡ relocation.now }
-{
-    let addend = relocation.addend.cast_unsigned();
-    overwrite(entry, 0, &relocation.offset.to_le_bytes());
-    overwrite(entry, 8, &relocation.code.to_le_bytes());
-    overwrite(entry, 12, &relocation.symbol.to_le_bytes());
-    overwrite(entry, 16, &addend.to_le_bytes());
-}
-
-/// Overwrites the relocation with an index below `relocations_len`. All others stay.
-#[inline(always)]
-fn set_relocation(relocations: &mut [u8], index: usize, relocation: &Rela)
-    requires { index < length relocations.old / 24 }
-    ensures set { relocation_in relocations.new index ≡ relocation.now }
-    ensures others { (n : ℕ) → n < length relocations.old / 24 → n ≢ index
-        → relocation_in relocations.new n ≡ relocation_in relocations.old n }
-    ensures rest { drop (length relocations.old / 24 * 24) relocations.new
-        ≡ drop (length relocations.old / 24 * 24) relocations.old }
-{
-    let mut entry = [0; RELA_LEN];
-    write_relocation(&mut entry, relocation);
-    put_bytes(relocations, (index * RELA_LEN) as u64, &entry);
-}
-
 /// Moves the relocations of a section to where they are once that is packed.
 pub(crate) fn move_relocations<I: AsItem>(
     machine: Machine,
@@ -229,9 +181,12 @@ pub(crate) fn move_relocations<I: AsItem>(
         → AreMoved machine (section_of section.now base (deletions_of deltas.now) start) items.now
         relocations.old relocations.new }
 {
-    for index in 0..relocations_len(relocations) {
-        let relocation = relocation_in(relocations, index);
-        let after = moved(machine, section, base, items, deltas, begin, &relocation);
-        set_relocation(relocations, index, &after);
+    let len = relocations_len(relocations) * RELA_LEN;
+    let whole = &mut relocations[..len];
+    for index in 0..relocations_len(whole) {
+        if let Some(before) = relocation_at(whole, index) {
+            let after = moved(machine, section, base, items, deltas, begin, &before);
+            set_relocation(whole, index, &after);
+        }
     }
 }

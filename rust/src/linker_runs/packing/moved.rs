@@ -3,12 +3,11 @@
 //! The relocations of a packed section.
 
 use crate::linker_runs::items::{AsItem, ItemList};
-use crate::linker_runs::packing::{Machine, put_bytes};
+use crate::linker_runs::packing::Machine;
 use crate::linker_runs::relaxation::Item;
 use crate::linker_base::packing::{Position, position_from, position_of};
 use crate::linker_base::relaxation::RelaxDelta;
-use crate::linker_base::rewrite::overwrite;
-use crate::linker_section::relocations::{RELA_LEN, Rela, relocation_at, relocations_len};
+use crate::linker_section::relocations::{RELA_LEN, Rela, relocation_at, relocations_len, set_relocation};
 #[cfg(feature = "loongarch64")]
 use crate::loongarch64::LoongArch64Relocation;
 #[cfg(feature = "riscv64")]
@@ -135,38 +134,6 @@ fn moved<I: AsItem>(
     after
 }
 
-/// The relocation with an index below `relocations_len`.
-#[inline(always)]
-fn relocation_in(relocations: &[u8], index: usize) -> Rela {
-    match relocation_at(relocations, index) {
-        Some(relocation) => relocation,
-        None => Rela {
-            offset: 0,
-            code: 0,
-            symbol: 0,
-            addend: 0,
-        },
-    }
-}
-
-/// Writes a relocation to its 24 bytes.
-#[inline(always)]
-fn write_relocation(entry: &mut [u8], relocation: &Rela) {
-    let addend = relocation.addend as u64;
-    overwrite(entry, 0, &relocation.offset.to_le_bytes());
-    overwrite(entry, 8, &relocation.code.to_le_bytes());
-    overwrite(entry, 12, &relocation.symbol.to_le_bytes());
-    overwrite(entry, 16, &addend.to_le_bytes());
-}
-
-/// Overwrites the relocation with an index below `relocations_len`. All others stay.
-#[inline(always)]
-fn set_relocation(relocations: &mut [u8], index: usize, relocation: &Rela) {
-    let mut entry = [0; RELA_LEN];
-    write_relocation(&mut entry, relocation);
-    put_bytes(relocations, (index * RELA_LEN) as u64, &entry);
-}
-
 /// Moves the relocations of a section to where they are once that is packed.
 pub(crate) fn move_relocations<I: AsItem>(
     machine: Machine,
@@ -177,9 +144,12 @@ pub(crate) fn move_relocations<I: AsItem>(
     begin: &Position,
     relocations: &mut [u8],
 ) {
-    for index in 0..relocations_len(relocations) {
-        let relocation = relocation_in(relocations, index);
-        let after = moved(machine, section, base, items, deltas, begin, &relocation);
-        set_relocation(relocations, index, &after);
+    let len = relocations_len(relocations) * RELA_LEN;
+    let whole = &mut relocations[..len];
+    for index in 0..relocations_len(whole) {
+        if let Some(before) = relocation_at(whole, index) {
+            let after = moved(machine, section, base, items, deltas, begin, &before);
+            set_relocation(whole, index, &after);
+        }
     }
 }

@@ -1,36 +1,56 @@
-use Rattle.std.proofs.Common.{◌≡◌, ◌*◌, ◌/◌, ◌<◌, ◌∙◌, below_more, drop, length, sym, subst, arith}
+use Rattle.std.proofs.Common.{◌≡◌, ◌*◌, ◌/◌, ◌<◌, ◌++◌, ◌∙◌, ap, below_more, drop, length, sym, subst, take, arith}
+use Rattle.std.proofs.lemmas.List.{drop_at, length-append, length-drop, length-take-le, take-append-drop}
+use Rattle.std.proofs.lemmas.Option.{same_Some}
 use Rattle.linker_base.specs.Deltas.{deletions_of}
 use Rattle.linker_runs.specs.Moved.{IsMoved}
 use Rattle.linker_runs.specs.Packing.{section_of}
+use Rattle.linker_runs.proofs.Moved.{front_in, there_at}
 use Rattle.linker_section.specs.Relocations.{relocation_in}
 use Rattle.linker_section.specs.declared.relocations.Rela.{Rela}
 use Rattle.linker_runs.proofs.packing.moved.move_relocations.Goals as goal
+use Rattle.linker_runs.proofs.packing.moved.move_relocations.Goals.{in-Some, in_default}
 
 pub loop-index-preserved : goal.loop-index-preserved
 loop-index-preserved g c =
     let i = c.loop-index.index in
-    let old = c.loop-index.relocations in
-    let first = c.args.relocations.now in
-    let new = c.set_relocation.new.relocations in
-    let len : length old ≡ length first = c.loop-index.auto.relocations in
-    let low : i < length old / 24 = omega (arith, c.loop-index-test.true, c.relocations_len-index-end.ensures, len) in
-    record {
-      moved = λ valid begun start ready.
-          let s = section_of c.args.section.now c.args.base (deletions_of c.args.deltas.now) start in
-          let Moves : Rela → Rela → Type 0 = IsMoved c.args.machine s c.args.items.now in
-          let here : Moves (relocation_in first i) (relocation_in new i) =
-          subst (λ r. Moves r (relocation_in new i)) (c.relocation_in-relocation.ensures ∙ c.loop-index.invariant.others i (omega arith) (omega (arith, low, len)))
-          (subst (Moves c.relocation_in-relocation.result) (sym c.set_relocation.ensures.set) (c.moved-after.ensures valid begun start ready)) in
-          below_more (λ n. Moves (relocation_in first n) (relocation_in new n)) i
-          (λ n below. subst (Moves (relocation_in first n)) (sym (c.set_relocation.ensures.others n (omega (arith, below, low)) (omega (arith, below)))) (c.loop-index.invariant.moved valid begun start ready n below))
-          here;
-      others = λ n from within. c.set_relocation.ensures.others n (omega (arith, within, len)) (omega (arith, from)) ∙ c.loop-index.invariant.others n (omega (arith, from)) within;
-      rest = subst (λ k. drop (k / 24 * 24) new ≡ drop (k / 24 * 24) old) len c.set_relocation.ensures.rest ∙ c.loop-index.invariant.rest;
-    }
+    let old = c.loop-index.whole in
+    let inv = c.loop-index.invariant in
+    let len = c.loop-index.auto.whole in
+    let low : i < length old / 24 = omega (arith, c.relocations_len-index-end.ensures) in
+    let here = there_at old i low in
+    elim c.match-relocation_at.branch [
+      | in-Some w ↦
+          let set = w.set_relocation.ensures in
+          let new = w.set_relocation.new.relocations in
+          let before : w.in-Some.before ≡ relocation_in old i = same_Some w.in-Some.before (relocation_in old i) (sym w.in-Some.is ∙ c.relocation_at.ensures ∙ here) in
+          rw w.whole-is (record {
+            moved = λ valid begun start ready.
+                let s = section_of c.args.section.now c.args.base (deletions_of c.args.deltas.now) start in
+                let Moves : Rela → Rela → Type 0 = IsMoved c.args.machine s c.args.items.now in
+                let first = take (c.relocations_len-len.result * 24) c.args.relocations.now in
+                below_more (λ n. Moves (relocation_in first n) (relocation_in new n)) i
+                (λ n below. subst (Moves (relocation_in first n)) (sym (set.others n (omega (arith, below, low)) (omega (arith, below)))) (inv.moved valid begun start ready n below))
+                (subst (λ r. Moves r (relocation_in new i)) (before ∙ inv.others i (omega arith) (omega (arith, low, len)))
+                (subst (Moves w.in-Some.before) (sym set.set) (w.moved-after.ensures valid begun start ready)));
+            others = λ n from within. set.others n (omega (arith, within, len)) (omega (arith, from)) ∙ inv.others n (omega (arith, from)) within;
+          })
+      | in_default w ↦ absurd (w.in_default.not-Some (relocation_in old i) (c.relocation_at.ensures ∙ here))
+    ]
 
 pub returns : goal.returns
-returns g c = λ valid begun start ready. record {
-  as_many = c.loop-index.auto.relocations;
-  each = λ i low. c.loop-index.invariant.moved valid begun start ready i (omega (arith, c.loop-index-test.false, c.relocations_len-index-end.ensures, low));
-  rest = c.loop-index.invariant.rest;
-}
+returns g c = λ valid begun start ready.
+    let xs = c.args.relocations.now in
+    let ys = c.loop-index.whole in
+    let w = c.relocations_len-len.result * 24 in
+    let rest = drop w xs in
+    let Moves : Rela → Rela → Type 0 = IsMoved c.args.machine (section_of c.args.section.now c.args.base (deletions_of c.args.deltas.now) start) c.args.items.now in
+    let front : length (take w xs) ≡ w = length-take-le w xs (omega (arith, c.relocations_len-len.ensures)) in
+    let len : length ys ≡ w = c.loop-index.auto.whole ∙ front in
+    record {
+      as_many = omega (arith, length-append ys rest, length-drop w xs, len, c.relocations_len-len.ensures);
+      each = λ i low.
+          subst (Moves (relocation_in xs i)) (sym (front_in ys rest i (omega (arith, low, len, c.relocations_len-len.ensures))))
+          (subst (λ r. Moves r (relocation_in ys i)) (sym (front_in (take w xs) rest i (omega (arith, low, front, c.relocations_len-len.ensures))) ∙ ap (λ l. relocation_in l i) (take-append-drop w xs))
+          (c.loop-index.invariant.moved valid begun start ready i (omega (arith, c.loop-index-test.false, c.relocations_len-index-end.ensures, low, front, c.relocations_len-len.ensures))));
+      rest = subst (λ n. drop n (ys ++ rest) ≡ drop n xs) (ap (λ k. k * 24) c.relocations_len-len.ensures) (drop_at ys rest w len);
+    }

@@ -1,4 +1,4 @@
-use Rattle.std.proofs.Common.{◌≡◌, ℕ, ◌*◌, ◌/◌, ◌<◌, ◌≤◌, length, drop}
+use Rattle.std.proofs.Common.{◌≡◌, ℕ, ◌/◌, ◌<◌, ◌≤◌, length}
 use Rattle.linker_base.specs.Deltas.{deletions_of}
 use Rattle.linker_base.specs.Inner.Packing.{IsPosition}
 use Rattle.linker_base.specs.Listed.{AreValidDeltas}
@@ -13,7 +13,6 @@ abbrev pub invariant-loop-index : goal.invariant-loop-index
 invariant-loop-index g l = record {
   moved : AreValidDeltas l.deltas → IsPosition l.deltas l.begin → (start : ℕ)
       → AreReady l.machine (section_of l.section l.base (deletions_of l.deltas) start) l.items (length l.items) → (n : ℕ) → n < l.index
-      → IsMoved l.machine (section_of l.section l.base (deletions_of l.deltas) start) l.items (relocation_in l.initial.relocations n) (relocation_in l.relocations n);
-  others : (n : ℕ) → l.index ≤ n → n < length l.initial.relocations / 24 → relocation_in l.relocations n ≡ relocation_in l.initial.relocations n;
-  rest : drop (length l.initial.relocations / 24 * 24) l.relocations ≡ drop (length l.initial.relocations / 24 * 24) l.initial.relocations;
+      → IsMoved l.machine (section_of l.section l.base (deletions_of l.deltas) start) l.items (relocation_in l.initial.whole n) (relocation_in l.whole n);
+  others : (n : ℕ) → l.index ≤ n → n < length l.initial.whole / 24 → relocation_in l.whole n ≡ relocation_in l.initial.whole n;
 }
