@@ -1,8 +1,7 @@
 //! LoongArch: what a call and an address become.
 
-ghost use Rattle.std.specs.Prelude.{◌≡◌, ◌+◌, ◌≤◌, ◌<◌, ◌*◌, ◌^◌, ◌++◌, ◌↔◌, ⊤, Some, IsTrue};
+ghost use Rattle.std.specs.Prelude.{◌≡◌, ◌+◌, ◌≤◌, ◌<◌, ◌*◌, ◌^◌, ◌↔◌, ⊤, Some, IsTrue, length};
 ghost use Rattle.std.specs.Prelude.{IfOk, IfErr, OnOk, IfSome, MatchOption, IsSomeAnd};
-ghost use Rattle.std.specs.Prelude.{length, take, drop};
 ghost use Rattle.std.specs.Int.{w32, to_le_bytes};
 ghost use Rattle.linker_elf.specs.LoongArchRelocations.{loongarch_row};
 ghost use Rattle.linker_runs.specs.LoongArchSites.{IsSiteAt, destination};
@@ -119,29 +118,6 @@ fn are_pages_near(row: &Row, place: u64, target: u64) -> bool
     }
 }
 
-/// The four bytes at an offset.
-#[inline(always)]
-fn word_at(section: &[u8], offset: u64) -> [u8; 4]
-    requires { offset + 4 ≤ length section.now }
-    ensures { result ≡ take 4 (drop offset section.now) }
-{
-    let start = offset as usize;
-    let mut word = [0; 4];
-    word.copy_from_slice(&section[start..start + 4]);
-    word
-}
-
-/// Two words, one after the other.
-#[inline(always)]
-fn joined(first: [u8; 4], second: [u8; 4]) -> [u8; 8]
-    ensures { result ≡ first ++ second }
-{
-    let mut pair = [0; 8];
-    pair[..4].copy_from_slice(&first);
-    pair[4..].copy_from_slice(&second);
-    pair
-}
-
 /// The `pcalau12i` and `addi.d` at an offset with their relocations applied. None where they can't
 /// compute the target, or a relocation's value is rejected.
 #[inline(always)]
@@ -154,16 +130,15 @@ fn address_of(section: &[u8], offset: u64, place: u64, target: u64) -> Option<[u
     if !are_pages_near(&row, place, target) {
         return None;
     }
-    let mut high = word_at(section, offset);
-    if !row.apply_formula(&operands_of(place, target), &mut high) {
+    let mut pair = pair_at(section, offset);
+    if !row.apply_formula(&operands_of(place, target), &mut pair[..4]) {
         return None;
     }
     let row = row_of(LoongArch64Relocation::R_LARCH_PCALA_LO12);
-    let mut low = word_at(section, offset + 4);
-    if !row.apply_formula(&operands_of(place.wrapping_add(4), target), &mut low) {
+    if !row.apply_formula(&operands_of(place.wrapping_add(4), target), &mut pair[4..]) {
         return None;
     }
-    Some(joined(high, low))
+    Some(pair)
 }
 
 /// The instructions of a site as they are, with their relocations applied. None where they can't

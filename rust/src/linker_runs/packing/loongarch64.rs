@@ -84,24 +84,6 @@ fn are_pages_near(row: &Row, place: u64, target: u64) -> bool {
     }
 }
 
-/// The four bytes at an offset.
-#[inline(always)]
-fn word_at(section: &[u8], offset: u64) -> [u8; 4] {
-    let start = offset as usize;
-    let mut word = [0; 4];
-    word.copy_from_slice(&section[start..start + 4]);
-    word
-}
-
-/// Two words, one after the other.
-#[inline(always)]
-fn joined(first: [u8; 4], second: [u8; 4]) -> [u8; 8] {
-    let mut pair = [0; 8];
-    pair[..4].copy_from_slice(&first);
-    pair[4..].copy_from_slice(&second);
-    pair
-}
-
 /// The `pcalau12i` and `addi.d` at an offset with their relocations applied. None where they can't
 /// compute the target, or a relocation's value is rejected.
 #[inline(always)]
@@ -110,16 +92,15 @@ fn address_of(section: &[u8], offset: u64, place: u64, target: u64) -> Option<[u
     if !are_pages_near(&row, place, target) {
         return None;
     }
-    let mut high = word_at(section, offset);
-    if !row.apply_formula(&operands_of(place, target), &mut high) {
+    let mut pair = pair_at(section, offset);
+    if !row.apply_formula(&operands_of(place, target), &mut pair[..4]) {
         return None;
     }
     let row = row_of(LoongArch64Relocation::R_LARCH_PCALA_LO12);
-    let mut low = word_at(section, offset + 4);
-    if !row.apply_formula(&operands_of(place.wrapping_add(4), target), &mut low) {
+    if !row.apply_formula(&operands_of(place.wrapping_add(4), target), &mut pair[4..]) {
         return None;
     }
-    Some(joined(high, low))
+    Some(pair)
 }
 
 /// The instructions of a site as they are, with their relocations applied. None where they can't
