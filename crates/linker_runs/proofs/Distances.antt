@@ -1,5 +1,5 @@
 -- The value of a relocation between two places of a run.
-use Rattle.std.proofs.Common.{◌≡◌, ℕ, ◌-◌, ◌^◌, ◌<◌, ◌≤◌, ◌∙◌, true, false, List, length, ap, ⊎_elim, arith, ℤ, pos, neg_ℤ, ◌-ℤ◌, ◌≤ℤ◌, ◌<ℤ◌, Some}
+use Rattle.std.proofs.Common.{◌≡◌, ℕ, ◌-◌, ◌^◌, ◌<◌, ◌≤◌, ◌∙◌, List, length, ap, ⊎_elim, arith, ℤ, pos, neg_ℤ, ◌-ℤ◌, ◌≤ℤ◌, ◌<ℤ◌, Some}
 use Rattle.std.specs.Int.{w64, cast_signed}
 use Rattle.std.proofs.lemmas.Bool.{cases_lt}
 use Rattle.std.proofs.lemmas.Int.{ints, to_z_pos}
@@ -13,9 +13,6 @@ use Rattle.linker_elf.specs.declared.elf.RelocationKindInfo.{RelocationKindInfo}
 use Rattle.linker_elf.proofs.Reached.{holds}
 use Rattle.linker_elf.specs.Applied.{IsRejected}
 use Rattle.linker_runs.specs.Sites.{operands_of}
-
-pub none : {A : Type 0} → false ≡ true → A
-none e = cc
 
 module _ (start from to : ℕ) where
   abbrev number : ℕ

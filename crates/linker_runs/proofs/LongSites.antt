@@ -7,6 +7,7 @@ use Rattle.linker_base.specs.Deletions.{rank}
 use Rattle.linker_elf.specs.Value.{sum_64}
 use Rattle.linker_runs.specs.declared.relaxation.Item.{Item}
 use Rattle.linker_runs.specs.declared.relaxation.Item.TheVariants.{Site, Aligned}
+use Rattle.linker_runs.specs.declared.relaxation.Shapes.{Shapes}
 use Rattle.linker_runs.specs.Relaxing.{offset_of, target_of, item_at, short_shape, kept_by, freed_before, choice_of, place_of}
 use Rattle.linker_runs.specs.Choosing.{AreItems, IsRelaxation}
 use Rattle.linker_runs.specs.Deleting.{deletions_of_run}
@@ -15,7 +16,7 @@ use Rattle.linker_runs.specs.Packing.{section_of, kept_len, CodeCause, IsUnwrita
 use Rattle.linker_runs.specs.declared.packing.Machine.{Machine}
 use Rattle.linker_runs.specs.declared.packing.ItemError.{ItemError}
 use Rattle.linker_runs.specs.declared.packing.ItemError.TheVariants.{NotItsFirstBytes}
-use Rattle.linker_runs.specs.Writable.{IsShortened}
+use Rattle.linker_runs.specs.Writable.{HasShapesOf, IsShortened}
 use Rattle.linker_runs.proofs.First.{first_bytes}
 use Rattle.linker_runs.proofs.Translations.{translations_exact}
 use Rattle.linker_runs.proofs.Writable.{site_free, short_sites}
@@ -24,6 +25,10 @@ use Rattle.linker_runs.proofs.Writable.{site_free, short_sites}
 abbrev pub IsLongSite : Item → Type 0
 IsLongSite (Site site) = (0 < site.shapes.count) × (site.shapes.longest ≡ 8)
 IsLongSite (Aligned alignment) = ⊥
+
+pub is_long : (shapes : Shapes) → 0 < shapes.count → shapes.longest ≡ 8 → (item : Item) → HasShapesOf shapes item → IsLongSite item
+is_long shapes some longest (Site site) is = (subst (λ t. 0 < t.count) (sym is) some, ap (λ t. t.longest) is ∙ longest)
+is_long shapes some longest (Aligned alignment) is = is
 
 -- why its eight bytes aren't written that go from an output offset to another
 abbrev pub LongCause : Machine → List ℕ → ℕ → ℕ → Item → ℕ → ℕ → ItemError → Type 0

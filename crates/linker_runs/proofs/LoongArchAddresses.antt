@@ -1,7 +1,7 @@
 -- An address of LoongArch that stays long can be written in a run of less than 2 GiB less 8 KiB.
 use Rattle.std.proofs.Common.{◌≡◌, ℕ, ◌+◌, ◌-◌, ◌%◌, ◌^◌, ◌<◌, ◌≤◌, ◌∙◌, true, false, List, length, take, drop, refl, ap, sym, subst, inr, ⊎_elim, arith, pos, ◌-ℤ◌, Some}
 use Rattle.std.specs.Int.{w64, cast_signed}
-use Rattle.std.proofs.lemmas.Bool.{cases_lt}
+use Rattle.std.proofs.lemmas.Bool.{cases_lt, false≢true}
 use Rattle.std.proofs.lemmas.Int.{ints, to_z_pos}
 use Rattle.std.proofs.lemmas.List.{length-take, length-drop}
 use Rattle.linker_base.proofs.Bits.{cast_negative}
@@ -26,13 +26,10 @@ use Rattle.linker_runs.specs.declared.packing.Machine.TheVariants.{LoongArch64}
 use Rattle.linker_runs.specs.declared.packing.ItemError.{ItemError}
 use Rattle.linker_runs.specs.declared.packing.ItemError.TheVariants.{Overlaps, OutOfSection, DeletedOutside, NotItsFirstBytes, NotItsInstructions, NoShape, OutOfReach}
 use Rattle.linker_runs.proofs.LoongArch.{not_both, no_jirl}
-use Rattle.linker_runs.specs.Writable.{HasShapesOf, IsNearAddress, NearAddressesAreWritable}
+use Rattle.linker_runs.specs.Writable.{IsNearAddress, NearAddressesAreWritable}
 use Rattle.linker_runs.proofs.RiscVLongCalls.{whole}
 use Rattle.linker_runs.proofs.LoongArchCalls36.{shapes_differ}
-use Rattle.linker_runs.proofs.LongSites.{IsLongSite, LongCause, long_sites}
-
-none : {A : Type 0} → false ≡ true → A
-none e = cc
+use Rattle.linker_runs.proofs.LongSites.{LongCause, is_long, long_sites}
 
 -- ---- the distance of the pages
 
@@ -72,7 +69,7 @@ module _ (section : List ℕ) (o start from to : ℕ) (here : IsPcalaAt section 
   high_near far =
       let v = cast_signed w64 (difference_64 (page (sum_64 (sum_64 (sum_64 start to) 0) 0x800)) (page (sum_64 start from))) in
       far v refl
-      (record { supported = refl; long = long; aligned = (whole v, tt, λ e. none e); reached = (tt, holds (BitMasking (record { start = 12; end = 32 }) (OfLoongArch Shift5)) v (take 4 (drop o section)) (loongarch_fits R_LARCH_PCALA_HI20).size, tt) })
+      (record { supported = refl; long = long; aligned = (whole v, tt, λ e. absurd (false≢true e)); reached = (tt, holds (BitMasking (record { start = 12; end = 32 }) (OfLoongArch Shift5)) v (take 4 (drop o section)) (loongarch_fits R_LARCH_PCALA_HI20).size, tt) })
     where
       long : 4 ≤ length (take 4 (drop o section))
       long = let a = length-take 4 (drop o section) in let b = length-drop o section in omega arith
@@ -84,7 +81,7 @@ module _ (section : List ℕ) (o start from to : ℕ) (here : IsPcalaAt section 
       (record {
         supported = refl;
         long = long;
-        aligned = (whole v, tt, λ e. none (sym (no_jirl section o here) ∙ e));
+        aligned = (whole v, tt, λ e. absurd (false≢true (sym (no_jirl section o here) ∙ e)));
         reached = (tt, holds (BitMasking (record { start = 0; end = 12 }) (OfLoongArch Shift10)) v (take 4 (drop (o + 4) section)) (loongarch_fits R_LARCH_PCALA_LO12).size, tt);
       })
     where
@@ -108,10 +105,6 @@ module _ (section : List ℕ) (o start from to : ℕ) (here : IsPcalaAt section 
   long_not DeletedOutside cause = cause
   long_not NotItsFirstBytes cause = cause
 
-is_long : (item : Item) → HasShapesOf PCALA item → IsLongSite item
-is_long (Site site) shapes = (subst (λ t. 0 < t.count) (sym shapes) (omega arith), ap (λ t. t.longest) shapes)
-is_long (Aligned alignment) shapes = shapes
-
 module _ (bytes : List ℕ) (base start here there : ℕ) where
   address_not : (item : Item) → IsNearAddress item → HasItsInstructions LoongArch64 bytes base item
       → (error : ItemError) → LongCause LoongArch64 bytes base start item (offset_of item - here) (target_of item - there) error → ⊥
@@ -128,5 +121,5 @@ module _ (bytes : List ℕ) (base start here there : ℕ) where
 pub near_addresses : NearAddressesAreWritable
 near_addresses start base items shapes kept freed bytes are is i within near has =
     let before = freed_before start items (choice_of shapes) in
-    long_sites LoongArch64 start base items shapes kept freed bytes are is i within (is_long (item_at items i) near.shapes) has
+    long_sites LoongArch64 start base items shapes kept freed bytes are is i within (is_long PCALA (omega arith) refl (item_at items i) near.shapes) has
     (address_not bytes base start (before i) (before (place_of items (target_of (item_at items i)))) (item_at items i) near has)

@@ -1,6 +1,6 @@
 -- A call of LoongArch that stays long can be written in a run of less than 128 GiB less 128 KiB.
-use Rattle.std.proofs.Common.{◌≡◌, ℕ, zero, suc, ◌+◌, ◌-◌, ◌*◌, ◌%◌, ◌^◌, ◌<◌, ◌≤◌, ◌∙◌, true, false, List, length, take, drop, refl, ap, sym, subst, inl, ⊎_elim, arith, pos, negsuc, ◌-ℤ◌, mul_assoc}
-use Rattle.std.proofs.lemmas.Bool.{cases_lt}
+use Rattle.std.proofs.Common.{◌≡◌, ℕ, zero, suc, ◌+◌, ◌-◌, ◌*◌, ◌%◌, ◌^◌, ◌<◌, ◌≤◌, ◌∙◌, true, false, List, length, take, drop, refl, ap, sym, subst, inl, inr, ⊎_elim, arith, pos, ◌-ℤ◌, mul_assoc}
+use Rattle.std.proofs.lemmas.Bool.{cases_lt, false≢true}
 use Rattle.std.specs.Prelude.{nat_lt, if◌then◌else◌}
 use Rattle.std.proofs.lemmas.Int.{ints}
 use Rattle.std.proofs.lemmas.List.{length-take, length-drop}
@@ -27,26 +27,18 @@ use Rattle.linker_runs.specs.declared.packing.Machine.TheVariants.{LoongArch64}
 use Rattle.linker_runs.specs.declared.packing.ItemError.{ItemError}
 use Rattle.linker_runs.specs.declared.packing.ItemError.TheVariants.{Overlaps, OutOfSection, DeletedOutside, NotItsFirstBytes, NotItsInstructions, NoShape, OutOfReach}
 use Rattle.linker_runs.proofs.LoongArch.{not_both}
-use Rattle.linker_runs.specs.Writable.{HasShapesOf, IsNearCall36, NearCalls36AreWritable}
-use Rattle.linker_runs.proofs.LongSites.{IsLongSite, LongCause, long_sites}
+use Rattle.linker_runs.specs.Writable.{IsNearCall36, NearCalls36AreWritable}
+use Rattle.linker_runs.proofs.LongSites.{LongCause, is_long, long_sites}
 use Rattle.linker_runs.proofs.Distances.{not_rejected}
-
-none : {A : Type 0} → false ≡ true → A
-none e = cc
+use Rattle.linker_runs.proofs.Reaches.{up, down, fours}
 
 -- ---- distances in units of 4 bytes
 
 words_apart : (to from : ℕ) → to % 4 ≡ from % 4 → IsAligned 4 (pos to -ℤ pos from)
-words_apart to from same = ⊎_elim
-    (λ (down : to < from).
-    let d : pos to -ℤ pos from ≡ negsuc (from - to - 1) = omega (arith, ints) in
-    let e : 3 - (from - to - 1) % 4 ≡ 0 = omega arith in
-    rw d (ap pos e))
-    (λ (up : from ≤ to).
-    let d : pos to -ℤ pos from ≡ pos (to - from) = omega (arith, ints) in
-    let e : (to - from) % 4 ≡ 0 = omega arith in
-    rw d (ap pos e))
-    (cases_lt to from)
+words_apart to from same = elim (cases_lt to from) [
+  | inl low ↦ rw (down from to low) ((fours.1 (from - to - 1)).1 (omega arith))
+  | inr high ↦ rw (up from to high) ((fours.0 (to - from)).1 (omega arith))
+]
 
 freed_units : (u : ℕ) (items : List Item) (freed : ℕ → ℕ) → Frees u items freed → (i : ℕ) → i ≤ length items → Multiple u (freed i)
 freed_units u items freed f zero within = (0, f.none ∙ omega arith)
@@ -76,7 +68,7 @@ module _ (section : List ℕ) (o start from to : ℕ) (here : IsCall36At section
     (words : to % 4 ≡ from % 4) where
   call_near : IsOutOfReach (call_template section o) (sum_64 start from) (sum_64 start to) → ⊥
   call_near far =
-      not_rejected start from to _ (take 8 (drop o section)) (loongarch_fits R_LARCH_CALL36) long (λ v. tt) (λ v e. none e)
+      not_rejected start from to _ (take 8 (drop o section)) (loongarch_fits R_LARCH_CALL36) long (λ v. tt) (λ v e. absurd (false≢true e))
       (λ v w. (omega (arith, ints, w.0), omega (arith, ints, w.1))) refl
       (record { supported = refl; within = (omega (arith, ints), omega (arith, ints)); encoded = tt; aligned = words_apart to from words }) far
     where
@@ -95,10 +87,6 @@ module _ (section : List ℕ) (o start from to : ℕ) (here : IsCall36At section
   long_not DeletedOutside cause = cause
   long_not NotItsFirstBytes cause = cause
 
-is_long : (item : Item) → HasShapesOf CALL36 item → IsLongSite item
-is_long (Site site) shapes = (subst (λ t. 0 < t.count) (sym shapes) (omega arith), ap (λ t. t.longest) shapes)
-is_long (Aligned alignment) shapes = shapes
-
 module _ (bytes : List ℕ) (base start u here there : ℕ) where
   call_not : (item : Item) → IsNearCall36 item → IsInWords item → HasItsInstructions LoongArch64 bytes base item → ItemSuits u start item → Multiple u here → Multiple u there → here ≤ offset_of item → there ≤ target_of item
       → (error : ItemError) → LongCause LoongArch64 bytes base start item (offset_of item - here) (target_of item - there) error → ⊥
@@ -107,7 +95,7 @@ module _ (bytes : List ℕ) (base start u here there : ℕ) where
       long_not bytes (site.offset - base) start (site.offset - here) (target_of (Site site) - there) call (omega (arith, has.1, has.2)) (let b = near.offset in omega arith) (let b = near.target in omega arith) apart error cause
     where
       words : u % 4 ≡ 0
-      words = subst (λ t. u % (short_shape t 0).granularity ≡ 0) near.shapes (suits.units 0 (is_long (Site site) near.shapes).0)
+      words = subst (λ t. u % (short_shape t 0).granularity ≡ 0) near.shapes (suits.units 0 (is_long CALL36 (omega arith) refl (Site site) near.shapes).0)
 
       call : IsCall36At bytes (site.offset - base)
       call = ⊎_elim
@@ -133,7 +121,7 @@ near_calls_36 start base items shapes kept freed bytes are is i within near has 
     let before = freed_before start items (choice_of shapes) in
     let p = place_of items (target_of item) in
     let u = run_granularity items in
-    long_sites LoongArch64 start base items shapes kept freed bytes are is i within (is_long item near.shapes) has
+    long_sites LoongArch64 start base items shapes kept freed bytes are is i within (is_long CALL36 (omega arith) refl item near.shapes) has
     (call_not bytes base start u (before i) (before p) item near (are.in_words i within) has (item_suits start items are i within) (freed_units u items before frees i (omega (arith, within)))
     (freed_units u items before frees p (place_is start items are.in_order (target_of item)).within)
     (freed_fits start items (choice_of shapes) are.in_order i within) (place_fits start u items before are.in_order frees (target_of item) p (place_is start items are.in_order (target_of item))))

@@ -6,18 +6,18 @@ use Rattle.linker_elf.specs.declared.loongarch64.relocations.LoongArch64Relocati
 use Rattle.linker_runs.specs.declared.shapes.loongarch64.TheConstants.{CALL36, PCALA}
 use Rattle.linker_runs.specs.Reaches.{IsOfRow, LoongArchShapesAreOfRows}
 use Rattle.linker_runs.specs.Relaxing.{short_shape}
-use Rattle.linker_runs.proofs.Reaches.{one, fourth_reach}
+use Rattle.linker_runs.proofs.Reaches.{one, fours, is_of_row, size_within}
 
 branch : IsSomeAnd (loongarch_row R_LARCH_B26) (IsOfRow (short_shape CALL36 0))
 branch = record {
   len = refl;
-  reach = fourth_reach 4 134217728 _ refl refl refl (λ v. tt);
+  reach = is_of_row 4 134217728 4 fours _ refl refl (λ v. tt) (λ from to _. size_within 134217728 from to);
 }
 
 pcaddi : IsSomeAnd (loongarch_row R_LARCH_PCREL20_S2) (IsOfRow (short_shape PCALA 0))
 pcaddi = record {
   len = refl;
-  reach = fourth_reach 4 2097152 _ refl refl refl (λ v. tt);
+  reach = is_of_row 4 2097152 4 fours _ refl refl (λ v. tt) (λ from to _. size_within 2097152 from to);
 }
 
 pub loongarch_shapes : LoongArchShapesAreOfRows

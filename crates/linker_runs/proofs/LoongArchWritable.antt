@@ -2,6 +2,7 @@
 use Rattle.std.proofs.Common.{◌≡◌, ℕ, ◌+◌, ◌*◌, ◌^◌, ◌<◌, ◌∙◌, true, List, refl, ap, subst, inl, inr, ⊎_elim, arith}
 use Rattle.std.specs.Int.{w32, to_le_bytes}
 use Rattle.std.proofs.lemmas.Int.{ints}
+use Rattle.std.proofs.lemmas.Bool.{false≢true}
 use Rattle.linker_elf.specs.Value.{sum_64}
 use Rattle.linker_elf.specs.declared.loongarch64.relocations.LoongArch64Relocation.TheVariants.{R_LARCH_B26, R_LARCH_PCREL20_S2}
 use Rattle.linker_elf.proofs.RowsFit.{loongarch_fits}
@@ -15,18 +16,18 @@ use Rattle.linker_runs.specs.Origins.{HasLoongArchShapes}
 use Rattle.linker_runs.specs.declared.packing.ItemError.{ItemError}
 use Rattle.linker_runs.specs.declared.packing.ItemError.TheVariants.{Overlaps, OutOfSection, DeletedOutside, NotItsFirstBytes, NotItsInstructions, NoShape, OutOfReach}
 use Rattle.linker_runs.proofs.LoongArch.{not_both}
-use Rattle.linker_runs.proofs.Distances.{none, not_rejected}
+use Rattle.linker_runs.proofs.Distances.{not_rejected}
 
 module _ (section : List ℕ) (o start from to : ℕ) where
   branch_near : is_reached (short_shape CALL36 0) from to ≡ true → IsOutOfReach (branch_template (destination section o)) (sum_64 start from) (sum_64 start to) → ⊥
   branch_near reached far =
-      not_rejected start from to _ (to_le_bytes w32 (0x50000000 + destination section o * 2 ^ 26)) (loongarch_fits R_LARCH_B26) (omega arith) (λ v. tt) (λ v e. none e)
+      not_rejected start from to _ (to_le_bytes w32 (0x50000000 + destination section o * 2 ^ 26)) (loongarch_fits R_LARCH_B26) (omega arith) (λ v. tt) (λ v e. absurd (false≢true e))
       (λ v w. (omega (arith, ints, w.0), omega (arith, ints, w.1))) refl
       ((((loongarch_shapes.0).each 0 (omega arith)).reach from to).0 reached) far
 
   pcaddi_near : is_reached (short_shape PCALA 0) from to ≡ true → IsOutOfReach (pcaddi_template (destination section o)) (sum_64 start from) (sum_64 start to) → ⊥
   pcaddi_near reached far =
-      not_rejected start from to _ (to_le_bytes w32 (0x18000000 + destination section o)) (loongarch_fits R_LARCH_PCREL20_S2) (omega arith) (λ v. tt) (λ v e. none e)
+      not_rejected start from to _ (to_le_bytes w32 (0x18000000 + destination section o)) (loongarch_fits R_LARCH_PCREL20_S2) (omega arith) (λ v. tt) (λ v e. absurd (false≢true e))
       (λ v w. (omega (arith, ints, w.0), omega (arith, ints, w.1))) refl
       ((((loongarch_shapes.1).each 0 (omega arith)).reach from to).0 reached) far
 

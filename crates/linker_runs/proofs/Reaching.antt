@@ -1,13 +1,13 @@
 -- What a call loses, and what its `jal` reaches.
-use Rattle.std.proofs.Common.{◌≡◌, ℕ, ◌+◌, ◌-◌, ◌%◌, ◌<◌, ◌≤◌, ◌∙◌, ◌↔◌, Bool, true, false, cond, refl, ap, sym, inl, inr, ⊎_elim, arith}
-use Rattle.std.specs.Prelude.{◌||◌, nat_lt, pos, negsuc, ◌-ℤ◌}
+use Rattle.std.proofs.Common.{◌≡◌, ℕ, ◌+◌, ◌-◌, ◌<◌, ◌≤◌, ◌∙◌, ◌↔◌, Bool, true, false, cond, refl, ap, sym, ⊎_elim, arith}
+use Rattle.std.specs.Prelude.{◌||◌, nat_lt, pos, ◌-ℤ◌}
 use Rattle.std.proofs.lemmas.Int.{ints}
 use Rattle.std.proofs.lemmas.Bool.{cases_lt}
 use Rattle.std.proofs.lemmas.Bool.Decides.{nat_tests}
 use Rattle.linker_base.specs.Deletions.{covers}
 use Rattle.linker_runs.specs.declared.relaxation.Item.{Item}
 use Rattle.linker_runs.specs.declared.relaxation.Item.TheVariants.{Site, Aligned}
-use Rattle.linker_runs.specs.Relaxing.{offset_of, len_of, target_of, shape_len, shape_reaches, is_reached, kept_by, item_reaches}
+use Rattle.linker_runs.specs.Relaxing.{offset_of, len_of, target_of, shape_len, shape_reaches, kept_by, item_reaches}
 use Rattle.linker_runs.specs.Choosing.{IsSite}
 use Rattle.linker_runs.specs.Deleting.{deletion_at}
 use Rattle.linker_runs.proofs.Deletions.{deletion_some, deletion_none}
@@ -15,6 +15,7 @@ use Rattle.linker_riscv64.specs.RiscVCalls.{IsEven, IsJalDistance}
 use Rattle.linker_riscv64.specs.Shrinking.{shrinking}
 use Rattle.linker_runs.specs.Calls.{call_shapes, IsCallItem, IsDeletedItem}
 use Rattle.linker_runs.proofs.Covering.{takes}
+use Rattle.linker_runs.proofs.Reaches.{reached_is, is_within, twos}
 
 or_none : (a : Bool) → (a || false) ≡ a
 or_none true = refl
@@ -28,9 +29,6 @@ loses_some item kept p less = ap (λ ds. takes ds p) (deletion_some item kept le
 
 pub loses_none : (item : Item) (kept p : ℕ) → len_of item ≤ kept → takes (deletion_at item kept) p ≡ false
 loses_none item kept p all = ap (λ ds. takes ds p) (deletion_none item kept all)
-
-none : {A : Type 0} → false ≡ true → A
-none e = cc
 
 -- a call that has its `jal` loses its last four bytes
 pub call_loses : (start : ℕ) (item : Item) (call : ℕ × ℕ) (k freed kept p : ℕ) → IsCallItem call item → kept ≡ kept_by start item k freed → k ≡ 0 → takes (deletion_at item kept) p ≡ covers (shrinking call) p
@@ -65,38 +63,10 @@ deleted_loses start (Site site) deletion k freed kept p is keeps =
     covers_nothing a b p e = grind (arith, nat_tests)
 deleted_loses start (Aligned alignment) deletion k freed kept p is keeps = absurd is
 
-even_sum : (x y : ℕ) → IsEven (pos x -ℤ pos y) ↔ ((x + y) % 2 ≡ 0)
-even_sum x y = elim (cases_lt x y) [
-  | inl below ↦
-      let d : pos x -ℤ pos y ≡ negsuc (y - x - 1) = omega (arith, ints) in
-      rw d (λ h. odd (y - x - 1) h (omega arith), λ h. evens (y - x - 1) (omega arith))
-  | inr above ↦
-      let d : pos x -ℤ pos y ≡ pos (x - y) = omega (arith, ints) in
-      rw d (λ h. let e : (x - y) % 2 ≡ 0 = cc in omega arith, λ h. let e : (x - y) % 2 ≡ 0 = omega arith in ap pos e)
-]
-  where
-    odd : (n : ℕ) → IsEven (negsuc n) → x + n + 1 ≡ y → (x + y) % 2 ≡ 0
-    odd n h e = let o : 1 - n % 2 ≡ 0 = cc in omega arith
-
-    evens : (n : ℕ) → n % 2 ≡ 1 → IsEven (negsuc n)
-    evens n h = ap (λ m. pos (1 - m)) h
-
-reached_is : (from to : ℕ) → is_reached (record { kept = 4; max_backward = 1048576; max_forward = 1048576; granularity = 2 }) from to ≡ true → ((to + from) % 2 ≡ 0) × (to < from + 1048576) × (from ≤ to + 1048576)
-reached_is from to h = ⊎_elim
-    (λ (down : to < from). (let a : (from - to) % 2 ≡ 0 = grind (arith, nat_tests) in let b : from - to ≤ 1048576 = grind (arith, nat_tests) in (omega arith, omega arith, omega arith)))
-    (λ (up : from ≤ to). (let a : (to - from) % 2 ≡ 0 = grind (arith, nat_tests) in let b : to - from < 1048576 = grind (arith, nat_tests) in (omega arith, omega arith, omega arith)))
-    (cases_lt to from)
-
-is_within : (from to : ℕ) → (to + from) % 2 ≡ 0 → to < from + 1048576 → from ≤ to + 1048576 → is_reached (record { kept = 4; max_backward = 1048576; max_forward = 1048576; granularity = 2 }) from to ≡ true
-is_within from to even above below = ⊎_elim
-    (λ (down : to < from). (let a : (from - to) % 2 ≡ 0 = omega arith in let b : from - to ≤ 1048576 = omega arith in grind (arith, nat_tests)))
-    (λ (up : from ≤ to). (let a : (to - from) % 2 ≡ 0 = omega arith in let b : to - from < 1048576 = omega arith in grind (arith, nat_tests)))
-    (cases_lt to from)
-
 pub jal_reaches : (from to : ℕ) → (shape_reaches call_shapes 0 from to ≡ true) ↔ (IsEven (pos to -ℤ pos from) × IsJalDistance (pos to -ℤ pos from))
 jal_reaches from to = (
-  λ h. (let r = reached_is from to h in let above = r.1 in let below = r.2 in ((even_sum to from).1 r.0, (omega (arith, ints), omega (arith, ints)))),
-  λ h. is_within from to ((even_sum to from).0 h.0) (omega (arith, ints, h.1.1)) (omega (arith, ints, h.1.0)),
+  λ h. (let r = reached_is 4 1048576 2 twos from to h in let above = r.1 in let below = r.2 in (r.0, (omega (arith, ints), omega (arith, ints)))),
+  λ h. is_within 4 1048576 2 twos from to h.0 (omega (arith, ints, h.1.1)) (omega (arith, ints, h.1.0)),
 )
 
 -- the item of a call, whatever it reaches

@@ -1,6 +1,7 @@
 -- A call of RISC-V that stays long can be written in a run of less than 2 GiB less 2 KiB.
 use Rattle.std.proofs.Common.{◌≡◌, ℕ, ◌+◌, ◌-◌, ◌%◌, ◌^◌, ◌<◌, ◌≤◌, true, false, List, length, take, drop, refl, ap, sym, subst, ⊎_elim, arith, ℤ, pos, negsuc, ◌-ℤ◌}
 use Rattle.std.specs.Prelude.{IsSomeAnd}
+use Rattle.std.proofs.lemmas.Bool.{false≢true}
 use Rattle.std.proofs.lemmas.Int.{ints}
 use Rattle.std.proofs.lemmas.List.{length-take, length-drop}
 use Rattle.linker_elf.specs.Relocate.{IsAligned}
@@ -25,9 +26,6 @@ use Rattle.linker_runs.specs.Writable.{IsNear, NearCallsAreWritable}
 use Rattle.linker_runs.proofs.LongSites.{IsLongSite, LongCause, long_sites}
 use Rattle.linker_runs.proofs.Distances.{not_rejected}
 
-none : {A : Type 0} → false ≡ true → A
-none e = cc
-
 -- each number is a multiple of 1
 pub whole : (v : ℤ) → IsAligned 1 v
 whole (pos n) = ap pos (let e : n % 1 ≡ 0 = omega arith in e)
@@ -43,7 +41,7 @@ longest section o shapes has = ⊎_elim
 module _ (section : List ℕ) (o start from to : ℕ) (there : o + 8 ≤ length section) (low : from < 2 ^ 31 - 2 ^ 11) (high : to < 2 ^ 31 - 2 ^ 11) where
   call_near : IsSomeAnd (riscv_template section o 8) (λ t. IsOutOfReach t (sum_64 start from) (sum_64 start to)) → ⊥
   call_near far =
-      not_rejected start from to _ (take 8 (drop o section)) (riscv_fits R_RISCV_CALL_PLT) long (λ v. tt) (λ v e. none e)
+      not_rejected start from to _ (take 8 (drop o section)) (riscv_fits R_RISCV_CALL_PLT) long (λ v. tt) (λ v e. absurd (false≢true e))
       (λ v w. (omega (arith, ints, w.0), omega (arith, ints, w.1))) refl
       (record { supported = refl; within = (omega (arith, ints), omega (arith, ints)); encoded = tt; aligned = whole (pos to -ℤ pos from) }) far
     where

@@ -6,18 +6,18 @@ use Rattle.linker_elf.specs.declared.riscv64.relocations.RiscVRelocation.TheVari
 use Rattle.linker_runs.specs.declared.shapes.riscv64.TheConstants.{CALL, TAIL_C, CALL_WITHOUT_C}
 use Rattle.linker_runs.specs.Reaches.{IsOfRow, RiscVShapesAreOfRows}
 use Rattle.linker_runs.specs.Relaxing.{short_shape}
-use Rattle.linker_runs.proofs.Reaches.{one, two, even_reach}
+use Rattle.linker_runs.proofs.Reaches.{one, two, twos, is_of_row, even_within}
 
 jal : IsSomeAnd (riscv_row R_RISCV_JAL) (IsOfRow (short_shape CALL 0))
 jal = record {
   len = refl;
-  reach = even_reach 4 524288 _ refl refl refl (λ v. tt) (omega arith);
+  reach = is_of_row 4 1048576 2 twos _ refl refl (λ v. tt) (λ from to. even_within 524288 from to (omega arith));
 }
 
 c_j : IsSomeAnd (riscv_row R_RISCV_RVC_JUMP) (IsOfRow (short_shape TAIL_C 0))
 c_j = record {
   len = refl;
-  reach = even_reach 2 1024 _ refl refl refl (λ v. tt) (omega arith);
+  reach = is_of_row 2 2048 2 twos _ refl refl (λ v. tt) (λ from to. even_within 1024 from to (omega arith));
 }
 
 pub riscv_shapes : RiscVShapesAreOfRows

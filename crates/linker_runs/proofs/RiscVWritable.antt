@@ -2,7 +2,7 @@
 use Rattle.std.proofs.Common.{◌≡◌, ℕ, ◌+◌, ◌*◌, ◌^◌, ◌<◌, ◌≤◌, ◌∙◌, true, List, [], refl, ap, subst, ⊎_elim, arith, None}
 use Rattle.std.specs.Prelude.{IsSomeAnd}
 use Rattle.std.specs.Int.{w32, to_le_bytes}
-use Rattle.std.proofs.lemmas.Bool.{cases_lt}
+use Rattle.std.proofs.lemmas.Bool.{cases_lt, false≢true}
 use Rattle.std.proofs.lemmas.Int.{ints}
 use Rattle.linker_elf.specs.Value.{sum_64}
 use Rattle.linker_elf.specs.declared.riscv64.relocations.RiscVRelocation.TheVariants.{R_RISCV_JAL, R_RISCV_RVC_JUMP}
@@ -19,18 +19,18 @@ use Rattle.linker_runs.specs.RiscVSites.{riscv_template, RiscVCause}
 use Rattle.linker_runs.specs.Origins.{HasRiscVShapes}
 use Rattle.linker_runs.specs.declared.packing.ItemError.{ItemError}
 use Rattle.linker_runs.specs.declared.packing.ItemError.TheVariants.{Overlaps, OutOfSection, DeletedOutside, NotItsFirstBytes, NotItsInstructions, NoShape, OutOfReach}
-use Rattle.linker_runs.proofs.Distances.{none, not_rejected}
+use Rattle.linker_runs.proofs.Distances.{not_rejected}
 
 module _ (section : List ℕ) (o start from to : ℕ) where
   jal_near : is_reached (short_shape CALL 0) from to ≡ true → IsSomeAnd (riscv_template section o 4) (λ t. IsOutOfReach t (sum_64 start from) (sum_64 start to)) → ⊥
   jal_near reached far =
-      not_rejected start from to _ (to_le_bytes w32 (0x6f + link_register OfJalr section o * 2 ^ 7)) (riscv_fits R_RISCV_JAL) (omega arith) (λ v. tt) (λ v e. none e)
+      not_rejected start from to _ (to_le_bytes w32 (0x6f + link_register OfJalr section o * 2 ^ 7)) (riscv_fits R_RISCV_JAL) (omega arith) (λ v. tt) (λ v e. absurd (false≢true e))
       (λ v w. (omega (arith, ints, w.0), omega (arith, ints, w.1))) refl
       ((((riscv_shapes.0).each 0 (omega arith)).reach from to).0 reached) far
 
   cj_near : link_register OfJalr section o ≡ 0 → is_reached (short_shape TAIL_C 0) from to ≡ true → IsSomeAnd (riscv_template section o 2) (λ t. IsOutOfReach t (sum_64 start from) (sum_64 start to)) → ⊥
   cj_near link reached far =
-      not_rejected start from to _ (tail_to_cj []) (riscv_fits R_RISCV_RVC_JUMP) (omega arith) (λ v. tt) (λ v e. none e)
+      not_rejected start from to _ (tail_to_cj []) (riscv_fits R_RISCV_RVC_JUMP) (omega arith) (λ v. tt) (λ v e. absurd (false≢true e))
       (λ v w. (omega (arith, ints, w.0), omega (arith, ints, w.1))) refl
       ((((riscv_shapes.1).each 0 (omega arith)).reach from to).0 reached) (rw link at far)
 
