@@ -1,7 +1,7 @@
 -- The bytes that stay of an item of a relaxed run are its first ones.
 use Rattle.std.proofs.Common.{◌≡◌, ℕ, ◌+◌, ◌-◌, ◌<◌, ◌≤◌, ◌∙◌, Bool, true, false, List, length, get_or, refl, ap, sym, ⊎_elim, arith, Option, Some, None}
 use Rattle.std.specs.Prelude.{not, nat_le, nat_lt}
-use Rattle.std.proofs.lemmas.Bool.{cases_lt, cases_Bool, cond-true, cond-false, leb-true, ltb-true}
+use Rattle.std.proofs.lemmas.Bool.{cases_lt, cases_Bool, cond-true, cond-false, leb-true, ltb-true, false≢true}
 use Rattle.std.proofs.lemmas.Bool.Decides.{nat_tests}
 use Rattle.linker_base.specs.Deletions.{covers, is_kept, rank}
 use Rattle.linker_runs.specs.declared.relaxation.Item.{Item}
@@ -16,15 +16,12 @@ use Rattle.linker_runs.proofs.Reaching.{loses_some, loses_none}
 
 -- ---- what an item loses
 
-none : {A : Type 0} → false ≡ true → A
-none e = cc
-
 lost_from : (item : Item) (kept p : ℕ) → takes (deletion_at item kept) p ≡ true → (offset_of item + kept ≤ p) × (p < end_of item)
 lost_from item kept p h = ⊎_elim
     (λ (less : kept < len_of item).
     let c : covers (offset_of item + kept, len_of item - kept) p ≡ true = sym (loses_some item kept p less) ∙ h in
     (grind (arith, nat_tests, c), grind (arith, nat_tests, c)))
-    (λ (all : len_of item ≤ kept). none (sym (loses_none item kept p all) ∙ h))
+    (λ (all : len_of item ≤ kept). absurd (false≢true (sym (loses_none item kept p all) ∙ h)))
     (cases_lt kept (len_of item))
 
 lost_there : (item : Item) (kept p : ℕ) → offset_of item + kept ≤ p → p < end_of item → takes (deletion_at item kept) p ≡ true

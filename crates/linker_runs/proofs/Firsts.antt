@@ -1,5 +1,5 @@
 -- What the parts of a run meet, fault by fault.
-use Rattle.std.proofs.Common.{◌≡◌, ℕ, zero, suc, ◌+◌, ◌<◌, ◌≤◌, ◌↔◌, Bool, false, IsTrue, arith}
+use Rattle.std.proofs.Common.{ℕ, zero, suc, ◌+◌, ◌<◌, ◌≤◌, arith}
 use Rattle.linker_runs.specs.declared.relaxation.Shape.{Shape}
 use Rattle.linker_runs.specs.declared.relaxation.Shapes.{Shapes}
 use Rattle.linker_runs.specs.declared.relaxation.Alignment.{Alignment}
@@ -7,10 +7,6 @@ use Rattle.linker_runs.specs.declared.relaxation.faults.Fault.{Fault}
 use Rattle.linker_runs.specs.declared.relaxation.faults.Fault.TheVariants.{Overlaps, TooHigh, TooManyShapes, ShapeTooLong, ShapesNotAscending, BadGranularity, BadReach, BadAlignment, UnevenShape, Misaligned, AlignmentBelowGranularity, UnevenEnd, TooFewNops, UnevenNops, TargetInside, MayBeMisaligned}
 use Rattle.linker_runs.specs.Relaxing.{short_shape}
 use Rattle.linker_runs.specs.Faults.{number_of, ShapesMeet, AlignmentMeets}
-
--- a test that failed
-pub fails : (r : Bool) (P : Type 0) → IsTrue r ↔ P → r ≡ false → ¬ P
-fails r P test not_met met = let yes = test.1 met in cc
 
 -- what shapes meet of the faults below a number
 pub shapes_upto : (shapes : Shapes) (len n : ℕ) → (2 < n → ShapesMeet shapes len TooManyShapes) → (3 < n → ShapesMeet shapes len ShapeTooLong) → (4 < n → ShapesMeet shapes len ShapesNotAscending)

@@ -103,9 +103,6 @@ module _ (xs ys : List ℕ) (at : ℕ) (room : at + length ys ≤ length xs) whe
   both : length (take at xs ++ ys) ≡ at + length ys
   both = length-append (take at xs) ys ∙ omega (arith, front)
 
-  new : List ℕ
-  new = take at xs ++ ys ++ drop (at + length ys) xs
-
   pub put_above : (y : ℕ) → at + length ys ≤ y → get_or (take at xs ++ ys ++ drop (at + length ys) xs) y 0 ≡ get_or xs y 0
   put_above y high =
       get_or-append_right (take at xs ++ ys) (drop (at + length ys) xs) (at + length ys) y 0 both high

@@ -2,7 +2,7 @@
 use Rattle.std.proofs.Common.{◌≡◌, ℕ, ◌+◌, ◌-◌, ◌*◌, ◌%◌, ◌^◌, ◌<◌, List, [], length, take, drop, refl, subst, ◌∙◌, ap, arith, inl, inr, ℤ, pos, ◌+ℤ◌, Option, Some, None, Bool, true, false, int_lt}
 use Rattle.std.specs.Prelude.{◌==◌, ◌&&◌, if◌then◌else◌, IsSomeAnd, ◌*ℤ◌}
 use Rattle.std.specs.Int.{w16, w32, w64, from_le_bytes, to_le_bytes}
-use Rattle.std.proofs.lemmas.Bool.{cases_Bool, eqb-true, agree_below}
+use Rattle.std.proofs.lemmas.Bool.{cases_Bool, eqb-true, agree_below, and_parts}
 use Rattle.std.proofs.lemmas.Nat.{from_le_bytes-to_le_bytes_4}
 use Rattle.linker_base.specs.Bits.{field}
 use Rattle.linker_base.specs.Form.{window_of, is_placed}
@@ -84,7 +84,7 @@ module _ (section : List ℕ) (o place target : ℕ) (written : List ℕ) (jumps
       let longer : Option Template = if kept == 4 then jal else others in
       elim (cases_Bool (kept == 2 && link == 0)) [
         | inl two ↦
-            let a = and-both (kept == 2) (link == 0) two in
+            let a = and_parts (kept == 2) (link == 0) two in
             short_jump (len ∙ eqb-true kept 2 a.0) (eqb-true link 0 a.1)
             (cj_is (subst (IsRelocated place target written) (ap (λ b. if b then cj else longer) two) applied))
         | inr more ↦
@@ -99,8 +99,3 @@ module _ (section : List ℕ) (o place target : ℕ) (written : List ℕ) (jumps
                   ]
             ]
       ]
-    where
-      and-both : (a b : Bool) → (a && b) ≡ true → (a ≡ true) × (b ≡ true)
-      and-both true true h = (refl, refl)
-      and-both true false h = cc
-      and-both false b h = cc

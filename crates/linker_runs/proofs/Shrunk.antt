@@ -1,7 +1,7 @@
 -- The choice of shapes and the choice of calls are one.
-use Rattle.std.proofs.Common.{◌≡◌, ℕ, zero, suc, ◌-◌, ◌<◌, ◌≤◌, ◌∙◌, ◌↔◌, Bool, true, false, List, [], ◌∷◌, length, get_or, refl, ap, sym, subst, inl, inr, ⊎_elim, arith, cond, eqb}
+use Rattle.std.proofs.Common.{◌≡◌, ℕ, zero, suc, ◌-◌, ◌<◌, ◌≤◌, ◌∙◌, ◌↔◌, Bool, true, false, List, [], ◌∷◌, length, get_or, refl, ap, sym, subst, ⊎_elim, arith, cond, eqb}
 use Rattle.std.specs.Prelude.{◌⊎◌}
-use Rattle.std.proofs.lemmas.Bool.{cases_lt}
+use Rattle.std.proofs.lemmas.Bool.{cases_lt, false≢true, cases_eq}
 use Rattle.std.proofs.lemmas.Bool.Decides.{nat_tests}
 use Rattle.std.proofs.lemmas.List.{get_or_default}
 use Rattle.linker_base.specs.Deletions.{rank}
@@ -20,9 +20,6 @@ pub record Agree (calls : List (ℕ × ℕ)) (place choice : ℕ → ℕ) (chose
   pub into : (i : ℕ) → i < length calls → choice (place i) ≡ 0 → IsChosen chosen i
   pub from : (i : ℕ) → i < length calls → IsChosen chosen i → choice (place i) ≡ 0
 
-none : {A : Type 0} → false ≡ true → A
-none e = cc
-
 takes_same : (start : ℕ) (deletions calls : List (ℕ × ℕ)) (items : List Item) (place choice : ℕ → ℕ) (kept : List ℕ) (chosen : List Bool) → IsRunOf deletions calls items place → KeepsLayout start items choice kept → Agree calls place choice chosen
     → (p : ℕ) → takes (deletions_before items kept (length items)) p ≡ takes (with_chosen deletions calls chosen) p
 takes_same start deletions calls items place choice kept chosen rel keeps agree p =
@@ -36,7 +33,7 @@ takes_same start deletions calls items place choice kept chosen rel keeps agree 
     let is = rel.calls_in i call.1 in
     let here = subst (Loses items kept p) (sym call.2) found.2 in
     ⊎_elim
-    (λ (long : 0 < choice (place i)). none (sym (call_keeps start (item_at items (place i)) (pair_at calls i) (choice (place i)) (freed_before start items choice (place i)) (get_or kept (place i) 0) p is.1 (keeps (place i) is.0) long) ∙ here))
+    (λ (long : 0 < choice (place i)). absurd (false≢true (sym (call_keeps start (item_at items (place i)) (pair_at calls i) (choice (place i)) (freed_before start items choice (place i)) (get_or kept (place i) 0) p is.1 (keeps (place i) is.0) long) ∙ here)))
     (λ (short : choice (place i) ≤ 0).
     let is_zero : choice (place i) ≡ 0 = omega arith in
     let e = call_loses start (item_at items (place i)) (pair_at calls i) (choice (place i)) (freed_before start items choice (place i)) (get_or kept (place i) 0) p is.1 (keeps (place i) is.0) is_zero in
@@ -113,10 +110,7 @@ long_is place chosen (suc n) i within once = ⊎_elim
     let test : eqb (place n) (place i) ≡ false = grind (arith, nat_tests) in
     let below : i < n = ⊎_elim (λ (h : i < n). h) (λ (h : n ≤ i). let e : n ≡ i = omega arith in absurd (other (ap place e))) (cases_lt i n) in
     ap (λ b. cond b (shape_of (get_or chosen n false)) (long_at place chosen n (place i))) test ∙ long_is place chosen n i below (λ j h e. once j (omega arith) e))
-    (same_or_not (place n) (place i))
-  where
-    same_or_not : (a b : ℕ) → (a ≡ b) ⊎ (a ≡ b → ⊥)
-    same_or_not a b = ⊎_elim (λ (h : a < b). inr (λ e. omega arith)) (λ (h : b ≤ a). ⊎_elim (λ (g : b < a). inr (λ e. omega arith)) (λ (g : a ≤ b). inl (omega arith)) (cases_lt b a)) (cases_lt a b)
+    (cases_eq (place n) (place i))
 
 one_or_none : (b : Bool) → b ≡ true → shape_of b ≡ 0
 one_or_none b is = ap shape_of is

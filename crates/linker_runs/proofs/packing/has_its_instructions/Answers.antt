@@ -1,4 +1,5 @@
-use Rattle.std.proofs.Common.{◌≡◌, true, false, [], sym, ◌∙◌, arith}
+use Rattle.std.proofs.Common.{true, false, [], sym, ◌∙◌, arith}
+use Rattle.std.proofs.lemmas.Bool.{false≢true}
 use Rattle.linker_runs.specs.declared.packing.Machine.TheVariants.{RiscV64, LoongArch64}
 use Rattle.linker_runs.proofs.Origins.{placed, has, has_not}
 use Rattle.linker_runs.proofs.packing.has_its_instructions.Goals as goal
@@ -30,8 +31,5 @@ returns-then-site-ne8 c = elim c.then-site-ne8.branch [
       has_not c.args.section.now c.args.base c.args.item.now c.in-Site.site c.in-Site.is c.args.machine (λ len inside. w.if-site-ne8.true len)
   | then-site-ne8-via-else-site-ne8+then-not-is_inside w ↦
       has_not c.args.section.now c.args.base c.args.item.now c.in-Site.site c.in-Site.is c.args.machine
-      (λ len inside. none (sym w.if-not-is_inside.true ∙ (w.is_inside.ensures [] 0).1 inside))
+      (λ len inside. false≢true (sym w.if-not-is_inside.true ∙ (w.is_inside.ensures [] 0).1 inside))
 ]
-  where
-    none : false ≡ true → ⊥
-    none e = cc

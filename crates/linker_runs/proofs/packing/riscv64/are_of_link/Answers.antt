@@ -1,4 +1,5 @@
-use Rattle.std.proofs.Common.{◌≡◌, false, true, inl, inr, ⊎_elim, sym, ◌∙◌}
+use Rattle.std.proofs.Common.{false, true, inl, inr, ⊎_elim, sym, ◌∙◌}
+use Rattle.std.proofs.lemmas.Bool.{false≢true}
 use Rattle.linker_runs.specs.declared.shapes.riscv64.TheConstants.{CALL, TAIL_C}
 use Rattle.linker_runs.proofs.Same.{shapes_decide}
 use Rattle.linker_runs.proofs.packing.riscv64.are_of_link.Goals as goal
@@ -13,8 +14,5 @@ returns-then-link-eq0 c =
     let call = shapes_decide c.args.shapes.now CALL c.eq.result c.eq.ensures in
     let tail = shapes_decide c.args.shapes.now TAIL_C c.eq-then-link-eq0.result c.eq-then-link-eq0.ensures in (
       λ is. inr (tail.0 is, c.if-link-eq0.true),
-      λ h. ⊎_elim (λ is. absurd (not_both (sym c.if-eq.false ∙ call.1 is))) (λ is. tail.1 is.0) h,
+      λ h. ⊎_elim (λ is. absurd (false≢true (sym c.if-eq.false ∙ call.1 is))) (λ is. tail.1 is.0) h,
     )
-  where
-    not_both : false ≡ true → ⊥
-    not_both e = cc

@@ -1,5 +1,6 @@
 use Rattle.std.specs.Prelude.{◌↔◌, IsTrue, nat_eq}
 use Rattle.std.proofs.Common.{◌≡◌, ◌%◌, ◌∙◌, ℕ, false, true, refl, sym, arith}
+use Rattle.std.proofs.lemmas.Bool.{false≢true}
 use Rattle.std.proofs.lemmas.Bool.Decides.{nat_tests}
 use Rattle.linker_runs.specs.declared.shapes.loongarch64.TheConstants.{CALL36}
 use Rattle.linker_runs.proofs.Same.{shapes_decide}
@@ -17,7 +18,4 @@ returns-then-eq c =
 pub returns-else-eq : goal.returns-else-eq
 returns-else-eq c =
     let call = shapes_decide c.args.self.now.shapes CALL36 c.eq.result c.eq.ensures in
-    (λ yes is. absurd (not_both (sym c.if-eq.false ∙ call.1 is)), λ words. refl)
-  where
-    not_both : false ≡ true → ⊥
-    not_both e = cc
+    (λ yes is. absurd (false≢true (sym c.if-eq.false ∙ call.1 is)), λ words. refl)
