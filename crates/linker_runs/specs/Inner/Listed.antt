@@ -14,6 +14,10 @@ pub record Rewritten : Type 0 where
   pub relocations : List Relocation
   pub deletions : List (ℕ × ℕ)
 
+abbrev pub rewritten_of : Machine → List ℕ → ℕ → List Relocation → List (ℕ × ℕ) → Rewritten
+rewritten_of m s b rs ds =
+    record { machine = m; section = s; base = b; relocations = rs; deletions = ds }
+
 -- The first `count` elements of two arrays are the items that the relocations below i and the
 -- deletions below g make, and their makers. The last ends at `end`, and no other deletion begins
 -- below that.

@@ -12,7 +12,7 @@ ghost use Rattle.linker_runs.specs.RewrittenItems.{deleted_at, deleted_end, AreP
 ghost use Rattle.linker_runs.specs.RewrittenItems.{IsFirstMisplaced, IsDeleted, AreRewrittenItems};
 ghost use Rattle.linker_runs.specs.RewrittenItems.{IsOverlapping, IsRewrittenCause};
 ghost use Rattle.linker_runs.specs.SectionItems.{Makes, IsFormed};
-ghost use Rattle.linker_runs.specs.Inner.Listed.{AreListedIn};
+ghost use Rattle.linker_runs.specs.Inner.Listed.{AreListedIn, rewritten_of};
 
 use super::{AsItem, AsRelocation, ahead, first_malformed, has_bytes, item_at};
 use crate::packing::Machine;
@@ -113,22 +113,12 @@ fn list_deletions<L: AsDeletion, I: AsItem>(
         × (result.end ≡ base + deleted_end (map L.deletion deleted.now) g)) }
     ensures listed { (machine : machines) (section : List ℕ) (rs : List relocations) (i : ℕ)
         → length rs ≡ relocations_len → i ≤ relocations_len
-        → AreListedIn I.item I.is_written (record {
-          machine = machine;
-          section = section;
-          base = base;
-          relocations = rs;
-          deletions = map L.deletion deleted.now;
-        }) i listed.gone
-        listed.count listed.end out.old makers.old
-        → AreListedIn I.item I.is_written (record {
-          machine = machine;
-          section = section;
-          base = base;
-          relocations = rs;
-          deletions = map L.deletion deleted.now;
-        }) i result.gone
-        result.count result.end out.new makers.new }
+        → AreListedIn I.item I.is_written
+        (rewritten_of machine section base rs (map L.deletion deleted.now)) i
+        listed.gone listed.count listed.end out.old makers.old
+        → AreListedIn I.item I.is_written
+        (rewritten_of machine section base rs (map L.deletion deleted.now)) i
+        result.gone result.count result.end out.new makers.new }
     ensures others_stay { (drop result.count out.new ≡ drop result.count out.old)
         × (drop result.count makers.new ≡ drop result.count makers.old) }
 {
@@ -197,21 +187,11 @@ fn list_item<L: AsDeletion, I: AsItem>(
     ensures listed { IfSome result (λ more. (machine : machines) (section : List ℕ)
         (rs : List relocations) → length rs ≡ relocations_len
         → Makes machine section base rs index item.now
-        → AreListedIn I.item I.is_written (record {
-          machine = machine;
-          section = section;
-          base = base;
-          relocations = rs;
-          deletions = map L.deletion deleted.now;
-        }) index listed.gone
-        listed.count listed.end out.old makers.old
-        → AreListedIn I.item I.is_written (record {
-          machine = machine;
-          section = section;
-          base = base;
-          relocations = rs;
-          deletions = map L.deletion deleted.now;
-        }) (index + 1)
+        → AreListedIn I.item I.is_written
+        (rewritten_of machine section base rs (map L.deletion deleted.now)) index
+        listed.gone listed.count listed.end out.old makers.old
+        → AreListedIn I.item I.is_written
+        (rewritten_of machine section base rs (map L.deletion deleted.now)) (index + 1)
         more.gone more.count more.end out.new makers.new) }
     ensures others_stay { IfSome result (λ more.
         (drop more.count out.new ≡ drop more.count out.old)

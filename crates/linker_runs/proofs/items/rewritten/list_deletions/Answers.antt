@@ -3,7 +3,7 @@ use Rattle.std.proofs.lemmas.List.{drop-set-lt, length-map}
 use Rattle.std.proofs.lemmas.Grind.{drop_more_same}
 use Rattle.linker_runs.specs.Relaxing.{end_of}
 use Rattle.linker_runs.specs.RewrittenItems.{IsDeleted, deleted_at, deleted_end}
-use Rattle.linker_runs.specs.Inner.Listed.{Rewritten, AreListedIn}
+use Rattle.linker_runs.specs.Inner.Listed.{Rewritten, AreListedIn, rewritten_of}
 use Rattle.linker_runs.proofs.Listed.{put_deleted}
 use Rattle.linker_runs.proofs.items.rewritten.list_deletions.Goals as goal
 
@@ -33,7 +33,7 @@ loop-gone-preserved g c =
       listed = λ m s rs i len few before.
           let so_far = inv.listed m s rs i len few before in
           let all = length-map c.args.deleted.now g.L.AsDeletion.deletion in
-          let of : Rewritten = record { machine = m; section = s; base = base; relocations = rs; deletions = ds } in
+          let of : Rewritten = rewritten_of m s base rs ds in
           let out = set c.loop-gone.out n x in
           let after = base + (at.0 + c.from.result) in
           let put = put_deleted f g.I.AsItem.is_written of i k n c.loop-gone.end after c.loop-gone.out c.loop-gone.makers x so_far

@@ -5,6 +5,7 @@ use Rattle.std.proofs.lemmas.Grind.{drop_more_same}
 use Rattle.linker_runs.specs.Relaxing.{offset_of, end_of}
 use Rattle.linker_runs.specs.RewrittenItems.{deleted_at}
 use Rattle.linker_runs.specs.SectionItems.{Makes}
+use Rattle.linker_runs.specs.Inner.Listed.{rewritten_of}
 use Rattle.linker_runs.proofs.Listed.{put_made}
 use Rattle.linker_runs.proofs.items.rewritten.list_item.Goals as goal
 
@@ -28,7 +29,7 @@ returns-clause-listed g c = λ m s rs len is before.
     (λ (cut : base + (deleted_at ds all.result.gone).0 < after). absurd (both_ways c.is_cut.result c.if-is_cut.false (c.is_cut.ensures.1 (more, omega (arith, cut, end)))))
     (λ (clear : after ≤ base + (deleted_at ds all.result.gone).0). clear)
     (cases_lt (base + (deleted_at ds all.result.gone).0) after) in
-    put_made f g.I.AsItem.is_written (record { machine = m; section = s; base = base; relocations = rs; deletions = ds }) i all.result.gone all.result.count all.result.end after all.new.out all.new.makers x so_far
+    put_made f g.I.AsItem.is_written (rewritten_of m s base rs ds) i all.result.gone all.result.count all.result.end after all.new.out all.new.makers x so_far
     (omega (arith, so_far.few, all.ensures.range.1, c.requires.index, c.requires.room, all.auto.out))
     (omega (arith, so_far.few, all.ensures.range.1, c.requires.index, c.requires.makers, all.auto.makers))
     made c.from_item.ensures.form following (end ∙ sym (ap end_of there)) (λ more. next (omega (arith, more, count)))

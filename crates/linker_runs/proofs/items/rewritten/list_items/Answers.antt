@@ -4,7 +4,7 @@ use Rattle.std.proofs.lemmas.Bool.{cases_lt}
 use Rattle.std.proofs.lemmas.List.{length-map}
 use Rattle.linker_runs.specs.declared.relaxation.Item.{Item}
 use Rattle.linker_runs.specs.declared.items.Relocation.{Relocation}
-use Rattle.linker_runs.specs.Inner.Listed.{Rewritten}
+use Rattle.linker_runs.specs.Inner.Listed.{Rewritten, rewritten_of}
 use Rattle.linker_runs.specs.RewrittenItems.{AreListed}
 use Rattle.linker_runs.specs.SectionItems.{Makes}
 use Rattle.linker_runs.proofs.Alignments.{ahead_on}
@@ -20,7 +20,7 @@ loop-index-preserved g c =
     let rs : List Relocation = map g.R.AsRelocation.relocation c.args.relocations.now in
     let f = g.I.AsItem.item in
     let W = g.I.AsItem.is_written in
-    let s : Rewritten = record { machine = c.args.machine; section = c.args.section.now; base = c.args.base; relocations = rs; deletions = map g.L.AsDeletion.deletion c.args.deleted.now } in
+    let s : Rewritten = rewritten_of c.args.machine c.args.section.now c.args.base rs (map g.L.AsDeletion.deletion c.args.deleted.now) in
     let makes : ℕ → Item → Type 0 = Makes c.args.machine c.args.section.now c.args.base rs in
     let i = c.loop-index.index in
     let now = c.loop-index.listed in

@@ -1,5 +1,6 @@
 use Rattle.std.specs.Prelude.{map}
 use Rattle.linker_runs.specs.Inner.Ahead.{MayBeAhead}
+use Rattle.linker_runs.specs.Inner.Listed.{rewritten_of}
 use Rattle.linker_runs.proofs.Listed.{IsWalked}
 use Rattle.linker_runs.proofs.items.rewritten.list_items.Given as goal
 
@@ -8,6 +9,6 @@ invariant-loop-index g l =
     let rs = map g.R.AsRelocation.relocation l.relocations in
     let ds = map g.L.AsDeletion.deletion l.deleted in
     record {
-      walked : IsWalked g.I.AsItem.item g.I.AsItem.is_written (record { machine = l.machine; section = l.section; base = l.base; relocations = rs; deletions = ds }) l.index l.listed.gone l.listed.count l.listed.end l.out l.initial.out l.makers l.initial.makers;
+      walked : IsWalked g.I.AsItem.item g.I.AsItem.is_written (rewritten_of l.machine l.section l.base rs ds) l.index l.listed.gone l.listed.count l.listed.end l.out l.initial.out l.makers l.initial.makers;
       next : MayBeAhead l.machine rs l.index l.next;
     }
