@@ -300,30 +300,13 @@ pub fn relax_into<I: AsItem>(
     requires freed { length freed.old ≡ length items.now + 1 }
     ensures { IsRelaxation start (map I.item items.now) shapes.new kept.new freed.new }
 {
-    relax_items(&ItemList::new(items), start, shapes, kept, places, freed);
-}
-
-fn relax_items<I: AsItem>(
-    items: &ItemList<'_, I>,
-    start: u64,
-    shapes: &mut [u8],
-    kept: &mut [u64],
-    places: &mut [usize],
-    freed: &mut [u64],
-)
-    requires items { AreItems start items.now }
-    requires shapes { length shapes.old ≡ length items.now }
-    requires kept { length kept.old ≡ length items.now }
-    requires places { length places.old ≡ length items.now }
-    requires freed { length freed.old ≡ length items.now + 1 }
-    ensures { IsRelaxation start items.now shapes.new kept.new freed.new }
-{
-    find_places(items, start, places);
-    if !settle(items, start, places, freed, shapes) {
-        choose_cautiously(items, start, places, freed, shapes);
-        lay_out(items, start, shapes, freed);
+    let list = ItemList::new(items);
+    find_places(&list, start, places);
+    if !settle(&list, start, places, freed, shapes) {
+        choose_cautiously(&list, start, places, freed, shapes);
+        lay_out(&list, start, shapes, freed);
     }
-    keep(items, start, shapes, freed, kept);
+    keep(&list, start, shapes, freed, kept);
 }
 
 /// What `relax` chooses.
@@ -352,22 +335,10 @@ pub fn deletions<I: AsItem>(
     ensures { IfOk result
         (λ deltas. deltas ≡ deletions_of_run (map I.item items.now) kept.now) }
 {
-    deletions_in(alloc, &ItemList::new(items), start, kept)
-}
-
-fn deletions_in<I: AsItem>(
-    alloc: Global,
-    items: &ItemList<'_, I>,
-    start: u64,
-    kept: &[u64],
-) -> Result<SectionRelaxDeltas, OutOfMemory>
-    requires items { AreInOrder start items.now }
-    requires one_each { length kept.now ≡ length items.now }
-    ensures { IfOk result (λ deltas. deltas ≡ deletions_of_run items.now kept.now) }
-{
-    let mut raw = Vec::with_capacity(alloc, items.len())?;
-    for index in 0..items.len() {
-        let item = items.at(index);
+    let list = ItemList::new(items);
+    let mut raw = Vec::with_capacity(alloc, list.len())?;
+    for index in 0..list.len() {
+        let item = list.at(index);
         if kept[index] < item.len() {
             raw.push((item.offset() + kept[index], item.lost(kept[index])))?;
         }

@@ -260,23 +260,13 @@ pub fn relax_into<I: AsItem>(
     debug_assert!(kept.len() == items.len());
     debug_assert!(places.len() == items.len());
     debug_assert!((freed.len() as u128) == (items.len() as u128) + 1);
-    relax_items(&ItemList::new(items), start, shapes, kept, places, freed);
-}
-
-fn relax_items<I: AsItem>(
-    items: &ItemList<'_, I>,
-    start: u64,
-    shapes: &mut [u8],
-    kept: &mut [u64],
-    places: &mut [usize],
-    freed: &mut [u64],
-) {
-    find_places(items, start, places);
-    if !settle(items, start, places, freed, shapes) {
-        choose_cautiously(items, start, places, freed, shapes);
-        lay_out(items, start, shapes, freed);
+    let list = ItemList::new(items);
+    find_places(&list, start, places);
+    if !settle(&list, start, places, freed, shapes) {
+        choose_cautiously(&list, start, places, freed, shapes);
+        lay_out(&list, start, shapes, freed);
     }
-    keep(items, start, shapes, freed, kept);
+    keep(&list, start, shapes, freed, kept);
 }
 
 /// What [`relax`](crate::runs::relax()) chooses.
@@ -306,17 +296,10 @@ pub fn deletions<I: AsItem>(
     kept: &[u64],
 ) -> Result<SectionRelaxDeltas, OutOfMemory> {
     debug_assert!(kept.len() == items.len());
-    deletions_in(&ItemList::new(items), start, kept)
-}
-
-fn deletions_in<I: AsItem>(
-    items: &ItemList<'_, I>,
-    start: u64,
-    kept: &[u64],
-) -> Result<SectionRelaxDeltas, OutOfMemory> {
-    let mut raw = Vec::fallible_with_capacity(items.len())?;
-    for index in 0..items.len() {
-        let item = items.at(index);
+    let list = ItemList::new(items);
+    let mut raw = Vec::fallible_with_capacity(list.len())?;
+    for index in 0..list.len() {
+        let item = list.at(index);
         if kept[index] < item.len() {
             raw.fallible_push((item.offset() + kept[index], item.lost(kept[index])))?;
         }

@@ -1,18 +1,18 @@
 use Rattle.std.proofs.Common.{◌+◌, ◌-◌, ◌++◌, ◌∷◌, [], ◌∙◌, get_or, ap, sym, subst, arith}
 use Rattle.std.proofs.lemmas.List.{append-nil}
 use Rattle.linker_base.specs.Deletions.{IsValid}
-use Rattle.linker_runs.specs.Relaxing.{item_at, offset_of, len_of}
+use Rattle.linker_runs.specs.Relaxing.{item_at, offset_of, len_of, AreInOrder}
 use Rattle.linker_runs.specs.Deleting.{deletions_before}
 use Rattle.linker_runs.proofs.Deletions.{deletions_none, deletions_next, deletion_some, deletion_none, deletions_valid}
-use Rattle.linker_runs.proofs.relaxation.deletions_in.Goals as goal
-use Rattle.linker_runs.proofs.relaxation.deletions_in.Goals.{then-kept-index+in_ok-push, else-kept-index}
+use Rattle.linker_runs.proofs.relaxation.deletions.Goals as goal
+use Rattle.linker_runs.proofs.relaxation.deletions.Goals.{then-kept-index+in_ok-push, else-kept-index}
 
 pub loop-index-init : goal.loop-index-init
-loop-index-init g c = c.in_ok-raw.ensures.items ∙ sym (deletions_none c.args.items.now c.args.kept.now)
+loop-index-init g c = c.in_ok-raw.ensures.items ∙ sym (deletions_none c.new-list.result c.args.kept.now)
 
 pub loop-index-preserved : goal.loop-index-preserved
 loop-index-preserved g c =
-    let items = c.args.items.now in
+    let items = c.new-list.result in
     let kept = c.args.kept.now in
     let i = c.loop-index.index in
     let ds = deletions_before items kept i in
@@ -30,4 +30,4 @@ loop-index-preserved g c =
     ]
 
 pub new-requires : goal.new-requires
-new-requires g c = subst IsValid (sym (c.deref.ensures.value ∙ c.loop-index.invariant)) (deletions_valid c.args.start c.args.items.now c.args.kept.now c.requires.items c.loop-index.index (omega arith))
+new-requires g c = subst IsValid (sym (c.deref.ensures.value ∙ c.loop-index.invariant)) (deletions_valid c.args.start c.new-list.result c.args.kept.now (subst (AreInOrder c.args.start) (sym c.new-list.ensures) c.requires.items) c.loop-index.index (omega arith))

@@ -1,6 +1,6 @@
 use Rattle.std.proofs.Common.{◌≡◌}
 use Rattle.linker_runs.specs.Deleting.{deletions_before}
-use Rattle.linker_runs.proofs.relaxation.deletions_in.Given as goal
+use Rattle.linker_runs.proofs.relaxation.deletions.Given as goal
 
 abbrev pub invariant-loop-index : goal.invariant-loop-index
-invariant-loop-index g l = l.raw.items ≡ deletions_before l.items l.kept l.index
+invariant-loop-index g l = l.raw.items ≡ deletions_before l.list l.kept l.index
