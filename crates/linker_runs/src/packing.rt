@@ -27,12 +27,13 @@ mod loongarch64;
 mod moved;
 mod riscv64;
 
-use crate::items::{AsItem, ItemList};
+use crate::items::{AsItem, ItemList, has_bytes};
 use crate::packing::code::Code;
 use crate::packing::moved::move_relocations;
 use crate::relaxation::{Item, Site};
 use linker_base::packing::{Position, copy_kept, position_from, position_of};
 use linker_base::relaxation::{DeltaSlice, RelaxDelta};
+use linker_base::rewrite::overwrite;
 use linker_utils::elf::Architecture;
 
 /// The architecture of a section's code.
@@ -115,12 +116,7 @@ fn is_inside(section: &[u8], base: u64, item: &Item) -> bool
     ensures { (deletions : List (ℕ × ℕ)) (start : ℕ)
         → IsTrue result ↔ IsInside (section_of section.now base deletions start) item.now }
 {
-    let len = section.len() as u64;
-    if item.offset() < base {
-        return false;
-    }
-    let at = item.offset() - base;
-    at <= len && item.len() <= len - at
+    item.offset() >= base && has_bytes(section, item.offset() - base, item.len())
 }
 
 /// Whether all bytes between two positions stay.
@@ -265,10 +261,8 @@ fn piece_for(
             }
         }
         Item::Site(site) => {
-            match code_of_site(machine, section, base, deltas, at, start, site, kept) {
-                Ok(code) => Ok(Piece::Code(code)),
-                Err(error) => Err(error),
-            }
+            let code = code_of_site(machine, section, base, deltas, at, start, site, kept)?;
+            Ok(Piece::Code(code))
         }
     }
 }
@@ -375,17 +369,14 @@ fn test_items<I: AsItem>(
 
 /// Puts bytes at an offset, where they fit there.
 #[inline(always)]
-pub(crate) fn put_bytes(packed: &mut [u8], at: u64, bytes: &[u8])
+fn put_bytes(packed: &mut [u8], at: u64, bytes: &[u8])
     ensures { at + length bytes.now ≤ length packed.old
         → packed.new ≡ take at packed.old ++ bytes.now ++ drop (at + length bytes.now) packed.old }
 {
-    let len = packed.len() as u64;
-    let count = bytes.len() as u64;
-    if count > len || at > len - count {
+    if !has_bytes(packed, at, bytes.len() as u64) {
         return;
     }
-    let from = at as usize;
-    packed[from..from + bytes.len()].copy_from_slice(bytes);
+    overwrite(packed, at, bytes);
 }
 
 /// Puts n of the same four bytes at an offset, where they fit there.

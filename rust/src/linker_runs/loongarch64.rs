@@ -189,13 +189,9 @@ pub(crate) fn item_at<R: AsRelocation>(
 ) -> Option<Item> {
     let relocation = relocation_at(relocations, index);
     if has_name(&relocation, LoongArch64Relocation::R_LARCH_ALIGN) {
-        return match alignment_at(section, base, &relocation) {
-            Some(alignment) => Some(Item::Aligned(alignment)),
-            None => None,
-        };
+        let alignment = alignment_at(section, base, &relocation)?;
+        return Some(Item::Aligned(alignment));
     }
-    match site_at(section, base, relocations, index) {
-        Some(site) => Some(Item::Site(site)),
-        None => None,
-    }
+    let site = site_at(section, base, relocations, index)?;
+    Some(Item::Site(site))
 }

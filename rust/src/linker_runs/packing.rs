@@ -9,12 +9,13 @@ mod moved;
 #[cfg(feature = "riscv64")]
 mod riscv64;
 
-use crate::linker_runs::items::{AsItem, ItemList};
+use crate::linker_runs::items::{AsItem, ItemList, has_bytes};
 use crate::linker_runs::packing::code::Code;
 use crate::linker_runs::packing::moved::move_relocations;
 use crate::linker_runs::relaxation::{Item, Site};
 use crate::linker_base::packing::{Position, copy_kept, position_from, position_of};
 use crate::linker_base::relaxation::{DeltaSlice, RelaxDelta};
+use crate::linker_base::rewrite::overwrite;
 use crate::elf::Architecture;
 
 /// The architecture of a section's code.
@@ -100,12 +101,7 @@ fn is_apart(index: usize, following: &Position, item: &Item) -> bool {
 /// Whether an item lies in a section that begins at the input offset `base`.
 #[inline(always)]
 fn is_inside(section: &[u8], base: u64, item: &Item) -> bool {
-    let len = section.len() as u64;
-    if item.offset() < base {
-        return false;
-    }
-    let at = item.offset() - base;
-    at <= len && item.len() <= len - at
+    item.offset() >= base && has_bytes(section, item.offset() - base, item.len())
 }
 
 /// Whether all bytes between two positions stay.
@@ -197,10 +193,8 @@ fn piece_for(
             }
         }
         Item::Site(site) => {
-            match code_of_site(machine, section, base, deltas, at, start, site, kept) {
-                Ok(code) => Ok(Piece::Code(code)),
-                Err(error) => Err(error),
-            }
+            let code = code_of_site(machine, section, base, deltas, at, start, site, kept)?;
+            Ok(Piece::Code(code))
         }
     }
 }
@@ -278,14 +272,11 @@ fn test_items<I: AsItem>(
 
 /// Puts bytes at an offset, where they fit there.
 #[inline(always)]
-pub(crate) fn put_bytes(packed: &mut [u8], at: u64, bytes: &[u8]) {
-    let len = packed.len() as u64;
-    let count = bytes.len() as u64;
-    if count > len || at > len - count {
+fn put_bytes(packed: &mut [u8], at: u64, bytes: &[u8]) {
+    if !has_bytes(packed, at, bytes.len() as u64) {
         return;
     }
-    let from = at as usize;
-    packed[from..from + bytes.len()].copy_from_slice(bytes);
+    overwrite(packed, at, bytes);
 }
 
 /// Puts n of the same four bytes at an offset, where they fit there.

@@ -168,16 +168,12 @@ pub(crate) fn item_at<R: AsRelocation>(
 ) -> Option<Item> {
     let relocation = relocation_at(relocations, index);
     if is_of_call(&relocation) {
-        return match site_at(section, base, relocations, index, next) {
-            Some(site) => Some(Item::Site(site)),
-            None => None,
-        };
+        let site = site_at(section, base, relocations, index, next)?;
+        return Some(Item::Site(site));
     }
     if !aligns(&relocation) {
         return None;
     }
-    match nops_of(section, &relocation) {
-        Some(nops) => Some(Item::Aligned(alignment_of(nops, base + relocation.offset))),
-        None => None,
-    }
+    let nops = nops_of(section, &relocation)?;
+    Some(Item::Aligned(alignment_of(nops, base + relocation.offset)))
 }

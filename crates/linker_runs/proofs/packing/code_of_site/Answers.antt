@@ -1,6 +1,10 @@
-use Rattle.std.proofs.Common.{◌≡◌, ◌+◌, ◌-◌, ◌∙◌, ◌%◌, ◌^◌, ℕ, Result, Ok, Err, OnOk, IfOk, IfErr, ap, sym, subst}
+use Rattle.std.proofs.Common.{◌≡◌, ◌+◌, ◌-◌, ◌∙◌, ◌%◌, ◌^◌, ℕ, List, Result, Ok, Err, OnOk, IfOk, IfErr, ap, sym, subst}
+use Rattle.std.proofs.lemmas.Result.{IfErr-weaker}
 use Rattle.linker_base.specs.Deltas.{deletions_of}
 use Rattle.linker_base.specs.Deletions.{rank}
+use Rattle.linker_base.specs.Inner.Packing.{IsPosition}
+use Rattle.linker_base.specs.declared.packing.Position.{Position}
+use Rattle.linker_base.specs.declared.relaxation.RelaxDelta.{RelaxDelta}
 use Rattle.linker_runs.specs.RiscVSites.{RiscVBecomes, RiscVAccepts, RiscVCause}
 use Rattle.linker_runs.specs.LoongArchSites.{LoongArchBecomes, LoongArchAccepts, LoongArchCause}
 use Rattle.linker_runs.specs.Packing.{section_of, Section, CodeCause, SiteBecomes, SiteAccepts, SiteCause, address_of}
@@ -13,16 +17,17 @@ use Rattle.linker_runs.specs.declared.relaxation.Site.{Site}
 use Rattle.linker_runs.proofs.packing.code_of_site.Goals as goal
 
 -- what holds of the addresses that the code has taken holds of those of the site and its target
-moved : (P : ℕ → ℕ → Type 0) (start a b a' b' : ℕ) → a ≡ a' → b ≡ b' → P ((start + a) % 2 ^ 64) ((start + b) % 2 ^ 64) → P ((start + a') % 2 ^ 64) ((start + b') % 2 ^ 64)
-moved P start a b a' b' e f p = subst (λ n. P ((start + a') % 2 ^ 64) ((start + n) % 2 ^ 64)) f (subst (λ n. P ((start + n) % 2 ^ 64) ((start + b) % 2 ^ 64)) e p)
+at_site : (P : ℕ → ℕ → Type 0) (deltas : List RelaxDelta) (start o t : ℕ) (at there : Position) → at.input_offset ≡ o → there.input_offset ≡ t → IsPosition deltas at → IsPosition deltas there
+    → P ((start + at.output_offset) % 2 ^ 64) ((start + there.output_offset) % 2 ^ 64)
+    → P ((start + rank (deletions_of deltas) o) % 2 ^ 64) ((start + rank (deletions_of deltas) t) % 2 ^ 64)
+at_site P deltas start o t at there e f is is' p =
+    let ds = deletions_of deltas in
+    subst (λ n. P ((start + rank ds o) % 2 ^ 64) ((start + n) % 2 ^ 64)) (is'.output ∙ ap (rank ds) f)
+    (subst (λ n. P ((start + n) % 2 ^ 64) ((start + there.output_offset) % 2 ^ 64)) (is.output ∙ ap (rank ds) e) p)
 
 on_ok : {T E : Type 0} (r : Result T E) (P Q : Type 0) → (P → Q) → OnOk r P → OnOk r Q
 on_ok (Ok x) P Q f p = f p
 on_ok (Err e) P Q f p = p
-
-on_err : {T E : Type 0} (r : Result T E) (P Q : E → Type 0) → ((e : E) → P e → Q e) → IfErr r P → IfErr r Q
-on_err (Ok x) P Q f p = p
-on_err (Err e) P Q f p = f e p
 
 with_len : (machine : Machine) (s : Section) (site : Site) (kept : ℕ) → site.len ≡ 8 → (error : ItemError)
     → CodeCause machine s.bytes (site.offset - s.base) kept (address_of s site.offset) (address_of s site.target) error
@@ -35,65 +40,53 @@ returns-in-RiscV64-clause-becomes c = λ valid position.
     let s = section_of c.args.section.now c.args.base (deletions_of c.args.deltas.now) c.args.start in
     let site = c.args.site.now in
     let r = c.code_of.result in
-    let here : c.args.at.now.output_offset ≡ rank s.deletions site.offset = position.output ∙ ap (rank s.deletions) c.requires.at in
-    let there : c.position_of.result.output_offset ≡ rank s.deletions site.target = (c.position_of.ensures.position valid).output ∙ ap (rank s.deletions) c.position_of.ensures.offset in
     subst (λ m. IfOk r (λ code. SiteBecomes m s site (code_bytes code))) (sym c.in-RiscV64.is)
-    (moved (λ place target. IfOk r (λ code. RiscVBecomes s.bytes (site.offset - s.base) place target (code_bytes code))) s.start c.args.at.now.output_offset c.position_of.result.output_offset (rank s.deletions site.offset) (rank s.deletions site.target) here there c.code_of.ensures.becomes)
+    (at_site (λ place target. IfOk r (λ code. RiscVBecomes s.bytes (site.offset - s.base) place target (code_bytes code))) c.args.deltas.now c.args.start site.offset site.target c.args.at.now c.position_of.result c.requires.at c.position_of.ensures.offset position (c.position_of.ensures.position valid) c.code_of.ensures.becomes)
 
 pub returns-in-RiscV64-clause-accepts : goal.returns-in-RiscV64-clause-accepts
 returns-in-RiscV64-clause-accepts c = λ valid position.
     let s = section_of c.args.section.now c.args.base (deletions_of c.args.deltas.now) c.args.start in
     let site = c.args.site.now in
     let r = c.code_of.result in
-    let here : c.args.at.now.output_offset ≡ rank s.deletions site.offset = position.output ∙ ap (rank s.deletions) c.requires.at in
-    let there : c.position_of.result.output_offset ≡ rank s.deletions site.target = (c.position_of.ensures.position valid).output ∙ ap (rank s.deletions) c.position_of.ensures.offset in
     let accepts = λ (place target : ℕ). RiscVAccepts s.bytes (site.offset - s.base) c.args.kept place target in
     subst (λ m. OnOk r (SiteAccepts m s site c.args.kept)) (sym c.in-RiscV64.is)
     (on_ok r (accepts (address_of s site.offset) (address_of s site.target)) ((site.len ≡ 8) × accepts (address_of s site.offset) (address_of s site.target)) (λ h. (c.if-site-ne8.false, h))
-    (moved (λ place target. OnOk r (accepts place target)) s.start c.args.at.now.output_offset c.position_of.result.output_offset (rank s.deletions site.offset) (rank s.deletions site.target) here there c.code_of.ensures.accepts))
+    (at_site (λ place target. OnOk r (accepts place target)) c.args.deltas.now c.args.start site.offset site.target c.args.at.now c.position_of.result c.requires.at c.position_of.ensures.offset position (c.position_of.ensures.position valid) c.code_of.ensures.accepts))
 
 pub returns-in-RiscV64-clause-rejected : goal.returns-in-RiscV64-clause-rejected
 returns-in-RiscV64-clause-rejected c = λ valid position.
     let s = section_of c.args.section.now c.args.base (deletions_of c.args.deltas.now) c.args.start in
     let site = c.args.site.now in
     let r = c.code_of.result in
-    let here : c.args.at.now.output_offset ≡ rank s.deletions site.offset = position.output ∙ ap (rank s.deletions) c.requires.at in
-    let there : c.position_of.result.output_offset ≡ rank s.deletions site.target = (c.position_of.ensures.position valid).output ∙ ap (rank s.deletions) c.position_of.ensures.offset in
     let causes = λ (place target : ℕ) (error : ItemError). RiscVCause s.bytes (site.offset - s.base) c.args.kept place target error in
     subst (λ m. IfErr r (SiteCause m s site c.args.kept)) (sym c.in-RiscV64.is)
-    (on_err r (causes (address_of s site.offset) (address_of s site.target)) (SiteCause RiscV64 s site c.args.kept) (with_len RiscV64 s site c.args.kept c.if-site-ne8.false)
-    (moved (λ place target. IfErr r (causes place target)) s.start c.args.at.now.output_offset c.position_of.result.output_offset (rank s.deletions site.offset) (rank s.deletions site.target) here there c.code_of.ensures.rejected))
+    (IfErr-weaker r (causes (address_of s site.offset) (address_of s site.target)) (SiteCause RiscV64 s site c.args.kept) (with_len RiscV64 s site c.args.kept c.if-site-ne8.false)
+    (at_site (λ place target. IfErr r (causes place target)) c.args.deltas.now c.args.start site.offset site.target c.args.at.now c.position_of.result c.requires.at c.position_of.ensures.offset position (c.position_of.ensures.position valid) c.code_of.ensures.rejected))
 
 pub returns-in-LoongArch64-clause-becomes : goal.returns-in-LoongArch64-clause-becomes
 returns-in-LoongArch64-clause-becomes c = λ valid position.
     let s = section_of c.args.section.now c.args.base (deletions_of c.args.deltas.now) c.args.start in
     let site = c.args.site.now in
     let r = c.code_of-in-LoongArch64.result in
-    let here : c.args.at.now.output_offset ≡ rank s.deletions site.offset = position.output ∙ ap (rank s.deletions) c.requires.at in
-    let there : c.position_of.result.output_offset ≡ rank s.deletions site.target = (c.position_of.ensures.position valid).output ∙ ap (rank s.deletions) c.position_of.ensures.offset in
     subst (λ m. IfOk r (λ code. SiteBecomes m s site (code_bytes code))) (sym c.in-LoongArch64.is)
-    (moved (λ place target. IfOk r (λ code. LoongArchBecomes s.bytes (site.offset - s.base) place target (code_bytes code))) s.start c.args.at.now.output_offset c.position_of.result.output_offset (rank s.deletions site.offset) (rank s.deletions site.target) here there c.code_of-in-LoongArch64.ensures.becomes)
+    (at_site (λ place target. IfOk r (λ code. LoongArchBecomes s.bytes (site.offset - s.base) place target (code_bytes code))) c.args.deltas.now c.args.start site.offset site.target c.args.at.now c.position_of.result c.requires.at c.position_of.ensures.offset position (c.position_of.ensures.position valid) c.code_of-in-LoongArch64.ensures.becomes)
 
 pub returns-in-LoongArch64-clause-accepts : goal.returns-in-LoongArch64-clause-accepts
 returns-in-LoongArch64-clause-accepts c = λ valid position.
     let s = section_of c.args.section.now c.args.base (deletions_of c.args.deltas.now) c.args.start in
     let site = c.args.site.now in
     let r = c.code_of-in-LoongArch64.result in
-    let here : c.args.at.now.output_offset ≡ rank s.deletions site.offset = position.output ∙ ap (rank s.deletions) c.requires.at in
-    let there : c.position_of.result.output_offset ≡ rank s.deletions site.target = (c.position_of.ensures.position valid).output ∙ ap (rank s.deletions) c.position_of.ensures.offset in
     let accepts = λ (place target : ℕ). LoongArchAccepts s.bytes (site.offset - s.base) c.args.kept place target in
     subst (λ m. OnOk r (SiteAccepts m s site c.args.kept)) (sym c.in-LoongArch64.is)
     (on_ok r (accepts (address_of s site.offset) (address_of s site.target)) ((site.len ≡ 8) × accepts (address_of s site.offset) (address_of s site.target)) (λ h. (c.if-site-ne8.false, h))
-    (moved (λ place target. OnOk r (accepts place target)) s.start c.args.at.now.output_offset c.position_of.result.output_offset (rank s.deletions site.offset) (rank s.deletions site.target) here there c.code_of-in-LoongArch64.ensures.accepts))
+    (at_site (λ place target. OnOk r (accepts place target)) c.args.deltas.now c.args.start site.offset site.target c.args.at.now c.position_of.result c.requires.at c.position_of.ensures.offset position (c.position_of.ensures.position valid) c.code_of-in-LoongArch64.ensures.accepts))
 
 pub returns-in-LoongArch64-clause-rejected : goal.returns-in-LoongArch64-clause-rejected
 returns-in-LoongArch64-clause-rejected c = λ valid position.
     let s = section_of c.args.section.now c.args.base (deletions_of c.args.deltas.now) c.args.start in
     let site = c.args.site.now in
     let r = c.code_of-in-LoongArch64.result in
-    let here : c.args.at.now.output_offset ≡ rank s.deletions site.offset = position.output ∙ ap (rank s.deletions) c.requires.at in
-    let there : c.position_of.result.output_offset ≡ rank s.deletions site.target = (c.position_of.ensures.position valid).output ∙ ap (rank s.deletions) c.position_of.ensures.offset in
     let causes = λ (place target : ℕ) (error : ItemError). LoongArchCause s.bytes (site.offset - s.base) c.args.kept place target error in
     subst (λ m. IfErr r (SiteCause m s site c.args.kept)) (sym c.in-LoongArch64.is)
-    (on_err r (causes (address_of s site.offset) (address_of s site.target)) (SiteCause LoongArch64 s site c.args.kept) (with_len LoongArch64 s site c.args.kept c.if-site-ne8.false)
-    (moved (λ place target. IfErr r (causes place target)) s.start c.args.at.now.output_offset c.position_of.result.output_offset (rank s.deletions site.offset) (rank s.deletions site.target) here there c.code_of-in-LoongArch64.ensures.rejected))
+    (IfErr-weaker r (causes (address_of s site.offset) (address_of s site.target)) (SiteCause LoongArch64 s site c.args.kept) (with_len LoongArch64 s site c.args.kept c.if-site-ne8.false)
+    (at_site (λ place target. IfErr r (causes place target)) c.args.deltas.now c.args.start site.offset site.target c.args.at.now c.position_of.result c.requires.at c.position_of.ensures.offset position (c.position_of.ensures.position valid) c.code_of-in-LoongArch64.ensures.rejected))
