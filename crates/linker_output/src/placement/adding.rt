@@ -8,7 +8,7 @@ ghost use Rattle.linker_output.specs.Placement.{HasSpare, IsCode, IsFar};
 ghost use Rattle.linker_output.specs.Inner.Placement.{IsState, level, way_at, level_of, IsAt};
 ghost use Rattle.linker_output.specs.Inner.Placement.{HasNoneAt, StaysUnshared, IsNew, IsOut};
 ghost use Rattle.linker_output.specs.Inner.Placement.{IsWay};
-ghost use Rattle.linker_output.specs.Inner.Placement.{IsOutAhead, IsOutAfter, IsOutThere, IsStubAt};
+ghost use Rattle.linker_output.specs.Inner.Placement.{IsOutThere, IsStubAt};
 ghost use Rattle.linker_output.specs.Inner.Placement.{list_of, new_stub, new_way, with_one, IsNear};
 ghost use Rattle.linker_output.specs.Inner.Placement.{SameStubs};
 ghost use Rattle.linker_output.specs.declared.placement.Way.TheVariants.{Near, Far};
@@ -157,9 +157,7 @@ impl State {
     {
         self.ways[index] = way;
     }
-}
 
-impl State {
     /// Whether a branch reaches a stub by a layout.
     fn reaches_stub(
         &self,
@@ -312,8 +310,8 @@ impl State {
         }
     }
 
-    /// Has a branch go by the stub of its target in a part of a boundary next to it, or by a new
-    /// one, if that is in reach.
+    /// Has a branch go by the stub of its target in a part of a boundary next to it, if there is
+    /// such a boundary, or by a new one, if that is in reach.
     fn go_to(
         &mut self,
         code: &Code<'_>,
@@ -324,7 +322,6 @@ impl State {
         requires code { IsCode code.now }
         requires state { IsState code.now self.old }
         requires within { index < length code.now.branches.now }
-        requires boundary { boundary < length code.now.boundaries.now }
         requires next { level_of part ≡ 2 }
         requires higher { level (way_at self.old.ways.items index) < 2 }
         requires needed { ¬ HasSpare code.now (branch_at code.now.branches.now index) }
@@ -334,9 +331,12 @@ impl State {
             → sum_by level self.old.ways.items < sum_by level self.new.ways.items) }
         ensures same { IfOk result (λ went. went ≡ false → self.new ≡ self.old) }
         ensures may_share { IfOk result (λ _. self.new.may_share ≡ self.old.may_share) }
-        ensures none { IfOk result (λ went. went ≡ false
+        ensures none { IfOk result (λ went. went ≡ false → boundary < length code.now.boundaries.now
             → IsOutThere code.now self.old (branch_at code.now.branches.now index) boundary part) }
     {
+        if boundary >= code.boundaries.len() {
+            return Ok(false);
+        }
         let branch = code.branches[index];
         match self.find(code, boundary, part, branch.target) {
             Some(stub) => {
@@ -357,75 +357,6 @@ impl State {
                 Ok(true)
             }
         }
-    }
-
-    /// Has a branch go by a stub at the next boundary ahead of it, if that is in reach.
-    fn go_ahead(&mut self, code: &Code<'_>, index: usize) -> Result<bool, OutOfMemory>
-        requires code { IsCode code.now }
-        requires state { IsState code.now self.old }
-        requires within { index < length code.now.branches.now }
-        requires higher { level (way_at self.old.ways.items index) < 2 }
-        requires needed { ¬ HasSpare code.now (branch_at code.now.branches.now index) }
-        requires left { StaysUnshared code.now self.old (branch_at code.now.branches.now index) }
-        ensures state { IfOk result (λ _. IsState code.now self.new) }
-        ensures higher { IfOk result (λ went. went ≡ true
-            → sum_by level self.old.ways.items < sum_by level self.new.ways.items) }
-        ensures same { IfOk result (λ went. went ≡ false → self.new ≡ self.old) }
-        ensures may_share { IfOk result (λ _. self.new.may_share ≡ self.old.may_share) }
-        ensures none { IfOk result (λ went. went ≡ false
-            → IsOutAhead code.now self.old (branch_at code.now.branches.now index)) }
-    {
-        let ahead = passed(code.boundaries, code.branches[index].offset);
-        if ahead >= code.boundaries.len() {
-            return Ok(false);
-        }
-        self.go_to(code, index, ahead, Part::Front)
-    }
-
-    /// Has a branch go by a stub at the boundary before it, if that is in reach.
-    fn go_back(&mut self, code: &Code<'_>, index: usize) -> Result<bool, OutOfMemory>
-        requires code { IsCode code.now }
-        requires state { IsState code.now self.old }
-        requires within { index < length code.now.branches.now }
-        requires higher { level (way_at self.old.ways.items index) < 2 }
-        requires needed { ¬ HasSpare code.now (branch_at code.now.branches.now index) }
-        requires left { StaysUnshared code.now self.old (branch_at code.now.branches.now index) }
-        ensures state { IfOk result (λ _. IsState code.now self.new) }
-        ensures higher { IfOk result (λ went. went ≡ true
-            → sum_by level self.old.ways.items < sum_by level self.new.ways.items) }
-        ensures same { IfOk result (λ went. went ≡ false → self.new ≡ self.old) }
-        ensures may_share { IfOk result (λ _. self.new.may_share ≡ self.old.may_share) }
-        ensures none { IfOk result (λ went. went ≡ false
-            → IsOutAfter code.now self.old (branch_at code.now.branches.now index)) }
-    {
-        let ahead = passed(code.boundaries, code.branches[index].offset);
-        if ahead == 0 {
-            return Ok(false);
-        }
-        self.go_to(code, index, ahead - 1, Part::Back)
-    }
-
-    /// Has a branch go by a stub at a boundary next to it, if that is in reach.
-    fn go_near(&mut self, code: &Code<'_>, index: usize) -> Result<bool, OutOfMemory>
-        requires code { IsCode code.now }
-        requires state { IsState code.now self.old }
-        requires within { index < length code.now.branches.now }
-        requires higher { level (way_at self.old.ways.items index) < 2 }
-        requires needed { ¬ HasSpare code.now (branch_at code.now.branches.now index) }
-        requires left { StaysUnshared code.now self.old (branch_at code.now.branches.now index) }
-        ensures state { IfOk result (λ _. IsState code.now self.new) }
-        ensures higher { IfOk result (λ went. went ≡ true
-            → sum_by level self.old.ways.items < sum_by level self.new.ways.items) }
-        ensures same { IfOk result (λ went. went ≡ false → self.new ≡ self.old) }
-        ensures may_share { IfOk result (λ _. self.new.may_share ≡ self.old.may_share) }
-        ensures out { IfOk result (λ went. went ≡ false
-            → IsOut code.now self.old (branch_at code.now.branches.now index)) }
-    {
-        let went = self.go_ahead(code, index)?;
-        if went {
-            return Ok(true);
-        }
-        self.go_back(code, index)
     }
 
     /// Has a branch that is lost go by another stub, if one can be in its reach.
@@ -451,11 +382,17 @@ impl State {
         ensures out { IfOk result (λ raised. raised ≡ false
             → IsOut code.now self.old (branch_at code.now.branches.now index)) }
     {
-        let went = self.go_far(code, before, places, index)?;
-        if went {
+        if self.go_far(code, before, places, index)? {
             return Ok(true);
         }
-        self.go_near(code, index)
+        let ahead = passed(code.boundaries, code.branches[index].offset);
+        if self.go_to(code, index, ahead, Part::Front)? {
+            return Ok(true);
+        }
+        if ahead == 0 {
+            return Ok(false);
+        }
+        self.go_to(code, index, ahead - 1, Part::Back)
     }
 
     /// Notes the stub by which a branch goes as the last one of its target.

@@ -121,9 +121,7 @@ impl Code<'_> {
             }
         }
     }
-}
 
-impl Code<'_> {
     /// Whether a stub at the boundary next to a branch is in its reach.
     pub(super) fn is_near(&self, branch: &Branch, stub: &StubAt) -> bool
         requires code { IsCode self.now }

@@ -2,50 +2,16 @@
 
 ghost use Rattle.std.specs.Prelude.{◌≡◌, ◌+◌, ◌<◌, ◌≤◌, ◌^◌, ℕ, length, IfOk, MatchOption};
 ghost use Rattle.std.specs.Prelude.{true, false};
-ghost use Rattle.std.specs.List.{sum_by};
 ghost use Rattle.linker_output.specs.Placement.{HasPart, IsCode, IsLaidOut, at, most_bytes};
 ghost use Rattle.linker_output.specs.Placement.{stub_at};
 ghost use Rattle.linker_output.specs.Inner.Placement.{IsState, ArePlaces, IsStuckIn};
 ghost use Rattle.linker_output.specs.Inner.Placement.{AreServed, Swept, Visited};
-ghost use Rattle.linker_output.specs.Inner.Placement.{level, way_at};
 
 use super::laying::lay_out;
 use super::{Code, MOST_PASSES, State, Sweep, Visit, Way};
 use linker_base::relaxation::OutOfMemory;
 
 impl State {
-    /// If it is `late`, has a branch that may be lost by the stubs to come go by another stub, if
-    /// one can be in its reach.
-    fn go_early(
-        &mut self,
-        code: &Code<'_>,
-        before: &[u64],
-        places: &[u64],
-        late: bool,
-        index: usize,
-    ) -> Result<bool, OutOfMemory>
-        requires code { IsCode code.now }
-        requires state { IsState code.now self.old }
-        requires within { index < length code.now.branches.now }
-        requires one_more { length before.now ≡ length code.now.boundaries.now + 1 }
-        requires fits { (k : ℕ) → at before.now k < 2 ^ 62 }
-        requires higher { level (way_at self.old.ways.items index) < 2 }
-        ensures state { IfOk result (λ _. IsState code.now self.new) }
-        ensures higher { IfOk result (λ went. went ≡ true
-            → sum_by level self.old.ways.items < sum_by level self.new.ways.items) }
-        ensures same { IfOk result (λ went. went ≡ false → self.new ≡ self.old) }
-        ensures may_share { IfOk result (λ _. self.new.may_share ≡ self.old.may_share) }
-    {
-        if !late {
-            return Ok(false);
-        }
-        let spare = code.has_spare(&code.branches[index]);
-        if spare {
-            return Ok(false);
-        }
-        self.raise(code, before, places, index)
-    }
-
     /// Has a branch that is lost by a layout go by another stub. If it is `late`, also one that may
     /// be lost by the stubs to come.
     fn visit(
@@ -80,8 +46,10 @@ impl State {
             }
             return Ok(Visit::Lost);
         }
-        if self.go_early(code, before, places, late, index)? {
-            return Ok(Visit::Raised);
+        if late && !code.has_spare(&branch) {
+            if self.raise(code, before, places, index)? {
+                return Ok(Visit::Raised);
+            }
         }
         self.note(code, index);
         Ok(Visit::Served)
@@ -126,9 +94,7 @@ impl State {
             Ok(Sweep::Settled)
         }
     }
-}
 
-impl State {
     /// Where each stub is.
     fn find_places(
         &self,

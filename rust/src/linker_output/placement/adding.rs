@@ -104,9 +104,7 @@ impl State {
     fn take(&mut self, code: &Code<'_>, index: usize, way: Way) {
         self.ways[index] = way;
     }
-}
 
-impl State {
     /// Whether a branch reaches a stub by a layout.
     fn reaches_stub(
         &self,
@@ -211,8 +209,8 @@ impl State {
         }
     }
 
-    /// Has a branch go by the stub of its target in a part of a boundary next to it, or by a new
-    /// one, if that is in reach.
+    /// Has a branch go by the stub of its target in a part of a boundary next to it, if there is
+    /// such a boundary, or by a new one, if that is in reach.
     fn go_to(
         &mut self,
         code: &Code<'_>,
@@ -220,6 +218,9 @@ impl State {
         boundary: usize,
         part: Part,
     ) -> Result<bool, OutOfMemory> {
+        if boundary >= code.boundaries.len() {
+            return Ok(false);
+        }
         let branch = code.branches[index];
         match self.find(code, boundary, part, branch.target) {
             Some(stub) => {
@@ -242,33 +243,6 @@ impl State {
         }
     }
 
-    /// Has a branch go by a stub at the next boundary ahead of it, if that is in reach.
-    fn go_ahead(&mut self, code: &Code<'_>, index: usize) -> Result<bool, OutOfMemory> {
-        let ahead = passed(code.boundaries, code.branches[index].offset);
-        if ahead >= code.boundaries.len() {
-            return Ok(false);
-        }
-        self.go_to(code, index, ahead, Part::Front)
-    }
-
-    /// Has a branch go by a stub at the boundary before it, if that is in reach.
-    fn go_back(&mut self, code: &Code<'_>, index: usize) -> Result<bool, OutOfMemory> {
-        let ahead = passed(code.boundaries, code.branches[index].offset);
-        if ahead == 0 {
-            return Ok(false);
-        }
-        self.go_to(code, index, ahead - 1, Part::Back)
-    }
-
-    /// Has a branch go by a stub at a boundary next to it, if that is in reach.
-    fn go_near(&mut self, code: &Code<'_>, index: usize) -> Result<bool, OutOfMemory> {
-        let went = self.go_ahead(code, index)?;
-        if went {
-            return Ok(true);
-        }
-        self.go_back(code, index)
-    }
-
     /// Has a branch that is lost go by another stub, if one can be in its reach.
     pub(super) fn raise(
         &mut self,
@@ -277,11 +251,17 @@ impl State {
         places: &[u64],
         index: usize,
     ) -> Result<bool, OutOfMemory> {
-        let went = self.go_far(code, before, places, index)?;
-        if went {
+        if self.go_far(code, before, places, index)? {
             return Ok(true);
         }
-        self.go_near(code, index)
+        let ahead = passed(code.boundaries, code.branches[index].offset);
+        if self.go_to(code, index, ahead, Part::Front)? {
+            return Ok(true);
+        }
+        if ahead == 0 {
+            return Ok(false);
+        }
+        self.go_to(code, index, ahead - 1, Part::Back)
     }
 
     /// Notes the stub by which a branch goes as the last one of its target.

@@ -9,26 +9,6 @@ use super::{Code, MOST_PASSES, State, Sweep, Visit, Way};
 use crate::linker_base::relaxation::OutOfMemory;
 
 impl State {
-    /// If it is `late`, has a branch that may be lost by the stubs to come go by another stub, if
-    /// one can be in its reach.
-    fn go_early(
-        &mut self,
-        code: &Code<'_>,
-        before: &[u64],
-        places: &[u64],
-        late: bool,
-        index: usize,
-    ) -> Result<bool, OutOfMemory> {
-        if !late {
-            return Ok(false);
-        }
-        let spare = code.has_spare(&code.branches[index]);
-        if spare {
-            return Ok(false);
-        }
-        self.raise(code, before, places, index)
-    }
-
     /// Has a branch that is lost by a layout go by another stub. If it is `late`, also one that may
     /// be lost by the stubs to come.
     fn visit(
@@ -52,8 +32,10 @@ impl State {
             }
             return Ok(Visit::Lost);
         }
-        if self.go_early(code, before, places, late, index)? {
-            return Ok(Visit::Raised);
+        if late && !code.has_spare(&branch) {
+            if self.raise(code, before, places, index)? {
+                return Ok(Visit::Raised);
+            }
         }
         self.note(code, index);
         Ok(Visit::Served)
@@ -87,9 +69,7 @@ impl State {
             Ok(Sweep::Settled)
         }
     }
-}
 
-impl State {
     /// Where each stub is.
     fn find_places(
         &self,

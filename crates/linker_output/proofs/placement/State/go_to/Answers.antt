@@ -16,12 +16,12 @@ add-requires-clause-place c =
     (subst (IsNear c.args.code.now branch) c.new_stub-new.ensures.stub (c.is_near-fits.ensures.0 c.if-not-fits.false), c.requires.left)
 
 pub returns-then-not-is_near-clause-none : goal.returns-then-not-is_near-clause-none
-returns-then-not-is_near-clause-none c = λ _.
-    out_there c.args.code.now c.args.self.now (branch_at c.args.code.now.branches.now c.args.index) c.args.boundary c.args.part c.in-Some.stub c.requires.code c.requires.state c.requires.boundary
+returns-then-not-is_near-clause-none c = λ _ inside.
+    out_there c.args.code.now c.args.self.now (branch_at c.args.code.now.branches.now c.args.index) c.args.boundary c.args.part c.in-Some.stub c.requires.code c.requires.state inside
     c.in-Some.ensures.some (λ near. (let e = c.is_near-is_near.ensures.1 near in let f = c.if-not-is_near.true in cc))
 
 pub returns-then-not-fits-clause-none : goal.returns-then-not-fits-clause-none
-returns-then-not-fits-clause-none c = λ _. record {
+returns-then-not-fits-clause-none c = λ _ _. record {
   old = λ s is. absurd (c.in-None.ensures.none s is);
   new = λ near. (let e = c.is_near-fits.ensures.1 (subst (IsNear c.args.code.now (branch_at c.args.code.now.branches.now c.args.index)) (sym c.new_stub-new.ensures.stub) near) in let f = c.if-not-fits.true in cc);
 }

@@ -1,11 +1,10 @@
-use Rattle.std.proofs.Common.{◌<◌, ◌+◌, ◌*◌, ◌≤◌, ◌^◌, List, sym, subst, arith, length, ℕ}
+use Rattle.std.proofs.Common.{◌<◌, ◌+◌, ◌*◌, ◌≤◌, ◌^◌, List, sym, subst, arith, length}
 use Rattle.std.specs.List.{sum_by}
-use Rattle.linker_output.specs.declared.placement.Code.{Code}
 use Rattle.linker_output.specs.declared.placement.Group.{Group}
-use Rattle.linker_output.specs.declared.placement.State.{State}
 use Rattle.linker_output.specs.Placement.{most_bytes, stubs_in}
-use Rattle.linker_output.specs.Inner.Placement.{level, ArePlaces, SameStubs}
+use Rattle.linker_output.specs.Inner.Placement.{level}
 use Rattle.linker_output.proofs.Bounds.{levels_most, room_for, room_most}
+use Rattle.linker_output.proofs.Near.{places_kept}
 use Rattle.linker_output.proofs.placement.State.settle.Goals as goal
 
 pub lay_out-requires-clause-fits : goal.lay_out-requires-clause-fits
@@ -30,18 +29,12 @@ loop-passes-smaller c =
 pub find_places-requires-clause-parts : goal.find_places-requires-clause-parts
 find_places-requires-clause-parts c = c.loop-passes.invariant.state.parts
 
--- the same stubs have the same places
-same_places : (code : Code) (old new : State) (before places : List ℕ) → SameStubs old new
-    → ArePlaces code old before places → ArePlaces code new before places
-same_places code old new before places same are =
-    record { len = rw same.stubs are.len; each = rw (same.stubs, same.groups) are.each }
-
 pub returns-in-Settled-clause-places : goal.returns-in-Settled-clause-places
 returns-in-Settled-clause-places c =
     let swept = rw c.in-Settled.is at c.in_ok-sweep.ensures.swept in
-    same_places c.args.code.now c.loop-passes.self c.sweep.new.self c.lay_out.new.before c.find_places.new.places.items swept.0 c.in_ok-find_places.ensures
+    places_kept c.args.code.now c.loop-passes.self c.sweep.new.self c.lay_out.new.before c.find_places.new.places.items swept.0 c.in_ok-find_places.ensures
 
 pub returns-in-Stuck-clause-places : goal.returns-in-Stuck-clause-places
 returns-in-Stuck-clause-places c =
     let swept = rw c.in-Stuck.is at c.in_ok-sweep.ensures.swept in
-    same_places c.args.code.now c.loop-passes.self c.sweep.new.self c.lay_out.new.before c.find_places.new.places.items swept.0 c.in_ok-find_places.ensures
+    places_kept c.args.code.now c.loop-passes.self c.sweep.new.self c.lay_out.new.before c.find_places.new.places.items swept.0 c.in_ok-find_places.ensures

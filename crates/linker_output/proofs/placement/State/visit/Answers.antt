@@ -1,10 +1,11 @@
-use Rattle.std.proofs.Common.{◌≡◌, subst, arith}
+use Rattle.std.proofs.Common.{◌≡◌, ◌∙◌, subst, sym, arith}
 use Rattle.linker_output.specs.Placement.{branch_at}
 use Rattle.std.proofs.lemmas.List.{get_or_read}
 use Rattle.linker_output.specs.declared.placement.Way.TheVariants.{Direct}
-use Rattle.linker_output.specs.Inner.Placement.{IsLostBy, IsServedBy, SameStubs, way_at}
+use Rattle.linker_output.specs.Inner.Placement.{IsLostBy, IsServedBy, IsState, SameStubs, way_at}
 use Rattle.linker_output.proofs.Going.{spare_reaches}
 use Rattle.linker_output.proofs.placement.State.visit.Goals as goal
+use Rattle.linker_output.proofs.placement.State.visit.Goals.{then-late+then-not-has_spare+in_ok-raise-2+else-branch-2, else-late}
 
 pub raise-requires-clause-needed : goal.raise-requires-clause-needed
 raise-requires-clause-needed c = λ spare.
@@ -28,11 +29,23 @@ returns-then-lost c =
       );
     }
 
+pub note-requires-2-clause-state : goal.note-requires-2-clause-state
+note-requires-2-clause-state c =
+    let same : c.if-late.self ≡ c.args.self.now = elim c.if-late.branch [
+      | then-late+then-not-has_spare+in_ok-raise-2+else-branch-2 w ↦ w.self-is ∙ w.in_ok-raise-2.ensures.same w.if-branch-2.false
+      | else-late w ↦ w.self-is
+    ] in
+    subst (IsState c.args.code.now) (sym same) c.requires.state
+
 pub returns : goal.returns
 returns c =
     let a = c.args in
     let is : c.index-way.result.now ≡ way_at a.self.now.ways.items a.index = get_or_read a.self.now.ways.items a.index c.index-way.result.now (omega arith) c.index-way.ensures Direct in
-    let kept : SameStubs a.self.now c.note-2.new.self = subst (λ s. SameStubs s c.note-2.new.self) (c.in_ok-go_early.ensures.same c.if-branch-2.false) c.note-2.ensures.stubs in
+    let same : c.if-late.self ≡ a.self.now = elim c.if-late.branch [
+      | then-late+then-not-has_spare+in_ok-raise-2+else-branch-2 w ↦ w.self-is ∙ w.in_ok-raise-2.ensures.same w.if-branch-2.false
+      | else-late w ↦ w.self-is
+    ] in
+    let kept : SameStubs a.self.now c.note-2.new.self = subst (λ s. SameStubs s c.note-2.new.self) same c.note-2.ensures.stubs in
     record {
       state = c.note-2.ensures.state;
       may_share = kept.may_share;
