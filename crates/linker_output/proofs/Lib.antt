@@ -26,7 +26,6 @@ pub mod RelrPacked
 pub mod RelrWords
 pub mod RiscVLazyLaws
 pub mod RiscVStubLaws
-pub mod RouteCases
 pub mod StubFields
 pub mod StubWords
 pub mod Stuck

@@ -18,7 +18,6 @@ use crate::stubs::{Stub, StubKind};
 use linker_base::rewrite::has_window;
 use linker_base::utils::u32_from_slice;
 use linker_section::facts::{Addresses, Symbol};
-use linker_section::needed::needs;
 use linker_section::relocations::Rela;
 use linker_section::values::{ValueError, value};
 use linker_utils::elf::{
@@ -393,13 +392,12 @@ fn value_of(
 fn served_row(architecture: Architecture, code: u32) -> Option<Row>
     ensures { IsServedRow architecture code result }
 {
-    let Some(row) = architecture.row(code) else {
-        return None;
-    };
-    let Some(needs) = needs(architecture, code, 0, false) else {
-        return None;
-    };
-    if needs.may_use_stub { Some(row) } else { None }
+    let row = architecture.row(code)?;
+    if row.facts().may_use_stub {
+        Some(row)
+    } else {
+        None
+    }
 }
 
 impl Target {

@@ -7,7 +7,6 @@ use crate::linker_output::stubs::{Stub, StubKind};
 use crate::linker_base::rewrite::has_window;
 use crate::linker_base::utils::u32_from_slice;
 use crate::linker_section::facts::{Addresses, Symbol};
-use crate::linker_section::needed::needs;
 use crate::linker_section::relocations::Rela;
 use crate::linker_section::values::{ValueError, value};
 use crate::elf::{
@@ -339,13 +338,12 @@ fn value_of(
 /// The row of a relocation, if a stub may serve as its target.
 #[inline]
 fn served_row(architecture: Architecture, code: u32) -> Option<Row> {
-    let Some(row) = architecture.row(code) else {
-        return None;
-    };
-    let Some(needs) = needs(architecture, code, 0, false) else {
-        return None;
-    };
-    if needs.may_use_stub { Some(row) } else { None }
+    let row = architecture.row(code)?;
+    if row.facts().may_use_stub {
+        Some(row)
+    } else {
+        None
+    }
 }
 
 impl Target {

@@ -1,9 +1,11 @@
-use Rattle.std.proofs.Common.{sym, ◌∙◌}
-use Rattle.linker_output.proofs.RouteCases.{stub_serves}
+use Rattle.std.proofs.Common.{◌∙◌, ap, false, pos, sym}
+use Rattle.linker_elf.specs.declared.elf.facts.RowFacts.{RowFacts}
+use Rattle.linker_section.proofs.RowFacts.{says}
+use Rattle.linker_section.specs.declared.needed.Requirements.{Requirements}
 use Rattle.linker_output.proofs.routes.served_row.Goals as goal
 
-pub returns-then-needs : goal.returns-then-needs
-returns-then-needs c =
-    let found = c.in-Some-needs.ensures in
-    let serves = stub_serves c.args.architecture c.args.code c.in-Some.row (found.0) c.in-Some-needs.needs c.in-Some.ensures (found.1) (found.2) in
-    (c.in-Some.ensures, sym serves ∙ c.if-needs.true)
+pub returns-then-facts : goal.returns-then-facts
+returns-then-facts c =
+    let row = c.in_ok-row.row in
+    let is = c.in_ok-row.ensures in
+    (is, sym (ap (λ (r : Requirements). r.may_use_stub) (says c.args.architecture c.args.code row is (pos 0) false)) ∙ sym (ap (λ (f : RowFacts). f.may_use_stub) c.facts.ensures) ∙ c.if-facts.true)
