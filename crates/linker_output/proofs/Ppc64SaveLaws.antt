@@ -45,10 +45,16 @@ below_at P (suc n) all i less =
 abbrev word_at : Run → ℕ → ℕ
 word_at r i = (r.word + r.step * i) % 2 ^ 32
 
--- what n registers leave, up to the last
-abbrev pub after : (ℕ → Counted → Counted) → ℕ → Counted → Counted
-after one zero c = c
-after one (suc k) c = after one k (one (17 - k) c)
+-- what n registers leave, up to the last index
+abbrev pub after : {S : Type 0} → ℕ → (ℕ → S → S) → ℕ → S → S
+after last one zero c = c
+after last one (suc k) c = after last one k (one (last - k) c)
+
+-- what each keeps
+pub kept : {S A : Type 0} (last : ℕ) (one : ℕ → S → S) (part : S → A) → ((i : ℕ) (c : S) → part (one i c) ≡ part c)
+    → (k : ℕ) (c : S) → part (after last one k c) ≡ part c
+kept last one part keeps zero c = refl
+kept last one part keeps (suc k) c = kept last one part keeps k (one (last - k) c) ∙ keeps (last - k) c
 
 module _ (f : Formats) (r : Run) (count : r.count ≡ 18) (alone : r.second ≡ None) (y : ℕ) (ys : List ℕ) (last : words_from r 18 (length r.tail) ≡ y ∷ ys)
     (one : ℕ → Counted → Counted) (steps : (i : ℕ) → i < 18 → (c : Counted) → step f (word_at r i) c ≡ Some (one i c))
@@ -57,7 +63,7 @@ module _ (f : Formats) (r : Run) (count : r.count ≡ 18) (alone : r.second ≡ 
   code zero = y ∷ ys
   code (suc k) = word_at r (17 - k) ∷ code k
 
-  ran : (k : ℕ) → k ≤ 18 → (c : Counted) (end : Option Counted) → run f (y ∷ ys) (after one k c) ≡ end → run f (code k) c ≡ end
+  ran : (k : ℕ) → k ≤ 18 → (c : Counted) (end : Option Counted) → run f (y ∷ ys) (after 17 one k c) ≡ end → run f (code k) c ≡ end
   ran zero less c end e = e
   ran (suc zero) less c end e =
       run_more (λ c. c.state.pc) (step f) (word_at r 17) y ys c (one 17 c) end (steps 17 (omega arith) c) (on 17 c) e
@@ -83,7 +89,7 @@ module _ (f : Formats) (r : Run) (count : r.count ≡ 18) (alone : r.second ≡ 
       ∙ ap (λ i. word_at r (17 - k) ∷ words_from r i (k + length r.tail)) following
       ∙ ap (λ l. word_at r (17 - k) ∷ l) (words_are k (omega (arith, less)))
 
-  pub runs : (n : ℕ) → 14 ≤ n → n < 32 → (c : Counted) (end : Option Counted) → run f (y ∷ ys) (after one (32 - n) c) ≡ end
+  pub runs : (n : ℕ) → 14 ≤ n → n < 32 → (c : Counted) (end : Option Counted) → run f (y ∷ ys) (after 17 one (32 - n) c) ≡ end
       → run f (code_for r n) c ≡ end
   runs n most less c end e =
       let index : n - 14 ≡ 18 - (32 - n) = omega (arith, most, less) in
@@ -212,23 +218,13 @@ of_place k less = omega (arith, less)
 
 module _ (b : ℕ) (values : State → ℕ → ℕ) (keeps : (i : ℕ) (c : Counted) → values (stores b values i c).state ≡ values c.state) where
   abbrev pub all : ℕ → Counted → Counted
-  all = after (stores b values)
+  all = after 17 (stores b values)
 
   pub stored_registers : (k : ℕ) (c : Counted) → (all k c).state.registers ≡ c.state.registers
-  stored_registers zero c = refl
-  stored_registers (suc k) c = stored_registers k (stores b values (17 - k) c)
+  stored_registers = kept 17 (stores b values) (λ (c : Counted). c.state.registers) (λ i c. refl)
 
   pub stored_floats : (k : ℕ) (c : Counted) → (all k c).state.floats ≡ c.state.floats
-  stored_floats zero c = refl
-  stored_floats (suc k) c = stored_floats k (stores b values (17 - k) c)
-
-  pub stored_link : (k : ℕ) (c : Counted) → (all k c).state.link ≡ c.state.link
-  stored_link zero c = refl
-  stored_link (suc k) c = stored_link k (stores b values (17 - k) c)
-
-  pub stored_count : (k : ℕ) (c : Counted) → (all k c).count ≡ c.count
-  stored_count zero c = refl
-  stored_count (suc k) c = stored_count k (stores b values (17 - k) c)
+  stored_floats = kept 17 (stores b values) (λ (c : Counted). c.state.floats) (λ i c. refl)
 
   saved_after : (k : ℕ) → k ≤ 18 → (c : Counted) (a : ℕ)
       → (all k c).state.memory a ≡ saved (32 - k) (values c.state) (c.state.registers b) c.state.memory a
@@ -262,9 +258,9 @@ module _ (b : ℕ) (values : State → ℕ → ℕ) (keeps : (i : ℕ) (c : Coun
       → d.state.link ≡ (all (32 - n) c).state.link → d.count ≡ (all (32 - n) c).count → Returns c d
   returns n c d pc link count =
       record {
-        pc = pc ∙ ap (λ l. l - l % 4) (stored_link (32 - n) c);
-        link = link ∙ stored_link (32 - n) c;
-        count = count ∙ stored_count (32 - n) c;
+        pc = pc ∙ ap (λ l. l - l % 4) (kept 17 (stores b values) (λ (c : Counted). c.state.link) (λ i c. refl) (32 - n) c);
+        link = link ∙ kept 17 (stores b values) (λ (c : Counted). c.state.link) (λ i c. refl) (32 - n) c;
+        count = count ∙ kept 17 (stores b values) (λ (c : Counted). c.count) (λ i c. refl) (32 - n) c;
       }
 
   -- and the return address stored
@@ -344,7 +340,7 @@ savegpr0 : (n : ℕ) → 14 ≤ n → n < 32 → (f : Formats) (c : Counted)
     → IsSomeAnd (run f (code_for (of_registers (codes "_savegpr0_") 0xf9c1ff70 (save_link ∷ blr ∷ [])) n) c) (Saves 1 integers return_address n c)
 savegpr0 n most less f c =
     subst (λ end. IsSomeAnd end (Saves 1 integers return_address n c))
-    (sym (runs f (of_registers (codes "_savegpr0_") 0xf9c1ff70 (save_link ∷ blr ∷ [])) refl refl save_link (blr ∷ []) refl (stores 1 integers) (std_1 f) (λ i c. refl) n most less c _ (saves_address f (after (stores 1 integers) (32 - n) c))))
+    (sym (runs f (of_registers (codes "_savegpr0_") 0xf9c1ff70 (save_link ∷ blr ∷ [])) refl refl save_link (blr ∷ []) refl (stores 1 integers) (std_1 f) (λ i c. refl) n most less c _ (saves_address f (after 17 (stores 1 integers) (32 - n) c))))
     (with_address 1 integers (λ i c. refl) n most less c)
 
 savegpr1 : (n : ℕ) → 14 ≤ n → n < 32 → (f : Formats) (c : Counted)
@@ -358,7 +354,7 @@ savefpr : (n : ℕ) → 14 ≤ n → n < 32 → (f : Formats) (c : Counted)
     → IsSomeAnd (run f (code_for (of_registers (codes "_savefpr_") 0xd9c1ff70 (save_link ∷ blr ∷ [])) n) c) (Saves 1 floats return_address n c)
 savefpr n most less f c =
     subst (λ end. IsSomeAnd end (Saves 1 floats return_address n c))
-    (sym (runs f (of_registers (codes "_savefpr_") 0xd9c1ff70 (save_link ∷ blr ∷ [])) refl refl save_link (blr ∷ []) refl (stores 1 floats) (stfd_1 f) (λ i c. refl) n most less c _ (saves_address f (after (stores 1 floats) (32 - n) c))))
+    (sym (runs f (of_registers (codes "_savefpr_") 0xd9c1ff70 (save_link ∷ blr ∷ [])) refl refl save_link (blr ∷ []) refl (stores 1 floats) (stfd_1 f) (λ i c. refl) n most less c _ (saves_address f (after 17 (stores 1 floats) (32 - n) c))))
     (with_address 1 floats (λ i c. refl) n most less c)
 
 pub saves_so : laws.SaveRegisters
@@ -408,86 +404,41 @@ one_restored n less at registers m =
         ap (λ v. if is_from (suc n) m then at m else v) (cond-false (eqb m n) (at n) (registers m) e)
         ∙ ap (λ b. if b && nat_lt m 32 then at m else registers m) (same_from n m differs)
 
+-- the registers below 14
+low_kept : (b m : ℕ) → m < 14 → (i : ℕ) (c : Counted) → (loads b i c).state.registers m ≡ c.state.registers m
+low_kept b m low i c = cond-false (eqb m (14 + i)) _ (c.state.registers m) (ne_eqb m (14 + i) (λ e. omega (arith, e, low)))
+
 -- by the registers, or by the floats
-module _ (b : ℕ) (low : b < 14) where
-  pub loaded_low : (k : ℕ) → k ≤ 18 → (c : Counted) (m : ℕ) → m < 14 → (after (loads b) k c).state.registers m ≡ c.state.registers m
-  loaded_low zero less c m under = refl
-  loaded_low (suc k) less c m under =
-      loaded_low k (omega (arith, less)) (loads b (17 - k) c) m under
-      ∙ cond-false (eqb m (14 + (17 - k))) _ (c.state.registers m) (ne_eqb m (14 + (17 - k)) (λ e. omega (arith, e, under)))
-
-  pub loaded_memory : (k : ℕ) (c : Counted) → (after (loads b) k c).state.memory ≡ c.state.memory
-  loaded_memory zero c = refl
-  loaded_memory (suc k) c = loaded_memory k (loads b (17 - k) c)
-
-  pub loaded_floats : (k : ℕ) (c : Counted) → (after (loads b) k c).state.floats ≡ c.state.floats
-  loaded_floats zero c = refl
-  loaded_floats (suc k) c = loaded_floats k (loads b (17 - k) c)
-
-  pub loaded_link : (k : ℕ) (c : Counted) → (after (loads b) k c).state.link ≡ c.state.link
-  loaded_link zero c = refl
-  loaded_link (suc k) c = loaded_link k (loads b (17 - k) c)
-
-  pub loaded_count : (k : ℕ) (c : Counted) → (after (loads b) k c).count ≡ c.count
-  loaded_count zero c = refl
-  loaded_count (suc k) c = loaded_count k (loads b (17 - k) c)
-
+module _ (b : ℕ) (one : ℕ → Counted → Counted) (part : State → ℕ → ℕ)
+    (loads_one : (i : ℕ) (c : Counted) → part (one i c).state ≡ with_number (14 + i) (loaded 8 c.state.memory (place b c.state i)) (part c.state))
+    (based : (i : ℕ) (c : Counted) → (one i c).state.registers b ≡ c.state.registers b) (keeps : (i : ℕ) (c : Counted) → (one i c).state.memory ≡ c.state.memory) where
   restored_after : (k : ℕ) → k ≤ 18 → (c : Counted) (m : ℕ)
-      → (after (loads b) k c).state.registers m ≡ restored (32 - k) (c.state.registers b) c.state.memory c.state.registers m
-  restored_after zero less c m = sym (cond-false (is_from 32 m) (loaded 8 c.state.memory (slot (c.state.registers b) m)) (c.state.registers m) (none_from m))
+      → part (after 17 one k c).state m ≡ restored (32 - k) (c.state.registers b) c.state.memory (part c.state) m
+  restored_after zero less c m = sym (cond-false (is_from 32 m) (loaded 8 c.state.memory (slot (c.state.registers b) m)) (part c.state m) (none_from m))
   restored_after (suc k) less c m =
       let n = 31 - k in
       let within : k < 18 = omega (arith, less) in
       let base = c.state.registers b in
-      let g = c.state.registers in
+      let g = part c.state in
       let h = c.state.memory in
+      let d = one (17 - k) c in
       let e1 : 32 - suc k ≡ n = omega (arith, less) in
       let e2 : 32 - k ≡ suc n = omega (arith, less) in
-      let at = with_number (14 + (17 - k)) (loaded 8 h (moved base (negsuc (143 - 8 * (17 - k))))) g in
-      restored_after k (omega (arith, less)) (loads b (17 - k) c) m
-      ∙ ap (λ v. restored (32 - k) v h at m) (cond-false (eqb b (14 + (17 - k))) _ (g b) (ne_eqb b (14 + (17 - k)) (λ e. omega (arith, e, low))))
-      ∙ ap (λ j. restored j base h at m) e2
+      restored_after k (omega (arith, less)) d m
+      ∙ ap (λ v. restored (32 - k) v d.state.memory (part d.state) m) (based (17 - k) c)
+      ∙ ap (λ v. restored (32 - k) base v (part d.state) m) (keeps (17 - k) c)
+      ∙ ap (λ v. restored (32 - k) base h v m) (loads_one (17 - k) c)
+      ∙ ap (λ j. restored j base h (with_number (14 + (17 - k)) (loaded 8 h (moved base (negsuc (143 - 8 * (17 - k))))) g) m) e2
       ∙ ap (λ j. restored (suc n) base h (with_number j (loaded 8 h (moved base (negsuc (143 - 8 * (17 - k))))) g) m) (of_index k within)
       ∙ ap (λ j. restored (suc n) base h (with_number n (loaded 8 h (moved base (negsuc j))) g) m) (of_place k within)
       ∙ one_restored n (omega arith) (λ m. loaded 8 h (slot base m)) g m
       ∙ ap (λ j. restored j base h g m) (sym e1)
 
   pub restored_all : (n : ℕ) → 14 ≤ n → n < 32 → (c : Counted) (m : ℕ)
-      → (after (loads b) (32 - n) c).state.registers m ≡ restored n (c.state.registers b) c.state.memory c.state.registers m
+      → part (after 17 one (32 - n) c).state m ≡ restored n (c.state.registers b) c.state.memory (part c.state) m
   restored_all n most less c m =
       restored_after (32 - n) (omega (arith, most)) c m
-      ∙ ap (λ j. restored j (c.state.registers b) c.state.memory c.state.registers m) (let e : 32 - (32 - n) ≡ n = omega (arith, less) in e)
-
-pub float_registers : (k : ℕ) (c : Counted) → (after (loads_float 1) k c).state.registers ≡ c.state.registers
-float_registers zero c = refl
-float_registers (suc k) c = float_registers k (loads_float 1 (17 - k) c)
-
-pub float_memory : (k : ℕ) (c : Counted) → (after (loads_float 1) k c).state.memory ≡ c.state.memory
-float_memory zero c = refl
-float_memory (suc k) c = float_memory k (loads_float 1 (17 - k) c)
-
-pub float_count : (k : ℕ) (c : Counted) → (after (loads_float 1) k c).count ≡ c.count
-float_count zero c = refl
-float_count (suc k) c = float_count k (loads_float 1 (17 - k) c)
-
-floats_after : (k : ℕ) → k ≤ 18 → (c : Counted) (m : ℕ)
-    → (after (loads_float 1) k c).state.floats m ≡ restored (32 - k) (c.state.registers 1) c.state.memory c.state.floats m
-floats_after zero less c m = sym (cond-false (is_from 32 m) (loaded 8 c.state.memory (slot (c.state.registers 1) m)) (c.state.floats m) (none_from m))
-floats_after (suc k) less c m =
-    let n = 31 - k in
-    let within : k < 18 = omega (arith, less) in
-    let base = c.state.registers 1 in
-    let g = c.state.floats in
-    let h = c.state.memory in
-    let e1 : 32 - suc k ≡ n = omega (arith, less) in
-    let e2 : 32 - k ≡ suc n = omega (arith, less) in
-    let at = with_number (14 + (17 - k)) (loaded 8 h (moved base (negsuc (143 - 8 * (17 - k))))) g in
-    floats_after k (omega (arith, less)) (loads_float 1 (17 - k) c) m
-    ∙ ap (λ j. restored j base h at m) e2
-    ∙ ap (λ j. restored (suc n) base h (with_number j (loaded 8 h (moved base (negsuc (143 - 8 * (17 - k))))) g) m) (of_index k within)
-    ∙ ap (λ j. restored (suc n) base h (with_number n (loaded 8 h (moved base (negsuc j))) g) m) (of_place k within)
-    ∙ one_restored n (omega arith) (λ m. loaded 8 h (slot base m)) g m
-    ∙ ap (λ j. restored j base h g m) (sym e1)
+      ∙ ap (λ j. restored j (c.state.registers b) c.state.memory (part c.state) m) (let e : 32 - (32 - n) ≡ n = omega (arith, less) in e)
 
 -- ---- the ends of runs that load
 
@@ -525,14 +476,14 @@ restgpr0 : (n : ℕ) → 14 ≤ n → n < 32 → (f : Formats) (c : Counted)
     → IsSomeAnd (run f (code_for (of_registers (codes "_restgpr0_") 0xe9c1ff70 (load_link ∷ mtlr_0 ∷ blr ∷ [])) n) c) (RestoresIntegers n c)
 restgpr0 n most less f c =
     subst (λ end. IsSomeAnd end (RestoresIntegers n c))
-    (sym (runs f (of_registers (codes "_restgpr0_") 0xe9c1ff70 (load_link ∷ mtlr_0 ∷ blr ∷ [])) refl refl load_link (mtlr_0 ∷ blr ∷ []) refl (loads 1) (ld_1 f) (λ i c. refl) n most less c _ (restores_address f (after (loads 1) (32 - n) c))))
+    (sym (runs f (of_registers (codes "_restgpr0_") 0xe9c1ff70 (load_link ∷ mtlr_0 ∷ blr ∷ [])) refl refl load_link (mtlr_0 ∷ blr ∷ []) refl (loads 1) (ld_1 f) (λ i c. refl) n most less c _ (restores_address f (after 17 (loads 1) (32 - n) c))))
     (record {
       returned =
-          is_returned n c (after (loads 1) (32 - n) c) (loaded_memory 1 (omega arith) (32 - n) c)
-          (loaded_low 1 (omega arith) (32 - n) (omega (arith, most)) c 1 (omega arith)) (loaded_count 1 (omega arith) (32 - n) c);
+          is_returned n c (after 17 (loads 1) (32 - n) c) (kept 17 (loads 1) (λ (c : Counted). c.state.memory) (λ i c. refl) (32 - n) c)
+          (kept 17 (loads 1) (λ (c : Counted). c.state.registers 1) (low_kept 1 1 (omega arith)) (32 - n) c) (kept 17 (loads 1) (λ (c : Counted). c.count) (λ i c. refl) (32 - n) c);
       registers = λ m e.
-          cond-false (eqb m 0) _ ((after (loads 1) (32 - n) c).state.registers m) e ∙ restored_all 1 (omega arith) n most less c m;
-      floats = λ m. ap (λ g. g m) (loaded_floats 1 (omega arith) (32 - n) c);
+          cond-false (eqb m 0) _ ((after 17 (loads 1) (32 - n) c).state.registers m) e ∙ restored_all 1 (loads 1) integers (λ i c. refl) (low_kept 1 1 (omega arith)) (λ i c. refl) n most less c m;
+      floats = λ m. ap (λ g. g m) (kept 17 (loads 1) (λ (c : Counted). c.state.floats) (λ i c. refl) (32 - n) c);
     })
 
 restgpr1 : (n : ℕ) → 14 ≤ n → n < 32 → (f : Formats) (c : Counted)
@@ -543,29 +494,27 @@ restgpr1 n most less f c =
     (record {
       returns =
           record {
-            pc = ap (λ l. l - l % 4) (loaded_link 12 (omega arith) (32 - n) c);
-            link = loaded_link 12 (omega arith) (32 - n) c;
-            count = loaded_count 12 (omega arith) (32 - n) c;
+            pc = ap (λ l. l - l % 4) (kept 17 (loads 12) (λ (c : Counted). c.state.link) (λ i c. refl) (32 - n) c);
+            link = kept 17 (loads 12) (λ (c : Counted). c.state.link) (λ i c. refl) (32 - n) c;
+            count = kept 17 (loads 12) (λ (c : Counted). c.count) (λ i c. refl) (32 - n) c;
           };
-      registers = restored_all 12 (omega arith) n most less c;
-      floats = λ m. ap (λ g. g m) (loaded_floats 12 (omega arith) (32 - n) c);
-      memory = λ a. ap (λ h. h a) (loaded_memory 12 (omega arith) (32 - n) c);
+      registers = restored_all 12 (loads 12) integers (λ i c. refl) (low_kept 12 12 (omega arith)) (λ i c. refl) n most less c;
+      floats = λ m. ap (λ g. g m) (kept 17 (loads 12) (λ (c : Counted). c.state.floats) (λ i c. refl) (32 - n) c);
+      memory = λ a. ap (λ h. h a) (kept 17 (loads 12) (λ (c : Counted). c.state.memory) (λ i c. refl) (32 - n) c);
     })
 
 restfpr : (n : ℕ) → 14 ≤ n → n < 32 → (f : Formats) (c : Counted)
     → IsSomeAnd (run f (code_for (of_registers (codes "_restfpr_") 0xc9c1ff70 (load_link ∷ mtlr_0 ∷ blr ∷ [])) n) c) (RestoresFloats n c)
 restfpr n most less f c =
     subst (λ end. IsSomeAnd end (RestoresFloats n c))
-    (sym (runs f (of_registers (codes "_restfpr_") 0xc9c1ff70 (load_link ∷ mtlr_0 ∷ blr ∷ [])) refl refl load_link (mtlr_0 ∷ blr ∷ []) refl (loads_float 1) (lfd_1 f) (λ i c. refl) n most less c _ (restores_address f (after (loads_float 1) (32 - n) c))))
+    (sym (runs f (of_registers (codes "_restfpr_") 0xc9c1ff70 (load_link ∷ mtlr_0 ∷ blr ∷ [])) refl refl load_link (mtlr_0 ∷ blr ∷ []) refl (loads_float 1) (lfd_1 f) (λ i c. refl) n most less c _ (restores_address f (after 17 (loads_float 1) (32 - n) c))))
     (record {
       returned =
-          is_returned n c (after (loads_float 1) (32 - n) c) (float_memory (32 - n) c)
-          (ap (λ g. g 1) (float_registers (32 - n) c)) (float_count (32 - n) c);
+          is_returned n c (after 17 (loads_float 1) (32 - n) c) (kept 17 (loads_float 1) (λ (c : Counted). c.state.memory) (λ i c. refl) (32 - n) c)
+          (kept 17 (loads_float 1) (λ (c : Counted). c.state.registers 1) (λ i c. refl) (32 - n) c) (kept 17 (loads_float 1) (λ (c : Counted). c.count) (λ i c. refl) (32 - n) c);
       registers = λ m e.
-          cond-false (eqb m 0) _ ((after (loads_float 1) (32 - n) c).state.registers m) e ∙ ap (λ g. g m) (float_registers (32 - n) c);
-      floats = λ m.
-          floats_after (32 - n) (omega (arith, most)) c m
-          ∙ ap (λ j. restored j (c.state.registers 1) c.state.memory c.state.floats m) (let e : 32 - (32 - n) ≡ n = omega (arith, less) in e);
+          cond-false (eqb m 0) _ ((after 17 (loads_float 1) (32 - n) c).state.registers m) e ∙ kept 17 (loads_float 1) (λ (c : Counted). c.state.registers m) (λ i c. refl) (32 - n) c;
+      floats = restored_all 1 (loads_float 1) floats (λ i c. refl) (λ i c. refl) (λ i c. refl) n most less c;
     })
 
 pub restores_so : laws.RestoreRegisters

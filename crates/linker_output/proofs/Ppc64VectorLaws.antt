@@ -1,7 +1,7 @@
 -- PowerPC64's functions that save and restore vector registers.
 use Rattle.std.proofs.Common.{◌≡◌, ℕ, zero, suc, ◌+◌, ◌-◌, ◌*◌, ◌/◌, ◌%◌, ◌^◌, ◌<◌, ◌≤◌, refl, sym}
 use Rattle.std.proofs.Common.{◌∙◌, ap, subst, arith}
-use Rattle.std.proofs.Common.{List, [], ◌∷◌, false, eqb, Some, Option, pos, negsuc, ◌+ℤ◌}
+use Rattle.std.proofs.Common.{List, [], ◌∷◌, eqb, Some, Option, pos, negsuc, ◌+ℤ◌}
 use Rattle.std.specs.Prelude.{codes, IsSomeAnd, nat_lt, if◌then◌else◌}
 use Rattle.std.proofs.lemmas.Bool.{cond-false, le-ltb}
 use Rattle.std.proofs.lemmas.Int.{ints}
@@ -12,7 +12,7 @@ use Rattle.linker_laws.specs.Machine.{Memory, moved, loaded, stored}
 use Rattle.linker_laws.specs.Ppc64Machine.{Formats, write, store, go_on, with_number}
 use Rattle.linker_laws.proofs.RiscVMachine.{wrapped_is}
 use Rattle.linker_output.proofs.LazyRuns.{run_more}
-use Rattle.linker_output.proofs.Ppc64SaveLaws.{below_at, joined, one_restored, none_from}
+use Rattle.linker_output.proofs.Ppc64SaveLaws.{after, below_at, joined, kept, one_restored, none_from}
 use Rattle.linker_output.specs.Ppc64Output.{of_vectors, blr}
 use Rattle.linker_output.specs.Ppc64Saves.{returned, is_from}
 use Rattle.linker_output.specs.Ppc64Stubs.{with_state}
@@ -76,11 +76,6 @@ lvx f i less =
 
 -- ---- runs over registers
 
--- what n registers leave, up to the last
-abbrev after : (ℕ → Vectored → Vectored) → ℕ → Vectored → Vectored
-after one zero v = v
-after one (suc k) v = after one k (one (11 - k) v)
-
 -- the code of n registers, and the end
 abbrev code : ℕ → ℕ → List ℕ
 code access zero = blr ∷ []
@@ -101,12 +96,12 @@ module _ (f : Formats) (access : ℕ) (one : ℕ → Vectored → Vectored)
       (run_more (λ v. v.counted.state.pc) (step_vectored f) (access_word access i) y ys (placed i v) (one i v) end
       (accesses i less v) (on i v) e)
 
-  pub ran : (k : ℕ) → k ≤ 12 → (v : Vectored) → run_vectored f (code access k) v ≡ Some (ended (after one k v))
+  pub ran : (k : ℕ) → k ≤ 12 → (v : Vectored) → run_vectored f (code access k) v ≡ Some (ended (after 11 one k v))
   ran zero less v = refl
   ran (suc zero) less v = more 11 (omega arith) blr [] v (Some (ended (one 11 v))) refl
   ran (suc (suc k)) less v =
       more (11 - suc k) (omega arith) (place_word (11 - k)) (access_word access (11 - k) ∷ code access k) v
-      (Some (ended (after one (suc k) (one (11 - suc k) v)))) (ran (suc k) (omega (arith, less)) (one (11 - suc k) v))
+      (Some (ended (after 11 one (suc k) (one (11 - suc k) v)))) (ran (suc k) (omega (arith, less)) (one (11 - suc k) v))
 
 -- the code of a function is that
 save_code : (k : ℕ) → k < 12 → vector_code (of_vectors (codes "_savevr_") 0x7e8c01ce) (31 - k) ≡ code 0x7e8c01ce (suc k)
@@ -178,7 +173,7 @@ module _ (n : ℕ) (most : 20 ≤ n) (less : n < 32) (vectors : ℕ → ℕ) (ba
       ∙ ap (λ k. if nat_lt (difference_64 a (vector_slot base n)) k then byte_of n vectors (difference_64 a (vector_slot base n)) else memory a)
       (let e : 16 + 16 * (32 - suc n) ≡ 16 * (32 - n) = omega (arith, less) in e)
 
-saved_after : (k : ℕ) → k ≤ 12 → (v : Vectored) (a : ℕ) → (after stores k v).counted.state.memory a
+saved_after : (k : ℕ) → k ≤ 12 → (v : Vectored) (a : ℕ) → (after 11 stores k v).counted.state.memory a
     ≡ vectors_saved (32 - k) v.vectors (v.counted.state.registers 0) v.counted.state.memory a
 saved_after zero less v a =
     sym (cond-false (nat_lt (difference_64 a (vector_slot (v.counted.state.registers 0) 32)) 0) _ (v.counted.state.memory a)
@@ -197,13 +192,9 @@ saved_after (suc k) less v a =
     ∙ one_saved (31 - k) (omega (arith, within)) (omega arith) g base m a
     ∙ ap (λ j. vectors_saved j g base m a) (sym e1)
 
-stored_vectors : (k : ℕ) (v : Vectored) → (after stores k v).vectors ≡ v.vectors
-stored_vectors zero v = refl
-stored_vectors (suc k) v = stored_vectors k (stores (11 - k) v)
-
 -- ---- registers that are loaded
 
-restored_after : (k : ℕ) → k ≤ 12 → (v : Vectored) (m : ℕ) → (after loads k v).vectors m
+restored_after : (k : ℕ) → k ≤ 12 → (v : Vectored) (m : ℕ) → (after 11 loads k v).vectors m
     ≡ vectors_restored (32 - k) (v.counted.state.registers 0) v.counted.state.memory v.vectors m
 restored_after zero less v m =
     sym (cond-false (is_from 32 m) (loaded 16 v.counted.state.memory (vector_slot (v.counted.state.registers 0) m)) (v.vectors m) (none_from m))
@@ -221,10 +212,6 @@ restored_after (suc k) less v m =
     ∙ one_restored (31 - k) (omega arith) (λ m. loaded 16 h (vector_slot base m)) g m
     ∙ ap (λ j. vectors_restored j base h g m) (sym e1)
 
-loaded_memory : (k : ℕ) (v : Vectored) → (after loads k v).counted.state.memory ≡ v.counted.state.memory
-loaded_memory zero v = refl
-loaded_memory (suc k) v = loaded_memory k (loads (11 - k) v)
-
 -- ---- what is as it was
 
 module _ (one : ℕ → Vectored → Vectored)
@@ -232,36 +219,18 @@ module _ (one : ℕ → Vectored → Vectored)
     (floats : (i : ℕ) (v : Vectored) → (one i v).counted.state.floats ≡ v.counted.state.floats)
     (link : (i : ℕ) (v : Vectored) → (one i v).counted.state.link ≡ v.counted.state.link)
     (count : (i : ℕ) (v : Vectored) → (one i v).counted.count ≡ v.counted.count) where
-  kept_registers : (k : ℕ) (v : Vectored) (m : ℕ) → eqb m 12 ≡ false
-      → (after one k v).counted.state.registers m ≡ v.counted.state.registers m
-  kept_registers zero v m other = refl
-  kept_registers (suc k) v m other =
-      kept_registers k (one (11 - k) v) m other ∙ ap (λ g. g m) (registers (11 - k) v)
-      ∙ cond-false (eqb m 12) (moved 0 (negsuc (191 - 16 * (11 - k)))) (v.counted.state.registers m) other
-
-  kept_floats : (k : ℕ) (v : Vectored) → (after one k v).counted.state.floats ≡ v.counted.state.floats
-  kept_floats zero v = refl
-  kept_floats (suc k) v = kept_floats k (one (11 - k) v) ∙ floats (11 - k) v
-
-  kept_link : (k : ℕ) (v : Vectored) → (after one k v).counted.state.link ≡ v.counted.state.link
-  kept_link zero v = refl
-  kept_link (suc k) v = kept_link k (one (11 - k) v) ∙ link (11 - k) v
-
-  kept_count : (k : ℕ) (v : Vectored) → (after one k v).counted.count ≡ v.counted.count
-  kept_count zero v = refl
-  kept_count (suc k) v = kept_count k (one (11 - k) v) ∙ count (11 - k) v
-
-  pub returns : (k : ℕ) (v : Vectored) → ReturnsVectored v (ended (after one k v))
+  pub returns : (k : ℕ) (v : Vectored) → ReturnsVectored v (ended (after 11 one k v))
   returns k v =
       record {
         returns =
             record {
-              pc = ap (λ l. l - l % 4) (kept_link k v);
-              link = kept_link k v;
-              count = kept_count k v;
+              pc = ap (λ l. l - l % 4) (kept 11 one (λ (v : Vectored). v.counted.state.link) link k v);
+              link = kept 11 one (λ (v : Vectored). v.counted.state.link) link k v;
+              count = kept 11 one (λ (v : Vectored). v.counted.count) count k v;
             };
-        registers = kept_registers k v;
-        floats = λ m. ap (λ g. g m) (kept_floats k v);
+        registers = λ m other. kept 11 one (λ (v : Vectored). v.counted.state.registers m) (λ i v. ap (λ g. g m) (registers i v)
+            ∙ cond-false (eqb m 12) (moved 0 (negsuc (191 - 16 * i))) (v.counted.state.registers m) other) k v;
+        floats = λ m. ap (λ g. g m) (kept 11 one (λ (v : Vectored). v.counted.state.floats) floats k v);
       }
 
 -- ---- the laws
@@ -274,12 +243,12 @@ by_rest P of_each n most less =
 saves : (k : ℕ) → k < 12 → (f : Formats) (v : Vectored)
     → IsSomeAnd (run_vectored f (vector_code (of_vectors (codes "_savevr_") 0x7e8c01ce) (31 - k)) v) (SavesVectors (31 - k) v)
 saves k less f v =
-    let is : run_vectored f (vector_code (of_vectors (codes "_savevr_") 0x7e8c01ce) (31 - k)) v ≡ Some (ended (after stores (suc k) v)) =
+    let is : run_vectored f (vector_code (of_vectors (codes "_savevr_") 0x7e8c01ce) (31 - k)) v ≡ Some (ended (after 11 stores (suc k) v)) =
     ap (λ l. run_vectored f l v) (save_code k less) ∙ ran f 0x7e8c01ce stores (stvx f) (λ i v. refl) (suc k) (omega (arith, less)) v in
     subst (λ end. IsSomeAnd end (SavesVectors (31 - k) v)) (sym is)
     (record {
       returns = returns stores (λ i v. refl) (λ i v. refl) (λ i v. refl) (λ i v. refl) (suc k) v;
-      vectors = λ m. ap (λ g. g m) (stored_vectors (suc k) v);
+      vectors = λ m. kept 11 stores (λ (v : Vectored). v.vectors m) (λ i v. refl) (suc k) v;
       memory = λ a.
           saved_after (suc k) (omega (arith, less)) v a
           ∙ ap (λ j. vectors_saved j v.vectors (v.counted.state.registers 0) v.counted.state.memory a) (let e : 32 - suc k ≡ 31 - k = omega arith in e);
@@ -288,7 +257,7 @@ saves k less f v =
 restores : (k : ℕ) → k < 12 → (f : Formats) (v : Vectored)
     → IsSomeAnd (run_vectored f (vector_code (of_vectors (codes "_restvr_") 0x7e8c00ce) (31 - k)) v) (RestoresVectors (31 - k) v)
 restores k less f v =
-    let is : run_vectored f (vector_code (of_vectors (codes "_restvr_") 0x7e8c00ce) (31 - k)) v ≡ Some (ended (after loads (suc k) v)) =
+    let is : run_vectored f (vector_code (of_vectors (codes "_restvr_") 0x7e8c00ce) (31 - k)) v ≡ Some (ended (after 11 loads (suc k) v)) =
     ap (λ l. run_vectored f l v) (restore_code k less) ∙ ran f 0x7e8c00ce loads (lvx f) (λ i v. refl) (suc k) (omega (arith, less)) v in
     subst (λ end. IsSomeAnd end (RestoresVectors (31 - k) v)) (sym is)
     (record {
@@ -296,7 +265,7 @@ restores k less f v =
       vectors = λ m.
           restored_after (suc k) (omega (arith, less)) v m
           ∙ ap (λ j. vectors_restored j (v.counted.state.registers 0) v.counted.state.memory v.vectors m) (let e : 32 - suc k ≡ 31 - k = omega arith in e);
-      memory = λ a. ap (λ h. h a) (loaded_memory (suc k) v);
+      memory = λ a. kept 11 loads (λ (v : Vectored). v.counted.state.memory a) (λ i v. refl) (suc k) v;
     })
 
 pub saves_so : laws.SaveVectors
