@@ -4,7 +4,7 @@ use Rattle.std.proofs.Common.{◌∙◌, ap, subst, arith}
 use Rattle.std.proofs.Common.{List, [], ◌∷◌, ◌++◌, take, drop, eqb, cond, Some, pos, negsuc, ◌+ℤ◌}
 use Rattle.std.specs.Prelude.{◌||◌, ◌==◌, IsSomeAnd, nat_lt, if◌then◌else◌}
 use Rattle.std.specs.Int.{w64, from_le_bytes, cast_unsigned}
-use Rattle.std.proofs.lemmas.Bool.{cond-true, cond-false}
+use Rattle.std.proofs.lemmas.Bool.{cond-true, cond-false, or_parts}
 use Rattle.std.proofs.lemmas.Int.{ints}
 use Rattle.linker_base.specs.Bits.{field}
 use Rattle.linker_elf.specs.AArch64.{aarch64_form}
@@ -25,7 +25,7 @@ use Rattle.linker_laws.proofs.AArch64Steps.{set, step_add}
 use Rattle.linker_laws.proofs.AArch64Words.{IsAdrOf, IsInstructionOf, adrp_after, ldr_after}
 use Rattle.linker_laws.proofs.AArch64Words.{add_after, of_registers}
 use Rattle.linker_laws.proofs.RiscVMachine.{wrapped_is}
-use Rattle.linker_output.proofs.LazyRuns.{run_more, left_false, right_false, one_word}
+use Rattle.linker_output.proofs.LazyRuns.{run_more, one_word}
 use Rattle.linker_output.proofs.LazyRuns.{are_addresses_at}
 use Rattle.linker_output.proofs.StubWords.{applies, no_addend, at_place}
 use Rattle.linker_output.specs.AArch64LazyPlt.{step, further, run, pair_stored, pair_address}
@@ -370,9 +370,9 @@ asks relative entry first origin others below_word bounded last code is s t gone
         x16 = g.x16;
         stack = stack ∙ same_bottom;
         registers = λ n e.
-            g.others n (left_false (n == 16 || n == 17) (n == 31) e)
-            ∙ not_base n address (t.registers n) (right_false (n == 16 || n == 17) (n == 31) e)
-            ∙ gone.others n (left_false (n == 16 || n == 17) (n == 31) e);
+            g.others n (or_parts (n == 16 || n == 17) (n == 31) e).0
+            ∙ not_base n address (t.registers n) (or_parts (n == 16 || n == 17) (n == 31) e).1
+            ∙ gone.others n (or_parts (n == 16 || n == 17) (n == 31) e).0;
         word =
             ap (load_64 end.memory) stack ∙ ap (λ m. load_64 m bottom) in_memory
             ∙ below (t.registers 16) (t.registers 30) bottom t.memory (omega arith) (subst (λ n. n < 2 ^ 64) (sym gone.x16) below_word)

@@ -25,9 +25,6 @@ inside_in Front s e len g i within fits = let a : i + 1 ≤ stubs_in g = omega a
 inside_in Middle s e len g i within fits = let a : g.front + i + 1 ≤ stubs_in g = omega arith in let h = mul-le-mul_left len a in (omega arith, omega arith)
 inside_in Back s e len g i within fits = let a : i + 1 ≤ stubs_in g = omega arith in let h = mul-le-mul_left len a in (omega arith, omega arith)
 
-Apart : ℕ → ℕ → ℕ → Type 0
-Apart len a b = (a + len ≤ b) ⊎ (b + len ≤ a)
-
 up_front : (s len i j : ℕ) → i < j → s + len * i + len ≤ s + len * j
 up_front s len i j h = let p = mul-le-mul_left len h in omega arith
 

@@ -13,7 +13,7 @@ use Rattle.linker_output.specs.declared.flags.FlagRules.{FlagRules}
 
 -- ---- bits
 
-or_assoc : (a b c : ℕ) → bit_or (bit_or a b) c ≡ bit_or a (bit_or b c)
+pub or_assoc : (a b c : ℕ) → bit_or (bit_or a b) c ≡ bit_or a (bit_or b c)
 or_assoc a b c =
     same_from_bits _ _ (λ i.
     let e = bit_at_or (bit_or a b) c i in

@@ -1,9 +1,9 @@
 -- Runs of words, and the words of a lazy PLT's code.
 use Rattle.std.proofs.Common.{◌≡◌, ℕ, ◌+◌, ◌*◌, ◌/◌, ◌^◌, ◌<◌, ◌≤◌, suc, pos, negsuc, ◌+ℤ◌, Bool}
-use Rattle.std.proofs.Common.{true, false, refl, sym, ◌∙◌, ap, arith}
+use Rattle.std.proofs.Common.{false, sym, ◌∙◌, ap, arith}
 use Rattle.std.proofs.Common.{List, ◌∷◌, ◌++◌, eqb, Some, None, Option, take, drop, length}
 use Rattle.std.specs.Prelude.{◌||◌}
-use Rattle.std.proofs.lemmas.Bool.{eq-eqb, cond-true}
+use Rattle.std.proofs.lemmas.Bool.{eq-eqb, cond-true, or_parts}
 use Rattle.std.proofs.lemmas.List.{drop_at, take_at, length-take}
 use Rattle.std.proofs.lemmas.Int.{ints}
 use Rattle.linker_elf.specs.Value.{sum_64, difference_64}
@@ -24,18 +24,10 @@ run_more pc step x y rest s t end first on then =
     ∙ cond-true (eqb (pc t) (sum_64 (pc s) 4)) (run_by pc step (y ∷ rest) t) None (eq-eqb (pc t) (sum_64 (pc s) 4) on)
     ∙ then
 
-pub left_false : (a b : Bool) → (a || b) ≡ false → a ≡ false
-left_false true b e = cc
-left_false false b e = refl
-
-pub right_false : (a b : Bool) → (a || b) ≡ false → b ≡ false
-right_false true b e = cc
-right_false false b e = e
-
 pub second_and_last : (a b c d : Bool) → ((a || b) || (c || d)) ≡ false → (b || d) ≡ false
 second_and_last a b c d e =
-    ap (λ v. v || d) (right_false a b (left_false (a || b) (c || d) e))
-    ∙ right_false c d (right_false (a || b) (c || d) e)
+    let parts = or_parts (a || b) (c || d) e in
+    ap (λ v. v || d) (or_parts a b parts.0).1 ∙ (or_parts c d parts.1).1
 
 -- ---- places
 
@@ -44,6 +36,9 @@ twelve p = omega arith
 
 pub eight_on : (n : ℕ) → n < 2 ^ 64 → moved n (pos 8) ≡ sum_64 n 8
 eight_on n small = omega (arith, ints, small)
+
+pub no_move : (n : ℕ) → n < 2 ^ 64 → moved n (pos 0) ≡ n
+no_move n small = omega (arith, ints, small)
 
 -- the offset of the word, from the difference of addresses, in headers of 32 bytes
 pub offset_is : (header index address : ℕ) → header < 2 ^ 64 → index < 2 ^ 59

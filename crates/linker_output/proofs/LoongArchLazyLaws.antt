@@ -3,7 +3,7 @@ use Rattle.std.proofs.Common.{◌≡◌, ◌≢◌, ℕ, ◌/◌, ◌^◌, ◌<�
 use Rattle.std.proofs.Common.{arith}
 use Rattle.std.proofs.Common.{List, [], ◌∷◌, ◌++◌, take, eqb, cond, Some, pos, negsuc, ◌+ℤ◌, ◌*ℤ◌}
 use Rattle.std.specs.Prelude.{◌||◌, ◌==◌, IsSomeAnd}
-use Rattle.std.proofs.lemmas.Bool.{ne_eqb, cond-true, cond-false}
+use Rattle.std.proofs.lemmas.Bool.{ne_eqb, cond-true, cond-false, or_parts}
 use Rattle.linker_base.specs.Bits.{field, signed}
 use Rattle.linker_elf.specs.LoongArchRelocations.{loongarch_name, loongarch_row}
 use Rattle.linker_elf.specs.Value.{sum_64, difference_64}
@@ -21,7 +21,7 @@ use Rattle.linker_laws.proofs.AArch64Steps.{address_is, in_two_steps}
 use Rattle.linker_laws.proofs.LoongArchSteps.{set, loaded_of, step_load, step_sum, written}
 use Rattle.linker_laws.proofs.LoongArchWords.{IsHigh, IsLow, high_after, low_after, decodes_load}
 use Rattle.linker_laws.proofs.LoongArchWords.{decodes_sum}
-use Rattle.linker_output.proofs.LazyRuns.{run_more, left_false, right_false, second_and_last}
+use Rattle.linker_output.proofs.LazyRuns.{run_more, second_and_last}
 use Rattle.linker_output.proofs.LazyRuns.{one_word, are_addresses_at, twelve, eight_on, offset_is}
 use Rattle.linker_output.proofs.LoongArchStubLaws.{stays}
 use Rattle.linker_output.proofs.StubWords.{applies, no_addend, at_place}
@@ -128,9 +128,8 @@ module _ (entry : LazyEntry) (s : State) (x y target : ℕ) (small : target < 2 
   others : (n : ℕ) → (n == 13 || n == 15) ≡ false → read n three ≡ read n s
   unfolding one two three
   others n e =
-      let a = left_false (n == 13) (n == 15) e in
-      let b = right_false (n == 13) (n == 15) e in
-      other 13 (next_pc two) n two a ∙ other 15 (loaded_of y one) n one b ∙ other 15 (upper_address x s) n s b
+      let not = or_parts (n == 13) (n == 15) e in
+      other 13 (next_pc two) n two not.0 ∙ other 15 (loaded_of y one) n one not.1 ∙ other 15 (upper_address x s) n s not.1
 
   pub goes : GoesTo entry target s three
   unfolding one two three
@@ -224,18 +223,6 @@ module _ (s : State) (x y z : ℕ) where
         (run_more (λ s. s.pc) step 0x004505ad 0x28c0218c (0x4c0001e0 ∷ []) a5 a6 (Some a8) refl refl
         (run_more (λ s. s.pc) step 0x28c0218c 0x4c0001e0 [] a6 a7 (Some a8) refl refl refl))))))
 
-    base_is : read 14 a2 ≡ upper_address x s
-    unfolding a1 a2
-    base_is = refl
-
-    later_is : read 14 a4 ≡ upper_address x s
-    unfolding a1 a2 a3 a4
-    later_is = refl
-
-    memory_then : a2.memory ≡ s.memory
-    unfolding a1 a2
-    memory_then = refl
-
     t3_ends : read 15 a7 ≡ loaded 8 s.memory (led_to s.pc x y)
     unfolding a1 a2 a3 a4 a5 a6 a7
     t3_ends = ap (loaded 8 s.memory) (sum_at y (upper_address x s) 14 a2 third.rj_is refl)
@@ -263,19 +250,16 @@ module _ (s : State) (x y z : ℕ) where
   kept : (n : ℕ) → ((n == 12 || n == 13) || (n == 14 || n == 15)) ≡ false → read n a8 ≡ read n s
   unfolding a1 a2 a3 a4 a5 a6 a7 a8
   kept n e =
-      let low = left_false (n == 12 || n == 13) (n == 14 || n == 15) e in
-      let high = right_false (n == 12 || n == 13) (n == 14 || n == 15) e in
-      let not_12 = left_false (n == 12) (n == 13) low in
-      let not_13 = right_false (n == 12) (n == 13) low in
-      let not_14 = left_false (n == 14) (n == 15) high in
-      let not_15 = right_false (n == 14) (n == 15) high in
-      other 12 (loaded 8 a6.memory (wrapped (pos (read 12 a6) +ℤ pos 8))) n a6 not_12
-      ∙ other 13 (read 13 a5 / 2 ^ 1) n a5 not_13
-      ∙ other 12 (sum_of z a4) n a4 not_12
-      ∙ other 13 (wrapped (pos (read 13 a3) +ℤ negsuc 43)) n a3 not_13
-      ∙ other 15 (loaded_of y a2) n a2 not_15
-      ∙ other 13 (difference_64 (read 13 a1) (read 15 a1)) n a1 not_13
-      ∙ other 14 (upper_address x s) n s not_14
+      let both = or_parts (n == 12 || n == 13) (n == 14 || n == 15) e in
+      let low = or_parts (n == 12) (n == 13) both.0 in
+      let high = or_parts (n == 14) (n == 15) both.1 in
+      other 12 (loaded 8 a6.memory (wrapped (pos (read 12 a6) +ℤ pos 8))) n a6 low.0
+      ∙ other 13 (read 13 a5 / 2 ^ 1) n a5 low.1
+      ∙ other 12 (sum_of z a4) n a4 low.0
+      ∙ other 13 (wrapped (pos (read 13 a3) +ℤ negsuc 43)) n a3 low.1
+      ∙ other 15 (loaded_of y a2) n a2 high.1
+      ∙ other 13 (difference_64 (read 13 a1) (read 15 a1)) n a1 low.1
+      ∙ other 14 (upper_address x s) n s high.0
 
 pub resolves : relocation_laws.ThreadAddresses → laws.Resolves
 resolves thread entry first inside below bounded within small_index placed code is header is_header resolver object

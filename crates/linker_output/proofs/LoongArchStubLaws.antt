@@ -3,21 +3,22 @@ use Rattle.std.proofs.Common.{◌≡◌, ℕ, ◌/◌, ◌^◌, ◌<◌, Bool, t
 use Rattle.std.proofs.Common.{arith}
 use Rattle.std.proofs.Common.{[], ◌∷◌, eqb, cond, Some, None, Option, drop, length, pos, ◌+ℤ◌, ◌*ℤ◌}
 use Rattle.std.specs.Prelude.{IsSomeAnd}
-use Rattle.std.proofs.lemmas.Bool.{eq-eqb, cond-true, cond-false}
+use Rattle.std.proofs.lemmas.Bool.{eq-eqb, cond-true}
 use Rattle.std.proofs.lemmas.Int.{ints}
 use Rattle.std.proofs.lemmas.List.{append-nil}
 use Rattle.std.proofs.lemmas.List.Elements.{All-cons, All-nil}
 use Rattle.linker_elf.specs.LoongArchRelocations.{loongarch_name, loongarch_row}
 use Rattle.linker_elf.specs.declared.loongarch64.relocations.LoongArch64Relocation.TheVariants as r
 use Rattle.linker_utils.specs.LoongArchRewrites.{rd_of, rj_of, IsCall}
-use Rattle.linker_laws.specs.LoongArchMachine.{State, step, decode, pcaddu_18, jirl, run, execute}
+use Rattle.linker_laws.specs.LoongArchMachine.{State, step, run, execute}
 use Rattle.linker_laws.specs.LoongArchMachine.{write, next_pc, continue, go_to, go_on, page_address}
 use Rattle.linker_laws.specs.LoongArchMachine.{far_address, register_target}
 use Rattle.linker_laws.specs.LoongArchRelocationLaws as relocation_laws
 use Rattle.linker_laws.specs.LoongArchRewriteLaws.{word_of}
 use Rattle.linker_laws.specs.Machine.{wrapped, loaded, AreBytes, Relocated}
 use Rattle.linker_laws.specs.Schemes.{entry_and_addend}
-use Rattle.linker_laws.proofs.LoongArchCalls.{not_higher, call_is, new_first, new_second, target_is}
+use Rattle.linker_laws.proofs.LoongArchCalls.{call_is, decodes_far, decodes_jirl, new_first, new_second}
+use Rattle.linker_laws.proofs.LoongArchCalls.{target_is}
 use Rattle.linker_laws.proofs.LoongArchPairs.{loads}
 use Rattle.linker_laws.proofs.LoongArchSteps.{set, loaded_of, run_pair}
 use Rattle.linker_laws.proofs.LoongArchWords.{IsHigh, IsLow, high_after, low_after}
@@ -37,16 +38,6 @@ run_three x y z s t u v first on second on2 third =
     ap (continue (next_pc s) (λ r. run (y ∷ z ∷ []) r)) first
     ∙ cond-true (eqb t.pc (next_pc s)) (run (y ∷ z ∷ []) t) None (eq-eqb t.pc (next_pc s) on)
     ∙ run_pair y z t u v second on2 third
-
-decodes_far : (x : ℕ) → x / 2 ^ 25 ≡ 0x0f → decode x ≡ pcaddu_18
-decodes_far x op =
-    cond-false _ _ _ (ap (λ t. eqb t 0x0d) op) ∙ cond-false _ _ _ (ap (λ t. eqb t 0x0c) op)
-    ∙ cond-true _ _ _ (ap (λ t. eqb t 0x0f) op)
-
-decodes_jirl : (x : ℕ) → x / 2 ^ 26 ≡ 0x13 → decode x ≡ jirl
-decodes_jirl x op =
-    not_higher x 0x13 op (omega arith) (omega arith) _ _ _ _ _ _ _ _
-    ∙ cond-true _ _ _ (ap (λ t. eqb t 0x13) op)
 
 -- `jirl` adds 0
 pub stays : (v : ℕ) → v < 2 ^ 64 → wrapped (pos v +ℤ (pos 0 *ℤ pos 4)) ≡ v

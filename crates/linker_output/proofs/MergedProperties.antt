@@ -1,16 +1,11 @@
 -- Properties that are merged type by type.
 use Rattle.std.proofs.Common.{◌≡◌, ◌≢◌, ℕ, ◌+◌, ◌<◌, ◌≤◌, ◌^◌, true, List, [], ◌∷◌, ◌++◌, length}
 use Rattle.std.proofs.Common.{set, drop, refl, sym, ◌∙◌, ap, subst, arith, Option, Some, None, Ok}
-use Rattle.std.proofs.Common.{Err, ◌⊎◌, inl, inr}
+use Rattle.std.proofs.Common.{inl, inr}
 use Rattle.std.proofs.lemmas.Bool.Decides.{nat_tests}
+use Rattle.std.proofs.lemmas.Bool.{cases_lt}
 use Rattle.linker_output.specs.Properties.{rule_of, merged, merged_by, merged_kind, of_kind}
-use Rattle.linker_output.specs.Properties.{are_ascending, Merges, DiffersAt, RejectsMerge}
-use Rattle.linker_output.specs.declared.properties.PropertyError.{PropertyError}
-use Rattle.linker_output.specs.declared.properties.PropertyError.TheVariants.{NotProperties, CutOff}
-use Rattle.linker_output.specs.declared.properties.PropertyError.TheVariants.{WrongSize}
-use Rattle.linker_output.specs.declared.properties.PropertyError.TheVariants.{NotAscending, Differs}
-use Rattle.linker_output.specs.declared.properties.PropertyError.TheVariants.{Unknown, TooLarge}
-use Rattle.linker_output.specs.declared.properties.PropertyError.TheVariants.{TooMany, TooShort}
+use Rattle.linker_output.specs.Properties.{are_ascending, Merges}
 use Rattle.linker_output.specs.Inner.Properties.{put_all}
 use Rattle.linker_elf.specs.declared.elf.architecture.Architecture.{Architecture}
 use Rattle.linker_elf.specs.declared.elf.architecture.Architecture.TheVariants.{AArch64, RiscV}
@@ -22,9 +17,6 @@ use Rattle.linker_output.specs.declared.properties.PropertyRule.TheVariants.{All
 use Rattle.linker_output.specs.declared.properties.PropertyRule.TheVariants.{Largest, Present, Same}
 
 -- ---- lists
-
-order : (k n : ℕ) → (k < n) ⊎ (n ≤ k)
-order k n = grind arith
 
 of_own : (p : Property) (xs : List Property) → of_kind p.kind (p ∷ xs) ≡ Some p
 of_own p xs = grind (arith, nat_tests)
@@ -45,7 +37,7 @@ of_kind_last kind (q ∷ ps) p same e = (let h = of_kind_last kind ps p same in 
 ascends_last : (ps : List Property) (least : ℕ) (p : Property) → are_ascending least ps ≡ true → least ≤ p.kind → ((kind : ℕ) → p.kind ≤ kind → of_kind kind ps ≡ None) → are_ascending least (ps ++ p ∷ []) ≡ true
 ascends_last [] least p h le above = grind (arith, nat_tests)
 ascends_last (q ∷ ps) least p h le above =
-    let lt : q.kind < p.kind = elim (order q.kind p.kind) [
+    let lt : q.kind < p.kind = elim (cases_lt q.kind p.kind) [
       | inl below ↦ below
       | inr le ↦ (let none = above q.kind le in let own = of_own q ps in absurd (cc))
     ] in
@@ -90,7 +82,7 @@ pub skip : (architecture : Architecture) (first second done : List Property) (bo
 skip architecture first second done bound next le one two s = record {
   ascending = s.ascending;
   above = λ kind over. s.above kind (omega arith);
-  exact = λ kind lt. elim (order kind bound) [
+  exact = λ kind lt. elim (cases_lt kind bound) [
     | inl below ↦ s.exact kind below
     | inr above ↦
         rw (one kind above lt, two kind above lt, s.above kind above)
@@ -107,7 +99,7 @@ pub without : (architecture : Architecture) (first second done : List Property) 
 without architecture first second done kind e s = record {
   ascending = s.ascending;
   above = λ k over. s.above k (omega arith);
-  exact = λ k lt. elim (order k kind) [
+  exact = λ k lt. elim (cases_lt k kind) [
     | inl below ↦ s.exact k below
     | inr above ↦
         let same : k ≡ kind = omega arith in
@@ -121,7 +113,7 @@ pub with : (architecture : Architecture) (first second done : List Property) (ki
 with architecture first second done kind p e is s = record {
   ascending = ascends_last done 0 p s.ascending (omega arith) (λ k le. s.above k (omega arith));
   above = λ k over. of_kind_other k done p (λ h. (omega arith)) ∙ s.above k (omega arith);
-  exact = λ k lt. elim (order k kind) [
+  exact = λ k lt. elim (cases_lt k kind) [
     | inl below ↦ s.exact k below ∙ sym (ap Ok (of_kind_other k done p (λ h. (omega arith))))
     | inr above ↦
         let same : k ≡ kind = omega arith in
@@ -166,47 +158,12 @@ pub whole : (architecture : Architecture) (first second done : List Property) (b
     → SoFar architecture first second done bound → Merges architecture first second done
 whole architecture first second done bound le s = record {
   ascending = s.ascending;
-  exact = λ kind. elim (order kind bound) [
+  exact = λ kind. elim (cases_lt kind bound) [
     | inl below ↦ s.exact kind below
     | inr above ↦
         rw (no_rule architecture kind (omega arith), s.above kind above) refl
   ];
 }
-
--- ---- errors
-
-never_short : (rule : Option PropertyRule) (kind : ℕ) (first second : Option Property) (n : ℕ)
-    → merged_by rule kind first second ≡ Err (TooShort n) → ⊥
-never_short None kind first second n e = absurd (cc)
-never_short (Some All) kind first second n e = absurd (cc)
-never_short (Some Any) kind first second n e = absurd (cc)
-never_short (Some AnyOfAll) kind first second n e = absurd (cc)
-never_short (Some Largest) kind None second n e = absurd (cc)
-never_short (Some Largest) kind (Some a) None n e = absurd (cc)
-never_short (Some Largest) kind (Some a) (Some b) n e = absurd (cc)
-never_short (Some Present) kind None second n e = absurd (cc)
-never_short (Some Present) kind (Some a) None n e = absurd (cc)
-never_short (Some Present) kind (Some a) (Some b) n e = absurd (cc)
-never_short (Some Same) kind None second n e = absurd (cc)
-never_short (Some Same) kind (Some a) None n e = absurd (cc)
-never_short (Some Same) kind (Some a) (Some b) n e = grind (arith, nat_tests)
-
-pub refused : (architecture : Architecture) (first second : List Property) (room : ℕ) (error : PropertyError)
-    → DiffersAt architecture first second error → RejectsMerge architecture first second room error
-refused architecture first second room (NotProperties at) d = d
-refused architecture first second room (CutOff at) d = d
-refused architecture first second room (WrongSize at) d = d
-refused architecture first second room (NotAscending at) d = d
-refused architecture first second room (Differs kind) d = d
-refused architecture first second room (Unknown kind) d = d
-refused architecture first second room (TooLarge kind) d = d
-refused architecture first second room TooMany d = d
-refused architecture first second room (TooShort needed) d =
-    absurd (never_short (rule_of architecture d.0) d.0 (of_kind d.0 first) (of_kind d.0 second) needed d.1)
-
-pub never : (architecture : Architecture) (first second properties : List Property) (error : PropertyError)
-    → Merges architecture first second properties → DiffersAt architecture first second error → ⊥
-never architecture first second properties error m d = let e = m.exact d.0 in let h = d.1 in cc
 
 -- ---- what merges is one list
 
@@ -219,7 +176,7 @@ heads : (p q : Property) (xs ys : List Property) (one two : ℕ)
     → are_ascending one (p ∷ xs) ≡ true → are_ascending two (q ∷ ys) ≡ true
     → ((kind : ℕ) → of_kind kind (p ∷ xs) ≡ of_kind kind (q ∷ ys)) → q.kind ≤ p.kind
 heads p q xs ys one two h k same =
-    elim (order p.kind q.kind) [
+    elim (cases_lt p.kind q.kind) [
       | inr le ↦ le
       | inl lt ↦
           let e : of_kind p.kind (q ∷ ys) ≡ Some p = sym (same p.kind) ∙ of_own p xs in

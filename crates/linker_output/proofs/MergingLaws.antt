@@ -3,25 +3,16 @@ use Rattle.std.proofs.Common.{◌≡◌, ℕ, refl, sym, ◌∙◌, ap, arith, O
 use Rattle.std.proofs.Common.{bit_or, max}
 use Rattle.std.proofs.lemmas.Bool.Decides.{nat_tests}
 use Rattle.std.proofs.lemmas.Nat.{and_comm, and_assoc, or_comm}
-use Rattle.std.proofs.lemmas.Nat.Bits.{bit_at_or, same_from_bits}
 use Rattle.std.proofs.Common.{List}
 use Rattle.linker_elf.specs.declared.elf.architecture.Architecture.{Architecture}
 use Rattle.linker_output.specs.Properties.{rule_of, of_kind, merged_kind, MergesAlike}
 use Rattle.linker_output.specs.Properties.{merged_by, merged_to, merged_with, value_of, unless_zero}
 use Rattle.linker_output.specs.Properties.{of_value, same_value}
+use Rattle.linker_output.proofs.JoinedFlags.{or_assoc}
 use Rattle.linker_output.specs.declared.properties.Property.{Property}
 use Rattle.linker_output.specs.declared.properties.PropertyRule.{PropertyRule}
 use Rattle.linker_output.specs.declared.properties.PropertyRule.TheVariants.{All, Any, AnyOfAll}
 use Rattle.linker_output.specs.declared.properties.PropertyRule.TheVariants.{Largest, Present, Same}
-
-or_assoc : (a b c : ℕ) → bit_or (bit_or a b) c ≡ bit_or a (bit_or b c)
-or_assoc a b c =
-    same_from_bits _ _ (λ i.
-    let e = bit_at_or (bit_or a b) c i in
-    let e2 = bit_at_or a b i in
-    let e3 = bit_at_or a (bit_or b c) i in
-    let e4 = bit_at_or b c i in
-    omega arith)
 
 max_comm : (a b : ℕ) → max a b ≡ max b a
 max_comm a b = omega arith

@@ -25,13 +25,14 @@ use Rattle.linker_laws.specs.Ppc64RewriteLaws.{word_of}
 use Rattle.linker_laws.proofs.AArch64Words.{field_kept}
 use Rattle.linker_laws.proofs.RiscVMachine.{address_is, times_one, wrapped_is}
 use Rattle.linker_output.proofs.LazyRuns.{run_more, one_word, following, are_addresses_at}
+use Rattle.linker_output.proofs.LazyRuns.{eight_on, no_move}
 use Rattle.linker_output.proofs.StubWords.{applies, no_addend, at_place}
 use Rattle.linker_output.specs.LazyPlt.{operands_at, header_places}
 use Rattle.linker_output.specs.LazyPlts.{padded}
 use Rattle.linker_output.specs.LazyRuns.{words, or_else}
-use Rattle.linker_output.specs.Ppc64LazyPlt.{step, run, is_b, lifted, rotated, Asks}
+use Rattle.linker_output.specs.Ppc64LazyPlt.{step, run, is_b, rotated, Asks}
 use Rattle.linker_output.specs.Ppc64LazyPlt as laws
-use Rattle.linker_output.specs.Ppc64Stubs.{Counted, step_counted, with_state, moved_from_link}
+use Rattle.linker_output.specs.Ppc64Stubs.{Counted, lifted, step_counted, with_state, moved_from_link}
 use Rattle.linker_output.specs.Ppc64Stubs.{moved_to_link, linked, at_count}
 use Rattle.linker_output.specs.Tables.{field_of, code_of_words}
 use Rattle.linker_output.specs.declared.lazy_plt.LazyField.{LazyField}
@@ -205,12 +206,6 @@ at_44 n small = omega (arith, ints, small)
 on_52 : (header : ℕ) → sum_64 (sum_64 (sum_64 header 4) 4) 44 ≡ sum_64 header 52
 on_52 header = omega arith
 
-at_8 : (n : ℕ) → n < 2 ^ 64 → moved n (pos 8) ≡ sum_64 n 8
-at_8 n small = omega (arith, ints, small)
-
-at_0 : (n : ℕ) → n < 2 ^ 64 → moved n (pos 0) ≡ n
-at_0 n small = omega (arith, ints, small)
-
 -- from the third instruction, by the number after the code
 words_are : (header number first : ℕ) → first < 2 ^ 64
     → (sum_64 header 8 + number) % 2 ^ 64 ≡ sum_64 first (cast_unsigned w64 (pos 0)) % 2 ^ 64
@@ -290,7 +285,7 @@ resolves single fields entry first inside bounded within aligned small placed co
     ∙ words_are entry.header n first bounded far in
     let found : (c13 f d).state.registers 12 ≡ resolver =
     r12_is f d ∙ ap (λ a. loaded 8 c.state.memory (moved a (pos 0))) there
-    ∙ ap (loaded 8 c.state.memory) (at_0 first bounded) ∙ holds in
+    ∙ ap (loaded 8 c.state.memory) (no_move first bounded) ∙ holds in
     let asked : Asks entry.index resolver object c (c13 f d) =
     record {
       pc = pc_is f d ∙ ap (λ n. n - n % 4) found ∙ omega (arith, even);
@@ -300,7 +295,7 @@ resolves single fields entry first inside bounded within aligned small placed co
           ∙ index_is entry.header entry.index entry.address within small placed;
       r11 =
           r11_is f d ∙ ap (λ a. loaded 8 c.state.memory (moved a (pos 8))) there
-          ∙ ap (loaded 8 c.state.memory) (at_8 first bounded) ∙ next;
+          ∙ ap (loaded 8 c.state.memory) (eight_on first bounded) ∙ next;
       r12 = found;
       registers = others f d;
       floats = floats_are f d;

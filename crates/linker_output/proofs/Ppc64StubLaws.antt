@@ -21,6 +21,7 @@ use Rattle.linker_laws.specs.Schemes.{IsAddress, symbol_address}
 use Rattle.linker_laws.proofs.Ppc64Addresses.{reads_ds, same_parts}
 use Rattle.linker_laws.proofs.Ppc64Words.{HasParts, d_after, ds_after, sum_leads, set, step_addis}
 use Rattle.linker_laws.proofs.Ppc64Words.{step_addi, step_ld}
+use Rattle.linker_output.proofs.LazyRuns.{twelve}
 use Rattle.linker_output.proofs.StubWords.{front_word, first_is, second_is, third_is, applies}
 use Rattle.linker_output.proofs.StubWords.{no_addend, are_addresses}
 use Rattle.linker_output.specs.Ppc64Output.{ppc64_output}
@@ -164,9 +165,6 @@ entered_is code pair x y len is first second =
     let j : at 32 code ≡ 0x4e800420 = ap word_of (last_at code pair tail len is) in
     cc
 
-twelve_on : (p : ℕ) → sum_64 (sum_64 (sum_64 p 4) 4) 4 ≡ sum_64 p 12
-twelve_on p = omega arith
-
 -- ---- the laws
 
 pub loads_go : TocAddresses → stubs.Loads
@@ -195,7 +193,7 @@ loads_go toc place word target inside below small even code is f c entry holds =
     let t = sum_64 (sum_64 c.state.pc 4) 4 in
     let v = moved t a in
     let w = loaded 8 c.state.memory (moved v b) in
-    let begin : t ≡ o.got_base = ap (λ p. sum_64 (sum_64 p 4) 4) entry ∙ twelve_on place in
+    let begin : t ≡ o.got_base = ap (λ p. sum_64 (sum_64 p 4) 4) entry ∙ twelve place in
     let leads : moved v b ≡ word =
     ap (λ p. moved (moved p a) b) begin
     ∙ sum_leads o.got_base (symbol_address o) a b
@@ -242,7 +240,7 @@ jumps_go toc place target inside below even code is f c entry =
     let t = sum_64 (sum_64 c.state.pc 4) 4 in
     let v = moved t a in
     let w = moved v b in
-    let begin : t ≡ o.got_base = ap (λ p. sum_64 (sum_64 p 4) 4) entry ∙ twelve_on place in
+    let begin : t ≡ o.got_base = ap (λ p. sum_64 (sum_64 p 4) 4) entry ∙ twelve place in
     let value : w ≡ target =
     ap (λ p. moved (moved p a) b) begin
     ∙ sum_leads o.got_base (symbol_address o) a b

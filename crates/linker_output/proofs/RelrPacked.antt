@@ -9,6 +9,7 @@ use Rattle.std.proofs.lemmas.Nat.Bits.{bit_at_above, bit_at_set_same, bit_at_set
 use Rattle.std.proofs.lemmas.Nat.Bits.{bit_at_lowest}
 use Rattle.std.specs.Int.{bit_at, w64}
 use Rattle.std.specs.List.{list_all}
+use Rattle.std.proofs.lemmas.Bool.{cases_Bool}
 use Rattle.linker_output.specs.Relr.{relocated, marked, address_fault, are_addresses, relr_fault}
 use Rattle.linker_output.specs.Relr.{word_fault, Packs, RejectsAddresses}
 use Rattle.linker_output.specs.Inner.Relr.{words_from, words_of, is_past}
@@ -167,10 +168,6 @@ far_good base bitmap a xs one q above far g =
       counted = rw (w, one) (ap suc n ∙ (suc_of (cost xs (a + 8)) ∙ (far_cost base a xs above far ∙ sym (zero_of (cost (a ∷ xs) (base + 8))))));
     }
 
-decide : (b : Bool) → (b ≡ true) ⊎ (b ≡ false)
-decide true = inl refl
-decide false = inr refl
-
 -- an address after the bits so far
 placed : (base bitmap d a : ℕ) (xs : List ℕ) → State base bitmap d → is_past base bitmap a ≡ false → a % 8 ≡ 0 → base + 8 * d < a → ((b m e : ℕ) → State b m e → b + 8 * e < a + 1 → Good b m xs) → Good base bitmap (a ∷ xs)
 placed base bitmap d a xs s within q above rest =
@@ -216,7 +213,7 @@ parts least a xs h = record { aligned = grind (arith, nat_tests); above = grind 
 last_good : (base bitmap d : ℕ) → State base bitmap d → Good base bitmap []
 unfolding pending end cost
 last_good base bitmap d s =
-    elim (decide (nat_eq bitmap 1)) [
+    elim (cases_Bool (nat_eq bitmap 1)) [
       | inl one ↦ let e : bitmap ≡ 1 = grind (arith, nat_tests) in rw e (record { exact = rw (marked_none 63 (base + 8)); sound = refl; counted = refl })
       | inr some ↦ record { exact = rw (some, s.odd, append-nil); sound = rw (some, s.odd); counted = rw some }
     ]
@@ -228,7 +225,7 @@ good (a ∷ xs) base bitmap d least s above h =
     let al = s.aligned in
     let le = p.above in
     let rest : (b m e : ℕ) → State b m e → b + 8 * e < a + 1 → Good b m xs = λ b m e t le. good xs b m e (a + 1) t le p.rest in
-    elim (decide (is_past base bitmap a)) [
+    elim (cases_Bool (is_past base bitmap a)) [
       | inl past ↦
           let f = is_full base bitmap a past in
           let far = f.far in

@@ -3,7 +3,7 @@ use Rattle.std.proofs.Common.{◌≡◌, ℕ, ◌-◌, ◌/◌, ◌%◌, ◌^◌
 use Rattle.std.proofs.Common.{Some, false, ◌==◌}
 use Rattle.std.proofs.Common.{List, [], ◌∷◌, ◌++◌, take, Option, pos, negsuc, ◌+ℤ◌}
 use Rattle.std.specs.Prelude.{◌||◌, IsSomeAnd}
-use Rattle.std.proofs.lemmas.Int.{ints}
+use Rattle.std.proofs.lemmas.Bool.{or_parts}
 use Rattle.linker_base.specs.Form.{place_sum}
 use Rattle.linker_elf.specs.Applied.{IsApplied}
 use Rattle.linker_elf.specs.RiscV.{riscv_form}
@@ -21,11 +21,11 @@ use Rattle.linker_laws.specs.RiscVMachine.{auipc, sums, adds, loads, jumps, exec
 use Rattle.linker_laws.specs.RiscVMachine.{load_number}
 use Rattle.linker_laws.specs.RiscVRelocationLaws.{RelativeAddresses}
 use Rattle.linker_laws.specs.RiscVRewriteLaws.{word_of}
-use Rattle.linker_laws.proofs.RiscVDescriptors.{upper_word, load_word, sum_word}
+use Rattle.linker_laws.proofs.RiscVDescriptors.{upper_word, load_word, sum_word, whole_number}
 use Rattle.linker_laws.proofs.RiscVMachine.{moved_twice, address_is, other, unwritten}
-use Rattle.linker_output.proofs.LazyRuns.{run_more, left_false, right_false, second_and_last}
-use Rattle.linker_output.proofs.LazyRuns.{one_word, are_addresses_at, twelve, eight_on, offset_is}
-use Rattle.linker_output.proofs.RiscVStubLaws.{whole_number}
+use Rattle.linker_output.proofs.LazyRuns.{run_more, second_and_last}
+use Rattle.linker_output.proofs.LazyRuns.{one_word, are_addresses_at, twelve, eight_on, no_move, offset_is}
+use Rattle.linker_output.proofs.RiscVStubLaws.{jr_is}
 use Rattle.linker_output.proofs.StubWords.{applies, no_addend, at_place}
 use Rattle.linker_output.specs.LazyPlt.{IsCode, operands_at, header_places}
 use Rattle.linker_output.specs.LazyPlts.{riscv_entry, padded}
@@ -47,10 +47,6 @@ jalr_is : of_word 0x000e0367 ≡ Some (sums jumps 6 28 0 (pos 0))
 unfolding place_sum
 jalr_is = refl
 
-jr_is : of_word 0x000e0067 ≡ Some (sums jumps 0 28 0 (pos 0))
-unfolding place_sum
-jr_is = refl
-
 addi_is : of_word 0xfd430313 ≡ Some (sums adds 6 6 0 (negsuc 43))
 unfolding place_sum
 addi_is = refl
@@ -58,10 +54,6 @@ addi_is = refl
 ld_is : of_word 0x0082b283 ≡ Some (sums (loads 3) 5 5 0 (pos 8))
 unfolding place_sum
 ld_is = refl
-
--- the same number, in steps
-no_move : (n : ℕ) → n < 2 ^ 64 → moved n (pos 0) ≡ n
-no_move n small = omega (arith, ints, small)
 
 -- ---- an entry
 
@@ -99,11 +91,10 @@ module _ (entry : LazyEntry) (h : Hart) (u i : ℤ) (target : ℕ) (small : targ
   others : (n : ℕ) → (n == 6 || n == 28) ≡ false → register three n ≡ register h n
   unfolding one two three
   others n e =
-      let a = left_false (n == 6) (n == 28) e in
-      let b = right_false (n == 6) (n == 28) e in
-      other 6 (sum_64 two.pc 4) two n a
-      ∙ other 28 (load_number 3 (loaded 8 one.memory (moved (register one 28) i))) one n b
-      ∙ other 28 (moved h.pc u) h n b
+      let not = or_parts (n == 6) (n == 28) e in
+      other 6 (sum_64 two.pc 4) two n not.0
+      ∙ other 28 (load_number 3 (loaded 8 one.memory (moved (register one 28) i))) one n not.1
+      ∙ other 28 (moved h.pc u) h n not.1
 
   pub goes : GoesTo entry target h three
   unfolding one two three
@@ -262,20 +253,17 @@ module _ (t : Hart) (u i j : ℤ) where
   kept : (n : ℕ) → ((n == 5 || n == 6) || (n == 7 || n == 28)) ≡ false → register a8 n ≡ register t n
   unfolding a1 a2 a3 a4 a5 a6 a7 a8
   kept n e =
-      let low = left_false (n == 5 || n == 6) (n == 7 || n == 28) e in
-      let high = right_false (n == 5 || n == 6) (n == 7 || n == 28) e in
-      let not_5 = left_false (n == 5) (n == 6) low in
-      let not_6 = right_false (n == 5) (n == 6) low in
-      let not_7 = left_false (n == 7) (n == 28) high in
-      let not_28 = right_false (n == 7) (n == 28) high in
+      let both = or_parts (n == 5 || n == 6) (n == 7 || n == 28) e in
+      let low = or_parts (n == 5) (n == 6) both.0 in
+      let high = or_parts (n == 7) (n == 28) both.1 in
       unwritten (sum_64 a7.pc 4) a7 n
-      ∙ other 5 (load_number 3 (loaded 8 a6.memory (moved (register a6 5) (pos 8)))) a6 n not_5
-      ∙ other 6 (register a5 6 / 2 ^ 1) a5 n not_6
-      ∙ other 5 (moved (register a4 7) j) a4 n not_5
-      ∙ other 6 (moved (register a3 6) (negsuc 43)) a3 n not_6
-      ∙ other 28 (load_number 3 (loaded 8 a2.memory (moved (register a2 7) i))) a2 n not_28
-      ∙ other 6 (difference_64 (register a1 6) (register a1 28)) a1 n not_6
-      ∙ other 7 (moved t.pc u) t n not_7
+      ∙ other 5 (load_number 3 (loaded 8 a6.memory (moved (register a6 5) (pos 8)))) a6 n low.0
+      ∙ other 6 (register a5 6 / 2 ^ 1) a5 n low.1
+      ∙ other 5 (moved (register a4 7) j) a4 n low.0
+      ∙ other 6 (moved (register a3 6) (negsuc 43)) a3 n low.1
+      ∙ other 28 (load_number 3 (loaded 8 a2.memory (moved (register a2 7) i))) a2 n high.1
+      ∙ other 6 (difference_64 (register a1 6) (register a1 28)) a1 n low.1
+      ∙ other 7 (moved t.pc u) t n high.0
 
 pub resolves : RelativeAddresses → laws.Resolves
 resolves relative entry first inside below bounded within aligned small_index placed code is header is_header resolver object

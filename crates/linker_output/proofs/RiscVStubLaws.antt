@@ -1,26 +1,24 @@
 -- RISC-V's stub goes to the address in its word.
-use Rattle.std.proofs.Common.{◌≡◌, ℕ, ◌-◌, ◌%◌, ◌^◌, ◌<◌, refl, sym, ◌∙◌, ap, subst, arith, inl}
-use Rattle.std.proofs.Common.{inr, ℤ, Some, false}
-use Rattle.std.proofs.Common.{List, length, drop, pos, ◌+ℤ◌, w64}
+use Rattle.std.proofs.Common.{◌≡◌, ℕ, ◌-◌, ◌%◌, ◌^◌, ◌<◌, refl, sym, ◌∙◌, ap, subst, arith}
+use Rattle.std.proofs.Common.{ℤ, Some, false}
+use Rattle.std.proofs.Common.{List, length, drop, pos, ◌+ℤ◌}
 use Rattle.std.specs.Prelude.{◌==◌}
-use Rattle.std.specs.Int.{cast_signed, cast_unsigned}
-use Rattle.std.proofs.lemmas.Int.{ints, to_z_pos, of_z-to_z}
+use Rattle.std.proofs.lemmas.Int.{ints}
 use Rattle.std.proofs.lemmas.List.{length-drop, length-append}
-use Rattle.linker_base.specs.Bits.{field, signed}
+use Rattle.linker_base.specs.Bits.{field}
 use Rattle.linker_base.specs.Form.{place_sum}
-use Rattle.linker_base.proofs.Bits.{cast_negative}
-use Rattle.linker_base.proofs.Pairs.{signed_cases}
 use Rattle.linker_elf.specs.RiscV.{riscv_form}
 use Rattle.linker_elf.specs.Value.{sum_64, difference_64}
 use Rattle.linker_elf.specs.declared.elf.RelocationKind.TheVariants.{Relative, RelativeRiscVLow12}
 use Rattle.linker_elf.specs.declared.riscv64.forms.RiscVInstruction.TheVariants.{UType, IType}
 use Rattle.linker_riscv64.specs.RiscVFields.{opcode_of, funct3_of, rd_of}
-use Rattle.linker_laws.specs.Machine.{wrapped, moved, loaded, extended}
+use Rattle.linker_laws.specs.Machine.{wrapped, moved, loaded}
 use Rattle.linker_laws.specs.RiscVMachine.{Hart, register, auipc, sums, loads, jumps, executed}
 use Rattle.linker_laws.specs.RiscVMachine.{Runs, fetched, of_word, rs1_of, load_number}
 use Rattle.linker_laws.specs.RiscVRelocationLaws.{RelativeAddresses}
 use Rattle.linker_laws.specs.RiscVRewriteLaws.{word_of}
 use Rattle.linker_laws.proofs.RiscVDescriptors.{upper_word, upper_long, load_word, low_long}
+use Rattle.linker_laws.proofs.RiscVDescriptors.{whole_number}
 use Rattle.linker_laws.proofs.RiscVMachine.{at_start, at_second, fetched_word, steps, moved_twice}
 use Rattle.linker_laws.proofs.RiscVMachine.{address_is, other, written, unwritten}
 use Rattle.linker_elf.specs.RiscVRelocations.{riscv_name, riscv_relocation}
@@ -33,20 +31,11 @@ use Rattle.linker_output.specs.RiscVStubs as stubs
 use Rattle.linker_output.proofs.StubWords.{front_word, first_is, second_is, third_is, applies}
 use Rattle.linker_output.proofs.StubWords.{no_addend, at_place, are_addresses}
 
--- a load of 64 bits
-pub whole_number : (v : ℕ) → v < 2 ^ 64 → extended 64 v ≡ v
-whole_number v small =
-    let same : signed 64 v ≡ cast_signed w64 v = elim (signed_cases 64 v) [
-      | inl a ↦ a.1 ∙ sym (to_z_pos w64 v a.0)
-      | inr a ↦ a.1 ∙ (let high = a.0 in omega (arith, ints)) ∙ sym (cast_negative v small a.0)
-    ] in
-    ap (cast_unsigned w64) same ∙ of_z-to_z w64 v small
-
 at_third : (pc : ℕ) → pc < 2 ^ 64 → difference_64 (sum_64 (sum_64 pc 4) 4) pc ≡ 8
 at_third pc small = omega arith
 
 -- `jr t3`
-jr_is : of_word 0x000e0067 ≡ Some (sums jumps 0 28 0 (pos 0))
+pub jr_is : of_word 0x000e0067 ≡ Some (sums jumps 0 28 0 (pos 0))
 unfolding place_sum
 jr_is = refl
 

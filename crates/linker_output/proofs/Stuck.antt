@@ -29,10 +29,21 @@ out_ahead back fwd from to h out = ⊎_elim (λ (near : to < from + fwd). absurd
 out_after : (back fwd from to : ℕ) → to < from → ¬ Reaches back fwd from to → to + back < from
 out_after back fwd from to h out = ⊎_elim (λ (far : to + back < from). far) (λ (near : from ≤ to + back). absurd (out (record { forward = omega arith; backward = near }))) (cases_lt (to + back) from)
 
-module _ (code : Code) (groups : List Group) (before : List ℕ) (branch : Branch) (is_code : IsCode code) (laid : IsLaidOut code.shape groups before) (len : length groups ≡ length code.boundaries.now) where
-  p : ℕ
-  p = passed code.boundaries.now branch.offset
+-- the place after the first stubs of the next boundary is out of reach, and that before the last
+-- stubs of the boundary before it
+abbrev pub IsOutFront : Code → List Group → Branch → Type 0
+IsOutFront code groups branch = passed code.boundaries.now branch.offset < length code.boundaries.now
+    → ¬ Reaches branch.max_backward branch.max_forward branch.offset
+    (at code.boundaries.now (passed code.boundaries.now branch.offset)
+    + code.shape.len * (group_at groups (passed code.boundaries.now branch.offset)).front)
 
+abbrev pub IsOutBack : Code → List Group → Branch → Type 0
+IsOutBack code groups branch = (b : ℕ) → b + 1 ≡ passed code.boundaries.now branch.offset
+    → ¬ Reaches branch.max_backward branch.max_forward
+    (branch.offset + code.shape.len * ((group_at groups b).back + 1))
+    (at code.boundaries.now b)
+
+module _ (code : Code) (groups : List Group) (before : List ℕ) (branch : Branch) (is_code : IsCode code) (laid : IsLaidOut code.shape groups before) (len : length groups ≡ length code.boundaries.now) where
   -- boundaries that are passed are at or below the branch, and the others above it
   pub below : (k : ℕ) → k < passed code.boundaries.now branch.offset → at code.boundaries.now k ≤ branch.offset
   below k h = true_le _ _ (prefix_len_passes (λ b. nat_le b branch.offset) code.boundaries.now k 0 h)
@@ -43,11 +54,7 @@ module _ (code : Code) (groups : List Group) (before : List ℕ) (branch : Branc
   passed_within : passed code.boundaries.now branch.offset ≤ length code.boundaries.now
   passed_within = prefix_len-le-length (λ b. nat_le b branch.offset) code.boundaries.now
 
-  -- the place after the first stubs of the next boundary is out of reach
-  module _ (out : passed code.boundaries.now branch.offset < length code.boundaries.now
-      → ¬ Reaches branch.max_backward branch.max_forward branch.offset
-      (at code.boundaries.now (passed code.boundaries.now branch.offset)
-      + code.shape.len * (group_at groups (passed code.boundaries.now branch.offset)).front)) where
+  module _ (out : IsOutFront code groups branch) where
     pub edge_ahead : passed code.boundaries.now branch.offset < length code.boundaries.now → moved code.boundaries.now before branch.offset + branch.max_forward
         ≤ start_of code.boundaries.now before (passed code.boundaries.now branch.offset) + code.shape.len * (group_at groups (passed code.boundaries.now branch.offset)).front
     edge_ahead h = let above = next_above h in let far = out_ahead _ _ _ _ (omega arith) (out h) in omega arith
@@ -74,11 +81,7 @@ module _ (code : Code) (groups : List Group) (before : List ℕ) (branch : Branc
         (λ (same : k ≤ passed code.boundaries.now branch.offset). let e : k ≡ passed code.boundaries.now branch.offset = omega arith in rw e (out_from _ (omega arith) (omega arith)))
         (cases_lt (passed code.boundaries.now branch.offset) k)
 
-  -- the place before the last stubs of the boundary before it is out of reach
-  module _ (out : (b : ℕ) → b + 1 ≡ passed code.boundaries.now branch.offset
-      → ¬ Reaches branch.max_backward branch.max_forward
-      (branch.offset + code.shape.len * ((group_at groups b).back + 1))
-      (at code.boundaries.now b)) where
+  module _ (out : IsOutBack code groups branch) where
     pub edge_after : (b : ℕ) → b + 1 ≡ passed code.boundaries.now branch.offset → end_of code.boundaries.now before b + branch.max_backward
         < moved code.boundaries.now before branch.offset + code.shape.len * ((group_at groups b).back + 1)
     edge_after b e =
@@ -121,14 +124,7 @@ module _ (code : Code) (groups : List Group) (before : List ℕ) (branch : Branc
         least : (n : ℕ) → 1 ≤ n + 1
         least n = omega arith
 
-  module _ (unreached : (passed code.boundaries.now branch.offset < length code.boundaries.now
-      → ¬ Reaches branch.max_backward branch.max_forward branch.offset
-      (at code.boundaries.now (passed code.boundaries.now branch.offset)
-      + code.shape.len * (group_at groups (passed code.boundaries.now branch.offset)).front))
-      × ((b : ℕ) → b + 1 ≡ passed code.boundaries.now branch.offset
-      → ¬ Reaches branch.max_backward branch.max_forward
-      (branch.offset + code.shape.len * ((group_at groups b).back + 1))
-      (at code.boundaries.now b))) where
+  module _ (unreached : IsOutFront code groups branch × IsOutBack code groups branch) where
     at_next : (part : Part) (s : StubAt) → s.boundary < length code.boundaries.now → s.index < part_of part (group_at groups s.boundary) → ¬ IsNearIn part code branch s → s.boundary ≡ passed code.boundaries.now branch.offset
         → ¬ ReachesAt code before branch (place_in part (start_of code.boundaries.now before s.boundary) (end_of code.boundaries.now before s.boundary) code.shape.len (group_at groups s.boundary) s.index)
     at_next Front s within index far e reached =
@@ -198,23 +194,9 @@ pub stuck : (code : Code) (state : State) (layout : Layout) (i : ℕ) → IsCode
     → layout.stubs ≡ state.stubs → layout.groups ≡ state.groups → IsStuckIn code layout.before.items layout.places.items state i → IsStuck code layout (branch_at code.branches.now i)
 stuck code state layout i is_code is are stubs groups out =
     let branch = branch_at code.branches.now i in
-    let unreached : (passed code.boundaries.now branch.offset < length code.boundaries.now
-    → ¬ Reaches branch.max_backward branch.max_forward branch.offset
-    (at code.boundaries.now (passed code.boundaries.now branch.offset)
-    + code.shape.len * (group_at layout.groups.items (passed code.boundaries.now branch.offset)).front))
-    × ((b : ℕ) → b + 1 ≡ passed code.boundaries.now branch.offset
-    → ¬ Reaches branch.max_backward branch.max_forward
-    (branch.offset + code.shape.len * ((group_at layout.groups.items b).back + 1))
-    (at code.boundaries.now b)) = (
-      subst (λ g. passed code.boundaries.now branch.offset < length code.boundaries.now
-          → ¬ Reaches branch.max_backward branch.max_forward branch.offset
-          (at code.boundaries.now (passed code.boundaries.now branch.offset)
-          + code.shape.len * (group_at g.items (passed code.boundaries.now branch.offset)).front)) (sym groups) (λ h reached. (out.out.0 h).new (refl, reached)),
-      subst (λ g. (b : ℕ) → b + 1 ≡ passed code.boundaries.now branch.offset
-          → ¬ Reaches branch.max_backward branch.max_forward
-          (branch.offset + code.shape.len * ((group_at g.items b).back + 1))
-          (at code.boundaries.now b)) (sym groups) (λ b e reached. (out.out.1 b e).new (e, reached)),
-    ) in
+    let unreached : IsOutFront code layout.groups.items branch × IsOutBack code layout.groups.items branch =
+    subst (λ g. IsOutFront code g.items branch × IsOutBack code g.items branch) (sym groups)
+    (λ h reached. (out.out.0 h).new (refl, reached), λ b e reached. (out.out.1 b e).new (e, reached)) in
     let none : (j : ℕ) → j < length layout.stubs.items → (stub_at layout.stubs.items j).target ≡ branch.target → ¬ IsNear code branch (stub_at layout.stubs.items j) =
     subst (λ v. (j : ℕ) → j < length v.items → (stub_at v.items j).target ≡ branch.target → ¬ IsNear code branch (stub_at v.items j)) (sym stubs) (no_near code state branch out.out.0 out.out.1 is) in
     record {

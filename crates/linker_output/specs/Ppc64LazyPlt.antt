@@ -14,7 +14,7 @@ use Rattle.linker_laws.specs.Ppc64Machine.{State, Formats, write, go_on, go_to}
 use Rattle.linker_output.specs.LazyPlt.{IsCode, header_places}
 use Rattle.linker_output.specs.LazyPlts.{ppc64_entry, ppc64_header}
 use Rattle.linker_output.specs.LazyRuns.{words, or_else, run_by}
-use Rattle.linker_output.specs.Ppc64Stubs.{Counted, step_counted, with_state}
+use Rattle.linker_output.specs.Ppc64Stubs.{Counted, lifted, step_counted}
 use Rattle.linker_output.specs.declared.lazy_plt.LazyEntry.{LazyEntry}
 use Rattle.linker_utils.specs.Ppc64Rewrites.{opcode_of, rt_of, ra_of, rb_of}
 use Rattle.linker_elf.specs.declared.elf.architecture.Architecture.TheVariants.{Ppc64}
@@ -56,10 +56,6 @@ further word s =
     else (if is_subf word then Some (go_on (write (rt_of word) (difference word s) s))
     else (if is_rldicl word then Some (go_on (write (ra_of word) (rotated_cleared word s) s))
     else None))
-
-abbrev pub lifted : Counted → Option State → Option Counted
-lifted c None = None
-lifted c (Some s) = Some (with_state s c)
 
 abbrev pub step : Formats → ℕ → Counted → Option Counted
 step f word c = or_else (lifted c (further word c.state)) (step_counted f word c)

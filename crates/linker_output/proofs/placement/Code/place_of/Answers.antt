@@ -1,94 +1,85 @@
-use Rattle.std.proofs.Common.{arith, ◌≤◌, ◌<◌, ◌+◌}
-use Rattle.std.proofs.Math.Nat.{mul-le-mul_left}
-use Rattle.linker_output.specs.Placement.{group_at, stubs_in}
-use Rattle.linker_output.proofs.Groups.{size_least, some_least}
+use Rattle.std.proofs.Common.{arith, ℕ, List, length, ◌≤◌, ◌<◌, ◌+◌, ◌*◌}
+use Rattle.linker_output.specs.declared.placement.Group.{Group}
+use Rattle.linker_output.specs.declared.placement.StubShape.{StubShape}
+use Rattle.linker_output.specs.Placement.{at, group_at, stubs_in, IsLaidOut}
+use Rattle.linker_output.proofs.Groups.{some_least}
 use Rattle.linker_output.proofs.Products.{le_product}
 use Rattle.linker_output.proofs.placement.Code.place_of.Goals as goal
 
+-- how many bytes some of the stubs at a boundary take
+taken_in : (shape : StubShape) (groups : List Group) (before : List ℕ) (b n : ℕ) → 0 < shape.len → IsLaidOut shape groups before → b < length groups → n ≤ stubs_in (group_at groups b)
+    → (at before b + shape.len * n ≤ at before (b + 1)) × (n ≤ shape.len * n)
+taken_in shape groups before b n some laid within few =
+    (omega (arith, some_least shape (group_at groups b) n few, laid.next b within), le_product shape.len n some)
+
 pub overflow_add-result-in-Middle : goal.overflow_add-result-in-Middle
 overflow_add-result-in-Middle c =
-    let code = c.args.self.now in
-    let b = c.args.stub.now.boundary in
-    let group = group_at c.args.groups.now b in
-    let laid = c.requires.laid_out.next b (omega arith) in
-    let size = size_least code.shape group in
-    let product = le_product code.shape.len (stubs_in group) c.requires.code.len in
-    let fits = c.requires.fits (b + 1) in
-    let index : c.args.stub.now.index < group.middle = rw c.in-Middle.is at c.requires.part.index in
+    let a = c.args in
+    let index : a.stub.now.index < (group_at a.groups.now a.stub.now.boundary).middle = rw c.in-Middle.is at c.requires.part.index in
+    let taken = taken_in a.self.now.shape a.groups.now a.before.now a.stub.now.boundary ((group_at a.groups.now a.stub.now.boundary).front + a.stub.now.index) c.requires.code.len c.requires.laid_out (omega arith) (omega arith) in
+    let fits = c.requires.fits (a.stub.now.boundary + 1) in
+    let begin = c.requires.code.boundaries a.stub.now.boundary in
     omega arith
 
 pub overflow_add-result-in-Back : goal.overflow_add-result-in-Back
 overflow_add-result-in-Back c =
-    let code = c.args.self.now in
-    let b = c.args.stub.now.boundary in
-    let group = group_at c.args.groups.now b in
-    let laid = c.requires.laid_out.next b (omega arith) in
-    let size = size_least code.shape group in
-    let product = le_product code.shape.len (stubs_in group) c.requires.code.len in
-    let fits = c.requires.fits (b + 1) in
-    let index : c.args.stub.now.index < group.back = rw c.in-Back.is at c.requires.part.index in
+    let a = c.args in
+    let index : a.stub.now.index < (group_at a.groups.now a.stub.now.boundary).back = rw c.in-Back.is at c.requires.part.index in
+    let taken = taken_in a.self.now.shape a.groups.now a.before.now a.stub.now.boundary (a.stub.now.index + 1) c.requires.code.len c.requires.laid_out (omega arith) (omega arith) in
+    let fits = c.requires.fits (a.stub.now.boundary + 1) in
+    let begin = c.requires.code.boundaries a.stub.now.boundary in
     omega arith
 
 pub overflow_sub-result : goal.overflow_sub-result
 overflow_sub-result c =
-    let code = c.args.self.now in
-    let b = c.args.stub.now.boundary in
-    let group = group_at c.args.groups.now b in
-    let laid = c.requires.laid_out.next b (omega arith) in
-    let size = size_least code.shape group in
-    let index : c.args.stub.now.index < group.back = rw c.in-Back.is at c.requires.part.index in
-    let within : c.args.stub.now.index + 1 ≤ stubs_in group = omega arith in
-    let product = mul-le-mul_left code.shape.len within in
+    let a = c.args in
+    let index : a.stub.now.index < (group_at a.groups.now a.stub.now.boundary).back = rw c.in-Back.is at c.requires.part.index in
+    let taken = taken_in a.self.now.shape a.groups.now a.before.now a.stub.now.boundary (a.stub.now.index + 1) c.requires.code.len c.requires.laid_out (omega arith) (omega arith) in
+    let fits = c.requires.fits (a.stub.now.boundary + 1) in
+    let begin = c.requires.code.boundaries a.stub.now.boundary in
     omega arith
 
 pub overflow_mul-result : goal.overflow_mul-result
 overflow_mul-result c =
-    let b = c.args.stub.now.boundary in
-    let group = group_at c.args.groups.now b in
-    let laid = c.requires.laid_out.next b (omega arith) in
-    let fits = c.requires.fits (b + 1) in
-    let index : c.args.stub.now.index < group.front = rw c.in-Front.is at c.requires.part.index in
-    let taken = some_least c.args.self.now.shape group c.args.stub.now.index (omega arith) in
+    let a = c.args in
+    let index : a.stub.now.index < (group_at a.groups.now a.stub.now.boundary).front = rw c.in-Front.is at c.requires.part.index in
+    let taken = taken_in a.self.now.shape a.groups.now a.before.now a.stub.now.boundary (a.stub.now.index) c.requires.code.len c.requires.laid_out (omega arith) (omega arith) in
+    let fits = c.requires.fits (a.stub.now.boundary + 1) in
+    let begin = c.requires.code.boundaries a.stub.now.boundary in
     omega arith
 
 pub overflow_add-result : goal.overflow_add-result
 overflow_add-result c =
-    let b = c.args.stub.now.boundary in
-    let group = group_at c.args.groups.now b in
-    let laid = c.requires.laid_out.next b (omega arith) in
-    let fits = c.requires.fits (b + 1) in
-    let begin = c.requires.code.boundaries b in
-    let index : c.args.stub.now.index < group.front = rw c.in-Front.is at c.requires.part.index in
-    let taken = some_least c.args.self.now.shape group c.args.stub.now.index (omega arith) in
+    let a = c.args in
+    let index : a.stub.now.index < (group_at a.groups.now a.stub.now.boundary).front = rw c.in-Front.is at c.requires.part.index in
+    let taken = taken_in a.self.now.shape a.groups.now a.before.now a.stub.now.boundary (a.stub.now.index) c.requires.code.len c.requires.laid_out (omega arith) (omega arith) in
+    let fits = c.requires.fits (a.stub.now.boundary + 1) in
+    let begin = c.requires.code.boundaries a.stub.now.boundary in
     omega arith
 
 pub overflow_mul-result-in-Middle : goal.overflow_mul-result-in-Middle
 overflow_mul-result-in-Middle c =
-    let b = c.args.stub.now.boundary in
-    let group = group_at c.args.groups.now b in
-    let laid = c.requires.laid_out.next b (omega arith) in
-    let fits = c.requires.fits (b + 1) in
-    let index : c.args.stub.now.index < group.middle = rw c.in-Middle.is at c.requires.part.index in
-    let taken = some_least c.args.self.now.shape group (group.front + c.args.stub.now.index) (omega arith) in
+    let a = c.args in
+    let index : a.stub.now.index < (group_at a.groups.now a.stub.now.boundary).middle = rw c.in-Middle.is at c.requires.part.index in
+    let taken = taken_in a.self.now.shape a.groups.now a.before.now a.stub.now.boundary ((group_at a.groups.now a.stub.now.boundary).front + a.stub.now.index) c.requires.code.len c.requires.laid_out (omega arith) (omega arith) in
+    let fits = c.requires.fits (a.stub.now.boundary + 1) in
+    let begin = c.requires.code.boundaries a.stub.now.boundary in
     omega arith
 
 pub overflow_add-result-in-Middle-2 : goal.overflow_add-result-in-Middle-2
 overflow_add-result-in-Middle-2 c =
-    let b = c.args.stub.now.boundary in
-    let group = group_at c.args.groups.now b in
-    let laid = c.requires.laid_out.next b (omega arith) in
-    let fits = c.requires.fits (b + 1) in
-    let begin = c.requires.code.boundaries b in
-    let index : c.args.stub.now.index < group.middle = rw c.in-Middle.is at c.requires.part.index in
-    let taken = some_least c.args.self.now.shape group (group.front + c.args.stub.now.index) (omega arith) in
+    let a = c.args in
+    let index : a.stub.now.index < (group_at a.groups.now a.stub.now.boundary).middle = rw c.in-Middle.is at c.requires.part.index in
+    let taken = taken_in a.self.now.shape a.groups.now a.before.now a.stub.now.boundary ((group_at a.groups.now a.stub.now.boundary).front + a.stub.now.index) c.requires.code.len c.requires.laid_out (omega arith) (omega arith) in
+    let fits = c.requires.fits (a.stub.now.boundary + 1) in
+    let begin = c.requires.code.boundaries a.stub.now.boundary in
     omega arith
 
 pub overflow_mul-result-in-Back : goal.overflow_mul-result-in-Back
 overflow_mul-result-in-Back c =
-    let b = c.args.stub.now.boundary in
-    let group = group_at c.args.groups.now b in
-    let laid = c.requires.laid_out.next b (omega arith) in
-    let fits = c.requires.fits (b + 1) in
-    let index : c.args.stub.now.index < group.back = rw c.in-Back.is at c.requires.part.index in
-    let taken = some_least c.args.self.now.shape group (c.args.stub.now.index + 1) (omega arith) in
+    let a = c.args in
+    let index : a.stub.now.index < (group_at a.groups.now a.stub.now.boundary).back = rw c.in-Back.is at c.requires.part.index in
+    let taken = taken_in a.self.now.shape a.groups.now a.before.now a.stub.now.boundary (a.stub.now.index + 1) c.requires.code.len c.requires.laid_out (omega arith) (omega arith) in
+    let fits = c.requires.fits (a.stub.now.boundary + 1) in
+    let begin = c.requires.code.boundaries a.stub.now.boundary in
     omega arith
