@@ -121,9 +121,9 @@ pub data New (l : Linked) : Type 0 where
   final : IsLinked l → New l
   packed : (p : Packed) → IsRewrittenAndPacked l p → p.machine ≡ RiscV64 → New l
 
--- What the rewrite left of the instruction of the relocation at an index stands at an address, with
--- the value of operands in a relocation with a row. In the final bytes the relocation is said to
--- have that value by what values are made of. Later phases leave it alone, and packing keeps it.
+-- At an address is what the rewrite left of the instruction of the relocation at an index, with the
+-- value of operands by a row. Final bytes are that, if later phases leave it alone, packing keeps
+-- it, and the relocation is said to have that value. This is said of what values are made of.
 abbrev pub HasPart : (l : Linked) → New l → Option RelocationKindInfo → ℕ
     → (Addresses → List Symbol → List ℕ → Type 0) → Operands → (ℕ → ℕ) → ℕ → Type 0
 HasPart l anywhere row n IsSaid y code at =
@@ -136,7 +136,7 @@ HasPart l (packed p joined riscv) row n IsSaid y code at =
     × IsSaid p.addresses p.symbols p.relocations_after
     × Stands 4 code at (final_instruction p (offset_of l n))
 
--- The relocation has the row of a name, and the value is that of its symbol.
+-- The relocation has the row of a name, and the value of operands is that of its own symbol.
 abbrev pub HasValue : RiscVRelocation → Option RelocationKindInfo → ℕ → Operands → Addresses
     → List Symbol → List ℕ → Type 0
 HasValue name row n y addresses symbols relocations =
