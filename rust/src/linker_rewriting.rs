@@ -18,6 +18,7 @@ pub mod kept;
 pub mod phases;
 mod relocations;
 mod riscv_pcrel_groups;
+mod rules;
 pub mod sections;
 mod sequences;
 pub mod surveys;

@@ -1,41 +1,20 @@
 -- Decisions, relocation by relocation.
-use Rattle.std.specs.Prelude.{max, Option}
+use Rattle.std.specs.Prelude.{max, Option, IfNone, IfSome}
 use Rattle.std.proofs.lemmas.Bool.{leb-true}
-use Rattle.std.proofs.Common.{◌≡◌, ℕ, zero, suc, ◌+◌, ◌-◌, ◌≤◌, ◌<◌, ◌⊎◌, inl, inr, ◌∙◌, List, length, ap, sym, subst, arith, refl, Bool, true, false, None, Some, slice_set}
+use Rattle.std.proofs.Common.{◌≡◌, ℕ, zero, suc, ◌+◌, ◌-◌, ◌≤◌, ◌<◌, ◌/◌, ◌⊎◌, inl, inr, ◌∙◌, List, length, ap, sym, subst, arith, refl, Bool, true, false, None, Some, slice_set}
 use Rattle.std.proofs.lemmas.List.{get_or-set_same, get_or-set_other}
 use Rattle.linker_base.specs.Rewrite.{Rewrite, CanRewrite}
 use Rattle.linker_base.specs.RewriteWindow.{window_of_rewrite}
 use Rattle.linker_base.specs.declared.rewrite.DeletedBytes.{DeletedBytes}
+use Rattle.linker_elf.specs.declared.elf.architecture.Architecture.{Architecture}
 use Rattle.linker_utils.specs.Relaxations.{relaxation_rewrite, relaxation_deleted}
 use Rattle.linker_rewriting.specs.Candidates.{deletes_within}
-use Rattle.linker_rewriting.specs.Decisions.{deleted_end, CanBeMade, AllCanBeMade, Matches, AllMatch, AreApart, decision_at, is_taken, takes_next, start_by, end_by, IsDecidedAfter, IsDecidedAlone, IsDecisionAfter, IsNotSurveyed, IsOverlapping, AreDecidedIn, IsEndAfter}
-use Rattle.linker_rewriting.specs.Facts.{RelaxContext}
-use Rattle.linker_rewriting.specs.RiscVPcrelGroups.{IsLabelNote}
-use Rattle.linker_rewriting.specs.Notes.{is_note, AreLabelsNoted}
+use Rattle.linker_rewriting.specs.Decisions.{deleted_end, CanBeMade, AreApart, AreApartBy, AreClear, AreAllDecided, AreDecidedBy, Bound, IsMadeBy, IsOverlapping, IsSome, IsWithin, Matches, bound_at, decision_at, is_taken, takes_next, start_at, end_at, start_by, end_by, IsEndAfter}
 use Rattle.linker_rewriting.specs.declared.decisions.Decision.{Decision}
 use Rattle.linker_rewriting.specs.declared.decisions.Decision.TheVariants.{Kept, Consumed, Rewritten, RewrittenWithSymbol}
-use Rattle.linker_rewriting.specs.declared.groups.UnrelaxableGroups.{UnrelaxableGroups}
 use Rattle.linker_section.specs.Relocations.{relocation_in}
 use Rattle.linker_section.specs.declared.relocations.Rela.{Rela}
 use borrow.Author.Count.{below_more}
-
--- where the bytes of a decision begin or end, by its relocation's offset
-abbrev pub Bound : Type 0
-Bound = Decision → ℕ → ℕ
-
--- those of a relocation with an index
-abbrev pub bound_at : Bound → List ℕ → ℕ → Decision → ℕ
-bound_at B bytes n d = B d (relocation_in bytes n).offset
-
-abbrev pub IsSome : Bound → Bound → List ℕ → ℕ → Decision → Type 0
-IsSome S E bytes n d = bound_at S bytes n d < bound_at E bytes n d
-
--- what is some is apart
-abbrev pub AreApartBy : Bound → Bound → List ℕ → List Decision → ℕ → Type 0
-AreApartBy S E bytes decisions limit =
-    (i j : ℕ) → i < j → j < limit → IsSome S E bytes i (decision_at decisions i)
-    → IsSome S E bytes j (decision_at decisions j)
-    → bound_at E bytes i (decision_at decisions i) ≤ bound_at S bytes j (decision_at decisions j)
 
 -- one of the windows ends there
 abbrev pub IsReached : Bound → Bound → List ℕ → List Decision → ℕ → ℕ → Type 0
@@ -50,15 +29,14 @@ pub record EndsAt (S E : Bound) (bytes : List ℕ) (decisions : List Decision) (
       → bound_at E bytes n (decision_at decisions n) ≤ end
   pub reached : IsReached S E bytes decisions end k
 
-pub record AreDecidedTo (s : RelaxContext) (kept : List UnrelaxableGroups) (bytes section : List ℕ)
-    (decisions : List Decision) (end : ℕ) (taken : Bool) (k : ℕ) : Type 0 where
-  pub decided : AreDecidedIn s kept bytes section decisions k
-  pub made : AllCanBeMade bytes section decisions k
-  pub matching : AllMatch bytes section decisions k
-  pub apart : AreApart bytes decisions k
+pub record AreDecidedTo (Each : ℕ → Bool → Decision → Type 0) (IsNoted : ℕ → Decision → Type 0)
+    (S E : Bound) (bytes : List ℕ) (decisions : List Decision) (end : ℕ) (taken : Bool)
+    (limit k : ℕ) : Type 0 where
+  pub decided : AreDecidedBy Each decisions k
+  pub apart : AreApartBy S E bytes decisions k
   pub taken_is : taken ≡ is_taken decisions k
-  pub ends : EndsAt start_by end_by bytes decisions end k
-  pub notes : AreLabelsNoted s bytes section decisions k
+  pub ends : EndsAt S E bytes decisions end k
+  pub noted : (n : ℕ) → k ≤ n → n < limit → IsNoted n (decision_at decisions n)
 
 -- the decisions below an index are the same
 abbrev pub AreSame : List Decision → List Decision → ℕ → Type 0
@@ -148,40 +126,40 @@ apart_more S E bytes old new k end grown d same here ends apart grow i j ij less
     (λ some_n some_k. let a = ends.below n nk some_n in let b = grown_start S E bytes k d end grown grow some_k in omega arith)))
     j less i ij
 
-pub more_decided : (s : RelaxContext) (kept : List UnrelaxableGroups) (bytes section : List ℕ)
-    (old : List Decision) (end grown : ℕ) (taken : Bool) (k : ℕ) (d : Decision)
-    → AreDecidedTo s kept bytes section old end taken k
-    → k < length old
-    → IsDecidedAfter s kept bytes section k taken d
-    → CanBeMade d section (relocation_in bytes k).offset
-    → Matches d section (relocation_in bytes k).offset
-    → IsGrown start_by end_by bytes k d end grown
-    → AreDecidedTo s kept bytes section (slice_set old k d) grown
-    (takes_next d) (k + 1)
-more_decided s kept bytes section old end grown taken k d before within is can there grow =
+pub more_decided : (Each : ℕ → Bool → Decision → Type 0) (IsNoted : ℕ → Decision → Type 0)
+    (S E : Bound) (bytes : List ℕ) (old : List Decision) (end grown : ℕ) (taken : Bool)
+    (limit k : ℕ) (d : Decision) → AreDecidedTo Each IsNoted S E bytes old end taken limit k
+    → k < length old → Each k taken d → IsGrown S E bytes k d end grown
+    → AreDecidedTo Each IsNoted S E bytes (slice_set old k d) grown (takes_next d) limit (k + 1)
+more_decided Each IsNoted S E bytes old end grown taken limit k d before within is grow =
     let new : List Decision = slice_set old k d in
     let same : AreSame old new k =
-    λ n less. get_or-set_other old k n d Kept (λ e. absurd (omega (arith, e))) in
+    λ n less. get_or-set_other old k n d Kept (λ e. absurd (omega (arith, e, less))) in
     let here : decision_at new k ≡ d = get_or-set_same old k d Kept within in
     record {
-      decided = below_more (λ n. IsDecidedAfter s kept bytes section n (is_taken new n) (decision_at new n)) k
-          (λ n less. subst (λ t. IsDecidedAfter s kept bytes section n t (decision_at new n)) (sym (same_taken old new k n same (omega arith)))
-          (subst (λ x. IsDecidedAfter s kept bytes section n (is_taken old n) x) (sym (same n less)) (before.decided n less)))
-          (subst (λ t. IsDecidedAfter s kept bytes section k t (decision_at new k)) (before.taken_is ∙ sym (same_taken old new k k same (omega arith)))
-          (subst (λ x. IsDecidedAfter s kept bytes section k taken x) (sym here) is));
-      made = below_more (λ n. CanBeMade (decision_at new n) section (relocation_in bytes n).offset) k
-          (λ n less. subst (λ x. CanBeMade x section (relocation_in bytes n).offset) (sym (same n less)) (before.made n less))
-          (subst (λ x. CanBeMade x section (relocation_in bytes k).offset) (sym here) can);
-      matching = below_more (λ n. Matches (decision_at new n) section (relocation_in bytes n).offset) k
-          (λ n less. subst (λ x. Matches x section (relocation_in bytes n).offset) (sym (same n less)) (before.matching n less))
-          (subst (λ x. Matches x section (relocation_in bytes k).offset) (sym here) there);
-      apart = apart_more start_by end_by bytes old new k end grown d same here before.ends before.apart grow;
+      decided = below_more (λ n. Each n (is_taken new n) (decision_at new n)) k
+          (λ n less. subst (λ t. Each n t (decision_at new n)) (sym (same_taken old new k n same (omega (arith, less))))
+          (subst (Each n (is_taken old n)) (sym (same n less)) (before.decided n less)))
+          (subst (λ t. Each k t (decision_at new k)) (before.taken_is ∙ sym (same_taken old new k k same (omega arith)))
+          (subst (Each k taken) (sym here) is));
+      apart = apart_more S E bytes old new k end grown d same here before.ends before.apart grow;
       taken_is = ap takes_next (sym here) ∙ sym (taken_next new k);
-      ends = ends_more start_by end_by bytes old new k end grown d same here before.ends grow;
-      notes = λ n from less in_label. subst (λ x. IsLabelNote s bytes section (relocation_in bytes n) (is_note x))
+      ends = ends_more S E bytes old new k end grown d same here before.ends grow;
+      noted = λ n from less. subst (IsNoted n)
           (sym (get_or-set_other old k n d Kept (λ e. absurd (omega (arith, e, from)))))
-          (before.notes n (omega (arith, from)) less in_label);
+          (before.noted n (omega (arith, from)) less);
     }
+
+-- one more relocation that no other takes along and that stays
+pub more_kept : (Each : ℕ → Bool → Decision → Type 0) (IsNoted : ℕ → Decision → Type 0)
+    (S E : Bound) (bytes : List ℕ) (old : List Decision) (end : ℕ) (taken : Bool) (limit k : ℕ)
+    → AreDecidedTo Each IsNoted S E bytes old end taken limit k → k < length old → taken ≡ false
+    → Each k false Kept → bound_at E bytes k Kept ≤ bound_at S bytes k Kept
+    → AreDecidedTo Each IsNoted S E bytes (slice_set old k Kept) end taken limit (k + 1)
+more_kept Each IsNoted S E bytes old end taken limit k before within isnt decided none =
+    subst (λ t. AreDecidedTo Each IsNoted S E bytes (slice_set old k Kept) end t limit (k + 1)) (sym isnt)
+    (more_decided Each IsNoted S E bytes old end end taken limit k Kept before within
+    (subst (λ t. Each k t Kept) (sym isnt) decided) (inl (none, refl)))
 
 -- ---- where a span ends
 
@@ -207,70 +185,97 @@ ends_within (Rewritten chosen) section o limit low long can =
 ends_within (RewrittenWithSymbol chosen subject) section o limit low long can =
     span_within (relaxation_rewrite chosen.kind) (relaxation_deleted chosen.kind) section o limit low long (can.0) (can.1)
 
--- one more relocation that no other takes along and that stays
-pub more_kept : (s : RelaxContext) (kept : List UnrelaxableGroups) (bytes section : List ℕ)
-    (old : List Decision) (end : ℕ) (taken : Bool) (k : ℕ)
-    → AreDecidedTo s kept bytes section old end taken k → k < length old → taken ≡ false
-    → IsDecidedAlone s kept bytes section k (relocation_in bytes k) Kept
-    → AreDecidedTo s kept bytes section (slice_set old k Kept) end taken (k + 1)
-more_kept s kept bytes section old end taken k before within isnt decided =
-    subst (λ t. AreDecidedTo s kept bytes section (slice_set old k Kept) end t (k + 1)) (sym isnt)
-    (more_decided s kept bytes section old end end taken k Kept before within
-    (subst (λ t. IsDecidedAfter s kept bytes section k t Kept) (sym isnt) decided)
-    tt tt (inl (omega arith, refl)))
-
--- ---- one more decision, and errors
-
-pub not_surveyed : (s : RelaxContext) (kept : List UnrelaxableGroups) (bytes section : List ℕ) (k : ℕ)
-    (r : Rela) (taken : Bool)
-    → IsDecisionAfter s kept bytes section k r taken None
-    → r ≡ relocation_in bytes k
-    → IsNotSurveyed s kept bytes section k (relocation_in bytes k)
-not_surveyed s kept bytes section k r true is same =
-    absurd (let e : None ≡ Some Consumed = is in cc)
-not_surveyed s kept bytes section k r false is same =
-    subst (IsNotSurveyed s kept bytes section k) same is
-
-pub decided_after : (s : RelaxContext) (kept : List UnrelaxableGroups) (bytes section : List ℕ) (k : ℕ)
-    (r : Rela) (taken : Bool) (d : Decision)
-    → IsDecisionAfter s kept bytes section k r taken (Some d)
-    → r ≡ relocation_in bytes k
-    → IsDecidedAfter s kept bytes section k taken d
-decided_after s kept bytes section k r true d is same =
-    let e : Some d ≡ Some Consumed = is in cc
-decided_after s kept bytes section k r false d is same =
-    subst (λ x. IsDecidedAlone s kept bytes section k x d) same is
+-- ---- one that overlaps
 
 -- one of the windows so far ends above the start
-overlapping_one : (s : RelaxContext) (kept : List UnrelaxableGroups) (bytes section : List ℕ)
-    (decisions : List Decision) (end k : ℕ) (d : Decision)
-    → IsDecidedAlone s kept bytes section k (relocation_in bytes k) d
-    → IsEndAfter (bound_at start_by bytes k d) (bound_at end_by bytes k d) end None
-    → IsReached start_by end_by bytes decisions end k
-    → IsOverlapping s kept bytes section decisions k
-overlapping_one s kept bytes section decisions end k d decided following (inl none) =
-    absurd (let e = following.1 in omega arith)
-overlapping_one s kept bytes section decisions end k d decided following (inr one) =
+pub overlapping : (Decides : ℕ → Bool → Decision → Type 0) (S E : Bound) (bytes : List ℕ)
+    (decisions : List Decision) (end k : ℕ) (taken : Bool) (d : Decision) → Decides k taken d
+    → taken ≡ is_taken decisions k
+    → IsEndAfter (bound_at S bytes k d) (bound_at E bytes k d) end None
+    → IsReached S E bytes decisions end k → IsOverlapping Decides S E bytes decisions k
+overlapping Decides S E bytes decisions end k taken d decided same following (inl none) =
+    absurd (let e = following.1 in omega (arith, e, none))
+overlapping Decides S E bytes decisions end k taken d decided same following (inr one) =
     record {
       decision = d;
-      decided = decided;
+      decided = subst (λ t. Decides k t d) same decided;
       writes = following.0;
       before = one.0;
       is_before = one.1;
       is_written = one.2;
-      overlap = let e = following.1 in let reach = one.3 in omega arith;
+      overlap = let e = following.1 in let reach = one.3 in omega (arith, e, reach);
     }
 
-pub overlapping : (s : RelaxContext) (kept : List UnrelaxableGroups) (bytes section : List ℕ)
-    (decisions : List Decision) (end k : ℕ) (r : Rela) (taken : Bool) (d : Decision)
-    → IsDecisionAfter s kept bytes section k r taken (Some d)
-    → r ≡ relocation_in bytes k → IsEndAfter (start_by d r.offset) (end_by d r.offset) end None
-    → EndsAt start_by end_by bytes decisions end k
-    → IsOverlapping s kept bytes section decisions k
-overlapping s kept bytes section decisions end k r true d is same following ends =
-    absurd (let none : d ≡ Consumed = (let e : Some d ≡ Some Consumed = is in cc) in
-    let some = subst (λ x. start_by x r.offset < end_by x r.offset) none (following.0) in omega arith)
-overlapping s kept bytes section decisions end k r false d is same following ends =
-    overlapping_one s kept bytes section decisions end k d
-    (subst (λ x. IsDecidedAlone s kept bytes section k x d) same is)
-    (subst (λ x. IsEndAfter (start_by d x.offset) (end_by d x.offset) end None) same following) ends.reached
+-- ---- what a function decides of a relocation, as a rule
+
+pub by_rule : (Decides : ℕ → Bool → Decision → Type 0) (Is : Rela → Option Decision → Type 0)
+    (S E : Bound) (bytes section : List ℕ) (n : ℕ) (taken : Bool) (r : Rela)
+    (result : Option Decision) → r ≡ relocation_in bytes n → Is r result
+    → ((d : Decision) → Is (relocation_in bytes n) (Some d) → Decides n taken d)
+    → IfSome result (λ d. CanBeMade d section r.offset)
+    → IfSome result (λ d. Matches d section r.offset) → IfSome result (IsWithin S E r.offset)
+    → IfSome result (IsMadeBy Decides S E bytes section n taken)
+by_rule Decides Is S E bytes section n taken r None same is become can there within = tt
+by_rule Decides Is S E bytes section n taken r (Some d) same is become can there within =
+    record {
+      decides = become d (subst (λ x. Is x (Some d)) same is);
+      made = subst (λ x. CanBeMade d section x.offset) same can;
+      matches = subst (λ x. Matches d section x.offset) same there;
+      within = subst (λ x. IsWithin S E x.offset d) same within;
+    }
+
+pub lacks_by : (Is : Rela → Option Decision → Type 0) (bytes : List ℕ) (n : ℕ) (r : Rela)
+    (result : Option Decision) → r ≡ relocation_in bytes n → Is r result
+    → IfNone result (Is (relocation_in bytes n) None)
+lacks_by Is bytes n r None same is = subst (λ x. Is x None) same is
+lacks_by Is bytes n r (Some d) same is = tt
+
+-- where the bytes themselves count
+pub itself : (o : ℕ) (result : Option Decision) → IfSome result (IsWithin start_by end_by o)
+itself o None = tt
+itself o (Some d) = λ some. (omega arith, omega arith)
+
+-- where bytes end that can be made
+pub ends_in : (section : List ℕ) (o : ℕ) (result : Option Decision)
+    → IfSome result (λ d. CanBeMade d section o)
+    → IfSome result (λ d. (limit : ℕ) → o ≤ limit → length section ≤ limit → end_by d o ≤ limit)
+ends_in section o None can = tt
+ends_in section o (Some d) can = λ limit low long. ends_within d section o limit low long can
+
+-- ---- all of a section
+
+wider : (a b c d : ℕ) → a ≤ b → b < c → c ≤ d → a < d
+wider a b c d first second third = omega (arith, first, second, third)
+
+before_start : (a b c d : ℕ) → a ≤ b → b ≤ c → c ≤ d → a ≤ d
+before_start a b c d first second third = omega (arith, first, second, third)
+
+pub bytes_apart : (Decides : ℕ → Bool → Decision → Type 0) (S E : Bound) (bytes section : List ℕ)
+    (decisions : List Decision) (limit : ℕ)
+    → AreDecidedBy (IsMadeBy Decides S E bytes section) decisions limit
+    → AreApartBy S E bytes decisions limit → AreApart bytes decisions limit
+bytes_apart Decides S E bytes section decisions limit decided apart i j ij less some_i some_j =
+    let a = (decided i (omega (arith, ij, less))).within some_i in
+    let b = (decided j less).within some_j in
+    before_start (end_at bytes decisions i) (bound_at E bytes i (decision_at decisions i)) (bound_at S bytes j (decision_at decisions j)) (start_at bytes decisions j)
+    (a.1)
+    (apart i j ij less
+    (wider (bound_at S bytes i (decision_at decisions i)) (start_at bytes decisions i) (end_at bytes decisions i) (bound_at E bytes i (decision_at decisions i)) (a.0) some_i (a.1))
+    (wider (bound_at S bytes j (decision_at decisions j)) (start_at bytes decisions j) (end_at bytes decisions j) (bound_at E bytes j (decision_at decisions j)) (b.0) some_j (b.1)))
+    (b.0)
+
+pub all_decided : (Decides : ℕ → Bool → Decision → Type 0) (S E : Bound) (architecture : Architecture)
+    (bytes section : List ℕ) (decisions : List Decision)
+    → AreDecidedBy (IsMadeBy Decides S E bytes section) decisions (length bytes / 24)
+    → AreApartBy S E bytes decisions (length bytes / 24)
+    → AreClear architecture bytes section decisions (length bytes / 24)
+    → AreAllDecided Decides S E architecture bytes section decisions
+all_decided Decides S E architecture bytes section decisions are apart clear =
+    record {
+      decided = λ n less. (are n less).decides;
+      made = λ n less. (are n less).made;
+      matches = λ n less. (are n less).matches;
+      apart_by = apart;
+      apart = bytes_apart Decides S E bytes section decisions (length bytes / 24) are apart;
+      clear = clear;
+    }

@@ -1,17 +1,11 @@
 -- Parts of addresses near the global pointer: what is noted, decided and turned, relocation by
 -- relocation, and that all parts of a symbol are rewritten, or none is.
-use Rattle.std.proofs.Common.{◌≡◌, ◌≢◌, ℕ, suc, nat_le, not, is_some, ◌+◌, ◌<◌, ◌≤◌, ◌∙◌, ◌&&◌, inl, inr, List, length, ap, sym, subst, arith, refl, Bool, true, false, true≢false, Option, None, Some, slice_get, slice_set, if◌then◌else◌}
-use Rattle.std.proofs.lemmas.List.{get_or-set_same, get_or-set_other}
+use Rattle.std.proofs.Common.{◌≡◌, ◌≢◌, ℕ, suc, nat_le, not, is_some, ◌+◌, ◌<◌, ◌≤◌, ◌∙◌, ◌&&◌, List, length, ap, sym, subst, arith, refl, Bool, true, false, true≢false, Option, None, Some, slice_get, if◌then◌else◌}
 use Rattle.linker_rewriting.proofs.LabelGroups.{one_high_from}
-use Rattle.linker_rewriting.proofs.WordsNoted.{AreWordsKeptToo, stays_on, stays_now}
-use Rattle.linker_rewriting.proofs.Deciding.{AreSame, EndsAt, IsGrown, IsReached, bound_at, apart_more, ends_more}
 use Rattle.std.proofs.lemmas.Bool.{leb-true}
-use Rattle.linker_rewriting.specs.Decisions.{AreApart, CanBeMade, IsEndAfter, decision_at, start_by, end_by, start_at, end_at}
+use Rattle.linker_rewriting.specs.Decisions.{CanBeMade, IsWithin, Matches, decision_at}
 use Rattle.linker_rewriting.specs.Facts.{RelaxContext}
-use Rattle.linker_rewriting.specs.GlobalPointer.{relative_high, IsLabelled, IsSubject, IsMemberBy, IsMember, part_of, is_reached, is_expected, fits, kept_by, IsKeepingSymbol, IsSymbolNoted, AreSymbolsSurveyed, part_decision, decided_by, IsPartDecided, ArePartsDecided, ArePartsApart, IsPartOverlapping, part_end, part_end_at, ArePartsRejected, MeansSymbolsUnsurveyed, ArePartsWhole, ArePartsWholeAcross, low_code, base_of, is_placed_by, is_placed, based_section, section_based}
-use Rattle.linker_rewriting.specs.Inner.TocIndirection.{IsThatWord}
-use Rattle.linker_rewriting.specs.Agreement.{Agree}
-use Rattle.linker_rewriting.specs.Decisions.{IsRejectedFirst}
+use Rattle.linker_rewriting.specs.GlobalPointer.{relative_high, IsLabelled, IsSubject, IsMemberBy, IsMember, part_of, is_reached, is_expected, fits, kept_by, part_decision, decided_by, IsPartDecided, ArePartsDecided, part_start, part_end, ArePartsRejected, MeansSymbolsUnsurveyed, ArePartsWhole, ArePartsWholeAcross, low_code, base_of, is_placed_by, is_placed, based_section, section_based}
 use Rattle.linker_rewriting.specs.RiscVPcrelGroups.{offset_of_label, is_beyond}
 use Rattle.linker_rewriting.specs.Rewritten.{IsRewritten}
 use Rattle.linker_rewriting.specs.Sequences.{is_marked_at}
@@ -28,41 +22,6 @@ use Rattle.linker_section.specs.declared.facts.Addresses.{Addresses}
 use Rattle.linker_section.specs.declared.facts.Symbol.{Symbol}
 use Rattle.linker_section.specs.declared.relocations.Rela.{Rela}
 use borrow.Author.Count.{below_more}
-
--- ---- noted
-
-that_symbol : (s : RelaxContext) (gp : ℕ) (bytes section : List ℕ) (n : ℕ) (symbol : Option ℕ) (w : ℕ)
-    → IsKeepingSymbol s gp bytes section n (relocation_in bytes n) symbol → IsThatWord symbol w
-    → IsKeepingSymbol s gp bytes section n (relocation_in bytes n) (Some w)
-that_symbol s gp bytes section n None w keeping is = absurd is
-that_symbol s gp bytes section n (Some symbol) w keeping is =
-    subst (λ x. IsKeepingSymbol s gp bytes section n (relocation_in bytes n) (Some x)) (sym is) keeping
-
-pub more_symbols : (s : RelaxContext) (gp : ℕ) (bytes section : List ℕ) (before mid after : List Bool)
-    (k : ℕ) (symbol : Option ℕ) → AreSymbolsSurveyed s gp bytes section before mid k
-    → IsKeepingSymbol s gp bytes section k (relocation_in bytes k) symbol
-    → AreWordsKeptToo mid after symbol
-    → AreSymbolsSurveyed s gp bytes section before after (k + 1)
-more_symbols s gp bytes section before mid after k symbol surveyed keeping same =
-    let on : (w : ℕ) → word_stays mid w ≡ true → word_stays after w ≡ true =
-    λ w stays. (same w).1 (inl stays) in
-    record {
-      noted = below_more (λ n. IsSymbolNoted s gp bytes section after n) k
-          (λ n less. let was = surveyed.noted n less in record {
-            symbol = was.symbol;
-            is_keeping = was.is_keeping;
-            stays = stays_on mid after was.symbol on was.stays;
-          })
-          (record { symbol = symbol; is_keeping = keeping; stays = stays_now mid after symbol same });
-      stayed = λ w stays. on w (surveyed.stayed w stays);
-      caused = λ w stays. elim ((same w).0 stays) [
-        | inl in_mid ↦ elim (surveyed.caused w in_mid) [
-          | inl in_before ↦ inl in_before
-          | inr cause ↦ inr (cause.0, omega (arith, cause.1), cause.2)
-        ]
-        | inr is ↦ inr (k, omega arith, that_symbol s gp bytes section k symbol w keeping is)
-      ];
-    }
 
 -- ---- one member
 
@@ -169,114 +128,50 @@ member_ends s gp a bytes section n r (part, subject) is limit low long =
 
 -- ---- apart
 
-abbrev pub part_start : Decision → ℕ → ℕ
-part_start d o = o
-
--- the instructions of parts that are rewritten so far are apart, and end there
-pub record ArePartsApartTo (bytes : List ℕ) (decisions : List Decision) (end k : ℕ) : Type 0 where
-  pub apart : ArePartsApart bytes decisions k
-  pub ends : EndsAt part_start part_end bytes decisions end k
-
-pub more_apart : (bytes : List ℕ) (old : List Decision) (end grown k : ℕ) (d : Decision)
-    → ArePartsApartTo bytes old end k → k < length old
-    → IsGrown part_start part_end bytes k d end grown
-    → ArePartsApartTo bytes (slice_set old k d) grown (k + 1)
-more_apart bytes old end grown k d before within grow =
-    let new : List Decision = slice_set old k d in
-    let same : AreSame old new k =
-    λ n less. get_or-set_other old k n d Kept (λ e. absurd (omega (arith, e, less))) in
-    let here : decision_at new k ≡ d = get_or-set_same old k d Kept within in
-    record {
-      apart = apart_more part_start part_end bytes old new k end grown d same here before.ends before.apart grow;
-      ends = ends_more part_start part_end bytes old new k end grown d same here before.ends grow;
-    }
-
-before_start : (a b c d : ℕ) → a ≤ b → b ≤ c → d ≡ c → a ≤ d
-before_start a b c d first second same = omega arith
-
 some_decision : (x y : Decision) → Some x ≡ Some y → x ≡ y
 some_decision x y is = cc
 
--- the bytes that a part deletes are its instruction's
-abbrev IsOfPart : ℕ → Decision → Type 0
-IsOfPart o d =
-    start_by d o < end_by d o → (o < part_end d o) × (end_by d o ≤ part_end d o) × (start_by d o ≡ o)
-
-kept_bytes : (o : ℕ) → IsOfPart o Kept
-kept_bytes o some = absurd (omega (arith, some))
-
-part_bytes : (part : Part) (subject : Rela) (o : ℕ) → IsOfPart o (part_decision part subject)
-part_bytes (High opcode) subject o some = (omega arith, omega arith, omega arith)
+pub part_bytes : (part : Part) (subject : Rela) (o : ℕ) → IsWithin part_start part_end o (part_decision part subject)
+part_bytes (High opcode) subject o some = (omega arith, omega arith)
 part_bytes (Low code) subject o some = absurd (omega (arith, some))
 part_bytes (Labelled code) subject o some = absurd (omega (arith, some))
 
-decided_bytes : (stays fit : Bool) (made d : Decision) (o : ℕ)
-    → Some d ≡ (if stays then Some Kept else (if fit then Some made else None))
-    → IsOfPart o made → IsOfPart o d
-decided_bytes true fit made d o is of =
-    subst (IsOfPart o) (sym (some_decision d Kept is)) (kept_bytes o)
-decided_bytes false true made d o is of = subst (IsOfPart o) (sym (some_decision d made is)) of
-decided_bytes false false made d o is of = absurd (let e : Some d ≡ None = is in cc)
-
-member_bytes : (s : RelaxContext) (gp : ℕ) (a : Bool) (kept : List Bool) (bytes section : List ℕ) (n : ℕ)
-    (r : Rela) (member : Option (Part × Rela)) (d : Decision)
-    → Some d ≡ decided_by s gp a kept bytes section n r member → IsOfPart r.offset d
-member_bytes s gp a kept bytes section n r None d is =
-    subst (IsOfPart r.offset) (sym (some_decision d Kept is)) (kept_bytes r.offset)
-member_bytes s gp a kept bytes section n r (Some member) d is =
-    decided_bytes (word_stays kept (member.1).symbol) (fits s gp a bytes section n r member)
-    (part_decision (member.0) (member.1)) d r.offset is (part_bytes (member.0) (member.1) r.offset)
-
-pub bytes_apart : (s : RelaxContext) (gp : ℕ) (kept : List Bool) (bytes section : List ℕ)
-    (decisions : List Decision) (limit : ℕ)
-    → ArePartsDecided s gp kept bytes section decisions limit → ArePartsApart bytes decisions limit
-    → AreApart bytes decisions limit
-bytes_apart s gp kept bytes section decisions limit decided apart i j ij less some_i some_j =
-    let one = decided i (omega (arith, ij, less)) in
-    let two = decided j less in
-    let a = member_bytes s gp one.ascends kept bytes section i (relocation_in bytes i) one.member (decision_at decisions i) one.decided some_i in
-    let b = member_bytes s gp two.ascends kept bytes section j (relocation_in bytes j) two.member (decision_at decisions j) two.decided some_j in
-    before_start (end_at bytes decisions i) (part_end_at bytes decisions i) (relocation_in bytes j).offset (start_at bytes decisions j)
-    (a.1) (apart i j ij less (a.0) (b.0)) (b.2)
-
-overlapping_one : (s : RelaxContext) (gp : ℕ) (kept : List Bool) (bytes section : List ℕ)
-    (decisions : List Decision) (end k : ℕ) (d : Decision)
-    → IsPartDecided s gp kept bytes section k (relocation_in bytes k) (Some d)
-    → IsEndAfter (bound_at part_start bytes k d) (bound_at part_end bytes k d) end None
-    → IsReached part_start part_end bytes decisions end k
-    → IsPartOverlapping s gp kept bytes section decisions k
-overlapping_one s gp kept bytes section decisions end k d decided following (inl none) =
-    absurd (let e = following.1 in omega (arith, e, none))
-overlapping_one s gp kept bytes section decisions end k d decided following (inr one) =
-    record {
-      decision = d;
-      decided = decided;
-      is_rewritten = following.0;
-      before = one.0;
-      is_before = one.1;
-      is_rewritten_too = one.2;
-      overlap = let e = following.1 in let reach = one.3 in omega (arith, e, reach);
-    }
-
-pub parts_overlap : (s : RelaxContext) (gp : ℕ) (kept : List Bool) (bytes section : List ℕ)
-    (decisions : List Decision) (end k : ℕ) (d : Decision)
-    → IsPartDecided s gp kept bytes section k (relocation_in bytes k) (Some d)
-    → IsEndAfter (bound_at part_start bytes k d) (bound_at part_end bytes k d) end None
-    → ArePartsApartTo bytes decisions end k
-    → IsPartOverlapping s gp kept bytes section decisions k
-parts_overlap s gp kept bytes section decisions end k d decided following are =
-    overlapping_one s gp kept bytes section decisions end k d decided following are.ends.reached
+pub part_matches : (s : RelaxContext) (gp : ℕ) (a : Bool) (bytes section : List ℕ) (n : ℕ) (r : Rela)
+    (member : Part × Rela) → fits s gp a bytes section n r member ≡ true
+    → Matches (part_decision (member.0) (member.1)) section r.offset
+part_matches s gp a bytes section n r (High opcode, subject) is =
+    (leb-true (r.offset + 4) (length section) (and_first _ _ (expected s gp a bytes section n r (High opcode) subject is)), tt)
+part_matches s gp a bytes section n r (Low code, subject) is = tt
+part_matches s gp a bytes section n r (Labelled code, subject) is = tt
 
 -- ---- decided
 
-pub more_by : (P : ℕ → Decision → Type 0) (old : List Decision) (k : ℕ) (d : Decision)
-    → ((n : ℕ) → n < k → P n (decision_at old n)) → k < length old → P k d
-    → (n : ℕ) → n < k + 1 → P n (decision_at (slice_set old k d) n)
-more_by P old k d before within is =
-    let new : List Decision = slice_set old k d in
-    below_more (λ n. P n (decision_at new n)) k
-    (λ n less. subst (P n) (sym (get_or-set_other old k n d Kept (λ e. absurd (omega (arith, e, less))))) (before n less))
-    (subst (P k) (sym (get_or-set_same old k d Kept within)) is)
+-- of a member whose symbol stays
+pub part_kept : (s : RelaxContext) (gp : ℕ) (a : Bool) (kept : List Bool) (bytes section : List ℕ) (n : ℕ)
+    (r : Rela) (member : Part × Rela) → word_stays kept (member.1).symbol ≡ true
+    → Some Kept ≡ decided_by s gp a kept bytes section n r (Some member)
+part_kept s gp a kept bytes section n r member stays =
+    let fit : Option Decision = if fits s gp a bytes section n r member then Some (part_decision (member.0) (member.1)) else None in
+    subst (λ b. Some Kept ≡ (if b then Some Kept else fit)) (sym stays) refl
+
+-- of one whose symbol doesn't
+pub part_decided : (s : RelaxContext) (gp : ℕ) (a : Bool) (kept : List Bool) (bytes section : List ℕ) (n : ℕ)
+    (r : Rela) (member : Part × Rela) (d : Decision) → word_stays kept (member.1).symbol ≡ false
+    → fits s gp a bytes section n r member ≡ true → d ≡ part_decision (member.0) (member.1)
+    → Some d ≡ decided_by s gp a kept bytes section n r (Some member)
+part_decided s gp a kept bytes section n r member d unkept fit is =
+    let made = part_decision (member.0) (member.1) in
+    subst (λ b. Some d ≡ (if b then Some Kept else (if fits s gp a bytes section n r member then Some made else None))) (sym unkept)
+    (subst (λ b. Some d ≡ (if b then Some made else None)) (sym fit) (ap (λ x. Some x) is))
+
+pub part_undecided : (s : RelaxContext) (gp : ℕ) (a : Bool) (kept : List Bool) (bytes section : List ℕ) (n : ℕ)
+    (r : Rela) (member : Part × Rela) → word_stays kept (member.1).symbol ≡ false
+    → fits s gp a bytes section n r member ≡ false
+    → None ≡ decided_by s gp a kept bytes section n r (Some member)
+part_undecided s gp a kept bytes section n r member unkept fit =
+    let made = part_decision (member.0) (member.1) in
+    subst (λ b. None ≡ (if b then Some Kept else (if fits s gp a bytes section n r member then Some made else None))) (sym unkept)
+    (subst (λ b. None ≡ (if b then Some made else None)) (sym fit) refl)
 
 -- ---- turned
 
@@ -384,24 +279,13 @@ means_unsurveyed s gp kept bytes section decisions room (NotSurveyed n) is =
     let keeping = here.is_keeping in
     let flag : keeping.ascends ≡ this.ascends =
     keeping.is_ascending.1 up ∙ sym (this.is_ascending.1 up) in
-    not_noted s gp kept bytes section n r this.ascends this.member here.symbol this.decided
-    (subst (λ m. here.symbol ≡ kept_by s gp this.ascends bytes section n r m)
+    not_noted s gp kept bytes section n r this.ascends this.member here.word this.decided
+    (subst (λ m. here.word ≡ kept_by s gp this.ascends bytes section n r m)
     (one_member s bytes r keeping.member this.member up keeping.is_member this.is_member)
-    (subst (λ a. here.symbol ≡ kept_by s gp a bytes section n r keeping.member) flag keeping.keeps))
+    (subst (λ a. here.word ≡ kept_by s gp a bytes section n r keeping.member) flag keeping.keeps))
     here.stays
 means_unsurveyed s gp kept bytes section decisions room (Overlaps n) is = tt
 means_unsurveyed s gp kept bytes section decisions room (Contradiction symbol) is = tt
-
--- where the tables agree another error is the first
-pub rejected_first : (s : RelaxContext) (gp : ℕ) (kept : List Bool) (bytes section : List ℕ)
-    (decisions : List Decision) (room : ℕ) (error : RewritingError)
-    → Agree s.symbols s.values bytes → ArePartsRejected s gp kept bytes section decisions room error
-    → IsRejectedFirst s.symbols s.values bytes
-    (ArePartsRejected s gp kept bytes section decisions room) error
-rejected_first s gp kept bytes section decisions room TooShort agree is = (agree, is)
-rejected_first s gp kept bytes section decisions room (NotSurveyed n) agree is = (agree, is)
-rejected_first s gp kept bytes section decisions room (Overlaps n) agree is = (agree, is)
-rejected_first s gp kept bytes section decisions room (Contradiction symbol) agree is = absurd is
 
 -- ---- bases
 

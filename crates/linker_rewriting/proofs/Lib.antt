@@ -10,7 +10,6 @@ pub mod KeptBytes
 pub mod KeptCalls
 pub mod LabelGroups
 pub mod Listing
-pub mod LoadsDecided
 pub mod LoongArchLoads
 pub mod Makeable
 pub mod Making
@@ -19,6 +18,7 @@ pub mod Order
 pub mod PhaseTables
 pub mod Places
 pub mod PreLayout
+pub mod Rejected
 pub mod SequenceMembers
 pub mod Surveying
 pub mod Unique

@@ -1,8 +1,8 @@
 -- Decisions tested one by one.
 use Rattle.std.specs.Prelude.{get_or}
 use Rattle.std.proofs.Common.{◌≡◌, ℕ, ◌+◌, ◌≤◌, ◌<◌, ◌/◌, inl, inr, List, length, sym, subst, arith, refl, None}
-use Rattle.linker_rewriting.proofs.Deciding.{EndsAt, IsGrown, IsReached, bound_at, apart_more, ends_more}
-use Rattle.linker_rewriting.specs.Decisions.{CanBeMade, AllCanBeMade, Matches, AllMatch, KeepsBytes, AllKeepBytes, AreApart, IsEndAfter, decision_at, start_by, end_by, start_at, end_at, IsUnmade, DecisionsAreMade}
+use Rattle.linker_rewriting.proofs.Deciding.{EndsAt, IsGrown, IsReached, apart_more, ends_more}
+use Rattle.linker_rewriting.specs.Decisions.{CanBeMade, AllCanBeMade, Matches, AllMatch, KeepsBytes, AllKeepBytes, AreApart, IsEndAfter, bound_at, decision_at, start_by, end_by, start_at, end_at, IsUnmade, DecisionsAreMade}
 use Rattle.linker_rewriting.specs.declared.decisions.Decision.{Decision}
 use Rattle.linker_rewriting.specs.declared.decisions.Decision.TheVariants.{Kept}
 use Rattle.linker_rewriting.specs.declared.decisions.DecisionError.TheVariants.{TooShort, Changed, Overlaps}

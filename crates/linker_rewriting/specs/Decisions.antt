@@ -1,8 +1,7 @@
 -- What becomes of a section's relocations and of their instructions.
 use Rattle.std.specs.Prelude.{◌≡◌, ℕ, zero, suc, ◌+◌, ◌-◌, ◌*◌, ◌^◌, ◌%◌, ◌<◌, ◌≤◌, ◌/◌, ◌⊎◌, ◌++◌}
-use Rattle.std.specs.Prelude.{max, Bool, true}
-use Rattle.std.specs.Prelude.{false, IsTrue, ◌↔◌, List, [], ◌∷◌, length, get_or, Option, Some, None}
-use Rattle.std.specs.Prelude.{is_some, ◌≢◌, ◌==◌}
+use Rattle.std.specs.Prelude.{max, Bool, true, false, IsTrue, ◌↔◌, List, [], ◌∷◌, length, get_or}
+use Rattle.std.specs.Prelude.{Option, Some, None, is_some, ◌≢◌, ◌==◌}
 use Rattle.linker_base.specs.Rewrite.{CanRewrite}
 use Rattle.linker_base.specs.RewriteWindow.{window_of_rewrite}
 use Rattle.linker_base.specs.declared.rewrite.DeletedBytes.{DeletedBytes}
@@ -34,9 +33,8 @@ use Rattle.linker_rewriting.specs.declared.groups.Group.{Group}
 use Rattle.linker_rewriting.specs.declared.groups.UnrelaxableGroups.{UnrelaxableGroups}
 use Rattle.linker_rewriting.specs.declared.groups.Scope.{Scope}
 use Rattle.linker_rewriting.specs.declared.groups.Scope.TheVariants.{NotRelaxable, Independent}
-use Rattle.linker_rewriting.specs.declared.groups.Scope.TheVariants.{Grouped}
-use Rattle.linker_rewriting.specs.declared.groups.Scope.TheVariants.{FirstOfPair, IfGroupMatches}
-use Rattle.linker_rewriting.specs.declared.groups.Scope.TheVariants.{Labelled}
+use Rattle.linker_rewriting.specs.declared.groups.Scope.TheVariants.{Grouped, FirstOfPair}
+use Rattle.linker_rewriting.specs.declared.groups.Scope.TheVariants.{IfGroupMatches, Labelled}
 use Rattle.linker_rewriting.specs.declared.phases.Phase.{Phase}
 use Rattle.linker_rewriting.specs.declared.phases.Phase.TheVariants.{TlsLocalExec}
 use Rattle.linker_section.specs.Fields.{IsField, field_end}
@@ -210,20 +208,14 @@ IsDecidedAfter s kept bytes section n true decision =
 IsDecidedAfter s kept bytes section n false decision =
     IsDecidedAlone s kept bytes section n (relocation_in bytes n) decision
 
-abbrev pub IsDecisionAfter : RelaxContext → List UnrelaxableGroups
-    → List ℕ → List ℕ → ℕ → Rela → Bool → Option Decision → Type 0
-IsDecisionAfter s kept bytes section n r true decision =
-    decision ≡ Some Consumed
-IsDecisionAfter s kept bytes section n r false decision =
-    IsDecision s kept bytes section n r decision
+-- It is so of what is decided of the relocations with an index below a limit.
+abbrev pub AreDecidedBy : (ℕ → Bool → Decision → Type 0) → List Decision → ℕ → Type 0
+AreDecidedBy Decides decisions limit =
+    (n : ℕ) → n < limit → Decides n (is_taken decisions n) (decision_at decisions n)
 
--- those of the relocations with an index below a limit
 abbrev pub AreDecidedIn : RelaxContext → List UnrelaxableGroups → List ℕ
     → List ℕ → List Decision → ℕ → Type 0
-AreDecidedIn s kept bytes section decisions limit =
-    (n : ℕ) → n < limit
-    → IsDecidedAfter s kept bytes section n (is_taken decisions n)
-    (decision_at decisions n)
+AreDecidedIn s kept bytes section = AreDecidedBy (IsDecidedAfter s kept bytes section)
 
 abbrev pub AllCanBeMade : List ℕ → List ℕ → List Decision → ℕ → Type 0
 AllCanBeMade bytes section decisions limit =
@@ -265,13 +257,28 @@ written_end_at bytes decisions n =
 abbrev pub end_at : List ℕ → List Decision → ℕ → ℕ
 end_at bytes decisions n = end_by (decision_at decisions n) (relocation_in bytes n).offset
 
--- Those of each rewrite end before those of the next ones begin. A decision with none has no end
--- after its start.
+-- where the bytes of a decision begin or end, by its relocation's offset
+abbrev pub Bound : Type 0
+Bound = Decision → ℕ → ℕ
+
+-- those of a relocation with an index
+abbrev pub bound_at : Bound → List ℕ → ℕ → Decision → ℕ
+bound_at B bytes n d = B d (relocation_in bytes n).offset
+
+-- A decision with none has no end after its start.
+abbrev pub IsSome : Bound → Bound → List ℕ → ℕ → Decision → Type 0
+IsSome S E bytes n d = bound_at S bytes n d < bound_at E bytes n d
+
+-- Those of each one end before those of the next ones begin.
+abbrev pub AreApartBy : Bound → Bound → List ℕ → List Decision → ℕ → Type 0
+AreApartBy S E bytes decisions limit =
+    (i j : ℕ) → i < j → j < limit → IsSome S E bytes i (decision_at decisions i)
+    → IsSome S E bytes j (decision_at decisions j)
+    → bound_at E bytes i (decision_at decisions i) ≤ bound_at S bytes j (decision_at decisions j)
+
+-- where bytes are rewritten and deleted
 abbrev pub AreApart : List ℕ → List Decision → ℕ → Type 0
-AreApart bytes decisions limit =
-    (i j : ℕ) → i < j → j < limit → start_at bytes decisions i < end_at bytes decisions i
-    → start_at bytes decisions j < end_at bytes decisions j
-    → end_at bytes decisions i ≤ start_at bytes decisions j
+AreApart = AreApartBy start_by end_by
 
 -- where they end, with some more from a start to an end; none if they aren't after them
 abbrev pub IsEndAfter : ℕ → ℕ → ℕ → Option ℕ → Type 0
@@ -321,53 +328,84 @@ IsFirstCovered architecture bytes section decisions limit (Some n) =
     (n < limit) × IsCovered architecture bytes section decisions limit n
     × ((i : ℕ) → i < n → ¬ IsCovered architecture bytes section decisions limit i)
 
+-- ---- by a rule
+
+-- the bytes of a decision lie in those that count
+abbrev pub IsWithin : Bound → Bound → ℕ → Decision → Type 0
+IsWithin S E o decision =
+    start_by decision o < end_by decision o
+    → (S decision o ≤ start_by decision o) × (end_by decision o ≤ E decision o)
+
+-- what a rule decides of a relocation, and that it can be made
+pub record IsMadeBy (Decides : ℕ → Bool → Decision → Type 0) (S E : Bound) (bytes section : List ℕ)
+    (n : ℕ) (taken : Bool) (decision : Decision) : Type 0 where
+  pub decides : Decides n taken decision
+  pub made : CanBeMade decision section (relocation_in bytes n).offset
+  pub matches : Matches decision section (relocation_in bytes n).offset
+  pub within : IsWithin S E (relocation_in bytes n).offset decision
+
+-- all of a section
+pub record AreAllDecided (Decides : ℕ → Bool → Decision → Type 0) (S E : Bound)
+    (architecture : Architecture) (bytes section : List ℕ) (decisions : List Decision) : Type 0
+  where
+    pub decided : AreDecidedBy Decides decisions (length bytes / 24)
+    pub made : AllCanBeMade bytes section decisions (length bytes / 24)
+    pub matches : AllMatch bytes section decisions (length bytes / 24)
+    pub apart_by : AreApartBy S E bytes decisions (length bytes / 24)
+    pub apart : AreApart bytes decisions (length bytes / 24)
+    pub clear : AreClear architecture bytes section decisions (length bytes / 24)
+
 -- ---- errors
 
--- the rewrite of the relocation with an index would write or delete bytes at or below those of one
--- before it
-pub record IsOverlapping (s : RelaxContext) (kept : List UnrelaxableGroups) (bytes section : List ℕ)
+-- the bytes of the relocation with an index would begin below the end of those of one before it
+pub record IsOverlapping (Decides : ℕ → Bool → Decision → Type 0) (S E : Bound) (bytes : List ℕ)
     (decisions : List Decision) (n : ℕ) : Type 0 where
   pub decision : Decision
-  pub decided : IsDecidedAlone s kept bytes section n (relocation_in bytes n) decision
-  pub writes : start_by decision (relocation_in bytes n).offset
-      < end_by decision (relocation_in bytes n).offset
+  pub decided : Decides n (is_taken decisions n) decision
+  pub writes : IsSome S E bytes n decision
   pub before : ℕ
   pub is_before : before < n
-  pub is_written : start_at bytes decisions before < end_at bytes decisions before
-  pub overlap : start_by decision (relocation_in bytes n).offset
-      < end_at bytes decisions before
+  pub is_written : IsSome S E bytes before (decision_at decisions before)
+  pub overlap : bound_at S bytes n decision < bound_at E bytes before (decision_at decisions before)
 
--- Those below the index are decided. That at the index isn't, though there is room for all.
+-- Those below the index are decided by a rule. That at the index isn't, though there is room for
+-- all: it lacks a rewrite, or its bytes overlap.
+abbrev pub IsRejectedBy : (ℕ → Bool → Decision → Type 0) → (ℕ → Type 0) → Bound → Bound
+    → Architecture → List ℕ → List ℕ → List Decision → RewritingError → Type 0
+IsRejectedBy Decides Lacks S E architecture bytes section decisions TooShort =
+    length decisions < length bytes / 24
+IsRejectedBy Decides Lacks S E architecture bytes section decisions (NotSurveyed n) =
+    (n < length bytes / 24) × AreDecidedBy Decides decisions n × Lacks n
+    × (length bytes / 24 ≤ length decisions)
+IsRejectedBy Decides Lacks S E architecture bytes section decisions (Overlaps n) =
+    ((n < length bytes / 24) × AreDecidedBy Decides decisions n
+    × IsOverlapping Decides S E bytes decisions n × (length bytes / 24 ≤ length decisions))
+    ⊎ (AreDecidedBy Decides decisions (length bytes / 24)
+    × IsFirstCovered architecture bytes section decisions (length bytes / 24) (Some n)
+    × (length bytes / 24 ≤ length decisions))
+IsRejectedBy Decides Lacks S E architecture bytes section decisions (Contradiction symbol) = ⊥
+
+-- and where there may also be less room for deletions than there are
+abbrev pub IsRejectedWith : (ℕ → Bool → Decision → Type 0) → List ℕ → List Decision → ℕ
+    → (RewritingError → Type 0) → RewritingError → Type 0
+IsRejectedWith Decides bytes decisions room IsError TooShort =
+    IsError TooShort
+    ⊎ (AreDecidedBy Decides decisions (length bytes / 24)
+    × (room < length (deletions_by bytes decisions (length bytes / 24))))
+IsRejectedWith Decides bytes decisions room IsError error = IsError error
+
+-- by the groups that stay
 abbrev pub IsRejectedIn : RelaxContext → List UnrelaxableGroups → List ℕ → List ℕ → List Decision
     → RewritingError → Type 0
-IsRejectedIn s kept bytes section decisions TooShort = length decisions < length bytes / 24
-IsRejectedIn s kept bytes section decisions (NotSurveyed n) =
-    (n < length bytes / 24) × AreDecidedIn s kept bytes section decisions n
-    × IsNotSurveyed s kept bytes section n (relocation_in bytes n)
-    × (length bytes / 24 ≤ length decisions)
-IsRejectedIn s kept bytes section decisions (Overlaps n) =
-    ((n < length bytes / 24) × AreDecidedIn s kept bytes section decisions n
-    × IsOverlapping s kept bytes section decisions n
-    × (length bytes / 24 ≤ length decisions))
-    ⊎ (AreDecidedIn s kept bytes section decisions (length bytes / 24)
-    × IsFirstCovered s.architecture bytes section decisions (length bytes / 24) (Some n)
-    × (length bytes / 24 ≤ length decisions))
-IsRejectedIn s kept bytes section decisions (Contradiction symbol) = ⊥
+IsRejectedIn s kept bytes section =
+    IsRejectedBy (IsDecidedAfter s kept bytes section)
+    (λ n. IsNotSurveyed s kept bytes section n (relocation_in bytes n)) start_by end_by
+    s.architecture bytes section
 
 -- before addresses are known
 abbrev pub IsRejected : Architecture → OutputFacts → List SymbolFacts → List UnrelaxableGroups → List ℕ
     → List ℕ → List Decision → RewritingError → Type 0
 IsRejected architecture output symbols = IsRejectedIn (pre_layout architecture output symbols)
-
--- and where there may also be less room for deletions than there are
-abbrev pub IsRejectedWith : RelaxContext → List UnrelaxableGroups → List ℕ → List ℕ → List Decision → ℕ
-    → RewritingError → Type 0
-IsRejectedWith s kept bytes section decisions room TooShort =
-    (length decisions < length bytes / 24)
-    ⊎ (AreDecidedIn s kept bytes section decisions (length bytes / 24)
-    × (room < length (deletions_by bytes decisions (length bytes / 24))))
-IsRejectedWith s kept bytes section decisions room error =
-    IsRejectedIn s kept bytes section decisions error
 
 -- the tables of symbols contradict each other, or they agree and there is another error
 abbrev pub IsRejectedFirst : List SymbolFacts → List Symbol → List ℕ → (RewritingError → Type 0)
@@ -380,7 +418,9 @@ IsRejectedFirst facts symbols bytes IsError error = Agree facts symbols bytes ×
 abbrev pub IsRejectedPlaced : RelaxContext → List UnrelaxableGroups → List ℕ → List ℕ → List Decision → ℕ
     → RewritingError → Type 0
 IsRejectedPlaced s kept bytes section decisions room =
-    IsRejectedFirst s.symbols s.values bytes (IsRejectedWith s kept bytes section decisions room)
+    IsRejectedFirst s.symbols s.values bytes
+    (IsRejectedWith (IsDecidedAfter s kept bytes section) bytes decisions room
+    (IsRejectedIn s kept bytes section decisions))
 
 -- ---- decisions that are made later
 

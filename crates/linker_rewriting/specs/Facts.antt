@@ -1,7 +1,7 @@
 -- What a relocation's rewrite is chosen by before addresses are known, from the facts of its symbol
 -- and of the output (the psABIs' sections on symbols and on thread-local storage).
-use Rattle.std.specs.Prelude.{ℕ, ℤ, ◌/◌, ◌==◌, ◌||◌, ◌&&◌, not, true, false, Bool, List, []}
-use Rattle.std.specs.Prelude.{Option, Some, None, if◌then◌else◌, slice_get}
+use Rattle.std.specs.Prelude.{ℕ, ℤ, ◌/◌, ◌==◌, ◌||◌, ◌&&◌, not, true, false, Bool, List, [], Option}
+use Rattle.std.specs.Prelude.{Some, None, if◌then◌else◌, slice_get}
 use Rattle.linker_elf.specs.Value.{sum_64}
 use Rattle.linker_elf.specs.declared.elf.choice.LinkFacts.{LinkFacts}
 use Rattle.linker_rewriting.specs.declared.facts.OutputFacts.{OutputFacts}

@@ -1,7 +1,7 @@
 -- RISC-V's addresses within 2 KiB of the global pointer or of 0 (RISC-V ELF psABI, "Global-pointer
 -- Relaxation" and "Zero-page Relaxation"). Their `lui` and `auipc` are deleted, and each low part
 -- takes x3 or x0 as its base: all of a symbol, or none.
-use Rattle.std.specs.Prelude.{◌≡◌, ◌↔◌, ℕ, zero, suc, ◌+◌, ◌<◌, ◌≤◌, ◌/◌, ◌⊎◌, ◌==◌, ◌&&◌, ◌||◌}
+use Rattle.std.specs.Prelude.{◌≡◌, ◌↔◌, ℕ, zero, suc, ◌+◌, ◌<◌, ◌/◌, ◌==◌, ◌&&◌, ◌||◌}
 use Rattle.std.specs.Prelude.{nat_le, nat_lt, not, if◌then◌else◌, Bool, true, false, IsTrue, List}
 use Rattle.std.specs.Prelude.{length, Option, None, Some, slice_get, is_some}
 use Rattle.std.specs.Int.{w64, cast_signed, cast_unsigned}
@@ -15,22 +15,19 @@ use Rattle.linker_riscv64.specs.RiscVCalls.{word_at}
 use Rattle.linker_riscv64.specs.RiscVFields.{opcode_of, funct3_of, rd_of, rs1_of, stores_base}
 use Rattle.linker_utils.specs.RiscVRewrites.{adds_low12, rewrites_word, with_rs1}
 use Rattle.linker_utils.specs.declared.riscv64.rewrites.RewriteKind.TheVariants as kinds
-use Rattle.linker_rewriting.specs.Decisions.{IsFirstCovered}
-use Rattle.linker_rewriting.specs.Decisions.{decision_at, deletions_by}
+use Rattle.linker_rewriting.specs.Decisions.{AreApartBy, AreDecidedBy, IsRejectedBy, IsRejectedWith}
+use Rattle.linker_rewriting.specs.Decisions.{decision_at}
 use Rattle.linker_rewriting.specs.Facts.{RelaxContext, address_in}
 use Rattle.linker_rewriting.specs.RiscVPcrelGroups.{IsHighFrom, offset_of_label, is_beyond}
 use Rattle.linker_rewriting.specs.Rewritten.{IsRewritten}
 use Rattle.linker_rewriting.specs.Sequences.{is_marked_at}
-use Rattle.linker_rewriting.specs.TocIndirection.{WordUnchangedBy, subject_of, word_stays}
+use Rattle.linker_rewriting.specs.TocIndirection.{AreNotedBy, AreSurveyedBy, subject_of, word_stays}
 use Rattle.linker_rewriting.specs.declared.decisions.Decision.{Decision}
 use Rattle.linker_rewriting.specs.declared.decisions.Decision.TheVariants.{Kept}
 use Rattle.linker_rewriting.specs.declared.decisions.Decision.TheVariants.{RewrittenWithSymbol}
 use Rattle.linker_rewriting.specs.declared.decisions.Decision.TheVariants.{Rewritten, Consumed}
 use Rattle.linker_rewriting.specs.declared.decisions.RewritingError.{RewritingError}
-use Rattle.linker_rewriting.specs.declared.decisions.RewritingError.TheVariants.{TooShort}
 use Rattle.linker_rewriting.specs.declared.decisions.RewritingError.TheVariants.{NotSurveyed}
-use Rattle.linker_rewriting.specs.declared.decisions.RewritingError.TheVariants.{Overlaps}
-use Rattle.linker_rewriting.specs.declared.decisions.RewritingError.TheVariants.{Contradiction}
 use Rattle.linker_rewriting.specs.declared.facts.SymbolFacts.{SymbolFacts}
 use Rattle.linker_rewriting.specs.declared.global_pointer.Part.{Part}
 use Rattle.linker_rewriting.specs.declared.global_pointer.Part.TheVariants.{High, Low, Labelled}
@@ -191,26 +188,15 @@ pub record IsKeepingSymbol (s : RelaxContext) (gp : ℕ) (bytes section : List �
   pub is_member : IsMember s bytes r member
   pub keeps : symbol ≡ kept_by s gp ascends bytes section n r member
 
-pub record IsSymbolNoted (s : RelaxContext) (gp : ℕ) (bytes section : List ℕ) (after : List Bool)
-    (n : ℕ) : Type 0 where
-  pub symbol : Option ℕ
-  pub is_keeping : IsKeepingSymbol s gp bytes section n (relocation_in bytes n) symbol
-  pub stays : WordUnchangedBy after symbol
-
--- of the relocations with an index below a limit each that keeps its symbol is noted
-abbrev pub AreSymbolsNoted : RelaxContext → ℕ → List ℕ → List ℕ → List Bool → ℕ → Type 0
-AreSymbolsNoted s gp bytes section after limit =
-    (n : ℕ) → n < limit → IsSymbolNoted s gp bytes section after n
+-- symbols that parts keep
+abbrev pub KeepsSymbol : RelaxContext → ℕ → List ℕ → List ℕ → ℕ → Option ℕ → Type 0
+KeepsSymbol s gp bytes section n =
+    IsKeepingSymbol s gp bytes section n (relocation_in bytes n)
 
 -- They are noted. What stayed before stays, and what else stays has a cause.
-pub record AreSymbolsSurveyed (s : RelaxContext) (gp : ℕ) (bytes section : List ℕ)
-    (before after : List Bool) (limit : ℕ) : Type 0 where
-  pub noted : AreSymbolsNoted s gp bytes section after limit
-  pub stayed : (symbol : ℕ) → word_stays before symbol ≡ true → word_stays after symbol ≡ true
-  pub caused : (symbol : ℕ) → word_stays after symbol ≡ true
-      → (word_stays before symbol ≡ true)
-      ⊎ ((n : ℕ) × (n < limit)
-      × IsKeepingSymbol s gp bytes section n (relocation_in bytes n) (Some symbol))
+abbrev pub AreSymbolsSurveyed : RelaxContext → ℕ → List ℕ → List ℕ → List Bool → List Bool → ℕ
+    → Type 0
+AreSymbolsSurveyed s gp bytes section = AreSurveyedBy (KeepsSymbol s gp bytes section)
 
 -- ---- decisions
 
@@ -239,12 +225,13 @@ pub record IsPartDecided (s : RelaxContext) (gp : ℕ) (kept : List Bool) (bytes
   pub is_member : IsMember s bytes r member
   pub decided : decision ≡ decided_by s gp ascends kept bytes section n r member
 
--- those of the relocations with an index below a limit
+-- by the rule of parts, those of the relocations with an index below a limit
+abbrev pub DecidesPart : RelaxContext → ℕ → List Bool → List ℕ → List ℕ → ℕ → Bool → Decision → Type 0
+DecidesPart s gp kept bytes section n taken decision =
+    IsPartDecided s gp kept bytes section n (relocation_in bytes n) (Some decision)
+
 abbrev pub ArePartsDecided : RelaxContext → ℕ → List Bool → List ℕ → List ℕ → List Decision → ℕ → Type 0
-ArePartsDecided s gp kept bytes section decisions limit =
-    (n : ℕ) → n < limit
-    → IsPartDecided s gp kept bytes section n (relocation_in bytes n)
-    (Some (decision_at decisions n))
+ArePartsDecided s gp kept bytes section = AreDecidedBy (DecidesPart s gp kept bytes section)
 
 -- ---- instructions that are apart
 
@@ -254,16 +241,13 @@ part_end (Rewritten chosen) offset = offset + 4
 part_end (RewrittenWithSymbol chosen subject) offset = offset + 4
 part_end decision offset = offset
 
-abbrev pub part_end_at : List ℕ → List Decision → ℕ → ℕ
-part_end_at bytes decisions n = part_end (decision_at decisions n) (relocation_in bytes n).offset
+-- It begins where its relocation is.
+abbrev pub part_start : Decision → ℕ → ℕ
+part_start decision offset = offset
 
 -- Those of each part that is rewritten end before those of the next ones begin.
 abbrev pub ArePartsApart : List ℕ → List Decision → ℕ → Type 0
-ArePartsApart bytes decisions limit =
-    (i j : ℕ) → i < j → j < limit
-    → (relocation_in bytes i).offset < part_end_at bytes decisions i
-    → (relocation_in bytes j).offset < part_end_at bytes decisions j
-    → part_end_at bytes decisions i ≤ (relocation_in bytes j).offset
+ArePartsApart = AreApartBy part_start part_end
 
 -- a relocation after what became of it, where no bytes are rewritten
 abbrev pub relocation_by : Decision → Rela → Rela
@@ -316,44 +300,19 @@ ArePartsWholeAcross =
 
 -- ---- errors
 
--- The instruction of the part with an index overlaps that of one before it, or lies below it.
-pub record IsPartOverlapping (s : RelaxContext) (gp : ℕ) (kept : List Bool) (bytes section : List ℕ)
-    (decisions : List Decision) (n : ℕ) : Type 0 where
-  pub decision : Decision
-  pub decided : IsPartDecided s gp kept bytes section n (relocation_in bytes n) (Some decision)
-  pub is_rewritten : (relocation_in bytes n).offset
-      < part_end decision (relocation_in bytes n).offset
-  pub before : ℕ
-  pub is_before : before < n
-  pub is_rewritten_too : (relocation_in bytes before).offset < part_end_at bytes decisions before
-  pub overlap : (relocation_in bytes n).offset < part_end_at bytes decisions before
-
--- Those below the index are decided. That at the index isn't, though there is room for all. There
--- may also be less room for deletions than there are.
 abbrev pub ArePartsRejected : RelaxContext → ℕ → List Bool → List ℕ → List ℕ → List Decision → ℕ
     → RewritingError → Type 0
-ArePartsRejected s gp kept bytes section decisions room TooShort =
-    (length decisions < length bytes / 24)
-    ⊎ (ArePartsDecided s gp kept bytes section decisions (length bytes / 24)
-    × (room < length (deletions_by bytes decisions (length bytes / 24))))
-ArePartsRejected s gp kept bytes section decisions room (NotSurveyed n) =
-    (n < length bytes / 24) × ArePartsDecided s gp kept bytes section decisions n
-    × IsPartDecided s gp kept bytes section n (relocation_in bytes n) None
-    × (length bytes / 24 ≤ length decisions)
-ArePartsRejected s gp kept bytes section decisions room (Overlaps n) =
-    ((n < length bytes / 24) × ArePartsDecided s gp kept bytes section decisions n
-    × IsPartOverlapping s gp kept bytes section decisions n
-    × (length bytes / 24 ≤ length decisions))
-    ⊎ (ArePartsDecided s gp kept bytes section decisions (length bytes / 24)
-    × IsFirstCovered s.architecture bytes section decisions (length bytes / 24) (Some n)
-    × (length bytes / 24 ≤ length decisions))
-ArePartsRejected s gp kept bytes section decisions room (Contradiction symbol) = ⊥
+ArePartsRejected s gp kept bytes section decisions room =
+    IsRejectedWith (DecidesPart s gp kept bytes section) bytes decisions room
+    (IsRejectedBy (DecidesPart s gp kept bytes section)
+    (λ n. IsPartDecided s gp kept bytes section n (relocation_in bytes n) None) part_start part_end
+    s.architecture bytes section decisions)
 
 -- an error that a section wasn't surveyed comes only where what it keeps isn't all noted
 abbrev pub MeansSymbolsUnsurveyed : RelaxContext → ℕ → List ℕ → List ℕ → List Bool → RewritingError
     → Type 0
 MeansSymbolsUnsurveyed s gp bytes section kept (NotSurveyed n) =
-    IsAscending bytes → ¬ AreSymbolsNoted s gp bytes section kept (length bytes / 24)
+    IsAscending bytes → ¬ AreNotedBy (KeepsSymbol s gp bytes section) kept (length bytes / 24)
 MeansSymbolsUnsurveyed s gp bytes section kept error = Unit {0}
 
 -- ---- bases

@@ -24,17 +24,16 @@ use Rattle.linker_rewriting.specs.declared.groups.Group.TheVariants.{GotLoad}
 use Rattle.linker_rewriting.specs.declared.groups.UnrelaxableGroups.{UnrelaxableGroups}
 use Rattle.linker_rewriting.specs.declared.groups.Scope.{Scope}
 use Rattle.linker_rewriting.specs.declared.groups.Scope.TheVariants.{NotRelaxable, Independent}
-use Rattle.linker_rewriting.specs.declared.groups.Scope.TheVariants.{Grouped}
-use Rattle.linker_rewriting.specs.declared.groups.Scope.TheVariants.{FirstOfPair, IfGroupMatches}
-use Rattle.linker_rewriting.specs.declared.groups.Scope.TheVariants.{Labelled}
+use Rattle.linker_rewriting.specs.declared.groups.Scope.TheVariants.{Grouped, FirstOfPair}
+use Rattle.linker_rewriting.specs.declared.groups.Scope.TheVariants.{IfGroupMatches, Labelled}
 use Rattle.linker_rewriting.specs.declared.phases.Phase.{Phase}
 use Rattle.linker_rewriting.specs.declared.phases.Phase.TheVariants.{PreLayout, TlsLocalExec}
 use Rattle.linker_rewriting.specs.declared.phases.Phase.TheVariants.{GotToPcRel, ShortPcRel}
 use Rattle.linker_elf.specs.Architectures.{IsNamedValue}
 use Rattle.linker_elf.specs.declared.elf.architecture.Architecture.{Architecture}
 use Rattle.linker_elf.specs.declared.elf.architecture.Architecture.TheVariants.{AArch64, RiscV}
-use Rattle.linker_elf.specs.declared.elf.architecture.Architecture.TheVariants.{LoongArch64}
-use Rattle.linker_elf.specs.declared.elf.architecture.Architecture.TheVariants.{Ppc64, X86_64}
+use Rattle.linker_elf.specs.declared.elf.architecture.Architecture.TheVariants.{LoongArch64, Ppc64}
+use Rattle.linker_elf.specs.declared.elf.architecture.Architecture.TheVariants.{X86_64}
 
 -- ---- scopes before addresses are known
 

@@ -1,6 +1,6 @@
 -- What is noted of the groups of labels before a section is decided, in place of the decisions.
-use Rattle.std.specs.Prelude.{◌≡◌, ℕ, ◌<◌, ◌≤◌, ◌/◌, Bool, true, false, List, length, Option}
-use Rattle.std.specs.Prelude.{Some, None}
+use Rattle.std.specs.Prelude.{◌≡◌, ℕ, ◌<◌, ◌≤◌, ◌/◌, Bool, true, false, List, length, Option, Some}
+use Rattle.std.specs.Prelude.{None}
 use Rattle.linker_rewriting.specs.Decisions.{decision_at}
 use Rattle.linker_rewriting.specs.Facts.{RelaxContext}
 use Rattle.linker_rewriting.specs.RiscVPcrelGroups.{IsHighOf, IsInLabel, IsLabelNote, HasLacking}

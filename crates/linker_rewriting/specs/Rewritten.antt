@@ -1,8 +1,8 @@
 -- A section and its relocations after their rewrites.
 use Rattle.std.specs.Prelude.{◌≡◌, ◌≢◌, ℕ, ◌+◌, ◌-◌, ◌<◌, ◌≤◌, ◌/◌, ◌⊎◌, ◌↔◌, List, length, get_or}
 use Rattle.std.specs.Prelude.{Option, None, Some, true, false}
-use Rattle.linker_base.specs.Rewrite.{Rewrite, rewrite_window, rewritten}
-use Rattle.linker_base.specs.Rewrite.{offset_after, addend_after}
+use Rattle.linker_base.specs.Rewrite.{Rewrite, rewrite_window, rewritten, offset_after}
+use Rattle.linker_base.specs.Rewrite.{addend_after}
 use Rattle.linker_rewriting.specs.Decisions.{decision_at, is_taken, start_at, written_end_at}
 use Rattle.linker_rewriting.specs.Decisions.{AreDecided, AreDecidedIn}
 use Rattle.linker_rewriting.specs.Facts.{RelaxContext}

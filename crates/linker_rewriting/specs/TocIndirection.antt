@@ -1,8 +1,8 @@
 -- Instructions that load addresses from the words of a section, as from those of PowerPC64's `.toc`
 -- (64-bit ELF V2 ABI for Power, "TOC"). Nothing changes such a word, so that the instructions may
 -- compute its address: all that load it, or none.
-use Rattle.std.specs.Prelude.{◌≡◌, ℕ, ℤ, ◌<◌, ◌≤◌, ◌/◌, ◌⊎◌, ◌==◌, if◌then◌else◌, Bool, true}
-use Rattle.std.specs.Prelude.{false, List, length, Option, None, Some, slice_get}
+use Rattle.std.specs.Prelude.{◌≡◌, ℕ, ℤ, ◌<◌, ◌/◌, ◌⊎◌, ◌==◌, if◌then◌else◌, Bool, true, false}
+use Rattle.std.specs.Prelude.{List, length, Option, None, Some, slice_get}
 use Rattle.std.specs.Int.{w64, cast_unsigned}
 use Rattle.linker_elf.specs.ElfNames.{code_of}
 use Rattle.linker_elf.specs.Ppc64Relocations.{ppc64_name}
@@ -10,9 +10,8 @@ use Rattle.linker_elf.specs.Value.{sum_64, difference_64}
 use Rattle.linker_elf.specs.declared.elf.choice.Choice.{Choice}
 use Rattle.linker_elf.specs.declared.ppc64.relocations.Ppc64Relocation.TheVariants as ppc64
 use Rattle.linker_rewriting.specs.Candidates.{IsCandidateWith}
-use Rattle.linker_rewriting.specs.Decisions.{IsFirstCovered}
-use Rattle.linker_rewriting.specs.Decisions.{decision_at, start_by, end_by, start_at, end_at}
-use Rattle.linker_rewriting.specs.Decisions.{IsRejectedFirst}
+use Rattle.linker_rewriting.specs.Decisions.{AreDecidedBy, IsRejectedBy, IsRejectedFirst}
+use Rattle.linker_rewriting.specs.Decisions.{decision_at, start_by, end_by}
 use Rattle.linker_rewriting.specs.Facts.{RelaxContext, address_in, link_facts}
 use Rattle.linker_rewriting.specs.RiscVPcrelGroups.{IsHighFrom}
 use Rattle.linker_rewriting.specs.Rewritten.{IsRewritten}
@@ -20,10 +19,7 @@ use Rattle.linker_rewriting.specs.declared.decisions.Decision.{Decision}
 use Rattle.linker_rewriting.specs.declared.decisions.Decision.TheVariants.{Kept}
 use Rattle.linker_rewriting.specs.declared.decisions.Decision.TheVariants.{RewrittenWithSymbol}
 use Rattle.linker_rewriting.specs.declared.decisions.RewritingError.{RewritingError}
-use Rattle.linker_rewriting.specs.declared.decisions.RewritingError.TheVariants.{TooShort}
 use Rattle.linker_rewriting.specs.declared.decisions.RewritingError.TheVariants.{NotSurveyed}
-use Rattle.linker_rewriting.specs.declared.decisions.RewritingError.TheVariants.{Overlaps}
-use Rattle.linker_rewriting.specs.declared.decisions.RewritingError.TheVariants.{Contradiction}
 use Rattle.linker_rewriting.specs.declared.decisions.Subject.{Subject}
 use Rattle.linker_section.specs.Relocations.{relocation_in}
 use Rattle.linker_section.specs.Values.{IsAscending}
@@ -113,26 +109,33 @@ abbrev pub WordUnchangedBy : List Bool → Option ℕ → Type 0
 WordUnchangedBy after None = Unit {0}
 WordUnchangedBy after (Some word) = word_stays after word ≡ true
 
-pub record IsWordNoted (s : RelaxContext) (start : ℕ) (words bytes section : List ℕ) (after : List Bool)
-    (n : ℕ) : Type 0 where
+-- what the relocation with an index keeps is noted
+pub record IsNotedBy (Keeps : ℕ → Option ℕ → Type 0) (after : List Bool) (n : ℕ) : Type 0 where
   pub word : Option ℕ
-  pub is_keeping : IsKeepingWord s start words bytes section n (relocation_in bytes n) word
+  pub is_keeping : Keeps n word
   pub stays : WordUnchangedBy after word
 
 -- of the relocations with an index below a limit each that keeps a word is noted
-abbrev pub AreWordsNoted : RelaxContext → ℕ → List ℕ → List ℕ → List ℕ → List Bool → ℕ → Type 0
-AreWordsNoted s start words bytes section after limit =
-    (n : ℕ) → n < limit → IsWordNoted s start words bytes section after n
+abbrev pub AreNotedBy : (ℕ → Option ℕ → Type 0) → List Bool → ℕ → Type 0
+AreNotedBy Keeps after limit = (n : ℕ) → n < limit → IsNotedBy Keeps after n
 
 -- They are noted. What stayed before stays, and what else stays has a cause.
-pub record AreLoadsSurveyed (s : RelaxContext) (start : ℕ) (words bytes section : List ℕ)
-    (before after : List Bool) (limit : ℕ) : Type 0 where
-  pub noted : AreWordsNoted s start words bytes section after limit
+pub record AreSurveyedBy (Keeps : ℕ → Option ℕ → Type 0) (before after : List Bool) (limit : ℕ)
+    : Type 0 where
+  pub noted : AreNotedBy Keeps after limit
   pub stayed : (word : ℕ) → word_stays before word ≡ true → word_stays after word ≡ true
   pub caused : (word : ℕ) → word_stays after word ≡ true
-      → (word_stays before word ≡ true)
-      ⊎ ((n : ℕ) × (n < limit)
-      × IsKeepingWord s start words bytes section n (relocation_in bytes n) (Some word))
+      → (word_stays before word ≡ true) ⊎ ((n : ℕ) × (n < limit) × Keeps n (Some word))
+
+-- words that loads keep
+abbrev pub KeepsWord : RelaxContext → ℕ → List ℕ → List ℕ → List ℕ → ℕ → Option ℕ → Type 0
+KeepsWord s start words bytes section n =
+    IsKeepingWord s start words bytes section n (relocation_in bytes n)
+
+abbrev pub AreLoadsSurveyed : RelaxContext → ℕ → List ℕ → List ℕ → List ℕ → List Bool → List Bool → ℕ
+    → Type 0
+AreLoadsSurveyed s start words bytes section =
+    AreSurveyedBy (KeepsWord s start words bytes section)
 
 -- ---- decisions
 
@@ -176,46 +179,25 @@ IsLoadDecided s start words kept bytes section n r None =
 IsLoadDecided s start words kept bytes section n r (Some decision) =
     IsLoadDecision s start words kept bytes section n r decision
 
--- those of the relocations with an index below a limit
+-- by the rule of loads, those of the relocations with an index below a limit
+abbrev pub DecidesLoad : RelaxContext → ℕ → List ℕ → List Bool → List ℕ → List ℕ → ℕ → Bool
+    → Decision → Type 0
+DecidesLoad s start words kept bytes section n taken decision =
+    IsLoadDecision s start words kept bytes section n (relocation_in bytes n) decision
+
 abbrev pub AreLoadsDecided : RelaxContext → ℕ → List ℕ → List Bool → List ℕ → List ℕ → List Decision → ℕ
     → Type 0
-AreLoadsDecided s start words kept bytes section decisions limit =
-    (n : ℕ) → n < limit
-    → IsLoadDecision s start words kept bytes section n (relocation_in bytes n)
-    (decision_at decisions n)
+AreLoadsDecided s start words kept bytes section =
+    AreDecidedBy (DecidesLoad s start words kept bytes section)
 
 -- ---- errors
 
--- the rewrite of the relocation with an index would write bytes at or below those of one before it
-pub record IsLoadOverlapping (s : RelaxContext) (start : ℕ) (words : List ℕ) (kept : List Bool)
-    (bytes section : List ℕ) (decisions : List Decision) (n : ℕ) : Type 0 where
-  pub decision : Decision
-  pub decided : IsLoadDecision s start words kept bytes section n (relocation_in bytes n) decision
-  pub writes : start_by decision (relocation_in bytes n).offset
-      < end_by decision (relocation_in bytes n).offset
-  pub before : ℕ
-  pub is_before : before < n
-  pub is_written : start_at bytes decisions before < end_at bytes decisions before
-  pub overlap : start_by decision (relocation_in bytes n).offset
-      < end_at bytes decisions before
-
--- Those below the index are decided. That at the index isn't, though there is room for all.
 abbrev pub AreLoadsRejected : RelaxContext → ℕ → List ℕ → List Bool → List ℕ → List ℕ → List Decision
     → RewritingError → Type 0
-AreLoadsRejected s start words kept bytes section decisions TooShort =
-    length decisions < length bytes / 24
-AreLoadsRejected s start words kept bytes section decisions (NotSurveyed n) =
-    (n < length bytes / 24) × AreLoadsDecided s start words kept bytes section decisions n
-    × IsLoadNotSurveyed s start words kept bytes section n (relocation_in bytes n)
-    × (length bytes / 24 ≤ length decisions)
-AreLoadsRejected s start words kept bytes section decisions (Overlaps n) =
-    ((n < length bytes / 24) × AreLoadsDecided s start words kept bytes section decisions n
-    × IsLoadOverlapping s start words kept bytes section decisions n
-    × (length bytes / 24 ≤ length decisions))
-    ⊎ (AreLoadsDecided s start words kept bytes section decisions (length bytes / 24)
-    × IsFirstCovered s.architecture bytes section decisions (length bytes / 24) (Some n)
-    × (length bytes / 24 ≤ length decisions))
-AreLoadsRejected s start words kept bytes section decisions (Contradiction symbol) = ⊥
+AreLoadsRejected s start words kept bytes section =
+    IsRejectedBy (DecidesLoad s start words kept bytes section)
+    (λ n. IsLoadNotSurveyed s start words kept bytes section n (relocation_in bytes n)) start_by
+    end_by s.architecture bytes section
 
 -- the tables of symbols contradict each other, or they agree and there is another error
 abbrev pub AreLoadsRejectedFirst : RelaxContext → ℕ → List ℕ → List Bool → List ℕ → List ℕ
@@ -228,7 +210,8 @@ AreLoadsRejectedFirst s start words kept bytes section decisions =
 abbrev pub MeansWordsUnsurveyed : RelaxContext → ℕ → List ℕ → List ℕ → List ℕ → List Bool
     → RewritingError → Type 0
 MeansWordsUnsurveyed s start words bytes section kept (NotSurveyed n) =
-    IsAscending words → ¬ AreWordsNoted s start words bytes section kept (length bytes / 24)
+    IsAscending words
+    → ¬ AreNotedBy (KeepsWord s start words bytes section) kept (length bytes / 24)
 MeansWordsUnsurveyed s start words bytes section kept error = Unit {0}
 
 -- ---- whole words

@@ -1,14 +1,15 @@
 //! Whether decisions can be made of a section's bytes as they are, by a number of the bytes that
 //! they were made on.
 
-ghost use Rattle.std.specs.Prelude.{◌≡◌, ◌↔◌, ◌≤◌, ◌<◌, ◌+◌, ◌/◌, length, map, take, drop};
-ghost use Rattle.std.specs.Prelude.{All, IfErr, OnOk, IsTrue, true};
+ghost use Rattle.std.specs.Prelude.{◌≡◌, ◌↔◌, ◌≤◌, ◌<◌, ◌+◌, ◌/◌, length, map, take, drop, All};
+ghost use Rattle.std.specs.Prelude.{IfErr, OnOk, IsTrue, true, false};
 ghost use Rattle.linker_base.specs.Rewrite.{CanRewrite};
 ghost use Rattle.linker_base.specs.RewriteWindow.{window_of_rewrite};
 ghost use Rattle.linker_rewriting.specs.Candidates.{deletes_within};
 ghost use Rattle.linker_rewriting.specs.Decisions.{AllCanBeMade, AllMatch, AllKeepBytes, AreApart};
 ghost use Rattle.linker_rewriting.specs.Decisions.{CanBeMade, Matches, KeepsBytes, IsUnmade};
 ghost use Rattle.linker_rewriting.specs.Decisions.{bytes_number, window_number, turned};
+ghost use Rattle.linker_rewriting.specs.Inner.Left.{AreKept};
 ghost use Rattle.linker_utils.specs.Relaxations.{relaxation_rewrite, relaxation_deleted};
 ghost use Rattle.linker_utils.specs.Relaxations.{relaxation_matches};
 
@@ -81,8 +82,15 @@ fn fits(decision: &Decision, number: u32, section: &[u8], offset: u64) -> bool
     }
 }
 
-/// Keeps a number of the bytes that each decision rewrites.
-pub(crate) fn keep_bytes<D: AsKeptDecision>(relocations: &[u8], section: &[u8], decisions: &mut [D])
+/// Keeps a number of the bytes that each decision rewrites, if anything changes.
+pub(crate) fn keep_bytes<D: AsKeptDecision>(
+    changes: bool,
+    relocations: &[u8],
+    section: &[u8],
+    decisions: &mut [D],
+)
+    requires left { changes ≡ false → AreKept (map D.decision decisions.old)
+        (length relocations.now / 24) }
     requires enough { length relocations.now / 24 ≤ length decisions.old }
     requires made { AllCanBeMade relocations.now section.now (map D.decision decisions.old)
         (length relocations.now / 24) }
@@ -94,6 +102,9 @@ pub(crate) fn keep_bytes<D: AsKeptDecision>(relocations: &[u8], section: &[u8], 
     ensures others_stay { drop (length relocations.now / 24) decisions.new
         ≡ drop (length relocations.now / 24) decisions.old }
 {
+    if !changes {
+        return;
+    }
     for index in 0..relocations_len(relocations) {
         let Decision::Rewritten(choice) = decisions[index].as_decision() else {
             continue;

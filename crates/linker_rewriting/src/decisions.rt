@@ -1,15 +1,15 @@
 //! What becomes of each relocation of a section and of its instruction.
 
-ghost use Rattle.std.specs.Prelude.{◌≡◌, ◌<◌, ◌≤◌, ◌+◌, ◌-◌, ◌/◌, length, map, IfSome, IfErr};
-ghost use Rattle.std.specs.Prelude.{ℕ, OnOk, IfOk, All, take, drop, true, false};
+ghost use Rattle.std.specs.Prelude.{◌≡◌, ◌<◌, ◌≤◌, ◌+◌, ◌-◌, ◌/◌, length, map, IfSome, IfErr, ℕ};
+ghost use Rattle.std.specs.Prelude.{OnOk, IfOk, All, take, drop, true, false};
 ghost use Rattle.linker_rewriting.specs.declared.decisions.Decision.{Decision as decisions};
 ghost use Rattle.linker_section.specs.Relocations.{relocation_in, relocation_at};
 ghost use Rattle.linker_rewriting.specs.Decisions.{takes_next, window_of, IsDecision, CanBeMade};
 ghost use Rattle.linker_rewriting.specs.Decisions.{deleted_of, deleted_end, start_by, end_by};
-ghost use Rattle.linker_rewriting.specs.Decisions.{AreDecidedIn, AreApart, AreClear, AllCanBeMade};
-ghost use Rattle.linker_rewriting.specs.Decisions.{IsDecisionAfter, IsEndAfter, IsRejectedIn};
-ghost use Rattle.linker_rewriting.specs.Decisions.{IsRewrittenAt, label_decision, IsLabelDecision};
-ghost use Rattle.linker_rewriting.specs.Decisions.{takes_symbol, Matches, AllMatch};
+ghost use Rattle.linker_rewriting.specs.Decisions.{AreAllDecided, IsDecidedAfter, IsNotSurveyed};
+ghost use Rattle.linker_rewriting.specs.Decisions.{IsEndAfter, IsRejectedIn, IsRewrittenAt};
+ghost use Rattle.linker_rewriting.specs.Decisions.{label_decision, IsLabelDecision, takes_symbol};
+ghost use Rattle.linker_rewriting.specs.Decisions.{Matches};
 ghost use Rattle.linker_rewriting.specs.Inner.Contexts.{context_of};
 ghost use Rattle.linker_rewriting.specs.Inner.Calls.{IsLeft};
 ghost use Rattle.linker_rewriting.specs.Inner.Left.{AreKept};
@@ -18,12 +18,12 @@ ghost use Rattle.linker_rewriting.specs.RiscVPcrelGroups.{IsInLabel, IsLabelNote
 use crate::calls::keeps_call;
 use crate::candidates::candidate;
 use crate::codes::{is_listed, lists_any, of_each};
-use crate::covered::first_covered;
 use crate::facts::{OutputFacts, RelaxContext, SymbolFacts};
 use crate::groups::{Scope, UnrelaxableGroups, group_stays, scope_in};
 use crate::phases::Phase;
 use crate::relocations::relocation_in;
-use crate::riscv_pcrel_groups::{high_of, is_note, label_candidate, note_labels, set_all};
+use crate::riscv_pcrel_groups::{high_of, label_candidate, note_labels, set_all};
+use crate::rules::{Rule, decide_by};
 use linker_base::rewrite::DeletedBytes;
 use linker_section::facts::{Addresses, Symbol};
 use linker_section::relocations::{Rela, relocation_at, relocations_len};
@@ -334,13 +334,7 @@ fn decide_label(
     if stays {
         return Decision::Kept;
     }
-    let Some(high) = high_of(
-        context.phase,
-        context.addresses,
-        context.values,
-        relocations,
-        relocation,
-    ) else {
+    let Some(high) = high_of(context, relocations, relocation) else {
         return Decision::Kept;
     };
     match label_candidate(context, relocations, section, index, relocation, high) {
@@ -351,7 +345,6 @@ fn decide_label(
 
 /// What becomes of a relocation that no other takes along. `stays` is what was noted of its label.
 /// None if its group doesn't stay, but it can't be rewritten.
-#[inline(always)]
 fn decide(
     stays: bool,
     context: &RelaxContext<'_>,
@@ -403,63 +396,6 @@ fn decide(
     }
 }
 
-/// Whether no other relocation takes along the one with an index, and it stays as it is by its
-/// code, or as a call by its symbol. The scope is for the proof alone: the compiler leaves it out.
-#[inline(always)]
-fn is_left(
-    is_taken: bool,
-    architecture: Architecture,
-    phase: Phase,
-    symbols: &[SymbolFacts],
-    relocations: &[u8],
-    index: usize,
-) -> bool
-    requires { index < length relocations.now / 24 }
-    ensures not_taken { result ≡ true → is_taken ≡ false }
-    ensures left { result ≡ true → IsLeft architecture phase symbols.now
-        (relocation_in relocations.now index) }
-{
-    let relocation = relocation_in(relocations, index);
-    let scope = scope_in(architecture, phase, relocation.code);
-    let listed = is_listed(architecture, phase, relocation.code);
-    !is_taken && (!listed || keeps_call(architecture, phase, symbols, &relocation))
-}
-
-/// What becomes of a relocation, which another may take along.
-fn decide_after(
-    is_taken: bool,
-    stays: bool,
-    context: &RelaxContext<'_>,
-    kept: &[UnrelaxableGroups],
-    relocations: &[u8],
-    section: &[u8],
-    index: usize,
-    relocation: &Rela,
-) -> Option<Decision>
-    requires index { index + 4 ≤ usize.MAX }
-    requires within { index < length relocations.now / 24 }
-    requires there { relocation.now ≡ relocation_in relocations.now index }
-    requires noted { IsInLabel context.now.architecture context.now.phase relocation.now.code true →
-        IsLabelNote (context_of context.now) relocations.now section.now relocation.now stays }
-    ensures decision { IsDecisionAfter (context_of context.now) kept.now relocations.now section.now
-        index relocation.now is_taken result }
-    ensures made { IfSome result (λ d. CanBeMade d section.now relocation.now.offset) }
-    ensures matches { IfSome result (λ d. Matches d section.now relocation.now.offset) }
-{
-    if is_taken {
-        return Some(Decision::Consumed);
-    }
-    decide(
-        stays,
-        context,
-        kept,
-        relocations,
-        section,
-        index,
-        relocation,
-    )
-}
-
 /// Where what is deleted ends; 0 if nothing is.
 #[inline(always)]
 fn deleted_end(offset: u64, deleted: Option<DeletedBytes>) -> u64
@@ -500,7 +436,89 @@ pub(crate) fn end_after(start: u64, own: u64, end: u64) -> Option<u64>
     Some(own)
 }
 
-/// The same as `decide_section`, but relocations may be in the bytes of others.
+/// The rule of groups, for an architecture and a phase: all of a group are rewritten, or none is.
+#[derive(Clone, Copy)]
+struct Groups<'a> {
+    /// The architecture.
+    architecture: Architecture,
+    /// The phase.
+    phase: Phase,
+    /// What rewrites are chosen by, in that phase.
+    context: &'a RelaxContext<'a>,
+    /// Which groups stay.
+    kept: &'a [UnrelaxableGroups],
+}
+
+/// Whether no other relocation takes along the one with an index, and it stays as it is by its
+/// code, or as a call by its symbol. The scope is for the proof alone: the compiler leaves it out.
+#[inline(always)]
+fn is_left(rule: &Groups<'_>, is_taken: bool, relocations: &[u8], index: usize) -> bool
+    requires { index < length relocations.now / 24 }
+    ensures not_taken { result ≡ true → is_taken ≡ false }
+    ensures left { result ≡ true → IsLeft rule.now.architecture rule.now.phase
+        rule.now.context.now.symbols.now (relocation_in relocations.now index) }
+{
+    let (architecture, phase) = (rule.architecture, rule.phase);
+    let relocation = relocation_in(relocations, index);
+    let scope = scope_in(architecture, phase, relocation.code);
+    let listed = is_listed(architecture, phase, relocation.code);
+    !is_taken && (!listed || keeps_call(architecture, phase, rule.context.symbols, &relocation))
+}
+
+impl Rule for Groups<'_> {
+    ghost decides = { λ s bytes section. IsDecidedAfter (context_of s.context.now) s.kept.now bytes
+        section };
+
+    ghost lacks = { λ s bytes section n. IsNotSurveyed (context_of s.context.now) s.kept.now bytes
+        section n (relocation_in bytes n) };
+
+    ghost is_valid = { λ s bytes. (s.architecture ≡ s.context.now.architecture)
+        × (s.phase ≡ s.context.now.phase) };
+
+    ghost is_noted = { λ s bytes section n stays. IsInLabel s.context.now.architecture
+        s.context.now.phase (relocation_in bytes n).code true
+        → IsLabelNote (context_of s.context.now) bytes section (relocation_in bytes n) stays };
+
+    ghost start = { start_by };
+
+    ghost end = { end_by };
+
+    #[inline(always)]
+    fn leaves(&self, is_taken: bool, relocations: &[u8], index: usize) -> bool {
+        is_left(self, is_taken, relocations, index)
+    }
+
+    #[inline(always)]
+    fn decide(
+        &self,
+        is_taken: bool,
+        stays: bool,
+        relocations: &[u8],
+        section: &[u8],
+        index: usize,
+        relocation: &Rela,
+    ) -> Option<Decision> {
+        if is_taken {
+            return Some(Decision::Consumed);
+        }
+        decide(
+            stays,
+            self.context,
+            self.kept,
+            relocations,
+            section,
+            index,
+            relocation,
+        )
+    }
+
+    #[inline(always)]
+    fn span(&self, decision: &Decision, offset: u64) -> (u64, u64) {
+        span_of(decision, offset)
+    }
+}
+
+/// The same as `decide_section`, for an architecture and a phase.
 #[inline(always)]
 fn decide_all<D: AsDecision>(
     architecture: Architecture,
@@ -514,16 +532,11 @@ fn decide_all<D: AsDecision>(
     requires architecture { architecture ≡ context.now.architecture }
     requires phase { phase ≡ context.now.phase }
     ensures enough { OnOk result (length relocations.now / 24 ≤ length decisions.old) }
-    ensures decided { OnOk result (AreDecidedIn (context_of context.now) kept.now relocations.now
-        section.now (map D.decision decisions.new) (length relocations.now / 24)) }
+    ensures decided { OnOk result (AreAllDecided (IsDecidedAfter (context_of context.now) kept.now
+        relocations.now section.now) start_by end_by context.now.architecture relocations.now
+        section.now (map D.decision decisions.new)) }
     ensures left { IfOk result (λ changes. changes ≡ false
         → AreKept (map D.decision decisions.new) (length relocations.now / 24)) }
-    ensures made { OnOk result (AllCanBeMade relocations.now section.now
-        (map D.decision decisions.new) (length relocations.now / 24)) }
-    ensures matches { OnOk result (AllMatch relocations.now section.now
-        (map D.decision decisions.new) (length relocations.now / 24)) }
-    ensures apart { OnOk result (AreApart relocations.now (map D.decision decisions.new)
-        (length relocations.now / 24)) }
     ensures form { OnOk result
         (All D.is_written (take (length relocations.now / 24) decisions.new)) }
     ensures others_stay { drop (length relocations.now / 24) decisions.new
@@ -531,8 +544,7 @@ fn decide_all<D: AsDecision>(
     ensures rejected { IfErr result (IsRejectedIn (context_of context.now) kept.now relocations.now
         section.now (map D.decision decisions.new)) }
 {
-    let len = relocations_len(relocations);
-    if decisions.len() < len {
+    if decisions.len() < relocations_len(relocations) {
         return Err(RewritingError::TooShort);
     }
     if !lists_any(architecture, phase, relocations) {
@@ -540,47 +552,20 @@ fn decide_all<D: AsDecision>(
         return Ok(false);
     }
     note_labels(context, relocations, section, decisions);
-    let mut end = 0;
-    let mut is_taken = false;
-    for index in 0..len {
-        if is_left(
-            is_taken,
-            architecture,
-            phase,
-            context.symbols,
-            relocations,
-            index,
-        ) {
-            decisions[index] = D::from_decision(Decision::Kept);
-            continue;
-        }
-        let relocation = relocation_in(relocations, index);
-        let stays = is_note(&decisions[index].as_decision());
-        let Some(decision) = decide_after(
-            is_taken,
-            stays,
-            context,
-            kept,
-            relocations,
-            section,
-            index,
-            &relocation,
-        ) else {
-            return Err(RewritingError::NotSurveyed(index));
-        };
-        let (start, own) = span_of(&decision, relocation.offset);
-        let Some(new_end) = end_after(start, own, end) else {
-            return Err(RewritingError::Overlaps(index));
-        };
-        end = new_end;
-        is_taken = decision.takes_next();
-        decisions[index] = D::from_decision(decision);
-    }
+    let rule = Groups {
+        architecture,
+        phase,
+        context,
+        kept,
+    };
+    decide_by(&rule, context.architecture, relocations, section, decisions)?;
     Ok(true)
 }
 
-/// The same, compiled for each architecture and phase.
-fn decide_each<D: AsDecision>(
+/// Decides what becomes of each relocation of a section and of its instruction, in the caller's
+/// memory. Nothing is rewritten. False if all stay as they are by their codes. It is compiled for
+/// each architecture and phase.
+pub(crate) fn decide_section<D: AsDecision>(
     context: &RelaxContext<'_>,
     kept: &[UnrelaxableGroups],
     relocations: &[u8],
@@ -588,16 +573,11 @@ fn decide_each<D: AsDecision>(
     decisions: &mut [D],
 ) -> Result<bool, RewritingError>
     ensures enough { OnOk result (length relocations.now / 24 ≤ length decisions.old) }
-    ensures decided { OnOk result (AreDecidedIn (context_of context.now) kept.now relocations.now
-        section.now (map D.decision decisions.new) (length relocations.now / 24)) }
+    ensures decided { OnOk result (AreAllDecided (IsDecidedAfter (context_of context.now) kept.now
+        relocations.now section.now) start_by end_by context.now.architecture relocations.now
+        section.now (map D.decision decisions.new)) }
     ensures left { IfOk result (λ changes. changes ≡ false
         → AreKept (map D.decision decisions.new) (length relocations.now / 24)) }
-    ensures made { OnOk result (AllCanBeMade relocations.now section.now
-        (map D.decision decisions.new) (length relocations.now / 24)) }
-    ensures matches { OnOk result (AllMatch relocations.now section.now
-        (map D.decision decisions.new) (length relocations.now / 24)) }
-    ensures apart { OnOk result (AreApart relocations.now (map D.decision decisions.new)
-        (length relocations.now / 24)) }
     ensures form { OnOk result
         (All D.is_written (take (length relocations.now / 24) decisions.new)) }
     ensures others_stay { drop (length relocations.now / 24) decisions.new
@@ -610,43 +590,4 @@ fn decide_each<D: AsDecision>(
         context.phase,
         decide_all(context, kept, relocations, section, decisions)
     )
-}
-
-/// Decides what becomes of each relocation of a section and of its instruction, in the caller's
-/// memory. Nothing is rewritten. False if all stay as they are by their codes.
-pub(crate) fn decide_section<D: AsDecision>(
-    context: &RelaxContext<'_>,
-    kept: &[UnrelaxableGroups],
-    relocations: &[u8],
-    section: &[u8],
-    decisions: &mut [D],
-) -> Result<bool, RewritingError>
-    ensures enough { OnOk result (length relocations.now / 24 ≤ length decisions.old) }
-    ensures decided { OnOk result (AreDecidedIn (context_of context.now) kept.now relocations.now
-        section.now (map D.decision decisions.new) (length relocations.now / 24)) }
-    ensures left { IfOk result (λ changes. changes ≡ false
-        → AreKept (map D.decision decisions.new) (length relocations.now / 24)) }
-    ensures made { OnOk result (AllCanBeMade relocations.now section.now
-        (map D.decision decisions.new) (length relocations.now / 24)) }
-    ensures matches { OnOk result (AllMatch relocations.now section.now
-        (map D.decision decisions.new) (length relocations.now / 24)) }
-    ensures apart { OnOk result (AreApart relocations.now (map D.decision decisions.new)
-        (length relocations.now / 24)) }
-    ensures clear { OnOk result (AreClear context.now.architecture relocations.now section.now
-        (map D.decision decisions.new) (length relocations.now / 24)) }
-    ensures form { OnOk result
-        (All D.is_written (take (length relocations.now / 24) decisions.new)) }
-    ensures others_stay { drop (length relocations.now / 24) decisions.new
-        ≡ drop (length relocations.now / 24) decisions.old }
-    ensures rejected { IfErr result (IsRejectedIn (context_of context.now) kept.now relocations.now
-        section.now (map D.decision decisions.new)) }
-{
-    let changes = decide_each(context, kept, relocations, section, decisions)?;
-    if !changes {
-        return Ok(false);
-    }
-    match first_covered(context.architecture, relocations, section, decisions) {
-        Some(index) => Err(RewritingError::Overlaps(index)),
-        None => Ok(true),
-    }
 }

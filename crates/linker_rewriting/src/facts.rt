@@ -1,9 +1,8 @@
 //! What a linker knows of symbols and of the output, and what a rewrite is chosen by.
 
 ghost use Rattle.std.specs.Prelude.{◌≡◌, ◌||◌};
-ghost use Rattle.linker_rewriting.specs.Facts.{facts_of, placed_facts, address_in};
-ghost use Rattle.linker_rewriting.specs.Facts.{has_own_address, is_executable_in, facts_at};
-ghost use Rattle.linker_rewriting.specs.Facts.{link_facts};
+ghost use Rattle.linker_rewriting.specs.Facts.{facts_of, placed_facts, address_in, has_own_address};
+ghost use Rattle.linker_rewriting.specs.Facts.{is_executable_in, facts_at, link_facts};
 ghost use Rattle.linker_rewriting.specs.Facts.{may_change_toc, may_delete};
 
 use crate::phases::Phase;

@@ -2,30 +2,26 @@
 //! `auipc`: each low part takes x3 or x0 as its base, all of a symbol or none.
 
 ghost use Rattle.std.specs.Prelude.{◌≡◌, ◌↔◌, ◌+◌, ◌<◌, ◌≤◌, ◌/◌, ℕ, length, map, take, drop};
-ghost use Rattle.std.specs.Prelude.{IfSome, IfErr, IfOk, OnOk, OnErr, All, IsTrue, slice_get};
-ghost use Rattle.std.specs.Prelude.{◌&&◌, ◌==◌, true, MatchOption};
+ghost use Rattle.std.specs.Prelude.{IfSome, IfErr, IfOk, OnOk, OnErr, All, IsTrue, ◌&&◌};
+ghost use Rattle.std.specs.Prelude.{◌==◌, true, MatchOption, None, ⊤};
 ghost use Rattle.std.specs.Int.{w32, from_le_bytes};
 ghost use Rattle.linker_rewriting.specs.Agreement.{Agree, IsContradiction};
-ghost use Rattle.linker_rewriting.specs.Decisions.{AreClear};
-ghost use Rattle.linker_rewriting.specs.Decisions.{CanBeMade, AllCanBeMade, deletions_by};
-ghost use Rattle.linker_rewriting.specs.Decisions.{IsRejectedFirst};
+ghost use Rattle.linker_rewriting.specs.Decisions.{AllCanBeMade, AreClear, CanBeMade, IsWithin};
+ghost use Rattle.linker_rewriting.specs.Decisions.{Matches, deletions_by, IsRejectedFirst};
 ghost use Rattle.linker_rewriting.specs.Facts.{context};
 ghost use Rattle.linker_rewriting.specs.Inner.Contexts.{context_of};
 ghost use Rattle.linker_rewriting.specs.GlobalPointer.{part_of, IsLabelled, IsSubject, IsMember};
-ghost use Rattle.linker_rewriting.specs.GlobalPointer.{relative_high};
-ghost use Rattle.linker_rewriting.specs.RiscVPcrelGroups.{offset_of_label};
 ghost use Rattle.linker_rewriting.specs.GlobalPointer.{is_near, is_bound, address_of, has_word};
-ghost use Rattle.linker_rewriting.specs.GlobalPointer.{is_reached_by, is_high_word};
-ghost use Rattle.linker_rewriting.specs.GlobalPointer.{writes_none, is_low_word, is_expected};
-ghost use Rattle.linker_rewriting.specs.GlobalPointer.{kept_by, decided_by};
-ghost use Rattle.linker_rewriting.specs.GlobalPointer.{fits, IsKeepingSymbol, part_decision};
+ghost use Rattle.linker_rewriting.specs.GlobalPointer.{is_reached, is_high_word, writes_none};
+ghost use Rattle.linker_rewriting.specs.GlobalPointer.{is_low_word, is_expected, fits};
+ghost use Rattle.linker_rewriting.specs.GlobalPointer.{IsKeepingSymbol, part_decision};
 ghost use Rattle.linker_rewriting.specs.GlobalPointer.{AreSymbolsSurveyed, IsPartDecided};
 ghost use Rattle.linker_rewriting.specs.GlobalPointer.{ArePartsDecided, ArePartsRejected};
 ghost use Rattle.linker_rewriting.specs.GlobalPointer.{MeansSymbolsUnsurveyed, relocation_by};
 ghost use Rattle.linker_rewriting.specs.GlobalPointer.{AreRelocationsBy, ArePartsWhole};
-ghost use Rattle.linker_rewriting.specs.GlobalPointer.{ArePartsApart, part_end};
-ghost use Rattle.linker_rewriting.specs.GlobalPointer.{low_code, base_for, base_of, is_placed};
-ghost use Rattle.linker_rewriting.specs.GlobalPointer.{based_relocation, based_section};
+ghost use Rattle.linker_rewriting.specs.GlobalPointer.{ArePartsApart, part_start, part_end};
+ghost use Rattle.linker_rewriting.specs.GlobalPointer.{DecidesPart, low_code, base_for, base_of};
+ghost use Rattle.linker_rewriting.specs.GlobalPointer.{is_placed, based_relocation, based_section};
 ghost use Rattle.linker_rewriting.specs.GlobalPointer.{section_based, AreBased, IsFirstUnplaced};
 ghost use Rattle.linker_riscv64.specs.RiscVCalls.{word_at};
 ghost use Rattle.linker_riscv64.specs.RiscVFields.{opcode_of, funct3_of, rd_of, rs1_of};
@@ -34,12 +30,12 @@ ghost use Rattle.linker_section.specs.Relocations.{relocation_in};
 ghost use Rattle.linker_section.specs.Values.{IsAscending};
 
 use crate::agreement::contradiction;
-use crate::covered::first_covered;
-use crate::decisions::{AsDecision, Decision, FromDeletion, RewritingError, end_after};
+use crate::decisions::{AsDecision, Decision, FromDeletion, RewritingError};
 use crate::facts::{OutputFacts, RelaxContext, SymbolFacts, address_in};
 use crate::phases::Phase;
 use crate::relocations::relocation_in;
-use crate::riscv_pcrel_groups::{high_at, is_beyond};
+use crate::riscv_pcrel_groups::{high_at, is_beyond, label_at};
+use crate::rules::{Rule, decide_by};
 use crate::sections::list_deletions;
 use crate::sequences::is_marked_at;
 use crate::toc_indirection::{keep_word, subject_of, word_stays};
@@ -96,39 +92,16 @@ fn part_of(architecture: Architecture, code: u32) -> Option<Part>
     }
 }
 
-/// Where the label of a low part is in the section.
-#[inline(always)]
-fn label_at(addresses: &Addresses, values: &[Symbol], relocation: &Rela) -> Option<u64>
-    ensures { result ≡ offset_of_label addresses.now
-        (slice_get values.now relocation.now.symbol) }
-{
-    match values.get(relocation.symbol as usize) {
-        Some(label) => Some(label.address.wrapping_sub(addresses.section)),
-        None => None,
-    }
-}
-
-/// The code of an `auipc` of an address.
-#[inline(always)]
-fn relative_high() -> u32
-    ensures { result ≡ relative_high }
-{
-    RiscVRelocation::R_RISCV_PCREL_HI20.elf_code()
-}
-
 /// The high part at the label of a low part.
-fn labelled(
-    addresses: &Addresses,
-    values: &[Symbol],
-    relocations: &[u8],
-    relocation: &Rela,
-) -> Option<Rela>
-    ensures { IsLabelled addresses.now values.now relocations.now relocation.now result }
+fn labelled(context: &RelaxContext<'_>, relocations: &[u8], relocation: &Rela) -> Option<Rela>
+    ensures { IsLabelled context.now.addresses.now context.now.values.now relocations.now
+        relocation.now result }
 {
-    let Some(at) = label_at(addresses, values, relocation) else {
+    let Some(at) = label_at(context, relocation) else {
         return None;
     };
-    match high_at(relocations, relative_high(), at) {
+    let code = RiscVRelocation::R_RISCV_PCREL_HI20.elf_code();
+    match high_at(relocations, code, at) {
         Some(high) => Some(relocation_in(relocations, high)),
         None => None,
     }
@@ -137,16 +110,16 @@ fn labelled(
 /// The relocation whose symbol and addend are those of a part.
 #[inline(always)]
 fn part_subject(
-    addresses: &Addresses,
-    values: &[Symbol],
+    context: &RelaxContext<'_>,
     relocations: &[u8],
     relocation: &Rela,
     part: Part,
 ) -> Option<Rela>
-    ensures { IsSubject addresses.now values.now relocations.now relocation.now part result }
+    ensures { IsSubject context.now.addresses.now context.now.values.now relocations.now
+        relocation.now part result }
 {
     match part {
-        Part::Labelled(_) => labelled(addresses, values, relocations, relocation),
+        Part::Labelled(_) => labelled(context, relocations, relocation),
         Part::High(_) | Part::Low(_) => Some(*relocation),
     }
 }
@@ -162,13 +135,7 @@ fn member_of(
     let Some(part) = part_of(context.architecture, relocation.code) else {
         return None;
     };
-    match part_subject(
-        context.addresses,
-        context.values,
-        relocations,
-        relocation,
-        part,
-    ) {
+    match part_subject(context, relocations, relocation, part) {
         Some(subject) => Some((part, subject)),
         None => None,
     }
@@ -200,24 +167,17 @@ fn address_of(addresses: &Addresses, relocation: &Rela, value: &Symbol) -> u64
 }
 
 /// Whether x3 or x0 reaches what a relocation refers to.
-fn is_reached(
-    symbols: &[SymbolFacts],
-    addresses: &Addresses,
-    values: &[Symbol],
-    gp: u64,
-    relocation: &Rela,
-) -> bool
-    ensures { result ≡ is_reached_by addresses.now gp relocation.now
-        (slice_get symbols.now relocation.now.symbol) (slice_get values.now relocation.now.symbol) }
+fn is_reached(context: &RelaxContext<'_>, gp: u64, relocation: &Rela) -> bool
+    ensures { result ≡ is_reached (context_of context.now) gp relocation.now }
 {
-    let Some(symbol) = symbols.get(relocation.symbol as usize) else {
-        return false;
-    };
-    let Some(value) = values.get(relocation.symbol as usize) else {
-        return false;
-    };
-    let address = address_of(addresses, relocation, value);
-    is_bound(symbol, value) && (is_near(gp, address) || is_near(0, address))
+    let index = relocation.symbol as usize;
+    match (context.symbols.get(index), context.values.get(index)) {
+        (Some(symbol), Some(value)) => {
+            let address = address_of(context.addresses, relocation, value);
+            is_bound(symbol, value) && (is_near(gp, address) || is_near(0, address))
+        }
+        _ => false,
+    }
 }
 
 /// Whether four bytes from an offset on are in the section.
@@ -306,11 +266,20 @@ fn is_expected(section: &[u8], relocation: &Rela, part: Part, subject: &Rela) ->
     }
 }
 
+/// What parts are chosen by.
+#[derive(Clone, Copy)]
+struct Parts<'a> {
+    /// What is known of symbols and of the output, with addresses.
+    context: &'a RelaxContext<'a>,
+    /// The address of the global pointer.
+    gp: u64,
+    /// Whether the relocations ascend.
+    ascends: bool,
+}
+
 /// Whether a part can be rewritten, if all of its symbol can.
 fn fits(
-    ascends: bool,
-    context: &RelaxContext<'_>,
-    gp: u64,
+    parts: &Parts<'_>,
     relocations: &[u8],
     section: &[u8],
     index: usize,
@@ -318,85 +287,40 @@ fn fits(
     member: &(Part, Rela),
 ) -> bool
     requires { index < length relocations.now / 24 }
-    ensures { result ≡ fits (context_of context.now) gp ascends relocations.now section.now index
-        relocation.now member.now }
+    ensures { result ≡ fits (context_of parts.now.context.now) parts.now.gp parts.now.ascends
+        relocations.now section.now index relocation.now member.now }
 {
-    ascends
+    let context = parts.context;
+    parts.ascends
         && !is_beyond(relocations, relocation.offset, index)
         && context.output.is_executable
         && context.output.is_fixed
         && is_marked_at(context.architecture, relocations, index, relocation)
-        && is_reached(
-            context.symbols,
-            context.addresses,
-            context.values,
-            gp,
-            &member.1,
-        )
+        && is_reached(context, parts.gp, &member.1)
         && is_expected(section, relocation, member.0, &member.1)
-}
-
-/// The symbol that a part keeps, since it doesn't fit.
-#[inline(always)]
-fn kept_by(
-    ascends: bool,
-    context: &RelaxContext<'_>,
-    gp: u64,
-    relocations: &[u8],
-    section: &[u8],
-    index: usize,
-    relocation: &Rela,
-    member: Option<(Part, Rela)>,
-) -> Option<usize>
-    requires { index < length relocations.now / 24 }
-    ensures { result ≡ kept_by (context_of context.now) gp ascends relocations.now section.now index
-        relocation.now member }
-{
-    let Some(member) = member else {
-        return None;
-    };
-    if fits(
-        ascends,
-        context,
-        gp,
-        relocations,
-        section,
-        index,
-        relocation,
-        &member,
-    ) {
-        None
-    } else {
-        Some(member.1.symbol as usize)
-    }
 }
 
 /// The symbol that a relocation keeps, since it is of an address and doesn't fit.
 fn keeping_symbol(
-    ascends: bool,
-    context: &RelaxContext<'_>,
-    gp: u64,
+    parts: &Parts<'_>,
     relocations: &[u8],
     section: &[u8],
     index: usize,
     relocation: &Rela,
 ) -> Option<usize>
     requires index { index < length relocations.now / 24 }
-    requires ascending { IsTrue ascends ↔ IsAscending relocations.now }
-    ensures { IsKeepingSymbol (context_of context.now) gp relocations.now section.now index
-        relocation.now result }
+    requires ascending { IsTrue parts.now.ascends ↔ IsAscending relocations.now }
+    ensures { IsKeepingSymbol (context_of parts.now.context.now) parts.now.gp relocations.now
+        section.now index relocation.now result }
 {
-    let member = member_of(context, relocations, relocation);
-    kept_by(
-        ascends,
-        context,
-        gp,
-        relocations,
-        section,
-        index,
-        relocation,
-        member,
-    )
+    let Some(member) = member_of(parts.context, relocations, relocation) else {
+        return None;
+    };
+    if fits(parts, relocations, section, index, relocation, &member) {
+        None
+    } else {
+        Some(member.1.symbol as usize)
+    }
 }
 
 /// Notes which symbols of an object keep the `lui` and `auipc` of their address, since a relocation
@@ -474,18 +398,14 @@ pub fn survey_global_pointer(
         addresses,
         values,
     };
-    let ascends = is_ascending(relocations);
+    let parts = Parts {
+        context: &context,
+        gp,
+        ascends: is_ascending(relocations),
+    };
     for index in 0..relocations_len(relocations) {
         let relocation = relocation_in(relocations, index);
-        let symbol = keeping_symbol(
-            ascends,
-            &context,
-            gp,
-            relocations,
-            section,
-            index,
-            &relocation,
-        );
+        let symbol = keeping_symbol(&parts, relocations, section, index, &relocation);
         keep_word(kept, symbol);
     }
     Ok(())
@@ -511,36 +431,41 @@ fn part_decision(part: Part, subject: &Rela) -> Decision
     }
 }
 
-/// What becomes of a part. None if its symbol doesn't stay, but it doesn't fit.
-#[inline(always)]
-fn decided_by(
-    ascends: bool,
-    context: &RelaxContext<'_>,
-    gp: u64,
-    kept: &[bool],
+/// The rule of parts: all of a symbol are rewritten, or none is.
+#[derive(Clone, Copy)]
+struct Symbols<'a, 'b> {
+    /// What parts are chosen by.
+    parts: Parts<'a>,
+    /// Which symbols stay.
+    kept: &'b [bool],
+}
+
+/// What becomes of a relocation. None if its symbol doesn't stay, but it can't be rewritten.
+fn decide_part(
+    rule: &Symbols<'_, '_>,
     relocations: &[u8],
     section: &[u8],
     index: usize,
     relocation: &Rela,
-    member: Option<(Part, Rela)>,
 ) -> Option<Decision>
-    requires { index < length relocations.now / 24 }
-    ensures decision { result ≡ decided_by (context_of context.now) gp ascends kept.now
-        relocations.now section.now index relocation.now member }
+    requires index { index < length relocations.now / 24 }
+    requires ascending { IsTrue rule.now.parts.ascends ↔ IsAscending relocations.now }
+    ensures decision { IsPartDecided (context_of rule.now.parts.context.now) rule.now.parts.gp
+        rule.now.kept.now relocations.now section.now index relocation.now result }
     ensures made { IfSome result (λ d. CanBeMade d section.now relocation.now.offset) }
+    ensures matches { IfSome result (λ d. Matches d section.now relocation.now.offset) }
+    ensures within { IfSome result (IsWithin part_start part_end relocation.now.offset) }
     ensures ends { IfSome result (λ d. (limit : ℕ) → relocation.now.offset ≤ limit
         → length section.now ≤ limit → part_end d relocation.now.offset ≤ limit) }
 {
-    let Some(member) = member else {
+    let Some(member) = member_of(rule.parts.context, relocations, relocation) else {
         return Some(Decision::Kept);
     };
-    if word_stays(kept, member.1.symbol as usize) {
+    if word_stays(rule.kept, member.1.symbol as usize) {
         return Some(Decision::Kept);
     }
     if fits(
-        ascends,
-        context,
-        gp,
+        &rule.parts,
         relocations,
         section,
         index,
@@ -551,39 +476,6 @@ fn decided_by(
     } else {
         None
     }
-}
-
-/// What becomes of a relocation. None if its symbol doesn't stay, but it can't be rewritten.
-fn decide_part(
-    ascends: bool,
-    context: &RelaxContext<'_>,
-    gp: u64,
-    kept: &[bool],
-    relocations: &[u8],
-    section: &[u8],
-    index: usize,
-    relocation: &Rela,
-) -> Option<Decision>
-    requires index { index < length relocations.now / 24 }
-    requires ascending { IsTrue ascends ↔ IsAscending relocations.now }
-    ensures decision { IsPartDecided (context_of context.now) gp kept.now relocations.now
-        section.now index relocation.now result }
-    ensures made { IfSome result (λ d. CanBeMade d section.now relocation.now.offset) }
-    ensures ends { IfSome result (λ d. (limit : ℕ) → relocation.now.offset ≤ limit
-        → length section.now ≤ limit → part_end d relocation.now.offset ≤ limit) }
-{
-    let member = member_of(context, relocations, relocation);
-    decided_by(
-        ascends,
-        context,
-        gp,
-        kept,
-        relocations,
-        section,
-        index,
-        relocation,
-        member,
-    )
 }
 
 /// Where the instruction of a part ends, by its offset. That of a part that stays has no bytes
@@ -599,88 +491,42 @@ fn part_end(decision: &Decision, offset: u64) -> u64
     }
 }
 
-/// The same as `decide_parts`, but relocations may be in the bytes of others.
-fn decide_each_part<D: AsDecision>(
-    context: &RelaxContext<'_>,
-    gp: u64,
-    kept: &[bool],
-    relocations: &[u8],
-    section: &[u8],
-    decisions: &mut [D],
-) -> Result<(), RewritingError>
-    ensures enough { OnOk result (length relocations.now / 24 ≤ length decisions.old) }
-    ensures decided { OnOk result (ArePartsDecided (context_of context.now) gp kept.now
-        relocations.now section.now (map D.decision decisions.new) (length relocations.now / 24)) }
-    ensures made { OnOk result (AllCanBeMade relocations.now section.now
-        (map D.decision decisions.new) (length relocations.now / 24)) }
-    ensures apart { OnOk result (ArePartsApart relocations.now (map D.decision decisions.new)
-        (length relocations.now / 24)) }
-    ensures form { OnOk result
-        (All D.is_written (take (length relocations.now / 24) decisions.new)) }
-    ensures others_stay { drop (length relocations.now / 24) decisions.new
-        ≡ drop (length relocations.now / 24) decisions.old }
-    ensures rejected { IfErr result (λ e. (room : ℕ) → ArePartsRejected (context_of context.now) gp
-        kept.now relocations.now section.now (map D.decision decisions.new) room e) }
-{
-    let len = relocations_len(relocations);
-    if decisions.len() < len {
-        return Err(RewritingError::TooShort);
-    }
-    let ascends = is_ascending(relocations);
-    let mut end = 0;
-    for index in 0..len {
-        let relocation = relocation_in(relocations, index);
-        let Some(decision) = decide_part(
-            ascends,
-            context,
-            gp,
-            kept,
-            relocations,
-            section,
-            index,
-            &relocation,
-        ) else {
-            return Err(RewritingError::NotSurveyed(index));
-        };
-        let own = part_end(&decision, relocation.offset);
-        let Some(new_end) = end_after(relocation.offset, own, end) else {
-            return Err(RewritingError::Overlaps(index));
-        };
-        end = new_end;
-        decisions[index] = D::from_decision(decision);
-    }
-    Ok(())
-}
+impl Rule for Symbols<'_, '_> {
+    ghost decides = { λ s bytes section. DecidesPart (context_of s.parts.context.now) s.parts.gp
+        s.kept.now bytes section };
 
-/// Decides what becomes of each relocation of a section, in the caller's memory.
-fn decide_parts<D: AsDecision>(
-    context: &RelaxContext<'_>,
-    gp: u64,
-    kept: &[bool],
-    relocations: &[u8],
-    section: &[u8],
-    decisions: &mut [D],
-) -> Result<(), RewritingError>
-    ensures enough { OnOk result (length relocations.now / 24 ≤ length decisions.old) }
-    ensures decided { OnOk result (ArePartsDecided (context_of context.now) gp kept.now
-        relocations.now section.now (map D.decision decisions.new) (length relocations.now / 24)) }
-    ensures made { OnOk result (AllCanBeMade relocations.now section.now
-        (map D.decision decisions.new) (length relocations.now / 24)) }
-    ensures apart { OnOk result (ArePartsApart relocations.now (map D.decision decisions.new)
-        (length relocations.now / 24)) }
-    ensures clear { OnOk result (AreClear context.now.architecture relocations.now section.now
-        (map D.decision decisions.new) (length relocations.now / 24)) }
-    ensures form { OnOk result
-        (All D.is_written (take (length relocations.now / 24) decisions.new)) }
-    ensures others_stay { drop (length relocations.now / 24) decisions.new
-        ≡ drop (length relocations.now / 24) decisions.old }
-    ensures rejected { IfErr result (λ e. (room : ℕ) → ArePartsRejected (context_of context.now) gp
-        kept.now relocations.now section.now (map D.decision decisions.new) room e) }
-{
-    decide_each_part(context, gp, kept, relocations, section, decisions)?;
-    match first_covered(context.architecture, relocations, section, decisions) {
-        Some(index) => Err(RewritingError::Overlaps(index)),
-        None => Ok(()),
+    ghost lacks = { λ s bytes section n. IsPartDecided (context_of s.parts.context.now) s.parts.gp
+        s.kept.now bytes section n (relocation_in bytes n) None };
+
+    ghost is_valid = { λ s bytes. IsTrue s.parts.ascends ↔ IsAscending bytes };
+
+    ghost is_noted = { λ s bytes section n stays. ⊤ };
+
+    ghost start = { part_start };
+
+    ghost end = { part_end };
+
+    #[inline(always)]
+    fn leaves(&self, _is_taken: bool, _relocations: &[u8], _index: usize) -> bool {
+        false
+    }
+
+    #[inline(always)]
+    fn decide(
+        &self,
+        _is_taken: bool,
+        _stays: bool,
+        relocations: &[u8],
+        section: &[u8],
+        index: usize,
+        relocation: &Rela,
+    ) -> Option<Decision> {
+        decide_part(self, relocations, section, index, relocation)
+    }
+
+    #[inline(always)]
+    fn span(&self, decision: &Decision, offset: u64) -> (u64, u64) {
+        (offset, part_end(decision, offset))
     }
 }
 
@@ -825,6 +671,9 @@ pub fn rewrite_global_pointer<D: AsDecision, L: FromDeletion>(
     if let Some(symbol) = contradiction(symbols, values, relocations) {
         return Err(RewritingError::Contradiction(symbol));
     }
+    if decisions.len() < relocations_len(relocations) {
+        return Err(RewritingError::TooShort);
+    }
     let context = RelaxContext {
         architecture,
         phase: Phase::ShortPcRel,
@@ -833,8 +682,14 @@ pub fn rewrite_global_pointer<D: AsDecision, L: FromDeletion>(
         addresses,
         values,
     };
-    match decide_parts(&context, gp, kept, relocations, section, decisions) {
-        Ok(()) => match list_deletions(relocations, decisions, deleted) {
+    let parts = Parts {
+        context: &context,
+        gp,
+        ascends: is_ascending(relocations),
+    };
+    let rule = Symbols { parts, kept };
+    match decide_by(&rule, architecture, relocations, section, decisions) {
+        Ok(()) => match list_deletions(true, relocations, decisions, deleted) {
             Some(len) => {
                 turn_all(decisions, relocations);
                 Ok(len)

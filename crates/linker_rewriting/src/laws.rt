@@ -1,7 +1,7 @@
 //! Laws of surveys and of sections that are rewritten by them. The functions do nothing.
 
-ghost use Rattle.linker_rewriting.specs.Decisions.{DecisionsAreMade, DecisionsFollow};
-ghost use Rattle.linker_rewriting.specs.Decisions.{OneByteTells, WordsTell};
+ghost use Rattle.linker_rewriting.specs.Decisions.{DecisionsAreMade, DecisionsFollow, OneByteTells};
+ghost use Rattle.linker_rewriting.specs.Decisions.{WordsTell};
 ghost use Rattle.linker_rewriting.specs.GlobalPointer.{ArePartsWholeAcross};
 ghost use Rattle.linker_rewriting.specs.Kept.{KeptFactsTell};
 ghost use Rattle.linker_rewriting.specs.Rewritten.{GroupsAreWholeAcross, LoadsAreWhole};

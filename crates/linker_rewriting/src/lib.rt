@@ -17,6 +17,7 @@ pub mod laws;
 pub mod phases;
 mod relocations;
 mod riscv_pcrel_groups;
+mod rules;
 pub mod sections;
 mod sequences;
 pub mod surveys;

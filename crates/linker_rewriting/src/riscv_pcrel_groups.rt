@@ -1,7 +1,7 @@
 //! Groups of one label of RISC-V: a high part, and the low parts whose symbol is the label at it.
 
-ghost use Rattle.std.specs.Prelude.{◌≡◌, ◌+◌, ◌<◌, ◌≤◌, ◌/◌, ◌⊎◌, ℕ, length, IfSome, true};
-ghost use Rattle.std.specs.Prelude.{map, drop, take, All};
+ghost use Rattle.std.specs.Prelude.{◌≡◌, ◌+◌, ◌<◌, ◌≤◌, ◌/◌, ◌⊎◌, ℕ, length, IfSome, true, map};
+ghost use Rattle.std.specs.Prelude.{drop, take, All, slice_get};
 ghost use Rattle.linker_base.specs.Rewrite.{CanRewrite};
 ghost use Rattle.linker_utils.specs.Relaxations.{relaxation_rewrite, relaxation_deleted};
 ghost use Rattle.linker_utils.specs.Relaxations.{relaxation_matches};
@@ -11,10 +11,9 @@ ghost use Rattle.linker_rewriting.specs.Candidates.{deletes_within};
 ghost use Rattle.linker_rewriting.specs.Decisions.{decision_at};
 ghost use Rattle.linker_rewriting.specs.Inner.Contexts.{context_of};
 ghost use Rattle.linker_rewriting.specs.RiscVPcrelGroups.{high_code, IsHighAt, label_offset};
-ghost use Rattle.linker_rewriting.specs.RiscVPcrelGroups.{IsHighOf};
-ghost use Rattle.linker_rewriting.specs.RiscVPcrelGroups.{is_beyond, searched};
-ghost use Rattle.linker_rewriting.specs.RiscVPcrelGroups.{is_labelled, IsInLabel, is_label_marked};
-ghost use Rattle.linker_rewriting.specs.RiscVPcrelGroups.{has_labels};
+ghost use Rattle.linker_rewriting.specs.RiscVPcrelGroups.{IsHighOf, offset_of_label, is_beyond};
+ghost use Rattle.linker_rewriting.specs.RiscVPcrelGroups.{searched, is_labelled, IsInLabel};
+ghost use Rattle.linker_rewriting.specs.RiscVPcrelGroups.{is_label_marked, has_labels};
 ghost use Rattle.linker_rewriting.specs.RiscVPcrelGroups.{without_entry, IsLabelCandidate};
 ghost use Rattle.linker_rewriting.specs.RiscVPcrelGroups.{IsLacking};
 ghost use Rattle.linker_rewriting.specs.Notes.{is_note, AreHighsNoted, IsNoteOf, AreLabelsNoted};
@@ -91,39 +90,44 @@ pub(crate) fn high_at(relocations: &[u8], code: u32, at: u64) -> Option<usize>
     None
 }
 
+/// Where the label is in the section that is a relocation's symbol.
+#[inline(always)]
+pub(crate) fn label_at(context: &RelaxContext<'_>, relocation: &Rela) -> Option<u64>
+    ensures { result ≡ offset_of_label context.now.addresses.now
+        (slice_get context.now.values.now relocation.now.symbol) }
+{
+    match context.values.get(relocation.symbol as usize) {
+        Some(label) => Some(label.address.wrapping_sub(context.addresses.section)),
+        None => None,
+    }
+}
+
 /// Where the label of a relocation is in the section.
 #[inline(always)]
-fn label_offset(
-    phase: Phase,
-    addresses: &Addresses,
-    values: &[Symbol],
-    relocation: &Rela,
-) -> Option<u64>
-    ensures { result ≡ label_offset phase addresses.now values.now relocation.now }
+fn label_offset(context: &RelaxContext<'_>, relocation: &Rela) -> Option<u64>
+    ensures { result ≡ label_offset context.now.phase context.now.addresses.now
+        context.now.values.now relocation.now }
 {
-    if relocation.code == high_code(phase) {
-        return Some(relocation.offset);
-    }
-    match values.get(relocation.symbol as usize) {
-        Some(label) => Some(label.address.wrapping_sub(addresses.section)),
-        None => None,
+    if relocation.code == high_code(context.phase) {
+        Some(relocation.offset)
+    } else {
+        label_at(context, relocation)
     }
 }
 
 /// The index of the high part at the label of a relocation, among relocations that ascend.
 pub(crate) fn high_of(
-    phase: Phase,
-    addresses: &Addresses,
-    values: &[Symbol],
+    context: &RelaxContext<'_>,
     relocations: &[u8],
     relocation: &Rela,
 ) -> Option<usize>
     ensures within { IfSome result (λ high. high < length relocations.now / 24) }
     ensures high { IsAscending relocations.now
-        → IsHighOf phase addresses.now values.now relocations.now relocation.now result }
+        → IsHighOf context.now.phase context.now.addresses.now context.now.values.now
+        relocations.now relocation.now result }
 {
-    match label_offset(phase, addresses, values, relocation) {
-        Some(at) => high_at(relocations, high_code(phase), at),
+    match label_offset(context, relocation) {
+        Some(at) => high_at(relocations, high_code(context.phase), at),
         None => None,
     }
 }
@@ -147,8 +151,7 @@ pub(crate) fn is_in_label(architecture: Architecture, phase: Phase, code: u32) -
 /// Whether the mark is there that counts for a relocation with a high part.
 #[inline(always)]
 fn is_label_marked(
-    architecture: Architecture,
-    phase: Phase,
+    context: &RelaxContext<'_>,
     relocations: &[u8],
     index: usize,
     relocation: &Rela,
@@ -156,10 +159,11 @@ fn is_label_marked(
 ) -> bool
     requires index { index + 3 ≤ usize.MAX }
     requires high { high < length relocations.now / 24 }
-    ensures { result
-        ≡ is_label_marked architecture phase relocations.now index relocation.now high }
+    ensures { result ≡ is_label_marked context.now.architecture context.now.phase relocations.now
+        index relocation.now high }
 {
-    match phase {
+    let architecture = context.architecture;
+    match context.phase {
         Phase::TlsLocalExec => {
             let part = relocation_in(relocations, high);
             is_marked_at(architecture, relocations, high, &part)
@@ -207,27 +211,9 @@ pub(crate) fn label_candidate(
         (relaxation_deleted chosen.kind) ≡ true) }
 {
     let part = relocation_in(relocations, high);
-    let marked = is_label_marked(
-        context.architecture,
-        context.phase,
-        relocations,
-        index,
-        relocation,
-        high,
-    );
+    let marked = is_label_marked(context, relocations, index, relocation, high);
     let facts = without_entry(link_facts(context, &part, &part, marked));
-    match facts {
-        Some(facts) => candidate_by(
-            context.architecture,
-            context.symbols,
-            relocations,
-            section,
-            index,
-            relocation,
-            &facts,
-        ),
-        None => None,
-    }
+    candidate_by(context, relocations, section, index, relocation, &facts)
 }
 
 /// The index of the high part whose group stays, since this relocation is of it and has no rewrite.
@@ -246,13 +232,7 @@ fn lacking(
     if !is_in_label(context.architecture, context.phase, relocation.code) {
         return None;
     }
-    let Some(high) = high_of(
-        context.phase,
-        context.addresses,
-        context.values,
-        relocations,
-        relocation,
-    ) else {
+    let Some(high) = high_of(context, relocations, relocation) else {
         return None;
     };
     match label_candidate(context, relocations, section, index, relocation, high) {
@@ -311,19 +291,17 @@ fn note_highs<D: AsDecision>(
 /// What is noted of the group of a relocation: at its high part; it stays where there is none.
 #[inline(always)]
 fn note_of<D: AsDecision>(
-    phase: Phase,
-    addresses: &Addresses,
-    values: &[Symbol],
+    context: &RelaxContext<'_>,
     relocations: &[u8],
     decisions: &[D],
     relocation: &Rela,
 ) -> Decision
     requires ascending { IsAscending relocations.now }
     requires enough { length relocations.now / 24 ≤ length decisions.now }
-    ensures { IsNoteOf phase addresses.now values.now relocations.now
-        (map D.decision decisions.now) relocation.now result }
+    ensures { IsNoteOf context.now.phase context.now.addresses.now context.now.values.now
+        relocations.now (map D.decision decisions.now) relocation.now result }
 {
-    match high_of(phase, addresses, values, relocations, relocation) {
+    match high_of(context, relocations, relocation) {
         Some(high) => decisions[high].as_decision(),
         None => Decision::Consumed,
     }
@@ -350,14 +328,7 @@ fn copy_notes<D: AsDecision>(
         if !is_in_label(context.architecture, context.phase, relocation.code) {
             continue;
         }
-        let note = note_of(
-            context.phase,
-            context.addresses,
-            context.values,
-            relocations,
-            decisions,
-            &relocation,
-        );
+        let note = note_of(context, relocations, decisions, &relocation);
         decisions[index] = D::from_decision(note);
     }
 }

@@ -4,11 +4,11 @@ ghost use Rattle.std.specs.Prelude.{◌≡◌, ◌<◌, ◌≤◌, ◌/◌, ℕ,
 ghost use Rattle.std.specs.Prelude.{IfNone, OnOk, OnErr, All, map, drop, false};
 ghost use Rattle.linker_section.specs.Relocations.{relocation_in};
 ghost use Rattle.linker_rewriting.specs.Agreement.{Agree};
-ghost use Rattle.linker_rewriting.specs.Decisions.{AreClear};
-ghost use Rattle.linker_rewriting.specs.Decisions.{CanBeMade, AllCanBeMade, AreDecided, AreApart};
-ghost use Rattle.linker_rewriting.specs.Decisions.{AreDecidedIn, IsRejected, IsRejectedPlaced};
-ghost use Rattle.linker_rewriting.specs.Decisions.{decision_at, deleted_of, deleted_end};
-ghost use Rattle.linker_rewriting.specs.Decisions.{deletions_by, AllMatch, AllKeepBytes, IsUnmade};
+ghost use Rattle.linker_rewriting.specs.Decisions.{AreClear, CanBeMade, AllCanBeMade, AreDecided};
+ghost use Rattle.linker_rewriting.specs.Decisions.{AreApart, AreDecidedIn, IsRejected};
+ghost use Rattle.linker_rewriting.specs.Decisions.{IsRejectedPlaced, decision_at, deleted_of};
+ghost use Rattle.linker_rewriting.specs.Decisions.{deleted_end, deletions_by, AllMatch};
+ghost use Rattle.linker_rewriting.specs.Decisions.{AllKeepBytes, IsUnmade};
 ghost use Rattle.linker_rewriting.specs.Facts.{pre_layout, context};
 ghost use Rattle.linker_rewriting.specs.Inner.Left.{AreKept};
 ghost use Rattle.linker_rewriting.specs.Rewritten.{section_after, relocation_after, AreDone};
@@ -56,33 +56,8 @@ fn make(decision: Decision, relocation: &mut Rela, section: &mut [u8])
     }
 }
 
-/// Makes what was decided.
-pub(crate) fn make_all<D: AsDecision>(decisions: &[D], relocations: &mut [u8], section: &mut [u8])
-    requires made { AllCanBeMade relocations.old section.old (map D.decision decisions.now)
-        (length relocations.old / 24) }
-    requires apart { AreApart relocations.old (map D.decision decisions.now)
-        (length relocations.old / 24) }
-    requires enough { length relocations.old / 24 ≤ length decisions.now }
-    ensures relocations { AreRelocationsAfter (map D.decision decisions.now) relocations.old
-        relocations.new (length relocations.old / 24) }
-    ensures done { AreDone relocations.old (map D.decision decisions.now) section.old section.new
-        (length relocations.old / 24) }
-    ensures others { OthersStay relocations.old (map D.decision decisions.now) section.old
-        section.new (length relocations.old / 24) }
-{
-    for index in 0..relocations_len(relocations) {
-        let decision = decisions[index].as_decision();
-        if let Decision::Kept = decision {
-            continue;
-        }
-        let mut relocation = relocation_in(relocations, index);
-        make(decision, &mut relocation, section);
-        set_relocation(relocations, index, &relocation);
-    }
-}
-
 /// Makes what was decided, if anything changes.
-fn make_changes<D: AsDecision>(
+pub(crate) fn make_all<D: AsDecision>(
     changes: bool,
     decisions: &[D],
     relocations: &mut [u8],
@@ -102,54 +77,18 @@ fn make_changes<D: AsDecision>(
     ensures others { OthersStay relocations.old (map D.decision decisions.now) section.old
         section.new (length relocations.old / 24) }
 {
-    if changes {
-        make_all(decisions, relocations, section);
+    if !changes {
+        return;
     }
-}
-
-/// Decides before layout. False if all relocations stay as they are by their codes.
-fn decide_pre_layout<D: AsDecision>(
-    architecture: Architecture,
-    output: &OutputFacts,
-    symbols: &[SymbolFacts],
-    kept: &[UnrelaxableGroups],
-    relocations: &[u8],
-    section: &[u8],
-    decisions: &mut [D],
-) -> Result<bool, RewritingError>
-    ensures enough { OnOk result (length relocations.now / 24 ≤ length decisions.old) }
-    ensures decided { OnOk result (AreDecided architecture output.now symbols.now kept.now
-        relocations.now section.now (map D.decision decisions.new) (length relocations.now / 24)) }
-    ensures left { IfOk result (λ changes. changes ≡ false
-        → AreKept (map D.decision decisions.new) (length relocations.now / 24)) }
-    ensures groups { OnOk result (GroupsAreWhole architecture relocations.now
-        (map D.decision decisions.new) (length relocations.now / 24)) }
-    ensures within { OnOk result (AllCanBeMade relocations.now section.now
-        (map D.decision decisions.new) (length relocations.now / 24)) }
-    ensures matches { OnOk result (AllMatch relocations.now section.now
-        (map D.decision decisions.new) (length relocations.now / 24)) }
-    ensures apart { OnOk result (AreApart relocations.now (map D.decision decisions.new)
-        (length relocations.now / 24)) }
-    ensures clear { OnOk result (AreClear architecture relocations.now section.now
-        (map D.decision decisions.new) (length relocations.now / 24)) }
-    ensures form { OnOk result
-        (All D.is_written (take (length relocations.now / 24) decisions.new)) }
-    ensures others_stay { drop (length relocations.now / 24) decisions.new
-        ≡ drop (length relocations.now / 24) decisions.old }
-    ensures rejected { IfErr result (IsRejected architecture output.now symbols.now kept.now
-        relocations.now section.now (map D.decision decisions.new)) }
-    ensures surveyed { IfErr result (MeansUnsurveyed (pre_layout architecture output.now symbols.now)
-        relocations.now section.now kept.now) }
-{
-    let context = RelaxContext {
-        architecture,
-        phase: Phase::PreLayout,
-        output,
-        symbols,
-        addresses: &NO_ADDRESSES,
-        values: &[],
-    };
-    decide_section(&context, kept, relocations, section, decisions)
+    for index in 0..relocations_len(relocations) {
+        let decision = decisions[index].as_decision();
+        if let Decision::Kept = decision {
+            continue;
+        }
+        let mut relocation = relocation_in(relocations, index);
+        make(decision, &mut relocation, section);
+        set_relocation(relocations, index, &relocation);
+    }
 }
 
 /// Rewrites the instructions of a section of code as `choose` says before addresses are known, and
@@ -250,17 +189,17 @@ pub fn rewrite_section<D: AsDecision>(
     ensures section { OnErr result (section.new ≡ section.old) }
     ensures entries { OnErr result (relocations.new ≡ relocations.old) }
 {
-    match decide_pre_layout(
+    let context = RelaxContext {
         architecture,
+        phase: Phase::PreLayout,
         output,
         symbols,
-        kept,
-        relocations,
-        section,
-        decisions,
-    ) {
+        addresses: &NO_ADDRESSES,
+        values: &[],
+    };
+    match decide_section(&context, kept, relocations, section, decisions) {
         Ok(changes) => {
-            make_changes(changes, decisions, relocations, section);
+            make_all(changes, decisions, relocations, section);
             Ok(())
         }
         Err(error) => Err(error),
@@ -348,19 +287,17 @@ pub fn decide_rewrites<D: AsKeptDecision>(
     ensures surveyed { IfErr result (MeansUnsurveyed (pre_layout architecture output.now symbols.now)
         relocations.now section.now kept.now) }
 {
-    match decide_pre_layout(
+    let context = RelaxContext {
         architecture,
+        phase: Phase::PreLayout,
         output,
         symbols,
-        kept,
-        relocations,
-        section,
-        decisions,
-    ) {
+        addresses: &NO_ADDRESSES,
+        values: &[],
+    };
+    match decide_section(&context, kept, relocations, section, decisions) {
         Ok(changes) => {
-            if changes {
-                keep_bytes(relocations, section, decisions);
-            }
+            keep_bytes(changes, relocations, section, decisions);
             Ok(())
         }
         Err(error) => Err(error),
@@ -417,46 +354,13 @@ pub fn make_rewrites<D: AsKeptDecision>(
     ensures entries { OnErr result (relocations.new ≡ relocations.old) }
 {
     check_decisions(relocations, section, decisions)?;
-    make_all(decisions, relocations, section);
+    make_all(true, decisions, relocations, section);
     Ok(())
 }
 
-/// Lists what decisions delete, in the caller's memory. Returns how many there are; none where
-/// there is less room.
+/// Lists what decisions delete, if anything changes, in the caller's memory. Returns how many there
+/// are; none where there is less room.
 pub(crate) fn list_deletions<D: AsDecision, L: FromDeletion>(
-    relocations: &[u8],
-    decisions: &[D],
-    deleted: &mut [L],
-) -> Option<usize>
-    requires enough { length relocations.now / 24 ≤ length decisions.now }
-    requires fit { (n : ℕ) → n < length relocations.now / 24
-        → deleted_end (relocation_in relocations.now n).offset
-        (deleted_of (decision_at (map D.decision decisions.now) n)) ≤ u64.MAX }
-    ensures listed { IfSome result (λ len. take len (map L.deletion deleted.new)
-        ≡ deletions_by relocations.now (map D.decision decisions.now)
-        (length relocations.now / 24)) }
-    ensures others_stay { IfSome result (λ len. drop len deleted.new ≡ drop len deleted.old) }
-    ensures short { IfNone result (length deleted.old
-        < length (deletions_by relocations.now (map D.decision decisions.now)
-        (length relocations.now / 24))) }
-{
-    let mut len = 0;
-    for index in 0..relocations_len(relocations) {
-        let Some(bytes) = decisions[index].as_decision().deleted() else {
-            continue;
-        };
-        if deleted.len() <= len {
-            return None;
-        }
-        let relocation = relocation_in(relocations, index);
-        deleted[len] = L::from_deletion(relocation.offset + bytes.start, bytes.count);
-        len += 1;
-    }
-    Some(len)
-}
-
-/// Lists what decisions delete, if anything changes, as `list_deletions` says.
-fn list_changes<D: AsDecision, L: FromDeletion>(
     changes: bool,
     relocations: &[u8],
     decisions: &[D],
@@ -476,11 +380,22 @@ fn list_changes<D: AsDecision, L: FromDeletion>(
         < length (deletions_by relocations.now (map D.decision decisions.now)
         (length relocations.now / 24))) }
 {
-    if changes {
-        list_deletions(relocations, decisions, deleted)
-    } else {
-        Some(0)
+    if !changes {
+        return Some(0);
     }
+    let mut len = 0;
+    for index in 0..relocations_len(relocations) {
+        let Some(bytes) = decisions[index].as_decision().deleted() else {
+            continue;
+        };
+        if deleted.len() <= len {
+            return None;
+        }
+        let relocation = relocation_in(relocations, index);
+        deleted[len] = L::from_deletion(relocation.offset + bytes.start, bytes.count);
+        len += 1;
+    }
+    Some(len)
 }
 
 /// Rewrites the instructions of a section of code in a phase, once addresses are known, and turns
@@ -621,9 +536,9 @@ pub fn rewrite_placed_section<D: AsDecision, L: FromDeletion>(
         values,
     };
     match decide_section(&context, kept, relocations, section, decisions) {
-        Ok(changes) => match list_changes(changes, relocations, decisions, deleted) {
+        Ok(changes) => match list_deletions(changes, relocations, decisions, deleted) {
             Some(len) => {
-                make_changes(changes, decisions, relocations, section);
+                make_all(changes, decisions, relocations, section);
                 Ok(len)
             }
             None => Err(RewritingError::TooShort),

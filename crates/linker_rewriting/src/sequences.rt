@@ -2,9 +2,9 @@
 
 ghost use Rattle.std.specs.Prelude.{◌≡◌, ◌+◌, ◌≤◌, length};
 ghost use Rattle.linker_rewriting.specs.Sequences.{mark_code, is_mark_of, is_marked_at};
-ghost use Rattle.linker_rewriting.specs.Sequences.{mark_code_in, is_marked_in};
-ghost use Rattle.linker_rewriting.specs.Sequences.{is_tied, is_member, are_members, is_among};
-ghost use Rattle.linker_rewriting.specs.Sequences.{is_place, is_whole_in, is_whole};
+ghost use Rattle.linker_rewriting.specs.Sequences.{mark_code_in, is_marked_in, is_tied, is_member};
+ghost use Rattle.linker_rewriting.specs.Sequences.{are_members, is_among, is_place, is_whole_in};
+ghost use Rattle.linker_rewriting.specs.Sequences.{is_whole};
 
 use crate::phases::Phase;
 use linker_section::relocations::{Rela, relocation_at};

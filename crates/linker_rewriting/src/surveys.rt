@@ -1,14 +1,13 @@
 //! Which groups of an object stay as they are, since one of their instructions can't be rewritten.
 
-ghost use Rattle.std.specs.Prelude.{◌≡◌, ◌+◌, ◌<◌, ◌≤◌, ◌/◌, ℕ, length, slice_get, true};
-ghost use Rattle.std.specs.Prelude.{OnOk, IfErr, OnErr};
+ghost use Rattle.std.specs.Prelude.{◌≡◌, ◌+◌, ◌<◌, ◌≤◌, ◌/◌, ℕ, length, slice_get, true, OnOk};
+ghost use Rattle.std.specs.Prelude.{IfErr, OnErr};
 ghost use Rattle.linker_section.specs.Relocations.{relocation_in};
 ghost use Rattle.linker_rewriting.specs.Agreement.{Agree, IsContradiction};
 ghost use Rattle.linker_rewriting.specs.Candidates.{calls_tls_get_addr};
 ghost use Rattle.linker_rewriting.specs.Facts.{context};
 ghost use Rattle.linker_rewriting.specs.Inner.Contexts.{context_of};
-ghost use Rattle.linker_rewriting.specs.Inner.Codes.{needs_mark};
-ghost use Rattle.linker_rewriting.specs.Inner.Codes.{KeepsNone};
+ghost use Rattle.linker_rewriting.specs.Inner.Codes.{needs_mark, KeepsNone};
 ghost use Rattle.linker_rewriting.specs.Surveys.{IsKeeping, IsMarked, IsUnmarkedIn, IsUnmarkedBy};
 ghost use Rattle.linker_rewriting.specs.Surveys.{AreKeptToo, IsGroup, IsGroupOf, IsOfThreads};
 ghost use Rattle.linker_rewriting.specs.Surveys.{IsSurveyed, IsSurveyedIn};
@@ -123,20 +122,18 @@ fn ppc64_is_unmarked(
 /// Whether a relocation is one that keeps all thread-local storage of its object.
 #[inline(always)]
 fn is_unmarked(
-    architecture: Architecture,
-    phase: Phase,
-    symbols: &[SymbolFacts],
+    context: &RelaxContext<'_>,
     relocations: &[u8],
     index: usize,
     relocation: &Rela,
 ) -> bool
     requires { index ≤ length relocations.now / 24 }
-    ensures { IsUnmarkedIn phase architecture symbols.now relocations.now index relocation.now
-        result }
+    ensures { IsUnmarkedIn context.now.phase context.now.architecture context.now.symbols.now
+        relocations.now index relocation.now result }
 {
-    match (phase, architecture) {
+    match (context.phase, context.architecture) {
         (Phase::PreLayout, Architecture::Ppc64) => {
-            ppc64_is_unmarked(symbols, relocations, index, relocation)
+            ppc64_is_unmarked(context.symbols, relocations, index, relocation)
         }
         _ => false,
     }
@@ -239,14 +236,7 @@ fn survey_in(
         let relocation = relocation_in(relocations, index);
         let group = keeping(context, relocations, section, index, &relocation);
         keep_group(kept, group, relocation.symbol);
-        let unmarked = is_unmarked(
-            context.architecture,
-            context.phase,
-            context.symbols,
-            relocations,
-            index,
-            &relocation,
-        );
+        let unmarked = is_unmarked(context, relocations, index, &relocation);
         keep_threads(kept, unmarked);
         index = next_keeping(context, relocations, index + 1);
     }

@@ -2,37 +2,36 @@
 //! `.toc`. Nothing changes such a word, so that once addresses are known the instructions may
 //! compute its address: all that load it, or none.
 
-ghost use Rattle.std.specs.Prelude.{◌≡◌, ◌⊎◌, ◌↔◌, ◌+◌, ◌<◌, ◌≤◌, ◌/◌, ℕ, length, map, take};
-ghost use Rattle.std.specs.Prelude.{drop, IfSome, IfErr, OnOk, OnErr, All, true};
+ghost use Rattle.std.specs.Prelude.{◌≡◌, ◌⊎◌, ◌↔◌, ◌+◌, ◌<◌, ◌≤◌, ◌/◌, ℕ, length, map, take, drop};
+ghost use Rattle.std.specs.Prelude.{IfSome, IfErr, OnOk, OnErr, All, true, ⊤};
 ghost use Rattle.linker_base.specs.Rewrite.{CanRewrite};
 ghost use Rattle.linker_rewriting.specs.Agreement.{Agree, IsContradiction};
 ghost use Rattle.linker_rewriting.specs.Candidates.{deletes_within};
-ghost use Rattle.linker_rewriting.specs.Decisions.{AreClear};
-ghost use Rattle.linker_rewriting.specs.Decisions.{CanBeMade, AllCanBeMade, AreApart};
+ghost use Rattle.linker_rewriting.specs.Decisions.{AreApart, AreClear, CanBeMade, Matches};
+ghost use Rattle.linker_rewriting.specs.Decisions.{start_by, end_by};
 ghost use Rattle.linker_rewriting.specs.Facts.{context};
 ghost use Rattle.linker_rewriting.specs.Inner.Contexts.{context_of};
 ghost use Rattle.linker_rewriting.specs.Inner.TocIndirection.{IsThatWord, with_code};
 ghost use Rattle.linker_rewriting.specs.Rewritten.{AreRelocationsAfter, AreDone, OthersStay};
 ghost use Rattle.linker_rewriting.specs.TocIndirection.{entry_code, word_code, word_offset};
-ghost use Rattle.linker_rewriting.specs.TocIndirection.{subject_of};
-ghost use Rattle.linker_rewriting.specs.TocIndirection.{IsLoad, IsLoadCandidate, word_stays};
-ghost use Rattle.linker_rewriting.specs.TocIndirection.{IsKeepingWord};
-ghost use Rattle.linker_rewriting.specs.TocIndirection.{AreLoadsSurveyed, IsLoadDecided};
-ghost use Rattle.linker_rewriting.specs.TocIndirection.{AreLoadsDecided};
-ghost use Rattle.linker_rewriting.specs.TocIndirection.{AreLoadsRejected, MeansWordsUnsurveyed};
-ghost use Rattle.linker_rewriting.specs.TocIndirection.{AreLoadsRejectedFirst};
-ghost use Rattle.linker_rewriting.specs.TocIndirection.{WordsAreWhole};
+ghost use Rattle.linker_rewriting.specs.TocIndirection.{subject_of, DecidesLoad, IsLoad};
+ghost use Rattle.linker_rewriting.specs.TocIndirection.{IsLoadCandidate, word_stays, IsKeepingWord};
+ghost use Rattle.linker_rewriting.specs.TocIndirection.{IsLoadNotSurveyed, AreLoadsSurveyed};
+ghost use Rattle.linker_rewriting.specs.TocIndirection.{IsLoadDecided, AreLoadsDecided};
+ghost use Rattle.linker_rewriting.specs.TocIndirection.{MeansWordsUnsurveyed};
+ghost use Rattle.linker_rewriting.specs.TocIndirection.{AreLoadsRejectedFirst, WordsAreWhole};
 ghost use Rattle.linker_section.specs.Relocations.{relocation_in};
 ghost use Rattle.linker_utils.specs.Relaxations.{relaxation_rewrite, relaxation_deleted};
+ghost use Rattle.linker_utils.specs.Relaxations.{relaxation_matches};
 
 use crate::agreement::contradiction;
 use crate::candidates::candidate_by;
-use crate::covered::first_covered;
-use crate::decisions::{AsDecision, Decision, RewritingError, Subject, end_after, span_of};
+use crate::decisions::{AsDecision, Decision, RewritingError, Subject, span_of};
 use crate::facts::{OutputFacts, RelaxContext, SymbolFacts, address_in, link_facts};
 use crate::phases::Phase;
 use crate::relocations::relocation_in;
 use crate::riscv_pcrel_groups::high_at;
+use crate::rules::{Rule, decide_by};
 use crate::sections::make_all;
 use linker_section::facts::{Addresses, Symbol};
 use linker_section::relocations::{Rela, relocations_len};
@@ -89,24 +88,32 @@ fn word_offset(
     }
 }
 
+/// The words of an object's section of addresses, and what loads of them are chosen by.
+#[derive(Clone, Copy)]
+struct Words<'a> {
+    /// What rewrites are chosen by.
+    context: &'a RelaxContext<'a>,
+    /// The address of the section of words.
+    start: u64,
+    /// The relocations of the words.
+    relocations: &'a [u8],
+}
+
 /// What a relocation loads: the code for an entry of the GOT, and the index of the word's
 /// relocation.
-fn load_of(
-    context: &RelaxContext<'_>,
-    start: u64,
-    words: &[u8],
-    relocation: &Rela,
-) -> Option<(u32, usize)>
-    ensures within { IfSome result (λ load. load.1 < length words.now / 24) }
-    ensures load { IsLoad (context_of context.now) start words.now relocation.now result }
+fn load_of(words: &Words<'_>, relocation: &Rela) -> Option<(u32, usize)>
+    ensures within { IfSome result (λ load. load.1 < length words.now.relocations.now / 24) }
+    ensures load { IsLoad (context_of words.now.context.now) words.now.start
+        words.now.relocations.now relocation.now result }
 {
+    let context = words.context;
     let Some(entry) = entry_code(context.architecture, relocation.code) else {
         return None;
     };
-    let Some(at) = word_offset(context.addresses, context.values, start, relocation) else {
+    let Some(at) = word_offset(context.addresses, context.values, words.start, relocation) else {
         return None;
     };
-    match high_at(words, word_code(), at) {
+    match high_at(words.relocations, word_code(), at) {
         Some(word) => Some((entry, word)),
         None => None,
     }
@@ -126,8 +133,7 @@ fn with_code(code: u32, relocation: &Rela) -> Rela
 /// The rewrite of a load, if each other one of the word is rewritten.
 #[inline(always)]
 fn load_candidate(
-    context: &RelaxContext<'_>,
-    words: &[u8],
+    words: &Words<'_>,
     relocations: &[u8],
     section: &[u8],
     index: usize,
@@ -135,30 +141,28 @@ fn load_candidate(
     load: (u32, usize),
 ) -> Option<Choice<Relaxation, u32>>
     requires index { index + 3 ≤ usize.MAX }
-    requires within { load.1 < length words.now / 24 }
-    ensures candidate { IsLoadCandidate (context_of context.now) words.now relocations.now
-        section.now index relocation.now load result }
+    requires within { load.1 < length words.now.relocations.now / 24 }
+    ensures candidate { IsLoadCandidate (context_of words.now.context.now)
+        words.now.relocations.now relocations.now section.now index relocation.now load result }
+    ensures matches { IfSome result (λ chosen. relaxation_matches chosen.kind section.now
+        relocation.now.offset) }
     ensures rewritable { IfSome result (λ chosen. CanRewrite (relaxation_rewrite chosen.kind)
         section.now relocation.now.offset) }
     ensures deletes { IfSome result (λ chosen. deletes_within section.now relocation.now.offset
         (relaxation_deleted chosen.kind) ≡ true) }
 {
     let (entry, word) = load;
-    let word = relocation_in(words, word);
-    let facts = link_facts(context, relocation, &word, false);
+    let word = relocation_in(words.relocations, word);
+    let facts = link_facts(words.context, relocation, &word, false);
     let of_entry = with_code(entry, relocation);
-    match &facts {
-        Some(facts) => candidate_by(
-            context.architecture,
-            context.symbols,
-            relocations,
-            section,
-            index,
-            &of_entry,
-            facts,
-        ),
-        None => None,
-    }
+    candidate_by(
+        words.context,
+        relocations,
+        section,
+        index,
+        &of_entry,
+        &facts,
+    )
 }
 
 /// Whether a word stays, by the index of its relocation.
@@ -188,30 +192,20 @@ pub(crate) fn keep_word(kept: &mut [bool], word: Option<usize>)
 /// The word that a relocation keeps, since it loads it and has no rewrite.
 #[inline(always)]
 fn keeping_word(
-    context: &RelaxContext<'_>,
-    start: u64,
-    words: &[u8],
+    words: &Words<'_>,
     relocations: &[u8],
     section: &[u8],
     index: usize,
     relocation: &Rela,
 ) -> Option<usize>
     requires { index + 3 ≤ usize.MAX }
-    ensures { IsKeepingWord (context_of context.now) start words.now relocations.now section.now
-        index relocation.now result }
+    ensures { IsKeepingWord (context_of words.now.context.now) words.now.start
+        words.now.relocations.now relocations.now section.now index relocation.now result }
 {
-    let Some(load) = load_of(context, start, words, relocation) else {
+    let Some(load) = load_of(words, relocation) else {
         return None;
     };
-    match load_candidate(
-        context,
-        words,
-        relocations,
-        section,
-        index,
-        relocation,
-        load,
-    ) {
+    match load_candidate(words, relocations, section, index, relocation, load) {
         Some(_) => None,
         None => Some(load.1),
     }
@@ -298,17 +292,14 @@ pub fn survey_toc_loads(
         addresses,
         values,
     };
+    let words = Words {
+        context: &context,
+        start: words_start,
+        relocations: words,
+    };
     for index in 0..relocations_len(relocations) {
         let relocation = relocation_in(relocations, index);
-        let word = keeping_word(
-            &context,
-            words_start,
-            words,
-            relocations,
-            section,
-            index,
-            &relocation,
-        );
+        let word = keeping_word(&words, relocations, section, index, &relocation);
         keep_word(kept, word);
     }
     Ok(())
@@ -325,129 +316,82 @@ pub(crate) fn subject_of(word: &Rela) -> Subject
     }
 }
 
+/// The rule of loads: all of a word are rewritten, or none is.
+#[derive(Clone, Copy)]
+struct Loads<'a, 'b> {
+    /// The words.
+    words: Words<'a>,
+    /// Which words stay.
+    kept: &'b [bool],
+}
+
 /// What becomes of a relocation. None if it loads a word that doesn't stay, but can't be rewritten.
 fn decide_load(
-    context: &RelaxContext<'_>,
-    start: u64,
-    words: &[u8],
-    kept: &[bool],
+    rule: &Loads<'_, '_>,
     relocations: &[u8],
     section: &[u8],
     index: usize,
     relocation: &Rela,
 ) -> Option<Decision>
     requires { index + 3 ≤ usize.MAX }
-    ensures decision { IsLoadDecided (context_of context.now) start words.now kept.now
-        relocations.now section.now index relocation.now result }
+    ensures decision { IsLoadDecided (context_of rule.now.words.context.now) rule.now.words.start
+        rule.now.words.relocations.now rule.now.kept.now relocations.now section.now index
+        relocation.now result }
     ensures made { IfSome result (λ d. CanBeMade d section.now relocation.now.offset) }
+    ensures matches { IfSome result (λ d. Matches d section.now relocation.now.offset) }
 {
-    let Some(load) = load_of(context, start, words, relocation) else {
+    let words = &rule.words;
+    let Some(load) = load_of(words, relocation) else {
         return Some(Decision::Kept);
     };
-    if word_stays(kept, load.1) {
+    if word_stays(rule.kept, load.1) {
         return Some(Decision::Kept);
     }
-    match load_candidate(
-        context,
-        words,
-        relocations,
-        section,
-        index,
-        relocation,
-        load,
-    ) {
+    match load_candidate(words, relocations, section, index, relocation, load) {
         Some(chosen) => {
-            let subject = subject_of(&relocation_in(words, load.1));
+            let subject = subject_of(&relocation_in(words.relocations, load.1));
             Some(Decision::RewrittenWithSymbol(chosen, subject))
         }
         None => None,
     }
 }
 
-/// The same as `decide_loads`, but relocations may be in the bytes of others.
-fn decide_each_load<D: AsDecision>(
-    context: &RelaxContext<'_>,
-    start: u64,
-    words: &[u8],
-    kept: &[bool],
-    relocations: &[u8],
-    section: &[u8],
-    decisions: &mut [D],
-) -> Result<(), RewritingError>
-    ensures enough { OnOk result (length relocations.now / 24 ≤ length decisions.old) }
-    ensures decided { OnOk result (AreLoadsDecided (context_of context.now) start words.now kept.now
-        relocations.now section.now (map D.decision decisions.new) (length relocations.now / 24)) }
-    ensures made { OnOk result (AllCanBeMade relocations.now section.now
-        (map D.decision decisions.new) (length relocations.now / 24)) }
-    ensures apart { OnOk result (AreApart relocations.now (map D.decision decisions.new)
-        (length relocations.now / 24)) }
-    ensures form { OnOk result
-        (All D.is_written (take (length relocations.now / 24) decisions.new)) }
-    ensures others_stay { drop (length relocations.now / 24) decisions.new
-        ≡ drop (length relocations.now / 24) decisions.old }
-    ensures rejected { IfErr result (AreLoadsRejected (context_of context.now) start words.now
-        kept.now relocations.now section.now (map D.decision decisions.new)) }
-{
-    let len = relocations_len(relocations);
-    if decisions.len() < len {
-        return Err(RewritingError::TooShort);
-    }
-    let mut end = 0;
-    for index in 0..len {
-        let relocation = relocation_in(relocations, index);
-        let Some(decision) = decide_load(
-            context,
-            start,
-            words,
-            kept,
-            relocations,
-            section,
-            index,
-            &relocation,
-        ) else {
-            return Err(RewritingError::NotSurveyed(index));
-        };
-        let (begin, own) = span_of(&decision, relocation.offset);
-        let Some(new_end) = end_after(begin, own, end) else {
-            return Err(RewritingError::Overlaps(index));
-        };
-        end = new_end;
-        decisions[index] = D::from_decision(decision);
-    }
-    Ok(())
-}
+impl Rule for Loads<'_, '_> {
+    ghost decides = { λ s bytes section. DecidesLoad (context_of s.words.context.now) s.words.start
+        s.words.relocations.now s.kept.now bytes section };
 
-/// Decides what becomes of each relocation of a section and of its instruction, in the caller's
-/// memory. Nothing is rewritten.
-fn decide_loads<D: AsDecision>(
-    context: &RelaxContext<'_>,
-    start: u64,
-    words: &[u8],
-    kept: &[bool],
-    relocations: &[u8],
-    section: &[u8],
-    decisions: &mut [D],
-) -> Result<(), RewritingError>
-    ensures enough { OnOk result (length relocations.now / 24 ≤ length decisions.old) }
-    ensures decided { OnOk result (AreLoadsDecided (context_of context.now) start words.now kept.now
-        relocations.now section.now (map D.decision decisions.new) (length relocations.now / 24)) }
-    ensures made { OnOk result (AllCanBeMade relocations.now section.now
-        (map D.decision decisions.new) (length relocations.now / 24)) }
-    ensures apart { OnOk result (AreApart relocations.now (map D.decision decisions.new)
-        (length relocations.now / 24)) }
-    ensures clear { OnOk result (AreClear context.now.architecture relocations.now section.now
-        (map D.decision decisions.new) (length relocations.now / 24)) }
-    ensures form { OnOk result
-        (All D.is_written (take (length relocations.now / 24) decisions.new)) }
-    ensures others_stay { drop (length relocations.now / 24) decisions.new
-        ≡ drop (length relocations.now / 24) decisions.old }
-    ensures rejected { IfErr result (AreLoadsRejected (context_of context.now) start words.now
-        kept.now relocations.now section.now (map D.decision decisions.new)) }
-{
-    decide_each_load(context, start, words, kept, relocations, section, decisions)?;
-    match first_covered(context.architecture, relocations, section, decisions) {
-        Some(index) => Err(RewritingError::Overlaps(index)),
-        None => Ok(()),
+    ghost lacks = { λ s bytes section n. IsLoadNotSurveyed (context_of s.words.context.now)
+        s.words.start s.words.relocations.now s.kept.now bytes section n (relocation_in bytes n) };
+
+    ghost is_valid = { λ s bytes. ⊤ };
+
+    ghost is_noted = { λ s bytes section n stays. ⊤ };
+
+    ghost start = { start_by };
+
+    ghost end = { end_by };
+
+    #[inline(always)]
+    fn leaves(&self, _is_taken: bool, _relocations: &[u8], _index: usize) -> bool {
+        false
+    }
+
+    #[inline(always)]
+    fn decide(
+        &self,
+        _is_taken: bool,
+        _stays: bool,
+        relocations: &[u8],
+        section: &[u8],
+        index: usize,
+        relocation: &Rela,
+    ) -> Option<Decision> {
+        decide_load(self, relocations, section, index, relocation)
+    }
+
+    #[inline(always)]
+    fn span(&self, decision: &Decision, offset: u64) -> (u64, u64) {
+        span_of(decision, offset)
     }
 }
 
@@ -553,6 +497,9 @@ pub fn rewrite_toc_loads<D: AsDecision>(
     if let Some(symbol) = contradiction(symbols, values, relocations) {
         return Err(RewritingError::Contradiction(symbol));
     }
+    if decisions.len() < relocations_len(relocations) {
+        return Err(RewritingError::TooShort);
+    }
     let context = RelaxContext {
         architecture,
         phase: Phase::ShortPcRel,
@@ -561,17 +508,15 @@ pub fn rewrite_toc_loads<D: AsDecision>(
         addresses,
         values,
     };
-    match decide_loads(
-        &context,
-        words_start,
-        words,
-        kept,
-        relocations,
-        section,
-        decisions,
-    ) {
+    let words = Words {
+        context: &context,
+        start: words_start,
+        relocations: words,
+    };
+    let rule = Loads { words, kept };
+    match decide_by(&rule, architecture, relocations, section, decisions) {
         Ok(()) => {
-            make_all(decisions, relocations, section);
+            make_all(true, decisions, relocations, section);
             Ok(())
         }
         Err(error) => Err(error),

@@ -40,8 +40,7 @@ fn is_call(
 /// Whether the relocation that a rewrite takes along, if any, is the next one.
 #[inline(always)]
 fn finds_next(
-    architecture: Architecture,
-    symbols: &[SymbolFacts],
+    context: &RelaxContext<'_>,
     relocations: &[u8],
     index: usize,
     offset: u64,
@@ -50,7 +49,13 @@ fn finds_next(
     match kind.skipped_offset() {
         Some(distance) => {
             let next = relocation_at(relocations, index + 1);
-            is_call(architecture, symbols, offset, distance, next)
+            is_call(
+                context.architecture,
+                context.symbols,
+                offset,
+                distance,
+                next,
+            )
         }
         None => true,
     }
@@ -70,51 +75,57 @@ pub(crate) fn deletes_within(section: &[u8], offset: u64, deleted: Option<Delete
     deleted.start <= room && u64::from(deleted.count) <= room - deleted.start
 }
 
-/// The rewrite of the instruction of the relocation with an index by facts, and the code of the
-/// relocation after it, as `candidate` says.
+/// The rewrite of the instruction of the relocation with an index by facts, if each other one of
+/// its group is rewritten, and the code of the relocation after it. None where there are no facts,
+/// `choose` has no rewrite for it, the one that it has takes a relocation along that isn't the next
+/// one or deletes bytes after the section, or it is of a sequence whose relocations aren't all next
+/// to it.
 #[inline(always)]
 pub(crate) fn candidate_by(
-    architecture: Architecture,
-    symbols: &[SymbolFacts],
+    context: &RelaxContext<'_>,
     relocations: &[u8],
     section: &[u8],
     index: usize,
     relocation: &Rela,
-    facts: &LinkFacts,
+    facts: &Option<LinkFacts>,
 ) -> Option<Choice<Relaxation, u32>> {
-    let chosen = choose(
-        architecture,
-        relocation.code,
-        section,
-        relocation.offset,
-        facts,
-    );
+    let Some(facts) = facts else {
+        return None;
+    };
+    let architecture = context.architecture;
+    let offset = relocation.offset;
+    let chosen = choose(architecture, relocation.code, section, offset, facts);
     if chosen.is_unchanged(relocation.code) {
         return None;
     }
-    if !finds_next(
-        architecture,
-        symbols,
-        relocations,
-        index,
-        relocation.offset,
-        chosen.kind,
-    ) {
+    let kind = chosen.kind;
+    if !finds_next(context, relocations, index, offset, kind) {
         return None;
     }
     if !is_whole(architecture, relocations, index, relocation) {
         return None;
     }
-    if !deletes_within(section, relocation.offset, chosen.kind.deleted()) {
+    if !deletes_within(section, offset, kind.deleted()) {
         return None;
     }
     Some(chosen)
 }
 
-/// The rewrite of the instruction of the relocation with an index, if each other one of its group
-/// is rewritten, and the code of the relocation after it. None where there is none: `choose` has no
-/// rewrite for it, the one that it has takes a relocation along that isn't the next one or deletes
-/// bytes after the section, or it is of a sequence whose relocations aren't all next to it.
+/// What the rewrite of a relocation is chosen by, by its own symbol and mark.
+#[inline(always)]
+fn own_facts(
+    context: &RelaxContext<'_>,
+    relocations: &[u8],
+    index: usize,
+    relocation: &Rela,
+) -> Option<LinkFacts> {
+    let phase = context.phase;
+    let marked = is_marked_in(phase, context.architecture, relocations, index, relocation);
+    link_facts(context, relocation, relocation, marked)
+}
+
+/// The rewrite of the instruction of the relocation with an index by its own symbol, as
+/// `candidate_by` says.
 #[inline(always)]
 pub(crate) fn candidate(
     context: &RelaxContext<'_>,
@@ -123,26 +134,8 @@ pub(crate) fn candidate(
     index: usize,
     relocation: &Rela,
 ) -> Option<Choice<Relaxation, u32>> {
-    let marked = is_marked_in(
-        context.phase,
-        context.architecture,
-        relocations,
-        index,
-        relocation,
-    );
-    let facts = link_facts(context, relocation, relocation, marked);
-    match &facts {
-        Some(facts) => candidate_by(
-            context.architecture,
-            context.symbols,
-            relocations,
-            section,
-            index,
-            relocation,
-            facts,
-        ),
-        None => None,
-    }
+    let facts = own_facts(context, relocations, index, relocation);
+    candidate_by(context, relocations, section, index, relocation, &facts)
 }
 
 /// The same facts of what is where the GOT's or the TOC's base is, at the distance 0.
@@ -171,25 +164,6 @@ pub(crate) fn is_matched(
     index: usize,
     relocation: &Rela,
 ) -> bool {
-    let marked = is_marked_in(
-        context.phase,
-        context.architecture,
-        relocations,
-        index,
-        relocation,
-    );
-    let facts = link_facts(context, relocation, relocation, marked);
-    let Some(facts) = at_base(facts) else {
-        return false;
-    };
-    candidate_by(
-        context.architecture,
-        context.symbols,
-        relocations,
-        section,
-        index,
-        relocation,
-        &facts,
-    )
-    .is_some()
+    let facts = at_base(own_facts(context, relocations, index, relocation));
+    candidate_by(context, relocations, section, index, relocation, &facts).is_some()
 }

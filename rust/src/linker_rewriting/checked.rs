@@ -55,8 +55,16 @@ fn fits(decision: &Decision, number: u32, section: &[u8], offset: u64) -> bool {
     }
 }
 
-/// Keeps a number of the bytes that each decision rewrites.
-pub(crate) fn keep_bytes<D: AsKeptDecision>(relocations: &[u8], section: &[u8], decisions: &mut [D]) {
+/// Keeps a number of the bytes that each decision rewrites, if anything changes.
+pub(crate) fn keep_bytes<D: AsKeptDecision>(
+    changes: bool,
+    relocations: &[u8],
+    section: &[u8],
+    decisions: &mut [D],
+) {
+    if !changes {
+        return;
+    }
     for index in 0..relocations_len(relocations) {
         let Decision::Rewritten(choice) = decisions[index].as_decision() else {
             continue;

@@ -5,12 +5,12 @@
 use crate::linker_rewriting::calls::keeps_call;
 use crate::linker_rewriting::candidates::candidate;
 use crate::linker_rewriting::codes::{is_listed, lists_any, of_each};
-use crate::linker_rewriting::covered::first_covered;
 use crate::linker_rewriting::facts::{OutputFacts, RelaxContext, SymbolFacts};
 use crate::linker_rewriting::groups::{Scope, UnrelaxableGroups, group_stays, scope_in};
 use crate::linker_rewriting::phases::Phase;
 use crate::linker_rewriting::relocations::relocation_in;
-use crate::linker_rewriting::riscv_pcrel_groups::{high_of, is_note, label_candidate, note_labels, set_all};
+use crate::linker_rewriting::riscv_pcrel_groups::{high_of, label_candidate, note_labels, set_all};
+use crate::linker_rewriting::rules::{Rule, decide_by};
 use crate::linker_base::rewrite::DeletedBytes;
 use crate::linker_section::facts::{Addresses, Symbol};
 use crate::linker_section::relocations::{Rela, relocation_at, relocations_len};
@@ -270,13 +270,7 @@ fn decide_label(
     if stays {
         return Decision::Kept;
     }
-    let Some(high) = high_of(
-        context.phase,
-        context.addresses,
-        context.values,
-        relocations,
-        relocation,
-    ) else {
+    let Some(high) = high_of(context, relocations, relocation) else {
         return Decision::Kept;
     };
     match label_candidate(context, relocations, section, index, relocation, high) {
@@ -287,7 +281,6 @@ fn decide_label(
 
 /// What becomes of a relocation that no other takes along. `stays` is what was noted of its label.
 /// None if its group doesn't stay, but it can't be rewritten.
-#[inline(always)]
 fn decide(
     stays: bool,
     context: &RelaxContext<'_>,
@@ -329,48 +322,6 @@ fn decide(
     }
 }
 
-/// Whether no other relocation takes along the one with an index, and it stays as it is by its
-/// code, or as a call by its symbol. The scope is for the proof alone: the compiler leaves it out.
-#[inline(always)]
-fn is_left(
-    is_taken: bool,
-    architecture: Architecture,
-    phase: Phase,
-    symbols: &[SymbolFacts],
-    relocations: &[u8],
-    index: usize,
-) -> bool {
-    let relocation = relocation_in(relocations, index);
-    let scope = scope_in(architecture, phase, relocation.code);
-    let listed = is_listed(architecture, phase, relocation.code);
-    !is_taken && (!listed || keeps_call(architecture, phase, symbols, &relocation))
-}
-
-/// What becomes of a relocation, which another may take along.
-fn decide_after(
-    is_taken: bool,
-    stays: bool,
-    context: &RelaxContext<'_>,
-    kept: &[UnrelaxableGroups],
-    relocations: &[u8],
-    section: &[u8],
-    index: usize,
-    relocation: &Rela,
-) -> Option<Decision> {
-    if is_taken {
-        return Some(Decision::Consumed);
-    }
-    decide(
-        stays,
-        context,
-        kept,
-        relocations,
-        section,
-        index,
-        relocation,
-    )
-}
-
 /// Where what is deleted ends; 0 if nothing is.
 #[inline(always)]
 fn deleted_end(offset: u64, deleted: Option<DeletedBytes>) -> u64 {
@@ -403,7 +354,67 @@ pub(crate) fn end_after(start: u64, own: u64, end: u64) -> Option<u64> {
     Some(own)
 }
 
-/// The same as `decide_section`, but relocations may be in the bytes of others.
+/// The rule of groups, for an architecture and a phase: all of a group are rewritten, or none is.
+#[derive(Clone, Copy)]
+struct Groups<'a> {
+    /// The architecture.
+    architecture: Architecture,
+    /// The phase.
+    phase: Phase,
+    /// What rewrites are chosen by, in that phase.
+    context: &'a RelaxContext<'a>,
+    /// Which groups stay.
+    kept: &'a [UnrelaxableGroups],
+}
+
+/// Whether no other relocation takes along the one with an index, and it stays as it is by its
+/// code, or as a call by its symbol. The scope is for the proof alone: the compiler leaves it out.
+#[inline(always)]
+fn is_left(rule: &Groups<'_>, is_taken: bool, relocations: &[u8], index: usize) -> bool {
+    let (architecture, phase) = (rule.architecture, rule.phase);
+    let relocation = relocation_in(relocations, index);
+    let scope = scope_in(architecture, phase, relocation.code);
+    let listed = is_listed(architecture, phase, relocation.code);
+    !is_taken && (!listed || keeps_call(architecture, phase, rule.context.symbols, &relocation))
+}
+
+impl Rule for Groups<'_> {
+    #[inline(always)]
+    fn leaves(&self, is_taken: bool, relocations: &[u8], index: usize) -> bool {
+        is_left(self, is_taken, relocations, index)
+    }
+
+    #[inline(always)]
+    fn decide(
+        &self,
+        is_taken: bool,
+        stays: bool,
+        relocations: &[u8],
+        section: &[u8],
+        index: usize,
+        relocation: &Rela,
+    ) -> Option<Decision> {
+        if is_taken {
+            return Some(Decision::Consumed);
+        }
+        decide(
+            stays,
+            self.context,
+            self.kept,
+            relocations,
+            section,
+            index,
+            relocation,
+        )
+    }
+
+    #[inline(always)]
+    fn span(&self, decision: &Decision, offset: u64) -> (u64, u64) {
+        span_of(decision, offset)
+    }
+}
+
+/// The same as `decide_section`, for an architecture and a phase.
 #[inline(always)]
 fn decide_all<D: AsDecision>(
     architecture: Architecture,
@@ -414,8 +425,7 @@ fn decide_all<D: AsDecision>(
     section: &[u8],
     decisions: &mut [D],
 ) -> Result<bool, RewritingError> {
-    let len = relocations_len(relocations);
-    if decisions.len() < len {
+    if decisions.len() < relocations_len(relocations) {
         return Err(RewritingError::TooShort);
     }
     if !lists_any(architecture, phase, relocations) {
@@ -423,47 +433,20 @@ fn decide_all<D: AsDecision>(
         return Ok(false);
     }
     note_labels(context, relocations, section, decisions);
-    let mut end = 0;
-    let mut is_taken = false;
-    for index in 0..len {
-        if is_left(
-            is_taken,
-            architecture,
-            phase,
-            context.symbols,
-            relocations,
-            index,
-        ) {
-            decisions[index] = D::from_decision(Decision::Kept);
-            continue;
-        }
-        let relocation = relocation_in(relocations, index);
-        let stays = is_note(&decisions[index].as_decision());
-        let Some(decision) = decide_after(
-            is_taken,
-            stays,
-            context,
-            kept,
-            relocations,
-            section,
-            index,
-            &relocation,
-        ) else {
-            return Err(RewritingError::NotSurveyed(index));
-        };
-        let (start, own) = span_of(&decision, relocation.offset);
-        let Some(new_end) = end_after(start, own, end) else {
-            return Err(RewritingError::Overlaps(index));
-        };
-        end = new_end;
-        is_taken = decision.takes_next();
-        decisions[index] = D::from_decision(decision);
-    }
+    let rule = Groups {
+        architecture,
+        phase,
+        context,
+        kept,
+    };
+    decide_by(&rule, context.architecture, relocations, section, decisions)?;
     Ok(true)
 }
 
-/// The same, compiled for each architecture and phase.
-fn decide_each<D: AsDecision>(
+/// Decides what becomes of each relocation of a section and of its instruction, in the caller's
+/// memory. Nothing is rewritten. False if all stay as they are by their codes. It is compiled for
+/// each architecture and phase.
+pub(crate) fn decide_section<D: AsDecision>(
     context: &RelaxContext<'_>,
     kept: &[UnrelaxableGroups],
     relocations: &[u8],
@@ -475,23 +458,4 @@ fn decide_each<D: AsDecision>(
         context.phase,
         decide_all(context, kept, relocations, section, decisions)
     )
-}
-
-/// Decides what becomes of each relocation of a section and of its instruction, in the caller's
-/// memory. Nothing is rewritten. False if all stay as they are by their codes.
-pub(crate) fn decide_section<D: AsDecision>(
-    context: &RelaxContext<'_>,
-    kept: &[UnrelaxableGroups],
-    relocations: &[u8],
-    section: &[u8],
-    decisions: &mut [D],
-) -> Result<bool, RewritingError> {
-    let changes = decide_each(context, kept, relocations, section, decisions)?;
-    if !changes {
-        return Ok(false);
-    }
-    match first_covered(context.architecture, relocations, section, decisions) {
-        Some(index) => Err(RewritingError::Overlaps(index)),
-        None => Ok(true),
-    }
 }

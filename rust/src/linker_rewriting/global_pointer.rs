@@ -4,12 +4,12 @@
 //! `auipc`: each low part takes x3 or x0 as its base, all of a symbol or none.
 
 use crate::linker_rewriting::agreement::contradiction;
-use crate::linker_rewriting::covered::first_covered;
-use crate::linker_rewriting::decisions::{AsDecision, Decision, FromDeletion, RewritingError, end_after};
+use crate::linker_rewriting::decisions::{AsDecision, Decision, FromDeletion, RewritingError};
 use crate::linker_rewriting::facts::{OutputFacts, RelaxContext, SymbolFacts, address_in};
 use crate::linker_rewriting::phases::Phase;
 use crate::linker_rewriting::relocations::relocation_in;
-use crate::linker_rewriting::riscv_pcrel_groups::{high_at, is_beyond};
+use crate::linker_rewriting::riscv_pcrel_groups::{high_at, is_beyond, label_at};
+use crate::linker_rewriting::rules::{Rule, decide_by};
 use crate::linker_rewriting::sections::list_deletions;
 use crate::linker_rewriting::sequences::is_marked_at;
 use crate::linker_rewriting::toc_indirection::{keep_word, subject_of, word_stays};
@@ -64,32 +64,13 @@ fn part_of(architecture: Architecture, code: u32) -> Option<Part> {
     }
 }
 
-/// Where the label of a low part is in the section.
-#[inline(always)]
-fn label_at(addresses: &Addresses, values: &[Symbol], relocation: &Rela) -> Option<u64> {
-    match values.get(relocation.symbol as usize) {
-        Some(label) => Some(label.address.wrapping_sub(addresses.section)),
-        None => None,
-    }
-}
-
-/// The code of an `auipc` of an address.
-#[inline(always)]
-fn relative_high() -> u32 {
-    RiscVRelocation::R_RISCV_PCREL_HI20.elf_code()
-}
-
 /// The high part at the label of a low part.
-fn labelled(
-    addresses: &Addresses,
-    values: &[Symbol],
-    relocations: &[u8],
-    relocation: &Rela,
-) -> Option<Rela> {
-    let Some(at) = label_at(addresses, values, relocation) else {
+fn labelled(context: &RelaxContext<'_>, relocations: &[u8], relocation: &Rela) -> Option<Rela> {
+    let Some(at) = label_at(context, relocation) else {
         return None;
     };
-    match high_at(relocations, relative_high(), at) {
+    let code = RiscVRelocation::R_RISCV_PCREL_HI20.elf_code();
+    match high_at(relocations, code, at) {
         Some(high) => Some(relocation_in(relocations, high)),
         None => None,
     }
@@ -98,14 +79,13 @@ fn labelled(
 /// The relocation whose symbol and addend are those of a part.
 #[inline(always)]
 fn part_subject(
-    addresses: &Addresses,
-    values: &[Symbol],
+    context: &RelaxContext<'_>,
     relocations: &[u8],
     relocation: &Rela,
     part: Part,
 ) -> Option<Rela> {
     match part {
-        Part::Labelled(_) => labelled(addresses, values, relocations, relocation),
+        Part::Labelled(_) => labelled(context, relocations, relocation),
         Part::High(_) | Part::Low(_) => Some(*relocation),
     }
 }
@@ -119,13 +99,7 @@ fn member_of(
     let Some(part) = part_of(context.architecture, relocation.code) else {
         return None;
     };
-    match part_subject(
-        context.addresses,
-        context.values,
-        relocations,
-        relocation,
-        part,
-    ) {
+    match part_subject(context, relocations, relocation, part) {
         Some(subject) => Some((part, subject)),
         None => None,
     }
@@ -151,21 +125,15 @@ fn address_of(addresses: &Addresses, relocation: &Rela, value: &Symbol) -> u64 {
 }
 
 /// Whether x3 or x0 reaches what a relocation refers to.
-fn is_reached(
-    symbols: &[SymbolFacts],
-    addresses: &Addresses,
-    values: &[Symbol],
-    gp: u64,
-    relocation: &Rela,
-) -> bool {
-    let Some(symbol) = symbols.get(relocation.symbol as usize) else {
-        return false;
-    };
-    let Some(value) = values.get(relocation.symbol as usize) else {
-        return false;
-    };
-    let address = address_of(addresses, relocation, value);
-    is_bound(symbol, value) && (is_near(gp, address) || is_near(0, address))
+fn is_reached(context: &RelaxContext<'_>, gp: u64, relocation: &Rela) -> bool {
+    let index = relocation.symbol as usize;
+    match (context.symbols.get(index), context.values.get(index)) {
+        (Some(symbol), Some(value)) => {
+            let address = address_of(context.addresses, relocation, value);
+            is_bound(symbol, value) && (is_near(gp, address) || is_near(0, address))
+        }
+        _ => false,
+    }
 }
 
 /// Whether four bytes from an offset on are in the section.
@@ -232,84 +200,52 @@ fn is_expected(section: &[u8], relocation: &Rela, part: Part, subject: &Rela) ->
     }
 }
 
+/// What parts are chosen by.
+#[derive(Clone, Copy)]
+struct Parts<'a> {
+    /// What is known of symbols and of the output, with addresses.
+    context: &'a RelaxContext<'a>,
+    /// The address of the global pointer.
+    gp: u64,
+    /// Whether the relocations ascend.
+    ascends: bool,
+}
+
 /// Whether a part can be rewritten, if all of its symbol can.
 fn fits(
-    ascends: bool,
-    context: &RelaxContext<'_>,
-    gp: u64,
+    parts: &Parts<'_>,
     relocations: &[u8],
     section: &[u8],
     index: usize,
     relocation: &Rela,
     member: &(Part, Rela),
 ) -> bool {
-    ascends
+    let context = parts.context;
+    parts.ascends
         && !is_beyond(relocations, relocation.offset, index)
         && context.output.is_executable
         && context.output.is_fixed
         && is_marked_at(context.architecture, relocations, index, relocation)
-        && is_reached(
-            context.symbols,
-            context.addresses,
-            context.values,
-            gp,
-            &member.1,
-        )
+        && is_reached(context, parts.gp, &member.1)
         && is_expected(section, relocation, member.0, &member.1)
-}
-
-/// The symbol that a part keeps, since it doesn't fit.
-#[inline(always)]
-fn kept_by(
-    ascends: bool,
-    context: &RelaxContext<'_>,
-    gp: u64,
-    relocations: &[u8],
-    section: &[u8],
-    index: usize,
-    relocation: &Rela,
-    member: Option<(Part, Rela)>,
-) -> Option<usize> {
-    let Some(member) = member else {
-        return None;
-    };
-    if fits(
-        ascends,
-        context,
-        gp,
-        relocations,
-        section,
-        index,
-        relocation,
-        &member,
-    ) {
-        None
-    } else {
-        Some(member.1.symbol as usize)
-    }
 }
 
 /// The symbol that a relocation keeps, since it is of an address and doesn't fit.
 fn keeping_symbol(
-    ascends: bool,
-    context: &RelaxContext<'_>,
-    gp: u64,
+    parts: &Parts<'_>,
     relocations: &[u8],
     section: &[u8],
     index: usize,
     relocation: &Rela,
 ) -> Option<usize> {
-    let member = member_of(context, relocations, relocation);
-    kept_by(
-        ascends,
-        context,
-        gp,
-        relocations,
-        section,
-        index,
-        relocation,
-        member,
-    )
+    let Some(member) = member_of(parts.context, relocations, relocation) else {
+        return None;
+    };
+    if fits(parts, relocations, section, index, relocation, &member) {
+        None
+    } else {
+        Some(member.1.symbol as usize)
+    }
 }
 
 /// `crate::link::survey_global_pointer`, with more parameters.
@@ -360,18 +296,14 @@ pub fn survey_global_pointer(
         addresses,
         values,
     };
-    let ascends = is_ascending(relocations);
+    let parts = Parts {
+        context: &context,
+        gp,
+        ascends: is_ascending(relocations),
+    };
     for index in 0..relocations_len(relocations) {
         let relocation = relocation_in(relocations, index);
-        let symbol = keeping_symbol(
-            ascends,
-            &context,
-            gp,
-            relocations,
-            section,
-            index,
-            &relocation,
-        );
+        let symbol = keeping_symbol(&parts, relocations, section, index, &relocation);
         keep_word(kept, symbol);
     }
     Ok(())
@@ -395,29 +327,31 @@ fn part_decision(part: Part, subject: &Rela) -> Decision {
     }
 }
 
-/// What becomes of a part. None if its symbol doesn't stay, but it doesn't fit.
-#[inline(always)]
-fn decided_by(
-    ascends: bool,
-    context: &RelaxContext<'_>,
-    gp: u64,
-    kept: &[bool],
+/// The rule of parts: all of a symbol are rewritten, or none is.
+#[derive(Clone, Copy)]
+struct Symbols<'a, 'b> {
+    /// What parts are chosen by.
+    parts: Parts<'a>,
+    /// Which symbols stay.
+    kept: &'b [bool],
+}
+
+/// What becomes of a relocation. None if its symbol doesn't stay, but it can't be rewritten.
+fn decide_part(
+    rule: &Symbols<'_, '_>,
     relocations: &[u8],
     section: &[u8],
     index: usize,
     relocation: &Rela,
-    member: Option<(Part, Rela)>,
 ) -> Option<Decision> {
-    let Some(member) = member else {
+    let Some(member) = member_of(rule.parts.context, relocations, relocation) else {
         return Some(Decision::Kept);
     };
-    if word_stays(kept, member.1.symbol as usize) {
+    if word_stays(rule.kept, member.1.symbol as usize) {
         return Some(Decision::Kept);
     }
     if fits(
-        ascends,
-        context,
-        gp,
+        &rule.parts,
         relocations,
         section,
         index,
@@ -430,31 +364,6 @@ fn decided_by(
     }
 }
 
-/// What becomes of a relocation. None if its symbol doesn't stay, but it can't be rewritten.
-fn decide_part(
-    ascends: bool,
-    context: &RelaxContext<'_>,
-    gp: u64,
-    kept: &[bool],
-    relocations: &[u8],
-    section: &[u8],
-    index: usize,
-    relocation: &Rela,
-) -> Option<Decision> {
-    let member = member_of(context, relocations, relocation);
-    decided_by(
-        ascends,
-        context,
-        gp,
-        kept,
-        relocations,
-        section,
-        index,
-        relocation,
-        member,
-    )
-}
-
 /// Where the instruction of a part ends, by its offset. That of a part that stays has no bytes
 /// here.
 #[inline(always)]
@@ -465,58 +374,28 @@ fn part_end(decision: &Decision, offset: u64) -> u64 {
     }
 }
 
-/// The same as `decide_parts`, but relocations may be in the bytes of others.
-fn decide_each_part<D: AsDecision>(
-    context: &RelaxContext<'_>,
-    gp: u64,
-    kept: &[bool],
-    relocations: &[u8],
-    section: &[u8],
-    decisions: &mut [D],
-) -> Result<(), RewritingError> {
-    let len = relocations_len(relocations);
-    if decisions.len() < len {
-        return Err(RewritingError::TooShort);
+impl Rule for Symbols<'_, '_> {
+    #[inline(always)]
+    fn leaves(&self, _is_taken: bool, _relocations: &[u8], _index: usize) -> bool {
+        false
     }
-    let ascends = is_ascending(relocations);
-    let mut end = 0;
-    for index in 0..len {
-        let relocation = relocation_in(relocations, index);
-        let Some(decision) = decide_part(
-            ascends,
-            context,
-            gp,
-            kept,
-            relocations,
-            section,
-            index,
-            &relocation,
-        ) else {
-            return Err(RewritingError::NotSurveyed(index));
-        };
-        let own = part_end(&decision, relocation.offset);
-        let Some(new_end) = end_after(relocation.offset, own, end) else {
-            return Err(RewritingError::Overlaps(index));
-        };
-        end = new_end;
-        decisions[index] = D::from_decision(decision);
-    }
-    Ok(())
-}
 
-/// Decides what becomes of each relocation of a section, in the caller's memory.
-fn decide_parts<D: AsDecision>(
-    context: &RelaxContext<'_>,
-    gp: u64,
-    kept: &[bool],
-    relocations: &[u8],
-    section: &[u8],
-    decisions: &mut [D],
-) -> Result<(), RewritingError> {
-    decide_each_part(context, gp, kept, relocations, section, decisions)?;
-    match first_covered(context.architecture, relocations, section, decisions) {
-        Some(index) => Err(RewritingError::Overlaps(index)),
-        None => Ok(()),
+    #[inline(always)]
+    fn decide(
+        &self,
+        _is_taken: bool,
+        _stays: bool,
+        relocations: &[u8],
+        section: &[u8],
+        index: usize,
+        relocation: &Rela,
+    ) -> Option<Decision> {
+        decide_part(self, relocations, section, index, relocation)
+    }
+
+    #[inline(always)]
+    fn span(&self, decision: &Decision, offset: u64) -> (u64, u64) {
+        (offset, part_end(decision, offset))
     }
 }
 
@@ -600,6 +479,9 @@ pub fn rewrite_global_pointer<D: AsDecision, L: FromDeletion>(
     if let Some(symbol) = contradiction(symbols, values, relocations) {
         return Err(RewritingError::Contradiction(symbol));
     }
+    if decisions.len() < relocations_len(relocations) {
+        return Err(RewritingError::TooShort);
+    }
     let context = RelaxContext {
         architecture,
         phase: Phase::ShortPcRel,
@@ -608,8 +490,14 @@ pub fn rewrite_global_pointer<D: AsDecision, L: FromDeletion>(
         addresses,
         values,
     };
-    match decide_parts(&context, gp, kept, relocations, section, decisions) {
-        Ok(()) => match list_deletions(relocations, decisions, deleted) {
+    let parts = Parts {
+        context: &context,
+        gp,
+        ascends: is_ascending(relocations),
+    };
+    let rule = Symbols { parts, kept };
+    match decide_by(&rule, architecture, relocations, section, decisions) {
+        Ok(()) => match list_deletions(true, relocations, decisions, deleted) {
             Some(len) => {
                 turn_all(decisions, relocations);
                 Ok(len)

@@ -68,33 +68,33 @@ pub(crate) fn high_at(relocations: &[u8], code: u32, at: u64) -> Option<usize> {
     None
 }
 
+/// Where the label is in the section that is a relocation's symbol.
+#[inline(always)]
+pub(crate) fn label_at(context: &RelaxContext<'_>, relocation: &Rela) -> Option<u64> {
+    match context.values.get(relocation.symbol as usize) {
+        Some(label) => Some(label.address.wrapping_sub(context.addresses.section)),
+        None => None,
+    }
+}
+
 /// Where the label of a relocation is in the section.
 #[inline(always)]
-fn label_offset(
-    phase: Phase,
-    addresses: &Addresses,
-    values: &[Symbol],
-    relocation: &Rela,
-) -> Option<u64> {
-    if relocation.code == high_code(phase) {
-        return Some(relocation.offset);
-    }
-    match values.get(relocation.symbol as usize) {
-        Some(label) => Some(label.address.wrapping_sub(addresses.section)),
-        None => None,
+fn label_offset(context: &RelaxContext<'_>, relocation: &Rela) -> Option<u64> {
+    if relocation.code == high_code(context.phase) {
+        Some(relocation.offset)
+    } else {
+        label_at(context, relocation)
     }
 }
 
 /// The index of the high part at the label of a relocation, among relocations that ascend.
 pub(crate) fn high_of(
-    phase: Phase,
-    addresses: &Addresses,
-    values: &[Symbol],
+    context: &RelaxContext<'_>,
     relocations: &[u8],
     relocation: &Rela,
 ) -> Option<usize> {
-    match label_offset(phase, addresses, values, relocation) {
-        Some(at) => high_at(relocations, high_code(phase), at),
+    match label_offset(context, relocation) {
+        Some(at) => high_at(relocations, high_code(context.phase), at),
         None => None,
     }
 }
@@ -114,14 +114,14 @@ pub(crate) fn is_in_label(architecture: Architecture, phase: Phase, code: u32) -
 /// Whether the mark is there that counts for a relocation with a high part.
 #[inline(always)]
 fn is_label_marked(
-    architecture: Architecture,
-    phase: Phase,
+    context: &RelaxContext<'_>,
     relocations: &[u8],
     index: usize,
     relocation: &Rela,
     high: usize,
 ) -> bool {
-    match phase {
+    let architecture = context.architecture;
+    match context.phase {
         Phase::TlsLocalExec => {
             let part = relocation_in(relocations, high);
             is_marked_at(architecture, relocations, high, &part)
@@ -156,27 +156,9 @@ pub(crate) fn label_candidate(
     high: usize,
 ) -> Option<Choice<Relaxation, u32>> {
     let part = relocation_in(relocations, high);
-    let marked = is_label_marked(
-        context.architecture,
-        context.phase,
-        relocations,
-        index,
-        relocation,
-        high,
-    );
+    let marked = is_label_marked(context, relocations, index, relocation, high);
     let facts = without_entry(link_facts(context, &part, &part, marked));
-    match facts {
-        Some(facts) => candidate_by(
-            context.architecture,
-            context.symbols,
-            relocations,
-            section,
-            index,
-            relocation,
-            &facts,
-        ),
-        None => None,
-    }
+    candidate_by(context, relocations, section, index, relocation, &facts)
 }
 
 /// The index of the high part whose group stays, since this relocation is of it and has no rewrite.
@@ -190,13 +172,7 @@ fn lacking(
     if !is_in_label(context.architecture, context.phase, relocation.code) {
         return None;
     }
-    let Some(high) = high_of(
-        context.phase,
-        context.addresses,
-        context.values,
-        relocations,
-        relocation,
-    ) else {
+    let Some(high) = high_of(context, relocations, relocation) else {
         return None;
     };
     match label_candidate(context, relocations, section, index, relocation, high) {
@@ -237,14 +213,12 @@ fn note_highs<D: AsDecision>(
 /// What is noted of the group of a relocation: at its high part; it stays where there is none.
 #[inline(always)]
 fn note_of<D: AsDecision>(
-    phase: Phase,
-    addresses: &Addresses,
-    values: &[Symbol],
+    context: &RelaxContext<'_>,
     relocations: &[u8],
     decisions: &[D],
     relocation: &Rela,
 ) -> Decision {
-    match high_of(phase, addresses, values, relocations, relocation) {
+    match high_of(context, relocations, relocation) {
         Some(high) => decisions[high].as_decision(),
         None => Decision::Consumed,
     }
@@ -262,14 +236,7 @@ fn copy_notes<D: AsDecision>(
         if !is_in_label(context.architecture, context.phase, relocation.code) {
             continue;
         }
-        let note = note_of(
-            context.phase,
-            context.addresses,
-            context.values,
-            relocations,
-            decisions,
-            &relocation,
-        );
+        let note = note_of(context, relocations, decisions, &relocation);
         decisions[index] = D::from_decision(note);
     }
 }

@@ -38,8 +38,16 @@ fn make(decision: Decision, relocation: &mut Rela, section: &mut [u8]) {
     }
 }
 
-/// Makes what was decided.
-pub(crate) fn make_all<D: AsDecision>(decisions: &[D], relocations: &mut [u8], section: &mut [u8]) {
+/// Makes what was decided, if anything changes.
+pub(crate) fn make_all<D: AsDecision>(
+    changes: bool,
+    decisions: &[D],
+    relocations: &mut [u8],
+    section: &mut [u8],
+) {
+    if !changes {
+        return;
+    }
     for index in 0..relocations_len(relocations) {
         let decision = decisions[index].as_decision();
         if let Decision::Kept = decision {
@@ -49,39 +57,6 @@ pub(crate) fn make_all<D: AsDecision>(decisions: &[D], relocations: &mut [u8], s
         make(decision, &mut relocation, section);
         set_relocation(relocations, index, &relocation);
     }
-}
-
-/// Makes what was decided, if anything changes.
-fn make_changes<D: AsDecision>(
-    changes: bool,
-    decisions: &[D],
-    relocations: &mut [u8],
-    section: &mut [u8],
-) {
-    if changes {
-        make_all(decisions, relocations, section);
-    }
-}
-
-/// Decides before layout. False if all relocations stay as they are by their codes.
-fn decide_pre_layout<D: AsDecision>(
-    architecture: Architecture,
-    output: &OutputFacts,
-    symbols: &[SymbolFacts],
-    kept: &[UnrelaxableGroups],
-    relocations: &[u8],
-    section: &[u8],
-    decisions: &mut [D],
-) -> Result<bool, RewritingError> {
-    let context = RelaxContext {
-        architecture,
-        phase: Phase::PreLayout,
-        output,
-        symbols,
-        addresses: &NO_ADDRESSES,
-        values: &[],
-    };
-    decide_section(&context, kept, relocations, section, decisions)
 }
 
 /// `crate::link::rewrite_section`, with more parameters.
@@ -127,17 +102,17 @@ pub fn rewrite_section<D: AsDecision>(
     section: &mut [u8],
     decisions: &mut [D],
 ) -> Result<(), RewritingError> {
-    match decide_pre_layout(
+    let context = RelaxContext {
         architecture,
+        phase: Phase::PreLayout,
         output,
         symbols,
-        kept,
-        relocations,
-        section,
-        decisions,
-    ) {
+        addresses: &NO_ADDRESSES,
+        values: &[],
+    };
+    match decide_section(&context, kept, relocations, section, decisions) {
         Ok(changes) => {
-            make_changes(changes, decisions, relocations, section);
+            make_all(changes, decisions, relocations, section);
             Ok(())
         }
         Err(error) => Err(error),
@@ -186,19 +161,17 @@ pub fn decide_rewrites<D: AsKeptDecision>(
     section: &[u8],
     decisions: &mut [D],
 ) -> Result<(), RewritingError> {
-    match decide_pre_layout(
+    let context = RelaxContext {
         architecture,
+        phase: Phase::PreLayout,
         output,
         symbols,
-        kept,
-        relocations,
-        section,
-        decisions,
-    ) {
+        addresses: &NO_ADDRESSES,
+        values: &[],
+    };
+    match decide_section(&context, kept, relocations, section, decisions) {
         Ok(changes) => {
-            if changes {
-                keep_bytes(relocations, section, decisions);
-            }
+            keep_bytes(changes, relocations, section, decisions);
             Ok(())
         }
         Err(error) => Err(error),
@@ -212,17 +185,21 @@ pub fn make_rewrites<D: AsKeptDecision>(
     decisions: &[D],
 ) -> Result<(), DecisionError> {
     check_decisions(relocations, section, decisions)?;
-    make_all(decisions, relocations, section);
+    make_all(true, decisions, relocations, section);
     Ok(())
 }
 
-/// Lists what decisions delete, in the caller's memory. Returns how many there are; none where
-/// there is less room.
+/// Lists what decisions delete, if anything changes, in the caller's memory. Returns how many there
+/// are; none where there is less room.
 pub(crate) fn list_deletions<D: AsDecision, L: FromDeletion>(
+    changes: bool,
     relocations: &[u8],
     decisions: &[D],
     deleted: &mut [L],
 ) -> Option<usize> {
+    if !changes {
+        return Some(0);
+    }
     let mut len = 0;
     for index in 0..relocations_len(relocations) {
         let Some(bytes) = decisions[index].as_decision().deleted() else {
@@ -236,20 +213,6 @@ pub(crate) fn list_deletions<D: AsDecision, L: FromDeletion>(
         len += 1;
     }
     Some(len)
-}
-
-/// Lists what decisions delete, if anything changes, as `list_deletions` says.
-fn list_changes<D: AsDecision, L: FromDeletion>(
-    changes: bool,
-    relocations: &[u8],
-    decisions: &[D],
-    deleted: &mut [L],
-) -> Option<usize> {
-    if changes {
-        list_deletions(relocations, decisions, deleted)
-    } else {
-        Some(0)
-    }
 }
 
 /// `crate::link::rewrite_placed_section`, with more parameters.
@@ -316,9 +279,9 @@ pub fn rewrite_placed_section<D: AsDecision, L: FromDeletion>(
         values,
     };
     match decide_section(&context, kept, relocations, section, decisions) {
-        Ok(changes) => match list_changes(changes, relocations, decisions, deleted) {
+        Ok(changes) => match list_deletions(changes, relocations, decisions, deleted) {
             Some(len) => {
-                make_changes(changes, decisions, relocations, section);
+                make_all(changes, decisions, relocations, section);
                 Ok(len)
             }
             None => Err(RewritingError::TooShort),

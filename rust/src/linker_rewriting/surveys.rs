@@ -99,17 +99,15 @@ fn ppc64_is_unmarked(
 /// Whether a relocation is one that keeps all thread-local storage of its object.
 #[inline(always)]
 fn is_unmarked(
-    architecture: Architecture,
-    phase: Phase,
-    symbols: &[SymbolFacts],
+    context: &RelaxContext<'_>,
     relocations: &[u8],
     index: usize,
     relocation: &Rela,
 ) -> bool {
-    match (phase, architecture) {
+    match (context.phase, context.architecture) {
         #[cfg(feature = "ppc64")]
         (Phase::PreLayout, Architecture::Ppc64) => {
-            ppc64_is_unmarked(symbols, relocations, index, relocation)
+            ppc64_is_unmarked(context.symbols, relocations, index, relocation)
         }
         _ => false,
     }
@@ -187,14 +185,7 @@ fn survey_in(
         let relocation = relocation_in(relocations, index);
         let group = keeping(context, relocations, section, index, &relocation);
         keep_group(kept, group, relocation.symbol);
-        let unmarked = is_unmarked(
-            context.architecture,
-            context.phase,
-            context.symbols,
-            relocations,
-            index,
-            &relocation,
-        );
+        let unmarked = is_unmarked(context, relocations, index, &relocation);
         keep_threads(kept, unmarked);
         index = next_keeping(context, relocations, index + 1);
     }

@@ -6,12 +6,12 @@
 
 use crate::linker_rewriting::agreement::contradiction;
 use crate::linker_rewriting::candidates::candidate_by;
-use crate::linker_rewriting::covered::first_covered;
-use crate::linker_rewriting::decisions::{AsDecision, Decision, RewritingError, Subject, end_after, span_of};
+use crate::linker_rewriting::decisions::{AsDecision, Decision, RewritingError, Subject, span_of};
 use crate::linker_rewriting::facts::{OutputFacts, RelaxContext, SymbolFacts, address_in, link_facts};
 use crate::linker_rewriting::phases::Phase;
 use crate::linker_rewriting::relocations::relocation_in;
 use crate::linker_rewriting::riscv_pcrel_groups::high_at;
+use crate::linker_rewriting::rules::{Rule, decide_by};
 use crate::linker_rewriting::sections::make_all;
 use crate::linker_section::facts::{Addresses, Symbol};
 use crate::linker_section::relocations::{Rela, relocations_len};
@@ -92,21 +92,28 @@ fn word_offset(
     }
 }
 
+/// The words of an object's section of addresses, and what loads of them are chosen by.
+#[derive(Clone, Copy)]
+struct Words<'a> {
+    /// What rewrites are chosen by.
+    context: &'a RelaxContext<'a>,
+    /// The address of the section of words.
+    start: u64,
+    /// The relocations of the words.
+    relocations: &'a [u8],
+}
+
 /// What a relocation loads: the code for an entry of the GOT, and the index of the word's
 /// relocation.
-fn load_of(
-    context: &RelaxContext<'_>,
-    start: u64,
-    words: &[u8],
-    relocation: &Rela,
-) -> Option<(u32, usize)> {
+fn load_of(words: &Words<'_>, relocation: &Rela) -> Option<(u32, usize)> {
+    let context = words.context;
     let Some(entry) = entry_code(context.architecture, relocation.code) else {
         return None;
     };
-    let Some(at) = word_offset(context.addresses, context.values, start, relocation) else {
+    let Some(at) = word_offset(context.addresses, context.values, words.start, relocation) else {
         return None;
     };
-    match high_at(words, word_code(), at) {
+    match high_at(words.relocations, word_code(), at) {
         Some(word) => Some((entry, word)),
         None => None,
     }
@@ -124,8 +131,7 @@ fn with_code(code: u32, relocation: &Rela) -> Rela {
 /// The rewrite of a load, if each other one of the word is rewritten.
 #[inline(always)]
 fn load_candidate(
-    context: &RelaxContext<'_>,
-    words: &[u8],
+    words: &Words<'_>,
     relocations: &[u8],
     section: &[u8],
     index: usize,
@@ -133,21 +139,17 @@ fn load_candidate(
     load: (u32, usize),
 ) -> Option<Choice<Relaxation, u32>> {
     let (entry, word) = load;
-    let word = relocation_in(words, word);
-    let facts = link_facts(context, relocation, &word, false);
+    let word = relocation_in(words.relocations, word);
+    let facts = link_facts(words.context, relocation, &word, false);
     let of_entry = with_code(entry, relocation);
-    match &facts {
-        Some(facts) => candidate_by(
-            context.architecture,
-            context.symbols,
-            relocations,
-            section,
-            index,
-            &of_entry,
-            facts,
-        ),
-        None => None,
-    }
+    candidate_by(
+        words.context,
+        relocations,
+        section,
+        index,
+        &of_entry,
+        &facts,
+    )
 }
 
 /// Whether a word stays, by the index of its relocation.
@@ -172,26 +174,16 @@ pub(crate) fn keep_word(kept: &mut [bool], word: Option<usize>) {
 /// The word that a relocation keeps, since it loads it and has no rewrite.
 #[inline(always)]
 fn keeping_word(
-    context: &RelaxContext<'_>,
-    start: u64,
-    words: &[u8],
+    words: &Words<'_>,
     relocations: &[u8],
     section: &[u8],
     index: usize,
     relocation: &Rela,
 ) -> Option<usize> {
-    let Some(load) = load_of(context, start, words, relocation) else {
+    let Some(load) = load_of(words, relocation) else {
         return None;
     };
-    match load_candidate(
-        context,
-        words,
-        relocations,
-        section,
-        index,
-        relocation,
-        load,
-    ) {
+    match load_candidate(words, relocations, section, index, relocation, load) {
         Some(_) => None,
         None => Some(load.1),
     }
@@ -251,17 +243,14 @@ pub fn survey_toc_loads(
         addresses,
         values,
     };
+    let words = Words {
+        context: &context,
+        start: words_start,
+        relocations: words,
+    };
     for index in 0..relocations_len(relocations) {
         let relocation = relocation_in(relocations, index);
-        let word = keeping_word(
-            &context,
-            words_start,
-            words,
-            relocations,
-            section,
-            index,
-            &relocation,
-        );
+        let word = keeping_word(&words, relocations, section, index, &relocation);
         keep_word(kept, word);
     }
     Ok(())
@@ -276,94 +265,61 @@ pub(crate) fn subject_of(word: &Rela) -> Subject {
     }
 }
 
+/// The rule of loads: all of a word are rewritten, or none is.
+#[derive(Clone, Copy)]
+struct Loads<'a, 'b> {
+    /// The words.
+    words: Words<'a>,
+    /// Which words stay.
+    kept: &'b [bool],
+}
+
 /// What becomes of a relocation. None if it loads a word that doesn't stay, but can't be rewritten.
 fn decide_load(
-    context: &RelaxContext<'_>,
-    start: u64,
-    words: &[u8],
-    kept: &[bool],
+    rule: &Loads<'_, '_>,
     relocations: &[u8],
     section: &[u8],
     index: usize,
     relocation: &Rela,
 ) -> Option<Decision> {
-    let Some(load) = load_of(context, start, words, relocation) else {
+    let words = &rule.words;
+    let Some(load) = load_of(words, relocation) else {
         return Some(Decision::Kept);
     };
-    if word_stays(kept, load.1) {
+    if word_stays(rule.kept, load.1) {
         return Some(Decision::Kept);
     }
-    match load_candidate(
-        context,
-        words,
-        relocations,
-        section,
-        index,
-        relocation,
-        load,
-    ) {
+    match load_candidate(words, relocations, section, index, relocation, load) {
         Some(chosen) => {
-            let subject = subject_of(&relocation_in(words, load.1));
+            let subject = subject_of(&relocation_in(words.relocations, load.1));
             Some(Decision::RewrittenWithSymbol(chosen, subject))
         }
         None => None,
     }
 }
 
-/// The same as `decide_loads`, but relocations may be in the bytes of others.
-fn decide_each_load<D: AsDecision>(
-    context: &RelaxContext<'_>,
-    start: u64,
-    words: &[u8],
-    kept: &[bool],
-    relocations: &[u8],
-    section: &[u8],
-    decisions: &mut [D],
-) -> Result<(), RewritingError> {
-    let len = relocations_len(relocations);
-    if decisions.len() < len {
-        return Err(RewritingError::TooShort);
+impl Rule for Loads<'_, '_> {
+    #[inline(always)]
+    fn leaves(&self, _is_taken: bool, _relocations: &[u8], _index: usize) -> bool {
+        false
     }
-    let mut end = 0;
-    for index in 0..len {
-        let relocation = relocation_in(relocations, index);
-        let Some(decision) = decide_load(
-            context,
-            start,
-            words,
-            kept,
-            relocations,
-            section,
-            index,
-            &relocation,
-        ) else {
-            return Err(RewritingError::NotSurveyed(index));
-        };
-        let (begin, own) = span_of(&decision, relocation.offset);
-        let Some(new_end) = end_after(begin, own, end) else {
-            return Err(RewritingError::Overlaps(index));
-        };
-        end = new_end;
-        decisions[index] = D::from_decision(decision);
-    }
-    Ok(())
-}
 
-/// Decides what becomes of each relocation of a section and of its instruction, in the caller's
-/// memory. Nothing is rewritten.
-fn decide_loads<D: AsDecision>(
-    context: &RelaxContext<'_>,
-    start: u64,
-    words: &[u8],
-    kept: &[bool],
-    relocations: &[u8],
-    section: &[u8],
-    decisions: &mut [D],
-) -> Result<(), RewritingError> {
-    decide_each_load(context, start, words, kept, relocations, section, decisions)?;
-    match first_covered(context.architecture, relocations, section, decisions) {
-        Some(index) => Err(RewritingError::Overlaps(index)),
-        None => Ok(()),
+    #[inline(always)]
+    fn decide(
+        &self,
+        _is_taken: bool,
+        _stays: bool,
+        relocations: &[u8],
+        section: &[u8],
+        index: usize,
+        relocation: &Rela,
+    ) -> Option<Decision> {
+        decide_load(self, relocations, section, index, relocation)
+    }
+
+    #[inline(always)]
+    fn span(&self, decision: &Decision, offset: u64) -> (u64, u64) {
+        span_of(decision, offset)
     }
 }
 
@@ -420,6 +376,9 @@ pub fn rewrite_toc_loads<D: AsDecision>(
     if let Some(symbol) = contradiction(symbols, values, relocations) {
         return Err(RewritingError::Contradiction(symbol));
     }
+    if decisions.len() < relocations_len(relocations) {
+        return Err(RewritingError::TooShort);
+    }
     let context = RelaxContext {
         architecture,
         phase: Phase::ShortPcRel,
@@ -428,17 +387,15 @@ pub fn rewrite_toc_loads<D: AsDecision>(
         addresses,
         values,
     };
-    match decide_loads(
-        &context,
-        words_start,
-        words,
-        kept,
-        relocations,
-        section,
-        decisions,
-    ) {
+    let words = Words {
+        context: &context,
+        start: words_start,
+        relocations: words,
+    };
+    let rule = Loads { words, kept };
+    match decide_by(&rule, architecture, relocations, section, decisions) {
         Ok(()) => {
-            make_all(decisions, relocations, section);
+            make_all(true, decisions, relocations, section);
             Ok(())
         }
         Err(error) => Err(error),

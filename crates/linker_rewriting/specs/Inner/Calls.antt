@@ -1,7 +1,6 @@
 -- Calls that stay as they are before addresses are known, by what is known of their symbol.
 use Rattle.std.specs.Prelude.{◌≡◌, ℕ, ◌==◌, ◌||◌, ◌&&◌, ◌⊎◌, not, Bool, true, false, Option, Some}
-use Rattle.std.specs.Prelude.{None}
-use Rattle.std.specs.Prelude.{List, slice_get}
+use Rattle.std.specs.Prelude.{None, List, slice_get}
 use Rattle.linker_elf.specs.AArch64Relocations.{aarch64_name}
 use Rattle.linker_elf.specs.ElfNames.{code_of}
 use Rattle.linker_elf.specs.Ppc64Relocations.{ppc64_name}

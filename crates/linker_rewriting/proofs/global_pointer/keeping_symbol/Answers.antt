@@ -1,10 +1,38 @@
+use Rattle.std.proofs.Common.{◌≡◌, ◌∙◌, None, Some, if◌then◌else◌, refl, subst, sym}
+use Rattle.linker_rewriting.specs.GlobalPointer.{IsMember}
+use Rattle.linker_rewriting.specs.Inner.Contexts.{context_of}
 use Rattle.linker_rewriting.proofs.global_pointer.keeping_symbol.Goals as goal
 
-pub returns : goal.returns
-returns c = record {
-  ascends = c.args.ascends;
-  is_ascending = c.requires.ascending;
-  member = c.member_of-member.result;
-  is_member = c.member_of-member.ensures;
-  keeps = c.kept_by.ensures;
-}
+pub returns-in_default : goal.returns-in_default
+returns-in_default c =
+    let a = c.args in
+    record {
+      ascends = a.parts.now.ascends;
+      is_ascending = c.requires.ascending;
+      member = None;
+      is_member = subst (IsMember (context_of a.parts.now.context.now) a.relocations.now a.relocation.now) c.in_default.is c.member_of.ensures;
+      keeps = refl;
+    }
+
+pub returns-then-fits : goal.returns-then-fits
+returns-then-fits c =
+    let a = c.args in
+    record {
+      ascends = a.parts.now.ascends;
+      is_ascending = c.requires.ascending;
+      member = Some c.in-Some.member;
+      is_member = subst (IsMember (context_of a.parts.now.context.now) a.relocations.now a.relocation.now) c.in-Some.is c.member_of.ensures;
+      keeps = subst (λ b. None ≡ (if b then None else Some c.in-Some.member.1.symbol)) (sym c.if-fits.true ∙ c.fits.ensures) refl;
+    }
+
+pub returns-else-fits : goal.returns-else-fits
+returns-else-fits c =
+    let a = c.args in
+    let symbol = c.in-Some.member.1.symbol in
+    record {
+      ascends = a.parts.now.ascends;
+      is_ascending = c.requires.ascending;
+      member = Some c.in-Some.member;
+      is_member = subst (IsMember (context_of a.parts.now.context.now) a.relocations.now a.relocation.now) c.in-Some.is c.member_of.ensures;
+      keeps = subst (λ b. Some symbol ≡ (if b then None else Some symbol)) (sym c.if-fits.false ∙ c.fits.ensures) refl;
+    }

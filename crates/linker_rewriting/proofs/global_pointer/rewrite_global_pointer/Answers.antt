@@ -1,5 +1,10 @@
-use Rattle.std.proofs.Common.{◌/◌, length, map, refl, rules}
-use Rattle.linker_rewriting.proofs.GlobalPointer.{whole, means_unsurveyed, rejected_first}
+use Rattle.std.proofs.Common.{◌/◌, length, map, arith, inl, refl, rules, None}
+use Rattle.std.proofs.lemmas.List.{length-map}
+use Rattle.linker_rewriting.proofs.GlobalPointer.{whole, means_unsurveyed}
+use Rattle.linker_rewriting.proofs.Rejected.{rejected_first, rejected_with}
+use Rattle.linker_rewriting.specs.Decisions.{IsRejectedBy}
+use Rattle.linker_rewriting.specs.GlobalPointer.{ArePartsRejected, DecidesPart, IsPartDecided, part_start, part_end}
+use Rattle.linker_section.specs.Relocations.{relocation_in}
 use Rattle.linker_rewriting.proofs.Listing.{all_fit}
 use Rattle.linker_rewriting.specs.Facts.{context}
 use Rattle.linker_rewriting.specs.declared.phases.Phase.TheVariants.{ShortPcRel}
@@ -8,27 +13,27 @@ use Rattle.linker_rewriting.proofs.global_pointer.rewrite_global_pointer.Goals a
 pub list_deletions-requires-clause-fit : goal.list_deletions-requires-clause-fit
 list_deletions-requires-clause-fit g c =
     let a = c.args in
-    all_fit a.relocations.now a.section.now (map g.D.AsDecision.decision c.decide_parts.new.decisions)
-    (length a.relocations.now / 24) _ c.in-Ok.ensures.made (search rules)
+    all_fit a.relocations.now a.section.now (map g.D.AsDecision.decision c.decide_by.new.decisions)
+    (length a.relocations.now / 24) _ c.in-Ok.ensures.decided.made (search rules)
 
 pub returns-in-Some-list_deletions : goal.returns-in-Some-list_deletions
 returns-in-Some-list_deletions g c =
     let a = c.args in
-    let e = c.in-Ok.ensures in
+    let e = c.in-Ok.ensures.decided in
     let l = c.in-Some-list_deletions.ensures in
     record {
       agree = c.in_default.ensures;
       decided = e.decided;
       symbols = whole (context a.architecture ShortPcRel a.output.now a.symbols.now a.addresses.now a.values.now)
-          a.gp a.kept.now a.relocations.now a.section.now (map g.D.AsDecision.decision c.decide_parts.new.decisions)
+          a.gp a.kept.now a.relocations.now a.section.now (map g.D.AsDecision.decision c.decide_by.new.decisions)
           (length a.relocations.now / 24) e.decided;
       within = e.made;
-      apart = e.apart;
+      apart = e.apart_by;
       clear = e.clear;
       relocations = c.turn_all.ensures;
       listed = l.listed;
-      form = e.form;
-      others_stay = c.decide_parts.ensures.others_stay;
+      form = c.in-Ok.ensures.form;
+      others_stay = c.decide_by.ensures.others_stay;
       deletions_stay = l.others_stay;
       rejected = tt;
       surveyed = tt;
@@ -39,8 +44,10 @@ pub returns-in-Err : goal.returns-in-Err
 returns-in-Err g c =
     let a = c.args in
     let s = context a.architecture ShortPcRel a.output.now a.symbols.now a.addresses.now a.values.now in
-    let ds = map g.D.AsDecision.decision c.decide_parts.new.decisions in
-    let e = c.in-Err.ensures.rejected in
+    let ds = map g.D.AsDecision.decision c.decide_by.new.decisions in
+    let Decides = DecidesPart s a.gp a.kept.now a.relocations.now a.section.now in
+    let IsError = IsRejectedBy Decides (λ n. IsPartDecided s a.gp a.kept.now a.relocations.now a.section.now n (relocation_in a.relocations.now n) None) part_start part_end a.architecture a.relocations.now a.section.now ds in
+    let is = rejected_with Decides a.relocations.now ds (length a.deleted.now) IsError _ c.in-Err.ensures.rejected in
     record {
       agree = tt;
       decided = tt;
@@ -51,9 +58,16 @@ returns-in-Err g c =
       relocations = tt;
       listed = tt;
       form = tt;
-      others_stay = c.decide_parts.ensures.others_stay;
+      others_stay = c.decide_by.ensures.others_stay;
       deletions_stay = tt;
-      rejected = rejected_first s a.gp a.kept.now a.relocations.now a.section.now ds (length a.deleted.now) _ c.in_default.ensures (e (length a.deleted.now));
-      surveyed = means_unsurveyed s a.gp a.kept.now a.relocations.now a.section.now ds 0 _ (e 0);
+      rejected = rejected_first a.symbols.now a.values.now a.relocations.now
+          (ArePartsRejected s a.gp a.kept.now a.relocations.now a.section.now ds (length a.deleted.now)) _ (λ n no. no) c.in_default.ensures is;
+      surveyed = means_unsurveyed s a.gp a.kept.now a.relocations.now a.section.now ds (length a.deleted.now) _ is;
       entries = refl;
     }
+
+pub returns-then-decisions-relocations_len-clause-rejected : goal.returns-then-decisions-relocations_len-clause-rejected
+returns-then-decisions-relocations_len-clause-rejected g c = (
+  c.in_default.ensures,
+  inl (let m = length-map c.args.decisions.now g.D.AsDecision.decision in let t = c.if-decisions-relocations_len.true in let e = c.relocations_len.ensures in omega (arith, m, t, e)),
+)

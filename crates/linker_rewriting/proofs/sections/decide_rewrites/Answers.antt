@@ -1,65 +1,36 @@
-use Rattle.std.proofs.Common.{◌/◌, length, sym, subst}
-use Rattle.linker_rewriting.specs.Decisions.{AllCanBeMade, AllMatch, AreApart, AreClear, AreDecided}
-use Rattle.linker_rewriting.specs.Rewritten.{GroupsAreWhole}
+use Rattle.std.proofs.Common.{◌∙◌, ◌/◌, length, map, sym, subst}
+use Rattle.linker_rewriting.specs.Decisions.{AreAllDecided, IsDecidedAfter, start_by, end_by}
+use Rattle.linker_rewriting.specs.Facts.{pre_layout}
+use Rattle.linker_rewriting.proofs.Noted.{means_unsurveyed}
+use Rattle.linker_rewriting.proofs.Whole.{whole}
 use Rattle.linker_rewriting.proofs.sections.decide_rewrites.Goals as goal
 
-pub returns-then-changes-clause-groups : goal.returns-then-changes-clause-groups
-returns-then-changes-clause-groups g c =
+pub returns-in-Ok : goal.returns-in-Ok
+returns-in-Ok g c =
     let a = c.args in
-    subst (λ ds. GroupsAreWhole a.architecture a.relocations.now ds (length a.relocations.now / 24))
-    (sym c.keep_bytes.ensures.decisions) c.in-Ok.ensures.groups
-
-pub returns-then-changes-clause-within : goal.returns-then-changes-clause-within
-returns-then-changes-clause-within g c =
-    let a = c.args in
-    subst (λ ds. AllCanBeMade a.relocations.now a.section.now ds (length a.relocations.now / 24))
-    (sym c.keep_bytes.ensures.decisions) c.in-Ok.ensures.within
-
-pub returns-then-changes-clause-matches : goal.returns-then-changes-clause-matches
-returns-then-changes-clause-matches g c =
-    let a = c.args in
-    subst (λ ds. AllMatch a.relocations.now a.section.now ds (length a.relocations.now / 24))
-    (sym c.keep_bytes.ensures.decisions) c.in-Ok.ensures.matches
-
-pub returns-then-changes-clause-apart : goal.returns-then-changes-clause-apart
-returns-then-changes-clause-apart g c =
-    let a = c.args in
-    subst (λ ds. AreApart a.relocations.now ds (length a.relocations.now / 24))
-    (sym c.keep_bytes.ensures.decisions) c.in-Ok.ensures.apart
-
-pub returns-then-changes-clause-clear : goal.returns-then-changes-clause-clear
-returns-then-changes-clause-clear g c =
-    let a = c.args in
-    subst (λ ds. AreClear a.architecture a.relocations.now a.section.now ds (length a.relocations.now / 24))
-    (sym c.keep_bytes.ensures.decisions) c.in-Ok.ensures.clear
-
-pub returns-then-changes-clause-decided : goal.returns-then-changes-clause-decided
-returns-then-changes-clause-decided g c =
-    let a = c.args in
-    subst (λ ds. AreDecided a.architecture a.output.now a.symbols.now a.kept.now a.relocations.now a.section.now ds (length a.relocations.now / 24))
-    (sym c.keep_bytes.ensures.decisions) c.in-Ok.ensures.decided
-
-pub returns-else-changes-clause-decided : goal.returns-else-changes-clause-decided
-returns-else-changes-clause-decided g c = c.in-Ok.ensures.decided
-
-pub returns-else-changes-clause-groups : goal.returns-else-changes-clause-groups
-returns-else-changes-clause-groups g c = c.in-Ok.ensures.groups
-
-pub returns-else-changes-clause-within : goal.returns-else-changes-clause-within
-returns-else-changes-clause-within g c = c.in-Ok.ensures.within
-
-pub returns-else-changes-clause-matches : goal.returns-else-changes-clause-matches
-returns-else-changes-clause-matches g c = c.in-Ok.ensures.matches
-
-pub returns-else-changes-clause-apart : goal.returns-else-changes-clause-apart
-returns-else-changes-clause-apart g c = c.in-Ok.ensures.apart
-
-pub returns-else-changes-clause-clear : goal.returns-else-changes-clause-clear
-returns-else-changes-clause-clear g c = c.in-Ok.ensures.clear
+    let s = pre_layout a.architecture a.output.now a.symbols.now in
+    let k = c.keep_bytes.ensures in
+    let e = subst (AreAllDecided (IsDecidedAfter s a.kept.now a.relocations.now a.section.now) start_by end_by a.architecture a.relocations.now a.section.now)
+    (sym k.decisions) c.in-Ok.ensures.decided in
+    record {
+      decided = e.decided;
+      groups = whole s a.kept.now a.relocations.now a.section.now
+          (map g.D.AsDecision.decision c.keep_bytes.new.decisions) (length a.relocations.now / 24) e.decided;
+      within = e.made;
+      matches = e.matches;
+      bytes = k.bytes;
+      apart = e.apart;
+      clear = e.clear;
+      form = k.form;
+      others_stay = k.others_stay ∙ c.decide_section.ensures.others_stay;
+      rejected = tt;
+      surveyed = tt;
+    }
 
 pub returns-in-Err : goal.returns-in-Err
 returns-in-Err g c =
-    let e = c.in-Err.ensures in
+    let a = c.args in
+    let is = c.in-Err.ensures.rejected in
     record {
       decided = tt;
       groups = tt;
@@ -69,7 +40,8 @@ returns-in-Err g c =
       apart = tt;
       clear = tt;
       form = tt;
-      others_stay = c.decide_pre_layout.ensures.others_stay;
-      rejected = e.rejected;
-      surveyed = e.surveyed;
+      others_stay = c.decide_section.ensures.others_stay;
+      rejected = is;
+      surveyed = means_unsurveyed (pre_layout a.architecture a.output.now a.symbols.now) a.kept.now a.relocations.now a.section.now
+          (map g.D.AsDecision.decision c.decide_section.new.decisions) _ is;
     }

@@ -4,6 +4,7 @@ use Rattle.std.proofs.lemmas.List.{length-map, map-set, get_or-map, drop-set-lt}
 use Rattle.linker_rewriting.specs.declared.decisions.Decision.TheVariants.{Kept}
 use Rattle.linker_rewriting.specs.Decisions.{decision_at, deleted_of, deleted_end}
 use Rattle.linker_rewriting.proofs.Listing.{AreListed, nothing_more, one_more, no_room}
+use Rattle.linker_rewriting.proofs.Untouched.{none_deleted}
 use Rattle.linker_section.specs.Relocations.{relocation_in}
 use Rattle.linker_rewriting.proofs.sections.list_deletions.Goals as goal
 
@@ -87,3 +88,9 @@ loop-index-preserved g c =
           (ap (λ r. r.offset) c.relocation_in-relocation.ensures));
       left = drop-set-lt (len + 1) now len y (omega arith) ∙ drop_more_same now a.deleted.now len c.loop-index.invariant.left;
     }
+
+pub returns-then-not-changes-clause-listed : goal.returns-then-not-changes-clause-listed
+returns-then-not-changes-clause-listed g c =
+    let a = c.args in
+    sym (none_deleted a.relocations.now (map g.D.AsDecision.decision a.decisions.now)
+    (length a.relocations.now / 24) (c.requires.left c.if-not-changes.true))

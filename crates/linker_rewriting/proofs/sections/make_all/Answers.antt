@@ -1,7 +1,8 @@
-use Rattle.std.proofs.Common.{◌≡◌, ◌<◌, ◌≤◌, ◌/◌, ◌∙◌, List, length, map, sym, subst, arith, rules}
+use Rattle.std.proofs.Common.{◌≡◌, ◌<◌, ◌≤◌, ◌/◌, ◌∙◌, List, length, map, ap, refl, sym, subst, arith, rules}
 use Rattle.std.proofs.lemmas.List.{length-map, get_or-map}
 use Rattle.linker_rewriting.specs.Decisions.{CanBeMade, decision_at}
-use Rattle.linker_rewriting.specs.Rewritten.{section_after, relocation_after}
+use Rattle.linker_section.specs.Relocations.{relocation_in}
+use Rattle.linker_rewriting.specs.Rewritten.{section_after, relocation_after, IsDone}
 use Rattle.linker_rewriting.specs.declared.decisions.Decision.{Decision}
 use Rattle.linker_rewriting.specs.declared.decisions.Decision.TheVariants.{Kept}
 use Rattle.linker_rewriting.proofs.Making.{made_next, kept_next, can_next, windows_apart}
@@ -72,3 +73,14 @@ returns-clause-others g c =
     let t = c.loop-index-test.false in
     let e = c.relocations_len-index-end.ensures in
     λ at outside. c.loop-index.invariant.others at (λ n less. outside n (omega arith))
+
+pub returns-then-not-changes : goal.returns-then-not-changes
+returns-then-not-changes g c =
+    let entries = c.args.relocations.now in
+    let section = c.args.section.now in
+    let kept = c.requires.left c.if-not-changes.true in
+    record {
+      relocations = λ n less. sym (ap (λ d. relocation_after d (relocation_in entries n)) (kept n less));
+      done = λ n less. subst (λ d. IsDone d (relocation_in entries n).offset section section) (sym (kept n less)) tt;
+      others = λ at outside. refl;
+    }

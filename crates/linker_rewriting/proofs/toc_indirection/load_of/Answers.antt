@@ -5,7 +5,7 @@ use Rattle.linker_rewriting.proofs.toc_indirection.load_of.Goals as goal
 
 pub returns-in-None-clause-load : goal.returns-in-None-clause-load
 returns-in-None-clause-load c =
-    let words = c.args.words.now in
+    let words = c.args.words.now.relocations.now in
     inr (λ up. subst (λ offset. IsHighFrom words word_code offset None)
     (sym (sym c.word_offset.ensures ∙ c.in-Some-word_offset.is))
     (subst (λ code. IsHighAt words code c.in-Some-word_offset.at None) c.word_code.ensures

@@ -1,43 +1,30 @@
-use Rattle.std.proofs.Common.{ℕ, List, ◌/◌, length, map, refl}
+use Rattle.std.proofs.Common.{◌/◌, length, map, arith, refl}
+use Rattle.std.proofs.lemmas.List.{length-map}
+use Rattle.linker_rewriting.proofs.Rejected.{rejected_first}
 use Rattle.linker_rewriting.proofs.WholeWords.{whole, means_unsurveyed}
-use Rattle.linker_section.specs.declared.facts.Symbol.{Symbol}
-use Rattle.linker_rewriting.specs.Agreement.{Agree}
-use Rattle.linker_rewriting.specs.Decisions.{IsRejectedFirst}
 use Rattle.linker_rewriting.specs.Facts.{context}
 use Rattle.linker_rewriting.specs.TocIndirection.{AreLoadsRejected}
-use Rattle.linker_rewriting.specs.declared.decisions.RewritingError.{RewritingError}
-use Rattle.linker_rewriting.specs.declared.decisions.RewritingError.TheVariants.{TooShort, NotSurveyed, Overlaps, Contradiction}
-use Rattle.linker_rewriting.specs.declared.facts.SymbolFacts.{SymbolFacts}
 use Rattle.linker_rewriting.specs.declared.phases.Phase.TheVariants.{ShortPcRel}
 use Rattle.linker_rewriting.proofs.toc_indirection.rewrite_toc_loads.Goals as goal
-
--- where the tables agree another error is the first
-rejected_first : (facts : List SymbolFacts) (symbols : List Symbol) (bytes : List ℕ) (IsError : RewritingError → Type 0)
-    (error : RewritingError) → ((n : ℕ) → ¬ IsError (Contradiction n)) → Agree facts symbols bytes → IsError error
-    → IsRejectedFirst facts symbols bytes IsError error
-rejected_first facts symbols bytes IsError TooShort never agree is = (agree, is)
-rejected_first facts symbols bytes IsError (NotSurveyed n) never agree is = (agree, is)
-rejected_first facts symbols bytes IsError (Overlaps n) never agree is = (agree, is)
-rejected_first facts symbols bytes IsError (Contradiction n) never agree is = absurd (never n is)
 
 pub returns-in-Ok : goal.returns-in-Ok
 returns-in-Ok g c =
     let a = c.args in
-    let e = c.in-Ok.ensures in
+    let e = c.in-Ok.ensures.decided in
     let m = c.make_all.ensures in
     record {
       agree = c.in_default.ensures;
       decided = e.decided;
       words = whole (context a.architecture ShortPcRel a.output.now a.symbols.now a.addresses.now a.values.now)
           a.words_start a.words.now a.kept.now a.relocations.now a.section.now
-          (map g.D.AsDecision.decision c.decide_loads.new.decisions) (length a.relocations.now / 24) e.decided;
+          (map g.D.AsDecision.decision c.decide_by.new.decisions) (length a.relocations.now / 24) e.decided;
       apart = e.apart;
       clear = e.clear;
       relocations = m.relocations;
       done = m.done;
       others = m.others;
-      form = e.form;
-      others_stay = c.decide_loads.ensures.others_stay;
+      form = c.in-Ok.ensures.form;
+      others_stay = c.decide_by.ensures.others_stay;
       rejected = tt;
       surveyed = tt;
       section = tt;
@@ -48,7 +35,7 @@ pub returns-in-Err : goal.returns-in-Err
 returns-in-Err g c =
     let a = c.args in
     let s = context a.architecture ShortPcRel a.output.now a.symbols.now a.addresses.now a.values.now in
-    let ds = map g.D.AsDecision.decision c.decide_loads.new.decisions in
+    let ds = map g.D.AsDecision.decision c.decide_by.new.decisions in
     record {
       agree = tt;
       decided = tt;
@@ -59,10 +46,16 @@ returns-in-Err g c =
       done = tt;
       others = tt;
       form = tt;
-      others_stay = c.decide_loads.ensures.others_stay;
+      others_stay = c.decide_by.ensures.others_stay;
       rejected = rejected_first a.symbols.now a.values.now a.relocations.now
           (AreLoadsRejected s a.words_start a.words.now a.kept.now a.relocations.now a.section.now ds) _ (λ n no. no) c.in_default.ensures c.in-Err.ensures.rejected;
       surveyed = means_unsurveyed s a.words_start a.words.now a.kept.now a.relocations.now a.section.now ds _ c.in-Err.ensures.rejected;
       section = refl;
       entries = refl;
     }
+
+pub returns-then-decisions-relocations_len-clause-rejected : goal.returns-then-decisions-relocations_len-clause-rejected
+returns-then-decisions-relocations_len-clause-rejected g c = (
+  c.in_default.ensures,
+  (let m = length-map c.args.decisions.now g.D.AsDecision.decision in let t = c.if-decisions-relocations_len.true in let e = c.relocations_len.ensures in omega (arith, m, t, e)),
+)

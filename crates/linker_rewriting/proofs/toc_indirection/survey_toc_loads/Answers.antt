@@ -1,7 +1,7 @@
 use Rattle.std.proofs.Common.{subst}
 use Rattle.linker_rewriting.proofs.WordsNoted.{more_words}
 use Rattle.linker_rewriting.specs.Facts.{context}
-use Rattle.linker_rewriting.specs.TocIndirection.{IsKeepingWord}
+use Rattle.linker_rewriting.specs.TocIndirection.{IsKeepingWord, KeepsWord}
 use Rattle.linker_rewriting.specs.declared.phases.Phase.TheVariants.{ShortPcRel}
 use Rattle.linker_rewriting.proofs.toc_indirection.survey_toc_loads.Goals as goal
 
@@ -10,7 +10,7 @@ loop-index-preserved c =
     let a = c.args in
     let k = c.loop-index.index in
     let s = context a.architecture ShortPcRel a.output.now a.symbols.now a.addresses.now a.values.now in
-    more_words s a.words_start a.words.now a.relocations.now a.section.now a.kept.now c.loop-index.kept
+    more_words (KeepsWord s a.words_start a.words.now a.relocations.now a.section.now) a.kept.now c.loop-index.kept
     c.keep_word.new.kept k c.keeping_word-word.result c.loop-index.invariant
     (subst (λ r. IsKeepingWord s a.words_start a.words.now a.relocations.now a.section.now k r c.keeping_word-word.result)
     c.relocation_in-relocation.ensures c.keeping_word-word.ensures)

@@ -6,4 +6,4 @@ use Rattle.linker_rewriting.proofs.toc_indirection.survey_toc_loads.Given as goa
 abbrev pub invariant-loop-index : goal.invariant-loop-index
 invariant-loop-index l =
     AreLoadsSurveyed (context l.fn.architecture ShortPcRel l.output l.symbols l.addresses l.values) l.words_start
-    l.words l.relocations l.section l.fn.kept l.kept l.index
+    l.fn.words l.relocations l.section l.fn.kept l.kept l.index

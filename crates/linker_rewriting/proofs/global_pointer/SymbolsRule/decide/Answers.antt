@@ -1,0 +1,21 @@
+use Rattle.linker_rewriting.proofs.Deciding.{by_rule, lacks_by}
+use Rattle.linker_rewriting.specs.GlobalPointer.{DecidesPart, IsPartDecided, part_start, part_end}
+use Rattle.linker_rewriting.specs.Inner.Contexts.{context_of}
+use Rattle.linker_rewriting.proofs.global_pointer.SymbolsRule.decide.Goals as goal
+
+pub returns-clause-decided : goal.returns-clause-decided
+returns-clause-decided c =
+    let a = c.args in
+    let p = a.self.now.parts in
+    let s = context_of p.context.now in
+    let e = c.decide_part.ensures in
+    by_rule (DecidesPart s p.gp a.self.now.kept.now a.relocations.now a.section.now) (IsPartDecided s p.gp a.self.now.kept.now a.relocations.now a.section.now a.index)
+    part_start part_end a.relocations.now a.section.now a.index a._is_taken a.relocation.now c.decide_part.result
+    c.requires.there e.decision (λ d is. is) e.made e.matches e.within
+
+pub returns-clause-lacking : goal.returns-clause-lacking
+returns-clause-lacking c =
+    let a = c.args in
+    let p = a.self.now.parts in
+    lacks_by (IsPartDecided (context_of p.context.now) p.gp a.self.now.kept.now a.relocations.now a.section.now a.index)
+    a.relocations.now a.index a.relocation.now c.decide_part.result c.requires.there c.decide_part.ensures.decision

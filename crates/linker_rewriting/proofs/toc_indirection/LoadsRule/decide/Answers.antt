@@ -1,0 +1,28 @@
+use Rattle.linker_rewriting.proofs.Deciding.{by_rule, ends_in, itself, lacks_by}
+use Rattle.linker_rewriting.specs.Decisions.{start_by, end_by}
+use Rattle.linker_rewriting.specs.Inner.Contexts.{context_of}
+use Rattle.linker_rewriting.specs.TocIndirection.{DecidesLoad, IsLoadDecided}
+use Rattle.linker_rewriting.proofs.toc_indirection.LoadsRule.decide.Goals as goal
+
+pub returns-clause-decided : goal.returns-clause-decided
+returns-clause-decided c =
+    let a = c.args in
+    let w = a.self.now.words in
+    let kept = a.self.now.kept.now in
+    let s = context_of w.context.now in
+    let e = c.decide_load.ensures in
+    by_rule (DecidesLoad s w.start w.relocations.now kept a.relocations.now a.section.now) (IsLoadDecided s w.start w.relocations.now kept a.relocations.now a.section.now a.index)
+    start_by end_by a.relocations.now a.section.now a.index a._is_taken a.relocation.now c.decide_load.result
+    c.requires.there e.decision (λ d is. is) e.made e.matches (itself a.relocation.now.offset c.decide_load.result)
+
+pub returns-clause-lacking : goal.returns-clause-lacking
+returns-clause-lacking c =
+    let a = c.args in
+    let w = a.self.now.words in
+    let kept = a.self.now.kept.now in
+    lacks_by (IsLoadDecided (context_of w.context.now) w.start w.relocations.now kept a.relocations.now a.section.now a.index)
+    a.relocations.now a.index a.relocation.now c.decide_load.result c.requires.there c.decide_load.ensures.decision
+
+pub returns-clause-ends : goal.returns-clause-ends
+returns-clause-ends c =
+    ends_in c.args.section.now c.args.relocation.now.offset c.decide_load.result c.decide_load.ensures.made

@@ -1,0 +1,130 @@
+//! The loop that decides what becomes of a section's relocations and of their instructions, by any
+//! rule.
+
+ghost use Rattle.std.specs.Prelude.{◌≡◌, ◌<◌, ◌≤◌, ◌+◌, ◌/◌, ℕ, List, Bool, length, map, take};
+ghost use Rattle.std.specs.Prelude.{drop, All, IfErr, IfNone, IfSome, OnOk, true, false};
+ghost use Rattle.linker_rewriting.specs.declared.decisions.Decision.{Decision as decisions};
+ghost use Rattle.linker_rewriting.specs.Decisions.{AreAllDecided, Bound, IsMadeBy, IsRejectedBy};
+ghost use Rattle.linker_rewriting.specs.Decisions.{decision_at};
+ghost use Rattle.linker_rewriting.specs.Notes.{is_note};
+ghost use Rattle.linker_section.specs.Relocations.{relocation_in};
+
+use crate::covered::first_covered;
+use crate::decisions::{AsDecision, Decision, RewritingError, end_after};
+use crate::relocations::relocation_in;
+use crate::riscv_pcrel_groups::is_note;
+use linker_section::relocations::{Rela, relocations_len};
+use linker_utils::elf::Architecture;
+
+/// A rule by which relocations are decided: all of a group are rewritten, or none is.
+pub(crate) trait Rule {
+    /// What it decides of the relocation with an index, which another one takes along or doesn't,
+    /// in a contract.
+    ghost decides: { Self → List ℕ → List ℕ → ℕ → Bool → decisions → Type 0 };
+
+    /// That the group of a relocation doesn't stay, but it has no rewrite, in a contract.
+    ghost lacks: { Self → List ℕ → List ℕ → ℕ → Type 0 };
+
+    /// What it takes as given of a section's relocations, in a contract.
+    ghost is_valid: { Self → List ℕ → Type 0 };
+
+    /// Whether what is noted of a relocation before is so, in a contract: that its group stays.
+    ghost is_noted: { Self → List ℕ → List ℕ → ℕ → Bool → Type 0 };
+
+    /// Where those bytes of a decision begin that no other one may have, in a contract.
+    ghost start: { Bound };
+
+    /// Where they end, in a contract.
+    ghost end: { Bound };
+
+    /// Whether no other relocation takes along the one with an index, and it stays whatever its
+    /// instruction is.
+    fn leaves(&self, is_taken: bool, relocations: &[u8], index: usize) -> bool
+        requires within { index < length relocations.now / 24 }
+        requires valid { is_valid self.now relocations.now }
+        ensures not_taken { result ≡ true → is_taken ≡ false }
+        ensures left { result ≡ true → (section : List ℕ) → IsMadeBy
+            (decides self.now relocations.now section) start end relocations.now section index false
+            decisions.Kept }
+        ensures none { result ≡ true → end decisions.Kept (relocation_in relocations.now index).offset
+            ≤ start decisions.Kept (relocation_in relocations.now index).offset };
+
+    /// What becomes of the relocation with an index. None if its group doesn't stay, but it can't
+    /// be rewritten. `stays` is what was noted of it.
+    fn decide(
+        &self,
+        is_taken: bool,
+        stays: bool,
+        relocations: &[u8],
+        section: &[u8],
+        index: usize,
+        relocation: &Rela,
+    ) -> Option<Decision>
+        requires index { index + 4 ≤ usize.MAX }
+        requires within { index < length relocations.now / 24 }
+        requires there { relocation.now ≡ relocation_in relocations.now index }
+        requires valid { is_valid self.now relocations.now }
+        requires noted { is_noted self.now relocations.now section.now index stays }
+        ensures decided { IfSome result (IsMadeBy (decides self.now relocations.now section.now)
+            start end relocations.now section.now index is_taken) }
+        ensures lacking { IfNone result (lacks self.now relocations.now section.now index) }
+        ensures ends { IfSome result (λ d. (limit : ℕ) → relocation.now.offset ≤ limit
+            → length section.now ≤ limit → end d relocation.now.offset ≤ limit) };
+
+    /// Where those bytes of a decision begin and end that no other one may have.
+    fn span(&self, decision: &Decision, offset: u64) -> (u64, u64)
+        requires { end decision.now offset ≤ u64.MAX }
+        ensures { result ≡ (start decision.now offset, end decision.now offset) };
+}
+
+/// Decides what becomes of each relocation of a section and of its instruction by a rule, in the
+/// caller's memory. Nothing is rewritten.
+#[inline(always)]
+pub(crate) fn decide_by<R: Rule, D: AsDecision>(
+    rule: &R,
+    architecture: Architecture,
+    relocations: &[u8],
+    section: &[u8],
+    decisions: &mut [D],
+) -> Result<(), RewritingError>
+    requires enough { length relocations.now / 24 ≤ length decisions.old }
+    requires valid { R.is_valid rule.now relocations.now }
+    requires noted { (n : ℕ) → n < length relocations.now / 24
+        → R.is_noted rule.now relocations.now section.now n
+        (is_note (decision_at (map D.decision decisions.old) n)) }
+    ensures decided { OnOk result (AreAllDecided (R.decides rule.now relocations.now section.now)
+        R.start R.end architecture relocations.now section.now (map D.decision decisions.new)) }
+    ensures form { OnOk result
+        (All D.is_written (take (length relocations.now / 24) decisions.new)) }
+    ensures others_stay { drop (length relocations.now / 24) decisions.new
+        ≡ drop (length relocations.now / 24) decisions.old }
+    ensures rejected { IfErr result (IsRejectedBy (R.decides rule.now relocations.now section.now)
+        (R.lacks rule.now relocations.now section.now) R.start R.end architecture relocations.now
+        section.now (map D.decision decisions.new)) }
+{
+    let mut end = 0;
+    let mut is_taken = false;
+    for index in 0..relocations_len(relocations) {
+        if rule.leaves(is_taken, relocations, index) {
+            decisions[index] = D::from_decision(Decision::Kept);
+            continue;
+        }
+        let relocation = relocation_in(relocations, index);
+        let stays = is_note(&decisions[index].as_decision());
+        let Some(decision) = rule.decide(is_taken, stays, relocations, section, index, &relocation)
+        else {
+            return Err(RewritingError::NotSurveyed(index));
+        };
+        let (start, own) = rule.span(&decision, relocation.offset);
+        let Some(new_end) = end_after(start, own, end) else {
+            return Err(RewritingError::Overlaps(index));
+        };
+        end = new_end;
+        is_taken = decision.takes_next();
+        decisions[index] = D::from_decision(decision);
+    }
+    match first_covered(architecture, relocations, section, decisions) {
+        Some(index) => Err(RewritingError::Overlaps(index)),
+        None => Ok(()),
+    }
+}

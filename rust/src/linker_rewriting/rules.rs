@@ -1,0 +1,70 @@
+// SPDX-License-Identifier: MIT OR Apache-2.0
+// Made by tools/generate of crates/linker_rewriting/src/rules.rt.
+//! The loop that decides what becomes of a section's relocations and of their instructions, by any
+//! rule.
+
+use crate::linker_rewriting::covered::first_covered;
+use crate::linker_rewriting::decisions::{AsDecision, Decision, RewritingError, end_after};
+use crate::linker_rewriting::relocations::relocation_in;
+use crate::linker_rewriting::riscv_pcrel_groups::is_note;
+use crate::linker_section::relocations::{Rela, relocations_len};
+use crate::elf::Architecture;
+
+/// A rule by which relocations are decided: all of a group are rewritten, or none is.
+pub(crate) trait Rule {
+    /// Whether no other relocation takes along the one with an index, and it stays whatever its
+    /// instruction is.
+    fn leaves(&self, is_taken: bool, relocations: &[u8], index: usize) -> bool;
+
+    /// What becomes of the relocation with an index. None if its group doesn't stay, but it can't
+    /// be rewritten. `stays` is what was noted of it.
+    fn decide(
+        &self,
+        is_taken: bool,
+        stays: bool,
+        relocations: &[u8],
+        section: &[u8],
+        index: usize,
+        relocation: &Rela,
+    ) -> Option<Decision>;
+
+    /// Where those bytes of a decision begin and end that no other one may have.
+    fn span(&self, decision: &Decision, offset: u64) -> (u64, u64);
+}
+
+/// Decides what becomes of each relocation of a section and of its instruction by a rule, in the
+/// caller's memory. Nothing is rewritten.
+#[inline(always)]
+pub(crate) fn decide_by<R: Rule, D: AsDecision>(
+    rule: &R,
+    architecture: Architecture,
+    relocations: &[u8],
+    section: &[u8],
+    decisions: &mut [D],
+) -> Result<(), RewritingError> {
+    let mut end = 0;
+    let mut is_taken = false;
+    for index in 0..relocations_len(relocations) {
+        if rule.leaves(is_taken, relocations, index) {
+            decisions[index] = D::from_decision(Decision::Kept);
+            continue;
+        }
+        let relocation = relocation_in(relocations, index);
+        let stays = is_note(&decisions[index].as_decision());
+        let Some(decision) = rule.decide(is_taken, stays, relocations, section, index, &relocation)
+        else {
+            return Err(RewritingError::NotSurveyed(index));
+        };
+        let (start, own) = rule.span(&decision, relocation.offset);
+        let Some(new_end) = end_after(start, own, end) else {
+            return Err(RewritingError::Overlaps(index));
+        };
+        end = new_end;
+        is_taken = decision.takes_next();
+        decisions[index] = D::from_decision(decision);
+    }
+    match first_covered(architecture, relocations, section, decisions) {
+        Some(index) => Err(RewritingError::Overlaps(index)),
+        None => Ok(()),
+    }
+}
