@@ -34,7 +34,7 @@ use Rattle.linker_utils.specs.AArch64Rewrites.{AArch64Entry, AreOfOneRegister, I
 use Rattle.linker_utils.specs.Relaxations.{relaxation_rewrite}
 use Rattle.linker_utils.specs.declared.aarch64.rewrites.RewriteKind.TheVariants as kinds
 
-abbrev got_row : RelocationKindInfo
+abbrev pub got_row : RelocationKindInfo
 got_row = paged_row entry_pages (signed_row 33 (insn_row GotRelative 12 33 Adr))
 
 abbrev page_after : IsAfter names.R_AARCH64_ADR_PREL_PG_HI21

@@ -3,6 +3,7 @@ pub mod AArch64Alone
 pub mod AArch64Descriptors
 pub mod AArch64Loads
 pub mod AArch64Section
+pub mod AArch64Worked
 pub mod AArch64Written
 pub mod Branches
 pub mod Fields
@@ -22,6 +23,7 @@ pub mod LoongArchPairs
 pub mod LoongArchSection
 pub mod LoongArchWritten
 pub mod Noise
+pub mod OfCalls
 pub mod Others
 pub mod PackedBytes
 pub mod PackedInstructions

@@ -29,6 +29,7 @@ pub mod RiscVTable
 pub mod SectionRuns
 pub mod Sequences
 pub mod Steps
+pub mod Worked
 pub mod X86Executed
 pub mod X86Section
 pub mod X86Steps

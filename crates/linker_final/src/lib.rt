@@ -8,3 +8,4 @@ pub mod emulated;
 pub mod laws;
 pub mod packed;
 pub mod sections;
+pub mod worked;

@@ -1,0 +1,555 @@
+-- The groups of AArch64's program that the calls link.
+use Rattle.std.proofs.Common.{◌≡◌, ◌≢◌, ℕ, zero, suc, ◌+◌, ◌-◌, ◌^◌, ◌/◌, ◌<◌, ◌≤◌, ◌⊎◌, inl, inr, List, [], ◌∷◌, length, Bool, true, false, eqb, eqb-true, refl, sym, ap, subst, ◌∙◌, arith, lit<, lit≤, pos, Some, true≢false}
+use Rattle.std.specs.Prelude.{◌&&◌, slice_get, replicate}
+use Rattle.std.proofs.lemmas.Bool.{cases_lt}
+use Rattle.std.proofs.lemmas.Int.{ints}
+use Rattle.std.proofs.lemmas.List.Elements.{All-nil, All-cons}
+use Rattle.linker_base.specs.Form.{place_sum}
+use Rattle.linker_base.specs.RewriteWindow.{window_of_rewrite}
+use Rattle.linker_base.specs.declared.rewrite.RewriteWindow.{RewriteWindow}
+use Rattle.linker_elf.specs.AArch64Relocations.{aarch64_name}
+use Rattle.linker_elf.specs.Choices.{entry}
+use Rattle.linker_elf.specs.ElfNames.{IsNamed, IsNameOf, code_of}
+use Rattle.linker_elf.specs.Value.{sum_64}
+use Rattle.linker_elf.specs.declared.aarch64.relocations.AArch64Relocation.{AArch64Relocation}
+use Rattle.linker_elf.specs.declared.aarch64.relocations.AArch64Relocation.TheVariants as names
+use Rattle.linker_elf.specs.declared.elf.architecture.Architecture.TheVariants.{AArch64}
+use Rattle.linker_elf.specs.declared.elf.value.Operands.{Operands}
+use Rattle.linker_final.proofs.AArch64Alone.{high_row}
+use Rattle.linker_final.proofs.AArch64Loads.{got_row}
+use Rattle.linker_final.proofs.AArch64Written.{IsNew, IsOfEntry, named_after, of_entry}
+use Rattle.linker_final.proofs.PutBack.{same_windows}
+use Rattle.linker_final.proofs.Written.{rela}
+use Rattle.linker_final.specs.AArch64Section.{Begins, ComesTo, HasFinal, IsRewrittenOf, at_high, at_load, at_low, high, load, low, object, register, rewriting}
+use Rattle.linker_final.specs.Final.{AreLinked, IsLinked, IsOutside, IsRewrittenByNoOther, Linked, RewritingPhase, UntouchedInPhase, UntouchedInstruction, count, instruction_at, linked_by}
+use Rattle.linker_final.specs.SectionRuns.{Section, offset_of}
+use Rattle.linker_final.specs.Worked.{HasGroups, IsGroupOf, IsPhaseOf, code_at, halves, none_stays}
+use Rattle.linker_final.specs.declared.worked.TheConstants.{AARCH64_OBJECT, AARCH64_RELOCATIONS}
+use Rattle.linker_laws.proofs.AArch64GroupsWorked.{relocated}
+use Rattle.linker_laws.specs.AArch64Groups.{Has}
+use Rattle.linker_laws.specs.AArch64GroupsWorked.{known, starting}
+use Rattle.linker_laws.specs.AArch64RewriteLaws.{IsRelocated, following, word_of}
+use Rattle.linker_laws.specs.Changes.{put, with_register}
+use Rattle.linker_laws.specs.Machine.{loaded}
+use Rattle.linker_laws.specs.Schemes.{AreAddresses}
+use Rattle.linker_laws.specs.Simulation.{Kinds, State, half, same}
+use Rattle.linker_rewriting.proofs.AArch64Sequences.{in_phase, named_at, sequences_are_whole}
+use Rattle.linker_rewriting.specs.Decisions.{IsGroupDecision, decision_at, window_of}
+use Rattle.linker_rewriting.specs.Groups.{group_stays}
+use Rattle.linker_rewriting.specs.Rewritten.{IsLoadRewritten, IsRewrittenBy, relocation_after}
+use Rattle.linker_rewriting.specs.declared.decisions.Decision.{Decision}
+use Rattle.linker_rewriting.specs.declared.decisions.Decision.TheVariants.{Kept, Rewritten}
+use Rattle.linker_rewriting.specs.declared.groups.Group.{Group}
+use Rattle.linker_rewriting.specs.declared.groups.Group.TheVariants as groups
+use Rattle.linker_rewriting.specs.declared.groups.UnrelaxableGroups.{UnrelaxableGroups}
+use Rattle.linker_rewriting.specs.declared.phases.Phase.TheVariants as phases
+use Rattle.linker_section.specs.Relocations.{relocation_in}
+use Rattle.linker_section.specs.Values.{operands_with}
+use Rattle.linker_section.specs.declared.facts.Addresses.{Addresses}
+use Rattle.linker_section.specs.declared.facts.Symbol.{Symbol}
+use Rattle.linker_section.specs.declared.relocations.Rela.{Rela}
+use Rattle.linker_utils.specs.AArch64Rewrites.{AArch64Entry, halves_to_local_exec}
+use Rattle.linker_utils.specs.Relaxations.{relaxation_rewrite}
+use Rattle.linker_utils.specs.declared.aarch64.rewrites.RewriteKind.{RewriteKind}
+use Rattle.linker_utils.specs.declared.aarch64.rewrites.RewriteKind.TheVariants as kinds
+use Rattle.linker_utils.specs.declared.architecture.Relaxation.TheVariants as relaxations
+
+-- ---- four relocations
+
+four : (P : ℕ → Type 0) → P 0 → P 1 → P 2 → P 3 → (j : ℕ) → j < 4 → P j
+four P a b c d zero below = a
+four P a b c d (suc zero) below = b
+four P a b c d (suc (suc zero)) below = c
+four P a b c d (suc (suc (suc zero))) below = d
+four P a b c d (suc (suc (suc (suc j)))) below = absurd (omega (arith, below))
+
+-- a rewrite of n bytes at an offset has none there
+outside_by : (relocations : List ℕ) (decisions : List Decision) (j at o n : ℕ)
+    → window_of (decision_at decisions j) ≡ record { back = 0; len = n }
+    → (relocation_in relocations j).offset ≡ o → (at < o) ⊎ (o + n ≤ at) → IsOutside relocations decisions j at
+outside_by relocations decisions j at o n is there apart =
+    let f = (relocation_in relocations j).offset in
+    subst (λ (w : RewriteWindow). (at < f - w.back) ⊎ ((f - w.back) + w.len ≤ at)) (sym is)
+    (elim apart [
+      | inl before ↦ inl (omega (arith, there, before))
+      | inr past ↦ inr (omega (arith, there, past))
+    ])
+
+window_by : (kind : RewriteKind) (d : Decision) → IsRewrittenBy kind d
+    → window_of d ≡ window_of_rewrite (relaxation_rewrite (relaxations.AArch64 kind))
+window_by kind d by = ap window_of by.decided ∙ ap (λ k. window_of_rewrite (relaxation_rewrite k)) by.kind_is
+
+-- ---- a program
+
+abbrev addresses : Addresses
+addresses =
+    record {
+      section = 0x400000;
+      got_base = 0;
+      thread_origin = 0x420000;
+      module_origin = 0;
+      module_entry = 0;
+      has_tls = true;
+    }
+
+abbrev variable : Symbol
+variable =
+    record {
+      address = 0x420120;
+      size = 0;
+      stub = 0;
+      address_entry = 0x411010;
+      thread_entry = 0;
+      module_entry = 0;
+      descriptor = 0;
+      entry_addend = pos 0;
+      other = 0;
+      is_thread_local = false;
+      is_undefined_weak = false;
+    }
+
+abbrev thread_variable : Symbol
+thread_variable =
+    record variable {
+      address = 0x432344;
+      address_entry = 0;
+      thread_entry = 0x411018;
+      is_thread_local = true;
+    }
+
+abbrev relocation : ℕ → Rela
+relocation = relocation_in AARCH64_RELOCATIONS
+
+abbrev high_name : AArch64Relocation
+high_name = names.R_AARCH64_TLSIE_ADR_GOTTPREL_PAGE21
+
+abbrev low_name : AArch64Relocation
+low_name = names.R_AARCH64_TLSIE_LD64_GOTTPREL_LO12_NC
+
+abbrev high_after : AArch64Relocation
+high_after = names.R_AARCH64_TLSLE_MOVW_TPREL_G1
+
+abbrev low_after : AArch64Relocation
+low_after = names.R_AARCH64_TLSLE_MOVW_TPREL_G0_NC
+
+abbrev high_entry : AArch64Entry
+high_entry = entry kinds.MovzXnLsl16 high_after halves_to_local_exec
+
+abbrev low_entry : AArch64Entry
+low_entry = entry kinds.MovkXn low_after halves_to_local_exec
+
+-- ---- relocations that are applied
+
+small : (o : Operands) → o.symbol < 2 ^ 64 → o.place < 2 ^ 64 → o.got_entry < 2 ^ 64 → o.got_base < 2 ^ 64
+    → o.plt_entry < 2 ^ 64 → o.tls_base < 2 ^ 64 → AreAddresses o
+small o a b c d e f =
+    record { symbol = a; place = b; got_entry = c; got_base = d; plt_entry = e; tls_base = f }
+
+has : (name : AArch64Relocation) (o : Operands) (before after : List ℕ) → IsRelocated name o before after
+    → loaded 4 halves.old o.place ≡ word_of after → Has halves.old name o before
+has name o before after applied stands =
+    record { relocated = after; applied = applied; stands = stands }
+
+abbrev of_load : Operands
+of_load = operands_with AArch64 addresses got_row variable (relocation 0) 0x411010
+
+abbrev of_high : Operands
+of_high = operands_with AArch64 addresses high_row thread_variable (relocation 2) 0x411018
+
+abbrev of_low : Operands
+of_low = operands_with AArch64 addresses high_row thread_variable (relocation 3) 0x411018
+
+load_small : AreAddresses of_load
+load_small = small of_load (lit< tt) (lit< tt) (lit< tt) (lit< tt) (lit< tt) (lit< tt)
+
+high_small : AreAddresses of_high
+high_small = small of_high (lit< tt) (lit< tt) (lit< tt) (lit< tt) (lit< tt) (lit< tt)
+
+low_small : AreAddresses of_low
+low_small = small of_low (lit< tt) (lit< tt) (lit< tt) (lit< tt) (lit< tt) (lit< tt)
+
+page_has : Has halves.old names.R_AARCH64_ADR_GOT_PAGE of_load (0x0 ∷ 0x0 ∷ 0x0 ∷ 0x90 ∷ [])
+unfolding place_sum
+page_has =
+    has names.R_AARCH64_ADR_GOT_PAGE of_load _ (0x80 ∷ 0x0 ∷ 0x0 ∷ 0xb0 ∷ [])
+    (relocated _ _ _ (pos 0x11000) 0x90000000 refl refl (lit≤ tt) (refl, tt, λ e. refl)
+    ((omega (arith, ints), omega (arith, ints)), lit< tt, tt) refl refl) refl
+
+rest_has : Has halves.old names.R_AARCH64_LD64_GOT_LO12_NC (following 4 of_load) (0x0 ∷ 0x0 ∷ 0x40 ∷ 0xf9 ∷ [])
+unfolding place_sum
+rest_has =
+    has names.R_AARCH64_LD64_GOT_LO12_NC (following 4 of_load) _ (0x0 ∷ 0x8 ∷ 0x40 ∷ 0xf9 ∷ [])
+    (relocated _ _ _ (pos 0x411010) 0xf9400000 refl refl (lit≤ tt) (refl, tt, λ e. refl)
+    (tt, lit< tt, tt) refl refl) refl
+
+high_has : Has halves.old high_name of_high (0x1 ∷ 0x0 ∷ 0x0 ∷ 0x90 ∷ [])
+unfolding place_sum
+high_has =
+    has high_name of_high _ (0x81 ∷ 0x0 ∷ 0x0 ∷ 0xb0 ∷ [])
+    (relocated _ _ _ (pos 0x11000) 0x90000001 refl refl (lit≤ tt) (refl, tt, λ e. refl)
+    ((omega (arith, ints), omega (arith, ints)), lit< tt, tt) refl refl) refl
+
+low_has : Has halves.old low_name of_low (0x42 ∷ 0x0 ∷ 0x40 ∷ 0xf9 ∷ [])
+unfolding place_sum
+low_has =
+    has low_name of_low _ (0x42 ∷ 0xc ∷ 0x40 ∷ 0xf9 ∷ [])
+    (relocated _ _ _ (pos 0x411018) 0xf9400042 refl refl (lit≤ tt) (refl, tt, λ e. refl)
+    (tt, lit< tt, tt) refl refl) refl
+
+-- ---- the final bytes
+
+abbrev each_below : ℕ → (ℕ → Bool) → Bool
+each_below zero f = true
+each_below (suc n) f = f n && each_below n f
+
+first_of : (a b : Bool) → (a && b) ≡ true → a ≡ true
+first_of true b e = refl
+first_of false b e = e
+
+second_of : (a b : Bool) → (a && b) ≡ true → b ≡ true
+second_of true b e = e
+second_of false b e = absurd (true≢false (sym e))
+
+below_each : (n : ℕ) (f : ℕ → Bool) → each_below n f ≡ true → (k : ℕ) → k < n → f k ≡ true
+below_each zero f e k below = absurd (omega (arith, below))
+below_each (suc n) f e k below =
+    elim (cases_lt k n) [
+      | inl less ↦ below_each n f (second_of (f n) (each_below n f) e) k less
+      | inr past ↦ let same : n ≡ k = omega (arith, below, past) in
+          subst (λ k. f k ≡ true) same (first_of (f n) (each_below n f) e)
+    ]
+
+pub new_is_final : HasFinal addresses (code_at halves.new 0x400000 20) halves
+new_is_final at inside =
+    eqb-true _ _ (below_each 17
+    (λ at. eqb (loaded 4 halves.new (sum_64 0x400000 at)) (word_of (instruction_at (code_at halves.new 0x400000 20) at)))
+    refl at (let less : at + 4 ≤ 20 = inside in omega (arith, less)))
+
+-- ---- states
+
+abbrev s0 : State
+s0 = starting 0x420120
+
+abbrev s1 : State
+s1 = put 0 0x420120 0x400008 s0
+
+abbrev s3 : State
+s3 = put 2 0x411000 0x400010 (put 1 0x411000 0x40000c s1)
+
+abbrev k1 : Kinds
+k1 = with_register 0 same known
+
+abbrev k3 : Kinds
+k3 = with_register 2 (half 0) (with_register 1 (half 0) k1)
+
+-- no group of its symbols stays
+decided : (s : List UnrelaxableGroups) (group : Group) (r r' : Rela) → s ≡ replicate 12 none_stays → r ≡ r'
+    → group_stays (replicate 12 none_stays) group r'.symbol ≡ false → group_stays s group r.symbol ≡ false
+decided s group r r' none is e =
+    subst (λ k. group_stays k group r.symbol ≡ false) (sym none)
+    (subst (λ (r : Rela). group_stays (replicate 12 none_stays) group r.symbol ≡ false) (sym is) e)
+
+module _ (p q : RewritingPhase) (relocations_last last final : List ℕ) (symbols : List Symbol)
+    (is_p : IsPhaseOf AArch64 phases.PreLayout p) (is_q : IsPhaseOf AArch64 phases.GotToPcRel q)
+    (are : AreLinked (p ∷ q ∷ []) AARCH64_RELOCATIONS AARCH64_OBJECT relocations_last last addresses symbols final)
+    (x_is : slice_get symbols 5 ≡ Some variable) (y_is : slice_get symbols 6 ≡ Some thread_variable)
+    (has_final : HasFinal addresses final halves) where
+  abbrev l : Linked
+  l = linked_by p (q ∷ []) relocations_last last addresses symbols final
+
+  abbrev m : Linked
+  m = linked_by q [] relocations_last last addresses symbols final
+
+  linked_l : IsLinked l
+  linked_l = are.1
+
+  linked_m : IsLinked m
+  linked_m = are.2.1
+
+  new_l : IsNew l halves
+  new_l = record { linked = linked_l; aarch64 = is_p.architecture_is; final = has_final }
+
+  new_m : IsNew m halves
+  new_m = record { linked = linked_m; aarch64 = is_q.architecture_is; final = has_final }
+
+  -- ---- the first phase
+
+  there : (i : ℕ) → relocation_in l.relocations i ≡ relocation i
+  there i = ap (λ bytes. relocation_in bytes i) are.0.same_relocations
+
+  count_l : count l ≡ 4
+  count_l = ap (λ bytes. length bytes / 24) are.0.same_relocations
+
+  below_l : (i : ℕ) → i < 4 → i < count l
+  below_l i below = omega (arith, below, count_l)
+
+  named_l : (i : ℕ) (name : AArch64Relocation) → i < 4 → IsNamed (aarch64_name name)
+      → code_of (aarch64_name name) ≡ (relocation i).code → IsNameOf aarch64_name (relocation_in l.relocations i).code name
+  named_l i name below named code =
+      named_at l.context is_p.architecture_is l.kept l.relocations l.section l.decisions linked_l.decided i name
+      (below_l i below) named (code ∙ ap (λ (r : Rela). r.code) (sym (there i)))
+
+  page_stays : decision_at l.decisions 0 ≡ Kept
+  page_stays =
+      in_phase l.context is_p.architecture_is l.kept l.relocations l.section l.decisions linked_l.decided 0
+      names.R_AARCH64_ADR_GOT_PAGE phases.PreLayout (below_l 0 (lit< tt))
+      (named_l 0 names.R_AARCH64_ADR_GOT_PAGE (lit< tt) tt refl) is_p.phase_is
+
+  load_stays : decision_at l.decisions 1 ≡ Kept
+  load_stays =
+      in_phase l.context is_p.architecture_is l.kept l.relocations l.section l.decisions linked_l.decided 1
+      names.R_AARCH64_LD64_GOT_LO12_NC phases.PreLayout (below_l 1 (lit< tt))
+      (named_l 1 names.R_AARCH64_LD64_GOT_LO12_NC (lit< tt) tt refl) is_p.phase_is
+
+  half_of : (i : ℕ) (name : AArch64Relocation) → (below : i < 4) → IsNameOf aarch64_name (relocation_in l.relocations i).code name
+      → IsGroupDecision l.context l.relocations l.section i (relocation_in l.relocations i)
+      (group_stays l.kept groups.InitialExec (relocation_in l.relocations i).symbol) (decision_at l.decisions i)
+      → group_stays (replicate 12 none_stays) groups.InitialExec (relocation i).symbol ≡ false
+      → IsRewrittenOf l name i
+  half_of i name below is_name is none =
+      let made = subst (λ b. IsGroupDecision l.context l.relocations l.section i (relocation_in l.relocations i) b (decision_at l.decisions i))
+      (decided l.kept groups.InitialExec (relocation_in l.relocations i) (relocation i) is_p.kept_are (there i) none) is in
+      record { below = below_l i below; is_name = is_name; chosen = made.0; decided = made.2 }
+
+  high_of : IsRewrittenOf l high_name 2
+  high_of =
+      let is_name = named_l 2 high_name (lit< tt) tt refl in
+      half_of 2 high_name (lit< tt) is_name
+      (in_phase l.context is_p.architecture_is l.kept l.relocations l.section l.decisions linked_l.decided 2
+      high_name phases.PreLayout (below_l 2 (lit< tt)) is_name is_p.phase_is) refl
+
+  low_of : IsRewrittenOf l low_name 3
+  low_of =
+      let is_name = named_l 3 low_name (lit< tt) tt refl in
+      half_of 3 low_name (lit< tt) is_name
+      (in_phase l.context is_p.architecture_is l.kept l.relocations l.section l.decisions linked_l.decided 3
+      low_name phases.PreLayout (below_l 3 (lit< tt)) is_name is_p.phase_is) refl
+
+  high_by : IsOfEntry high_name high_entry l.section (offset_of l 2) high_of.chosen
+  high_by = of_entry new_l high_name 2 high_of tt high_entry refl
+
+  low_by : IsOfEntry low_name low_entry l.section (offset_of l 3) low_of.chosen
+  low_by = of_entry new_l low_name 3 low_of tt low_entry refl
+
+  -- ---- the second
+
+  taken : (i : ℕ) → relocation_in m.relocations i ≡ relocation_in l.relocations_after i
+  taken i = ap (λ bytes. relocation_in bytes i) are.2.0.same_relocations
+
+  count_m : count m ≡ 4
+  count_m = ap (λ bytes. length bytes / 24) are.2.0.same_relocations ∙ (ap (λ n. n / 24) linked_l.as_many ∙ count_l)
+
+  below_m : (i : ℕ) → i < 4 → i < count m
+  below_m i below = omega (arith, below, count_m)
+
+  as_it_was : (i : ℕ) → i < 4 → decision_at l.decisions i ≡ Kept → relocation_in m.relocations i ≡ relocation i
+  as_it_was i below stays =
+      taken i ∙ (linked_l.relocations i (below_l i below)
+      ∙ (ap (λ d. relocation_after d (relocation_in l.relocations i)) stays ∙ there i))
+
+  page_there : relocation_in m.relocations 0 ≡ relocation 0
+  page_there = as_it_was 0 (lit< tt) page_stays
+
+  load_there : relocation_in m.relocations 1 ≡ relocation 1
+  load_there = as_it_was 1 (lit< tt) load_stays
+
+  high_there : relocation_in m.relocations 2 ≡ rela 8 (code_of (aarch64_name high_after)) 6 (pos 0)
+  high_there =
+      taken 2 ∙ (named_after new_l high_name 2 high_of high_entry high_by (λ o. refl) (λ a. refl)
+      ∙ ap (λ (r : Rela). rela r.offset (code_of (aarch64_name high_after)) r.symbol r.addend) (there 2))
+
+  low_there : relocation_in m.relocations 3 ≡ rela 16 (code_of (aarch64_name low_after)) 6 (pos 0)
+  low_there =
+      taken 3 ∙ (named_after new_l low_name 3 low_of low_entry low_by (λ o. refl) (λ a. refl)
+      ∙ ap (λ (r : Rela). rela r.offset (code_of (aarch64_name low_after)) r.symbol r.addend) (there 3))
+
+  named_m : (i : ℕ) (name : AArch64Relocation) (r : Rela) → i < 4 → relocation_in m.relocations i ≡ r
+      → IsNamed (aarch64_name name) → code_of (aarch64_name name) ≡ r.code
+      → IsNameOf aarch64_name (relocation_in m.relocations i).code name
+  named_m i name r below is named code =
+      named_at m.context is_q.architecture_is m.kept m.relocations m.section m.decisions linked_m.decided i name
+      (below_m i below) named (code ∙ ap (λ (r : Rela). r.code) (sym is))
+
+  high_stays : decision_at m.decisions 2 ≡ Kept
+  high_stays =
+      in_phase m.context is_q.architecture_is m.kept m.relocations m.section m.decisions linked_m.decided 2
+      high_after phases.GotToPcRel (below_m 2 (lit< tt))
+      (named_m 2 high_after _ (lit< tt) high_there tt refl) is_q.phase_is
+
+  low_stays : decision_at m.decisions 3 ≡ Kept
+  low_stays =
+      in_phase m.context is_q.architecture_is m.kept m.relocations m.section m.decisions linked_m.decided 3
+      low_after phases.GotToPcRel (below_m 3 (lit< tt))
+      (named_m 3 low_after _ (lit< tt) low_there tt refl) is_q.phase_is
+
+  load_of : IsLoadRewritten m.relocations m.decisions 0
+  load_of =
+      let name = names.R_AARCH64_ADR_GOT_PAGE in
+      let is_name = named_m 0 name _ (lit< tt) page_there tt refl in
+      let is = in_phase m.context is_q.architecture_is m.kept m.relocations m.section m.decisions linked_m.decided 0
+      name phases.GotToPcRel (below_m 0 (lit< tt)) is_name is_q.phase_is in
+      let made = subst (λ b. IsGroupDecision m.context m.relocations m.section 0 (relocation_in m.relocations 0) b (decision_at m.decisions 0))
+      (decided m.kept groups.GotLoad (relocation_in m.relocations 0) (relocation 0) is_q.kept_are page_there refl) is in
+      let changed : decision_at m.decisions 0 ≢ Kept = λ e. (let f : Rewritten made.0 ≡ Kept = sym made.2 ∙ e in cc) in
+      (sequences_are_whole m.context m.kept m.relocations m.section m.decisions 0 name is_q.architecture_is linked_m.decided
+      (below_m 0 (lit< tt)) is_name changed).1
+
+  -- ---- which bytes are whose
+
+  outside_l : (at : ℕ) → at < 8 → (j : ℕ) → j < count l → IsOutside l.relocations l.decisions j at
+  outside_l at less j below =
+      four (λ j. IsOutside l.relocations l.decisions j at)
+      (outside_by l.relocations l.decisions 0 at 0 0 (ap window_of page_stays) (ap (λ (r : Rela). r.offset) (there 0)) (inr (omega arith)))
+      (outside_by l.relocations l.decisions 1 at 4 0 (ap window_of load_stays) (ap (λ (r : Rela). r.offset) (there 1)) (elim (cases_lt at 4) [
+        | inl before ↦ inl before
+        | inr past ↦ inr (omega (arith, past))
+      ]))
+      (outside_by l.relocations l.decisions 2 at 8 4 (window_by kinds.MovzXnLsl16 (decision_at l.decisions 2) (record { chosen = high_of.chosen; decided = high_of.decided; kind_is = high_by.kind_is }))
+      (ap (λ (r : Rela). r.offset) (there 2)) (inl less))
+      (outside_by l.relocations l.decisions 3 at 16 4 (window_by kinds.MovkXn (decision_at l.decisions 3) (record { chosen = low_of.chosen; decided = low_of.decided; kind_is = low_by.kind_is }))
+      (ap (λ (r : Rela). r.offset) (there 3)) (inl (omega (arith, less))))
+      j (omega (arith, below, count_l))
+
+  outside_m : (at : ℕ) → ((at < 4) ⊎ (8 ≤ at)) → (j : ℕ) → j < count m → IsOutside m.relocations m.decisions j at
+  outside_m at apart j below =
+      four (λ j. IsOutside m.relocations m.decisions j at)
+      (outside_by m.relocations m.decisions 0 at 0 0 (window_by kinds.NoOp (decision_at m.decisions 0) load_of.page_decided) (ap (λ (r : Rela). r.offset) page_there) (inr (omega arith)))
+      (outside_by m.relocations m.decisions 1 at 4 4 (window_by kinds.LdrToAdd (decision_at m.decisions 1) load_of.low_decided) (ap (λ (r : Rela). r.offset) load_there) apart)
+      (outside_by m.relocations m.decisions 2 at 8 0 (ap window_of high_stays) (ap (λ (r : Rela). r.offset) high_there) (beside 8))
+      (outside_by m.relocations m.decisions 3 at 16 0 (ap window_of low_stays) (ap (λ (r : Rela). r.offset) low_there) (beside 16))
+      j (omega (arith, below, count_m))
+    where
+      beside : (o : ℕ) → (at < o) ⊎ (o + 0 ≤ at)
+      beside o = elim (cases_lt at o) [ inl before ↦ inl before | inr past ↦ inr (omega (arith, past)) ]
+
+  -- the second phase leaves the halves alone
+  untouched : (i : ℕ) → decision_at m.decisions i ≡ Kept → 8 ≤ (relocation i).offset → UntouchedInstruction l i
+  untouched i stays from =
+      let o = ap (λ (r : Rela). r.offset) (there i) in
+      All-cons (UntouchedInPhase i (offset_of l i) 4) q []
+      (record { kept = stays; apart = λ at past less j below. outside_m at (inr (omega (arith, past, o, from))) j below })
+      (All-nil (UntouchedInPhase i (offset_of l i) 4))
+
+  -- ---- the groups
+
+  abbrev x : Section
+  x =
+      record {
+        phases = p ∷ q ∷ [];
+        relocations = AARCH64_RELOCATIONS;
+        section = AARCH64_OBJECT;
+        relocations_last = relocations_last;
+        last = last;
+        addresses = addresses;
+        symbols = symbols;
+        final = final;
+      }
+
+  object_l : (i : ℕ) → object l i ≡ instruction_at AARCH64_OBJECT (relocation i).offset
+  object_l i =
+      ap (λ bytes. instruction_at bytes (offset_of l i)) are.0.same_section
+      ∙ ap (λ (r : Rela). instruction_at AARCH64_OBJECT r.offset) (there i)
+
+  object_m : (i : ℕ) → relocation_in m.relocations i ≡ relocation i → (relocation i).offset + 4 ≤ 8
+      → object m i ≡ instruction_at AARCH64_OBJECT (relocation i).offset
+  object_m i is inside =
+      ap (λ bytes. instruction_at bytes (offset_of m i)) are.2.0.same_section
+      ∙ (ap (λ (r : Rela). instruction_at l.rewritten r.offset) is
+      ∙ (same_windows (relocation i).offset 4 l.rewritten l.section (omega (arith, inside, long, linked_l.same_length)) (sym linked_l.same_length)
+      (λ at from less. linked_l.others at (outside_l at (omega (arith, less, inside))))
+      ∙ ap (λ bytes. instruction_at bytes (relocation i).offset) are.0.same_section))
+    where
+      long : length l.section ≡ 20
+      long = ap length are.0.same_section
+
+  abbrev load_comes : ComesTo m s0 names.R_AARCH64_ADR_GOT_PAGE 0 of_load
+  load_comes =
+      record {
+        pc = refl;
+        small = load_small;
+        symbol = variable;
+        is_symbol = ap (λ (r : Rela). slice_get symbols r.symbol) page_there ∙ x_is;
+        are = ap (λ r. operands_with AArch64 addresses got_row variable r 0x411010) (sym page_there);
+      }
+
+  alone : IsRewrittenByNoOther m 0 (offset_of m 0)
+  alone j at below other from less =
+      let o = ap (λ (r : Rela). r.offset) page_there in
+      outside_m at (inl (omega (arith, less, o))) j below
+
+  load_group : IsGroupOf rewriting x halves 2 known s0 k1 s1
+  load_group = (
+    m,
+    inr (inl refl),
+    load 0 load_of,
+    (
+      refl,
+      has_final,
+      subst (λ r. Begins x m halves known s0 (load 0 load_of) (with_register r same known) (put r 0x420120 0x400008 s0))
+          (ap register (object_m 1 load_there (lit≤ tt)))
+          (at_load 0 load_of of_load load_comes refl alone (inl (All-nil _, All-nil _)) refl
+          (subst (Has halves.old names.R_AARCH64_ADR_GOT_PAGE of_load) (sym (object_m 0 page_there (lit≤ tt))) page_has)
+          (subst (Has halves.old names.R_AARCH64_LD64_GOT_LO12_NC (following 4 of_load)) (sym (object_m 1 load_there (lit≤ tt))) rest_has)),
+    ),
+  )
+
+  high_comes : ComesTo l s1 high_after 2 of_high
+  high_comes =
+      record {
+        pc = refl;
+        small = high_small;
+        symbol = thread_variable;
+        is_symbol = ap (λ (r : Rela). slice_get symbols r.symbol) (there 2) ∙ y_is;
+        are = ap (λ r. operands_with AArch64 addresses high_row thread_variable r 0x411018) (sym (there 2));
+      }
+
+  high_register : register (object l 2) ≡ 1
+  high_register = ap register (object_l 2)
+
+  high_group : IsGroupOf rewriting x halves 1 k1 s1 (with_register 1 (half 0) k1) (put 1 0x411000 0x40000c s1)
+  high_group = (
+    l,
+    inl refl,
+    high 2 high_of,
+    (
+      refl,
+      has_final,
+      subst (λ r. Begins x l halves k1 s1 (high 2 high_of) (with_register r (half 0) k1) (put r 0x411000 0x40000c s1))
+          high_register
+          (at_high 2 0 high_of of_high high_comes (untouched 2 high_stays (lit≤ tt)) refl refl
+          (λ e. let f : 1 ≡ 31 = sym high_register ∙ e in omega (arith, f))
+          (subst (Has halves.old high_name of_high) (sym (object_l 2)) high_has)),
+    ),
+  )
+
+  low_comes : ComesTo l s3 high_after 3 of_low
+  low_comes =
+      record {
+        pc = refl;
+        small = low_small;
+        symbol = thread_variable;
+        is_symbol = ap (λ (r : Rela). slice_get symbols r.symbol) (there 3) ∙ y_is;
+        are = ap (λ r. operands_with AArch64 addresses high_row thread_variable r 0x411018) (sym (there 3));
+      }
+
+  low_register : register (object l 3) ≡ 2
+  low_register = ap register (object_l 3)
+
+  low_group : IsGroupOf rewriting x halves 1 k3 s3 (with_register 2 same k3) (put 2 0x12344 0x400014 s3)
+  low_group = (
+    l,
+    inl refl,
+    low 3 low_of,
+    (
+      refl,
+      has_final,
+      subst (λ r. Begins x l halves k3 s3 (low 3 low_of) (with_register r same k3) (put r 0x12344 0x400014 s3))
+          low_register
+          (at_low 3 0 low_of of_low low_comes (untouched 3 low_stays (lit≤ tt)) refl refl refl
+          (ap k3.registers low_register) (ap s3.registers low_register)
+          (subst (Has halves.old low_name of_low) (sym (object_l 3)) low_has)),
+    ),
+  )
+
+  pub has_groups : HasGroups x
+  has_groups = (load_group, high_group, low_group)

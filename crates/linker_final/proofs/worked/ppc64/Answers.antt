@@ -1,0 +1,9 @@
+use Rattle.std.proofs.Common.{refl}
+use Rattle.linker_final.proofs.OfCalls.{of_calls}
+use Rattle.linker_final.proofs.worked.ppc64.Goals as goal
+use Rattle.linker_final.specs.Ppc64Section.{rewriting}
+
+pub returns : goal.returns
+returns c so =
+    of_calls rewriting _ _ _ _ _ _ _ _ (λ l is. is) (c.is_relocated.ensures c.if-not-is_relocated.false) refl
+    (c.is_linked.ensures so)

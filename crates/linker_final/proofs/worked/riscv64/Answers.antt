@@ -1,0 +1,42 @@
+use Rattle.std.proofs.Common.{length, refl, subst, ◌∙◌, ◌/◌}
+use Rattle.linker_final.proofs.OfCalls.{moved_with, packed_with, written_over}
+use Rattle.linker_final.proofs.Relaxed.{listed_deltas}
+use Rattle.linker_final.proofs.SameDecisions.{same_decisions}
+use Rattle.linker_final.proofs.worked.riscv64.Goals as goal
+use Rattle.linker_rewriting.specs.GlobalPointer.{AreRelocationsBy}
+
+pub returns : goal.returns
+returns c so =
+    let plan = c.in_ok-plan.plan in
+    let listed = c.deltas-deltas.ensures in
+    let valid = listed_deltas plan.deletions c.deltas-deltas.result.now listed.valid listed.listing in
+    let lost = listed.listing.same ∙ c.in_ok-plan.ensures.deleted in
+    let before = c.is_rewritten.new.relocations in
+    let named = c.rewrite_global_pointer.new.relocations in
+    record {
+      addresses = _;
+      symbols = _;
+      old_is = c.is_relocated.ensures c.if-not-is_relocated.false;
+      relocations_after = before;
+      rewritten = c.is_rewritten.new.section;
+      is_rewritten = c.is_rewritten.ensures c.if-not-is_rewritten.false;
+      decisions = c.rewrite_global_pointer.new.decisions;
+      without_base = named;
+      by_pointer = subst (λ ds. AreRelocationsBy ds before named (length before / 24)) (same_decisions c.rewrite_global_pointer.new.decisions) c.in-Ok-eq1.ensures.relocations;
+      items = _;
+      shapes = plan.shapes.items;
+      kept = plan.kept.items;
+      freed = plan.freed.items;
+      relaxed = c.in_ok-plan.ensures.relaxed;
+      moved = c.pack_run.new.relocations;
+      packed = c.pack_run.new.out;
+      is_packed = packed_with _ _ _ _ _ _ _ _ lost (c.in-Ok.ensures.packed valid);
+      are_moved = moved_with _ _ _ _ _ _ _ _ _ lost (c.in-Ok.ensures.moved valid);
+      symbols_then = _;
+      gp = 0x20000;
+      based = c.finish_gp_relaxation.new.relocations;
+      are_based = c.in-Ok-finish_gp_relaxation.ensures.relocations;
+      final = _;
+      written = written_over _ _ _ _ _ _ _ c.in-Ok-finish_gp_relaxation.ensures.section (c.is_relocated-2.ensures so);
+      new_is = refl;
+    }
