@@ -48,7 +48,13 @@ macro_rules! by_code {
             #[inline]
             pub const fn $row(r_type: u32) -> Option<RelocationKindInfo> {
                 let code = r_type as usize;
-                if code < END { ROWS[code] } else { None }
+                if code < END {
+                    // by reference, so that no bytes of a missing row are copied
+                    if let Some(row) = &ROWS[code] {
+                        return Some(*row);
+                    }
+                }
+                None
             }
 
             $($more)*
