@@ -39,7 +39,7 @@ pub const BEHIND: Calls = Calls {
     relocate_each: |_, _, _| None,
     deltas: |list| Box::new(Behind(original::new(list.to_vec()))),
     new_side: |list| original::Direct.new_side(list),
-    merge_side: |first, second| original::Direct.merge_side(first, second),
+    merge_side: |halves| original::Direct.merge_side(halves),
     pack_side: |_, _, _| None,
 };
 

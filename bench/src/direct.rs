@@ -5,6 +5,7 @@
 use crate::library::*;
 use crate::measure::Side;
 use crate::table::*;
+use erased_crate::compat as compat_crate;
 use std::hint::black_box;
 
 macro_rules! form_loops {
@@ -274,16 +275,19 @@ macro_rules! library {
                     )
                 }
 
-                fn merge_side<'a>(
-                    &self,
-                    first: &'a [(u64, u32)],
-                    second: &'a [(u64, u32)],
-                ) -> Side<'a> {
+                fn merge_side<'a>(&self, halves: &'a [Halves]) -> Side<'a> {
                     Side::over(
-                        (Vec::new(), None),
-                        move |state| *state = (second.to_vec(), Some(new(first.to_vec()))),
-                        |state| $merge(state.1.as_mut().expect("a list"), &mut state.0),
-                        |state| listed(state.1.as_ref().expect("a list")),
+                        Vec::new(),
+                        move |state| {
+                            let both = halves.iter();
+                            *state = both.map(|[old, more]| (new(old.clone()), more.clone())).collect();
+                        },
+                        |state| {
+                            for (deltas, more) in state {
+                                $merge(deltas, more);
+                            }
+                        },
+                        |state| state.iter().map(|(deltas, _)| listed(deltas)).collect::<Vec<_>>(),
                     )
                 }
 
@@ -328,6 +332,12 @@ macro_rules! library {
                         *output = cursor.translate(*query);
                     }
                     true
+                }
+
+                fn walk_sum(&self, queries: &[u64]) -> Option<u64> {
+                    let mut cursor = self.cursor();
+                    let outputs = queries.iter().map(|query| cursor.translate(*query));
+                    Some(outputs.fold(0, u64::wrapping_add))
                 }
             }
         }
@@ -411,25 +421,33 @@ fn listed_row(machine: u16, r_type: u32) -> Option<erased_crate::elf::Row> {
     Architecture::from_machine(machine)?.row(r_type)
 }
 
+/// A crate with all of the original's interface.
+macro_rules! original_library {
+    ($module:ident, $crate_name:ident) => {
+        library!(
+            $module,
+            $crate_name,
+            |machine, r_type| match machine {
+                AARCH64 => library::aarch64::relocation_type_from_raw(r_type),
+                RISCV => library::riscv64::relocation_type_from_raw(r_type),
+                LOONGARCH64 => library::loongarch64::relocation_type_from_raw(r_type),
+                PPC64 => library::ppc64::relocation_type_from_raw(r_type),
+                _ => library::x86_64::relocation_from_raw(r_type),
+            },
+            |lists: &mut Vec<Vec<(u64, u32)>>, made: &mut Vec<SectionRelaxDeltas>| {
+                made.extend(lists.drain(..).map(SectionRelaxDeltas::new))
+            },
+            |deltas: &mut SectionRelaxDeltas, more: &mut Vec<(u64, u32)>| {
+                deltas.merge_additional(std::mem::take(more))
+            },
+            |deltas: &SectionRelaxDeltas, queries, outputs| {
+                deltas.walk_each(queries, outputs);
+            },
+            {}
+        );
+    };
+}
+
+original_library!(compat, compat_crate);
 #[cfg(feature = "upstream")]
-library!(
-    original,
-    linker_utils,
-    |machine, r_type| match machine {
-        AARCH64 => library::aarch64::relocation_type_from_raw(r_type),
-        RISCV => library::riscv64::relocation_type_from_raw(r_type),
-        LOONGARCH64 => library::loongarch64::relocation_type_from_raw(r_type),
-        PPC64 => library::ppc64::relocation_type_from_raw(r_type),
-        _ => library::x86_64::relocation_from_raw(r_type),
-    },
-    |lists: &mut Vec<Vec<(u64, u32)>>, made: &mut Vec<SectionRelaxDeltas>| {
-        made.extend(lists.drain(..).map(SectionRelaxDeltas::new))
-    },
-    |deltas: &mut SectionRelaxDeltas, more: &mut Vec<(u64, u32)>| {
-        deltas.merge_additional(std::mem::take(more))
-    },
-    |deltas: &SectionRelaxDeltas, queries, outputs| {
-        deltas.walk_each(queries, outputs);
-    },
-    {}
-);
+original_library!(original, linker_utils);

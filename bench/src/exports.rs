@@ -34,7 +34,7 @@ pub struct Calls {
     pub relocate_each: fn(u16, &[Fixup], &mut [u8]) -> Option<bool>,
     pub deltas: fn(&[(u64, u32)]) -> Box<dyn Deltas>,
     pub new_side: for<'a> fn(&'a [(u64, u32)]) -> Side<'a>,
-    pub merge_side: for<'a> fn(&'a [(u64, u32)], &'a [(u64, u32)]) -> Side<'a>,
+    pub merge_side: for<'a> fn(&'a [Halves]) -> Side<'a>,
     pub pack_side: for<'a> fn(&'a [u8], &[(u64, u32)], &'a [(u64, u64)]) -> Option<Side<'a>>,
 }
 
@@ -95,13 +95,24 @@ pub const EXPORTS: Calls = Calls {
     },
     deltas: |list| Box::new(created(&deletions_of(list))),
     new_side: |list| new_side_by(create, list),
-    merge_side: |first, second| {
-        let merged = vec![Delta::default(); first.len() + second.len()];
+    merge_side: |halves| {
+        let room = |[old, more]: &Halves| vec![Delta::default(); old.len() + more.len()];
+        let given = |[old, more]: &Halves| (created(&deletions_of(old)), deletions_of(more));
         Side::over(
-            ((Vec::new(), Vec::new()), merged),
-            move |state| state.0 = (created(&deletions_of(first)), deletions_of(second)),
-            |state| merge(&state.0.0, &state.0.1, &mut state.1),
-            |state| listed(&state.1),
+            (Vec::new(), halves.iter().map(room).collect::<Vec<_>>()),
+            move |state| state.0 = halves.iter().map(given).collect(),
+            |state| {
+                for ((old, more), merged) in state.0.iter().zip(&mut state.1) {
+                    merge(old, more, merged);
+                }
+            },
+            |state| {
+                state
+                    .1
+                    .iter()
+                    .map(|merged| listed(merged))
+                    .collect::<Vec<_>>()
+            },
         )
     },
     pack_side: |section, list, calls| {
@@ -296,8 +307,8 @@ impl Library for Calls {
         (self.new_side)(list)
     }
 
-    fn merge_side<'a>(&self, first: &'a [(u64, u32)], second: &'a [(u64, u32)]) -> Side<'a> {
-        (self.merge_side)(first, second)
+    fn merge_side<'a>(&self, halves: &'a [Halves]) -> Side<'a> {
+        (self.merge_side)(halves)
     }
 
     fn pack_side<'a>(

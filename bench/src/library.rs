@@ -30,6 +30,9 @@ pub struct Fixup {
     pub value: i64,
 }
 
+/// Deletions of a list, and those to merge into it.
+pub type Halves = [Vec<(u64, u32)>; 2];
+
 /// Applies relocations to a section. Whether all succeed.
 pub type RelocateAll<'a> = Box<dyn Fn(&mut [u8]) -> bool + Sync + 'a>;
 
@@ -78,7 +81,8 @@ pub trait Library: Sync {
     fn deltas(&self, list: &[(u64, u32)]) -> Box<dyn Deltas>;
     /// The deltas of `lists_a_round` such lists.
     fn new_side<'a>(&self, list: &'a [(u64, u32)]) -> Side<'a>;
-    fn merge_side<'a>(&self, first: &'a [(u64, u32)], second: &'a [(u64, u32)]) -> Side<'a>;
+    /// Merges, each into other deltas.
+    fn merge_side<'a>(&self, halves: &'a [Halves]) -> Side<'a>;
 
     // what not every side has
 
@@ -122,6 +126,10 @@ pub trait Deltas: Sync {
     /// The same by one call for each, or false where there is none.
     fn walk_each(&self, _queries: &[u64], _outputs: &mut [u64]) -> bool {
         false
+    }
+    /// The same, of which only the sum is made.
+    fn walk_sum(&self, _queries: &[u64]) -> Option<u64> {
+        None
     }
     /// The same deletions, searched by the heads of their blocks.
     fn by_heads(&self) -> Option<Box<dyn Deltas>> {

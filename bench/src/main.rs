@@ -61,7 +61,7 @@ fn main() {
         let mut parts = args.iter().filter(|arg| !arg.starts_with("--")).peekable();
         parts.peek().is_none() || parts.any(|arg| arg == part)
     };
-    let parts: [(&str, fn(&mut Report)); 19] = [
+    let parts: [(&str, fn(&mut Report)); 20] = [
         ("forms", forms),
         ("rewrites", rewrites),
         ("choices", choices::choices),
@@ -78,6 +78,7 @@ fn main() {
         ("sections", sections::sections),
         ("rewriting", rewriting::rewriting),
         ("more", more),
+        ("compat", compat),
         ("further", further::further),
         ("growth", growth::growth),
         ("threads", threads::threads),
@@ -728,6 +729,20 @@ fn more(report: &mut Report) {
     }
 }
 
+/// Deletions of which so many, at random ones, are to be merged into the others.
+fn halves(random: &mut Random, old: usize, more: usize) -> Halves {
+    let (list, _) = deletions(random, old + more);
+    let mut is_more = vec![false; old + more];
+    is_more[..more].fill(true);
+    random.shuffle(&mut is_more);
+    [false, true].map(|wanted| {
+        let both = list.iter().zip(&is_more);
+        both.filter(|(_, is_more)| **is_more == wanted)
+            .map(|(pair, _)| *pair)
+            .collect()
+    })
+}
+
 fn lists(report: &mut Report) {
     let random = &mut Random::new(11);
     report.heading("New lists and merges, a deletion", Beside::Original);
@@ -745,24 +760,13 @@ fn lists(report: &mut Report) {
         (100_000, 100_000),
         (1_000_000, 1_000_000),
     ] {
-        let (list, _) = deletions(random, old + more);
-        let mut is_more = vec![false; old + more];
-        is_more[..more].fill(true);
-        random.shuffle(&mut is_more);
-        let part = |wanted: bool| -> Vec<(u64, u32)> {
-            let both = list.iter().zip(&is_more);
-            both.filter(|(_, is_more)| **is_more == wanted)
-                .map(|(pair, _)| *pair)
-                .collect()
-        };
-        let (first, mut second) = (part(false), part(true));
+        let mut halves = [halves(random, old, more)];
         for order in ["ascending", "in any order"] {
             if order == "ascending" || old + more <= 200_000 {
                 let name = format!("merge of {more} {order} into {old}");
-                let side =
-                    |library: &'static dyn Library| Some(library.merge_side(&first, &second));
+                let side = |library: &'static dyn Library| Some(library.merge_side(&halves));
                 report.line(&name, old + more, true, each(side));
-                random.shuffle(&mut second);
+                random.shuffle(&mut halves[0][1]);
             }
         }
     }
@@ -797,6 +801,51 @@ fn merge_tests(report: &mut Report, random: &mut Random) {
         let erased = Side::number(|| u64::from(none.can_merge_sorted(&pairs)));
         let sides = [Some(Side::number(tested)), None, Some(erased), None];
         report.line(&format!("{COUNT} {order}"), COUNT, true, sides);
+    }
+}
+
+// ---- the original's signatures
+
+/// Calls of `compat` and of the original from one source.
+fn compat(report: &mut Report) {
+    fn both<'a>(side: impl Fn(&'static dyn Library) -> Option<Side<'a>>) -> Sides<'a> {
+        let [.., original] = LIBRARIES;
+        let compat = side(&direct::compat::Direct);
+        [None, None, compat, original.and_then(side)]
+    }
+    let random = &mut Random::new(20);
+    report.heading(
+        "Calls by the original's signatures, of `compat`",
+        Beside::Original,
+    );
+    // the last are those that lie between known ones
+    for (machine, below) in [(AARCH64, 2048), (RISCV, 2048), (X86_64, 2048), (X86_64, 51)] {
+        let is_unknown = |r_type: &u32| {
+            let mut libraries = LIBRARIES.iter().flatten();
+            libraries.all(|library| library.row(machine, *r_type).is_none())
+        };
+        let unknown: Vec<u32> = (0..below).filter(is_unknown).collect();
+        let types: Vec<u32> = (0..CALLS).map(|_| *random.one_of(&unknown)).collect();
+        let types = &types;
+        let sides = both(|library| Some(Side::number(move || library.rows(machine, types))));
+        let name = format!("rows of {}, unknown types below {below}", name_of(machine));
+        report.line(&name, CALLS, true, sides);
+    }
+    for (lists, count) in [(30, 16), (12_500, 16), (1, 100_000)] {
+        let halves: Vec<Halves> = (0..lists).map(|_| halves(random, count, count)).collect();
+        let sides = both(|library| Some(library.merge_side(&halves)));
+        let name = format!("merge of {count} ascending into {count}, of {lists} lists, a deletion");
+        report.line(&name, 2 * count * lists, true, sides);
+    }
+    for count in [16, 1_000] {
+        let queried = Queried::new(random, count);
+        let sides = both(|library| {
+            queried.side(library, |deltas, queries, out| {
+                out[0] = deltas.walk_sum(queries).expect("a cursor");
+            })
+        });
+        let name = format!("sum of a query a call of the cursor: {}", queried.name());
+        report.line(&name, queried.queries(), true, sides);
     }
 }
 
