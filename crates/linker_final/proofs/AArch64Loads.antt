@@ -1,19 +1,9 @@
 -- Loads of AArch64 from the GOT, of which a sum is made, or in two phases `nop` and `adr`, are
 -- groups.
 use Rattle.std.proofs.Common.{◌≡◌, ℕ, ◌+◌, ◌-◌, ◌≤◌, length, drop, false, refl, sym, ap, subst, ◌∙◌, arith}
-use Rattle.std.proofs.lemmas.Bool.{cond-false}
-use Rattle.std.specs.Prelude.{slice_get}
-use Rattle.linker_base.specs.Bits.{field}
-use Rattle.linker_elf.specs.AArch64Relocations.{insn_row}
-use Rattle.linker_elf.specs.Choices.{entry}
-use Rattle.linker_elf.specs.Rows.{entry_pages, paged_row, signed_row}
-use Rattle.linker_elf.specs.Value.{sum_64}
-use Rattle.linker_elf.specs.declared.aarch64.forms.AArch64Instruction.TheVariants.{Add, Adr}
+use Rattle.linker_final.proofs.Imports.{cond-false, slice_get, field, insn_row, entry, entry_pages, paged_row, signed_row, sum_64, Adr, AbsoluteLowPart, GotRelative, RelocationKindInfo, AArch64, Operands, Code, Has, Leaves, load_64, IsPair, following, word_of, symbol_address, Kinds, State, IsLoadRewritten, relocation_in, operands_with, Rela, AArch64Entry, AreOfOneRegister, IsLdr64, relaxation_rewrite}
+use Rattle.linker_elf.specs.declared.aarch64.forms.AArch64Instruction.TheVariants.{Add}
 use Rattle.linker_elf.specs.declared.aarch64.relocations.AArch64Relocation.TheVariants as names
-use Rattle.linker_elf.specs.declared.elf.RelocationKind.TheVariants.{AbsoluteLowPart, GotRelative}
-use Rattle.linker_elf.specs.declared.elf.RelocationKindInfo.{RelocationKindInfo}
-use Rattle.linker_elf.specs.declared.elf.architecture.Architecture.TheVariants.{AArch64}
-use Rattle.linker_elf.specs.declared.elf.value.Operands.{Operands}
 use Rattle.linker_final.proofs.AArch64Addresses.{adr_there, made_two, nop_there, page_row}
 use Rattle.linker_final.proofs.InstructionFields.{of_bits}
 use Rattle.linker_final.proofs.AArch64Written.{IsAfter, IsNew, IsOfEntry, after, becomes, has_after, named_after, of_entry, of_part, place_of, same_value}
@@ -21,17 +11,8 @@ use Rattle.linker_final.proofs.Written.{are_rewritten, first_same, stays, word_s
 use Rattle.linker_final.specs.AArch64Section.{ComesTo, IsRewrittenAgain, IsRewrittenOf, object, register}
 use Rattle.linker_final.specs.SectionRuns.{Section, offset_of}
 use Rattle.linker_final.specs.Final.{IsRewrittenByNoOther, Linked, UntouchedInstructions, instruction_at, two_at}
-use Rattle.linker_laws.specs.AArch64Groups.{Code, Groups, Has, Leaves, seen}
-use Rattle.linker_laws.specs.AArch64Machine.{load_64}
-use Rattle.linker_laws.specs.AArch64RewriteLaws.{IsPair, following, word_of}
-use Rattle.linker_laws.specs.Schemes.{symbol_address}
-use Rattle.linker_laws.specs.Simulation.{Kinds, State}
-use Rattle.linker_rewriting.specs.Rewritten.{IsLoadRewritten}
-use Rattle.linker_section.specs.Relocations.{relocation_in}
-use Rattle.linker_section.specs.Values.{operands_with}
-use Rattle.linker_section.specs.declared.relocations.Rela.{Rela}
-use Rattle.linker_utils.specs.AArch64Rewrites.{AArch64Entry, AreOfOneRegister, IsLdr64, is_ldr64, to_address}
-use Rattle.linker_utils.specs.Relaxations.{relaxation_rewrite}
+use Rattle.linker_laws.specs.AArch64Groups.{Groups, seen}
+use Rattle.linker_utils.specs.AArch64Rewrites.{is_ldr64, to_address}
 use Rattle.linker_utils.specs.declared.aarch64.rewrites.RewriteKind.TheVariants as kinds
 
 abbrev pub got_row : RelocationKindInfo

@@ -1,13 +1,8 @@
 -- The rewrites of a section of AArch64: each is of instructions that are rewritten together, and
 -- these are groups.
 use Rattle.std.proofs.Common.{◌≡◌, ◌≢◌, ℕ, ◌+◌, ◌-◌, ◌*◌, ◌<◌, ◌≤◌, inl, inr, ap, sym, subst, ◌∙◌, arith, refl}
-use Rattle.std.proofs.lemmas.Bool.{eq-eqb}
-use Rattle.linker_elf.specs.AArch64Relocations.{aarch64_name}
-use Rattle.linker_elf.specs.ElfNames.{IsNameOf}
-use Rattle.linker_elf.specs.declared.aarch64.relocations.AArch64Relocation.{AArch64Relocation}
+use Rattle.linker_final.proofs.Imports.{eq-eqb, aarch64_name, IsNameOf, AArch64Relocation, AArch64, Operands, Code, link, with_register, Group, Kinds, State, of_link, in_phase, sequences_are_whole, IsScopeDecision, decision_at, group_stays, Kept, Grouped, Independent, Phase, relocation_in}
 use Rattle.linker_elf.specs.declared.aarch64.relocations.AArch64Relocation.TheVariants as names
-use Rattle.linker_elf.specs.declared.elf.architecture.Architecture.TheVariants.{AArch64}
-use Rattle.linker_elf.specs.declared.elf.value.Operands.{Operands}
 use Rattle.linker_final.proofs.AArch64Addresses.{address_is_group}
 use Rattle.linker_final.proofs.AArch64Alone.{branch_is_group, high_is_group, low_is_group}
 use Rattle.linker_final.proofs.AArch64Descriptors.{initial_is_group, local_is_group}
@@ -17,20 +12,15 @@ use Rattle.linker_final.proofs.SectionRuns.{AreIn, beside_or, final_in, is_linke
 use Rattle.linker_final.specs.AArch64Section.{Begins, HasFinal, IsRewrittenOf, Rewrites, address, at_address, at_call, at_high, at_initial, at_jump, at_load, at_local, at_low, call, high, jump, load, low, rewriting, span, to_initial, to_local}
 use Rattle.linker_final.specs.Final.{IsLinked, Linked, count}
 use Rattle.linker_final.specs.SectionRuns.{AreCalled, IsPhase, RewritesAreGroups, Section, offset_of}
-use Rattle.linker_laws.specs.AArch64Groups.{Code, Groups, go_and_link, link}
+use Rattle.linker_laws.specs.AArch64Groups.{Groups, go_and_link}
 use Rattle.linker_laws.specs.AArch64Machine.{is_b, is_bl}
-use Rattle.linker_laws.specs.Changes.{go_to, with_register}
-use Rattle.linker_laws.specs.Simulation.{Group, Kinds, State, anything, of_link}
-use Rattle.linker_rewriting.proofs.AArch64Sequences.{in_phase, of_group, of_option, scope_there, sequences_are_whole}
-use Rattle.linker_rewriting.specs.Decisions.{IsScopeDecision, decision_at}
-use Rattle.linker_rewriting.specs.Groups.{aarch64_scope_in, group_stays}
+use Rattle.linker_laws.specs.Changes.{go_to}
+use Rattle.linker_laws.specs.Simulation.{anything}
+use Rattle.linker_rewriting.proofs.AArch64Sequences.{of_group, of_option, scope_there}
+use Rattle.linker_rewriting.specs.Groups.{aarch64_scope_in}
 use Rattle.linker_rewriting.specs.Rewritten.{IsWholeBy}
-use Rattle.linker_rewriting.specs.declared.decisions.Decision.TheVariants.{Kept}
 use Rattle.linker_rewriting.specs.declared.groups.Group.TheVariants as groups
-use Rattle.linker_rewriting.specs.declared.groups.Scope.TheVariants.{Grouped, Independent}
-use Rattle.linker_rewriting.specs.declared.phases.Phase.{Phase}
 use Rattle.linker_rewriting.specs.declared.phases.Phase.TheVariants as phases
-use Rattle.linker_section.specs.Relocations.{relocation_in}
 
 -- ---- what stands at a place
 

@@ -1,20 +1,9 @@
 -- The groups of AArch64's program that the calls link.
 use Rattle.std.proofs.Common.{◌≡◌, ◌≢◌, ℕ, zero, suc, ◌+◌, ◌-◌, ◌^◌, ◌/◌, ◌<◌, ◌≤◌, ◌⊎◌, inl, inr, List, [], ◌∷◌, length, Bool, true, false, eqb, eqb-true, refl, sym, ap, subst, ◌∙◌, arith, lit<, lit≤, pos, Some, true≢false}
-use Rattle.std.specs.Prelude.{◌&&◌, slice_get, replicate}
-use Rattle.std.proofs.lemmas.Bool.{cases_lt}
-use Rattle.std.proofs.lemmas.Int.{ints}
+use Rattle.linker_final.proofs.Imports.{◌&&◌, slice_get, replicate, cases_lt, ints, window_of_rewrite, RewriteWindow, aarch64_name, entry, IsNamed, IsNameOf, code_of, sum_64, AArch64Relocation, AArch64, Operands, Has, following, word_of, put, with_register, loaded, AreAddresses, Kinds, State, half, in_phase, sequences_are_whole, IsGroupDecision, decision_at, window_of, group_stays, IsLoadRewritten, IsRewrittenBy, relocation_after, Decision, Kept, Rewritten, UnrelaxableGroups, relocation_in, operands_with, Addresses, Symbol, Rela, AArch64Entry, halves_to_local_exec, relaxation_rewrite}
 use Rattle.std.proofs.lemmas.List.Elements.{All-nil, All-cons}
 use Rattle.linker_base.specs.Form.{place_sum}
-use Rattle.linker_base.specs.RewriteWindow.{window_of_rewrite}
-use Rattle.linker_base.specs.declared.rewrite.RewriteWindow.{RewriteWindow}
-use Rattle.linker_elf.specs.AArch64Relocations.{aarch64_name}
-use Rattle.linker_elf.specs.Choices.{entry}
-use Rattle.linker_elf.specs.ElfNames.{IsNamed, IsNameOf, code_of}
-use Rattle.linker_elf.specs.Value.{sum_64}
-use Rattle.linker_elf.specs.declared.aarch64.relocations.AArch64Relocation.{AArch64Relocation}
 use Rattle.linker_elf.specs.declared.aarch64.relocations.AArch64Relocation.TheVariants as names
-use Rattle.linker_elf.specs.declared.elf.architecture.Architecture.TheVariants.{AArch64}
-use Rattle.linker_elf.specs.declared.elf.value.Operands.{Operands}
 use Rattle.linker_final.proofs.AArch64Alone.{high_row}
 use Rattle.linker_final.proofs.AArch64Loads.{got_row}
 use Rattle.linker_final.proofs.AArch64Written.{IsNew, IsOfEntry, named_after, of_entry}
@@ -26,30 +15,13 @@ use Rattle.linker_final.specs.SectionRuns.{Section, offset_of}
 use Rattle.linker_final.specs.Worked.{HasGroups, IsGroupOf, IsPhaseOf, code_at, halves, none_stays}
 use Rattle.linker_final.specs.declared.worked.TheConstants.{AARCH64_OBJECT, AARCH64_RELOCATIONS}
 use Rattle.linker_laws.proofs.AArch64GroupsWorked.{relocated}
-use Rattle.linker_laws.specs.AArch64Groups.{Has}
 use Rattle.linker_laws.specs.AArch64GroupsWorked.{known, starting}
-use Rattle.linker_laws.specs.AArch64RewriteLaws.{IsRelocated, following, word_of}
-use Rattle.linker_laws.specs.Changes.{put, with_register}
-use Rattle.linker_laws.specs.Machine.{loaded}
-use Rattle.linker_laws.specs.Schemes.{AreAddresses}
-use Rattle.linker_laws.specs.Simulation.{Kinds, State, half, same}
-use Rattle.linker_rewriting.proofs.AArch64Sequences.{in_phase, named_at, sequences_are_whole}
-use Rattle.linker_rewriting.specs.Decisions.{IsGroupDecision, decision_at, window_of}
-use Rattle.linker_rewriting.specs.Groups.{group_stays}
-use Rattle.linker_rewriting.specs.Rewritten.{IsLoadRewritten, IsRewrittenBy, relocation_after}
-use Rattle.linker_rewriting.specs.declared.decisions.Decision.{Decision}
-use Rattle.linker_rewriting.specs.declared.decisions.Decision.TheVariants.{Kept, Rewritten}
+use Rattle.linker_laws.specs.AArch64RewriteLaws.{IsRelocated}
+use Rattle.linker_laws.specs.Simulation.{same}
+use Rattle.linker_rewriting.proofs.AArch64Sequences.{named_at}
 use Rattle.linker_rewriting.specs.declared.groups.Group.{Group}
 use Rattle.linker_rewriting.specs.declared.groups.Group.TheVariants as groups
-use Rattle.linker_rewriting.specs.declared.groups.UnrelaxableGroups.{UnrelaxableGroups}
 use Rattle.linker_rewriting.specs.declared.phases.Phase.TheVariants as phases
-use Rattle.linker_section.specs.Relocations.{relocation_in}
-use Rattle.linker_section.specs.Values.{operands_with}
-use Rattle.linker_section.specs.declared.facts.Addresses.{Addresses}
-use Rattle.linker_section.specs.declared.facts.Symbol.{Symbol}
-use Rattle.linker_section.specs.declared.relocations.Rela.{Rela}
-use Rattle.linker_utils.specs.AArch64Rewrites.{AArch64Entry, halves_to_local_exec}
-use Rattle.linker_utils.specs.Relaxations.{relaxation_rewrite}
 use Rattle.linker_utils.specs.declared.aarch64.rewrites.RewriteKind.{RewriteKind}
 use Rattle.linker_utils.specs.declared.aarch64.rewrites.RewriteKind.TheVariants as kinds
 use Rattle.linker_utils.specs.declared.architecture.Relaxation.TheVariants as relaxations

@@ -1,46 +1,22 @@
 -- Rewritten instructions of AArch64 in a phase, and in code that has the final bytes.
 use Rattle.std.proofs.Common.{◌≡◌, ℕ, ℤ, ◌+◌, ◌<◌, ◌≤◌, List, [], ◌∷◌, length, sym, ap, subst, ◌∙◌, refl, arith, Some, Ok, Bool, true, IsSomeAnd}
-use Rattle.std.specs.Prelude.{slice_get}
-use Rattle.linker_base.specs.Rewrite.{addend_after, offset_after}
-use Rattle.linker_elf.specs.AArch64Relocations.{aarch64_name, aarch64_row}
-use Rattle.linker_elf.specs.Applied.{IsApplied}
-use Rattle.linker_elf.specs.Architectures.{IsRow}
-use Rattle.linker_elf.specs.ElfNames.{IsNamed, code_of}
-use Rattle.linker_elf.specs.Rows.{bytes_row}
-use Rattle.linker_elf.specs.Value.{sum_64, value_of}
-use Rattle.linker_elf.specs.declared.aarch64.relocations.AArch64Relocation.{AArch64Relocation}
+use Rattle.linker_final.proofs.Imports.{slice_get, addend_after, offset_after, aarch64_name, IsApplied, IsRow, IsNamed, code_of, bytes_row, sum_64, value_of, AArch64Relocation, RelocationKindInfo, AArch64, Choice, Operands, Code, Has, Stands, loaded, chosen_at, decision_at, IsScopeIn, IsRewrittenBy, entry_of, relocation_in, entry_address, is_there, operands_by, operands_with, Symbol, Entry, Rela, AArch64Entry, aarch64_entries, IsArchitectureChoice, relaxation_rewrite, Relaxation}
+use Rattle.linker_elf.specs.AArch64Relocations.{aarch64_row}
 use Rattle.linker_elf.specs.declared.aarch64.relocations.AArch64Relocation.TheVariants as names
 use Rattle.linker_elf.specs.declared.elf.RelocationKind.TheVariants.{None as NoValue}
-use Rattle.linker_elf.specs.declared.elf.RelocationKindInfo.{RelocationKindInfo}
-use Rattle.linker_elf.specs.declared.elf.architecture.Architecture.TheVariants.{AArch64}
-use Rattle.linker_elf.specs.declared.elf.choice.Choice.{Choice}
-use Rattle.linker_elf.specs.declared.elf.value.Operands.{Operands}
 use Rattle.linker_final.proofs.InstructionFields.{IsOfInstruction}
 use Rattle.linker_final.proofs.Phases.{last_length, relocation_left}
 use Rattle.linker_final.proofs.Written.{IsRowOf, applied_after, are_rewritten, by_name, entry_is_there, made_there, rela, relocation_is, unwritten_without, with_operands}
 use Rattle.linker_final.specs.AArch64Section.{HasFinal, IsRewrittenOf, object}
 use Rattle.linker_final.specs.SectionRuns.{offset_of}
 use Rattle.linker_final.specs.Final.{IsLinked, IsWrittenByNoOther, Linked, UntouchedInstruction, count, instruction_at}
-use Rattle.linker_laws.specs.AArch64Groups.{Code, Has, Stands}
 use Rattle.linker_laws.specs.AArch64RewriteLaws.{BeginsRewritten, IsRewritten}
-use Rattle.linker_laws.specs.Machine.{loaded}
 use Rattle.linker_rewriting.proofs.AArch64Sequences.{unlabelled}
-use Rattle.linker_rewriting.proofs.Chosen.{chosen_at}
 use Rattle.linker_rewriting.proofs.Entries.{IsOfEntry as IsOfEntryIn, IsOfOne as IsOfOneIn, of_entry as of_entry_in, of_one as of_one_in}
-use Rattle.linker_rewriting.specs.Decisions.{decision_at}
-use Rattle.linker_rewriting.specs.Groups.{IsScopeIn}
-use Rattle.linker_rewriting.specs.Rewritten.{IsPartAt, IsRewrittenBy}
-use Rattle.linker_section.specs.Needed.{entry_of}
-use Rattle.linker_section.specs.Relocations.{relocation_in}
-use Rattle.linker_section.specs.Values.{entry_address, is_there, operands_by, operands_with}
-use Rattle.linker_section.specs.declared.facts.Symbol.{Symbol}
-use Rattle.linker_section.specs.declared.needed.Entry.{Entry}
-use Rattle.linker_section.specs.declared.relocations.Rela.{Rela}
-use Rattle.linker_utils.specs.AArch64Rewrites.{AArch64Applies, AArch64Entry, HasPattern, aarch64_entries, aarch64_matches, aarch64_rewrite, rewrites_where}
-use Rattle.linker_utils.specs.Relaxations.{IsArchitectureChoice, relaxation_rewrite}
+use Rattle.linker_rewriting.specs.Rewritten.{IsPartAt}
+use Rattle.linker_utils.specs.AArch64Rewrites.{AArch64Applies, HasPattern, aarch64_matches, aarch64_rewrite, rewrites_where}
 use Rattle.linker_utils.specs.declared.aarch64.rewrites.RewriteKind.{RewriteKind}
 use Rattle.linker_utils.specs.declared.aarch64.rewrites.RewriteKind.TheVariants as kinds
-use Rattle.linker_utils.specs.declared.architecture.Relaxation.{Relaxation}
 use Rattle.linker_utils.specs.declared.architecture.Relaxation.TheVariants as relaxations
 
 -- ---- relocations that rewrites leave

@@ -1,24 +1,11 @@
 -- Branches that stay, in the final bytes of a packed section.
 use Rattle.std.proofs.Common.{◌≡◌, ℕ, take, drop, refl, sym, ap, subst, ◌∙◌, true, false, Option, Some, None, Ok, pos, IsSomeAnd}
-use Rattle.std.specs.Prelude.{⊤, ℤ, ◌+ℤ◌, ◌*ℤ◌}
-use Rattle.linker_base.specs.declared.bit_misc.BitRange.{BitRange}
-use Rattle.linker_elf.specs.LoongArch.{loongarch_form}
-use Rattle.linker_elf.specs.LoongArchRelocations.{loongarch_row}
-use Rattle.linker_elf.specs.Relocate.{window_len}
-use Rattle.linker_elf.specs.RiscV.{riscv_form}
-use Rattle.linker_elf.specs.RiscVRelocations.{riscv_row}
-use Rattle.linker_elf.specs.Rows.{bytes_row}
-use Rattle.linker_elf.specs.Value.{sum_64, value_of}
-use Rattle.linker_elf.specs.declared.elf.RelocationInstruction.{RelocationInstruction}
+use Rattle.linker_final.proofs.Imports.{⊤, BitRange, loongarch_form, loongarch_row, window_len, riscv_form, riscv_row, bytes_row, sum_64, value_of, RelocationInstruction, RelocationKindInfo, BitMasking, Operands, Branch26, Shift10, LoongArch64Relocation, RiscVRelocation, IsAddress, plt_address, symbol_address, Machine, RiscV64, relocation_in, has_value, names_label, offset_at, operands_in, operands_of, operands_with, Addresses, Symbol, Rela}
+use Rattle.std.specs.Prelude.{ℤ, ◌+ℤ◌, ◌*ℤ◌}
 use Rattle.linker_elf.specs.declared.elf.RelocationKind.TheVariants.{None as NoValue}
-use Rattle.linker_elf.specs.declared.elf.RelocationKindInfo.{RelocationKindInfo}
-use Rattle.linker_elf.specs.declared.elf.RelocationSize.TheVariants.{BitMasking}
-use Rattle.linker_elf.specs.declared.elf.value.Operands.{Operands}
-use Rattle.linker_elf.specs.declared.loongarch64.forms.LoongArch64Instruction.TheVariants.{Branch21, Branch26, Shift5, Shift10}
-use Rattle.linker_elf.specs.declared.loongarch64.relocations.LoongArch64Relocation.{LoongArch64Relocation}
+use Rattle.linker_elf.specs.declared.loongarch64.forms.LoongArch64Instruction.TheVariants.{Branch21, Shift5}
 use Rattle.linker_elf.specs.declared.loongarch64.relocations.LoongArch64Relocation.TheVariants as loongarch_names
 use Rattle.linker_elf.specs.declared.riscv64.forms.RiscVInstruction.TheVariants.{BType, CbType, CjType, JType}
-use Rattle.linker_elf.specs.declared.riscv64.relocations.RiscVRelocation.{RiscVRelocation}
 use Rattle.linker_elf.specs.declared.riscv64.relocations.RiscVRelocation.TheVariants as riscv_names
 use Rattle.linker_final.proofs.InstructionFields.{some_value}
 use Rattle.linker_final.proofs.PackedBytes.{addresses}
@@ -27,14 +14,8 @@ use Rattle.linker_final.specs.Branches.{Goes, LoongArchBranchesGo, RiscVBranches
 use Rattle.linker_final.specs.Packed.{address_at, architecture_of, place_of}
 use Rattle.linker_laws.specs.LoongArchRelocationLaws as loongarch_laws
 use Rattle.linker_laws.specs.RiscVRelocationLaws as riscv_laws
-use Rattle.linker_laws.specs.Schemes.{Adds, IsAddress, here, place, plt_address, symbol_address}
-use Rattle.linker_runs.specs.declared.packing.Machine.{Machine}
-use Rattle.linker_runs.specs.declared.packing.Machine.TheVariants.{RiscV64, LoongArch64}
-use Rattle.linker_section.specs.Relocations.{relocation_in}
-use Rattle.linker_section.specs.Values.{has_value, names_label, offset_at, operands_in, operands_of, operands_with}
-use Rattle.linker_section.specs.declared.facts.Addresses.{Addresses}
-use Rattle.linker_section.specs.declared.facts.Symbol.{Symbol}
-use Rattle.linker_section.specs.declared.relocations.Rela.{Rela}
+use Rattle.linker_laws.specs.Schemes.{Adds, here, place}
+use Rattle.linker_runs.specs.declared.packing.Machine.TheVariants.{LoongArch64}
 
 -- by a row of an instruction that takes no entry
 goes : (machine : Machine) (row : RelocationKindInfo) (bits : BitRange) (insn : RelocationInstruction)

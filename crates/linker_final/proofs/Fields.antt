@@ -1,22 +1,9 @@
 -- The field of a plain row in the final bytes of a section.
 use Rattle.std.proofs.Common.{◌≡◌, ℕ, ℤ, pos, ◌+◌, ◌*◌, ◌/◌, ◌%◌, ◌^◌, ◌<◌, ◌≤◌, ◌⊎◌, List, [], ◌∷◌, length, take, drop, get_or, cond, sym, ap, subst, ◌∙◌, inl, inr, arith, Some, Ok, unsigned_abs}
-use Rattle.std.proofs.lemmas.Bool.{cond-true, cond-false, cases_lt}
-use Rattle.std.proofs.lemmas.List.{length-drop, length-take-le, get_or-take, get_or-drop, get_or_past}
-use Rattle.std.specs.Int.{w64, cast_unsigned, int_rem_euclid, byte_at}
-use Rattle.linker_elf.specs.Relocate.{IsAccepted, number_of_bytes, low_bytes, window_len, size_len}
-use Rattle.linker_elf.specs.Value.{value_of}
-use Rattle.linker_elf.specs.declared.elf.RelocationKindInfo.{RelocationKindInfo}
-use Rattle.linker_elf.specs.declared.elf.value.Operands.{Operands}
+use Rattle.linker_final.proofs.Imports.{cond-true, cond-false, cases_lt, length-drop, length-take-le, get_or-take, get_or-drop, get_or_past, w64, cast_unsigned, int_rem_euclid, byte_at, number_of_bytes, low_bytes, window_len, size_len, value_of, RelocationKindInfo, Operands, IsField, field_len, field_end, is_of_pair, uleb_len, relocation_in, IsRowValue, has_value, offset_at, operands_of, AreWritten, HoldsValue, HoldsNumber, composed, field_bytes, Addresses, Symbol, IsRow, Architecture}
+use Rattle.linker_elf.specs.Relocate.{IsAccepted}
 use Rattle.linker_final.proofs.PlainRows.{IsPlain, found_is, composed_alone}
-use Rattle.linker_section.specs.Fields.{IsField, field_len, field_end, is_of_pair, uleb_len}
-use Rattle.linker_section.specs.Relocations.{relocation_in}
-use Rattle.linker_section.specs.Sections.{HasValue, IsRowValue}
-use Rattle.linker_section.specs.Values.{has_value, offset_at, operands_of}
-use Rattle.linker_section.specs.WrittenFields.{AreWritten, HoldsValue, HoldsNumber, composed, field_bytes}
-use Rattle.linker_section.specs.declared.facts.Addresses.{Addresses}
-use Rattle.linker_section.specs.declared.facts.Symbol.{Symbol}
-use Rattle.linker_elf.specs.Architectures.{IsRow}
-use Rattle.linker_elf.specs.declared.elf.architecture.Architecture.{Architecture}
+use Rattle.linker_section.specs.Sections.{HasValue}
 
 -- ---- bytes that hold a number
 

@@ -1,25 +1,9 @@
 -- The relocation of an instruction in the final bytes of a section: it is applied to the bytes
 -- between.
 use Rattle.std.proofs.Common.{◌≡◌, ℕ, ℤ, ◌/◌, ◌<◌, List, length, take, drop, true, false, cond, subst, ◌∙◌, refl, arith, Ok, Option, Some, None, IsSomeAnd}
-use Rattle.std.proofs.lemmas.Bool.{cond-true, cond-false}
-use Rattle.std.specs.Prelude.{⊤}
-use Rattle.linker_base.specs.declared.bit_misc.BitRange.{BitRange}
-use Rattle.linker_elf.specs.Applied.{IsApplied}
-use Rattle.linker_elf.specs.Relocate.{WritesRow, window_len}
-use Rattle.linker_elf.specs.Value.{value_of}
-use Rattle.linker_elf.specs.declared.elf.RelocationInstruction.{RelocationInstruction}
-use Rattle.linker_elf.specs.declared.elf.RelocationKindInfo.{RelocationKindInfo}
-use Rattle.linker_elf.specs.declared.elf.RelocationSize.TheVariants.{BitMasking}
-use Rattle.linker_elf.specs.declared.elf.value.Operands.{Operands}
+use Rattle.linker_final.proofs.Imports.{cond-true, cond-false, ⊤, BitRange, IsApplied, window_len, value_of, RelocationInstruction, RelocationKindInfo, BitMasking, Operands, field_len, is_of_pair, uleb_len, relocation_in, has_value, names_label, offset_at, operands_of, AreWritten, HoldsValue, composed, field_bytes, Addresses, Symbol, IsRow, Architecture}
+use Rattle.linker_elf.specs.Relocate.{WritesRow}
 use Rattle.linker_final.proofs.PlainRows.{IsFoundOf, found_is}
-use Rattle.linker_section.specs.Fields.{field_len, is_of_pair, uleb_len}
-use Rattle.linker_section.specs.Relocations.{relocation_in}
-use Rattle.linker_section.specs.Values.{has_value, names_label, offset_at, operands_of}
-use Rattle.linker_section.specs.WrittenFields.{AreWritten, HoldsValue, composed, field_bytes}
-use Rattle.linker_section.specs.declared.facts.Addresses.{Addresses}
-use Rattle.linker_section.specs.declared.facts.Symbol.{Symbol}
-use Rattle.linker_elf.specs.Architectures.{IsRow}
-use Rattle.linker_elf.specs.declared.elf.architecture.Architecture.{Architecture}
 
 -- of an instruction of n bytes
 pub record IsOfInstruction (n : ℕ) (row : RelocationKindInfo) : Type 0 where

@@ -1,9 +1,6 @@
 -- Instructions that were rewritten, and stay in a section that was packed then.
 use Rattle.std.proofs.Common.{◌≡◌, ℕ, ℤ, ◌+◌, ◌/◌, ◌<◌, length, sym, ap, subst, ◌∙◌, arith, Ok, Some, ◌≤◌}
-use Rattle.std.specs.Prelude.{slice_get}
-use Rattle.linker_elf.specs.Applied.{IsApplied}
-use Rattle.linker_elf.specs.declared.elf.RelocationKindInfo.{RelocationKindInfo}
-use Rattle.linker_elf.specs.declared.elf.value.Operands.{Operands}
+use Rattle.linker_final.proofs.Imports.{slice_get, IsApplied, RelocationKindInfo, Operands, entry_of, relocation_in, entry_address, offset_at, operands_by, operands_in, operands_with, Symbol, Rela, IsRow}
 use Rattle.linker_final.proofs.InstructionFields.{IsOfInstruction, applied}
 use Rattle.linker_final.proofs.PackedBytes.{packed_there, places_inside, same_there, stay_inside}
 use Rattle.linker_final.proofs.Phases.{later_as_many, later_bytes, later_keep, later_length}
@@ -12,12 +9,6 @@ use Rattle.linker_final.specs.Final.{UntouchedInstruction, UntouchedBytes, Linke
 use Rattle.linker_final.specs.Joined.{IsRewrittenAndPacked, IsKeptInstruction}
 use Rattle.linker_final.specs.Packed.{IsUnwritten, Packed, StayTogether, architecture_of, place_of}
 use Rattle.linker_final.specs.Packed as packed
-use Rattle.linker_section.specs.Needed.{entry_of}
-use Rattle.linker_section.specs.Relocations.{relocation_in}
-use Rattle.linker_section.specs.Values.{entry_address, offset_at, operands_by, operands_in, operands_with}
-use Rattle.linker_section.specs.declared.facts.Symbol.{Symbol}
-use Rattle.linker_section.specs.declared.relocations.Rela.{Rela}
-use Rattle.linker_elf.specs.Architectures.{IsRow}
 
 -- an instruction that stays, in which no relocation has a field
 pub unwritten_there : (l : Linked) (p : Packed) → IsRewrittenAndPacked l p → (i o : ℕ) → UntouchedBytes l i o 4

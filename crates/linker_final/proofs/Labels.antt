@@ -1,31 +1,15 @@
 -- The value of a low part of RISC-V in the final bytes of a section: that of the high part at its
 -- label.
 use Rattle.std.proofs.Common.{◌≡◌, ℕ, ℤ, ◌/◌, ◌<◌, List, length, take, drop, Bool, true, false, cond, refl, sym, ap, subst, ◌∙◌, inl, inr, arith, ltb, Option, Some, None, Ok, Err, Result, IsSomeAnd}
-use Rattle.std.proofs.lemmas.Bool.{cases_eq, cases_lt, cond-true, cond-false, ltb-true}
-use Rattle.std.specs.Prelude.{slice_get, ⊤, ◌&&◌, ◌||◌}
-use Rattle.linker_elf.specs.Relocate.{size_len, window_len}
-use Rattle.linker_elf.specs.Value.{value_of, difference_64}
+use Rattle.linker_final.proofs.Imports.{cases_eq, cases_lt, cond-true, cond-false, ltb-true, slice_get, ⊤, ◌&&◌, ◌||◌, size_len, window_len, value_of, difference_64, RelocationKind, RelocationKindInfo, BitMasking, Operands, UType, one_row, one_info, Composes, IsField, begins_pair, continues, ends_pair, field_len, is_of_pair, of_number, of_pair, uleb_len, relocation_in, IsRowValue, IsValueBy, IsValueIn, has_value, names_label, offset_at, operands_of, Addresses, Symbol, Rela, ValueError, IsRow, Architecture}
 use Rattle.linker_elf.specs.declared.elf.RelocationInstruction.TheVariants.{RiscV}
-use Rattle.linker_elf.specs.declared.elf.RelocationKind.{RelocationKind}
 use Rattle.linker_elf.specs.declared.elf.RelocationKind.TheVariants as kinds
-use Rattle.linker_elf.specs.declared.elf.RelocationKindInfo.{RelocationKindInfo}
 use Rattle.linker_elf.specs.declared.elf.RelocationSize.{RelocationSize}
-use Rattle.linker_elf.specs.declared.elf.RelocationSize.TheVariants.{BitMasking}
-use Rattle.linker_elf.specs.declared.elf.value.Operands.{Operands}
-use Rattle.linker_elf.specs.declared.riscv64.forms.RiscVInstruction.TheVariants.{UType}
 use Rattle.linker_final.proofs.PlainRows.{IsFoundOf}
-use Rattle.linker_section.proofs.Rows.{one_row, one_info}
-use Rattle.linker_section.specs.Fields.{AreApart, Composes, IsField, begins_pair, continues, ends_pair, field_len, is_of_pair, of_number, of_pair, uleb_len}
-use Rattle.linker_section.specs.Relocations.{relocation_at, relocation_in}
-use Rattle.linker_section.specs.Sections.{IsRowValue}
-use Rattle.linker_section.specs.Values.{IsHighPartAt, IsLowValue, IsValueBy, IsValueIn, has_value, is_auipc, is_high_kind, is_high_part, low_by, low_operands, low_value, names_label, offset_at, operands_of}
-use Rattle.linker_section.specs.declared.facts.Addresses.{Addresses}
-use Rattle.linker_section.specs.declared.facts.Symbol.{Symbol}
-use Rattle.linker_section.specs.declared.relocations.Rela.{Rela}
-use Rattle.linker_section.specs.declared.values.ValueError.{ValueError}
+use Rattle.linker_section.specs.Fields.{AreApart}
+use Rattle.linker_section.specs.Relocations.{relocation_at}
+use Rattle.linker_section.specs.Values.{IsHighPartAt, IsLowValue, is_auipc, is_high_kind, is_high_part, low_by, low_operands, low_value}
 use Rattle.linker_section.specs.declared.values.ValueError.TheVariants.{NoHighPart}
-use Rattle.linker_elf.specs.Architectures.{IsRow}
-use Rattle.linker_elf.specs.declared.elf.architecture.Architecture.{Architecture}
 
 -- ---- high parts
 

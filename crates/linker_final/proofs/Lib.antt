@@ -7,6 +7,7 @@ pub mod AArch64Worked
 pub mod AArch64Written
 pub mod Branches
 pub mod Fields
+pub mod Imports
 pub mod Inner
 pub mod InstructionFields
 pub mod Joined

@@ -1,16 +1,8 @@
 -- Instructions of LoongArch that are rewritten each by itself are groups with what new has: those
 -- of initial-exec and of local-exec.
 use Rattle.std.proofs.Common.{◌≡◌, ℕ, ◌+◌, ◌*◌, ◌-◌, ◌/◌, ◌^◌, ◌<◌, ◌≤◌, List, length, IsTrue, Ok, Some, refl, subst, inl, inr}
-use Rattle.std.specs.Prelude.{⊤}
-use Rattle.linker_base.specs.Bits.{field}
-use Rattle.linker_elf.specs.Choices.{entry}
-use Rattle.linker_elf.specs.ElfNames.{IsNamed, IsNameOf}
-use Rattle.linker_elf.specs.LoongArchRelocations.{high_row, loongarch_name, low_row}
-use Rattle.linker_elf.specs.declared.elf.RelocationKind.TheVariants.{TpOff}
-use Rattle.linker_elf.specs.declared.elf.architecture.Architecture.TheVariants.{LoongArch64}
-use Rattle.linker_elf.specs.declared.elf.choice.Choice.{Choice}
-use Rattle.linker_elf.specs.declared.elf.value.Operands.{Operands}
-use Rattle.linker_elf.specs.declared.loongarch64.relocations.LoongArch64Relocation.{LoongArch64Relocation}
+use Rattle.linker_final.proofs.Imports.{⊤, field, entry, IsNamed, IsNameOf, loongarch_name, low_row, TpOff, LoongArch64, Choice, Operands, LoongArch64Relocation, IsRewritten, isnt, decision_at, Rewritten, relocation_in, operands_in, operands_with, Addresses, Symbol, Rela, IsLd, loongarch_rewrite, rd_of, rewrites_word, rj_of, to_local_exec, Relaxation}
+use Rattle.linker_elf.specs.LoongArchRelocations.{high_row}
 use Rattle.linker_elf.specs.declared.loongarch64.relocations.LoongArch64Relocation.TheVariants as names
 use Rattle.linker_final.proofs.InstructionFields.{of_bits}
 use Rattle.linker_final.proofs.LoongArchChosen.{IsByTable, IsEntry, by_table, entry_by}
@@ -20,17 +12,7 @@ use Rattle.linker_final.specs.Final.{AreRewritten, Linked, count, instruction_at
 use Rattle.linker_final.specs.LoongArchSection.{HasEntry, IsAlone, IsLeft, IsMade, Law, Left, applied, entry_by as entry_of_name, law_of, named_as, none, without_law}
 use Rattle.linker_final.specs.SectionRuns.{offset_of}
 use Rattle.linker_laws.specs.LoongArchGroups.{Groups}
-use Rattle.linker_laws.specs.LoongArchRewriteLaws.{IsRewritten}
-use Rattle.linker_rewriting.proofs.PreLayout.{isnt}
-use Rattle.linker_rewriting.specs.Decisions.{decision_at}
-use Rattle.linker_rewriting.specs.declared.decisions.Decision.TheVariants.{Rewritten}
-use Rattle.linker_section.specs.Relocations.{relocation_in}
-use Rattle.linker_section.specs.Values.{operands_in, operands_with}
-use Rattle.linker_section.specs.declared.facts.Addresses.{Addresses}
-use Rattle.linker_section.specs.declared.facts.Symbol.{Symbol}
-use Rattle.linker_section.specs.declared.relocations.Rela.{Rela}
-use Rattle.linker_utils.specs.LoongArchRewrites.{IsAddTp, IsLd, IsLu12i, IsPcalau12i, adds_low12, by_low_part, loongarch_rewrite, rd_of, rewrites_word, rj_of, to_local_exec, tp}
-use Rattle.linker_utils.specs.declared.architecture.Relaxation.{Relaxation}
+use Rattle.linker_utils.specs.LoongArchRewrites.{IsAddTp, IsLu12i, IsPcalau12i, adds_low12, by_low_part, tp}
 use Rattle.linker_utils.specs.declared.loongarch64.rewrites.RewriteKind.{RewriteKind}
 use Rattle.linker_utils.specs.declared.loongarch64.rewrites.RewriteKind.TheVariants as kinds
 

@@ -1,31 +1,16 @@
 -- The rewrite that is chosen for a relocation of LoongArch is one of its table.
 use Rattle.std.proofs.Common.{◌≡◌, ℕ, ◌<◌, List, Bool, true, false, refl, sym, ap, subst, ◌∙◌}
-use Rattle.linker_elf.specs.ElfNames.{IsNamed, IsNameOf, code_of}
-use Rattle.linker_elf.specs.LoongArchRelocations.{loongarch_name}
-use Rattle.linker_elf.specs.declared.elf.choice.Choice.{Choice}
-use Rattle.linker_elf.specs.declared.elf.choice.LinkFacts.{LinkFacts}
-use Rattle.linker_elf.specs.declared.loongarch64.relocations.LoongArch64Relocation.{LoongArch64Relocation}
+use Rattle.linker_final.proofs.Imports.{IsNamed, IsNameOf, code_of, loongarch_name, Choice, LinkFacts, LoongArch64Relocation, IsChosen, chosen_at, listed_at, IsOfEntry, LoongArchApplies, LoongArchEntry, AreDecidedIn, decision_at, IsScopeIn, loongarch_scope_in, Rewritten, Scope, Grouped, Independent, Labelled, NotRelaxable, Phase, relocation_in, Rela, IsArchitectureChoice, Relaxation, LoongArch64, Ppc64}
 use Rattle.linker_elf.specs.declared.loongarch64.relocations.LoongArch64Relocation.TheVariants as names
-use Rattle.linker_rewriting.proofs.Chosen.{IsChosen, chosen_at}
-use Rattle.linker_rewriting.proofs.PreLayout.{AreEarly, IsListed, are_early, listed_at}
-use Rattle.linker_rewriting.proofs.Entries.{IsOfEntry, IsOfOne, of_one}
+use Rattle.linker_rewriting.proofs.PreLayout.{AreEarly, IsListed, are_early}
+use Rattle.linker_rewriting.proofs.Entries.{IsOfOne, of_one}
 use Rattle.linker_final.specs.Final.{Linked, count}
-use Rattle.linker_utils.specs.LoongArchRewrites.{HasPattern, LoongArchApplies, LoongArchEntry, loongarch_entries}
+use Rattle.linker_utils.specs.LoongArchRewrites.{HasPattern, loongarch_entries}
 use Rattle.linker_utils.specs.declared.loongarch64.rewrites.RewriteKind.{RewriteKind}
 use Rattle.linker_utils.specs.declared.loongarch64.rewrites.RewriteKind.TheVariants as kinds
-use Rattle.linker_rewriting.specs.Decisions.{AreDecidedIn, decision_at}
-use Rattle.linker_rewriting.specs.Groups.{IsScopeIn, loongarch_scope, loongarch_scope_in}
-use Rattle.linker_rewriting.specs.declared.decisions.Decision.TheVariants.{Rewritten}
-use Rattle.linker_rewriting.specs.declared.groups.Scope.{Scope}
-use Rattle.linker_rewriting.specs.declared.groups.Scope.TheVariants.{Grouped, Independent, Labelled, NotRelaxable}
-use Rattle.linker_rewriting.specs.declared.phases.Phase.{Phase}
+use Rattle.linker_rewriting.specs.Groups.{loongarch_scope}
 use Rattle.linker_rewriting.specs.declared.phases.Phase.TheVariants as phases
-use Rattle.linker_section.specs.Relocations.{relocation_in}
-use Rattle.linker_section.specs.declared.relocations.Rela.{Rela}
-use Rattle.linker_utils.specs.Relaxations.{IsArchitectureChoice}
-use Rattle.linker_utils.specs.declared.architecture.Relaxation.{Relaxation}
 use Rattle.linker_utils.specs.declared.architecture.Relaxation.TheVariants as relaxations
-use Rattle.linker_elf.specs.declared.elf.architecture.Architecture.TheVariants.{LoongArch64, Ppc64}
 
 -- ---- scopes
 

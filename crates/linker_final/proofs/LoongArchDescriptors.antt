@@ -1,16 +1,7 @@
 -- Instructions of TLS descriptors of LoongArch that became those of local-exec or of initial-exec
 -- are groups, each by itself.
 use Rattle.std.proofs.Common.{◌≡◌, ◌⊎◌, ℕ, ◌+◌, ◌<◌, List, [], refl, sym, ap, subst, inl, inr, Some, None, cond}
-use Rattle.linker_base.specs.Bits.{field}
-use Rattle.linker_elf.specs.Choices.{entry}
-use Rattle.linker_elf.specs.ElfNames.{IsNameOf}
-use Rattle.linker_elf.specs.LoongArchRelocations.{loongarch_name, low_row, rounded_row}
-use Rattle.linker_elf.specs.Rows.{entry_pages, paged_row}
-use Rattle.linker_elf.specs.declared.elf.RelocationKind.TheVariants.{GotTpOff, GotTpOffGot}
-use Rattle.linker_elf.specs.declared.elf.architecture.Architecture.TheVariants.{LoongArch64}
-use Rattle.linker_elf.specs.declared.elf.choice.Choice.{Choice}
-use Rattle.linker_elf.specs.declared.elf.choice.LinkFacts.{LinkFacts}
-use Rattle.linker_elf.specs.declared.loongarch64.relocations.LoongArch64Relocation.{LoongArch64Relocation}
+use Rattle.linker_final.proofs.Imports.{field, entry, IsNameOf, loongarch_name, low_row, rounded_row, entry_pages, paged_row, GotTpOff, GotTpOffGot, LoongArch64, Choice, LinkFacts, LoongArch64Relocation, IsRelocated, IsOfEntry, isnt, decision_at, Rewritten, relocation_in, operands_by, LoongArchApplies, LoongArchEntry, rd_of, to_local_exec, relaxation_rewrite, Relaxation}
 use Rattle.linker_elf.specs.declared.loongarch64.relocations.LoongArch64Relocation.TheVariants as names
 use Rattle.linker_final.proofs.InstructionFields.{of_bits}
 use Rattle.linker_final.proofs.LoongArchAlone.{IsLawful, Takes, becomes_by, before, high_offset, left_by, low_offset, rewritten, table}
@@ -20,16 +11,8 @@ use Rattle.linker_final.specs.Final.{AreRewritten, Linked, count}
 use Rattle.linker_final.specs.LoongArchSection.{law_of}
 use Rattle.linker_final.specs.SectionRuns.{offset_of}
 use Rattle.linker_laws.specs.LoongArchGroups.{CallOfDescriptor, Groups, LoadOfDescriptor}
-use Rattle.linker_laws.specs.LoongArchRewriteLaws.{IsRelocated, word_of}
-use Rattle.linker_rewriting.proofs.Entries.{IsOfEntry}
-use Rattle.linker_rewriting.proofs.PreLayout.{isnt}
-use Rattle.linker_rewriting.specs.Decisions.{decision_at}
-use Rattle.linker_rewriting.specs.declared.decisions.Decision.TheVariants.{Rewritten}
-use Rattle.linker_section.specs.Relocations.{relocation_in}
-use Rattle.linker_section.specs.Values.{operands_by}
-use Rattle.linker_utils.specs.LoongArchRewrites.{IsCallOfDescriptor, IsLoadOfDescriptor, IsLowOfDescriptor, IsPageOfDescriptor, LoongArchApplies, LoongArchEntry, page_to_initial_exec, rd_of, to_initial_exec, to_local_exec}
-use Rattle.linker_utils.specs.Relaxations.{relaxation_rewrite}
-use Rattle.linker_utils.specs.declared.architecture.Relaxation.{Relaxation}
+use Rattle.linker_laws.specs.LoongArchRewriteLaws.{word_of}
+use Rattle.linker_utils.specs.LoongArchRewrites.{IsCallOfDescriptor, IsLoadOfDescriptor, IsLowOfDescriptor, IsPageOfDescriptor, page_to_initial_exec, to_initial_exec}
 use Rattle.linker_utils.specs.declared.architecture.Relaxation.TheVariants as relaxations
 use Rattle.linker_utils.specs.declared.loongarch64.rewrites.RewriteKind.TheVariants as kinds
 

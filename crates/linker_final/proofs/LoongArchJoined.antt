@@ -1,15 +1,7 @@
 -- LoongArch: what a rewrite left of an instruction is in the final bytes, also of a section that
 -- was packed then.
 use Rattle.std.proofs.Common.{◌≡◌, ◌<◌, ℕ, List, sym, ap, subst, Some, Ok, IsSomeAnd}
-use Rattle.std.specs.Prelude.{slice_get}
-use Rattle.linker_elf.specs.Applied.{IsApplied}
-use Rattle.linker_elf.specs.Architectures.{IsRow}
-use Rattle.linker_elf.specs.ElfNames.{code_of}
-use Rattle.linker_elf.specs.LoongArchRelocations.{loongarch_name}
-use Rattle.linker_elf.specs.Value.{value_of}
-use Rattle.linker_elf.specs.declared.elf.architecture.Architecture.TheVariants.{LoongArch64}
-use Rattle.linker_elf.specs.declared.elf.value.Operands.{Operands}
-use Rattle.linker_elf.specs.declared.loongarch64.relocations.LoongArch64Relocation.{LoongArch64Relocation}
+use Rattle.linker_final.proofs.Imports.{slice_get, IsApplied, IsRow, code_of, loongarch_name, value_of, LoongArch64, Operands, LoongArch64Relocation, IsRelocated, entry_of, relocation_in, entry_address, operands_by, operands_in, operands_with, Symbol, Rela}
 use Rattle.linker_final.proofs.Joined.{code_is, own_there, unwritten_there, within}
 use Rattle.linker_final.proofs.LoongArchAlone.{IsWritable}
 use Rattle.linker_final.proofs.LoongArchWritten.{IsAfter, as_named, relocated_there, row_of, unwritten_nop}
@@ -19,13 +11,7 @@ use Rattle.linker_final.specs.Joined.{IsKeptInstruction, IsRewrittenAndPacked, f
 use Rattle.linker_final.specs.LoongArchSection.{AreOf, IsFinal, IsKept, IsLeft, IsMade, IsNew, Left, anywhere, applied, entry_by, final, named_as, none, packed, without_law}
 use Rattle.linker_final.specs.Packed.{Packed, architecture_of}
 use Rattle.linker_final.specs.SectionRuns.{offset_of}
-use Rattle.linker_laws.specs.LoongArchRewriteLaws.{IsRelocated}
 use Rattle.linker_runs.specs.declared.packing.Machine.TheVariants.{LoongArch64 as loongarch64}
-use Rattle.linker_section.specs.Needed.{entry_of}
-use Rattle.linker_section.specs.Relocations.{relocation_in}
-use Rattle.linker_section.specs.Values.{entry_address, operands_by, operands_in, operands_with}
-use Rattle.linker_section.specs.declared.facts.Symbol.{Symbol}
-use Rattle.linker_section.specs.declared.relocations.Rela.{Rela}
 
 -- ---- an instruction that stays
 

@@ -1,19 +1,7 @@
 -- Rewritten loads from the GOT of LoongArch are groups in the final bytes.
 use Rattle.std.proofs.Common.{◌≡◌, ℕ, ℤ, ◌+◌, ◌<◌, drop, List, refl, sym, ap, subst, ◌∙◌, arith, inl, inr, IsSomeAnd}
-use Rattle.std.specs.Prelude.{slice_get}
-use Rattle.linker_base.specs.Bits.{field}
-use Rattle.linker_elf.specs.Applied.{IsApplied}
-use Rattle.linker_elf.specs.Choices.{entry}
-use Rattle.linker_elf.specs.ElfNames.{IsNameOf, code_of}
-use Rattle.linker_elf.specs.LoongArchRelocations.{loongarch_name, loongarch_row, low_row, rounded_row}
-use Rattle.linker_elf.specs.Rows.{paged_row, place_pages, entry_pages}
-use Rattle.linker_elf.specs.Value.{value_of}
-use Rattle.linker_elf.specs.declared.elf.RelocationKind.TheVariants.{Relative, AbsoluteLowPart, GotRelative}
-use Rattle.linker_elf.specs.declared.elf.RelocationKindInfo.{RelocationKindInfo}
-use Rattle.linker_elf.specs.declared.elf.choice.Choice.{Choice}
-use Rattle.linker_elf.specs.declared.loongarch64.relocations.LoongArch64Relocation.{LoongArch64Relocation}
+use Rattle.linker_final.proofs.Imports.{slice_get, field, IsApplied, entry, IsNameOf, code_of, loongarch_name, loongarch_row, low_row, rounded_row, paged_row, place_pages, entry_pages, value_of, Relative, AbsoluteLowPart, GotRelative, RelocationKindInfo, Choice, LoongArch64Relocation, isnt, IsRewritten, IsLd, decision_at, RelaxContext, Rewritten, relocation_in, operands_with, Addresses, Symbol, Rela, relaxation_rewrite, Relaxation, LoongArch64}
 use Rattle.linker_elf.specs.declared.loongarch64.relocations.LoongArch64Relocation.TheVariants as names
-use Rattle.linker_rewriting.proofs.PreLayout.{isnt}
 use Rattle.linker_final.proofs.InstructionFields.{of_bits}
 use Rattle.linker_final.proofs.LoongArchChosen.{IsByTable, IsEntry, by_table, entry_by}
 use Rattle.linker_final.proofs.LoongArchPairs.{AreOfLoad, load_of}
@@ -22,20 +10,9 @@ use Rattle.linker_final.proofs.Written.{are_rewritten, rela, stays, with_operand
 use Rattle.linker_final.specs.Final.{UntouchedInstructions, Linked, IsLinked, IsRewrittenByNoOther, count, instruction_at}
 use Rattle.linker_final.specs.LoongArchSection.{IsLoad, LoadsTheSame}
 use Rattle.linker_laws.specs.LoongArchGroups.{Groups}
-use Rattle.linker_laws.specs.LoongArchRewriteLaws.{IsPair, IsRewritten, following, word_of}
-use Rattle.linker_utils.specs.LoongArchRewrites.{AreOfOneRegister, IsLd, bound_by_pages}
+use Rattle.linker_laws.specs.LoongArchRewriteLaws.{IsPair, following, word_of}
+use Rattle.linker_utils.specs.LoongArchRewrites.{AreOfOneRegister, bound_by_pages}
 use Rattle.linker_utils.specs.declared.loongarch64.rewrites.RewriteKind.TheVariants as kinds
-use Rattle.linker_rewriting.specs.Decisions.{decision_at}
-use Rattle.linker_rewriting.specs.Facts.{RelaxContext}
-use Rattle.linker_rewriting.specs.declared.decisions.Decision.TheVariants.{Rewritten}
-use Rattle.linker_section.specs.Relocations.{relocation_in}
-use Rattle.linker_section.specs.Values.{operands_with}
-use Rattle.linker_section.specs.declared.facts.Addresses.{Addresses}
-use Rattle.linker_section.specs.declared.facts.Symbol.{Symbol}
-use Rattle.linker_section.specs.declared.relocations.Rela.{Rela}
-use Rattle.linker_utils.specs.Relaxations.{relaxation_rewrite}
-use Rattle.linker_utils.specs.declared.architecture.Relaxation.{Relaxation}
-use Rattle.linker_elf.specs.declared.elf.architecture.Architecture.TheVariants.{LoongArch64}
 
 -- ---- rows
 

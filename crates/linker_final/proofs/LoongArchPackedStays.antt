@@ -1,19 +1,7 @@
 -- LoongArch: calls and addresses that stay, in the final bytes of a packed section.
 use Rattle.std.proofs.Common.{◌≡◌, ℕ, ◌+◌, ◌^◌, ◌<◌, take, drop, refl, sym, ap, subst, ◌∙◌, arith, true, false, Option, Some, None, Ok, IsSomeAnd}
-use Rattle.std.proofs.lemmas.List.Elements.{All-drop, All-take}
-use Rattle.std.specs.Prelude.{⊤, slice_get}
-use Rattle.linker_base.specs.declared.bit_misc.BitRange.{BitRange}
-use Rattle.linker_elf.specs.Applied.{IsApplied}
-use Rattle.linker_elf.specs.LoongArchRelocations.{loongarch_row}
-use Rattle.linker_elf.specs.Relocate.{window_len}
-use Rattle.linker_elf.specs.Rows.{bytes_row}
-use Rattle.linker_elf.specs.Value.{sum_64, value_of}
-use Rattle.linker_elf.specs.declared.elf.RelocationInstruction.{RelocationInstruction}
+use Rattle.linker_final.proofs.Imports.{All-drop, All-take, ⊤, slice_get, BitRange, IsApplied, loongarch_row, window_len, bytes_row, sum_64, value_of, RelocationInstruction, RelocationKindInfo, BitMasking, Operands, LoongArch64Relocation, Fits32, pair, AreAddresses, plt_address, symbol_address, rd_of, destination, relocation_in, has_value, names_label, offset_at, operands_in, operands_of, Symbol, IsRow}
 use Rattle.linker_elf.specs.declared.elf.RelocationKind.TheVariants.{None as NoValue}
-use Rattle.linker_elf.specs.declared.elf.RelocationKindInfo.{RelocationKindInfo}
-use Rattle.linker_elf.specs.declared.elf.RelocationSize.TheVariants.{BitMasking}
-use Rattle.linker_elf.specs.declared.elf.value.Operands.{Operands}
-use Rattle.linker_elf.specs.declared.loongarch64.relocations.LoongArch64Relocation.{LoongArch64Relocation}
 use Rattle.linker_elf.specs.declared.loongarch64.relocations.LoongArch64Relocation.TheVariants as names
 use Rattle.linker_final.proofs.InstructionFields.{some_value}
 use Rattle.linker_final.proofs.LoongArchPackedSites.{Made, both_call, both_make, by_addi, by_ld, either, from_there, second_at}
@@ -25,15 +13,9 @@ use Rattle.linker_final.specs.LoongArchPacked.{LongAddressesStay, LongCallsStay,
 use Rattle.linker_final.specs.Packed.{Packed, IsPacked, architecture_of, place_of}
 use Rattle.linker_laws.specs.LoongArchMachine.{State}
 use Rattle.linker_laws.specs.LoongArchRelocationLaws as relocation_laws
-use Rattle.linker_laws.specs.LoongArchRewriteLaws.{Fits32, following, pair}
-use Rattle.linker_laws.specs.Schemes.{AreAddresses, plt_address, symbol_address}
-use Rattle.linker_utils.specs.LoongArchRewrites.{rd_of, word_at}
-use Rattle.linker_runs.specs.LoongArchSites.{destination}
+use Rattle.linker_laws.specs.LoongArchRewriteLaws.{following}
+use Rattle.linker_utils.specs.LoongArchRewrites.{word_at}
 use Rattle.linker_runs.specs.declared.packing.Machine.TheVariants.{LoongArch64}
-use Rattle.linker_section.specs.Relocations.{relocation_in}
-use Rattle.linker_section.specs.Values.{has_value, names_label, offset_at, operands_in, operands_of}
-use Rattle.linker_section.specs.declared.facts.Symbol.{Symbol}
-use Rattle.linker_elf.specs.Architectures.{IsRow}
 use Rattle.linker_elf.specs.declared.elf.architecture.Architecture.TheVariants as architectures
 
 abbrev the_row : Option RelocationKindInfo → RelocationKindInfo

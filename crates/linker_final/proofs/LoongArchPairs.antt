@@ -1,29 +1,16 @@
 -- The relocations of a load from the GOT of LoongArch stand next to each other, and both are
 -- rewritten.
 use Rattle.std.proofs.Common.{◌≡◌, ℕ, suc, ◌∙◌, ◌+◌, ◌-◌, ◌<◌, inl, inr, List, ap, sym, subst, arith, refl, true, false, Option, Some, None}
-use Rattle.std.proofs.lemmas.Bool.{cases_Bool}
-use Rattle.linker_elf.specs.ElfNames.{IsNamed, IsNameOf, code_of}
-use Rattle.linker_elf.specs.LoongArchRelocations.{loongarch_name}
-use Rattle.linker_elf.specs.declared.elf.choice.Choice.{Choice}
-use Rattle.linker_elf.specs.declared.elf.choice.LinkFacts.{LinkFacts}
-use Rattle.linker_elf.specs.declared.loongarch64.relocations.LoongArch64Relocation.{LoongArch64Relocation}
+use Rattle.linker_final.proofs.Imports.{cases_Bool, IsNamed, IsNameOf, code_of, loongarch_name, Choice, LinkFacts, LoongArch64Relocation, IsCandidateWith, AreDecidedIn, IsDecidedAfter, IsScopeDecision, decision_at, decision_of, is_taken, takes_next, RelaxContext, pre_layout, link_facts, IsScopeIn, loongarch_scope_in, Decision, Kept, Rewritten, Consumed, relocation_in, Rela, Relaxation, LoongArch64}
 use Rattle.linker_elf.specs.declared.loongarch64.relocations.LoongArch64Relocation.TheVariants as names
 use Rattle.linker_final.specs.Final.{Linked, count}
 use Rattle.linker_rewriting.proofs.LoongArchLoads.{loads_are_whole}
-use Rattle.linker_rewriting.specs.Candidates.{IsCandidate, IsCandidateWith}
-use Rattle.linker_rewriting.specs.Decisions.{AreDecidedIn, IsDecidedAfter, IsDecidedAlone, IsScopeDecision, decision_at, decision_of, is_taken, takes_next}
-use Rattle.linker_rewriting.specs.Facts.{RelaxContext, pre_layout, link_facts}
-use Rattle.linker_rewriting.specs.Groups.{IsScopeIn, loongarch_scope_in}
+use Rattle.linker_rewriting.specs.Candidates.{IsCandidate}
+use Rattle.linker_rewriting.specs.Decisions.{IsDecidedAlone}
 use Rattle.linker_rewriting.specs.Rewritten.{IsLoadAt, IsRewritten}
 use Rattle.linker_rewriting.proofs.SequenceMembers.{among, are_there}
 use Rattle.linker_rewriting.specs.Sequences.{IsWhole, are_members, is_marked_in, is_whole, marked_load}
-use Rattle.linker_rewriting.specs.declared.decisions.Decision.{Decision}
-use Rattle.linker_rewriting.specs.declared.decisions.Decision.TheVariants.{Kept, Rewritten, Consumed}
 use Rattle.linker_rewriting.specs.declared.phases.Phase.TheVariants.{PreLayout}
-use Rattle.linker_section.specs.Relocations.{relocation_in}
-use Rattle.linker_section.specs.declared.relocations.Rela.{Rela}
-use Rattle.linker_utils.specs.declared.architecture.Relaxation.{Relaxation}
-use Rattle.linker_elf.specs.declared.elf.architecture.Architecture.TheVariants.{LoongArch64}
 
 -- The relocations at two indexes are those of a `pcalau12i` and of the `ld.d` after it, of one S +
 -- A, and both are rewritten.

@@ -1,12 +1,7 @@
 -- The rewrites of a section of LoongArch: each is of an instruction of its relocation, and those
 -- that have a law are groups.
 use Rattle.std.proofs.Common.{◌≡◌, ◌≢◌, ℕ, zero, suc, ◌+◌, ◌<◌, ◌≤◌, Bool, true, false, Option, Some, None, ap, sym, subst, ◌∙◌, refl, arith}
-use Rattle.std.specs.Prelude.{is_some}
-use Rattle.linker_elf.specs.ElfNames.{IsNameOf}
-use Rattle.linker_elf.specs.LoongArchRelocations.{loongarch_name}
-use Rattle.linker_elf.specs.declared.elf.architecture.Architecture.TheVariants.{LoongArch64}
-use Rattle.linker_elf.specs.declared.elf.choice.Choice.{Choice}
-use Rattle.linker_elf.specs.declared.loongarch64.relocations.LoongArch64Relocation.{LoongArch64Relocation}
+use Rattle.linker_final.proofs.Imports.{is_some, IsNameOf, loongarch_name, LoongArch64, Choice, LoongArch64Relocation, listed_at, IsDecidedAfter, IsGroupDecision, IsScopeDecision, decision_at, decision_of, is_taken, takes_next, IsScopeIn, group_stays, Decision, Consumed, Kept, Rewritten, RewrittenWithSymbol, Scope, Grouped, Independent, NotRelaxable, relocation_in, relaxation_skipped, Relaxation}
 use Rattle.linker_elf.specs.declared.loongarch64.relocations.LoongArch64Relocation.TheVariants as names
 use Rattle.linker_final.proofs.LoongArchAlone as alone
 use Rattle.linker_final.proofs.LoongArchAlone.{IsLawful}
@@ -19,16 +14,6 @@ use Rattle.linker_final.specs.Final.{AreRewritten, Linked, count}
 use Rattle.linker_final.specs.LoongArchSection.{RelocationsAreLeft, by_itself, law_of, load, rewriting}
 use Rattle.linker_final.specs.SectionRuns.{RewritesAreGroups, offset_of}
 use Rattle.linker_laws.specs.LoongArchGroups.{Groups}
-use Rattle.linker_rewriting.proofs.PreLayout.{listed_at}
-use Rattle.linker_rewriting.specs.Decisions.{IsDecidedAfter, IsGroupDecision, IsScopeDecision, decision_at, decision_of, is_taken, takes_next}
-use Rattle.linker_rewriting.specs.Groups.{IsScopeIn, group_stays}
-use Rattle.linker_rewriting.specs.declared.decisions.Decision.{Decision}
-use Rattle.linker_rewriting.specs.declared.decisions.Decision.TheVariants.{Consumed, Kept, Rewritten, RewrittenWithSymbol}
-use Rattle.linker_rewriting.specs.declared.groups.Scope.{Scope}
-use Rattle.linker_rewriting.specs.declared.groups.Scope.TheVariants.{Grouped, Independent, NotRelaxable}
-use Rattle.linker_section.specs.Relocations.{relocation_in}
-use Rattle.linker_utils.specs.Relaxations.{relaxation_skipped}
-use Rattle.linker_utils.specs.declared.architecture.Relaxation.{Relaxation}
 
 -- ---- what stands at a place
 

@@ -1,8 +1,7 @@
 -- The numbers before a row's instruction, with the powers of 2 written out, since `2 ^ n` takes n
 -- steps.
 use Rattle.std.proofs.Common.{◌≡◌, ℕ, ◌+◌, ◌*◌, ◌/◌, ◌%◌, ◌^◌, ◌==◌, ◌&&◌, Bool, true, List, [], ◌∷◌, refl, ap, ◌∙◌}
-use Rattle.std.specs.Prelude.{if◌then◌else◌}
-use Rattle.std.specs.List.{list_all}
+use Rattle.linker_final.proofs.Imports.{if◌then◌else◌, list_all}
 use Rattle.linker_final.specs.Steps.{Executed, Group, at, pc}
 
 abbrev noise_64 : ℕ → ℕ

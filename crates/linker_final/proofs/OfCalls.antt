@@ -3,15 +3,7 @@ use Rattle.std.proofs.Common.{◌≡◌, ℕ, List, [], ◌∷◌, length, inl, 
 use Rattle.linker_final.specs.Final.{IsLinked, Linked}
 use Rattle.linker_final.specs.SectionRuns.{Rewriting, Section}
 use Rattle.linker_final.specs.Worked.{IsLinkedAs, IsOfCalls, code_at}
-use Rattle.linker_rewriting.specs.declared.phases.Phase.{Phase}
-use Rattle.linker_elf.specs.declared.elf.architecture.Architecture.{Architecture}
-use Rattle.linker_runs.specs.Moved.{AreMoved}
-use Rattle.linker_runs.specs.Packing.{IsPackedRun, section_of}
-use Rattle.linker_runs.specs.declared.packing.Machine.{Machine}
-use Rattle.linker_runs.specs.declared.relaxation.Item.{Item}
-use Rattle.linker_section.specs.WrittenFields.{AreWritten}
-use Rattle.linker_section.specs.declared.facts.Addresses.{Addresses}
-use Rattle.linker_section.specs.declared.facts.Symbol.{Symbol}
+use Rattle.linker_final.proofs.Imports.{Phase, Architecture, AreMoved, IsPackedRun, section_of, Machine, Item, AreWritten, Addresses, Symbol}
 
 abbrev pub of_calls : (r : Rewriting) (phase : Phase) (addresses : Addresses) (symbols : List Symbol)
     (relocations object final : List ℕ) (old new : ℕ → ℕ) → ((l : Linked) → IsLinked l → r.Ensured l)

@@ -2,8 +2,7 @@
 use Rattle.std.proofs.Common.{◌/◌, ◌<◌, ap, sym, subst, ◌∙◌}
 use Rattle.linker_final.proofs.Phases.{last_as_many, last_within, phases_keep, phases_spare}
 use Rattle.linker_final.specs.Final.{OtherBytes, OtherFields}
-use Rattle.linker_rewriting.specs.Rewritten.{relocation_after}
-use Rattle.linker_section.specs.Relocations.{relocation_in}
+use Rattle.linker_final.proofs.Imports.{relocation_after, relocation_in}
 use Rattle.linker_section.specs.WrittenFields.{IsHeld}
 
 pub bytes : OtherBytes

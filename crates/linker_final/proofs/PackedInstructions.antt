@@ -1,14 +1,9 @@
 -- Relocated instructions that stay, in the final bytes of a packed section.
 use Rattle.std.proofs.Common.{◌<◌, arith, take, drop, sym, subst, IsSomeAnd}
-use Rattle.std.specs.Prelude.{⊤}
-use Rattle.linker_elf.specs.Applied.{IsApplied}
-use Rattle.linker_elf.specs.Relocate.{size_len, window_len}
-use Rattle.linker_elf.specs.Value.{value_of}
+use Rattle.linker_final.proofs.Imports.{⊤, IsApplied, size_len, window_len, value_of, some_window, offset_at}
 use Rattle.linker_final.proofs.PackedBytes.{same_there}
 use Rattle.linker_final.proofs.RelocatedFields.{applied}
 use Rattle.linker_final.specs.Packed.{InstructionsAreRelocated, PlacesAreRelocated, architecture_of, place_of}
-use Rattle.linker_section.proofs.Fronts.{some_window}
-use Rattle.linker_section.specs.Values.{offset_at}
 
 pub places : PlacesAreRelocated
 places p is i row operands of =

@@ -1,13 +1,10 @@
 -- What sites are in the final bytes of a packed section.
 use Rattle.std.proofs.Common.{◌≡◌, ℕ, ◌+◌, ◌^◌, ◌<◌, ◌≤◌, false, length, take, drop, sym, subst, arith}
-use Rattle.std.proofs.lemmas.List.Elements.{All-drop, All-take}
+use Rattle.linker_final.proofs.Imports.{All-drop, All-take, ItemBecomes, SiteBecomes, is_fixed, kept_len, packed_offset, offset_of, Site}
 use Rattle.linker_final.proofs.PackedBytes.{item_inside, packed_there}
 use Rattle.linker_final.proofs.PutBack.{window_length}
 use Rattle.linker_final.specs.Final.{AreBytes}
 use Rattle.linker_final.specs.Packed.{Packed, IsPacked, IsSiteOf, site_bytes, site_len, site_offset}
-use Rattle.linker_runs.specs.Packing.{ItemBecomes, SiteBecomes, is_fixed, kept_len, packed_offset}
-use Rattle.linker_runs.specs.Relaxing.{offset_of}
-use Rattle.linker_runs.specs.declared.relaxation.Item.TheVariants.{Site}
 use Rattle.linker_runs.specs.declared.relaxation.Site.{Site as sites}
 
 -- in the section before

@@ -1,25 +1,10 @@
 -- In which phase alone PowerPC64's relocations of a name are rewritten.
 use Rattle.std.proofs.Common.{◌≡◌, ◌⊎◌, ℕ, List, Bool, true, false, refl, sym, ap, subst, ◌∙◌, inl, inr}
-use Rattle.linker_elf.specs.ElfNames.{IsNamed, code_of}
-use Rattle.linker_elf.specs.Ppc64Relocations.{ppc64_name}
-use Rattle.linker_elf.specs.declared.elf.choice.Choice.{Choice}
-use Rattle.linker_elf.specs.declared.ppc64.relocations.Ppc64Relocation.{Ppc64Relocation}
+use Rattle.linker_final.proofs.Imports.{IsNamed, code_of, ppc64_name, Choice, Ppc64Relocation, IsDecidedAfter, IsScopeDecision, decision_at, is_taken, RelaxContext, IsScopeIn, ppc64_scope_in, Decision, Kept, Rewritten, Consumed, UnrelaxableGroups, Scope, NotRelaxable, Phase, relocation_in, Relaxation, Ppc64}
 use Rattle.linker_elf.specs.declared.ppc64.relocations.Ppc64Relocation.TheVariants as names
 use Rattle.linker_final.specs.Final.{AreRewritten, Linked}
 use Rattle.linker_final.specs.Ppc64Section.{IsOfNoPhase, Rewrites, RewrittenAgain}
-use Rattle.linker_rewriting.specs.Decisions.{IsDecidedAfter, IsScopeDecision, decision_at, is_taken}
-use Rattle.linker_rewriting.specs.Facts.{RelaxContext}
-use Rattle.linker_rewriting.specs.Groups.{IsScopeIn, ppc64_scope_in}
-use Rattle.linker_rewriting.specs.declared.decisions.Decision.{Decision}
-use Rattle.linker_rewriting.specs.declared.decisions.Decision.TheVariants.{Kept, Rewritten, Consumed}
-use Rattle.linker_rewriting.specs.declared.groups.UnrelaxableGroups.{UnrelaxableGroups}
-use Rattle.linker_rewriting.specs.declared.groups.Scope.{Scope}
-use Rattle.linker_rewriting.specs.declared.groups.Scope.TheVariants.{NotRelaxable}
-use Rattle.linker_rewriting.specs.declared.phases.Phase.{Phase}
 use Rattle.linker_rewriting.specs.declared.phases.Phase.TheVariants as phases
-use Rattle.linker_section.specs.Relocations.{relocation_in}
-use Rattle.linker_utils.specs.declared.architecture.Relaxation.{Relaxation}
-use Rattle.linker_elf.specs.declared.elf.architecture.Architecture.TheVariants.{Ppc64}
 
 -- a scope in a phase that decides so
 module _ (s : RelaxContext) (kept : List UnrelaxableGroups) (bytes section : List ℕ) (n : ℕ) (decision : Decision)

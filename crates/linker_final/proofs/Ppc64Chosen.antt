@@ -1,31 +1,16 @@
 -- The rewrite that is chosen for a relocation of PowerPC64.
 use Rattle.std.proofs.Common.{◌≡◌, ℕ, ◌<◌, List, [], ◌∷◌, true, false, refl, sym, ap, subst, ◌∙◌, inl, inr}
-use Rattle.linker_elf.specs.Choices.{Entry, choice}
-use Rattle.linker_elf.specs.ElfNames.{IsNameOf, code_of}
-use Rattle.linker_elf.specs.Ppc64Relocations.{ppc64_name}
-use Rattle.linker_elf.specs.declared.elf.choice.Choice.{Choice}
-use Rattle.linker_elf.specs.declared.elf.choice.LinkFacts.{LinkFacts}
-use Rattle.linker_elf.specs.declared.ppc64.relocations.Ppc64Relocation.{Ppc64Relocation}
+use Rattle.linker_final.proofs.Imports.{choice, IsNameOf, code_of, ppc64_name, Choice, LinkFacts, Ppc64Relocation, chosen_at, IsOfApplied, of_first, ppc64_entries, ppc64_matches, decision_at, IsScopeIn, ppc64_scope_in, is_labelled, Rewritten, Scope, Labelled, Phase, relocation_in, IsArchitectureChoice, relaxation_no_op, Relaxation, Ppc64}
+use Rattle.linker_elf.specs.Choices.{Entry}
 use Rattle.linker_elf.specs.declared.ppc64.relocations.Ppc64Relocation.TheVariants as names
-use Rattle.linker_rewriting.proofs.Chosen.{chosen_at}
-use Rattle.linker_rewriting.proofs.Entries.{IsOfApplied, IsOfEntry as IsOfEntryIn, IsOfOne as IsOfOneIn, of_first}
+use Rattle.linker_rewriting.proofs.Entries.{IsOfEntry as IsOfEntryIn, IsOfOne as IsOfOneIn}
 use Rattle.linker_final.specs.Final.{IsLinked, Linked, count}
-use Rattle.linker_utils.specs.Ppc64Rewrites.{Ppc64Applies, ppc64_entries, ppc64_matches}
+use Rattle.linker_utils.specs.Ppc64Rewrites.{Ppc64Applies}
 use Rattle.linker_utils.specs.declared.ppc64.rewrites.RewriteKind.{RewriteKind}
 use Rattle.linker_utils.specs.declared.ppc64.rewrites.RewriteKind.TheVariants as kinds
-use Rattle.linker_rewriting.specs.Decisions.{decision_at}
-use Rattle.linker_rewriting.specs.Groups.{IsScopeIn, ppc64_scope, ppc64_scope_in}
-use Rattle.linker_rewriting.specs.RiscVPcrelGroups.{is_labelled}
-use Rattle.linker_rewriting.specs.declared.decisions.Decision.TheVariants.{Rewritten}
-use Rattle.linker_rewriting.specs.declared.groups.Scope.{Scope}
-use Rattle.linker_rewriting.specs.declared.groups.Scope.TheVariants.{Labelled}
-use Rattle.linker_rewriting.specs.declared.phases.Phase.{Phase}
+use Rattle.linker_rewriting.specs.Groups.{ppc64_scope}
 use Rattle.linker_rewriting.specs.declared.phases.Phase.TheVariants as phases
-use Rattle.linker_section.specs.Relocations.{relocation_in}
-use Rattle.linker_utils.specs.Relaxations.{IsArchitectureChoice, relaxation_no_op}
-use Rattle.linker_utils.specs.declared.architecture.Relaxation.{Relaxation}
 use Rattle.linker_utils.specs.declared.architecture.Relaxation.TheVariants as relaxations
-use Rattle.linker_elf.specs.declared.elf.architecture.Architecture.TheVariants.{Ppc64}
 
 -- ---- scopes
 

@@ -1,19 +1,8 @@
 -- Each rewritten instruction of PowerPC64 is a group.
 use Rattle.std.proofs.Common.{◌≡◌, ◌⊎◌, ℕ, Bool, ◌+◌, ◌-◌, ◌*◌, ◌^◌, ◌<◌, ◌≤◌, List, [], ◌∷◌, length, drop, take, get_or, refl, sym, ap, subst, ◌∙◌, arith, inl, inr, Some, not, eqb, IsSomeAnd, None}
-use Rattle.std.proofs.lemmas.Bool.{and_parts, cases_lt}
-use Rattle.std.proofs.lemmas.List.{drop-drop, get_or_past, length-drop, take-take}
-use Rattle.std.proofs.lemmas.List.Elements.{All-drop, All-take, All-get_or}
+use Rattle.linker_final.proofs.Imports.{and_parts, cases_lt, drop-drop, get_or_past, length-drop, take-take, All-drop, All-take, All-get_or, IsTrue, ◌&&◌, slice_get, w32, from_le_bytes, to_le_bytes, byte_at, Rewrite, replaces, entry, IsNamed, IsNameOf, code_of, ppc64_name, ppc64_row, sum_64, Ppc64, Choice, Ppc64Relocation, word_of_front, word_below, window_of_rewrite, decision_at, Rewritten, relocation_in, operands_with, Symbol, Rela, HasTest, ppc64_entries, ppc64_matches, ppc64_rewrite, rewrites_marked, relaxation_rewrite, Relaxation}
 use Rattle.std.proofs.lemmas.Nat.{le_bytes_4}
-use Rattle.std.specs.Prelude.{IsTrue, ◌&&◌, slice_get}
-use Rattle.std.specs.Int.{w32, from_le_bytes, to_le_bytes, byte_at}
-use Rattle.linker_base.specs.Rewrite.{Rewrite, replaces}
-use Rattle.linker_elf.specs.Choices.{changed_toc, entry}
-use Rattle.linker_elf.specs.ElfNames.{IsNamed, IsNameOf, code_of}
-use Rattle.linker_elf.specs.Ppc64Relocations.{ppc64_name, ppc64_row}
-use Rattle.linker_elf.specs.Value.{sum_64}
-use Rattle.linker_elf.specs.declared.elf.architecture.Architecture.TheVariants.{Ppc64}
-use Rattle.linker_elf.specs.declared.elf.choice.Choice.{Choice}
-use Rattle.linker_elf.specs.declared.ppc64.relocations.Ppc64Relocation.{Ppc64Relocation}
+use Rattle.linker_elf.specs.Choices.{changed_toc}
 use Rattle.linker_elf.specs.declared.ppc64.relocations.Ppc64Relocation.TheVariants as names
 use Rattle.linker_final.proofs.Phases.{left_within}
 use Rattle.linker_final.proofs.Ppc64Again.{of_none}
@@ -21,24 +10,13 @@ use Rattle.linker_final.proofs.Ppc64Chosen.{IsOfEntry, IsOfOne}
 use Rattle.linker_final.proofs.Ppc64Written.{Writes, after_is, becomes, becomes_marked, call_after, distance, entry_high, entry_low, entry_prefixed, left_alone, left_beside, made_after, marked_offset, near_entry, test_at, thread, thread_high, thread_low, thread_low_after, thread_low_words, thread_prefixed, thread_words, toc, toc_high, toc_low, toc_words}
 use Rattle.linker_final.proofs.PutBack.{window_byte, window_length}
 use Rattle.linker_final.proofs.Written.{are_rewritten, first_same, mapped, outside_of, second_same, spared, stays, word_same}
-use Rattle.linker_riscv64.proofs.Jumps.{word_of_front}
 use Rattle.linker_final.specs.Final.{AreBytes, AreRewritten, IsLinked, IsOutside, IsRewrittenByNoOther, IsWrittenByNoOther, Linked, UntouchedByOthers, UntouchedBytes, count, instruction_at, two_at}
 use Rattle.linker_final.specs.Ppc64Section.{AreLeftAlone, HasApplied, IsMade, IsOfNoPhase, Law, Left, Restores, applied, entry_by, law, law_of, name_of, none, of_call, shape, to_second}
 use Rattle.linker_final.specs.SectionRuns.{offset_of}
-use Rattle.linker_laws.proofs.Words.{word_below}
 use Rattle.linker_laws.specs.Ppc64Groups as groups
 use Rattle.linker_laws.specs.Ppc64Groups.{AreGroup, CallTo, Code, Groups, Has, IsPrefixed, LowOverBase, Rewrites, RewritesBoth, Stands, WordOverBase}
 use Rattle.linker_laws.specs.Ppc64RewriteLaws.{IsRelocated, from_thread, from_toc, word_of}
-use Rattle.linker_base.specs.RewriteWindow.{window_of_rewrite}
-use Rattle.linker_rewriting.specs.Decisions.{decision_at}
-use Rattle.linker_rewriting.specs.declared.decisions.Decision.TheVariants.{Rewritten}
-use Rattle.linker_section.specs.Relocations.{relocation_in}
-use Rattle.linker_section.specs.Values.{operands_with}
-use Rattle.linker_section.specs.declared.facts.Symbol.{Symbol}
-use Rattle.linker_section.specs.declared.relocations.Rela.{Rela}
-use Rattle.linker_utils.specs.Ppc64Rewrites.{Conditions, HasTest, HasTwo, addis_of_thread, by_displacement, by_word_displacement, called_to_initial_exec, called_to_local_exec, called_to_module, direct, is_addi, is_addis_of_toc, is_add_of_thread, is_addis_over, is_call, is_indexed, is_indexed_any, is_indexed_word, is_ld, is_pla, is_pld, nop, over_base, paddi, paddi_of_thread, pld, ppc64_entries, ppc64_matches, ppc64_rewrite, registers_of, restores_toc, rewrites_call, rewrites_marked, rewrites_word, rt_of, to_distance, to_initial_exec, to_local_exec, to_local_exec_words, to_module, to_move, to_near_initial_exec, to_prefixed_initial_exec, to_prefixed_local_exec, to_toc_distance, two_words, without_high_offset, without_high_part}
-use Rattle.linker_utils.specs.Relaxations.{relaxation_rewrite}
-use Rattle.linker_utils.specs.declared.architecture.Relaxation.{Relaxation}
+use Rattle.linker_utils.specs.Ppc64Rewrites.{Conditions, HasTwo, addis_of_thread, by_displacement, by_word_displacement, called_to_initial_exec, called_to_local_exec, called_to_module, direct, is_addi, is_addis_of_toc, is_add_of_thread, is_addis_over, is_call, is_indexed, is_indexed_any, is_indexed_word, is_ld, is_pla, is_pld, nop, over_base, paddi, paddi_of_thread, pld, registers_of, restores_toc, rewrites_call, rewrites_word, rt_of, to_distance, to_initial_exec, to_local_exec, to_local_exec_words, to_module, to_move, to_near_initial_exec, to_prefixed_initial_exec, to_prefixed_local_exec, to_toc_distance, two_words, without_high_offset, without_high_part}
 use Rattle.linker_utils.specs.declared.architecture.Relaxation.TheVariants as relaxations
 use Rattle.linker_utils.specs.declared.ppc64.rewrites.RewriteKind.{RewriteKind}
 use Rattle.linker_utils.specs.declared.ppc64.rewrites.RewriteKind.TheVariants as kinds

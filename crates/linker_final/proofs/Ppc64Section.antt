@@ -1,12 +1,7 @@
 -- The rewrites of a section of PowerPC64: each is of words that are rewritten together, and these
 -- are groups.
 use Rattle.std.proofs.Common.{◌≡◌, ℕ, ◌+◌, ◌*◌, ◌<◌, ◌≤◌, ◌⊎◌, get_or, sym, ap, subst, ◌∙◌, refl, arith, inl, inr}
-use Rattle.std.proofs.lemmas.Bool.{cases_lt}
-use Rattle.linker_elf.specs.ElfNames.{IsNameOf}
-use Rattle.linker_elf.specs.Ppc64Relocations.{ppc64_name}
-use Rattle.linker_elf.specs.declared.elf.architecture.Architecture.TheVariants.{Ppc64}
-use Rattle.linker_elf.specs.declared.elf.choice.Choice.{Choice}
-use Rattle.linker_elf.specs.declared.ppc64.relocations.Ppc64Relocation.{Ppc64Relocation}
+use Rattle.linker_final.proofs.Imports.{cases_lt, IsNameOf, ppc64_name, Ppc64, Choice, Ppc64Relocation, decision_at, Decision, Kept, Rewritten, Consumed, RewrittenWithSymbol, relocation_in, Relaxation}
 use Rattle.linker_final.proofs.Ppc64Chosen.{has_entry, unlabelled}
 use Rattle.linker_final.proofs.Ppc64Groups.{IsLawful, by_name}
 use Rattle.linker_final.proofs.SectionRuns.{AreIn, IsIn, each_or, is_linked, without_label}
@@ -15,11 +10,6 @@ use Rattle.linker_final.specs.Final.{IsLinked, IsOutside, Linked, count}
 use Rattle.linker_final.specs.Ppc64Section.{NamesAreLeft, kind_at, kind_by, kind_of, law_of, rewriting, shape, span}
 use Rattle.linker_final.specs.SectionRuns.{RewritesAreGroups, offset_of}
 use Rattle.linker_laws.specs.Ppc64Groups.{Groups}
-use Rattle.linker_rewriting.specs.Decisions.{decision_at}
-use Rattle.linker_rewriting.specs.declared.decisions.Decision.{Decision}
-use Rattle.linker_rewriting.specs.declared.decisions.Decision.TheVariants.{Kept, Rewritten, Consumed, RewrittenWithSymbol}
-use Rattle.linker_section.specs.Relocations.{relocation_in}
-use Rattle.linker_utils.specs.declared.architecture.Relaxation.{Relaxation}
 
 -- the law of a rewrite, by its name
 law_there : Groups → (l : Linked) → IsLinked l → l.context.architecture ≡ Ppc64 → (i : ℕ) (chosen : Choice Relaxation ℕ)

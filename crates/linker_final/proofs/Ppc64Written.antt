@@ -1,23 +1,11 @@
 -- Instructions of PowerPC64 and their relocations in the final bytes of a section.
 use Rattle.std.proofs.Common.{true, false, ◌≡◌, ◌⊎◌, ℕ, ◌+◌, ◌-◌, ◌<◌, ◌≤◌, length, take, drop, sym, ap, subst, ◌∙◌, refl, arith, Some, None, Ok, IsSomeAnd, cond}
-use Rattle.std.proofs.lemmas.List.{take-take}
-use Rattle.std.specs.Prelude.{IsTrue, slice_get, ⊤}
-use Rattle.linker_base.specs.Rewrite.{Rewrite, addend_after, offset_after}
-use Rattle.linker_elf.specs.Applied.{IsApplied}
-use Rattle.linker_elf.specs.ElfNames.{IsNamed, code_of}
-use Rattle.linker_elf.specs.Ppc64Relocations.{ppc64_name, ppc64_row, branch_row, high_adjusted_row, low_ds_row, low_row, prefixed_row}
-use Rattle.linker_elf.specs.Relocate.{window_len}
-use Rattle.linker_elf.specs.Rows.{bytes_row, signed_row}
-use Rattle.linker_elf.specs.Value.{value_of}
+use Rattle.linker_final.proofs.Imports.{take-take, IsTrue, slice_get, ⊤, Rewrite, addend_after, offset_after, IsApplied, IsNamed, code_of, ppc64_name, ppc64_row, window_len, bytes_row, signed_row, value_of, GotTpOff, Relative, TpOff, RelocationKindInfo, BitMasking, Choice, Operands, Ppc64Relocation, HasTest, ppc64_rewrite, rewrites_marked, decision_at, IsDone, IsMade, Rewritten, is_of_pair, entry_of, relocation_in, entry_address, has_value, is_there, names_label, operands_by, operands_with, Symbol, Entry, ThreadOffset, Rela, IsRow, relaxation_rewrite, Relaxation, Ppc64}
+use Rattle.linker_elf.specs.Ppc64Relocations.{branch_row, high_adjusted_row, low_ds_row, low_row, prefixed_row}
 use Rattle.linker_elf.specs.declared.elf.RelocationInstruction.TheVariants as insns
-use Rattle.linker_elf.specs.declared.elf.RelocationKind.TheVariants.{None as NoValue, GotTpOff, GotTpOffGotBase, Relative, SymRelGotBase, TpOff}
-use Rattle.linker_elf.specs.declared.elf.RelocationKindInfo.{RelocationKindInfo}
-use Rattle.linker_elf.specs.declared.elf.RelocationSize.TheVariants.{BitMasking}
-use Rattle.linker_elf.specs.declared.elf.choice.Choice.{Choice}
-use Rattle.linker_elf.specs.declared.elf.value.Operands.{Operands}
+use Rattle.linker_elf.specs.declared.elf.RelocationKind.TheVariants.{None as NoValue, GotTpOffGotBase, SymRelGotBase}
 use Rattle.linker_elf.specs.declared.ppc64.forms.Ppc64Instruction.{Ppc64Instruction}
 use Rattle.linker_elf.specs.declared.ppc64.forms.Ppc64Instruction.TheVariants.{Branch24, D, Ds, Prefixed}
-use Rattle.linker_elf.specs.declared.ppc64.relocations.Ppc64Relocation.{Ppc64Relocation}
 use Rattle.linker_elf.specs.declared.ppc64.relocations.Ppc64Relocation.TheVariants as names
 use Rattle.linker_final.proofs.InstructionFields.{IsOfInstruction}
 use Rattle.linker_final.proofs.Phases.{relocation_left}
@@ -25,24 +13,8 @@ use Rattle.linker_final.proofs.Written.{IsRowOf, apart_with, applied_after, by_n
 use Rattle.linker_final.specs.Final.{UntouchedBytes, AreRewritten, Linked, IsLinked, IsWrittenByNoOther, count, instruction_at}
 use Rattle.linker_final.specs.SectionRuns.{offset_of}
 use Rattle.linker_laws.specs.Ppc64RewriteLaws.{IsRelocated, IsRewritten, word_of}
-use Rattle.linker_utils.specs.Ppc64Rewrites.{HasTest, ppc64_rewrite, rewrites_marked}
 use Rattle.linker_utils.specs.declared.ppc64.rewrites.RewriteKind.{RewriteKind}
-use Rattle.linker_rewriting.specs.Decisions.{decision_at}
-use Rattle.linker_rewriting.specs.Rewritten.{IsDone, IsMade}
-use Rattle.linker_rewriting.specs.declared.decisions.Decision.TheVariants.{Rewritten}
-use Rattle.linker_section.specs.Fields.{is_of_pair}
-use Rattle.linker_section.specs.Needed.{entry_of}
-use Rattle.linker_section.specs.Relocations.{relocation_in}
-use Rattle.linker_section.specs.Values.{entry_address, has_value, is_there, names_label, operands_by, operands_with}
-use Rattle.linker_section.specs.declared.facts.Symbol.{Symbol}
-use Rattle.linker_section.specs.declared.needed.Entry.{Entry}
-use Rattle.linker_section.specs.declared.needed.EntryClass.TheVariants.{ThreadOffset}
-use Rattle.linker_section.specs.declared.relocations.Rela.{Rela}
-use Rattle.linker_elf.specs.Architectures.{IsRow}
-use Rattle.linker_utils.specs.Relaxations.{relaxation_rewrite}
-use Rattle.linker_utils.specs.declared.architecture.Relaxation.{Relaxation}
 use Rattle.linker_utils.specs.declared.architecture.Relaxation.TheVariants as relaxations
-use Rattle.linker_elf.specs.declared.elf.architecture.Architecture.TheVariants.{Ppc64}
 
 -- ---- relocations that rewrites leave
 

@@ -2,33 +2,25 @@
 use Rattle.std.proofs.Common.{◌≡◌, ◌≢◌, ℕ, ◌+◌, ◌-◌, ◌*◌, ◌/◌, ◌%◌, ◌^◌, ◌<◌, ◌≤◌, List, length, get_or, refl, sym, ap, subst, ◌∙◌, inl, inr, arith}
 use Rattle.std.specs.Prelude.{◌⊎◌, MatchOption, Option, None, Some}
 use Rattle.std.proofs.Math.Nat.{mod-lt, mod-eq_of_lt, mod_self}
-use Rattle.std.proofs.lemmas.Bool.{cases_lt}
+use Rattle.linker_final.proofs.Imports.{cases_lt, rank-mono, rank, sum_64, deletions_of_run, kept_len, packed_offset, end_of, offset_of, Item, Aligned, Addresses, Symbol}
 use Rattle.std.proofs.lemmas.Nat.{div-add-mod', mod-mul-add}
-use Rattle.linker_base.proofs.Rank.{rank-le, rank-mono}
-use Rattle.linker_base.specs.Deletions.{IsValid, rank}
+use Rattle.linker_base.proofs.Rank.{rank-le}
+use Rattle.linker_base.specs.Deletions.{IsValid}
 use Rattle.linker_base.specs.Deltas.{RecordsDeletions}
 use Rattle.linker_base.specs.Listed.{AreValidDeltas}
 use Rattle.linker_base.specs.declared.relaxation.RelaxDelta.{RelaxDelta}
-use Rattle.linker_elf.specs.Value.{sum_64}
 use Rattle.linker_final.proofs.PackedBytes.{addresses}
 use Rattle.linker_final.specs.Packed.{Packed, IsPacked}
-use Rattle.linker_final.specs.Relaxed.{AreRelaxedAndPacked, packed_of}
-use Rattle.linker_final.specs.Relaxed.{Run, AlignmentsHold, AlignmentHolds, HoldsIn, IsAligned, IsOfRun, IsSkipped, LeadsInto, SectionsAreAligned}
-use Rattle.linker_final.specs.Relaxed.{code_at, code_index, padding_at, padding_index, padding_len}
+use Rattle.linker_final.specs.Relaxed.{AreRelaxedAndPacked, packed_of, Run, AlignmentsHold, AlignmentHolds, HoldsIn, IsAligned, IsOfRun, IsSkipped, LeadsInto, SectionsAreAligned, code_at, code_index, padding_at, padding_index, padding_len}
 use Rattle.linker_final.specs.declared.packed.RunSection.{RunSection}
 use Rattle.linker_runs.proofs.First.{first_bytes}
 use Rattle.linker_runs.proofs.Layouts.{freed_fits}
 use Rattle.linker_runs.proofs.Multiples.{needed_fills, no_rest}
 use Rattle.linker_runs.proofs.Translations.{translations_exact}
 use Rattle.linker_runs.specs.Choosing.{AreItems, IsExact, IsExactItem, IsRelaxation}
-use Rattle.linker_runs.specs.Deleting.{deletions_of_run}
-use Rattle.linker_runs.specs.Packing.{address_of, kept_len, packed_offset}
-use Rattle.linker_runs.specs.Relaxing.{IsSound, choice_of, end_of, freed_before, item_at, needed, offset_of}
+use Rattle.linker_runs.specs.Packing.{address_of}
+use Rattle.linker_runs.specs.Relaxing.{IsSound, choice_of, freed_before, item_at, needed}
 use Rattle.linker_runs.specs.declared.relaxation.Alignment.{Alignment}
-use Rattle.linker_runs.specs.declared.relaxation.Item.{Item}
-use Rattle.linker_runs.specs.declared.relaxation.Item.TheVariants.{Aligned}
-use Rattle.linker_section.specs.declared.facts.Addresses.{Addresses}
-use Rattle.linker_section.specs.declared.facts.Symbol.{Symbol}
 
 -- ---- what an alignment needs
 

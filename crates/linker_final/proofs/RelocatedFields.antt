@@ -1,25 +1,8 @@
 -- The relocation of an instruction of any length in the bytes once a section's values are written.
 use Rattle.std.proofs.Common.{◌≡◌, ℕ, ◌/◌, ◌<◌, List, length, take, drop, true, false, subst, sym, ap, refl, Ok, Some, IsSomeAnd}
-use Rattle.std.specs.Prelude.{⊤, ◌||◌}
-use Rattle.linker_base.specs.declared.bit_misc.BitRange.{BitRange}
-use Rattle.linker_elf.specs.Applied.{IsApplied}
-use Rattle.linker_elf.specs.Relocate.{size_len, window_len}
-use Rattle.linker_elf.specs.Value.{value_of}
-use Rattle.linker_elf.specs.declared.elf.RelocationInstruction.{RelocationInstruction}
-use Rattle.linker_elf.specs.declared.elf.RelocationKindInfo.{RelocationKindInfo}
-use Rattle.linker_elf.specs.declared.elf.RelocationSize.TheVariants.{BitMasking}
-use Rattle.linker_elf.specs.declared.elf.value.Operands.{Operands}
+use Rattle.linker_final.proofs.Imports.{⊤, ◌||◌, BitRange, IsApplied, size_len, window_len, value_of, RelocationInstruction, RelocationKindInfo, BitMasking, Operands, some_window, begins_pair, ends_pair, is_of_pair, relocation_in, has_value, names_label, offset_at, operands_of, AreWritten, Addresses, Symbol, IsRow, Architecture}
 use Rattle.linker_final.proofs.InstructionFields.{applied_found}
 use Rattle.linker_final.proofs.PlainRows.{found_is}
-use Rattle.linker_section.proofs.Fronts.{some_window}
-use Rattle.linker_section.specs.Fields.{begins_pair, ends_pair, is_of_pair}
-use Rattle.linker_section.specs.Relocations.{relocation_in}
-use Rattle.linker_section.specs.Values.{has_value, names_label, offset_at, operands_of}
-use Rattle.linker_section.specs.WrittenFields.{AreWritten}
-use Rattle.linker_section.specs.declared.facts.Addresses.{Addresses}
-use Rattle.linker_section.specs.declared.facts.Symbol.{Symbol}
-use Rattle.linker_elf.specs.Architectures.{IsRow}
-use Rattle.linker_elf.specs.declared.elf.architecture.Architecture.{Architecture}
 
 module _ (architecture : Architecture) (addresses : Addresses) (bytes : List ℕ)
     (symbols : List Symbol) (before after : List ℕ)

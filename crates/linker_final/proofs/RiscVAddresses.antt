@@ -1,12 +1,7 @@
 -- Loads of fixed addresses from the GOT of RISC-V that became `lui` and `addi`, or `addi` alone,
 -- are groups, with what new has.
 use Rattle.std.proofs.Common.{◌≡◌, ℕ, ◌+◌, ◌≤◌, List, length, refl, inl, inr}
-use Rattle.linker_elf.specs.RiscVRelocations.{pair_row}
-use Rattle.linker_elf.specs.Value.{sum_64}
-use Rattle.linker_elf.specs.declared.elf.RelocationKind.TheVariants.{Absolute}
-use Rattle.linker_elf.specs.declared.elf.architecture.Architecture.TheVariants.{RiscV}
-use Rattle.linker_elf.specs.declared.elf.choice.Choice.{Choice}
-use Rattle.linker_elf.specs.declared.riscv64.forms.RiscVInstruction.TheVariants.{IType, UType}
+use Rattle.linker_final.proofs.Imports.{pair_row, sum_64, Absolute, RiscV, Choice, IType, UType, Groups, Rewritten, RewrittenWithSymbol, load_to_addi, riscv_entries, Relaxation}
 use Rattle.linker_elf.specs.declared.riscv64.relocations.RiscVRelocation.TheVariants as names
 use Rattle.linker_final.proofs.InstructionFields.{of_bits}
 use Rattle.linker_final.proofs.RiscVChosen.{IsOfSome, becomes_of, of_some}
@@ -16,10 +11,7 @@ use Rattle.linker_final.specs.Final.{AreRewritten, Linked, instruction_at}
 use Rattle.linker_final.specs.RiscVFinal.{IsAddiOfLoad, IsDeleted, IsLuiOfLoad, IsOfDescriptor}
 use Rattle.linker_final.specs.RiscVSection.{New, fixed, law, low_address}
 use Rattle.linker_final.specs.SectionRuns.{offset_of}
-use Rattle.linker_laws.specs.RiscVGroups.{Groups}
-use Rattle.linker_rewriting.specs.declared.decisions.Decision.TheVariants.{Rewritten, RewrittenWithSymbol}
-use Rattle.linker_utils.specs.RiscVRewrites.{load_to_addi, of_destination, riscv_entries}
-use Rattle.linker_utils.specs.declared.architecture.Relaxation.{Relaxation}
+use Rattle.linker_utils.specs.RiscVRewrites.{of_destination}
 use Rattle.linker_utils.specs.declared.riscv64.rewrites.RewriteKind.TheVariants as kinds
 
 ld_inside : (section : List ℕ) (o : ℕ) (chosen : Choice Relaxation ℕ)

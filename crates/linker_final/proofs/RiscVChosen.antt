@@ -1,36 +1,15 @@
 -- The rewrite that is chosen for a relocation of RISC-V.
 use Rattle.std.proofs.Common.{◌≡◌, ℕ, ◌+◌, ◌<◌, ◌≤◌, length, Bool, true, false, List, [], ◌∷◌, refl, sym, ap, subst, ◌∙◌, inl, inr, ◌⊎◌, Option, Some, None}
-use Rattle.linker_elf.specs.Choices.{choice}
-use Rattle.linker_elf.specs.ElfNames.{IsNamed, IsNameOf, code_of}
-use Rattle.linker_elf.specs.RiscVRelocations.{riscv_name}
-use Rattle.linker_elf.specs.declared.elf.choice.Choice.{Choice}
-use Rattle.linker_elf.specs.declared.elf.choice.LinkFacts.{LinkFacts}
-use Rattle.linker_elf.specs.declared.riscv64.relocations.RiscVRelocation.{RiscVRelocation}
-use Rattle.linker_rewriting.proofs.Chosen.{choice_of, chosen_or_labelled}
-use Rattle.linker_rewriting.proofs.Entries.{IsOfApplied, of_first}
+use Rattle.linker_final.proofs.Imports.{choice, IsNamed, IsNameOf, code_of, riscv_name, Choice, LinkFacts, RiscVRelocation, choice_of, chosen_or_labelled, IsOfApplied, of_first, AppliesToRiscV, HasPattern, RiscVEntry, riscv_entries, IsCandidateWith, IsScopeIn, Labelled, Architecture, decision_at, RelaxContext, Decision, RewrittenWithSymbol, Rewritten, Subject, Phase, relocation_in, Rela, IsArchitectureChoice, relaxation_no_op, Relaxation, RiscV}
 use Rattle.linker_final.specs.Final.{AreRewritten, Linked, count}
-use Rattle.linker_utils.specs.RiscVRewrites.{AppliesToRiscV, HasPattern, IsRiscVChoice, RiscVEntry, riscv_entries}
+use Rattle.linker_utils.specs.RiscVRewrites.{IsRiscVChoice}
 use Rattle.linker_utils.specs.declared.riscv64.rewrites.RewriteKind.{RewriteKind}
 use Rattle.linker_utils.specs.declared.riscv64.rewrites.RewriteKind.TheVariants as kinds
-use Rattle.linker_rewriting.specs.Candidates.{IsCandidateWith}
-use Rattle.linker_rewriting.specs.Groups.{IsScopeIn}
-use Rattle.linker_rewriting.specs.declared.groups.Scope.TheVariants.{Labelled}
-use Rattle.linker_elf.specs.declared.elf.architecture.Architecture.{Architecture}
-use Rattle.linker_rewriting.specs.Decisions.{IsLabelDecision, decision_at, label_decision}
-use Rattle.linker_rewriting.specs.Decisions.{rewritten_by, takes_symbol}
-use Rattle.linker_rewriting.specs.Facts.{RelaxContext}
+use Rattle.linker_rewriting.specs.Decisions.{IsLabelDecision, label_decision, rewritten_by, takes_symbol}
 use Rattle.linker_rewriting.proofs.LabelGroups.{one_index}
 use Rattle.linker_rewriting.specs.RiscVPcrelGroups.{IsHighIn, IsLabelCandidate, label_facts}
-use Rattle.linker_rewriting.specs.declared.decisions.Decision.{Decision}
-use Rattle.linker_rewriting.specs.declared.decisions.Decision.TheVariants.{RewrittenWithSymbol, Rewritten}
-use Rattle.linker_rewriting.specs.declared.decisions.Subject.{Subject}
-use Rattle.linker_rewriting.specs.declared.phases.Phase.{Phase}
-use Rattle.linker_section.specs.Relocations.{relocation_in}
-use Rattle.linker_section.specs.declared.relocations.Rela.{Rela}
-use Rattle.linker_utils.specs.Relaxations.{IsArchitectureChoice, IsUnchanged, relaxation_no_op}
-use Rattle.linker_utils.specs.declared.architecture.Relaxation.{Relaxation}
+use Rattle.linker_utils.specs.Relaxations.{IsUnchanged}
 use Rattle.linker_utils.specs.declared.architecture.Relaxation.TheVariants as relaxations
-use Rattle.linker_elf.specs.declared.elf.architecture.Architecture.TheVariants.{RiscV}
 
 -- ---- subjects
 

@@ -1,11 +1,7 @@
 -- Sequences of TLS descriptors of RISC-V that became those of local-exec are groups, with what new
 -- has.
 use Rattle.std.proofs.Common.{◌≡◌, ℕ, ◌+◌, refl, inl, inr}
-use Rattle.linker_elf.specs.RiscVRelocations.{pair_row}
-use Rattle.linker_elf.specs.Value.{sum_64}
-use Rattle.linker_elf.specs.declared.elf.RelocationKind.TheVariants.{TpOff}
-use Rattle.linker_elf.specs.declared.elf.architecture.Architecture.TheVariants.{RiscV}
-use Rattle.linker_elf.specs.declared.riscv64.forms.RiscVInstruction.TheVariants.{UType}
+use Rattle.linker_final.proofs.Imports.{pair_row, sum_64, TpOff, RiscV, UType, Groups}
 use Rattle.linker_elf.specs.declared.riscv64.relocations.RiscVRelocation.TheVariants as names
 use Rattle.linker_final.proofs.InstructionFields.{of_bits}
 use Rattle.linker_final.proofs.RiscVOffsets.{low_i}
@@ -15,7 +11,6 @@ use Rattle.linker_final.specs.Final.{AreRewritten, Linked, instruction_at}
 use Rattle.linker_final.specs.RiscVFinal.{IsOfDescriptor}
 use Rattle.linker_final.specs.RiscVSection.{New, descriptor, law, short_descriptor}
 use Rattle.linker_final.specs.SectionRuns.{offset_of}
-use Rattle.linker_laws.specs.RiscVGroups.{Groups}
 use Rattle.linker_utils.specs.declared.riscv64.rewrites.RewriteKind.TheVariants as kinds
 
 abbrev high_tp : IsOwn names.R_RISCV_TPREL_HI20

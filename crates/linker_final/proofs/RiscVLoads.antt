@@ -1,11 +1,7 @@
 -- Rewritten loads from the GOT of RISC-V are groups, with what new has.
 use Rattle.std.proofs.Common.{◌≡◌, ℕ, ◌+◌, List, [], ◌∷◌, length, refl, sym, ap, subst, ◌∙◌, arith, inl, inr}
-use Rattle.linker_elf.specs.Choices.{entry, got_high_part}
-use Rattle.linker_elf.specs.ElfNames.{code_of}
-use Rattle.linker_elf.specs.RiscVRelocations.{riscv_name, riscv_row}
-use Rattle.linker_elf.specs.Value.{sum_64}
-use Rattle.linker_elf.specs.declared.elf.architecture.Architecture.TheVariants.{RiscV}
-use Rattle.linker_elf.specs.declared.elf.choice.Choice.{Choice}
+use Rattle.linker_final.proofs.Imports.{entry, code_of, riscv_name, riscv_row, sum_64, RiscV, Choice, Groups, after_rewrite, Rewritten, relaxation_rewrite, load_to_addi, riscv_entries, Relaxation}
+use Rattle.linker_elf.specs.Choices.{got_high_part}
 use Rattle.linker_elf.specs.declared.riscv64.relocations.RiscVRelocation.TheVariants as names
 use Rattle.linker_final.proofs.RiscVChosen.{IsOfEntry, IsOfSome, of_some}
 use Rattle.linker_final.proofs.RiscVParts.{IsPart, MadePart, has_low, has_named, high_part, part_alone}
@@ -15,12 +11,9 @@ use Rattle.linker_final.specs.Final.{AreBytes, AreRewritten, IsRewrittenByNoOthe
 use Rattle.linker_final.specs.RiscVFinal.{AreOfPair}
 use Rattle.linker_final.specs.RiscVSection.{New, law, load}
 use Rattle.linker_final.specs.SectionRuns.{offset_of}
-use Rattle.linker_laws.specs.RiscVGroups.{Groups, Has}
-use Rattle.linker_laws.specs.RiscVRewriteLaws.{IsLoadFromGot, after_rewrite, word_of}
-use Rattle.linker_rewriting.specs.declared.decisions.Decision.TheVariants.{Rewritten}
-use Rattle.linker_utils.specs.Relaxations.{relaxation_rewrite}
-use Rattle.linker_utils.specs.RiscVRewrites.{IsAuipc, IsLd, load_to_addi, riscv_entries, without_got}
-use Rattle.linker_utils.specs.declared.architecture.Relaxation.{Relaxation}
+use Rattle.linker_laws.specs.RiscVGroups.{Has}
+use Rattle.linker_laws.specs.RiscVRewriteLaws.{IsLoadFromGot, word_of}
+use Rattle.linker_utils.specs.RiscVRewrites.{IsAuipc, IsLd, without_got}
 use Rattle.linker_utils.specs.declared.riscv64.rewrites.RewriteKind.TheVariants as kinds
 
 -- ---- entries

@@ -1,29 +1,15 @@
 -- RISC-V: low parts over x3 and x0, and what is deleted before them.
 use Rattle.std.proofs.Common.{◌≡◌, ℕ, pos, ◌+ℤ◌, ◌+◌, ◌-◌, ◌%◌, ◌^◌, ◌<◌, ◌≤◌, ◌⊎◌, Bool, true, false, true≢false, refl, sym, ◌∙◌, ap, subst, arith, List, drop, ℤ, Option, Some, None, if◌then◌else◌}
-use Rattle.std.specs.Prelude.{◌&&◌, IsTrue, unsigned_abs}
+use Rattle.linker_final.proofs.Imports.{◌&&◌, IsTrue, w32, w64, cast_signed, cast_unsigned, from_le_bytes, ints, of_z-to_z, ltb-true, signed, riscv_form, pair_row, sum_64, difference_64, RelocationKind, Absolute, Relative, RelativeRiscVLow12, RelocationKindInfo, Operands, IType, UType, word_at, opcode_of, funct3_of, adds_low12, address_in, Relocated, wrapped, Action, register, symbol_address, IsAddress}
+use Rattle.std.specs.Prelude.{unsigned_abs}
 use Rattle.std.specs.Option.{IsSomeAnd}
-use Rattle.std.specs.Int.{w32, w64, cast_signed, cast_unsigned, from_le_bytes}
-use Rattle.std.proofs.lemmas.Int.{ints, of_z-to_z}
-use Rattle.std.proofs.lemmas.Bool.{ltb-true}
-use Rattle.linker_base.specs.Bits.{signed}
-use Rattle.linker_elf.specs.RiscV.{riscv_form}
-use Rattle.linker_elf.specs.RiscVRelocations.{pair_row}
-use Rattle.linker_elf.specs.Value.{sum_64, difference_64}
-use Rattle.linker_elf.specs.declared.elf.RelocationKind.{RelocationKind}
-use Rattle.linker_elf.specs.declared.elf.RelocationKind.TheVariants.{Absolute, Relative, RelativeRiscVLow12}
-use Rattle.linker_elf.specs.declared.elf.RelocationKindInfo.{RelocationKindInfo}
-use Rattle.linker_elf.specs.declared.elf.value.Operands.{Operands}
-use Rattle.linker_elf.specs.declared.riscv64.forms.RiscVInstruction.TheVariants.{IType, UType}
-use Rattle.linker_riscv64.specs.RiscVCalls.{word_at}
-use Rattle.linker_riscv64.specs.RiscVFields.{opcode_of, funct3_of, rd_of}
-use Rattle.linker_utils.specs.RiscVRewrites.{adds_low12, lo12}
-use Rattle.linker_rewriting.specs.Facts.{address_in}
+use Rattle.linker_riscv64.specs.RiscVFields.{rd_of}
+use Rattle.linker_utils.specs.RiscVRewrites.{lo12}
 use Rattle.linker_rewriting.specs.GlobalPointer.{address_of, base_by, base_for, base_of, based_relocation, is_near, relocation_over}
-use Rattle.linker_laws.specs.Machine.{Relocated, moved, wrapped}
-use Rattle.linker_laws.specs.RiscVMachine.{Action, auipc, goes_to, lui, register, with_integer, adds, adds_word, jumps, loads, stores, loads_float, stores_float, rs1_of}
+use Rattle.linker_laws.specs.Machine.{moved}
+use Rattle.linker_laws.specs.RiscVMachine.{auipc, goes_to, lui, with_integer, adds, adds_word, jumps, loads, stores, loads_float, stores_float, rs1_of}
 use Rattle.linker_laws.specs.RiscVRewriteLaws.{low_row, word_of}
 use Rattle.linker_laws.specs.RiscVRelocationLaws.{AbsoluteAddresses, RelativeAddresses}
-use Rattle.linker_laws.specs.Schemes.{symbol_address, IsAddress}
 use Rattle.linker_laws.proofs.RiscVHighParts.{IsFormulaOf, of_address}
 use Rattle.linker_laws.proofs.Instructions.{unbiased}
 use Rattle.linker_laws.proofs.RiscVDescriptors.{lui_word, upper_long, upper_word}

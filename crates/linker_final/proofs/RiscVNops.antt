@@ -1,12 +1,7 @@
 -- Instructions of RISC-V's TLS descriptors that became nops do nothing in the final bytes.
 use Rattle.std.proofs.Common.{◌≡◌, ℕ, ◌+◌, ◌<◌, ◌≤◌, List, length, refl, ap, subst, ◌∙◌, inl, inr, arith}
-use Rattle.linker_elf.specs.Architectures.{IsRow}
-use Rattle.linker_elf.specs.ElfNames.{IsNamed}
-use Rattle.linker_elf.specs.RiscVRelocations.{riscv_name, riscv_relocation}
-use Rattle.linker_elf.specs.Rows.{bytes_row}
+use Rattle.linker_final.proofs.Imports.{IsRow, IsNamed, riscv_name, riscv_relocation, bytes_row, RiscV, RiscVRelocation, RewrittenWithSymbol, relocation_in, Rela, riscv_entries}
 use Rattle.linker_elf.specs.declared.elf.RelocationKind.TheVariants.{None as NoValue}
-use Rattle.linker_elf.specs.declared.elf.architecture.Architecture.TheVariants.{RiscV}
-use Rattle.linker_elf.specs.declared.riscv64.relocations.RiscVRelocation.{RiscVRelocation}
 use Rattle.linker_elf.specs.declared.riscv64.relocations.RiscVRelocation.TheVariants as names
 use Rattle.linker_final.proofs.Joined.{unwritten_there}
 use Rattle.linker_final.proofs.RiscVChosen.{EachBecomes, becomes_of}
@@ -17,10 +12,6 @@ use Rattle.linker_final.specs.Joined.{final_instruction}
 use Rattle.linker_final.specs.RiscVFinal.{IsNop}
 use Rattle.linker_final.specs.RiscVSection.{BecomesNop, New, Nops, NopsOf, anywhere, final, packed}
 use Rattle.linker_final.specs.SectionRuns.{offset_of}
-use Rattle.linker_rewriting.specs.declared.decisions.Decision.TheVariants.{RewrittenWithSymbol}
-use Rattle.linker_section.specs.Relocations.{relocation_in}
-use Rattle.linker_section.specs.declared.relocations.Rela.{Rela}
-use Rattle.linker_utils.specs.RiscVRewrites.{riscv_entries}
 use Rattle.linker_utils.specs.declared.riscv64.rewrites.RewriteKind.TheVariants as kinds
 
 -- the code of no type has no value

@@ -1,14 +1,8 @@
 -- Low parts of RISC-V that became ones over the thread pointer are groups, and what is deleted
 -- before them.
 use Rattle.std.proofs.Common.{◌≡◌, ℕ, List, [], ◌∷◌, refl, sym, ap, subst, ◌∙◌, arith, Option, IsSomeAnd}
-use Rattle.std.specs.Prelude.{IsTrue}
-use Rattle.linker_elf.specs.Choices.{entry}
-use Rattle.linker_elf.specs.ElfNames.{code_of}
-use Rattle.linker_elf.specs.Originals.{HasWord}
-use Rattle.linker_elf.specs.RiscVRelocations.{pair_row, riscv_name}
-use Rattle.linker_elf.specs.declared.elf.RelocationKind.TheVariants.{TpOff}
-use Rattle.linker_elf.specs.declared.riscv64.forms.RiscVInstruction.TheVariants.{IType, SType}
-use Rattle.linker_elf.specs.declared.riscv64.relocations.RiscVRelocation.{RiscVRelocation}
+use Rattle.linker_final.proofs.Imports.{IsTrue, entry, code_of, HasWord, pair_row, riscv_name, TpOff, IType, RiscVRelocation, Action, Groups, funct3_of, opcode_of, HasPattern, IsLui, adds_low12, by_low_offset, riscv_entries, riscv_matches, Rewritten, relocation_in, RiscV}
+use Rattle.linker_elf.specs.declared.riscv64.forms.RiscVInstruction.TheVariants.{SType}
 use Rattle.linker_elf.specs.declared.riscv64.relocations.RiscVRelocation.TheVariants as names
 use Rattle.linker_final.proofs.Written.{mapped, word_same}
 use Rattle.linker_final.proofs.InstructionFields.{of_bits}
@@ -19,18 +13,14 @@ use Rattle.linker_final.specs.Final.{AreRewritten, Linked, instruction_at}
 use Rattle.linker_final.specs.RiscVFinal.{HighPartGoes, IsDeleted, SumGoes}
 use Rattle.linker_final.specs.RiscVSection.{IsRewrittenOf, New, low_law}
 use Rattle.linker_final.specs.SectionRuns.{offset_of}
-use Rattle.linker_laws.specs.RiscVMachine.{Action, action_of}
-use Rattle.linker_laws.specs.RiscVGroups.{Groups, Has}
+use Rattle.linker_laws.specs.RiscVMachine.{action_of}
+use Rattle.linker_laws.specs.RiscVGroups.{Has}
 use Rattle.linker_laws.specs.RiscVRewriteLaws.{action_at, offset_row}
-use Rattle.linker_riscv64.specs.RiscVFields.{funct3_of, opcode_of}
-use Rattle.linker_utils.specs.RiscVRewrites.{IsAddTp, HasPattern, IsLui, adds_low12, by_low_offset, riscv_entries, riscv_matches, tp, with_rs1}
+use Rattle.linker_utils.specs.RiscVRewrites.{IsAddTp, tp, with_rs1}
 use Rattle.linker_utils.specs.declared.riscv64.rewrites.RewriteKind.TheVariants as kinds
 use Rattle.linker_rewriting.specs.Decisions.{deleted_of}
-use Rattle.linker_rewriting.specs.declared.decisions.Decision.TheVariants.{Rewritten}
-use Rattle.linker_section.specs.Relocations.{relocation_in}
 use Rattle.linker_utils.specs.Relaxations.{relaxation_deleted}
 use Rattle.linker_utils.specs.declared.architecture.Relaxation.TheVariants as relaxations
-use Rattle.linker_elf.specs.declared.elf.architecture.Architecture.TheVariants.{RiscV}
 
 -- ---- rows
 

@@ -1,13 +1,7 @@
 -- RISC-V: where calls go in the final bytes of a packed section.
 use Rattle.std.proofs.Common.{◌≡◌, ◌≢◌, ℕ, ◌+◌, ◌-◌, ◌%◌, ◌^◌, ◌<◌, ◌≤◌, inl, inr, List, length, take, drop, refl, sym, ap, subst, ◌∙◌, arith, Some, Ok, IsSomeAnd}
-use Rattle.std.proofs.lemmas.List.{drop-drop, take_all}
-use Rattle.std.proofs.lemmas.List.Elements.{All-drop, All-take}
-use Rattle.std.specs.Int.{w32, from_le_bytes}
-use Rattle.linker_elf.specs.RiscVRelocations.{riscv_relocation}
-use Rattle.linker_elf.specs.Applied.{IsApplied}
-use Rattle.linker_elf.specs.Value.{value_of}
-use Rattle.linker_elf.specs.declared.elf.value.Operands.{Operands}
-use Rattle.linker_elf.specs.declared.riscv64.relocations.RiscVRelocation.{RiscVRelocation}
+use Rattle.linker_final.proofs.Imports.{drop-drop, All-drop, All-take, w32, from_le_bytes, riscv_relocation, IsApplied, value_of, Operands, RiscVRelocation, Groups, AreAddresses, plt_address, word_at, SiteBecomes, Site, relocation_in, offset_at, operands_with, IsRow, RiscV}
+use Rattle.std.proofs.lemmas.List.{take_all}
 use Rattle.linker_elf.specs.declared.riscv64.relocations.RiscVRelocation.TheVariants as names
 use Rattle.linker_final.proofs.InstructionFields.{some_value}
 use Rattle.linker_final.proofs.PackedBytes.{stay_inside, places_inside}
@@ -19,24 +13,17 @@ use Rattle.linker_final.specs.Packed.{architecture_of, place_of, site_bytes, sit
 use Rattle.linker_final.specs.RiscVPacked.{CallIsAlike, IsOfCall, LongCallsStay, SitesCallTheSame, call_row, instructions_in, landing}
 use Rattle.linker_laws.proofs.RiscVGroups.{cj_goes, jal_goes, jump_group}
 use Rattle.linker_laws.proofs.RiscVMachine.{address_is}
-use Rattle.linker_laws.specs.RiscVGroups.{CallStays, Groups}
+use Rattle.linker_laws.specs.RiscVGroups.{CallStays}
 use Rattle.linker_laws.specs.RiscVRelocationLaws.{even}
-use Rattle.linker_laws.specs.Schemes.{AreAddresses, plt_address}
 use Rattle.linker_final.proofs.Written.{back_of_pair, front_of_pair}
-use Rattle.linker_riscv64.specs.RiscVCalls.{IsCallPair, word_at}
+use Rattle.linker_riscv64.specs.RiscVCalls.{IsCallPair}
 use Rattle.linker_riscv64.specs.RiscVFields.{rd_of}
 use Rattle.linker_runs.specs.Origins.{HasItsInstructions}
-use Rattle.linker_runs.specs.Packing.{SiteBecomes}
 use Rattle.linker_runs.specs.RiscVItems.{IsCallAt}
 use Rattle.linker_runs.specs.RiscVSites.{RiscVBecomes}
 use Rattle.linker_runs.specs.RiscVSites.RiscVBecomes.{short_jump, jump, call}
 use Rattle.linker_runs.specs.Sites.{operands_of}
-use Rattle.linker_runs.specs.declared.relaxation.Item.TheVariants.{Site}
-use Rattle.linker_section.specs.Relocations.{relocation_in}
-use Rattle.linker_section.specs.Values.{offset_at, operands_with}
 use Rattle.linker_section.specs.Values as values
-use Rattle.linker_elf.specs.Architectures.{IsRow}
-use Rattle.linker_elf.specs.declared.elf.architecture.Architecture.TheVariants.{RiscV}
 
 -- both relocations of calls have one row
 of_either : (P : RiscVRelocation → Type 0) (name : RiscVRelocation) → IsOfCall name

@@ -1,23 +1,8 @@
 -- What new has of rewritten instructions of RISC-V, in the final bytes or once they are packed, is
 -- what the rewrites left, with the values of their relocations.
 use Rattle.std.proofs.Common.{◌≡◌, ℕ, ◌+◌, ◌/◌, ◌<◌, ◌≤◌, List, length, refl, sym, ap, subst, ◌∙◌, arith, Option, Some, Ok, IsSomeAnd}
-use Rattle.std.specs.Prelude.{slice_get}
-use Rattle.linker_base.specs.declared.bit_misc.BitRange.{BitRange}
-use Rattle.linker_elf.specs.Applied.{IsApplied}
-use Rattle.linker_elf.specs.Architectures.{IsRow}
-use Rattle.linker_elf.specs.ElfNames.{IsNamed, code_of}
-use Rattle.linker_elf.specs.declared.elf.choice.Choice.{Choice}
-use Rattle.linker_base.specs.Rewrite.{addend_after, offset_after}
-use Rattle.linker_elf.specs.RiscVRelocations.{pair_row, riscv_name, riscv_relocation, riscv_row}
-use Rattle.linker_elf.specs.Value.{difference_64, value_of}
+use Rattle.linker_final.proofs.Imports.{slice_get, BitRange, IsApplied, IsRow, IsNamed, code_of, Choice, addend_after, offset_after, pair_row, riscv_name, riscv_relocation, riscv_row, difference_64, value_of, Relative, RelativeRiscVLow12, RelocationKindInfo, Architecture, RiscV, Operands, IType, UType, RiscVRelocation, after_rewrite, decision_at, Rewritten, RewrittenWithSymbol, Subject, riscv_entries, riscv_rewrite, Relaxation, RiscV64, relocation_in, offset_at, operands_in, operands_of, operands_with, AreWritten, Addresses, Symbol, Rela}
 use Rattle.linker_elf.specs.declared.elf.RelocationInstruction.TheVariants as insns
-use Rattle.linker_elf.specs.declared.elf.RelocationKind.TheVariants.{Relative, RelativeRiscVLow12}
-use Rattle.linker_elf.specs.declared.elf.RelocationKindInfo.{RelocationKindInfo}
-use Rattle.linker_elf.specs.declared.elf.architecture.Architecture.{Architecture}
-use Rattle.linker_elf.specs.declared.elf.architecture.Architecture.TheVariants.{RiscV}
-use Rattle.linker_elf.specs.declared.elf.value.Operands.{Operands}
-use Rattle.linker_elf.specs.declared.riscv64.forms.RiscVInstruction.TheVariants.{IType, UType}
-use Rattle.linker_elf.specs.declared.riscv64.relocations.RiscVRelocation.{RiscVRelocation}
 use Rattle.linker_elf.specs.declared.riscv64.relocations.RiscVRelocation.TheVariants as names
 use Rattle.linker_final.proofs.InstructionFields.{applied, applied_found, of_bits}
 use Rattle.linker_final.proofs.Joined.{code_is, final_inside, place_is, rewritten_inside, same_kept, within}
@@ -33,21 +18,9 @@ use Rattle.linker_final.specs.RiscVFinal.{IsOfDescriptor, named_as}
 use Rattle.linker_final.specs.RiscVSection.{HasLow, HasNamed, HasOwn, HasValue, IsNamedAs, New, anywhere, final, packed}
 use Rattle.linker_final.specs.SectionRuns.{offset_of}
 use Rattle.linker_laws.specs.RiscVGroups.{Has, Stands}
-use Rattle.linker_laws.specs.RiscVRewriteLaws.{after_rewrite}
-use Rattle.linker_rewriting.specs.Decisions.{decision_at}
-use Rattle.linker_rewriting.specs.declared.decisions.Decision.TheVariants.{Rewritten, RewrittenWithSymbol}
-use Rattle.linker_rewriting.specs.declared.decisions.Subject.{Subject}
-use Rattle.linker_utils.specs.RiscVRewrites.{riscv_entries, riscv_rewrite, rewrites_word}
-use Rattle.linker_utils.specs.declared.architecture.Relaxation.{Relaxation}
+use Rattle.linker_utils.specs.RiscVRewrites.{rewrites_word}
 use Rattle.linker_utils.specs.declared.architecture.Relaxation.TheVariants as relaxations
 use Rattle.linker_utils.specs.declared.riscv64.rewrites.RewriteKind.{RewriteKind}
-use Rattle.linker_runs.specs.declared.packing.Machine.TheVariants.{RiscV64}
-use Rattle.linker_section.specs.Relocations.{relocation_in}
-use Rattle.linker_section.specs.Values.{offset_at, operands_in, operands_of, operands_with}
-use Rattle.linker_section.specs.WrittenFields.{AreWritten}
-use Rattle.linker_section.specs.declared.facts.Addresses.{Addresses}
-use Rattle.linker_section.specs.declared.facts.Symbol.{Symbol}
-use Rattle.linker_section.specs.declared.relocations.Rela.{Rela}
 
 -- ---- an instruction where values are written
 

@@ -1,14 +1,8 @@
 -- The rewrites of a section of RISC-V: each is of an instruction of its relocation, and those that
 -- have a law are groups.
 use Rattle.std.proofs.Common.{◌≡◌, ◌≢◌, ℕ, zero, suc, ◌<◌, List, [], ◌∷◌, Bool, true, false, Some, None, inl, inr, ap, sym, subst, ◌∙◌, refl, arith}
-use Rattle.std.proofs.lemmas.Bool.{or_parts}
+use Rattle.linker_final.proofs.Imports.{or_parts, is_some, IsNamed, IsNameOf, riscv_name, RiscV, Choice, RiscVRelocation, Groups, choice_of, IsDecidedAfter, IsGroupDecision, IsScopeDecision, decision_at, is_taken, takes_next, IsScopeIn, group_stays, riscv_scope_in, Decision, Consumed, Kept, Rewritten, RewrittenWithSymbol, Scope, Grouped, NotRelaxable, Phase, relocation_in, RiscVEntry, riscv_entries, relaxation_skipped, Relaxation}
 use Rattle.std.specs.List.{list_any}
-use Rattle.std.specs.Prelude.{is_some}
-use Rattle.linker_elf.specs.ElfNames.{IsNamed, IsNameOf}
-use Rattle.linker_elf.specs.RiscVRelocations.{riscv_name}
-use Rattle.linker_elf.specs.declared.elf.architecture.Architecture.TheVariants.{RiscV}
-use Rattle.linker_elf.specs.declared.elf.choice.Choice.{Choice}
-use Rattle.linker_elf.specs.declared.riscv64.relocations.RiscVRelocation.{RiscVRelocation}
 use Rattle.linker_elf.specs.declared.riscv64.relocations.RiscVRelocation.TheVariants as names
 use Rattle.linker_final.proofs.RiscVAddresses as addresses
 use Rattle.linker_final.proofs.RiscVChosen.{IsOfSome, of_some}
@@ -19,20 +13,8 @@ use Rattle.linker_final.proofs.SectionRuns.{AreIn, beside_or, is_linked}
 use Rattle.linker_final.specs.Final.{AreRewritten, Linked, count}
 use Rattle.linker_final.specs.RiscVSection.{Changes, Lawful, Leaves, New, RelocationsAreLeft, descriptor, fixed, high_part, law, load, low_address, low_part, low_store, rewriting, short_descriptor, sum}
 use Rattle.linker_final.specs.SectionRuns.{RewritesAreGroups, offset_of}
-use Rattle.linker_laws.specs.RiscVGroups.{Groups}
-use Rattle.linker_rewriting.proofs.Chosen.{choice_of}
-use Rattle.linker_rewriting.specs.Decisions.{IsDecidedAfter, IsGroupDecision, IsScopeDecision, decision_at, is_taken, takes_next}
-use Rattle.linker_rewriting.specs.Groups.{IsScopeIn, group_stays, riscv_scope_in}
-use Rattle.linker_rewriting.specs.declared.decisions.Decision.{Decision}
-use Rattle.linker_rewriting.specs.declared.decisions.Decision.TheVariants.{Consumed, Kept, Rewritten, RewrittenWithSymbol}
-use Rattle.linker_rewriting.specs.declared.groups.Scope.{Scope}
-use Rattle.linker_rewriting.specs.declared.groups.Scope.TheVariants.{Grouped, NotRelaxable}
-use Rattle.linker_rewriting.specs.declared.phases.Phase.{Phase}
 use Rattle.linker_rewriting.specs.declared.phases.Phase.TheVariants as phases
-use Rattle.linker_section.specs.Relocations.{relocation_in}
-use Rattle.linker_utils.specs.RiscVRewrites.{RiscVEntry, riscv_entries, riscv_skipped}
-use Rattle.linker_utils.specs.Relaxations.{relaxation_skipped}
-use Rattle.linker_utils.specs.declared.architecture.Relaxation.{Relaxation}
+use Rattle.linker_utils.specs.RiscVRewrites.{riscv_skipped}
 
 -- ---- what stands at a place
 

@@ -1,52 +1,23 @@
 -- What the choice of a rewrite over the thread pointer tested: the offset is a number of 12 bits.
 use Rattle.std.proofs.Common.{◌≡◌, ◌≢◌, ◌⊎◌, ◌^◌, ◌<◌, ◌≤◌, ◌-◌, ◌*◌, ◌<ℤ◌, ◌≤ℤ◌, ℤ, neg_ℤ, pos, negsuc, ℕ, [], ◌∷◌, Bool, true, false, refl, sym, ap, subst, ◌∙◌, inl, inr, arith, List, Option, Some, None}
-use Rattle.std.specs.Prelude.{if◌then◌else◌, slice_get}
-use Rattle.std.specs.Int.{w64, cast_signed, cast_unsigned}
-use Rattle.linker_elf.specs.Choices.{AllHold, HasAddresses, entry, low_12_bounds, operands_before}
-use Rattle.linker_elf.specs.Elf.{IsWithin, bit_bounds}
+use Rattle.linker_final.proofs.Imports.{if◌then◌else◌, slice_get, w64, cast_signed, cast_unsigned, AllHold, entry, IsWithin, bit_bounds, Signed, cases_lt, ints, IsNamed, IsNameOf, pair_row, riscv_name, difference_64, sum_64, GotTpOff, TpOff, RelocationKindInfo, Choice, LinkFacts, Operands, IType, UType, RiscVRelocation, IsChosen, chosen_or_labelled, IsOfApplied, Subject, IsLowOffset, AppliesToRiscV, HasPattern, RiscVEntry, by_low_offset, riscv_entries, RelaxContext, address_in, link_facts, IsScopeIn, riscv_scope_in, is_labelled, Rewritten, RewrittenWithSymbol, Labelled, NotRelaxable, Phase, relocation_in, operands_with, Addresses, Symbol, Rela, Relaxation, RiscV}
+use Rattle.linker_elf.specs.Choices.{HasAddresses, low_12_bounds, operands_before}
 use Rattle.linker_elf.specs.Relocate.{Reaches}
-use Rattle.linker_elf.specs.declared.elf.Sign.TheVariants.{Signed}
-use Rattle.std.proofs.lemmas.Bool.{cases_lt}
-use Rattle.std.proofs.lemmas.Int.{ints, to_z_pos}
+use Rattle.std.proofs.lemmas.Int.{to_z_pos}
 use Rattle.linker_base.proofs.Bits.{cast_negative}
 use Rattle.linker_elf.specs.Reach.{riscv_pair_bounds}
-use Rattle.linker_elf.specs.ElfNames.{IsNamed, IsNameOf}
-use Rattle.linker_elf.specs.RiscVRelocations.{pair_row, riscv_name}
-use Rattle.linker_elf.specs.Value.{difference_64, sum_64}
-use Rattle.linker_elf.specs.declared.elf.RelocationKind.TheVariants.{GotTpOff, TpOff}
-use Rattle.linker_elf.specs.declared.elf.RelocationKindInfo.{RelocationKindInfo}
-use Rattle.linker_elf.specs.declared.elf.choice.Choice.{Choice}
-use Rattle.linker_elf.specs.declared.elf.choice.LinkFacts.{LinkFacts}
-use Rattle.linker_elf.specs.declared.elf.value.Operands.{Operands}
-use Rattle.linker_elf.specs.declared.riscv64.forms.RiscVInstruction.TheVariants.{IType, UType}
-use Rattle.linker_elf.specs.declared.riscv64.relocations.RiscVRelocation.{RiscVRelocation}
 use Rattle.linker_elf.specs.declared.riscv64.relocations.RiscVRelocation.TheVariants as names
-use Rattle.linker_rewriting.proofs.Chosen.{IsChosen, chosen_or_labelled}
-use Rattle.linker_rewriting.proofs.Entries.{IsOfApplied}
 use Rattle.linker_final.proofs.RiscVChosen.{anyhow, kind_in, of_table}
-use Rattle.linker_rewriting.specs.declared.decisions.Subject.{Subject}
 use Rattle.linker_final.specs.Final.{count}
 use Rattle.linker_final.specs.RiscVFinal.{IsNotRewrittenBy, NoneIsInitialExec, OffsetsAreLow, OffsetsAreLowOf}
-use Rattle.linker_laws.specs.RiscVRewriteLaws.{IsLowOffset}
-use Rattle.linker_utils.specs.RiscVRewrites.{AppliesToRiscV, HasPattern, RiscVEntry, by_low_offset, riscv_entries, riscv_row_of}
+use Rattle.linker_utils.specs.RiscVRewrites.{riscv_row_of}
 use Rattle.linker_utils.specs.declared.riscv64.rewrites.RewriteKind.{RewriteKind}
 use Rattle.linker_utils.specs.declared.riscv64.rewrites.RewriteKind.TheVariants as kinds
-use Rattle.linker_rewriting.specs.Facts.{RelaxContext, address_in, facts_at, facts_by, facts_with, link_facts, placed_facts}
-use Rattle.linker_rewriting.specs.Groups.{IsScopeIn, riscv_scope_in}
-use Rattle.linker_rewriting.specs.RiscVPcrelGroups.{is_label_marked, is_labelled, without_entry}
-use Rattle.linker_rewriting.specs.declared.decisions.Decision.TheVariants.{Rewritten, RewrittenWithSymbol}
+use Rattle.linker_rewriting.specs.Facts.{facts_at, facts_by, facts_with, placed_facts}
+use Rattle.linker_rewriting.specs.RiscVPcrelGroups.{is_label_marked, without_entry}
 use Rattle.linker_rewriting.specs.declared.facts.OutputFacts.{OutputFacts}
 use Rattle.linker_rewriting.specs.declared.facts.SymbolFacts.{SymbolFacts}
-use Rattle.linker_rewriting.specs.declared.groups.Scope.TheVariants.{Labelled, NotRelaxable}
-use Rattle.linker_rewriting.specs.declared.phases.Phase.{Phase}
 use Rattle.linker_rewriting.specs.declared.phases.Phase.TheVariants as phases
-use Rattle.linker_section.specs.Relocations.{relocation_in}
-use Rattle.linker_section.specs.Values.{operands_with}
-use Rattle.linker_section.specs.declared.facts.Addresses.{Addresses}
-use Rattle.linker_section.specs.declared.facts.Symbol.{Symbol}
-use Rattle.linker_section.specs.declared.relocations.Rela.{Rela}
-use Rattle.linker_utils.specs.declared.architecture.Relaxation.{Relaxation}
-use Rattle.linker_elf.specs.declared.elf.architecture.Architecture.TheVariants.{RiscV}
 
 -- ---- the facts
 

@@ -1,34 +1,12 @@
 -- Instructions of RISC-V and their relocations in the final bytes of a section.
 use Rattle.std.proofs.Common.{◌≡◌, ℕ, zero, suc, ℤ, ◌+◌, ◌-◌, ◌<◌, ◌≤◌, ◌^◌, List, [], ◌∷◌, length, drop, get_or, sym, ap, subst, ◌∙◌, arith, Some, Ok, refl}
-use Rattle.std.proofs.lemmas.List.{length-drop, length-take-le}
-use Rattle.std.proofs.lemmas.List.Elements.{All-drop, All-from_get_or, All-take}
-use Rattle.std.specs.Int.{w32, from_le_bytes, to_le_bytes}
-use Rattle.linker_base.specs.Rewrite.{offset_after, addend_after, rewritten}
-use Rattle.linker_elf.specs.ElfNames.{IsNamed, code_of}
-use Rattle.linker_elf.specs.RiscVRelocations.{riscv_name, riscv_relocation, riscv_row}
-use Rattle.linker_elf.specs.declared.elf.RelocationKindInfo.{RelocationKindInfo}
-use Rattle.linker_elf.specs.declared.elf.choice.Choice.{Choice}
-use Rattle.linker_elf.specs.declared.riscv64.relocations.RiscVRelocation.{RiscVRelocation}
+use Rattle.linker_final.proofs.Imports.{length-drop, length-take-le, All-drop, All-from_get_or, All-take, w32, from_le_bytes, to_le_bytes, offset_after, addend_after, rewritten, IsNamed, code_of, riscv_name, riscv_relocation, riscv_row, RelocationKindInfo, Choice, RiscVRelocation, after_rewrite, decision_at, IsDone, IsMade, relocation_after, Decision, RewrittenWithSymbol, Rewritten, Subject, riscv_rewrite, relocation_in, operands_in, operands_with, Addresses, Symbol, Rela, relaxation_rewrite, Relaxation, RiscV}
 use Rattle.linker_final.proofs.Written.{rela}
 use Rattle.linker_final.proofs.InstructionFields.{IsOfInstruction}
 use Rattle.linker_final.specs.Final.{AreBytes, AreRewritten, Linked, count, instruction_at}
-use Rattle.linker_laws.specs.RiscVRewriteLaws.{after_rewrite}
-use Rattle.linker_rewriting.specs.Decisions.{decision_at}
-use Rattle.linker_rewriting.specs.Rewritten.{IsDone, IsMade, relocation_after}
-use Rattle.linker_rewriting.specs.declared.decisions.Decision.{Decision}
-use Rattle.linker_rewriting.specs.declared.decisions.Decision.TheVariants.{RewrittenWithSymbol, Rewritten}
-use Rattle.linker_rewriting.specs.declared.decisions.Subject.{Subject}
-use Rattle.linker_utils.specs.RiscVRewrites.{rewrites_word, riscv_rewrite}
+use Rattle.linker_utils.specs.RiscVRewrites.{rewrites_word}
 use Rattle.linker_utils.specs.declared.riscv64.rewrites.RewriteKind.{RewriteKind}
-use Rattle.linker_section.specs.Relocations.{relocation_in}
-use Rattle.linker_section.specs.Values.{operands_in, operands_with}
-use Rattle.linker_section.specs.declared.facts.Addresses.{Addresses}
-use Rattle.linker_section.specs.declared.facts.Symbol.{Symbol}
-use Rattle.linker_section.specs.declared.relocations.Rela.{Rela}
-use Rattle.linker_utils.specs.Relaxations.{relaxation_rewrite}
-use Rattle.linker_utils.specs.declared.architecture.Relaxation.{Relaxation}
 use Rattle.linker_utils.specs.declared.architecture.Relaxation.TheVariants as relaxations
-use Rattle.linker_elf.specs.declared.elf.architecture.Architecture.TheVariants.{RiscV}
 
 -- ---- bytes
 

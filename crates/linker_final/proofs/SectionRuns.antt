@@ -1,23 +1,9 @@
 -- What stands at each place of a section, and runs of its code, of any architecture.
 use Rattle.std.proofs.Common.{◌≡◌, ◌≢◌, ℕ, zero, suc, ◌+◌, ◌-◌, ◌<◌, ◌≤◌, ◌⊎◌, inl, inr, List, [], ◌∷◌, ap, sym, subst, arith, refl, Bool, true, false}
-use Rattle.std.proofs.lemmas.Bool.{cases_eq, cases_lt}
-use Rattle.linker_elf.specs.declared.elf.architecture.Architecture.{Architecture}
-use Rattle.linker_elf.specs.declared.elf.choice.Choice.{Choice}
+use Rattle.linker_final.proofs.Imports.{cases_eq, cases_lt, Architecture, Choice, Kinds, State, chosen_or_labelled, AreDecidedIn, decision_at, IsScopeIn, Decision, Consumed, Kept, Rewritten, RewrittenWithSymbol, Subject, Scope, Labelled, Phase, relocation_in, Addresses, Relaxation}
 use Rattle.linker_final.specs.Final.{AreInTurn, Linked, RewritingPhase, count, linked_by}
 use Rattle.linker_final.specs.SectionRuns.{AreCalled, AreLeft, EachPlace, IsBeside, IsBesideAll, IsFollowed, IsPhase, IsPhaseIn, Known, Knows, Place, Rewriting, RewritesAreGroups, RunsAreFollowed, Section, begins, comparison, elsewhere, offset_of, rewritten, unchanged, within}
-use Rattle.linker_laws.specs.Simulation.{Comparison, Kinds, Next, Simulates, State, by_group, uncovered}
-use Rattle.linker_rewriting.proofs.Chosen.{chosen_or_labelled}
-use Rattle.linker_rewriting.specs.Decisions.{AreDecidedIn, decision_at}
-use Rattle.linker_rewriting.specs.Groups.{IsScopeIn}
-use Rattle.linker_rewriting.specs.declared.decisions.Decision.{Decision}
-use Rattle.linker_rewriting.specs.declared.decisions.Decision.TheVariants.{Consumed, Kept, Rewritten, RewrittenWithSymbol}
-use Rattle.linker_rewriting.specs.declared.decisions.Subject.{Subject}
-use Rattle.linker_rewriting.specs.declared.groups.Scope.{Scope}
-use Rattle.linker_rewriting.specs.declared.groups.Scope.TheVariants.{Labelled}
-use Rattle.linker_rewriting.specs.declared.phases.Phase.{Phase}
-use Rattle.linker_section.specs.Relocations.{relocation_in}
-use Rattle.linker_section.specs.declared.facts.Addresses.{Addresses}
-use Rattle.linker_utils.specs.declared.architecture.Relaxation.{Relaxation}
+use Rattle.linker_laws.specs.Simulation.{Comparison, Next, Simulates, by_group, uncovered}
 
 -- all below a limit, or what one of them shows
 pub each_or : {Q : Type 0} (P : ℕ → Type 0) (m : ℕ) → ((i : ℕ) → i < m → P i ⊎ Q)

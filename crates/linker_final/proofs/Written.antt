@@ -1,44 +1,16 @@
 -- Instructions and their relocations in the bytes that rewrites leave, and in the final bytes.
 use Rattle.std.proofs.Common.{◌≡◌, ℕ, ℤ, ◌+◌, ◌-◌, ◌/◌, ◌<◌, ◌≤◌, ◌⊎◌, List, length, take, drop, sym, ap, subst, ◌∙◌, refl, inl, inr, arith, Option, Some, None, IsSomeAnd, Ok, Err, Result, true}
-use Rattle.std.proofs.lemmas.Bool.{cases_eq, cases_lt, cases_Bool, cond-true, cond-false}
-use Rattle.std.proofs.lemmas.List.{take-take, drop-drop, drop-take}
-use Rattle.std.specs.Int.{w32, from_le_bytes}
-use Rattle.std.specs.Prelude.{slice_get}
-use Rattle.linker_base.specs.Rewrite.{Rewrite, addend_after, offset_after}
-use Rattle.linker_base.specs.RewriteWindow.{window_of_rewrite}
-use Rattle.linker_base.specs.declared.rewrite.RewriteWindow.{RewriteWindow}
-use Rattle.linker_elf.specs.Applied.{IsApplied}
-use Rattle.linker_elf.specs.ElfNames.{ElfName, IsNamed, code_of}
-use Rattle.linker_elf.specs.Rows.{bytes_row}
-use Rattle.linker_elf.specs.Value.{value_of}
+use Rattle.linker_final.proofs.Imports.{cases_eq, cases_lt, cases_Bool, cond-true, cond-false, take-take, drop-drop, w32, from_le_bytes, slice_get, Rewrite, addend_after, offset_after, window_of_rewrite, RewriteWindow, IsApplied, IsNamed, code_of, bytes_row, value_of, RelocationKindInfo, Choice, Operands, word_of_front, decision_at, window_of, written_end_at, IsDone, IsMade, relocation_after, Decision, Rewritten, IsField, field_end, field_len, entry_of, relocation_in, IsInNoField, IsRowValue, IsValueBy, IsValueIn, entry_address, has_value, is_there, lacks_origin, value_by, offset_at, operands_by, operands_in, operands_of, operands_with, Addresses, Symbol, Entry, Rela, ValueError, NoEntry, IsRow, relaxation_rewrite, Relaxation, Architecture}
+use Rattle.std.proofs.lemmas.List.{drop-take}
+use Rattle.linker_elf.specs.ElfNames.{ElfName}
 use Rattle.linker_elf.specs.declared.elf.RelocationKind.TheVariants.{None as NoValue}
-use Rattle.linker_elf.specs.declared.elf.RelocationKindInfo.{RelocationKindInfo}
-use Rattle.linker_elf.specs.declared.elf.choice.Choice.{Choice}
-use Rattle.linker_elf.specs.declared.elf.value.Operands.{Operands}
 use Rattle.linker_final.proofs.InstructionFields.{IsOfInstruction, applied, instruction_len}
 use Rattle.linker_final.proofs.Phases.{bytes_left, last_as_many, last_length, last_within, relocation_left}
 use Rattle.linker_final.proofs.PutBack.{same_windows}
-use Rattle.linker_riscv64.proofs.Jumps.{word_of_front}
 use Rattle.linker_final.specs.Final.{AreRewritten, Linked, UntouchedBytes, IsLinked, IsOutside, IsRewrittenByNoOther, IsWrittenByNoOther, count, instruction_at, two_at}
-use Rattle.linker_rewriting.specs.Decisions.{decision_at, start_by, window_of, written_end_at, written_end_by}
-use Rattle.linker_rewriting.specs.Rewritten.{IsDone, IsMade, relocation_after}
-use Rattle.linker_rewriting.specs.declared.decisions.Decision.{Decision}
-use Rattle.linker_rewriting.specs.declared.decisions.Decision.TheVariants.{Rewritten}
-use Rattle.linker_section.specs.Fields.{IsField, field_end, field_len}
-use Rattle.linker_section.specs.Needed.{entry_of}
-use Rattle.linker_section.specs.Relocations.{relocation_in}
-use Rattle.linker_section.specs.Sections.{IsInNoField, IsRowValue}
-use Rattle.linker_section.specs.Values.{IsValueBy, IsValueIn, entry_address, entry_in, has_value, is_there, lacks_origin, value_by, offset_at, operands_by, operands_in, operands_of, operands_with}
-use Rattle.linker_section.specs.declared.facts.Addresses.{Addresses}
-use Rattle.linker_section.specs.declared.facts.Symbol.{Symbol}
-use Rattle.linker_section.specs.declared.needed.Entry.{Entry}
-use Rattle.linker_section.specs.declared.relocations.Rela.{Rela}
-use Rattle.linker_section.specs.declared.values.ValueError.{ValueError}
-use Rattle.linker_section.specs.declared.values.ValueError.TheVariants.{NoEntry}
-use Rattle.linker_elf.specs.Architectures.{IsNamedValue, IsRow}
-use Rattle.linker_utils.specs.Relaxations.{relaxation_rewrite}
-use Rattle.linker_utils.specs.declared.architecture.Relaxation.{Relaxation}
-use Rattle.linker_elf.specs.declared.elf.architecture.Architecture.{Architecture}
+use Rattle.linker_rewriting.specs.Decisions.{start_by, written_end_by}
+use Rattle.linker_section.specs.Values.{entry_in}
+use Rattle.linker_elf.specs.Architectures.{IsNamedValue}
 
 -- ---- words
 

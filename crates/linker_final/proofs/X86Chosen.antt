@@ -1,24 +1,11 @@
 -- The rewrite that is chosen for a relocation of x86-64.
 use Rattle.std.proofs.Common.{◌≡◌, ℕ, ℤ, ◌<◌, List, [], ◌∷◌, refl, sym, ap, subst, ◌∙◌, inl, inr, ◌⊎◌}
-use Rattle.linker_elf.specs.Choices.{AllHold, Applies, IsFirst, choice}
-use Rattle.linker_elf.specs.ElfNames.{IsNamed, IsNameOf, code_of}
-use Rattle.linker_elf.specs.X86Relocations.{x86_64_name, x86_64_row}
-use Rattle.linker_elf.specs.declared.elf.choice.Choice.{Choice}
-use Rattle.linker_elf.specs.declared.elf.choice.LinkFacts.{LinkFacts}
-use Rattle.linker_elf.specs.declared.x86_64.relocations.X86_64Relocation.{X86_64Relocation}
-use Rattle.linker_rewriting.proofs.Chosen.{chosen_at}
+use Rattle.linker_final.proofs.Imports.{AllHold, choice, IsNamed, IsNameOf, code_of, x86_64_name, x86_64_row, Choice, LinkFacts, X86_64Relocation, chosen_at, decision_at, IsScopeIn, Rewritten, relocation_in, IsArchitectureChoice, relaxation_no_op, Relaxation, X86_64, Original, Table, X86Entry, opcode_at, x86_64_after, x86_64_table, RewriteKind}
+use Rattle.linker_elf.specs.Choices.{Applies, IsFirst}
 use Rattle.linker_final.proofs.X86Names.{unlabelled}
 use Rattle.linker_final.specs.Final.{Linked, IsLinked, count}
-use Rattle.linker_rewriting.specs.Decisions.{decision_at}
-use Rattle.linker_rewriting.specs.Groups.{IsScopeIn}
-use Rattle.linker_rewriting.specs.declared.decisions.Decision.TheVariants.{Rewritten}
-use Rattle.linker_section.specs.Relocations.{relocation_in}
-use Rattle.linker_utils.specs.Relaxations.{IsArchitectureChoice, relaxation_no_op}
-use Rattle.linker_utils.specs.declared.architecture.Relaxation.{Relaxation}
 use Rattle.linker_utils.specs.declared.architecture.Relaxation.TheVariants as relaxations
-use Rattle.linker_elf.specs.declared.elf.architecture.Architecture.TheVariants.{X86_64}
-use Rattle.linker_utils.specs.X86Rewrites.{HasPattern, Original, Table, X86Entry, opcode_at, x86_64_after, x86_64_table}
-use Rattle.linker_utils.specs.declared.x86_64.rewrites.RewriteKind.{RewriteKind}
+use Rattle.linker_utils.specs.X86Rewrites.{HasPattern}
 use Rattle.linker_utils.specs.declared.x86_64.rewrites.RewriteKind.TheVariants as kinds
 
 -- It is that of an entry, for a relocation with an addend.

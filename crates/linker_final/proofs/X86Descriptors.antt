@@ -1,14 +1,7 @@
 -- The `lea` of a descriptor's address of x86-64 and the call of its function are groups in the
 -- final bytes.
 use Rattle.std.proofs.Common.{◌≡◌, ℕ, ◌+◌, ◌-◌, ◌^◌, ◌<◌, ◌≤◌, ◌||◌, Bool, List, [], ◌∷◌, length, drop, false, true, refl, sym, ap, subst, ◌∙◌, inl, inr, arith, IsTrue, Some, neg_ℤ, pos}
-use Rattle.std.specs.Prelude.{slice_get}
-use Rattle.linker_base.specs.Rewrite.{replaces}
-use Rattle.linker_section.specs.declared.facts.Symbol.{Symbol}
-use Rattle.linker_utils.specs.X86RelocationsAfter.{x86_64_relocation_after}
-use Rattle.linker_elf.specs.ElfNames.{IsNamed, IsNameOf, code_of}
-use Rattle.linker_elf.specs.X86Relocations.{x86_64_name}
-use Rattle.linker_elf.specs.declared.elf.choice.Choice.{Choice}
-use Rattle.linker_elf.specs.declared.x86_64.relocations.X86_64Relocation.{X86_64Relocation}
+use Rattle.linker_final.proofs.Imports.{slice_get, replaces, Symbol, x86_64_relocation_after, IsNamed, IsNameOf, code_of, x86_64_name, Choice, X86_64Relocation, thread_row, State, reg_after_rex, reg_after_rex2, seen, IsBefore, decision_at, Rewritten, relocation_in, is_of_got, operands_with, Rela, Relaxation, X86_64, is_at, is_one_at, x86_64_matches, x86_64_originals, x86_64_rewrite, RewriteKind}
 use Rattle.linker_elf.specs.declared.x86_64.relocations.X86_64Relocation.TheVariants as names
 use Rattle.linker_final.proofs.Inner.{HasWindow, own_window}
 use Rattle.linker_final.proofs.Phases.{last_length}
@@ -22,21 +15,10 @@ use Rattle.linker_final.proofs.X86ThreadEntries.{entry_final}
 use Rattle.linker_final.proofs.X86Windows.{HasRewrite, IsLawful, LawAt, StandsThere, object_bytes, object_has, object_length, object_matches, object_same, of_field, of_row, offset_small, unrelocated}
 use Rattle.linker_final.specs.Final.{UntouchedByOthers, IsLinked, Linked, count}
 use Rattle.linker_final.specs.X86Section.{Makes, Window, call, lea, put_back, window, window_of}
-use Rattle.linker_laws.proofs.X86Fields.{thread_row}
-use Rattle.linker_laws.specs.Simulation.{State}
 use Rattle.linker_laws.specs.X86Groups as groups
-use Rattle.linker_laws.specs.X86Groups.{Code, LeaToEntry, LeaToOffset, Stands, reg_after_rex, reg_after_rex2, seen}
-use Rattle.linker_laws.specs.X86RewriteLaws.{IsBefore}
-use Rattle.linker_rewriting.specs.Decisions.{decision_at}
-use Rattle.linker_rewriting.specs.declared.decisions.Decision.TheVariants.{Rewritten}
-use Rattle.linker_section.specs.Relocations.{relocation_in}
-use Rattle.linker_section.specs.Values.{is_of_got, operands_with}
-use Rattle.linker_section.specs.declared.relocations.Rela.{Rela}
-use Rattle.linker_utils.specs.declared.architecture.Relaxation.{Relaxation}
+use Rattle.linker_laws.specs.X86Groups.{Code, LeaToEntry, LeaToOffset, Stands}
 use Rattle.linker_utils.specs.declared.architecture.Relaxation.TheVariants as relaxations
-use Rattle.linker_elf.specs.declared.elf.architecture.Architecture.TheVariants.{X86_64}
-use Rattle.linker_utils.specs.X86Rewrites.{any_entry, descriptor_table, is_at, is_one_at, lea_of_descriptor, rex2_w, rex_mov, rex_w, unrelocated_by, with_rex, with_rex2, x86_64_matches, x86_64_originals, x86_64_rewrite}
-use Rattle.linker_utils.specs.declared.x86_64.rewrites.RewriteKind.{RewriteKind}
+use Rattle.linker_utils.specs.X86Rewrites.{any_entry, descriptor_table, lea_of_descriptor, rex2_w, rex_mov, rex_w, unrelocated_by, with_rex, with_rex2}
 use Rattle.linker_utils.specs.declared.x86_64.rewrites.RewriteKind.TheVariants as kinds
 
 -- ---- the `lea`

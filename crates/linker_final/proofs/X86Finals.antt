@@ -1,16 +1,6 @@
 -- A rewritten instruction of x86-64 is a group in the final bytes.
 use Rattle.std.proofs.Common.{◌≡◌, ℕ, ℤ, pos, ◌+◌, ◌-◌, ◌^◌, ◌<◌, ◌≤◌, List, length, false, refl, sym, ap, subst, ◌∙◌, arith, Option, Some, IsSomeAnd}
-use Rattle.std.proofs.lemmas.Bool.{cond-false}
-use Rattle.std.specs.Prelude.{slice_get}
-use Rattle.linker_base.specs.Rewrite.{Rewrite, rewritten, offset_after}
-use Rattle.linker_elf.specs.Choices.{operands_after}
-use Rattle.linker_elf.specs.ElfNames.{IsNameOf, code_of}
-use Rattle.linker_elf.specs.Value.{sum_64, difference_64, value_of}
-use Rattle.linker_elf.specs.X86Relocations.{x86_64_name, x86_64_row}
-use Rattle.linker_elf.specs.declared.elf.RelocationKindInfo.{RelocationKindInfo}
-use Rattle.linker_elf.specs.declared.elf.choice.Choice.{Choice}
-use Rattle.linker_elf.specs.declared.elf.value.Operands.{Operands}
-use Rattle.linker_elf.specs.declared.x86_64.relocations.X86_64Relocation.{X86_64Relocation}
+use Rattle.linker_final.proofs.Imports.{cond-false, slice_get, Rewrite, rewritten, offset_after, operands_after, IsNameOf, code_of, sum_64, difference_64, value_of, x86_64_name, x86_64_row, RelocationKindInfo, Choice, Operands, X86_64Relocation, seen, IsBefore, decision_at, Rewritten, loads_plt_word, relocation_in, operands_with, operands_in, is_of_got, Addresses, Symbol, Rela, IsRow, Relaxation, X86_64, x86_64_relocation_after, x86_64_rewrite, x86_64_originals, RewriteKind}
 use Rattle.linker_final.proofs.Inner.{HasWindow}
 use Rattle.linker_final.proofs.X86Chosen.{of_table}
 use Rattle.linker_final.proofs.X86Lawful.{HasLaw, IsServed, of_choice, shaped_of}
@@ -20,22 +10,8 @@ use Rattle.linker_final.proofs.X86Rows.{IsAfterRow}
 use Rattle.linker_final.proofs.X86Windows.{HasRewrite, IsLawful, LawAt, object_bytes, object_has, object_matches, of_field, of_row, offset_small, rela, relocated_after}
 use Rattle.linker_final.specs.Final.{Linked, IsLinked, UntouchedByOthers, count}
 use Rattle.linker_final.specs.X86Section.{IsGroupOf, Window, in_got, put_back, window, window_of}
-use Rattle.linker_laws.specs.X86Groups.{Groups, seen}
-use Rattle.linker_laws.specs.X86RewriteLaws.{IsRelocated, IsBefore}
-use Rattle.linker_rewriting.specs.Decisions.{decision_at}
-use Rattle.linker_rewriting.specs.declared.decisions.Decision.TheVariants.{Rewritten}
-use Rattle.linker_elf.specs.Value.{loads_plt_word}
-use Rattle.linker_section.specs.Relocations.{relocation_in}
-use Rattle.linker_section.specs.Values.{operands_with, operands_in, is_of_got}
-use Rattle.linker_section.specs.declared.facts.Addresses.{Addresses}
-use Rattle.linker_section.specs.declared.facts.Symbol.{Symbol}
-use Rattle.linker_section.specs.declared.relocations.Rela.{Rela}
-use Rattle.linker_elf.specs.Architectures.{IsRow}
-use Rattle.linker_utils.specs.declared.architecture.Relaxation.{Relaxation}
-use Rattle.linker_elf.specs.declared.elf.architecture.Architecture.TheVariants.{X86_64}
-use Rattle.linker_utils.specs.X86RelocationsAfter.{x86_64_relocation_after}
-use Rattle.linker_utils.specs.X86Rewrites.{x86_64_rewrite, x86_64_originals}
-use Rattle.linker_utils.specs.declared.x86_64.rewrites.RewriteKind.{RewriteKind}
+use Rattle.linker_laws.specs.X86Groups.{Groups}
+use Rattle.linker_laws.specs.X86RewriteLaws.{IsRelocated}
 
 pub some_and : {A : Type 0} (P : A → Type 0) (q : Option A) (x : A) → q ≡ Some x → IsSomeAnd q P → P x
 some_and {A} P q x is h = subst (λ z. IsSomeAnd z P) is h

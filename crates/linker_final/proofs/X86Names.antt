@@ -1,19 +1,9 @@
 -- The names of relocations of operands in the GOT.
 use Rattle.std.proofs.Common.{◌≡◌, ℕ, true, false, refl, sym, ap, ◌∙◌, Option, Some, None}
-use Rattle.linker_elf.specs.ElfNames.{IsNamed, code_of}
-use Rattle.linker_elf.specs.X86Relocations.{x86_64_name}
-use Rattle.linker_elf.specs.declared.elf.value.Operands.{Operands}
-use Rattle.linker_elf.specs.declared.x86_64.relocations.X86_64Relocation.{X86_64Relocation}
+use Rattle.linker_final.proofs.Imports.{IsNamed, code_of, x86_64_name, Operands, X86_64Relocation, address, thread_offset, IsScopeIn, is_labelled, Scope, Labelled, Phase, is_of_got, X86_64}
 use Rattle.linker_elf.specs.declared.x86_64.relocations.X86_64Relocation.TheVariants as names
-use Rattle.linker_laws.specs.X86RewriteLaws.{address, thread_offset}
-use Rattle.linker_rewriting.specs.Groups.{IsScopeIn, x86_64_scope_in}
-use Rattle.linker_rewriting.specs.RiscVPcrelGroups.{is_labelled}
-use Rattle.linker_rewriting.specs.declared.groups.Scope.{Scope}
-use Rattle.linker_rewriting.specs.declared.groups.Scope.TheVariants.{Labelled}
-use Rattle.linker_rewriting.specs.declared.phases.Phase.{Phase}
+use Rattle.linker_rewriting.specs.Groups.{x86_64_scope_in}
 use Rattle.linker_rewriting.specs.declared.phases.Phase.TheVariants as phases
-use Rattle.linker_section.specs.Values.{is_of_got}
-use Rattle.linker_elf.specs.declared.elf.architecture.Architecture.TheVariants.{X86_64}
 
 -- how many bytes of an instruction are before the field of its operand's distance, and what the
 -- operand's entry in the GOT holds

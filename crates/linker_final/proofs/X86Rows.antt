@@ -1,26 +1,11 @@
 -- The rows of the relocations that x86-64's rewrites leave.
 use Rattle.std.proofs.Common.{◌≡◌, ℕ, ℤ, pos, negsuc, ◌%◌, ◌^◌, ◌<◌, false, refl, ap, arith, Some, Ok}
-use Rattle.std.proofs.lemmas.Int.{ints}
-use Rattle.std.specs.Int.{w64, cast_unsigned, int_rem_euclid}
-use Rattle.linker_elf.specs.Elf.{IsWithin, bit_bounds}
-use Rattle.linker_elf.specs.ElfNames.{IsNamed, code_of}
-use Rattle.linker_elf.specs.Rows.{bytes_row, signed_row, unsigned_row}
-use Rattle.linker_elf.specs.Value.{value_of}
-use Rattle.linker_elf.specs.X86Relocations.{x86_64_name, x86_64_row}
-use Rattle.linker_elf.specs.declared.elf.RelocationKindInfo.{RelocationKindInfo}
-use Rattle.linker_elf.specs.declared.elf.RelocationKind.TheVariants.{Relative, Absolute, TpOff}
-use Rattle.linker_elf.specs.declared.elf.Sign.TheVariants.{Signed, Unsigned}
-use Rattle.linker_elf.specs.declared.elf.value.Operands.{Operands}
-use Rattle.linker_elf.specs.declared.x86_64.relocations.X86_64Relocation.{X86_64Relocation}
+use Rattle.linker_final.proofs.Imports.{ints, w64, cast_unsigned, int_rem_euclid, IsWithin, bit_bounds, IsNamed, code_of, bytes_row, signed_row, value_of, x86_64_name, x86_64_row, RelocationKindInfo, Relative, Absolute, TpOff, Signed, Operands, X86_64Relocation, operands_by, operands_with, entry_address, is_of_got, loads_plt_word, entry_of, Addresses, Symbol, Rela, X86_64}
+use Rattle.linker_elf.specs.Rows.{unsigned_row}
+use Rattle.linker_elf.specs.declared.elf.Sign.TheVariants.{Unsigned}
 use Rattle.linker_elf.specs.declared.x86_64.relocations.X86_64Relocation.TheVariants as names
 use Rattle.linker_final.proofs.PlainRows.{IsPlain}
-use Rattle.linker_section.specs.Values.{operands_by, operands_with, entry_address, target_of, is_of_got}
-use Rattle.linker_elf.specs.Value.{loads_plt_word}
-use Rattle.linker_section.specs.Needed.{entry_of}
-use Rattle.linker_section.specs.declared.facts.Addresses.{Addresses}
-use Rattle.linker_section.specs.declared.facts.Symbol.{Symbol}
-use Rattle.linker_section.specs.declared.relocations.Rela.{Rela}
-use Rattle.linker_elf.specs.declared.elf.architecture.Architecture.TheVariants.{X86_64}
+use Rattle.linker_section.specs.Values.{target_of}
 
 -- ---- values of 32 bits
 

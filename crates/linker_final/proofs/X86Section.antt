@@ -1,16 +1,8 @@
 -- The rewrites of a section of x86-64: each is of instructions that are rewritten together, and
 -- these are groups.
 use Rattle.std.proofs.Common.{◌≡◌, ℕ, ◌+◌, ◌-◌, ◌^◌, ◌<◌, ◌⊎◌, get_or, sym, ap, subst, ◌∙◌, refl, arith, inl, inr, Some, None}
-use Rattle.std.proofs.lemmas.Bool.{cases_lt}
+use Rattle.linker_final.proofs.Imports.{cases_lt, CanRewrite, IsRewritable, window_of_rewrite, IsNamed, IsNameOf, x86_64_name, X86_64, Choice, Operands, X86_64Relocation, reg_after_rex, reg_after_rex2, address, thread_offset, decision_at, IsDone, IsMade, Decision, Kept, Rewritten, Consumed, RewrittenWithSymbol, relocation_in, relaxation_rewrite, opcode_at, x86_64_table, Relaxation}
 use Rattle.std.specs.Option.{unwrap_or}
-use Rattle.linker_base.specs.Rewrite.{CanRewrite, IsRewritable}
-use Rattle.linker_base.specs.RewriteWindow.{window_of_rewrite}
-use Rattle.linker_elf.specs.ElfNames.{IsNamed, IsNameOf}
-use Rattle.linker_elf.specs.X86Relocations.{x86_64_name}
-use Rattle.linker_elf.specs.declared.elf.architecture.Architecture.TheVariants.{X86_64}
-use Rattle.linker_elf.specs.declared.elf.choice.Choice.{Choice}
-use Rattle.linker_elf.specs.declared.elf.value.Operands.{Operands}
-use Rattle.linker_elf.specs.declared.x86_64.relocations.X86_64Relocation.{X86_64Relocation}
 use Rattle.linker_elf.specs.declared.x86_64.relocations.X86_64Relocation.TheVariants as names
 use Rattle.linker_final.proofs.SectionRuns.{AreIn, IsIn, each_or, final_in, is_linked, without_label}
 use Rattle.linker_final.proofs.Written.{outside_of, spared}
@@ -23,16 +15,7 @@ use Rattle.linker_final.proofs.X86Windows.{IsLawful}
 use Rattle.linker_final.specs.Final.{IsLinked, IsOutside, Linked, count}
 use Rattle.linker_final.specs.SectionRuns.{RewritesAreGroups, offset_of}
 use Rattle.linker_final.specs.X86Section.{HasFinal, Window, call, in_got, lea, rewriting, window, window_of}
-use Rattle.linker_laws.specs.X86Groups.{Groups, reg_after_rex, reg_after_rex2}
-use Rattle.linker_laws.specs.X86RewriteLaws.{address, thread_offset}
-use Rattle.linker_rewriting.specs.Decisions.{decision_at}
-use Rattle.linker_rewriting.specs.Rewritten.{IsDone, IsMade}
-use Rattle.linker_rewriting.specs.declared.decisions.Decision.{Decision}
-use Rattle.linker_rewriting.specs.declared.decisions.Decision.TheVariants.{Kept, Rewritten, Consumed, RewrittenWithSymbol}
-use Rattle.linker_section.specs.Relocations.{relocation_in}
-use Rattle.linker_utils.specs.Relaxations.{relaxation_rewrite}
-use Rattle.linker_utils.specs.X86Rewrites.{opcode_at, x86_64_table}
-use Rattle.linker_utils.specs.declared.architecture.Relaxation.{Relaxation}
+use Rattle.linker_laws.specs.X86Groups.{Groups}
 
 -- ---- the law of a name
 

@@ -1,15 +1,7 @@
 -- Calls of `__tls_get_addr` of x86-64 that were rewritten are groups in the final bytes.
 use Rattle.std.proofs.Common.{Some, ◌≡◌, ℕ, ◌+◌, ◌-◌, ◌^◌, ◌<◌, ◌≤◌, List, [], ◌∷◌, length, drop, refl, sym, ap, subst, ◌∙◌, inl, inr, arith, neg_ℤ, pos}
-use Rattle.std.specs.Prelude.{⊤, slice_get}
-use Rattle.linker_elf.specs.ElfNames.{IsNameOf, code_of}
-use Rattle.linker_elf.specs.X86Relocations.{x86_64_name}
-use Rattle.linker_elf.specs.declared.elf.RelocationKindInfo.{RelocationKindInfo}
-use Rattle.linker_elf.specs.declared.elf.choice.Choice.{Choice}
-use Rattle.linker_elf.specs.declared.elf.value.Operands.{Operands}
-use Rattle.linker_elf.specs.declared.x86_64.relocations.X86_64Relocation.{X86_64Relocation}
+use Rattle.linker_final.proofs.Imports.{⊤, slice_get, IsNameOf, code_of, x86_64_name, RelocationKindInfo, Choice, Operands, X86_64Relocation, rewritten, x86_64_relocation_after, thread_row, Kinds, State, seen, IsBefore, decision_at, Rewritten, relocation_in, is_of_got, operands_with, Symbol, Rela, Relaxation, X86_64, Original, puts, x86_64_matches, x86_64_originals, x86_64_rewrite, RewriteKind}
 use Rattle.linker_elf.specs.declared.x86_64.relocations.X86_64Relocation.TheVariants as names
-use Rattle.linker_base.specs.Rewrite.{rewritten}
-use Rattle.linker_utils.specs.X86RelocationsAfter.{x86_64_relocation_after}
 use Rattle.linker_final.proofs.Inner.{HasWindow, own_window}
 use Rattle.linker_final.proofs.X86Chosen.{IsOfEntry, IsOfTable}
 use Rattle.linker_final.proofs.X86Finals.{final_is, some_and}
@@ -20,22 +12,12 @@ use Rattle.linker_final.proofs.X86ThreadEntries.{entry_final}
 use Rattle.linker_final.proofs.X86Windows.{HasRewrite, IsLawful, LawAt, StandsThere, object_bytes, object_has, object_matches, of_field, of_row, offset_small, unrelocated}
 use Rattle.linker_final.specs.Final.{UntouchedByOthers, IsLinked, Linked, count}
 use Rattle.linker_final.specs.X86Section.{AreBy, EntryHolds, Form, HasObject, IsObject, Window, block, put_back, sequence_of, variable, window, window_of}
-use Rattle.linker_laws.proofs.X86Fields.{thread_row, tls_module_row}
-use Rattle.linker_laws.specs.Simulation.{Kinds, State}
+use Rattle.linker_laws.proofs.X86Fields.{tls_module_row}
 use Rattle.linker_laws.specs.X86Groups as groups
-use Rattle.linker_laws.specs.X86Groups.{AddsOffset, Code, IsModuleCall, IsThreadCall, Stands, seen}
-use Rattle.linker_laws.specs.X86RewriteLaws.{IsBefore, IsRelocated}
-use Rattle.linker_rewriting.specs.Decisions.{decision_at}
-use Rattle.linker_rewriting.specs.declared.decisions.Decision.TheVariants.{Rewritten}
-use Rattle.linker_section.specs.Relocations.{relocation_in}
-use Rattle.linker_section.specs.Values.{is_of_got, operands_with}
-use Rattle.linker_section.specs.declared.facts.Symbol.{Symbol}
-use Rattle.linker_section.specs.declared.relocations.Rela.{Rela}
-use Rattle.linker_utils.specs.declared.architecture.Relaxation.{Relaxation}
+use Rattle.linker_laws.specs.X86Groups.{AddsOffset, Code, IsModuleCall, IsThreadCall, Stands}
+use Rattle.linker_laws.specs.X86RewriteLaws.{IsRelocated}
 use Rattle.linker_utils.specs.declared.architecture.Relaxation.TheVariants as relaxations
-use Rattle.linker_elf.specs.declared.elf.architecture.Architecture.TheVariants.{X86_64}
-use Rattle.linker_utils.specs.X86Rewrites.{HasPattern, Original, general_dynamic_table, local_dynamic_table, module_by, original, puts, x86_64_matches, x86_64_originals, x86_64_rewrite}
-use Rattle.linker_utils.specs.declared.x86_64.rewrites.RewriteKind.{RewriteKind}
+use Rattle.linker_utils.specs.X86Rewrites.{HasPattern, general_dynamic_table, local_dynamic_table, module_by, original}
 use Rattle.linker_utils.specs.declared.x86_64.rewrites.RewriteKind.TheVariants as kinds
 
 -- ---- a sequence

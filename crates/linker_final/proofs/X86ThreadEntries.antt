@@ -1,14 +1,7 @@
 -- A GOT entry of a variable's offset, which rewrites of x86-64 leave in place of a call or of a
 -- descriptor.
 use Rattle.std.proofs.Common.{◌≡◌, ℕ, pos, ◌+◌, ◌-◌, ◌≤◌, cond, refl, sym, ap, subst, ◌∙◌, inl, inr, Some, None, Ok, Err}
-use Rattle.std.proofs.lemmas.Bool.{cases_Bool}
-use Rattle.std.specs.Prelude.{slice_get}
-use Rattle.linker_base.specs.Rewrite.{rewritten, offset_after}
-use Rattle.linker_elf.specs.Choices.{operands_after}
-use Rattle.linker_elf.specs.ElfNames.{code_of}
-use Rattle.linker_elf.specs.Value.{value_of}
-use Rattle.linker_elf.specs.X86Relocations.{x86_64_name}
-use Rattle.linker_elf.specs.declared.elf.value.Operands.{Operands}
+use Rattle.linker_final.proofs.Imports.{cases_Bool, slice_get, rewritten, offset_after, operands_after, code_of, value_of, x86_64_name, Operands, thread_row, tls_got_row, relocation_in, is_there, operands_by, operands_in, operands_of, operands_with, Symbol, Entry, ThreadOffset, Rela, NoEntry, X86_64, x86_64_rewrite, RewriteKind}
 use Rattle.linker_elf.specs.declared.x86_64.relocations.X86_64Relocation.TheVariants as names
 use Rattle.linker_final.proofs.PlainRows.{are_there}
 use Rattle.linker_final.proofs.X86Finals.{moved}
@@ -16,18 +9,7 @@ use Rattle.linker_final.proofs.X86ThreadRows.{plain_entry}
 use Rattle.linker_final.proofs.X86Windows.{HasRewrite, offset_small, r_after, rela, relocated_after, row_after, within_after}
 use Rattle.linker_final.specs.Final.{Linked}
 use Rattle.linker_final.specs.X86Section.{put_back}
-use Rattle.linker_laws.proofs.X86Fields.{thread_row, tls_got_row}
 use Rattle.linker_laws.specs.X86RewriteLaws.{IsRelocated}
-use Rattle.linker_section.specs.Relocations.{relocation_in}
-use Rattle.linker_section.specs.Values.{is_there, operands_by, operands_in, operands_of, operands_with}
-use Rattle.linker_section.specs.declared.facts.Symbol.{Symbol}
-use Rattle.linker_section.specs.declared.needed.Entry.{Entry}
-use Rattle.linker_section.specs.declared.needed.EntryClass.TheVariants.{ThreadOffset}
-use Rattle.linker_section.specs.declared.relocations.Rela.{Rela}
-use Rattle.linker_section.specs.declared.values.ValueError.TheVariants.{NoEntry}
-use Rattle.linker_elf.specs.declared.elf.architecture.Architecture.TheVariants.{X86_64}
-use Rattle.linker_utils.specs.X86Rewrites.{x86_64_rewrite}
-use Rattle.linker_utils.specs.declared.x86_64.rewrites.RewriteKind.{RewriteKind}
 
 abbrev offset_entry : Entry
 offset_entry = record { class = ThreadOffset; addend = pos 0 }

@@ -1,19 +1,8 @@
 -- Offsets in a module's block that became offsets from the thread pointer lead to the same address.
 use Rattle.std.proofs.Common.{◌≡◌, ℕ, ◌+◌, ◌-◌, ◌/◌, ◌^◌, ◌<◌, ◌≤◌, ◌⊎◌, List, length, take, drop, false, true, refl, sym, ap, subst, ◌∙◌, inl, inr, arith, cond, Some, Ok}
-use Rattle.std.proofs.lemmas.Bool.{cases_lt, cond-false}
-use Rattle.std.proofs.lemmas.List.{drop_at, length-take-le}
-use Rattle.linker_base.specs.Rewrite.{addend_after, offset_after}
-use Rattle.linker_elf.specs.Applied.{IsApplied}
-use Rattle.linker_elf.specs.ElfNames.{IsNamed, IsNameOf, code_of}
-use Rattle.linker_elf.specs.Relocate.{number_of_bytes}
-use Rattle.linker_elf.specs.Value.{sum_64, value_of}
-use Rattle.linker_elf.specs.X86Relocations.{x86_64_name, x86_64_row}
-use Rattle.linker_elf.specs.declared.elf.RelocationKind.{RelocationKind}
+use Rattle.linker_final.proofs.Imports.{cases_lt, cond-false, length-take-le, addend_after, offset_after, IsApplied, IsNamed, IsNameOf, code_of, number_of_bytes, sum_64, value_of, x86_64_name, x86_64_row, RelocationKind, RelocationKindInfo, Choice, Operands, X86_64Relocation, long_thread_row, thread_row, IsRelocatedBy, decision_at, relocation_after, Rewritten, Composes, IsField, begins_pair, continues, ends_pair, field_end, of_number, of_pair, entry_of, relocation_in, entry_address, is_of_got, offset_at, operands_by, operands_in, operands_of, operands_with, Addresses, Symbol, Rela, IsRow, relaxation_rewrite, Relaxation, X86_64}
+use Rattle.std.proofs.lemmas.List.{drop_at}
 use Rattle.linker_elf.specs.declared.elf.RelocationKind.TheVariants as values
-use Rattle.linker_elf.specs.declared.elf.RelocationKindInfo.{RelocationKindInfo}
-use Rattle.linker_elf.specs.declared.elf.choice.Choice.{Choice}
-use Rattle.linker_elf.specs.declared.elf.value.Operands.{Operands}
-use Rattle.linker_elf.specs.declared.x86_64.relocations.X86_64Relocation.{X86_64Relocation}
 use Rattle.linker_elf.specs.declared.x86_64.relocations.X86_64Relocation.TheVariants as names
 use Rattle.linker_final.proofs.Fields.{AreLowest, UntouchedField, eight_bytes, four_bytes, left, len_is}
 use Rattle.linker_final.proofs.Phases.{last_length, last_within, relocation_left}
@@ -26,25 +15,10 @@ use Rattle.linker_final.proofs.X86ThreadRows.{plain_long_thread}
 use Rattle.linker_final.proofs.X86Windows.{rela, relocated, row_after, small_byte}
 use Rattle.linker_final.specs.Final.{UntouchedBytes, IsLinked, Linked, count}
 use Rattle.linker_final.specs.X86Section.{LeadsToTheSame, Offsets, put_back}
-use Rattle.linker_laws.proofs.X86Fields.{block_row, long_block_row, long_thread_row, thread_row}
+use Rattle.linker_laws.proofs.X86Fields.{block_row, long_block_row}
 use Rattle.linker_laws.specs.X86Groups.{BlockOffsets, LeadToTheSame}
 use Rattle.linker_laws.specs.X86Machine.{extended}
-use Rattle.linker_laws.specs.X86RewriteLaws.{IsRelocatedBy}
-use Rattle.linker_rewriting.specs.Decisions.{decision_at}
-use Rattle.linker_rewriting.specs.Rewritten.{relocation_after}
-use Rattle.linker_rewriting.specs.declared.decisions.Decision.TheVariants.{Rewritten}
-use Rattle.linker_section.specs.Fields.{Composes, IsField, begins_pair, continues, ends_pair, field_end, of_number, of_pair}
-use Rattle.linker_section.specs.Needed.{entry_of}
-use Rattle.linker_section.specs.Relocations.{relocation_in}
-use Rattle.linker_section.specs.Values.{entry_address, is_of_got, offset_at, operands_by, operands_in, operands_of, operands_with}
-use Rattle.linker_section.specs.declared.facts.Addresses.{Addresses}
-use Rattle.linker_section.specs.declared.facts.Symbol.{Symbol}
-use Rattle.linker_section.specs.declared.relocations.Rela.{Rela}
-use Rattle.linker_elf.specs.Architectures.{IsRow}
-use Rattle.linker_utils.specs.Relaxations.{relaxation_rewrite}
-use Rattle.linker_utils.specs.declared.architecture.Relaxation.{Relaxation}
 use Rattle.linker_utils.specs.declared.architecture.Relaxation.TheVariants as relaxations
-use Rattle.linker_elf.specs.declared.elf.architecture.Architecture.TheVariants.{X86_64}
 use Rattle.linker_utils.specs.declared.x86_64.rewrites.RewriteKind.TheVariants as kinds
 
 -- ---- fields that overlap none

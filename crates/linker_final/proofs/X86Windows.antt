@@ -1,20 +1,9 @@
 -- The window of an instruction or a sequence of x86-64 in the final bytes of a section.
 use Rattle.std.proofs.Common.{◌≡◌, ℕ, ℤ, ◌+◌, ◌-◌, ◌*◌, ◌/◌, ◌^◌, ◌<◌, ◌≤◌, ◌⊎◌, List, ◌++◌, length, take, drop, get_or, sym, ap, subst, ◌∙◌, inl, inr, arith, Option, Some, None, Ok, IsSomeAnd, IsTrue}
-use Rattle.std.proofs.lemmas.Bool.{cases_eq, cases_lt}
-use Rattle.std.proofs.lemmas.List.{length-drop, drop-drop, take-append-drop, ext_get_or, get_or-drop, get_or_past}
-use Rattle.std.proofs.lemmas.List.Elements.{All-append, All-take, All-drop, All-get_or}
-use Rattle.std.specs.Int.{w64, from_le_bytes, cast_unsigned}
-use Rattle.linker_base.specs.Rewrite.{Rewrite, CanRewrite, IsRewritable, rewritten, rewrite_window, offset_after, addend_after}
-use Rattle.linker_elf.specs.ElfNames.{IsNamed, code_of}
-use Rattle.linker_elf.specs.Relocate.{IsWritten, low_bytes, number_of_bytes, number_written, window_len, size_len}
-use Rattle.linker_elf.specs.Rows.{bytes_row}
-use Rattle.linker_elf.specs.Value.{difference_64, sum_64, value_of}
-use Rattle.linker_elf.specs.X86Relocations.{x86_64_name, x86_64_row}
+use Rattle.linker_final.proofs.Imports.{cases_eq, cases_lt, length-drop, drop-drop, ext_get_or, get_or-drop, get_or_past, All-take, All-drop, All-get_or, w64, from_le_bytes, cast_unsigned, Rewrite, CanRewrite, IsRewritable, rewritten, rewrite_window, offset_after, addend_after, IsNamed, code_of, IsWritten, low_bytes, number_of_bytes, number_written, window_len, size_len, bytes_row, difference_64, sum_64, value_of, x86_64_name, x86_64_row, RelocationKindInfo, Choice, Operands, X86_64Relocation, AreAddresses, State, IsRelocatedBy, decision_at, written_end_at, IsDone, IsMade, relocation_after, Rewritten, one_info, IsField, field_end, field_len, relocation_in, IsInNoField, IsRowValue, operands_of, operands_with, offset_at, Symbol, Rela, IsRow, relaxation_rewrite, Relaxation, X86_64, x86_64_rewrite, x86_64_matches, x86_64_originals, Original, is_one_at, RewriteKind}
+use Rattle.std.proofs.lemmas.List.{take-append-drop}
+use Rattle.std.proofs.lemmas.List.Elements.{All-append}
 use Rattle.linker_elf.specs.declared.elf.RelocationKind.TheVariants.{None as NoValue}
-use Rattle.linker_elf.specs.declared.elf.RelocationKindInfo.{RelocationKindInfo}
-use Rattle.linker_elf.specs.declared.elf.choice.Choice.{Choice}
-use Rattle.linker_elf.specs.declared.elf.value.Operands.{Operands}
-use Rattle.linker_elf.specs.declared.x86_64.relocations.X86_64Relocation.{X86_64Relocation}
 use Rattle.linker_elf.specs.declared.x86_64.relocations.X86_64Relocation.TheVariants as names
 use Rattle.linker_final.proofs.Fields.{UntouchedField, four_bytes, left, len_is}
 use Rattle.linker_final.proofs.Inner.{HasWindow}
@@ -27,28 +16,11 @@ use Rattle.linker_final.proofs.Written.{outside_of}
 use Rattle.linker_final.specs.Final.{Linked, IsLinked, UntouchedByOthers, AreBytes, count}
 use Rattle.linker_final.specs.SectionRuns.{offset_of}
 use Rattle.linker_final.specs.X86Section.{HasFinal, HasObject, IsObject, LawOf, Window, put_back, window_of}
-use Rattle.linker_laws.specs.Schemes.{AreAddresses}
-use Rattle.linker_laws.specs.Simulation.{State}
 use Rattle.linker_laws.specs.X86Groups.{Code, Stands}
-use Rattle.linker_laws.specs.X86RewriteLaws.{IsRelocated, IsRelocatedBy}
-use Rattle.linker_rewriting.specs.Decisions.{decision_at, start_at, written_end_at}
-use Rattle.linker_rewriting.specs.Rewritten.{IsDone, IsMade, relocation_after}
-use Rattle.linker_rewriting.specs.declared.decisions.Decision.TheVariants.{Rewritten}
+use Rattle.linker_laws.specs.X86RewriteLaws.{IsRelocated}
+use Rattle.linker_rewriting.specs.Decisions.{start_at}
 use Rattle.linker_section.proofs.Fronts.{HaveSameWindow, accepted_same}
-use Rattle.linker_section.proofs.Rows.{one_info}
-use Rattle.linker_section.specs.Fields.{IsField, field_end, field_len}
-use Rattle.linker_section.specs.Relocations.{relocation_in}
-use Rattle.linker_section.specs.Sections.{IsInNoField, IsRowValue}
-use Rattle.linker_section.specs.Values.{operands_of, operands_with, offset_at}
-use Rattle.linker_section.specs.declared.facts.Symbol.{Symbol}
-use Rattle.linker_section.specs.declared.relocations.Rela.{Rela}
-use Rattle.linker_elf.specs.Architectures.{IsRow}
-use Rattle.linker_utils.specs.Relaxations.{relaxation_rewrite}
-use Rattle.linker_utils.specs.declared.architecture.Relaxation.{Relaxation}
 use Rattle.linker_utils.specs.declared.architecture.Relaxation.TheVariants as relaxations
-use Rattle.linker_elf.specs.declared.elf.architecture.Architecture.TheVariants.{X86_64}
-use Rattle.linker_utils.specs.X86Rewrites.{x86_64_rewrite, x86_64_matches, x86_64_originals, Original, is_one_at}
-use Rattle.linker_utils.specs.declared.x86_64.rewrites.RewriteKind.{RewriteKind}
 
 -- ---- lists and numbers
 

@@ -2,14 +2,14 @@
 use Rattle.std.specs.Prelude.{◌≡◌, ℕ, ◌+◌, ◌<◌, ◌≤◌, List, length, ◌≢◌, ◌*◌, ◌^◌, ◌⊎◌, Some}
 use Rattle.std.specs.Prelude.{IsSomeAnd, false, slice_get}
 use Rattle.linker_elf.specs.AArch64Relocations.{aarch64_name, aarch64_row}
-use Rattle.linker_elf.specs.ElfNames.{IsNameOf}
+use Rattle.linker_final.specs.Imports.{IsNameOf, sum_64, Choice, Operands, put, with_register}
+use Rattle.linker_final.specs.Imports.{loaded, AreAddresses, plt_address, symbol_address, Agree}
+use Rattle.linker_final.specs.Imports.{Kinds, State, anything, half, same, decision_at, Rewritten}
+use Rattle.linker_final.specs.Imports.{relocation_in, operands_with, Addresses, Symbol, Relaxation}
 use Rattle.linker_elf.specs.LoongArch.{page}
-use Rattle.linker_elf.specs.Value.{sum_64}
 use Rattle.linker_elf.specs.declared.aarch64.relocations.AArch64Relocation.{AArch64Relocation}
 use Rattle.linker_elf.specs.declared.aarch64.relocations.AArch64Relocation.TheVariants as names
 use Rattle.linker_elf.specs.declared.elf.architecture.Architecture.TheVariants.{AArch64}
-use Rattle.linker_elf.specs.declared.elf.choice.Choice.{Choice}
-use Rattle.linker_elf.specs.declared.elf.value.Operands.{Operands}
 use Rattle.linker_final.specs.Final.{IsLinked, IsRewrittenByNoOther, Linked, count}
 use Rattle.linker_final.specs.Final.{instruction_at}
 use Rattle.linker_final.specs.Final.{IsWrittenByNoOther, UntouchedInstruction}
@@ -18,21 +18,11 @@ use Rattle.linker_final.specs.SectionRuns.{IsBesideAll, IsPhase, Rewriting, Sect
 use Rattle.linker_laws.specs.AArch64Groups.{Code, Descriptor, Has, go_and_link, link}
 use Rattle.linker_laws.specs.AArch64Machine.{load_64}
 use Rattle.linker_laws.specs.AArch64RewriteLaws.{word_of, following, thread_offset}
-use Rattle.linker_laws.specs.Changes.{go_to, put, with_register}
-use Rattle.linker_laws.specs.Machine.{loaded}
-use Rattle.linker_laws.specs.Schemes.{AreAddresses, plt_address, symbol_address}
-use Rattle.linker_laws.specs.Simulation.{Agree, Kinds, State, anything, half, same}
-use Rattle.linker_rewriting.specs.Decisions.{decision_at}
+use Rattle.linker_laws.specs.Changes.{go_to}
 use Rattle.linker_rewriting.specs.Rewritten.{IsAddressRewritten, IsDescriptorRewritten}
 use Rattle.linker_rewriting.specs.Rewritten.{IsLoadRewritten}
-use Rattle.linker_rewriting.specs.declared.decisions.Decision.TheVariants.{Rewritten}
-use Rattle.linker_section.specs.Relocations.{relocation_in}
-use Rattle.linker_section.specs.Values.{operands_with}
-use Rattle.linker_section.specs.declared.facts.Addresses.{Addresses}
-use Rattle.linker_section.specs.declared.facts.Symbol.{Symbol}
 use Rattle.linker_utils.specs.AArch64Rewrites.{rd_of}
 use Rattle.linker_utils.specs.declared.aarch64.rewrites.RewriteKind.TheVariants as kinds
-use Rattle.linker_utils.specs.declared.architecture.Relaxation.{Relaxation}
 
 -- ---- what is rewritten
 

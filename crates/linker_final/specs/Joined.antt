@@ -3,8 +3,7 @@
 use Rattle.std.specs.Prelude.{◌≡◌, ℕ, List, length}
 use Rattle.linker_final.specs.Final.{ArePhases, AreRewritten, Linked, instruction_at}
 use Rattle.linker_final.specs.Packed.{Packed, IsPacked, StayTogether, architecture_of, place_of}
-use Rattle.linker_section.specs.Relocations.{relocation_in}
-use Rattle.linker_section.specs.Values.{offset_at}
+use Rattle.linker_final.specs.Imports.{relocation_in, offset_at}
 
 -- All calls succeeded, and the one that packs took what the last phase left.
 pub record IsRewrittenAndPacked (l : Linked) (p : Packed) : Type 0 where

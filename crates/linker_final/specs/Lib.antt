@@ -5,6 +5,7 @@ pub mod AArch64Table
 pub mod Branches
 pub mod Emulated
 pub mod Final
+pub mod Imports
 pub mod Joined
 pub mod LoongArchExecuted
 pub mod LoongArchPacked

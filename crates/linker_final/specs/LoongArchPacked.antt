@@ -2,36 +2,29 @@
 -- that the object's instructions make (LoongArch ELF psABI, linker relaxation).
 use Rattle.std.specs.Prelude.{◌≡◌, ℕ, ◌+◌, ◌==◌, List, [], ◌∷◌, take, drop}
 use Rattle.std.specs.Prelude.{if◌then◌else◌, IsSomeAnd, Some, slice_get, ◌<◌, ◌^◌}
-use Rattle.linker_elf.specs.Choices.{RowIsWithin}
-use Rattle.linker_elf.specs.ElfNames.{IsNameOf}
-use Rattle.linker_elf.specs.LoongArchRelocations.{loongarch_name, loongarch_row}
-use Rattle.linker_elf.specs.Value.{sum_64}
-use Rattle.linker_elf.specs.declared.elf.RelocationKindInfo.{RelocationKindInfo}
-use Rattle.linker_elf.specs.declared.elf.value.Operands.{Operands}
-use Rattle.linker_elf.specs.declared.loongarch64.relocations.LoongArch64Relocation.{LoongArch64Relocation}
+use Rattle.linker_final.specs.Imports.{RowIsWithin, IsNameOf, loongarch_name, loongarch_row, sum_64}
+use Rattle.linker_final.specs.Imports.{RelocationKindInfo, Operands, LoongArch64Relocation}
+use Rattle.linker_final.specs.Imports.{put_unless_zero, with_unless_zero, Fits32, IsRelocated}
+use Rattle.linker_final.specs.Imports.{word_of, Relocated, loaded, AreAddresses, entry_and_addend}
+use Rattle.linker_final.specs.Imports.{plt_address, symbol_address, Group, Kinds, anything, of_link}
+use Rattle.linker_final.specs.Imports.{rj_of, signed_12, tp, LoongArch64, relocation_in, offset_at}
+use Rattle.linker_final.specs.Imports.{operands_with, Symbol}
 use Rattle.linker_elf.specs.declared.loongarch64.relocations.LoongArch64Relocation.TheVariants as names
 use Rattle.linker_final.specs.Packed.{Packed, AreDeleted, IsPacked, IsSiteOf, address_at}
 use Rattle.linker_final.specs.Packed.{StayTogether, count, place_of}
 use Rattle.linker_final.specs.Packed.{site_after, site_bytes, site_len}
 use Rattle.linker_final.specs.Packed.{site_offset, site_place, site_target}
-use Rattle.linker_laws.specs.LoongArchGroups.{Code, Has, Stands, link, put_unless_zero, register}
-use Rattle.linker_laws.specs.LoongArchGroups.{with_unless_zero}
+use Rattle.linker_laws.specs.LoongArchGroups.{Code, Has, Stands, link, register}
 use Rattle.linker_laws.specs.LoongArchMachine.{AreAlikeBut, EndSo, State}
-use Rattle.linker_laws.specs.LoongArchRewriteLaws.{Fits32, HaveCalled, HaveMade}
-use Rattle.linker_laws.specs.LoongArchRewriteLaws.{IsRelocated, IsRewritten, LoadsEntry, following}
-use Rattle.linker_laws.specs.LoongArchRewriteLaws.{no_register, pair, word_of}
-use Rattle.linker_laws.specs.Machine.{Relocated, loaded}
-use Rattle.linker_laws.specs.Schemes.{AreAddresses, entry_and_addend, plt_address, symbol_address}
-use Rattle.linker_laws.specs.Simulation.{Group, Kinds, State as state, anything, of_link}
-use Rattle.linker_utils.specs.LoongArchRewrites.{IsAddTp, IsLd, IsLu12i, rd_of, rj_of}
-use Rattle.linker_utils.specs.LoongArchRewrites.{signed_12, tp, word_at}
+use Rattle.linker_laws.specs.LoongArchRewriteLaws.{HaveCalled, HaveMade}
+use Rattle.linker_laws.specs.LoongArchRewriteLaws.{IsRewritten, LoadsEntry, following}
+use Rattle.linker_laws.specs.LoongArchRewriteLaws.{no_register, pair}
+use Rattle.linker_laws.specs.Simulation.{State as state}
+use Rattle.linker_utils.specs.LoongArchRewrites.{IsAddTp, IsLd, IsLu12i, rd_of}
+use Rattle.linker_utils.specs.LoongArchRewrites.{word_at}
 use Rattle.linker_utils.specs.declared.loongarch64.rewrites.RewriteKind.TheVariants as kinds
 use Rattle.linker_runs.specs.LoongArchSites.{IsCall36At, IsPcalaAt, destination}
-use Rattle.linker_runs.specs.declared.packing.Machine.TheVariants.{LoongArch64}
 use Rattle.linker_runs.specs.declared.relaxation.Site.{Site as site}
-use Rattle.linker_section.specs.Relocations.{relocation_in}
-use Rattle.linker_section.specs.Values.{offset_at, operands_with}
-use Rattle.linker_section.specs.declared.facts.Symbol.{Symbol}
 use Rattle.linker_elf.specs.declared.elf.architecture.Architecture.TheVariants as architectures
 
 -- the words of n bytes of a site: one instruction, or both

@@ -2,15 +2,15 @@
 -- ELF psABI, relaxation and the sequences of thread-local storage).
 use Rattle.std.specs.Prelude.{◌≡◌, ◌≢◌, ℕ, pos, ◌+◌, ◌<◌, ◌^◌, true, List, Some, ⊤}
 use Rattle.std.specs.Prelude.{IsSomeAnd, slice_get}
-use Rattle.linker_elf.specs.Choices.{RowIsWithin}
-use Rattle.linker_elf.specs.ElfNames.{IsNameOf, code_of}
-use Rattle.linker_elf.specs.LoongArchRelocations.{loongarch_name, loongarch_row}
-use Rattle.linker_elf.specs.Value.{sum_64}
-use Rattle.linker_elf.specs.declared.elf.RelocationKindInfo.{RelocationKindInfo}
+use Rattle.linker_final.specs.Imports.{RowIsWithin, IsNameOf, code_of, loongarch_name}
+use Rattle.linker_final.specs.Imports.{loongarch_row, sum_64, RelocationKindInfo, Choice, Operands}
+use Rattle.linker_final.specs.Imports.{LoongArch64Relocation, put_unless_zero, with_unless_zero}
+use Rattle.linker_final.specs.Imports.{Fits32, IsRelocated, word_of, AreAddresses, symbol_address}
+use Rattle.linker_final.specs.Imports.{Group, Kinds, State, anything, of_link, decision_at}
+use Rattle.linker_final.specs.Imports.{pre_layout, Rewritten, NotRelaxable, relocation_in}
+use Rattle.linker_final.specs.Imports.{operands_with, Addresses, Symbol, Rela, rj_of, signed_12, tp}
+use Rattle.linker_final.specs.Imports.{Relaxation}
 use Rattle.linker_elf.specs.declared.elf.architecture.Architecture.TheVariants.{LoongArch64}
-use Rattle.linker_elf.specs.declared.elf.choice.Choice.{Choice}
-use Rattle.linker_elf.specs.declared.elf.value.Operands.{Operands}
-use Rattle.linker_elf.specs.declared.loongarch64.relocations.LoongArch64Relocation.{LoongArch64Relocation}
 use Rattle.linker_elf.specs.declared.loongarch64.relocations.LoongArch64Relocation.TheVariants as names
 use Rattle.linker_final.specs.Final.{AreRewritten, IsLinked, IsRewrittenByNoOther}
 use Rattle.linker_final.specs.Final.{IsWrittenByNoOther, Linked, UntouchedInstruction}
@@ -22,24 +22,12 @@ use Rattle.linker_laws.specs.LoongArchGroups.{AreDeleted, CallOfDescriptor, Code
 use Rattle.linker_laws.specs.LoongArchGroups.{HighOffset, LoadOfDescriptor, Loads, LoadsOffset}
 use Rattle.linker_laws.specs.LoongArchGroups.{LowHalf, LowOfDescriptor, LowPart, Makes}
 use Rattle.linker_laws.specs.LoongArchGroups.{MakesOffset, Stands, deleted_by, link}
-use Rattle.linker_laws.specs.LoongArchGroups.{put_unless_zero, register, with_unless_zero}
-use Rattle.linker_laws.specs.LoongArchRewriteLaws.{Fits32, IsRelocated, word_of}
-use Rattle.linker_laws.specs.Schemes.{AreAddresses, symbol_address}
-use Rattle.linker_laws.specs.Simulation.{Group, Kinds, State, anything, of_link}
-use Rattle.linker_rewriting.specs.Decisions.{decision_at}
-use Rattle.linker_rewriting.specs.Facts.{pre_layout}
+use Rattle.linker_laws.specs.LoongArchGroups.{register}
 use Rattle.linker_rewriting.specs.Groups.{loongarch_scope_in}
-use Rattle.linker_rewriting.specs.declared.decisions.Decision.TheVariants.{Rewritten}
-use Rattle.linker_rewriting.specs.declared.groups.Scope.TheVariants.{NotRelaxable}
 use Rattle.linker_runs.specs.declared.packing.Machine.TheVariants.{LoongArch64 as loongarch64}
-use Rattle.linker_section.specs.Relocations.{relocation_in}
-use Rattle.linker_section.specs.Values.{is_there, operands_with}
-use Rattle.linker_section.specs.declared.facts.Addresses.{Addresses}
-use Rattle.linker_section.specs.declared.facts.Symbol.{Symbol}
+use Rattle.linker_section.specs.Values.{is_there}
 use Rattle.linker_section.specs.declared.needed.EntryClass.TheVariants.{ThreadOffset}
-use Rattle.linker_section.specs.declared.relocations.Rela.{Rela}
-use Rattle.linker_utils.specs.LoongArchRewrites.{rd_of, rj_of, signed_12, tp}
-use Rattle.linker_utils.specs.declared.architecture.Relaxation.{Relaxation}
+use Rattle.linker_utils.specs.LoongArchRewrites.{rd_of}
 use Rattle.linker_utils.specs.declared.architecture.Relaxation.TheVariants as relaxations
 use Rattle.linker_utils.specs.declared.loongarch64.rewrites.RewriteKind.TheVariants as kinds
 

@@ -1,10 +1,6 @@
 -- What qemu-loongarch64 made of instructions. `tools/oracle words` makes this file.
 use Rattle.std.specs.Prelude.{List, [], ◌∷◌, ◌^◌}
-use Rattle.linker_elf.specs.LoongArch.{loongarch_form}
-use Rattle.linker_elf.specs.declared.loongarch64.forms.LoongArch64Instruction.TheVariants.{Shift5}
-use Rattle.linker_elf.specs.declared.loongarch64.forms.LoongArch64Instruction.TheVariants.{Shift10}
-use Rattle.linker_elf.specs.declared.loongarch64.forms.LoongArch64Instruction.TheVariants.{Branch21}
-use Rattle.linker_elf.specs.declared.loongarch64.forms.LoongArch64Instruction.TheVariants.{Branch26}
+use Rattle.linker_final.specs.Imports.{loongarch_form, Shift5, Shift10, Branch21, Branch26}
 use Rattle.linker_elf.specs.declared.loongarch64.forms.LoongArch64Instruction.TheVariants.{Call36}
 use Rattle.std.specs.Prelude.{false}
 use Rattle.linker_elf.specs.Agrees.{loongarch_reads}

@@ -5,34 +5,26 @@ use Rattle.std.specs.Prelude.{take, drop, slice_index, IsTrue, Ok, Some, true, f
 use Rattle.linker_base.specs.Deletions.{is_kept}
 use Rattle.linker_base.specs.declared.bit_misc.BitRange.{BitRange}
 use Rattle.linker_elf.specs.Applied.{IsApplied}
-use Rattle.linker_elf.specs.Relocate.{window_len}
-use Rattle.linker_elf.specs.Value.{sum_64, value_of}
+use Rattle.linker_final.specs.Imports.{window_len, sum_64, value_of, RelocationKindInfo, Operands}
+use Rattle.linker_final.specs.Imports.{AreMoved, packed_offset, address_of, kept_len, IsPackedRun}
+use Rattle.linker_final.specs.Imports.{item_at, Machine, RiscV64, LoongArch64, Alignment, Item}
+use Rattle.linker_final.specs.Imports.{Aligned, relocation_in, offset_at, AreWritten, Addresses}
+use Rattle.linker_final.specs.Imports.{Symbol, IsRow, Architecture}
 use Rattle.linker_elf.specs.declared.elf.RelocationInstruction.{RelocationInstruction}
-use Rattle.linker_elf.specs.declared.elf.RelocationKindInfo.{RelocationKindInfo}
 use Rattle.linker_elf.specs.declared.elf.RelocationSize.TheVariants.{BitMasking}
-use Rattle.linker_elf.specs.declared.elf.value.Operands.{Operands}
 use Rattle.linker_final.specs.Final.{AreBytes}
 use Rattle.linker_final.specs.declared.packed.PackError.{PackError}
 use Rattle.linker_final.specs.declared.packed.PackError.TheVariants.{Misplaced, Packing, Writing}
-use Rattle.linker_runs.specs.Moved.{AreMoved, IsMoved}
+use Rattle.linker_runs.specs.Moved.{IsMoved}
 use Rattle.linker_runs.specs.Origins.{HasItsInstructions}
-use Rattle.linker_runs.specs.Packing.{Section, packed_offset, address_of, is_fixed, kept_len, nops}
-use Rattle.linker_runs.specs.Packing.{IsFirstRejected, IsInside, IsNotIn, IsPackedRun}
-use Rattle.linker_runs.specs.Relaxing.{item_at, len_of, offset_of}
-use Rattle.linker_runs.specs.declared.packing.Machine.{Machine}
-use Rattle.linker_runs.specs.declared.packing.Machine.TheVariants.{RiscV64, LoongArch64}
-use Rattle.linker_runs.specs.declared.relaxation.Alignment.{Alignment}
-use Rattle.linker_runs.specs.declared.relaxation.Item.{Item}
-use Rattle.linker_runs.specs.declared.relaxation.Item.TheVariants.{Aligned, Site}
+use Rattle.linker_runs.specs.Packing.{Section, is_fixed, nops}
+use Rattle.linker_runs.specs.Packing.{IsFirstRejected, IsInside, IsNotIn}
+use Rattle.linker_runs.specs.Relaxing.{len_of, offset_of}
+use Rattle.linker_runs.specs.declared.relaxation.Item.TheVariants.{Site}
 use Rattle.linker_runs.specs.declared.relaxation.Site.{Site as site}
-use Rattle.linker_section.specs.Relocations.{relocation_in}
 use Rattle.linker_section.specs.Sections.{IsInNoField}
-use Rattle.linker_section.specs.Values.{has_value, names_label, offset_at, operands_of}
-use Rattle.linker_section.specs.WrittenFields.{AreWritten, IsFirstFault}
-use Rattle.linker_section.specs.declared.facts.Addresses.{Addresses}
-use Rattle.linker_section.specs.declared.facts.Symbol.{Symbol}
-use Rattle.linker_elf.specs.Architectures.{IsRow}
-use Rattle.linker_elf.specs.declared.elf.architecture.Architecture.{Architecture}
+use Rattle.linker_section.specs.Values.{has_value, names_label, operands_of}
+use Rattle.linker_section.specs.WrittenFields.{IsFirstFault}
 use Rattle.linker_elf.specs.declared.elf.architecture.Architecture.TheVariants as architectures
 
 -- What is passed to `pack_run` and then to `relocate_section`, and what they leave.

@@ -2,11 +2,11 @@
 -- V2 ABI for Power, "TOC Optimizations" and "TLS Linkage Optimizations").
 use Rattle.std.specs.Prelude.{◌≡◌, ◌⊎◌, ℕ, ◌+◌, ◌-◌, ◌*◌, ◌<◌, ◌≤◌, IsSomeAnd}
 use Rattle.std.specs.Prelude.{List, take, drop, get_or, slice_get, Some}
-use Rattle.linker_elf.specs.ElfNames.{IsNameOf, code_of}
+use Rattle.linker_final.specs.Imports.{IsNameOf, code_of, sum_64, Choice, Group, Kinds, State}
+use Rattle.linker_final.specs.Imports.{of_link, decision_at, Decision, Rewritten, Phase}
+use Rattle.linker_final.specs.Imports.{relocation_in, operands_with, Symbol, Relaxation}
 use Rattle.linker_elf.specs.Ppc64Relocations.{ppc64_name, ppc64_row}
-use Rattle.linker_elf.specs.Value.{sum_64}
 use Rattle.linker_elf.specs.declared.elf.architecture.Architecture.TheVariants.{Ppc64}
-use Rattle.linker_elf.specs.declared.elf.choice.Choice.{Choice}
 use Rattle.linker_elf.specs.declared.ppc64.relocations.Ppc64Relocation.{Ppc64Relocation}
 use Rattle.linker_elf.specs.declared.ppc64.relocations.Ppc64Relocation.TheVariants as names
 use Rattle.linker_final.specs.Final.{AreRewritten, IsLinked, IsRewrittenByNoOther, Linked, count}
@@ -16,16 +16,7 @@ use Rattle.linker_laws.specs.Ppc64Groups as groups
 use Rattle.linker_laws.specs.Ppc64Groups.{AreGroup, CallTo, Code, Has, LowOverBase, Stands}
 use Rattle.linker_laws.specs.Ppc64Groups.{WordOverBase, link}
 use Rattle.linker_laws.specs.Ppc64RewriteLaws.{from_thread, from_toc}
-use Rattle.linker_laws.specs.Simulation.{Group, Kinds, State, of_link}
-use Rattle.linker_rewriting.specs.Decisions.{decision_at}
-use Rattle.linker_rewriting.specs.declared.decisions.Decision.{Decision}
-use Rattle.linker_rewriting.specs.declared.decisions.Decision.TheVariants.{Rewritten}
-use Rattle.linker_rewriting.specs.declared.phases.Phase.{Phase}
 use Rattle.linker_rewriting.specs.declared.phases.Phase.TheVariants as phases
-use Rattle.linker_section.specs.Relocations.{relocation_in}
-use Rattle.linker_section.specs.Values.{operands_with}
-use Rattle.linker_section.specs.declared.facts.Symbol.{Symbol}
-use Rattle.linker_utils.specs.declared.architecture.Relaxation.{Relaxation}
 use Rattle.linker_utils.specs.declared.architecture.Relaxation.TheVariants as relaxations
 use Rattle.linker_utils.specs.declared.ppc64.rewrites.RewriteKind.{RewriteKind}
 use Rattle.linker_utils.specs.declared.ppc64.rewrites.RewriteKind.TheVariants as kinds

@@ -2,18 +2,13 @@
 -- final bytes.
 use Rattle.std.specs.Prelude.{◌≡◌, ◌≢◌, ◌⊎◌, ℕ, ◌+◌, ◌%◌, ◌<◌, ◌≤◌, List, length}
 use Rattle.std.specs.Prelude.{MatchOption, None}
-use Rattle.linker_elf.specs.Value.{sum_64}
+use Rattle.linker_final.specs.Imports.{sum_64, IsRelaxation, deletions_of_run, address_of, kept_len}
+use Rattle.linker_final.specs.Imports.{packed_offset, section_of, item_at, Alignment, Item, Aligned}
+use Rattle.linker_final.specs.Imports.{Addresses, Symbol}
 use Rattle.linker_final.specs.Packed.{Packed, IsPacked, packed_as}
 use Rattle.linker_final.specs.declared.packed.RunSection.{RunSection}
-use Rattle.linker_runs.specs.Choosing.{AreItems, IsRelaxation}
-use Rattle.linker_runs.specs.Deleting.{deletions_of_run}
-use Rattle.linker_runs.specs.Packing.{address_of, kept_len, packed_offset, section_of}
-use Rattle.linker_runs.specs.Relaxing.{end_of, item_at}
-use Rattle.linker_runs.specs.declared.relaxation.Alignment.{Alignment}
-use Rattle.linker_runs.specs.declared.relaxation.Item.{Item}
-use Rattle.linker_runs.specs.declared.relaxation.Item.TheVariants.{Aligned}
-use Rattle.linker_section.specs.declared.facts.Addresses.{Addresses}
-use Rattle.linker_section.specs.declared.facts.Symbol.{Symbol}
+use Rattle.linker_runs.specs.Choosing.{AreItems}
+use Rattle.linker_runs.specs.Relaxing.{end_of}
 
 -- What `relax` was passed and returned.
 pub record Run : Type 0 where

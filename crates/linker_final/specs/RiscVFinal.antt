@@ -4,44 +4,31 @@
 use Rattle.std.specs.Prelude.{◌≡◌, ◌≢◌, ℕ, ◌+◌, ◌*◌, ◌<◌, ◌^◌, List}
 use Rattle.std.specs.Prelude.{Some, IsSomeAnd, slice_get, true}
 use Rattle.linker_elf.specs.Elf.{IsWithin, bit_bounds}
-use Rattle.linker_elf.specs.ElfNames.{IsNameOf, code_of}
-use Rattle.linker_elf.specs.RiscVRelocations.{riscv_name, riscv_row}
-use Rattle.linker_elf.specs.Value.{sum_64}
-use Rattle.linker_elf.specs.declared.elf.RelocationKindInfo.{RelocationKindInfo}
+use Rattle.linker_final.specs.Imports.{IsNameOf, code_of, riscv_name, riscv_row, sum_64}
+use Rattle.linker_final.specs.Imports.{RelocationKindInfo, Choice, Operands, RiscVRelocation}
+use Rattle.linker_final.specs.Imports.{loaded, Action, register, rs1_of, IsLowOffset, offset_row}
+use Rattle.linker_final.specs.Imports.{AreBefore, AreDeleted, Code, Has, Stands, link, seen}
+use Rattle.linker_final.specs.Imports.{upper_from, uses, put, with_register, Agree, Group, Kinds}
+use Rattle.linker_final.specs.Imports.{State, anything, of_link, same, AreAddresses}
+use Rattle.linker_final.specs.Imports.{entry_and_addend, symbol_address, decision_at}
+use Rattle.linker_final.specs.Imports.{RewrittenWithSymbol, Rewritten, Subject, rd_of}
+use Rattle.linker_final.specs.Imports.{relocation_in, operands_with, Symbol, Rela, Relaxation}
+use Rattle.linker_final.specs.Imports.{RiscV}
 use Rattle.linker_elf.specs.declared.elf.Sign.TheVariants.{Signed}
-use Rattle.linker_elf.specs.declared.elf.choice.Choice.{Choice}
-use Rattle.linker_elf.specs.declared.elf.value.Operands.{Operands}
-use Rattle.linker_elf.specs.declared.riscv64.relocations.RiscVRelocation.{RiscVRelocation}
 use Rattle.linker_elf.specs.declared.riscv64.relocations.RiscVRelocation.TheVariants as names
 use Rattle.linker_final.specs.Final.{AreRewritten, Linked, count, instruction_at}
-use Rattle.linker_laws.specs.Machine.{loaded}
-use Rattle.linker_laws.specs.RiscVMachine.{Action, register, rs1_of}
-use Rattle.linker_laws.specs.RiscVRewriteLaws.{HaveOneOffset, HaveOneTarget, IsLowOffset}
-use Rattle.linker_laws.specs.RiscVRewriteLaws.{of_entry, offset_row, word_of}
-use Rattle.linker_laws.specs.RiscVGroups.{AreBefore, AreDeleted, AreNops, Code, Descriptor, Has}
-use Rattle.linker_laws.specs.RiscVGroups.{LeavesAddress, LoadFromGot, Stands}
-use Rattle.linker_laws.specs.RiscVGroups.{link, seen, upper_from, uses}
+use Rattle.linker_laws.specs.RiscVRewriteLaws.{HaveOneOffset, HaveOneTarget}
+use Rattle.linker_laws.specs.RiscVRewriteLaws.{of_entry, word_of}
+use Rattle.linker_laws.specs.RiscVGroups.{AreNops, Descriptor}
+use Rattle.linker_laws.specs.RiscVGroups.{LeavesAddress, LoadFromGot}
 use Rattle.linker_laws.specs.RiscVRewriteLaws.{after_rewrite, thread_offset}
-use Rattle.linker_laws.specs.Changes.{put, with_register}
-use Rattle.linker_laws.specs.Simulation.{Agree, AreOf, Group, Kind, Kinds, State, anything, of_link}
-use Rattle.linker_laws.specs.Simulation.{same}
-use Rattle.linker_laws.specs.Schemes.{AreAddresses, entry_and_addend, symbol_address}
-use Rattle.linker_rewriting.specs.Decisions.{decision_at, deleted_of}
+use Rattle.linker_laws.specs.Simulation.{AreOf, Kind}
+use Rattle.linker_rewriting.specs.Decisions.{deleted_of}
 use Rattle.linker_rewriting.specs.RiscVPcrelGroups.{IsHighIn}
-use Rattle.linker_rewriting.specs.declared.decisions.Decision.TheVariants.{RewrittenWithSymbol}
-use Rattle.linker_rewriting.specs.declared.decisions.Decision.TheVariants.{Rewritten}
-use Rattle.linker_rewriting.specs.declared.decisions.Subject.{Subject}
-use Rattle.linker_riscv64.specs.RiscVFields.{rd_of}
 use Rattle.linker_utils.specs.RiscVRewrites.{deleted_from, riscv_matches, tp}
 use Rattle.linker_utils.specs.declared.riscv64.rewrites.RewriteKind.{RewriteKind}
 use Rattle.linker_utils.specs.declared.riscv64.rewrites.RewriteKind.TheVariants as kinds
-use Rattle.linker_section.specs.Relocations.{relocation_in}
-use Rattle.linker_section.specs.Values.{operands_with}
-use Rattle.linker_section.specs.declared.facts.Symbol.{Symbol}
-use Rattle.linker_section.specs.declared.relocations.Rela.{Rela}
-use Rattle.linker_utils.specs.declared.architecture.Relaxation.{Relaxation}
 use Rattle.linker_utils.specs.declared.architecture.Relaxation.TheVariants as relaxations
-use Rattle.linker_elf.specs.declared.elf.architecture.Architecture.TheVariants.{RiscV}
 
 -- ---- loads of addresses from the GOT
 

@@ -3,27 +3,20 @@
 use Rattle.std.specs.Prelude.{◌≡◌, ◌≢◌, ℕ, ◌+◌, ◌≤◌, ◌<◌, ◌^◌, true, List, drop, length, Some}
 use Rattle.std.specs.Prelude.{IsSomeAnd, Option, slice_get}
 use Rattle.linker_base.specs.Rewrite.{rewritten}
-use Rattle.linker_elf.specs.RiscVRelocations.{riscv_row}
-use Rattle.linker_elf.specs.Value.{difference_64}
-use Rattle.linker_elf.specs.declared.elf.RelocationKindInfo.{RelocationKindInfo}
-use Rattle.linker_elf.specs.declared.elf.value.Operands.{Operands}
+use Rattle.linker_final.specs.Imports.{riscv_row, difference_64, RelocationKindInfo, Operands, put}
+use Rattle.linker_final.specs.Imports.{with_register, Relocated, AreBefore, AreDeleted, Code, Has}
+use Rattle.linker_final.specs.Imports.{link, seen, upper_from, uses, Action, register, rs1_of}
+use Rattle.linker_final.specs.Imports.{action_at, AreAddresses, symbol_address, Agree, Group, Kinds}
+use Rattle.linker_final.specs.Imports.{State, anything, of_link, word_at, rd_of, IsLui, Addresses}
+use Rattle.linker_final.specs.Imports.{Symbol, Rela}
 use Rattle.linker_elf.specs.declared.riscv64.relocations.RiscVRelocation.TheVariants as names
-use Rattle.linker_laws.specs.Changes.{put, with_register}
-use Rattle.linker_laws.specs.Machine.{Relocated, moved}
-use Rattle.linker_laws.specs.RiscVGroups.{AreBefore, AreDeleted, Code, Has, link, seen, upper}
-use Rattle.linker_laws.specs.RiscVGroups.{upper_from, uses}
-use Rattle.linker_laws.specs.RiscVMachine.{Action, register, rs1_of, stores, stores_float}
-use Rattle.linker_laws.specs.RiscVRewriteLaws.{action_at, low_row, word_of}
-use Rattle.linker_laws.specs.Schemes.{AreAddresses, symbol_address}
-use Rattle.linker_laws.specs.Simulation.{Agree, Group, Kinds, State, anything, of_link}
+use Rattle.linker_laws.specs.Machine.{moved}
+use Rattle.linker_laws.specs.RiscVGroups.{upper}
+use Rattle.linker_laws.specs.RiscVMachine.{stores, stores_float}
+use Rattle.linker_laws.specs.RiscVRewriteLaws.{low_row, word_of}
 use Rattle.linker_rewriting.specs.GlobalPointer.{address_of, base_for, based_relocation}
 use Rattle.linker_rewriting.specs.GlobalPointer.{is_low_word, low_code}
-use Rattle.linker_riscv64.specs.RiscVCalls.{word_at}
-use Rattle.linker_riscv64.specs.RiscVFields.{rd_of}
-use Rattle.linker_utils.specs.RiscVRewrites.{IsAuipc, IsLui, lo12, rewrites_word, with_rs1}
-use Rattle.linker_section.specs.declared.facts.Addresses.{Addresses}
-use Rattle.linker_section.specs.declared.facts.Symbol.{Symbol}
-use Rattle.linker_section.specs.declared.relocations.Rela.{Rela}
+use Rattle.linker_utils.specs.RiscVRewrites.{IsAuipc, lo12, rewrites_word, with_rs1}
 
 -- A register has what the high part of an address leaves: with the low part of its value it is the
 -- address.

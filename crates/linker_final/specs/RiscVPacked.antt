@@ -2,37 +2,27 @@
 -- Call Relaxation" and "Compressed Tail Call Relaxation").
 use Rattle.std.specs.Prelude.{◌≡◌, ◌⊎◌, ℕ, ◌+◌, ◌-◌, ◌%◌, ◌==◌, List}
 use Rattle.std.specs.Prelude.{take, drop, if◌then◌else◌, slice_get, Some, ◌<◌, ◌^◌}
-use Rattle.linker_elf.specs.ElfNames.{IsNameOf}
+use Rattle.linker_final.specs.Imports.{IsNameOf, riscv_name, riscv_row, RelocationKindInfo}
+use Rattle.linker_final.specs.Imports.{Operands, UiType, RiscVRelocation, put, with_register}
+use Rattle.linker_final.specs.Imports.{AreBefore, Code, Has, Stands, link, seen, Group, Kinds}
+use Rattle.linker_final.specs.Imports.{State, anything, of_link, register, rs1_of, IsLow12}
+use Rattle.linker_final.specs.Imports.{IsLowOffset, AreAddresses, plt_address, word_at, rd_of}
+use Rattle.linker_final.specs.Imports.{IsLui, RiscV64, relocation_in, offset_at, operands_with}
+use Rattle.linker_final.specs.Imports.{Symbol, RiscV}
 use Rattle.linker_elf.specs.Originals.{HasWord}
-use Rattle.linker_elf.specs.RiscVRelocations.{pair_row, riscv_name, riscv_row}
+use Rattle.linker_elf.specs.RiscVRelocations.{pair_row}
 use Rattle.linker_elf.specs.declared.elf.RelocationKind.TheVariants.{PltRelative}
-use Rattle.linker_elf.specs.declared.elf.RelocationKindInfo.{RelocationKindInfo}
-use Rattle.linker_elf.specs.declared.elf.value.Operands.{Operands}
-use Rattle.linker_elf.specs.declared.riscv64.forms.RiscVInstruction.TheVariants.{UiType}
-use Rattle.linker_elf.specs.declared.riscv64.relocations.RiscVRelocation.{RiscVRelocation}
 use Rattle.linker_elf.specs.declared.riscv64.relocations.RiscVRelocation.TheVariants as names
 use Rattle.linker_final.specs.Packed.{Packed, AreDeleted, IsPacked, IsSiteOf, StayTogether}
 use Rattle.linker_final.specs.Packed.{address_at, count, place_of}
 use Rattle.linker_final.specs.Packed.{site_bytes, site_len, site_offset, site_place}
 use Rattle.linker_final.specs.Packed.{site_target}
-use Rattle.linker_laws.specs.Changes.{put, with_register}
-use Rattle.linker_laws.specs.RiscVGroups.{AreBefore, Code, Has, IsCall, Stands, link, seen}
-use Rattle.linker_laws.specs.Simulation.{Group, Kinds, State, anything, of_link}
-use Rattle.linker_laws.specs.RiscVMachine.{register, rs1_of}
+use Rattle.linker_laws.specs.RiscVGroups.{IsCall}
 use Rattle.linker_laws.specs.RiscVRelocationLaws.{even}
-use Rattle.linker_laws.specs.RiscVRewriteLaws.{IsLow12, IsLowOffset}
-use Rattle.linker_laws.specs.Schemes.{AreAddresses, plt_address}
-use Rattle.linker_riscv64.specs.RiscVCalls.{word_at}
-use Rattle.linker_riscv64.specs.RiscVFields.{rd_of}
-use Rattle.linker_utils.specs.RiscVRewrites.{IsAddTp, IsLui, tp}
+use Rattle.linker_utils.specs.RiscVRewrites.{IsAddTp, tp}
 use Rattle.linker_runs.specs.RiscVItems.{IsCallAt}
 use Rattle.linker_runs.specs.Sites.{operands_of}
-use Rattle.linker_runs.specs.declared.packing.Machine.TheVariants.{RiscV64}
 use Rattle.linker_runs.specs.declared.relaxation.Site.{Site as site}
-use Rattle.linker_section.specs.Relocations.{relocation_in}
-use Rattle.linker_section.specs.Values.{offset_at, operands_with}
-use Rattle.linker_section.specs.declared.facts.Symbol.{Symbol}
-use Rattle.linker_elf.specs.declared.elf.architecture.Architecture.TheVariants.{RiscV}
 
 -- ---- calls
 

@@ -1,13 +1,13 @@
 -- RISC-V: what the rewrites of a section are, and where they begin in a run of old.
 use Rattle.std.specs.Prelude.{◌≡◌, ◌≢◌, ℕ, ◌+◌, ◌<◌, IsSomeAnd, List, Option, Some, slice_get}
-use Rattle.linker_elf.specs.ElfNames.{IsNameOf}
-use Rattle.linker_elf.specs.RiscVRelocations.{riscv_name, riscv_row}
-use Rattle.linker_elf.specs.Value.{difference_64, sum_64, value_of}
-use Rattle.linker_elf.specs.declared.elf.RelocationKindInfo.{RelocationKindInfo}
-use Rattle.linker_elf.specs.declared.elf.architecture.Architecture.TheVariants.{RiscV}
-use Rattle.linker_elf.specs.declared.elf.choice.Choice.{Choice}
-use Rattle.linker_elf.specs.declared.elf.value.Operands.{Operands}
-use Rattle.linker_elf.specs.declared.riscv64.relocations.RiscVRelocation.{RiscVRelocation}
+use Rattle.linker_final.specs.Imports.{IsNameOf, riscv_name, riscv_row, difference_64, sum_64}
+use Rattle.linker_final.specs.Imports.{value_of, RelocationKindInfo, RiscV, Choice, Operands}
+use Rattle.linker_final.specs.Imports.{RiscVRelocation, Code, Has, Stands, link, Action, IsLow12}
+use Rattle.linker_final.specs.Imports.{IsLowOffset, action_at, offset_row, AreAddresses, Group}
+use Rattle.linker_final.specs.Imports.{Kinds, State, of_link, decision_at, Decision, Kept}
+use Rattle.linker_final.specs.Imports.{Rewritten, RewrittenWithSymbol, Subject, NotRelaxable}
+use Rattle.linker_final.specs.Imports.{RiscV64, relocation_in, operands_with, Addresses, Symbol}
+use Rattle.linker_final.specs.Imports.{Relaxation}
 use Rattle.linker_elf.specs.declared.riscv64.relocations.RiscVRelocation.TheVariants as names
 use Rattle.linker_final.specs.Final.{AreRewritten, IsLinked, IsRewrittenByNoOther}
 use Rattle.linker_final.specs.Final.{IsWrittenByNoOther, Linked, UntouchedInstruction, count}
@@ -19,25 +19,9 @@ use Rattle.linker_final.specs.RiscVFinal.{IsDeleted, IsLuiOfLoad, IsNop, IsOfDes
 use Rattle.linker_final.specs.RiscVFinal.{LoadIsAlike, LowPartIsAlike, OffsetIsAlike, SumGoes}
 use Rattle.linker_final.specs.RiscVFinal.{named_as}
 use Rattle.linker_final.specs.SectionRuns.{IsBesideAll, Rewriting, Section, offset_of}
-use Rattle.linker_laws.specs.RiscVGroups.{Code, Has, Stands, link}
-use Rattle.linker_laws.specs.RiscVMachine.{Action}
-use Rattle.linker_laws.specs.RiscVRewriteLaws.{IsLow12, IsLowOffset, action_at, offset_row}
-use Rattle.linker_laws.specs.Schemes.{AreAddresses}
-use Rattle.linker_laws.specs.Simulation.{Group, Kinds, State, of_link}
-use Rattle.linker_rewriting.specs.Decisions.{decision_at}
 use Rattle.linker_rewriting.specs.Groups.{riscv_scope_in}
-use Rattle.linker_rewriting.specs.declared.decisions.Decision.{Decision}
-use Rattle.linker_rewriting.specs.declared.decisions.Decision.TheVariants.{Kept, Rewritten}
-use Rattle.linker_rewriting.specs.declared.decisions.Decision.TheVariants.{RewrittenWithSymbol}
-use Rattle.linker_rewriting.specs.declared.decisions.Subject.{Subject}
 use Rattle.linker_rewriting.specs.declared.groups.Scope.{Scope}
-use Rattle.linker_rewriting.specs.declared.groups.Scope.TheVariants.{Grouped, NotRelaxable}
-use Rattle.linker_runs.specs.declared.packing.Machine.TheVariants.{RiscV64}
-use Rattle.linker_section.specs.Relocations.{relocation_in}
-use Rattle.linker_section.specs.Values.{operands_with}
-use Rattle.linker_section.specs.declared.facts.Addresses.{Addresses}
-use Rattle.linker_section.specs.declared.facts.Symbol.{Symbol}
-use Rattle.linker_utils.specs.declared.architecture.Relaxation.{Relaxation}
+use Rattle.linker_rewriting.specs.declared.groups.Scope.TheVariants.{Grouped}
 use Rattle.linker_utils.specs.declared.architecture.Relaxation.TheVariants as relaxations
 use Rattle.linker_utils.specs.declared.riscv64.rewrites.RewriteKind.TheVariants as kinds
 

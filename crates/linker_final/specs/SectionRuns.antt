@@ -1,15 +1,11 @@
 -- The code of a section that is linked, in one phase or in several: what stands at each place, and
 -- runs of it. What is of one architecture is a parameter (`Rewriting`).
 use Rattle.std.specs.Prelude.{◌≡◌, ℕ, ◌+◌, ◌<◌, ◌≤◌, ◌≢◌, ◌⊎◌, List, [], ◌∷◌, IsSomeAnd}
-use Rattle.linker_elf.specs.declared.elf.architecture.Architecture.{Architecture}
+use Rattle.linker_final.specs.Imports.{Architecture, Agree, Group, Kinds, State, of_link}
+use Rattle.linker_final.specs.Imports.{decision_at, Kept, relocation_in, Addresses, Symbol}
 use Rattle.linker_final.specs.Final.{AreInTurn, Linked, RewritingPhase, count, linked_by}
-use Rattle.linker_laws.specs.Simulation.{Agree, Comparison, Covered, Group, Kinds, Link, Next}
-use Rattle.linker_laws.specs.Simulation.{State, Stops, of_link, run, uncovered}
-use Rattle.linker_rewriting.specs.Decisions.{decision_at}
-use Rattle.linker_rewriting.specs.declared.decisions.Decision.TheVariants.{Kept}
-use Rattle.linker_section.specs.Relocations.{relocation_in}
-use Rattle.linker_section.specs.declared.facts.Addresses.{Addresses}
-use Rattle.linker_section.specs.declared.facts.Symbol.{Symbol}
+use Rattle.linker_laws.specs.Simulation.{Comparison, Covered, Link, Next}
+use Rattle.linker_laws.specs.Simulation.{Stops, run, uncovered}
 
 -- ---- a section
 

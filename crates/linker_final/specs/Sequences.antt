@@ -3,14 +3,10 @@
 use Rattle.std.specs.Prelude.{ℕ, ◌+◌, ◌*◌, ◌++◌, ℤ, pos, false}
 use Rattle.std.specs.Int.{w64, to_le_bytes}
 use Rattle.std.specs.Option.{unwrap_or}
-use Rattle.linker_base.specs.Bits.{field}
+use Rattle.linker_final.specs.Imports.{field, riscv_form, Add, Operands, UiType}
 use Rattle.linker_utils.specs.AArch64Rewrites.{moved4, rd_of}
 use Rattle.linker_elf.specs.LoongArch.{upper_and_lower_value, five_instructions}
 use Rattle.linker_elf.specs.Ppc64.{pair}
-use Rattle.linker_elf.specs.RiscV.{riscv_form}
-use Rattle.linker_elf.specs.declared.aarch64.forms.AArch64Instruction.TheVariants.{Add}
-use Rattle.linker_elf.specs.declared.elf.value.Operands.{Operands}
-use Rattle.linker_elf.specs.declared.riscv64.forms.RiscVInstruction.TheVariants.{UiType}
 use Rattle.linker_laws.specs.AArch64RelocationLaws.{page_and_offset}
 use Rattle.linker_laws.specs.LoongArchRelocationLaws.{upper_and_or, four, page_and_low}
 use Rattle.linker_laws.specs.Ppc64RelocationLaws.{unadjusted, unadjusted_quarters}

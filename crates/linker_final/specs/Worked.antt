@@ -1,31 +1,18 @@
 -- Programs that the calls link: words of which every premise of the laws of runs holds.
 use Rattle.std.specs.Prelude.{◌≡◌, ℕ, zero, suc, ◌+◌, ◌/◌, List, [], ◌∷◌, length, false}
 use Rattle.std.specs.Prelude.{replicate}
-use Rattle.linker_elf.specs.declared.elf.architecture.Architecture.{Architecture}
-use Rattle.linker_elf.specs.declared.elf.architecture.Architecture.TheVariants.{RiscV}
+use Rattle.linker_final.specs.Imports.{Architecture, RiscV, put, with_register, Kinds, State, half}
+use Rattle.linker_final.specs.Imports.{same, RelaxContext, Decision, UnrelaxableGroups, Phase}
+use Rattle.linker_final.specs.Imports.{IsRelaxation, deletions_of_run, AreMoved, IsPackedRun}
+use Rattle.linker_final.specs.Imports.{section_of, RiscV64, Item, AreWritten, Addresses, Symbol}
 use Rattle.linker_final.specs.AArch64Section as aarch64
 use Rattle.linker_final.specs.Final.{AreLinked, HasRewritten, Linked, RewritingPhase}
 use Rattle.linker_final.specs.Final.{rewriting_phase}
 use Rattle.linker_final.specs.SectionRuns.{AreCalled, IsPhase, Rewriting, Section}
 use Rattle.linker_laws.specs.AArch64Groups as aarch64_groups
 use Rattle.linker_laws.specs.AArch64GroupsWorked as aarch64_worked
-use Rattle.linker_laws.specs.Changes.{put, with_register}
-use Rattle.linker_laws.specs.Simulation.{Kinds, State, half, same}
-use Rattle.linker_rewriting.specs.Facts.{RelaxContext}
 use Rattle.linker_rewriting.specs.GlobalPointer.{AreBased, AreRelocationsBy, section_based}
-use Rattle.linker_rewriting.specs.declared.decisions.Decision.{Decision}
-use Rattle.linker_rewriting.specs.declared.groups.UnrelaxableGroups.{UnrelaxableGroups}
-use Rattle.linker_rewriting.specs.declared.phases.Phase.{Phase}
 use Rattle.linker_rewriting.specs.declared.phases.Phase.TheVariants.{PreLayout}
-use Rattle.linker_runs.specs.Choosing.{IsRelaxation}
-use Rattle.linker_runs.specs.Deleting.{deletions_of_run}
-use Rattle.linker_runs.specs.Moved.{AreMoved}
-use Rattle.linker_runs.specs.Packing.{IsPackedRun, section_of}
-use Rattle.linker_runs.specs.declared.packing.Machine.TheVariants.{RiscV64}
-use Rattle.linker_runs.specs.declared.relaxation.Item.{Item}
-use Rattle.linker_section.specs.WrittenFields.{AreWritten}
-use Rattle.linker_section.specs.declared.facts.Addresses.{Addresses}
-use Rattle.linker_section.specs.declared.facts.Symbol.{Symbol}
 
 -- n bytes of code from an address on
 abbrev pub code_at : (ℕ → ℕ) → ℕ → ℕ → List ℕ

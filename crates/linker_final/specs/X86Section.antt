@@ -3,33 +3,22 @@
 use Rattle.std.specs.Prelude.{◌≡◌, ℕ, ◌+◌, ◌-◌, ◌^◌, ◌<◌, ◌≤◌, false, ⊤}
 use Rattle.std.specs.Prelude.{List, get_or, length, take, drop, ◌++◌, Option, Some, None, IsSomeAnd}
 use Rattle.std.specs.Prelude.{slice_get}
-use Rattle.linker_elf.specs.Architectures.{IsRow}
-use Rattle.linker_elf.specs.ElfNames.{IsNameOf}
+use Rattle.linker_final.specs.Imports.{IsRow, IsNameOf, difference_64, sum_64, RelocationKindInfo}
+use Rattle.linker_final.specs.Imports.{Choice, Operands, AreAddresses, Group, Kinds, State, of_link}
+use Rattle.linker_final.specs.Imports.{decision_at, Rewritten, relocation_in, operands_with}
+use Rattle.linker_final.specs.Imports.{Addresses, Symbol, Relaxation}
 use Rattle.linker_elf.specs.Relocate.{number_of_bytes}
-use Rattle.linker_elf.specs.Value.{difference_64, sum_64}
 use Rattle.linker_elf.specs.X86Relocations.{x86_64_name, x86_64_row}
-use Rattle.linker_elf.specs.declared.elf.RelocationKindInfo.{RelocationKindInfo}
 use Rattle.linker_elf.specs.declared.elf.architecture.Architecture.TheVariants.{X86_64}
-use Rattle.linker_elf.specs.declared.elf.choice.Choice.{Choice}
-use Rattle.linker_elf.specs.declared.elf.value.Operands.{Operands}
 use Rattle.linker_elf.specs.declared.x86_64.relocations.X86_64Relocation.{X86_64Relocation}
 use Rattle.linker_elf.specs.declared.x86_64.relocations.X86_64Relocation.TheVariants as names
 use Rattle.linker_final.specs.Final.{IsLinked, Linked, UntouchedByOthers, UntouchedBytes, count}
 use Rattle.linker_final.specs.SectionRuns.{Rewriting, Section, offset_of}
-use Rattle.linker_laws.specs.Schemes.{AreAddresses}
-use Rattle.linker_laws.specs.Simulation.{Group, Kinds, State, of_link}
 use Rattle.linker_laws.specs.X86Groups.{AddsOffset, Code, IsCall, IsDescriptorCall, IsGroup, IsJump}
 use Rattle.linker_laws.specs.X86Groups.{IsLea, IsModuleCall, IsThreadCall, LoadsNumber, MakesOffset}
 use Rattle.linker_laws.specs.X86Groups.{Stands, link, reg_after_rex, reg_after_rex2}
 use Rattle.linker_laws.specs.X86Machine.{extended}
 use Rattle.linker_laws.specs.X86RewriteLaws.{IsRelocated, address, thread_offset}
-use Rattle.linker_rewriting.specs.Decisions.{decision_at}
-use Rattle.linker_rewriting.specs.declared.decisions.Decision.TheVariants.{Rewritten}
-use Rattle.linker_section.specs.Relocations.{relocation_in}
-use Rattle.linker_section.specs.Values.{operands_with}
-use Rattle.linker_section.specs.declared.facts.Addresses.{Addresses}
-use Rattle.linker_section.specs.declared.facts.Symbol.{Symbol}
-use Rattle.linker_utils.specs.declared.architecture.Relaxation.{Relaxation}
 use Rattle.linker_utils.specs.declared.architecture.Relaxation.TheVariants as relaxations
 use Rattle.linker_utils.specs.declared.x86_64.rewrites.RewriteKind.TheVariants as kinds
 

@@ -1,17 +1,8 @@
 -- AArch64's groups that become `adr`.
-use Rattle.std.proofs.Common.{◌≡◌, ◌≢◌, ℕ, ◌+◌, ◌%◌, ◌/◌, ◌^◌, ◌<◌, refl, sym, ◌∙◌, ap, arith, List, Some, pos, ◌+ℤ◌, ◌*ℤ◌}
-use Rattle.std.proofs.Common.{drop, eqb-true}
-use Rattle.std.specs.Int.{bit_at}
-use Rattle.std.specs.Prelude.{bit_and}
-use Rattle.std.proofs.lemmas.Int.{ints}
+use Rattle.std.proofs.Common.{◌≡◌, ◌≢◌, ℕ, ◌+◌, ◌%◌, ◌/◌, ◌^◌, ◌<◌, refl, sym, ◌∙◌, ap, arith, List, Some, pos, ◌+ℤ◌, ◌*ℤ◌, drop, eqb-true}
+use Rattle.linker_laws.proofs.Imports.{bit_at, bit_and, ints, field, aarch64_form, page, sum_64, Add, LdSt, Operands, IsAdd64, IsIntoOwnSource, nop, rd_of}
 use Rattle.std.proofs.lemmas.Nat.{and_le_r}
-use Rattle.linker_base.specs.Bits.{field}
-use Rattle.linker_elf.specs.AArch64.{aarch64_form}
-use Rattle.linker_elf.specs.LoongArch.{page}
-use Rattle.linker_elf.specs.Value.{sum_64}
-use Rattle.linker_elf.specs.declared.aarch64.forms.AArch64Instruction.TheVariants.{Add, LdSt}
 use Rattle.linker_elf.specs.declared.aarch64.relocations.AArch64Relocation.TheVariants as names
-use Rattle.linker_elf.specs.declared.elf.value.Operands.{Operands}
 use Rattle.linker_laws.specs.AArch64Groups.{Code, Has, Leaves, OfPages, Stands, executed, link, machine, seen}
 use Rattle.linker_laws.specs.AArch64Groups as groups
 use Rattle.linker_laws.specs.AArch64Machine.{added, execute, go_on, in_64_bits, load_64, step, write_x}
@@ -27,14 +18,11 @@ use Rattle.linker_laws.proofs.AArch64Near.{near_after, near_here, small_after}
 use Rattle.linker_laws.proofs.AArch64Pages.{IsUnsigned, offset_reads}
 use Rattle.linker_laws.proofs.AArch64Pairs.{adds_pair, adr_is, pair_made, word_is, word_made}
 use Rattle.linker_laws.proofs.AArch64Steps.{address_is, set, step_add, step_adr, step_ldr}
-use Rattle.linker_laws.proofs.AArch64Words.{IsAdrOf, IsMadeAdr, add_after, adr_after, adr_of_adrp, adr_of_page}
-use Rattle.linker_laws.proofs.AArch64Words.{adr_of_register, adrp_after, decodes_adr, ldr_after, masked_field}
-use Rattle.linker_laws.proofs.AArch64Words.{of_registers}
+use Rattle.linker_laws.proofs.AArch64Words.{IsAdrOf, IsMadeAdr, add_after, adr_after, adr_of_adrp, adr_of_page, adr_of_register, adrp_after, decodes_adr, ldr_after, masked_field, of_registers}
 use Rattle.linker_laws.proofs.Agreement.{agree_go, unchanged, value_group}
 use Rattle.linker_laws.proofs.CoveredRuns.{holds_of, run_first}
 use Rattle.linker_laws.proofs.Instructions.{unbiased}
 use Rattle.linker_laws.proofs.Sums.{lifted_is, once, sum_below}
-use Rattle.linker_utils.specs.AArch64Rewrites.{IsAdd64, IsIntoOwnSource, nop, rd_of}
 use Rattle.linker_utils.specs.declared.aarch64.rewrites.RewriteKind.TheVariants as kinds
 
 -- a word under a mask

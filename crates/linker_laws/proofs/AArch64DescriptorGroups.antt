@@ -1,11 +1,6 @@
 -- AArch64's groups of TLS descriptors.
-use Rattle.std.proofs.Common.{◌≡◌, ℕ, suc, ◌+◌, ◌^◌, ◌<◌, Bool, true, false, refl, sym, ◌∙◌, ap, ap₂, subst, arith, cond, eqb}
-use Rattle.std.proofs.Common.{List, Some, pos, ◌+ℤ◌}
-use Rattle.std.proofs.lemmas.Bool.{cond-false, cond-true, eq-eqb, ne_eqb}
-use Rattle.linker_elf.specs.AArch64.{aarch64_form}
-use Rattle.linker_elf.specs.Value.{sum_64}
-use Rattle.linker_elf.specs.declared.aarch64.forms.AArch64Instruction.TheVariants.{Add}
-use Rattle.linker_elf.specs.declared.elf.value.Operands.{Operands}
+use Rattle.std.proofs.Common.{◌≡◌, ℕ, suc, ◌+◌, ◌^◌, ◌<◌, Bool, true, false, refl, sym, ◌∙◌, ap, ap₂, subst, arith, cond, eqb, List, Some, pos, ◌+ℤ◌}
+use Rattle.linker_laws.proofs.Imports.{cond-false, cond-true, eq-eqb, ne_eqb, aarch64_form, sum_64, Add, Operands, IsAdrp, IsLdr64, nop, rd_of, rn_of}
 use Rattle.linker_laws.specs.AArch64Groups.{Code, Descriptor, EndsInNops, called, executed, link, machine, seen}
 use Rattle.linker_laws.specs.AArch64Groups as groups
 use Rattle.linker_laws.specs.AArch64Machine.{added, adrp_address, in_64_bits, load_64, step}
@@ -20,11 +15,9 @@ use Rattle.linker_laws.proofs.AArch64Groups.{below_32, below_64, eight, nop_goes
 use Rattle.linker_laws.proofs.AArch64Moves.{offset_moves}
 use Rattle.linker_laws.proofs.AArch64Pairs.{adds_up, loads, word_is}
 use Rattle.linker_laws.proofs.AArch64Steps.{step_add, step_blr, step_ldr}
-use Rattle.linker_laws.proofs.AArch64Words.{add_after, adr_of_register, adrp_after, blr_of}
-use Rattle.linker_laws.proofs.AArch64Words.{ldr_of_register_after, masked_field, of_registers}
+use Rattle.linker_laws.proofs.AArch64Words.{add_after, adr_of_register, adrp_after, blr_of, ldr_of_register_after, masked_field, of_registers}
 use Rattle.linker_laws.proofs.Agreement.{value_group}
 use Rattle.linker_laws.proofs.CoveredRuns.{run_first, run_on}
-use Rattle.linker_utils.specs.AArch64Rewrites.{IsAdrp, IsLdr64, nop, rd_of, rn_of}
 
 -- ---- the call
 

@@ -1,12 +1,7 @@
 -- AArch64's groups.
-use Rattle.std.proofs.Common.{◌≡◌, ℕ, ◌^◌, ◌<◌, Bool, true, false, refl, sym, ◌∙◌, ap, ap₂, subst, arith}
-use Rattle.std.proofs.Common.{List, Some, eqb, cond, ◌/◌, eqb-true, true≢false}
-use Rattle.std.proofs.lemmas.Bool.{cond-false, eq-eqb, ne_eqb}
-use Rattle.std.specs.Prelude.{IsSomeAnd, ◌==◌, ◌&&◌}
-use Rattle.linker_elf.specs.LoongArch.{page}
-use Rattle.linker_elf.specs.Value.{sum_64}
+use Rattle.std.proofs.Common.{◌≡◌, ℕ, ◌^◌, ◌<◌, Bool, true, false, refl, sym, ◌∙◌, ap, ap₂, subst, arith, List, Some, eqb, cond, ◌/◌, eqb-true, true≢false}
+use Rattle.linker_laws.proofs.Imports.{cond-false, eq-eqb, ne_eqb, IsSomeAnd, ◌==◌, ◌&&◌, page, sum_64, Operands, IsLdr64, nop, rd_of, ReplaceWithNop}
 use Rattle.linker_elf.specs.declared.aarch64.relocations.AArch64Relocation.TheVariants as names
-use Rattle.linker_elf.specs.declared.elf.value.Operands.{Operands}
 use Rattle.linker_laws.specs.AArch64Groups.{Has, seen, executed, machine, link, Others}
 use Rattle.linker_laws.specs.AArch64Groups as groups
 use Rattle.linker_laws.specs.AArch64Machine.{branch_target, execute, load_64, moved, step}
@@ -23,8 +18,6 @@ use Rattle.linker_laws.proofs.AArch64Steps.{branch_leads, set}
 use Rattle.linker_laws.proofs.AArch64Words.{branch_after, decodes_b, decodes_bl}
 use Rattle.linker_laws.proofs.Agreement.{agree_go, agree_put, agree_put_old, unchanged, value_group}
 use Rattle.linker_laws.proofs.CoveredRuns.{run_first, holds_of}
-use Rattle.linker_utils.specs.AArch64Rewrites.{IsLdr64, nop, rd_of}
-use Rattle.linker_utils.specs.declared.aarch64.rewrites.RewriteKind.TheVariants.{ReplaceWithNop}
 
 -- ---- runs
 

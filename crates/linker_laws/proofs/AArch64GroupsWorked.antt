@@ -1,192 +1,23 @@
 -- The worked programs of AArch64.
-use Rattle.std.proofs.Common.{◌≡◌, ◌≢◌, ℕ, zero, suc, ◌+◌, ◌-◌, ◌^◌, ◌<◌, ◌≤◌, Bool, true, false, refl, sym, ◌∙◌}
-use Rattle.std.proofs.Common.{Option, int_lt, length, ℤ, ap, subst, arith, drop, None, Some, ◌*◌, List, [], ◌∷◌, lit<, lit≤, pos, true≢false, eqb-true, inl, inr, leb, leb-true, leb-false}
-use Rattle.std.specs.Prelude.{◌==◌, ◌&&◌, ◌||◌, ◌⊎◌, All, IsSomeAnd, if◌then◌else◌}
-use Rattle.std.specs.Int.{bit_at, byte_len, from_le_bytes, w64}
-use Rattle.std.proofs.lemmas.Bool.{cond-false, eq-eqb}
-use Rattle.std.proofs.lemmas.Int.{ints}
-use Rattle.std.proofs.lemmas.List.Elements.{All-nil, All-cons}
-use Rattle.std.proofs.lemmas.Nat.Bits.{bit_at_above}
-use Rattle.linker_base.specs.Form.{BitsWritten, ImmediateBit, bit_for, is_placed, place_sum}
-use Rattle.linker_base.specs.Form.{placed_bit, window_of}
-use Rattle.linker_elf.specs.Applied.{IsApplied}
-use Rattle.linker_elf.specs.Elf.{relocation_form}
-use Rattle.linker_elf.specs.Relocate.{InstructionWritten, IsMultiple, IsReached, bits_at, bits_taken, insn_at, is_32_bit_move}
-use Rattle.linker_elf.specs.Relocate.{is_supported, number_placed, places_cleared, value_at, window_len, with_bit_31_if}
-use Rattle.linker_elf.specs.Value.{value_of}
-use Rattle.linker_elf.specs.declared.elf.AllowedRange.{AllowedRange}
-use Rattle.linker_base.specs.declared.bit_misc.BitRange.{BitRange}
-use Rattle.linker_elf.specs.declared.elf.PageMask.{PageMask}
-use Rattle.linker_elf.specs.declared.elf.RelocationInstruction.{RelocationInstruction}
-use Rattle.linker_elf.specs.declared.elf.RelocationKind.{RelocationKind}
-use Rattle.linker_laws.proofs.Instructions.{row_of}
+use Rattle.std.proofs.Common.{◌≡◌, ℕ, ◌+◌, ◌-◌, ◌^◌, ◌<◌, ◌≤◌, Bool, true, false, refl, sym, ◌∙◌, ap, subst, arith, drop, None, Some, ◌*◌, List, [], ◌∷◌, lit<, lit≤, pos, inl, inr}
+use Rattle.linker_laws.proofs.Imports.{◌==◌, ◌⊎◌, IsSomeAnd, if◌then◌else◌, from_le_bytes, w64, cond-false, ints, Operands, IsAdd64, IsLdr64}
+use Rattle.linker_base.specs.Form.{place_sum}
 use Rattle.linker_elf.specs.declared.aarch64.relocations.AArch64Relocation.TheVariants as names
-use Rattle.linker_elf.specs.declared.elf.value.Operands.{Operands}
 use Rattle.linker_elf.specs.declared.aarch64.relocations.AArch64Relocation.{AArch64Relocation}
 use Rattle.linker_laws.specs.AArch64Groups.{Code, Descriptor, Groups, Has, Stands, called, link, machine, seen}
-use Rattle.linker_laws.specs.AArch64GroupsWorked.{IsAddress, IsOffset, IsPassed, IsRun, IsWorked, code, entries, first_adr, is_entry}
-use Rattle.linker_laws.specs.AArch64GroupsWorked.{known, new_halves, new_load, new_moves, old_branches, old_descriptor, old_halves}
-use Rattle.linker_laws.specs.AArch64GroupsWorked.{old_load, old_sum, others, second_adr, starting, words}
+use Rattle.linker_laws.specs.AArch64GroupsWorked.{IsAddress, IsOffset, IsPassed, IsRun, IsWorked, code, entries, first_adr, is_entry, known, new_halves, new_load, new_moves, old_branches, old_descriptor, old_halves, old_load, old_sum, others, second_adr, starting, words}
 use Rattle.linker_laws.specs.AArch64Machine.{load_64}
 use Rattle.linker_laws.specs.AArch64RewriteLaws.{IsPair, IsRelocated, following, with_entry}
 use Rattle.linker_laws.specs.Changes.{ChangesOpen, go_to, put, with_register}
 use Rattle.linker_laws.specs.Machine.{loaded}
 use Rattle.linker_laws.specs.Schemes.{AreAddresses}
-use Rattle.linker_laws.specs.Simulation.{Agree, AreStored, Group, Kind, Kinds, Other, State, ends, group, half, of_link}
-use Rattle.linker_laws.specs.Simulation.{Covered, anything, other, run, same}
+use Rattle.linker_laws.specs.Simulation.{Agree, AreStored, Group, Kind, Kinds, Other, State, ends, group, half, of_link, Covered, anything, other, run, same}
 use Rattle.linker_laws.specs.SimulationWorked.{of_byte}
 use Rattle.linker_laws.proofs.Agreement.{agree_put}
 use Rattle.linker_laws.proofs.CoveredRuns.{holds_of}
-use Rattle.linker_utils.specs.AArch64Rewrites.{IsAdd64, IsLdr64}
-
--- ---- bits that are written, by computation
-
-abbrev is_written_at : List ImmediateBit → ℕ → ℕ → ℕ → Bool
-is_written_at [] v before after = true
-is_written_at (p ∷ ps) v before after =
-    (bit_at after p.insn_bit == placed_bit p.mark (bit_for p v) (bit_at before p.insn_bit))
-    && is_written_at ps v before after
-
-abbrev is_kept_below : ℕ → List ImmediateBit → ℕ → ℕ → Bool
-is_kept_below zero ps before after = true
-is_kept_below (suc n) ps before after =
-    (is_placed ps n || bit_at after n == bit_at before n) && is_kept_below n ps before after
-
-first_of_both : (a b : Bool) → (a && b) ≡ true → a ≡ true
-first_of_both true b e = refl
-first_of_both false b e = e
-
-second_of_both : (a b : Bool) → (a && b) ≡ true → b ≡ true
-second_of_both true b e = e
-second_of_both false b e = absurd (true≢false (sym e))
-
-other_of : (a b : Bool) → (a || b) ≡ true → a ≡ false → b ≡ true
-other_of true b e f = absurd (true≢false f)
-other_of false b e f = e
-
-written_at : (ps : List ImmediateBit) (v before after : ℕ) → is_written_at ps v before after ≡ true
-    → All (λ (p : ImmediateBit). bit_at after p.insn_bit
-    ≡ placed_bit p.mark (bit_for p v) (bit_at before p.insn_bit)) ps
-written_at [] v before after e = All-nil _
-written_at (p ∷ ps) v before after e =
-    All-cons (λ (p : ImmediateBit). bit_at after p.insn_bit
-    ≡ placed_bit p.mark (bit_for p v) (bit_at before p.insn_bit)) p ps
-    (eqb-true _ _ (first_of_both _ (is_written_at ps v before after) e))
-    (written_at ps v before after (second_of_both _ (is_written_at ps v before after) e))
-
-kept_below : (n : ℕ) (ps : List ImmediateBit) (before after : ℕ)
-    → is_kept_below n ps before after ≡ true → (w : ℕ) → w < n → is_placed ps w ≡ false
-    → bit_at after w ≡ bit_at before w
-kept_below zero ps before after e w below out = omega arith
-kept_below (suc n) ps before after e w below out =
-    by (w == n) refl
-    (kept_below n ps before after (second_of_both _ (is_kept_below n ps before after) e) w)
-  where
-    here : w ≡ n → bit_at after w ≡ bit_at before w
-    here is =
-        subst (λ w. bit_at after w ≡ bit_at before w) (sym is)
-        (eqb-true _ _ (other_of (is_placed ps n) (bit_at after n == bit_at before n)
-        (first_of_both _ (is_kept_below n ps before after) e)
-        (subst (λ w. is_placed ps w ≡ false) is out)))
-
-    by : (b : Bool) → (w == n) ≡ b
-        → (w < n → is_placed ps w ≡ false → bit_at after w ≡ bit_at before w)
-        → bit_at after w ≡ bit_at before w
-    by true is rest = here (eqb-true w n is)
-    by false is rest =
-        rest (smaller (λ equal. true≢false (sym (eq-eqb w n equal) ∙ is))) out
-      where
-        smaller : w ≢ n → w < n
-        smaller unlike = grind arith
-
-bits_written : (n : ℕ) (ps : List ImmediateBit) (v before after : ℕ)
-    → is_written_at ps v before after ≡ true → is_kept_below n ps before after ≡ true
-    → before < 2 ^ n → after < 2 ^ n → BitsWritten ps v before after
-bits_written n ps v before after placed kept small small' =
-    record {
-      placed = written_at ps v before after placed;
-      kept = λ w out. elim (lt_or_le w n) [
-        | inl below ↦ kept_below n ps before after kept w below out
-        | inr above ↦ bit_at_above after n w small' above ∙ sym (bit_at_above before n w small above)
-      ];
-    }
-  where
-    lt_or_le : (a b : ℕ) → (a < b) ⊎ (b ≤ a)
-    lt_or_le a b = by (leb b a) refl
-      where
-        by : (c : Bool) → leb b a ≡ c → (a < b) ⊎ (b ≤ a)
-        by true e = inr (leb-true b a e)
-        by false e = inl (leb-false b a e)
-
-abbrev bits_are_written : ℕ → List ImmediateBit → ℕ → ℕ → ℕ → Bool
-bits_are_written n ps v before after =
-    is_written_at ps v before after
-    && (is_kept_below n ps before after && (leb (suc before) (2 ^ n) && leb (suc after) (2 ^ n)))
-
-bits_by : (n : ℕ) (ps : List ImmediateBit) (v before after : ℕ)
-    → bits_are_written n ps v before after ≡ true → BitsWritten ps v before after
-bits_by n ps v before after e =
-    let placed = first_of_both (is_written_at ps v before after) _ e in
-    let more = second_of_both (is_written_at ps v before after) _ e in
-    let kept = first_of_both (is_kept_below n ps before after) _ more in
-    let small = second_of_both (is_kept_below n ps before after) _ more in
-    bits_written n ps v before after placed kept
-    (leb-true (suc before) (2 ^ n) (first_of_both (leb (suc before) (2 ^ n)) _ small))
-    (leb-true (suc after) (2 ^ n) (second_of_both (leb (suc before) (2 ^ n)) _ small))
-
-abbrev is_written_by : RelocationInstruction → BitRange → ℤ → ℕ → List ℕ → List ℕ → Bool
-is_written_by insn bits v clear before after =
-    let form = relocation_form insn in
-    let word = window_of form before in
-    let negative = int_lt v (pos 0) in
-    bits_are_written (8 * byte_len form.window) (places_cleared insn bits word) 0 word clear
-    && bits_are_written (8 * byte_len form.window) (form.places clear)
-    (form.number negative (number_placed insn word (bits_taken bits v))) (form.base negative clear)
-    (with_bit_31_if (is_32_bit_move insn word) (window_of form after))
-
-written_by : (insn : RelocationInstruction) (bits : BitRange) (v : ℤ) (clear : ℕ)
-    (before after : List ℕ) → is_written_by insn bits v clear before after ≡ true
-    → drop (byte_len (relocation_form insn).window) after
-    ≡ drop (byte_len (relocation_form insn).window) before
-    → InstructionWritten insn bits v before after
-written_by insn bits v clear before after e rest =
-    let form = relocation_form insn in
-    let word = window_of form before in
-    let cleared = bits_are_written (8 * byte_len form.window) (places_cleared insn bits word) 0 word clear in
-    record {
-      clear = clear;
-      clears = bits_by _ _ _ _ _ (first_of_both cleared _ e);
-      written = bits_by _ _ _ _ _ (second_of_both cleared _ e);
-      rest = rest;
-    }
+use Rattle.linker_laws.proofs.Relocated.{relocated}
 
 -- ---- relocations that are applied
-
-pub relocated : {kind : RelocationKind} {start end : ℕ} {insn : RelocationInstruction}
-    {mask : Option PageMask} {range : AllowedRange} {a : ℕ} {bias : Option ℕ}
-    {thunkable implicit : Bool} → (o : Operands) (before after : List ℕ) (v : ℤ) (clear : ℕ)
-    → let row = row_of kind start end insn mask range a bias thunkable implicit in
-    let word = window_of (relocation_form insn) before in
-    let bits : BitRange = record { start = start; end = end } in
-    value_of row o ≡ Some v → is_supported row ≡ true → window_len row ≤ length before
-    → IsMultiple row v before → IsReached row v before
-    → is_written_by (insn_at insn bits word) (bits_at insn kind bits word) (value_at insn kind v word)
-    clear before after ≡ true
-    → drop (byte_len (relocation_form (insn_at insn bits word)).window) after
-    ≡ drop (byte_len (relocation_form (insn_at insn bits word)).window) before
-    → IsApplied row o before after
-relocated o before after v clear is supported long aligned reached e rest =
-    record {
-      value = v;
-      value_is = is;
-      accepted = record {
-        supported = supported;
-        long = long;
-        aligned = aligned;
-        reached = reached;
-      };
-      written = written_by _ _ _ clear before after e rest;
-    }
 
 abbrev operands : ℕ → ℕ → ℕ → ℕ → Operands
 operands symbol place got_entry tls_base =

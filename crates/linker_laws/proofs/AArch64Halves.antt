@@ -1,48 +1,20 @@
 -- The halves of initial-exec, each by itself.
-use Rattle.std.proofs.Common.{◌≢◌, ◌≡◌, ℕ, ◌+◌, ◌-◌, ◌*◌, ◌/◌, ◌%◌, ◌^◌, ◌<◌, refl, sym}
-use Rattle.std.proofs.Common.{◌∙◌, ap, subst, arith, List, eqb, ℤ, pos, ◌+ℤ◌, ◌*ℤ◌, Some}
-use Rattle.std.specs.Prelude.{not, ◌&&◌, nat_lt}
-use Rattle.std.specs.Int.{w64, cast_signed, bit_at, int_rem_euclid}
-use Rattle.std.proofs.lemmas.Bool.{eq-eqb, ne_eqb, cond-false}
-use Rattle.std.proofs.lemmas.Int.{ints, int_rem_euclid_is}
-use Rattle.linker_base.specs.Bits.{field}
-use Rattle.linker_utils.specs.AArch64Rewrites.{IsAdrp, IsIntoOwnSource, IsLdr64, rd_of}
-use Rattle.linker_utils.specs.declared.aarch64.rewrites.RewriteKind.TheVariants.{MovkXn}
-use Rattle.linker_utils.specs.declared.aarch64.rewrites.RewriteKind.TheVariants.{MovzXnLsl16}
-use Rattle.linker_elf.specs.AArch64.{aarch64_form, shift_of}
-use Rattle.linker_elf.specs.Agrees.{bits_from}
-use Rattle.linker_elf.specs.Elf.{bit_bounds}
-use Rattle.linker_elf.specs.LoongArch.{page}
-use Rattle.linker_elf.specs.Relocate.{is_movk}
-use Rattle.linker_elf.specs.Value.{sum_64, difference_64}
-use Rattle.linker_elf.specs.declared.aarch64.forms.AArch64Instruction.TheVariants.{Adr, LdrRegister}
-use Rattle.linker_elf.specs.declared.aarch64.forms.AArch64Instruction.TheVariants.{LdSt, Movkz}
-use Rattle.linker_elf.specs.declared.aarch64.forms.AArch64Instruction.TheVariants.{Movnz}
+use Rattle.std.proofs.Common.{◌≢◌, ◌≡◌, ℕ, ◌+◌, ◌-◌, ◌*◌, ◌/◌, ◌%◌, ◌^◌, ◌<◌, refl, sym, ◌∙◌, ap, subst, arith, List, eqb, ℤ, pos, ◌+ℤ◌, ◌*ℤ◌, Some}
+use Rattle.linker_laws.proofs.Imports.{not, ◌&&◌, nat_lt, w64, cast_signed, bit_at, int_rem_euclid, eq-eqb, ne_eqb, cond-false, ints, int_rem_euclid_is, field, IsAdrp, IsIntoOwnSource, IsLdr64, rd_of, MovkXn, MovzXnLsl16, aarch64_form, shift_of, bits_from, bit_bounds, page, is_movk, sum_64, difference_64, Adr, LdrRegister, LdSt, Movkz, Movnz, AArch64, TpOff, Signed, Operands, plain_written, aarch64_rows}
 use Rattle.linker_elf.specs.declared.aarch64.relocations.AArch64Relocation.TheVariants as names
-use Rattle.linker_elf.specs.declared.elf.RelocationInstruction.TheVariants.{AArch64}
-use Rattle.linker_elf.specs.declared.elf.RelocationKind.TheVariants.{TpOff}
-use Rattle.linker_elf.specs.declared.elf.Sign.TheVariants.{Signed}
-use Rattle.linker_elf.specs.declared.elf.value.Operands.{Operands}
-use Rattle.linker_elf.proofs.Relocated.{plain_written}
-use Rattle.linker_elf.proofs.RowsAgree.{aarch64_rows}
 use Rattle.linker_laws.specs.AArch64RelocationLaws.{movk, movn_or_movz}
 use Rattle.linker_laws.specs.Schemes.{AreAddresses, symbol_address, tls_base}
-use Rattle.linker_laws.proofs.Instructions.{reads_bits, field_sum, relative}
-use Rattle.linker_laws.proofs.Instructions.{symbol_from_tls, unbiased}
+use Rattle.linker_laws.proofs.Instructions.{reads_bits, field_sum, relative, symbol_from_tls, unbiased}
 use Rattle.linker_laws.proofs.AArch64WideMoves.{movn_first}
 use Rattle.linker_laws.proofs.AArch64Pages.{offset_reads, IsUnsigned}
-use Rattle.linker_laws.proofs.Sums.{sum_below, difference_below, page_halves_sum, taken_off}
-use Rattle.linker_laws.proofs.Sums.{cast_is, euclid, lift, lifted_is}
+use Rattle.linker_laws.proofs.Sums.{sum_below, difference_below, page_halves_sum, taken_off, cast_is, euclid, lift, lifted_is}
 use Rattle.linker_laws.specs.AArch64RewriteLaws.{word_of, thread_offset, IsRelocated}
 use Rattle.linker_laws.specs.AArch64RewriteLaws as aarch64_laws
-use Rattle.linker_laws.specs.AArch64Machine.{State, step, in_64_bits, moved, with_moved, read_x}
-use Rattle.linker_laws.specs.AArch64Machine.{loaded, load_64}
+use Rattle.linker_laws.specs.AArch64Machine.{State, step, in_64_bits, moved, with_moved, read_x, loaded, load_64}
 use Rattle.linker_laws.proofs.AArch64Moves.{movk_lifted, movz_is_no_movk}
 use Rattle.linker_laws.proofs.AArch64Pairs.{word_made}
-use Rattle.linker_laws.proofs.AArch64Steps.{set, step_adrp, step_ldr, step_move, step_movk}
-use Rattle.linker_laws.proofs.AArch64Steps.{address_is}
-use Rattle.linker_laws.proofs.AArch64Words.{adrp_after, decodes_adrp, ldr_of_register_after}
-use Rattle.linker_laws.proofs.AArch64Words.{movnz_after, movk_after}
+use Rattle.linker_laws.proofs.AArch64Steps.{set, step_adrp, step_ldr, step_move, step_movk, address_is}
+use Rattle.linker_laws.proofs.AArch64Words.{adrp_after, decodes_adrp, ldr_of_register_after, movnz_after, movk_after}
 
 -- ---- the high half
 

@@ -1,21 +1,7 @@
 -- The moves of an offset from the thread pointer.
-use Rattle.std.proofs.Common.{◌≡◌, ◌≢◌, ℕ, ◌+◌, ◌-◌, ◌*◌, ◌%◌, ◌^◌, ◌<◌, refl, sym, ◌∙◌, ap, subst}
-use Rattle.std.proofs.Common.{arith, List, eqb, ℤ, pos, ◌+ℤ◌, ◌*ℤ◌, ◌-ℤ◌, Some, unsigned_abs}
-use Rattle.std.specs.Prelude.{◌&&◌, not, nat_lt, false}
-use Rattle.linker_base.specs.Bits.{field}
-use Rattle.linker_elf.specs.Relocate.{is_movk}
-use Rattle.linker_elf.specs.declared.elf.RelocationInstruction.TheVariants.{AArch64}
-use Rattle.linker_elf.specs.declared.elf.RelocationKind.TheVariants.{TpOff}
-use Rattle.linker_elf.proofs.Relocated.{plain_written}
-use Rattle.std.specs.Int.{bit_at, int_rem_euclid}
-use Rattle.std.proofs.lemmas.Bool.{eq-eqb, ne_eqb, cond-false}
-use Rattle.std.proofs.lemmas.Int.{ints, int_rem_euclid_is}
-use Rattle.linker_elf.specs.AArch64.{aarch64_form, shift_of}
-use Rattle.linker_utils.specs.AArch64Rewrites.{rd_of}
-use Rattle.linker_elf.specs.Value.{sum_64, difference_64}
-use Rattle.linker_elf.specs.declared.aarch64.forms.AArch64Instruction.TheVariants.{Movkz, Movnz}
+use Rattle.std.proofs.Common.{◌≡◌, ◌≢◌, ℕ, ◌+◌, ◌-◌, ◌*◌, ◌%◌, ◌^◌, ◌<◌, refl, sym, ◌∙◌, ap, subst, arith, List, eqb, ℤ, pos, ◌+ℤ◌, ◌*ℤ◌, ◌-ℤ◌, Some, unsigned_abs}
+use Rattle.linker_laws.proofs.Imports.{◌&&◌, not, nat_lt, false, field, is_movk, AArch64, TpOff, plain_written, bit_at, int_rem_euclid, eq-eqb, ne_eqb, cond-false, ints, int_rem_euclid_is, aarch64_form, shift_of, rd_of, sum_64, difference_64, Movkz, Movnz, Operands}
 use Rattle.linker_elf.specs.declared.aarch64.relocations.AArch64Relocation.TheVariants as names
-use Rattle.linker_elf.specs.declared.elf.value.Operands.{Operands}
 use Rattle.linker_laws.specs.AArch64RelocationLaws.{movk, movn_or_movz}
 use Rattle.linker_laws.specs.AArch64RelocationLaws as relocation_laws
 use Rattle.linker_laws.specs.Schemes.{IsAddress, AreAddresses, symbol_address}

@@ -1,14 +1,6 @@
 -- Where `adr` reaches an address, its page is near.
 use Rattle.std.proofs.Common.{◌≡◌, ℕ, ◌^◌, ◌<◌, ◌≤◌, ◌-◌, ◌⊎◌, inl, inr, sym, ◌∙◌, ap, subst, arith, ℤ, pos, ◌+ℤ◌, Some}
-use Rattle.std.specs.Int.{w64, cast_signed}
-use Rattle.std.proofs.lemmas.Bool.{cases_lt}
-use Rattle.std.proofs.lemmas.Int.{ints, to_z_pos}
-use Rattle.linker_base.proofs.Bits.{cast_negative}
-use Rattle.linker_elf.specs.Elf.{IsWithin, bit_bounds}
-use Rattle.linker_elf.specs.LoongArch.{page}
-use Rattle.linker_elf.specs.Value.{difference_64, sum_64}
-use Rattle.linker_elf.specs.declared.elf.Sign.TheVariants.{Signed}
-use Rattle.linker_elf.specs.declared.elf.value.Operands.{Operands}
+use Rattle.linker_laws.proofs.Imports.{w64, cast_signed, cases_lt, ints, to_z_pos, cast_negative, IsWithin, bit_bounds, page, difference_64, sum_64, Signed, Operands}
 use Rattle.linker_laws.proofs.Sums.{difference_below, sum_below}
 use Rattle.linker_laws.specs.AArch64RewriteLaws.{following}
 use Rattle.linker_laws.specs.Schemes.{AreAddresses, symbol_address}

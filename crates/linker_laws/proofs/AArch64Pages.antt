@@ -1,32 +1,13 @@
 -- Pages and offsets in them, of AArch64.
-use Rattle.std.proofs.Common.{◌≡◌, ℕ, ◌+◌, ◌-◌, ◌*◌, ◌/◌, ◌%◌, ◌^◌, ◌<◌, ◌≤◌, Bool, true, refl, sym}
-use Rattle.std.proofs.Common.{◌∙◌, ap, subst}
-use Rattle.std.proofs.Common.{arith, List, ℤ, pos, ◌+ℤ◌, ◌*ℤ◌, Option, Some, None}
-use Rattle.std.specs.Int.{w64, cast_signed}
-use Rattle.std.proofs.lemmas.Nat.{mod_below, pow_pos, pow-add}
+use Rattle.std.proofs.Common.{◌≡◌, ℕ, ◌+◌, ◌-◌, ◌*◌, ◌/◌, ◌%◌, ◌^◌, ◌<◌, ◌≤◌, Bool, true, refl, sym, ◌∙◌, ap, subst, arith, List, ℤ, pos, ◌+ℤ◌, ◌*ℤ◌, Option, Some, None}
+use Rattle.linker_laws.proofs.Imports.{w64, cast_signed, mod_below, pow_pos, pow-add, field, window_of, is_sound_layout, low_of, high_of, aarch64_form, aarch64_layout, IsWithin, page, reach_of, value_of, sum_64, difference_64, AArch64Instruction, Adr, Add, AllowedRange, PageMask, AArch64, RelocationKind, RelocationKindInfo, Operands, IsApplied}
 use Rattle.std.proofs.Math.Arith.{mod-mul}
-use Rattle.linker_base.specs.Bits.{field}
-use Rattle.linker_base.specs.Form.{window_of, place_sum}
-use Rattle.linker_base.proofs.Immediates.{is_sound_layout, low_of, high_of, subst_below}
-use Rattle.linker_elf.specs.AArch64.{aarch64_form, aarch64_layout}
-use Rattle.linker_elf.specs.Elf.{IsWithin}
-use Rattle.linker_elf.specs.LoongArch.{page}
-use Rattle.linker_elf.specs.Reach.{reach_of}
+use Rattle.linker_base.specs.Form.{place_sum}
+use Rattle.linker_base.proofs.Immediates.{subst_below}
 use Rattle.linker_elf.specs.Rows.{Bounds}
-use Rattle.linker_elf.specs.Value.{value_of, sum_64, difference_64}
-use Rattle.linker_elf.specs.declared.aarch64.forms.AArch64Instruction.{AArch64Instruction}
-use Rattle.linker_elf.specs.declared.aarch64.forms.AArch64Instruction.TheVariants.{Adr, Add}
-use Rattle.linker_elf.specs.declared.elf.AllowedRange.{AllowedRange}
-use Rattle.linker_elf.specs.declared.elf.PageMask.{PageMask}
-use Rattle.linker_elf.specs.declared.elf.RelocationInstruction.TheVariants.{AArch64}
-use Rattle.linker_elf.specs.declared.elf.RelocationKind.{RelocationKind}
-use Rattle.linker_elf.specs.declared.elf.RelocationKindInfo.{RelocationKindInfo}
-use Rattle.linker_elf.specs.declared.elf.value.Operands.{Operands}
 use Rattle.linker_laws.specs.AArch64RelocationLaws.{got_page}
-use Rattle.linker_elf.specs.Applied.{IsApplied}
 use Rattle.linker_laws.specs.Schemes.{IsAddress, AreAddresses}
-use Rattle.linker_laws.proofs.Instructions.{IsNumber, IsSmall, absolute, row_of, is_read}
-use Rattle.linker_laws.proofs.Instructions.{reads_bits, field_sum, multiple}
+use Rattle.linker_laws.proofs.Instructions.{IsNumber, IsSmall, absolute, row_of, is_read, reads_bits, field_sum, multiple}
 use Rattle.linker_laws.proofs.Applied.{sound_written}
 use Rattle.linker_laws.proofs.Sums.{halves_sum, page_halves_sum, sum_below, difference_below}
 

@@ -1,21 +1,12 @@
 -- `adrp` with an instruction that has the offset in the page.
-use Rattle.std.proofs.Common.{◌≡◌, ◌≢◌, ℕ, ◌^◌, ◌<◌, sym, ◌∙◌, ap, List, pos, ◌*ℤ◌, ◌+ℤ◌, Some}
-use Rattle.std.proofs.Common.{take, drop, [], ◌∷◌, ◌+◌, ◌*◌, refl, arith}
-use Rattle.std.specs.Int.{w32, from_le_bytes, to_le_bytes, w64}
-use Rattle.std.proofs.lemmas.Nat.{from_le_bytes-to_le_bytes_4}
-use Rattle.linker_elf.specs.AArch64.{aarch64_form}
-use Rattle.linker_utils.specs.AArch64Rewrites.{nop, rn_of}
-use Rattle.linker_elf.specs.LoongArch.{page}
-use Rattle.linker_elf.specs.declared.aarch64.forms.AArch64Instruction.TheVariants.{Adr, Add, LdSt}
-use Rattle.linker_elf.specs.declared.elf.value.Operands.{Operands}
+use Rattle.std.proofs.Common.{◌≡◌, ◌≢◌, ℕ, ◌^◌, ◌<◌, sym, ◌∙◌, ap, List, pos, ◌*ℤ◌, ◌+ℤ◌, Some, take, drop, [], ◌∷◌, ◌+◌, ◌*◌, refl, arith}
+use Rattle.linker_laws.proofs.Imports.{w32, from_le_bytes, to_le_bytes, w64, from_le_bytes-to_le_bytes_4, aarch64_form, nop, rn_of, page, Adr, Add, LdSt, Operands}
 use Rattle.linker_laws.specs.AArch64RelocationLaws.{page_and_offset}
 use Rattle.linker_laws.specs.Schemes.{IsAddress}
 use Rattle.linker_laws.proofs.Sums.{once}
 use Rattle.linker_laws.specs.AArch64RewriteLaws.{word_of}
-use Rattle.linker_laws.specs.AArch64Machine.{State, step, in_64_bits, load_64, adrp_address}
-use Rattle.linker_laws.specs.AArch64Machine.{loaded, added, add, ldr, adr_address}
-use Rattle.linker_laws.proofs.AArch64Steps.{set, step_adrp, step_ldr, step_add, in_two_steps}
-use Rattle.linker_laws.proofs.AArch64Steps.{loaded_from, address_is, read_back}
+use Rattle.linker_laws.specs.AArch64Machine.{State, step, in_64_bits, load_64, adrp_address, loaded, added, add, ldr, adr_address}
+use Rattle.linker_laws.proofs.AArch64Steps.{set, step_adrp, step_ldr, step_add, in_two_steps, loaded_from, address_is, read_back}
 use Rattle.linker_laws.proofs.AArch64Words.{IsAdrOf, IsInstructionOf, decodes_adrp}
 
 -- ---- words of bytes

@@ -1,21 +1,9 @@
 -- Steps of AArch64's instructions.
-use Rattle.std.proofs.Common.{◌≡◌, ◌≢◌, ℕ, ◌+◌, ◌%◌, ◌^◌, sym, ◌∙◌, ap}
-use Rattle.std.proofs.Common.{arith, List, [], ◌∷◌, eqb, ℤ, pos, ◌+ℤ◌, ◌*ℤ◌, Some}
-use Rattle.std.proofs.Common.{None, unsigned_abs}
-use Rattle.std.proofs.lemmas.Bool.{eq-eqb, ne_eqb, cond-true, cond-false}
-use Rattle.std.proofs.lemmas.Int.{ints}
-use Rattle.linker_utils.specs.AArch64Rewrites.{rd_of, rn_of}
-use Rattle.linker_elf.specs.AArch64.{aarch64_form}
-use Rattle.linker_elf.specs.declared.aarch64.forms.AArch64Instruction.TheVariants.{JumpCall, LdSt}
-use Rattle.linker_elf.specs.declared.elf.value.Operands.{Operands}
+use Rattle.std.proofs.Common.{◌≡◌, ◌≢◌, ℕ, ◌+◌, ◌%◌, ◌^◌, sym, ◌∙◌, ap, arith, List, [], ◌∷◌, eqb, ℤ, pos, ◌+ℤ◌, ◌*ℤ◌, Some, None, unsigned_abs}
+use Rattle.linker_laws.proofs.Imports.{eq-eqb, ne_eqb, cond-true, cond-false, ints, rd_of, rn_of, aarch64_form, JumpCall, LdSt, Operands}
 use Rattle.linker_laws.specs.Schemes.{IsAddress, plt_address}
 use Rattle.linker_laws.proofs.Sums.{lift, lifted_is}
-use Rattle.linker_laws.specs.AArch64Machine.{State, step, run, decode, in_64_bits, write_x}
-use Rattle.linker_laws.specs.AArch64Machine.{write_x_or_sp, go_on, next_pc, continue, execute}
-use Rattle.linker_laws.specs.AArch64Machine.{adrp, adr, add, ldr}
-use Rattle.linker_laws.specs.AArch64Machine.{adrp_address, adr_address, added, loaded, load_64}
-use Rattle.linker_laws.specs.AArch64Machine.{movn_or_movz, movk_64, moved, with_moved, blr}
-use Rattle.linker_laws.specs.AArch64Machine.{branch_target, go_to, read_x}
+use Rattle.linker_laws.specs.AArch64Machine.{State, step, run, decode, in_64_bits, write_x, write_x_or_sp, go_on, next_pc, continue, execute, adrp, adr, add, ldr, adrp_address, adr_address, added, loaded, load_64, movn_or_movz, movk_64, moved, with_moved, blr, branch_target, go_to, read_x}
 
 -- ---- sums
 

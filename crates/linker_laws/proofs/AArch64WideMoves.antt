@@ -1,34 +1,13 @@
 -- Moves of 16 bits of AArch64.
-use Rattle.std.proofs.Common.{◌≡◌, ℕ, ◌+◌, ◌-◌, ◌*◌, ◌/◌, ◌%◌, ◌^◌, ◌<◌, ◌≤◌, Bool, true, false, refl, sym, ◌∙◌, ap, subst}
-use Rattle.std.proofs.Common.{arith, List, ℤ, pos, negsuc, ◌+ℤ◌, ◌-ℤ◌, ◌*ℤ◌, Option, Some, None, suc, unsigned_abs}
-use Rattle.std.proofs.Common.{eqb, ltb, not, true, false, Bool}
-use Rattle.std.specs.Prelude.{◌==◌, ◌&&◌}
-use Rattle.std.specs.Int.{w32, w64, bit_at, cast_signed, from_le_bytes, int_rem_euclid}
-use Rattle.std.proofs.lemmas.Bool.{and_parts, eqb-true}
-use Rattle.std.proofs.lemmas.Int.{ints, int_rem_euclid_is}
-use Rattle.std.proofs.lemmas.Nat.{mod_below, pow_pos, pow-add, div-mul-add, div-add-mod'}
+use Rattle.std.proofs.Common.{◌≡◌, ℕ, ◌+◌, ◌-◌, ◌*◌, ◌/◌, ◌%◌, ◌^◌, ◌<◌, ◌≤◌, Bool, true, false, refl, sym, ◌∙◌, ap, subst, arith, List, ℤ, pos, negsuc, ◌+ℤ◌, ◌-ℤ◌, ◌*ℤ◌, Option, Some, None, suc, unsigned_abs, eqb, ltb, not, true, false, Bool}
+use Rattle.linker_laws.proofs.Imports.{◌==◌, ◌&&◌, w32, w64, bit_at, cast_signed, from_le_bytes, int_rem_euclid, and_parts, eqb-true, ints, int_rem_euclid_is, mod_below, pow_pos, pow-add, div-add-mod', field, BitRange, aarch64_form, shift_of, bits_from, AgreesInReach, IsWithin, reach_of, is_movk, stays_movk, value_of, sum_64, Movkz, Movnz, AllowedRange, PageMask, AArch64, RelocationKind, RelocationKindInfo, Operands, taken_is_field, IsApplied}
+use Rattle.std.proofs.lemmas.Nat.{div-mul-add}
 use Rattle.std.proofs.Math.Nat.{mul-add-mod_self_right}
-use Rattle.linker_base.specs.Bits.{field}
 use Rattle.linker_base.specs.Form.{IsSameModulo}
-use Rattle.linker_base.specs.declared.bit_misc.BitRange.{BitRange}
-use Rattle.linker_elf.specs.AArch64.{aarch64_form, shift_of}
-use Rattle.linker_elf.specs.Agrees.{bits_from, AgreesInReach, IsSameIn, aarch64_reads}
-use Rattle.linker_elf.specs.Elf.{IsWithin}
-use Rattle.linker_elf.specs.Reach.{reach_of}
-use Rattle.linker_elf.specs.Relocate.{MoveReads, is_movk, stays_movk}
-use Rattle.linker_elf.specs.Value.{value_of, sum_64}
-use Rattle.linker_elf.specs.declared.aarch64.forms.AArch64Instruction.TheVariants.{Movkz, Movnz}
-use Rattle.linker_elf.specs.declared.elf.AllowedRange.{AllowedRange}
-use Rattle.linker_elf.specs.declared.elf.PageMask.{PageMask}
-use Rattle.linker_elf.specs.declared.elf.RelocationInstruction.TheVariants.{AArch64}
-use Rattle.linker_elf.specs.declared.elf.RelocationKind.{RelocationKind}
-use Rattle.linker_elf.specs.declared.elf.RelocationKindInfo.{RelocationKindInfo}
-use Rattle.linker_elf.specs.declared.elf.value.Operands.{Operands}
-use Rattle.linker_elf.proofs.Taken.{taken_is_field}
+use Rattle.linker_elf.specs.Agrees.{IsSameIn, aarch64_reads}
+use Rattle.linker_elf.specs.Relocate.{MoveReads}
 use Rattle.linker_laws.specs.AArch64RelocationLaws.{movk, movz, movn_or_movz}
-use Rattle.linker_elf.specs.Applied.{IsApplied}
-use Rattle.linker_laws.specs.Schemes.{IsAddress, AreAddresses, Premise, PremiseHolds}
-use Rattle.linker_laws.specs.Schemes.{of_words, none, number_at}
+use Rattle.linker_laws.specs.Schemes.{IsAddress, AreAddresses, Premise, PremiseHolds, of_words, none, number_at}
 use Rattle.linker_laws.proofs.Applied.{value_is, reads, taken_bits}
 use Rattle.linker_laws.proofs.Instructions.{IsNumber, row_of, is_read, reads_bits, field_sum}
 use Rattle.linker_laws.proofs.Sums.{halves_sum, lift, lifted_is, euclid, small_cast}

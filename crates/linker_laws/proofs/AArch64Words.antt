@@ -1,32 +1,14 @@
 -- Words of AArch64 to which a relocation was applied, and which instructions they are.
-use Rattle.std.proofs.Common.{◌≡◌, ◌≢◌, ℕ, ◌+◌, ◌-◌, ◌/◌, ◌^◌, ◌<◌, ◌≤◌, Bool, true, false, refl}
-use Rattle.std.proofs.Common.{sym, ◌∙◌, ap, subst, arith, List, [], ◌∷◌, ◌++◌, ltb, leb, eqb, inl}
-use Rattle.std.proofs.Common.{inr, min, ◌%◌}
-use Rattle.std.specs.Prelude.{◌&&◌, ◌||◌, bit_and, ℤ, pos, int_lt, ◌*◌}
-use Rattle.std.specs.Int.{bit_at, w32, from_le_bytes}
-use Rattle.std.proofs.lemmas.Bool.{and_parts, or_cases, ltb-true, leb-true, ne_eqb, cond-true}
-use Rattle.std.proofs.lemmas.Bool.{cond-false, or_from, eq-eqb, eqb-true}
+use Rattle.std.proofs.Common.{◌≡◌, ◌≢◌, ℕ, ◌+◌, ◌-◌, ◌/◌, ◌^◌, ◌<◌, ◌≤◌, Bool, true, false, refl, sym, ◌∙◌, ap, subst, arith, List, [], ◌∷◌, ◌++◌, ltb, leb, eqb, inl, inr, min, ◌%◌}
+use Rattle.linker_laws.proofs.Imports.{◌&&◌, ◌||◌, bit_and, bit_at, w32, from_le_bytes, and_parts, or_cases, ltb-true, leb-true, ne_eqb, cond-true, cond-false, eq-eqb, eqb-true, field, ImmediateBit, is_placed, BitsWritten, BitRange, same_fields, rd_of, rn_of, shift_of, IsAdrp, IsLdr64, InstructionWritten, ored_cleared, bits_taken, with_bit_31_if, Adr, Add, LdSt, LdrRegister, Movnz, Movkz, JumpCall, AArch64, high_kept, same_window}
+use Rattle.std.specs.Prelude.{ℤ, pos, int_lt, ◌*◌}
+use Rattle.std.proofs.lemmas.Bool.{or_from}
 use Rattle.std.proofs.lemmas.Nat.Bits.{bit_at_and, bit_at-lt, bit_at_ones}
-use Rattle.linker_base.specs.Bits.{field}
-use Rattle.linker_base.specs.Form.{ImmediateBit, is_placed, BitsWritten, or_bits_to}
-use Rattle.linker_base.specs.declared.bit_misc.BitRange.{BitRange}
-use Rattle.linker_base.proofs.Fields.{same_fields, bit_at_run}
-use Rattle.linker_utils.specs.AArch64Rewrites.{rd_of, rn_of}
-use Rattle.linker_elf.specs.AArch64.{movn_opcode, movz_opcode, movk_opcode}
-use Rattle.linker_elf.specs.AArch64.{imm16_places, move_opcode, moved_bits, shift_of}
-use Rattle.linker_utils.specs.AArch64Rewrites.{IsAdrp, IsLdr64}
+use Rattle.linker_base.specs.Form.{or_bits_to}
+use Rattle.linker_base.proofs.Fields.{bit_at_run}
+use Rattle.linker_elf.specs.AArch64.{movn_opcode, movz_opcode, movk_opcode, imm16_places, move_opcode, moved_bits}
 use Rattle.linker_elf.specs.Inner.Runs.{words_below}
-use Rattle.linker_elf.specs.Relocate.{InstructionWritten, ored_cleared, bits_taken}
-use Rattle.linker_elf.specs.Relocate.{with_bit_31_if}
-use Rattle.linker_elf.specs.declared.aarch64.forms.AArch64Instruction.TheVariants.{Adr, Add, LdSt}
-use Rattle.linker_elf.specs.declared.aarch64.forms.AArch64Instruction.TheVariants.{LdrRegister}
-use Rattle.linker_elf.specs.declared.aarch64.forms.AArch64Instruction.TheVariants.{Movnz, Movkz}
-use Rattle.linker_elf.specs.declared.aarch64.forms.AArch64Instruction.TheVariants.{JumpCall}
-use Rattle.linker_elf.specs.declared.elf.RelocationInstruction.TheVariants.{AArch64}
-use Rattle.linker_elf.proofs.AArch64Forms.{high_kept}
-use Rattle.linker_elf.proofs.Clearing.{same_window}
-use Rattle.linker_laws.specs.AArch64Machine.{decode, is_adr, adrp, adr, add, ldr, Instruction}
-use Rattle.linker_laws.specs.AArch64Machine.{movn_or_movz, movk_64, blr, bl, b}
+use Rattle.linker_laws.specs.AArch64Machine.{decode, is_adr, adrp, adr, add, ldr, Instruction, movn_or_movz, movk_64, blr, bl, b}
 
 -- ---- what a write keeps
 

@@ -1,10 +1,8 @@
 -- States that agree, after a register is written, and at other addresses.
-use Rattle.std.proofs.Common.{◌≡◌, ℕ, suc, ◌-◌, ◌^◌, ◌<◌, Bool, true, false, refl, sym, ◌∙◌, ap, subst, eqb-true}
-use Rattle.std.proofs.Common.{Some, arith, inl, inr}
+use Rattle.std.proofs.Common.{◌≡◌, ℕ, suc, ◌-◌, ◌^◌, ◌<◌, Bool, true, false, refl, sym, ◌∙◌, ap, subst, eqb-true, Some, arith, inl, inr}
 use Rattle.std.specs.Prelude.{if◌then◌else◌, ◌==◌, ◌⊎◌}
 use Rattle.linker_laws.specs.Machine.{loaded}
-use Rattle.linker_laws.specs.Simulation.{State, Link, Kind, Kinds, AreOf, AreStored, Agree, Group, anything}
-use Rattle.linker_laws.specs.Simulation.{of_link, run, same}
+use Rattle.linker_laws.specs.Simulation.{State, Link, Kind, Kinds, AreOf, AreStored, Agree, Group, anything, of_link, run, same}
 use Rattle.linker_laws.specs.Changes.{ChangesOpen, put, go_to, with_register}
 use Rattle.linker_laws.proofs.CoveredRuns.{holds_of}
 

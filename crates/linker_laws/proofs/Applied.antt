@@ -1,48 +1,15 @@
 -- What the machine reads of an instruction to which a relocation was applied.
-use Rattle.std.proofs.Common.{false}
-use Rattle.linker_elf.specs.AArch64.{aarch64_layout}
-use Rattle.std.proofs.Common.{FitsSigned, ◌≡◌, ℕ, ◌-◌, ◌%◌, ◌^◌, ◌<◌, ◌≤◌, true, refl, sym}
-use Rattle.std.proofs.Common.{◌∙◌, ap, subst, arith, List, ℤ, pos, Option, Some, None, int_lt}
-use Rattle.std.proofs.Common.{unsigned_abs, Bool, eqb}
-use Rattle.std.proofs.lemmas.Bool.{eqb-true}
-use Rattle.std.specs.Int.{w64, cast_signed, cast_unsigned, int_rem_euclid}
-use Rattle.std.proofs.lemmas.Int.{of_z-to_z}
-use Rattle.linker_base.specs.Bits.{field, signed}
-use Rattle.linker_base.specs.Form.{place_sum, window_of, Written, IsClear}
-use Rattle.linker_base.specs.Form.{BitsWritten}
-use Rattle.linker_base.specs.declared.bit_misc.BitRange.{BitRange}
-use Rattle.linker_base.proofs.Immediates.{is_sound_layout, layout_laid, low_of, high_of}
-use Rattle.linker_base.proofs.Immediates.{always_clear}
-use Rattle.linker_elf.specs.AArch64.{aarch64_form}
-use Rattle.linker_elf.specs.Agrees.{bits_from, AgreesInReach}
-use Rattle.linker_elf.specs.Elf.{IsWithin, relocation_form, relocation_layout}
-use Rattle.linker_elf.specs.LoongArch.{loongarch_form}
-use Rattle.linker_elf.specs.Ppc64.{ppc64_form}
-use Rattle.linker_elf.specs.Reach.{reach_of}
-use Rattle.linker_elf.specs.Relocate.{InstructionWritten, SizeReads, SizeHolds, bits_taken}
-use Rattle.linker_elf.specs.Relocate.{IsAligned, IsInUnits, ppc64_reads, places_cleared}
-use Rattle.linker_elf.specs.Relocate.{IsWritten, stays_movk, is_low_jump}
-use Rattle.linker_elf.specs.declared.elf.RelocationKind.{RelocationKind}
-use Rattle.linker_elf.specs.RiscV.{riscv_form}
-use Rattle.linker_elf.specs.Value.{value_of}
-use Rattle.linker_elf.specs.declared.aarch64.forms.AArch64Instruction.{AArch64Instruction}
-use Rattle.linker_elf.specs.declared.aarch64.forms.AArch64Instruction.TheVariants.{Movnz, MachOLow12}
-use Rattle.linker_elf.specs.declared.loongarch64.forms.LoongArch64Instruction.TheVariants.{Shift10}
-use Rattle.linker_elf.specs.declared.ppc64.forms.Ppc64Instruction.TheVariants.{D, Ds}
-use Rattle.linker_elf.specs.declared.elf.RelocationInstruction.{RelocationInstruction}
-use Rattle.linker_elf.specs.declared.elf.RelocationInstruction.TheVariants.{AArch64, RiscV, Ppc64}
-use Rattle.linker_elf.specs.declared.elf.RelocationInstruction.TheVariants.{LoongArch64}
-use Rattle.linker_elf.specs.declared.elf.RelocationKindInfo.{RelocationKindInfo}
-use Rattle.linker_elf.specs.declared.elf.RelocationSize.TheVariants.{BitMasking}
-use Rattle.linker_elf.specs.declared.riscv64.forms.RiscVInstruction.TheVariants.{UiType}
-use Rattle.linker_elf.specs.declared.elf.value.Operands.{Operands}
-use Rattle.linker_elf.proofs.Agreement.{layout_check, layout_agrees}
+use Rattle.std.proofs.Common.{false, FitsSigned, ◌≡◌, ℕ, ◌-◌, ◌%◌, ◌^◌, ◌<◌, ◌≤◌, true, refl, sym, ◌∙◌, ap, subst, arith, List, ℤ, pos, Option, Some, None, int_lt, unsigned_abs, Bool, eqb}
+use Rattle.linker_laws.proofs.Imports.{aarch64_layout, eqb-true, w64, cast_signed, cast_unsigned, int_rem_euclid, of_z-to_z, field, signed, window_of, BitsWritten, BitRange, is_sound_layout, layout_laid, low_of, high_of, always_clear, aarch64_form, bits_from, AgreesInReach, IsWithin, relocation_form, relocation_layout, loongarch_form, ppc64_form, reach_of, InstructionWritten, SizeHolds, bits_taken, IsAligned, ppc64_reads, places_cleared, IsWritten, stays_movk, is_low_jump, RelocationKind, riscv_form, value_of, AArch64Instruction, Movnz, Shift10, D, Ds, RelocationInstruction, AArch64, RiscV, Ppc64, LoongArch64, RelocationKindInfo, BitMasking, UiType, Operands, layout_check, taken_is_field, taken_below, IsApplied}
+use Rattle.linker_base.specs.Form.{place_sum, Written, IsClear}
+use Rattle.linker_elf.specs.Relocate.{SizeReads, IsInUnits}
+use Rattle.linker_elf.specs.declared.aarch64.forms.AArch64Instruction.TheVariants.{MachOLow12}
+use Rattle.linker_elf.proofs.Agreement.{layout_agrees}
 use Rattle.linker_elf.proofs.Clearing.{clear_after}
 use Rattle.linker_elf.proofs.Halves.{row_holds}
 use Rattle.linker_elf.proofs.Relocated.{row_reads_in_reach, plain_written as rows_written}
 use Rattle.linker_elf.proofs.Placed.{reads_as}
-use Rattle.linker_elf.proofs.Taken.{taken_is_field, taken_below, taken_in_units}
-use Rattle.linker_elf.specs.Applied.{IsApplied}
+use Rattle.linker_elf.proofs.Taken.{taken_in_units}
 use Rattle.linker_laws.proofs.Sums.{small_cast, cast_low}
 
 abbrev number_or_zero : Option ℤ → ℤ

@@ -1,14 +1,9 @@
 -- The worked chain.
-use Rattle.std.proofs.Common.{◌≡◌, ◌≢◌, ℕ, ◌+◌, ◌-◌, ◌^◌, ◌<◌, ◌≤◌, Bool, true, false, refl, true≢false}
-use Rattle.std.proofs.Common.{Some, arith, ap, ap₂, sym, ◌∙◌, subst, lit<, leb-true}
-use Rattle.std.proofs.lemmas.Bool.{ne_eqb, cond-false, eq-eqb}
-use Rattle.std.specs.Prelude.{IsSomeAnd, if◌then◌else◌, ◌==◌, nat_le}
-use Rattle.linker_laws.specs.Simulation.{State, Link, Kinds, AreStored, Agree, run, same}
-use Rattle.linker_laws.specs.Simulation.{half, anything, Other, Group, Covered, ends, other, group, of_link}
+use Rattle.std.proofs.Common.{◌≡◌, ◌≢◌, ℕ, ◌+◌, ◌-◌, ◌^◌, ◌<◌, ◌≤◌, Bool, true, false, refl, true≢false, Some, arith, ap, ap₂, sym, ◌∙◌, subst, lit<, leb-true}
+use Rattle.linker_laws.proofs.Imports.{ne_eqb, cond-false, eq-eqb, IsSomeAnd, if◌then◌else◌, ◌==◌, nat_le}
+use Rattle.linker_laws.specs.Simulation.{State, Link, Kinds, AreStored, Agree, run, same, half, anything, Other, Group, Covered, ends, other, group, of_link}
 use Rattle.linker_laws.specs.Changes.{put, go_to, with_register}
-use Rattle.linker_laws.specs.SimulationWorked.{machine, put_out, with_byte}
-use Rattle.linker_laws.specs.SimulationWorked.{of_byte, rewritten, packed, chain, all_same, with_entry}
-use Rattle.linker_laws.specs.SimulationWorked.{IsChainWorked}
+use Rattle.linker_laws.specs.SimulationWorked.{machine, put_out, with_byte, of_byte, rewritten, packed, chain, all_same, with_entry, IsChainWorked}
 use Rattle.linker_laws.specs.Chains.{of_chain}
 use Rattle.linker_laws.proofs.CoveredRuns.{once, run_first, same_value, composes}
 use Rattle.linker_laws.proofs.Agreement.{agree_put, agree_put_old}

@@ -1,12 +1,7 @@
 -- Covered runs are followed, and comparisons compose.
-use Rattle.std.proofs.Common.{◌≡◌, ℕ, zero, suc, ◌+◌, ◌*◌, ◌^◌, ◌<◌, ◌≤◌, sym, ◌∙◌, ap, subst, refl}
-use Rattle.std.proofs.Common.{Option, Some, None, arith, zero-add, suc-add, le_refl, subst₂, inl, inr, add_assoc}
-use Rattle.std.proofs.Common.{add-one, true≢false, pred, ◌-◌, suc-le-suc}
+use Rattle.std.proofs.Common.{◌≡◌, ℕ, zero, suc, ◌+◌, ◌*◌, ◌^◌, ◌<◌, ◌≤◌, sym, ◌∙◌, ap, subst, refl, Option, Some, None, arith, zero-add, suc-add, le_refl, subst₂, inl, inr, add_assoc, add-one, true≢false, pred, ◌-◌, suc-le-suc}
 use Rattle.std.specs.Prelude.{◌⊎◌, IsSomeAnd, option_and_then, is_some, true, IsSome, unwrap_or, false}
-use Rattle.linker_laws.specs.Simulation.{State, Program, Comparison, run, Covered, ends, other, group}
-use Rattle.linker_laws.specs.Simulation.{Stops, IsRun, Follows, StopsToo, GoesOnToo}
-use Rattle.linker_laws.specs.Simulation.{Simulates, CoversRuns, Following, IsCovered, Next, by_other}
-use Rattle.linker_laws.specs.Simulation.{by_group, stopping, uncovered}
+use Rattle.linker_laws.specs.Simulation.{State, Program, Comparison, run, Covered, ends, other, group, Stops, IsRun, Follows, StopsToo, GoesOnToo, Simulates, CoversRuns, Following, IsCovered, Next, by_other, by_group, stopping, uncovered}
 use Rattle.linker_laws.specs.Chains.{both, Compose}
 
 -- ---- what an option holds

@@ -1,29 +1,9 @@
 -- What two relocations of one place leave there.
-use Rattle.std.proofs.Common.{◌≡◌, ℕ, zero, suc, ◌+◌, ◌-◌, ◌*◌, ◌%◌, ◌^◌, ◌<◌, ◌≤◌, Bool}
-use Rattle.std.proofs.Common.{refl, sym, ◌∙◌, ap, arith, List, inl, inr, pos, negsuc}
-use Rattle.std.proofs.Common.{◌+ℤ◌, ◌-ℤ◌, Option, Some, unsigned_abs}
-use Rattle.std.specs.Int.{w64, cast_signed, cast_unsigned, int_rem_euclid}
-use Rattle.std.proofs.lemmas.Bool.{cases_lt}
-use Rattle.std.proofs.lemmas.Int.{ints, to_z_pos}
-use Rattle.linker_base.specs.Bits.{field}
-use Rattle.linker_elf.specs.Relocate.{number_of_bytes, SizeNumber}
-use Rattle.linker_elf.specs.Value.{value_of, sum_64, difference_64}
-use Rattle.linker_elf.specs.declared.elf.AllowedRange.{AllowedRange}
-use Rattle.linker_elf.specs.declared.elf.PageMask.{PageMask}
-use Rattle.linker_elf.specs.declared.elf.RelocationKind.TheVariants.{AbsoluteSet}
-use Rattle.linker_elf.specs.declared.elf.RelocationKind.TheVariants.{AbsoluteSetWord6}
-use Rattle.linker_elf.specs.declared.elf.RelocationKind.TheVariants.{AbsoluteAddition}
-use Rattle.linker_elf.specs.declared.elf.RelocationKind.TheVariants.{AbsoluteAdditionWord6}
-use Rattle.linker_elf.specs.declared.elf.RelocationKind.TheVariants.{AbsoluteSubtraction}
-use Rattle.linker_elf.specs.declared.elf.RelocationKind.TheVariants.{AbsoluteSubtractionWord6}
-use Rattle.linker_elf.specs.declared.elf.RelocationSize.TheVariants.{ByteSize}
-use Rattle.linker_elf.specs.declared.elf.value.Operands.{Operands}
-use Rattle.linker_elf.proofs.Agreement.{rem_rem}
-use Rattle.linker_base.proofs.Bits.{cast_negative}
-use Rattle.linker_elf.proofs.WrittenNumbers.{row_number}
+use Rattle.std.proofs.Common.{◌≡◌, ℕ, zero, suc, ◌+◌, ◌-◌, ◌*◌, ◌%◌, ◌^◌, ◌<◌, ◌≤◌, Bool, refl, sym, ◌∙◌, ap, arith, List, inl, inr, pos, negsuc, ◌+ℤ◌, ◌-ℤ◌, Option, Some, unsigned_abs}
+use Rattle.linker_laws.proofs.Imports.{w64, cast_signed, cast_unsigned, int_rem_euclid, cases_lt, ints, to_z_pos, field, number_of_bytes, SizeNumber, value_of, sum_64, difference_64, AllowedRange, PageMask, ByteSize, Operands, rem_rem, cast_negative, row_number, IsApplied}
+use Rattle.linker_elf.specs.declared.elf.RelocationKind.TheVariants.{AbsoluteSet, AbsoluteSetWord6, AbsoluteAddition, AbsoluteAdditionWord6, AbsoluteSubtraction, AbsoluteSubtractionWord6}
 use Rattle.linker_base.proofs.Fields.{mod_mod}
 use Rattle.linker_laws.specs.Differences.{distance}
-use Rattle.linker_elf.specs.Applied.{IsApplied}
 use Rattle.linker_laws.specs.Schemes.{IsAddress, symbol_address}
 use Rattle.linker_laws.proofs.Applied.{fits, value_is}
 use Rattle.linker_laws.proofs.Fields.{bytes_of}

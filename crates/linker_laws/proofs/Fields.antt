@@ -1,24 +1,10 @@
 -- The law of a field of whole bytes.
-use Rattle.std.proofs.Common.{◌≡◌, ℕ, zero, suc, ◌+◌, ◌*◌, ◌%◌, ◌^◌, ◌<◌, Bool, true, sym}
-use Rattle.std.proofs.Common.{◌∙◌, ap, subst, arith, List, ℤ, pos, ◌+ℤ◌, ◌*ℤ◌, Option, Some, None}
-use Rattle.std.proofs.Common.{unsigned_abs}
-use Rattle.std.specs.Int.{w64, cast_signed, int_rem_euclid}
+use Rattle.std.proofs.Common.{◌≡◌, ℕ, zero, suc, ◌+◌, ◌*◌, ◌%◌, ◌^◌, ◌<◌, Bool, true, sym, ◌∙◌, ap, subst, arith, List, ℤ, pos, ◌+ℤ◌, ◌*ℤ◌, Option, Some, None, unsigned_abs}
+use Rattle.linker_laws.proofs.Imports.{w64, cast_signed, int_rem_euclid, bits_from, IsWithin, reach_of, number_of_bytes, SizeNumber, value_of, AllowedRange, PageMask, RelocationKind, RelocationKindInfo, ByteSize, Operands, rem_below, row_number, IsApplied}
 use Rattle.std.proofs.Math.Nat.{mod-eq_of_lt}
 use Rattle.linker_base.specs.Form.{Sign, number_of}
-use Rattle.linker_elf.specs.Agrees.{bits_from}
-use Rattle.linker_elf.specs.Elf.{IsWithin}
-use Rattle.linker_elf.specs.Reach.{reach_of}
-use Rattle.linker_elf.specs.Relocate.{number_of_bytes, whole_number, SizeNumber}
-use Rattle.linker_elf.specs.Value.{value_of}
-use Rattle.linker_elf.specs.declared.elf.AllowedRange.{AllowedRange}
-use Rattle.linker_elf.specs.declared.elf.PageMask.{PageMask}
-use Rattle.linker_elf.specs.declared.elf.RelocationKind.{RelocationKind}
-use Rattle.linker_elf.specs.declared.elf.RelocationKindInfo.{RelocationKindInfo}
-use Rattle.linker_elf.specs.declared.elf.RelocationSize.TheVariants.{ByteSize}
-use Rattle.linker_elf.specs.declared.elf.value.Operands.{Operands}
-use Rattle.linker_elf.proofs.Agreement.{number_agrees, reaches, from_zero, rem_below}
-use Rattle.linker_elf.proofs.WrittenNumbers.{row_number}
-use Rattle.linker_elf.specs.Applied.{IsApplied}
+use Rattle.linker_elf.specs.Relocate.{whole_number}
+use Rattle.linker_elf.proofs.Agreement.{number_agrees, reaches, from_zero}
 use Rattle.linker_laws.specs.Schemes.{IsAddress, AreAddresses}
 use Rattle.linker_laws.proofs.Applied.{fits, value_is}
 use Rattle.linker_laws.proofs.Instructions.{IsNumber}

@@ -1,35 +1,10 @@
 -- The law of one instruction, over all rows of one field.
-use Rattle.std.proofs.Common.{◌≡◌, ℕ, ◌-◌, ◌%◌, ◌^◌, ◌<◌, ◌≤◌, ◌&&◌, Bool, true}
-use Rattle.std.proofs.Common.{sym, ◌∙◌, ap, subst, arith, List, ℤ, pos, ◌+ℤ◌, ◌*ℤ◌, Option, Some}
-use Rattle.std.proofs.Common.{None}
-use Rattle.std.proofs.Common.{ltb, leb, eqb, ◌||◌, inl, inr}
-use Rattle.std.specs.Int.{w64, cast_signed, cast_unsigned}
-use Rattle.std.proofs.lemmas.Bool.{and_parts, or_cases, ltb-true, leb-true, eqb-true}
-use Rattle.linker_base.specs.Bits.{field}
-use Rattle.linker_base.specs.Form.{window_of, place_sum}
-use Rattle.linker_base.specs.declared.bit_misc.BitRange.{BitRange}
-use Rattle.linker_base.proofs.Immediates.{is_sound_layout, low_of, high_of}
-use Rattle.linker_elf.specs.Agrees.{bits_from}
-use Rattle.linker_elf.specs.Elf.{IsWithin, relocation_form, relocation_layout}
-use Rattle.linker_elf.specs.Reach.{reach_of}
-use Rattle.linker_elf.specs.Relocate.{IsAligned}
-use Rattle.linker_elf.specs.Value.{value_of, sum_64, difference_64}
-use Rattle.linker_elf.specs.declared.elf.AllowedRange.{AllowedRange}
-use Rattle.linker_elf.specs.declared.elf.PageMask.{PageMask}
-use Rattle.linker_elf.specs.declared.elf.RelocationInstruction.{RelocationInstruction}
-use Rattle.linker_elf.specs.declared.elf.RelocationKind.{RelocationKind}
-use Rattle.linker_elf.specs.declared.elf.RelocationKindInfo.{RelocationKindInfo}
-use Rattle.linker_elf.specs.declared.elf.RelocationSize.TheVariants.{BitMasking}
-use Rattle.linker_elf.specs.declared.elf.value.Operands.{Operands}
-use Rattle.linker_elf.proofs.Agreement.{layout_check}
-use Rattle.linker_elf.specs.Applied.{IsApplied}
-use Rattle.linker_laws.specs.Schemes.{IsAddress, AreAddresses}
-use Rattle.linker_laws.specs.Schemes.{symbol_address, plt_address, entry_and_addend}
-use Rattle.linker_laws.specs.Schemes.{entry_address}
-use Rattle.linker_laws.specs.Schemes.{place, got_base, tls_base, zero, size_and_addend}
+use Rattle.std.proofs.Common.{◌≡◌, ℕ, ◌-◌, ◌%◌, ◌^◌, ◌<◌, ◌≤◌, ◌&&◌, Bool, true, sym, ◌∙◌, ap, subst, arith, List, ℤ, pos, ◌+ℤ◌, ◌*ℤ◌, Option, Some, None, ltb, leb, eqb, ◌||◌, inl, inr}
+use Rattle.linker_laws.proofs.Imports.{w64, cast_signed, cast_unsigned, and_parts, or_cases, ltb-true, leb-true, eqb-true, field, window_of, BitRange, is_sound_layout, low_of, high_of, bits_from, IsWithin, relocation_form, relocation_layout, reach_of, IsAligned, value_of, sum_64, difference_64, AllowedRange, PageMask, RelocationInstruction, RelocationKind, RelocationKindInfo, BitMasking, Operands, layout_check, IsApplied}
+use Rattle.linker_base.specs.Form.{place_sum}
+use Rattle.linker_laws.specs.Schemes.{IsAddress, AreAddresses, symbol_address, plt_address, entry_and_addend, entry_address, place, got_base, tls_base, zero, size_and_addend}
 use Rattle.linker_laws.proofs.Applied.{insn_reads, is_plain, begins, fits, value_is, reads_within, aligned_low, stands, taken_bits, sound_written}
-use Rattle.linker_laws.proofs.Sums.{Leads, difference_leads, itself_leads, sum_below}
-use Rattle.linker_laws.proofs.Sums.{difference_below, multiple_part}
+use Rattle.linker_laws.proofs.Sums.{Leads, difference_leads, itself_leads, sum_below, difference_below, multiple_part}
 
 -- ---- what values lead to
 

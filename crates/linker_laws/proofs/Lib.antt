@@ -17,6 +17,7 @@ pub mod ChainWorked
 pub mod CoveredRuns
 pub mod Differences
 pub mod Fields
+pub mod Imports
 pub mod Instructions
 pub mod LoongArchAddresses
 pub mod LoongArchCalls
@@ -42,6 +43,7 @@ pub mod Ppc64Prefixed
 pub mod Ppc64PrefixedThreads
 pub mod Ppc64Quarters
 pub mod Ppc64Words
+pub mod Relocated
 pub mod RiscV
 pub mod RiscVAccesses
 pub mod RiscVDescriptors

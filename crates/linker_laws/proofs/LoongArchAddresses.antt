@@ -1,46 +1,16 @@
 -- Addresses of LoongArch in parts.
-use Rattle.linker_laws.proofs.Sums.{high_sum}
-use Rattle.linker_laws.specs.Schemes.{without_low}
-use Rattle.std.proofs.Common.{◌≡◌, ℕ, ◌+◌, ◌-◌, ◌*◌, ◌/◌, ◌%◌, ◌^◌, ◌<◌, Bool, refl, sym, ◌∙◌, ap}
-use Rattle.std.proofs.Common.{subst, true, false}
-use Rattle.std.proofs.Common.{arith, List, ℤ, pos, ◌+ℤ◌, ◌-ℤ◌, ◌*ℤ◌, inl, inr, Option, Some, None}
-use Rattle.std.specs.Int.{w64, cast_signed, int_rem_euclid}
-use Rattle.std.proofs.lemmas.Int.{ints, int_rem_euclid_is}
-use Rattle.std.proofs.lemmas.Nat.{mod_below, pow_pos}
-use Rattle.linker_base.specs.Bits.{field, signed}
-use Rattle.linker_base.specs.Form.{window_of, place_sum, replaced}
-use Rattle.linker_base.proofs.ConsecutiveBits.{consecutive_bits_sum}
-use Rattle.linker_base.proofs.Pairs.{signed_cases}
-use Rattle.linker_elf.specs.Agrees.{bits_from}
-use Rattle.linker_elf.specs.Elf.{IsWithin, bit_bounds}
-use Rattle.linker_elf.specs.LoongArch.{loongarch_form, page, pcalau12i, high_distance}
-use Rattle.linker_elf.specs.LoongArch.{upper_and_lower_value, reach}
-use Rattle.linker_elf.specs.Value.{value_of, sum_64, difference_64}
-use Rattle.linker_elf.specs.declared.elf.AllowedRange.{AllowedRange}
-use Rattle.linker_elf.specs.declared.elf.PageMask.{PageMask}
-use Rattle.linker_elf.specs.declared.loongarch64.forms.LoongArch64Instruction.TheVariants.{Shift5, Shift10}
-use Rattle.linker_elf.specs.declared.loongarch64.forms.LoongArch64Instruction.TheVariants.{Call36}
-use Rattle.linker_elf.specs.declared.elf.RelocationInstruction.TheVariants.{LoongArch64}
-use Rattle.linker_elf.specs.declared.elf.RelocationKind.{RelocationKind}
-use Rattle.linker_elf.specs.declared.elf.Sign.TheVariants.{Signed}
-use Rattle.linker_elf.specs.declared.elf.value.Operands.{Operands}
-use Rattle.linker_elf.proofs.LoongArch.{shift5_places, shift10_low_sum, shift10_low_field}
-use Rattle.linker_elf.proofs.LoongArchAddresses.{page_and_distance, made, first_of_five}
-use Rattle.linker_elf.proofs.LoongArchAddresses.{high_of_five, five_from}
+use Rattle.linker_laws.proofs.Sums.{high_sum, halves_sum, page_halves_sum, signed_12, sum_below, goes, difference_below, once}
+use Rattle.linker_laws.specs.Schemes.{without_low, IsAddress, AreAddresses, place, Premise, PremiseHolds, none, of_words}
+use Rattle.std.proofs.Common.{◌≡◌, ℕ, ◌+◌, ◌-◌, ◌*◌, ◌/◌, ◌%◌, ◌^◌, ◌<◌, Bool, refl, sym, ◌∙◌, ap, subst, true, false, arith, List, ℤ, pos, ◌+ℤ◌, ◌-ℤ◌, ◌*ℤ◌, inl, inr, Option, Some, None}
+use Rattle.linker_laws.proofs.Imports.{w64, cast_signed, int_rem_euclid, ints, int_rem_euclid_is, mod_below, pow_pos, field, signed, window_of, replaced, consecutive_bits_sum, signed_cases, bits_from, IsWithin, bit_bounds, loongarch_form, page, pcalau12i, reach, value_of, sum_64, difference_64, AllowedRange, PageMask, Shift5, Shift10, Call36, LoongArch64, RelocationKind, Signed, Operands, shift5_places, page_and_distance, IsApplied, plain_written, AgreesInReach, is_jirl, is_low_jump, taken_below}
+use Rattle.linker_base.specs.Form.{place_sum}
+use Rattle.linker_elf.specs.LoongArch.{high_distance, upper_and_lower_value}
+use Rattle.linker_elf.proofs.LoongArch.{shift10_low_sum, shift10_low_field}
+use Rattle.linker_elf.proofs.LoongArchAddresses.{made, first_of_five, high_of_five, five_from}
 use Rattle.linker_laws.specs.LoongArchRelocationLaws.{upper_and_or, four}
-use Rattle.linker_elf.specs.Applied.{IsApplied}
-use Rattle.linker_laws.specs.Schemes.{IsAddress, AreAddresses, place, Premise}
-use Rattle.linker_laws.specs.Schemes.{PremiseHolds, none, of_words}
 use Rattle.linker_laws.proofs.Applied.{holds, reads, value_is, taken_bits}
-use Rattle.linker_elf.proofs.Relocated.{plain_written}
-use Rattle.linker_elf.specs.Agrees.{AgreesInReach}
-use Rattle.linker_elf.specs.Relocate.{is_jirl, is_low_jump}
-use Rattle.linker_elf.proofs.Taken.{taken_below}
 use Rattle.linker_laws.proofs.Rounded.{IsRounded}
-use Rattle.linker_laws.proofs.Instructions.{IsNumber, IsSmall, absolute, row_of}
-use Rattle.linker_laws.proofs.Instructions.{reads_bits, field_sum, unbiased}
-use Rattle.linker_laws.proofs.Sums.{halves_sum, page_halves_sum, signed_12, sum_below, goes}
-use Rattle.linker_laws.proofs.Sums.{difference_below, once}
+use Rattle.linker_laws.proofs.Instructions.{IsNumber, IsSmall, absolute, row_of, reads_bits, field_sum, unbiased}
 
 -- ---- the immediates
 

@@ -1,21 +1,9 @@
 -- Calls of LoongArch, by two instructions and by one.
 use Rattle.std.proofs.Common.{◌≡◌, ◌≢◌, ℕ, ◌/◌, ◌^◌, ◌<◌, refl, ◌∙◌, ap, arith, List, ◌++◌, drop, ℤ, pos, ◌+ℤ◌, ◌*ℤ◌, eqb, if◌then◌else◌}
-use Rattle.std.specs.Int.{w64, from_le_bytes}
-use Rattle.std.proofs.lemmas.Bool.{ne_eqb, cond-true, cond-false}
-use Rattle.std.proofs.lemmas.Int.{ints}
-use Rattle.std.proofs.lemmas.List.{length-drop}
-use Rattle.std.proofs.lemmas.List.Elements.{All-drop}
-use Rattle.linker_base.specs.Bits.{field, signed}
-use Rattle.linker_base.specs.Form.{bits_to}
-use Rattle.linker_elf.specs.LoongArch.{call36_high, call36_low, reach}
-use Rattle.linker_utils.specs.LoongArchRewrites.{IsCall, adds_low12}
-use Rattle.linker_elf.specs.LoongArchRelocations.{loongarch_row}
+use Rattle.linker_laws.proofs.Imports.{w64, from_le_bytes, ne_eqb, cond-true, cond-false, ints, length-drop, All-drop, field, signed, bits_to, reach, IsCall, adds_low12, loongarch_row, rj_of, InstructionWritten, ored_cleared, LoongArch64, Operands, Branch26, Call36}
+use Rattle.linker_elf.specs.LoongArch.{call36_high, call36_low}
 use Rattle.linker_elf.specs.declared.loongarch64.relocations.LoongArch64Relocation.TheVariants as names
-use Rattle.linker_utils.specs.LoongArchRewrites.{rd_of, rj_of}
-use Rattle.linker_elf.specs.Relocate.{InstructionWritten, ored_cleared}
-use Rattle.linker_elf.specs.declared.elf.RelocationInstruction.TheVariants.{LoongArch64}
-use Rattle.linker_elf.specs.declared.elf.value.Operands.{Operands}
-use Rattle.linker_elf.specs.declared.loongarch64.forms.LoongArch64Instruction.TheVariants.{Branch26, Call36}
+use Rattle.linker_utils.specs.LoongArchRewrites.{rd_of}
 use Rattle.linker_laws.specs.Schemes.{IsAddress, plt_address}
 use Rattle.linker_laws.specs.LoongArchRewriteLaws.{word_of, pair}
 use Rattle.linker_laws.specs.LoongArchMachine.{State, decode, far_address, register_target, pcaddu_18, jirl, b, bl}

@@ -1,27 +1,12 @@
 -- LoongArch's groups.
-use Rattle.std.proofs.Common.{◌≡◌, ◌≢◌, ℕ, suc, ◌+◌, ◌-◌, ◌*◌, ◌/◌, ◌^◌, ◌<◌, Bool, true, false, refl, sym, ◌∙◌, ap, ap₂}
-use Rattle.std.proofs.Common.{subst, arith, List, drop, Some, pos, ◌+ℤ◌, ◌*ℤ◌, inl, inr, not, ℤ, w64}
-use Rattle.std.specs.Prelude.{◌==◌, ◌&&◌, if◌then◌else◌, nat_lt, IsSomeAnd}
-use Rattle.std.specs.Int.{cast_signed}
-use Rattle.std.proofs.lemmas.Bool.{cond-true, cond-false, cases_lt, eq-eqb, lt-ltb, le-ltb, ne_eqb}
-use Rattle.std.proofs.lemmas.Nat.{or_shifted}
-use Rattle.linker_base.specs.Bits.{field, signed}
-use Rattle.linker_elf.specs.Choices.{RowIsWithin, ValueIsWithin}
-use Rattle.linker_elf.specs.Elf.{IsWithin}
-use Rattle.linker_elf.specs.LoongArch.{loongarch_form, page, pcalau12i}
-use Rattle.linker_elf.specs.LoongArchRelocations.{loongarch_row}
-use Rattle.linker_elf.specs.Relocate.{InstructionWritten}
-use Rattle.linker_elf.specs.Value.{difference_64, sum_64}
-use Rattle.linker_elf.specs.declared.elf.RelocationInstruction.TheVariants.{LoongArch64}
-use Rattle.linker_elf.specs.declared.elf.value.Operands.{Operands}
-use Rattle.linker_elf.specs.declared.loongarch64.forms.LoongArch64Instruction.TheVariants.{Branch26, Shift5}
+use Rattle.std.proofs.Common.{◌≡◌, ◌≢◌, ℕ, suc, ◌+◌, ◌-◌, ◌*◌, ◌/◌, ◌^◌, ◌<◌, Bool, true, false, refl, sym, ◌∙◌, ap, ap₂, subst, arith, List, drop, Some, pos, ◌+ℤ◌, ◌*ℤ◌, inl, inr, not, ℤ, w64}
+use Rattle.linker_laws.proofs.Imports.{◌==◌, ◌&&◌, if◌then◌else◌, nat_lt, IsSomeAnd, cast_signed, cond-true, cond-false, cases_lt, eq-eqb, lt-ltb, le-ltb, ne_eqb, or_shifted, field, signed, RowIsWithin, IsWithin, loongarch_form, page, pcalau12i, loongarch_row, InstructionWritten, difference_64, sum_64, LoongArch64, Operands, Branch26, Shift5, IsCall, IsLowOfDescriptor, rj_of, signed_12, signed_32}
+use Rattle.linker_elf.specs.Choices.{ValueIsWithin}
 use Rattle.linker_elf.specs.declared.loongarch64.relocations.LoongArch64Relocation.{LoongArch64Relocation}
 use Rattle.linker_elf.specs.declared.loongarch64.relocations.LoongArch64Relocation.TheVariants as names
 use Rattle.linker_laws.specs.Changes.{ChangesOpen, go_to, put, with_register}
 use Rattle.linker_laws.specs.LoongArchGroups as groups
-use Rattle.linker_laws.specs.LoongArchGroups.{AreBefore, AreDeleted, Code, HighHalf, IsFollowed, LowHalfIf}
-use Rattle.linker_laws.specs.LoongArchGroups.{LowOfDescriptor, Processor, Stands, executed, left, link, machine, seen, uses}
-use Rattle.linker_laws.specs.LoongArchGroups.{put_unless_zero, register, with_unless_zero}
+use Rattle.linker_laws.specs.LoongArchGroups.{AreBefore, AreDeleted, Code, HighHalf, IsFollowed, LowHalfIf, LowOfDescriptor, Processor, Stands, executed, left, link, machine, seen, uses, put_unless_zero, register, with_unless_zero}
 use Rattle.linker_laws.specs.LoongArchMachine as loongarch_machine
 use Rattle.linker_laws.specs.LoongArchMachine.{action_of, added, branch_target, execute, far_address, read, register_target, step, used}
 use Rattle.linker_laws.specs.LoongArchRelocationLaws as relocation_laws
@@ -35,18 +20,15 @@ use Rattle.linker_laws.proofs.AArch64Steps.{address_is}
 use Rattle.linker_laws.proofs.Agreement.{agree_go, agree_open, agree_put, agree_put_old}
 use Rattle.linker_laws.proofs.CoveredRuns.{holds_of, run_first}
 use Rattle.linker_laws.proofs.Instructions.{relative}
-use Rattle.linker_laws.proofs.LoongArchCalls.{branch_after, call_is, decodes_b, decodes_bl, decodes_far, decodes_jirl}
-use Rattle.linker_laws.proofs.LoongArchCalls.{new_first, new_second, target_is}
-use Rattle.linker_laws.proofs.LoongArchHalves.{descriptor_low, high_made, high_step, load_bits, load_step, nop_step}
-use Rattle.linker_laws.proofs.LoongArchHalves.{offset_is, or_step, or_value, ori_bits, page_made, page_step, reached, whole}
-use Rattle.linker_laws.proofs.LoongArchHalves.{put as leaves}
+use Rattle.linker_laws.proofs.LoongArchCalls.{branch_after, call_is, decodes_b, decodes_bl, decodes_far, decodes_jirl, new_first, new_second, target_is}
+use Rattle.linker_laws.proofs.LoongArchHalves.{descriptor_low, high_made, high_step, load_bits, load_step, nop_step, offset_is, or_step, or_value, ori_bits, page_made, page_step, reached, whole, put as leaves}
 use Rattle.linker_laws.proofs.LoongArchOffsets.{decodes_add, no_high_part, offset_sum, step_action}
 use Rattle.linker_laws.proofs.LoongArchPairs.{adds, loads, low_written, nears, no_jirl, pcaddi_of, small_number}
 use Rattle.linker_laws.proofs.LoongArchSteps.{set}
 use Rattle.linker_laws.proofs.LoongArchWords.{IsHigh, IsLow, high_after, low_after, low12_is}
 use Rattle.linker_laws.proofs.RiscVGroups.{counts}
 use Rattle.linker_laws.proofs.Sums.{difference_below, sum_below}
-use Rattle.linker_utils.specs.LoongArchRewrites.{IsCall, IsCallOfDescriptor, IsLd, IsLoadOfDescriptor, IsLowOfDescriptor, IsPcalau12i, rd_of, rj_of, signed_12, signed_32, unsigned_12}
+use Rattle.linker_utils.specs.LoongArchRewrites.{IsCallOfDescriptor, IsLd, IsLoadOfDescriptor, IsPcalau12i, rd_of, unsigned_12}
 use Rattle.linker_utils.specs.declared.loongarch64.rewrites.RewriteKind.TheVariants as kinds
 
 -- ---- states

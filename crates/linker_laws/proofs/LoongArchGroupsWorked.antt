@@ -1,11 +1,7 @@
 -- The worked program of LoongArch.
-use Rattle.std.proofs.Common.{◌≡◌, ℕ, ◌+◌, ◌-◌, ◌^◌, ◌<◌, Bool, true, false, refl, sym, ◌∙◌, ap}
-use Rattle.std.proofs.Common.{arith, [], ◌∷◌, lit<, lit≤, pos, eqb-true, true≢false}
-use Rattle.std.specs.Prelude.{◌&&◌, ◌==◌, IsSomeAnd, nat_lt, min}
-use Rattle.std.proofs.lemmas.Bool.{cond-false, cond-true, ltb-true}
-use Rattle.std.proofs.lemmas.Int.{ints}
+use Rattle.std.proofs.Common.{◌≡◌, ℕ, ◌+◌, ◌-◌, ◌^◌, ◌<◌, Bool, true, false, refl, sym, ◌∙◌, ap, arith, [], ◌∷◌, lit<, lit≤, pos, eqb-true, true≢false}
+use Rattle.linker_laws.proofs.Imports.{◌&&◌, ◌==◌, IsSomeAnd, nat_lt, min, cond-false, cond-true, ltb-true, ints, Operands}
 use Rattle.linker_base.specs.Form.{place_sum}
-use Rattle.linker_elf.specs.declared.elf.value.Operands.{Operands}
 use Rattle.linker_elf.specs.declared.loongarch64.relocations.LoongArch64Relocation.TheVariants as names
 use Rattle.linker_laws.specs.Changes.{put, with_register}
 use Rattle.linker_laws.specs.LoongArchGroups.{Groups, NewHas, executed, link, machine, seen}
@@ -14,9 +10,8 @@ use Rattle.linker_laws.specs.LoongArchMachine.{step}
 use Rattle.linker_laws.specs.LoongArchRewriteLaws.{IsRelocated, following}
 use Rattle.linker_laws.specs.Machine.{loaded}
 use Rattle.linker_laws.specs.Schemes.{AreAddresses}
-use Rattle.linker_laws.specs.Simulation.{Agree, Group, Kinds, State, anything, ends, group, half, of_link}
-use Rattle.linker_laws.specs.Simulation.{run, same}
-use Rattle.linker_laws.proofs.AArch64GroupsWorked.{relocated}
+use Rattle.linker_laws.specs.Simulation.{Agree, Group, Kinds, State, anything, ends, group, half, of_link, run, same}
+use Rattle.linker_laws.proofs.Relocated.{relocated}
 
 -- ---- operands
 

@@ -1,29 +1,9 @@
 -- Instructions of initial-exec and of descriptors of LoongArch.
-use Rattle.std.proofs.Common.{◌≡◌, ℕ, ◌+◌, ◌*◌, ◌/◌, ◌%◌, ◌^◌, ◌<◌, Bool, refl, sym, ◌∙◌, ap, arith}
-use Rattle.std.proofs.Common.{List, ℤ, pos, ◌+ℤ◌, ◌-ℤ◌, ◌*ℤ◌, Option, Some}
-use Rattle.std.specs.Int.{w64, cast_signed, int_rem_euclid}
+use Rattle.std.proofs.Common.{◌≡◌, ℕ, ◌+◌, ◌*◌, ◌/◌, ◌%◌, ◌^◌, ◌<◌, Bool, refl, sym, ◌∙◌, ap, arith, List, ℤ, pos, ◌+ℤ◌, ◌-ℤ◌, ◌*ℤ◌, Option, Some}
+use Rattle.linker_laws.proofs.Imports.{w64, cast_signed, int_rem_euclid, ints, or_shifted, field, signed, replaced, consecutive_bits_sum, bits_from, IsWithin, bit_bounds, page, pcalau12i, value_of, sum_64, difference_64, AllowedRange, PageMask, LoongArch64, RelocationKind, Signed, Operands, Shift5, shift5_places, page_and_distance, IsLowOfDescriptor, IsApplied}
 use Rattle.std.specs.Int.RustNames.{bit_or}
-use Rattle.std.proofs.lemmas.Int.{ints}
-use Rattle.std.proofs.lemmas.Nat.{or_shifted}
-use Rattle.linker_base.specs.Bits.{field, signed}
-use Rattle.linker_base.specs.Form.{place_sum, replaced}
-use Rattle.linker_base.proofs.ConsecutiveBits.{consecutive_bits_sum}
-use Rattle.linker_elf.specs.Agrees.{bits_from}
-use Rattle.linker_elf.specs.Elf.{IsWithin, bit_bounds}
-use Rattle.linker_elf.specs.LoongArch.{page, pcalau12i}
-use Rattle.linker_elf.specs.Value.{value_of, sum_64, difference_64}
-use Rattle.linker_elf.specs.declared.elf.AllowedRange.{AllowedRange}
-use Rattle.linker_elf.specs.declared.elf.PageMask.{PageMask}
-use Rattle.linker_elf.specs.declared.elf.RelocationInstruction.TheVariants.{LoongArch64}
-use Rattle.linker_elf.specs.declared.elf.RelocationKind.{RelocationKind}
-use Rattle.linker_elf.specs.declared.elf.Sign.TheVariants.{Signed}
-use Rattle.linker_elf.specs.declared.elf.value.Operands.{Operands}
-use Rattle.linker_elf.specs.declared.loongarch64.forms.LoongArch64Instruction.TheVariants.{Shift5}
+use Rattle.linker_base.specs.Form.{place_sum}
 use Rattle.linker_elf.specs.declared.loongarch64.relocations.LoongArch64Relocation.TheVariants as names
-use Rattle.linker_elf.proofs.LoongArch.{shift5_places}
-use Rattle.linker_elf.proofs.LoongArchAddresses.{page_and_distance}
-use Rattle.linker_utils.specs.LoongArchRewrites.{IsLowOfDescriptor}
-use Rattle.linker_elf.specs.Applied.{IsApplied}
 use Rattle.linker_laws.specs.Schemes.{IsAddress, AreAddresses, symbol_address, entry_and_addend, tls_base}
 use Rattle.linker_laws.proofs.Applied.{value_is, taken_bits}
 use Rattle.linker_laws.proofs.Instructions.{row_of, reads_bits, relative, unbiased}

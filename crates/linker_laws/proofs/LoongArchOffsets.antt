@@ -1,26 +1,13 @@
 -- Instructions of an offset of 12 bits from the thread pointer.
-use Rattle.std.proofs.Common.{◌≡◌, ℕ, ◌+◌, ◌-◌, ◌/◌, ◌%◌, ◌^◌, ◌<◌, true, refl, sym, ◌∙◌, ap, subst, arith}
-use Rattle.std.proofs.Common.{List, eqb, ℤ, pos, ◌+ℤ◌, Some, inl, inr}
-use Rattle.std.specs.Int.{w64, cast_signed}
-use Rattle.std.proofs.lemmas.Bool.{cond-true, cond-false}
-use Rattle.std.proofs.lemmas.Int.{ints, to_z_pos}
-use Rattle.linker_base.specs.Bits.{field, signed}
-use Rattle.linker_elf.specs.Value.{sum_64, difference_64}
-use Rattle.linker_elf.specs.declared.elf.value.Operands.{Operands}
-use Rattle.linker_elf.specs.Choices.{RowIsWithin}
-use Rattle.linker_elf.specs.Elf.{IsWithin}
-use Rattle.linker_elf.specs.LoongArch.{page}
-use Rattle.linker_utils.specs.LoongArchRewrites.{signed_32, signed_12}
-use Rattle.linker_elf.specs.LoongArchRelocations.{loongarch_row}
+use Rattle.std.proofs.Common.{◌≡◌, ℕ, ◌+◌, ◌-◌, ◌/◌, ◌%◌, ◌^◌, ◌<◌, true, refl, sym, ◌∙◌, ap, subst, arith, List, eqb, ℤ, pos, ◌+ℤ◌, Some, inl, inr}
+use Rattle.linker_laws.proofs.Imports.{w64, cast_signed, cond-true, cond-false, ints, to_z_pos, field, signed, sum_64, difference_64, Operands, RowIsWithin, IsWithin, page, signed_32, signed_12, loongarch_row, adds_low12, rj_of}
 use Rattle.linker_elf.specs.declared.loongarch64.relocations.LoongArch64Relocation.TheVariants as names
-use Rattle.linker_utils.specs.LoongArchRewrites.{adds_low12}
-use Rattle.linker_utils.specs.LoongArchRewrites.{rd_of, rj_of}
+use Rattle.linker_utils.specs.LoongArchRewrites.{rd_of}
 use Rattle.linker_laws.specs.Schemes.{AreAddresses, symbol_address}
 use Rattle.linker_laws.proofs.Applied.{value_is, taken_bits}
 use Rattle.linker_laws.specs.LoongArchRewriteLaws.{word_of, thread_offset}
 use Rattle.linker_laws.specs.LoongArchRewriteLaws as laws
-use Rattle.linker_laws.specs.LoongArchMachine.{State, step, read, go_on, decode, execute, high_part, sum_of, add_d}
-use Rattle.linker_laws.specs.LoongArchMachine.{action_of, used}
+use Rattle.linker_laws.specs.LoongArchMachine.{State, step, read, go_on, decode, execute, high_part, sum_of, add_d, action_of, used}
 use Rattle.linker_laws.specs.Machine.{wrapped}
 use Rattle.linker_laws.proofs.LoongArchHalves.{high_made}
 use Rattle.linker_laws.proofs.LoongArchSteps.{written}

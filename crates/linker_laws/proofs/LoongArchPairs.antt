@@ -1,20 +1,9 @@
 -- Pairs of LoongArch's instructions, and `pcaddi`.
 use Rattle.std.proofs.Common.{◌≡◌, ◌≢◌, ℕ, ◌+◌, ◌/◌, ◌^◌, ◌<◌, refl, ◌∙◌, ap, subst, arith, [], ◌∷◌, pos, ◌+ℤ◌, ◌*ℤ◌, Some, ◌≤ℤ◌, ◌<ℤ◌, inl, inr, ℤ, List, eqb, false}
-use Rattle.std.specs.Int.{w64, cast_signed}
-use Rattle.std.proofs.lemmas.Bool.{cases_lt}
-use Rattle.std.proofs.lemmas.Int.{ints, to_z_pos}
-use Rattle.linker_base.specs.Bits.{field, signed}
-use Rattle.linker_elf.specs.LoongArch.{pcalau12i, loongarch_form}
-use Rattle.linker_utils.specs.LoongArchRewrites.{rd_of, rj_of}
-use Rattle.linker_elf.specs.Relocate.{is_jirl, IsWritten, InstructionWritten}
-use Rattle.linker_elf.specs.declared.elf.RelocationInstruction.TheVariants.{LoongArch64}
+use Rattle.linker_laws.proofs.Imports.{w64, cast_signed, cases_lt, ints, to_z_pos, field, signed, pcalau12i, loongarch_form, rj_of, is_jirl, IsWritten, InstructionWritten, LoongArch64, BitMasking, plain_written, Operands, Shift5, Shift10, cast_negative}
+use Rattle.linker_utils.specs.LoongArchRewrites.{rd_of}
 use Rattle.linker_elf.specs.declared.elf.RelocationKind.TheVariants.{AbsoluteLowPart}
-use Rattle.linker_elf.specs.declared.elf.RelocationSize.TheVariants.{BitMasking}
-use Rattle.linker_elf.proofs.Relocated.{plain_written}
-use Rattle.linker_elf.specs.declared.elf.value.Operands.{Operands}
-use Rattle.linker_elf.specs.declared.loongarch64.forms.LoongArch64Instruction.TheVariants.{Shift5, Shift10}
 use Rattle.linker_utils.specs.declared.loongarch64.rewrites.RewriteKind.TheVariants as kinds
-use Rattle.linker_base.proofs.Bits.{cast_negative}
 use Rattle.linker_laws.specs.Schemes.{IsAddress}
 use Rattle.linker_laws.specs.LoongArchRewriteLaws.{word_of}
 use Rattle.linker_laws.specs.LoongArchRewriteLaws as laws

@@ -1,11 +1,7 @@
 -- Steps of LoongArch's instructions.
-use Rattle.std.proofs.Common.{◌≡◌, ◌≢◌, ℕ, refl, sym, ◌∙◌, ap}
-use Rattle.std.proofs.Common.{subst, List, [], ◌∷◌, eqb, ℤ, pos, ◌+ℤ◌, Some}
-use Rattle.std.proofs.Common.{None}
-use Rattle.std.specs.Prelude.{IsSomeAnd}
-use Rattle.std.proofs.lemmas.Bool.{eq-eqb, ne_eqb, cond-true, cond-false}
-use Rattle.linker_base.specs.Bits.{field, signed}
-use Rattle.linker_utils.specs.LoongArchRewrites.{rd_of, rj_of}
+use Rattle.std.proofs.Common.{◌≡◌, ◌≢◌, ℕ, refl, sym, ◌∙◌, ap, subst, List, [], ◌∷◌, eqb, ℤ, pos, ◌+ℤ◌, Some, None}
+use Rattle.linker_laws.proofs.Imports.{IsSomeAnd, eq-eqb, ne_eqb, cond-true, cond-false, field, signed, rj_of}
+use Rattle.linker_utils.specs.LoongArchRewrites.{rd_of}
 use Rattle.linker_laws.specs.Machine.{wrapped, loaded}
 use Rattle.linker_laws.specs.LoongArchMachine.{State, step, run, decode, read, write, with_register, go_on, next_pc, continue, execute, EndSo, pcalau_12, pcadd_2, sums, adds, loads, page_address, near_address, sum_of}
 use Rattle.linker_laws.proofs.AArch64Steps.{in_two_steps}

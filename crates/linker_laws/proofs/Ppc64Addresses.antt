@@ -1,14 +1,6 @@
 -- PowerPC64: addresses from the TOC pointer.
-use Rattle.std.proofs.Common.{◌≡◌, ◌≢◌, ℕ, refl, sym, ◌∙◌, ap, true}
-use Rattle.std.proofs.Common.{cond, ◌-◌, ◌%◌}
-use Rattle.std.specs.Prelude.{◌&&◌, ◌||◌, ◌==◌, not}
-use Rattle.std.proofs.lemmas.Bool.{and_parts, eqb-true, false≢true}
-use Rattle.linker_base.specs.Bits.{field}
-use Rattle.linker_elf.specs.Ppc64.{ppc64_form}
-use Rattle.linker_utils.specs.Ppc64Rewrites.{is_ld, is_add_of_thread, is_over_thread}
-use Rattle.linker_utils.specs.Ppc64Rewrites.{opcode_of, rt_of, ra_of, rb_of}
-use Rattle.linker_elf.specs.Relocate.{ppc64_reads}
-use Rattle.linker_elf.specs.declared.ppc64.forms.Ppc64Instruction.TheVariants.{Ds}
+use Rattle.std.proofs.Common.{◌≡◌, ◌≢◌, ℕ, refl, sym, ◌∙◌, ap, true, cond, ◌-◌, ◌%◌}
+use Rattle.linker_laws.proofs.Imports.{◌&&◌, ◌||◌, ◌==◌, not, and_parts, eqb-true, false≢true, field, ppc64_form, is_ld, is_add_of_thread, is_over_thread, opcode_of, rt_of, ra_of, rb_of, ppc64_reads, Ds}
 use Rattle.linker_laws.proofs.Ppc64Words.{HasParts}
 
 pub some_of : (n : ℕ) → not (n == 0) ≡ true → n ≢ 0

@@ -1,13 +1,7 @@
 -- PowerPC64: instructions that stand apart, each in two runs.
-use Rattle.std.proofs.Common.{◌≡◌, ◌≢◌, ℕ, ◌*◌, ◌^◌}
-use Rattle.std.proofs.Common.{List, eqb, pos, ◌*ℤ◌, Some}
-use Rattle.std.proofs.lemmas.Bool.{cond-false, ne_eqb}
-use Rattle.linker_elf.specs.Ppc64.{ppc64_form}
-use Rattle.linker_elf.specs.declared.elf.value.Operands.{Operands}
-use Rattle.linker_elf.specs.declared.ppc64.forms.Ppc64Instruction.TheVariants.{D, Ds}
-use Rattle.linker_elf.specs.declared.ppc64.relocations.Ppc64Relocation.{Ppc64Relocation}
+use Rattle.std.proofs.Common.{◌≡◌, ◌≢◌, ℕ, ◌*◌, ◌^◌, List, eqb, pos, ◌*ℤ◌, Some}
+use Rattle.linker_laws.proofs.Imports.{cond-false, ne_eqb, ppc64_form, Operands, D, Ds, Ppc64Relocation, opcode_of, rt_of, ra_of}
 use Rattle.linker_elf.specs.declared.ppc64.relocations.Ppc64Relocation.TheVariants as names
-use Rattle.linker_utils.specs.Ppc64Rewrites.{opcode_of, rt_of, ra_of}
 use Rattle.linker_laws.specs.Ppc64RelocationLaws as relocation_laws
 use Rattle.linker_laws.specs.Schemes.{AreAddresses, symbol_address}
 use Rattle.linker_laws.specs.Machine.{moved}

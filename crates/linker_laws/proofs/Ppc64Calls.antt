@@ -1,12 +1,8 @@
 -- PowerPC64: what takes the place of a `nop` after a call.
-use Rattle.std.proofs.Common.{◌≡◌, ℕ, ◌^◌, ◌<◌, refl, sym, ◌∙◌, ap, arith, List, [], ◌∷◌}
-use Rattle.std.proofs.Common.{take, drop, Some, true}
-use Rattle.std.specs.Prelude.{◌&&◌, ◌==◌}
-use Rattle.std.proofs.lemmas.Bool.{and_parts, eqb-true}
-use Rattle.linker_base.specs.Bits.{field}
+use Rattle.std.proofs.Common.{◌≡◌, ℕ, ◌^◌, ◌<◌, refl, sym, ◌∙◌, ap, arith, List, [], ◌∷◌, take, drop, Some, true}
+use Rattle.linker_laws.proofs.Imports.{◌&&◌, ◌==◌, and_parts, eqb-true, field, is_call, opcode_of, sum_64}
 use Rattle.linker_base.specs.Form.{place_sum}
-use Rattle.linker_utils.specs.Ppc64Rewrites.{is_call, opcode_of, nop, two_words}
-use Rattle.linker_elf.specs.Value.{sum_64}
+use Rattle.linker_utils.specs.Ppc64Rewrites.{nop, two_words}
 use Rattle.linker_laws.specs.Machine.{loaded}
 use Rattle.linker_laws.specs.Ppc64RewriteLaws.{IsRewritten, word_of}
 use Rattle.linker_utils.specs.declared.ppc64.rewrites.RewriteKind.TheVariants as kinds

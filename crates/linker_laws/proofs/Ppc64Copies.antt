@@ -1,15 +1,7 @@
 -- PowerPC64: one instruction of a thread-local sequence by itself, and arguments that are copied.
-use Rattle.std.proofs.Common.{◌≡◌, ℕ, ◌+◌, ◌*◌, ◌/◌, ◌^◌, ◌<◌, ◌%◌, refl, ◌∙◌, ap}
-use Rattle.std.proofs.Common.{arith, List, ℤ, pos, ◌*ℤ◌, ◌+ℤ◌}
-use Rattle.std.proofs.lemmas.Int.{ints}
-use Rattle.linker_base.specs.Bits.{signed}
-use Rattle.linker_base.specs.Form.{place_sum, replaced}
-use Rattle.linker_base.proofs.ConsecutiveBits.{consecutive_bits_sum}
-use Rattle.linker_elf.specs.Ppc64.{ppc64_form}
-use Rattle.linker_elf.specs.Value.{sum_64}
-use Rattle.linker_elf.specs.declared.elf.value.Operands.{Operands}
-use Rattle.linker_elf.specs.declared.ppc64.forms.Ppc64Instruction.TheVariants.{D}
-use Rattle.linker_utils.specs.Ppc64Rewrites.{addis_of_thread}
+use Rattle.std.proofs.Common.{◌≡◌, ℕ, ◌+◌, ◌*◌, ◌/◌, ◌^◌, ◌<◌, ◌%◌, refl, ◌∙◌, ap, arith, List, ℤ, pos, ◌*ℤ◌, ◌+ℤ◌}
+use Rattle.linker_laws.proofs.Imports.{ints, signed, replaced, consecutive_bits_sum, ppc64_form, sum_64, Operands, D, addis_of_thread}
+use Rattle.linker_base.specs.Form.{place_sum}
 use Rattle.linker_laws.specs.Ppc64RelocationLaws as relocation_laws
 use Rattle.linker_laws.specs.Schemes.{symbol_address, AreAddresses}
 use Rattle.linker_elf.specs.declared.ppc64.relocations.Ppc64Relocation.TheVariants as names
@@ -17,9 +9,7 @@ use Rattle.linker_laws.proofs.Sums.{sum_below}
 use Rattle.linker_laws.specs.Machine.{moved}
 use Rattle.linker_laws.specs.Ppc64RewriteLaws.{word_of, thread_offset}
 use Rattle.linker_laws.specs.Ppc64RewriteLaws as laws
-use Rattle.linker_laws.proofs.Ppc64Words.{HasParts}
-use Rattle.linker_laws.proofs.Ppc64Words.{sum_from}
-use Rattle.linker_laws.proofs.Ppc64Words.{wrapped_is}
+use Rattle.linker_laws.proofs.Ppc64Words.{HasParts, sum_from, wrapped_is}
 
 -- ---- what is left
 

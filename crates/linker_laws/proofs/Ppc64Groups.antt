@@ -1,35 +1,20 @@
 -- PowerPC64's groups.
-use Rattle.std.proofs.Common.{◌≡◌, ◌≢◌, ℕ, suc, ◌+◌, ◌-◌, ◌*◌, ◌^◌, ◌<◌, ◌≤◌, Bool, true, false, refl, sym, ◌∙◌, ap, subst, subst₂}
-use Rattle.std.proofs.Common.{arith, List, drop, take, ◌/◌, Some, pos, ◌+ℤ◌, ◌*ℤ◌, inl, inr, not, eqb, true≢false}
-use Rattle.std.specs.Prelude.{IsTrue, ◌==◌, ◌&&◌, if◌then◌else◌, nat_lt, is_some, IsSomeAnd}
-use Rattle.std.proofs.lemmas.Bool.{and_parts, cond-true, cond-false, cases_lt, eq-eqb, eqb-true, lt-ltb, le-ltb, ne_eqb}
-use Rattle.std.proofs.lemmas.Bool.Decides.{eqb_tells}
-use Rattle.std.proofs.lemmas.Int.{ints}
-use Rattle.linker_base.specs.Bits.{field}
-use Rattle.linker_elf.specs.Ppc64.{ppc64_form}
-use Rattle.linker_elf.specs.Value.{sum_64}
-use Rattle.linker_elf.specs.declared.elf.value.Operands.{Operands}
-use Rattle.linker_elf.specs.declared.ppc64.forms.Ppc64Instruction.{Ppc64Instruction}
-use Rattle.linker_elf.specs.declared.ppc64.forms.Ppc64Instruction.TheVariants.{Branch24, D, Ds, Prefixed}
-use Rattle.linker_elf.specs.declared.ppc64.relocations.Ppc64Relocation.{Ppc64Relocation}
+use Rattle.std.proofs.Common.{◌≡◌, ◌≢◌, ℕ, suc, ◌+◌, ◌-◌, ◌*◌, ◌^◌, ◌<◌, ◌≤◌, Bool, true, false, refl, sym, ◌∙◌, ap, subst, subst₂, arith, List, drop, take, ◌/◌, Some, pos, ◌+ℤ◌, ◌*ℤ◌, inl, inr, not, eqb, true≢false}
+use Rattle.linker_laws.proofs.Imports.{IsTrue, ◌==◌, ◌&&◌, if◌then◌else◌, nat_lt, is_some, IsSomeAnd, and_parts, cond-true, cond-false, cases_lt, eq-eqb, eqb-true, lt-ltb, le-ltb, ne_eqb, eqb_tells, ints, field, ppc64_form, sum_64, Operands, Ppc64Instruction, Branch24, D, Ds, Prefixed, Ppc64Relocation, addi_of_thread, is_addi, is_call, is_ld, is_pla, is_pld, addis_of_thread, opcode_of, ra_of, registers_of, rt_of, RewriteKind}
 use Rattle.linker_elf.specs.declared.ppc64.relocations.Ppc64Relocation.TheVariants as names
 use Rattle.linker_laws.specs.Changes.{go_to, put, with_register}
 use Rattle.linker_laws.specs.Machine.{loaded, moved}
 use Rattle.linker_laws.specs.Ppc64Groups as groups
-use Rattle.linker_laws.specs.Ppc64Groups.{AreHalves, Code, Has, Leaves, Processor, Returns, Stands, Takes, Uses}
-use Rattle.linker_laws.specs.Ppc64Groups.{called, executed, execute, high_part, instruction_at, is_prefix, left, link}
-use Rattle.linker_laws.specs.Ppc64Groups.{machine, seen, used}
+use Rattle.linker_laws.specs.Ppc64Groups.{AreHalves, Code, Has, Leaves, Processor, Returns, Stands, Takes, Uses, called, executed, execute, high_part, instruction_at, is_prefix, left, link, machine, seen, used}
 use Rattle.linker_laws.specs.Ppc64Machine as ppc64_machine
 use Rattle.linker_laws.specs.Ppc64Machine.{Formats, base, by_opcode, go_on, shifted_sum, step, step_prefixed, write}
 use Rattle.linker_laws.specs.Ppc64RelocationLaws as relocation_laws
 use Rattle.linker_laws.specs.Ppc64RewriteLaws as laws
-use Rattle.linker_laws.specs.Ppc64RewriteLaws.{IsRelocated, IsRewritten, LowHalfLeads, Use, from_thread, prefixed_of}
-use Rattle.linker_laws.specs.Ppc64RewriteLaws.{prefixed_target, thread_offset, word_of}
+use Rattle.linker_laws.specs.Ppc64RewriteLaws.{IsRelocated, IsRewritten, LowHalfLeads, Use, from_thread, prefixed_of, prefixed_target, thread_offset, word_of}
 use Rattle.linker_laws.specs.Schemes.{AreAddresses, symbol_address}
 use Rattle.linker_laws.specs.Simulation.{State, Agree, AreOf, Group, Kind, Kinds, anything, half, of_link, run, same}
 use Rattle.linker_laws.proofs.AArch64Pairs.{word_is, word_made}
-use Rattle.linker_laws.proofs.Agreement.{agree_go, agree_put, agree_put_old, value_group}
-use Rattle.linker_laws.proofs.Agreement.{unchanged as nothing_changes}
+use Rattle.linker_laws.proofs.Agreement.{agree_go, agree_put, agree_put_old, value_group, unchanged as nothing_changes}
 use Rattle.linker_laws.proofs.CoveredRuns.{holds_of, run_first}
 use Rattle.linker_laws.proofs.Ppc64Addresses.{ld_parts, reads_ds, same_parts, some_of}
 use Rattle.linker_laws.proofs.Ppc64Apart.{Does, High, IsBase, Keeps, base_some, general_leads, got_leads, module_leads, offset_leads, toc_leads}
@@ -44,9 +29,7 @@ use Rattle.linker_laws.proofs.Ppc64Words.{HasParts, d_after, ds_after, set, step
 use Rattle.linker_laws.proofs.RiscVMachine.{address_is, times_one}
 use Rattle.linker_laws.proofs.Sums.{sum_below}
 use Rattle.linker_laws.proofs.Words.{two_words}
-use Rattle.linker_utils.specs.Ppc64Rewrites.{addi_of_thread, is_addi, is_addis_over, is_call, is_ld, is_pla, is_pld, two_words as two_words_of}
-use Rattle.linker_utils.specs.Ppc64Rewrites.{addis_of_thread, nop, opcode_of, ra_of, registers_of, rt_of}
-use Rattle.linker_utils.specs.declared.ppc64.rewrites.RewriteKind.{RewriteKind}
+use Rattle.linker_utils.specs.Ppc64Rewrites.{is_addis_over, two_words as two_words_of, nop}
 use Rattle.linker_utils.specs.declared.ppc64.rewrites.RewriteKind.TheVariants as kinds
 
 -- ---- states

@@ -1,11 +1,7 @@
 -- The worked program of PowerPC64.
-use Rattle.std.proofs.Common.{◌≡◌, ℕ, ◌^◌, ◌<◌, Bool, true, false, refl, sym, subst, ap, [], ◌∷◌, lit<, lit≤, pos, List}
-use Rattle.std.proofs.Common.{arith, eqb-true, true≢false}
-use Rattle.std.specs.Prelude.{◌&&◌, ◌==◌, IsSomeAnd}
-use Rattle.std.proofs.lemmas.Int.{ints}
+use Rattle.std.proofs.Common.{◌≡◌, ℕ, ◌^◌, ◌<◌, Bool, true, false, refl, sym, subst, ap, [], ◌∷◌, lit<, lit≤, pos, List, arith, eqb-true, true≢false}
+use Rattle.linker_laws.proofs.Imports.{◌&&◌, ◌==◌, IsSomeAnd, ints, Operands, D, Ds, is_add_of_thread, is_addi}
 use Rattle.linker_base.specs.Form.{place_sum}
-use Rattle.linker_elf.specs.declared.elf.value.Operands.{Operands}
-use Rattle.linker_elf.specs.declared.ppc64.forms.Ppc64Instruction.TheVariants.{D, Ds}
 use Rattle.linker_elf.specs.declared.ppc64.relocations.Ppc64Relocation.TheVariants as names
 use Rattle.linker_laws.specs.Changes.{put, with_register}
 use Rattle.linker_laws.specs.Ppc64Groups.{Groups, Leaves, Low, NewLeads, execute, high_part, instruction_at, link, machine, used}
@@ -14,9 +10,8 @@ use Rattle.linker_laws.specs.LoongArchGroupsWorked.{words}
 use Rattle.linker_laws.specs.Ppc64RewriteLaws.{IsRelocated, LowHalfLeads, adds, entry_from_toc, from_thread, from_toc}
 use Rattle.linker_laws.specs.Schemes.{AreAddresses}
 use Rattle.linker_laws.specs.Simulation.{Agree, Group, Kinds, State, anything, ends, group, half, of_link, run, same}
-use Rattle.linker_laws.proofs.AArch64GroupsWorked.{relocated}
+use Rattle.linker_laws.proofs.Relocated.{relocated}
 use Rattle.linker_laws.proofs.Ppc64Groups.{sum_keeps}
-use Rattle.linker_utils.specs.Ppc64Rewrites.{is_add_of_thread, is_addi}
 
 -- ---- operands
 

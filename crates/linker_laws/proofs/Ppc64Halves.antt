@@ -1,31 +1,12 @@
 -- Halves of PowerPC64.
-use Rattle.std.proofs.Common.{◌-◌}
-use Rattle.std.proofs.Common.{◌≡◌, ℕ, ◌+◌, ◌%◌, ◌^◌, ◌<◌, Bool, true, refl, sym, ◌∙◌, ap, subst}
-use Rattle.std.proofs.Common.{arith, List, ℤ, pos, ◌+ℤ◌, ◌*ℤ◌, Option, Some, None}
-use Rattle.std.specs.Int.{w64, cast_signed}
-use Rattle.linker_base.specs.Bits.{field, signed}
-use Rattle.linker_base.specs.Form.{window_of, place_sum, replaced}
-use Rattle.linker_base.proofs.ConsecutiveBits.{consecutive_bits_sum}
-use Rattle.linker_elf.specs.Elf.{IsWithin}
-use Rattle.linker_elf.specs.Ppc64.{ppc64_form}
-use Rattle.linker_elf.specs.Reach.{reach_of}
-use Rattle.linker_elf.specs.Relocate.{ppc64_reads}
-use Rattle.linker_elf.specs.Value.{value_of, sum_64, difference_64}
-use Rattle.linker_elf.specs.declared.elf.AllowedRange.{AllowedRange}
-use Rattle.linker_elf.specs.declared.elf.PageMask.{PageMask}
-use Rattle.linker_elf.specs.declared.ppc64.forms.Ppc64Instruction.{Ppc64Instruction}
-use Rattle.linker_elf.specs.declared.ppc64.forms.Ppc64Instruction.TheVariants.{D, Ds}
-use Rattle.linker_elf.specs.declared.elf.RelocationInstruction.TheVariants.{Ppc64}
-use Rattle.linker_elf.specs.declared.elf.RelocationKind.{RelocationKind}
-use Rattle.linker_elf.specs.declared.elf.value.Operands.{Operands}
-use Rattle.linker_elf.specs.Applied.{IsApplied}
+use Rattle.std.proofs.Common.{◌-◌, ◌≡◌, ℕ, ◌+◌, ◌%◌, ◌^◌, ◌<◌, Bool, true, refl, sym, ◌∙◌, ap, subst, arith, List, ℤ, pos, ◌+ℤ◌, ◌*ℤ◌, Option, Some, None}
+use Rattle.linker_laws.proofs.Imports.{w64, cast_signed, field, signed, window_of, replaced, consecutive_bits_sum, IsWithin, ppc64_form, reach_of, ppc64_reads, value_of, sum_64, difference_64, AllowedRange, PageMask, Ppc64Instruction, D, Ds, Ppc64, RelocationKind, Operands, IsApplied}
+use Rattle.linker_base.specs.Form.{place_sum}
 use Rattle.linker_laws.specs.Schemes.{IsAddress, AreAddresses, without_low}
 use Rattle.linker_laws.proofs.Applied.{fits, value_is, taken_bits, ds_stands}
-use Rattle.linker_laws.proofs.Instructions.{IsNumber, IsSmall, row_of}
-use Rattle.linker_laws.proofs.Instructions.{is_read, reads_bits, field_sum, multiple}
+use Rattle.linker_laws.proofs.Instructions.{IsNumber, IsSmall, row_of, is_read, reads_bits, field_sum, multiple}
 use Rattle.linker_laws.proofs.Rounded.{IsRounded}
-use Rattle.linker_laws.proofs.Sums.{high_sum, halves_sum, signed_16, sum_below}
-use Rattle.linker_laws.proofs.Sums.{difference_below}
+use Rattle.linker_laws.proofs.Sums.{high_sum, halves_sum, signed_16, sum_below, difference_below}
 
 -- ---- low halves
 

@@ -1,36 +1,20 @@
 -- PowerPC64: instructions with a low half over the base of the high half, each in two runs.
-use Rattle.std.proofs.Common.{◌≡◌, ℕ, ◌+◌, ◌%◌, ◌^◌, ◌<◌, refl, sym, true, ◌∙◌, ap}
-use Rattle.std.proofs.Common.{arith, List, ℤ, pos, ◌+ℤ◌, ◌*ℤ◌, Some}
-use Rattle.std.specs.Prelude.{◌==◌, not}
-use Rattle.std.proofs.lemmas.Bool.{and_parts, eqb-true}
-use Rattle.std.proofs.lemmas.Int.{ints}
-use Rattle.linker_base.specs.Bits.{field}
-use Rattle.linker_elf.specs.Ppc64.{ppc64_form}
-use Rattle.linker_elf.specs.Relocate.{ppc64_reads}
-use Rattle.linker_elf.specs.Value.{sum_64, difference_64}
-use Rattle.linker_elf.specs.declared.elf.value.Operands.{Operands}
-use Rattle.linker_elf.specs.declared.ppc64.forms.Ppc64Instruction.{Ppc64Instruction}
-use Rattle.linker_elf.specs.declared.ppc64.forms.Ppc64Instruction.TheVariants.{D, Ds}
-use Rattle.linker_elf.specs.declared.ppc64.relocations.Ppc64Relocation.{Ppc64Relocation}
+use Rattle.std.proofs.Common.{◌≡◌, ℕ, ◌+◌, ◌%◌, ◌^◌, ◌<◌, refl, sym, true, ◌∙◌, ap, arith, List, ℤ, pos, ◌+ℤ◌, ◌*ℤ◌, Some}
+use Rattle.linker_laws.proofs.Imports.{◌==◌, not, and_parts, eqb-true, ints, field, ppc64_form, ppc64_reads, sum_64, difference_64, Operands, Ppc64Instruction, D, Ds, Ppc64Relocation, opcode_of, rt_of, ra_of, is_addi, is_ds_access, RewriteKind}
 use Rattle.linker_elf.specs.declared.ppc64.relocations.Ppc64Relocation.TheVariants as names
-use Rattle.linker_utils.specs.Ppc64Rewrites.{opcode_of, rt_of, ra_of, over_base, is_addi}
-use Rattle.linker_utils.specs.Ppc64Rewrites.{is_ds_access, is_vector_access}
-use Rattle.linker_utils.specs.declared.ppc64.rewrites.RewriteKind.{RewriteKind}
+use Rattle.linker_utils.specs.Ppc64Rewrites.{over_base, is_vector_access}
 use Rattle.linker_utils.specs.declared.ppc64.rewrites.RewriteKind.TheVariants as kinds
 use Rattle.linker_laws.specs.Ppc64RelocationLaws as relocation_laws
 use Rattle.linker_laws.specs.Schemes.{AreAddresses, symbol_address, IsAddress}
 use Rattle.linker_laws.specs.Machine.{moved}
-use Rattle.linker_laws.specs.Ppc64RewriteLaws.{word_of, IsRelocated, IsRewritten, at_place}
-use Rattle.linker_laws.specs.Ppc64RewriteLaws.{access_number, ds_access, is_d_over, is_ds_over_base}
+use Rattle.linker_laws.specs.Ppc64RewriteLaws.{word_of, IsRelocated, IsRewritten, at_place, access_number, ds_access, is_d_over, is_ds_over_base}
 use Rattle.linker_laws.specs.Ppc64Groups as groups
 use Rattle.linker_laws.specs.Ppc64RewriteLaws as laws
 use Rattle.linker_laws.specs.Ppc64Machine.{State, Formats, base, go_on, accessed, access_with}
 use Rattle.linker_laws.proofs.AArch64Pairs.{word_made}
-use Rattle.linker_laws.proofs.Ppc64Accesses.{step_access}
+use Rattle.linker_laws.proofs.Ppc64Accesses.{step_access, d_access_parts, ds_parts, step_word}
 use Rattle.linker_laws.proofs.Ppc64Addresses.{same_parts, some_of}
 use Rattle.linker_laws.proofs.Ppc64Apart.{Does, IsBase, Keeps, base_some}
-use Rattle.linker_laws.proofs.Ppc64Accesses.{d_access_parts}
-use Rattle.linker_laws.proofs.Ppc64Accesses.{ds_parts, step_word}
 use Rattle.linker_laws.proofs.Ppc64Words.{HasParts, d_after, ds_after, set, step_addi, wrapped_is}
 use Rattle.linker_laws.proofs.RiscVMachine.{address_is}
 use Rattle.linker_laws.proofs.Sums.{lift, sum_below}

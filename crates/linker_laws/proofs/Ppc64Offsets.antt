@@ -1,29 +1,16 @@
 -- PowerPC64: instructions of initial-exec, each in two runs.
-use Rattle.std.proofs.Common.{◌≡◌, ℕ, ◌+◌, refl, sym, ◌∙◌, ap, arith}
-use Rattle.std.proofs.Common.{List, Some, true}
-use Rattle.std.specs.Prelude.{◌==◌}
-use Rattle.linker_elf.specs.Ppc64.{ppc64_form}
-use Rattle.linker_elf.specs.Value.{sum_64}
-use Rattle.linker_elf.specs.declared.elf.value.Operands.{Operands}
-use Rattle.linker_elf.specs.declared.ppc64.forms.Ppc64Instruction.TheVariants.{D, Ds}
-use Rattle.linker_utils.specs.Ppc64Rewrites.{opcode_of, rt_of, ra_of, access_of, registers_of}
-use Rattle.linker_utils.specs.Ppc64Rewrites.{by_displacement, by_word_displacement}
-use Rattle.linker_utils.specs.Ppc64Rewrites.{is_add_of_thread, is_indexed, is_indexed_word}
-use Rattle.linker_utils.specs.declared.ppc64.rewrites.RewriteKind.{RewriteKind}
+use Rattle.std.proofs.Common.{◌≡◌, ℕ, ◌+◌, refl, sym, ◌∙◌, ap, arith, List, Some, true}
+use Rattle.linker_laws.proofs.Imports.{◌==◌, ppc64_form, sum_64, Operands, D, Ds, opcode_of, rt_of, ra_of, access_of, registers_of, by_displacement, by_word_displacement, is_add_of_thread, is_indexed, is_indexed_word, RewriteKind, Ppc64Relocation}
 use Rattle.linker_utils.specs.declared.ppc64.rewrites.RewriteKind.TheVariants as kinds
-use Rattle.linker_elf.specs.declared.ppc64.relocations.Ppc64Relocation.{Ppc64Relocation}
 use Rattle.linker_elf.specs.declared.ppc64.relocations.Ppc64Relocation.TheVariants as names
 use Rattle.linker_laws.specs.Machine.{moved}
 use Rattle.linker_laws.specs.Ppc64RewriteLaws.{IsRelocated, IsRewritten, word_of}
 use Rattle.linker_laws.specs.Ppc64RewriteLaws as laws
 use Rattle.linker_laws.specs.Ppc64Machine.{State, Formats, go_on, accessed, access_with, word_access_with}
 use Rattle.linker_laws.proofs.AArch64Pairs.{word_made}
-use Rattle.linker_laws.proofs.Ppc64Accesses.{step_access, step_indexed}
+use Rattle.linker_laws.proofs.Ppc64Accesses.{step_access, step_indexed, indexed_parts, indexed_word_parts, is_direct, step_indexed_word, below, step_word}
 use Rattle.linker_laws.proofs.Ppc64Addresses.{same_parts, add_parts}
 use Rattle.linker_laws.proofs.Ppc64Apart.{Does, base_some}
-use Rattle.linker_laws.proofs.Ppc64Accesses.{indexed_parts}
-use Rattle.linker_laws.proofs.Ppc64Accesses.{indexed_word_parts, is_direct, step_indexed_word, below}
-use Rattle.linker_laws.proofs.Ppc64Accesses.{step_word}
 use Rattle.linker_laws.proofs.Ppc64Words.{HasParts, d_after, ds_after, set, step_addi, step_add}
 
 -- The steps of instructions by the sum of an offset and the thread pointer.

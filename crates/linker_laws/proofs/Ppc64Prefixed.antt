@@ -1,19 +1,8 @@
 -- PowerPC64: prefixed instructions.
-use Rattle.std.proofs.Common.{◌≡◌, ℕ, ◌+◌, ◌*◌, ◌/◌, ◌^◌, ◌<◌, ◌++◌, refl, ◌∙◌, ap, arith, List}
-use Rattle.std.proofs.Common.{[], drop, Some, true, ℤ}
-use Rattle.std.specs.Prelude.{◌&&◌, ◌==◌}
-use Rattle.std.proofs.lemmas.Bool.{and_parts, eqb-true, cond-true, cond-false, eq-eqb}
-use Rattle.linker_base.specs.Bits.{field}
-use Rattle.linker_base.specs.Form.{ImmediateBit, bits_to}
-use Rattle.linker_base.specs.declared.bit_misc.BitRange.{BitRange}
-use Rattle.linker_elf.specs.Ppc64.{ppc64_form}
-use Rattle.linker_utils.specs.Ppc64Rewrites.{is_pld, opcode_of, rt_of, ra_of, li_of, two_words as both_words}
+use Rattle.std.proofs.Common.{◌≡◌, ℕ, ◌+◌, ◌*◌, ◌/◌, ◌^◌, ◌<◌, ◌++◌, refl, ◌∙◌, ap, arith, List, [], drop, Some, true, ℤ}
+use Rattle.linker_laws.proofs.Imports.{◌&&◌, ◌==◌, and_parts, eqb-true, cond-true, cond-false, eq-eqb, field, ImmediateBit, bits_to, BitRange, ppc64_form, is_pld, opcode_of, rt_of, ra_of, InstructionWritten, sum_64, Ppc64, Operands, Prefixed}
+use Rattle.linker_utils.specs.Ppc64Rewrites.{li_of, two_words as both_words}
 use Rattle.linker_utils.specs.declared.ppc64.rewrites.RewriteKind.TheVariants as kinds
-use Rattle.linker_elf.specs.Relocate.{InstructionWritten}
-use Rattle.linker_elf.specs.Value.{sum_64}
-use Rattle.linker_elf.specs.declared.elf.RelocationInstruction.TheVariants.{Ppc64}
-use Rattle.linker_elf.specs.declared.elf.value.Operands.{Operands}
-use Rattle.linker_elf.specs.declared.ppc64.forms.Ppc64Instruction.TheVariants.{Prefixed}
 use Rattle.linker_elf.specs.declared.ppc64.relocations.Ppc64Relocation.TheVariants as names
 use Rattle.linker_laws.specs.Ppc64RelocationLaws as relocation_laws
 use Rattle.linker_laws.specs.Schemes.{AreAddresses, symbol_address}

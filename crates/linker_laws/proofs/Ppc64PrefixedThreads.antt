@@ -1,24 +1,10 @@
 -- PowerPC64: instructions of thread-local sequences of prefixed code, each in two runs.
-use Rattle.std.proofs.Common.{◌≡◌, ℕ, ◌+◌, ◌*◌, ◌/◌, ◌%◌, ◌^◌, ◌<◌, refl, sym, ◌∙◌, ap, subst, arith, List}
-use Rattle.std.proofs.Common.{eqb, ℤ, pos, ◌+ℤ◌, Some, drop, take, inl, inr, Bool, true, false}
-use Rattle.std.specs.Prelude.{◌&&◌, ◌==◌, if◌then◌else◌}
-use Rattle.std.proofs.lemmas.Bool.{and_parts, or_cases, cases_Bool, eqb-true, cond-true, cond-false, eq-eqb}
-use Rattle.std.proofs.lemmas.Bool.Decides.{eqb_tells}
-use Rattle.std.proofs.lemmas.Int.{ints}
-use Rattle.linker_base.specs.Bits.{field, signed}
-use Rattle.linker_base.specs.Form.{bits_to, place_sum, replaced}
-use Rattle.linker_base.proofs.ConsecutiveBits.{consecutive_bits_sum}
+use Rattle.std.proofs.Common.{◌≡◌, ℕ, ◌+◌, ◌*◌, ◌/◌, ◌%◌, ◌^◌, ◌<◌, refl, sym, ◌∙◌, ap, subst, arith, List, eqb, ℤ, pos, ◌+ℤ◌, Some, drop, take, inl, inr, Bool, true, false}
+use Rattle.linker_laws.proofs.Imports.{◌&&◌, ◌==◌, if◌then◌else◌, and_parts, or_cases, cases_Bool, eqb-true, cond-true, cond-false, eq-eqb, eqb_tells, ints, field, signed, bits_to, replaced, consecutive_bits_sum, ppc64_form, sum_64, Operands, D, Ds, Prefixed, opcode_of, rt_of, ra_of, rb_of, access_of, registers_of, addi_of_thread, by_displacement, by_word_displacement, is_access, is_add_of_thread, is_indexed, is_indexed_word, is_pla, is_word_access, RewriteKind}
+use Rattle.linker_base.specs.Form.{place_sum}
 use Rattle.linker_base.proofs.Places.{sums}
-use Rattle.linker_elf.specs.Ppc64.{ppc64_form}
-use Rattle.linker_elf.specs.Value.{sum_64}
-use Rattle.linker_elf.specs.declared.elf.value.Operands.{Operands}
-use Rattle.linker_elf.specs.declared.ppc64.forms.Ppc64Instruction.TheVariants.{D, Ds, Prefixed}
 use Rattle.linker_elf.specs.declared.ppc64.relocations.Ppc64Relocation.TheVariants as names
-use Rattle.linker_utils.specs.Ppc64Rewrites.{opcode_of, rt_of, ra_of, rb_of, access_of, registers_of, nop}
-use Rattle.linker_utils.specs.Ppc64Rewrites.{addi_of_thread, by_displacement, by_word_displacement, direct, ld_of}
-use Rattle.linker_utils.specs.Ppc64Rewrites.{is_access, is_add_of_thread, is_indexed, is_indexed_any, is_indexed_word, is_pla, is_word_access, move_of, to_move}
-use Rattle.linker_utils.specs.Ppc64Rewrites.{two_words as both_words}
-use Rattle.linker_utils.specs.declared.ppc64.rewrites.RewriteKind.{RewriteKind}
+use Rattle.linker_utils.specs.Ppc64Rewrites.{nop, direct, ld_of, is_indexed_any, move_of, to_move, two_words as both_words}
 use Rattle.linker_utils.specs.declared.ppc64.rewrites.RewriteKind.TheVariants as kinds
 use Rattle.linker_laws.specs.Machine.{moved}
 use Rattle.linker_laws.specs.Ppc64Machine.{State, Formats, Access, accessed, access_with, write, by_opcode, execute, go_on, step, word_access_with}
@@ -27,15 +13,12 @@ use Rattle.linker_laws.specs.Ppc64RewriteLaws.{IsRelocated, accesses, adds, from
 use Rattle.linker_laws.specs.Ppc64RewriteLaws as laws
 use Rattle.linker_laws.specs.Schemes.{AreAddresses, symbol_address}
 use Rattle.linker_laws.proofs.AArch64Pairs.{word_made}
-use Rattle.linker_laws.proofs.Ppc64Accesses.{step_access}
+use Rattle.linker_laws.proofs.Ppc64Accesses.{step_access, indexed_parts, below, indexed_word_parts, is_direct, step_word}
 use Rattle.linker_laws.proofs.Ppc64Apart.{Does, base_some}
 use Rattle.linker_laws.proofs.Ppc64Calls.{back, first_made, second_made}
-use Rattle.linker_laws.proofs.Ppc64Accesses.{indexed_parts}
-use Rattle.linker_laws.proofs.Ppc64Accesses.{below, indexed_word_parts, is_direct}
 use Rattle.linker_laws.proofs.Ppc64LowHalves.{whole_from}
 use Rattle.linker_laws.proofs.Ppc64Offsets.{SumSteps, accesses_sum, adds_sum, words_sum}
 use Rattle.linker_laws.proofs.Ppc64Prefixed.{HasPrefixedParts, of_words}
-use Rattle.linker_laws.proofs.Ppc64Accesses.{step_word}
 use Rattle.linker_laws.proofs.Ppc64Words.{set, step_nop, wrapped_is}
 use Rattle.linker_laws.proofs.RiscVMachine.{address_is, times_one}
 use Rattle.linker_laws.proofs.Sums.{sum_below}

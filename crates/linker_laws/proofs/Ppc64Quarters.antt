@@ -1,30 +1,14 @@
 -- Numbers of 64 bits of PowerPC64 by parts of 16 bits.
-use Rattle.std.proofs.Common.{◌≡◌, ℕ, ◌+◌, ◌-◌, ◌*◌, ◌/◌, ◌%◌, ◌^◌, ◌<◌, Bool, refl, sym, ◌∙◌}
-use Rattle.std.proofs.Common.{ap, subst, arith, List, pos, ◌+ℤ◌, Option, Some, None}
-use Rattle.std.specs.Int.{w64, cast_signed}
-use Rattle.std.proofs.lemmas.Nat.{mod_below, pow_pos}
-use Rattle.linker_base.specs.Bits.{field}
-use Rattle.linker_base.specs.Form.{window_of, place_sum, replaced}
-use Rattle.linker_base.proofs.ConsecutiveBits.{consecutive_bits_sum}
-use Rattle.linker_elf.specs.Elf.{IsWithin}
-use Rattle.linker_elf.specs.Ppc64.{ppc64_form}
-use Rattle.linker_elf.specs.Relocate.{ppc64_reads}
-use Rattle.linker_elf.specs.Value.{value_of}
-use Rattle.linker_elf.specs.declared.elf.AllowedRange.{AllowedRange}
-use Rattle.linker_elf.specs.declared.elf.PageMask.{PageMask}
-use Rattle.linker_elf.specs.declared.ppc64.forms.Ppc64Instruction.{Ppc64Instruction}
-use Rattle.linker_elf.specs.declared.ppc64.forms.Ppc64Instruction.TheVariants.{D, DUnsigned}
-use Rattle.linker_elf.specs.declared.elf.RelocationInstruction.TheVariants.{Ppc64}
-use Rattle.linker_elf.specs.declared.elf.RelocationKind.{RelocationKind}
-use Rattle.linker_elf.specs.declared.elf.value.Operands.{Operands}
+use Rattle.std.proofs.Common.{◌≡◌, ℕ, ◌+◌, ◌-◌, ◌*◌, ◌/◌, ◌%◌, ◌^◌, ◌<◌, Bool, refl, sym, ◌∙◌, ap, subst, arith, List, pos, ◌+ℤ◌, Option, Some, None}
+use Rattle.linker_laws.proofs.Imports.{w64, cast_signed, mod_below, pow_pos, field, window_of, replaced, consecutive_bits_sum, IsWithin, ppc64_form, ppc64_reads, value_of, AllowedRange, PageMask, Ppc64Instruction, D, Ppc64, RelocationKind, Operands, IsApplied, sum_64}
+use Rattle.linker_base.specs.Form.{place_sum}
+use Rattle.linker_elf.specs.declared.ppc64.forms.Ppc64Instruction.TheVariants.{DUnsigned}
 use Rattle.linker_laws.specs.Ppc64RelocationLaws.{upper_parts}
-use Rattle.linker_elf.specs.Applied.{IsApplied}
 use Rattle.linker_laws.specs.Schemes.{IsAddress, AreAddresses}
 use Rattle.linker_laws.proofs.Ppc64Halves.{ReadsLow, adjusted_low, d_field}
 use Rattle.linker_laws.proofs.Rounded.{IsRounded}
 use Rattle.linker_laws.proofs.Instructions.{IsNumber, row_of, field_sum}
 use Rattle.linker_laws.proofs.Sums.{Leads, low_part, sum_below}
-use Rattle.linker_elf.specs.Value.{sum_64}
 
 -- ---- a part
 

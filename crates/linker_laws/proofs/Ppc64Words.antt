@@ -1,25 +1,11 @@
 -- Words of PowerPC64 to which a relocation was applied, and the steps of their instructions.
-use Rattle.std.proofs.Common.{◌≡◌, ◌≢◌, ℕ, ◌+◌, ◌*◌, ◌%◌, ◌^◌, ◌<◌, refl, sym, ◌∙◌, ap}
-use Rattle.std.proofs.Common.{arith, List, [], eqb, ℤ, pos, ◌+ℤ◌, ◌*ℤ◌, Some}
-use Rattle.std.specs.Int.{w32, from_le_bytes}
-use Rattle.std.proofs.lemmas.Bool.{eq-eqb, ne_eqb, cond-true, cond-false}
-use Rattle.std.proofs.lemmas.Int.{ints}
-use Rattle.linker_base.specs.Bits.{field}
-use Rattle.linker_base.specs.Form.{bits_to}
-use Rattle.linker_base.specs.declared.bit_misc.BitRange.{BitRange}
-use Rattle.linker_elf.specs.Ppc64.{ppc64_form}
-use Rattle.linker_utils.specs.Ppc64Rewrites.{opcode_of, rt_of, ra_of, rb_of, nop}
-use Rattle.linker_elf.specs.Relocate.{InstructionWritten}
-use Rattle.linker_elf.specs.Value.{sum_64, difference_64}
-use Rattle.linker_elf.specs.declared.elf.RelocationInstruction.TheVariants.{Ppc64}
-use Rattle.linker_elf.specs.declared.ppc64.forms.Ppc64Instruction.TheVariants.{Branch24, D, Ds}
+use Rattle.std.proofs.Common.{◌≡◌, ◌≢◌, ℕ, ◌+◌, ◌*◌, ◌%◌, ◌^◌, ◌<◌, refl, sym, ◌∙◌, ap, arith, List, [], eqb, ℤ, pos, ◌+ℤ◌, ◌*ℤ◌, Some}
+use Rattle.linker_laws.proofs.Imports.{w32, from_le_bytes, eq-eqb, ne_eqb, cond-true, cond-false, ints, field, bits_to, BitRange, ppc64_form, opcode_of, rt_of, ra_of, rb_of, InstructionWritten, sum_64, difference_64, Ppc64, Branch24, D, Ds}
+use Rattle.linker_utils.specs.Ppc64Rewrites.{nop}
 use Rattle.linker_laws.specs.Schemes.{IsAddress}
 use Rattle.linker_laws.proofs.Sums.{lift, lifted_is}
 use Rattle.linker_laws.specs.Machine.{moved, wrapped, loaded}
-use Rattle.linker_laws.specs.Ppc64Machine.{State, Formats, step, execute, by_opcode, of_58}
-use Rattle.linker_laws.specs.Ppc64Machine.{base, write, go_on, go_to, next_pc}
-use Rattle.linker_laws.specs.Ppc64Machine.{shifted_sum, d_address}
-use Rattle.linker_laws.specs.Ppc64Machine.{ds_address}
+use Rattle.linker_laws.specs.Ppc64Machine.{State, Formats, step, execute, by_opcode, of_58, base, write, go_on, go_to, next_pc, shifted_sum, d_address, ds_address}
 use Rattle.linker_laws.proofs.AArch64Words.{field_kept}
 use Rattle.linker_laws.proofs.RiscVMachine.{address_is, moved_twice}
 

@@ -1,25 +1,8 @@
 -- Upper and low parts of RISC-V, and calls.
-use Rattle.std.proofs.Common.{◌≡◌, ℕ, ◌-◌, ◌*◌, ◌%◌, ◌^◌, Bool, refl, sym, ◌∙◌, ap, subst}
-use Rattle.std.proofs.Common.{arith, List, ℤ, pos, ◌+ℤ◌, ◌-ℤ◌, Option, Some, None, int_lt}
-use Rattle.std.proofs.Common.{unsigned_abs}
-use Rattle.std.specs.Int.{w64, cast_signed, int_rem_euclid}
-use Rattle.std.proofs.lemmas.Int.{ints, int_rem_euclid_is}
-use Rattle.linker_base.specs.Form.{window_of}
-use Rattle.linker_base.specs.declared.bit_misc.BitRange.{BitRange}
-use Rattle.linker_elf.specs.Elf.{IsWithin}
-use Rattle.linker_elf.specs.Relocate.{IsCompletedBy, RiscVHolds, SizeHolds, InstructionWritten}
-use Rattle.linker_elf.specs.RiscV.{riscv_form}
-use Rattle.linker_elf.specs.Value.{value_of}
-use Rattle.linker_elf.specs.declared.elf.AllowedRange.{AllowedRange}
-use Rattle.linker_elf.specs.declared.elf.PageMask.{PageMask}
-use Rattle.linker_elf.specs.declared.elf.RelocationInstruction.TheVariants.{RiscV}
-use Rattle.linker_elf.specs.declared.elf.RelocationKind.{RelocationKind}
-use Rattle.linker_elf.specs.declared.elf.RelocationSize.TheVariants.{BitMasking}
-use Rattle.linker_elf.specs.declared.riscv64.forms.RiscVInstruction.{RiscVInstruction}
-use Rattle.linker_elf.specs.declared.riscv64.forms.RiscVInstruction.TheVariants.{UiType}
-use Rattle.linker_elf.specs.declared.elf.value.Operands.{Operands}
+use Rattle.std.proofs.Common.{◌≡◌, ℕ, ◌-◌, ◌*◌, ◌%◌, ◌^◌, Bool, refl, sym, ◌∙◌, ap, subst, arith, List, ℤ, pos, ◌+ℤ◌, ◌-ℤ◌, Option, Some, None, int_lt, unsigned_abs}
+use Rattle.linker_laws.proofs.Imports.{w64, cast_signed, int_rem_euclid, ints, int_rem_euclid_is, window_of, BitRange, IsWithin, SizeHolds, InstructionWritten, riscv_form, value_of, AllowedRange, PageMask, RiscV, RelocationKind, BitMasking, RiscVInstruction, UiType, Operands, IsApplied}
+use Rattle.linker_elf.specs.Relocate.{IsCompletedBy, RiscVHolds}
 use Rattle.linker_laws.specs.RiscVRelocationLaws.{without_bit_0, even}
-use Rattle.linker_elf.specs.Applied.{IsApplied}
 use Rattle.linker_laws.specs.Schemes.{IsAddress, AreAddresses, place}
 use Rattle.linker_laws.proofs.Applied.{value_is, holds}
 use Rattle.linker_laws.proofs.Instructions.{IsNumber, row_of}

@@ -1,24 +1,7 @@
 -- Which instructions those of a TLS descriptor and of a load from the GOT are.
-use Rattle.std.proofs.Common.{◌≡◌, ◌≢◌, ℕ, ◌+◌, ◌-◌, ◌*◌, ◌/◌, ◌%◌, ◌^◌, ◌<◌, true, false, refl}
-use Rattle.std.proofs.Common.{sym, ◌∙◌, ap, arith, List, length, pos}
-use Rattle.std.proofs.Common.{Some, inl, inr, w64}
-use Rattle.std.specs.Int.{w32, from_le_bytes, cast_signed, cast_unsigned}
-use Rattle.std.proofs.lemmas.Bool.{agree_below}
-use Rattle.std.proofs.lemmas.Int.{ints, to_z_pos, of_z-to_z}
-use Rattle.linker_base.specs.Bits.{field, signed}
-use Rattle.linker_base.specs.Form.{replaced, is_placed}
-use Rattle.linker_base.proofs.ConsecutiveBits.{consecutive_bits_sum}
-use Rattle.linker_base.proofs.Pairs.{signed_cases}
-use Rattle.linker_elf.specs.RiscV.{riscv_form, riscv_places}
-use Rattle.linker_elf.specs.RiscVRelocations.{pair_row}
-use Rattle.linker_elf.specs.declared.elf.RelocationKind.{RelocationKind}
-use Rattle.linker_elf.specs.declared.elf.value.Operands.{Operands}
-use Rattle.linker_elf.specs.declared.riscv64.forms.RiscVInstruction.TheVariants.{UType, IType}
-use Rattle.linker_riscv64.specs.RiscVFields.{opcode_of, funct3_of, rd_of}
-use Rattle.linker_utils.specs.RiscVRewrites.{rewrites_word}
-use Rattle.linker_base.specs.Rewrite.{rewritten}
-use Rattle.linker_base.proofs.Bits.{cast_negative}
-use Rattle.linker_elf.specs.Applied.{IsApplied}
+use Rattle.std.proofs.Common.{◌≡◌, ◌≢◌, ℕ, ◌+◌, ◌-◌, ◌*◌, ◌/◌, ◌%◌, ◌^◌, ◌<◌, true, false, refl, sym, ◌∙◌, ap, arith, List, length, pos, Some, inl, inr, w64}
+use Rattle.linker_laws.proofs.Imports.{w32, from_le_bytes, cast_signed, cast_unsigned, agree_below, ints, to_z_pos, of_z-to_z, field, signed, replaced, is_placed, consecutive_bits_sum, signed_cases, riscv_form, riscv_places, pair_row, RelocationKind, Operands, UType, IType, funct3_of, rewrites_word, rewritten, cast_negative, IsApplied}
+use Rattle.linker_riscv64.specs.RiscVFields.{opcode_of, rd_of}
 use Rattle.linker_laws.specs.Machine.{extended}
 use Rattle.linker_laws.specs.RiscVMachine.{lui, auipc, sums, adds, jumps, loads, of_word, action_of, rs1_of}
 use Rattle.linker_laws.proofs.RiscVLowParts.{is_action, word_there}

@@ -1,71 +1,33 @@
 -- RISC-V's groups.
-use Rattle.std.proofs.Common.{Bool, add-one, zero, ◌≡◌, ◌≢◌, ℕ, suc, ◌+◌, ◌-◌, ◌*◌, ◌%◌, ◌^◌, ◌<◌, ◌≤◌, true, false, refl, sym, ◌∙◌, ap, ap₂}
-use Rattle.std.proofs.Common.{subst, arith, List, [], ◌∷◌, length, take, drop, Some, le_refl}
-use Rattle.std.proofs.Common.{w64, pos, ◌+ℤ◌, ◌-ℤ◌, ℤ, inl, inr}
-use Rattle.std.specs.Prelude.{◌==◌, if◌then◌else◌, nat_lt, option_map, IsSomeAnd, IsTrue, Option, sum, ⊤}
-use Rattle.std.specs.Int.{w16, w32, cast_signed, from_le_bytes, int_rem_euclid}
-use Rattle.std.proofs.lemmas.Bool.{cond-true, cond-false, cases_lt, lt-ltb, le-ltb, ne_eqb}
-use Rattle.std.proofs.lemmas.Int.{ints}
-use Rattle.linker_base.specs.Bits.{field, signed}
+use Rattle.std.proofs.Common.{Bool, add-one, zero, ◌≡◌, ◌≢◌, ℕ, suc, ◌+◌, ◌-◌, ◌*◌, ◌%◌, ◌^◌, ◌<◌, ◌≤◌, true, false, refl, sym, ◌∙◌, ap, ap₂, subst, arith, List, [], ◌∷◌, length, take, drop, Some, le_refl, w64, pos, ◌+ℤ◌, ◌-ℤ◌, ℤ, inl, inr}
+use Rattle.linker_laws.proofs.Imports.{◌==◌, if◌then◌else◌, nat_lt, option_map, IsSomeAnd, IsTrue, w16, w32, cast_signed, from_le_bytes, int_rem_euclid, cond-true, cond-false, cases_lt, lt-ltb, le-ltb, ne_eqb, ints, field, signed, rewritten, low_12_bounds, IsWithin, riscv_form, riscv_places, pair_row, riscv_row, difference_64, sum_64, RelocationKind, Absolute, TpOff, PltRelative, RelocationKindInfo, Operands, UType, IType, SType, CluiType, CjType, JType, UiType, IsCallPair, funct3_of, word_of_front, rewrites_word, with_rs1}
+use Rattle.std.specs.Prelude.{Option, sum, ⊤}
 use Rattle.linker_base.specs.Form.{place_sum}
-use Rattle.linker_base.specs.Rewrite.{rewritten}
-use Rattle.linker_elf.specs.Choices.{low_12_bounds}
-use Rattle.linker_elf.specs.Elf.{IsWithin}
-use Rattle.linker_elf.specs.RiscV.{riscv_form, riscv_places}
-use Rattle.linker_elf.specs.RiscVRelocations.{pair_row, riscv_row}
-use Rattle.linker_elf.specs.Value.{difference_64, sum_64}
-use Rattle.linker_elf.specs.declared.elf.RelocationKind.{RelocationKind}
-use Rattle.linker_elf.specs.declared.elf.RelocationKind.TheVariants.{Absolute, TpOff, PltRelative}
 use Rattle.linker_elf.specs.declared.elf.RelocationKind.TheVariants.{GotRelative, GotTpOff, Relative, RelativeRiscVLow12, TlsDesc}
-use Rattle.linker_elf.specs.declared.elf.RelocationKindInfo.{RelocationKindInfo}
-use Rattle.linker_elf.specs.declared.elf.value.Operands.{Operands}
-use Rattle.linker_elf.specs.declared.riscv64.forms.RiscVInstruction.TheVariants.{UType, IType, SType, CluiType}
-use Rattle.linker_elf.specs.declared.riscv64.forms.RiscVInstruction.TheVariants.{CjType, JType, UiType}
 use Rattle.linker_elf.specs.declared.riscv64.relocations.RiscVRelocation.TheVariants as names
 use Rattle.linker_laws.specs.Changes.{go_to, put, with_register}
 use Rattle.linker_laws.specs.Machine.{AreBytes, loaded, moved, wrapped}
 use Rattle.linker_laws.specs.RiscVGroups as groups
-use Rattle.linker_laws.specs.RiscVGroups.{AreBefore, AreDeleted, Code, Has, Stands, bytes_at, continued, instruction_at, left, link, machine, seen}
-use Rattle.linker_laws.specs.RiscVGroups.{LowPartOf, upper_from, uses}
-use Rattle.linker_laws.specs.RiscVMachine.{Action, Hart, Instruction, action_of, add, adds, adds_word, auipc, executed}
-use Rattle.linker_laws.specs.RiscVMachine.{goes_to, i_type, jal, jumps, load_number, loads, loads_float, lui, of_half}
-use Rattle.linker_laws.specs.RiscVMachine.{of_word, register, rs1_of, rs2_of, s_type, step, stores, stores_float}
-use Rattle.linker_laws.specs.RiscVMachine.{sums, used, with_action, with_integer, with_number}
-use Rattle.linker_laws.specs.RiscVRelocationLaws.{AbsoluteAddresses, DescriptorAddresses, EntryAddresses, RelativeAddresses}
-use Rattle.linker_laws.specs.RiscVRelocationLaws.{ThreadAddresses, even}
-use Rattle.linker_laws.specs.RiscVRewriteLaws.{action_at, after_rewrite, IsLoadFromGot, IsLow12, low_row, of_entry}
-use Rattle.linker_laws.specs.RiscVRewriteLaws.{offset_row}
-use Rattle.linker_laws.specs.RiscVRewriteLaws.{t0, thread_offset, word_of}
+use Rattle.linker_laws.specs.RiscVGroups.{AreBefore, AreDeleted, Code, Has, Stands, bytes_at, continued, instruction_at, left, link, machine, seen, LowPartOf, upper_from, uses}
+use Rattle.linker_laws.specs.RiscVMachine.{Action, Hart, Instruction, action_of, add, adds, adds_word, auipc, executed, goes_to, i_type, jal, jumps, load_number, loads, loads_float, lui, of_half, of_word, register, rs1_of, rs2_of, s_type, step, stores, stores_float, sums, used, with_action, with_integer, with_number}
+use Rattle.linker_laws.specs.RiscVRelocationLaws.{AbsoluteAddresses, DescriptorAddresses, EntryAddresses, RelativeAddresses, ThreadAddresses, even}
+use Rattle.linker_laws.specs.RiscVRewriteLaws.{action_at, after_rewrite, IsLoadFromGot, IsLow12, low_row, of_entry, offset_row, t0, thread_offset, word_of}
 use Rattle.linker_laws.specs.Schemes.{AreAddresses, entry_and_addend, plt_address, symbol_address}
 use Rattle.linker_laws.specs.Simulation.{State, Program, Agree, AreOf, Group, Kind, Kinds, anything, of_link, run, same}
 use Rattle.linker_laws.proofs.AArch64Moves.{distance_is}
 use Rattle.linker_laws.proofs.AArch64Steps.{in_two_steps}
 use Rattle.linker_laws.proofs.Agreement.{agree_open, agree_put, agree_put_old, unchanged, value_group}
 use Rattle.linker_laws.proofs.CoveredRuns.{holds_of, run_first, run_on}
-use Rattle.linker_laws.proofs.RiscVDescriptors.{load_word, lui_word, sum_word, upper_long, upper_word}
-use Rattle.linker_laws.proofs.RiscVDescriptors.{call_word, low_long as low_long_word, made_word, ten, whole_number}
-use Rattle.linker_laws.proofs.RiscVHighParts.{IsFormulaOf, absolute_is, high_20, is_zero, low_12_number, near}
-use Rattle.linker_laws.proofs.RiscVHighParts.{no_high_part}
-use Rattle.linker_laws.proofs.RiscVHighParts.{of_address, of_offset, same_immediates, short_decodes, short_low}
-use Rattle.linker_laws.proofs.RiscVHighParts.{short_register, short_stands, upper_stands}
-use Rattle.linker_laws.proofs.RiscVJumps.{high_decodes, high_long, jump_leads}
-use Rattle.linker_laws.proofs.RiscVJumps.{low_decodes, low_long, pair_base, pair_leads, pair_link}
-use Rattle.linker_laws.proofs.RiscVJumps.{pair_register, same_destination, same_opcode, short_jump_function}
-use Rattle.linker_laws.proofs.RiscVJumps.{short_jump_leads, short_jump_low}
-use Rattle.linker_laws.proofs.RiscVLowParts.{IsBased, clear_0, clear_7, clear_12, clear_15, clear_20}
-use Rattle.linker_laws.proofs.RiscVLowParts.{i_kept, i_stands, is_action, low_sum, over_tp, over_zero}
-use Rattle.linker_laws.proofs.RiscVLowParts.{s_kept, s_stands, some_action, word_there}
-use Rattle.linker_laws.proofs.RiscVMachine.{address_is, fetched_half, fetched_word, is_cj, is_jal, is_long, is_sum}
-use Rattle.linker_laws.proofs.RiscVMachine.{moved_twice, other, written}
+use Rattle.linker_laws.proofs.RiscVDescriptors.{load_word, lui_word, sum_word, upper_long, upper_word, call_word, low_long as low_long_word, made_word, ten, whole_number}
+use Rattle.linker_laws.proofs.RiscVHighParts.{IsFormulaOf, absolute_is, high_20, is_zero, low_12_number, near, no_high_part, of_address, of_offset, same_immediates, short_decodes, short_low, short_register, short_stands, upper_stands}
+use Rattle.linker_laws.proofs.RiscVJumps.{high_decodes, high_long, jump_leads, low_decodes, low_long, pair_base, pair_leads, pair_link, pair_register, same_destination, same_opcode, short_jump_function, short_jump_leads, short_jump_low}
+use Rattle.linker_laws.proofs.RiscVLowParts.{IsBased, clear_0, clear_7, clear_12, clear_15, clear_20, i_kept, i_stands, is_action, low_sum, over_tp, over_zero, s_kept, s_stands, some_action, word_there}
+use Rattle.linker_laws.proofs.RiscVMachine.{address_is, fetched_half, fetched_word, is_cj, is_jal, is_long, is_sum, moved_twice, other, written}
 use Rattle.linker_laws.proofs.Sums.{lifted_is, sum_below}
 use Rattle.linker_laws.proofs.Words.{half_of_bytes, put_there, word_below, word_of_bytes}
-use Rattle.linker_riscv64.specs.RiscVCalls.{IsCallPair}
-use Rattle.linker_riscv64.specs.RiscVFields.{funct3_of, opcode_of, rd_of}
-use Rattle.linker_riscv64.proofs.Jumps.{word_of_front}
+use Rattle.linker_riscv64.specs.RiscVFields.{opcode_of, rd_of}
 use Rattle.linker_utils.proofs.RiscVRewrites.{half_of_front}
-use Rattle.linker_utils.specs.RiscVRewrites.{a0, adds_low12, call_to_jal, clui_to_cli, half_at, hi20_to_clui, IsLui}
-use Rattle.linker_utils.specs.RiscVRewrites.{load_to_addi, of_destination, rewrites_word, riscv_matches, tail_to_cj}
-use Rattle.linker_utils.specs.RiscVRewrites.{tail_to_jal, with_rs1}
+use Rattle.linker_utils.specs.RiscVRewrites.{a0, adds_low12, call_to_jal, clui_to_cli, half_at, hi20_to_clui, IsLui, load_to_addi, of_destination, riscv_matches, tail_to_cj, tail_to_jal}
 use Rattle.linker_utils.specs.declared.riscv64.rewrites.RewriteKind.TheVariants as kinds
 use Rattle.linker_utils.specs.declared.riscv64.rewrites.RewriteKind.{RewriteKind}
 

@@ -1,31 +1,20 @@
 -- The worked program of RISC-V.
-use Rattle.std.proofs.Common.{◌≡◌, ℕ, suc, ◌+◌, ◌-◌, ◌^◌, ◌<◌, ◌≤◌, Bool, true, false, refl, sym, ◌∙◌, ap}
-use Rattle.std.proofs.Common.{subst, arith, List, [], ◌∷◌, length, Option, lit<, lit≤, pos, leb, leb-true}
-use Rattle.std.proofs.Common.{Some, inr, true≢false}
-use Rattle.std.specs.Prelude.{◌%◌, ◌&&◌, IsSomeAnd, nat_lt, min, unsigned_abs}
-use Rattle.std.proofs.lemmas.Bool.{cond-false, cond-true, ltb-true}
-use Rattle.std.proofs.lemmas.Int.{ints}
-use Rattle.std.proofs.lemmas.List.Elements.{All-nil, All-cons}
+use Rattle.std.proofs.Common.{◌≡◌, ℕ, suc, ◌+◌, ◌-◌, ◌^◌, ◌<◌, ◌≤◌, Bool, true, false, refl, sym, ◌∙◌, ap, subst, arith, List, [], ◌∷◌, length, Option, lit<, lit≤, pos, leb, leb-true, Some, inr, true≢false}
+use Rattle.linker_laws.proofs.Imports.{◌&&◌, IsSomeAnd, nat_lt, min, cond-false, cond-true, ltb-true, ints, All-nil, All-cons, IsApplied, riscv_row, difference_64, sum_64, RelocationKindInfo, Operands}
+use Rattle.std.specs.Prelude.{◌%◌, unsigned_abs}
 use Rattle.linker_base.specs.Form.{place_sum}
-use Rattle.linker_elf.specs.Applied.{IsApplied}
-use Rattle.linker_elf.specs.RiscVRelocations.{riscv_row}
-use Rattle.linker_elf.specs.Value.{difference_64, sum_64}
-use Rattle.linker_elf.specs.declared.elf.RelocationKindInfo.{RelocationKindInfo}
-use Rattle.linker_elf.specs.declared.elf.value.Operands.{Operands}
 use Rattle.linker_elf.specs.declared.riscv64.relocations.RiscVRelocation.TheVariants as names
 use Rattle.linker_laws.specs.Changes.{put, with_register}
 use Rattle.linker_laws.specs.Machine.{AreBytes, loaded, moved as plus}
-use Rattle.linker_laws.specs.RiscVGroups.{Groups, Has, Stands, continued, instruction_at, link, machine}
-use Rattle.linker_laws.specs.RiscVGroups.{HasRoom, left, of_place, seen, uses, with_stored}
+use Rattle.linker_laws.specs.RiscVGroups.{Groups, Has, Stands, continued, instruction_at, link, machine, HasRoom, left, of_place, seen, uses, with_stored}
 use Rattle.linker_laws.specs.RiscVGroups.AreUsed.{as_stored, as_sum}
 use Rattle.linker_laws.specs.RiscVGroupsWorked.{IsWorked, code, is_entry, known, moved, new, old, others, starting, words}
 use Rattle.linker_laws.specs.RiscVMachine.{adds, goes_to, stores, step, with_integer}
 use Rattle.linker_laws.specs.RiscVRewriteLaws.{after_rewrite, of_entry}
 use Rattle.linker_laws.specs.Schemes.{AreAddresses}
-use Rattle.linker_laws.specs.Simulation.{Agree, Group, Kinds, Other, State, anything, ends, group}
-use Rattle.linker_laws.specs.Simulation.{of_link, other, run, same}
+use Rattle.linker_laws.specs.Simulation.{Agree, Group, Kinds, Other, State, anything, ends, group, of_link, other, run, same}
 use Rattle.linker_utils.specs.declared.riscv64.rewrites.RewriteKind.TheVariants as kinds
-use Rattle.linker_laws.proofs.AArch64GroupsWorked.{relocated}
+use Rattle.linker_laws.proofs.Relocated.{relocated}
 use Rattle.linker_laws.proofs.Agreement.{agree_put}
 use Rattle.linker_laws.proofs.RiscVGroups.{wrote}
 

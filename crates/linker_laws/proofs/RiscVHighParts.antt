@@ -1,41 +1,17 @@
 -- What `lui` and `c.lui` put in a register, once their relocations are applied.
-use Rattle.std.proofs.Common.{◌≡◌, ◌≢◌, ℕ, zero, suc, ◌+◌, ◌-◌, ◌*◌, ◌/◌, ◌%◌, ◌^◌, ◌<◌, ◌≤◌}
-use Rattle.std.proofs.Common.{false, refl, sym, ◌∙◌, ap, subst, arith, List, length}
-use Rattle.std.proofs.Common.{ℤ, pos, negsuc, Some, None, inl, inr, ◌⊎◌}
-use Rattle.std.proofs.Common.{if◌then◌else◌, w64, Option}
-use Rattle.std.specs.Prelude.{◌==◌, ◌&&◌, ◌||◌, not}
-use Rattle.std.specs.Int.{w16, w32, from_le_bytes, cast_signed}
-use Rattle.std.proofs.lemmas.Bool.{cases_lt}
-use Rattle.std.proofs.lemmas.Int.{ints, to_z_pos}
-use Rattle.linker_base.specs.Bits.{field, signed}
+use Rattle.std.proofs.Common.{◌≡◌, ◌≢◌, ℕ, zero, suc, ◌+◌, ◌-◌, ◌*◌, ◌/◌, ◌%◌, ◌^◌, ◌<◌, ◌≤◌, false, refl, sym, ◌∙◌, ap, subst, arith, List, length, ℤ, pos, negsuc, Some, None, inl, inr, ◌⊎◌, if◌then◌else◌, w64, Option}
+use Rattle.linker_laws.proofs.Imports.{◌==◌, ◌&&◌, ◌||◌, not, w16, w32, from_le_bytes, cast_signed, cases_lt, ints, to_z_pos, field, signed, BitRange, signed_cases, low_12_bounds, IsWithin, riscv_form, riscv_places, pair_row, sum_64, difference_64, value_of, RelocationKind, Absolute, TpOff, RiscVInstruction, Operands, UType, CluiType, CjType, cast_negative, IsApplied}
 use Rattle.linker_base.specs.Form.{place_sum}
-use Rattle.linker_base.specs.declared.bit_misc.BitRange.{BitRange}
-use Rattle.linker_base.proofs.Pairs.{signed_cases}
-use Rattle.linker_elf.specs.Choices.{low_12_bounds}
-use Rattle.linker_elf.specs.Elf.{IsWithin}
 use Rattle.linker_elf.specs.Reach.{clui_bounds}
-use Rattle.linker_elf.specs.RiscV.{riscv_form, riscv_places}
 use Rattle.linker_riscv64.specs.RiscVFields.{opcode_of, rd_of}
-use Rattle.linker_elf.specs.RiscVRelocations.{pair_row}
-use Rattle.linker_elf.specs.Value.{sum_64, difference_64, value_of}
-use Rattle.linker_elf.specs.declared.elf.RelocationKind.{RelocationKind}
-use Rattle.linker_elf.specs.declared.elf.RelocationKind.TheVariants.{Absolute, TpOff}
-use Rattle.linker_elf.specs.declared.riscv64.forms.RiscVInstruction.{RiscVInstruction}
-use Rattle.linker_elf.specs.declared.elf.value.Operands.{Operands}
-use Rattle.linker_elf.specs.declared.riscv64.forms.RiscVInstruction.TheVariants.{UType, CluiType}
-use Rattle.linker_elf.specs.declared.riscv64.forms.RiscVInstruction.TheVariants.{CjType}
 use Rattle.linker_elf.proofs.RiscV.{u_laid, clui_laid}
-use Rattle.linker_base.proofs.Bits.{cast_negative}
-use Rattle.linker_elf.specs.Applied.{IsApplied}
 use Rattle.linker_laws.specs.Schemes.{symbol_address}
 use Rattle.linker_laws.proofs.Applied.{value_is, taken_bits}
 use Rattle.linker_laws.proofs.Instructions.{unbiased}
 use Rattle.linker_laws.proofs.Sums.{sum_below}
 use Rattle.linker_laws.specs.Machine.{wrapped}
 use Rattle.linker_laws.specs.RiscVRewriteLaws.{IsLow12, thread_offset}
-use Rattle.linker_laws.specs.RiscVMachine.{lui, sums, jal}
-use Rattle.linker_laws.specs.RiscVMachine.{of_half, of_clui, Instruction, adds}
-use Rattle.linker_laws.specs.RiscVMachine.{cli_immediate}
+use Rattle.linker_laws.specs.RiscVMachine.{lui, sums, jal, of_half, of_clui, Instruction, adds, cli_immediate}
 use Rattle.linker_laws.proofs.Words.{kept_field}
 
 -- ---- numbers of 12 bits, and those of 18 that `c.lui` and a low part make

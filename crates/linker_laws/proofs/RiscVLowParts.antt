@@ -1,46 +1,19 @@
 -- The instructions that add a low part do the same with x0 as their base.
-use Rattle.std.proofs.Common.{◌≡◌, ℕ, ◌+◌, ◌-◌, ◌*◌, ◌%◌, ◌^◌, ◌<◌, ◌≤◌, Bool}
-use Rattle.std.proofs.Common.{true, false, refl, sym, ◌∙◌, ap, subst, arith, List, length, drop}
-use Rattle.std.proofs.Common.{◌++◌, ℤ, pos, ◌-ℤ◌, ◌+ℤ◌, Option, Some, None, inl, inr, ◌⊎◌}
-use Rattle.std.proofs.Common.{if◌then◌else◌, w64, int_lt}
-use Rattle.std.specs.Prelude.{◌==◌, ◌&&◌, ◌||◌, nat_lt, IsTrue}
-use Rattle.std.specs.Int.{w32, from_le_bytes, to_le_bytes, cast_signed}
-use Rattle.std.proofs.lemmas.Bool.{and_parts, cond_both, eqb-true, agree_below}
-use Rattle.std.proofs.lemmas.Int.{ints}
-use Rattle.std.proofs.lemmas.List.{length-drop}
-use Rattle.linker_base.specs.Bits.{field, signed}
-use Rattle.linker_base.specs.Form.{place_sum, is_placed}
-use Rattle.linker_base.specs.Rewrite.{rewritten}
-use Rattle.linker_base.specs.declared.bit_misc.BitRange.{BitRange}
-use Rattle.linker_base.proofs.Immediates.{layout_laid, always_clear}
-use Rattle.linker_base.proofs.Pairs.{signed_cases}
-use Rattle.linker_elf.specs.Relocate.{bits_taken}
-use Rattle.linker_elf.specs.RiscV.{riscv_form, riscv_layout, riscv_places}
-use Rattle.linker_utils.specs.RiscVRewrites.{rewrites_word, with_rs1}
+use Rattle.std.proofs.Common.{◌≡◌, ℕ, ◌+◌, ◌-◌, ◌*◌, ◌%◌, ◌^◌, ◌<◌, ◌≤◌, Bool, true, false, refl, sym, ◌∙◌, ap, subst, arith, List, length, drop, ◌++◌, ℤ, pos, ◌-ℤ◌, ◌+ℤ◌, Option, Some, None, inl, inr, ◌⊎◌, if◌then◌else◌, w64, int_lt}
+use Rattle.linker_laws.proofs.Imports.{◌==◌, ◌&&◌, ◌||◌, nat_lt, IsTrue, w32, from_le_bytes, to_le_bytes, cast_signed, and_parts, eqb-true, agree_below, ints, length-drop, field, signed, is_placed, rewritten, BitRange, layout_laid, always_clear, signed_cases, bits_taken, riscv_form, riscv_places, rewrites_word, with_rs1, RelocationKind, funct3_of, pair_row, sum_64, value_of, Operands, UType, IType, SType, JType, word_of_front, IsApplied}
+use Rattle.std.proofs.lemmas.Bool.{cond_both}
+use Rattle.linker_base.specs.Form.{place_sum}
+use Rattle.linker_elf.specs.RiscV.{riscv_layout}
 use Rattle.linker_utils.specs.declared.riscv64.rewrites.RewriteKind.{RewriteKind}
-use Rattle.linker_elf.specs.declared.elf.RelocationKind.{RelocationKind}
 use Rattle.linker_riscv64.specs.RiscVCalls.{word_at}
-use Rattle.linker_riscv64.specs.RiscVFields.{opcode_of, funct3_of, rd_of}
+use Rattle.linker_riscv64.specs.RiscVFields.{opcode_of, rd_of}
 use Rattle.linker_utils.specs.RiscVRewrites.{adds_low12}
-use Rattle.linker_elf.specs.RiscVRelocations.{pair_row}
 use Rattle.linker_utils.specs.declared.riscv64.rewrites.RewriteKind.TheVariants as kinds
-use Rattle.linker_elf.specs.Value.{sum_64, value_of}
-use Rattle.linker_elf.specs.declared.elf.value.Operands.{Operands}
-use Rattle.linker_elf.specs.declared.riscv64.forms.RiscVInstruction.TheVariants.{UType, IType}
-use Rattle.linker_elf.specs.declared.riscv64.forms.RiscVInstruction.TheVariants.{SType, JType}
-use Rattle.linker_riscv64.proofs.Jumps.{word_of_front}
-use Rattle.linker_elf.specs.Applied.{IsApplied}
 use Rattle.linker_laws.proofs.Applied.{value_is, taken_bits}
 use Rattle.linker_laws.specs.Machine.{AreBytes, moved}
 use Rattle.linker_laws.specs.RiscVRewriteLaws.{after_rewrite}
-use Rattle.linker_laws.specs.RiscVMachine.{Action, adds}
-use Rattle.linker_laws.specs.RiscVMachine.{adds_word, jumps, loads, stores, loads_float}
-use Rattle.linker_laws.specs.RiscVMachine.{stores_float, lui, auipc, jal, rs1_of}
-use Rattle.linker_laws.specs.RiscVMachine.{rs2_of, action_of, with_action, of_word}
-use Rattle.linker_laws.specs.RiscVMachine.{is_add}
-use Rattle.linker_laws.specs.RiscVMachine.{add}
-use Rattle.linker_laws.proofs.RiscVMachine.{wrapped_is}
-use Rattle.linker_laws.proofs.RiscVMachine.{written}
+use Rattle.linker_laws.specs.RiscVMachine.{Action, adds, adds_word, jumps, loads, stores, loads_float, stores_float, lui, auipc, jal, rs1_of, rs2_of, action_of, with_action, of_word, is_add, add}
+use Rattle.linker_laws.proofs.RiscVMachine.{wrapped_is, written}
 use Rattle.linker_laws.proofs.Words.{kept_field, put_there, word_below, word_of_bytes}
 
 -- ---- which instruction a word is

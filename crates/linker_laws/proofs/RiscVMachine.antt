@@ -1,31 +1,15 @@
 -- What RISC-V's instructions are, by their bits, and what they leave.
-use Rattle.std.proofs.Common.{◌≡◌, ◌≢◌, ℕ, ◌+◌, ◌-◌, ◌*◌, ◌/◌, ◌%◌, ◌^◌, ◌<◌, ◌≤◌, Bool, true}
-use Rattle.std.proofs.Common.{false, refl, sym, ◌∙◌, ap, arith, List, length, drop, ℤ, pos}
-use Rattle.std.proofs.Common.{negsuc, ◌+ℤ◌, ◌*ℤ◌, unsigned_abs, Option, Some, None}
-use Rattle.std.proofs.Common.{if◌then◌else◌}
-use Rattle.std.specs.Prelude.{◌==◌, ◌&&◌, nat_le, not, option_map}
-use Rattle.std.specs.Int.{w16, w32, from_le_bytes}
-use Rattle.std.proofs.lemmas.Bool.{le-leb}
-use Rattle.std.proofs.lemmas.Int.{ints}
-use Rattle.linker_base.specs.Bits.{field, signed}
-use Rattle.linker_base.specs.Form.{place_sum, replaced}
-use Rattle.linker_base.proofs.ConsecutiveBits.{consecutive_bits_sum}
-use Rattle.linker_elf.specs.RiscV.{riscv_form, riscv_places, ui_high, ui_low}
-use Rattle.linker_riscv64.specs.RiscVFields.{opcode_of, funct3_of, rd_of}
-use Rattle.linker_elf.specs.Value.{sum_64, difference_64}
-use Rattle.linker_elf.specs.declared.riscv64.forms.RiscVInstruction.TheVariants.{UType, IType}
-use Rattle.linker_elf.specs.declared.riscv64.forms.RiscVInstruction.TheVariants.{CjType, CluiType, JType}
-use Rattle.linker_elf.specs.declared.riscv64.forms.RiscVInstruction.TheVariants.{UiType}
+use Rattle.std.proofs.Common.{◌≡◌, ◌≢◌, ℕ, ◌+◌, ◌-◌, ◌*◌, ◌/◌, ◌%◌, ◌^◌, ◌<◌, ◌≤◌, Bool, true, false, refl, sym, ◌∙◌, ap, arith, List, length, drop, ℤ, pos, negsuc, ◌+ℤ◌, ◌*ℤ◌, unsigned_abs, Option, Some, None, if◌then◌else◌}
+use Rattle.linker_laws.proofs.Imports.{◌==◌, ◌&&◌, nat_le, not, option_map, w16, w32, from_le_bytes, le-leb, ints, field, signed, replaced, consecutive_bits_sum, riscv_form, riscv_places, funct3_of, sum_64, difference_64, UType, IType, CjType, CluiType, JType, UiType}
+use Rattle.linker_base.specs.Form.{place_sum}
+use Rattle.linker_elf.specs.RiscV.{ui_high, ui_low}
+use Rattle.linker_riscv64.specs.RiscVFields.{opcode_of, rd_of}
 use Rattle.linker_laws.specs.Schemes.{IsAddress}
 use Rattle.linker_laws.specs.RiscVRelocationLaws.{without_bit_0}
 use Rattle.linker_laws.proofs.RiscV.{bit_cleared}
 use Rattle.linker_laws.proofs.Sums.{lift, lifted_is}
 use Rattle.linker_laws.specs.Machine.{wrapped, moved}
-use Rattle.linker_laws.specs.RiscVMachine.{Hart, register, with_integer, Instruction, lui, auipc}
-use Rattle.linker_laws.specs.RiscVMachine.{jal, sums, jumps, rs1_of, rs2_of, action_of}
-use Rattle.linker_laws.specs.RiscVMachine.{with_action, add, adds, cli_immediate, of_clui}
-use Rattle.linker_laws.specs.RiscVMachine.{of_word, of_half, executed, sized, fetched}
-use Rattle.linker_laws.specs.RiscVMachine.{Steps}
+use Rattle.linker_laws.specs.RiscVMachine.{Hart, register, with_integer, Instruction, lui, auipc, jal, sums, jumps, rs1_of, rs2_of, action_of, with_action, add, adds, cli_immediate, of_clui, of_word, of_half, executed, sized, fetched, Steps}
 use Rattle.linker_laws.proofs.Words.{same_low_two}
 
 -- ---- sums of addresses

@@ -1,7 +1,6 @@
 -- Numbers that are rounded before they are taken apart.
 use Rattle.std.proofs.Common.{◌≡◌, ℕ, ◌^◌, ◌<◌, arith}
-use Rattle.linker_elf.specs.Value.{sum_64, difference_64}
-use Rattle.linker_elf.specs.declared.elf.value.Operands.{Operands}
+use Rattle.linker_laws.proofs.Imports.{sum_64, difference_64, Operands}
 use Rattle.linker_laws.specs.Schemes.{AreAddresses}
 use Rattle.linker_laws.proofs.Instructions.{IsSmall, relative, absolute}
 

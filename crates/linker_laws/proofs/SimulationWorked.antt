@@ -1,17 +1,11 @@
 -- The worked program.
-use Rattle.std.proofs.Common.{◌≡◌, ◌≢◌, ℕ, ◌+◌, ◌-◌, ◌%◌, ◌^◌, ◌<◌, Bool, true, false, refl}
-use Rattle.std.proofs.Common.{arith, ap, ap₂, sym, ◌∙◌, subst, subst₂, true≢false, lit<, add-zero}
-use Rattle.std.proofs.Common.{pos, unsigned_abs, eqb-true, leb-true, leb-false}
+use Rattle.std.proofs.Common.{◌≡◌, ◌≢◌, ℕ, ◌+◌, ◌-◌, ◌%◌, ◌^◌, ◌<◌, Bool, true, false, refl, arith, ap, ap₂, sym, ◌∙◌, subst, subst₂, true≢false, lit<, add-zero, pos, unsigned_abs, eqb-true, leb-true, leb-false}
 use Rattle.std.proofs.lemmas.Bool.{ne_eqb, cond-false, cond-true, eq-eqb}
 use Rattle.std.specs.Prelude.{IsSomeAnd, if◌then◌else◌, ◌==◌, nat_le, [], ◌∷◌}
 use Rattle.linker_laws.specs.Machine.{Memory, loaded}
-use Rattle.linker_laws.specs.Simulation.{State, Kind, Kinds, AreOf, AreStored, Agree, run, same}
-use Rattle.linker_laws.specs.Simulation.{half, code, anything, Other, Group, Covered, ends, other, group}
-use Rattle.linker_laws.specs.Simulation.{Stops, of_link}
-use Rattle.linker_laws.specs.SimulationWorked.{IsWorked, machine, link, first_old, first_new}
+use Rattle.linker_laws.specs.Simulation.{State, Kind, Kinds, AreOf, AreStored, Agree, run, same, half, code, anything, Other, Group, Covered, ends, other, group, Stops, of_link}
+use Rattle.linker_laws.specs.SimulationWorked.{IsWorked, machine, link, first_old, first_new, put_byte, put_out, with_byte, case_less_base, first_known, of_byte, new_address}
 use Rattle.linker_laws.specs.Changes.{put, go_to, with_register}
-use Rattle.linker_laws.specs.SimulationWorked.{put_byte, put_out, with_byte}
-use Rattle.linker_laws.specs.SimulationWorked.{case_less_base, first_known, of_byte, new_address}
 use Rattle.linker_laws.proofs.CoveredRuns.{once}
 use Rattle.linker_laws.proofs.Agreement.{agree_put, agree_put_old, agree_go}
 

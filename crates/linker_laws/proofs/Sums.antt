@@ -1,19 +1,7 @@
 -- Sums of addresses modulo 2 ^ 64, of numbers in parts.
-use Rattle.std.proofs.Common.{FitsSigned, ◌≡◌, ℕ, suc, ◌+◌, ◌-◌, ◌*◌, ◌/◌, ◌%◌, ◌^◌, ◌<◌, refl, sym}
-use Rattle.std.proofs.Common.{◌∙◌, ap, subst, arith, inl, inr, ℤ, pos, negsuc, ◌+ℤ◌, ◌*ℤ◌}
-use Rattle.std.proofs.Common.{unsigned_abs}
-use Rattle.std.specs.Int.{w64, cast_signed, int_rem_euclid}
-use Rattle.std.proofs.lemmas.Bool.{cases_lt}
-use Rattle.std.proofs.lemmas.Int.{ints, int_rem_euclid_is, to_z_pos}
-use Rattle.std.proofs.lemmas.Nat.{mod_below, pow_pos, div-add-mod'}
+use Rattle.std.proofs.Common.{FitsSigned, ◌≡◌, ℕ, suc, ◌+◌, ◌-◌, ◌*◌, ◌/◌, ◌%◌, ◌^◌, ◌<◌, refl, sym, ◌∙◌, ap, subst, arith, inl, inr, ℤ, pos, negsuc, ◌+ℤ◌, ◌*ℤ◌, unsigned_abs}
+use Rattle.linker_laws.proofs.Imports.{w64, cast_signed, int_rem_euclid, cases_lt, ints, int_rem_euclid_is, to_z_pos, mod_below, pow_pos, div-add-mod', signed, signed_cases, bits_from, page, sum_64, difference_64, rem_rem, cast_negative}
 use Rattle.std.proofs.Math.Facts.{sfits_to_z}
-use Rattle.linker_base.specs.Bits.{signed}
-use Rattle.linker_base.proofs.Pairs.{signed_cases}
-use Rattle.linker_elf.specs.Agrees.{bits_from}
-use Rattle.linker_elf.specs.LoongArch.{page}
-use Rattle.linker_elf.specs.Value.{sum_64, difference_64}
-use Rattle.linker_elf.proofs.Agreement.{rem_rem}
-use Rattle.linker_base.proofs.Bits.{cast_negative}
 use Rattle.linker_laws.specs.Schemes.{IsAddress}
 
 -- ---- addresses of sums

@@ -1,20 +1,9 @@
 -- Words and halves of bytes, and what writing an immediate keeps of them.
-use Rattle.std.proofs.Common.{◌≡◌, ℕ, ◌+◌, ◌-◌, ◌*◌, ◌^◌, ◌<◌, ◌≤◌, Bool, true, false, refl}
-use Rattle.std.proofs.Common.{◌∙◌, ap, arith, List, [], ◌∷◌, ◌++◌, length, take, drop, ℤ, pos}
-use Rattle.std.proofs.Common.{int_lt, subst, Some}
-use Rattle.std.specs.Int.{w16, w32, w64, from_le_bytes, to_le_bytes, bit_at}
-use Rattle.std.proofs.lemmas.Bool.{agree_below, agree_below_at}
-use Rattle.std.proofs.lemmas.List.{append_assoc, take_at, drop_at, length-append, length-take}
-use Rattle.std.proofs.lemmas.Nat.{from_le_bytes-to_le_bytes_2, from_le_bytes-to_le_bytes_4}
-use Rattle.linker_base.specs.Bits.{field}
-use Rattle.linker_base.specs.Form.{window_of, is_placed}
-use Rattle.linker_base.specs.Rewrite.{rewritten, replaces}
-use Rattle.linker_base.specs.declared.bit_misc.BitRange.{BitRange}
-use Rattle.linker_base.proofs.Fields.{same_fields}
-use Rattle.linker_elf.specs.Relocate.{InstructionWritten}
-use Rattle.linker_elf.specs.RiscV.{riscv_form}
-use Rattle.linker_elf.specs.declared.elf.RelocationInstruction.TheVariants.{RiscV}
-use Rattle.linker_elf.specs.declared.riscv64.forms.RiscVInstruction.{RiscVInstruction}
+use Rattle.std.proofs.Common.{◌≡◌, ℕ, ◌+◌, ◌-◌, ◌*◌, ◌^◌, ◌<◌, ◌≤◌, Bool, true, false, refl, ◌∙◌, ap, arith, List, [], ◌∷◌, ◌++◌, length, take, drop, ℤ, pos, int_lt, subst, Some}
+use Rattle.linker_laws.proofs.Imports.{w16, w32, w64, from_le_bytes, to_le_bytes, bit_at, agree_below, append_assoc, drop_at, from_le_bytes-to_le_bytes_4, field, window_of, is_placed, rewritten, replaces, BitRange, same_fields, InstructionWritten, riscv_form, RiscV, RiscVInstruction}
+use Rattle.std.proofs.lemmas.Bool.{agree_below_at}
+use Rattle.std.proofs.lemmas.List.{take_at, length-append, length-take}
+use Rattle.std.proofs.lemmas.Nat.{from_le_bytes-to_le_bytes_2}
 use Rattle.linker_laws.specs.Machine.{AreBytes, deleted}
 
 -- ---- words

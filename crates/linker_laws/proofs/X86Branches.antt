@@ -1,22 +1,11 @@
 -- Branches through the GOT, and direct ones.
-use Rattle.std.proofs.Common.{◌≡◌, ℕ, ◌-◌, ◌^◌, ◌<◌, ◌≤◌, List, [], ◌∷◌, take, drop, sym}
-use Rattle.std.proofs.Common.{◌∙◌, ap, arith, subst, Some}
-use Rattle.std.specs.Int.{w64, cast_unsigned}
-use Rattle.std.proofs.lemmas.List.Elements.{All-drop}
-use Rattle.linker_base.specs.Rewrite.{rewritten}
-use Rattle.linker_elf.specs.Relocate.{number_of_bytes}
-use Rattle.linker_elf.specs.Value.{sum_64, difference_64}
-use Rattle.linker_utils.specs.X86Rewrites.{x86_64_rewrite}
-use Rattle.linker_utils.specs.X86Rewrites.{original, byte, field4, x86_64_originals}
-use Rattle.linker_elf.specs.declared.elf.value.Operands.{Operands}
+use Rattle.std.proofs.Common.{◌≡◌, ℕ, ◌-◌, ◌^◌, ◌<◌, ◌≤◌, List, [], ◌∷◌, take, drop, sym, ◌∙◌, ap, arith, subst, Some}
+use Rattle.linker_laws.proofs.Imports.{w64, cast_unsigned, All-drop, rewritten, number_of_bytes, sum_64, difference_64, x86_64_rewrite, original, byte, field4, x86_64_originals, Operands, IsApplied}
 use Rattle.linker_elf.specs.declared.x86_64.relocations.X86_64Relocation.TheVariants as names
 use Rattle.linker_utils.specs.declared.x86_64.rewrites.RewriteKind.TheVariants as kinds
-use Rattle.linker_elf.specs.Applied.{IsApplied}
 use Rattle.linker_laws.proofs.Sums.{difference_below}
 use Rattle.linker_laws.specs.X86RewriteLaws.{IsBefore, address}
-use Rattle.linker_laws.specs.X86Machine.{State, Target, Instruction, load, extended, call, jump}
-use Rattle.linker_laws.specs.X86Machine.{direct, indirect}
-use Rattle.linker_laws.specs.X86Machine.{decode}
+use Rattle.linker_laws.specs.X86Machine.{State, Target, Instruction, load, extended, call, jump, direct, indirect, decode}
 use Rattle.linker_laws.proofs.X86Bytes.{two_bytes}
 use Rattle.linker_laws.proofs.X86Codes.{pattern_there, call_codes, jump_codes}
 use Rattle.linker_laws.proofs.X86Decoding.{Rewrites, begun, fewer}

@@ -1,14 +1,7 @@
 -- The code before and after each rewrite, from the instruction's first byte.
-use Rattle.std.proofs.Common.{◌≡◌, ℕ, ◌+◌, ◌-◌, ◌<◌, ◌≤◌, List, [], ◌∷◌, ◌++◌, length, take, drop}
-use Rattle.std.proofs.Common.{sym}
-use Rattle.std.proofs.Common.{◌∙◌, ap, arith, Some, true, IsTrue, leb}
-use Rattle.std.proofs.lemmas.Bool.{and_parts, leb-true}
-use Rattle.std.proofs.Math.Bool.{or-false}
-use Rattle.std.proofs.lemmas.List.{length-drop}
-use Rattle.linker_base.specs.Rewrite.{rewritten, replaces}
+use Rattle.std.proofs.Common.{◌≡◌, ℕ, ◌+◌, ◌-◌, ◌<◌, ◌≤◌, List, [], ◌∷◌, ◌++◌, length, take, drop, sym, ◌∙◌, ap, arith, Some, true, IsTrue, leb}
+use Rattle.linker_laws.proofs.Imports.{and_parts, leb-true, or-false, length-drop, rewritten, replaces, absolute, operand, prefixed_operand, evex_operand, puts, Original, is_one_at, is_at, begins}
 use Rattle.linker_utils.specs.X86Rewrites as x86
-use Rattle.linker_utils.specs.X86Rewrites.{absolute, operand, prefixed_operand, evex_operand, puts}
-use Rattle.linker_utils.specs.X86Rewrites.{Original, is_one_at, is_at, begins}
 use Rattle.linker_utils.specs.declared.x86_64.rewrites.RewriteKind.TheVariants.{JmpIndirectToRelative}
 use Rattle.linker_laws.proofs.X86Sections.{original_code, rewritten_code}
 

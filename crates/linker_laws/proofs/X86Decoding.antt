@@ -1,29 +1,12 @@
 -- How instructions are decoded before and after a rewrite.
-use Rattle.std.proofs.Common.{◌≡◌, ℕ, zero, suc, ◌+◌, ◌∙◌, List, [], ◌∷◌, ◌++◌, take, drop, length, ap, ap₂, refl, arith}
-use Rattle.std.proofs.Common.{true, Some, None, Option, suc-add, IsSomeAnd, IsTrue, subst, eqb, get_or, ◌-◌}
-use Rattle.std.specs.Int.{w64, bit_at, from_le_bytes}
+use Rattle.std.proofs.Common.{◌≡◌, ℕ, zero, suc, ◌+◌, ◌∙◌, List, [], ◌∷◌, ◌++◌, take, drop, length, ap, ap₂, refl, arith, true, Some, None, Option, suc-add, IsSomeAnd, IsTrue, subst, eqb, get_or, ◌-◌}
+use Rattle.linker_laws.proofs.Imports.{w64, bit_at, from_le_bytes, cond-true, cond-false, rewritten, offset_after, operands_after, number_of_bytes, sum_64, Operands, X86_64Relocation, x86_64_relocation_after, Original, is_one_at, x86_64_matches, x86_64_rewrite}
 use Rattle.std.specs.Prelude.{replicate}
-use Rattle.std.proofs.lemmas.Bool.{cond-true, cond-false}
-use Rattle.linker_base.specs.Rewrite.{rewritten, offset_after}
-use Rattle.linker_elf.specs.Choices.{operands_after}
-use Rattle.linker_elf.specs.Relocate.{number_of_bytes}
-use Rattle.linker_elf.specs.Value.{sum_64}
-use Rattle.linker_elf.specs.declared.elf.value.Operands.{Operands}
-use Rattle.linker_elf.specs.declared.x86_64.relocations.X86_64Relocation.{X86_64Relocation}
 use Rattle.linker_utils.specs.X86Rewrites as x86
 use Rattle.linker_laws.specs.X86Groups.{sets_flags}
-use Rattle.linker_laws.specs.X86Machine.{Prefix, Operation, Instruction, State, decode}
-use Rattle.linker_laws.specs.X86Machine.{decode_opcode}
-use Rattle.linker_laws.specs.X86Machine.{decode_modrm, decode_relative, on_immediate, rex_prefix}
-use Rattle.linker_laws.specs.X86Machine.{rex2_prefix}
-use Rattle.linker_laws.specs.X86Machine.{immediate_operation, is_relative, is_register, reg_of}
-use Rattle.linker_laws.specs.X86Machine.{sized, operate, register, immediate, is_rex}
-use Rattle.linker_laws.specs.X86Machine.{execute}
-use Rattle.linker_laws.specs.X86Machine.{load}
+use Rattle.linker_laws.specs.X86Machine.{Prefix, Operation, Instruction, State, decode, decode_opcode, decode_modrm, decode_relative, on_immediate, rex_prefix, rex2_prefix, immediate_operation, is_relative, is_register, reg_of, sized, operate, register, immediate, is_rex, execute, load}
 use Rattle.linker_laws.specs.X86RewriteLaws.{IsBefore, IsRelocated}
 use Rattle.linker_laws.proofs.X86Bytes.{IsMoved}
-use Rattle.linker_utils.specs.X86RelocationsAfter.{x86_64_relocation_after}
-use Rattle.linker_utils.specs.X86Rewrites.{Original, is_one_at, x86_64_matches, x86_64_rewrite}
 use Rattle.linker_utils.specs.declared.x86_64.rewrites.RewriteKind.{RewriteKind}
 
 -- by the ModRM byte of a relative address

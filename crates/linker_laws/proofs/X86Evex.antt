@@ -1,37 +1,16 @@
 -- Operations with EVEX, on a number from the GOT and on an immediate.
-use Rattle.std.proofs.Common.{◌≡◌, ℕ, ◌+◌, ◌-◌, ◌*◌, ◌%◌, ◌^◌, ◌<◌, ◌≤◌, List, [], ◌∷◌, ◌++◌, drop}
-use Rattle.std.proofs.Common.{take, refl, sym, ◌∙◌, ap, arith, Some, inl, inr, IsTrue}
-use Rattle.std.proofs.Common.{Bool, true, false, not, ◌&&◌, ◌||◌, eqb, bit_and, bit_or}
-use Rattle.std.specs.Int.{bit_at}
-use Rattle.std.proofs.lemmas.Bool.{and_parts, or_cases, eqb-true, cond-true, cond-false}
-use Rattle.std.proofs.Math.Bool.{or-false}
-use Rattle.std.proofs.lemmas.List.Elements.{All-drop}
-use Rattle.linker_base.specs.Bits.{field}
-use Rattle.linker_base.specs.Rewrite.{rewritten, IsRewritable}
-use Rattle.linker_elf.specs.Relocate.{number_of_bytes}
-use Rattle.linker_elf.specs.Value.{sum_64}
+use Rattle.std.proofs.Common.{◌≡◌, ℕ, ◌+◌, ◌-◌, ◌*◌, ◌%◌, ◌^◌, ◌<◌, ◌≤◌, List, [], ◌∷◌, ◌++◌, drop, take, refl, sym, ◌∙◌, ap, arith, Some, inl, inr, IsTrue, Bool, true, false, not, ◌&&◌, ◌||◌, eqb, bit_and, bit_or}
+use Rattle.linker_laws.proofs.Imports.{bit_at, and_parts, or_cases, eqb-true, cond-true, cond-false, or-false, All-drop, field, rewritten, IsRewritable, number_of_bytes, sum_64, absolute, evex_operand, Original, is_one_at, is_at, Operands}
 use Rattle.linker_utils.specs.X86Rewrites as x86
-use Rattle.linker_utils.specs.X86Rewrites.{absolute, evex_operand}
-use Rattle.linker_utils.specs.X86Rewrites.{Original, is_one_at, is_at, with_evex, evex_any_v}
-use Rattle.linker_utils.specs.X86Rewrites.{evex_new_destination, evex_no_v, evex_same_destination}
-use Rattle.linker_utils.specs.X86Rewrites.{legacy_or_evex}
-use Rattle.linker_elf.specs.declared.elf.value.Operands.{Operands}
+use Rattle.linker_utils.specs.X86Rewrites.{with_evex, evex_any_v, evex_new_destination, evex_no_v, evex_same_destination, legacy_or_evex}
 use Rattle.linker_laws.proofs.Sums.{difference_below}
 use Rattle.linker_laws.specs.X86RewriteLaws.{IsBefore, IsRelocatedBy, thread_offset}
-use Rattle.linker_laws.specs.X86Machine.{State, Operation, ADD, OR, ADC, SBB, AND, XOR, load}
-use Rattle.linker_laws.specs.X86Machine.{extended, reg_of, rm_of, evex_prefix, operate_into}
-use Rattle.linker_laws.specs.X86Machine.{register, relative, immediate, decode, is_relative}
-use Rattle.linker_laws.specs.X86Machine.{is_register, operation_of, immediate_operation, is_evex}
-use Rattle.linker_laws.specs.X86Machine.{is_map_4, has_no_index, has_zeros, is_in_map_4}
-use Rattle.linker_laws.specs.X86Machine.{is_without_flags, destination_of, v_register, on_evex}
-use Rattle.linker_laws.specs.X86Machine.{evex_modrm, into, Operand, Prefix}
-use Rattle.linker_laws.proofs.X86Bytes.{IsEvexByte, all_below, below, implied, moved_test}
-use Rattle.linker_laws.proofs.X86Bytes.{modrm_byte, IsAfterEvex, after_evex, is_false}
+use Rattle.linker_laws.specs.X86Machine.{State, Operation, ADD, OR, ADC, SBB, AND, XOR, load, extended, reg_of, rm_of, evex_prefix, operate_into, register, relative, immediate, decode, is_relative, is_register, operation_of, immediate_operation, is_evex, is_map_4, has_no_index, has_zeros, is_in_map_4, is_without_flags, destination_of, v_register, on_evex, evex_modrm, into, Operand, Prefix}
+use Rattle.linker_laws.proofs.X86Bytes.{IsEvexByte, all_below, below, implied, moved_test, modrm_byte, IsAfterEvex, after_evex, is_false}
 use Rattle.linker_laws.proofs.X86Codes.{pattern_there, evex_codes}
 use Rattle.linker_laws.proofs.X86Decoding.{AreReplaced, begun}
 use Rattle.linker_laws.proofs.X86Fields.{got_row, signed_immediate, tls_got_row, thread_row}
-use Rattle.linker_laws.proofs.X86Immediates.{absolute_operands, entry, tls_entry, long_immediate}
-use Rattle.linker_laws.proofs.X86Immediates.{offset_immediate}
+use Rattle.linker_laws.proofs.X86Immediates.{absolute_operands, entry, tls_entry, long_immediate, offset_immediate}
 use Rattle.linker_laws.proofs.X86Loads.{from_next, size_by}
 use Rattle.linker_laws.proofs.X86Values.{IsSize, loaded, same_into}
 

@@ -1,23 +1,11 @@
 -- What relocated fields come to, as numbers modulo 2 ^ 64.
-use Rattle.std.proofs.Common.{◌≡◌, ℕ, ◌+◌, ◌-◌, ◌*◌, ◌%◌, ◌^◌, refl, sym, ◌∙◌, ap, arith}
-use Rattle.std.proofs.Common.{List, ℤ, pos, negsuc, ◌+ℤ◌, ◌*ℤ◌, inl, inr, unsigned_abs}
-use Rattle.std.specs.Int.{w64, cast_unsigned, int_rem_euclid}
-use Rattle.std.proofs.lemmas.Int.{ints}
-use Rattle.linker_base.specs.Bits.{signed}
-use Rattle.linker_base.specs.Form.{unsigned, twos_complement}
-use Rattle.linker_base.proofs.Pairs.{signed_cases}
-use Rattle.linker_elf.specs.Relocate.{number_of_bytes}
+use Rattle.std.proofs.Common.{◌≡◌, ℕ, ◌+◌, ◌-◌, ◌*◌, ◌%◌, ◌^◌, refl, sym, ◌∙◌, ap, arith, List, ℤ, pos, negsuc, ◌+ℤ◌, ◌*ℤ◌, inl, inr, unsigned_abs}
+use Rattle.linker_laws.proofs.Imports.{w64, cast_unsigned, int_rem_euclid, ints, signed, unsigned, twos_complement, signed_cases, number_of_bytes, sum_64, RelocationKindInfo, Operands, IsApplied}
 use Rattle.linker_elf.specs.Rows.{bytes_row, signed_row, unsigned_row}
-use Rattle.linker_elf.specs.Value.{sum_64}
-use Rattle.linker_elf.specs.declared.elf.RelocationKindInfo.{RelocationKindInfo}
 use Rattle.linker_elf.specs.declared.elf.RelocationKind.TheVariants as values
-use Rattle.linker_elf.specs.declared.elf.value.Operands.{Operands}
-use Rattle.linker_elf.specs.Applied.{IsApplied}
-use Rattle.linker_laws.specs.Schemes.{IsAddress, AreAddresses, symbol_address}
-use Rattle.linker_laws.specs.Schemes.{entry_and_addend}
+use Rattle.linker_laws.specs.Schemes.{IsAddress, AreAddresses, symbol_address, entry_and_addend}
 use Rattle.linker_laws.proofs.Fields.{field_adds, whole_field_adds}
-use Rattle.linker_laws.proofs.Instructions.{symbol_from_place, symbol_from_tls, symbol_itself}
-use Rattle.linker_laws.proofs.Instructions.{entry_and_addend_from_place}
+use Rattle.linker_laws.proofs.Instructions.{symbol_from_place, symbol_from_tls, symbol_itself, entry_and_addend_from_place}
 use Rattle.linker_laws.proofs.Sums.{lifted_is}
 use Rattle.linker_laws.specs.X86Machine.{extended}
 

@@ -1,36 +1,19 @@
 -- x86-64's groups.
-use Rattle.std.proofs.Common.{◌≡◌, ℕ, zero, suc, ◌+◌, ◌-◌, ◌*◌, ◌^◌, ◌<◌, ◌≤◌, refl, sym, ◌∙◌, ap, ap₂, subst}
-use Rattle.std.proofs.Common.{arith, Bool, true, false, List, [], ◌∷◌, take, drop, Some, IsSomeAnd, inl, inr, length, get_or, lit≤}
-use Rattle.std.proofs.Common.{eqb-true, eq-eqb, true≢false}
-use Rattle.std.proofs.lemmas.Bool.{cond-true, cond-false, le-ltb, lt-ltb}
+use Rattle.std.proofs.Common.{◌≡◌, ℕ, zero, suc, ◌+◌, ◌-◌, ◌*◌, ◌^◌, ◌<◌, ◌≤◌, refl, sym, ◌∙◌, ap, ap₂, subst, arith, Bool, true, false, List, [], ◌∷◌, take, drop, Some, IsSomeAnd, inl, inr, length, get_or, lit≤, eqb-true, eq-eqb, true≢false}
+use Rattle.linker_laws.proofs.Imports.{cond-true, cond-false, le-ltb, lt-ltb, ◌==◌, ◌&&◌, nat_lt, if◌then◌else◌, sum_64, difference_64, Operands, X86_64Relocation, rewritten, x86_64_relocation_after, Original, x86_64_rewrite}
 use Rattle.std.specs.Int.{byte_at}
-use Rattle.std.specs.Prelude.{◌==◌, ◌&&◌, nat_lt, if◌then◌else◌}
-use Rattle.linker_elf.specs.Value.{sum_64, difference_64}
-use Rattle.linker_elf.specs.declared.elf.value.Operands.{Operands}
-use Rattle.linker_elf.specs.declared.x86_64.relocations.X86_64Relocation.{X86_64Relocation}
-use Rattle.linker_base.specs.Rewrite.{rewritten}
 use Rattle.linker_laws.specs.Changes.{go_to, put, with_register}
 use Rattle.linker_laws.specs.Machine.{Memory}
 use Rattle.linker_laws.specs.Machine as shared
-use Rattle.linker_laws.specs.Simulation.{State, Program, Kind, Kinds, Agree, AreOf, AreStored}
-use Rattle.linker_laws.specs.Simulation.{Group, half, of_link, same}
-use Rattle.linker_laws.specs.X86Groups.{Code, IsApart, IsCall, IsJump, IsKnownAfter, Others}
-use Rattle.linker_laws.specs.X86Groups.{KeepsRegisters, Reads, Stands, bytes_at, called, does}
-use Rattle.linker_laws.specs.X86Groups.{executed, flag, is_flag, left, link, machine, seen}
-use Rattle.linker_laws.specs.X86Groups.{CallOfDescriptor, IsLea, LeaOfDescriptor, LeaToEntry, LeaToOffset}
+use Rattle.linker_laws.specs.Simulation.{State, Program, Kind, Kinds, Agree, AreOf, AreStored, Group, half, of_link, same}
+use Rattle.linker_laws.specs.X86Groups.{Code, IsApart, IsCall, IsJump, IsKnownAfter, Others, KeepsRegisters, Reads, Stands, bytes_at, called, does, executed, flag, is_flag, left, link, machine, seen, CallOfDescriptor, IsLea, LeaOfDescriptor, LeaToEntry, LeaToOffset, LoadsNumber, MakesOffset, reg_after_rex, reg_after_rex2}
 use Rattle.linker_laws.specs.X86Groups as groups
 use Rattle.linker_laws.specs.X86Machine as x86_machine
-use Rattle.linker_laws.specs.X86Machine.{MOV, lea, load, nop, operate, register, through}
+use Rattle.linker_laws.specs.X86Machine.{MOV, lea, load, nop, operate, register, through, Decoded, bit_of, call, decode, direct, execute, indirect, jump, store_8}
 use Rattle.linker_laws.specs.X86RewriteLaws.{thread_offset}
-use Rattle.linker_laws.specs.X86Groups.{LoadsNumber, MakesOffset, reg_after_rex, reg_after_rex2}
 use Rattle.linker_elf.specs.declared.x86_64.relocations.X86_64Relocation.TheVariants as names
-use Rattle.linker_laws.specs.X86Machine.{Decoded, bit_of, call, decode, direct, execute, indirect, jump}
-use Rattle.linker_laws.specs.X86Machine.{store_8}
-use Rattle.linker_utils.specs.X86RelocationsAfter.{x86_64_relocation_after}
-use Rattle.linker_utils.specs.X86Rewrites.{Original, x86_64_rewrite}
 use Rattle.linker_utils.specs.declared.x86_64.rewrites.RewriteKind.{RewriteKind}
-use Rattle.linker_utils.specs.declared.x86_64.rewrites.RewriteKind.TheVariants.{SkipTlsDescCall, TlsDescToInitialExec}
-use Rattle.linker_utils.specs.declared.x86_64.rewrites.RewriteKind.TheVariants.{TlsDescToLocalExec}
+use Rattle.linker_utils.specs.declared.x86_64.rewrites.RewriteKind.TheVariants.{SkipTlsDescCall, TlsDescToInitialExec, TlsDescToLocalExec}
 use Rattle.linker_laws.proofs.Agreement.{agree_go, agree_open, agree_put, agree_put_old}
 use Rattle.linker_laws.proofs.CoveredRuns.{holds_of, once, run_first}
 use Rattle.linker_laws.proofs.X86Branches.{Leads}

@@ -1,23 +1,13 @@
 -- The worked program of x86-64.
-use Rattle.std.proofs.Common.{◌≡◌, ℕ, ◌+◌, ◌-◌, ◌*◌, ◌^◌, ◌<◌, Bool, true, false, refl, sym, ◌∙◌, ◌≤◌, ap, ap₂, subst}
-use Rattle.std.proofs.Common.{arith, List, [], ◌∷◌, Some, lit<, lit≤, pos, negsuc, inl, inr, ltb-true, ltb-false}
-use Rattle.std.specs.Prelude.{◌&&◌, ◌||◌, ◌==◌, All, IsSomeAnd, nat_le, nat_lt, if◌then◌else◌}
+use Rattle.std.proofs.Common.{◌≡◌, ℕ, ◌+◌, ◌-◌, ◌*◌, ◌^◌, ◌<◌, Bool, true, false, refl, sym, ◌∙◌, ◌≤◌, ap, ap₂, subst, arith, List, [], ◌∷◌, Some, lit<, lit≤, pos, negsuc, inl, inr, ltb-true, ltb-false}
+use Rattle.linker_laws.proofs.Imports.{◌&&◌, ◌||◌, ◌==◌, IsSomeAnd, nat_le, nat_lt, if◌then◌else◌, and_parts, cond-false, cond-true, eqb-true, le-leb, lt-ltb, ints, All-nil, All-cons, difference_64, Operands}
+use Rattle.std.specs.Prelude.{All}
 use Rattle.std.specs.Option.{unwrap_or}
-use Rattle.std.proofs.lemmas.Bool.{and_parts, cond-false, cond-true, eqb-true, le-leb, lt-ltb}
-use Rattle.std.proofs.lemmas.Int.{ints}
-use Rattle.std.proofs.lemmas.List.Elements.{All-nil, All-cons}
-use Rattle.linker_elf.specs.Value.{difference_64}
-use Rattle.linker_elf.specs.declared.elf.value.Operands.{Operands}
 use Rattle.linker_laws.specs.Schemes.{AreAddresses}
 use Rattle.linker_laws.specs.Changes.{IsKept, put, with_register}
-use Rattle.linker_laws.specs.Simulation.{Agree, AreOf, Group, Kinds, State, anything, ends, group, half, of_link}
-use Rattle.linker_laws.specs.Simulation.{same}
-use Rattle.linker_laws.specs.X86Groups.{Groups, IsKnownAfter, KeepsRegisters, bytes_at, called, does, link}
-use Rattle.linker_laws.specs.X86Groups.{machine}
-use Rattle.linker_laws.specs.X86GroupsWorked.{IsDescriptorWorked, descriptor, descriptor_code, is_descriptor}
-use Rattle.linker_laws.specs.X86GroupsWorked.{is_open, known_but_open, new_descriptor, of_function}
-use Rattle.linker_laws.specs.X86GroupsWorked.{IsWorked, bytes, code, entries, is_entry, known, new}
-use Rattle.linker_laws.specs.X86GroupsWorked.{no_entries, starting}
+use Rattle.linker_laws.specs.Simulation.{Agree, AreOf, Group, Kinds, State, anything, ends, group, half, of_link, same}
+use Rattle.linker_laws.specs.X86Groups.{Groups, IsKnownAfter, KeepsRegisters, bytes_at, called, does, link, machine}
+use Rattle.linker_laws.specs.X86GroupsWorked.{IsDescriptorWorked, descriptor, descriptor_code, is_descriptor, is_open, known_but_open, new_descriptor, of_function, IsWorked, bytes, code, entries, is_entry, known, new, no_entries, starting}
 
 -- ---- operands and bytes
 

@@ -1,39 +1,17 @@
 -- Operations on a number from the GOT, and on an immediate.
-use Rattle.std.proofs.Common.{◌≡◌, ℕ, suc, ◌+◌, ◌-◌, ◌*◌, ◌%◌, ◌^◌, ◌<◌, List, [], ◌∷◌, ◌++◌}
-use Rattle.std.proofs.Common.{drop, take, refl, sym, ◌∙◌, ap, arith, Some, subst, inl, inr}
-use Rattle.std.proofs.Common.{IsTrue, true, pos, length, eqb, cond, get_or, drop-cons}
-use Rattle.std.specs.Int.{w64, cast_unsigned}
-use Rattle.std.proofs.lemmas.List.Elements.{All-drop}
-use Rattle.linker_base.specs.Rewrite.{rewritten, IsRewritable}
-use Rattle.linker_elf.specs.Relocate.{number_of_bytes}
-use Rattle.linker_elf.specs.Value.{sum_64, difference_64}
+use Rattle.std.proofs.Common.{◌≡◌, ℕ, suc, ◌+◌, ◌-◌, ◌*◌, ◌%◌, ◌^◌, ◌<◌, List, [], ◌∷◌, ◌++◌, drop, take, refl, sym, ◌∙◌, ap, arith, Some, subst, inl, inr, IsTrue, true, pos, length, eqb, cond, get_or, drop-cons}
+use Rattle.linker_laws.proofs.Imports.{w64, cast_unsigned, All-drop, rewritten, IsRewritable, number_of_bytes, sum_64, difference_64, absolute, operand, prefixed_operand, original, rip_operand, with_rex, rex, with_rex2, rex2, is_one_at, Operands, IsApplied}
 use Rattle.linker_utils.specs.X86Rewrites as x86
-use Rattle.linker_utils.specs.X86Rewrites.{absolute, operand, prefixed_operand}
-use Rattle.linker_utils.specs.X86Rewrites.{original, rip_operand, with_rex, rex, with_rex2, rex2}
-use Rattle.linker_utils.specs.X86Rewrites.{is_one_at}
 use Rattle.linker_utils.specs.X86Rewrites.{plain}
-use Rattle.linker_elf.specs.declared.elf.value.Operands.{Operands}
-use Rattle.linker_elf.specs.Applied.{IsApplied}
 use Rattle.linker_laws.specs.Schemes.{AreAddresses}
 use Rattle.linker_laws.proofs.Sums.{difference_below}
 use Rattle.linker_laws.specs.X86Groups.{is_arithmetic, sets_flags}
 use Rattle.linker_laws.specs.X86RewriteLaws.{IsBefore, IsRelocatedBy, thread_offset}
-use Rattle.linker_laws.specs.X86Machine.{State, Prefix, Operation, Instruction, MOV, ADD, OR, ADC}
-use Rattle.linker_laws.specs.X86Machine.{SBB, AND, SUB, XOR, CMP, TEST, load, extended, reg_of}
-use Rattle.linker_laws.specs.X86Machine.{rex_prefix, rex2_prefix, no_prefix, operate, register}
-use Rattle.linker_laws.specs.X86Machine.{relative}
-use Rattle.linker_laws.specs.X86Machine.{immediate, decode, decode_opcode}
-use Rattle.linker_laws.specs.X86Machine.{execute, sized, operand_value, is_relative}
-use Rattle.linker_laws.specs.X86Machine.{immediate_operation}
-use Rattle.linker_laws.proofs.X86Bytes.{on_relative, after_rex, all_below, moved_test, modrm_byte}
-use Rattle.linker_laws.proofs.X86Bytes.{after_rex2}
-use Rattle.linker_laws.proofs.X86Codes.{pattern_there, immediate_codes, wide_codes}
-use Rattle.linker_laws.proofs.X86Codes.{rex_immediate_codes, rex2_immediate_codes}
-use Rattle.linker_laws.proofs.X86Decoding.{AreReplaced, Replaces, begun, from_relative}
-use Rattle.linker_laws.proofs.X86Decoding.{from_immediate, after_rex_byte, after_rex2_byte}
-use Rattle.linker_laws.proofs.X86Fields.{entry_field, tls_entry_field, signed_field, got_row}
-use Rattle.linker_laws.proofs.X86Fields.{unsigned_field, thread_field, tls_got_row, thread_row}
-use Rattle.linker_laws.proofs.X86Fields.{signed_immediate, unsigned_immediate, extended_low}
+use Rattle.linker_laws.specs.X86Machine.{State, Prefix, Operation, Instruction, MOV, ADD, OR, ADC, SBB, AND, SUB, XOR, CMP, TEST, load, extended, reg_of, rex_prefix, rex2_prefix, no_prefix, operate, register, relative, immediate, decode, decode_opcode, execute, sized, operand_value, is_relative, immediate_operation}
+use Rattle.linker_laws.proofs.X86Bytes.{on_relative, after_rex, all_below, moved_test, modrm_byte, after_rex2}
+use Rattle.linker_laws.proofs.X86Codes.{pattern_there, immediate_codes, wide_codes, rex_immediate_codes, rex2_immediate_codes}
+use Rattle.linker_laws.proofs.X86Decoding.{AreReplaced, Replaces, begun, from_relative, from_immediate, after_rex_byte, after_rex2_byte}
+use Rattle.linker_laws.proofs.X86Fields.{entry_field, tls_entry_field, signed_field, got_row, unsigned_field, thread_field, tls_got_row, thread_row, signed_immediate, unsigned_immediate, extended_low}
 use Rattle.linker_laws.proofs.X86Loads.{same_place, from_next, at_place, rex_size, rex2_size}
 use Rattle.linker_laws.proofs.X86Values.{IsSize, loaded, same_operation, same_test}
 

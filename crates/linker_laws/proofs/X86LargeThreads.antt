@@ -1,16 +1,9 @@
 -- TLS sequences of the large code model.
-use Rattle.std.proofs.Common.{◌≡◌, ℕ, ◌+◌, ◌-◌, ◌^◌, ◌<◌, ◌≤◌, List, [], ◌∷◌, ◌++◌, take, drop}
-use Rattle.std.proofs.Common.{sym, ◌∙◌, ap, arith, pos, false, inl, inr, ◌||◌, IsTrue, ℤ}
-use Rattle.std.specs.Int.{w64, cast_unsigned}
-use Rattle.std.specs.List.{All}
-use Rattle.std.proofs.lemmas.Bool.{or_cases}
+use Rattle.std.proofs.Common.{◌≡◌, ℕ, ◌+◌, ◌-◌, ◌^◌, ◌<◌, ◌≤◌, List, [], ◌∷◌, ◌++◌, take, drop, sym, ◌∙◌, ap, arith, pos, false, inl, inr, ◌||◌, IsTrue, ℤ}
+use Rattle.linker_laws.proofs.Imports.{w64, cast_unsigned, All, or_cases, or-false, rewritten, x86_64_rewrite, puts, is_at, is_one_at, lea_rdi, original, field4, Original}
 use Rattle.std.proofs.lemmas.List.{drop-drop}
-use Rattle.std.proofs.Math.Bool.{or-false}
-use Rattle.linker_base.specs.Rewrite.{rewritten}
 use Rattle.linker_elf.specs.Relocate.{low_bytes}
-use Rattle.linker_utils.specs.X86Rewrites.{x86_64_rewrite, puts}
-use Rattle.linker_utils.specs.X86Rewrites.{is_at, is_one_at, large, large_call, lea_rdi, original}
-use Rattle.linker_utils.specs.X86Rewrites.{field4, Original}
+use Rattle.linker_utils.specs.X86Rewrites.{large, large_call}
 use Rattle.linker_utils.specs.declared.x86_64.rewrites.RewriteKind.TheVariants as kinds
 use Rattle.linker_laws.proofs.X86Codes.{inside}
 use Rattle.linker_laws.proofs.X86Sections.{original_code, rewritten_code, code_after}

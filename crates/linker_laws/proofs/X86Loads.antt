@@ -1,30 +1,14 @@
 -- Loads of addresses from the GOT, and `lea`.
-use Rattle.std.proofs.Common.{◌≡◌, ℕ, ◌+◌, ◌-◌, ◌^◌, ◌<◌, List, [], ◌∷◌, take, drop, refl}
-use Rattle.std.proofs.Common.{sym, ◌∙◌, ap, ap₂, arith, Some, subst, inl, inr, eqb, ℤ}
-use Rattle.std.proofs.Common.{if◌then◌else◌}
-use Rattle.std.specs.Int.{w64, cast_unsigned, bit_at}
-use Rattle.std.proofs.lemmas.List.Elements.{All-drop}
-use Rattle.std.proofs.lemmas.Bool.{cases_Bool, cond-true, cond-false}
-use Rattle.linker_elf.specs.Relocate.{number_of_bytes}
-use Rattle.linker_elf.specs.Value.{sum_64, difference_64}
-use Rattle.linker_elf.specs.Choices.{operands_after}
-use Rattle.linker_utils.specs.X86Rewrites.{x86_64_rewrite}
-use Rattle.linker_base.specs.Rewrite.{rewritten}
-use Rattle.linker_utils.specs.X86Rewrites.{legacy, original, rip_operand, with_rex, rex, with_rex2}
-use Rattle.linker_utils.specs.X86Rewrites.{rex2}
-use Rattle.linker_elf.specs.declared.elf.value.Operands.{Operands}
+use Rattle.std.proofs.Common.{◌≡◌, ℕ, ◌+◌, ◌-◌, ◌^◌, ◌<◌, List, [], ◌∷◌, take, drop, refl, sym, ◌∙◌, ap, ap₂, arith, Some, subst, inl, inr, eqb, ℤ, if◌then◌else◌}
+use Rattle.linker_laws.proofs.Imports.{w64, cast_unsigned, bit_at, All-drop, cases_Bool, cond-true, cond-false, number_of_bytes, sum_64, difference_64, operands_after, x86_64_rewrite, rewritten, legacy, original, rip_operand, with_rex, rex, with_rex2, rex2, Operands, IsApplied}
 use Rattle.linker_elf.specs.declared.x86_64.relocations.X86_64Relocation.TheVariants as names
 use Rattle.linker_utils.specs.declared.x86_64.rewrites.RewriteKind.TheVariants as kinds
-use Rattle.linker_elf.specs.Applied.{IsApplied}
 use Rattle.linker_laws.specs.Schemes.{AreAddresses}
 use Rattle.linker_laws.specs.X86RewriteLaws.{IsBefore, address}
-use Rattle.linker_laws.specs.X86Machine.{State, load, extended, reg_of, rex_prefix, no_prefix, MOV}
-use Rattle.linker_laws.specs.X86Machine.{rex2_prefix}
-use Rattle.linker_laws.specs.X86Machine.{operate, register, relative, lea, decode}
+use Rattle.linker_laws.specs.X86Machine.{State, load, extended, reg_of, rex_prefix, no_prefix, MOV, rex2_prefix, operate, register, relative, lea, decode}
 use Rattle.linker_laws.proofs.X86Bytes.{on_relative, after_rex, after_rex2}
 use Rattle.linker_laws.proofs.X86Codes.{pattern_there, lea_codes, rex_lea_codes, rex2_lea_codes}
-use Rattle.linker_laws.proofs.X86Decoding.{Replaced, Replaces, begun, from_relative}
-use Rattle.linker_laws.proofs.X86Decoding.{after_rex_byte, after_rex2_byte}
+use Rattle.linker_laws.proofs.X86Decoding.{Replaced, Replaces, begun, from_relative, after_rex_byte, after_rex2_byte}
 use Rattle.linker_laws.proofs.X86Fields.{entry_field, place_field, got_row, place_row}
 use Rattle.linker_laws.proofs.X86Values.{IsSize, loaded, same_load}
 

@@ -1,16 +1,11 @@
 -- Local-dynamic TLS: the argument of the call, and offsets in a module's block.
 use Rattle.std.proofs.Common.{◌≡◌, ℕ, ◌^◌, ◌<◌, List, [], ◌∷◌, ◌∙◌, ap, arith}
-use Rattle.std.specs.Int.{w64, cast_unsigned}
-use Rattle.linker_elf.specs.Applied.{IsApplied}
-use Rattle.linker_elf.specs.Relocate.{number_of_bytes}
-use Rattle.linker_elf.specs.Value.{sum_64, difference_64}
-use Rattle.linker_elf.specs.declared.elf.value.Operands.{Operands}
+use Rattle.linker_laws.proofs.Imports.{w64, cast_unsigned, IsApplied, number_of_bytes, sum_64, difference_64, Operands}
 use Rattle.linker_laws.specs.Schemes.{AreAddresses, symbol_address}
 use Rattle.linker_laws.specs.X86Groups.{BlockOffsets}
 use Rattle.linker_laws.specs.X86Machine.{State, extended}
 use Rattle.linker_laws.specs.X86RewriteLaws.{IsBefore}
-use Rattle.linker_laws.proofs.X86Fields.{tls_module_field, tls_module_row, block_field}
-use Rattle.linker_laws.proofs.X86Fields.{thread_field, long_block_field, long_thread_field}
+use Rattle.linker_laws.proofs.X86Fields.{tls_module_field, tls_module_row, block_field, thread_field, long_block_field, long_thread_field}
 use Rattle.linker_laws.proofs.X86Loads.{from_next}
 
 -- ---- the call

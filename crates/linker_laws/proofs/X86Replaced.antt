@@ -1,8 +1,7 @@
 -- Every rewritten instruction with an operand in the GOT is a group.
 use Rattle.std.proofs.Common.{ℕ, lit≤}
 use Rattle.linker_elf.specs.declared.x86_64.relocations.X86_64Relocation.TheVariants as names
-use Rattle.linker_laws.specs.X86Groups.{AbsoluteAddresses, LoadsOfAddresses, Operations}
-use Rattle.linker_laws.specs.X86Groups.{TakesImmediate, TakesImmediateByEvex, ThreadOffsets}
+use Rattle.linker_laws.specs.X86Groups.{AbsoluteAddresses, LoadsOfAddresses, Operations, TakesImmediate, TakesImmediateByEvex, ThreadOffsets}
 use Rattle.linker_laws.specs.X86RewriteLaws.{address, thread_offset}
 use Rattle.linker_laws.proofs.X86Decoding.{Replaced}
 use Rattle.linker_laws.proofs.X86Evex as evex

@@ -1,6 +1,5 @@
 -- The code in a section before and after a rewrite.
-use Rattle.std.proofs.Common.{◌≡◌, ℕ, ◌+◌, ◌-◌, ◌≤◌, List, ◌++◌, length, take, drop, sym, ◌∙◌}
-use Rattle.std.proofs.Common.{ap, arith, append_assoc, Some}
+use Rattle.std.proofs.Common.{◌≡◌, ℕ, ◌+◌, ◌-◌, ◌≤◌, List, ◌++◌, length, take, drop, sym, ◌∙◌, ap, arith, append_assoc, Some}
 use Rattle.std.proofs.lemmas.List.{take-append-drop, length-take-le}
 use Rattle.std.proofs.Math.Seq.{take-append-add, drop-append-add}
 use Rattle.linker_base.specs.Rewrite.{Rewrite, rewritten}

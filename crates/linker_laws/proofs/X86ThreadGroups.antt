@@ -1,26 +1,11 @@
 -- x86-64's groups of general- and local-dynamic TLS.
-use Rattle.std.proofs.Common.{◌≡◌, ℕ, zero, suc, ◌+◌, ◌-◌, ◌%◌, ◌^◌, ◌<◌, ◌≤◌, refl, sym, ◌∙◌, ap, ap₂, subst}
-use Rattle.std.proofs.Common.{arith, Bool, true, false, List, [], ◌∷◌, ◌++◌, take, drop, Some, inl, inr}
-use Rattle.std.proofs.Common.{length, get_or, lit≤, pos}
-use Rattle.std.specs.Int.{w64, cast_unsigned}
-use Rattle.std.specs.Prelude.{◌==◌, ◌⊎◌, if◌then◌else◌}
-use Rattle.std.proofs.lemmas.Bool.{cases_Bool, cond-false, eq-eqb}
-use Rattle.std.proofs.Math.Bool.{or-false}
-use Rattle.linker_base.specs.Rewrite.{rewritten}
-use Rattle.linker_elf.specs.Applied.{IsApplied}
-use Rattle.linker_elf.specs.Relocate.{number_of_bytes}
-use Rattle.linker_elf.specs.Value.{sum_64, difference_64}
-use Rattle.linker_elf.specs.declared.elf.value.Operands.{Operands}
+use Rattle.std.proofs.Common.{◌≡◌, ℕ, zero, suc, ◌+◌, ◌-◌, ◌%◌, ◌^◌, ◌<◌, ◌≤◌, refl, sym, ◌∙◌, ap, ap₂, subst, arith, Bool, true, false, List, [], ◌∷◌, ◌++◌, take, drop, Some, inl, inr, length, get_or, lit≤, pos}
+use Rattle.linker_laws.proofs.Imports.{w64, cast_unsigned, ◌==◌, ◌⊎◌, if◌then◌else◌, cases_Bool, cond-false, eq-eqb, or-false, rewritten, IsApplied, number_of_bytes, sum_64, difference_64, Operands, byte, field4, is_at, lea_rdi, puts, x86_64_rewrite}
 use Rattle.linker_laws.specs.Changes.{go_to, put, with_register}
 use Rattle.linker_laws.specs.Schemes.{AreAddresses}
-use Rattle.linker_laws.specs.Simulation.{State, Kind, Kinds, Agree, AreOf, Group, Link, anything}
-use Rattle.linker_laws.specs.Simulation.{AreStored, half, of_link, run, same}
-use Rattle.linker_laws.specs.X86Groups.{Code, GeneralDynamic, HasPointer, LocalDynamic}
-use Rattle.linker_laws.specs.X86Groups.{ModuleCall, Returns, Stands, ToInitialExec, ToLocalExec, bytes_at}
-use Rattle.linker_laws.specs.X86Groups.{HasThreadPointer, ToLocalExecLarge}
-use Rattle.linker_laws.specs.X86Groups.{is_flag, left, link, machine, seen}
-use Rattle.linker_laws.specs.X86Machine.{ADD, decode, execute, extended, lea, lea_from, load}
-use Rattle.linker_laws.specs.X86Machine.{load_thread, nop, operate, register, relative}
+use Rattle.linker_laws.specs.Simulation.{State, Kind, Kinds, Agree, AreOf, Group, Link, anything, AreStored, half, of_link, run, same}
+use Rattle.linker_laws.specs.X86Groups.{Code, GeneralDynamic, HasPointer, LocalDynamic, ModuleCall, Returns, Stands, ToInitialExec, ToLocalExec, bytes_at, HasThreadPointer, ToLocalExecLarge, is_flag, left, link, machine, seen}
+use Rattle.linker_laws.specs.X86Machine.{ADD, decode, execute, extended, lea, lea_from, load, load_thread, nop, operate, register, relative}
 use Rattle.linker_laws.specs.X86RewriteLaws.{IsBefore, IsRelocatedBy, thread_offset}
 use Rattle.linker_laws.proofs.Agreement.{agree_open, agree_put}
 use Rattle.linker_laws.proofs.CoveredRuns.{holds_of, run_first, run_on}
@@ -32,10 +17,7 @@ use Rattle.linker_laws.proofs.X86Groups.{below_64, both_true, goes, one_on, star
 use Rattle.linker_laws.proofs.X86LargeThreads as larges
 use Rattle.linker_laws.proofs.X86LocalDynamic as dynamic
 use Rattle.linker_laws.proofs.X86Sections.{code_after, original_code}
-use Rattle.linker_laws.proofs.X86Threads.{added, argument, begins_with_lea, codes, from_second, itself}
-use Rattle.linker_laws.proofs.X86Threads.{lea_bytes, load_bytes, offset_field, offset_from, plain_lea_bytes}
-use Rattle.linker_laws.proofs.X86Threads.{pointer, starts_with}
-use Rattle.linker_utils.specs.X86Rewrites.{byte, field4, is_at, lea_rdi, puts, x86_64_rewrite}
+use Rattle.linker_laws.proofs.X86Threads.{added, argument, begins_with_lea, codes, from_second, itself, lea_bytes, load_bytes, offset_field, offset_from, plain_lea_bytes, pointer, starts_with}
 use Rattle.linker_utils.specs.X86Rewrites.{original as original_at}
 use Rattle.linker_utils.specs.declared.x86_64.rewrites.RewriteKind.TheVariants as kinds
 

@@ -1,23 +1,7 @@
 -- General-dynamic and local-exec TLS.
-use Rattle.std.proofs.Common.{◌≡◌, ℕ, ◌+◌, ◌-◌, ◌%◌, ◌^◌, ◌<◌, ◌≤◌, List, [], ◌∷◌, ◌++◌, map, take}
-use Rattle.std.proofs.Common.{drop, sym}
-use Rattle.std.proofs.Common.{◌∙◌, ap, arith, refl, pos, true, false, eqb, bit_and, IsTrue}
-use Rattle.std.proofs.Common.{inl, inr, leb, ◌&&◌, ◌||◌}
-use Rattle.std.proofs.Common.{ℤ, Some}
-use Rattle.linker_elf.specs.Applied.{IsApplied}
-use Rattle.std.specs.Int.{w64, cast_unsigned}
-use Rattle.std.specs.List.{All}
-use Rattle.std.proofs.lemmas.Bool.{and_parts, false≢true, leb-true, or_cases}
-use Rattle.std.proofs.Math.Bool.{or-false}
-use Rattle.std.proofs.lemmas.List.Elements.{All-head, All-tail, All-drop}
-use Rattle.linker_base.specs.Rewrite.{rewritten}
-use Rattle.linker_elf.specs.Relocate.{number_of_bytes}
-use Rattle.linker_elf.specs.Value.{sum_64, difference_64}
-use Rattle.linker_utils.specs.X86Rewrites.{puts}
-use Rattle.linker_utils.specs.X86Rewrites.{begins, byte, is_at, is_one_at, general_dynamic}
-use Rattle.linker_utils.specs.X86Rewrites.{original}
-use Rattle.linker_utils.specs.X86Rewrites.{field4, lea_rdi, Original}
-use Rattle.linker_elf.specs.declared.elf.value.Operands.{Operands}
+use Rattle.std.proofs.Common.{◌≡◌, ℕ, ◌+◌, ◌-◌, ◌%◌, ◌^◌, ◌<◌, ◌≤◌, List, [], ◌∷◌, ◌++◌, map, take, drop, sym, ◌∙◌, ap, arith, refl, pos, true, false, eqb, bit_and, IsTrue, inl, inr, leb, ◌&&◌, ◌||◌, ℤ, Some}
+use Rattle.linker_laws.proofs.Imports.{IsApplied, w64, cast_unsigned, All, and_parts, false≢true, leb-true, or_cases, or-false, All-head, All-tail, All-drop, rewritten, number_of_bytes, sum_64, difference_64, puts, begins, byte, is_at, is_one_at, original, field4, lea_rdi, Original, Operands}
+use Rattle.linker_utils.specs.X86Rewrites.{general_dynamic}
 use Rattle.linker_laws.specs.X86RewriteLaws.{IsBefore, thread_offset}
 use Rattle.linker_laws.specs.X86Groups.{HasThreadPointer}
 use Rattle.linker_laws.specs.X86Machine.{State, load, extended}

@@ -1,12 +1,8 @@
 -- Operations whose operands are the same numbers.
-use Rattle.std.proofs.Common.{◌≡◌, ℕ, ◌+◌, ◌*◌, ◌/◌, ◌%◌, ◌^◌, ◌<◌, sym, ◌∙◌, ap, arith}
-use Rattle.std.proofs.Common.{inl, inr, ◌⊎◌, subst, Bool, if◌then◌else◌}
+use Rattle.std.proofs.Common.{◌≡◌, ℕ, ◌+◌, ◌*◌, ◌/◌, ◌%◌, ◌^◌, ◌<◌, sym, ◌∙◌, ap, arith, inl, inr, ◌⊎◌, subst, Bool, if◌then◌else◌}
 use Rattle.std.proofs.lemmas.Nat.{and_comm}
 use Rattle.linker_elf.specs.Value.{sum_64}
-use Rattle.linker_laws.specs.X86Machine.{State, Operation, MOV, TEST, register, relative}
-use Rattle.linker_laws.specs.X86Machine.{immediate, operate, execute, perform, operand_value, load}
-use Rattle.linker_laws.specs.X86Machine.{extended, logic_flags, lea, with_register}
-use Rattle.linker_laws.specs.X86Machine.{operate_into, result, flags_after}
+use Rattle.linker_laws.specs.X86Machine.{State, Operation, MOV, TEST, register, relative, immediate, operate, execute, perform, operand_value, load, extended, logic_flags, lea, with_register, operate_into, result, flags_after}
 
 abbrev execute_lea : ℕ → ℕ → ℕ → ℕ → State → State
 execute_lea n r address next s =

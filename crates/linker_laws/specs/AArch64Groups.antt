@@ -1,11 +1,8 @@
 -- AArch64: rewritten instructions are groups of the simulation. No code moves.
 use Rattle.std.specs.Prelude.{◌≡◌, ◌≢◌, ℕ, Bool, true, ◌*◌, ◌/◌, ◌^◌, ◌<◌, ◌==◌, ◌&&◌, List, Option}
 use Rattle.std.specs.Prelude.{Some, None, IsSomeAnd, drop}
-use Rattle.linker_elf.specs.LoongArch.{page}
-use Rattle.linker_elf.specs.Value.{sum_64}
-use Rattle.linker_elf.specs.declared.aarch64.relocations.AArch64Relocation.{AArch64Relocation}
+use Rattle.linker_laws.specs.Imports.{page, sum_64, AArch64Relocation, Operands, rn_of}
 use Rattle.linker_elf.specs.declared.aarch64.relocations.AArch64Relocation.TheVariants as names
-use Rattle.linker_elf.specs.declared.elf.value.Operands.{Operands}
 use Rattle.linker_laws.specs.AArch64Machine as aarch64_machine
 use Rattle.linker_laws.specs.AArch64Machine.{is_b, is_bl, load_64, step}
 use Rattle.linker_laws.specs.AArch64RewriteLaws.{IsPair, IsRelocated, IsRewritten, following}
@@ -17,7 +14,7 @@ use Rattle.linker_laws.specs.Simulation.{State, Program, Machine, Link, Kinds, A
 use Rattle.linker_laws.specs.Simulation.{anything, half, of_link, run, same}
 use Rattle.linker_utils.specs.AArch64Rewrites.{AreOfDescriptor, IsAdd64, IsAdrp, IsIntoOwnSource}
 use Rattle.linker_utils.specs.AArch64Rewrites.{IsLdr64}
-use Rattle.linker_utils.specs.AArch64Rewrites.{rd_of, rn_of}
+use Rattle.linker_utils.specs.AArch64Rewrites.{rd_of}
 use Rattle.linker_utils.specs.declared.aarch64.rewrites.RewriteKind.TheVariants as kinds
 
 -- ---- the machine

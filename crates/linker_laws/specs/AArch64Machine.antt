@@ -3,15 +3,10 @@
 use Rattle.std.specs.Prelude.{ℕ, ℤ, pos, ◌+ℤ◌, ◌*ℤ◌, ◌/◌, ◌^◌, ◌==◌, ◌&&◌, if◌then◌else◌, Bool, ◌∷◌}
 use Rattle.std.specs.Prelude.{[], List, Option, Some, None, unsigned_abs}
 use Rattle.std.specs.Int.{w64, bit_at, from_le_bytes, int_rem_euclid}
-use Rattle.linker_base.specs.Bits.{field}
-use Rattle.linker_elf.specs.AArch64.{aarch64_form, shift_of}
-use Rattle.linker_utils.specs.AArch64Rewrites.{rd_of, rn_of, nop, is_ldr64}
+use Rattle.linker_laws.specs.Imports.{field, aarch64_form, shift_of, rn_of, page, sum_64, Adr, LdSt}
+use Rattle.linker_laws.specs.Imports.{Add, Movnz, JumpCall}
+use Rattle.linker_utils.specs.AArch64Rewrites.{rd_of, nop, is_ldr64}
 use Rattle.linker_elf.specs.AArch64.{opcode_of, movn_opcode, movz_opcode, movk_opcode}
-use Rattle.linker_elf.specs.LoongArch.{page}
-use Rattle.linker_elf.specs.Value.{sum_64}
-use Rattle.linker_elf.specs.declared.aarch64.forms.AArch64Instruction.TheVariants.{Adr, LdSt, Add}
-use Rattle.linker_elf.specs.declared.aarch64.forms.AArch64Instruction.TheVariants.{Movnz}
-use Rattle.linker_elf.specs.declared.aarch64.forms.AArch64Instruction.TheVariants.{JumpCall}
 use Rattle.linker_laws.specs.AArch64RelocationLaws.{movk}
 
 -- ---- the state

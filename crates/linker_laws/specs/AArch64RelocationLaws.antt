@@ -2,20 +2,14 @@
 -- Arm Architecture Reference Manual for A-profile, DDI 0487, C6.2).
 use Rattle.std.specs.Prelude.{ℕ, [], ◌∷◌, ℤ, pos, ◌+◌, ◌+ℤ◌, ◌-ℤ◌, ◌*ℤ◌, ◌^◌, ◌==◌, ◌&&◌, not}
 use Rattle.std.specs.Int.{bit_at, int_rem_euclid}
-use Rattle.linker_elf.specs.AArch64.{aarch64_form, shift_of}
-use Rattle.linker_elf.specs.AArch64Relocations.{aarch64_row}
-use Rattle.linker_elf.specs.LoongArch.{page}
+use Rattle.linker_laws.specs.Imports.{aarch64_form, shift_of, aarch64_row, page, Adr, Add, LdSt}
+use Rattle.linker_laws.specs.Imports.{JumpCall, Movnz, Signed, Operands, AArch64Relocation}
 use Rattle.linker_elf.specs.Relocate.{is_movk}
 use Rattle.linker_elf.specs.declared.aarch64.forms.AArch64Instruction.{AArch64Instruction}
-use Rattle.linker_elf.specs.declared.aarch64.forms.AArch64Instruction.TheVariants.{Adr, Ldr}
+use Rattle.linker_elf.specs.declared.aarch64.forms.AArch64Instruction.TheVariants.{Ldr}
 use Rattle.linker_elf.specs.declared.aarch64.forms.AArch64Instruction.TheVariants.{LdrRegister}
-use Rattle.linker_elf.specs.declared.aarch64.forms.AArch64Instruction.TheVariants.{Add, LdSt}
 use Rattle.linker_elf.specs.declared.aarch64.forms.AArch64Instruction.TheVariants.{TstBr, Bcond}
-use Rattle.linker_elf.specs.declared.aarch64.forms.AArch64Instruction.TheVariants.{JumpCall}
-use Rattle.linker_elf.specs.declared.aarch64.forms.AArch64Instruction.TheVariants.{Movkz, Movnz}
-use Rattle.linker_elf.specs.declared.elf.Sign.TheVariants.{Signed}
-use Rattle.linker_elf.specs.declared.elf.value.Operands.{Operands}
-use Rattle.linker_elf.specs.declared.aarch64.relocations.AArch64Relocation.{AArch64Relocation}
+use Rattle.linker_elf.specs.declared.aarch64.forms.AArch64Instruction.TheVariants.{Movkz}
 use Rattle.linker_elf.specs.declared.aarch64.relocations.AArch64Relocation.TheVariants as names
 use Rattle.linker_laws.specs.Schemes.{entry_and_addend, HoldsDistance, Step, Premise, here}
 use Rattle.linker_laws.specs.Schemes.{anywhere, moved_on, of_bits, of_words, Law, Adds}

@@ -3,16 +3,12 @@ use Rattle.std.specs.Prelude.{◌≡◌, ℕ, ◌^◌, List}
 use Rattle.std.specs.Prelude.{drop, take, None, ⊤, ◌-◌, Option, Some, IsSomeAnd}
 use Rattle.std.specs.Prelude.{◌/◌}
 use Rattle.std.specs.Int.{w32, from_le_bytes}
-use Rattle.linker_base.specs.Rewrite.{Rewrite, IsRewritable, rewritten}
+use Rattle.linker_laws.specs.Imports.{Rewrite, rewritten, page, aarch64_row, sum_64, difference_64}
+use Rattle.linker_laws.specs.Imports.{AArch64Relocation, Operands, IsApplied}
+use Rattle.linker_base.specs.Rewrite.{IsRewritable}
 use Rattle.linker_utils.specs.AArch64Rewrites.{aarch64_rewrite}
 use Rattle.linker_utils.specs.AArch64Rewrites.{AreOfOneRegister}
-use Rattle.linker_elf.specs.LoongArch.{page}
-use Rattle.linker_elf.specs.AArch64Relocations.{aarch64_row}
-use Rattle.linker_elf.specs.Value.{sum_64, difference_64}
-use Rattle.linker_elf.specs.declared.aarch64.relocations.AArch64Relocation.{AArch64Relocation}
 use Rattle.linker_utils.specs.declared.aarch64.rewrites.RewriteKind.{RewriteKind}
-use Rattle.linker_elf.specs.declared.elf.value.Operands.{Operands}
-use Rattle.linker_elf.specs.Applied.{IsApplied}
 use Rattle.linker_laws.specs.Schemes.{AreAddresses, symbol_address}
 use Rattle.linker_laws.specs.AArch64Machine.{State}
 

@@ -1,12 +1,8 @@
 -- The difference of two labels, which two relocations of one place leave there (RISC-V ELF psABI,
 -- "Relocation Types", ADD, SUB and SET; LoongArch ELF psABI, "Relocation Types", ADD and SUB).
 use Rattle.std.specs.Prelude.{◌≡◌, ℕ, ◌*◌, ◌%◌, ◌^◌, List, Option, IsSomeAnd}
-use Rattle.linker_base.specs.Bits.{field}
-use Rattle.linker_elf.specs.Relocate.{number_of_bytes}
-use Rattle.linker_elf.specs.Value.{sum_64, difference_64}
-use Rattle.linker_elf.specs.declared.elf.RelocationKindInfo.{RelocationKindInfo}
-use Rattle.linker_elf.specs.declared.elf.value.Operands.{Operands}
-use Rattle.linker_elf.specs.Applied.{IsApplied}
+use Rattle.linker_laws.specs.Imports.{field, number_of_bytes, sum_64, difference_64}
+use Rattle.linker_laws.specs.Imports.{RelocationKindInfo, Operands, IsApplied}
 use Rattle.linker_laws.specs.Schemes.{symbol_address}
 
 -- S + A of the first, less that of the second

@@ -7,6 +7,7 @@ pub mod AArch64Worked
 pub mod Chains
 pub mod Changes
 pub mod Differences
+pub mod Imports
 pub mod LoongArchGroups
 pub mod LoongArchGroupsWorked
 pub mod LoongArchMachine

@@ -3,11 +3,8 @@
 use Rattle.std.specs.Prelude.{◌≡◌, ℕ, ◌+◌, ◌-◌, ◌/◌, ◌^◌, ◌<◌, ◌==◌, ◌&&◌, nat_lt, if◌then◌else◌}
 use Rattle.std.specs.Prelude.{List, drop, Option, Some, None, IsSomeAnd, IsTrue, ⊤}
 use Rattle.linker_base.specs.declared.rewrite.DeletedBytes.{DeletedBytes}
-use Rattle.linker_elf.specs.Choices.{RowIsWithin}
-use Rattle.linker_elf.specs.LoongArchRelocations.{loongarch_row}
-use Rattle.linker_elf.specs.Value.{sum_64}
-use Rattle.linker_elf.specs.declared.elf.value.Operands.{Operands}
-use Rattle.linker_elf.specs.declared.loongarch64.relocations.LoongArch64Relocation.{LoongArch64Relocation}
+use Rattle.linker_laws.specs.Imports.{RowIsWithin, loongarch_row, sum_64, Operands}
+use Rattle.linker_laws.specs.Imports.{LoongArch64Relocation, adds_low12, rj_of, RewriteKind}
 use Rattle.linker_elf.specs.declared.loongarch64.relocations.LoongArch64Relocation.TheVariants as names
 use Rattle.linker_laws.specs.Changes.{ChangesOpen, go_to, put, with_register}
 use Rattle.linker_laws.specs.LoongArchMachine as loongarch_machine
@@ -23,9 +20,8 @@ use Rattle.linker_laws.specs.Simulation.{Agree, AreOf, Group, Other, anything, h
 use Rattle.linker_laws.specs.Simulation.{same}
 use Rattle.linker_utils.specs.LoongArchRewrites.{IsAddTp, IsAddi, IsCall, IsCallOfDescriptor, IsLd}
 use Rattle.linker_utils.specs.LoongArchRewrites.{IsLoadOfDescriptor, IsLowOfDescriptor, IsLu12i}
-use Rattle.linker_utils.specs.LoongArchRewrites.{IsPcalau12i, adds_low12, loongarch_deleted, rd_of}
-use Rattle.linker_utils.specs.LoongArchRewrites.{rj_of, signed_12, tp, unsigned_12}
-use Rattle.linker_utils.specs.declared.loongarch64.rewrites.RewriteKind.{RewriteKind}
+use Rattle.linker_utils.specs.LoongArchRewrites.{IsPcalau12i, loongarch_deleted, rd_of}
+use Rattle.linker_utils.specs.LoongArchRewrites.{signed_12, tp, unsigned_12}
 use Rattle.linker_utils.specs.declared.loongarch64.rewrites.RewriteKind.TheVariants as kinds
 
 -- ---- the machine

@@ -3,13 +3,9 @@
 use Rattle.std.specs.Prelude.{ℕ, pos, ◌+ℤ◌, ◌*ℤ◌, ◌*◌, ◌/◌, ◌%◌, ◌^◌, ◌==◌, List, []}
 use Rattle.std.specs.Prelude.{◌∷◌, Option, Some, None, IsSomeAnd, ◌≡◌, Bool, false, bit_or}
 use Rattle.std.specs.Prelude.{bit_and, if◌then◌else◌}
-use Rattle.linker_base.specs.Bits.{field, signed}
-use Rattle.linker_elf.specs.LoongArch.{loongarch_form, pcalau12i}
-use Rattle.linker_utils.specs.LoongArchRewrites.{adds_low12}
-use Rattle.linker_utils.specs.LoongArchRewrites.{rd_of, rj_of}
-use Rattle.linker_elf.specs.Value.{sum_64}
-use Rattle.linker_elf.specs.declared.loongarch64.forms.LoongArch64Instruction.TheVariants.{Shift5}
-use Rattle.linker_elf.specs.declared.loongarch64.forms.LoongArch64Instruction.TheVariants.{Branch26}
+use Rattle.linker_laws.specs.Imports.{field, signed, loongarch_form, pcalau12i, adds_low12, rj_of}
+use Rattle.linker_laws.specs.Imports.{sum_64, Shift5, Branch26}
+use Rattle.linker_utils.specs.LoongArchRewrites.{rd_of}
 use Rattle.linker_laws.specs.Machine.{Memory, wrapped, extended, loaded, stored}
 
 -- ---- the state

@@ -2,18 +2,11 @@
 -- alike.
 use Rattle.std.specs.Prelude.{◌≡◌, ◌≢◌, ℕ, Bool, false, ◌==◌, ◌||◌, List, [], ◌∷◌, take, IsSomeAnd}
 use Rattle.std.specs.Int.{w32, from_le_bytes}
-use Rattle.linker_base.specs.Rewrite.{Rewrite}
-use Rattle.linker_elf.specs.Applied.{IsApplied}
-use Rattle.linker_elf.specs.Choices.{RowIsWithin}
-use Rattle.linker_elf.specs.LoongArch.{page}
-use Rattle.linker_elf.specs.LoongArchRelocations.{loongarch_row}
-use Rattle.linker_elf.specs.Value.{sum_64, difference_64}
-use Rattle.linker_elf.specs.declared.elf.value.Operands.{Operands}
-use Rattle.linker_elf.specs.declared.loongarch64.relocations.LoongArch64Relocation.{LoongArch64Relocation}
+use Rattle.linker_laws.specs.Imports.{Rewrite, IsApplied, RowIsWithin, page, loongarch_row, sum_64}
+use Rattle.linker_laws.specs.Imports.{difference_64, Operands, LoongArch64Relocation, RewriteKind}
 use Rattle.linker_laws.specs.LoongArchMachine.{State, read, AreAlikeBut}
 use Rattle.linker_laws.specs.Schemes.{entry_and_addend, symbol_address}
 use Rattle.linker_utils.specs.LoongArchRewrites.{AreOfOneRegister, loongarch_rewrite, signed_32}
-use Rattle.linker_utils.specs.declared.loongarch64.rewrites.RewriteKind.{RewriteKind}
 
 -- ---- instructions as bytes
 

@@ -4,11 +4,8 @@ use Rattle.std.specs.Prelude.{ℕ, zero, suc, ◌+◌, ◌*◌, ◌^◌, ◌<◌
 use Rattle.std.specs.Prelude.{◌++◌, length, ◌≡◌, take, drop, Option, IsSomeAnd, All, if◌then◌else◌}
 use Rattle.std.specs.Int.{int_rem_euclid, w64, cast_unsigned}
 use Rattle.std.specs.Prelude.{unsigned_abs}
-use Rattle.linker_base.specs.Bits.{field, signed}
-use Rattle.linker_elf.specs.Value.{sum_64, difference_64}
-use Rattle.linker_elf.specs.declared.elf.RelocationKindInfo.{RelocationKindInfo}
-use Rattle.linker_elf.specs.declared.elf.value.Operands.{Operands}
-use Rattle.linker_elf.specs.Applied.{IsApplied}
+use Rattle.linker_laws.specs.Imports.{field, signed, sum_64, difference_64, RelocationKindInfo}
+use Rattle.linker_laws.specs.Imports.{Operands, IsApplied}
 
 -- ---- numbers
 

@@ -5,13 +5,10 @@
 use Rattle.std.specs.Prelude.{ℕ, ◌-◌, ◌*◌, ◌/◌, ◌^◌, ◌==◌, ◌&&◌, nat_lt}
 use Rattle.std.specs.Prelude.{if◌then◌else◌, pos, ◌*ℤ◌}
 use Rattle.std.specs.Prelude.{Option, Some, None}
-use Rattle.linker_base.specs.Bits.{field}
-use Rattle.linker_elf.specs.Ppc64.{ppc64_form}
+use Rattle.linker_laws.specs.Imports.{field, ppc64_form, opcode_of, rt_of, ra_of, access_of, sum_64}
+use Rattle.linker_laws.specs.Imports.{D, Ds, Branch24, Prefixed}
 use Rattle.linker_utils.specs.Ppc64Rewrites.{is_access, is_word_access}
-use Rattle.linker_utils.specs.Ppc64Rewrites.{opcode_of, rt_of, ra_of, rb_of, access_of, nop}
-use Rattle.linker_elf.specs.Value.{sum_64}
-use Rattle.linker_elf.specs.declared.ppc64.forms.Ppc64Instruction.TheVariants.{D, Ds, Branch24}
-use Rattle.linker_elf.specs.declared.ppc64.forms.Ppc64Instruction.TheVariants.{Prefixed}
+use Rattle.linker_utils.specs.Ppc64Rewrites.{rb_of, nop}
 use Rattle.linker_laws.specs.Machine.{Memory, moved, extended, loaded, stored}
 
 -- ---- the state

@@ -1,16 +1,9 @@
 -- PowerPC64: what relocated instructions compute (64-bit ELF V2 ABI for Power, "Relocation Types";
 -- Power ISA, version 3.1, book I).
 use Rattle.std.specs.Prelude.{ℕ, [], ◌∷◌, ℤ, pos, ◌+ℤ◌, ◌*ℤ◌, ◌+◌, ◌*◌, ◌^◌}
-use Rattle.linker_base.specs.Bits.{field}
-use Rattle.linker_elf.specs.Ppc64.{ppc64_form}
-use Rattle.linker_elf.specs.Ppc64Relocations.{ppc64_row}
-use Rattle.linker_elf.specs.Relocate.{ppc64_reads}
-use Rattle.linker_elf.specs.declared.ppc64.forms.Ppc64Instruction.{Ppc64Instruction}
-use Rattle.linker_elf.specs.declared.ppc64.forms.Ppc64Instruction.TheVariants.{D, Ds, Branch14}
-use Rattle.linker_elf.specs.declared.ppc64.forms.Ppc64Instruction.TheVariants.{Branch24}
-use Rattle.linker_elf.specs.declared.ppc64.forms.Ppc64Instruction.TheVariants.{Prefixed}
-use Rattle.linker_elf.specs.declared.elf.value.Operands.{Operands}
-use Rattle.linker_elf.specs.declared.ppc64.relocations.Ppc64Relocation.{Ppc64Relocation}
+use Rattle.linker_laws.specs.Imports.{field, ppc64_form, ppc64_row, ppc64_reads, Ppc64Instruction}
+use Rattle.linker_laws.specs.Imports.{D, Ds, Branch24, Prefixed, Operands, Ppc64Relocation}
+use Rattle.linker_elf.specs.declared.ppc64.forms.Ppc64Instruction.TheVariants.{Branch14}
 use Rattle.linker_elf.specs.declared.ppc64.relocations.Ppc64Relocation.TheVariants as names
 use Rattle.linker_laws.specs.Schemes.{HoldsDistance, without_low, here, anywhere, moved_on, Law}
 use Rattle.linker_laws.specs.Schemes.{Adds, symbol_address, plt_address}

@@ -6,18 +6,11 @@ use Rattle.std.specs.Int.{w32, w64, from_le_bytes}
 use Rattle.linker_utils.specs.Ppc64Rewrites.{is_d_access}
 use Rattle.linker_utils.specs.Ppc64Rewrites.{is_ds_access}
 use Rattle.linker_utils.specs.Ppc64Rewrites.{is_vector_access}
-use Rattle.linker_elf.specs.Ppc64Relocations.{ppc64_row}
-use Rattle.linker_elf.specs.Relocate.{ppc64_reads}
-use Rattle.linker_utils.specs.Ppc64Rewrites.{ppc64_rewrite, opcode_of, rt_of, ra_of, access_of}
-use Rattle.linker_base.specs.Bits.{field}
-use Rattle.linker_elf.specs.Value.{sum_64, difference_64}
-use Rattle.linker_elf.specs.declared.elf.value.Operands.{Operands}
-use Rattle.linker_elf.specs.declared.ppc64.forms.Ppc64Instruction.{Ppc64Instruction}
-use Rattle.linker_elf.specs.declared.ppc64.forms.Ppc64Instruction.TheVariants.{D, Ds}
-use Rattle.linker_elf.specs.declared.ppc64.relocations.Ppc64Relocation.{Ppc64Relocation}
+use Rattle.linker_laws.specs.Imports.{ppc64_row, ppc64_reads, ppc64_rewrite, opcode_of, rt_of}
+use Rattle.linker_laws.specs.Imports.{ra_of, access_of, field, sum_64, difference_64, Operands}
+use Rattle.linker_laws.specs.Imports.{Ppc64Instruction, D, Ds, Ppc64Relocation, IsApplied}
 use Rattle.linker_elf.specs.declared.ppc64.relocations.Ppc64Relocation.TheVariants as names
 use Rattle.linker_utils.specs.declared.ppc64.rewrites.RewriteKind.{RewriteKind}
-use Rattle.linker_elf.specs.Applied.{IsApplied}
 use Rattle.linker_laws.specs.Schemes.{symbol_address}
 use Rattle.linker_laws.specs.Machine.{moved}
 use Rattle.linker_laws.specs.Ppc64Machine.{State, Formats, base}

@@ -5,15 +5,10 @@ use Rattle.std.specs.Prelude.{false, nat_lt}
 use Rattle.std.specs.Prelude.{if◌then◌else◌, List, [], ◌∷◌, take, drop, length, Option, Some, None}
 use Rattle.std.specs.Prelude.{IsSomeAnd, ⊤, ◌⊎◌}
 use Rattle.std.specs.Int.{w16, w64, cast_signed, from_le_bytes}
-use Rattle.linker_elf.specs.Choices.{low_12_bounds}
-use Rattle.linker_elf.specs.Elf.{IsWithin}
-use Rattle.linker_elf.specs.RiscV.{riscv_form}
-use Rattle.linker_elf.specs.RiscVRelocations.{clui_row, riscv_relocation, riscv_row}
-use Rattle.linker_elf.specs.Value.{difference_64, sum_64}
-use Rattle.linker_elf.specs.declared.elf.RelocationKindInfo.{RelocationKindInfo}
-use Rattle.linker_elf.specs.declared.elf.value.Operands.{Operands}
-use Rattle.linker_elf.specs.declared.riscv64.forms.RiscVInstruction.TheVariants.{UType}
-use Rattle.linker_elf.specs.declared.riscv64.relocations.RiscVRelocation.{RiscVRelocation}
+use Rattle.linker_laws.specs.Imports.{low_12_bounds, IsWithin, riscv_form, clui_row}
+use Rattle.linker_laws.specs.Imports.{riscv_relocation, riscv_row, difference_64, sum_64}
+use Rattle.linker_laws.specs.Imports.{RelocationKindInfo, Operands, UType, RiscVRelocation, rd_of}
+use Rattle.linker_laws.specs.Imports.{a0}
 use Rattle.linker_elf.specs.declared.riscv64.relocations.RiscVRelocation.TheVariants as names
 use Rattle.linker_laws.specs.Changes.{ChangesOpen, put, with_register}
 use Rattle.linker_laws.specs.Machine.{Relocated, loaded, moved, wrapped}
@@ -31,8 +26,7 @@ use Rattle.linker_laws.specs.Simulation.{State, Program, Machine, Link, Kind, Ki
 use Rattle.linker_laws.specs.Simulation.{Agree, AreOf, Group, Other, anything, code as counted}
 use Rattle.linker_laws.specs.Simulation.{of_link, run, same}
 use Rattle.linker_riscv64.specs.RiscVCalls.{IsCallPair}
-use Rattle.linker_riscv64.specs.RiscVFields.{rd_of}
-use Rattle.linker_utils.specs.RiscVRewrites.{IsAddTp, IsLui, a0, half_at, riscv_matches, tp}
+use Rattle.linker_utils.specs.RiscVRewrites.{IsAddTp, IsLui, half_at, riscv_matches, tp}
 use Rattle.linker_utils.specs.declared.riscv64.rewrites.RewriteKind.{RewriteKind}
 use Rattle.linker_utils.specs.declared.riscv64.rewrites.RewriteKind.TheVariants as kinds
 

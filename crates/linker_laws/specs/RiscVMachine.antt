@@ -5,14 +5,9 @@ use Rattle.std.specs.Prelude.{◌≡◌, ℕ, zero, suc, ◌+◌, ◌-◌, ◌*�
 use Rattle.std.specs.Prelude.{nat_lt, nat_le, if◌then◌else◌, List, length, drop, ℤ, pos}
 use Rattle.std.specs.Prelude.{Option, Some, None, option_map, Bool, not}
 use Rattle.std.specs.Int.{w16, w32, from_le_bytes}
-use Rattle.linker_base.specs.Bits.{field, signed}
-use Rattle.linker_elf.specs.RiscV.{riscv_form}
-use Rattle.linker_riscv64.specs.RiscVFields.{opcode_of, funct3_of, rd_of}
-use Rattle.linker_elf.specs.Value.{sum_64, difference_64}
-use Rattle.linker_elf.specs.declared.riscv64.forms.RiscVInstruction.TheVariants.{UType, IType}
-use Rattle.linker_elf.specs.declared.riscv64.forms.RiscVInstruction.TheVariants.{SType, JType}
-use Rattle.linker_elf.specs.declared.riscv64.forms.RiscVInstruction.TheVariants.{CjType}
-use Rattle.linker_elf.specs.declared.riscv64.forms.RiscVInstruction.TheVariants.{CluiType}
+use Rattle.linker_laws.specs.Imports.{field, signed, riscv_form, funct3_of, rd_of, sum_64}
+use Rattle.linker_laws.specs.Imports.{difference_64, UType, IType, SType, JType, CjType, CluiType}
+use Rattle.linker_riscv64.specs.RiscVFields.{opcode_of}
 use Rattle.linker_laws.specs.Machine.{Memory, moved, wrapped, extended, loaded, stored}
 
 -- ---- the state ("Programmers' Model for Base Integer ISA", "F Register State")

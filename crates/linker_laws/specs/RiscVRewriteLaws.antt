@@ -2,18 +2,14 @@
 use Rattle.std.specs.Prelude.{◌≡◌, ℕ, List}
 use Rattle.std.specs.Prelude.{Option, Some, ◌≢◌}
 use Rattle.std.specs.Int.{w32, w64, cast_signed, from_le_bytes}
-use Rattle.linker_base.specs.Rewrite.{rewritten}
-use Rattle.linker_elf.specs.Choices.{low_12_bounds, symbol_and_addend}
-use Rattle.linker_elf.specs.Elf.{IsWithin}
-use Rattle.linker_utils.specs.RiscVRewrites.{riscv_rewrite, a0}
+use Rattle.linker_laws.specs.Imports.{rewritten, low_12_bounds, IsWithin, a0, funct3_of, rd_of}
+use Rattle.linker_laws.specs.Imports.{riscv_row, difference_64, RelocationKindInfo, Operands}
+use Rattle.linker_elf.specs.Choices.{symbol_and_addend}
+use Rattle.linker_utils.specs.RiscVRewrites.{riscv_rewrite}
 use Rattle.linker_riscv64.specs.RiscVCalls.{word_at}
-use Rattle.linker_riscv64.specs.RiscVFields.{opcode_of, funct3_of, rd_of}
+use Rattle.linker_riscv64.specs.RiscVFields.{opcode_of}
 use Rattle.linker_utils.specs.RiscVRewrites.{IsAuipc, IsLd, IsAddiToA0}
 use Rattle.linker_utils.specs.RiscVRewrites.{IsCallOfDescriptor}
-use Rattle.linker_elf.specs.RiscVRelocations.{riscv_row}
-use Rattle.linker_elf.specs.Value.{difference_64}
-use Rattle.linker_elf.specs.declared.elf.RelocationKindInfo.{RelocationKindInfo}
-use Rattle.linker_elf.specs.declared.elf.value.Operands.{Operands}
 use Rattle.linker_elf.specs.declared.riscv64.relocations.RiscVRelocation.TheVariants as names
 use Rattle.linker_utils.specs.declared.riscv64.rewrites.RewriteKind.{RewriteKind}
 use Rattle.linker_laws.specs.Schemes.{symbol_address}

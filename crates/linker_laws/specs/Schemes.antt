@@ -3,15 +3,12 @@ use Rattle.std.specs.Prelude.{◌≡◌, ℕ, ◌^◌, ◌<◌, List, [], ◌∷
 use Rattle.std.specs.Prelude.{◌+ℤ◌, ◌*ℤ◌, ◌+◌, ◌*◌, ◌%◌, ⊤, Bool, IsTrue}
 use Rattle.std.specs.Int.{w64, cast_unsigned, int_rem_euclid}
 use Rattle.linker_base.specs.Form.{window_of}
-use Rattle.linker_elf.specs.Applied.{IsApplied}
-use Rattle.linker_elf.specs.Elf.{IsWithin, bit_bounds, relocation_form}
-use Rattle.linker_elf.specs.Relocate.{number_of_bytes}
-use Rattle.linker_elf.specs.Value.{sum_64, difference_64}
-use Rattle.linker_elf.specs.declared.elf.RelocationKindInfo.{RelocationKindInfo}
+use Rattle.linker_laws.specs.Imports.{IsApplied, IsWithin, number_of_bytes, sum_64, difference_64}
+use Rattle.linker_laws.specs.Imports.{RelocationKindInfo, Operands}
+use Rattle.linker_elf.specs.Elf.{bit_bounds, relocation_form}
 use Rattle.linker_elf.specs.declared.elf.RelocationSize.{RelocationSize}
 use Rattle.linker_elf.specs.declared.elf.RelocationSize.TheVariants.{ByteSize, BitMasking}
 use Rattle.linker_elf.specs.declared.elf.Sign.{Sign}
-use Rattle.linker_elf.specs.declared.elf.value.Operands.{Operands}
 
 -- the addresses among operands are numbers of 64 bits
 pub record AreAddresses (o : Operands) : Type 0 where

@@ -5,9 +5,7 @@ use Rattle.std.specs.Prelude.{ℕ, zero, suc, ◌+◌, ◌-◌, ◌*◌, ◌/◌
 use Rattle.std.specs.Prelude.{true, false, not, if◌then◌else◌, nat_lt, List, [], ◌∷◌, Option, Some}
 use Rattle.std.specs.Prelude.{None, bit_and, bit_or, bit_xor}
 use Rattle.std.specs.Int.{w64, bit_at, byte_at, cast_unsigned}
-use Rattle.linker_base.specs.Bits.{field, signed}
-use Rattle.linker_elf.specs.Relocate.{number_of_bytes}
-use Rattle.linker_elf.specs.Value.{sum_64, difference_64}
+use Rattle.linker_laws.specs.Imports.{field, signed, number_of_bytes, sum_64, difference_64}
 
 -- ---- the state
 

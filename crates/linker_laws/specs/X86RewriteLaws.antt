@@ -2,12 +2,8 @@
 use Rattle.std.specs.Prelude.{◌≡◌, ℕ, ◌^◌, ◌<◌, ◌++◌, IsSomeAnd, List, take, drop}
 use Rattle.std.specs.Prelude.{neg_ℤ, pos}
 use Rattle.std.specs.List.{All}
-use Rattle.linker_elf.specs.Value.{difference_64}
-use Rattle.linker_elf.specs.X86Relocations.{x86_64_row}
-use Rattle.linker_elf.specs.declared.elf.RelocationKindInfo.{RelocationKindInfo}
-use Rattle.linker_elf.specs.declared.elf.value.Operands.{Operands}
-use Rattle.linker_elf.specs.declared.x86_64.relocations.X86_64Relocation.{X86_64Relocation}
-use Rattle.linker_elf.specs.Applied.{IsApplied}
+use Rattle.linker_laws.specs.Imports.{difference_64, x86_64_row, RelocationKindInfo, Operands}
+use Rattle.linker_laws.specs.Imports.{X86_64Relocation, IsApplied}
 use Rattle.linker_laws.specs.Schemes.{AreAddresses}
 use Rattle.linker_laws.specs.X86Machine.{State}
 

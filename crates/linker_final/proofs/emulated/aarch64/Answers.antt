@@ -2,11 +2,7 @@
 use Rattle.std.proofs.Common.{◌≡◌, Bool, true, false, Option, Some, None, refl, ap, ◌∙◌}
 use Rattle.std.specs.List.{list_all}
 use Rattle.linker_base.specs.Form.{place_sum}
-use Rattle.linker_final.specs.AArch64Table.{adr_words, movkz_words, movnz_words, ldr_words}
-use Rattle.linker_final.specs.AArch64Table.{ldrregister_words, add_words, ldst_words, tstbr_words}
-use Rattle.linker_final.specs.AArch64Table.{bcond_words, jumpcall_words, macholow12_words}
-use Rattle.linker_final.specs.AArch64Table.{moves_words}
-use Rattle.linker_final.specs.AArch64Table.{page_words}
+use Rattle.linker_final.specs.AArch64Table.{adr_words, movkz_words, movnz_words, ldr_words, ldrregister_words, add_words, ldst_words, tstbr_words, bcond_words, jumpcall_words, macholow12_words, moves_words, page_words}
 use Rattle.linker_final.specs.AArch64Steps.{aarch64_groups}
 use Rattle.linker_final.specs.AArch64Executed.{numbers, executed, ends_so}
 use Rattle.linker_final.specs.Steps.{Executed, Group, Numbers, at, pc, before, memory_in, bytes_from, is_left}

@@ -6,10 +6,7 @@ use Rattle.linker_base.specs.Form.{place_sum}
 use Rattle.linker_laws.specs.LoongArchMachine.{State}
 use Rattle.linker_output.specs.LoongArchLazyPlt.{step}
 use Rattle.linker_final.specs.LoongArchExecuted.{numbers, floats, begun, register, ends_so}
-use Rattle.linker_final.specs.LoongArchTable.{shift5_words, shift10_words, low12_words, branch21_words}
-use Rattle.linker_final.specs.LoongArchTable.{branch26_words, call36_words}
-use Rattle.linker_final.specs.LoongArchTable.{reach_words, parts_words, address_words}
-use Rattle.linker_final.specs.LoongArchTable.{upper_words, four_words, near_words}
+use Rattle.linker_final.specs.LoongArchTable.{shift5_words, shift10_words, low12_words, branch21_words, branch26_words, call36_words, reach_words, parts_words, address_words, upper_words, four_words, near_words}
 use Rattle.linker_final.specs.LoongArchSteps.{loongarch_groups}
 use Rattle.linker_final.specs.Steps.{Executed, Group, Numbers, at, pc, before, memory_in, bytes_from, is_left}
 use Rattle.linker_final.proofs.Noise.{groups_pass, noise_256, quick_low}

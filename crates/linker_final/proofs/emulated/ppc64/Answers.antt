@@ -1,13 +1,8 @@
 -- The words of PowerPC64: by computation.
 use Rattle.std.proofs.Common.{◌≡◌, ◌+◌, ◌==◌, Bool, true, false, Option, Some, None, refl, ap, ◌∙◌}
-use Rattle.std.specs.Prelude.{if◌then◌else◌}
-use Rattle.std.specs.List.{list_all}
+use Rattle.linker_final.proofs.Imports.{if◌then◌else◌, list_all}
 use Rattle.linker_base.specs.Form.{place_sum}
-use Rattle.linker_final.specs.Ppc64Table.{d_words, ds_words, dq_words, branch14_words, branch24_words}
-use Rattle.linker_final.specs.Ppc64Table.{prefixed_words}
-use Rattle.linker_final.specs.Ppc64Table.{halves_words}
-use Rattle.linker_final.specs.Ppc64Table.{unadjusted_words}
-use Rattle.linker_final.specs.Ppc64Table.{dunsigned_words, quarters_words}
+use Rattle.linker_final.specs.Ppc64Table.{d_words, ds_words, dq_words, branch14_words, branch24_words, prefixed_words, halves_words, unadjusted_words, dunsigned_words, quarters_words}
 use Rattle.linker_final.specs.Ppc64Steps.{ppc64_groups}
 use Rattle.linker_final.specs.Ppc64Executed.{numbers, formats, register, length_of, executed, ends_so}
 use Rattle.linker_final.specs.Steps.{Executed, Group, Numbers, at, pc, before, memory_in, bytes_from, is_left}

@@ -1,16 +1,12 @@
 -- The words of RISC-V: by computation.
 use Rattle.std.proofs.Common.{◌≡◌, ℕ, ◌+◌, ◌-◌, ◌%◌, ◌^◌, ◌==◌, Bool, true, false, Option, Some, None, refl, ap, ◌∙◌}
-use Rattle.std.specs.Prelude.{if◌then◌else◌, nat_lt}
-use Rattle.std.specs.List.{list_all}
+use Rattle.linker_final.proofs.Imports.{if◌then◌else◌, nat_lt, list_all, register}
 use Rattle.linker_base.specs.Form.{place_sum}
-use Rattle.linker_final.specs.RiscVTable.{utype_words, itype_words, stype_words, btype_words}
-use Rattle.linker_final.specs.RiscVTable.{jtype_words, cbtype_words, cjtype_words, cluitype_words}
-use Rattle.linker_final.specs.RiscVTable.{uitype_words}
-use Rattle.linker_final.specs.RiscVTable.{call_words}
+use Rattle.linker_final.specs.RiscVTable.{utype_words, itype_words, stype_words, btype_words, jtype_words, cbtype_words, cjtype_words, cluitype_words, uitype_words, call_words}
 use Rattle.linker_final.specs.RiscVSteps.{riscv_groups}
 use Rattle.linker_final.specs.RiscVExecuted.{numbers, begun, bytes_of, length_of, is_some_hart, ends_so}
 use Rattle.linker_final.specs.Steps.{Executed, Group, Numbers, at, pc, before, memory_in, bytes_from, is_left}
-use Rattle.linker_laws.specs.RiscVMachine.{Hart, register, step}
+use Rattle.linker_laws.specs.RiscVMachine.{Hart, step}
 use Rattle.linker_output.specs.RiscVLazyPlt.{further}
 use Rattle.linker_final.proofs.Noise.{groups_pass, quick_high}
 use Rattle.linker_final.proofs.emulated.riscv64.Goals as goal

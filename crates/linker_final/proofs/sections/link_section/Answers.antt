@@ -1,11 +1,8 @@
 use Rattle.std.proofs.Common.{ℕ, ◌/◌, ◌^◌, ◌<◌, length, get_or, refl, subst, sym, rules}
 use Rattle.linker_final.proofs.PackedBytes.{are_bytes}
 use Rattle.linker_final.proofs.SameDecisions.{same_decisions}
-use Rattle.linker_rewriting.specs.Decisions.{AreDecidedIn, IsRejected}
+use Rattle.linker_final.proofs.Imports.{AreDecidedIn, IsRejected, pre_layout, IsWritingCause, AreRelocationsAfter, AreDone, OthersStay}
 use Rattle.linker_final.specs.Final.{HasRewritten, rewriting_phase}
-use Rattle.linker_rewriting.specs.Facts.{pre_layout}
-use Rattle.linker_rewriting.specs.Kept.{IsWritingCause}
-use Rattle.linker_rewriting.specs.Rewritten.{AreRelocationsAfter, AreDone, OthersStay}
 use Rattle.linker_final.proofs.sections.link_section.Goals as goal
 
 pub returns-in-Err-clause-cause : goal.returns-in-Err-clause-cause

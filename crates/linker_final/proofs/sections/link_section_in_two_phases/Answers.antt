@@ -2,10 +2,8 @@ use Rattle.std.proofs.Common.{◌≡◌, ℕ, ◌/◌, ◌^◌, ◌<◌, List, l
 use Rattle.linker_final.proofs.PackedBytes.{are_bytes}
 use Rattle.linker_final.proofs.SameDecisions.{same_decisions, same_deletions}
 use Rattle.linker_final.specs.Final.{AreListed, HasRewritten, RewritingPhase, deletions_in, rewriting_phase}
-use Rattle.linker_rewriting.specs.Decisions.{AreDecidedIn, IsRejected, IsRejectedPlaced, deletions_by}
-use Rattle.linker_rewriting.specs.Facts.{pre_layout, context}
-use Rattle.linker_rewriting.specs.Kept.{IsWritingCause}
-use Rattle.linker_rewriting.specs.Rewritten.{AreRelocationsAfter, AreDone, OthersStay}
+use Rattle.linker_final.proofs.Imports.{AreDecidedIn, IsRejected, pre_layout, context, IsWritingCause, AreRelocationsAfter, AreDone, OthersStay}
+use Rattle.linker_rewriting.specs.Decisions.{IsRejectedPlaced, deletions_by}
 use Rattle.linker_final.proofs.sections.link_section_in_two_phases.Goals as goal
 
 pub returns-in-Err-clause-cause : goal.returns-in-Err-clause-cause

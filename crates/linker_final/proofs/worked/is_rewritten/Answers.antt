@@ -1,11 +1,8 @@
 use Rattle.std.proofs.Common.{◌/◌, length, refl, subst, rules}
-use Rattle.std.specs.Prelude.{replicate}
+use Rattle.linker_final.proofs.Imports.{replicate, AreDecidedIn, context, AreDone, AreRelocationsAfter, OthersStay}
 use Rattle.linker_final.proofs.SameDecisions.{same_decisions}
 use Rattle.linker_final.proofs.worked.is_rewritten.Goals as goal
 use Rattle.linker_final.specs.declared.worked.TheConstants.{OUTPUT}
-use Rattle.linker_rewriting.specs.Decisions.{AreDecidedIn}
-use Rattle.linker_rewriting.specs.Facts.{context}
-use Rattle.linker_rewriting.specs.Rewritten.{AreDone, AreRelocationsAfter, OthersStay}
 
 pub returns-in-Ok : goal.returns-in-Ok
 returns-in-Ok c so =

@@ -1,22 +1,11 @@
 -- The laws of AArch64.
 use Rattle.std.proofs.Common.{refl, ap, arith, None, Some, ◌≡◌, ℕ, ◌^◌, ◌<◌}
-use Rattle.std.specs.Int.{w64, cast_signed, cast_unsigned}
-use Rattle.linker_elf.specs.Value.{sum_64, difference_64}
-use Rattle.linker_elf.specs.declared.elf.value.Operands.{Operands}
+use Rattle.linker_laws.proofs.Imports.{w64, cast_signed, cast_unsigned, sum_64, difference_64, Operands, aarch64_rows, bit_bounds, Add, LdSt, LdrRegister, Signed}
 use Rattle.linker_elf.specs.declared.aarch64.relocations.AArch64Relocation.TheVariants as names
-use Rattle.linker_elf.proofs.RowsAgree.{aarch64_rows}
 use Rattle.linker_laws.specs.Schemes.{AreAddresses, none, symbol_address, place}
-use Rattle.linker_elf.specs.Elf.{bit_bounds}
-use Rattle.linker_elf.specs.declared.aarch64.forms.AArch64Instruction.TheVariants.{Add, LdSt, LdrRegister}
-use Rattle.linker_elf.specs.declared.elf.Sign.TheVariants.{Signed}
 use Rattle.linker_laws.proofs.Fields.{holds_distance}
-use Rattle.linker_laws.proofs.Instructions.{entry_and_addend_from_place, symbol_from_got}
-use Rattle.linker_laws.proofs.Instructions.{adds, symbol_from_place, plt_from_place}
-use Rattle.linker_laws.proofs.Instructions.{entry_from_place, entry_from_got, entry_from}
-use Rattle.linker_laws.proofs.Instructions.{symbol_from_tls, symbol_itself, symbol_small}
-use Rattle.linker_laws.proofs.Instructions.{entry_sum_small, entry_is, relative, same_distance}
-use Rattle.linker_laws.proofs.AArch64WideMoves.{moves1, moves2, moves3, moves4, movz_first, movn_first}
-use Rattle.linker_laws.proofs.AArch64WideMoves.{movn_highest, movz_highest}
+use Rattle.linker_laws.proofs.Instructions.{entry_and_addend_from_place, symbol_from_got, adds, symbol_from_place, plt_from_place, entry_from_place, entry_from_got, entry_from, symbol_from_tls, symbol_itself, symbol_small, entry_sum_small, entry_is, relative, same_distance}
+use Rattle.linker_laws.proofs.AArch64WideMoves.{moves1, moves2, moves3, moves4, movz_first, movn_first, movn_highest, movz_highest}
 use Rattle.linker_laws.proofs.AArch64Pages.{pages, high_and_low_parts, IsUnsigned, got_page_small}
 use Rattle.linker_laws.proofs.Sums.{difference_below}
 use Rattle.linker_laws.specs.AArch64RelocationLaws.{got_page, movz, movn_or_movz, has_shift}

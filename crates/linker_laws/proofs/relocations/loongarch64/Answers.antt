@@ -1,30 +1,15 @@
 -- The laws of LoongArch.
-use Rattle.linker_elf.specs.Agrees.{bits_from}
+use Rattle.linker_laws.proofs.Imports.{bits_from, w64, cast_signed, window_of, loongarch_form, Shift10, sum_64, difference_64, Operands, is_jirl}
 use Rattle.std.proofs.Common.{refl, ap, sym, ◌∙◌, arith, true, false, not, Bool, ◌≡◌, ◌^◌, ◌<◌, ℕ}
-use Rattle.std.specs.Int.{w64, cast_signed}
-use Rattle.linker_base.specs.Form.{window_of}
-use Rattle.linker_elf.specs.LoongArch.{loongarch_form}
-use Rattle.linker_elf.specs.declared.loongarch64.forms.LoongArch64Instruction.TheVariants.{Shift10}
 use Rattle.linker_elf.specs.declared.loongarch64.relocations.LoongArch64Relocation.TheVariants.{R_LARCH_B16, R_LARCH_PCALA_LO12}
-use Rattle.linker_elf.specs.Value.{sum_64, difference_64}
-use Rattle.linker_elf.specs.declared.elf.value.Operands.{Operands}
 use Rattle.linker_elf.proofs.RowsAgree.{loongarch_rows}
-use Rattle.linker_laws.specs.Schemes.{symbol_address, entry_and_addend, tls_base, place, zero}
-use Rattle.linker_laws.specs.Schemes.{AreAddresses, none, of_words}
-use Rattle.linker_elf.specs.Relocate.{is_jirl}
+use Rattle.linker_laws.specs.Schemes.{symbol_address, entry_and_addend, tls_base, place, zero, AreAddresses, none, of_words}
 use Rattle.linker_laws.proofs.Applied.{reads, value_is, aligned_low}
 use Rattle.linker_laws.proofs.Differences.{adds_distance, adds_distance_6}
 use Rattle.linker_laws.proofs.Rounded.{relative_rounds, unrounded}
 use Rattle.linker_laws.proofs.Fields.{holds_distance}
-use Rattle.linker_laws.proofs.Instructions.{adds, symbol_from_place, plt_from_place}
-use Rattle.linker_laws.proofs.Instructions.{entry_and_addend_from_place}
-use Rattle.linker_laws.proofs.Instructions.{symbol_itself, symbol_from_tls, symbol_small}
-use Rattle.linker_laws.proofs.Instructions.{entry_and_addend_small, entry_and_addend_itself}
-use Rattle.linker_laws.proofs.Instructions.{tls_small, place_small, zero_small, relative}
-use Rattle.linker_laws.proofs.Instructions.{absolute}
-use Rattle.linker_laws.proofs.LoongArchAddresses.{page_pairs, page_jumps, two_parts, rounded_parts}
-use Rattle.linker_laws.proofs.LoongArchAddresses.{four_parts}
-use Rattle.linker_laws.proofs.LoongArchAddresses.{five_parts, calls_far, high_parts}
+use Rattle.linker_laws.proofs.Instructions.{adds, symbol_from_place, plt_from_place, entry_and_addend_from_place, symbol_itself, symbol_from_tls, symbol_small, entry_and_addend_small, entry_and_addend_itself, tls_small, place_small, zero_small, relative, absolute}
+use Rattle.linker_laws.proofs.LoongArchAddresses.{page_pairs, page_jumps, two_parts, rounded_parts, four_parts, five_parts, calls_far, high_parts}
 use Rattle.linker_laws.proofs.Sums.{difference_below, sum_below, multiple_part}
 use Rattle.linker_laws.proofs.relocations.loongarch64.Goals as goal
 

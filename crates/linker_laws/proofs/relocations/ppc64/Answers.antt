@@ -1,19 +1,10 @@
 -- The laws of PowerPC64.
 use Rattle.std.proofs.Common.{◌≡◌, refl, ap, arith, Some}
-use Rattle.std.specs.Int.{w64, cast_signed}
-use Rattle.linker_elf.specs.Value.{sum_64, difference_64}
-use Rattle.linker_elf.specs.declared.ppc64.forms.Ppc64Instruction.TheVariants.{D, Ds}
-use Rattle.linker_elf.specs.declared.elf.value.Operands.{Operands}
-use Rattle.linker_laws.specs.Schemes.{symbol_address, got_base, tls_base, place, AreAddresses, plt_address}
-use Rattle.linker_laws.specs.Schemes.{entry_address}
+use Rattle.linker_laws.proofs.Imports.{w64, cast_signed, sum_64, difference_64, D, Ds, Operands}
+use Rattle.linker_laws.specs.Schemes.{symbol_address, got_base, tls_base, place, AreAddresses, plt_address, entry_address}
 use Rattle.linker_laws.proofs.Fields.{holds_distance}
-use Rattle.linker_laws.proofs.Instructions.{adds, symbol_from_place, symbol_from_got}
-use Rattle.linker_laws.proofs.Instructions.{symbol_from_tls, symbol_itself, entry_from_place}
-use Rattle.linker_laws.proofs.Instructions.{entry_from_got, entry_sum, place_small, got_small, plt_from_got}
-use Rattle.linker_laws.proofs.Instructions.{plt_from_place}
-use Rattle.linker_laws.proofs.Instructions.{tls_small, same_distance, relative, entry_is}
-use Rattle.linker_laws.proofs.Ppc64Halves.{adjusted_halves, high_half, unadjusted_halves, d_reads}
-use Rattle.linker_laws.proofs.Ppc64Halves.{ds_reads}
+use Rattle.linker_laws.proofs.Instructions.{adds, symbol_from_place, symbol_from_got, symbol_from_tls, symbol_itself, entry_from_place, entry_from_got, entry_sum, place_small, got_small, plt_from_got, plt_from_place, tls_small, same_distance, relative, entry_is}
+use Rattle.linker_laws.proofs.Ppc64Halves.{adjusted_halves, high_half, unadjusted_halves, d_reads, ds_reads}
 use Rattle.linker_laws.proofs.Rounded.{relative_rounds, absolute_rounds, unrounded}
 use Rattle.linker_laws.proofs.Ppc64Quarters.{quarters, quarters_adjusted}
 use Rattle.linker_laws.proofs.Sums.{difference_below, sum_below}

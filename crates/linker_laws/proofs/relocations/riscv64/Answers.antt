@@ -1,11 +1,8 @@
 -- The laws of RISC-V.
 use Rattle.std.proofs.Common.{refl, arith}
-use Rattle.linker_elf.specs.declared.riscv64.forms.RiscVInstruction.TheVariants.{UType, IType, SType}
-use Rattle.linker_elf.specs.declared.riscv64.forms.RiscVInstruction.TheVariants.{CluiType}
+use Rattle.linker_laws.proofs.Imports.{UType, IType, SType, CluiType}
 use Rattle.linker_laws.proofs.Fields.{holds_distance}
-use Rattle.linker_laws.proofs.Instructions.{adds, symbol_from_place, plt_from_place}
-use Rattle.linker_laws.proofs.Instructions.{entry_and_addend_from_place, symbol_from_tls}
-use Rattle.linker_laws.proofs.Instructions.{symbol_itself}
+use Rattle.linker_laws.proofs.Instructions.{adds, symbol_from_place, plt_from_place, entry_and_addend_from_place, symbol_from_tls, symbol_itself}
 use Rattle.linker_laws.proofs.Differences.{adds_distance, sets_distance, sets_distance_6}
 use Rattle.linker_laws.proofs.RiscV.{pairs, calls, Completes}
 use Rattle.linker_laws.proofs.relocations.riscv64.Goals as goal

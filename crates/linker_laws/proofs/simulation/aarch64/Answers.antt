@@ -1,8 +1,6 @@
-use Rattle.linker_laws.proofs.AArch64AdrGroups.{are_add_to_adr, are_adr_and_nop, are_ldr_to_adr}
-use Rattle.linker_laws.proofs.AArch64AdrGroups.{are_load_to_nop_and_adr, are_nop_and_adr}
+use Rattle.linker_laws.proofs.AArch64AdrGroups.{are_add_to_adr, are_adr_and_nop, are_ldr_to_adr, are_load_to_nop_and_adr, are_nop_and_adr}
 use Rattle.linker_laws.proofs.AArch64DescriptorGroups.{are_to_initial_exec, are_to_local_exec}
-use Rattle.linker_laws.proofs.AArch64Groups.{are_loads, are_high_halves, are_low_halves, are_branches}
-use Rattle.linker_laws.proofs.AArch64Groups.{are_others}
+use Rattle.linker_laws.proofs.AArch64Groups.{are_loads, are_high_halves, are_low_halves, are_branches, are_others}
 use Rattle.linker_laws.proofs.simulation.aarch64.Goals as goal
 
 pub returns : goal.returns

@@ -1,10 +1,5 @@
 use Rattle.linker_laws.proofs.RiscVAccesses.{are_accesses}
-use Rattle.linker_laws.proofs.RiscVGroups.{are_calls, are_cluis_to_cli, are_fixed_addresses, are_high_offsets}
-use Rattle.linker_laws.proofs.RiscVGroups.{are_high_parts, are_loads, are_long_calls, are_low_addresses}
-use Rattle.linker_laws.proofs.RiscVGroups.{are_low_offsets, are_low_parts, are_luis_to_clui}
-use Rattle.linker_laws.proofs.RiscVGroups.{are_others, are_rewritten_calls, are_short_tail_calls}
-use Rattle.linker_laws.proofs.RiscVGroups.{are_sums, are_to_initial_exec, are_to_local_exec}
-use Rattle.linker_laws.proofs.RiscVGroups.{are_to_short_local_exec}
+use Rattle.linker_laws.proofs.RiscVGroups.{are_calls, are_cluis_to_cli, are_fixed_addresses, are_high_offsets, are_high_parts, are_loads, are_long_calls, are_low_addresses, are_low_offsets, are_low_parts, are_luis_to_clui, are_others, are_rewritten_calls, are_short_tail_calls, are_sums, are_to_initial_exec, are_to_local_exec, are_to_short_local_exec}
 use Rattle.linker_laws.proofs.simulation.riscv64.Goals as goal
 
 pub returns : goal.returns

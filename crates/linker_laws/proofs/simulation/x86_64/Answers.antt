@@ -1,5 +1,4 @@
-use Rattle.linker_laws.proofs.X86Groups.{are_branches, are_descriptor_calls, are_leas}
-use Rattle.linker_laws.proofs.X86Groups.{are_others}
+use Rattle.linker_laws.proofs.X86Groups.{are_branches, are_descriptor_calls, are_leas, are_others}
 use Rattle.linker_laws.proofs.X86LocalDynamic.{block_offsets}
 use Rattle.linker_laws.proofs.X86Replaced as replaced
 use Rattle.linker_laws.proofs.X86ThreadGroups.{are_module_calls, are_thread_calls}

@@ -1,0 +1,71 @@
+-- The names of other crates that several files of definitions here use.
+pub use Rattle.linker_base.specs.Bits.{field}
+pub use Rattle.linker_elf.specs.Architectures.{IsRow}
+pub use Rattle.linker_elf.specs.Choices.{RowIsWithin}
+pub use Rattle.linker_elf.specs.ElfNames.{IsNameOf, code_of}
+pub use Rattle.linker_elf.specs.LoongArch.{loongarch_form}
+pub use Rattle.linker_elf.specs.LoongArchRelocations.{loongarch_name, loongarch_row}
+pub use Rattle.linker_elf.specs.Relocate.{window_len}
+pub use Rattle.linker_elf.specs.RiscV.{riscv_form}
+pub use Rattle.linker_elf.specs.RiscVRelocations.{riscv_name, riscv_row}
+pub use Rattle.linker_elf.specs.Value.{difference_64, sum_64, value_of}
+pub use Rattle.linker_elf.specs.declared.aarch64.forms.AArch64Instruction.TheVariants.{Add}
+pub use Rattle.linker_elf.specs.declared.elf.RelocationKindInfo.{RelocationKindInfo}
+pub use Rattle.linker_elf.specs.declared.elf.architecture.Architecture.{Architecture}
+pub use Rattle.linker_elf.specs.declared.elf.architecture.Architecture.TheVariants.{RiscV}
+pub use Rattle.linker_elf.specs.declared.elf.choice.Choice.{Choice}
+pub use Rattle.linker_elf.specs.declared.elf.value.Operands.{Operands}
+pub use Rattle.linker_elf.specs.declared.loongarch64.forms.LoongArch64Instruction.TheVariants.{Branch21}
+pub use Rattle.linker_elf.specs.declared.loongarch64.forms.LoongArch64Instruction.TheVariants.{Branch26}
+pub use Rattle.linker_elf.specs.declared.loongarch64.forms.LoongArch64Instruction.TheVariants.{Shift10}
+pub use Rattle.linker_elf.specs.declared.loongarch64.forms.LoongArch64Instruction.TheVariants.{Shift5}
+pub use Rattle.linker_elf.specs.declared.loongarch64.relocations.LoongArch64Relocation.{LoongArch64Relocation}
+pub use Rattle.linker_elf.specs.declared.riscv64.forms.RiscVInstruction.TheVariants.{BType, CbType}
+pub use Rattle.linker_elf.specs.declared.riscv64.forms.RiscVInstruction.TheVariants.{CjType, JType}
+pub use Rattle.linker_elf.specs.declared.riscv64.forms.RiscVInstruction.TheVariants.{UiType}
+pub use Rattle.linker_elf.specs.declared.riscv64.relocations.RiscVRelocation.{RiscVRelocation}
+pub use Rattle.linker_laws.specs.Changes.{put, with_register}
+pub use Rattle.linker_laws.specs.LoongArchGroups.{put_unless_zero, with_unless_zero}
+pub use Rattle.linker_laws.specs.LoongArchRewriteLaws.{Fits32, IsRelocated, word_of}
+pub use Rattle.linker_laws.specs.Machine.{Relocated, loaded}
+pub use Rattle.linker_laws.specs.RiscVGroups.{AreBefore, AreDeleted, Code, Has, Stands, link, seen}
+pub use Rattle.linker_laws.specs.RiscVGroups.{upper_from, uses}
+pub use Rattle.linker_laws.specs.RiscVMachine.{Action, register, rs1_of}
+pub use Rattle.linker_laws.specs.RiscVRewriteLaws.{IsLow12, IsLowOffset, action_at, offset_row}
+pub use Rattle.linker_laws.specs.Schemes.{AreAddresses, entry_and_addend, plt_address}
+pub use Rattle.linker_laws.specs.Schemes.{symbol_address}
+pub use Rattle.linker_laws.specs.Simulation.{Agree, Group, Kinds, State, anything, half, of_link}
+pub use Rattle.linker_laws.specs.Simulation.{same}
+pub use Rattle.linker_output.specs.Ppc64Stubs.{Counted}
+pub use Rattle.linker_output.specs.Ppc64Vectors.{Vectored}
+pub use Rattle.linker_rewriting.specs.Decisions.{decision_at}
+pub use Rattle.linker_rewriting.specs.Facts.{RelaxContext, pre_layout}
+pub use Rattle.linker_rewriting.specs.declared.decisions.Decision.{Decision}
+pub use Rattle.linker_rewriting.specs.declared.decisions.Decision.TheVariants.{Kept, Rewritten}
+pub use Rattle.linker_rewriting.specs.declared.decisions.Decision.TheVariants.{RewrittenWithSymbol}
+pub use Rattle.linker_rewriting.specs.declared.decisions.Subject.{Subject}
+pub use Rattle.linker_rewriting.specs.declared.groups.Scope.TheVariants.{NotRelaxable}
+pub use Rattle.linker_rewriting.specs.declared.groups.UnrelaxableGroups.{UnrelaxableGroups}
+pub use Rattle.linker_rewriting.specs.declared.phases.Phase.{Phase}
+pub use Rattle.linker_riscv64.specs.RiscVCalls.{word_at}
+pub use Rattle.linker_riscv64.specs.RiscVFields.{rd_of}
+pub use Rattle.linker_runs.specs.Choosing.{IsRelaxation}
+pub use Rattle.linker_runs.specs.Deleting.{deletions_of_run}
+pub use Rattle.linker_runs.specs.Moved.{AreMoved}
+pub use Rattle.linker_runs.specs.Packing.{IsPackedRun, address_of, kept_len, packed_offset}
+pub use Rattle.linker_runs.specs.Packing.{section_of}
+pub use Rattle.linker_runs.specs.Relaxing.{item_at}
+pub use Rattle.linker_runs.specs.declared.packing.Machine.{Machine}
+pub use Rattle.linker_runs.specs.declared.packing.Machine.TheVariants.{LoongArch64, RiscV64}
+pub use Rattle.linker_runs.specs.declared.relaxation.Alignment.{Alignment}
+pub use Rattle.linker_runs.specs.declared.relaxation.Item.{Item}
+pub use Rattle.linker_runs.specs.declared.relaxation.Item.TheVariants.{Aligned}
+pub use Rattle.linker_section.specs.Relocations.{relocation_in}
+pub use Rattle.linker_section.specs.Values.{offset_at, operands_with}
+pub use Rattle.linker_section.specs.WrittenFields.{AreWritten}
+pub use Rattle.linker_section.specs.declared.facts.Addresses.{Addresses}
+pub use Rattle.linker_section.specs.declared.facts.Symbol.{Symbol}
+pub use Rattle.linker_section.specs.declared.relocations.Rela.{Rela}
+pub use Rattle.linker_utils.specs.LoongArchRewrites.{rj_of, signed_12, tp}
+pub use Rattle.linker_utils.specs.RiscVRewrites.{IsLui}
+pub use Rattle.linker_utils.specs.declared.architecture.Relaxation.{Relaxation}
