@@ -18,7 +18,7 @@ pub const DESCRIPTOR_FUNCTION: u64 = MEMORY + 0x100;
 /// Each undefined function and variable has so many bytes in front of the code.
 const FOREIGN_LEN: u64 = 0x20;
 const MAX_FOREIGN_LEN: u64 = 0x00ff_0000;
-const CODE: u64 = MEMORY + 0x0100_0000;
+pub const CODE: u64 = MEMORY + 0x0100_0000;
 
 /// A word of the GOT and what it holds.
 pub struct Word {
@@ -37,6 +37,10 @@ pub struct Layout {
     /// The TLS image's address, and how long it is with that of other objects.
     pub image: u64,
     pub image_len: u64,
+    /// How many bytes before it are a thread's own.
+    pub room: u64,
+    /// The address behind the GOT, which is last.
+    pub end: u64,
     /// Each section's relocations, which name a symbol of their own where the GOT's entry is of
     /// another addend.
     pub relocations: Vec<Vec<u8>>,
@@ -47,8 +51,9 @@ fn aligned(address: u64, alignment: u64) -> u64 {
 }
 
 impl Layout {
-    /// None where the object is too large for the memory.
-    pub fn new(object: &Object, random: &mut Random) -> Option<Layout> {
+    /// None where the object is too large for the memory. With room before the TLS image, which is for
+    /// a thread's own data, no end of a section is the begin of another one either.
+    pub fn new(object: &Object, random: &mut Random, room: u64) -> Option<Layout> {
         let target = Target::of(object.architecture);
         let mut at = CODE;
         let mut sections = vec![0; object.sections.len()];
@@ -57,7 +62,7 @@ impl Layout {
                 if wanted(index) && section.size > 0 {
                     *at = aligned(*at, section.alignment.max(64));
                     sections[index] = *at;
-                    *at += section.size;
+                    *at += section.size + room.min(1);
                 }
             }
         };
@@ -68,7 +73,7 @@ impl Layout {
         // PowerPC64's, which is a part of the GOT
         let is_toc = |index: usize| object.sections[index].name == ".toc";
         place(&mut at, &|index| !is_code(index) && !is_thread_local(index) && !is_toc(index));
-        let image = aligned(at, 0x1000);
+        let image = aligned(at + room, 0x1000);
         at = image;
         place(&mut at, &is_thread_local);
         // variables of other objects, near or far
@@ -98,6 +103,7 @@ impl Layout {
                 symbol.home == Home::Undefined && symbol.is_weak && random.below(2) == 0;
             let address = match symbol.home {
                 _ if is_tls_get_addr => TLS_GET_ADDR,
+                _ if symbol.name == ".TOC." => link.got_base,
                 Home::Section(section) => sections.get(section)?.wrapping_add(symbol.value),
                 Home::Absolute => symbol.value,
                 Home::Undefined if is_undefined_weak => 0,
@@ -212,6 +218,8 @@ impl Layout {
             words,
             image,
             image_len,
+            room,
+            end: at,
             relocations,
         })
     }

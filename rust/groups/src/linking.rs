@@ -1,15 +1,21 @@
 // SPDX-License-Identifier: MIT OR Apache-2.0
 //! An object's sections as they are linked without rewrites, and with all that the library chooses.
 
-use crate::layout::Layout;
+use crate::layout::{CODE, Layout, MEMORY};
 use crate::objects::Object;
 use linker_utils::elf::{Architecture, RewriteWindow};
+use linker_utils::relaxation::{DeltaSlice, SectionRelaxDeltas};
 use linker_utils::rewriting::{
-    Decision, UnrelaxableGroups, Phase, rewrite_placed_section, rewrite_section, survey,
+    Decision, Phase, UnrelaxableGroups, rewrite_placed_section, rewrite_section, survey,
     survey_placed_section,
 };
-use linker_utils::section::{self, Section, memory_len, relocate_section, relocation_at};
-use linker_utils::section::relocations_len;
+use linker_utils::runs::{
+    Alignment, Item, Machine, Relocation, Run, first_faulty, pack_run, packed_run_len, relax,
+    rewritten_items_into,
+};
+use linker_utils::section::{
+    self, Section, Symbol, memory_len, relocate_section, relocation_at, relocations_len,
+};
 use std::error::Error;
 
 /// A relocation whose instruction is rewritten, or which goes with another one.
@@ -29,6 +35,31 @@ pub struct Linked {
     pub after: Vec<u8>,
     /// In the order of their offsets.
     pub members: Vec<Member>,
+}
+
+/// Where code is after packing: of each section its first address, the one behind it and what it lost,
+/// by distances from `MEMORY`.
+#[derive(Default)]
+pub struct Moves(Vec<(u64, u64, SectionRelaxDeltas)>);
+
+impl Moves {
+    pub fn at(&self, address: u64) -> u64 {
+        let below = self.0.partition_point(|(first, ..)| *first <= address);
+        match self.0[..below].last().filter(|(_, end, _)| address <= *end) {
+            Some((_, _, lost)) => {
+                MEMORY + DeltaSlice::new(lost.deltas()).input_to_output_offset(address - MEMORY)
+            }
+            None => address,
+        }
+    }
+}
+
+/// An object's sections, or why one isn't linked. Those without bytes or code have no members.
+pub struct Program {
+    pub sections: Vec<Result<Linked, Box<dyn Error>>>,
+    pub moves: Moves,
+    /// What lost bytes of each section, or could have.
+    pub items: Vec<Vec<Item>>,
 }
 
 const LATER: [Phase; 3] = [Phase::TlsLocalExec, Phase::GotToPcRel, Phase::ShortPcRel];
@@ -59,19 +90,19 @@ fn without_alignments(architecture: Architecture, relocations: &[u8]) -> Vec<u8>
 }
 
 fn relocated(
-    object: &Object,
     layout: &Layout,
-    section: usize,
+    values: &[Symbol],
+    address: u64,
     relocations: &[u8],
     bytes: Vec<u8>,
 ) -> Result<Vec<u8>, Box<dyn Error>> {
-    let relocations = without_alignments(object.architecture, relocations);
+    let relocations = without_alignments(layout.link.architecture, relocations);
     let mut memory = vec![0; memory_len(&relocations)];
-    let known = section::Object { values: &layout.symbols, ..section::Object::default() };
-    let mut section =
-        Section { address: layout.sections[section], ..Section::new(bytes, relocations) };
+    let known = section::Object { values, ..section::Object::default() };
+    let mut section = Section { address, ..Section::new(bytes, relocations) };
     relocate_section(&layout.link, &known, &mut section, &mut memory).map_err(|error| {
-        let code = relocation_at(&section.relocations, error.index).map(|relocation| relocation.code);
+        let code =
+            relocation_at(&section.relocations, error.index).map(|relocation| relocation.code);
         format!("relocation {} of type {code:?}: {:?}", error.index, error.error)
     })?;
     Ok(section.bytes)
@@ -98,8 +129,56 @@ fn note(decisions: &[Decision], relocations: &[u8], windows: &mut [Option<(u64, 
     }
 }
 
-/// The sections, of which those without bytes or code have no members; or why one isn't linked.
-pub fn link(object: &Object, layout: &Layout) -> Vec<Result<Linked, Box<dyn Error>>> {
+/// Packs a section, of which calls may reach functions of other objects.
+fn pack(
+    machine: Machine,
+    layout: &Layout,
+    may_compress: bool,
+    section: &mut Section<&mut Vec<u8>, &mut Vec<u8>>,
+    deleted: &[(u64, u32)],
+) -> Result<(SectionRelaxDeltas, Vec<Item>), String> {
+    let (base, len) = (section.base, section.bytes.len());
+    let relocations: Vec<Relocation> = section::relocations(section.relocations)
+        .map(|it| {
+            let symbol = &layout.symbols[it.symbol as usize];
+            // what else than calls has a stub stays as it is
+            let is_call = matches!(it.code, 18 | 19 | 110);
+            let address = match symbol.stub {
+                0 => symbol.address.wrapping_add(it.addend as u64),
+                stub => stub,
+            };
+            let is_own = (base..=base + len as u64).contains(&address.wrapping_sub(MEMORY));
+            let may_reach = ((MEMORY..CODE).contains(&address) || (is_own && it.addend == 0))
+                && (is_call || symbol.stub == 0);
+            Relocation {
+                offset: it.offset,
+                code: it.code,
+                has_symbol: it.symbol > 0,
+                addend: it.addend,
+                target: may_reach.then(|| address - MEMORY),
+                may_compress,
+            }
+        })
+        .collect();
+    let none = Item::Aligned(Alignment { offset: 0, nops: 0, alignment: 1, max_skip: None });
+    let mut items = vec![none; relocations.len() + deleted.len()];
+    let mut makers = vec![0; items.len()];
+    let made =
+        rewritten_items_into(machine, section, &relocations, deleted, &mut items, &mut makers);
+    items.truncate(made.map_err(|error| format!("{error:?}"))?);
+    if let Some(fault) = first_faulty(&items, MEMORY) {
+        return Err(format!("{fault:?}"));
+    }
+    let lost = relax(&items, MEMORY).expect("memory").deletions;
+    let run = Run { start: MEMORY, items: &items, deltas: lost.deltas() };
+    let mut packed = vec![0; packed_run_len(base, len, run.deltas)];
+    pack_run(machine, section, &run, &mut packed).map_err(|error| format!("{error:?}"))?;
+    *section.bytes = packed;
+    Ok((lost, items))
+}
+
+/// Links an object, whose code is packed or has nops in place of what is deleted.
+pub fn link(object: &Object, layout: &Layout, packs: bool) -> Program {
     let architecture = object.architecture;
     let count = object.sections.len();
     let code: Vec<usize> = (0..count).filter(|&index| object.sections[index].is_code).collect();
@@ -108,6 +187,7 @@ pub fn link(object: &Object, layout: &Layout) -> Vec<Result<Linked, Box<dyn Erro
     let mut windows: Vec<Vec<Option<(u64, u64)>>> =
         tables.iter().map(|table| vec![None; relocations_len(table)]).collect();
     let mut errors: Vec<Option<String>> = vec![None; count];
+    let mut gone: Vec<Vec<(u64, u32)>> = vec![Vec::new(); count];
 
     let known = section::Object {
         facts: &layout.facts,
@@ -147,6 +227,7 @@ pub fn link(object: &Object, layout: &Layout) -> Vec<Result<Linked, Box<dyn Erro
             match rewrite_placed_section(&layout.link, &known, &mut section, phase, made, listed) {
                 Ok(len) => {
                     note(&decisions, &before, &mut windows[index]);
+                    gone[index].extend(&deleted[..len]);
                     for &(start, count) in &deleted[..len] {
                         let gap = &mut bytes[index][start as usize..][..count as usize];
                         let filler = no_operation(architecture).iter().cycle();
@@ -158,16 +239,39 @@ pub fn link(object: &Object, layout: &Layout) -> Vec<Result<Linked, Box<dyn Erro
         }
     }
 
-    (0..count)
+    let (mut moves, mut values) = (Moves::default(), layout.symbols.clone());
+    let mut items = vec![Vec::new(); count];
+    if let (true, Some(machine)) = (packs, Machine::of(architecture)) {
+        for &index in &code {
+            let (start, len) = (layout.sections[index], bytes[index].len() as u64);
+            if len == 0 || errors[index].is_some() {
+                continue;
+            }
+            gone[index].sort_unstable();
+            let section = Section::new(&mut bytes[index], &mut tables[index]);
+            let mut section = Section { base: start - MEMORY, ..section };
+            match pack(machine, layout, object.may_compress, &mut section, &gone[index]) {
+                Ok((lost, of)) => {
+                    moves.0.push((start, start + len, lost));
+                    items[index] = of;
+                }
+                Err(error) => errors[index] = Some(format!("packed: {error}")),
+            }
+        }
+        values.iter_mut().for_each(|value| value.address = moves.at(value.address));
+    }
+    let sections = (0..count)
         .map(|index| {
             if let Some(error) = errors[index].take() {
                 return Err(error.into());
             }
             let original = &layout.relocations[index];
             let section = object.sections[index].bytes.clone();
-            let before = relocated(object, layout, index, original, section)
+            let address = layout.sections[index];
+            let before = relocated(layout, &layout.symbols, address, original, section)
                 .map_err(|error| format!("as it is: {error}"))?;
-            let after = relocated(object, layout, index, &tables[index], bytes[index].clone())
+            let after = std::mem::take(&mut bytes[index]);
+            let after = relocated(layout, &values, address, &tables[index], after)
                 .map_err(|error| format!("rewritten: {error}"))?;
             let mut members: Vec<Member> = windows[index]
                 .iter()
@@ -188,5 +292,6 @@ pub fn link(object: &Object, layout: &Layout) -> Vec<Result<Linked, Box<dyn Erro
             members.sort_by_key(|member| member.offset);
             Ok(Linked { before, after, members })
         })
-        .collect()
+        .collect();
+    Program { sections, moves, items }
 }

@@ -3,6 +3,7 @@
 //! random states, and compares what they leave.
 //!
 //! usage: groups [--states N] [--layouts N] [--list] [--damage] FILE..
+//!        groups --functions [--states N] [--layouts N] [--damage] FILE..
 //!        groups --decide FILE..
 //!
 //! `--list` also prints relocations that are rewritten and of which it knows no sequence. With
@@ -17,6 +18,7 @@
 //! flags and memory has to be the same, but for what the ABI lets the sequence change.
 
 mod deciding;
+mod functions;
 mod interpreter;
 mod layout;
 mod linking;
@@ -28,6 +30,7 @@ mod unicorn;
 
 use layout::Layout;
 use linker_utils::elf::Architecture;
+use linking::{Moves, Program};
 use objects::Object;
 use processor::{Outcome, Processor, STACK, State};
 use random::Random;
@@ -60,18 +63,19 @@ struct Report {
     shown: u64,
 }
 
+#[derive(Default)]
 struct Options {
     states: u64,
     layouts: u64,
     damages: bool,
     lists: bool,
     decides: bool,
+    functions: bool,
     files: Vec<String>,
 }
 
 fn options() -> Result<Options, Box<dyn Error>> {
-    let mut options =
-        Options { states: 2, layouts: 1, damages: false, lists: false, decides: false, files: Vec::new() };
+    let mut options = Options { states: 2, layouts: 1, ..Options::default() };
     let mut arguments = std::env::args().skip(1);
     while let Some(argument) = arguments.next() {
         let mut number = || -> Result<u64, Box<dyn Error>> {
@@ -82,6 +86,7 @@ fn options() -> Result<Options, Box<dyn Error>> {
             "--damage" => options.damages = true,
             "--list" => options.lists = true,
             "--decide" => options.decides = true,
+            "--functions" => options.functions = true,
             "--layouts" => options.layouts = number()?,
             _ => options.files.push(argument),
         }
@@ -106,13 +111,13 @@ fn seed_of(name: &str) -> u64 {
 fn state(
     random: &mut Random,
     machine: &dyn Processor,
-    got_base: u64,
-    thread_pointer: u64,
-    of: Architecture,
+    layout: &Layout,
+    number: fn(u64) -> u64,
 ) -> State {
-    let mut registers: Vec<u64> = (0..64).map(|_| random.next()).collect();
+    let (got_base, thread_pointer) = (layout.link.got_base, layout.origins.thread_pointer);
+    let mut registers: Vec<u64> = (0..64).map(|_| number(random.next())).collect();
     registers[machine.stack_pointer()] = STACK;
-    match of {
+    match layout.link.architecture {
         // the large model's GOT
         Architecture::X86_64 => registers[3] = got_base,
         Architecture::RiscV => registers[4] = thread_pointer,
@@ -146,6 +151,31 @@ fn difference(sequence: &Sequence, before: &Outcome, after: &Outcome) -> Option<
     (before.writes != after.writes).then(|| "it writes other memory".to_string())
 }
 
+/// Writes an object's data, with noise for what a file doesn't have, and the GOT.
+fn load(
+    object: &Object,
+    layout: &Layout,
+    seed: u64,
+    bytes: &[Option<&Vec<u8>>],
+    moves: &Moves,
+    machine: &mut dyn Processor,
+) {
+    for (index, section) in object.sections.iter().enumerate().filter(|(_, it)| !it.is_code) {
+        match bytes[index] {
+            Some(bytes) if !bytes.is_empty() => machine.write(layout.sections[index], bytes),
+            _ => machine.write(layout.sections[index], &random::noise_at(seed, section.size)),
+        }
+    }
+    let noise = random::noise_at(seed, layout.room + layout.image_len);
+    machine.write(layout.image - layout.room, &noise);
+    for word in &layout.words {
+        machine.write(word.address, &moves.at(word.value).to_le_bytes());
+    }
+    // where PowerPC64's stubs have stored the TOC pointer
+    machine.write(STACK + 24, &layout.link.got_base.to_le_bytes());
+    machine.set_thread(layout.origins.thread_pointer, layout.origins.module_block);
+}
+
 fn run_object(
     name: &str,
     object: &Object,
@@ -156,23 +186,9 @@ fn run_object(
     report: &mut Report,
 ) {
     let architecture = object.architecture;
-    let linked = linking::link(object, layout);
-    // data, and noise in the TLS image
-    for (index, section) in linked.iter().enumerate() {
-        if let Ok(section) = section
-            && !object.sections[index].is_code
-        {
-            machine.write(layout.sections[index], &section.before);
-        }
-    }
-    let noise: Vec<u8> = (0..layout.image_len).map(|_| random.next() as u8).collect();
-    machine.write(layout.image, &noise);
-    for word in &layout.words {
-        machine.write(word.address, &word.value.to_le_bytes());
-    }
-    // where PowerPC64's stubs have stored the TOC pointer
-    machine.write(STACK + 24, &layout.link.got_base.to_le_bytes());
-    machine.set_thread(layout.origins.thread_pointer, layout.origins.module_block);
+    let Program { sections: linked, moves, .. } = linking::link(object, layout, false);
+    let before: Vec<_> = linked.iter().map(|one| Some(&one.as_ref().ok()?.before)).collect();
+    load(object, layout, random.next(), &before, &moves, machine);
     for (index, section) in linked.iter().enumerate() {
         if !object.sections[index].is_code {
             continue;
@@ -229,9 +245,7 @@ fn run_object(
             continue;
         }
         let states: Vec<State> = (0..options.states * sequences.all.len() as u64)
-            .map(|_| {
-                state(random, machine, layout.link.got_base, layout.origins.thread_pointer, architecture)
-            })
+            .map(|_| state(random, machine, layout, |number| number))
             .collect();
         let runs: Vec<(&Sequence, &State)> = sequences
             .all
@@ -278,17 +292,32 @@ fn run() -> Result<bool, Box<dyn Error>> {
         return deciding::run(&options.files);
     }
     let mut report = Report::default();
-    let mut machines: BTreeMap<String, Box<dyn Processor>> = BTreeMap::new();
+    let mut functions: BTreeMap<String, functions::Count> = BTreeMap::new();
+    let mut machines: BTreeMap<String, [Box<dyn Processor>; 2]> = BTreeMap::new();
     for file in &options.files {
         let data = std::fs::read(file)?;
         objects::each_object(&data, |member, object| {
             let name = format!("{file}({member})");
-            let machine = machines
-                .entry(format!("{:?}", object.architecture))
-                .or_insert_with(|| processor::processor(object.architecture));
+            let architecture = format!("{:?}", object.architecture);
+            let machines = machines.entry(architecture.clone()).or_insert_with(|| {
+                [(); 2].map(|()| processor::processor(object.architecture, options.functions))
+            });
+            let room = if options.functions { 0x2000 } else { 0 };
             for number in 0..options.layouts {
                 let mut random = Random(seed_of(&name).wrapping_add(number));
-                match Layout::new(&object, &mut random) {
+                match Layout::new(&object, &mut random, room) {
+                    Some(layout) if options.functions => {
+                        let count = functions.entry(architecture.clone()).or_default();
+                        functions::run_object(
+                            &name,
+                            &object,
+                            &layout,
+                            &mut random,
+                            &options,
+                            machines,
+                            count,
+                        );
+                    }
                     Some(layout) => {
                         run_object(
                             &name,
@@ -296,7 +325,7 @@ fn run() -> Result<bool, Box<dyn Error>> {
                             &layout,
                             &mut random,
                             &options,
-                            machine.as_mut(),
+                            machines[0].as_mut(),
                             &mut report,
                         );
                     }
@@ -306,6 +335,9 @@ fn run() -> Result<bool, Box<dyn Error>> {
             Ok(())
         })
         .map_err(|error| format!("{file}: {error}"))?;
+    }
+    if options.functions {
+        return Ok(functions::report(&functions, options.damages));
     }
     let mut all = Count::default();
     for ((architecture, code), count) in &report.counts {

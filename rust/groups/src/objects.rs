@@ -29,6 +29,7 @@ pub struct Symbol {
     pub other: u8,
     pub is_weak: bool,
     pub is_ifunc: bool,
+    pub is_function: bool,
     pub is_thread_local: bool,
 }
 
@@ -47,6 +48,8 @@ pub struct Section {
 
 pub struct Object {
     pub architecture: Architecture,
+    /// RISC-V's C extension is used.
+    pub may_compress: bool,
     pub sections: Vec<Section>,
     pub symbols: Vec<Symbol>,
 }
@@ -134,9 +137,11 @@ fn read(data: &[u8]) -> Result<Option<Object>, Box<dyn Error>> {
                 other: symbol.st_other(),
                 is_weak: symbol.st_bind() == elf::STB_WEAK,
                 is_ifunc: symbol.st_type() == elf::STT_GNU_IFUNC,
+                is_function: symbol.st_type() == elf::STT_FUNC,
                 is_thread_local: symbol.st_type() == elf::STT_TLS,
             })
         })
         .collect::<Result<_, Box<dyn Error>>>()?;
-    Ok(Some(Object { architecture, sections, symbols }))
+    let may_compress = head.e_flags(LE) & elf::EF_RISCV_RVC != 0;
+    Ok(Some(Object { architecture, may_compress, sections, symbols }))
 }

@@ -3,8 +3,10 @@
 
 use crate::interpreter::Interpreter;
 use crate::layout::{MEMORY, MEMORY_LEN};
+use crate::random::noise;
 use crate::unicorn::Machine;
 use linker_utils::elf::Architecture;
+use std::ops::Range;
 
 /// A part of a section that is executed, by addresses.
 #[derive(Clone, Copy)]
@@ -22,7 +24,7 @@ pub struct State {
     pub flags: u64,
 }
 
-#[derive(PartialEq, Eq, Clone, Copy)]
+#[derive(PartialEq, Eq, Clone, Copy, Debug)]
 pub struct Write {
     pub address: u64,
     pub len: i32,
@@ -42,7 +44,86 @@ pub struct Outcome {
 pub const STACK: u64 = MEMORY + MEMORY_LEN - 0x8000;
 
 /// What is written below it counts as nothing.
-pub const BELOW_STACK: std::ops::Range<u64> = STACK - 0x1000..STACK;
+pub const BELOW_STACK: Range<u64> = STACK - 0x1000..STACK;
+
+/// Where a function returns to. Below it are the linker's own functions.
+pub const RETURN: u64 = MEMORY + 0x200;
+
+/// The numbers of a state: registers, and behind them flags, or PowerPC64's LR, CTR and CR.
+pub const FLAGS: usize = 64;
+pub type Numbers = [u64; FLAGS + 3];
+
+/// The number that a call leaves its return address in, if any, and by bits those that it may change.
+pub fn calls(architecture: Architecture) -> (Option<usize>, u64) {
+    match architecture {
+        Architecture::X86_64 => (None, 0x0fc7),
+        Architecture::AArch64 => (Some(30), 0x7_ffff),
+        Architecture::RiscV => (Some(1), 0xf003_fce0),
+        Architecture::LoongArch64 => (Some(1), 0x1f_fff0),
+        _ => (Some(FLAGS), 0x1ff9),
+    }
+}
+
+/// How a run of a function begins.
+#[derive(Clone)]
+pub struct Start {
+    pub architecture: Architecture,
+    pub pc: u64,
+    pub numbers: Numbers,
+    /// All code of the object.
+    pub code: Range<u64>,
+    /// How many states it has at most.
+    pub limit: usize,
+}
+
+impl Start {
+    /// Whether code of others is there, which isn't executed.
+    pub fn is_outside(&self, pc: u64) -> bool {
+        !self.code.contains(&pc) && !(MEMORY..RETURN).contains(&pc)
+    }
+
+    /// What the n-th call of a function of others leaves in registers.
+    pub fn results(&self, call: u64) -> impl Iterator<Item = (usize, u64)> {
+        let changed = calls(self.architecture).1;
+        let number = move |register: usize| noise(call << 8 | register as u64);
+        (0..64).filter(move |n| changed >> n & 1 == 1).map(move |n| (n, number(n)))
+    }
+}
+
+/// A state before an instruction.
+pub struct Step {
+    pub pc: u64,
+    pub numbers: Numbers,
+    /// How many writes are before it.
+    pub writes: usize,
+}
+
+/// Why a run ends.
+#[derive(PartialEq, Eq, PartialOrd, Ord, Clone, Copy, Debug)]
+pub enum End {
+    Returned,
+    /// It has as many states as it may.
+    Long,
+    /// It reads or writes where no memory can be.
+    Fault,
+    /// It reads code.
+    Reads,
+    /// An instruction that the processor doesn't have.
+    Lacks,
+    /// A rewritten instruction of which there is no sequence.
+    Without,
+    /// It jumps to an instruction of a group that isn't its first.
+    Enters,
+    /// It jumps to a number that a group may leave otherwise, or computes with one that is of
+    /// addresses but none, as of an index beyond a table.
+    Uses,
+}
+
+pub struct Trace {
+    pub steps: Vec<Step>,
+    pub writes: Vec<Write>,
+    pub end: End,
+}
 
 pub trait Processor {
     fn stack_pointer(&self) -> usize;
@@ -58,11 +139,17 @@ pub trait Processor {
 
     /// Runs code, and puts memory back.
     fn run(&mut self, pieces: &[Piece], before: &State) -> Outcome;
+
+    /// Gives functions fresh memory for code and for what is behind it.
+    fn place(&mut self, code: Range<u64>, end: u64);
+
+    /// Runs a function, and puts memory back. Others that it calls return at once.
+    fn trace(&mut self, start: &Start) -> Trace;
 }
 
 /// unicorn, or the interpreter for the architectures that it doesn't have.
-pub fn processor(architecture: Architecture) -> Box<dyn Processor> {
-    match Machine::new(architecture) {
+pub fn processor(architecture: Architecture, traces: bool) -> Box<dyn Processor> {
+    match Machine::new(architecture, traces) {
         Some(machine) => Box::new(machine),
         None => Box::new(Interpreter::new(architecture)),
     }

@@ -17,3 +17,23 @@ impl Random {
         (self.next() >> 33) as usize % count
     }
 }
+
+/// Where the addresses lie that `noise` makes.
+const DATA: u64 = 0x1_0000_0000;
+const DATA_LEN: u64 = 0x10_0000;
+
+/// A number for a register or a word of memory, as a function of another one: half of them are
+/// addresses of data, and a quarter are small.
+pub fn noise(of: u64) -> u64 {
+    let number = Random(of).next();
+    match number >> 62 {
+        0 => Random(number).next(),
+        1 => number & 63,
+        _ => DATA + (number & (DATA_LEN - 16)),
+    }
+}
+
+/// The words of memory from an address on.
+pub fn noise_at(address: u64, len: u64) -> Vec<u8> {
+    (address..address + len).step_by(8).flat_map(|at| noise(at).to_le_bytes()).collect()
+}

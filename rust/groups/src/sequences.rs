@@ -489,7 +489,7 @@ fn ppc64(section: &Section, index: usize) -> Made {
                 pieces.insert(0, section.ppc64_single(upper));
             }
             may_differ &= !(1 << 3);
-            Made::Sequence(Sequence { may_differ, ..strict(index, pieces) })
+            Made::Sequence(Sequence { may_differ, compares_flags: false, ..strict(index, pieces) })
         }
         P::R_PPC64_GOT16_HA
         | P::R_PPC64_TOC16_HA

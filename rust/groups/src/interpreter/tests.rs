@@ -9,7 +9,8 @@ use std::collections::HashMap;
 const MEMORY: u64 = 96;
 const PC: u64 = 101;
 const AT: u64 = 102;
-const LINK: u64 = 64;
+/// Registers, LR and CTR.
+const NUMBERS: u64 = 66;
 
 /// A row of a table: its number, the instruction, the numbers before and those after.
 struct Row {
@@ -144,10 +145,9 @@ fn replayed(architecture: Architecture, text: &str, skipped: &[&str]) -> usize {
             row.given.get(&place).copied().unwrap_or_else(|| made(row.number, place, is_loongarch))
         };
         let mut machine = Interpreter::new(architecture);
-        for place in 0..64 {
+        for place in 0..NUMBERS {
             machine.registers[place as usize] = before(place);
         }
-        machine.link = before(LINK);
         for n in 0..4 {
             machine.memory.write(before(AT).wrapping_add(8 * n), &before(MEMORY + n).to_le_bytes());
         }
@@ -161,7 +161,7 @@ fn replayed(architecture: Architecture, text: &str, skipped: &[&str]) -> usize {
             None => before(place),
         };
         // the upper parts of vectors aren't here
-        for place in 0..64 {
+        for place in 0..NUMBERS {
             assert_eq!(
                 machine.registers[place as usize],
                 after(place),
@@ -179,9 +179,6 @@ fn replayed(architecture: Architecture, text: &str, skipped: &[&str]) -> usize {
             );
         }
         assert_eq!(machine.pc, after(PC), "{name}: row {}", row.number);
-        if !is_loongarch {
-            assert_eq!(machine.link, after(LINK), "{name}: row {}", row.number);
-        }
         count += 1;
     }
     count
@@ -196,23 +193,10 @@ fn numbers_are_extended() {
 #[test]
 fn powerpc64_is_as_in_qemu() {
     let table = include_str!("../../../../crates/linker_final/specs/Ppc64Steps.antt");
-    // no group has them: they are of stubs, of lazy PLTs and of functions that save registers
-    let others = [
-        "mflr",
-        "mtlr",
-        "mtctr",
-        "bcl 20, 31, .+4",
-        "bctr",
-        "b",
-        "subf",
-        "rldicl",
-        "blr",
-        "stvx",
-        "lvx",
-    ];
-    let count = replayed(Architecture::Ppc64, table, &others);
-    // 37 instructions, one of which is `nop`
-    assert_eq!(count, 36 * 40 + 4, "rows");
+    // the interpreter has no vectors
+    let count = replayed(Architecture::Ppc64, table, &["stvx", "lvx"]);
+    // 46 instructions, one of which is `nop`
+    assert_eq!(count, 45 * 40 + 4, "rows");
 }
 
 #[test]
@@ -220,18 +204,9 @@ fn loongarch_is_as_in_qemu() {
     let table = include_str!("../../../../crates/linker_final/specs/LoongArchSteps.antt");
     let others = [
         // the interpreter has no vectors, and single precision only in stores
-        "preld",
-        "vld",
-        "vst",
-        "xvld",
-        "xvst",
-        "fld.s",
-        // no group has those of lazy PLTs
-        "pcaddu12i",
-        "sub.d",
-        "srli.d",
+        "preld", "vld", "vst", "xvld", "xvst", "fld.s",
     ];
     let count = replayed(Architecture::LoongArch64, table, &others);
-    // 26 instructions
-    assert_eq!(count, 26 * 40, "rows");
+    // 29 instructions
+    assert_eq!(count, 29 * 40, "rows");
 }
