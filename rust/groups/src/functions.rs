@@ -180,9 +180,10 @@ impl Linking<'_> {
             let (was, other_was) = (&old.steps[last.0], &new.steps[last.1]);
             let wrong = |what: String| Err(format!("{:#x} after {:#x}: {what}", one.pc, was.pc));
             let places = (one.pc, other.pc);
-            if left.contains(&places) || self.pairs.contains(&places) {
-                return Ok((at.0, End::Uses));
-            } else if self.moves.at(one.pc) != other.pc {
+            if self.moves.at(one.pc) != other.pc {
+                if left.contains(&places) || self.pairs.contains(&places) {
+                    return Ok((at.0, End::Uses));
+                }
                 return wrong(format!("it goes to {:#x}", other.pc));
             }
             for (n, (&a, &b)) in one.numbers.iter().zip(&other.numbers).enumerate() {
