@@ -589,8 +589,9 @@ impl Processor for Interpreter {
         let mut error = 0;
         'pieces: for piece in pieces {
             self.pc = piece.start;
-            loop {
-                if self.step().is_none() {
+            // a damaged one may go on for ever
+            for count in 0.. {
+                if count == 64 || self.step().is_none() {
                     error = 1;
                     break 'pieces;
                 }
