@@ -14,7 +14,7 @@ use Rattle.linker_final.specs.Final.{AreLinked, IsLinked, IsOutside, IsRewritten
 use Rattle.linker_final.specs.SectionRuns.{Section, offset_of}
 use Rattle.linker_final.specs.Worked.{HasGroups, IsGroupOf, IsPhaseOf, code_at, halves, none_stays}
 use Rattle.linker_final.specs.declared.worked.TheConstants.{AARCH64_OBJECT, AARCH64_RELOCATIONS}
-use Rattle.linker_laws.proofs.AArch64GroupsWorked.{relocated}
+use Rattle.linker_laws.proofs.Relocated.{relocated}
 use Rattle.linker_laws.specs.AArch64GroupsWorked.{known, starting}
 use Rattle.linker_laws.specs.AArch64RewriteLaws.{IsRelocated}
 use Rattle.linker_laws.specs.Simulation.{same}
