@@ -197,7 +197,7 @@ sound_field d h =
       claimed = k.1;
     }
 
-whole : (v : ℕ) → v < 2 ^ 64 → (v + 0) % 2 ^ 64 ≡ v
+pub whole : (v : ℕ) → v < 2 ^ 64 → (v + 0) % 2 ^ 64 ≡ v
 whole v h = omega arith
 
 pub place_sum_below : (ps : List ImmediateBit) (n x : ℕ) → values_apart ps ≡ true → values_below n ps ≡ true → place_sum ps x < 2 ^ n

@@ -21,9 +21,11 @@ pub mod Rewrites
 pub mod Rounded
 pub mod Search
 pub mod Sections
+pub mod Tests
 pub mod TextLemmas
 pub mod Together
 pub mod TwosComplement
 pub mod UlebLemmas
 pub mod Unions
 pub mod Walking
+pub mod Words

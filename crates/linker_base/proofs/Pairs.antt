@@ -24,12 +24,6 @@ added x y a b e f = cc
 
 -- ---- both parts of what is written
 
-pub all_left : {X : Type 0} (P : X → Type 0) (xs ys : List X) → All P (xs ++ ys) → All P xs
-all_left P xs ys all = All-front P xs ys all
-
-pub all_right : {X : Type 0} (P : X → Type 0) (xs ys : List X) → All P (xs ++ ys) → All P ys
-all_right P xs ys all = All-back P xs ys all
-
 -- the bits below a part's own are 0
 pub part_aligned : (low n r : ℕ) (ps : List ImmediateBit) (x : ℕ) → IsSoundPart low n r ps
     → place_sum ps x % 2 ^ low ≡ 0

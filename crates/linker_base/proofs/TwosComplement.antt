@@ -7,13 +7,13 @@ use Rattle.std.proofs.Math.Nat.{div-lt_iff_lt-mul}
 use Rattle.linker_base.specs.Bits.{TwosComplementKeepsFields}
 
 -- the quotient of a complement is the complement of the quotient
-complement : (n m d q r : ℕ) → n ≡ q * d + r → r < d → q < m → m * d - suc n ≡ (m - suc q) * d + (d - suc r)
+pub complement : (n m d q r : ℕ) → n ≡ q * d + r → r < d → q < m → m * d - suc n ≡ (m - suc q) * d + (d - suc r)
 complement n m d q r e small below =
     let parts : m ≡ (m - suc q) + suc q = omega arith in
     let split : m * d ≡ (m - suc q) * d + suc q * d = ap (λ x. x * d) parts ∙ add-mul (m - suc q) (suc q) d in
     omega (arith, split, suc-mul q d)
 
-complement_quotient : (n m s : ℕ) → n < 2 ^ (m + s) → (2 ^ (m + s) - suc n) / 2 ^ s ≡ 2 ^ m - suc (n / 2 ^ s)
+pub complement_quotient : (n m s : ℕ) → n < 2 ^ (m + s) → (2 ^ (m + s) - suc n) / 2 ^ s ≡ 2 ^ m - suc (n / 2 ^ s)
 complement_quotient n m s h =
     let d = 2 ^ s in
     let some = pow_pos s in
@@ -23,7 +23,7 @@ complement_quotient n m s h =
     let left : d - suc (n % d) < d = omega arith in
     ap (λ y. (y - suc n) / d) (pow-add 2 m s) ∙ ap (λ y. y / d) is ∙ div-mul-add (2 ^ m - suc (n / d)) d (d - suc (n % d)) left
 
-negative : (n s k m : ℕ) → m + k + s ≡ 64 → n < 2 ^ 64 → pos ((2 ^ 64 - suc n) / 2 ^ s % 2 ^ k) ≡ int_rem_euclid (negsuc (n / 2 ^ s)) (pos (2 ^ k))
+pub negative : (n s k m : ℕ) → m + k + s ≡ 64 → n < 2 ^ 64 → pos ((2 ^ 64 - suc n) / 2 ^ s % 2 ^ k) ≡ int_rem_euclid (negsuc (n / 2 ^ s)) (pos (2 ^ k))
 negative n s k m e small =
     let wide : n < 2 ^ (m + k + s) = subst (λ y. n < 2 ^ y) (sym e) small in
     let quotient : (2 ^ 64 - suc n) / 2 ^ s ≡ 2 ^ (m + k) - suc (n / 2 ^ s) = ap (λ y. (2 ^ y - suc n) / 2 ^ s) (sym e) ∙ complement_quotient n (m + k) s wide in

@@ -1,10 +1,7 @@
 -- The groups of seven bits of a ULEB128 number.
-use Rattle.std.proofs.Common.{◌≡◌, ℕ, zero, suc, ◌+◌, ◌-◌, ◌*◌, ◌/◌, ◌%◌, ◌^◌, ◌<◌, ◌≤◌, ◌⊎◌}
-use Rattle.std.proofs.Common.{inl, inr, List, length, take, drop, slice_index, take_all, length-drop}
-use Rattle.std.proofs.Common.{refl, sym, ◌∙◌, ap, arith, bit_and, bit_or, div-lt_iff_lt-mul, pow-suc, mod-eq_of_lt}
+use Rattle.std.proofs.Common.{◌≡◌, ℕ, zero, suc, ◌+◌, ◌-◌, ◌*◌, ◌/◌, ◌%◌, ◌^◌, ◌<◌, ◌≤◌, ◌⊎◌, inl, inr, List, length, take, drop, slice_index, take_all, length-drop, refl, sym, ◌∙◌, ap, arith, bit_and, bit_or, div-lt_iff_lt-mul, pow-suc, mod-eq_of_lt}
 use Rattle.std.proofs.lemmas.Bool.{cases_lt}
-use Rattle.std.proofs.lemmas.Nat.{and_mask, div_below, mod_below, mod-pow-add, mul-le, or_comm}
-use Rattle.std.proofs.lemmas.Nat.{or_shifted, pow_pos, pow-add, shl_whole, shr_below}
+use Rattle.std.proofs.lemmas.Nat.{and_mask, div_below, mod_below, mod-pow-add, mul-le, or_comm, or_shifted, pow_pos, pow-add, shl_whole, shr_below}
 use Rattle.linker_base.specs.Uleb.{AllContinue, uleb_number, Uleb, HasOneReading, IsUlebWritten}
 
 -- the number that the first i bytes give
@@ -16,7 +13,7 @@ groups_grow : (bytes : List ℕ) (i : ℕ) → low_groups bytes (suc i) ≡ low_
 groups_grow bytes zero = omega arith
 groups_grow bytes (suc i) = refl
 
-groups_lt : (bytes : List ℕ) (i : ℕ) → low_groups bytes i < 128 ^ i
+pub groups_lt : (bytes : List ℕ) (i : ℕ) → low_groups bytes i < 128 ^ i
 groups_lt bytes zero = omega arith
 groups_lt bytes (suc i) =
     let before : low_groups bytes i < 128 ^ i = groups_lt bytes i in

@@ -74,13 +74,13 @@ record HaveSame (xs ys : List (ℕ × ℕ)) : Type 0 where
   there : (d : ℕ × ℕ) → Contains xs d → Contains ys d
   back : (d : ℕ × ℕ) → Contains ys d → Contains xs d
 
-contains_head : (d : ℕ × ℕ) (ds : List (ℕ × ℕ)) → Contains (d ∷ ds) d
+pub contains_head : (d : ℕ × ℕ) (ds : List (ℕ × ℕ)) → Contains (d ∷ ds) d
 contains_head d ds = (0, omega arith, refl)
 
-contains_tail : (d e : ℕ × ℕ) (ds : List (ℕ × ℕ)) → Contains ds e → Contains (d ∷ ds) e
+pub contains_tail : (d e : ℕ × ℕ) (ds : List (ℕ × ℕ)) → Contains ds e → Contains (d ∷ ds) e
 contains_tail d e ds (k, within, at) = (suc k, omega arith, at)
 
-contains_cases : (d e : ℕ × ℕ) (ds : List (ℕ × ℕ)) → Contains (d ∷ ds) e → Contains ds e ⊎ (d ≡ e)
+pub contains_cases : (d e : ℕ × ℕ) (ds : List (ℕ × ℕ)) → Contains (d ∷ ds) e → Contains ds e ⊎ (d ≡ e)
 contains_cases d e ds (zero, within, at) = inr at
 contains_cases d e ds (suc k, within, at) = inl (k, omega arith, at)
 

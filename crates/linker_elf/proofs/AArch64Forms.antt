@@ -1,15 +1,8 @@
 -- What the machine reads of the AArch64 forms.
 use Rattle.std.proofs.Common.{◌≡◌, ℕ, ◌+◌, ◌*◌, ◌/◌, ◌%◌, ◌^◌, ◌<◌, Bool, true, false, eqb, refl, ap, sym, ◌∙◌, subst, arith, List, pos}
-use Rattle.std.specs.Int.{w32, bit_at}
-use Rattle.std.specs.Int.RustNames.{bit_or}
-use lib.Bits.{bit_and}
-use Rattle.std.proofs.lemmas.Bool.{agree_below_at}
-use Rattle.std.proofs.lemmas.Nat.{and_mask, or_comm, or_shifted}
-use Rattle.std.proofs.lemmas.Nat.Bits.{same_from_bits}
-use Rattle.linker_base.specs.Bits.{field}
-use Rattle.linker_base.specs.Form.{ImmediateBit, BitsWritten, Written, MachineReads, Fits, place_sum}
-use Rattle.linker_base.proofs.Fields.{bit_at_shr}
-use Rattle.linker_base.proofs.Immediates.{field_machine, layout_machine, place_sum_laid, always_clear}
+use Rattle.linker_elf.proofs.Imports.{w32, bit_at, bit_or, bit_and, agree_below_at, and_mask, or_shifted, same_from_bits, field, ImmediateBit, BitsWritten, Written, MachineReads, Fits, place_sum, bit_at_shr, layout_machine, place_sum_laid, always_clear}
+use Rattle.std.proofs.lemmas.Nat.{or_comm}
+use Rattle.linker_base.proofs.Immediates.{field_machine}
 use Rattle.linker_elf.specs.Inner.FormLaws.{scale_small, low12_field, low12_sound}
 use Rattle.linker_elf.specs.Inner.Runs.{words_below}
 use Rattle.linker_elf.specs.AArch64.{aarch64_form, aarch64_layout, movnz, macho_low12, imm16_places, moved_bits, moved_value, opcode_of, shift_of, movn_opcode, movz_opcode, move_opcode, access_scale, low12_places}

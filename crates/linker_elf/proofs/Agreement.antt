@@ -1,18 +1,12 @@
 -- A field within its range is read as the value: from comparisons of a row's bits, range and
 -- alignment.
 use Rattle.std.proofs.Common.{◌≡◌, ℕ, ◌+◌, ◌-◌, ◌*◌, ◌/◌, ◌%◌, ◌^◌, ◌<◌, ◌≤◌, Bool, true, ◌&&◌, ◌||◌, ltb, leb, eqb, refl, sym, ◌∙◌, ap, subst, arith, inl, inr, cond, ℤ, pos, negsuc, ◌-ℤ◌, neg_ℤ, ◌≤ℤ◌, ◌<ℤ◌, Option, Some, None, unsigned_abs, int_lt, false}
-use Rattle.std.specs.Int.{int_rem_euclid}
-use Rattle.std.proofs.lemmas.Bool.{and_parts, or_cases, leb-true, eqb-true, lt-ltb, le-ltb}
-use Rattle.std.proofs.lemmas.Int.{ints, int_rem_euclid_is}
-use Rattle.std.proofs.lemmas.Nat.{pow_pos, pow-add, mod_below, div-add-mod'}
-use Rattle.std.proofs.Math.Nat.{mod-eq_of_lt, div-lt_iff_lt-mul}
+use Rattle.linker_elf.proofs.Imports.{int_rem_euclid, and_parts, or_cases, leb-true, eqb-true, lt-ltb, le-ltb, ints, int_rem_euclid_is, pow_pos, pow-add, mod_below, mod-eq_of_lt, le_z, signed, Sign, unsigned, twos_complement, number_of, IsClear, Written, place_sum, Layout, one_field, own_form, form_of, mod_mod, signed_cases, subst_below, sound_field, is_sound_layout}
+use Rattle.std.proofs.lemmas.Nat.{div-add-mod', shr_below}
 use Rattle.std.proofs.lemmas.Float.{T_from_true}
-use Rattle.std.specs.Int.Signed.{le_z, le_z_yes}
-use Rattle.linker_base.specs.Bits.{signed}
-use Rattle.linker_base.specs.Form.{Sign, unsigned, twos_complement, number_of, IsSameModulo, IsClear, Written, place_sum, Layout, one_field, own_form, form_of}
-use Rattle.linker_base.proofs.Fields.{mod_mod}
-use Rattle.linker_base.proofs.Pairs.{signed_cases}
-use Rattle.linker_base.proofs.Immediates.{subst_below, number_rem, sound_field, laid_field, is_sound_layout}
+use Rattle.std.specs.Int.Signed.{le_z_yes}
+use Rattle.linker_base.specs.Form.{IsSameModulo}
+use Rattle.linker_base.proofs.Immediates.{number_rem, laid_field}
 use Rattle.linker_elf.specs.Agrees.{bits_from, IsFieldOf, IsSameIn}
 use Rattle.linker_elf.specs.Elf.{IsWithin}
 
@@ -59,20 +53,17 @@ signed_of_rem (negsuc b) f n o low high e =
 
 -- ---- from the value to its bits from s up
 
-quotient_below : (b m s : ℕ) → b < 2 ^ (m + s) → b / 2 ^ s < 2 ^ m
-quotient_below b m s h = (div-lt_iff_lt-mul {k = 2 ^ s} {x = b} {y = 2 ^ m} (pow_pos s)).1 (subst (λ y. b < y) (pow-add 2 m s) h)
-
 pub quotient_low : (v : ℤ) (m s : ℕ) → neg_ℤ (pos (2 ^ (m + s))) ≤ℤ v → neg_ℤ (pos (2 ^ m)) ≤ℤ bits_from s v
 quotient_low (pos b) m s h = omega (arith, ints)
 quotient_low (negsuc b) m s h =
     let wide : b < 2 ^ (m + s) = omega (arith, ints) in
-    let small = quotient_below b m s wide in
+    let small = shr_below b m s wide in
     omega (arith, ints)
 
 pub quotient_high : (v : ℤ) (m s : ℕ) → v <ℤ pos (2 ^ (m + s)) → bits_from s v <ℤ pos (2 ^ m)
 quotient_high (pos b) m s h =
     let wide : b < 2 ^ (m + s) = omega (arith, ints) in
-    let small = quotient_below b m s wide in
+    let small = shr_below b m s wide in
     omega (arith, ints)
 quotient_high (negsuc b) m s h = omega (arith, ints)
 

@@ -1,7 +1,7 @@
 -- Masks of facts, and the first entry of a table.
 use Rattle.std.proofs.lemmas.List.{drop_all}
 use Rattle.std.proofs.lemmas.Option.{none-some}
-use Rattle.std.proofs.lemmas.Bool.{eqb-true, eq-eqb}
+use Rattle.std.proofs.lemmas.Bool.{eqb-true, eq-eqb, and_left}
 use Rattle.std.proofs.Common.{◌≡◌, ◌↔◌, ◌<◌, ◌≤◌, ◌++◌, ℕ, ℤ, List, [], ◌∷◌, Option, Some, None, Bool, true, false, if◌then◌else◌, not, ◌&&◌, ◌||◌, ◌==◌, zero, suc, IsTrue, refl, sym, ap, ◌∙◌, subst, arith, inl, inr, bit_and, length, drop, get_or, IfSome, true≢false}
 use Rattle.std.specs.Bool.{⊤}
 use Rattle.linker_elf.specs.Choices.{Condition, Entry, ConditionHolds, AllHold, choice, Applies, IsFirst, bound, weak_zero, fixed_address, fixed_distance, executable, local_exec_base, compressible, marked, label_marked, got_high_part, private_base, changed_toc, without_plt, group_fits}
@@ -24,7 +24,7 @@ all_hold_both row after facts (c ∷ cs) ds =
 
 -- ---- masks
 
-same : (P : Type 0) → P ↔ P
+pub same : (P : Type 0) → P ↔ P
 same P = (λ h. h, λ h. h)
 
 is_bound : (l i : Bool) → IsTrue (l && not i) ↔ ((l ≡ true) × (i ≡ false))
@@ -133,10 +133,6 @@ pub without_fact : {O K R : Type 0} → (row : R → Option RelocationKindInfo) 
 without_fact row after facts e M n =
     (λ h. absurd (true≢false (sym h)), λ h. absurd (true≢false (sym ((parts row after facts e).1 h.1).0 ∙ n)))
 
-false_both : (a b : Bool) → a ≡ false → (a && b) ≡ false
-false_both true b n = absurd (true≢false n)
-false_both false b n = refl
-
 -- of the first three the last two fail
 second_third : (a b c : Bool) → (b && c) ≡ false → (a && b && c) ≡ false
 second_third true b c n = n
@@ -145,8 +141,8 @@ second_third false b c n = refl
 -- where facts fail that seldom hold, all do
 seldom_fails : (mask : ℕ) (facts : LinkFacts) → seldom_facts_hold mask facts ≡ false → facts_hold mask facts ≡ false
 seldom_fails mask facts n =
-    false_both _ _ (false_both _ _ (false_both _ _ (false_both _ _ (false_both _ _ (false_both _ _
-    (false_both _ _ (false_both _ _ (false_both _ _ (false_both _ _ (false_both _ _ (second_third
+    and_left _ _ (and_left _ _ (and_left _ _ (and_left _ _ (and_left _ _ (and_left _ _
+    (and_left _ _ (and_left _ _ (and_left _ _ (and_left _ _ (and_left _ _ (second_third
     (is_held mask 1 (facts.is_local && not facts.is_ifunc)) (is_held mask 2 facts.is_undefined_weak)
     (is_held mask 4 facts.has_fixed_address) n)))))))))))
 

@@ -1,11 +1,7 @@
 -- The places that a form only ORs, once they are cleared.
 use Rattle.std.proofs.Common.{◌≡◌, ℕ, zero, suc, ◌+◌, List, [], ◌∷◌, refl, IsTrue}
-use Rattle.std.specs.Int.{bit_at}
-use Rattle.std.specs.List.{All}
-use Rattle.std.proofs.lemmas.Bool.{eq-eqb}
-use Rattle.std.proofs.lemmas.List.Elements.{All-nil, All-cons, All-head, All-tail}
-use Rattle.std.proofs.lemmas.Nat.Bits.{same_from_bits}
-use Rattle.linker_base.specs.Form.{ImmediateBit, consecutive_bits, Mark, replaced, ored, cleared, BitsWritten, placed_bit, bit_for, IsClear, is_clear_at}
+use Rattle.linker_elf.proofs.Imports.{bit_at, All, eq-eqb, All-nil, All-cons, same_from_bits, ImmediateBit, consecutive_bits, Mark, replaced, ored, cleared, BitsWritten, placed_bit, bit_for, IsClear, is_clear_at}
+use Rattle.std.proofs.lemmas.List.Elements.{All-head, All-tail}
 use Rattle.linker_elf.specs.Relocate.{clearing, ored_cleared}
 
 -- writing at no place changes nothing

@@ -1,12 +1,7 @@
 -- The tables of the engine are the forms: the steps write and read the places, and a read returns
 -- what the form says.
 use Rattle.std.proofs.Common.{◌≡◌, ◌≢◌, ℕ, ◌+◌, ◌-◌, ◌*◌, ◌%◌, ◌^◌, ◌<◌, ◌≤◌, Bool, true, false, leb, List, [], ◌∷◌, get_or, refl, sym, ◌∙◌, ap, subst, arith, pow_mono}
-use Rattle.std.specs.Int.{w32, w64, cast_unsigned, from_le_bytes}
-use Rattle.std.specs.Int.RustNames.{bit_or}
-use lib.Bits.{bit_and}
-use Rattle.std.proofs.lemmas.Bool.{and_parts, lt-leb, agree_below_at}
-use Rattle.linker_base.specs.Form.{ImmediateBit, BitsWritten, Written, place_sum, twos_complement, cleared, consecutive_bits, window_of, Layout, one_field, own_form, form_of}
-use Rattle.linker_base.proofs.Immediates.{place_sum_below}
+use Rattle.linker_elf.proofs.Imports.{w32, w64, cast_unsigned, from_le_bytes, bit_or, bit_and, and_parts, lt-leb, agree_below_at, ImmediateBit, BitsWritten, Written, place_sum, twos_complement, cleared, consecutive_bits, window_of, Layout, one_field, own_form, form_of, place_sum_below}
 use Rattle.linker_elf.specs.AArch64.{aarch64_form, aarch64_layout, imm16_places, low12_places, access_scale, moved_bits, move_opcode}
 use Rattle.linker_elf.specs.Elf.{relocation_form}
 use Rattle.linker_elf.specs.Inner.Runs.{width_of, bits_of, words_below, code_of, is_plain, writes, reads, moves_places}

@@ -3,13 +3,9 @@
 use Rattle.std.proofs.Common.{◌≡◌, ℕ, ◌+◌, ◌-◌, ◌%◌, ◌^◌, ◌<◌, Bool, true, false, refl, sym, ◌∙◌, ap, arith, Some, ◌≢◌, ◌==◌, if◌then◌else◌, inr}
 use Rattle.std.specs.Int.{w64, cast_unsigned, cast_signed, bit_at}
 use Rattle.std.proofs.lemmas.Int.{of_z-to_z}
-use Rattle.linker_elf.specs.Entries.{with_got_entry, with_plt_entry, Ignores, DependsOn}
-use Rattle.linker_elf.specs.Entries.{is_of_high_part, is_branch, IsGotAnswer, IsPltAnswer}
-use Rattle.linker_elf.specs.Value.{names_got_entry, names_plt_entry}
+use Rattle.linker_elf.specs.Entries.{with_got_entry, with_plt_entry, Ignores, DependsOn, is_of_high_part, is_branch, IsGotAnswer, IsPltAnswer}
+use Rattle.linker_elf.specs.Value.{names_got_entry, names_plt_entry, sum_64, difference_64, page_if, entry_addend, bias_number, masks_entry, entry_term, plt_term, relative_term, formula, read_signed}
 use Rattle.linker_elf.specs.LoongArch.{page, high_distance, high_correction}
-use Rattle.linker_elf.specs.Value.{sum_64, difference_64, page_if, entry_addend, bias_number}
-use Rattle.linker_elf.specs.Value.{masks_entry, entry_term, plt_term, relative_term, formula}
-use Rattle.linker_elf.specs.Value.{read_signed}
 use Rattle.linker_elf.specs.declared.elf.RelocationKind.{RelocationKind}
 use Rattle.linker_elf.specs.declared.elf.RelocationKind.TheVariants as kinds
 use Rattle.linker_elf.specs.declared.elf.RelocationKindInfo.{RelocationKindInfo}
@@ -35,11 +31,11 @@ page_if_moved : (m : Bool) (x : ℕ) → x < 2 ^ 64 → page_if m (moved x) ≡ 
 page_if_moved true x h = page_moved x h
 page_if_moved false x h = refl
 
-page_if_below : (m : Bool) (x : ℕ) → x < 2 ^ 64 → page_if m x < 2 ^ 64
+pub page_if_below : (m : Bool) (x : ℕ) → x < 2 ^ 64 → page_if m x < 2 ^ 64
 page_if_below true x h = omega arith
 page_if_below false x h = h
 
-sum_below : (x a : ℕ) → sum_64 x a < 2 ^ 64
+pub sum_below : (x a : ℕ) → sum_64 x a < 2 ^ 64
 sum_below x a = omega arith
 
 is_moved : (x : ℕ) → x < 2 ^ 64 → moved x ≢ x

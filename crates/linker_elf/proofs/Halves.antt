@@ -1,25 +1,12 @@
 -- Pairs of instructions hold each value within their reach.
-use Rattle.std.proofs.Common.{FitsSigned, ◌≡◌, ℕ, suc, ◌+◌, ◌-◌, ◌*◌, ◌/◌, ◌%◌, ◌^◌, ◌<◌, ◌≤◌}
-use Rattle.std.proofs.Common.{Bool, true, refl, ◌∙◌, ap, arith, List, inl, inr, ℤ, pos, negsuc}
-use Rattle.std.proofs.Common.{◌+ℤ◌, ◌-ℤ◌, ◌*ℤ◌, unsigned_abs, int_lt, sym, Some}
-use Rattle.std.specs.Int.{w64, cast_unsigned, int_rem_euclid}
-use Rattle.std.proofs.lemmas.Bool.{cases_lt}
-use Rattle.std.proofs.lemmas.Int.{ints, int_rem_euclid_is}
-use Rattle.linker_base.specs.Bits.{field, signed}
-use Rattle.linker_base.specs.Form.{Written, place_sum, window_of, twos_complement}
-use Rattle.linker_base.specs.declared.bit_misc.BitRange.{BitRange}
-use Rattle.linker_base.proofs.Immediates.{layout_laid, always_clear}
-use Rattle.linker_base.proofs.Pairs.{signed_cases, added}
+use Rattle.std.proofs.Common.{FitsSigned, ◌≡◌, ℕ, suc, ◌+◌, ◌-◌, ◌*◌, ◌/◌, ◌%◌, ◌^◌, ◌<◌, ◌≤◌, Bool, true, refl, ◌∙◌, ap, arith, List, inl, inr, ℤ, pos, negsuc, ◌+ℤ◌, ◌-ℤ◌, ◌*ℤ◌, unsigned_abs, int_lt, sym, Some}
+use Rattle.linker_elf.proofs.Imports.{w64, cast_unsigned, int_rem_euclid, cases_lt, ints, int_rem_euclid_is, field, signed, Written, place_sum, window_of, twos_complement, BitRange, layout_laid, always_clear, signed_cases, added}
 use Rattle.linker_elf.specs.Agrees.{bits_from}
 use Rattle.linker_elf.specs.Elf.{IsWithin, bit_bounds, relocation_form}
 use Rattle.linker_elf.specs.LoongArch.{loongarch_form, reach, IsDistanceModulo}
 use Rattle.linker_elf.specs.Ppc64.{ppc64_form, ppc64_layout}
-use Rattle.linker_elf.specs.Reach.{riscv_pair_bounds, clui_bounds, call36_bounds, riscv_reach}
-use Rattle.linker_elf.specs.Reach.{loongarch_reach, reach_of_size}
-use Rattle.linker_elf.specs.Relocate.{bits_taken, takes_size, InstructionWritten, IsWritten}
-use Rattle.linker_elf.specs.Relocate.{IsInUnits}
-use Rattle.linker_elf.specs.Relocate.{IsAligned, IsAccepted, CompletesHigh, RiscVHolds}
-use Rattle.linker_elf.specs.Relocate.{LoongArchHolds, Ppc64Holds, InstructionHolds, SizeHolds}
+use Rattle.linker_elf.specs.Reach.{riscv_pair_bounds, clui_bounds, call36_bounds, riscv_reach, loongarch_reach, reach_of_size}
+use Rattle.linker_elf.specs.Relocate.{bits_taken, takes_size, InstructionWritten, IsWritten, IsInUnits, IsAligned, IsAccepted, CompletesHigh, RiscVHolds, LoongArchHolds, Ppc64Holds, InstructionHolds, SizeHolds}
 use Rattle.linker_elf.specs.RiscV.{riscv_form, riscv_layout, riscv_places, ui_high, ui_low}
 use Rattle.linker_elf.specs.Rows.{Bounds}
 use Rattle.linker_elf.specs.declared.loongarch64.forms.LoongArch64Instruction.{LoongArch64Instruction}
@@ -34,8 +21,7 @@ use Rattle.linker_elf.specs.declared.elf.RelocationKindInfo.{RelocationKindInfo}
 use Rattle.linker_elf.specs.declared.elf.RelocationSize.{RelocationSize}
 use Rattle.linker_elf.specs.declared.elf.RelocationSize.TheVariants.{ByteSize, BitMasking}
 use Rattle.linker_elf.specs.declared.riscv64.forms.RiscVInstruction.{RiscVInstruction}
-use Rattle.linker_elf.specs.declared.riscv64.forms.RiscVInstruction.TheVariants.{UType, IType, SType}
-use Rattle.linker_elf.specs.declared.riscv64.forms.RiscVInstruction.TheVariants.{CluiType, UiType}
+use Rattle.linker_elf.specs.declared.riscv64.forms.RiscVInstruction.TheVariants.{UType, IType, SType, CluiType, UiType}
 use Rattle.linker_elf.proofs.Agreement.{number_agrees}
 use Rattle.linker_elf.proofs.LoongArch.{loongarch_reaches}
 use Rattle.linker_elf.proofs.Placed.{reads_as}

@@ -8,6 +8,7 @@ pub mod Codes
 pub mod Entries
 pub mod Halves
 pub mod Handles
+pub mod Imports
 pub mod LoongArch
 pub mod LoongArchAddresses
 pub mod LoongArchNumbers

@@ -1,26 +1,14 @@
 -- The LoongArch forms keep the laws of forms.
-use Rattle.std.proofs.Common.{◌≡◌, ℕ, ◌+◌, ◌-◌, ◌*◌, ◌/◌, ◌%◌, ◌^◌, ◌<◌, ◌≤◌, Bool, true, refl, sym, ap, ◌∙◌, arith, List, ◌++◌, pos, ◌+ℤ◌, ◌*ℤ◌}
-use Rattle.std.specs.Int.{w64, bit_at, cast_unsigned, int_rem_euclid}
-use Rattle.std.proofs.lemmas.List.Elements.{All-take, All-drop}
-use Rattle.linker_base.specs.Bits.{field, signed}
-use Rattle.linker_base.specs.Form.{ImmediateBit, BitsWritten, bit_for, placed_bit, Fits, Written, MachineReads, place_sum, replaced, one_field}
-use Rattle.linker_base.proofs.Immediates.{layout_machine, place_sum_below, fills, none_ored, place_sum_laid, always_clear}
+use Rattle.std.proofs.Common.{◌≡◌, ℕ, ◌+◌, ◌-◌, ◌*◌, ◌/◌, ◌%◌, ◌^◌, ◌<◌, ◌≤◌, Bool, true, refl, sym, ap, ◌∙◌, arith, List, ◌++◌, pos, ◌+ℤ◌, ◌*ℤ◌, inl, inr, ◌-ℤ◌}
+use Rattle.linker_elf.proofs.Imports.{w64, bit_at, cast_unsigned, int_rem_euclid, All-drop, field, signed, ImmediateBit, BitsWritten, bit_for, placed_bit, Fits, Written, MachineReads, place_sum, replaced, one_field, layout_machine, place_sum_below, place_sum_laid, always_clear, consecutive_bits_sum, ints, int_rem_euclid_is, and_mask, mod_below, pow_pos, and_pow, and_zero_r, bit_and, or_bits_to, ored, signed_cases, sums}
+use Rattle.std.proofs.lemmas.List.Elements.{All-take}
+use Rattle.linker_base.proofs.Immediates.{fills, none_ored}
 use Rattle.linker_base.proofs.Places.{adds}
 use Rattle.linker_base.proofs.Parts.{ArePlaced, all_replaced, part_laid}
-use Rattle.linker_base.proofs.ConsecutiveBits.{consecutive_bits_sum}
 use Rattle.linker_elf.proofs.LoongArchNumbers.{pair_number, near_pair, far_pair}
 use Rattle.linker_elf.specs.LoongArch.{loongarch_form, loongarch_layout, shift10_low, shift10_imm16, call36_high, call36_low, pcaddu18i_imm, jirl_imm, ReadsLow, Reaches, IsDistanceModulo}
 use Rattle.linker_elf.specs.declared.loongarch64.forms.LoongArch64Instruction.{LoongArch64Instruction}
 use Rattle.linker_elf.specs.declared.loongarch64.forms.LoongArch64Instruction.TheVariants.{Shift5, Shift10, Call30, Call36}
-use Rattle.std.proofs.Common.{inl, inr, ◌-ℤ◌}
-use Rattle.std.proofs.lemmas.Int.{ints, int_rem_euclid_is}
-use Rattle.std.proofs.lemmas.Nat.{and_mask, mod_below, pow_pos}
-use Rattle.std.proofs.lemmas.Nat.Bits.{and_pow}
-use Rattle.std.specs.Int.Bits.{and_zero_r}
-use lib.Bits.{bit_and}
-use Rattle.linker_base.specs.Form.{or_bits_to, ored}
-use Rattle.linker_base.proofs.Pairs.{signed_cases}
-use Rattle.linker_base.proofs.Places.{sums}
 use Rattle.linker_elf.specs.Inner.Runs.{code_of}
 use Rattle.linker_elf.specs.declared.elf.RelocationInstruction.TheVariants.{LoongArch64}
 use Rattle.linker_elf.proofs.ReadNumbers.{value_of}

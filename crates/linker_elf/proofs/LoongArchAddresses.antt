@@ -1,9 +1,6 @@
 -- The address that the five instructions make.
 use Rattle.std.proofs.Common.{◌≡◌, ℕ, ◌+◌, ◌-◌, ◌*◌, ◌/◌, ◌%◌, ◌^◌, ◌<◌, ◌≤◌, refl, ap, sym, ◌∙◌, arith, ℤ, pos, ◌+ℤ◌, ◌-ℤ◌, ◌*ℤ◌, ltb, inl, inr}
-use Rattle.std.specs.Int.{bit_at, int_rem_euclid}
-use Rattle.std.proofs.lemmas.Bool.{cond_both, ltb-true, ltb-false, cases_lt, eq-eqb, ne_eqb}
-use Rattle.std.proofs.lemmas.Int.{ints, int_rem_euclid_is}
-use Rattle.linker_base.specs.Bits.{field, signed}
+use Rattle.linker_elf.proofs.Imports.{bit_at, int_rem_euclid, cond_both, ltb-true, ltb-false, cases_lt, eq-eqb, ne_eqb, ints, int_rem_euclid_is, field, signed}
 use Rattle.linker_elf.specs.LoongArch.{page, high_correction, high_distance}
 
 -- ---- in pages

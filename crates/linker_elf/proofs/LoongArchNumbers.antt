@@ -1,9 +1,6 @@
 -- The arithmetic of LoongArch calls and addresses of several instructions.
 use Rattle.std.proofs.Common.{◌≡◌, ℕ, suc, ◌+◌, ◌-◌, ◌*◌, ◌/◌, ◌%◌, ◌^◌, ◌<◌, ◌≤◌, refl, ap, ◌∙◌, arith, ℤ, pos, negsuc, neg_ℤ, ◌+ℤ◌, ◌-ℤ◌, ◌*ℤ◌, ◌≤ℤ◌, ◌<ℤ◌, ltb}
-use Rattle.std.specs.Int.{int_rem_euclid}
-use Rattle.std.proofs.lemmas.Bool.{cond_both, ltb-true, ltb-false}
-use Rattle.std.proofs.lemmas.Int.{ints, int_rem_euclid_is}
-use Rattle.linker_base.specs.Bits.{signed}
+use Rattle.linker_elf.proofs.Imports.{int_rem_euclid, cond_both, ltb-true, ltb-false, ints, int_rem_euclid_is, signed}
 use Rattle.linker_elf.specs.LoongArch.{IsCallBy}
 
 -- the numbers of 20 and of 16 bits that h and l are in two's complement, by cases

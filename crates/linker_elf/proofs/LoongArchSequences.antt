@@ -1,28 +1,18 @@
 -- What the writes of a sequence leave, instruction by instruction.
-use Rattle.std.proofs.Common.{◌≡◌, ℕ, ◌+◌, ◌-◌, ◌^◌, ◌<◌, ◌≤◌, true, false, ◌&&◌, ltb, leb, List, [], ◌∷◌, length, take, drop, refl, ap, sym, ◌∙◌, subst, arith, inl, inr}
-use Rattle.std.specs.Int.{w32, bit_at, from_le_bytes}
-use Rattle.std.proofs.lemmas.Bool.{agree_below_at, lt-leb, le-ltb, le-leb, lt-ltb, cases_lt, and_right}
+use Rattle.std.proofs.Common.{◌≡◌, ℕ, ◌+◌, ◌-◌, ◌^◌, ◌<◌, ◌≤◌, true, false, ◌&&◌, ltb, leb, List, length, take, drop, refl, ap, sym, ◌∙◌, subst, arith, inl, inr}
+use Rattle.linker_elf.proofs.Imports.{w32, bit_at, from_le_bytes, agree_below_at, lt-leb, le-ltb, le-leb, lt-ltb, cases_lt, All-drop, field, ImmediateBit, BitsWritten, is_placed, or_bits_to, bit_for, placed_bit, same_fields}
+use Rattle.std.proofs.lemmas.Bool.{and_right}
 use Rattle.std.proofs.lemmas.List.{drop-take}
-use Rattle.std.proofs.lemmas.List.Elements.{All-drop}
 use Rattle.std.proofs.lemmas.Slice.{between-put_mid, take-put_mid_below, drop-put_mid}
 use borrow.Rule.Slice.PartMut.{put_mid}
-use Rattle.linker_base.specs.Bits.{field}
-use Rattle.linker_base.specs.Form.{ImmediateBit, BitsWritten, is_placed, or_bits_to, bit_for, placed_bit}
-use Rattle.linker_base.proofs.Fields.{same_fields}
 use Rattle.linker_base.proofs.Immediates.{bit_looked_up}
 use Rattle.linker_base.proofs.Parts.{ored_kept}
 use Rattle.linker_elf.proofs.LoongArch.{shift5_places, shift10_places}
 use Rattle.linker_elf.proofs.LoongArchAddresses.{first_of_five, high_of_five, five_from, made}
 use Rattle.linker_elf.specs.LoongArch.{instruction, IsKeptOutside, IsSetAt, MakesAddress}
+use Rattle.linker_base.proofs.Words.{word_of_front}
 
 -- ---- the instruction in a list of bytes
-
-word_of_front : (xs : List ℕ) → from_le_bytes w32 (take 4 xs) ≡ from_le_bytes w32 xs
-word_of_front [] = refl
-word_of_front (a ∷ []) = refl
-word_of_front (a ∷ b ∷ []) = refl
-word_of_front (a ∷ b ∷ c ∷ []) = refl
-word_of_front (a ∷ b ∷ c ∷ d ∷ xs) = refl
 
 instruction_of_front : (k : ℕ) (xs ys : List ℕ) → take (k + 4) xs ≡ take (k + 4) ys → instruction xs k ≡ instruction ys k
 instruction_of_front k xs ys e =

@@ -1,26 +1,15 @@
 -- The numbers placed in instructions of DQ-form, and moves of 32 bits.
-use Rattle.std.proofs.Common.{◌≡◌, ℕ, ◌+◌, ◌-◌, ◌*◌, ◌/◌, ◌%◌, ◌^◌, ◌<◌, ◌≤◌, Bool, true, false, List}
-use Rattle.std.proofs.Common.{◌==◌, ◌&&◌, ◌||◌, [], inl, inr, if◌then◌else◌, refl, sym, ◌∙◌}
-use Rattle.std.proofs.Common.{ap, subst, arith, ℤ, pos, int_lt}
-use Rattle.std.specs.Int.{bit_at}
-use Rattle.linker_base.specs.Bits.{field}
-use Rattle.linker_base.specs.Form.{BitsWritten, Written, ImmediateBit, bits_to}
-use Rattle.linker_base.specs.Form.{replaced, placed_bit, bit_for, place_sum}
-use Rattle.linker_base.specs.declared.bit_misc.BitRange.{BitRange}
-use Rattle.linker_base.proofs.ConsecutiveBits.{consecutive_bits_all, consecutive_bits_sum}
-use Rattle.linker_base.proofs.Fields.{bit_at_mod, same_fields}
-use Rattle.linker_base.proofs.Immediates.{layout_laid, always_clear}
+use Rattle.std.proofs.Common.{◌≡◌, ℕ, ◌+◌, ◌-◌, ◌*◌, ◌/◌, ◌%◌, ◌^◌, ◌<◌, ◌≤◌, Bool, true, false, List, ◌==◌, ◌&&◌, ◌||◌, [], inl, inr, if◌then◌else◌, refl, sym, ◌∙◌, ap, subst, arith, ℤ, pos, int_lt}
+use Rattle.linker_elf.proofs.Imports.{bit_at, field, BitsWritten, Written, ImmediateBit, bits_to, replaced, placed_bit, bit_for, place_sum, BitRange, consecutive_bits_all, consecutive_bits_sum, bit_at_mod, same_fields, layout_laid, always_clear}
 use Rattle.linker_elf.specs.AArch64.{movnz, move_opcode, aarch64_form}
 use Rattle.linker_elf.specs.Elf.{relocation_form}
 use Rattle.linker_elf.specs.Ppc64.{ppc64_form, ppc64_layout}
-use Rattle.linker_elf.specs.Relocate.{number_placed, with_low_4, is_dq_form, is_32_bit_move}
-use Rattle.linker_elf.specs.Relocate.{bits_taken, ppc64_reads}
+use Rattle.linker_elf.specs.Relocate.{number_placed, with_low_4, is_dq_form, is_32_bit_move, bits_taken, ppc64_reads}
 use Rattle.linker_elf.specs.declared.aarch64.forms.AArch64Instruction.{AArch64Instruction}
 use Rattle.linker_elf.specs.declared.aarch64.forms.AArch64Instruction.TheVariants.{Movnz}
 use Rattle.linker_elf.specs.declared.ppc64.forms.Ppc64Instruction.TheVariants.{Ds}
 use Rattle.linker_elf.specs.declared.elf.RelocationInstruction.{RelocationInstruction}
-use Rattle.linker_elf.specs.declared.elf.RelocationInstruction.TheVariants.{Ppc64}
-use Rattle.linker_elf.specs.declared.elf.RelocationInstruction.TheVariants.{AArch64}
+use Rattle.linker_elf.specs.declared.elf.RelocationInstruction.TheVariants.{Ppc64, AArch64}
 use Rattle.linker_elf.proofs.Clearing.{same_window}
 use Rattle.linker_elf.proofs.Steps.{consecutive_bits_outside}
 

@@ -1,8 +1,6 @@
 -- Rows that take each multiple of their alignment within reach, whatever instruction there is.
 use Rattle.std.proofs.Common.{◌≡◌, ℕ, ◌-◌, ◌*◌, ◌%◌, ◌^◌, ◌<◌, ◌≤◌, arith, true, List, ℤ, ◌≤ℤ◌, FitsSigned, length, nat_eq, bit_and, IsTrue, ◌&&◌, ◌||◌, subst, sym, ap, ◌∙◌, inl, inr, refl, false, drop, ◌++◌}
-use Rattle.std.specs.Int.{w64, cast_unsigned}
-use Rattle.std.proofs.lemmas.Bool.{and_parts, cases_Bool, cond-false, cond-true, eqb-true, or_cases}
-use Rattle.linker_base.specs.declared.bit_misc.BitRange.{BitRange}
+use Rattle.linker_elf.proofs.Imports.{w64, cast_unsigned, and_parts, cases_Bool, cond-false, cond-true, eqb-true, or_cases, BitRange}
 use Rattle.linker_elf.specs.Agrees.{RowFits}
 use Rattle.linker_elf.specs.Bounds.{least_within, last_within}
 use Rattle.linker_elf.specs.Reach.{reach_of}

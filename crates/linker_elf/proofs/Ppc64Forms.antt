@@ -1,7 +1,6 @@
 -- What the machine reads of the PowerPC64 forms.
 use Rattle.std.proofs.Common.{ℕ, ◌^◌, ◌<◌, Bool, refl}
-use Rattle.linker_base.specs.Form.{Written, MachineReads}
-use Rattle.linker_base.proofs.Immediates.{layout_machine}
+use Rattle.linker_elf.proofs.Imports.{Written, MachineReads, layout_machine}
 use Rattle.linker_elf.specs.Ppc64.{ppc64_form, ppc64_layout}
 use Rattle.linker_elf.specs.declared.ppc64.forms.Ppc64Instruction.{Ppc64Instruction}
 use Rattle.linker_elf.specs.declared.ppc64.forms.Ppc64Instruction.TheVariants.{D}

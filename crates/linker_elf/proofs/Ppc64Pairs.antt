@@ -1,14 +1,8 @@
 -- What a pair of halves adds up to.
 use Rattle.std.proofs.Common.{◌≡◌, ℕ, ◌+◌, ◌-◌, ◌*◌, ◌/◌, ◌%◌, ◌^◌, ◌<◌, ◌≤◌, List, drop, refl, sym, ◌∙◌, ap, arith, inl, inr, ℤ, pos, negsuc, ◌+ℤ◌, ◌-ℤ◌, ◌≤ℤ◌, ◌<ℤ◌, false}
 use Rattle.std.specs.Prelude.{◌*ℤ◌}
-use Rattle.std.specs.Int.{w32, from_le_bytes, int_rem_euclid}
-use Rattle.std.proofs.lemmas.Int.{ints, int_rem_euclid_is}
-use Rattle.std.proofs.lemmas.Bool.{cases_lt, lt-ltb, le-ltb, agree_below_at}
-use Rattle.std.proofs.lemmas.Nat.{pow_pos}
-use Rattle.linker_base.specs.Bits.{field, signed}
-use Rattle.linker_base.specs.Form.{ImmediateBit, bits_to, is_placed, place_sum, Written, MachineReads}
-use Rattle.linker_base.proofs.Fields.{same_fields, signed_rem}
-use Rattle.linker_base.proofs.Immediates.{always_clear, place_sum_below}
+use Rattle.linker_elf.proofs.Imports.{w32, from_le_bytes, int_rem_euclid, ints, int_rem_euclid_is, cases_lt, lt-ltb, le-ltb, agree_below_at, pow_pos, field, signed, ImmediateBit, bits_to, is_placed, place_sum, Written, MachineReads, same_fields, always_clear, place_sum_below}
+use Rattle.linker_base.proofs.Fields.{signed_rem}
 use Rattle.linker_elf.specs.Ppc64.{ppc64_form, pair, IsPairDistance, PairHolds, KeepsHigh}
 use Rattle.linker_elf.specs.declared.ppc64.forms.Ppc64Instruction.TheVariants.{D}
 

@@ -1,8 +1,6 @@
 -- The least and the last value within reach bound the values within reach.
 use Rattle.std.proofs.Common.{◌≡◌, ◌≤◌, true, length, ℕ, List, ℤ, ◌≤ℤ◌, FitsSigned, Some, None, arith, inl, inr, int_lt}
-use Rattle.std.specs.Int.{w64}
-use Rattle.std.proofs.lemmas.Bool.{cases_Bool}
-use Rattle.std.proofs.lemmas.Int.{ints}
+use Rattle.linker_elf.proofs.Imports.{w64, cases_Bool, ints}
 use Rattle.linker_elf.specs.Agrees.{RowFits, SizeFits}
 use Rattle.linker_elf.specs.Elf.{IsWithin}
 use Rattle.linker_elf.specs.Bounds.{least_within, last_within}

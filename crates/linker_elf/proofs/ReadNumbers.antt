@@ -1,17 +1,8 @@
 -- Numbers as a read returns them.
 use Rattle.std.proofs.Common.{◌≡◌, ℕ, ◌+◌, ◌-◌, ◌*◌, ◌%◌, ◌^◌, ◌<◌, ◌≤◌, Bool, true, false, ◌&&◌, ltb, leb, eqb, refl, sym, ◌∙◌, ap, arith, inl, inr, pos, negsuc, ◌-ℤ◌, if◌then◌else◌, int_lt, FitsSigned, pow_mono}
-use Rattle.std.specs.Int.{bit_at, w64, cast_unsigned}
-use Rattle.std.proofs.lemmas.Int.{ints}
-use lib.Bits.{bit_and}
-use Rattle.std.specs.Int.Bits.{and_zero_r}
-use Rattle.std.proofs.lemmas.Bool.{and_parts, cases_lt, lt-ltb, le-ltb, lt-leb, le-leb, eqb-true, ltb-true}
-use Rattle.std.proofs.lemmas.Nat.{and_mask, pow_below, pow-add}
-use Rattle.std.proofs.Math.Nat.{mod-eq_of_lt}
-use Rattle.std.proofs.lemmas.Nat.Bits.{and_pow}
-use Rattle.linker_base.specs.Bits.{signed}
-use Rattle.linker_base.specs.Form.{values_apart, values_below, place_sum, Sign, unsigned, twos_complement, number_of, Field}
+use Rattle.linker_elf.proofs.Imports.{bit_at, w64, cast_unsigned, ints, bit_and, and_zero_r, and_parts, cases_lt, lt-ltb, le-ltb, lt-leb, le-leb, eqb-true, ltb-true, and_mask, pow_below, pow-add, mod-eq_of_lt, and_pow, signed, values_apart, values_below, place_sum, Sign, unsigned, twos_complement, number_of, place_sum_below}
+use Rattle.linker_base.specs.Form.{Field}
 use Rattle.linker_base.proofs.Bits.{signed_bits}
-use Rattle.linker_base.proofs.Immediates.{place_sum_below}
 use Rattle.linker_elf.specs.declared.elf.engine.Encoding.{Encoding}
 
 -- ---- a number in two's complement, as the code takes twice its sign bit off

@@ -1,24 +1,11 @@
 -- The machine reads no value out of reach: from comparisons of each row's bounds with what its form
 -- can hold.
-use Rattle.std.proofs.Common.{◌≡◌, ℕ, ◌+◌, ◌-◌, ◌*◌, ◌/◌, ◌%◌, ◌^◌, ◌<◌, ◌≤◌, Bool, true, false}
-use Rattle.std.proofs.Common.{◌&&◌, ◌||◌, leb, eqb, refl, sym, ◌∙◌, ap, subst, arith, inl, inr, ℤ}
-use Rattle.std.proofs.Common.{pos, negsuc, neg_ℤ, ◌+ℤ◌, ◌-ℤ◌, ◌*ℤ◌, ◌≤ℤ◌, ◌<ℤ◌, Option, Some, None}
-use Rattle.std.proofs.Common.{unsigned_abs, IfSome}
-use Rattle.std.specs.Int.{int_rem_euclid}
-use Rattle.std.specs.Int.Signed.{le_z}
-use Rattle.std.proofs.lemmas.Bool.{and_parts, or_cases, leb-true, eqb-true}
-use Rattle.std.proofs.lemmas.Int.{ints}
-use Rattle.std.proofs.lemmas.Nat.{pow_pos, pow-add, mod_below}
+use Rattle.std.proofs.Common.{◌≡◌, ℕ, ◌+◌, ◌-◌, ◌*◌, ◌/◌, ◌%◌, ◌^◌, ◌<◌, ◌≤◌, Bool, true, false, ◌&&◌, ◌||◌, leb, eqb, refl, sym, ◌∙◌, ap, subst, arith, inl, inr, ℤ, pos, negsuc, neg_ℤ, ◌+ℤ◌, ◌-ℤ◌, ◌*ℤ◌, ◌≤ℤ◌, ◌<ℤ◌, Option, Some, None, unsigned_abs, IfSome}
+use Rattle.linker_elf.proofs.Imports.{int_rem_euclid, le_z, and_parts, or_cases, leb-true, eqb-true, ints, pow_pos, pow-add, mod_below, field, signed, Sign, unsigned, twos_complement, number_of, place_sum, Layout, one_field, own_form, form_of, BitRange, is_sound_layout, sound_field, place_sum_below, signed_cases, added}
 use Rattle.std.proofs.Math.Nat.{div-lt_iff_lt-mul}
-use Rattle.linker_base.specs.Bits.{field, signed}
-use Rattle.linker_base.specs.Form.{Sign, unsigned, twos_complement, number_of, place_sum, Layout}
-use Rattle.linker_base.specs.Form.{one_field, own_form, form_of}
-use Rattle.linker_base.specs.declared.bit_misc.BitRange.{BitRange}
-use Rattle.linker_base.proofs.Immediates.{is_sound_layout, sound_field, place_sum_below}
 use Rattle.linker_base.proofs.Immediates.{values_apart_fills}
-use Rattle.linker_base.proofs.Pairs.{signed_cases, added, part_aligned}
-use Rattle.linker_elf.specs.AArch64.{aarch64_layout, imm16_places, moved_value, shift_of}
-use Rattle.linker_elf.specs.AArch64.{opcode_of, movn_opcode}
+use Rattle.linker_base.proofs.Pairs.{part_aligned}
+use Rattle.linker_elf.specs.AArch64.{aarch64_layout, imm16_places, moved_value, shift_of, opcode_of, movn_opcode}
 use Rattle.linker_elf.specs.AArch64Relocations.{aarch64_row}
 use Rattle.linker_elf.specs.Agrees.{bits_from, reads_signed, aarch64_reads}
 use Rattle.linker_elf.specs.Elf.{IsWithin}
@@ -27,9 +14,7 @@ use Rattle.linker_elf.specs.LoongArchRelocations.{loongarch_row}
 use Rattle.linker_elf.specs.Ppc64.{ppc64_form, ppc64_layout}
 use Rattle.linker_elf.specs.Ppc64Relocations.{ppc64_row}
 use Rattle.linker_elf.specs.Reach.{reach_of, riscv_pair_bounds, clui_bounds, call36_bounds}
-use Rattle.linker_elf.specs.Readings.{RiscVReads, LoongArchReads, reads_more, InstructionReadsAs}
-use Rattle.linker_elf.specs.Readings.{SizeReadsNoOther, ReadsNoOther, RowReadsNoOther}
-use Rattle.linker_elf.specs.Readings.{LoongArchRowReadsNoOther}
+use Rattle.linker_elf.specs.Readings.{RiscVReads, LoongArchReads, reads_more, InstructionReadsAs, SizeReadsNoOther, ReadsNoOther, RowReadsNoOther, LoongArchRowReadsNoOther}
 use Rattle.linker_elf.specs.Relocate.{IsAligned}
 use Rattle.linker_elf.specs.RiscV.{riscv_layout, riscv_places, ui_high, ui_low}
 use Rattle.linker_elf.specs.RiscVRelocations.{riscv_relocation, clui_row}
@@ -37,19 +22,16 @@ use Rattle.linker_elf.specs.Rows.{Bounds}
 use Rattle.linker_elf.specs.declared.aarch64.forms.AArch64Instruction.{AArch64Instruction}
 use Rattle.linker_elf.specs.declared.aarch64.forms.AArch64Instruction.TheVariants.{Movnz, MachOLow12}
 use Rattle.linker_elf.specs.declared.loongarch64.forms.LoongArch64Instruction.{LoongArch64Instruction}
-use Rattle.linker_elf.specs.declared.loongarch64.forms.LoongArch64Instruction.TheVariants.{Shift5, Shift10}
-use Rattle.linker_elf.specs.declared.loongarch64.forms.LoongArch64Instruction.TheVariants.{Call30, Call36}
+use Rattle.linker_elf.specs.declared.loongarch64.forms.LoongArch64Instruction.TheVariants.{Shift5, Shift10, Call30, Call36}
 use Rattle.linker_elf.specs.declared.ppc64.forms.Ppc64Instruction.{Ppc64Instruction}
 use Rattle.linker_elf.specs.declared.ppc64.forms.Ppc64Instruction.TheVariants.{D}
 use Rattle.linker_elf.specs.declared.elf.RelocationInstruction.{RelocationInstruction}
-use Rattle.linker_elf.specs.declared.elf.RelocationInstruction.TheVariants.{RiscV, Ppc64}
-use Rattle.linker_elf.specs.declared.elf.RelocationInstruction.TheVariants.{LoongArch64, AArch64}
+use Rattle.linker_elf.specs.declared.elf.RelocationInstruction.TheVariants.{RiscV, Ppc64, LoongArch64, AArch64}
 use Rattle.linker_elf.specs.declared.elf.RelocationKindInfo.{RelocationKindInfo}
 use Rattle.linker_elf.specs.declared.elf.RelocationSize.{RelocationSize}
 use Rattle.linker_elf.specs.declared.elf.RelocationSize.TheVariants.{ByteSize, BitMasking}
 use Rattle.linker_elf.specs.declared.riscv64.forms.RiscVInstruction.{RiscVInstruction}
-use Rattle.linker_elf.specs.declared.riscv64.forms.RiscVInstruction.TheVariants.{UType, IType, SType}
-use Rattle.linker_elf.specs.declared.riscv64.forms.RiscVInstruction.TheVariants.{CluiType, UiType}
+use Rattle.linker_elf.specs.declared.riscv64.forms.RiscVInstruction.TheVariants.{UType, IType, SType, CluiType, UiType}
 use Rattle.linker_elf.specs.declared.aarch64.relocations.AArch64Relocation.{AArch64Relocation}
 use Rattle.linker_elf.specs.declared.aarch64.relocations.AArch64Relocation.TheVariants.{R_AARCH64_NONE}
 use Rattle.linker_elf.specs.declared.loongarch64.relocations.LoongArch64Relocation.{LoongArch64Relocation}

@@ -1,32 +1,14 @@
 -- What the machine reads of an instruction into which a relocation's value was written.
-use Rattle.std.proofs.Common.{FitsSigned, ◌≡◌, ℕ, ◌+◌, ◌-◌, ◌<◌, ◌≤◌, ◌^◌, ◌&&◌, Bool, ltb, arith}
-use Rattle.std.proofs.Common.{IsTrue, true, false, not, refl, sym, ◌∙◌, ap, subst, List, ℤ, pos}
-use Rattle.std.proofs.Common.{negsuc, int_lt, Some, None, inl, inr, ◌==◌, ◌%◌, ◌/◌, ◌*ℤ◌, ◌-ℤ◌}
-use Rattle.std.proofs.Common.{unsigned_abs, if◌then◌else◌}
+use Rattle.std.proofs.Common.{FitsSigned, ◌≡◌, ℕ, ◌+◌, ◌-◌, ◌<◌, ◌≤◌, ◌^◌, ◌&&◌, Bool, ltb, arith, IsTrue, true, false, not, refl, sym, ◌∙◌, ap, subst, List, ℤ, pos, negsuc, int_lt, Some, None, inl, inr, ◌==◌, ◌%◌, ◌/◌, ◌*ℤ◌, ◌-ℤ◌, unsigned_abs, if◌then◌else◌}
 use Rattle.std.specs.Prelude.{⊤, ◌⊎◌}
-use Rattle.std.specs.Int.{w64, bit_at, cast_unsigned, int_rem_euclid}
-use Rattle.std.proofs.lemmas.Bool.{lt-ltb, ltb-true, eqb-true, and_parts, cases_lt}
-use Rattle.std.proofs.lemmas.Int.{ints, int_rem_euclid_is}
-use Rattle.linker_base.proofs.Pairs.{signed_cases}
-use Rattle.std.proofs.lemmas.Nat.{mod_below, pow_pos}
-use Rattle.linker_base.specs.Bits.{field}
-use Rattle.linker_base.specs.Form.{ImmediateBit, BitsWritten, IsClear, is_clear_at, window_of, replaced, one_field, Fits}
-use Rattle.linker_base.specs.declared.bit_misc.BitRange.{BitRange}
-use Rattle.linker_base.proofs.ConsecutiveBits.{consecutive_bits_all}
-use Rattle.linker_base.proofs.Immediates.{always_clear, layout_laid, subst_below}
+use Rattle.linker_elf.proofs.Imports.{w64, bit_at, cast_unsigned, int_rem_euclid, lt-ltb, ltb-true, eqb-true, and_parts, cases_lt, ints, int_rem_euclid_is, signed_cases, mod_below, pow_pos, field, ImmediateBit, BitsWritten, IsClear, is_clear_at, window_of, replaced, one_field, Fits, BitRange, consecutive_bits_all, always_clear, layout_laid, subst_below}
 use Rattle.linker_elf.specs.AArch64.{aarch64_form, shift_of, access_scale}
-use Rattle.linker_elf.specs.Agrees.{InstructionAgrees, SizeAgrees, AgreesBy, AgreesInReach}
-use Rattle.linker_elf.specs.Agrees.{is_of_halves, is_of_words, bits_from, IsSameIn, aarch64_reads}
+use Rattle.linker_elf.specs.Agrees.{InstructionAgrees, SizeAgrees, AgreesBy, AgreesInReach, is_of_halves, is_of_words, bits_from, IsSameIn, aarch64_reads}
 use Rattle.linker_elf.specs.Elf.{IsWithin, bit_bounds, relocation_form, relocation_layout}
 use Rattle.linker_elf.specs.LoongArch.{loongarch_form, shift10_imm16}
 use Rattle.linker_elf.specs.Ppc64.{ppc64_form}
-use Rattle.linker_elf.specs.Reach.{aarch64_reach, riscv_reach, loongarch_reach, ppc64_reach}
-use Rattle.linker_elf.specs.Reach.{reach_of_size, reach_of}
-use Rattle.linker_elf.specs.Relocate.{places_cleared, ored_cleared, bits_taken}
-use Rattle.linker_elf.specs.Relocate.{InstructionWritten, IsWritten, InstructionReads, SizeReads}
-use Rattle.linker_elf.specs.Relocate.{takes_size, is_supported, is_call30, IsAligned, IsAccepted}
-use Rattle.linker_elf.specs.Relocate.{IsInUnits, IsInWords, MoveReads, with_bit_31_if}
-use Rattle.linker_elf.specs.Relocate.{stays_movk, is_movk, is_low_jump, low_part, insn_at, bits_at, value_at}
+use Rattle.linker_elf.specs.Reach.{aarch64_reach, riscv_reach, loongarch_reach, ppc64_reach, reach_of_size, reach_of}
+use Rattle.linker_elf.specs.Relocate.{places_cleared, ored_cleared, bits_taken, InstructionWritten, IsWritten, InstructionReads, SizeReads, takes_size, is_supported, is_call30, IsAligned, IsAccepted, IsInUnits, IsInWords, MoveReads, with_bit_31_if, stays_movk, is_movk, is_low_jump, low_part, insn_at, bits_at, value_at}
 use Rattle.linker_elf.specs.Rows.{Bounds}
 use Rattle.linker_elf.specs.declared.aarch64.forms.AArch64Instruction.{AArch64Instruction}
 use Rattle.linker_elf.specs.declared.aarch64.forms.AArch64Instruction.TheVariants.{Movkz, Movnz, MachOLow12}
@@ -42,8 +24,7 @@ use Rattle.linker_elf.specs.declared.elf.RelocationKindInfo.{RelocationKindInfo}
 use Rattle.linker_elf.specs.declared.elf.RelocationSize.{RelocationSize}
 use Rattle.linker_elf.specs.declared.elf.RelocationSize.TheVariants.{ByteSize, BitMasking}
 use Rattle.linker_elf.specs.declared.riscv64.forms.RiscVInstruction.{RiscVInstruction}
-use Rattle.linker_elf.specs.declared.riscv64.forms.RiscVInstruction.TheVariants.{UType, IType, SType}
-use Rattle.linker_elf.specs.declared.riscv64.forms.RiscVInstruction.TheVariants.{CluiType, UiType}
+use Rattle.linker_elf.specs.declared.riscv64.forms.RiscVInstruction.TheVariants.{UType, IType, SType, CluiType, UiType}
 use Rattle.linker_elf.proofs.Clearing.{same_window, clear_after}
 use Rattle.linker_elf.proofs.Agreement.{rem_rem, from_zero, layout_agrees}
 use Rattle.linker_elf.proofs.ReadNumbers.{signed_fits}

@@ -1,28 +1,16 @@
 -- What the machine reads of the RISC-V forms, and pairs make their value.
-use Rattle.std.proofs.Common.{◌≡◌, ℕ, suc, ◌+◌, ◌-◌, ◌*◌, ◌/◌, ◌%◌, ◌^◌, ◌<◌, ◌≤◌, Bool, true, false, refl, ap, sym, subst, ◌∙◌, arith, List, ◌⊎◌, inl, inr, ℤ, pos, negsuc, ◌+ℤ◌, ◌-ℤ◌, ◌≤ℤ◌, ◌<ℤ◌}
-use Rattle.std.specs.Int.{w16, w32, w64, cast_unsigned, bit_at, int_rem_euclid}
-use Rattle.std.specs.List.{All}
-use Rattle.std.proofs.lemmas.Bool.{cases_lt}
-use Rattle.std.proofs.lemmas.Int.{ints, int_rem_euclid_is}
-use Rattle.linker_base.specs.Bits.{signed}
-use Rattle.linker_base.specs.Form.{ImmediateBit, BitsWritten, placed_bit, bit_for, Written, MachineReads, place_sum}
-use Rattle.linker_base.proofs.Immediates.{layout_laid, layout_machine, place_sum_placed, place_sum_below, always_clear}
-use Rattle.linker_base.proofs.Pairs.{signed_cases, added, all_left, all_right}
+use Rattle.std.proofs.Common.{◌≡◌, ℕ, suc, ◌+◌, ◌-◌, ◌*◌, ◌/◌, ◌%◌, ◌^◌, ◌<◌, ◌≤◌, Bool, true, false, refl, ap, sym, subst, ◌∙◌, arith, List, ◌⊎◌, inl, inr, ℤ, pos, negsuc, ◌+ℤ◌, ◌-ℤ◌, ◌≤ℤ◌, ◌<ℤ◌, pow_mono}
+use Rattle.linker_elf.proofs.Imports.{w32, w64, cast_unsigned, bit_at, int_rem_euclid, All, cases_lt, ints, int_rem_euclid_is, signed, ImmediateBit, BitsWritten, placed_bit, bit_for, Written, MachineReads, place_sum, layout_laid, layout_machine, place_sum_below, always_clear, signed_cases, added, bit_or, bit_and, mod_below, pow_pos, or_shifted, bit_at-lt, bit_at_and, bit_at_or, and_pow, same_from_bits, replaced, consecutive_bits_sum, sums}
+use Rattle.std.specs.Int.{w16}
+use Rattle.linker_base.proofs.Immediates.{place_sum_placed}
 use Rattle.linker_base.proofs.Rounded.{IsSoundPart, sound_part, rounded_machine}
 use Rattle.linker_elf.specs.RiscV.{riscv_form, riscv_layout, riscv_places, ui_high, ui_low, ui_sum, IsPairRange, IsPairOf, PairReads}
 use Rattle.linker_elf.specs.declared.riscv64.forms.RiscVInstruction.{RiscVInstruction}
-use Rattle.std.specs.Int.RustNames.{bit_or}
-use lib.Bits.{bit_and}
-use Rattle.std.proofs.Common.{pow_mono}
-use Rattle.std.proofs.lemmas.Nat.{mod_below, pow_pos, or_shifted}
-use Rattle.std.proofs.lemmas.Nat.Bits.{bit_at-lt, bit_at_and, bit_at_or, and_pow, same_from_bits}
-use Rattle.linker_base.specs.Form.{replaced}
-use Rattle.linker_base.proofs.ConsecutiveBits.{consecutive_bits_sum}
-use Rattle.linker_base.proofs.Places.{sums}
 use Rattle.linker_elf.specs.Inner.Runs.{code_of}
 use Rattle.linker_elf.specs.declared.elf.RelocationInstruction.TheVariants.{RiscV}
 use Rattle.linker_elf.proofs.ReadNumbers.{value_of, whole, sign_taken_off}
 use Rattle.linker_elf.specs.declared.riscv64.forms.RiscVInstruction.TheVariants.{UType, IType, SType, JType, CluiType, UiType}
+use Rattle.linker_base.proofs.Listed.{All-front, All-back}
 
 abbrev pub jtype_places : List ImmediateBit
 jtype_places = riscv_places JType
@@ -91,10 +79,10 @@ Placed v before after p = bit_at after p.insn_bit ≡ placed_bit p.mark (bit_for
 
 module _ (v before after : ℕ) (wide : v < 2 ^ 64) (laid : BitsWritten (riscv_places UiType) v before after) where
   placed_high : All (Placed v before after) (riscv_places UType)
-  placed_high = all_left (Placed v before after) (riscv_places UType) ui_low laid.placed
+  placed_high = All-front (Placed v before after) (riscv_places UType) ui_low laid.placed
 
   placed_low : All (Placed v before after) ui_low
-  placed_low = all_right (Placed v before after) (riscv_places UType) ui_low laid.placed
+  placed_low = All-back (Placed v before after) (riscv_places UType) ui_low laid.placed
 
   pub ui_high_laid : place_sum ui_high after ≡ (v + 0x800) % 2 ^ 64 / 4096 % 1048576 * 4096
   ui_high_laid = place_sum_placed 12 32 0x800 (riscv_places UType) v before after (omega arith) u_sound.filled u_sound.added placed_high (always_clear (riscv_places UType) before refl)

@@ -1,19 +1,11 @@
 -- The rows of the relocation tables agree with the machines: one law a form, and comparisons of
 -- each row's numbers.
 use Rattle.std.proofs.Common.{◌≡◌, ℕ, ◌+◌, ◌-◌, ◌/◌, ◌%◌, ◌^◌, ◌<◌, Bool, true, false, ◌&&◌, ◌||◌, eqb, refl, sym, ◌∙◌, ap, subst, arith, ℤ, pos, negsuc, neg_ℤ, ◌≤ℤ◌, ◌<ℤ◌, Option, Some, None, unsigned_abs, int_lt, IfSome}
-use Rattle.std.specs.Int.{int_rem_euclid}
-use Rattle.std.specs.Int.Signed.{le_z}
-use Rattle.std.proofs.lemmas.Bool.{and_parts, eqb-true, le-ltb}
-use Rattle.std.proofs.lemmas.Int.{ints}
+use Rattle.linker_elf.proofs.Imports.{int_rem_euclid, le_z, and_parts, eqb-true, le-ltb, ints, field, Written, place_sum, unsigned, replaced, one_field, BitRange, layout_laid, always_clear, consecutive_bits_sum}
 use Rattle.std.proofs.lemmas.Nat.{shl-shr}
-use Rattle.linker_base.specs.Bits.{field}
-use Rattle.linker_base.specs.Form.{Written, place_sum, unsigned, replaced, one_field}
-use Rattle.linker_base.specs.declared.bit_misc.BitRange.{BitRange}
-use Rattle.linker_base.proofs.Immediates.{layout_laid, high_of, always_clear}
+use Rattle.linker_base.proofs.Immediates.{high_of}
 use Rattle.linker_elf.specs.Elf.{IsWithin}
-use Rattle.linker_elf.specs.Agrees.{bits_from, IsFieldOf, IsSameIn, InstructionAgrees, SizeAgrees}
-use Rattle.linker_elf.specs.Agrees.{AgreesBy, AgreesInReach, RowAgrees, LoongArchRowAgrees}
-use Rattle.linker_elf.specs.Agrees.{reads_signed, is_of_halves, is_of_words}
+use Rattle.linker_elf.specs.Agrees.{bits_from, IsFieldOf, IsSameIn, InstructionAgrees, SizeAgrees, AgreesBy, AgreesInReach, RowAgrees, LoongArchRowAgrees, reads_signed, is_of_halves, is_of_words}
 use Rattle.linker_elf.specs.AArch64.{aarch64_layout, movnz, imm16_places, moved_bits, moved_value, shift_of}
 use Rattle.linker_elf.specs.AArch64Relocations.{aarch64_row}
 use Rattle.linker_elf.specs.LoongArchRelocations.{loongarch_row}
@@ -47,7 +39,6 @@ use Rattle.linker_elf.specs.declared.riscv64.relocations.RiscVRelocation.TheVari
 use Rattle.linker_elf.proofs.AArch64Forms.{movnz_machine}
 use Rattle.linker_elf.proofs.Agreement.{is_agreeing, layout_check, layout_agrees, sum_agrees, le_yes, quotient_low, quotient_high, rem_below}
 use Rattle.linker_elf.proofs.LoongArch.{shift5_places, shift10_low_sum, shift10_low_field}
-use Rattle.linker_base.proofs.ConsecutiveBits.{consecutive_bits_sum}
 
 -- ---- MOVN and MOVZ
 
@@ -85,7 +76,7 @@ moved_below : (neg : Bool) (f : ℕ) → f < 2 ^ 16 → moved_value neg (moved_b
 moved_below true f h = omega (arith, ints)
 moved_below false f h = omega (arith, ints)
 
-sign_of_quotient : (v : ℤ) (s : ℕ) → int_lt v (pos 0) ≡ int_lt (bits_from s v) (pos 0)
+pub sign_of_quotient : (v : ℤ) (s : ℕ) → int_lt v (pos 0) ≡ int_lt (bits_from s v) (pos 0)
 sign_of_quotient (pos b) s = le-ltb b 0 (omega arith) ∙ sym (le-ltb (b / 2 ^ s) 0 (omega arith))
 sign_of_quotient (negsuc b) s = refl
 
@@ -161,7 +152,7 @@ loongarch_check Shift10 true s e b a = layout_check (one_field shift10_imm16) s 
 loongarch_check Shift10 false s e b a = is_agreeing unsigned 12 0 s e b a
 loongarch_check f is_signed s e b a = is_of_words f || layout_check (loongarch_layout f) s e b a
 
-shift5_sum : (x : ℕ) → place_sum shift5_places x ≡ field x 5 25
+pub shift5_sum : (x : ℕ) → place_sum shift5_places x ≡ field x 5 25
 shift5_sum x = consecutive_bits_sum replaced 20 0 5 0 x refl ∙ omega arith
 
 loongarch_agrees : (f : LoongArch64Instruction) (is_signed : Bool) (bits : BitRange) (b : Option (ℤ × ℤ)) (a : ℕ) → loongarch_check f is_signed bits.start bits.end b a ≡ true

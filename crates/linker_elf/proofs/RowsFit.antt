@@ -1,11 +1,7 @@
 -- The bits that each row names fit its form: by comparisons of the row's numbers with the form's
 -- least width.
 use Rattle.std.proofs.Common.{◌≡◌, ℕ, ◌-◌, ◌/◌, ◌^◌, ◌≤◌, Bool, true, ◌&&◌, leb, ltb, refl, arith, Option, Some, None, IfSome}
-use Rattle.std.proofs.lemmas.Bool.{and_parts, leb-true, ltb-true}
-use Rattle.std.proofs.lemmas.Nat.{pow_pos, mod_below}
-use Rattle.linker_base.specs.Bits.{field}
-use Rattle.linker_base.specs.declared.bit_misc.BitRange.{BitRange}
-use Rattle.linker_base.proofs.Immediates.{subst_below}
+use Rattle.linker_elf.proofs.Imports.{and_parts, leb-true, ltb-true, pow_pos, mod_below, field, BitRange, subst_below}
 use Rattle.linker_elf.specs.AArch64.{aarch64_form}
 use Rattle.linker_elf.specs.AArch64Relocations.{aarch64_row}
 use Rattle.linker_elf.specs.Agrees.{TakesBits, SizeFits, RowFits}

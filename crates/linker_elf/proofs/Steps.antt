@@ -1,17 +1,14 @@
 -- Steps of bits, as the engine moves them, write places and read them.
 use Rattle.std.proofs.Common.{◌≡◌, ℕ, zero, suc, ◌+◌, ◌-◌, ◌*◌, ◌/◌, ◌%◌, ◌^◌, ◌<◌, ◌≤◌, max, true, false, not, ◌&&◌, ◌||◌, ltb, eqb, List, [], ◌∷◌, length, take, get_or, refl, sym, ◌∙◌, ap, subst, arith, ◌⊎◌, inl, inr}
-use Rattle.std.specs.Int.{bit_at, w64, rotate_left, rotate_right}
-use Rattle.std.specs.Int.RustNames.{bit_or}
-use lib.Bits.{bit_and}
-use Rattle.std.specs.List.{All, list_all}
-use Rattle.std.proofs.lemmas.Bool.{agree_below, agree_below_at, and_parts, or_cases, or_from, cases_lt, eqb-true, ltb-true, ne_eqb, not-true, cond-true, cond-false}
-use Rattle.std.proofs.lemmas.List.Elements.{All-nil, All-cons}
-use Rattle.std.proofs.lemmas.Nat.{and_le_l, mod_below, or_lt, pow_pos}
-use Rattle.std.proofs.Math.Nat.{div-le_self, mod-eq_of_lt}
-use Rattle.std.proofs.lemmas.Nat.Bits.{bit_at_and, bit_at_or, bit_at_not, bit_at_above, bit_at-lt, bit_at-zero, same_from_bits, same_from_bits_below}
-use Rattle.linker_base.specs.Form.{Mark, replaced, ored, cleared, ImmediateBit, consecutive_bits, is_of, values_apart, values_below, BitsWritten, is_placed, placed_bit, bit_for, place_sum}
-use Rattle.linker_base.proofs.Immediates.{place_sum_below, subst_below}
-use Rattle.linker_base.proofs.Fields.{bit_at_mod, bit_at_mod_above, bit_at_shr, bit_at_shl, bit_at_shl_below}
+use Rattle.linker_elf.proofs.Imports.{bit_at, w64, bit_or, bit_and, All, agree_below_at, and_parts, or_cases, cases_lt, eqb-true, ltb-true, ne_eqb, cond-true, cond-false, All-nil, All-cons, mod_below, pow_pos, mod-eq_of_lt, bit_at_and, bit_at_or, bit_at-lt, same_from_bits, Mark, replaced, ored, cleared, ImmediateBit, consecutive_bits, values_apart, values_below, BitsWritten, is_placed, placed_bit, bit_for, place_sum, place_sum_below, subst_below, bit_at_mod, bit_at_shr}
+use Rattle.std.specs.Int.{rotate_left, rotate_right}
+use Rattle.std.specs.List.{list_all}
+use Rattle.std.proofs.lemmas.Bool.{agree_below, or_from, not-true}
+use Rattle.std.proofs.lemmas.Nat.{and_le_l, or_lt}
+use Rattle.std.proofs.Math.Nat.{div-le_self}
+use Rattle.std.proofs.lemmas.Nat.Bits.{bit_at_not, bit_at_above, bit_at-zero, same_from_bits_below}
+use Rattle.linker_base.specs.Form.{is_of}
+use Rattle.linker_base.proofs.Fields.{bit_at_mod_above, bit_at_shl, bit_at_shl_below}
 use Rattle.linker_base.proofs.Places.{value_bit, bit_at-place_sum}
 use Rattle.linker_elf.specs.declared.elf.engine.Encoding.{Encoding}
 use Rattle.linker_elf.specs.declared.elf.engine.Step.{Step}

@@ -1,52 +1,11 @@
 -- The bits of a value that are written are bits of the whole number.
-use Rattle.std.proofs.Common.{IsTrue, nat_eq, bit_and, unsigned_abs}
-use Rattle.std.proofs.Common.{FitsSigned, ◌≡◌, ℕ, suc, ◌+◌, ◌-◌, ◌*◌, ◌/◌, ◌%◌, ◌^◌, ◌<◌, ◌≤◌, ◌+ℤ◌, refl, sym, ◌∙◌, ap, subst, arith, ℤ, pos, negsuc}
-use Rattle.std.specs.Int.{w64, cast_unsigned, int_rem_euclid}
-use Rattle.std.proofs.Common.{inl, inr}
-use Rattle.std.proofs.lemmas.Bool.{eqb-true, cases_lt}
-use Rattle.std.proofs.lemmas.Int.{ints, int_rem_euclid_is}
-use Rattle.std.proofs.lemmas.Nat.{pow_pos, pow-add, mod_below, div-add-mod', div-mul-add}
-use Rattle.std.proofs.lemmas.Nat.{one_shl}
-use Rattle.std.proofs.Math.Nat.{div-lt_iff_lt-mul, mod-eq_of_lt}
-use Rattle.linker_base.specs.declared.bit_misc.BitRange.{BitRange}
+use Rattle.std.proofs.Common.{IsTrue, nat_eq, bit_and, unsigned_abs, FitsSigned, ◌≡◌, ℕ, suc, ◌-◌, ◌*◌, ◌/◌, ◌%◌, ◌^◌, ◌<◌, ◌≤◌, refl, sym, ◌∙◌, ap, subst, arith, ℤ, pos, negsuc, inl, inr}
+use Rattle.linker_elf.proofs.Imports.{w64, cast_unsigned, int_rem_euclid, eqb-true, cases_lt, pow_pos, mod_below, one_shl, mod-eq_of_lt, BitRange, subst_below}
 use Rattle.linker_base.proofs.Bits.{low_mask_keeps}
-use Rattle.linker_base.proofs.Immediates.{subst_below}
 use Rattle.linker_elf.specs.Agrees.{IsFieldOf, bits_from}
 use Rattle.linker_elf.specs.Relocate.{bits_taken, IsAligned}
 use Rattle.linker_elf.proofs.Agreement.{rem_rem, from_zero}
-
--- the quotient of a complement is the complement of the quotient
-complement : (n m d q r : ℕ) → n ≡ q * d + r → r < d → q < m → m * d - suc n ≡ (m - suc q) * d + (d - suc r)
-complement n m d q r e small below =
-    let parts : m ≡ (m - suc q) + suc q = omega arith in
-    let split : m * d ≡ (m - suc q) * d + suc q * d = ap (λ x. x * d) parts ∙ right_distrib (m - suc q) (suc q) d in
-    let more : suc q * d ≡ q * d + d = turn q d in
-    omega arith
-  where
-    right_distrib : (a b d : ℕ) → (a + b) * d ≡ a * d + b * d
-    right_distrib a b d = grind arith
-
-    turn : (q d : ℕ) → suc q * d ≡ q * d + d
-    turn q d = grind arith
-
-complement_quotient : (n m s : ℕ) → n < 2 ^ (m + s) → (2 ^ (m + s) - suc n) / 2 ^ s ≡ 2 ^ m - suc (n / 2 ^ s)
-complement_quotient n m s h =
-    let d = 2 ^ s in
-    let some = pow_pos s in
-    let below : n / d < 2 ^ m = (div-lt_iff_lt-mul {k = d} {x = n} {y = 2 ^ m} some).1 (subst (λ y. n < y) (pow-add 2 m s) h) in
-    let rest = mod_below n d some in
-    let is = complement n (2 ^ m) d (n / d) (n % d) (sym (div-add-mod' n d)) rest below in
-    let left : d - suc (n % d) < d = omega arith in
-    ap (λ y. (y - suc n) / d) (pow-add 2 m s) ∙ ap (λ y. y / d) is ∙ div-mul-add (2 ^ m - suc (n / d)) d (d - suc (n % d)) left
-
-negative : (n s k m : ℕ) → m + k + s ≡ 64 → n < 2 ^ 64 → pos ((2 ^ 64 - suc n) / 2 ^ s % 2 ^ k) ≡ int_rem_euclid (negsuc (n / 2 ^ s)) (pos (2 ^ k))
-negative n s k m e small =
-    let wide : n < 2 ^ (m + k + s) = subst (λ y. n < 2 ^ y) (sym e) small in
-    let quotient : (2 ^ 64 - suc n) / 2 ^ s ≡ 2 ^ (m + k) - suc (n / 2 ^ s) = ap (λ y. (2 ^ y - suc n) / 2 ^ s) (sym e) ∙ complement_quotient n (m + k) s wide in
-    let below : n / 2 ^ s < 2 ^ (m + k) = (div-lt_iff_lt-mul {k = 2 ^ s} {x = n} {y = 2 ^ (m + k)} (pow_pos s)).1 (subst (λ y. n < y) (pow-add 2 (m + k) s) wide) in
-    let whole : negsuc (n / 2 ^ s) +ℤ pos (2 ^ m * 2 ^ k) ≡ pos (2 ^ (m + k) - suc (n / 2 ^ s)) =
-    subst (λ y. negsuc (n / 2 ^ s) +ℤ pos y ≡ pos (2 ^ (m + k) - suc (n / 2 ^ s))) (pow-add 2 m k) (omega (arith, ints)) in
-    ap (λ y. pos (y % 2 ^ k)) quotient ∙ sym (int_rem_euclid_is (negsuc (n / 2 ^ s)) (pos (2 ^ k)) (2 ^ k) (2 ^ m) (2 ^ (m + k) - suc (n / 2 ^ s)) (pow_pos k) refl whole)
+use Rattle.linker_base.proofs.TwosComplement.{negative}
 
 pub taken_is_field : (bits : BitRange) (v : ℤ) → FitsSigned w64 v → bits.start < bits.end → bits.end ≤ 64 → IsFieldOf v bits.start bits.end (bits_taken bits v)
 taken_is_field bits (pos n) h some inside = refl

@@ -1,10 +1,7 @@
 -- The value of a row by the bits that count of its formula's terms.
 use Rattle.std.proofs.Common.{◌≡◌, ℕ, ℤ, ◌-◌, ◌^◌, ◌<◌, ◌⊎◌, inl, inr, Bool, true, false, true≢false, not, ◌&&◌, ◌||◌, if◌then◌else◌, eqb, bit_and, Option, Some, None, Result, Ok, Err, refl, sym, ap, subst, ◌∙◌, arith}
-use Rattle.std.proofs.lemmas.Bool.{cases_Bool, cond-true, cond-false}
-use Rattle.std.proofs.lemmas.Nat.{and_mask}
+use Rattle.linker_elf.proofs.Imports.{cases_Bool, cond-true, cond-false, and_mask, w64, cast_signed, cast_unsigned, and_zero_r}
 use Rattle.std.proofs.lemmas.Nat.Bits.{and_high_mask}
-use Rattle.std.specs.Int.{w64, cast_signed, cast_unsigned}
-use Rattle.std.specs.Int.Bits.{and_zero_r}
 use Rattle.linker_elf.specs.Inner.RowTables.{bits_of, addend_bits, formula_of, is_set, terms_of, symbol_of, entry_of_terms, plt_of, of_entry, signed_in}
 use Rattle.linker_elf.specs.LoongArch.{high_distance, page}
 use Rattle.linker_elf.specs.Value.{sum_64, difference_64, page_if, masks_symbol, masks_entry, masks_place, masks_got, bias_number, entry_addend, symbol_term, entry_term, place_term, got_term, plt_term, size_term, sequence_pc, relative_term, formula, read_signed, names_got_entry, names_plt_entry, is_offset, loads_plt_word, completed, or_no_value, value_given, value_of, lacks, lacks_entry, lacks_tls_base}
@@ -236,7 +233,7 @@ entry_given row o terms term made is has made_is =
         → signed_in (of_entry made (entry_of_terms terms o)) ≡ signed_in (of_entry made e)
     at given = ap (λ e. signed_in (of_entry made e)) (ap (λ t. entry_of_terms t o) is ∙ given)
 
-and_false : (b : Bool) → (b && false) ≡ false
+pub and_false : (b : Bool) → (b && false) ≡ false
 and_false true = refl
 and_false false = refl
 

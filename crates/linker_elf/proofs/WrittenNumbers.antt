@@ -1,21 +1,10 @@
 -- Whole bytes hold the number that is written, modulo 2 ^ 8 for each.
-use Rattle.std.proofs.Common.{FitsSigned, ◌≡◌, ℕ, zero, suc, ◌+◌, ◌-◌, ◌*◌, ◌%◌, ◌^◌, ◌<◌, not, ltb}
-use Rattle.std.proofs.Common.{true, refl, sym, ◌∙◌, ap, arith, List, ◌++◌, drop, ℤ, pos, negsuc}
-use Rattle.std.proofs.Common.{◌+ℤ◌, ◌-ℤ◌}
-use Rattle.std.specs.Int.{w64, cast_unsigned, int_rem_euclid}
-use Rattle.std.proofs.lemmas.Bool.{and_parts, ltb-true}
-use Rattle.std.proofs.lemmas.Int.{ints, int_rem_euclid_is}
-use Rattle.linker_base.proofs.Fields.{mod_mod}
-use Rattle.linker_elf.specs.Relocate.{number_of_bytes, low_bytes, number_written, whole_number}
-use Rattle.linker_elf.specs.Relocate.{SizeNumber, IsWritten, is_supported, is_of_uleb128}
-use Rattle.linker_elf.specs.Relocate.{takes_size}
+use Rattle.std.proofs.Common.{FitsSigned, ◌≡◌, ℕ, zero, suc, ◌+◌, ◌-◌, ◌*◌, ◌%◌, ◌^◌, ◌<◌, not, ltb, true, refl, sym, ◌∙◌, ap, arith, List, ◌++◌, drop, ℤ, pos, negsuc, ◌+ℤ◌, ◌-ℤ◌}
+use Rattle.linker_elf.proofs.Imports.{w64, cast_unsigned, int_rem_euclid, and_parts, ltb-true, ints, int_rem_euclid_is, mod_mod}
+use Rattle.linker_elf.specs.Relocate.{number_of_bytes, low_bytes, number_written, whole_number, SizeNumber, IsWritten, is_supported, is_of_uleb128, takes_size}
 use Rattle.linker_elf.specs.Value.{sum_64, difference_64}
 use Rattle.linker_elf.specs.declared.elf.RelocationKind.{RelocationKind}
-use Rattle.linker_elf.specs.declared.elf.RelocationKind.TheVariants.{AbsoluteSetWord6}
-use Rattle.linker_elf.specs.declared.elf.RelocationKind.TheVariants.{AbsoluteAddition}
-use Rattle.linker_elf.specs.declared.elf.RelocationKind.TheVariants.{AbsoluteAdditionWord6}
-use Rattle.linker_elf.specs.declared.elf.RelocationKind.TheVariants.{AbsoluteSubtraction}
-use Rattle.linker_elf.specs.declared.elf.RelocationKind.TheVariants.{AbsoluteSubtractionWord6}
+use Rattle.linker_elf.specs.declared.elf.RelocationKind.TheVariants.{AbsoluteSetWord6, AbsoluteAddition, AbsoluteAdditionWord6, AbsoluteSubtraction, AbsoluteSubtractionWord6}
 use Rattle.linker_elf.specs.declared.elf.RelocationKindInfo.{RelocationKindInfo}
 use Rattle.linker_elf.specs.declared.elf.RelocationSize.{RelocationSize}
 use Rattle.linker_elf.specs.declared.elf.RelocationSize.TheVariants.{ByteSize, BitMasking}

@@ -76,7 +76,6 @@ pub use Rattle.linker_rewriting.specs.declared.groups.Scope.{Scope}
 pub use Rattle.linker_rewriting.specs.declared.groups.Scope.TheVariants.{Grouped, Independent, Labelled, NotRelaxable}
 pub use Rattle.linker_rewriting.specs.declared.groups.UnrelaxableGroups.{UnrelaxableGroups}
 pub use Rattle.linker_rewriting.specs.declared.phases.Phase.{Phase}
-pub use Rattle.linker_riscv64.proofs.Jumps.{word_of_front}
 pub use Rattle.linker_riscv64.specs.RiscVCalls.{word_at}
 pub use Rattle.linker_riscv64.specs.RiscVFields.{funct3_of, opcode_of}
 pub use Rattle.linker_runs.specs.Deleting.{deletions_of_run}
@@ -119,3 +118,4 @@ pub use Rattle.std.proofs.lemmas.List.Elements.{All-drop, All-from_get_or, All-g
 pub use Rattle.std.specs.Int.{byte_at, cast_signed, cast_unsigned, from_le_bytes, int_rem_euclid, to_le_bytes, w32, w64}
 pub use Rattle.std.specs.List.{list_all}
 pub use Rattle.std.specs.Prelude.{IsTrue, if◌then◌else◌, is_some, nat_lt, replicate, slice_get, ⊤, ◌&&◌, ◌||◌}
+pub use Rattle.linker_base.proofs.Words.{word_of_front}

@@ -1,7 +1,7 @@
 -- The value of a low part of RISC-V in the final bytes of a section: that of the high part at its
 -- label.
 use Rattle.std.proofs.Common.{◌≡◌, ℕ, ℤ, ◌/◌, ◌<◌, List, length, take, drop, Bool, true, false, cond, refl, sym, ap, subst, ◌∙◌, inl, inr, arith, ltb, Option, Some, None, Ok, Err, Result, IsSomeAnd}
-use Rattle.linker_final.proofs.Imports.{cases_eq, cases_lt, cond-true, cond-false, ltb-true, slice_get, ⊤, ◌&&◌, ◌||◌, size_len, window_len, value_of, difference_64, RelocationKind, RelocationKindInfo, BitMasking, Operands, UType, one_row, one_info, Composes, IsField, begins_pair, continues, ends_pair, field_len, is_of_pair, of_number, of_pair, uleb_len, relocation_in, IsRowValue, IsValueBy, IsValueIn, has_value, names_label, offset_at, operands_of, Addresses, Symbol, Rela, ValueError, IsRow, Architecture}
+use Rattle.linker_final.proofs.Imports.{cases_eq, cases_lt, cond-true, cond-false, ltb-true, slice_get, ⊤, size_len, window_len, value_of, difference_64, RelocationKind, RelocationKindInfo, BitMasking, Operands, UType, one_row, one_info, Composes, IsField, begins_pair, continues, ends_pair, field_len, is_of_pair, of_number, of_pair, uleb_len, relocation_in, IsRowValue, IsValueBy, IsValueIn, has_value, names_label, offset_at, operands_of, Addresses, Symbol, Rela, ValueError, IsRow, Architecture}
 use Rattle.linker_elf.specs.declared.elf.RelocationInstruction.TheVariants.{RiscV}
 use Rattle.linker_elf.specs.declared.elf.RelocationKind.TheVariants as kinds
 use Rattle.linker_elf.specs.declared.elf.RelocationSize.{RelocationSize}
@@ -10,13 +10,9 @@ use Rattle.linker_section.specs.Fields.{AreApart}
 use Rattle.linker_section.specs.Relocations.{relocation_at}
 use Rattle.linker_section.specs.Values.{IsHighPartAt, IsLowValue, is_auipc, is_high_kind, is_high_part, low_by, low_operands, low_value}
 use Rattle.linker_section.specs.declared.values.ValueError.TheVariants.{NoHighPart}
+use Rattle.std.proofs.lemmas.Bool.{and_parts, or_from}
 
 -- ---- high parts
-
-both : (a b : Bool) → (a && b) ≡ true → (a ≡ true) × (b ≡ true)
-both true true is = (refl, refl)
-both true false is = absurd (let e : false ≡ true = is in cc)
-both false b is = absurd (let e : false ≡ true = is in cc)
 
 -- what an `auipc` has
 pub record IsUpper (size : RelocationSize) : Type 0 where
@@ -46,13 +42,10 @@ abbrev pub IsHigh : RelocationKindInfo → Type 0
 IsHigh row = is_high_part kinds.RelativeRiscVLow12 (Some row) ≡ true
 
 high_size : (row : RelocationKindInfo) → IsHigh row → IsUpper row.size
-high_size row is = upper row.size ((both (is_auipc row.size) (is_high_kind kinds.RelativeRiscVLow12 row.kind) is).0)
+high_size row is = upper row.size ((and_parts (is_auipc row.size) (is_high_kind kinds.RelativeRiscVLow12 row.kind) is).0)
 
 high_kind : (row : RelocationKindInfo) → IsHigh row → IsOfHigh row.kind
-high_kind row is = of_high row.kind ((both (is_auipc row.size) (is_high_kind kinds.RelativeRiscVLow12 row.kind) is).1)
-
-neither : (a b : Bool) → a ≡ false → b ≡ false → (a || b) ≡ false
-neither a b first second = ap (λ x. x || b) first ∙ second
+high_kind row is = of_high row.kind ((and_parts (is_auipc row.size) (is_high_kind kinds.RelativeRiscVLow12 row.kind) is).1)
 
 high_len : (row : RelocationKindInfo) (there : List ℕ) → IsHigh row → field_len row there ≡ 4
 high_len row there is =
@@ -60,7 +53,7 @@ high_len row there is =
     let kind = high_kind row is in
     cond-true (has_value row.kind) (cond (is_of_pair row) (uleb_len (take 10 there)) (window_len row)) 0 kind.valued
     ∙ (cond-false (is_of_pair row) (uleb_len (take 10 there)) (window_len row)
-    (neither (begins_pair row.size row.kind) (ends_pair row.size row.kind) (size.begins_none row.kind) (size.ends_none row.kind))
+    (or_from (begins_pair row.size row.kind) (ends_pair row.size row.kind) (size.begins_none row.kind) (size.ends_none row.kind))
     ∙ size.len)
 
 -- nothing composes with one

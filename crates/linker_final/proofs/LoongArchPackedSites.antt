@@ -1,6 +1,6 @@
 -- LoongArch: what sites do in the final bytes of a packed section.
 use Rattle.std.proofs.Common.{◌≡◌, ◌≢◌, ℕ, ◌+◌, ◌/◌, ◌^◌, ◌<◌, ◌≤◌, inl, inr, Bool, true, false, not, eqb, if◌then◌else◌, List, [], ◌∷◌, length, take, drop, IsSomeAnd, refl, sym, ap, subst, ◌∙◌, arith, pos, ◌+ℤ◌, ◌*ℤ◌, ℤ, Some}
-use Rattle.linker_final.proofs.Imports.{cond-true, cond-false, or_parts, drop-drop, length-drop, All-drop, All-take, field, signed, IsApplied, loongarch_form, loongarch_row, IsWritten, sum_64, AbsoluteLowPart, BitMasking, Operands, Branch26, Shift10, word_below, Fits32, IsRelocated, IsRewritten, pair, Relocated, loaded, wrapped, AreAddresses, IsAddress, plt_address, symbol_address, IsLd, rd_of, rj_of, word_of_front, destination, SiteBecomes}
+use Rattle.linker_final.proofs.Imports.{cond-false, or_parts, drop-drop, length-drop, All-drop, All-take, field, signed, IsApplied, loongarch_form, loongarch_row, IsWritten, sum_64, AbsoluteLowPart, BitMasking, Operands, Branch26, Shift10, word_below, Fits32, IsRelocated, IsRewritten, pair, Relocated, loaded, wrapped, AreAddresses, IsAddress, plt_address, symbol_address, IsLd, rd_of, rj_of, destination, SiteBecomes, word_of_front}
 use Rattle.std.proofs.lemmas.Bool.{ne_eqb}
 use Rattle.std.specs.Prelude.{◌==◌}
 use Rattle.linker_elf.proofs.Relocated.{plain_written}
@@ -16,11 +16,11 @@ use Rattle.linker_final.specs.LoongArchPacked.{CallsTheSame, AddressesAreMade, L
 use Rattle.linker_final.specs.Packed.{Packed, IsPacked, IsSiteOf, site_after, site_bytes, site_len, site_offset, site_place, site_target}
 use Rattle.linker_laws.proofs.AArch64Pairs.{word_made}
 use Rattle.linker_laws.proofs.AArch64Steps.{address_is}
-use Rattle.linker_laws.proofs.LoongArchCalls.{call_is, new_first, new_second, not_higher, target_is}
+use Rattle.linker_laws.proofs.LoongArchCalls.{call_is, new_first, new_second, target_is, decodes_far, decodes_jirl, decodes_b, decodes_bl}
 use Rattle.linker_laws.proofs.LoongArchPairs.{Adds, Loads, adds, loads, nears}
 use Rattle.linker_laws.proofs.LoongArchSteps.{ends_so, loaded_of, read_back, run_pair, set}
 use Rattle.linker_laws.proofs.LoongArchWords.{high_after, low_after}
-use Rattle.linker_laws.specs.LoongArchMachine.{AreAlikeBut, EndSo, State, b, bl, branch_target, decode, execute, far_address, go_on, go_to, jirl, near_address, next_pc, page_address, pcaddu_18, read, register_target, run, step, sum_of, with_register, write}
+use Rattle.linker_laws.specs.LoongArchMachine.{AreAlikeBut, EndSo, State, branch_target, execute, far_address, go_on, go_to, near_address, next_pc, page_address, read, register_target, run, step, sum_of, with_register, write}
 use Rattle.linker_laws.specs.LoongArchRelocationLaws as relocation_laws
 use Rattle.linker_laws.specs.LoongArchRewriteLaws.{HaveCalled, HaveMade, LoadsEntry, following, no_register, word_of}
 use Rattle.linker_laws.specs.Schemes.{entry_and_addend}
@@ -126,27 +126,6 @@ both_make old new n value new_value following new_after s t alike one other =
       next = one.next;
       new_next = other.next;
     })
-
--- ---- which instruction a word is
-
-decodes_far : (x : ℕ) → x / 2 ^ 25 ≡ 0x0f → decode x ≡ pcaddu_18
-decodes_far x op =
-    cond-false _ _ _ (ap (λ t. eqb t 0x0d) op) ∙ cond-false _ _ _ (ap (λ t. eqb t 0x0c) op)
-    ∙ cond-true _ _ _ (ap (λ t. eqb t 0x0f) op)
-
-decodes_jirl : (x : ℕ) → x / 2 ^ 26 ≡ 0x13 → decode x ≡ jirl
-decodes_jirl x op =
-    not_higher x 0x13 op (omega arith) (omega arith) _ _ _ _ _ _ _ _ ∙ cond-true _ _ _ (ap (λ t. eqb t 0x13) op)
-
-decodes_b : (x : ℕ) → x / 2 ^ 26 ≡ 0x14 → decode x ≡ b
-decodes_b x op =
-    not_higher x 0x14 op (omega arith) (omega arith) _ _ _ _ _ _ _ _
-    ∙ cond-false _ _ _ (ap (λ t. eqb t 0x13) op) ∙ cond-true _ _ _ (ap (λ t. eqb t 0x14) op)
-
-decodes_bl : (x : ℕ) → x / 2 ^ 26 ≡ 0x15 → decode x ≡ bl
-decodes_bl x op =
-    not_higher x 0x15 op (omega arith) (omega arith) _ _ _ _ _ _ _ _
-    ∙ cond-false _ _ _ (ap (λ t. eqb t 0x13) op) ∙ cond-false _ _ _ (ap (λ t. eqb t 0x14) op) ∙ cond-true _ _ _ (ap (λ t. eqb t 0x15) op)
 
 -- ---- `pcaddu18i` and `jirl`
 

@@ -1,72 +1,22 @@
 -- The rewrite that is chosen for a relocation of PowerPC64.
 use Rattle.std.proofs.Common.{◌≡◌, ℕ, ◌<◌, List, [], ◌∷◌, true, false, refl, sym, ap, subst, ◌∙◌, inl, inr}
-use Rattle.linker_final.proofs.Imports.{choice, IsNameOf, code_of, ppc64_name, Choice, LinkFacts, Ppc64Relocation, chosen_at, IsOfApplied, of_first, ppc64_entries, ppc64_matches, decision_at, IsScopeIn, ppc64_scope_in, is_labelled, Rewritten, Scope, Labelled, Phase, relocation_in, IsArchitectureChoice, relaxation_no_op, Relaxation, Ppc64}
+use Rattle.linker_final.proofs.Imports.{choice, IsNameOf, code_of, ppc64_name, Choice, LinkFacts, Ppc64Relocation, chosen_at, IsOfApplied, of_first, ppc64_entries, ppc64_matches, decision_at, IsScopeIn, is_labelled, Rewritten, Scope, Labelled, Phase, relocation_in, IsArchitectureChoice, relaxation_no_op, Relaxation, Ppc64}
 use Rattle.linker_elf.specs.Choices.{Entry}
-use Rattle.linker_elf.specs.declared.ppc64.relocations.Ppc64Relocation.TheVariants as names
 use Rattle.linker_rewriting.proofs.Entries.{IsOfEntry as IsOfEntryIn, IsOfOne as IsOfOneIn}
 use Rattle.linker_final.specs.Final.{IsLinked, Linked, count}
 use Rattle.linker_utils.specs.Ppc64Rewrites.{Ppc64Applies}
 use Rattle.linker_utils.specs.declared.ppc64.rewrites.RewriteKind.{RewriteKind}
 use Rattle.linker_utils.specs.declared.ppc64.rewrites.RewriteKind.TheVariants as kinds
-use Rattle.linker_rewriting.specs.Groups.{ppc64_scope}
-use Rattle.linker_rewriting.specs.declared.phases.Phase.TheVariants as phases
 use Rattle.linker_utils.specs.declared.architecture.Relaxation.TheVariants as relaxations
+use Rattle.linker_rewriting.proofs.LabelGroups.{ppc64_none}
 
 -- ---- scopes
-
-early_unlabelled : (name : Ppc64Relocation) → is_labelled (ppc64_scope name) ≡ false
-early_unlabelled names.R_PPC64_REL24 = refl
-early_unlabelled names.R_PPC64_GOT_PCREL34 = refl
-early_unlabelled names.R_PPC64_GOT16 = refl
-early_unlabelled names.R_PPC64_GOT16_DS = refl
-early_unlabelled names.R_PPC64_GOT16_LO = refl
-early_unlabelled names.R_PPC64_GOT16_LO_DS = refl
-early_unlabelled names.R_PPC64_GOT16_HI = refl
-early_unlabelled names.R_PPC64_GOT16_HA = refl
-early_unlabelled names.R_PPC64_GOT_TPREL16_DS = refl
-early_unlabelled names.R_PPC64_GOT_TPREL16_LO_DS = refl
-early_unlabelled names.R_PPC64_GOT_TPREL16_HI = refl
-early_unlabelled names.R_PPC64_GOT_TPREL16_HA = refl
-early_unlabelled names.R_PPC64_GOT_TPREL_PCREL34 = refl
-early_unlabelled names.R_PPC64_TLS = refl
-early_unlabelled names.R_PPC64_GOT_TLSGD16 = refl
-early_unlabelled names.R_PPC64_GOT_TLSGD16_LO = refl
-early_unlabelled names.R_PPC64_GOT_TLSGD16_HI = refl
-early_unlabelled names.R_PPC64_GOT_TLSGD16_HA = refl
-early_unlabelled names.R_PPC64_GOT_TLSGD_PCREL34 = refl
-early_unlabelled names.R_PPC64_TLSGD = refl
-early_unlabelled names.R_PPC64_GOT_TLSLD16 = refl
-early_unlabelled names.R_PPC64_GOT_TLSLD16_LO = refl
-early_unlabelled names.R_PPC64_GOT_TLSLD16_HI = refl
-early_unlabelled names.R_PPC64_GOT_TLSLD16_HA = refl
-early_unlabelled names.R_PPC64_GOT_TLSLD_PCREL34 = refl
-early_unlabelled names.R_PPC64_TLSLD = refl
-early_unlabelled name = refl
-
-offsets_unlabelled : (name : Ppc64Relocation) → is_labelled (ppc64_scope_in phases.TlsLocalExec name) ≡ false
-offsets_unlabelled names.R_PPC64_TPREL16_HA = refl
-offsets_unlabelled names.R_PPC64_TPREL16_LO = refl
-offsets_unlabelled names.R_PPC64_TPREL16_LO_DS = refl
-offsets_unlabelled name = refl
-
-distances_unlabelled : (name : Ppc64Relocation) → is_labelled (ppc64_scope_in phases.ShortPcRel name) ≡ false
-distances_unlabelled names.R_PPC64_TOC16_HA = refl
-distances_unlabelled names.R_PPC64_TOC16_LO = refl
-distances_unlabelled names.R_PPC64_TOC16_LO_DS = refl
-distances_unlabelled name = refl
-
-unlabelled_in : (phase : Phase) (name : Ppc64Relocation)
-    → is_labelled (ppc64_scope_in phase name) ≡ false
-unlabelled_in phases.PreLayout name = early_unlabelled name
-unlabelled_in phases.TlsLocalExec name = offsets_unlabelled name
-unlabelled_in phases.GotToPcRel name = refl
-unlabelled_in phases.ShortPcRel name = distances_unlabelled name
 
 -- PowerPC64 has no labels
 pub unlabelled : (phase : Phase) (code : ℕ) (scope : Scope) → IsScopeIn Ppc64 phase code scope
     → scope ≡ Labelled → ⊥
 unlabelled phase code scope is labelled =
-    let no : is_labelled scope ≡ false = ap is_labelled is.value_is ∙ unlabelled_in phase is.name in
+    let no : is_labelled scope ≡ false = ap is_labelled is.value_is ∙ ppc64_none phase is.name in
     let yes : is_labelled scope ≡ true = ap is_labelled labelled in
     let e : true ≡ false = sym yes ∙ no in cc
 

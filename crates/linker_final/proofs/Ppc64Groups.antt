@@ -1,6 +1,6 @@
 -- Each rewritten instruction of PowerPC64 is a group.
 use Rattle.std.proofs.Common.{◌≡◌, ◌⊎◌, ℕ, Bool, ◌+◌, ◌-◌, ◌*◌, ◌^◌, ◌<◌, ◌≤◌, List, [], ◌∷◌, length, drop, take, get_or, refl, sym, ap, subst, ◌∙◌, arith, inl, inr, Some, not, eqb, IsSomeAnd, None}
-use Rattle.linker_final.proofs.Imports.{and_parts, cases_lt, drop-drop, get_or_past, length-drop, take-take, All-drop, All-take, All-get_or, IsTrue, ◌&&◌, slice_get, w32, from_le_bytes, to_le_bytes, byte_at, Rewrite, replaces, entry, IsNamed, IsNameOf, code_of, ppc64_name, ppc64_row, sum_64, Ppc64, Choice, Ppc64Relocation, word_of_front, word_below, window_of_rewrite, decision_at, Rewritten, relocation_in, operands_with, Symbol, Rela, HasTest, ppc64_entries, ppc64_matches, ppc64_rewrite, rewrites_marked, relaxation_rewrite, Relaxation}
+use Rattle.linker_final.proofs.Imports.{and_parts, cases_lt, drop-drop, get_or_past, length-drop, take-take, All-drop, All-take, All-get_or, IsTrue, ◌&&◌, slice_get, w32, from_le_bytes, to_le_bytes, byte_at, Rewrite, replaces, entry, IsNamed, IsNameOf, code_of, ppc64_name, ppc64_row, sum_64, Ppc64, Choice, Ppc64Relocation, word_below, window_of_rewrite, decision_at, Rewritten, relocation_in, operands_with, Symbol, Rela, HasTest, ppc64_entries, ppc64_matches, ppc64_rewrite, rewrites_marked, relaxation_rewrite, Relaxation, word_of_front}
 use Rattle.std.proofs.lemmas.Nat.{le_bytes_4}
 use Rattle.linker_elf.specs.Choices.{changed_toc}
 use Rattle.linker_elf.specs.declared.ppc64.relocations.Ppc64Relocation.TheVariants as names

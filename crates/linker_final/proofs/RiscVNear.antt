@@ -11,21 +11,22 @@ use Rattle.linker_laws.specs.RiscVMachine.{auipc, goes_to, lui, with_integer, ad
 use Rattle.linker_laws.specs.RiscVRewriteLaws.{low_row, word_of}
 use Rattle.linker_laws.specs.RiscVRelocationLaws.{AbsoluteAddresses, RelativeAddresses}
 use Rattle.linker_laws.proofs.RiscVHighParts.{IsFormulaOf, of_address}
-use Rattle.linker_laws.proofs.Instructions.{unbiased}
 use Rattle.linker_laws.proofs.RiscVDescriptors.{lui_word, upper_long, upper_word}
 use Rattle.linker_laws.proofs.RiscVGroups.{absolute_rows, based_group, below_32, nothing_left, puts, row_of, word_goes}
 use Rattle.linker_laws.proofs.RiscVLowParts.{based_there, i_stands, low_sum, some_action}
 use Rattle.linker_laws.proofs.RiscVMachine.{moved_twice, written}
 use Rattle.linker_laws.specs.RiscVGroups.{Has, machine, seen}
-use Rattle.linker_laws.proofs.Sums.{sum_below}
 use Rattle.linker_final.specs.RiscVNear.{AuipcGoes, FromBase, LowPartsFromBase, LuiGoes, PartsFromBase, ValuesAreDistances, after_base, distance, labelled_row}
+use Rattle.std.proofs.lemmas.Option.{same_Some}
+use Rattle.linker_elf.proofs.Entries.{sum_below}
+use Rattle.linker_laws.proofs.Sums.{sum_zero}
 
 -- ---- low parts
 
 of_distance : IsFormulaOf RelativeRiscVLow12 distance
 of_distance = (
   λ form x. ap (λ n. Some (cast_signed w64 (difference_64 n x.place)))
-      (unbiased (symbol_address x) (sum_below x.symbol _)),
+      (sum_zero (symbol_address x) (sum_below x.symbol _)),
   λ x. omega arith,
 )
 
@@ -47,18 +48,15 @@ pub record IsBase (gp s : ℕ) (base : ℕ × ℕ) : Type 0 where
   pub below : base.1 < 2 ^ 64
   pub near : is_near (base.1) s ≡ true
 
-some_base : (x y : ℕ × ℕ) → Some x ≡ Some y → x ≡ y
-some_base x y is = cc
-
 base_by_tests : (gp s : ℕ) (zero_near gp_near : Bool) (base : ℕ × ℕ) → gp < 2 ^ 64
     → is_near 0 s ≡ zero_near → is_near gp s ≡ gp_near
     → (if zero_near then Some (0, 0) else (if gp_near then Some (3, gp) else None)) ≡ Some base
     → IsBase gp s base
 base_by_tests gp s true gp_near base small zero_is gp_is is =
-    subst (IsBase gp s) (some_base (0, 0) base is)
+    subst (IsBase gp s) (same_Some (0, 0) base is)
     (record { small = omega arith; below = omega arith; near = zero_is })
 base_by_tests gp s false true base small zero_is gp_is is =
-    subst (IsBase gp s) (some_base (3, gp) base is)
+    subst (IsBase gp s) (same_Some (3, gp) base is)
     (record { small = omega arith; below = small; near = gp_is })
 base_by_tests gp s false false base small zero_is gp_is is =
     absurd (let e : None ≡ Some base = is in cc)

@@ -1,6 +1,6 @@
 -- Instructions and their relocations in the bytes that rewrites leave, and in the final bytes.
 use Rattle.std.proofs.Common.{◌≡◌, ℕ, ℤ, ◌+◌, ◌-◌, ◌/◌, ◌<◌, ◌≤◌, ◌⊎◌, List, length, take, drop, sym, ap, subst, ◌∙◌, refl, inl, inr, arith, Option, Some, None, IsSomeAnd, Ok, Err, Result, true}
-use Rattle.linker_final.proofs.Imports.{cases_eq, cases_lt, cases_Bool, cond-true, cond-false, take-take, drop-drop, w32, from_le_bytes, slice_get, Rewrite, addend_after, offset_after, window_of_rewrite, RewriteWindow, IsApplied, IsNamed, code_of, bytes_row, value_of, RelocationKindInfo, Choice, Operands, word_of_front, decision_at, window_of, written_end_at, IsDone, IsMade, relocation_after, Decision, Rewritten, IsField, field_end, field_len, entry_of, relocation_in, IsInNoField, IsRowValue, IsValueBy, IsValueIn, entry_address, has_value, is_there, lacks_origin, value_by, offset_at, operands_by, operands_in, operands_of, operands_with, Addresses, Symbol, Entry, Rela, ValueError, NoEntry, IsRow, relaxation_rewrite, Relaxation, Architecture}
+use Rattle.linker_final.proofs.Imports.{cases_eq, cases_lt, cases_Bool, cond-true, cond-false, take-take, drop-drop, w32, from_le_bytes, slice_get, Rewrite, addend_after, offset_after, window_of_rewrite, RewriteWindow, IsApplied, IsNamed, code_of, bytes_row, value_of, RelocationKindInfo, Choice, Operands, decision_at, window_of, written_end_at, IsDone, IsMade, relocation_after, Decision, Rewritten, IsField, field_end, field_len, entry_of, relocation_in, IsInNoField, IsRowValue, IsValueBy, IsValueIn, entry_address, has_value, is_there, lacks_origin, value_by, offset_at, operands_by, operands_in, operands_of, operands_with, Addresses, Symbol, Entry, Rela, ValueError, NoEntry, IsRow, relaxation_rewrite, Relaxation, Architecture, word_of_front}
 use Rattle.std.proofs.lemmas.List.{drop-take}
 use Rattle.linker_elf.specs.ElfNames.{ElfName}
 use Rattle.linker_elf.specs.declared.elf.RelocationKind.TheVariants.{None as NoValue}

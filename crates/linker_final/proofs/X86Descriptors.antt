@@ -9,7 +9,7 @@ use Rattle.linker_final.proofs.X86Chosen.{IsOfTable}
 use Rattle.linker_final.proofs.PutBack.{same_windows}
 use Rattle.linker_final.proofs.X86Finals.{final_is, some_and}
 use Rattle.linker_final.proofs.X86Lawful.{AreOf, shaped_of}
-use Rattle.linker_final.proofs.X86Patterns.{of_or, or_first, or_second, there_inside}
+use Rattle.linker_final.proofs.X86Patterns.{there_inside}
 use Rattle.linker_final.proofs.X86Rows.{tpoff32}
 use Rattle.linker_final.proofs.X86ThreadEntries.{entry_final}
 use Rattle.linker_final.proofs.X86Windows.{HasRewrite, IsLawful, LawAt, StandsThere, object_bytes, object_has, object_length, object_matches, object_same, of_field, of_row, offset_small, unrelocated}
@@ -20,6 +20,7 @@ use Rattle.linker_laws.specs.X86Groups.{Code, LeaToEntry, LeaToOffset, Stands}
 use Rattle.linker_utils.specs.declared.architecture.Relaxation.TheVariants as relaxations
 use Rattle.linker_utils.specs.X86Rewrites.{any_entry, descriptor_table, lea_of_descriptor, rex2_w, rex_mov, rex_w, unrelocated_by, with_rex, with_rex2}
 use Rattle.linker_utils.specs.declared.x86_64.rewrites.RewriteKind.TheVariants as kinds
+use Rattle.std.proofs.lemmas.Bool.{or_cases, or_left, or_right}
 
 -- ---- the `lea`
 
@@ -145,8 +146,8 @@ module _ (n : ℕ) (three : 3 ≤ n) (name : X86_64Relocation) (named : IsNamed 
 -- an instruction that is one of one is one of two
 first : (a b : Bool) → (a || false) ≡ true → (a || b) ≡ true
 first a b is =
-    elim (of_or a false is) [
-      | inl this ↦ or_first a b this
+    elim (or_cases a false is) [
+      | inl this ↦ or_left a b this
       | inr none ↦ absurd (let e : false ≡ true = none in cc)
     ]
 
@@ -171,7 +172,7 @@ module _ (law : groups.LeaOfDescriptor) (l : Linked) (linked : IsLinked l) (x86 
     with_rex2_is_lawful is_name =
         lea_is_lawful 4 (omega arith) names.R_X86_64_CODE_4_GOTPC32_TLSDESC tt refl reg_after_rex2 ((refl, refl), tt)
         (λ bytes o is. is)
-        (λ bytes o is. or_second (is_at (with_rex rex_w 0x8d) bytes o) (is_at (with_rex2 rex2_w 0x8d) bytes o || false) is)
+        (λ bytes o is. or_right (is_at (with_rex rex_w 0x8d) bytes o) (is_at (with_rex2 rex2_w 0x8d) bytes o || false) is)
         refl refl (law.2) (law.3) l linked x86 i chosen below is_name decided refl (omega arith)
 
 -- ---- the call

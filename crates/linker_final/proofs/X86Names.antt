@@ -2,8 +2,7 @@
 use Rattle.std.proofs.Common.{◌≡◌, ℕ, true, false, refl, sym, ap, ◌∙◌, Option, Some, None}
 use Rattle.linker_final.proofs.Imports.{IsNamed, code_of, x86_64_name, Operands, X86_64Relocation, address, thread_offset, IsScopeIn, is_labelled, Scope, Labelled, Phase, is_of_got, X86_64}
 use Rattle.linker_elf.specs.declared.x86_64.relocations.X86_64Relocation.TheVariants as names
-use Rattle.linker_rewriting.specs.Groups.{x86_64_scope_in}
-use Rattle.linker_rewriting.specs.declared.phases.Phase.TheVariants as phases
+use Rattle.linker_rewriting.proofs.LabelGroups.{x86_64_none}
 
 -- how many bytes of an instruction are before the field of its operand's distance, and what the
 -- operand's entry in the GOT holds
@@ -44,39 +43,10 @@ got_name name operand is = absurd (let e : None ≡ Some operand = is in cc)
 
 -- ---- scopes
 
-early_unlabelled : (name : X86_64Relocation) → is_labelled (x86_64_scope_in phases.PreLayout name) ≡ false
-early_unlabelled names.R_X86_64_GOTPCREL = refl
-early_unlabelled names.R_X86_64_GOTPCRELX = refl
-early_unlabelled names.R_X86_64_REX_GOTPCRELX = refl
-early_unlabelled names.R_X86_64_CODE_4_GOTPCRELX = refl
-early_unlabelled names.R_X86_64_CODE_5_GOTPCRELX = refl
-early_unlabelled names.R_X86_64_CODE_6_GOTPCRELX = refl
-early_unlabelled names.R_X86_64_GOTTPOFF = refl
-early_unlabelled names.R_X86_64_CODE_4_GOTTPOFF = refl
-early_unlabelled names.R_X86_64_CODE_5_GOTTPOFF = refl
-early_unlabelled names.R_X86_64_CODE_6_GOTTPOFF = refl
-early_unlabelled names.R_X86_64_TLSGD = refl
-early_unlabelled names.R_X86_64_TLSLD = refl
-early_unlabelled names.R_X86_64_DTPOFF32 = refl
-early_unlabelled names.R_X86_64_DTPOFF64 = refl
-early_unlabelled names.R_X86_64_GOTPC32_TLSDESC = refl
-early_unlabelled names.R_X86_64_CODE_4_GOTPC32_TLSDESC = refl
-early_unlabelled names.R_X86_64_CODE_5_GOTPC32_TLSDESC = refl
-early_unlabelled names.R_X86_64_CODE_6_GOTPC32_TLSDESC = refl
-early_unlabelled names.R_X86_64_TLSDESC_CALL = refl
-early_unlabelled name = refl
-
-unlabelled_in : (phase : Phase) (name : X86_64Relocation)
-    → is_labelled (x86_64_scope_in phase name) ≡ false
-unlabelled_in phases.PreLayout name = early_unlabelled name
-unlabelled_in phases.TlsLocalExec name = refl
-unlabelled_in phases.GotToPcRel name = refl
-unlabelled_in phases.ShortPcRel name = refl
-
 -- x86-64 has no labels
 pub unlabelled : (phase : Phase) (code : ℕ) (scope : Scope) → IsScopeIn X86_64 phase code scope
     → scope ≡ Labelled → ⊥
 unlabelled phase code scope is labelled =
-    let no : is_labelled scope ≡ false = ap is_labelled is.value_is ∙ unlabelled_in phase is.name in
+    let no : is_labelled scope ≡ false = ap is_labelled is.value_is ∙ x86_64_none phase is.name in
     let yes : is_labelled scope ≡ true = ap is_labelled labelled in
     let e : true ≡ false = sym yes ∙ no in cc

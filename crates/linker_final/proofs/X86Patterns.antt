@@ -1,26 +1,10 @@
 -- What stands at an instruction's bytes stands wherever the same bytes are.
-use Rattle.std.proofs.Common.{◌≡◌, ℕ, suc, ◌+◌, ◌-◌, ◌<◌, ◌≤◌, ◌⊎◌, List, [], ◌∷◌, length, drop, get_or, Bool, true, false, ◌&&◌, ◌||◌, IsTrue, eqb, leb, refl, sym, ap, ◌∙◌, inl, inr, arith}
-use Rattle.std.proofs.lemmas.Bool.{and_parts, leb-true}
+use Rattle.std.proofs.Common.{◌≡◌, ℕ, suc, ◌+◌, ◌-◌, ◌<◌, ◌≤◌, List, [], ◌∷◌, length, drop, get_or, true, false, IsTrue, eqb, leb, refl, sym, ap, ◌∙◌, inl, inr, arith}
+use Rattle.std.proofs.lemmas.Bool.{and_parts, leb-true, or_cases, and_from, or_left, or_right}
 use Rattle.std.proofs.lemmas.List.{length-drop, get_or-drop}
 use Rattle.std.specs.Prelude.{bit_and}
 use Rattle.linker_final.proofs.X86Lawful.{AreOf, HasShape, HaveShape}
 use Rattle.linker_utils.specs.X86Rewrites.{Original, is_one_at, is_at, begins}
-
-both : (a b : Bool) → a ≡ true → b ≡ true → (a && b) ≡ true
-both true b is too = too
-both false b is too = is
-
-pub of_or : (a b : Bool) → (a || b) ≡ true → (a ≡ true) ⊎ (b ≡ true)
-of_or true b is = inl refl
-of_or false b is = inr is
-
-pub or_first : (a b : Bool) → a ≡ true → (a || b) ≡ true
-or_first true b is = refl
-or_first false b is = absurd (let e : false ≡ true = is in cc)
-
-pub or_second : (a b : Bool) → b ≡ true → (a || b) ≡ true
-or_second true b is = refl
-or_second false b is = is
 
 begins_same : (ps : List (ℕ × ℕ)) (xs ys : List ℕ) → length ys ≡ length xs
     → ((k : ℕ) → k < length ps → get_or xs k 0 ≡ get_or ys k 0)
@@ -31,7 +15,7 @@ begins_same (p ∷ ps) (x ∷ xs) [] long same is = absurd (omega (arith, long))
 begins_same (p ∷ ps) (x ∷ xs) (y ∷ ys) long same is =
     let parts = and_parts (eqb (bit_and x (p.0)) (p.1)) (begins ps xs) is in
     let head : x ≡ y = same 0 (omega arith) in
-    both (eqb (bit_and y (p.0)) (p.1)) (begins ps ys)
+    and_from (eqb (bit_and y (p.0)) (p.1)) (begins ps ys)
     (ap (λ z. eqb (bit_and z (p.0)) (p.1)) (sym head) ∙ parts.0)
     (begins_same ps xs ys (omega (arith, long)) (λ k below. same (suc k) (omega (arith, below))) (parts.1))
 
@@ -48,7 +32,7 @@ pub there_inside : (n end : ℕ) → 0 < end → (rs : List Original) (section :
     → IsTrue (is_one_at rs section o) → (n ≤ o) × (o + end ≤ length section)
 there_inside n end some [] section o are is = absurd (let e : false ≡ true = is in cc)
 there_inside n end some (r ∷ rs) section o are is =
-    elim (of_or (is_at r section o) (is_one_at rs section o) is) [
+    elim (or_cases (is_at r section o) (is_one_at rs section o) is) [
       | inl this ↦
           let parts = and_parts (leb r.back o) (begins r.bytes (drop (o - r.back) section)) this in
           let starts = leb-true r.back o (parts.0) in
@@ -71,7 +55,7 @@ module _ (n end o : ℕ) (section others : List ℕ) (same_length : length other
       let long = shape.1 in
       let ls = length-drop (o - r.back) section in
       let lo = length-drop (o - r.back) others in
-      both (leb r.back o) (begins r.bytes (drop (o - r.back) others)) (parts.0)
+      and_from (leb r.back o) (begins r.bytes (drop (o - r.back) others)) (parts.0)
       (begins_same r.bytes (drop (o - r.back) section) (drop (o - r.back) others)
       (omega (arith, ls, lo, same_length))
       (λ k below.
@@ -84,8 +68,8 @@ module _ (n end o : ℕ) (section others : List ℕ) (same_length : length other
       → IsTrue (is_one_at rs others o)
   one_same [] shape is = is
   one_same (r ∷ rs) shape is =
-      elim (of_or (is_at r section o) (is_one_at rs section o) is) [
-        | inl this ↦ or_first (is_at r others o) (is_one_at rs others o) (at_same r (shape.0) this)
+      elim (or_cases (is_at r section o) (is_one_at rs section o) is) [
+        | inl this ↦ or_left (is_at r others o) (is_one_at rs others o) (at_same r (shape.0) this)
         | inr other ↦
-            or_second (is_at r others o) (is_one_at rs others o) (one_same rs (shape.1) other)
+            or_right (is_at r others o) (is_one_at rs others o) (one_same rs (shape.1) other)
       ]

@@ -1,5 +1,5 @@
 -- Offsets in a module's block that became offsets from the thread pointer lead to the same address.
-use Rattle.std.proofs.Common.{◌≡◌, ℕ, ◌+◌, ◌-◌, ◌/◌, ◌^◌, ◌<◌, ◌≤◌, ◌⊎◌, List, length, take, drop, false, true, refl, sym, ap, subst, ◌∙◌, inl, inr, arith, cond, Some, Ok}
+use Rattle.std.proofs.Common.{◌≡◌, ℕ, ◌+◌, ◌-◌, ◌/◌, ◌^◌, ◌<◌, ◌≤◌, ◌⊎◌, List, length, take, drop, false, refl, sym, ap, subst, ◌∙◌, inl, inr, arith, cond, Some, Ok}
 use Rattle.linker_final.proofs.Imports.{cases_lt, cond-false, length-take-le, addend_after, offset_after, IsApplied, IsNamed, IsNameOf, code_of, number_of_bytes, sum_64, value_of, x86_64_name, x86_64_row, RelocationKind, RelocationKindInfo, Choice, Operands, X86_64Relocation, long_thread_row, thread_row, IsRelocatedBy, decision_at, relocation_after, Rewritten, Composes, IsField, begins_pair, continues, ends_pair, field_end, of_number, of_pair, entry_of, relocation_in, entry_address, is_of_got, offset_at, operands_by, operands_in, operands_of, operands_with, Addresses, Symbol, Rela, IsRow, relaxation_rewrite, Relaxation, X86_64}
 use Rattle.std.proofs.lemmas.List.{drop_at}
 use Rattle.linker_elf.specs.declared.elf.RelocationKind.TheVariants as values
@@ -20,6 +20,7 @@ use Rattle.linker_laws.specs.X86Groups.{BlockOffsets, LeadToTheSame}
 use Rattle.linker_laws.specs.X86Machine.{extended}
 use Rattle.linker_utils.specs.declared.architecture.Relaxation.TheVariants as relaxations
 use Rattle.linker_utils.specs.declared.x86_64.rewrites.RewriteKind.TheVariants as kinds
+use Rattle.linker_base.proofs.Tests.{never}
 
 -- ---- fields that overlap none
 
@@ -32,9 +33,6 @@ continues_none values.AbsoluteSetWord6 = refl
 continues_none values.AbsoluteAdditionWord6 = refl
 continues_none values.AbsoluteSubtractionWord6 = refl
 continues_none kind = refl
-
-never : false ≡ true → ⊥
-never is = cc
 
 -- a row of n bytes
 abbrev IsOffsetOf : RelocationKindInfo → Type 0

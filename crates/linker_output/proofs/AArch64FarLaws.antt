@@ -1,20 +1,11 @@
 -- AArch64's stubs to anywhere go there.
-use Rattle.std.proofs.Common.{◌≡◌, ℕ, ◌+◌, ◌*◌, ◌%◌, ◌^◌, ◌<◌, Bool, true, false, refl, sym, ◌∙◌}
-use Rattle.std.proofs.Common.{ap, subst, arith}
-use Rattle.std.proofs.Common.{List, [], ◌∷◌, ◌++◌, eqb, cond, Some, None, drop, pos, ◌+ℤ◌}
-use Rattle.std.specs.Prelude.{IsSomeAnd, ◌||◌}
-use Rattle.std.specs.Int.{w64, cast_unsigned}
-use Rattle.std.proofs.lemmas.Bool.{eq-eqb, cond-true}
-use Rattle.std.proofs.lemmas.List.{append-nil}
+use Rattle.std.proofs.Common.{◌≡◌, ℕ, ◌+◌, ◌*◌, ◌%◌, ◌^◌, ◌<◌, Bool, true, false, refl, sym, ◌∙◌, ap, subst, arith, List, [], ◌∷◌, ◌++◌, eqb, cond, Some, None, drop, pos, ◌+ℤ◌}
+use Rattle.linker_output.proofs.Imports.{IsSomeAnd, ◌||◌, w64, cast_unsigned, eq-eqb, cond-true, append-nil, aarch64_name, aarch64_row, number_of_bytes, sum_64, State, load_64, go_to, in_64_bits, word_of}
 use Rattle.linker_base.specs.Form.{place_sum}
-use Rattle.linker_elf.specs.AArch64Relocations.{aarch64_name, aarch64_row}
-use Rattle.linker_elf.specs.Relocate.{number_of_bytes, low_bytes}
-use Rattle.linker_elf.specs.Value.{sum_64}
+use Rattle.linker_elf.specs.Relocate.{low_bytes}
 use Rattle.linker_elf.specs.declared.aarch64.relocations.AArch64Relocation.TheVariants as r
-use Rattle.linker_laws.specs.AArch64Machine.{State, load_64, go_to, go_on, next_pc, write_x}
-use Rattle.linker_laws.specs.AArch64Machine.{in_64_bits, adr_address}
+use Rattle.linker_laws.specs.AArch64Machine.{go_on, next_pc, write_x, adr_address}
 use Rattle.linker_laws.specs.AArch64RelocationLaws.{Fields}
-use Rattle.linker_laws.specs.AArch64RewriteLaws.{word_of}
 use Rattle.linker_output.proofs.AArch64StubLaws.{some_or}
 use Rattle.linker_output.proofs.StubWords.{applies, are_addresses}
 use Rattle.linker_output.specs.AArch64Output.{aarch64_output}

@@ -1,40 +1,20 @@
 -- AArch64's lazy PLT.
-use Rattle.std.proofs.Common.{◌≡◌, ℕ, ◌+◌, ◌-◌, ◌*◌, ◌^◌, ◌<◌, ◌≤◌, Bool, true, false, refl, sym}
-use Rattle.std.proofs.Common.{◌∙◌, ap, subst, arith}
-use Rattle.std.proofs.Common.{List, [], ◌∷◌, ◌++◌, take, drop, eqb, cond, Some, pos, negsuc, ◌+ℤ◌}
-use Rattle.std.specs.Prelude.{◌||◌, ◌==◌, IsSomeAnd, nat_lt, if◌then◌else◌}
-use Rattle.std.specs.Int.{w64, from_le_bytes, cast_unsigned}
-use Rattle.std.proofs.lemmas.Bool.{cond-true, cond-false, or_parts}
-use Rattle.std.proofs.lemmas.Int.{ints}
-use Rattle.linker_base.specs.Bits.{field}
+use Rattle.std.proofs.Common.{◌≡◌, ℕ, ◌+◌, ◌-◌, ◌*◌, ◌^◌, ◌<◌, ◌≤◌, Bool, true, false, refl, sym, ◌∙◌, ap, subst, arith, List, [], ◌∷◌, ◌++◌, take, drop, eqb, cond, Some, pos, negsuc, ◌+ℤ◌}
+use Rattle.linker_output.proofs.Imports.{◌||◌, ◌==◌, IsSomeAnd, nat_lt, if◌then◌else◌, w64, from_le_bytes, cast_unsigned, cond-true, cond-false, or_parts, ints, field, aarch64_name, aarch64_row, sum_64, difference_64, Operands, State, adrp_address, added, load_64, add, ldr, go_to, in_64_bits, RelativeAddresses, word_of, stored, IsAddress, loads, set, IsAdrOf, IsInstructionOf, adrp_after, ldr_after, add_after, of_registers, wrapped_is, AArch64, sum_zero}
 use Rattle.linker_elf.specs.AArch64.{aarch64_form}
-use Rattle.linker_elf.specs.AArch64Relocations.{aarch64_name, aarch64_row}
-use Rattle.linker_elf.specs.Value.{sum_64, difference_64}
 use Rattle.linker_elf.specs.declared.aarch64.forms.AArch64Instruction.TheVariants.{LdSt, Add}
 use Rattle.linker_elf.specs.declared.aarch64.relocations.AArch64Relocation.TheVariants as r
-use Rattle.linker_elf.specs.declared.elf.value.Operands.{Operands}
 use Rattle.linker_laws.specs.AArch64Machine as machine
-use Rattle.linker_laws.specs.AArch64Machine.{State, adrp_address, loaded, added, load_64, add, ldr}
-use Rattle.linker_laws.specs.AArch64Machine.{go_to, go_on, in_64_bits}
-use Rattle.linker_laws.specs.AArch64RelocationLaws.{RelativeAddresses, page_and_offset}
-use Rattle.linker_laws.specs.AArch64RewriteLaws.{word_of}
-use Rattle.linker_laws.specs.Machine.{stored}
-use Rattle.linker_laws.specs.Schemes.{IsAddress}
-use Rattle.linker_laws.proofs.AArch64Pairs.{loads, adds_up}
-use Rattle.linker_laws.proofs.AArch64Steps.{set, step_add}
-use Rattle.linker_laws.proofs.AArch64Words.{IsAdrOf, IsInstructionOf, adrp_after, ldr_after}
-use Rattle.linker_laws.proofs.AArch64Words.{add_after, of_registers}
-use Rattle.linker_laws.proofs.RiscVMachine.{wrapped_is}
-use Rattle.linker_output.proofs.LazyRuns.{run_more, one_word}
-use Rattle.linker_output.proofs.LazyRuns.{are_addresses_at}
-use Rattle.linker_output.proofs.StubWords.{applies, no_addend, at_place}
-use Rattle.linker_output.specs.AArch64LazyPlt.{step, further, run, pair_stored, pair_address}
-use Rattle.linker_output.specs.AArch64LazyPlt.{GoesTo, Asks, IsOffStack}
+use Rattle.linker_laws.specs.AArch64Machine.{loaded, go_on}
+use Rattle.linker_laws.specs.AArch64RelocationLaws.{page_and_offset}
+use Rattle.linker_laws.proofs.AArch64Pairs.{adds_up}
+use Rattle.linker_laws.proofs.AArch64Steps.{step_add}
+use Rattle.linker_output.proofs.LazyRuns.{run_more, one_word, are_addresses_at}
+use Rattle.linker_output.proofs.StubWords.{applies, no_addend}
+use Rattle.linker_output.specs.AArch64LazyPlt.{step, further, run, pair_stored, pair_address, GoesTo, Asks, IsOffStack}
 use Rattle.linker_output.specs.AArch64LazyPlt as laws
 use Rattle.linker_output.specs.LazyPlt.{IsCode, operands_at, header_places}
-use Rattle.linker_output.specs.LazyPlts.{aarch64_loads, aarch64_entry, aarch64_wide_entry}
-use Rattle.linker_output.specs.LazyPlts.{aarch64_landing_entry}
-use Rattle.linker_output.specs.LazyPlts.{aarch64_header, aarch64_landing_header, padded}
+use Rattle.linker_output.specs.LazyPlts.{aarch64_loads, aarch64_entry, aarch64_wide_entry, aarch64_landing_entry, aarch64_header, aarch64_landing_header, padded}
 use Rattle.linker_output.specs.LazyPlts as plts
 use Rattle.linker_output.specs.LazyRuns.{words, or_else}
 use Rattle.linker_output.specs.Tables.{field_of, code_of_words}
@@ -42,7 +22,6 @@ use Rattle.linker_output.specs.declared.lazy_plt.LazyEntry.{LazyEntry}
 use Rattle.linker_output.specs.declared.lazy_plt.LazyField.{LazyField}
 use Rattle.linker_output.specs.declared.lazy_plt.LazyPiece.{LazyPiece}
 use Rattle.linker_output.specs.declared.lazy_plt.LazyTarget.TheVariants.{Word}
-use Rattle.linker_elf.specs.declared.elf.architecture.Architecture.TheVariants.{AArch64}
 
 -- ---- `adrp x16`, `ldr x17, [x16]`, `add x16, x16`, `br x17`
 
@@ -195,7 +174,7 @@ to_word entry below s t e =
 loads_first : RelativeAddresses → (others : List LazyPiece) → ((entry : LazyEntry) → Branches others entry)
     → EntersAt 4 (aarch64_loads 0 0 others)
 loads_first relative others last entry inside below code is s at =
-    let e = goes relative entry 0 0 others below (last entry) code is s (at ∙ sym (at_place entry.address inside)) in
+    let e = goes relative entry 0 0 others below (last entry) code is s (at ∙ sym (sum_zero entry.address inside)) in
     (e.0, e.1, to_word entry below s e.0 e.2)
 
 loads_second : RelativeAddresses → (others : List LazyPiece) → ((entry : LazyEntry) → Branches others entry)

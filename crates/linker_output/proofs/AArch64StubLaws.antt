@@ -1,30 +1,18 @@
 -- AArch64's stubs go to their targets.
-use Rattle.std.proofs.Common.{◌≡◌, ℕ, Bool, true, false, refl, sym, ◌∙◌, ap, subst, arith}
-use Rattle.std.proofs.Common.{List, [], ◌∷◌, ◌++◌, eqb, cond, Some, None, Option, drop}
-use Rattle.std.specs.Prelude.{IsSomeAnd, ◌||◌}
-use Rattle.std.proofs.lemmas.Bool.{eq-eqb, cond-true}
-use Rattle.linker_base.specs.Bits.{field}
+use Rattle.std.proofs.Common.{◌≡◌, ℕ, Bool, true, false, refl, sym, ◌∙◌, ap, subst, arith, List, [], ◌∷◌, ◌++◌, eqb, cond, Some, None, Option, drop}
+use Rattle.linker_output.proofs.Imports.{IsSomeAnd, ◌||◌, eq-eqb, cond-true, field, sum_64, State, load_64, adrp_address, added, add, ldr, go_to, RelativeAddresses, word_of, symbol_address, loads, set, IsAdrOf, IsInstructionOf, adrp_after, ldr_after, add_after, of_registers, aarch64_name, aarch64_row, AArch64, sum_zero}
 use Rattle.linker_utils.specs.AArch64Rewrites.{rd_of, rn_of, IsLdr64}
-use Rattle.linker_elf.specs.Value.{sum_64}
 use Rattle.linker_elf.specs.declared.aarch64.relocations.AArch64Relocation.TheVariants as r
-use Rattle.linker_laws.specs.AArch64Machine.{State, step, run, load_64, adrp_address, loaded, added}
-use Rattle.linker_laws.specs.AArch64Machine.{add, ldr, go_to, go_on}
-use Rattle.linker_laws.specs.AArch64RelocationLaws.{RelativeAddresses}
-use Rattle.linker_laws.specs.AArch64RewriteLaws.{word_of}
-use Rattle.linker_laws.specs.Schemes.{symbol_address}
-use Rattle.linker_laws.proofs.AArch64Pairs.{loads, adds_pair}
-use Rattle.linker_laws.proofs.AArch64Steps.{set, run_pair}
-use Rattle.linker_laws.proofs.AArch64Words.{IsAdrOf, IsInstructionOf, adrp_after, ldr_after}
-use Rattle.linker_laws.proofs.AArch64Words.{add_after, of_registers}
-use Rattle.linker_elf.specs.AArch64Relocations.{aarch64_name, aarch64_row}
-use Rattle.linker_output.proofs.StubWords.{front_word, first_is, second_is, third_is, applies}
-use Rattle.linker_output.proofs.StubWords.{no_addend, at_place, are_addresses}
+use Rattle.linker_laws.specs.AArch64Machine.{step, run, loaded, go_on}
+use Rattle.linker_laws.proofs.AArch64Pairs.{adds_pair}
+use Rattle.linker_laws.proofs.AArch64Steps.{run_pair}
+use Rattle.linker_output.proofs.StubWords.{front_word, first_is, second_is, third_is, applies, no_addend, are_addresses}
 use Rattle.linker_output.specs.AArch64Output.{aarch64_output}
 use Rattle.linker_output.specs.Stubs.{StubCode, WritesPair, operands_of}
 use Rattle.linker_output.specs.Tables.{field_of}
 use Rattle.linker_output.specs.AArch64Stubs.{run_stub, run_landing, then_jumped, jumped, GoesTo}
 use Rattle.linker_output.specs.AArch64Stubs as stubs
-use Rattle.linker_elf.specs.declared.elf.architecture.Architecture.TheVariants.{AArch64}
+use Rattle.linker_laws.proofs.Sums.{eight}
 
 -- BR of a register, after two instructions that end in a state
 module _ (code : List ℕ) (x y : ℕ) (s t u : State) (first : step x s ≡ Some t) (on : t.pc ≡ sum_64 s.pc 4)
@@ -49,9 +37,6 @@ kept false false v w r e = refl
 kept_once : (b c : Bool) (v w r : ℕ) → (b || c) ≡ false → cond b w (cond b v r) ≡ r
 kept_once true c v w r e = cc
 kept_once false c v w r e = refl
-
-twice_on : (p : ℕ) → sum_64 (sum_64 p 4) 4 ≡ sum_64 p 8
-twice_on p = omega arith
 
 -- the code of a stub
 abbrev pub some_or : StubCode → Option StubCode → StubCode
@@ -79,13 +64,13 @@ loads_go relative place target inside below code is s at =
     let second : IsInstructionOf ldr 17 16 y =
     of_registers (ap rd_of old) (ap rn_of old)
     (ldr_after _ _ (drop 4 half) (drop 4 pair) low.applied.written (subst IsLdr64 (sym old) refl)) in
-    let here : s.pc ≡ o.place = at ∙ sym (at_place place inside) in
+    let here : s.pc ≡ o.place = at ∙ sym (sum_zero place inside) in
     let l = loads o 16 17 x y (symbol_address o) s first second (omega arith) (omega arith) here
     (relative.0.4 o small o.place template half high.applied tt o.place (drop 4 half) (drop 4 pair) low.applied tt) in
     let t = set 16 (adrp_address x s) s in
     let u = set 17 (loaded y t) t in
     subst (λ end. IsSomeAnd end (GoesTo (load_64 s.memory target) s))
-    (sym (stub_runs code x y s t u l.first refl l.second (twice_on s.pc) front
+    (sym (stub_runs code x y s t u l.first refl l.second (eight s.pc) front
     (second_is code pair stub.tail is.1 is.3) 17 0xd61f0220 (ap word_of (third_is code pair stub.tail is.1 is.3)) refl))
     (record {
       pc = l.value_is ∙ ap (load_64 s.memory) (no_addend target below);
@@ -115,13 +100,13 @@ jumps_go relative place target inside below code is s at =
     let second : IsInstructionOf add 16 16 y =
     of_registers (ap rd_of old) (ap rn_of old)
     (add_after _ _ (drop 4 half) (drop 4 pair) low.applied.written (ap (λ w. field w 22 32) old)) in
-    let here : s.pc ≡ o.place = at ∙ sym (at_place place inside) in
+    let here : s.pc ≡ o.place = at ∙ sym (sum_zero place inside) in
     let l = adds_pair o 16 x y (symbol_address o) s first second (omega arith) here
     (relative.0.0 o small o.place template half high.applied tt o.place (drop 4 half) (drop 4 pair) low.applied tt) in
     let t = set 16 (adrp_address x s) s in
     let u = set 16 (added y t) t in
     subst (λ end. IsSomeAnd end (GoesTo target s))
-    (sym (stub_runs code x y s t u l.first refl l.second (twice_on s.pc) front
+    (sym (stub_runs code x y s t u l.first refl l.second (eight s.pc) front
     (second_is code pair stub.tail is.1 is.3) 16 0xd61f0200 (ap word_of (third_is code pair stub.tail is.1 is.3)) refl))
     (record {
       pc = l.value_is ∙ no_addend target below;
@@ -144,7 +129,7 @@ landing_loads_go relative place target inside below code is s at =
     let later = sum_64 place 4 in
     let writes : WritesPair AArch64 stub (operands_of stub later target) is.0 =
     subst (λ p. WritesPair AArch64 stub (record (operands_of stub place target) { place = p; got_base = p }) is.0)
-    (sym (at_place later (omega arith))) is.2 in
+    (sym (sum_zero later (omega arith))) is.2 in
     let goes =
     loads_go relative later target (omega arith) below plain (is.0, is.1, writes, refl) (go_on s) (ap (λ p. sum_64 p 4) at) in
     subst (λ end. IsSomeAnd end (GoesTo (load_64 s.memory target) s)) (sym (ap (λ c. run_landing c s) is.3))

@@ -1,10 +1,6 @@
 -- Stubs don't overlap, and are at their boundaries.
-use Rattle.std.proofs.Common.{◌≡◌, ◌≢◌, ◌+◌, ◌-◌, ◌*◌, ◌<◌, ◌≤◌, ◌∙◌, ℕ, zero, suc, arith, List}
-use Rattle.std.proofs.Common.{length, refl, ap, sym, subst, inl, inr, ⊎_elim, add-one}
-use Rattle.std.specs.Prelude.{◌⊎◌}
-use Rattle.std.specs.List.{sum_by}
-use Rattle.std.proofs.Math.Nat.{mul-le-mul_left}
-use Rattle.std.proofs.lemmas.Bool.{cases_lt, cases_order}
+use Rattle.std.proofs.Common.{◌≡◌, ◌≢◌, ◌+◌, ◌-◌, ◌*◌, ◌<◌, ◌≤◌, ◌∙◌, ℕ, zero, suc, arith, List, length, refl, ap, sym, subst, inl, inr, ⊎_elim, add-one}
+use Rattle.linker_output.proofs.Imports.{◌⊎◌, sum_by, mul-le-mul_left, cases_lt, cases_order}
 use Rattle.linker_output.specs.declared.placement.Code.{Code}
 use Rattle.linker_output.specs.declared.placement.Group.{Group}
 use Rattle.linker_output.specs.declared.placement.Layout.{Layout}
@@ -13,9 +9,7 @@ use Rattle.linker_output.specs.declared.placement.Part.TheVariants.{Front, Middl
 use Rattle.linker_output.specs.declared.placement.State.{State}
 use Rattle.linker_output.specs.declared.placement.StubAt.{StubAt}
 use Rattle.linker_output.specs.declared.placement.StubShape.{StubShape}
-use Rattle.linker_output.specs.Placement.{at, group_at, stub_at, stubs_in, place_in, place_of}
-use Rattle.linker_output.specs.Placement.{start_of, end_of, HasPart, AreTwo, part_of, IsCode}
-use Rattle.linker_output.specs.Placement.{IsLaidOut, IsLayout}
+use Rattle.linker_output.specs.Placement.{at, group_at, stub_at, stubs_in, place_in, place_of, start_of, end_of, HasPart, AreTwo, part_of, IsCode, IsLaidOut, IsLayout}
 use Rattle.linker_output.specs.Inner.Placement.{IsState, ArePlaces}
 use Rattle.linker_output.proofs.Groups.{size_least}
 

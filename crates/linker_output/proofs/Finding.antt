@@ -1,8 +1,6 @@
 -- Stubs that are found by boundary, part and target.
-use Rattle.std.proofs.Common.{◌≡◌, ◌+◌, ◌<◌, ◌∙◌, ℕ, arith, List, length, ap, refl, sym, subst}
-use Rattle.std.proofs.Common.{⊎_elim}
-use Rattle.std.specs.Prelude.{◌⊎◌}
-use Rattle.std.proofs.lemmas.Bool.{cases_order}
+use Rattle.std.proofs.Common.{◌≡◌, ◌+◌, ◌<◌, ◌∙◌, ℕ, arith, List, length, ap, refl, sym, subst, ⊎_elim}
+use Rattle.linker_output.proofs.Imports.{◌⊎◌, cases_order, nat_le, prefix_len_passes, prefix_len_stops}
 use Rattle.linker_output.specs.declared.placement.Branch.{Branch}
 use Rattle.linker_output.specs.declared.placement.Code.{Code}
 use Rattle.linker_output.specs.declared.placement.Part.{Part}
@@ -10,13 +8,9 @@ use Rattle.linker_output.specs.declared.placement.Part.TheVariants.{Front, Middl
 use Rattle.linker_output.specs.declared.placement.State.{State}
 use Rattle.linker_output.specs.declared.placement.StubAt.{StubAt}
 use Rattle.linker_output.specs.Placement.{at, group_at, part_of, passed, stub_at, IsCode}
-use Rattle.linker_output.specs.Inner.Placement.{AreLists, IsAt, IsNear, IsNearIn, IsNew, IsNewNear}
-use Rattle.linker_output.specs.Inner.Placement.{IsOutAhead, IsOutAfter, IsOutThere, IsState}
-use Rattle.linker_output.specs.Inner.Placement.{level_of, list_at, list_of, new_stub}
+use Rattle.linker_output.specs.Inner.Placement.{AreLists, IsAt, IsNear, IsNearIn, IsNew, IsNewNear, IsOutAhead, IsOutAfter, IsOutThere, IsState, level_of, list_at, list_of, new_stub}
 use Rattle.linker_output.proofs.Near.{nearer}
 use Rattle.linker_output.proofs.Passed.{true_le, false_lt}
-use Rattle.std.specs.Prelude.{nat_le}
-use Rattle.std.proofs.lemmas.List.Sums.{prefix_len_passes, prefix_len_stops}
 
 -- the list of a stub that is looked for
 in_list : (lists : ℕ) (stubs : List StubAt) (boundary : ℕ) (part : Part) (target s : ℕ) → IsAt stubs boundary part target s

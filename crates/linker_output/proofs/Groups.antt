@@ -1,10 +1,6 @@
 -- Bytes of the stubs at boundaries.
-use Rattle.std.proofs.Common.{◌≡◌, ◌+◌, ◌*◌, ◌<◌, ◌≤◌, ◌∙◌, ℕ, zero, suc, arith, List, length}
-use Rattle.std.proofs.Common.{get_or, take, refl, ap, sym, add-one, ⊎_elim}
-use Rattle.std.proofs.lemmas.Bool.{cases_lt}
-use Rattle.std.proofs.lemmas.List.{get_or_past}
-use Rattle.std.specs.List.{sum_by}
-use Rattle.std.proofs.Math.Nat.{mul-le-mul_left}
+use Rattle.std.proofs.Common.{◌≡◌, ◌+◌, ◌*◌, ◌<◌, ◌≤◌, ◌∙◌, ℕ, zero, suc, arith, List, length, get_or, take, refl, ap, sym, add-one, ⊎_elim}
+use Rattle.linker_output.proofs.Imports.{cases_lt, get_or_past, sum_by, mul-le-mul_left}
 use Rattle.std.proofs.lemmas.List.Sums.{sum_by_more, sum_by-take-le}
 use Rattle.linker_output.specs.declared.placement.Group.{Group}
 use Rattle.linker_output.specs.declared.placement.StubShape.{StubShape}

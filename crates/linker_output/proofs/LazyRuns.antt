@@ -1,15 +1,6 @@
 -- Runs of words, and the words of a lazy PLT's code.
-use Rattle.std.proofs.Common.{◌≡◌, ℕ, ◌+◌, ◌*◌, ◌/◌, ◌^◌, ◌<◌, ◌≤◌, suc, pos, negsuc, ◌+ℤ◌, Bool}
-use Rattle.std.proofs.Common.{false, sym, ◌∙◌, ap, arith}
-use Rattle.std.proofs.Common.{List, ◌∷◌, ◌++◌, eqb, Some, None, Option, take, drop, length}
-use Rattle.std.specs.Prelude.{◌||◌}
-use Rattle.std.proofs.lemmas.Bool.{eq-eqb, cond-true, or_parts}
-use Rattle.std.proofs.lemmas.List.{drop_at, take_at, length-take}
-use Rattle.std.proofs.lemmas.Int.{ints}
-use Rattle.linker_elf.specs.Value.{sum_64, difference_64}
-use Rattle.linker_laws.specs.Machine.{moved}
-use Rattle.linker_laws.proofs.RiscVMachine.{wrapped_is}
-use Rattle.linker_laws.specs.Schemes.{AreAddresses}
+use Rattle.std.proofs.Common.{◌≡◌, ℕ, ◌+◌, ◌*◌, ◌/◌, ◌^◌, ◌<◌, ◌≤◌, suc, pos, negsuc, ◌+ℤ◌, Bool, false, sym, ◌∙◌, ap, arith, List, ◌∷◌, ◌++◌, eqb, Some, None, Option, take, drop, length}
+use Rattle.linker_output.proofs.Imports.{◌||◌, eq-eqb, cond-true, or_parts, drop_at, take_at, length-take, ints, sum_64, difference_64, moved, wrapped_is, AreAddresses}
 use Rattle.linker_output.proofs.StubWords.{word, front_word}
 use Rattle.linker_output.specs.LazyPlt.{operands_at, target_at}
 use Rattle.linker_output.specs.LazyRuns.{words, run_by, continue_by}
@@ -30,9 +21,6 @@ second_and_last a b c d e =
     ap (λ v. v || d) (or_parts a b parts.0).1 ∙ (or_parts c d parts.1).1
 
 -- ---- places
-
-pub twelve : (p : ℕ) → sum_64 (sum_64 (sum_64 p 4) 4) 4 ≡ sum_64 p 12
-twelve p = omega arith
 
 pub eight_on : (n : ℕ) → n < 2 ^ 64 → moved n (pos 8) ≡ sum_64 n 8
 eight_on n small = omega (arith, ints, small)

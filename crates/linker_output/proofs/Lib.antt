@@ -7,6 +7,7 @@ pub mod Bounds
 pub mod Finding
 pub mod Going
 pub mod Groups
+pub mod Imports
 pub mod JoinedFlags
 pub mod LazyCode
 pub mod LazyRuns

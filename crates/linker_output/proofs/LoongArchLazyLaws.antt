@@ -1,30 +1,18 @@
 -- LoongArch's lazy PLT.
-use Rattle.std.proofs.Common.{◌≡◌, ◌≢◌, ℕ, ◌/◌, ◌^◌, ◌<◌, ◌≤◌, false, refl, sym, ◌∙◌, ap, subst}
-use Rattle.std.proofs.Common.{arith}
-use Rattle.std.proofs.Common.{List, [], ◌∷◌, ◌++◌, take, eqb, cond, Some, pos, negsuc, ◌+ℤ◌, ◌*ℤ◌}
-use Rattle.std.specs.Prelude.{◌||◌, ◌==◌, IsSomeAnd}
-use Rattle.std.proofs.lemmas.Bool.{ne_eqb, cond-true, cond-false, or_parts}
-use Rattle.linker_base.specs.Bits.{field, signed}
-use Rattle.linker_elf.specs.LoongArchRelocations.{loongarch_name, loongarch_row}
-use Rattle.linker_elf.specs.Value.{sum_64, difference_64}
-use Rattle.linker_elf.specs.declared.elf.value.Operands.{Operands}
+use Rattle.std.proofs.Common.{◌≡◌, ◌≢◌, ℕ, ◌/◌, ◌^◌, ◌<◌, ◌≤◌, false, refl, sym, ◌∙◌, ap, subst, arith, List, [], ◌∷◌, ◌++◌, take, eqb, cond, Some, pos, negsuc, ◌+ℤ◌, ◌*ℤ◌}
+use Rattle.linker_output.proofs.Imports.{◌||◌, ◌==◌, IsSomeAnd, ne_eqb, cond-true, cond-false, or_parts, field, loongarch_name, loongarch_row, sum_64, difference_64, Operands, next_pc, register_target, rd_of, rj_of, wrapped, loaded, IsAddress, symbol_address, loaded_of, IsHigh, IsLow, high_after, low_after, LoongArch64, three_words, sum_zero}
+use Rattle.linker_base.specs.Bits.{signed}
 use Rattle.linker_elf.specs.declared.loongarch64.relocations.LoongArch64Relocation.TheVariants as r
 use Rattle.linker_laws.specs.LoongArchMachine as machine
-use Rattle.linker_laws.specs.LoongArchMachine.{State, read, write, go_to, next_pc, sum_of}
-use Rattle.linker_laws.specs.LoongArchMachine.{register_target}
+use Rattle.linker_laws.specs.LoongArchMachine.{State, read, write, go_to, sum_of}
 use Rattle.linker_laws.specs.LoongArchRelocationLaws as relocation_laws
-use Rattle.linker_utils.specs.LoongArchRewrites.{rd_of, rj_of}
 use Rattle.linker_laws.specs.LoongArchRewriteLaws.{word_of}
-use Rattle.linker_laws.specs.Machine.{wrapped, loaded}
-use Rattle.linker_laws.specs.Schemes.{IsAddress, symbol_address}
 use Rattle.linker_laws.proofs.AArch64Steps.{address_is, in_two_steps}
-use Rattle.linker_laws.proofs.LoongArchSteps.{set, loaded_of, step_load, step_sum, written}
-use Rattle.linker_laws.proofs.LoongArchWords.{IsHigh, IsLow, high_after, low_after, decodes_load}
-use Rattle.linker_laws.proofs.LoongArchWords.{decodes_sum}
-use Rattle.linker_output.proofs.LazyRuns.{run_more, second_and_last}
-use Rattle.linker_output.proofs.LazyRuns.{one_word, are_addresses_at, twelve, eight_on, offset_is}
+use Rattle.linker_laws.proofs.LoongArchSteps.{set, step_load, step_sum, written}
+use Rattle.linker_laws.proofs.LoongArchWords.{decodes_load, decodes_sum}
+use Rattle.linker_output.proofs.LazyRuns.{run_more, second_and_last, one_word, are_addresses_at, eight_on, offset_is}
 use Rattle.linker_output.proofs.LoongArchStubLaws.{stays}
-use Rattle.linker_output.proofs.StubWords.{applies, no_addend, at_place}
+use Rattle.linker_output.proofs.StubWords.{applies, no_addend}
 use Rattle.linker_output.specs.LazyPlt.{IsCode, operands_at, header_places}
 use Rattle.linker_output.specs.LazyPlts.{loongarch_entry, padded}
 use Rattle.linker_output.specs.LazyRuns.{words, or_else}
@@ -33,7 +21,6 @@ use Rattle.linker_output.specs.LoongArchLazyPlt as laws
 use Rattle.linker_output.specs.Tables.{field_of, field_of_32, code_of_words}
 use Rattle.linker_output.specs.declared.lazy_plt.LazyEntry.{LazyEntry}
 use Rattle.linker_output.specs.declared.lazy_plt.LazyTarget.TheVariants.{Word}
-use Rattle.linker_elf.specs.declared.elf.architecture.Architecture.TheVariants.{LoongArch64}
 
 -- ---- steps
 
@@ -90,7 +77,7 @@ leads : (entry : LazyEntry) → entry.address < 2 ^ 64 → entry.word < 2 ^ 64
     → IsAddress ((pos (operands entry).tls_base +ℤ (signed 20 (field x 5 25) *ℤ pos 4096)) +ℤ signed 12 (field y 10 22)) (symbol_address (operands entry))
     → led_to pc x y ≡ entry.word
 leads entry inside below pc at x y is =
-    ap (λ p. led_to p x y) (at ∙ sym (at_place entry.address inside))
+    ap (λ p. led_to p x y) (at ∙ sym (sum_zero entry.address inside))
     ∙ in_two_steps (pos (operands entry).tls_base +ℤ (signed 20 (field x 5 25) *ℤ pos 4096)) (signed 12 (field y 10 22))
     ∙ address_is _ _ is ∙ no_addend entry.word below
 
@@ -136,7 +123,7 @@ module _ (entry : LazyEntry) (s : State) (x y target : ℕ) (small : target < 2 
   goes =
       record {
         pc = pc_is ∙ ap (λ v. wrapped (pos v +ℤ (pos 0 *ℤ pos 4))) target_is ∙ stays target small;
-        t1 = t1_is ∙ twelve s.pc ∙ ap (λ p. sum_64 p 12) at;
+        t1 = t1_is ∙ three_words s.pc ∙ ap (λ p. sum_64 p 12) at;
         t3 = t3_is ∙ target_is;
         registers = others;
         floats = refl;

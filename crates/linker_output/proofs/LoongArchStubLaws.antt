@@ -1,29 +1,18 @@
 -- LoongArch's stubs go to their targets.
-use Rattle.std.proofs.Common.{◌≡◌, ℕ, ◌/◌, ◌^◌, ◌<◌, Bool, true, false, refl, sym, ◌∙◌, ap, subst}
-use Rattle.std.proofs.Common.{arith}
-use Rattle.std.proofs.Common.{[], ◌∷◌, eqb, cond, Some, None, Option, drop, length, pos, ◌+ℤ◌, ◌*ℤ◌}
-use Rattle.std.specs.Prelude.{IsSomeAnd}
-use Rattle.std.proofs.lemmas.Bool.{eq-eqb, cond-true}
-use Rattle.std.proofs.lemmas.Int.{ints}
-use Rattle.std.proofs.lemmas.List.{append-nil}
+use Rattle.std.proofs.Common.{◌≡◌, ℕ, ◌/◌, ◌^◌, ◌<◌, Bool, true, false, refl, sym, ◌∙◌, ap, subst, arith, [], ◌∷◌, eqb, cond, Some, None, Option, drop, length, pos, ◌+ℤ◌, ◌*ℤ◌}
+use Rattle.linker_output.proofs.Imports.{IsSomeAnd, eq-eqb, cond-true, ints, append-nil, loongarch_name, loongarch_row, rd_of, rj_of, next_pc, register_target, wrapped, loaded, loaded_of, IsHigh, IsLow, high_after, low_after, sum_zero}
 use Rattle.std.proofs.lemmas.List.Elements.{All-cons, All-nil}
-use Rattle.linker_elf.specs.LoongArchRelocations.{loongarch_name, loongarch_row}
 use Rattle.linker_elf.specs.declared.loongarch64.relocations.LoongArch64Relocation.TheVariants as r
-use Rattle.linker_utils.specs.LoongArchRewrites.{rd_of, rj_of, IsCall}
-use Rattle.linker_laws.specs.LoongArchMachine.{State, step, run, execute}
-use Rattle.linker_laws.specs.LoongArchMachine.{write, next_pc, continue, go_to, go_on, page_address}
-use Rattle.linker_laws.specs.LoongArchMachine.{far_address, register_target}
+use Rattle.linker_utils.specs.LoongArchRewrites.{IsCall}
+use Rattle.linker_laws.specs.LoongArchMachine.{State, step, run, execute, write, continue, go_to, go_on, page_address, far_address}
 use Rattle.linker_laws.specs.LoongArchRelocationLaws as relocation_laws
 use Rattle.linker_laws.specs.LoongArchRewriteLaws.{word_of}
-use Rattle.linker_laws.specs.Machine.{wrapped, loaded, AreBytes, Relocated}
+use Rattle.linker_laws.specs.Machine.{AreBytes, Relocated}
 use Rattle.linker_laws.specs.Schemes.{entry_and_addend}
-use Rattle.linker_laws.proofs.LoongArchCalls.{call_is, decodes_far, decodes_jirl, new_first, new_second}
-use Rattle.linker_laws.proofs.LoongArchCalls.{target_is}
+use Rattle.linker_laws.proofs.LoongArchCalls.{call_is, decodes_far, decodes_jirl, new_first, new_second, target_is}
 use Rattle.linker_laws.proofs.LoongArchPairs.{loads}
-use Rattle.linker_laws.proofs.LoongArchSteps.{set, loaded_of, run_pair}
-use Rattle.linker_laws.proofs.LoongArchWords.{IsHigh, IsLow, high_after, low_after}
-use Rattle.linker_output.proofs.StubWords.{front_word, first_is, second_is, third_is, applies}
-use Rattle.linker_output.proofs.StubWords.{no_addend, at_place, are_addresses}
+use Rattle.linker_laws.proofs.LoongArchSteps.{set, run_pair}
+use Rattle.linker_output.proofs.StubWords.{front_word, first_is, second_is, third_is, applies, no_addend, are_addresses}
 use Rattle.linker_output.specs.LoongArchOutput.{loongarch_output}
 use Rattle.linker_output.specs.LoongArchStubs.{GoesTo}
 use Rattle.linker_output.specs.LoongArchStubs as stubs
@@ -74,7 +63,7 @@ loads_go relative place word target inside below small code is s at holds =
     let first : IsHigh 0x0d 15 x = high_after 12 0x0d 15 _ template half high.applied.written refl refl in
     let second : IsLow 0x0a3 15 15 y =
     low_after 0x0a3 15 15 _ (drop 4 half) (drop 4 pair) low.applied.written (ap (λ w. w / 2 ^ 22) old) (ap rd_of old) (ap rj_of old) in
-    let here : s.pc ≡ o.place = at ∙ sym (at_place place inside) in
+    let here : s.pc ≡ o.place = at ∙ sym (sum_zero place inside) in
     let l = loads o 15 x y (entry_and_addend o) s first second (omega arith) here
     (relative.1 o addresses o.place template half high.applied high.within o.place (drop 4 half) (drop 4 pair) low.applied tt) in
     let t = set 15 (page_address x s) s in
@@ -129,7 +118,7 @@ jumps_go calls place target inside below code bytes is s at =
     let c = call_is 0 o template half call made in
     let p = word_of half in
     let q = word_of (drop 4 half) in
-    let here : s.pc ≡ o.place = at ∙ sym (at_place place inside) in
+    let here : s.pc ≡ o.place = at ∙ sym (sum_zero place inside) in
     let u = set 15 (far_address p s) s in
     let first : step p s ≡ Some u =
     ap (λ i. execute i p s) (decodes_far p c.far) ∙ ap (λ m. Some (go_on (write m (far_address p s) s))) c.far_rd in

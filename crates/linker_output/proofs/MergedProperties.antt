@@ -1,20 +1,11 @@
 -- Properties that are merged type by type.
-use Rattle.std.proofs.Common.{◌≡◌, ◌≢◌, ℕ, ◌+◌, ◌<◌, ◌≤◌, ◌^◌, true, List, [], ◌∷◌, ◌++◌, length}
-use Rattle.std.proofs.Common.{set, drop, refl, sym, ◌∙◌, ap, subst, arith, Option, Some, None, Ok}
-use Rattle.std.proofs.Common.{inl, inr}
-use Rattle.std.proofs.lemmas.Bool.Decides.{nat_tests}
-use Rattle.std.proofs.lemmas.Bool.{cases_lt}
-use Rattle.linker_output.specs.Properties.{rule_of, merged, merged_by, merged_kind, of_kind}
-use Rattle.linker_output.specs.Properties.{are_ascending, Merges}
+use Rattle.std.proofs.Common.{◌≡◌, ◌≢◌, ℕ, ◌+◌, ◌<◌, ◌≤◌, ◌^◌, true, List, [], ◌∷◌, ◌++◌, length, set, drop, refl, sym, ◌∙◌, ap, subst, arith, Option, Some, None, Ok, inl, inr}
+use Rattle.linker_output.proofs.Imports.{nat_tests, cases_lt, Architecture, AArch64, RiscV, LoongArch64, Ppc64, X86_64}
+use Rattle.linker_output.specs.Properties.{rule_of, merged, merged_by, merged_kind, of_kind, are_ascending, Merges}
 use Rattle.linker_output.specs.Inner.Properties.{put_all}
-use Rattle.linker_elf.specs.declared.elf.architecture.Architecture.{Architecture}
-use Rattle.linker_elf.specs.declared.elf.architecture.Architecture.TheVariants.{AArch64, RiscV}
-use Rattle.linker_elf.specs.declared.elf.architecture.Architecture.TheVariants.{LoongArch64, Ppc64}
-use Rattle.linker_elf.specs.declared.elf.architecture.Architecture.TheVariants.{X86_64}
 use Rattle.linker_output.specs.declared.properties.Property.{Property}
 use Rattle.linker_output.specs.declared.properties.PropertyRule.{PropertyRule}
-use Rattle.linker_output.specs.declared.properties.PropertyRule.TheVariants.{All, Any, AnyOfAll}
-use Rattle.linker_output.specs.declared.properties.PropertyRule.TheVariants.{Largest, Present, Same}
+use Rattle.linker_output.specs.declared.properties.PropertyRule.TheVariants.{All, Any, AnyOfAll, Largest, Present, Same}
 
 -- ---- lists
 

@@ -1,18 +1,12 @@
 -- The order in which properties are merged doesn't matter.
-use Rattle.std.proofs.Common.{◌≡◌, ℕ, refl, sym, ◌∙◌, ap, arith, Option, Some, None, Ok, bit_and}
-use Rattle.std.proofs.Common.{bit_or, max}
-use Rattle.std.proofs.lemmas.Bool.Decides.{nat_tests}
-use Rattle.std.proofs.lemmas.Nat.{and_comm, and_assoc, or_comm}
-use Rattle.std.proofs.Common.{List}
-use Rattle.linker_elf.specs.declared.elf.architecture.Architecture.{Architecture}
-use Rattle.linker_output.specs.Properties.{rule_of, of_kind, merged_kind, MergesAlike}
-use Rattle.linker_output.specs.Properties.{merged_by, merged_to, merged_with, value_of, unless_zero}
-use Rattle.linker_output.specs.Properties.{of_value, same_value}
+use Rattle.std.proofs.Common.{◌≡◌, ℕ, refl, sym, ◌∙◌, ap, arith, Option, Some, None, Ok, bit_and, bit_or, max, List}
+use Rattle.linker_output.proofs.Imports.{nat_tests, or_comm, Architecture}
+use Rattle.std.proofs.lemmas.Nat.{and_comm, and_assoc}
+use Rattle.linker_output.specs.Properties.{rule_of, of_kind, merged_kind, MergesAlike, merged_by, merged_to, merged_with, value_of, unless_zero, of_value, same_value}
 use Rattle.linker_output.proofs.JoinedFlags.{or_assoc}
 use Rattle.linker_output.specs.declared.properties.Property.{Property}
 use Rattle.linker_output.specs.declared.properties.PropertyRule.{PropertyRule}
-use Rattle.linker_output.specs.declared.properties.PropertyRule.TheVariants.{All, Any, AnyOfAll}
-use Rattle.linker_output.specs.declared.properties.PropertyRule.TheVariants.{Largest, Present, Same}
+use Rattle.linker_output.specs.declared.properties.PropertyRule.TheVariants.{All, Any, AnyOfAll, Largest, Present, Same}
 
 max_comm : (a b : ℕ) → max a b ≡ max b a
 max_comm a b = omega arith

@@ -1,6 +1,5 @@
 -- Stubs at the boundary next to a branch stay in its reach.
-use Rattle.std.proofs.Common.{◌≡◌, ◌+◌, ◌*◌, ◌<◌, ◌≤◌, ◌∙◌, ℕ, arith, List, length, ap, sym, subst}
-use Rattle.std.proofs.Common.{inl}
+use Rattle.std.proofs.Common.{◌≡◌, ◌+◌, ◌*◌, ◌<◌, ◌≤◌, ◌∙◌, ℕ, arith, List, length, ap, sym, subst, inl}
 use Rattle.std.proofs.Math.Nat.{mul-le-mul_left}
 use Rattle.linker_output.specs.declared.placement.Branch.{Branch}
 use Rattle.linker_output.specs.declared.placement.Code.{Code}
@@ -10,11 +9,8 @@ use Rattle.linker_output.specs.declared.placement.Part.TheVariants.{Front, Middl
 use Rattle.linker_output.specs.declared.placement.State.{State}
 use Rattle.linker_output.specs.declared.placement.StubAt.{StubAt}
 use Rattle.linker_output.specs.declared.placement.Way.TheVariants.{Near}
-use Rattle.linker_output.specs.Placement.{passed, at, group_at, branch_at, stub_at, stubs_in}
-use Rattle.linker_output.specs.Placement.{place_in, place_of, start_of, end_of, HasPart, ReachesAt}
-use Rattle.linker_output.specs.Placement.{IsLaidOut}
-use Rattle.linker_output.specs.Inner.Placement.{IsState, IsWay, IsNear, IsNearIn, ArePlaces}
-use Rattle.linker_output.specs.Inner.Placement.{IsServedBy, SameStubs, way_at}
+use Rattle.linker_output.specs.Placement.{passed, at, group_at, branch_at, stub_at, stubs_in, place_in, place_of, start_of, end_of, HasPart, ReachesAt, IsLaidOut}
+use Rattle.linker_output.specs.Inner.Placement.{IsState, IsWay, IsNear, IsNearIn, ArePlaces, IsServedBy, SameStubs, way_at}
 use Rattle.linker_output.proofs.Bounds.{part_most}
 use Rattle.linker_output.proofs.Groups.{size_least}
 

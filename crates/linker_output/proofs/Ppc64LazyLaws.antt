@@ -1,43 +1,28 @@
 -- PowerPC64's lazy PLT.
-use Rattle.std.proofs.Common.{◌≡◌, ℕ, ℤ, ◌+◌, ◌-◌, ◌*◌, ◌%◌, ◌^◌, ◌<◌, Bool, true, false, refl, sym}
-use Rattle.std.proofs.Common.{◌∙◌, ap, subst, arith}
-use Rattle.std.proofs.Common.{List, [], ◌∷◌, ◌++◌, take, drop, length, eqb, cond, Some, pos, negsuc}
-use Rattle.std.proofs.Common.{◌+ℤ◌, ◌*ℤ◌}
-use Rattle.std.specs.Prelude.{◌==◌, ◌&&◌, ◌||◌, IsSomeAnd, replicate}
-use Rattle.std.specs.Int.{w64, from_le_bytes, cast_unsigned}
-use Rattle.std.proofs.lemmas.Bool.{cond-true}
-use Rattle.std.proofs.lemmas.Int.{ints}
-use Rattle.std.proofs.lemmas.List.{drop-drop, take_at, length-take}
-use Rattle.linker_base.specs.Bits.{field}
+use Rattle.std.proofs.Common.{◌≡◌, ℕ, ℤ, ◌+◌, ◌-◌, ◌*◌, ◌%◌, ◌^◌, ◌<◌, Bool, true, false, refl, sym, ◌∙◌, ap, subst, arith, List, [], ◌∷◌, ◌++◌, take, drop, length, eqb, cond, Some, pos, negsuc, ◌+ℤ◌, ◌*ℤ◌}
+use Rattle.linker_output.proofs.Imports.{◌==◌, ◌&&◌, ◌||◌, IsSomeAnd, w64, from_le_bytes, cast_unsigned, cond-true, ints, drop-drop, take_at, length-take, field, ppc64_form, ppc64_name, ppc64_row, number_of_bytes, sum_64, difference_64, loaded, moved, wrapped, Formats, write, go_on, address_is, times_one, wrapped_is, opcode_of, sum_zero}
+use Rattle.std.specs.Prelude.{replicate}
 use Rattle.linker_base.specs.Form.{bits_to, place_sum}
 use Rattle.linker_base.specs.declared.bit_misc.BitRange.{BitRange}
-use Rattle.linker_elf.specs.Ppc64.{ppc64_form}
-use Rattle.linker_elf.specs.Ppc64Relocations.{ppc64_name, ppc64_row}
-use Rattle.linker_elf.specs.Relocate.{InstructionWritten, number_of_bytes}
-use Rattle.linker_elf.specs.Value.{sum_64, difference_64}
+use Rattle.linker_elf.specs.Relocate.{InstructionWritten}
 use Rattle.linker_elf.specs.declared.elf.RelocationInstruction.TheVariants.{Ppc64}
 use Rattle.linker_elf.specs.declared.ppc64.forms.Ppc64Instruction.TheVariants.{Branch24}
 use Rattle.linker_elf.specs.declared.ppc64.relocations.Ppc64Relocation.TheVariants as r
-use Rattle.linker_laws.specs.Machine.{loaded, moved, wrapped}
-use Rattle.linker_laws.specs.Ppc64Machine.{Formats, write, go_on, go_to}
+use Rattle.linker_laws.specs.Ppc64Machine.{go_to}
 use Rattle.linker_laws.specs.Ppc64RelocationLaws.{Branches, Fields}
 use Rattle.linker_laws.specs.Ppc64RewriteLaws.{word_of}
 use Rattle.linker_laws.proofs.AArch64Words.{field_kept}
-use Rattle.linker_laws.proofs.RiscVMachine.{address_is, times_one, wrapped_is}
-use Rattle.linker_output.proofs.LazyRuns.{run_more, one_word, following, are_addresses_at}
-use Rattle.linker_output.proofs.LazyRuns.{eight_on, no_move}
-use Rattle.linker_output.proofs.StubWords.{applies, no_addend, at_place}
+use Rattle.linker_output.proofs.LazyRuns.{run_more, one_word, following, are_addresses_at, eight_on, no_move}
+use Rattle.linker_output.proofs.StubWords.{applies, no_addend}
 use Rattle.linker_output.specs.LazyPlt.{operands_at, header_places}
 use Rattle.linker_output.specs.LazyPlts.{padded}
 use Rattle.linker_output.specs.LazyRuns.{words, or_else}
 use Rattle.linker_output.specs.Ppc64LazyPlt.{step, run, is_b, rotated, Asks}
 use Rattle.linker_output.specs.Ppc64LazyPlt as laws
-use Rattle.linker_output.specs.Ppc64Stubs.{Counted, lifted, step_counted, with_state, moved_from_link}
-use Rattle.linker_output.specs.Ppc64Stubs.{moved_to_link, linked, at_count}
+use Rattle.linker_output.specs.Ppc64Stubs.{Counted, lifted, step_counted, with_state, moved_from_link, moved_to_link, linked, at_count}
 use Rattle.linker_output.specs.Tables.{field_of, code_of_words}
 use Rattle.linker_output.specs.declared.lazy_plt.LazyField.{LazyField}
 use Rattle.linker_output.specs.declared.lazy_plt.LazyTarget.TheVariants.{Word, Header}
-use Rattle.linker_utils.specs.Ppc64Rewrites.{opcode_of}
 
 -- ---- `b`
 
@@ -241,7 +226,7 @@ resolves single fields entry first inside bounded within aligned small placed co
     let branching : IsBranch x = branch_after _ _ b is.0 one.applied.written (record { opcode_is = refl; low = refl }) in
     let to : moved c.state.pc ((ppc64_form Branch24).machine x) ≡ entry.header =
     times_one c.state.pc ((ppc64_form Branch24).machine x)
-    ∙ ap (λ p. wrapped (pos p +ℤ ((ppc64_form Branch24).machine x *ℤ pos 1))) (at ∙ sym (at_place entry.address inside))
+    ∙ ap (λ p. wrapped (pos p +ℤ ((ppc64_form Branch24).machine x *ℤ pos 1))) (at ∙ sym (sum_zero entry.address inside))
     ∙ address_is _ _ (single.0 o (are_addresses_at branch entry within) o.place b is.0 one.applied tt)
     ∙ no_addend entry.header within in
     let d : Counted = with_state (go_to (moved c.state.pc ((ppc64_form Branch24).machine x)) c.state) c in

@@ -1,27 +1,14 @@
 -- PowerPC64's functions that save and restore registers.
-use Rattle.std.proofs.Common.{◌≡◌, ◌≢◌, ℕ, zero, suc, ◌+◌, ◌-◌, ◌*◌, ◌/◌, ◌%◌, ◌^◌, ◌<◌, ◌≤◌, Bool}
-use Rattle.std.proofs.Common.{true, false, refl, sym, ◌∙◌, ap, subst, arith}
-use Rattle.std.proofs.Common.{List, [], ◌∷◌, length, eqb, Some, None, Option, pos, negsuc, ◌+ℤ◌}
-use Rattle.std.proofs.Common.{inl, inr}
-use Rattle.std.specs.Prelude.{◌&&◌, ⊤, codes, IsSomeAnd, nat_lt, nat_le, if◌then◌else◌}
-use Rattle.std.proofs.lemmas.Bool.{eqb-true, eq-eqb, ne_eqb, cond-true, cond-false, false≢true}
-use Rattle.std.proofs.lemmas.Bool.{lt-ltb, le-ltb, le-leb, lt-leb, cases_lt}
-use Rattle.std.proofs.lemmas.Int.{ints}
-use Rattle.linker_base.specs.Bits.{field}
+use Rattle.std.proofs.Common.{◌≡◌, ◌≢◌, ℕ, zero, suc, ◌+◌, ◌-◌, ◌*◌, ◌/◌, ◌%◌, ◌^◌, ◌<◌, ◌≤◌, Bool, true, false, refl, sym, ◌∙◌, ap, subst, arith, List, [], ◌∷◌, length, eqb, Some, None, Option, pos, negsuc, ◌+ℤ◌, inl, inr}
+use Rattle.linker_output.proofs.Imports.{◌&&◌, codes, IsSomeAnd, nat_lt, nat_le, if◌then◌else◌, eq-eqb, ne_eqb, cond-true, cond-false, false≢true, le-ltb, cases_lt, ints, field, sum_64, difference_64, Memory, moved, loaded, stored, Formats, write, store, go_on, with_number, wrapped_is}
+use Rattle.std.specs.Prelude.{⊤}
+use Rattle.std.proofs.lemmas.Bool.{eqb-true, lt-ltb, le-leb, lt-leb}
 use Rattle.linker_base.specs.Form.{place_sum}
-use Rattle.linker_elf.specs.Value.{sum_64, difference_64}
-use Rattle.linker_laws.specs.Machine.{Memory, moved, loaded, stored}
-use Rattle.linker_laws.specs.Ppc64Machine.{State, Formats, write, write_float, store, go_on}
-use Rattle.linker_laws.specs.Ppc64Machine.{with_number}
-use Rattle.linker_laws.proofs.RiscVMachine.{wrapped_is}
+use Rattle.linker_laws.specs.Ppc64Machine.{State, write_float}
 use Rattle.linker_output.proofs.LazyRuns.{run_more}
 use Rattle.linker_output.specs.Layout.{Run, spacing_with, own_word, run_word}
 use Rattle.linker_output.specs.Ppc64Output.{of_registers, save_link, load_link, mtlr_0, blr}
-use Rattle.linker_output.specs.Ppc64Saves.{step, run, returned, words_from, word_or_0, code_for}
-use Rattle.linker_output.specs.Ppc64Saves.{slot, is_from, saved, restored}
-use Rattle.linker_output.specs.Ppc64Saves.{Saves, Returns, Returned, Restores, RestoresIntegers}
-use Rattle.linker_output.specs.Ppc64Saves.{RestoresFloats, integers, floats, nothing_more}
-use Rattle.linker_output.specs.Ppc64Saves.{return_address}
+use Rattle.linker_output.specs.Ppc64Saves.{step, run, returned, words_from, word_or_0, code_for, slot, is_from, saved, restored, Saves, Returns, Returned, Restores, RestoresIntegers, RestoresFloats, integers, floats, nothing_more, return_address}
 use Rattle.linker_output.specs.Ppc64Saves as laws
 use Rattle.linker_output.specs.Ppc64Stubs.{Counted, with_state, moved_to_link}
 

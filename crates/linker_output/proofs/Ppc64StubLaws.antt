@@ -1,38 +1,17 @@
 -- PowerPC64's stubs go to their targets.
-use Rattle.std.proofs.Common.{◌≡◌, ℕ, ◌-◌, ◌%◌, ◌^◌, Bool, true, false, refl, sym, ◌∙◌, ap, subst}
-use Rattle.std.proofs.Common.{arith}
-use Rattle.std.proofs.Common.{List, [], ◌∷◌, ◌++◌, eqb, cond, Some, None, Option, drop, length, pos}
-use Rattle.std.proofs.Common.{◌+ℤ◌, ◌*ℤ◌}
-use Rattle.std.specs.Prelude.{IsSomeAnd, ◌||◌, ◌&&◌, ◌==◌, if◌then◌else◌}
-use Rattle.std.proofs.lemmas.Bool.{eq-eqb, cond-true}
-use Rattle.std.proofs.lemmas.List.{drop-drop}
-use Rattle.linker_base.specs.Bits.{field}
+use Rattle.std.proofs.Common.{◌≡◌, ℕ, ◌-◌, ◌%◌, ◌^◌, Bool, true, false, refl, sym, ◌∙◌, ap, subst, arith, List, [], ◌∷◌, ◌++◌, eqb, cond, Some, None, Option, drop, length, pos, ◌+ℤ◌, ◌*ℤ◌}
+use Rattle.linker_output.proofs.Imports.{IsSomeAnd, ◌||◌, ◌&&◌, ◌==◌, if◌then◌else◌, eq-eqb, cond-true, drop-drop, field, ppc64_form, ppc64_name, ppc64_row, sum_64, D, Ds, loaded, moved, Formats, go_on, TocAddresses, IsAddress, symbol_address, reads_ds, same_parts, HasParts, d_after, ds_after, sum_leads, step_addis, step_ld, opcode_of, rt_of, ra_of, three_words}
 use Rattle.linker_base.specs.Form.{place_sum}
-use Rattle.linker_elf.specs.Ppc64.{ppc64_form}
-use Rattle.linker_elf.specs.Ppc64Relocations.{ppc64_name, ppc64_row}
-use Rattle.linker_elf.specs.Value.{sum_64}
-use Rattle.linker_elf.specs.declared.ppc64.forms.Ppc64Instruction.TheVariants.{D, Ds}
 use Rattle.linker_elf.specs.declared.ppc64.relocations.Ppc64Relocation.TheVariants as r
-use Rattle.linker_laws.specs.Machine.{loaded, moved}
-use Rattle.linker_laws.specs.Ppc64Machine.{State, Formats, step, next_pc, go_on}
-use Rattle.linker_laws.specs.Ppc64RelocationLaws.{TocAddresses}
+use Rattle.linker_laws.specs.Ppc64Machine.{State, step, next_pc}
 use Rattle.linker_laws.specs.Ppc64RewriteLaws.{word_of}
-use Rattle.linker_laws.specs.Schemes.{IsAddress, symbol_address}
-use Rattle.linker_laws.proofs.Ppc64Addresses.{reads_ds, same_parts}
-use Rattle.linker_laws.proofs.Ppc64Words.{HasParts, d_after, ds_after, sum_leads, set, step_addis}
-use Rattle.linker_laws.proofs.Ppc64Words.{step_addi, step_ld}
-use Rattle.linker_output.proofs.LazyRuns.{twelve}
-use Rattle.linker_output.proofs.StubWords.{front_word, first_is, second_is, third_is, applies}
-use Rattle.linker_output.proofs.StubWords.{no_addend, are_addresses}
+use Rattle.linker_laws.proofs.Ppc64Words.{set, step_addi}
+use Rattle.linker_output.proofs.StubWords.{front_word, first_is, second_is, third_is, applies, no_addend, are_addresses}
 use Rattle.linker_output.specs.Ppc64Output.{ppc64_output}
-use Rattle.linker_output.specs.Ppc64Stubs.{Counted, step_counted, stepped, lifted, with_state, run}
-use Rattle.linker_output.specs.Ppc64Stubs.{continue, entered, at, GoesTo, moved_from_link}
-use Rattle.linker_output.specs.Ppc64Stubs.{moved_to_link, linked, at_count, is_mflr, is_mtlr}
-use Rattle.linker_output.specs.Ppc64Stubs.{is_mtctr}
+use Rattle.linker_output.specs.Ppc64Stubs.{Counted, step_counted, stepped, lifted, with_state, run, continue, entered, at, GoesTo, moved_from_link, moved_to_link, linked, at_count, is_mflr, is_mtlr, is_mtctr}
 use Rattle.linker_output.specs.Ppc64Stubs as stubs
 use Rattle.linker_output.specs.Stubs.{StubCode, operands_of}
 use Rattle.linker_output.specs.Tables.{field_of}
-use Rattle.linker_utils.specs.Ppc64Rewrites.{opcode_of, rt_of, ra_of}
 
 -- ---- steps
 
@@ -193,7 +172,7 @@ loads_go toc place word target inside below small even code is f c entry holds =
     let t = sum_64 (sum_64 c.state.pc 4) 4 in
     let v = moved t a in
     let w = loaded 8 c.state.memory (moved v b) in
-    let begin : t ≡ o.got_base = ap (λ p. sum_64 (sum_64 p 4) 4) entry ∙ twelve place in
+    let begin : t ≡ o.got_base = ap (λ p. sum_64 (sum_64 p 4) 4) entry ∙ three_words place in
     let leads : moved v b ≡ word =
     ap (λ p. moved (moved p a) b) begin
     ∙ sum_leads o.got_base (symbol_address o) a b
@@ -240,7 +219,7 @@ jumps_go toc place target inside below even code is f c entry =
     let t = sum_64 (sum_64 c.state.pc 4) 4 in
     let v = moved t a in
     let w = moved v b in
-    let begin : t ≡ o.got_base = ap (λ p. sum_64 (sum_64 p 4) 4) entry ∙ twelve place in
+    let begin : t ≡ o.got_base = ap (λ p. sum_64 (sum_64 p 4) 4) entry ∙ three_words place in
     let value : w ≡ target =
     ap (λ p. moved (moved p a) b) begin
     ∙ sum_leads o.got_base (symbol_address o) a b

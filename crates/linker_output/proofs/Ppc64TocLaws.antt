@@ -1,40 +1,21 @@
 -- PowerPC64's stubs by the TOC pointer and by prefixed instructions go to their targets.
-use Rattle.std.proofs.Common.{◌≡◌, ℕ, ◌-◌, ◌%◌, ◌^◌, ◌<◌, Bool, true, false, refl, sym, ◌∙◌, ap}
-use Rattle.std.proofs.Common.{subst, arith}
-use Rattle.std.proofs.Common.{List, [], ◌∷◌, ◌++◌, eqb, cond, Some, None, take, drop}
-use Rattle.std.proofs.Common.{length, pos, ◌+ℤ◌, ◌*ℤ◌}
-use Rattle.std.specs.Prelude.{IsSomeAnd, ◌||◌}
+use Rattle.std.proofs.Common.{◌≡◌, ℕ, ◌-◌, ◌%◌, ◌^◌, ◌<◌, Bool, true, false, refl, sym, ◌∙◌, ap, subst, arith, List, [], ◌∷◌, ◌++◌, eqb, cond, Some, None, take, drop, length, pos, ◌+ℤ◌, ◌*ℤ◌}
+use Rattle.linker_output.proofs.Imports.{IsSomeAnd, ◌||◌, eq-eqb, cond-true, drop-drop, field, ppc64_form, ppc64_name, ppc64_row, sum_64, Ppc64, D, Ds, loaded, moved, Formats, go_on, TocAddresses, IsAddress, symbol_address, reads_ds, same_parts, HasParts, d_after, ds_after, sum_leads, step_addis, step_ld, times_one, address_is, opcode_of, rt_of, ra_of, sum_zero}
 use Rattle.std.proofs.Math.Seq.{take-append_seam}
-use Rattle.std.proofs.lemmas.Bool.{eq-eqb, cond-true}
-use Rattle.std.proofs.lemmas.List.{drop-drop}
-use Rattle.linker_base.specs.Bits.{field}
-use Rattle.linker_elf.specs.Ppc64.{ppc64_form}
-use Rattle.linker_elf.specs.Ppc64Relocations.{ppc64_name, ppc64_row}
-use Rattle.linker_elf.specs.Value.{sum_64}
-use Rattle.linker_elf.specs.declared.elf.architecture.Architecture.TheVariants.{Ppc64}
-use Rattle.linker_elf.specs.declared.ppc64.forms.Ppc64Instruction.TheVariants.{D, Ds, Prefixed}
+use Rattle.linker_elf.specs.declared.ppc64.forms.Ppc64Instruction.TheVariants.{Prefixed}
 use Rattle.linker_elf.specs.declared.ppc64.relocations.Ppc64Relocation.TheVariants as r
-use Rattle.linker_laws.specs.Machine.{loaded, moved}
-use Rattle.linker_laws.specs.Ppc64Machine.{State, Formats, step_prefixed, go_on}
-use Rattle.linker_laws.specs.Ppc64RelocationLaws.{TocAddresses, Prefixes}
+use Rattle.linker_laws.specs.Ppc64Machine.{State, step_prefixed}
+use Rattle.linker_laws.specs.Ppc64RelocationLaws.{Prefixes}
 use Rattle.linker_laws.specs.Ppc64RewriteLaws.{word_of, prefixed_of}
-use Rattle.linker_laws.specs.Schemes.{IsAddress, symbol_address}
-use Rattle.linker_laws.proofs.Ppc64Addresses.{reads_ds, same_parts}
-use Rattle.linker_laws.proofs.Ppc64Prefixed.{HasPrefixedParts, prefixed_after, set_8, step_pld}
-use Rattle.linker_laws.proofs.Ppc64Prefixed.{step_paddi}
-use Rattle.linker_laws.proofs.Ppc64Words.{HasParts, d_after, ds_after, sum_leads, set, step_addis}
-use Rattle.linker_laws.proofs.Ppc64Words.{step_ld}
-use Rattle.linker_laws.proofs.RiscVMachine.{times_one, address_is}
+use Rattle.linker_laws.proofs.Ppc64Prefixed.{HasPrefixedParts, prefixed_after, set_8, step_pld, step_paddi}
+use Rattle.linker_laws.proofs.Ppc64Words.{set}
 use Rattle.linker_output.proofs.Ppc64StubLaws.{run_more, of_machine}
-use Rattle.linker_output.proofs.StubWords.{front_word, first_is, second_is, third_is, applies}
-use Rattle.linker_output.proofs.StubWords.{no_addend, are_addresses, at_place}
+use Rattle.linker_output.proofs.StubWords.{front_word, first_is, second_is, third_is, applies, no_addend, are_addresses}
 use Rattle.linker_output.specs.Ppc64Output.{by_toc, by_prefixed, jump_to_r12}
-use Rattle.linker_output.specs.Ppc64Stubs.{Counted, with_state, lifted, run, continue, at, at_count}
-use Rattle.linker_output.specs.Ppc64Stubs.{four_words, run_prefixed, GoesTo}
+use Rattle.linker_output.specs.Ppc64Stubs.{Counted, with_state, lifted, run, continue, at, at_count, four_words, run_prefixed, GoesTo}
 use Rattle.linker_output.specs.Ppc64Stubs as stubs
 use Rattle.linker_output.specs.Stubs.{operands_of, WritesPair}
 use Rattle.linker_output.specs.Tables.{field_of, code_of_words}
-use Rattle.linker_utils.specs.Ppc64Rewrites.{opcode_of, rt_of, ra_of}
 
 -- `mtctr 12` and `bctr`
 abbrev tail : List ℕ
@@ -109,7 +90,7 @@ goes law toc word target inside below even code pair len writes is f c base hold
     let b = (ppc64_form Ds).machine y in
     let v = moved (c.state.registers 2) a in
     let w = loaded 8 c.state.memory (moved v b) in
-    let begin : c.state.registers 2 ≡ o.got_base = base ∙ sym (at_place toc inside) in
+    let begin : c.state.registers 2 ≡ o.got_base = base ∙ sym (sum_zero toc inside) in
     let leads : moved v b ≡ word =
     ap (λ p. moved (moved p a) b) begin
     ∙ sum_leads o.got_base (symbol_address o) a b
@@ -190,7 +171,7 @@ leads_to law prefix suffix place target inside below pair writes s at_pc =
     writes.1.0 writes.1.1 writes.1.2 in
     let m = (ppc64_form Prefixed).machine (prefixed_of writes.0) in
     ap (λ b. moved s.pc ((ppc64_form Prefixed).machine (prefixed_of b))) writes.2
-    ∙ ap (λ t. moved t m) (at_pc ∙ sym (at_place place inside)) ∙ times_one o.place m
+    ∙ ap (λ t. moved t m) (at_pc ∙ sym (sum_zero place inside)) ∙ times_one o.place m
     ∙ address_is _ _ (law.0 o (are_addresses stub place target below) o.place stub.pair writes.0 high.applied tt)
     ∙ no_addend target below
 

@@ -1,28 +1,15 @@
 -- A note that was written is read as the properties that were written.
-use Rattle.std.proofs.Common.{◌≡◌, ℕ, ◌+◌, ◌-◌, ◌*◌, ◌/◌, ◌%◌, ◌<◌, ◌≤◌, ◌^◌, true, false, List, []}
-use Rattle.std.proofs.Common.{◌∷◌, ◌++◌, length, take, drop, refl, sym, ◌∙◌, ap, subst, arith, suc}
-use Rattle.std.proofs.Common.{Option, Some, None, Result, Ok, Err, append_assoc, nat_lt, ◌&&◌}
-use Rattle.std.specs.Prelude.{◌==◌, if◌then◌else◌}
-use Rattle.std.specs.Int.{w64, to_le_bytes, from_le_bytes}
+use Rattle.std.proofs.Common.{◌≡◌, ℕ, ◌+◌, ◌-◌, ◌*◌, ◌/◌, ◌%◌, ◌<◌, ◌≤◌, ◌^◌, true, false, List, [], ◌∷◌, ◌++◌, length, take, drop, refl, sym, ◌∙◌, ap, subst, arith, suc, Option, Some, None, Result, Ok, Err, append_assoc, nat_lt, ◌&&◌}
+use Rattle.linker_output.proofs.Imports.{◌==◌, if◌then◌else◌, w64, to_le_bytes, from_le_bytes, drop_at, length-append, take_at, nat_tests, Architecture}
 use Rattle.std.proofs.lemmas.Nat.{from_le_bytes-to_le_bytes_8}
-use Rattle.std.proofs.lemmas.List.{drop_at, length-append, take_at}
-use Rattle.std.proofs.lemmas.Bool.Decides.{nat_tests}
-use Rattle.linker_output.specs.Properties.{bytes_of, words_from, words_by, with_words}
-use Rattle.linker_output.specs.Properties.{property_words, value_words, rule_of, fits, note_words}
-use Rattle.linker_output.specs.Properties.{word_at, size_of, padded, property_at, visit, visit_note}
-use Rattle.linker_output.specs.Properties.{read, start, properties_of, before, is_header}
-use Rattle.linker_elf.specs.declared.elf.architecture.Architecture.{Architecture}
+use Rattle.linker_output.specs.Properties.{bytes_of, words_from, words_by, with_words, property_words, value_words, rule_of, fits, note_words, word_at, size_of, padded, property_at, visit, visit_note, read, start, properties_of, before, is_header, WritesNote}
 use Rattle.linker_output.specs.declared.properties.Property.{Property}
 use Rattle.linker_output.specs.declared.properties.Reading.{Reading}
 use Rattle.linker_output.specs.declared.properties.PropertyRule.{PropertyRule}
-use Rattle.linker_output.specs.declared.properties.PropertyRule.TheVariants.{All, Any, AnyOfAll}
-use Rattle.linker_output.specs.declared.properties.PropertyRule.TheVariants.{Largest, Present, Same}
+use Rattle.linker_output.specs.declared.properties.PropertyRule.TheVariants.{All, Any, AnyOfAll, Largest, Present, Same}
 use Rattle.linker_output.specs.declared.properties.PropertyError.{PropertyError}
-use Rattle.linker_output.specs.declared.properties.PropertyError.TheVariants.{TooLarge}
-use Rattle.linker_output.specs.declared.properties.PropertyError.TheVariants.{NotAscending}
-use Rattle.linker_output.proofs.WrittenProperties.{length_bytes, bytes_append, word_count}
-use Rattle.linker_output.proofs.WrittenProperties.{with_header}
-use Rattle.linker_output.specs.Properties.{WritesNote}
+use Rattle.linker_output.specs.declared.properties.PropertyError.TheVariants.{TooLarge, NotAscending}
+use Rattle.linker_output.proofs.WrittenProperties.{length_bytes, bytes_append, word_count, with_header}
 use Rattle.linker_output.specs.Inner.Properties.{IsSlim, AreSlim}
 use Rattle.linker_output.proofs.ReadProperties.{on_step, at_end}
 

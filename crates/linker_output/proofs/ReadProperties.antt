@@ -1,14 +1,7 @@
 -- Properties that are read step by step.
-use Rattle.std.proofs.Common.{◌≡◌, ℕ, ◌+◌, ◌-◌, ◌/◌, ◌%◌, ◌<◌, ◌≤◌, ◌^◌, true, false, List, [], ◌∷◌}
-use Rattle.std.proofs.Common.{◌++◌, length, refl, sym, ◌∙◌, ap, arith, zero, suc, Option, Some}
-use Rattle.std.proofs.Common.{None, Result, Ok, Err, nat_lt, append_assoc}
-use Rattle.std.specs.Prelude.{◌==◌, if◌then◌else◌}
-use Rattle.std.proofs.lemmas.Bool.Decides.{nat_tests}
-use Rattle.std.proofs.lemmas.List.{append-nil}
-use Rattle.linker_output.specs.Properties.{rule_of, visit, visit_by, visit_note, visit_property}
-use Rattle.linker_output.specs.Properties.{before, followed, read, start, properties_of, padded}
-use Rattle.linker_output.specs.Properties.{word_at}
-use Rattle.linker_elf.specs.declared.elf.architecture.Architecture.{Architecture}
+use Rattle.std.proofs.Common.{◌≡◌, ℕ, ◌+◌, ◌-◌, ◌/◌, ◌%◌, ◌<◌, ◌≤◌, ◌^◌, true, false, List, [], ◌∷◌, ◌++◌, length, refl, sym, ◌∙◌, ap, arith, zero, suc, Option, Some, None, Result, Ok, Err, nat_lt, append_assoc}
+use Rattle.linker_output.proofs.Imports.{◌==◌, if◌then◌else◌, nat_tests, append-nil, Architecture}
+use Rattle.linker_output.specs.Properties.{rule_of, visit, visit_by, visit_note, visit_property, before, followed, read, start, properties_of, padded, word_at}
 use Rattle.linker_output.specs.declared.properties.Property.{Property}
 use Rattle.linker_output.specs.declared.properties.Reading.{Reading}
 use Rattle.linker_output.specs.declared.properties.PropertyRule.{PropertyRule}

@@ -1,21 +1,14 @@
 -- Lists of numbers that are written one after the other, and words without a fault.
-use Rattle.std.proofs.Common.{◌≡◌, ◌≢◌, ℕ, ◌+◌, ◌-◌, ◌*◌, ◌%◌, ◌^◌, ◌<◌, ◌≤◌, Bool, true, false}
-use Rattle.std.proofs.Common.{List, [], ◌∷◌, ◌++◌, length, take, drop, set, refl, sym, ◌∙◌, ap}
-use Rattle.std.proofs.Common.{subst, arith, nat_lt, nat_eq, cond, zero, suc, Option, Some, None}
-use Rattle.std.proofs.Common.{append_assoc, ◌||◌, ◌&&◌, ◌==◌, if◌then◌else◌, get_or}
-use Rattle.std.proofs.lemmas.Bool.Decides.{nat_tests}
-use Rattle.std.proofs.lemmas.List.{append-nil, take-append-drop, take_more_set, drop-set-lt}
-use Rattle.std.proofs.lemmas.List.{length-set, length-append}
-use Rattle.std.specs.Int.{bit_at}
+use Rattle.std.proofs.Common.{◌≡◌, ◌≢◌, ℕ, ◌+◌, ◌-◌, ◌*◌, ◌%◌, ◌^◌, ◌<◌, ◌≤◌, Bool, true, false, List, [], ◌∷◌, ◌++◌, length, take, drop, set, refl, sym, ◌∙◌, ap, subst, arith, nat_lt, nat_eq, cond, zero, suc, Option, Some, None, append_assoc, ◌||◌, ◌&&◌, ◌==◌, if◌then◌else◌, get_or}
+use Rattle.linker_output.proofs.Imports.{nat_tests, append-nil, take-append-drop, length-append, bit_at, list_all}
+use Rattle.std.proofs.lemmas.List.{take_more_set, drop-set-lt, length-set}
 use Rattle.std.proofs.lemmas.List.Folds.{list_all-append}
-use Rattle.std.specs.List.{list_all}
-use Rattle.linker_output.specs.Relr.{relocated, marked, word_fault, relr_fault, are_addresses}
-use Rattle.linker_output.specs.Relr.{RejectsWords}
+use Rattle.linker_output.specs.Relr.{relocated, marked, word_fault, relr_fault, are_addresses, RejectsWords}
 use Rattle.linker_output.specs.declared.relr.RelrError.{RelrError}
-use Rattle.linker_output.specs.declared.relr.RelrError.TheVariants.{Unaligned, NotAscending}
-use Rattle.linker_output.specs.declared.relr.RelrError.TheVariants.{NoAddress, Wraps, TooShort}
+use Rattle.linker_output.specs.declared.relr.RelrError.TheVariants.{Unaligned, NotAscending, NoAddress, Wraps, TooShort}
 use Rattle.linker_output.proofs.RelrWords.{leaves_more}
 use Rattle.linker_output.specs.Inner.Relr.{capped, put_all, Leaves}
+use Rattle.linker_elf.proofs.Terms.{and_false}
 
 -- each number where the one before it ends
 put_written : (ws xs : List ℕ) (n : ℕ) → n + length ws ≤ length xs → length xs < 2 ^ 64 → put_all n ws xs ≡ take n xs ++ (ws ++ drop (n + length ws) xs)
@@ -92,10 +85,6 @@ marked_faulty : (m n base bitmap : ℕ) → are_addresses (marked n base bitmap)
 marked_faulty zero n base bitmap h = let e : 0 + n ≡ n = omega arith in rw e h
 marked_faulty (suc m) n base bitmap h =
     let e : suc m + n ≡ suc (m + n) = omega arith in rw e (faulty_step (m + n) base bitmap (marked_faulty m n base bitmap h))
-
-and_false : (b : Bool) → (b && false) ≡ false
-and_false true = refl
-and_false false = refl
 
 -- an address of 2^64 or more is a fault
 pub marked_wraps : (n base bitmap : ℕ) → bit_at bitmap (n + 1) ≡ 1 → n < 63 → 2 ^ 64 ≤ base + 8 * n → are_addresses (marked 63 base bitmap) ≡ false

@@ -1,24 +1,16 @@
 -- The words that the code makes relocate the addresses.
-use Rattle.std.proofs.Common.{◌≡◌, ◌≢◌, ℕ, ◌+◌, ◌-◌, ◌*◌, ◌/◌, ◌%◌, ◌^◌, ◌<◌, ◌≤◌, Bool, true}
-use Rattle.std.proofs.Common.{false, List, [], ◌∷◌, ◌++◌, length, refl, sym, ◌∙◌, ap, subst, arith}
-use Rattle.std.proofs.Common.{nat_eq, cond, zero, suc, Option, Some, None, bit_or, append_assoc}
-use Rattle.std.proofs.Common.{◌⊎◌, inl, inr}
-use Rattle.std.proofs.lemmas.Bool.Decides.{nat_tests}
-use Rattle.std.proofs.lemmas.List.{append-nil}
-use Rattle.std.proofs.lemmas.Nat.Bits.{bit_at_above, bit_at_set_same, bit_at_set_other}
-use Rattle.std.proofs.lemmas.Nat.Bits.{bit_at_lowest}
-use Rattle.std.specs.Int.{bit_at, w64}
-use Rattle.std.specs.List.{list_all}
+use Rattle.std.proofs.Common.{◌≡◌, ◌≢◌, ℕ, ◌+◌, ◌-◌, ◌*◌, ◌/◌, ◌%◌, ◌^◌, ◌<◌, ◌≤◌, Bool, true, false, List, [], ◌∷◌, ◌++◌, length, refl, sym, ◌∙◌, ap, subst, arith, nat_eq, cond, zero, suc, Option, Some, None, bit_or, append_assoc, ◌⊎◌, inl, inr}
+use Rattle.linker_output.proofs.Imports.{nat_tests, append-nil, bit_at, w64, list_all}
+use Rattle.std.proofs.lemmas.Nat.Bits.{bit_at_above, bit_at_set_same, bit_at_set_other, bit_at_lowest}
 use Rattle.std.proofs.lemmas.Bool.{cases_Bool}
-use Rattle.linker_output.specs.Relr.{relocated, marked, address_fault, are_addresses, relr_fault}
-use Rattle.linker_output.specs.Relr.{word_fault, Packs, RejectsAddresses}
+use Rattle.linker_output.specs.Relr.{relocated, marked, address_fault, are_addresses, relr_fault, word_fault, Packs, RejectsAddresses}
 use Rattle.linker_output.specs.Inner.Relr.{words_from, words_of, is_past}
 use Rattle.linker_output.specs.declared.relr.RelrError.{RelrError}
-use Rattle.linker_output.specs.declared.relr.RelrError.TheVariants.{Unaligned, NotAscending}
-use Rattle.linker_output.specs.declared.relr.RelrError.TheVariants.{NoAddress, Wraps, TooShort}
+use Rattle.linker_output.specs.declared.relr.RelrError.TheVariants.{Unaligned, NotAscending, NoAddress, Wraps, TooShort}
 use Rattle.linker_output.proofs.RelrLists.{is_sound, no_fault}
 use Rattle.linker_output.proofs.RelrFewest.{cost, cost_next, cost_words}
 use Rattle.linker_output.proofs.RelrWords.{past_words, near_words, far_words, clean}
+use Rattle.linker_section.proofs.Saving.{plus_one}
 
 -- ---- bitmaps
 
@@ -45,13 +37,10 @@ marked_below (suc n) base bitmap k small h =
 record IsBelow (bitmap k : ℕ) : Type 0 where
   none : (i : ℕ) → k ≤ i → bit_at bitmap i ≡ 0
 
-suc_is : (k : ℕ) → suc k ≡ k + 1
-suc_is k = omega arith
-
 marked_at : (base bitmap k : ℕ) → suc k < 64 → IsBelow bitmap (suc k) → marked (suc k) base (with_bit bitmap (suc k)) ≡ marked (suc k) base bitmap ++ (base + 8 * k) ∷ []
 unfolding marked with_bit
 marked_at base bitmap k small h =
-    let e : bit_at (with_bit bitmap (suc k)) (k + 1) ≡ 1 = rw (← suc_is k) (bit_at_set_same w64 bitmap (suc k) small) in
+    let e : bit_at (with_bit bitmap (suc k)) (k + 1) ≡ 1 = rw (← plus_one k) (bit_at_set_same w64 bitmap (suc k) small) in
     let f : bit_at bitmap (k + 1) ≡ 0 = h.none (k + 1) (omega arith) in
     rw (marked_below k base bitmap (suc k) small (omega arith), e, f, append-nil)
 

@@ -1,32 +1,17 @@
 -- RISC-V's lazy PLT.
-use Rattle.std.proofs.Common.{◌≡◌, ℕ, ◌-◌, ◌/◌, ◌%◌, ◌^◌, ◌<◌, refl, sym, ◌∙◌, ap, subst, arith, ℤ}
-use Rattle.std.proofs.Common.{Some, false, ◌==◌}
-use Rattle.std.proofs.Common.{List, [], ◌∷◌, ◌++◌, take, Option, pos, negsuc, ◌+ℤ◌}
-use Rattle.std.specs.Prelude.{◌||◌, IsSomeAnd}
-use Rattle.std.proofs.lemmas.Bool.{or_parts}
+use Rattle.std.proofs.Common.{◌≡◌, ℕ, ◌-◌, ◌/◌, ◌%◌, ◌^◌, ◌<◌, refl, sym, ◌∙◌, ap, subst, arith, ℤ, Some, false, ◌==◌, List, [], ◌∷◌, ◌++◌, take, Option, pos, negsuc, ◌+ℤ◌}
+use Rattle.linker_output.proofs.Imports.{◌||◌, IsSomeAnd, or_parts, riscv_form, riscv_name, riscv_relocation, sum_64, difference_64, Relative, RelativeRiscVLow12, Operands, UType, IType, RelocationKindInfo, wrapped, moved, loaded, Hart, register, auipc, sums, jumps, executed, of_word, load_number, upper_word, load_word, whole_number, moved_twice, address_is, other, unwritten, RiscV, three_words, sum_zero}
 use Rattle.linker_base.specs.Form.{place_sum}
 use Rattle.linker_elf.specs.Applied.{IsApplied}
-use Rattle.linker_elf.specs.RiscV.{riscv_form}
-use Rattle.linker_elf.specs.RiscVRelocations.{riscv_name, riscv_relocation}
-use Rattle.linker_elf.specs.Value.{sum_64, difference_64}
-use Rattle.linker_elf.specs.declared.elf.RelocationKind.TheVariants.{Relative, RelativeRiscVLow12}
-use Rattle.linker_elf.specs.declared.elf.value.Operands.{Operands}
-use Rattle.linker_elf.specs.declared.riscv64.forms.RiscVInstruction.TheVariants.{UType, IType}
 use Rattle.linker_elf.specs.declared.riscv64.relocations.RiscVRelocation.TheVariants as r
 use Rattle.linker_elf.specs.declared.riscv64.relocations.RiscVRelocation.{RiscVRelocation}
-use Rattle.linker_elf.specs.declared.elf.RelocationKindInfo.{RelocationKindInfo}
-use Rattle.linker_laws.specs.Machine.{wrapped, moved, loaded}
-use Rattle.linker_laws.specs.RiscVMachine.{Hart, Instruction, register, with_integer, goes_on}
-use Rattle.linker_laws.specs.RiscVMachine.{auipc, sums, adds, loads, jumps, executed, of_word}
-use Rattle.linker_laws.specs.RiscVMachine.{load_number}
+use Rattle.linker_laws.specs.RiscVMachine.{Instruction, with_integer, goes_on, adds, loads}
 use Rattle.linker_laws.specs.RiscVRelocationLaws.{RelativeAddresses}
 use Rattle.linker_laws.specs.RiscVRewriteLaws.{word_of}
-use Rattle.linker_laws.proofs.RiscVDescriptors.{upper_word, load_word, sum_word, whole_number}
-use Rattle.linker_laws.proofs.RiscVMachine.{moved_twice, address_is, other, unwritten}
-use Rattle.linker_output.proofs.LazyRuns.{run_more, second_and_last}
-use Rattle.linker_output.proofs.LazyRuns.{one_word, are_addresses_at, twelve, eight_on, no_move, offset_is}
+use Rattle.linker_laws.proofs.RiscVDescriptors.{sum_word}
+use Rattle.linker_output.proofs.LazyRuns.{run_more, second_and_last, one_word, are_addresses_at, eight_on, no_move, offset_is}
 use Rattle.linker_output.proofs.RiscVStubLaws.{jr_is}
-use Rattle.linker_output.proofs.StubWords.{applies, no_addend, at_place}
+use Rattle.linker_output.proofs.StubWords.{applies, no_addend}
 use Rattle.linker_output.specs.LazyPlt.{IsCode, operands_at, header_places}
 use Rattle.linker_output.specs.LazyPlts.{riscv_entry, padded}
 use Rattle.linker_output.specs.LazyRuns.{words, or_else}
@@ -35,7 +20,6 @@ use Rattle.linker_output.specs.RiscVLazyPlt as laws
 use Rattle.linker_output.specs.declared.lazy_plt.LazyEntry.{LazyEntry}
 use Rattle.linker_output.specs.declared.lazy_plt.LazyTarget.TheVariants.{Word}
 use Rattle.linker_output.specs.Tables.{field_of, code_of_words}
-use Rattle.linker_elf.specs.declared.elf.architecture.Architecture.TheVariants.{RiscV}
 
 -- ---- steps
 
@@ -82,7 +66,7 @@ module _ (entry : LazyEntry) (h : Hart) (u i : ℤ) (target : ℕ) (small : targ
 
   after_is : register three 6 ≡ sum_64 entry.address 12
   unfolding one two three
-  after_is = twelve h.pc ∙ ap (λ p. sum_64 p 12) at
+  after_is = three_words h.pc ∙ ap (λ p. sum_64 p 12) at
 
   still : register three 28 ≡ register two 28
   unfolding three
@@ -139,7 +123,7 @@ leads_to relative entry inside below pc at before high before' low a b =
     let u = (riscv_form UType).machine (word_of high) in
     let i = (riscv_form IType).machine (word_of low) in
     let addresses = are_addresses_at (record { field = field_of 0 (riscv_name r.R_RISCV_PCREL_HI20); target = Word; origin = 0; addend = pos 0 }) entry below in
-    moved_twice pc u i ∙ ap (λ p. wrapped (pos p +ℤ (u +ℤ i))) (at ∙ sym (at_place entry.address inside))
+    moved_twice pc u i ∙ ap (λ p. wrapped (pos p +ℤ (u +ℤ i))) (at ∙ sym (sum_zero entry.address inside))
     ∙ address_is _ _ (relative.0 o addresses o.place before high a tt o.place before' low b tt)
     ∙ no_addend entry.word below
 

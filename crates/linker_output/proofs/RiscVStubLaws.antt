@@ -1,35 +1,20 @@
 -- RISC-V's stub goes to the address in its word.
-use Rattle.std.proofs.Common.{◌≡◌, ℕ, ◌-◌, ◌%◌, ◌^◌, ◌<◌, refl, sym, ◌∙◌, ap, subst, arith}
-use Rattle.std.proofs.Common.{ℤ, Some, false}
-use Rattle.std.proofs.Common.{List, length, drop, pos, ◌+ℤ◌}
-use Rattle.std.specs.Prelude.{◌==◌}
-use Rattle.std.proofs.lemmas.Int.{ints}
-use Rattle.std.proofs.lemmas.List.{length-drop, length-append}
-use Rattle.linker_base.specs.Bits.{field}
+use Rattle.std.proofs.Common.{◌≡◌, ℕ, ◌-◌, ◌%◌, ◌^◌, ◌<◌, refl, sym, ◌∙◌, ap, subst, arith, ℤ, Some, false, List, length, drop, pos, ◌+ℤ◌}
+use Rattle.linker_output.proofs.Imports.{◌==◌, ints, length-drop, length-append, field, riscv_form, sum_64, difference_64, Relative, RelativeRiscVLow12, UType, IType, wrapped, moved, loaded, Hart, register, auipc, sums, jumps, executed, of_word, load_number, upper_word, load_word, whole_number, moved_twice, address_is, other, unwritten, riscv_name, riscv_relocation, sum_zero}
 use Rattle.linker_base.specs.Form.{place_sum}
-use Rattle.linker_elf.specs.RiscV.{riscv_form}
-use Rattle.linker_elf.specs.Value.{sum_64, difference_64}
-use Rattle.linker_elf.specs.declared.elf.RelocationKind.TheVariants.{Relative, RelativeRiscVLow12}
-use Rattle.linker_elf.specs.declared.riscv64.forms.RiscVInstruction.TheVariants.{UType, IType}
 use Rattle.linker_riscv64.specs.RiscVFields.{opcode_of, funct3_of, rd_of}
-use Rattle.linker_laws.specs.Machine.{wrapped, moved, loaded}
-use Rattle.linker_laws.specs.RiscVMachine.{Hart, register, auipc, sums, loads, jumps, executed}
-use Rattle.linker_laws.specs.RiscVMachine.{Runs, fetched, of_word, rs1_of, load_number}
+use Rattle.linker_laws.specs.RiscVMachine.{loads, Runs, fetched, rs1_of}
 use Rattle.linker_laws.specs.RiscVRelocationLaws.{RelativeAddresses}
 use Rattle.linker_laws.specs.RiscVRewriteLaws.{word_of}
-use Rattle.linker_laws.proofs.RiscVDescriptors.{upper_word, upper_long, load_word, low_long}
-use Rattle.linker_laws.proofs.RiscVDescriptors.{whole_number}
-use Rattle.linker_laws.proofs.RiscVMachine.{at_start, at_second, fetched_word, steps, moved_twice}
-use Rattle.linker_laws.proofs.RiscVMachine.{address_is, other, written, unwritten}
-use Rattle.linker_elf.specs.RiscVRelocations.{riscv_name, riscv_relocation}
+use Rattle.linker_laws.proofs.RiscVDescriptors.{upper_long, low_long}
+use Rattle.linker_laws.proofs.RiscVMachine.{at_start, at_second, fetched_word, steps, written}
 use Rattle.linker_elf.specs.declared.riscv64.relocations.RiscVRelocation.TheVariants as r
 use Rattle.linker_output.specs.RiscVOutput.{riscv_output}
 use Rattle.linker_output.specs.Stubs.{operands_of}
 use Rattle.linker_output.specs.Tables.{field_of}
 use Rattle.linker_output.specs.RiscVStubs.{GoesTo}
 use Rattle.linker_output.specs.RiscVStubs as stubs
-use Rattle.linker_output.proofs.StubWords.{front_word, first_is, second_is, third_is, applies}
-use Rattle.linker_output.proofs.StubWords.{no_addend, at_place, are_addresses}
+use Rattle.linker_output.proofs.StubWords.{front_word, first_is, second_is, third_is, applies, no_addend, are_addresses}
 
 at_third : (pc : ℕ) → pc < 2 ^ 64 → difference_64 (sum_64 (sum_64 pc 4) 4) pc ≡ 8
 at_third pc small = omega arith
@@ -126,7 +111,7 @@ loads_go relative place word target inside below small even code is h at holds =
     let i = (riscv_form IType).machine (word_of (drop 4 pair)) in
     let here : h.pc < 2 ^ 64 = subst (λ p. p < 2 ^ 64) (sym at) inside in
     let leads : moved (moved h.pc u) i ≡ word =
-    moved_twice h.pc u i ∙ ap (λ p. wrapped (pos p +ℤ (u +ℤ i))) (at ∙ sym (at_place place inside))
+    moved_twice h.pc u i ∙ ap (λ p. wrapped (pos p +ℤ (u +ℤ i))) (at ∙ sym (sum_zero place inside))
     ∙ address_is _ _ (relative.0 o addresses o.place template half a tt o.place (drop 4 half) (drop 4 pair) b tt)
     ∙ no_addend word below in
     let first : fetched code ≡ Some (4, auipc 28 u) =

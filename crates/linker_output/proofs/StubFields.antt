@@ -1,23 +1,13 @@
 -- What the code of stubs is made of, as it is written.
-use Rattle.std.proofs.Common.{ℕ, ℤ, ◌≡◌, ◌+◌, ◌-◌, ◌++◌, ◌∙◌, List, [], Option, Some, refl, sym, ap}
-use Rattle.std.proofs.Common.{subst, arith}
-use Rattle.std.proofs.Common.{inl, inr, length, take, drop}
+use Rattle.std.proofs.Common.{ℕ, ℤ, ◌≡◌, ◌+◌, ◌-◌, ◌++◌, ◌∙◌, List, [], Option, Some, refl, sym, ap, subst, arith, inl, inr, length, take, drop}
 use Rattle.std.specs.Prelude.{Result, Ok, Err, OnOk, IfErr}
-use Rattle.std.proofs.lemmas.List.{take_all, drop_all, take_at, drop_at, drop-drop, append-nil}
-use Rattle.std.proofs.lemmas.List.{append_assoc}
-use Rattle.std.proofs.lemmas.List.{length-take, length-drop, length-append}
+use Rattle.linker_output.proofs.Imports.{take_at, drop_at, drop-drop, append-nil, append_assoc, length-take, length-drop, length-append, IsCause, value_of, RelocationKindInfo, RelocateError, OutOfReach, Operands, IsRow, Architecture}
+use Rattle.std.proofs.lemmas.List.{take_all, drop_all}
 use Rattle.linker_elf.specs.Elf.{IsAllowed}
-use Rattle.linker_elf.specs.Relocate.{IsCause, WritesRow, RejectsValue}
-use Rattle.linker_elf.specs.Value.{value_of}
+use Rattle.linker_elf.specs.Relocate.{WritesRow, RejectsValue}
 use Rattle.linker_elf.specs.declared.elf.AllowedRange.{AllowedRange}
-use Rattle.linker_elf.specs.declared.elf.RelocationKindInfo.{RelocationKindInfo}
-use Rattle.linker_elf.specs.declared.elf.relocate.RelocateError.{RelocateError}
-use Rattle.linker_elf.specs.declared.elf.relocate.RelocateError.TheVariants.{OutOfReach}
-use Rattle.linker_elf.specs.declared.elf.value.Operands.{Operands}
 use Rattle.linker_output.specs.Stubs.{IsValueCause, WritesField, RejectsField, AppliesAt, offset_in}
 use Rattle.linker_output.specs.declared.stubs.StubField.{StubField}
-use Rattle.linker_elf.specs.Architectures.{IsRow}
-use Rattle.linker_elf.specs.declared.elf.architecture.Architecture.{Architecture}
 
 -- ---- a field
 

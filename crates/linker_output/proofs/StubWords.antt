@@ -1,14 +1,8 @@
 -- The words of a stub's code, and the relocations of its fields.
-use Rattle.std.proofs.Common.{◌≡◌, ℕ, ◌^◌, ◌<◌, refl, ◌∙◌, ap, subst, arith, List, [], ◌∷◌, ◌++◌}
-use Rattle.std.proofs.Common.{length, take, drop, Option, Some, pos}
-use Rattle.std.specs.Prelude.{IsSomeAnd}
-use Rattle.std.specs.Int.{w32, w64, from_le_bytes, cast_unsigned}
-use Rattle.std.proofs.lemmas.List.{drop_at}
+use Rattle.std.proofs.Common.{◌≡◌, ℕ, ◌^◌, ◌<◌, refl, ◌∙◌, ap, subst, arith, List, [], ◌∷◌, ◌++◌, length, take, drop, Option, Some, pos}
+use Rattle.linker_output.proofs.Imports.{IsSomeAnd, w64, from_le_bytes, cast_unsigned, drop_at, sum_64, RelocationKindInfo, Operands, AreAddresses}
+use Rattle.std.specs.Int.{w32}
 use Rattle.linker_elf.specs.ElfNames.{ElfName, IsNamed, code_of}
-use Rattle.linker_elf.specs.Value.{sum_64}
-use Rattle.linker_elf.specs.declared.elf.RelocationKindInfo.{RelocationKindInfo}
-use Rattle.linker_elf.specs.declared.elf.value.Operands.{Operands}
-use Rattle.linker_laws.specs.Schemes.{AreAddresses}
 use Rattle.linker_output.specs.Stubs.{AppliesAt, StubCode, operands_of}
 use Rattle.linker_output.specs.declared.stubs.StubField.{StubField}
 use Rattle.linker_elf.specs.Architectures.{IsNamedValue}
@@ -73,9 +67,6 @@ applies elf row_of name field o before after named same row is applied =
 
 pub no_addend : (n : ℕ) → n < 2 ^ 64 → sum_64 n (cast_unsigned w64 (pos 0)) ≡ n
 no_addend n small = omega arith
-
-pub at_place : (n : ℕ) → n < 2 ^ 64 → sum_64 n 0 ≡ n
-at_place n small = omega arith
 
 pub are_addresses : (stub : StubCode) (place target : ℕ) → target < 2 ^ 64
     → AreAddresses (operands_of stub place target)

@@ -1,10 +1,7 @@
 -- A branch that reaches no boundary next to it reaches no boundary.
-use Rattle.std.proofs.Common.{◌≡◌, ◌+◌, ◌-◌, ◌*◌, ◌<◌, ◌≤◌, ℕ, arith, List, length, refl, ap, sym}
-use Rattle.std.proofs.Common.{subst, ⊎_elim}
-use Rattle.std.specs.Prelude.{◌⊎◌, nat_le}
-use Rattle.std.proofs.Math.Nat.{mul-le-mul_left}
-use Rattle.std.proofs.lemmas.Bool.{cases_lt, cases_order}
-use Rattle.std.proofs.lemmas.List.Sums.{prefix_len_passes, prefix_len_stops, prefix_len-le-length}
+use Rattle.std.proofs.Common.{◌≡◌, ◌+◌, ◌-◌, ◌*◌, ◌<◌, ◌≤◌, ℕ, arith, List, length, refl, ap, sym, subst, ⊎_elim}
+use Rattle.linker_output.proofs.Imports.{◌⊎◌, nat_le, mul-le-mul_left, cases_lt, cases_order, prefix_len_passes, prefix_len_stops}
+use Rattle.std.proofs.lemmas.List.Sums.{prefix_len-le-length}
 use Rattle.linker_output.specs.declared.placement.Branch.{Branch}
 use Rattle.linker_output.specs.declared.placement.Code.{Code}
 use Rattle.linker_output.specs.declared.placement.Group.{Group}
@@ -13,10 +10,7 @@ use Rattle.linker_output.specs.declared.placement.Part.{Part}
 use Rattle.linker_output.specs.declared.placement.Part.TheVariants.{Front, Middle, Back}
 use Rattle.linker_output.specs.declared.placement.State.{State}
 use Rattle.linker_output.specs.declared.placement.StubAt.{StubAt}
-use Rattle.linker_output.specs.Placement.{Reaches, at, branch_at, group_at, stub_at, stubs_in}
-use Rattle.linker_output.specs.Placement.{passed, moved, place_in, place_of, start_of, end_of}
-use Rattle.linker_output.specs.Placement.{HasPart, part_of, ReachesAt, IsCode, IsLaidOut, IsLayout}
-use Rattle.linker_output.specs.Placement.{IsStuck}
+use Rattle.linker_output.specs.Placement.{Reaches, at, branch_at, group_at, stub_at, stubs_in, passed, moved, place_in, place_of, start_of, end_of, HasPart, part_of, ReachesAt, IsCode, IsLaidOut, IsLayout, IsStuck}
 use Rattle.linker_output.specs.Inner.Placement.{IsState, IsNear, IsNearIn, IsStuckIn}
 use Rattle.linker_output.proofs.Apart.{fits_at, ends_before, inside_in}
 use Rattle.linker_output.proofs.Finding.{no_near}

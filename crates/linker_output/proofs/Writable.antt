@@ -1,46 +1,16 @@
 -- What can be written over the first 8 bytes can be written over all, and else for the same cause.
-use Rattle.std.proofs.Common.{◌≡◌, ℕ, ℤ, ◌≤◌, List, length, take, true, sym, arith, lit≤}
-use Rattle.std.proofs.lemmas.List.{take-take, length-take-le}
+use Rattle.std.proofs.Common.{◌≡◌, ℕ, ℤ, ◌≤◌, List, length, take, true, sym, arith}
+use Rattle.linker_output.proofs.Imports.{length-take-le, IsAccepted, IsCause, RelocationKindInfo, RelocateError, OutOfReach}
+use Rattle.std.proofs.lemmas.List.{take-take}
 use Rattle.std.specs.Prelude.{min}
-use Rattle.std.specs.Int.{byte_len}
-use Rattle.linker_elf.specs.Elf.{relocation_form}
-use Rattle.linker_elf.specs.Relocate.{IsAccepted, IsCause, size_len, window_len, is_supported}
-use Rattle.linker_elf.specs.Relocate.{takes_size}
-use Rattle.linker_elf.specs.declared.aarch64.forms.AArch64Instruction.TheVariants.{Movnz}
-use Rattle.linker_elf.specs.declared.elf.RelocationInstruction.{RelocationInstruction}
-use Rattle.linker_elf.specs.declared.elf.RelocationInstruction.TheVariants.{RiscV, Ppc64}
-use Rattle.linker_elf.specs.declared.elf.RelocationInstruction.TheVariants.{LoongArch64, AArch64}
-use Rattle.linker_elf.specs.declared.elf.RelocationKind.{RelocationKind}
-use Rattle.linker_elf.specs.declared.elf.RelocationKindInfo.{RelocationKindInfo}
-use Rattle.linker_elf.specs.declared.elf.RelocationSize.{RelocationSize}
-use Rattle.linker_elf.specs.declared.elf.RelocationSize.TheVariants.{ByteSize, BitMasking}
-use Rattle.linker_elf.specs.declared.elf.relocate.RelocateError.{RelocateError}
-use Rattle.linker_elf.specs.declared.elf.relocate.RelocateError.TheVariants.{Unsupported, TooShort}
-use Rattle.linker_elf.specs.declared.elf.relocate.RelocateError.TheVariants.{Misaligned, OutOfReach}
-use Rattle.linker_elf.specs.declared.loongarch64.forms.LoongArch64Instruction.TheVariants.{Call36}
-use Rattle.linker_elf.specs.declared.ppc64.forms.Ppc64Instruction.TheVariants.{D}
-use Rattle.linker_elf.specs.declared.riscv64.forms.RiscVInstruction.TheVariants.{UType}
-use Rattle.linker_section.proofs.Fronts.{HaveSameWindow, same_window, accepted_same, multiple_same}
-use Rattle.linker_section.proofs.Fronts.{reached_same}
-use Rattle.linker_section.proofs.Local.{small_bytes, takes}
-
-small_window : (insn : RelocationInstruction) → byte_len (relocation_form insn).window ≤ 8
-small_window (AArch64 Movnz) = lit≤ tt
-small_window (AArch64 _) = lit≤ tt
-small_window (RiscV UType) = lit≤ tt
-small_window (RiscV _) = lit≤ tt
-small_window (Ppc64 D) = lit≤ tt
-small_window (Ppc64 _) = lit≤ tt
-small_window (LoongArch64 Call36) = lit≤ tt
-small_window (LoongArch64 _) = lit≤ tt
-
-small_size : (size : RelocationSize) (kind : RelocationKind) → takes_size kind size ≡ true
-    → size_len size ≤ 8
-small_size (ByteSize n) kind takes = small_bytes kind n takes
-small_size (BitMasking bits insn) kind takes = small_window insn
+use Rattle.linker_elf.specs.Relocate.{size_len, window_len, is_supported}
+use Rattle.linker_elf.specs.declared.elf.relocate.RelocateError.TheVariants.{Unsupported, TooShort, Misaligned}
+use Rattle.linker_section.proofs.Fronts.{HaveSameWindow, same_window, accepted_same, multiple_same, reached_same}
+use Rattle.linker_section.proofs.Local.{small_size}
+use Rattle.linker_elf.proofs.Relocated.{supported_size}
 
 small : (row : RelocationKindInfo) → is_supported row ≡ true → window_len row ≤ 8
-small row supported = small_size row.size row.kind (takes row supported)
+small row supported = small_size row.size row.kind (supported_size row supported)
 
 front_window : (row : RelocationKindInfo) (n : ℕ) (bytes : List ℕ) → window_len row ≤ n
     → HaveSameWindow row.size (take n bytes) bytes

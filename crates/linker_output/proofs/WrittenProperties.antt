@@ -1,22 +1,13 @@
 -- Notes that are written word by word.
-use Rattle.std.proofs.Common.{◌≡◌, ◌≢◌, ℕ, ◌+◌, ◌*◌, ◌≤◌, ◌^◌, false, List, [], ◌∷◌, ◌++◌, length}
-use Rattle.std.proofs.Common.{take, drop, refl, sym, ◌∙◌, ap, subst, arith, Option, Some, None}
-use Rattle.std.proofs.Common.{Result, Ok, Err, append_assoc, nat_lt}
-use Rattle.std.specs.Int.{w64, to_le_bytes}
-use Rattle.std.proofs.lemmas.List.{take-append-drop, take_at, drop_at, drop-drop, length-append}
-use Rattle.std.proofs.lemmas.List.{length-take-le}
+use Rattle.std.proofs.Common.{◌≡◌, ◌≢◌, ℕ, ◌+◌, ◌*◌, ◌≤◌, ◌^◌, false, List, [], ◌∷◌, ◌++◌, length, take, drop, refl, sym, ◌∙◌, ap, subst, arith, Option, Some, None, Result, Ok, Err, append_assoc, nat_lt}
+use Rattle.linker_output.proofs.Imports.{w64, to_le_bytes, take-append-drop, take_at, drop_at, drop-drop, length-append, length-take-le, nat_tests, Architecture}
 use Rattle.std.proofs.Math.Seq.{drop-append-add}
-use Rattle.std.proofs.lemmas.Bool.Decides.{nat_tests}
-use Rattle.linker_output.specs.Properties.{bytes_of, words_from, words_by, with_words, list_words}
-use Rattle.linker_output.specs.Properties.{property_words, rule_of, note_words}
+use Rattle.linker_output.specs.Properties.{bytes_of, words_from, words_by, with_words, list_words, property_words, rule_of, note_words, size_of, WritesNote}
 use Rattle.linker_output.specs.Inner.Properties.{Puts, IsWritable, AreSlim}
-use Rattle.linker_elf.specs.declared.elf.architecture.Architecture.{Architecture}
 use Rattle.linker_output.specs.declared.properties.Property.{Property}
 use Rattle.linker_output.specs.declared.properties.PropertyRule.{PropertyRule}
 use Rattle.linker_output.specs.declared.properties.PropertyError.{PropertyError}
-use Rattle.linker_output.specs.declared.properties.PropertyRule.TheVariants.{All, Any, AnyOfAll}
-use Rattle.linker_output.specs.declared.properties.PropertyRule.TheVariants.{Largest, Present, Same}
-use Rattle.linker_output.specs.Properties.{size_of, WritesNote}
+use Rattle.linker_output.specs.declared.properties.PropertyRule.TheVariants.{All, Any, AnyOfAll, Largest, Present, Same}
 
 -- ---- bytes
 

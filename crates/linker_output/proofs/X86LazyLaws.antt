@@ -1,24 +1,14 @@
 -- x86-64's lazy PLT.
-use Rattle.std.proofs.Common.{◌≡◌, ℕ, ℤ, zero, suc, ◌+◌, ◌*◌, ◌%◌, ◌^◌, ◌<◌, ◌≤◌, Bool, true, false}
-use Rattle.std.proofs.Common.{refl, sym, ◌∙◌, ap, subst, arith}
-use Rattle.std.proofs.Common.{List, [], ◌∷◌, ◌++◌, take, drop, length, eqb, cond, Some, Option, pos}
-use Rattle.std.proofs.Common.{negsuc}
-use Rattle.std.specs.Prelude.{◌==◌, IsSomeAnd, nat_lt, if◌then◌else◌}
-use Rattle.std.specs.Int.{w64, byte_at, cast_unsigned}
-use Rattle.std.proofs.lemmas.Bool.{cond-true, cond-false}
-use Rattle.std.proofs.lemmas.List.{drop-drop}
-use Rattle.linker_elf.specs.Relocate.{number_of_bytes}
-use Rattle.linker_elf.specs.Value.{sum_64, difference_64}
-use Rattle.linker_elf.specs.X86Relocations.{x86_64_name, x86_64_row}
-use Rattle.linker_elf.specs.declared.elf.value.Operands.{Operands}
+use Rattle.std.proofs.Common.{◌≡◌, ℕ, ℤ, zero, suc, ◌+◌, ◌*◌, ◌%◌, ◌^◌, ◌<◌, ◌≤◌, Bool, true, false, refl, sym, ◌∙◌, ap, subst, arith, List, [], ◌∷◌, ◌++◌, take, drop, length, eqb, cond, Some, Option, pos, negsuc}
+use Rattle.linker_output.proofs.Imports.{◌==◌, IsSomeAnd, nat_lt, if◌then◌else◌, w64, cast_unsigned, cond-true, cond-false, drop-drop, number_of_bytes, sum_64, difference_64, x86_64_name, x86_64_row, Operands, load, extended, place_field, X86_64}
+use Rattle.std.specs.Int.{byte_at}
 use Rattle.linker_elf.specs.declared.x86_64.relocations.X86_64Relocation.TheVariants as r
-use Rattle.linker_laws.specs.X86Machine.{State, load, store_8, extended, with_register}
-use Rattle.linker_laws.proofs.X86Fields.{place_field, signed_field}
+use Rattle.linker_laws.specs.X86Machine.{State, store_8, with_register}
+use Rattle.linker_laws.proofs.X86Fields.{signed_field}
 use Rattle.linker_output.proofs.LazyRuns.{following, are_addresses_at}
 use Rattle.linker_output.proofs.StubWords.{applies}
 use Rattle.linker_output.specs.LazyPlt.{IsCode, operands_at, header_places}
-use Rattle.linker_output.specs.LazyPlts.{x86_64_entry, x86_64_landing_entry, padded, fixed}
-use Rattle.linker_output.specs.LazyPlts.{with_field}
+use Rattle.linker_output.specs.LazyPlts.{x86_64_entry, x86_64_landing_entry, padded, fixed, with_field}
 use Rattle.linker_output.specs.Tables.{field_of}
 use Rattle.linker_output.specs.X86LazyPlt.{step, run, and_then, pushed, Asks, IsOffStack}
 use Rattle.linker_output.specs.X86LazyPlt as laws
@@ -27,7 +17,6 @@ use Rattle.linker_output.specs.declared.lazy_plt.LazyField.{LazyField}
 use Rattle.linker_output.specs.declared.lazy_plt.LazyPiece.{LazyPiece}
 use Rattle.linker_output.specs.declared.lazy_plt.LazyTarget.{LazyTarget}
 use Rattle.linker_output.specs.declared.lazy_plt.LazyTarget.TheVariants.{Word, Header, Index}
-use Rattle.linker_elf.specs.declared.elf.architecture.Architecture.TheVariants.{X86_64}
 
 -- ---- steps, by the bytes of pieces
 

@@ -1,13 +1,8 @@
 -- x86-64's stubs go to the address that their word has.
-use Rattle.std.proofs.Common.{◌≡◌, ◌^◌, ◌<◌, refl, sym, ◌∙◌, ap, subst, arith}
-use Rattle.std.proofs.Common.{◌∷◌, ◌++◌, Some, length, take, drop}
-use Rattle.std.proofs.lemmas.List.{append-nil, append_assoc, take-append-drop}
-use Rattle.linker_elf.specs.Relocate.{number_of_bytes}
-use Rattle.linker_elf.specs.Value.{sum_64, difference_64}
-use Rattle.linker_elf.specs.X86Relocations.{x86_64_name, x86_64_row}
+use Rattle.std.proofs.Common.{◌≡◌, ◌^◌, ◌<◌, refl, sym, ◌∙◌, ap, subst, arith, ◌∷◌, ◌++◌, Some, length, take, drop}
+use Rattle.linker_output.proofs.Imports.{append-nil, append_assoc, take-append-drop, number_of_bytes, sum_64, difference_64, x86_64_name, x86_64_row, load, extended, place_field}
 use Rattle.linker_elf.specs.declared.x86_64.relocations.X86_64Relocation.TheVariants as r
-use Rattle.linker_laws.specs.X86Machine.{State, step, load, extended}
-use Rattle.linker_laws.proofs.X86Fields.{place_field}
+use Rattle.linker_laws.specs.X86Machine.{State, step}
 use Rattle.linker_output.proofs.AArch64StubLaws.{some_or}
 use Rattle.linker_output.proofs.StubWords.{applies, are_addresses}
 use Rattle.linker_output.proofs.X86LazyLaws.{by_word, run_step, word_from_next}

@@ -1,17 +1,10 @@
 -- The masks of fields of AArch64 have the bits that a write of a row may change.
 use Rattle.std.proofs.Common.{◌≡◌, ℕ, ◌<◌, true, refl}
-use Rattle.std.specs.Prelude.{◌==◌}
-use Rattle.std.specs.Int.{bit_at}
-use Rattle.std.proofs.lemmas.Bool.{agree_below, agree_below_at}
-use Rattle.linker_base.specs.Form.{is_placed}
-use Rattle.linker_base.specs.declared.bit_misc.BitRange.{BitRange}
-use Rattle.linker_elf.specs.AArch64.{access_scale, low12_places}
-use Rattle.linker_elf.specs.Forms.{instruction_mask}
+use Rattle.linker_reading.proofs.Imports.{◌==◌, bit_at, agree_below, agree_below_at, is_placed, BitRange, access_scale, instruction_mask, AArch64, AArch64Instruction}
+use Rattle.linker_elf.specs.AArch64.{low12_places}
 use Rattle.linker_elf.specs.Inner.FormLaws.{scale_small}
 use Rattle.linker_elf.specs.declared.aarch64.forms.AArch64Instruction.TheVariants as aarch64
-use Rattle.linker_elf.specs.declared.elf.RelocationInstruction.TheVariants.{AArch64}
 use Rattle.linker_reading.specs.FieldsOfBytes.{is_instruction_bit}
-use Rattle.linker_elf.specs.declared.aarch64.forms.AArch64Instruction.{AArch64Instruction}
 use Rattle.linker_reading.proofs.Masks.{agrees}
 
 -- the 12 bits are at the same place for each scale

@@ -1,16 +1,7 @@
 -- What an instruction of AArch64 holds: without the sign that a read gives; and what a move moves.
-use Rattle.std.proofs.Common.{◌≡◌, ℕ, suc, ◌-◌, ◌*◌, ◌%◌, ◌^◌, ◌<◌, refl}
-use Rattle.std.proofs.Common.{◌∙◌, ap, arith, negsuc}
-use Rattle.std.proofs.Common.{Bool, true, false, zero, if◌then◌else◌}
-use Rattle.std.specs.Int.{w64, cast_unsigned}
-use Rattle.std.proofs.Math.Nat.{mod-eq_of_lt}
-use Rattle.linker_base.specs.Bits.{field}
-use Rattle.linker_base.specs.Form.{place_sum}
-use Rattle.linker_base.proofs.Fields.{signed_bits}
-use Rattle.linker_base.proofs.Immediates.{place_sum_below}
-use Rattle.linker_elf.specs.AArch64.{aarch64_form, moved_value, shift_of}
-use Rattle.linker_elf.specs.declared.aarch64.forms.AArch64Instruction.TheVariants.{Movkz, LdSt}
-use Rattle.linker_elf.specs.declared.elf.RelocationInstruction.TheVariants.{AArch64}
+use Rattle.std.proofs.Common.{◌≡◌, ℕ, suc, ◌-◌, ◌*◌, ◌%◌, ◌^◌, ◌<◌, refl, ◌∙◌, ap, arith, negsuc, Bool, true, false, zero, if◌then◌else◌}
+use Rattle.linker_reading.proofs.Imports.{w64, cast_unsigned, mod-eq_of_lt, field, place_sum, signed_bits, place_sum_below, aarch64_form, moved_value, shift_of, Movkz, AArch64}
+use Rattle.linker_elf.specs.declared.aarch64.forms.AArch64Instruction.TheVariants.{LdSt}
 use Rattle.linker_reading.specs.Reading.{number_held}
 
 pub movkz_held : (x number result : ℕ) → number ≡ cast_unsigned w64 ((aarch64_form Movkz).reading x)

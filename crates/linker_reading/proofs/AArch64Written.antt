@@ -1,66 +1,23 @@
 -- What is read of an instruction of AArch64 after a write; and what a write keeps of it.
-use Rattle.std.proofs.Common.{FitsSigned, ◌≡◌, ℕ, ◌+◌, ◌-◌, ◌*◌, ◌/◌, ◌%◌, ◌^◌, ◌<◌, ◌≤◌, refl, sym}
-use Rattle.std.proofs.Common.{◌∙◌, ap, subst, arith, Bool, true, false, ◌&&◌, ltb}
-use Rattle.std.proofs.Common.{List, ℤ, pos, negsuc, int_lt, eqb, unsigned_abs, Some, None, if◌then◌else◌, ◌≤ℤ◌, ◌<ℤ◌, neg_ℤ}
-use Rattle.std.specs.Int.{w64, cast_unsigned, int_rem_euclid, bit_at}
+use Rattle.std.proofs.Common.{FitsSigned, ◌≡◌, ℕ, ◌+◌, ◌-◌, ◌*◌, ◌/◌, ◌%◌, ◌^◌, ◌<◌, ◌≤◌, refl, sym, ◌∙◌, ap, subst, arith, Bool, true, false, ◌&&◌, ltb, List, ℤ, pos, negsuc, int_lt, eqb, unsigned_abs, Some, None, if◌then◌else◌, ◌≤ℤ◌, ◌<ℤ◌, neg_ℤ, ◌≡◌, ℕ, ◌<◌, ◌+◌, ◌-◌, ◌*◌, ◌/◌, ◌%◌, ◌^◌, Bool, true, false, refl, ◌∙◌, ap, arith, List, [], ℤ, pos, int_lt, eqb, ltb, if◌then◌else◌, ◌≡◌, ◌≤◌, ◌<◌, ℕ, zero, suc, ◌+◌, ◌-◌, ◌*◌, ◌/◌, ◌%◌, ◌^◌, Bool, true, false, not, ◌&&◌, ◌||◌, List, [], refl, sym, ap, subst, ◌∙◌, ⊎_elim, arith, ℤ, eqb, ◌≡◌, ◌≤◌, ◌<◌, ℕ, zero, suc, ◌+◌, ◌-◌, ◌*◌, ◌/◌, ◌%◌, ◌^◌, Bool, true, false, ◌&&◌, List, refl, sym, ap, subst, ◌∙◌, ⊎_elim, arith, ℤ, pos, negsuc}
+use Rattle.linker_reading.proofs.Imports.{w64, cast_unsigned, int_rem_euclid, bit_at, and_parts, ltb-true, eqb-true, cases_lt, lt-ltb, le-ltb, ints, mod_below, pow_pos, field, Written, IsClear, window_of, place_sum, replaced, BitRange, is_sound_layout, always_clear, consecutive_bits_sum, aarch64_form, moved_value, bits_from, IsWithin, InstructionWritten, bits_taken, Bounds, sum_64, AArch64Instruction, Movkz, Movnz, AArch64, clear_after, taken_is_field, window_of, aarch64_form, InstructionWritten, bits_taken, ored_cleared, places_cleared, high_kept, nat_lt, if◌then◌else◌, bit_at, w64, cast_unsigned, cases_lt, lt-ltb, le-ltb, eqb-true, bit_at_cat_low, bit_at_cat_high, bit_at-lt, replaced, BitsWritten, Written, is_placed, aarch64_form, access_scale, ored_cleared, places_cleared, bits_taken, Movnz, same_window, nat_lt, if◌then◌else◌, int_lt, unsigned_abs, bit_at, byte_len, w64, int_rem_euclid, cases_lt, lt-ltb, and_parts, ltb-true, bit_at_cat_high, aarch64_form, InstructionWritten, bits_taken, Movnz, AArch64, or_first, or_second}
 use Rattle.std.specs.Int.Signed.{le_z}
-use Rattle.std.proofs.lemmas.Bool.{and_parts, ltb-true, eqb-true, cases_lt, lt-ltb, le-ltb}
-use Rattle.std.proofs.lemmas.Int.{ints}
-use Rattle.std.proofs.lemmas.Nat.{mod_below, pow_pos}
-use Rattle.linker_base.specs.Bits.{field}
-use Rattle.linker_base.specs.Form.{Written, IsClear, window_of, place_sum, replaced}
-use Rattle.linker_base.specs.declared.bit_misc.BitRange.{BitRange}
-use Rattle.linker_base.proofs.Immediates.{is_sound_layout, always_clear, place_sum_laid}
-use Rattle.linker_base.proofs.ConsecutiveBits.{consecutive_bits_sum}
-use Rattle.linker_elf.specs.AArch64.{aarch64_form, aarch64_layout, movnz, moved_value, moved_bits, move_opcode, imm16_places}
-use Rattle.linker_elf.specs.Agrees.{bits_from}
-use Rattle.linker_elf.specs.Elf.{IsWithin, bit_bounds}
-use Rattle.linker_elf.specs.Relocate.{InstructionWritten, bits_taken}
-use Rattle.linker_elf.specs.Relocate.{with_bit_31_if}
-use Rattle.linker_elf.specs.Rows.{Bounds}
-use Rattle.linker_elf.specs.Value.{sum_64}
-use Rattle.linker_elf.specs.declared.aarch64.forms.AArch64Instruction.{AArch64Instruction}
-use Rattle.linker_elf.specs.declared.aarch64.forms.AArch64Instruction.TheVariants.{Movkz, Movnz}
-use Rattle.linker_elf.specs.declared.aarch64.forms.AArch64Instruction.TheVariants.{MachOLow12}
-use Rattle.linker_elf.specs.declared.elf.RelocationInstruction.TheVariants.{AArch64}
+use Rattle.linker_base.proofs.Immediates.{place_sum_laid}
+use Rattle.linker_elf.specs.AArch64.{aarch64_layout, movnz, moved_bits, move_opcode, imm16_places, imm16_places, move_opcode, moved_bits, move_opcode}
+use Rattle.linker_elf.specs.Elf.{bit_bounds}
+use Rattle.linker_elf.specs.Relocate.{with_bit_31_if, is_movk, with_bit_31_if, is_32_bit_move, with_bit_31_if, is_32_bit_move}
+use Rattle.linker_elf.specs.declared.aarch64.forms.AArch64Instruction.TheVariants.{MachOLow12, MachOLow12}
 use Rattle.linker_elf.specs.declared.elf.Sign.TheVariants.{Signed}
 use Rattle.linker_elf.proofs.Agreement.{quotient_low, quotient_high, le_yes}
-use Rattle.linker_elf.proofs.Clearing.{clear_after}
-use Rattle.linker_elf.proofs.Taken.{taken_is_field}
 use Rattle.linker_reading.proofs.Aligned.{cast_below}
 use Rattle.linker_reading.specs.Fields.{IsOfValue}
 use Rattle.linker_reading.specs.Reading.{bits_held, bits_read, holds_bits, are_signed}
-use Rattle.std.proofs.Common.{◌≡◌, ℕ, ◌<◌, ◌+◌, ◌-◌, ◌*◌, ◌/◌, ◌%◌, ◌^◌, Bool, true, false, refl, ◌∙◌}
-use Rattle.std.proofs.Common.{ap, arith, List, [], ℤ, pos, int_lt, eqb, ltb, if◌then◌else◌}
-use Rattle.linker_base.specs.Form.{window_of}
-use Rattle.linker_elf.specs.AArch64.{aarch64_form, imm16_places, move_opcode, moved_bits}
-use Rattle.linker_elf.specs.Relocate.{InstructionWritten, bits_taken, is_movk}
-use Rattle.linker_elf.specs.Relocate.{with_bit_31_if, is_32_bit_move, ored_cleared, places_cleared}
-use Rattle.linker_elf.proofs.AArch64Forms.{high_kept}
-use Rattle.std.proofs.Common.{◌≡◌, ◌≤◌, ◌<◌, ℕ, zero, suc, ◌+◌, ◌-◌, ◌*◌, ◌/◌, ◌%◌, ◌^◌, Bool, true, false, not, ◌&&◌, ◌||◌, List, [], refl, sym, ap, subst, ◌∙◌, ⊎_elim, arith, ℤ, eqb}
-use Rattle.std.specs.Prelude.{nat_lt, if◌then◌else◌}
-use Rattle.std.specs.Int.{bit_at, w64, cast_unsigned}
-use Rattle.std.proofs.lemmas.Bool.{cases_lt, lt-ltb, le-ltb, eqb-true}
-use Rattle.std.proofs.lemmas.Nat.Bits.{bit_at_cat_low, bit_at_cat_high, bit_at-lt}
-use Rattle.linker_base.specs.Form.{replaced, BitsWritten, Written, is_placed}
-use Rattle.linker_elf.specs.AArch64.{aarch64_form, access_scale, move_opcode}
 use Rattle.linker_elf.specs.Inner.FormLaws.{aarch64_keeps}
-use Rattle.linker_elf.specs.Relocate.{ored_cleared, places_cleared, bits_taken, with_bit_31_if, is_32_bit_move}
-use Rattle.linker_elf.specs.declared.aarch64.forms.AArch64Instruction.TheVariants.{Movnz, MachOLow12}
-use Rattle.linker_elf.proofs.Clearing.{same_window, none_ored}
-use Rattle.linker_reading.specs.FieldsOfBytes.{is_instruction_bit}
+use Rattle.linker_elf.proofs.Clearing.{none_ored}
+use Rattle.linker_reading.specs.FieldsOfBytes.{is_instruction_bit, is_instruction_bit}
 use Rattle.linker_reading.proofs.WrittenImmediates.{unrounded, plain_read}
-use Rattle.linker_reading.proofs.WrittenBits.{or_first, or_second, not_cleared, outside}
-use Rattle.std.proofs.Common.{◌≡◌, ◌≤◌, ◌<◌, ℕ, zero, suc, ◌+◌, ◌-◌, ◌*◌, ◌/◌, ◌%◌, ◌^◌, Bool, true, false, ◌&&◌, List, refl, sym, ap, subst, ◌∙◌, ⊎_elim, arith, ℤ, pos, negsuc}
-use Rattle.std.specs.Prelude.{nat_lt, if◌then◌else◌, int_lt, unsigned_abs}
-use Rattle.std.specs.Int.{bit_at, byte_len, w64, int_rem_euclid}
-use Rattle.std.proofs.lemmas.Bool.{cases_lt, lt-ltb, and_parts, ltb-true}
-use Rattle.std.proofs.lemmas.Nat.Bits.{bit_at_cat_high}
-use Rattle.linker_elf.specs.AArch64.{aarch64_form}
-use Rattle.linker_elf.specs.Relocate.{InstructionWritten, bits_taken}
-use Rattle.linker_elf.specs.declared.aarch64.forms.AArch64Instruction.TheVariants.{Movnz}
-use Rattle.linker_elf.specs.declared.elf.RelocationInstruction.TheVariants.{AArch64}
-use Rattle.linker_reading.specs.FieldsOfBytes.{is_instruction_bit}
+use Rattle.linker_reading.proofs.WrittenBits.{not_cleared, outside}
+use Rattle.linker_elf.proofs.RowsAgree.{sign_of_quotient}
 
 -- ---- what is read
 
@@ -158,10 +115,6 @@ signed_bits_17 v (negsuc b) f g low high sign is all =
     let y : g ≡ 2 ^ 17 - 1 - b % 2 ^ 17 = ap unsigned_abs all in
     (let same : g ≡ f + 65536 = omega arith in same) ∙ sym (ap (λ t. with_sign t f) sign)
 
-same_sign : (v : ℤ) (s : ℕ) → int_lt v (pos 0) ≡ int_lt (bits_from s v) (pos 0)
-same_sign (pos n) s = not_negative n ∙ sym (not_negative (n / 2 ^ s))
-same_sign (negsuc n) s = refl
-
 -- the values that are so short
 short_values : (e : ℕ) (reached : Bounds) (v : ℤ) → are_signed (e + 1) reached ≡ true
     → IsWithin reached v → (neg_ℤ (pos (2 ^ e)) ≤ℤ v) × (v <ℤ pos (2 ^ e))
@@ -223,7 +176,7 @@ move_read true bits reached v number fits size inside h within is =
     taken_is_field all v fits (omega arith) (omega arith)
     ∙ ap (λ k. int_rem_euclid (bits_from s v) (pos (2 ^ k))) wide in
     unrounded n s (bits.end + 1) (cast_below v fits)
-    ∙ signed_bits_17 v (bits_from s v) f (field n s (bits.end + 1)) low high (same_sign v s) own more
+    ∙ signed_bits_17 v (bits_from s v) f (field n s (bits.end + 1)) low high (sign_of_quotient v s) own more
     ∙ sym (ap (λ y. field y (s - s) (bits.end + 1 - s)) is
     ∙ ap (λ a. field (cast_unsigned w64 (moved_value neg (moved_bits neg f) 0)) a (bits.end + 1 - s)) none
     ∙ ap (λ k. field (cast_unsigned w64 (moved_value neg (moved_bits neg f) 0)) 0 k) wide

@@ -1,15 +1,8 @@
 -- The bits below the known ones, of multiples.
-use Rattle.std.proofs.Common.{FitsSigned, ◌≡◌, ℕ, suc, ◌+◌, ◌-◌, ◌*◌, ◌/◌, ◌%◌, ◌^◌, ◌<◌, ◌≤◌, sym}
-use Rattle.std.proofs.Common.{◌∙◌, ap, arith, ℤ, pos, negsuc}
-use Rattle.std.proofs.Common.{unsigned_abs}
-use Rattle.std.specs.Int.{w64, cast_unsigned}
-use Rattle.std.proofs.lemmas.Nat.{mod_below, pow-add, div-add-mod'}
+use Rattle.std.proofs.Common.{FitsSigned, ◌≡◌, ℕ, suc, ◌+◌, ◌-◌, ◌*◌, ◌/◌, ◌%◌, ◌^◌, ◌<◌, ◌≤◌, sym, ◌∙◌, ap, arith, ℤ, pos, negsuc, unsigned_abs}
+use Rattle.linker_reading.proofs.Imports.{w64, cast_unsigned, mod_below, pow-add, div-add-mod', field, aligned_rem, IsAligned, sum_64}
 use Rattle.std.proofs.lemmas.Nat.Gcd.{dvd_of_mod-eq-zero, mod-eq-zero_of_dvd}
 use Rattle.std.proofs.Math.Nat.{mod-mod_of_dvd, dvd-sub, mul-mod_left, zero-mod}
-use Rattle.linker_base.specs.Bits.{field}
-use Rattle.linker_base.proofs.Fields.{aligned_rem}
-use Rattle.linker_elf.specs.Relocate.{IsAligned}
-use Rattle.linker_elf.specs.Value.{sum_64}
 use Rattle.linker_reading.specs.Fields.{IsProper, IsOfValue}
 use Rattle.linker_reading.specs.declared.fields.FieldValue.{FieldValue}
 

@@ -1,17 +1,10 @@
 -- Fields of bits of the number that an instruction holds, and of the value.
-use Rattle.std.proofs.Common.{◌≡◌, ℕ, ◌+◌, ◌-◌, ◌*◌, ◌/◌, ◌%◌, ◌^◌, ◌<◌, ◌≤◌, refl, sym, ◌∙◌}
-use Rattle.std.proofs.Common.{ap, subst, arith, inl, inr, Bool, true}
-use Rattle.std.specs.Int.{w64, cast_unsigned, bit_at}
-use Rattle.std.proofs.lemmas.Bool.{cases_lt, lt-ltb, le-ltb}
-use Rattle.std.proofs.lemmas.Nat.{mod_below, pow_pos, shr_split}
-use Rattle.std.proofs.lemmas.Nat.Bits.{same_from_bits}
-use Rattle.linker_base.specs.Bits.{field, signed}
-use Rattle.linker_base.specs.Form.{Sign, unsigned, twos_complement, number_of, Layout, one_field}
-use Rattle.linker_base.specs.Form.{own_form, form_of, Written, IsClear, place_sum}
-use Rattle.linker_base.specs.declared.bit_misc.BitRange.{BitRange}
-use Rattle.linker_base.proofs.Fields.{bit_at_mod, bit_at_mod_above, bit_at_shr, bit_at_run}
-use Rattle.linker_base.proofs.Fields.{bit_at_shl, mod_mod, same_fields, signed_bits}
-use Rattle.linker_base.proofs.Immediates.{is_sound_layout, layout_laid, low_of, high_of}
+use Rattle.std.proofs.Common.{◌≡◌, ℕ, ◌+◌, ◌-◌, ◌*◌, ◌/◌, ◌%◌, ◌^◌, ◌<◌, ◌≤◌, refl, sym, ◌∙◌, ap, subst, arith, inl, inr, Bool, true}
+use Rattle.linker_reading.proofs.Imports.{w64, cast_unsigned, bit_at, cases_lt, lt-ltb, le-ltb, mod_below, pow_pos, same_from_bits, field, signed, twos_complement, one_field, Written, IsClear, place_sum, BitRange, bit_at_mod, bit_at_mod_above, bit_at_shr, bit_at_shl, mod_mod, same_fields, signed_bits, is_sound_layout, low_of, high_of}
+use Rattle.std.proofs.lemmas.Nat.{shr_split}
+use Rattle.linker_base.specs.Form.{Sign, unsigned, number_of, Layout, own_form, form_of}
+use Rattle.linker_base.proofs.Fields.{bit_at_run}
+use Rattle.linker_base.proofs.Immediates.{layout_laid}
 use Rattle.linker_reading.specs.Reading.{bits_within}
 
 -- fields below bit m of numbers that are the same there

@@ -1,20 +1,7 @@
 -- The masks of fields have the bits that a write of a row may change.
 use Rattle.std.proofs.Common.{◌≡◌, ℕ, ◌-◌, ◌*◌, ◌^◌, ◌<◌, ◌≤◌, Bool, true, ◌&&◌, List, refl, sym, ap, ◌∙◌, arith, min, ⊎_elim}
-use Rattle.std.specs.Prelude.{◌==◌, nat_lt, bit_and}
-use Rattle.std.specs.Int.{bit_at}
-use Rattle.std.proofs.lemmas.Bool.{agree_below, agree_below_at, cases_lt, lt-ltb}
-use Rattle.linker_base.specs.Form.{window_of}
-use Rattle.linker_base.specs.declared.bit_misc.BitRange.{BitRange}
-use Rattle.linker_elf.specs.Elf.{relocation_form}
-use Rattle.linker_elf.specs.Forms.{instruction_mask}
-use Rattle.linker_elf.specs.Relocate.{insn_at, bits_at}
-use Rattle.linker_elf.specs.declared.elf.RelocationInstruction.{RelocationInstruction}
-use Rattle.linker_elf.specs.declared.elf.RelocationInstruction.TheVariants.{AArch64, LoongArch64, Ppc64, RiscV}
-use Rattle.linker_elf.specs.declared.elf.RelocationKind.{RelocationKind}
-use Rattle.linker_elf.specs.declared.elf.RelocationKind.TheVariants.{AbsoluteSetWord6, AbsoluteAdditionWord6, AbsoluteSubtractionWord6}
-use Rattle.linker_elf.specs.declared.elf.RelocationKindInfo.{RelocationKindInfo}
-use Rattle.linker_elf.specs.declared.elf.RelocationSize.{RelocationSize}
-use Rattle.linker_elf.specs.declared.elf.RelocationSize.TheVariants.{ByteSize, BitMasking}
+use Rattle.linker_reading.proofs.Imports.{◌==◌, nat_lt, bit_at, agree_below, agree_below_at, cases_lt, lt-ltb, window_of, BitRange, relocation_form, instruction_mask, insn_at, bits_at, RelocationInstruction, AArch64, LoongArch64, Ppc64, RiscV, RelocationKind, AbsoluteSetWord6, AbsoluteAdditionWord6, AbsoluteSubtractionWord6, RelocationKindInfo, RelocationSize, ByteSize, BitMasking}
+use Rattle.std.specs.Prelude.{bit_and}
 use Rattle.linker_reading.specs.FieldsOfBytes.{is_instruction_bit, is_size_bit, is_field_bit, is_value_bit}
 use Rattle.linker_reading.specs.Inner.Masks.{bytes_mask, number_mask, size_mask, field_mask}
 use Rattle.linker_reading.proofs.AArch64FieldBits.{aarch64_agrees}

@@ -1,29 +1,20 @@
 -- The value of a relocation is its address, biased and cut to its page, less its base.
-use Rattle.std.proofs.Common.{◌≡◌, ℕ, ◌+◌, ◌-◌, ◌%◌, ◌^◌, ◌<◌, ◌≤◌, refl, sym, ◌∙◌, ap, arith}
-use Rattle.std.proofs.Common.{Bool, true, false, Option, Some, None, ℤ, ◌↔◌, if◌then◌else◌, eqb}
-use Rattle.std.specs.Int.{w64, cast_signed, cast_unsigned}
+use Rattle.std.proofs.Common.{◌≡◌, ℕ, ◌+◌, ◌-◌, ◌%◌, ◌^◌, ◌<◌, ◌≤◌, refl, sym, ◌∙◌, ap, arith, Bool, true, false, Option, Some, None, ℤ, ◌↔◌, if◌then◌else◌, eqb}
+use Rattle.linker_reading.proofs.Imports.{w64, cast_unsigned, mod_below, le-ltb, not, ◌&&◌, nat_lt, field, sum_64, difference_64, page_if, bias_number, RelocationKind, RelocationKindInfo, RelocationSize, ByteSize, BitMasking}
+use Rattle.std.specs.Int.{cast_signed}
 use Rattle.std.proofs.lemmas.Int.{of_z-to_z}
-use Rattle.std.proofs.lemmas.Nat.{mod_below}
-use Rattle.std.proofs.lemmas.Bool.{le-ltb}
-use Rattle.std.specs.Prelude.{not, ◌&&◌, nat_lt}
-use Rattle.linker_base.specs.Bits.{field}
-use Rattle.linker_elf.specs.Value.{sum_64, difference_64, page_if, bias_number, formula, value_of}
-use Rattle.linker_elf.specs.Value.{read_signed, masks_place, masks_got}
-use Rattle.linker_elf.specs.declared.elf.RelocationKind.{RelocationKind}
+use Rattle.linker_elf.specs.Value.{formula, value_of, read_signed, masks_place, masks_got}
 use Rattle.linker_elf.specs.declared.elf.RelocationKind.TheVariants as kinds
-use Rattle.linker_elf.specs.declared.elf.RelocationKindInfo.{RelocationKindInfo}
-use Rattle.linker_elf.specs.declared.elf.RelocationSize.{RelocationSize}
-use Rattle.linker_elf.specs.declared.elf.RelocationSize.TheVariants.{ByteSize, BitMasking}
 use Rattle.linker_elf.specs.declared.elf.value.Operands.{Operands}
 use Rattle.linker_reading.proofs.Shifts.{page_bits}
 use Rattle.linker_reading.specs.Fields.{FieldHolds}
-use Rattle.linker_reading.specs.Solving.{terms_of_kind, terms_of, address, is_paged, base}
-use Rattle.linker_reading.specs.Solving.{HaveSameBase, Solves}
+use Rattle.linker_reading.specs.Solving.{terms_of_kind, terms_of, address, is_paged, base, HaveSameBase, Solves}
 use Rattle.linker_reading.specs.declared.fields.FieldValue.{FieldValue}
 use Rattle.linker_reading.specs.declared.solving.Origin.{Origin}
 use Rattle.linker_reading.specs.declared.solving.Origin.TheVariants.{Zero, Place, Got, Tls}
 use Rattle.linker_reading.specs.declared.solving.Reference.TheVariants.{Symbol, GotEntry, PltEntry}
 use Rattle.linker_reading.specs.declared.solving.Terms.{Terms}
+use Rattle.linker_elf.proofs.Entries.{page_if_below}
 
 -- the address, biased, or its page
 abbrev pub target : Terms → RelocationKindInfo → Operands → ℕ
@@ -34,13 +25,9 @@ target t row o =
 abbrev pub number : Terms → RelocationKindInfo → Operands → ℕ
 number t row o = difference_64 (target t row o) (base t.origin row o)
 
-page_below : (b : Bool) (x : ℕ) → x < 2 ^ 64 → page_if b x < 2 ^ 64
-page_below true x small = omega arith
-page_below false x small = small
-
 target_below : (t : Terms) (row : RelocationKindInfo) (o : Operands) → target t row o < 2 ^ 64
 target_below t row o =
-    page_below (is_paged t.reference row.mask)
+    page_if_below (is_paged t.reference row.mask)
     (sum_64 (address t.reference row.size o) (bias_number row.bias))
     (mod_below (address t.reference row.size o + bias_number row.bias) (2 ^ 64) (omega arith))
 

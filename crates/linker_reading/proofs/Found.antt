@@ -1,9 +1,8 @@
 -- What was found of the choices of a table.
 use Rattle.std.proofs.Common.{◌≡◌, ◌≢◌, ◌↔◌, ◌<◌, ◌≤◌, ◌+◌, ℕ, zero, suc, List, [], ◌∷◌, length, get_or, replicate, set, slice_get, Option, Some, None, refl, sym, ap, ◌∙◌, inl, inr, ⊎_elim, arith}
-use Rattle.std.proofs.lemmas.Bool.{cases_lt, cases_eq}
+use Rattle.linker_reading.proofs.Imports.{cases_lt, choice, Choice, same_Some}
+use Rattle.std.proofs.lemmas.Bool.{cases_eq}
 use Rattle.std.proofs.lemmas.List.{get_or-set_same, get_or-set_other, length-set}
-use Rattle.linker_elf.specs.Choices.{choice}
-use Rattle.linker_elf.specs.declared.elf.choice.Choice.{Choice}
 use Rattle.linker_reading.proofs.Tables.{following}
 use Rattle.linker_reading.specs.Inner.Found.{IsMeant, AreFoundOfFirst, IsRepeated}
 use Rattle.linker_reading.specs.Recognised.{Recogniser, choices_at, IsChosen, IsMade, IsFound, IsOneOf, AreExactly, ArePlaced, IsFirstPlace, AreDistinct}
@@ -14,9 +13,6 @@ use Rattle.linker_reading.specs.declared.recognise.fields.FieldBits.{FieldBits}
 use Rattle.linker_reading.specs.declared.recognise.engine.Recognised.{Recognised}
 
 -- ---- places in lists
-
-pub some_same : {A : Type 0} (a b : A) → Some a ≡ Some b → a ≡ b
-some_same a b e = cc
 
 pub not_none : {A : Type 0} (x : Option A) (a : A) → x ≡ None → x ≡ Some a → ⊥
 not_none x a n e = let none : None ≡ Some a = sym n ∙ e in cc
@@ -39,7 +35,7 @@ place_in a (x ∷ xs) (inr h) = let rest = place_in a xs h in (suc rest.0, rest.
 
 pub one_of : {A : Type 0} (a : A) (xs : List A) (i : ℕ) → slice_get xs i ≡ Some a → IsOneOf a xs
 one_of a [] i e = absurd (not_none None a refl e)
-one_of a (x ∷ xs) zero e = inl (some_same x a e)
+one_of a (x ∷ xs) zero e = inl (same_Some x a e)
 one_of a (x ∷ xs) (suc i) e = inr (one_of a xs i e)
 
 -- ---- one choice more
@@ -89,7 +85,7 @@ module _ {A B : Type 0} (of : B → A) (IsSo : B → Type 0) (choices : List A) 
             (λ below. let had = were.all i b below e is in (had.0, get_or-set_other found n had.0 y None (let less = were.first had.0 b had.1 in λ s. omega (arith, less, s)) ∙ had.1))
             (λ from.
             let same : i ≡ n = omega (arith, h, from) in
-            let of_c : of b ≡ c = sym (some_same c (of b) (sym at ∙ ap (slice_get choices) (sym same) ∙ e)) in
+            let of_c : of b ≡ c = sym (same_Some c (of b) (sym at ∙ ap (slice_get choices) (sym same) ∙ e)) in
             (n, get_or-set_same found n y None (omega (arith, were.lengths, room)) ∙ (test b).1 (of_c, is)))
             (cases_lt i n);
       }

@@ -1,9 +1,9 @@
 -- Those of a list that are so, kept at its front.
 use Rattle.std.proofs.Common.{◌≡◌, ◌↔◌, ◌≤◌, ◌<◌, ◌+◌, ◌++◌, ◌⊎◌, ℕ, zero, suc, List, [], ◌∷◌, Some, length, get_or, slice_get, set, take, inl, inr, ⊎_elim, refl, sym, ap, subst, ◌∙◌, arith}
 use Rattle.std.proofs.lemmas.List.{take_all, take_more, take_more_set, length-take}
-use Rattle.linker_reading.proofs.Found.{some_same}
-use Rattle.linker_reading.proofs.Tables.{following, got, taken_at}
+use Rattle.linker_reading.proofs.Tables.{following, taken_at}
 use Rattle.linker_reading.specs.Recognised.{IsOneOf}
+use Rattle.std.proofs.lemmas.Option.{same_Some, slice_get-get_or}
 
 -- ---- one more at the end
 
@@ -23,7 +23,7 @@ out a c (x ∷ xs) (inr h) = ⊎_elim (λ i. inl (inr i)) (λ e. inr e) (out a c
 next : {A : Type 0} (xs : List A) (n : ℕ) (c : A) → slice_get xs n ≡ Some c → take (n + 1) xs ≡ take n xs ++ c ∷ []
 next xs n c at =
     let within = following c xs n at in
-    take_more xs n c within ∙ ap (λ x. take n xs ++ x ∷ []) (some_same (get_or xs n c) c (sym (got xs n c within) ∙ at))
+    take_more xs n c within ∙ ap (λ x. take n xs ++ x ∷ []) (same_Some (get_or xs n c) c (sym (slice_get-get_or xs n c within) ∙ at))
 
 set_other : {A : Type 0} (xs : List A) (i j : ℕ) (c : A) → i < j → slice_get (set xs i c) j ≡ slice_get xs j
 set_other [] i j c h = refl

@@ -7,6 +7,7 @@ pub mod Chosen
 pub mod FieldBits
 pub mod Formulas
 pub mod Found
+pub mod Imports
 pub mod Kept
 pub mod LoongArchFieldBits
 pub mod LoongArchNumbers

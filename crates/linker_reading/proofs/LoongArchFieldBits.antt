@@ -1,15 +1,8 @@
 -- The masks of fields of LoongArch have the bits that a write of a row may change.
 use Rattle.std.proofs.Common.{◌≡◌, ℕ, ◌-◌, ◌<◌, Bool, true, false, refl}
-use Rattle.std.specs.Prelude.{◌==◌, nat_lt, if◌then◌else◌}
-use Rattle.std.specs.Int.{bit_at}
-use Rattle.linker_base.specs.Form.{is_placed}
-use Rattle.linker_base.specs.declared.bit_misc.BitRange.{BitRange}
-use Rattle.linker_elf.specs.Forms.{instruction_mask}
-use Rattle.linker_elf.specs.LoongArch.{loongarch_form, shift10_low}
-use Rattle.linker_elf.specs.declared.elf.RelocationInstruction.TheVariants.{LoongArch64}
+use Rattle.linker_reading.proofs.Imports.{◌==◌, nat_lt, if◌then◌else◌, bit_at, is_placed, BitRange, instruction_mask, loongarch_form, shift10_low, LoongArch64, LoongArch64Instruction}
 use Rattle.linker_elf.specs.declared.loongarch64.forms.LoongArch64Instruction.TheVariants as loongarch
 use Rattle.linker_reading.specs.FieldsOfBytes.{is_instruction_bit}
-use Rattle.linker_elf.specs.declared.loongarch64.forms.LoongArch64Instruction.{LoongArch64Instruction}
 use Rattle.linker_reading.proofs.Masks.{agrees}
 
 shift10_agrees : (b : Bool) (x w : ℕ) → w < 64

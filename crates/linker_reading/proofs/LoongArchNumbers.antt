@@ -1,21 +1,6 @@
 -- What an instruction of LoongArch holds, and both of a call.
-use Rattle.std.proofs.Common.{◌≡◌, ℕ, suc, ◌+◌, ◌-◌, ◌*◌, ◌/◌, ◌%◌, ◌^◌, ◌<◌, refl}
-use Rattle.std.proofs.Common.{sym, ◌∙◌, ap, subst, arith, inl, inr, ℤ, pos, negsuc, ◌+ℤ◌, ◌*ℤ◌}
-use Rattle.std.specs.Int.{w64, cast_unsigned}
-use Rattle.std.proofs.lemmas.Bool.{cases_lt}
-use Rattle.std.proofs.lemmas.Int.{ints}
-use Rattle.std.proofs.lemmas.Nat.{mod_below, pow_pos}
-use Rattle.std.proofs.Math.Nat.{mod-eq_of_lt}
-use Rattle.linker_base.specs.Bits.{field, signed}
-use Rattle.linker_base.specs.Form.{place_sum, replaced, ored, or_bits_to}
-use Rattle.linker_base.proofs.ConsecutiveBits.{consecutive_bits_sum}
-use Rattle.linker_base.proofs.Immediates.{place_sum_below}
-use Rattle.linker_base.proofs.Places.{sums}
-use Rattle.linker_elf.specs.LoongArch.{loongarch_form, shift10_low, pcaddu18i_imm, jirl_imm}
-use Rattle.linker_elf.specs.declared.elf.RelocationInstruction.TheVariants.{LoongArch64}
-use Rattle.linker_elf.specs.declared.loongarch64.forms.LoongArch64Instruction.TheVariants.{Shift5}
-use Rattle.linker_elf.specs.declared.loongarch64.forms.LoongArch64Instruction.TheVariants.{Shift10}
-use Rattle.linker_elf.specs.declared.loongarch64.forms.LoongArch64Instruction.TheVariants.{Call36}
+use Rattle.std.proofs.Common.{◌≡◌, ℕ, suc, ◌+◌, ◌-◌, ◌*◌, ◌/◌, ◌%◌, ◌^◌, ◌<◌, refl, sym, ◌∙◌, ap, subst, arith, inl, inr, ℤ, pos, negsuc, ◌+ℤ◌, ◌*ℤ◌}
+use Rattle.linker_reading.proofs.Imports.{w64, cast_unsigned, cases_lt, ints, mod_below, pow_pos, mod-eq_of_lt, field, signed, place_sum, replaced, ored, or_bits_to, consecutive_bits_sum, place_sum_below, sums, loongarch_form, shift10_low, pcaddu18i_imm, jirl_imm, LoongArch64, Shift5, Shift10, Call36}
 use Rattle.linker_reading.specs.Reading.{number_held}
 use Rattle.linker_reading.proofs.Numbers.{IsShort, short, signed_low}
 

@@ -1,74 +1,23 @@
 -- What is read of an instruction of LoongArch after a write; and what a write keeps of it.
-use Rattle.std.proofs.Common.{FitsSigned, ◌≡◌, ℕ, ◌+◌, ◌-◌, ◌*◌, ◌/◌, ◌%◌, ◌^◌, ◌<◌, ◌≤◌, refl, sym}
-use Rattle.std.proofs.Common.{◌∙◌, ap, subst, arith, inl, inr, Bool, true, false, ltb}
-use Rattle.std.proofs.Common.{List, ℤ, pos, int_lt, eqb, unsigned_abs, if◌then◌else◌, ◌≤ℤ◌, ◌<ℤ◌, neg_ℤ}
-use Rattle.std.specs.Int.{w64, cast_unsigned, bit_at}
-use Rattle.std.proofs.lemmas.Bool.{eqb-true, cases_lt, lt-ltb}
-use Rattle.std.proofs.lemmas.Int.{ints}
-use Rattle.linker_base.specs.Bits.{field, signed}
-use Rattle.linker_base.specs.Form.{Written, IsClear, window_of, place_sum, twos_complement, one_field, replaced, ored, or_bits_to}
-use Rattle.linker_base.specs.declared.bit_misc.BitRange.{BitRange}
-use Rattle.linker_base.proofs.Fields.{mod_mod}
-use Rattle.linker_base.proofs.Immediates.{always_clear, place_sum_below}
-use Rattle.linker_base.proofs.ConsecutiveBits.{consecutive_bits_sum}
-use Rattle.linker_base.proofs.Pairs.{signed_cases}
-use Rattle.linker_base.proofs.Places.{sums}
-use Rattle.linker_elf.specs.Forms.{immediate_of}
-use Rattle.linker_elf.specs.LoongArch.{loongarch_form, shift10_low, shift10_imm16, pcaddu18i_imm, jirl_imm}
-use Rattle.linker_elf.specs.Relocate.{InstructionWritten, bits_taken}
-use Rattle.linker_elf.specs.Relocate.{IsAligned, is_low_jump, low_part}
-use Rattle.linker_elf.specs.Relocate.{HoldsBits}
-use Rattle.linker_elf.specs.Rows.{Bounds}
-use Rattle.linker_elf.specs.declared.elf.RelocationInstruction.TheVariants.{LoongArch64}
-use Rattle.linker_elf.specs.declared.elf.RelocationKind.{RelocationKind}
+use Rattle.std.proofs.Common.{FitsSigned, ◌≡◌, ℕ, ◌+◌, ◌-◌, ◌*◌, ◌/◌, ◌%◌, ◌^◌, ◌<◌, ◌≤◌, refl, sym, ◌∙◌, ap, subst, arith, inl, inr, Bool, true, false, ltb, List, ℤ, pos, int_lt, eqb, unsigned_abs, if◌then◌else◌, ◌≤ℤ◌, ◌<ℤ◌, neg_ℤ, ◌≡◌, ℕ, ◌<◌, ◌+◌, ◌-◌, ◌*◌, ◌/◌, ◌%◌, ◌^◌, Bool, true, false, refl, ◌∙◌, ap, arith, List, [], ℤ, pos, int_lt, eqb, ltb, if◌then◌else◌, ◌≡◌, ◌≤◌, ◌<◌, ℕ, ◌+◌, ◌-◌, ◌*◌, ◌/◌, ◌%◌, ◌^◌, Bool, true, false, ◌||◌, List, [], refl, sym, ap, subst, ◌∙◌, ⊎_elim, arith, ℤ, max, eqb, ◌≡◌, ◌≤◌, ◌<◌, ℕ, ◌+◌, ◌-◌, ◌*◌, ◌/◌, ◌%◌, ◌^◌, Bool, true, false, List, refl, sym, ap, subst, ◌∙◌, ⊎_elim, arith, ℤ, pos}
+use Rattle.linker_reading.proofs.Imports.{w64, cast_unsigned, bit_at, eqb-true, cases_lt, lt-ltb, ints, field, signed, Written, IsClear, window_of, place_sum, twos_complement, one_field, replaced, ored, or_bits_to, BitRange, mod_mod, always_clear, place_sum_below, consecutive_bits_sum, signed_cases, sums, immediate_of, loongarch_form, shift10_low, pcaddu18i_imm, jirl_imm, InstructionWritten, bits_taken, IsAligned, is_low_jump, low_part, HoldsBits, Bounds, LoongArch64, RelocationKind, BitMasking, LoongArch64Instruction, Shift10, Call36, clear_after, taken_below, field, window_of, loongarch_form, InstructionWritten, bits_taken, is_low_jump, ored_cleared, places_cleared, high_kept, nat_lt, if◌then◌else◌, bit_at, w64, cast_unsigned, cases_lt, lt-ltb, eqb-true, ImmediateBit, replaced, ored, BitsWritten, Written, is_placed, or_bits_to, bit_at_mod_above, loongarch_form, shift10_low, ored_cleared, places_cleared, bits_taken, same_window, nat_lt, if◌then◌else◌, int_lt, unsigned_abs, bit_at, byte_len, w64, cases_lt, lt-ltb, is_low_jump, InstructionWritten, bits_taken, LoongArch64, BitMasking, Shift5}
+use Rattle.linker_elf.specs.LoongArch.{shift10_imm16}
 use Rattle.linker_elf.specs.declared.elf.RelocationKind.TheVariants as kinds
-use Rattle.linker_elf.specs.declared.elf.RelocationSize.TheVariants.{BitMasking}
-use Rattle.linker_elf.specs.declared.loongarch64.forms.LoongArch64Instruction.{LoongArch64Instruction}
-use Rattle.linker_elf.specs.declared.loongarch64.forms.LoongArch64Instruction.TheVariants.{Shift10}
 use Rattle.linker_elf.specs.declared.loongarch64.forms.LoongArch64Instruction.TheVariants.{Call30}
-use Rattle.linker_elf.specs.declared.loongarch64.forms.LoongArch64Instruction.TheVariants.{Call36}
-use Rattle.linker_elf.proofs.Clearing.{clear_after}
 use Rattle.linker_elf.proofs.LoongArch.{loongarch_machine, shift10_low_sum, shift10_low_field}
-use Rattle.linker_elf.proofs.Taken.{taken_below}
 use Rattle.linker_reading.proofs.Aligned.{cast_below}
 use Rattle.linker_reading.proofs.BitFields.{layout_bits, part_of_part, own_bits, low_bits_same, number_bits}
 use Rattle.linker_reading.proofs.Numbers.{short}
 use Rattle.linker_reading.specs.Fields.{IsOfValue}
-use Rattle.linker_reading.specs.Reading.{bits_within, bits_held, bits_read, holds_bits}
-use Rattle.linker_reading.specs.Reading.{jump_read}
-use Rattle.std.proofs.Common.{◌≡◌, ℕ, ◌<◌, ◌+◌, ◌-◌, ◌*◌, ◌/◌, ◌%◌, ◌^◌, Bool, true, false, refl, ◌∙◌}
-use Rattle.std.proofs.Common.{ap, arith, List, [], ℤ, pos, int_lt, eqb, ltb, if◌then◌else◌}
-use Rattle.linker_base.specs.Bits.{field}
-use Rattle.linker_base.specs.Form.{window_of}
+use Rattle.linker_reading.specs.Reading.{bits_within, bits_held, bits_read, holds_bits, jump_read}
 use Rattle.linker_elf.specs.Inner.Runs.{words_below}
-use Rattle.linker_elf.specs.LoongArch.{loongarch_form}
-use Rattle.linker_elf.specs.Relocate.{InstructionWritten, bits_taken, is_jirl, is_low_jump}
-use Rattle.linker_elf.specs.Relocate.{ored_cleared, places_cleared}
-use Rattle.linker_elf.proofs.AArch64Forms.{high_kept}
-use Rattle.std.proofs.Common.{◌≡◌, ◌≤◌, ◌<◌, ℕ, ◌+◌, ◌-◌, ◌*◌, ◌/◌, ◌%◌, ◌^◌, Bool, true, false, ◌||◌, List, [], refl, sym, ap, subst, ◌∙◌, ⊎_elim, arith, ℤ, max, eqb}
-use Rattle.std.specs.Prelude.{nat_lt, if◌then◌else◌}
-use Rattle.std.specs.Int.{bit_at, w64, cast_unsigned}
-use Rattle.std.proofs.lemmas.Bool.{cases_lt, lt-ltb, or_cases, eqb-true}
+use Rattle.linker_elf.specs.Relocate.{is_jirl}
+use Rattle.std.proofs.lemmas.Bool.{or_cases}
 use Rattle.std.proofs.lemmas.List.Folds.{list_any-append}
-use Rattle.linker_base.specs.Form.{ImmediateBit, replaced, ored, BitsWritten, Written, is_placed, or_bits_to}
-use Rattle.linker_base.proofs.Fields.{bit_at_mod_above}
 use Rattle.linker_elf.specs.Inner.FormLaws.{loongarch_keeps}
-use Rattle.linker_elf.specs.LoongArch.{loongarch_form, shift10_low}
-use Rattle.linker_elf.specs.Relocate.{ored_cleared, places_cleared, bits_taken}
-use Rattle.linker_elf.proofs.Clearing.{same_window}
-use Rattle.linker_reading.specs.FieldsOfBytes.{is_instruction_bit}
+use Rattle.linker_reading.specs.FieldsOfBytes.{is_instruction_bit, is_instruction_bit}
 use Rattle.linker_reading.proofs.WrittenImmediates.{unrounded, plain_read, moved_sum_fits, modulo_read, rest_is}
 use Rattle.linker_reading.proofs.WrittenBits.{not_cleared, outside}
-use Rattle.std.proofs.Common.{◌≡◌, ◌≤◌, ◌<◌, ℕ, ◌+◌, ◌-◌, ◌*◌, ◌/◌, ◌%◌, ◌^◌, Bool, true, false, List, refl, sym, ap, subst, ◌∙◌, ⊎_elim, arith, ℤ, pos}
-use Rattle.std.specs.Prelude.{nat_lt, if◌then◌else◌, int_lt, unsigned_abs}
-use Rattle.std.specs.Int.{bit_at, byte_len, w64}
-use Rattle.std.proofs.lemmas.Bool.{cases_lt, lt-ltb}
-use Rattle.linker_elf.specs.Relocate.{is_low_jump}
-use Rattle.linker_elf.specs.Relocate.{InstructionWritten, bits_taken}
-use Rattle.linker_elf.specs.declared.elf.RelocationInstruction.TheVariants.{LoongArch64}
-use Rattle.linker_elf.specs.declared.elf.RelocationSize.TheVariants.{BitMasking}
-use Rattle.linker_elf.specs.declared.loongarch64.forms.LoongArch64Instruction.TheVariants.{Shift5}
-use Rattle.linker_reading.specs.FieldsOfBytes.{is_instruction_bit}
 
 -- ---- what is read
 

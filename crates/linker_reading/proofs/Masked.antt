@@ -4,10 +4,11 @@ use Rattle.std.specs.Prelude.{◌==◌, nat_lt, min, max, bit_xor}
 use Rattle.std.specs.Int.{bit_at, bit_not, w64}
 use Rattle.std.proofs.lemmas.Bool.{cases_lt, lt-ltb, le-ltb, le-leb, lt-leb, false≢true, eqb-true}
 use Rattle.std.proofs.lemmas.List.Folds.{list_any_more}
-use Rattle.std.proofs.lemmas.Nat.{shr-shr, pow_pos}
-use Rattle.std.proofs.lemmas.Nat.Bits.{bit_at_and, bit_at_or, bit_at_xor, bit_at_not, bit_at-lt, bit_at_above, bit_at-zero, bit_at_cat_low, bit_at_cat_high, same_from_bits}
+use Rattle.std.proofs.lemmas.Nat.{shr-shr}
+use Rattle.std.proofs.lemmas.Nat.Bits.{bit_at_and, bit_at_or, bit_at_xor, bit_at_not, bit_at-lt, bit_at_above, bit_at-zero, bit_at_cat_low, same_from_bits}
 use Rattle.linker_reading.specs.FieldsOfBytes.{is_in, is_in_one}
 use Rattle.linker_reading.specs.declared.recognise.fields.FieldBits.{FieldBits}
+use Rattle.linker_base.proofs.Fields.{bit_at_shl_below, bit_at_shl}
 
 -- ---- the bits of a field from a byte on
 
@@ -39,20 +40,14 @@ shifted_down field byte i j small from =
 low_bit : (n k : ℕ) → k < 64 → bit_at (n % 2 ^ 64) k ≡ bit_at n k
 low_bit n k h = sym (bit_at_cat_low (n / 2 ^ 64) 64 (n % 2 ^ 64) k h) ∙ ap (λ m. bit_at m k) (let whole : n / 2 ^ 64 * 2 ^ 64 + n % 2 ^ 64 ≡ n = omega arith in whole)
 
-scaled_low : (a s k : ℕ) → k < s → bit_at (a * 2 ^ s) k ≡ 0
-scaled_low a s k h = ap (λ m. bit_at m k) (let e : a * 2 ^ s ≡ a * 2 ^ s + 0 = omega arith in e) ∙ bit_at_cat_low a s 0 k h ∙ bit_at-zero k
-
-scaled_high : (a s k : ℕ) → s ≤ k → bit_at (a * 2 ^ s) k ≡ bit_at a (k - s)
-scaled_high a s k h = ap (λ m. bit_at m k) (let e : a * 2 ^ s ≡ a * 2 ^ s + 0 = omega arith in e) ∙ bit_at_cat_high a s 0 k (pow_pos s) h
-
 pub shifted_up : (field : FieldBits) (byte i j : ℕ) → field.bits < 2 ^ 64 → byte < field.offset → i < 8 → j < 8
     → (bit_at (field.bits * 2 ^ (8 * (field.offset - byte)) % 2 ^ 64) (8 * i + j) == 1) ≡ is_in field (byte + i) j
 shifted_up field byte i j small less h k =
     ap (λ n. n == 1) (low_bit (field.bits * 2 ^ (8 * (field.offset - byte))) (8 * i + j) (omega (arith, h, k)))
     ∙ ⊎_elim
-    (λ before. ap (λ n. n == 1) (scaled_low field.bits (8 * (field.offset - byte)) (8 * i + j) (omega (arith, before, k)))
+    (λ before. ap (λ n. n == 1) (bit_at_shl_below field.bits (8 * (field.offset - byte)) (8 * i + j) (omega (arith, before, k)))
     ∙ below field (byte + i) j (omega (arith, before)))
-    (λ from. ap (λ n. n == 1) (scaled_high field.bits (8 * (field.offset - byte)) (8 * i + j) (omega (arith, from)))
+    (λ from. ap (λ n. n == 1) (bit_at_shl field.bits (8 * (field.offset - byte)) (8 * i + j) (omega (arith, from)))
     ∙ at_or_above field (byte + i) j (8 * i + j - 8 * (field.offset - byte)) small (omega (arith, from)) (omega (arith, from, less)))
     (cases_lt (byte + i) field.offset)
 

@@ -1,7 +1,6 @@
 -- Choices that are there in a part of a window's bytes.
 use Rattle.std.proofs.Common.{◌≡◌, ℕ, ◌+◌, ◌-◌, ◌<◌, ◌≤◌, List, [], length, take, drop, min, max, sym, ap, subst, ◌∙◌, ⊎_elim, arith}
-use Rattle.std.proofs.lemmas.Bool.{cases_lt}
-use Rattle.std.proofs.lemmas.List.{take_all, drop_all, length-drop}
+use Rattle.linker_reading.proofs.Imports.{cases_lt, take_all, drop_all, length-drop}
 use Rattle.linker_reading.specs.Recognised.{Recogniser}
 use Rattle.linker_reading.specs.Windows.{IsRecognisable, HasEach, IsLeastWindow}
 

@@ -1,16 +1,8 @@
 -- The masks of fields of PowerPC64 have the bits that a write of a row may change.
 use Rattle.std.proofs.Common.{◌≡◌, ℕ, ◌<◌, Bool, true, false, not, ◌&&◌, refl}
-use Rattle.std.specs.Prelude.{◌==◌, nat_lt, if◌then◌else◌}
-use Rattle.std.specs.Int.{bit_at}
-use Rattle.linker_base.specs.Form.{is_placed}
-use Rattle.linker_base.specs.declared.bit_misc.BitRange.{BitRange}
-use Rattle.linker_elf.specs.Elf.{relocation_form}
-use Rattle.linker_elf.specs.Forms.{instruction_mask}
-use Rattle.linker_elf.specs.Relocate.{is_dq_form}
-use Rattle.linker_elf.specs.declared.elf.RelocationInstruction.TheVariants.{Ppc64}
+use Rattle.linker_reading.proofs.Imports.{◌==◌, nat_lt, if◌then◌else◌, bit_at, is_placed, BitRange, relocation_form, instruction_mask, is_dq_form, Ppc64, Ppc64Instruction}
 use Rattle.linker_elf.specs.declared.ppc64.forms.Ppc64Instruction.TheVariants as ppc64
 use Rattle.linker_reading.specs.FieldsOfBytes.{is_instruction_bit}
-use Rattle.linker_elf.specs.declared.ppc64.forms.Ppc64Instruction.{Ppc64Instruction}
 use Rattle.linker_reading.proofs.Masks.{agrees}
 
 ds_agrees : (b : Bool) (x w : ℕ) → w < 64

@@ -1,16 +1,7 @@
 -- What an instruction of PowerPC64 holds: in two's complement.
-use Rattle.std.proofs.Common.{◌≡◌, ℕ, ◌-◌, ◌*◌, ◌/◌, ◌%◌, ◌^◌, refl}
-use Rattle.std.proofs.Common.{arith}
-use Rattle.std.proofs.Common.{true, false}
-use Rattle.std.specs.Int.{w64, cast_unsigned}
-use Rattle.linker_base.specs.Bits.{signed}
-use Rattle.linker_base.specs.Form.{place_sum, replaced}
-use Rattle.linker_base.proofs.ConsecutiveBits.{consecutive_bits_sum}
-use Rattle.linker_base.proofs.Immediates.{place_sum_below}
-use Rattle.linker_elf.specs.Ppc64.{ppc64_form}
-use Rattle.linker_elf.specs.Relocate.{ppc64_reads, is_dq_form}
-use Rattle.linker_elf.specs.declared.ppc64.forms.Ppc64Instruction.TheVariants.{D, Ds, Branch14}
-use Rattle.linker_elf.specs.declared.ppc64.forms.Ppc64Instruction.TheVariants.{Branch24, Prefixed}
+use Rattle.std.proofs.Common.{◌≡◌, ℕ, ◌-◌, ◌*◌, ◌/◌, ◌%◌, ◌^◌, refl, arith, true, false}
+use Rattle.linker_reading.proofs.Imports.{w64, cast_unsigned, signed, place_sum, replaced, consecutive_bits_sum, place_sum_below, ppc64_form, ppc64_reads, is_dq_form, D, Ds}
+use Rattle.linker_elf.specs.declared.ppc64.forms.Ppc64Instruction.TheVariants.{Branch14, Branch24, Prefixed}
 use Rattle.linker_reading.proofs.Numbers.{signed_low}
 
 pub d_held : (x number result : ℕ) → number ≡ cast_unsigned w64 ((ppc64_form D).reading x)

@@ -1,47 +1,15 @@
 -- What is read of an instruction of PowerPC64 after a write; and what a write keeps of it.
-use Rattle.std.proofs.Common.{FitsSigned, ◌≡◌, ℕ, ◌+◌, ◌%◌, ◌^◌, ◌<◌, ◌≤◌, refl, sym}
-use Rattle.std.proofs.Common.{◌∙◌, ap, arith, Bool, true, false, ◌&&◌}
-use Rattle.std.proofs.Common.{List, ℤ, pos, int_lt, if◌then◌else◌}
-use Rattle.std.specs.Int.{w64, cast_unsigned, bit_at}
-use Rattle.std.proofs.lemmas.Bool.{eqb-true, cases_lt, le-ltb}
-use Rattle.linker_base.specs.Form.{Written, window_of, replaced}
-use Rattle.linker_base.specs.declared.bit_misc.BitRange.{BitRange}
-use Rattle.linker_base.proofs.Immediates.{always_clear}
-use Rattle.linker_elf.specs.Ppc64.{ppc64_form}
-use Rattle.linker_elf.specs.Relocate.{InstructionWritten, bits_taken, ppc64_reads}
-use Rattle.linker_elf.specs.Relocate.{IsInUnits}
-use Rattle.linker_elf.specs.Rows.{Bounds}
-use Rattle.linker_elf.specs.declared.elf.RelocationInstruction.TheVariants.{Ppc64}
-use Rattle.linker_elf.specs.declared.elf.RelocationSize.TheVariants.{BitMasking}
-use Rattle.linker_elf.specs.declared.ppc64.forms.Ppc64Instruction.{Ppc64Instruction}
-use Rattle.linker_elf.specs.declared.ppc64.forms.Ppc64Instruction.TheVariants.{D, Ds}
+use Rattle.std.proofs.Common.{FitsSigned, ◌≡◌, ℕ, ◌+◌, ◌%◌, ◌^◌, ◌<◌, ◌≤◌, refl, sym, ◌∙◌, ap, arith, Bool, true, false, ◌&&◌, List, ℤ, pos, int_lt, if◌then◌else◌, ◌≡◌, ◌≤◌, ◌<◌, ℕ, zero, suc, ◌+◌, ◌%◌, ◌^◌, Bool, true, false, not, ◌&&◌, List, [], refl, sym, ap, ◌∙◌, ⊎_elim, arith, ℤ, ◌≡◌, ◌≤◌, ◌<◌, ℕ, zero, suc, ◌+◌, ◌%◌, ◌^◌, Bool, true, false, ◌&&◌, List, refl, sym, ap, ◌∙◌, ⊎_elim, arith, ℤ, pos}
+use Rattle.linker_reading.proofs.Imports.{w64, cast_unsigned, bit_at, eqb-true, cases_lt, le-ltb, Written, window_of, replaced, BitRange, always_clear, ppc64_form, InstructionWritten, bits_taken, ppc64_reads, IsInUnits, Bounds, Ppc64, BitMasking, Ppc64Instruction, D, Ds, taken_below, nat_lt, if◌then◌else◌, bit_at, w64, cast_unsigned, cases_lt, le-ltb, eqb-true, replaced, BitsWritten, Written, is_placed, bit_at_mod, bits_taken, is_dq_form, Ds, nat_lt, if◌then◌else◌, int_lt, bit_at, byte_len, w64, cases_lt, window_of, bit_at_mod, InstructionWritten, bits_taken, Ppc64, BitMasking, D}
 use Rattle.linker_elf.proofs.Placed.{reads_as}
-use Rattle.linker_elf.proofs.Taken.{taken_below, taken_in_units}
+use Rattle.linker_elf.proofs.Taken.{taken_in_units}
 use Rattle.linker_reading.specs.Fields.{IsOfValue}
 use Rattle.linker_reading.specs.Reading.{bits_held, bits_read, holds_bits}
-use Rattle.std.proofs.Common.{◌≡◌, ◌≤◌, ◌<◌, ℕ, zero, suc, ◌+◌, ◌%◌, ◌^◌, Bool, true, false, not, ◌&&◌, List, [], refl, sym, ap, ◌∙◌, ⊎_elim, arith, ℤ}
-use Rattle.std.specs.Prelude.{nat_lt, if◌then◌else◌}
-use Rattle.std.specs.Int.{bit_at, w64, cast_unsigned}
-use Rattle.std.proofs.lemmas.Bool.{cases_lt, le-ltb, eqb-true}
-use Rattle.linker_base.specs.Form.{replaced, BitsWritten, Written, is_placed}
-use Rattle.linker_base.proofs.Fields.{bit_at_mod}
 use Rattle.linker_elf.specs.Inner.FormLaws.{ppc64_keeps}
-use Rattle.linker_elf.specs.Relocate.{number_placed, bits_taken, is_dq_form, with_low_4}
-use Rattle.linker_elf.specs.declared.ppc64.forms.Ppc64Instruction.TheVariants.{Ds}
-use Rattle.linker_reading.specs.FieldsOfBytes.{is_instruction_bit}
+use Rattle.linker_elf.specs.Relocate.{number_placed, with_low_4}
+use Rattle.linker_reading.specs.FieldsOfBytes.{is_instruction_bit, is_instruction_bit}
 use Rattle.linker_reading.proofs.WrittenImmediates.{plain_read}
 use Rattle.linker_reading.proofs.WrittenBits.{outside}
-use Rattle.std.proofs.Common.{◌≡◌, ◌≤◌, ◌<◌, ℕ, zero, suc, ◌+◌, ◌%◌, ◌^◌, Bool, true, false, ◌&&◌, List, refl, sym, ap, ◌∙◌, ⊎_elim, arith, ℤ, pos}
-use Rattle.std.specs.Prelude.{nat_lt, if◌then◌else◌, int_lt}
-use Rattle.std.specs.Int.{bit_at, byte_len, w64}
-use Rattle.std.proofs.lemmas.Bool.{cases_lt}
-use Rattle.linker_base.specs.Form.{window_of}
-use Rattle.linker_base.proofs.Fields.{bit_at_mod}
-use Rattle.linker_elf.specs.Relocate.{InstructionWritten, bits_taken}
-use Rattle.linker_elf.specs.declared.elf.RelocationInstruction.TheVariants.{Ppc64}
-use Rattle.linker_elf.specs.declared.elf.RelocationSize.TheVariants.{BitMasking}
-use Rattle.linker_elf.specs.declared.ppc64.forms.Ppc64Instruction.TheVariants.{D}
-use Rattle.linker_reading.specs.FieldsOfBytes.{is_instruction_bit}
 
 -- ---- what is read
 

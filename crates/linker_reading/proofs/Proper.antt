@@ -1,32 +1,10 @@
 -- What is read has some bits of 64, and no others.
-use Rattle.std.proofs.Common.{◌≡◌, ℕ, ◌+◌, ◌-◌, ◌*◌, ◌/◌, ◌%◌, ◌^◌, ◌<◌, ◌≤◌, refl}
-use Rattle.std.proofs.Common.{subst, arith, Bool, true, false, ltb, ◌&&◌, ℤ, Some, None, List}
-use Rattle.std.proofs.Common.{if◌then◌else◌, eqb, not, inl, inr}
-use Rattle.std.proofs.lemmas.Bool.{and_from, and_parts, ltb-true, lt-ltb, le-ltb, cases_lt}
-use Rattle.std.proofs.lemmas.Nat.{mod_below, pow_pos}
-use Rattle.std.specs.Int.{w64, cast_unsigned}
-use Rattle.linker_base.specs.Form.{window_of}
-use Rattle.linker_base.specs.declared.bit_misc.BitRange.{BitRange}
-use Rattle.linker_elf.specs.Elf.{relocation_form}
-use Rattle.linker_elf.specs.Forms.{immediate_of}
-use Rattle.linker_elf.specs.Relocate.{number_of_bytes, stays_movk, insn_at, is_low_jump}
-use Rattle.linker_elf.specs.Rows.{Bounds}
-use Rattle.linker_elf.specs.Value.{sum_64, difference_64}
-use Rattle.linker_elf.specs.declared.aarch64.forms.AArch64Instruction.{AArch64Instruction}
-use Rattle.linker_elf.specs.declared.aarch64.forms.AArch64Instruction.TheVariants.{Movkz, Movnz}
-use Rattle.linker_elf.specs.declared.elf.RelocationInstruction.{RelocationInstruction}
-use Rattle.linker_elf.specs.declared.elf.RelocationInstruction.TheVariants.{RiscV, Ppc64}
-use Rattle.linker_elf.specs.declared.elf.RelocationInstruction.TheVariants.{LoongArch64, AArch64}
-use Rattle.linker_elf.specs.declared.elf.RelocationKind.{RelocationKind}
+use Rattle.std.proofs.Common.{◌≡◌, ℕ, ◌+◌, ◌-◌, ◌*◌, ◌/◌, ◌%◌, ◌^◌, ◌<◌, ◌≤◌, refl, subst, arith, Bool, true, false, ltb, ◌&&◌, ℤ, Some, None, List, if◌then◌else◌, eqb, not, inl, inr}
+use Rattle.linker_reading.proofs.Imports.{and_from, and_parts, ltb-true, lt-ltb, le-ltb, cases_lt, mod_below, pow_pos, w64, cast_unsigned, window_of, BitRange, relocation_form, immediate_of, number_of_bytes, stays_movk, insn_at, is_low_jump, Bounds, sum_64, difference_64, AArch64Instruction, Movkz, Movnz, RelocationInstruction, RiscV, Ppc64, LoongArch64, AArch64, RelocationKind, RelocationSize, ByteSize, BitMasking}
 use Rattle.linker_elf.specs.declared.elf.RelocationKind.TheVariants as kinds
-use Rattle.linker_elf.specs.declared.elf.RelocationSize.{RelocationSize}
-use Rattle.linker_elf.specs.declared.elf.RelocationSize.TheVariants.{ByteSize, BitMasking}
 use Rattle.linker_reading.proofs.Ranges.{upper_below, moved_below}
 use Rattle.linker_reading.specs.Fields.{IsProper}
-use Rattle.linker_reading.specs.Reading.{holds_value, holds_bits, holds_field, are_signed, bits_held}
-use Rattle.linker_reading.specs.Reading.{bits_within, holds_some, number_held, with_alignment}
-use Rattle.linker_reading.specs.Reading.{bits_read, bits_of_bytes, bytes_read, field_read, jump_read}
-use Rattle.linker_reading.specs.Reading.{leaves_one, up_to_sign, with_reach, least_sum, steps_above}
+use Rattle.linker_reading.specs.Reading.{holds_value, holds_bits, holds_field, are_signed, bits_held, bits_within, holds_some, number_held, with_alignment, bits_read, bits_of_bytes, bytes_read, field_read, jump_read, leaves_one, up_to_sign, with_reach, least_sum, steps_above}
 use Rattle.linker_reading.specs.declared.fields.FieldValue.{FieldValue}
 
 -- ---- instructions

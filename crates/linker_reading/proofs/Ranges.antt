@@ -1,10 +1,7 @@
 -- Ranges of bits, and numbers in units of a power of two.
-use Rattle.std.proofs.Common.{◌≡◌, ℕ, ◌+◌, ◌-◌, ◌*◌, ◌/◌, ◌%◌, ◌^◌, ◌<◌, ◌≤◌, sym, ◌∙◌}
-use Rattle.std.proofs.Common.{ap, subst, arith}
-use Rattle.std.proofs.lemmas.Nat.{pow_pos, pow-add}
-use Rattle.std.proofs.Math.Nat.{mod-eq_of_lt, div-eq_of_lt, div-lt_iff_lt-mul}
-use Rattle.linker_base.specs.Bits.{field}
-use Rattle.linker_base.proofs.Immediates.{subst_below}
+use Rattle.std.proofs.Common.{◌≡◌, ℕ, ◌+◌, ◌-◌, ◌*◌, ◌/◌, ◌%◌, ◌^◌, ◌<◌, ◌≤◌, sym, ◌∙◌, ap, subst, arith}
+use Rattle.linker_reading.proofs.Imports.{pow_pos, pow-add, shr_below, mod-eq_of_lt, field, subst_below}
+use Rattle.std.proofs.Math.Nat.{div-eq_of_lt}
 
 -- a number below bit m has none of the bits above
 above_none : (n m s : ℕ) → n < 2 ^ m → m ≤ s → n / 2 ^ s ≡ 0
@@ -19,11 +16,6 @@ pub none_above : (n s e : ℕ) → n < 2 ^ 64 → 63 < s → 0 ≡ field n s e
 none_above n s e small high =
     sym (ap (λ y. y % 2 ^ (e - s)) (above_none n 64 s small (omega arith))
     ∙ mod-eq_of_lt (pow_pos (e - s)))
-
-pub quotient_below : (n m s : ℕ) → n < 2 ^ (m + s) → n / 2 ^ s < 2 ^ m
-quotient_below n m s h =
-    (div-lt_iff_lt-mul {k = 2 ^ s} {x = n} {y = 2 ^ m} (pow_pos s)).1
-    (subst (λ y. n < y) (pow-add 2 m s) h)
 
 -- a number of e - s bits, moved up by s
 pub moved_below : (b s e : ℕ) → b < 2 ^ (e - s) → s ≤ e → b * 2 ^ s < 2 ^ e
@@ -43,7 +35,7 @@ moved_fits b s e small order most =
 -- bits s and up of 64
 pub upper_below : (n s : ℕ) → n < 2 ^ 64 → s ≤ 64 → n / 2 ^ s < 2 ^ (64 - s)
 upper_below n s small low =
-    quotient_below n (64 - s) s
+    shr_below n (64 - s) s
     (subst (λ k. n < 2 ^ k) (let same : 64 ≡ (64 - s) + s = omega arith in same) small)
 
 pub all_above : (n s e : ℕ) → n < 2 ^ 64 → s < 64 → 63 < e → n / 2 ^ s ≡ field n s e

@@ -1,18 +1,8 @@
 -- The bits above the known ones, of values within bounds.
-use Rattle.std.proofs.Common.{FitsSigned, ◌≡◌, ℕ, suc, ◌+◌, ◌-◌, ◌*◌, ◌/◌, ◌%◌, ◌^◌, ◌<◌, ◌≤◌, refl, sym}
-use Rattle.std.proofs.Common.{◌∙◌, ap, subst, arith, ℤ, pos, negsuc, ◌≤ℤ◌, ◌<ℤ◌, true, not, ◌&&◌, ltb}
-use Rattle.std.proofs.Common.{eqb, Bool, false, Some}
-use Rattle.std.specs.Int.{w64, cast_unsigned}
-use Rattle.std.proofs.lemmas.Bool.{and_parts, ltb-true, eqb-true, ltb-false}
-use Rattle.std.proofs.lemmas.Int.{ints}
-use Rattle.std.proofs.lemmas.Nat.{mod_below, pow_pos, pow-add, div-add-mod', div-mul-add, mod-pow-add}
-use Rattle.std.proofs.lemmas.Nat.{mod_low}
-use Rattle.std.proofs.Math.Nat.{mod-add-mod, div-le_self}
-use Rattle.linker_base.specs.Bits.{field}
-use Rattle.linker_base.proofs.Fields.{mod_mod}
-use Rattle.linker_elf.specs.Elf.{IsWithin}
-use Rattle.linker_elf.specs.Value.{sum_64, difference_64}
-use Rattle.linker_reading.proofs.Ranges.{quotient_below}
+use Rattle.std.proofs.Common.{FitsSigned, ◌≡◌, ℕ, suc, ◌+◌, ◌-◌, ◌*◌, ◌/◌, ◌%◌, ◌^◌, ◌<◌, ◌≤◌, sym, ◌∙◌, ap, subst, arith, ℤ, pos, negsuc, ◌≤ℤ◌, ◌<ℤ◌, true, not, ◌&&◌, ltb, eqb, Some}
+use Rattle.linker_reading.proofs.Imports.{w64, cast_unsigned, and_parts, ltb-true, eqb-true, ints, mod_below, pow_pos, pow-add, div-add-mod', div-mul-add, mod-pow-add, shr_below, mod_low, mod-add-mod, field, mod_mod, IsWithin, sum_64, difference_64}
+use Rattle.std.proofs.lemmas.Bool.{ltb-false, not-true}
+use Rattle.std.proofs.Math.Nat.{div-le_self}
 use Rattle.linker_reading.specs.Fields.{IsOfValue}
 use Rattle.linker_reading.specs.Reading.{leaves_one, least_sum, up_to_sign}
 use Rattle.linker_reading.specs.declared.fields.FieldValue.{FieldValue}
@@ -94,7 +84,7 @@ one_left l least u t s e bits order short below is most sum known =
     let rest = mod_below t (2 ^ s) some in
     let parts : t ≡ a * 2 ^ s + b = sym (div-add-mod' t (2 ^ s)) in
     let few : a < 2 ^ k =
-    quotient_below t k s (subst (λ j. t < 2 ^ j) (let same : e ≡ (e - s) + s = omega arith in same) below) in
+    shr_below t k s (subst (λ j. t < 2 ^ j) (let same : e ≡ (e - s) + s = omega arith in same) below) in
     let moved : least + t ≡ (l + a) * 2 ^ s + b = joined l a b (2 ^ s) least t is parts in
     let upper : u / 2 ^ s ≡ (l + a) % 2 ^ (64 - s) =
     ap (λ y. y / 2 ^ s) (sum ∙ ap (λ y. y % 2 ^ 64) moved) ∙ in_units (l + a) b s rest (omega arith) in
@@ -115,10 +105,6 @@ with_rounding : (least v r t : ℕ) → v ≡ (least + t) % 2 ^ 64
     → (v + r) % 2 ^ 64 ≡ ((least + r) % 2 ^ 64 + t) % 2 ^ 64
 with_rounding least v r t e = omega arith
 
-not_true : (t : Bool) → not t ≡ true → t ≡ false
-not_true true h = cc
-not_true false h = refl
-
 pub reach_leaves : (min max : ℤ) (f : FieldValue) → FitsSigned w64 min → FitsSigned w64 max
     → f.known.start < f.known.end → leaves_one (min, max) f ≡ true
     → (v : ℤ) → FitsSigned w64 v → IsWithin (Some (min, max)) v → IsOfValue f v
@@ -131,7 +117,7 @@ reach_leaves min max f a b order leaves v fits within known =
     let x = and_parts (ltb e 64) (not (ltb (2 ^ e) d) && eqb (least % 2 ^ s) 0) leaves in
     let y = and_parts (not (ltb (2 ^ e) d)) (eqb (least % 2 ^ s) 0) x.1 in
     let short = ltb-true e 64 x.0 in
-    let most : d ≤ 2 ^ e = ltb-false (2 ^ e) d (not_true (ltb (2 ^ e) d) y.0) in
+    let most : d ≤ 2 ^ e = ltb-false (2 ^ e) d (not-true (ltb (2 ^ e) d) y.0) in
     let none = eqb-true (least % 2 ^ s) 0 y.1 in
     let far = distance min max v a b fits within.0 within.1 in
     let t = far.far in

@@ -1,13 +1,8 @@
 -- The masks of fields of RISC-V have the bits that a write of a row may change.
 use Rattle.std.proofs.Common.{◌≡◌, ℕ, ◌<◌, refl}
-use Rattle.std.specs.Prelude.{◌==◌}
-use Rattle.std.specs.Int.{bit_at}
-use Rattle.linker_base.specs.declared.bit_misc.BitRange.{BitRange}
-use Rattle.linker_elf.specs.Forms.{instruction_mask}
-use Rattle.linker_elf.specs.declared.elf.RelocationInstruction.TheVariants.{RiscV}
+use Rattle.linker_reading.proofs.Imports.{◌==◌, bit_at, BitRange, instruction_mask, RiscV, RiscVInstruction}
 use Rattle.linker_elf.specs.declared.riscv64.forms.RiscVInstruction.TheVariants as riscv
 use Rattle.linker_reading.specs.FieldsOfBytes.{is_instruction_bit}
-use Rattle.linker_elf.specs.declared.riscv64.forms.RiscVInstruction.{RiscVInstruction}
 use Rattle.linker_reading.proofs.Masks.{agrees}
 
 pub riscv_agrees : (f : RiscVInstruction) (bits : BitRange) (x w : ℕ) → w < 64

@@ -1,13 +1,6 @@
 -- What an instruction of RISC-V holds: with the rounding that a read takes off.
-use Rattle.std.proofs.Common.{◌≡◌, ℕ, ◌+◌, ◌%◌, ◌^◌, refl}
-use Rattle.std.proofs.Common.{◌∙◌, ap, arith}
-use Rattle.std.specs.Int.{w64, cast_unsigned}
-use Rattle.linker_base.specs.Bits.{signed}
-use Rattle.linker_base.specs.Form.{place_sum}
-use Rattle.linker_base.proofs.Immediates.{place_sum_below}
-use Rattle.linker_elf.specs.RiscV.{riscv_form}
-use Rattle.linker_elf.specs.declared.elf.RelocationInstruction.TheVariants.{RiscV}
-use Rattle.linker_elf.specs.declared.riscv64.forms.RiscVInstruction.TheVariants.{UType, CluiType}
+use Rattle.std.proofs.Common.{◌≡◌, ℕ, ◌+◌, ◌%◌, ◌^◌, refl, ◌∙◌, ap, arith}
+use Rattle.linker_reading.proofs.Imports.{w64, cast_unsigned, signed, place_sum, place_sum_below, riscv_form, RiscV, UType, CluiType}
 use Rattle.linker_reading.specs.Reading.{number_held}
 use Rattle.linker_reading.proofs.Numbers.{short, rounded_again}
 

@@ -1,46 +1,17 @@
 -- What is read of an instruction of RISC-V after a write; and what a write keeps of it.
-use Rattle.std.proofs.Common.{FitsSigned, ◌≡◌, ℕ, ◌+◌, ◌-◌, ◌*◌, ◌/◌, ◌%◌, ◌^◌, ◌<◌, ◌≤◌, refl, sym}
-use Rattle.std.proofs.Common.{◌∙◌, ap, arith, Bool, true, false}
-use Rattle.std.proofs.Common.{List, ℤ, pos, int_lt}
-use Rattle.std.specs.Int.{w64, cast_unsigned, bit_at}
-use Rattle.std.proofs.lemmas.Bool.{eqb-true}
-use Rattle.std.proofs.Math.Nat.{mod-add-mod}
-use Rattle.linker_base.specs.Bits.{field, signed}
-use Rattle.linker_base.specs.Form.{Written, window_of, place_sum, twos_complement}
-use Rattle.linker_base.specs.declared.bit_misc.BitRange.{BitRange}
-use Rattle.linker_base.proofs.Fields.{mod_mod, aligned_rem}
-use Rattle.linker_base.proofs.Immediates.{always_clear, place_sum_below}
-use Rattle.linker_elf.specs.Relocate.{InstructionWritten, bits_taken}
-use Rattle.linker_elf.specs.RiscV.{riscv_form, riscv_places, ui_high, ui_low}
-use Rattle.linker_elf.specs.Rows.{Bounds}
-use Rattle.linker_elf.specs.Value.{sum_64}
-use Rattle.linker_elf.specs.declared.elf.RelocationInstruction.TheVariants.{RiscV}
-use Rattle.linker_elf.specs.declared.riscv64.forms.RiscVInstruction.{RiscVInstruction}
-use Rattle.linker_elf.specs.declared.riscv64.forms.RiscVInstruction.TheVariants.{UType, CluiType}
+use Rattle.std.proofs.Common.{FitsSigned, ◌≡◌, ℕ, ◌+◌, ◌-◌, ◌*◌, ◌/◌, ◌%◌, ◌^◌, ◌<◌, ◌≤◌, refl, sym, ◌∙◌, ap, arith, Bool, true, false, List, ℤ, pos, int_lt, ◌≡◌, ◌≤◌, ◌<◌, ℕ, ◌+◌, ◌-◌, ◌*◌, ◌/◌, ◌%◌, ◌^◌, Bool, true, false, List, [], refl, sym, ap, ◌∙◌, arith, ℤ, ◌≡◌, ◌≤◌, ◌<◌, ℕ, ◌+◌, ◌-◌, ◌*◌, ◌/◌, ◌%◌, ◌^◌, Bool, true, false, List, refl, sym, ap, ◌∙◌, arith, ℤ, pos}
+use Rattle.linker_reading.proofs.Imports.{w64, cast_unsigned, bit_at, eqb-true, mod-add-mod, field, signed, Written, window_of, place_sum, twos_complement, BitRange, mod_mod, aligned_rem, always_clear, place_sum_below, InstructionWritten, bits_taken, riscv_form, Bounds, sum_64, RiscV, RiscVInstruction, UType, CluiType, taken_below, bit_at, w64, cast_unsigned, BitsWritten, Written, bits_taken, riscv_form, UType, int_lt, bit_at, byte_len, w64, window_of, InstructionWritten, bits_taken, RiscV}
+use Rattle.linker_elf.specs.RiscV.{riscv_places, ui_high, ui_low}
 use Rattle.linker_elf.specs.declared.riscv64.forms.RiscVInstruction.TheVariants.{UiType}
 use Rattle.linker_elf.proofs.RiscV.{u_laid, clui_laid, riscv_machine}
-use Rattle.linker_elf.proofs.Taken.{taken_below}
 use Rattle.linker_reading.proofs.BitFields.{sum_bits, own_bits, low_bits_same, number_bits}
 use Rattle.linker_reading.proofs.Numbers.{short}
 use Rattle.linker_reading.specs.Fields.{IsOfValue}
 use Rattle.linker_reading.specs.Reading.{bits_within, bits_held, bits_read, holds_bits}
-use Rattle.std.proofs.Common.{◌≡◌, ◌≤◌, ◌<◌, ℕ, ◌+◌, ◌-◌, ◌*◌, ◌/◌, ◌%◌, ◌^◌, Bool, true, false, List, [], refl, sym, ap, ◌∙◌, arith, ℤ}
-use Rattle.std.specs.Int.{bit_at, w64, cast_unsigned}
-use Rattle.linker_base.specs.Form.{BitsWritten, Written}
 use Rattle.linker_elf.specs.Inner.FormLaws.{riscv_keeps}
-use Rattle.linker_elf.specs.Relocate.{bits_taken}
-use Rattle.linker_elf.specs.RiscV.{riscv_form}
-use Rattle.linker_elf.specs.declared.riscv64.forms.RiscVInstruction.TheVariants.{UType}
-use Rattle.linker_reading.specs.FieldsOfBytes.{is_instruction_bit}
+use Rattle.linker_reading.specs.FieldsOfBytes.{is_instruction_bit, is_instruction_bit}
 use Rattle.linker_reading.proofs.WrittenImmediates.{plain_read, sum_fits, modulo_read}
 use Rattle.linker_reading.proofs.WrittenBits.{outside}
-use Rattle.std.proofs.Common.{◌≡◌, ◌≤◌, ◌<◌, ℕ, ◌+◌, ◌-◌, ◌*◌, ◌/◌, ◌%◌, ◌^◌, Bool, true, false, List, refl, sym, ap, ◌∙◌, arith, ℤ, pos}
-use Rattle.std.specs.Prelude.{int_lt}
-use Rattle.std.specs.Int.{bit_at, byte_len, w64}
-use Rattle.linker_base.specs.Form.{window_of}
-use Rattle.linker_elf.specs.Relocate.{InstructionWritten, bits_taken}
-use Rattle.linker_elf.specs.declared.elf.RelocationInstruction.TheVariants.{RiscV}
-use Rattle.linker_reading.specs.FieldsOfBytes.{is_instruction_bit}
 
 -- ---- what is read
 

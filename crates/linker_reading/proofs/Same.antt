@@ -1,26 +1,21 @@
 -- Windows that differ in a field only, by its mask and by its row.
 use Rattle.std.proofs.Common.{◌≡◌, ◌↔◌, ℕ, ◌+◌, ◌-◌, ◌*◌, ◌<◌, ◌≤◌, Bool, true, false, ◌&&◌, ◌||◌, List, [], length, drop, refl, sym, ap, ◌∙◌, ⊎_elim, arith}
-use Rattle.std.specs.Prelude.{◌==◌, nat_lt, nat_le, slice_index, if◌then◌else◌}
-use Rattle.std.specs.Int.{bit_at}
-use Rattle.std.proofs.lemmas.Bool.{cases_lt, lt-ltb, le-ltb}
+use Rattle.linker_reading.proofs.Imports.{◌==◌, nat_lt, nat_le, slice_index, bit_at, cases_lt, lt-ltb, le-ltb, RelocationKindInfo, bit_at-zero}
 use Rattle.linker_elf.specs.Relocate.{window_len}
-use Rattle.linker_elf.specs.declared.elf.RelocationKindInfo.{RelocationKindInfo}
 use Rattle.linker_reading.specs.FieldsOfBytes.{is_field_bit, is_size_bit, is_in, is_in_one, is_in_row, kept_index, IsSameBut, AreSameBut, AreSameButFor}
 use Rattle.linker_reading.specs.declared.recognise.fields.FieldBits.{FieldBits}
+use Rattle.linker_reading.proofs.X86WrittenChoices.{no_gap}
 
 -- a mask has a row's bits, of bytes that begin with its window
 abbrev pub HasBitsOf : RelocationKindInfo → List ℕ → ℕ → Type 0
 HasBitsOf row bytes mask = (w : ℕ) → w < 64 → (bit_at mask w == 1) ≡ is_field_bit row bytes w
-
-zero_bit : (w : ℕ) → bit_at 0 w ≡ 0
-zero_bit w = grind arith
 
 first_false : (a : Bool) {b : Bool} → b ≡ false → (a && b) ≡ false
 first_false true e = e
 first_false false e = refl
 
 zero_has_none : (w : ℕ) → (bit_at 0 w == 1) ≡ false
-zero_has_none w = ap (λ n. n == 1) (zero_bit w)
+zero_has_none w = ap (λ n. n == 1) (bit_at-zero w)
 
 -- a test that holds below 64 only
 below_64 : (mask : ℕ) (row : RelocationKindInfo) (bytes : List ℕ) → HasBitsOf row bytes mask → (w : ℕ)
@@ -50,9 +45,6 @@ same_by P Q others start count a b e same i h j k ignored =
 or_false : (b : Bool) → (b || false) ≡ b
 or_false true = refl
 or_false false = refl
-
-no_gap : (i : ℕ) → kept_index 0 0 i ≡ i
-no_gap i = ap (λ b. if b then i else i + 0) (le-ltb i 0 (omega arith)) ∙ omega arith
 
 none_else : (Q : ℕ → ℕ → Bool) (i j : ℕ) → (Q (kept_index 0 0 i) j || is_in_one [] (kept_index 0 0 i) j) ≡ Q i j
 none_else Q i j = or_false (Q (kept_index 0 0 i) j) ∙ ap (λ n. Q n j) (no_gap i)

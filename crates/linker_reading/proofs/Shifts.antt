@@ -1,11 +1,7 @@
 -- Known bits of a number, and of one that is moved by a rounding.
 use Rattle.std.proofs.Common.{◌≡◌, ℕ, ◌+◌, ◌-◌, ◌*◌, ◌/◌, ◌%◌, ◌^◌, ◌<◌, ◌≤◌, sym, ◌∙◌, ap, subst, arith}
-use Rattle.std.proofs.lemmas.Nat.{mod_below, pow_pos, pow-add, mod-pow-add, div-mul-add, mod_low}
-use Rattle.std.proofs.Math.Nat.{mod-add-mod, mod-eq_of_lt, mul-add-mod_self_right}
-use Rattle.linker_base.specs.Bits.{field}
-use Rattle.linker_base.proofs.Fields.{mod_mod, bit_at_shr, same_fields}
-use Rattle.std.specs.Int.{bit_at}
-use Rattle.linker_elf.specs.Value.{sum_64}
+use Rattle.linker_reading.proofs.Imports.{mod_below, pow_pos, pow-add, mod-pow-add, div-mul-add, mod_low, mod-add-mod, mod-eq_of_lt, field, mod_mod, bit_at_shr, same_fields, bit_at, sum_64}
+use Rattle.std.proofs.Math.Nat.{mul-add-mod_self_right}
 use Rattle.linker_reading.specs.Fields.{IsProper, FieldHolds}
 use Rattle.linker_reading.specs.declared.fields.FieldValue.{FieldValue}
 

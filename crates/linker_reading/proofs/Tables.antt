@@ -1,12 +1,9 @@
 -- The choices of the code's entries are those of the definition's.
 use Rattle.std.proofs.Common.{◌≡◌, ◌↔◌, ◌≤◌, ◌<◌, ◌++◌, ◌&&◌, ℕ, Bool, true, false, zero, suc, List, [], ◌∷◌, Option, Some, None, length, get_or, slice_get, set, map, take, replicate, refl, sym, ap, subst, ◌∙◌, arith}
 use Rattle.std.specs.Option.{is_some}
-use Rattle.std.proofs.lemmas.Bool.{and_parts, false≢true}
-use Rattle.std.proofs.lemmas.List.{length-take}
+use Rattle.linker_reading.proofs.Imports.{and_parts, false≢true, length-take, slice_get-get_or, Entry, choice, Choice}
 use Rattle.std.proofs.lemmas.Option.{none-some}
-use Rattle.linker_elf.specs.Choices.{Entry, choice}
 use Rattle.linker_elf.specs.Inner.ChoiceTables.{IsTableOf}
-use Rattle.linker_elf.specs.declared.elf.choice.Choice.{Choice}
 use Rattle.linker_elf.specs.declared.elf.choice_table.ChoiceEntry.{ChoiceEntry}
 use Rattle.linker_reading.specs.Inner.Equality.{IsEquality}
 use Rattle.linker_reading.specs.Inner.Found.{choices_in, IsRepeated}
@@ -61,14 +58,9 @@ none_of (Some a) e = absurd (false≢true (sym e))
 
 -- ---- equal choices
 
-pub got : {A : Type 0} (xs : List A) (i : ℕ) (d : A) → i < length xs → slice_get xs i ≡ Some (get_or xs i d)
-got [] i d within = absurd (omega (arith, within))
-got (x ∷ xs) zero d within = refl
-got (x ∷ xs) (suc i) d within = got xs i d (omega (arith, within))
-
 pub same_got : {A : Type 0} (xs : List A) (i j : ℕ) (d e : A) → i < length xs → j < length xs → slice_get xs i ≡ slice_get xs j → get_or xs i d ≡ get_or xs j e
 same_got xs i j d e h k same =
-    let both : Some (get_or xs i d) ≡ Some (get_or xs j e) = sym (got xs i d h) ∙ same ∙ got xs j e k in cc
+    let both : Some (get_or xs i d) ≡ Some (get_or xs j e) = sym (slice_get-get_or xs i d h) ∙ same ∙ slice_get-get_or xs j e k in cc
 
 pub equal_choices : {K R : Type 0} (equal_kinds : K → K → Bool) (equal_names : R → R → Bool) → IsEquality equal_kinds → IsEquality equal_names
     → (x y : Choice K R) → (equal_kinds x.kind y.kind && equal_names x.relocation y.relocation) ≡ true ↔ (x ≡ y)

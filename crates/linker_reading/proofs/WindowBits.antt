@@ -1,10 +1,8 @@
 -- The bits of a little-endian number are those of its bytes.
 use Rattle.std.proofs.Common.{◌≡◌, ◌≤◌, ◌<◌, ℕ, zero, suc, ◌+◌, ◌-◌, ◌*◌, ◌^◌, List, refl, sym, ap, subst, ◌∙◌, ⊎_elim, arith}
-use Rattle.std.specs.Prelude.{slice_index}
-use Rattle.std.specs.Int.{Width, byte_len, bit_at, from_le_bytes, sum_through, byte_worth}
-use Rattle.std.proofs.lemmas.Bool.{cases_lt}
-use Rattle.std.proofs.lemmas.Nat.{pow-add, mul-add-lt}
-use Rattle.std.proofs.lemmas.Nat.Bits.{bit_at_cat_low, bit_at_cat_high}
+use Rattle.linker_reading.proofs.Imports.{slice_index, byte_len, bit_at, from_le_bytes, cases_lt, pow-add, bit_at_cat_low, bit_at_cat_high}
+use Rattle.std.specs.Int.{Width, sum_through, byte_worth}
+use Rattle.std.proofs.lemmas.Nat.{mul-add-lt}
 
 AreSmall : (ℕ → ℕ) → Type 0
 AreSmall f = (i : ℕ) → f i < 2 ^ 8

@@ -1,10 +1,7 @@
 -- Bytes that differ in some bits only, by words.
 use Rattle.std.proofs.Common.{◌≡◌, ℕ, ◌+◌, ◌-◌, ◌*◌, ◌^◌, ◌<◌, ◌≤◌, ◌||◌, Bool, List, length, take, drop, sym, ap, subst, ◌∙◌, ⊎_elim, arith}
-use Rattle.std.specs.Prelude.{slice_index, if◌then◌else◌}
-use Rattle.std.specs.Int.{bit_at, from_le_bytes, w32}
-use Rattle.std.proofs.lemmas.Bool.{cases_lt, lt-ltb, le-ltb}
-use Rattle.std.proofs.lemmas.List.{get_or-drop, get_or-take, take_rest, length-take-le, length-drop}
-use Rattle.std.proofs.lemmas.Nat.Bits.{bit_at_above}
+use Rattle.linker_reading.proofs.Imports.{slice_index, if◌then◌else◌, bit_at, from_le_bytes, cases_lt, lt-ltb, le-ltb, get_or-drop, get_or-take, take_rest, length-take-le, length-drop, bit_at_above}
+use Rattle.std.specs.Int.{w32}
 use Rattle.linker_reading.specs.FieldsOfBytes.{is_in, is_in_one, kept_index, IsSameBut, AreSameBut}
 use Rattle.linker_reading.specs.Inner.Words.{IsSameWordBut, AreSameFrom}
 use Rattle.linker_reading.specs.declared.recognise.fields.FieldBits.{FieldBits}

@@ -1,35 +1,12 @@
 -- What is read after a write has the bits of the value that was written.
-use Rattle.std.proofs.Common.{FitsSigned, ◌≡◌, ℕ, ◌+◌, ◌-◌, ◌*◌, ◌/◌, ◌%◌, ◌^◌, ◌<◌, ◌≤◌, refl, sym}
-use Rattle.std.proofs.Common.{◌∙◌, ap, subst, arith, Bool, true, false, ◌&&◌, ltb}
-use Rattle.std.proofs.Common.{List, ℤ, pos, unsigned_abs, if◌then◌else◌, ◌+ℤ◌}
-use Rattle.std.specs.Int.{w64, cast_unsigned, int_rem_euclid}
-use Rattle.std.proofs.lemmas.Bool.{and_parts, ltb-true}
-use Rattle.linker_base.specs.Form.{window_of}
-use Rattle.linker_base.specs.declared.bit_misc.BitRange.{BitRange}
-use Rattle.linker_base.proofs.Fields.{mod_mod}
-use Rattle.linker_elf.specs.AArch64.{aarch64_form}
-use Rattle.linker_elf.specs.Elf.{IsWithin, relocation_form}
-use Rattle.linker_elf.specs.LoongArch.{loongarch_form}
-use Rattle.linker_elf.specs.Relocate.{InstructionWritten}
-use Rattle.linker_elf.specs.Relocate.{IsInWords, IsAligned, stays_movk, is_low_jump, insn_at, low_part}
+use Rattle.std.proofs.Common.{FitsSigned, ◌≡◌, ℕ, ◌+◌, ◌-◌, ◌*◌, ◌/◌, ◌%◌, ◌^◌, ◌<◌, ◌≤◌, refl, sym, ◌∙◌, ap, subst, arith, Bool, true, false, ◌&&◌, ltb, List, ℤ, pos, unsigned_abs, if◌then◌else◌, ◌+ℤ◌}
+use Rattle.linker_reading.proofs.Imports.{w64, cast_unsigned, int_rem_euclid, and_parts, ltb-true, window_of, BitRange, mod_mod, aarch64_form, IsWithin, relocation_form, loongarch_form, InstructionWritten, IsAligned, stays_movk, is_low_jump, insn_at, low_part, IsInUnits, HoldsBits, IsWritten, SizeNumber, number_of_bytes, takes_size, Bounds, Movkz, Movnz, RelocationInstruction, RiscV, Ppc64, LoongArch64, AArch64, RelocationKind, RelocationKindInfo, RelocationSize, ByteSize, BitMasking, Shift10}
+use Rattle.linker_elf.specs.Relocate.{IsInWords, whole_number, is_supported}
 use Rattle.linker_elf.proofs.Relocated.{plain_written, movk_written, jump_written}
-use Rattle.linker_elf.specs.Relocate.{IsInUnits, HoldsBits, whole_number, IsWritten, SizeNumber, number_of_bytes}
-use Rattle.linker_elf.specs.Relocate.{is_supported, takes_size}
-use Rattle.linker_elf.specs.Rows.{Bounds}
-use Rattle.linker_elf.specs.declared.aarch64.forms.AArch64Instruction.TheVariants.{Movkz, Movnz}
-use Rattle.linker_elf.specs.declared.elf.RelocationInstruction.{RelocationInstruction}
-use Rattle.linker_elf.specs.declared.elf.RelocationInstruction.TheVariants.{RiscV, Ppc64}
-use Rattle.linker_elf.specs.declared.elf.RelocationInstruction.TheVariants.{LoongArch64, AArch64}
-use Rattle.linker_elf.specs.declared.elf.RelocationKind.{RelocationKind}
 use Rattle.linker_elf.specs.declared.elf.RelocationKind.TheVariants as kinds
-use Rattle.linker_elf.specs.declared.elf.RelocationKindInfo.{RelocationKindInfo}
-use Rattle.linker_elf.specs.declared.elf.RelocationSize.{RelocationSize}
-use Rattle.linker_elf.specs.declared.elf.RelocationSize.TheVariants.{ByteSize, BitMasking}
-use Rattle.linker_elf.specs.declared.loongarch64.forms.LoongArch64Instruction.TheVariants.{Shift10}
 use Rattle.linker_reading.proofs.Aligned.{cast_below}
 use Rattle.linker_reading.specs.Fields.{IsOfValue}
-use Rattle.linker_reading.specs.Reading.{bits_held, bits_read, holds_bits}
-use Rattle.linker_reading.specs.Reading.{holds_value, holds_field, field_read, bytes_read, bits_of_bytes, jump_read}
+use Rattle.linker_reading.specs.Reading.{bits_held, bits_read, holds_bits, holds_value, holds_field, field_read, bytes_read, bits_of_bytes, jump_read}
 use Rattle.linker_reading.proofs.Proper.{some_of_bytes}
 use Rattle.linker_reading.proofs.WrittenImmediates.{unrounded, rest_is}
 use Rattle.linker_reading.proofs.AArch64Written.{aarch64_read, movk_kept, no_movk_after}

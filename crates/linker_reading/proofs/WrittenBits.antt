@@ -1,20 +1,8 @@
 -- A write of a row's value to an instruction keeps the bits that aren't of the row's field.
-use Rattle.std.proofs.Common.{◌≡◌, ◌<◌, ℕ, ◌-◌, ◌/◌, ◌^◌, Bool, true, false, ◌||◌, List, [], ◌∷◌, refl, ap, ◌∙◌, ℤ, eqb}
-use Rattle.std.specs.Int.{bit_at, w64, cast_unsigned}
-use Rattle.std.proofs.lemmas.Nat.{mod_below, pow_pos}
-use Rattle.linker_base.specs.Form.{ImmediateBit, Mark, replaced, ored, cleared, Form, BitsWritten, Written, WriteKeepsOtherBits, is_placed}
-use Rattle.linker_base.specs.declared.bit_misc.BitRange.{BitRange}
-use Rattle.linker_elf.specs.Relocate.{clearing, ored_cleared, bits_taken}
-
--- ---- tests
-
-pub or_first : (a b : Bool) → (a || b) ≡ false → a ≡ false
-or_first false b e = refl
-or_first true b e = e
-
-pub or_second : (a b : Bool) → (a || b) ≡ false → b ≡ false
-or_second false b e = e
-or_second true b e = cc
+use Rattle.std.proofs.Common.{◌≡◌, ◌<◌, ℕ, ◌-◌, ◌/◌, ◌^◌, Bool, false, ◌||◌, List, [], ◌∷◌, ap, ◌∙◌, ℤ, eqb}
+use Rattle.linker_reading.proofs.Imports.{bit_at, w64, cast_unsigned, mod_below, pow_pos, ImmediateBit, replaced, ored, BitsWritten, Written, is_placed, BitRange, ored_cleared, bits_taken, or_first, or_second}
+use Rattle.linker_base.specs.Form.{Mark, cleared, Form, WriteKeepsOtherBits}
+use Rattle.linker_elf.specs.Relocate.{clearing}
 
 -- ---- the places that are cleared
 

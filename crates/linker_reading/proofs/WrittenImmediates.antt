@@ -1,23 +1,10 @@
 -- What is read of an immediate after a write has the bits of the value that was written.
-use Rattle.std.proofs.Common.{FitsSigned, ◌≡◌, ℕ, ◌+◌, ◌-◌, ◌/◌, ◌%◌, ◌^◌, ◌<◌, ◌≤◌, sym}
-use Rattle.std.proofs.Common.{◌∙◌, ap, arith, Bool, true, ◌&&◌, leb}
-use Rattle.std.proofs.Common.{ℤ, pos, negsuc, unsigned_abs, ◌+ℤ◌, ◌*ℤ◌, ◌≤ℤ◌, ◌<ℤ◌, neg_ℤ}
-use Rattle.std.specs.Int.{w64, cast_unsigned, int_rem_euclid}
-use Rattle.std.proofs.lemmas.Bool.{and_parts, leb-true}
-use Rattle.std.proofs.lemmas.Int.{ints}
-use Rattle.linker_base.specs.Bits.{field}
-use Rattle.linker_base.specs.Form.{Written, IsClear, IsSameModulo}
-use Rattle.linker_base.specs.declared.bit_misc.BitRange.{BitRange}
-use Rattle.linker_base.proofs.Fields.{mod_mod}
-use Rattle.linker_base.proofs.Immediates.{is_sound_layout, low_of, high_of}
-use Rattle.linker_elf.specs.Agrees.{bits_from}
-use Rattle.linker_elf.specs.Elf.{relocation_form, relocation_layout}
-use Rattle.linker_elf.specs.Forms.{immediate_of}
-use Rattle.linker_elf.specs.Relocate.{bits_taken}
-use Rattle.linker_elf.specs.Value.{sum_64}
-use Rattle.linker_elf.specs.declared.elf.RelocationInstruction.{RelocationInstruction}
+use Rattle.std.proofs.Common.{FitsSigned, ◌≡◌, ℕ, ◌+◌, ◌-◌, ◌/◌, ◌%◌, ◌^◌, ◌<◌, ◌≤◌, sym, ◌∙◌, ap, arith, Bool, true, ◌&&◌, leb, ℤ, pos, negsuc, unsigned_abs, ◌+ℤ◌, ◌*ℤ◌, ◌≤ℤ◌, ◌<ℤ◌, neg_ℤ}
+use Rattle.linker_reading.proofs.Imports.{w64, cast_unsigned, int_rem_euclid, and_parts, ints, field, Written, IsClear, BitRange, mod_mod, is_sound_layout, low_of, high_of, bits_from, relocation_form, immediate_of, bits_taken, sum_64, RelocationInstruction, taken_below, taken_is_field}
+use Rattle.std.proofs.lemmas.Bool.{leb-true}
+use Rattle.linker_base.specs.Form.{IsSameModulo}
+use Rattle.linker_elf.specs.Elf.{relocation_layout}
 use Rattle.linker_elf.proofs.Agreement.{from_zero}
-use Rattle.linker_elf.proofs.Taken.{taken_below, taken_is_field}
 use Rattle.linker_reading.proofs.Aligned.{cast_below}
 use Rattle.linker_reading.proofs.BitFields.{layout_bits, part_of_part, own_bits, low_bits_same}
 use Rattle.linker_reading.proofs.Numbers.{IsShort, short}

@@ -1,11 +1,6 @@
 -- What a write leaves is what is recognised, without the deleted bytes.
 use Rattle.std.proofs.Common.{◌≡◌, ◌≤◌, ◌<◌, ℕ, ◌+◌, ◌-◌, Bool, ◌||◌, List, ◌++◌, length, take, drop, Option, Some, None, sym, ap, subst, ◌∙◌, ⊎_elim, arith, length-append, length-drop}
-use Rattle.std.specs.Prelude.{slice_index, if◌then◌else◌}
-use Rattle.std.specs.Int.{bit_at}
-use Rattle.std.proofs.lemmas.Bool.{cases_lt, lt-ltb, le-ltb}
-use Rattle.std.proofs.lemmas.List.{get_or_append_left, get_or-append_right, get_or-take, get_or-drop, length-take-le}
-use Rattle.linker_base.specs.Rewrite.{rewritten, offset_after}
-use Rattle.linker_elf.specs.declared.elf.RelocationKindInfo.{RelocationKindInfo}
+use Rattle.linker_reading.proofs.Imports.{slice_index, if◌then◌else◌, bit_at, cases_lt, lt-ltb, le-ltb, get_or_append_left, get_or-append_right, get_or-take, get_or-drop, length-take-le, rewritten, offset_after, RelocationKindInfo}
 use Rattle.linker_utils.specs.Relaxations.{relaxation_rewrite, relaxation_deleted}
 use Rattle.linker_reading.specs.FieldsOfBytes.{is_in_field, is_in_one, kept_index, AreSameBut}
 use Rattle.linker_reading.specs.Recognised.{Recogniser, DifferOnlyInFields, deleted_start, deleted_count}

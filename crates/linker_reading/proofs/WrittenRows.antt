@@ -1,32 +1,13 @@
 -- A write of a row's value to bytes changes bits of its field only.
 use Rattle.std.proofs.Common.{◌≡◌, ◌≤◌, ◌<◌, ℕ, zero, suc, ◌+◌, ◌-◌, ◌*◌, ◌/◌, ◌%◌, ◌^◌, Bool, true, false, ◌&&◌, List, ◌++◌, length, take, drop, replicate, get_or, refl, sym, ap, subst, ◌∙◌, ⊎_elim, arith, ℤ, pos, negsuc}
-use Rattle.std.specs.Prelude.{nat_lt, nat_le, slice_index, if◌then◌else◌, int_lt, ◌+ℤ◌, ◌-ℤ◌, unsigned_abs}
-use Rattle.std.specs.Int.{bit_at, byte_len, w64, to_le_bytes, int_rem_euclid}
-use Rattle.std.proofs.lemmas.Bool.{cases_lt, lt-ltb, le-leb, and_parts, ltb-true, both_ways, and_from}
-use Rattle.std.proofs.Math.Nat.{pow-le-pow_right}
-use Rattle.std.proofs.lemmas.List.{get_or-drop, get_or_append_left, get_or-append_right, get_or-take, length-take-le, drop_at}
-use Rattle.std.proofs.lemmas.Nat.Bits.{bit_at_cat_high}
-use Rattle.linker_base.specs.Form.{window_of}
-use Rattle.linker_base.specs.declared.bit_misc.BitRange.{BitRange}
-use Rattle.linker_base.proofs.Fields.{bit_at_mod, bit_at_shr}
-use Rattle.linker_elf.specs.AArch64.{aarch64_form}
-use Rattle.linker_elf.specs.Elf.{relocation_form}
-use Rattle.linker_elf.specs.LoongArch.{loongarch_form}
-use Rattle.linker_elf.specs.Ppc64.{ppc64_form}
-use Rattle.linker_elf.specs.RiscV.{riscv_form}
-use Rattle.linker_elf.specs.Relocate.{insn_at, bits_at, value_at, is_low_jump}
-use Rattle.linker_elf.specs.Relocate.{IsWritten, InstructionWritten, WritesRow, size_len, bits_taken, takes_size, SizeNumber, number_of_bytes, number_written, low_bytes}
-use Rattle.linker_elf.specs.declared.elf.RelocationInstruction.{RelocationInstruction}
-use Rattle.linker_elf.specs.declared.elf.RelocationInstruction.TheVariants.{AArch64, RiscV, Ppc64, LoongArch64}
-use Rattle.linker_elf.specs.declared.elf.RelocationKind.{RelocationKind}
-use Rattle.linker_elf.specs.declared.elf.RelocationKind.TheVariants.{AbsoluteSetWord6, AbsoluteAdditionWord6, AbsoluteSubtractionWord6}
-use Rattle.linker_elf.specs.declared.elf.RelocationKindInfo.{RelocationKindInfo}
-use Rattle.linker_elf.specs.declared.elf.RelocationSize.{RelocationSize}
-use Rattle.linker_elf.specs.declared.elf.RelocationSize.TheVariants.{ByteSize, BitMasking}
+use Rattle.linker_reading.proofs.Imports.{nat_lt, nat_le, slice_index, if◌then◌else◌, int_lt, unsigned_abs, bit_at, byte_len, w64, to_le_bytes, int_rem_euclid, cases_lt, lt-ltb, le-leb, and_parts, ltb-true, both_ways, and_from, get_or-drop, get_or_append_left, get_or-append_right, get_or-take, length-take-le, bit_at_cat_high, window_of, BitRange, bit_at_mod, bit_at_shr, aarch64_form, relocation_form, loongarch_form, ppc64_form, riscv_form, insn_at, bits_at, is_low_jump, IsWritten, InstructionWritten, size_len, bits_taken, takes_size, SizeNumber, number_of_bytes, number_written, low_bytes, RelocationInstruction, AArch64, RiscV, Ppc64, LoongArch64, RelocationKind, AbsoluteSetWord6, AbsoluteAdditionWord6, AbsoluteSubtractionWord6, RelocationKindInfo, RelocationSize, ByteSize, BitMasking, subst_below}
+use Rattle.std.specs.Prelude.{◌+ℤ◌, ◌-ℤ◌}
+use Rattle.std.proofs.lemmas.List.{drop_at}
+use Rattle.linker_elf.specs.Relocate.{value_at, WritesRow}
 use Rattle.linker_reading.specs.FieldsOfBytes.{is_size_bit, is_instruction_bit, is_value_bit, IsSameBut, AreSameButFor}
 use Rattle.linker_reading.specs.WrittenRows.{AreBytes, ChangesField}
 use Rattle.linker_reading.proofs.WindowBits.{window_bit}
-use Rattle.linker_reading.proofs.X86WrittenChoices.{IsWhole, whole_writes_field}
+use Rattle.linker_reading.proofs.X86WrittenChoices.{IsWhole, whole_writes_field, first_part}
 use Rattle.linker_reading.proofs.AArch64Written.{aarch64_outside, aarch64_word}
 use Rattle.linker_reading.proofs.LoongArchWritten.{loongarch_outside, loongarch_short}
 use Rattle.linker_reading.proofs.Ppc64Written.{ppc64_outside, ppc64_short}
@@ -34,9 +15,6 @@ use Rattle.linker_reading.proofs.RiscVWritten.{riscv_outside, riscv_short}
 use Rattle.linker_reading.proofs.WrittenBits.{taken_small}
 
 -- ---- instructions
-
-small_in : (n k m : ℕ) → n < 2 ^ k → k ≤ m → n < 2 ^ m
-small_in n k m h l = let p : 2 ^ k ≤ 2 ^ m = pow-le-pow_right (let two : 0 < 2 = omega arith in two) l in omega arith
 
 short_window : (insn : RelocationInstruction) → byte_len (relocation_form insn).window ≤ 8
 short_window (AArch64 f) = omega (arith, aarch64_word f)
@@ -55,10 +33,10 @@ instruction_outside (RiscV f) bits v before after w few h ignored written =
     ignored written.clears written.written
 instruction_outside (Ppc64 f) bits v before after w few h ignored written =
     ppc64_outside f bits (bits_taken bits v) (window_of (ppc64_form f) before) written.clear (window_of (ppc64_form f) after) w (int_lt v (pos 0))
-    (small_in (bits_taken bits v) (bits.end - bits.start) 64 (taken_small bits v) few) ignored written.clears written.written
+    (subst_below (bits_taken bits v) (bits.end - bits.start) 64 (taken_small bits v) few) ignored written.clears written.written
 instruction_outside (LoongArch64 f) bits v before after w few h ignored written =
     loongarch_outside f bits (bits_taken bits v) (window_of (loongarch_form f) before) written.clear (window_of (loongarch_form f) after) w (int_lt v (pos 0))
-    (λ narrow. small_in (bits_taken bits v) (bits.end - bits.start) 12 (taken_small bits v) (ltb-false narrow)) ignored written.clears written.written
+    (λ narrow. subst_below (bits_taken bits v) (bits.end - bits.start) 12 (taken_small bits v) (ltb-false narrow)) ignored written.clears written.written
   where
     ltb-false : nat_lt 12 (bits.end - bits.start) ≡ false → bits.end - bits.start ≤ 12
     ltb-false e =
@@ -196,10 +174,6 @@ six_same kind n v before after is few room bytes number rest i j k ignored =
     (cases_lt i n)
 
 -- ---- rows
-
-first_part : (a b c : Bool) → (a && b && c) ≡ true → a ≡ true
-first_part true b c e = refl
-first_part false b c e = e
 
 whole_kind : (kind : RelocationKind) → is_low_six kind ≡ false → (w : ℕ) → is_value_bit kind w ≡ true
 unfolding is_low_six

@@ -1,23 +1,14 @@
 -- A write of whole bytes leaves all others, and what it leaves is what is recognised.
 use Rattle.std.proofs.Common.{◌≡◌, ◌≤◌, ◌<◌, ℕ, ◌+◌, ◌-◌, ◌*◌, ◌^◌, Bool, true, false, ◌&&◌, List, ◌++◌, length, take, drop, get_or, Option, Some, None, refl, sym, ap, subst, ◌∙◌, ⊎_elim, arith, length-append, length-drop}
-use Rattle.std.specs.Prelude.{nat_lt, nat_le, slice_index, if◌then◌else◌}
-use Rattle.std.specs.Int.{bit_at, w64, to_le_bytes}
-use Rattle.std.proofs.lemmas.Bool.{cases_lt, lt-ltb, le-ltb, le-leb, ltb-true, and_from, and_parts, or_parts, both_ways, false≢true}
-use Rattle.std.proofs.lemmas.List.{get_or_append_left, get_or-append_right, get_or-take, get_or-drop, length-take-le}
-use Rattle.linker_elf.specs.Relocate.{IsWritten, takes_size, size_len, low_bytes, number_written, number_of_bytes}
+use Rattle.linker_reading.proofs.Imports.{nat_lt, nat_le, slice_index, if◌then◌else◌, bit_at, w64, to_le_bytes, cases_lt, lt-ltb, le-ltb, le-leb, ltb-true, and_from, and_parts, both_ways, false≢true, get_or_append_left, get_or-append_right, get_or-take, get_or-drop, length-take-le, IsWritten, takes_size, size_len, low_bytes, number_written, number_of_bytes, RelocationKind, RelocationKindInfo, RelocationSize, ByteSize, BitMasking, rewritten, offset_after, AbsoluteSetWord6, AbsoluteAdditionWord6, AbsoluteSubtractionWord6}
+use Rattle.std.proofs.lemmas.Bool.{or_parts}
 use Rattle.linker_elf.specs.X86Relocations.{x86_64_row}
-use Rattle.linker_elf.specs.declared.elf.RelocationKind.{RelocationKind}
-use Rattle.linker_elf.specs.declared.elf.RelocationKindInfo.{RelocationKindInfo}
-use Rattle.linker_elf.specs.declared.elf.RelocationSize.{RelocationSize}
-use Rattle.linker_elf.specs.declared.elf.RelocationSize.TheVariants.{ByteSize, BitMasking}
 use Rattle.linker_elf.specs.declared.x86_64.relocations.X86_64Relocation.{X86_64Relocation}
 use Rattle.linker_elf.specs.declared.x86_64.relocations.X86_64Relocation.TheVariants as r
 use Rattle.linker_reading.specs.FieldsOfBytes.{is_field_bit, is_size_bit, is_value_bit, is_in_row, is_in_one, kept_index, IsSameBut, AreSameBut, AreSameButFor}
 use Rattle.linker_reading.specs.Recognised.{DifferOnlyInFields}
 use Rattle.linker_reading.specs.X86WrittenFields.{WritesField, X86WrittenIsLeft}
-use Rattle.linker_base.specs.Rewrite.{rewritten, offset_after}
 use Rattle.linker_utils.specs.X86Rewrites.{x86_64_rewrite}
-use Rattle.linker_elf.specs.declared.elf.RelocationKind.TheVariants.{AbsoluteSetWord6, AbsoluteAdditionWord6, AbsoluteSubtractionWord6}
 use Rattle.linker_reading.specs.declared.recognise.fields.FieldBits.{FieldBits}
 
 -- ---- whole bytes
@@ -27,7 +18,7 @@ abbrev pub IsWhole : RelocationSize → RelocationKind → Type 0
 IsWhole (ByteSize n) kind = (w : ℕ) → is_value_bit kind w ≡ true
 IsWhole (BitMasking bits insn) kind = ⊥
 
-first_part : (a b c : Bool) → (a && b && c) ≡ true → a ≡ true
+pub first_part : (a b c : Bool) → (a && b && c) ≡ true → a ≡ true
 first_part true b c e = refl
 first_part false b c e = e
 

@@ -1,5 +1,5 @@
 -- What a rewritten call reads as.
-use Rattle.std.proofs.Common.{◌≡◌, ℕ, suc, ◌+◌, ◌-◌, ◌*◌, ◌%◌, ◌^◌, ◌<◌, ◌≤◌, false, List, [], ◌∷◌, ◌++◌, length, take, drop, refl, sym, ◌∙◌, ap, arith, ℤ, pos, negsuc, ◌-ℤ◌, ltb}
+use Rattle.std.proofs.Common.{◌≡◌, ℕ, suc, ◌+◌, ◌-◌, ◌*◌, ◌%◌, ◌^◌, ◌<◌, ◌≤◌, false, List, ◌++◌, length, take, drop, refl, sym, ◌∙◌, ap, arith, ℤ, pos, negsuc, ◌-ℤ◌, ltb}
 use Rattle.std.specs.Int.{w32, w64, from_le_bytes, to_le_bytes, cast_unsigned, int_rem_euclid, bit_at}
 use Rattle.std.proofs.lemmas.Bool.{agree_below_at, cond_both, ltb-true, ltb-false}
 use Rattle.std.proofs.lemmas.List.{append-nil, append_assoc, take_at, drop_at, drop_all, take_rest, length-take, length-drop, drop-drop}
@@ -18,14 +18,7 @@ use Rattle.linker_elf.proofs.RiscV.{jtype_places, jtype_below}
 
 -- ---- words in lists
 
-pub word_of_front : (xs : List ℕ) → from_le_bytes w32 (take 4 xs) ≡ from_le_bytes w32 xs
-word_of_front [] = refl
-word_of_front (a ∷ []) = refl
-word_of_front (a ∷ b ∷ []) = refl
-word_of_front (a ∷ b ∷ c ∷ []) = refl
-word_of_front (a ∷ b ∷ c ∷ d ∷ xs) = refl
-
-word_of_bytes : (n : ℕ) (rest : List ℕ) → n < 2 ^ 32 → from_le_bytes w32 (to_le_bytes w32 n ++ rest) ≡ n
+pub word_of_bytes : (n : ℕ) (rest : List ℕ) → n < 2 ^ 32 → from_le_bytes w32 (to_le_bytes w32 n ++ rest) ≡ n
 word_of_bytes n rest h = from_le_bytes-to_le_bytes_4 n h
 
 -- ---- the distance

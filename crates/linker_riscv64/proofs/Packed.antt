@@ -20,7 +20,7 @@ use Rattle.linker_riscv64.specs.declared.packing.RejectedCall.{RejectedCall}
 use Rattle.linker_base.specs.Deltas.{deletions_of}
 use Rattle.linker_base.specs.declared.relaxation.RelaxDelta.{RelaxDelta}
 use Rattle.linker_riscv64.specs.declared.calls.LinkRegister.TheVariants.{OfAuipc, OfJalr}
-use Rattle.linker_riscv64.proofs.Jumps.{word_of_front}
+use Rattle.linker_base.proofs.Words.{word_of_front}
 
 -- ---- one jump
 

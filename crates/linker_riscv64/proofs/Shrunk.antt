@@ -242,7 +242,7 @@ at_index ds calls chosen k site target d r within here is decides =
 
 -- ---- more chosen calls take none out of reach
 
-even_sum : (x y : ℕ) → IsEven (pos x -ℤ pos y) ↔ ((x + y) % 2 ≡ 0)
+pub even_sum : (x y : ℕ) → IsEven (pos x -ℤ pos y) ↔ ((x + y) % 2 ≡ 0)
 even_sum x y = elim (cases_lt x y) [
   | inl below ↦
       let d : pos x -ℤ pos y ≡ negsuc (y - x - 1) = omega (arith, ints) in

@@ -1,11 +1,8 @@
 -- Addresses that are multiples of a number in every layout, and the nops that are then enough.
 use Rattle.std.proofs.Common.{◌≡◌, ℕ, zero, suc, ◌+◌, ◌-◌, ◌*◌, ◌/◌, ◌<◌, ◌≤◌, ◌∙◌, List, length, ap, sym, ⊎_elim, arith, cond}
-use Rattle.std.specs.Prelude.{nat_le, max, Option, None, Some, MatchOption, ⊤}
-use Rattle.std.specs.Int.{IsPowerOfTwo, IsNextPowerOfTwo}
-use Rattle.std.proofs.Math.Nat.{mul-le-mul_left, mul_assoc}
-use Rattle.std.proofs.lemmas.Bool.{cases_lt}
-use Rattle.std.proofs.lemmas.Bool.Decides.{nat_tests}
-use Rattle.std.proofs.lemmas.Nat.{pow_pos, le-div}
+use Rattle.linker_runs.proofs.Imports.{nat_le, max, Option, None, Some, MatchOption, ⊤, IsPowerOfTwo, IsNextPowerOfTwo, mul_assoc, cases_lt, nat_tests, pow_pos}
+use Rattle.std.proofs.Math.Nat.{mul-le-mul_left}
+use Rattle.std.proofs.lemmas.Nat.{le-div}
 use Rattle.linker_runs.specs.declared.relaxation.Item.{Item}
 use Rattle.linker_runs.specs.declared.relaxation.Item.TheVariants.{Site, Aligned}
 use Rattle.linker_runs.specs.Relaxing.{offset_of, len_of, end_of, item_at, shape_len, needed, limit_of, kept_by, freed_before, IsSound, AreInOrder}

@@ -1,7 +1,6 @@
 -- The next alignment after a relocation, by one relocation more.
 use Rattle.std.proofs.Common.{ℕ, ◌+◌, ◌<◌, ◌≤◌, List, inl, inr, ⊎_elim, arith}
-use Rattle.std.specs.Prelude.{◌⊎◌}
-use Rattle.std.proofs.lemmas.Bool.{cases_lt}
+use Rattle.linker_runs.proofs.Imports.{◌⊎◌, cases_lt}
 use Rattle.linker_runs.specs.declared.items.Relocation.{Relocation}
 use Rattle.linker_runs.specs.RiscVItems.{IsNextAlignment}
 use Rattle.linker_runs.specs.Inner.Ahead.{IsAhead, MayBeAhead}

@@ -1,7 +1,6 @@
 -- A site that its shortest shape reaches while nothing is freed is in reach whatever is freed.
 use Rattle.std.proofs.Common.{◌≡◌, ℕ, zero, suc, ◌-◌, ◌*◌, ◌%◌, ◌<◌, ◌≤◌, ◌∙◌, true, List, length, refl, ap, sym, ⊎_elim, arith, cond}
-use Rattle.std.proofs.Math.Nat.{mul_assoc}
-use Rattle.std.proofs.lemmas.Bool.{cases_lt}
+use Rattle.linker_runs.proofs.Imports.{mul_assoc, cases_lt}
 use Rattle.linker_runs.specs.declared.relaxation.Shapes.{Shapes}
 use Rattle.linker_runs.specs.declared.relaxation.Item.{Item}
 use Rattle.linker_runs.specs.declared.relaxation.Item.TheVariants.{Site, Aligned}

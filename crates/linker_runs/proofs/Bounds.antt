@@ -1,8 +1,6 @@
 -- What the rounds of a run that can be relaxed never exceed.
 use Rattle.std.proofs.Common.{◌≡◌, ℕ, zero, suc, ◌+◌, ◌-◌, ◌<◌, ◌≤◌, ◌∙◌, true, false, List, length, refl, ap, sym, ⊎_elim, arith, cond}
-use Rattle.std.specs.Prelude.{◌⊎◌, nat_lt}
-use Rattle.std.proofs.lemmas.Bool.{cases_lt, cases_Bool, cases_order}
-use Rattle.std.proofs.lemmas.Bool.Decides.{nat_tests}
+use Rattle.linker_runs.proofs.Imports.{◌⊎◌, nat_lt, cases_lt, cases_Bool, cases_order, nat_tests}
 use Rattle.linker_runs.specs.declared.relaxation.Shape.{Shape}
 use Rattle.linker_runs.specs.declared.relaxation.Shapes.{Shapes}
 use Rattle.linker_runs.specs.declared.relaxation.Item.{Item}

@@ -1,9 +1,6 @@
 -- The rounds of a run that can be relaxed are nowhere longer than a choice in reach.
 use Rattle.std.proofs.Common.{◌≡◌, ◌≢◌, ◌^◌, ℕ, zero, suc, ◌+◌, ◌-◌, ◌<◌, ◌≤◌, ◌∙◌, true, false, List, length, get_or, refl, ap, sym, ⊎_elim, add-one, arith}
-use Rattle.std.specs.Prelude.{nat_le, ◌⊎◌}
-use Rattle.std.proofs.lemmas.Bool.{cases_lt, cases_order, both_ways}
-use Rattle.std.proofs.lemmas.Bool.Decides.{nat_tests}
-use Rattle.std.proofs.lemmas.List.{get_or_default}
+use Rattle.linker_runs.proofs.Imports.{nat_le, ◌⊎◌, cases_lt, cases_order, both_ways, nat_tests, get_or_default}
 use Rattle.linker_runs.specs.declared.relaxation.Item.{Item}
 use Rattle.linker_runs.specs.declared.relaxation.Item.TheVariants.{Site, Aligned}
 use Rattle.linker_runs.specs.Relaxing.{len_of, end_of, item_at, no_item, shape_len, kept_by, freed_before, place_of, after_rounds, target_of, choice_of, item_reaches, IsSound, AreApart, AreInOrder, AreRelaxed}

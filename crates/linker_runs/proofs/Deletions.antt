@@ -1,11 +1,7 @@
 -- The deletions of a run are valid, and translate offsets as the layout does.
 use Rattle.std.proofs.Common.{◌≡◌, ℕ, zero, suc, ◌+◌, ◌-◌, ◌<◌, ◌≤◌, ◌∙◌, true, false, List, [], ◌∷◌, ◌++◌, length, get_or, refl, ap, sym, subst, ⊎_elim, add-one, arith, cond, length-append}
-use Rattle.std.specs.Prelude.{◌^◌, nat_lt}
-use Rattle.std.proofs.lemmas.Grind.{common_steps}
-use Rattle.std.proofs.lemmas.Bool.{cases_lt}
-use Rattle.std.proofs.lemmas.Bool.Decides.{nat_tests}
-use Rattle.std.proofs.lemmas.List.{append-nil}
-use Rattle.linker_base.specs.Deletions.{IsValid}
+use Rattle.linker_runs.proofs.Imports.{nat_lt, common_steps, cases_lt, nat_tests, append-nil, IsValid}
+use Rattle.std.specs.Prelude.{◌^◌}
 use Rattle.linker_base.proofs.Listed.{IsValid-push, IsValid-nil}
 use Rattle.linker_runs.specs.declared.relaxation.Item.{Item}
 use Rattle.linker_runs.specs.Relaxing.{offset_of, len_of, end_of, item_at, AreInOrder}

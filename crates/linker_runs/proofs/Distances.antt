@@ -1,17 +1,9 @@
 -- The value of a relocation between two places of a run.
 use Rattle.std.proofs.Common.{◌≡◌, ℕ, ◌-◌, ◌^◌, ◌<◌, ◌≤◌, ◌∙◌, List, length, ap, ⊎_elim, arith, ℤ, pos, neg_ℤ, ◌-ℤ◌, ◌≤ℤ◌, ◌<ℤ◌, Some}
-use Rattle.std.specs.Int.{w64, cast_signed}
-use Rattle.std.proofs.lemmas.Bool.{cases_lt}
-use Rattle.std.proofs.lemmas.Int.{ints, to_z_pos}
-use Rattle.linker_base.proofs.Bits.{cast_negative}
+use Rattle.linker_runs.proofs.Imports.{w64, cast_signed, cases_lt, ints, to_z_pos, cast_negative, IsWithin, reach_of, IsInReach, sum_64, difference_64, RelocationKindInfo, holds, IsRejected}
 use Rattle.linker_elf.specs.Agrees.{RowFits}
-use Rattle.linker_elf.specs.Elf.{IsWithin}
-use Rattle.linker_elf.specs.Reach.{reach_of}
-use Rattle.linker_elf.specs.Relocate.{IsInReach, IsAccepted, IsInUnits, IsInWords, window_len}
-use Rattle.linker_elf.specs.Value.{sum_64, difference_64, value_of}
-use Rattle.linker_elf.specs.declared.elf.RelocationKindInfo.{RelocationKindInfo}
-use Rattle.linker_elf.proofs.Reached.{holds}
-use Rattle.linker_elf.specs.Applied.{IsRejected}
+use Rattle.linker_elf.specs.Relocate.{IsAccepted, IsInUnits, IsInWords, window_len}
+use Rattle.linker_elf.specs.Value.{value_of}
 use Rattle.linker_runs.specs.Sites.{operands_of}
 
 module _ (start from to : ℕ) where

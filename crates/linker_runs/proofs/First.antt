@@ -1,9 +1,8 @@
 -- The bytes that stay of an item of a relaxed run are its first ones.
 use Rattle.std.proofs.Common.{◌≡◌, ℕ, ◌+◌, ◌-◌, ◌<◌, ◌≤◌, ◌∙◌, Bool, true, false, List, length, get_or, refl, ap, sym, ⊎_elim, arith, Option, Some, None}
-use Rattle.std.specs.Prelude.{not, nat_le, nat_lt}
-use Rattle.std.proofs.lemmas.Bool.{cases_lt, cases_Bool, cond-true, cond-false, leb-true, ltb-true, false≢true}
-use Rattle.std.proofs.lemmas.Bool.Decides.{nat_tests}
-use Rattle.linker_base.specs.Deletions.{covers, is_kept, rank}
+use Rattle.linker_runs.proofs.Imports.{not, nat_le, nat_lt, cases_lt, cases_Bool, cond-true, cond-false, false≢true, nat_tests, covers, is_kept}
+use Rattle.std.proofs.lemmas.Bool.{leb-true, ltb-true}
+use Rattle.linker_base.specs.Deletions.{rank}
 use Rattle.linker_runs.specs.declared.relaxation.Item.{Item}
 use Rattle.linker_runs.specs.declared.relaxation.Item.TheVariants.{Site, Aligned}
 use Rattle.linker_runs.specs.Relaxing.{offset_of, len_of, end_of, item_at, kept_by, freed_before, choice_of, short_shape, needed, limit_of, AreInOrder, IsSound}

@@ -1,10 +1,6 @@
 -- What runs that can be relaxed free: multiples of their granularity. What their alignments keep.
-use Rattle.std.proofs.Common.{◌≡◌, ℕ, zero, suc, ◌+◌, ◌-◌, ◌*◌, ◌%◌, ◌<◌, ◌≤◌, ◌∙◌, List, length, refl, ap, sym, ⊎_elim, arith}
-use Rattle.std.proofs.Common.{subst, below_more}
-use Rattle.std.specs.Prelude.{◌⊎◌, Option, None, Some, min, MatchOption, ⊤}
-use Rattle.std.specs.Int.{IsNextPowerOfTwo}
-use Rattle.std.proofs.Math.Nat.{mul_assoc, add-mul-mod_self_right}
-use Rattle.std.proofs.lemmas.Bool.{cases_lt}
+use Rattle.std.proofs.Common.{◌≡◌, ℕ, zero, suc, ◌+◌, ◌-◌, ◌*◌, ◌%◌, ◌<◌, ◌≤◌, ◌∙◌, List, length, refl, ap, sym, ⊎_elim, arith, subst, below_more}
+use Rattle.linker_runs.proofs.Imports.{◌⊎◌, Option, None, Some, min, MatchOption, ⊤, IsNextPowerOfTwo, mul_assoc, add-mul-mod_self_right, cases_lt}
 use Rattle.linker_runs.specs.declared.relaxation.Alignment.{Alignment}
 use Rattle.linker_runs.specs.declared.relaxation.Item.{Item}
 use Rattle.linker_runs.specs.declared.relaxation.Item.TheVariants.{Site, Aligned}

@@ -9,6 +9,7 @@ pub mod Distances
 pub mod First
 pub mod Firsts
 pub mod Frees
+pub mod Imports
 pub mod Layouts
 pub mod Listed
 pub mod LongSites

@@ -1,9 +1,7 @@
 -- The items of a section that was rewritten, by one item more.
 use Rattle.std.proofs.Common.{◌≡◌, ◌+◌, ◌∙◌, ◌<◌, ◌≤◌, ⊎_elim, List, ℕ, suc, length, map, take, drop, set, refl, ap, subst, sym, inl, inr, add-one, arith}
-use Rattle.std.specs.Prelude.{◌⊎◌, ◌-◌}
-use Rattle.std.proofs.lemmas.List.{take_more_set, map_push, drop-drop}
-use Rattle.std.proofs.lemmas.List.Elements.{All-nil}
-use Rattle.linker_riscv64.proofs.Shrunk.{written_more}
+use Rattle.linker_runs.proofs.Imports.{◌⊎◌, take_more_set, map_push, drop-drop, All-nil, written_more}
+use Rattle.std.specs.Prelude.{◌-◌}
 use Rattle.linker_runs.specs.declared.relaxation.Item.{Item}
 use Rattle.linker_runs.specs.declared.relaxation.Item.TheVariants.{Site, Aligned}
 use Rattle.linker_runs.specs.Relaxing.{offset_of, end_of}
@@ -22,8 +20,6 @@ pub drop_same_from : {X : Type 0} (xs ys : List X) (n m : ℕ) → n ≤ m → d
 drop_same_from xs ys n m below same =
     let e : n + (m - n) ≡ m = omega arith in
     subst (λ k. drop k xs ≡ drop k ys) e (sym (drop-drop (m - n) n xs) ∙ ap (drop (m - n)) same ∙ drop-drop (m - n) n ys)
-
--- ---- the item that a relocation makes
 
 -- ---- what is listed
 

@@ -1,10 +1,7 @@
 -- A site of a relaxed run can be written if its eight bytes can where it stays long.
 use Rattle.std.proofs.Common.{◌≡◌, ℕ, ◌-◌, ◌<◌, ◌≤◌, ◌∙◌, List, length, ap, sym, subst, inl, inr, ⊎_elim, arith}
-use Rattle.std.specs.Prelude.{nat_lt, ◌⊎◌}
-use Rattle.std.proofs.lemmas.Bool.{cases_lt, cond-true, cond-false}
-use Rattle.std.proofs.lemmas.Bool.Decides.{nat_tests}
+use Rattle.linker_runs.proofs.Imports.{nat_lt, ◌⊎◌, cases_lt, cond-true, cond-false, nat_tests, sum_64}
 use Rattle.linker_base.specs.Deletions.{rank}
-use Rattle.linker_elf.specs.Value.{sum_64}
 use Rattle.linker_runs.specs.declared.relaxation.Item.{Item}
 use Rattle.linker_runs.specs.declared.relaxation.Item.TheVariants.{Site, Aligned}
 use Rattle.linker_runs.specs.declared.relaxation.Shapes.{Shapes}

@@ -1,26 +1,14 @@
 -- What calls and addresses of LoongArch become.
 use Rattle.std.proofs.Common.{◌≡◌, ℕ, ◌+◌, ◌*◌, ◌^◌, ◌<◌, List, length, take, drop, refl, subst, ◌∙◌, ap, arith, inl, inr, ℤ, pos, ◌+ℤ◌, Bool, true, false, int_lt, Some, eqb, not, ◌↔◌, ⊎_elim}
-use Rattle.std.specs.Prelude.{IsSomeAnd, ◌*ℤ◌, ◌⊎◌, IsTrue}
-use Rattle.std.specs.Int.{w32, w64, from_le_bytes, to_le_bytes}
-use Rattle.std.proofs.lemmas.Bool.{agree_below}
-use Rattle.std.proofs.lemmas.Nat.{from_le_bytes-to_le_bytes_4}
-use Rattle.linker_base.specs.Bits.{field}
-use Rattle.linker_base.specs.Form.{window_of, is_placed}
-use Rattle.linker_base.specs.declared.bit_misc.BitRange.{BitRange}
-use Rattle.linker_elf.specs.Elf.{IsWithin, bit_bounds}
-use Rattle.linker_elf.specs.Relocate.{InstructionWritten, bits_taken, places_cleared, is_jirl}
-use Rattle.linker_riscv64.proofs.Jumps.{word_of_front}
+use Rattle.linker_runs.proofs.Imports.{IsSomeAnd, ◌*ℤ◌, ◌⊎◌, IsTrue, w32, w64, from_le_bytes, to_le_bytes, agree_below, from_le_bytes-to_le_bytes_4, field, window_of, is_placed, BitRange, IsWithin, bit_bounds, InstructionWritten, bits_taken, Signed, Shift5, sum_64, IsAddress, AreAddresses, whole}
+use Rattle.linker_elf.specs.Relocate.{places_cleared, is_jirl}
 use Rattle.linker_elf.specs.LoongArch.{loongarch_form, reach}
 use Rattle.linker_elf.specs.declared.elf.RelocationInstruction.TheVariants.{LoongArch64}
-use Rattle.linker_elf.specs.declared.elf.Sign.TheVariants.{Signed}
 use Rattle.linker_elf.specs.declared.loongarch64.forms.LoongArch64Instruction.{LoongArch64Instruction}
-use Rattle.linker_elf.specs.declared.loongarch64.forms.LoongArch64Instruction.TheVariants.{Shift5, Branch26}
-use Rattle.linker_elf.specs.Value.{sum_64}
+use Rattle.linker_elf.specs.declared.loongarch64.forms.LoongArch64Instruction.TheVariants.{Branch26}
 use Rattle.linker_laws.specs.LoongArchRelocationLaws.{Branches, Calls, RelativeAddresses, page_and_low}
-use Rattle.linker_laws.specs.Schemes.{IsAddress, AreAddresses}
 use Rattle.linker_runs.specs.Sites.{operands_of, IsRelocated, IsOutOfReach}
-use Rattle.linker_runs.specs.LoongArchSites.{IsCall36At, IsPcalaAt, IsSiteAt, destination, branch_template, pcaddi_template, call_template, high_template, low_template, IsBranch, IsPcaddi, IsFarCall, IsFarAddress, IsAddressInReach, IsAddressOutOfReach, LoongArchBecomes, LoongArchAccepts, LoongArchIsFar, LoongArchCause}
-use Rattle.linker_runs.specs.LoongArchSites.{jump, call, far_call, address, far_address, short_call, long_call, short_address, long_address, far_from_branch, far_from_call, far_from_pcaddi, far_from_pair, far_pages, far_high, far_low}
+use Rattle.linker_runs.specs.LoongArchSites.{IsCall36At, IsPcalaAt, IsSiteAt, destination, branch_template, pcaddi_template, call_template, high_template, low_template, IsBranch, IsPcaddi, IsFarCall, IsFarAddress, IsAddressInReach, IsAddressOutOfReach, LoongArchBecomes, LoongArchAccepts, LoongArchIsFar, LoongArchCause, jump, call, far_call, address, far_address, short_call, long_call, short_address, long_address, far_from_branch, far_from_call, far_from_pcaddi, far_from_pair, far_pages, far_high, far_low}
 use Rattle.linker_runs.specs.Origins.{HasLoongArchShapes}
 use Rattle.linker_runs.specs.declared.relaxation.Shapes.{Shapes}
 use Rattle.linker_runs.specs.declared.shapes.loongarch64.TheConstants.{CALL36, PCALA}
@@ -29,7 +17,8 @@ use Rattle.linker_runs.specs.declared.packing.loongarch64.Kind.{Kind}
 use Rattle.linker_runs.specs.declared.packing.loongarch64.Kind.TheVariants.{Call, Address}
 use Rattle.linker_runs.specs.declared.packing.ItemError.{ItemError}
 use Rattle.linker_runs.specs.declared.packing.ItemError.TheVariants.{Overlaps, OutOfSection, DeletedOutside, NotItsFirstBytes, NotItsInstructions, NoShape, OutOfReach}
-use Rattle.linker_runs.proofs.Sites.{kept_field, operands_small, unit_sum, target_is, in_reach}
+use Rattle.linker_runs.proofs.Sites.{kept_field, operands_small, unit_sum, in_reach}
+use Rattle.linker_base.proofs.Words.{word_of_front}
 
 -- what writing an immediate keeps: n bits from bit s up, of which none is placed
 loongarch_kept : (f : LoongArch64Instruction) (bits : BitRange) (v : ℤ) (before after : List ℕ) (w : InstructionWritten (LoongArch64 f) bits v before after)
@@ -60,7 +49,7 @@ module _ (section : List ℕ) (o place target : ℕ) (written : List ℕ) (branc
       let word : from_le_bytes w32 bytes ≡ 0x50000000 + link * 2 ^ 26 = from_le_bytes-to_le_bytes_4 (0x50000000 + link * 2 ^ 26) (omega arith) in
       record {
         opcode_is = loongarch_kept Branch26 (record { start = 2; end = 28 }) applied.value bytes written applied.written (λ x i. refl) (λ b w. refl) 26 6 refl ∙ ap (λ w. field w 26 32) word ∙ omega arith;
-        goes = subst (λ a. IsAddress (pos place +ℤ ((loongarch_form Branch26).machine (from_le_bytes w32 written) *ℤ pos 4)) a) (target_is target t)
+        goes = subst (λ a. IsAddress (pos place +ℤ ((loongarch_form Branch26).machine (from_le_bytes w32 written) *ℤ pos 4)) a) (whole target t)
             (branches.2 (operands_of place target) small place bytes written applied tt);
       }
 
@@ -71,7 +60,7 @@ module _ (section : List ℕ) (o place target : ℕ) (written : List ℕ) (branc
       record {
         opcode = loongarch_kept Shift5 (record { start = 2; end = 22 }) applied.value bytes written applied.written (λ x i. refl) (λ b w. refl) 25 7 refl ∙ ap (λ w. field w 25 32) word ∙ omega arith;
         register_is = loongarch_kept Shift5 (record { start = 2; end = 22 }) applied.value bytes written applied.written (λ x i. refl) (λ b w. refl) 0 5 refl ∙ ap (λ w. field w 0 5) word ∙ omega arith;
-        computes = subst (λ a. IsAddress (pos place +ℤ ((loongarch_form Shift5).machine (from_le_bytes w32 written) *ℤ pos 4)) a) (target_is target t)
+        computes = subst (λ a. IsAddress (pos place +ℤ ((loongarch_form Shift5).machine (from_le_bytes w32 written) *ℤ pos 4)) a) (whole target t)
             (branches.3 (operands_of place target) small place bytes written applied tt);
       }
 
@@ -79,7 +68,7 @@ module _ (section : List ℕ) (o place target : ℕ) (written : List ℕ) (branc
   call_is applied = record {
     relocated = applied;
     goes = subst (λ s. IsAddress s target) (unit_sum (pos place) (reach (from_le_bytes w64 written)))
-        (subst (λ a. IsAddress (pos place +ℤ (reach (from_le_bytes w64 written) *ℤ pos 1)) a) (target_is target t)
+        (subst (λ a. IsAddress (pos place +ℤ (reach (from_le_bytes w64 written) *ℤ pos 1)) a) (whole target t)
         (calls (operands_of place target) small place (take 8 (drop o section)) written applied tt));
   }
 
@@ -87,7 +76,7 @@ module _ (section : List ℕ) (o place target : ℕ) (written : List ℕ) (branc
   address_is pair applied = record {
     high = applied.high;
     low = applied.low;
-    computes = subst (λ a. IsAddress (page_and_low (operands_of place target) (from_le_bytes w32 (take 4 written)) (from_le_bytes w32 (drop 4 written))) a) (target_is target t)
+    computes = subst (λ a. IsAddress (page_and_low (operands_of place target) (from_le_bytes w32 (take 4 written)) (from_le_bytes w32 (drop 4 written))) a) (whole target t)
         (relative.0 (operands_of place target) small place (take 4 (drop o section)) (take 4 written) applied.high
         (subst (λ v. IsSomeAnd v (IsWithin (Some (bit_bounds 32 Signed)))) applied.high.value_is applied.pages)
         (sum_64 place 4) (take 4 (drop (o + 4) section)) (drop 4 written) applied.low (ap not (no_jirl section o pair)));

@@ -1,20 +1,11 @@
 -- An address of LoongArch that stays long can be written in a run of less than 2 GiB less 8 KiB.
 use Rattle.std.proofs.Common.{◌≡◌, ℕ, ◌+◌, ◌-◌, ◌%◌, ◌^◌, ◌<◌, ◌≤◌, ◌∙◌, true, false, List, length, take, drop, refl, ap, sym, subst, inr, ⊎_elim, arith, pos, ◌-ℤ◌, Some}
-use Rattle.std.specs.Int.{w64, cast_signed}
-use Rattle.std.proofs.lemmas.Bool.{cases_lt, false≢true}
-use Rattle.std.proofs.lemmas.Int.{ints, to_z_pos}
-use Rattle.std.proofs.lemmas.List.{length-take, length-drop}
-use Rattle.linker_base.proofs.Bits.{cast_negative}
-use Rattle.linker_elf.specs.Elf.{IsWithin, bit_bounds}
+use Rattle.linker_runs.proofs.Imports.{w64, cast_signed, cases_lt, false≢true, ints, to_z_pos, length-take, length-drop, cast_negative, IsWithin, bit_bounds, sum_64, difference_64, Signed, Shift5, holds, loongarch_fits}
 use Rattle.linker_elf.specs.LoongArch.{page}
-use Rattle.linker_elf.specs.Value.{sum_64, difference_64}
 use Rattle.linker_elf.specs.declared.elf.RelocationInstruction.TheVariants.{LoongArch64 as OfLoongArch}
 use Rattle.linker_elf.specs.declared.elf.RelocationSize.TheVariants.{BitMasking}
-use Rattle.linker_elf.specs.declared.elf.Sign.TheVariants.{Signed}
-use Rattle.linker_elf.specs.declared.loongarch64.forms.LoongArch64Instruction.TheVariants.{Shift5, Shift10}
+use Rattle.linker_elf.specs.declared.loongarch64.forms.LoongArch64Instruction.TheVariants.{Shift10}
 use Rattle.linker_elf.specs.declared.loongarch64.relocations.LoongArch64Relocation.TheVariants.{R_LARCH_PCALA_HI20, R_LARCH_PCALA_LO12}
-use Rattle.linker_elf.proofs.Reached.{holds}
-use Rattle.linker_elf.proofs.RowsFit.{loongarch_fits}
 use Rattle.linker_runs.specs.declared.relaxation.Item.{Item}
 use Rattle.linker_runs.specs.declared.relaxation.Item.TheVariants.{Site, Aligned}
 use Rattle.linker_runs.specs.declared.shapes.loongarch64.TheConstants.{CALL36, PCALA}

@@ -1,13 +1,7 @@
 -- A call of LoongArch that stays long can be written in a run of less than 128 GiB less 128 KiB.
 use Rattle.std.proofs.Common.{◌≡◌, ℕ, zero, suc, ◌+◌, ◌-◌, ◌*◌, ◌%◌, ◌^◌, ◌<◌, ◌≤◌, ◌∙◌, true, false, List, length, take, drop, refl, ap, sym, subst, inl, inr, ⊎_elim, arith, pos, ◌-ℤ◌, mul_assoc}
-use Rattle.std.proofs.lemmas.Bool.{cases_lt, false≢true}
-use Rattle.std.specs.Prelude.{nat_lt, if◌then◌else◌}
-use Rattle.std.proofs.lemmas.Int.{ints}
-use Rattle.std.proofs.lemmas.List.{length-take, length-drop}
-use Rattle.linker_elf.specs.Relocate.{IsAligned}
-use Rattle.linker_elf.specs.Value.{sum_64}
+use Rattle.linker_runs.proofs.Imports.{cases_lt, false≢true, nat_lt, if◌then◌else◌, ints, length-take, length-drop, IsAligned, sum_64, loongarch_fits}
 use Rattle.linker_elf.specs.declared.loongarch64.relocations.LoongArch64Relocation.TheVariants.{R_LARCH_CALL36}
-use Rattle.linker_elf.proofs.RowsFit.{loongarch_fits}
 use Rattle.linker_runs.specs.declared.relaxation.Item.{Item}
 use Rattle.linker_runs.specs.declared.relaxation.Item.TheVariants.{Site, Aligned}
 use Rattle.linker_runs.specs.declared.shapes.loongarch64.TheConstants.{CALL36, PCALA}

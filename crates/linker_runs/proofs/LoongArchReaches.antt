@@ -1,8 +1,7 @@
 -- The reaches of calls and addresses of LoongArch are those of the rows of what they become.
 use Rattle.std.proofs.Common.{refl}
-use Rattle.std.specs.Prelude.{IsSomeAnd}
+use Rattle.linker_runs.proofs.Imports.{IsSomeAnd, R_LARCH_B26, R_LARCH_PCREL20_S2}
 use Rattle.linker_elf.specs.LoongArchRelocations.{loongarch_row}
-use Rattle.linker_elf.specs.declared.loongarch64.relocations.LoongArch64Relocation.TheVariants.{R_LARCH_B26, R_LARCH_PCREL20_S2}
 use Rattle.linker_runs.specs.declared.shapes.loongarch64.TheConstants.{CALL36, PCALA}
 use Rattle.linker_runs.specs.Reaches.{IsOfRow, LoongArchShapesAreOfRows}
 use Rattle.linker_runs.specs.Relaxing.{short_shape}

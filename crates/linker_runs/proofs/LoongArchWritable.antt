@@ -1,11 +1,6 @@
 -- Calls and addresses of LoongArch that a relaxation made shorter can be written.
 use Rattle.std.proofs.Common.{◌≡◌, ℕ, ◌+◌, ◌*◌, ◌^◌, ◌<◌, ◌∙◌, true, List, refl, ap, subst, inl, inr, ⊎_elim, arith}
-use Rattle.std.specs.Int.{w32, to_le_bytes}
-use Rattle.std.proofs.lemmas.Int.{ints}
-use Rattle.std.proofs.lemmas.Bool.{false≢true}
-use Rattle.linker_elf.specs.Value.{sum_64}
-use Rattle.linker_elf.specs.declared.loongarch64.relocations.LoongArch64Relocation.TheVariants.{R_LARCH_B26, R_LARCH_PCREL20_S2}
-use Rattle.linker_elf.proofs.RowsFit.{loongarch_fits}
+use Rattle.linker_runs.proofs.Imports.{w32, to_le_bytes, ints, false≢true, sum_64, R_LARCH_B26, R_LARCH_PCREL20_S2, loongarch_fits}
 use Rattle.linker_runs.specs.declared.relaxation.Shapes.{Shapes}
 use Rattle.linker_runs.specs.declared.shapes.loongarch64.TheConstants.{CALL36, PCALA}
 use Rattle.linker_runs.specs.Relaxing.{short_shape, is_reached}

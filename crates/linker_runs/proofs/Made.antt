@@ -1,10 +1,8 @@
 -- The items so far, by one relocation more.
 use Rattle.std.proofs.Common.{◌≡◌, ◌+◌, ◌++◌, ◌∷◌, ◌∙◌, ◌<◌, ◌≤◌, [], List, ℕ, suc, length, map, take, drop, set, refl, ap, subst, sym, add-one, arith}
 use Rattle.std.specs.Prelude.{All}
-use Rattle.std.proofs.lemmas.List.{take_more_set, map_push, length-set, drop-set-lt}
-use Rattle.std.proofs.lemmas.List.Elements.{All-nil}
-use Rattle.std.proofs.lemmas.Grind.{drop_more_same}
-use Rattle.linker_riscv64.proofs.Shrunk.{written_more}
+use Rattle.linker_runs.proofs.Imports.{take_more_set, map_push, drop-set-lt, All-nil, drop_more_same, written_more}
+use Rattle.std.proofs.lemmas.List.{length-set}
 use Rattle.linker_runs.specs.declared.relaxation.Item.{Item}
 use Rattle.linker_runs.specs.Relocations.{AreMade}
 use Rattle.linker_runs.specs.Relocations.AreMade.{none, left_out, made}

@@ -1,18 +1,17 @@
 -- The relocations of a packed section.
-use Rattle.std.specs.Prelude.{◌⊎◌, Some, None, nat_lt}
-use Rattle.std.proofs.Common.{◌≡◌, ◌≢◌, ℕ, suc, ◌+◌, ◌-◌, ◌*◌, ◌/◌, ◌<◌, ◌≤◌, true, false, List, ◌++◌, length, take, drop, sym, ◌∙◌, ap, arith, inl, inr, ⊎_elim}
-use Rattle.std.proofs.lemmas.Bool.{cases_Bool, cases_order, cond-true}
-use Rattle.std.proofs.lemmas.Bool.Decides.{nat_tests}
-use Rattle.std.proofs.lemmas.List.{drop-append-le, length-drop, take-append-le}
-use Rattle.linker_base.specs.Deletions.{is_kept, rank}
-use Rattle.linker_base.proofs.Rank.{rank_kept, rank_gone}
+use Rattle.linker_runs.proofs.Imports.{◌⊎◌, Some, None, nat_lt, cases_Bool, cases_order, cond-true, nat_tests, length-drop, is_kept, rank_kept, relocation_in}
+use Rattle.std.proofs.Common.{◌≡◌, ◌≢◌, ℕ, ◌+◌, ◌-◌, ◌*◌, ◌/◌, ◌<◌, ◌≤◌, true, false, List, ◌++◌, length, take, drop, sym, ◌∙◌, ap, arith, inl, inr, ⊎_elim}
+use Rattle.std.proofs.lemmas.List.{drop-append-le, take-append-le}
+use Rattle.linker_base.specs.Deletions.{rank}
+use Rattle.linker_base.proofs.Rank.{rank_gone}
 use Rattle.linker_runs.specs.Moved.{BeginsAt}
 use Rattle.linker_runs.specs.Packing.{IsApart}
 use Rattle.linker_runs.specs.Relaxing.{item_at, offset_of, end_of, place_of, AreApart}
 use Rattle.linker_runs.specs.declared.relaxation.Item.{Item}
 use Rattle.linker_runs.proofs.Choices.{place_apart}
 use Rattle.linker_runs.proofs.Layouts.{ends_apart}
-use Rattle.linker_section.specs.Relocations.{relocation_at, relocation_in, relocation_of}
+use Rattle.linker_section.specs.Relocations.{relocation_at, relocation_of}
+use Rattle.linker_section.proofs.Fielded.{next_index}
 
 -- ---- items
 
@@ -43,8 +42,8 @@ module _ (items : List Item) (apart : AreApart items) (o p : ℕ) (is : p ≡ pl
       let up = ends_apart items apart p (i - 1) (omega arith) (omega arith) in
       let z : i - 1 + 1 ≡ i = omega arith in
       let e = ap (λ n. offset_of (item_at items n)) z in
-      let next = apart (i - 1) (omega arith) in
-      absurd (omega (arith, past, up, e, next, begins.0)))
+      let next_index = apart (i - 1) (omega arith) in
+      absurd (omega (arith, past, up, e, next_index, begins.0)))
       apart_case)
       (cases_order i p)
 
@@ -53,19 +52,16 @@ module _ (items : List Item) (apart : AreApart items) (o p : ℕ) (is : p ≡ pl
 
 -- ---- bytes that stay
 
-next : (p : ℕ) → p + 1 ≡ suc p
-next p = omega arith
-
 pub gone_of : (ds : List (ℕ × ℕ)) (p n : ℕ) → n ≡ p + 1 → rank ds n ≡ rank ds p → is_kept ds p ≡ false
 gone_of ds p n is same = elim (cases_Bool (is_kept ds p)) [
-  | inl kept ↦ absurd (omega (arith, rank_kept ds p kept, ap (rank ds) (is ∙ next p), same))
+  | inl kept ↦ absurd (omega (arith, rank_kept ds p kept, ap (rank ds) (is ∙ next_index p), same))
   | inr gone ↦ gone
 ]
 
 pub kept_of : (ds : List (ℕ × ℕ)) (p n : ℕ) → n ≡ p + 1 → (rank ds n ≡ rank ds p → ⊥) → is_kept ds p ≡ true
 kept_of ds p n is other = elim (cases_Bool (is_kept ds p)) [
   | inl kept ↦ kept
-  | inr gone ↦ absurd (other (ap (rank ds) (is ∙ next p) ∙ rank_gone ds p gone))
+  | inr gone ↦ absurd (other (ap (rank ds) (is ∙ next_index p) ∙ rank_gone ds p gone))
 ]
 
 -- ---- relocations in their bytes

@@ -1,9 +1,8 @@
 -- Where more is freed nothing is farther away, so that a choice which is in reach stays an upper
 -- bound.
 use Rattle.std.proofs.Common.{◌≡◌, ℕ, zero, suc, ◌+◌, ◌-◌, ◌*◌, ◌%◌, ◌<◌, ◌≤◌, ◌∙◌, true, List, length, refl, ap, sym, ⊎_elim, arith}
-use Rattle.std.proofs.Math.Nat.{add-mul-mod_self_right, zero-mod, mul-sub, mul_assoc, mul_comm}
-use Rattle.std.proofs.lemmas.Bool.{cases_lt, cases_order}
-use Rattle.std.proofs.lemmas.Bool.Decides.{nat_tests}
+use Rattle.linker_runs.proofs.Imports.{add-mul-mod_self_right, mul_assoc, cases_lt, cases_order, nat_tests}
+use Rattle.std.proofs.Math.Nat.{zero-mod, mul-sub, mul_comm}
 use Rattle.linker_runs.specs.declared.relaxation.Shape.{Shape}
 use Rattle.linker_runs.specs.declared.relaxation.Item.{Item}
 use Rattle.linker_runs.specs.Relaxing.{offset_of, len_of, end_of, item_at, is_reached, AreInOrder}

@@ -1,9 +1,6 @@
 -- Words that are repeated, and nops.
 use Rattle.std.proofs.Common.{◌≡◌, ℕ, zero, suc, ◌+◌, ◌*◌, ◌/◌, ◌%◌, ◌≤◌, List, [], ◌∷◌, ◌++◌, length, take, drop, refl, sym, ◌∙◌, ap, arith, inl, inr}
-use Rattle.std.specs.Prelude.{if◌then◌else◌, ◌==◌}
-use Rattle.std.proofs.lemmas.Bool.{cases_Bool, eqb-true}
-use Rattle.std.proofs.lemmas.Bool.Decides.{nat_tests}
-use Rattle.std.proofs.lemmas.List.{append_assoc, append-nil, length-append, length-take, take_at, drop_at, drop-drop, take-append-drop}
+use Rattle.linker_runs.proofs.Imports.{if◌then◌else◌, ◌==◌, cases_Bool, eqb-true, nat_tests, append_assoc, append-nil, length-append, length-take, take_at, drop_at, drop-drop, take-append-drop}
 use Rattle.linker_runs.specs.Packing.{repeated, nops, nop_len}
 use Rattle.linker_runs.specs.declared.packing.Machine.{Machine}
 use Rattle.linker_runs.specs.declared.packing.Machine.TheVariants.{RiscV64, LoongArch64}

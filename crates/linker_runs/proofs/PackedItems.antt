@@ -1,10 +1,8 @@
 -- What is written of each item.
 use Rattle.std.proofs.Common.{◌≡◌, ℕ, zero, suc, ◌+◌, ◌-◌, ◌<◌, ◌≤◌, true, false, List, ◌++◌, length, get_or, take, drop, refl, sym, subst, ◌∙◌, ap, arith, inl, inr}
-use Rattle.std.specs.Prelude.{if◌then◌else◌, ◌↔◌}
-use Rattle.std.proofs.lemmas.Bool.{cases_lt, cases_Bool}
-use Rattle.std.proofs.lemmas.List.{append_assoc, length-append, length-take, length-drop, get_or-take, get_or-drop, get_or-append_right, get_or_default, take_at, drop_at, same_lists}
-use Rattle.linker_base.specs.Deletions.{is_kept, rank}
-use Rattle.linker_base.proofs.Rank.{rank_kept, rank-mono, rank_steps}
+use Rattle.linker_runs.proofs.Imports.{if◌then◌else◌, ◌↔◌, cases_lt, cases_Bool, append_assoc, length-append, length-take, length-drop, get_or_default, take_at, drop_at, is_kept, rank_kept, rank-mono, rank_steps}
+use Rattle.std.proofs.lemmas.List.{get_or-take, get_or-drop, get_or-append_right, same_lists}
+use Rattle.linker_base.specs.Deletions.{rank}
 use Rattle.linker_base.proofs.Copied.{put_below}
 use Rattle.linker_runs.specs.declared.relaxation.Item.{Item}
 use Rattle.linker_runs.specs.declared.relaxation.Item.TheVariants.{Site, Aligned}

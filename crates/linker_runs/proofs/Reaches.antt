@@ -1,12 +1,8 @@
 -- Shapes reach what the rows of jumps reach.
 use Rattle.std.proofs.Common.{◌≡◌, ℕ, zero, suc, ◌+◌, ◌-◌, ◌*◌, ◌%◌, ◌<◌, ◌≤◌, ◌↔◌, true, ap, sym, subst, inl, inr, arith, ℤ, pos, negsuc, neg_ℤ, ◌-ℤ◌, [], ◌∷◌, Option, Some, None}
-use Rattle.std.specs.Prelude.{IsSomeAnd, slice_index_or}
-use Rattle.std.proofs.lemmas.Int.{ints}
-use Rattle.std.proofs.lemmas.Bool.{cases_lt}
-use Rattle.linker_elf.specs.Elf.{IsWithin}
-use Rattle.linker_elf.specs.Relocate.{IsInReach, IsAligned, is_supported, IsEncoded}
-use Rattle.linker_elf.specs.declared.elf.RelocationKindInfo.{RelocationKindInfo}
-use Rattle.linker_elf.specs.Reach.{reach_of}
+use Rattle.linker_runs.proofs.Imports.{IsSomeAnd, ints, cases_lt, IsWithin, IsInReach, IsAligned, RelocationKindInfo, reach_of}
+use Rattle.std.specs.Prelude.{slice_index_or}
+use Rattle.linker_elf.specs.Relocate.{is_supported, IsEncoded}
 use Rattle.linker_runs.specs.declared.relaxation.Shape.{Shape}
 use Rattle.linker_runs.specs.declared.relaxation.Shapes.{Shapes}
 use Rattle.linker_runs.specs.Reaches.{IsOfRow, AreOfRows}

@@ -1,28 +1,17 @@
 -- What calls of RISC-V become.
 use Rattle.std.proofs.Common.{◌≡◌, ℕ, ◌+◌, ◌-◌, ◌*◌, ◌%◌, ◌^◌, ◌<◌, List, [], length, take, drop, refl, subst, ◌∙◌, ap, arith, inl, inr, ℤ, pos, ◌+ℤ◌, Option, Some, None, Bool, true, false, int_lt}
-use Rattle.std.specs.Prelude.{◌==◌, ◌&&◌, if◌then◌else◌, IsSomeAnd, ◌*ℤ◌}
-use Rattle.std.specs.Int.{w16, w32, w64, from_le_bytes, to_le_bytes}
-use Rattle.std.proofs.lemmas.Bool.{cases_Bool, eqb-true, agree_below, and_parts}
-use Rattle.std.proofs.lemmas.Nat.{from_le_bytes-to_le_bytes_4}
-use Rattle.linker_base.specs.Bits.{field}
-use Rattle.linker_base.specs.Form.{window_of, is_placed}
-use Rattle.linker_base.specs.declared.bit_misc.BitRange.{BitRange}
-use Rattle.linker_elf.specs.Relocate.{InstructionWritten, bits_taken}
+use Rattle.linker_runs.proofs.Imports.{◌==◌, if◌then◌else◌, IsSomeAnd, ◌*ℤ◌, w32, w64, from_le_bytes, to_le_bytes, cases_Bool, eqb-true, agree_below, and_parts, from_le_bytes-to_le_bytes_4, field, window_of, is_placed, BitRange, InstructionWritten, bits_taken, riscv_row, link_register, tail_to_cj, OfJalr, IsApplied, IsAddress, AreAddresses, whole}
+use Rattle.std.specs.Prelude.{◌&&◌}
+use Rattle.std.specs.Int.{w16}
 use Rattle.linker_elf.specs.RiscV.{riscv_form}
 use Rattle.linker_elf.specs.declared.elf.RelocationInstruction.TheVariants.{RiscV}
 use Rattle.linker_elf.specs.declared.riscv64.forms.RiscVInstruction.{RiscVInstruction}
 use Rattle.linker_elf.specs.declared.riscv64.forms.RiscVInstruction.TheVariants.{JType, CjType, UiType}
-use Rattle.linker_elf.specs.RiscVRelocations.{riscv_row}
 use Rattle.linker_elf.specs.declared.riscv64.relocations.RiscVRelocation.TheVariants as r
-use Rattle.linker_riscv64.specs.RiscVCalls.{link_register}
-use Rattle.linker_utils.specs.RiscVRewrites.{tail_to_cj}
-use Rattle.linker_riscv64.specs.declared.calls.LinkRegister.TheVariants.{OfJalr}
 use Rattle.linker_laws.specs.RiscVRelocationLaws.{Jumps, Calls, without_bit_0}
-use Rattle.linker_elf.specs.Applied.{IsApplied}
-use Rattle.linker_laws.specs.Schemes.{IsAddress, AreAddresses}
 use Rattle.linker_runs.specs.Sites.{Template, operands_of}
 use Rattle.linker_runs.specs.RiscVSites.{IsCj, IsJal, IsFarCall, RiscVBecomes, short_jump, jump, call, riscv_template}
-use Rattle.linker_runs.proofs.Sites.{kept_field, operands_small, unit_sum, target_is}
+use Rattle.linker_runs.proofs.Sites.{kept_field, operands_small, unit_sum}
 
 -- what writing an immediate keeps: n bits from bit s up, of which none is placed
 riscv_kept : (f : RiscVInstruction) (bits : BitRange) (v : ℤ) (before after : List ℕ) (w : InstructionWritten (RiscV f) bits v before after)
@@ -48,7 +37,7 @@ module _ (section : List ℕ) (o place target : ℕ) (written : List ℕ) (jumps
     quadrant = riscv_kept CjType (record { start = 0; end = 16 }) applied.value (tail_to_cj []) written applied.written (λ b w. refl) 0 2 refl;
     function = riscv_kept CjType (record { start = 0; end = 16 }) applied.value (tail_to_cj []) written applied.written (λ b w. refl) 13 3 refl;
     goes = subst (λ s. IsAddress s target) (unit_sum (pos place) ((riscv_form CjType).machine (from_le_bytes w16 written)))
-        (subst (λ a. IsAddress (pos place +ℤ ((riscv_form CjType).machine (from_le_bytes w16 written) *ℤ pos 1)) a) (target_is target t)
+        (subst (λ a. IsAddress (pos place +ℤ ((riscv_form CjType).machine (from_le_bytes w16 written) *ℤ pos 1)) a) (whole target t)
         (jumps.2 (operands_of place target) small place (tail_to_cj []) written applied tt));
   }
 
@@ -63,14 +52,14 @@ module _ (section : List ℕ) (o place target : ℕ) (written : List ℕ) (jumps
         opcode = riscv_kept JType (record { start = 0; end = 32 }) applied.value bytes written applied.written (λ b w. refl) 0 7 refl ∙ ap (λ w. field w 0 7) word ∙ omega arith;
         links = riscv_kept JType (record { start = 0; end = 32 }) applied.value bytes written applied.written (λ b w. refl) 7 5 refl ∙ ap (λ w. field w 7 12) word ∙ omega arith;
         goes = subst (λ s. IsAddress s target) (unit_sum (pos place) ((riscv_form JType).machine (from_le_bytes w32 written)))
-            (subst (λ a. IsAddress (pos place +ℤ ((riscv_form JType).machine (from_le_bytes w32 written) *ℤ pos 1)) a) (target_is target t)
+            (subst (λ a. IsAddress (pos place +ℤ ((riscv_form JType).machine (from_le_bytes w32 written) *ℤ pos 1)) a) (whole target t)
             (jumps.0 (operands_of place target) small place bytes written applied tt));
       }
 
   call_is : IsRelocated place target written (Some (record { row = riscv_row r.R_RISCV_CALL_PLT; bytes = take 8 (drop o section) })) → IsFarCall section o place target written
   call_is applied = record {
     relocated = applied;
-    goes = subst (λ a. IsAddress (without_bit_0 (pos place +ℤ (riscv_form UiType).machine (from_le_bytes w64 written))) (a - a % 2)) (target_is target t)
+    goes = subst (λ a. IsAddress (without_bit_0 (pos place +ℤ (riscv_form UiType).machine (from_le_bytes w64 written))) (a - a % 2)) (whole target t)
         (calls.1 (operands_of place target) small place (take 8 (drop o section)) written applied tt);
   }
 

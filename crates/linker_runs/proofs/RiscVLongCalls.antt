@@ -1,21 +1,13 @@
 -- A call of RISC-V that stays long can be written in a run of less than 2 GiB less 2 KiB.
 use Rattle.std.proofs.Common.{◌≡◌, ℕ, ◌+◌, ◌-◌, ◌%◌, ◌^◌, ◌<◌, ◌≤◌, true, false, List, length, take, drop, refl, ap, sym, subst, ⊎_elim, arith, ℤ, pos, negsuc, ◌-ℤ◌}
-use Rattle.std.specs.Prelude.{IsSomeAnd}
-use Rattle.std.proofs.lemmas.Bool.{false≢true}
-use Rattle.std.proofs.lemmas.Int.{ints}
-use Rattle.std.proofs.lemmas.List.{length-take, length-drop}
-use Rattle.linker_elf.specs.Relocate.{IsAligned}
-use Rattle.linker_elf.specs.Value.{sum_64}
+use Rattle.linker_runs.proofs.Imports.{IsSomeAnd, false≢true, ints, length-take, length-drop, IsAligned, sum_64, riscv_fits, link_register, OfJalr}
 use Rattle.linker_elf.specs.declared.riscv64.relocations.RiscVRelocation.TheVariants.{R_RISCV_CALL_PLT}
-use Rattle.linker_elf.proofs.RowsFit.{riscv_fits}
 use Rattle.linker_runs.specs.declared.relaxation.Shapes.{Shapes}
 use Rattle.linker_runs.specs.declared.relaxation.Item.{Item}
 use Rattle.linker_runs.specs.declared.relaxation.Item.TheVariants.{Site, Aligned}
 use Rattle.linker_runs.specs.declared.shapes.riscv64.TheConstants.{CALL, TAIL_C}
 use Rattle.linker_runs.specs.Relaxing.{offset_of, target_of, item_at, freed_before, choice_of, place_of}
 use Rattle.linker_runs.specs.Choosing.{IsSite}
-use Rattle.linker_riscv64.specs.RiscVCalls.{link_register}
-use Rattle.linker_riscv64.specs.declared.calls.LinkRegister.TheVariants.{OfJalr}
 use Rattle.linker_runs.specs.Sites.{IsOutOfReach}
 use Rattle.linker_runs.specs.RiscVSites.{riscv_template, RiscVCause}
 use Rattle.linker_runs.specs.Origins.{HasRiscVShapes, HasItsInstructions}

@@ -1,8 +1,6 @@
 -- The reaches of calls of RISC-V are those of the rows of what they become.
 use Rattle.std.proofs.Common.{refl, arith}
-use Rattle.std.specs.Prelude.{IsSomeAnd}
-use Rattle.linker_elf.specs.RiscVRelocations.{riscv_row}
-use Rattle.linker_elf.specs.declared.riscv64.relocations.RiscVRelocation.TheVariants.{R_RISCV_JAL, R_RISCV_RVC_JUMP}
+use Rattle.linker_runs.proofs.Imports.{IsSomeAnd, riscv_row, R_RISCV_JAL, R_RISCV_RVC_JUMP}
 use Rattle.linker_runs.specs.declared.shapes.riscv64.TheConstants.{CALL, TAIL_C, CALL_WITHOUT_C}
 use Rattle.linker_runs.specs.Reaches.{IsOfRow, RiscVShapesAreOfRows}
 use Rattle.linker_runs.specs.Relaxing.{short_shape}

@@ -1,15 +1,6 @@
 -- Calls of RISC-V that a relaxation made shorter can be written.
 use Rattle.std.proofs.Common.{◌≡◌, ℕ, ◌+◌, ◌*◌, ◌^◌, ◌<◌, ◌≤◌, ◌∙◌, true, List, [], refl, ap, subst, ⊎_elim, arith, None}
-use Rattle.std.specs.Prelude.{IsSomeAnd}
-use Rattle.std.specs.Int.{w32, to_le_bytes}
-use Rattle.std.proofs.lemmas.Bool.{cases_lt, false≢true}
-use Rattle.std.proofs.lemmas.Int.{ints}
-use Rattle.linker_elf.specs.Value.{sum_64}
-use Rattle.linker_elf.specs.declared.riscv64.relocations.RiscVRelocation.TheVariants.{R_RISCV_JAL, R_RISCV_RVC_JUMP}
-use Rattle.linker_elf.proofs.RowsFit.{riscv_fits}
-use Rattle.linker_riscv64.specs.RiscVCalls.{link_register}
-use Rattle.linker_utils.specs.RiscVRewrites.{tail_to_cj}
-use Rattle.linker_riscv64.specs.declared.calls.LinkRegister.TheVariants.{OfJalr}
+use Rattle.linker_runs.proofs.Imports.{IsSomeAnd, w32, to_le_bytes, cases_lt, false≢true, ints, sum_64, R_RISCV_JAL, R_RISCV_RVC_JUMP, riscv_fits, link_register, tail_to_cj, OfJalr}
 use Rattle.linker_runs.specs.declared.relaxation.Shapes.{Shapes}
 use Rattle.linker_runs.specs.declared.shapes.riscv64.TheConstants.{CALL, TAIL_C}
 use Rattle.linker_runs.specs.Relaxing.{short_shape, is_reached}

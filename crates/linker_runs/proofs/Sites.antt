@@ -1,13 +1,10 @@
 -- Relocations of instructions: what they keep, where their operands are, and which are in reach.
-use Rattle.std.proofs.Common.{◌≡◌, ℕ, ◌+◌, ◌-◌, ◌%◌, ◌^◌, ◌<◌, ◌∙◌, ap, arith, ℤ, pos, ◌+ℤ◌, Bool, true, false}
-use Rattle.std.specs.Prelude.{◌*ℤ◌, IsSomeAnd, Option, Some, None}
+use Rattle.std.proofs.Common.{◌≡◌, ℕ, ◌+◌, ◌-◌, ◌^◌, ◌<◌, ◌∙◌, ap, arith, ℤ, pos, ◌+ℤ◌, Bool, true, false}
+use Rattle.linker_runs.proofs.Imports.{◌*ℤ◌, IsSomeAnd, Option, Some, None, agree_below, ints, field, is_placed, AreAddresses}
 use Rattle.std.specs.Int.{bit_at}
-use Rattle.std.proofs.lemmas.Bool.{agree_below, agree_below_at}
-use Rattle.std.proofs.lemmas.Int.{ints}
-use Rattle.linker_base.specs.Bits.{field}
-use Rattle.linker_base.specs.Form.{Form, Written, is_placed}
+use Rattle.std.proofs.lemmas.Bool.{agree_below_at}
+use Rattle.linker_base.specs.Form.{Form, Written}
 use Rattle.linker_base.proofs.Fields.{same_fields}
-use Rattle.linker_laws.specs.Schemes.{AreAddresses}
 use Rattle.linker_runs.specs.Sites.{Template, operands_of, IsInReach, IsOutOfReach}
 
 -- ---- what a write keeps
@@ -38,10 +35,6 @@ operands_small place target p t = record { symbol = t; place = p; got_entry = om
 
 pub unit_sum : (a b : ℤ) → a +ℤ (b *ℤ pos 1) ≡ a +ℤ b
 unit_sum a b = omega (arith, ints)
-
--- a target without an addend
-pub target_is : (target : ℕ) → target < 2 ^ 64 → (target + 0) % 2 ^ 64 ≡ target
-target_is target t = omega arith
 
 -- ---- reach
 

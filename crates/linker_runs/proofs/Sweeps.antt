@@ -1,7 +1,6 @@
 -- Layouts of a sweep, of which a part is `more` above what the choice frees.
 use Rattle.std.proofs.Common.{◌≡◌, ◌≢◌, ◌^◌, ℕ, ◌+◌, ◌-◌, ◌<◌, ◌≤◌, ◌∙◌, false, List, length, get_or, set, refl, ap, sym, ⊎_elim, arith, get_or-set_other, get_or-set_same}
-use Rattle.std.specs.Prelude.{◌⊎◌}
-use Rattle.std.proofs.lemmas.Bool.{cases_order}
+use Rattle.linker_runs.proofs.Imports.{◌⊎◌, cases_order}
 use Rattle.linker_runs.specs.declared.relaxation.Item.{Item}
 use Rattle.linker_runs.specs.Relaxing.{item_at, choice_of}
 use Rattle.linker_runs.specs.Choosing.{run_granularity, AreItems, freed_cautiously, cautious_before}

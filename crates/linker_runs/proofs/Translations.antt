@@ -1,7 +1,6 @@
 -- The deletions of a relaxed run translate offsets as the layout does.
 use Rattle.std.proofs.Common.{◌≡◌, ℕ, zero, suc, ◌+◌, ◌-◌, ◌<◌, ◌≤◌, ◌∙◌, List, length, get_or, ap, sym, inl, ⊎_elim, arith}
-use Rattle.std.specs.Prelude.{min}
-use Rattle.std.proofs.lemmas.Bool.{cases_lt}
+use Rattle.linker_runs.proofs.Imports.{min, cases_lt}
 use Rattle.std.proofs.lemmas.List.Sums.{sum_by-append}
 use Rattle.linker_base.specs.Deletions.{rank}
 use Rattle.linker_base.proofs.Rank.{removed, removed_by, rank-removed}

@@ -1,12 +1,8 @@
 -- The granularity of a run, and what runs that can be relaxed suit.
 use Rattle.std.proofs.Common.{◌≡◌, ℕ, zero, suc, ◌+◌, ◌-◌, ◌*◌, ◌%◌, ◌^◌, ◌<◌, ◌≤◌, ◌∙◌, List, [], ◌∷◌, length, refl, ap, sym, subst, ⊎_elim, arith}
-use Rattle.std.specs.Prelude.{max}
-use Rattle.std.specs.Int.{IsPowerOfTwo}
+use Rattle.linker_runs.proofs.Imports.{max, IsPowerOfTwo, mul-mod_left, cases_lt, nat_tests}
 use Rattle.std.specs.List.{fold}
-use Rattle.std.proofs.Math.Nat.{mul-mod_left}
 use Rattle.std.proofs.lemmas.Nat.{pow-add, pow_below}
-use Rattle.std.proofs.lemmas.Bool.{cases_lt}
-use Rattle.std.proofs.lemmas.Bool.Decides.{nat_tests}
 use Rattle.linker_runs.specs.declared.relaxation.Shapes.{Shapes}
 use Rattle.linker_runs.specs.declared.relaxation.Item.{Item}
 use Rattle.linker_runs.specs.declared.relaxation.Item.TheVariants.{Site, Aligned}

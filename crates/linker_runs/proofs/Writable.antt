@@ -1,10 +1,7 @@
 -- A site that a relaxation made shorter can be written.
 use Rattle.std.proofs.Common.{◌≡◌, ℕ, ◌-◌, ◌<◌, ◌∙◌, true, List, ap, sym, arith}
-use Rattle.std.specs.Prelude.{nat_lt}
-use Rattle.std.proofs.lemmas.Bool.{cond-true}
-use Rattle.std.proofs.lemmas.Bool.Decides.{nat_tests}
+use Rattle.linker_runs.proofs.Imports.{nat_lt, cond-true, nat_tests, sum_64}
 use Rattle.linker_base.specs.Deletions.{rank}
-use Rattle.linker_elf.specs.Value.{sum_64}
 use Rattle.linker_runs.specs.declared.relaxation.Site.{Site as sites}
 use Rattle.linker_runs.specs.declared.relaxation.Item.{Item}
 use Rattle.linker_runs.specs.declared.relaxation.Item.TheVariants.{Site, Aligned}

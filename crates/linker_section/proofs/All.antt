@@ -1,14 +1,10 @@
 -- What is written to a section, byte by byte.
 use Rattle.std.proofs.Common.{◌≡◌, ℕ, ℤ, ◌+◌, ◌-◌, ◌/◌, ◌<◌, ◌≤◌, ◌⊎◌, List, [], ◌∷◌, zero, suc, length, take, drop, get_or, cond, ltb, true, true≢false, refl, sym, ap, subst, ◌∙◌, inl, inr, arith}
-use Rattle.std.proofs.lemmas.Bool.{cases_eq, cases_lt, cases_Bool, or_left, cond_both, cond-true, cond-false}
+use Rattle.linker_section.proofs.Imports.{cases_eq, cases_lt, cases_Bool, or_left, cond_both, cond-true, cond-false, get_or-take, get_or-drop, length-drop, slice_index, window_len, RelocationKindInfo, Architecture}
 use Rattle.linker_section.proofs.Ulebs.{some_uleb}
-use Rattle.std.proofs.lemmas.List.{get_or-take, get_or-drop, length-drop}
-use Rattle.std.specs.Prelude.{slice_index}
-use Rattle.linker_elf.specs.Relocate.{window_len}
-use Rattle.linker_elf.specs.declared.elf.RelocationKindInfo.{RelocationKindInfo}
 use Rattle.linker_section.proofs.Composing.{begun_is_continued_none, begun_ends_none, begun_has_value}
 use Rattle.linker_section.proofs.Local.{IsLocal, one_local, pair_local}
-use Rattle.linker_section.proofs.Stepping.{len_alone, len_paired, written_alone, unchanged}
+use Rattle.linker_section.proofs.Stepping.{len_alone, len_paired, written_alone, unchanged, split}
 use Rattle.linker_section.proofs.Valued.{some_value}
 use Rattle.linker_section.specs.Fields.{IsField, field_end, field_len, begins_pair, ends_pair, uleb_len, of_number, of_pair, AreApart, Overlap}
 use Rattle.linker_section.specs.Relocations.{relocation_in}
@@ -16,12 +12,8 @@ use Rattle.linker_section.specs.Sections.{AreRelocated, none, mark, one, pair, I
 use Rattle.linker_section.specs.Values.{offset_at}
 use Rattle.linker_section.specs.declared.facts.Addresses.{Addresses}
 use Rattle.linker_section.specs.declared.facts.Symbol.{Symbol}
-use Rattle.linker_elf.specs.declared.elf.architecture.Architecture.{Architecture}
 
 -- ---- bytes outside of a field
-
-place : (o w p : ℕ) → o + w ≤ p → p ≡ o + w + (p - (o + w))
-place o w p following = omega (arith, following)
 
 local_byte : (o w p : ℕ) (now after : List ℕ) → IsLocal o w now after
     → (p < o) ⊎ (o + w ≤ p) → slice_index after p ≡ slice_index now p
@@ -30,10 +22,10 @@ local_byte o w p now after local outside =
       | inl below ↦
           sym (get_or-take o after p 0 below) ∙ (ap (λ x. get_or x p 0) local.kept ∙ get_or-take o now p 0 below)
       | inr following ↦
-          ap (λ n. get_or after n 0) (place o w p following)
+          ap (λ n. get_or after n 0) (split o w p following)
           ∙ (sym (get_or-drop (o + w) after (p - (o + w)) 0)
           ∙ (ap (λ x. get_or x (p - (o + w)) 0) local.following
-          ∙ (get_or-drop (o + w) now (p - (o + w)) 0 ∙ ap (λ n. get_or now n 0) (sym (place o w p following)))))
+          ∙ (get_or-drop (o + w) now (p - (o + w)) 0 ∙ ap (λ n. get_or now n 0) (sym (split o w p following)))))
     ]
 
 -- ---- a ULEB128 number of the same bytes
@@ -173,11 +165,11 @@ pair_untouched : (architecture : Architecture) (addresses : Addresses) (bytes be
     → AreUntouched architecture bytes before (n + 2) now
 pair_untouched architecture addresses bytes before middle now symbols n apart so_far written =
     let row = written.pair.row in
-    let place = pair_place architecture addresses bytes before middle now symbols n apart so_far written in (
-      (place.local.same_length ∙ so_far.0),
+    let split = pair_place architecture addresses bytes before middle now symbols n apart so_far written in (
+      (split.local.same_length ∙ so_far.0),
       (λ p outside.
-          local_byte (offset_at bytes n) (field_len row (drop (offset_at bytes n) before)) p middle now place.local
-          (outside n row (omega arith) place.is_field)
+          local_byte (offset_at bytes n) (field_len row (drop (offset_at bytes n) before)) p middle now split.local
+          (outside n row (omega arith) split.is_field)
           ∙ so_far.1 p (fewer architecture bytes before n (n + 2) p (omega arith) outside)),
     )
 

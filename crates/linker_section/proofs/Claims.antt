@@ -1,21 +1,18 @@
 -- Fields that are gone through by ascending offsets are apart, if each is clear of the last one.
 use Rattle.std.proofs.Common.{◌≡◌, ℕ, ◌+◌, ◌-◌, ◌/◌, ◌<◌, ◌≤◌, ◌⊎◌, ◌&&◌, eqb, leb, sym, ap, subst, ◌∙◌, inl, inr, arith, true, false, true≢false, List, length, Some}
-use Rattle.std.proofs.lemmas.Bool.{or_cases, or_parts, and_parts, eqb-true, eq-eqb, leb-true, leb-false, cases_eq, and_from, both_ways}
-use Rattle.linker_elf.specs.Relocate.{window_len}
-use Rattle.linker_elf.specs.declared.elf.RelocationKindInfo.{RelocationKindInfo}
-use Rattle.linker_section.proofs.Composing.{no, continues_on, second_is_none, first_is_none, begun_continues_none, begun_is_continued_none, begun_ends_none}
+use Rattle.linker_section.proofs.Imports.{or_cases, or_parts, and_parts, eqb-true, eq-eqb, leb-true, cases_eq, window_len, RelocationKindInfo, IsRow, IfSome, is_some, Option, Architecture, never}
+use Rattle.std.proofs.lemmas.Bool.{leb-false, and_from, both_ways}
+use Rattle.linker_section.proofs.Composing.{continues_on, second_is_none, first_is_none, begun_continues_none, begun_is_continued_none, begun_ends_none}
 use Rattle.linker_section.proofs.Rows.{one_info}
 use Rattle.linker_section.specs.Fields.{IsField, continues, field_end, begins_pair, ends_pair, is_of_pair, Overlap, Composes, of_number, of_pair, AreApart, IsOverlapped}
 use Rattle.linker_section.specs.Relocations.{relocation_in}
 use Rattle.linker_section.specs.Sections.{BeginsPair}
-use Rattle.linker_elf.specs.Architectures.{IsRow}
 use Rattle.linker_section.specs.Inner.Claims.{continues_at, is_clear_of, IsContinued, IsLastField, AreClaimed, HasField}
 use Rattle.linker_section.specs.Inner.Order.{ApartIn}
 use Rattle.linker_section.specs.declared.relocations.Rela.{Rela}
-use Rattle.std.specs.Prelude.{IfSome, is_some, Option, None}
+use Rattle.std.specs.Prelude.{None}
 use Rattle.linker_section.specs.Values.{offset_at}
 use Rattle.linker_section.specs.declared.fields.Field.{Field}
-use Rattle.linker_elf.specs.declared.elf.architecture.Architecture.{Architecture}
 
 -- ---- what the test says
 
@@ -308,7 +305,7 @@ from_in architecture bytes section k apart i j row other below under is_field is
 
 -- ---- a relocation without a field
 
--- those that are seen now were seen before, or have no field
+-- those that are seen now were seen before, or have never field
 abbrev pub HaveNone : Architecture → List ℕ → List ℕ → (ℕ → Type 0) → (ℕ → Type 0) → Type 0
 HaveNone architecture bytes section IsSeen IsSeenNow =
     (i : ℕ) → IsSeenNow i
@@ -459,5 +456,5 @@ pub begun_of : (architecture : Architecture) (bytes : List ℕ) (first : ℕ) (r
     → is_some result ≡ true
     → IfSome result (λ second. (second ≡ relocation_in bytes (first + 1)) × BeginsPair architecture bytes first)
     → BeginsPair architecture bytes first
-begun_of architecture bytes first None is found = no is
+begun_of architecture bytes first None is found = never is
 begun_of architecture bytes first (Some second) is found = found.1

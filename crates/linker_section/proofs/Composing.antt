@@ -1,26 +1,21 @@
 -- Which kinds compose, and which rows are of a pair at a ULEB128 number.
 use Rattle.std.proofs.Common.{◌≡◌, ◌||◌, refl, sym, ◌∙◌, true, false, true≢false}
-use Rattle.linker_elf.specs.declared.elf.RelocationKind.{RelocationKind}
+use Rattle.linker_section.proofs.Imports.{RelocationKind, RelocationSize, ByteSize, BitMasking, never}
 use Rattle.linker_elf.specs.declared.elf.RelocationKind.TheVariants as kinds
-use Rattle.linker_elf.specs.declared.elf.RelocationSize.{RelocationSize}
-use Rattle.linker_elf.specs.declared.elf.RelocationSize.TheVariants.{ByteSize, BitMasking}
 use Rattle.linker_section.specs.Fields.{begins_pair, ends_pair, changes_number, changes_bits, continues}
 use Rattle.linker_section.specs.Values.{has_value}
-
-pub no : {A : Type 0} → false ≡ true → A
-no same = absurd (true≢false (sym same))
 
 changed_number : (second third : RelocationKind) → changes_number second ≡ true
     → continues second third ≡ changes_number third
 changed_number kinds.AbsoluteAddition third is = refl
 changed_number kinds.AbsoluteSubtraction third is = refl
-changed_number _ third is = no is
+changed_number _ third is = never is
 
 changed_bits : (second third : RelocationKind) → changes_bits second ≡ true
     → continues second third ≡ changes_bits third
 changed_bits kinds.AbsoluteAdditionWord6 third is = refl
 changed_bits kinds.AbsoluteSubtractionWord6 third is = refl
-changed_bits _ third is = no is
+changed_bits _ third is = never is
 
 pub continues_on : (first second third : RelocationKind) → continues first second ≡ true
     → continues second third ≡ true → continues first third ≡ true
@@ -30,7 +25,7 @@ continues_on kinds.AbsoluteSubtraction second third a b = sym (changed_number se
 continues_on kinds.AbsoluteSetWord6 second third a b = sym (changed_bits second third a) ∙ b
 continues_on kinds.AbsoluteAdditionWord6 second third a b = sym (changed_bits second third a) ∙ b
 continues_on kinds.AbsoluteSubtractionWord6 second third a b = sym (changed_bits second third a) ∙ b
-continues_on _ second third a b = no a
+continues_on _ second third a b = never a
 
 -- ---- rows of pairs
 
@@ -40,7 +35,7 @@ changed_is_none kinds.AbsoluteAddition (ByteSize n) is = refl
 changed_is_none kinds.AbsoluteAddition (BitMasking bits insn) is = refl
 changed_is_none kinds.AbsoluteSubtraction (ByteSize n) is = refl
 changed_is_none kinds.AbsoluteSubtraction (BitMasking bits insn) is = refl
-changed_is_none _ size is = no is
+changed_is_none _ size is = never is
 
 bits_is_none : (kind : RelocationKind) (size : RelocationSize) → changes_bits kind ≡ true
     → (begins_pair size kind || ends_pair size kind) ≡ false
@@ -48,7 +43,7 @@ bits_is_none kinds.AbsoluteAdditionWord6 (ByteSize n) is = refl
 bits_is_none kinds.AbsoluteAdditionWord6 (BitMasking bits insn) is = refl
 bits_is_none kinds.AbsoluteSubtractionWord6 (ByteSize n) is = refl
 bits_is_none kinds.AbsoluteSubtractionWord6 (BitMasking bits insn) is = refl
-bits_is_none _ size is = no is
+bits_is_none _ size is = never is
 
 pub second_is_none : (first kind : RelocationKind) (size : RelocationSize) → continues first kind ≡ true
     → (begins_pair size kind || ends_pair size kind) ≡ false
@@ -58,7 +53,7 @@ second_is_none kinds.AbsoluteSubtraction kind size is = changed_is_none kind siz
 second_is_none kinds.AbsoluteSetWord6 kind size is = bits_is_none kind size is
 second_is_none kinds.AbsoluteAdditionWord6 kind size is = bits_is_none kind size is
 second_is_none kinds.AbsoluteSubtractionWord6 kind size is = bits_is_none kind size is
-second_is_none _ kind size is = no is
+second_is_none _ kind size is = never is
 
 pub first_is_none : (kind next : RelocationKind) (size : RelocationSize) → continues kind next ≡ true
     → (begins_pair size kind || ends_pair size kind) ≡ false
@@ -74,20 +69,20 @@ first_is_none kinds.AbsoluteAdditionWord6 next (ByteSize n) is = refl
 first_is_none kinds.AbsoluteAdditionWord6 next (BitMasking bits insn) is = refl
 first_is_none kinds.AbsoluteSubtractionWord6 next (ByteSize n) is = refl
 first_is_none kinds.AbsoluteSubtractionWord6 next (BitMasking bits insn) is = refl
-first_is_none _ next size is = no is
+first_is_none _ next size is = never is
 
 -- the first of a pair: nothing continues with it, and it ends none
 pub begun_continues_none : (size : RelocationSize) (kind next : RelocationKind)
     → begins_pair size kind ≡ true → continues kind next ≡ false
 begun_continues_none (ByteSize n) kinds.Relative next is = refl
-begun_continues_none (ByteSize n) _ next is = no is
-begun_continues_none (BitMasking bits insn) _ next is = no is
+begun_continues_none (ByteSize n) _ next is = never is
+begun_continues_none (BitMasking bits insn) _ next is = never is
 
 pub begun_ends_none : (size : RelocationSize) (kind : RelocationKind)
     → begins_pair size kind ≡ true → ends_pair size kind ≡ false
 begun_ends_none (ByteSize n) kinds.Relative is = refl
-begun_ends_none (ByteSize n) _ is = no is
-begun_ends_none (BitMasking bits insn) _ is = no is
+begun_ends_none (ByteSize n) _ is = never is
+begun_ends_none (BitMasking bits insn) _ is = never is
 
 continues_relative : (first : RelocationKind) → continues first kinds.Relative ≡ false
 continues_relative kinds.AbsoluteSet = refl
@@ -101,22 +96,22 @@ continues_relative _ = refl
 pub begun_is_continued_none : (size : RelocationSize) (kind first : RelocationKind)
     → begins_pair size kind ≡ true → continues first kind ≡ false
 begun_is_continued_none (ByteSize n) kinds.Relative first is = continues_relative first
-begun_is_continued_none (ByteSize n) _ first is = no is
-begun_is_continued_none (BitMasking bits insn) _ first is = no is
+begun_is_continued_none (ByteSize n) _ first is = never is
+begun_is_continued_none (BitMasking bits insn) _ first is = never is
 
 pub ended_begins_none : (size : RelocationSize) (kind : RelocationKind)
     → ends_pair size kind ≡ true → begins_pair size kind ≡ false
 ended_begins_none (ByteSize n) kinds.PairSubtractionULEB128RiscV is = refl
 ended_begins_none (ByteSize n) kinds.PairSubtractionULEB128LoongArch is = refl
-ended_begins_none (ByteSize n) _ is = no is
-ended_begins_none (BitMasking bits insn) _ is = no is
+ended_begins_none (ByteSize n) _ is = never is
+ended_begins_none (BitMasking bits insn) _ is = never is
 
 pub ended_has_value : (size : RelocationSize) (kind : RelocationKind)
     → ends_pair size kind ≡ true → has_value kind ≡ true
 ended_has_value (ByteSize n) kinds.PairSubtractionULEB128RiscV is = refl
 ended_has_value (ByteSize n) kinds.PairSubtractionULEB128LoongArch is = refl
-ended_has_value (ByteSize n) _ is = no is
-ended_has_value (BitMasking bits insn) _ is = no is
+ended_has_value (ByteSize n) _ is = never is
+ended_has_value (BitMasking bits insn) _ is = never is
 
 pub unvalued_begins_none : (size : RelocationSize) (kind : RelocationKind)
     → has_value kind ≡ false → begins_pair size kind ≡ false
@@ -141,5 +136,5 @@ unvalued_ends_none size _ is = absurd (true≢false is)
 pub begun_has_value : (size : RelocationSize) (kind : RelocationKind)
     → begins_pair size kind ≡ true → has_value kind ≡ true
 begun_has_value (ByteSize n) kinds.Relative is = refl
-begun_has_value (ByteSize n) _ is = no is
-begun_has_value (BitMasking bits insn) _ is = no is
+begun_has_value (ByteSize n) _ is = never is
+begun_has_value (BitMasking bits insn) _ is = never is

@@ -1,20 +1,13 @@
 -- Numbers of compact relocations, and relocations one after the other.
-use Rattle.std.proofs.Common.{◌≡◌, ℕ, zero, suc, ◌+◌, ◌-◌, ◌*◌, ◌/◌, ◌%◌, ◌^◌, ◌<◌, ◌≤◌, ◌⊎◌, inl, inr}
-use Rattle.std.proofs.Common.{Bool, true, false, List, [], ◌∷◌, ◌++◌, length, take, drop, slice_index, Ok, Err}
-use Rattle.std.proofs.Common.{refl, sym, ◌∙◌, ap, arith, Some, None}
-use Rattle.std.proofs.Common.{ℤ, bit_and, bit_or, pow-suc, add-one, true≢false, ◌≢◌, below_more}
+use Rattle.std.proofs.Common.{◌≡◌, ℕ, zero, suc, ◌+◌, ◌-◌, ◌*◌, ◌/◌, ◌%◌, ◌^◌, ◌<◌, ◌≤◌, ◌⊎◌, inl, inr, Bool, true, false, List, [], ◌∷◌, ◌++◌, length, take, drop, slice_index, Ok, Err, refl, sym, ◌∙◌, ap, arith, Some, None, ℤ, bit_and, bit_or, pow-suc, add-one, true≢false, ◌≢◌, below_more}
 use Rattle.std.proofs.Math.Nat.{pow-le-pow_right}
-use Rattle.std.proofs.lemmas.Bool.{cases_lt}
-use Rattle.std.proofs.lemmas.Bool.Decides.{nat_tests}
-use Rattle.std.proofs.lemmas.Nat.{mod_below, mul-le, or_shifted, or_comm, one_shl, and_mask, mul-mod_first}
+use Rattle.linker_section.proofs.Imports.{cases_lt, nat_tests, mod_below, mul-le, take_all, length-drop, drop-append-le, take-append-le, nat_lt, ◌==◌, ◌&&◌, AllContinue, uleb_number, low_groups}
+use Rattle.std.proofs.lemmas.Nat.{or_shifted, or_comm, one_shl, and_mask, mul-mod_first}
 use Rattle.std.proofs.lemmas.List.Sums.{prefix_len-le-length}
-use Rattle.std.proofs.lemmas.List.{take_all, length-drop, drop-append-le, take-append-le}
 use Rattle.std.specs.List.{prefix_len}
-use Rattle.std.specs.Prelude.{nat_le, nat_lt, ◌==◌, ◌&&◌}
-use Rattle.linker_base.specs.Uleb.{AllContinue, uleb_number}
-use Rattle.linker_base.proofs.UlebLemmas.{low_groups, pow_128}
-use Rattle.linker_section.specs.Crel.{number_at, number_in, number_to, word_of, delta_at, flags_of}
-use Rattle.linker_section.specs.Crel.{next_of, after, followed, relocation_of_place}
+use Rattle.std.specs.Prelude.{nat_le}
+use Rattle.linker_base.proofs.UlebLemmas.{pow_128, groups_lt}
+use Rattle.linker_section.specs.Crel.{number_at, number_in, number_to, word_of, delta_at, flags_of, next_of, after, followed, relocation_of_place}
 use Rattle.linker_section.specs.Relocations.{relocation_in, relocation_of}
 use Rattle.linker_section.specs.declared.crel.CrelError.TheVariants.{CutOff, TooLarge}
 use Rattle.linker_section.specs.declared.crel.CrelError.{CrelError}
@@ -76,16 +69,6 @@ grown : (bytes : List ℕ) (i : ℕ)
     → uleb_number bytes i ≡ low_groups bytes i + slice_index bytes i % 128 * 128 ^ i
 grown bytes zero = omega arith
 grown bytes (suc i) = refl
-
-groups_lt : (bytes : List ℕ) (i : ℕ) → low_groups bytes i < 128 ^ i
-groups_lt bytes zero = omega arith
-groups_lt bytes (suc i) =
-    let before : low_groups bytes i < 128 ^ i = groups_lt bytes i in
-    let m = mod_below (slice_index bytes i) 128 (omega arith) in
-    let most = mul-le (slice_index bytes i % 128) (128 ^ i) 127 (128 ^ i) (omega arith) (omega arith) in
-    let next : 128 ^ suc i ≡ 128 ^ i * 128 = pow-suc 128 i in
-    let grows = grown bytes i in
-    omega arith
 
 -- ---- words
 

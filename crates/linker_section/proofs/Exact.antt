@@ -1,21 +1,7 @@
 -- A section that can be written has no fault: each relocation has one value.
 use Rattle.std.proofs.Common.{◌≡◌, ℕ, ℤ, ◌+◌, ◌/◌, ◌<◌, ◌≤◌, ◌⊎◌, ◌^◌, List, length, drop, Bool, true, false, true≢false, ltb, refl, sym, ap, subst, ◌∙◌, inl, inr, arith, Option, Some, None, Ok, Err, Result}
-use Rattle.std.proofs.lemmas.Bool.{cases_eq, cases_lt, cases_Bool, and_parts, or_left, cond-true, cond-false, le-ltb, lt-ltb}
-use Rattle.std.specs.Prelude.{slice_get, slice_index, ◌||◌}
-use Rattle.linker_base.specs.Uleb.{Uleb, IsUlebCause}
-use Rattle.linker_base.specs.declared.bit_misc.BitRange.{BitRange}
-use Rattle.linker_base.specs.declared.utils.Uleb128Error.{Uleb128Error}
-use Rattle.linker_base.specs.declared.utils.Uleb128Error.TheVariants.{Ended, TooLarge, DoesNotFit}
-use Rattle.linker_elf.specs.Relocate.{IsCause, IsAccepted, size_len}
-use Rattle.linker_elf.specs.declared.elf.RelocationInstruction.TheVariants.{RiscV}
-use Rattle.linker_elf.specs.declared.elf.RelocationKind.{RelocationKind}
+use Rattle.linker_section.proofs.Imports.{cases_eq, cases_lt, cases_Bool, and_parts, or_left, cond-true, cond-false, le-ltb, lt-ltb, slice_get, slice_index, ◌||◌, Uleb, IsUlebCause, BitRange, Uleb128Error, Ended, TooLarge, DoesNotFit, IsCause, IsAccepted, size_len, RiscV, RelocationKind, RelocationKindInfo, RelocationSize, BitMasking, RelocateError, Unsupported, TooShort, Misaligned, OutOfReach, UType, IsRow, Architecture}
 use Rattle.linker_elf.specs.declared.elf.RelocationKind.TheVariants as kinds
-use Rattle.linker_elf.specs.declared.elf.RelocationKindInfo.{RelocationKindInfo}
-use Rattle.linker_elf.specs.declared.elf.RelocationSize.{RelocationSize}
-use Rattle.linker_elf.specs.declared.elf.RelocationSize.TheVariants.{BitMasking}
-use Rattle.linker_elf.specs.declared.elf.relocate.RelocateError.{RelocateError}
-use Rattle.linker_elf.specs.declared.elf.relocate.RelocateError.TheVariants.{Unsupported, TooShort, Misaligned, OutOfReach}
-use Rattle.linker_elf.specs.declared.riscv64.forms.RiscVInstruction.TheVariants.{UType}
 use Rattle.linker_section.proofs.Composing.{begun_ends_none}
 use Rattle.linker_section.proofs.Fronts.{some_window}
 use Rattle.linker_section.proofs.Rows.{one_row, one_info}
@@ -36,8 +22,6 @@ use Rattle.linker_section.specs.declared.sections.RelocationError.{RelocationErr
 use Rattle.linker_section.specs.declared.sections.RelocationError.TheVariants.{Value, Overlaps, OtherLength, Write, Uleb128}
 use Rattle.linker_section.specs.declared.sections.SectionError.{SectionError}
 use Rattle.linker_section.specs.declared.values.ValueError.{ValueError}
-use Rattle.linker_elf.specs.Architectures.{IsRow}
-use Rattle.linker_elf.specs.declared.elf.architecture.Architecture.{Architecture}
 
 -- ---- one high part
 
@@ -302,7 +286,7 @@ record IsOneFound (row other : RelocationKindInfo) (v w : ℤ) : Type 0 where
   pub row_is : row ≡ other
   pub value_is : v ≡ w
 
-one_found : (found : Option (RelocationKindInfo × ℤ)) (row other : RelocationKindInfo) (v w : ℤ)
+pub one_found : (found : Option (RelocationKindInfo × ℤ)) (row other : RelocationKindInfo) (v w : ℤ)
     → found ≡ Some (row, v) → found ≡ Some (other, w) → IsOneFound row other v w
 one_found found row other v w a b =
     let same = ap (first_of (row, v)) (sym a ∙ b) in

@@ -1,15 +1,6 @@
 -- The first relocation that can't be written is that by the section before all writes.
 use Rattle.std.proofs.Common.{◌≡◌, ℕ, zero, suc, ℤ, ◌+◌, ◌^◌, ◌<◌, ◌≤◌, ◌⊎◌, List, [], ◌∷◌, length, take, drop, ltb, refl, sym, ap, subst, ◌∙◌, inl, inr, arith}
-use Rattle.std.proofs.lemmas.Bool.{cases_eq, or_left, cond_both, cond-false, le-ltb}
-use Rattle.std.proofs.lemmas.List.{length-drop, take_all, take-append-drop, get_or-take, drop_all}
-use Rattle.std.specs.Prelude.{slice_index}
-use Rattle.linker_base.specs.Uleb.{AllContinue, IsUlebCause}
-use Rattle.linker_base.specs.declared.utils.Uleb128Error.{Uleb128Error}
-use Rattle.linker_base.specs.declared.utils.Uleb128Error.TheVariants.{Ended, TooLarge, DoesNotFit}
-use Rattle.linker_elf.specs.Relocate.{IsCause}
-use Rattle.linker_elf.specs.declared.elf.RelocationKindInfo.{RelocationKindInfo}
-use Rattle.linker_elf.specs.declared.elf.relocate.RelocateError.{RelocateError}
-use Rattle.linker_elf.specs.declared.elf.relocate.RelocateError.TheVariants.{Unsupported, TooShort, Misaligned, OutOfReach}
+use Rattle.linker_section.proofs.Imports.{cases_eq, or_left, cond_both, cond-false, le-ltb, length-drop, take_all, take-append-drop, get_or-take, drop_all, slice_index, AllContinue, IsUlebCause, Uleb128Error, Ended, TooLarge, DoesNotFit, IsCause, RelocationKindInfo, RelocateError, Unsupported, TooShort, Misaligned, OutOfReach, Architecture}
 use Rattle.linker_section.proofs.All.{untouched, pair_first, same_uleb}
 use Rattle.linker_section.proofs.Composing.{begun_has_value}
 use Rattle.linker_section.proofs.Fielded.{found_of, uses, found_are, are_accepted, front_at, same_at}
@@ -28,7 +19,6 @@ use Rattle.linker_section.specs.declared.facts.Symbol.{Symbol}
 use Rattle.linker_section.specs.declared.sections.RelocationError.{RelocationError}
 use Rattle.linker_section.specs.declared.sections.RelocationError.TheVariants.{Value, Overlaps, OtherLength, Write, Uleb128}
 use Rattle.linker_section.specs.declared.sections.SectionError.{SectionError}
-use Rattle.linker_elf.specs.declared.elf.architecture.Architecture.{Architecture}
 
 -- ---- a value of one relocation
 

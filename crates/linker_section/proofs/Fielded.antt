@@ -1,19 +1,12 @@
 -- All fields of a section, after all writes.
 use Rattle.std.proofs.Common.{◌≡◌, ℕ, zero, suc, ℤ, pos, ◌+◌, ◌*◌, ◌^◌, ◌/◌, ◌<◌, ◌≤◌, ◌⊎◌, List, [], length, take, drop, true, false, true≢false, eqb, ltb, cond, refl, sym, ap, subst, ◌∙◌, inl, inr, arith, Option, Some, None, Ok}
-use Rattle.std.proofs.lemmas.Bool.{cases_eq, cases_lt, cases_Bool, or_left, or_right, cond-true, cond-false, eq-eqb, ne_eqb, eqb-true, lt-ltb, le-ltb}
-use Rattle.std.proofs.lemmas.List.{drop_at, length-drop, length-take, length-take-le, get_or-take, get_or-drop, get_or_past}
-use Rattle.std.specs.Prelude.{slice_index, ◌||◌}
-use Rattle.linker_base.specs.Uleb.{Uleb, IsUlebWritten}
-use Rattle.linker_elf.specs.Relocate.{WritesRow, SizeNumber, number_of_bytes, size_len, window_len, takes_size}
-use Rattle.linker_elf.specs.declared.elf.RelocationKindInfo.{RelocationKindInfo}
-use Rattle.linker_elf.specs.declared.elf.RelocationSize.{RelocationSize}
-use Rattle.linker_elf.specs.declared.elf.RelocationSize.TheVariants.{ByteSize, BitMasking}
+use Rattle.linker_section.proofs.Imports.{cases_eq, cases_lt, cases_Bool, or_left, or_right, cond-true, cond-false, eq-eqb, ne_eqb, eqb-true, lt-ltb, le-ltb, drop_at, length-drop, length-take, length-take-le, get_or-take, get_or-drop, get_or_past, slice_index, ◌||◌, Uleb, IsUlebWritten, WritesRow, SizeNumber, number_of_bytes, size_len, window_len, takes_size, RelocationKindInfo, RelocationSize, ByteSize, BitMasking, Architecture, supported_size}
 use Rattle.linker_section.proofs.All.{AreUntouched, IsFirstAt, pair_place, pair_first, untouched}
 use Rattle.linker_section.proofs.Composing.{begun_has_value, begun_ends_none, first_is_none, second_is_none}
 use Rattle.linker_section.proofs.Fronts.{HaveSameWindow, same_window, accepted_same, some_window, window_back}
 use Rattle.linker_section.proofs.Held.{IsMet, is_ahead, is_after, is_same, is_later, is_earlier, meet, field_untouched, IsJoined, is_kept, is_own, is_joined, step, pair_kept}
 use Rattle.linker_section.proofs.Lengths.{offset_same, IsSameFront, length_same}
-use Rattle.linker_section.proofs.Local.{small_bytes, takes}
+use Rattle.linker_section.proofs.Local.{small_bytes}
 use Rattle.linker_section.proofs.Numbers.{is_word6, holds_first, holds_next, number_small}
 use Rattle.linker_section.proofs.Rows.{one_info}
 use Rattle.linker_section.proofs.Sized.{is_composing, second_composes, whole_bytes, instruction_alone}
@@ -27,11 +20,11 @@ use Rattle.linker_section.specs.Values.{has_value, offset_at}
 use Rattle.linker_section.specs.WrittenFields.{Found, AreFound, composed, composed_by, composed_with, field_bytes, HoldsNumber, HoldsValue, IsHeld, AreWritten, MakePair, OfPair, HoldsPair, PairFits, IsAcceptedAt, AreAccepted}
 use Rattle.linker_section.specs.declared.facts.Addresses.{Addresses}
 use Rattle.linker_section.specs.declared.facts.Symbol.{Symbol}
-use Rattle.linker_elf.specs.declared.elf.architecture.Architecture.{Architecture}
+use Rattle.linker_section.proofs.Exact.{one_found}
 
 -- ---- what is composed
 
-next_index : (n : ℕ) → n + 1 ≡ suc n
+pub next_index : (n : ℕ) → n + 1 ≡ suc n
 next_index n = omega arith
 
 composed_more : (found : Found) (bytes section : List ℕ) (at : ℕ) (number : ℤ) (n : ℕ)
@@ -104,30 +97,12 @@ found_of (pair {n} {middle} {after} relocated written) i =
     cond (eqb i n) (Some (written.pair.row, written.pair.value))
     (cond (eqb i (n + 1)) (Some (written.pair.other, written.pair.subtracted)) (found_of relocated i))
 
-abbrev first_of : {A : Type 0} → A → Option A → A
-first_of x None = x
-first_of x (Some y) = y
-
-some_is : {A : Type 0} (x y : A) → Some x ≡ Some y → x ≡ y
-some_is x y same = ap (first_of x) same
-
 none_some : {A B : Type 0} {o : Option A} {x : A} → o ≡ None → o ≡ Some x → B
 none_some {A} {B} {o} {x} a b = absurd (subst IsOne (sym b ∙ a) tt)
   where
     IsOne : Option A → Type 0
     IsOne None = ⊥
     IsOne (Some y) = Unit
-
--- what is found of a relocation is found once
-record IsOneFound (row other : RelocationKindInfo) (v w : ℤ) : Type 0 where
-  pub row_is : row ≡ other
-  pub value_is : v ≡ w
-
-one_found : (found : Option (RelocationKindInfo × ℤ)) (row other : RelocationKindInfo) (v w : ℤ)
-    → found ≡ Some (row, v) → found ≡ Some (other, w) → IsOneFound row other v w
-one_found found row other v w a b =
-    let same = some_is (row, v) (other, w) (sym a ∙ b) in
-    record { row_is = ap (λ (p : RelocationKindInfo × ℤ). p.0) same; value_is = ap (λ (p : RelocationKindInfo × ℤ). p.1) same }
 
 -- a field that isn't of a pair has no byte of a pair's
 pair_far : {bytes before : List ℕ} (i : ℕ) (row : RelocationKindInfo) (n : ℕ) (first : RelocationKindInfo)
@@ -658,15 +633,15 @@ module _ (architecture : Architecture) (addresses : Addresses) (bytes : List ℕ
       → (size : RelocationSize) → row.size ≡ size
       → HoldsValue size row v (λ number. composed found bytes before (offset_at bytes i) number total)
       (field_bytes bytes before i row before) (field_bytes bytes before i row now)
-  value_held relocated used small i row v below is is_field valued alone takes (BitMasking bits insn) size =
+  value_held relocated used small i row v below is is_field valued alone supported_size (BitMasking bits insn) size =
       held_alone relocated (omega arith) used i row v below is is_field
       (instruction_alone architecture _ row bits insn is_field.is_row size, alone)
-  value_held relocated used small i row v below is is_field valued alone takes (ByteSize zero) size =
+  value_held relocated used small i row v below is is_field valued alone supported_size (ByteSize zero) size =
       let len : field_len row (drop (offset_at bytes i) before) ≡ 0 = len_alone row (drop (offset_at bytes i) before) valued alone ∙ ap size_len size in
       let some = is_field.some in
       absurd (omega (arith, len, some))
-  value_held relocated used small i row v below is is_field valued alone takes (ByteSize (suc k)) size =
-      let most = small_bytes row.kind (suc k) (subst (λ x. takes_size row.kind x ≡ true) size takes) in
+  value_held relocated used small i row v below is is_field valued alone supported_size (ByteSize (suc k)) size =
+      let most = small_bytes row.kind (suc k) (subst (λ x. takes_size row.kind x ≡ true) size supported_size) in
       held_number relocated (omega arith) used i row k below is_field alone valued size
       (number_small (field_bytes bytes before i row before) k (small_field bytes before i row small) most)
 
@@ -682,7 +657,7 @@ module _ (architecture : Architecture) (addresses : Addresses) (bytes : List ℕ
       let is_field : IsField architecture bytes before i row = record { is_row = has.is_row; some = some } in
       let accepts = are_accepted relocated (omega arith) used i row v below is in
       record {
-        value = λ alone. value_held relocated used small i row v below is is_field valued alone (takes row (accepts.0 alone).accepted.supported) row.size refl;
+        value = λ alone. value_held relocated used small i row v below is is_field valued alone (supported_size row (accepts.0 alone).accepted.supported) row.size refl;
         pair = λ paired. held_pair relocated (omega arith) used i row v below is is_field paired;
       }
 

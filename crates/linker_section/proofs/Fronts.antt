@@ -1,29 +1,15 @@
 -- A write of a row reads and changes the bytes of its field only.
 use Rattle.std.proofs.Common.{◌≡◌, ℕ, ℤ, ◌-◌, ◌*◌, ◌^◌, ◌<◌, ◌≤◌, pos, List, ◌++◌, length, take, drop, Bool, true, sym, ap, subst, ◌∙◌, arith, lit≤}
-use Rattle.std.proofs.lemmas.List.{get_or-take, take-take, take_at, length-take-le, append-nil}
-use Rattle.std.specs.Prelude.{Option, replicate, int_lt}
-use Rattle.std.specs.Int.{Width, byte_len, byte_worth, from_le_bytes, w64, to_le_bytes, int_rem_euclid}
-use Rattle.linker_base.specs.Form.{window_of, Written, BitsWritten, Fits}
-use Rattle.linker_base.specs.declared.bit_misc.BitRange.{BitRange}
-use Rattle.linker_elf.specs.Elf.{relocation_form}
+use Rattle.linker_section.proofs.Imports.{get_or-take, take-take, take_at, length-take-le, append-nil, Option, replicate, byte_len, byte_worth, from_le_bytes, w64, to_le_bytes, int_rem_euclid, window_of, BitRange, relocation_form, WritesRow, IsAccepted, SizeNumber, number_of_bytes, whole_number, size_len, window_len, takes_size, AArch64Instruction, Movnz, LoongArch64Instruction, Call36, Ppc64Instruction, D, RiscVInstruction, UType, RelocationInstruction, RiscV, Ppc64, LoongArch64, RelocationKind, RelocationKindInfo, RelocationSize, ByteSize, BitMasking, window_at, supported_size}
+use Rattle.std.specs.Prelude.{int_lt}
+use Rattle.std.specs.Int.{Width}
+use Rattle.linker_base.specs.Form.{Written, BitsWritten, Fits}
 use Rattle.linker_elf.specs.Reach.{reach_of}
 use Rattle.linker_elf.specs.Relocate as relocate
-use Rattle.linker_elf.specs.Relocate.{WritesRow, IsAccepted, IsMultiple, IsAligned, IsInUnits, IsInWords, HoldsBits, IsReached, InstructionWritten, SizeNumber, SizeReads, SizeHolds, FieldReads, InstructionHolds, number_of_bytes, number_written, whole_number, low_bytes, bits_taken, bits_at, value_at, insn_at, is_dq_form, is_low_jump, size_len, window_len, takes_size}
-use Rattle.linker_elf.specs.declared.aarch64.forms.AArch64Instruction.{AArch64Instruction}
-use Rattle.linker_elf.specs.declared.aarch64.forms.AArch64Instruction.TheVariants.{Movnz}
-use Rattle.linker_elf.specs.declared.loongarch64.forms.LoongArch64Instruction.{LoongArch64Instruction}
-use Rattle.linker_elf.specs.declared.loongarch64.forms.LoongArch64Instruction.TheVariants.{Call36}
-use Rattle.linker_elf.specs.declared.ppc64.forms.Ppc64Instruction.{Ppc64Instruction}
-use Rattle.linker_elf.specs.declared.ppc64.forms.Ppc64Instruction.TheVariants.{D, Ds}
-use Rattle.linker_elf.specs.declared.riscv64.forms.RiscVInstruction.{RiscVInstruction}
-use Rattle.linker_elf.specs.declared.riscv64.forms.RiscVInstruction.TheVariants.{UType}
-use Rattle.linker_elf.specs.declared.elf.RelocationInstruction.{RelocationInstruction}
-use Rattle.linker_elf.specs.declared.elf.RelocationInstruction.TheVariants.{RiscV, Ppc64, LoongArch64, AArch64}
-use Rattle.linker_elf.specs.declared.elf.RelocationKind.{RelocationKind}
-use Rattle.linker_elf.specs.declared.elf.RelocationKindInfo.{RelocationKindInfo}
-use Rattle.linker_elf.specs.declared.elf.RelocationSize.{RelocationSize}
-use Rattle.linker_elf.specs.declared.elf.RelocationSize.TheVariants.{ByteSize, BitMasking}
-use Rattle.linker_section.proofs.Local.{small_bytes, takes, window_at}
+use Rattle.linker_elf.specs.Relocate.{IsMultiple, IsAligned, IsInUnits, IsInWords, HoldsBits, IsReached, InstructionWritten, SizeReads, SizeHolds, FieldReads, InstructionHolds, number_written, low_bytes, bits_taken, bits_at, value_at, insn_at, is_dq_form, is_low_jump}
+use Rattle.linker_elf.specs.declared.ppc64.forms.Ppc64Instruction.TheVariants.{Ds}
+use Rattle.linker_elf.specs.declared.elf.RelocationInstruction.TheVariants.{AArch64}
+use Rattle.linker_section.proofs.Local.{small_bytes}
 use Rattle.linker_section.proofs.Ulebs.{sum_same, no_rest}
 
 -- ---- numbers of the first bytes
@@ -148,14 +134,14 @@ instruction_front insn bits v n before after len written =
 written_front : (size : RelocationSize) (kind : RelocationKind) (v : ℤ) (before after : List ℕ)
     → takes_size kind size ≡ true → relocate.IsWritten size kind v before after
     → relocate.IsWritten size kind v (take (size_len size) before) (take (size_len size) after)
-written_front (ByteSize n) kind v before after takes written =
+written_front (ByteSize n) kind v before after supported_size written =
     ap (take n) written
     ∙ (take_at (low_bytes n (number_written kind v (number_of_bytes n before))) (drop n before) n
-    (length-take-le n (to_le_bytes w64 _) (small_bytes kind n takes))
+    (length-take-le n (to_le_bytes w64 _) (small_bytes kind n supported_size))
     ∙ (sym (append-nil (low_bytes n (number_written kind v (number_of_bytes n before))))
     ∙ (ap (λ x. low_bytes n (number_written kind v (number_of_bytes n before)) ++ x) (sym (no_rest n before))
     ∙ ap (λ x. low_bytes n (number_written kind v x) ++ drop n (take n before)) (sym (number_of_front n before)))))
-written_front (BitMasking bits insn) kind v before after takes written =
+written_front (BitMasking bits insn) kind v before after supported_size written =
     let n = byte_len (relocation_form insn).window in
     subst (λ word. InstructionWritten (insn_at insn bits word) (bits_at insn kind bits word) (value_at insn kind v word) (take n before) (take n after))
     (sym (window_front insn before))
@@ -194,7 +180,7 @@ writes_front row v before after w =
     let long = length-take-le n before w.accepted.long in
     record {
       accepted = accepted_same row v before (take n before) (same_window row.size before (take n before) (sym (take-take n n before (omega arith)))) (omega (arith, long)) w.accepted;
-      written = written_front row.size row.kind v before after (takes row w.accepted.supported) w.written;
+      written = written_front row.size row.kind v before after (supported_size row w.accepted.supported) w.written;
       number = number_same row.size row.kind v before after w.number;
       machine = λ is_signed agrees. reads_front is_signed row.size row.kind row.range.bounds v before after (w.machine is_signed agrees);
       reached = λ is_signed agrees. reads_front is_signed row.size row.kind (reach_of row) v before after (w.reached is_signed agrees);

@@ -1,9 +1,7 @@
 -- What each field holds after all writes.
 use Rattle.std.proofs.Common.{◌≡◌, ℕ, ℤ, ◌+◌, ◌<◌, ◌≤◌, ◌⊎◌, List, take, drop, true, false, true≢false, sym, ap, subst, ◌∙◌, inl, inr, arith}
-use Rattle.std.proofs.lemmas.Bool.{cases_eq, cases_lt, or_left, or_right}
-use Rattle.std.proofs.lemmas.List.{take-take, drop_at, drop-take, length-drop, length-take-le, get_or-take, get_or-drop, length-take, ext_get_or}
-use Rattle.linker_elf.specs.Relocate.{WritesRow, window_len}
-use Rattle.linker_elf.specs.declared.elf.RelocationKindInfo.{RelocationKindInfo}
+use Rattle.linker_section.proofs.Imports.{cases_eq, cases_lt, or_left, or_right, take-take, drop_at, drop-take, length-drop, length-take-le, get_or-take, get_or-drop, length-take, WritesRow, window_len, RelocationKindInfo, Architecture}
+use Rattle.std.proofs.lemmas.List.{ext_get_or}
 use Rattle.linker_section.proofs.All.{AreUntouched, IsFirstAt, first_byte}
 use Rattle.linker_section.proofs.Composing.{first_is_none, second_is_none}
 use Rattle.linker_section.proofs.Fronts.{writes_front}
@@ -19,7 +17,6 @@ use Rattle.linker_section.specs.Values.{offset_at}
 use Rattle.linker_section.specs.WrittenFields.{field_bytes}
 use Rattle.linker_section.specs.declared.facts.Addresses.{Addresses}
 use Rattle.linker_section.specs.declared.facts.Symbol.{Symbol}
-use Rattle.linker_elf.specs.declared.elf.architecture.Architecture.{Architecture}
 
 -- ---- two fields
 

@@ -1,21 +1,12 @@
 -- Whether an instruction is as long as the form of its relocation.
 use Rattle.std.proofs.Common.{◌≡◌, ℕ, ℤ, ◌<◌, List, length, take, drop, Bool, true, false, true≢false, eqb, ◌&&◌, ◌/◌, refl, sym, ap, ◌∙◌, inl, inr, arith}
-use Rattle.std.proofs.lemmas.Bool.{cases_Bool, cases_lt}
-use Rattle.std.proofs.lemmas.List.{get_or-take, length-drop}
-use Rattle.std.specs.Int.{w64, from_le_bytes}
-use Rattle.std.specs.Prelude.{slice_index, ◌↔◌, IsTrue, not, ◌||◌, ◌%◌, ◌^◌}
-use Rattle.linker_elf.specs.Relocate.{size_len, window_len}
-use Rattle.linker_elf.specs.declared.elf.RelocationInstruction.TheVariants.{RiscV, Ppc64, LoongArch64}
-use Rattle.linker_elf.specs.declared.elf.RelocationKindInfo.{RelocationKindInfo}
-use Rattle.linker_elf.specs.declared.elf.RelocationSize.{RelocationSize}
-use Rattle.linker_elf.specs.declared.elf.RelocationSize.TheVariants.{ByteSize, BitMasking}
+use Rattle.linker_section.proofs.Imports.{cases_Bool, cases_lt, get_or-take, length-drop, w64, from_le_bytes, slice_index, not, ◌||◌, size_len, window_len, RiscV, Ppc64, LoongArch64, RelocationKindInfo, RelocationSize, ByteSize, BitMasking, RiscVInstruction, OutOfReach, Architecture}
+use Rattle.std.specs.Prelude.{◌↔◌, IsTrue, ◌%◌, ◌^◌}
 use Rattle.linker_elf.specs.declared.elf.facts.Length.{Length}
 use Rattle.linker_elf.specs.declared.elf.facts.Length.TheVariants as lengths
 use Rattle.linker_elf.specs.declared.loongarch64.forms.LoongArch64Instruction.TheVariants.{Shift10}
 use Rattle.linker_elf.specs.declared.ppc64.forms.Ppc64Instruction.TheVariants.{Prefixed}
-use Rattle.linker_elf.specs.declared.riscv64.forms.RiscVInstruction.{RiscVInstruction}
 use Rattle.linker_elf.specs.declared.riscv64.forms.RiscVInstruction.TheVariants.{IType, SType, CbType, CjType, CluiType}
-use Rattle.linker_elf.specs.declared.elf.relocate.RelocateError.TheVariants.{OutOfReach}
 use Rattle.linker_section.proofs.Fronts.{some_window, HaveSameWindow}
 use Rattle.linker_section.specs.Conditions.{HasLength, HoldsOffset, holds_offset, is_12_bits, is_thread_based, is_tp_off, shows, shows_length}
 use Rattle.linker_section.specs.Fields.{is_of_pair}
@@ -25,7 +16,6 @@ use Rattle.linker_section.specs.Sections.{HasValue, IsOtherLength, IsUnwritable}
 use Rattle.linker_section.specs.Values.{offset_at}
 use Rattle.linker_section.specs.declared.facts.Addresses.{Addresses}
 use Rattle.linker_section.specs.declared.facts.Symbol.{Symbol}
-use Rattle.linker_elf.specs.declared.elf.architecture.Architecture.{Architecture}
 
 -- ---- what a test says
 

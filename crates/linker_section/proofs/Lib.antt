@@ -1,5 +1,6 @@
 pub mod All
 pub mod Claims
+pub mod Imports
 pub mod RowFacts
 pub mod Composing
 pub mod Crels

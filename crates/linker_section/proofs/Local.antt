@@ -1,36 +1,16 @@
 -- A write changes the bytes of its field only.
-use Rattle.std.proofs.Common.{◌≡◌, ℕ, ℤ, ◌+◌, ◌^◌, ◌≤◌, List, length, take, drop, true, refl, ap, sym, ◌∙◌, arith, lit≤}
-use Rattle.std.proofs.lemmas.Bool.{and_parts, ltb-true, cond_both}
-use Rattle.std.proofs.lemmas.List.{take_at, drop_at, drop-drop, length-drop, length-take-le, length-append}
+use Rattle.std.proofs.Common.{◌≡◌, ℕ, ℤ, ◌+◌, ◌≤◌, List, length, take, drop, true, ap, sym, ◌∙◌, arith, lit≤}
+use Rattle.linker_section.proofs.Imports.{and_parts, ltb-true, take_at, drop_at, drop-drop, length-drop, length-take-le, length-append, not, nat_lt, byte_len, w64, to_le_bytes, window_of, relocation_form, WritesRow, takes_size, size_len, window_len, AArch64Instruction, Movnz, RiscVInstruction, UType, Ppc64Instruction, D, LoongArch64Instruction, Call36, RelocationInstruction, RiscV, Ppc64, LoongArch64, RelocationKind, RelocationKindInfo, RelocationSize, ByteSize, BitMasking, Architecture, window_at, supported_size}
 use Rattle.std.proofs.lemmas.Slice.{drop-append-drop}
-use Rattle.std.specs.Prelude.{not, ◌&&◌, nat_lt}
-use Rattle.std.specs.Int.{byte_len, w64, to_le_bytes}
-use Rattle.linker_base.specs.declared.bit_misc.BitRange.{BitRange}
-use Rattle.linker_base.specs.Form.{window_of}
-use Rattle.linker_elf.specs.Elf.{relocation_form}
 use Rattle.linker_elf.specs.Relocate as relocate
-use Rattle.linker_elf.specs.Relocate.{WritesRow, insn_at, stays_movk, takes_size, is_supported, is_of_uleb128, size_len, window_len}
-use Rattle.linker_elf.specs.declared.aarch64.forms.AArch64Instruction.{AArch64Instruction}
-use Rattle.linker_elf.specs.declared.aarch64.forms.AArch64Instruction.TheVariants.{Movnz, Movkz}
-use Rattle.linker_elf.specs.declared.riscv64.forms.RiscVInstruction.{RiscVInstruction}
-use Rattle.linker_elf.specs.declared.riscv64.forms.RiscVInstruction.TheVariants.{UType}
-use Rattle.linker_elf.specs.declared.ppc64.forms.Ppc64Instruction.{Ppc64Instruction}
-use Rattle.linker_elf.specs.declared.ppc64.forms.Ppc64Instruction.TheVariants.{D}
-use Rattle.linker_elf.specs.declared.loongarch64.forms.LoongArch64Instruction.{LoongArch64Instruction}
-use Rattle.linker_elf.specs.declared.loongarch64.forms.LoongArch64Instruction.TheVariants.{Call36}
-use Rattle.linker_elf.specs.declared.elf.RelocationInstruction.{RelocationInstruction}
-use Rattle.linker_elf.specs.declared.elf.RelocationInstruction.TheVariants.{RiscV, Ppc64, LoongArch64, AArch64}
-use Rattle.linker_elf.specs.declared.elf.RelocationKind.{RelocationKind}
-use Rattle.linker_elf.specs.declared.elf.RelocationKindInfo.{RelocationKindInfo}
-use Rattle.linker_elf.specs.declared.elf.RelocationSize.{RelocationSize}
-use Rattle.linker_elf.specs.declared.elf.RelocationSize.TheVariants.{ByteSize, BitMasking}
+use Rattle.linker_elf.specs.Relocate.{is_of_uleb128}
+use Rattle.linker_elf.specs.declared.elf.RelocationInstruction.TheVariants.{AArch64}
 use Rattle.linker_section.proofs.Ulebs.{uleb_len_is, same_last}
 use Rattle.linker_section.specs.Fields.{uleb_len}
 use Rattle.linker_section.specs.Sections.{IsWritten, IsPairWritten}
 use Rattle.linker_section.specs.declared.facts.Addresses.{Addresses}
 use Rattle.linker_section.specs.declared.facts.Symbol.{Symbol}
 use Rattle.linker_section.specs.declared.relocations.Rela.{Rela}
-use Rattle.linker_elf.specs.declared.elf.architecture.Architecture.{Architecture}
 
 -- of a section only the bytes from an offset on change, as many as a field has
 pub record IsLocal (offset len : ℕ) (before after : List ℕ) : Type 0 where
@@ -40,16 +20,6 @@ pub record IsLocal (offset len : ℕ) (before after : List ℕ) : Type 0 where
   pub same_length : length after ≡ length before
 
 -- ---- a row
-
-pub window_at : (insn : RelocationInstruction) (bits : BitRange) (word : ℕ)
-    → (relocation_form (insn_at insn bits word)).window ≡ (relocation_form insn).window
-window_at (AArch64 Movnz) bits word =
-    cond_both (stays_movk (AArch64 Movnz) bits word) (AArch64 Movkz) (AArch64 Movnz)
-    (λ insn. (relocation_form insn).window ≡ (relocation_form (AArch64 Movnz)).window) (λ _. refl) (λ _. refl)
-window_at (AArch64 _) bits word = refl
-window_at (RiscV f) bits word = refl
-window_at (Ppc64 f) bits word = refl
-window_at (LoongArch64 f) bits word = refl
 
 small_aarch64 : (f : AArch64Instruction) → byte_len (relocation_form (AArch64 f)).window ≤ 8
 small_aarch64 Movnz = lit≤ tt
@@ -67,39 +37,35 @@ small_loongarch : (f : LoongArch64Instruction) → byte_len (relocation_form (Lo
 small_loongarch Call36 = lit≤ tt
 small_loongarch _ = lit≤ tt
 
-small_window : (insn : RelocationInstruction) → byte_len (relocation_form insn).window ≤ 8
+pub small_window : (insn : RelocationInstruction) → byte_len (relocation_form insn).window ≤ 8
 small_window (AArch64 f) = small_aarch64 f
 small_window (RiscV f) = small_riscv f
 small_window (Ppc64 f) = small_ppc64 f
 small_window (LoongArch64 f) = small_loongarch f
 
 pub small_bytes : (kind : RelocationKind) (n : ℕ) → takes_size kind (ByteSize n) ≡ true → n ≤ 8
-small_bytes kind n takes =
-    let parts = and_parts (nat_lt n 9) (not (is_of_uleb128 kind n)) takes in
+small_bytes kind n supported_size =
+    let parts = and_parts (nat_lt n 9) (not (is_of_uleb128 kind n)) supported_size in
     let l = ltb-true n 9 (parts.0) in omega (arith, l)
 
-small_size : (size : RelocationSize) (kind : RelocationKind) → takes_size kind size ≡ true
+pub small_size : (size : RelocationSize) (kind : RelocationKind) → takes_size kind size ≡ true
     → size_len size ≤ 8
-small_size (ByteSize n) kind takes = small_bytes kind n takes
-small_size (BitMasking bits insn) kind takes = small_window insn
+small_size (ByteSize n) kind supported_size = small_bytes kind n supported_size
+small_size (BitMasking bits insn) kind supported_size = small_window insn
 
 rest_same : (size : RelocationSize) (kind : RelocationKind) (v : ℤ) (before after : List ℕ)
     → takes_size kind size ≡ true → relocate.IsWritten size kind v before after
     → drop (size_len size) after ≡ drop (size_len size) before
-rest_same (ByteSize n) kind v before after takes written =
+rest_same (ByteSize n) kind v before after supported_size written =
     rw written (drop-append-drop n before _ n (omega arith)
-    (length-take-le n (to_le_bytes w64 _) (small_bytes kind n takes)))
-rest_same (BitMasking bits insn) kind v before after takes written =
+    (length-take-le n (to_le_bytes w64 _) (small_bytes kind n supported_size)))
+rest_same (BitMasking bits insn) kind v before after supported_size written =
     rw (← window_at insn bits (window_of (relocation_form insn) before)) written.rest
-
-pub takes : (row : RelocationKindInfo) → is_supported row ≡ true → takes_size row.kind row.size ≡ true
-takes row supported =
-    (and_parts (takes_size row.kind row.size) (nat_lt 0 row.alignment) (and_parts (takes_size row.kind row.size && nat_lt 0 row.alignment) (nat_lt row.alignment (2 ^ 63)) supported).0).0
 
 pub small_row : (row : RelocationKindInfo) (v : ℤ) (before after : List ℕ)
     → WritesRow row v before after → window_len row ≤ 8
 small_row row v before after written =
-    small_size row.size row.kind (takes row written.accepted.supported)
+    small_size row.size row.kind (supported_size row written.accepted.supported)
 
 pub one_local : (row : RelocationKindInfo) (v : ℤ) (offset : ℕ) (before after : List ℕ)
     → IsWritten row v offset before after → IsLocal offset (window_len row) before after
@@ -110,7 +76,7 @@ one_local row v offset before after w =
       kept = ap (take offset) w.around ∙ take_at (take offset before) w.rest offset n;
       following = sym (drop-drop (window_len row) offset after)
           ∙ (ap (drop (window_len row)) (ap (drop offset) w.around ∙ drop_at (take offset before) w.rest offset n)
-          ∙ (rest_same row.size row.kind v (drop offset before) w.rest (takes row w.written.accepted.supported) w.written.written
+          ∙ (rest_same row.size row.kind v (drop offset before) w.rest (supported_size row w.written.accepted.supported) w.written.written
           ∙ drop-drop (window_len row) offset before));
       same_length = w.same_length;
     }

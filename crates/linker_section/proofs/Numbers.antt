@@ -1,18 +1,11 @@
 -- Numbers that relocations compose, modulo the size of their field.
 use Rattle.std.proofs.Common.{Bool, ◌≡◌, ℕ, zero, suc, ℤ, pos, negsuc, ◌+ℤ◌, ◌-ℤ◌, neg_ℤ, ◌+◌, ◌-◌, ◌*◌, ◌/◌, ◌%◌, ◌^◌, ◌<◌, ◌≤◌, List, ◌++◌, length, take, true, false, inl, inr, refl, sym, ap, subst, ◌∙◌, arith, unsigned_abs}
-use Rattle.std.proofs.lemmas.Bool.{cases_Bool, cases_lt}
-use Rattle.std.proofs.lemmas.List.{get_or-take, get_or_append_left, get_or-append_right, get_or-replicate, get_or_past, length-take, length-replicate}
+use Rattle.linker_section.proofs.Imports.{cases_Bool, cases_lt, get_or-take, get_or_append_left, get_or-append_right, get_or-replicate, get_or_past, length-take, length-replicate, mod_below, mul-le, mod-eq_of_lt, pow-suc, slice_index, replicate, int_rem_euclid, byte_worth, sum_through, number_of_bytes, whole_number, SizeNumber, ByteSize, RelocationKind, never}
 use Rattle.std.proofs.lemmas.Int.{ints, int_rem_euclid_is}
-use Rattle.std.proofs.lemmas.Nat.{pow_pos, pow-add, mod_below, div-add-mod', mul-le, shr_below}
-use Rattle.std.proofs.Math.Nat.{mod-eq_of_lt, pow-suc, add-mul-mod_self_right}
-use Rattle.std.specs.Prelude.{slice_index, replicate}
-use Rattle.std.specs.Int.{int_rem_euclid, byte_worth, sum_through}
+use Rattle.std.proofs.lemmas.Nat.{pow_pos, pow-add, div-add-mod', shr_below}
+use Rattle.std.proofs.Math.Nat.{add-mul-mod_self_right}
 use Rattle.linker_elf.proofs.Agreement.{rem_rem, rem_below}
-use Rattle.linker_elf.specs.Relocate.{number_of_bytes, whole_number, SizeNumber}
-use Rattle.linker_elf.specs.declared.elf.RelocationSize.TheVariants.{ByteSize}
-use Rattle.linker_elf.specs.declared.elf.RelocationKind.{RelocationKind}
 use Rattle.linker_elf.specs.declared.elf.RelocationKind.TheVariants as kinds
-use Rattle.linker_section.proofs.Composing.{no}
 use Rattle.linker_section.specs.WrittenFields.{composed_with, HoldsWord6, HoldsNumber}
 
 -- ---- sums and differences modulo a number
@@ -147,9 +140,9 @@ plain_with : (kind : RelocationKind) (v c : ℤ) (a m : ℕ) → 0 < m → is_wo
     → int_rem_euclid (whole_number kind v a) (pos m) ≡ int_rem_euclid (composed_with kind v c) (pos m)
 plain_with kinds.AbsoluteAddition v c a m some plain same = same_sum (pos a) c v m some same
 plain_with kinds.AbsoluteSubtraction v c a m some plain same = same_difference (pos a) c v m some same
-plain_with kinds.AbsoluteSetWord6 v c a m some plain same = no (sym plain)
-plain_with kinds.AbsoluteAdditionWord6 v c a m some plain same = no (sym plain)
-plain_with kinds.AbsoluteSubtractionWord6 v c a m some plain same = no (sym plain)
+plain_with kinds.AbsoluteSetWord6 v c a m some plain same = never (sym plain)
+plain_with kinds.AbsoluteAdditionWord6 v c a m some plain same = never (sym plain)
+plain_with kinds.AbsoluteSubtractionWord6 v c a m some plain same = never (sym plain)
 plain_with _ v c a m some plain same = refl
 
 word6_whole : (kind : RelocationKind) (v : ℤ) (a : ℕ) → is_word6 kind ≡ true
@@ -157,7 +150,7 @@ word6_whole : (kind : RelocationKind) (v : ℤ) (a : ℕ) → is_word6 kind ≡ 
 word6_whole kinds.AbsoluteSetWord6 v a is = refl
 word6_whole kinds.AbsoluteAdditionWord6 v a is = refl
 word6_whole kinds.AbsoluteSubtractionWord6 v a is = refl
-word6_whole _ v a is = no is
+word6_whole _ v a is = never is
 
 word6_with : (kind : RelocationKind) (v c : ℤ) (a : ℕ) → is_word6 kind ≡ true
     → int_rem_euclid (pos a) (pos 64) ≡ int_rem_euclid c (pos 64)
@@ -165,7 +158,7 @@ word6_with : (kind : RelocationKind) (v c : ℤ) (a : ℕ) → is_word6 kind ≡
 word6_with kinds.AbsoluteSetWord6 v c a is same = refl
 word6_with kinds.AbsoluteAdditionWord6 v c a is same = same_sum (pos a) c v 64 (omega arith) same
 word6_with kinds.AbsoluteSubtractionWord6 v c a is same = same_difference (pos a) c v 64 (omega arith) same
-word6_with _ v c a is same = no is
+word6_with _ v c a is same = never is
 
 -- what a number of more than 6 bits is above its low 6 bits
 above_6 : (a k : ℕ) → a < 2 ^ (8 * suc k) → a / 64 < 2 ^ (8 * k + 2)
@@ -203,17 +196,17 @@ word6_step kind v c k a b is small low written =
 plain_from : (kind : RelocationKind) (n : ℕ) (c : ℤ) (old now : List ℕ) → is_word6 kind ≡ false
     → HoldsNumber kind n c old now
     → pos (number_of_bytes n now) ≡ int_rem_euclid c (pos (2 ^ (8 * n)))
-plain_from kinds.AbsoluteSetWord6 n c old now plain is = no (sym plain)
-plain_from kinds.AbsoluteAdditionWord6 n c old now plain is = no (sym plain)
-plain_from kinds.AbsoluteSubtractionWord6 n c old now plain is = no (sym plain)
+plain_from kinds.AbsoluteSetWord6 n c old now plain is = never (sym plain)
+plain_from kinds.AbsoluteAdditionWord6 n c old now plain is = never (sym plain)
+plain_from kinds.AbsoluteSubtractionWord6 n c old now plain is = never (sym plain)
 plain_from _ n c old now plain is = is
 
 plain_to : (kind : RelocationKind) (n : ℕ) (c : ℤ) (old now : List ℕ) → is_word6 kind ≡ false
     → pos (number_of_bytes n now) ≡ int_rem_euclid c (pos (2 ^ (8 * n)))
     → HoldsNumber kind n c old now
-plain_to kinds.AbsoluteSetWord6 n c old now plain is = no (sym plain)
-plain_to kinds.AbsoluteAdditionWord6 n c old now plain is = no (sym plain)
-plain_to kinds.AbsoluteSubtractionWord6 n c old now plain is = no (sym plain)
+plain_to kinds.AbsoluteSetWord6 n c old now plain is = never (sym plain)
+plain_to kinds.AbsoluteAdditionWord6 n c old now plain is = never (sym plain)
+plain_to kinds.AbsoluteSubtractionWord6 n c old now plain is = never (sym plain)
 plain_to _ n c old now plain is = is
 
 word6_from : (kind : RelocationKind) (n : ℕ) (c : ℤ) (old now : List ℕ) → is_word6 kind ≡ true
@@ -221,14 +214,14 @@ word6_from : (kind : RelocationKind) (n : ℕ) (c : ℤ) (old now : List ℕ) �
 word6_from kinds.AbsoluteSetWord6 n c old now word is = is
 word6_from kinds.AbsoluteAdditionWord6 n c old now word is = is
 word6_from kinds.AbsoluteSubtractionWord6 n c old now word is = is
-word6_from _ n c old now word is = no word
+word6_from _ n c old now word is = never word
 
 word6_to : (kind : RelocationKind) (n : ℕ) (c : ℤ) (old now : List ℕ) → is_word6 kind ≡ true
     → HoldsWord6 n c old now → HoldsNumber kind n c old now
 word6_to kinds.AbsoluteSetWord6 n c old now word is = is
 word6_to kinds.AbsoluteAdditionWord6 n c old now word is = is
 word6_to kinds.AbsoluteSubtractionWord6 n c old now word is = is
-word6_to _ n c old now word is = no word
+word6_to _ n c old now word is = never word
 
 -- nothing is composed yet
 pub holds_first : (kind : RelocationKind) (n : ℕ) (old : List ℕ) → number_of_bytes n old < 2 ^ (8 * n)

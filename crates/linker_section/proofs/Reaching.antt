@@ -1,12 +1,7 @@
 -- What is known of a section before and after some of its values are written.
 use Rattle.std.proofs.Common.{◌≡◌, ℕ, ℤ, ◌+◌, ◌-◌, ◌*◌, ◌^◌, ◌/◌, ◌<◌, ◌≤◌, List, length, drop, Option, None, inl, inr, Result, Ok, Err, leb, refl, sym, ap, subst, ◌∙◌, arith, eqb, true, false, true≢false}
-use Rattle.std.proofs.lemmas.Bool.{cases_eq, cond-false, or_left, or_right, ne_eqb, le-leb}
-use Rattle.std.proofs.lemmas.List.{drop-drop, length-drop}
-use Rattle.linker_elf.specs.Relocate.{window_len}
+use Rattle.linker_section.proofs.Imports.{cases_eq, cond-false, or_left, or_right, ne_eqb, le-leb, drop-drop, length-drop, window_len, RelocationKindInfo, RelocateError, slice_index, Architecture}
 use Rattle.linker_elf.specs.declared.elf.RelocationKind.TheVariants as kinds
-use Rattle.linker_elf.specs.declared.elf.RelocationKindInfo.{RelocationKindInfo}
-use Rattle.linker_elf.specs.declared.elf.relocate.RelocateError.{RelocateError}
-use Rattle.std.specs.Prelude.{slice_index}
 use Rattle.std.specs.Result.{is_err}
 use Rattle.linker_section.proofs.All.{all_relocated}
 use Rattle.linker_section.proofs.Runs.{fields_small}
@@ -16,14 +11,12 @@ use Rattle.linker_section.specs.Fields.{AreApart}
 use Rattle.linker_section.specs.Inner.Claims.{is_clear_of, next_field}
 use Rattle.linker_section.specs.Inner.Order.{AreSmall}
 use Rattle.linker_section.specs.declared.sections.Step.{Step}
-use Rattle.linker_section.specs.Inner.Steps.{Ascends, IsLimit, Reached, clear_in, field_of_row}
-use Rattle.linker_section.specs.Inner.Steps.{AreWrittenBelow, IsFirstRun, IsFront, IsOwnField, IsQuickStep}
+use Rattle.linker_section.specs.Inner.Steps.{Ascends, IsLimit, Reached, clear_in, field_of_row, AreWrittenBelow, IsFirstRun, IsFront, IsOwnField, IsQuickStep}
 use Rattle.linker_section.specs.Sections.{AreAllRelocated, AreRelocated, IsWritten, IsWrittenAt}
 use Rattle.linker_section.specs.Values.{offset_at}
 use Rattle.linker_section.specs.declared.facts.Addresses.{Addresses}
 use Rattle.linker_section.specs.declared.facts.Symbol.{Symbol}
 use Rattle.linker_section.specs.declared.fields.Field.{Field}
-use Rattle.linker_elf.specs.declared.elf.architecture.Architecture.{Architecture}
 
 pub below_first : (architecture : Architecture) (addresses : Addresses) (bytes : List ℕ)
     (symbols : List Symbol) (before memory : List ℕ)

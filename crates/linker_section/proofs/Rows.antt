@@ -1,26 +1,13 @@
 -- A code has one row.
 use Rattle.std.proofs.Common.{◌≡◌, ℕ, refl, sym, ap, ◌∙◌, Option, Some, None, ◌⊎◌, inl, inr}
-use Rattle.linker_elf.specs.AArch64Relocations.{aarch64_name, aarch64_row}
-use Rattle.linker_elf.specs.ElfNames.{ElfName, named, unnamed, IsNamed}
-use Rattle.linker_elf.specs.LoongArchRelocations.{loongarch_name, loongarch_row}
-use Rattle.linker_elf.specs.Ppc64Relocations.{ppc64_name, ppc64_row}
-use Rattle.linker_elf.specs.RiscVRelocations.{riscv_name, riscv_relocation}
-use Rattle.linker_elf.specs.X86Relocations.{x86_64_name, x86_64_row}
-use Rattle.linker_elf.specs.declared.aarch64.relocations.AArch64Relocation.{AArch64Relocation}
+use Rattle.linker_section.proofs.Imports.{aarch64_name, aarch64_row, ElfName, loongarch_name, loongarch_row, ppc64_name, ppc64_row, riscv_name, riscv_relocation, x86_64_name, x86_64_row, AArch64Relocation, RelocationKindInfo, LoongArch64Relocation, Ppc64Relocation, RiscVRelocation, X86_64Relocation, IsNamedValue, IsRow, Architecture, AArch64, X86_64}
+use Rattle.linker_elf.specs.ElfNames.{named, unnamed, IsNamed}
 use Rattle.linker_elf.specs.declared.aarch64.relocations.AArch64Relocation.TheVariants as aarch64_names
-use Rattle.linker_elf.specs.declared.elf.RelocationKindInfo.{RelocationKindInfo}
-use Rattle.linker_elf.specs.declared.loongarch64.relocations.LoongArch64Relocation.{LoongArch64Relocation}
 use Rattle.linker_elf.specs.declared.loongarch64.relocations.LoongArch64Relocation.TheVariants as loongarch64_names
-use Rattle.linker_elf.specs.declared.ppc64.relocations.Ppc64Relocation.{Ppc64Relocation}
 use Rattle.linker_elf.specs.declared.ppc64.relocations.Ppc64Relocation.TheVariants as ppc64_names
-use Rattle.linker_elf.specs.declared.riscv64.relocations.RiscVRelocation.{RiscVRelocation}
 use Rattle.linker_elf.specs.declared.riscv64.relocations.RiscVRelocation.TheVariants as riscv64_names
-use Rattle.linker_elf.specs.declared.x86_64.relocations.X86_64Relocation.{X86_64Relocation}
 use Rattle.linker_elf.specs.declared.x86_64.relocations.X86_64Relocation.TheVariants as x86_64_names
-use Rattle.linker_elf.specs.Architectures.{IsNamedValue, IsRow}
-use Rattle.linker_elf.specs.declared.elf.architecture.Architecture.{Architecture}
-use Rattle.linker_elf.specs.declared.elf.architecture.Architecture.TheVariants.{AArch64, RiscV, LoongArch64}
-use Rattle.linker_elf.specs.declared.elf.architecture.Architecture.TheVariants.{Ppc64, X86_64}
+use Rattle.linker_elf.specs.declared.elf.architecture.Architecture.TheVariants.{RiscV, LoongArch64, Ppc64}
 
 -- ---- names without a text have no row
 
@@ -46,11 +33,11 @@ x86_64_unnamed _ isnt = absurd (isnt tt)
 
 -- ---- so a code has one row
 
-is_named_or_not : (elf : ElfName) → IsNamed elf ⊎ (IsNamed elf → ⊥)
+pub is_named_or_not : (elf : ElfName) → IsNamed elf ⊎ (IsNamed elf → ⊥)
 is_named_or_not (named code text) = inl tt
 is_named_or_not (unnamed code) = inr (λ is. is)
 
-of_one : {Name A : Type 0} (elf : Name → ElfName) (value_of : Name → A) (none : A) (code : ℕ)
+pub of_one : {Name A : Type 0} (elf : Name → ElfName) (value_of : Name → A) (none : A) (code : ℕ)
     (x y : A) → ((name : Name) → (IsNamed (elf name) → ⊥) → value_of name ≡ none)
     → IsNamedValue elf value_of code x → IsNamedValue elf value_of code y → x ≡ y
 of_one elf value_of none code x y unnamed_is a b =

@@ -1,8 +1,6 @@
 -- Two runs of relocations by ascending offsets, gone through by offset.
 use Rattle.std.proofs.Common.{◌≡◌, ℕ, ◌+◌, ◌/◌, ◌<◌, ◌≤◌, List, length, drop, Some, true, false, sym, ap, subst, inl, inr, arith}
-use Rattle.std.proofs.lemmas.Bool.{cases_eq, cases_lt, cases_Bool, cond-false, or_left, or_right}
-use Rattle.linker_elf.specs.Relocate.{window_len}
-use Rattle.linker_elf.specs.declared.elf.RelocationKindInfo.{RelocationKindInfo}
+use Rattle.linker_section.proofs.Imports.{cases_eq, cases_lt, cases_Bool, cond-false, or_left, or_right, window_len, RelocationKindInfo, IsRow, Architecture}
 use Rattle.linker_section.proofs.Claims.{OneMore}
 use Rattle.linker_section.proofs.Local.{small_row}
 use Rattle.linker_section.proofs.Rows.{one_info}
@@ -17,8 +15,6 @@ use Rattle.linker_section.specs.Values.{has_value, offset_at}
 use Rattle.linker_section.specs.declared.facts.Addresses.{Addresses}
 use Rattle.linker_section.specs.declared.facts.Symbol.{Symbol}
 use Rattle.linker_section.specs.declared.relocations.Rela.{Rela}
-use Rattle.linker_elf.specs.Architectures.{IsRow}
-use Rattle.linker_elf.specs.declared.elf.architecture.Architecture.{Architecture}
 
 -- ---- fields are small
 

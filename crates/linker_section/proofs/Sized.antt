@@ -1,39 +1,16 @@
 -- Rows whose values compose are of whole bytes, and fields have at most ten.
 use Rattle.std.proofs.Common.{◌≡◌, ℕ, ◌≤◌, List, [], ◌∷◌, length, take, drop, Bool, true, false, refl, sym, ap, ◌∙◌, Option, Some, None, not, nat_le, nat_lt, subst, inl, inr, arith, ◌||◌}
-use Rattle.std.proofs.lemmas.Bool.{cases_Bool, leb-true, not-true, or_cases}
-use Rattle.std.proofs.lemmas.List.{length-take}
-use Rattle.linker_base.specs.declared.bit_misc.BitRange.{BitRange}
-use Rattle.linker_elf.specs.declared.elf.RelocationInstruction.{RelocationInstruction}
-use Rattle.linker_elf.specs.AArch64Relocations.{aarch64_name, aarch64_row}
-use Rattle.linker_elf.specs.ElfNames.{ElfName}
-use Rattle.linker_elf.specs.LoongArchRelocations.{loongarch_name, loongarch_row}
-use Rattle.linker_elf.specs.Ppc64Relocations.{ppc64_name, ppc64_row}
-use Rattle.linker_elf.specs.Relocate.{size_len, window_len}
-use Rattle.linker_elf.specs.RiscVRelocations.{riscv_name, riscv_relocation}
-use Rattle.linker_elf.specs.X86Relocations.{x86_64_name, x86_64_row}
-use Rattle.linker_elf.specs.declared.aarch64.relocations.AArch64Relocation.{AArch64Relocation}
+use Rattle.linker_section.proofs.Imports.{cases_Bool, leb-true, not-true, or_cases, length-take, BitRange, RelocationInstruction, aarch64_name, aarch64_row, ElfName, loongarch_name, loongarch_row, ppc64_name, ppc64_row, size_len, window_len, riscv_name, riscv_relocation, x86_64_name, x86_64_row, AArch64Relocation, RelocationKind, RelocationKindInfo, RelocationSize, ByteSize, BitMasking, LoongArch64Relocation, Ppc64Relocation, RiscVRelocation, X86_64Relocation, IsNamedValue, IsRow, Architecture, AArch64, X86_64, never}
 use Rattle.linker_elf.specs.declared.aarch64.relocations.AArch64Relocation.TheVariants as aarch64_names
-use Rattle.linker_elf.specs.declared.elf.RelocationKind.{RelocationKind}
 use Rattle.linker_elf.specs.declared.elf.RelocationKind.TheVariants as kinds
-use Rattle.linker_elf.specs.declared.elf.RelocationKindInfo.{RelocationKindInfo}
-use Rattle.linker_elf.specs.declared.elf.RelocationSize.{RelocationSize}
-use Rattle.linker_elf.specs.declared.elf.RelocationSize.TheVariants.{ByteSize, BitMasking}
-use Rattle.linker_elf.specs.declared.loongarch64.relocations.LoongArch64Relocation.{LoongArch64Relocation}
 use Rattle.linker_elf.specs.declared.loongarch64.relocations.LoongArch64Relocation.TheVariants as loongarch_names
-use Rattle.linker_elf.specs.declared.ppc64.relocations.Ppc64Relocation.{Ppc64Relocation}
 use Rattle.linker_elf.specs.declared.ppc64.relocations.Ppc64Relocation.TheVariants as ppc64_names
-use Rattle.linker_elf.specs.declared.riscv64.relocations.RiscVRelocation.{RiscVRelocation}
 use Rattle.linker_elf.specs.declared.riscv64.relocations.RiscVRelocation.TheVariants as riscv_names
-use Rattle.linker_elf.specs.declared.x86_64.relocations.X86_64Relocation.{X86_64Relocation}
 use Rattle.linker_elf.specs.declared.x86_64.relocations.X86_64Relocation.TheVariants as x86_64_names
-use Rattle.linker_section.proofs.Composing.{no}
 use Rattle.linker_section.proofs.Numbers.{is_word6}
 use Rattle.linker_section.specs.Fields.{changes_number, changes_bits, continues, IsField, field_len, is_of_pair, uleb_len}
 use Rattle.linker_section.specs.Values.{has_value, is_auipc, offset_at}
-use Rattle.linker_elf.specs.Architectures.{IsNamedValue, IsRow}
-use Rattle.linker_elf.specs.declared.elf.architecture.Architecture.{Architecture}
-use Rattle.linker_elf.specs.declared.elf.architecture.Architecture.TheVariants.{AArch64, RiscV, LoongArch64}
-use Rattle.linker_elf.specs.declared.elf.architecture.Architecture.TheVariants.{Ppc64, X86_64}
+use Rattle.linker_elf.specs.declared.elf.architecture.Architecture.TheVariants.{RiscV, LoongArch64, Ppc64}
 
 -- the kinds whose values compose
 abbrev pub is_composing : RelocationKind → Bool
@@ -53,17 +30,17 @@ first_composes kinds.AbsoluteSubtraction second on = refl
 first_composes kinds.AbsoluteSetWord6 second on = refl
 first_composes kinds.AbsoluteAdditionWord6 second on = refl
 first_composes kinds.AbsoluteSubtractionWord6 second on = refl
-first_composes _ second on = no on
+first_composes _ second on = never on
 
 number_composes : (second : RelocationKind) → changes_number second ≡ true → is_composing second ≡ true
 number_composes kinds.AbsoluteAddition on = refl
 number_composes kinds.AbsoluteSubtraction on = refl
-number_composes _ on = no on
+number_composes _ on = never on
 
 bits_compose : (second : RelocationKind) → changes_bits second ≡ true → is_composing second ≡ true
 bits_compose kinds.AbsoluteAdditionWord6 on = refl
 bits_compose kinds.AbsoluteSubtractionWord6 on = refl
-bits_compose _ on = no on
+bits_compose _ on = never on
 
 pub second_composes : (first second : RelocationKind) → continues first second ≡ true
     → is_composing second ≡ true
@@ -73,17 +50,17 @@ second_composes kinds.AbsoluteSubtraction second on = number_composes second on
 second_composes kinds.AbsoluteSetWord6 second on = bits_compose second on
 second_composes kinds.AbsoluteAdditionWord6 second on = bits_compose second on
 second_composes kinds.AbsoluteSubtractionWord6 second on = bits_compose second on
-second_composes _ second on = no on
+second_composes _ second on = never on
 
 number_plain : (second : RelocationKind) → changes_number second ≡ true → is_word6 second ≡ false
 number_plain kinds.AbsoluteAddition on = refl
 number_plain kinds.AbsoluteSubtraction on = refl
-number_plain _ on = no on
+number_plain _ on = never on
 
 bits_word6 : (second : RelocationKind) → changes_bits second ≡ true → is_word6 second ≡ true
 bits_word6 kinds.AbsoluteAdditionWord6 on = refl
 bits_word6 kinds.AbsoluteSubtractionWord6 on = refl
-bits_word6 _ on = no on
+bits_word6 _ on = never on
 
 -- values that compose are of as many bits
 pub alike : (first second : RelocationKind) → continues first second ≡ true
@@ -94,7 +71,7 @@ alike kinds.AbsoluteSubtraction second on = sym (number_plain second on)
 alike kinds.AbsoluteSetWord6 second on = sym (bits_word6 second on)
 alike kinds.AbsoluteAdditionWord6 second on = sym (bits_word6 second on)
 alike kinds.AbsoluteSubtractionWord6 second on = sym (bits_word6 second on)
-alike _ second on = no on
+alike _ second on = never on
 
 -- ---- rows
 
@@ -240,7 +217,7 @@ size_of : (size : RelocationSize) (kind : RelocationKind) (n : ℕ) → is_sized
     → is_composing kind ≡ true → size_len size ≡ n → size ≡ ByteSize n
 size_of (ByteSize m) kind n sized composing len = ap ByteSize len
 size_of (BitMasking bits insn) kind n sized composing len =
-    no (sym (ap not composing) ∙ sized)
+    never (sym (ap not composing) ∙ sized)
 
 -- a row of which a value composes is of whole bytes
 pub whole_bytes : (architecture : Architecture) (code : ℕ) (row : RelocationKindInfo) (n : ℕ)
@@ -266,6 +243,6 @@ pub auipc_valued : (architecture : Architecture) (code : ℕ) (row : RelocationK
     → IsRow architecture code (Some row) → is_auipc row.size ≡ true → has_value row.kind ≡ true
 auipc_valued architecture code row is_row auipc =
     elim (or_cases (not (is_auipc row.size)) (has_value row.kind) (valued architecture code (Some row) is_row)) [
-      | inl isnt ↦ no (sym (ap not auipc) ∙ isnt)
+      | inl isnt ↦ never (sym (ap not auipc) ∙ isnt)
       | inr has ↦ has
     ]

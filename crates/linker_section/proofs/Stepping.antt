@@ -1,26 +1,17 @@
 -- What is known of a section after one more relocation.
-use Rattle.std.proofs.Common.{◌≡◌, ◌≢◌, ℕ, ℤ, ◌+◌, ◌-◌, ◌/◌, ◌<◌, ◌≤◌, ◌⊎◌, ◌||◌, eqb, set, not, refl, sym, ap, subst, ◌∙◌, inl, inr, arith, true, false, true≢false, Bool, ◌++◌, List, length, take, drop, Option, Some, None}
-use Rattle.std.proofs.lemmas.Bool.{or_cases, or_parts, eqb-true, eqb-false, eq-eqb, ne_eqb, cases_eq, cases_Bool, cond-true, cond-false, and_parts, not-true, not-false}
-use Rattle.std.proofs.lemmas.List.{length-drop, drop_all, drop-drop, take-append-drop, get_or-set_other}
-use Rattle.linker_elf.specs.Relocate.{window_len, takes_size}
-use Rattle.linker_elf.specs.declared.elf.RelocationKind.{RelocationKind}
+use Rattle.std.proofs.Common.{◌≡◌, ◌≢◌, ℕ, ℤ, ◌+◌, ◌-◌, ◌/◌, ◌<◌, ◌≤◌, ◌⊎◌, ◌||◌, eqb, set, not, refl, sym, ap, subst, ◌∙◌, inl, inr, arith, true, false, true≢false, Bool, ◌++◌, List, length, take, drop, Option, Some, None, mod-eq_of_lt, ◌^◌}
+use Rattle.linker_section.proofs.Imports.{or_cases, or_parts, eqb-true, eq-eqb, ne_eqb, cases_eq, cases_Bool, cond-true, cond-false, and_parts, not-true, not-false, length-drop, drop_all, drop-drop, take-append-drop, get_or-set_other, window_len, takes_size, RelocationKind, RelocationKindInfo, RelocationSize, ByteSize, BitMasking, sum_64, slice_index, or_left, or_right, Ok, IfNone, IsRow, Architecture, never, supported_size}
+use Rattle.std.proofs.lemmas.Bool.{eqb-false}
 use Rattle.linker_elf.specs.declared.elf.RelocationKind.TheVariants as kinds
-use Rattle.linker_elf.specs.declared.elf.RelocationKindInfo.{RelocationKindInfo}
-use Rattle.linker_elf.specs.declared.elf.RelocationSize.{RelocationSize}
-use Rattle.linker_elf.specs.declared.elf.RelocationSize.TheVariants.{ByteSize, BitMasking}
 use Rattle.linker_section.proofs.Claims.{clear_cases, apart_more, claimed_more, overlapped, apart_pair, claimed_pair, apart_mark, claimed_mark, to_in, from_in, one_below, pair_below}
-use Rattle.linker_section.proofs.Composing.{no, second_is_none, begun_is_continued_none, begun_ends_none, ended_begins_none, ended_has_value, unvalued_begins_none, unvalued_ends_none}
-use Rattle.linker_section.proofs.Local.{IsLocal, one_local, pair_local, small_row, takes}
+use Rattle.linker_section.proofs.Composing.{second_is_none, begun_is_continued_none, begun_ends_none, ended_begins_none, ended_has_value, unvalued_begins_none, unvalued_ends_none}
+use Rattle.linker_section.proofs.Local.{IsLocal, one_local, pair_local, small_row}
 use Rattle.linker_section.proofs.Saving.{undone, restores_more, restores_by, restores_local, restores_pair, plus_one}
-use Rattle.linker_elf.specs.Value.{sum_64}
 use Rattle.linker_section.specs.Inner.Saved.{IsSavedAt, with_word, saved_place, Restores}
-use Rattle.std.specs.Prelude.{slice_index}
 use Rattle.linker_section.specs.declared.sections.RelocationError.{RelocationError}
 use Rattle.linker_section.specs.declared.sections.SectionError.{SectionError}
 use Rattle.linker_section.proofs.Rows.{one_info}
 use Rattle.linker_section.proofs.Ulebs.{some_uleb, uleb_len_is, uleb_len_most}
-use Rattle.std.proofs.Common.{mod-eq_of_lt, ◌^◌}
-use Rattle.std.proofs.lemmas.Bool.{or_left, or_right}
 use Rattle.linker_section.proofs.Valued.{no_value}
 use Rattle.linker_section.specs.Fields.{IsField, continues, field_end, field_len, begins_pair, ends_pair, is_of_pair, uleb_len, of_number, of_pair, AreApart, IsOverlapped}
 use Rattle.linker_section.specs.Inner.Claims.{is_clear_of, next_field, AreClaimed, HasField}
@@ -30,10 +21,7 @@ use Rattle.linker_section.specs.Sections.{IsWritten, BeginsPair, IsPairWritten, 
 use Rattle.linker_section.specs.Values.{has_value, offset_at, IsValue}
 use Rattle.linker_section.specs.declared.facts.Addresses.{Addresses}
 use Rattle.linker_section.specs.declared.facts.Symbol.{Symbol}
-use Rattle.std.specs.Prelude.{Ok, IfNone}
 use Rattle.linker_section.specs.declared.fields.Field.{Field}
-use Rattle.linker_elf.specs.Architectures.{IsRow}
-use Rattle.linker_elf.specs.declared.elf.architecture.Architecture.{Architecture}
 
 -- ---- the length of a field
 
@@ -93,7 +81,7 @@ same_len architecture bytes before now k last row order same has after clear =
           ]
     ]
 
--- it has no field, or its field is clear of the last
+-- it has never field, or its field is clear of the last
 pub data IsClearField (architecture : Architecture) (bytes before : List ℕ) (k : ℕ)
     (row : RelocationKindInfo) (field last : Field) : Type 0 where
   without : field.len ≡ 0
@@ -195,17 +183,17 @@ or_first x is = ap (λ y. y || false) is
 -- a row of a pair is written with the other only
 bytes_alone : (size : RelocationSize) (kind : RelocationKind) → takes_size kind size ≡ true
     → (begins_pair size kind || ends_pair size kind) ≡ false
-bytes_alone (ByteSize n) kinds.Relative takes =
-    or_first (eqb n 0) (not-true (eqb n 0) (and_parts _ (not (eqb n 0)) takes).1)
-bytes_alone (ByteSize n) kinds.PairSubtractionULEB128RiscV takes = no ((and_parts _ false takes).1)
-bytes_alone (ByteSize n) kinds.PairSubtractionULEB128LoongArch takes = no ((and_parts _ false takes).1)
-bytes_alone (ByteSize n) _ takes = refl
-bytes_alone (BitMasking bits insn) _ takes = refl
+bytes_alone (ByteSize n) kinds.Relative supported_size =
+    or_first (eqb n 0) (not-true (eqb n 0) (and_parts _ (not (eqb n 0)) supported_size).1)
+bytes_alone (ByteSize n) kinds.PairSubtractionULEB128RiscV supported_size = never ((and_parts _ false supported_size).1)
+bytes_alone (ByteSize n) kinds.PairSubtractionULEB128LoongArch supported_size = never ((and_parts _ false supported_size).1)
+bytes_alone (ByteSize n) _ supported_size = refl
+bytes_alone (BitMasking bits insn) _ supported_size = refl
 
 pub written_alone : (row : RelocationKindInfo) (v : ℤ) (offset : ℕ) (before after : List ℕ)
     → IsWritten row v offset before after → is_of_pair row ≡ false
 written_alone row v offset before after written =
-    bytes_alone row.size row.kind (takes row written.written.accepted.supported)
+    bytes_alone row.size row.kind (supported_size row written.written.accepted.supported)
 
 -- ---- bytes after a write
 
@@ -219,7 +207,7 @@ unchanged o w now after local none =
     ∙ (ap (λ x. take o now ++ x) (ap (λ n. drop n after) (sym (plus_none o w none)) ∙ (local.following ∙ ap (λ n. drop n now) (plus_none o w none)))
     ∙ take-append-drop o now))
 
-split : (o w offset : ℕ) → o + w ≤ offset → offset ≡ o + w + (offset - (o + w))
+pub split : (o w offset : ℕ) → o + w ≤ offset → offset ≡ o + w + (offset - (o + w))
 split o w offset following = omega (arith, following)
 
 pub drop_after : (o w offset : ℕ) (now after : List ℕ) → IsLocal o w now after

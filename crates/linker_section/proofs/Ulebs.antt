@@ -1,17 +1,11 @@
 -- How many bytes a ULEB128 number has.
 use Rattle.std.proofs.Common.{◌≡◌, ℕ, suc, zero, ◌+◌, ◌-◌, ◌*◌, ◌%◌, ◌^◌, ◌<◌, ◌≤◌, List, [], ◌∷◌, length, take, drop, cond, ltb, arith, refl, sym, ap, subst, ◌∙◌}
-use Rattle.std.proofs.Math.Nat.{pow-suc}
-use Rattle.std.proofs.lemmas.Nat.{mod_below, mul-le}
+use Rattle.linker_section.proofs.Imports.{pow-suc, mod_below, mul-le, RelocationKind, sum_through, cond_both, cond-true, cond-false, lt-ltb, le-ltb, drop_all, get_or-take, take-take, length-take, length-take-le, length-drop, slice_index, Uleb, AllContinue, uleb_number, IsUlebWritten}
 use Rattle.linker_base.proofs.UlebLemmas.{one_reading}
-use Rattle.linker_elf.specs.declared.elf.RelocationKind.{RelocationKind}
 use Rattle.linker_elf.specs.declared.elf.RelocationKind.TheVariants as kinds
 use Rattle.linker_section.specs.Sections.{IsNumberOfPair}
-use Rattle.std.specs.Int.{sum_through}
 use Rattle.std.specs.Prelude.{ℤ}
-use Rattle.std.proofs.lemmas.Bool.{cond_both, cond-true, cond-false, lt-ltb, le-ltb}
-use Rattle.std.proofs.lemmas.List.{drop_more, drop_all, get_or-take, take-take, length-take, length-take-le, length-drop}
-use Rattle.std.specs.Prelude.{slice_index}
-use Rattle.linker_base.specs.Uleb.{Uleb, AllContinue, uleb_number, IsUlebWritten}
+use Rattle.std.proofs.lemmas.List.{drop_more}
 use Rattle.linker_section.specs.Fields.{uleb_len}
 
 -- the number's last byte is the first below 0x80

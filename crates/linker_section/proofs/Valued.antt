@@ -1,12 +1,8 @@
 -- Which relocations have a value.
 use Rattle.std.proofs.Common.{◌≡◌, ℕ, ℤ, List, Bool, true, false, true≢false, refl, sym, subst, ◌∙◌, inl, inr, Option, Some, None, Result, Ok, Err}
-use Rattle.std.proofs.lemmas.Bool.{cases_Bool, cond-true, cond-false}
-use Rattle.linker_elf.specs.Value.{formula, value_of, read_signed}
-use Rattle.linker_elf.specs.declared.elf.RelocationKind.{RelocationKind}
+use Rattle.linker_section.proofs.Imports.{cases_Bool, cond-true, cond-false, value_of, RelocationKind, RelocationKindInfo, RelocationSize, Operands, slice_get, IsRow, Architecture}
+use Rattle.linker_elf.specs.Value.{formula, read_signed}
 use Rattle.linker_elf.specs.declared.elf.RelocationKind.TheVariants as kinds
-use Rattle.linker_elf.specs.declared.elf.RelocationKindInfo.{RelocationKindInfo}
-use Rattle.linker_elf.specs.declared.elf.RelocationSize.{RelocationSize}
-use Rattle.linker_elf.specs.declared.elf.value.Operands.{Operands}
 use Rattle.linker_section.proofs.Rows.{one_row}
 use Rattle.linker_section.specs.Sections.{HasValue, IsMark}
 use Rattle.linker_section.specs.Values.{has_value, names_label, lacks_origin, own_value, value_by, low_by, low_value, operands_of, IsValueBy, IsLowValue, IsValueIn, IsValue}
@@ -14,9 +10,6 @@ use Rattle.linker_section.specs.declared.facts.Addresses.{Addresses}
 use Rattle.linker_section.specs.declared.facts.Symbol.{Symbol}
 use Rattle.linker_section.specs.declared.relocations.Rela.{Rela}
 use Rattle.linker_section.specs.declared.values.ValueError.{ValueError}
-use Rattle.std.specs.Prelude.{slice_get}
-use Rattle.linker_elf.specs.Architectures.{IsRow}
-use Rattle.linker_elf.specs.declared.elf.architecture.Architecture.{Architecture}
 
 -- ---- what a result is
 

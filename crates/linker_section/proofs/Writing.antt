@@ -1,10 +1,7 @@
 -- A value that is written to the bytes from an offset on.
 use Rattle.std.proofs.Common.{◌≡◌, ℕ, ℤ, ◌≤◌, ◌∙◌, List, ◌++◌, length, take, drop, ap, arith, inl}
-use Rattle.std.proofs.lemmas.List.{take-append-drop}
-use Rattle.std.specs.Prelude.{Result, Ok, Err, OnOk, IfErr}
-use Rattle.linker_elf.specs.Relocate.{WritesRow, RejectsValue}
-use Rattle.linker_elf.specs.declared.elf.RelocationKindInfo.{RelocationKindInfo}
-use Rattle.linker_elf.specs.declared.elf.relocate.RelocateError.{RelocateError}
+use Rattle.linker_section.proofs.Imports.{take-append-drop, Ok, OnOk, IfErr, WritesRow, RejectsValue, RelocationKindInfo, RelocateError}
+use Rattle.std.specs.Prelude.{Result, Err}
 use Rattle.linker_section.specs.Conditions.{HasLength, HoldsOffset}
 use Rattle.linker_section.specs.Sections.{IsWrittenAt}
 

@@ -2,8 +2,7 @@
 -- another one if that doesn't hold, of the place of the first.
 use Rattle.std.proofs.Common.{◌≡◌, ◌↔◌, ◌≤◌, inl, inr, ℕ, ◌+◌, ◌-◌, List, [], ◌∷◌, sym, subst, arith}
 use Rattle.std.specs.Prelude.{◌⊎◌}
-use Rattle.linker_utils.specs.AArch64Rewrites.{IsDescriptorSequence, IsOfDescriptor, to_address, to_local_exec, halves_to_local_exec, to_initial_exec, IsEntryLoad, AArch64Applies, AArch64Choice, AArch64Entry, HasPattern, erased, descriptor_entries, GotPairIsChosenAlike, InitialExecIsChosenAlike, DescriptorIsChosenAlike}
-use Rattle.linker_utils.specs.AArch64Rewrites.{aarch64_matches}
+use Rattle.linker_utils.specs.AArch64Rewrites.{IsDescriptorSequence, IsOfDescriptor, to_address, to_local_exec, halves_to_local_exec, to_initial_exec, IsEntryLoad, AArch64Applies, AArch64Choice, AArch64Entry, HasPattern, erased, descriptor_entries, GotPairIsChosenAlike, InitialExecIsChosenAlike, DescriptorIsChosenAlike, aarch64_matches}
 use Rattle.linker_elf.specs.AArch64Relocations.{aarch64_row}
 use Rattle.linker_elf.specs.Choices.{AllHold, IsFirst, entry, choice, RowReaches, facts_on}
 use Rattle.linker_elf.specs.declared.aarch64.relocations.AArch64Relocation.{AArch64Relocation}

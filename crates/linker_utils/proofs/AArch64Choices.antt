@@ -2,9 +2,7 @@
 use Rattle.std.proofs.Common.{◌≡◌, ◌<◌, ◌≤◌, ℕ, ℤ, ◌+◌, ◌-◌, ◌%◌, ◌^◌, List, ap, ◌∙◌, refl, subst, arith, rules}
 use Rattle.std.specs.Prelude.{⊤}
 use Rattle.linker_base.specs.Rewrite.{CanRewrite, offset_after, addend_after}
-use Rattle.linker_utils.specs.AArch64Rewrites.{aarch64_rewrite, rd_of, rn_of}
-use Rattle.linker_utils.specs.AArch64Rewrites.{IsOfDescriptor, IsEntryLoad, AArch64Applies, AArch64Choice, IsAArch64Choice, aarch64_entries}
-use Rattle.linker_utils.specs.AArch64Rewrites.{IsAdrp, IsLdr64, aarch64_matches}
+use Rattle.linker_utils.specs.AArch64Rewrites.{aarch64_rewrite, rd_of, rn_of, IsOfDescriptor, IsEntryLoad, AArch64Applies, AArch64Choice, IsAArch64Choice, aarch64_entries, IsAdrp, IsLdr64, aarch64_matches}
 use Rattle.linker_elf.specs.Choices.{choice, operands_after}
 use Rattle.linker_elf.specs.Originals.{HasWord}
 use Rattle.linker_elf.specs.Value.{sum_64, difference_64}

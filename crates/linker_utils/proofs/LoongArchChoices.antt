@@ -7,9 +7,7 @@ use Rattle.linker_elf.specs.Originals.{HasWord}
 use Rattle.linker_elf.specs.declared.elf.choice.LinkFacts.{LinkFacts}
 use Rattle.linker_elf.specs.declared.loongarch64.relocations.LoongArch64Relocation.{LoongArch64Relocation}
 use Rattle.linker_elf.specs.declared.loongarch64.relocations.LoongArch64Relocation.TheVariants as r
-use Rattle.linker_utils.specs.LoongArchRewrites.{LoongArchChoice, LoongArchEntry, LoongArchApplies, IsLoongArchChoice, loongarch_entries, HasPattern, IsAfter, IsSingle, IsLowOfDescriptor}
-use Rattle.linker_utils.specs.LoongArchRewrites.{loongarch_matches, IsPair, IsAddi, IsLd, IsIntoOwnSource, word_at}
-use Rattle.linker_utils.specs.LoongArchRewrites.{loongarch_rewrite}
+use Rattle.linker_utils.specs.LoongArchRewrites.{LoongArchChoice, LoongArchEntry, LoongArchApplies, IsLoongArchChoice, loongarch_entries, HasPattern, IsAfter, IsSingle, IsLowOfDescriptor, loongarch_matches, IsPair, IsAddi, IsLd, IsIntoOwnSource, word_at, loongarch_rewrite}
 use Rattle.linker_utils.specs.declared.loongarch64.rewrites.RewriteKind.{RewriteKind}
 use Rattle.linker_utils.specs.declared.loongarch64.rewrites.RewriteKind.TheVariants as kinds
 

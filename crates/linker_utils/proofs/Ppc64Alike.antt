@@ -4,9 +4,8 @@ use Rattle.std.proofs.Common.{◌≡◌, ◌↔◌, inl, inr, ℕ, List, [], ◌
 use Rattle.std.specs.Int.{w32, from_le_bytes}
 use Rattle.std.proofs.lemmas.Bool.{and_parts, or_cases, eqb-true}
 use Rattle.linker_base.specs.Bits.{field}
-use Rattle.linker_utils.specs.Ppc64Rewrites.{HasMarked, is_add_of_thread, is_indexed_any, is_indexed, is_indexed_word, is_over_thread, is_access, is_word_access, is_store, keeps_base, access_of}
+use Rattle.linker_utils.specs.Ppc64Rewrites.{HasMarked, is_add_of_thread, is_indexed_any, is_indexed, is_indexed_word, is_over_thread, is_access, is_word_access, is_store, keeps_base, access_of, ppc64_entries, Ppc64Choice, Ppc64Applies, facts_at, IsAmong, TocPairsAreChosenAlike, ThreadPairsAreChosenAlike, GotPairIsChosenAlike, InitialExecPairIsChosenAlike, PrefixedInitialExecIsChosenAlike, GeneralDynamicIsChosenAlike, LocalDynamicIsChosenAlike}
 use Rattle.linker_elf.specs.Choices.{Entry, entry, IsFirst, choice}
-use Rattle.linker_utils.specs.Ppc64Rewrites.{ppc64_entries, Ppc64Choice, Ppc64Applies, facts_at, IsAmong, TocPairsAreChosenAlike, ThreadPairsAreChosenAlike, GotPairIsChosenAlike, InitialExecPairIsChosenAlike, PrefixedInitialExecIsChosenAlike, GeneralDynamicIsChosenAlike, LocalDynamicIsChosenAlike}
 use Rattle.linker_elf.specs.declared.elf.choice.LinkFacts.{LinkFacts}
 use Rattle.linker_elf.specs.declared.ppc64.relocations.Ppc64Relocation.{Ppc64Relocation}
 use Rattle.linker_elf.specs.declared.ppc64.relocations.Ppc64Relocation.TheVariants as r

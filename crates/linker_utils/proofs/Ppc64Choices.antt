@@ -6,9 +6,7 @@ use Rattle.linker_elf.proofs.ChoiceTables.{holds_of_first}
 use Rattle.linker_elf.specs.declared.elf.choice.Choice.{Choice}
 use Rattle.linker_elf.specs.declared.elf.choice.LinkFacts.{LinkFacts}
 use Rattle.linker_elf.specs.declared.ppc64.relocations.Ppc64Relocation.{Ppc64Relocation}
-use Rattle.linker_utils.specs.Ppc64Rewrites.{ppc64_entries, Ppc64Applies, IsPpc64Choice}
-use Rattle.linker_utils.specs.Ppc64Rewrites.{ppc64_matches}
-use Rattle.linker_utils.specs.Ppc64Rewrites.{ppc64_rewrite, rewrites_marked, to_move, direct}
+use Rattle.linker_utils.specs.Ppc64Rewrites.{ppc64_entries, Ppc64Applies, IsPpc64Choice, ppc64_matches, ppc64_rewrite, rewrites_marked, to_move, direct}
 use Rattle.linker_utils.specs.declared.ppc64.rewrites.RewriteKind.{RewriteKind}
 use Rattle.linker_utils.specs.declared.ppc64.rewrites.RewriteKind.TheVariants as kinds
 

@@ -2,7 +2,7 @@
 use Rattle.std.proofs.Common.{◌≡◌, ◌≢◌, ◌↔◌, ℕ, ◌+◌, ◌*◌, ◌/◌, ◌%◌, ◌^◌, ◌<◌, ◌⊎◌, Bool, true, false, refl, sym, ◌∙◌, ap, arith, bit_and, bit_or, inl, inr, IsTrue}
 use Rattle.std.specs.Bool.{⊤}
 use Rattle.std.specs.Prelude.{◌&&◌, ◌||◌, ◌==◌, not, nat_lt}
-use Rattle.std.proofs.lemmas.Bool.{agree_below, agree_below_at, and_parts, and_from, eqb-true, eq-eqb, ne_eqb, or_left, or_right, false≢true}
+use Rattle.std.proofs.lemmas.Bool.{agree_below, agree_below_at, and_parts, and_from, eqb-true, eq-eqb, ne_eqb, or_left, or_right, false≢true, or_cases}
 use Rattle.std.proofs.lemmas.Nat.{and_block, and_mask}
 use Rattle.std.proofs.Math.Bool as bools
 use Rattle.std.specs.Int.Bits.{or_zero_r}
@@ -130,13 +130,9 @@ indexed_word_tests w = (
       from_thread w _ t.0 t.1.0 t.1.1.0 (and_from _ _ (eq-eqb (field w 0 6) 0x2a low) (words w ∙ and_from _ _ set t.1.1.1.1.1.0))),
 )
 
-or_either : (a b : Bool) → (a || b) ≡ true → (a ≡ true) ⊎ (b ≡ true)
-or_either true b h = inl refl
-or_either false b h = inr h
-
 pub indexed_any_tests : (w : ℕ) → IsTrue (is_indexed_any w) ↔ Indexed ((field w 0 6 ≡ 0x2a) ⊎ (field w 0 6 ≡ 0x2e)) w
 indexed_any_tests w = (
-  λ h. elim (or_either (is_indexed w) (is_indexed_word w) h) [
+  λ h. elim (or_cases (is_indexed w) (is_indexed_word w) h) [
     | inl is ↦ (let t = (indexed_tests w).0 is in (t.0, (t.1.0, (t.1.1.0, (inr t.1.1.1.0, t.1.1.1.1)))))
     | inr is ↦ (let t = (indexed_word_tests w).0 is in (t.0, (t.1.0, (t.1.1.0, (inl t.1.1.1.0, t.1.1.1.1)))))
   ],

@@ -1,5 +1,5 @@
 -- What is chosen on RISC-V matches, and can be rewritten.
-use Rattle.std.proofs.Common.{ℕ, List, [], ◌∷◌, ◌≡◌, ◌↔◌, sym, subst, inl, inr, rules}
+use Rattle.std.proofs.Common.{ℕ, List, [], ◌∷◌, ◌≡◌, sym, subst, inl, inr, rules}
 use Rattle.std.specs.Bool.{⊤}
 use Rattle.std.specs.Int.{cast_unsigned, w64}
 use Rattle.linker_base.specs.Rewrite.{CanRewrite}
@@ -8,16 +8,9 @@ use Rattle.linker_elf.specs.Value.{sum_64}
 use Rattle.linker_elf.specs.declared.elf.choice.LinkFacts.{LinkFacts}
 use Rattle.linker_elf.specs.declared.riscv64.relocations.RiscVRelocation.{RiscVRelocation}
 use Rattle.linker_elf.specs.declared.riscv64.relocations.RiscVRelocation.TheVariants as r
-use Rattle.linker_utils.specs.RiscVRewrites.{RiscVEntry, RiscVChoice, AppliesToRiscV, HasPattern, IsRiscVChoice, riscv_entries}
-use Rattle.linker_utils.specs.RiscVRewrites.{riscv_matches}
-use Rattle.linker_utils.specs.RiscVRewrites.{riscv_rewrite, FitsClui}
+use Rattle.linker_utils.specs.RiscVRewrites.{RiscVEntry, RiscVChoice, AppliesToRiscV, HasPattern, IsRiscVChoice, riscv_entries, riscv_matches, riscv_rewrite, FitsClui}
 use Rattle.linker_utils.specs.declared.riscv64.rewrites.RewriteKind.{RewriteKind}
 use Rattle.linker_utils.specs.declared.riscv64.rewrites.RewriteKind.TheVariants as kinds
-
--- ---- the code's table
-
-pub same : (P : Type 0) → P ↔ P
-same P = (λ h. h, λ h. h)
 
 -- ---- what holds of the choice of each entry that applies
 

@@ -6,8 +6,7 @@ use Rattle.linker_elf.specs.X86Relocations.{x86_64_row}
 use Rattle.linker_elf.specs.declared.elf.choice.Choice.{Choice}
 use Rattle.linker_elf.specs.declared.elf.choice.LinkFacts.{LinkFacts}
 use Rattle.linker_elf.specs.declared.x86_64.relocations.X86_64Relocation.{X86_64Relocation}
-use Rattle.linker_utils.specs.X86Rewrites.{Table, HasPattern, IsByTable, x86_64_after}
-use Rattle.linker_utils.specs.X86Rewrites.{x86_64_matches}
+use Rattle.linker_utils.specs.X86Rewrites.{Table, HasPattern, IsByTable, x86_64_after, x86_64_matches}
 use Rattle.linker_utils.specs.declared.x86_64.rewrites.RewriteKind.{RewriteKind}
 use Rattle.linker_utils.specs.declared.x86_64.rewrites.RewriteKind.TheVariants as kinds
 

@@ -1,7 +1,7 @@
 -- The bytes of an instruction, as a loop over them compares.
 use Rattle.std.proofs.Common.{◌≡◌, ℕ, ◌+◌, ◌-◌, ◌<◌, ◌≤◌, ◌∙◌, Bool, true, false, true≢false, subst, List, [], ◌∷◌, length, get_or, drop, refl, sym, ap, arith, bit_and, eqb, leb, add-one}
 use Rattle.std.specs.Prelude.{◌&&◌, ◌||◌, ◌^◌, ◌%◌, slice_index}
-use Rattle.std.proofs.lemmas.Bool.{eq-eqb, eqb-true, ne_eqb, le-leb, leb-true, lt-leb}
+use Rattle.std.proofs.lemmas.Bool.{eq-eqb, eqb-true, ne_eqb, le-leb, leb-true, lt-leb, and_parts}
 use Rattle.std.proofs.lemmas.Nat.{and_mask}
 use Rattle.std.proofs.Math.Bool.{and-false}
 use Rattle.std.proofs.Math.Seq.{drop-cons}
@@ -50,20 +50,16 @@ too_low ps bs back o low = sym (rw (lt-leb back o low) refl)
 
 -- ---- the opcode of what is there
 
-both : (a b : Bool) → (a && b) ≡ true → (a ≡ true) × (b ≡ true)
-both true b h = (refl, h)
-both false b h = absurd (true≢false (sym h))
-
 alone : (a : Bool) → (a || false) ≡ true → a ≡ true
 alone true h = refl
 alone false h = absurd (true≢false (sym h))
 
 second_byte : (p q : ℕ × ℕ) (ps : List (ℕ × ℕ)) (bs : List ℕ) → begins (p ∷ q ∷ ps) bs ≡ true → bit_and (get_or bs 1 0) q.0 ≡ q.1
 second_byte p q ps [] h = absurd (true≢false (sym h))
-second_byte p q ps (a ∷ []) h = absurd (true≢false (sym (both (eqb (bit_and a p.0) p.1) false h).1))
+second_byte p q ps (a ∷ []) h = absurd (true≢false (sym (and_parts (eqb (bit_and a p.0) p.1) false h).1))
 second_byte p q ps (a ∷ b ∷ bs) h =
     eqb-true (bit_and b q.0) q.1
-    (both (eqb (bit_and b q.0) q.1) (begins ps bs) (both (eqb (bit_and a p.0) p.1) (begins (q ∷ ps) (b ∷ bs)) h).1).0
+    (and_parts (eqb (bit_and b q.0) q.1) (begins ps bs) (and_parts (eqb (bit_and a p.0) p.1) (begins (q ∷ ps) (b ∷ bs)) h).1).0
 
 low_byte : (b opcode : ℕ) → b < 256 → bit_and b 0xff ≡ opcode → opcode ≡ b
 low_byte b opcode small is =
@@ -73,7 +69,7 @@ low_byte b opcode small is =
 -- that of an instruction with REX is two bytes before the field
 pub opcode_is : (s : List ℕ) (o opcode : ℕ) → ((i : ℕ) → get_or s i 0 < 256) → is_one_at (legacy 3 opcode) s o ≡ true → opcode ≡ slice_index s (o - 2)
 opcode_is s o opcode small is =
-    let there = both (leb 3 o) (begins (with_rex rex opcode).bytes (drop (o - 3) s)) (alone (is_at (with_rex rex opcode) s o) is) in
+    let there = and_parts (leb 3 o) (begins (with_rex rex opcode).bytes (drop (o - 3) s)) (alone (is_at (with_rex rex opcode) s o) is) in
     let low : 3 ≤ o = leb-true 3 o there.0 in
     let second : bit_and (get_or (drop (o - 3) s) 1 0) 0xff ≡ opcode = second_byte rex (0xff, opcode) (rip ∷ field4) (drop (o - 3) s) there.1 in
     let at : o - 3 + 1 ≡ o - 2 = omega (arith, low) in

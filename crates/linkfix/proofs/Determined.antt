@@ -1,5 +1,5 @@
 -- The lines of an input take its section through the same states, but for the bytes of the section.
-use Rattle.std.proofs.Common.{◌≡◌, ◌≢◌, ℕ, zero, suc, List, [], ◌∷◌, ◌++◌, length, take, get_or, Vec, Some, inl, inr, refl, sym, ap, subst, ◌∙◌, ⊎_elim, arith}
+use Rattle.std.proofs.Common.{◌≡◌, ◌≢◌, ℕ, List, [], ◌∷◌, ◌++◌, length, take, get_or, Vec, Some, inl, inr, refl, sym, ap, subst, ◌∙◌, ⊎_elim, arith}
 use Rattle.std.specs.Prelude.{◌⊎◌, All, Contains}
 use Rattle.std.proofs.lemmas.List.Elements.{All-contains}
 use Rattle.std.proofs.lemmas.List.Sorted.{Contains-permutation, IsPermutation-sym, IsPermutation-trans}
@@ -7,7 +7,7 @@ use Rattle.std.specs.Global.{Global}
 use Rattle.std.specs.Io.BufRead.{drop_through, first_line}
 use Rattle.linker_utils.specs.Deletions.{AreDisjoint, HasInput, IsSortedUnion}
 use Rattle.linker_base.proofs.Rank.{all_pairs_head, all_pairs_tail}
-use Rattle.linker_base.proofs.Unions.{union_once}
+use Rattle.linker_base.proofs.Unions.{union_once, contains_cases, contains_head, contains_tail}
 use Rattle.linker_utils.specs.Packing.{AreApart, CanJump, IsApart, IsFirstRejected, IsRejected}
 use Rattle.linker_utils.specs.CallError.{CallError}
 use Rattle.linker_utils.specs.CallError.TheVariants.{OutOfSection, SiteDeleted, OddDistance, TooFar}
@@ -29,16 +29,6 @@ use Rattle.linkfix.specs.declared.program.SectionState.{SectionState}
 record HaveSame (xs ys : List (ℕ × ℕ)) : Type 0 where
   there : (d : ℕ × ℕ) → Contains xs d → Contains ys d
   back : (d : ℕ × ℕ) → Contains ys d → Contains xs d
-
-contains_head : (d : ℕ × ℕ) (ds : List (ℕ × ℕ)) → Contains (d ∷ ds) d
-contains_head d ds = (0, omega arith, refl)
-
-contains_tail : (d e : ℕ × ℕ) (ds : List (ℕ × ℕ)) → Contains ds e → Contains (d ∷ ds) e
-contains_tail d e ds (k, within, at) = (suc k, omega arith, at)
-
-contains_cases : (d e : ℕ × ℕ) (ds : List (ℕ × ℕ)) → Contains (d ∷ ds) e → Contains ds e ⊎ (d ≡ e)
-contains_cases d e ds (zero, within, at) = inr at
-contains_cases d e ds (suc k, within, at) = inl (k, omega arith, at)
 
 -- lists by ascending site that have the same calls are equal
 same_apart : (xs ys : List (ℕ × ℕ)) → AreApart xs → AreApart ys → HaveSame xs ys → xs ≡ ys

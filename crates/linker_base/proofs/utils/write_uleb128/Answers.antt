@@ -3,8 +3,7 @@ use Rattle.std.proofs.lemmas.List.{drop-set-lt, get_or-set_other, get_or-set_sam
 use Rattle.linker_base.proofs.UlebLemmas.{above_shift, is_written, pow_128}
 use Rattle.linker_base.specs.Uleb.{uleb_number}
 use Rattle.linker_base.proofs.utils.write_uleb128.Goals as goal
-use Rattle.linker_base.proofs.utils.write_uleb128.Goals.{else-last-lt9-via-else-last-lt9}
-use Rattle.linker_base.proofs.utils.write_uleb128.Goals.{else-last-lt9-via-then-last-lt9+else-value-last-ne0}
+use Rattle.linker_base.proofs.utils.write_uleb128.Goals.{else-last-lt9-via-else-last-lt9, else-last-lt9-via-then-last-lt9+else-value-last-ne0}
 
 pub returns-then-value-last-ne0-clause-err : goal.returns-then-value-last-ne0-clause-err
 returns-then-value-last-ne0-clause-err c =

@@ -1,6 +1,5 @@
 use Rattle.linker_output.proofs.Ppc64StubLaws.{loads_go, jumps_go, first_stores}
-use Rattle.linker_output.proofs.Ppc64TocLaws.{toc_loads_go, toc_reaches_go}
-use Rattle.linker_output.proofs.Ppc64TocLaws.{prefixed_loads_go, prefixed_jumps_go}
+use Rattle.linker_output.proofs.Ppc64TocLaws.{toc_loads_go, toc_reaches_go, prefixed_loads_go, prefixed_jumps_go}
 use Rattle.linker_output.proofs.laws.ppc64.Goals as goal
 
 pub returns-clause-loads : goal.returns-clause-loads

@@ -1,5 +1,4 @@
-use Rattle.std.proofs.Common.{◌≡◌, ◌+◌, ◌++◌, ◌∷◌, ◌≤◌, sym, subst, arith, rules, refl, length}
-use Rattle.std.proofs.Common.{take, drop}
+use Rattle.std.proofs.Common.{◌≡◌, ◌+◌, ◌++◌, ◌∷◌, ◌≤◌, sym, subst, arith, rules, refl, length, take, drop}
 use Rattle.std.proofs.lemmas.List.{length-take-le}
 use Rattle.linker_output.proofs.LazyCode.{placed}
 use Rattle.linker_output.proofs.lazy_plt.+write_pieces.Goals as goal

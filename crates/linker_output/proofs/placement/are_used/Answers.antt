@@ -1,6 +1,5 @@
 use Rattle.std.proofs.Common.{arith, false, sym, ◌∙◌}
-use Rattle.std.proofs.lemmas.Bool.{false≢true}
-use Rattle.std.proofs.lemmas.List.{get_or_read}
+use Rattle.linker_output.proofs.Imports.{false≢true, get_or_read}
 use Rattle.linker_output.proofs.placement.are_used.Goals as goal
 
 pub returns-clause-used : goal.returns-clause-used

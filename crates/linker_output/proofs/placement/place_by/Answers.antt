@@ -7,8 +7,7 @@ use Rattle.linker_output.specs.declared.placement.Layout.{Layout}
 use Rattle.linker_output.specs.declared.placement.Placement.{Placement}
 use Rattle.linker_output.specs.declared.placement.State.{State}
 use Rattle.linker_output.specs.Placement.{AllGo, IsCode, IsLaidOut, IsLayout}
-use Rattle.linker_output.specs.Inner.Placement.{ArePlaces, AreServed, AreStubsOf, IsState}
-use Rattle.linker_output.specs.Inner.Placement.{IsStuckIn}
+use Rattle.linker_output.specs.Inner.Placement.{ArePlaces, AreServed, AreStubsOf, IsState, IsStuckIn}
 use Rattle.linker_output.proofs.Apart.{layout_is}
 use Rattle.linker_output.proofs.Bounds.{few_stubs}
 use Rattle.linker_output.proofs.Going.{all_go, goes_all, shared_all, spared_all, used_all}

@@ -2,8 +2,7 @@ use Rattle.std.proofs.Common.{arith, ◌≡◌, ◌+◌, ◌++◌, ◌∷◌, []
 use Rattle.std.proofs.lemmas.List.{drop_more, length-append}
 use Rattle.linker_output.specs.Properties.{property_words}
 use Rattle.linker_output.specs.declared.properties.Property.{Property}
-use Rattle.linker_output.proofs.WrittenProperties.{Words, none_yet, one_more, word_count, puts_none}
-use Rattle.linker_output.proofs.WrittenProperties.{puts_append}
+use Rattle.linker_output.proofs.WrittenProperties.{Words, none_yet, one_more, word_count, puts_none, puts_append}
 use Rattle.linker_output.proofs.properties.encode.Goals as goal
 
 pub loop-index-init : goal.loop-index-init

@@ -1,15 +1,11 @@
-use Rattle.std.proofs.Common.{arith, ◌≡◌, ◌≤◌, ◌+◌, ◌∷◌, ◌++◌, ◌∙◌, [], List, Some, None, Ok, refl}
-use Rattle.std.proofs.Common.{sym, set, length}
+use Rattle.std.proofs.Common.{arith, ◌≡◌, ◌≤◌, ◌+◌, ◌∷◌, ◌++◌, ◌∙◌, [], List, Some, None, Ok, refl, sym, set, length}
 use Rattle.std.proofs.lemmas.List.{length-append}
 use Rattle.linker_output.specs.Properties.{merged_kind, merged, rule_of, of_kind}
 use Rattle.linker_output.specs.Inner.Properties.{put_all}
 use Rattle.linker_output.specs.declared.properties.Property.{Property}
-use Rattle.linker_output.proofs.MergedProperties.{SoFar, skip, begun, with, without, merged_is}
-use Rattle.linker_output.proofs.MergedProperties.{put_more, whole}
+use Rattle.linker_output.proofs.MergedProperties.{SoFar, skip, begun, with, without, merged_is, put_more, whole}
 use Rattle.linker_output.proofs.properties.merge_into.Goals as goal
-use Rattle.linker_output.proofs.properties.merge_into.Goals.{in-Some+in_ok-merged+in-Some-merged}
-use Rattle.linker_output.proofs.properties.merge_into.Goals.{in-Some+in_ok-merged+in_default-merged}
-use Rattle.linker_output.proofs.properties.merge_into.Goals.{in_default}
+use Rattle.linker_output.proofs.properties.merge_into.Goals.{in-Some+in_ok-merged+in-Some-merged, in-Some+in_ok-merged+in_default-merged, in_default}
 
 pub loop-kind-init : goal.loop-kind-init
 loop-kind-init c =

@@ -1,11 +1,7 @@
-use Rattle.std.proofs.Common.{arith}
+use Rattle.std.proofs.Common.{arith, ◌∙◌, ap, append_assoc, length, take, drop, ◌+◌, ◌++◌, ◌<◌}
 use Rattle.linker_output.specs.Properties.{bytes_of}
 use Rattle.linker_output.proofs.properties.put_word.Goals as goal
-use Rattle.std.proofs.Common.{◌∙◌, ap, append_assoc, length, take, drop, ◌+◌, ◌++◌, ◌<◌}
-use Rattle.linker_output.proofs.properties.put_word.Goals.{then-note-ge8+then-at-note}
-use Rattle.linker_output.proofs.properties.put_word.Goals.{else-note-ge8}
-use Rattle.linker_output.proofs.properties.put_word.Goals.{else-note-ge8-via-then-note-ge8+else-at-note}
-use Rattle.linker_output.proofs.properties.put_word.Goals.{else-note-ge8-via-else-note-ge8}
+use Rattle.linker_output.proofs.properties.put_word.Goals.{then-note-ge8+then-at-note, else-note-ge8, else-note-ge8-via-then-note-ge8+else-at-note, else-note-ge8-via-else-note-ge8}
 
 pub returns-clause-written : goal.returns-clause-written
 unfolding bytes_of

@@ -1,12 +1,10 @@
 use Rattle.std.proofs.Common.{◌+◌, length, drop, arith, get_or, ◌∷◌, subst}
-use Rattle.std.proofs.Math.Facts.{Fits-lt-pow}
-use Rattle.std.proofs.lemmas.List.{drop_more}
+use Rattle.linker_output.proofs.Imports.{Fits-lt-pow, drop_more}
 use Rattle.linker_output.specs.Inner.Relr.{put_all, capped}
 use Rattle.linker_output.specs.Relr.{relocated, word_fault}
 use Rattle.linker_output.proofs.RelrLists.{Reads, reads_address, reads_bitmap}
 use Rattle.linker_output.proofs.relr.decode.Goals as goal
-use Rattle.linker_output.proofs.relr.decode.Goals.{then-word-eq0+else-word-ne0}
-use Rattle.linker_output.proofs.relr.decode.Goals.{else-word-eq0+in_ok-count}
+use Rattle.linker_output.proofs.relr.decode.Goals.{then-word-eq0+else-word-ne0, else-word-eq0+in_ok-count}
 
 pub loop-word-preserved : goal.loop-word-preserved
 loop-word-preserved c =

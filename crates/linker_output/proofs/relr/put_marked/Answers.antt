@@ -3,8 +3,7 @@ use Rattle.std.proofs.lemmas.Nat.Bits.{shr_and_one}
 use Rattle.std.specs.Int.{bit_at}
 use Rattle.linker_output.proofs.RelrLists.{marks_none, marks_without, marks_with, marked_wraps}
 use Rattle.linker_output.proofs.relr.put_marked.Goals as goal
-use Rattle.linker_output.proofs.relr.put_marked.Goals.{then-bitmap-bit-eq1+else-address}
-use Rattle.linker_output.proofs.relr.put_marked.Goals.{else-bitmap-bit-eq1}
+use Rattle.linker_output.proofs.relr.put_marked.Goals.{then-bitmap-bit-eq1+else-address, else-bitmap-bit-eq1}
 
 pub loop-bit-init : goal.loop-bit-init
 loop-bit-init c = marks_none c.args.base c.args.bitmap c.args.index c.args.addresses.now (omega arith)

@@ -1,6 +1,5 @@
 use Rattle.std.proofs.Common.{◌≡◌, ◌≤◌, true, arith, length, ◌∙◌}
-use Rattle.std.proofs.Math.Facts.{Fits-lt-pow}
-use Rattle.std.proofs.lemmas.Result.{IfOk-weaker, err_from_is_err_and}
+use Rattle.linker_output.proofs.Imports.{Fits-lt-pow, IfOk-weaker, err_from_is_err_and}
 use Rattle.linker_output.specs.Relr.{are_addresses, WritesPacked}
 use Rattle.linker_output.specs.Inner.Relr.{words_of}
 use Rattle.linker_output.proofs.RelrPacked.{packs, rejected, few_words}

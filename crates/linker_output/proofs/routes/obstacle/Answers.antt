@@ -1,10 +1,6 @@
-use Rattle.std.proofs.Common.{rules, ◌≡◌, ◌≤◌, ℕ, ℤ, List, length, drop, subst, arith, IfNone}
-use Rattle.std.proofs.Common.{IfSome, Option, Some, None}
+use Rattle.std.proofs.Common.{rules, ◌≡◌, ◌≤◌, ℕ, ℤ, List, length, drop, subst, arith, IfNone, IfSome, Option, Some, None}
 use Rattle.std.proofs.lemmas.List.{take_rest}
-use Rattle.std.specs.Int.{w64, cast_signed, cast_unsigned}
-use Rattle.linker_elf.specs.Relocate.{IsAccepted, IsCause}
-use Rattle.linker_elf.specs.declared.elf.RelocationKindInfo.{RelocationKindInfo}
-use Rattle.linker_elf.specs.declared.elf.relocate.RelocateError.{RelocateError}
+use Rattle.linker_output.proofs.Imports.{w64, cast_signed, cast_unsigned, IsAccepted, IsCause, RelocationKindInfo, RelocateError}
 use Rattle.linker_output.specs.Routes.{IsObstacle}
 use Rattle.linker_output.proofs.routes.obstacle.Goals as goal
 

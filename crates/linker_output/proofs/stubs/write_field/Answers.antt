@@ -1,9 +1,7 @@
 use Rattle.std.proofs.Common.{Some, ◌≡◌, ◌∙◌, subst, sym, ap, rules}
-use Rattle.std.specs.Int.{w64, cast_signed, cast_unsigned}
-use Rattle.linker_elf.specs.Value.{value_of}
+use Rattle.linker_output.proofs.Imports.{w64, cast_signed, cast_unsigned, value_of, IsRow}
 use Rattle.linker_output.proofs.StubFields.{not_allowed, field_written, field_rejected}
 use Rattle.linker_output.proofs.stubs.write_field.Goals as goal
-use Rattle.linker_elf.specs.Architectures.{IsRow}
 
 pub returns-then-not-contains-clause-err : goal.returns-then-not-contains-clause-err
 returns-then-not-contains-clause-err c =

@@ -1,8 +1,6 @@
 use Rattle.std.proofs.Common.{◌≡◌, ◌≤◌, ◌-◌, ◌^◌, ◌∙◌, ap, arith, refl, sym, subst}
-use Rattle.std.specs.Int.{w64, cast_unsigned}
+use Rattle.linker_reading.proofs.Imports.{w64, cast_unsigned, mod_below, pow_pos, mod_mod}
 use Rattle.std.proofs.lemmas.Int.{to_z-of_z}
-use Rattle.std.proofs.lemmas.Nat.{mod_below, pow_pos}
-use Rattle.linker_base.proofs.Fields.{mod_mod}
 use Rattle.linker_reading.proofs.Ranges.{moved_fits}
 use Rattle.linker_reading.proofs.Reached.{reach_leaves}
 use Rattle.linker_reading.specs.Fields.{IsOfValue}

@@ -1,9 +1,5 @@
-use Rattle.std.proofs.Common.{◌≡◌, ℕ, ◌<◌, ◌^◌, ◌-◌, ◌*◌, ◌+◌, ◌%◌, arith, rules, subst, true}
-use Rattle.std.proofs.Common.{ap, ◌∙◌}
-use Rattle.std.specs.Prelude.{◌==◌, ◌&&◌}
-use Rattle.std.proofs.lemmas.Bool.{eq-eqb}
-use Rattle.std.proofs.lemmas.Nat.{mod_below, pow_pos}
-use Rattle.linker_base.proofs.Immediates.{subst_below}
+use Rattle.std.proofs.Common.{◌≡◌, ℕ, ◌<◌, ◌^◌, ◌-◌, ◌*◌, ◌+◌, ◌%◌, arith, rules, subst, true, ap, ◌∙◌}
+use Rattle.linker_reading.proofs.Imports.{◌==◌, ◌&&◌, eq-eqb, mod_below, pow_pos, subst_below}
 use Rattle.linker_reading.proofs.Ranges.{moved_fits}
 use Rattle.linker_reading.proofs.Shifts.{bits_below, joined_halves, above}
 use Rattle.linker_reading.proofs.solving.join.Goals as goal

@@ -1,7 +1,5 @@
 use Rattle.std.proofs.Common.{◌≡◌, ◌≤◌, ◌↔◌, true, false, Some, sym, ◌∙◌, ap, subst}
-use Rattle.std.specs.Prelude.{not, ◌&&◌, ◌==◌, nat_lt, if◌then◌else◌}
-use Rattle.linker_base.specs.Bits.{field}
-use Rattle.linker_elf.specs.Value.{page_if, difference_64, sum_64, bias_number}
+use Rattle.linker_reading.proofs.Imports.{not, ◌&&◌, ◌==◌, nat_lt, if◌then◌else◌, field, page_if, difference_64, sum_64, bias_number}
 use Rattle.linker_reading.specs.Fields.{FieldHolds}
 use Rattle.linker_reading.specs.Solving.{is_paged, is_solvable, terms_of, base, has_base}
 use Rattle.linker_reading.proofs.Formulas.{solves, rounding_after, known_above}

@@ -1,7 +1,6 @@
 use Rattle.std.proofs.Common.{◌≡◌, ◌-◌, ◌<◌, slice_get, take, drop, refl, ap, sym, subst, ◌∙◌, ⊎_elim, arith}
-use Rattle.std.proofs.lemmas.Bool.{cases_lt, false≢true}
-use Rattle.std.proofs.lemmas.List.{length-take}
-use Rattle.linker_reading.proofs.Found.{one_of, place_in, some_same}
+use Rattle.linker_reading.proofs.Imports.{cases_lt, false≢true, length-take, same_Some}
+use Rattle.linker_reading.proofs.Found.{one_of, place_in}
 use Rattle.linker_reading.proofs.Parts.{part_by}
 use Rattle.linker_reading.proofs.Tables.{following, taken_at}
 use Rattle.linker_reading.specs.Recognised.{IsOneOf, choices_at}
@@ -30,7 +29,7 @@ loop-index-preserved g c i d h at listed =
     (λ before. c.loop-index.invariant i d before at listed)
     (λ since.
     let place : i ≡ c.loop-index.index = omega (arith, h, since) in
-    let same : d ≡ one = some_same d one (sym at ∙ ap (slice_get c.args.there.now.0) place ∙ c.choice_at.ensures) in
+    let same : d ≡ one = same_Some d one (sym at ∙ ap (slice_get c.args.there.now.0) place ∙ c.choice_at.ensures) in
     subst (λ x. IsRecognisable g.N.RecognisedName.how c.args.name bytes o x) (sym same)
     ((c.is_there.ensures c.args.name (subst (λ x. IsOneOf x (choices_at g.N.RecognisedName.how c.args.name bytes o)) same listed)).0 c.if-not-is_there.false))
     (cases_lt i c.loop-index.index)
@@ -58,7 +57,7 @@ loop-index-2-preserved g c i d h at =
     (λ before. c.loop-index-2.invariant i d before at)
     (λ since.
     let place : i ≡ c.loop-index-2.index = omega (arith, h, since) in
-    let same : d ≡ one = some_same d one (sym at ∙ ap (slice_get c.args.there.now.0) place ∙ c.choice_at-in-loop-index-2.ensures) in
+    let same : d ≡ one = same_Some d one (sym at ∙ ap (slice_get c.args.there.now.0) place ∙ c.choice_at-in-loop-index-2.ensures) in
     subst (λ x. IsOneOf x (take c.listed-listed.result.1 c.listed-listed.result.0)) (sym same) (c.is_listed.ensures.0 c.if-not-is_listed.false))
     (cases_lt i c.loop-index-2.index)
 

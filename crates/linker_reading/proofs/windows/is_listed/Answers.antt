@@ -1,7 +1,7 @@
 use Rattle.std.proofs.Common.{◌≡◌, ◌<◌, length, Some, get_or, slice_get, take, refl, ap, sym, ◌∙◌, ⊎_elim, arith, rules}
-use Rattle.std.proofs.lemmas.Bool.{both_ways, cases_lt, false≢true}
-use Rattle.linker_reading.proofs.Found.{one_of, place_in, some_same}
-use Rattle.linker_reading.proofs.Tables.{got, following, taken_at, taken_few, equal_choices}
+use Rattle.linker_reading.proofs.Imports.{both_ways, cases_lt, false≢true, same_Some, slice_get-get_or}
+use Rattle.linker_reading.proofs.Found.{one_of, place_in}
+use Rattle.linker_reading.proofs.Tables.{following, taken_at, taken_few, equal_choices}
 use Rattle.linker_reading.proofs.windows.is_listed.Goals as goal
 
 pub returns-then-eq : goal.returns-then-eq
@@ -14,7 +14,7 @@ returns-then-eq g c =
     let within : i < length array = omega (arith, below, c.requires, room) in
     let same = (equal_choices g.N.Kind.PartialEq.eq g.N.PartialEq.eq g.met.N.RecognisedName.laws.kinds g.met.N.RecognisedName.laws.names (get_or array i c.index-choices-index.result) c.args.choice).0
     (sym c.eq.ensures ∙ c.if-eq.true) in
-    (λ _. one_of c.args.choice (take n array) i (taken_at array (take n array) n refl i below ∙ got array i c.index-choices-index.result within ∙ ap Some same), λ _. refl)
+    (λ _. one_of c.args.choice (take n array) i (taken_at array (take n array) n refl i below ∙ slice_get-get_or array i c.index-choices-index.result within ∙ ap Some same), λ _. refl)
 
 pub loop-index-preserved : goal.loop-index-preserved
 loop-index-preserved g c k h there =
@@ -29,7 +29,7 @@ loop-index-preserved g c k h there =
     let here : k ≡ i = omega (arith, h, from) in
     both_ways c.eq.result c.if-eq.false (c.eq.ensures
     ∙ (equal_choices g.N.Kind.PartialEq.eq g.N.PartialEq.eq g.met.N.RecognisedName.laws.kinds g.met.N.RecognisedName.laws.names (get_or array i c.index-choices-index.result) c.args.choice).1
-    (some_same (get_or array i c.index-choices-index.result) c.args.choice (sym (got array i c.index-choices-index.result within) ∙ ap (slice_get array) (sym here) ∙ there))))
+    (same_Some (get_or array i c.index-choices-index.result) c.args.choice (sym (slice_get-get_or array i c.index-choices-index.result within) ∙ ap (slice_get array) (sym here) ∙ there))))
     (cases_lt k i)
 
 pub returns : goal.returns

@@ -1,7 +1,5 @@
 use Rattle.std.proofs.Common.{◌≡◌, ◌≤◌, ◌<◌, ◌+◌, Some, length, slice_get, ap, sym, subst, ◌∙◌, arith, rules}
-use Rattle.std.proofs.lemmas.Bool.{false≢true}
-use Rattle.std.proofs.lemmas.List.{length-take}
-use Rattle.linker_elf.specs.declared.elf.choice.Choice.{Choice}
+use Rattle.linker_reading.proofs.Imports.{false≢true, length-take, Choice}
 use Rattle.linker_reading.proofs.Found.{one_of}
 use Rattle.linker_reading.proofs.Kept.{AreKept, none_kept, one_kept, not_kept, all_kept}
 use Rattle.linker_reading.proofs.Tables.{following, taken_few}

@@ -1,8 +1,7 @@
 use Rattle.std.proofs.Common.{◌≡◌, ◌+◌, ◌-◌, ◌∙◌, ◌%◌, ◌^◌, ℕ, List, Result, Ok, Err, OnOk, IfOk, IfErr, ap, sym, subst}
 use Rattle.std.proofs.lemmas.Result.{IfErr-weaker}
-use Rattle.linker_base.specs.Deltas.{deletions_of}
+use Rattle.linker_runs.proofs.Imports.{deletions_of, IsPosition}
 use Rattle.linker_base.specs.Deletions.{rank}
-use Rattle.linker_base.specs.Inner.Packing.{IsPosition}
 use Rattle.linker_base.specs.declared.packing.Position.{Position}
 use Rattle.linker_base.specs.declared.relaxation.RelaxDelta.{RelaxDelta}
 use Rattle.linker_runs.specs.RiscVSites.{RiscVBecomes, RiscVAccepts, RiscVCause}

@@ -1,7 +1,6 @@
 use Rattle.std.proofs.Common.{◌≡◌, ◌+◌, ◌∙◌, ap, arith}
-use Rattle.linker_base.specs.Deltas.{deletions_of}
+use Rattle.linker_runs.proofs.Imports.{deletions_of, rank_steps}
 use Rattle.linker_base.specs.Deletions.{rank}
-use Rattle.linker_base.proofs.Rank.{rank_steps}
 use Rattle.linker_runs.specs.Relaxing.{offset_of, len_of, end_of}
 use Rattle.linker_runs.specs.Packing.{kept_len}
 use Rattle.linker_runs.proofs.packing.kept_of.Goals as goal

@@ -1,8 +1,6 @@
 use Rattle.std.proofs.Common.{◌≡◌, ◌+◌, ◌-◌, ◌∙◌, false, [], ap, sym, subst, arith, length}
-use Rattle.std.proofs.lemmas.Bool.{both_ways}
-use Rattle.linker_base.specs.Deltas.{deletions_of}
+use Rattle.linker_runs.proofs.Imports.{both_ways, deletions_of, rank-mono}
 use Rattle.linker_base.specs.Deletions.{rank}
-use Rattle.linker_base.proofs.Rank.{rank-mono}
 use Rattle.linker_runs.specs.Relaxing.{item_at, offset_of, end_of}
 use Rattle.linker_runs.specs.Packing.{section_of, is_fixed, IsInside, IsUnwritable}
 use Rattle.linker_runs.specs.Inner.Pieces.{piece_bytes, IsPieceOf}

@@ -1,7 +1,6 @@
 use Rattle.std.proofs.Common.{◌≡◌, ◌+◌, ◌<◌, ◌≤◌, length}
-use Rattle.linker_base.specs.Deltas.{deletions_of}
-use Rattle.linker_base.specs.Listed.{AreValidDeltas}
-use Rattle.linker_base.specs.Inner.Packing.{IsFilled, IsPosition}
+use Rattle.linker_runs.proofs.Imports.{deletions_of, AreValidDeltas, IsPosition}
+use Rattle.linker_base.specs.Inner.Packing.{IsFilled}
 use Rattle.linker_runs.specs.Relaxing.{item_at, offset_of}
 use Rattle.linker_runs.specs.Packing.{section_of, packed_offset}
 use Rattle.linker_runs.specs.Inner.Packing.{AreReady, IsWrittenTo}

@@ -1,6 +1,5 @@
 use Rattle.std.proofs.Common.{◌≡◌, ◌∙◌, ap, false, List, zero, suc, ◌+◌, ◌<◌, ◌≤◌, ℕ, length, [], inl, inr, sym, subst, arith, below_more, refl}
-use Rattle.std.proofs.lemmas.Bool.{both_ways}
-use Rattle.linker_base.specs.Deltas.{deletions_of}
+use Rattle.linker_runs.proofs.Imports.{both_ways, deletions_of}
 use Rattle.linker_runs.specs.declared.relaxation.Item.{Item}
 use Rattle.linker_runs.specs.Relaxing.{item_at, offset_of, end_of}
 use Rattle.linker_runs.specs.Inner.Packing.{AreReady}

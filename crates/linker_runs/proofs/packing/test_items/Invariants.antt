@@ -1,7 +1,5 @@
 use Rattle.std.proofs.Common.{◌≡◌, ℕ, List, ◌+◌, ◌<◌, ◌≤◌, length}
-use Rattle.linker_base.specs.Deltas.{deletions_of}
-use Rattle.linker_base.specs.Listed.{AreValidDeltas}
-use Rattle.linker_base.specs.Inner.Packing.{IsPosition}
+use Rattle.linker_runs.proofs.Imports.{deletions_of, AreValidDeltas, IsPosition}
 use Rattle.linker_runs.specs.Relaxing.{item_at, end_of}
 use Rattle.linker_runs.specs.Packing.{section_of, gap_start}
 use Rattle.linker_runs.specs.Inner.Packing.{AreReady}

@@ -1,6 +1,5 @@
 use Rattle.std.proofs.Common.{◌+◌, ◌-◌, ◌++◌, ◌∷◌, [], ◌∙◌, get_or, ap, sym, subst, arith}
-use Rattle.std.proofs.lemmas.List.{append-nil}
-use Rattle.linker_base.specs.Deletions.{IsValid}
+use Rattle.linker_runs.proofs.Imports.{append-nil, IsValid}
 use Rattle.linker_runs.specs.Relaxing.{item_at, offset_of, len_of, AreInOrder}
 use Rattle.linker_runs.specs.Deleting.{deletions_before}
 use Rattle.linker_runs.proofs.Deletions.{deletions_none, deletions_next, deletion_some, deletion_none, deletions_valid}

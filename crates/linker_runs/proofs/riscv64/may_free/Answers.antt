@@ -1,8 +1,5 @@
 use Rattle.std.proofs.Common.{◌≡◌, ◌+◌, ◌-◌, ◌<◌, ◌%◌, ℕ, List, IsTrue, nat_eq, ⊎_elim, ap, sym, subst, arith, rules, ◌∙◌, map}
-use Rattle.std.specs.Prelude.{◌⊎◌, pos}
-use Rattle.std.specs.Int.{IsNextPowerOfTwo}
-use Rattle.std.proofs.lemmas.Bool.{cases_order}
-use Rattle.std.proofs.lemmas.List.{length-map}
+use Rattle.linker_runs.proofs.Imports.{◌⊎◌, pos, IsNextPowerOfTwo, cases_order, length-map}
 use Rattle.linker_runs.proofs.Addresses.{next_unique}
 use Rattle.linker_runs.specs.declared.items.Relocation.{Relocation}
 use Rattle.linker_runs.specs.Relocations.{relocation_at}

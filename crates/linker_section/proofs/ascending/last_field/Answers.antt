@@ -1,11 +1,9 @@
 use Rattle.std.proofs.Common.{◌≡◌, ◌-◌, ◌∙◌, refl, sym, ap, subst, arith, true≢false, Some, None}
-use Rattle.std.specs.Prelude.{is_some}
-use Rattle.linker_elf.specs.Relocate.{window_len}
+use Rattle.linker_section.proofs.Imports.{is_some, window_len, IsRow}
 use Rattle.linker_section.proofs.Rows.{one_info, one_row}
 use Rattle.linker_section.specs.Relocations.{relocation_in}
 use Rattle.linker_section.specs.Values.{offset_at}
 use Rattle.linker_section.specs.declared.fields.Field.{Field}
-use Rattle.linker_elf.specs.Architectures.{IsRow}
 use Rattle.linker_section.proofs.ascending.last_field.Goals as goal
 
 pub returns-in-Some : goal.returns-in-Some

@@ -1,15 +1,9 @@
-use Rattle.std.specs.Int.{from_le_bytes}
-use Rattle.std.specs.Prelude.{IfSome, slice_index, not, ◌||◌}
-use Rattle.std.proofs.lemmas.Bool.{cases_Bool}
+use Rattle.linker_section.proofs.Imports.{from_le_bytes, IfSome, slice_index, not, ◌||◌, cases_Bool, IsRow, get_or-drop, w64, to_z-of_z}
 use Rattle.linker_section.proofs.RowFacts.{says_way}
 use Rattle.linker_section.proofs.QuickValues.{high_is}
 use Rattle.linker_section.specs.Inner.Facts.{shows_lengths, word_shows}
 use Rattle.linker_elf.specs.Facts.{length_of}
-use Rattle.linker_elf.specs.Architectures.{IsRow}
-use Rattle.std.proofs.lemmas.List.{get_or-drop}
 use Rattle.std.proofs.Common.{◌≡◌, ℕ, ◌+◌, drop, ◌<◌, ◌^◌, ◌∙◌, refl, sym, ap, subst, arith, rules, length, FitsSigned, to_z, of_z, inl, inr}
-use Rattle.std.specs.Int.{w64}
-use Rattle.std.proofs.lemmas.Int.{to_z-of_z}
 use Rattle.linker_section.proofs.Lengths.{unthreaded_holds, word_says}
 use Rattle.linker_section.proofs.Local.{one_local}
 use Rattle.linker_section.proofs.Reaching.{is_written, not_written}

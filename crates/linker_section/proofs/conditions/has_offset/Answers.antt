@@ -1,6 +1,5 @@
 use Rattle.std.proofs.Common.{arith}
-use Rattle.std.proofs.lemmas.Bool.Decides.{nat_tests}
-use Rattle.std.proofs.lemmas.List.{take_rest}
+use Rattle.linker_section.proofs.Imports.{nat_tests, take_rest}
 use Rattle.linker_section.proofs.conditions.has_offset.Goals as goal
 
 pub returns-then-there-window : goal.returns-then-there-window

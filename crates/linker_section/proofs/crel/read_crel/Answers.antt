@@ -1,6 +1,5 @@
 use Rattle.std.proofs.Common.{◌≡◌, ◌*◌, arith, refl, sym, ◌∙◌, inr, length, drop}
-use Rattle.std.proofs.lemmas.List.{length-take-le, length-append, length-drop, drop_at}
-use Rattle.std.proofs.lemmas.Result.{err_from_is_err_and}
+use Rattle.linker_section.proofs.Imports.{length-take-le, length-append, length-drop, drop_at, err_from_is_err_and}
 use Rattle.linker_section.proofs.Crels.{in_front}
 use Rattle.linker_section.proofs.crel.read_crel.Goals as goal
 

@@ -1,12 +1,11 @@
 use Rattle.std.proofs.Common.{◌≡◌, ◌∙◌, ℕ, sym, ap, subst, arith, drop, Some, false}
-use Rattle.std.proofs.lemmas.Bool.{cond-false}
+use Rattle.linker_section.proofs.Imports.{cond-false, IsRow}
 use Rattle.linker_section.proofs.Rows.{one_row, one_info}
 use Rattle.linker_section.proofs.Valued.{none_is_some}
 use Rattle.linker_section.specs.Fields.{field_len}
 use Rattle.linker_section.specs.Inner.Steps.{field_of_row}
 use Rattle.linker_section.specs.Relocations.{relocation_in}
 use Rattle.linker_section.specs.Values.{has_value, offset_at}
-use Rattle.linker_elf.specs.Architectures.{IsRow}
 use Rattle.linker_section.proofs.order.field_in.Goals as goal
 
 pub returns-in_default-clause-none : goal.returns-in_default-clause-none

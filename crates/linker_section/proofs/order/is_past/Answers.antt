@@ -1,10 +1,8 @@
 use Rattle.std.proofs.Common.{◌≡◌, ◌-◌, ◌∙◌, false, sym, ap, subst, arith}
-use Rattle.std.proofs.lemmas.Bool.{leb-true}
-use Rattle.linker_elf.specs.Relocate.{window_len}
+use Rattle.linker_section.proofs.Imports.{leb-true, window_len, IsRow}
 use Rattle.linker_section.proofs.Rows.{one_info}
 use Rattle.linker_section.proofs.Runs.{len_within}
 use Rattle.linker_section.specs.Fields.{is_of_pair}
-use Rattle.linker_elf.specs.Architectures.{IsRow}
 use Rattle.linker_section.proofs.order.is_past.Goals as goal
 
 pub returns-then-not-is_of_pair : goal.returns-then-not-is_of_pair

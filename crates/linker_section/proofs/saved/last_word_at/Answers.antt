@@ -1,6 +1,5 @@
 use Rattle.std.proofs.Common.{◌∙◌, ◌++◌, ◌-◌, ap, arith, length, take, drop, replicate}
-use Rattle.std.specs.Int.{w64, from_le_bytes}
-use Rattle.std.proofs.lemmas.List.{take_rest, length-drop}
+use Rattle.linker_section.proofs.Imports.{w64, from_le_bytes, take_rest, length-drop}
 use Rattle.linker_section.proofs.Saving.{saved_last}
 use Rattle.linker_section.proofs.saved.last_word_at.Goals as goal
 

@@ -1,9 +1,8 @@
 use Rattle.std.proofs.Common.{◌≡◌, ◌-◌, ◌∙◌, suc, ap, sym, subst, arith}
-use Rattle.std.specs.Prelude.{slice_index}
+use Rattle.linker_section.proofs.Imports.{slice_index, IsRow}
 use Rattle.linker_section.specs.Inner.Saved.{Restores, with_word, saved_place}
 use Rattle.linker_section.specs.Relocations.{relocation_in}
 use Rattle.linker_section.proofs.Rows.{one_row}
-use Rattle.linker_elf.specs.Architectures.{IsRow}
 use Rattle.linker_section.proofs.saved.restore.Goals as goal
 
 pub loop-index-preserved : goal.loop-index-preserved

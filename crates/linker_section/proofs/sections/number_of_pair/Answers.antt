@@ -1,7 +1,6 @@
 use Rattle.std.proofs.Common.{subst, sym, arith}
-use Rattle.std.specs.Int.{w64, cast_unsigned}
-use Rattle.std.proofs.lemmas.Int.{to_z-of_z}
-use Rattle.std.proofs.lemmas.List.{drop_all, take_rest}
+use Rattle.linker_section.proofs.Imports.{w64, to_z-of_z, drop_all, take_rest}
+use Rattle.std.specs.Int.{cast_unsigned}
 use Rattle.linker_elf.specs.Uleb128.{IsPairNumber}
 use Rattle.linker_section.specs.Sections.{first_role}
 use Rattle.linker_section.proofs.sections.number_of_pair.Goals as goal

@@ -1,11 +1,9 @@
 use Rattle.std.proofs.Common.{sym, ap, subst, refl, ◌∙◌, rules, true≢false, FitsSigned, Some, None, Ok}
-use Rattle.std.specs.Int.{w64}
-use Rattle.std.proofs.lemmas.Int.{to_z-of_z}
+use Rattle.linker_section.proofs.Imports.{w64, to_z-of_z, IsRow}
 use Rattle.linker_section.proofs.RowFacts.{says}
 use Rattle.linker_section.specs.Conditions.{IsInReach}
 use Rattle.linker_section.specs.Sections.{HasValue, IsValueless}
 use Rattle.linker_section.specs.Values.{IsValue, IsValueIn}
-use Rattle.linker_elf.specs.Architectures.{IsRow}
 use Rattle.linker_section.proofs.sections.row_value.Goals as goal
 
 pub value_of-requires : goal.value_of-requires

@@ -1,6 +1,5 @@
 use Rattle.std.proofs.Common.{◌∙◌, refl, subst, sym, true≢false, to_z, of_z}
-use Rattle.std.specs.Int.{w64}
-use Rattle.std.proofs.lemmas.Int.{to_z-of_z}
+use Rattle.linker_section.proofs.Imports.{w64, to_z-of_z}
 use Rattle.linker_section.proofs.Lengths.{offset_of, offset_beyond}
 use Rattle.linker_section.specs.Conditions.{HoldsOffset}
 use Rattle.linker_section.specs.Sections.{IsWrittenAt}

@@ -1,10 +1,6 @@
 use Rattle.std.proofs.Common.{rules, refl, ◌+◌, ◌-◌, ◌≤◌, length, drop, subst, arith, sym, ◌∙◌}
-use Rattle.std.specs.Int.{w64}
-use Rattle.std.specs.Prelude.{OnOk, IfErr}
-use Rattle.std.proofs.lemmas.Int.{to_z-of_z}
-use Rattle.std.proofs.lemmas.List.{take_all, take_rest}
+use Rattle.linker_section.proofs.Imports.{w64, OnOk, IfErr, to_z-of_z, take_all, take_rest, WritesRow, RejectsValue}
 use Rattle.std.proofs.lemmas.Slice.{take-put_mid}
-use Rattle.linker_elf.specs.Relocate.{WritesRow, RejectsValue}
 use Rattle.linker_section.proofs.Writing.{written_at}
 use Rattle.linker_section.proofs.sections.write_held_at.Goals as goal
 

@@ -1,8 +1,5 @@
 use Rattle.std.proofs.Common.{◌≡◌, ◌+◌, ◌∙◌, sym, ap, subst, arith, length, rules, FitsSigned, to_z, of_z, inl, inr, refl, true, true≢false, Ok, Err, None, ◌≤◌, ◌<◌, ◌^◌, set}
-use Rattle.std.proofs.lemmas.Int.{to_z-of_z}
-use Rattle.std.specs.Int.{w64}
-use Rattle.std.specs.Prelude.{IfNone, IfSome}
-use Rattle.linker_elf.specs.Value.{sum_64}
+use Rattle.linker_section.proofs.Imports.{to_z-of_z, w64, IfNone, IfSome, sum_64}
 use Rattle.linker_section.proofs.Lengths.{length_of, other_length}
 use Rattle.linker_section.proofs.Local.{pair_local}
 use Rattle.linker_section.proofs.Stepping.{mark_order, mark_restores, one_order, one_restores, pair_order, pair_restores, apart_now, apart_next, overlap_now, stop, stop_at, set_above}

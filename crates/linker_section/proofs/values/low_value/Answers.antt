@@ -1,7 +1,6 @@
 use Rattle.std.proofs.Common.{subst, Some}
-use Rattle.std.specs.Prelude.{IfSome}
+use Rattle.linker_section.proofs.Imports.{IfSome, IsRow}
 use Rattle.linker_section.proofs.RowFacts.{says}
-use Rattle.linker_elf.specs.Architectures.{IsRow}
 use Rattle.linker_section.proofs.values.low_value.Goals as goal
 
 pub operands_of-requires : goal.operands_of-requires

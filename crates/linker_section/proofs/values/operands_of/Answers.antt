@@ -1,6 +1,5 @@
 use Rattle.std.proofs.Common.{◌≡◌, refl}
-use Rattle.std.proofs.lemmas.Option.{slice_get_read}
-use Rattle.std.specs.Prelude.{length, slice_get, Some}
+use Rattle.linker_section.proofs.Imports.{slice_get_read, length, slice_get, Some}
 use Rattle.linker_section.proofs.values.operands_of.Goals as goal
 
 pub returns : goal.returns

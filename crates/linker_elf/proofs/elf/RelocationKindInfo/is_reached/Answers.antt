@@ -1,6 +1,5 @@
 use Rattle.std.proofs.Common.{◌≤ℤ◌, ◌↔◌, arith, subst, sym, IsTrue}
-use Rattle.std.specs.Int.{w64}
-use Rattle.std.proofs.lemmas.Int.{ints, to_z-of_z}
+use Rattle.linker_elf.proofs.Imports.{w64, ints, to_z-of_z}
 use Rattle.linker_elf.specs.Reach.{reach_of}
 use Rattle.linker_elf.specs.Relocate.{IsEncoded}
 use Rattle.linker_elf.proofs.Reached.{ends_of, within_from}

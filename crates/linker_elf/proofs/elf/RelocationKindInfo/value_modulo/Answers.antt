@@ -1,7 +1,5 @@
 use Rattle.std.proofs.Common.{◌≡◌, ◌∙◌, ◌<◌, ◌^◌, ℕ, bit_and, rules, refl, sym, ap, subst, false, not, Ok, Err, Some, Result, inl, inr}
-use Rattle.std.specs.Int.{w64, cast_signed, cast_unsigned}
-use Rattle.std.proofs.lemmas.Bool.{cond-true, cond-false}
-use Rattle.std.proofs.lemmas.Int.{to_z-of_z}
+use Rattle.linker_elf.proofs.Imports.{w64, cast_signed, cast_unsigned, cond-true, cond-false, to_z-of_z}
 use Rattle.linker_elf.proofs.Terms.{HasTerm, plain_value, relative_value, without_value, offset_value, entry_given, plt_given, has_formula, symbol_found, place_found, got_found, relative_is}
 use Rattle.linker_elf.specs.Inner.RowTables.{is_set, of_entry, signed_in}
 use Rattle.linker_elf.specs.LoongArch.{high_distance}

@@ -1,6 +1,5 @@
 use Rattle.std.proofs.Common.{rules, refl, subst, ◌≡◌, ◌↔◌, false, IsTrue}
-use Rattle.std.specs.Int.{w64}
-use Rattle.std.proofs.lemmas.Int.{to_z-of_z}
+use Rattle.linker_elf.proofs.Imports.{w64, to_z-of_z}
 use Rattle.linker_elf.specs.Elf.{IsWithin}
 use Rattle.linker_elf.specs.Reach.{reach_of}
 use Rattle.linker_elf.specs.Relocate.{IsEncoded, IsReached}

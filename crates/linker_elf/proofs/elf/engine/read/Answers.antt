@@ -1,6 +1,5 @@
 use Rattle.std.proofs.Common.{◌≡◌, ◌∙◌, ap, sym, true, leb}
-use Rattle.std.specs.Int.{cast_unsigned, from_le_bytes, w64}
-use Rattle.linker_base.specs.Form.{place_sum, window_of}
+use Rattle.linker_elf.proofs.Imports.{cast_unsigned, from_le_bytes, w64, place_sum, window_of}
 use Rattle.linker_elf.specs.Elf.{relocation_form}
 use Rattle.linker_elf.specs.Inner.Runs.{width_of, reads}
 use Rattle.linker_elf.proofs.Codes.{coded, plain_reads}

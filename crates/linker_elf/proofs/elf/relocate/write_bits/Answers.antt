@@ -1,8 +1,5 @@
 use Rattle.std.proofs.Common.{sym, ◌∙◌, ap, ◌≡◌, if◌then◌else◌, to_z, of_z, subst, FitsSigned}
-use Rattle.std.specs.Int.{w64}
-use Rattle.std.proofs.lemmas.Int.{to_z-of_z}
-use Rattle.linker_base.specs.Form.{window_of, Fits}
-use Rattle.std.specs.Int.{from_le_bytes}
+use Rattle.linker_elf.proofs.Imports.{w64, to_z-of_z, window_of, Fits, from_le_bytes}
 use Rattle.linker_elf.specs.Elf.{relocation_form}
 use Rattle.linker_elf.specs.Relocate.{insn_at, bits_at, value_at, bits_taken, low_part, InstructionWritten}
 use Rattle.linker_elf.proofs.Relocated.{fits_at, value_fits, window_at, low_fits}

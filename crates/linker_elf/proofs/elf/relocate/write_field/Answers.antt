@@ -1,7 +1,5 @@
 use Rattle.std.proofs.Common.{refl, sym, ◌∙◌, ◌≡◌, arith}
-use Rattle.std.specs.Int.{w64}
-use Rattle.std.proofs.lemmas.Int.{to_z-of_z}
-use Rattle.linker_base.specs.Form.{window_of}
+use Rattle.linker_elf.proofs.Imports.{w64, to_z-of_z, window_of}
 use Rattle.linker_elf.specs.LoongArch.{loongarch_form}
 use Rattle.linker_elf.specs.Ppc64.{ppc64_form}
 use Rattle.linker_elf.specs.RiscV.{riscv_form}

@@ -1,6 +1,5 @@
 use Rattle.std.proofs.Common.{◌≡◌, subst, sym, true}
-use Rattle.std.specs.Int.{w64}
-use Rattle.std.proofs.lemmas.Int.{to_z-of_z}
+use Rattle.linker_elf.proofs.Imports.{w64, to_z-of_z}
 use Rattle.linker_elf.specs.Relocate.{InstructionWritten, IsWritten}
 use Rattle.linker_elf.specs.Inner.RowTables.{info_of, is_plain}
 use Rattle.linker_elf.proofs.PlainRows.{takes, written}

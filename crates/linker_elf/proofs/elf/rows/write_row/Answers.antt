@@ -1,6 +1,5 @@
 use Rattle.std.proofs.Common.{◌≤◌, ◌≤ℤ◌, arith, rules, subst, length}
-use Rattle.std.specs.Int.{w64}
-use Rattle.std.proofs.lemmas.Int.{ints, to_z-of_z}
+use Rattle.linker_elf.proofs.Imports.{w64, ints, to_z-of_z}
 use Rattle.linker_elf.specs.Relocate.{IsAligned, IsWritten}
 use Rattle.linker_elf.specs.Inner.RowTables.{info_of}
 use Rattle.linker_elf.proofs.PlainRows.{accepted_by, all_by, stored, takes}

@@ -1,6 +1,5 @@
 use Rattle.std.proofs.Common.{rules, ap, ◌∙◌}
-use Rattle.std.specs.Int.{from_le_bytes, w32}
-use Rattle.linker_base.specs.Bits.{field}
+use Rattle.linker_elf.proofs.Imports.{from_le_bytes, w32, field}
 use Rattle.linker_elf.proofs.Ppc64Pairs.{d_kept, pair_holds}
 use Rattle.linker_elf.proofs.ppc64.sequences.write_ha_lo.Goals as goal
 

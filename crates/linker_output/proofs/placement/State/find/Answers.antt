@@ -1,6 +1,5 @@
 use Rattle.std.proofs.Common.{◌≡◌, ◌+◌, ◌-◌, ◌<◌, ◌∙◌, ℕ, length, ap, arith, subst, sym}
-use Rattle.std.proofs.lemmas.Bool.{false≢true}
-use Rattle.std.proofs.lemmas.List.{get_or_read}
+use Rattle.linker_output.proofs.Imports.{false≢true, get_or_read}
 use Rattle.linker_output.specs.declared.placement.Part.TheVariants.{Front}
 use Rattle.linker_output.specs.Placement.{at}
 use Rattle.linker_output.specs.Inner.Placement.{IsAt, IsStubAt, list_of}

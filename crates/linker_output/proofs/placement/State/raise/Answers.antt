@@ -1,7 +1,6 @@
 use Rattle.std.proofs.Common.{◌≡◌, ◌∙◌, ◌-◌, ◌<◌, ℕ, length, arith, subst, sym, true}
 use Rattle.std.specs.Prelude.{IfOk}
-use Rattle.std.specs.List.{sum_by}
-use Rattle.std.proofs.lemmas.Result.{IfOk-weaker}
+use Rattle.linker_output.proofs.Imports.{sum_by, IfOk-weaker}
 use Rattle.linker_output.specs.declared.placement.Branch.{Branch}
 use Rattle.linker_output.specs.declared.placement.Code.{Code}
 use Rattle.linker_output.specs.declared.placement.Part.TheVariants.{Front, Back}

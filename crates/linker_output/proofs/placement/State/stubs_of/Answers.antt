@@ -1,7 +1,6 @@
 use Rattle.std.proofs.Common.{◌≡◌, ◌++◌, ◌∷◌, [], length, get_or, refl, sym, ap, inl, inr, subst, arith, below_more}
-use Rattle.std.specs.Prelude.{None}
+use Rattle.linker_output.proofs.Imports.{None, get_or_append_left, get_or_push, get_or_read, length-append}
 use Rattle.std.proofs.lemmas.Bool.{both_ways}
-use Rattle.std.proofs.lemmas.List.{get_or_append_left, get_or_push, get_or_read, length-append}
 use Rattle.linker_output.specs.declared.placement.Way.TheVariants.{Direct}
 use Rattle.linker_output.specs.Placement.{ReachesAt, branch_at}
 use Rattle.linker_output.specs.Inner.Placement.{IsStubOf, way_at}

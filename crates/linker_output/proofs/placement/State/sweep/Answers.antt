@@ -1,7 +1,5 @@
-use Rattle.std.proofs.Common.{◌≡◌, ◌<◌, ◌+◌, ◌∙◌, ℕ, List, true, ap, sym, subst, arith, below_more}
-use Rattle.std.proofs.Common.{length}
-use Rattle.std.specs.List.{sum_by}
-use Rattle.std.proofs.lemmas.Bool.{false≢true}
+use Rattle.std.proofs.Common.{◌≡◌, ◌<◌, ◌+◌, ◌∙◌, ℕ, List, true, ap, sym, subst, arith, below_more, length}
+use Rattle.linker_output.proofs.Imports.{sum_by, false≢true}
 use Rattle.linker_output.specs.declared.placement.Code.{Code}
 use Rattle.linker_output.specs.declared.placement.State.{State}
 use Rattle.linker_output.specs.declared.placement.Visit.TheVariants.{Served, Near, Lost}
@@ -9,8 +7,7 @@ use Rattle.linker_output.specs.Placement.{branch_at}
 use Rattle.linker_output.specs.Inner.Placement.{SameStubs, IsServedBy, Visited, level, way_at}
 use Rattle.linker_output.proofs.Near.{near_served, places_kept, laid_kept}
 use Rattle.linker_output.proofs.placement.State.sweep.Goals as goal
-use Rattle.linker_output.proofs.placement.State.sweep.Goals.{in-Served, in-Near, in-Raised}
-use Rattle.linker_output.proofs.placement.State.sweep.Goals.{in-Lost+else-not-changed}
+use Rattle.linker_output.proofs.placement.State.sweep.Goals.{in-Served, in-Near, in-Raised, in-Lost+else-not-changed}
 
 same_next : (a b d : State) → SameStubs a b → SameStubs b d → SameStubs a d
 same_next a b d p q = record { stubs = q.stubs ∙ p.stubs; groups = q.groups ∙ p.groups; ways = q.ways ∙ p.ways; may_share = q.may_share ∙ p.may_share }

@@ -1,6 +1,5 @@
 use Rattle.std.proofs.Common.{◌≤◌, ◌<◌, length, ⊎_elim, arith}
-use Rattle.std.proofs.lemmas.Bool.{cases_lt}
-use Rattle.std.proofs.lemmas.List.{get_or_past}
+use Rattle.linker_output.proofs.Imports.{cases_lt, get_or_past}
 use Rattle.linker_output.proofs.placement.checking.are_low.Goals as goal
 
 pub returns-clause-low : goal.returns-clause-low

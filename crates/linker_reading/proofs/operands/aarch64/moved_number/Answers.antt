@@ -1,7 +1,5 @@
 use Rattle.std.proofs.Common.{◌≡◌, ◌∙◌, ◌*◌, ◌^◌, ◌-◌, ◌%◌, ap, sym, eqb, true, false}
-use Rattle.std.specs.Int.{w64, bit_at, cast_unsigned}
-use Rattle.linker_base.specs.Bits.{field}
-use Rattle.linker_elf.specs.AArch64.{moved_value, shift_of}
+use Rattle.linker_reading.proofs.Imports.{w64, bit_at, cast_unsigned, field, moved_value, shift_of}
 use Rattle.std.proofs.lemmas.Bool.{ne_eqb}
 use Rattle.linker_reading.proofs.AArch64Numbers.{moved_held}
 use Rattle.linker_reading.proofs.operands.aarch64.moved_number.Goals as goal

@@ -1,6 +1,5 @@
 use Rattle.std.proofs.Common.{◌∙◌, ap, ◌%◌, ◌^◌}
-use Rattle.std.specs.Int.{w64, cast_unsigned, from_le_bytes}
-use Rattle.linker_base.specs.Bits.{field, signed}
+use Rattle.linker_reading.proofs.Imports.{w64, cast_unsigned, from_le_bytes, field, signed}
 use Rattle.linker_reading.proofs.LoongArchNumbers.{shift5_held, shift10_held, call36_held}
 use Rattle.linker_reading.proofs.reading.loongarch64.number.Goals as goal
 

@@ -1,6 +1,6 @@
 use Rattle.std.proofs.Common.{◌≡◌, length, Some, get_or, ap, sym, ◌∙◌, ⊎_elim, arith, rules, slice_get}
-use Rattle.std.proofs.lemmas.Bool.{both_ways, cases_lt}
-use Rattle.linker_reading.proofs.Tables.{got, same_got, equal_choices}
+use Rattle.linker_reading.proofs.Imports.{both_ways, cases_lt, slice_get-get_or}
+use Rattle.linker_reading.proofs.Tables.{same_got, equal_choices}
 use Rattle.linker_reading.proofs.recognise.engine.first_at.Goals as goal
 
 pub returns-then-eq-clause-none : goal.returns-then-eq-clause-none
@@ -10,10 +10,10 @@ returns-then-eq-clause-none g c =
     let below = c.loop-earlier-test.true in (
       c.loop-earlier.earlier,
       below,
-      got choices c.loop-earlier.earlier c.index-choices-earlier.result (omega (arith, below, c.requires, room))
+      slice_get-get_or choices c.loop-earlier.earlier c.index-choices-earlier.result (omega (arith, below, c.requires, room))
           ∙ ap Some ((equal_choices g.N.Kind.PartialEq.eq g.N.PartialEq.eq g.met.N.RecognisedName.laws.kinds g.met.N.RecognisedName.laws.names
           (get_or choices c.loop-earlier.earlier c.index-choices-earlier.result) (get_or choices c.args.index c.index-choices-index.result)).0 (sym c.eq.ensures ∙ c.if-eq.true))
-          ∙ sym (got choices c.args.index c.index-choices-index.result (omega (arith, c.requires, room))),
+          ∙ sym (slice_get-get_or choices c.args.index c.index-choices-index.result (omega (arith, c.requires, room))),
     )
 
 pub loop-earlier-preserved : goal.loop-earlier-preserved

@@ -1,5 +1,4 @@
-use Rattle.linker_elf.specs.Choices.{choice}
-use Rattle.linker_elf.specs.declared.elf.choice.Choice.{Choice}
+use Rattle.linker_reading.proofs.Imports.{choice, Choice}
 use Rattle.linker_reading.proofs.Chosen.{first_is_same, chosen_made}
 use Rattle.linker_reading.specs.Recognised.{IsChosen, IsMade}
 use Rattle.linker_reading.specs.declared.recognise.engine.Recognised.{Recognised}

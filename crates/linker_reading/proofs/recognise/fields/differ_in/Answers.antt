@@ -1,8 +1,6 @@
 use Rattle.std.proofs.Common.{◌≡◌, ◌<◌, ◌+◌, ◌*◌, ◌-◌, ◌/◌, ◌%◌, ◌||◌, ℕ, false, sym, ap, ◌∙◌, bit_and, arith}
-use Rattle.std.specs.Prelude.{◌==◌, IsTrue, nat_eq, bit_xor}
-use Rattle.std.proofs.lemmas.Bool.{eqb-true, eq-eqb}
-use Rattle.std.proofs.lemmas.List.{take_all}
-use Rattle.std.specs.Int.{bit_at, bit_not, w64}
+use Rattle.linker_reading.proofs.Imports.{◌==◌, bit_xor, eqb-true, eq-eqb, take_all, bit_at, bit_not, w64}
+use Rattle.std.specs.Prelude.{IsTrue, nat_eq}
 use Rattle.linker_reading.specs.FieldsOfBytes.{is_in, is_in_one}
 use Rattle.linker_reading.proofs.Masked.{one_more, none_apart, all_same}
 use Rattle.linker_reading.proofs.recognise.fields.differ_in.Goals as goal

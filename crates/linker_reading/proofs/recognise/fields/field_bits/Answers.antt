@@ -1,6 +1,5 @@
 use Rattle.std.proofs.Common.{◌≡◌, ap, ◌∙◌, rules}
-use Rattle.std.specs.Prelude.{◌==◌}
-use Rattle.std.specs.Int.{bit_at}
+use Rattle.linker_reading.proofs.Imports.{◌==◌, bit_at}
 use Rattle.linker_reading.specs.Inner.Masks.{field_mask}
 use Rattle.linker_reading.proofs.FieldBits.{field_agrees}
 use Rattle.linker_reading.proofs.recognise.fields.field_bits.Goals as goal

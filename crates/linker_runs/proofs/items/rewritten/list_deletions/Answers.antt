@@ -1,6 +1,5 @@
 use Rattle.std.proofs.Common.{◌≡◌, ◌+◌, ◌<◌, ◌≤◌, ◌∙◌, ap, map, refl, inl, inr, subst, sym, length, set, arith}
-use Rattle.std.proofs.lemmas.List.{drop-set-lt, length-map}
-use Rattle.std.proofs.lemmas.Grind.{drop_more_same}
+use Rattle.linker_runs.proofs.Imports.{drop-set-lt, length-map, drop_more_same}
 use Rattle.linker_runs.specs.Relaxing.{end_of}
 use Rattle.linker_runs.specs.RewrittenItems.{IsDeleted, deleted_at, deleted_end}
 use Rattle.linker_runs.specs.Inner.Listed.{Rewritten, AreListedIn, rewritten_of}

@@ -1,7 +1,5 @@
 use Rattle.std.proofs.Common.{◌≡◌, ◌+◌, ◌<◌, ◌≤◌, ◌∙◌, ap, map, subst, sym, length, ⊎_elim, arith}
-use Rattle.std.proofs.lemmas.Bool.{both_ways, cases_lt}
-use Rattle.std.proofs.lemmas.List.{drop-set-lt, length-map}
-use Rattle.std.proofs.lemmas.Grind.{drop_more_same}
+use Rattle.linker_runs.proofs.Imports.{both_ways, cases_lt, drop-set-lt, length-map, drop_more_same}
 use Rattle.linker_runs.specs.Relaxing.{offset_of, end_of}
 use Rattle.linker_runs.specs.RewrittenItems.{deleted_at}
 use Rattle.linker_runs.specs.SectionItems.{Makes}

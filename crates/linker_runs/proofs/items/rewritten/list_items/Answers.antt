@@ -1,7 +1,5 @@
 use Rattle.std.proofs.Common.{◌≡◌, ◌∙◌, ◌<◌, ◌≤◌, ℕ, List, map, inl, inr, ⊎_elim, length, suc, take, add-one, arith, subst}
-use Rattle.std.specs.Prelude.{MatchOption}
-use Rattle.std.proofs.lemmas.Bool.{cases_lt}
-use Rattle.std.proofs.lemmas.List.{length-map}
+use Rattle.linker_runs.proofs.Imports.{MatchOption, cases_lt, length-map}
 use Rattle.linker_runs.specs.declared.relaxation.Item.{Item}
 use Rattle.linker_runs.specs.declared.items.Relocation.{Relocation}
 use Rattle.linker_runs.specs.Inner.Listed.{Rewritten, rewritten_of}

@@ -1,7 +1,6 @@
 use Rattle.std.proofs.Common.{◌≡◌, ◌≤◌, ◌+◌, ◌++◌, ◌∙◌, ℕ, List, [], IsSomeAnd, ap, length, subst, sym, take, drop, arith}
-use Rattle.std.proofs.lemmas.List.{append-nil, drop_at, drop-drop, drop_all, drop-take, length-drop, length-take-le, take_at, take-take}
-use Rattle.linker_elf.specs.Applied.{IsApplied, IsRejected}
-use Rattle.linker_elf.specs.Value.{sum_64}
+use Rattle.linker_runs.proofs.Imports.{append-nil, drop_at, drop-drop, length-drop, length-take-le, take_at, IsApplied, IsRejected, sum_64}
+use Rattle.std.proofs.lemmas.List.{drop_all, drop-take, take-take}
 use Rattle.linker_runs.specs.LoongArchSites.{far_high, far_low}
 use Rattle.linker_runs.specs.Sites.{operands_of}
 use Rattle.linker_runs.proofs.packing.loongarch64.address_of.Goals as goal

@@ -1,11 +1,9 @@
 use Rattle.std.proofs.Common.{◌≡◌, ◌*◌, ◌/◌, ◌<◌, ◌++◌, ◌∙◌, ap, below_more, drop, length, sym, subst, take, arith}
-use Rattle.std.proofs.lemmas.List.{drop_at, length-append, length-drop, length-take-le, take-append-drop}
+use Rattle.linker_runs.proofs.Imports.{drop_at, length-append, length-drop, length-take-le, take-append-drop, deletions_of, relocation_in}
 use Rattle.std.proofs.lemmas.Option.{same_Some}
-use Rattle.linker_base.specs.Deltas.{deletions_of}
 use Rattle.linker_runs.specs.Moved.{IsMoved}
 use Rattle.linker_runs.specs.Packing.{section_of}
 use Rattle.linker_runs.proofs.Moved.{front_in, there_at}
-use Rattle.linker_section.specs.Relocations.{relocation_in}
 use Rattle.linker_section.specs.declared.relocations.Rela.{Rela}
 use Rattle.linker_runs.proofs.packing.moved.move_relocations.Goals as goal
 use Rattle.linker_runs.proofs.packing.moved.move_relocations.Goals.{in-Some, in_default}

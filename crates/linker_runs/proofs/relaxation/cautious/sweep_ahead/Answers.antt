@@ -1,6 +1,5 @@
 use Rattle.std.proofs.Common.{◌≡◌, ◌≢◌, ◌-◌, ◌<◌, ◌≤◌, ◌∙◌, length, get_or, refl, ⊎_elim, ap, sym, arith, sum, below_more, get_or-set_other}
-use Rattle.std.specs.Prelude.{◌⊎◌}
-use Rattle.std.proofs.lemmas.Bool.{cases_lt, cases_order}
+use Rattle.linker_runs.proofs.Imports.{◌⊎◌, cases_lt, cases_order}
 use Rattle.linker_runs.specs.Relaxing.{choice_of}
 use Rattle.linker_runs.proofs.Choices.{still_out}
 use Rattle.linker_runs.proofs.Sweeps.{ahead_step, last_fits}

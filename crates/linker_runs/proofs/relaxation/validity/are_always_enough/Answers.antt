@@ -1,7 +1,5 @@
 use Rattle.std.proofs.Common.{◌≡◌, ◌+◌, ◌-◌, ◌^◌, ◌<◌, ◌≤◌, ℕ, inr, ⊎_elim, sym, subst, arith}
-use Rattle.std.specs.Int.{IsPowerOfTwo, IsNextPowerOfTwo}
-use Rattle.std.proofs.Math.Pow.{pow_mono}
-use Rattle.std.proofs.lemmas.Bool.{cases_lt}
+use Rattle.linker_runs.proofs.Imports.{IsPowerOfTwo, IsNextPowerOfTwo, pow_mono, cases_lt}
 use Rattle.linker_runs.specs.Choosing.{IsAlwaysMultiple}
 use Rattle.linker_runs.proofs.Addresses.{next_unique}
 use Rattle.linker_runs.proofs.relaxation.validity.are_always_enough.Goals as goal
