@@ -83,21 +83,22 @@ pub(super) fn insert_ascending(
     let count = deltas.len();
     deltas.reserve(pairs.len())?;
     heads.reserve(count_blocks(count + pairs.len()).saturating_sub(heads.len()))?;
-    append(deltas, pairs);
-    let kept = merge_in_place(deltas, count, pairs);
+    let bytes = append(deltas, pairs);
+    let kept = merge_in_place(deltas, count, pairs, bytes);
     heads.truncate(count_blocks(kept));
     fill_heads(deltas, heads);
     Ok(())
 }
 
-// Appends the pairs to the deltas, with sums of their own bytes alone.
-pub(super) fn append(deltas: &mut Vec<RelaxDelta>, pairs: &[(u64, u32)])
+// Appends the pairs to the deltas, with sums of their own bytes alone, and returns the last sum.
+pub(super) fn append(deltas: &mut Vec<RelaxDelta>, pairs: &[(u64, u32)]) -> u64
     requires { vec_len deltas.old + length pairs.now ≤ vec_capacity deltas.old }
     ensures front { take (vec_len deltas.old) deltas.new.items ≡ deltas.old.items }
     ensures len { vec_len deltas.new ≡ vec_len deltas.old + length pairs.now }
     ensures capacity { vec_capacity deltas.new ≡ vec_capacity deltas.old }
     ensures listing { vec_len deltas.old ≡ 0 → IsValid pairs.now
         → RecordsDeletions pairs.now deltas.new.items }
+    ensures sum { IsValid pairs.now → result ≡ bytes_of pairs.now }
 {
     let mut cumulative_deleted = 0u64;
     for &(input_offset, bytes_deleted) in pairs {
@@ -108,17 +109,24 @@ pub(super) fn append(deltas: &mut Vec<RelaxDelta>, pairs: &[(u64, u32)])
             bytes_deleted,
         });
     }
+    cumulative_deleted
 }
 
-// Merges ascending deletions and the first `count` deltas, from the back, in place: the rest of
-// `merged` is room for as many as the additional ones. Returns how many of the first deltas are
-// unchanged. Where many are additional, which of both comes next is unpredictable, and no branch
-// depends on it.
+// Merges ascending deletions, of `sum` bytes, and the first `count` deltas, from the back, in
+// place: the rest of `merged` is room for as many as the additional ones. Returns how many of the
+// first deltas are unchanged. Where many are additional, which of both comes next is unpredictable,
+// and no branch depends on it.
 #[inline(always)]
-fn merge_in_place(merged: &mut [RelaxDelta], count: usize, additional: &[(u64, u32)]) -> usize
+fn merge_in_place(
+    merged: &mut [RelaxDelta],
+    count: usize,
+    additional: &[(u64, u32)],
+    sum: u64,
+) -> usize
     requires room { count + length additional.now ≡ length merged.old }
     requires valid { AreValidTogether (map deletion_of (take count merged.old)) additional.now }
     requires listed { AreValidDeltas (take count merged.old) }
+    requires sum { sum ≡ bytes_of additional.now }
     ensures within { result ≤ count }
     ensures front { (k : ℕ) (d : RelaxDelta) → k < result
         → slice_index_or merged.new k d ≡ slice_index_or merged.old k d }
@@ -128,7 +136,7 @@ fn merge_in_place(merged: &mut [RelaxDelta], count: usize, additional: &[(u64, u
 {
     let mut old = count;
     let mut left = additional.len();
-    let mut bytes = bytes_in(additional) + bytes_of_first(&merged[..count], count);
+    let mut bytes = sum + bytes_of_first(&merged[..count], count);
     let are_many = left > count / 16;
     while are_many && old > 0 && left > 0 {
         let listed = merged[old - 1].as_deletion();
@@ -164,17 +172,4 @@ fn merge_in_place(merged: &mut [RelaxDelta], count: usize, additional: &[(u64, u
         left -= 1;
     }
     old
-}
-
-// The bytes that the deletions of a valid list take together.
-#[tactic(auto, using(crate::proofs::Listed::taken_up_to))]
-fn bytes_in(deletions: &[(u64, u32)]) -> u64
-    requires { IsValid deletions.now }
-    ensures { result ≡ bytes_of deletions.now }
-{
-    let mut sum = 0;
-    for deletion in deletions {
-        sum += u64::from(deletion.1);
-    }
-    sum
 }

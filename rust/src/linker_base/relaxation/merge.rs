@@ -61,15 +61,15 @@ pub(super) fn insert_ascending(
     let count = deltas.len();
     deltas.try_reserve(pairs.len())?;
     heads.try_reserve(count_blocks(count + pairs.len()).saturating_sub(heads.len()))?;
-    append(deltas, pairs);
-    let kept = merge_in_place(deltas, count, pairs);
+    let bytes = append(deltas, pairs);
+    let kept = merge_in_place(deltas, count, pairs, bytes);
     heads.truncate(count_blocks(kept));
     fill_heads(deltas, heads);
     Ok(())
 }
 
-// Appends the pairs to the deltas, with sums of their own bytes alone.
-pub(super) fn append(deltas: &mut Vec<RelaxDelta>, pairs: &[(u64, u32)]) {
+// Appends the pairs to the deltas, with sums of their own bytes alone, and returns the last sum.
+pub(super) fn append(deltas: &mut Vec<RelaxDelta>, pairs: &[(u64, u32)]) -> u64 {
     let mut cumulative_deleted = 0u64;
     for &(input_offset, bytes_deleted) in pairs {
         cumulative_deleted = cumulative_deleted.wrapping_add(u64::from(bytes_deleted));
@@ -79,17 +79,23 @@ pub(super) fn append(deltas: &mut Vec<RelaxDelta>, pairs: &[(u64, u32)]) {
             bytes_deleted,
         });
     }
+    cumulative_deleted
 }
 
-// Merges ascending deletions and the first `count` deltas, from the back, in place: the rest of
-// `merged` is room for as many as the additional ones. Returns how many of the first deltas are
-// unchanged. Where many are additional, which of both comes next is unpredictable, and no branch
-// depends on it.
+// Merges ascending deletions, of `sum` bytes, and the first `count` deltas, from the back, in
+// place: the rest of `merged` is room for as many as the additional ones. Returns how many of the
+// first deltas are unchanged. Where many are additional, which of both comes next is unpredictable,
+// and no branch depends on it.
 #[inline(always)]
-fn merge_in_place(merged: &mut [RelaxDelta], count: usize, additional: &[(u64, u32)]) -> usize {
+fn merge_in_place(
+    merged: &mut [RelaxDelta],
+    count: usize,
+    additional: &[(u64, u32)],
+    sum: u64,
+) -> usize {
     let mut old = count;
     let mut left = additional.len();
-    let mut bytes = bytes_in(additional) + bytes_of_first(&merged[..count], count);
+    let mut bytes = sum + bytes_of_first(&merged[..count], count);
     let are_many = left > count / 16;
     while are_many && old > 0 && left > 0 {
         let listed = merged[old - 1].as_deletion();
@@ -125,13 +131,4 @@ fn merge_in_place(merged: &mut [RelaxDelta], count: usize, additional: &[(u64, u
         left -= 1;
     }
     old
-}
-
-// The bytes that the deletions of a valid list take together.
-fn bytes_in(deletions: &[(u64, u32)]) -> u64 {
-    let mut sum = 0;
-    for deletion in deletions {
-        sum += u64::from(deletion.1);
-    }
-    sum
 }

@@ -15,7 +15,7 @@ overflow_add-bytes c =
     let start = take c.args.count c.args.merged.now in
     let ps = c.args.additional.now in
     let total : c.bytes_of_first.result ≡ bytes_of (map deletion_of start) = c.bytes_of_first.ensures c.requires.listed ∙ ap bytes_of (take_all c.args.count (map deletion_of start) (omega (arith, length-map start deletion_of, length-take c.args.count c.args.merged.now))) in
-    record { fits = omega (arith, c.bytes_in.ensures, total, disjoint_fit (map deletion_of start ++ ps) c.requires.valid.disjoint, sum_by-append (λ (e : ℕ × ℕ). e.1) (map deletion_of start) ps) }
+    record { fits = omega (arith, c.requires.sum, total, disjoint_fit (map deletion_of start ++ ps) c.requires.valid.disjoint, sum_by-append (λ (e : ℕ × ℕ). e.1) (map deletion_of start) ps) }
 
 pub overflow_sub-bytes : goal.overflow_sub-bytes
 overflow_sub-bytes c =
