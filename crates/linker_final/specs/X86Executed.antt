@@ -1,10 +1,11 @@
 -- x86-64: the instructions of `linker_laws`, and PUSH and ENDBR64 of `linker_output`, compared with
 -- an emulator. Register 16 is where the FS segment begins.
-use Rattle.std.specs.Prelude.{ℕ, zero, suc, ◌≡◌, ◌+◌, ◌*◌, ◌/◌, ◌%◌, ◌==◌, ◌^◌, Bool, true, false}
-use Rattle.std.specs.Prelude.{Option, Some, None, if◌then◌else◌, List, [], ◌∷◌, length}
+use Rattle.std.specs.Prelude.{ℕ, ◌≡◌, ◌==◌, Bool, true, false, Option, Some, None, if◌then◌else◌}
+use Rattle.std.specs.Prelude.{List, [], length}
 use Rattle.std.specs.List.{list_all}
 use Rattle.std.specs.Int.{bit_at}
-use Rattle.linker_laws.specs.X86Machine.{State, Flags, bit_of}
+use Rattle.linker_laws.specs.X86Examples.{bytes_before, flags_number}
+use Rattle.linker_laws.specs.X86Machine.{State, Flags}
 use Rattle.linker_output.specs.X86LazyPlt.{step}
 use Rattle.linker_final.specs.Steps.{Executed, Group, Numbers, at, flags, pc, made_high, before}
 use Rattle.linker_final.specs.Steps.{memory_in, bytes_from, is_left}
@@ -22,11 +23,6 @@ flags_in n =
       overflow = bit_at n 11 == 1;
     }
 
-abbrev pub number_of_flags : Flags → ℕ
-number_of_flags f =
-    bit_of f.carry + 2 ^ 2 * bit_of f.parity + 2 ^ 4 * bit_of f.auxiliary
-    + 2 ^ 6 * bit_of f.is_zero + 2 ^ 7 * bit_of f.sign + 2 ^ 11 * bit_of f.overflow
-
 abbrev pub numbers : Executed → Numbers
 numbers = before (made_high 1)
 
@@ -42,12 +38,6 @@ begun e =
       fs = numbers e 16;
     }
 
--- the bytes of a number, at most n, of which the first is the highest
-abbrev pub bytes_before : ℕ → ℕ → List ℕ → List ℕ
-bytes_before zero n others = others
-bytes_before (suc k) n others =
-    if n == 0 then others else bytes_before k (n / 256) (n % 256 ∷ others)
-
 abbrev pub bytes_of : Executed → List ℕ
 bytes_of e = bytes_before 15 e.code []
 
@@ -58,7 +48,7 @@ abbrev pub ends_so : ℕ → Executed → Option State → Bool
 ends_so mask e None = false
 ends_so mask e (Some s) =
     is_left 17 (length (bytes_of e)) mask e (numbers e) (register s) s.ip s.memory
-    (number_of_flags s.flags)
+    (flags_number s.flags)
 
 -- Each instruction leaves what the emulator did.
 abbrev pub Agrees : Type 0

@@ -1,244 +1,128 @@
 -- x86-64: rows that the definitions of instructions are compared with. GNU as makes these bytes of
 -- these instructions, LLVM 22 those with REX2 and with EVEX, and GNU objdump reads those with
 -- `data16 data16` so. A processor made these results and flags of two numbers.
-use Rattle.std.specs.Prelude.{◌≡◌, ℕ, ◌+◌, ◌*◌, ◌%◌, ◌==◌, ◌&&◌, Bool, true, false, List, [], ◌∷◌}
-use Rattle.std.specs.Prelude.{if◌then◌else◌}
+use Rattle.std.specs.Prelude.{◌≡◌, ℕ, zero, suc, ◌+◌, ◌*◌, ◌/◌, ◌%◌, ◌==◌, ◌&&◌, Bool, true, false}
+use Rattle.std.specs.Prelude.{if◌then◌else◌, List, [], ◌∷◌, map}
 use Rattle.std.specs.Prelude.{length, IsTrue, IsSomeAnd, Some, None}
 use Rattle.linker_laws.specs.X86Machine.{Operation, MOV, ADD, OR, ADC, SBB, AND, SUB, XOR, CMP}
-use Rattle.linker_laws.specs.X86Machine.{TEST, Instruction, operate, operate_into, lea, lea_from}
-use Rattle.linker_laws.specs.X86Machine.{load_thread, call, jump, nop, direct}
-use Rattle.linker_laws.specs.X86Machine.{indirect, through, register, relative, immediate}
+use Rattle.linker_laws.specs.X86Machine.{TEST, Instruction, operate, operate_into as into, lea}
+use Rattle.linker_laws.specs.X86Machine.{lea_from, load_thread, call, jump, nop, direct, indirect}
+use Rattle.linker_laws.specs.X86Machine.{through, Operand, register as reg, relative, immediate}
 use Rattle.linker_laws.specs.X86Machine.{decode, step}
 use Rattle.linker_laws.specs.X86Machine.{Flags, State, result, flags_after, bit_of, load}
 use Rattle.linker_laws.specs.X86Machine.{writes}
 
 -- ---- bytes
 
-abbrev pub DecodesAs : List ℕ → Instruction → Type 0
-DecodesAs bytes instruction =
-    decode bytes ≡ Some (record { instruction = instruction; size = length bytes })
+-- the bytes of a number, of which the first is the highest, before others
+abbrev pub bytes_before : ℕ → ℕ → List ℕ → List ℕ
+bytes_before zero n others = others
+bytes_before (suc k) n others =
+    if n == 0 then others else bytes_before k (n / 256) (n % 256 ∷ others)
+
+-- those of an instruction, 15 at most
+abbrev pub bytes_of : ℕ → List ℕ
+bytes_of n = bytes_before 15 n []
+
+abbrev pub near : Operand
+near = relative 0x10
+
+abbrev pub number : Operand
+number = immediate 0x12345678
+
+-- instructions, each after its bytes
+abbrev pub decoded : List (ℕ × Instruction)
+decoded =
+    (0x8b0510000000, operate MOV 32 (reg 0) near)  -- mov 0x10(%rip), %eax
+    ∷ (0x4c8b0d10000000, operate MOV 64 (reg 9) near)  -- mov 0x10(%rip), %r9
+    ∷ (0x4c8d0d10000000, lea 64 9 0x10)  -- lea 0x10(%rip), %r9
+    ∷ (0x8d0d10000000, lea 32 1 0x10)  -- lea 0x10(%rip), %ecx
+    ∷ (0x48c7c3f8ffffff, operate MOV 64 (reg 3) (immediate 0xfffffff8))  -- mov $-8, %rbx
+    ∷ (0x41c7c100000080, operate MOV 32 (reg 9) (immediate 0x80000000))  -- mov $0x80000000, %r9d
+    ∷ (0x030510000000, operate ADD 32 (reg 0) near)  -- add 0x10(%rip), %eax
+    ∷ (0x480b3d10000000, operate OR 64 (reg 7) near)  -- or 0x10(%rip), %rdi
+    ∷ (0x4c132510000000, operate ADC 64 (reg 12) near)  -- adc 0x10(%rip), %r12
+    ∷ (0x481b3d10000000, operate SBB 64 (reg 7) near)  -- sbb 0x10(%rip), %rdi
+    ∷ (0x48233d10000000, operate AND 64 (reg 7) near)  -- and 0x10(%rip), %rdi
+    ∷ (0x482b3d10000000, operate SUB 64 (reg 7) near)  -- sub 0x10(%rip), %rdi
+    ∷ (0x48333d10000000, operate XOR 64 (reg 7) near)  -- xor 0x10(%rip), %rdi
+    ∷ (0x483b3d10000000, operate CMP 64 (reg 7) near)  -- cmp 0x10(%rip), %rdi
+    ∷ (0x4c853510000000, operate TEST 64 near (reg 14))  -- test %r14, 0x10(%rip)
+    ∷ (0x4981c078563412, operate ADD 64 (reg 8) number)  -- add $0x12345678, %r8
+    ∷ (0x4881c978563412, operate OR 64 (reg 1) number)  -- or $0x12345678, %rcx
+    ∷ (0x4881d178563412, operate ADC 64 (reg 1) number)  -- adc $0x12345678, %rcx
+    ∷ (0x4881d978563412, operate SBB 64 (reg 1) number)  -- sbb $0x12345678, %rcx
+    ∷ (0x4881e178563412, operate AND 64 (reg 1) number)  -- and $0x12345678, %rcx
+    ∷ (0x81e978563412, operate SUB 32 (reg 1) number)  -- sub $0x12345678, %ecx
+    ∷ (0x4881f178563412, operate XOR 64 (reg 1) number)  -- xor $0x12345678, %rcx
+    ∷ (0x4881f978563412, operate CMP 64 (reg 1) number)  -- cmp $0x12345678, %rcx
+    ∷ (0x48f7c178563412, operate TEST 64 (reg 1) number)  -- test $0x12345678, %rcx
+    ∷ (0xff1510000000, call (indirect 0x10))  -- call *0x10(%rip)
+    ∷ (0xff10, call (through 0))  -- call *(%rax)
+    ∷ (0x41ff11, call (through 9))  -- call *(%r9)
+    ∷ (0x666648e810000000, call (direct 0x10))  -- data16 data16 rex.W call .+0x18
+    ∷ (0x67e810000000, call (direct 0x10))  -- addr32 call .+0x16
+    ∷ (0xff2510000000, jump (indirect 0x10))  -- jmp *0x10(%rip)
+    ∷ (0xe910000000, jump (direct 0x10))  -- jmp .+0x15
+    ∷ (0x90, nop)  -- nop
+    ∷ (0xd5488b0510000000, operate MOV 64 (reg 16) near)  -- mov 0x10(%rip), %r16
+    ∷ (0xd5448d0d10000000, lea 32 25 0x10)  -- lea 0x10(%rip), %r25d
+    ∷ (0xd54c133d10000000, operate ADC 64 (reg 31) near)  -- adc 0x10(%rip), %r31
+    ∷ (0xd54c850510000000, operate TEST 64 near (reg 24))  -- test %r24, 0x10(%rip)
+    ∷ (0xd518c7c0f8ffffff, operate MOV 64 (reg 16) (immediate 0xfffffff8))  -- mov $-8, %r16
+    ∷ (0xd51981d778563412, operate ADC 64 (reg 31) number)  -- adc $0x12345678, %r31
+    ∷ (0x66488d3d10000000, lea 64 7 0x10)  -- data16 lea 0x10(%rip), %rdi
+    ∷ (0x64488b042500000000, load_thread 0 0)  -- mov %fs:0, %rax
+    ∷ (0x488d8078563412, lea_from 64 0 0 0x12345678)  -- lea 0x12345678(%rax), %rax
+    ∷ (0x6690, nop)  -- data16 nop
+    ∷ (0x62f4ec10030d10000000, into 18 false ADD 64 (reg 1) near)  -- add 0x10(%rip), %rcx, %r18
+    ∷ (0x62e4ec10030d10000000, into 18 false ADD 64 (reg 17) near)  -- add 0x10(%rip), %r17, %r18
+    -- {nf} add 0x10(%rip), %r28, %r18
+    ∷ (0x6264ec14032510000000, into 18 true ADD 64 (reg 28) near)
+    ∷ (0x62e4fc0c030d10000000, into 17 true ADD 64 (reg 17) near)  -- {nf} add 0x10(%rip), %r17
+    ∷ (0x6274fc08030d10000000, into 9 false ADD 64 (reg 9) near)  -- {evex} add 0x10(%rip), %r9
+    ∷ (0x6264fc08133d10000000, into 31 false ADC 64 (reg 31) near)  -- {evex} adc 0x10(%rip), %r31
+    ∷ (0x62f46c10130d10000000, into 18 false ADC 32 (reg 1) near)  -- adc 0x10(%rip), %ecx, %r18d
+    ∷ (0x6264e4181b3d10000000, into 3 false SBB 64 (reg 31) near)  -- sbb 0x10(%rip), %r31, %rbx
+    ∷ (0x62743418230510000000, into 9 false AND 32 (reg 8) near)  -- and 0x10(%rip), %r8d, %r9d
+    ∷ (0x62e484140b0510000000, into 31 true OR 64 (reg 16) near)  -- {nf} or 0x10(%rip), %r16, %r31
+    ∷ (0x62f4ec18330510000000, into 2 false XOR 64 (reg 0) near)  -- xor 0x10(%rip), %rax, %rdx
+    ∷ (0x62f4ec1081c178563412, into 18 false ADD 64 (reg 1) number)  -- add $0x12345678, %rcx, %r18
+    -- {nf} add $0x12345678, %r28, %r18
+    ∷ (0x62dcec1481c478563412, into 18 true ADD 64 (reg 28) number)
+    ∷ (0x62fcfc0c81c178563412, into 17 true ADD 64 (reg 17) number)  -- {nf} add $0x12345678, %r17
+    ∷ (0x62d4fc0881c178563412, into 9 false ADD 64 (reg 9) number)  -- {evex} add $0x12345678, %r9
+    -- {evex} adc $0x12345678, %r31
+    ∷ (0x62dcfc0881d778563412, into 31 false ADC 64 (reg 31) number)
+    ∷ (0x62f46c1081d178563412, into 18 false ADC 32 (reg 1) number)  -- adc $0x12345678, %ecx, %r18d
+    ∷ (0x62dce41881df78563412, into 3 false SBB 64 (reg 31) number)  -- sbb $0x12345678, %r31, %rbx
+    ∷ (0x62d4341881e078563412, into 9 false AND 32 (reg 8) number)  -- and $0x12345678, %r8d, %r9d
+    -- {nf} or $0x12345678, %r16, %r31
+    ∷ (0x62fc841481c878563412, into 31 true OR 64 (reg 16) number)
+    ∷ (0x62fcec1881f178563412, into 2 false XOR 64 (reg 17) number)  -- xor $0x12345678, %r17, %rdx
+    ∷ (0x6264e4182b3d10000000, into 3 false SUB 64 (reg 31) near)  -- sub 0x10(%rip), %r31, %rbx
+    ∷ (0x62e4fc0c2b0d10000000, into 17 true SUB 64 (reg 17) near)  -- {nf} sub 0x10(%rip), %r17
+    ∷ (0x6274341c230510000000, into 9 true AND 32 (reg 8) near)  -- {nf} and 0x10(%rip), %r8d, %r9d
+    ∷ (0x62f4ec1c330510000000, into 2 true XOR 64 (reg 0) near)  -- {nf} xor 0x10(%rip), %rax, %rdx
+    ∷ (0x62dce41881ef78563412, into 3 false SUB 64 (reg 31) number)  -- sub $0x12345678, %r31, %rbx
+    -- {nf} and $0x12345678, %r8d, %r9d
+    ∷ (0x62d4341c81e078563412, into 9 true AND 32 (reg 8) number)
+    -- {nf} xor $0x12345678, %r16, %rdx
+    ∷ (0x62fcec1c81f078563412, into 2 true XOR 64 (reg 16) number)
+    ∷ (0x66666664488b042500000000, load_thread 0 0)  -- data16 data16 data16 mov %fs:0, %rax
+    ∷ (0x660f1f440000, nop)  -- nopw 0(%rax,%rax,1)
+    ∷ (0x666666662e0f1f840000000000, nop)  -- data16 data16 data16 cs nopw 0(%rax,%rax,1)
+    ∷ []
 
 abbrev pub Decoding : Type 0
 Decoding =
-    -- `mov 0x10(%rip), %eax`
-    DecodesAs (0x8b ∷ 0x05 ∷ 0x10 ∷ 0x00 ∷ 0x00 ∷ 0x00 ∷ [])
-    (operate MOV 32 (register 0) (relative 0x10))
-    -- `mov 0x10(%rip), %r9`
-    × DecodesAs (0x4c ∷ 0x8b ∷ 0x0d ∷ 0x10 ∷ 0x00 ∷ 0x00 ∷ 0x00 ∷ [])
-    (operate MOV 64 (register 9) (relative 0x10))
-    -- `lea 0x10(%rip), %r9`
-    × DecodesAs (0x4c ∷ 0x8d ∷ 0x0d ∷ 0x10 ∷ 0x00 ∷ 0x00 ∷ 0x00 ∷ [])
-    (lea 64 9 0x10)
-    -- `lea 0x10(%rip), %ecx`
-    × DecodesAs (0x8d ∷ 0x0d ∷ 0x10 ∷ 0x00 ∷ 0x00 ∷ 0x00 ∷ [])
-    (lea 32 1 0x10)
-    -- `mov $-8, %rbx`
-    × DecodesAs (0x48 ∷ 0xc7 ∷ 0xc3 ∷ 0xf8 ∷ 0xff ∷ 0xff ∷ 0xff ∷ [])
-    (operate MOV 64 (register 3) (immediate 0xfffffff8))
-    -- `mov $0x80000000, %r9d`
-    × DecodesAs (0x41 ∷ 0xc7 ∷ 0xc1 ∷ 0x00 ∷ 0x00 ∷ 0x00 ∷ 0x80 ∷ [])
-    (operate MOV 32 (register 9) (immediate 0x80000000))
-    -- `add 0x10(%rip), %eax`
-    × DecodesAs (0x03 ∷ 0x05 ∷ 0x10 ∷ 0x00 ∷ 0x00 ∷ 0x00 ∷ [])
-    (operate ADD 32 (register 0) (relative 0x10))
-    -- `or 0x10(%rip), %rdi`
-    × DecodesAs (0x48 ∷ 0x0b ∷ 0x3d ∷ 0x10 ∷ 0x00 ∷ 0x00 ∷ 0x00 ∷ [])
-    (operate OR 64 (register 7) (relative 0x10))
-    -- `adc 0x10(%rip), %r12`
-    × DecodesAs (0x4c ∷ 0x13 ∷ 0x25 ∷ 0x10 ∷ 0x00 ∷ 0x00 ∷ 0x00 ∷ [])
-    (operate ADC 64 (register 12) (relative 0x10))
-    -- `sbb 0x10(%rip), %rdi`
-    × DecodesAs (0x48 ∷ 0x1b ∷ 0x3d ∷ 0x10 ∷ 0x00 ∷ 0x00 ∷ 0x00 ∷ [])
-    (operate SBB 64 (register 7) (relative 0x10))
-    -- `and 0x10(%rip), %rdi`
-    × DecodesAs (0x48 ∷ 0x23 ∷ 0x3d ∷ 0x10 ∷ 0x00 ∷ 0x00 ∷ 0x00 ∷ [])
-    (operate AND 64 (register 7) (relative 0x10))
-    -- `sub 0x10(%rip), %rdi`
-    × DecodesAs (0x48 ∷ 0x2b ∷ 0x3d ∷ 0x10 ∷ 0x00 ∷ 0x00 ∷ 0x00 ∷ [])
-    (operate SUB 64 (register 7) (relative 0x10))
-    -- `xor 0x10(%rip), %rdi`
-    × DecodesAs (0x48 ∷ 0x33 ∷ 0x3d ∷ 0x10 ∷ 0x00 ∷ 0x00 ∷ 0x00 ∷ [])
-    (operate XOR 64 (register 7) (relative 0x10))
-    -- `cmp 0x10(%rip), %rdi`
-    × DecodesAs (0x48 ∷ 0x3b ∷ 0x3d ∷ 0x10 ∷ 0x00 ∷ 0x00 ∷ 0x00 ∷ [])
-    (operate CMP 64 (register 7) (relative 0x10))
-    -- `test %r14, 0x10(%rip)`
-    × DecodesAs (0x4c ∷ 0x85 ∷ 0x35 ∷ 0x10 ∷ 0x00 ∷ 0x00 ∷ 0x00 ∷ [])
-    (operate TEST 64 (relative 0x10) (register 14))
-    -- `add $0x12345678, %r8`
-    × DecodesAs (0x49 ∷ 0x81 ∷ 0xc0 ∷ 0x78 ∷ 0x56 ∷ 0x34 ∷ 0x12 ∷ [])
-    (operate ADD 64 (register 8) (immediate 0x12345678))
-    -- `or $0x12345678, %rcx`
-    × DecodesAs (0x48 ∷ 0x81 ∷ 0xc9 ∷ 0x78 ∷ 0x56 ∷ 0x34 ∷ 0x12 ∷ [])
-    (operate OR 64 (register 1) (immediate 0x12345678))
-    -- `adc $0x12345678, %rcx`
-    × DecodesAs (0x48 ∷ 0x81 ∷ 0xd1 ∷ 0x78 ∷ 0x56 ∷ 0x34 ∷ 0x12 ∷ [])
-    (operate ADC 64 (register 1) (immediate 0x12345678))
-    -- `sbb $0x12345678, %rcx`
-    × DecodesAs (0x48 ∷ 0x81 ∷ 0xd9 ∷ 0x78 ∷ 0x56 ∷ 0x34 ∷ 0x12 ∷ [])
-    (operate SBB 64 (register 1) (immediate 0x12345678))
-    -- `and $0x12345678, %rcx`
-    × DecodesAs (0x48 ∷ 0x81 ∷ 0xe1 ∷ 0x78 ∷ 0x56 ∷ 0x34 ∷ 0x12 ∷ [])
-    (operate AND 64 (register 1) (immediate 0x12345678))
-    -- `sub $0x12345678, %ecx`
-    × DecodesAs (0x81 ∷ 0xe9 ∷ 0x78 ∷ 0x56 ∷ 0x34 ∷ 0x12 ∷ [])
-    (operate SUB 32 (register 1) (immediate 0x12345678))
-    -- `xor $0x12345678, %rcx`
-    × DecodesAs (0x48 ∷ 0x81 ∷ 0xf1 ∷ 0x78 ∷ 0x56 ∷ 0x34 ∷ 0x12 ∷ [])
-    (operate XOR 64 (register 1) (immediate 0x12345678))
-    -- `cmp $0x12345678, %rcx`
-    × DecodesAs (0x48 ∷ 0x81 ∷ 0xf9 ∷ 0x78 ∷ 0x56 ∷ 0x34 ∷ 0x12 ∷ [])
-    (operate CMP 64 (register 1) (immediate 0x12345678))
-    -- `test $0x12345678, %rcx`
-    × DecodesAs (0x48 ∷ 0xf7 ∷ 0xc1 ∷ 0x78 ∷ 0x56 ∷ 0x34 ∷ 0x12 ∷ [])
-    (operate TEST 64 (register 1) (immediate 0x12345678))
-    -- `call *0x10(%rip)`
-    × DecodesAs (0xff ∷ 0x15 ∷ 0x10 ∷ 0x00 ∷ 0x00 ∷ 0x00 ∷ [])
-    (call (indirect 0x10))
-    -- `call *(%rax)`, and `call *(%r9)`
-    × DecodesAs (0xff ∷ 0x10 ∷ []) (call (through 0))
-    × DecodesAs (0x41 ∷ 0xff ∷ 0x11 ∷ []) (call (through 9))
-    -- `data16 data16 rex.W call .+0x18`
-    × DecodesAs (0x66 ∷ 0x66 ∷ 0x48 ∷ 0xe8 ∷ 0x10 ∷ 0x00 ∷ 0x00 ∷ 0x00 ∷ [])
-    (call (direct 0x10))
-    -- `addr32 call .+0x16`
-    × DecodesAs (0x67 ∷ 0xe8 ∷ 0x10 ∷ 0x00 ∷ 0x00 ∷ 0x00 ∷ [])
-    (call (direct 0x10))
-    -- `jmp *0x10(%rip)`
-    × DecodesAs (0xff ∷ 0x25 ∷ 0x10 ∷ 0x00 ∷ 0x00 ∷ 0x00 ∷ [])
-    (jump (indirect 0x10))
-    -- `jmp .+0x15`
-    × DecodesAs (0xe9 ∷ 0x10 ∷ 0x00 ∷ 0x00 ∷ 0x00 ∷ [])
-    (jump (direct 0x10))
-    -- `nop`
-    × DecodesAs (0x90 ∷ [])
-    (nop)
-    -- `mov 0x10(%rip), %r16`
-    × DecodesAs (0xd5 ∷ 0x48 ∷ 0x8b ∷ 0x05 ∷ 0x10 ∷ 0x00 ∷ 0x00 ∷ 0x00 ∷ [])
-    (operate MOV 64 (register 16) (relative 0x10))
-    -- `lea 0x10(%rip), %r25d`
-    × DecodesAs (0xd5 ∷ 0x44 ∷ 0x8d ∷ 0x0d ∷ 0x10 ∷ 0x00 ∷ 0x00 ∷ 0x00 ∷ [])
-    (lea 32 25 0x10)
-    -- `adc 0x10(%rip), %r31`
-    × DecodesAs (0xd5 ∷ 0x4c ∷ 0x13 ∷ 0x3d ∷ 0x10 ∷ 0x00 ∷ 0x00 ∷ 0x00 ∷ [])
-    (operate ADC 64 (register 31) (relative 0x10))
-    -- `test %r24, 0x10(%rip)`
-    × DecodesAs (0xd5 ∷ 0x4c ∷ 0x85 ∷ 0x05 ∷ 0x10 ∷ 0x00 ∷ 0x00 ∷ 0x00 ∷ [])
-    (operate TEST 64 (relative 0x10) (register 24))
-    -- `mov $-8, %r16`
-    × DecodesAs (0xd5 ∷ 0x18 ∷ 0xc7 ∷ 0xc0 ∷ 0xf8 ∷ 0xff ∷ 0xff ∷ 0xff ∷ [])
-    (operate MOV 64 (register 16) (immediate 0xfffffff8))
-    -- `adc $0x12345678, %r31`
-    × DecodesAs (0xd5 ∷ 0x19 ∷ 0x81 ∷ 0xd7 ∷ 0x78 ∷ 0x56 ∷ 0x34 ∷ 0x12 ∷ [])
-    (operate ADC 64 (register 31) (immediate 0x12345678))
-    -- `data16 lea 0x10(%rip), %rdi`
-    × DecodesAs (0x66 ∷ 0x48 ∷ 0x8d ∷ 0x3d ∷ 0x10 ∷ 0x00 ∷ 0x00 ∷ 0x00 ∷ [])
-    (lea 64 7 0x10)
-    -- `mov %fs:0, %rax`
-    × DecodesAs (0x64 ∷ 0x48 ∷ 0x8b ∷ 0x04 ∷ 0x25 ∷ 0x00 ∷ 0x00 ∷ 0x00 ∷ 0x00 ∷ [])
-    (load_thread 0 0)
-    -- `lea 0x12345678(%rax), %rax`
-    × DecodesAs (0x48 ∷ 0x8d ∷ 0x80 ∷ 0x78 ∷ 0x56 ∷ 0x34 ∷ 0x12 ∷ [])
-    (lea_from 64 0 0 0x12345678)
-    -- `data16 nop`
-    × DecodesAs (0x66 ∷ 0x90 ∷ [])
-    nop
-    -- `add 0x10(%rip), %rcx, %r18`
-    × DecodesAs (0x62 ∷ 0xf4 ∷ 0xec ∷ 0x10 ∷ 0x03 ∷ 0x0d ∷ 0x10 ∷ 0x00 ∷ 0x00 ∷ 0x00 ∷ [])
-    (operate_into 18 false ADD 64 (register 1) (relative 0x10))
-    -- `add 0x10(%rip), %r17, %r18`
-    × DecodesAs (0x62 ∷ 0xe4 ∷ 0xec ∷ 0x10 ∷ 0x03 ∷ 0x0d ∷ 0x10 ∷ 0x00 ∷ 0x00 ∷ 0x00 ∷ [])
-    (operate_into 18 false ADD 64 (register 17) (relative 0x10))
-    -- `{nf} add 0x10(%rip), %r28, %r18`
-    × DecodesAs (0x62 ∷ 0x64 ∷ 0xec ∷ 0x14 ∷ 0x03 ∷ 0x25 ∷ 0x10 ∷ 0x00 ∷ 0x00 ∷ 0x00 ∷ [])
-    (operate_into 18 true ADD 64 (register 28) (relative 0x10))
-    -- `{nf} add 0x10(%rip), %r17`
-    × DecodesAs (0x62 ∷ 0xe4 ∷ 0xfc ∷ 0x0c ∷ 0x03 ∷ 0x0d ∷ 0x10 ∷ 0x00 ∷ 0x00 ∷ 0x00 ∷ [])
-    (operate_into 17 true ADD 64 (register 17) (relative 0x10))
-    -- `{evex} add 0x10(%rip), %r9`
-    × DecodesAs (0x62 ∷ 0x74 ∷ 0xfc ∷ 0x08 ∷ 0x03 ∷ 0x0d ∷ 0x10 ∷ 0x00 ∷ 0x00 ∷ 0x00 ∷ [])
-    (operate_into 9 false ADD 64 (register 9) (relative 0x10))
-    -- `{evex} adc 0x10(%rip), %r31`
-    × DecodesAs (0x62 ∷ 0x64 ∷ 0xfc ∷ 0x08 ∷ 0x13 ∷ 0x3d ∷ 0x10 ∷ 0x00 ∷ 0x00 ∷ 0x00 ∷ [])
-    (operate_into 31 false ADC 64 (register 31) (relative 0x10))
-    -- `adc 0x10(%rip), %ecx, %r18d`
-    × DecodesAs (0x62 ∷ 0xf4 ∷ 0x6c ∷ 0x10 ∷ 0x13 ∷ 0x0d ∷ 0x10 ∷ 0x00 ∷ 0x00 ∷ 0x00 ∷ [])
-    (operate_into 18 false ADC 32 (register 1) (relative 0x10))
-    -- `sbb 0x10(%rip), %r31, %rbx`
-    × DecodesAs (0x62 ∷ 0x64 ∷ 0xe4 ∷ 0x18 ∷ 0x1b ∷ 0x3d ∷ 0x10 ∷ 0x00 ∷ 0x00 ∷ 0x00 ∷ [])
-    (operate_into 3 false SBB 64 (register 31) (relative 0x10))
-    -- `and 0x10(%rip), %r8d, %r9d`
-    × DecodesAs (0x62 ∷ 0x74 ∷ 0x34 ∷ 0x18 ∷ 0x23 ∷ 0x05 ∷ 0x10 ∷ 0x00 ∷ 0x00 ∷ 0x00 ∷ [])
-    (operate_into 9 false AND 32 (register 8) (relative 0x10))
-    -- `{nf} or 0x10(%rip), %r16, %r31`
-    × DecodesAs (0x62 ∷ 0xe4 ∷ 0x84 ∷ 0x14 ∷ 0x0b ∷ 0x05 ∷ 0x10 ∷ 0x00 ∷ 0x00 ∷ 0x00 ∷ [])
-    (operate_into 31 true OR 64 (register 16) (relative 0x10))
-    -- `xor 0x10(%rip), %rax, %rdx`
-    × DecodesAs (0x62 ∷ 0xf4 ∷ 0xec ∷ 0x18 ∷ 0x33 ∷ 0x05 ∷ 0x10 ∷ 0x00 ∷ 0x00 ∷ 0x00 ∷ [])
-    (operate_into 2 false XOR 64 (register 0) (relative 0x10))
-    -- `add $0x12345678, %rcx, %r18`
-    × DecodesAs (0x62 ∷ 0xf4 ∷ 0xec ∷ 0x10 ∷ 0x81 ∷ 0xc1 ∷ 0x78 ∷ 0x56 ∷ 0x34 ∷ 0x12 ∷ [])
-    (operate_into 18 false ADD 64 (register 1) (immediate 0x12345678))
-    -- `{nf} add $0x12345678, %r28, %r18`
-    × DecodesAs (0x62 ∷ 0xdc ∷ 0xec ∷ 0x14 ∷ 0x81 ∷ 0xc4 ∷ 0x78 ∷ 0x56 ∷ 0x34 ∷ 0x12 ∷ [])
-    (operate_into 18 true ADD 64 (register 28) (immediate 0x12345678))
-    -- `{nf} add $0x12345678, %r17`
-    × DecodesAs (0x62 ∷ 0xfc ∷ 0xfc ∷ 0x0c ∷ 0x81 ∷ 0xc1 ∷ 0x78 ∷ 0x56 ∷ 0x34 ∷ 0x12 ∷ [])
-    (operate_into 17 true ADD 64 (register 17) (immediate 0x12345678))
-    -- `{evex} add $0x12345678, %r9`
-    × DecodesAs (0x62 ∷ 0xd4 ∷ 0xfc ∷ 0x08 ∷ 0x81 ∷ 0xc1 ∷ 0x78 ∷ 0x56 ∷ 0x34 ∷ 0x12 ∷ [])
-    (operate_into 9 false ADD 64 (register 9) (immediate 0x12345678))
-    -- `{evex} adc $0x12345678, %r31`
-    × DecodesAs (0x62 ∷ 0xdc ∷ 0xfc ∷ 0x08 ∷ 0x81 ∷ 0xd7 ∷ 0x78 ∷ 0x56 ∷ 0x34 ∷ 0x12 ∷ [])
-    (operate_into 31 false ADC 64 (register 31) (immediate 0x12345678))
-    -- `adc $0x12345678, %ecx, %r18d`
-    × DecodesAs (0x62 ∷ 0xf4 ∷ 0x6c ∷ 0x10 ∷ 0x81 ∷ 0xd1 ∷ 0x78 ∷ 0x56 ∷ 0x34 ∷ 0x12 ∷ [])
-    (operate_into 18 false ADC 32 (register 1) (immediate 0x12345678))
-    -- `sbb $0x12345678, %r31, %rbx`
-    × DecodesAs (0x62 ∷ 0xdc ∷ 0xe4 ∷ 0x18 ∷ 0x81 ∷ 0xdf ∷ 0x78 ∷ 0x56 ∷ 0x34 ∷ 0x12 ∷ [])
-    (operate_into 3 false SBB 64 (register 31) (immediate 0x12345678))
-    -- `and $0x12345678, %r8d, %r9d`
-    × DecodesAs (0x62 ∷ 0xd4 ∷ 0x34 ∷ 0x18 ∷ 0x81 ∷ 0xe0 ∷ 0x78 ∷ 0x56 ∷ 0x34 ∷ 0x12 ∷ [])
-    (operate_into 9 false AND 32 (register 8) (immediate 0x12345678))
-    -- `{nf} or $0x12345678, %r16, %r31`
-    × DecodesAs (0x62 ∷ 0xfc ∷ 0x84 ∷ 0x14 ∷ 0x81 ∷ 0xc8 ∷ 0x78 ∷ 0x56 ∷ 0x34 ∷ 0x12 ∷ [])
-    (operate_into 31 true OR 64 (register 16) (immediate 0x12345678))
-    -- `xor $0x12345678, %r17, %rdx`
-    × DecodesAs (0x62 ∷ 0xfc ∷ 0xec ∷ 0x18 ∷ 0x81 ∷ 0xf1 ∷ 0x78 ∷ 0x56 ∷ 0x34 ∷ 0x12 ∷ [])
-    (operate_into 2 false XOR 64 (register 17) (immediate 0x12345678))
-    -- `sub 0x10(%rip), %r31, %rbx`
-    × DecodesAs (0x62 ∷ 0x64 ∷ 0xe4 ∷ 0x18 ∷ 0x2b ∷ 0x3d ∷ 0x10 ∷ 0x00 ∷ 0x00 ∷ 0x00 ∷ [])
-    (operate_into 3 false SUB 64 (register 31) (relative 0x10))
-    -- `{nf} sub 0x10(%rip), %r17`
-    × DecodesAs (0x62 ∷ 0xe4 ∷ 0xfc ∷ 0x0c ∷ 0x2b ∷ 0x0d ∷ 0x10 ∷ 0x00 ∷ 0x00 ∷ 0x00 ∷ [])
-    (operate_into 17 true SUB 64 (register 17) (relative 0x10))
-    -- `{nf} and 0x10(%rip), %r8d, %r9d`
-    × DecodesAs (0x62 ∷ 0x74 ∷ 0x34 ∷ 0x1c ∷ 0x23 ∷ 0x05 ∷ 0x10 ∷ 0x00 ∷ 0x00 ∷ 0x00 ∷ [])
-    (operate_into 9 true AND 32 (register 8) (relative 0x10))
-    -- `{nf} xor 0x10(%rip), %rax, %rdx`
-    × DecodesAs (0x62 ∷ 0xf4 ∷ 0xec ∷ 0x1c ∷ 0x33 ∷ 0x05 ∷ 0x10 ∷ 0x00 ∷ 0x00 ∷ 0x00 ∷ [])
-    (operate_into 2 true XOR 64 (register 0) (relative 0x10))
-    -- `sub $0x12345678, %r31, %rbx`
-    × DecodesAs (0x62 ∷ 0xdc ∷ 0xe4 ∷ 0x18 ∷ 0x81 ∷ 0xef ∷ 0x78 ∷ 0x56 ∷ 0x34 ∷ 0x12 ∷ [])
-    (operate_into 3 false SUB 64 (register 31) (immediate 0x12345678))
-    -- `{nf} and $0x12345678, %r8d, %r9d`
-    × DecodesAs (0x62 ∷ 0xd4 ∷ 0x34 ∷ 0x1c ∷ 0x81 ∷ 0xe0 ∷ 0x78 ∷ 0x56 ∷ 0x34 ∷ 0x12 ∷ [])
-    (operate_into 9 true AND 32 (register 8) (immediate 0x12345678))
-    -- `{nf} xor $0x12345678, %r16, %rdx`
-    × DecodesAs (0x62 ∷ 0xfc ∷ 0xec ∷ 0x1c ∷ 0x81 ∷ 0xf0 ∷ 0x78 ∷ 0x56 ∷ 0x34 ∷ 0x12 ∷ [])
-    (operate_into 2 true XOR 64 (register 16) (immediate 0x12345678))
-    -- `data16 data16 data16 mov %fs:0, %rax`
-    × DecodesAs
-    (0x66 ∷ 0x66 ∷ 0x66 ∷ 0x64 ∷ 0x48 ∷ 0x8b ∷ 0x04 ∷ 0x25 ∷ 0x00 ∷ 0x00 ∷ 0x00 ∷ 0x00 ∷ [])
-    (load_thread 0 0)
-    -- `nopw 0(%rax,%rax,1)`
-    × DecodesAs (0x66 ∷ 0x0f ∷ 0x1f ∷ 0x44 ∷ 0x00 ∷ 0x00 ∷ [])
-    nop
-    -- `data16 data16 data16 cs nopw 0(%rax,%rax,1)`
-    × DecodesAs
-    (0x66 ∷ 0x66 ∷ 0x66 ∷ 0x66 ∷ 0x2e ∷ 0x0f ∷ 0x1f ∷ 0x84 ∷ 0x00 ∷ 0x00 ∷ 0x00 ∷ 0x00 ∷ 0x00 ∷ [])
-    nop
-    -- no instruction: 7 of `data16`, and 9 bytes
+    (map (λ (row : ℕ × Instruction). decode (bytes_of row.0)) decoded
+    ≡ map
+    (λ (row : ℕ × Instruction). Some (record {
+      instruction = row.1;
+      size = length (bytes_of row.0);
+    })) decoded)
+    -- 7 of `data16`, and 9 bytes
     × (decode (0x66 ∷ 0x66 ∷ 0x66 ∷ 0x66 ∷ 0x66 ∷ 0x66 ∷ 0x66 ∷ 0x64 ∷ 0x48 ∷ 0x8b ∷ 0x04 ∷ 0x25
     ∷ 0x00 ∷ 0x00 ∷ 0x00 ∷ 0x00 ∷ []) ≡ None)
 
@@ -327,37 +211,34 @@ example =
       fs = 0x2000;
     }
 
-abbrev pub Leaves : List ℕ → (State → Type 0) → Type 0
-Leaves bytes After = IsSomeAnd (step bytes example) After
+abbrev pub Leaves : ℕ → (State → Type 0) → Type 0
+Leaves code After = IsSomeAnd (step (bytes_of code) example) After
 
 abbrev pub States : Type 0
 States =
     -- little-endian, and with zeros above: `mov 0x10(%rip), %ecx`
-    Leaves (0x8b ∷ 0x0d ∷ 0x10 ∷ 0 ∷ 0 ∷ 0 ∷ []) (λ s.
+    Leaves 0x8b0d10000000 (λ s.
     (s.ip ≡ 0x1006) × (s.register 1 ≡ 0x19181716) × (s.register 2 ≡ 0xffffffff00000020))
     -- sign-extended: `mov -4(%rip), %rbx` and `add $-1, %rcx`
-    × Leaves (0x48 ∷ 0x8b ∷ 0x1d ∷ 0xfc ∷ 0xff ∷ 0xff ∷ 0xff ∷ []) (λ s.
-    s.register 3 ≡ 0x0a09080706050403)
-    × Leaves (0x48 ∷ 0x81 ∷ 0xc1 ∷ 0xff ∷ 0xff ∷ 0xff ∷ 0xff ∷ []) (λ s.
-    s.register 1 ≡ 0xffffffff0000000f)
+    × Leaves 0x488b1dfcffffff (λ s. s.register 3 ≡ 0x0a09080706050403)
+    × Leaves 0x4881c1ffffffff (λ s. s.register 1 ≡ 0xffffffff0000000f)
     -- nothing is written by `cmp $0, %rcx`
-    × Leaves (0x48 ∷ 0x81 ∷ 0xf9 ∷ 0 ∷ 0 ∷ 0 ∷ 0 ∷ []) (λ s. s.register 1 ≡ 0xffffffff00000010)
+    × Leaves 0x4881f900000000 (λ s. s.register 1 ≡ 0xffffffff00000010)
     -- the return address is pushed: `addr32 call .+0x16`
-    × Leaves (0x67 ∷ 0xe8 ∷ 0x10 ∷ 0 ∷ 0 ∷ 0 ∷ []) (λ s.
+    × Leaves 0x67e810000000 (λ s.
     (s.ip ≡ 0x1016) × (s.register 4 ≡ 0xffffffff00000038)
     × (load 8 s 0xffffffff00000038 ≡ 0x1006)
     × (load 8 s 0xffffffff00000040 ≡ 0x4746454443424140))
     -- `mov %fs:0, %rax`
-    × Leaves (0x64 ∷ 0x48 ∷ 0x8b ∷ 0x04 ∷ 0x25 ∷ 0 ∷ 0 ∷ 0 ∷ 0 ∷ []) (λ s.
-    s.register 0 ≡ 0x0706050403020100)
+    × Leaves 0x64488b042500000000 (λ s. s.register 0 ≡ 0x0706050403020100)
     -- `jmp *0x10(%rip)`
-    × Leaves (0xff ∷ 0x25 ∷ 0x10 ∷ 0 ∷ 0 ∷ 0 ∷ []) (λ s. s.ip ≡ 0x1d1c1b1a19181716)
+    × Leaves 0xff2510000000 (λ s. s.ip ≡ 0x1d1c1b1a19181716)
     -- EVEX, worked by hand. The sum is written to the new destination alone, and the flags stay:
     -- `{nf} add $0x12345678, %r28, %r18`
-    × Leaves (0x62 ∷ 0xdc ∷ 0xec ∷ 0x14 ∷ 0x81 ∷ 0xc4 ∷ 0x78 ∷ 0x56 ∷ 0x34 ∷ 0x12 ∷ []) (λ s.
+    × Leaves 0x62dcec1481c478563412 (λ s.
     (s.ip ≡ 0x100a) × (s.register 18 ≡ 0xffffffff12345838)
     × (s.register 28 ≡ 0xffffffff000001c0) × (s.flags ≡ with_carry 0))
     -- zeros above, and other flags: `adc $0x12345678, %ecx, %r18d`
-    × Leaves (0x62 ∷ 0xf4 ∷ 0x6c ∷ 0x10 ∷ 0x81 ∷ 0xd1 ∷ 0x78 ∷ 0x56 ∷ 0x34 ∷ 0x12 ∷ []) (λ s.
+    × Leaves 0x62f46c1081d178563412 (λ s.
     (s.register 18 ≡ 0x12345688) × (s.register 1 ≡ 0xffffffff00000010)
     × (flags_number s.flags ≡ 4))

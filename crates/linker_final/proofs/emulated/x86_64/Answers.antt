@@ -3,7 +3,8 @@ use Rattle.std.proofs.Common.{◌≡◌, ℕ, Bool, true, false, Option, Some, N
 use Rattle.std.specs.List.{list_all}
 use Rattle.linker_final.specs.X86Steps.{x86_groups}
 use lib.Count.{ones}
-use Rattle.linker_final.specs.X86Executed.{numbers, begun, bytes_of, flags_in, number_of_flags, register, ends_so}
+use Rattle.linker_final.specs.X86Executed.{numbers, begun, bytes_of, flags_in, register, ends_so}
+use Rattle.linker_laws.specs.X86Examples.{flags_number}
 use Rattle.linker_final.specs.Steps.{Executed, Group, Numbers, at, flags, pc, before, memory_in, bytes_from, is_left}
 use Rattle.linker_laws.specs.X86Machine.{State}
 use Rattle.linker_output.specs.X86LazyPlt.{step}
@@ -26,7 +27,7 @@ begun_by n =
 abbrev ends_by : ℕ → Numbers → Executed → Option State → Bool
 ends_by mask n e None = false
 ends_by mask n e (Some s) =
-    is_left 17 (length (bytes_of e)) mask e n (register s) s.ip s.memory (number_of_flags s.flags)
+    is_left 17 (length (bytes_of e)) mask e n (register s) s.ip s.memory (flags_number s.flags)
 
 by_numbers : (mask : ℕ) (e : Executed) (x : Option State) → ends_so mask e x ≡ ends_by mask (numbers e) e x
 by_numbers mask e None = refl
