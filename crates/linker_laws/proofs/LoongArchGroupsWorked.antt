@@ -5,7 +5,7 @@ use Rattle.linker_base.specs.Form.{place_sum}
 use Rattle.linker_elf.specs.declared.loongarch64.relocations.LoongArch64Relocation.TheVariants as names
 use Rattle.linker_laws.specs.Changes.{put, with_register}
 use Rattle.linker_laws.specs.LoongArchGroups.{Groups, NewHas, executed, link, machine, seen}
-use Rattle.linker_laws.specs.LoongArchGroupsWorked.{IsWorked, code, is_entry, known, moved, new, old, starting, words}
+use Rattle.linker_laws.specs.LoongArchGroupsWorked.{EndsAt, IsWorked, code, is_entry, known, moved, new, old, starting, words}
 use Rattle.linker_laws.specs.LoongArchMachine.{step}
 use Rattle.linker_laws.specs.LoongArchRewriteLaws.{IsRelocated, following}
 use Rattle.linker_laws.specs.Machine.{loaded}
@@ -192,13 +192,11 @@ p4 g =
     has : NewHas code k3 s3 6 0x54000
     has t agree = eqb-true (t.registers 6) 0x54000 (second true (t.registers 6 == 0x54000) (agree.registers 6))
 
-old_end : IsSomeAnd (run 5 (machine code.processor (words old)) starting)
-    (λ s. (s.pc ≡ 0x10014) × (s.registers 4 ≡ 0x13120) × (s.registers 7 ≡ 0x54344))
+old_end : IsSomeAnd (run 5 (machine code.processor (words old)) starting) (EndsAt 0x10014)
 unfolding place_sum
 old_end = (refl, refl, refl)
 
-new_end : IsSomeAnd (run 3 (machine code.processor (words new)) starting)
-    (λ s. (s.pc ≡ 0x1000c) × (s.registers 4 ≡ 0x13120) × (s.registers 7 ≡ 0x54344))
+new_end : IsSomeAnd (run 3 (machine code.processor (words new)) starting) (EndsAt 0x1000c)
 unfolding place_sum
 new_end = (refl, refl, refl)
 

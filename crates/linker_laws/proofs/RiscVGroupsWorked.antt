@@ -5,10 +5,10 @@ use Rattle.std.specs.Prelude.{◌%◌, unsigned_abs}
 use Rattle.linker_base.specs.Form.{place_sum}
 use Rattle.linker_elf.specs.declared.riscv64.relocations.RiscVRelocation.TheVariants as names
 use Rattle.linker_laws.specs.Changes.{put, with_register}
-use Rattle.linker_laws.specs.Machine.{AreBytes, loaded, moved as plus}
+use Rattle.linker_laws.specs.Machine.{AreBytes, moved as plus}
 use Rattle.linker_laws.specs.RiscVGroups.{Groups, Has, Stands, continued, instruction_at, link, machine, HasRoom, left, of_place, seen, uses, with_stored}
 use Rattle.linker_laws.specs.RiscVGroups.AreUsed.{as_stored, as_sum}
-use Rattle.linker_laws.specs.RiscVGroupsWorked.{IsWorked, code, is_entry, known, moved, new, old, others, starting, words}
+use Rattle.linker_laws.specs.RiscVGroupsWorked.{EndsAt, IsWorked, code, is_entry, known, moved, new, old, others, starting, words}
 use Rattle.linker_laws.specs.RiscVMachine.{adds, goes_to, stores, step, with_integer}
 use Rattle.linker_laws.specs.RiscVRewriteLaws.{after_rewrite, of_entry}
 use Rattle.linker_laws.specs.Schemes.{AreAddresses}
@@ -337,15 +337,11 @@ p6 g =
     (subst (λ u. Agree (link code) k6 s6 u) (sym (wrote t 0 after 0x10014 (lit< tt)))
     (agree_put (link code) k5 s5 t 0 anything 0x10024 after 0x1001c 0x10014 agree (lit< tt) refl tt)))
 
-old_end : IsSomeAnd (run 8 (machine others (words old)) starting)
-    (λ s. (s.pc ≡ 0x1001c) × (s.registers 1 ≡ 0x1001c) × (s.registers 10 ≡ 0x120)
-    × (s.registers 11 ≡ 0x13000) × (loaded 8 s.memory 0x128 ≡ 0x120))
+old_end : IsSomeAnd (run 8 (machine others (words old)) starting) (EndsAt 0x1001c)
 unfolding place_sum
 old_end = (refl, refl, refl, refl, refl)
 
-new_end : IsSomeAnd (run 6 (machine others (words new)) starting)
-    (λ s. (s.pc ≡ 0x10014) × (s.registers 1 ≡ 0x10014) × (s.registers 10 ≡ 0x120)
-    × (s.registers 11 ≡ 0x13000) × (loaded 8 s.memory 0x128 ≡ 0x120))
+new_end : IsSomeAnd (run 6 (machine others (words new)) starting) (EndsAt 0x10014)
 unfolding place_sum
 new_end = (refl, refl, refl, refl, refl)
 

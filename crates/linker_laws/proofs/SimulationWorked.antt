@@ -480,7 +480,7 @@ covered =
 pub is_worked : IsWorked
 is_worked =
     record {
-      known = k15;
+      kinds = k15;
       state = s17;
       agree = agree;
       covered = covered;

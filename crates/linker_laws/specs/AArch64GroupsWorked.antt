@@ -1,20 +1,16 @@
 -- Programs of AArch64 with groups, of which every premise holds, and both runs computed to the end.
 use Rattle.std.specs.Prelude.{◌≡◌, ℕ, ◌+◌, ◌-◌, ◌/◌, ◌%◌, ◌^◌, ◌==◌, Bool, nat_le, ◌&&◌}
 use Rattle.std.specs.Prelude.{if◌then◌else◌}
-use Rattle.std.specs.Prelude.{List, [], ◌∷◌, Some, None, IsSomeAnd, slice_get}
-use Rattle.std.specs.Option.{unwrap_or}
+use Rattle.std.specs.Prelude.{List, [], ◌∷◌, Some, None}
 use Rattle.linker_elf.specs.Value.{sum_64}
-use Rattle.linker_laws.specs.AArch64Groups.{Code, link, machine}
+use Rattle.linker_laws.specs.AArch64Groups.{Code, link}
 use Rattle.linker_laws.specs.Changes.{go_to, put}
-use Rattle.linker_laws.specs.Simulation.{State, Program, Kinds, Agree, Covered, Stops, of_link, run}
-use Rattle.linker_laws.specs.Simulation.{same, anything}
-use Rattle.linker_laws.specs.SimulationWorked.{of_byte}
+use Rattle.linker_laws.specs.Simulation.{State, Program, Kinds, same, anything}
+use Rattle.linker_laws.specs.SimulationWorked as worked
+use Rattle.linker_laws.specs.SimulationWorked.{of_byte, words_from}
 
--- words from 0x400000 on, by their bytes
 abbrev pub words : List ℕ → ℕ → ℕ
-words code a =
-    let i = a - 0x400000 in
-    unwrap_or (slice_get code (i / 4)) 0 / 256 ^ (i % 4) % 256
+words = words_from 0x400000
 
 -- `mov x2, x1` and `ret` are the only other instructions
 abbrev pub others : ℕ → Program
@@ -54,19 +50,12 @@ known =
       memory = λ a. of_byte (if is_entry 0x411010 a then anything else same);
     }
 
--- Old and new begin with a number in the first entry, which new's hasn't. They consist of q others
--- and groups, which are m instructions of old and n of new, and then registers have numbers.
-pub record IsRun (old new : List ℕ) (first : ℕ) (q m n : ℕ) (Ends : (ℕ → ℕ) → Type 0) : Type 0
-  where
-    pub kinds : Kinds
-    pub state : State
-    pub agree : Agree (link (code old new)) known (starting first) (starting 0)
-    pub covered : Covered (of_link (link (code old new))) q n known (starting first) kinds state
-    pub stops : Stops (of_link (link (code old new))) kinds state
-    pub old_ends :
-        IsSomeAnd (run m (machine others (words old)) (starting first)) (λ s. Ends s.registers)
-    pub new_ends :
-        IsSomeAnd (run n (machine others (words new)) (starting 0)) (λ s. Ends s.registers)
+-- Old begins with a number in the first entry, which new's hasn't. In the end registers have
+-- numbers.
+abbrev pub IsRun : List ℕ → List ℕ → (first q m n : ℕ) → ((ℕ → ℕ) → Type 0) → Type 0
+IsRun old new first q m n Ends =
+    worked.AreRuns (link (code old new)) known (starting first) (starting 0) q m n
+    (λ s. Ends s.registers) (λ s. Ends s.registers)
 
 -- ---- programs
 

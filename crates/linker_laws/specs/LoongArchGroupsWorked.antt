@@ -1,17 +1,13 @@
 -- A program of LoongArch with groups, of which every premise holds, and both runs computed to the
 -- end.
 use Rattle.std.specs.Prelude.{◌≡◌, ℕ, ◌-◌, ◌/◌, ◌%◌, ◌^◌, nat_lt, nat_le, ◌&&◌, Bool}
-use Rattle.std.specs.Prelude.{if◌then◌else◌, List, [], ◌∷◌, None, IsSomeAnd, slice_get, min}
-use Rattle.std.specs.Option.{unwrap_or}
-use Rattle.linker_laws.specs.LoongArchGroups.{Code, link, machine}
-use Rattle.linker_laws.specs.Simulation.{State, Kinds, Agree, Covered, Stops, of_link, run, same}
-use Rattle.linker_laws.specs.SimulationWorked.{of_byte}
+use Rattle.std.specs.Prelude.{if◌then◌else◌, List, [], ◌∷◌, None, min}
+use Rattle.linker_laws.specs.LoongArchGroups.{Code, link}
+use Rattle.linker_laws.specs.Simulation.{State, Kinds, same}
+use Rattle.linker_laws.specs.SimulationWorked.{AreRuns, of_byte, words_from}
 
--- words from 0x10000 on, by their bytes
 abbrev pub words : List ℕ → ℕ → ℕ
-words code a =
-    let i = a - 0x10000 in
-    unwrap_or (slice_get code (i / 4)) 0 / 256 ^ (i % 4) % 256
+words = words_from 0x10000
 
 -- No instruction is at the end.
 abbrev pub old : List ℕ
@@ -63,16 +59,10 @@ starting =
 abbrev pub known : Kinds
 known = record { registers = λ r. same; memory = λ a. of_byte same }
 
+-- a0 and a3 have the address and the offset.
+abbrev pub EndsAt : ℕ → State → Type 0
+EndsAt pc s = (s.pc ≡ pc) × (s.registers 4 ≡ 0x13120) × (s.registers 7 ≡ 0x54344)
+
 -- Four groups are 5 instructions of old, and 3 of new.
-pub record IsWorked : Type 0 where
-  pub kinds : Kinds
-  pub state : State
-  pub agree : Agree (link code) known starting starting
-  pub covered : Covered (of_link (link code)) 4 3 known starting kinds state
-  pub stops : Stops (of_link (link code)) kinds state
-  pub old_ends :
-      IsSomeAnd (run 5 (machine code.processor (words old)) starting)
-      (λ s. (s.pc ≡ 0x10014) × (s.registers 4 ≡ 0x13120) × (s.registers 7 ≡ 0x54344))
-  pub new_ends :
-      IsSomeAnd (run 3 (machine code.processor (words new)) starting)
-      (λ s. (s.pc ≡ 0x1000c) × (s.registers 4 ≡ 0x13120) × (s.registers 7 ≡ 0x54344))
+abbrev pub IsWorked : Type 0
+IsWorked = AreRuns (link code) known starting starting 4 5 3 (EndsAt 0x10014) (EndsAt 0x1000c)

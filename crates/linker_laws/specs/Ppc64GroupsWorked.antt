@@ -1,11 +1,11 @@
 -- A program of PowerPC64 with groups, of which every premise holds, and both runs computed to the
 -- end.
 use Rattle.std.specs.Prelude.{◌≡◌, ℕ, ◌-◌, ◌/◌, ◌%◌, ◌^◌, ◌==◌, ◌&&◌, nat_lt, nat_le}
-use Rattle.std.specs.Prelude.{if◌then◌else◌, List, [], ◌∷◌, None, IsSomeAnd}
+use Rattle.std.specs.Prelude.{if◌then◌else◌, List, [], ◌∷◌, None}
 use Rattle.linker_laws.specs.LoongArchGroupsWorked.{words}
-use Rattle.linker_laws.specs.Ppc64Groups.{Code, link, machine}
-use Rattle.linker_laws.specs.Simulation.{State, Kinds, Agree, Covered, Stops, of_link, run, same}
-use Rattle.linker_laws.specs.SimulationWorked.{of_byte}
+use Rattle.linker_laws.specs.Ppc64Groups.{Code, link}
+use Rattle.linker_laws.specs.Simulation.{State, Kinds, same}
+use Rattle.linker_laws.specs.SimulationWorked.{AreRuns, of_byte}
 
 -- No instruction is at the end.
 abbrev pub old : List ℕ
@@ -54,16 +54,9 @@ starting =
 abbrev pub known : Kinds
 known = record { registers = λ r. same; memory = λ a. of_byte same }
 
+abbrev pub Ends : State → Type 0
+Ends s = (s.pc ≡ 0x10014) × (s.registers 3 ≡ 0x20120) × (s.registers 5 ≡ 0x54351)
+
 -- Five groups, each of one instruction in both.
-pub record IsWorked : Type 0 where
-  pub kinds : Kinds
-  pub state : State
-  pub agree : Agree (link code) known starting starting
-  pub covered : Covered (of_link (link code)) 5 5 known starting kinds state
-  pub stops : Stops (of_link (link code)) kinds state
-  pub old_ends :
-      IsSomeAnd (run 5 (machine code.processor (words old)) starting)
-      (λ s. (s.pc ≡ 0x10014) × (s.registers 3 ≡ 0x20120) × (s.registers 5 ≡ 0x54351))
-  pub new_ends :
-      IsSomeAnd (run 5 (machine code.processor (words new)) starting)
-      (λ s. (s.pc ≡ 0x10014) × (s.registers 3 ≡ 0x20120) × (s.registers 5 ≡ 0x54351))
+abbrev pub IsWorked : Type 0
+IsWorked = AreRuns (link code) known starting starting 5 5 5 Ends Ends

@@ -1,18 +1,13 @@
 -- A program of RISC-V with groups, of which every premise holds, and both runs computed to the end.
 use Rattle.std.specs.Prelude.{◌≡◌, ℕ, ◌-◌, ◌/◌, ◌%◌, ◌^◌, nat_lt, nat_le, ◌&&◌, Bool}
-use Rattle.std.specs.Prelude.{if◌then◌else◌, List, [], ◌∷◌, None, IsSomeAnd, slice_get, min}
-use Rattle.std.specs.Option.{unwrap_or}
+use Rattle.std.specs.Prelude.{if◌then◌else◌, List, [], ◌∷◌, None, min}
 use Rattle.linker_laws.specs.Machine.{loaded}
-use Rattle.linker_laws.specs.RiscVGroups.{Code, link, machine}
-use Rattle.linker_laws.specs.Simulation.{State, Program, Kinds, Agree, Covered, Stops, of_link, run}
-use Rattle.linker_laws.specs.Simulation.{same}
-use Rattle.linker_laws.specs.SimulationWorked.{of_byte}
+use Rattle.linker_laws.specs.RiscVGroups.{Code, link}
+use Rattle.linker_laws.specs.Simulation.{State, Program, Kinds, same}
+use Rattle.linker_laws.specs.SimulationWorked.{AreRuns, of_byte, words_from}
 
--- words from 0x10000 on, by their bytes
 abbrev pub words : List ℕ → ℕ → ℕ
-words code a =
-    let i = a - 0x10000 in
-    unwrap_or (slice_get code (i / 4)) 0 / 256 ^ (i % 4) % 256
+words = words_from 0x10000
 
 -- The address is a number of 12 bits, and the entry at 0x12010 has another one. No instruction is
 -- after the call, to which the function returns.
@@ -68,19 +63,13 @@ starting =
 abbrev pub known : Kinds
 known = record { registers = λ r. same; memory = λ a. of_byte same }
 
+-- The function has returned.
+abbrev pub EndsAt : ℕ → State → Type 0
+EndsAt pc s =
+    (s.pc ≡ pc) × (s.registers 1 ≡ pc) × (s.registers 10 ≡ 0x120) × (s.registers 11 ≡ 0x13000)
+    × (loaded 8 s.memory 0x128 ≡ 0x120)
+
 -- Five groups and the return are 8 instructions of old, and 6 of new. The link register has the
 -- address after the call in both.
-pub record IsWorked : Type 0 where
-  pub kinds : Kinds
-  pub state : State
-  pub agree : Agree (link code) known starting starting
-  pub covered : Covered (of_link (link code)) 6 6 known starting kinds state
-  pub stops : Stops (of_link (link code)) kinds state
-  pub old_ends :
-      IsSomeAnd (run 8 (machine others (words old)) starting)
-      (λ s. (s.pc ≡ 0x1001c) × (s.registers 1 ≡ 0x1001c) × (s.registers 10 ≡ 0x120)
-      × (s.registers 11 ≡ 0x13000) × (loaded 8 s.memory 0x128 ≡ 0x120))
-  pub new_ends :
-      IsSomeAnd (run 6 (machine others (words new)) starting)
-      (λ s. (s.pc ≡ 0x10014) × (s.registers 1 ≡ 0x10014) × (s.registers 10 ≡ 0x120)
-      × (s.registers 11 ≡ 0x13000) × (loaded 8 s.memory 0x128 ≡ 0x120))
+abbrev pub IsWorked : Type 0
+IsWorked = AreRuns (link code) known starting starting 6 8 6 (EndsAt 0x1001c) (EndsAt 0x10014)

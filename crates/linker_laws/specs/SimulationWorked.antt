@@ -1,9 +1,9 @@
 -- A small program of which every premise holds: groups and numbers of each kind, and both runs
 -- computed to the end.
-use Rattle.std.specs.Prelude.{◌≡◌, ℕ, ◌+◌, ◌-◌, ◌/◌, ◌%◌, ◌==◌, nat_le, if◌then◌else◌, ◌&&◌}
-use Rattle.std.specs.Prelude.{List, [], ◌∷◌, Option, Some, None, IsSomeAnd, slice_get}
+use Rattle.std.specs.Prelude.{◌≡◌, ℕ, ◌+◌, ◌-◌, ◌/◌, ◌%◌, ◌^◌, ◌==◌, nat_le, if◌then◌else◌}
+use Rattle.std.specs.Prelude.{◌&&◌, List, [], ◌∷◌, Option, Some, None, IsSomeAnd, slice_get}
 use Rattle.std.specs.Option.{unwrap_or}
-use Rattle.linker_laws.specs.Simulation.{State, Program, Machine, Link, Kind, code, same}
+use Rattle.linker_laws.specs.Simulation.{State, Machine, Link, Kind, code, same}
 use Rattle.linker_laws.specs.Simulation.{anything, Stored, Kinds, Agree, of_link, run, Covered}
 use Rattle.linker_laws.specs.Simulation.{Stops}
 use Rattle.linker_laws.specs.Changes.{put, go_to, with_register}
@@ -105,6 +105,12 @@ link =
 
 -- ---- both runs
 
+-- words of code from an address on, by their bytes
+abbrev pub words_from : ℕ → List ℕ → ℕ → ℕ
+words_from first code a =
+    let i = a - first in
+    unwrap_or (slice_get code (i / 4)) 0 / 256 ^ (i % 4) % 256
+
 -- a number of one byte of memory
 abbrev pub of_byte : Kind → Stored
 of_byte kind = record { kind = kind; bytes = 1; below = 0 }
@@ -145,20 +151,24 @@ first_new =
       outside = λ n. 0;
     }
 
-abbrev pub Ends : ℕ → ℕ → Program → State → Type 0
-Ends n pc p s =
-    IsSomeAnd (run n p s) (λ s.
-    (s.pc ≡ pc) × (s.registers 4 ≡ 0x91) × (s.outside 0 ≡ 0x91))
-
--- Old executes 18 instructions in 6 groups and 11 others, and new 16.
-pub record IsWorked : Type 0 where
-  pub known : Kinds
+-- Old and new begin in states that agree. A covered run of q others and groups is m instructions of
+-- old and n of new. It leads to where both stop, and something holds of what each has there.
+pub record AreRuns (l : Link) (first : Kinds) (s t : State) (q m n : ℕ)
+    (OldEnds NewEnds : State → Type 0) : Type 0 where
+  pub kinds : Kinds
   pub state : State
-  pub agree : Agree link first_known first_old first_new
-  pub covered : Covered (of_link link) 17 16 first_known first_old known state
-  pub stops : Stops (of_link link) known state
-  pub old_ends : Ends 18 0x1f (machine link.old) first_old
-  pub new_ends : Ends 16 0x1c (machine link.new) first_new
+  pub agree : Agree l first s t
+  pub covered : Covered (of_link l) q n first s kinds state
+  pub stops : Stops (of_link l) kinds state
+  pub old_ends : IsSomeAnd (run m (l.machine l.old) s) OldEnds
+  pub new_ends : IsSomeAnd (run n (l.machine l.new) t) NewEnds
+
+abbrev pub EndsAt : ℕ → State → Type 0
+EndsAt pc s = (s.pc ≡ pc) × (s.registers 4 ≡ 0x91) × (s.outside 0 ≡ 0x91)
+
+-- Old executes 6 groups and 11 others.
+abbrev pub IsWorked : Type 0
+IsWorked = AreRuns link first_known first_old first_new 17 18 16 (EndsAt 0x1f) (EndsAt 0x1c)
 
 -- ---- a chain of two links
 

@@ -7,7 +7,7 @@ use Rattle.linker_elf.specs.Value.{sum_64}
 use Rattle.linker_laws.specs.Changes.{put}
 use Rattle.linker_laws.specs.Simulation.{State, Program, Kinds, Agree, Covered, Stops, of_link, run}
 use Rattle.linker_laws.specs.Simulation.{anything, same}
-use Rattle.linker_laws.specs.SimulationWorked.{of_byte}
+use Rattle.linker_laws.specs.SimulationWorked.{AreRuns, of_byte}
 use Rattle.linker_laws.specs.X86Groups.{Code, link, machine}
 
 -- bytes from 0x401000 on
@@ -160,17 +160,7 @@ pub record HasOffset (s : State) : Type 0 where
   pub stack : s.registers 4 ≡ 0x8000
 
 -- Two groups are 4 instructions of old, of which the function has two, and 2 of new.
-pub record IsDescriptorWorked : Type 0 where
-  pub kinds : Kinds
-  pub state : State
-  pub agree :
-      Agree (link descriptor_code) known_but_open (starting descriptor) (starting no_entries)
-  pub covered :
-      Covered (of_link (link descriptor_code)) 2 2 known_but_open (starting descriptor) kinds state
-  pub stops : Stops (of_link (link descriptor_code)) kinds state
-  pub old_ends :
-      IsSomeAnd (run 4 (machine descriptor_code.others descriptor_code.old) (starting descriptor))
-      HasOffset
-  pub new_ends :
-      IsSomeAnd (run 2 (machine descriptor_code.others descriptor_code.new) (starting no_entries))
-      HasOffset
+abbrev pub IsDescriptorWorked : Type 0
+IsDescriptorWorked =
+    AreRuns (link descriptor_code) known_but_open (starting descriptor) (starting no_entries) 2 4 2
+    HasOffset HasOffset
