@@ -25,7 +25,6 @@ pub use Rattle.linker_elf.specs.declared.riscv64.forms.RiscVInstruction.TheVaria
 pub use Rattle.linker_elf.specs.declared.riscv64.forms.RiscVInstruction.TheVariants.{UiType}
 pub use Rattle.linker_elf.specs.declared.riscv64.relocations.RiscVRelocation.{RiscVRelocation}
 pub use Rattle.linker_laws.specs.Changes.{put, with_register}
-pub use Rattle.linker_laws.specs.LoongArchGroups.{put_unless_zero, with_unless_zero}
 pub use Rattle.linker_laws.specs.LoongArchRewriteLaws.{Fits32, IsRelocated, word_of}
 pub use Rattle.linker_laws.specs.Machine.{Relocated, loaded}
 pub use Rattle.linker_laws.specs.RiscVGroups.{AreBefore, AreDeleted, Code, Has, Stands, link, seen}

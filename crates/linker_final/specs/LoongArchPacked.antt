@@ -4,17 +4,16 @@ use Rattle.std.specs.Prelude.{◌≡◌, ℕ, ◌+◌, ◌==◌, List, [], ◌�
 use Rattle.std.specs.Prelude.{if◌then◌else◌, IsSomeAnd, Some, slice_get, ◌<◌, ◌^◌}
 use Rattle.linker_final.specs.Imports.{RowIsWithin, IsNameOf, loongarch_name, loongarch_row, sum_64}
 use Rattle.linker_final.specs.Imports.{RelocationKindInfo, Operands, LoongArch64Relocation}
-use Rattle.linker_final.specs.Imports.{put_unless_zero, with_unless_zero, Fits32, IsRelocated}
-use Rattle.linker_final.specs.Imports.{word_of, Relocated, loaded, AreAddresses, entry_and_addend}
-use Rattle.linker_final.specs.Imports.{plt_address, symbol_address, Group, Kinds, anything, of_link}
-use Rattle.linker_final.specs.Imports.{rj_of, signed_12, tp, LoongArch64, relocation_in, offset_at}
-use Rattle.linker_final.specs.Imports.{operands_with, Symbol}
+use Rattle.linker_final.specs.Imports.{Fits32, IsRelocated, word_of, Relocated, loaded, Symbol}
+use Rattle.linker_final.specs.Imports.{AreAddresses, entry_and_addend, plt_address, symbol_address}
+use Rattle.linker_final.specs.Imports.{Kinds, rj_of, signed_12, tp, LoongArch64, relocation_in}
+use Rattle.linker_final.specs.Imports.{offset_at, operands_with}
 use Rattle.linker_elf.specs.declared.loongarch64.relocations.LoongArch64Relocation.TheVariants as names
 use Rattle.linker_final.specs.Packed.{Packed, AreDeleted, IsPacked, IsSiteOf, address_at}
 use Rattle.linker_final.specs.Packed.{StayTogether, count, place_of}
 use Rattle.linker_final.specs.Packed.{site_after, site_bytes, site_len}
 use Rattle.linker_final.specs.Packed.{site_offset, site_place, site_target}
-use Rattle.linker_laws.specs.LoongArchGroups.{Code, Has, Stands, link, register}
+use Rattle.linker_laws.specs.LoongArchGroups.{Code, Has, IsLeftOut, Stands, register}
 use Rattle.linker_laws.specs.LoongArchMachine.{AreAlikeBut, EndSo, State}
 use Rattle.linker_laws.specs.LoongArchRewriteLaws.{HaveCalled, HaveMade}
 use Rattle.linker_laws.specs.LoongArchRewriteLaws.{IsRewritten, LoadsEntry, following}
@@ -61,34 +60,45 @@ HaveMadeAddress p here x =
     HaveMade (destination p.section.bytes (site_offset p here)) (symbol_address x)
     (site_target p here) (sum_64 x.place 8) (site_after p here)
 
--- From states that are alike, each before its own instructions, the object's `pcalau12i` and
--- `addi.d` with the values of their relocations and the final `pcaddi`, or both, make it.
-abbrev pub AddressesAreMade : Type 0
-AddressesAreMade =
-    (p : Packed) → IsPacked p → p.machine ≡ LoongArch64 → (i : ℕ) (here : site) → IsSiteOf p i here
-    → let o = site_offset p here in
-    IsPcalaAt p.section.bytes o
-    → (x : Operands) → AreAddresses x → (pcala addi : List ℕ) → Fits32 names.R_LARCH_PCALA_HI20 x
+-- From states that are alike, each before its own instructions, words end so: the object's
+-- `pcalau12i` and `addi.d` at an offset, with the values of their relocations, and final ones.
+abbrev pub SumsEnd : Packed → ℕ → ℕ → List ℕ → (Operands → State → State → Type 0) → Type 0
+SumsEnd p o at final P =
+    (x : Operands) → AreAddresses x → (pcala addi : List ℕ) → Fits32 names.R_LARCH_PCALA_HI20 x
     → IsRelocated names.R_LARCH_PCALA_HI20 x (take 4 (drop o p.section.bytes)) pcala
-    → IsRelocated names.R_LARCH_PCALA_LO12 (following 4 x) (take 4 (drop (o + 4) p.section.bytes)) addi
-    → (s t : State) → s.pc ≡ x.place → t.pc ≡ site_place p here → AreAlikeBut no_register s t
-    → EndSo (pair pcala addi) s (site_words p here) t (HaveMadeAddress p here x)
+    → IsRelocated names.R_LARCH_PCALA_LO12 (following 4 x)
+    (take 4 (drop (o + 4) p.section.bytes)) addi
+    → (s t : State) → s.pc ≡ x.place → t.pc ≡ at → AreAlikeBut no_register s t
+    → EndSo (pair pcala addi) s final t (P x)
 
 -- The same where the object had an `ld.d` of a GOT entry, which holds the address of the symbol,
 -- and `LdToAddi` has made the `addi.d` of it.
-abbrev pub LoadedAddressesAreMade : Type 0
-LoadedAddressesAreMade =
-    (p : Packed) → IsPacked p → p.machine ≡ LoongArch64 → (i : ℕ) (here : site) → IsSiteOf p i here
-    → let o = site_offset p here in
-    IsPcalaAt p.section.bytes o
-    → (x : Operands) → AreAddresses x → (ld pcala_of_entry ld_of_entry : List ℕ)
+abbrev pub LoadsEnd : Packed → ℕ → ℕ → List ℕ → (Operands → State → State → Type 0) → Type 0
+LoadsEnd p o at final P =
+    (x : Operands) → AreAddresses x → (ld pcala_of_entry ld_of_entry : List ℕ)
     → IsLd (word_of ld)
     → IsRewritten kinds.LdToAddi ld (take 4 (drop (o + 4) p.section.bytes))
     → LoadsEntry names.R_LARCH_GOT_PC_HI20 names.R_LARCH_GOT_PC_LO12 x
     (take 4 (drop o p.section.bytes)) ld pcala_of_entry ld_of_entry
     → (s t : State) → loaded 8 s.memory (entry_and_addend x) ≡ symbol_address x
-    → s.pc ≡ x.place → t.pc ≡ site_place p here → AreAlikeBut no_register s t
-    → EndSo (pair pcala_of_entry ld_of_entry) s (site_words p here) t (HaveMadeAddress p here x)
+    → s.pc ≡ x.place → t.pc ≡ at → AreAlikeBut no_register s t
+    → EndSo (pair pcala_of_entry ld_of_entry) s final t (P x)
+
+abbrev pub EachPcala : (Packed → ℕ → site → Type 0) → Type 0
+EachPcala Holds =
+    (p : Packed) → IsPacked p → p.machine ≡ LoongArch64 → (i : ℕ) (here : site) → IsSiteOf p i here
+    → let o = site_offset p here in IsPcalaAt p.section.bytes o → Holds p o here
+
+-- The final `pcaddi`, or both instructions, make the address that the object's make.
+abbrev pub AddressesAreMade : Type 0
+AddressesAreMade =
+    EachPcala (λ p o here.
+    SumsEnd p o (site_place p here) (site_words p here) (HaveMadeAddress p here))
+
+abbrev pub LoadedAddressesAreMade : Type 0
+LoadedAddressesAreMade =
+    EachPcala (λ p o here.
+    LoadsEnd p o (site_place p here) (site_words p here) (HaveMadeAddress p here))
 
 -- ---- what stays
 
@@ -134,48 +144,34 @@ pub record IsPairOf (p : Packed) (i j : ℕ) : Type 0 where
       ≡ (relocation_in p.relocations_after i).addend
   pub pair : IsPcalaAt p.section.bytes (offset_at p.relocations i)
 
--- The object's instructions in a layout of their own and the final pair make the address of their
--- layout.
-abbrev pub PairMakes : Packed → ℕ → Operands → Operands → List ℕ → State → State → Type 0
-PairMakes p o x y original s t =
-    let at = place_of p o in
-    EndSo original s (pair (take 4 (drop at p.final)) (take 4 (drop (at + 4) p.final))) t
-    (HaveMade (destination p.section.bytes o) (symbol_address x) (symbol_address y)
-    (sum_64 x.place 8) (sum_64 y.place 8))
+abbrev pub EachLongPair : (Packed → ℕ → Operands → Type 0) → Type 0
+EachLongPair Holds =
+    IsSomeAnd (loongarch_row names.R_LARCH_PCALA_HI20) (λ row.
+    (p : Packed) → IsPacked p → p.machine ≡ LoongArch64 → (i j : ℕ) → IsPairOf p i j
+    → let o = offset_at p.relocations i in
+    (symbol : Symbol)
+    → slice_get p.symbols (relocation_in p.relocations_after i).symbol ≡ Some symbol
+    → let y = operands_at p i row symbol in
+    AreAddresses y → Fits32 names.R_LARCH_PCALA_HI20 y → Holds p o y)
+
+-- the final pair
+abbrev pub final_pair : Packed → ℕ → List ℕ
+final_pair p o =
+    let at = place_of p o in pair (take 4 (drop at p.final)) (take 4 (drop (at + 4) p.final))
+
+-- Each run has made the address of its layout by then.
+abbrev pub PairMakes : Packed → ℕ → Operands → Operands → State → State → Type 0
+PairMakes p o y x =
+    HaveMade (destination p.section.bytes o) (symbol_address x) (symbol_address y)
+    (sum_64 x.place 8) (sum_64 y.place 8)
 
 abbrev pub LongAddressesStay : Type 0
 LongAddressesStay =
-    IsSomeAnd (loongarch_row names.R_LARCH_PCALA_HI20) (λ row.
-    (p : Packed) → IsPacked p → p.machine ≡ LoongArch64 → (i j : ℕ) → IsPairOf p i j
-    → let o = offset_at p.relocations i in
-    (symbol : Symbol)
-    → slice_get p.symbols (relocation_in p.relocations_after i).symbol ≡ Some symbol
-    → let y = operands_at p i row symbol in
-    AreAddresses y → Fits32 names.R_LARCH_PCALA_HI20 y
-    → (x : Operands) → AreAddresses x → (pcala addi : List ℕ) → Fits32 names.R_LARCH_PCALA_HI20 x
-    → IsRelocated names.R_LARCH_PCALA_HI20 x (take 4 (drop o p.section.bytes)) pcala
-    → IsRelocated names.R_LARCH_PCALA_LO12 (following 4 x) (take 4 (drop (o + 4) p.section.bytes)) addi
-    → (s t : State) → s.pc ≡ x.place → t.pc ≡ y.place → AreAlikeBut no_register s t
-    → PairMakes p o x y (pair pcala addi) s t)
+    EachLongPair (λ p o y. SumsEnd p o y.place (final_pair p o) (PairMakes p o y))
 
--- The same where the object had an `ld.d`, as above.
 abbrev pub LongLoadedAddressesStay : Type 0
 LongLoadedAddressesStay =
-    IsSomeAnd (loongarch_row names.R_LARCH_PCALA_HI20) (λ row.
-    (p : Packed) → IsPacked p → p.machine ≡ LoongArch64 → (i j : ℕ) → IsPairOf p i j
-    → let o = offset_at p.relocations i in
-    (symbol : Symbol)
-    → slice_get p.symbols (relocation_in p.relocations_after i).symbol ≡ Some symbol
-    → let y = operands_at p i row symbol in
-    AreAddresses y → Fits32 names.R_LARCH_PCALA_HI20 y
-    → (x : Operands) → AreAddresses x → (ld pcala_of_entry ld_of_entry : List ℕ)
-    → IsLd (word_of ld)
-    → IsRewritten kinds.LdToAddi ld (take 4 (drop (o + 4) p.section.bytes))
-    → LoadsEntry names.R_LARCH_GOT_PC_HI20 names.R_LARCH_GOT_PC_LO12 x
-    (take 4 (drop o p.section.bytes)) ld pcala_of_entry ld_of_entry
-    → (s t : State) → loaded 8 s.memory (entry_and_addend x) ≡ symbol_address x
-    → s.pc ≡ x.place → t.pc ≡ y.place → AreAlikeBut no_register s t
-    → PairMakes p o x y (pair pcala_of_entry ld_of_entry) s t)
+    EachLongPair (λ p o y. LoadsEnd p o y.place (final_pair p o) (PairMakes p o y))
 
 -- ---- deleted instructions (thread-local storage)
 
@@ -193,10 +189,7 @@ HighPartIsLeftOut =
     IsLu12i (word_of lu12i) → (x : Operands) → AreAddresses x
     → RowIsWithin (loongarch_row names.R_LARCH_TLS_LE_LO12_R) signed_12 x
     → (c : Code) (k : Kinds) (s : state) → IsBefore p o c s → s.pc ≡ x.place
-    → Has c.old names.R_LARCH_TLS_LE_HI20_R x lu12i
-    → let n = rd_of (word_of lu12i) in
-    Group (of_link (link c)) 0 k s (with_unless_zero n anything k)
-    (put_unless_zero n 0 (s.pc + 4) s)
+    → Has c.old names.R_LARCH_TLS_LE_HI20_R x lu12i → IsLeftOut c k s (rd_of (word_of lu12i)) 0
 
 -- So is an `add.d` of the thread pointer to a register with 0.
 abbrev pub SumIsLeftOut : Type 0
@@ -206,5 +199,4 @@ SumIsLeftOut =
     IsAddTp add → (c : Code) (k : Kinds) (s : state) → IsBefore p o c s
     → register s (rj_of add) ≡ 0 → s.registers tp < 2 ^ 64
     → Stands c.old s.pc (drop o p.section.bytes)
-    → Group (of_link (link c)) 0 k s (with_unless_zero (rd_of add) anything k)
-    (put_unless_zero (rd_of add) (s.registers tp) (s.pc + 4) s)
+    → IsLeftOut c k s (rd_of add) (s.registers tp)

@@ -4,9 +4,9 @@ use Rattle.std.specs.Prelude.{◌≡◌, ◌≢◌, ℕ, pos, ◌+◌, ◌<◌, 
 use Rattle.std.specs.Prelude.{IsSomeAnd, slice_get}
 use Rattle.linker_final.specs.Imports.{RowIsWithin, IsNameOf, code_of, loongarch_name}
 use Rattle.linker_final.specs.Imports.{loongarch_row, sum_64, RelocationKindInfo, Choice, Operands}
-use Rattle.linker_final.specs.Imports.{LoongArch64Relocation, put_unless_zero, with_unless_zero}
-use Rattle.linker_final.specs.Imports.{Fits32, IsRelocated, word_of, AreAddresses, symbol_address}
-use Rattle.linker_final.specs.Imports.{Group, Kinds, State, anything, of_link, decision_at}
+use Rattle.linker_final.specs.Imports.{LoongArch64Relocation, Fits32, IsRelocated, word_of}
+use Rattle.linker_final.specs.Imports.{AreAddresses, symbol_address, Group, Kinds, State, of_link}
+use Rattle.linker_final.specs.Imports.{decision_at}
 use Rattle.linker_final.specs.Imports.{pre_layout, Rewritten, NotRelaxable, relocation_in}
 use Rattle.linker_final.specs.Imports.{operands_with, Addresses, Symbol, Rela, rj_of, signed_12, tp}
 use Rattle.linker_final.specs.Imports.{Relaxation}
@@ -19,7 +19,8 @@ use Rattle.linker_final.specs.Joined.{IsKeptInstruction, IsRewrittenAndPacked, f
 use Rattle.linker_final.specs.Packed.{IsUnwritten, Packed, StayTogether, place_of}
 use Rattle.linker_final.specs.SectionRuns.{IsBesideAll, Rewriting, Section, offset_of}
 use Rattle.linker_laws.specs.LoongArchGroups.{AreDeleted, CallOfDescriptor, Code, Has, HighEntry}
-use Rattle.linker_laws.specs.LoongArchGroups.{HighOffset, LoadOfDescriptor, Loads, LoadsOffset}
+use Rattle.linker_laws.specs.LoongArchGroups.{HighOffset, IsLeftOut, LoadOfDescriptor, Loads}
+use Rattle.linker_laws.specs.LoongArchGroups.{LoadsOffset}
 use Rattle.linker_laws.specs.LoongArchGroups.{LowHalf, LowOfDescriptor, LowPart, Makes}
 use Rattle.linker_laws.specs.LoongArchGroups.{MakesOffset, Stands, deleted_by, link}
 use Rattle.linker_laws.specs.LoongArchGroups.{register}
@@ -69,19 +70,14 @@ HighPartGoes lu12i after =
     (c : Code) (x : Operands) (k : Kinds) (s : State) → AreDeleted c (deleted_by kinds.Delete) s
     → AreAddresses x → s.pc ≡ x.place
     → RowIsWithin (loongarch_row names.R_LARCH_TLS_LE_LO12_R) signed_12 x
-    → Has c.old names.R_LARCH_TLS_LE_HI20_R x lu12i
-    → let n = rd_of (word_of lu12i) in
-    Group (of_link (link c)) 0 k s (with_unless_zero n anything k)
-    (put_unless_zero n 0 (s.pc + 4) s)
+    → Has c.old names.R_LARCH_TLS_LE_HI20_R x lu12i → IsLeftOut c k s (rd_of (word_of lu12i)) 0
 
 -- So is an `add.d` of the thread pointer to a register with 0.
 abbrev pub SumGoes : List ℕ → List ℕ → Type 0
 SumGoes add after =
     (c : Code) (k : Kinds) (s : State) → AreDeleted c (deleted_by kinds.Delete) s
     → register s (rj_of (word_of add)) ≡ 0 → s.registers tp < 2 ^ 64 → Stands c.old s.pc add
-    → let n = rd_of (word_of add) in
-    Group (of_link (link c)) 0 k s (with_unless_zero n anything k)
-    (put_unless_zero n (s.registers tp) (s.pc + 4) s)
+    → IsLeftOut c k s (rd_of (word_of add)) (s.registers tp)
 
 -- of an instruction by itself: by the relocation, and what becomes of it
 abbrev pub law_of : LoongArch64Relocation → Relaxation → Law

@@ -131,6 +131,12 @@ put_unless_zero r x next s = if r == 0 then go_to next s else put r x next s
 abbrev pub with_unless_zero : ℕ → Kind → Kinds → Kinds
 with_unless_zero r kind k = if r == 0 then k else with_register r kind k
 
+-- a group of an instruction that leaves a number in a register, of which new has nothing
+abbrev pub IsLeftOut : Code → Kinds → State → ℕ → ℕ → Type 0
+IsLeftOut c k s r number =
+    Group (of_link (link c)) 0 k s (with_unless_zero r anything k)
+    (put_unless_zero r number (s.pc + 4) s)
+
 -- Whatever state of new agrees, it has a number in a register.
 abbrev pub NewHas : Code → Kinds → State → ℕ → ℕ → Type 0
 NewHas c k s r x = (t : State) → Agree (link c) k s t → register t r ≡ x
@@ -264,9 +270,7 @@ HighHalfIsDeleted name =
     (c : Code) (x : Operands) (k : Kinds) (s : State) (pcala : List ℕ)
     → AreDeleted c (deleted_by kinds.Delete) s → AreAddresses x → s.pc ≡ x.place
     → IsPcalau12i (word_of pcala) → Fits32 name x → Has c.old name x pcala
-    → let n = rd_of (word_of pcala) in
-    Group (of_link (link c)) 0 k s (with_unless_zero n anything k)
-    (put_unless_zero n (near_entry x) (s.pc + 4) s)
+    → IsLeftOut c k s (rd_of (word_of pcala)) (near_entry x)
 
 -- `ld.d rd, rj` of initial-exec, where rj has the entry's page and the entry holds the offset. The
 -- instruction after leaves the offset too, where a premise holds.
@@ -404,20 +408,14 @@ OffsetLu12iIsDeleted =
     → AreDeleted c (deleted_by kinds.Delete) s → AreAddresses x → s.pc ≡ x.place
     → IsLu12i (word_of lu12i)
     → RowIsWithin (loongarch_row names.R_LARCH_TLS_LE_LO12_R) signed_12 x
-    → Has c.old names.R_LARCH_TLS_LE_HI20_R x lu12i
-    → let n = rd_of (word_of lu12i) in
-    Group (of_link (link c)) 0 k s (with_unless_zero n anything k)
-    (put_unless_zero n 0 (s.pc + 4) s)
+    → Has c.old names.R_LARCH_TLS_LE_HI20_R x lu12i → IsLeftOut c k s (rd_of (word_of lu12i)) 0
 
 -- So is `add.d rd, rj, tp`, where rj has 0.
 abbrev pub SumIsDeleted : Type 0
 SumIsDeleted =
     (c : Code) (k : Kinds) (s : State) (add : List ℕ) → AreDeleted c (deleted_by kinds.Delete) s
     → IsAddTp (word_of add) → register s (rj_of (word_of add)) ≡ 0 → s.registers tp < 2 ^ 64
-    → Stands c.old s.pc add
-    → let n = rd_of (word_of add) in
-    Group (of_link (link c)) 0 k s (with_unless_zero n anything k)
-    (put_unless_zero n (s.registers tp) (s.pc + 4) s)
+    → Stands c.old s.pc add → IsLeftOut c k s (rd_of (word_of add)) (s.registers tp)
 
 -- what an instruction does with a sum
 abbrev pub uses : Processor → Action → ℕ → ℕ → State → State
