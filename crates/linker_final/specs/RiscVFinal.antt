@@ -8,7 +8,7 @@ use Rattle.linker_final.specs.Imports.{IsNameOf, code_of, riscv_name, riscv_row,
 use Rattle.linker_final.specs.Imports.{RelocationKindInfo, Choice, Operands, RiscVRelocation}
 use Rattle.linker_final.specs.Imports.{loaded, Action, register, rs1_of, IsLowOffset, offset_row}
 use Rattle.linker_final.specs.Imports.{AreBefore, AreDeleted, Code, Has, Stands, link, seen}
-use Rattle.linker_final.specs.Imports.{upper_from, uses, put, with_register, Agree, Group, Kinds}
+use Rattle.linker_final.specs.Imports.{upper_from, put, with_register, Group, Kinds}
 use Rattle.linker_final.specs.Imports.{State, anything, of_link, same, AreAddresses}
 use Rattle.linker_final.specs.Imports.{entry_and_addend, symbol_address, decision_at}
 use Rattle.linker_final.specs.Imports.{RewrittenWithSymbol, Rewritten, Subject, rd_of}
@@ -19,8 +19,8 @@ use Rattle.linker_elf.specs.declared.riscv64.relocations.RiscVRelocation.TheVari
 use Rattle.linker_final.specs.Final.{AreRewritten, Linked, count, instruction_at}
 use Rattle.linker_laws.specs.RiscVRewriteLaws.{HaveOneOffset, HaveOneTarget}
 use Rattle.linker_laws.specs.RiscVRewriteLaws.{of_entry, word_of}
-use Rattle.linker_laws.specs.RiscVGroups.{AreNops, Descriptor}
-use Rattle.linker_laws.specs.RiscVGroups.{LeavesAddress, LoadFromGot}
+use Rattle.linker_laws.specs.RiscVGroups.{AreNops, Descriptor, IsLeftOut, LeavesAddress}
+use Rattle.linker_laws.specs.RiscVGroups.{LoadFromGot, LowPartBy}
 use Rattle.linker_laws.specs.RiscVRewriteLaws.{after_rewrite, thread_offset}
 use Rattle.linker_laws.specs.Simulation.{AreOf, Kind}
 use Rattle.linker_rewriting.specs.Decisions.{deleted_of}
@@ -68,19 +68,12 @@ LoadIsAlike l i NewHas =
 
 -- ---- low parts of offsets from the thread pointer
 
--- An instruction adds the low part of an offset x, a number of 12 bits, to a register with the
--- thread pointer's number. It is a group, with what new has. What it does with the sum keeps
--- agreement.
+-- An instruction adds the low part of an offset to a register with the thread pointer's number. It
+-- is a group, with what new has.
 abbrev pub LowPartIsAlike : Linked → ℕ → (Operands → Code → Type 0) → Action → Type 0
-LowPartIsAlike l i NewHas action =
-    let low = instruction_at l.section (relocation_in l.relocations i).offset in
-    (c : Code) (x y : Operands) (k k' : Kinds) (s : State) → AreBefore c 4 4 x y s
-    → HaveOneOffset x y → IsLowOffset x
-    → register (seen s) (rs1_of (word_of low)) ≡ s.registers tp → k.registers tp ≡ same
-    → Has 4 c.old x.place (offset_row action) x low → NewHas y c
-    → let after = uses action (word_of low) (sum_64 (s.registers tp) (thread_offset x)) in
-    ((t : State) → Agree (link c) k s t → Agree (link c) k' (after s) (after t))
-    → Group (of_link (link c)) 1 k s k' (after s)
+LowPartIsAlike l i NewHas =
+    LowPartBy offset_row thread_offset (λ s. s.registers tp) (λ k. k.registers tp ≡ same) NewHas
+    (instruction_at l.section (relocation_in l.relocations i).offset)
 
 -- In the context by which rewrites were chosen, the offset of a thread-local symbol is a number of
 -- 12 bits.
@@ -101,21 +94,17 @@ IsDeleted l i = deleted_of (decision_at l.decisions i) ≡ deleted_from 0 4
 abbrev pub HighPartGoes : Linked → ℕ → Type 0
 HighPartGoes l i =
     let lui = instruction_at l.section (relocation_in l.relocations i).offset in
-    let rd = rd_of (word_of lui) in
     (x : Operands) (c : Code) (k : Kinds) (s : State) → AreDeleted c 4 s → IsLowOffset x
     → Has 4 c.old s.pc (riscv_row names.R_RISCV_TPREL_HI20) x lui
-    → Group (of_link (link c)) 0 k s (with_register rd anything k) (put rd 0 (s.pc + 4) s)
+    → IsLeftOut c k s (rd_of (word_of lui)) 0
 
 -- So is an `add` of the thread pointer to a register with 0.
 abbrev pub SumGoes : Linked → ℕ → Type 0
 SumGoes l i =
     let add = instruction_at l.section (relocation_in l.relocations i).offset in
-    let rd = rd_of (word_of add) in
     (c : Code) (k : Kinds) (s : State) → AreDeleted c 4 s
     → register (seen s) (rs1_of (word_of add)) ≡ 0 → s.registers tp < 2 ^ 64
-    → Stands 4 c.old s.pc add
-    → Group (of_link (link c)) 0 k s (with_register rd anything k)
-    (put rd (s.registers tp) (s.pc + 4) s)
+    → Stands 4 c.old s.pc add → IsLeftOut c k s (rd_of (word_of add)) (s.registers tp)
 
 -- ---- TLS descriptors
 

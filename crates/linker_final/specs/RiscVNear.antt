@@ -4,14 +4,14 @@ use Rattle.std.specs.Prelude.{◌≡◌, ◌≢◌, ℕ, ◌+◌, ◌≤◌, ◌
 use Rattle.std.specs.Prelude.{IsSomeAnd, Option, slice_get}
 use Rattle.linker_base.specs.Rewrite.{rewritten}
 use Rattle.linker_final.specs.Imports.{riscv_row, difference_64, RelocationKindInfo, Operands, put}
-use Rattle.linker_final.specs.Imports.{with_register, Relocated, AreBefore, AreDeleted, Code, Has}
+use Rattle.linker_final.specs.Imports.{Relocated, AreBefore, AreDeleted, Code, Has}
 use Rattle.linker_final.specs.Imports.{link, seen, upper_from, uses, Action, register, rs1_of}
 use Rattle.linker_final.specs.Imports.{action_at, AreAddresses, symbol_address, Agree, Group, Kinds}
-use Rattle.linker_final.specs.Imports.{State, anything, of_link, word_at, rd_of, IsLui, Addresses}
+use Rattle.linker_final.specs.Imports.{State, of_link, word_at, rd_of, IsLui, Addresses}
 use Rattle.linker_final.specs.Imports.{Symbol, Rela}
 use Rattle.linker_elf.specs.declared.riscv64.relocations.RiscVRelocation.TheVariants as names
 use Rattle.linker_laws.specs.Machine.{moved}
-use Rattle.linker_laws.specs.RiscVGroups.{upper}
+use Rattle.linker_laws.specs.RiscVGroups.{IsLeftOut, upper}
 use Rattle.linker_laws.specs.RiscVMachine.{stores, stores_float}
 use Rattle.linker_laws.specs.RiscVRewriteLaws.{low_row, word_of}
 use Rattle.linker_rewriting.specs.GlobalPointer.{address_of, base_for, based_relocation}
@@ -84,7 +84,7 @@ ValuesAreDistances =
 -- An instruction that leaves a number in a register is deleted, which is a group of which new has
 -- nothing. Old's register has the high part of an address then.
 pub record IsHighPart (c : Code) (k : Kinds) (s : State) (rd number value address : ℕ) : Type 0 where
-  pub group : Group (of_link (link c)) 0 k s (with_register rd anything k) (put rd number (s.pc + 4) s)
+  pub group : IsLeftOut c k s rd number
   pub leaves : HasHighPart (put rd number (s.pc + 4) s) rd value address
 
 -- a `lui` with the value of its relocation, where a low part holds that of the same operands

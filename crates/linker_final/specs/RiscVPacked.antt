@@ -3,9 +3,8 @@
 use Rattle.std.specs.Prelude.{◌≡◌, ◌⊎◌, ℕ, ◌+◌, ◌-◌, ◌%◌, ◌==◌, List}
 use Rattle.std.specs.Prelude.{take, drop, if◌then◌else◌, slice_get, Some, ◌<◌, ◌^◌}
 use Rattle.linker_final.specs.Imports.{IsNameOf, riscv_name, riscv_row, RelocationKindInfo}
-use Rattle.linker_final.specs.Imports.{Operands, UiType, RiscVRelocation, put, with_register}
-use Rattle.linker_final.specs.Imports.{AreBefore, Code, Has, Stands, link, seen, Group, Kinds}
-use Rattle.linker_final.specs.Imports.{State, anything, of_link, register, rs1_of, IsLow12}
+use Rattle.linker_final.specs.Imports.{Operands, UiType, RiscVRelocation, AreBefore, Code, Has}
+use Rattle.linker_final.specs.Imports.{Stands, seen, Kinds, State, register, rs1_of, IsLow12}
 use Rattle.linker_final.specs.Imports.{IsLowOffset, AreAddresses, plt_address, word_at, rd_of}
 use Rattle.linker_final.specs.Imports.{IsLui, RiscV64, relocation_in, offset_at, operands_with}
 use Rattle.linker_final.specs.Imports.{Symbol, RiscV}
@@ -17,7 +16,7 @@ use Rattle.linker_final.specs.Packed.{Packed, AreDeleted, IsPacked, IsSiteOf, St
 use Rattle.linker_final.specs.Packed.{address_at, count, place_of}
 use Rattle.linker_final.specs.Packed.{site_bytes, site_len, site_offset, site_place}
 use Rattle.linker_final.specs.Packed.{site_target}
-use Rattle.linker_laws.specs.RiscVGroups.{IsCall}
+use Rattle.linker_laws.specs.RiscVGroups.{IsCall, IsLeftOut}
 use Rattle.linker_laws.specs.RiscVRelocationLaws.{even}
 use Rattle.linker_utils.specs.RiscVRewrites.{IsAddTp, tp}
 use Rattle.linker_runs.specs.RiscVItems.{IsCallAt}
@@ -103,8 +102,7 @@ LuiIsLeftOut name IsLow =
     (p : Packed) → IsPacked p → p.machine ≡ RiscV64 → (o : ℕ) → HasWord p.section.bytes o IsLui
     → AreDeleted p o 4 → (x : Operands) → IsLow x → (c : Code) (k : Kinds) (s : State)
     → IsBefore p o c s → Has 4 c.old s.pc (riscv_row name) x (drop o p.section.bytes)
-    → let rd = rd_of (word_at p.section.bytes o) in
-    Group (of_link (link c)) 0 k s (with_register rd anything k) (put rd 0 (s.pc + 4) s)
+    → IsLeftOut c k s (rd_of (word_at p.section.bytes o)) 0
 
 -- So is an `add` of the thread pointer to a register with 0.
 abbrev pub SumIsLeftOut : Type 0
@@ -113,9 +111,7 @@ SumIsLeftOut =
     → AreDeleted p o 4 → (c : Code) (k : Kinds) (s : State) → IsBefore p o c s
     → register (seen s) (rs1_of (word_at p.section.bytes o)) ≡ 0 → s.registers tp < 2 ^ 64
     → Stands 4 c.old s.pc (drop o p.section.bytes)
-    → let rd = rd_of (word_at p.section.bytes o) in
-    Group (of_link (link c)) 0 k s (with_register rd anything k)
-    (put rd (s.registers tp) (s.pc + 4) s)
+    → IsLeftOut c k s (rd_of (word_at p.section.bytes o)) (s.registers tp)
 
 abbrev pub HighPartsAreLeftOut : Type 0
 HighPartsAreLeftOut =

@@ -114,6 +114,11 @@ pub record AreDeleted (c : Code) (n : ℕ) (s : State) : Type 0 where
   pub small : s.pc + n < 2 ^ 64
   pub moved : c.moved s.pc ≡ c.moved (s.pc + n)
 
+-- a group of an instruction that leaves a number in a register, of which new has nothing
+abbrev pub IsLeftOut : Code → Kinds → State → ℕ → ℕ → Type 0
+IsLeftOut c k s rd number =
+    Group (of_link (link c)) 0 k s (with_register rd anything k) (put rd number (s.pc + 4) s)
+
 -- ---- high parts
 
 -- what `lui` leaves
@@ -150,9 +155,8 @@ CluiBecomesCli =
 abbrev pub DeletedLui : RewriteKind → RiscVRelocation → (Operands → Type 0) → Type 0
 DeletedLui kind name IsLow =
     (c : Code) (x : Operands) (k : Kinds) (s : State) (lui : List ℕ) → AreDeleted c 4 s
-    → riscv_matches kind lui 0 → IsLui (word_of lui) → IsLow x → Has 4 c.old s.pc (riscv_row name) x lui
-    → Group (of_link (link c)) 0 k s (with_register (rd_of (word_of lui)) anything k)
-    (put (rd_of (word_of lui)) 0 (s.pc + 4) s)
+    → riscv_matches kind lui 0 → IsLui (word_of lui) → IsLow x
+    → Has 4 c.old s.pc (riscv_row name) x lui → IsLeftOut c k s (rd_of (word_of lui)) 0
 
 abbrev pub LuiIsDeleted : Type 0
 LuiIsDeleted = DeletedLui kinds.Hi20Delete names.R_RISCV_HI20 IsLow12
@@ -166,8 +170,7 @@ SumIsDeleted =
     (c : Code) (k : Kinds) (s : State) (add : List ℕ) → AreDeleted c 4 s
     → IsAddTp (word_of add) → register (seen s) (rs1_of (word_of add)) ≡ 0
     → s.registers tp < 2 ^ 64 → Stands 4 c.old s.pc add
-    → Group (of_link (link c)) 0 k s (with_register (rd_of (word_of add)) anything k)
-    (put (rd_of (word_of add)) (s.registers tp) (s.pc + 4) s)
+    → IsLeftOut c k s (rd_of (word_of add)) (s.registers tp)
 
 -- ---- low parts
 
@@ -176,18 +179,24 @@ abbrev pub uses : Action → ℕ → ℕ → State → State
 uses action word sum s = left s (used 4 action (rd_of word) (rs2_of word) sum (seen s))
 
 -- An instruction adds the low part of a number to a base. Old's base has the number of another one,
--- and the rewrite makes that the base. What it loads, stores or writes is of the kinds after it.
-abbrev pub LowPartOf : RewriteKind → (Action → Option RelocationKindInfo) → (Operands → ℕ)
-    → (State → ℕ) → (Kinds → Type 0) → List ℕ → Action → Type 0
-LowPartOf kind row number base IsKnown low action =
-    (c : Code) (x y : Operands) (k k' : Kinds) (s : State) → AreBefore c 4 4 x y s → number x ≡ number y
-    → IsWithin (Some low_12_bounds) (cast_signed w64 (number x))
+-- and new has something in its place. What it loads, stores or writes is of the kinds after it.
+abbrev pub LowPartBy : (Action → Option RelocationKindInfo) → (Operands → ℕ) → (State → ℕ)
+    → (Kinds → Type 0) → (Operands → Code → Type 0) → List ℕ → Action → Type 0
+LowPartBy row number base IsKnown NewHas low action =
+    (c : Code) (x y : Operands) (k k' : Kinds) (s : State) → AreBefore c 4 4 x y s
+    → number x ≡ number y → IsWithin (Some low_12_bounds) (cast_signed w64 (number x))
     → register (seen s) (rs1_of (word_of low)) ≡ base s → IsKnown k
-    → Has 4 c.old x.place (row action) x low
-    → Has 4 c.new y.place (row action) y (after_rewrite kind low 0)
+    → Has 4 c.old x.place (row action) x low → NewHas y c
     → let after = uses action (word_of low) (sum_64 (base s) (number x)) in
     ((t : State) → Agree (link c) k s t → Agree (link c) k' (after s) (after t))
     → Group (of_link (link c)) 1 k s k' (after s)
+
+-- the rewrite makes the other register the base
+abbrev pub LowPartOf : RewriteKind → (Action → Option RelocationKindInfo) → (Operands → ℕ)
+    → (State → ℕ) → (Kinds → Type 0) → List ℕ → Action → Type 0
+LowPartOf kind row number base IsKnown low action =
+    LowPartBy row number base IsKnown
+    (λ y c. Has 4 c.new y.place (row action) y (after_rewrite kind low 0)) low action
 
 abbrev pub LowPart : RewriteKind → (Action → Option RelocationKindInfo) → (Operands → ℕ)
     → (State → ℕ) → (Kinds → Type 0) → Type 0
