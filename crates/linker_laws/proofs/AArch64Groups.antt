@@ -6,13 +6,13 @@ use Rattle.linker_laws.specs.AArch64Groups.{Has, seen, executed, machine, link, 
 use Rattle.linker_laws.specs.AArch64Groups as groups
 use Rattle.linker_laws.specs.AArch64Machine.{branch_target, execute, load_64, moved, step}
 use Rattle.linker_laws.specs.AArch64RelocationLaws as relocation_laws
-use Rattle.linker_laws.specs.AArch64RewriteLaws.{HasHigh, IsPair, IsRewritten, following, word_of, thread_offset}
+use Rattle.linker_laws.specs.AArch64RewriteLaws.{IsPair, IsRewritten, following, word_of, thread_offset}
 use Rattle.linker_laws.specs.Changes.{go_to, put}
 use Rattle.linker_laws.specs.Machine.{loaded}
 use Rattle.linker_laws.specs.Schemes.{symbol_address}
 use Rattle.linker_laws.specs.Simulation.{State, Program, Agree, AreOf, anything, run, half}
 use Rattle.linker_laws.proofs.AArch64GotLoads.{got_loads, got_adds}
-use Rattle.linker_laws.proofs.AArch64Halves.{high_steps, low_steps}
+use Rattle.linker_laws.proofs.AArch64Halves.{HasHigh, high_steps, low_steps}
 use Rattle.linker_laws.proofs.AArch64Pairs.{word_is}
 use Rattle.linker_laws.proofs.AArch64Steps.{branch_leads, set}
 use Rattle.linker_laws.proofs.AArch64Words.{branch_after, decodes_b, decodes_bl}

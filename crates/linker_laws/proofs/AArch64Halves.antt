@@ -171,6 +171,12 @@ entry_of_page o small ldr after a =
     whole : (g t : ℕ) → g < 2 ^ 64 → t ≡ g → (page g + t % 2 ^ 12) % 2 ^ 64 ≡ g
     whole g t small same = omega arith
 
+-- Register n has what a high half of the variable makes: in the object's run the page of the GOT
+-- entry, and in the new one a number that has the offset's bits from 16 up.
+pub record HasHigh (n : ℕ) (o : Operands) (s t : State) : Type 0 where
+  pub page_is : s.registers n ≡ page o.got_entry
+  pub bits_are : t.registers n / 2 ^ 16 ≡ thread_offset o / 2 ^ 16
+
 -- what both runs execute at a low half, each from a state of its own
 pub record LowSteps (o : Operands) (s t : State) (n x y : ℕ) : Type 0 where
   pub first : step x s ≡ Some (set n (thread_offset o) s)
@@ -179,7 +185,7 @@ pub record LowSteps (o : Operands) (s t : State) (n x y : ℕ) : Type 0 where
 pub low_steps : (o : Operands) (s t : State) (ldr movk : List ℕ) → AreAddresses o
     → IsLdr64 (word_of ldr) → IsIntoOwnSource (word_of ldr)
     → load_64 s.memory o.got_entry ≡ thread_offset o
-    → aarch64_laws.HasHigh (rd_of (word_of ldr)) o s t → aarch64_laws.IsRewritten MovkXn ldr movk
+    → HasHigh (rd_of (word_of ldr)) o s t → aarch64_laws.IsRewritten MovkXn ldr movk
     → (ldr1 movk1 : List ℕ)
     → IsRelocated names.R_AARCH64_TLSIE_LD64_GOTTPREL_LO12_NC o ldr ldr1
     → IsRelocated names.R_AARCH64_TLSLE_MOVW_TPREL_G0_NC o movk movk1

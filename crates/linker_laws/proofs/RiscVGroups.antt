@@ -123,7 +123,7 @@ lui_goes_away kind number of c x k s bytes d is low h =
     let small = d.small in
     let none : wrapped i ≡ 0 =
     ap (λ m. wrapped (signed 32 m)) (upper_stands kind x n bytes h.relocated a below (of.0 UType x)
-    h.applied.len is ∙ no_high_part n below (low_12_number n below low)) in
+    ∙ no_high_part n below (low_12_number n below low)) in
     let next : sum_64 s.pc 4 ≡ s.pc + 4 = omega (arith, small) in
     nothing_left c k s rd 0 d
     (puts (machine c.others c.old) s 4 (lui rd i) rd 0 (s.pc + 4) (below_32 (word_of bytes))
@@ -191,7 +191,7 @@ are_luis_to_clui c x y k s bytes at m one high old new =
     let v : wrapped i ≡ wrapped i' = same_immediates n _ _ (sum_below y.symbol _)
     (near y before' new.relocated a' len' low_bits function some not_sp high')
     (upper_stands Absolute x (symbol_address x) bytes old.relocated a (sum_below x.symbol _) (absolute_is UType x)
-    old.applied.len is ∙ ap high_20 one)
+    ∙ ap high_20 one)
     (short_stands y before' new.relocated a' len' low_bits function some not_sp high') in
     let same_rd : rd' ≡ rd =
     short_register y before' new.relocated a' len' low_bits function some not_sp high' ∙ register' in
@@ -238,7 +238,7 @@ are_cluis_to_cli c x y k s bytes clui at m is one low old stands =
     let zero : Instruction = sums adds rd' 0 0 (pos 0) in
     let none : wrapped i ≡ 0 =
     ap (λ m. wrapped (signed 32 m)) (upper_stands Absolute x n bytes old.relocated a below (absolute_is UType x)
-    old.applied.len is ∙ no_high_part n below (low_12_number n below low)) in
+    ∙ no_high_part n below (low_12_number n below low)) in
     value_group (link c) 0 0 k _ s _ rd 0 (sum_64 x.place 4) (sum_below x.place 4)
     (once (machine c.others c.old) s (put rd 0 (sum_64 x.place 4) s)
     (puts (machine c.others c.old) s 4 (lui rd i) rd 0 (sum_64 x.place 4) (below_32 (word_of bytes))

@@ -3,7 +3,7 @@ use Rattle.std.proofs.Common.{◌≡◌, ◌≢◌, ℕ, zero, suc, ◌+◌, ◌
 use Rattle.linker_laws.proofs.Imports.{◌==◌, ◌&&◌, ◌||◌, not, w16, w32, from_le_bytes, cast_signed, cases_lt, ints, to_z_pos, field, signed, BitRange, signed_cases, low_12_bounds, IsWithin, riscv_form, riscv_places, pair_row, sum_64, difference_64, value_of, RelocationKind, Absolute, TpOff, RiscVInstruction, Operands, UType, CluiType, CjType, cast_negative, IsApplied}
 use Rattle.linker_base.specs.Form.{place_sum}
 use Rattle.linker_elf.specs.Reach.{clui_bounds}
-use Rattle.linker_riscv64.specs.RiscVFields.{opcode_of, rd_of}
+use Rattle.linker_riscv64.specs.RiscVFields.{rd_of}
 use Rattle.linker_elf.proofs.RiscV.{u_laid, clui_laid}
 use Rattle.linker_laws.specs.Schemes.{symbol_address}
 use Rattle.linker_laws.proofs.Applied.{value_is, taken_bits}
@@ -138,26 +138,7 @@ of_offset = (offset_is, λ x. omega arith)
 
 module _ (kind : RelocationKind) (x : Operands) (n : ℕ) (before code : List ℕ)
     (applied : IsApplied (pair_row kind 32 UType) x before code) (below : n < 2 ^ 64)
-    (value : value_of (pair_row kind 32 UType) x ≡ Some (cast_signed w64 n))
-    (len : length code ≡ length before)
-    (is : opcode_of (from_le_bytes w32 before) ≡ 0x37) where
-  upper : ℕ
-  upper = from_le_bytes w32 code
-
-  kept_opcode : opcode_of upper ≡ 0x37
-  unfolding upper
-  kept_opcode =
-      kept_field UType (record { start = 0; end = 32 }) applied.value before code applied.written
-      (λ b w. refl) 0 7 refl ∙ is
-
-  pub upper_register : rd_of (from_le_bytes w32 code) ≡ rd_of (from_le_bytes w32 before)
-  upper_register =
-      kept_field UType (record { start = 0; end = 32 }) applied.value before code applied.written
-      (λ b w. refl) 7 5 refl
-
-  pub upper_number : ℤ
-  upper_number = (riscv_form UType).machine upper
-
+    (value : value_of (pair_row kind 32 UType) x ≡ Some (cast_signed w64 n)) where
   pub upper_stands : place_sum (riscv_places UType) (from_le_bytes w32 code) ≡ high_20 n
   upper_stands =
       let bits : BitRange = record { start = 0; end = 32 } in

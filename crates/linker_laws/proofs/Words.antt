@@ -2,9 +2,9 @@
 use Rattle.std.proofs.Common.{◌≡◌, ℕ, ◌+◌, ◌-◌, ◌*◌, ◌^◌, ◌<◌, ◌≤◌, Bool, true, false, refl, ◌∙◌, ap, arith, List, [], ◌∷◌, ◌++◌, length, take, drop, ℤ, pos, int_lt, subst, Some}
 use Rattle.linker_laws.proofs.Imports.{w16, w32, w64, from_le_bytes, to_le_bytes, bit_at, agree_below, append_assoc, drop_at, from_le_bytes-to_le_bytes_4, field, window_of, is_placed, rewritten, replaces, BitRange, same_fields, InstructionWritten, riscv_form, RiscV, RiscVInstruction}
 use Rattle.std.proofs.lemmas.Bool.{agree_below_at}
-use Rattle.std.proofs.lemmas.List.{take_at, length-append, length-take}
+use Rattle.std.proofs.lemmas.List.{length-take}
 use Rattle.std.proofs.lemmas.Nat.{from_le_bytes-to_le_bytes_2}
-use Rattle.linker_laws.specs.Machine.{AreBytes, deleted}
+use Rattle.linker_laws.specs.Machine.{AreBytes}
 
 -- ---- words
 
@@ -42,34 +42,7 @@ pub half_of_bytes : (n : ℕ) (rest : List ℕ) → n < 2 ^ 16
     → from_le_bytes w16 (to_le_bytes w16 n ++ rest) ≡ n
 half_of_bytes n rest h = from_le_bytes-to_le_bytes_2 n h
 
--- what stands at o after k bytes were written there and n after them deleted
-pub left_there : (s ys rest : List ℕ) (o k n : ℕ) → o ≤ length s → length ys ≡ k
-    → drop o (deleted n (o + k) (take o s ++ ys ++ rest))
-    ≡ ys ++ drop (o + k + n) (take o s ++ ys ++ rest)
-left_there s ys rest o k n inside len =
-    let front : length (take o s) ≡ o = length-take o s ∙ omega arith in
-    let whole = drop (o + k + n) (take o s ++ ys ++ rest) in
-    let kept : take (o + k) (take o s ++ ys ++ rest) ≡ take o s ++ ys =
-    take_at (take o s ++ ys) rest (o + k)
-    (length-append (take o s) ys ∙ omega (arith, front, len)) in
-    ap (λ xs. drop o (xs ++ whole)) kept
-    ∙ ap (drop o) (append_assoc (take o s) ys whole)
-    ∙ drop_at (take o s) (ys ++ whole) o front
-
--- what a rewrite puts at o, before n bytes after it are deleted
-pub rewritten_there : (s : List ℕ) (o len k n : ℕ) (bytes : List ℕ → List ℕ) → o ≤ length s
-    → length (bytes (take len (drop o s))) ≡ k
-    → drop o (deleted n (o + k) (rewritten (Some (replaces 0 len bytes)) s o))
-    ≡ bytes (take len (drop o s)) ++ drop (o + k + n) (rewritten (Some (replaces 0 len bytes)) s o)
-rewritten_there s o len k n bytes inside put =
-    subst (λ z. drop o (deleted n (o + k)
-    (take z s ++ bytes (take len (drop z s)) ++ drop (z + len) s))
-    ≡ bytes (take len (drop o s))
-    ++ drop (o + k + n) (take z s ++ bytes (take len (drop z s)) ++ drop (z + len) s))
-    (let e : o ≡ o - 0 = omega arith in e)
-    (left_there s (bytes (take len (drop o s))) (drop (o + len) s) o k n inside put)
-
--- the same where nothing is deleted
+-- what a rewrite puts at o
 pub put_there : (s : List ℕ) (o len : ℕ) (bytes : List ℕ → List ℕ) → o ≤ length s
     → drop o (rewritten (Some (replaces 0 len bytes)) s o)
     ≡ bytes (take len (drop o s)) ++ drop (o + len) s

@@ -1,30 +1,21 @@
 -- AArch64: bytes of instructions, as rewrites and relocations leave them.
-use Rattle.std.specs.Prelude.{◌≡◌, ℕ, ◌^◌, List}
-use Rattle.std.specs.Prelude.{drop, take, None, ⊤, ◌-◌, Option, Some, IsSomeAnd}
-use Rattle.std.specs.Prelude.{◌/◌}
-use Rattle.std.specs.Int.{w32, from_le_bytes}
-use Rattle.linker_laws.specs.Imports.{Rewrite, rewritten, page, aarch64_row, sum_64, difference_64}
-use Rattle.linker_laws.specs.Imports.{AArch64Relocation, Operands, IsApplied}
+use Rattle.std.specs.Prelude.{◌≡◌, ℕ, List, drop, None, ⊤, ◌-◌, Option, Some, IsSomeAnd}
+use Rattle.linker_laws.specs.Imports.{Rewrite, rewritten, aarch64_row, AArch64Relocation, Operands}
+use Rattle.linker_laws.specs.Imports.{IsApplied}
 use Rattle.linker_base.specs.Rewrite.{IsRewritable}
 use Rattle.linker_utils.specs.AArch64Rewrites.{aarch64_rewrite}
 use Rattle.linker_utils.specs.AArch64Rewrites.{AreOfOneRegister}
 use Rattle.linker_utils.specs.declared.aarch64.rewrites.RewriteKind.{RewriteKind}
-use Rattle.linker_laws.specs.Schemes.{AreAddresses, symbol_address}
+use Rattle.linker_laws.specs.Schemes.{AreAddresses}
+pub use Rattle.linker_laws.specs.Machine.{BeginsRewritten, word_of}
+pub use Rattle.linker_laws.specs.Schemes.{following, thread_offset}
 use Rattle.linker_laws.specs.AArch64Machine.{State}
 
 -- ---- instructions as bytes
 
--- the word of an instruction's bytes
-abbrev pub word_of : List ℕ → ℕ
-word_of bytes = from_le_bytes w32 bytes
-
 -- A relocation is applied to an instruction's bytes.
 abbrev pub IsRelocated : AArch64Relocation → Operands → List ℕ → List ℕ → Type 0
 IsRelocated name o before after = IsSomeAnd (aarch64_row name) (λ row. IsApplied row o before after)
-
--- Bytes begin with what a rewrite leaves of the window that they began with.
-abbrev pub BeginsRewritten : Rewrite → List ℕ → List ℕ → Type 0
-BeginsRewritten r before after = take r.len after ≡ r.bytes (take r.len before)
 
 abbrev pub IsRewritten : RewriteKind → List ℕ → List ℕ → Type 0
 IsRewritten kind before after =
@@ -43,10 +34,6 @@ InSections =
     (kind : RewriteKind) (section : List ℕ) (o : ℕ)
     → BeginsRewrittenAt (aarch64_rewrite kind) section o
 
--- the operands of an instruction n bytes after the first
-abbrev pub following : ℕ → Operands → Operands
-following n o = record o { place = sum_64 o.place n }
-
 -- the operands with another GOT entry
 abbrev pub with_entry : ℕ → Operands → Operands
 with_entry entry o = record o { got_entry = entry }
@@ -57,13 +44,3 @@ pub record IsPair (P : ℕ → Type 0) (o : Operands) (s : State) (adrp second :
   pub at : s.pc ≡ o.place
   pub one_register : AreOfOneRegister (word_of adrp) (word_of second)
   pub second_is : P (word_of second)
-
--- S + A, less the address that the thread pointer has
-abbrev pub thread_offset : Operands → ℕ
-thread_offset o = difference_64 (symbol_address o) o.tls_base
-
--- Register n has what a high half of the variable makes: in the object's run the page of the GOT
--- entry, and in the new one a number that has the offset's bits from 16 up.
-pub record HasHigh (n : ℕ) (o : Operands) (s t : State) : Type 0 where
-  pub page_is : s.registers n ≡ page o.got_entry
-  pub bits_are : t.registers n / 2 ^ 16 ≡ thread_offset o / 2 ^ 16

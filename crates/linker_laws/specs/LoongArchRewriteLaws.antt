@@ -1,35 +1,24 @@
 -- LoongArch: bytes of instructions, as rewrites and relocations leave them, and runs that are
 -- alike.
-use Rattle.std.specs.Prelude.{◌≡◌, ◌≢◌, ℕ, Bool, false, ◌==◌, ◌||◌, List, [], ◌∷◌, take, IsSomeAnd}
-use Rattle.std.specs.Int.{w32, from_le_bytes}
-use Rattle.linker_laws.specs.Imports.{Rewrite, IsApplied, RowIsWithin, page, loongarch_row, sum_64}
-use Rattle.linker_laws.specs.Imports.{difference_64, Operands, LoongArch64Relocation, RewriteKind}
+use Rattle.std.specs.Prelude.{◌≡◌, ◌≢◌, ℕ, Bool, false, ◌==◌, ◌||◌, List, [], ◌∷◌, IsSomeAnd}
+use Rattle.linker_laws.specs.Imports.{IsApplied, RowIsWithin, page, loongarch_row, sum_64}
+use Rattle.linker_laws.specs.Imports.{Operands, LoongArch64Relocation, RewriteKind}
 use Rattle.linker_laws.specs.LoongArchMachine.{State, read, AreAlikeBut}
-use Rattle.linker_laws.specs.Schemes.{entry_and_addend, symbol_address}
+use Rattle.linker_laws.specs.Schemes.{entry_and_addend}
+pub use Rattle.linker_laws.specs.Machine.{BeginsRewritten, word_of}
+pub use Rattle.linker_laws.specs.Schemes.{following, thread_offset}
 use Rattle.linker_utils.specs.LoongArchRewrites.{AreOfOneRegister, loongarch_rewrite, signed_32}
 
 -- ---- instructions as bytes
-
--- the word of an instruction's bytes
-abbrev pub word_of : List ℕ → ℕ
-word_of bytes = from_le_bytes w32 bytes
 
 -- A relocation is applied to an instruction's bytes.
 abbrev pub IsRelocated : LoongArch64Relocation → Operands → List ℕ → List ℕ → Type 0
 IsRelocated name o before after =
     IsSomeAnd (loongarch_row name) (λ row. IsApplied row o before after)
 
--- Bytes begin with what a rewrite leaves of the window that they began with.
-abbrev pub BeginsRewritten : Rewrite → List ℕ → List ℕ → Type 0
-BeginsRewritten r before after = take r.len after ≡ r.bytes (take r.len before)
-
 abbrev pub IsRewritten : RewriteKind → List ℕ → List ℕ → Type 0
 IsRewritten kind before after =
     IsSomeAnd (loongarch_rewrite kind) (λ r. BeginsRewritten r before after)
-
--- the operands of an instruction n bytes after the first
-abbrev pub following : ℕ → Operands → Operands
-following n o = record o { place = sum_64 o.place n }
 
 -- the value of a relocation, which nothing else checks, is a number of 32 bits in two's complement
 abbrev pub Fits32 : LoongArch64Relocation → Operands → Type 0
@@ -48,10 +37,6 @@ pub record LoadsEntry (high low : LoongArch64Relocation) (o : Operands)
   pub second : IsRelocated low (following 4 o) ld ld_of_entry
 
 -- ---- numbers
-
--- S + A, less the address that the thread pointer has
-abbrev pub thread_offset : Operands → ℕ
-thread_offset o = difference_64 (symbol_address o) o.tls_base
 
 -- the offset without its low 12 bits
 abbrev pub high_offset : Operands → ℕ

@@ -1,11 +1,11 @@
 -- What the machines have in common: sums of 64 bits, bytes of memory, and code to which a
 -- relocation was applied.
 use Rattle.std.specs.Prelude.{ℕ, zero, suc, ◌+◌, ◌*◌, ◌^◌, ◌<◌, ℤ, pos, ◌+ℤ◌, nat_lt, List}
-use Rattle.std.specs.Prelude.{◌++◌, length, ◌≡◌, take, drop, Option, IsSomeAnd, All, if◌then◌else◌}
-use Rattle.std.specs.Int.{int_rem_euclid, w64, cast_unsigned}
+use Rattle.std.specs.Prelude.{length, ◌≡◌, take, Option, IsSomeAnd, All, if◌then◌else◌}
+use Rattle.std.specs.Int.{int_rem_euclid, w32, w64, cast_unsigned, from_le_bytes}
 use Rattle.std.specs.Prelude.{unsigned_abs}
 use Rattle.linker_laws.specs.Imports.{field, signed, sum_64, difference_64, RelocationKindInfo}
-use Rattle.linker_laws.specs.Imports.{Operands, IsApplied}
+use Rattle.linker_laws.specs.Imports.{Operands, IsApplied, Rewrite}
 
 -- ---- numbers
 
@@ -41,6 +41,14 @@ stored n number address memory at =
 
 -- ---- code
 
+-- the word of an instruction's bytes
+abbrev pub word_of : List ℕ → ℕ
+word_of bytes = from_le_bytes w32 bytes
+
+-- Bytes begin with what a rewrite leaves of the window that they began with.
+abbrev pub BeginsRewritten : Rewrite → List ℕ → List ℕ → Type 0
+BeginsRewritten r before after = take r.len after ≡ r.bytes (take r.len before)
+
 abbrev pub AreBytes : List ℕ → Type 0
 AreBytes code = All (λ byte. byte < 2 ^ 8) code
 
@@ -51,7 +59,3 @@ pub record Relocated (row : Option RelocationKindInfo) (o : Operands) (before co
   pub len : length code ≡ length before
   pub old_bytes : AreBytes before
   pub bytes : AreBytes code
-
--- n bytes are deleted
-abbrev pub deleted : ℕ → ℕ → List ℕ → List ℕ
-deleted n o section = take o section ++ drop (o + n) section

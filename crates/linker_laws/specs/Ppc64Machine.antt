@@ -200,7 +200,3 @@ step_prefixed f both s =
     (moved (base (ra_of (both / 2 ^ 32)) s) ((ppc64_form Prefixed).machine both))
     (go_to (sum_64 s.pc 8) s))
     else None))
-
--- ---- sequences
-
--- ---- states that are alike

@@ -1,8 +1,8 @@
 -- PowerPC64: what laws of rewritten instructions are stated by: their bytes, the addresses that
 -- they lead to, and what they do with an address.
 use Rattle.std.specs.Prelude.{◌≡◌, ℕ, Bool, ◌==◌, ◌&&◌, not, List}
-use Rattle.std.specs.Prelude.{take, IsSomeAnd, drop, if◌then◌else◌}
-use Rattle.std.specs.Int.{w32, w64, from_le_bytes}
+use Rattle.std.specs.Prelude.{IsSomeAnd, drop, if◌then◌else◌}
+use Rattle.std.specs.Int.{w64, from_le_bytes}
 use Rattle.linker_utils.specs.Ppc64Rewrites.{is_d_access}
 use Rattle.linker_utils.specs.Ppc64Rewrites.{is_ds_access}
 use Rattle.linker_utils.specs.Ppc64Rewrites.{is_vector_access}
@@ -11,8 +11,10 @@ use Rattle.linker_laws.specs.Imports.{ra_of, access_of, field, sum_64, differenc
 use Rattle.linker_laws.specs.Imports.{Ppc64Instruction, D, Ds, Ppc64Relocation, IsApplied}
 use Rattle.linker_elf.specs.declared.ppc64.relocations.Ppc64Relocation.TheVariants as names
 use Rattle.linker_utils.specs.declared.ppc64.rewrites.RewriteKind.{RewriteKind}
+pub use Rattle.linker_laws.specs.Machine.{word_of}
+pub use Rattle.linker_laws.specs.Schemes.{thread_offset}
 use Rattle.linker_laws.specs.Schemes.{symbol_address}
-use Rattle.linker_laws.specs.Machine.{moved}
+use Rattle.linker_laws.specs.Machine.{BeginsRewritten, moved}
 use Rattle.linker_laws.specs.Ppc64Machine.{State, Formats, base}
 use Rattle.linker_laws.specs.Ppc64Machine.{write, access_with, Access}
 use Rattle.linker_laws.specs.Ppc64Machine.{accessed}
@@ -20,18 +22,12 @@ use Rattle.linker_laws.specs.Ppc64Machine.{loads, loads_signed, stores, word_acc
 
 -- ---- instructions as bytes
 
--- the word of an instruction's bytes
-abbrev pub word_of : List ℕ → ℕ
-word_of bytes = from_le_bytes w32 bytes
-
 -- A relocation is applied to an instruction's bytes.
 abbrev pub IsRelocated : Ppc64Relocation → Operands → List ℕ → List ℕ → Type 0
 IsRelocated name o before after = IsSomeAnd (ppc64_row name) (λ row. IsApplied row o before after)
 
--- Bytes begin with what a rewrite leaves of the window that they began with.
 abbrev pub IsRewritten : RewriteKind → List ℕ → List ℕ → Type 0
-IsRewritten kind before after =
-    IsSomeAnd (ppc64_rewrite kind) (λ r. take r.len after ≡ r.bytes (take r.len before))
+IsRewritten kind before after = IsSomeAnd (ppc64_rewrite kind) (λ r. BeginsRewritten r before after)
 
 -- the operands of an instruction at another place
 abbrev pub at_place : ℕ → Operands → Operands
@@ -46,10 +42,6 @@ abbrev pub prefixed_target : List ℕ → ℕ
 prefixed_target insn = rt_of (word_of (drop 4 insn))
 
 -- ---- addresses
-
--- S + A, less the address that the thread pointer has
-abbrev pub thread_offset : Operands → ℕ
-thread_offset o = difference_64 (symbol_address o) o.tls_base
 
 -- S + A, by its distance from what the formula subtracts, where a register has the number of that:
 -- register 2 has the TOC pointer, and register 13 the thread pointer

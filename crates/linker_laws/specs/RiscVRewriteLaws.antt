@@ -1,9 +1,9 @@
 -- RISC-V: what laws of rewrites name.
 use Rattle.std.specs.Prelude.{◌≡◌, ℕ, List}
 use Rattle.std.specs.Prelude.{Option, Some, ◌≢◌}
-use Rattle.std.specs.Int.{w32, w64, cast_signed, from_le_bytes}
+use Rattle.std.specs.Int.{w64, cast_signed}
 use Rattle.linker_laws.specs.Imports.{rewritten, low_12_bounds, IsWithin, a0, funct3_of, rd_of}
-use Rattle.linker_laws.specs.Imports.{riscv_row, difference_64, RelocationKindInfo, Operands}
+use Rattle.linker_laws.specs.Imports.{riscv_row, RelocationKindInfo, Operands}
 use Rattle.linker_elf.specs.Choices.{symbol_and_addend}
 use Rattle.linker_utils.specs.RiscVRewrites.{riscv_rewrite}
 use Rattle.linker_riscv64.specs.RiscVCalls.{word_at}
@@ -12,6 +12,8 @@ use Rattle.linker_utils.specs.RiscVRewrites.{IsAuipc, IsLd, IsAddiToA0}
 use Rattle.linker_utils.specs.RiscVRewrites.{IsCallOfDescriptor}
 use Rattle.linker_elf.specs.declared.riscv64.relocations.RiscVRelocation.TheVariants as names
 use Rattle.linker_utils.specs.declared.riscv64.rewrites.RewriteKind.{RewriteKind}
+pub use Rattle.linker_laws.specs.Machine.{word_of}
+pub use Rattle.linker_laws.specs.Schemes.{thread_offset}
 use Rattle.linker_laws.specs.Schemes.{symbol_address}
 use Rattle.linker_laws.specs.RiscVMachine.{Action}
 use Rattle.linker_laws.specs.RiscVMachine.{stores, stores_float, action_of, rs1_of}
@@ -45,10 +47,6 @@ action_at section o =
 
 -- ---- offsets from the thread pointer (psABI, "Local-Exec TLS Relaxation")
 
--- S + A, less the address that the thread pointer has
-abbrev pub thread_offset : Operands → ℕ
-thread_offset x = difference_64 (symbol_address x) x.tls_base
-
 -- the offset is the same in both layouts
 abbrev pub HaveOneOffset : Operands → Operands → Type 0
 HaveOneOffset x y = thread_offset x ≡ thread_offset y
@@ -65,10 +63,6 @@ offset_row action = riscv_row names.R_RISCV_TPREL_LO12_I
 
 -- ---- the offset of a variable from the thread pointer, by a TLS descriptor (psABI, "TLS
 -- Descriptors -> Initial Exec Relaxation", "TLS Descriptors -> Local Exec Relaxation")
-
--- the word of an instruction's bytes
-abbrev pub word_of : List ℕ → ℕ
-word_of bytes = from_le_bytes w32 bytes
 
 -- `t0` is register 5.
 abbrev pub t0 : ℕ

@@ -46,6 +46,10 @@ entry_and_addend o = sum_64 o.got_entry (cast_unsigned w64 o.addend)
 abbrev pub size_and_addend : Operands → ℕ
 size_and_addend o = sum_64 o.symbol_size (cast_unsigned w64 o.addend)
 
+-- S + A, less the address that the thread pointer has
+abbrev pub thread_offset : Operands → ℕ
+thread_offset o = difference_64 (symbol_address o) o.tls_base
+
 -- ---- what instructions begin with
 
 abbrev pub zero : Operands → ℕ
@@ -59,6 +63,10 @@ got_base o = o.got_base
 
 abbrev pub tls_base : Operands → ℕ
 tls_base o = o.tls_base
+
+-- the operands of an instruction n bytes after the first
+abbrev pub following : ℕ → Operands → Operands
+following n o = record o { place = sum_64 o.place n }
 
 -- ---- the scheme
 
