@@ -1,13 +1,12 @@
 -- Pages and offsets in them, of AArch64.
-use Rattle.std.proofs.Common.{◌≡◌, ℕ, ◌+◌, ◌-◌, ◌*◌, ◌/◌, ◌%◌, ◌^◌, ◌<◌, ◌≤◌, Bool, true, refl, sym, ◌∙◌, ap, subst, arith, List, ℤ, pos, ◌+ℤ◌, ◌*ℤ◌, Option, Some, None}
+use Rattle.std.proofs.Common.{◌≡◌, ℕ, ◌+◌, ◌-◌, ◌*◌, ◌/◌, ◌%◌, ◌^◌, ◌<◌, ◌≤◌, Bool, true, refl, sym, ◌∙◌, ap, subst, arith, List, [], ◌∷◌, ℤ, pos, ◌+ℤ◌, ◌*ℤ◌, Option, Some}
 use Rattle.linker_laws.proofs.Imports.{w64, cast_signed, mod_below, pow_pos, pow-add, field, window_of, is_sound_layout, low_of, high_of, aarch64_form, aarch64_layout, IsWithin, page, reach_of, value_of, sum_64, difference_64, AArch64Instruction, Adr, Add, AllowedRange, PageMask, AArch64, RelocationKind, RelocationKindInfo, Operands, IsApplied}
 use Rattle.std.proofs.Math.Arith.{mod-mul}
 use Rattle.linker_base.specs.Form.{place_sum}
 use Rattle.linker_base.proofs.Immediates.{subst_below}
-use Rattle.linker_elf.specs.Rows.{Bounds}
-use Rattle.linker_laws.specs.AArch64RelocationLaws.{got_page}
-use Rattle.linker_laws.specs.Schemes.{IsAddress, AreAddresses}
-use Rattle.linker_laws.proofs.Instructions.{IsNumber, IsSmall, absolute, row_of, is_read, reads_bits, field_sum, multiple}
+use Rattle.linker_laws.specs.AArch64RelocationLaws.{got_page, page_and_offset}
+use Rattle.linker_laws.specs.Schemes.{AreAddresses, Law, Premise, PremiseHolds, none}
+use Rattle.linker_laws.proofs.Instructions.{FirstHasNumber, HasNumber, IsNumber, IsSmall, absolute, first_step, row_of, is_read, reads_bits, field_sum, multiple, step_of}
 use Rattle.linker_laws.proofs.Applied.{sound_written}
 use Rattle.linker_laws.proofs.Sums.{halves_sum, page_halves_sum, sum_below, difference_below}
 
@@ -64,48 +63,34 @@ offset_reads f is kind k mask range bias thunkable implicit o before after appli
 abbrev pub page_distance : (Operands → ℕ) → Operands → ℕ
 page_distance target o = difference_64 (page (sum_64 (target o) 0)) (page o.place)
 
--- what checks the value of the high part: the row, or the law's own bounds
-abbrev pub Checks : RelocationKindInfo → Bounds → ℤ × ℤ → Type 0
-Checks row within b =
-    (v : ℤ) → IsWithin (reach_of row) v → IsWithin within v → IsWithin (Some b) v
+-- what checks the value of the high part: the row, or the law's premise
+abbrev pub Checks : RelocationKindInfo → Premise → ℤ × ℤ → Type 0
+Checks row premise b =
+    (x : ℕ) (v : ℤ) → IsWithin (reach_of row) v → PremiseHolds premise x v → IsWithin (Some b) v
 
 pub pages : {target address : Operands → ℕ} → IsSmall target
     → ((o : Operands) → AreAddresses o → target o ≡ address o)
     → (f : AArch64Instruction) → IsUnsigned f → (k : ℕ) → k ≤ 12
-    → (operands : Operands → ℕ → Operands) (within : Bounds) (b : ℤ × ℤ)
+    → (operands : Operands → ℕ → Operands) (premise : Premise) (b : ℤ × ℤ)
     → {kind : RelocationKind} {mask : Option PageMask} {range : AllowedRange} {a : ℕ}
     {bias : Option ℕ} {thunkable implicit : Bool}
     {kind2 : RelocationKind} {mask2 : Option PageMask} {range2 : AllowedRange}
     {bias2 : Option ℕ} {thunkable2 implicit2 : Bool}
-    → Checks (row_of kind 12 33 (AArch64 Adr) mask range a bias
-    thunkable implicit) within b
+    → Checks (row_of kind 12 33 (AArch64 Adr) mask range a bias thunkable implicit) premise b
     → is_read (AArch64 Adr) 12 33 b a ≡ true
-    → ((o : Operands) → AreAddresses o
-    → value_of (row_of kind 12 33 (AArch64 Adr) mask range a bias
-    thunkable implicit)
-    o ≡ Some (cast_signed w64 (page_distance target o)))
-    → ((o : Operands) → AreAddresses o → (at : ℕ)
-    → value_of (row_of kind2 k 12 (AArch64 f) mask2 range2 (2 ^ k) bias2
-    thunkable2 implicit2)
-    (operands o at) ≡ Some (cast_signed w64 (absolute target o)))
-    → (o : Operands) → AreAddresses o → (at : ℕ) (before after : List ℕ)
-    (high : IsApplied (row_of kind 12 33 (AArch64 Adr) mask range a bias
-    thunkable implicit)
-    o before after) → IsWithin within high.value
-    → (at2 : ℕ) (before2 after2 : List ℕ)
-    (low : IsApplied (row_of kind2 k 12 (AArch64 f) mask2 range2 (2 ^ k) bias2
-    thunkable2 implicit2)
-    (operands o at2) before2 after2) → IsWithin None low.value
-    → IsAddress ((pos (page o.place)
-    +ℤ ((aarch64_form Adr).machine (window_of (aarch64_form Adr) after) *ℤ pos 4096))
-    +ℤ ((aarch64_form f).machine (window_of (aarch64_form f) after2) *ℤ pos (2 ^ k))) (address o)
-pages {target} {address} to same f is k short operands within b checks ok e e2 =
+    → FirstHasNumber (row_of kind 12 33 (AArch64 Adr) mask range a bias thunkable implicit) (page_distance target)
+    → HasNumber (row_of kind2 k 12 (AArch64 f) mask2 range2 (2 ^ k) bias2 thunkable2 implicit2) operands (absolute target)
+    → Law
+    (first_step (row_of kind 12 33 (AArch64 Adr) mask range a bias thunkable implicit) premise
+    ∷ step_of (row_of kind2 k 12 (AArch64 f) mask2 range2 (2 ^ k) bias2 thunkable2 implicit2) operands none
+    ∷ []) (page_and_offset f (2 ^ k)) address
+pages {target} {address} to same f is k short operands premise b checks ok e e2 =
     λ o small at before after high own at2 before2 after2 low any.
     let m = page_distance target o in
     let t = target o in
     let below = difference_below (page (sum_64 t 0)) (page o.place) in
     let h = reads_bits _ _ _ _ _ _ _ _ _ _ o before after high b
-    (checks high.value high.accepted.reached.0 own) ok m below (e o small) in
+    (checks (window_of (aarch64_form Adr) before) high.value high.accepted.reached.0 own) ok m below (e o small) in
     let l = offset_reads f is _ k _ _ _ _ _ _ before2 after2 low (sum_64 t 0) (sum_below t 0) short
     (e2 o small at2) in
     page_halves_sum 0 o.place t m
@@ -130,25 +115,12 @@ pub high_and_low_parts : {begin target number : Operands → ℕ} → IsNumber b
     → reach_of (row_of kind 12 24 (AArch64 Add) mask range a bias
     thunkable implicit) ≡ Some b
     → is_read (AArch64 Add) 12 24 b a ≡ true
-    → ((o : Operands) → AreAddresses o
-    → value_of (row_of kind 12 24 (AArch64 Add) mask range a bias
-    thunkable implicit)
-    o ≡ Some (cast_signed w64 (number o)))
-    → ((o : Operands) → AreAddresses o → (at : ℕ)
-    → value_of (row_of kind2 k 12 (AArch64 f) mask2 range2 (2 ^ k) bias2
-    thunkable2 implicit2)
-    (operands o at) ≡ Some (cast_signed w64 (number o)))
-    → (o : Operands) → AreAddresses o → (at : ℕ) (before after : List ℕ)
-    (high : IsApplied (row_of kind 12 24 (AArch64 Add) mask range a bias
-    thunkable implicit)
-    o before after) → IsWithin None high.value
-    → (at2 : ℕ) (before2 after2 : List ℕ)
-    (low : IsApplied (row_of kind2 k 12 (AArch64 f) mask2 range2 (2 ^ k) bias2
-    thunkable2 implicit2)
-    (operands o at2) before2 after2) → IsWithin None low.value
-    → IsAddress ((pos (begin o)
-    +ℤ ((aarch64_form Add).machine (window_of (aarch64_form Add) after) *ℤ pos 4096))
-    +ℤ ((aarch64_form f).machine (window_of (aarch64_form f) after2) *ℤ pos (2 ^ k))) (target o)
+    → FirstHasNumber (row_of kind 12 24 (AArch64 Add) mask range a bias thunkable implicit) number
+    → HasNumber (row_of kind2 k 12 (AArch64 f) mask2 range2 (2 ^ k) bias2 thunkable2 implicit2) operands number
+    → Law
+    (first_step (row_of kind 12 24 (AArch64 Add) mask range a bias thunkable implicit) none
+    ∷ step_of (row_of kind2 k 12 (AArch64 f) mask2 range2 (2 ^ k) bias2 thunkable2 implicit2) operands none
+    ∷ []) (λ o x y. (pos (begin o) +ℤ ((aarch64_form Add).machine x *ℤ pos 4096)) +ℤ ((aarch64_form f).machine y *ℤ pos (2 ^ k))) target
 high_and_low_parts {begin} {target} {number} leads under f is k short operands within ok e e2 =
     λ o small at before after high any at2 before2 after2 low any2.
     let n = number o in

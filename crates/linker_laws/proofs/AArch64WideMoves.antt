@@ -1,5 +1,5 @@
 -- Moves of 16 bits of AArch64.
-use Rattle.std.proofs.Common.{◌≡◌, ℕ, ◌+◌, ◌-◌, ◌*◌, ◌/◌, ◌%◌, ◌^◌, ◌<◌, ◌≤◌, Bool, true, false, refl, sym, ◌∙◌, ap, subst, arith, List, ℤ, pos, negsuc, ◌+ℤ◌, ◌-ℤ◌, ◌*ℤ◌, Option, Some, None, suc, unsigned_abs, eqb, ltb, not, true, false, Bool}
+use Rattle.std.proofs.Common.{◌≡◌, ℕ, ◌+◌, ◌-◌, ◌*◌, ◌/◌, ◌%◌, ◌^◌, ◌<◌, ◌≤◌, Bool, true, false, refl, sym, ◌∙◌, ap, subst, arith, List, [], ◌∷◌, ℤ, pos, negsuc, ◌+ℤ◌, ◌-ℤ◌, ◌*ℤ◌, Option, Some, None, suc, unsigned_abs, eqb, ltb, not, true, false, Bool}
 use Rattle.linker_laws.proofs.Imports.{◌==◌, ◌&&◌, w32, w64, bit_at, cast_signed, from_le_bytes, int_rem_euclid, and_parts, eqb-true, ints, int_rem_euclid_is, mod_below, pow_pos, pow-add, div-add-mod', field, BitRange, aarch64_form, shift_of, bits_from, AgreesInReach, IsWithin, reach_of, is_movk, stays_movk, value_of, sum_64, Movkz, Movnz, AllowedRange, PageMask, AArch64, RelocationKind, RelocationKindInfo, Operands, taken_is_field, IsApplied}
 use Rattle.std.proofs.lemmas.Nat.{div-mul-add}
 use Rattle.std.proofs.Math.Nat.{mul-add-mod_self_right}
@@ -7,9 +7,9 @@ use Rattle.linker_base.specs.Form.{IsSameModulo}
 use Rattle.linker_elf.specs.Agrees.{IsSameIn, aarch64_reads}
 use Rattle.linker_elf.specs.Relocate.{MoveReads}
 use Rattle.linker_laws.specs.AArch64RelocationLaws.{movk, movz, movn_or_movz}
-use Rattle.linker_laws.specs.Schemes.{IsAddress, AreAddresses, Premise, PremiseHolds, of_words, none, number_at}
+use Rattle.linker_laws.specs.Schemes.{IsAddress, AreAddresses, Law, Premise, PremiseHolds, of_words, none, number_at}
 use Rattle.linker_laws.proofs.Applied.{value_is, reads, taken_bits}
-use Rattle.linker_laws.proofs.Instructions.{IsNumber, row_of, is_read, reads_bits, field_sum}
+use Rattle.linker_laws.proofs.Instructions.{HasNumber, IsNumber, first_step, row_of, is_read, reads_bits, field_sum, step_of}
 use Rattle.linker_laws.proofs.Sums.{halves_sum, lift, lifted_is, euclid, small_cast}
 
 -- ---- numbers in two parts
@@ -112,7 +112,7 @@ IsFirst row premise s move number =
     (o : Operands) → AreAddresses o → (before after : List ℕ)
     (applied : IsApplied row o before after)
     → PremiseHolds premise (number_at row.size before) applied.value
-    → bits_from s (move (from_le_bytes w32 after)) ≡ bits_from s (cast_signed w64 (number o))
+    → bits_from s (move (number_at row.size after)) ≡ bits_from s (cast_signed w64 (number o))
 
 -- what the moves come to
 reached : (s : ℕ) {begin target number : Operands → ℕ} → IsNumber begin target number
@@ -160,13 +160,10 @@ after_32 r n f g small eg ef =
 pub moves1 : {begin target number : Operands → ℕ} → IsNumber begin target number
     → (row : RelocationKindInfo) (premise : Premise) (move : ℕ → ℤ)
     → IsFirst row premise 0 move number
-    → (o : Operands) → AreAddresses o
-    → (at : ℕ) (before after : List ℕ) (step : IsApplied row o before after)
-    → PremiseHolds premise (number_at row.size before) step.value
-    → IsAddress (pos (begin o) +ℤ move (from_le_bytes w32 after)) (target o)
+    → Law (first_step row premise ∷ []) (λ o x. pos (begin o) +ℤ move x) target
 moves1 {begin} {target} {number} leads row premise move first =
     λ o small at before after step holds.
-    let v = move (from_le_bytes w32 after) in
+    let v = move (number_at row.size after) in
     let p = parts 0 v in
     let below = p.below in
     let none : p.rest ≡ number o % 2 ^ 0 = omega arith in
@@ -179,25 +176,16 @@ pub moves2 : {begin target number : Operands → ℕ} → IsNumber begin target 
     → (operands2 : Operands → ℕ → Operands)
     → {kind2 : RelocationKind} {mask2 : Option PageMask} {range2 : AllowedRange} {a2 : ℕ}
     {bias2 : Option ℕ} {thunkable2 implicit2 : Bool}
-    → ((o : Operands) → AreAddresses o → (at : ℕ)
-    → value_of (row_of kind2 0 16 (AArch64 Movkz) mask2 range2 a2 bias2
-    thunkable2 implicit2)
-    (operands2 o at) ≡ Some (cast_signed w64 (number o)))
-    → (o : Operands) → AreAddresses o
-    → (at : ℕ) (before after : List ℕ) (step : IsApplied row o before after)
-    → PremiseHolds premise (number_at row.size before) step.value
-    → (at2 : ℕ) (before2 after2 : List ℕ)
-    (step2 : IsApplied (row_of kind2 0 16 (AArch64 Movkz) mask2 range2 a2 bias2
-    thunkable2 implicit2)
-    (operands2 o at2) before2 after2) → PremiseHolds none (from_le_bytes w32 before2) step2.value
-    → IsAddress (pos (begin o)
-    +ℤ movk 0 (move (from_le_bytes w32 after)) (from_le_bytes w32 after2))
-    (target o)
+    → HasNumber (row_of kind2 0 16 (AArch64 Movkz) mask2 range2 a2 bias2 thunkable2 implicit2) operands2 number
+    → Law
+    (first_step row premise
+    ∷ step_of (row_of kind2 0 16 (AArch64 Movkz) mask2 range2 a2 bias2 thunkable2 implicit2) operands2 none
+    ∷ []) (λ o x y. pos (begin o) +ℤ movk 0 (move x) y) target
 moves2 {begin} {target} {number} leads row premise move first operands2 e2 =
     λ o small at before after step holds at2 before2 after2 step2 any2.
     let n = number o in
     let numbers = leads o small in
-    let v = move (from_le_bytes w32 after) in
+    let v = move (number_at row.size after) in
     let t = bits_from 16 v in
     let p = parts 16 v in
     let f = movk_reads _ 0 _ _ _ _ _ _ _ before2 after2 step2 n numbers.below (omega arith)
@@ -216,34 +204,19 @@ pub moves3 : {begin target number : Operands → ℕ} → IsNumber begin target 
     {bias2 : Option ℕ} {thunkable2 implicit2 : Bool}
     {kind3 : RelocationKind} {mask3 : Option PageMask} {range3 : AllowedRange} {a3 : ℕ}
     {bias3 : Option ℕ} {thunkable3 implicit3 : Bool}
-    → ((o : Operands) → AreAddresses o → (at : ℕ)
-    → value_of (row_of kind2 16 32 (AArch64 Movkz) mask2 range2 a2 bias2
-    thunkable2 implicit2)
-    (operands2 o at) ≡ Some (cast_signed w64 (number o)))
-    → ((o : Operands) → AreAddresses o → (at : ℕ)
-    → value_of (row_of kind3 0 16 (AArch64 Movkz) mask3 range3 a3 bias3
-    thunkable3 implicit3)
-    (operands3 o at) ≡ Some (cast_signed w64 (number o)))
-    → (o : Operands) → AreAddresses o
-    → (at : ℕ) (before after : List ℕ) (step : IsApplied row o before after)
-    → PremiseHolds premise (number_at row.size before) step.value
-    → (at2 : ℕ) (before2 after2 : List ℕ)
-    (step2 : IsApplied (row_of kind2 16 32 (AArch64 Movkz) mask2 range2 a2 bias2
-    thunkable2 implicit2)
-    (operands2 o at2) before2 after2) → PremiseHolds none (from_le_bytes w32 before2) step2.value
-    → (at3 : ℕ) (before3 after3 : List ℕ)
-    (step3 : IsApplied (row_of kind3 0 16 (AArch64 Movkz) mask3 range3 a3 bias3
-    thunkable3 implicit3)
-    (operands3 o at3) before3 after3) → PremiseHolds none (from_le_bytes w32 before3) step3.value
-    → IsAddress (pos (begin o)
-    +ℤ movk 0 (movk 16 (move (from_le_bytes w32 after)) (from_le_bytes w32 after2))
-    (from_le_bytes w32 after3)) (target o)
+    → HasNumber (row_of kind2 16 32 (AArch64 Movkz) mask2 range2 a2 bias2 thunkable2 implicit2) operands2 number
+    → HasNumber (row_of kind3 0 16 (AArch64 Movkz) mask3 range3 a3 bias3 thunkable3 implicit3) operands3 number
+    → Law
+    (first_step row premise
+    ∷ step_of (row_of kind2 16 32 (AArch64 Movkz) mask2 range2 a2 bias2 thunkable2 implicit2) operands2 none
+    ∷ step_of (row_of kind3 0 16 (AArch64 Movkz) mask3 range3 a3 bias3 thunkable3 implicit3) operands3 none
+    ∷ []) (λ o x y z. pos (begin o) +ℤ movk 0 (movk 16 (move x) y) z) target
 moves3 {begin} {target} {number} leads row premise move first operands2 operands3 e2 e3 =
     λ o small at before after step holds at2 before2 after2 step2 any2 at3 before3 after3 step3
     any3.
     let n = number o in
     let numbers = leads o small in
-    let v = move (from_le_bytes w32 after) in
+    let v = move (number_at row.size after) in
     let t = bits_from 32 v in
     let p = parts 32 v in
     let g = movk_reads _ 16 _ _ _ _ _ _ _ before2 after2 step2 n numbers.below (omega arith)
@@ -269,7 +242,7 @@ IsHighest row premise move number =
     (o : Operands) → AreAddresses o → (before after : List ℕ)
     (applied : IsApplied row o before after)
     → PremiseHolds premise (number_at row.size before) applied.value
-    → IsSameModulo 16 (bits_from 48 (move (from_le_bytes w32 after)))
+    → IsSameModulo 16 (bits_from 48 (move (number_at row.size after)))
     (bits_from 48 (cast_signed w64 (number o)))
 
 rem_lifted : (z : ℤ) (j w : ℕ) → z +ℤ pos (j * 2 ^ 64) ≡ pos w
@@ -332,43 +305,22 @@ pub moves4 : {begin target number : Operands → ℕ} → IsNumber begin target 
     {bias3 : Option ℕ} {thunkable3 implicit3 : Bool}
     {kind4 : RelocationKind} {mask4 : Option PageMask} {range4 : AllowedRange} {a4 : ℕ}
     {bias4 : Option ℕ} {thunkable4 implicit4 : Bool}
-    → ((o : Operands) → AreAddresses o → (at : ℕ)
-    → value_of (row_of kind2 32 48 (AArch64 Movkz) mask2 range2 a2 bias2
-    thunkable2 implicit2)
-    (operands2 o at) ≡ Some (cast_signed w64 (number o)))
-    → ((o : Operands) → AreAddresses o → (at : ℕ)
-    → value_of (row_of kind3 16 32 (AArch64 Movkz) mask3 range3 a3 bias3
-    thunkable3 implicit3)
-    (operands3 o at) ≡ Some (cast_signed w64 (number o)))
-    → ((o : Operands) → AreAddresses o → (at : ℕ)
-    → value_of (row_of kind4 0 16 (AArch64 Movkz) mask4 range4 a4 bias4
-    thunkable4 implicit4)
-    (operands4 o at) ≡ Some (cast_signed w64 (number o)))
-    → (o : Operands) → AreAddresses o
-    → (at : ℕ) (before after : List ℕ) (step : IsApplied row o before after)
-    → PremiseHolds premise (number_at row.size before) step.value
-    → (at2 : ℕ) (before2 after2 : List ℕ)
-    (step2 : IsApplied (row_of kind2 32 48 (AArch64 Movkz) mask2 range2 a2 bias2
-    thunkable2 implicit2)
-    (operands2 o at2) before2 after2) → PremiseHolds none (from_le_bytes w32 before2) step2.value
-    → (at3 : ℕ) (before3 after3 : List ℕ)
-    (step3 : IsApplied (row_of kind3 16 32 (AArch64 Movkz) mask3 range3 a3 bias3
-    thunkable3 implicit3)
-    (operands3 o at3) before3 after3) → PremiseHolds none (from_le_bytes w32 before3) step3.value
-    → (at4 : ℕ) (before4 after4 : List ℕ)
-    (step4 : IsApplied (row_of kind4 0 16 (AArch64 Movkz) mask4 range4 a4 bias4
-    thunkable4 implicit4)
-    (operands4 o at4) before4 after4) → PremiseHolds none (from_le_bytes w32 before4) step4.value
-    → IsAddress (pos (begin o)
-    +ℤ movk 0 (movk 16 (movk 32 (move (from_le_bytes w32 after)) (from_le_bytes w32 after2))
-    (from_le_bytes w32 after3)) (from_le_bytes w32 after4)) (target o)
+    → HasNumber (row_of kind2 32 48 (AArch64 Movkz) mask2 range2 a2 bias2 thunkable2 implicit2) operands2 number
+    → HasNumber (row_of kind3 16 32 (AArch64 Movkz) mask3 range3 a3 bias3 thunkable3 implicit3) operands3 number
+    → HasNumber (row_of kind4 0 16 (AArch64 Movkz) mask4 range4 a4 bias4 thunkable4 implicit4) operands4 number
+    → Law
+    (first_step row premise
+    ∷ step_of (row_of kind2 32 48 (AArch64 Movkz) mask2 range2 a2 bias2 thunkable2 implicit2) operands2 none
+    ∷ step_of (row_of kind3 16 32 (AArch64 Movkz) mask3 range3 a3 bias3 thunkable3 implicit3) operands3 none
+    ∷ step_of (row_of kind4 0 16 (AArch64 Movkz) mask4 range4 a4 bias4 thunkable4 implicit4) operands4 none
+    ∷ []) (λ o x y z u. pos (begin o) +ℤ movk 0 (movk 16 (movk 32 (move x) y) z) u) target
 moves4 {begin} {target} {number} leads row premise move first operands2 operands3 operands4 e2 e3 e4
     =
     λ o small at before after step holds at2 before2 after2 step2 any2 at3 before3 after3 step3 any3
     at4 before4 after4 step4 any4.
     let n = number o in
     let numbers = leads o small in
-    let v = move (from_le_bytes w32 after) in
+    let v = move (number_at row.size after) in
     let t = bits_from 48 v in
     let p = parts 48 v in
     let y = from_le_bytes w32 after2 in

@@ -1,13 +1,13 @@
 -- The law of a field of whole bytes.
-use Rattle.std.proofs.Common.{◌≡◌, ℕ, zero, suc, ◌+◌, ◌*◌, ◌%◌, ◌^◌, ◌<◌, Bool, true, sym, ◌∙◌, ap, subst, arith, List, ℤ, pos, ◌+ℤ◌, ◌*ℤ◌, Option, Some, None, unsigned_abs}
+use Rattle.std.proofs.Common.{◌≡◌, ℕ, zero, suc, ◌+◌, ◌*◌, ◌%◌, ◌^◌, ◌<◌, Bool, true, sym, ◌∙◌, ap, subst, arith, List, [], ◌∷◌, ℤ, pos, ◌+ℤ◌, ◌*ℤ◌, Option, Some, unsigned_abs}
 use Rattle.linker_laws.proofs.Imports.{w64, cast_signed, int_rem_euclid, bits_from, IsWithin, reach_of, number_of_bytes, SizeNumber, value_of, AllowedRange, PageMask, RelocationKind, RelocationKindInfo, ByteSize, Operands, rem_below, row_number, IsApplied}
 use Rattle.std.proofs.Math.Nat.{mod-eq_of_lt}
 use Rattle.linker_base.specs.Form.{Sign, number_of}
 use Rattle.linker_elf.specs.Relocate.{whole_number}
 use Rattle.linker_elf.proofs.Agreement.{number_agrees, reaches, from_zero}
-use Rattle.linker_laws.specs.Schemes.{IsAddress, AreAddresses}
+use Rattle.linker_laws.specs.Schemes.{AreAddresses, Law, none, of_values}
 use Rattle.linker_laws.proofs.Applied.{fits, value_is}
-use Rattle.linker_laws.proofs.Instructions.{IsNumber}
+use Rattle.linker_laws.proofs.Instructions.{IsNumber, first_step}
 use Rattle.linker_laws.proofs.Sums.{goes, cast_low, cast_is, once}
 
 -- n whole bytes
@@ -75,11 +75,7 @@ pub field_adds : {begin target number : Operands → ℕ} → IsNumber begin tar
     → reaches sign (8 * n) 0 (8 * n) (Some b) ≡ true
     → ((o : Operands) → value_of (bytes_of kind n mask range a bias thunkable implicit) o
     ≡ Some (cast_signed w64 (number o)))
-    → (o : Operands) → AreAddresses o → (at : ℕ) (before after : List ℕ)
-    (applied : IsApplied (bytes_of kind n mask range a bias thunkable implicit) o before after)
-    → IsWithin None applied.value
-    → IsAddress (pos (begin o) +ℤ (number_of sign (8 * n) (number_of_bytes n after) *ℤ pos 1))
-    (target o)
+    → Law (first_step (bytes_of kind n mask range a bias thunkable implicit) none ∷ []) (λ o x. pos (begin o) +ℤ (number_of sign (8 * n) x *ℤ pos 1)) target
 field_adds {begin} {target} {number} leads sign whole within ok e =
     λ o small at before after applied any.
     let numbers = leads o small in
@@ -95,11 +91,7 @@ pub field_adds_within : {begin target number : Operands → ℕ} → IsNumber be
     → reaches sign (8 * n) 0 (8 * n) (Some b) ≡ true
     → ((o : Operands) → value_of (bytes_of kind n mask range a bias thunkable implicit) o
     ≡ Some (cast_signed w64 (number o)))
-    → (o : Operands) → AreAddresses o → (at : ℕ) (before after : List ℕ)
-    (applied : IsApplied (bytes_of kind n mask range a bias thunkable implicit) o before after)
-    → IsWithin (Some b) applied.value
-    → IsAddress (pos (begin o) +ℤ (number_of sign (8 * n) (number_of_bytes n after) *ℤ pos 1))
-    (target o)
+    → Law (first_step (bytes_of kind n mask range a bias thunkable implicit) (of_values b) ∷ []) (λ o x. pos (begin o) +ℤ (number_of sign (8 * n) x *ℤ pos 1)) target
 field_adds_within {begin} {target} {number} leads sign whole ok e =
     λ o small at before after applied within.
     let numbers = leads o small in
@@ -114,10 +106,8 @@ pub whole_field_adds : {begin target number : Operands → ℕ} → IsNumber beg
     {a : ℕ} {bias : Option ℕ} {thunkable implicit : Bool} → IsValue kind
     → ((o : Operands) → value_of (bytes_of kind 8 mask range a bias thunkable implicit) o
     ≡ Some (cast_signed w64 (number o)))
-    → (o : Operands) → AreAddresses o → (at : ℕ) (before after : List ℕ)
-    (applied : IsApplied (bytes_of kind 8 mask range a bias thunkable implicit) o before after)
-    → IsWithin None applied.value
-    → IsAddress (pos (begin o) +ℤ (pos (number_of_bytes 8 after) *ℤ pos 1)) (target o)
+    → Law (first_step (bytes_of kind 8 mask range a bias thunkable implicit) none ∷ [])
+    (λ o x. pos (begin o) +ℤ (pos x *ℤ pos 1)) target
 whole_field_adds {begin} {target} {number} leads whole e = λ o small at before after applied any.
     let numbers = leads o small in
     let there = numbers.leads in

@@ -1,8 +1,8 @@
 -- The law of one instruction, over all rows of one field.
-use Rattle.std.proofs.Common.{◌≡◌, ℕ, ◌-◌, ◌%◌, ◌^◌, ◌<◌, ◌≤◌, ◌&&◌, Bool, true, sym, ◌∙◌, ap, subst, arith, List, ℤ, pos, ◌+ℤ◌, ◌*ℤ◌, Option, Some, None, ltb, leb, eqb, ◌||◌, inl, inr}
+use Rattle.std.proofs.Common.{◌≡◌, ℕ, ◌-◌, ◌%◌, ◌^◌, ◌<◌, ◌≤◌, ◌&&◌, Bool, true, sym, ◌∙◌, ap, subst, arith, List, [], ◌∷◌, ℤ, pos, ◌+ℤ◌, ◌*ℤ◌, Option, Some, ltb, leb, eqb, ◌||◌, inl, inr}
 use Rattle.linker_laws.proofs.Imports.{w64, cast_signed, cast_unsigned, and_parts, or_cases, ltb-true, leb-true, eqb-true, field, window_of, BitRange, is_sound_layout, low_of, high_of, bits_from, IsWithin, relocation_form, relocation_layout, reach_of, IsAligned, value_of, sum_64, difference_64, AllowedRange, PageMask, RelocationInstruction, RelocationKind, RelocationKindInfo, BitMasking, Operands, layout_check, IsApplied}
 use Rattle.linker_base.specs.Form.{place_sum}
-use Rattle.linker_laws.specs.Schemes.{IsAddress, AreAddresses, symbol_address, plt_address, entry_and_addend, entry_address, place, got_base, tls_base, zero, size_and_addend}
+use Rattle.linker_laws.specs.Schemes.{IsAddress, AreAddresses, Law, Premise, Step, none, symbol_address, plt_address, entry_and_addend, entry_address, place, got_base, tls_base, zero, size_and_addend}
 use Rattle.linker_laws.proofs.Applied.{insn_reads, is_plain, begins, fits, value_is, reads_within, aligned_low, stands, taken_bits, sound_written}
 use Rattle.linker_laws.proofs.Sums.{Leads, difference_leads, itself_leads, sum_below, difference_below, multiple_part}
 
@@ -284,6 +284,23 @@ same_distance n o small few = same o.symbol (cast_unsigned w64 o.addend) o.place
         ≡ difference_64 (sum_64 (sum_64 s a) 0) p
     same s a p small = omega arith
 
+-- a relocation of a sequence, and the one whose place is the sequence's
+abbrev pub step_of : RelocationKindInfo → (Operands → ℕ → Operands) → Premise → Step
+step_of row operands premise = record { row = Some row; operands = operands; premise = premise }
+
+abbrev pub first_step : RelocationKindInfo → Premise → Step
+first_step row premise = record { row = Some row; operands = λ o at. o; premise = premise }
+
+-- the value of a relocation is that of a formula's number
+abbrev pub HasNumber : RelocationKindInfo → (Operands → ℕ → Operands) → (Operands → ℕ) → Type 0
+HasNumber row operands number =
+    (o : Operands) → AreAddresses o → (at : ℕ)
+    → value_of row (operands o at) ≡ Some (cast_signed w64 (number o))
+
+abbrev pub FirstHasNumber : RelocationKindInfo → (Operands → ℕ) → Type 0
+FirstHasNumber row number =
+    (o : Operands) → AreAddresses o → value_of row o ≡ Some (cast_signed w64 (number o))
+
 -- an instruction that adds its number
 pub adds : {begin target number : Operands → ℕ} → IsNumber begin target number
     → {kind : RelocationKind} {start end : ℕ} {insn : RelocationInstruction}
@@ -293,11 +310,8 @@ pub adds : {begin target number : Operands → ℕ} → IsNumber begin target nu
     → is_added insn start end b a ≡ true
     → ((o : Operands) → value_of (row_of kind start end insn mask range a bias thunkable implicit) o
     ≡ Some (cast_signed w64 (number o)))
-    → (o : Operands) → AreAddresses o → (at : ℕ) (before after : List ℕ)
-    (applied : IsApplied (row_of kind start end insn mask range a bias thunkable implicit) o
-    before after) → IsWithin None applied.value
-    → IsAddress (pos (begin o)
-    +ℤ (insn_reads insn (window_of (relocation_form insn) after) *ℤ pos (2 ^ start))) (target o)
+    → Law (first_step (row_of kind start end insn mask range a bias thunkable implicit) none ∷ [])
+    (λ o x. pos (begin o) +ℤ (insn_reads insn x *ℤ pos (2 ^ start))) target
 adds {begin} {target} {number} leads within ok e = λ o small at before after applied any.
     adds_number _ _ _ _ _ _ _ _ _ _ o before after applied _
     (subst (λ b. IsWithin b applied.value) within applied.accepted.reached.0) ok (begin o)

@@ -1,16 +1,16 @@
 -- Addresses of LoongArch in parts.
 use Rattle.linker_laws.proofs.Sums.{high_sum, halves_sum, page_halves_sum, signed_12, sum_below, goes, difference_below, once}
-use Rattle.linker_laws.specs.Schemes.{without_low, IsAddress, AreAddresses, place, Premise, PremiseHolds, none, of_words}
-use Rattle.std.proofs.Common.{◌≡◌, ℕ, ◌+◌, ◌-◌, ◌*◌, ◌/◌, ◌%◌, ◌^◌, ◌<◌, Bool, refl, sym, ◌∙◌, ap, subst, true, false, arith, List, ℤ, pos, ◌+ℤ◌, ◌-ℤ◌, ◌*ℤ◌, inl, inr, Option, Some, None}
-use Rattle.linker_laws.proofs.Imports.{w64, cast_signed, int_rem_euclid, ints, int_rem_euclid_is, mod_below, pow_pos, field, signed, window_of, replaced, consecutive_bits_sum, signed_cases, bits_from, IsWithin, bit_bounds, loongarch_form, page, pcalau12i, reach, value_of, sum_64, difference_64, AllowedRange, PageMask, Shift5, Shift10, Call36, LoongArch64, RelocationKind, Signed, Operands, shift5_places, page_and_distance, IsApplied, plain_written, AgreesInReach, is_jirl, is_low_jump, taken_below}
+use Rattle.linker_laws.specs.Schemes.{without_low, AreAddresses, Law, place, Premise, PremiseHolds, none, of_values, of_words}
+use Rattle.std.proofs.Common.{◌≡◌, ℕ, ◌+◌, ◌-◌, ◌*◌, ◌/◌, ◌%◌, ◌^◌, ◌<◌, Bool, refl, sym, ◌∙◌, ap, subst, true, false, arith, List, [], ◌∷◌, ℤ, pos, ◌+ℤ◌, ◌-ℤ◌, ◌*ℤ◌, inl, inr, Option, Some}
+use Rattle.linker_laws.proofs.Imports.{w64, cast_signed, int_rem_euclid, ints, int_rem_euclid_is, mod_below, pow_pos, field, signed, window_of, replaced, consecutive_bits_sum, signed_cases, bits_from, IsWithin, bit_bounds, loongarch_form, page, reach, value_of, sum_64, difference_64, AllowedRange, PageMask, Shift5, Shift10, Call36, LoongArch64, RelocationKind, Signed, Operands, shift5_places, page_and_distance, IsApplied, plain_written, AgreesInReach, is_jirl, is_low_jump, taken_below}
 use Rattle.linker_base.specs.Form.{place_sum}
-use Rattle.linker_elf.specs.LoongArch.{high_distance, upper_and_lower_value}
+use Rattle.linker_elf.specs.LoongArch.{high_distance}
 use Rattle.linker_elf.proofs.LoongArch.{shift10_low_sum, shift10_low_field}
 use Rattle.linker_elf.proofs.LoongArchAddresses.{made, first_of_five, high_of_five, five_from}
-use Rattle.linker_laws.specs.LoongArchRelocationLaws.{upper_and_or, four}
+use Rattle.linker_laws.specs.LoongArchRelocationLaws.{five, four, page_and_jump, page_and_low, upper_and_or}
 use Rattle.linker_laws.proofs.Applied.{holds, reads, value_is, taken_bits}
 use Rattle.linker_laws.proofs.Rounded.{IsRounded}
-use Rattle.linker_laws.proofs.Instructions.{IsNumber, IsSmall, absolute, row_of, reads_bits, field_sum, unbiased}
+use Rattle.linker_laws.proofs.Instructions.{FirstHasNumber, HasNumber, IsNumber, IsSmall, absolute, first_step, row_of, reads_bits, field_sum, step_of, unbiased}
 
 -- ---- the immediates
 
@@ -104,27 +104,14 @@ pub page_pairs : {target : Operands → ℕ} → IsSmall target
     {bias : Option ℕ} {thunkable implicit : Bool}
     {kind2 : RelocationKind} {mask2 : Option PageMask} {range2 : AllowedRange} {a2 : ℕ}
     {bias2 : Option ℕ} {thunkable2 implicit2 : Bool}
-    → ((o : Operands) → AreAddresses o
-    → value_of (row_of kind 12 32 (LoongArch64 Shift5) mask range a bias
-    thunkable implicit)
-    o ≡ Some (cast_signed w64 (page_distance target o)))
-    → ((o : Operands) → AreAddresses o → (at : ℕ)
-    → value_of (row_of kind2 0 12 (LoongArch64 Shift10) mask2 range2 a2 bias2
-    thunkable2 implicit2)
-    (operands o at) ≡ Some (cast_signed w64 (absolute target o)))
+    → FirstHasNumber (row_of kind 12 32 (LoongArch64 Shift5) mask range a bias thunkable implicit) (page_distance target)
+    → HasNumber (row_of kind2 0 12 (LoongArch64 Shift10) mask2 range2 a2 bias2 thunkable2 implicit2) operands
+    (absolute target)
     → (premise : Premise) → IsPlainBy kind2 premise
-    → (o : Operands) → AreAddresses o
-    → (at : ℕ) (before after : List ℕ)
-    (step : IsApplied (row_of kind 12 32 (LoongArch64 Shift5) mask range a bias
-    thunkable implicit)
-    o before after) → IsWithin (Some (bit_bounds 32 Signed)) step.value
-    → (at2 : ℕ) (before2 after2 : List ℕ)
-    (step2 : IsApplied (row_of kind2 0 12 (LoongArch64 Shift10) mask2 range2 a2 bias2
-    thunkable2 implicit2)
-    (operands o at2) before2 after2)
-    → PremiseHolds premise (window_of (loongarch_form Shift10) before2) step2.value
-    → IsAddress (pcalau12i o.place (window_of (loongarch_form Shift5) after)
-    +ℤ signed 12 (field (window_of (loongarch_form Shift10) after2) 10 22)) (target o)
+    → Law
+    (first_step (row_of kind 12 32 (LoongArch64 Shift5) mask range a bias thunkable implicit) (of_values (bit_bounds 32 Signed))
+    ∷ step_of (row_of kind2 0 12 (LoongArch64 Shift10) mask2 range2 a2 bias2 thunkable2 implicit2) operands premise
+    ∷ []) page_and_low target
 page_pairs {target} to operands e e2 premise plain =
     λ o small at before after step within at2 before2 after2 step2 any2.
     let m = page_distance target o in
@@ -149,30 +136,16 @@ pub page_jumps : {target : Operands → ℕ} → IsSmall target
     {bias : Option ℕ} {thunkable implicit : Bool}
     {kind2 : RelocationKind} {mask2 : Option PageMask} {range2 : AllowedRange} {a2 : ℕ}
     {bias2 : Option ℕ} {thunkable2 implicit2 : Bool}
-    → ((o : Operands) → AreAddresses o
-    → value_of (row_of kind 12 32 (LoongArch64 Shift5) mask range a bias
-    thunkable implicit)
-    o ≡ Some (cast_signed w64 (page_distance target o)))
-    → ((o : Operands) → AreAddresses o → (at : ℕ)
-    → value_of (row_of kind2 0 12 (LoongArch64 Shift10) mask2 range2 a2 bias2
-    thunkable2 implicit2)
-    (operands o at) ≡ Some (cast_signed w64 (absolute target o)))
+    → FirstHasNumber (row_of kind 12 32 (LoongArch64 Shift5) mask range a bias thunkable implicit) (page_distance target)
+    → HasNumber (row_of kind2 0 12 (LoongArch64 Shift10) mask2 range2 a2 bias2 thunkable2 implicit2) operands
+    (absolute target)
     → AgreesInReach false (row_of kind2 0 12 (LoongArch64 Shift10) mask2 range2 a2 bias2
     thunkable2 implicit2)
     → ((x : ℕ) → is_jirl x ≡ true → is_low_jump (LoongArch64 Shift10) kind2 x ≡ true)
-    → (o : Operands) → AreAddresses o
-    → (at : ℕ) (before after : List ℕ)
-    (step : IsApplied (row_of kind 12 32 (LoongArch64 Shift5) mask range a bias
-    thunkable implicit)
-    o before after) → IsWithin (Some (bit_bounds 32 Signed)) step.value
-    → (at2 : ℕ) (before2 after2 : List ℕ)
-    (step2 : IsApplied (row_of kind2 0 12 (LoongArch64 Shift10) mask2 range2 a2 bias2
-    thunkable2 implicit2)
-    (operands o at2) before2 after2)
-    → PremiseHolds (of_words is_jirl) (window_of (loongarch_form Shift10) before2) step2.value
-    → IsAddress (pcalau12i o.place (window_of (loongarch_form Shift5) after)
-    +ℤ ((loongarch_form Shift10).machine (window_of (loongarch_form Shift10) after2) *ℤ pos 4))
-    (target o)
+    → Law
+    (first_step (row_of kind 12 32 (LoongArch64 Shift5) mask range a bias thunkable implicit) (of_values (bit_bounds 32 Signed))
+    ∷ step_of (row_of kind2 0 12 (LoongArch64 Shift10) mask2 range2 a2 bias2 thunkable2 implicit2) operands (of_words is_jirl)
+    ∷ []) page_and_jump target
 page_jumps {target} to operands e e2 agrees jumps =
     λ o small at before after step within at2 before2 after2 step2 jump.
     let m = page_distance target o in
@@ -207,26 +180,14 @@ pub two_parts : {begin target number : Operands → ℕ} → IsNumber begin targ
     {bias : Option ℕ} {thunkable implicit : Bool}
     {kind2 : RelocationKind} {mask2 : Option PageMask} {range2 : AllowedRange} {a2 : ℕ}
     {bias2 : Option ℕ} {thunkable2 implicit2 : Bool}
-    → ((o : Operands) → AreAddresses o
-    → value_of (row_of kind 12 32 (LoongArch64 Shift5) mask range a bias
-    thunkable implicit)
-    o ≡ Some (cast_signed w64 (number o)))
-    → ((o : Operands) → AreAddresses o → (at : ℕ)
-    → value_of (row_of kind2 0 12 (LoongArch64 Shift10) mask2 range2 a2 bias2
-    thunkable2 implicit2)
-    (operands o at) ≡ Some (cast_signed w64 (number o)))
+    → FirstHasNumber (row_of kind 12 32 (LoongArch64 Shift5) mask range a bias thunkable implicit) (number)
+    → HasNumber (row_of kind2 0 12 (LoongArch64 Shift10) mask2 range2 a2 bias2 thunkable2 implicit2) operands
+    (number)
     → IsPlainBy kind2 none
-    → (o : Operands) → AreAddresses o
-    → (at : ℕ) (before after : List ℕ)
-    (step : IsApplied (row_of kind 12 32 (LoongArch64 Shift5) mask range a bias
-    thunkable implicit)
-    o before after) → IsWithin (Some (bit_bounds 32 Signed)) step.value
-    → (at2 : ℕ) (before2 after2 : List ℕ)
-    (step2 : IsApplied (row_of kind2 0 12 (LoongArch64 Shift10) mask2 range2 a2 bias2
-    thunkable2 implicit2)
-    (operands o at2) before2 after2) → IsWithin (None) step2.value
-    → IsAddress (pos (begin o) +ℤ upper_and_or (window_of (loongarch_form Shift5) after)
-    (window_of (loongarch_form Shift10) after2)) (target o)
+    → Law
+    (first_step (row_of kind 12 32 (LoongArch64 Shift5) mask range a bias thunkable implicit) (of_values (bit_bounds 32 Signed))
+    ∷ step_of (row_of kind2 0 12 (LoongArch64 Shift10) mask2 range2 a2 bias2 thunkable2 implicit2) operands none
+    ∷ []) (λ o x y. pos (begin o) +ℤ upper_and_or x y) target
 two_parts {begin} {target} {number} leads rounds operands e e2 plain =
     λ o small at before after step within at2 before2 after2 step2 any2.
     let n = number o in
@@ -258,27 +219,13 @@ pub rounded_parts : {begin target number rounded : Operands → ℕ} → IsNumbe
     {bias : Option ℕ} {thunkable implicit : Bool}
     {kind2 : RelocationKind} {mask2 : Option PageMask} {range2 : AllowedRange} {a2 : ℕ}
     {bias2 : Option ℕ} {thunkable2 implicit2 : Bool}
-    → ((o : Operands) → AreAddresses o
-    → value_of (row_of kind 12 32 (LoongArch64 Shift5) mask range a bias
-    thunkable implicit)
-    o ≡ Some (cast_signed w64 (rounded o)))
-    → ((o : Operands) → AreAddresses o → (at : ℕ)
-    → value_of (row_of kind2 0 12 (LoongArch64 Shift10) mask2 range2 a2 bias2
-    thunkable2 implicit2)
-    (operands o at) ≡ Some (cast_signed w64 (number o)))
+    → FirstHasNumber (row_of kind 12 32 (LoongArch64 Shift5) mask range a bias thunkable implicit) rounded
+    → HasNumber (row_of kind2 0 12 (LoongArch64 Shift10) mask2 range2 a2 bias2 thunkable2 implicit2) operands number
     → IsPlainBy kind2 none
-    → (o : Operands) → AreAddresses o
-    → (at : ℕ) (before after : List ℕ)
-    (step : IsApplied (row_of kind 12 32 (LoongArch64 Shift5) mask range a bias
-    thunkable implicit)
-    o before after) → IsWithin (Some (bit_bounds 32 Signed)) step.value
-    → (at2 : ℕ) (before2 after2 : List ℕ)
-    (step2 : IsApplied (row_of kind2 0 12 (LoongArch64 Shift10) mask2 range2 a2 bias2
-    thunkable2 implicit2)
-    (operands o at2) before2 after2) → IsWithin (None) step2.value
-    → IsAddress ((pos (begin o)
-    +ℤ (signed 20 (field (window_of (loongarch_form Shift5) after) 5 25) *ℤ pos 4096))
-    +ℤ signed 12 (field (window_of (loongarch_form Shift10) after2) 10 22)) (target o)
+    → Law
+    (first_step (row_of kind 12 32 (LoongArch64 Shift5) mask range a bias thunkable implicit) (of_values (bit_bounds 32 Signed))
+    ∷ step_of (row_of kind2 0 12 (LoongArch64 Shift10) mask2 range2 a2 bias2 thunkable2 implicit2) operands none
+    ∷ []) (λ o x y. (pos (begin o) +ℤ (signed 20 (field x 5 25) *ℤ pos 4096)) +ℤ signed 12 (field y 10 22)) target
 rounded_parts {begin} {target} {number} {rounded} leads rounds operands e e2 plain =
     λ o small at before after step within at2 before2 after2 step2 any2.
     let n = number o in
@@ -305,12 +252,8 @@ pub high_parts : {begin number : Operands → ℕ} → IsSmall begin
     → ((o : Operands)
     → value_of (row_of kind 12 32 (LoongArch64 Shift5) mask range a bias thunkable implicit) o
     ≡ Some (cast_signed w64 (number o)))
-    → (o : Operands) → AreAddresses o → (at : ℕ) (before after : List ℕ)
-    (high : IsApplied (row_of kind 12 32 (LoongArch64 Shift5) mask range a bias thunkable implicit)
-    o before after) → IsWithin (Some (bit_bounds 32 Signed)) high.value
-    → IsAddress (pos (begin o)
-    +ℤ (signed 20 (field (window_of (loongarch_form Shift5) after) 5 25) *ℤ pos 4096))
-    (without_low 12 r begin target o)
+    → Law (first_step (row_of kind 12 32 (LoongArch64 Shift5) mask range a bias thunkable implicit) (of_values (bit_bounds 32 Signed)) ∷ []) (λ o x. pos (begin o) +ℤ (signed 20 (field x 5 25) *ℤ pos 4096))
+    (without_low 12 r begin target)
 high_parts {begin} {number} from target r is e = λ o small at before after high within.
     let same = is o small in
     let below : number o < 2 ^ 64 =
@@ -363,43 +306,17 @@ pub four_parts : {begin target number : Operands → ℕ} → IsNumber begin tar
     {bias3 : Option ℕ} {thunkable3 implicit3 : Bool}
     {kind4 : RelocationKind} {mask4 : Option PageMask} {range4 : AllowedRange} {a4 : ℕ}
     {bias4 : Option ℕ} {thunkable4 implicit4 : Bool}
-    → ((o : Operands) → AreAddresses o
-    → value_of (row_of kind 12 32 (LoongArch64 Shift5) mask range a bias
-    thunkable implicit)
-    o ≡ Some (cast_signed w64 (number o)))
-    → ((o : Operands) → AreAddresses o → (at : ℕ)
-    → value_of (row_of kind2 0 12 (LoongArch64 Shift10) mask2 range2 a2 bias2
-    thunkable2 implicit2)
-    (operands2 o at) ≡ Some (cast_signed w64 (number o)))
-    → ((o : Operands) → AreAddresses o → (at : ℕ)
-    → value_of (row_of kind3 32 52 (LoongArch64 Shift5) mask3 range3 a3 bias3
-    thunkable3 implicit3)
-    (operands3 o at) ≡ Some (cast_signed w64 (number o)))
-    → ((o : Operands) → AreAddresses o → (at : ℕ)
-    → value_of (row_of kind4 52 64 (LoongArch64 Shift10) mask4 range4 a4 bias4
-    thunkable4 implicit4)
-    (operands4 o at) ≡ Some (cast_signed w64 (number o)))
+    → FirstHasNumber (row_of kind 12 32 (LoongArch64 Shift5) mask range a bias thunkable implicit) number
+    → HasNumber (row_of kind2 0 12 (LoongArch64 Shift10) mask2 range2 a2 bias2 thunkable2 implicit2) operands2 number
+    → HasNumber (row_of kind3 32 52 (LoongArch64 Shift5) mask3 range3 a3 bias3 thunkable3 implicit3) operands3 number
+    → HasNumber (row_of kind4 52 64 (LoongArch64 Shift10) mask4 range4 a4 bias4 thunkable4 implicit4) operands4 number
     → IsPlainBy kind2 none → IsPlainBy kind4 none
-    → (o : Operands) → AreAddresses o
-    → (at : ℕ) (before after : List ℕ)
-    (step : IsApplied (row_of kind 12 32 (LoongArch64 Shift5) mask range a bias
-    thunkable implicit)
-    o before after) → IsWithin (None) step.value
-    → (at2 : ℕ) (before2 after2 : List ℕ)
-    (step2 : IsApplied (row_of kind2 0 12 (LoongArch64 Shift10) mask2 range2 a2 bias2
-    thunkable2 implicit2)
-    (operands2 o at2) before2 after2) → IsWithin (None) step2.value
-    → (at3 : ℕ) (before3 after3 : List ℕ)
-    (step3 : IsApplied (row_of kind3 32 52 (LoongArch64 Shift5) mask3 range3 a3 bias3
-    thunkable3 implicit3)
-    (operands3 o at3) before3 after3) → IsWithin (None) step3.value
-    → (at4 : ℕ) (before4 after4 : List ℕ)
-    (step4 : IsApplied (row_of kind4 52 64 (LoongArch64 Shift10) mask4 range4 a4 bias4
-    thunkable4 implicit4)
-    (operands4 o at4) before4 after4) → IsWithin (None) step4.value
-    → IsAddress (pos (begin o) +ℤ four (window_of (loongarch_form Shift5) after)
-    (window_of (loongarch_form Shift10) after2) (window_of (loongarch_form Shift5) after3)
-    (window_of (loongarch_form Shift10) after4)) (target o)
+    → Law
+    (first_step (row_of kind 12 32 (LoongArch64 Shift5) mask range a bias thunkable implicit) none
+    ∷ step_of (row_of kind2 0 12 (LoongArch64 Shift10) mask2 range2 a2 bias2 thunkable2 implicit2) operands2 none
+    ∷ step_of (row_of kind3 32 52 (LoongArch64 Shift5) mask3 range3 a3 bias3 thunkable3 implicit3) operands3 none
+    ∷ step_of (row_of kind4 52 64 (LoongArch64 Shift10) mask4 range4 a4 bias4 thunkable4 implicit4) operands4 none
+    ∷ []) (λ o x y z u. pos (begin o) +ℤ four x y z u) target
 four_parts {begin} {target} {number} leads operands2 operands3 operands4 e e2 e3 e4 plain upper =
     λ o small at before after step any at2 before2 after2 step2 any2 at3 before3 after3 step3 any3
     at4 before4 after4 step4 any4.
@@ -450,45 +367,17 @@ pub five_parts : {target : Operands → ℕ} → IsSmall target
     {bias3 : Option ℕ} {thunkable3 implicit3 : Bool}
     {kind4 : RelocationKind} {mask4 : Option PageMask} {range4 : AllowedRange} {a4 : ℕ}
     {bias4 : Option ℕ} {thunkable4 implicit4 : Bool}
-    → ((o : Operands) → AreAddresses o
-    → value_of (row_of kind 12 32 (LoongArch64 Shift5) mask range a bias
-    thunkable implicit)
-    o ≡ Some (cast_signed w64 (page_distance target o)))
-    → ((o : Operands) → AreAddresses o → (at : ℕ)
-    → value_of (row_of kind2 0 12 (LoongArch64 Shift10) mask2 range2 a2 bias2
-    thunkable2 implicit2)
-    (operands2 o at) ≡ Some (cast_signed w64 (absolute target o)))
-    → ((o : Operands) → AreAddresses o → (at : ℕ)
-    → value_of (row_of kind3 32 52 (LoongArch64 Shift5) mask3 range3 a3 bias3
-    thunkable3 implicit3)
-    (operands3 o at) ≡ Some (cast_signed w64 (far_distance target o)))
-    → ((o : Operands) → AreAddresses o → (at : ℕ)
-    → value_of (row_of kind4 52 64 (LoongArch64 Shift10) mask4 range4 a4 bias4
-    thunkable4 implicit4)
-    (operands4 o at) ≡ Some (cast_signed w64 (fourth_distance target o)))
+    → FirstHasNumber (row_of kind 12 32 (LoongArch64 Shift5) mask range a bias thunkable implicit) (page_distance target)
+    → HasNumber (row_of kind2 0 12 (LoongArch64 Shift10) mask2 range2 a2 bias2 thunkable2 implicit2) operands2 (absolute target)
+    → HasNumber (row_of kind3 32 52 (LoongArch64 Shift5) mask3 range3 a3 bias3 thunkable3 implicit3) operands3 (far_distance target)
+    → HasNumber (row_of kind4 52 64 (LoongArch64 Shift10) mask4 range4 a4 bias4 thunkable4 implicit4) operands4 (fourth_distance target)
     → (premise : Premise) → IsPlainBy kind2 premise → IsPlainBy kind4 none
-    → (o : Operands) → AreAddresses o
-    → (at : ℕ) (before after : List ℕ)
-    (step : IsApplied (row_of kind 12 32 (LoongArch64 Shift5) mask range a bias
-    thunkable implicit)
-    o before after) → IsWithin (None) step.value
-    → (at2 : ℕ) (before2 after2 : List ℕ)
-    (step2 : IsApplied (row_of kind2 0 12 (LoongArch64 Shift10) mask2 range2 a2 bias2
-    thunkable2 implicit2)
-    (operands2 o at2) before2 after2)
-    → PremiseHolds premise (window_of (loongarch_form Shift10) before2) step2.value
-    → (at3 : ℕ) (before3 after3 : List ℕ)
-    (step3 : IsApplied (row_of kind3 32 52 (LoongArch64 Shift5) mask3 range3 a3 bias3
-    thunkable3 implicit3)
-    (operands3 o at3) before3 after3) → IsWithin (None) step3.value
-    → (at4 : ℕ) (before4 after4 : List ℕ)
-    (step4 : IsApplied (row_of kind4 52 64 (LoongArch64 Shift10) mask4 range4 a4 bias4
-    thunkable4 implicit4)
-    (operands4 o at4) before4 after4) → IsWithin (None) step4.value
-    → IsAddress (pcalau12i o.place (window_of (loongarch_form Shift5) after)
-    +ℤ upper_and_lower_value (window_of (loongarch_form Shift10) after2)
-    (window_of (loongarch_form Shift5) after3)
-    (window_of (loongarch_form Shift10) after4)) (target o)
+    → Law
+    (first_step (row_of kind 12 32 (LoongArch64 Shift5) mask range a bias thunkable implicit) none
+    ∷ step_of (row_of kind2 0 12 (LoongArch64 Shift10) mask2 range2 a2 bias2 thunkable2 implicit2) operands2 premise
+    ∷ step_of (row_of kind3 32 52 (LoongArch64 Shift5) mask3 range3 a3 bias3 thunkable3 implicit3) operands3 none
+    ∷ step_of (row_of kind4 52 64 (LoongArch64 Shift10) mask4 range4 a4 bias4 thunkable4 implicit4) operands4 none
+    ∷ []) five target
 five_parts {target} to operands2 operands3 operands4 e e2 e3 e4 premise plain upper =
     λ o small at before after step any at2 before2 after2 step2 any2 at3 before3 after3 step3 any3
     at4 before4 after4 step4 any4.
@@ -525,11 +414,8 @@ pub calls_far : {target number : Operands → ℕ} → IsNumber place target num
     → ((o : Operands)
     → value_of (row_of kind 2 38 (LoongArch64 Call36) mask range 4 bias thunkable implicit) o
     ≡ Some (cast_signed w64 (number o)))
-    → (o : Operands) → AreAddresses o → (at : ℕ) (before after : List ℕ)
-    (applied : IsApplied (row_of kind 2 38 (LoongArch64 Call36) mask range 4 bias thunkable
-    implicit) o before after) → IsWithin None applied.value
-    → IsAddress (pos o.place
-    +ℤ (reach (window_of (loongarch_form Call36) after) *ℤ pos 1)) (target o)
+    → Law (first_step (row_of kind 2 38 (LoongArch64 Call36) mask range 4 bias thunkable implicit) none ∷ [])
+    (λ o x. pos o.place +ℤ (reach x *ℤ pos 1)) target
 calls_far {target} {number} leads e = λ o small at before after applied any.
     let n = number o in
     let numbers = leads o small in

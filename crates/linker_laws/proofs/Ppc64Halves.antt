@@ -1,10 +1,11 @@
 -- Halves of PowerPC64.
-use Rattle.std.proofs.Common.{◌-◌, ◌≡◌, ℕ, ◌+◌, ◌%◌, ◌^◌, ◌<◌, Bool, true, refl, sym, ◌∙◌, ap, subst, arith, List, ℤ, pos, ◌+ℤ◌, ◌*ℤ◌, Option, Some, None}
+use Rattle.std.proofs.Common.{◌-◌, ◌≡◌, ℕ, ◌+◌, ◌%◌, ◌^◌, ◌<◌, Bool, true, refl, sym, ◌∙◌, ap, subst, arith, List, [], ◌∷◌, ℤ, pos, ◌+ℤ◌, ◌*ℤ◌, Option, Some}
 use Rattle.linker_laws.proofs.Imports.{w64, cast_signed, field, signed, window_of, replaced, consecutive_bits_sum, IsWithin, ppc64_form, reach_of, ppc64_reads, value_of, sum_64, difference_64, AllowedRange, PageMask, Ppc64Instruction, D, Ds, Ppc64, RelocationKind, Operands, IsApplied}
 use Rattle.linker_base.specs.Form.{place_sum}
-use Rattle.linker_laws.specs.Schemes.{IsAddress, AreAddresses, without_low}
+use Rattle.linker_laws.specs.Ppc64RelocationLaws.{adjusted, unadjusted}
+use Rattle.linker_laws.specs.Schemes.{AreAddresses, Law, none, without_low}
 use Rattle.linker_laws.proofs.Applied.{fits, value_is, taken_bits, ds_stands}
-use Rattle.linker_laws.proofs.Instructions.{IsNumber, IsSmall, row_of, is_read, reads_bits, field_sum, multiple}
+use Rattle.linker_laws.proofs.Instructions.{HasNumber, IsNumber, IsSmall, first_step, row_of, step_of, is_read, reads_bits, field_sum, multiple}
 use Rattle.linker_laws.proofs.Rounded.{IsRounded}
 use Rattle.linker_laws.proofs.Sums.{high_sum, halves_sum, signed_16, sum_below, difference_below}
 
@@ -63,18 +64,11 @@ pub adjusted_halves : {begin target number rounded : Operands → ℕ} → IsNum
     → ((o : Operands)
     → value_of (row_of kind 16 32 (Ppc64 D) mask range a bias thunkable implicit) o
     ≡ Some (cast_signed w64 (rounded o)))
-    → ((o : Operands) → AreAddresses o → (at : ℕ)
-    → value_of (row_of kind' 0 16 (Ppc64 f) mask' range' a' bias' thunkable' implicit')
-    (operands o at) ≡ Some (cast_signed w64 (number o)))
-    → (o : Operands) → AreAddresses o → (at : ℕ) (before after : List ℕ)
-    (high : IsApplied (row_of kind 16 32 (Ppc64 D) mask range a bias thunkable implicit) o
-    before after) → IsWithin None high.value
-    → (at' : ℕ) (before' after' : List ℕ)
-    (rest : IsApplied (row_of kind' 0 16 (Ppc64 f) mask' range' a' bias' thunkable' implicit')
-    (operands o at') before' after') → IsWithin None rest.value
-    → IsAddress ((pos (begin o)
-    +ℤ ((ppc64_form D).machine (window_of (ppc64_form D) after) *ℤ pos (2 ^ 16)))
-    +ℤ ppc64_reads f (window_of (ppc64_form f) after')) (target o)
+    → HasNumber (row_of kind' 0 16 (Ppc64 f) mask' range' a' bias' thunkable' implicit') operands number
+    → Law
+    (first_step (row_of kind 16 32 (Ppc64 D) mask range a bias thunkable implicit) none
+    ∷ step_of (row_of kind' 0 16 (Ppc64 f) mask' range' a' bias' thunkable' implicit') operands none
+    ∷ []) (adjusted begin f) target
 adjusted_halves {begin} {target} {number} {rounded} leads rounds f low operands within ok e e' =
     λ o small at before after high any at' before' after' rest any'.
     let n = number o in
@@ -106,18 +100,11 @@ pub unadjusted_halves : {begin target number : Operands → ℕ} → IsNumber be
     → ((o : Operands)
     → value_of (row_of kind 16 32 (Ppc64 D) mask range a bias thunkable implicit) o
     ≡ Some (cast_signed w64 (number o)))
-    → ((o : Operands) → AreAddresses o → (at : ℕ)
-    → value_of (row_of kind' 0 16 (Ppc64 D) mask' range' 1 bias' thunkable' implicit')
-    (operands o at) ≡ Some (cast_signed w64 (number o)))
-    → (o : Operands) → AreAddresses o → (at : ℕ) (before after : List ℕ)
-    (high : IsApplied (row_of kind 16 32 (Ppc64 D) mask range a bias thunkable implicit) o
-    before after) → IsWithin None high.value
-    → (at' : ℕ) (before' after' : List ℕ)
-    (rest : IsApplied (row_of kind' 0 16 (Ppc64 D) mask' range' 1 bias' thunkable' implicit')
-    (operands o at') before' after') → IsWithin None rest.value
-    → IsAddress ((pos (begin o)
-    +ℤ ((ppc64_form D).machine (window_of (ppc64_form D) after) *ℤ pos (2 ^ 16)))
-    +ℤ pos (field (window_of (ppc64_form D) after') 0 16)) (target o)
+    → HasNumber (row_of kind' 0 16 (Ppc64 D) mask' range' 1 bias' thunkable' implicit') operands number
+    → Law
+    (first_step (row_of kind 16 32 (Ppc64 D) mask range a bias thunkable implicit) none
+    ∷ step_of (row_of kind' 0 16 (Ppc64 D) mask' range' 1 bias' thunkable' implicit') operands none
+    ∷ []) (unadjusted begin) target
 unadjusted_halves {begin} {target} {number} leads rounds operands within ok e e' =
     λ o small at before after high any at' before' after' rest any'.
     let n = number o in
@@ -147,12 +134,8 @@ pub high_half : {begin number : Operands → ℕ} → IsSmall begin
     → ((o : Operands)
     → value_of (row_of kind 16 32 (Ppc64 D) mask range a bias thunkable implicit) o
     ≡ Some (cast_signed w64 (number o)))
-    → (o : Operands) → AreAddresses o → (at : ℕ) (before after : List ℕ)
-    (high : IsApplied (row_of kind 16 32 (Ppc64 D) mask range a bias thunkable implicit) o
-    before after) → IsWithin None high.value
-    → IsAddress (pos (begin o)
-    +ℤ ((ppc64_form D).machine (window_of (ppc64_form D) after) *ℤ pos (2 ^ 16)))
-    (without_low 16 r begin target o)
+    → Law (first_step (row_of kind 16 32 (Ppc64 D) mask range a bias thunkable implicit) none ∷ []) (λ o x. pos (begin o) +ℤ ((ppc64_form D).machine x *ℤ pos (2 ^ 16)))
+    (without_low 16 r begin target)
 high_half {begin} {number} from target r is within ok e = λ o small at before after high any.
     let same = is o small in
     let below : number o < 2 ^ 64 =

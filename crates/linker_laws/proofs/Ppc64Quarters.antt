@@ -1,13 +1,13 @@
 -- Numbers of 64 bits of PowerPC64 by parts of 16 bits.
-use Rattle.std.proofs.Common.{◌≡◌, ℕ, ◌+◌, ◌-◌, ◌*◌, ◌/◌, ◌%◌, ◌^◌, ◌<◌, Bool, refl, sym, ◌∙◌, ap, subst, arith, List, pos, ◌+ℤ◌, Option, Some, None}
-use Rattle.linker_laws.proofs.Imports.{w64, cast_signed, mod_below, pow_pos, field, window_of, replaced, consecutive_bits_sum, IsWithin, ppc64_form, ppc64_reads, value_of, AllowedRange, PageMask, Ppc64Instruction, D, Ppc64, RelocationKind, Operands, IsApplied, sum_64}
+use Rattle.std.proofs.Common.{◌≡◌, ℕ, ◌+◌, ◌-◌, ◌*◌, ◌/◌, ◌%◌, ◌^◌, ◌<◌, Bool, refl, sym, ◌∙◌, ap, subst, arith, List, [], ◌∷◌, pos, Option, Some}
+use Rattle.linker_laws.proofs.Imports.{w64, cast_signed, mod_below, pow_pos, field, window_of, replaced, consecutive_bits_sum, ppc64_form, ppc64_reads, value_of, AllowedRange, PageMask, Ppc64Instruction, D, Ppc64, RelocationKind, Operands, IsApplied, sum_64}
 use Rattle.linker_base.specs.Form.{place_sum}
 use Rattle.linker_elf.specs.declared.ppc64.forms.Ppc64Instruction.TheVariants.{DUnsigned}
-use Rattle.linker_laws.specs.Ppc64RelocationLaws.{upper_parts}
-use Rattle.linker_laws.specs.Schemes.{IsAddress, AreAddresses}
+use Rattle.linker_laws.specs.Ppc64RelocationLaws.{adjusted_quarters, unadjusted_quarters, upper_parts}
+use Rattle.linker_laws.specs.Schemes.{Law, none}
 use Rattle.linker_laws.proofs.Ppc64Halves.{ReadsLow, adjusted_low, d_field}
 use Rattle.linker_laws.proofs.Rounded.{IsRounded}
-use Rattle.linker_laws.proofs.Instructions.{IsNumber, row_of, field_sum}
+use Rattle.linker_laws.proofs.Instructions.{FirstHasNumber, HasNumber, IsNumber, first_step, row_of, field_sum, step_of}
 use Rattle.linker_laws.proofs.Sums.{Leads, low_part, sum_below}
 
 -- ---- a part
@@ -81,34 +81,16 @@ pub quarters : {begin target number : Operands → ℕ} → IsNumber begin targe
     {bias3 : Option ℕ} {thunkable3 implicit3 : Bool}
     {kind4 : RelocationKind} {mask4 : Option PageMask} {range4 : AllowedRange} {a4 : ℕ}
     {bias4 : Option ℕ} {thunkable4 implicit4 : Bool}
-    → ((o : Operands) → AreAddresses o
-    → value_of (row_of kind 48 64 (Ppc64 D) mask range a bias thunkable implicit)
-    o ≡ Some (cast_signed w64 (number o)))
-    → ((o : Operands) → AreAddresses o → (at : ℕ)
-    → value_of (row_of kind2 32 48 (Ppc64 DUnsigned) mask2 range2 a2 bias2 thunkable2 implicit2)
-    (operands2 o at) ≡ Some (cast_signed w64 (number o)))
-    → ((o : Operands) → AreAddresses o → (at : ℕ)
-    → value_of (row_of kind3 16 32 (Ppc64 DUnsigned) mask3 range3 a3 bias3 thunkable3 implicit3)
-    (operands3 o at) ≡ Some (cast_signed w64 (number o)))
-    → ((o : Operands) → AreAddresses o → (at : ℕ)
-    → value_of (row_of kind4 0 16 (Ppc64 D) mask4 range4 a4 bias4 thunkable4 implicit4)
-    (operands4 o at) ≡ Some (cast_signed w64 (number o)))
-    → (o : Operands) → AreAddresses o
-    → (at : ℕ) (before after : List ℕ)
-    (step : IsApplied (row_of kind 48 64 (Ppc64 D) mask range a bias thunkable implicit)
-    o before after) → IsWithin None step.value
-    → (at2 : ℕ) (before2 after2 : List ℕ)
-    (step2 : IsApplied (row_of kind2 32 48 (Ppc64 DUnsigned) mask2 range2 a2 bias2 thunkable2
-    implicit2) (operands2 o at2) before2 after2) → IsWithin None step2.value
-    → (at3 : ℕ) (before3 after3 : List ℕ)
-    (step3 : IsApplied (row_of kind3 16 32 (Ppc64 DUnsigned) mask3 range3 a3 bias3 thunkable3
-    implicit3) (operands3 o at3) before3 after3) → IsWithin None step3.value
-    → (at4 : ℕ) (before4 after4 : List ℕ)
-    (step4 : IsApplied (row_of kind4 0 16 (Ppc64 D) mask4 range4 a4 bias4 thunkable4 implicit4)
-    (operands4 o at4) before4 after4) → IsWithin None step4.value
-    → IsAddress (pos (begin o + upper_parts (window_of (ppc64_form D) after)
-    (window_of (ppc64_form DUnsigned) after2) (window_of (ppc64_form DUnsigned) after3))
-    +ℤ pos (field (window_of (ppc64_form D) after4) 0 16)) (target o)
+    → FirstHasNumber (row_of kind 48 64 (Ppc64 D) mask range a bias thunkable implicit) number
+    → HasNumber (row_of kind2 32 48 (Ppc64 DUnsigned) mask2 range2 a2 bias2 thunkable2 implicit2) operands2 number
+    → HasNumber (row_of kind3 16 32 (Ppc64 DUnsigned) mask3 range3 a3 bias3 thunkable3 implicit3) operands3 number
+    → HasNumber (row_of kind4 0 16 (Ppc64 D) mask4 range4 a4 bias4 thunkable4 implicit4) operands4 number
+    → Law
+    (first_step (row_of kind 48 64 (Ppc64 D) mask range a bias thunkable implicit) none
+    ∷ step_of (row_of kind2 32 48 (Ppc64 DUnsigned) mask2 range2 a2 bias2 thunkable2 implicit2) operands2 none
+    ∷ step_of (row_of kind3 16 32 (Ppc64 DUnsigned) mask3 range3 a3 bias3 thunkable3 implicit3) operands3 none
+    ∷ step_of (row_of kind4 0 16 (Ppc64 D) mask4 range4 a4 bias4 thunkable4 implicit4) operands4 none
+    ∷ []) (unadjusted_quarters begin) target
 quarters {begin} {target} {number} leads operands2 operands3 operands4 e e2 e3 e4 =
     λ o small at before after step any at2 before2 after2 step2 any2 at3 before3 after3 step3 any3
     at4 before4 after4 step4 any4.
@@ -139,34 +121,16 @@ pub quarters_adjusted : {begin target number rounded : Operands → ℕ} → IsN
     {bias3 : Option ℕ} {thunkable3 implicit3 : Bool}
     {kind4 : RelocationKind} {mask4 : Option PageMask} {range4 : AllowedRange}
     {bias4 : Option ℕ} {thunkable4 implicit4 : Bool}
-    → ((o : Operands) → AreAddresses o
-    → value_of (row_of kind 48 64 (Ppc64 D) mask range a bias thunkable implicit)
-    o ≡ Some (cast_signed w64 (rounded o)))
-    → ((o : Operands) → AreAddresses o → (at : ℕ)
-    → value_of (row_of kind2 32 48 (Ppc64 DUnsigned) mask2 range2 a2 bias2 thunkable2 implicit2)
-    (operands2 o at) ≡ Some (cast_signed w64 (rounded o)))
-    → ((o : Operands) → AreAddresses o → (at : ℕ)
-    → value_of (row_of kind3 16 32 (Ppc64 DUnsigned) mask3 range3 a3 bias3 thunkable3 implicit3)
-    (operands3 o at) ≡ Some (cast_signed w64 (rounded o)))
-    → ((o : Operands) → AreAddresses o → (at : ℕ)
-    → value_of (row_of kind4 0 16 (Ppc64 f) mask4 range4 a4 bias4 thunkable4 implicit4)
-    (operands4 o at) ≡ Some (cast_signed w64 (number o)))
-    → (o : Operands) → AreAddresses o
-    → (at : ℕ) (before after : List ℕ)
-    (step : IsApplied (row_of kind 48 64 (Ppc64 D) mask range a bias thunkable implicit)
-    o before after) → IsWithin None step.value
-    → (at2 : ℕ) (before2 after2 : List ℕ)
-    (step2 : IsApplied (row_of kind2 32 48 (Ppc64 DUnsigned) mask2 range2 a2 bias2 thunkable2
-    implicit2) (operands2 o at2) before2 after2) → IsWithin None step2.value
-    → (at3 : ℕ) (before3 after3 : List ℕ)
-    (step3 : IsApplied (row_of kind3 16 32 (Ppc64 DUnsigned) mask3 range3 a3 bias3 thunkable3
-    implicit3) (operands3 o at3) before3 after3) → IsWithin None step3.value
-    → (at4 : ℕ) (before4 after4 : List ℕ)
-    (step4 : IsApplied (row_of kind4 0 16 (Ppc64 f) mask4 range4 a4 bias4 thunkable4 implicit4)
-    (operands4 o at4) before4 after4) → IsWithin None step4.value
-    → IsAddress (pos (begin o + upper_parts (window_of (ppc64_form D) after)
-    (window_of (ppc64_form DUnsigned) after2) (window_of (ppc64_form DUnsigned) after3))
-    +ℤ ppc64_reads f (window_of (ppc64_form f) after4)) (target o)
+    → FirstHasNumber (row_of kind 48 64 (Ppc64 D) mask range a bias thunkable implicit) rounded
+    → HasNumber (row_of kind2 32 48 (Ppc64 DUnsigned) mask2 range2 a2 bias2 thunkable2 implicit2) operands2 rounded
+    → HasNumber (row_of kind3 16 32 (Ppc64 DUnsigned) mask3 range3 a3 bias3 thunkable3 implicit3) operands3 rounded
+    → HasNumber (row_of kind4 0 16 (Ppc64 f) mask4 range4 a4 bias4 thunkable4 implicit4) operands4 number
+    → Law
+    (first_step (row_of kind 48 64 (Ppc64 D) mask range a bias thunkable implicit) none
+    ∷ step_of (row_of kind2 32 48 (Ppc64 DUnsigned) mask2 range2 a2 bias2 thunkable2 implicit2) operands2 none
+    ∷ step_of (row_of kind3 16 32 (Ppc64 DUnsigned) mask3 range3 a3 bias3 thunkable3 implicit3) operands3 none
+    ∷ step_of (row_of kind4 0 16 (Ppc64 f) mask4 range4 a4 bias4 thunkable4 implicit4) operands4 none
+    ∷ []) (adjusted_quarters begin f) target
 quarters_adjusted {begin} {target} {number} {rounded} leads rounds f low operands2 operands3
     operands4 e e2 e3 e4 =
     λ o small at before after step any at2 before2 after2 step2 any2 at3 before3 after3 step3 any3

@@ -1,11 +1,11 @@
 -- Upper and low parts of RISC-V, and calls.
-use Rattle.std.proofs.Common.{◌≡◌, ℕ, ◌-◌, ◌*◌, ◌%◌, ◌^◌, Bool, refl, sym, ◌∙◌, ap, subst, arith, List, ℤ, pos, ◌+ℤ◌, ◌-ℤ◌, Option, Some, None, int_lt, unsigned_abs}
-use Rattle.linker_laws.proofs.Imports.{w64, cast_signed, int_rem_euclid, ints, int_rem_euclid_is, window_of, BitRange, IsWithin, SizeHolds, InstructionWritten, riscv_form, value_of, AllowedRange, PageMask, RiscV, RelocationKind, BitMasking, RiscVInstruction, UiType, Operands, IsApplied}
+use Rattle.std.proofs.Common.{◌≡◌, ℕ, ◌-◌, ◌*◌, ◌%◌, ◌^◌, Bool, refl, sym, ◌∙◌, ap, subst, arith, [], ◌∷◌, ℤ, pos, ◌+ℤ◌, ◌-ℤ◌, Option, Some, int_lt, unsigned_abs}
+use Rattle.linker_laws.proofs.Imports.{w64, cast_signed, int_rem_euclid, ints, int_rem_euclid_is, window_of, BitRange, SizeHolds, InstructionWritten, riscv_form, value_of, AllowedRange, PageMask, RiscV, RelocationKind, BitMasking, RiscVInstruction, UiType, Operands}
 use Rattle.linker_elf.specs.Relocate.{IsCompletedBy, RiscVHolds}
-use Rattle.linker_laws.specs.RiscVRelocationLaws.{without_bit_0, even}
-use Rattle.linker_laws.specs.Schemes.{IsAddress, AreAddresses, place}
+use Rattle.linker_laws.specs.RiscVRelocationLaws.{without_bit_0, even, upper_and_low}
+use Rattle.linker_laws.specs.Schemes.{IsAddress, Law, none, place}
 use Rattle.linker_laws.proofs.Applied.{value_is, holds}
-use Rattle.linker_laws.proofs.Instructions.{IsNumber, row_of}
+use Rattle.linker_laws.proofs.Instructions.{IsNumber, first_step, row_of, step_of}
 use Rattle.linker_laws.proofs.Sums.{goes, lift, lifted_is}
 
 -- Each low part completes the upper part of the same value.
@@ -27,15 +27,10 @@ pub pairs : {begin target number : Operands → ℕ} → IsNumber begin target n
     → ((o : Operands) (at : ℕ)
     → value_of (row_of kind' 0 32 (RiscV low) mask' range' a' bias' thunkable' implicit')
     (operands o at) ≡ Some (cast_signed w64 (number o)))
-    → (o : Operands) → AreAddresses o → (at : ℕ) (before after : List ℕ)
-    (high : IsApplied (row_of kind 0 32 (RiscV upper) mask range a bias thunkable implicit) o
-    before after) → IsWithin None high.value
-    → (at' : ℕ) (before' after' : List ℕ)
-    (rest : IsApplied (row_of kind' 0 32 (RiscV low) mask' range' a' bias' thunkable' implicit')
-    (operands o at') before' after') → IsWithin None rest.value
-    → IsAddress (pos (begin o)
-    +ℤ ((riscv_form upper).machine (window_of (riscv_form upper) after)
-    +ℤ (riscv_form low).machine (window_of (riscv_form low) after'))) (target o)
+    → Law
+    (first_step (row_of kind 0 32 (RiscV upper) mask range a bias thunkable implicit) none
+    ∷ step_of (row_of kind' 0 32 (RiscV low) mask' range' a' bias' thunkable' implicit') operands none
+    ∷ []) (upper_and_low begin upper low) target
 pairs {begin} {target} {number} leads upper low completes operands e e' =
     λ o small at before after high any at' before' after' rest any'.
     let n = number o in
@@ -75,11 +70,8 @@ pub calls : {target number : Operands → ℕ} → IsNumber place target number
     → ((o : Operands)
     → value_of (row_of kind 0 64 (RiscV UiType) mask range a bias thunkable implicit) o
     ≡ Some (cast_signed w64 (number o)))
-    → (o : Operands) → AreAddresses o → (at : ℕ) (before after : List ℕ)
-    (applied : IsApplied (row_of kind 0 64 (RiscV UiType) mask range a bias thunkable implicit) o
-    before after) → IsWithin None applied.value
-    → IsAddress (without_bit_0 (pos o.place
-    +ℤ (riscv_form UiType).machine (window_of (riscv_form UiType) after))) (even target o)
+    → Law (first_step (row_of kind 0 64 (RiscV UiType) mask range a bias thunkable implicit) none ∷ [])
+    (λ o x. without_bit_0 (pos o.place +ℤ (riscv_form UiType).machine x)) (even target)
 calls {target} {number} leads e = λ o small at before after applied any.
     let n = number o in
     let numbers = leads o small in

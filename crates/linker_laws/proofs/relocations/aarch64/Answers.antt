@@ -1,8 +1,8 @@
 -- The laws of AArch64.
-use Rattle.std.proofs.Common.{refl, ap, arith, None, Some, ◌≡◌, ℕ, ◌^◌, ◌<◌}
+use Rattle.std.proofs.Common.{refl, ap, arith, Some, ◌≡◌, ℕ, ◌^◌, ◌<◌}
 use Rattle.linker_laws.proofs.Imports.{w64, cast_signed, cast_unsigned, sum_64, difference_64, Operands, aarch64_rows, bit_bounds, Add, LdSt, LdrRegister, Signed}
 use Rattle.linker_elf.specs.declared.aarch64.relocations.AArch64Relocation.TheVariants as names
-use Rattle.linker_laws.specs.Schemes.{AreAddresses, none, symbol_address, place}
+use Rattle.linker_laws.specs.Schemes.{AreAddresses, none, of_values, symbol_address, place}
 use Rattle.linker_laws.proofs.Fields.{holds_distance}
 use Rattle.linker_laws.proofs.Instructions.{entry_and_addend_from_place, symbol_from_got, adds, symbol_from_place, plt_from_place, entry_from_place, entry_from_got, entry_from, symbol_from_tls, symbol_itself, symbol_small, entry_sum_small, entry_is, relative, same_distance}
 use Rattle.linker_laws.proofs.AArch64WideMoves.{moves1, moves2, moves3, moves4, movz_first, movn_first, movn_highest, movz_highest}
@@ -23,55 +23,55 @@ ldr_is = (refl, refl, refl, λ c x. refl)
 pub returns-clause-relative : goal.returns-clause-relative
 returns-clause-relative c = (
   (
-    pages symbol_small (λ o small. refl) Add add_is 0 (omega arith) _ None (bit_bounds 33 Signed)
-        (λ v r w. r) refl (λ o small. refl) (λ o small at. refl),
-    pages symbol_small (λ o small. refl) LdSt ldst_is 0 (omega arith) _ None (bit_bounds 33 Signed)
-        (λ v r w. r) refl (λ o small. refl) (λ o small at. refl),
-    pages symbol_small (λ o small. refl) LdSt ldst_is 1 (omega arith) _ None (bit_bounds 33 Signed)
-        (λ v r w. r) refl (λ o small. refl) (λ o small at. refl),
-    pages symbol_small (λ o small. refl) LdSt ldst_is 2 (omega arith) _ None (bit_bounds 33 Signed)
-        (λ v r w. r) refl (λ o small. refl) (λ o small at. refl),
-    pages symbol_small (λ o small. refl) LdSt ldst_is 3 (omega arith) _ None (bit_bounds 33 Signed)
-        (λ v r w. r) refl (λ o small. refl) (λ o small at. refl),
-    pages symbol_small (λ o small. refl) LdSt ldst_is 4 (omega arith) _ None (bit_bounds 33 Signed)
-        (λ v r w. r) refl (λ o small. refl) (λ o small at. refl),
+    pages symbol_small (λ o small. refl) Add add_is 0 (omega arith) _ none (bit_bounds 33 Signed)
+        (λ x v r any. r) refl (λ o small. refl) (λ o small at. refl),
+    pages symbol_small (λ o small. refl) LdSt ldst_is 0 (omega arith) _ none (bit_bounds 33 Signed)
+        (λ x v r any. r) refl (λ o small. refl) (λ o small at. refl),
+    pages symbol_small (λ o small. refl) LdSt ldst_is 1 (omega arith) _ none (bit_bounds 33 Signed)
+        (λ x v r any. r) refl (λ o small. refl) (λ o small at. refl),
+    pages symbol_small (λ o small. refl) LdSt ldst_is 2 (omega arith) _ none (bit_bounds 33 Signed)
+        (λ x v r any. r) refl (λ o small. refl) (λ o small at. refl),
+    pages symbol_small (λ o small. refl) LdSt ldst_is 3 (omega arith) _ none (bit_bounds 33 Signed)
+        (λ x v r any. r) refl (λ o small. refl) (λ o small at. refl),
+    pages symbol_small (λ o small. refl) LdSt ldst_is 4 (omega arith) _ none (bit_bounds 33 Signed)
+        (λ x v r any. r) refl (λ o small. refl) (λ o small at. refl),
   ),
   (
     pages symbol_small (λ o small. refl) Add add_is 0 (omega arith) _
-        (Some (bit_bounds 33 Signed)) (bit_bounds 33 Signed)
-        (λ v r w. w) refl (λ o small. refl) (λ o small at. refl),
+        (of_values (bit_bounds 33 Signed)) (bit_bounds 33 Signed)
+        (λ x v r w. w) refl (λ o small. refl) (λ o small at. refl),
     pages symbol_small (λ o small. refl) LdSt ldst_is 0 (omega arith) _
-        (Some (bit_bounds 33 Signed)) (bit_bounds 33 Signed)
-        (λ v r w. w) refl (λ o small. refl) (λ o small at. refl),
+        (of_values (bit_bounds 33 Signed)) (bit_bounds 33 Signed)
+        (λ x v r w. w) refl (λ o small. refl) (λ o small at. refl),
     pages symbol_small (λ o small. refl) LdSt ldst_is 1 (omega arith) _
-        (Some (bit_bounds 33 Signed)) (bit_bounds 33 Signed)
-        (λ v r w. w) refl (λ o small. refl) (λ o small at. refl),
+        (of_values (bit_bounds 33 Signed)) (bit_bounds 33 Signed)
+        (λ x v r w. w) refl (λ o small. refl) (λ o small at. refl),
     pages symbol_small (λ o small. refl) LdSt ldst_is 2 (omega arith) _
-        (Some (bit_bounds 33 Signed)) (bit_bounds 33 Signed)
-        (λ v r w. w) refl (λ o small. refl) (λ o small at. refl),
+        (of_values (bit_bounds 33 Signed)) (bit_bounds 33 Signed)
+        (λ x v r w. w) refl (λ o small. refl) (λ o small at. refl),
     pages symbol_small (λ o small. refl) LdSt ldst_is 3 (omega arith) _
-        (Some (bit_bounds 33 Signed)) (bit_bounds 33 Signed)
-        (λ v r w. w) refl (λ o small. refl) (λ o small at. refl),
+        (of_values (bit_bounds 33 Signed)) (bit_bounds 33 Signed)
+        (λ x v r w. w) refl (λ o small. refl) (λ o small at. refl),
     pages symbol_small (λ o small. refl) LdSt ldst_is 4 (omega arith) _
-        (Some (bit_bounds 33 Signed)) (bit_bounds 33 Signed)
-        (λ v r w. w) refl (λ o small. refl) (λ o small at. refl),
+        (of_values (bit_bounds 33 Signed)) (bit_bounds 33 Signed)
+        (λ x v r w. w) refl (λ o small. refl) (λ o small at. refl),
   ),
 )
 
 pub returns-clause-entries : goal.returns-clause-entries
 returns-clause-entries c = (
-  pages entry_sum_small entry_is LdSt ldst_is 3 (omega arith) _ None (bit_bounds 33 Signed)
-      (λ v r w. r) refl (λ o small. refl) (λ o small at. refl),
-  pages entry_sum_small entry_is Add add_is 0 (omega arith) _ None (bit_bounds 33 Signed)
-      (λ v r w. r) refl (λ o small. refl) (λ o small at. refl),
-  pages entry_sum_small entry_is Add add_is 0 (omega arith) _ None (bit_bounds 33 Signed)
-      (λ v r w. r) refl (λ o small. refl) (λ o small at. refl),
-  pages entry_sum_small entry_is LdrRegister ldr_is 3 (omega arith) _ None (bit_bounds 33 Signed)
-      (λ v r w. r) refl (λ o small. refl) (λ o small at. refl),
-  pages entry_sum_small entry_is LdrRegister ldr_is 3 (omega arith) _ None (bit_bounds 33 Signed)
-      (λ v r w. r) refl (λ o small. refl) (λ o small at. refl),
-  pages entry_sum_small entry_is Add add_is 0 (omega arith) _ None (bit_bounds 33 Signed)
-      (λ v r w. r) refl (λ o small. refl) (λ o small at. refl),
+  pages entry_sum_small entry_is LdSt ldst_is 3 (omega arith) _ none (bit_bounds 33 Signed)
+      (λ x v r any. r) refl (λ o small. refl) (λ o small at. refl),
+  pages entry_sum_small entry_is Add add_is 0 (omega arith) _ none (bit_bounds 33 Signed)
+      (λ x v r any. r) refl (λ o small. refl) (λ o small at. refl),
+  pages entry_sum_small entry_is Add add_is 0 (omega arith) _ none (bit_bounds 33 Signed)
+      (λ x v r any. r) refl (λ o small. refl) (λ o small at. refl),
+  pages entry_sum_small entry_is LdrRegister ldr_is 3 (omega arith) _ none (bit_bounds 33 Signed)
+      (λ x v r any. r) refl (λ o small. refl) (λ o small at. refl),
+  pages entry_sum_small entry_is LdrRegister ldr_is 3 (omega arith) _ none (bit_bounds 33 Signed)
+      (λ x v r any. r) refl (λ o small. refl) (λ o small at. refl),
+  pages entry_sum_small entry_is Add add_is 0 (omega arith) _ none (bit_bounds 33 Signed)
+      (λ x v r any. r) refl (λ o small. refl) (λ o small at. refl),
 )
 
 pub returns-clause-thread : goal.returns-clause-thread
