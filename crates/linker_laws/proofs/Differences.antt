@@ -1,12 +1,11 @@
 -- What two relocations of one place leave there.
 use Rattle.std.proofs.Common.{◌≡◌, ℕ, zero, suc, ◌+◌, ◌-◌, ◌*◌, ◌%◌, ◌^◌, ◌<◌, ◌≤◌, Bool, refl, sym, ◌∙◌, ap, arith, List, inl, inr, pos, negsuc, ◌+ℤ◌, ◌-ℤ◌, Option, Some, unsigned_abs}
-use Rattle.linker_laws.proofs.Imports.{w64, cast_signed, cast_unsigned, int_rem_euclid, cases_lt, ints, to_z_pos, field, number_of_bytes, SizeNumber, value_of, sum_64, difference_64, AllowedRange, PageMask, ByteSize, Operands, rem_rem, cast_negative, row_number, IsApplied}
+use Rattle.linker_laws.proofs.Imports.{w64, cast_signed, cast_unsigned, int_rem_euclid, cases_lt, ints, to_z_pos, field, number_of_bytes, value_of, sum_64, difference_64, AllowedRange, PageMask, RelocationKindInfo, Operands, rem_rem, cast_negative, IsApplied}
 use Rattle.linker_elf.specs.declared.elf.RelocationKind.TheVariants.{AbsoluteSet, AbsoluteSetWord6, AbsoluteAddition, AbsoluteAdditionWord6, AbsoluteSubtraction, AbsoluteSubtractionWord6}
 use Rattle.linker_base.proofs.Fields.{mod_mod}
-use Rattle.linker_laws.specs.Differences.{distance}
+use Rattle.linker_laws.specs.Differences.{AddsDistance, AddsDistance6, SetsDistance, SetsDistance6}
 use Rattle.linker_laws.specs.Schemes.{IsAddress, symbol_address}
-use Rattle.linker_laws.proofs.Applied.{fits, value_is}
-use Rattle.linker_laws.proofs.Fields.{bytes_of}
+use Rattle.linker_laws.proofs.Fields.{bytes_of, held}
 use Rattle.linker_laws.proofs.Instructions.{absolute}
 use Rattle.linker_laws.proofs.Sums.{goes, cast_low, lifted_is, sum_below}
 
@@ -39,6 +38,11 @@ difference_rem old n k below short =
     (sym (taken old n below)))
     ∙ ap pos (mod_mod (old + (2 ^ 64 - n)) 64 k short)
 
+-- the value is S + A
+abbrev HasAddress : RelocationKindInfo → Type 0
+HasAddress row =
+    (o : Operands) → value_of row o ≡ Some (cast_signed w64 (absolute symbol_address o))
+
 -- ---- one relocation
 
 module _ {n : ℕ} {mask : Option PageMask} {range : AllowedRange} {a : ℕ} {bias : Option ℕ}
@@ -51,14 +55,7 @@ module _ {n : ℕ} {mask : Option PageMask} {range : AllowedRange} {a : ℕ} {bi
       ≡ Some (cast_signed w64 number) → 8 * n ≤ 64
       → number_of_bytes n after ≡ (number_of_bytes n before + number) % 2 ^ (8 * n)
   added applied e short =
-      let row = bytes_of AbsoluteAddition n mask range a bias thunkable implicit in
-      let is = value_is row o before after applied (cast_signed w64 number) e in
-      let held : SizeNumber (ByteSize n) AbsoluteAddition applied.value before after =
-      row_number row applied.value before after
-      (fits row o before after applied number below is) applied.accepted.supported
-      applied.written in
-      ap unsigned_abs (held
-      ∙ ap (λ v. int_rem_euclid (pos (number_of_bytes n before) +ℤ v) (pos (2 ^ (8 * n)))) (sym is)
+      ap unsigned_abs (held o before after applied number below e
       ∙ sum_rem (number_of_bytes n before) number (8 * n) below short)
 
   subtracted : (applied : IsApplied
@@ -67,14 +64,7 @@ module _ {n : ℕ} {mask : Option PageMask} {range : AllowedRange} {a : ℕ} {bi
       ≡ Some (cast_signed w64 number) → 8 * n ≤ 64
       → number_of_bytes n after ≡ (number_of_bytes n before + (2 ^ 64 - number)) % 2 ^ (8 * n)
   subtracted applied e short =
-      let row = bytes_of AbsoluteSubtraction n mask range a bias thunkable implicit in
-      let is = value_is row o before after applied (cast_signed w64 number) e in
-      let held : SizeNumber (ByteSize n) AbsoluteSubtraction applied.value before after =
-      row_number row applied.value before after
-      (fits row o before after applied number below is) applied.accepted.supported
-      applied.written in
-      ap unsigned_abs (held
-      ∙ ap (λ v. int_rem_euclid (pos (number_of_bytes n before) -ℤ v) (pos (2 ^ (8 * n)))) (sym is)
+      ap unsigned_abs (held o before after applied number below e
       ∙ difference_rem (number_of_bytes n before) number (8 * n) below short)
 
   set : (applied : IsApplied
@@ -83,14 +73,7 @@ module _ {n : ℕ} {mask : Option PageMask} {range : AllowedRange} {a : ℕ} {bi
       ≡ Some (cast_signed w64 number) → 8 * n ≤ 64
       → number_of_bytes n after ≡ number % 2 ^ (8 * n)
   set applied e short =
-      let row = bytes_of AbsoluteSet n mask range a bias thunkable implicit in
-      let is = value_is row o before after applied (cast_signed w64 number) e in
-      let held : SizeNumber (ByteSize n) AbsoluteSet applied.value before after =
-      row_number row applied.value before after
-      (fits row o before after applied number below is) applied.accepted.supported
-      applied.written in
-      ap unsigned_abs (held
-      ∙ ap (λ v. int_rem_euclid v (pos (2 ^ (8 * n)))) (sym is)
+      ap unsigned_abs (held o before after applied number below e
       ∙ cast_low number (8 * n) below (omega arith))
 
 -- the same of 6 bits of a byte
@@ -108,16 +91,8 @@ module _ {mask : Option PageMask} {range : AllowedRange} {a : ℕ} {bias : Optio
       ≡ byte_of (number_of_bytes 1 before) (number_of_bytes 1 before + number)
   unfolding byte_of
   added_6 applied e =
-      let row = bytes_of AbsoluteAdditionWord6 1 mask range a bias thunkable implicit in
-      let is = value_is row o before after applied (cast_signed w64 number) e in
       let old = number_of_bytes 1 before in
-      let held : SizeNumber (ByteSize 1) AbsoluteAdditionWord6 applied.value before after =
-      row_number row applied.value before after
-      (fits row o before after applied number below is) applied.accepted.supported
-      applied.written in
-      ap unsigned_abs (held
-      ∙ ap (λ v. int_rem_euclid (pos (old - old % 64) +ℤ int_rem_euclid (pos old +ℤ v) (pos 64))
-      (pos (2 ^ 8))) (sym is)
+      ap unsigned_abs (held o before after applied number below e
       ∙ ap (λ z. int_rem_euclid (pos (old - old % 64) +ℤ z) (pos (2 ^ 8)))
       (sum_rem old number 6 below (omega arith)))
 
@@ -129,16 +104,8 @@ module _ {mask : Option PageMask} {range : AllowedRange} {a : ℕ} {bias : Optio
       ≡ byte_of (number_of_bytes 1 before) (number_of_bytes 1 before + (2 ^ 64 - number))
   unfolding byte_of
   subtracted_6 applied e =
-      let row = bytes_of AbsoluteSubtractionWord6 1 mask range a bias thunkable implicit in
-      let is = value_is row o before after applied (cast_signed w64 number) e in
       let old = number_of_bytes 1 before in
-      let held : SizeNumber (ByteSize 1) AbsoluteSubtractionWord6 applied.value before after =
-      row_number row applied.value before after
-      (fits row o before after applied number below is) applied.accepted.supported
-      applied.written in
-      ap unsigned_abs (held
-      ∙ ap (λ v. int_rem_euclid (pos (old - old % 64) +ℤ int_rem_euclid (pos old -ℤ v) (pos 64))
-      (pos (2 ^ 8))) (sym is)
+      ap unsigned_abs (held o before after applied number below e
       ∙ ap (λ z. int_rem_euclid (pos (old - old % 64) +ℤ z) (pos (2 ^ 8)))
       (difference_rem old number 6 below (omega arith)))
 
@@ -149,16 +116,8 @@ module _ {mask : Option PageMask} {range : AllowedRange} {a : ℕ} {bias : Optio
       → number_of_bytes 1 after ≡ byte_of (number_of_bytes 1 before) number
   unfolding byte_of
   set_6 applied e =
-      let row = bytes_of AbsoluteSetWord6 1 mask range a bias thunkable implicit in
-      let is = value_is row o before after applied (cast_signed w64 number) e in
       let old = number_of_bytes 1 before in
-      let held : SizeNumber (ByteSize 1) AbsoluteSetWord6 applied.value before after =
-      row_number row applied.value before after
-      (fits row o before after applied number below is) applied.accepted.supported
-      applied.written in
-      ap unsigned_abs (held
-      ∙ ap (λ v. int_rem_euclid (pos (old - old % 64) +ℤ int_rem_euclid v (pos 64)) (pos (2 ^ 8)))
-      (sym is)
+      ap unsigned_abs (held o before after applied number below e
       ∙ ap (λ z. int_rem_euclid (pos (old - old % 64) +ℤ z) (pos (2 ^ 8)))
       (cast_low number 6 below (omega arith)))
 
@@ -200,19 +159,9 @@ pub adds_distance : (n : ℕ) → n < 9
     {thunkable implicit : Bool}
     {mask2 : Option PageMask} {range2 : AllowedRange} {a2 : ℕ} {bias2 : Option ℕ}
     {thunkable2 implicit2 : Bool}
-    → ((o : Operands) → value_of (bytes_of AbsoluteAddition n mask range a bias thunkable
-    implicit) o
-    ≡ Some (cast_signed w64 (absolute symbol_address o)))
-    → ((o : Operands) → value_of (bytes_of AbsoluteSubtraction n mask2 range2 a2 bias2 thunkable2
-    implicit2) o
-    ≡ Some (cast_signed w64 (absolute symbol_address o)))
-    → (o p : Operands) (before between after : List ℕ)
-    → IsApplied (bytes_of AbsoluteAddition n mask range a bias thunkable
-    implicit) o before between
-    → IsApplied (bytes_of AbsoluteSubtraction n mask2 range2 a2 bias2 thunkable2
-    implicit2) p between after
-    → number_of_bytes n after
-    ≡ sum_64 (number_of_bytes n before) (distance o p) % 2 ^ (8 * n)
+    → HasAddress (bytes_of AbsoluteAddition n mask range a bias thunkable implicit) → HasAddress (bytes_of AbsoluteSubtraction n mask2 range2 a2 bias2 thunkable2 implicit2)
+    → AddsDistance n (Some (bytes_of AbsoluteAddition n mask range a bias thunkable implicit))
+    (Some (bytes_of AbsoluteSubtraction n mask2 range2 a2 bias2 thunkable2 implicit2))
 adds_distance n few e e2 = λ o p before between after first second.
     let one = added o before between (absolute symbol_address o) (sum_below (symbol_address o) 0)
     first (e o) (omega arith) in
@@ -228,18 +177,9 @@ pub sets_distance : (n : ℕ) → n < 9
     {thunkable implicit : Bool}
     {mask2 : Option PageMask} {range2 : AllowedRange} {a2 : ℕ} {bias2 : Option ℕ}
     {thunkable2 implicit2 : Bool}
-    → ((o : Operands) → value_of (bytes_of AbsoluteSet n mask range a bias thunkable
-    implicit) o
-    ≡ Some (cast_signed w64 (absolute symbol_address o)))
-    → ((o : Operands) → value_of (bytes_of AbsoluteSubtraction n mask2 range2 a2 bias2 thunkable2
-    implicit2) o
-    ≡ Some (cast_signed w64 (absolute symbol_address o)))
-    → (o p : Operands) (before between after : List ℕ)
-    → IsApplied (bytes_of AbsoluteSet n mask range a bias thunkable
-    implicit) o before between
-    → IsApplied (bytes_of AbsoluteSubtraction n mask2 range2 a2 bias2 thunkable2
-    implicit2) p between after
-    → number_of_bytes n after ≡ distance o p % 2 ^ (8 * n)
+    → HasAddress (bytes_of AbsoluteSet n mask range a bias thunkable implicit) → HasAddress (bytes_of AbsoluteSubtraction n mask2 range2 a2 bias2 thunkable2 implicit2)
+    → SetsDistance n (Some (bytes_of AbsoluteSet n mask range a bias thunkable implicit))
+    (Some (bytes_of AbsoluteSubtraction n mask2 range2 a2 bias2 thunkable2 implicit2))
 sets_distance n few e e2 = λ o p before between after first second.
     let one = set o before between (absolute symbol_address o) (sum_below (symbol_address o) 0)
     first (e o) (omega arith) in
@@ -278,20 +218,9 @@ pub adds_distance_6 : {mask : Option PageMask} {range : AllowedRange} {a : ℕ} 
     {thunkable implicit : Bool}
     {mask2 : Option PageMask} {range2 : AllowedRange} {a2 : ℕ} {bias2 : Option ℕ}
     {thunkable2 implicit2 : Bool}
-    → ((o : Operands) → value_of (bytes_of AbsoluteAdditionWord6 1 mask range a bias thunkable
-    implicit) o
-    ≡ Some (cast_signed w64 (absolute symbol_address o)))
-    → ((o : Operands)
-    → value_of (bytes_of AbsoluteSubtractionWord6 1 mask2 range2 a2 bias2 thunkable2 implicit2) o
-    ≡ Some (cast_signed w64 (absolute symbol_address o)))
-    → (o p : Operands) (before between after : List ℕ)
-    → IsApplied (bytes_of AbsoluteAdditionWord6 1 mask range a bias thunkable
-    implicit) o before between
-    → IsApplied (bytes_of AbsoluteSubtractionWord6 1 mask2 range2 a2 bias2 thunkable2
-    implicit2) p between after
-    → (field (number_of_bytes 1 after) 0 6
-    ≡ sum_64 (number_of_bytes 1 before) (distance o p) % 2 ^ 6)
-    × (field (number_of_bytes 1 after) 6 8 ≡ field (number_of_bytes 1 before) 6 8)
+    → HasAddress (bytes_of AbsoluteAdditionWord6 1 mask range a bias thunkable implicit) → HasAddress (bytes_of AbsoluteSubtractionWord6 1 mask2 range2 a2 bias2 thunkable2 implicit2)
+    → AddsDistance6 (Some (bytes_of AbsoluteAdditionWord6 1 mask range a bias thunkable implicit))
+    (Some (bytes_of AbsoluteSubtractionWord6 1 mask2 range2 a2 bias2 thunkable2 implicit2))
 adds_distance_6 e e2 = λ o p before between after first second.
     let old = number_of_bytes 1 before in
     let m = number_of_bytes 1 between in
@@ -313,19 +242,9 @@ pub sets_distance_6 : {mask : Option PageMask} {range : AllowedRange} {a : ℕ} 
     {thunkable implicit : Bool}
     {mask2 : Option PageMask} {range2 : AllowedRange} {a2 : ℕ} {bias2 : Option ℕ}
     {thunkable2 implicit2 : Bool}
-    → ((o : Operands) → value_of (bytes_of AbsoluteSetWord6 1 mask range a bias thunkable
-    implicit) o
-    ≡ Some (cast_signed w64 (absolute symbol_address o)))
-    → ((o : Operands)
-    → value_of (bytes_of AbsoluteSubtractionWord6 1 mask2 range2 a2 bias2 thunkable2 implicit2) o
-    ≡ Some (cast_signed w64 (absolute symbol_address o)))
-    → (o p : Operands) (before between after : List ℕ)
-    → IsApplied (bytes_of AbsoluteSetWord6 1 mask range a bias thunkable
-    implicit) o before between
-    → IsApplied (bytes_of AbsoluteSubtractionWord6 1 mask2 range2 a2 bias2 thunkable2
-    implicit2) p between after
-    → (field (number_of_bytes 1 after) 0 6 ≡ distance o p % 2 ^ 6)
-    × (field (number_of_bytes 1 after) 6 8 ≡ field (number_of_bytes 1 before) 6 8)
+    → HasAddress (bytes_of AbsoluteSetWord6 1 mask range a bias thunkable implicit) → HasAddress (bytes_of AbsoluteSubtractionWord6 1 mask2 range2 a2 bias2 thunkable2 implicit2)
+    → SetsDistance6 (Some (bytes_of AbsoluteSetWord6 1 mask range a bias thunkable implicit))
+    (Some (bytes_of AbsoluteSubtractionWord6 1 mask2 range2 a2 bias2 thunkable2 implicit2))
 sets_distance_6 e e2 = λ o p before between after first second.
     let old = number_of_bytes 1 before in
     let m = number_of_bytes 1 between in

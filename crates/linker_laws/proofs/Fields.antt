@@ -29,6 +29,22 @@ bytes_of kind n mask range a bias thunkable implicit =
 abbrev pub IsValue : RelocationKind → Type 0
 IsValue kind = (v : ℤ) (old : ℕ) → whole_number kind v old ≡ v
 
+-- what the bytes hold, by the number of the formula
+pub held : {kind : RelocationKind} {n : ℕ} {mask : Option PageMask} {range : AllowedRange} {a : ℕ}
+    {bias : Option ℕ} {thunkable implicit : Bool} (o : Operands) (before after : List ℕ)
+    → IsApplied (bytes_of kind n mask range a bias thunkable implicit) o before after
+    → (number : ℕ) → number < 2 ^ 64
+    → value_of (bytes_of kind n mask range a bias thunkable implicit) o
+    ≡ Some (cast_signed w64 number)
+    → SizeNumber (ByteSize n) kind (cast_signed w64 number) before after
+held {kind} {n} {mask} {range} {a} {bias} {thunkable} {implicit} o before after applied number below
+    e =
+    let row = bytes_of kind n mask range a bias thunkable implicit in
+    let is = value_is row o before after applied (cast_signed w64 number) e in
+    subst (λ v. SizeNumber (ByteSize n) kind v before after) (sym is)
+    (row_number row applied.value before after (fits row o before after applied number below is)
+    applied.accepted.supported applied.written)
+
 module _ {kind : RelocationKind} {n : ℕ} {mask : Option PageMask} {range : AllowedRange} {a : ℕ}
     {bias : Option ℕ} {thunkable implicit : Bool} (whole : IsValue kind) (o : Operands)
     (before after : List ℕ)
@@ -40,16 +56,9 @@ module _ {kind : RelocationKind} {n : ℕ} {mask : Option PageMask} {range : All
   pub field_number : pos (number_of_bytes n after)
       ≡ int_rem_euclid (cast_signed w64 number) (pos (2 ^ (8 * n)))
   field_number =
-      let row = bytes_of kind n mask range a bias thunkable implicit in
-      let is = value_is row o before after applied (cast_signed w64 number) e in
-      let held : SizeNumber (ByteSize n) kind applied.value before after =
-      row_number row applied.value before after
-      (fits row o before after applied number below is) applied.accepted.supported
-      applied.written in
-      held
+      held o before after applied number below e
       ∙ ap (λ z. int_rem_euclid z (pos (2 ^ (8 * n))))
-      (whole applied.value (number_of_bytes n before)
-      ∙ sym is)
+      (whole (cast_signed w64 number) (number_of_bytes n before))
 
   -- read by a sign, of a value within bounds
   pub field_reads : (sign : Sign) (b : ℤ × ℤ) → IsWithin (Some b) applied.value
