@@ -1,12 +1,15 @@
 -- The worked program of x86-64.
-use Rattle.std.proofs.Common.{◌≡◌, ℕ, ◌+◌, ◌-◌, ◌*◌, ◌^◌, ◌<◌, Bool, true, false, refl, sym, ◌∙◌, ◌≤◌, ap, ap₂, subst, arith, List, [], ◌∷◌, Some, lit<, lit≤, pos, negsuc, inl, inr, ltb-true, ltb-false}
-use Rattle.linker_laws.proofs.Imports.{◌&&◌, ◌||◌, ◌==◌, IsSomeAnd, nat_le, nat_lt, if◌then◌else◌, and_parts, cond-false, cond-true, eqb-true, le-leb, lt-ltb, ints, All-nil, All-cons, difference_64, Operands}
-use Rattle.std.specs.Prelude.{All}
+use Rattle.std.proofs.Common.{◌≡◌, ℕ, ◌+◌, ◌-◌, ◌*◌, ◌^◌, ◌<◌, Bool, true, false, refl, sym, ◌∙◌, ◌≤◌, ap, ap₂, subst, arith, List, [], ◌∷◌, ◌++◌, length, take, drop, ℤ, Some, lit<, lit≤, pos, negsuc, inl, inr, ltb-true, ltb-false}
+use Rattle.linker_laws.proofs.Imports.{◌&&◌, ◌||◌, ◌==◌, IsSomeAnd, nat_le, nat_lt, if◌then◌else◌, and_parts, cond-false, cond-true, eqb-true, le-leb, lt-ltb, ints, All-nil, All-cons, IsWritten, RelocationKindInfo, difference_64, value_of, Operands}
+use Rattle.std.specs.Prelude.{All, neg_ℤ}
 use Rattle.std.specs.Option.{unwrap_or}
+use Rattle.linker_elf.specs.Relocate.{IsMultiple, IsReached, is_supported, window_len}
 use Rattle.linker_laws.specs.Schemes.{AreAddresses}
 use Rattle.linker_laws.specs.Changes.{IsKept, put, with_register}
 use Rattle.linker_laws.specs.Simulation.{Agree, AreOf, Group, Kinds, State, anything, ends, group, half, of_link, same}
 use Rattle.linker_laws.specs.X86Groups.{Groups, IsKnownAfter, KeepsRegisters, bytes_at, called, does, link, machine}
+use Rattle.linker_laws.specs.X86Machine as x86_machine
+use Rattle.linker_laws.specs.X86RewriteLaws.{IsBefore, IsRelocatedBy}
 use Rattle.linker_laws.specs.X86GroupsWorked.{IsDescriptorWorked, descriptor, descriptor_code, is_descriptor, is_open, known_but_open, new_descriptor, of_function, IsWorked, bytes, code, entries, is_entry, known, new, no_entries, starting}
 
 -- ---- operands and bytes
@@ -50,6 +53,41 @@ are_bytes [] e = All-nil _
 are_bytes (b ∷ bytes) e =
     let both = and_parts (nat_lt b 256) (all_small bytes) e in
     All-cons (λ b. b < 2 ^ 8) b bytes (ltb-true b 256 both.0) (are_bytes bytes both.1)
+
+before : {n o : ℕ} {s : x86_machine.State} (section : List ℕ) (operands : Operands)
+    → all_small section ≡ true → o < 2 ^ 64 → AreAddresses operands → operands.addend ≡ neg_ℤ (pos 4)
+    → s.ip ≡ difference_64 operands.place n → IsBefore n section o operands s
+before section operands bytes offset addresses addend ip =
+    record {
+      bytes = are_bytes section bytes;
+      offset = offset;
+      addresses = addresses;
+      addend = addend;
+      ip = ip;
+    }
+
+-- a field with the value of its relocation
+there : {row : RelocationKindInfo} {operands : Operands} {o : ℕ} {section after : List ℕ}
+    (rest : List ℕ) (v : ℤ) → value_of row operands ≡ Some v → is_supported row ≡ true
+    → window_len row ≤ length (drop o section) → IsMultiple row v (drop o section)
+    → IsReached row v (drop o section) → IsWritten row.size row.kind v (drop o section) rest
+    → after ≡ take o section ++ rest → IsRelocatedBy row operands o section after
+there rest v is supported long aligned reached written whole =
+    record {
+      rest = rest;
+      applied = record {
+        value = v;
+        value_is = is;
+        accepted = record {
+          supported = supported;
+          long = long;
+          aligned = aligned;
+          reached = reached;
+        };
+        written = written;
+      };
+      whole = whole;
+    }
 
 -- ---- what the object has
 
@@ -104,88 +142,26 @@ p1 : Groups → Group (of_link (link code)) 1 known s0 known s1
 p1 g =
     g.loads.0.1 code s0 mov (0x48 ∷ 0x8b ∷ 0x05 ∷ 0xf9 ∷ 0x2f ∷ 0x00 ∷ 0x00 ∷ [])
     (0x48 ∷ 0x8d ∷ 0x05 ∷ 0x19 ∷ 0x30 ∷ 0x00 ∷ 0x00 ∷ []) 3 of_a
-    (record {
-      bytes = are_bytes mov refl;
-      offset = lit< tt;
-      addresses = small of_a (lit< tt) (lit< tt) (lit< tt) (lit< tt) (lit< tt) (lit< tt);
-      addend = refl;
-      ip = refl;
-    })
+    (before mov of_a refl (lit< tt)
+    (small of_a (lit< tt) (lit< tt) (lit< tt) (lit< tt) (lit< tt) (lit< tt)) refl refl)
     refl (record { starts = lit≤ tt; ends = lit≤ tt; admitted = refl }, refl)
-    (record {
-      rest = 0xf9 ∷ 0x2f ∷ 0x00 ∷ 0x00 ∷ [];
-      applied = record {
-        value = pos 0x2ff9;
-        value_is = refl;
-        accepted = record {
-          supported = refl;
-          long = lit≤ tt;
-          aligned = (refl, tt, tt);
-          reached = ((omega (arith, ints), omega (arith, ints)), tt, tt);
-        };
-        written = refl;
-      };
-      whole = refl;
-    })
-    (record {
-      rest = 0x19 ∷ 0x30 ∷ 0x00 ∷ 0x00 ∷ [];
-      applied = record {
-        value = pos 0x3019;
-        value_is = refl;
-        accepted = record {
-          supported = refl;
-          long = lit≤ tt;
-          aligned = (refl, tt, tt);
-          reached = ((omega (arith, ints), omega (arith, ints)), tt, tt);
-        };
-        written = refl;
-      };
-      whole = refl;
-    })
+    (there (0xf9 ∷ 0x2f ∷ 0x00 ∷ 0x00 ∷ []) (pos 0x2ff9) refl refl (lit≤ tt) (refl, tt, tt)
+    ((omega (arith, ints), omega (arith, ints)), tt, tt) refl refl)
+    (there (0x19 ∷ 0x30 ∷ 0x00 ∷ 0x00 ∷ []) (pos 0x3019) refl refl (lit≤ tt) (refl, tt, tt)
+    ((omega (arith, ints), omega (arith, ints)), tt, tt) refl refl)
     refl refl refl known (λ r. same) (keeps s0 s1 refl)
 
 p2 : Groups → Group (of_link (link code)) 1 known s1 known s2
 p2 g =
     g.thread.1.0 code s1 add (0x48 ∷ 0x03 ∷ 0x0d ∷ 0xfa ∷ 0x2f ∷ 0x00 ∷ 0x00 ∷ [])
     (0x48 ∷ 0x81 ∷ 0xc1 ∷ 0xf0 ∷ 0xff ∷ 0xff ∷ 0xff ∷ []) 3 of_x
-    (record {
-      bytes = are_bytes add refl;
-      offset = lit< tt;
-      addresses = small of_x (lit< tt) (lit< tt) (lit< tt) (lit< tt) (lit< tt) (lit< tt);
-      addend = refl;
-      ip = refl;
-    })
+    (before add of_x refl (lit< tt)
+    (small of_x (lit< tt) (lit< tt) (lit< tt) (lit< tt) (lit< tt) (lit< tt)) refl refl)
     refl (record { starts = lit≤ tt; ends = lit≤ tt; admitted = refl }, refl)
-    (record {
-      rest = 0xfa ∷ 0x2f ∷ 0x00 ∷ 0x00 ∷ [];
-      applied = record {
-        value = pos 0x2ffa;
-        value_is = refl;
-        accepted = record {
-          supported = refl;
-          long = lit≤ tt;
-          aligned = (refl, tt, tt);
-          reached = ((omega (arith, ints), omega (arith, ints)), tt, tt);
-        };
-        written = refl;
-      };
-      whole = refl;
-    })
-    (record {
-      rest = 0xf0 ∷ 0xff ∷ 0xff ∷ 0xff ∷ [];
-      applied = record {
-        value = negsuc 15;
-        value_is = refl;
-        accepted = record {
-          supported = refl;
-          long = lit≤ tt;
-          aligned = (refl, tt, tt);
-          reached = ((omega (arith, ints), omega (arith, ints)), tt, tt);
-        };
-        written = refl;
-      };
-      whole = refl;
-    })
+    (there (0xfa ∷ 0x2f ∷ 0x00 ∷ 0x00 ∷ []) (pos 0x2ffa) refl refl (lit≤ tt) (refl, tt, tt)
+    ((omega (arith, ints), omega (arith, ints)), tt, tt) refl refl)
+    (there (0xf0 ∷ 0xff ∷ 0xff ∷ 0xff ∷ []) (negsuc 15) refl refl (lit≤ tt) (refl, tt, tt)
+    ((omega (arith, ints), omega (arith, ints)), tt, tt) refl refl)
     refl refl refl known (λ r. same) (keeps s1 s2 refl)
 
 -- The pushed bytes are no entry's.
@@ -205,44 +181,13 @@ p3 : Groups → Group (of_link (link code)) 1 known s2 known s3
 p3 g =
     g.branches.0 code s2 call (0xff ∷ 0x15 ∷ 0xfc ∷ 0x2f ∷ 0x00 ∷ 0x00 ∷ [])
     (0x67 ∷ 0xe8 ∷ 0x0c ∷ 0x00 ∷ 0x00 ∷ 0x00 ∷ []) 2 of_f
-    (record {
-      bytes = are_bytes call refl;
-      offset = lit< tt;
-      addresses = small of_f (lit< tt) (lit< tt) (lit< tt) (lit< tt) (lit< tt) (lit< tt);
-      addend = refl;
-      ip = refl;
-    })
+    (before call of_f refl (lit< tt)
+    (small of_f (lit< tt) (lit< tt) (lit< tt) (lit< tt) (lit< tt) (lit< tt)) refl refl)
     refl (record { starts = lit≤ tt; ends = lit≤ tt; admitted = refl }, refl)
-    (record {
-      rest = 0xfc ∷ 0x2f ∷ 0x00 ∷ 0x00 ∷ [];
-      applied = record {
-        value = pos 0x2ffc;
-        value_is = refl;
-        accepted = record {
-          supported = refl;
-          long = lit≤ tt;
-          aligned = (refl, tt, tt);
-          reached = ((omega (arith, ints), omega (arith, ints)), tt, tt);
-        };
-        written = refl;
-      };
-      whole = refl;
-    })
-    (record {
-      rest = 0x0c ∷ 0x00 ∷ 0x00 ∷ 0x00 ∷ [];
-      applied = record {
-        value = pos 0xc;
-        value_is = refl;
-        accepted = record {
-          supported = refl;
-          long = lit≤ tt;
-          aligned = (refl, tt, tt);
-          reached = ((omega (arith, ints), omega (arith, ints)), tt, tt);
-        };
-        written = refl;
-      };
-      whole = refl;
-    })
+    (there (0xfc ∷ 0x2f ∷ 0x00 ∷ 0x00 ∷ []) (pos 0x2ffc) refl refl (lit≤ tt) (refl, tt, tt)
+    ((omega (arith, ints), omega (arith, ints)), tt, tt) refl refl)
+    (there (0x0c ∷ 0x00 ∷ 0x00 ∷ 0x00 ∷ []) (pos 0xc) refl refl (lit≤ tt) (refl, tt, tt)
+    ((omega (arith, ints), omega (arith, ints)), tt, tt) refl refl)
     refl refl refl known known refl refl (λ a below. known_after a)
 
 pub is_worked : Groups → IsWorked
@@ -317,44 +262,13 @@ q1 : Groups → Group (of_link (link descriptor_code)) 1 known_but_open d0 with_
 q1 g =
     g.descriptor_address.0 descriptor_code d0 lea (0x48 ∷ 0x8d ∷ 0x05 ∷ 0xf9 ∷ 0x2f ∷ 0x00 ∷ 0x00 ∷ [])
     (0x48 ∷ 0xc7 ∷ 0xc0 ∷ 0xf0 ∷ 0xff ∷ 0xff ∷ 0xff ∷ []) 3 of_descriptor
-    (record {
-      bytes = are_bytes lea refl;
-      offset = lit< tt;
-      addresses = small of_descriptor (lit< tt) (lit< tt) (lit< tt) (lit< tt) (lit< tt) (lit< tt);
-      addend = refl;
-      ip = refl;
-    })
+    (before lea of_descriptor refl (lit< tt)
+    (small of_descriptor (lit< tt) (lit< tt) (lit< tt) (lit< tt) (lit< tt) (lit< tt)) refl refl)
     refl (record { starts = lit≤ tt; ends = lit≤ tt; admitted = refl }, refl)
-    (record {
-      rest = 0xf9 ∷ 0x2f ∷ 0x00 ∷ 0x00 ∷ [];
-      applied = record {
-        value = pos 0x2ff9;
-        value_is = refl;
-        accepted = record {
-          supported = refl;
-          long = lit≤ tt;
-          aligned = (refl, tt, tt);
-          reached = ((omega (arith, ints), omega (arith, ints)), tt, tt);
-        };
-        written = refl;
-      };
-      whole = refl;
-    })
-    (record {
-      rest = 0xf0 ∷ 0xff ∷ 0xff ∷ 0xff ∷ [];
-      applied = record {
-        value = negsuc 15;
-        value_is = refl;
-        accepted = record {
-          supported = refl;
-          long = lit≤ tt;
-          aligned = (refl, tt, tt);
-          reached = ((omega (arith, ints), omega (arith, ints)), tt, tt);
-        };
-        written = refl;
-      };
-      whole = refl;
-    })
+    (there (0xf9 ∷ 0x2f ∷ 0x00 ∷ 0x00 ∷ []) (pos 0x2ff9) refl refl (lit≤ tt) (refl, tt, tt)
+    ((omega (arith, ints), omega (arith, ints)), tt, tt) refl refl)
+    (there (0xf0 ∷ 0xff ∷ 0xff ∷ 0xff ∷ []) (negsuc 15) refl refl (lit≤ tt) (refl, tt, tt)
+    ((omega (arith, ints), omega (arith, ints)), tt, tt) refl refl)
     refl refl 0 known_but_open refl refl
 
 -- The function changes only the 8 bytes below the stack pointer.
