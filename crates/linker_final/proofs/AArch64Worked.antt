@@ -1,5 +1,5 @@
 -- The groups of AArch64's program that the calls link.
-use Rattle.std.proofs.Common.{◌≡◌, ◌≢◌, ℕ, zero, suc, ◌+◌, ◌-◌, ◌^◌, ◌/◌, ◌<◌, ◌≤◌, ◌⊎◌, inl, inr, List, [], ◌∷◌, length, Bool, true, false, eqb, eqb-true, refl, sym, ap, subst, ◌∙◌, arith, lit<, lit≤, pos, Some, true≢false}
+use Rattle.std.proofs.Common.{◌≡◌, ◌≢◌, ℕ, zero, suc, ◌+◌, ◌-◌, ◌/◌, ◌<◌, ◌≤◌, ◌⊎◌, inl, inr, List, [], ◌∷◌, length, Bool, true, false, eqb, eqb-true, refl, sym, ap, subst, ◌∙◌, arith, lit<, lit≤, pos, Some, true≢false}
 use Rattle.linker_final.proofs.Imports.{◌&&◌, slice_get, replicate, cases_lt, ints, window_of_rewrite, RewriteWindow, aarch64_name, entry, IsNamed, IsNameOf, code_of, sum_64, AArch64Relocation, AArch64, Operands, Has, following, word_of, put, with_register, loaded, AreAddresses, Kinds, State, half, in_phase, sequences_are_whole, IsGroupDecision, decision_at, window_of, group_stays, IsLoadRewritten, IsRewrittenBy, relocation_after, Decision, Kept, Rewritten, UnrelaxableGroups, relocation_in, operands_with, Addresses, Symbol, Rela, AArch64Entry, halves_to_local_exec, relaxation_rewrite}
 use Rattle.std.proofs.lemmas.List.Elements.{All-nil, All-cons}
 use Rattle.linker_base.specs.Form.{place_sum}
@@ -14,7 +14,7 @@ use Rattle.linker_final.specs.Final.{AreLinked, IsLinked, IsOutside, IsRewritten
 use Rattle.linker_final.specs.SectionRuns.{Section, offset_of}
 use Rattle.linker_final.specs.Worked.{HasGroups, IsGroupOf, IsPhaseOf, code_at, halves, none_stays}
 use Rattle.linker_final.specs.declared.worked.TheConstants.{AARCH64_OBJECT, AARCH64_RELOCATIONS}
-use Rattle.linker_laws.proofs.Relocated.{relocated}
+use Rattle.linker_laws.proofs.Relocated.{addresses as small, relocated}
 use Rattle.linker_laws.specs.AArch64GroupsWorked.{known, starting}
 use Rattle.linker_laws.specs.AArch64RewriteLaws.{IsRelocated}
 use Rattle.linker_laws.specs.Simulation.{same}
@@ -111,11 +111,6 @@ abbrev low_entry : AArch64Entry
 low_entry = entry kinds.MovkXn low_after halves_to_local_exec
 
 -- ---- relocations that are applied
-
-small : (o : Operands) → o.symbol < 2 ^ 64 → o.place < 2 ^ 64 → o.got_entry < 2 ^ 64 → o.got_base < 2 ^ 64
-    → o.plt_entry < 2 ^ 64 → o.tls_base < 2 ^ 64 → AreAddresses o
-small o a b c d e f =
-    record { symbol = a; place = b; got_entry = c; got_base = d; plt_entry = e; tls_base = f }
 
 has : (name : AArch64Relocation) (o : Operands) (before after : List ℕ) → IsRelocated name o before after
     → loaded 4 halves.old o.place ≡ word_of after → Has halves.old name o before

@@ -1,5 +1,5 @@
 -- The worked programs of AArch64.
-use Rattle.std.proofs.Common.{◌≡◌, ℕ, ◌+◌, ◌-◌, ◌^◌, ◌<◌, ◌≤◌, Bool, true, false, refl, sym, ◌∙◌, ap, subst, arith, drop, None, Some, ◌*◌, List, [], ◌∷◌, lit<, lit≤, pos, inl, inr}
+use Rattle.std.proofs.Common.{◌≡◌, ℕ, ◌+◌, ◌-◌, ◌<◌, ◌≤◌, Bool, true, false, refl, sym, ◌∙◌, ap, subst, arith, drop, None, Some, ◌*◌, List, [], ◌∷◌, lit<, lit≤, pos, inl, inr}
 use Rattle.linker_laws.proofs.Imports.{◌==◌, ◌⊎◌, IsSomeAnd, if◌then◌else◌, from_le_bytes, w64, cond-false, ints, Operands, IsAdd64, IsLdr64}
 use Rattle.linker_base.specs.Form.{place_sum}
 use Rattle.linker_elf.specs.declared.aarch64.relocations.AArch64Relocation.TheVariants as names
@@ -15,7 +15,7 @@ use Rattle.linker_laws.specs.Simulation.{Agree, AreStored, Group, Kind, Kinds, O
 use Rattle.linker_laws.specs.SimulationWorked.{of_byte}
 use Rattle.linker_laws.proofs.Agreement.{agree_put}
 use Rattle.linker_laws.proofs.CoveredRuns.{holds_of}
-use Rattle.linker_laws.proofs.Relocated.{relocated}
+use Rattle.linker_laws.proofs.Relocated.{addresses, relocated}
 
 -- ---- relocations that are applied
 
@@ -180,11 +180,6 @@ call_on =
     ((omega (arith, ints), omega (arith, ints)), lit< tt, tt) refl refl
 
 -- ---- programs
-
-addresses : (o : Operands) → o.symbol < 2 ^ 64 → o.place < 2 ^ 64 → o.got_entry < 2 ^ 64
-    → o.got_base < 2 ^ 64 → o.plt_entry < 2 ^ 64 → o.tls_base < 2 ^ 64 → AreAddresses o
-addresses o a b c d e f =
-    record { symbol = a; place = b; got_entry = c; got_base = d; plt_entry = e; tls_base = f }
 
 -- Both agree at the beginning.
 starts : (old new : List ℕ) (first : ℕ) → Agree (link (code old new)) known (starting first) (starting 0)

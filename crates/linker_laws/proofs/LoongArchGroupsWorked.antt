@@ -1,5 +1,5 @@
 -- The worked program of LoongArch.
-use Rattle.std.proofs.Common.{◌≡◌, ℕ, ◌+◌, ◌-◌, ◌^◌, ◌<◌, Bool, true, false, refl, sym, ◌∙◌, ap, arith, [], ◌∷◌, lit<, lit≤, pos, eqb-true, true≢false}
+use Rattle.std.proofs.Common.{◌≡◌, ℕ, ◌+◌, ◌-◌, ◌<◌, Bool, true, false, refl, sym, ◌∙◌, ap, arith, [], ◌∷◌, lit<, lit≤, pos, eqb-true, true≢false}
 use Rattle.linker_laws.proofs.Imports.{◌&&◌, ◌==◌, IsSomeAnd, nat_lt, min, cond-false, cond-true, ltb-true, ints, Operands}
 use Rattle.linker_base.specs.Form.{place_sum}
 use Rattle.linker_elf.specs.declared.loongarch64.relocations.LoongArch64Relocation.TheVariants as names
@@ -9,9 +9,8 @@ use Rattle.linker_laws.specs.LoongArchGroupsWorked.{EndsAt, IsWorked, code, is_e
 use Rattle.linker_laws.specs.LoongArchMachine.{step}
 use Rattle.linker_laws.specs.LoongArchRewriteLaws.{IsRelocated, following}
 use Rattle.linker_laws.specs.Machine.{loaded}
-use Rattle.linker_laws.specs.Schemes.{AreAddresses}
 use Rattle.linker_laws.specs.Simulation.{Agree, Group, Kinds, State, anything, ends, group, half, of_link, run, same}
-use Rattle.linker_laws.proofs.Relocated.{relocated}
+use Rattle.linker_laws.proofs.Relocated.{addresses as small, relocated}
 
 -- ---- operands
 
@@ -30,11 +29,6 @@ operands symbol place =
       has_plt_entry = false;
       has_tls_base = true;
     }
-
-small : (o : Operands) → o.symbol < 2 ^ 64 → o.place < 2 ^ 64 → o.got_entry < 2 ^ 64 → o.got_base < 2 ^ 64
-    → o.plt_entry < 2 ^ 64 → o.tls_base < 2 ^ 64 → AreAddresses o
-small o a b c d e f =
-    record { symbol = a; place = b; got_entry = c; got_base = d; plt_entry = e; tls_base = f }
 
 abbrev pair : Operands
 pair = operands 0x13120 0x10000

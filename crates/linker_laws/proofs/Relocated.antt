@@ -1,11 +1,12 @@
 -- Relocations of a program that is given: by computation, what they write is what their rows say.
-use Rattle.std.proofs.Common.{◌≡◌, ◌≢◌, ℕ, zero, suc, ◌-◌, ◌^◌, ◌<◌, ◌≤◌, Bool, true, false, refl, sym, ◌∙◌, Option, int_lt, length, ℤ, subst, arith, drop, Some, ◌*◌, List, [], ◌∷◌, pos, true≢false, eqb-true, inl, inr, leb, leb-true, leb-false}
+use Rattle.std.proofs.Common.{◌≡◌, ◌≢◌, ℕ, zero, suc, ◌-◌, ◌^◌, ◌<◌, ◌≤◌, Bool, true, false, refl, sym, ◌∙◌, Option, int_lt, length, ℤ, subst, arith, drop, Some, ◌*◌, List, [], ◌∷◌, pos, true≢false, eqb-true, inl, inr, ltb-true, leb, leb-true, leb-false}
 use Rattle.linker_laws.proofs.Imports.{◌==◌, ◌&&◌, ◌||◌, ◌⊎◌, bit_at, eq-eqb, All-nil, All-cons, BitsWritten, ImmediateBit, bit_for, is_placed, placed_bit, window_of, IsApplied, relocation_form, InstructionWritten, bits_taken, places_cleared, with_bit_31_if, value_of, AllowedRange, BitRange, PageMask, RelocationInstruction, RelocationKind, Operands}
-use Rattle.std.specs.Prelude.{All}
+use Rattle.std.specs.Prelude.{All, nat_lt}
 use Rattle.std.specs.Int.{byte_len}
 use Rattle.std.proofs.lemmas.Nat.Bits.{bit_at_above}
 use Rattle.linker_elf.specs.Relocate.{IsMultiple, IsReached, bits_at, insn_at, is_32_bit_move, is_supported, number_placed, value_at, window_len}
 use Rattle.linker_laws.proofs.Instructions.{row_of}
+use Rattle.linker_laws.specs.Schemes.{AreAddresses}
 
 -- ---- bits that are written, by computation
 
@@ -155,3 +156,21 @@ relocated o before after v clear is supported long aligned reached e rest =
       };
       written = written_by _ _ _ clear before after e rest;
     }
+
+-- ---- bytes and addresses
+
+abbrev pub all_small : List ℕ → Bool
+all_small [] = true
+all_small (b ∷ bytes) = nat_lt b 256 && all_small bytes
+
+pub are_bytes : (bytes : List ℕ) → all_small bytes ≡ true → All (λ b. b < 2 ^ 8) bytes
+are_bytes [] e = All-nil _
+are_bytes (b ∷ bytes) e =
+    All-cons (λ b. b < 2 ^ 8) b bytes
+    (ltb-true b 256 (first_of_both (nat_lt b 256) (all_small bytes) e))
+    (are_bytes bytes (second_of_both (nat_lt b 256) (all_small bytes) e))
+
+pub addresses : (o : Operands) → o.symbol < 2 ^ 64 → o.place < 2 ^ 64 → o.got_entry < 2 ^ 64
+    → o.got_base < 2 ^ 64 → o.plt_entry < 2 ^ 64 → o.tls_base < 2 ^ 64 → AreAddresses o
+addresses o a b c d e f =
+    record { symbol = a; place = b; got_entry = c; got_base = d; plt_entry = e; tls_base = f }

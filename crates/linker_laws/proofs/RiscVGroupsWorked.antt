@@ -1,55 +1,35 @@
 -- The worked program of RISC-V.
-use Rattle.std.proofs.Common.{◌≡◌, ℕ, suc, ◌+◌, ◌-◌, ◌^◌, ◌<◌, ◌≤◌, Bool, true, false, refl, sym, ◌∙◌, ap, subst, arith, List, [], ◌∷◌, length, Option, lit<, lit≤, pos, leb, leb-true, Some, inr, true≢false}
-use Rattle.linker_laws.proofs.Imports.{◌&&◌, IsSomeAnd, nat_lt, min, cond-false, cond-true, ltb-true, ints, All-nil, All-cons, IsApplied, riscv_row, difference_64, sum_64, RelocationKindInfo, Operands}
+use Rattle.std.proofs.Common.{◌≡◌, ℕ, ◌+◌, ◌-◌, ◌^◌, ◌<◌, ◌≤◌, Bool, true, false, refl, sym, ◌∙◌, ap, subst, arith, List, [], ◌∷◌, length, Option, lit<, lit≤, pos, Some, inr}
+use Rattle.linker_laws.proofs.Imports.{IsSomeAnd, nat_lt, min, cond-false, cond-true, ltb-true, ints, IsApplied, riscv_row, difference_64, sum_64, RelocationKindInfo, Operands}
 use Rattle.std.specs.Prelude.{◌%◌, unsigned_abs}
 use Rattle.linker_base.specs.Form.{place_sum}
 use Rattle.linker_elf.specs.declared.riscv64.relocations.RiscVRelocation.TheVariants as names
 use Rattle.linker_laws.specs.Changes.{put, with_register}
-use Rattle.linker_laws.specs.Machine.{AreBytes, moved as plus}
+use Rattle.linker_laws.specs.Machine.{moved as plus}
 use Rattle.linker_laws.specs.RiscVGroups.{Groups, Has, Stands, continued, instruction_at, link, machine, HasRoom, left, of_place, seen, uses, with_stored}
 use Rattle.linker_laws.specs.RiscVGroups.AreUsed.{as_stored, as_sum}
 use Rattle.linker_laws.specs.RiscVGroupsWorked.{EndsAt, IsWorked, code, is_entry, known, moved, new, old, others, starting, words}
 use Rattle.linker_laws.specs.RiscVMachine.{adds, goes_to, stores, step, with_integer}
 use Rattle.linker_laws.specs.RiscVRewriteLaws.{after_rewrite, of_entry}
-use Rattle.linker_laws.specs.Schemes.{AreAddresses}
 use Rattle.linker_laws.specs.Simulation.{Agree, Group, Kinds, Other, State, anything, ends, group, of_link, other, run, same}
 use Rattle.linker_utils.specs.declared.riscv64.rewrites.RewriteKind.TheVariants as kinds
-use Rattle.linker_laws.proofs.Relocated.{relocated}
+use Rattle.linker_laws.proofs.Relocated.{addresses as small, all_small, are_bytes, relocated}
 use Rattle.linker_laws.proofs.Agreement.{agree_put}
 use Rattle.linker_laws.proofs.RiscVGroups.{wrote}
 
 -- ---- bytes
 
-abbrev are_small : List ℕ → Bool
-are_small [] = true
-are_small (b ∷ bs) = leb (suc b) 256 && are_small bs
-
-bytes : (xs : List ℕ) → are_small xs ≡ true → AreBytes xs
-bytes [] e = All-nil _
-bytes (x ∷ xs) e =
-    All-cons (λ byte. byte < 2 ^ 8) x xs
-    (let s = leb-true (suc x) 256 (first (leb (suc x) 256) (are_small xs) e) in omega arith)
-    (bytes xs (second (leb (suc x) 256) (are_small xs) e))
-  where
-    first : (a b : Bool) → (a && b) ≡ true → a ≡ true
-    first true b e = refl
-    first false b e = e
-
-    second : (a b : Bool) → (a && b) ≡ true → b ≡ true
-    second true b e = e
-    second false b e = absurd (true≢false (sym e))
-
 has : (n : ℕ) (bytes_of : ℕ → ℕ) (at : ℕ) (row : Option RelocationKindInfo) (o : Operands) (before after : List ℕ)
     → IsSomeAnd row (λ row. IsApplied row o before after) → length after ≡ length before
-    → are_small before ≡ true → are_small after ≡ true → Stands n bytes_of at after → Has n bytes_of at row o before
+    → all_small before ≡ true → all_small after ≡ true → Stands n bytes_of at after → Has n bytes_of at row o before
 has n bytes_of at row o before after applied len small small' stands =
     record {
       relocated = after;
       applied = record {
         applied = applied;
         len = len;
-        old_bytes = bytes before small;
-        bytes = bytes after small';
+        old_bytes = are_bytes before small;
+        bytes = are_bytes after small';
       };
       stands = stands;
     }
@@ -71,11 +51,6 @@ operands symbol place =
       has_plt_entry = false;
       has_tls_base = false;
     }
-
-small : (o : Operands) → o.symbol < 2 ^ 64 → o.place < 2 ^ 64 → o.got_entry < 2 ^ 64 → o.got_base < 2 ^ 64
-    → o.plt_entry < 2 ^ 64 → o.tls_base < 2 ^ 64 → AreAddresses o
-small o a b c d e f =
-    record { symbol = a; place = b; got_entry = c; got_base = d; plt_entry = e; tls_base = f }
 
 abbrev high : Operands
 high = operands 0x120 0x10000

@@ -1,9 +1,10 @@
 -- The worked program of x86-64.
 use Rattle.std.proofs.Common.{◌≡◌, ℕ, ◌+◌, ◌-◌, ◌*◌, ◌^◌, ◌<◌, Bool, true, false, refl, sym, ◌∙◌, ◌≤◌, ap, ap₂, subst, arith, List, [], ◌∷◌, ◌++◌, length, take, drop, ℤ, Some, lit<, lit≤, pos, negsuc, inl, inr, ltb-true, ltb-false}
-use Rattle.linker_laws.proofs.Imports.{◌&&◌, ◌||◌, ◌==◌, IsSomeAnd, nat_le, nat_lt, if◌then◌else◌, and_parts, cond-false, cond-true, eqb-true, le-leb, lt-ltb, ints, All-nil, All-cons, IsWritten, RelocationKindInfo, difference_64, value_of, Operands}
-use Rattle.std.specs.Prelude.{All, neg_ℤ}
+use Rattle.linker_laws.proofs.Imports.{◌&&◌, ◌||◌, ◌==◌, IsSomeAnd, nat_le, nat_lt, if◌then◌else◌, cond-false, cond-true, eqb-true, le-leb, lt-ltb, ints, IsWritten, RelocationKindInfo, difference_64, value_of, Operands}
+use Rattle.std.specs.Prelude.{neg_ℤ}
 use Rattle.std.specs.Option.{unwrap_or}
 use Rattle.linker_elf.specs.Relocate.{IsMultiple, IsReached, is_supported, window_len}
+use Rattle.linker_laws.proofs.Relocated.{addresses as small, all_small, are_bytes}
 use Rattle.linker_laws.specs.Schemes.{AreAddresses}
 use Rattle.linker_laws.specs.Changes.{IsKept, put, with_register}
 use Rattle.linker_laws.specs.Simulation.{Agree, AreOf, Group, Kinds, State, anything, ends, group, half, of_link, same}
@@ -38,21 +39,6 @@ of_x = operands 0x404ff0 0x40100a 0x404008
 
 abbrev of_f : Operands
 of_f = operands 0x401020 0x401010 0x404010
-
-small : (o : Operands) → o.symbol < 2 ^ 64 → o.place < 2 ^ 64 → o.got_entry < 2 ^ 64 → o.got_base < 2 ^ 64
-    → o.plt_entry < 2 ^ 64 → o.tls_base < 2 ^ 64 → AreAddresses o
-small o a b c d e f =
-    record { symbol = a; place = b; got_entry = c; got_base = d; plt_entry = e; tls_base = f }
-
-abbrev all_small : List ℕ → Bool
-all_small [] = true
-all_small (b ∷ bytes) = nat_lt b 256 && all_small bytes
-
-are_bytes : (bytes : List ℕ) → all_small bytes ≡ true → All (λ b. b < 2 ^ 8) bytes
-are_bytes [] e = All-nil _
-are_bytes (b ∷ bytes) e =
-    let both = and_parts (nat_lt b 256) (all_small bytes) e in
-    All-cons (λ b. b < 2 ^ 8) b bytes (ltb-true b 256 both.0) (are_bytes bytes both.1)
 
 before : {n o : ℕ} {s : x86_machine.State} (section : List ℕ) (operands : Operands)
     → all_small section ≡ true → o < 2 ^ 64 → AreAddresses operands → operands.addend ≡ neg_ℤ (pos 4)
