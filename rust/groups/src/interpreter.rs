@@ -124,10 +124,9 @@ impl Interpreter {
 
     fn access(&mut self, access: Access, address: u64) -> Option<()> {
         if let Some(code) = &self.code {
-            let is_load = matches!(access, Access::Load { .. } | Access::LoadSingle { .. });
             self.end = match address {
                 _ if address >> 47 != 0 => End::Fault,
-                _ if is_load && code.contains(&address) => End::Reads,
+                _ if code.contains(&address) => End::Code,
                 _ => End::Lacks,
             };
             if self.end != End::Lacks {

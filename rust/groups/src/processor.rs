@@ -106,8 +106,8 @@ pub enum End {
     Long,
     /// It reads or writes where no memory can be.
     Fault,
-    /// It reads code.
-    Reads,
+    /// It reads or writes code.
+    Code,
     /// An instruction that the processor doesn't have.
     Lacks,
     /// A rewritten instruction of which there is no sequence.

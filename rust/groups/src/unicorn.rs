@@ -145,7 +145,7 @@ struct Watched {
     /// Of a function.
     start: Option<Start>,
     steps: Vec<Step>,
-    reads_code: bool,
+    accesses_code: bool,
     /// The memory of functions, by addresses and lengths.
     mapped: Vec<(u64, u64)>,
 }
@@ -178,6 +178,15 @@ impl Watched {
     fn unmap(&mut self, engine: *mut c_void, kept: usize) {
         for (at, len) in self.mapped.drain(kept..) {
             unsafe { ffi::uc_mem_unmap(engine, at, len as usize) };
+        }
+    }
+
+    /// Stops a function that accesses code.
+    fn guard(&mut self, engine: *mut c_void, address: u64, len: i32) {
+        let is_code = |code: &Range<u64>| address < code.end && address + len as u64 > code.start;
+        if self.start.as_ref().is_some_and(|start| is_code(&start.code)) {
+            self.accesses_code = true;
+            expect(unsafe { ffi::uc_emu_stop(engine) }, "stop");
         }
     }
 
@@ -216,6 +225,7 @@ extern "C" fn on_write(
         read();
     }
     watched.writes.push(Overwritten { write: Write { address, len, value }, old });
+    watched.guard(engine, address, len);
 }
 
 extern "C" fn on_read(
@@ -226,12 +236,7 @@ extern "C" fn on_read(
     _: i64,
     watched: *mut c_void,
 ) {
-    let watched = unsafe { &mut *watched.cast::<Watched>() };
-    let is_code = |code: &Range<u64>| address < code.end && address + len as u64 > code.start;
-    if watched.start.as_ref().is_some_and(|start| is_code(&start.code)) {
-        watched.reads_code = true;
-        expect(unsafe { ffi::uc_emu_stop(engine) }, "stop");
-    }
+    unsafe { &mut *watched.cast::<Watched>() }.guard(engine, address, len);
 }
 
 extern "C" fn on_unmapped(
@@ -247,7 +252,7 @@ extern "C" fn on_unmapped(
 
 extern "C" fn on_code(engine: *mut c_void, address: u64, _: u32, watched: *mut c_void) {
     let watched = unsafe { &mut *watched.cast::<Watched>() };
-    if watched.start.is_some() && !watched.reads_code && !watched.note(engine, address) {
+    if watched.start.is_some() && !watched.accesses_code && !watched.note(engine, address) {
         expect(unsafe { ffi::uc_emu_stop(engine) }, "stop");
     }
 }
@@ -278,7 +283,7 @@ impl Machine {
             writes: Vec::new(),
             start: None,
             steps: Vec::new(),
-            reads_code: false,
+            accesses_code: false,
             mapped: Vec::new(),
         });
         let mut hook = |engine, kind: i32, callback: *mut c_void| unsafe {
@@ -443,7 +448,7 @@ impl Processor for Machine {
         if self.kind.flag_mask != 0 {
             self.set(self.kind.flags, start.numbers[FLAGS] & self.kind.flag_mask | 2);
         }
-        (self.watched.start, self.watched.reads_code) = (Some(start.clone()), false);
+        (self.watched.start, self.watched.accesses_code) = (Some(start.clone()), false);
         let (mut pc, mut count) = (start.pc, 0);
         let end = loop {
             let error = unsafe { ffi::uc_emu_start(self.engine, pc, 1, 0, 0) };
@@ -453,8 +458,8 @@ impl Processor for Machine {
                 self.watched.note(self.engine, at);
             }
             pc = self.watched.steps.last().map_or(pc, |step| step.pc);
-            if self.watched.reads_code {
-                break End::Reads;
+            if self.watched.accesses_code {
+                break End::Code;
             } else if self.watched.steps.len() >= start.limit {
                 break End::Long;
             } else if pc == RETURN {
