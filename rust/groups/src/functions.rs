@@ -4,19 +4,24 @@
 //!
 //! Of RISC-V and LoongArch code is packed, too. Numbers agree if they are the same, if one is an
 //! address of code and the other where that moved to, or if data has both at one place. Numbers that
-//! a group or the instruction of a high part may leave otherwise may be copied, and no more. Functions of other objects return at once, with random numbers in the registers that they may
-//! change. A system call of x86-64 changes nothing.
+//! a group or the instruction of a high part may leave otherwise may be copied. A run ends at an
+//! instruction without a relocation that computes with such a number of a group: where old's leaves
+//! what new's does, once it has new's numbers. Functions of other objects return at once, with random
+//! numbers in the registers that they may change. A system call of x86-64 changes nothing.
 
 use crate::layout::{CODE, Layout, MEMORY};
 use crate::linking::{Linked, Moves, Program, link};
 use crate::objects::{Home, Object, Section};
-use crate::processor::{End, FLAGS, Numbers, Processor, RETURN, STACK, Start, Trace, Write, calls};
+use crate::processor::{
+    End, FLAGS, Numbers, Processor, RETURN, STACK, Start, Step, Trace, Write, calls,
+};
 use crate::random::{Random, noise};
 use crate::sequences::{Sequences, sequences};
 use linker_utils::elf::Architecture;
 use linker_utils::runs::Item;
 use linker_utils::section::relocations;
-use std::collections::{BTreeMap, HashSet};
+use std::collections::{BTreeMap, BTreeSet, HashMap, HashSet};
+use std::ops::Range;
 
 /// How many states a run has at most.
 const LIMIT: usize = 1000;
@@ -45,6 +50,7 @@ struct Unit {
     /// Where its other parts begin.
     others: Vec<u64>,
     is_without: bool,
+    is_high_part: bool,
 }
 
 impl Unit {
@@ -90,7 +96,8 @@ fn add_units(
     for it in relocations(&layout.relocations[index]) {
         codes.entry(it.offset).or_insert(it.code);
         if makes_high_part(architecture, word(&linked.before, it.offset)) {
-            units.insert(address + it.offset, Unit::part(address + it.offset + 4));
+            let unit = Unit { is_high_part: true, ..Unit::part(address + it.offset + 4) };
+            units.insert(address + it.offset, unit);
         }
     }
     let Sequences { all, without, offsets } = sequences(architecture, address, linked, layout);
@@ -150,8 +157,24 @@ struct Linking<'a> {
     moves: &'a Moves,
     /// The numbers at one place of data.
     pairs: HashSet<(u64, u64)>,
+    /// Where code has relocations.
+    fields: BTreeSet<u64>,
     stack_pointer: usize,
 }
+
+/// What old and new need not have alike in a state.
+#[derive(Default)]
+struct Allowed {
+    /// Numbers that units left, and whether that was a group and no instruction of a high part.
+    left: HashMap<(u64, u64), bool>,
+    /// Memory below the stack pointer.
+    below: Range<u64>,
+    /// By bits, the results of a group that has ended here, which have to agree.
+    results: u128,
+}
+
+/// A state, and what was written since the one before.
+type After<'a> = (&'a Numbers, &'a [Write]);
 
 impl Linking<'_> {
     fn agree(&self, old: u64, new: u64) -> bool {
@@ -162,55 +185,98 @@ impl Linking<'_> {
             || self.pairs.contains(&(old, new))
     }
 
+    /// What is otherwise and may not be; none if nothing is.
+    fn difference(
+        &self,
+        (old, writes): After,
+        (new, others): After,
+        allowed: &Allowed,
+    ) -> Option<String> {
+        let agree = |a, b| self.agree(a, b) || allowed.left.contains_key(&(a, b));
+        for (n, (&a, &b)) in old.iter().zip(new).enumerate() {
+            let is_result = allowed.results >> n & 1 == 1;
+            if !(if is_result { self.agree(a, b) } else { agree(a, b) }) {
+                return Some(format!("number {n} is {a:#x} and {b:#x}"));
+            }
+        }
+        let counted = |write: &&Write| !allowed.below.contains(&write.address);
+        let (writes, others) = (writes.iter().filter(counted), others.iter().filter(counted));
+        let same = |(a, b): (&Write, &Write)| {
+            a.address == b.address && a.len == b.len && agree(a.value as u64, b.value as u64)
+        };
+        let is_same =
+            writes.clone().count() == others.clone().count() && writes.zip(others).all(same);
+        (!is_same).then(|| "it writes otherwise".to_string())
+    }
+
+    /// Whether an instruction has no relocation and isn't of a group.
+    fn is_plain(&self, pc: u64, next: u64) -> bool {
+        let len = match next.wrapping_sub(pc) {
+            len @ 1..16 => len,
+            _ => 16,
+        };
+        let mut fields = self.fields.range(pc..pc.saturating_add(len));
+        !self.units.contains_key(&pc) && fields.next().is_none()
+    }
+
+    /// Old's numbers, with new's in place of those that a group or data has otherwise.
+    fn replaced(&self, old: &Numbers, new: &Numbers, allowed: &Allowed) -> Numbers {
+        std::array::from_fn(|n| {
+            let pair = (old[n], new[n]);
+            let is_replaced = allowed.left.get(&pair) == Some(&true) || self.pairs.contains(&pair);
+            if is_replaced { pair.1 } else { pair.0 }
+        })
+    }
+
     /// Compares two runs up to where the first one ends, and notes the groups of it. Returns how
-    /// many instructions it has and why it ends, or what differs.
+    /// many instructions it has and why it ends, or what differs. `again` runs old's instruction at a
+    /// step with other numbers.
     fn compare(
         &self,
         old: &Trace,
         new: &Trace,
         groups: &mut Vec<u32>,
+        mut again: impl FnMut(&Step, Numbers) -> Trace,
     ) -> Result<(usize, End), String> {
-        // by bits, what the last unit may leave otherwise; and the numbers that units left
-        let (mut fresh, mut left) = (0u128, HashSet::new());
-        // when each unit was executed last, and whether that was without its group's other parts
-        let (mut executed, mut is_entered) = (BTreeMap::new(), false);
-        let (mut at, mut last, mut below) = ((0, 0), (0, 0), 0..0);
+        // by bits, what the last unit may leave otherwise, and whether it is of a group
+        let (mut fresh, mut is_group, mut allowed) = (0u128, false, Allowed::default());
+        // when each unit was executed last and what it changed, and whether that was without its
+        // group's other parts
+        let (mut executed, mut is_entered) = (BTreeMap::<u64, (usize, u128)>::new(), false);
+        let (mut at, mut last) = ((0, 0), (0, 0));
         loop {
             let (one, other) = (&old.steps[at.0], &new.steps[at.1]);
             let (was, other_was) = (&old.steps[last.0], &new.steps[last.1]);
             let wrong = |what: String| Err(format!("{:#x} after {:#x}: {what}", one.pc, was.pc));
-            let places = (one.pc, other.pc);
-            if self.moves.at(one.pc) != other.pc {
-                if left.contains(&places) || self.pairs.contains(&places) {
-                    return Ok((at.0, End::Uses));
-                }
-                return wrong(format!("it goes to {:#x}", other.pc));
-            }
             for (n, (&a, &b)) in one.numbers.iter().zip(&other.numbers).enumerate() {
-                if self.agree(a, b) || left.contains(&(a, b)) {
-                    continue;
-                }
-                let mut numbers = was.numbers.iter().zip(&other_was.numbers);
-                if fresh >> n & 1 == 1 {
-                    left.insert((a, b));
-                } else if is_entered {
-                    return Ok((at.0, End::Enters));
-                } else if numbers.any(|(&c, &d)| self.pairs.contains(&(c, d))) {
-                    return Ok((at.0, End::Uses));
-                } else {
-                    return wrong(format!("number {n} is {a:#x} and {b:#x}"));
+                if fresh >> n & 1 == 1 && !self.agree(a, b) {
+                    allowed.left.entry((a, b)).or_insert(is_group);
                 }
             }
-            let counted = |write: &&Write| !below.contains(&write.address);
-            let writes = old.writes[was.writes..one.writes].iter().filter(counted);
-            let others = new.writes[other_was.writes..other.writes].iter().filter(counted);
-            let same = |(a, b): (&Write, &Write)| {
-                let (old, new) = (a.value as u64, b.value as u64);
-                let is_there = a.address == b.address && a.len == b.len;
-                is_there && (self.agree(old, new) || left.contains(&(old, new)))
+            let after = (&other.numbers, &new.writes[other_was.writes..other.writes]);
+            let differs = match self.moves.at(one.pc) == other.pc {
+                true => {
+                    let before = (&one.numbers, &old.writes[was.writes..one.writes]);
+                    self.difference(before, after, &allowed)
+                }
+                false => Some(format!("it goes to {:#x}", other.pc)),
             };
-            if writes.clone().count() != others.clone().count() || !writes.zip(others).all(same) {
-                return wrong("it writes otherwise".to_string());
+            if let Some(what) = differs {
+                if is_entered {
+                    return Ok((at.0, End::Enters));
+                }
+                let numbers = self.replaced(&was.numbers, &other_was.numbers, &allowed);
+                if numbers != was.numbers && self.is_plain(was.pc, one.pc) {
+                    let Trace { steps, writes, .. } = again(was, numbers);
+                    if let [first, next] = &steps[..]
+                        && self.agree(next.pc, other.pc)
+                        && let same = (&next.numbers, &writes[first.writes..next.writes])
+                        && self.difference(same, after, &allowed).is_none()
+                    {
+                        return Ok((at.0, End::Uses));
+                    }
+                }
+                return wrong(what);
             }
             let unit = self.units.get(&one.pc);
             if unit.is_some_and(|unit| unit.is_without) {
@@ -238,21 +304,26 @@ impl Linking<'_> {
                 _ => return wrong(format!("the ends are {:?} and {:?}", old.end, new.end)),
             };
             let (now, other_now) = (&old.steps[at.0].numbers, &new.steps[at.1].numbers);
-            (fresh, below, is_entered) = (0, 0..0, false);
+            (fresh, is_entered) = (0, false);
+            (allowed.below, allowed.results) = (0..0, 0);
             if let Some(unit) = unit {
+                is_group = !unit.is_high_part;
                 let changed = (0..now.len())
                     .filter(|&n| now[n] != one.numbers[n] || other_now[n] != other.numbers[n])
                     .fold(0, |bits, n| bits | 1 << n);
-                // what is written below the stack pointer counts as nothing
-                below = now[self.stack_pointer].saturating_sub(0x1000)..now[self.stack_pointer];
+                let stack = now[self.stack_pointer];
+                allowed.below = stack.saturating_sub(0x1000)..stack;
                 fresh = changed;
                 if let Some(code) = unit.counts {
                     groups.push(code);
                     fresh = unit.may_differ;
-                    let before = executed.get(&one.pc);
-                    is_entered = unit.others.iter().any(|other| executed.get(other) <= before);
+                    let others = unit.others.iter().map(|other| executed.get(other));
+                    let of_group = others.clone().flatten().fold(changed, |bits, it| bits | it.1);
+                    allowed.results = of_group & !fresh;
+                    let before = executed.get(&one.pc).map(|it| it.0);
+                    is_entered = others.into_iter().any(|other| other.map(|it| it.0) <= before);
                 }
-                executed.insert(one.pc, at.0);
+                executed.insert(one.pc, (at.0, changed));
             }
         }
     }
@@ -285,6 +356,13 @@ fn pairs(object: &Object, layout: &Layout, program: &Program) -> HashSet<(u64, u
         }
     }
     pairs
+}
+
+fn code_fields(object: &Object, layout: &Layout) -> BTreeSet<u64> {
+    let sections = object.sections.iter().zip(&layout.sections).zip(&layout.relocations);
+    let code = sections.filter(|((section, _), _)| section.is_code);
+    code.flat_map(|((_, address), table)| relocations(table).map(move |it| address + it.offset))
+        .collect()
 }
 
 /// Writes what an object is, or is linked to, into a machine.
@@ -347,7 +425,8 @@ pub fn run_object(
     let stack_pointer = machines[0].stack_pointer();
     let moves = std::mem::take(&mut program.moves);
     let pairs = pairs(object, layout, &program);
-    let linking = Linking { units, moves: &moves, pairs, stack_pointer };
+    let fields = code_fields(object, layout);
+    let linking = Linking { units, moves: &moves, pairs, fields, stack_pointer };
     if options.damages {
         for (section, &address) in program.sections.iter_mut().zip(&layout.sections) {
             if let Ok(section) = section {
@@ -389,11 +468,22 @@ pub fn run_object(
             if let Some(number) = calls(architecture).0 {
                 numbers[number] = RETURN;
             }
-            let start = Start { architecture, pc, numbers, code: CODE..end, limit: LIMIT };
+            let (writes, code) = (Vec::new(), CODE..end);
+            let start = Start { architecture, pc, numbers, writes, code, limit: LIMIT };
             let old = machines[0].trace(&start);
-            let new = machines[1].trace(&Start { pc: moves.at(pc), limit: LIMIT + 64, ..start });
+            let moved = Start { pc: moves.at(pc), limit: LIMIT + 64, ..start.clone() };
+            let new = machines[1].trace(&moved);
             let mut groups = Vec::new();
-            let result = linking.compare(&old, &new, &mut groups);
+            let result = linking.compare(&old, &new, &mut groups, |step, numbers| {
+                let writes = old.writes[..step.writes].to_vec();
+                machines[0].trace(&Start {
+                    pc: step.pc,
+                    numbers,
+                    writes,
+                    limit: 2,
+                    ..start.clone()
+                })
+            });
             count.runs += 1;
             groups.iter().for_each(|&code| count.groups.entry(code).or_default().0 += 1);
             match result {

@@ -625,6 +625,9 @@ impl Processor for Interpreter {
         let return_register = calls(self.architecture).0.expect("a register");
         (self.registers, self.pc) = (start.numbers, start.pc);
         (self.code, self.end) = (Some(start.code.clone()), End::Lacks);
+        for it in &start.writes {
+            self.store(it.address, it.len as u64, it.value as u64);
+        }
         let (mut steps, mut count) = (Vec::new(), 0);
         let end = loop {
             steps.push(Step { pc: self.pc, numbers: self.registers, writes: self.writes.len() });

@@ -70,6 +70,8 @@ pub struct Start {
     pub architecture: Architecture,
     pub pc: u64,
     pub numbers: Numbers,
+    /// What is written before it.
+    pub writes: Vec<Write>,
     /// All code of the object.
     pub code: Range<u64>,
     /// How many states it has at most.
@@ -114,8 +116,8 @@ pub enum End {
     Without,
     /// It jumps to an instruction of a group that isn't its first.
     Enters,
-    /// It jumps to a number that a group may leave otherwise, or computes with one that is of
-    /// addresses but none, as of an index beyond a table.
+    /// It computes with a number that a group may leave otherwise, or with one that is of addresses
+    /// but none, as of an index beyond a table.
     Uses,
 }
 

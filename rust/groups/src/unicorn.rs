@@ -449,6 +449,11 @@ impl Processor for Machine {
             self.set(self.kind.flags, start.numbers[FLAGS] & self.kind.flag_mask | 2);
         }
         (self.watched.start, self.watched.accesses_code) = (Some(start.clone()), false);
+        for it in &start.writes {
+            let watched = ptr::from_mut(self.watched.as_mut()).cast();
+            on_write(self.engine, 0, it.address, it.len, it.value, watched);
+            self.write(it.address, &it.value.to_le_bytes()[..it.len.min(8) as usize]);
+        }
         let (mut pc, mut count) = (start.pc, 0);
         let end = loop {
             let error = unsafe { ffi::uc_emu_start(self.engine, pc, 1, 0, 0) };
