@@ -47,6 +47,8 @@ struct Unit {
     /// The type of relocation that a group is counted by, if this is its last part.
     counts: Option<u32>,
     may_differ: u128,
+    /// A register that is greater by a number, too.
+    shifted: Option<(usize, u64)>,
     /// Where its other parts begin.
     others: Vec<u64>,
     is_without: bool,
@@ -128,6 +130,7 @@ fn add_units(
         let unit = Unit {
             counts: Some(linked.members[sequence.member].code),
             may_differ: u128::from(sequence.may_differ) | shifted | flags,
+            shifted: sequence.shifted,
             others: others.iter().map(|piece| piece.start).collect(),
             ..Unit::part(last.end)
         };
@@ -169,8 +172,10 @@ struct Allowed {
     left: HashMap<(u64, u64), bool>,
     /// Memory below the stack pointer.
     below: Range<u64>,
-    /// By bits, the results of a group that has ended here, which have to agree.
+    /// By bits, the results of a group that has ended here, which have to agree, and the one that is
+    /// greater by a number.
     results: u128,
+    shifted: Option<(usize, u64)>,
 }
 
 /// A state, and what was written since the one before.
@@ -194,8 +199,12 @@ impl Linking<'_> {
     ) -> Option<String> {
         let agree = |a, b| self.agree(a, b) || allowed.left.contains_key(&(a, b));
         for (n, (&a, &b)) in old.iter().zip(new).enumerate() {
-            let is_result = allowed.results >> n & 1 == 1;
-            if !(if is_result { self.agree(a, b) } else { agree(a, b) }) {
+            let is_right = match allowed.shifted {
+                Some((shifted, by)) if shifted == n => b == a.wrapping_add(by),
+                _ if allowed.results >> n & 1 == 1 => self.agree(a, b),
+                _ => agree(a, b),
+            };
+            if !is_right {
                 return Some(format!("number {n} is {a:#x} and {b:#x}"));
             }
         }
@@ -305,7 +314,7 @@ impl Linking<'_> {
             };
             let (now, other_now) = (&old.steps[at.0].numbers, &new.steps[at.1].numbers);
             (fresh, is_entered) = (0, false);
-            (allowed.below, allowed.results) = (0..0, 0);
+            allowed = Allowed { left: allowed.left, ..Allowed::default() };
             if let Some(unit) = unit {
                 is_group = !unit.is_high_part;
                 let changed = (0..now.len())
@@ -313,7 +322,7 @@ impl Linking<'_> {
                     .fold(0, |bits, n| bits | 1 << n);
                 let stack = now[self.stack_pointer];
                 allowed.below = stack.saturating_sub(0x1000)..stack;
-                fresh = changed;
+                (fresh, allowed.shifted) = (changed, unit.shifted);
                 if let Some(code) = unit.counts {
                     groups.push(code);
                     fresh = unit.may_differ;
