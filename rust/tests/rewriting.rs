@@ -1826,9 +1826,19 @@ fn descriptors_of_riscv_become_offsets() {
     // one of another instruction keeps all
     let mut other = section(&mark);
     other.bytes[12..].copy_from_slice(&0x0005_80e7_u32.to_le_bytes());
-    let made = placed(RiscV, phase, &addresses, &near, &[&other]);
-    assert_eq!(made[0].0.bytes, other.bytes);
-    assert_eq!(made[0].0.relocations, other.relocations);
+    let mut unchanged = vec![other];
+    // and so does an addend: initial-exec has its label at another instruction (RISC-V ELF psABI,
+    // "TLS Descriptors -> Initial Exec Relaxation"), and x has no entry for it
+    for addend in [8, i64::MIN, i64::MIN + 8, i64::MAX, i64::MAX - 3] {
+        let mut other = section(&mark);
+        other.relocations[0].addend = addend;
+        unchanged.push(other);
+    }
+    for other in unchanged {
+        let made = placed(RiscV, phase, &addresses, &near, &[&other]);
+        assert_eq!(made[0].0.bytes, other.bytes, "{:?}", other.relocations[0]);
+        assert_eq!(made[0].0.relocations, other.relocations);
+    }
 }
 
 #[test]

@@ -1,9 +1,10 @@
 -- What the choice of a rewrite over the thread pointer tested: the offset is a number of 12 bits.
-use Rattle.std.proofs.Common.{◌≡◌, ◌≢◌, ◌⊎◌, ◌^◌, ◌<◌, ◌≤◌, ◌-◌, ◌*◌, ◌<ℤ◌, ◌≤ℤ◌, ℤ, neg_ℤ, pos, negsuc, ℕ, [], ◌∷◌, Bool, true, false, refl, sym, ap, subst, ◌∙◌, inl, inr, arith, List, Option, Some, None}
-use Rattle.linker_final.proofs.Imports.{if◌then◌else◌, slice_get, w64, cast_signed, cast_unsigned, AllHold, entry, IsWithin, bit_bounds, Signed, cases_lt, ints, IsNamed, IsNameOf, pair_row, riscv_name, difference_64, sum_64, GotTpOff, TpOff, RelocationKindInfo, Choice, LinkFacts, Operands, IType, UType, RiscVRelocation, IsChosen, chosen_or_labelled, IsOfApplied, Subject, IsLowOffset, AppliesToRiscV, HasPattern, RiscVEntry, by_low_offset, riscv_entries, RelaxContext, address_in, link_facts, IsScopeIn, riscv_scope_in, is_labelled, Rewritten, RewrittenWithSymbol, Labelled, NotRelaxable, Phase, relocation_in, operands_with, Addresses, Symbol, Rela, Relaxation, RiscV}
+use Rattle.std.proofs.Common.{◌≡◌, ◌≢◌, ◌⊎◌, ◌^◌, ◌<◌, ◌-◌, ◌*◌, pos, negsuc, ℕ, suc, [], ◌∷◌, Bool, true, false, refl, sym, ap, subst, ◌∙◌, inl, inr, arith, List, Option, Some, None}
+use Rattle.linker_final.proofs.Imports.{if◌then◌else◌, slice_get, nat_lt, w64, cast_signed, cast_unsigned, from_le_bytes, AllHold, entry, IsWithin, ints, ltb-true, IsNamed, IsNameOf, pair_row, riscv_name, difference_64, sum_64, GotTpOff, TpOff, RelocationKindInfo, Choice, LinkFacts, Operands, IType, UType, RiscVRelocation, IsChosen, chosen_or_labelled, IsOfApplied, IsLowOffset, AppliesToRiscV, HasPattern, RiscVEntry, by_low_offset, riscv_entries, RelaxContext, address_in, link_facts, IsScopeIn, riscv_scope_in, is_labelled, Rewritten, RewrittenWithSymbol, Labelled, NotRelaxable, Phase, relocation_in, operands_with, Addresses, Symbol, Rela, Relaxation, RiscV}
+use Rattle.std.specs.Prelude.{take, drop}
+use mir.Val.{sel}
 use Rattle.linker_elf.specs.Choices.{HasAddresses, low_12_bounds, operands_before}
 use Rattle.linker_elf.specs.Relocate.{Reaches}
-use Rattle.std.proofs.lemmas.Int.{to_z_pos}
 use Rattle.linker_base.proofs.Bits.{cast_negative}
 use Rattle.linker_elf.specs.Reach.{riscv_pair_bounds}
 use Rattle.linker_elf.specs.declared.riscv64.relocations.RiscVRelocation.TheVariants as names
@@ -14,7 +15,7 @@ use Rattle.linker_utils.specs.RiscVRewrites.{riscv_row_of}
 use Rattle.linker_utils.specs.declared.riscv64.rewrites.RewriteKind.{RewriteKind}
 use Rattle.linker_utils.specs.declared.riscv64.rewrites.RewriteKind.TheVariants as kinds
 use Rattle.linker_rewriting.specs.Facts.{facts_at, facts_by, facts_with, placed_facts}
-use Rattle.linker_rewriting.specs.RiscVPcrelGroups.{is_label_marked, without_entry}
+use Rattle.linker_rewriting.specs.RiscVPcrelGroups.{far_entry, is_label_marked, without_entry}
 use Rattle.linker_rewriting.specs.declared.facts.OutputFacts.{OutputFacts}
 use Rattle.linker_rewriting.specs.declared.facts.SymbolFacts.{SymbolFacts}
 use Rattle.linker_rewriting.specs.declared.phases.Phase.TheVariants as phases
@@ -155,34 +156,27 @@ offsets_are_low = (
 abbrev entry_row : RelocationKindInfo
 entry_row = pair_row GotTpOff 32 UType
 
-addend_is : (z : ℤ) → IsWithin (Some (bit_bounds 63 Signed)) z
-    → (cast_unsigned w64 z < 2 ^ 62) ⊎ ((2 ^ 64 - 2 ^ 62 ≤ cast_unsigned w64 z) × (cast_unsigned w64 z < 2 ^ 64))
-addend_is (pos m) near = inl (let high : pos m <ℤ pos (2 ^ 62) = near.1 in omega (arith, ints))
-addend_is (negsuc m) near = inr (let low : neg_ℤ (pos (2 ^ 62)) ≤ℤ negsuc m = near.0 in (omega (arith, ints), omega (arith, ints)))
+-- what is read as a signed number has 64 bits
+bits_below : (n : ℕ) → cast_unsigned w64 (cast_signed w64 n) < 2 ^ 64
+bits_below n = by (nat_lt n (2 ^ 63)) (ltb-true n (2 ^ 63))
+  where
+    by : (b : Bool) → (b ≡ true → n < 2 ^ 63)
+        → cast_unsigned w64 (sel b (pos n) (negsuc (2 ^ 64 - suc n))) < 2 ^ 64
+    by true small = let h = small refl in omega (arith, h)
+    by false small = omega arith
 
 -- half of all addresses away
-far : (o : Operands) → o.got_entry ≡ sum_64 o.place (2 ^ 63) → IsWithin (Some (bit_bounds 63 Signed)) o.addend
+far : (o : Operands) → o.got_entry ≡ far_entry o → cast_unsigned w64 o.addend < 2 ^ 64
     → Reaches entry_row (operands_before 0 o) → ⊥
-far o is near reaches =
-    let a = cast_unsigned w64 o.addend in
-    let n = difference_64 (sum_64 (sum_64 o.got_entry a) 0) (difference_64 o.place 0) in
-    let middle : (2 ^ 62 ≤ n) × (n < 3 * 2 ^ 62) = elim (addend_is o.addend near) [
-      | inl less ↦ (omega (arith, is, less), omega (arith, is, less))
-      | inr more ↦ (let from = more.0 in let below = more.1 in (omega (arith, is, from, below), omega (arith, is, from, below)))
-    ] in
-    let from = middle.0 in
-    let below = middle.1 in
-    elim (cases_lt n (2 ^ 63)) [
-      | inl low ↦
-          let g = subst (IsWithin (Some riscv_pair_bounds)) (to_z_pos w64 n low) reaches.within in
-          let b = g.1 in omega (arith, ints, from)
-      | inr high ↦
-          let g = subst (IsWithin (Some riscv_pair_bounds)) (cast_negative n (omega arith) high) reaches.within in
-          let b = g.0 in omega (arith, ints, below)
-    ]
+far o is small reaches =
+    let n = difference_64 (sum_64 (sum_64 o.got_entry (cast_unsigned w64 o.addend)) 0) (difference_64 o.place 0) in
+    let half : n ≡ 2 ^ 63 = omega (arith, is, small) in
+    let g = subst (IsWithin (Some riscv_pair_bounds)) (cast_negative n (omega (arith, half)) (omega (arith, half))) reaches.within in
+    let b = g.0 in
+    omega (arith, ints, half)
 
 without_entry_is : (f : Option LinkFacts) (facts : LinkFacts) → without_entry f ≡ Some facts → (mine : LinkFacts) × (f ≡ Some mine)
-    × (facts ≡ record mine { operands = record mine.operands { got_entry = sum_64 mine.operands.place (2 ^ 63) } })
+    × (facts ≡ record mine { operands = record mine.operands { got_entry = far_entry mine.operands } })
 without_entry_is None facts is = absurd (let e : None ≡ Some facts = is in cc)
 without_entry_is (Some mine) facts is = (mine, refl, ap (facts_in facts) (sym is))
 
@@ -210,7 +204,7 @@ reaches name kind section o facts named is known (e ∷ es) each (inr other) =
 
 never : (name : RiscVRelocation) → IsNamed (riscv_name name) → (kind : RewriteKind) → EachReaches kind (riscv_entries name)
     → IsNotRewrittenBy name kind
-never name named kind each l rewriting riscv i chosen subject below is_name decided near is =
+never name named kind each l rewriting riscv i chosen subject below is_name decided is =
     let s = l.context in
     let r = relocation_in l.relocations i in
     let c = anyhow l rewriting i (RewrittenWithSymbol chosen subject) chosen below decided refl in
@@ -224,14 +218,13 @@ never name named kind each l rewriting riscv i chosen subject below is_name deci
     let placed = by_symbol s.output s.addresses s.values high marked (own.0) s.phase (slice_get s.symbols high.symbol) (inr late) (own.1) in
     let known : c.facts.has_addresses ≡ true =
     ap (λ (f : LinkFacts). f.has_addresses) (own.2) ∙ ap (λ (f : LinkFacts). f.has_addresses) placed.are in
-    let addend : c.facts.operands.addend ≡ subject.addend =
-    ap (λ (f : LinkFacts). f.operands.addend) (own.2)
-    ∙ (ap (λ (f : LinkFacts). f.operands.addend) placed.are ∙ sym (ap (λ (q : Subject). q.addend) of.subject_is)) in
-    let entry_is : c.facts.operands.got_entry ≡ sum_64 c.facts.operands.place (2 ^ 63) =
+    let addend : c.facts.operands.addend ≡ high.addend =
+    ap (λ (f : LinkFacts). f.operands.addend) (own.2) ∙ ap (λ (f : LinkFacts). f.operands.addend) placed.are in
+    let entry_is : c.facts.operands.got_entry ≡ far_entry c.facts.operands =
     ap (λ (f : LinkFacts). f.operands.got_entry) (own.2)
-    ∙ sym (ap (λ (f : LinkFacts). sum_64 f.operands.place (2 ^ 63)) (own.2)) in
+    ∙ sym (ap (λ (f : LinkFacts). far_entry f.operands) (own.2)) in
     let h = of_table s.architecture riscv r.code l.section r.offset c.facts chosen c.is_choice c.changed name named is_name in
-    far c.facts.operands entry_is (subst (IsWithin (Some (bit_bounds 63 Signed))) (sym addend) near)
+    far c.facts.operands entry_is (subst (λ z. cast_unsigned w64 z < 2 ^ 64) (sym addend) (bits_below (from_le_bytes w64 (drop 16 (take 24 (drop (of.high * 24) l.relocations))))))
     (reaches name kind l.section r.offset c.facts h.named (ap (kind_in kind) (sym is ∙ h.kind_is)) known (riscv_entries name) each h.applies)
 
 pub none_is_initial_exec : NoneIsInitialExec

@@ -1,27 +1,23 @@
 -- RISC-V: rewritten instructions are groups of the simulation. Old has the object's, with the
 -- values of their relocations, and new what became of them (RISC-V ELF psABI, "PC-Relative Symbol
 -- Addresses", "Local-Exec TLS Relaxation", "TLS Descriptors -> Local Exec Relaxation").
-use Rattle.std.specs.Prelude.{◌≡◌, ◌≢◌, ℕ, ◌+◌, ◌*◌, ◌<◌, ◌^◌, List}
-use Rattle.std.specs.Prelude.{Some, IsSomeAnd, slice_get, true}
-use Rattle.linker_elf.specs.Elf.{IsWithin, bit_bounds}
+use Rattle.std.specs.Prelude.{◌≡◌, ◌≢◌, ℕ, ◌+◌, ◌*◌, ◌<◌, ◌^◌, List, Some, IsSomeAnd, slice_get}
+use Rattle.std.specs.Prelude.{true}
 use Rattle.linker_final.specs.Imports.{IsNameOf, code_of, riscv_name, riscv_row, sum_64}
 use Rattle.linker_final.specs.Imports.{RelocationKindInfo, Choice, Operands, RiscVRelocation}
 use Rattle.linker_final.specs.Imports.{loaded, Action, register, rs1_of, IsLowOffset, offset_row}
 use Rattle.linker_final.specs.Imports.{AreBefore, AreDeleted, Code, Has, Stands, link, seen}
-use Rattle.linker_final.specs.Imports.{upper_from, put, with_register, Group, Kinds}
-use Rattle.linker_final.specs.Imports.{State, anything, of_link, same, AreAddresses}
-use Rattle.linker_final.specs.Imports.{entry_and_addend, symbol_address, decision_at}
-use Rattle.linker_final.specs.Imports.{RewrittenWithSymbol, Rewritten, Subject, rd_of}
-use Rattle.linker_final.specs.Imports.{relocation_in, operands_with, Symbol, Rela, Relaxation}
-use Rattle.linker_final.specs.Imports.{RiscV}
-use Rattle.linker_elf.specs.declared.elf.Sign.TheVariants.{Signed}
+use Rattle.linker_final.specs.Imports.{upper_from, put, with_register, Group, Kinds, State}
+use Rattle.linker_final.specs.Imports.{anything, of_link, same, AreAddresses, entry_and_addend}
+use Rattle.linker_final.specs.Imports.{symbol_address, decision_at, RewrittenWithSymbol, Rewritten}
+use Rattle.linker_final.specs.Imports.{Subject, rd_of, relocation_in, operands_with, Symbol, Rela}
+use Rattle.linker_final.specs.Imports.{Relaxation, RiscV}
 use Rattle.linker_elf.specs.declared.riscv64.relocations.RiscVRelocation.TheVariants as names
 use Rattle.linker_final.specs.Final.{AreRewritten, Linked, count, instruction_at}
-use Rattle.linker_laws.specs.RiscVRewriteLaws.{HaveOneOffset, HaveOneTarget}
-use Rattle.linker_laws.specs.RiscVRewriteLaws.{of_entry, word_of}
+use Rattle.linker_laws.specs.RiscVRewriteLaws.{HaveOneOffset, HaveOneTarget, of_entry, word_of}
+use Rattle.linker_laws.specs.RiscVRewriteLaws.{after_rewrite, thread_offset}
 use Rattle.linker_laws.specs.RiscVGroups.{AreNops, Descriptor, IsLeftOut, LeavesAddress}
 use Rattle.linker_laws.specs.RiscVGroups.{LoadFromGot, LowPartBy}
-use Rattle.linker_laws.specs.RiscVRewriteLaws.{after_rewrite, thread_offset}
 use Rattle.linker_laws.specs.Simulation.{AreOf, Kind}
 use Rattle.linker_rewriting.specs.Decisions.{deleted_of}
 use Rattle.linker_rewriting.specs.RiscVPcrelGroups.{IsHighIn}
@@ -196,14 +192,13 @@ OffsetsAreLow =
     × OffsetsAreLowOf names.R_RISCV_TPREL_LO12_S
 
 -- No instruction of a TLS descriptor becomes one of initial-exec, whose entry of the GOT is out of
--- reach when rewrites are chosen. Its addend is a number of 63 bits.
+-- reach when rewrites are chosen.
 abbrev pub IsNotRewrittenBy : RiscVRelocation → RewriteKind → Type 0
 IsNotRewrittenBy name kind =
     (l : Linked) → AreRewritten l → l.context.architecture ≡ RiscV
     → (i : ℕ) (chosen : Choice Relaxation ℕ) (subject : Subject) → i < count l
     → IsNameOf riscv_name (relocation_in l.relocations i).code name
     → decision_at l.decisions i ≡ RewrittenWithSymbol chosen subject
-    → IsWithin (Some (bit_bounds 63 Signed)) subject.addend
     → chosen.kind ≢ relaxations.RiscV kind
 
 abbrev pub NoneIsInitialExec : Type 0

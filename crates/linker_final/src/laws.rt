@@ -70,9 +70,9 @@ pub fn aarch64_sections()
 /// load from the GOT or of a TLS descriptor. Those with a law are each load of an address that
 /// became a sum of the place and the distance, or `lui` and `addi` of the address, or `addi` alone,
 /// each low part of an offset that is over the thread pointer, and each sequence of a descriptor
-/// that became one of local-exec. None becomes one of initial-exec, if its addend has 63 bits. The
-/// high part and the sum of such an offset are deleted: new has nothing of them. The offset had 12
-/// bits when rewrites were chosen.
+/// that became one of local-exec. None becomes one of initial-exec. The high part and the sum of
+/// such an offset are deleted: new has nothing of them. The offset had 12 bits when rewrites were
+/// chosen.
 ///
 /// New is any code that has what became of them with the values of the relocations that are left,
 /// wherever that goes. Or it has the section's final bytes, or those of the section that was packed

@@ -3,11 +3,13 @@
 use Rattle.std.specs.Prelude.{◌≡◌, ℕ, ◌<◌, ◌/◌, ◌^◌, ◌⊎◌, ◌&&◌, ◌==◌, Bool, true, false, List}
 use Rattle.std.specs.Prelude.{length, Option, Some, None, if◌then◌else◌, slice_get, nat_le, not}
 use Rattle.std.specs.Prelude.{◌-◌}
+use Rattle.std.specs.Int.{w64, cast_unsigned}
 use Rattle.linker_elf.specs.ElfNames.{code_of}
 use Rattle.linker_elf.specs.RiscVRelocations.{riscv_name}
 use Rattle.linker_elf.specs.Value.{sum_64, difference_64}
 use Rattle.linker_elf.specs.declared.elf.choice.Choice.{Choice}
 use Rattle.linker_elf.specs.declared.elf.choice.LinkFacts.{LinkFacts}
+use Rattle.linker_elf.specs.declared.elf.value.Operands.{Operands}
 use Rattle.linker_elf.specs.declared.riscv64.relocations.RiscVRelocation.TheVariants as riscv64
 use Rattle.linker_rewriting.specs.Candidates.{IsCandidateWith}
 use Rattle.linker_rewriting.specs.Facts.{RelaxContext, link_facts}
@@ -104,13 +106,15 @@ is_label_marked architecture TlsLocalExec bytes n r high =
     is_marked_at architecture bytes high (relocation_in bytes high)
 is_label_marked architecture phase bytes n r high = is_marked_at architecture bytes n r
 
+-- G, where G + A is 2^63 bytes from the place
+abbrev pub far_entry : Operands → ℕ
+far_entry o = difference_64 (sum_64 o.place (2 ^ 63)) (cast_unsigned w64 o.addend)
+
 -- No entry of the GOT is in reach: no rewrite makes one.
 abbrev pub without_entry : Option LinkFacts → Option LinkFacts
 without_entry None = None
 without_entry (Some facts) =
-    Some (record facts {
-      operands = record facts.operands { got_entry = sum_64 facts.operands.place (2 ^ 63) };
-    })
+    Some (record facts { operands = record facts.operands { got_entry = far_entry facts.operands } })
 
 -- what all of a label are chosen by: the symbol, the addend and the place of the high part
 abbrev pub label_facts : RelaxContext → List ℕ → ℕ → Rela → ℕ → Option LinkFacts

@@ -14,8 +14,8 @@ ghost use Rattle.linker_rewriting.specs.RiscVPcrelGroups.{high_code, IsHighAt, l
 ghost use Rattle.linker_rewriting.specs.RiscVPcrelGroups.{IsHighOf, offset_of_label, is_beyond};
 ghost use Rattle.linker_rewriting.specs.RiscVPcrelGroups.{searched, is_labelled, IsInLabel};
 ghost use Rattle.linker_rewriting.specs.RiscVPcrelGroups.{is_label_marked, has_labels};
-ghost use Rattle.linker_rewriting.specs.RiscVPcrelGroups.{without_entry, IsLabelCandidate};
-ghost use Rattle.linker_rewriting.specs.RiscVPcrelGroups.{IsLacking};
+ghost use Rattle.linker_rewriting.specs.RiscVPcrelGroups.{far_entry, without_entry};
+ghost use Rattle.linker_rewriting.specs.RiscVPcrelGroups.{IsLabelCandidate, IsLacking};
 ghost use Rattle.linker_rewriting.specs.Notes.{is_note, AreHighsNoted, IsNoteOf, AreLabelsNoted};
 
 use crate::candidates::candidate_by;
@@ -172,6 +172,16 @@ fn is_label_marked(
     }
 }
 
+/// G, where G + A is 2^63 bytes from the place.
+#[inline(always)]
+fn far_entry(operands: &Operands) -> u64
+    ensures { result ≡ far_entry operands.now }
+{
+    let addend = operands.addend.cast_unsigned();
+    let far = operands.place.wrapping_add(0x8000_0000_0000_0000);
+    far.wrapping_sub(addend)
+}
+
 /// The same facts, where no entry of the GOT is in reach.
 #[inline(always)]
 fn without_entry(facts: Option<LinkFacts>) -> Option<LinkFacts>
@@ -180,7 +190,7 @@ fn without_entry(facts: Option<LinkFacts>) -> Option<LinkFacts>
     match facts {
         Some(facts) => Some(LinkFacts {
             operands: Operands {
-                got_entry: facts.operands.place.wrapping_add(0x8000_0000_0000_0000),
+                got_entry: far_entry(&facts.operands),
                 ..facts.operands
             },
             ..facts

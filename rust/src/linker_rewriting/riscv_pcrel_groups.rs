@@ -130,13 +130,21 @@ fn is_label_marked(
     }
 }
 
+/// G, where G + A is 2^63 bytes from the place.
+#[inline(always)]
+fn far_entry(operands: &Operands) -> u64 {
+    let addend = operands.addend as u64;
+    let far = operands.place.wrapping_add(0x8000_0000_0000_0000);
+    far.wrapping_sub(addend)
+}
+
 /// The same facts, where no entry of the GOT is in reach.
 #[inline(always)]
 fn without_entry(facts: Option<LinkFacts>) -> Option<LinkFacts> {
     match facts {
         Some(facts) => Some(LinkFacts {
             operands: Operands {
-                got_entry: facts.operands.place.wrapping_add(0x8000_0000_0000_0000),
+                got_entry: far_entry(&facts.operands),
                 ..facts.operands
             },
             ..facts
