@@ -9,7 +9,7 @@ use Rattle.linker_base.specs.declared.rewrite.DeletedBytes.{DeletedBytes}
 use Rattle.linker_elf.specs.declared.elf.architecture.Architecture.{Architecture}
 use Rattle.linker_utils.specs.Relaxations.{relaxation_rewrite, relaxation_deleted}
 use Rattle.linker_rewriting.specs.Candidates.{deletes_within}
-use Rattle.linker_rewriting.specs.Decisions.{deleted_end, CanBeMade, AreApart, AreApartBy, AreClear, AreAllDecided, AreDecidedBy, Bound, IsMadeBy, IsOverlapping, IsSome, IsWithin, Matches, bound_at, decision_at, is_taken, takes_next, start_at, end_at, start_by, end_by, IsEndAfter}
+use Rattle.linker_rewriting.specs.Decisions.{deleted_end, CanBeMade, AreApart, AreApartBy, AreClear, AreAllDecided, AreDecidedBy, Bound, IsMadeBy, IsOverlapping, IsSome, IsThere, IsWithin, Matches, bound_at, decision_at, is_taken, takes_next, start_at, end_at, start_by, end_by, IsEndAfter}
 use Rattle.linker_rewriting.specs.declared.decisions.Decision.{Decision}
 use Rattle.linker_rewriting.specs.declared.decisions.Decision.TheVariants.{Kept, Consumed, Rewritten, RewrittenWithSymbol}
 use Rattle.linker_section.specs.Relocations.{relocation_in}
@@ -212,15 +212,14 @@ pub by_rule : (Decides : ℕ → Bool → Decision → Type 0) (Is : Rela → Op
     (S E : Bound) (bytes section : List ℕ) (n : ℕ) (taken : Bool) (r : Rela)
     (result : Option Decision) → r ≡ relocation_in bytes n → Is r result
     → ((d : Decision) → Is (relocation_in bytes n) (Some d) → Decides n taken d)
-    → IfSome result (λ d. CanBeMade d section r.offset)
-    → IfSome result (λ d. Matches d section r.offset) → IfSome result (IsWithin S E r.offset)
+    → IfSome result (λ d. IsThere d section r.offset) → IfSome result (IsWithin S E r.offset)
     → IfSome result (IsMadeBy Decides S E bytes section n taken)
-by_rule Decides Is S E bytes section n taken r None same is become can there within = tt
-by_rule Decides Is S E bytes section n taken r (Some d) same is become can there within =
+by_rule Decides Is S E bytes section n taken r None same is become there within = tt
+by_rule Decides Is S E bytes section n taken r (Some d) same is become there within =
     record {
       decides = become d (subst (λ x. Is x (Some d)) same is);
-      made = subst (λ x. CanBeMade d section x.offset) same can;
-      matches = subst (λ x. Matches d section x.offset) same there;
+      made = subst (λ x. CanBeMade d section x.offset) same (there.0);
+      matches = subst (λ x. Matches d section x.offset) same (there.1);
       within = subst (λ x. IsWithin S E x.offset d) same within;
     }
 
@@ -237,10 +236,10 @@ itself o (Some d) = λ some. (omega arith, omega arith)
 
 -- where bytes end that can be made
 pub ends_in : (section : List ℕ) (o : ℕ) (result : Option Decision)
-    → IfSome result (λ d. CanBeMade d section o)
+    → IfSome result (λ d. IsThere d section o)
     → IfSome result (λ d. (limit : ℕ) → o ≤ limit → length section ≤ limit → end_by d o ≤ limit)
-ends_in section o None can = tt
-ends_in section o (Some d) can = λ limit low long. ends_within d section o limit low long can
+ends_in section o None there = tt
+ends_in section o (Some d) there = λ limit low long. ends_within d section o limit low long (there.0)
 
 -- ---- all of a section
 

@@ -1,13 +1,13 @@
 //! Whether the instruction of a relocation can be rewritten, if each other one of its group can.
 
 ghost use Rattle.std.specs.Prelude.{◌≡◌, ◌+◌, ◌<◌, ◌≤◌, slice_get, IfSome, true};
-ghost use Rattle.linker_base.specs.Rewrite.{CanRewrite};
-ghost use Rattle.linker_utils.specs.Relaxations.{relaxation_rewrite, relaxation_skipped};
-ghost use Rattle.linker_utils.specs.Relaxations.{relaxation_deleted, relaxation_matches};
+ghost use Rattle.linker_utils.specs.Relaxations.{relaxation_skipped};
 ghost use Rattle.linker_section.specs.Relocations.{relocation_at};
 ghost use Rattle.linker_rewriting.specs.Candidates.{IsCallIn, IsTaken, IsCandidate, IsMatched};
 ghost use Rattle.linker_rewriting.specs.Candidates.{IsCandidateWith, calls_tls_get_addr, at_base};
 ghost use Rattle.linker_rewriting.specs.Candidates.{deletes_within};
+ghost use Rattle.linker_rewriting.specs.Decisions.{IsThere};
+ghost use Rattle.linker_rewriting.specs.declared.decisions.Decision.TheVariants.{Rewritten};
 ghost use Rattle.linker_rewriting.specs.Facts.{link_facts};
 ghost use Rattle.linker_rewriting.specs.Inner.Contexts.{context_of};
 ghost use Rattle.linker_rewriting.specs.Sequences.{is_marked_in};
@@ -112,12 +112,8 @@ pub(crate) fn candidate_by(
     requires { index + 3 ≤ usize.MAX }
     ensures candidate { IsCandidateWith (context_of context.now) relocations.now section.now index
         relocation.now facts.now result }
-    ensures matches { IfSome result (λ chosen. relaxation_matches chosen.kind section.now
-        relocation.now.offset) }
-    ensures rewritable { IfSome result (λ chosen. CanRewrite (relaxation_rewrite chosen.kind)
-        section.now relocation.now.offset) }
-    ensures deletes { IfSome result (λ chosen. deletes_within section.now relocation.now.offset
-        (relaxation_deleted chosen.kind) ≡ true) }
+    ensures there { IfSome result
+        (λ chosen. IsThere (Rewritten chosen) section.now relocation.now.offset) }
 {
     let Some(facts) = facts else {
         return None;
@@ -173,12 +169,8 @@ pub(crate) fn candidate(
     requires { index + 3 ≤ usize.MAX }
     ensures candidate { IsCandidate (context_of context.now) relocations.now section.now index
         relocation.now result }
-    ensures matches { IfSome result (λ chosen. relaxation_matches chosen.kind section.now
-        relocation.now.offset) }
-    ensures rewritable { IfSome result (λ chosen. CanRewrite (relaxation_rewrite chosen.kind)
-        section.now relocation.now.offset) }
-    ensures deletes { IfSome result (λ chosen. deletes_within section.now relocation.now.offset
-        (relaxation_deleted chosen.kind) ≡ true) }
+    ensures there { IfSome result
+        (λ chosen. IsThere (Rewritten chosen) section.now relocation.now.offset) }
 {
     let facts = own_facts(context, relocations, index, relocation);
     candidate_by(context, relocations, section, index, relocation, &facts)

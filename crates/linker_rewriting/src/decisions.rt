@@ -4,12 +4,11 @@ ghost use Rattle.std.specs.Prelude.{◌≡◌, ◌<◌, ◌≤◌, ◌+◌, ◌-
 ghost use Rattle.std.specs.Prelude.{OnOk, IfOk, All, take, drop, true, false};
 ghost use Rattle.linker_rewriting.specs.declared.decisions.Decision.{Decision as decisions};
 ghost use Rattle.linker_section.specs.Relocations.{relocation_in, relocation_at};
-ghost use Rattle.linker_rewriting.specs.Decisions.{takes_next, window_of, IsDecision, CanBeMade};
+ghost use Rattle.linker_rewriting.specs.Decisions.{takes_next, window_of, IsDecision, IsThere};
 ghost use Rattle.linker_rewriting.specs.Decisions.{deleted_of, deleted_end, start_by, end_by};
 ghost use Rattle.linker_rewriting.specs.Decisions.{AreAllDecided, IsDecidedAfter, IsNotSurveyed};
 ghost use Rattle.linker_rewriting.specs.Decisions.{IsEndAfter, IsRejectedIn, IsRewrittenAt};
 ghost use Rattle.linker_rewriting.specs.Decisions.{label_decision, IsLabelDecision, takes_symbol};
-ghost use Rattle.linker_rewriting.specs.Decisions.{Matches};
 ghost use Rattle.linker_rewriting.specs.Inner.Contexts.{context_of};
 ghost use Rattle.linker_rewriting.specs.Inner.Calls.{IsLeft};
 ghost use Rattle.linker_rewriting.specs.Inner.Left.{AreKept};
@@ -328,8 +327,7 @@ fn decide_label(
         stays }
     ensures decision { IsLabelDecision (context_of context.now) relocations.now section.now index
         relocation.now result }
-    ensures made { CanBeMade result section.now relocation.now.offset }
-    ensures matches { Matches result section.now relocation.now.offset }
+    ensures there { IsThere result section.now relocation.now.offset }
 {
     if stays {
         return Decision::Kept;
@@ -361,8 +359,7 @@ fn decide(
         IsLabelNote (context_of context.now) relocations.now section.now relocation.now stays }
     ensures decision { IsDecision (context_of context.now) kept.now relocations.now section.now
         index relocation.now result }
-    ensures made { IfSome result (λ d. CanBeMade d section.now relocation.now.offset) }
-    ensures matches { IfSome result (λ d. Matches d section.now relocation.now.offset) }
+    ensures there { IfSome result (λ d. IsThere d section.now relocation.now.offset) }
 {
     let is_grouped = match scope_in(context.architecture, context.phase, relocation.code) {
         Scope::NotRelaxable => return Some(Decision::Kept),

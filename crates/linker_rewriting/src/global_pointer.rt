@@ -6,8 +6,8 @@ ghost use Rattle.std.specs.Prelude.{IfSome, IfErr, IfOk, OnOk, OnErr, All, IsTru
 ghost use Rattle.std.specs.Prelude.{◌==◌, true, MatchOption, None, ⊤};
 ghost use Rattle.std.specs.Int.{w32, from_le_bytes};
 ghost use Rattle.linker_rewriting.specs.Agreement.{Agree, IsContradiction};
-ghost use Rattle.linker_rewriting.specs.Decisions.{AllCanBeMade, AreClear, CanBeMade, IsWithin};
-ghost use Rattle.linker_rewriting.specs.Decisions.{Matches, deletions_by, IsRejectedFirst};
+ghost use Rattle.linker_rewriting.specs.Decisions.{AllCanBeMade, AreClear, IsThere, IsWithin};
+ghost use Rattle.linker_rewriting.specs.Decisions.{deletions_by, IsRejectedFirst};
 ghost use Rattle.linker_rewriting.specs.Facts.{context};
 ghost use Rattle.linker_rewriting.specs.Inner.Contexts.{context_of};
 ghost use Rattle.linker_rewriting.specs.GlobalPointer.{part_of, IsLabelled, IsSubject, IsMember};
@@ -452,8 +452,7 @@ fn decide_part(
     requires ascending { IsTrue rule.now.parts.ascends ↔ IsAscending relocations.now }
     ensures decision { IsPartDecided (context_of rule.now.parts.context.now) rule.now.parts.gp
         rule.now.kept.now relocations.now section.now index relocation.now result }
-    ensures made { IfSome result (λ d. CanBeMade d section.now relocation.now.offset) }
-    ensures matches { IfSome result (λ d. Matches d section.now relocation.now.offset) }
+    ensures there { IfSome result (λ d. IsThere d section.now relocation.now.offset) }
     ensures within { IfSome result (IsWithin part_start part_end relocation.now.offset) }
     ensures ends { IfSome result (λ d. (limit : ℕ) → relocation.now.offset ≤ limit
         → length section.now ≤ limit → part_end d relocation.now.offset ≤ limit) }

@@ -2,13 +2,9 @@
 
 ghost use Rattle.std.specs.Prelude.{◌≡◌, ◌+◌, ◌<◌, ◌≤◌, ◌/◌, ◌⊎◌, ℕ, length, IfSome, true, map};
 ghost use Rattle.std.specs.Prelude.{drop, take, All, slice_get};
-ghost use Rattle.linker_base.specs.Rewrite.{CanRewrite};
-ghost use Rattle.linker_utils.specs.Relaxations.{relaxation_rewrite, relaxation_deleted};
-ghost use Rattle.linker_utils.specs.Relaxations.{relaxation_matches};
 ghost use Rattle.linker_section.specs.Relocations.{relocation_in};
 ghost use Rattle.linker_section.specs.Values.{IsAscending};
-ghost use Rattle.linker_rewriting.specs.Candidates.{deletes_within};
-ghost use Rattle.linker_rewriting.specs.Decisions.{decision_at};
+ghost use Rattle.linker_rewriting.specs.Decisions.{IsThere, decision_at};
 ghost use Rattle.linker_rewriting.specs.Inner.Contexts.{context_of};
 ghost use Rattle.linker_rewriting.specs.RiscVPcrelGroups.{high_code, IsHighAt, label_offset};
 ghost use Rattle.linker_rewriting.specs.RiscVPcrelGroups.{IsHighOf, offset_of_label, is_beyond};
@@ -213,12 +209,8 @@ pub(crate) fn label_candidate(
     requires high { high < length relocations.now / 24 }
     ensures candidate { IsLabelCandidate (context_of context.now) relocations.now section.now index
         relocation.now high result }
-    ensures matches { IfSome result (λ chosen. relaxation_matches chosen.kind section.now
-        relocation.now.offset) }
-    ensures rewritable { IfSome result (λ chosen. CanRewrite (relaxation_rewrite chosen.kind)
-        section.now relocation.now.offset) }
-    ensures deletes { IfSome result (λ chosen. deletes_within section.now relocation.now.offset
-        (relaxation_deleted chosen.kind) ≡ true) }
+    ensures there { IfSome result
+        (λ chosen. IsThere (Decision.Rewritten chosen) section.now relocation.now.offset) }
 {
     let part = relocation_in(relocations, high);
     let marked = is_label_marked(context, relocations, index, relocation, high);

@@ -4,11 +4,8 @@
 
 ghost use Rattle.std.specs.Prelude.{◌≡◌, ◌⊎◌, ◌↔◌, ◌+◌, ◌<◌, ◌≤◌, ◌/◌, ℕ, length, map, take, drop};
 ghost use Rattle.std.specs.Prelude.{IfSome, IfErr, OnOk, OnErr, All, true, ⊤};
-ghost use Rattle.linker_base.specs.Rewrite.{CanRewrite};
 ghost use Rattle.linker_rewriting.specs.Agreement.{Agree, IsContradiction};
-ghost use Rattle.linker_rewriting.specs.Candidates.{deletes_within};
-ghost use Rattle.linker_rewriting.specs.Decisions.{AreApart, AreClear, CanBeMade, Matches};
-ghost use Rattle.linker_rewriting.specs.Decisions.{start_by, end_by};
+ghost use Rattle.linker_rewriting.specs.Decisions.{AreApart, AreClear, IsThere, start_by, end_by};
 ghost use Rattle.linker_rewriting.specs.Facts.{context};
 ghost use Rattle.linker_rewriting.specs.Inner.Contexts.{context_of};
 ghost use Rattle.linker_rewriting.specs.Inner.TocIndirection.{IsThatWord, with_code};
@@ -21,8 +18,6 @@ ghost use Rattle.linker_rewriting.specs.TocIndirection.{IsLoadDecided, AreLoadsD
 ghost use Rattle.linker_rewriting.specs.TocIndirection.{MeansWordsUnsurveyed};
 ghost use Rattle.linker_rewriting.specs.TocIndirection.{AreLoadsRejectedFirst, WordsAreWhole};
 ghost use Rattle.linker_section.specs.Relocations.{relocation_in};
-ghost use Rattle.linker_utils.specs.Relaxations.{relaxation_rewrite, relaxation_deleted};
-ghost use Rattle.linker_utils.specs.Relaxations.{relaxation_matches};
 
 use crate::agreement::contradiction;
 use crate::candidates::candidate_by;
@@ -144,12 +139,8 @@ fn load_candidate(
     requires within { load.1 < length words.now.relocations.now / 24 }
     ensures candidate { IsLoadCandidate (context_of words.now.context.now)
         words.now.relocations.now relocations.now section.now index relocation.now load result }
-    ensures matches { IfSome result (λ chosen. relaxation_matches chosen.kind section.now
-        relocation.now.offset) }
-    ensures rewritable { IfSome result (λ chosen. CanRewrite (relaxation_rewrite chosen.kind)
-        section.now relocation.now.offset) }
-    ensures deletes { IfSome result (λ chosen. deletes_within section.now relocation.now.offset
-        (relaxation_deleted chosen.kind) ≡ true) }
+    ensures there { IfSome result
+        (λ chosen. IsThere (Decision.Rewritten chosen) section.now relocation.now.offset) }
 {
     let (entry, word) = load;
     let word = relocation_in(words.relocations, word);
@@ -337,8 +328,7 @@ fn decide_load(
     ensures decision { IsLoadDecided (context_of rule.now.words.context.now) rule.now.words.start
         rule.now.words.relocations.now rule.now.kept.now relocations.now section.now index
         relocation.now result }
-    ensures made { IfSome result (λ d. CanBeMade d section.now relocation.now.offset) }
-    ensures matches { IfSome result (λ d. Matches d section.now relocation.now.offset) }
+    ensures there { IfSome result (λ d. IsThere d section.now relocation.now.offset) }
 {
     let words = &rule.words;
     let Some(load) = load_of(words, relocation) else {

@@ -1,9 +1,6 @@
-use Rattle.std.proofs.Common.{◌≡◌, inl, refl, subst, sym, true}
+use Rattle.std.proofs.Common.{inl, refl, subst, sym}
 use Rattle.std.specs.Prelude.{IfSome}
-use Rattle.linker_base.specs.Rewrite.{CanRewrite}
-use Rattle.linker_utils.specs.Relaxations.{relaxation_rewrite, relaxation_deleted, relaxation_matches}
-use Rattle.linker_rewriting.specs.Candidates.{deletes_within}
-use Rattle.linker_rewriting.specs.Decisions.{CanBeMade, Matches}
+use Rattle.linker_rewriting.specs.Decisions.{IsThere}
 use Rattle.linker_rewriting.specs.Inner.Contexts.{context_of}
 use Rattle.linker_rewriting.specs.declared.decisions.Decision.{Decision}
 use Rattle.linker_rewriting.specs.declared.decisions.Decision.TheVariants.{Rewritten}
@@ -22,22 +19,12 @@ returns-in-Some-label_candidate-clause-decision c =
     c.in-Some-label_candidate.is c.label_candidate.ensures.candidate)
     c.relocation_in.ensures c.label_decision.ensures
 
-pub returns-in-Some-label_candidate-clause-made : goal.returns-in-Some-label_candidate-clause-made
-returns-in-Some-label_candidate-clause-made c =
+pub returns-in-Some-label_candidate-clause-there : goal.returns-in-Some-label_candidate-clause-there
+returns-in-Some-label_candidate-clause-there c =
     let a = c.args in
-    let Can : Decision → Type 0 = λ d. CanBeMade d a.section.now a.relocation.now.offset in
-    let can : Can (Rewritten c.in-Some-label_candidate.chosen) = (
-      subst (λ x. IfSome x (λ y. CanRewrite (relaxation_rewrite y.kind) a.section.now a.relocation.now.offset)) c.in-Some-label_candidate.is c.label_candidate.ensures.rewritable,
-      subst (λ x. IfSome x (λ y. deletes_within a.section.now a.relocation.now.offset (relaxation_deleted y.kind) ≡ true)) c.in-Some-label_candidate.is c.label_candidate.ensures.deletes,
-    ) in
-    subst Can (sym c.label_decision.ensures)
-    (either_label Can a.context.now.phase c.in-Some-label_candidate.chosen c.relocation_in.result can can)
-
-pub returns-in-Some-label_candidate-clause-matches : goal.returns-in-Some-label_candidate-clause-matches
-returns-in-Some-label_candidate-clause-matches c =
-    let a = c.args in
-    let there = subst (λ x. IfSome x (λ y. relaxation_matches y.kind a.section.now a.relocation.now.offset)) c.in-Some-label_candidate.is c.label_candidate.ensures.matches in
-    let There : Decision → Type 0 = λ d. Matches d a.section.now a.relocation.now.offset in
+    let There : Decision → Type 0 = λ d. IsThere d a.section.now a.relocation.now.offset in
+    let there : There (Rewritten c.in-Some-label_candidate.chosen) =
+    subst (λ x. IfSome x (λ y. There (Rewritten y))) c.in-Some-label_candidate.is c.label_candidate.ensures.there in
     subst There (sym c.label_decision.ensures)
     (either_label There a.context.now.phase c.in-Some-label_candidate.chosen c.relocation_in.result there there)
 

@@ -1,6 +1,6 @@
 use Rattle.std.proofs.Common.{ℕ, ◌≤◌, ◌∙◌, length, None, Some, refl, subst, sym}
 use Rattle.linker_rewriting.proofs.GlobalPointer.{member_made, member_ends, part_bytes, part_decided, part_kept, part_undecided, part_matches}
-use Rattle.linker_rewriting.specs.Decisions.{CanBeMade, IsWithin, Matches}
+use Rattle.linker_rewriting.specs.Decisions.{IsThere, IsWithin}
 use Rattle.linker_rewriting.specs.GlobalPointer.{IsMember, part_start, part_end}
 use Rattle.linker_rewriting.specs.Inner.Contexts.{context_of}
 use Rattle.linker_rewriting.proofs.global_pointer.decide_part.Goals as goal
@@ -56,19 +56,16 @@ returns-else-fits-clause-decision c =
           (sym c.word_stays.ensures ∙ c.if-word_stays.false) (sym c.fits.ensures ∙ c.if-fits.false);
     }
 
-pub returns-then-fits-clause-made : goal.returns-then-fits-clause-made
-returns-then-fits-clause-made c =
+pub returns-then-fits-clause-there : goal.returns-then-fits-clause-there
+returns-then-fits-clause-there c =
     let a = c.args in
     let p = a.rule.now.parts in
-    subst (λ d. CanBeMade d a.section.now a.relocation.now.offset) (sym c.part_decision.ensures)
-    (member_made (context_of p.context.now) p.gp p.ascends a.relocations.now a.section.now a.index a.relocation.now c.in-Some.member (sym c.fits.ensures ∙ c.if-fits.true))
-
-pub returns-then-fits-clause-matches : goal.returns-then-fits-clause-matches
-returns-then-fits-clause-matches c =
-    let a = c.args in
-    let p = a.rule.now.parts in
-    subst (λ d. Matches d a.section.now a.relocation.now.offset) (sym c.part_decision.ensures)
-    (part_matches (context_of p.context.now) p.gp p.ascends a.relocations.now a.section.now a.index a.relocation.now c.in-Some.member (sym c.fits.ensures ∙ c.if-fits.true))
+    let s = context_of p.context.now in
+    let fit = sym c.fits.ensures ∙ c.if-fits.true in
+    subst (λ d. IsThere d a.section.now a.relocation.now.offset) (sym c.part_decision.ensures) (
+      member_made s p.gp p.ascends a.relocations.now a.section.now a.index a.relocation.now c.in-Some.member fit,
+      part_matches s p.gp p.ascends a.relocations.now a.section.now a.index a.relocation.now c.in-Some.member fit,
+    )
 
 pub returns-then-fits-clause-within : goal.returns-then-fits-clause-within
 returns-then-fits-clause-within c =

@@ -25,7 +25,7 @@ returns-clause-decided c =
     start_by end_by a.relocations.now a.section.now a.index a.is_taken a.relocation.now c.decide.result
     c.requires.there e.decision
     (λ d is. subst (λ t. IsDecidedAfter s a.self.now.kept.now a.relocations.now a.section.now a.index t d) (sym c.if-is_taken.false) is)
-    e.made e.matches (itself a.relocation.now.offset c.decide.result)
+    e.there (itself a.relocation.now.offset c.decide.result)
 
 pub returns-clause-lacking : goal.returns-clause-lacking
 returns-clause-lacking c =
@@ -35,7 +35,7 @@ returns-clause-lacking c =
 
 pub returns-clause-ends : goal.returns-clause-ends
 returns-clause-ends c =
-    ends_in c.args.section.now c.args.relocation.now.offset c.decide.result c.decide.ensures.made
+    ends_in c.args.section.now c.args.relocation.now.offset c.decide.result c.decide.ensures.there
 
 pub decide-requires-clause-noted : goal.decide-requires-clause-noted
 decide-requires-clause-noted c in_label =

@@ -11,7 +11,7 @@ returns-clause-decided c =
     let e = c.decide_part.ensures in
     by_rule (DecidesPart s p.gp a.self.now.kept.now a.relocations.now a.section.now) (IsPartDecided s p.gp a.self.now.kept.now a.relocations.now a.section.now a.index)
     part_start part_end a.relocations.now a.section.now a.index a._is_taken a.relocation.now c.decide_part.result
-    c.requires.there e.decision (λ d is. is) e.made e.matches e.within
+    c.requires.there e.decision (λ d is. is) e.there e.within
 
 pub returns-clause-lacking : goal.returns-clause-lacking
 returns-clause-lacking c =

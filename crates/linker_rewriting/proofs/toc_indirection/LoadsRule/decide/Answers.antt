@@ -13,7 +13,7 @@ returns-clause-decided c =
     let e = c.decide_load.ensures in
     by_rule (DecidesLoad s w.start w.relocations.now kept a.relocations.now a.section.now) (IsLoadDecided s w.start w.relocations.now kept a.relocations.now a.section.now a.index)
     start_by end_by a.relocations.now a.section.now a.index a._is_taken a.relocation.now c.decide_load.result
-    c.requires.there e.decision (λ d is. is) e.made e.matches (itself a.relocation.now.offset c.decide_load.result)
+    c.requires.there e.decision (λ d is. is) e.there (itself a.relocation.now.offset c.decide_load.result)
 
 pub returns-clause-lacking : goal.returns-clause-lacking
 returns-clause-lacking c =
@@ -25,4 +25,4 @@ returns-clause-lacking c =
 
 pub returns-clause-ends : goal.returns-clause-ends
 returns-clause-ends c =
-    ends_in c.args.section.now c.args.relocation.now.offset c.decide_load.result c.decide_load.ensures.made
+    ends_in c.args.section.now c.args.relocation.now.offset c.decide_load.result c.decide_load.ensures.there
