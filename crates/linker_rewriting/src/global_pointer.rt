@@ -506,11 +506,6 @@ impl Rule for Symbols<'_, '_> {
     ghost end = { part_end };
 
     #[inline(always)]
-    fn leaves(&self, _is_taken: bool, _relocations: &[u8], _index: usize) -> bool {
-        false
-    }
-
-    #[inline(always)]
     fn decide(
         &self,
         _is_taken: bool,

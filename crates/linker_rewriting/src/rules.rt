@@ -38,16 +38,21 @@ pub(crate) trait Rule {
     ghost end: { Bound };
 
     /// Whether no other relocation takes along the one with an index, and it stays whatever its
-    /// instruction is.
-    fn leaves(&self, is_taken: bool, relocations: &[u8], index: usize) -> bool
-        requires within { index < length relocations.now / 24 }
-        requires valid { is_valid self.now relocations.now }
-        ensures not_taken { result ≡ true → is_taken ≡ false }
+    /// instruction is. Unless a rule says so, no test is made before `decide`.
+    #[inline(always)]
+    fn leaves(&self, _is_taken: bool, _relocations: &[u8], _index: usize) -> bool
+        requires within { _index < length _relocations.now / 24 }
+        requires valid { is_valid self.now _relocations.now }
+        ensures not_taken { result ≡ true → _is_taken ≡ false }
         ensures left { result ≡ true → (section : List ℕ) → IsMadeBy
-            (decides self.now relocations.now section) start end relocations.now section index false
-            decisions.Kept }
-        ensures none { result ≡ true → end decisions.Kept (relocation_in relocations.now index).offset
-            ≤ start decisions.Kept (relocation_in relocations.now index).offset };
+            (decides self.now _relocations.now section) start end _relocations.now section _index
+            false decisions.Kept }
+        ensures none { result ≡ true
+            → end decisions.Kept (relocation_in _relocations.now _index).offset
+            ≤ start decisions.Kept (relocation_in _relocations.now _index).offset }
+    {
+        false
+    }
 
     /// What becomes of the relocation with an index. None if its group doesn't stay, but it can't
     /// be rewritten. `stays` is what was noted of it.

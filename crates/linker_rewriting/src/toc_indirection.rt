@@ -362,11 +362,6 @@ impl Rule for Loads<'_, '_> {
     ghost end = { end_by };
 
     #[inline(always)]
-    fn leaves(&self, _is_taken: bool, _relocations: &[u8], _index: usize) -> bool {
-        false
-    }
-
-    #[inline(always)]
     fn decide(
         &self,
         _is_taken: bool,

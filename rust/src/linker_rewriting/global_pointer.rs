@@ -376,11 +376,6 @@ fn part_end(decision: &Decision, offset: u64) -> u64 {
 
 impl Rule for Symbols<'_, '_> {
     #[inline(always)]
-    fn leaves(&self, _is_taken: bool, _relocations: &[u8], _index: usize) -> bool {
-        false
-    }
-
-    #[inline(always)]
     fn decide(
         &self,
         _is_taken: bool,

@@ -13,8 +13,11 @@ use crate::elf::Architecture;
 /// A rule by which relocations are decided: all of a group are rewritten, or none is.
 pub(crate) trait Rule {
     /// Whether no other relocation takes along the one with an index, and it stays whatever its
-    /// instruction is.
-    fn leaves(&self, is_taken: bool, relocations: &[u8], index: usize) -> bool;
+    /// instruction is. Unless a rule says so, no test is made before `decide`.
+    #[inline(always)]
+    fn leaves(&self, _is_taken: bool, _relocations: &[u8], _index: usize) -> bool {
+        false
+    }
 
     /// What becomes of the relocation with an index. None if its group doesn't stay, but it can't
     /// be rewritten. `stays` is what was noted of it.

@@ -300,11 +300,6 @@ fn decide_load(
 
 impl Rule for Loads<'_, '_> {
     #[inline(always)]
-    fn leaves(&self, _is_taken: bool, _relocations: &[u8], _index: usize) -> bool {
-        false
-    }
-
-    #[inline(always)]
     fn decide(
         &self,
         _is_taken: bool,
