@@ -87,7 +87,8 @@ Matches decision section offset = Unit {0}
 
 -- both
 abbrev pub IsThere : Decision → List ℕ → ℕ → Type 0
-IsThere decision section offset = CanBeMade decision section offset × Matches decision section offset
+IsThere decision section offset =
+    CanBeMade decision section offset × Matches decision section offset
 
 abbrev pub decision_of : Option (Choice Relaxation ℕ) → Decision
 decision_of None = Kept

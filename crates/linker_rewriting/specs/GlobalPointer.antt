@@ -16,7 +16,7 @@ use Rattle.linker_riscv64.specs.RiscVFields.{opcode_of, funct3_of, rd_of, rs1_of
 use Rattle.linker_utils.specs.RiscVRewrites.{adds_low12, rewrites_word, with_rs1}
 use Rattle.linker_utils.specs.declared.riscv64.rewrites.RewriteKind.TheVariants as kinds
 use Rattle.linker_rewriting.specs.Decisions.{AreApartBy, AreDecidedBy, IsRejectedBy, IsRejectedWith}
-use Rattle.linker_rewriting.specs.Decisions.{decision_at}
+use Rattle.linker_rewriting.specs.Decisions.{decision_at, AreClear}
 use Rattle.linker_rewriting.specs.Facts.{RelaxContext, address_in}
 use Rattle.linker_rewriting.specs.RiscVPcrelGroups.{IsHighFrom, offset_of_label, is_beyond}
 use Rattle.linker_rewriting.specs.Rewritten.{IsRewritten}
@@ -287,6 +287,15 @@ ArePartsWholeIn s other bytes others_bytes decisions others limit others_limit =
 abbrev pub ArePartsWhole : RelaxContext → List ℕ → List Decision → ℕ → Type 0
 ArePartsWhole s bytes decisions limit =
     ArePartsWholeIn s s bytes bytes decisions decisions limit limit
+
+-- its parts are rewritten as decided, all of a symbol or none
+pub record ArePartsRewrittenAs (s : RelaxContext) (gp : ℕ) (kept : List Bool)
+    (bytes bytes_after section : List ℕ) (decisions : List Decision) : Type 0 where
+  pub decided : ArePartsDecided s gp kept bytes section decisions (length bytes / 24)
+  pub whole : ArePartsWhole s bytes decisions (length bytes / 24)
+  pub apart : ArePartsApart bytes decisions (length bytes / 24)
+  pub clear : AreClear s.architecture bytes section decisions (length bytes / 24)
+  pub relocations : AreRelocationsBy decisions bytes bytes_after (length bytes / 24)
 
 -- of any two sections that are decided by one table
 abbrev pub ArePartsWholeAcross : Type 0

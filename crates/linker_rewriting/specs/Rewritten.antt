@@ -4,7 +4,8 @@ use Rattle.std.specs.Prelude.{Option, None, Some, true, false}
 use Rattle.linker_base.specs.Rewrite.{Rewrite, rewrite_window, rewritten, offset_after}
 use Rattle.linker_base.specs.Rewrite.{addend_after}
 use Rattle.linker_rewriting.specs.Decisions.{decision_at, is_taken, start_at, written_end_at}
-use Rattle.linker_rewriting.specs.Decisions.{AreDecided, AreDecidedIn}
+use Rattle.linker_rewriting.specs.Decisions.{AreDecided, AreDecidedIn, AreApart, AreClear}
+use Rattle.linker_rewriting.specs.Decisions.{AllCanBeMade, AllMatch, AllKeepBytes}
 use Rattle.linker_rewriting.specs.Facts.{RelaxContext}
 use Rattle.linker_rewriting.specs.Groups.{IsInGroupIn, symbol_of_group}
 use Rattle.linker_rewriting.specs.RiscVPcrelGroups.{IsInLabel, IsHighIn}
@@ -137,6 +138,42 @@ GroupsAreWholeAcross =
     ≡ symbol_of_group group (relocation_in others_bytes j).symbol
     → is_taken decisions i ≡ false → is_taken others j ≡ false
     → IsRewritten (decision_at decisions i) → IsRewritten (decision_at others j)
+
+-- ---- a section
+
+-- it is rewritten as decided, all of a group or none
+pub record IsRewrittenAs (s : RelaxContext) (kept : List UnrelaxableGroups)
+    (bytes bytes_after section section_after : List ℕ) (decisions : List Decision) : Type 0 where
+  pub decided : AreDecidedIn s kept bytes section decisions (length bytes / 24)
+  pub groups : GroupsAreWholeIn s.architecture s.phase bytes decisions (length bytes / 24)
+  pub apart : AreApart bytes decisions (length bytes / 24)
+  pub clear : AreClear s.architecture bytes section decisions (length bytes / 24)
+  pub relocations : AreRelocationsAfter decisions bytes bytes_after (length bytes / 24)
+  pub done : AreDone bytes decisions section section_after (length bytes / 24)
+  pub others : OthersStay bytes decisions section section_after (length bytes / 24)
+
+-- it is decided, and neither it nor its relocations are written
+pub record AreDecidedAs (s : RelaxContext) (kept : List UnrelaxableGroups) (bytes section : List ℕ)
+    (decisions : List Decision) (numbers : List ℕ) : Type 0 where
+  pub decided : AreDecidedIn s kept bytes section decisions (length bytes / 24)
+  pub groups : GroupsAreWholeIn s.architecture s.phase bytes decisions (length bytes / 24)
+  pub within : AllCanBeMade bytes section decisions (length bytes / 24)
+  pub matches : AllMatch bytes section decisions (length bytes / 24)
+  pub kept_bytes : AllKeepBytes bytes section decisions numbers (length bytes / 24)
+  pub apart : AreApart bytes decisions (length bytes / 24)
+  pub clear : AreClear s.architecture bytes section decisions (length bytes / 24)
+
+-- it is rewritten as was decided
+pub record AreMadeAs (bytes bytes_after section section_after : List ℕ) (decisions : List Decision)
+    (numbers : List ℕ) : Type 0 where
+  pub enough : length bytes / 24 ≤ length decisions
+  pub within : AllCanBeMade bytes section decisions (length bytes / 24)
+  pub matches : AllMatch bytes section decisions (length bytes / 24)
+  pub kept_bytes : AllKeepBytes bytes section decisions numbers (length bytes / 24)
+  pub apart : AreApart bytes decisions (length bytes / 24)
+  pub relocations : AreRelocationsAfter decisions bytes bytes_after (length bytes / 24)
+  pub done : AreDone bytes decisions section section_after (length bytes / 24)
+  pub others : OthersStay bytes decisions section section_after (length bytes / 24)
 
 -- ---- labels
 

@@ -114,7 +114,9 @@ far_entry o = difference_64 (sum_64 o.place (2 ^ 63)) (cast_unsigned w64 o.adden
 abbrev pub without_entry : Option LinkFacts → Option LinkFacts
 without_entry None = None
 without_entry (Some facts) =
-    Some (record facts { operands = record facts.operands { got_entry = far_entry facts.operands } })
+    Some (record facts {
+      operands = record facts.operands { got_entry = far_entry facts.operands };
+    })
 
 -- what all of a label are chosen by: the symbol, the addend and the place of the high part
 abbrev pub label_facts : RelaxContext → List ℕ → ℕ → Rela → ℕ → Option LinkFacts

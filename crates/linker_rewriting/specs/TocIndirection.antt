@@ -11,10 +11,10 @@ use Rattle.linker_elf.specs.declared.elf.choice.Choice.{Choice}
 use Rattle.linker_elf.specs.declared.ppc64.relocations.Ppc64Relocation.TheVariants as ppc64
 use Rattle.linker_rewriting.specs.Candidates.{IsCandidateWith}
 use Rattle.linker_rewriting.specs.Decisions.{AreDecidedBy, IsRejectedBy, IsRejectedFirst}
-use Rattle.linker_rewriting.specs.Decisions.{decision_at, start_by, end_by}
+use Rattle.linker_rewriting.specs.Decisions.{decision_at, start_by, end_by, AreApart, AreClear}
 use Rattle.linker_rewriting.specs.Facts.{RelaxContext, address_in, link_facts}
 use Rattle.linker_rewriting.specs.RiscVPcrelGroups.{IsHighFrom}
-use Rattle.linker_rewriting.specs.Rewritten.{IsRewritten}
+use Rattle.linker_rewriting.specs.Rewritten.{AreRelocationsAfter, AreDone, IsRewritten, OthersStay}
 use Rattle.linker_rewriting.specs.declared.decisions.Decision.{Decision}
 use Rattle.linker_rewriting.specs.declared.decisions.Decision.TheVariants.{Kept}
 use Rattle.linker_rewriting.specs.declared.decisions.Decision.TheVariants.{RewrittenWithSymbol}
@@ -231,6 +231,17 @@ WordsAreWholeIn s other start words bytes others_bytes decisions others limit ot
 abbrev pub WordsAreWhole : RelaxContext → ℕ → List ℕ → List ℕ → List Decision → ℕ → Type 0
 WordsAreWhole s start words bytes decisions limit =
     WordsAreWholeIn s s start words bytes bytes decisions decisions limit limit
+
+-- its loads are rewritten as decided, all of a word or none
+pub record AreLoadsRewrittenAs (s : RelaxContext) (start : ℕ) (words : List ℕ) (kept : List Bool)
+    (bytes bytes_after section section_after : List ℕ) (decisions : List Decision) : Type 0 where
+  pub decided : AreLoadsDecided s start words kept bytes section decisions (length bytes / 24)
+  pub whole : WordsAreWhole s start words bytes decisions (length bytes / 24)
+  pub apart : AreApart bytes decisions (length bytes / 24)
+  pub clear : AreClear s.architecture bytes section decisions (length bytes / 24)
+  pub relocations : AreRelocationsAfter decisions bytes bytes_after (length bytes / 24)
+  pub done : AreDone bytes decisions section section_after (length bytes / 24)
+  pub others : OthersStay bytes decisions section section_after (length bytes / 24)
 
 -- of any two sections that are decided by one table
 abbrev pub WordsAreWholeAcross : Type 0

@@ -6,7 +6,7 @@ ghost use Rattle.std.specs.Prelude.{IfSome, IfErr, IfOk, OnOk, OnErr, All, IsTru
 ghost use Rattle.std.specs.Prelude.{◌==◌, true, MatchOption, None, ⊤};
 ghost use Rattle.std.specs.Int.{w32, from_le_bytes};
 ghost use Rattle.linker_rewriting.specs.Agreement.{Agree, IsContradiction};
-ghost use Rattle.linker_rewriting.specs.Decisions.{AllCanBeMade, AreClear, IsThere, IsWithin};
+ghost use Rattle.linker_rewriting.specs.Decisions.{AllCanBeMade, IsThere, IsWithin};
 ghost use Rattle.linker_rewriting.specs.Decisions.{deletions_by, IsRejectedFirst};
 ghost use Rattle.linker_rewriting.specs.Facts.{context};
 ghost use Rattle.linker_rewriting.specs.Inner.Contexts.{context_of};
@@ -16,10 +16,9 @@ ghost use Rattle.linker_rewriting.specs.GlobalPointer.{is_reached, is_high_word,
 ghost use Rattle.linker_rewriting.specs.GlobalPointer.{is_low_word, is_expected, fits};
 ghost use Rattle.linker_rewriting.specs.GlobalPointer.{IsKeepingSymbol, part_decision};
 ghost use Rattle.linker_rewriting.specs.GlobalPointer.{AreSymbolsSurveyed, IsPartDecided};
-ghost use Rattle.linker_rewriting.specs.GlobalPointer.{ArePartsDecided, ArePartsRejected};
+ghost use Rattle.linker_rewriting.specs.GlobalPointer.{ArePartsRewrittenAs, ArePartsRejected};
 ghost use Rattle.linker_rewriting.specs.GlobalPointer.{MeansSymbolsUnsurveyed, relocation_by};
-ghost use Rattle.linker_rewriting.specs.GlobalPointer.{AreRelocationsBy, ArePartsWhole};
-ghost use Rattle.linker_rewriting.specs.GlobalPointer.{ArePartsApart, part_start, part_end};
+ghost use Rattle.linker_rewriting.specs.GlobalPointer.{AreRelocationsBy, part_start, part_end};
 ghost use Rattle.linker_rewriting.specs.GlobalPointer.{DecidesPart, low_code, base_for, base_of};
 ghost use Rattle.linker_rewriting.specs.GlobalPointer.{is_placed, based_relocation, based_section};
 ghost use Rattle.linker_rewriting.specs.GlobalPointer.{section_based, AreBased, IsFirstUnplaced};
@@ -632,20 +631,11 @@ pub fn rewrite_global_pointer<D: AsDecision, L: FromDeletion>(
     deleted: &mut [L],
 ) -> Result<usize, RewritingError>
     ensures agree { OnOk result (Agree symbols.now values.now relocations.old) }
-    ensures decided { OnOk result (ArePartsDecided (context architecture Phase.ShortPcRel output.now
-        symbols.now addresses.now values.now) gp kept.now relocations.old section.now
-        (map D.decision decisions.new) (length relocations.old / 24)) }
-    ensures symbols { OnOk result (ArePartsWhole (context architecture Phase.ShortPcRel output.now
-        symbols.now addresses.now values.now) relocations.old (map D.decision decisions.new)
-        (length relocations.old / 24)) }
+    ensures rewritten { OnOk result (ArePartsRewrittenAs (context architecture Phase.ShortPcRel
+        output.now symbols.now addresses.now values.now) gp kept.now relocations.old
+        relocations.new section.now (map D.decision decisions.new)) }
     ensures within { OnOk result (AllCanBeMade relocations.old section.now
         (map D.decision decisions.new) (length relocations.old / 24)) }
-    ensures apart { OnOk result (ArePartsApart relocations.old (map D.decision decisions.new)
-        (length relocations.old / 24)) }
-    ensures clear { OnOk result (AreClear architecture relocations.old section.now
-        (map D.decision decisions.new) (length relocations.old / 24)) }
-    ensures relocations { OnOk result (AreRelocationsBy (map D.decision decisions.new)
-        relocations.old relocations.new (length relocations.old / 24)) }
     ensures listed { IfOk result (λ len. take len (map L.deletion deleted.new)
         ≡ deletions_by relocations.old (map D.decision decisions.new)
         (length relocations.old / 24)) }

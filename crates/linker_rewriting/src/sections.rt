@@ -4,16 +4,14 @@ ghost use Rattle.std.specs.Prelude.{◌≡◌, ◌<◌, ◌≤◌, ◌/◌, ℕ,
 ghost use Rattle.std.specs.Prelude.{IfNone, OnOk, OnErr, All, map, drop, false};
 ghost use Rattle.linker_section.specs.Relocations.{relocation_in};
 ghost use Rattle.linker_rewriting.specs.Agreement.{Agree};
-ghost use Rattle.linker_rewriting.specs.Decisions.{AreClear, CanBeMade, AllCanBeMade, AreDecided};
-ghost use Rattle.linker_rewriting.specs.Decisions.{AreApart, AreDecidedIn, IsRejected};
+ghost use Rattle.linker_rewriting.specs.Decisions.{CanBeMade, AllCanBeMade, AreApart, IsRejected};
 ghost use Rattle.linker_rewriting.specs.Decisions.{IsRejectedPlaced, decision_at, deleted_of};
-ghost use Rattle.linker_rewriting.specs.Decisions.{deleted_end, deletions_by, AllMatch};
-ghost use Rattle.linker_rewriting.specs.Decisions.{AllKeepBytes, IsUnmade};
+ghost use Rattle.linker_rewriting.specs.Decisions.{deleted_end, deletions_by, IsUnmade};
 ghost use Rattle.linker_rewriting.specs.Facts.{pre_layout, context};
 ghost use Rattle.linker_rewriting.specs.Inner.Left.{AreKept};
 ghost use Rattle.linker_rewriting.specs.Rewritten.{section_after, relocation_after, AreDone};
-ghost use Rattle.linker_rewriting.specs.Rewritten.{AreRelocationsAfter, OthersStay, GroupsAreWhole};
-ghost use Rattle.linker_rewriting.specs.Rewritten.{GroupsAreWholeIn, LabelsAreWhole};
+ghost use Rattle.linker_rewriting.specs.Rewritten.{AreRelocationsAfter, OthersStay, IsRewrittenAs};
+ghost use Rattle.linker_rewriting.specs.Rewritten.{AreDecidedAs, AreMadeAs, LabelsAreWhole};
 ghost use Rattle.linker_rewriting.specs.Surveys.{MeansUnsurveyed};
 
 use crate::agreement::contradiction;
@@ -164,20 +162,9 @@ pub fn rewrite_section<D: AsDecision>(
     section: &mut [u8],
     decisions: &mut [D],
 ) -> Result<(), RewritingError>
-    ensures decided { OnOk result (AreDecided architecture output.now symbols.now kept.now
-        relocations.old section.old (map D.decision decisions.new) (length relocations.old / 24)) }
-    ensures groups { OnOk result (GroupsAreWhole architecture relocations.old
-        (map D.decision decisions.new) (length relocations.old / 24)) }
-    ensures apart { OnOk result (AreApart relocations.old (map D.decision decisions.new)
-        (length relocations.old / 24)) }
-    ensures clear { OnOk result (AreClear architecture relocations.old section.old
-        (map D.decision decisions.new) (length relocations.old / 24)) }
-    ensures relocations { OnOk result (AreRelocationsAfter (map D.decision decisions.new)
-        relocations.old relocations.new (length relocations.old / 24)) }
-    ensures done { OnOk result (AreDone relocations.old (map D.decision decisions.new) section.old
-        section.new (length relocations.old / 24)) }
-    ensures others { OnOk result (OthersStay relocations.old (map D.decision decisions.new)
-        section.old section.new (length relocations.old / 24)) }
+    ensures rewritten { OnOk result (IsRewrittenAs (pre_layout architecture output.now symbols.now)
+        kept.now relocations.old relocations.new section.old section.new
+        (map D.decision decisions.new)) }
     ensures form { OnOk result
         (All D.is_written (take (length relocations.old / 24) decisions.new)) }
     ensures others_stay { drop (length relocations.old / 24) decisions.new
@@ -263,21 +250,9 @@ pub fn decide_rewrites<D: AsKeptDecision>(
     section: &[u8],
     decisions: &mut [D],
 ) -> Result<(), RewritingError>
-    ensures decided { OnOk result (AreDecided architecture output.now symbols.now kept.now
-        relocations.now section.now (map D.decision decisions.new) (length relocations.now / 24)) }
-    ensures groups { OnOk result (GroupsAreWhole architecture relocations.now
-        (map D.decision decisions.new) (length relocations.now / 24)) }
-    ensures within { OnOk result (AllCanBeMade relocations.now section.now
-        (map D.decision decisions.new) (length relocations.now / 24)) }
-    ensures matches { OnOk result (AllMatch relocations.now section.now
-        (map D.decision decisions.new) (length relocations.now / 24)) }
-    ensures bytes { OnOk result (AllKeepBytes relocations.now section.now
-        (map D.decision decisions.new) (map D.bytes decisions.new)
-        (length relocations.now / 24)) }
-    ensures apart { OnOk result (AreApart relocations.now (map D.decision decisions.new)
-        (length relocations.now / 24)) }
-    ensures clear { OnOk result (AreClear architecture relocations.now section.now
-        (map D.decision decisions.new) (length relocations.now / 24)) }
+    ensures decided { OnOk result (AreDecidedAs (pre_layout architecture output.now symbols.now)
+        kept.now relocations.now section.now (map D.decision decisions.new)
+        (map D.bytes decisions.new)) }
     ensures form { OnOk result
         (All D.is_kept (take (length relocations.now / 24) decisions.new)) }
     ensures others_stay { drop (length relocations.now / 24) decisions.new
@@ -332,22 +307,8 @@ pub fn make_rewrites<D: AsKeptDecision>(
     section: &mut [u8],
     decisions: &[D],
 ) -> Result<(), DecisionError>
-    ensures enough { OnOk result (length relocations.old / 24 ≤ length decisions.now) }
-    ensures within { OnOk result (AllCanBeMade relocations.old section.old
-        (map D.decision decisions.now) (length relocations.old / 24)) }
-    ensures matches { OnOk result (AllMatch relocations.old section.old
-        (map D.decision decisions.now) (length relocations.old / 24)) }
-    ensures bytes { OnOk result (AllKeepBytes relocations.old section.old
-        (map D.decision decisions.now) (map D.bytes decisions.now)
-        (length relocations.old / 24)) }
-    ensures apart { OnOk result (AreApart relocations.old (map D.decision decisions.now)
-        (length relocations.old / 24)) }
-    ensures relocations { OnOk result (AreRelocationsAfter (map D.decision decisions.now)
-        relocations.old relocations.new (length relocations.old / 24)) }
-    ensures done { OnOk result (AreDone relocations.old (map D.decision decisions.now) section.old
-        section.new (length relocations.old / 24)) }
-    ensures others { OnOk result (OthersStay relocations.old (map D.decision decisions.now)
-        section.old section.new (length relocations.old / 24)) }
+    ensures made { OnOk result (AreMadeAs relocations.old relocations.new section.old section.new
+        (map D.decision decisions.now) (map D.bytes decisions.now)) }
     ensures unmade { IfErr result (IsUnmade relocations.old section.old
         (map D.decision decisions.now) (map D.bytes decisions.now)) }
     ensures section { OnErr result (section.new ≡ section.old) }
@@ -488,23 +449,11 @@ pub fn rewrite_placed_section<D: AsDecision, L: FromDeletion>(
     deleted: &mut [L],
 ) -> Result<usize, RewritingError>
     ensures agree { OnOk result (Agree symbols.now values.now relocations.old) }
-    ensures decided { OnOk result (AreDecidedIn (context architecture phase output.now symbols.now
-        addresses.now values.now) kept.now relocations.old section.old
-        (map D.decision decisions.new) (length relocations.old / 24)) }
-    ensures groups { OnOk result (GroupsAreWholeIn architecture phase relocations.old
-        (map D.decision decisions.new) (length relocations.old / 24)) }
-    ensures apart { OnOk result (AreApart relocations.old (map D.decision decisions.new)
-        (length relocations.old / 24)) }
-    ensures clear { OnOk result (AreClear architecture relocations.old section.old
-        (map D.decision decisions.new) (length relocations.old / 24)) }
+    ensures rewritten { OnOk result (IsRewrittenAs (context architecture phase output.now
+        symbols.now addresses.now values.now) kept.now relocations.old relocations.new section.old
+        section.new (map D.decision decisions.new)) }
     ensures within { OnOk result (AllCanBeMade relocations.old section.old
         (map D.decision decisions.new) (length relocations.old / 24)) }
-    ensures relocations { OnOk result (AreRelocationsAfter (map D.decision decisions.new)
-        relocations.old relocations.new (length relocations.old / 24)) }
-    ensures done { OnOk result (AreDone relocations.old (map D.decision decisions.new) section.old
-        section.new (length relocations.old / 24)) }
-    ensures others { OnOk result (OthersStay relocations.old (map D.decision decisions.new)
-        section.old section.new (length relocations.old / 24)) }
     ensures listed { IfOk result (λ len. take len (map L.deletion deleted.new)
         ≡ deletions_by relocations.old (map D.decision decisions.new)
         (length relocations.old / 24)) }

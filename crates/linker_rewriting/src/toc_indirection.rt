@@ -5,18 +5,17 @@
 ghost use Rattle.std.specs.Prelude.{◌≡◌, ◌⊎◌, ◌↔◌, ◌+◌, ◌<◌, ◌≤◌, ◌/◌, ℕ, length, map, take, drop};
 ghost use Rattle.std.specs.Prelude.{IfSome, IfErr, OnOk, OnErr, All, true, ⊤};
 ghost use Rattle.linker_rewriting.specs.Agreement.{Agree, IsContradiction};
-ghost use Rattle.linker_rewriting.specs.Decisions.{AreApart, AreClear, IsThere, start_by, end_by};
+ghost use Rattle.linker_rewriting.specs.Decisions.{IsThere, start_by, end_by};
 ghost use Rattle.linker_rewriting.specs.Facts.{context};
 ghost use Rattle.linker_rewriting.specs.Inner.Contexts.{context_of};
 ghost use Rattle.linker_rewriting.specs.Inner.TocIndirection.{IsThatWord, with_code};
-ghost use Rattle.linker_rewriting.specs.Rewritten.{AreRelocationsAfter, AreDone, OthersStay};
 ghost use Rattle.linker_rewriting.specs.TocIndirection.{entry_code, word_code, word_offset};
 ghost use Rattle.linker_rewriting.specs.TocIndirection.{subject_of, DecidesLoad, IsLoad};
 ghost use Rattle.linker_rewriting.specs.TocIndirection.{IsLoadCandidate, word_stays, IsKeepingWord};
 ghost use Rattle.linker_rewriting.specs.TocIndirection.{IsLoadNotSurveyed, AreLoadsSurveyed};
-ghost use Rattle.linker_rewriting.specs.TocIndirection.{IsLoadDecided, AreLoadsDecided};
+ghost use Rattle.linker_rewriting.specs.TocIndirection.{IsLoadDecided, AreLoadsRewrittenAs};
 ghost use Rattle.linker_rewriting.specs.TocIndirection.{MeansWordsUnsurveyed};
-ghost use Rattle.linker_rewriting.specs.TocIndirection.{AreLoadsRejectedFirst, WordsAreWhole};
+ghost use Rattle.linker_rewriting.specs.TocIndirection.{AreLoadsRejectedFirst};
 ghost use Rattle.linker_section.specs.Relocations.{relocation_in};
 
 use crate::agreement::contradiction;
@@ -450,22 +449,9 @@ pub fn rewrite_toc_loads<D: AsDecision>(
 ) -> Result<(), RewritingError>
     ensures agree { OnOk result
         (Agree symbols.now values.now relocations.old) }
-    ensures decided { OnOk result (AreLoadsDecided (context architecture Phase.ShortPcRel output.now
-        symbols.now addresses.now values.now) words_start words.now kept.now relocations.old
-        section.old (map D.decision decisions.new) (length relocations.old / 24)) }
-    ensures words { OnOk result (WordsAreWhole (context architecture Phase.ShortPcRel output.now
-        symbols.now addresses.now values.now) words_start words.now relocations.old
-        (map D.decision decisions.new) (length relocations.old / 24)) }
-    ensures apart { OnOk result (AreApart relocations.old (map D.decision decisions.new)
-        (length relocations.old / 24)) }
-    ensures clear { OnOk result (AreClear architecture relocations.old section.old
-        (map D.decision decisions.new) (length relocations.old / 24)) }
-    ensures relocations { OnOk result (AreRelocationsAfter (map D.decision decisions.new)
-        relocations.old relocations.new (length relocations.old / 24)) }
-    ensures done { OnOk result (AreDone relocations.old (map D.decision decisions.new) section.old
-        section.new (length relocations.old / 24)) }
-    ensures others { OnOk result (OthersStay relocations.old (map D.decision decisions.new)
-        section.old section.new (length relocations.old / 24)) }
+    ensures rewritten { OnOk result (AreLoadsRewrittenAs (context architecture Phase.ShortPcRel
+        output.now symbols.now addresses.now values.now) words_start words.now kept.now
+        relocations.old relocations.new section.old section.new (map D.decision decisions.new)) }
     ensures form { OnOk result
         (All D.is_written (take (length relocations.old / 24) decisions.new)) }
     ensures others_stay { drop (length relocations.old / 24) decisions.new

@@ -1,12 +1,10 @@
 -- Addresses near the global pointer, in the numbers that C sees.
 use Rattle.std.specs.Prelude.{◌≡◌, ◌⊎◌, ℕ, ◌<◌, ◌/◌, List, Bool, true, length, take, drop, All}
 use Rattle.linker_rewriting.specs.Agreement.{Agree}
-use Rattle.linker_rewriting.specs.Decisions.{AreClear, IsRejectedFirst}
+use Rattle.linker_rewriting.specs.Decisions.{IsRejectedFirst}
 use Rattle.linker_rewriting.specs.Facts.{RelaxContext}
-use Rattle.linker_rewriting.specs.GlobalPointer.{ArePartsDecided, ArePartsWhole, AreRelocationsBy}
-use Rattle.linker_rewriting.specs.GlobalPointer.{ArePartsRejected, AreBased, section_based}
-use Rattle.linker_rewriting.specs.GlobalPointer.{is_placed, IsFirstUnplaced}
-use Rattle.linker_rewriting.specs.declared.decisions.Decision.{Decision}
+use Rattle.linker_rewriting.specs.GlobalPointer.{ArePartsRewrittenAs, ArePartsRejected, AreBased}
+use Rattle.linker_rewriting.specs.GlobalPointer.{section_based, is_placed, IsFirstUnplaced}
 use Rattle.linker_section.specs.Relocations.{relocation_in}
 use Rattle.linker_section.specs.declared.facts.Addresses.{Addresses}
 use Rattle.linker_section.specs.declared.facts.Symbol.{Symbol}
@@ -16,14 +14,6 @@ use Rattle.linker_utils_c.specs.Status.{code}
 use Rattle.linker_utils_c.specs.declared.deltas.Deletion.{Deletion}
 use Rattle.linker_utils_c.specs.declared.rewriting.DecisionNumbers.{DecisionNumbers}
 use Rattle.linker_utils_c.specs.declared.status.Status.TheVariants.{Success, OutOfReach}
-
--- all parts of a symbol are rewritten as decided, or none is
-pub record ArePartsRewrittenAs (s : RelaxContext) (gp : ℕ) (kept : List Bool)
-    (bytes bytes_after section : List ℕ) (decisions : List Decision) : Type 0 where
-  pub decided : ArePartsDecided s gp kept bytes section decisions (length bytes / 24)
-  pub whole : ArePartsWhole s bytes decisions (length bytes / 24)
-  pub clear : AreClear s.architecture bytes section decisions (length bytes / 24)
-  pub relocations : AreRelocationsBy decisions bytes bytes_after (length bytes / 24)
 
 abbrev pub ArePartsReturned : RelaxContext → ℕ → List Bool → List ℕ → List ℕ → List ℕ
     → List DecisionNumbers → List DecisionNumbers → List Deletion → List Deletion → ℕ → ℕ → ℕ → ℕ

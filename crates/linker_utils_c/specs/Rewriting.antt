@@ -1,16 +1,14 @@
 -- A section rewritten in one call, in the numbers that C sees.
-use Rattle.std.specs.Prelude.{◌≡◌, ◌⊎◌, ◌≤◌, ℕ, ◌/◌, ◌==◌, if◌then◌else◌, List, length, map}
+use Rattle.std.specs.Prelude.{◌≡◌, ◌⊎◌, ℕ, ◌/◌, ◌==◌, if◌then◌else◌, List, length, map}
 use Rattle.std.specs.Prelude.{take, drop, pos}
 use Rattle.std.specs.Prelude.{All, Option, Some, None}
 use Rattle.std.proofs.Common.{ap}
 use Rattle.linker_elf.specs.declared.elf.choice.Choice.{Choice}
 use Rattle.linker_rewriting.specs.Agreement.{Agree}
-use Rattle.linker_rewriting.specs.Decisions.{AreDecidedIn, AreApart, AreClear, AllCanBeMade}
-use Rattle.linker_rewriting.specs.Decisions.{IsRejectedIn, IsRejectedPlaced, deletions_by}
-use Rattle.linker_rewriting.specs.Decisions.{AllMatch, AllKeepBytes, IsUnmade}
+use Rattle.linker_rewriting.specs.Decisions.{AllCanBeMade, IsUnmade, deletions_by}
+use Rattle.linker_rewriting.specs.Decisions.{IsRejectedIn, IsRejectedPlaced}
 use Rattle.linker_rewriting.specs.Facts.{RelaxContext}
-use Rattle.linker_rewriting.specs.Rewritten.{AreRelocationsAfter, AreDone, OthersStay}
-use Rattle.linker_rewriting.specs.Rewritten.{GroupsAreWholeIn}
+use Rattle.linker_rewriting.specs.Rewritten.{IsRewrittenAs, AreDecidedAs, AreMadeAs}
 use Rattle.linker_rewriting.specs.declared.decisions.Decision.{Decision}
 use Rattle.linker_rewriting.specs.declared.decisions.Decision.TheVariants.{Kept, Rewritten}
 use Rattle.linker_rewriting.specs.declared.decisions.Decision.TheVariants.{Consumed}
@@ -141,17 +139,6 @@ IsSurveyReturned Surveyed Contradicts Unchanged status =
     ((status ≡ code Success) × Surveyed)
     ⊎ ((status ≡ code FactsContradict) × Contradicts × Unchanged)
 
--- it is rewritten as decided, all of a group or none
-pub record IsRewrittenAs (s : RelaxContext) (kept : List UnrelaxableGroups) (bytes bytes_after : List ℕ)
-    (section section_after : List ℕ) (decisions : List Decision) : Type 0 where
-  pub decided : AreDecidedIn s kept bytes section decisions (length bytes / 24)
-  pub groups : GroupsAreWholeIn s.architecture s.phase bytes decisions (length bytes / 24)
-  pub apart : AreApart bytes decisions (length bytes / 24)
-  pub clear : AreClear s.architecture bytes section decisions (length bytes / 24)
-  pub relocations : AreRelocationsAfter decisions bytes bytes_after (length bytes / 24)
-  pub done : AreDone bytes decisions section section_after (length bytes / 24)
-  pub others : OthersStay bytes decisions section section_after (length bytes / 24)
-
 -- the status of an error, and the index of the relocation or of the symbol at fault, if one is
 abbrev pub rewriting_status : RewritingError → Status
 rewriting_status errors.TooShort = ShortMemory
@@ -186,17 +173,6 @@ IsRewriteReturned s kept bytes bytes_after section section_after old new old_fau
     ⊎ IsErrorReturned (IsRejectedIn s kept bytes section (decisions_in new)) bytes bytes_after
     section section_after old_faulty faulty status)
 
--- it is decided, and neither it nor its relocations are written
-pub record AreDecidedAs (s : RelaxContext) (kept : List UnrelaxableGroups) (bytes section : List ℕ)
-    (decisions : List Decision) (numbers : List ℕ) : Type 0 where
-  pub decided : AreDecidedIn s kept bytes section decisions (length bytes / 24)
-  pub groups : GroupsAreWholeIn s.architecture s.phase bytes decisions (length bytes / 24)
-  pub within : AllCanBeMade bytes section decisions (length bytes / 24)
-  pub matches : AllMatch bytes section decisions (length bytes / 24)
-  pub kept_bytes : AllKeepBytes bytes section decisions numbers (length bytes / 24)
-  pub apart : AreApart bytes decisions (length bytes / 24)
-  pub clear : AreClear s.architecture bytes section decisions (length bytes / 24)
-
 abbrev pub IsDecisionReturned : RelaxContext → List UnrelaxableGroups → List ℕ → List ℕ
     → List DecisionNumbers → List DecisionNumbers → ℕ → ℕ → ℕ → Type 0
 IsDecisionReturned s kept bytes section old new old_faulty faulty status =
@@ -206,18 +182,6 @@ IsDecisionReturned s kept bytes section old new old_faulty faulty status =
     × All IsKeptDecision (take (length bytes / 24) new))
     ⊎ IsErrorReturned (IsRejectedIn s kept bytes section (decisions_in new)) bytes bytes
     section section old_faulty faulty status)
-
--- it is rewritten as was decided
-pub record AreMadeAs (bytes bytes_after section section_after : List ℕ) (decisions : List Decision)
-    (numbers : List ℕ) : Type 0 where
-  pub enough : length bytes / 24 ≤ length decisions
-  pub within : AllCanBeMade bytes section decisions (length bytes / 24)
-  pub matches : AllMatch bytes section decisions (length bytes / 24)
-  pub kept_bytes : AllKeepBytes bytes section decisions numbers (length bytes / 24)
-  pub apart : AreApart bytes decisions (length bytes / 24)
-  pub relocations : AreRelocationsAfter decisions bytes bytes_after (length bytes / 24)
-  pub done : AreDone bytes decisions section section_after (length bytes / 24)
-  pub others : OthersStay bytes decisions section section_after (length bytes / 24)
 
 abbrev pub making_status : DecisionError → Status
 making_status making.TooShort = ShortMemory

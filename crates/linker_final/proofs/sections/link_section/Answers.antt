@@ -1,7 +1,8 @@
-use Rattle.std.proofs.Common.{ℕ, ◌/◌, ◌^◌, ◌<◌, length, get_or, refl, subst, sym, rules}
+use Rattle.std.proofs.Common.{ℕ, ◌^◌, ◌<◌, get_or, refl, subst, sym, rules}
 use Rattle.linker_final.proofs.PackedBytes.{are_bytes}
 use Rattle.linker_final.proofs.SameDecisions.{same_decisions}
-use Rattle.linker_final.proofs.Imports.{AreDecidedIn, IsRejected, pre_layout, IsWritingCause, AreRelocationsAfter, AreDone, OthersStay}
+use Rattle.linker_final.proofs.Imports.{IsRejected, pre_layout, IsWritingCause}
+use Rattle.linker_rewriting.specs.Rewritten.{IsRewrittenAs}
 use Rattle.linker_final.specs.Final.{HasRewritten, rewriting_phase}
 use Rattle.linker_final.proofs.sections.link_section.Goals as goal
 
@@ -18,16 +19,16 @@ returns-in-Ok-clause-linked c =
     let same = same_decisions c.rewrite_section.new.decisions in
     let before = c.args.relocations.now in
     let section = c.args.section.now in
-    let count = length before / 24 in
+    let made = subst (IsRewrittenAs (pre_layout c.args.architecture c.args.output.now c.args.facts.now) c.args.groups.now before c.rewrite_section.new.relocations section c.rewrite_section.new.section) same c.in_default.ensures.rewritten in
     let first : (i : ℕ) → get_or before i 0 < 2 ^ 8 = λ i. search rules in
     let object : (i : ℕ) → get_or section i 0 < 2 ^ 8 = λ i. search rules in
     let final : (i : ℕ) → get_or c.relocate_rewritten_section.new.section i 0 < 2 ^ 8 = λ i. search rules in (
       c.rewrite_section.new.section,
       record {
-        decided = subst (λ ds. AreDecidedIn (pre_layout c.args.architecture c.args.output.now c.args.facts.now) c.args.groups.now before section ds count) same c.in_default.ensures.decided;
-        relocations = subst (λ ds. AreRelocationsAfter ds before c.rewrite_section.new.relocations count) same c.in_default.ensures.relocations;
-        done = subst (λ ds. AreDone before ds section c.rewrite_section.new.section count) same c.in_default.ensures.done;
-        others = subst (λ ds. OthersStay before ds section c.rewrite_section.new.section count) same c.in_default.ensures.others;
+        decided = made.decided;
+        relocations = made.relocations;
+        done = made.done;
+        others = made.others;
         later = (refl, refl);
         written = c.in-Ok.ensures.fields;
         as_many = search rules;
@@ -45,16 +46,15 @@ returns-in-Err-relocate_rewritten_section-clause-cause c =
     let section = c.args.section.now in
     let bytes = c.rewrite_section.new.section in
     let after = c.rewrite_section.new.relocations in
-    let count = length before / 24 in
     let s = pre_layout c.args.architecture c.args.output.now c.args.facts.now in
-    let made = c.in_default.ensures in
+    let made = subst (IsRewrittenAs s c.args.groups.now before after section bytes) same c.in_default.ensures.rewritten in
     let stopped = c.in-Err-relocate_rewritten_section in
     let rewritten : HasRewritten (rewriting_phase s c.args.groups.now before section c.rewrite_section.new.decisions after bytes) =
     record {
-      decided = subst (λ ds. AreDecidedIn s c.args.groups.now before section ds count) same made.decided;
-      relocations = subst (λ ds. AreRelocationsAfter ds before after count) same made.relocations;
-      done = subst (λ ds. AreDone before ds section bytes count) same made.done;
-      others = subst (λ ds. OthersStay before ds section bytes count) same made.others;
+      decided = made.decided;
+      relocations = made.relocations;
+      done = made.done;
+      others = made.others;
       as_many = search rules;
       same_length = search rules;
     } in (

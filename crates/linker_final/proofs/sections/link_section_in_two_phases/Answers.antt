@@ -2,7 +2,8 @@ use Rattle.std.proofs.Common.{◌≡◌, ℕ, ◌/◌, ◌^◌, ◌<◌, List, l
 use Rattle.linker_final.proofs.PackedBytes.{are_bytes}
 use Rattle.linker_final.proofs.SameDecisions.{same_decisions, same_deletions}
 use Rattle.linker_final.specs.Final.{AreListed, HasRewritten, RewritingPhase, deletions_in, rewriting_phase}
-use Rattle.linker_final.proofs.Imports.{AreDecidedIn, IsRejected, pre_layout, context, IsWritingCause, AreRelocationsAfter, AreDone, OthersStay}
+use Rattle.linker_final.proofs.Imports.{IsRejected, pre_layout, context, IsWritingCause}
+use Rattle.linker_rewriting.specs.Rewritten.{IsRewrittenAs}
 use Rattle.linker_rewriting.specs.Decisions.{IsRejectedPlaced, deletions_by}
 use Rattle.linker_final.proofs.sections.link_section_in_two_phases.Goals as goal
 
@@ -25,15 +26,14 @@ returns-in-Err-rewrite_placed_section-clause-cause c =
     let section = c.args.section.now in
     let between = c.rewrite_section.new.relocations in
     let bytes = c.rewrite_section.new.section in
-    let count = length before / 24 in
-    let made = c.in_default.ensures in
+    let made = subst (IsRewrittenAs first c.args.groups.now before between section bytes) same c.in_default.ensures.rewritten in
     let stopped = c.in-Err-rewrite_placed_section in
     let first_made : HasRewritten (rewriting_phase first c.args.groups.now before section c.rewrite_section.new.decisions between bytes) =
     record {
-      decided = subst (λ ds. AreDecidedIn first c.args.groups.now before section ds count) same made.decided;
-      relocations = subst (λ ds. AreRelocationsAfter ds before between count) same made.relocations;
-      done = subst (λ ds. AreDone before ds section bytes count) same made.done;
-      others = subst (λ ds. OthersStay before ds section bytes count) same made.others;
+      decided = made.decided;
+      relocations = made.relocations;
+      done = made.done;
+      others = made.others;
       as_many = search rules;
       same_length = search rules;
     } in
@@ -58,10 +58,10 @@ returns-in-Ok-clause-linked c =
     let bytes = c.rewrite_section.new.section in
     let last = c.rewrite_placed_section.new.relocations in
     let rewritten = c.rewrite_placed_section.new.section in
-    let count = length before / 24 in
     let count_too = length between / 24 in
-    let made = c.in_default.ensures in
+    let made = subst (IsRewrittenAs first c.args.groups.now before between section bytes) same c.in_default.ensures.rewritten in
     let placed = c.in_default-rewrite_placed_section.ensures in
+    let made_too = subst (IsRewrittenAs second c.args.placed_groups.now between last bytes rewritten) same_too placed.rewritten in
     let before_bytes : (i : ℕ) → get_or before i 0 < 2 ^ 8 = λ i. search rules in
     let object : (i : ℕ) → get_or section i 0 < 2 ^ 8 = λ i. search rules in
     let between_bytes : (i : ℕ) → get_or between i 0 < 2 ^ 8 = λ i. search rules in
@@ -71,10 +71,10 @@ returns-in-Ok-clause-linked c =
     let same_length : length rewritten ≡ length bytes = search rules in
     let after : HasRewritten (rewriting_phase second c.args.placed_groups.now between bytes c.rewrite_placed_section.new.decisions last rewritten) =
     record {
-      decided = subst (λ ds. AreDecidedIn second c.args.placed_groups.now between bytes ds count_too) same_too placed.decided;
-      relocations = subst (λ ds. AreRelocationsAfter ds between last count_too) same_too placed.relocations;
-      done = subst (λ ds. AreDone between ds bytes rewritten count_too) same_too placed.done;
-      others = subst (λ ds. OthersStay between ds bytes rewritten count_too) same_too placed.others;
+      decided = made_too.decided;
+      relocations = made_too.relocations;
+      done = made_too.done;
+      others = made_too.others;
       as_many = as_many;
       same_length = same_length;
     } in (
@@ -84,10 +84,10 @@ returns-in-Ok-clause-linked c =
       (
         record { same_relocations = refl {a = before}; same_section = refl {a = section} },
         record {
-          decided = subst (λ ds. AreDecidedIn first c.args.groups.now before section ds count) same made.decided;
-          relocations = subst (λ ds. AreRelocationsAfter ds before between count) same made.relocations;
-          done = subst (λ ds. AreDone before ds section bytes count) same made.done;
-          others = subst (λ ds. OthersStay before ds section bytes count) same made.others;
+          decided = made.decided;
+          relocations = made.relocations;
+          done = made.done;
+          others = made.others;
           later = (record { same_relocations = refl {a = between}; same_section = refl {a = bytes} }, after, (refl {a = last}, refl {a = rewritten}));
           written = c.in-Ok.ensures.fields;
           as_many = search rules;
@@ -134,18 +134,18 @@ returns-in-Err-relocate_rewritten_section-clause-cause c =
     let bytes = c.rewrite_section.new.section in
     let last = c.rewrite_placed_section.new.relocations in
     let rewritten = c.rewrite_placed_section.new.section in
-    let count = length before / 24 in
     let count_too = length between / 24 in
-    let made = c.in_default.ensures in
+    let made = subst (IsRewrittenAs first c.args.groups.now before between section bytes) same c.in_default.ensures.rewritten in
     let placed = c.in_default-rewrite_placed_section.ensures in
+    let made_too = subst (IsRewrittenAs second c.args.placed_groups.now between last bytes rewritten) same_too placed.rewritten in
     let stopped = c.in-Err-relocate_rewritten_section in
     let phase : List ℕ → RewritingPhase = rewriting_phase second c.args.placed_groups.now between bytes c.rewrite_placed_section.new.decisions last in
     let after : HasRewritten (phase rewritten) =
     record {
-      decided = subst (λ ds. AreDecidedIn second c.args.placed_groups.now between bytes ds count_too) same_too placed.decided;
-      relocations = subst (λ ds. AreRelocationsAfter ds between last count_too) same_too placed.relocations;
-      done = subst (λ ds. AreDone between ds bytes rewritten count_too) same_too placed.done;
-      others = subst (λ ds. OthersStay between ds bytes rewritten count_too) same_too placed.others;
+      decided = made_too.decided;
+      relocations = made_too.relocations;
+      done = made_too.done;
+      others = made_too.others;
       as_many = search rules;
       same_length = search rules;
     } in
@@ -159,10 +159,10 @@ returns-in-Err-relocate_rewritten_section-clause-cause c =
       between,
       bytes,
       record {
-        decided = subst (λ ds. AreDecidedIn first c.args.groups.now before section ds count) same made.decided;
-        relocations = subst (λ ds. AreRelocationsAfter ds before between count) same made.relocations;
-        done = subst (λ ds. AreDone before ds section bytes count) same made.done;
-        others = subst (λ ds. OthersStay before ds section bytes count) same made.others;
+        decided = made.decided;
+        relocations = made.relocations;
+        done = made.done;
+        others = made.others;
         as_many = search rules;
         same_length = search rules;
       },

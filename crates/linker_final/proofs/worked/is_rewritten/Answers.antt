@@ -1,5 +1,6 @@
-use Rattle.std.proofs.Common.{◌/◌, length, refl, subst, rules}
-use Rattle.linker_final.proofs.Imports.{replicate, AreDecidedIn, context, AreDone, AreRelocationsAfter, OthersStay}
+use Rattle.std.proofs.Common.{refl, subst, rules}
+use Rattle.linker_final.proofs.Imports.{replicate, context}
+use Rattle.linker_rewriting.specs.Rewritten.{IsRewrittenAs}
 use Rattle.linker_final.proofs.SameDecisions.{same_decisions}
 use Rattle.linker_final.proofs.worked.is_rewritten.Goals as goal
 use Rattle.linker_final.specs.declared.worked.TheConstants.{OUTPUT}
@@ -15,17 +16,16 @@ returns-in-Ok c so =
     let section = c.args.section.now in
     let after = c.rewrite_placed_section.new.relocations in
     let rewritten = c.rewrite_placed_section.new.section in
-    let count = length before / 24 in
-    let made = c.in-Ok.ensures in
+    let made = subst (IsRewrittenAs s kept before after section rewritten) same c.in-Ok.ensures.rewritten in
     record {
       context = s;
       kept = kept;
       decisions = ds;
       rewritten_by = record {
-        decided = subst (λ ds. AreDecidedIn s kept before section ds count) same made.decided;
-        relocations = subst (λ ds. AreRelocationsAfter ds before after count) same made.relocations;
-        done = subst (λ ds. AreDone before ds section rewritten count) same made.done;
-        others = subst (λ ds. OthersStay before ds section rewritten count) same made.others;
+        decided = made.decided;
+        relocations = made.relocations;
+        done = made.done;
+        others = made.others;
         as_many = search rules;
         same_length = search rules;
       };

@@ -23,14 +23,16 @@ returns-in-Some-list_deletions g c =
     let l = c.in-Some-list_deletions.ensures in
     record {
       agree = c.in_default.ensures;
-      decided = e.decided;
-      symbols = whole (context a.architecture ShortPcRel a.output.now a.symbols.now a.addresses.now a.values.now)
-          a.gp a.kept.now a.relocations.now a.section.now (map g.D.AsDecision.decision c.decide_by.new.decisions)
-          (length a.relocations.now / 24) e.decided;
+      rewritten = record {
+        decided = e.decided;
+        whole = whole (context a.architecture ShortPcRel a.output.now a.symbols.now a.addresses.now a.values.now)
+            a.gp a.kept.now a.relocations.now a.section.now (map g.D.AsDecision.decision c.decide_by.new.decisions)
+            (length a.relocations.now / 24) e.decided;
+        apart = e.apart_by;
+        clear = e.clear;
+        relocations = c.turn_all.ensures;
+      };
       within = e.made;
-      apart = e.apart_by;
-      clear = e.clear;
-      relocations = c.turn_all.ensures;
       listed = l.listed;
       form = c.in-Ok.ensures.form;
       others_stay = c.decide_by.ensures.others_stay;
@@ -50,12 +52,8 @@ returns-in-Err g c =
     let is = rejected_with Decides a.relocations.now ds (length a.deleted.now) IsError _ c.in-Err.ensures.rejected in
     record {
       agree = tt;
-      decided = tt;
-      symbols = tt;
+      rewritten = tt;
       within = tt;
-      apart = tt;
-      clear = tt;
-      relocations = tt;
       listed = tt;
       form = tt;
       others_stay = c.decide_by.ensures.others_stay;

@@ -13,14 +13,16 @@ returns-in-Ok g c =
     let e = subst (AreAllDecided (IsDecidedAfter s a.kept.now a.relocations.now a.section.now) start_by end_by a.architecture a.relocations.now a.section.now)
     (sym k.decisions) c.in-Ok.ensures.decided in
     record {
-      decided = e.decided;
-      groups = whole s a.kept.now a.relocations.now a.section.now
-          (map g.D.AsDecision.decision c.keep_bytes.new.decisions) (length a.relocations.now / 24) e.decided;
-      within = e.made;
-      matches = e.matches;
-      bytes = k.bytes;
-      apart = e.apart;
-      clear = e.clear;
+      decided = record {
+        decided = e.decided;
+        groups = whole s a.kept.now a.relocations.now a.section.now
+            (map g.D.AsDecision.decision c.keep_bytes.new.decisions) (length a.relocations.now / 24) e.decided;
+        within = e.made;
+        matches = e.matches;
+        kept_bytes = k.bytes;
+        apart = e.apart;
+        clear = e.clear;
+      };
       form = k.form;
       others_stay = k.others_stay ∙ c.decide_section.ensures.others_stay;
       rejected = tt;
@@ -33,12 +35,6 @@ returns-in-Err g c =
     let is = c.in-Err.ensures.rejected in
     record {
       decided = tt;
-      groups = tt;
-      within = tt;
-      matches = tt;
-      bytes = tt;
-      apart = tt;
-      clear = tt;
       form = tt;
       others_stay = c.decide_section.ensures.others_stay;
       rejected = is;

@@ -10,14 +10,16 @@ returns-in-Ok g c =
     let e = c.in-Ok.ensures.decided in
     let m = c.make_all.ensures in
     record {
-      decided = e.decided;
-      groups = whole (pre_layout a.architecture a.output.now a.symbols.now) a.kept.now a.relocations.now a.section.now
-          (map g.D.AsDecision.decision c.decide_section.new.decisions) (length a.relocations.now / 24) e.decided;
-      apart = e.apart;
-      clear = e.clear;
-      relocations = m.relocations;
-      done = m.done;
-      others = m.others;
+      rewritten = record {
+        decided = e.decided;
+        groups = whole (pre_layout a.architecture a.output.now a.symbols.now) a.kept.now a.relocations.now a.section.now
+            (map g.D.AsDecision.decision c.decide_section.new.decisions) (length a.relocations.now / 24) e.decided;
+        apart = e.apart;
+        clear = e.clear;
+        relocations = m.relocations;
+        done = m.done;
+        others = m.others;
+      };
       form = c.in-Ok.ensures.form;
       others_stay = c.decide_section.ensures.others_stay;
       rejected = tt;
@@ -31,13 +33,7 @@ returns-in-Err g c =
     let a = c.args in
     let is = c.in-Err.ensures.rejected in
     record {
-      decided = tt;
-      groups = tt;
-      apart = tt;
-      clear = tt;
-      relocations = tt;
-      done = tt;
-      others = tt;
+      rewritten = tt;
       form = tt;
       others_stay = c.decide_section.ensures.others_stay;
       rejected = is;

@@ -14,15 +14,17 @@ returns-in-Ok g c =
     let m = c.make_all.ensures in
     record {
       agree = c.in_default.ensures;
-      decided = e.decided;
-      words = whole (context a.architecture ShortPcRel a.output.now a.symbols.now a.addresses.now a.values.now)
-          a.words_start a.words.now a.kept.now a.relocations.now a.section.now
-          (map g.D.AsDecision.decision c.decide_by.new.decisions) (length a.relocations.now / 24) e.decided;
-      apart = e.apart;
-      clear = e.clear;
-      relocations = m.relocations;
-      done = m.done;
-      others = m.others;
+      rewritten = record {
+        decided = e.decided;
+        whole = whole (context a.architecture ShortPcRel a.output.now a.symbols.now a.addresses.now a.values.now)
+            a.words_start a.words.now a.kept.now a.relocations.now a.section.now
+            (map g.D.AsDecision.decision c.decide_by.new.decisions) (length a.relocations.now / 24) e.decided;
+        apart = e.apart;
+        clear = e.clear;
+        relocations = m.relocations;
+        done = m.done;
+        others = m.others;
+      };
       form = c.in-Ok.ensures.form;
       others_stay = c.decide_by.ensures.others_stay;
       rejected = tt;
@@ -38,13 +40,7 @@ returns-in-Err g c =
     let ds = map g.D.AsDecision.decision c.decide_by.new.decisions in
     record {
       agree = tt;
-      decided = tt;
-      words = tt;
-      apart = tt;
-      clear = tt;
-      relocations = tt;
-      done = tt;
-      others = tt;
+      rewritten = tt;
       form = tt;
       others_stay = c.decide_by.ensures.others_stay;
       rejected = rejected_first a.symbols.now a.values.now a.relocations.now
