@@ -230,11 +230,6 @@ abbrev pub AllMatch : List ℕ → List ℕ → List Decision → ℕ → Type 0
 AllMatch bytes section decisions limit =
     (n : ℕ) → n < limit → Matches (decision_at decisions n) section (relocation_in bytes n).offset
 
--- before addresses are known
-abbrev pub AreDecided : Architecture → OutputFacts → List SymbolFacts → List UnrelaxableGroups → List ℕ
-    → List ℕ → List Decision → ℕ → Type 0
-AreDecided architecture output symbols = AreDecidedIn (pre_layout architecture output symbols)
-
 -- ---- where bytes are rewritten and deleted
 
 abbrev pub start_by : Decision → ℕ → ℕ

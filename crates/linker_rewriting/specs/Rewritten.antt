@@ -4,9 +4,9 @@ use Rattle.std.specs.Prelude.{Option, None, Some, true, false}
 use Rattle.linker_base.specs.Rewrite.{Rewrite, rewrite_window, rewritten, offset_after}
 use Rattle.linker_base.specs.Rewrite.{addend_after}
 use Rattle.linker_rewriting.specs.Decisions.{decision_at, is_taken, start_at, written_end_at}
-use Rattle.linker_rewriting.specs.Decisions.{AreDecided, AreDecidedIn, AreApart, AreClear}
+use Rattle.linker_rewriting.specs.Decisions.{AreDecidedIn, AreApart, AreClear}
 use Rattle.linker_rewriting.specs.Decisions.{AllCanBeMade, AllMatch, AllKeepBytes}
-use Rattle.linker_rewriting.specs.Facts.{RelaxContext}
+use Rattle.linker_rewriting.specs.Facts.{RelaxContext, pre_layout}
 use Rattle.linker_rewriting.specs.Groups.{IsInGroupIn, symbol_of_group}
 use Rattle.linker_rewriting.specs.RiscVPcrelGroups.{IsInLabel, IsHighIn}
 use Rattle.linker_elf.specs.AArch64Relocations.{aarch64_name}
@@ -24,7 +24,6 @@ use Rattle.linker_rewriting.specs.declared.facts.SymbolFacts.{SymbolFacts}
 use Rattle.linker_rewriting.specs.declared.groups.Group.{Group}
 use Rattle.linker_rewriting.specs.declared.groups.UnrelaxableGroups.{UnrelaxableGroups}
 use Rattle.linker_rewriting.specs.declared.phases.Phase.{Phase}
-use Rattle.linker_rewriting.specs.declared.phases.Phase.TheVariants.{PreLayout}
 use Rattle.linker_section.specs.Relocations.{relocation_in}
 use Rattle.linker_section.specs.declared.relocations.Rela.{Rela}
 use Rattle.linker_utils.specs.Relaxations.{relaxation_rewrite}
@@ -117,10 +116,6 @@ GroupsAreWholeIn architecture phase bytes decisions limit =
     ≡ symbol_of_group group (relocation_in bytes j).symbol
     → is_taken decisions i ≡ false → is_taken decisions j ≡ false
     → IsRewritten (decision_at decisions i) → IsRewritten (decision_at decisions j)
-
--- before addresses are known
-abbrev pub GroupsAreWhole : Architecture → List ℕ → List Decision → ℕ → Type 0
-GroupsAreWhole architecture = GroupsAreWholeIn architecture PreLayout
 
 -- In two sections of an object that are decided by one table, each at its address, all of a group
 -- are rewritten too, or none is.
@@ -280,7 +275,7 @@ abbrev pub LoadsAreWhole : Type 0
 LoadsAreWhole =
     (output : OutputFacts) (symbols : List SymbolFacts) (kept : List UnrelaxableGroups)
     (bytes section : List ℕ) (decisions : List Decision) (limit n : ℕ)
-    → AreDecided LoongArch64 output symbols kept bytes section decisions limit
+    → AreDecidedIn (pre_layout LoongArch64 output symbols) kept bytes section decisions limit
     → n + 2 < limit → limit ≤ length bytes / 24 → IsLoadAt bytes n
     → is_taken decisions n ≡ false → is_taken decisions (n + 2) ≡ false
     → (IsRewritten (decision_at decisions n) ↔ IsRewritten (decision_at decisions (n + 2)))
