@@ -1,15 +1,9 @@
 -- Of a sequence of AArch64 all relocations are rewritten, or none is.
 use Rattle.std.proofs.Common.{◌≡◌, ◌≢◌, ℕ, zero, suc, ◌+◌, ◌-◌, ◌/◌, ◌<◌, ◌≤◌, ltb, ◌⊎◌, inl, inr, List, length, ap, sym, subst, ◌∙◌, arith, refl, Bool, true, false, Option, Some, None, slice_get}
-use Rattle.std.specs.Prelude.{◌&&◌, is_some, ⊤}
-use Rattle.std.proofs.lemmas.Bool.{cases_Bool, cond-true, cond-false}
-use Rattle.linker_elf.specs.AArch64Relocations.{aarch64_name}
-use Rattle.linker_elf.specs.Choices.{IsBound, IsFirst, choice}
-use Rattle.linker_elf.specs.ElfNames.{IsNamed, IsNameOf, code_of}
-use Rattle.linker_elf.specs.declared.aarch64.relocations.AArch64Relocation.{AArch64Relocation}
+use Rattle.linker_rewriting.proofs.Imports.{AArch64, AArch64Relocation, Addresses, Choice, Consumed, Decision, FirstOfPair, Grouped, IfGroupMatches, Independent, IsAArch64Choice, IsArchitectureChoice, IsChosenBy, IsFirst, IsNameOf, IsNamed, Kept, Labelled, LinkFacts, Member, NotRelaxable, OutputFacts, Phase, Ppc64, Rela, Relaxation, Rewritten, RewrittenWithSymbol, Scope, Symbol, SymbolFacts, Tie, UnrelaxableGroups, aarch64_name, cases_Bool, choice, code_of, cond-false, cond-true, relaxation_no_op, relaxation_skipped, relocation_at, relocation_in, ◌&&◌}
+use Rattle.std.specs.Prelude.{is_some, ⊤}
+use Rattle.linker_elf.specs.Choices.{IsBound}
 use Rattle.linker_elf.specs.declared.aarch64.relocations.AArch64Relocation.TheVariants as names
-use Rattle.linker_elf.specs.declared.elf.architecture.Architecture.TheVariants.{AArch64, Ppc64}
-use Rattle.linker_elf.specs.declared.elf.choice.Choice.{Choice}
-use Rattle.linker_elf.specs.declared.elf.choice.LinkFacts.{LinkFacts}
 use Rattle.linker_rewriting.proofs.Chosen.{IsChosen, chosen_at, chosen_or_labelled}
 use Rattle.linker_rewriting.proofs.Entries.{IsOfOne, of_one}
 use Rattle.linker_rewriting.proofs.SequenceMembers.{IsThere, among, are_there, at_first, there}
@@ -22,27 +16,11 @@ use Rattle.linker_rewriting.specs.Groups.{IsScopeIn, aarch64_scope_in, group_sta
 use Rattle.linker_rewriting.specs.Rewritten.{IsAddressRewritten, IsDescriptorWhole, IsLoadRewritten, IsPartAt, IsRewrittenBy, IsWholeBy, SequencesAreWhole}
 use Rattle.linker_rewriting.specs.RiscVPcrelGroups.{is_labelled}
 use Rattle.linker_rewriting.specs.Sequences.{IsWhole, are_members, descriptor, got_load, is_among, is_typed, is_whole, member, page_and_offset}
-use Rattle.linker_rewriting.specs.declared.decisions.Decision.{Decision}
-use Rattle.linker_rewriting.specs.declared.decisions.Decision.TheVariants.{Kept, Rewritten, Consumed, RewrittenWithSymbol}
-use Rattle.linker_rewriting.specs.declared.facts.OutputFacts.{OutputFacts}
-use Rattle.linker_rewriting.specs.declared.facts.SymbolFacts.{SymbolFacts}
 use Rattle.linker_rewriting.specs.declared.groups.Group.TheVariants as groups
-use Rattle.linker_rewriting.specs.declared.groups.Scope.{Scope}
-use Rattle.linker_rewriting.specs.declared.groups.Scope.TheVariants.{NotRelaxable, Independent, Grouped, FirstOfPair, IfGroupMatches, Labelled}
-use Rattle.linker_rewriting.specs.declared.groups.UnrelaxableGroups.{UnrelaxableGroups}
-use Rattle.linker_rewriting.specs.declared.phases.Phase.{Phase}
 use Rattle.linker_rewriting.specs.declared.phases.Phase.TheVariants as phases
-use Rattle.linker_rewriting.specs.declared.sequences.Member.{Member}
-use Rattle.linker_rewriting.specs.declared.sequences.Tie.{Tie}
 use Rattle.linker_rewriting.specs.declared.sequences.Tie.TheVariants as ties
-use Rattle.linker_section.specs.Relocations.{relocation_at, relocation_in}
-use Rattle.linker_section.specs.declared.facts.Addresses.{Addresses}
-use Rattle.linker_section.specs.declared.facts.Symbol.{Symbol}
-use Rattle.linker_section.specs.declared.relocations.Rela.{Rela}
-use Rattle.linker_utils.specs.AArch64Rewrites.{AArch64Applies, AArch64Choice, IsAArch64Choice, aarch64_entries, aarch64_matches, descriptor_entries, erased}
-use Rattle.linker_utils.specs.Relaxations.{IsArchitectureChoice, IsChosenBy, relaxation_no_op, relaxation_skipped}
+use Rattle.linker_utils.specs.AArch64Rewrites.{AArch64Applies, AArch64Choice, aarch64_entries, aarch64_matches, descriptor_entries, erased}
 use Rattle.linker_utils.specs.declared.aarch64.rewrites.RewriteKind.TheVariants as kinds
-use Rattle.linker_utils.specs.declared.architecture.Relaxation.{Relaxation}
 use Rattle.linker_utils.specs.declared.architecture.Relaxation.TheVariants as relaxations
 
 -- ---- scopes

@@ -1,7 +1,7 @@
 -- What a number of bytes tells of them.
-use Rattle.std.specs.Prelude.{get_or, ◌%◌, ◌^◌}
+use Rattle.linker_rewriting.proofs.Imports.{cases_lt, get_or}
+use Rattle.std.specs.Prelude.{◌%◌, ◌^◌}
 use Rattle.std.proofs.Common.{◌≡◌, ℕ, zero, suc, ◌+◌, ◌*◌, ◌/◌, ◌≤◌, ◌<◌, inl, inr, List, sym, ap, subst, ◌∙◌, arith, refl}
-use Rattle.std.proofs.lemmas.Bool.{cases_lt}
 use Rattle.linker_rewriting.specs.Decisions.{AreBytes, bytes_number, turned, OneByteTells, WordsTell}
 
 -- ---- one step

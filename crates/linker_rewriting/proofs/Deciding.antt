@@ -1,19 +1,9 @@
 -- Decisions, relocation by relocation.
-use Rattle.std.specs.Prelude.{max, Option, IfNone, IfSome}
-use Rattle.std.proofs.lemmas.Bool.{leb-true}
+use Rattle.linker_rewriting.proofs.Imports.{Architecture, CanRewrite, Consumed, Decision, DeletedBytes, IfNone, IfSome, Kept, Rela, Rewrite, Rewritten, RewrittenWithSymbol, get_or-set_other, get_or-set_same, leb-true, relaxation_deleted, relaxation_rewrite, relocation_in, window_of_rewrite}
+use Rattle.std.specs.Prelude.{max, Option}
 use Rattle.std.proofs.Common.{◌≡◌, ℕ, zero, suc, ◌+◌, ◌-◌, ◌≤◌, ◌<◌, ◌/◌, ◌⊎◌, inl, inr, ◌∙◌, List, length, ap, sym, subst, arith, refl, Bool, true, false, None, Some, slice_set}
-use Rattle.std.proofs.lemmas.List.{get_or-set_same, get_or-set_other}
-use Rattle.linker_base.specs.Rewrite.{Rewrite, CanRewrite}
-use Rattle.linker_base.specs.RewriteWindow.{window_of_rewrite}
-use Rattle.linker_base.specs.declared.rewrite.DeletedBytes.{DeletedBytes}
-use Rattle.linker_elf.specs.declared.elf.architecture.Architecture.{Architecture}
-use Rattle.linker_utils.specs.Relaxations.{relaxation_rewrite, relaxation_deleted}
 use Rattle.linker_rewriting.specs.Candidates.{deletes_within}
 use Rattle.linker_rewriting.specs.Decisions.{deleted_end, CanBeMade, AreApart, AreApartBy, AreClear, AreAllDecided, AreDecidedBy, Bound, IsMadeBy, IsOverlapping, IsSome, IsThere, IsWithin, Matches, bound_at, decision_at, is_taken, takes_next, start_at, end_at, start_by, end_by, IsEndAfter}
-use Rattle.linker_rewriting.specs.declared.decisions.Decision.{Decision}
-use Rattle.linker_rewriting.specs.declared.decisions.Decision.TheVariants.{Kept, Consumed, Rewritten, RewrittenWithSymbol}
-use Rattle.linker_section.specs.Relocations.{relocation_in}
-use Rattle.linker_section.specs.declared.relocations.Rela.{Rela}
 use borrow.Author.Count.{below_more}
 
 -- one of the windows ends there

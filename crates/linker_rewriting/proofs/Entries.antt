@@ -1,10 +1,6 @@
 -- The rewrite that is chosen for a relocation is that of an entry of its table.
 use Rattle.std.proofs.Common.{◌≡◌, ℕ, List, [], ◌∷◌, sym, ap, subst, ◌∙◌, inl, inr, ◌⊎◌}
-use Rattle.linker_elf.specs.Choices.{Entry, IsFirst, choice}
-use Rattle.linker_elf.specs.ElfNames.{ElfName, IsNamed, IsNameOf, code_of}
-use Rattle.linker_elf.specs.declared.elf.choice.Choice.{Choice}
-use Rattle.linker_utils.specs.Relaxations.{IsChosenBy, IsUnchanged, relaxation_no_op}
-use Rattle.linker_utils.specs.declared.architecture.Relaxation.{Relaxation}
+use Rattle.linker_rewriting.proofs.Imports.{Choice, ElfName, Entry, IsChosenBy, IsFirst, IsNameOf, IsNamed, IsUnchanged, Relaxation, choice, code_of, relaxation_no_op}
 
 -- It is that of an entry that is meant for what is there.
 pub record IsOfEntry {K N : Type 0} (elf : N → ElfName) (relaxation : K → Relaxation)

@@ -2,9 +2,8 @@
 use Rattle.std.proofs.Common.{◌≡◌, ◌≢◌, ℕ, zero, suc, ◌≤◌, ◌<◌, ◌⊎◌, inl, inr, ◌∙◌, ◌↔◌, List, [], ◌∷◌, length, ap, sym, subst, arith, refl, IsTrue, None, Some, get_or, rules, slice_get, slice_set}
 use Rattle.linker_rewriting.specs.Groups.{keeps, with_kept, kept_by}
 use Rattle.linker_rewriting.specs.Surveys.{AreKeptToo, IsGroup}
-use Rattle.linker_rewriting.specs.declared.groups.Group.{Group}
+use Rattle.linker_rewriting.proofs.Imports.{Group, UnrelaxableGroups}
 use Rattle.linker_rewriting.specs.declared.groups.Group.TheVariants.{InitialExec, GeneralDynamic, LocalDynamic, Descriptor, GotLoad}
-use Rattle.linker_rewriting.specs.declared.groups.UnrelaxableGroups.{UnrelaxableGroups}
 
 get_set_same : {X : Type 0} (xs : List X) (i : ℕ) (a : X) → i < length xs
     → slice_get (slice_set xs i a) i ≡ Some a

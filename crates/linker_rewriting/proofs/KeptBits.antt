@@ -2,13 +2,8 @@
 use Rattle.std.proofs.Common.{◌≡◌, ℕ, ℤ, ◌+◌, ◌*◌, ◌/◌, ◌^◌, ◌<◌, Bool, true, false, refl, sym, ap, ◌∙◌, arith}
 use Rattle.linker_rewriting.specs.Facts.{facts_of, placed_facts}
 use Rattle.linker_rewriting.specs.Kept.{bit_if, kept_bits, KeptFactsTell}
-use Rattle.linker_rewriting.specs.declared.facts.OutputFacts.{OutputFacts}
-use Rattle.linker_rewriting.specs.declared.facts.SymbolFacts.{SymbolFacts}
+use Rattle.linker_rewriting.proofs.Imports.{Addresses, GotToPcRel, OutputFacts, Phase, PreLayout, ShortPcRel, Symbol, SymbolFacts, TlsLocalExec}
 use Rattle.linker_rewriting.specs.declared.kept.FactsSnapshot.{FactsSnapshot}
-use Rattle.linker_rewriting.specs.declared.phases.Phase.{Phase}
-use Rattle.linker_rewriting.specs.declared.phases.Phase.TheVariants.{PreLayout, TlsLocalExec, GotToPcRel, ShortPcRel}
-use Rattle.linker_section.specs.declared.facts.Addresses.{Addresses}
-use Rattle.linker_section.specs.declared.facts.Symbol.{Symbol}
 
 -- a bit's number
 digit : Bool → ℕ

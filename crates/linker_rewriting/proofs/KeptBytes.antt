@@ -1,17 +1,11 @@
 -- Numbers of bytes, kept one by one.
-use Rattle.std.specs.Prelude.{All, get_or, take, drop}
+use Rattle.linker_rewriting.proofs.Imports.{All, Choice, Consumed, Decision, Kept, Relaxation, Rewritten, RewrittenWithSymbol, drop-set-lt, drop_more_same, get_or, get_or-map, get_or-set_other, get_or-set_same, length-map, length-take-le, map-set, relocation_in, written_more}
+use Rattle.std.specs.Prelude.{take, drop}
 use Rattle.std.proofs.Common.{◌≡◌, ℕ, ◌+◌, ◌<◌, ◌≤◌, List, length, map, slice_set, sym, ap, subst, ◌∙◌, arith, refl}
 use Rattle.std.proofs.Math.Seq.{map-set_same}
-use Rattle.std.proofs.lemmas.Grind.{drop_more_same}
-use Rattle.std.proofs.lemmas.List.{length-map, length-take-le, map-set, set-get_or, get_or-map, get_or-take, get_or-drop, get_or-set_same, get_or-set_other, drop-set-lt}
+use Rattle.std.proofs.lemmas.List.{set-get_or, get_or-take, get_or-drop}
 use Rattle.std.proofs.lemmas.List.Elements.{All-get_or}
-use Rattle.linker_elf.specs.declared.elf.choice.Choice.{Choice}
-use Rattle.linker_riscv64.proofs.Shrunk.{written_more}
 use Rattle.linker_rewriting.specs.Decisions.{AllKeepBytes, KeepsBytes, decision_at}
-use Rattle.linker_rewriting.specs.declared.decisions.Decision.{Decision}
-use Rattle.linker_rewriting.specs.declared.decisions.Decision.TheVariants.{Kept, Consumed, Rewritten, RewrittenWithSymbol}
-use Rattle.linker_section.specs.Relocations.{relocation_in}
-use Rattle.linker_utils.specs.declared.architecture.Relaxation.{Relaxation}
 use borrow.Author.Count.{below_more}
 
 -- one that rewrites nothing keeps no number

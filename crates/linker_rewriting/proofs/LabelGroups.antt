@@ -1,18 +1,13 @@
 -- Groups of one label: each relocation has one high part, and what is noted is right.
 use Rattle.std.proofs.Common.{◌≡◌, ℕ, zero, suc, ◌∙◌, ◌+◌, ◌≤◌, ◌<◌, ◌/◌, inl, inr, List, [], ◌∷◌, length, ap, sym, subst, arith, refl, Bool, true, false, true≢false, Option, Some, None, slice_get, slice_set, eq-eqb}
-use Rattle.std.specs.Prelude.{◌&&◌, ◌==◌, ◌⊎◌, ◌-◌, not, nat_le}
+use Rattle.linker_rewriting.proofs.Imports.{AArch64, AArch64Relocation, Architecture, Choice, Consumed, Decision, FirstOfPair, GotToPcRel, Grouped, IfGroupMatches, Independent, IsAscending, Kept, Labelled, LoongArch64, LoongArch64Relocation, NotRelaxable, Phase, Ppc64, Ppc64Relocation, PreLayout, Rela, Relaxation, RiscV, Scope, ShortPcRel, TlsLocalExec, X86_64, X86_64Relocation, and_parts, cases_Bool, cases_lt, cond-true, eqb-true, get_or-set_other, get_or-set_same, le-leb, leb-true, nat_le, offset_at, relocation_in, ◌&&◌, ◌==◌}
+use Rattle.std.specs.Prelude.{◌⊎◌, ◌-◌, not}
 use Rattle.std.proofs.Math.Bool.{and-false}
-use Rattle.std.proofs.lemmas.Bool.{eqb-true, leb-true, le-leb, cases_eq, cases_lt, cases_Bool, and_parts, cond-true}
-use Rattle.std.proofs.lemmas.List.{get_or-set_same, get_or-set_other}
-use Rattle.linker_elf.specs.declared.aarch64.relocations.AArch64Relocation.{AArch64Relocation}
+use Rattle.std.proofs.lemmas.Bool.{cases_eq}
 use Rattle.linker_elf.specs.declared.aarch64.relocations.AArch64Relocation.TheVariants as aarch64
-use Rattle.linker_elf.specs.declared.loongarch64.relocations.LoongArch64Relocation.{LoongArch64Relocation}
 use Rattle.linker_elf.specs.declared.loongarch64.relocations.LoongArch64Relocation.TheVariants as loongarch64
-use Rattle.linker_elf.specs.declared.ppc64.relocations.Ppc64Relocation.{Ppc64Relocation}
 use Rattle.linker_elf.specs.declared.ppc64.relocations.Ppc64Relocation.TheVariants as ppc64
-use Rattle.linker_elf.specs.declared.x86_64.relocations.X86_64Relocation.{X86_64Relocation}
 use Rattle.linker_elf.specs.declared.x86_64.relocations.X86_64Relocation.TheVariants as x86_64
-use Rattle.linker_elf.specs.declared.elf.choice.Choice.{Choice}
 use Rattle.linker_rewriting.proofs.Unique.{one_scope, one_candidate_with}
 use Rattle.linker_rewriting.specs.Decisions.{decision_at, label_decision, IsLabelDecision}
 use Rattle.linker_rewriting.specs.Decisions.{rewritten_by, takes_symbol}
@@ -20,18 +15,6 @@ use Rattle.linker_rewriting.specs.Facts.{RelaxContext}
 use Rattle.linker_rewriting.specs.Groups.{aarch64_scope_in, loongarch_scope_in, ppc64_scope_in, x86_64_scope_in}
 use Rattle.linker_rewriting.specs.RiscVPcrelGroups.{high_code, is_high, searched, is_beyond, is_high_in, IsHighAt, offset_of_label, label_offset, IsHighFrom, IsHighIn, is_labelled, has_labels, IsInLabel, label_facts, IsLabelCandidate, Lacks, IsLacking, HasLacking, LabelFits, LabelStays, IsLabelNote}
 use Rattle.linker_rewriting.specs.Notes.{is_note, AreHighsNoted, IsNoteAt, IsNoteOf, AreLabelsNoted}
-use Rattle.linker_rewriting.specs.declared.decisions.Decision.{Decision}
-use Rattle.linker_rewriting.specs.declared.decisions.Decision.TheVariants.{Kept, Consumed}
-use Rattle.linker_rewriting.specs.declared.groups.Scope.{Scope}
-use Rattle.linker_rewriting.specs.declared.groups.Scope.TheVariants.{NotRelaxable, Independent, Grouped, FirstOfPair, IfGroupMatches, Labelled}
-use Rattle.linker_rewriting.specs.declared.phases.Phase.{Phase}
-use Rattle.linker_rewriting.specs.declared.phases.Phase.TheVariants.{PreLayout, TlsLocalExec, GotToPcRel, ShortPcRel}
-use Rattle.linker_section.specs.Relocations.{relocation_in}
-use Rattle.linker_section.specs.Values.{IsAscending, offset_at}
-use Rattle.linker_section.specs.declared.relocations.Rela.{Rela}
-use Rattle.linker_utils.specs.declared.architecture.Relaxation.{Relaxation}
-use Rattle.linker_elf.specs.declared.elf.architecture.Architecture.{Architecture}
-use Rattle.linker_elf.specs.declared.elf.architecture.Architecture.TheVariants.{AArch64, RiscV, LoongArch64, Ppc64, X86_64}
 
 -- ---- one high part
 

@@ -4,6 +4,7 @@ pub mod Chosen
 pub mod Deciding
 pub mod Entries
 pub mod GlobalPointer
+pub mod Imports
 pub mod Keeping
 pub mod KeptBits
 pub mod KeptBytes

@@ -1,14 +1,9 @@
 -- What decisions delete, listed one after the other.
 use Rattle.std.proofs.Common.{◌≡◌, ℕ, zero, suc, ◌+◌, ◌≤◌, ◌<◌, ◌⊎◌, inl, inr, ◌∙◌, List, [], ◌∷◌, ◌++◌, length, take, get_or, ap, sym, subst, arith, refl, true, Option, None, Some, slice_set, append-nil}
-use Rattle.std.proofs.lemmas.Bool.{leb-true}
-use Rattle.std.proofs.lemmas.List.{length-append, length-take-le, get_or_default}
-use Rattle.linker_base.specs.declared.rewrite.DeletedBytes.{DeletedBytes}
+use Rattle.linker_rewriting.proofs.Imports.{Consumed, Decision, DeletedBytes, Kept, Rewritten, RewrittenWithSymbol, get_or_default, leb-true, length-take-le, relaxation_deleted, relocation_in}
+use Rattle.std.proofs.lemmas.List.{length-append}
 use Rattle.linker_rewriting.specs.Candidates.{deletes_within}
 use Rattle.linker_rewriting.specs.Decisions.{CanBeMade, AllCanBeMade, decision_at, deleted_of, deleted_end, deletion_by, deletions_by}
-use Rattle.linker_rewriting.specs.declared.decisions.Decision.{Decision}
-use Rattle.linker_rewriting.specs.declared.decisions.Decision.TheVariants.{Kept, Rewritten, RewrittenWithSymbol, Consumed}
-use Rattle.linker_section.specs.Relocations.{relocation_in}
-use Rattle.linker_utils.specs.Relaxations.{relaxation_deleted}
 
 pub record AreListed (bytes : List ℕ) (decisions : List Decision) (old now : List (ℕ × ℕ))
     (len k : ℕ) : Type 0 where

@@ -1,14 +1,8 @@
 -- Of a marked load from LoongArch's GOT both instructions are rewritten, or neither is.
 use Rattle.std.proofs.Common.{◌≡◌, ℕ, ℤ, ◌∙◌, ◌+◌, ◌-◌, ◌≤◌, ◌⊎◌, ◌↔◌, inl, inr, List, [], ap, sym, subst, arith, refl, Bool, true, false, Option, Some, None, slice_get}
-use Rattle.std.specs.Prelude.{◌&&◌}
-use Rattle.linker_elf.specs.Choices.{choice}
-use Rattle.linker_elf.specs.ElfNames.{code_of, IsNamed, IsNameOf}
-use Rattle.linker_elf.specs.LoongArchRelocations.{loongarch_name}
-use Rattle.linker_elf.specs.declared.elf.choice.Choice.{Choice}
-use Rattle.linker_elf.specs.declared.elf.choice.LinkFacts.{LinkFacts}
-use Rattle.linker_elf.specs.declared.loongarch64.relocations.LoongArch64Relocation.{LoongArch64Relocation}
+use Rattle.linker_rewriting.proofs.Imports.{Choice, Decision, Independent, IsArchitectureChoice, IsLoongArchChoice, IsNameOf, IsNamed, IsUnchanged, LinkFacts, LoongArch64, LoongArch64Relocation, OutputFacts, PreLayout, Rela, Relaxation, Subject, SymbolFacts, UnrelaxableGroups, choice, code_of, loongarch_name, relaxation_deleted, relaxation_no_op, relaxation_skipped, relocation_in, ◌&&◌}
 use Rattle.linker_elf.specs.declared.loongarch64.relocations.LoongArch64Relocation.TheVariants as r
-use Rattle.linker_utils.specs.LoongArchRewrites.{IsLoongArchChoice, IsPair, IsLd, LoongArchChoice, loongarch_deleted}
+use Rattle.linker_utils.specs.LoongArchRewrites.{IsPair, IsLd, LoongArchChoice, loongarch_deleted}
 use Rattle.linker_utils.specs.declared.loongarch64.rewrites.RewriteKind.{RewriteKind as LoongArchKind}
 use Rattle.linker_utils.specs.declared.loongarch64.rewrites.RewriteKind.TheVariants as kinds
 use Rattle.linker_rewriting.proofs.SequenceMembers.{IsOf, among_is, are_there, at_first}
@@ -19,19 +13,7 @@ use Rattle.linker_rewriting.specs.Facts.{RelaxContext, pre_layout, facts_of, fac
 use Rattle.linker_rewriting.specs.Groups.{loongarch_scope_in}
 use Rattle.linker_rewriting.specs.Rewritten.{IsRewritten, LoadsAreWhole}
 use Rattle.linker_rewriting.specs.Sequences.{IsWhole, are_members, is_among, is_whole, marked_load, member}
-use Rattle.linker_rewriting.specs.declared.sequences.Tie.TheVariants.{Subject}
-use Rattle.linker_rewriting.specs.declared.decisions.Decision.{Decision}
-use Rattle.linker_rewriting.specs.declared.facts.OutputFacts.{OutputFacts}
-use Rattle.linker_rewriting.specs.declared.facts.SymbolFacts.{SymbolFacts}
-use Rattle.linker_rewriting.specs.declared.groups.UnrelaxableGroups.{UnrelaxableGroups}
-use Rattle.linker_rewriting.specs.declared.groups.Scope.TheVariants.{Independent}
-use Rattle.linker_rewriting.specs.declared.phases.Phase.TheVariants.{PreLayout}
-use Rattle.linker_section.specs.Relocations.{relocation_in}
-use Rattle.linker_section.specs.declared.relocations.Rela.{Rela}
-use Rattle.linker_utils.specs.Relaxations.{IsArchitectureChoice, IsUnchanged, relaxation_skipped, relaxation_deleted, relaxation_no_op}
-use Rattle.linker_utils.specs.declared.architecture.Relaxation.{Relaxation}
 use Rattle.linker_utils.specs.declared.architecture.Relaxation.TheVariants as relaxations
-use Rattle.linker_elf.specs.declared.elf.architecture.Architecture.TheVariants.{LoongArch64}
 
 -- ---- the choices of both
 

@@ -1,12 +1,9 @@
 -- Decisions tested one by one.
-use Rattle.std.specs.Prelude.{get_or}
+use Rattle.linker_rewriting.proofs.Imports.{Decision, Kept, get_or, relocation_in}
 use Rattle.std.proofs.Common.{◌≡◌, ℕ, ◌+◌, ◌≤◌, ◌<◌, ◌/◌, inl, inr, List, length, sym, subst, arith, refl, None}
 use Rattle.linker_rewriting.proofs.Deciding.{EndsAt, IsGrown, IsReached, apart_more, ends_more}
 use Rattle.linker_rewriting.specs.Decisions.{CanBeMade, AllCanBeMade, Matches, AllMatch, KeepsBytes, AllKeepBytes, AreApart, IsEndAfter, bound_at, decision_at, start_by, end_by, start_at, end_at, IsUnmade, DecisionsAreMade}
-use Rattle.linker_rewriting.specs.declared.decisions.Decision.{Decision}
-use Rattle.linker_rewriting.specs.declared.decisions.Decision.TheVariants.{Kept}
 use Rattle.linker_rewriting.specs.declared.decisions.DecisionError.TheVariants.{TooShort, Changed, Overlaps}
-use Rattle.linker_section.specs.Relocations.{relocation_in}
 use borrow.Author.Count.{below_more}
 
 pub record AreChecked (bytes section : List ℕ) (decisions : List Decision) (numbers : List ℕ) (end k : ℕ) : Type 0 where

@@ -1,18 +1,11 @@
 -- What has been made of a section and of its relocations, one decision after the other.
 use Rattle.std.proofs.Common.{◌≡◌, ◌≢◌, ℕ, ◌+◌, ◌-◌, ◌≤◌, ◌<◌, inl, inr, ◌∙◌, List, length, take, drop, get_or, ap, sym, subst, arith, refl, IsTrue, Option, None, Some, true, nat_le}
-use Rattle.linker_base.specs.Rewrite.{Rewrite, CanRewrite, IsRewritable, rewritten, rewrite_window}
-use Rattle.linker_base.specs.RewriteWindow.{window_of_rewrite}
-use Rattle.linker_base.specs.declared.rewrite.DeletedBytes.{DeletedBytes}
+use Rattle.linker_rewriting.proofs.Imports.{CanRewrite, Consumed, Decision, DeletedBytes, Kept, Rela, Rewrite, Rewritten, RewrittenWithSymbol, get_or_default, relaxation_deleted, relaxation_rewrite, relocation_in, window_of_rewrite}
+use Rattle.linker_base.specs.Rewrite.{IsRewritable, rewritten, rewrite_window}
 use Rattle.linker_rewriting.specs.Candidates.{deletes_within}
 use Rattle.linker_rewriting.specs.Decisions.{window_of, CanBeMade, AllCanBeMade, AreApart, decision_at, start_at, written_end_at, end_at}
 use Rattle.linker_rewriting.specs.Rewritten.{section_after, relocation_after, IsMade, IsDone, AreDone, AreRelocationsAfter, OthersStay}
-use Rattle.linker_rewriting.specs.declared.decisions.Decision.{Decision}
-use Rattle.linker_rewriting.specs.declared.decisions.Decision.TheVariants.{Kept, Rewritten, RewrittenWithSymbol, Consumed}
 use Rattle.linker_section.proofs.Windows.{IsReplaced, in_window, IsStep, step_of, step_below, step_above, step_outside, zero_or_more}
-use Rattle.linker_section.specs.Relocations.{relocation_in}
-use Rattle.linker_section.specs.declared.relocations.Rela.{Rela}
-use Rattle.std.proofs.lemmas.List.{get_or_default}
-use Rattle.linker_utils.specs.Relaxations.{relaxation_rewrite, relaxation_deleted}
 use borrow.Author.Count.{below_more}
 
 -- ---- one rewrite

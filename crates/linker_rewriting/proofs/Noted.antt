@@ -7,15 +7,7 @@ use Rattle.linker_rewriting.specs.Decisions.{IsNotSurveyed, IsRejectedIn}
 use Rattle.linker_rewriting.specs.Facts.{RelaxContext}
 use Rattle.linker_rewriting.specs.Groups.{IsScopeIn, stays_at, symbol_of_group, group_stays}
 use Rattle.linker_rewriting.specs.Surveys.{IsKeeping, HasRewrite, StaysBy, IsNoted, NotesStay, MeansUnsurveyed}
-use Rattle.linker_rewriting.specs.declared.decisions.Decision.{Decision}
-use Rattle.linker_rewriting.specs.declared.decisions.RewritingError.{RewritingError}
-use Rattle.linker_rewriting.specs.declared.decisions.RewritingError.TheVariants.{TooShort, NotSurveyed, Overlaps, Contradiction}
-use Rattle.linker_rewriting.specs.declared.groups.Group.{Group}
-use Rattle.linker_rewriting.specs.declared.groups.UnrelaxableGroups.{UnrelaxableGroups}
-use Rattle.linker_rewriting.specs.declared.groups.Scope.{Scope}
-use Rattle.linker_rewriting.specs.declared.groups.Scope.TheVariants.{Grouped, IfGroupMatches}
-use Rattle.linker_section.specs.Relocations.{relocation_in}
-use Rattle.linker_section.specs.declared.relocations.Rela.{Rela}
+use Rattle.linker_rewriting.proofs.Imports.{Contradiction, Decision, Group, Grouped, IfGroupMatches, NotSurveyed, Overlaps, Rela, RewritingError, Scope, TooShort, UnrelaxableGroups, relocation_in}
 
 pub notes_stay : NotesStay
 notes_stay s other bytes section others_bytes others_section mid after limit others_limit noted surveyed n less =

@@ -7,13 +7,7 @@ use Rattle.linker_rewriting.specs.Decisions.{decision_of, decision_ahead, decisi
 use Rattle.linker_rewriting.specs.Facts.{RelaxContext}
 use Rattle.linker_rewriting.specs.Groups.{IsScopeIn, stays_at, symbol_of_group, group_stays}
 use Rattle.linker_rewriting.specs.Surveys.{IsKeeping, HasRewrite, StaysBy, AllStayIf, IsCause, IsSurveyedIn, SurveysCommute}
-use Rattle.linker_rewriting.specs.declared.decisions.Decision.{Decision}
-use Rattle.linker_rewriting.specs.declared.groups.Group.{Group}
-use Rattle.linker_rewriting.specs.declared.groups.UnrelaxableGroups.{UnrelaxableGroups}
-use Rattle.linker_rewriting.specs.declared.groups.Scope.{Scope}
-use Rattle.linker_rewriting.specs.declared.groups.Scope.TheVariants.{NotRelaxable, Independent, Grouped, FirstOfPair, IfGroupMatches, Labelled}
-use Rattle.linker_section.specs.Relocations.{relocation_in, relocation_at}
-use Rattle.linker_section.specs.declared.relocations.Rela.{Rela}
+use Rattle.linker_rewriting.proofs.Imports.{Decision, FirstOfPair, Group, Grouped, IfGroupMatches, Independent, Labelled, NotRelaxable, Rela, Scope, UnrelaxableGroups, relocation_at, relocation_in}
 
 -- ---- surveys
 

@@ -1,10 +1,7 @@
 -- In a phase without rewrites no relocation has a scope.
 use Rattle.std.proofs.Common.{◌≡◌, Bool, subst, sym}
 use Rattle.linker_rewriting.specs.Groups.{has_rewrites, IsNotRelaxableUnless}
-use Rattle.linker_rewriting.specs.declared.phases.Phase.{Phase}
-use Rattle.linker_rewriting.specs.declared.phases.Phase.TheVariants.{PreLayout, TlsLocalExec, GotToPcRel, ShortPcRel}
-use Rattle.linker_elf.specs.declared.elf.architecture.Architecture.{Architecture}
-use Rattle.linker_elf.specs.declared.elf.architecture.Architecture.TheVariants.{AArch64, RiscV, LoongArch64, Ppc64, X86_64}
+use Rattle.linker_rewriting.proofs.Imports.{AArch64, Architecture, GotToPcRel, LoongArch64, Phase, Ppc64, PreLayout, RiscV, ShortPcRel, TlsLocalExec, X86_64}
 
 by_table : (architecture : Architecture) (phase : Phase)
     → IsNotRelaxableUnless architecture phase (has_rewrites architecture phase)

@@ -1,16 +1,12 @@
 -- Places among the bytes that decisions write or delete.
 use Rattle.std.proofs.Common.{◌≡◌, ◌≢◌, ℕ, ◌+◌, ◌-◌, ◌<◌, ◌≤◌, inl, inr, List, length, subst, arith}
-use Rattle.std.proofs.lemmas.Bool.{cases_lt}
+use Rattle.linker_rewriting.proofs.Imports.{Architecture, Consumed, Decision, Kept, cases_lt, offset_at}
 use Rattle.linker_elf.specs.declared.elf.RelocationKindInfo.{RelocationKindInfo}
 use Rattle.linker_rewriting.proofs.Deciding.{ends_within}
 use Rattle.linker_rewriting.specs.Decisions.{AllCanBeMade, AreApart, IsCovered, decision_at, start_by, end_by, start_at, end_at}
 use Rattle.linker_rewriting.specs.Inner.Places.{IsWindow, AreBounded, AreBelow, AreAbove, IsPlaceBeside}
 use Rattle.linker_rewriting.specs.declared.covered.Place.{Place}
-use Rattle.linker_rewriting.specs.declared.decisions.Decision.{Decision}
-use Rattle.linker_rewriting.specs.declared.decisions.Decision.TheVariants.{Kept, Consumed}
 use Rattle.linker_section.specs.Fields.{IsField, field_end}
-use Rattle.linker_section.specs.Values.{offset_at}
-use Rattle.linker_elf.specs.declared.elf.architecture.Architecture.{Architecture}
 use borrow.Author.Count.{below_more}
 
 pub no_more : (n : ℕ) → n ≤ n

@@ -1,27 +1,11 @@
 -- What rewrites are chosen by before addresses are known, and in which phase a relocation is
 -- rewritten.
 use Rattle.std.proofs.Common.{◌≡◌, ℕ, ◌<◌, List, Bool, true, false, sym, ap, subst, ◌∙◌, Option, Some, None}
-use Rattle.std.specs.Prelude.{slice_get}
-use Rattle.linker_elf.specs.declared.elf.choice.Choice.{Choice}
-use Rattle.linker_elf.specs.declared.elf.choice.LinkFacts.{LinkFacts}
+use Rattle.linker_rewriting.proofs.Imports.{Addresses, Choice, Consumed, Decision, Kept, LinkFacts, NotRelaxable, OutputFacts, Ppc64, PreLayout, Rela, Relaxation, Rewritten, Scope, Symbol, SymbolFacts, UnrelaxableGroups, relocation_in, slice_get}
 use Rattle.linker_rewriting.proofs.Chosen.{IsChosen}
 use Rattle.linker_rewriting.specs.Decisions.{AreDecidedIn, IsDecidedAfter, IsDecidedAlone, IsScopeDecision, decision_at, is_taken}
 use Rattle.linker_rewriting.specs.Facts.{RelaxContext, link_facts, facts_by}
 use Rattle.linker_rewriting.specs.Groups.{IsScopeIn}
-use Rattle.linker_rewriting.specs.declared.decisions.Decision.{Decision}
-use Rattle.linker_rewriting.specs.declared.decisions.Decision.TheVariants.{Kept, Rewritten, Consumed}
-use Rattle.linker_rewriting.specs.declared.facts.OutputFacts.{OutputFacts}
-use Rattle.linker_rewriting.specs.declared.facts.SymbolFacts.{SymbolFacts}
-use Rattle.linker_rewriting.specs.declared.groups.UnrelaxableGroups.{UnrelaxableGroups}
-use Rattle.linker_rewriting.specs.declared.groups.Scope.{Scope}
-use Rattle.linker_rewriting.specs.declared.groups.Scope.TheVariants.{NotRelaxable}
-use Rattle.linker_rewriting.specs.declared.phases.Phase.TheVariants.{PreLayout}
-use Rattle.linker_section.specs.Relocations.{relocation_in}
-use Rattle.linker_section.specs.declared.facts.Addresses.{Addresses}
-use Rattle.linker_section.specs.declared.facts.Symbol.{Symbol}
-use Rattle.linker_section.specs.declared.relocations.Rela.{Rela}
-use Rattle.linker_utils.specs.declared.architecture.Relaxation.{Relaxation}
-use Rattle.linker_elf.specs.declared.elf.architecture.Architecture.TheVariants.{Ppc64}
 
 -- ---- scopes
 

@@ -2,11 +2,7 @@
 use Rattle.std.proofs.Common.{ℕ, List, inl, Bool}
 use Rattle.linker_rewriting.specs.Agreement.{Agree}
 use Rattle.linker_rewriting.specs.Decisions.{IsRejectedFirst, IsRejectedWith}
-use Rattle.linker_rewriting.specs.declared.decisions.Decision.{Decision}
-use Rattle.linker_rewriting.specs.declared.decisions.RewritingError.{RewritingError}
-use Rattle.linker_rewriting.specs.declared.decisions.RewritingError.TheVariants.{TooShort, NotSurveyed, Overlaps, Contradiction}
-use Rattle.linker_rewriting.specs.declared.facts.SymbolFacts.{SymbolFacts}
-use Rattle.linker_section.specs.declared.facts.Symbol.{Symbol}
+use Rattle.linker_rewriting.proofs.Imports.{Contradiction, Decision, NotSurveyed, Overlaps, RewritingError, Symbol, SymbolFacts, TooShort}
 
 -- where the tables agree another error is
 pub rejected_first : (facts : List SymbolFacts) (symbols : List Symbol) (bytes : List ℕ)

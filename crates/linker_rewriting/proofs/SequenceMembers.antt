@@ -1,17 +1,12 @@
 -- Members of sequences, one by one.
 use Rattle.std.proofs.Common.{◌≡◌, ℕ, ◌+◌, ◌-◌, ◌/◌, ◌<◌, ◌≤◌, ◌∙◌, ltb, inl, inr, List, [], ◌∷◌, length, drop, get_or, ap, sym, subst, arith, refl, Bool, true, false, Option, Some, None, add-one, drop-cons}
-use Rattle.std.specs.Prelude.{◌&&◌, ◌==◌, nat_le, cond, pos}
+use Rattle.linker_rewriting.proofs.Imports.{AArch64, Architecture, LoongArch64, Member, Ppc64, Rela, RiscV, Subject, Tie, X86_64, and_parts, cases_lt, cond-false, cond-true, eqb-true, le-leb, leb-true, nat_le, relocation_at, relocation_in, ◌&&◌, ◌==◌}
+use Rattle.std.specs.Prelude.{cond, pos}
 use Rattle.std.specs.Ordering.{int_eq}
-use Rattle.std.proofs.lemmas.Bool.{and_parts, cases_lt, cond-true, cond-false, eqb-true, le-leb, le-ltb, leb-true, lt-ltb}
+use Rattle.std.proofs.lemmas.Bool.{le-ltb, lt-ltb}
 use Rattle.std.proofs.lemmas.Bool.Decides.{Decides-int_eq}
-use Rattle.linker_elf.specs.declared.elf.architecture.Architecture.{Architecture}
-use Rattle.linker_elf.specs.declared.elf.architecture.Architecture.TheVariants.{AArch64, RiscV, LoongArch64, Ppc64, X86_64}
 use Rattle.linker_rewriting.specs.Sequences.{IsWhole, are_members, is_among, is_member, is_place, is_tied, is_typed, is_whole, is_whole_in}
-use Rattle.linker_rewriting.specs.declared.sequences.Member.{Member}
-use Rattle.linker_rewriting.specs.declared.sequences.Tie.{Tie}
-use Rattle.linker_rewriting.specs.declared.sequences.Tie.TheVariants.{Subject, Symbol, Mark}
-use Rattle.linker_section.specs.Relocations.{relocation_at, relocation_in}
-use Rattle.linker_section.specs.declared.relocations.Rela.{Rela}
+use Rattle.linker_rewriting.specs.declared.sequences.Tie.TheVariants.{Symbol, Mark}
 
 -- ---- a loop's index
 

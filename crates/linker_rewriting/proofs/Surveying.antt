@@ -1,24 +1,10 @@
 -- The groups that stay, noted relocation by relocation.
 use Rattle.std.proofs.Common.{◌≡◌, ℕ, ◌+◌, inl, inr, ◌∙◌, List, ap, sym, subst, arith, refl, IsTrue, Option, None, Some, Bool, true, false}
-use Rattle.std.specs.Prelude.{slice_get}
+use Rattle.linker_rewriting.proofs.Imports.{AArch64, Addresses, Architecture, GotToPcRel, Group, Grouped, IfGroupMatches, LoongArch64, OutputFacts, Phase, Ppc64, PreLayout, Rela, RiscV, Scope, ShortPcRel, Symbol, SymbolFacts, TlsLocalExec, UnrelaxableGroups, X86_64, relocation_in, slice_get}
 use Rattle.linker_rewriting.specs.Facts.{RelaxContext, context}
 use Rattle.linker_rewriting.specs.Groups.{stays_at, symbol_of_group}
 use Rattle.linker_rewriting.specs.Inner.Codes.{needs_mark, is_of_group, KeepsNone}
 use Rattle.linker_rewriting.specs.Surveys.{AreKeptToo, IsGroupOf, IsOfThreads, IsKeeping, IsUnmarked, IsUnmarkedIn, IsUnmarkedBy, HasRewrite, StaysBy, AllStayIf, IsNoted, IsCause, IsSurveyedIn}
-use Rattle.linker_rewriting.specs.declared.facts.OutputFacts.{OutputFacts}
-use Rattle.linker_rewriting.specs.declared.facts.SymbolFacts.{SymbolFacts}
-use Rattle.linker_rewriting.specs.declared.groups.Group.{Group}
-use Rattle.linker_rewriting.specs.declared.groups.UnrelaxableGroups.{UnrelaxableGroups}
-use Rattle.linker_rewriting.specs.declared.groups.Scope.{Scope}
-use Rattle.linker_rewriting.specs.declared.groups.Scope.TheVariants.{Grouped, IfGroupMatches}
-use Rattle.linker_rewriting.specs.declared.phases.Phase.{Phase}
-use Rattle.linker_rewriting.specs.declared.phases.Phase.TheVariants.{PreLayout, TlsLocalExec, GotToPcRel, ShortPcRel}
-use Rattle.linker_section.specs.Relocations.{relocation_in}
-use Rattle.linker_section.specs.declared.facts.Addresses.{Addresses}
-use Rattle.linker_section.specs.declared.facts.Symbol.{Symbol}
-use Rattle.linker_section.specs.declared.relocations.Rela.{Rela}
-use Rattle.linker_elf.specs.declared.elf.architecture.Architecture.{Architecture}
-use Rattle.linker_elf.specs.declared.elf.architecture.Architecture.TheVariants.{AArch64, RiscV, LoongArch64, Ppc64, X86_64}
 use borrow.Author.Count.{below_more}
 
 abbrev pub AreKept : List UnrelaxableGroups → List UnrelaxableGroups → Type 0

@@ -1,31 +1,20 @@
 -- What a code, a choice and a candidate are is one thing.
 use Rattle.std.proofs.Common.{◌≡◌, ℕ, refl, sym, ap, subst, ◌∙◌, List, [], ◌∷◌, Option, Some, None, Bool, true, false, ◌⊎◌, inl, inr, slice_get, ◌&&◌, ◌==◌, ◌+◌, zero, suc, is_some, not}
-use Rattle.linker_elf.specs.AArch64Relocations.{aarch64_name}
-use Rattle.linker_elf.specs.Choices.{Entry, IsFirst, choice}
-use Rattle.linker_elf.specs.ElfNames.{ElfName, named, unnamed, IsNamed, IsNameOf, code_of}
-use Rattle.linker_elf.specs.LoongArchRelocations.{loongarch_name}
-use Rattle.linker_elf.specs.Ppc64Relocations.{ppc64_name}
+use Rattle.linker_rewriting.proofs.Imports.{AArch64, AArch64Relocation, Architecture, Choice, ElfName, Entry, IsAArch64Choice, IsArchitectureChoice, IsChosenBy, IsFirst, IsLoongArchChoice, IsNameOf, IsNamed, IsPpc64Choice, IsUnchanged, LinkFacts, LoongArch64, LoongArch64Relocation, NotRelaxable, Phase, Ppc64, Ppc64Relocation, Rela, Relaxation, RiscV, Scope, SymbolFacts, X86_64, X86_64Relocation, aarch64_name, choice, code_of, loongarch_name, ppc64_name, relaxation_deleted, relaxation_skipped, relocation_at, relocation_in}
+use Rattle.linker_elf.specs.ElfNames.{named, unnamed}
 use Rattle.linker_elf.specs.RiscVRelocations.{riscv_name}
 use Rattle.linker_elf.specs.X86Relocations.{x86_64_name}
-use Rattle.linker_elf.specs.declared.aarch64.relocations.AArch64Relocation.{AArch64Relocation}
 use Rattle.linker_elf.specs.declared.aarch64.relocations.AArch64Relocation.TheVariants as aarch64_names
-use Rattle.linker_elf.specs.declared.loongarch64.relocations.LoongArch64Relocation.{LoongArch64Relocation}
 use Rattle.linker_elf.specs.declared.loongarch64.relocations.LoongArch64Relocation.TheVariants as loongarch64_names
-use Rattle.linker_elf.specs.declared.ppc64.relocations.Ppc64Relocation.{Ppc64Relocation}
 use Rattle.linker_elf.specs.declared.ppc64.relocations.Ppc64Relocation.TheVariants as ppc64_names
 use Rattle.linker_elf.specs.declared.riscv64.relocations.RiscVRelocation.{RiscVRelocation}
 use Rattle.linker_elf.specs.declared.riscv64.relocations.RiscVRelocation.TheVariants as riscv64_names
-use Rattle.linker_elf.specs.declared.x86_64.relocations.X86_64Relocation.{X86_64Relocation}
 use Rattle.linker_elf.specs.declared.x86_64.relocations.X86_64Relocation.TheVariants as x86_64_names
-use Rattle.linker_utils.specs.AArch64Rewrites.{IsAArch64Choice}
 use Rattle.linker_utils.specs.declared.aarch64.rewrites.RewriteKind.{RewriteKind as AArch64Kind}
 use Rattle.linker_utils.specs.declared.aarch64.rewrites.RewriteKind.TheVariants as aarch64_kinds
-use Rattle.linker_elf.specs.declared.elf.choice.Choice.{Choice}
-use Rattle.linker_elf.specs.declared.elf.choice.LinkFacts.{LinkFacts}
-use Rattle.linker_utils.specs.LoongArchRewrites.{IsLoongArchChoice}
 use Rattle.linker_utils.specs.declared.loongarch64.rewrites.RewriteKind.{RewriteKind as LoongArchKind}
 use Rattle.linker_utils.specs.declared.loongarch64.rewrites.RewriteKind.TheVariants as loongarch64_kinds
-use Rattle.linker_utils.specs.Ppc64Rewrites.{IsPpc64Choice, ppc64_may_be_skipped}
+use Rattle.linker_utils.specs.Ppc64Rewrites.{ppc64_may_be_skipped}
 use Rattle.linker_utils.specs.declared.ppc64.rewrites.RewriteKind.{RewriteKind as Ppc64Kind}
 use Rattle.linker_utils.specs.declared.ppc64.rewrites.RewriteKind.TheVariants as ppc64_kinds
 use Rattle.linker_utils.specs.RiscVRewrites.{IsRiscVChoice, riscv_may_be_skipped}
@@ -34,24 +23,15 @@ use Rattle.linker_utils.specs.declared.riscv64.rewrites.RewriteKind.TheVariants 
 use Rattle.linker_utils.specs.X86Rewrites.{IsX86Choice, x86_64_may_be_skipped}
 use Rattle.linker_utils.specs.declared.x86_64.rewrites.RewriteKind.{RewriteKind as X86Kind}
 use Rattle.linker_utils.specs.declared.x86_64.rewrites.RewriteKind.TheVariants as x86_64_kinds
-use Rattle.linker_utils.specs.Relaxations.{IsArchitectureChoice, IsChosenBy, IsSkippable, IsUnchanged, relaxation_skipped, relaxation_deleted}
-use Rattle.linker_utils.specs.declared.architecture.Relaxation.{Relaxation}
+use Rattle.linker_utils.specs.Relaxations.{IsSkippable}
 use Rattle.linker_utils.specs.declared.architecture.Relaxation.TheVariants as relaxations
 use Rattle.linker_rewriting.specs.Candidates.{IsCallIn, IsTaken, IsCandidate, IsCandidateBy, IsCandidateWith, IsMatched, at_base, calls_tls_get_addr, deletes_within}
 use Rattle.linker_rewriting.specs.Facts.{RelaxContext, link_facts}
 use Rattle.linker_rewriting.specs.Sequences.{IsWhole, is_marked_in}
-use Rattle.linker_rewriting.specs.declared.facts.SymbolFacts.{SymbolFacts}
-use Rattle.linker_section.specs.Relocations.{relocation_at, relocation_in}
-use Rattle.linker_section.specs.declared.relocations.Rela.{Rela}
 use Rattle.linker_rewriting.specs.Surveys.{IsMarked, IsUnmarkedBy, IsUnmarkedIn}
 use Rattle.linker_rewriting.specs.Groups.{is_mark, aarch64_scope_in, riscv_scope_in, loongarch_scope_in, ppc64_scope_in, x86_64_scope_in, IsScopeIn}
-use Rattle.linker_rewriting.specs.declared.groups.Scope.{Scope}
-use Rattle.linker_rewriting.specs.declared.groups.Scope.TheVariants.{NotRelaxable}
-use Rattle.linker_rewriting.specs.declared.phases.Phase.{Phase}
 use Rattle.linker_rewriting.specs.declared.phases.Phase.TheVariants as phases
 use Rattle.linker_elf.specs.Architectures.{IsNamedValue}
-use Rattle.linker_elf.specs.declared.elf.architecture.Architecture.{Architecture}
-use Rattle.linker_elf.specs.declared.elf.architecture.Architecture.TheVariants.{AArch64, RiscV, LoongArch64, Ppc64, X86_64}
 
 -- ---- one name
 

@@ -6,15 +6,7 @@ use Rattle.linker_rewriting.specs.Facts.{context}
 use Rattle.linker_rewriting.specs.Inner.Codes.{KeepsNone}
 use Rattle.linker_rewriting.specs.Inner.Left.{AreKept}
 use Rattle.linker_rewriting.specs.Surveys.{IsSurveyedIn}
-use Rattle.linker_rewriting.specs.declared.decisions.Decision.{Decision}
-use Rattle.linker_rewriting.specs.declared.facts.OutputFacts.{OutputFacts}
-use Rattle.linker_rewriting.specs.declared.facts.SymbolFacts.{SymbolFacts}
-use Rattle.linker_rewriting.specs.declared.groups.UnrelaxableGroups.{UnrelaxableGroups}
-use Rattle.linker_rewriting.specs.declared.phases.Phase.{Phase}
-use Rattle.linker_section.specs.Relocations.{relocation_in}
-use Rattle.linker_section.specs.declared.facts.Addresses.{Addresses}
-use Rattle.linker_section.specs.declared.facts.Symbol.{Symbol}
-use Rattle.linker_elf.specs.declared.elf.architecture.Architecture.{Architecture}
+use Rattle.linker_rewriting.proofs.Imports.{Addresses, Architecture, Decision, OutputFacts, Phase, Symbol, SymbolFacts, UnrelaxableGroups, relocation_in}
 
 -- ---- decisions
 

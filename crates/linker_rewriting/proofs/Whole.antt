@@ -7,15 +7,7 @@ use Rattle.linker_rewriting.specs.Facts.{RelaxContext}
 use Rattle.linker_rewriting.specs.Groups.{IsInGroupIn, group_stays, stays_at}
 use Rattle.linker_rewriting.specs.RiscVPcrelGroups.{IsInLabel, IsHighIn, LabelFits}
 use Rattle.linker_rewriting.specs.Rewritten.{GroupsAreWholeIn, GroupsAreWholeAcross, LabelsAreWhole, IsRewritten}
-use Rattle.linker_rewriting.specs.declared.decisions.Decision.{Decision}
-use Rattle.linker_rewriting.specs.declared.groups.Group.{Group}
-use Rattle.linker_rewriting.specs.declared.groups.UnrelaxableGroups.{UnrelaxableGroups}
-use Rattle.linker_rewriting.specs.declared.groups.Scope.TheVariants.{Grouped}
-use Rattle.linker_rewriting.specs.declared.phases.Phase.{Phase}
-use Rattle.linker_section.specs.Relocations.{relocation_in}
-use Rattle.linker_section.specs.declared.relocations.Rela.{Rela}
-use Rattle.linker_elf.specs.declared.elf.choice.Choice.{Choice}
-use Rattle.linker_utils.specs.declared.architecture.Relaxation.{Relaxation}
+use Rattle.linker_rewriting.proofs.Imports.{Choice, Decision, Group, Grouped, Phase, Rela, Relaxation, UnrelaxableGroups, relocation_in}
 
 -- what a relocation of a group becomes
 of_group : (s : RelaxContext) (kept : List UnrelaxableGroups) (bytes section : List ℕ) (n : ℕ) (r : Rela)

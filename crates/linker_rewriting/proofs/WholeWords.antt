@@ -5,12 +5,7 @@ use Rattle.linker_rewriting.proofs.Unique.{one_candidate_with}
 use Rattle.linker_rewriting.specs.Facts.{RelaxContext, link_facts}
 use Rattle.linker_rewriting.specs.Rewritten.{IsRewritten}
 use Rattle.linker_rewriting.specs.TocIndirection.{IsLoad, IsLoadCandidate, IsLoadDecision, IsDecisionBy, IsWordDecision, IsKeepingWord, HasLoadRewrite, WordUnchangedBy, AreLoadsDecided, AreLoadsRejected, MeansWordsUnsurveyed, WordsAreWhole, WordsAreWholeAcross, word_code, word_offset, word_stays}
-use Rattle.linker_rewriting.specs.declared.decisions.Decision.{Decision}
-use Rattle.linker_rewriting.specs.declared.decisions.RewritingError.{RewritingError}
-use Rattle.linker_rewriting.specs.declared.decisions.RewritingError.TheVariants.{TooShort, NotSurveyed, Overlaps, Contradiction}
-use Rattle.linker_section.specs.Relocations.{relocation_in}
-use Rattle.linker_section.specs.Values.{IsAscending}
-use Rattle.linker_section.specs.declared.relocations.Rela.{Rela}
+use Rattle.linker_rewriting.proofs.Imports.{Contradiction, Decision, IsAscending, NotSurveyed, Overlaps, Rela, RewritingError, TooShort, relocation_in}
 
 -- ---- one load
 

@@ -1,11 +1,8 @@
-use Rattle.std.specs.Prelude.{get_or}
+use Rattle.linker_rewriting.proofs.Imports.{Kept, get_or, get_or-map, length-map, relocation_in}
 use Rattle.std.proofs.Common.{◌≡◌, ◌<◌, ◌≤◌, ◌/◌, ◌∙◌, length, map, sym, subst, arith, None, Some}
-use Rattle.std.proofs.lemmas.List.{length-map, get_or-map}
 use Rattle.linker_rewriting.proofs.Makeable.{Fits, more_checked, kept_checked, overlaps}
 use Rattle.linker_rewriting.proofs.Deciding.{IsGrown, ends_within}
 use Rattle.linker_rewriting.specs.Decisions.{IsEndAfter, decision_at, start_by, end_by}
-use Rattle.linker_section.specs.Relocations.{relocation_in}
-use Rattle.linker_rewriting.specs.declared.decisions.Decision.TheVariants.{Kept}
 use Rattle.linker_rewriting.proofs.checked.check_decisions.Goals as goal
 
 pub loop-index-preserved-in-Kept : goal.loop-index-preserved-in-Kept

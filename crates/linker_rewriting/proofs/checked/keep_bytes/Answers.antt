@@ -1,13 +1,7 @@
-use Rattle.std.specs.Prelude.{get_or}
+use Rattle.linker_rewriting.proofs.Imports.{CanRewrite, Kept, Rewritten, get_or, get_or-map, relaxation_rewrite, relocation_in, window_of_rewrite}
 use Rattle.std.proofs.Common.{◌≡◌, ◌<◌, ◌/◌, ◌∙◌, length, map, ap, sym, subst, arith}
-use Rattle.std.proofs.lemmas.List.{get_or-map}
-use Rattle.linker_base.specs.Rewrite.{CanRewrite}
-use Rattle.linker_base.specs.RewriteWindow.{window_of_rewrite}
-use Rattle.linker_utils.specs.Relaxations.{relaxation_rewrite}
 use Rattle.linker_rewriting.proofs.KeptBytes.{keeps_none, written_at, replaced, passed, unchanged_at}
 use Rattle.linker_rewriting.specs.Decisions.{CanBeMade, KeepsBytes, decision_at, window_number}
-use Rattle.linker_rewriting.specs.declared.decisions.Decision.TheVariants.{Kept, Rewritten}
-use Rattle.linker_section.specs.Relocations.{relocation_in}
 use Rattle.linker_rewriting.proofs.checked.keep_bytes.Goals as goal
 
 pub loop-index-preserved : goal.loop-index-preserved

@@ -2,7 +2,7 @@ use Rattle.std.proofs.Common.{ℕ, ◌<◌, ◌≤◌, ◌/◌, length, map, ap,
 use Rattle.linker_rewriting.proofs.Places.{are_bounded, at_most, clear_at, covered_at}
 use Rattle.linker_rewriting.specs.Decisions.{IsCovered, start_at, end_at}
 use Rattle.linker_rewriting.specs.Inner.Places.{IsPlaceBeside}
-use Rattle.linker_section.specs.Values.{offset_at}
+use Rattle.linker_rewriting.proofs.Imports.{offset_at}
 use Rattle.linker_rewriting.proofs.covered.first_covered.Goals as goal
 use borrow.Author.Count.{below_more}
 

@@ -1,8 +1,6 @@
 use Rattle.std.proofs.Common.{◌≡◌, ◌≤◌, ◌<◌, ◌∙◌, length, map, sym, subst, arith}
-use Rattle.std.proofs.lemmas.List.{get_or-map}
+use Rattle.linker_rewriting.proofs.Imports.{Kept, get_or-map, offset_at}
 use Rattle.linker_rewriting.specs.Decisions.{decision_at, start_by, end_by}
-use Rattle.linker_rewriting.specs.declared.decisions.Decision.TheVariants.{Kept}
-use Rattle.linker_section.specs.Values.{offset_at}
 use Rattle.linker_rewriting.proofs.covered.span_at.Goals as goal
 
 pub span_of-requires : goal.span_of-requires

@@ -3,8 +3,7 @@ use Rattle.linker_rewriting.specs.Candidates.{IsCandidate}
 use Rattle.linker_rewriting.specs.Decisions.{IsGroupDecision, IsMatchedDecision}
 use Rattle.linker_rewriting.specs.Groups.{IsScopeIn, group_stays}
 use Rattle.linker_rewriting.specs.Inner.Contexts.{context_of}
-use Rattle.linker_rewriting.specs.declared.decisions.Decision.TheVariants.{Rewritten}
-use Rattle.linker_rewriting.specs.declared.groups.Scope.TheVariants.{Grouped, IfGroupMatches, Independent}
+use Rattle.linker_rewriting.proofs.Imports.{Grouped, IfGroupMatches, Independent, Rewritten}
 use Rattle.linker_rewriting.proofs.decisions.decide.Goals as goal
 use Rattle.linker_rewriting.proofs.decisions.decide.Goals.{in-Grouped+else-group_stays, in-IfGroupMatches+else-group_stays-2, in-Independent}
 

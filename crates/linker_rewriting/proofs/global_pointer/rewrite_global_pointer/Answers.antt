@@ -1,13 +1,11 @@
 use Rattle.std.proofs.Common.{◌/◌, length, map, arith, inl, refl, rules, None}
-use Rattle.std.proofs.lemmas.List.{length-map}
+use Rattle.linker_rewriting.proofs.Imports.{ShortPcRel, length-map, relocation_in}
 use Rattle.linker_rewriting.proofs.GlobalPointer.{whole, means_unsurveyed}
 use Rattle.linker_rewriting.proofs.Rejected.{rejected_first, rejected_with}
 use Rattle.linker_rewriting.specs.Decisions.{IsRejectedBy}
 use Rattle.linker_rewriting.specs.GlobalPointer.{ArePartsRejected, DecidesPart, IsPartDecided, part_start, part_end}
-use Rattle.linker_section.specs.Relocations.{relocation_in}
 use Rattle.linker_rewriting.proofs.Listing.{all_fit}
 use Rattle.linker_rewriting.specs.Facts.{context}
-use Rattle.linker_rewriting.specs.declared.phases.Phase.TheVariants.{ShortPcRel}
 use Rattle.linker_rewriting.proofs.global_pointer.rewrite_global_pointer.Goals as goal
 
 pub list_deletions-requires-clause-fit : goal.list_deletions-requires-clause-fit

@@ -1,6 +1,6 @@
 use Rattle.linker_rewriting.specs.Facts.{context}
 use Rattle.linker_rewriting.specs.GlobalPointer.{AreSymbolsSurveyed}
-use Rattle.linker_rewriting.specs.declared.phases.Phase.TheVariants.{ShortPcRel}
+use Rattle.linker_rewriting.proofs.Imports.{ShortPcRel}
 use Rattle.linker_rewriting.proofs.global_pointer.survey_global_pointer.Given as goal
 
 abbrev pub invariant-loop-index : goal.invariant-loop-index

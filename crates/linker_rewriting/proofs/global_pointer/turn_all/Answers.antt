@@ -1,10 +1,8 @@
 use Rattle.std.proofs.Common.{◌≡◌, ◌<◌, ◌/◌, ◌∙◌, List, length, map, sym, subst, arith, rules}
-use Rattle.std.proofs.lemmas.List.{get_or-map}
+use Rattle.linker_rewriting.proofs.Imports.{Decision, Kept, get_or-map}
 use Rattle.linker_rewriting.proofs.GlobalPointer.{turned_next}
 use Rattle.linker_rewriting.specs.Decisions.{decision_at}
 use Rattle.linker_rewriting.specs.GlobalPointer.{relocation_by}
-use Rattle.linker_rewriting.specs.declared.decisions.Decision.{Decision}
-use Rattle.linker_rewriting.specs.declared.decisions.Decision.TheVariants.{Kept}
 use Rattle.linker_rewriting.proofs.global_pointer.turn_all.Goals as goal
 
 pub loop-index-preserved : goal.loop-index-preserved

@@ -1,7 +1,6 @@
 use Rattle.std.proofs.Common.{◌≡◌, subst, inl, inr, arith}
-use Rattle.std.proofs.lemmas.Bool.{cases_lt}
+use Rattle.linker_rewriting.proofs.Imports.{cases_lt, relocation_in}
 use Rattle.linker_rewriting.specs.Kept.{IsAsKept}
-use Rattle.linker_section.specs.Relocations.{relocation_in}
 use Rattle.linker_rewriting.proofs.kept.first_changed.Goals as goal
 
 pub loop-index-preserved : goal.loop-index-preserved

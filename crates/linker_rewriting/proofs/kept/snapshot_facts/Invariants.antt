@@ -1,5 +1,5 @@
 use Rattle.std.proofs.Common.{◌≡◌, ◌<◌, ℕ, length}
-use Rattle.std.specs.Prelude.{slice_get}
+use Rattle.linker_rewriting.proofs.Imports.{slice_get}
 use Rattle.linker_rewriting.specs.Kept.{facts_now}
 use Rattle.linker_rewriting.proofs.kept.snapshot_facts.Given as goal
 

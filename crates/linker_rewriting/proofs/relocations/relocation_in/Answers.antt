@@ -1,8 +1,7 @@
 use Rattle.std.proofs.Common.{◌≡◌, ℕ, ◌+◌, ◌-◌, ◌*◌, ◌≤◌, ◌/◌, ◌∙◌, List, length, take, drop, ap, sym, subst, arith, true, None, Some, nat_lt}
-use Rattle.std.proofs.lemmas.Bool.{cond-true}
-use Rattle.std.proofs.lemmas.List.{length-drop, length-take-le, take-take}
-use Rattle.linker_section.specs.Relocations.{relocation_of, relocation_in, relocation_at}
-use Rattle.linker_section.specs.declared.relocations.Rela.{Rela}
+use Rattle.linker_rewriting.proofs.Imports.{Rela, cond-true, length-take-le, relocation_at, relocation_in}
+use Rattle.std.proofs.lemmas.List.{length-drop, take-take}
+use Rattle.linker_section.specs.Relocations.{relocation_of}
 use Rattle.linker_rewriting.proofs.relocations.relocation_in.Goals as goal
 
 same_some : (x y : Rela) → Some x ≡ Some y → x ≡ y

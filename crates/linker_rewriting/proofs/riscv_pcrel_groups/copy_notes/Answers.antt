@@ -1,5 +1,5 @@
 use Rattle.std.proofs.Common.{◌≡◌, ◌<◌, ◌+◌, ◌/◌, ◌∙◌, length, map, slice_set, ap, sym, subst, arith, false}
-use Rattle.std.proofs.lemmas.List.{length-map, map-set, drop-set-lt}
+use Rattle.linker_rewriting.proofs.Imports.{drop-set-lt, length-map, map-set}
 use Rattle.linker_rewriting.specs.Inner.Contexts.{context_of}
 use Rattle.linker_rewriting.specs.RiscVPcrelGroups.{IsInLabel}
 use Rattle.linker_rewriting.specs.Notes.{IsNoteOf}

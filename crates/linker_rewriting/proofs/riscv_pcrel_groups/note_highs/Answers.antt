@@ -1,10 +1,8 @@
 use Rattle.std.proofs.Common.{◌≡◌, ◌<◌, ◌+◌, ◌/◌, ◌∙◌, length, map, slice_set, ap, sym, subst, arith, Some, None}
-use Rattle.std.proofs.lemmas.List.{length-map, map-set, drop-set-lt}
-use Rattle.std.specs.Prelude.{IfSome}
+use Rattle.linker_rewriting.proofs.Imports.{Consumed, IfSome, drop-set-lt, length-map, map-set}
 use Rattle.linker_rewriting.specs.Inner.Contexts.{context_of}
 use Rattle.linker_rewriting.specs.RiscVPcrelGroups.{IsLacking}
 use Rattle.linker_rewriting.specs.Notes.{AreHighsNoted}
-use Rattle.linker_rewriting.specs.declared.decisions.Decision.TheVariants.{Consumed}
 use Rattle.linker_rewriting.proofs.LabelGroups.{more_noted, same_noted}
 use Rattle.linker_rewriting.proofs.riscv_pcrel_groups.note_highs.Goals as goal
 

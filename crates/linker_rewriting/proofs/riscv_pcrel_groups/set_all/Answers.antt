@@ -1,10 +1,6 @@
 use Rattle.std.proofs.Common.{◌≡◌, ◌<◌, ◌/◌, ◌∙◌, length, map, take, slice_set, ap, subst, arith, inl, inr}
-use Rattle.std.proofs.lemmas.Bool.{cases_lt}
-use Rattle.std.specs.Prelude.{All}
-use Rattle.linker_riscv64.proofs.Shrunk.{written_more}
-use Rattle.std.proofs.lemmas.List.{length-map, map-set, drop-set-lt, get_or-set_same, get_or-set_other}
+use Rattle.linker_rewriting.proofs.Imports.{All, Kept, cases_lt, drop-set-lt, get_or-set_other, get_or-set_same, length-map, map-set, written_more}
 use Rattle.linker_rewriting.specs.Decisions.{decision_at}
-use Rattle.linker_rewriting.specs.declared.decisions.Decision.TheVariants.{Kept}
 use Rattle.linker_rewriting.proofs.riscv_pcrel_groups.set_all.Goals as goal
 
 pub loop-index-preserved : goal.loop-index-preserved

@@ -1,5 +1,5 @@
 use Rattle.std.proofs.Common.{◌≡◌, ℕ, ◌<◌, ◌/◌, length, map, take, drop}
-use Rattle.std.specs.Prelude.{All}
+use Rattle.linker_rewriting.proofs.Imports.{All}
 use Rattle.linker_rewriting.specs.Decisions.{decision_at}
 use Rattle.linker_rewriting.proofs.riscv_pcrel_groups.set_all.Given as goal
 

@@ -1,12 +1,8 @@
 use Rattle.std.proofs.Common.{◌≡◌, ℕ, ◌<◌, ◌≤◌, ◌+◌, ◌/◌, ◌∙◌, length, map, take, slice_set, ap, sym, subst, arith, Some, None, inl, inr}
-use Rattle.std.specs.Prelude.{IfSome, IfNone, All}
-use Rattle.std.proofs.lemmas.List.{length-map, map-set, drop-set-lt, get_or-map}
-use Rattle.linker_riscv64.proofs.Shrunk.{written_more}
+use Rattle.linker_rewriting.proofs.Imports.{All, Decision, IfNone, IfSome, Kept, drop-set-lt, get_or-map, length-map, map-set, written_more}
 use Rattle.linker_rewriting.proofs.Deciding.{AreDecidedTo, IsGrown, all_decided, bytes_apart, more_decided, more_kept, overlapping}
 use Rattle.linker_rewriting.specs.Decisions.{IsEndAfter, IsMadeBy, decision_at}
 use Rattle.linker_rewriting.specs.Notes.{is_note}
-use Rattle.linker_rewriting.specs.declared.decisions.Decision.{Decision}
-use Rattle.linker_rewriting.specs.declared.decisions.Decision.TheVariants.{Kept}
 use Rattle.linker_rewriting.proofs.rules.decide_by.Goals as goal
 
 pub returns-in_default-clause-rejected : goal.returns-in_default-clause-rejected

@@ -1,5 +1,5 @@
 use Rattle.std.proofs.Common.{◌≡◌, ◌/◌, length, map, take, drop}
-use Rattle.std.specs.Prelude.{All}
+use Rattle.linker_rewriting.proofs.Imports.{All}
 use Rattle.linker_rewriting.proofs.Deciding.{AreDecidedTo}
 use Rattle.linker_rewriting.specs.Decisions.{IsMadeBy}
 use Rattle.linker_rewriting.specs.Notes.{is_note}

@@ -1,11 +1,8 @@
 use Rattle.std.proofs.Common.{◌≡◌, ◌<◌, ◌≤◌, ◌/◌, ◌∙◌, ◌+◌, length, map, slice_set, ap, sym, subst, arith, Some}
-use Rattle.std.proofs.lemmas.Grind.{drop_more_same}
-use Rattle.std.proofs.lemmas.List.{length-map, map-set, get_or-map, drop-set-lt}
-use Rattle.linker_rewriting.specs.declared.decisions.Decision.TheVariants.{Kept}
+use Rattle.linker_rewriting.proofs.Imports.{Kept, drop-set-lt, drop_more_same, get_or-map, length-map, map-set, relocation_in}
 use Rattle.linker_rewriting.specs.Decisions.{decision_at, deleted_of, deleted_end}
 use Rattle.linker_rewriting.proofs.Listing.{AreListed, nothing_more, one_more, no_room}
 use Rattle.linker_rewriting.proofs.Untouched.{none_deleted}
-use Rattle.linker_section.specs.Relocations.{relocation_in}
 use Rattle.linker_rewriting.proofs.sections.list_deletions.Goals as goal
 
 pub returns-then-deleted-len-clause-short : goal.returns-then-deleted-len-clause-short

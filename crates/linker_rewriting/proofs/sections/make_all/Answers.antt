@@ -1,10 +1,7 @@
 use Rattle.std.proofs.Common.{◌≡◌, ◌<◌, ◌≤◌, ◌/◌, ◌∙◌, List, length, map, ap, refl, sym, subst, arith, rules}
-use Rattle.std.proofs.lemmas.List.{length-map, get_or-map}
+use Rattle.linker_rewriting.proofs.Imports.{Decision, Kept, get_or-map, length-map, relocation_in}
 use Rattle.linker_rewriting.specs.Decisions.{CanBeMade, decision_at}
-use Rattle.linker_section.specs.Relocations.{relocation_in}
 use Rattle.linker_rewriting.specs.Rewritten.{section_after, relocation_after, IsDone}
-use Rattle.linker_rewriting.specs.declared.decisions.Decision.{Decision}
-use Rattle.linker_rewriting.specs.declared.decisions.Decision.TheVariants.{Kept}
 use Rattle.linker_rewriting.proofs.Making.{made_next, kept_next, can_next, windows_apart}
 use Rattle.linker_rewriting.proofs.sections.make_all.Goals as goal
 

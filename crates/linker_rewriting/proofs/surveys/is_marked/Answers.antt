@@ -1,8 +1,7 @@
 use Rattle.std.proofs.Common.{◌≡◌, ◌≢◌, ℕ, zero, suc, ◌-◌, List, Bool, true, false, ◌&&◌, ◌==◌, refl, subst, arith}
 use Rattle.linker_rewriting.specs.Groups.{IsMark}
 use Rattle.linker_rewriting.specs.Surveys.{IsMarked}
-use Rattle.linker_section.specs.Relocations.{relocation_in}
-use Rattle.linker_section.specs.declared.relocations.Rela.{Rela}
+use Rattle.linker_rewriting.proofs.Imports.{Rela, relocation_in}
 use Rattle.linker_rewriting.proofs.surveys.is_marked.Goals as goal
 
 marked_by : (bytes : List ℕ) (n : ℕ) (r before : Rela) (marked is_mark : Bool) → n ≢ 0

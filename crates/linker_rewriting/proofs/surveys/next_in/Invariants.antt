@@ -1,6 +1,6 @@
 use Rattle.std.proofs.Common.{ℕ, ◌≤◌, ◌<◌}
 use Rattle.linker_rewriting.specs.Inner.Codes.{KeepsNone}
-use Rattle.linker_section.specs.Relocations.{relocation_in}
+use Rattle.linker_rewriting.proofs.Imports.{relocation_in}
 use Rattle.linker_rewriting.proofs.surveys.next_in.Given as goal
 
 abbrev pub invariant-loop-index : goal.invariant-loop-index

@@ -1,6 +1,6 @@
 use Rattle.std.proofs.Common.{◌≡◌, ◌∙◌, ℕ, List, Bool, true, false, not, refl, sym}
 use Rattle.linker_rewriting.specs.Surveys.{IsMarked, IsUnmarkedBy}
-use Rattle.linker_section.specs.declared.relocations.Rela.{Rela}
+use Rattle.linker_rewriting.proofs.Imports.{Rela}
 use Rattle.linker_rewriting.proofs.surveys.ppc64_is_unmarked.Goals as goal
 
 off : (bytes : List ℕ) (n : ℕ) (r : Rela) (calls : Bool) → calls ≡ false

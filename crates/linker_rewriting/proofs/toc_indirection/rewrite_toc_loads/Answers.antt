@@ -1,10 +1,9 @@
 use Rattle.std.proofs.Common.{◌/◌, length, map, arith, refl}
-use Rattle.std.proofs.lemmas.List.{length-map}
+use Rattle.linker_rewriting.proofs.Imports.{ShortPcRel, length-map}
 use Rattle.linker_rewriting.proofs.Rejected.{rejected_first}
 use Rattle.linker_rewriting.proofs.WholeWords.{whole, means_unsurveyed}
 use Rattle.linker_rewriting.specs.Facts.{context}
 use Rattle.linker_rewriting.specs.TocIndirection.{AreLoadsRejected}
-use Rattle.linker_rewriting.specs.declared.phases.Phase.TheVariants.{ShortPcRel}
 use Rattle.linker_rewriting.proofs.toc_indirection.rewrite_toc_loads.Goals as goal
 
 pub returns-in-Ok : goal.returns-in-Ok

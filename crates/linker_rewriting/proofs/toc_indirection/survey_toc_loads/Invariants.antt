@@ -1,6 +1,6 @@
 use Rattle.linker_rewriting.specs.Facts.{context}
 use Rattle.linker_rewriting.specs.TocIndirection.{AreLoadsSurveyed}
-use Rattle.linker_rewriting.specs.declared.phases.Phase.TheVariants.{ShortPcRel}
+use Rattle.linker_rewriting.proofs.Imports.{ShortPcRel}
 use Rattle.linker_rewriting.proofs.toc_indirection.survey_toc_loads.Given as goal
 
 abbrev pub invariant-loop-index : goal.invariant-loop-index

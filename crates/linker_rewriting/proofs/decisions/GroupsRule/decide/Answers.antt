@@ -3,7 +3,7 @@ use Rattle.linker_rewriting.proofs.Deciding.{by_rule, ends_in, itself, lacks_by}
 use Rattle.linker_rewriting.specs.Decisions.{IsDecidedAfter, IsDecision, start_by, end_by}
 use Rattle.linker_rewriting.specs.Inner.Contexts.{context_of}
 use Rattle.linker_rewriting.specs.RiscVPcrelGroups.{IsInLabel, IsLabelNote}
-use Rattle.linker_rewriting.specs.declared.decisions.Decision.TheVariants.{Consumed}
+use Rattle.linker_rewriting.proofs.Imports.{Consumed}
 use Rattle.linker_rewriting.proofs.decisions.GroupsRule.decide.Goals as goal
 
 pub returns-then-is_taken-clause-decided : goal.returns-then-is_taken-clause-decided
