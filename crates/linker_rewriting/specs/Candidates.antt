@@ -1,18 +1,12 @@
 -- The rewrite of a relocation's instruction, if each other one of its group is rewritten.
 use Rattle.std.specs.Prelude.{◌≡◌, ℕ, ◌+◌, ◌⊎◌, Bool, true, false, ◌&&◌, ◌==◌, nat_le, List, length}
 use Rattle.std.specs.Prelude.{Option, Some, None, slice_get, is_some, pos}
-use Rattle.linker_base.specs.declared.rewrite.DeletedBytes.{DeletedBytes}
-use Rattle.linker_elf.specs.declared.elf.choice.Choice.{Choice}
-use Rattle.linker_elf.specs.declared.elf.choice.LinkFacts.{LinkFacts}
+use Rattle.linker_rewriting.specs.Imports.{Architecture, Choice, DeletedBytes, LinkFacts, Rela}
+use Rattle.linker_rewriting.specs.Imports.{Relaxation, SymbolFacts, relaxation_deleted}
+use Rattle.linker_rewriting.specs.Imports.{relaxation_skipped, relocation_at}
 use Rattle.linker_rewriting.specs.Facts.{RelaxContext, link_facts}
 use Rattle.linker_rewriting.specs.Sequences.{IsWhole, is_marked_in}
-use Rattle.linker_rewriting.specs.declared.facts.SymbolFacts.{SymbolFacts}
-use Rattle.linker_section.specs.Relocations.{relocation_at}
-use Rattle.linker_section.specs.declared.relocations.Rela.{Rela}
 use Rattle.linker_utils.specs.Relaxations.{IsArchitectureChoice, IsSkippable, IsUnchanged}
-use Rattle.linker_utils.specs.Relaxations.{relaxation_skipped, relaxation_deleted}
-use Rattle.linker_utils.specs.declared.architecture.Relaxation.{Relaxation}
-use Rattle.linker_elf.specs.declared.elf.architecture.Architecture.{Architecture}
 
 abbrev pub calls_tls_get_addr : Option SymbolFacts → Bool
 calls_tls_get_addr None = false

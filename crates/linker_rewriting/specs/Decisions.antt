@@ -2,50 +2,31 @@
 use Rattle.std.specs.Prelude.{◌≡◌, ℕ, zero, suc, ◌+◌, ◌-◌, ◌*◌, ◌^◌, ◌%◌, ◌<◌, ◌≤◌, ◌/◌, ◌⊎◌, ◌++◌}
 use Rattle.std.specs.Prelude.{max, Bool, true, false, IsTrue, ◌↔◌, List, [], ◌∷◌, length, get_or}
 use Rattle.std.specs.Prelude.{Option, Some, None, is_some, ◌≢◌, ◌==◌}
+use Rattle.linker_rewriting.specs.Imports.{Architecture, Choice, Consumed, Decision, DeletedBytes}
+use Rattle.linker_rewriting.specs.Imports.{FirstOfPair, Group, Grouped, IfGroupMatches, Independent}
+use Rattle.linker_rewriting.specs.Imports.{Kept, Labelled, NotRelaxable, NotSurveyed, OutputFacts}
+use Rattle.linker_rewriting.specs.Imports.{Phase, Rela, Relaxation, RewritingError, Rewritten}
+use Rattle.linker_rewriting.specs.Imports.{RewrittenWithSymbol, Scope, Symbol, SymbolFacts}
+use Rattle.linker_rewriting.specs.Imports.{TlsLocalExec, UnrelaxableGroups, code_of, offset_at}
+use Rattle.linker_rewriting.specs.Imports.{relaxation_deleted, relaxation_rewrite}
+use Rattle.linker_rewriting.specs.Imports.{relaxation_skipped, relocation_at, relocation_in}
+use Rattle.linker_rewriting.specs.Imports.{riscv_name}
 use Rattle.linker_base.specs.Rewrite.{CanRewrite}
 use Rattle.linker_base.specs.RewriteWindow.{window_of_rewrite}
-use Rattle.linker_base.specs.declared.rewrite.DeletedBytes.{DeletedBytes}
 use Rattle.linker_base.specs.declared.rewrite.RewriteWindow.{RewriteWindow}
-use Rattle.linker_elf.specs.ElfNames.{code_of}
-use Rattle.linker_elf.specs.RiscVRelocations.{riscv_name}
 use Rattle.linker_elf.specs.declared.elf.RelocationKindInfo.{RelocationKindInfo}
-use Rattle.linker_elf.specs.declared.elf.choice.Choice.{Choice}
 use Rattle.linker_rewriting.specs.Agreement.{Agree, IsContradiction}
 use Rattle.linker_rewriting.specs.Candidates.{IsCandidate, deletes_within}
 use Rattle.linker_rewriting.specs.Facts.{RelaxContext, pre_layout}
 use Rattle.linker_rewriting.specs.Groups.{IsScopeIn, group_stays, stays_at}
 use Rattle.linker_rewriting.specs.RiscVPcrelGroups.{IsHighIn, IsLabelCandidate, LabelStays}
 use Rattle.linker_rewriting.specs.RiscVPcrelGroups.{LabelFits}
-use Rattle.linker_rewriting.specs.declared.decisions.Decision.{Decision}
-use Rattle.linker_rewriting.specs.declared.decisions.Decision.TheVariants.{Kept, Rewritten}
-use Rattle.linker_rewriting.specs.declared.decisions.Decision.TheVariants.{Consumed}
-use Rattle.linker_rewriting.specs.declared.decisions.Decision.TheVariants.{RewrittenWithSymbol}
 use Rattle.linker_rewriting.specs.declared.decisions.DecisionError.{DecisionError}
 use Rattle.linker_rewriting.specs.declared.decisions.DecisionError.TheVariants as errors
-use Rattle.linker_rewriting.specs.declared.decisions.RewritingError.{RewritingError}
-use Rattle.linker_rewriting.specs.declared.decisions.RewritingError.TheVariants.{TooShort}
-use Rattle.linker_rewriting.specs.declared.decisions.RewritingError.TheVariants.{NotSurveyed}
-use Rattle.linker_rewriting.specs.declared.decisions.RewritingError.TheVariants.{Overlaps}
+use Rattle.linker_rewriting.specs.declared.decisions.RewritingError.TheVariants.{TooShort, Overlaps}
 use Rattle.linker_rewriting.specs.declared.decisions.RewritingError.TheVariants.{Contradiction}
-use Rattle.linker_rewriting.specs.declared.facts.OutputFacts.{OutputFacts}
-use Rattle.linker_rewriting.specs.declared.facts.SymbolFacts.{SymbolFacts}
-use Rattle.linker_rewriting.specs.declared.groups.Group.{Group}
-use Rattle.linker_rewriting.specs.declared.groups.UnrelaxableGroups.{UnrelaxableGroups}
-use Rattle.linker_rewriting.specs.declared.groups.Scope.{Scope}
-use Rattle.linker_rewriting.specs.declared.groups.Scope.TheVariants.{NotRelaxable, Independent}
-use Rattle.linker_rewriting.specs.declared.groups.Scope.TheVariants.{Grouped, FirstOfPair}
-use Rattle.linker_rewriting.specs.declared.groups.Scope.TheVariants.{IfGroupMatches, Labelled}
-use Rattle.linker_rewriting.specs.declared.phases.Phase.{Phase}
-use Rattle.linker_rewriting.specs.declared.phases.Phase.TheVariants.{TlsLocalExec}
 use Rattle.linker_section.specs.Fields.{IsField, field_end}
-use Rattle.linker_section.specs.Relocations.{relocation_in, relocation_at}
-use Rattle.linker_section.specs.Values.{offset_at}
-use Rattle.linker_section.specs.declared.facts.Symbol.{Symbol}
-use Rattle.linker_section.specs.declared.relocations.Rela.{Rela}
-use Rattle.linker_utils.specs.Relaxations.{relaxation_rewrite, relaxation_skipped}
-use Rattle.linker_utils.specs.Relaxations.{relaxation_deleted, relaxation_matches}
-use Rattle.linker_utils.specs.declared.architecture.Relaxation.{Relaxation}
-use Rattle.linker_elf.specs.declared.elf.architecture.Architecture.{Architecture}
+use Rattle.linker_utils.specs.Relaxations.{relaxation_matches}
 use Rattle.linker_elf.specs.declared.riscv64.relocations.RiscVRelocation.TheVariants as riscv64
 
 -- ---- one decision

@@ -2,16 +2,9 @@
 -- and of the output (the psABIs' sections on symbols and on thread-local storage).
 use Rattle.std.specs.Prelude.{ℕ, ℤ, ◌/◌, ◌==◌, ◌||◌, ◌&&◌, not, true, false, Bool, List, [], Option}
 use Rattle.std.specs.Prelude.{Some, None, if◌then◌else◌, slice_get}
-use Rattle.linker_elf.specs.Value.{sum_64}
-use Rattle.linker_elf.specs.declared.elf.choice.LinkFacts.{LinkFacts}
-use Rattle.linker_rewriting.specs.declared.facts.OutputFacts.{OutputFacts}
-use Rattle.linker_rewriting.specs.declared.facts.SymbolFacts.{SymbolFacts}
-use Rattle.linker_rewriting.specs.declared.phases.Phase.{Phase}
-use Rattle.linker_rewriting.specs.declared.phases.Phase.TheVariants.{PreLayout, TlsLocalExec}
-use Rattle.linker_section.specs.declared.facts.Addresses.{Addresses}
-use Rattle.linker_section.specs.declared.facts.Symbol.{Symbol}
-use Rattle.linker_section.specs.declared.relocations.Rela.{Rela}
-use Rattle.linker_elf.specs.declared.elf.architecture.Architecture.{Architecture}
+use Rattle.linker_rewriting.specs.Imports.{Addresses, Architecture, LinkFacts, OutputFacts, Phase}
+use Rattle.linker_rewriting.specs.Imports.{PreLayout, Rela, Symbol, SymbolFacts, TlsLocalExec}
+use Rattle.linker_rewriting.specs.Imports.{sum_64}
 
 -- ---- before addresses are known
 

@@ -1,15 +1,16 @@
 -- RISC-V's addresses within 2 KiB of the global pointer or of 0 (RISC-V ELF psABI, "Global-pointer
 -- Relaxation" and "Zero-page Relaxation"). Their `lui` and `auipc` are deleted, and each low part
 -- takes x3 or x0 as its base: all of a symbol, or none.
-use Rattle.std.specs.Prelude.{◌≡◌, ◌↔◌, ℕ, zero, suc, ◌+◌, ◌<◌, ◌/◌, ◌==◌, ◌&&◌, ◌||◌}
-use Rattle.std.specs.Prelude.{nat_le, nat_lt, not, if◌then◌else◌, Bool, true, false, IsTrue, List}
-use Rattle.std.specs.Prelude.{length, Option, None, Some, slice_get, is_some}
-use Rattle.std.specs.Int.{w64, cast_signed, cast_unsigned}
-use Rattle.linker_base.specs.Rewrite.{rewritten}
+use Rattle.std.specs.Prelude.{◌≡◌, ◌↔◌, ℕ, zero, suc, ◌+◌, ◌<◌, ◌/◌, ◌==◌, ◌&&◌, ◌||◌, nat_le}
+use Rattle.std.specs.Prelude.{nat_lt, not, if◌then◌else◌, Bool, true, false, IsTrue, List, length}
+use Rattle.std.specs.Prelude.{Option, None, Some, slice_get, is_some}
+use Rattle.std.specs.Int.{cast_signed}
+use Rattle.linker_rewriting.specs.Imports.{Addresses, Architecture, Consumed, Decision, IsAscending}
+use Rattle.linker_rewriting.specs.Imports.{Kept, NotSurveyed, Rela, RewritingError, Rewritten}
+use Rattle.linker_rewriting.specs.Imports.{RewrittenWithSymbol, RiscV, Symbol, SymbolFacts}
+use Rattle.linker_rewriting.specs.Imports.{cast_unsigned, code_of, difference_64, relocation_in}
+use Rattle.linker_rewriting.specs.Imports.{rewritten, riscv_name, sum_64, w64}
 use Rattle.linker_elf.specs.Choices.{choice}
-use Rattle.linker_elf.specs.ElfNames.{code_of}
-use Rattle.linker_elf.specs.RiscVRelocations.{riscv_name}
-use Rattle.linker_elf.specs.Value.{sum_64, difference_64}
 use Rattle.linker_elf.specs.declared.riscv64.relocations.RiscVRelocation.TheVariants as riscv64
 use Rattle.linker_riscv64.specs.RiscVCalls.{word_at}
 use Rattle.linker_riscv64.specs.RiscVFields.{opcode_of, funct3_of, rd_of, rs1_of, stores_base}
@@ -22,23 +23,9 @@ use Rattle.linker_rewriting.specs.RiscVPcrelGroups.{IsHighFrom, offset_of_label,
 use Rattle.linker_rewriting.specs.Rewritten.{IsRewritten}
 use Rattle.linker_rewriting.specs.Sequences.{is_marked_at}
 use Rattle.linker_rewriting.specs.TocIndirection.{AreNotedBy, AreSurveyedBy, subject_of, word_stays}
-use Rattle.linker_rewriting.specs.declared.decisions.Decision.{Decision}
-use Rattle.linker_rewriting.specs.declared.decisions.Decision.TheVariants.{Kept}
-use Rattle.linker_rewriting.specs.declared.decisions.Decision.TheVariants.{RewrittenWithSymbol}
-use Rattle.linker_rewriting.specs.declared.decisions.Decision.TheVariants.{Rewritten, Consumed}
-use Rattle.linker_rewriting.specs.declared.decisions.RewritingError.{RewritingError}
-use Rattle.linker_rewriting.specs.declared.decisions.RewritingError.TheVariants.{NotSurveyed}
-use Rattle.linker_rewriting.specs.declared.facts.SymbolFacts.{SymbolFacts}
 use Rattle.linker_rewriting.specs.declared.global_pointer.Part.{Part}
 use Rattle.linker_rewriting.specs.declared.global_pointer.Part.TheVariants.{High, Low, Labelled}
-use Rattle.linker_section.specs.Relocations.{relocation_in}
-use Rattle.linker_section.specs.Values.{IsAscending}
-use Rattle.linker_section.specs.declared.facts.Addresses.{Addresses}
-use Rattle.linker_section.specs.declared.facts.Symbol.{Symbol}
-use Rattle.linker_section.specs.declared.relocations.Rela.{Rela}
 use Rattle.linker_utils.specs.declared.architecture.Relaxation.TheVariants as relaxations
-use Rattle.linker_elf.specs.declared.elf.architecture.Architecture.{Architecture}
-use Rattle.linker_elf.specs.declared.elf.architecture.Architecture.TheVariants.{RiscV}
 
 -- ---- parts of an address
 

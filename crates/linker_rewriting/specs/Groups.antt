@@ -2,12 +2,13 @@
 -- are rewritten all or not at all (ELF Handling For Thread-Local Storage; the psABIs' sections on
 -- relaxation, "TOC Optimizations" and "TLS Linkage Optimizations" of the 64-Bit ELF V2 ABI).
 use Rattle.std.specs.Prelude.{◌≡◌, ℕ, Bool, true, false, ◌||◌, List, Option, Some, None, slice_get}
-use Rattle.linker_elf.specs.AArch64Relocations.{aarch64_name}
-use Rattle.linker_elf.specs.LoongArchRelocations.{loongarch_name}
-use Rattle.linker_elf.specs.Ppc64Relocations.{ppc64_name}
-use Rattle.linker_elf.specs.RiscVRelocations.{riscv_name}
+use Rattle.linker_rewriting.specs.Imports.{AArch64, AArch64Relocation, Architecture, FirstOfPair}
+use Rattle.linker_rewriting.specs.Imports.{GeneralDynamic, GotToPcRel, Group, Grouped}
+use Rattle.linker_rewriting.specs.Imports.{IfGroupMatches, Independent, InitialExec, Labelled}
+use Rattle.linker_rewriting.specs.Imports.{LocalDynamic, LoongArch64, NotRelaxable, Phase, Ppc64}
+use Rattle.linker_rewriting.specs.Imports.{PreLayout, RiscV, Scope, TlsLocalExec, UnrelaxableGroups}
+use Rattle.linker_rewriting.specs.Imports.{aarch64_name, loongarch_name, ppc64_name, riscv_name}
 use Rattle.linker_elf.specs.X86Relocations.{x86_64_name}
-use Rattle.linker_elf.specs.declared.aarch64.relocations.AArch64Relocation.{AArch64Relocation}
 use Rattle.linker_elf.specs.declared.aarch64.relocations.AArch64Relocation.TheVariants as aarch64
 use Rattle.linker_elf.specs.declared.loongarch64.relocations.LoongArch64Relocation.{LoongArch64Relocation}
 use Rattle.linker_elf.specs.declared.loongarch64.relocations.LoongArch64Relocation.TheVariants as loongarch64
@@ -17,22 +18,9 @@ use Rattle.linker_elf.specs.declared.riscv64.relocations.RiscVRelocation.{RiscVR
 use Rattle.linker_elf.specs.declared.riscv64.relocations.RiscVRelocation.TheVariants as riscv64
 use Rattle.linker_elf.specs.declared.x86_64.relocations.X86_64Relocation.{X86_64Relocation}
 use Rattle.linker_elf.specs.declared.x86_64.relocations.X86_64Relocation.TheVariants as x86_64
-use Rattle.linker_rewriting.specs.declared.groups.Group.{Group}
-use Rattle.linker_rewriting.specs.declared.groups.Group.TheVariants.{InitialExec, GeneralDynamic}
-use Rattle.linker_rewriting.specs.declared.groups.Group.TheVariants.{LocalDynamic, Descriptor}
-use Rattle.linker_rewriting.specs.declared.groups.Group.TheVariants.{GotLoad}
-use Rattle.linker_rewriting.specs.declared.groups.UnrelaxableGroups.{UnrelaxableGroups}
-use Rattle.linker_rewriting.specs.declared.groups.Scope.{Scope}
-use Rattle.linker_rewriting.specs.declared.groups.Scope.TheVariants.{NotRelaxable, Independent}
-use Rattle.linker_rewriting.specs.declared.groups.Scope.TheVariants.{Grouped, FirstOfPair}
-use Rattle.linker_rewriting.specs.declared.groups.Scope.TheVariants.{IfGroupMatches, Labelled}
-use Rattle.linker_rewriting.specs.declared.phases.Phase.{Phase}
-use Rattle.linker_rewriting.specs.declared.phases.Phase.TheVariants.{PreLayout, TlsLocalExec}
-use Rattle.linker_rewriting.specs.declared.phases.Phase.TheVariants.{GotToPcRel, ShortPcRel}
+use Rattle.linker_rewriting.specs.declared.groups.Group.TheVariants.{Descriptor, GotLoad}
+use Rattle.linker_rewriting.specs.declared.phases.Phase.TheVariants.{ShortPcRel}
 use Rattle.linker_elf.specs.Architectures.{IsNamedValue}
-use Rattle.linker_elf.specs.declared.elf.architecture.Architecture.{Architecture}
-use Rattle.linker_elf.specs.declared.elf.architecture.Architecture.TheVariants.{AArch64, RiscV}
-use Rattle.linker_elf.specs.declared.elf.architecture.Architecture.TheVariants.{LoongArch64, Ppc64}
 use Rattle.linker_elf.specs.declared.elf.architecture.Architecture.TheVariants.{X86_64}
 
 -- ---- scopes before addresses are known

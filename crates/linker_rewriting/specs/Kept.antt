@@ -1,25 +1,17 @@
 -- What choices of rewrites read of symbols and of the output, kept until values are written.
 use Rattle.std.specs.Prelude.{◌≡◌, ℕ, ◌+◌, ◌*◌, ◌/◌, ◌<◌, ◌^◌, ℤ, Bool, true, false, List, length}
 use Rattle.std.specs.Prelude.{slice_get, Option, Some, None, ◌==◌, ◌&&◌, not}
-use Rattle.linker_elf.specs.ElfNames.{code_of}
-use Rattle.linker_elf.specs.Ppc64Relocations.{ppc64_name}
+use Rattle.linker_rewriting.specs.Imports.{Addresses, Architecture, OutputFacts, Phase, Rela}
+use Rattle.linker_rewriting.specs.Imports.{Symbol, SymbolFacts, code_of, ppc64_name, relocation_in}
 use Rattle.linker_elf.specs.declared.ppc64.relocations.Ppc64Relocation.TheVariants as ppc64
 use Rattle.linker_rewriting.specs.Agreement.{Agree, IsContradiction}
 use Rattle.linker_rewriting.specs.Facts.{facts_of, placed_facts, is_imported}
-use Rattle.linker_rewriting.specs.declared.facts.OutputFacts.{OutputFacts}
-use Rattle.linker_rewriting.specs.declared.facts.SymbolFacts.{SymbolFacts}
 use Rattle.linker_rewriting.specs.declared.kept.FactsSnapshot.{FactsSnapshot}
 use Rattle.linker_rewriting.specs.declared.kept.WritingError.{WritingError}
 use Rattle.linker_rewriting.specs.declared.kept.WritingError.TheVariants.{Contradiction, Changed}
 use Rattle.linker_rewriting.specs.declared.kept.WritingError.TheVariants.{NeedsStub, Section}
-use Rattle.linker_rewriting.specs.declared.phases.Phase.{Phase}
-use Rattle.linker_section.specs.Relocations.{relocation_in}
 use Rattle.linker_section.specs.Sections.{IsFirstRejected}
 use Rattle.linker_section.specs.WrittenFields.{IsFirstFault}
-use Rattle.linker_section.specs.declared.facts.Addresses.{Addresses}
-use Rattle.linker_section.specs.declared.facts.Symbol.{Symbol}
-use Rattle.linker_section.specs.declared.relocations.Rela.{Rela}
-use Rattle.linker_elf.specs.declared.elf.architecture.Architecture.{Architecture}
 use Rattle.linker_elf.specs.declared.elf.architecture.Architecture.TheVariants as architectures
 
 -- ---- the facts of a symbol in a number

@@ -4,6 +4,7 @@ pub mod Decisions
 pub mod Facts
 pub mod GlobalPointer
 pub mod Groups
+pub mod Imports
 pub mod Inner
 pub mod Kept
 pub mod RiscVPcrelGroups

@@ -1,16 +1,11 @@
 -- What is noted of the groups of labels before a section is decided, in place of the decisions.
 use Rattle.std.specs.Prelude.{◌≡◌, ℕ, ◌<◌, ◌≤◌, ◌/◌, Bool, true, false, List, length, Option, Some}
 use Rattle.std.specs.Prelude.{None}
+use Rattle.linker_rewriting.specs.Imports.{Addresses, Consumed, Decision, Phase, Rela, Symbol}
+use Rattle.linker_rewriting.specs.Imports.{relocation_in}
 use Rattle.linker_rewriting.specs.Decisions.{decision_at}
 use Rattle.linker_rewriting.specs.Facts.{RelaxContext}
 use Rattle.linker_rewriting.specs.RiscVPcrelGroups.{IsHighOf, IsInLabel, IsLabelNote, HasLacking}
-use Rattle.linker_rewriting.specs.declared.decisions.Decision.{Decision}
-use Rattle.linker_rewriting.specs.declared.decisions.Decision.TheVariants.{Consumed}
-use Rattle.linker_rewriting.specs.declared.phases.Phase.{Phase}
-use Rattle.linker_section.specs.Relocations.{relocation_in}
-use Rattle.linker_section.specs.declared.facts.Addresses.{Addresses}
-use Rattle.linker_section.specs.declared.facts.Symbol.{Symbol}
-use Rattle.linker_section.specs.declared.relocations.Rela.{Rela}
 
 -- a group stays
 abbrev pub is_note : Decision → Bool

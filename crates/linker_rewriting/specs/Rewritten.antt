@@ -1,38 +1,24 @@
 -- A section and its relocations after their rewrites.
 use Rattle.std.specs.Prelude.{◌≡◌, ◌≢◌, ℕ, ◌+◌, ◌-◌, ◌<◌, ◌≤◌, ◌/◌, ◌⊎◌, ◌↔◌, List, length, get_or}
 use Rattle.std.specs.Prelude.{Option, None, Some, true, false}
-use Rattle.linker_base.specs.Rewrite.{Rewrite, rewrite_window, rewritten, offset_after}
-use Rattle.linker_base.specs.Rewrite.{addend_after}
+use Rattle.linker_rewriting.specs.Imports.{AArch64, AArch64Relocation, Architecture, Choice}
+use Rattle.linker_rewriting.specs.Imports.{Consumed, Decision, Group, Kept, LoongArch64}
+use Rattle.linker_rewriting.specs.Imports.{OutputFacts, Phase, Rela, Relaxation, Rewritten}
+use Rattle.linker_rewriting.specs.Imports.{RewrittenWithSymbol, SymbolFacts, UnrelaxableGroups}
+use Rattle.linker_rewriting.specs.Imports.{aarch64_name, relaxation_rewrite, relocation_in}
+use Rattle.linker_rewriting.specs.Imports.{rewritten}
+use Rattle.linker_base.specs.Rewrite.{Rewrite, rewrite_window, offset_after, addend_after}
 use Rattle.linker_rewriting.specs.Decisions.{decision_at, is_taken, start_at, written_end_at}
-use Rattle.linker_rewriting.specs.Decisions.{AreDecidedIn, AreApart, AreClear}
-use Rattle.linker_rewriting.specs.Decisions.{AllCanBeMade, AllMatch, AllKeepBytes}
+use Rattle.linker_rewriting.specs.Decisions.{AreDecidedIn, AreApart, AreClear, AllCanBeMade}
+use Rattle.linker_rewriting.specs.Decisions.{AllMatch, AllKeepBytes}
 use Rattle.linker_rewriting.specs.Facts.{RelaxContext, pre_layout}
 use Rattle.linker_rewriting.specs.Groups.{IsInGroupIn, symbol_of_group}
 use Rattle.linker_rewriting.specs.RiscVPcrelGroups.{IsInLabel, IsHighIn}
-use Rattle.linker_elf.specs.AArch64Relocations.{aarch64_name}
 use Rattle.linker_elf.specs.ElfNames.{IsNameOf}
-use Rattle.linker_elf.specs.declared.aarch64.relocations.AArch64Relocation.{AArch64Relocation}
 use Rattle.linker_elf.specs.declared.aarch64.relocations.AArch64Relocation.TheVariants as names
-use Rattle.linker_elf.specs.declared.elf.choice.Choice.{Choice}
 use Rattle.linker_rewriting.specs.Sequences.{are_members, marked_load}
-use Rattle.linker_rewriting.specs.declared.decisions.Decision.{Decision}
-use Rattle.linker_rewriting.specs.declared.decisions.Decision.TheVariants.{Kept, Rewritten}
-use Rattle.linker_rewriting.specs.declared.decisions.Decision.TheVariants.{Consumed}
-use Rattle.linker_rewriting.specs.declared.decisions.Decision.TheVariants.{RewrittenWithSymbol}
-use Rattle.linker_rewriting.specs.declared.facts.OutputFacts.{OutputFacts}
-use Rattle.linker_rewriting.specs.declared.facts.SymbolFacts.{SymbolFacts}
-use Rattle.linker_rewriting.specs.declared.groups.Group.{Group}
-use Rattle.linker_rewriting.specs.declared.groups.UnrelaxableGroups.{UnrelaxableGroups}
-use Rattle.linker_rewriting.specs.declared.phases.Phase.{Phase}
-use Rattle.linker_section.specs.Relocations.{relocation_in}
-use Rattle.linker_section.specs.declared.relocations.Rela.{Rela}
-use Rattle.linker_utils.specs.Relaxations.{relaxation_rewrite}
-use Rattle.linker_elf.specs.declared.elf.architecture.Architecture.{Architecture}
-use Rattle.linker_elf.specs.declared.elf.architecture.Architecture.TheVariants.{AArch64}
-use Rattle.linker_elf.specs.declared.elf.architecture.Architecture.TheVariants.{LoongArch64}
 use Rattle.linker_utils.specs.declared.aarch64.rewrites.RewriteKind.{RewriteKind}
 use Rattle.linker_utils.specs.declared.aarch64.rewrites.RewriteKind.TheVariants as kinds
-use Rattle.linker_utils.specs.declared.architecture.Relaxation.{Relaxation}
 use Rattle.linker_utils.specs.declared.architecture.Relaxation.TheVariants as relaxations
 
 -- ---- relocations

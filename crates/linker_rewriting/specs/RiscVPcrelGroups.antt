@@ -3,30 +3,16 @@
 use Rattle.std.specs.Prelude.{◌≡◌, ℕ, ◌<◌, ◌/◌, ◌^◌, ◌⊎◌, ◌&&◌, ◌==◌, Bool, true, false, List}
 use Rattle.std.specs.Prelude.{length, Option, Some, None, if◌then◌else◌, slice_get, nat_le, not}
 use Rattle.std.specs.Prelude.{◌-◌}
-use Rattle.std.specs.Int.{w64, cast_unsigned}
-use Rattle.linker_elf.specs.ElfNames.{code_of}
-use Rattle.linker_elf.specs.RiscVRelocations.{riscv_name}
-use Rattle.linker_elf.specs.Value.{sum_64, difference_64}
-use Rattle.linker_elf.specs.declared.elf.choice.Choice.{Choice}
-use Rattle.linker_elf.specs.declared.elf.choice.LinkFacts.{LinkFacts}
+use Rattle.linker_rewriting.specs.Imports.{Addresses, Architecture, Choice, GotToPcRel, IsAscending}
+use Rattle.linker_rewriting.specs.Imports.{Labelled, LinkFacts, Phase, Rela, Relaxation, RiscV}
+use Rattle.linker_rewriting.specs.Imports.{Scope, Symbol, TlsLocalExec, cast_unsigned, code_of}
+use Rattle.linker_rewriting.specs.Imports.{difference_64, relocation_in, riscv_name, sum_64, w64}
 use Rattle.linker_elf.specs.declared.elf.value.Operands.{Operands}
 use Rattle.linker_elf.specs.declared.riscv64.relocations.RiscVRelocation.TheVariants as riscv64
 use Rattle.linker_rewriting.specs.Candidates.{IsCandidateWith}
 use Rattle.linker_rewriting.specs.Facts.{RelaxContext, link_facts}
 use Rattle.linker_rewriting.specs.Groups.{IsScopeIn}
 use Rattle.linker_rewriting.specs.Sequences.{is_marked_at}
-use Rattle.linker_rewriting.specs.declared.groups.Scope.{Scope}
-use Rattle.linker_rewriting.specs.declared.groups.Scope.TheVariants.{Labelled}
-use Rattle.linker_rewriting.specs.declared.phases.Phase.{Phase}
-use Rattle.linker_rewriting.specs.declared.phases.Phase.TheVariants.{TlsLocalExec, GotToPcRel}
-use Rattle.linker_section.specs.Relocations.{relocation_in}
-use Rattle.linker_section.specs.Values.{IsAscending}
-use Rattle.linker_section.specs.declared.facts.Addresses.{Addresses}
-use Rattle.linker_section.specs.declared.facts.Symbol.{Symbol}
-use Rattle.linker_section.specs.declared.relocations.Rela.{Rela}
-use Rattle.linker_utils.specs.declared.architecture.Relaxation.{Relaxation}
-use Rattle.linker_elf.specs.declared.elf.architecture.Architecture.{Architecture}
-use Rattle.linker_elf.specs.declared.elf.architecture.Architecture.TheVariants.{RiscV}
 
 -- ---- high parts
 

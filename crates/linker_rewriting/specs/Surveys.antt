@@ -1,27 +1,14 @@
 -- Which groups stay, since one of their instructions can't be rewritten.
 use Rattle.std.specs.Prelude.{◌≡◌, ℕ, zero, suc, ◌<◌, ◌/◌, ◌⊎◌, ◌↔◌, ◌&&◌, ◌==◌, not, Bool, true}
 use Rattle.std.specs.Prelude.{false, IsTrue, List, length, Option, Some, None, slice_get}
-use Rattle.linker_elf.specs.declared.elf.choice.Choice.{Choice}
+use Rattle.linker_rewriting.specs.Imports.{Architecture, Choice, GeneralDynamic, Group, Grouped}
+use Rattle.linker_rewriting.specs.Imports.{IfGroupMatches, InitialExec, LocalDynamic, NotSurveyed}
+use Rattle.linker_rewriting.specs.Imports.{OutputFacts, Phase, Ppc64, PreLayout, Rela, Relaxation}
+use Rattle.linker_rewriting.specs.Imports.{RewritingError, Scope, SymbolFacts, UnrelaxableGroups}
+use Rattle.linker_rewriting.specs.Imports.{relocation_in}
 use Rattle.linker_rewriting.specs.Candidates.{IsCandidate, IsMatched, calls_tls_get_addr}
 use Rattle.linker_rewriting.specs.Facts.{RelaxContext, pre_layout}
 use Rattle.linker_rewriting.specs.Groups.{IsScopeIn, IsMark, stays_at, symbol_of_group}
-use Rattle.linker_rewriting.specs.declared.decisions.RewritingError.{RewritingError}
-use Rattle.linker_rewriting.specs.declared.decisions.RewritingError.TheVariants.{NotSurveyed}
-use Rattle.linker_rewriting.specs.declared.facts.OutputFacts.{OutputFacts}
-use Rattle.linker_rewriting.specs.declared.facts.SymbolFacts.{SymbolFacts}
-use Rattle.linker_rewriting.specs.declared.groups.Group.{Group}
-use Rattle.linker_rewriting.specs.declared.groups.Group.TheVariants.{InitialExec, GeneralDynamic}
-use Rattle.linker_rewriting.specs.declared.groups.Group.TheVariants.{LocalDynamic}
-use Rattle.linker_rewriting.specs.declared.groups.UnrelaxableGroups.{UnrelaxableGroups}
-use Rattle.linker_rewriting.specs.declared.groups.Scope.{Scope}
-use Rattle.linker_rewriting.specs.declared.groups.Scope.TheVariants.{Grouped, IfGroupMatches}
-use Rattle.linker_rewriting.specs.declared.phases.Phase.{Phase}
-use Rattle.linker_rewriting.specs.declared.phases.Phase.TheVariants.{PreLayout}
-use Rattle.linker_section.specs.Relocations.{relocation_in}
-use Rattle.linker_section.specs.declared.relocations.Rela.{Rela}
-use Rattle.linker_utils.specs.declared.architecture.Relaxation.{Relaxation}
-use Rattle.linker_elf.specs.declared.elf.architecture.Architecture.{Architecture}
-use Rattle.linker_elf.specs.declared.elf.architecture.Architecture.TheVariants.{Ppc64}
 
 -- ---- what keeps groups
 

@@ -3,11 +3,11 @@
 -- compute its address: all that load it, or none.
 use Rattle.std.specs.Prelude.{◌≡◌, ℕ, ℤ, ◌<◌, ◌/◌, ◌⊎◌, ◌==◌, if◌then◌else◌, Bool, true, false}
 use Rattle.std.specs.Prelude.{List, length, Option, None, Some, slice_get}
-use Rattle.std.specs.Int.{w64, cast_unsigned}
-use Rattle.linker_elf.specs.ElfNames.{code_of}
-use Rattle.linker_elf.specs.Ppc64Relocations.{ppc64_name}
-use Rattle.linker_elf.specs.Value.{sum_64, difference_64}
-use Rattle.linker_elf.specs.declared.elf.choice.Choice.{Choice}
+use Rattle.linker_rewriting.specs.Imports.{Addresses, Architecture, Choice, Decision, IsAscending}
+use Rattle.linker_rewriting.specs.Imports.{Kept, NotSurveyed, Ppc64, Rela, Relaxation}
+use Rattle.linker_rewriting.specs.Imports.{RewritingError, RewrittenWithSymbol, Symbol}
+use Rattle.linker_rewriting.specs.Imports.{cast_unsigned, code_of, difference_64, ppc64_name}
+use Rattle.linker_rewriting.specs.Imports.{relocation_in, sum_64, w64}
 use Rattle.linker_elf.specs.declared.ppc64.relocations.Ppc64Relocation.TheVariants as ppc64
 use Rattle.linker_rewriting.specs.Candidates.{IsCandidateWith}
 use Rattle.linker_rewriting.specs.Decisions.{AreDecidedBy, IsRejectedBy, IsRejectedFirst}
@@ -15,20 +15,7 @@ use Rattle.linker_rewriting.specs.Decisions.{decision_at, start_by, end_by, AreA
 use Rattle.linker_rewriting.specs.Facts.{RelaxContext, address_in, link_facts}
 use Rattle.linker_rewriting.specs.RiscVPcrelGroups.{IsHighFrom}
 use Rattle.linker_rewriting.specs.Rewritten.{AreRelocationsAfter, AreDone, IsRewritten, OthersStay}
-use Rattle.linker_rewriting.specs.declared.decisions.Decision.{Decision}
-use Rattle.linker_rewriting.specs.declared.decisions.Decision.TheVariants.{Kept}
-use Rattle.linker_rewriting.specs.declared.decisions.Decision.TheVariants.{RewrittenWithSymbol}
-use Rattle.linker_rewriting.specs.declared.decisions.RewritingError.{RewritingError}
-use Rattle.linker_rewriting.specs.declared.decisions.RewritingError.TheVariants.{NotSurveyed}
 use Rattle.linker_rewriting.specs.declared.decisions.Subject.{Subject}
-use Rattle.linker_section.specs.Relocations.{relocation_in}
-use Rattle.linker_section.specs.Values.{IsAscending}
-use Rattle.linker_section.specs.declared.facts.Addresses.{Addresses}
-use Rattle.linker_section.specs.declared.facts.Symbol.{Symbol}
-use Rattle.linker_section.specs.declared.relocations.Rela.{Rela}
-use Rattle.linker_utils.specs.declared.architecture.Relaxation.{Relaxation}
-use Rattle.linker_elf.specs.declared.elf.architecture.Architecture.{Architecture}
-use Rattle.linker_elf.specs.declared.elf.architecture.Architecture.TheVariants.{Ppc64}
 
 -- ---- loads
 

@@ -1,21 +1,13 @@
 -- Calls that stay as they are before addresses are known, by what is known of their symbol.
 use Rattle.std.specs.Prelude.{◌≡◌, ℕ, ◌==◌, ◌||◌, ◌&&◌, ◌⊎◌, not, Bool, true, false, Option, Some}
 use Rattle.std.specs.Prelude.{None, List, slice_get}
-use Rattle.linker_elf.specs.AArch64Relocations.{aarch64_name}
-use Rattle.linker_elf.specs.ElfNames.{code_of}
-use Rattle.linker_elf.specs.Ppc64Relocations.{ppc64_name}
+use Rattle.linker_rewriting.specs.Imports.{AArch64, Architecture, NotRelaxable, Phase, Ppc64}
+use Rattle.linker_rewriting.specs.Imports.{PreLayout, Rela, Scope, SymbolFacts, aarch64_name}
+use Rattle.linker_rewriting.specs.Imports.{code_of, ppc64_name}
 use Rattle.linker_elf.specs.declared.aarch64.relocations.AArch64Relocation.TheVariants as aarch64
 use Rattle.linker_elf.specs.declared.ppc64.relocations.Ppc64Relocation.TheVariants as ppc64
 use Rattle.linker_rewriting.specs.Facts.{may_change_toc}
 use Rattle.linker_rewriting.specs.Groups.{IsScopeIn}
-use Rattle.linker_rewriting.specs.declared.facts.SymbolFacts.{SymbolFacts}
-use Rattle.linker_rewriting.specs.declared.groups.Scope.{Scope}
-use Rattle.linker_rewriting.specs.declared.groups.Scope.TheVariants.{NotRelaxable}
-use Rattle.linker_rewriting.specs.declared.phases.Phase.{Phase}
-use Rattle.linker_rewriting.specs.declared.phases.Phase.TheVariants.{PreLayout}
-use Rattle.linker_section.specs.declared.relocations.Rela.{Rela}
-use Rattle.linker_elf.specs.declared.elf.architecture.Architecture.{Architecture}
-use Rattle.linker_elf.specs.declared.elf.architecture.Architecture.TheVariants.{AArch64, Ppc64}
 
 abbrev pub is_weak_zero : Option SymbolFacts → Bool
 is_weak_zero None = false

@@ -1,15 +1,9 @@
 -- Which relocations are rewritten in a phase, and for which a survey asks.
 use Rattle.std.specs.Prelude.{◌≡◌, ℕ, Bool, true, false, List, slice_get, Option}
+use Rattle.linker_rewriting.specs.Imports.{Architecture, Grouped, IfGroupMatches, NotRelaxable}
+use Rattle.linker_rewriting.specs.Imports.{Phase, PreLayout, Rela, Scope, SymbolFacts}
 use Rattle.linker_rewriting.specs.Candidates.{calls_tls_get_addr}
 use Rattle.linker_rewriting.specs.Groups.{IsScopeIn}
-use Rattle.linker_rewriting.specs.declared.facts.SymbolFacts.{SymbolFacts}
-use Rattle.linker_rewriting.specs.declared.groups.Scope.{Scope}
-use Rattle.linker_rewriting.specs.declared.groups.Scope.TheVariants.{NotRelaxable, Grouped}
-use Rattle.linker_rewriting.specs.declared.groups.Scope.TheVariants.{IfGroupMatches}
-use Rattle.linker_rewriting.specs.declared.phases.Phase.{Phase}
-use Rattle.linker_rewriting.specs.declared.phases.Phase.TheVariants.{PreLayout}
-use Rattle.linker_section.specs.declared.relocations.Rela.{Rela}
-use Rattle.linker_elf.specs.declared.elf.architecture.Architecture.{Architecture}
 use Rattle.linker_elf.specs.declared.elf.architecture.Architecture.TheVariants as architectures
 
 -- a relocation with a code that isn't listed has no scope

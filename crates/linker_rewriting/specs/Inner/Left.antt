@@ -1,13 +1,9 @@
 -- Sections that stay as they are in a phase.
 use Rattle.std.specs.Prelude.{◌≡◌, ℕ, ◌<◌, List}
+use Rattle.linker_rewriting.specs.Imports.{Architecture, Decision, Kept, NotRelaxable, Phase}
+use Rattle.linker_rewriting.specs.Imports.{relocation_in}
 use Rattle.linker_rewriting.specs.Decisions.{decision_at}
 use Rattle.linker_rewriting.specs.Groups.{IsScopeIn}
-use Rattle.linker_rewriting.specs.declared.decisions.Decision.{Decision}
-use Rattle.linker_rewriting.specs.declared.decisions.Decision.TheVariants.{Kept}
-use Rattle.linker_rewriting.specs.declared.groups.Scope.TheVariants.{NotRelaxable}
-use Rattle.linker_rewriting.specs.declared.phases.Phase.{Phase}
-use Rattle.linker_section.specs.Relocations.{relocation_in}
-use Rattle.linker_elf.specs.declared.elf.architecture.Architecture.{Architecture}
 
 -- no relocation with an index below a limit may be rewritten, by its code
 abbrev pub AreUnlisted : Architecture → Phase → List ℕ → ℕ → Type 0

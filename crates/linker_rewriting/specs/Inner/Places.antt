@@ -1,9 +1,8 @@
 -- Where in a list of decisions those are that write or delete bytes, beside an offset.
 use Rattle.std.specs.Prelude.{◌≡◌, ◌≢◌, ℕ, ◌<◌, ◌≤◌, List}
+use Rattle.linker_rewriting.specs.Imports.{Decision, offset_at}
 use Rattle.linker_rewriting.specs.Decisions.{start_at, end_at}
 use Rattle.linker_rewriting.specs.declared.covered.Place.{Place}
-use Rattle.linker_rewriting.specs.declared.decisions.Decision.{Decision}
-use Rattle.linker_section.specs.Values.{offset_at}
 
 -- the decision with an index writes or deletes bytes
 abbrev pub IsWindow : List ℕ → List Decision → ℕ → Type 0

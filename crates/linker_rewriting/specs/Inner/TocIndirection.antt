@@ -1,6 +1,6 @@
 -- Words that are noted.
 use Rattle.std.specs.Prelude.{◌≡◌, ℕ, Option, None, Some}
-use Rattle.linker_section.specs.declared.relocations.Rela.{Rela}
+use Rattle.linker_rewriting.specs.Imports.{Rela}
 
 abbrev pub IsThatWord : Option ℕ → ℕ → Type 0
 IsThatWord None word = ⊥
