@@ -430,6 +430,17 @@ AllKeepBytes bytes section decisions numbers limit =
     (n : ℕ) → n < limit → KeepsBytes (decision_at decisions n) (get_or numbers n 0) section
     (relocation_in bytes n).offset
 
+-- what is tested of a decision that is made later
+abbrev pub StillFits : Decision → ℕ → List ℕ → ℕ → Type 0
+StillFits decision number section offset =
+    CanBeMade decision section offset × Matches decision section offset
+    × KeepsBytes decision number section offset
+
+abbrev pub AllStillFit : List ℕ → List ℕ → List Decision → List ℕ → ℕ → Type 0
+AllStillFit bytes section decisions numbers limit =
+    (n : ℕ) → n < limit → StillFits (decision_at decisions n) (get_or numbers n 0) section
+    (relocation_in bytes n).offset
+
 abbrev pub AreBytes : List ℕ → Type 0
 AreBytes section = (at : ℕ) → get_or section at 0 < 2 ^ 8
 
@@ -454,16 +465,12 @@ abbrev pub IsUnmade : List ℕ → List ℕ → List Decision → List ℕ → D
 IsUnmade bytes section decisions numbers errors.TooShort = length decisions < length bytes / 24
 IsUnmade bytes section decisions numbers (errors.Changed n) =
     (n < length bytes / 24) × (length bytes / 24 ≤ length decisions)
-    × AllCanBeMade bytes section decisions n × AllMatch bytes section decisions n
-    × AllKeepBytes bytes section decisions numbers n × AreApart bytes decisions n
-    × ¬ (CanBeMade (decision_at decisions n) section (relocation_in bytes n).offset
-    × Matches (decision_at decisions n) section (relocation_in bytes n).offset
-    × KeepsBytes (decision_at decisions n) (get_or numbers n 0) section
-    (relocation_in bytes n).offset)
+    × AllStillFit bytes section decisions numbers n × AreApart bytes decisions n
+    × ¬ StillFits (decision_at decisions n) (get_or numbers n 0) section
+    (relocation_in bytes n).offset
 IsUnmade bytes section decisions numbers (errors.Overlaps n) =
     (n < length bytes / 24) × (length bytes / 24 ≤ length decisions)
-    × AllCanBeMade bytes section decisions (n + 1) × AllMatch bytes section decisions (n + 1)
-    × AllKeepBytes bytes section decisions numbers (n + 1) × AreApart bytes decisions n
+    × AllStillFit bytes section decisions numbers (n + 1) × AreApart bytes decisions n
     × ¬ AreApart bytes decisions (n + 1)
 
 -- Where all match, can be made, were made on these bytes and are apart, none of it is so.
@@ -471,9 +478,7 @@ abbrev pub DecisionsAreMade : Type 0
 DecisionsAreMade =
     (bytes section : List ℕ) (decisions : List Decision) (numbers : List ℕ)
     → length bytes / 24 ≤ length decisions
-    → AllCanBeMade bytes section decisions (length bytes / 24)
-    → AllMatch bytes section decisions (length bytes / 24)
-    → AllKeepBytes bytes section decisions numbers (length bytes / 24)
+    → AllStillFit bytes section decisions numbers (length bytes / 24)
     → AreApart bytes decisions (length bytes / 24)
     → (error : DecisionError) → ¬ IsUnmade bytes section decisions numbers error
 

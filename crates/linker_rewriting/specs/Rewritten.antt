@@ -9,8 +9,7 @@ use Rattle.linker_rewriting.specs.Imports.{aarch64_name, relaxation_rewrite, rel
 use Rattle.linker_rewriting.specs.Imports.{rewritten}
 use Rattle.linker_base.specs.Rewrite.{Rewrite, rewrite_window, offset_after, addend_after}
 use Rattle.linker_rewriting.specs.Decisions.{decision_at, is_taken, start_at, written_end_at}
-use Rattle.linker_rewriting.specs.Decisions.{AreDecidedIn, AreApart, AreClear, AllCanBeMade}
-use Rattle.linker_rewriting.specs.Decisions.{AllMatch, AllKeepBytes}
+use Rattle.linker_rewriting.specs.Decisions.{AreDecidedIn, AreApart, AreClear, AllStillFit}
 use Rattle.linker_rewriting.specs.Facts.{RelaxContext, pre_layout}
 use Rattle.linker_rewriting.specs.Groups.{IsInGroupIn, symbol_of_group}
 use Rattle.linker_rewriting.specs.RiscVPcrelGroups.{IsInLabel, IsHighIn}
@@ -138,9 +137,7 @@ pub record AreDecidedAs (s : RelaxContext) (kept : List UnrelaxableGroups) (byte
     (decisions : List Decision) (numbers : List ℕ) : Type 0 where
   pub decided : AreDecidedIn s kept bytes section decisions (length bytes / 24)
   pub groups : GroupsAreWholeIn s.architecture s.phase bytes decisions (length bytes / 24)
-  pub within : AllCanBeMade bytes section decisions (length bytes / 24)
-  pub matches : AllMatch bytes section decisions (length bytes / 24)
-  pub kept_bytes : AllKeepBytes bytes section decisions numbers (length bytes / 24)
+  pub fit : AllStillFit bytes section decisions numbers (length bytes / 24)
   pub apart : AreApart bytes decisions (length bytes / 24)
   pub clear : AreClear s.architecture bytes section decisions (length bytes / 24)
 
@@ -148,9 +145,7 @@ pub record AreDecidedAs (s : RelaxContext) (kept : List UnrelaxableGroups) (byte
 pub record AreMadeAs (bytes bytes_after section section_after : List ℕ) (decisions : List Decision)
     (numbers : List ℕ) : Type 0 where
   pub enough : length bytes / 24 ≤ length decisions
-  pub within : AllCanBeMade bytes section decisions (length bytes / 24)
-  pub matches : AllMatch bytes section decisions (length bytes / 24)
-  pub kept_bytes : AllKeepBytes bytes section decisions numbers (length bytes / 24)
+  pub fit : AllStillFit bytes section decisions numbers (length bytes / 24)
   pub apart : AreApart bytes decisions (length bytes / 24)
   pub relocations : AreRelocationsAfter decisions bytes bytes_after (length bytes / 24)
   pub done : AreDone bytes decisions section section_after (length bytes / 24)

@@ -6,8 +6,8 @@ ghost use Rattle.std.specs.Prelude.{IfErr, OnOk, IsTrue, true, false};
 ghost use Rattle.linker_base.specs.Rewrite.{CanRewrite};
 ghost use Rattle.linker_base.specs.RewriteWindow.{window_of_rewrite};
 ghost use Rattle.linker_rewriting.specs.Candidates.{deletes_within};
-ghost use Rattle.linker_rewriting.specs.Decisions.{AllCanBeMade, AllMatch, AllKeepBytes, AreApart};
-ghost use Rattle.linker_rewriting.specs.Decisions.{CanBeMade, Matches, KeepsBytes, IsUnmade};
+ghost use Rattle.linker_rewriting.specs.Decisions.{AllCanBeMade, AllKeepBytes, AllStillFit};
+ghost use Rattle.linker_rewriting.specs.Decisions.{AreApart, IsUnmade, StillFits};
 ghost use Rattle.linker_rewriting.specs.Decisions.{bytes_number, window_number, turned};
 ghost use Rattle.linker_rewriting.specs.Inner.Left.{AreKept};
 ghost use Rattle.linker_utils.specs.Relaxations.{relaxation_rewrite, relaxation_deleted};
@@ -68,9 +68,7 @@ fn is_there(kind: Relaxation, section: &[u8], offset: u64) -> bool
 /// of bytes with a number.
 #[inline(always)]
 fn fits(decision: &Decision, number: u32, section: &[u8], offset: u64) -> bool
-    ensures { IsTrue result ↔ (CanBeMade decision.now section.now offset
-        × Matches decision.now section.now offset
-        × KeepsBytes decision.now number section.now offset) }
+    ensures { IsTrue result ↔ StillFits decision.now number section.now offset }
 {
     match decision {
         Decision::Rewritten(choice) => {
@@ -121,11 +119,7 @@ pub(crate) fn check_decisions<D: AsKeptDecision>(
     decisions: &[D],
 ) -> Result<(), DecisionError>
     ensures enough { OnOk result (length relocations.now / 24 ≤ length decisions.now) }
-    ensures made { OnOk result (AllCanBeMade relocations.now section.now
-        (map D.decision decisions.now) (length relocations.now / 24)) }
-    ensures matches { OnOk result (AllMatch relocations.now section.now
-        (map D.decision decisions.now) (length relocations.now / 24)) }
-    ensures bytes { OnOk result (AllKeepBytes relocations.now section.now
+    ensures fit { OnOk result (AllStillFit relocations.now section.now
         (map D.decision decisions.now) (map D.bytes decisions.now)
         (length relocations.now / 24)) }
     ensures apart { OnOk result (AreApart relocations.now (map D.decision decisions.now)

@@ -1,8 +1,8 @@
 use Rattle.linker_rewriting.proofs.Imports.{Kept, get_or, get_or-map, length-map, relocation_in}
 use Rattle.std.proofs.Common.{◌≡◌, ◌<◌, ◌≤◌, ◌/◌, ◌∙◌, length, map, sym, subst, arith, None, Some}
-use Rattle.linker_rewriting.proofs.Makeable.{Fits, more_checked, kept_checked, overlaps}
+use Rattle.linker_rewriting.proofs.Makeable.{more_checked, kept_checked, overlaps}
 use Rattle.linker_rewriting.proofs.Deciding.{IsGrown, ends_within}
-use Rattle.linker_rewriting.specs.Decisions.{IsEndAfter, decision_at, start_by, end_by}
+use Rattle.linker_rewriting.specs.Decisions.{IsEndAfter, StillFits, decision_at, start_by, end_by}
 use Rattle.linker_rewriting.proofs.checked.check_decisions.Goals as goal
 
 pub loop-index-preserved-in-Kept : goal.loop-index-preserved-in-Kept
@@ -43,8 +43,8 @@ returns-in_default-end_after-clause-unmade g c =
     let number : get_or numbers k 0 ≡ c.bytes.result =
     get_or-map g.D.AsKeptDecision.bytes a.decisions.now k c.index-decisions-index.result 0 within ∙ rw (← c.index-decisions-index.is) (sym c.bytes.ensures) in
     overlaps a.relocations.now a.section.now (map f a.decisions.now) numbers c.loop-index.end k d c.loop-index.invariant here
-    (subst (λ n. Fits d n a.section.now (relocation_in a.relocations.now k).offset) (sym number)
-    (subst (λ y. Fits d c.bytes.result a.section.now y.offset) same both))
+    (subst (λ n. StillFits d n a.section.now (relocation_in a.relocations.now k).offset) (sym number)
+    (subst (λ y. StillFits d c.bytes.result a.section.now y.offset) same both))
     (subst (λ x. IsEndAfter (start_by d x.offset) (end_by d x.offset) c.loop-index.end None) same
     (subst (λ x. IsEndAfter (x.0) (x.1) c.loop-index.end None) c.span_of-start.ensures
     (subst (IsEndAfter (c.span_of-start.result.0) (c.span_of-start.result.1) c.loop-index.end) c.in_default-end_after.is c.end_after.ensures)))
@@ -71,8 +71,8 @@ loop-index-preserved g c =
     (subst (λ x. IsEndAfter (x.0) (x.1) c.loop-index.end (Some end)) c.span_of-start.ensures
     (subst (IsEndAfter (c.span_of-start.result.0) (c.span_of-start.result.1) c.loop-index.end) c.in-Some.is c.end_after.ensures)) in
     more_checked a.relocations.now a.section.now (map f a.decisions.now) numbers c.loop-index.end end k d c.loop-index.invariant here
-    (subst (λ n. Fits d n a.section.now (relocation_in a.relocations.now k).offset) (sym number)
-    (subst (λ y. Fits d c.bytes.result a.section.now y.offset) same both))
+    (subst (λ n. StillFits d n a.section.now (relocation_in a.relocations.now k).offset) (sym number)
+    (subst (λ y. StillFits d c.bytes.result a.section.now y.offset) same both))
     grow
 
 pub returns-clause-apart : goal.returns-clause-apart

@@ -17,9 +17,7 @@ returns-in-Ok g c =
         decided = e.decided;
         groups = whole s a.kept.now a.relocations.now a.section.now
             (map g.D.AsDecision.decision c.keep_bytes.new.decisions) (length a.relocations.now / 24) e.decided;
-        within = e.made;
-        matches = e.matches;
-        kept_bytes = k.bytes;
+        fit = λ n less. (e.made n less, e.matches n less, k.bytes n less);
         apart = e.apart;
         clear = e.clear;
       };
