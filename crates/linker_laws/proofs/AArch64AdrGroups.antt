@@ -13,7 +13,7 @@ use Rattle.linker_laws.specs.Changes.{go_to, put}
 use Rattle.linker_laws.specs.Machine.{loaded}
 use Rattle.linker_laws.specs.Schemes.{AreAddresses, IsAddress, symbol_address}
 use Rattle.linker_laws.specs.Simulation.{State, Program, Kinds, run}
-use Rattle.linker_laws.proofs.AArch64Groups.{below_32, below_64, eight, load_goes, nop_goes, sets, sets_at, sets_twice}
+use Rattle.linker_laws.proofs.AArch64Groups.{below_32, below_64, load_goes, nop_goes, sets, sets_at, sets_twice}
 use Rattle.linker_laws.proofs.AArch64Near.{near_after, near_here, small_after}
 use Rattle.linker_laws.proofs.AArch64Pages.{IsUnsigned, offset_reads}
 use Rattle.linker_laws.proofs.AArch64Pairs.{adds_pair, adr_is, pair_made, word_is, word_made}
@@ -22,7 +22,7 @@ use Rattle.linker_laws.proofs.AArch64Words.{IsAdrOf, IsMadeAdr, add_after, adr_a
 use Rattle.linker_laws.proofs.Agreement.{agree_go, unchanged, value_group}
 use Rattle.linker_laws.proofs.CoveredRuns.{holds_of, run_first}
 use Rattle.linker_laws.proofs.Instructions.{unbiased}
-use Rattle.linker_laws.proofs.Sums.{lifted_is, once, sum_below}
+use Rattle.linker_laws.proofs.Sums.{lifted_is, once, sum_below, eight}
 use Rattle.linker_utils.specs.declared.aarch64.rewrites.RewriteKind.TheVariants as kinds
 
 -- a word under a mask

@@ -11,21 +11,19 @@ use Rattle.linker_laws.specs.Changes.{go_to, put}
 use Rattle.linker_laws.specs.Machine.{loaded}
 use Rattle.linker_laws.specs.Schemes.{AreAddresses}
 use Rattle.linker_laws.specs.Simulation.{State, Program, Kinds, Agree, Group, of_link, run}
-use Rattle.linker_laws.proofs.AArch64Groups.{below_32, below_64, eight, nop_goes, sets, sets_twice, still_seen}
+use Rattle.linker_laws.proofs.AArch64Groups.{below_32, below_64, nop_goes, sets, sets_twice, still_seen}
 use Rattle.linker_laws.proofs.AArch64Moves.{offset_moves}
 use Rattle.linker_laws.proofs.AArch64Pairs.{adds_up, loads, word_is}
 use Rattle.linker_laws.proofs.AArch64Steps.{step_add, step_blr, step_ldr}
 use Rattle.linker_laws.proofs.AArch64Words.{add_after, adr_of_register, adrp_after, blr_of, ldr_of_register_after, masked_field, of_registers}
 use Rattle.linker_laws.proofs.Agreement.{value_group}
 use Rattle.linker_laws.proofs.CoveredRuns.{run_first, run_on}
+use Rattle.linker_laws.proofs.Sums.{eight, three_words}
 
 -- ---- the call
 
 four_words : (a : ℕ) → sum_64 (sum_64 (sum_64 (sum_64 a 4) 4) 4) 4 ≡ sum_64 a 16
 four_words a = omega arith
-
-three_words : (a : ℕ) → sum_64 (sum_64 (sum_64 a 4) 4) 4 ≡ sum_64 a 12
-three_words a = omega arith
 
 -- what is written last counts
 last_counts : (e f u t link a b d next : ℕ) (s : State)

@@ -18,11 +18,9 @@ use Rattle.linker_laws.proofs.AArch64Steps.{branch_leads, set}
 use Rattle.linker_laws.proofs.AArch64Words.{branch_after, decodes_b, decodes_bl}
 use Rattle.linker_laws.proofs.Agreement.{agree_go, agree_put, agree_put_old, unchanged, value_group}
 use Rattle.linker_laws.proofs.CoveredRuns.{run_first, holds_of}
+use Rattle.linker_laws.proofs.Sums.{eight}
 
 -- ---- runs
-
-pub eight : (a : ℕ) → sum_64 (sum_64 a 4) 4 ≡ sum_64 a 8
-eight a = omega arith
 
 -- one instruction that writes a register
 pub sets : (others : ℕ → Program) (bytes : ℕ → ℕ) (s : State) (x n v : ℕ) → loaded 4 bytes s.pc ≡ x

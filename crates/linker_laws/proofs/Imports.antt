@@ -4,6 +4,7 @@ pub use Rattle.linker_base.proofs.ConsecutiveBits.{consecutive_bits_sum}
 pub use Rattle.linker_base.proofs.Fields.{same_fields}
 pub use Rattle.linker_base.proofs.Immediates.{always_clear, high_of, is_sound_layout, layout_laid, low_of}
 pub use Rattle.linker_base.proofs.Pairs.{signed_cases}
+pub use Rattle.linker_base.proofs.Words.{word_of_front}
 pub use Rattle.linker_base.specs.Bits.{field, signed}
 pub use Rattle.linker_base.specs.Form.{BitsWritten, ImmediateBit, bit_for, bits_to, is_placed, placed_bit, replaced, twos_complement, unsigned, window_of}
 pub use Rattle.linker_base.specs.Rewrite.{IsRewritable, Rewrite, offset_after, replaces, rewritten}
@@ -49,7 +50,6 @@ pub use Rattle.linker_elf.specs.declared.ppc64.relocations.Ppc64Relocation.{Ppc6
 pub use Rattle.linker_elf.specs.declared.riscv64.forms.RiscVInstruction.{RiscVInstruction}
 pub use Rattle.linker_elf.specs.declared.riscv64.forms.RiscVInstruction.TheVariants.{CjType, CluiType, IType, JType, SType, UType, UiType}
 pub use Rattle.linker_elf.specs.declared.x86_64.relocations.X86_64Relocation.{X86_64Relocation}
-pub use Rattle.linker_riscv64.proofs.Jumps.{word_of_front}
 pub use Rattle.linker_riscv64.specs.RiscVCalls.{IsCallPair}
 pub use Rattle.linker_riscv64.specs.RiscVFields.{funct3_of}
 pub use Rattle.linker_utils.specs.AArch64Rewrites.{IsAdd64, IsAdrp, IsIntoOwnSource, IsLdr64, nop, rd_of, rn_of}

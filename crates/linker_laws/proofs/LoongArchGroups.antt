@@ -27,7 +27,7 @@ use Rattle.linker_laws.proofs.LoongArchPairs.{adds, loads, low_written, nears, n
 use Rattle.linker_laws.proofs.LoongArchSteps.{set}
 use Rattle.linker_laws.proofs.LoongArchWords.{IsHigh, IsLow, high_after, low_after, low12_is}
 use Rattle.linker_laws.proofs.RiscVGroups.{counts}
-use Rattle.linker_laws.proofs.Sums.{difference_below, sum_below}
+use Rattle.linker_laws.proofs.Sums.{difference_below, sum_below, eight}
 use Rattle.linker_utils.specs.LoongArchRewrites.{IsCallOfDescriptor, IsLd, IsLoadOfDescriptor, IsPcalau12i, rd_of, unsigned_12}
 use Rattle.linker_utils.specs.declared.loongarch64.rewrites.RewriteKind.TheVariants as kinds
 
@@ -96,9 +96,6 @@ last_counts n u v a b s = λ i. record s { pc = b; registers = λ m. by (m == n)
 
 below_32 : (word : ℕ) → rd_of word < 32
 below_32 word = omega arith
-
-eight : (a : ℕ) → sum_64 (sum_64 a 4) 4 ≡ sum_64 a 8
-eight a = omega arith
 
 -- ---- steps
 

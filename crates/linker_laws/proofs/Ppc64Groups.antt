@@ -27,7 +27,7 @@ use Rattle.linker_laws.proofs.Ppc64Prefixed.{HasPrefixedParts, paddi_parts, padd
 use Rattle.linker_laws.proofs.Ppc64PrefixedThreads.{VariableSteps, access_to_direct, displacement_is, general_entry, loads_thread, module_entry, offset_entry, over_thread, pla_parts, sum_to_move, variable_there}
 use Rattle.linker_laws.proofs.Ppc64Words.{HasParts, d_after, ds_after, set, step_addi, step_bl, step_ld, step_nop, wrapped_is}
 use Rattle.linker_laws.proofs.RiscVMachine.{address_is, times_one}
-use Rattle.linker_laws.proofs.Sums.{sum_below}
+use Rattle.linker_laws.proofs.Sums.{sum_below, eight}
 use Rattle.linker_laws.proofs.Words.{two_words}
 use Rattle.linker_utils.specs.Ppc64Rewrites.{is_addis_over, two_words as two_words_of, nop}
 use Rattle.linker_utils.specs.declared.ppc64.rewrites.RewriteKind.TheVariants as kinds
@@ -134,9 +134,6 @@ unchanged n v next s is = λ i. record s { pc = next; registers = λ m. by m i }
 
 below_32 : (word : ℕ) → rt_of word < 32
 below_32 word = omega arith
-
-eight : (a : ℕ) → sum_64 (sum_64 a 4) 4 ≡ sum_64 a 8
-eight a = omega arith
 
 -- ---- steps
 

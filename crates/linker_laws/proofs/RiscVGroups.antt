@@ -23,7 +23,7 @@ use Rattle.linker_laws.proofs.RiscVHighParts.{IsFormulaOf, absolute_is, high_20,
 use Rattle.linker_laws.proofs.RiscVJumps.{high_decodes, high_long, jump_leads, low_decodes, low_long, pair_base, pair_leads, pair_link, pair_register, same_destination, same_opcode, short_jump_function, short_jump_leads, short_jump_low}
 use Rattle.linker_laws.proofs.RiscVLowParts.{IsBased, clear_0, clear_7, clear_12, clear_15, clear_20, i_kept, i_stands, is_action, low_sum, over_tp, over_zero, s_kept, s_stands, some_action, word_there}
 use Rattle.linker_laws.proofs.RiscVMachine.{address_is, fetched_half, fetched_word, is_cj, is_jal, is_long, is_sum, moved_twice, other, written}
-use Rattle.linker_laws.proofs.Sums.{lifted_is, sum_below}
+use Rattle.linker_laws.proofs.Sums.{lifted_is, sum_below, eight}
 use Rattle.linker_laws.proofs.Words.{half_of_bytes, put_there, word_below, word_of_bytes}
 use Rattle.linker_riscv64.specs.RiscVFields.{opcode_of, rd_of}
 use Rattle.linker_utils.proofs.RiscVRewrites.{half_of_front}
@@ -477,9 +477,6 @@ second_stands code at bytes stands =
     back (a ∷ b ∷ []) = refl
     back (a ∷ b ∷ c ∷ []) = refl
     back (a ∷ b ∷ c ∷ d ∷ xs) = refl
-
-eight : (a : ℕ) → sum_64 (sum_64 a 4) 4 ≡ sum_64 a 8
-eight a = omega arith
 
 -- the address of a place, in old and in new
 pub counts : (a b : ℕ) → a ≡ b → b < 2 ^ 64

@@ -240,3 +240,14 @@ high_sum k r p s n h short place is e =
   where
     there : (t l : ℕ) → t < 2 ^ 64 → l < 2 ^ 64 → (difference_64 t l + l) % 2 ^ 64 ≡ t
     there t l small below = omega arith
+
+-- ---- words that follow one another
+
+pub eight : (a : ℕ) → sum_64 (sum_64 a 4) 4 ≡ sum_64 a 8
+eight a = omega arith
+
+pub three_words : (a : ℕ) → sum_64 (sum_64 (sum_64 a 4) 4) 4 ≡ sum_64 a 12
+three_words a = omega arith
+
+pub sum_zero : (a : ℕ) → a < 2 ^ 64 → sum_64 a 0 ≡ a
+sum_zero a small = omega arith

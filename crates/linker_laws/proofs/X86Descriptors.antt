@@ -6,7 +6,7 @@ use Rattle.linker_utils.specs.X86Rewrites as x86
 use Rattle.linker_utils.specs.X86Rewrites.{lea_of_descriptor, rex_w, rex2_w}
 use Rattle.linker_utils.specs.declared.x86_64.rewrites.RewriteKind.{RewriteKind}
 use Rattle.linker_utils.specs.declared.x86_64.rewrites.RewriteKind.TheVariants as kinds
-use Rattle.linker_laws.proofs.Sums.{difference_below}
+use Rattle.linker_laws.proofs.Sums.{difference_below, sum_zero}
 use Rattle.linker_laws.specs.Schemes.{AreAddresses}
 use Rattle.linker_laws.specs.X86RewriteLaws.{IsBefore, IsRelocated, thread_offset}
 use Rattle.linker_laws.specs.X86Machine.{State, Operand, load, extended, decode, lea, operate, MOV, register, relative, immediate, operand_value, reg_of, rex_prefix, rex2_prefix, is_relative}
@@ -15,7 +15,7 @@ use Rattle.linker_laws.proofs.X86Bytes.{IsRex, IsRex2, rex_byte, rex2_byte, belo
 use Rattle.linker_laws.proofs.X86Codes.{pattern_there, rex_lea_codes, rex2_lea_codes, rex_immediate_codes, rex2_immediate_codes}
 use Rattle.linker_laws.proofs.X86Decoding.{begun, from_relative, from_immediate, after_rex_byte, after_rex2_byte}
 use Rattle.linker_laws.proofs.X86Fields.{descriptor_field, descriptor_row, thread_field, tls_entry_field, thread_row, tls_got_row}
-use Rattle.linker_laws.proofs.X86Immediates.{absolute_operands, offset_is, sum_zero}
+use Rattle.linker_laws.proofs.X86Immediates.{absolute_operands, offset_is}
 use Rattle.linker_laws.proofs.X86Loads.{from_next, at_place, same_place}
 use Rattle.linker_laws.proofs.X86Threads.{itself}
 

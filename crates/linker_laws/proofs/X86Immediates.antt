@@ -4,7 +4,7 @@ use Rattle.linker_laws.proofs.Imports.{w64, cast_unsigned, All-drop, rewritten, 
 use Rattle.linker_utils.specs.X86Rewrites as x86
 use Rattle.linker_utils.specs.X86Rewrites.{plain}
 use Rattle.linker_laws.specs.Schemes.{AreAddresses}
-use Rattle.linker_laws.proofs.Sums.{difference_below}
+use Rattle.linker_laws.proofs.Sums.{difference_below, sum_zero}
 use Rattle.linker_laws.specs.X86Groups.{is_arithmetic, sets_flags}
 use Rattle.linker_laws.specs.X86RewriteLaws.{IsBefore, IsRelocatedBy, thread_offset}
 use Rattle.linker_laws.specs.X86Machine.{State, Prefix, Operation, Instruction, MOV, ADD, OR, ADC, SBB, AND, SUB, XOR, CMP, TEST, load, extended, reg_of, rex_prefix, rex2_prefix, no_prefix, operate, register, relative, immediate, decode, decode_opcode, execute, sized, operand_value, is_relative, immediate_operation}
@@ -172,9 +172,6 @@ test =
 abbrev pub absolute_operands : ℕ → Operands → Operands
 absolute_operands o operands =
     record operands { place = difference_64 (sum_64 operands.place o) o; addend = pos 0 }
-
-pub sum_zero : (a : ℕ) → a < 2 ^ 64 → sum_64 a 0 ≡ a
-sum_zero a small = omega arith
 
 zero_sum : (a t : ℕ) → sum_64 0 a ≡ t → a % 2 ^ 64 ≡ t
 zero_sum a t is = omega arith

@@ -8,9 +8,10 @@ use Rattle.linker_laws.specs.X86Machine.{State, load, extended}
 use Rattle.linker_laws.proofs.X86Bytes.{same_byte}
 use Rattle.linker_laws.proofs.X86Codes.{inside}
 use Rattle.linker_laws.proofs.X86Fields.{tls_pair_field, tls_pair_row, thread_field, thread_row}
-use Rattle.linker_laws.proofs.X86Immediates.{offset_is, sum_zero}
+use Rattle.linker_laws.proofs.X86Immediates.{offset_is}
 use Rattle.linker_laws.proofs.X86Loads.{from_next, at_place}
 use Rattle.linker_laws.proofs.X86Sections.{original_code, rewritten_code}
+use Rattle.linker_laws.proofs.Sums.{sum_zero}
 
 -- bytes that begin with some
 pub begin_with : (bs : List ℕ) (ps : List (ℕ × ℕ)) (d : List ℕ) → All (λ b. b < 2 ^ 8) d
