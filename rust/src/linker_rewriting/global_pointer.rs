@@ -212,6 +212,7 @@ struct Parts<'a> {
 }
 
 /// Whether a part can be rewritten, if all of its symbol can.
+#[inline(always)]
 fn fits(
     parts: &Parts<'_>,
     relocations: &[u8],
