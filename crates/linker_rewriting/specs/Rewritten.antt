@@ -121,8 +121,8 @@ GroupsAreWholeAcross =
 
 -- ---- a section
 
--- It is rewritten as decided, all of a group or none. What is rewritten is apart, and has no byte of
--- the field of another relocation. All other bytes stay.
+-- It is rewritten as decided, all of a group or none. What is rewritten is apart, and has no byte
+-- of the field of another relocation. All other bytes stay.
 pub record IsRewrittenAs (s : RelaxContext) (kept : List UnrelaxableGroups)
     (bytes bytes_after section section_after : List ℕ) (decisions : List Decision) : Type 0 where
   pub decided : AreDecidedIn s kept bytes section decisions (length bytes / 24)
