@@ -114,7 +114,7 @@ pub mod link_in_ten_calls {
         rewrite_placed_section, rewrite_section, survey, survey_placed_section,
     };
     use crate::runs::{pack_run, relax, rewritten_items_into};
-    use crate::section::{memory_len, needs, read_crel, relocate_section};
+    use crate::section::{memory_len, needs, read_crel, read_rela32, relocate_section, wrap_addends};
 }
 
 pub mod runs {
@@ -155,6 +155,10 @@ pub mod section {
     pub use crate::linker_section::relocations::{
         RELA_LEN, Rela, first_from, is_ascending, relocation_at, relocations_len,
     };
+    #[cfg(feature = "riscv64")]
+    #[cfg(feature = "riscv64")] pub use crate::linker_section::riscv32::wrap_addends;
+    #[cfg(feature = "riscv64")]
+    pub use crate::linker_section::riscv32::{RELA32_LEN, read_rela32, relocations32_len};
     pub use crate::linker_section::sections::{RelocationError, memory_len};
     pub use crate::linker_section::values::{ValueError, value};
 }

@@ -12,6 +12,8 @@ pub mod needed;
 mod order;
 mod quick;
 pub mod relocations;
+#[cfg(feature = "riscv64")]
+pub mod riscv32;
 mod saved;
 pub mod sections;
 pub mod values;

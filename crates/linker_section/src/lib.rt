@@ -11,6 +11,7 @@ pub mod needed;
 mod order;
 mod quick;
 pub mod relocations;
+pub mod riscv32;
 mod saved;
 pub mod sections;
 pub mod values;

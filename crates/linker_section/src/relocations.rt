@@ -27,7 +27,7 @@ pub struct Rela {
 
 /// The word of 4 bytes at an offset.
 #[inline(always)]
-fn u32_at(bytes: &[u8], at: usize) -> u32
+pub(crate) fn u32_at(bytes: &[u8], at: usize) -> u32
     requires { at + 4 ≤ length bytes.now }
     ensures { result ≡ from_le_bytes w32 (drop at bytes.now) }
 {

@@ -354,7 +354,7 @@ fn lacks_origin(addresses: &Addresses, symbols: &[Symbol], row: &Row, relocation
 
 /// The value of a relocation that stands alone.
 #[inline(always)]
-fn own_value(
+pub(crate) fn own_value(
     architecture: Architecture,
     addresses: &Addresses,
     symbols: &[Symbol],
@@ -395,7 +395,7 @@ fn is_low_part(size: RelocationSize) -> bool
 
 /// Whether the symbol labels a high part.
 #[inline(always)]
-fn names_label(size: RelocationSize, kind: RelocationKind) -> bool
+pub(crate) fn names_label(size: RelocationSize, kind: RelocationKind) -> bool
     ensures { result ≡ names_label size kind }
 {
     match kind {

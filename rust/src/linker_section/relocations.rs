@@ -23,7 +23,7 @@ pub struct Rela {
 
 /// The word of 4 bytes at an offset.
 #[inline(always)]
-fn u32_at(bytes: &[u8], at: usize) -> u32 {
+pub(crate) fn u32_at(bytes: &[u8], at: usize) -> u32 {
     u32_from_slice(&bytes[at..])
 }
 

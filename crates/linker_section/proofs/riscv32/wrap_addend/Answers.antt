@@ -1,0 +1,10 @@
+use Rattle.std.proofs.Common.{subst}
+use Rattle.linker_section.proofs.RowFacts.{says}
+use Rattle.linker_elf.specs.Architectures.{IsRow}
+use Rattle.linker_elf.specs.declared.elf.architecture.Architecture.TheVariants.{RiscV}
+use Rattle.linker_section.proofs.riscv32.wrap_addend.Goals as goal
+
+pub own_value-requires : goal.own_value-requires
+own_value-requires c =
+    says RiscV c.args.relocation.now.code c.in-Some.row
+    (subst (IsRow RiscV c.args.relocation.now.code) c.in-Some.is c.row.ensures)

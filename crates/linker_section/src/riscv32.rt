@@ -1,0 +1,174 @@
+//! Relocations of RV32, as those of RV64 that write the same.
+//!
+//! They have the same types, formulas and forms (RISC-V ELF psABI, "Relocations"). A file has each
+//! in the 12 bytes of an `Elf32_Rela`: `read_rela32` copies them to the 24 bytes that all other
+//! calls read. Addresses and distances are modulo 2^32, so that a pair of instructions reaches
+//! every address. `wrap_addends` adds a multiple of 2^32 to an addend, so that the value is the one
+//! that the relocation can hold. With these two calls and 32-bit addresses, `Architecture::RiscV`
+//! is RV32.
+
+ghost use Rattle.std.specs.Prelude.{◌≡◌, ◌*◌, ◌<◌, ◌≤◌, ◌/◌, length};
+ghost use Rattle.std.specs.Int.{w32, cast_signed};
+ghost use Rattle.linker_section.specs.RiscV32.{relocation32_of, relocation32_in, AreCopied};
+ghost use Rattle.linker_section.specs.RiscV32.{wrapped, held_from, with_value, IsWrapped};
+ghost use Rattle.linker_section.specs.RiscV32.{AreWrapped};
+
+use crate::facts::{Addresses, Symbol};
+use crate::relocations::{Rela, relocation_in, relocations_len, set_relocation, u32_at};
+use crate::values::{names_label, own_value};
+use linker_base::utils::u32_from_slice;
+use linker_elf::elf::{Architecture, Row};
+
+/// The length of a relocation in a file of ELFCLASS32, of an `Elf32_Rela`.
+pub const RELA32_LEN: usize = 12;
+
+/// A word, read in two's complement.
+fn signed(word: u32) -> i64
+    ensures { result ≡ cast_signed w32 word }
+{
+    if word < 0x8000_0000 {
+        i64::from(word)
+    } else {
+        i64::from(word) - 0x1_0000_0000
+    }
+}
+
+/// The relocation that 12 bytes are.
+fn relocation32_of(entry: &[u8]) -> Rela
+    requires { length entry.now ≡ 12 }
+    ensures { result ≡ relocation32_of entry.now }
+{
+    let info = u32_at(entry, 4);
+    Rela {
+        offset: u64::from(u32_from_slice(entry)),
+        code: info % 256,
+        symbol: info / 256,
+        addend: signed(u32_at(entry, 8)),
+    }
+}
+
+/// The relocation at an index below `relocations32_len`.
+fn relocation32_in(entries: &[u8], index: usize) -> Rela
+    requires { index < length entries.now / 12 }
+    ensures { result ≡ relocation32_in entries.now index }
+{
+    relocation32_of(&entries[index * RELA32_LEN..][..RELA32_LEN])
+}
+
+/// How many relocations there are in the bytes of a section of relocations of ELFCLASS32. Bytes
+/// after the last whole one count for nothing.
+#[inline(always)]
+pub fn relocations32_len(entries: &[u8]) -> usize
+    ensures { result ≡ length entries.now / 12 }
+{
+    entries.len() / RELA32_LEN
+}
+
+/// Copies relocations of a file of ELFCLASS32, each an `Elf32_Rela` of 12 bytes, to the first
+/// relocations of a slice, each an `Elf64_Rela` of 24 bytes, as other calls read them.
+///
+/// ```
+/// use linker_section::relocations::relocation_at;
+/// use linker_section::riscv32::read_rela32;
+///
+/// // R_RISCV_HI20 at 0x10, of symbol 5, with the addend -4
+/// let mut relocations = [0; 24];
+/// read_rela32(&[0x10, 0, 0, 0, 26, 5, 0, 0, 0xfc, 0xff, 0xff, 0xff], &mut relocations);
+/// let relocation = relocation_at(&relocations, 0).unwrap();
+/// assert_eq!((relocation.offset, relocation.code), (0x10, 26));
+/// assert_eq!((relocation.symbol, relocation.addend), (5, -4));
+/// ```
+pub fn read_rela32(entries: &[u8], relocations: &mut [u8])
+    requires { length entries.now / 12 * 24 ≤ length relocations.old }
+    ensures { AreCopied entries.now relocations.old relocations.new }
+{
+    for index in 0..relocations32_len(entries) {
+        set_relocation(relocations, index, &relocation32_in(entries, index));
+    }
+}
+
+/// The least number from `least` on that is the value modulo 2^32.
+fn wrapped(least: i64, value: i64) -> i64
+    ensures { result ≡ wrapped least value }
+{
+    let least = least.cast_unsigned();
+    let above = value.cast_unsigned().wrapping_sub(least) % (1 << 32);
+    least.wrapping_add(above).cast_signed()
+}
+
+/// The least value that a row can hold, if it can't hold all, and its value is the relocation's
+/// own: a low part of RISC-V has that of its high part.
+fn held_from(row: &Row) -> Option<i64>
+    ensures { result ≡ held_from row.now }
+{
+    if names_label(row.info().size, row.kind()) {
+        return None;
+    }
+    match row.reach().bounds {
+        Some((least, _)) => Some(least),
+        None => None,
+    }
+}
+
+/// A relocation with another addend, by which a value becomes another one.
+fn with_value(relocation: &Rela, value: i64, wanted: i64) -> Rela
+    ensures { result ≡ with_value relocation.now value wanted }
+{
+    let more = wanted.cast_unsigned().wrapping_sub(value.cast_unsigned());
+    let addend = relocation.addend.cast_unsigned().wrapping_add(more);
+    Rela {
+        addend: addend.cast_signed(),
+        ..*relocation
+    }
+}
+
+/// A relocation with the addend by which its value is within its reach, if a multiple of 2^32 makes
+/// it so.
+fn wrap_addend(addresses: &Addresses, symbols: &[Symbol], relocation: &Rela) -> Rela
+    ensures { IsWrapped addresses.now symbols.now relocation.now result }
+{
+    let Some(row) = Architecture::RiscV.row(relocation.code) else {
+        return *relocation;
+    };
+    let Some(least) = held_from(&row) else {
+        return *relocation;
+    };
+    match own_value(Architecture::RiscV, addresses, symbols, &row, relocation) {
+        Ok(Some(value)) => with_value(relocation, value, wrapped(least, value)),
+        _ => *relocation,
+    }
+}
+
+/// Adds a multiple of 2^32 to the addend of each relocation of a section whose value is tested. It
+/// is called once addresses are known. Each value, as `values::value` returns it, then is the least
+/// number from `Row::reach`'s least on that is the value modulo 2^32. So `relocate_section` writes
+/// each pair of instructions, and each branch that reaches its target modulo 2^32. All else is
+/// unchanged, as a relocation without a value, and one that takes bits of any value.
+///
+/// Addresses are below 2^32. A second call changes nothing.
+///
+/// ```
+/// use linker_section::facts::{Addresses, Symbol};
+/// use linker_section::relocations::relocation_at;
+/// use linker_section::riscv32::{read_rela32, wrap_addends};
+/// use linker_section::values::value;
+/// use linker_utils::elf::Architecture;
+///
+/// // R_RISCV_HI20 at 0, of symbol 1, a variable at 0x8000_1000
+/// let mut relocations = [0; 24];
+/// read_rela32(&[0, 0, 0, 0, 26, 1, 0, 0, 0, 0, 0, 0], &mut relocations);
+/// let variable = Symbol { address: 0x8000_1000, ..Symbol::default() };
+/// let (addresses, symbols) = (Addresses::default(), [Symbol::default(), variable]);
+/// wrap_addends(&addresses, &symbols, &mut relocations);
+/// let high = relocation_at(&relocations, 0).unwrap();
+/// let address = value(Architecture::RiscV, &addresses, &relocations, &symbols, &high);
+/// assert_eq!(address, Ok(Some(0x8000_1000 - (1 << 32))));
+/// ```
+pub fn wrap_addends(addresses: &Addresses, symbols: &[Symbol], relocations: &mut [u8])
+    ensures { AreWrapped addresses.now symbols.now relocations.old relocations.new }
+{
+    for index in 0..relocations_len(relocations) {
+        let relocation = wrap_addend(addresses, symbols, &relocation_in(relocations, index));
+        set_relocation(relocations, index, &relocation);
+    }
+}

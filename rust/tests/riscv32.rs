@@ -1,0 +1,121 @@
+// SPDX-License-Identifier: MIT OR Apache-2.0
+//! Relocations of RV32, as linkers write them.
+
+use linker_utils::elf::Architecture::RiscV;
+use linker_utils::elf::RelocateError::OutOfReach;
+use linker_utils::section::{
+    Addresses, Link, Object, RelocationError, Section, Symbol, memory_len, read_rela32,
+    relocate_section, relocation_at, relocations_len, value, wrap_addends,
+};
+
+/// The bytes of words.
+fn bytes_of(words: &[u32]) -> Vec<u8> {
+    words.iter().flat_map(|word| word.to_le_bytes()).collect()
+}
+
+/// Code and words of RV32 at 0x1000, as GNU as leaves them, and as GNU ld and ld.lld link them: with
+/// symbols at 0x80001234, 0x7ffffabc and 0xfffffff0, from which distances are more than 2^31.
+#[test]
+fn relocations_of_rv32_match_linkers() {
+    // each an `Elf32_Rela`
+    const RELOCATIONS: [u32; 78] = [
+        0x00000000, 0x00000e1a, 0x00000000, 0x00000004, 0x00000e1b, 0x00000000,
+        0x00000008, 0x00000e1c, 0x00000004, 0x0000000c, 0x00000f1a, 0x00000000,
+        0x00000010, 0x00000f1b, 0x00000000, 0x00000014, 0x0000101a, 0x00000000,
+        0x00000018, 0x0000101b, 0x00000000, 0x0000001c, 0x00000e17, 0x00000000,
+        0x00000020, 0x00000918, 0x00000000, 0x00000024, 0x00001017, 0x00000008,
+        0x00000028, 0x00000a19, 0x00000000, 0x0000002c, 0x00000f17, 0x00000000,
+        0x00000030, 0x00000b18, 0x00000000, 0x00000034, 0x00000e13, 0x00000000,
+        0x0000003c, 0x00001013, 0x00000000, 0x00000044, 0x00000610, 0x00000000,
+        0x00000048, 0x00000e01, 0x00000000, 0x0000004c, 0x00001001, 0x00000000,
+        0x00000050, 0x00000f01, 0x00000010, 0x00000054, 0x00000e23, 0x00000000,
+        0x00000054, 0x00000d27, 0x00000000, 0x00000058, 0x00000622, 0x00000000,
+        0x00000058, 0x00000d26, 0x00000000, 0x0000005a, 0x00000621, 0x00000000,
+        0x0000005a, 0x00000d25, 0x00000000, 0x0000005c, 0x00000d2d, 0x00000000,
+    ];
+    const BEFORE: [u32; 23] = [
+        0x00000537, 0x00050513, 0x00b52223, 0x00000537, 0x00052503, 0x00000537, 0x00050513, 0x00000517,
+        0x00050513, 0x00000517, 0x00b52023, 0x00000517, 0x00052503, 0x00000097, 0x000080e7, 0x00000317,
+        0x00030067, 0x00b50c63, 0x00000000, 0x00000000, 0x00000000, 0x00000000, 0x00000000,
+    ];
+    const LINKED: [u32; 23] = [
+        0x80001537, 0x23450513, 0x22b52c23, 0x80000537, 0xabc52503, 0x00000537, 0xff050513, 0x80000517,
+        0x21850513, 0xfffff517, 0xfcb52a23, 0x7ffff517, 0xa9052503, 0x80000097, 0x200080e7, 0xfffff317,
+        0xfb430067, 0x00b50c63, 0x80001234, 0xfffffff0, 0x7ffffacc, 0x80000234, 0x005c005c,
+    ];
+    const SYMBOLS: [u64; 17] = [
+        0x0, 0x1000, 0x0, 0x0, 0x1000, 0x1044, 0x105c, 0x1048,
+        0x105c, 0x101c, 0x1024, 0x102c, 0x0, 0x1000, 0x80001234, 0x7ffffabc,
+        0xfffffff0,
+    ];
+    let mut bytes = bytes_of(&BEFORE);
+    bytes.extend([0x01, 0xa0]);
+    let entries = bytes_of(&RELOCATIONS);
+    let mut relocations = vec![0; 2 * entries.len()];
+    read_rela32(&entries, &mut relocations);
+    let values = SYMBOLS.map(|address| Symbol { address, ..Symbol::default() });
+    let addresses = Addresses { section: 0x1000, ..Addresses::default() };
+
+    // as those of RV64 the first is out of reach
+    let object = Object { values: &values, ..Object::default() };
+    let mut memory = vec![0; memory_len(&relocations)];
+    let mut section =
+        Section { address: 0x1000, ..Section::new(bytes.clone(), relocations.clone()) };
+    let link = Link::new(RiscV);
+    let error = relocate_section(&link, &object, &mut section, &mut memory).unwrap_err();
+    assert_eq!((error.index, error.error), (0, RelocationError::Write(OutOfReach)));
+
+    wrap_addends(&addresses, &values, &mut section.relocations);
+    let wrapped = section.relocations.clone();
+    wrap_addends(&addresses, &values, &mut section.relocations);
+    assert_eq!(section.relocations, wrapped);
+    relocate_section(&link, &object, &mut section, &mut memory).unwrap();
+    let mut linked = bytes_of(&LINKED);
+    linked.extend([0x55, 0xb7]);
+    assert_eq!(section.bytes, linked);
+
+    // a multiple of 2^32 was added to each addend, and all else is as before
+    for index in 0..relocations_len(&wrapped) {
+        let before = relocation_at(&relocations, index).unwrap();
+        let after = relocation_at(&wrapped, index).unwrap();
+        assert_eq!((after.addend - before.addend) % (1 << 32), 0, "{index}");
+        assert_eq!((after.offset, after.code, after.symbol), (before.offset, before.code, before.symbol));
+        let value = |relocations: &[u8], it| value(RiscV, &addresses, relocations, &values, it);
+        let (was, is) = (value(&relocations, &before), value(&wrapped, &after));
+        let (was, is) = (was.unwrap().unwrap(), is.unwrap().unwrap());
+        assert_eq!((is - was) % (1 << 32), 0, "{index}");
+    }
+}
+
+/// `jal` from 0x1044 to 0xfffffff0, 0x1054 bytes before it modulo 2^32, which the ISA allows and both
+/// linkers reject.
+#[test]
+fn branches_wrap() {
+    let mut relocations = [0; 24];
+    read_rela32(&bytes_of(&[0x44, 0x111, 0]), &mut relocations);
+    let values = [Symbol::default(), Symbol { address: 0xffff_fff0, ..Symbol::default() }];
+    wrap_addends(&Addresses { section: 0x1000, ..Addresses::default() }, &values, &mut relocations);
+    let jal = relocation_at(&relocations, 0).unwrap();
+    let addresses = Addresses { section: 0x1000, ..Addresses::default() };
+    let value = value(RiscV, &addresses, &relocations, &values, &jal);
+    assert_eq!(value, Ok(Some(-0x1054)));
+}
+
+/// The thread pointer's offsets, entries of the GOT, and what has no value or isn't tested.
+#[test]
+fn other_relocations_stay() {
+    // R_RISCV_TPREL_HI20, _GOT_HI20, _RELAX, _SET32, and a type without a row
+    let entries = [0, 0x11d, 4, 4, 0x114, 8, 8, 0x033, 0, 12, 0x138, 12, 16, 0x1ff, 16];
+    let mut relocations = [0; 5 * 24];
+    read_rela32(&bytes_of(&entries), &mut relocations);
+    let before = relocations;
+    let symbol = Symbol { address: 0x8000_0010, address_entry: 0x4000, ..Symbol::default() };
+    let addresses = Addresses {
+        section: 0x1000,
+        thread_origin: 0x8000_0000,
+        has_tls: true,
+        ..Addresses::default()
+    };
+    wrap_addends(&addresses, &[Symbol::default(), symbol], &mut relocations);
+    assert_eq!(relocations, before);
+}
