@@ -438,6 +438,30 @@ static inline uint32_t linker_utils_read_crel(
         number, has_addends);
 }
 
+uint32_t linker_utils_read_rela32_nonnull(
+    uint16_t machine, const uint8_t *rela32, size_t rela32_len, uint8_t *relas, size_t relas_len);
+static inline uint32_t linker_utils_read_rela32(
+    uint16_t machine, const uint8_t *rela32, size_t rela32_len, void *relas, size_t relas_len) {
+    return linker_utils_read_rela32_nonnull(
+        machine, LINKER_UTILS_SLICE(const uint8_t, rela32), rela32_len,
+        LINKER_UTILS_RELAS(uint8_t, relas));
+}
+
+uint32_t linker_utils_wrap_addends_nonnull(
+    uint16_t machine, const struct linker_utils_addresses *addresses,
+    const struct linker_utils_symbol *symbols, size_t symbols_len, uint8_t *relocations,
+    size_t relocations_len);
+static inline uint32_t linker_utils_wrap_addends(
+    const struct linker_utils_link *link, const struct linker_utils_object *object,
+    const struct linker_utils_section *section) {
+    const struct linker_utils_addresses addresses = {section->address, link->got_base,
+        link->thread_origin, link->module_origin, link->module_entry, link->has_tls};
+    return linker_utils_wrap_addends_nonnull(
+        link->machine, &addresses,
+        LINKER_UTILS_SLICE(const struct linker_utils_symbol, object->values), object->values_len,
+        LINKER_UTILS_RELAS(uint8_t, section->relocations));
+}
+
 uint32_t linker_utils_fits_nonnull(
     uint16_t machine, uint32_t form, uint64_t value, const uint8_t *bytes, size_t bytes_len);
 static inline uint32_t linker_utils_fits(

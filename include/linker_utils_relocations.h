@@ -261,6 +261,25 @@ LINKER_UTILS_MUST_USE static inline uint32_t linker_utils_read_crel(
     const uint8_t *crel, size_t crel_len, void *relas, size_t relas_len, size_t *number,
     uint8_t *has_addends);
 
+/* ---- RV32: files of ELFCLASS32 with EM_RISCV. Their relocations have RISC-V's types, and all
+ * other calls take them as those of RV64, with addresses below 2^32. Of other machines
+ * LINKER_UTILS_UNKNOWN_ARCHITECTURE. */
+
+/* Copies the relocations of such a file's section, n of 12 bytes (`Elf32_Rela`), to the first of
+ * `relas`, of 24 bytes each, as a `section` has them. `rela32_len` counts bytes, of which those
+ * after the last whole one count for nothing. LINKER_UTILS_TOO_SHORT, of `relas`. O(n). */
+LINKER_UTILS_MUST_USE static inline uint32_t linker_utils_read_rela32(
+    uint16_t machine, const uint8_t *rela32, size_t rela32_len, void *relas, size_t relas_len);
+
+/* Adds a multiple of 2^32 to the addend of each of a section's n relocations whose value is tested,
+ * once addresses are known, since distances are modulo 2^32. The value then is the least from
+ * `min` of `linker_utils_reach` on that is the same modulo 2^32. `linker_utils_relocate_section`
+ * then writes each pair of instructions, and each branch that reaches its target so. A second call
+ * changes nothing. O(n). */
+LINKER_UTILS_MUST_USE static inline uint32_t linker_utils_wrap_addends(
+    const struct linker_utils_link *link, const struct linker_utils_object *object,
+    const struct linker_utils_section *section);
+
 /* ---- Needs by types: what `struct linker_utils_requirements` says of some.
  *
  * - `entry_addend`: AArch64 and PowerPC64 have an entry for each S + A. It is 0 of

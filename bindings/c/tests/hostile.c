@@ -1006,6 +1006,18 @@ static void call_relocate_section(void) {
     finish(status == LINKER_UTILS_OK);
 }
 
+static void call_wrap_addends(void) {
+    uint16_t machine = once_in(2) ? LINKER_UTILS_RISCV : any_machine();
+    struct buffer *known = symbols(any_len(8));
+    struct buffer *given = relocations(WRITTEN, machine, 40, LEN(known, struct linker_utils_symbol));
+    const struct linker_utils_link *link = any_link(machine);
+    const struct linker_utils_object *object = INPUT(object, VALUES(known));
+    const struct linker_utils_section *section = relocated(NULL, given);
+    uint32_t status = CALL(wrap_addends, link, object, section);
+    expect((status == LINKER_UTILS_OK) == (machine == LINKER_UTILS_RISCV), "of another machine");
+    finish_with(status, 0 OR(UNKNOWN_ARCHITECTURE));
+}
+
 /* What a linker knows of symbols before addresses are known. */
 static struct buffer *symbol_facts(size_t count) {
     struct buffer *buffer = place(READ, count, sizeof(struct linker_utils_symbol_facts));
@@ -1600,6 +1612,15 @@ static void call_read_crel(void) {
     struct buffer *buffer = &buffers[used - 1];
     memcpy(buffer->was, filled(buffer), sizeof *number);
     finish_with(status, 0 OR(CUT_OFF) OR(TOO_LARGE) OR(TOO_SHORT));
+}
+
+static void call_read_rela32(void) {
+    size_t count = below(16), len = 12 * count + below(12), room = once_in(4) ? below(16) : count;
+    struct buffer *entries = bytes(READ, len), *relas = place(WRITTEN, 24 * room, 1);
+    uint32_t status = CALL(read_rela32, LINKER_UTILS_RISCV, entries->given, len, relas->given, room);
+    if (status == LINKER_UTILS_OK) relas->changes_to = 24 * count;
+    expect((status == LINKER_UTILS_OK) == (room >= count), "not as much room as relocations");
+    finish_with(status, 0 OR(TOO_SHORT));
 }
 
 static const uint32_t property_kinds[] = {1, 2, 0xb0000000, 0xb0008000, 0xc0000000, 0xc0000001,
@@ -2863,14 +2884,15 @@ static void (*const all[])(void) = {
     call_next_modifier, call_relocation, call_relocation_name, call_value, call_reach, call_relocate,
     call_find, call_row_of, call_row_value, call_row_write, call_row_apply, call_row_reach,
     call_row_needs, call_row_choose, call_row_fits,
-    call_relocate_all, call_needs, call_value_at, call_relocate_section, call_survey,
+    call_relocate_all, call_needs, call_value_at, call_relocate_section, call_wrap_addends,
+    call_survey,
     call_rewrite_section, call_decide_rewrites, call_make_rewrites, call_has_rewrites, call_survey_placed_section, call_snapshot_facts,
     call_relocate_rewritten_section,
     call_survey_toc_loads, call_rewrite_toc_loads,
     call_survey_global_pointer, call_rewrite_global_pointer, call_finish_gp_relaxation,
     call_rewrite_placed_section, call_dynamic_types, call_dynamic_name, call_dynamic_words,
     call_entry_words, call_origins, call_static_words, call_got, call_join_flags, call_write_relr,
-    call_read_relr, call_read_crel, call_read_properties, call_merge_properties, call_write_properties,
+    call_read_relr, call_read_crel, call_read_rela32, call_read_properties, call_merge_properties, call_write_properties,
     call_is_property_known, call_landing_property,
     call_output_facts, call_interpreter, call_address_section, call_entry_relocation,
     call_dynamic_entry, call_provided_symbol, call_save_restore_routines, call_provided_word, call_stub, call_write_stub,

@@ -1211,6 +1211,43 @@ pub fn relocate_section(
     })
 }
 
+/// The relocations of an architecture's file of ELFCLASS32, each of 12 bytes, as other calls take them.
+/// Bytes after the last whole one count for nothing. Only RISC-V has such files here.
+pub fn read_rela32(architecture: Architecture, entries: &[u8]) -> Result<Vec<u8>, Status> {
+    let mut relocations = vec![0; entries.len() / 12 * 24];
+    let status = unsafe {
+        raw::linker_utils_read_rela32_nonnull(
+            architecture.machine(),
+            entries.as_ptr(),
+            entries.len(),
+            relocations.as_mut_ptr(),
+            relocations.len(),
+        )
+    };
+    result_of(status, relocations)
+}
+
+/// Adds multiples of 2^32 to the addends of such relocations, now the bytes of `Elf64_Rela`s, so that
+/// `relocate_section` writes their values modulo 2^32.
+pub fn wrap_addends(
+    architecture: Architecture,
+    addresses: &Addresses,
+    symbols: &[Symbol],
+    relocations: &mut [u8],
+) -> Result<(), Status> {
+    let status = unsafe {
+        raw::linker_utils_wrap_addends_nonnull(
+            architecture.machine(),
+            addresses,
+            symbols.as_ptr(),
+            symbols.len(),
+            relocations.as_mut_ptr(),
+            relocations.len(),
+        )
+    };
+    result_of(status, ())
+}
+
 /// Notes in `kept` which groups of an object stay, by one of its sections of code. Relocations are the
 /// bytes of `Elf64_Rela`s.
 pub fn survey(

@@ -543,6 +543,21 @@ extern "C" {
         number: *mut usize,
         has_addends: *mut u8,
     ) -> u32;
+    pub fn linker_utils_read_rela32_nonnull(
+        machine: u16,
+        rela32: *const u8,
+        rela32_len: usize,
+        relas: *mut u8,
+        relas_len: usize,
+    ) -> u32;
+    pub fn linker_utils_wrap_addends_nonnull(
+        machine: u16,
+        addresses: *const Addresses,
+        symbols: *const Symbol,
+        symbols_len: usize,
+        relocations: *mut u8,
+        relocations_len: usize,
+    ) -> u32;
     pub fn linker_utils_window(machine: u16, form: u32, window: *mut usize) -> u32;
     pub fn linker_utils_fits_nonnull(
         machine: u16,

@@ -222,6 +222,27 @@ fn values_are_by_what_is_known_of_symbols() {
 }
 
 #[test]
+fn values_of_rv32_are_modulo_2_to_32() {
+    // R_RISCV_PCREL_HI20 at 0 and R_RISCV_PCREL_LO12_I at 4, of symbols 1 and 2, with the addend -4
+    let entries = [0u32, 0x117, 0xffff_fffc, 4, 0x218, 0].map(u32::to_le_bytes).concat();
+    let mut listed = read_rela32(RISCV, &entries).unwrap();
+    assert_eq!(listed, relas(&[(0, 23, 1, -4), (4, 24, 2, 0)]));
+    let (addresses, symbols) =
+        (Addresses { section: 0x1000, ..ADDRESSES }, [at(0), at(0x9000_0804), at(0x1000)]);
+    wrap_addends(RISCV, &addresses, &symbols, &mut listed).unwrap();
+    assert_eq!(listed, relas(&[(0, 23, 1, -4 - (1 << 32)), (4, 24, 2, 0)]));
+    // auipc a0, and addi a0, a0
+    let mut section = [0x17, 0x05, 0, 0, 0x13, 0x05, 0x05, 0];
+    let mut memory = [0; 2];
+    relocate_section(RISCV, &addresses, &listed, &symbols, &mut section, &mut memory).unwrap();
+    assert_eq!(section[..4], 0x9000_0517u32.to_le_bytes());
+    assert_eq!(section[4..], 0x8005_0513u32.to_le_bytes());
+    assert_eq!(read_rela32(X86_64, &entries), Err(Status::UnknownArchitecture));
+    let wrapped = wrap_addends(X86_64, &addresses, &symbols, &mut listed);
+    assert_eq!(wrapped, Err(Status::UnknownArchitecture));
+}
+
+#[test]
 fn compact_relocations_are_those_of_llvm() {
     // llvm-mc 19 -crel: `.reloc` in any order; and the numbers of llvm-readobj -r --expand-relocs
     let section = [

@@ -19,6 +19,7 @@ pub mod Properties
 pub mod Relr
 pub mod Rewrites
 pub mod Rewriting
+pub mod RiscV32
 pub mod Routes
 pub mod Rows
 pub mod SectionItems

@@ -26,6 +26,7 @@ mod relocations;
 mod relr;
 mod rewrites;
 mod rewriting;
+mod riscv32;
 mod routes;
 mod rows;
 mod section_items;

@@ -2359,6 +2359,44 @@ unsafe extern "C" fn linker_utils_rewrite_toc_loads_nonnull(
 }
 
 #[unsafe(no_mangle)]
+unsafe extern "C" fn linker_utils_read_rela32_nonnull(
+    machine: u16,
+    rela32: *const u8,
+    rela32_len: usize,
+    relas: *mut u8,
+    relas_len: usize,
+) -> u32 {
+    // SAFETY: the arguments are as the head of the header says.
+    unsafe {
+        crate::riscv32::linker_utils_read_rela32_nonnull(
+            machine,
+            from_raw_parts(rela32, rela32_len),
+            from_raw_parts_mut(relas, relas_len),
+        )
+    }
+}
+
+#[unsafe(no_mangle)]
+unsafe extern "C" fn linker_utils_wrap_addends_nonnull(
+    machine: u16,
+    addresses: *const Addresses,
+    symbols: *const Symbol,
+    symbols_len: usize,
+    relocations: *mut u8,
+    relocations_len: usize,
+) -> u32 {
+    // SAFETY: the arguments are as the head of the header says.
+    unsafe {
+        crate::riscv32::linker_utils_wrap_addends_nonnull(
+            machine,
+            &*addresses,
+            from_raw_parts(symbols, symbols_len),
+            from_raw_parts_mut(relocations, relocations_len),
+        )
+    }
+}
+
+#[unsafe(no_mangle)]
 unsafe extern "C" fn linker_utils_route_at_nonnull(
     machine: u16,
     addresses: *const Addresses,

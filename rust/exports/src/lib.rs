@@ -45,6 +45,7 @@ pub mod relocations;
 pub mod relr;
 pub mod rewrites;
 pub mod rewriting;
+pub mod riscv32;
 pub mod routes;
 pub mod rows;
 pub mod section_items;

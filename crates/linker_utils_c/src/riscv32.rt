@@ -1,0 +1,60 @@
+//! Relocations of RV32.
+
+ghost use Rattle.std.specs.Prelude.{◌≡◌};
+ghost use Rattle.linker_elf.specs.Machines.{architecture_of};
+ghost use Rattle.linker_utils_c.specs.RiscV32.{has_class32, IsRela32Returned};
+ghost use Rattle.linker_utils_c.specs.RiscV32.{AreWrappedIfKnown};
+
+use crate::status::Status;
+use linker_section::facts::{Addresses, Symbol};
+use linker_section::relocations::relocations_len;
+use linker_section::riscv32::{read_rela32, relocations32_len, wrap_addends};
+use linker_utils::elf::Architecture;
+
+/// Whether a machine has files of ELFCLASS32 whose relocations these are.
+#[inline(always)]
+fn has_class32(machine: u16) -> bool
+    ensures { result ≡ has_class32 (architecture_of machine) }
+{
+    matches!(Architecture::from_machine(machine), Some(Architecture::RiscV))
+}
+
+/// Copies relocations of 12 bytes to the beginning of `relas`, as `read_rela32`. The first that
+/// applies of `UnknownArchitecture`, of a machine without files of ELFCLASS32 here; `TooShort`,
+/// where there is no room for all of them. Then `relas` is unchanged.
+#[unsafe(no_mangle)]
+pub extern "C" fn linker_utils_read_rela32_nonnull(
+    machine: u16,
+    rela32: &[u8],
+    relas: &mut [u8],
+) -> u32
+    ensures { IsRela32Returned (architecture_of machine) rela32.now relas.old relas.new result }
+{
+    if !has_class32(machine) {
+        return Status::UnknownArchitecture as u32;
+    }
+    if relocations_len(relas) < relocations32_len(rela32) {
+        return Status::TooShort as u32;
+    }
+    read_rela32(rela32, relas);
+    Status::Success as u32
+}
+
+/// Adds a multiple of 2^32 to the addends of a section's relocations, as `wrap_addends`.
+/// `UnknownArchitecture`, as above: then they are unchanged.
+#[unsafe(no_mangle)]
+pub extern "C" fn linker_utils_wrap_addends_nonnull(
+    machine: u16,
+    addresses: &Addresses,
+    symbols: &[Symbol],
+    relocations: &mut [u8],
+) -> u32
+    ensures { AreWrappedIfKnown (architecture_of machine) addresses.now symbols.now relocations.old
+        relocations.new result }
+{
+    if !has_class32(machine) {
+        return Status::UnknownArchitecture as u32;
+    }
+    wrap_addends(addresses, symbols, relocations);
+    Status::Success as u32
+}
