@@ -19,7 +19,7 @@ static struct stub *added; /* the last */
 static uint64_t add_stub(struct output *o, uint32_t kind, const char *name,
                          const struct output *target, uint64_t target_offset) {
     struct linker_utils_stub stub;
-    if (linker_utils_get_stub(machine, kind, &stub)) fail("there is no stub to '%s'", name);
+    if (is_narrow || linker_utils_get_stub(machine, kind, &stub)) fail("there is no stub to '%s'", name);
     added = NEW(struct stub, .part = {.name = name, .output = o, .len = stub.len}, .before = added,
                 .target = target, .target_offset = target_offset, .kind = kind);
     add_part_of(o, &added->part, 8);
@@ -128,13 +128,13 @@ static void make_stub(struct symbol *s) {
 
 /* Makes the stubs and the GOT. The local symbols' entries are the last. */
 void make_entries(void) {
-    if (got->has_bytes && known_got.has_header) make_room(got, 8, 8);
+    if (got->has_bytes && known_got.has_header) make_room(got, 8, word_len());
     for (int is_local = 0; is_local < 2; is_local++)
         EACH_SYMBOL(s) {
             if ((!s->needs_stub && !s->entries) || (bind_of(s) == STB_LOCAL) != is_local) continue;
             if (s->needs_stub) make_stub(s);
             for (struct entry *e = s->entries; e; e = e->next) {
-                e->offset = make_room(got, 8, 8 * linker_utils_get_entry_words(e->class));
+                e->offset = make_room(got, word_len(), word_len() * linker_utils_get_entry_words(e->class));
                 fill_entry(s, e);
             }
         }
@@ -145,15 +145,19 @@ void make_entries(void) {
  * linker leaves the offset of a weak one that no file defines. */
 void write_entries(void) {
     struct linker_utils_entry_words held;
-    if (got->len && known_got.has_header) memcpy(got->bytes, &known_got.header, 8);
+    if (got->len && known_got.has_header) memcpy(got->bytes, &known_got.header, word_len());
     EACH_SYMBOL(s)
         for (const struct entry *e = s->entries; e && !s->is_imported; e = e->next) {
             uint64_t at = !is_undefined_weak(s) ? address_of(s->output, s->offset)
                           : e->class == LINKER_UTILS_ENTRY_MODULE_OFFSET ? tls.image
                           : e->class == LINKER_UTILS_ENTRY_THREAD_OFFSET ? linked.thread_origin
                                                                          : 0;
-            if (!linker_utils_static_words(e->class, at + (uint64_t)e->addend, &tls.origins, &held))
-                memcpy(got->bytes + e->offset, &held, 8 * linker_utils_get_entry_words(e->class));
+            if (linker_utils_static_words(e->class, at + (uint64_t)e->addend, &tls.origins, &held))
+                continue;
+            uint8_t *bytes = got->bytes + e->offset;
+            memcpy(bytes, &held.first, word_len());
+            if (linker_utils_get_entry_words(e->class) > 1)
+                memcpy(bytes + word_len(), &held.second, word_len());
         }
 }
 

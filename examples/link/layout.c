@@ -233,7 +233,7 @@ void place_outputs(void) {
     first_tls = NULL, tls.len = 0, tls.align = 1;
     EACH_OUTPUT(o) {
         bool is_array = o->rank >= RANK_ARRAYS && o->rank < RANK_RELOCATED;
-        if (is_array && o->align < 8) o->align = 8; /* so that there is no gap between them */
+        if (is_array && o->align < word_len()) o->align = word_len(); /* so that there is no gap between them */
         const struct output *whole = o->whole ? o->whole : o;
         o->address = whole->is_placed ? whole->place : UINT64_MAX;
         if (o->flags & SHF_TLS && o->align > tls.align) tls.align = o->align;

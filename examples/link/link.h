@@ -1,6 +1,6 @@
 /* SPDX-License-Identifier: MIT OR Apache-2.0 */
 /* A small linker over the library, for RISC-V, AArch64, LoongArch, PowerPC64 (ELFv2, little-endian)
- * and x86-64, none of which it knows. It reads relocatable ELF64 objects, archives of them and
+ * and x86-64, none of which it knows. It reads relocatable ELF objects, archives of them and
  * shared libraries, and writes an executable that begins at `_start`, static or for a dynamic
  * linker, or a shared library. main.c has the steps; each other file is one part:
  *
@@ -16,6 +16,7 @@
  * - relocate.c: the values of all relocations
  * - frames.c: the table of unwind information
  * - output.c: the file with its symbols
+ * - class32.c: files of ELFCLASS32, which all others know as those of ELFCLASS64
  *
  * Relocations stay as objects have them, ELF's own, in a copy of each section's: the library reads
  * and rewrites them there. The first error ends the linker, and of memory it frees only what is
@@ -214,6 +215,7 @@ SHARED struct tls {
 } tls;
 
 SHARED uint16_t machine;
+SHARED bool is_narrow; /* files are of ELFCLASS32 */
 /* `e_flags` of all objects; the kind of stubs to the address in a word, by whether code is protected */
 SHARED uint32_t machine_flags, load_kind;
 /* whether a dynamic linker loads the linked file, whether the machine's code may become shorter,
@@ -261,6 +263,9 @@ static inline uint32_t type_of(const Elf64_Rela *r) { return ELF64_R_TYPE(r->r_i
 
 /* The symbol of a relocation of a section. */
 #define symbol_at(s, r) ((s)->object->symbols[ELF64_R_SYM((r)->r_info)])
+
+/* How many bytes a word with an address has. */
+static inline uint64_t word_len(void) { return is_narrow ? 4 : 8; }
 
 /* How many bytes the shortest instruction has. */
 static inline uint64_t code_unit(void) { return linker_utils_code_unit(machine, machine_flags); }
@@ -336,6 +341,10 @@ void import(struct section *s, Elf64_Rela *r, const struct linker_utils_requirem
 void add_row(struct output *o, uint64_t offset, uint32_t type, struct symbol *s, int64_t addend);
 void fill_entry(struct symbol *s, const struct entry *e);
 bool write_dynamic(void);
+/* class32.c */
+void widen(struct object *o);
+size_t cut_head(Elf64_Ehdr *h), cut_loads(Elf64_Phdr *all, size_t count);
+size_t cut_heads(Elf64_Shdr *all, size_t count), cut_symbol(Elf64_Sym *elf);
 /* properties.c, relax.c, frames.c, output.c */
 uint64_t read_frames(const struct section *s, const uint8_t *bytes, uint8_t *rows);
 void merge_properties(const char *flag), relax(void), index_frames(void);

@@ -146,6 +146,7 @@ int main(int argc, char **argv) {
     relaxes = linked.is_executable = linked.is_fixed = true;
     if (argc > 0) read_arguments(argv + 1);
     is_dynamic = libraries || !linked.is_fixed;
+    if (is_dynamic && is_narrow) fail("files of ELFCLASS32 are only linked to static executables");
     if (is_dynamic && is_placed) fail("--section-start is for static executables");
     make_sections();
     if (!path || !objects) fail("%s", usage);

@@ -153,6 +153,7 @@ void read_heads(struct object *o, uint16_t type, const char *otherwise) {
 static void read_object(struct object file) {
     struct object *o = *objects_end = keep(&file, sizeof file);
     objects_end = &o->next;
+    widen(o);
     read_heads(o, ET_REL, "not a relocatable object");
     const struct section *table = NULL;
     EACH_SECTION_OF(o, s) {

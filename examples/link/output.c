@@ -11,7 +11,7 @@ static size_t heads_len = 1;
 static struct output strings = {.name = ".strtab", .align = 1, .has_bytes = true,
                                 .type = SHT_STRTAB};
 static struct output symbol_table = {.name = ".symtab", .align = 8, .has_bytes = true, .info = 1,
-                                     .type = SHT_SYMTAB, .element = sizeof(Elf64_Sym),
+                                     .type = SHT_SYMTAB,
                                      .link = &strings};
 
 /* The header of a part of a segment that is loaded. */
@@ -63,7 +63,7 @@ Elf64_Sym symbol_of(const struct symbol *s) {
  * Symbols have a name and are in the file. */
 static void put_symbols(uint64_t offset, Elf64_Ehdr *head, bool has_symbols) {
     symbol_table.room = (has_symbols ? symbols_len + 1 : 1) * sizeof(Elf64_Sym);
-    make_room(&symbol_table, 8, sizeof(Elf64_Sym));
+    make_room(&symbol_table, 8, symbol_table.element = cut_symbol(&(Elf64_Sym){0}));
     for (int locals = 1; has_symbols && locals >= 0; locals--)
         EACH_SYMBOL(s) {
             uint16_t at = s->elf.st_shndx;
@@ -72,7 +72,8 @@ static void put_symbols(uint64_t offset, Elf64_Ehdr *head, bool has_symbols) {
             if (is_local(s) != locals || !is_in_file || !has_name) continue;
             Elf64_Sym elf = symbol_of(s);
             elf.st_name = add_name(&strings, s->name);
-            append(&symbol_table, 8, &elf, sizeof elf);
+            uint64_t len = cut_symbol(&elf);
+            append(&symbol_table, 8, &elf, len);
             symbol_table.info += (uint32_t)locals;
         }
     offset = round_up(offset, 8);
@@ -93,14 +94,16 @@ static void write_part(FILE *file, uint64_t offset, const void *bytes, uint64_t 
 
 /* Writes all parts, once they are known. A file that is there already stays what it is: a device or
  * a pipe is written to. Only an ordinary one is made executable. */
-static void write_parts(const char *path, const Elf64_Ehdr *head) {
+static void write_parts(const char *path, Elf64_Ehdr *head) {
     struct stat status;
+    uint64_t heads_at = head->e_shoff, loads_len = cut_loads(loads, head->e_phnum);
+    uint64_t head_len = cut_head(head);
     FILE *file = fopen(path, "wb");
     if (!file) fail("%s: can't be written", path);
-    write_part(file, 0, head, sizeof *head);
-    write_part(file, head->e_phoff, loads, head->e_phnum * sizeof *loads);
+    write_part(file, 0, head, head_len);
+    write_part(file, head_len, loads, loads_len);
     EACH_OUTPUT(o) if (o->index && o->has_bytes) write_part(file, o->in_file, o->bytes, o->len);
-    write_part(file, head->e_shoff, heads, head->e_shnum * sizeof *heads);
+    if (heads_at) write_part(file, heads_at, heads, cut_heads(heads, heads_len));
     bool is_ordinary = !fstat(fileno(file), &status) && S_ISREG(status.st_mode);
     bool holds = !ferror(file) && (!is_ordinary || !fchmod(fileno(file), 0755));
     if (fclose(file) || !holds) fail("%s: can't be written", path);

@@ -97,6 +97,7 @@ void relocate_section(struct section *s, const struct linker_utils_object *known
     size_t at = 0;
     struct linker_utils_section here = section_of(s);
     int64_t value = 0;
+    if (is_narrow) expect_ok(linker_utils_wrap_addends(&linked, known, &here));
     for (; s->has_numbers && at < s->relocations_len; at++) {
         Elf64_Rela *r = &s->relocations[at];
         if (kind_of(s, r)->role == LINKER_UTILS_ROLE_NONE) continue;
