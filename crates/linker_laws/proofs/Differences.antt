@@ -39,7 +39,7 @@ difference_rem old n k below short =
     ∙ ap pos (mod_mod (old + (2 ^ 64 - n)) 64 k short)
 
 -- the value is S + A
-abbrev HasAddress : RelocationKindInfo → Type 0
+abbrev pub HasAddress : RelocationKindInfo → Type 0
 HasAddress row =
     (o : Operands) → value_of row o ≡ Some (cast_signed w64 (absolute symbol_address o))
 

@@ -282,7 +282,7 @@ one_pair_number kinds.PairSubtractionULEB128LoongArch there v w n m old rest u a
 one_pair_number _ there v w n m old rest u a b = a ∙ sym b
 
 -- what is found once is one row and one value
-record IsOneFound (row other : RelocationKindInfo) (v w : ℤ) : Type 0 where
+pub record IsOneFound (row other : RelocationKindInfo) (v w : ℤ) : Type 0 where
   pub row_is : row ≡ other
   pub value_is : v ≡ w
 
