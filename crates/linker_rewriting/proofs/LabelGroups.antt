@@ -414,7 +414,7 @@ loongarch_none TlsLocalExec name = refl
 loongarch_none GotToPcRel name = refl
 loongarch_none ShortPcRel name = refl
 
-ppc64_none : (phase : Phase) (name : Ppc64Relocation) → is_labelled (ppc64_scope_in phase name) ≡ false
+pub ppc64_none : (phase : Phase) (name : Ppc64Relocation) → is_labelled (ppc64_scope_in phase name) ≡ false
 ppc64_none PreLayout ppc64.R_PPC64_REL24 = refl
 ppc64_none PreLayout name = refl
 ppc64_none TlsLocalExec ppc64.R_PPC64_TPREL16_HA = refl
@@ -423,7 +423,7 @@ ppc64_none GotToPcRel name = refl
 ppc64_none ShortPcRel ppc64.R_PPC64_TOC16_HA = refl
 ppc64_none ShortPcRel name = refl
 
-x86_64_none : (phase : Phase) (name : X86_64Relocation) → is_labelled (x86_64_scope_in phase name) ≡ false
+pub x86_64_none : (phase : Phase) (name : X86_64Relocation) → is_labelled (x86_64_scope_in phase name) ≡ false
 x86_64_none PreLayout x86_64.R_X86_64_GOTPCREL = refl
 x86_64_none PreLayout name = refl
 x86_64_none TlsLocalExec name = refl
