@@ -14,7 +14,7 @@ use Rattle.linker_laws.proofs.Sums.{halves_sum, page_halves_sum, sum_below, diff
 
 -- bits from k up, below bit 12, in units of 2 ^ k
 units : (n k : ℕ) → k ≤ 12 → n % 2 ^ k ≡ 0 → field n k 12 * 2 ^ k ≡ n % 2 ^ 12
-units n k short none =
+units n k short multiple =
     let parts : n % (2 ^ (12 - k) * 2 ^ k) ≡ field n k 12 * 2 ^ k + n % 2 ^ k =
     mod-mul n {m = 2 ^ (12 - k)} {c = 2 ^ k} (pow_pos (12 - k)) (pow_pos k) in
     let apart : 12 - k + k ≡ 12 = omega arith in

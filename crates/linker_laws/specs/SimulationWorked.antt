@@ -107,9 +107,9 @@ link =
 
 -- words of code from an address on, by their bytes
 abbrev pub words_from : ℕ → List ℕ → ℕ → ℕ
-words_from first code a =
+words_from first words a =
     let i = a - first in
-    unwrap_or (slice_get code (i / 4)) 0 / 256 ^ (i % 4) % 256
+    unwrap_or (slice_get words (i / 4)) 0 / 256 ^ (i % 4) % 256
 
 -- a number of one byte of memory
 abbrev pub of_byte : Kind → Stored
