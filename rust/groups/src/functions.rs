@@ -374,6 +374,11 @@ fn code_fields(object: &Object, layout: &Layout) -> BTreeSet<u64> {
         .collect()
 }
 
+/// How long a section of code is with what no instruction is.
+fn with_end(size: u64) -> u64 {
+    (size + 1).next_multiple_of(64)
+}
+
 /// Writes what an object is, or is linked to, into a machine.
 fn load(
     object: &Object,
@@ -392,7 +397,7 @@ fn load(
         // no instruction is behind it
         let end = if object.architecture == Architecture::X86_64 { 0xf4 } else { 0 };
         let mut code = sections[index].cloned().unwrap_or_default();
-        code.resize((section.size as usize + 1).next_multiple_of(64), end);
+        code.resize(with_end(section.size) as usize, end);
         machine.write_code(layout.sections[index], &code);
     }
 }
@@ -422,7 +427,8 @@ pub fn run_object(
     let mut program = link(object, layout, true);
     let (mut units, mut end) = (BTreeMap::new(), CODE);
     for (index, of) in object.sections.iter().enumerate().filter(|(_, it)| it.is_code) {
-        end = end.max(layout.sections[index] + of.size);
+        // what runs into its end doesn't come to code of others
+        end = end.max(layout.sections[index] + with_end(of.size));
         match &program.sections[index] {
             Ok(linked) => add_units(object, layout, &program, index, linked, &mut units),
             Err(error) => *count.errors.entry(error.to_string()).or_default() += 1,
