@@ -4,10 +4,11 @@
 //!
 //! Of RISC-V and LoongArch code is packed, too. Numbers agree if they are the same, if one is an
 //! address of code and the other where that moved to, or if data has both at one place. Numbers that
-//! a group or the instruction of a high part may leave otherwise may be copied. A run ends at an
-//! instruction without a relocation that computes with such a number of a group: where old's leaves
-//! what new's does, once it has new's numbers. Functions of other objects return at once, with random
-//! numbers in the registers that they may change. A system call of x86-64 changes nothing.
+//! a group or the instruction of a high part may leave otherwise may be copied. A run ends where an
+//! instruction without a relocation computes with other numbers in old and new, but for high parts:
+//! where old's leaves what new's does, once it has new's numbers. Functions of other objects return at
+//! once, with random numbers in the registers that they may change. A system call of x86-64 changes
+//! nothing.
 
 use crate::layout::{CODE, Layout, MEMORY};
 use crate::linking::{Linked, Moves, Program, link};
@@ -228,12 +229,11 @@ impl Linking<'_> {
         !self.units.contains_key(&pc) && fields.next().is_none()
     }
 
-    /// Old's numbers, with new's in place of those that a group or data has otherwise.
+    /// New's numbers, but for those of high parts, which have their low parts.
     fn replaced(&self, old: &Numbers, new: &Numbers, allowed: &Allowed) -> Numbers {
-        std::array::from_fn(|n| {
-            let pair = (old[n], new[n]);
-            let is_replaced = allowed.left.get(&pair) == Some(&true) || self.pairs.contains(&pair);
-            if is_replaced { pair.1 } else { pair.0 }
+        std::array::from_fn(|n| match allowed.left.get(&(old[n], new[n])) {
+            Some(false) => old[n],
+            _ => new[n],
         })
     }
 
