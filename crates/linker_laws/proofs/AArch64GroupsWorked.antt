@@ -362,7 +362,7 @@ halves_end = (refl, refl, refl, refl)
 
 halves : Groups → IsRun old_halves new_halves 0x420120 4 5 5 (λ r. (r 0 ≡ 0x420120) × (r 2 ≡ 0x12344))
 halves g =
-    runs _ _ _ _ _ _ _ k4 s4
+    runs old_halves new_halves 0x420120 4 5 5 (λ r. (r 0 ≡ 0x420120) × (r 2 ≡ 0x12344)) k4 s4
     (group 3 2 3 _ _ _ _ _ _ (p1 g) (group 2 1 2 _ _ _ _ _ _ (p2 g) (other 1 1 _ _ _ _ _ _ (p3 g)
     (group 0 1 0 _ _ _ _ _ _ (p4 g) (ends _ _))))) refl (λ t. refl) (halves_end.0, halves_end.1)
     (halves_end.2, halves_end.3)
@@ -382,7 +382,7 @@ addresses_end = (refl, refl, refl, refl, refl, refl)
 nop_and_adr : Groups → IsAddress old_sum (second_adr 0xd503201f) 1
 nop_and_adr g =
     let c = code old_sum (second_adr 0xd503201f) in
-    runs _ _ _ _ _ _ _ k1 there
+    runs old_sum (second_adr 0xd503201f) 0x420120 1 2 2 (λ r. r 0 ≡ 0x420120) k1 there
     (group 0 2 0 _ _ _ _ _ _ (g.nop_and_adr.0 c load known s0 pair_of_sum nop_adr pair_is_sum
     refl (has _ _ _ _ _ pair_page refl) (has _ _ _ _ _ symbol_low refl) refl (has _ _ _ _ _
     near_second refl)) (ends _ _)) refl (λ t. refl) addresses_end.0 addresses_end.2
@@ -390,7 +390,7 @@ nop_and_adr g =
 load_to_nop_and_adr : Groups → IsAddress old_load (second_adr 0xd503201f) 1
 load_to_nop_and_adr g =
     let c = code old_load (second_adr 0xd503201f) in
-    runs _ _ _ _ _ _ _ k1 there
+    runs old_load (second_adr 0xd503201f) 0x420120 1 2 2 (λ r. r 0 ≡ 0x420120) k1 there
     (group 0 2 0 _ _ _ _ _ _ (g.load_to_nop_and_adr c load known s0 adrp_x0 ldr_x0 pair_of_sum
     nop_adr load_is refl refl refl (has _ _ _ _ _ entry_page refl) (has _ _ _ _ _ entry_low refl)
     refl (has _ _ _ _ _ near_second refl)) (ends _ _)) refl (λ t. refl) addresses_end.1
@@ -398,7 +398,7 @@ load_to_nop_and_adr g =
 
 adr_and_nop : Groups → IsAddress old_sum first_adr 1
 adr_and_nop g =
-    runs _ _ _ _ _ _ _ k1 there
+    runs old_sum first_adr 0x420120 1 2 2 (λ r. r 0 ≡ 0x420120) k1 there
     (group 0 2 0 _ _ _ _ _ _ (g.adr_and_nop.0 (code old_sum first_adr) load known s0 adrp_x0
     add_x0 adr_x0 nop sum_is refl refl (has _ _ _ _ _ symbol_page refl) (has _ _ _ _ _ symbol_low
     refl) (has _ _ _ _ _ near_first refl) refl) (ends _ _)) refl (λ t. refl) addresses_end.0
@@ -435,7 +435,7 @@ after_one_small = addresses after_one (lit< tt) (lit< tt) (lit< tt) (lit< tt) (l
 add_to_adr : Groups → IsAddress old_sum (second_adr 0x90000100) 2
 add_to_adr g =
     let u = put 0 0x420000 0x400004 s0 in
-    runs _ _ _ _ _ _ _ (with_register 0 same k1) (put 0 0x420120 0x400008 u)
+    runs old_sum (second_adr 0x90000100) 0x420120 2 2 2 (λ r. r 0 ≡ 0x420120) (with_register 0 same k1) (put 0 0x420120 0x400008 u)
     (other 1 1 _ _ _ _ _ _ (other_adrp g old_sum (second_adr 0x90000100) 0x420000 refl page_is)
     (group 0 1 0 _ _ _ _ _ _ (g.add_to_adr (code old_sum (second_adr 0x90000100)) after_one k1 u
     add_x0 adr_x0 after_one_small refl refl (λ e. omega arith) refl refl (has _ _ _ _ _
@@ -445,7 +445,7 @@ add_to_adr g =
 ldr_to_adr : Groups → IsAddress old_load (second_adr 0xb0000080) 2
 ldr_to_adr g =
     let u = put 0 0x411000 0x400004 s0 in
-    runs _ _ _ _ _ _ _ (with_register 0 same k1) (put 0 0x420120 0x400008 u)
+    runs old_load (second_adr 0xb0000080) 0x420120 2 2 2 (λ r. r 0 ≡ 0x420120) (with_register 0 same k1) (put 0 0x420120 0x400008 u)
     (other 1 1 _ _ _ _ _ _ (other_adrp g old_load (second_adr 0xb0000080) 0x411000 refl
     entry_page_is) (group 0 1 0 _ _ _ _ _ _ ((g.ldr_to_adr (code old_load (second_adr
     0xb0000080)) after_one k1 u ldr_x0 (0 ∷ 0 ∷ 0x40 ∷ 0x70 ∷ []) after_one_small refl refl refl
@@ -570,7 +570,7 @@ offset_run : (new : List ℕ) → Group (of_link (link (code old_descriptor new)
     → ((t : State) → machine others (words new) (go_to 0x400010 t) ≡ None)
     → Holds new 0 4 0 0x12344 → IsOffset new
 offset_run new one none holds =
-    runs _ _ _ _ _ _ _ open_then returned
+    runs old_descriptor new 0x400014 1 6 4 (λ r. r 0 ≡ 0x12344) open_then returned
     (group 0 4 0 _ _ _ _ _ _ one (ends _ _)) refl none offsets_end.0 holds
 
 -- ---- branches
@@ -587,7 +587,7 @@ branches g =
     let c = code old_branches passed in
     let s = starting 0 in
     let u = go_to 0x400004 s in
-    runs _ _ _ _ _ _ _ (with_register 30 anything known) (put 30 0x400008 0x400008 u)
+    runs old_branches passed 0 2 2 2 (λ r. r 0 ≡ 0) (with_register 30 anything known) (put 30 0x400008 0x400008 u)
     (group 1 1 1 _ _ _ _ _ _ (g.branches.0 c jump known s (0 ∷ 0 ∷ 0 ∷ 0x14 ∷ []) nop (addresses
     jump (lit< tt) (lit< tt) (lit< tt) (lit< tt) (lit< tt) (lit< tt)) refl refl refl refl (has _
     _ _ _ _ branch_on refl) refl) (group 0 1 0 _ _ _ _ _ _ (g.branches.1 c link_jump known u (0 ∷
