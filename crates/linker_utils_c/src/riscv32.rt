@@ -16,7 +16,10 @@ use linker_utils::elf::Architecture;
 fn has_class32(machine: u16) -> bool
     ensures { result ≡ has_class32 (architecture_of machine) }
 {
-    matches!(Architecture::from_machine(machine), Some(Architecture::RiscV))
+    matches!(
+        Architecture::from_machine(machine),
+        Some(Architecture::RiscV)
+    )
 }
 
 /// Copies relocations of 12 bytes to the beginning of `relas`, as `read_rela32`. The first that

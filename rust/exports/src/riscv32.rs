@@ -11,7 +11,10 @@ use linker_utils::elf::Architecture;
 /// Whether a machine has files of ELFCLASS32 whose relocations these are.
 #[inline(always)]
 fn has_class32(machine: u16) -> bool {
-    matches!(Architecture::from_machine(machine), Some(Architecture::RiscV))
+    matches!(
+        Architecture::from_machine(machine),
+        Some(Architecture::RiscV)
+    )
 }
 
 /// Copies relocations of 12 bytes to the beginning of `relas`, as `read_rela32`. The first that
