@@ -74,6 +74,20 @@ fn relocations_of_rv32_match_linkers() {
     linked.extend([0x55, 0xb7]);
     assert_eq!(section.bytes, linked);
 
+    // a machine of 32 bits computes the targets: `lui` and `auipc`, each with a low part
+    let upper = |index: usize| LINKED[index] & 0xffff_f000;
+    let low = |index: usize| (LINKED[index] as i32 >> 20) as u32;
+    let store = |index: usize| {
+        ((LINKED[index] as i32 >> 25) as u32) << 5 | LINKED[index] >> 7 & 31
+    };
+    assert_eq!(upper(0).wrapping_add(low(1)), 0x8000_1234);
+    assert_eq!(upper(0).wrapping_add(store(2)), 0x8000_1238);
+    assert_eq!(upper(3).wrapping_add(low(4)), 0x7fff_fabc);
+    assert_eq!(upper(5).wrapping_add(low(6)), 0xffff_fff0);
+    assert_eq!(0x101c_u32.wrapping_add(upper(7)).wrapping_add(low(8)), 0x8000_1234);
+    assert_eq!(0x1024_u32.wrapping_add(upper(9)).wrapping_add(store(10)), 0xffff_fff8);
+    assert_eq!(0x1034_u32.wrapping_add(upper(13)).wrapping_add(low(14)), 0x8000_1234);
+
     // a multiple of 2^32 was added to each addend, and all else is as before
     for index in 0..relocations_len(&wrapped) {
         let before = relocation_at(&relocations, index).unwrap();
@@ -84,6 +98,9 @@ fn relocations_of_rv32_match_linkers() {
         let (was, is) = (value(&relocations, &before), value(&wrapped, &after));
         let (was, is) = (was.unwrap().unwrap(), is.unwrap().unwrap());
         assert_eq!((is - was) % (1 << 32), 0, "{index}");
+        if let Some((least, end)) = RiscV.row(after.code).unwrap().reach().bounds {
+            assert!((least..end).contains(&is), "{index}");
+        }
     }
 }
 
