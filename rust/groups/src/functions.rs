@@ -164,6 +164,8 @@ struct Linking<'a> {
     /// Where code has relocations.
     fields: BTreeSet<u64>,
     stack_pointer: usize,
+    /// How many bytes a jump has at most.
+    jump_len: u64,
 }
 
 /// What old and new need not have alike in a state.
@@ -223,7 +225,7 @@ impl Linking<'_> {
     fn is_plain(&self, pc: u64, next: u64) -> bool {
         let len = match next.wrapping_sub(pc) {
             len @ 1..16 => len,
-            _ => 16,
+            _ => self.jump_len,
         };
         let mut fields = self.fields.range(pc..pc.saturating_add(len));
         !self.units.contains_key(&pc) && fields.next().is_none()
@@ -441,7 +443,8 @@ pub fn run_object(
     let moves = std::mem::take(&mut program.moves);
     let pairs = pairs(object, layout, &program);
     let fields = code_fields(object, layout);
-    let linking = Linking { units, moves: &moves, pairs, fields, stack_pointer };
+    let jump_len = if architecture == Architecture::X86_64 { 15 } else { 4 };
+    let linking = Linking { units, moves: &moves, pairs, fields, stack_pointer, jump_len };
     if options.damages {
         for (section, &address) in program.sections.iter_mut().zip(&layout.sections) {
             if let Ok(section) = section {
