@@ -18,7 +18,7 @@ static const void *there(const struct object *o, uint64_t offset, uint64_t len) 
 }
 
 /* Puts a table of symbols, each with what it says itself. */
-static void put_symbols(uint8_t *file, size_t *len, const uint8_t *from, size_t count) {
+static void widen_symbols(uint8_t *file, size_t *len, const uint8_t *from, size_t count) {
     for (size_t i = 0; i < count; i++) {
         Elf32_Sym s;
         memcpy(&s, from + i * sizeof s, sizeof s);
@@ -28,7 +28,7 @@ static void put_symbols(uint8_t *file, size_t *len, const uint8_t *from, size_t 
 }
 
 /* Puts what a section has, and has its header say where that is, and of what length. */
-static void put_section(const struct object *o, uint8_t *file, size_t *len, Elf64_Shdr *s) {
+static void widen_section(const struct object *o, uint8_t *file, size_t *len, Elf64_Shdr *s) {
     size_t size = s->sh_type == SHT_SYMTAB ? sizeof(Elf32_Sym) : sizeof(Elf32_Rela);
     const uint8_t *from = s->sh_type == SHT_NOBITS ? NULL : there(o, s->sh_offset, s->sh_size);
     if (s->sh_type != SHT_SYMTAB && s->sh_type != SHT_RELA) {
@@ -39,7 +39,7 @@ static void put_section(const struct object *o, uint8_t *file, size_t *len, Elf6
     size_t count = s->sh_size / size;
     s->sh_entsize = s->sh_type == SHT_SYMTAB ? sizeof(Elf64_Sym) : sizeof(Elf64_Rela);
     s->sh_offset = put(file, len, NULL, 0);
-    if (s->sh_type == SHT_SYMTAB) put_symbols(file, len, from, count);
+    if (s->sh_type == SHT_SYMTAB) widen_symbols(file, len, from, count);
     else expect_ok(linker_utils_read_rela32(machine, from, s->sh_size, file + *len, count));
     s->sh_size = count * s->sh_entsize;
     *len = s->sh_offset + s->sh_size;
@@ -75,7 +75,7 @@ void widen(struct object *o) {
     demand(o, room <= MOST_BYTES, "it is too large");
     uint8_t *file = take(room, 1);
     size_t len = sizeof wide;
-    for (size_t i = 0; i < head.e_shnum; i++) put_section(o, file, &len, &heads[i]);
+    for (size_t i = 0; i < head.e_shnum; i++) widen_section(o, file, &len, &heads[i]);
     wide.e_shoff = put(file, &len, heads, head.e_shnum * sizeof *heads);
     memcpy(file, &wide, sizeof wide);
     o->bytes = file, o->len = len;

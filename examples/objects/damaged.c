@@ -43,6 +43,7 @@ static void *read_block(size_t len, int file) {
     return block && read(file, block, len) == (ssize_t)len ? block : MAP_FAILED;
 }
 #define mmap(at, len, protection, flags, file, offset) read_block(len, file)
+#include "../link/class32.c"
 #include "../link/dynamic.c"
 #include "../link/entries.c"
 #include "../link/frames.c"
