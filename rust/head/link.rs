@@ -19,7 +19,9 @@ use crate::linker_runs::packing::{self, Machine, RejectedItem};
 use crate::linker_runs::relaxation::Alignment;
 use crate::linker_section::facts::{Addresses, Symbol};
 use crate::linker_section::relocations::{RELA_LEN, Rela, relocation_at, relocation_of};
+use crate::linker_section::resolved::{self, ByLookup, Lookup};
 use crate::linker_section::sections::{self, RelocationError};
+use crate::linker_section::symbols::{ByIndex, Symbols};
 
 /// What a linker knows of an output. [`Link::new`] has no fact; addresses are known once sections
 /// are placed.
@@ -290,19 +292,19 @@ pub enum WritingError {
 
 /// An error of a section that is as before, with the value that isn't written.
 #[cold]
-fn explained(
+fn explained<S: Symbols>(
     architecture: Architecture,
     addresses: &Addresses,
     relocations: &[u8],
-    symbols: &[Symbol],
+    symbols: S,
     found: sections::SectionError,
 ) -> SectionError {
     let rejected = || {
         let RelocationError::Write(error) = found.error else {
             return None;
         };
-        let relocation = relocation_at(relocations, found.index)?;
-        let valued = sections::row_value(architecture, addresses, relocations, symbols, &relocation);
+        let (index, relocation) = (found.index, relocation_at(relocations, found.index)?);
+        let valued = symbols.row_value(architecture, addresses, relocations, index, &relocation);
         let (row, value) = valued.ok()??;
         let is_told = match error {
             RelocateError::Misaligned => true,
@@ -359,7 +361,59 @@ pub fn relocate_section<B: AsMut<[u8]>, R: AsRef<[u8]>>(
     let (relocations, bytes) = (section.relocations.as_ref(), section.bytes.as_mut());
     let symbols = object.values;
     sections::relocate_section(architecture, &addresses, relocations, symbols, bytes, memory)
-        .map_err(|found| explained(architecture, &addresses, relocations, symbols, found))
+        .map_err(|found| {
+            let symbols = ByIndex { symbols };
+            explained(architecture, &addresses, relocations, symbols, found)
+        })
+}
+
+//= linker_section::resolved::relocate_resolved: relocations = section.relocations
+///
+/// ```
+/// use linker_utils::elf::Architecture;
+/// use linker_utils::section::{Link, Lookup, Rela, Resolved, Section, relocate_resolved};
+///
+/// /// Two functions, one with a stub that is used from offset 4 on.
+/// #[derive(Clone, Copy)]
+/// struct Functions<'a> {
+///     addresses: &'a [u64],
+/// }
+///
+/// impl Lookup for Functions<'_> {
+///     fn resolved(self, _: usize, relocation: &Rela) -> Option<Resolved> {
+///         let address = *self.addresses.get(relocation.symbol as usize)?;
+///         let stub = if relocation.offset < 4 { 0 } else { 0x400800 };
+///         Some(Resolved { address, stub, ..Resolved::default() })
+///     }
+/// }
+///
+/// // bl f; bl f, with R_AARCH64_CALL26 (283) of symbol 1
+/// let mut relocations = [0; 48];
+/// (relocations[8], relocations[9], relocations[12]) = (27, 1, 1);
+/// (relocations[24], relocations[32], relocations[33], relocations[36]) = (4, 27, 1, 1);
+/// let mut code = [0, 0, 0, 0x94, 0, 0, 0, 0x94];
+/// let section = Section::new(&mut code, &relocations);
+/// let mut section = Section { address: 0x400000, ..section };
+/// let functions = Functions { addresses: &[0, 0x401000] };
+/// let link = Link::new(Architecture::AArch64);
+/// relocate_resolved(&link, functions, &mut section, &mut [0; 2]).unwrap();
+/// assert_eq!(code, [0, 4, 0, 0x94, 0xff, 1, 0, 0x94]);
+/// ```
+#[inline]
+#[cfg_attr(debug_assertions, track_caller)]
+pub fn relocate_resolved<L: Lookup, B: AsMut<[u8]>, R: AsRef<[u8]>>(
+    link: &Link,
+    lookup: L,
+    section: &mut Section<B, R>,
+    memory: &mut [u64],
+) -> Result<(), SectionError> {
+    let (architecture, addresses) = (link.architecture, link.addresses(section.address));
+    let (relocations, bytes) = (section.relocations.as_ref(), section.bytes.as_mut());
+    resolved::relocate_resolved(architecture, &addresses, relocations, lookup, bytes, memory)
+        .map_err(|found| {
+            let symbols = ByLookup { lookup };
+            explained(architecture, &addresses, relocations, symbols, found)
+        })
 }
 
 //= linker_rewriting::surveys::survey
@@ -916,7 +970,7 @@ pub fn relocate_rewritten_section<B: AsMut<[u8]>, R: AsRef<[u8]>>(
             architecture,
             &addresses,
             relocations,
-            symbols,
+            ByIndex { symbols },
             found,
         )),
     })

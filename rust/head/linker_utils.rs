@@ -86,6 +86,7 @@ pub mod source {
     }
 
     pub mod section {
+        pub use crate::linker_section::resolved::relocate_resolved;
         pub use crate::linker_section::sections::{SectionError, relocate_section};
         pub use crate::section::*;
     }
@@ -139,7 +140,9 @@ pub mod reading {
 
 pub mod section {
     #![doc = include_str!("../doc/section.md")]
-    pub use crate::link::{Link, Object, Section, SectionError, relocate_section, relocations};
+    pub use crate::link::{
+        Link, Object, Section, SectionError, relocate_resolved, relocate_section, relocations,
+    };
     pub use crate::linker_section::crel::{Crel, CrelError, read_crel};
     pub use crate::linker_section::facts::{Addresses, Symbol};
     pub use crate::linker_section::needed::{Entry, EntryClass, Requirements, needs};
@@ -149,6 +152,7 @@ pub mod section {
     #[cfg(feature = "riscv64")]
     pub use crate::linker_section::riscv32::wrap_addends;
     pub use crate::linker_section::riscv32::{RELA32_LEN, read_rela32, relocations32_len};
+    pub use crate::linker_section::resolved::{ByRelocation, Lookup, Resolved};
     pub use crate::linker_section::sections::{RelocationError, memory_len};
     pub use crate::linker_section::values::{ValueError, value};
 }

@@ -12,8 +12,10 @@ pub mod needed;
 mod order;
 mod quick;
 pub mod relocations;
+pub mod resolved;
 #[cfg(feature = "riscv64")]
 pub mod riscv32;
 mod saved;
 pub mod sections;
+pub(crate) mod symbols;
 pub mod values;

@@ -28,6 +28,7 @@ LATER = {"merge_additional": "insert_ascending", "merge_all": "insert_ascending"
 # Requirements that only the call itself tests, in words, by function and name: its addition overflows.
 IN_WORDS = {"output_to_input_counted.fits": "the input offset is at most `u64::MAX`, or an addition overflows",
             "relocate_rewritten_section.memory": "`memory` has at least `memory_len(relocations)` words",
+            "relocate_resolved.memory": "`memory` has at least `memory_len(relocations)` words",
             "deletions.items": "the items are in order, as `are_items` accepts them",
             "choice_by.table": "the entries are those of the table of the relocation at the offset"}
 COMPARISONS = {"≡": "==", "≤": "<=", "<": "<"}

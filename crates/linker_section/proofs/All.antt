@@ -7,8 +7,7 @@ use Rattle.linker_section.proofs.Local.{IsLocal, one_local, pair_local}
 use Rattle.linker_section.proofs.Stepping.{len_alone, len_paired, written_alone, unchanged, split}
 use Rattle.linker_section.proofs.Valued.{some_value}
 use Rattle.linker_section.specs.Fields.{IsField, field_end, field_len, begins_pair, ends_pair, uleb_len, of_number, of_pair, AreApart, Overlap}
-use Rattle.linker_section.specs.Relocations.{relocation_in}
-use Rattle.linker_section.specs.Sections.{AreRelocated, none, mark, one, pair, IsInNoField, AreAllRelocated, HasValue, IsWritten, IsPairWritten}
+use Rattle.linker_section.specs.Sections.{AreRelocated, none, mark, one, pair, IsInNoField, AreAllRelocatedBy, IsValued, IsWritten, IsPairWritten, Values}
 use Rattle.linker_section.specs.Values.{offset_at}
 use Rattle.linker_section.specs.declared.facts.Addresses.{Addresses}
 use Rattle.linker_section.specs.declared.facts.Symbol.{Symbol}
@@ -65,15 +64,15 @@ fewer architecture bytes before n m p most outside i row below is_field =
     outside i row (omega (arith, below, most)) is_field
 
 one_untouched : (architecture : Architecture) (addresses : Addresses) (bytes before middle now : List ℕ)
-    (symbols : List Symbol) (n : ℕ) (row : RelocationKindInfo) (v : ℤ)
+    (values : Values) (n : ℕ) (row : RelocationKindInfo) (v : ℤ)
     → AreUntouched architecture bytes before n middle
-    → HasValue architecture addresses bytes symbols (relocation_in bytes n) row v
+    → IsValued architecture addresses bytes values n row v
     → IsWritten row v (offset_at bytes n) middle now
     → AreUntouched architecture bytes before (n + 1) now
-one_untouched architecture addresses bytes before middle now symbols n row v so_far has written =
+one_untouched architecture addresses bytes before middle now values n row v so_far has written =
     let o = offset_at bytes n in
     let local = one_local row v o middle now written in
-    let some = some_value architecture addresses bytes symbols (relocation_in bytes n) row v has in
+    let some = has.valued in
     let len : field_len row (drop o before) ≡ window_len row = len_alone row (drop o before) some (written_alone row v o middle now written) in (
       (local.same_length ∙ so_far.0),
       (λ p outside. elim (cases_eq (window_len row) 0) [
@@ -129,15 +128,15 @@ pub record IsPairPlace (architecture : Architecture) (bytes before middle now : 
   pub local : IsLocal (offset_at bytes n) (field_len row (drop (offset_at bytes n) before)) middle now
 
 pub pair_place : (architecture : Architecture) (addresses : Addresses) (bytes before middle now : List ℕ)
-    (symbols : List Symbol) (n : ℕ) → AreApart architecture bytes before (n + 2)
+    (values : Values) (n : ℕ) → AreApart architecture bytes before (n + 2)
     → AreUntouched architecture bytes before n middle
-    → (written : IsPairWritten architecture addresses bytes symbols (relocation_in bytes n) (relocation_in bytes (n + 1)) middle now)
+    → (written : IsPairWritten architecture addresses bytes values n middle now)
     → IsPairPlace architecture bytes before middle now n written.pair.row
-pair_place architecture addresses bytes before middle now symbols n apart so_far written =
+pair_place architecture addresses bytes before middle now values n apart so_far written =
     let o = offset_at bytes n in
     let pair = written.pair in
     let row = pair.row in
-    let local = pair_local architecture addresses bytes symbols (relocation_in bytes n) (relocation_in bytes (n + 1)) middle now written in
+    let local = pair_local architecture addresses bytes values n middle now written in
     let has = begun_has_value row.size row.kind pair.begins in
     let paired = or_left (begins_pair row.size row.kind) (ends_pair row.size row.kind) pair.begins in
     let len : field_len row (drop o before) ≡ uleb_len (take 10 (drop o before)) = len_paired row (drop o before) has paired in
@@ -159,13 +158,13 @@ pair_place architecture addresses bytes before middle now symbols n apart so_far
     }
 
 pair_untouched : (architecture : Architecture) (addresses : Addresses) (bytes before middle now : List ℕ)
-    (symbols : List Symbol) (n : ℕ) → AreApart architecture bytes before (n + 2)
+    (values : Values) (n : ℕ) → AreApart architecture bytes before (n + 2)
     → AreUntouched architecture bytes before n middle
-    → IsPairWritten architecture addresses bytes symbols (relocation_in bytes n) (relocation_in bytes (n + 1)) middle now
+    → IsPairWritten architecture addresses bytes values n middle now
     → AreUntouched architecture bytes before (n + 2) now
-pair_untouched architecture addresses bytes before middle now symbols n apart so_far written =
+pair_untouched architecture addresses bytes before middle now values n apart so_far written =
     let row = written.pair.row in
-    let split = pair_place architecture addresses bytes before middle now symbols n apart so_far written in (
+    let split = pair_place architecture addresses bytes before middle now values n apart so_far written in (
       (split.local.same_length ∙ so_far.0),
       (λ p outside.
           local_byte (offset_at bytes n) (field_len row (drop (offset_at bytes n) before)) p middle now split.local
@@ -174,27 +173,27 @@ pair_untouched architecture addresses bytes before middle now symbols n apart so
     )
 
 pub untouched : (architecture : Architecture) (addresses : Addresses) (bytes before : List ℕ)
-    (symbols : List Symbol) {n : ℕ} {now : List ℕ} → AreApart architecture bytes before n
-    → AreRelocated architecture addresses bytes symbols before n now
+    (values : Values) {n : ℕ} {now : List ℕ} → AreApart architecture bytes before n
+    → AreRelocated architecture addresses bytes values before n now
     → AreUntouched architecture bytes before n now
-untouched architecture addresses bytes before symbols apart none = (refl, λ p outside. refl)
-untouched architecture addresses bytes before symbols apart (mark {n} {middle} relocated value) =
-    let so_far = untouched architecture addresses bytes before symbols (λ i j row other below under. apart i j row other below (omega (arith, under))) relocated in (
+untouched architecture addresses bytes before values apart none = (refl, λ p outside. refl)
+untouched architecture addresses bytes before values apart (mark {n} {middle} relocated value) =
+    let so_far = untouched architecture addresses bytes before values (λ i j row other below under. apart i j row other below (omega (arith, under))) relocated in (
       (so_far.0),
       (λ p outside. so_far.1 p (fewer architecture bytes before n (n + 1) p (omega arith) outside)),
     )
-untouched architecture addresses bytes before symbols apart (one {n} {middle} {after} {row} {v} relocated has written) =
-    one_untouched architecture addresses bytes before middle after symbols n row v
-    (untouched architecture addresses bytes before symbols (λ i j row other below under. apart i j row other below (omega (arith, under))) relocated) has written
-untouched architecture addresses bytes before symbols apart (pair {n} {middle} {after} relocated written) =
-    pair_untouched architecture addresses bytes before middle after symbols n apart
-    (untouched architecture addresses bytes before symbols (λ i j row other below under. apart i j row other below (omega (arith, under))) relocated) written
+untouched architecture addresses bytes before values apart (one {n} {middle} {after} {row} {v} relocated has written) =
+    one_untouched architecture addresses bytes before middle after values n row v
+    (untouched architecture addresses bytes before values (λ i j row other below under. apart i j row other below (omega (arith, under))) relocated) has written
+untouched architecture addresses bytes before values apart (pair {n} {middle} {after} relocated written) =
+    pair_untouched architecture addresses bytes before middle after values n apart
+    (untouched architecture addresses bytes before values (λ i j row other below under. apart i j row other below (omega (arith, under))) relocated) written
 
 pub all_relocated : (architecture : Architecture) (addresses : Addresses)
-    (bytes before after : List ℕ) (symbols : List Symbol)
+    (bytes before after : List ℕ) (values : Values)
     → AreApart architecture bytes before (length bytes / 24)
-    → AreRelocated architecture addresses bytes symbols before (length bytes / 24) after
-    → AreAllRelocated architecture addresses bytes symbols before after
-all_relocated architecture addresses bytes before after symbols apart relocated =
-    let all = untouched architecture addresses bytes before symbols apart relocated in
+    → AreRelocated architecture addresses bytes values before (length bytes / 24) after
+    → AreAllRelocatedBy architecture addresses bytes values before after
+all_relocated architecture addresses bytes before after values apart relocated =
+    let all = untouched architecture addresses bytes before values apart relocated in
     record { apart = apart; relocated = relocated; others = all.1; same_length = all.0 }

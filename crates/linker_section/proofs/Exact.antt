@@ -6,13 +6,13 @@ use Rattle.linker_section.proofs.Composing.{begun_ends_none}
 use Rattle.linker_section.proofs.Fronts.{some_window}
 use Rattle.linker_section.proofs.Rows.{one_row, one_info}
 use Rattle.linker_section.proofs.Sized.{is_composing, first_composes, instruction_alone, auipc_valued}
-use Rattle.linker_section.proofs.Stepping.{len_alone}
+use Rattle.linker_section.proofs.Stepping.{len_alone, no_field}
 use Rattle.linker_section.specs.Conditions.{IsInReach}
 use Rattle.linker_section.specs.Fields.{IsField, begins_pair, ends_pair, is_of_pair, Composes, of_number, of_pair, AreApart}
 use Rattle.linker_section.specs.Relocations.{relocation_in, relocation_at}
 use Rattle.linker_section.proofs.Lengths.{pair_shows}
-use Rattle.linker_section.proofs.Valued.{mark_none}
-use Rattle.linker_section.specs.Sections.{HasValue, IsRowValue, IsValueless, no_value, not_filled, no_stub, beyond, IsOtherLength, IsNotAccepted, IsPairRejected, IsNumberOfPair, IsCauseAt, IsOfValue, BeginsPair}
+use Rattle.linker_section.proofs.Valued.{mark_none, mark_no_value}
+use Rattle.linker_section.specs.Sections.{by_index, HasValue, IsRowValue, IsValueless, no_value, not_filled, no_stub, beyond, IsOtherLength, IsNotAccepted, IsPairRejected, IsNumberOfPair, IsCauseAt, IsOfValue, BeginsPair}
 use Rattle.linker_section.specs.Values.{offset_at, is_auipc, is_high_kind, is_high_part, names_label, IsHighPart, IsHighPartAt, low_value, IsLowValue, IsValueBy, IsValueIn, IsValue}
 use Rattle.linker_section.specs.WrittenFields.{CanBeWritten, IsFirstFault, PairFits}
 use Rattle.linker_section.specs.declared.facts.Addresses.{Addresses}
@@ -335,10 +335,10 @@ module _ (architecture : Architecture) (addresses : Addresses) (bytes : List ℕ
       ]
 
   no_write : (i : ℕ) (why : RelocateError) → i < length bytes / 24 → i ≡ fault.written
-      → IsNotAccepted architecture addresses bytes symbols i section why → ⊥
+      → IsNotAccepted architecture addresses bytes (by_index symbols) i section why → ⊥
   no_write i why within next not =
       let row = not.row in
-      let is = found_at i row not.value within not.has_value in
+      let is = found_at i row not.value within not.has_value.is_value in
       let accepts = can.accepted i row not.value within is in
       elim (cases_Bool (is_of_pair row)) [
         | inr alone ↦
@@ -367,10 +367,10 @@ module _ (architecture : Architecture) (addresses : Addresses) (bytes : List ℕ
       ]
 
   no_other_length : (i : ℕ) → i < length bytes / 24
-      → IsOtherLength architecture addresses bytes symbols i section → ⊥
+      → IsOtherLength architecture addresses bytes (by_index symbols) i section → ⊥
   no_other_length i within not =
       let row = not.row in
-      let is = found_at i row not.value within not.has_value in
+      let is = found_at i row not.value within not.has_value.is_value in
       let accepts = can.accepted i row not.value within is in
       elim (cases_Bool (is_of_pair row)) [
         | inr alone ↦ true≢false (sym ((accepts.0 alone).length_shown not.inside not.long) ∙ not.other)
@@ -378,11 +378,11 @@ module _ (architecture : Architecture) (addresses : Addresses) (bytes : List ℕ
       ]
 
   no_number : (i : ℕ) (why : Uleb128Error) → i < length bytes / 24
-      → IsPairRejected architecture addresses bytes symbols (relocation_in bytes i) (relocation_in bytes (i + 1)) section why → ⊥
+      → IsPairRejected architecture addresses bytes (by_index symbols) i section why → ⊥
   no_number i why within rejected =
       let pair = rejected.pair in
       let row = pair.row in
-      let is = found_at i row pair.value within pair.has_value in
+      let is = found_at i row pair.value within pair.has_value.is_value in
       let paired = or_left (begins_pair row.size row.kind) (ends_pair row.size row.kind) pair.begins in
       let of = (can.accepted i row pair.value within is).1 paired in
       let below = of.1 in
@@ -393,7 +393,7 @@ module _ (architecture : Architecture) (addresses : Addresses) (bytes : List ℕ
             let under : i + 1 < length bytes / 24 = omega (arith, below, at) in
             let a = one_found (can.found i) row made.row pair.value made.value is made.is_first in
             let b = one_found (can.found (i + 1)) pair.other made.other pair.subtracted made.subtracted
-            (found_at (i + 1) pair.other pair.subtracted under pair.has_subtracted) made.is_second in
+            (found_at (i + 1) pair.other pair.subtracted under pair.has_subtracted.is_value) made.is_second in
             let there = drop (offset_at bytes i) section in
             let mine : IsNumberOfPair made.other.kind there made.value made.subtracted rejected.number =
             subst (λ x. IsNumberOfPair made.other.kind there made.value x rejected.number) b.value_is
@@ -410,12 +410,16 @@ module _ (architecture : Architecture) (addresses : Addresses) (bytes : List ℕ
 
   no_cause : (i : ℕ) (why : RelocationError) → i < length bytes / 24
       → (i ≡ fault.written) ⊎ ((i ≡ fault.written + 1) × BeginsPair architecture bytes fault.written × IsOfValue why)
-      → IsCauseAt architecture addresses bytes symbols section i section why → ⊥
+      → IsCauseAt architecture addresses bytes (by_index symbols) section i section why → ⊥
   no_cause i (Value why) within next cause = no_value_error i why within cause
   no_cause i Overlaps within next cause =
       cause.apart (can.apart cause.earlier i cause.row cause.other cause.order within cause.is_field cause.is_other cause.overlap)
   no_cause i OtherLength within next cause = no_other_length i within (cause.1)
-  no_cause i (Write why) within (inl is) cause = no_write i why within is (cause.1)
+  no_cause i (Write why) within (inl is) cause =
+      elim (cause.1) [
+        | inl not ↦ no_write i why within is not
+        | inr left ↦ no_field architecture bytes section i left.row (mark_no_value architecture addresses bytes symbols (relocation_in bytes i) left.no_value) left.is_field
+      ]
   no_cause i (Write why) within (inr is) cause = is.2
   no_cause i (Uleb128 why) within (inl is) cause = no_number i why within (cause.1)
   no_cause i (Uleb128 why) within (inr is) cause = is.2

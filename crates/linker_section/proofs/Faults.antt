@@ -7,11 +7,12 @@ use Rattle.linker_section.proofs.Fielded.{found_of, uses, found_are, are_accepte
 use Rattle.linker_section.proofs.Fronts.{HaveSameWindow, multiple_same, reached_same, window_back}
 use Rattle.linker_section.proofs.Held.{field_untouched}
 use Rattle.linker_section.proofs.Lengths.{offset_same, length_same, shows_same}
-use Rattle.linker_section.proofs.Stepping.{len_paired}
+use Rattle.linker_section.proofs.Stepping.{len_paired, no_field}
+use Rattle.linker_section.proofs.Valued.{mark_no_value}
 use Rattle.linker_section.proofs.Ulebs.{some_uleb, uleb_len_is, uleb_same, pair_number_from}
 use Rattle.linker_section.specs.Fields.{IsField, field_len, begins_pair, ends_pair, uleb_len, AreApart}
 use Rattle.linker_section.specs.Relocations.{relocation_in}
-use Rattle.linker_section.specs.Sections.{AreRelocated, IsUnwritable, IsPairRejected, IsNotAccepted, IsOtherLength, IsCauseAt, BeginsPair, IsOfValue, IsFirstRejected}
+use Rattle.linker_section.specs.Sections.{by_index, AreRelocated, IsUnwritable, IsPairRejected, IsNotAccepted, IsOtherLength, IsCauseAt, BeginsPair, IsOfValue, IsFirstRejected}
 use Rattle.linker_section.specs.Values.{offset_at}
 use Rattle.linker_section.specs.WrittenFields.{IsFirstFault}
 use Rattle.linker_section.specs.declared.facts.Addresses.{Addresses}
@@ -121,12 +122,12 @@ cause_of_number xs ys number DoesNotFit same len cause =
 
 module _ (architecture : Architecture) (addresses : Addresses) (bytes : List ℕ) (symbols : List Symbol) (before now : List ℕ) where
   write_cause : (n : ℕ) (error : RelocateError)
-      → AreRelocated architecture addresses bytes symbols before n now
+      → AreRelocated architecture addresses bytes (by_index symbols) before n now
       → AreApart architecture bytes before (n + 1)
-      → IsNotAccepted architecture addresses bytes symbols n now error
-      → IsNotAccepted architecture addresses bytes symbols n before error
+      → IsNotAccepted architecture addresses bytes (by_index symbols) n now error
+      → IsNotAccepted architecture addresses bytes (by_index symbols) n before error
   write_cause n error relocated apart not =
-      let so_far = untouched architecture addresses bytes before symbols (λ i j x y less under. apart i j x y less (omega (arith, under))) relocated in
+      let so_far = untouched architecture addresses bytes before (by_index symbols) (λ i j x y less under. apart i j x y less (omega (arith, under))) relocated in
       let row = not.row in
       record {
         row = row;
@@ -141,12 +142,12 @@ module _ (architecture : Architecture) (addresses : Addresses) (bytes : List ℕ
         alone = not.alone;
       }
 
-  length_cause : (n : ℕ) → AreRelocated architecture addresses bytes symbols before n now
+  length_cause : (n : ℕ) → AreRelocated architecture addresses bytes (by_index symbols) before n now
       → AreApart architecture bytes before (n + 1)
-      → IsOtherLength architecture addresses bytes symbols n now
-      → IsOtherLength architecture addresses bytes symbols n before
+      → IsOtherLength architecture addresses bytes (by_index symbols) n now
+      → IsOtherLength architecture addresses bytes (by_index symbols) n before
   length_cause n relocated apart other =
-      let so_far = untouched architecture addresses bytes before symbols (λ i j x y less under. apart i j x y less (omega (arith, under))) relocated in
+      let so_far = untouched architecture addresses bytes before (by_index symbols) (λ i j x y less under. apart i j x y less (omega (arith, under))) relocated in
       let row = other.row in
       let o = offset_at bytes n in
       let d = length-drop o before in let dn = length-drop o now in let len = so_far.0 in
@@ -163,12 +164,12 @@ module _ (architecture : Architecture) (addresses : Addresses) (bytes : List ℕ
       }
 
   number_cause : (n : ℕ) (error : Uleb128Error)
-      → AreRelocated architecture addresses bytes symbols before n now
+      → AreRelocated architecture addresses bytes (by_index symbols) before n now
       → AreApart architecture bytes before (n + 1)
-      → IsPairRejected architecture addresses bytes symbols (relocation_in bytes n) (relocation_in bytes (n + 1)) now error
-      → IsPairRejected architecture addresses bytes symbols (relocation_in bytes n) (relocation_in bytes (n + 1)) before error
+      → IsPairRejected architecture addresses bytes (by_index symbols) n now error
+      → IsPairRejected architecture addresses bytes (by_index symbols) n before error
   number_cause n error relocated apart rejected =
-      let so_far = untouched architecture addresses bytes before symbols (λ i j x y less under. apart i j x y less (omega (arith, under))) relocated in
+      let so_far = untouched architecture addresses bytes before (by_index symbols) (λ i j x y less under. apart i j x y less (omega (arith, under))) relocated in
       let o = offset_at bytes n in
       let pair = rejected.pair in
       let row = pair.row in
@@ -218,24 +219,27 @@ module _ (architecture : Architecture) (addresses : Addresses) (bytes : List ℕ
 
   by_before : (written i : ℕ) (error : RelocationError)
       → (i ≡ written) ⊎ ((i ≡ written + 1) × BeginsPair architecture bytes written × IsOfValue error)
-      → AreRelocated architecture addresses bytes symbols before written now
-      → IsCauseAt architecture addresses bytes symbols before i now error
-      → IsCauseAt architecture addresses bytes symbols before i before error
+      → AreRelocated architecture addresses bytes (by_index symbols) before written now
+      → IsCauseAt architecture addresses bytes (by_index symbols) before i now error
+      → IsCauseAt architecture addresses bytes (by_index symbols) before i before error
   by_before written i (Value error) next relocated cause = cause
   by_before written i Overlaps next relocated cause = cause
   by_before written i OtherLength (inl is) relocated cause = (
     cause.0,
-    length_cause i (subst (λ n. AreRelocated architecture addresses bytes symbols before n now) (sym is) relocated) (cause.0) (cause.1),
+    length_cause i (subst (λ n. AreRelocated architecture addresses bytes (by_index symbols) before n now) (sym is) relocated) (cause.0) (cause.1),
   )
   by_before written i OtherLength (inr is) relocated cause = absurd (is.2)
   by_before written i (Write error) (inl is) relocated cause = (
     cause.0,
-    write_cause i error (subst (λ n. AreRelocated architecture addresses bytes symbols before n now) (sym is) relocated) (cause.0) (cause.1),
+    elim (cause.1) [
+      | inl not ↦ inl (write_cause i error (subst (λ n. AreRelocated architecture addresses bytes (by_index symbols) before n now) (sym is) relocated) (cause.0) not)
+      | inr left ↦ absurd (no_field architecture bytes now i left.row (mark_no_value architecture addresses bytes symbols (relocation_in bytes i) left.no_value) left.is_field)
+    ],
   )
   by_before written i (Write error) (inr is) relocated cause = absurd (is.2)
   by_before written i (Uleb128 error) (inl is) relocated cause = (
     cause.0,
-    number_cause i error (subst (λ n. AreRelocated architecture addresses bytes symbols before n now) (sym is) relocated) (cause.0) (cause.1),
+    number_cause i error (subst (λ n. AreRelocated architecture addresses bytes (by_index symbols) before n now) (sym is) relocated) (cause.0) (cause.1),
   )
   by_before written i (Uleb128 error) (inr is) relocated cause = absurd (is.2)
 

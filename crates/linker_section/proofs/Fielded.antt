@@ -15,7 +15,7 @@ use Rattle.linker_section.proofs.Ulebs.{uleb_len_is, uleb_same, uleb_front, same
 use Rattle.linker_section.proofs.Valued.{some_value}
 use Rattle.linker_section.specs.Fields.{IsField, field_end, field_len, begins_pair, ends_pair, is_of_pair, Composes, of_number, of_pair, AreApart}
 use Rattle.linker_section.specs.Relocations.{relocation_in}
-use Rattle.linker_section.specs.Sections.{AreRelocated, none, mark, one, pair, HasValue, IsRowValue, IsPairWritten, AreAllRelocated}
+use Rattle.linker_section.specs.Sections.{by_index, AreRelocated, none, mark, one, pair, HasValue, IsRowValue, IsValued, IsPairWritten, AreAllRelocated, Values}
 use Rattle.linker_section.specs.Values.{has_value, offset_at}
 use Rattle.linker_section.specs.WrittenFields.{Found, AreFound, composed, composed_by, composed_with, field_bytes, HoldsNumber, HoldsValue, IsHeld, AreWritten, MakePair, OfPair, HoldsPair, PairFits, IsAcceptedAt, AreAccepted}
 use Rattle.linker_section.specs.declared.facts.Addresses.{Addresses}
@@ -87,8 +87,8 @@ composed_here found bytes section at number n row v is same some =
 
 -- ---- the rows and values of a chain of writes
 
-abbrev pub found_of : {architecture : Architecture} {addresses : Addresses} {bytes : List ℕ} {symbols : List Symbol} {before : List ℕ} {n : ℕ} {now : List ℕ}
-    → AreRelocated architecture addresses bytes symbols before n now → Found
+abbrev pub found_of : {architecture : Architecture} {addresses : Addresses} {bytes : List ℕ} {values : Values} {before : List ℕ} {n : ℕ} {now : List ℕ}
+    → AreRelocated architecture addresses bytes values before n now → Found
 found_of none i = None
 found_of (mark {n} relocated value) i = cond (eqb i n) None (found_of relocated i)
 found_of (one {n} {middle} {after} {row} {v} relocated has written) i =
@@ -169,7 +169,7 @@ of_pair_more : {Said : ℕ → Type 0} {i : ℕ} (n m : ℕ) → n ≤ m → OfP
 of_pair_more n m most of = let within = of.1 in (of.0, omega (arith, within, most), of.2, of.3)
 
 module _ (architecture : Architecture) (addresses : Addresses) (bytes : List ℕ) (symbols : List Symbol) (before : List ℕ) (total : ℕ) (apart : AreApart architecture bytes before total) (found : Found) where
-  abbrev pub Uses : {n : ℕ} {now : List ℕ} → AreRelocated architecture addresses bytes symbols before n now → Type 0
+  abbrev pub Uses : {n : ℕ} {now : List ℕ} → AreRelocated architecture addresses bytes (by_index symbols) before n now → Type 0
   Uses none = Unit
   Uses (mark {n} relocated value) = (found n ≡ None) × Uses relocated
   Uses (one {n} {middle} {after} {row} {v} relocated has written) = (found n ≡ Some (row, v)) × Uses relocated
@@ -180,7 +180,7 @@ module _ (architecture : Architecture) (addresses : Addresses) (bytes : List ℕ
   not_last : (i n : ℕ) → i < n → eqb i n ≡ false
   not_last i n below = ne_eqb i n (λ same. omega (arith, below, same))
 
-  pub uses : {n : ℕ} {now : List ℕ} (relocated : AreRelocated architecture addresses bytes symbols before n now)
+  pub uses : {n : ℕ} {now : List ℕ} (relocated : AreRelocated architecture addresses bytes (by_index symbols) before n now)
       → ((i : ℕ) → i < n → found i ≡ found_of relocated i) → Uses relocated
   uses none agree = tt
   uses (mark {n} relocated value) agree = (
@@ -203,7 +203,7 @@ module _ (architecture : Architecture) (addresses : Addresses) (bytes : List ℕ
 
   -- ---- they are the rows and values of the relocations
 
-  pub found_are : {n : ℕ} {now : List ℕ} (relocated : AreRelocated architecture addresses bytes symbols before n now)
+  pub found_are : {n : ℕ} {now : List ℕ} (relocated : AreRelocated architecture addresses bytes (by_index symbols) before n now)
       → Uses relocated → AreFound architecture addresses bytes symbols n found
   found_are none used i below = absurd (omega (arith, below))
   found_are (mark {n} relocated value) used i below =
@@ -217,18 +217,18 @@ module _ (architecture : Architecture) (addresses : Addresses) (bytes : List ℕ
       elim (cases_eq i n) [
         | inl is ↦
             subst (λ j. IsRowValue architecture addresses bytes symbols (relocation_in bytes j) (Ok (found j))) (sym is)
-            (subst (λ x. IsRowValue architecture addresses bytes symbols (relocation_in bytes n) (Ok x)) (sym (used.0)) has)
+            (subst (λ x. IsRowValue architecture addresses bytes symbols (relocation_in bytes n) (Ok x)) (sym (used.0)) has.is_value)
         | inr isnt ↦ found_are relocated (used.1) i (omega (arith, below, isnt))
       ]
   found_are (pair {n} {middle} {after} relocated written) used i below =
       elim (cases_eq i n) [
         | inl is ↦
             subst (λ j. IsRowValue architecture addresses bytes symbols (relocation_in bytes j) (Ok (found j))) (sym is)
-            (subst (λ x. IsRowValue architecture addresses bytes symbols (relocation_in bytes n) (Ok x)) (sym (used.0)) written.pair.has_value)
+            (subst (λ x. IsRowValue architecture addresses bytes symbols (relocation_in bytes n) (Ok x)) (sym (used.0)) written.pair.has_value.is_value)
         | inr isnt ↦ elim (cases_eq i (n + 1)) [
           | inl is ↦
               subst (λ j. IsRowValue architecture addresses bytes symbols (relocation_in bytes j) (Ok (found j))) (sym is)
-              (subst (λ x. IsRowValue architecture addresses bytes symbols (relocation_in bytes (n + 1)) (Ok x)) (sym (used.1)) written.pair.has_subtracted)
+              (subst (λ x. IsRowValue architecture addresses bytes symbols (relocation_in bytes (n + 1)) (Ok x)) (sym (used.1)) written.pair.has_subtracted.is_value)
           | inr far ↦ found_are relocated (used.2) i (omega (arith, below, isnt, far))
         ]
       ]
@@ -262,7 +262,7 @@ module _ (architecture : Architecture) (addresses : Addresses) (bytes : List ℕ
       (sym (composed_here found bytes before o number n other v is offset (subst (λ p. 0 < field_len other (drop p before)) offset some)))
       (holds_next row.kind other.kind k v (composed found bytes before o number n) old (field_bytes bytes before i row now) (field_bytes bytes before i row after) same_bits small so_far written)
 
-  held_number : {n : ℕ} {now : List ℕ} (relocated : AreRelocated architecture addresses bytes symbols before n now)
+  held_number : {n : ℕ} {now : List ℕ} (relocated : AreRelocated architecture addresses bytes (by_index symbols) before n now)
       → n ≤ total → Uses relocated → (i : ℕ) (row : RelocationKindInfo) (k : ℕ) → i < total
       → IsField architecture bytes before i row → is_of_pair row ≡ false → has_value row.kind ≡ true
       → row.size ≡ ByteSize (suc k)
@@ -282,10 +282,10 @@ module _ (architecture : Architecture) (addresses : Addresses) (bytes : List ℕ
       let old = field_bytes bytes before i row before in
       let so_far = held_number relocated (omega (arith, most)) (used.1) i row k below is_field alone valued size small in
       let other_alone = written_alone other v (offset_at bytes n) middle after written in
-      let other_valued = some_value architecture addresses bytes symbols (relocation_in bytes n) other v has in
+      let other_valued = has.valued in
       let len = len_alone row (drop o before) valued alone in
       let other_len = len_alone other (drop (offset_at bytes n) before) other_valued other_alone in
-      elim (step architecture addresses bytes symbols before total i row n other v middle after apart below (omega (arith, most)) is_field has written) [
+      elim (step architecture addresses bytes (by_index symbols) before total i row n other v middle after apart below (omega (arith, most)) is_field has written) [
         | is_kept same far ↦
             subst (λ c. HoldsNumber row.kind (suc k) c old (field_bytes bytes before i row after))
             (sym (composed_far found bytes before o (pos (number_of_bytes (suc k) old)) n other v (used.0) far))
@@ -309,8 +309,8 @@ module _ (architecture : Architecture) (addresses : Addresses) (bytes : List ℕ
       let so_far = held_number relocated (omega (arith, most)) (used.2) i row k below is_field alone valued size small in
       let first = written.pair.row in
       let apart_here : AreApart architecture bytes before (n + 2) = λ a b x y less under. apart a b x y less (omega (arith, under, most)) in
-      let place = pair_place architecture addresses bytes before middle after symbols n apart_here
-      (untouched architecture addresses bytes before symbols (λ a b x y less under. apart a b x y less (omega (arith, under, most))) relocated) written in
+      let place = pair_place architecture addresses bytes before middle after (by_index symbols) n apart_here
+      (untouched architecture addresses bytes before (by_index symbols) (λ a b x y less under. apart a b x y less (omega (arith, under, most))) relocated) written in
       let width = is_field.some in let first_width = place.is_field.some in
       let far = pair_far i row n first (meet architecture bytes before total i row n first apart below (omega (arith, most)) is_field place.is_field) alone written.pair.begins
       (λ is. one_info architecture _ row first (subst (λ j. IsField architecture bytes before j row) is is_field).is_row place.is_field.is_row) in
@@ -329,11 +329,11 @@ module _ (architecture : Architecture) (addresses : Addresses) (bytes : List ℕ
   fewer_apart : (n m : ℕ) → m ≤ total → AreApart architecture bytes before m
   fewer_apart n m most a b x y less under = apart a b x y less (omega (arith, under, most))
 
-  untouched_at : {n : ℕ} {now : List ℕ} → n ≤ total → AreRelocated architecture addresses bytes symbols before n now
+  untouched_at : {n : ℕ} {now : List ℕ} → n ≤ total → AreRelocated architecture addresses bytes (by_index symbols) before n now
       → AreUntouched architecture bytes before n now
-  untouched_at {n} most relocated = untouched architecture addresses bytes before symbols (fewer_apart n n most) relocated
+  untouched_at {n} most relocated = untouched architecture addresses bytes before (by_index symbols) (fewer_apart n n most) relocated
 
-  held_alone : {n : ℕ} {now : List ℕ} (relocated : AreRelocated architecture addresses bytes symbols before n now)
+  held_alone : {n : ℕ} {now : List ℕ} (relocated : AreRelocated architecture addresses bytes (by_index symbols) before n now)
       → n ≤ total → Uses relocated → (i : ℕ) (row : RelocationKindInfo) (v : ℤ) → i < n
       → found i ≡ Some (row, v) → IsField architecture bytes before i row → StandsAlone row
       → WritesRow row v (field_bytes bytes before i row before) (field_bytes bytes before i row now)
@@ -344,7 +344,7 @@ module _ (architecture : Architecture) (addresses : Addresses) (bytes : List ℕ
         | inr isnt ↦ held_alone relocated (omega (arith, most)) (used.1) i row v (omega (arith, below, isnt)) is is_field alone
       ]
   held_alone (one {n} {middle} {after} {row = other} {v = w} relocated has written) most used i row v below is is_field alone =
-      elim (step architecture addresses bytes symbols before total i row n other w middle after apart (omega (arith, below, most)) (omega (arith, most)) is_field has written) [
+      elim (step architecture addresses bytes (by_index symbols) before total i row n other w middle after apart (omega (arith, below, most)) (omega (arith, most)) is_field has written) [
         | is_kept same far ↦
             elim (cases_eq i n) [
               | inl at ↦
@@ -380,7 +380,7 @@ module _ (architecture : Architecture) (addresses : Addresses) (bytes : List ℕ
               ∙ (ap is_of_pair (sym same_row.row_is) ∙ alone.1)))
           | inr far ↦
               let first = written.pair.row in
-              let place = pair_place architecture addresses bytes before middle after symbols n (fewer_apart n (n + 2) most) (untouched_at (omega (arith, most)) relocated) written in
+              let place = pair_place architecture addresses bytes before middle after (by_index symbols) n (fewer_apart n (n + 2) most) (untouched_at (omega (arith, most)) relocated) written in
               let far_of = pair_far i row n first (meet architecture bytes before total i row n first apart (omega (arith, below, most)) (omega (arith, most)) is_field place.is_field) (alone.1) written.pair.begins (λ at. absurd (isnt at)) in
               subst (WritesRow row v (field_bytes bytes before i row before)) (sym (pair_kept bytes before i row n first middle after place.local far_of))
               (held_alone relocated (omega (arith, most)) (used.2) i row v (omega (arith, below, isnt, far)) is is_field alone)
@@ -395,9 +395,9 @@ module _ (architecture : Architecture) (addresses : Addresses) (bytes : List ℕ
     pub written : IsUlebWritten (field_bytes bytes before n first before) number (field_bytes bytes before n first after)
     pub fits : PairFits found bytes before n
 
-  pair_here : {n : ℕ} {middle : List ℕ} (after : List ℕ) (relocated : AreRelocated architecture addresses bytes symbols before n middle)
+  pair_here : {n : ℕ} {middle : List ℕ} (after : List ℕ) (relocated : AreRelocated architecture addresses bytes (by_index symbols) before n middle)
       → n + 2 ≤ total
-      → (written : IsPairWritten architecture addresses bytes symbols (relocation_in bytes n) (relocation_in bytes (n + 1)) middle after)
+      → (written : IsPairWritten architecture addresses bytes (by_index symbols) n middle after)
       → found n ≡ Some (written.pair.row, written.pair.value)
       → found (n + 1) ≡ Some (written.pair.other, written.pair.subtracted)
       → IsPairHere n written.number written.pair.row after
@@ -407,7 +407,7 @@ module _ (architecture : Architecture) (addresses : Addresses) (bytes : List ℕ
       let first = pair.row in
       let so_far = untouched_at (omega (arith, most)) relocated in
       let apart_here = fewer_apart n (n + 2) most in
-      let place = pair_place architecture addresses bytes before middle after symbols n apart_here so_far written in
+      let place = pair_place architecture addresses bytes before middle after (by_index symbols) n apart_here so_far written in
       let w = field_len first (drop p before) in
       let was = written.written.was in
       let whole : w ≡ was.last + 1 = place.len_is ∙ uleb_len_is (drop p middle) written.written.old written.written.rest was in
@@ -450,9 +450,9 @@ module _ (architecture : Architecture) (addresses : Addresses) (bytes : List ℕ
         };
       }
 
-  second_bytes : {n : ℕ} {middle : List ℕ} (after : List ℕ) (relocated : AreRelocated architecture addresses bytes symbols before n middle)
+  second_bytes : {n : ℕ} {middle : List ℕ} (after : List ℕ) (relocated : AreRelocated architecture addresses bytes (by_index symbols) before n middle)
       → n + 2 ≤ total
-      → (written : IsPairWritten architecture addresses bytes symbols (relocation_in bytes n) (relocation_in bytes (n + 1)) middle after)
+      → (written : IsPairWritten architecture addresses bytes (by_index symbols) n middle after)
       → (section : List ℕ)
       → field_bytes bytes before n written.pair.row section ≡ field_bytes bytes before (n + 1) written.pair.other section
   second_bytes {n} {middle} after relocated most written section =
@@ -462,7 +462,7 @@ module _ (architecture : Architecture) (addresses : Addresses) (bytes : List ℕ
       ap (λ w. take w (drop (offset_at bytes n) section)) (sym place.len_is)
       ∙ ap (λ p. take (field_len pair.other (drop (offset_at bytes (n + 1)) before)) (drop p section)) (sym pair.same_offset)
 
-  held_pair : {n : ℕ} {now : List ℕ} (relocated : AreRelocated architecture addresses bytes symbols before n now)
+  held_pair : {n : ℕ} {now : List ℕ} (relocated : AreRelocated architecture addresses bytes (by_index symbols) before n now)
       → n ≤ total → Uses relocated → (i : ℕ) (row : RelocationKindInfo) (v : ℤ) → i < n
       → found i ≡ Some (row, v) → IsField architecture bytes before i row → is_of_pair row ≡ true
       → OfPair (HoldsPair found bytes (field_bytes bytes before i row before) (field_bytes bytes before i row now)) n i
@@ -478,7 +478,7 @@ module _ (architecture : Architecture) (addresses : Addresses) (bytes : List ℕ
         | inl at ↦
             let same_row = one_found (found n) row other v w (ap found (sym at) ∙ is) (used.0) in
             absurd (true≢false (sym paired ∙ (ap is_of_pair same_row.row_is ∙ alone)))
-        | inr isnt ↦ elim (step architecture addresses bytes symbols before total i row n other w middle after apart (omega (arith, below, most)) (omega (arith, most)) is_field has written) [
+        | inr isnt ↦ elim (step architecture addresses bytes (by_index symbols) before total i row n other w middle after apart (omega (arith, below, most)) (omega (arith, most)) is_field has written) [
           | is_kept same far ↦
               subst (λ x. OfPair (HoldsPair found bytes (field_bytes bytes before i row before) x) (n + 1) i) (sym same)
               (of_pair_more n (n + 1) (omega arith) (held_pair relocated (omega (arith, most)) (used.1) i row v (omega (arith, below, isnt)) is is_field paired))
@@ -513,7 +513,7 @@ module _ (architecture : Architecture) (addresses : Addresses) (bytes : List ℕ
                     (record { number = written.number; pair = here.held; written = here.written })))),
               )
           | inr far ↦
-              let place = pair_place architecture addresses bytes before middle after symbols n (fewer_apart n (n + 2) most) (untouched_at (omega (arith, most)) relocated) written in
+              let place = pair_place architecture addresses bytes before middle after (by_index symbols) n (fewer_apart n (n + 2) most) (untouched_at (omega (arith, most)) relocated) written in
               let so_far = held_pair relocated (omega (arith, most)) (used.2) i row v (omega (arith, below, isnt, far)) is is_field paired in
               let kept : field_bytes bytes before i row after ≡ field_bytes bytes before i row middle =
               pair_kept bytes before i row n first middle after place.local
@@ -535,14 +535,14 @@ module _ (architecture : Architecture) (addresses : Addresses) (bytes : List ℕ
 
   pub front_at : {n : ℕ} {middle : List ℕ} (other : RelocationKindInfo) (v : ℤ) (size : RelocationSize)
       → other.size ≡ size → n + 1 ≤ total
-      → AreRelocated architecture addresses bytes symbols before n middle
-      → HasValue architecture addresses bytes symbols (relocation_in bytes n) other v
+      → AreRelocated architecture addresses bytes (by_index symbols) before n middle
+      → IsValued architecture addresses bytes (by_index symbols) n other v
       → IsSameFront size (drop (offset_at bytes n) middle) (drop (offset_at bytes n) before)
   front_at other v (ByteSize k) is most relocated has = tt
   front_at {n} {middle} other v (BitMasking bits insn) is most relocated has =
       let p = offset_at bytes n in
       let alone : is_of_pair other ≡ false = ap (λ x. begins_pair x other.kind || ends_pair x other.kind) is in
-      let some = some_value architecture addresses bytes symbols (relocation_in bytes n) other v has in
+      let some = has.valued in
       let len : field_len other (drop p before) ≡ size_len (BitMasking bits insn) = len_alone other (drop p before) some alone ∙ ap size_len is in
       let width = some_window insn in
       let is_field : IsField architecture bytes before n other = record { is_row = has.is_row; some = subst (λ k. 0 < k) (sym len) width } in
@@ -553,8 +553,8 @@ module _ (architecture : Architecture) (addresses : Addresses) (bytes : List ℕ
 
   pub same_at : {n : ℕ} {middle : List ℕ} (other : RelocationKindInfo) (v : ℤ) (size : RelocationSize)
       → other.size ≡ size → n + 1 ≤ total
-      → AreRelocated architecture addresses bytes symbols before n middle
-      → HasValue architecture addresses bytes symbols (relocation_in bytes n) other v
+      → AreRelocated architecture addresses bytes (by_index symbols) before n middle
+      → IsValued architecture addresses bytes (by_index symbols) n other v
       → HaveSameWindow size (drop (offset_at bytes n) middle) (drop (offset_at bytes n) before)
   same_at other v (ByteSize k) is most relocated has = tt
   same_at {n} {middle} other v (BitMasking bits insn) is most relocated has =
@@ -568,7 +568,7 @@ module _ (architecture : Architecture) (addresses : Addresses) (bytes : List ℕ
       × (is_of_pair row ≡ true → OfPair (PairFits found bytes before) m i)
   accepted_more n m i row most accepts = (accepts.0, λ paired. of_pair_more n m most (accepts.1 paired))
 
-  pub are_accepted : {n : ℕ} {now : List ℕ} (relocated : AreRelocated architecture addresses bytes symbols before n now)
+  pub are_accepted : {n : ℕ} {now : List ℕ} (relocated : AreRelocated architecture addresses bytes (by_index symbols) before n now)
       → n ≤ total → Uses relocated → AreAccepted found bytes before n
   are_accepted none most used i row v below is = absurd (omega (arith, below))
   are_accepted (mark {n} relocated value) most used i row v below is =
@@ -625,7 +625,7 @@ module _ (architecture : Architecture) (addresses : Addresses) (bytes : List ℕ
 
   -- ---- each field
 
-  value_held : {now : List ℕ} (relocated : AreRelocated architecture addresses bytes symbols before total now)
+  value_held : {now : List ℕ} (relocated : AreRelocated architecture addresses bytes (by_index symbols) before total now)
       → Uses relocated → ((j : ℕ) → slice_index before j < 256)
       → (i : ℕ) (row : RelocationKindInfo) (v : ℤ) → i < total
       → found i ≡ Some (row, v) → IsField architecture bytes before i row → has_value row.kind ≡ true
@@ -645,7 +645,7 @@ module _ (architecture : Architecture) (addresses : Addresses) (bytes : List ℕ
       held_number relocated (omega arith) used i row k below is_field alone valued size
       (number_small (field_bytes bytes before i row before) k (small_field bytes before i row small) most)
 
-  held : {now : List ℕ} (relocated : AreRelocated architecture addresses bytes symbols before total now)
+  held : {now : List ℕ} (relocated : AreRelocated architecture addresses bytes (by_index symbols) before total now)
       → Uses relocated → ((j : ℕ) → slice_index before j < 256)
       → (i : ℕ) (row : RelocationKindInfo) (v : ℤ) → i < total → found i ≡ Some (row, v)
       → 0 < field_len row (drop (offset_at bytes i) before)

@@ -9,10 +9,8 @@ use Rattle.linker_section.proofs.Local.{IsLocal, one_local}
 use Rattle.linker_section.proofs.Numbers.{is_word6}
 use Rattle.linker_section.proofs.Sized.{is_composing, first_composes, second_composes, alike}
 use Rattle.linker_section.proofs.Stepping.{len_alone, written_alone, drop_after}
-use Rattle.linker_section.proofs.Valued.{some_value}
 use Rattle.linker_section.specs.Fields.{IsField, field_end, field_len, begins_pair, ends_pair, is_of_pair, Composes, of_number, of_pair, AreApart}
-use Rattle.linker_section.specs.Relocations.{relocation_in}
-use Rattle.linker_section.specs.Sections.{HasValue, IsWritten}
+use Rattle.linker_section.specs.Sections.{IsValued, IsWritten, Values}
 use Rattle.linker_section.specs.Values.{offset_at}
 use Rattle.linker_section.specs.WrittenFields.{field_bytes}
 use Rattle.linker_section.specs.declared.facts.Addresses.{Addresses}
@@ -157,18 +155,18 @@ pub data IsStep (bytes before : List ℕ) (i : ℕ) (row : RelocationKindInfo) (
       → IsStep bytes before i row n other v now after
 
 pub step : (architecture : Architecture) (addresses : Addresses) (bytes : List ℕ)
-    (symbols : List Symbol) (before : List ℕ) (total i : ℕ) (row : RelocationKindInfo) (n : ℕ)
+    (values : Values) (before : List ℕ) (total i : ℕ) (row : RelocationKindInfo) (n : ℕ)
     (other : RelocationKindInfo) (v : ℤ) (now after : List ℕ)
     → AreApart architecture bytes before total → i < total → n < total
     → IsField architecture bytes before i row
-    → HasValue architecture addresses bytes symbols (relocation_in bytes n) other v
+    → IsValued architecture addresses bytes values n other v
     → IsWritten other v (offset_at bytes n) now after
     → IsStep bytes before i row n other v now after
-step architecture addresses bytes symbols before total i row n other v now after apart i_below n_below is_field has written =
+step architecture addresses bytes values before total i row n other v now after apart i_below n_below is_field has written =
     let o = offset_at bytes i in
     let w = field_len row (drop o before) in
     let p = offset_at bytes n in
-    let some = some_value architecture addresses bytes symbols (relocation_in bytes n) other v has in
+    let some = has.valued in
     let alone = written_alone other v p now after written in
     let len : field_len other (drop p before) ≡ window_len other = len_alone other (drop p before) some alone in
     let local = one_local other v p now after written in

@@ -11,8 +11,7 @@ use Rattle.linker_section.proofs.Fronts.{some_window, HaveSameWindow}
 use Rattle.linker_section.specs.Conditions.{HasLength, HoldsOffset, holds_offset, is_12_bits, is_thread_based, is_tp_off, shows, shows_length}
 use Rattle.linker_section.specs.Fields.{is_of_pair}
 use Rattle.linker_section.specs.Inner.Facts.{word_shows}
-use Rattle.linker_section.specs.Relocations.{relocation_in}
-use Rattle.linker_section.specs.Sections.{HasValue, IsOtherLength, IsUnwritable}
+use Rattle.linker_section.specs.Sections.{IsValued, IsOtherLength, IsUnwritable, Values}
 use Rattle.linker_section.specs.Values.{offset_at}
 use Rattle.linker_section.specs.declared.facts.Addresses.{Addresses}
 use Rattle.linker_section.specs.declared.facts.Symbol.{Symbol}
@@ -26,11 +25,11 @@ length_of row offset section result is holds = is.0 holds
 
 -- what isn't so is another length, in the section
 pub other_length : (architecture : Architecture) (addresses : Addresses) (bytes : List ℕ)
-    (symbols : List Symbol) (i : ℕ) (now : List ℕ) (row : RelocationKindInfo) (v : ℤ)
-    → HasValue architecture addresses bytes symbols (relocation_in bytes i) row v
+    (values : Values) (i : ℕ) (now : List ℕ) (row : RelocationKindInfo) (v : ℤ)
+    → IsValued architecture addresses bytes values i row v
     → (HasLength row (offset_at bytes i) now → ⊥)
-    → IsOtherLength architecture addresses bytes symbols i now
-other_length architecture addresses bytes symbols i now row v has isnt =
+    → IsOtherLength architecture addresses bytes values i now
+other_length architecture addresses bytes values i now row v has isnt =
     let o = offset_at bytes i in
     elim (cases_lt (length now) o) [
       | inl past ↦ absurd (isnt (λ inside. absurd (omega (arith, past, inside))))

@@ -12,8 +12,10 @@ pub mod Held
 pub mod Lengths
 pub mod Local
 pub mod Numbers
+pub mod QuickResolved
 pub mod QuickValues
 pub mod Reaching
+pub mod ResolvedValues
 pub mod Rows
 pub mod Runs
 pub mod Saving

@@ -7,10 +7,11 @@ use Rattle.linker_elf.specs.Relocate.{is_of_uleb128}
 use Rattle.linker_elf.specs.declared.elf.RelocationInstruction.TheVariants.{AArch64}
 use Rattle.linker_section.proofs.Ulebs.{uleb_len_is, same_last}
 use Rattle.linker_section.specs.Fields.{uleb_len}
-use Rattle.linker_section.specs.Sections.{IsWritten, IsPairWritten}
+use Rattle.linker_section.specs.Sections.{IsWritten, IsPairWritten, Values}
 use Rattle.linker_section.specs.declared.facts.Addresses.{Addresses}
 use Rattle.linker_section.specs.declared.facts.Symbol.{Symbol}
 use Rattle.linker_section.specs.declared.relocations.Rela.{Rela}
+use Rattle.linker_section.specs.Values.{offset_at}
 
 -- of a section only the bytes from an offset on change, as many as a field has
 pub record IsLocal (offset len : ℕ) (before after : List ℕ) : Type 0 where
@@ -84,11 +85,11 @@ one_local row v offset before after w =
 -- ---- a pair
 
 pub pair_local : (architecture : Architecture) (addresses : Addresses) (bytes : List ℕ)
-    (symbols : List Symbol) (first second : Rela) (before after : List ℕ)
-    → IsPairWritten architecture addresses bytes symbols first second before after
-    → IsLocal first.offset (uleb_len (take 10 (drop first.offset before))) before after
-pair_local architecture addresses bytes symbols first second before after w =
-    let offset = first.offset in
+    (values : Values) (first : ℕ) (before after : List ℕ)
+    → IsPairWritten architecture addresses bytes values first before after
+    → IsLocal (offset_at bytes first) (uleb_len (take 10 (drop (offset_at bytes first) before))) before after
+pair_local architecture addresses bytes values first before after w =
+    let offset = offset_at bytes first in
     let there = drop offset before in
     let n = length-take-le offset before w.inside in
     let same = w.written.same_length in

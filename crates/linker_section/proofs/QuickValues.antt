@@ -9,7 +9,7 @@ use Rattle.linker_elf.specs.declared.elf.facts.Way.TheVariants as ways
 use Rattle.linker_section.specs.Conditions.{is_tp_off, lacks_stub, needs_upper}
 use Rattle.linker_section.specs.Fields.{is_of_pair}
 use Rattle.linker_section.specs.Inner.Facts.{When, SaysWay, is_plain_way, is_offset_way, is_high_way, is_plain, is_high, is_low, is_quick}
-use Rattle.linker_section.specs.Inner.Quick.{IsPlainValue, IsQuickValue, IsHighValue, HasHighValue}
+use Rattle.linker_section.specs.Inner.Quick.{IsPlainValue, IsQuickAt, IsQuickValue, IsHighValue, HasHighValue}
 use Rattle.linker_section.specs.Needed.{may_use_stub}
 use Rattle.linker_section.specs.Relocations.{relocation_in}
 use Rattle.linker_section.specs.Values.{has_value, names_label, is_high_part, is_defined, lacks_origin, operands_of, value_by, own_value, low_by, low_value, low_operands, offset_at, IsHighPart, IsHighPartAt, IsValueBy, IsLowValue, address_of, target_of}
@@ -18,11 +18,12 @@ use Rattle.linker_section.specs.declared.facts.Symbol.{Symbol}
 use Rattle.linker_section.specs.declared.quick.HighPart.{HighPart}
 use Rattle.linker_section.specs.declared.relocations.Rela.{Rela}
 use Rattle.linker_section.specs.declared.values.ValueError.{ValueError}
+use Rattle.linker_section.specs.Sections.{by_index}
 
 pub when_true : {A : Type 0} (test : Bool) (x y : A) → When test x y → test ≡ true → x ≡ y
 when_true test x y is holds = sym (cond-true test x y holds) ∙ is
 
-and_false : (a b c : Bool) → (a && b) ≡ false → (a && (b && c)) ≡ false
+pub and_false : (a b c : Bool) → (a && b) ≡ false → (a && (b && c)) ≡ false
 and_false false b c isnt = refl
 and_false true false c isnt = refl
 and_false true true c isnt = absurd (true≢false isnt)
@@ -116,6 +117,19 @@ low_quick architecture addresses bytes symbols r row v high is_row way low keeps
       single = when_true (is_quick row) (is_of_pair row) false way.single quick;
       some = ltb-true 0 (window_len row) (when_true (is_quick row) _ true way.some quick);
       unthreaded = when_true (is_quick row) (is_tp_off row.kind) false way.unthreaded quick;
+    }
+
+-- the same of the relocation at an index
+pub quick_at : (architecture : Architecture) (addresses : Addresses) (bytes : List ℕ)
+    (symbols : List Symbol) (i : ℕ) (row : RelocationKindInfo) (v : ℤ)
+    → IsQuickValue architecture addresses bytes symbols (relocation_in bytes i) row v
+    → IsQuickAt architecture addresses bytes (by_index symbols) i row v
+quick_at architecture addresses bytes symbols i row v quick =
+    record {
+      has = record { is_row = quick.has.is_row; valued = quick.valued; is_value = quick.has };
+      single = quick.single;
+      some = quick.some;
+      unthreaded = quick.unthreaded;
     }
 
 -- ---- a high part of RISC-V

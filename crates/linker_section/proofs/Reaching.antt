@@ -15,13 +15,13 @@ use Rattle.linker_section.specs.Inner.Steps.{Ascends, IsLimit, Reached, clear_in
 use Rattle.linker_section.specs.Sections.{AreAllRelocated, AreRelocated, IsWritten, IsWrittenAt}
 use Rattle.linker_section.specs.Values.{offset_at}
 use Rattle.linker_section.specs.declared.facts.Addresses.{Addresses}
-use Rattle.linker_section.specs.declared.facts.Symbol.{Symbol}
 use Rattle.linker_section.specs.declared.fields.Field.{Field}
+use Rattle.linker_section.specs.Sections.{AreAllRelocatedBy, Values}
 
 pub below_first : (architecture : Architecture) (addresses : Addresses) (bytes : List ℕ)
-    (symbols : List Symbol) (before memory : List ℕ)
-    → AreWrittenBelow architecture addresses bytes symbols before before memory 0
-below_first architecture addresses bytes symbols before memory =
+    (values : Values) (before memory : List ℕ)
+    → AreWrittenBelow architecture addresses bytes values before before memory 0
+below_first architecture addresses bytes values before memory =
     record {
       within = omega arith;
       relocated = AreRelocated.none;
@@ -30,44 +30,44 @@ below_first architecture addresses bytes symbols before memory =
     }
 
 pub reached_first : (architecture : Architecture) (addresses : Addresses) (bytes : List ℕ)
-    (symbols : List Symbol) (limit : Option ℕ) (before memory : List ℕ)
+    (values : Values) (limit : Option ℕ) (before memory : List ℕ)
     → IsLimit architecture bytes before limit
-    → Reached architecture addresses bytes symbols limit before before memory 0 (record { offset = 0; len = 0; kind = kinds.None })
-reached_first architecture addresses bytes symbols limit before memory is_limit =
+    → Reached architecture addresses bytes values limit before before memory 0 (record { offset = 0; len = 0; kind = kinds.None })
+reached_first architecture addresses bytes values limit before memory is_limit =
     record {
       is_limit = is_limit;
-      below = below_first architecture addresses bytes symbols before memory;
+      below = below_first architecture addresses bytes values before memory;
       order = first_order limit architecture bytes before;
     }
 
 pub all_written : (architecture : Architecture) (addresses : Addresses) (bytes : List ℕ)
-    (symbols : List Symbol) (before now memory : List ℕ) (i : ℕ)
-    → AreWrittenBelow architecture addresses bytes symbols before now memory i
+    (values : Values) (before now memory : List ℕ) (i : ℕ)
+    → AreWrittenBelow architecture addresses bytes values before now memory i
     → AreApart architecture bytes before i → length bytes / 24 ≤ i
-    → AreAllRelocated architecture addresses bytes symbols before now
-all_written architecture addresses bytes symbols before now memory i below apart following =
+    → AreAllRelocatedBy architecture addresses bytes values before now
+all_written architecture addresses bytes values before now memory i below apart following =
     let within = below.within in
     let all : i ≡ length bytes / 24 = omega (arith, following, within) in
-    all_relocated architecture addresses bytes before now symbols
+    all_relocated architecture addresses bytes before now values
     (subst (AreApart architecture bytes before) all apart)
-    (subst (λ n. AreRelocated architecture addresses bytes symbols before n now) all below.relocated)
+    (subst (λ n. AreRelocated architecture addresses bytes values before n now) all below.relocated)
 
 pub reached_all : (architecture : Architecture) (addresses : Addresses) (bytes : List ℕ)
-    (symbols : List Symbol) (limit : Option ℕ) (before now memory : List ℕ) (i : ℕ) (last : Field)
-    → Reached architecture addresses bytes symbols limit before now memory i last
-    → length bytes / 24 ≤ i → AreAllRelocated architecture addresses bytes symbols before now
-reached_all architecture addresses bytes symbols limit before now memory i last reached following =
-    all_written architecture addresses bytes symbols before now memory i reached.below
+    (values : Values) (limit : Option ℕ) (before now memory : List ℕ) (i : ℕ) (last : Field)
+    → Reached architecture addresses bytes values limit before now memory i last
+    → length bytes / 24 ≤ i → AreAllRelocatedBy architecture addresses bytes values before now
+reached_all architecture addresses bytes values limit before now memory i last reached following =
+    all_written architecture addresses bytes values before now memory i reached.below
     (apart_now limit architecture bytes before now i last reached.is_limit reached.order) following
 
 -- the section stays, and what is kept of earlier relocations
 pub below_kept : (architecture : Architecture) (addresses : Addresses) (bytes : List ℕ)
-    (symbols : List Symbol) (before now after memory other : List ℕ) (i : ℕ) → after ≡ now
+    (values : Values) (before now after memory other : List ℕ) (i : ℕ) → after ≡ now
     → ((k : ℕ) → k < i → slice_index other k ≡ slice_index memory k)
-    → AreWrittenBelow architecture addresses bytes symbols before now memory i
-    → AreWrittenBelow architecture addresses bytes symbols before after other i
-below_kept architecture addresses bytes symbols before now after memory other i same kept below =
-    subst (λ section. AreWrittenBelow architecture addresses bytes symbols before section other i) (sym same)
+    → AreWrittenBelow architecture addresses bytes values before now memory i
+    → AreWrittenBelow architecture addresses bytes values before after other i
+below_kept architecture addresses bytes values before now after memory other i same kept below =
+    subst (λ section. AreWrittenBelow architecture addresses bytes values before section other i) (sym same)
     (record {
       within = below.within;
       relocated = below.relocated;
@@ -77,13 +77,13 @@ below_kept architecture addresses bytes symbols before now after memory other i 
 
 -- one value is written that is found by the number of its code
 pub below_quickly : (architecture : Architecture) (addresses : Addresses) (bytes : List ℕ)
-    (symbols : List Symbol) (before now after memory other : List ℕ) (i end next : ℕ)
+    (values : Values) (before now after memory other : List ℕ) (i end next : ℕ)
     → i < length bytes / 24 → i < length memory
-    → IsQuickStep architecture addresses bytes symbols i end now after memory other next
-    → AreWrittenBelow architecture addresses bytes symbols before now memory i
-    → AreWrittenBelow architecture addresses bytes symbols before after other (i + 1)
-below_quickly architecture addresses bytes symbols before now after memory other i end next there room step below =
-    subst (λ kept. AreWrittenBelow architecture addresses bytes symbols before after kept (i + 1)) (sym step.kept_is)
+    → IsQuickStep architecture addresses bytes values i end now after memory other next
+    → AreWrittenBelow architecture addresses bytes values before now memory i
+    → AreWrittenBelow architecture addresses bytes values before after other (i + 1)
+below_quickly architecture addresses bytes values before now after memory other i end next there room step below =
+    subst (λ kept. AreWrittenBelow architecture addresses bytes values before after kept (i + 1)) (sym step.kept_is)
     (record {
       within = omega (arith, there);
       relocated = AreRelocated.one below.relocated step.value.has step.written;
@@ -120,12 +120,12 @@ front_first architecture bytes before =
 
 -- after a value that is written quickly
 pub front_quickly : (architecture : Architecture) (addresses : Addresses) (bytes : List ℕ)
-    (symbols : List Symbol) (before now after memory other : List ℕ) (i end next : ℕ) (step : Step)
+    (values : Values) (before now after memory other : List ℕ) (i end next : ℕ) (step : Step)
     → step.index ≤ i → length now ≡ length before
-    → IsQuickStep architecture addresses bytes symbols i end now after memory other next
+    → IsQuickStep architecture addresses bytes values i end now after memory other next
     → IsFront architecture bytes before now i step end
     → IsFront architecture bytes before after (i + 1) step next
-front_quickly architecture addresses bytes symbols before now after memory other i end next step later same_length quick front =
+front_quickly architecture addresses bytes values before now after memory other i end next step later same_length quick front =
     let o = offset_at bytes i in
     let row = quick.row in
     let last = front.last in
@@ -135,7 +135,7 @@ front_quickly architecture addresses bytes symbols before now after memory other
     let following = quick.following in
     let within = front.within in
     let same : field_of_row row o now ≡ field =
-    ap (λ n. record { offset = o; len = n; kind = row.kind }) (len_alone row (drop o now) value.valued value.single) in
+    ap (λ n. record { offset = o; len = n; kind = row.kind }) (len_alone row (drop o now) value.has.valued value.single) in
     let next_is : next_field (field_of_row row o now) last ≡ field =
     ap (λ f. next_field f last) same
     ∙ cond-false (eqb (window_len row) 0) last field (ne_eqb (window_len row) 0 (λ e. omega (arith, e, some))) in
@@ -148,7 +148,7 @@ front_quickly architecture addresses bytes symbols before now after memory other
     record {
       last = field;
       order = subst (Ascends architecture bytes before after (i + 1)) next_is
-          (ascends_one architecture bytes before now after i last row quick.v front.order below same_length value.has.is_row value.valued clear_now quick.written);
+          (ascends_one architecture bytes before now after i last row quick.v front.order below same_length value.has.is_row value.has.valued clear_now quick.written);
       is_last = record {
         same = λ is. absurd (omega (arith, is, later));
         own = λ differs k here. subst (λ x. IsOwnField architecture bytes x field) (omega (arith, here))
@@ -173,43 +173,43 @@ front_slowly architecture bytes before now step order =
 
 -- all are written
 pub runs_written : (architecture : Architecture) (addresses : Addresses) (bytes : List ℕ)
-    (symbols : List Symbol) (before now memory : List ℕ) (i : ℕ)
-    → AreWrittenBelow architecture addresses bytes symbols before now memory i
+    (values : Values) (before now memory : List ℕ) (i : ℕ)
+    → AreWrittenBelow architecture addresses bytes values before now memory i
     → length bytes / 24 ≤ i
     → ((section : List ℕ) → AreSmall architecture bytes section
     → AreApart architecture bytes section (length bytes / 24))
-    → AreAllRelocated architecture addresses bytes symbols before now
-runs_written architecture addresses bytes symbols before now memory i below end apart =
+    → AreAllRelocatedBy architecture addresses bytes values before now
+runs_written architecture addresses bytes values before now memory i below end apart =
     let within = below.within in
     let all : length bytes / 24 ≡ i = omega (arith, within, end) in
-    all_written architecture addresses bytes symbols before now memory i below
+    all_written architecture addresses bytes values before now memory i below
     (subst (AreApart architecture bytes before) all
-    (apart before (λ k row under. fields_small architecture addresses bytes before symbols below.relocated k row (omega (arith, under, all))))) end
+    (apart before (fields_small architecture bytes before))) end
 
 pub first_run : (architecture : Architecture) (addresses : Addresses) (bytes : List ℕ)
-    (symbols : List Symbol) (before now memory : List ℕ) (i : ℕ) → i < length bytes / 24
-    → AreWrittenBelow architecture addresses bytes symbols before now memory i
-    → IsFirstRun architecture addresses bytes symbols before now memory i
-first_run architecture addresses bytes symbols before now memory i there below =
+    (values : Values) (before now memory : List ℕ) (i : ℕ) → i < length bytes / 24
+    → AreWrittenBelow architecture addresses bytes values before now memory i
+    → IsFirstRun architecture addresses bytes values before now memory i
+first_run architecture addresses bytes values before now memory i there below =
     record { below = below; within = below.within; all = λ is. absurd (omega (arith, is, there)) }
 
 pub only_run : (architecture : Architecture) (addresses : Addresses) (bytes : List ℕ)
-    (symbols : List Symbol) (before now memory : List ℕ) (i : ℕ)
-    → AreWrittenBelow architecture addresses bytes symbols before now memory i
+    (values : Values) (before now memory : List ℕ) (i : ℕ)
+    → AreWrittenBelow architecture addresses bytes values before now memory i
     → AreApart architecture bytes before i → length bytes / 24 ≤ i
-    → IsFirstRun architecture addresses bytes symbols before now memory i
-only_run architecture addresses bytes symbols before now memory i below apart end =
+    → IsFirstRun architecture addresses bytes values before now memory i
+only_run architecture addresses bytes values before now memory i below apart end =
     record {
       below = below;
       within = below.within;
-      all = λ is. all_written architecture addresses bytes symbols before now memory i below apart end;
+      all = λ is. all_written architecture addresses bytes values before now memory i below apart end;
     }
 
 pub end_fits : (architecture : Architecture) (addresses : Addresses) (bytes : List ℕ)
-    (symbols : List Symbol) (before now memory : List ℕ) (i : ℕ) (last : Field)
-    → Reached architecture addresses bytes symbols None before now memory i last
+    (values : Values) (before now memory : List ℕ) (i : ℕ) (last : Field)
+    → Reached architecture addresses bytes values None before now memory i last
     → length before < 2 ^ 63 → last.offset < 2 ^ 64 → last.offset + last.len < 2 ^ 64
-end_fits architecture addresses bytes symbols before now memory i last reached long fits =
+end_fits architecture addresses bytes values before now memory i last reached long fits =
     elim (cases_eq last.len 0) [
       | inl none ↦ omega (arith, none, fits)
       | inr some ↦ let inside = reached.order.inside (omega (arith, some)) in omega (arith, inside, long)

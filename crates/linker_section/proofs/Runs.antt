@@ -2,19 +2,15 @@
 use Rattle.std.proofs.Common.{◌≡◌, ℕ, ◌+◌, ◌/◌, ◌<◌, ◌≤◌, List, length, drop, Some, true, false, sym, ap, subst, inl, inr, arith}
 use Rattle.linker_section.proofs.Imports.{cases_eq, cases_lt, cases_Bool, cond-false, or_left, or_right, window_len, RelocationKindInfo, IsRow, Architecture}
 use Rattle.linker_section.proofs.Claims.{OneMore}
-use Rattle.linker_section.proofs.Local.{small_row}
-use Rattle.linker_section.proofs.Rows.{one_info}
-use Rattle.linker_section.proofs.Stepping.{len_alone, len_paired, no_field, written_alone}
+use Rattle.linker_section.proofs.RowFacts.{says_way}
+use Rattle.linker_section.proofs.Stepping.{len_alone, len_paired}
 use Rattle.linker_section.proofs.Ulebs.{uleb_len_most}
-use Rattle.linker_section.proofs.Valued.{mark_none}
-use Rattle.linker_section.specs.Fields.{IsField, field_end, field_len, begins_pair, is_of_pair, AreApart}
+use Rattle.linker_section.specs.Fields.{IsField, field_end, field_len, is_of_pair, AreApart}
 use Rattle.linker_section.specs.Inner.Order.{IsPast, AreSmall, IsOfRuns, ArePast}
 use Rattle.linker_section.specs.Relocations.{relocation_in}
-use Rattle.linker_section.specs.Sections.{AreRelocated, none, mark, one, pair}
 use Rattle.linker_section.specs.Values.{has_value, offset_at}
-use Rattle.linker_section.specs.declared.facts.Addresses.{Addresses}
-use Rattle.linker_section.specs.declared.facts.Symbol.{Symbol}
 use Rattle.linker_section.specs.declared.relocations.Rela.{Rela}
+use Rattle.std.proofs.lemmas.Bool.{ltb-true}
 
 -- ---- fields are small
 
@@ -34,48 +30,16 @@ pair_within row there paired =
       | inr isnt ↦ let e : field_len row there ≡ 0 = cond-false {A = ℕ} (has_value row.kind) _ 0 isnt in omega (arith, e)
     ]
 
--- those whose values are written
-pub fields_small : (architecture : Architecture) (addresses : Addresses) (bytes before : List ℕ)
-    (symbols : List Symbol) {n : ℕ} {now : List ℕ}
-    → AreRelocated architecture addresses bytes symbols before n now
-    → (i : ℕ) (row : RelocationKindInfo) → i < n → IsField architecture bytes before i row
-    → field_len row (drop (offset_at bytes i) before) ≤ 10
-fields_small architecture addresses bytes before symbols none i row below is_field = absurd (omega (arith, below))
-fields_small architecture addresses bytes before symbols (mark {n} {middle} relocated value) i row below is_field =
-    elim (cases_eq i n) [
-      | inl is ↦
-          absurd (no_field architecture addresses bytes before symbols n row
-          (mark_none architecture addresses bytes symbols (relocation_in bytes n) value)
-          (subst (λ x. IsField architecture bytes before x row) is is_field))
-      | inr isnt ↦ fields_small architecture addresses bytes before symbols relocated i row (omega (arith, below, isnt)) is_field
-    ]
-fields_small architecture addresses bytes before symbols (one {n} {middle} {after} {row} {v} relocated has written) i own below is_field =
-    elim (cases_eq i n) [
-      | inl is ↦
-          let same : own ≡ row = one_info architecture _ own row
-          (subst (λ x. IsRow architecture (relocation_in bytes x).code (Some own)) is is_field.is_row) has.is_row in
-          let small = small_row row v (drop (offset_at bytes n) middle) written.rest written.written in
-          let within = len_within own (drop (offset_at bytes i) before)
-          (subst (λ x. is_of_pair x ≡ false) (sym same) (written_alone row v (offset_at bytes n) middle after written)) in
-          let window = ap window_len same in
-          omega (arith, small, within, window)
-      | inr isnt ↦ fields_small architecture addresses bytes before symbols relocated i own (omega (arith, below, isnt)) is_field
-    ]
-fields_small architecture addresses bytes before symbols (pair {n} {middle} {after} relocated written) i row below is_field =
-    let both = written.pair in
-    elim (cases_lt i n) [
-      | inl under ↦ fields_small architecture addresses bytes before symbols relocated i row under is_field
-      | inr over ↦ pair_within row (drop (offset_at bytes i) before) (elim (cases_eq i n) [
-        | inl is ↦
-            let same : both.row ≡ row = one_info architecture _ both.row row both.has_value.is_row
-            (subst (λ x. IsRow architecture (relocation_in bytes x).code (Some row)) is is_field.is_row) in
-            subst (λ x. is_of_pair x ≡ true) same (or_left (begins_pair both.row.size both.row.kind) _ both.begins)
-        | inr isnt ↦
-            let next : i ≡ n + 1 = omega (arith, below, over, isnt) in
-            let same : both.other ≡ row = one_info architecture _ both.other row both.has_subtracted.is_row
-            (subst (λ x. IsRow architecture (relocation_in bytes x).code (Some row)) next is_field.is_row) in
-            subst (λ x. is_of_pair x ≡ true) same (or_right (begins_pair both.other.size both.other.kind) _ both.ends)
-      ])
+pub fields_small : (architecture : Architecture) (bytes section : List ℕ)
+    → AreSmall architecture bytes section
+fields_small architecture bytes section i row below is_field =
+    let there = drop (offset_at bytes i) section in
+    elim (cases_Bool (is_of_pair row)) [
+      | inl paired ↦ pair_within row there paired
+      | inr alone ↦
+          let within = len_within row there alone in
+          let narrow = ltb-true (window_len row) 11 (says_way architecture _ row is_field.is_row).narrow in
+          omega (arith, within, narrow)
     ]
 
 -- ---- one more field

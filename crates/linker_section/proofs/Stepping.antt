@@ -9,19 +9,23 @@ use Rattle.linker_section.proofs.Local.{IsLocal, one_local, pair_local, small_ro
 use Rattle.linker_section.proofs.Saving.{undone, restores_more, restores_by, restores_local, restores_pair, plus_one}
 use Rattle.linker_section.specs.Inner.Saved.{IsSavedAt, with_word, saved_place, Restores}
 use Rattle.linker_section.specs.declared.sections.RelocationError.{RelocationError}
+use Rattle.linker_section.specs.declared.sections.RelocationError.TheVariants.{Overlaps, Write}
+use Rattle.linker_section.specs.declared.sections.Step.{Step}
+use Rattle.linker_elf.specs.declared.elf.relocate.RelocateError.TheVariants.{TooShort}
 use Rattle.linker_section.specs.declared.sections.SectionError.{SectionError}
 use Rattle.linker_section.proofs.Rows.{one_info}
 use Rattle.linker_section.proofs.Ulebs.{some_uleb, uleb_len_is, uleb_len_most}
 use Rattle.linker_section.proofs.Valued.{no_value}
 use Rattle.linker_section.specs.Fields.{IsField, continues, field_end, field_len, begins_pair, ends_pair, is_of_pair, uleb_len, of_number, of_pair, AreApart, IsOverlapped}
 use Rattle.linker_section.specs.Inner.Claims.{is_clear_of, next_field, AreClaimed, HasField}
-use Rattle.linker_section.specs.Inner.Steps.{Ascends, IsInOrder, IsLimit, IsStopped, Reached, clear_in, field_of_row}
+use Rattle.linker_section.specs.Inner.Steps.{AreWrittenBelow, Ascends, HasNoValue, IsAlone, IsInOrder, IsLeftOut, IsLimit, IsStep, IsStopped, Reached, clear_in, field_of_row}
 use Rattle.linker_section.specs.Relocations.{relocation_in}
-use Rattle.linker_section.specs.Sections.{IsWritten, BeginsPair, IsPairWritten, IsFirstRejected, IsCauseAt}
-use Rattle.linker_section.specs.Values.{has_value, offset_at, IsValue}
+use Rattle.linker_section.specs.Sections.{IsWritten, BeginsPair, IsPairWritten, IsFirstRejectedBy, IsCauseAt, Values}
+use Rattle.linker_section.specs.Values.{has_value, offset_at}
 use Rattle.linker_section.specs.declared.facts.Addresses.{Addresses}
 use Rattle.linker_section.specs.declared.facts.Symbol.{Symbol}
 use Rattle.linker_section.specs.declared.fields.Field.{Field}
+use Rattle.std.specs.Prelude.{Err, Result}
 
 -- ---- the length of a field
 
@@ -116,6 +120,35 @@ clear_field architecture bytes before now k last row order same is_row has after
         }) is
       ]
     ]
+
+-- a field has a value
+pub field_valued : (architecture : Architecture) (bytes section : List ℕ) (k : ℕ)
+    (row : RelocationKindInfo) → IsField architecture bytes section k row
+    → has_value row.kind ≡ true
+field_valued architecture bytes section k row is_field =
+    elim (cases_Bool (has_value row.kind)) [
+      | inl has ↦ has
+      | inr none ↦
+          let s = is_field.some in
+          let e : field_len row (drop (offset_at bytes k) section) ≡ 0 = cond-false {A = ℕ} (has_value row.kind) _ 0 none in
+          absurd (omega (arith, s, e))
+    ]
+
+-- one that isn't of a pair is as long in any section
+pub alone_field : (architecture : Architecture) (bytes section other : List ℕ) (k : ℕ)
+    (row : RelocationKindInfo) → is_of_pair row ≡ false → IsField architecture bytes section k row
+    → IsField architecture bytes other k row
+alone_field architecture bytes section other k row alone is_field =
+    let has = field_valued architecture bytes section k row is_field in
+    let o = offset_at bytes k in
+    let s = is_field.some in
+    let a = len_alone row (drop o section) has alone in
+    let b = len_alone row (drop o other) has alone in
+    record { is_row = is_field.is_row; some = omega (arith, s, a, b) }
+
+pub next_some : (field last : Field) → 0 < field.len → next_field field last ≡ field
+next_some field last some =
+    cond-false (eqb field.len 0) last field (ne_eqb field.len 0 (λ e. omega (arith, e, some)))
 
 -- ---- where relocations ascend
 
@@ -264,32 +297,58 @@ ascends_one architecture bytes before now after k last row v order below same is
 
 -- ---- a relocation without a value
 
-pub no_field : (architecture : Architecture) (addresses : Addresses) (bytes before : List ℕ)
-    (symbols : List Symbol) (k : ℕ) (row : RelocationKindInfo)
-    → IsValue architecture addresses bytes symbols (relocation_in bytes k) (Ok None)
+pub no_field : (architecture : Architecture) (bytes before : List ℕ) (k : ℕ)
+    (row : RelocationKindInfo) → HasNoValue architecture bytes k
     → IsField architecture bytes before k row → ⊥
-no_field architecture addresses bytes before symbols k row value is_field =
+no_field architecture bytes before k row none is_field =
     let s = is_field.some in
-    let has = no_value architecture addresses bytes symbols (relocation_in bytes k) row value is_field.is_row in
+    let has = none row is_field.is_row in
     let e : field_len row (drop (offset_at bytes k) before) ≡ 0 = cond-false {A = ℕ} (has_value row.kind) _ 0 has in
     omega (arith, s, e)
 
-ascends_mark : (architecture : Architecture) (addresses : Addresses) (bytes before now : List ℕ)
-    (symbols : List Symbol) (k : ℕ) (last : Field) → Ascends architecture bytes before now k last
-    → IsValue architecture addresses bytes symbols (relocation_in bytes k) (Ok None)
+ascends_mark : (architecture : Architecture) (bytes before now : List ℕ) (k : ℕ) (last : Field)
+    → Ascends architecture bytes before now k last → IsAlone architecture bytes k
+    → ((row : RelocationKindInfo) → IsField architecture bytes before k row → ⊥)
     → Ascends architecture bytes before now (k + 1) last
-ascends_mark architecture addresses bytes before now symbols k last order value =
-    let none : (row : RelocationKindInfo) → IsField architecture bytes before k row → ⊥ =
-    λ row is_field. no_field architecture addresses bytes before symbols k row value is_field in
+ascends_mark architecture bytes before now k last order alone none =
     record {
       apart = apart_mark architecture bytes before k none order.apart;
       claimed = claimed_mark architecture bytes before k last none order.claimed;
       no_pair = λ i row here is_row.
           let at : i ≡ k = omega (arith, here) in
-          unvalued_begins_none row.size row.kind
-          (no_value architecture addresses bytes symbols (relocation_in bytes k) row value (subst (λ x. IsRow architecture (relocation_in bytes x).code (Some row)) at is_row));
+          (or_parts (begins_pair row.size row.kind) (ends_pair row.size row.kind) (alone row (subst (λ x. IsRow architecture (relocation_in bytes x).code (Some row)) at is_row))).0;
       inside = order.inside;
       following = order.following;
+    }
+
+-- ---- a relocation that is left out, with a field in the section
+
+ascends_left : (architecture : Architecture) (bytes before now : List ℕ) (k : ℕ) (last : Field)
+    (row : RelocationKindInfo) → Ascends architecture bytes before now k last
+    → last.offset ≤ offset_at bytes k → length now ≡ length before
+    → IsRow architecture (relocation_in bytes k).code (Some row) → has_value row.kind ≡ true
+    → is_of_pair row ≡ false → offset_at bytes k + window_len row ≤ length now
+    → clear_in None k (field_of_row row (offset_at bytes k) now) last ≡ true
+    → Ascends architecture bytes before now (k + 1) (next_field (field_of_row row (offset_at bytes k) now) last)
+ascends_left architecture bytes before now k last row order below same is_row has alone inside clear =
+    let o = offset_at bytes k in
+    let field = field_of_row row o now in
+    let is = clear_field architecture bytes before now k last row order same is_row has below clear in
+    let len : field.len ≡ window_len row = len_alone row (drop o now) has alone in
+    let following = next_is architecture bytes before k last field row below is in
+    record {
+      apart = apart_after architecture bytes before now k last field row order below refl is;
+      claimed = claimed_after architecture bytes before now k last field row order below refl is;
+      no_pair = λ i other here is_other.
+          let at : i ≡ k = omega (arith, here) in
+          let one : row ≡ other = one_info architecture _ row other is_row (subst (λ x. IsRow architecture (relocation_in bytes x).code (Some other)) at is_other) in
+          subst (λ x. begins_pair x.size x.kind ≡ false) one (or_parts (begins_pair row.size row.kind) (ends_pair row.size row.kind) alone).0;
+      inside = λ some. elim following.is_one [
+        | inl is_last ↦ let a = order.inside (let l = ap (λ f. f.len) is_last in omega (arith, some, l)) in
+            let e = ap (λ f. f.offset) is_last in let l = ap (λ f. f.len) is_last in omega (arith, a, e, l)
+        | inr is_field ↦ let e = ap (λ f. f.offset) (is_field.0) in let l = ap (λ f. f.len) (is_field.0) in omega (arith, inside, len, e, l, same)
+      ];
+      following = λ offset from. let end = following.end in order.following offset (omega (arith, end, from));
     }
 
 -- ---- in either order
@@ -309,20 +368,19 @@ first_order None architecture bytes before =
     }
 first_order (Some limit) architecture bytes before = omega arith
 
-pub mark_order : (limit : Option ℕ) (architecture : Architecture) (addresses : Addresses)
-    (bytes before now : List ℕ) (symbols : List Symbol) (k : ℕ) (last : Field)
-    → IsLimit architecture bytes before limit
+pub mark_order : (limit : Option ℕ) (architecture : Architecture) (bytes before now : List ℕ)
+    (k : ℕ) (last : Field) → IsLimit architecture bytes before limit
     → IsInOrder limit architecture bytes before now k last → k < length bytes / 24
-    → IsValue architecture addresses bytes symbols (relocation_in bytes k) (Ok None)
+    → IsAlone architecture bytes k
+    → ((row : RelocationKindInfo) → IsField architecture bytes before k row → ⊥)
     → IsInOrder limit architecture bytes before now (k + 1) last
-mark_order None architecture addresses bytes before now symbols k last is_limit order there value =
-    ascends_mark architecture addresses bytes before now symbols k last order value
-mark_order (Some limit) architecture addresses bytes before now symbols k last is_limit order there value =
+mark_order None architecture bytes before now k last is_limit order there alone none =
+    ascends_mark architecture bytes before now k last order alone none
+mark_order (Some limit) architecture bytes before now k last is_limit order there alone none =
     elim (cases_eq k limit) [
       | inl same ↦
           let at = is_limit.1 (omega (arith, same, there)) in
-          absurd (no_field architecture addresses bytes before symbols k at.other value
-          (subst (λ x. IsField architecture bytes before x at.other) (sym same) at.is_other))
+          absurd (none at.other (subst (λ x. IsField architecture bytes before x at.other) (sym same) at.is_other))
       | inr isnt ↦ omega (arith, order, isnt)
     ]
 
@@ -369,6 +427,20 @@ pub one_order : (limit : Option ℕ) (architecture : Architecture) (bytes before
 one_order None architecture bytes before now after k last row v is_limit order there below same is_row has clear written =
     ascends_one architecture bytes before now after k last row v order below same is_row has clear written
 one_order (Some limit) architecture bytes before now after k last row v is_limit order there below same is_row has clear written =
+    let isnt = not_limit k limit clear in omega (arith, order, isnt)
+
+pub left_order : (limit : Option ℕ) (architecture : Architecture) (bytes before now : List ℕ)
+    (k : ℕ) (last : Field) (row : RelocationKindInfo) → IsLimit architecture bytes before limit
+    → IsInOrder limit architecture bytes before now k last → k < length bytes / 24
+    → IfNone limit (last.offset ≤ offset_at bytes k)
+    → length now ≡ length before → IsRow architecture (relocation_in bytes k).code (Some row)
+    → has_value row.kind ≡ true → is_of_pair row ≡ false
+    → offset_at bytes k + window_len row ≤ length now
+    → clear_in limit k (field_of_row row (offset_at bytes k) now) last ≡ true
+    → IsInOrder limit architecture bytes before now (k + 1) (next_field (field_of_row row (offset_at bytes k) now) last)
+left_order None architecture bytes before now k last row is_limit order there below same is_row has alone inside clear =
+    ascends_left architecture bytes before now k last row order below same is_row has alone inside clear
+left_order (Some limit) architecture bytes before now k last row is_limit order there below same is_row has alone inside clear =
     let isnt = not_limit k limit clear in omega (arith, order, isnt)
 
 -- the field isn't clear
@@ -425,27 +497,26 @@ overlap_now (Some limit) architecture bytes before now k last row is_limit order
 
 -- ---- bytes put back
 
-place_of_mark : (row : Option RelocationKindInfo) (offset : ℕ)
-    → ((other : RelocationKindInfo) → row ≡ Some other → has_value other.kind ≡ false)
+place_alone : (row : Option RelocationKindInfo) (offset : ℕ)
+    → ((other : RelocationKindInfo) → row ≡ Some other → is_of_pair other ≡ false)
     → saved_place row offset ≡ offset
-place_of_mark None offset none = refl
-place_of_mark (Some row) offset none =
+place_alone None offset alone = refl
+place_alone (Some row) offset alone =
     cond-false (ends_pair row.size row.kind) (sum_64 offset 8) offset
-    (unvalued_ends_none row.size row.kind (none row refl))
+    (or_parts (begins_pair row.size row.kind) (ends_pair row.size row.kind) (alone row refl)).1
 
-pub mark_restores : (architecture : Architecture) (addresses : Addresses)
-    (bytes memory before now : List ℕ) (symbols : List Symbol) (k word : ℕ) → k < length memory
-    → IsValue architecture addresses bytes symbols (relocation_in bytes k) (Ok None)
+-- nothing is written
+pub mark_restores : (architecture : Architecture) (bytes memory before now : List ℕ) (k word : ℕ)
+    (row : Option RelocationKindInfo) → k < length memory
+    → IsRow architecture (relocation_in bytes k).code row → IsAlone architecture bytes k
     → IsSavedAt (offset_at bytes k) now word → Restores architecture bytes memory k now before
     → Restores architecture bytes (set memory k word) (k + 1) now before
-mark_restores architecture addresses bytes memory before now symbols k word room value saved restores =
+mark_restores architecture bytes memory before now k word row room is_row alone saved restores =
     let o = offset_at bytes k in
-    let row = value.0 in
     subst (λ n. Restores architecture bytes (set memory k word) n now before) (plus_one k)
-    (restores_more architecture bytes memory k word now now before row room (value.1)
+    (restores_more architecture bytes memory k word now now before row room is_row
     (ap (λ p. with_word p word now)
-    (place_of_mark row o (λ other is. no_value architecture addresses bytes symbols (relocation_in bytes k) other value
-    (subst (λ x. IsRow architecture (relocation_in bytes k).code x) is (value.1))))
+    (place_alone row o (λ other is. alone other (subst (λ x. IsRow architecture (relocation_in bytes k).code x) is is_row)))
     ∙ undone o word now now refl refl refl saved) restores)
 
 pub one_restores : (architecture : Architecture) (bytes memory before now after : List ℕ)
@@ -464,12 +535,12 @@ one_restores architecture bytes memory before now after k word row v room is_row
 
 -- what is kept of relocations below an index stays
 pub stop : (architecture : Architecture) (addresses : Addresses) (bytes before now memory other : List ℕ)
-    (symbols : List Symbol) (k : ℕ) (error : SectionError) → k ≤ length bytes / 24
+    (values : Values) (k : ℕ) (error : SectionError) → k ≤ length bytes / 24
     → ((i : ℕ) → i < k → slice_index other i ≡ slice_index memory i)
     → Restores architecture bytes memory k now before
-    → IsFirstRejected architecture addresses bytes symbols before error
-    → IsStopped architecture addresses bytes symbols before now other (record { count = k; error = error })
-stop architecture addresses bytes before now memory other symbols k error within same restores rejected =
+    → IsFirstRejectedBy architecture addresses bytes values before error
+    → IsStopped architecture addresses bytes values before now other (record { count = k; error = error })
+stop architecture addresses bytes before now memory other values k error within same restores rejected =
     record {
       within = within;
       restores = restores_by architecture bytes memory other k now before same restores;
@@ -483,14 +554,14 @@ set_above memory k n word most i below =
 
 -- the value at the index can't be written, and the word there is kept
 pub stop_at : (limit : Option ℕ) (architecture : Architecture) (addresses : Addresses)
-    (bytes before now memory : List ℕ) (symbols : List Symbol) (k word : ℕ) (last : Field)
+    (bytes before now memory : List ℕ) (values : Values) (k word : ℕ) (last : Field)
     (error : RelocationError)
-    → Reached architecture addresses bytes symbols limit before now memory k last
-    → k < length bytes / 24 → IsCauseAt architecture addresses bytes symbols before k now error
-    → IsStopped architecture addresses bytes symbols before now (set memory k word)
+    → Reached architecture addresses bytes values limit before now memory k last
+    → k < length bytes / 24 → IsCauseAt architecture addresses bytes values before k now error
+    → IsStopped architecture addresses bytes values before now (set memory k word)
     (record { count = k; error = record { index = k; error = error } })
-stop_at limit architecture addresses bytes before now memory symbols k word last error reached there cause =
-    stop architecture addresses bytes before now memory (set memory k word) symbols k (record { index = k; error = error })
+stop_at limit architecture addresses bytes before now memory values k word last error reached there cause =
+    stop architecture addresses bytes before now memory (set memory k word) values k (record { index = k; error = error })
     reached.below.within (set_above memory k k word (omega arith)) reached.below.restores
     (record {
       within = there;
@@ -526,20 +597,20 @@ same_place architecture bytes before k row other same has begins ends =
     record { len_is = len; end_is = omega (arith, len, same) }
 
 ascends_pair : (architecture : Architecture) (addresses : Addresses) (bytes before now after : List ℕ)
-    (symbols : List Symbol) (k : ℕ) (last : Field) (row : RelocationKindInfo)
+    (values : Values) (k : ℕ) (last : Field) (row : RelocationKindInfo)
     → Ascends architecture bytes before now k last
     → last.offset ≤ offset_at bytes k → length now ≡ length before
     → IsRow architecture (relocation_in bytes k).code (Some row) → has_value row.kind ≡ true
     → clear_in None k (field_of_row row (offset_at bytes k) now) last ≡ true
     → (pair : BeginsPair architecture bytes k)
-    → IsPairWritten architecture addresses bytes symbols (relocation_in bytes k) (relocation_in bytes (k + 1)) now after
+    → IsPairWritten architecture addresses bytes values k now after
     → Ascends architecture bytes before after (k + 2) (next_field (field_of_row row (offset_at bytes k) now) last)
-ascends_pair architecture addresses bytes before now after symbols k last row order below same is_row has clear pair written =
+ascends_pair architecture addresses bytes before now after values k last row order below same is_row has clear pair written =
     let o = offset_at bytes k in
     let field = field_of_row row o now in
     let is = clear_field architecture bytes before now k last row order same is_row has below clear in
     let begins = subst (λ x. begins_pair x.size x.kind ≡ true) (one_info architecture _ pair.row row pair.is_row is_row) pair.begins in
-    let local = pair_local architecture addresses bytes symbols (relocation_in bytes k) (relocation_in bytes (k + 1)) now after written in
+    let local = pair_local architecture addresses bytes values k now after written in
     let len : field.len ≡ uleb_len (take 10 (drop o now)) = len_paired row (drop o now) has (or_left (begins_pair row.size row.kind) (ends_pair row.size row.kind) begins) in
     let number = uleb_len_is (drop o now) written.written.old written.written.rest written.written.was in
     let inside = local.inside in
@@ -599,7 +670,7 @@ limit_pair architecture bytes before k row is_row has apart pair at =
     ]
 
 pub pair_order : (limit : Option ℕ) (architecture : Architecture) (addresses : Addresses)
-    (bytes before now after : List ℕ) (symbols : List Symbol) (k : ℕ) (last : Field)
+    (bytes before now after : List ℕ) (values : Values) (k : ℕ) (last : Field)
     (row : RelocationKindInfo) → IsLimit architecture bytes before limit
     → IsInOrder limit architecture bytes before now k last → k < length bytes / 24
     → IfNone limit (last.offset ≤ offset_at bytes k)
@@ -607,11 +678,11 @@ pub pair_order : (limit : Option ℕ) (architecture : Architecture) (addresses :
     → has_value row.kind ≡ true
     → clear_in limit k (field_of_row row (offset_at bytes k) now) last ≡ true
     → BeginsPair architecture bytes k
-    → IsPairWritten architecture addresses bytes symbols (relocation_in bytes k) (relocation_in bytes (k + 1)) now after
+    → IsPairWritten architecture addresses bytes values k now after
     → IsInOrder limit architecture bytes before after (k + 2) (next_field (field_of_row row (offset_at bytes k) now) last)
-pair_order None architecture addresses bytes before now after symbols k last row is_limit order there below same is_row has clear pair written =
-    ascends_pair architecture addresses bytes before now after symbols k last row order below same is_row has clear pair written
-pair_order (Some limit) architecture addresses bytes before now after symbols k last row is_limit order there below same is_row has clear pair written =
+pair_order None architecture addresses bytes before now after values k last row is_limit order there below same is_row has clear pair written =
+    ascends_pair architecture addresses bytes before now after values k last row order below same is_row has clear pair written
+pair_order (Some limit) architecture addresses bytes before now after values k last row is_limit order there below same is_row has clear pair written =
     let isnt = not_limit k limit clear in
     elim (cases_eq limit (k + 1)) [
       | inl is ↦
@@ -622,22 +693,52 @@ pair_order (Some limit) architecture addresses bytes before now after symbols k 
     ]
 
 pub pair_restores : (architecture : Architecture) (addresses : Addresses)
-    (bytes memory before now after : List ℕ) (symbols : List Symbol) (k word next : ℕ)
+    (bytes memory before now after : List ℕ) (values : Values) (k word next : ℕ)
     (row : RelocationKindInfo) → k + 1 < length memory → length now < 2 ^ 63
     → IsRow architecture (relocation_in bytes k).code (Some row)
     → BeginsPair architecture bytes k
-    → IsPairWritten architecture addresses bytes symbols (relocation_in bytes k) (relocation_in bytes (k + 1)) now after
+    → IsPairWritten architecture addresses bytes values k now after
     → IsSavedAt (offset_at bytes k) now word → IsSavedAt (sum_64 (offset_at bytes k) 8) now next
     → Restores architecture bytes memory k now before
     → Restores architecture bytes (set (set memory k word) (k + 1) next) (k + 2) after before
-pair_restores architecture addresses bytes memory before now after symbols k word next row room short is_row pair written saved saved_next restores =
+pair_restores architecture addresses bytes memory before now after values k word next row room short is_row pair written saved saved_next restores =
     let o = offset_at bytes k in
     let inside = written.inside in
     let small : sum_64 o 8 ≡ o + 8 = mod-eq_of_lt (omega (arith, inside, short)) in
     let begins = subst (λ x. begins_pair x.size x.kind ≡ true) (one_info architecture _ pair.row row pair.is_row is_row) pair.begins in
-    let local = pair_local architecture addresses bytes symbols (relocation_in bytes k) (relocation_in bytes (k + 1)) now after written in
+    let local = pair_local architecture addresses bytes values k now after written in
     let most = uleb_len_most 10 (drop o now) in
     restores_pair architecture bytes memory k word next now after before row pair.other room is_row
     (begun_ends_none row.size row.kind begins) pair.is_other pair.ends pair.same_offset small local.kept
     (drop_after o (uleb_len (take 10 (drop o now))) (o + 16) now after local (inl (omega (arith, most))))
     local.same_length saved (subst (λ p. IsSavedAt p now next) small saved_next) restores
+
+-- ---- a relocation that is left out
+
+pub left_step : (limit : Option ℕ) (architecture : Architecture) (addresses : Addresses)
+    (bytes before now memory : List ℕ) (values : Values) (k word : ℕ) (last : Field)
+    (result : Result Step SectionError)
+    → Reached architecture addresses bytes values limit before now memory k last
+    → values architecture addresses bytes k (Ok None)
+    → AreWrittenBelow architecture addresses bytes values before now (set memory k word) (k + 1)
+    → k < length bytes / 24 → IsLeftOut architecture bytes before now limit k result
+    → IsStep architecture addresses bytes values limit before k now (set memory k word) result
+left_step limit architecture addresses bytes before now memory values k word last (Ok step) reached none below there left = (
+  (let next = left.0 in omega (arith, next)),
+  record {
+    is_limit = reached.is_limit;
+    below = subst (AreWrittenBelow architecture addresses bytes values before now (set memory k word)) (sym (left.0)) below;
+    order = subst (λ i. IsInOrder limit architecture bytes before now i step.last) (sym (left.0)) (left.1);
+  },
+)
+left_step limit architecture addresses bytes before now memory values k word last (Err error) reached none below there left =
+    let stopped : SectionError → Type 0 = λ why. IsStopped architecture addresses bytes values before now (set memory k word) (record { count = k; error = why }) in
+    elim left [
+      | inl overlaps ↦ subst stopped (sym (overlaps.0))
+          (stop_at limit architecture addresses bytes before now memory values k word last Overlaps reached there (overlaps.1))
+      | inr past ↦ subst stopped (sym (past.0))
+          (stop_at limit architecture addresses bytes before now memory values k word last (Write TooShort) reached there (
+            past.1,
+            inr (record { is_error = refl; row = past.2; is_field = past.3; no_value = none; past = past.4 }),
+          ))
+    ]

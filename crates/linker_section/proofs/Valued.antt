@@ -4,21 +4,27 @@ use Rattle.linker_section.proofs.Imports.{cases_Bool, cond-true, cond-false, val
 use Rattle.linker_elf.specs.Value.{formula, read_signed}
 use Rattle.linker_elf.specs.declared.elf.RelocationKind.TheVariants as kinds
 use Rattle.linker_section.proofs.Rows.{one_row}
-use Rattle.linker_section.specs.Sections.{HasValue, IsMark}
+use Rattle.linker_section.proofs.Composing.{unvalued_begins_none, unvalued_ends_none}
+use Rattle.linker_section.specs.Fields.{ends_pair, is_of_pair}
+use Rattle.linker_section.specs.Inner.Steps.{IsOutcome}
+use Rattle.linker_section.specs.Relocations.{relocation_in}
+use Rattle.linker_section.specs.Sections.{by_index, HasValue, IsMark, IsRowValue, Outcome}
 use Rattle.linker_section.specs.Values.{has_value, names_label, lacks_origin, own_value, value_by, low_by, low_value, operands_of, IsValueBy, IsLowValue, IsValueIn, IsValue}
 use Rattle.linker_section.specs.declared.facts.Addresses.{Addresses}
 use Rattle.linker_section.specs.declared.facts.Symbol.{Symbol}
 use Rattle.linker_section.specs.declared.relocations.Rela.{Rela}
 use Rattle.linker_section.specs.declared.values.ValueError.{ValueError}
+use Rattle.std.proofs.Common.{ap}
+use Rattle.std.specs.Prelude.{◌||◌}
 
 -- ---- what a result is
 
-abbrev IsNoValue : Result (Option ℤ) ValueError → Type 0
+abbrev pub IsNoValue : Result (Option ℤ) ValueError → Type 0
 IsNoValue (Ok None) = Unit
 IsNoValue (Ok (Some v)) = ⊥
 IsNoValue (Err error) = ⊥
 
-abbrev IsSomeValue : Result (Option ℤ) ValueError → Type 0
+abbrev pub IsSomeValue : Result (Option ℤ) ValueError → Type 0
 IsSomeValue (Ok None) = ⊥
 IsSomeValue (Ok (Some v)) = Unit
 IsSomeValue (Err error) = ⊥
@@ -57,13 +63,13 @@ value_none row o is =
       | inr has ↦ has
     ]) is
 
-by_none : (lacks : Bool) (row : RelocationKindInfo) (operands : Result Operands ValueError)
+pub by_none : (lacks : Bool) (row : RelocationKindInfo) (operands : Result Operands ValueError)
     → IsNoValue (value_by lacks row operands) → has_value row.kind ≡ false
 by_none true row (Ok o) is = absurd is
 by_none false row (Ok o) is = value_none row o is
 by_none lacks row (Err error) is = absurd is
 
-low_by_none : (row high : RelocationKindInfo) (operands : Result Operands ValueError)
+pub low_by_none : (row high : RelocationKindInfo) (operands : Result Operands ValueError)
     → IsNoValue (low_by row high operands) → has_value row.kind ≡ false
 low_by_none row high (Ok o) is = value_none row _ is
 low_by_none row high (Err error) is = absurd is
@@ -125,9 +131,16 @@ no_value architecture addresses bytes symbols r other is is_other =
     in_none architecture addresses bytes symbols r (is.0) other
     (one_row architecture r.code (is.0) (Some other) (is.1) is_other) (is.2)
 
+pub mark_no_value : (architecture : Architecture) (addresses : Addresses) (bytes : List ℕ)
+    (symbols : List Symbol) (r : Rela) → IsMark architecture addresses bytes symbols r
+    → (row : RelocationKindInfo) → IsRow architecture r.code (Some row)
+    → has_value row.kind ≡ false
+mark_no_value architecture addresses bytes symbols r mark row is_row =
+    no_value architecture addresses bytes symbols r row (mark_none architecture addresses bytes symbols r mark) is_row
+
 -- ---- a value
 
-unlabelled : (size : RelocationSize) (kind : RelocationKind) → has_value kind ≡ false
+pub unlabelled : (size : RelocationSize) (kind : RelocationKind) → has_value kind ≡ false
     → names_label size kind ≡ false
 unlabelled size kinds.None has = refl
 unlabelled size kinds.Alignment has = refl
@@ -146,3 +159,31 @@ some_value architecture addresses bytes symbols r row v has =
           (unlabelled row.size row.kind isnt) has.is_value in
           absurd (subst (λ x. IsSomeValue x) (own ∙ cond-false (has_value row.kind) _ _ isnt) tt)
     ]
+
+-- ---- what is found by a table
+
+pub unpaired : (row : RelocationKindInfo) → has_value row.kind ≡ false → is_of_pair row ≡ false
+unpaired row none =
+    ap (λ b. b || ends_pair row.size row.kind) (unvalued_begins_none row.size row.kind none)
+    ∙ unvalued_ends_none row.size row.kind none
+
+pub outcome_of : (architecture : Architecture) (addresses : Addresses) (bytes : List ℕ)
+    (symbols : List Symbol) (left_out : ℕ → Bool) (i : ℕ) (outcome : Outcome)
+    → IsRowValue architecture addresses bytes symbols (relocation_in bytes i) outcome
+    → IsOutcome architecture addresses bytes (by_index symbols) left_out i outcome
+outcome_of architecture addresses bytes symbols left_out i (Ok (Some found)) has =
+    record {
+      is_row = has.is_row;
+      valued = some_value architecture addresses bytes symbols (relocation_in bytes i) (found.0) (found.1) has;
+      is_value = has;
+    }
+outcome_of architecture addresses bytes symbols left_out i (Ok None) mark =
+    let none = mark_no_value architecture addresses bytes symbols (relocation_in bytes i) mark in
+    record {
+      row = mark.0;
+      is_row = mark.1;
+      is_value = mark;
+      alone = λ row is_row. unpaired row (none row is_row);
+      none = λ _. none;
+    }
+outcome_of architecture addresses bytes symbols left_out i (Err why) is = is

@@ -74,11 +74,15 @@ abbrev pub changes_toc_if : Option Symbol → Bool
 changes_toc_if None = false
 changes_toc_if (Some symbol) = changes_toc symbol
 
--- an `R_PPC64_REL24` of such a function
+-- an `R_PPC64_REL24`
+abbrev pub keeps_toc : Architecture → Rela → Bool
+keeps_toc architectures.Ppc64 r = r.code == 10
+keeps_toc architecture r = false
+
+-- of such a function
 abbrev pub lacks_stub : Architecture → List Symbol → Rela → Bool
-lacks_stub architectures.Ppc64 symbols r =
-    r.code == 10 && changes_toc_if (slice_get symbols r.symbol)
-lacks_stub architecture symbols r = false
+lacks_stub architecture symbols r =
+    keeps_toc architecture r && changes_toc_if (slice_get symbols r.symbol)
 
 -- ---- lengths of instructions
 

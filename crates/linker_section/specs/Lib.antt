@@ -4,6 +4,7 @@ pub mod Fields
 pub mod Inner
 pub mod Needed
 pub mod Relocations
+pub mod Resolved
 pub mod RiscV32
 pub mod Sections
 pub mod Values

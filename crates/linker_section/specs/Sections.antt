@@ -18,7 +18,7 @@ use Rattle.linker_section.specs.Conditions.{lacks_stub, shows_length}
 use Rattle.linker_section.specs.Fields.{begins_pair, ends_pair, field_end, IsField}
 use Rattle.linker_section.specs.Fields.{AreApart, IsOverlapped}
 use Rattle.linker_section.specs.Relocations.{relocation_in}
-use Rattle.linker_section.specs.Values.{IsValueIn, IsValue, offset_at}
+use Rattle.linker_section.specs.Values.{IsValueIn, IsValue, has_value, offset_at}
 use Rattle.linker_section.specs.declared.facts.Addresses.{Addresses}
 use Rattle.linker_section.specs.declared.facts.Symbol.{Symbol}
 use Rattle.linker_section.specs.declared.relocations.Rela.{Rela}
@@ -115,6 +115,28 @@ IsRowValue architecture addresses bytes symbols r (Ok None) =
 IsRowValue architecture addresses bytes symbols r (Err error) =
     IsValueless architecture addresses bytes symbols r error
 
+-- ---- values, however they are found
+
+-- the same of the relocation at an index
+abbrev pub Outcome : Type 0
+Outcome = Result (Option (RelocationKindInfo × ℤ)) ValueError
+
+-- by which the values of a section's relocations are found: for each index what is so
+abbrev pub Values : Type 1
+Values = Architecture → Addresses → List ℕ → ℕ → Outcome → Type 0
+
+-- by a table of symbols at the indexes that relocations name
+abbrev pub by_index : List Symbol → Values
+by_index symbols architecture addresses bytes i outcome =
+    IsRowValue architecture addresses bytes symbols (relocation_in bytes i) outcome
+
+-- the relocation at an index has a row and a value, and writes it
+pub record IsValued (architecture : Architecture) (addresses : Addresses) (bytes : List ℕ)
+    (values : Values) (i : ℕ) (row : RelocationKindInfo) (v : ℤ) : Type 0 where
+  pub is_row : IsRow architecture (relocation_in bytes i).code (Some row)
+  pub valued : has_value row.kind ≡ true
+  pub is_value : values architecture addresses bytes i (Ok (Some (row, v)))
+
 -- ---- a pair at a ULEB128 number
 
 -- the role of the first relocation of a pair, by the formula of the second
@@ -135,39 +157,39 @@ IsNumberWrittenAt number offset before after (Ok u) =
 IsNumberWrittenAt number offset before after (Err error) =
     IsUlebCause (drop offset before) number error × (after ≡ before)
 
--- two relocations at one offset are such a pair, whose values make the number over the bytes there
+-- the relocations at an index and the next are such a pair, whose values make the number over the
+-- bytes there
 pub record IsPair (architecture : Architecture) (addresses : Addresses) (bytes : List ℕ)
-    (symbols : List Symbol) (first second : Rela) (there : List ℕ) (number : ℕ) : Type 0 where
-  pub same_offset : second.offset ≡ first.offset
+    (values : Values) (first : ℕ) (there : List ℕ) (number : ℕ) : Type 0 where
+  pub same_offset : offset_at bytes (first + 1) ≡ offset_at bytes first
   pub row : RelocationKindInfo
   pub value : ℤ
-  pub has_value : HasValue architecture addresses bytes symbols first row value
+  pub has_value : IsValued architecture addresses bytes values first row value
   pub begins : begins_pair row.size row.kind ≡ true
   pub other : RelocationKindInfo
   pub subtracted : ℤ
-  pub has_subtracted : HasValue architecture addresses bytes symbols second other subtracted
+  pub has_subtracted : IsValued architecture addresses bytes values (first + 1) other subtracted
   pub ends : ends_pair other.size other.kind ≡ true
   pub is_number : IsNumberOfPair other.kind there value subtracted number
 
 -- the number is written in place of the one there, in as many bytes, and all other bytes stay
 pub record IsPairWritten (architecture : Architecture) (addresses : Addresses) (bytes : List ℕ)
-    (symbols : List Symbol) (first second : Rela) (before after : List ℕ) : Type 0 where
-  pub inside : first.offset ≤ length before
+    (values : Values) (first : ℕ) (before after : List ℕ) : Type 0 where
+  pub inside : offset_at bytes first ≤ length before
   pub number : ℕ
-  pub pair : IsPair architecture addresses bytes symbols first second (drop first.offset before)
+  pub pair : IsPair architecture addresses bytes values first (drop (offset_at bytes first) before)
       number
   pub rest : List ℕ
-  pub around : after ≡ take first.offset before ++ rest
-  pub written : IsUlebWritten (drop first.offset before) number rest
+  pub around : after ≡ take (offset_at bytes first) before ++ rest
+  pub written : IsUlebWritten (drop (offset_at bytes first) before) number rest
 
 -- there is no number to write over, as past the section's end, or it has too few bytes
 pub record IsPairRejected (architecture : Architecture) (addresses : Addresses) (bytes : List ℕ)
-    (symbols : List Symbol) (first second : Rela) (before : List ℕ) (error : Uleb128Error)
-    : Type 0 where
+    (values : Values) (first : ℕ) (before : List ℕ) (error : Uleb128Error) : Type 0 where
   pub number : ℕ
-  pub pair : IsPair architecture addresses bytes symbols first second (drop first.offset before)
+  pub pair : IsPair architecture addresses bytes values first (drop (offset_at bytes first) before)
       number
-  pub cause : IsUlebCause (drop first.offset before) number error
+  pub cause : IsUlebCause (drop (offset_at bytes first) before) number error
 
 -- the relocation at an index is followed by the second of a pair, whose first it is
 pub record BeginsPair (architecture : Architecture) (bytes : List ℕ) (i : ℕ) : Type 0 where
@@ -185,22 +207,21 @@ pub record BeginsPair (architecture : Architecture) (bytes : List ℕ) (i : ℕ)
 -- The values of those below an index are written, one after the other: nothing of a relocation
 -- without a value, and one number of two relocations that are a pair.
 pub data AreRelocated (architecture : Architecture) (addresses : Addresses) (bytes : List ℕ)
-    (symbols : List Symbol) (before : List ℕ) : ℕ → List ℕ → Type 0 where
-  none : AreRelocated architecture addresses bytes symbols before 0 before
+    (values : Values) (before : List ℕ) : ℕ → List ℕ → Type 0 where
+  none : AreRelocated architecture addresses bytes values before 0 before
   mark : {n : ℕ} {middle : List ℕ}
-      → AreRelocated architecture addresses bytes symbols before n middle
-      → IsMark architecture addresses bytes symbols (relocation_in bytes n)
-      → AreRelocated architecture addresses bytes symbols before (n + 1) middle
+      → AreRelocated architecture addresses bytes values before n middle
+      → values architecture addresses bytes n (Ok None)
+      → AreRelocated architecture addresses bytes values before (n + 1) middle
   one : {n : ℕ} {middle after : List ℕ} {row : RelocationKindInfo} {v : ℤ}
-      → AreRelocated architecture addresses bytes symbols before n middle
-      → HasValue architecture addresses bytes symbols (relocation_in bytes n) row v
+      → AreRelocated architecture addresses bytes values before n middle
+      → IsValued architecture addresses bytes values n row v
       → IsWritten row v (offset_at bytes n) middle after
-      → AreRelocated architecture addresses bytes symbols before (n + 1) after
+      → AreRelocated architecture addresses bytes values before (n + 1) after
   pair : {n : ℕ} {middle after : List ℕ}
-      → AreRelocated architecture addresses bytes symbols before n middle
-      → IsPairWritten architecture addresses bytes symbols (relocation_in bytes n)
-      (relocation_in bytes (n + 1)) middle after
-      → AreRelocated architecture addresses bytes symbols before (n + 2) after
+      → AreRelocated architecture addresses bytes values before n middle
+      → IsPairWritten architecture addresses bytes values n middle after
+      → AreRelocated architecture addresses bytes values before (n + 2) after
 
 -- ---- all bytes
 
@@ -212,54 +233,69 @@ IsInNoField architecture bytes section n p =
 
 -- Fields that overlap compose. The values of all relocations are written, one after the other, and
 -- all bytes that no field has stay.
-pub record AreAllRelocated (architecture : Architecture) (addresses : Addresses) (bytes : List ℕ)
-    (symbols : List Symbol) (before after : List ℕ) : Type 0 where
+pub record AreAllRelocatedBy (architecture : Architecture) (addresses : Addresses) (bytes : List ℕ)
+    (values : Values) (before after : List ℕ) : Type 0 where
   pub apart : AreApart architecture bytes before (length bytes / 24)
-  pub relocated : AreRelocated architecture addresses bytes symbols before (length bytes / 24) after
+  pub relocated : AreRelocated architecture addresses bytes values before (length bytes / 24) after
   pub others : (p : ℕ) → IsInNoField architecture bytes before (length bytes / 24) p
       → slice_index after p ≡ slice_index before p
   pub same_length : length after ≡ length before
+
+-- so by a table of symbols
+abbrev pub AreAllRelocated : Architecture → Addresses → List ℕ → List Symbol → List ℕ → List ℕ
+    → Type 0
+AreAllRelocated architecture addresses bytes symbols before after =
+    AreAllRelocatedBy architecture addresses bytes (by_index symbols) before after
 
 -- ---- errors
 
 -- why the relocation at an index isn't written, where those before it are
 pub record IsNotAccepted (architecture : Architecture) (addresses : Addresses) (bytes : List ℕ)
-    (symbols : List Symbol) (i : ℕ) (now : List ℕ) (error : RelocateError) : Type 0 where
+    (values : Values) (i : ℕ) (now : List ℕ) (error : RelocateError) : Type 0 where
   pub row : RelocationKindInfo
   pub value : ℤ
-  pub has_value : HasValue architecture addresses bytes symbols (relocation_in bytes i) row value
+  pub has_value : IsValued architecture addresses bytes values i row value
   pub length_shown : HasLength row (offset_at bytes i) now
   pub rejected : IsUnwritable row value (offset_at bytes i) now error
   pub alone : ¬ BeginsPair architecture bytes i
 
+-- no value is written to the field of the relocation at an index, which isn't in the section
+pub record IsLeftPast (architecture : Architecture) (addresses : Addresses) (bytes : List ℕ)
+    (values : Values) (i : ℕ) (now : List ℕ) (error : RelocateError) : Type 0 where
+  pub is_error : error ≡ TooShort
+  pub row : RelocationKindInfo
+  pub is_field : IsField architecture bytes now i row
+  pub no_value : values architecture addresses bytes i (Ok None)
+  pub past : length now < field_end bytes now i row
+
 -- the instruction there is shorter or longer than its form
 pub record IsOtherLength (architecture : Architecture) (addresses : Addresses) (bytes : List ℕ)
-    (symbols : List Symbol) (i : ℕ) (now : List ℕ) : Type 0 where
+    (values : Values) (i : ℕ) (now : List ℕ) : Type 0 where
   pub row : RelocationKindInfo
   pub value : ℤ
-  pub has_value : HasValue architecture addresses bytes symbols (relocation_in bytes i) row value
+  pub has_value : IsValued architecture addresses bytes values i row value
   pub inside : offset_at bytes i ≤ length now
   pub long : window_len row ≤ length (drop (offset_at bytes i) now)
   pub other : shows_length row.size (drop (offset_at bytes i) now) ≡ false
 
 -- The value is tested first, then the field, and then the bytes there: first the length of the
 -- instruction.
-abbrev pub IsCauseAt : Architecture → Addresses → List ℕ → List Symbol → List ℕ → ℕ → List ℕ
+abbrev pub IsCauseAt : Architecture → Addresses → List ℕ → Values → List ℕ → ℕ → List ℕ
     → RelocationError → Type 0
-IsCauseAt architecture addresses bytes symbols before i now (Value error) =
-    IsValueless architecture addresses bytes symbols (relocation_in bytes i) error
-IsCauseAt architecture addresses bytes symbols before i now Overlaps =
+IsCauseAt architecture addresses bytes values before i now (Value error) =
+    values architecture addresses bytes i (Err error)
+IsCauseAt architecture addresses bytes values before i now Overlaps =
     IsOverlapped architecture bytes before i
-IsCauseAt architecture addresses bytes symbols before i now OtherLength =
+IsCauseAt architecture addresses bytes values before i now OtherLength =
     AreApart architecture bytes before (i + 1)
-    × IsOtherLength architecture addresses bytes symbols i now
-IsCauseAt architecture addresses bytes symbols before i now (Write error) =
+    × IsOtherLength architecture addresses bytes values i now
+IsCauseAt architecture addresses bytes values before i now (Write error) =
     AreApart architecture bytes before (i + 1)
-    × IsNotAccepted architecture addresses bytes symbols i now error
-IsCauseAt architecture addresses bytes symbols before i now (Uleb128 error) =
+    × (IsNotAccepted architecture addresses bytes values i now error
+    ⊎ IsLeftPast architecture addresses bytes values i now error)
+IsCauseAt architecture addresses bytes values before i now (Uleb128 error) =
     AreApart architecture bytes before (i + 1)
-    × IsPairRejected architecture addresses bytes symbols (relocation_in bytes i)
-    (relocation_in bytes (i + 1)) now error
+    × IsPairRejected architecture addresses bytes values i now error
 
 abbrev pub IsOfValue : RelocationError → Type 0
 IsOfValue (Value error) = ⊤
@@ -267,8 +303,8 @@ IsOfValue error = ⊥
 
 -- Those before the index would be written, and that at the index not. Where it is the second of a
 -- pair and has no value, the first has one.
-pub record IsFirstRejected (architecture : Architecture) (addresses : Addresses) (bytes : List ℕ)
-    (symbols : List Symbol) (before : List ℕ) (error : SectionError) : Type 0 where
+pub record IsFirstRejectedBy (architecture : Architecture) (addresses : Addresses) (bytes : List ℕ)
+    (values : Values) (before : List ℕ) (error : SectionError) : Type 0 where
   pub within : error.index < length bytes / 24
   pub apart : AreApart architecture bytes before error.index
   pub written : ℕ
@@ -276,5 +312,11 @@ pub record IsFirstRejected (architecture : Architecture) (addresses : Addresses)
       ⊎ ((error.index ≡ written + 1) × BeginsPair architecture bytes written
       × IsOfValue error.error)
   pub now : List ℕ
-  pub relocated : AreRelocated architecture addresses bytes symbols before written now
-  pub cause : IsCauseAt architecture addresses bytes symbols before error.index now error.error
+  pub relocated : AreRelocated architecture addresses bytes values before written now
+  pub cause : IsCauseAt architecture addresses bytes values before error.index now error.error
+
+-- so by a table of symbols
+abbrev pub IsFirstRejected : Architecture → Addresses → List ℕ → List Symbol → List ℕ
+    → SectionError → Type 0
+IsFirstRejected architecture addresses bytes symbols before error =
+    IsFirstRejectedBy architecture addresses bytes (by_index symbols) before error

@@ -19,7 +19,7 @@ use Rattle.linker_section.specs.Conditions.{HasLength, holds_offset}
 use Rattle.linker_section.specs.Fields.{field_len, begins_pair, ends_pair, is_of_pair, AreApart}
 use Rattle.linker_section.specs.Relocations.{relocation_in}
 use Rattle.linker_section.specs.Sections.{IsRowValue, IsNumberOfPair, IsInNoField, BeginsPair}
-use Rattle.linker_section.specs.Sections.{IsCauseAt, IsOfValue}
+use Rattle.linker_section.specs.Sections.{by_index, IsCauseAt, IsOfValue}
 use Rattle.linker_section.specs.Values.{offset_at}
 use Rattle.linker_section.specs.declared.facts.Addresses.{Addresses}
 use Rattle.linker_section.specs.declared.facts.Symbol.{Symbol}
@@ -193,4 +193,5 @@ pub record IsFirstFault (architecture : Architecture) (addresses : Addresses) (b
   pub are_found : AreFound architecture addresses bytes symbols written found
   pub apart : AreApart architecture bytes section error.index
   pub accepted : AreAccepted found bytes section written
-  pub cause : IsCauseAt architecture addresses bytes symbols section error.index section error.error
+  pub cause : IsCauseAt architecture addresses bytes (by_index symbols) section error.index section
+      error.error

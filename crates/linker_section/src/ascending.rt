@@ -2,7 +2,6 @@
 
 ghost use Rattle.std.specs.Prelude.{◌≡◌, ◌≤◌, ◌<◌, ◌/◌, ℕ, List, length, slice_index, IfErr};
 ghost use Rattle.std.specs.Prelude.{IfOk, IfSome, IfNone};
-ghost use Rattle.linker_section.specs.Inner.Quick.{IsHighValue};
 ghost use Rattle.linker_section.specs.Inner.Steps.{IsFront, IsLastOf, IsQuickStep, IsSlowStep};
 ghost use Rattle.linker_section.specs.Inner.Steps.{IsStopped, AreWrittenBelow, AreWrittenOrKept};
 ghost use Rattle.linker_section.specs.Inner.Steps.{IsFirstRun};
@@ -10,10 +9,10 @@ ghost use Rattle.linker_section.specs.Relocations.{relocation_in};
 ghost use Rattle.linker_section.specs.declared.fields.Field.{Field};
 
 use crate::conditions::begins_with;
-use crate::facts::{Addresses, Symbol};
+use crate::facts::Addresses;
 use crate::fields::Field;
 use crate::order::are_runs_apart;
-use crate::quick::{HighPart, high_after, quick_value};
+use crate::quick::{HighPart, high_after};
 use crate::relocations::{
     RELA_LEN, Rela, offset_at, relocation_in, relocation_of, relocations_from, relocations_len,
 };
@@ -21,6 +20,7 @@ use crate::saved::whole_word_at;
 use crate::sections::{
     FIRST_STEP, NO_FIELD, SectionError, Step, Stopped, write_held_at, write_one,
 };
+use crate::symbols::Symbols;
 use linker_elf::elf::Architecture;
 use linker_elf::elf::architecture::by_architecture;
 
@@ -28,11 +28,11 @@ use linker_elf::elf::architecture::by_architecture;
 /// tests, and keeps the bytes that were there before. Its offset has to be `end` at least.
 /// Returns where its field ends, and the last high part; and else changes no byte of the section.
 #[inline(always)]
-fn write_quickly(
+fn write_quickly<S: Symbols>(
     architecture: Architecture,
     addresses: &Addresses,
     relocations: &[u8],
-    symbols: &[Symbol],
+    symbols: S,
     relocation: &Rela,
     high: Option<HighPart>,
     index: usize,
@@ -44,14 +44,14 @@ fn write_quickly(
     requires room { length relocations.now / 24 ≤ length memory.old }
     requires is { relocation.now ≡ relocation_in relocations.now index }
     requires high { IfSome high
-        (IsHighValue architecture addresses.now relocations.now symbols.now) }
+        (S.has_high symbols architecture addresses.now relocations.now) }
     ensures len { length memory.new ≡ length memory.old }
     ensures high { IfSome result (λ next. IfSome (next.1)
-        (IsHighValue architecture addresses.now relocations.now symbols.now)) }
+        (S.has_high symbols architecture addresses.now relocations.now)) }
     ensures kept { (k : ℕ) → k < index → slice_index memory.new k ≡ slice_index memory.old k }
     ensures none { IfNone result (section.new ≡ section.old) }
     ensures some { IfSome result (λ next. IsQuickStep architecture addresses.now relocations.now
-        symbols.now index end section.old section.new memory.old memory.new (next.0)) }
+        (S.values symbols) index end section.old section.new memory.old memory.new (next.0)) }
 {
     let offset = relocation.offset;
     if offset < end {
@@ -68,12 +68,12 @@ fn write_quickly(
     }
     // stored before the value is found, so that the word takes no register
     memory[index] = word;
-    let Some(value) = quick_value(
+    let Some(value) = symbols.quick_value(
         architecture,
         addresses,
         relocations,
-        symbols,
         &row,
+        index,
         relocation,
         high,
     ) else {
@@ -88,6 +88,7 @@ fn write_quickly(
 
 /// The last field before a relocation: that of a step, or where others were written quickly since,
 /// that of the relocation before.
+#[inline(always)]
 fn last_field(architecture: Architecture, relocations: &[u8], index: usize, step: &Step) -> Field
     requires within { index < length relocations.now / 24 }
     requires following { step.now.index ≤ index }
@@ -111,11 +112,11 @@ fn last_field(architecture: Architecture, relocations: &[u8], index: usize, step
 /// The same as `write_one`, of the relocation after those that were written quickly since a step.
 /// None where it is before the last field.
 #[inline(never)]
-fn write_slowly(
+fn write_slowly<S: Symbols>(
     architecture: Architecture,
     addresses: &Addresses,
     relocations: &[u8],
-    symbols: &[Symbol],
+    symbols: S,
     index: usize,
     step: &Step,
     section: &mut [u8],
@@ -126,10 +127,10 @@ fn write_slowly(
     requires following { step.now.index ≤ index }
     ensures len { length memory.new ≡ length memory.old }
     ensures step { (before : List ℕ) (end : ℕ)
-        → AreWrittenBelow architecture addresses.now relocations.now symbols.now before section.old
-        memory.old index
+        → AreWrittenBelow architecture addresses.now relocations.now (S.values symbols) before
+        section.old memory.old index
         → IsFront architecture relocations.now before section.old index step.now end
-        → IsSlowStep architecture addresses.now relocations.now symbols.now before index
+        → IsSlowStep architecture addresses.now relocations.now (S.values symbols) before index
         section.new memory.new result }
 {
     let last = last_field(architecture, relocations, index, step);
@@ -155,20 +156,20 @@ fn write_slowly(
 /// The same as `write_in_any_order`, of relocations whose fields ascend by offset. Returns how many
 /// are written: fewer than there are, where the next one is before the last field.
 #[inline(always)]
-fn write_ascending(
+fn write_ascending<S: Symbols>(
     architecture: Architecture,
     addresses: &Addresses,
     relocations: &[u8],
-    symbols: &[Symbol],
+    symbols: S,
     section: &mut [u8],
     memory: &mut [u64],
 ) -> Result<usize, Stopped>
     requires memory { length relocations.now / 24 ≤ length memory.old }
     ensures len { length memory.new ≡ length memory.old }
     ensures ok { IfOk result (IsFirstRun architecture addresses.now relocations.now
-        symbols.now section.old section.new memory.new) }
-    ensures err { IfErr result (IsStopped architecture addresses.now relocations.now symbols.now
-        section.old section.new memory.new) }
+        (S.values symbols) section.old section.new memory.new) }
+    ensures err { IfErr result (IsStopped architecture addresses.now relocations.now
+        (S.values symbols) section.old section.new memory.new) }
 {
     let mut step = FIRST_STEP;
     let mut end = 0;
@@ -225,11 +226,11 @@ fn write_ascending(
 /// second of two runs by ascending offsets. None where all are written; and else below which index
 /// the bytes are kept that were there before. By code for all architectures.
 #[inline(never)]
-pub(crate) fn write_second_run(
+pub(crate) fn write_second_run<S: Symbols>(
     architecture: Architecture,
     addresses: &Addresses,
     relocations: &[u8],
-    symbols: &[Symbol],
+    symbols: S,
     start: usize,
     section: &mut [u8],
     memory: &mut [u64],
@@ -238,10 +239,10 @@ pub(crate) fn write_second_run(
     requires within { start ≤ length relocations.now / 24 }
     ensures len { length memory.new ≡ length memory.old }
     ensures written { (before : List ℕ)
-        → AreWrittenBelow architecture addresses.now relocations.now symbols.now before section.old
-        memory.old start
-        → AreWrittenOrKept architecture addresses.now relocations.now symbols.now before section.new
-        memory.new result }
+        → AreWrittenBelow architecture addresses.now relocations.now (S.values symbols) before
+        section.old memory.old start
+        → AreWrittenOrKept architecture addresses.now relocations.now (S.values symbols) before
+        section.new memory.new result }
 {
     let len = relocations_len(relocations);
     let mut end = 0;
@@ -282,20 +283,20 @@ macro_rules! ascending_of {
 }
 
 /// The same as `write_ascending`, by code of the architecture's own.
-pub(crate) fn write_ascending_of(
+pub(crate) fn write_ascending_of<S: Symbols>(
     architecture: Architecture,
     addresses: &Addresses,
     relocations: &[u8],
-    symbols: &[Symbol],
+    symbols: S,
     section: &mut [u8],
     memory: &mut [u64],
 ) -> Result<usize, Stopped>
     requires memory { length relocations.now / 24 ≤ length memory.old }
     ensures len { length memory.new ≡ length memory.old }
     ensures ok { IfOk result (IsFirstRun architecture addresses.now relocations.now
-        symbols.now section.old section.new memory.new) }
-    ensures err { IfErr result (IsStopped architecture addresses.now relocations.now symbols.now
-        section.old section.new memory.new) }
+        (S.values symbols) section.old section.new memory.new) }
+    ensures err { IfErr result (IsStopped architecture addresses.now relocations.now
+        (S.values symbols) section.old section.new memory.new) }
 {
     by_architecture!(
         architecture,

@@ -6,7 +6,7 @@ ghost use Rattle.linker_elf.specs.Facts.{length_of};
 ghost use Rattle.linker_elf.specs.Relocate.{size_len, window_len};
 ghost use Rattle.linker_section.specs.Relocations.{relocation_in};
 ghost use Rattle.linker_section.specs.Conditions.{HasLength, changes_toc, is_filled, is_padded};
-ghost use Rattle.linker_section.specs.Conditions.{is_stated, lacks_stub, needed};
+ghost use Rattle.linker_section.specs.Conditions.{is_stated, keeps_toc, lacks_stub, needed};
 ghost use Rattle.linker_section.specs.Conditions.{shows, is_thread_based, holds_offset};
 ghost use Rattle.linker_section.specs.Conditions.{upper_code, is_placed, is_upper, needs_upper};
 ghost use Rattle.linker_section.specs.Conditions.{HasUpper, HoldsOffset, IsInReach};
@@ -26,20 +26,27 @@ use linker_elf::riscv64::RiscVRelocation;
 /// Whether a symbol is a function of the output that may return with another TOC pointer, and has
 /// no stub that keeps the caller's.
 #[inline(always)]
-fn changes_toc(symbol: &Symbol) -> bool
+pub(crate) fn changes_toc(symbol: &Symbol) -> bool
     ensures { result ≡ changes_toc symbol.now }
 {
     symbol.stub == 0 && !symbol.is_undefined_weak && symbol.other / 32 == 1
 }
 
-/// Whether a relocation is a call that keeps its TOC pointer, of such a symbol.
+/// Whether a relocation is a call that keeps its TOC pointer.
+#[inline(always)]
+pub(crate) fn keeps_toc(architecture: Architecture, relocation: &Rela) -> bool
+    ensures { result ≡ keeps_toc architecture relocation.now }
+{
+    matches!(architecture, Architecture::Ppc64)
+        && relocation.code == Ppc64Relocation::R_PPC64_REL24.elf_code()
+}
+
+/// Whether a relocation is such a call, of such a symbol.
 #[inline(always)]
 pub(crate) fn lacks_stub(architecture: Architecture, symbols: &[Symbol], relocation: &Rela) -> bool
     ensures { result ≡ lacks_stub architecture symbols.now relocation.now }
 {
-    if !matches!(architecture, Architecture::Ppc64)
-        || relocation.code != Ppc64Relocation::R_PPC64_REL24.elf_code()
-    {
+    if !keeps_toc(architecture, relocation) {
         return false;
     }
     match symbols.get(relocation.symbol as usize) {

@@ -1,6 +1,6 @@
 //! The bytes that relocations write, and which relocations compose.
 
-ghost use Rattle.std.specs.Prelude.{◌≡◌, ◌<◌, ◌≤◌, ◌+◌, ◌&&◌, ◌||◌, ◌==◌, take};
+ghost use Rattle.std.specs.Prelude.{◌≡◌, ◌<◌, ◌≤◌, ◌+◌, ◌&&◌, ◌||◌, ◌==◌, take, true, false};
 ghost use Rattle.linker_section.specs.Fields.{begins_pair, ends_pair, is_of_pair, uleb_len};
 ghost use Rattle.linker_section.specs.Fields.{changes_number, changes_bits, continues};
 ghost use Rattle.linker_section.specs.Inner.Claims.{continues_at, is_clear_of, next_field};
@@ -109,6 +109,15 @@ impl Field {
     {
         let distance = self.offset - last.offset;
         last.len as u64 <= distance || (distance == 0 && self.continues(last))
+    }
+
+    /// Whether it is in a section with a length.
+    #[inline(always)]
+    pub(crate) fn is_within(&self, len: usize) -> bool
+        ensures yes { result ≡ true → self.now.offset + self.now.len ≤ len }
+        ensures no { result ≡ false → len < self.now.offset + self.now.len }
+    {
+        self.offset <= len as u64 && self.len <= len - self.offset as usize
     }
 
     /// The last field after this one: the one before it, where this one has no bytes.

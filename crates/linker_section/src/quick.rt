@@ -9,7 +9,7 @@ ghost use Rattle.linker_section.specs.Inner.Facts.{class_by, entry_by, is_high, 
 ghost use Rattle.linker_section.specs.Inner.Facts.{is_offset_way, is_plain_way};
 ghost use Rattle.linker_section.specs.Inner.Facts.{SaysBranch, SaysNeeds, SaysWay};
 ghost use Rattle.linker_section.specs.Inner.Quick.{IsHighValue, HasHighValue};
-ghost use Rattle.linker_section.specs.Inner.Quick.{IsPlainValue, IsQuickValue};
+ghost use Rattle.linker_section.specs.Inner.Quick.{IsPlainValue, IsQuickValue, IsValueAt};
 ghost use Rattle.linker_section.specs.Needed.{entry_of};
 ghost use Rattle.linker_section.specs.Values.{address_of, entry_address, is_of_got};
 ghost use Rattle.linker_section.specs.Values.{operands_with, target_of};
@@ -114,7 +114,7 @@ fn quick_target(
 
 /// The operands of a plain relocation's formula, with the address of the entry that it requires.
 #[inline(always)]
-fn plain_operands(
+pub(crate) fn plain_operands(
     architecture: Architecture,
     addresses: &Addresses,
     row: &Row,
@@ -185,10 +185,18 @@ fn value_of_high(
     let Some(label) = symbols.get(relocation.symbol as usize) else {
         return None;
     };
+    value_at(label.address.wrapping_sub(addresses.section), high)
+}
+
+/// The value of a high part, if it is at an offset.
+#[inline(always)]
+pub(crate) fn value_at(at: u64, high: Option<HighPart>) -> Option<i64>
+    ensures { IfSome result (IsValueAt at high) }
+{
     let Some(high) = high else {
         return None;
     };
-    if label.address.wrapping_sub(addresses.section) == high.offset {
+    if at == high.offset {
         Some(high.value)
     } else {
         None
@@ -198,7 +206,7 @@ fn value_of_high(
 /// Whether the value is that of the row's own formula: of a high part only on RISC-V, and of an
 /// offset in a TLS block only where the output has one.
 #[inline(always)]
-fn has_plain_way(architecture: Architecture, addresses: &Addresses, way: Way) -> bool
+pub(crate) fn has_plain_way(architecture: Architecture, addresses: &Addresses, way: Way) -> bool
     ensures plain { result ≡ true → is_plain_way way ≡ true }
     ensures origin { result ≡ true
         → (is_offset_way way && not addresses.now.has_tls) ≡ false }

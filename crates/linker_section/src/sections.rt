@@ -8,8 +8,10 @@ ghost use Rattle.linker_section.specs.Relocations.{relocation_in};
 ghost use Rattle.linker_section.specs.Sections.{IsWrittenAt, IsRowValue, IsNumberOfPair};
 ghost use Rattle.linker_section.specs.Sections.{first_role};
 ghost use Rattle.linker_section.specs.Sections.{IsNumberWrittenAt, AreAllRelocated};
-ghost use Rattle.linker_section.specs.Sections.{IsFirstRejected, BeginsPair, HasValue};
-ghost use Rattle.linker_section.specs.Inner.Steps.{IsLimit, IsStopped, IsSecond};
+ghost use Rattle.linker_section.specs.Sections.{IsFirstRejected, BeginsPair};
+ghost use Rattle.linker_section.specs.Sections.{AreAllRelocatedBy, IsFirstRejectedBy, IsValued};
+ghost use Rattle.linker_section.specs.Inner.Steps.{IsLimit, IsStopped, IsSecond, IsInOrder};
+ghost use Rattle.linker_section.specs.Inner.Steps.{IsAlone, IsLeftOut};
 ghost use Rattle.linker_section.specs.Inner.Steps.{clear_in, field_of_row};
 ghost use Rattle.linker_section.specs.Inner.Saved.{Restores};
 ghost use Rattle.linker_section.specs.Inner.Steps.{IsPairOutcome, Reached, IsStep};
@@ -25,6 +27,7 @@ use crate::fields::{Field, begins_pair, ends_pair, is_of_pair, uleb_len};
 use crate::order::{field_in, first_overlap};
 use crate::relocations::{Rela, is_ascending, relocation_in, relocations_len};
 use crate::saved::{restore, word_at};
+use crate::symbols::{ByIndex, Symbols};
 use crate::values::{ValueError, value_of};
 use linker_base::utils::{self, Uleb128Error};
 use linker_elf::elf::architecture::pair_number;
@@ -79,6 +82,7 @@ pub(crate) fn write_held_at(
 }
 
 /// Writes a value to the bytes from an offset on.
+#[inline(always)]
 fn write_at(row: &Row, value: i64, offset: u64, section: &mut [u8]) -> Result<(), RelocateError>
     requires { HasLength row.now offset section.old }
     ensures { IsWrittenAt row.now value offset section.old section.new result }
@@ -90,7 +94,7 @@ fn write_at(row: &Row, value: i64, offset: u64, section: &mut [u8]) -> Result<()
 }
 
 /// The row and the value of a relocation among those of its section.
-fn row_value(
+pub(crate) fn row_value(
     architecture: Architecture,
     addresses: &Addresses,
     relocations: &[u8],
@@ -281,11 +285,11 @@ fn next_of_pair(architecture: Architecture, relocations: &[u8], index: usize) ->
 }
 
 /// Writes the number of a pair at a ULEB128 number, whose first relocation has a value.
-fn relocate_pair(
+fn relocate_pair<S: Symbols>(
     architecture: Architecture,
     addresses: &Addresses,
     relocations: &[u8],
-    symbols: &[Symbol],
+    symbols: S,
     index: usize,
     value: i64,
     second: &Rela,
@@ -294,12 +298,18 @@ fn relocate_pair(
     requires within { index < length relocations.now / 24 }
     requires pair { BeginsPair architecture relocations.now index }
     requires second { second.now ≡ relocation_in relocations.now (index + 1) }
-    requires value { (row : RelocationKindInfo) × HasValue architecture addresses.now
-        relocations.now symbols.now (relocation_in relocations.now index) row value }
-    ensures { IsPairOutcome architecture addresses.now relocations.now symbols.now index
+    requires value { (row : RelocationKindInfo) × IsValued architecture addresses.now
+        relocations.now (S.values symbols) index row value }
+    ensures { IsPairOutcome architecture addresses.now relocations.now (S.values symbols) index
         section.old section.new result }
 {
-    let (row, subtracted) = match row_value(architecture, addresses, relocations, symbols, second) {
+    let (row, subtracted) = match symbols.row_value(
+        architecture,
+        addresses,
+        relocations,
+        index + 1,
+        second,
+    ) {
         Ok(Some(found)) => found,
         // the second of a pair has a value
         Ok(None) => return Ok(()),
@@ -339,15 +349,50 @@ pub(crate) struct Step {
     pub(crate) last: Field,
 }
 
+/// The step over the relocation at an index that is left out. Its field counts as that of any
+/// other. By itself, since most sections have none.
+#[inline(never)]
+fn leave_out(
+    architecture: Architecture,
+    relocations: &[u8],
+    limit: Option<usize>,
+    index: usize,
+    last: Field,
+    section: &[u8],
+) -> Result<Step, SectionError>
+    requires within { index < length relocations.now / 24 }
+    requires after { IfNone limit (last.offset ≤ offset_at relocations.now index) }
+    requires alone { IsAlone architecture relocations.now index }
+    ensures { (before : List ℕ) → IsLimit architecture relocations.now before limit
+        → IsInOrder limit architecture relocations.now before section.now index last
+        → length section.now ≡ length before
+        → IsLeftOut architecture relocations.now before section.now limit index result }
+{
+    let Some(field) = field_in(architecture, relocations, section, index) else {
+        let index = index + 1;
+        return Ok(Step { index, last });
+    };
+    if !is_clear(limit, index, &field, &last) {
+        let error = RelocationError::Overlaps;
+        return Err(SectionError { index, error });
+    }
+    if !field.is_within(section.len()) {
+        let error = RelocationError::Write(RelocateError::TooShort);
+        return Err(SectionError { index, error });
+    }
+    let index = index + 1;
+    Ok(Step { index, last: field })
+}
+
 /// Writes the value of the relocation at an index, and where it is the first of a pair the
 /// number of both, and keeps the bytes that were there before. By itself, since most values are
 /// written by `write_quickly`.
 #[inline(never)]
-pub(crate) fn write_one(
+pub(crate) fn write_one<S: Symbols>(
     architecture: Architecture,
     addresses: &Addresses,
     relocations: &[u8],
-    symbols: &[Symbol],
+    symbols: S,
     limit: Option<usize>,
     index: usize,
     last: Field,
@@ -359,16 +404,25 @@ pub(crate) fn write_one(
     requires after { IfNone limit (last.offset ≤ offset_at relocations.now index) }
     ensures len { length memory.new ≡ length memory.old }
     ensures step { (before : List ℕ)
-        → Reached architecture addresses.now relocations.now symbols.now limit before section.old
-        memory.old index last
-        → IsStep architecture addresses.now relocations.now symbols.now limit before index
+        → Reached architecture addresses.now relocations.now (S.values symbols) limit before
+        section.old memory.old index last
+        → IsStep architecture addresses.now relocations.now (S.values symbols) limit before index
         section.new memory.new result }
 {
     let relocation = relocation_in(relocations, index);
     memory[index] = word_at(section, relocation.offset);
-    let (row, value) = match row_value(architecture, addresses, relocations, symbols, &relocation) {
+    let (row, value) = match symbols.row_value(
+        architecture,
+        addresses,
+        relocations,
+        index,
+        &relocation,
+    ) {
         Ok(Some(found)) => found,
         Ok(None) => {
+            if symbols.is_left_out(relocations, index) {
+                return leave_out(architecture, relocations, limit, index, last, section);
+            }
             let index = index + 1;
             return Ok(Step { index, last });
         }
@@ -428,11 +482,11 @@ pub(crate) const FIRST_STEP: Step = Step {
 /// Writes the values of a section's relocations in their order, and keeps the bytes that were there
 /// before. `limit` is the least index of a relocation whose field overlaps that of an earlier one
 /// with which it doesn't compose.
-fn write_in_any_order(
+fn write_in_any_order<S: Symbols>(
     architecture: Architecture,
     addresses: &Addresses,
     relocations: &[u8],
-    symbols: &[Symbol],
+    symbols: S,
     limit: usize,
     section: &mut [u8],
     memory: &mut [u64],
@@ -440,10 +494,10 @@ fn write_in_any_order(
     requires memory { length relocations.now / 24 ≤ length memory.old }
     requires limit { IsLimit architecture relocations.now section.old (Some limit) }
     ensures len { length memory.new ≡ length memory.old }
-    ensures ok { OnOk result (AreAllRelocated architecture addresses.now relocations.now
-        symbols.now section.old section.new) }
-    ensures err { IfErr result (IsStopped architecture addresses.now relocations.now symbols.now
-        section.old section.new memory.new) }
+    ensures ok { OnOk result (AreAllRelocatedBy architecture addresses.now relocations.now
+        (S.values symbols) section.old section.new) }
+    ensures err { IfErr result (IsStopped architecture addresses.now relocations.now
+        (S.values symbols) section.old section.new memory.new) }
 {
     let len = relocations_len(relocations);
     let mut last = NO_FIELD;
@@ -475,11 +529,11 @@ fn write_in_any_order(
 
 /// The same as `write_in_any_order`, where the values of the relocations below a count are written:
 /// they are put back first.
-fn write_again(
+fn write_again<S: Symbols>(
     architecture: Architecture,
     addresses: &Addresses,
     relocations: &[u8],
-    symbols: &[Symbol],
+    symbols: S,
     count: usize,
     section: &mut [u8],
     memory: &mut [u64],
@@ -489,12 +543,12 @@ fn write_again(
     ensures len { length memory.new ≡ length memory.old }
     ensures ok { (before : List ℕ)
         → Restores architecture relocations.now memory.old count section.old before
-        → OnOk result (AreAllRelocated architecture addresses.now relocations.now symbols.now
-        before section.new) }
+        → OnOk result (AreAllRelocatedBy architecture addresses.now relocations.now
+        (S.values symbols) before section.new) }
     ensures err { (before : List ℕ)
         → Restores architecture relocations.now memory.old count section.old before
-        → IfErr result (IsStopped architecture addresses.now relocations.now symbols.now before
-        section.new memory.new) }
+        → IfErr result (IsStopped architecture addresses.now relocations.now (S.values symbols)
+        before section.new memory.new) }
 {
     restore(architecture, relocations, count, memory, section);
     let order = &mut memory[..relocations_len(relocations)];
@@ -512,20 +566,20 @@ fn write_again(
 
 /// Writes the values of a section's relocations, in whichever order these are, and keeps the bytes
 /// that were there before. Whether they ascend by offset is seen as they are written.
-fn write_values(
+fn write_values<S: Symbols>(
     architecture: Architecture,
     addresses: &Addresses,
     relocations: &[u8],
-    symbols: &[Symbol],
+    symbols: S,
     section: &mut [u8],
     memory: &mut [u64],
 ) -> Result<(), Stopped>
     requires memory { length relocations.now / 24 ≤ length memory.old }
     ensures len { length memory.new ≡ length memory.old }
-    ensures ok { OnOk result (AreAllRelocated architecture addresses.now relocations.now
-        symbols.now section.old section.new) }
-    ensures err { IfErr result (IsStopped architecture addresses.now relocations.now symbols.now
-        section.old section.new memory.new) }
+    ensures ok { OnOk result (AreAllRelocatedBy architecture addresses.now relocations.now
+        (S.values symbols) section.old section.new) }
+    ensures err { IfErr result (IsStopped architecture addresses.now relocations.now
+        (S.values symbols) section.old section.new memory.new) }
 {
     let count = match write_ascending_of(
         architecture,
@@ -568,6 +622,39 @@ fn write_values(
         section,
         memory,
     )
+}
+
+/// Writes the values of a section's relocations, or none of them, however symbols are found.
+#[inline(always)]
+pub(crate) fn relocate_values<S: Symbols>(
+    architecture: Architecture,
+    addresses: &Addresses,
+    relocations: &[u8],
+    symbols: S,
+    section: &mut [u8],
+    memory: &mut [u64],
+) -> Result<(), SectionError>
+    requires memory { length relocations.now / 24 ≤ length memory.old }
+    ensures ok { OnOk result (AreAllRelocatedBy architecture addresses.now relocations.now
+        (S.values symbols) section.old section.new) }
+    ensures err { IfErr result (IsFirstRejectedBy architecture addresses.now relocations.now
+        (S.values symbols) section.old) }
+    ensures unchanged { IfErr result (λ _. section.new ≡ section.old) }
+{
+    match write_values(
+        architecture,
+        addresses,
+        relocations,
+        symbols,
+        section,
+        memory,
+    ) {
+        Ok(()) => Ok(()),
+        Err(stopped) => {
+            restore(architecture, relocations, stopped.count, memory, section);
+            Err(stopped.error)
+        }
+    }
 }
 
 /// How many elements of memory `relocate_section` takes: one for each relocation.
@@ -642,18 +729,12 @@ pub fn relocate_section(
         symbols.now section.old }
     ensures unchanged { IfErr result (λ _. section.new ≡ section.old) }
 {
-    match write_values(
+    relocate_values(
         architecture,
         addresses,
         relocations,
-        symbols,
+        ByIndex { symbols },
         section,
         memory,
-    ) {
-        Ok(()) => Ok(()),
-        Err(stopped) => {
-            restore(architecture, relocations, stopped.count, memory, section);
-            Err(stopped.error)
-        }
-    }
+    )
 }

@@ -2,6 +2,7 @@
 
 ghost use Rattle.std.specs.Prelude.{◌≡◌, ◌<◌, ◌/◌, length, Some, IfNone, IfSome, slice_get};
 ghost use Rattle.linker_section.specs.Inner.Facts.{SaysNeeds};
+ghost use Rattle.linker_section.specs.Inner.Values.{IsHighPartOf};
 ghost use Rattle.linker_section.specs.Needed.{entry_of, may_use_stub};
 ghost use Rattle.linker_section.specs.Relocations.{relocation_in};
 ghost use Rattle.linker_section.specs.Values.{entry_in, has_addend, is_there, entry_address};
@@ -11,7 +12,7 @@ ghost use Rattle.linker_section.specs.Values.{defined_or_weak, target_of, operan
 ghost use Rattle.linker_section.specs.Values.{operands_by, operands_of, has_value, own_value};
 ghost use Rattle.linker_section.specs.Values.{is_defined, lacks_origin};
 ghost use Rattle.linker_section.specs.Values.{names_label, is_auipc, is_high_kind, is_high_part};
-ghost use Rattle.linker_section.specs.Values.{IsHighPart, IsHighPartAt, IsNoHighPart, low_operands};
+ghost use Rattle.linker_section.specs.Values.{IsHighPartAt, IsNoHighPart, low_operands};
 ghost use Rattle.linker_section.specs.Values.{low_value, IsValueBy, IsValue};
 ghost use Rattle.linker_elf.specs.Architectures.{IsRow};
 ghost use Rattle.linker_elf.specs.Entries.{is_of_high_part};
@@ -274,7 +275,7 @@ fn operands_with(
 
 /// The entry that a relocation of a symbol requires.
 #[inline(always)]
-fn required(row: &Row, relocation: &Rela, symbol: &Symbol) -> Option<Entry>
+pub(crate) fn required(row: &Row, relocation: &Rela, symbol: &Symbol) -> Option<Entry>
     requires { SaysNeeds row.now }
     ensures { result
         ≡ entry_of row.now relocation.now.addend symbol.now.is_thread_local }
@@ -284,7 +285,7 @@ fn required(row: &Row, relocation: &Rela, symbol: &Symbol) -> Option<Entry>
 
 /// The same, where there may be no such entry.
 #[inline(always)]
-fn operands_by(
+pub(crate) fn operands_by(
     architecture: Architecture,
     addresses: &Addresses,
     row: &Row,
@@ -452,10 +453,9 @@ fn high_part_in(
     low: RelocationKind,
     at: u64,
     index: usize,
-) -> Option<(Rela, Row)>
+) -> Option<(usize, Rela, Row)>
     requires { index < length relocations.now / 24 }
-    ensures found { IfSome result (λ high. IsHighPart architecture relocations.now low at (high.0)
-        (high.1)) }
+    ensures found { IfSome result (IsHighPartOf architecture relocations.now low at) }
     ensures none { IfNone result (IsNoHighPart architecture low at
         (relocation_in relocations.now index)) }
 {
@@ -467,7 +467,7 @@ fn high_part_in(
         return None;
     };
     if is_high_part(low, &row.info()) {
-        Some((relocation, row))
+        Some((index, relocation, row))
     } else {
         None
     }
@@ -479,9 +479,8 @@ fn ascending_high_part(
     relocations: &[u8],
     low: RelocationKind,
     at: u64,
-) -> Option<(Rela, Row)>
-    ensures { IfSome result (λ high. IsHighPart architecture relocations.now low at (high.0)
-        (high.1)) }
+) -> Option<(usize, Rela, Row)>
+    ensures { IfSome result (IsHighPartOf architecture relocations.now low at) }
 {
     for index in first_from(relocations, at)..relocations_len(relocations) {
         if offset_at(relocations, index) != at {
@@ -495,13 +494,14 @@ fn ascending_high_part(
 }
 
 /// The same in any order: where the search doesn't find it, all relocations are looked at.
-fn high_part(
+pub(crate) fn indexed_high_part(
     architecture: Architecture,
     relocations: &[u8],
     low: RelocationKind,
     at: u64,
-) -> Option<(Rela, Row)>
-    ensures { IsHighPartAt architecture relocations.now low at result }
+) -> Option<(usize, Rela, Row)>
+    ensures found { IfSome result (IsHighPartOf architecture relocations.now low at) }
+    ensures none { IfNone result (IsHighPartAt architecture relocations.now low at None) }
 {
     if let Some(high) = ascending_high_part(architecture, relocations, low, at) {
         return Some(high);
@@ -514,9 +514,25 @@ fn high_part(
     None
 }
 
+/// The high part at an offset, without its index.
+#[inline(always)]
+fn high_part(
+    architecture: Architecture,
+    relocations: &[u8],
+    low: RelocationKind,
+    at: u64,
+) -> Option<(Rela, Row)>
+    ensures { IsHighPartAt architecture relocations.now low at result }
+{
+    match indexed_high_part(architecture, relocations, low, at) {
+        Some((_, relocation, row)) => Some((relocation, row)),
+        None => None,
+    }
+}
+
 /// The operands of a low part, of those of its high part.
 #[inline(always)]
-fn low_operands(high: &Row, operands: Operands) -> Operands
+pub(crate) fn low_operands(high: &Row, operands: Operands) -> Operands
     ensures { result ≡ low_operands high.now operands }
 {
     if high.kind().names_got_entry() {

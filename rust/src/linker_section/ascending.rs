@@ -3,10 +3,10 @@
 //! The values of relocations that ascend by offset, written.
 
 use crate::linker_section::conditions::begins_with;
-use crate::linker_section::facts::{Addresses, Symbol};
+use crate::linker_section::facts::Addresses;
 use crate::linker_section::fields::Field;
 use crate::linker_section::order::are_runs_apart;
-use crate::linker_section::quick::{HighPart, high_after, quick_value};
+use crate::linker_section::quick::{HighPart, high_after};
 use crate::linker_section::relocations::{
     RELA_LEN, Rela, offset_at, relocation_in, relocation_of, relocations_from, relocations_len,
 };
@@ -14,6 +14,7 @@ use crate::linker_section::saved::whole_word_at;
 use crate::linker_section::sections::{
     FIRST_STEP, NO_FIELD, SectionError, Step, Stopped, write_held_at, write_one,
 };
+use crate::linker_section::symbols::Symbols;
 use crate::linker_elf::elf::Architecture;
 use crate::linker_elf::elf::architecture::by_architecture;
 
@@ -21,11 +22,11 @@ use crate::linker_elf::elf::architecture::by_architecture;
 /// tests, and keeps the bytes that were there before. Its offset has to be `end` at least.
 /// Returns where its field ends, and the last high part; and else changes no byte of the section.
 #[inline(always)]
-fn write_quickly(
+fn write_quickly<S: Symbols>(
     architecture: Architecture,
     addresses: &Addresses,
     relocations: &[u8],
-    symbols: &[Symbol],
+    symbols: S,
     relocation: &Rela,
     high: Option<HighPart>,
     index: usize,
@@ -48,12 +49,12 @@ fn write_quickly(
     }
     // stored before the value is found, so that the word takes no register
     memory[index] = word;
-    let Some(value) = quick_value(
+    let Some(value) = symbols.quick_value(
         architecture,
         addresses,
         relocations,
-        symbols,
         &row,
+        index,
         relocation,
         high,
     ) else {
@@ -68,6 +69,7 @@ fn write_quickly(
 
 /// The last field before a relocation: that of a step, or where others were written quickly since,
 /// that of the relocation before.
+#[inline(always)]
 fn last_field(architecture: Architecture, relocations: &[u8], index: usize, step: &Step) -> Field {
     if step.index == index {
         return step.last;
@@ -86,11 +88,11 @@ fn last_field(architecture: Architecture, relocations: &[u8], index: usize, step
 /// The same as `write_one`, of the relocation after those that were written quickly since a step.
 /// None where it is before the last field.
 #[inline(never)]
-fn write_slowly(
+fn write_slowly<S: Symbols>(
     architecture: Architecture,
     addresses: &Addresses,
     relocations: &[u8],
-    symbols: &[Symbol],
+    symbols: S,
     index: usize,
     step: &Step,
     section: &mut [u8],
@@ -119,11 +121,11 @@ fn write_slowly(
 /// The same as `write_in_any_order`, of relocations whose fields ascend by offset. Returns how many
 /// are written: fewer than there are, where the next one is before the last field.
 #[inline(always)]
-fn write_ascending(
+fn write_ascending<S: Symbols>(
     architecture: Architecture,
     addresses: &Addresses,
     relocations: &[u8],
-    symbols: &[Symbol],
+    symbols: S,
     section: &mut [u8],
     memory: &mut [u64],
 ) -> Result<usize, Stopped> {
@@ -182,11 +184,11 @@ fn write_ascending(
 /// second of two runs by ascending offsets. None where all are written; and else below which index
 /// the bytes are kept that were there before. By code for all architectures.
 #[inline(never)]
-pub(crate) fn write_second_run(
+pub(crate) fn write_second_run<S: Symbols>(
     architecture: Architecture,
     addresses: &Addresses,
     relocations: &[u8],
-    symbols: &[Symbol],
+    symbols: S,
     start: usize,
     section: &mut [u8],
     memory: &mut [u64],
@@ -230,11 +232,11 @@ macro_rules! ascending_of {
 }
 
 /// The same as `write_ascending`, by code of the architecture's own.
-pub(crate) fn write_ascending_of(
+pub(crate) fn write_ascending_of<S: Symbols>(
     architecture: Architecture,
     addresses: &Addresses,
     relocations: &[u8],
-    symbols: &[Symbol],
+    symbols: S,
     section: &mut [u8],
     memory: &mut [u64],
 ) -> Result<usize, Stopped> {

@@ -22,28 +22,33 @@ use crate::linker_elf::riscv64::RiscVRelocation;
 /// Whether a symbol is a function of the output that may return with another TOC pointer, and has
 /// no stub that keeps the caller's.
 #[inline(always)]
-fn changes_toc(symbol: &Symbol) -> bool {
+pub(crate) fn changes_toc(symbol: &Symbol) -> bool {
     symbol.stub == 0 && !symbol.is_undefined_weak && symbol.other / 32 == 1
 }
 
-/// Whether a relocation is a call that keeps its TOC pointer, of such a symbol.
+/// Whether a relocation is a call that keeps its TOC pointer.
 #[inline(always)]
-pub(crate) fn lacks_stub(architecture: Architecture, symbols: &[Symbol], relocation: &Rela) -> bool {
+pub(crate) fn keeps_toc(architecture: Architecture, relocation: &Rela) -> bool {
     #[cfg(not(feature = "ppc64"))]
     {
         false
     }
     #[cfg(feature = "ppc64")]
     {
-    if !matches_any!(architecture, #[cfg(feature = "ppc64")] Architecture::Ppc64)
-        || relocation.code != Ppc64Relocation::R_PPC64_REL24.elf_code()
-    {
+    matches_any!(architecture, #[cfg(feature = "ppc64")] Architecture::Ppc64)
+        && relocation.code == Ppc64Relocation::R_PPC64_REL24.elf_code()
+    }
+}
+
+/// Whether a relocation is such a call, of such a symbol.
+#[inline(always)]
+pub(crate) fn lacks_stub(architecture: Architecture, symbols: &[Symbol], relocation: &Rela) -> bool {
+    if !keeps_toc(architecture, relocation) {
         return false;
     }
     match symbols.get(relocation.symbol as usize) {
         Some(symbol) => changes_toc(symbol),
         None => false,
-    }
     }
 }
 

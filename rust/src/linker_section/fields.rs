@@ -91,6 +91,12 @@ impl Field {
         last.len as u64 <= distance || (distance == 0 && self.continues(last))
     }
 
+    /// Whether it is in a section with a length.
+    #[inline(always)]
+    pub(crate) fn is_within(&self, len: usize) -> bool {
+        self.offset <= len as u64 && self.len <= len - self.offset as usize
+    }
+
     /// The last field after this one: the one before it, where this one has no bytes.
     #[inline(always)]
     pub(crate) fn or(self, last: Field) -> Field {

@@ -87,7 +87,7 @@ fn quick_target(
 
 /// The operands of a plain relocation's formula, with the address of the entry that it requires.
 #[inline(always)]
-fn plain_operands(
+pub(crate) fn plain_operands(
     architecture: Architecture,
     addresses: &Addresses,
     row: &Row,
@@ -142,10 +142,16 @@ fn value_of_high(
     let Some(label) = symbols.get(relocation.symbol as usize) else {
         return None;
     };
+    value_at(label.address.wrapping_sub(addresses.section), high)
+}
+
+/// The value of a high part, if it is at an offset.
+#[inline(always)]
+pub(crate) fn value_at(at: u64, high: Option<HighPart>) -> Option<i64> {
     let Some(high) = high else {
         return None;
     };
-    if label.address.wrapping_sub(addresses.section) == high.offset {
+    if at == high.offset {
         Some(high.value)
     } else {
         None
@@ -155,7 +161,7 @@ fn value_of_high(
 /// Whether the value is that of the row's own formula: of a high part only on RISC-V, and of an
 /// offset in a TLS block only where the output has one.
 #[inline(always)]
-fn has_plain_way(architecture: Architecture, addresses: &Addresses, way: Way) -> bool {
+pub(crate) fn has_plain_way(architecture: Architecture, addresses: &Addresses, way: Way) -> bool {
     match way {
         Way::Plain => true,
         Way::ModuleOffset => addresses.has_tls,

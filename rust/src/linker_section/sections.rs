@@ -9,6 +9,7 @@ use crate::linker_section::fields::{Field, begins_pair, ends_pair, is_of_pair, u
 use crate::linker_section::order::{field_in, first_overlap};
 use crate::linker_section::relocations::{Rela, is_ascending, relocation_in, relocations_len};
 use crate::linker_section::saved::{restore, word_at};
+use crate::linker_section::symbols::{ByIndex, Symbols};
 use crate::linker_section::values::{ValueError, value_of};
 use crate::linker_base::utils::{self, Uleb128Error};
 use crate::linker_elf::elf::architecture::pair_number;
@@ -60,6 +61,7 @@ pub(crate) fn write_held_at(
 }
 
 /// Writes a value to the bytes from an offset on.
+#[inline(always)]
 fn write_at(row: &Row, value: i64, offset: u64, section: &mut [u8]) -> Result<(), RelocateError> {
     if !has_offset(row, value, offset, section) {
         return Err(RelocateError::OutOfReach);
@@ -231,17 +233,23 @@ fn next_of_pair(architecture: Architecture, relocations: &[u8], index: usize) ->
 }
 
 /// Writes the number of a pair at a ULEB128 number, whose first relocation has a value.
-fn relocate_pair(
+fn relocate_pair<S: Symbols>(
     architecture: Architecture,
     addresses: &Addresses,
     relocations: &[u8],
-    symbols: &[Symbol],
+    symbols: S,
     index: usize,
     value: i64,
     second: &Rela,
     section: &mut [u8],
 ) -> Result<(), SectionError> {
-    let (row, subtracted) = match row_value(architecture, addresses, relocations, symbols, second) {
+    let (row, subtracted) = match symbols.row_value(
+        architecture,
+        addresses,
+        relocations,
+        index + 1,
+        second,
+    ) {
         Ok(Some(found)) => found,
         // the second of a pair has a value
         Ok(None) => return Ok(()),
@@ -280,15 +288,42 @@ pub(crate) struct Step {
     pub(crate) last: Field,
 }
 
+/// The step over the relocation at an index that is left out. Its field counts as that of any
+/// other. By itself, since most sections have none.
+#[inline(never)]
+fn leave_out(
+    architecture: Architecture,
+    relocations: &[u8],
+    limit: Option<usize>,
+    index: usize,
+    last: Field,
+    section: &[u8],
+) -> Result<Step, SectionError> {
+    let Some(field) = field_in(architecture, relocations, section, index) else {
+        let index = index + 1;
+        return Ok(Step { index, last });
+    };
+    if !is_clear(limit, index, &field, &last) {
+        let error = RelocationError::Overlaps;
+        return Err(SectionError { index, error });
+    }
+    if !field.is_within(section.len()) {
+        let error = RelocationError::Write(RelocateError::TooShort);
+        return Err(SectionError { index, error });
+    }
+    let index = index + 1;
+    Ok(Step { index, last: field })
+}
+
 /// Writes the value of the relocation at an index, and where it is the first of a pair the
 /// number of both, and keeps the bytes that were there before. By itself, since most values are
 /// written by `write_quickly`.
 #[inline(never)]
-pub(crate) fn write_one(
+pub(crate) fn write_one<S: Symbols>(
     architecture: Architecture,
     addresses: &Addresses,
     relocations: &[u8],
-    symbols: &[Symbol],
+    symbols: S,
     limit: Option<usize>,
     index: usize,
     last: Field,
@@ -297,9 +332,18 @@ pub(crate) fn write_one(
 ) -> Result<Step, SectionError> {
     let relocation = relocation_in(relocations, index);
     memory[index] = word_at(section, relocation.offset);
-    let (row, value) = match row_value(architecture, addresses, relocations, symbols, &relocation) {
+    let (row, value) = match symbols.row_value(
+        architecture,
+        addresses,
+        relocations,
+        index,
+        &relocation,
+    ) {
         Ok(Some(found)) => found,
         Ok(None) => {
+            if symbols.is_left_out(relocations, index) {
+                return leave_out(architecture, relocations, limit, index, last, section);
+            }
             let index = index + 1;
             return Ok(Step { index, last });
         }
@@ -359,11 +403,11 @@ pub(crate) const FIRST_STEP: Step = Step {
 /// Writes the values of a section's relocations in their order, and keeps the bytes that were there
 /// before. `limit` is the least index of a relocation whose field overlaps that of an earlier one
 /// with which it doesn't compose.
-fn write_in_any_order(
+fn write_in_any_order<S: Symbols>(
     architecture: Architecture,
     addresses: &Addresses,
     relocations: &[u8],
-    symbols: &[Symbol],
+    symbols: S,
     limit: usize,
     section: &mut [u8],
     memory: &mut [u64],
@@ -398,11 +442,11 @@ fn write_in_any_order(
 
 /// The same as `write_in_any_order`, where the values of the relocations below a count are written:
 /// they are put back first.
-fn write_again(
+fn write_again<S: Symbols>(
     architecture: Architecture,
     addresses: &Addresses,
     relocations: &[u8],
-    symbols: &[Symbol],
+    symbols: S,
     count: usize,
     section: &mut [u8],
     memory: &mut [u64],
@@ -423,11 +467,11 @@ fn write_again(
 
 /// Writes the values of a section's relocations, in whichever order these are, and keeps the bytes
 /// that were there before. Whether they ascend by offset is seen as they are written.
-fn write_values(
+fn write_values<S: Symbols>(
     architecture: Architecture,
     addresses: &Addresses,
     relocations: &[u8],
-    symbols: &[Symbol],
+    symbols: S,
     section: &mut [u8],
     memory: &mut [u64],
 ) -> Result<(), Stopped> {
@@ -474,6 +518,32 @@ fn write_values(
     )
 }
 
+/// Writes the values of a section's relocations, or none of them, however symbols are found.
+#[inline(always)]
+pub(crate) fn relocate_values<S: Symbols>(
+    architecture: Architecture,
+    addresses: &Addresses,
+    relocations: &[u8],
+    symbols: S,
+    section: &mut [u8],
+    memory: &mut [u64],
+) -> Result<(), SectionError> {
+    match write_values(
+        architecture,
+        addresses,
+        relocations,
+        symbols,
+        section,
+        memory,
+    ) {
+        Ok(()) => Ok(()),
+        Err(stopped) => {
+            restore(architecture, relocations, stopped.count, memory, section);
+            Err(stopped.error)
+        }
+    }
+}
+
 /// How many elements of memory [`relocate_section`](crate::section::relocate_section()) takes: one for each relocation.
 #[must_use]
 #[inline(always)]
@@ -512,18 +582,12 @@ pub fn relocate_section(
     memory: &mut [u64],
 ) -> Result<(), SectionError> {
     debug_assert!(memory_len(relocations) <= memory.len());
-    match write_values(
+    relocate_values(
         architecture,
         addresses,
         relocations,
-        symbols,
+        ByIndex { symbols },
         section,
         memory,
-    ) {
-        Ok(()) => Ok(()),
-        Err(stopped) => {
-            restore(architecture, relocations, stopped.count, memory, section);
-            Err(stopped.error)
-        }
-    }
+    )
 }

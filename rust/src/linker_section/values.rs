@@ -245,13 +245,13 @@ fn operands_with(
 
 /// The entry that a relocation of a symbol requires.
 #[inline(always)]
-fn required(row: &Row, relocation: &Rela, symbol: &Symbol) -> Option<Entry> {
+pub(crate) fn required(row: &Row, relocation: &Rela, symbol: &Symbol) -> Option<Entry> {
     entry_by(row.facts(), relocation.addend, symbol.is_thread_local)
 }
 
 /// The same, where there may be no such entry.
 #[inline(always)]
-fn operands_by(
+pub(crate) fn operands_by(
     architecture: Architecture,
     addresses: &Addresses,
     row: &Row,
@@ -388,7 +388,7 @@ fn high_part_in(
     low: RelocationKind,
     at: u64,
     index: usize,
-) -> Option<(Rela, Row)> {
+) -> Option<(usize, Rela, Row)> {
     let relocation = relocation_in(relocations, index);
     if relocation.offset != at {
         return None;
@@ -397,7 +397,7 @@ fn high_part_in(
         return None;
     };
     if is_high_part(low, &row.info()) {
-        Some((relocation, row))
+        Some((index, relocation, row))
     } else {
         None
     }
@@ -409,7 +409,7 @@ fn ascending_high_part(
     relocations: &[u8],
     low: RelocationKind,
     at: u64,
-) -> Option<(Rela, Row)> {
+) -> Option<(usize, Rela, Row)> {
     for index in first_from(relocations, at)..relocations_len(relocations) {
         if offset_at(relocations, index) != at {
             return None;
@@ -422,12 +422,12 @@ fn ascending_high_part(
 }
 
 /// The same in any order: where the search doesn't find it, all relocations are looked at.
-fn high_part(
+pub(crate) fn indexed_high_part(
     architecture: Architecture,
     relocations: &[u8],
     low: RelocationKind,
     at: u64,
-) -> Option<(Rela, Row)> {
+) -> Option<(usize, Rela, Row)> {
     if let Some(high) = ascending_high_part(architecture, relocations, low, at) {
         return Some(high);
     }
@@ -439,9 +439,23 @@ fn high_part(
     None
 }
 
+/// The high part at an offset, without its index.
+#[inline(always)]
+fn high_part(
+    architecture: Architecture,
+    relocations: &[u8],
+    low: RelocationKind,
+    at: u64,
+) -> Option<(Rela, Row)> {
+    match indexed_high_part(architecture, relocations, low, at) {
+        Some((_, relocation, row)) => Some((relocation, row)),
+        None => None,
+    }
+}
+
 /// The operands of a low part, of those of its high part.
 #[inline(always)]
-fn low_operands(high: &Row, operands: Operands) -> Operands {
+pub(crate) fn low_operands(high: &Row, operands: Operands) -> Operands {
     if high.kind().names_got_entry() {
         Operands {
             symbol: operands.got_entry,

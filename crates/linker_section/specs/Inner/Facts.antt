@@ -134,6 +134,7 @@ pub record SaysWay (architecture : Architecture) (row : RelocationKindInfo) : Ty
   pub has_value : When (is_quick row) (has_value row.kind) true
   pub single : When (is_quick row) (is_of_pair row) false
   pub some : When (is_quick row) (nat_lt 0 (window_len row)) true
+  pub narrow : nat_lt (window_len row) 11 ≡ true
   pub shown : shows_lengths architecture ≡ false → (there : List ℕ)
       → shows_length row.size there ≡ true
   -- which isn't an offset from the thread pointer, and is one in a TLS block only by its way

@@ -5,19 +5,22 @@ use Rattle.std.specs.Prelude.{drop, set, ◌⊎◌, ⊤, true, false, Option, So
 use Rattle.linker_base.specs.declared.utils.Uleb128Error.{Uleb128Error}
 use Rattle.linker_elf.specs.Relocate.{window_len}
 use Rattle.linker_elf.specs.declared.elf.RelocationKindInfo.{RelocationKindInfo}
+use Rattle.linker_elf.specs.declared.elf.relocate.RelocateError.TheVariants.{TooShort}
 use Rattle.linker_section.specs.Fields.{AreApart, IsOverlapped, begins_pair, ends_pair, field_len}
+use Rattle.linker_section.specs.Fields.{IsField, field_end, is_of_pair}
 use Rattle.linker_section.specs.Inner.Claims.{AreClaimed, is_clear_of}
-use Rattle.linker_section.specs.Inner.Quick.{IsQuickValue}
+use Rattle.linker_section.specs.Inner.Quick.{IsQuickAt}
 use Rattle.linker_section.specs.Inner.Saved.{IsSavedAt, Restores}
 use Rattle.linker_section.specs.Relocations.{relocation_in}
-use Rattle.linker_section.specs.Sections.{IsFirstRejected, IsPairWritten, IsPairRejected}
+use Rattle.linker_section.specs.Sections.{IsFirstRejectedBy, IsPairWritten, IsPairRejected}
 use Rattle.linker_section.specs.Sections.{IsWritten}
-use Rattle.linker_section.specs.Sections.{AreRelocated, AreAllRelocated, IsValueless}
-use Rattle.linker_section.specs.Values.{offset_at}
+use Rattle.linker_section.specs.Sections.{AreRelocated, AreAllRelocatedBy, IsValued, Outcome}
+use Rattle.linker_section.specs.Sections.{Values}
+use Rattle.linker_section.specs.Values.{has_value, offset_at}
 use Rattle.linker_section.specs.declared.facts.Addresses.{Addresses}
-use Rattle.linker_section.specs.declared.facts.Symbol.{Symbol}
 use Rattle.linker_section.specs.declared.fields.Field.{Field}
-use Rattle.linker_section.specs.declared.sections.RelocationError.TheVariants.{Value, Uleb128}
+use Rattle.linker_section.specs.declared.sections.RelocationError.TheVariants.{Value, Overlaps}
+use Rattle.linker_section.specs.declared.sections.RelocationError.TheVariants.{Uleb128, Write}
 use Rattle.linker_section.specs.declared.sections.SectionError.{SectionError}
 use Rattle.linker_section.specs.declared.sections.Step.{Step}
 use Rattle.linker_section.specs.declared.sections.Stopped.{Stopped}
@@ -51,23 +54,33 @@ pub record IsSecond (architecture : Architecture) (bytes : List ℕ) (i : ℕ) :
   pub is_other : IsRow architecture (relocation_in bytes (i + 1)).code (Some other)
   pub ends : ends_pair other.size other.kind ≡ true
 
--- why the number of the pair at an index isn't written
-abbrev pub IsPairCause : Architecture → Addresses → List ℕ → List Symbol → ℕ → List ℕ
-    → SectionError → Type 0
-IsPairCause architecture addresses bytes symbols i before error =
-    ((why : ValueError) × (error ≡ record { index = i + 1; error = Value why })
-    × IsValueless architecture addresses bytes symbols (relocation_in bytes (i + 1)) why)
-    ⊎ ((why : Uleb128Error) × (error ≡ record { index = i; error = Uleb128 why })
-    × IsPairRejected architecture addresses bytes symbols (relocation_in bytes i)
-    (relocation_in bytes (i + 1)) before why)
+-- the relocation at an index is of no pair
+abbrev pub IsAlone : Architecture → List ℕ → ℕ → Type 0
+IsAlone architecture bytes i =
+    (row : RelocationKindInfo) → IsRow architecture (relocation_in bytes i).code (Some row)
+    → is_of_pair row ≡ false
 
-abbrev pub IsPairOutcome : Architecture → Addresses → List ℕ → List Symbol → ℕ → List ℕ → List ℕ
+-- it has no value, and no field
+abbrev pub HasNoValue : Architecture → List ℕ → ℕ → Type 0
+HasNoValue architecture bytes i =
+    (row : RelocationKindInfo) → IsRow architecture (relocation_in bytes i).code (Some row)
+    → has_value row.kind ≡ false
+
+-- why the number of the pair at an index isn't written
+abbrev pub IsPairCause : Architecture → Addresses → List ℕ → Values → ℕ → List ℕ
+    → SectionError → Type 0
+IsPairCause architecture addresses bytes values i before error =
+    ((why : ValueError) × (error ≡ record { index = i + 1; error = Value why })
+    × values architecture addresses bytes (i + 1) (Err why))
+    ⊎ ((why : Uleb128Error) × (error ≡ record { index = i; error = Uleb128 why })
+    × IsPairRejected architecture addresses bytes values i before why)
+
+abbrev pub IsPairOutcome : Architecture → Addresses → List ℕ → Values → ℕ → List ℕ → List ℕ
     → Result Unit SectionError → Type 0
-IsPairOutcome architecture addresses bytes symbols i before after (Ok u) =
-    IsPairWritten architecture addresses bytes symbols (relocation_in bytes i)
-    (relocation_in bytes (i + 1)) before after
-IsPairOutcome architecture addresses bytes symbols i before after (Err error) =
-    (after ≡ before) × IsPairCause architecture addresses bytes symbols i before error
+IsPairOutcome architecture addresses bytes values i before after (Ok u) =
+    IsPairWritten architecture addresses bytes values i before after
+IsPairOutcome architecture addresses bytes values i before after (Err error) =
+    (after ≡ before) × IsPairCause architecture addresses bytes values i before error
 
 -- relocations below an index are apart, and what is after the last field is unchanged
 pub record Ascends (architecture : Architecture) (bytes before now : List ℕ) (k : ℕ)
@@ -87,37 +100,71 @@ IsInOrder (Some limit) architecture bytes before now k last = k ≤ limit
 
 -- the bytes of the relocations below a count can be put back
 pub record IsStopped (architecture : Architecture) (addresses : Addresses) (bytes : List ℕ)
-    (symbols : List Symbol) (before now memory : List ℕ) (stopped : Stopped) : Type 0 where
+    (values : Values) (before now memory : List ℕ) (stopped : Stopped) : Type 0 where
   pub within : stopped.count ≤ length bytes / 24
   pub restores : Restores architecture bytes memory stopped.count now before
-  pub rejected : IsFirstRejected architecture addresses bytes symbols before stopped.error
+  pub rejected : IsFirstRejectedBy architecture addresses bytes values before stopped.error
+
+-- ---- values, however they are found
+
+-- The relocation at an index isn't of a pair. It has no value, or it is left out.
+pub record IsUnvalued (architecture : Architecture) (addresses : Addresses) (bytes : List ℕ)
+    (values : Values) (left_out : ℕ → Bool) (i : ℕ) : Type 0 where
+  pub row : Option RelocationKindInfo
+  pub is_row : IsRow architecture (relocation_in bytes i).code row
+  pub is_value : values architecture addresses bytes i (Ok None)
+  pub alone : IsAlone architecture bytes i
+  pub none : left_out i ≡ false → HasNoValue architecture bytes i
+
+-- what is found of the relocation at an index
+abbrev pub IsOutcome : Architecture → Addresses → List ℕ → Values → (ℕ → Bool) → ℕ → Outcome
+    → Type 0
+IsOutcome architecture addresses bytes values left_out i (Ok (Some found)) =
+    IsValued architecture addresses bytes values i (found.0) (found.1)
+IsOutcome architecture addresses bytes values left_out i (Ok None) =
+    IsUnvalued architecture addresses bytes values left_out i
+IsOutcome architecture addresses bytes values left_out i (Err why) =
+    values architecture addresses bytes i (Err why)
+
+-- the next step after the relocation at an index, which is left out; or its field isn't clear, or
+-- isn't in the section
+abbrev pub IsLeftOut : Architecture → List ℕ → List ℕ → List ℕ → Option ℕ → ℕ
+    → Result Step SectionError → Type 0
+IsLeftOut architecture bytes before now limit i (Ok step) =
+    (step.index ≡ i + 1) × IsInOrder limit architecture bytes before now (i + 1) step.last
+IsLeftOut architecture bytes before now limit i (Err error) =
+    ((error ≡ record { index = i; error = Overlaps }) × IsOverlapped architecture bytes before i)
+    ⊎ ((error ≡ record { index = i; error = Write TooShort })
+    × AreApart architecture bytes before (i + 1)
+    × (row : RelocationKindInfo) × IsField architecture bytes now i row
+    × (length now < field_end bytes now i row))
 
 -- ---- one step
 
 -- the values of relocations below an index are written, and the bytes before can be put back
 pub record AreWrittenBelow (architecture : Architecture) (addresses : Addresses) (bytes : List ℕ)
-    (symbols : List Symbol) (before now memory : List ℕ) (i : ℕ) : Type 0 where
+    (values : Values) (before now memory : List ℕ) (i : ℕ) : Type 0 where
   pub within : i ≤ length bytes / 24
-  pub relocated : AreRelocated architecture addresses bytes symbols before i now
+  pub relocated : AreRelocated architecture addresses bytes values before i now
   pub restores : Restores architecture bytes memory i now before
   pub same_length : length now ≡ length before
 
 -- and their fields are apart
 pub record Reached (architecture : Architecture) (addresses : Addresses) (bytes : List ℕ)
-    (symbols : List Symbol) (limit : Option ℕ) (before now memory : List ℕ) (i : ℕ) (last : Field)
+    (values : Values) (limit : Option ℕ) (before now memory : List ℕ) (i : ℕ) (last : Field)
     : Type 0 where
   pub is_limit : IsLimit architecture bytes before limit
-  pub below : AreWrittenBelow architecture addresses bytes symbols before now memory i
+  pub below : AreWrittenBelow architecture addresses bytes values before now memory i
   pub order : IsInOrder limit architecture bytes before now i last
 
 -- more values are written, or there is one that can't be
-abbrev pub IsStep : Architecture → Addresses → List ℕ → List Symbol → Option ℕ → List ℕ → ℕ
+abbrev pub IsStep : Architecture → Addresses → List ℕ → Values → Option ℕ → List ℕ → ℕ
     → List ℕ → List ℕ → Result Step SectionError → Type 0
-IsStep architecture addresses bytes symbols limit before i now memory (Ok step) =
+IsStep architecture addresses bytes values limit before i now memory (Ok step) =
     (i < step.index)
-    × Reached architecture addresses bytes symbols limit before now memory step.index step.last
-IsStep architecture addresses bytes symbols limit before i now memory (Err error) =
-    IsStopped architecture addresses bytes symbols before now memory
+    × Reached architecture addresses bytes values limit before now memory step.index step.last
+IsStep architecture addresses bytes values limit before i now memory (Err error) =
+    IsStopped architecture addresses bytes values before now memory
     (record { count = i; error = error })
 
 -- the field of a relocation that has a field of its own
@@ -130,11 +177,11 @@ pub record IsOwnField (architecture : Architecture) (bytes : List ℕ) (i : ℕ)
 
 -- one more value is written, whose field begins at an offset or after it and ends at another
 pub record IsQuickStep (architecture : Architecture) (addresses : Addresses) (bytes : List ℕ)
-    (symbols : List Symbol) (i end : ℕ) (now after memory kept : List ℕ) (own_end : ℕ)
+    (values : Values) (i end : ℕ) (now after memory kept : List ℕ) (own_end : ℕ)
     : Type 0 where
   pub row : RelocationKindInfo
   pub v : ℤ
-  pub value : IsQuickValue architecture addresses bytes symbols (relocation_in bytes i) row v
+  pub value : IsQuickAt architecture addresses bytes values i row v
   pub word : ℕ
   pub saved : IsSavedAt (offset_at bytes i) now word
   pub kept_is : kept ≡ set memory i word
@@ -158,27 +205,27 @@ pub record IsFront (architecture : Architecture) (bytes before now : List ℕ) (
   pub within : last.offset + last.len ≤ end
 
 -- more values are written, or there is one that can't be, or a relocation is before the last field
-abbrev pub IsSlowStep : Architecture → Addresses → List ℕ → List Symbol → List ℕ → ℕ
+abbrev pub IsSlowStep : Architecture → Addresses → List ℕ → Values → List ℕ → ℕ
     → List ℕ → List ℕ → Result (Option Step) SectionError → Type 0
-IsSlowStep architecture addresses bytes symbols before i now memory (Ok None) =
-    AreWrittenBelow architecture addresses bytes symbols before now memory i
-IsSlowStep architecture addresses bytes symbols before i now memory (Ok (Some step)) =
-    IsStep architecture addresses bytes symbols None before i now memory (Ok step)
-IsSlowStep architecture addresses bytes symbols before i now memory (Err error) =
-    IsStep architecture addresses bytes symbols None before i now memory (Err error)
+IsSlowStep architecture addresses bytes values before i now memory (Ok None) =
+    AreWrittenBelow architecture addresses bytes values before now memory i
+IsSlowStep architecture addresses bytes values before i now memory (Ok (Some step)) =
+    IsStep architecture addresses bytes values None before i now memory (Ok step)
+IsSlowStep architecture addresses bytes values before i now memory (Err error) =
+    IsStep architecture addresses bytes values None before i now memory (Err error)
 
 -- all values are written, or the bytes before can be put back
-abbrev pub AreWrittenOrKept : Architecture → Addresses → List ℕ → List Symbol → List ℕ → List ℕ
+abbrev pub AreWrittenOrKept : Architecture → Addresses → List ℕ → Values → List ℕ → List ℕ
     → List ℕ → Option ℕ → Type 0
-AreWrittenOrKept architecture addresses bytes symbols before now memory None =
-    AreAllRelocated architecture addresses bytes symbols before now
-AreWrittenOrKept architecture addresses bytes symbols before now memory (Some count) =
+AreWrittenOrKept architecture addresses bytes values before now memory None =
+    AreAllRelocatedBy architecture addresses bytes values before now
+AreWrittenOrKept architecture addresses bytes values before now memory (Some count) =
     (count ≤ length bytes / 24) × Restores architecture bytes memory count now before
 
 -- the values below an index are written, which are all or those of the first run
 pub record IsFirstRun (architecture : Architecture) (addresses : Addresses) (bytes : List ℕ)
-    (symbols : List Symbol) (before now memory : List ℕ) (start : ℕ) : Type 0 where
-  pub below : AreWrittenBelow architecture addresses bytes symbols before now memory start
+    (values : Values) (before now memory : List ℕ) (start : ℕ) : Type 0 where
+  pub below : AreWrittenBelow architecture addresses bytes values before now memory start
   pub within : start ≤ length bytes / 24
   pub all : start ≡ length bytes / 24
-      → AreAllRelocated architecture addresses bytes symbols before now
+      → AreAllRelocatedBy architecture addresses bytes values before now

@@ -1,20 +1,19 @@
 use Rattle.std.proofs.Common.{◌≡◌, ◌-◌, ◌*◌, ◌/◌, ◌≤◌, length, drop}
 use Rattle.std.specs.Prelude.{IfSome}
-use Rattle.linker_section.specs.Inner.Quick.{IsHighValue}
 use Rattle.linker_section.specs.Inner.Steps.{AreWrittenBelow, IsFront}
 use Rattle.linker_section.proofs.ascending.write_ascending.Given as goal
 
 abbrev pub invariant-loop-entry : goal.invariant-loop-entry
-invariant-loop-entry l = record {
-  below : AreWrittenBelow l.architecture l.addresses l.relocations l.symbols l.fn.section l.section
+invariant-loop-entry g l = record {
+  below : AreWrittenBelow l.architecture l.addresses l.relocations (g.S.Symbols.values l.symbols) l.fn.section l.section
       l.memory l.index;
   front : IsFront l.architecture l.relocations l.fn.section l.section l.index l.step l.end;
   room : length l.memory ≡ length l.fn.memory;
   rest : l.rest ≡ drop (l.index * 24) l.relocations;
   within : l.index ≤ length l.relocations / 24;
   following : l.step.index ≤ l.index;
-  high : IfSome l.high (IsHighValue l.architecture l.addresses l.relocations l.symbols);
+  high : IfSome l.high (g.S.Symbols.has_high l.symbols l.architecture l.addresses l.relocations);
 }
 
 abbrev pub decreases-loop-entry : goal.decreases-loop-entry
-decreases-loop-entry l = length l.relocations / 24 - l.index
+decreases-loop-entry g l = length l.relocations / 24 - l.index

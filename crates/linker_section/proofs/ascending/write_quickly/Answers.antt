@@ -1,25 +1,23 @@
 use Rattle.linker_section.proofs.Imports.{from_le_bytes, IfSome, slice_index, not, ◌||◌, cases_Bool, IsRow, get_or-drop, w64, to_z-of_z}
 use Rattle.linker_section.proofs.RowFacts.{says_way}
-use Rattle.linker_section.proofs.QuickValues.{high_is}
 use Rattle.linker_section.specs.Inner.Facts.{shows_lengths, word_shows}
 use Rattle.linker_elf.specs.Facts.{length_of}
 use Rattle.std.proofs.Common.{◌≡◌, ℕ, ◌+◌, drop, ◌<◌, ◌^◌, ◌∙◌, refl, sym, ap, subst, arith, rules, length, FitsSigned, to_z, of_z, inl, inr}
 use Rattle.linker_section.proofs.Lengths.{unthreaded_holds, word_says}
 use Rattle.linker_section.proofs.Local.{one_local}
 use Rattle.linker_section.proofs.Reaching.{is_written, not_written}
-use Rattle.linker_section.specs.Inner.Quick.{IsHighValue, IsQuickValue}
 use Rattle.linker_section.specs.Inner.Saved.{IsSavedAt}
 use Rattle.linker_section.specs.Sections.{IsWrittenAt}
 use Rattle.linker_section.specs.Values.{offset_at}
 use Rattle.linker_section.proofs.ascending.write_quickly.Goals as goal
 
 pub returns-then-is_err-clause-none : goal.returns-then-is_err-clause-none
-returns-then-is_err-clause-none c =
+returns-then-is_err-clause-none g c =
     not_written c.in-Some.row _ c.args.relocation.now.offset c.args.section.now c.write_held_at.new.section c.write_held_at.result
     (sym c.is_err.ensures.value ∙ c.if-is_err.true) c.write_held_at.ensures
 
 pub write_held_at-requires-clause-length : goal.write_held_at-requires-clause-length
-write_held_at-requires-clause-length c inside long =
+write_held_at-requires-clause-length g c inside long =
     let section = c.args.section.now in
     let o = c.args.relocation.now.offset in
     let row = c.in-Some.row in
@@ -37,11 +35,11 @@ write_held_at-requires-clause-length c inside long =
     ]
 
 pub write_held_at-requires-clause-offset : goal.write_held_at-requires-clause-offset
-write_held_at-requires-clause-offset c inside long =
-    unthreaded_holds c.in-Some.row (to_z w64 (of_z w64 c.in-Some-quick_value.value)) (drop c.args.relocation.now.offset c.args.section.now) c.in-Some-quick_value.ensures.unthreaded
+write_held_at-requires-clause-offset g c inside long =
+    unthreaded_holds c.in-Some.row (to_z w64 (of_z w64 c.in-Some-quick_value.value)) (drop c.args.relocation.now.offset c.args.section.now) c.in-Some-quick_value.ensures.value.unthreaded
 
 pub overflow_add-result : goal.overflow_add-result
-overflow_add-result c =
+overflow_add-result g c =
     let a = c.args in
     let section = a.section.now in
     let row = c.in-Some.row in
@@ -54,7 +52,7 @@ overflow_add-result c =
     omega (arith, inside, long, window)
 
 pub returns-clause-some : goal.returns-clause-some
-returns-clause-some c =
+returns-clause-some g c =
     let a = c.args in
     let section = a.section.now in
     let after = c.write_held_at.new.section in
@@ -70,7 +68,7 @@ returns-clause-some c =
     record {
       row = row;
       v = v;
-      value = subst (λ r. IsQuickValue a.architecture a.addresses.now a.relocations.now a.symbols.now r row v) same c.in-Some-quick_value.ensures;
+      value = c.in-Some-quick_value.ensures.value;
       word = word;
       saved = subst (λ r. IsSavedAt r.offset section word) same c.in-Some-whole_word_at.ensures.some;
       kept_is = refl;
@@ -82,22 +80,15 @@ returns-clause-some c =
     }
 
 pub returns-clause-high : goal.returns-clause-high
-returns-clause-high c =
+returns-clause-high g c =
     let a = c.args in
-    let bytes = a.relocations.now in
-    let row = c.in-Some.row in
     let v = c.in-Some-quick_value.value in
-    let same = c.requires.is in
     let fits : FitsSigned w64 v = search rules in
-    let Is = IsHighValue a.architecture a.addresses.now bytes a.symbols.now in
-    let way = says_way a.architecture a.relocation.now.code row
-    (subst (IsRow a.architecture a.relocation.now.code) c.in-Some.is c.row.ensures) in
+    let Has = g.S.Symbols.has_high a.symbols a.architecture a.addresses.now a.relocations.now in
     elim c.high_after-high.ensures [
-      | inl kept ↦ subst (λ x. IfSome x Is) (sym kept) c.requires.high
+      | inl kept ↦ subst (λ x. IfSome x Has) (sym kept) c.requires.high
       | inr new ↦
-          subst (λ x. IfSome x Is) (sym (new.1))
-          (subst (λ x. Is (record { offset = a.relocation.now.offset; value = x })) (sym (to_z-of_z w64 v fits))
-          (high_is a.architecture a.addresses.now bytes a.symbols.now a.index row a.relocation.now.offset v
-          c.requires.within (ap (λ r. r.offset) same) way (new.0)
-          (subst (λ r. IsQuickValue a.architecture a.addresses.now bytes a.symbols.now r row v) same c.in-Some-quick_value.ensures)))
+          subst (λ x. IfSome x Has) (sym (new.1))
+          (subst (λ x. Has (record { offset = a.relocation.now.offset; value = x })) (sym (to_z-of_z w64 v fits))
+          (c.in-Some-quick_value.ensures.high (new.0)))
     ]

@@ -8,30 +8,28 @@ use Rattle.linker_section.specs.declared.facts.Symbol.{Symbol}
 use Rattle.linker_section.specs.declared.relocations.Rela.{Rela}
 use Rattle.linker_section.proofs.Composing.{ended_has_value}
 use Rattle.linker_section.proofs.Rows.{one_info}
-use Rattle.linker_section.proofs.Valued.{mark_none, no_value}
 use Rattle.linker_section.proofs.sections.relocate_pair.Goals as goal
+use Rattle.linker_section.specs.Sections.{IsValued, Values}
+use Rattle.linker_section.specs.Inner.Steps.{IsOutcome}
+use Rattle.std.proofs.lemmas.Bool.{or_right}
 
 pub returns-in-Ok-None : goal.returns-in-Ok-None
-returns-in-Ok-None c =
+returns-in-Ok-None g c =
     let a = c.args in
     let pair = c.requires.pair in
-    let none = subst (λ result. IsRowValue a.architecture a.addresses.now a.relocations.now a.symbols.now a.second.now result) (c.in-Ok-None.is ∙ ap Ok c.in-Ok-None.field-0-is) c.row_value.ensures in
-    absurd (true≢false (sym (ended_has_value pair.other.size pair.other.kind pair.ends)
-    ∙ no_value a.architecture a.addresses.now a.relocations.now a.symbols.now (relocation_in a.relocations.now (a.index + 1)) pair.other
-    (mark_none a.architecture a.addresses.now a.relocations.now a.symbols.now (relocation_in a.relocations.now (a.index + 1))
-    (subst (λ r. IsRowValue a.architecture a.addresses.now a.relocations.now a.symbols.now r (Ok None)) c.requires.second none)) pair.is_other))
+    let none = subst (IsOutcome a.architecture a.addresses.now a.relocations.now (g.S.Symbols.values a.symbols) (g.S.Symbols.left_out a.symbols a.relocations.now) (a.index + 1)) (c.in-Ok-None.is ∙ ap Ok c.in-Ok-None.field-0-is) c.row_value.ensures in
+    absurd (true≢false (sym (or_right (begins_pair pair.other.size pair.other.kind) (ends_pair pair.other.size pair.other.kind) pair.ends)
+    ∙ none.alone pair.other pair.is_other))
 
 -- what makes a pair of the two relocations
 pub pair_is : (architecture : Architecture) (addresses : Addresses) (bytes : List ℕ)
-    (symbols : List Symbol) (i : ℕ) (second : Rela) (there : List ℕ) (value subtracted : ℤ)
+    (values : Values) (i : ℕ) (there : List ℕ) (value subtracted : ℤ)
     (other : RelocationKindInfo) (number : ℕ) → BeginsPair architecture bytes i
-    → second ≡ relocation_in bytes (i + 1)
-    → (row : RelocationKindInfo) × HasValue architecture addresses bytes symbols (relocation_in bytes i) row value
-    → HasValue architecture addresses bytes symbols second other subtracted
+    → (row : RelocationKindInfo) × IsValued architecture addresses bytes values i row value
+    → IsValued architecture addresses bytes values (i + 1) other subtracted
     → IsNumberOfPair other.kind there value subtracted number
-    → IsPair architecture addresses bytes symbols (relocation_in bytes i) (relocation_in bytes (i + 1)) there number
-pair_is architecture addresses bytes symbols i second there value subtracted other number pair is first has_other numbered =
-    let has_subtracted = subst (λ r. HasValue architecture addresses bytes symbols r other subtracted) is has_other in
+    → IsPair architecture addresses bytes values i there number
+pair_is architecture addresses bytes values i there value subtracted other number pair first has_subtracted numbered =
     let same : pair.row ≡ first.0 = one_info architecture _ pair.row (first.0) pair.is_row (first.1).is_row in
     let same_other : pair.other ≡ other = one_info architecture _ pair.other other pair.is_other has_subtracted.is_row in
     record {
@@ -49,14 +47,14 @@ pair_is architecture addresses bytes symbols i second there value subtracted oth
 
 -- the number of the pair, over what is there
 pub returns-in-Ok : goal.returns-in-Ok
-returns-in-Ok c =
+returns-in-Ok g c =
     let a = c.args in
     let n = c.number_of_pair-number.result in
     let found = c.in-Ok-Some.found in
     let first = relocation_in a.relocations.now a.index in
     let written = subst (IsNumberWrittenAt n a.second.now.offset a.section.now c.write_number_at.new.section) c.in-Ok.is c.write_number_at.ensures in
     let offset : a.second.now.offset ≡ first.offset = ap (λ r. r.offset) c.requires.second ∙ c.requires.pair.same_offset in
-    let has_other = subst (IsRowValue a.architecture a.addresses.now a.relocations.now a.symbols.now a.second.now) (c.in-Ok-Some.is ∙ ap Ok c.in-Ok-Some.field-0-is) c.row_value.ensures in
+    let has_other = subst (IsOutcome a.architecture a.addresses.now a.relocations.now (g.S.Symbols.values a.symbols) (g.S.Symbols.left_out a.symbols a.relocations.now) (a.index + 1)) (c.in-Ok-Some.is ∙ ap Ok c.in-Ok-Some.field-0-is) c.row_value.ensures in
     let kind : IsNumberOfPair found.0.kind (drop a.second.now.offset a.section.now) (to_z w64 (of_z w64 a.value)) (to_z w64 (of_z w64 (found.1))) n =
     subst (λ k. IsNumberOfPair k (drop a.second.now.offset a.section.now) (to_z w64 (of_z w64 a.value)) (to_z w64 (of_z w64 (found.1))) n) c.kind.ensures c.number_of_pair-number.ensures in
     let fits : FitsSigned w64 (found.1) = search rules in
@@ -65,7 +63,7 @@ returns-in-Ok c =
     record {
       inside = subst (λ o. o ≤ length a.section.now) offset (written.0);
       number = n;
-      pair = pair_is a.architecture a.addresses.now a.relocations.now a.symbols.now a.index a.second.now _ a.value _ _ n c.requires.pair c.requires.second c.requires.value has_other
+      pair = pair_is a.architecture a.addresses.now a.relocations.now (g.S.Symbols.values a.symbols) a.index _ a.value _ _ n c.requires.pair c.requires.value has_other
           (subst (λ o. IsNumberOfPair found.0.kind (drop o a.section.now) a.value (found.1) n) offset numbered);
       rest = written.1;
       around = written.2 ∙ ap (λ o. take o a.section.now ++ written.1) offset;
@@ -73,7 +71,7 @@ returns-in-Ok c =
     }
 
 pub returns-in-Err-write_number_at : goal.returns-in-Err-write_number_at
-returns-in-Err-write_number_at c =
+returns-in-Err-write_number_at g c =
     let a = c.args in
     let n = c.number_of_pair-number.result in
     let found = c.in-Ok-Some.found in
@@ -81,7 +79,7 @@ returns-in-Err-write_number_at c =
     let first = relocation_in a.relocations.now a.index in
     let written = subst (IsNumberWrittenAt n a.second.now.offset a.section.now c.write_number_at.new.section) c.in-Err-write_number_at.is c.write_number_at.ensures in
     let offset : a.second.now.offset ≡ first.offset = ap (λ r. r.offset) c.requires.second ∙ c.requires.pair.same_offset in
-    let has_other = subst (IsRowValue a.architecture a.addresses.now a.relocations.now a.symbols.now a.second.now) (c.in-Ok-Some.is ∙ ap Ok c.in-Ok-Some.field-0-is) c.row_value.ensures in
+    let has_other = subst (IsOutcome a.architecture a.addresses.now a.relocations.now (g.S.Symbols.values a.symbols) (g.S.Symbols.left_out a.symbols a.relocations.now) (a.index + 1)) (c.in-Ok-Some.is ∙ ap Ok c.in-Ok-Some.field-0-is) c.row_value.ensures in
     let kind : IsNumberOfPair found.0.kind (drop a.second.now.offset a.section.now) (to_z w64 (of_z w64 a.value)) (to_z w64 (of_z w64 (found.1))) n =
     subst (λ k. IsNumberOfPair k (drop a.second.now.offset a.section.now) (to_z w64 (of_z w64 a.value)) (to_z w64 (of_z w64 (found.1))) n) c.kind.ensures c.number_of_pair-number.ensures in
     let fits : FitsSigned w64 (found.1) = search rules in
@@ -93,7 +91,7 @@ returns-in-Err-write_number_at c =
         refl,
         record {
           number = n;
-          pair = pair_is a.architecture a.addresses.now a.relocations.now a.symbols.now a.index a.second.now _ a.value _ _ n c.requires.pair c.requires.second c.requires.value has_other
+          pair = pair_is a.architecture a.addresses.now a.relocations.now (g.S.Symbols.values a.symbols) a.index _ a.value _ _ n c.requires.pair c.requires.value has_other
               (subst (λ o. IsNumberOfPair found.0.kind (drop o a.section.now) a.value (found.1) n) offset numbered);
           cause = subst (λ o. IsUlebCause (drop o a.section.now) n why) offset (written.0);
         },

@@ -3,19 +3,22 @@ use Rattle.linker_section.proofs.Imports.{cond-true, lt-ltb, IsRow}
 use Rattle.linker_section.specs.Relocations.{relocation_in}
 use Rattle.linker_section.specs.Values.{is_high_part}
 use Rattle.linker_section.proofs.values.high_part_in.Goals as goal
+use Rattle.std.proofs.Common.{refl}
 
 pub returns-then-is_high_part-clause-found : goal.returns-then-is_high_part-clause-found
 returns-then-is_high_part-clause-found c =
     let a = c.args in
     let bytes = a.relocations.now in
     let r = c.relocation_in-relocation.result in
-    let same = c.if-relocation-at.false in
-    record {
-      index = a.index;
-      is_there = cond-true _ (Some (relocation_in bytes a.index)) None (lt-ltb a.index (length bytes / 24) c.requires)
-          ∙ ap Some (sym c.relocation_in-relocation.ensures);
-      offset_is = omega (arith, same);
-      row_is = subst (IsRow a.architecture r.code) c.in-Some.is c.row.ensures;
-      is_high = subst (λ info. is_high_part a.low (Some info) ≡ true) c.info.ensures.row
-          (sym c.is_high_part.ensures ∙ c.if-is_high_part.true);
-    }
+    let same = c.if-relocation-at.false in (
+      record {
+        index = a.index;
+        is_there = cond-true _ (Some (relocation_in bytes a.index)) None (lt-ltb a.index (length bytes / 24) c.requires)
+            ∙ ap Some (sym c.relocation_in-relocation.ensures);
+        offset_is = omega (arith, same);
+        row_is = subst (IsRow a.architecture r.code) c.in-Some.is c.row.ensures;
+        is_high = subst (λ info. is_high_part a.low (Some info) ≡ true) c.info.ensures.row
+            (sym c.is_high_part.ensures ∙ c.if-is_high_part.true);
+      },
+      refl,
+    )

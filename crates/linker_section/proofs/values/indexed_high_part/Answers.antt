@@ -2,7 +2,7 @@ use Rattle.std.proofs.Common.{subst, below_more}
 use Rattle.std.specs.Prelude.{IfNone}
 use Rattle.linker_section.specs.Relocations.{relocation_in}
 use Rattle.linker_section.specs.Values.{IsNoHighPart}
-use Rattle.linker_section.proofs.values.high_part.Goals as goal
+use Rattle.linker_section.proofs.values.indexed_high_part.Goals as goal
 
 pub loop-index-preserved : goal.loop-index-preserved
 loop-index-preserved c k below =

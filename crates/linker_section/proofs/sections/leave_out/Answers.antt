@@ -1,0 +1,104 @@
+use Rattle.std.proofs.Common.{◌≡◌, ◌+◌, ◌≤◌, ◌∙◌, ℕ, drop, refl, sym, ap, subst, arith, inl, inr, true, false}
+use Rattle.std.specs.Prelude.{IfNone}
+use Rattle.linker_elf.specs.declared.elf.RelocationKind.{RelocationKind}
+use Rattle.linker_elf.specs.declared.elf.RelocationKindInfo.{RelocationKindInfo}
+use Rattle.linker_section.proofs.Stepping.{alone_field, apart_next, field_valued, left_order, len_alone, mark_order, next_some, overlap_now}
+use Rattle.linker_section.specs.Fields.{IsField, field_len, is_of_pair}
+use Rattle.linker_section.specs.Inner.Claims.{HasField, next_field}
+use Rattle.linker_section.specs.Inner.Steps.{IsInOrder, clear_in, field_of_row}
+use Rattle.linker_section.specs.Values.{has_value, offset_at}
+use Rattle.linker_section.specs.declared.fields.Field.{Field}
+use Rattle.linker_section.proofs.sections.leave_out.Goals.{In-Some}
+use Rattle.linker_section.proofs.sections.leave_out.Goals as goal
+
+-- a field by its parts
+by_parts : (field : Field) (offset len : ℕ) (kind : RelocationKind) → offset ≡ field.offset
+    → len ≡ field.len → kind ≡ field.kind
+    → field ≡ record { offset = offset; len = len; kind = kind }
+by_parts field offset len kind o l k =
+    sym (ap (λ x. record { offset = x; len = len; kind = kind }) o
+    ∙ (ap (λ x. record { offset = field.offset; len = x; kind = kind }) l
+    ∙ ap (λ x. record { offset = field.offset; len = field.len; kind = x }) k))
+
+-- what is known of the relocation's field
+record Known (c : In-Some) : Type 0 where
+  row : RelocationKindInfo
+  has : HasField c.args.architecture c.args.relocations.now c.args.section.now c.args.index row c.in-Some.field
+  valued : has_value row.kind ≡ true
+  alone : is_of_pair row ≡ false
+  field_is : c.in-Some.field ≡ field_of_row row (offset_at c.args.relocations.now c.args.index) c.args.section.now
+
+known : (c : In-Some) → Known c
+known c =
+    let a = c.args in
+    let o = offset_at a.relocations.now a.index in
+    let found = c.in-Some.ensures.found in
+    let row = found.0 in
+    let has = found.1 in
+    let offset = has.offset_is in
+    let end = has.end_is in
+    let len : field_len row (drop o a.section.now) ≡ c.in-Some.field.len = omega (arith, offset, end) in
+    record {
+      row = row;
+      has = has;
+      valued = field_valued a.architecture a.relocations.now a.section.now a.index row has.is_field;
+      alone = c.requires.alone row has.is_field.is_row;
+      field_is = by_parts c.in-Some.field o _ row.kind offset len has.kind_is;
+    }
+
+pub returns-in_default : goal.returns-in_default
+returns-in_default c before is_limit order same =
+    let a = c.args in
+    let bytes = a.relocations.now in
+    let none = subst (λ x. IfNone x ((row : RelocationKindInfo) → IsField a.architecture bytes a.section.now a.index row → ⊥)) c.in_default.is c.field_in.ensures.none in (
+      refl,
+      mark_order a.limit a.architecture bytes before a.section.now a.index a.last is_limit order c.requires.within c.requires.alone
+          (λ row is_field. none row (alone_field a.architecture bytes before a.section.now a.index row (c.requires.alone row is_field.is_row) is_field)),
+    )
+
+pub is_clear-requires : goal.is_clear-requires
+is_clear-requires c =
+    let w = known (goal.at.is_clear-requires c).In-Some in
+    subst (λ f. IfNone c.args.limit (c.args.last.offset ≤ f.offset)) (sym w.field_is) c.requires.after
+
+pub returns-then-not-is_clear : goal.returns-then-not-is_clear
+returns-then-not-is_clear c before is_limit order same =
+    let w = known (goal.at.returns-then-not-is_clear c).In-Some in
+    let a = c.args in
+    let unclear = ap (λ f. clear_in a.limit a.index f a.last) (sym w.field_is) ∙ (sym c.is_clear.ensures ∙ c.if-not-is_clear.true) in
+    inl (refl, overlap_now a.limit a.architecture a.relocations.now before a.section.now a.index a.last w.row is_limit order c.requires.within c.requires.after same w.has.is_field.is_row w.valued unclear)
+
+pub returns-then-not-is_within : goal.returns-then-not-is_within
+returns-then-not-is_within c before is_limit order same =
+    let w = known (goal.at.returns-then-not-is_within c).In-Some in
+    let a = c.args in
+    let clear = ap (λ f. clear_in a.limit a.index f a.last) (sym w.field_is) ∙ (sym c.is_clear.ensures ∙ c.if-not-is_clear.false) in
+    let past = c.is_within.ensures.no c.if-not-is_within.true in
+    let end = w.has.end_is in
+    inr (
+      refl,
+      apart_next a.limit a.architecture a.relocations.now before a.section.now a.index a.last w.row is_limit order c.requires.within c.requires.after same w.has.is_field.is_row w.valued clear,
+      w.row,
+      w.has.is_field,
+      omega (arith, past, end),
+    )
+
+pub returns : goal.returns
+returns c before is_limit order same =
+    let w = known (goal.at.returns c).In-Some in
+    let a = c.args in
+    let bytes = a.relocations.now in
+    let o = offset_at bytes a.index in
+    let clear = ap (λ f. clear_in a.limit a.index f a.last) (sym w.field_is) ∙ (sym c.is_clear.ensures ∙ c.if-not-is_clear.false) in
+    let within = c.is_within.ensures.yes c.if-not-is_within.false in
+    let offset = w.has.offset_is in
+    let len = len_alone w.row (drop o a.section.now) w.valued w.alone in
+    let end = w.has.end_is in
+    let some = w.has.is_field.some in
+    let next : next_field (field_of_row w.row o a.section.now) a.last ≡ c.in-Some.field =
+    next_some (field_of_row w.row o a.section.now) a.last some ∙ sym w.field_is in (
+      refl,
+      subst (IsInOrder a.limit a.architecture bytes before a.section.now (a.index + 1)) next
+          (left_order a.limit a.architecture bytes before a.section.now a.index a.last w.row is_limit order c.requires.within c.requires.after same w.has.is_field.is_row w.valued w.alone
+          (omega (arith, within, offset, len, end)) clear),
+    )
