@@ -32,7 +32,7 @@ static inline uint32_t linker_utils_forms_of(uint16_t machine, const uint8_t *by
 }
 
 static inline struct linker_utils_section linker_utils_section_of(uint8_t *bytes, size_t bytes_len) {
-    struct linker_utils_section section = {bytes, bytes_len, NULL, 0, 0, 0, NULL, 0};
+    struct linker_utils_section section = {bytes, bytes_len, NULL, 0, 0, 0, NULL, 0, NULL, 0};
     return section;
 }
 

@@ -130,11 +130,11 @@ struct linker_utils_object {
  * those that rewrite or pack its relocations: for others both may be constants, by a cast. */
 struct linker_utils_section {
     uint8_t *bytes; size_t bytes_len;
-    /* As the file has them: n of 24 bytes, `Elf64_Rela`, little-endian, at any alignment. */
-    void *relocations; size_t relocations_len;
+    void *relocations; size_t relocations_len; /* the file's `Elf64_Rela`s, at any alignment */
     uint64_t address; /* of the first byte, from which `r_offset` counts */
     uint64_t base; /* its input offset in a run that is relaxed */
     const struct linker_utils_deletion *deleted; size_t deleted_len; /* as rewrites list it */
+    const struct linker_utils_resolved *resolved; size_t resolved_len; /* of each relocation */
 };
 
 /* A section of these bytes, and zeros. */

@@ -76,7 +76,7 @@ struct section : linker_utils_section {
     explicit section(span<uint8_t> bytes, relas<void> relocations = {},
                      uint64_t address = 0) noexcept
         : linker_utils_section{bytes.data(), bytes.size(), relocations.first, relocations.count,
-                               address, 0, nullptr, 0} {}
+                               address, 0, nullptr, 0, nullptr, 0} {}
     /* Of constants, for calls that only read bytes and relocations. */
     static section of_constants(span<const uint8_t> bytes, relas<const void> relocations = {},
                                 uint64_t address = 0) noexcept {

@@ -40,7 +40,7 @@ static inline uint32_t linker_utils_forms_of(uint16_t machine, const uint8_t *by
 }
 
 static inline struct linker_utils_section linker_utils_section_of(uint8_t *bytes, size_t bytes_len) {
-    struct linker_utils_section section = {bytes, bytes_len, NULL, 0, 0, 0, NULL, 0};
+    struct linker_utils_section section = {bytes, bytes_len, NULL, 0, 0, 0, NULL, 0, NULL, 0};
     return section;
 }
 
@@ -410,6 +410,23 @@ static inline uint32_t linker_utils_value_at(
         link->machine, &addresses, LINKER_UTILS_RELAS(const uint8_t, section->relocations),
         LINKER_UTILS_SLICE(const struct linker_utils_symbol, object->values), object->values_len,
         index, value);
+}
+
+uint32_t linker_utils_relocate_resolved_nonnull(
+    uint16_t machine, const struct linker_utils_addresses *addresses, const uint8_t *relocations,
+    size_t relocations_len, const struct linker_utils_resolved *resolved, size_t resolved_len,
+    uint8_t *section, size_t section_len, uint64_t *memory, size_t memory_len, size_t *faulty);
+static inline uint32_t linker_utils_relocate_resolved(
+    const struct linker_utils_link *link, const struct linker_utils_section *section,
+    uint64_t *memory, size_t memory_len, size_t *faulty) {
+    size_t ignored;
+    const struct linker_utils_addresses addresses = {section->address, link->got_base,
+        link->thread_origin, link->module_origin, link->module_entry, link->has_tls};
+    return linker_utils_relocate_resolved_nonnull(
+        link->machine, &addresses, LINKER_UTILS_RELAS(const uint8_t, section->relocations),
+        LINKER_UTILS_SLICE(const struct linker_utils_resolved, section->resolved),
+        section->resolved_len, LINKER_UTILS_SLICE(uint8_t, section->bytes), section->bytes_len,
+        LINKER_UTILS_SLICE(uint64_t, memory), memory_len, faulty ? faulty : &ignored);
 }
 
 uint32_t linker_utils_relocate_all_nonnull(

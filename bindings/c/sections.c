@@ -51,5 +51,22 @@ int main(void) {
         symbols[1].address_entry = 0; /* there isn't one: nothing is written */
         symbols[3].address = 0x501000;
     }
+
+    /* the same without a table of symbols: what is known for each relocation, with a stub for the
+     * call, which is far */
+    struct linker_utils_resolved resolved[3] = {
+        {0x412344, 0x413010, 0, 0, false, false},
+        {0x401000, 0, 0, 0, false, false},
+        {0x40500000, 0, 0x401800, 0, false, false},
+    };
+    section.resolved = resolved;
+    section.resolved_len = 3;
+    for (int step = 0; step < 2; step++) {
+        uint32_t status = linker_utils_relocate_resolved(&link, &section, memory, 6, NULL);
+        for (int i = 0; i < 4; i++) printf("%08x ", (unsigned)code[i]);
+        printf("%s\n", linker_utils_status_text(status));
+        resolved[0].entry = 0x414020;
+        resolved[1].is_left_out = true; /* the second instruction stays */
+    }
     return 0;
 }

@@ -55,6 +55,7 @@ PASSED = {
                     "kept_high_parts": "kept: &[bool], kept: &mut [bool]"}),
     "section": ("", {"bytes": "section: &[u8], section: &mut [u8]", "bytes_len": "section_len: usize",
                      "relocations": "relocations: &[u8], relocations: &mut [u8]",
+                     "resolved": "resolved: &[Resolved]",
                      "address": "addresses.section: u64", "base": "base: u64",
                      "deleted": "deleted: &[Deletion]"}),
     "rewritten": ("decisions", {"decisions": "decisions: &mut [DecisionNumbers], decisions: &[DecisionNumbers]",

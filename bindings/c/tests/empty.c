@@ -43,6 +43,7 @@ int main(void) {
     EXPECT(TOO_SHORT, value_at(&link, &object, &section, 0, &addend));
     if (linker_utils_relocate_memory(&section)) failures++;
     EXPECT(OK, relocate_section(&link, &object, &section, NULL, 0, NULL));
+    EXPECT(OK, relocate_resolved(&link, &section, NULL, 0, NULL));
     EXPECT(OK, relocate_all(machine, &section, NULL, 0, NULL));
     EXPECT(OK, survey(&link, &object, &section));
     EXPECT(OK, rewrite_section(&link, &object, &section, &rewritten, NULL));

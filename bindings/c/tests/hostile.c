@@ -919,6 +919,19 @@ static struct buffer *symbols(size_t count) {
     return buffer;
 }
 
+/* What a linker knows for each relocation. */
+static struct buffer *resolved(size_t count) {
+    struct buffer *buffer = place(READ, count, sizeof(struct linker_utils_resolved));
+    struct linker_utils_resolved *at = filled(buffer);
+    for (size_t i = 0; i < count; i++)
+        at[i] = (struct linker_utils_resolved){
+            .address = once_in(8) ? any_number() : 0x11000 + 4 * below(12),
+            .entry = once_in(4) ? 0 : once_in(8) ? any_number() : 0x12000 + 8 * below(8),
+            .stub = once_in(4) ? 0x11800 : 0, .other = other_of(i),
+            .is_undefined_weak = once_in(16), .is_left_out = once_in(8)};
+    return buffer;
+}
+
 /* Relocations, of which some bytes may be after the last, and often several are at one offset. */
 static struct buffer *relocations(enum use use, uint16_t machine, size_t section_len,
                                   size_t symbols_len) {
@@ -1016,6 +1029,34 @@ static void call_wrap_addends(void) {
     uint32_t status = CALL(wrap_addends, link, object, section);
     expect((status == LINKER_UTILS_OK) == (machine == LINKER_UTILS_RISCV), "of another machine");
     finish_with(status, 0 OR(UNKNOWN_ARCHITECTURE));
+}
+
+static void call_relocate_resolved(void) {
+    uint16_t machine = any_machine();
+    struct buffer *section = bytes(WRITTEN, any_section_len());
+    struct buffer *given = relocations(READ, machine, section->len, 8);
+    size_t count = given->len / 24;
+    bool is_missing = count > 0 && once_in(16);
+    struct buffer *known = resolved(is_missing ? below(count) : count + (once_in(4) ? below(4) : 0));
+    const struct linker_utils_link *link = any_link(machine);
+    const struct linker_utils_section *in =
+        INPUT(section, SLICE(bytes, section, uint8_t), .relocations = given->given,
+              .relocations_len = count, SLICE(resolved, known, struct linker_utils_resolved),
+              .address = 0x11000);
+    bool is_short = count > 0 && once_in(16);
+    size_t words = is_short ? below(count) : count + (once_in(4) ? below(4) : 0);
+    struct buffer *memory = place(SCRATCH, words, sizeof(uint64_t));
+    size_t *faulty = any_faulty();
+    uint32_t status = CALL(relocate_resolved, link, in, memory->given, words, faulty);
+    expect_status(status, 0 NO_VALUE_AT NOT_RELOCATED OR(ULEB128_ENDED) OR(ULEB128_TOO_LARGE)
+                              OR(DOES_NOT_FIT) OR(OVERLAPS) OR(SHORT_MEMORY) OR(NOT_ALIGNED)
+                              OR(NEEDS_STUB) OR(OTHER_LENGTH));
+    expect((status == LINKER_UTILS_SHORT_MEMORY) <= is_short, "the memory is long enough");
+    expect((status == LINKER_UTILS_NO_SYMBOL) <= is_missing, "each relocation has an element");
+    bool is_of_entry = status != LINKER_UTILS_OK && status != LINKER_UTILS_UNKNOWN_ARCHITECTURE &&
+                       status != LINKER_UTILS_SHORT_MEMORY;
+    finish_faulty(faulty, is_of_entry, count);
+    finish(status == LINKER_UTILS_OK);
 }
 
 /* What a linker knows of symbols before addresses are known. */
@@ -2885,6 +2926,7 @@ static void (*const all[])(void) = {
     call_find, call_row_of, call_row_value, call_row_write, call_row_apply, call_row_reach,
     call_row_needs, call_row_choose, call_row_fits,
     call_relocate_all, call_needs, call_value_at, call_relocate_section, call_wrap_addends,
+    call_relocate_resolved,
     call_survey,
     call_rewrite_section, call_decide_rewrites, call_make_rewrites, call_has_rewrites, call_survey_placed_section, call_snapshot_facts,
     call_relocate_rewritten_section,

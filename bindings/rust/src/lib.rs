@@ -360,6 +360,19 @@ pub struct Symbol {
     pub is_undefined_weak: bool,
 }
 
+/// What a linker knows of the symbol of one relocation. Each field is explained at
+/// `struct linker_utils_resolved` in `include/linker_utils_relocations.h`.
+#[repr(C)]
+#[derive(Debug, Clone, Copy, Default, PartialEq, Eq)]
+pub struct Resolved {
+    pub address: u64,
+    pub entry: u64,
+    pub stub: u64,
+    pub other: u8,
+    pub is_undefined_weak: bool,
+    pub is_left_out: bool,
+}
+
 /// What a linker knows of a section and of the output that it is in. Each field is explained at
 /// `struct linker_utils_link` in `include/linker_utils.h`.
 #[repr(C)]
@@ -1246,6 +1259,33 @@ pub fn wrap_addends(
         )
     };
     result_of(status, ())
+}
+
+/// Writes the values of a section's relocations as `relocate_section`, by what is known for each
+/// relocation, at its index.
+pub fn relocate_resolved(
+    architecture: Architecture,
+    addresses: &Addresses,
+    relocations: &[u8],
+    resolved: &[Resolved],
+    section: &mut [u8],
+    memory: &mut [u64],
+) -> Result<(), ArrayError> {
+    result_over(|faulty| unsafe {
+        raw::linker_utils_relocate_resolved_nonnull(
+            architecture.machine(),
+            addresses,
+            relocations.as_ptr(),
+            relocations.len(),
+            resolved.as_ptr(),
+            resolved.len(),
+            section.as_mut_ptr(),
+            section.len(),
+            memory.as_mut_ptr(),
+            memory.len(),
+            faulty,
+        )
+    })
 }
 
 /// Notes in `kept` which groups of an object stay, by one of its sections of code. Relocations are the

@@ -6,8 +6,8 @@
 pub use crate::{
     Addresses, BlockHead, Branch, Call, Deletion, Delta, DynamicFacts, DynamicTypes, FactsSnapshot,
     FieldBits, FieldValue, Item, LandingProperty, LazyEntry, LazyPlt, Operands, Origins,
-    OutputFacts, PlacedStub, Property, Rela, Relocation, RewriteWindow, Shape, Shapes, Stub,
-    StubShape, Symbol, SymbolFacts, UnrelaxableGroups,
+    OutputFacts, PlacedStub, Property, Rela, Relocation, Resolved, RewriteWindow, Shape, Shapes,
+    Stub, StubShape, Symbol, SymbolFacts, UnrelaxableGroups,
 };
 use std::ffi::c_char;
 
@@ -526,6 +526,19 @@ extern "C" {
         symbols_len: usize,
         index: usize,
         value: *mut i64,
+    ) -> u32;
+    pub fn linker_utils_relocate_resolved_nonnull(
+        machine: u16,
+        addresses: *const Addresses,
+        relocations: *const u8,
+        relocations_len: usize,
+        resolved: *const Resolved,
+        resolved_len: usize,
+        section: *mut u8,
+        section_len: usize,
+        memory: *mut u64,
+        memory_len: usize,
+        faulty: *mut usize,
     ) -> u32;
     pub fn linker_utils_relocate_all_nonnull(
         machine: u16,

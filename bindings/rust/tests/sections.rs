@@ -133,6 +133,31 @@ fn offsets_count_from_a_tls_segment() {
 }
 
 #[test]
+fn each_relocation_may_have_its_own_stub_or_be_left_out() {
+    // two calls by R_AARCH64_CALL26 of one symbol, and R_AARCH64_ABS64
+    let relocations = relas(&[(0, 283, 1, 0), (4, 283, 1, 0), (8, 257, 1, 0)]);
+    let function = Resolved { address: 0x40500000, ..Resolved::default() };
+    let resolved = [
+        Resolved { stub: 0x401100, ..function },
+        Resolved { stub: 0x401204, ..function },
+        Resolved { is_left_out: true, ..function },
+    ];
+    let mut section = [0, 0, 0, 0x94, 0, 0, 0, 0x94, 1, 2, 3, 4, 5, 6, 7, 8];
+    let linked = [0x40, 0, 0, 0x94, 0x80, 0, 0, 0x94, 1, 2, 3, 4, 5, 6, 7, 8];
+    let mut memory = [0; 3];
+    let mut write = |resolved: &[Resolved], memory: &mut [u64]| {
+        relocate_resolved(AARCH64, &ADDRESSES, &relocations, resolved, &mut section, memory)
+    };
+    let error = |status, index| Err(ArrayError { status, index });
+    assert_eq!(write(&resolved, &mut memory[1..]), error(Status::ShortMemory, None));
+    assert_eq!(write(&resolved[..2], &mut memory), error(Status::NoSymbol, Some(2)));
+    let far = [function; 3];
+    assert_eq!(write(&far, &mut memory), error(Status::OutOfReach, Some(0)));
+    assert_eq!(write(&resolved, &mut memory), Ok(()));
+    assert_eq!(section, linked);
+}
+
+#[test]
 fn relocations_lie_at_any_alignment() {
     // call function; R_X86_64_PLT32, and some bytes that are no whole relocation
     let relocations = relas(&[(1, 4, 1, -4)]);

@@ -1,7 +1,9 @@
 -- What relocations require, their values and all of them written, in the numbers that C sees.
 use Rattle.std.specs.Prelude.{◌≡◌, ℕ, ◌/◌, ◌<◌, ◌≤◌, List, length, ℤ, pos, Bool, true, false}
 use Rattle.std.specs.Prelude.{Option, None, Some, Result, Ok, Err}
-use Rattle.linker_section.specs.Sections.{AreAllRelocated, IsFirstRejected}
+use Rattle.linker_section.specs.Resolved.{by_lookup, by_relocation}
+use Rattle.linker_section.specs.Sections.{AreAllRelocated, AreAllRelocatedBy, IsFirstRejected}
+use Rattle.linker_section.specs.Sections.{IsFirstRejectedBy}
 use Rattle.linker_section.specs.WrittenFields.{AreWritten, IsFirstFault}
 use Rattle.linker_section.specs.Values.{IsValue}
 use Rattle.linker_section.specs.declared.facts.Addresses.{Addresses}
@@ -13,6 +15,7 @@ use Rattle.linker_section.specs.declared.needed.EntryClass.TheVariants.{ModuleOf
 use Rattle.linker_section.specs.declared.needed.EntryClass.TheVariants.{Descriptor}
 use Rattle.linker_section.specs.declared.needed.Requirements.{Requirements}
 use Rattle.linker_section.specs.declared.relocations.Rela.{Rela}
+use Rattle.linker_section.specs.declared.resolved.Resolved.{Resolved}
 use Rattle.linker_section.specs.declared.sections.RelocationError.{RelocationError}
 use Rattle.linker_section.specs.declared.sections.RelocationError.TheVariants.{Value, Write}
 use Rattle.linker_section.specs.declared.sections.RelocationError.TheVariants.{Overlaps, Uleb128}
@@ -132,3 +135,24 @@ pub record IsSectionReturned (architecture : Architecture) (addresses : Addresse
     pub long : room_of bytes ≤ length memory → (outcome : Result Unit SectionError)
         × IsSectionOutcome architecture addresses bytes symbols before after
         old_faulty faulty status outcome
+
+-- ---- by what is known for each relocation
+
+abbrev pub IsResolvedOutcome : Architecture → Addresses → List ℕ → List Resolved → List ℕ → List ℕ
+    → ℕ → ℕ → ℕ → Result Unit SectionError → Type 0
+IsResolvedOutcome architecture addresses bytes known before after old_faulty faulty status (Ok u) =
+    (status ≡ code Success) × (faulty ≡ old_faulty)
+    × AreAllRelocatedBy architecture addresses bytes (by_lookup (by_relocation known)) before after
+IsResolvedOutcome architecture addresses bytes known before after old_faulty faulty status
+    (Err error) =
+    (status ≡ code (relocation_status error.error)) × (faulty ≡ error.index) × (after ≡ before)
+    × IsFirstRejectedBy architecture addresses bytes (by_lookup (by_relocation known)) before error
+
+pub record IsResolvedReturned (architecture : Architecture) (addresses : Addresses)
+    (bytes : List ℕ) (known : List Resolved) (before after memory : List ℕ)
+    (old_faulty faulty status : ℕ) : Type 0 where
+  pub short : length memory < room_of bytes → (status ≡ code ShortMemory) × (after ≡ before)
+      × (faulty ≡ old_faulty)
+  pub long : room_of bytes ≤ length memory → (outcome : Result Unit SectionError)
+      × IsResolvedOutcome architecture addresses bytes known before after old_faulty faulty status
+      outcome

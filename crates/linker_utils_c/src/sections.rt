@@ -12,6 +12,7 @@ ghost use Rattle.linker_elf.specs.Machines.{architecture_of};
 ghost use Rattle.linker_utils_c.specs.Sections.{class_number, IsNeedsReturned, IsValueAt};
 ghost use Rattle.linker_utils_c.specs.Sections.{value_status, relocation_status, room_of};
 ghost use Rattle.linker_utils_c.specs.Sections.{requirements_in, IsSectionReturned};
+ghost use Rattle.linker_utils_c.specs.Sections.{IsResolvedReturned};
 ghost use Rattle.linker_utils_c.specs.Status.{code};
 
 use crate::relocate::{status_of, uleb_status_of};
@@ -19,6 +20,7 @@ use crate::status::Status;
 use linker_section::facts::{Addresses, Symbol};
 use linker_section::needed::{EntryClass, Requirements, needs};
 use linker_section::relocations::relocation_at;
+use linker_section::resolved::{ByRelocation, Resolved, relocate_resolved};
 use linker_section::sections::{RelocationError, memory_len, relocate_section};
 use linker_section::values::{ValueError, value as value_of};
 use linker_utils::elf::Architecture;
@@ -223,6 +225,49 @@ pub extern "C" fn linker_utils_relocate_section_nonnull(
         addresses,
         relocations,
         symbols,
+        section,
+        memory,
+    ) {
+        Ok(()) => Status::Success as u32,
+        Err(error) => {
+            *faulty = error.index;
+            status_of_error(error.error)
+        }
+    }
+}
+
+/// Writes the values of a section's relocations, as `relocate_resolved`, or none of them. What is
+/// known of each is at its index. The first that applies of `UnknownArchitecture`; `ShortMemory`,
+/// where `memory` has fewer elements than `linker_utils_relocate_memory`; and why the relocation at
+/// `faulty` can't be written: `NoSymbol`, where `resolved` has fewer elements.
+#[unsafe(no_mangle)]
+pub extern "C" fn linker_utils_relocate_resolved_nonnull(
+    machine: u16,
+    addresses: &Addresses,
+    relocations: &[u8],
+    resolved: &[Resolved],
+    section: &mut [u8],
+    memory: &mut [u64],
+    faulty: &mut usize,
+) -> u32
+    ensures { MatchOption (architecture_of machine)
+        ((result ≡ code Status.UnknownArchitecture) × (section.new ≡ section.old)
+        × (faulty.new ≡ faulty.old))
+        (λ architecture.
+        IsResolvedReturned architecture addresses.now relocations.now resolved.now section.old
+        section.new memory.old faulty.old faulty.new result) }
+{
+    let Some(architecture) = Architecture::from_machine(machine) else {
+        return Status::UnknownArchitecture as u32;
+    };
+    if memory.len() < memory_len(relocations) {
+        return Status::ShortMemory as u32;
+    }
+    match relocate_resolved(
+        architecture,
+        addresses,
+        relocations,
+        ByRelocation { resolved },
         section,
         memory,
     ) {

@@ -47,6 +47,7 @@ use linker_utils::source::rewriting::SymbolFacts;
 use linker_utils::source::rewriting::UnrelaxableGroups;
 use linker_utils::source::runs::Shapes;
 use linker_utils::source::section::Addresses;
+use linker_utils::source::section::Resolved;
 use linker_utils::source::section::Symbol;
 use core::slice::{from_raw_parts, from_raw_parts_mut};
 
@@ -2735,6 +2736,34 @@ unsafe extern "C" fn linker_utils_relocate_section_nonnull(
             &*addresses,
             from_raw_parts(relocations, relocations_len),
             from_raw_parts(symbols, symbols_len),
+            from_raw_parts_mut(section, section_len),
+            from_raw_parts_mut(memory, memory_len),
+            &mut *faulty,
+        )
+    }
+}
+
+#[unsafe(no_mangle)]
+unsafe extern "C" fn linker_utils_relocate_resolved_nonnull(
+    machine: u16,
+    addresses: *const Addresses,
+    relocations: *const u8,
+    relocations_len: usize,
+    resolved: *const Resolved,
+    resolved_len: usize,
+    section: *mut u8,
+    section_len: usize,
+    memory: *mut u64,
+    memory_len: usize,
+    faulty: *mut usize,
+) -> u32 {
+    // SAFETY: the arguments are as the head of the header says.
+    unsafe {
+        crate::sections::linker_utils_relocate_resolved_nonnull(
+            machine,
+            &*addresses,
+            from_raw_parts(relocations, relocations_len),
+            from_raw_parts(resolved, resolved_len),
             from_raw_parts_mut(section, section_len),
             from_raw_parts_mut(memory, memory_len),
             &mut *faulty,

@@ -7,6 +7,7 @@ use crate::status::Status;
 use linker_utils::source::section::{Addresses, Symbol};
 use linker_utils::source::section::{EntryClass, Requirements, needs};
 use linker_utils::source::section::relocation_at;
+use linker_utils::source::section::{ByRelocation, Resolved, relocate_resolved};
 use linker_utils::source::section::{RelocationError, memory_len, relocate_section};
 use linker_utils::source::section::{ValueError, value as value_of};
 use linker_utils::elf::Architecture;
@@ -176,6 +177,41 @@ pub fn linker_utils_relocate_section_nonnull(
         addresses,
         relocations,
         symbols,
+        section,
+        memory,
+    ) {
+        Ok(()) => Status::Success as u32,
+        Err(error) => {
+            *faulty = error.index;
+            status_of_error(error.error)
+        }
+    }
+}
+
+/// Writes the values of a section's relocations, as `relocate_resolved`, or none of them. What is
+/// known of each is at its index. The first that applies of `UnknownArchitecture`; `ShortMemory`,
+/// where `memory` has fewer elements than `linker_utils_relocate_memory`; and why the relocation at
+/// `faulty` can't be written: `NoSymbol`, where `resolved` has fewer elements.
+pub fn linker_utils_relocate_resolved_nonnull(
+    machine: u16,
+    addresses: &Addresses,
+    relocations: &[u8],
+    resolved: &[Resolved],
+    section: &mut [u8],
+    memory: &mut [u64],
+    faulty: &mut usize,
+) -> u32 {
+    let Some(architecture) = Architecture::from_machine(machine) else {
+        return Status::UnknownArchitecture as u32;
+    };
+    if memory.len() < memory_len(relocations) {
+        return Status::ShortMemory as u32;
+    }
+    match relocate_resolved(
+        architecture,
+        addresses,
+        relocations,
+        ByRelocation { resolved },
         section,
         memory,
     ) {

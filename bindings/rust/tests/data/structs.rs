@@ -53,6 +53,9 @@ layout! {
     "linker_utils_row": raw::Row {
         alignment, reach, needs, r_type, kind, machine, window, may_use_plt, is_relative, name,
     }
+    "linker_utils_resolved": raw::Resolved {
+        address, entry, stub, other, is_undefined_weak, is_left_out,
+    }
     "linker_utils_relocation_entry": raw::Relocation {
         offset, value, r_type,
     }
