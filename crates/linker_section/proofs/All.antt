@@ -5,12 +5,10 @@ use Rattle.linker_section.proofs.Ulebs.{some_uleb}
 use Rattle.linker_section.proofs.Composing.{begun_is_continued_none, begun_ends_none, begun_has_value}
 use Rattle.linker_section.proofs.Local.{IsLocal, one_local, pair_local}
 use Rattle.linker_section.proofs.Stepping.{len_alone, len_paired, written_alone, unchanged, split}
-use Rattle.linker_section.proofs.Valued.{some_value}
 use Rattle.linker_section.specs.Fields.{IsField, field_end, field_len, begins_pair, ends_pair, uleb_len, of_number, of_pair, AreApart, Overlap}
 use Rattle.linker_section.specs.Sections.{AreRelocated, none, mark, one, pair, IsInNoField, AreAllRelocatedBy, IsValued, IsWritten, IsPairWritten, Values}
 use Rattle.linker_section.specs.Values.{offset_at}
 use Rattle.linker_section.specs.declared.facts.Addresses.{Addresses}
-use Rattle.linker_section.specs.declared.facts.Symbol.{Symbol}
 
 -- ---- bytes outside of a field
 

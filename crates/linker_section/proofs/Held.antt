@@ -14,7 +14,6 @@ use Rattle.linker_section.specs.Sections.{IsValued, IsWritten, Values}
 use Rattle.linker_section.specs.Values.{offset_at}
 use Rattle.linker_section.specs.WrittenFields.{field_bytes}
 use Rattle.linker_section.specs.declared.facts.Addresses.{Addresses}
-use Rattle.linker_section.specs.declared.facts.Symbol.{Symbol}
 
 -- ---- two fields
 

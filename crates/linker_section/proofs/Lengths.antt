@@ -14,7 +14,6 @@ use Rattle.linker_section.specs.Inner.Facts.{word_shows}
 use Rattle.linker_section.specs.Sections.{IsValued, IsOtherLength, IsUnwritable, Values}
 use Rattle.linker_section.specs.Values.{offset_at}
 use Rattle.linker_section.specs.declared.facts.Addresses.{Addresses}
-use Rattle.linker_section.specs.declared.facts.Symbol.{Symbol}
 
 -- ---- what a test says
 

@@ -9,8 +9,6 @@ use Rattle.linker_section.proofs.Ulebs.{uleb_len_is, same_last}
 use Rattle.linker_section.specs.Fields.{uleb_len}
 use Rattle.linker_section.specs.Sections.{IsWritten, IsPairWritten, Values}
 use Rattle.linker_section.specs.declared.facts.Addresses.{Addresses}
-use Rattle.linker_section.specs.declared.facts.Symbol.{Symbol}
-use Rattle.linker_section.specs.declared.relocations.Rela.{Rela}
 use Rattle.linker_section.specs.Values.{offset_at}
 
 -- of a section only the bytes from an offset on change, as many as a field has

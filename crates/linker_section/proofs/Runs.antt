@@ -1,6 +1,6 @@
 -- Two runs of relocations by ascending offsets, gone through by offset.
-use Rattle.std.proofs.Common.{◌≡◌, ℕ, ◌+◌, ◌/◌, ◌<◌, ◌≤◌, List, length, drop, Some, true, false, sym, ap, subst, inl, inr, arith}
-use Rattle.linker_section.proofs.Imports.{cases_eq, cases_lt, cases_Bool, cond-false, or_left, or_right, window_len, RelocationKindInfo, IsRow, Architecture}
+use Rattle.std.proofs.Common.{◌≡◌, ℕ, ◌+◌, ◌/◌, ◌<◌, ◌≤◌, List, length, drop, Some, true, false, ap, subst, inl, inr, arith}
+use Rattle.linker_section.proofs.Imports.{cases_eq, cases_lt, cases_Bool, cond-false, window_len, RelocationKindInfo, IsRow, Architecture}
 use Rattle.linker_section.proofs.Claims.{OneMore}
 use Rattle.linker_section.proofs.RowFacts.{says_way}
 use Rattle.linker_section.proofs.Stepping.{len_alone, len_paired}

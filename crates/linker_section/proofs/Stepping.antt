@@ -4,7 +4,7 @@ use Rattle.linker_section.proofs.Imports.{or_cases, or_parts, eqb-true, eq-eqb, 
 use Rattle.std.proofs.lemmas.Bool.{eqb-false}
 use Rattle.linker_elf.specs.declared.elf.RelocationKind.TheVariants as kinds
 use Rattle.linker_section.proofs.Claims.{clear_cases, apart_more, claimed_more, overlapped, apart_pair, claimed_pair, apart_mark, claimed_mark, to_in, from_in, one_below, pair_below}
-use Rattle.linker_section.proofs.Composing.{second_is_none, begun_is_continued_none, begun_ends_none, ended_begins_none, ended_has_value, unvalued_begins_none, unvalued_ends_none}
+use Rattle.linker_section.proofs.Composing.{second_is_none, begun_is_continued_none, begun_ends_none, ended_begins_none, ended_has_value}
 use Rattle.linker_section.proofs.Local.{IsLocal, one_local, pair_local, small_row}
 use Rattle.linker_section.proofs.Saving.{undone, restores_more, restores_by, restores_local, restores_pair, plus_one}
 use Rattle.linker_section.specs.Inner.Saved.{IsSavedAt, with_word, saved_place, Restores}
@@ -23,7 +23,6 @@ use Rattle.linker_section.specs.Relocations.{relocation_in}
 use Rattle.linker_section.specs.Sections.{IsWritten, BeginsPair, IsPairWritten, IsFirstRejectedBy, IsCauseAt, Values}
 use Rattle.linker_section.specs.Values.{has_value, offset_at}
 use Rattle.linker_section.specs.declared.facts.Addresses.{Addresses}
-use Rattle.linker_section.specs.declared.facts.Symbol.{Symbol}
 use Rattle.linker_section.specs.declared.fields.Field.{Field}
 use Rattle.std.specs.Prelude.{Err, Result}
 

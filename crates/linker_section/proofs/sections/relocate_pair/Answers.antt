@@ -1,12 +1,9 @@
-use Rattle.std.proofs.Common.{◌≡◌, ◌+◌, ◌≤◌, ◌++◌, ◌∙◌, ℕ, ℤ, List, length, take, refl, sym, ap, subst, true, true≢false, inr, drop, rules, FitsSigned, to_z, of_z, Ok, None}
+use Rattle.std.proofs.Common.{◌≡◌, ◌+◌, ◌≤◌, ◌++◌, ◌∙◌, ℕ, ℤ, List, length, take, refl, sym, ap, subst, true, true≢false, inr, drop, rules, FitsSigned, to_z, of_z, Ok}
 use Rattle.linker_section.proofs.Imports.{RelocationKindInfo, w64, to_z-of_z, IsUlebWritten, IsUlebCause, Architecture}
 use Rattle.linker_section.specs.Fields.{begins_pair, ends_pair}
 use Rattle.linker_section.specs.Relocations.{relocation_in}
-use Rattle.linker_section.specs.Sections.{IsRowValue, IsPair, IsNumberOfPair, IsNumberWrittenAt, HasValue, BeginsPair}
+use Rattle.linker_section.specs.Sections.{IsPair, IsNumberOfPair, IsNumberWrittenAt, BeginsPair}
 use Rattle.linker_section.specs.declared.facts.Addresses.{Addresses}
-use Rattle.linker_section.specs.declared.facts.Symbol.{Symbol}
-use Rattle.linker_section.specs.declared.relocations.Rela.{Rela}
-use Rattle.linker_section.proofs.Composing.{ended_has_value}
 use Rattle.linker_section.proofs.Rows.{one_info}
 use Rattle.linker_section.proofs.sections.relocate_pair.Goals as goal
 use Rattle.linker_section.specs.Sections.{IsValued, Values}

@@ -1,4 +1,4 @@
-use Rattle.std.proofs.Common.{◌≡◌, ◌+◌, ◌∙◌, sym, ap, subst, arith, length, rules, FitsSigned, to_z, of_z, inl, inr, refl, true, true≢false, Ok, Err, None, ◌≤◌, ◌<◌, ◌^◌, set}
+use Rattle.std.proofs.Common.{◌≡◌, ◌+◌, ◌∙◌, sym, ap, subst, arith, length, rules, FitsSigned, to_z, of_z, inl, inr, refl, true, true≢false, Ok, Err, ◌≤◌, ◌<◌, ◌^◌, set}
 use Rattle.linker_section.proofs.Imports.{to_z-of_z, w64, IfNone, IfSome, sum_64}
 use Rattle.linker_section.proofs.Lengths.{length_of, other_length}
 use Rattle.linker_section.proofs.Local.{pair_local}
