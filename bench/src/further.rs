@@ -859,7 +859,7 @@ fn runs(report: &mut Report, random: &mut Random) {
             .iter()
             .map(|it| runs::Relocation {
                 offset: it.offset,
-                code: it.r_type,
+                r_type: it.r_type,
                 has_symbol: it.has_symbol != 0,
                 addend: it.addend,
                 target: (it.has_target != 0).then_some(it.target),

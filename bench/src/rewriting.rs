@@ -698,11 +698,11 @@ impl Calls {
     const TARGETS: [u64; 2] = [0x1000_8000, 0x2000_0000];
 
     fn of(machine: u16, (bytes, relocations): Sequence) -> Calls {
-        let (at, code) = relocations[0];
+        let (at, r_type) = relocations[0];
         let relocation = |index: u64| {
             let symbol = index % 2;
             let offset = index * bytes.len() as u64 + at;
-            [offset, symbol << 32 | u64::from(code), 0].map(u64::to_le_bytes).concat()
+            [offset, symbol << 32 | u64::from(r_type), 0].map(u64::to_le_bytes).concat()
         };
         Calls {
             machine,

@@ -293,22 +293,22 @@ fn one_by_one(input: &Input) -> Side<'_> {
     })
 }
 
-/// The codes of a section's relocations, for what each requires.
+/// The r_types of a section's relocations, for what each requires.
 fn requirements(report: &mut Report, input: &Input) {
     let architecture = input.architecture();
-    let codes: Vec<u32> = input.operands.iter().map(|it| it.1).collect();
-    let codes = &codes;
+    let r_types: Vec<u32> = input.operands.iter().map(|it| it.1).collect();
+    let r_types = &r_types;
     let mut required = sathunne::raw::Requirements::default();
     let exports = Side::number(move || {
-        codes.iter().fold(0, |sum, code| {
+        r_types.iter().fold(0, |sum, r_type| {
             // SAFETY: it takes numbers, and a reference.
-            let status = unsafe { linker_utils_needs(input.machine, *code, 0, false, &mut required) };
+            let status = unsafe { linker_utils_needs(input.machine, *r_type, 0, false, &mut required) };
             added(sum, u64::from(status) | u64::from(required.entry_class))
         })
     });
     let erased = Side::number(move || {
-        codes.iter().fold(0, |sum, code| {
-            let needs = section::needs(architecture, *code, 0, false).expect("a row");
+        r_types.iter().fold(0, |sum, r_type| {
+            let needs = section::needs(architecture, *r_type, 0, false).expect("a row");
             let class = needs.entry.map_or(0, |entry| 1 + entry.class as u64);
             added(sum, class)
         })

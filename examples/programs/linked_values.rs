@@ -19,7 +19,7 @@ fn main() -> Result<(), Box<dyn std::error::Error>> {
         let section = sections.section(SectionIndex(it.sh_info(LE) as usize))?;
         let relas = it.data(LE, file)?;
         for rela in relocations(relas) {
-            let row = machine.row(rela.code).ok_or("a relocation's type is unknown")?;
+            let row = machine.row(rela.r_type).ok_or("a relocation's type is unknown")?;
             let start = rela.offset.wrapping_sub(section.sh_addr(LE)) as usize;
             let bytes = section.data(LE, file)?.get(start..).and_then(|it| it.get(..row.window()));
             let known = read(&row, bytes.ok_or("a relocation isn't in its section")?);
@@ -27,7 +27,7 @@ fn main() -> Result<(), Box<dyn std::error::Error>> {
                 (Ok(None), _) => {} // it has no value
                 (Ok(Some(value)), Some(known)) if known.is_of(value as u64) => same += 1,
                 (Ok(Some(value)), Some(known)) => {
-                    println!("{:#x} {:?}: {value:#x}, not {known:x?}", rela.offset, machine.name(rela.code));
+                    println!("{:#x} {:?}: {value:#x}, not {known:x?}", rela.offset, machine.name(rela.r_type));
                     different += 1;
                 }
                 (Ok(_) | Err(ValueError::NoEntry | ValueError::NoTlsBase), _) => others += 1,

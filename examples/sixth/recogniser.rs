@@ -7,8 +7,8 @@ use crate::sixth::{RewriteKind, SixthRelocation};
 impl RecognisedName for SixthRelocation {
     type Kind = RewriteKind;
 
-    fn code(self) -> u32 {
-        self.elf_code()
+    fn elf_type(self) -> u32 {
+        self.r_type()
     }
 
     fn relaxation(kind: Self::Kind) -> Relaxation {

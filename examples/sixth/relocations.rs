@@ -5,7 +5,7 @@ use crate::linker_elf::elf::rows::{TableRow, info_in, listed, row_in, text_at};
 use crate::linker_elf::elf::{RelocationKindInfo, Row};
 use core::fmt;
 
-/// The relocations. Most codes are such as other architectures have for something else.
+/// The relocations. Most types are such as other architectures have for something else.
 #[cfg_attr(not(exhaustive), non_exhaustive)]
 #[derive(Clone, Copy, PartialEq, Eq, Hash, PartialOrd, Ord)]
 pub enum SixthRelocation {
@@ -25,7 +25,7 @@ pub enum SixthRelocation {
     R_SIXTH_TLS_PAIR_ADD,
     R_SIXTH_GOT_DISTANCE,
     R_SIXTH_WORD,
-    /// A code without a name here.
+    /// An `r_type` without a name here.
     Other(u32),
 }
 
@@ -68,7 +68,7 @@ macro_rules! relocations {
 impl fmt::Debug for SixthRelocation {
     fn fmt(&self, f: &mut fmt::Formatter<'_>) -> fmt::Result {
         match self {
-            SixthRelocation::Other(code) => f.debug_tuple("Other").field(code).finish(),
+            SixthRelocation::Other(r_type) => f.debug_tuple("Other").field(r_type).finish(),
             _ => f.write_str(self.name()),
         }
     }
@@ -77,16 +77,16 @@ impl fmt::Debug for SixthRelocation {
 impl SixthRelocation {
     #[must_use]
     #[inline(always)]
-    pub const fn from_elf(code: u32) -> SixthRelocation {
-        relocations!(name_of SixthRelocation, code)
+    pub const fn from_elf(r_type: u32) -> SixthRelocation {
+        relocations!(name_of SixthRelocation, r_type)
     }
 
     #[must_use]
     #[inline]
-    pub const fn elf_code(self) -> u32 {
+    pub const fn r_type(self) -> u32 {
         match self {
-            SixthRelocation::Other(code) => code,
-            _ => CODES[index(self)],
+            SixthRelocation::Other(r_type) => r_type,
+            _ => R_TYPES[index(self)],
         }
     }
 
@@ -99,7 +99,7 @@ impl SixthRelocation {
     }
 }
 
-static CODES: &[u32] = &relocations!(codes);
+static R_TYPES: &[u32] = &relocations!(r_types);
 
 static TEXTS: &[&str] = &relocations!(texts);
 

@@ -22,26 +22,26 @@ use std::collections::BTreeSet;
 use std::io::{self, BufReader, BufWriter, ErrorKind, Read, Write};
 
 /// Whether the table of choices has entries for a relocation.
-fn has_choices(architecture: Architecture, code: u32) -> bool {
+fn has_choices(architecture: Architecture, r_type: u32) -> bool {
     match architecture {
         Architecture::AArch64 => {
-            aarch64::RewriteKind::may_be_listed(AArch64Relocation::from_elf(code))
+            aarch64::RewriteKind::may_be_listed(AArch64Relocation::from_elf(r_type))
         }
-        Architecture::RiscV => riscv64::RewriteKind::may_be_listed(RiscVRelocation::from_elf(code)),
+        Architecture::RiscV => riscv64::RewriteKind::may_be_listed(RiscVRelocation::from_elf(r_type)),
         Architecture::LoongArch64 => {
-            loongarch64::RewriteKind::may_be_listed(LoongArch64Relocation::from_elf(code))
+            loongarch64::RewriteKind::may_be_listed(LoongArch64Relocation::from_elf(r_type))
         }
-        Architecture::Ppc64 => ppc64::RewriteKind::may_be_listed(Ppc64Relocation::from_elf(code)),
-        Architecture::X86_64 => x86_64::RewriteKind::may_be_listed(X86_64Relocation::from_elf(code)),
+        Architecture::Ppc64 => ppc64::RewriteKind::may_be_listed(Ppc64Relocation::from_elf(r_type)),
+        Architecture::X86_64 => x86_64::RewriteKind::may_be_listed(X86_64Relocation::from_elf(r_type)),
         _ => false,
     }
 }
 
-/// The codes of an architecture's relocations that any choice is made for.
-fn codes_with_choices(architecture: Architecture) -> BTreeSet<u32> {
+/// The r_types of an architecture's relocations that any choice is made for.
+fn types_with_choices(architecture: Architecture) -> BTreeSet<u32> {
     // no psABI has a type above
     (0..0x1_0000)
-        .filter(|code| architecture.name(*code).is_some() && has_choices(architecture, *code))
+        .filter(|r_type| architecture.name(*r_type).is_some() && has_choices(architecture, *r_type))
         .collect()
 }
 
@@ -69,23 +69,23 @@ fn facts(addend: i64) -> LinkFacts {
 }
 
 /// Whether a rewrite is chosen for the bytes at an offset, with an addend that is asked for.
-fn is_chosen(architecture: Architecture, code: u32, section: &[u8], offset: u64) -> bool {
+fn is_chosen(architecture: Architecture, r_type: u32, section: &[u8], offset: u64) -> bool {
     [0, -4, 4].into_iter().any(|addend| {
-        let choice = choose(architecture, code, section, offset, &facts(addend));
-        !choice.is_unchanged(code)
+        let choice = choose(architecture, r_type, section, offset, &facts(addend));
+        !choice.is_unchanged(r_type)
     })
 }
 
 /// The response to a request.
 fn response(
     architecture: Architecture,
-    codes: &BTreeSet<u32>,
+    r_types: &BTreeSet<u32>,
     section: &[u8],
     rela: &[u8],
 ) -> Vec<u8> {
-    let of = |it: Rela| match codes.contains(&it.code) {
+    let of = |it: Rela| match r_types.contains(&it.r_type) {
         false => b'-',
-        true if is_chosen(architecture, it.code, section, it.offset) => b'y',
+        true if is_chosen(architecture, it.r_type, section, it.offset) => b'y',
         true => b'n',
     };
     relocations(rela).map(of).collect()
@@ -102,7 +102,7 @@ fn architectures() -> impl Iterator<Item = Architecture> {
 }
 
 fn serve(input: &mut impl Read, out: &mut impl Write) -> io::Result<()> {
-    let tables: Vec<_> = architectures().map(|one| (one, codes_with_choices(one))).collect();
+    let tables: Vec<_> = architectures().map(|one| (one, types_with_choices(one))).collect();
     loop {
         let mut numbers = [0; 24];
         match input.read_exact(&mut numbers) {
@@ -112,9 +112,9 @@ fn serve(input: &mut impl Read, out: &mut impl Write) -> io::Result<()> {
         let [machine, section, rela] =
             [0, 8, 16].map(|at| u64::from_le_bytes(numbers[at..at + 8].try_into().expect("8")));
         let table = tables.iter().find(|(one, _)| u64::from(one.machine()) == machine);
-        let (architecture, codes) = table.ok_or(ErrorKind::InvalidInput)?;
+        let (architecture, r_types) = table.ok_or(ErrorKind::InvalidInput)?;
         let (section, rela) = (bytes(input, section)?, bytes(input, rela)?);
-        out.write_all(&response(*architecture, codes, &section, &rela))?;
+        out.write_all(&response(*architecture, r_types, &section, &rela))?;
         out.flush()?;
     }
 }
@@ -125,8 +125,8 @@ fn main() -> io::Result<()> {
         return serve(&mut input, &mut out);
     }
     for architecture in architectures() {
-        for code in codes_with_choices(architecture) {
-            writeln!(out, "{} {code}", architecture.machine())?;
+        for r_type in types_with_choices(architecture) {
+            writeln!(out, "{} {r_type}", architecture.machine())?;
         }
     }
     out.flush()

@@ -9,7 +9,7 @@ use linker_utils::x86_64::X86_64Relocation::*;
 
 struct Relocation {
     offset: u64,
-    code: u32,
+    r_type: u32,
     addend: i64,
     symbol: &'static str,
 }
@@ -32,10 +32,10 @@ fn main() {
         (11, R_X86_64_TLSGD, "t"),
         (19, R_X86_64_PLT32, "__tls_get_addr"),
     ]
-    .map(|(offset, name, symbol)| Relocation { offset, code: name.elf_code(), addend: -4, symbol });
+    .map(|(offset, name, symbol)| Relocation { offset, r_type: name.r_type(), addend: -4, symbol });
 
     let mut skipped = Vec::new();
-    for Relocation { offset, code, addend, symbol } in &relocations {
+    for Relocation { offset, r_type, addend, symbol } in &relocations {
         if skipped.contains(offset) {
             continue;
         }
@@ -54,18 +54,18 @@ fn main() {
         // a sequence is rewritten as a whole: if each of its relocations can be, and the one that is
         // skipped then is that of its call
         let all = LinkFacts { group_fits: true, ..facts };
-        let if_all = choose(architecture, *code, &section, *offset, &all);
-        let group_fits = fits(architecture, *code, &section, *offset, &facts)
+        let if_all = choose(architecture, *r_type, &section, *offset, &all);
+        let group_fits = fits(architecture, *r_type, &section, *offset, &facts)
             && if_all.kind.skipped_offset().is_none_or(|behind| {
                 relocations.iter().any(|call| {
                     call.offset == offset + behind
-                        && may_be_skipped(architecture, call.code)
+                        && may_be_skipped(architecture, call.r_type)
                         && call.symbol == "__tls_get_addr"
                 })
             });
         let facts = LinkFacts { group_fits, ..facts };
 
-        let choice = choose(architecture, *code, &section, *offset, &facts);
+        let choice = choose(architecture, *r_type, &section, *offset, &facts);
         if choice.kind.next_modifier() == RelocationModifier::SkipNextRelocation {
             skipped.extend(choice.kind.skipped_offset().map(|behind| offset + behind));
         }

@@ -9,9 +9,9 @@ use linker_utils::x86_64::X86_64Relocation::*;
 /// What stands in a linked section, which is at an address, for the first of some relocations of the object's:
 /// an offset, a type and an addend each.
 fn made(of: Architecture, object: &[u8], linked: (u64, &[u8]), relocations: &[(usize, u32, i64)]) -> Vec<String> {
-    let (at, code, addend) = relocations[0];
+    let (at, r_type, addend) = relocations[0];
     let from = at.saturating_sub(16) / 4 * 4;
-    let window = window_of(of, code, &object[from..object.len().min(at + 44)], (at - from) as u64);
+    let window = window_of(of, r_type, &object[from..object.len().min(at + 44)], (at - from) as u64);
     let range = at - window.back as usize..at - window.back as usize + window.len as usize;
     let others = relocations[1..].iter().filter(|other| range.contains(&other.0)).filter_map(|other| {
         let offset = (other.0 - range.start) as u64;
@@ -19,7 +19,7 @@ fn made(of: Architecture, object: &[u8], linked: (u64, &[u8]), relocations: &[(u
     });
     let (others, original) = (others.collect::<Vec<_>>(), &object[range.clone()]);
     let (offset, others, linked_bytes) = (window.back, &others[..], &linked.1[range.clone()]);
-    let found = recognise(of, code, &Windows { original, offset, others, linked: linked_bytes });
+    let found = recognise(of, r_type, &Windows { original, offset, others, linked: linked_bytes });
     found.into_iter().flatten().map(|made| {
         let operands = Operands { place: linked.0 + range.start as u64 + made.offset, addend, ..Operands::default() };
         let symbol = destination_of(of, &made, original, window.back, &operands).and_then(|to| to.symbol(0));
@@ -38,7 +38,7 @@ fn main() {
         [(3, R_X86_64_REX_GOTPCRELX, true), (9, R_X86_64_GOTPCRELX, false), (17, R_X86_64_CODE_4_GOTPCRELX, true)];
     for (at, name, differ) in relocations {
         let [a, b] = [(0x401000, &one[..]), (0x402000, &other[..])]
-            .map(|linked| made(Architecture::X86_64, &object, linked, &[(at, name.elf_code(), -4)]));
+            .map(|linked| made(Architecture::X86_64, &object, linked, &[(at, name.r_type(), -4)]));
         println!("{at}: {a:?}, {b:?}");
         assert_eq!(a[0].split(" to ").next() != b[0].split(" to ").next(), differ);
     }

@@ -41,7 +41,7 @@ fn link(
     let mut words = Vec::new();
     for relocation in relocations(section.relocations) {
         let symbol = &mut symbols[relocation.symbol as usize];
-        let needed = needs(architecture, relocation.code, relocation.addend, symbol.is_thread_local);
+        let needed = needs(architecture, relocation.r_type, relocation.addend, symbol.is_thread_local);
         let Some(entry) = needed.and_then(|needed| needed.entry) else { continue };
         let address = match entry.class {
             EntryClass::Address => &mut symbol.address_entry,
@@ -84,10 +84,10 @@ fn main() {
     // mov x@GOTPCREL(%rip), %rax; mov t@gottpoff(%rip), %rcx; cmp %rax, x@GOTPCREL(%rip); call _start
     let mut code = *b"\x48\x8b\x05\0\0\0\0\x48\x8b\x0d\0\0\0\0\x48\x39\x05\0\0\0\0\xe8\0\0\0\0";
     let mut rows = rela(&[
-        (3, 2, R_X86_64_REX_GOTPCRELX.elf_code(), -4),
-        (10, 3, R_X86_64_GOTTPOFF.elf_code(), -4),
-        (17, 2, R_X86_64_GOTPCREL.elf_code(), -4),
-        (22, 1, R_X86_64_PLT32.elf_code(), -4),
+        (3, 2, R_X86_64_REX_GOTPCRELX.r_type(), -4),
+        (10, 3, R_X86_64_GOTTPOFF.r_type(), -4),
+        (17, 2, R_X86_64_GOTPCREL.r_type(), -4),
+        (22, 1, R_X86_64_PLT32.r_type(), -4),
     ]);
     let words = link(Architecture::X86_64, &mut code, &mut rows, &facts, &mut symbols.clone());
     // as ld.lld: lea x(%rip), %rax; mov $-8, %rcx; cmp %rax, 0x403000(%rip); call _start
@@ -100,11 +100,11 @@ fn main() {
     // bl _start
     let mut code = *b"\0\0\0\x90\0\0\x40\xf9\x01\0\0\x90\x21\0\x40\xf9\0\0\0\x94";
     let mut rows = rela(&[
-        (0, 2, R_AARCH64_ADR_GOT_PAGE.elf_code(), 0),
-        (4, 2, R_AARCH64_LD64_GOT_LO12_NC.elf_code(), 0),
-        (8, 3, R_AARCH64_TLSIE_ADR_GOTTPREL_PAGE21.elf_code(), 0),
-        (12, 3, R_AARCH64_TLSIE_LD64_GOTTPREL_LO12_NC.elf_code(), 0),
-        (16, 1, R_AARCH64_CALL26.elf_code(), 0),
+        (0, 2, R_AARCH64_ADR_GOT_PAGE.r_type(), 0),
+        (4, 2, R_AARCH64_LD64_GOT_LO12_NC.r_type(), 0),
+        (8, 3, R_AARCH64_TLSIE_ADR_GOTTPREL_PAGE21.r_type(), 0),
+        (12, 3, R_AARCH64_TLSIE_LD64_GOTTPREL_LO12_NC.r_type(), 0),
+        (16, 1, R_AARCH64_CALL26.r_type(), 0),
     ]);
     link(Architecture::AArch64, &mut code, &mut rows, &facts, &mut symbols.clone());
     // as ld.lld: nop; adr x0, x; movz x1, #0, lsl #16; movk x1, #16; bl _start

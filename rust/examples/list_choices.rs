@@ -300,8 +300,8 @@ fn list<O: Debug + 'static, K: Copy + Debug + 'static, R: Copy + Debug + Into<u3
             }
         }
     }
-    for (code, name) in values {
-        let row = architecture.row(code).expect("a relocation of a condition has a row");
+    for (r_type, name) in values {
+        let row = architecture.row(r_type).expect("a relocation of a condition has a row");
         let info = row.info();
         let biased = info.bias.map_or(String::new(), |bias| format!(" + {:#x}", bias.value()));
         let pages = if info.mask.is_some() { ", of pages" } else { "" };

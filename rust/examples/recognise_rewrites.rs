@@ -28,7 +28,7 @@ fn main() {
     ] {
         let (original, linked) = (&object[window.clone()], &linked[window.clone()]);
         let windows = Windows { original, offset, others: &[], linked };
-        let found = recognise(architecture, name.elf_code(), &windows);
+        let found = recognise(architecture, name.r_type(), &windows);
         let made = found.into_iter().flatten().next().expect("a rewrite, or none");
         // the addend of the relocation after the rewrite
         let (mut bytes, mut at, mut addend) = (original.to_vec(), offset, addend);

@@ -47,10 +47,10 @@ fn main() -> Result<(), Box<dyn Error>> {
                 section: Section { base: base.parse()?, ..Section::new(bytes_of(bytes)?, []) },
                 ..Input::default()
             }),
-            ["relocation", offset, code, symbol, addend, target] => {
+            ["relocation", offset, r_type, symbol, addend, target] => {
                 sections.last_mut().ok_or("no section")?.relocations.push(Relocation {
                     offset: offset.parse()?,
-                    code: code.parse()?,
+                    r_type: r_type.parse()?,
                     has_symbol: symbol == "1",
                     addend: addend.parse()?,
                     target: if target == "-" { None } else { Some(target.parse()?) },

@@ -14,7 +14,7 @@ fn main() {
     let jal = (0, 1, R_RISCV_JAL, 0);
     let pair = [(4, 2, R_RISCV_SET_ULEB128, 0), (4, 1, R_RISCV_SUB_ULEB128, 0)];
     let rows = [jal, pair[0], pair[1], (6, 2, R_RISCV_64, -5i64)];
-    let rela = rows.map(|(at, symbol, name, addend)| [at, symbol << 32 | u64::from(name.elf_code()), addend as u64]);
+    let rela = rows.map(|(at, symbol, name, addend)| [at, symbol << 32 | u64::from(name.r_type()), addend as u64]);
     let rela = rela.as_flattened().iter().flat_map(|word: &u64| word.to_le_bytes()).collect::<Vec<_>>();
     let mut memory = vec![0; memory_len(&rela)];
     let (link, object) = (Link::new(Architecture::RiscV), Object { values: &values, ..Object::default() });

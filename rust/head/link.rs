@@ -153,7 +153,7 @@ impl<B, R> Section<B, R> {
 ///
 /// let mut entries = [0; 48];
 /// (entries[24], entries[32]) = (4, 24);
-/// assert_eq!(relocations(&entries).map(|it| it.code).collect::<Vec<_>>(), [0, 24]);
+/// assert_eq!(relocations(&entries).map(|it| it.r_type).collect::<Vec<_>>(), [0, 24]);
 /// assert_eq!(relocations(&entries).nth(1), relocation_at(&entries, 1));
 /// ```
 #[inline]
@@ -209,7 +209,7 @@ impl Relocation {
     pub const fn new(relocation: Rela, target: Option<u64>, may_compress: bool) -> Relocation {
         Relocation {
             offset: relocation.offset,
-            code: relocation.code,
+            r_type: relocation.r_type,
             has_symbol: relocation.symbol != 0,
             addend: relocation.addend,
             target,

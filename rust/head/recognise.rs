@@ -105,11 +105,11 @@ pub mod architecture {
     #[cfg_attr(debug_assertions, track_caller)]
     pub fn recognise(
         architecture: Architecture,
-        code: u32,
+        r_type: u32,
         windows: &Windows<'_>,
     ) -> [Option<Recognised<Relaxation, u32>>; CANDIDATES] {
         let Windows { original, offset, others, linked } = *windows;
-        architecture::recognise(architecture, code, original, offset, others, linked)
+        architecture::recognise(architecture, r_type, original, offset, others, linked)
     }
 
     //= linker_reading::recognise::architecture::recognise_chosen
@@ -118,11 +118,11 @@ pub mod architecture {
     #[cfg_attr(debug_assertions, track_caller)]
     pub fn recognise_chosen(
         architecture: Architecture,
-        code: u32,
+        r_type: u32,
         windows: &Windows<'_>,
         facts: &LinkFacts,
     ) -> Option<Recognised<Relaxation, u32>> {
         let Windows { original, offset, others, linked } = *windows;
-        architecture::recognise_chosen(architecture, code, original, offset, others, linked, facts)
+        architecture::recognise_chosen(architecture, r_type, original, offset, others, linked, facts)
     }
 }

@@ -1,7 +1,6 @@
 // SPDX-License-Identifier: MIT OR Apache-2.0
 // Made by tools/generate of crates/linker_utils/src/architecture.rt.
-//! A rewrite of any architecture, and which one a linker makes at the relocation with a code
-//! (`r_type`).
+//! A rewrite of any architecture, and which one a linker makes at the relocation with an `r_type`.
 
 use crate::elf::{
     Architecture, Choice, InstructionRewrite, LinkFacts, OtherRelocation, RewriteWindow,
@@ -53,12 +52,12 @@ macro_rules! of_kind {
 
 macro_rules! chosen {
     ($of:ident $module:ident $names:ident
-        ($code:expr, $section:expr, $offset:expr, $facts:expr)) => {{
-        let name = crate::$module::$names::from_elf($code);
+        ($r_type:expr, $section:expr, $offset:expr, $facts:expr)) => {{
+        let name = crate::$module::$names::from_elf($r_type);
         let chosen = crate::$module::choose(name, $section, $offset, $facts);
         Choice {
             kind: Relaxation::$of(chosen.kind),
-            relocation: chosen.relocation.elf_code(),
+            relocation: chosen.relocation.r_type(),
         }
     }};
 }
@@ -129,7 +128,7 @@ impl Relaxation {
         }
     }
 
-    /// The relocation of another instruction that the rewrite changes too, by its code, as
+    /// The relocation of another instruction that the rewrite changes too, by its `r_type`, as
     /// `other_relocation` of the `RewriteKind` of `aarch64` says. Whatever relocation is there
     /// becomes that one. `None` where the rewrite changes no other instruction that has one, and
     /// for all other architectures: where their rewrites do, the next relocation is skipped
@@ -149,7 +148,7 @@ impl Relaxation {
         match kind.other_relocation() {
             Some(other) => Some(OtherRelocation {
                 offset: other.offset,
-                relocation: other.relocation.elf_code(),
+                relocation: other.relocation.r_type(),
             }),
             None => None,
         }
@@ -226,9 +225,9 @@ impl InstructionRewrite for Relaxation {
     }
 }
 
-/// Which rewrite a linker makes at the relocation with a code, `r_type` in ELF files, and the
-/// code of the relocation after it, as `choose` of `aarch64`, `riscv64`, `loongarch64`, `ppc64`
-/// and `x86_64` says.
+/// Which rewrite a linker makes at the relocation with an `r_type`, and the `r_type` of the
+/// relocation after it, as `choose` of `aarch64`, `riscv64`, `loongarch64`, `ppc64` and `x86_64`
+/// says.
 ///
 /// ```
 /// use linker_utils::architecture::{Relaxation, choose};
@@ -250,19 +249,18 @@ impl InstructionRewrite for Relaxation {
 #[must_use]
 pub fn choose(
     architecture: Architecture,
-    code: u32,
+    r_type: u32,
     section: &[u8],
     offset: u64,
     facts: &LinkFacts,
 ) -> Choice<Relaxation, u32> {
-    by_architecture!(architecture, chosen(code, section, offset, facts))
+    by_architecture!(architecture, chosen(r_type, section, offset, facts))
 }
 
-/// Whether the relocation with a code, `r_type` in ELF files, can be rewritten if each other
-/// one of its sequence can: whether `choose` changes something with `group_fits`. A linker
-/// calls it for each relocation of the sequence before it chooses, with the facts that it
-/// chooses by, and sets `group_fits` for all of them if all fit, as `fits` of `aarch64`,
-/// `riscv64`, `loongarch64`, `ppc64` and `x86_64` says.
+/// Whether the relocation with an `r_type` can be rewritten if each other one of its sequence can:
+/// whether `choose` changes something with `group_fits`. A linker calls it for each relocation of
+/// the sequence before it chooses, with the facts that it chooses by, and sets `group_fits` for all
+/// of them if all fit, as `fits` of `aarch64`, `riscv64`, `loongarch64`, `ppc64` and `x86_64` says.
 ///
 /// ```
 /// use linker_utils::architecture::fits;
@@ -277,7 +275,7 @@ pub fn choose(
 #[must_use]
 pub fn fits(
     architecture: Architecture,
-    code: u32,
+    r_type: u32,
     section: &[u8],
     offset: u64,
     facts: &LinkFacts,
@@ -286,12 +284,12 @@ pub fn fits(
         group_fits: true,
         ..*facts
     };
-    !choose(architecture, code, section, offset, &facts).is_unchanged(code)
+    !choose(architecture, r_type, section, offset, &facts).is_unchanged(r_type)
 }
 
-/// Whether the relocation with a code has a type that one skipped after a rewrite has, where
-/// `skipped_offset` says: of a call of `__tls_get_addr`, and of RISC-V `R_RISCV_RELAX`. False
-/// of architectures whose rewrites skip none.
+/// Whether the relocation with an `r_type` has a type that one skipped after a rewrite has, where
+/// `skipped_offset` says: of a call of `__tls_get_addr`, and of RISC-V `R_RISCV_RELAX`. False of
+/// architectures whose rewrites skip none.
 ///
 /// ```
 /// use linker_utils::architecture::may_be_skipped;
@@ -302,14 +300,14 @@ pub fn fits(
 /// assert!(!may_be_skipped(Architecture::X86_64, 1));
 /// ```
 #[must_use]
-pub fn may_be_skipped(architecture: Architecture, code: u32) -> bool {
+pub fn may_be_skipped(architecture: Architecture, r_type: u32) -> bool {
     match architecture {
         #[cfg(feature = "riscv64")]
-        Architecture::RiscV => riscv64::may_be_skipped(RiscVRelocation::from_elf(code)),
+        Architecture::RiscV => riscv64::may_be_skipped(RiscVRelocation::from_elf(r_type)),
         #[cfg(feature = "ppc64")]
-        Architecture::Ppc64 => ppc64::may_be_skipped(Ppc64Relocation::from_elf(code)),
+        Architecture::Ppc64 => ppc64::may_be_skipped(Ppc64Relocation::from_elf(r_type)),
         #[cfg(feature = "x86_64")]
-        Architecture::X86_64 => x86_64::may_be_skipped(X86_64Relocation::from_elf(code)),
+        Architecture::X86_64 => x86_64::may_be_skipped(X86_64Relocation::from_elf(r_type)),
         _ => false,
     }
 }

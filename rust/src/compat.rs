@@ -20,37 +20,37 @@
 
 pub use crate::{architecture, bit_misc, elf};
 
-/// An architecture's module, with a row by its code.
-macro_rules! by_code {
+/// An architecture's module, with a row by its `r_type`.
+macro_rules! by_type {
     ($module:ident, $row:ident, $names:ident $(, $more:item)*) => {
         #[doc = concat!("`", stringify!($module), "`, where relocations are numbers.")]
         pub mod $module {
             use crate::elf::RelocationKindInfo;
             pub use crate::$module::*;
 
-            /// Above the codes of all names, which ascend.
-            const END: usize = $names::ALL[$names::ALL.len() - 1].elf_code() as usize + 1;
+            /// Above the types of all names, which ascend.
+            const END: usize = $names::ALL[$names::ALL.len() - 1].r_type() as usize + 1;
 
-            /// The rows by their codes.
+            /// The rows by `r_type`.
             static ROWS: [Option<RelocationKindInfo>; END] = {
                 let mut rows = [None; END];
                 let mut at = 0;
                 while at < $names::ALL.len() {
                     let name = $names::ALL[at];
-                    rows[name.elf_code() as usize] = crate::$module::$row(name);
+                    rows[name.r_type() as usize] = crate::$module::$row(name);
                     at += 1;
                 }
                 rows
             };
 
-            /// What the relocation with a code, `r_type` in ELF files, means.
+            /// What the relocation with an `r_type` means.
             #[must_use]
             #[inline]
             pub const fn $row(r_type: u32) -> Option<RelocationKindInfo> {
-                let code = r_type as usize;
-                if code < END {
+                let r_type = r_type as usize;
+                if r_type < END {
                     // by reference, so that no bytes of a missing row are copied
-                    if let Some(row) = &ROWS[code] {
+                    if let Some(row) = &ROWS[r_type] {
                         return Some(*row);
                     }
                 }
@@ -63,19 +63,19 @@ macro_rules! by_code {
 }
 
 #[cfg(feature = "aarch64")]
-by_code!(aarch64, relocation_type_from_raw, AArch64Relocation);
+by_type!(aarch64, relocation_type_from_raw, AArch64Relocation);
 #[cfg(feature = "loongarch64")]
-by_code!(loongarch64, relocation_type_from_raw, LoongArch64Relocation);
+by_type!(loongarch64, relocation_type_from_raw, LoongArch64Relocation);
 #[cfg(feature = "ppc64")]
-by_code!(ppc64, relocation_type_from_raw, Ppc64Relocation);
+by_type!(ppc64, relocation_type_from_raw, Ppc64Relocation);
 #[cfg(feature = "riscv64")]
-by_code! {
+by_type! {
     riscv64, relocation_type_from_raw, RiscVRelocation,
     /// The distances that `distance_fits_jal` accepts.
     pub const JAL_RANGE: core::ops::RangeInclusive<i64> = JAL_MIN..=JAL_MAX;
 }
 #[cfg(feature = "x86_64")]
-by_code!(x86_64, relocation_from_raw, X86_64Relocation);
+by_type!(x86_64, relocation_from_raw, X86_64Relocation);
 
 /// `relaxation`, where deletions are taken as vectors and calls that allocate return no `Result`.
 pub mod relaxation {
@@ -227,9 +227,9 @@ mod tests {
     fn rows_are_those_of_names() {
         macro_rules! compare {
             ($module:ident, $row:ident, $names:ident) => {
-                for code in (0..1 << 16).chain([u32::MAX]) {
-                    let named = crate::$module::$row(crate::$module::$names::from_elf(code));
-                    assert_eq!(super::$module::$row(code), named, "{} {code}", stringify!($module));
+                for r_type in (0..1 << 16).chain([u32::MAX]) {
+                    let named = crate::$module::$row(crate::$module::$names::from_elf(r_type));
+                    assert_eq!(super::$module::$row(r_type), named, "{} {r_type}", stringify!($module));
                 }
             };
         }

@@ -158,7 +158,7 @@ impl<B, R> Section<B, R> {
 ///
 /// let mut entries = [0; 48];
 /// (entries[24], entries[32]) = (4, 24);
-/// assert_eq!(relocations(&entries).map(|it| it.code).collect::<Vec<_>>(), [0, 24]);
+/// assert_eq!(relocations(&entries).map(|it| it.r_type).collect::<Vec<_>>(), [0, 24]);
 /// assert_eq!(relocations(&entries).nth(1), relocation_at(&entries, 1));
 /// ```
 #[inline]
@@ -214,7 +214,7 @@ impl Relocation {
     pub const fn new(relocation: Rela, target: Option<u64>, may_compress: bool) -> Relocation {
         Relocation {
             offset: relocation.offset,
-            code: relocation.code,
+            r_type: relocation.r_type,
             has_symbol: relocation.symbol != 0,
             addend: relocation.addend,
             target,
@@ -342,9 +342,9 @@ fn explained<S: Symbols>(
 ///
 /// A relocation without a value, as `R_RISCV_RELAX`, has no field. Where code would be wrong with
 /// its value, it isn't written (`NotAligned`, `NeedsStub`, `OtherLength`, `OutOfReach`). A linker
-/// that removes the nops of an alignment itself sets the relocation's code to 0. n relocations that
-/// ascend by offset take time in proportion to n, also most that are two such lists, one after the
-/// other. In any other order their indexes are sorted in `memory` first, and the time is in
+/// that removes the nops of an alignment itself sets the relocation's `r_type` to 0. n relocations
+/// that ascend by offset take time in proportion to n, also most that are two such lists, one after
+/// the other. In any other order their indexes are sorted in `memory` first, and the time is in
 /// proportion to n log n; each low part of RISC-V then takes up to n more.
 ///
 /// # Errors

@@ -8,7 +8,6 @@
 #[cfg(feature = "aarch64")]
 mod aarch64;
 pub mod addresses;
-mod codes;
 pub mod description;
 pub mod dynamic;
 pub mod flags;
@@ -22,6 +21,7 @@ pub mod placement;
 #[cfg(feature = "ppc64")]
 mod ppc64;
 pub mod properties;
+mod r_types;
 pub mod relr;
 #[cfg(feature = "riscv64")]
 mod riscv64;

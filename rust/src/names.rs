@@ -83,7 +83,7 @@ impl Display for Architecture {
     }
 }
 
-/// Above the codes of all names.
+/// Above the types of all names.
 const END: u32 = 2048;
 
 macro_rules! listed {
@@ -96,28 +96,28 @@ impl Architecture {
     /// All architectures that the crate has code of.
     pub const ALL: &[Architecture] = architectures!([listed] ());
 
-    /// The relocations that have a row, by ascending code, each with it.
+    /// The relocations that have a row, by ascending `r_type`, each with it.
     ///
     /// ```
     /// use linker_utils::elf::Architecture;
     ///
     /// // R_AARCH64_ABS64, R_AARCH64_ABS32 and R_AARCH64_ABS16 write 8, 4 and 2 bytes
-    /// let rows = Architecture::AArch64.rows().map(|(code, row)| (code, row.window()));
+    /// let rows = Architecture::AArch64.rows().map(|(r_type, row)| (r_type, row.window()));
     /// assert!(rows.skip_while(|row| row.0 < 257).take(3).eq([(257, 8), (258, 4), (259, 2)]));
     /// ```
     pub fn rows(self) -> impl DoubleEndedIterator<Item = (u32, Row)> + Clone {
-        (0..END).filter_map(move |code| Some((code, self.row(code)?)))
+        (0..END).filter_map(move |r_type| Some((r_type, self.row(r_type)?)))
     }
 }
 
-/// What each enum of names has. The number is above the codes of its names, so that the compiler tries
-/// few others; `tests/names.rs` compares `ALL` with the enums.
+/// What each enum of names has. The number is above the types of its names, so that the compiler
+/// tries few others; `tests/names.rs` compares `ALL` with the enums.
 macro_rules! names {
     ($module:ident $names:ident $end:literal) => {
         use crate::$module::$names;
 
         impl $names {
-            /// All relocations that have a name, by ascending code.
+            /// All relocations that have a name, by ascending `r_type`.
             pub const ALL: &[$names] = {
                 const COUNT: usize = named(&mut []);
                 const NAMES: [$names; COUNT] = {
@@ -127,16 +127,16 @@ macro_rules! names {
                 };
                 /// Writes the names as far as there is room, and counts them.
                 const fn named(names: &mut [$names]) -> usize {
-                    let (mut count, mut code) = (0, 0);
-                    while code < $end {
-                        let name = $names::from_elf(code);
+                    let (mut count, mut r_type) = (0, 0);
+                    while r_type < $end {
+                        let name = $names::from_elf(r_type);
                         if !matches!(name, $names::Other(_)) {
                             if count < names.len() {
                                 names[count] = name;
                             }
                             count += 1;
                         }
-                        code += 1;
+                        r_type += 1;
                     }
                     count
                 }
@@ -146,23 +146,23 @@ macro_rules! names {
 
         impl From<u32> for $names {
             /// `from_elf`.
-            fn from(code: u32) -> $names {
-                $names::from_elf(code)
+            fn from(r_type: u32) -> $names {
+                $names::from_elf(r_type)
             }
         }
 
         impl From<$names> for u32 {
-            /// `elf_code`.
+            /// `r_type`.
             fn from(name: $names) -> u32 {
-                name.elf_code()
+                name.r_type()
             }
         }
 
         impl Display for $names {
-            /// The name, or "unknown relocation" and the code.
+            /// The name, or "unknown relocation" and the `r_type`.
             fn fmt(&self, f: &mut Formatter<'_>) -> FmtResult {
                 match self {
-                    $names::Other(code) => write!(f, "{} {code}", self.name()),
+                    $names::Other(r_type) => write!(f, "{} {r_type}", self.name()),
                     _ => f.pad(self.name()),
                 }
             }

@@ -115,9 +115,9 @@ pub mod architecture {
         Destination, destination_of, window_of,
     };
 
-    /// Which rewrites, and relocations after them, a linker may have made at the relocation with a
-    /// code, `r_type` in ELF files, as [`recognise`](crate::recognise::recognise()) of this crate says. `window_of` returns the window
-    /// that it wants, and `destination_of` the address that one of them leads to.
+    /// Which rewrites, and relocations after them, a linker may have made at the relocation with an
+    /// `r_type`, as [`recognise`](crate::recognise::recognise()) of this crate says. `window_of` returns the window that it wants, and
+    /// `destination_of` the address that one of them leads to.
     ///
     /// ```
     /// use linker_utils::architecture::Relaxation;
@@ -144,11 +144,11 @@ pub mod architecture {
     #[cfg_attr(debug_assertions, track_caller)]
     pub fn recognise(
         architecture: Architecture,
-        code: u32,
+        r_type: u32,
         windows: &Windows<'_>,
     ) -> [Option<Recognised<Relaxation, u32>>; CANDIDATES] {
         let Windows { original, offset, others, linked } = *windows;
-        architecture::recognise(architecture, code, original, offset, others, linked)
+        architecture::recognise(architecture, r_type, original, offset, others, linked)
     }
 
     /// The choice that `choose` makes by what the linker knows, if it leaves the linked bytes, as
@@ -162,11 +162,11 @@ pub mod architecture {
     #[cfg_attr(debug_assertions, track_caller)]
     pub fn recognise_chosen(
         architecture: Architecture,
-        code: u32,
+        r_type: u32,
         windows: &Windows<'_>,
         facts: &LinkFacts,
     ) -> Option<Recognised<Relaxation, u32>> {
         let Windows { original, offset, others, linked } = *windows;
-        architecture::recognise_chosen(architecture, code, original, offset, others, linked, facts)
+        architecture::recognise_chosen(architecture, r_type, original, offset, others, linked, facts)
     }
 }

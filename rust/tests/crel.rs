@@ -84,8 +84,8 @@ fn compact_relocations_are_those_of_llvm() {
         let mut bytes = [0xaa; 17 * RELA_LEN + 5];
         let has_addends = row < 5;
         assert_eq!(read_crel(section, &mut bytes), Ok(Crel { count, has_addends }), "row {row}");
-        for (k, (offset, code, symbol, addend)) in expected.iter().copied().enumerate() {
-            let relocation = Rela { offset, code, symbol, addend };
+        for (k, (offset, r_type, symbol, addend)) in expected.iter().copied().enumerate() {
+            let relocation = Rela { offset, r_type, symbol, addend };
             assert_eq!(relocation_at(&bytes, k), Some(relocation), "row {row}, {k}");
         }
         assert!(bytes[count * RELA_LEN..].iter().all(|byte| *byte == 0xaa), "row {row}");

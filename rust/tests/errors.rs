@@ -51,7 +51,7 @@ fn errors_of_relocations_are_printed() {
 #[test]
 fn errors_of_values_name_what_can_be_written() {
     // R_AARCH64_TSTBR14 and R_RISCV_JAL
-    for (architecture, code, value, text) in [
+    for (architecture, r_type, value, text) in [
         (
             Architecture::AArch64,
             279,
@@ -67,7 +67,7 @@ fn errors_of_values_name_what_can_be_written() {
              multiples of 2 can be written",
         ),
     ] {
-        let row = architecture.row(code).unwrap();
+        let row = architecture.row(r_type).unwrap();
         let error = row.write(value, &mut [0; 8]).unwrap_err();
         assert_eq!(texts(WriteError::new(&row, value, error)), [text]);
     }

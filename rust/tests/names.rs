@@ -71,7 +71,7 @@ fn rows_are_constants() {
     assert_eq!(Some(row), Architecture::AArch64.row(283));
     assert!(format!("{row:?}").starts_with("Row(RelocationKindInfo { kind: "));
     for &architecture in Architecture::ALL {
-        let of_codes = (0..0x1_0000).filter_map(|code| Some((code, architecture.row(code)?)));
+        let of_codes = (0..0x1_0000).filter_map(|r_type| Some((r_type, architecture.row(r_type)?)));
         assert!(architecture.rows().eq(of_codes));
     }
 }

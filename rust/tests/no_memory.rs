@@ -367,9 +367,9 @@ fn runs_are_not_relaxed() {
     // the four arrays, the pairs of the deletions, the deltas and the heads of their blocks
     assert_eq!((count, plan.kept), (7, vec![4, 12]));
 
-    let relocation = |offset, code, addend, target: Option<u64>| Relocation {
+    let relocation = |offset, r_type, addend, target: Option<u64>| Relocation {
         offset,
-        code,
+        r_type,
         has_symbol: target.is_some(),
         addend,
         target,

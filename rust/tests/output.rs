@@ -73,8 +73,8 @@ fn types_have_the_codes_of_elf_h() {
                     .find(|(name, _)| *name == kind.name)
                     .map(|(_, code)| *code)
             });
-            assert_eq!(Some(kind.code), known, "{}", kind.name);
-            assert_eq!(target.dynamic_name(kind.code), Some(kind.name));
+            assert_eq!(Some(kind.r_type), known, "{}", kind.name);
+            assert_eq!(target.dynamic_name(kind.r_type), Some(kind.name));
             compared += 1;
         }
         assert_eq!(target.dynamic_name(0), None);
@@ -94,11 +94,11 @@ fn loads_of_words_have_the_codes_of_elf_h() {
         for half in ["HA", "LO", "LO_DS"] {
             let code = |of: &str| constants[&format!("R_PPC64_{of}16_{half}")];
             let entry = name.map(|_| code("GOT"));
-            assert_eq!(target.entry_code(code("TOC")), entry);
-            assert_eq!(target.entry_code(code("GOT")), None);
+            assert_eq!(target.entry_r_type(code("TOC")), entry);
+            assert_eq!(target.entry_r_type(code("GOT")), None);
         }
         for other in ["R_PPC64_TOC16", "R_PPC64_TOC16_DS", "R_PPC64_TOC16_HI"] {
-            assert_eq!(target.entry_code(constants[other]), None);
+            assert_eq!(target.entry_r_type(constants[other]), None);
         }
     }
 }
@@ -219,18 +219,18 @@ fn dynamic_relocations_are_those_of_words_that_are_not_known() {
                 |(is_bound, is_executable)| target.dynamic_words(class, is_bound, is_executable),
             )
         };
-        let imported = [Some(types.glob_dat.code), None];
-        let own = [Some(types.relative.code), None];
+        let imported = [Some(types.glob_dat.r_type), None];
+        let own = [Some(types.relative.r_type), None];
         assert_eq!(all(EntryClass::Address), [imported, imported, own, own]);
-        let offset = [Some(types.thread_offset.code), None];
+        let offset = [Some(types.thread_offset.r_type), None];
         assert_eq!(
             all(EntryClass::ThreadOffset),
             [offset, offset, offset, [None, None]]
         );
-        let module = [Some(types.module_number.code), None];
+        let module = [Some(types.module_number.r_type), None];
         let both = [
-            Some(types.module_number.code),
-            Some(types.module_offset.code),
+            Some(types.module_number.r_type),
+            Some(types.module_offset.r_type),
         ];
         assert_eq!(
             all(EntryClass::ModuleOffset),
@@ -238,7 +238,7 @@ fn dynamic_relocations_are_those_of_words_that_are_not_known() {
         );
         let unknown = [None, None];
         assert_eq!(all(EntryClass::Module), [module, unknown, module, unknown]);
-        let descriptor = [types.descriptor.map(|kind| kind.code), None];
+        let descriptor = [types.descriptor.map(|kind| kind.r_type), None];
         assert_eq!(all(EntryClass::Descriptor), [descriptor; 4]);
     }
 }
@@ -543,8 +543,8 @@ fn stubs_reach_as_far_as_their_fields() {
 fn a_further_architecture_is_a_value() {
     let riscv = Target::of(Architecture::RiscV);
     let load = &riscv.load_stub;
-    let kind = |code| DynamicType {
-        code,
+    let kind = |r_type| DynamicType {
+        r_type,
         name: "R_SIXTH",
     };
     let sixth = Target {
@@ -634,7 +634,7 @@ fn a_further_architecture_is_a_value() {
     assert_eq!(sixth.join_flags(0x31, 0x34), Some(0x35));
     assert_eq!(sixth.join_flags(0x31, 0x41), None);
     assert_eq!(sixth.interpreter(0), None);
-    assert_eq!((sixth.entry_code(7), sixth.entry_code(9)), (Some(9), None));
+    assert_eq!((sixth.entry_r_type(7), sixth.entry_r_type(9)), (Some(9), None));
 
     let mut out = [0; 20];
     sixth

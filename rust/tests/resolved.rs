@@ -13,7 +13,7 @@ use linker_utils::section::{
 const ARCHITECTURES: [Architecture; 5] = [AArch64, RiscV, LoongArch64, Ppc64, X86_64];
 
 /// The bytes of a relocation in a file.
-fn rela(offset: u64, code: u32, symbol: u32, addend: i64) -> [u8; 24] {
+fn rela(offset: u64, r_type: u32, symbol: u32, addend: i64) -> [u8; 24] {
     let mut bytes = [0; 24];
     bytes[..8].copy_from_slice(&offset.to_le_bytes());
     bytes[8..12].copy_from_slice(&code.to_le_bytes());
@@ -37,7 +37,7 @@ fn link(architecture: Architecture) -> Link {
 /// What a table says of the symbol of one relocation.
 fn resolved(link: &Link, symbols: &[Symbol], relocation: &Rela) -> Option<Resolved> {
     let symbol = symbols.get(relocation.symbol as usize)?;
-    let (code, addend) = (relocation.code, relocation.addend);
+    let (code, addend) = (relocation.r_type, relocation.addend);
     let required = needs(link.architecture, code, addend, symbol.is_thread_local);
     let entry = required.and_then(|required| required.entry);
     let entry = entry.map_or(0, |entry| match entry.class {
@@ -123,15 +123,15 @@ fn a_look_up_that_is_a_table_is_the_table() {
         let mut file = Vec::new();
         let mut offset = 0;
         for _ in 0..=random.below(6) {
-            let code = loop {
-                let code = random.below(300) as u32;
-                if architecture.row(code).is_some() || random.below(64) == 0 {
-                    break code;
+            let r_type = loop {
+                let r_type = random.below(300) as u32;
+                if architecture.row(r_type).is_some() || random.below(64) == 0 {
+                    break r_type;
                 }
             };
             offset = if random.below(8) == 0 { random.below(68) } else { offset };
             let symbol = if random.below(64) == 0 { 9 } else { random.below(4) as u32 };
-            file.extend(rela(offset, code, symbol, [0, -4, 8][random.below(3) as usize]));
+            file.extend(rela(offset, r_type, symbol, [0, -4, 8][random.below(3) as usize]));
             offset += [0, 2, 4, 8, 8, 8][random.below(6) as usize];
         }
         let mut copy = bytes.clone();

@@ -62,10 +62,10 @@ fn symbols() -> [SymbolFacts; 5] {
     [imported, defined, get_addr, defined, imported]
 }
 
-fn rela(offset: u64, code: u32, symbol: u32, addend: i64) -> Rela {
+fn rela(offset: u64, r_type: u32, symbol: u32, addend: i64) -> Rela {
     Rela {
         offset,
-        code,
+        r_type,
         symbol,
         addend,
     }
@@ -76,7 +76,7 @@ fn bytes_of(relocations: &[Rela]) -> Vec<u8> {
     let mut bytes = Vec::new();
     for it in relocations {
         bytes.extend(it.offset.to_le_bytes());
-        bytes.extend((u64::from(it.code) | u64::from(it.symbol) << 32).to_le_bytes());
+        bytes.extend((u64::from(it.r_type) | u64::from(it.symbol) << 32).to_le_bytes());
         bytes.extend(it.addend.to_le_bytes());
     }
     bytes
@@ -230,7 +230,7 @@ fn loads_from_the_got_are_rewritten_alone() {
     };
     let mut after = before.clone();
     after.bytes[1] = 0x8d;
-    after.relocations[0].code = 2;
+    after.relocations[0].r_type = 2;
     expect(X86_64, &before, &after);
 }
 
@@ -246,7 +246,7 @@ fn what_has_evex_is_no_mov() {
     };
     let mut after = before.clone();
     after.bytes[11] = 0x8d;
-    after.relocations[1].code = 2;
+    after.relocations[1].r_type = 2;
     expect(X86_64, &before, &after);
     // with fewer bytes before the field there is no EVEX prefix
     for bytes in [&evex[1..], &evex[3..]] {
@@ -257,7 +257,7 @@ fn what_has_evex_is_no_mov() {
         };
         let mut after = before.clone();
         after.bytes[offset as usize - 2] = 0x8d;
-        after.relocations[0].code = 2;
+        after.relocations[0].r_type = 2;
         expect(X86_64, &before, &after);
     }
 }
@@ -283,8 +283,8 @@ fn local_dynamic_of_an_object_is_one_group() {
         made[0].0.bytes,
         [0x66, 0x66, 0x66, 0x64, 0x48, 0x8b, 4, 0x25, 0, 0, 0, 0]
     );
-    assert_eq!(made[0].0.relocations[0].code, 0);
-    assert_eq!(made[0].0.relocations[1].code, 0);
+    assert_eq!(made[0].0.relocations[0].r_type, 0);
+    assert_eq!(made[0].0.relocations[1].r_type, 0);
     assert_eq!(made[1].0.relocations, [rela(3, 23, 3, 0)]);
     // where one call isn't there, or one argument isn't the entry's address, all stay
     let mut damaged = local_dynamic();
@@ -386,7 +386,7 @@ fn what_is_taken_along_is_not_rewritten() {
         words(&[0x6000_0000, 0x3c6d_0000, 0x6000_0000, 0x3863_0000])
     );
     assert_eq!(made[0].1[3], Decision::Consumed);
-    assert_eq!(made[0].0.relocations[3].code, 0);
+    assert_eq!(made[0].0.relocations[3].r_type, 0);
     // Where the group stays, the call of an imported function is rewritten: its nop restores the TOC
     // pointer, ld 2,24(1).
     let mut other = before.clone();
@@ -426,15 +426,15 @@ fn prefixed_general_dynamic(symbol: u32) -> Section {
 #[test]
 fn prefixed_general_dynamic_needs_no_call() {
     // paddi 3,13,x@tprel; nop; and of a variable elsewhere pld 3,x@got@tprel@pcrel; add 3,3,13
-    for (symbol, after, code) in [
+    for (symbol, after, r_type) in [
         (1, [0x0600_0000, 0x386d_0000, 0x6000_0000, 0x6000_0000], 146),
         (4, [0x0410_0000, 0xe460_0000, 0x7c63_6a14, 0x6000_0000], 150),
     ] {
         let made = rewritten(Ppc64, &symbols(), &[&prefixed_general_dynamic(symbol)]);
         assert_eq!(made[0].0.bytes, words(&after));
-        assert_eq!(made[0].0.relocations[0], rela(0, code, symbol, 0));
-        assert_eq!(made[0].0.relocations[1].code, 0);
-        assert_eq!(made[0].0.relocations[2].code, 0);
+        assert_eq!(made[0].0.relocations[0], rela(0, r_type, symbol, 0));
+        assert_eq!(made[0].0.relocations[1].r_type, 0);
+        assert_eq!(made[0].0.relocations[2].r_type, 0);
         assert_eq!(made[0].1[2], Decision::Consumed);
     }
 }
@@ -507,8 +507,8 @@ fn prefixed_local_dynamic_has_the_block_from_the_thread_pointer() {
             0x3863_0000
         ])
     );
-    let codes: Vec<u32> = made[0].0.relocations.iter().map(|it| it.code).collect();
-    assert_eq!(codes, [0, 0, 0, 147]);
+    let r_types: Vec<u32> = made[0].0.relocations.iter().map(|it| it.r_type).collect();
+    assert_eq!(r_types, [0, 0, 0, 147]);
 }
 
 #[test]
@@ -615,7 +615,7 @@ fn descriptors_of_aarch64_are_whole() {
         };
         expect_unchanged(AArch64, &damaged(&|it| it.symbol = 4));
         expect_unchanged(AArch64, &damaged(&|it| it.addend = 8));
-        expect_unchanged(AArch64, &damaged(&|it| it.code = 0));
+        expect_unchanged(AArch64, &damaged(&|it| it.r_type = 0));
         let mut section = descriptor(1);
         section.relocations.remove(n);
         expect_unchanged(AArch64, &section);
@@ -657,8 +657,8 @@ fn branches_of_aarch64_stay_unless_nothing_defines_them() {
         made[0].0.bytes,
         words(&[0x9400_0000, nop, nop, 0x1400_0000])
     );
-    let codes: Vec<_> = made[0].0.relocations.iter().map(|it| it.code).collect();
-    assert_eq!(codes, [283, 0, 0, 282]);
+    let r_types: Vec<_> = made[0].0.relocations.iter().map(|it| it.r_type).collect();
+    assert_eq!(r_types, [283, 0, 0, 282]);
 }
 
 /// 64-Bit ELF V2 ABI, "Function Call": the `nop` after a call becomes `ld r2,24(r1)` where the callee
@@ -740,10 +740,10 @@ fn rewritten_alone(section: &Section) -> (Result<(), RewritingError>, Vec<Decisi
 #[test]
 fn a_field_in_the_window_of_a_rewrite_is_an_error() {
     // R_X86_64_8, 16, 32 and 64 of symbol 3, whose first byte is at each offset
-    for (code, len) in [(14, 1), (12, 2), (10, 4), (1, 8)] {
+    for (r_type, len) in [(14, 1), (12, 2), (10, 4), (1, 8)] {
         for offset in 0..24 {
             for at in 0..=3 {
-                let section = loads_among(3, at, &[rela(offset, code, 3, 0)]);
+                let section = loads_among(3, at, &[rela(offset, r_type, 3, 0)]);
                 let (made, decisions) = rewritten_alone(&section);
                 let is_covered = (0..3).any(|n| is_opcode(n, offset, len));
                 let expected = if is_covered {
@@ -769,7 +769,7 @@ fn first_covered(section: &Section) -> Option<usize> {
             .map(|it| it.1)
     };
     section.relocations.iter().position(|it| {
-        len(it.code).is_some_and(|len| {
+        len(it.r_type).is_some_and(|len| {
             (0..section.bytes.len() as u64 / 8).any(|n| is_opcode(n, it.offset, len))
         })
     })
@@ -808,8 +808,8 @@ fn fields_among_rewrites_are_found_in_any_order() {
         );
         found[usize::from(covered.is_some())] += 1;
         for (it, decision) in section.relocations.iter().zip(&decisions) {
-            assert_eq!(matches!(decision, Decision::Rewritten(_)), it.code == 42);
-            assert_eq!(*decision == Decision::Kept, it.code != 42);
+            assert_eq!(matches!(decision, Decision::Rewritten(_)), it.r_type == 42);
+            assert_eq!(*decision == Decision::Kept, it.r_type != 42);
         }
     }
     assert!(found.iter().all(|it| *it > 1000), "{found:?}");
@@ -900,7 +900,7 @@ fn marked_loads_of_loongarch_are_rewritten() {
     // pcalau12i a0, %pc_hi20(x); addi.d a0, a0, %pc_lo12(x)
     let mut after = section(1);
     after.bytes = words(&[0x1a00_0004, 0x02c0_0084]);
-    (after.relocations[0].code, after.relocations[2].code) = (71, 72);
+    (after.relocations[0].r_type, after.relocations[2].r_type) = (71, 72);
     expect(LoongArch64, &section(1), &after);
     // of another file, without a mark, with another addend, of another symbol, and apart
     expect_unchanged(LoongArch64, &section(4));
@@ -951,7 +951,7 @@ fn got_loads() -> Vec<(Architecture, Section)> {
     ];
     // pcalau12i a0, %got_pc_hi20(x); ld.d a0, a0, %got_pc_lo12(x), each with R_LARCH_RELAX
     let marked = [(0, 75, 1), (0, 100, 0), (4, 76, 1), (4, 100, 0)];
-    let marked = marked.map(|(offset, code, symbol)| rela(offset, code, symbol, 0));
+    let marked = marked.map(|(offset, r_type, symbol)| rela(offset, r_type, symbol, 0));
     loads.push((
         LoongArch64,
         load(&words(&[0x1a00_0004, 0x28c0_0084]), &marked),
@@ -981,7 +981,7 @@ fn loads_from_the_got_stay_where_symbols_may_be_far() {
                 .remove(0)
                 .0
         };
-        let first = |section: &Section| section.relocations[0].code;
+        let first = |section: &Section| section.relocations[0].r_type;
         assert_ne!(
             first(&made(&EXECUTABLE, &symbols())),
             first(&section),
@@ -1114,7 +1114,7 @@ fn loads_of_aarch64_become_addresses() {
     // adrp x0, x; add x0, x0, :lo12:x
     let mut after = loads_and_pages();
     after.bytes[4..8].copy_from_slice(&0x9100_0000_u32.to_le_bytes());
-    (after.relocations[0].code, after.relocations[1].code) = (275, 277);
+    (after.relocations[0].r_type, after.relocations[1].r_type) = (275, 277);
     assert_eq!(loads[0].0.bytes, after.bytes);
     assert_eq!(loads[0].0.relocations, after.relocations);
     // the words of ld.lld 19 at the same addresses: nop; adr x0, x; nop; adr x1, x
@@ -1129,12 +1129,12 @@ fn loads_of_aarch64_become_addresses() {
         linked(AArch64, &addresses, &values, &near[0].0, &near[0].1),
         [0xd503_201f, 0x1010_00c0, 0xd503_201f, 0x1010_0081]
     );
-    assert_eq!(near[0].0.relocations[0].code, 0);
+    assert_eq!(near[0].0.relocations[0].r_type, 0);
     // an adr reaches 1 MiB
     let far = self::values(0x201c8 + 0x10_0004, 0);
     let near = placed(AArch64, Phase::ShortPcRel, &addresses, &far, &[&loads[0].0]);
-    let codes: Vec<_> = near[0].0.relocations.iter().map(|it| it.code).collect();
-    assert_eq!(codes, [275, 277, 0, 274]);
+    let r_types: Vec<_> = near[0].0.relocations.iter().map(|it| it.r_type).collect();
+    assert_eq!(r_types, [275, 277, 0, 274]);
 }
 
 #[test]
@@ -1160,7 +1160,7 @@ fn pairs_of_aarch64_are_whole() {
             unchanged(phase, &damaged(&|it| it.symbol = 3));
             unchanged(phase, &damaged(&|it| it.addend = 8));
             unchanged(phase, &damaged(&|it| it.offset += 16));
-            unchanged(phase, &damaged(&|it| it.code = 0));
+            unchanged(phase, &damaged(&|it| it.r_type = 0));
         }
     }
     // a lone half of a load keeps all loads of its symbol
@@ -1171,16 +1171,16 @@ fn pairs_of_aarch64_are_whole() {
     // and none of another symbol
     lone.relocations[4].symbol = 3;
     let made = placed(AArch64, Phase::GotToPcRel, &addresses, &values, &[&lone]);
-    assert_eq!(made[0].0.relocations[1].code, 277);
-    assert_eq!(made[0].0.relocations[4].code, 312);
+    assert_eq!(made[0].0.relocations[1].r_type, 277);
+    assert_eq!(made[0].0.relocations[4].r_type, 312);
 }
 
 /// lui a0, %tprel_hi(x); add a0, a0, tp, %tprel_add(x); lw a1, %tprel_lo(x)(a0);
 /// sw a1, %tprel_lo(x)(a0), each with R_RISCV_RELAX
 fn thread_offset(symbol: u32) -> Section {
     let mut relocations = Vec::new();
-    for (index, code) in (0..).zip([29, 32, 30, 31]) {
-        relocations.push(rela(4 * index, code, symbol, 0));
+    for (index, r_type) in (0..).zip([29, 32, 30, 31]) {
+        relocations.push(rela(4 * index, r_type, symbol, 0));
         relocations.push(rela(4 * index, 51, 0, 0));
     }
     Section {
@@ -1241,8 +1241,8 @@ fn short_thread_offsets_of_riscv_lose_their_high_part() {
         linked(RiscV, &addresses, &near, &made[0].0, &made[0].1),
         [0x0082_2583, 0x00b2_2423]
     );
-    let codes: Vec<_> = made[0].0.relocations.iter().map(|it| it.code).collect();
-    assert_eq!(codes, [0, 51, 0, 51, 30, 51, 31, 51]);
+    let r_types: Vec<_> = made[0].0.relocations.iter().map(|it| it.r_type).collect();
+    assert_eq!(r_types, [0, 51, 0, 51, 30, 51, 31, 51]);
     let unchanged = |values: &[Symbol], section: &Section| {
         let made = placed(RiscV, phase, &addresses, values, &[section]);
         assert_eq!(made[0].1, []);
@@ -1285,8 +1285,8 @@ fn short_thread_offsets_of_loongarch_lose_their_high_part() {
         bytes: words(&[0x1400_0004, 0x0010_8884, 0x2880_0085]),
         relocations: Vec::new(),
     };
-    for (index, code) in (0..).zip([121, 122, 123]) {
-        section.relocations.push(rela(4 * index, code, 1, 0));
+    for (index, r_type) in (0..).zip([121, 122, 123]) {
+        section.relocations.push(rela(4 * index, r_type, 1, 0));
         section.relocations.push(rela(4 * index, 100, 0, 0));
     }
     let addresses = Addresses {
@@ -1594,7 +1594,7 @@ fn short_distances_of_ppc64_lose_their_high_part() {
         ]),
         relocations: (0..)
             .zip([50, 48, 50, 48, 50, 64])
-            .map(|(index, code)| rela(4 * index, code, symbol, 0))
+            .map(|(index, r_type)| rela(4 * index, r_type, symbol, 0))
             .collect(),
     };
     let addresses = Addresses {
@@ -1625,8 +1625,8 @@ fn short_distances_of_ppc64_lose_their_high_part() {
     far.relocations[4].addend = 0x10000;
     far.relocations[5].addend = 0x10000;
     let made = placed(Ppc64, phase, &addresses, &values, &[&far]);
-    let codes: Vec<_> = made[0].0.relocations.iter().map(|it| it.code).collect();
-    assert_eq!(codes, [0, 47, 0, 47, 50, 64]);
+    let r_types: Vec<_> = made[0].0.relocations.iter().map(|it| it.r_type).collect();
+    assert_eq!(r_types, [0, 47, 0, 47, 50, 64]);
     // an ori isn't over the TOC pointer, and keeps all of its symbol, wherever it is
     let mut other = section(1);
     other.bytes[4..8].copy_from_slice(&0x6063_0000_u32.to_le_bytes());
@@ -1680,8 +1680,8 @@ fn loads_of_one_label_become_sums() {
         linked(RiscV, &addresses, &values, &made[0].0, &[]),
         [0x0000_1517, 0x0085_0513]
     );
-    let codes: Vec<_> = made[0].0.relocations.iter().map(|it| it.code).collect();
-    assert_eq!(codes, [23, 51, 24, 51]);
+    let r_types: Vec<_> = made[0].0.relocations.iter().map(|it| it.r_type).collect();
+    assert_eq!(r_types, [23, 51, 24, 51]);
     let unchanged = |values: &[Symbol], section: &Section| {
         let made = placed(RiscV, phase, &addresses, values, &[section]);
         assert_eq!(made[0].0.bytes, section.bytes);
@@ -1704,7 +1704,7 @@ fn loads_of_one_label_become_sums() {
     let mut elsewhere = values;
     elsewhere[3].address = 4;
     let made = placed(RiscV, phase, &addresses, &elsewhere, &[&load_by_label()]);
-    assert_eq!(made[0].0.relocations[2].code, 24);
+    assert_eq!(made[0].0.relocations[2].r_type, 24);
     assert_eq!(made[0].0.bytes[4..], load_by_label().bytes[4..]);
     let mut descending = load_by_label();
     descending.relocations.push(rela(0, 51, 0, 0));
@@ -1754,8 +1754,8 @@ fn labels_of_one_symbol_are_apart() {
         &values,
         &[&two],
     );
-    let codes: Vec<_> = made[0].0.relocations.iter().map(|it| it.code).collect();
-    assert_eq!(codes, [23, 51, 24, 51, 20, 24]);
+    let r_types: Vec<_> = made[0].0.relocations.iter().map(|it| it.r_type).collect();
+    assert_eq!(r_types, [23, 51, 24, 51, 20, 24]);
     assert_eq!(made[0].0.bytes[8..], two.bytes[8..]);
 }
 
@@ -2000,7 +2000,7 @@ fn words_of(symbol: u32) -> Vec<u8> {
 
 /// addis 3,2,.toc@toc@ha and ld 4,.toc@toc@l(3) of the first word, the same of registers 5 and 6 and
 /// the second one, and `last` of the first word, after the first addis.
-fn loads(last: u32, code: u32) -> Section {
+fn loads(last: u32, r_type: u32) -> Section {
     Section {
         bytes: words(&[0x3c62_0000, 0xe883_0000, 0x3ca2_0000, 0xe8c5_0000, last]),
         relocations: vec![
@@ -2008,7 +2008,7 @@ fn loads(last: u32, code: u32) -> Section {
             rela(4, TOC16_LO_DS, 1, 0),
             rela(8, TOC16_HA, 1, 8),
             rela(12, TOC16_LO_DS, 1, 8),
-            rela(16, code, 1, 0),
+            rela(16, r_type, 1, 0),
         ],
     }
 }
@@ -2201,9 +2201,9 @@ fn near_symbols() -> [Symbol; 4] {
 
 /// The relocations, each marked where it says so.
 fn marked(listed: &[(u64, u32, u32, bool)]) -> Vec<u8> {
-    let with_mark = |(offset, code, symbol, is_marked): &(u64, u32, u32, bool)| {
+    let with_mark = |(offset, r_type, symbol, is_marked): &(u64, u32, u32, bool)| {
         let mark = is_marked.then(|| rela(*offset, RELAX, 0, 0));
-        std::iter::once(rela(*offset, *code, *symbol, 0)).chain(mark)
+        std::iter::once(rela(*offset, *r_type, *symbol, 0)).chain(mark)
     };
     bytes_of(&listed.iter().flat_map(with_mark).collect::<Vec<_>>())
 }
@@ -2598,7 +2598,7 @@ fn calls_of_other_files_on_ppc64_go_by_a_stub() {
         section: 0x1001_0014,
         ..Addresses::default()
     };
-    let written = |architecture, code, facts: SymbolFacts, value: Symbol| {
+    let written = |architecture, r_type, facts: SymbolFacts, value: Symbol| {
         let (facts, mut kept) = ([SymbolFacts::default(), facts], [FactsSnapshot::default(); 2]);
         snapshot_facts(
             &EXECUTABLE,
@@ -2621,7 +2621,7 @@ fn calls_of_other_files_on_ppc64_go_by_a_stub() {
             &mut section_at(
                 &addresses,
                 &mut section,
-                &bytes_of(&[rela(0, 0, 1, 0), rela(0, code, 1, 0)]),
+                &bytes_of(&[rela(0, 0, 1, 0), rela(0, r_type, 1, 0)]),
             ),
             &mut [0; 2],
         );

@@ -93,12 +93,12 @@ fn relocations_of_rv32_match_linkers() {
         let before = relocation_at(&relocations, index).unwrap();
         let after = relocation_at(&wrapped, index).unwrap();
         assert_eq!((after.addend - before.addend) % (1 << 32), 0, "{index}");
-        assert_eq!((after.offset, after.code, after.symbol), (before.offset, before.code, before.symbol));
+        assert_eq!((after.offset, after.r_type, after.symbol), (before.offset, before.r_type, before.symbol));
         let value = |relocations: &[u8], it| value(RiscV, &addresses, relocations, &values, it);
         let (was, is) = (value(&relocations, &before), value(&wrapped, &after));
         let (was, is) = (was.unwrap().unwrap(), is.unwrap().unwrap());
         assert_eq!((is - was) % (1 << 32), 0, "{index}");
-        if let Some((least, end)) = RiscV.row(after.code).unwrap().reach().bounds {
+        if let Some((least, end)) = RiscV.row(after.r_type).unwrap().reach().bounds {
             assert!((least..end).contains(&is), "{index}");
         }
     }

@@ -39,13 +39,13 @@ const SYMBOL: Symbol = Symbol {
 /// The value of a relocation at offset 0x10 of a symbol.
 fn of(
     architecture: Architecture,
-    code: u32,
+    r_type: u32,
     addend: i64,
     symbol: Symbol,
 ) -> Result<Option<i64>, ValueError> {
     let relocation = Rela {
         offset: 0x10,
-        code,
+        r_type,
         symbol: 1,
         addend,
     };
@@ -107,7 +107,7 @@ fn bytes_of(relocations: &[Rela]) -> Vec<u8> {
     let mut bytes = Vec::new();
     for it in relocations {
         bytes.extend(it.offset.to_le_bytes());
-        bytes.extend((u64::from(it.code) | u64::from(it.symbol) << 32).to_le_bytes());
+        bytes.extend((u64::from(it.r_type) | u64::from(it.symbol) << 32).to_le_bytes());
         bytes.extend(it.addend.to_le_bytes());
     }
     bytes
@@ -118,13 +118,13 @@ fn relocations_are_read_at_any_alignment() {
     let relocations = [
         Rela {
             offset: 0x1122_3344_5566_7788,
-            code: 0x99aa_bbcc,
+            r_type: 0x99aa_bbcc,
             symbol: 0xddee_ff01,
             addend: -2,
         },
         Rela {
             offset: 1,
-            code: 2,
+            r_type: 2,
             symbol: 3,
             addend: i64::MIN,
         },
@@ -157,7 +157,7 @@ fn values_are_those_of_the_formulas() {
         ..SYMBOL
     };
     let place = SECTION as i64 + 0x10;
-    for (architecture, name, code, addend, symbol, expected) in [
+    for (architecture, name, r_type, addend, symbol, expected) in [
         (X86_64, "R_X86_64_64: S + A", 1, 8, SYMBOL, 0x40_5680),
         (
             X86_64,
@@ -392,7 +392,7 @@ fn values_are_those_of_the_formulas() {
         ),
     ] {
         assert_eq!(
-            of(architecture, code, addend, symbol),
+            of(architecture, r_type, addend, symbol),
             Ok(Some(expected)),
             "{name}"
         );
@@ -408,7 +408,7 @@ fn entries_that_there_are_not_are_errors() {
         descriptor: 0,
         ..SYMBOL
     };
-    for (architecture, code) in [
+    for (architecture, r_type) in [
         (X86_64, 9),
         (X86_64, 22),
         (X86_64, 19),
@@ -416,9 +416,9 @@ fn entries_that_there_are_not_are_errors() {
         (LoongArch64, 87),
     ] {
         assert_eq!(
-            of(architecture, code, 0, without),
+            of(architecture, r_type, 0, without),
             Err(ValueError::NoEntry),
-            "{code}"
+            "{r_type}"
         );
     }
     // R_AARCH64_LD64_GOT_LO12_NC of S + 8, whose entry is another than that of S
@@ -431,7 +431,7 @@ fn entries_that_there_are_not_are_errors() {
     assert_eq!(of(AArch64, 312, 0, of_sum), Err(ValueError::NoEntry));
     let no_symbol = Rela {
         offset: 0,
-        code: 2,
+        r_type: 2,
         symbol: 1,
         addend: 0,
     };
@@ -441,7 +441,7 @@ fn entries_that_there_are_not_are_errors() {
     );
     // R_X86_64_NONE has no value, whatever its symbol is, and 200 no row
     let none = Rela {
-        code: 0,
+        r_type: 0,
         ..no_symbol
     };
     assert_eq!(value(X86_64, &ADDRESSES, &[], &[SYMBOL], &none), Ok(None));
@@ -456,7 +456,7 @@ fn undefined_weak_symbols_are_where_linkers_put_them() {
         ..SYMBOL
     };
     let place = SECTION as i64 + 0x10;
-    for (architecture, name, code, expected) in [
+    for (architecture, name, r_type, expected) in [
         (AArch64, "R_AARCH64_CALL26: the next instruction", 283, 4),
         (AArch64, "R_AARCH64_CONDBR19: the next instruction", 280, 4),
         (AArch64, "R_AARCH64_PREL32: the place", 261, 0),
@@ -471,7 +471,7 @@ fn undefined_weak_symbols_are_where_linkers_put_them() {
         (X86_64, "R_X86_64_TPOFF32: 0", 23, 0),
     ] {
         assert_eq!(
-            of(architecture, code, 0, weak),
+            of(architecture, r_type, 0, weak),
             Ok(Some(expected)),
             "{name}"
         );
@@ -487,8 +487,8 @@ fn offsets_without_a_tls_segment_are_errors() {
         has_tls: false,
         ..ADDRESSES
     };
-    let of = |architecture, code, addresses, symbols: &[Symbol]| {
-        value(architecture, addresses, &[], symbols, &rela(0, code, 1, 4))
+    let of = |architecture, r_type, addresses, symbols: &[Symbol]| {
+        value(architecture, addresses, &[], symbols, &rela(0, r_type, 1, 4))
     };
     let variable = Symbol {
         address: 0x50_0140,
@@ -499,7 +499,7 @@ fn offsets_without_a_tls_segment_are_errors() {
         is_undefined_weak: true,
         ..variable
     };
-    for (architecture, name, code, offset) in [
+    for (architecture, name, r_type, offset) in [
         (X86_64, "R_X86_64_TPOFF32", 23, 0x44),
         (X86_64, "R_X86_64_TPOFF64", 18, 0x44),
         (X86_64, "R_X86_64_DTPOFF32", 21, 0x144),
@@ -512,7 +512,7 @@ fn offsets_without_a_tls_segment_are_errors() {
         (Ppc64, "R_PPC64_TPREL16", 69, 0x44),
         (Ppc64, "R_PPC64_DTPREL16", 74, 0x144),
     ] {
-        let of = |addresses, symbols: &[Symbol]| of(architecture, code, addresses, symbols);
+        let of = |addresses, symbols: &[Symbol]| of(architecture, r_type, addresses, symbols);
         let symbols = [SYMBOL, variable];
         assert_eq!(of(&ADDRESSES, &symbols), Ok(Some(offset)), "{name}");
         assert_eq!(of(&without, &symbols), Err(ValueError::NoTlsBase), "{name}");
@@ -542,31 +542,31 @@ fn low_parts_take_their_high_parts() {
     let relocations = [
         Rela {
             offset: 0x20,
-            code: 20,
+            r_type: 20,
             symbol: 1,
             addend: 0,
         },
         Rela {
             offset: 0x30,
-            code: 51,
+            r_type: 51,
             symbol: 0,
             addend: 0,
         },
         Rela {
             offset: 0x30,
-            code: 23,
+            r_type: 23,
             symbol: 1,
             addend: 0x10,
         },
         Rela {
             offset: 0x40,
-            code: 62,
+            r_type: 62,
             symbol: 1,
             addend: 0,
         },
         Rela {
             offset: 0x50,
-            code: 24,
+            r_type: 24,
             symbol: 2,
             addend: 0,
         },
@@ -584,10 +584,10 @@ fn low_parts_take_their_high_parts() {
         label(0x24),
     ];
     let bytes = bytes_of(&relocations);
-    let low = |code, symbol| {
+    let low = |r_type, symbol| {
         let relocation = Rela {
             offset: 0x50,
-            code,
+            r_type,
             symbol,
             addend: 0,
         };
@@ -603,11 +603,11 @@ fn low_parts_take_their_high_parts() {
     assert_eq!(low(64, 4), Ok(Some(0x48_0040 - section - 0x40)));
     // R_RISCV_TLSDESC_CALL has no value
     assert_eq!(low(65, 4), Ok(None));
-    for (code, symbol) in [(24, 5), (24, 4), (63, 2), (24, 1)] {
+    for (r_type, symbol) in [(24, 5), (24, 4), (63, 2), (24, 1)] {
         assert_eq!(
-            low(code, symbol),
+            low(r_type, symbol),
             Err(ValueError::NoHighPart),
-            "{code} {symbol}"
+            "{r_type} {symbol}"
         );
     }
     assert_eq!(low(24, 6), Err(ValueError::NoSymbol));
@@ -620,25 +620,25 @@ fn sections_are_relocated_in_order() {
     let relocations = [
         Rela {
             offset: 4,
-            code: 35,
+            r_type: 35,
             symbol: 1,
             addend: 0,
         },
         Rela {
             offset: 4,
-            code: 39,
+            r_type: 39,
             symbol: 2,
             addend: 0,
         },
         Rela {
             offset: 8,
-            code: 2,
+            r_type: 2,
             symbol: 1,
             addend: 1,
         },
         Rela {
             offset: 8,
-            code: 51,
+            r_type: 51,
             symbol: 0,
             addend: 0,
         },
@@ -705,7 +705,7 @@ fn sections_are_relocated_in_order() {
             3,
             Rela {
                 offset: 16,
-                code: 60,
+                r_type: 60,
                 symbol: 1,
                 addend: 0,
             },
@@ -731,17 +731,17 @@ fn pairs_write_uleb128_numbers() {
         ..Symbol::default()
     };
     let symbols = [Symbol::default(), first, second];
-    let pair = |codes: [u32; 2], addend| {
+    let pair = |r_types: [u32; 2], addend| {
         bytes_of(&[
             Rela {
                 offset: 1,
-                code: codes[0],
+                r_type: r_types[0],
                 symbol: 1,
                 addend,
             },
             Rela {
                 offset: 1,
-                code: codes[1],
+                r_type: r_types[1],
                 symbol: 2,
                 addend: 0,
             },
@@ -749,7 +749,7 @@ fn pairs_write_uleb128_numbers() {
     };
     // 0x608 is 1100 0001000 by groups of seven bits; R_RISCV_SET_ULEB128 and R_RISCV_SUB_ULEB128 set
     // it, and R_LARCH_ADD_ULEB128 and R_LARCH_SUB_ULEB128 add it to 2
-    for (architecture, codes, addend, before, after) in [
+    for (architecture, r_types, addend, before, after) in [
         (
             RiscV,
             [60, 61],
@@ -773,7 +773,7 @@ fn pairs_write_uleb128_numbers() {
         ),
     ] {
         let mut section = before;
-        let relocations = pair(codes, addend);
+        let relocations = pair(r_types, addend);
         let result = relocate_section(
             architecture,
             &ADDRESSES,
@@ -802,13 +802,13 @@ fn pairs_write_uleb128_numbers() {
     }
 }
 
-/// The relocations' codes and offsets, of symbol 1 with the addend 0.
+/// The relocations' r_types and offsets, of symbol 1 with the addend 0.
 fn at(relocations: &[(u32, u64)]) -> Vec<u8> {
     let relas: Vec<Rela> = relocations
         .iter()
-        .map(|&(code, offset)| Rela {
+        .map(|&(r_type, offset)| Rela {
             offset,
-            code,
+            r_type,
             symbol: 1,
             addend: 0,
         })
@@ -942,9 +942,9 @@ fn fields_that_overlap_have_to_compose() {
 
 #[test]
 fn the_second_of_a_pair_without_a_value_is_the_error() {
-    let relocation = |code, symbol| Rela {
+    let relocation = |r_type, symbol| Rela {
         offset: 0,
-        code,
+        r_type,
         symbol,
         addend: 0,
     };
@@ -955,10 +955,10 @@ fn the_second_of_a_pair_without_a_value_is_the_error() {
     assert_eq!(result, Err(SectionError { index: 1, error }));
 }
 
-fn rela(offset: u64, code: u32, symbol: u32, addend: i64) -> Rela {
+fn rela(offset: u64, r_type: u32, symbol: u32, addend: i64) -> Rela {
     Rela {
         offset,
-        code,
+        r_type,
         symbol,
         addend,
     }
@@ -1015,9 +1015,9 @@ fn calls_that_may_change_the_toc_pointer_go_by_a_stub() {
         section: 0x1001_0014,
         ..ADDRESSES
     };
-    let call = |code, symbol| {
+    let call = |r_type, symbol| {
         let mut section = [1, 0, 0, 0x48, 0x18, 0, 0x41, 0xe8];
-        let relocations = bytes_of(&[rela(0, code, 1, 0)]);
+        let relocations = bytes_of(&[rela(0, r_type, 1, 0)]);
         let symbols = [Symbol::default(), symbol];
         relocate_section(Ppc64, &addresses, &relocations, &symbols, &mut section)?;
         Ok(u32::from_le_bytes(section[..4].try_into().unwrap()))
@@ -1053,9 +1053,9 @@ fn calls_that_may_change_the_toc_pointer_go_by_a_stub() {
 /// (Power ISA, "Prefixed Instructions"). The words are those of assemblers.
 #[test]
 fn instructions_are_as_long_as_their_forms() {
-    let relocate = |architecture, code, section: &[u8]| {
+    let relocate = |architecture, r_type, section: &[u8]| {
         let mut section = section.to_vec();
-        let relocations = bytes_of(&[rela(0, code, 1, 0)]);
+        let relocations = bytes_of(&[rela(0, r_type, 1, 0)]);
         let symbol = Symbol {
             address: SECTION + 0x10,
             ..SYMBOL
@@ -1077,8 +1077,8 @@ fn instructions_are_as_long_as_their_forms() {
     // R_RISCV_RVC_BRANCH at beq, R_RISCV_CALL_PLT, R_RISCV_BRANCH, R_RISCV_HI20, R_RISCV_LO12_S and
     // R_RISCV_TPREL_LO12_I at compressed instructions
     assert_eq!(relocate(RiscV, 44, &[0x63, 0, 0xb5, 0]), other);
-    for code in [19, 16, 26, 28, 30] {
-        assert_eq!(relocate(RiscV, code, &[1, 0, 1, 0, 0xe7, 0x80, 0, 0]), other);
+    for r_type in [19, 16, 26, 28, 30] {
+        assert_eq!(relocate(RiscV, r_type, &[1, 0, 1, 0, 0xe7, 0x80, 0, 0]), other);
     }
     // the section ends before the field does
     let short = RelocationError::Write(RelocateError::TooShort);
@@ -1100,13 +1100,13 @@ fn instructions_are_as_long_as_their_forms() {
 /// of a larger offset, which is then another.
 #[test]
 fn the_thread_pointer_takes_a_whole_offset() {
-    let relocate = |architecture, code, word: u32, offset: u64| {
+    let relocate = |architecture, r_type, word: u32, offset: u64| {
         let mut section = word.to_le_bytes();
         let symbol = Symbol {
             address: ADDRESSES.thread_origin.wrapping_add(offset),
             ..SYMBOL
         };
-        let (relocations, symbols) = (bytes_of(&[rela(0, code, 1, 0)]), [SYMBOL, symbol]);
+        let (relocations, symbols) = (bytes_of(&[rela(0, r_type, 1, 0)]), [SYMBOL, symbol]);
         relocate_section(architecture, &ADDRESSES, &relocations, &symbols, &mut section)?;
         Ok(u32::from_le_bytes(section))
     };
@@ -1178,7 +1178,7 @@ fn values_of_more_than_32_bits_need_a_sequence_for_them() {
     let [high, low, upper, last] = linked[..] else { unreachable!() };
     assert_eq!(relocate(&upper_first, &moved), Ok(vec![upper, low, high, last]));
     // each `*_HI20`, and that its upper bits suffice
-    for (code, upper) in [
+    for (r_type, upper) in [
         (67, 69), (71, 73), (75, 77), (83, 85), (87, 89), (91, 93), (95, 77), (97, 77), (111, 113),
     ] {
         let entry = 0x1_2345_6789_a000;
@@ -1197,8 +1197,8 @@ fn values_of_more_than_32_bits_need_a_sequence_for_them() {
             let of = bytes_of(relocations);
             relocate_section(LoongArch64, &addresses, &of, &symbols, &mut section)
         };
-        assert_eq!(relocate(&[rela(0, code, 1, 0)]), Err(beyond(0)), "{code}");
-        assert_eq!(relocate(&[rela(0, code, 1, 0), rela(8, upper, 1, 0)]), Ok(()), "{code}");
+        assert_eq!(relocate(&[rela(0, r_type, 1, 0)]), Err(beyond(0)), "{r_type}");
+        assert_eq!(relocate(&[rela(0, r_type, 1, 0), rela(8, upper, 1, 0)]), Ok(()), "{r_type}");
     }
     // R_LARCH_TLS_LE_HI20_R has no sequence for 64 bits, and 2^31 - 0x801 is the last of its offsets
     let at_offset = |offset| {
@@ -1267,7 +1267,7 @@ fn one_by_one(
             continue;
         };
         let there = &mut section[it.offset as usize..];
-        if architecture.uleb128_role(it.code).is_some() {
+        if architecture.uleb128_role(it.r_type).is_some() {
             let second = relocation_at(relocations, index).unwrap();
             index += 1;
             let w = value(architecture, &ADDRESSES, relocations, symbols, &second).unwrap();
@@ -1280,23 +1280,23 @@ fn one_by_one(
             };
             linker_utils::utils::write_uleb128(there, number).unwrap();
         } else {
-            architecture.row(it.code).unwrap().write(v, there).unwrap();
+            architecture.row(it.r_type).unwrap().write(v, there).unwrap();
         }
     }
 }
 
 #[test]
 fn damaged_sections_change_nothing_or_are_written_as_one_by_one() {
-    for (architecture, codes) in [
+    for (architecture, r_types) in [
         (AArch64, 256..600),
         (RiscV, 0..70),
         (LoongArch64, 0..130),
         (Ppc64, 0..256),
         (X86_64, 0..50),
     ] {
-        let codes: Vec<u32> = codes.collect();
+        let r_types: Vec<u32> = r_types.collect();
         let has_row = |&code: &u32| architecture.row(code).is_some();
-        let rows: Vec<u32> = codes.iter().copied().filter(has_row).collect();
+        let rows: Vec<u32> = r_types.iter().copied().filter(has_row).collect();
         let mut random = Random(0x1234_5678_9abc_def1);
         let (mut written, mut rejected) = (0, 0);
         for _ in 0..10_000 {
@@ -1319,14 +1319,14 @@ fn damaged_sections_change_nothing_or_are_written_as_one_by_one() {
                         2..6 => offset,
                         _ => offset.wrapping_add(8),
                     };
-                    // mostly a code with a row
-                    let known = if random.below(16) == 0 { &codes } else { &rows };
+                    // mostly an `r_type` with a row
+                    let known = if random.below(16) == 0 { &r_types } else { &rows };
                     let code = known[random.below(known.len() as u64) as usize];
                     let damage = u32::from(random.below(64) == 0) << random.below(32);
                     let out_of_table = u64::from(random.below(16) == 0);
                     Rela {
                         offset,
-                        code: code ^ damage,
+                        r_type: code ^ damage,
                         symbol: random.below(symbols.len() as u64 + out_of_table) as u32,
                         addend: 8 * random.below(8) as i64 - 32,
                     }
@@ -1394,9 +1394,9 @@ fn the_first_overlap_is_found_in_any_order() {
             .collect();
         let relocations: Vec<Rela> = fields
             .iter()
-            .map(|&(offset, (code, ..))| Rela {
+            .map(|&(offset, (r_type, ..))| Rela {
                 offset,
-                code,
+                r_type,
                 symbol: 1,
                 addend: 0,
             })
@@ -1443,10 +1443,10 @@ fn two_ascending_runs_are_written_unless_fields_overlap() {
         let all: Vec<Rela> = (0..count)
             .map(|number| {
                 // R_X86_64_64, R_X86_64_32; few begin before the field before them ends
-                let (code, len) = [(1, 8), (10, 4)][random.below(2) as usize];
+                let (r_type, len) = [(1, 8), (10, 4)][random.below(2) as usize];
                 let offset = end - if random.below(15) == 0 { end.min(4) } else { 0 };
                 end = offset + len + random.below(9);
-                rela(offset, code, 1, number as i64)
+                rela(offset, r_type, 1, number as i64)
             })
             .collect();
         let (second, first): (Vec<Rela>, Vec<Rela>) =
@@ -1478,7 +1478,7 @@ fn a_hundred_thousand_descending_relocations_are_written() {
     let all: Vec<Rela> = (0..100_000)
         .map(|index| Rela {
             offset: 8 * index,
-            code: 1,
+            r_type: 1,
             symbol: 1,
             addend: -8 * index as i64,
         })
@@ -1497,10 +1497,10 @@ fn a_hundred_thousand_descending_relocations_are_written() {
 #[test]
 fn needs_are_those_of_the_formulas() {
     let entry = |class| Some(Entry { class, addend: 0 });
-    let of = |architecture, code, addend, is_thread_local| {
-        needs(architecture, code, addend, is_thread_local).unwrap()
+    let of = |architecture, r_type, addend, is_thread_local| {
+        needs(architecture, r_type, addend, is_thread_local).unwrap()
     };
-    for (architecture, code, is_thread_local, expected) in [
+    for (architecture, r_type, is_thread_local, expected) in [
         (X86_64, 42, false, entry(EntryClass::Address)),
         (X86_64, 22, true, entry(EntryClass::ThreadOffset)),
         (X86_64, 19, true, entry(EntryClass::ModuleOffset)),
@@ -1517,9 +1517,9 @@ fn needs_are_those_of_the_formulas() {
         (Ppc64, 10, false, None),
     ] {
         assert_eq!(
-            of(architecture, code, 0, is_thread_local).entry,
+            of(architecture, r_type, 0, is_thread_local).entry,
             expected,
-            "{code}"
+            "{r_type}"
         );
     }
     // the entry is of S + A in the instructions of AArch64 and PowerPC64
@@ -1544,25 +1544,25 @@ fn needs_are_those_of_the_formulas() {
         (AArch64, 280),
     ];
     for architecture in [AArch64, RiscV, LoongArch64, Ppc64, X86_64] {
-        for code in 0..1200 {
-            let is = needs(architecture, code, 0, false).is_some_and(|n| n.stub_only_if_undefined);
-            assert_eq!(is, bound.contains(&(architecture, code)), "{code}");
+        for r_type in 0..1200 {
+            let is = needs(architecture, r_type, 0, false).is_some_and(|n| n.stub_only_if_undefined);
+            assert_eq!(is, bound.contains(&(architecture, r_type)), "{r_type}");
         }
     }
     // words: R_X86_64_64, R_AARCH64_ABS64, R_RISCV_64, R_LARCH_64, R_PPC64_ADDR64
-    for (architecture, code) in [
+    for (architecture, r_type) in [
         (X86_64, 1),
         (AArch64, 257),
         (RiscV, 2),
         (LoongArch64, 2),
         (Ppc64, 38),
     ] {
-        let word = of(architecture, code, 0, false);
-        assert!(word.is_word && word.depends_on_load, "{code}");
+        let word = of(architecture, r_type, 0, false);
+        assert!(word.is_word && word.depends_on_load, "{r_type}");
     }
     // R_X86_64_32, R_AARCH64_MOVW_UABS_G0, R_RISCV_HI20 depend on the load address;
     // R_AARCH64_ADD_ABS_LO12_NC, R_RISCV_LO12_I, R_RISCV_ADD32, R_LARCH_PCALA_LO12 don't
-    for (architecture, code, expected) in [
+    for (architecture, r_type, expected) in [
         (X86_64, 10, true),
         (AArch64, 263, true),
         (RiscV, 26, true),
@@ -1573,9 +1573,9 @@ fn needs_are_those_of_the_formulas() {
         (X86_64, 2, false),
     ] {
         assert_eq!(
-            of(architecture, code, 0, false).depends_on_load,
+            of(architecture, r_type, 0, false).depends_on_load,
             expected,
-            "{code}"
+            "{r_type}"
         );
     }
     assert_eq!(needs(X86_64, 200, 0, false), None);

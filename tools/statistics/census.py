@@ -107,7 +107,7 @@ def relocation_tables(file):
 
 
 def relocations(data):
-    """The machine of an object, and its relocations' codes."""
+    """The machine of an object, and its relocations' types."""
     file = object_of(data)
     codes = collections.Counter()
     for _, entries in relocation_tables(file):

@@ -256,19 +256,19 @@ fn landing_entries_are_those_of_linkers() {
 }
 
 /// The bytes of an `Elf64_Rela`, of symbol 1.
-fn rela(offset: u64, code: u32, addend: i64) -> Vec<u8> {
+fn rela(offset: u64, r_type: u32, addend: i64) -> Vec<u8> {
     let mut bytes = offset.to_le_bytes().to_vec();
-    bytes.extend((1 << 32 | u64::from(code)).to_le_bytes());
+    bytes.extend((1 << 32 | u64::from(r_type)).to_le_bytes());
     bytes.extend(addend.to_le_bytes());
     bytes
 }
 
 /// The route of one branch at the address 0x10000000, to a function at an address.
-fn route(machine: Architecture, code: u32, address: u64, other: u8, words: &[u32]) -> Result<Route, Status> {
+fn route(machine: Architecture, r_type: u32, address: u64, other: u8, words: &[u32]) -> Result<Route, Status> {
     let section: Vec<u8> = words.iter().flat_map(|word| word.to_le_bytes()).collect();
     let addresses = Addresses { section: 0x1000_0000, ..Addresses::default() };
     let symbols = [Symbol::default(), Symbol { address, other, ..Symbol::default() }];
-    route_at(machine, &addresses, &rela(0, code, 0), &symbols, 0, &section)
+    route_at(machine, &addresses, &rela(0, r_type, 0), &symbols, 0, &section)
 }
 
 /// As ld.lld makes them: ELF for the Arm 64-bit Architecture lets CALL26 go by a veneer beyond

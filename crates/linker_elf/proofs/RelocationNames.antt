@@ -1,6 +1,6 @@
--- How ELF names the relocation with a code: with a text, or as one of the codes without.
+-- How ELF names the relocation with an `r_type`: with a text, or as one of those without.
 use Rattle.std.proofs.Common.{◌≡◌, ◌≤◌, ℕ, List, length, lit≤, ap, refl, sym, ◌∙◌}
-use Rattle.linker_elf.specs.ElfNames.{ElfName, named, unnamed, code_of, text_of, IsNamed, IsNameOf}
+use Rattle.linker_elf.specs.ElfNames.{ElfName, named, unnamed, r_type_of, text_of, IsNamed, IsNameOf}
 use Rattle.linker_elf.specs.AArch64Relocations.{aarch64_name}
 use Rattle.linker_elf.specs.declared.aarch64.relocations.AArch64Relocation.{AArch64Relocation}
 use Rattle.linker_elf.specs.declared.aarch64.relocations.AArch64Relocation.TheVariants as aarch64_names
@@ -18,38 +18,38 @@ use Rattle.linker_elf.specs.declared.x86_64.relocations.X86_64Relocation.{X86_64
 use Rattle.linker_elf.specs.declared.x86_64.relocations.X86_64Relocation.TheVariants as x86_64_names
 use Rattle.linker_elf.specs.Architectures.{IsNamedValue}
 
-named_is : (elf : ElfName) (r_type : ℕ) (text : List ℕ) → IsNamed elf → code_of elf ≡ r_type → text ≡ text_of elf → named r_type text ≡ elf
-named_is (named r t) r_type text is code_is text_is = ap (λ k. named k text) (sym code_is) ∙ ap (λ k. named r k) text_is
-named_is (unnamed r) r_type text is code_is text_is = absurd is
+named_is : (elf : ElfName) (r_type : ℕ) (text : List ℕ) → IsNamed elf → r_type_of elf ≡ r_type → text ≡ text_of elf → named r_type text ≡ elf
+named_is (named r t) r_type text is r_type_is text_is = ap (λ k. named k text) (sym r_type_is) ∙ ap (λ k. named r k) text_is
+named_is (unnamed r) r_type text is r_type_is text_is = absurd is
 
 pub of_named : {Name : Type 0} (elf : Name → ElfName) (r_type : ℕ) (name : Name) (text : List ℕ) → IsNameOf elf r_type name → IsNamed (elf name) → text ≡ text_of (elf name) → IsNamedValue elf elf r_type (named r_type text)
 of_named elf r_type name text is_name is_named text_is =
-    record { name = name; is_name = is_name; value_is = named_is (elf name) r_type text is_named is_name.code_is text_is }
+    record { name = name; is_name = is_name; value_is = named_is (elf name) r_type text is_named is_name.r_type_is text_is }
 
-pub of_unnamed : {Name : Type 0} (elf : Name → ElfName) (r_type : ℕ) (name : Name) (code : ℕ) → IsNameOf elf r_type name → elf name ≡ unnamed code → IsNamedValue elf elf r_type (unnamed r_type)
-of_unnamed elf r_type name code is_name is =
-    record { name = name; is_name = is_name; value_is = ap unnamed (sym is_name.code_is ∙ ap code_of is) ∙ sym is }
+pub of_unnamed : {Name : Type 0} (elf : Name → ElfName) (r_type : ℕ) (name : Name) (other : ℕ) → IsNameOf elf r_type name → elf name ≡ unnamed other → IsNamedValue elf elf r_type (unnamed r_type)
+of_unnamed elf r_type name other is_name is =
+    record { name = name; is_name = is_name; value_is = ap unnamed (sym is_name.r_type_is ∙ ap r_type_of is) ∙ sym is }
 
 -- Each name but `Other` has a text, of at most 39 bytes.
 abbrev pub IsShort : ElfName → Type 0
 IsShort elf = IsNamed elf × (length (text_of elf) ≤ 39)
 
-pub aarch64_is_short : (name : AArch64Relocation) → ((code : ℕ) → name ≡ aarch64_names.Other code → ⊥) → IsShort (aarch64_name name)
-aarch64_is_short (aarch64_names.Other code) isnt = absurd (isnt code refl)
+pub aarch64_is_short : (name : AArch64Relocation) → ((r_type : ℕ) → name ≡ aarch64_names.Other r_type → ⊥) → IsShort (aarch64_name name)
+aarch64_is_short (aarch64_names.Other r_type) isnt = absurd (isnt r_type refl)
 aarch64_is_short _ isnt = (tt, lit≤ tt)
 
-pub riscv64_is_short : (name : RiscVRelocation) → ((code : ℕ) → name ≡ riscv64_names.Other code → ⊥) → IsShort (riscv_name name)
-riscv64_is_short (riscv64_names.Other code) isnt = absurd (isnt code refl)
+pub riscv64_is_short : (name : RiscVRelocation) → ((r_type : ℕ) → name ≡ riscv64_names.Other r_type → ⊥) → IsShort (riscv_name name)
+riscv64_is_short (riscv64_names.Other r_type) isnt = absurd (isnt r_type refl)
 riscv64_is_short _ isnt = (tt, lit≤ tt)
 
-pub loongarch64_is_short : (name : LoongArch64Relocation) → ((code : ℕ) → name ≡ loongarch64_names.Other code → ⊥) → IsShort (loongarch_name name)
-loongarch64_is_short (loongarch64_names.Other code) isnt = absurd (isnt code refl)
+pub loongarch64_is_short : (name : LoongArch64Relocation) → ((r_type : ℕ) → name ≡ loongarch64_names.Other r_type → ⊥) → IsShort (loongarch_name name)
+loongarch64_is_short (loongarch64_names.Other r_type) isnt = absurd (isnt r_type refl)
 loongarch64_is_short _ isnt = (tt, lit≤ tt)
 
-pub ppc64_is_short : (name : Ppc64Relocation) → ((code : ℕ) → name ≡ ppc64_names.Other code → ⊥) → IsShort (ppc64_name name)
-ppc64_is_short (ppc64_names.Other code) isnt = absurd (isnt code refl)
+pub ppc64_is_short : (name : Ppc64Relocation) → ((r_type : ℕ) → name ≡ ppc64_names.Other r_type → ⊥) → IsShort (ppc64_name name)
+ppc64_is_short (ppc64_names.Other r_type) isnt = absurd (isnt r_type refl)
 ppc64_is_short _ isnt = (tt, lit≤ tt)
 
-pub x86_64_is_short : (name : X86_64Relocation) → ((code : ℕ) → name ≡ x86_64_names.Other code → ⊥) → IsShort (x86_64_name name)
-x86_64_is_short (x86_64_names.Other code) isnt = absurd (isnt code refl)
+pub x86_64_is_short : (name : X86_64Relocation) → ((r_type : ℕ) → name ≡ x86_64_names.Other r_type → ⊥) → IsShort (x86_64_name name)
+x86_64_is_short (x86_64_names.Other r_type) isnt = absurd (isnt r_type refl)
 x86_64_is_short _ isnt = (tt, lit≤ tt)

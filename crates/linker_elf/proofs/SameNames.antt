@@ -57,9 +57,9 @@ same_value N tests exact a b = (
       (itself N.parts tests exact (N.as_values a)),
 )
 
--- the code of a name without one is compared by `==`
-pub exact_code : (x y : ℕ × Unit {0}) → IsTrue (x.0 == y.0) ↔ (x ≡ y)
-exact_code x y = (λ h. ap (λ n. (n, tt)) (eqb-true x.0 y.0 h), λ e. eq-eqb x.0 y.0 (ap (λ v. v.0) e))
+-- the `r_type` of a name without one is compared by `==`
+pub exact_r_type : (x y : ℕ × Unit {0}) → IsTrue (x.0 == y.0) ↔ (x ≡ y)
+exact_r_type x y = (λ h. ap (λ n. (n, tt)) (eqb-true x.0 y.0 h), λ e. eq-eqb x.0 y.0 (ap (λ v. v.0) e))
 
 -- what an architecture's rewrites and names keep
 pub equalities : {K : Type 0} (none : K) (N : Record) (tests : Tests N.parts) → AreExact N.parts tests

@@ -33,7 +33,7 @@ use Rattle.linker_elf.specs.declared.aarch64.relocations.AArch64Relocation.TheVa
 abbrev pub insn_row : RelocationKind → ℕ → ℕ → AArch64Instruction → RelocationKindInfo
 insn_row kind start end form = bits_row kind start end (AArch64 form)
 
--- each name with its code and its row
+-- each name with its `r_type` and its row
 abbrev pub aarch64_relocation : AArch64Relocation → Relocation
 aarch64_relocation r.R_AARCH64_NONE = with_row 0 (codes "R_AARCH64_NONE") (bytes_row NoValue 0)
 aarch64_relocation r.R_AARCH64_ABS64 = with_row 257 (codes "R_AARCH64_ABS64") (bytes_row Absolute 8)
@@ -308,7 +308,7 @@ aarch64_relocation r.R_AARCH64_TLSLD_LDST128_DTPREL_LO12 =
 aarch64_relocation r.R_AARCH64_TLSLD_LDST128_DTPREL_LO12_NC =
     with_row 573 (codes "R_AARCH64_TLSLD_LDST128_DTPREL_LO12_NC")
     (aligned_row 16 (insn_row DtpOff 4 12 LdSt))
-aarch64_relocation (r.Other code) = unnamed_relocation code
+aarch64_relocation (r.Other r_type) = unnamed_relocation r_type
 
 abbrev pub aarch64_name : AArch64Relocation → ElfName
 aarch64_name name = (aarch64_relocation name).name

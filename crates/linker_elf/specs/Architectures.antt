@@ -1,4 +1,4 @@
--- What an architecture's codes and numbers name.
+-- What an architecture's `r_type`s and numbers name.
 use Rattle.std.specs.Prelude.{◌≡◌, ℕ, slice_get, Option, Some, None}
 use Rattle.linker_elf.specs.AArch64.{aarch64_forms}
 use Rattle.linker_elf.specs.AArch64Relocations.{aarch64_name, aarch64_row}
@@ -20,16 +20,16 @@ use Rattle.linker_elf.specs.declared.elf.RelocationInstruction.TheVariants as in
 use Rattle.linker_elf.specs.declared.elf.RelocationKindInfo.{RelocationKindInfo}
 use Rattle.linker_elf.specs.declared.elf.Uleb128Role.{Uleb128Role}
 
--- ---- relocations, by their codes
+-- ---- relocations, by `r_type`
 
--- a value, as the row or the code and text, of the name that a code has among names
-pub record IsNamedValue {Name A : Type 0} (elf : Name → ElfName) (value_of : Name → A) (code : ℕ)
+-- a value, as the row or the `r_type` and text, of the name that an `r_type` has among names
+pub record IsNamedValue {Name A : Type 0} (elf : Name → ElfName) (value_of : Name → A) (r_type : ℕ)
     (value : A) : Type 0 where
   pub name : Name
-  pub is_name : IsNameOf elf code name
+  pub is_name : IsNameOf elf r_type name
   pub value_is : value ≡ value_of name
 
--- what the relocation with a code means
+-- what the relocation with an `r_type` means
 abbrev pub IsRow : Architecture → ℕ → Option RelocationKindInfo → Type 0
 IsRow AArch64 = IsNamedValue aarch64_name aarch64_row
 IsRow RiscV = IsNamedValue riscv_name (λ name. (riscv_relocation name).row)
@@ -49,7 +49,7 @@ IsElfName X86_64 = IsNamedValue x86_64_name x86_64_name
 abbrev pub IsRole : Architecture → ℕ → Option Uleb128Role → Type 0
 IsRole RiscV = IsNamedValue riscv_name riscv_uleb128_role
 IsRole LoongArch64 = IsNamedValue loongarch_name loongarch_uleb128_role
-IsRole architecture = λ code role. role ≡ None
+IsRole architecture = λ r_type role. role ≡ None
 
 -- ---- forms, by their numbers
 

@@ -62,7 +62,7 @@ upper_row kind = insn_row kind 52 64 Shift10
 abbrev pub rounded_row : RelocationKind → RelocationKindInfo
 rounded_row kind = biased_row 0x800 (high_row kind)
 
--- each name with its code and its row
+-- each name with its `r_type` and its row
 abbrev pub loongarch_relocation : LoongArch64Relocation → Relocation
 loongarch_relocation r.R_LARCH_NONE = with_row 0 (codes "R_LARCH_NONE") (bytes_row NoValue 0)
 loongarch_relocation r.R_LARCH_32 =
@@ -198,7 +198,7 @@ loongarch_relocation r.R_LARCH_CALL30 =
     with_row 127 (codes "R_LARCH_CALL30") (insn_row Relative 2 19 Call30)
 loongarch_relocation r.R_LARCH_PCADD_HI20 =
     with_row 128 (codes "R_LARCH_PCADD_HI20") (rounded_row Relative)
-loongarch_relocation (r.Other code) = unnamed_relocation code
+loongarch_relocation (r.Other r_type) = unnamed_relocation r_type
 
 abbrev pub loongarch_name : LoongArch64Relocation → ElfName
 loongarch_name name = (loongarch_relocation name).name

@@ -61,7 +61,7 @@ branch_row kind n form = aligned_row 4 (signed_row n (bits_row kind 0 n (Ppc64 f
 abbrev pub prefixed_row : RelocationKind → RelocationKindInfo
 prefixed_row kind = signed_row 34 (bits_row kind 0 34 (Ppc64 Prefixed))
 
--- each name with its code and its row
+-- each name with its `r_type` and its row
 abbrev pub ppc64_relocation : Ppc64Relocation → Relocation
 ppc64_relocation r.R_PPC64_NONE = with_own_row 0 (codes "R_PPC64_NONE") (bytes_row NoValue 0)
 ppc64_relocation r.R_PPC64_ADDR32 =
@@ -239,7 +239,7 @@ ppc64_relocation r.R_PPC64_REL16_LO = with_row 250 (codes "R_PPC64_REL16_LO") (l
 ppc64_relocation r.R_PPC64_REL16_HI = with_own_row 251 (codes "R_PPC64_REL16_HI") (high_row Relative)
 ppc64_relocation r.R_PPC64_REL16_HA =
     with_row 252 (codes "R_PPC64_REL16_HA") (high_adjusted_row Relative)
-ppc64_relocation (r.Other code) = unnamed_relocation code
+ppc64_relocation (r.Other r_type) = unnamed_relocation r_type
 
 abbrev pub ppc64_name : Ppc64Relocation → ElfName
 ppc64_name name = (ppc64_relocation name).name

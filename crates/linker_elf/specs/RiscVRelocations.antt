@@ -41,7 +41,7 @@ clui_row = pair_row Absolute 32 CluiType
 abbrev pub jump_row : ℕ → RiscVInstruction → ℤ × ℤ → RelocationKindInfo
 jump_row end form bounds = aligned_row 2 (within_row bounds (bits_row Relative 0 end (RiscV form)))
 
--- each name with its code and its row
+-- each name with its `r_type` and its row
 abbrev pub riscv_relocation : RiscVRelocation → Relocation
 riscv_relocation r.R_RISCV_NONE = with_row 0 (codes "R_RISCV_NONE") (bytes_row NoValue 0)
 riscv_relocation r.R_RISCV_32 =
@@ -125,7 +125,7 @@ riscv_relocation r.R_RISCV_TLSDESC_ADD_LO12 =
     with_own_row 64 (codes "R_RISCV_TLSDESC_ADD_LO12") (pair_row TlsDesc 32 IType)
 riscv_relocation r.R_RISCV_TLSDESC_CALL =
     with_own_row 65 (codes "R_RISCV_TLSDESC_CALL") (bytes_row TlsDescCall 0)
-riscv_relocation (r.Other code) = unnamed_relocation code
+riscv_relocation (r.Other r_type) = unnamed_relocation r_type
 
 abbrev pub riscv_name : RiscVRelocation → ElfName
 riscv_name name = (riscv_relocation name).name

@@ -91,13 +91,13 @@ pub record Relocation : Type 0 where
   pub is_own : Bool
 
 abbrev pub with_row : ℕ → List ℕ → RelocationKindInfo → Relocation
-with_row code text row = record { name = named code text; row = Some row; is_own = false }
+with_row r_type text row = record { name = named r_type text; row = Some row; is_own = false }
 
 abbrev pub with_own_row : ℕ → List ℕ → RelocationKindInfo → Relocation
-with_own_row code text row = record (with_row code text row) { is_own = true }
+with_own_row r_type text row = record (with_row r_type text row) { is_own = true }
 
 abbrev pub unnamed_relocation : ℕ → Relocation
-unnamed_relocation code = record { name = unnamed code; row = None; is_own = false }
+unnamed_relocation r_type = record { name = unnamed r_type; row = None; is_own = false }
 
 -- the row that that crate has
 abbrev pub raw_row : Relocation → Option RelocationKindInfo

@@ -16,7 +16,7 @@ use Rattle.linker_elf.specs.declared.elf.RelocationKindInfo.{RelocationKindInfo}
 use Rattle.linker_elf.specs.declared.x86_64.relocations.X86_64Relocation.{X86_64Relocation}
 use Rattle.linker_elf.specs.declared.x86_64.relocations.X86_64Relocation.TheVariants as r
 
--- each name with its code and its row
+-- each name with its `r_type` and its row
 abbrev pub x86_64_relocation : X86_64Relocation → Relocation
 x86_64_relocation r.R_X86_64_NONE = with_row 0 (codes "R_X86_64_NONE") (bytes_row NoValue 0)
 x86_64_relocation r.R_X86_64_64 = with_row 1 (codes "R_X86_64_64") (bytes_row Absolute 8)
@@ -91,7 +91,7 @@ x86_64_relocation r.R_X86_64_CODE_6_GOTTPOFF =
     with_row 50 (codes "R_X86_64_CODE_6_GOTTPOFF") (signed_row 32 (bytes_row GotTpOff 4))
 x86_64_relocation r.R_X86_64_CODE_6_GOTPC32_TLSDESC =
     with_row 51 (codes "R_X86_64_CODE_6_GOTPC32_TLSDESC") (signed_row 32 (bytes_row TlsDesc 4))
-x86_64_relocation (r.Other code) = unnamed_relocation code
+x86_64_relocation (r.Other r_type) = unnamed_relocation r_type
 
 abbrev pub x86_64_name : X86_64Relocation → ElfName
 x86_64_name name = (x86_64_relocation name).name

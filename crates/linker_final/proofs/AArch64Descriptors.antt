@@ -53,13 +53,13 @@ either_of : (name : AArch64Relocation) (x y : List (Condition AArch64Relocation)
 either_of name x y section o chosen (inl this) =
     record {
       kind_is = this.kind_is;
-      code_is = this.code_is;
+      r_type_is = this.r_type_is;
       meant = record { matches = this.meant.matches; pattern = this.meant.pattern };
     }
 either_of name x y section o chosen (inr (inl this)) =
     record {
       kind_is = this.kind_is;
-      code_is = this.code_is;
+      r_type_is = this.r_type_is;
       meant = record { matches = this.meant.matches; pattern = this.meant.pattern };
     }
 either_of name x y section o chosen (inr (inr nothing)) = absurd nothing

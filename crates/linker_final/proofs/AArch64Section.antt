@@ -38,20 +38,20 @@ module _ (l : Linked) (linked : IsLinked l) (aarch64 : l.context.architecture �
       record { g = g; first = omega (arith, there); last = omega (arith, there, less) }
 
   whole : (i : ℕ) (name : AArch64Relocation) → i < count l → decision_at l.decisions i ≢ Kept
-      → IsNameOf aarch64_name (relocation_in l.relocations i).code name
+      → IsNameOf aarch64_name (relocation_in l.relocations i).r_type name
       → IsWholeBy name l.relocations l.decisions i
   whole i name below changed is_name =
       sequences_are_whole l.context l.kept l.relocations l.section l.decisions i name aarch64 linked.decided below is_name changed
 
   decision_in : (i : ℕ) (name : AArch64Relocation) (phase : Phase) → i < count l
-      → IsNameOf aarch64_name (relocation_in l.relocations i).code name → l.context.phase ≡ phase
+      → IsNameOf aarch64_name (relocation_in l.relocations i).r_type name → l.context.phase ≡ phase
       → IsScopeDecision l.context l.kept l.relocations l.section i (relocation_in l.relocations i) (aarch64_scope_in phase name) (decision_at l.decisions i)
   decision_in i name phase =
       in_phase l.context aarch64 l.kept l.relocations l.section l.decisions linked.decided i name phase
 
   -- an instruction that is rewritten by itself
   half_of : (i : ℕ) (name : AArch64Relocation) → i < count l → decision_at l.decisions i ≢ Kept
-      → IsNameOf aarch64_name (relocation_in l.relocations i).code name
+      → IsNameOf aarch64_name (relocation_in l.relocations i).r_type name
       → IsScopeDecision l.context l.kept l.relocations l.section i (relocation_in l.relocations i) (Grouped groups.InitialExec) (decision_at l.decisions i)
       → IsRewrittenOf l name i
   half_of i name below changed is_name is =
@@ -60,7 +60,7 @@ module _ (l : Linked) (linked : IsLinked l) (aarch64 : l.context.architecture �
       record { below = below; is_name = is_name; chosen = made.chosen; decided = made.decided_so }
 
   branch_of : (i : ℕ) (name : AArch64Relocation) → i < count l → decision_at l.decisions i ≢ Kept
-      → IsNameOf aarch64_name (relocation_in l.relocations i).code name
+      → IsNameOf aarch64_name (relocation_in l.relocations i).r_type name
       → IsScopeDecision l.context l.kept l.relocations l.section i (relocation_in l.relocations i) Independent (decision_at l.decisions i)
       → IsRewrittenOf l name i
   branch_of i name below changed is_name is =
@@ -69,7 +69,7 @@ module _ (l : Linked) (linked : IsLinked l) (aarch64 : l.context.architecture �
 
   -- by the phase and the name
   early_in : (i : ℕ) → i < count l → decision_at l.decisions i ≢ Kept → l.context.phase ≡ phases.PreLayout
-      → (name : AArch64Relocation) → IsNameOf aarch64_name (relocation_in l.relocations i).code name → IsPart i
+      → (name : AArch64Relocation) → IsNameOf aarch64_name (relocation_in l.relocations i).r_type name → IsPart i
   early_in i below changed early names.R_AARCH64_TLSDESC_ADR_PAGE21 is_name =
       elim (whole i names.R_AARCH64_TLSDESC_ADR_PAGE21 below changed is_name).1 [
         | inl w ↦ in_at i (i - 0) 0 (omega arith) (to_local (i - 0) w) (omega arith) w.page.offset
@@ -116,7 +116,7 @@ module _ (l : Linked) (linked : IsLinked l) (aarch64 : l.context.architecture �
       absurd (changed (decision_in i name phases.PreLayout below is_name early))
 
   late_in : (i : ℕ) → i < count l → decision_at l.decisions i ≢ Kept → l.context.phase ≡ phases.GotToPcRel
-      → (name : AArch64Relocation) → IsNameOf aarch64_name (relocation_in l.relocations i).code name → IsPart i
+      → (name : AArch64Relocation) → IsNameOf aarch64_name (relocation_in l.relocations i).r_type name → IsPart i
   late_in i below changed late names.R_AARCH64_ADR_GOT_PAGE is_name =
       let w = (whole i names.R_AARCH64_ADR_GOT_PAGE below changed is_name).1 in
       in_at i (i - 0) 0 (omega arith) (load (i - 0) w) (omega arith) w.page.offset
@@ -128,7 +128,7 @@ module _ (l : Linked) (linked : IsLinked l) (aarch64 : l.context.architecture �
       absurd (changed (decision_in i name phases.GotToPcRel below is_name late))
 
   short_in : (i : ℕ) → i < count l → decision_at l.decisions i ≢ Kept → l.context.phase ≡ phases.ShortPcRel
-      → (name : AArch64Relocation) → IsNameOf aarch64_name (relocation_in l.relocations i).code name → IsPart i
+      → (name : AArch64Relocation) → IsNameOf aarch64_name (relocation_in l.relocations i).r_type name → IsPart i
   short_in i below changed short names.R_AARCH64_ADR_PREL_PG_HI21 is_name =
       let w = (whole i names.R_AARCH64_ADR_PREL_PG_HI21 below changed is_name).1 in
       in_at i (i - 0) 0 (omega arith) (address (i - 0) w) (omega arith) w.page.offset
@@ -140,7 +140,7 @@ module _ (l : Linked) (linked : IsLinked l) (aarch64 : l.context.architecture �
       absurd (changed (decision_in i name phases.ShortPcRel below is_name short))
 
   by_phase : (i : ℕ) → i < count l → decision_at l.decisions i ≢ Kept → (p : Phase) → l.context.phase ≡ p
-      → (name : AArch64Relocation) → IsNameOf aarch64_name (relocation_in l.relocations i).code name → IsPart i
+      → (name : AArch64Relocation) → IsNameOf aarch64_name (relocation_in l.relocations i).r_type name → IsPart i
   by_phase i below changed phases.PreLayout is = early_in i below changed is
   by_phase i below changed phases.TlsLocalExec is =
       λ name is_name. absurd (changed (decision_in i name phases.TlsLocalExec below is_name is))

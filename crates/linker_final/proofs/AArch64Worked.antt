@@ -1,6 +1,6 @@
 -- The groups of AArch64's program that the calls link.
 use Rattle.std.proofs.Common.{◌≡◌, ◌≢◌, ℕ, zero, suc, ◌+◌, ◌-◌, ◌/◌, ◌<◌, ◌≤◌, ◌⊎◌, inl, inr, List, [], ◌∷◌, length, Bool, true, false, eqb, eqb-true, refl, sym, ap, subst, ◌∙◌, arith, lit<, lit≤, pos, Some, true≢false}
-use Rattle.linker_final.proofs.Imports.{◌&&◌, slice_get, replicate, cases_lt, ints, window_of_rewrite, RewriteWindow, aarch64_name, entry, IsNamed, IsNameOf, code_of, sum_64, AArch64Relocation, AArch64, Operands, Has, following, word_of, put, with_register, loaded, AreAddresses, Kinds, State, half, in_phase, sequences_are_whole, IsGroupDecision, decision_at, window_of, group_stays, IsLoadRewritten, IsRewrittenBy, relocation_after, Decision, Kept, Rewritten, UnrelaxableGroups, relocation_in, operands_with, Addresses, Symbol, Rela, AArch64Entry, halves_to_local_exec, relaxation_rewrite}
+use Rattle.linker_final.proofs.Imports.{◌&&◌, slice_get, replicate, cases_lt, ints, window_of_rewrite, RewriteWindow, aarch64_name, entry, IsNamed, IsNameOf, r_type_of, sum_64, AArch64Relocation, AArch64, Operands, Has, following, word_of, put, with_register, loaded, AreAddresses, Kinds, State, half, in_phase, sequences_are_whole, IsGroupDecision, decision_at, window_of, group_stays, IsLoadRewritten, IsRewrittenBy, relocation_after, Decision, Kept, Rewritten, UnrelaxableGroups, relocation_in, operands_with, Addresses, Symbol, Rela, AArch64Entry, halves_to_local_exec, relaxation_rewrite}
 use Rattle.std.proofs.lemmas.List.Elements.{All-nil, All-cons}
 use Rattle.linker_base.specs.Form.{place_sum}
 use Rattle.linker_elf.specs.declared.aarch64.relocations.AArch64Relocation.TheVariants as names
@@ -251,10 +251,10 @@ module _ (p q : RewritingPhase) (relocations_last last final : List ℕ) (symbol
   below_l i below = omega (arith, below, count_l)
 
   named_l : (i : ℕ) (name : AArch64Relocation) → i < 4 → IsNamed (aarch64_name name)
-      → code_of (aarch64_name name) ≡ (relocation i).code → IsNameOf aarch64_name (relocation_in l.relocations i).code name
+      → r_type_of (aarch64_name name) ≡ (relocation i).r_type → IsNameOf aarch64_name (relocation_in l.relocations i).r_type name
   named_l i name below named code =
       named_at l.context is_p.architecture_is l.kept l.relocations l.section l.decisions linked_l.decided i name
-      (below_l i below) named (code ∙ ap (λ (r : Rela). r.code) (sym (there i)))
+      (below_l i below) named (code ∙ ap (λ (r : Rela). r.r_type) (sym (there i)))
 
   page_stays : decision_at l.decisions 0 ≡ Kept
   page_stays =
@@ -268,7 +268,7 @@ module _ (p q : RewritingPhase) (relocations_last last final : List ℕ) (symbol
       names.R_AARCH64_LD64_GOT_LO12_NC phases.PreLayout (below_l 1 (lit< tt))
       (named_l 1 names.R_AARCH64_LD64_GOT_LO12_NC (lit< tt) tt refl) is_p.phase_is
 
-  half_of : (i : ℕ) (name : AArch64Relocation) → (below : i < 4) → IsNameOf aarch64_name (relocation_in l.relocations i).code name
+  half_of : (i : ℕ) (name : AArch64Relocation) → (below : i < 4) → IsNameOf aarch64_name (relocation_in l.relocations i).r_type name
       → IsGroupDecision l.context l.relocations l.section i (relocation_in l.relocations i)
       (group_stays l.kept groups.InitialExec (relocation_in l.relocations i).symbol) (decision_at l.decisions i)
       → group_stays (replicate 12 none_stays) groups.InitialExec (relocation i).symbol ≡ false
@@ -320,22 +320,22 @@ module _ (p q : RewritingPhase) (relocations_last last final : List ℕ) (symbol
   load_there : relocation_in m.relocations 1 ≡ relocation 1
   load_there = as_it_was 1 (lit< tt) load_stays
 
-  high_there : relocation_in m.relocations 2 ≡ rela 8 (code_of (aarch64_name high_after)) 6 (pos 0)
+  high_there : relocation_in m.relocations 2 ≡ rela 8 (r_type_of (aarch64_name high_after)) 6 (pos 0)
   high_there =
       taken 2 ∙ (named_after new_l high_name 2 high_of high_entry high_by (λ o. refl) (λ a. refl)
-      ∙ ap (λ (r : Rela). rela r.offset (code_of (aarch64_name high_after)) r.symbol r.addend) (there 2))
+      ∙ ap (λ (r : Rela). rela r.offset (r_type_of (aarch64_name high_after)) r.symbol r.addend) (there 2))
 
-  low_there : relocation_in m.relocations 3 ≡ rela 16 (code_of (aarch64_name low_after)) 6 (pos 0)
+  low_there : relocation_in m.relocations 3 ≡ rela 16 (r_type_of (aarch64_name low_after)) 6 (pos 0)
   low_there =
       taken 3 ∙ (named_after new_l low_name 3 low_of low_entry low_by (λ o. refl) (λ a. refl)
-      ∙ ap (λ (r : Rela). rela r.offset (code_of (aarch64_name low_after)) r.symbol r.addend) (there 3))
+      ∙ ap (λ (r : Rela). rela r.offset (r_type_of (aarch64_name low_after)) r.symbol r.addend) (there 3))
 
   named_m : (i : ℕ) (name : AArch64Relocation) (r : Rela) → i < 4 → relocation_in m.relocations i ≡ r
-      → IsNamed (aarch64_name name) → code_of (aarch64_name name) ≡ r.code
-      → IsNameOf aarch64_name (relocation_in m.relocations i).code name
+      → IsNamed (aarch64_name name) → r_type_of (aarch64_name name) ≡ r.r_type
+      → IsNameOf aarch64_name (relocation_in m.relocations i).r_type name
   named_m i name r below is named code =
       named_at m.context is_q.architecture_is m.kept m.relocations m.section m.decisions linked_m.decided i name
-      (below_m i below) named (code ∙ ap (λ (r : Rela). r.code) (sym is))
+      (below_m i below) named (code ∙ ap (λ (r : Rela). r.r_type) (sym is))
 
   high_stays : decision_at m.decisions 2 ≡ Kept
   high_stays =

@@ -1,6 +1,6 @@
 -- Rewritten instructions of AArch64 in a phase, and in code that has the final bytes.
 use Rattle.std.proofs.Common.{◌≡◌, ℕ, ℤ, ◌+◌, ◌<◌, ◌≤◌, List, [], ◌∷◌, length, sym, ap, subst, ◌∙◌, refl, arith, Some, Ok, Bool, true, IsSomeAnd}
-use Rattle.linker_final.proofs.Imports.{slice_get, addend_after, offset_after, aarch64_name, IsApplied, IsRow, IsNamed, code_of, bytes_row, sum_64, value_of, AArch64Relocation, RelocationKindInfo, AArch64, Choice, Operands, Code, Has, Stands, loaded, chosen_at, decision_at, IsScopeIn, IsRewrittenBy, entry_of, relocation_in, entry_address, is_there, operands_by, operands_with, Symbol, Entry, Rela, AArch64Entry, aarch64_entries, IsArchitectureChoice, relaxation_rewrite, Relaxation}
+use Rattle.linker_final.proofs.Imports.{slice_get, addend_after, offset_after, aarch64_name, IsApplied, IsRow, IsNamed, r_type_of, bytes_row, sum_64, value_of, AArch64Relocation, RelocationKindInfo, AArch64, Choice, Operands, Code, Has, Stands, loaded, chosen_at, decision_at, IsScopeIn, IsRewrittenBy, entry_of, relocation_in, entry_address, is_there, operands_by, operands_with, Symbol, Entry, Rela, AArch64Entry, aarch64_entries, IsArchitectureChoice, relaxation_rewrite, Relaxation}
 use Rattle.linker_elf.specs.AArch64Relocations.{aarch64_row}
 use Rattle.linker_elf.specs.declared.aarch64.relocations.AArch64Relocation.TheVariants as names
 use Rattle.linker_elf.specs.declared.elf.RelocationKind.TheVariants.{None as NoValue}
@@ -30,7 +30,7 @@ pub record IsAfter (name : AArch64Relocation) : Type 0 where
 
 abbrev pub after : Linked → ℕ → AArch64Relocation → Rela
 after l i name =
-    let r = relocation_in l.relocations i in rela r.offset (code_of (aarch64_name name)) r.symbol r.addend
+    let r = relocation_in l.relocations i in rela r.offset (r_type_of (aarch64_name name)) r.symbol r.addend
 
 -- the relocation at an index gets a name
 abbrev pub IsNamedAs : AArch64Relocation → Linked → ℕ → Type 0
@@ -85,10 +85,10 @@ pub record IsNew (l : Linked) (c : Code) : Type 0 where
 
 module _ {l : Linked} {c : Code} (new : IsNew l c) where
   row_of : (name : AArch64Relocation) → IsNamed (aarch64_name name) → (row : RelocationKindInfo)
-      → aarch64_row name ≡ Some row → IsRowOf l.context.architecture (code_of (aarch64_name name)) row
+      → aarch64_row name ≡ Some row → IsRowOf l.context.architecture (r_type_of (aarch64_name name)) row
   row_of name named row is found there =
       by_name aarch64_name aarch64_row name named found
-      (subst (λ x. IsRow x (code_of (aarch64_name name)) found) new.aarch64 there) ∙ is
+      (subst (λ x. IsRow x (r_type_of (aarch64_name name)) found) new.aarch64 there) ∙ is
 
   stands_at : (p : ℕ) (o : Operands) → o.place ≡ sum_64 l.addresses.section p → p + 4 ≤ length l.section
       → Stands c.new o (instruction_at l.final p)
@@ -106,7 +106,7 @@ module _ {l : Linked} {c : Code} (new : IsNew l c) where
       subst (Stands c.new o)
       (unwritten_without l new.linked i below (offset_of l i) left
       (row_of names.R_AARCH64_NONE tt (bytes_row NoValue 0) refl)
-      (ap (λ (x : Rela). x.code) named) inside alone)
+      (ap (λ (x : Rela). x.r_type) named) inside alone)
       (stands_at (offset_of l i) o place inside)
 
   -- the entry of a formula is there
@@ -127,11 +127,11 @@ module _ {l : Linked} {c : Code} (new : IsNew l c) where
     of_one named =
         let r = relocation_in l.relocations i in
         let f = chosen_at l.context l.kept l.relocations l.section l.decisions (count l) i of.chosen new.linked.decided of.below of.decided
-        (λ scope is. unlabelled l.context.phase r.code scope (subst (λ x. IsScopeIn x l.context.phase r.code scope) new.aarch64 is)) in
+        (λ scope is. unlabelled l.context.phase r.r_type scope (subst (λ x. IsScopeIn x l.context.phase r.r_type scope) new.aarch64 is)) in
         of_one_in aarch64_name relaxations.AArch64 (IsMeant name l.section r.offset) of.chosen
-        (λ n. AArch64Applies n l.section r.offset f.facts) aarch64_entries kinds.NoOp refl r.code name named of.is_name
+        (λ n. AArch64Applies n l.section r.offset f.facts) aarch64_entries kinds.NoOp refl r.r_type name named of.is_name
         (λ e applies. record { matches = applies.0.0; pattern = applies.0.1 })
-        (subst (λ x. IsArchitectureChoice x r.code l.section r.offset f.facts of.chosen) new.aarch64 f.is_choice) f.changed
+        (subst (λ x. IsArchitectureChoice x r.r_type l.section r.offset f.facts of.chosen) new.aarch64 f.is_choice) f.changed
 
     -- the only one
     pub of_entry : IsNamed (aarch64_name name) → (e : AArch64Entry) → aarch64_entries name ≡ (e ∷ [])
@@ -155,8 +155,8 @@ module _ {l : Linked} {c : Code} (new : IsNew l c) where
       pub named_after : IsNamedAs e.relocation l i
       named_after =
           let r = relocation_in l.relocations i in
-          let code = code_of (aarch64_name e.relocation) in
-          relocation_is l (are_rewritten l new.linked) i of.chosen of.below of.decided (aarch64_rewrite e.kind) code (ap relaxation_rewrite by.kind_is) by.code_is
+          let code = r_type_of (aarch64_name e.relocation) in
+          relocation_is l (are_rewritten l new.linked) i of.chosen of.below of.decided (aarch64_rewrite e.kind) code (ap relaxation_rewrite by.kind_is) by.r_type_is
           ∙ (ap (λ x. rela x code r.symbol (addend_after (aarch64_rewrite e.kind) r.addend)) (unmoved r.offset)
           ∙ ap (λ x. rela r.offset code r.symbol x) (same_addend r.addend))
 

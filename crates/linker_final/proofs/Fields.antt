@@ -96,7 +96,7 @@ module _ (n : ℕ) (there : 0 < n) (are : AreLowest n) (architecture : Architect
     (written : AreWritten architecture addresses bytes symbols before after)
     (small : (p : ℕ) → get_or after p 0 < 256)
     (i : ℕ) (below : i < length bytes / 24) (row : RelocationKindInfo) (plain : IsPlain n row)
-    (is_row : IsRow architecture (relocation_in bytes i).code (Some row)) (operands : Operands)
+    (is_row : IsRow architecture (relocation_in bytes i).r_type (Some row)) (operands : Operands)
     (taken : operands_of architecture addresses symbols row (relocation_in bytes i) ≡ Ok operands)
     (alone : (j : ℕ) (other : RelocationKindInfo) → j < length bytes / 24 → (j ≡ i → ⊥)
     → IsField architecture bytes before j other

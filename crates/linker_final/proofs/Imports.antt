@@ -12,7 +12,7 @@ pub use Rattle.linker_elf.specs.Applied.{IsApplied}
 pub use Rattle.linker_elf.specs.Architectures.{IsRow}
 pub use Rattle.linker_elf.specs.Choices.{AllHold, choice, entry, operands_after}
 pub use Rattle.linker_elf.specs.Elf.{IsWithin, bit_bounds}
-pub use Rattle.linker_elf.specs.ElfNames.{IsNameOf, IsNamed, code_of}
+pub use Rattle.linker_elf.specs.ElfNames.{IsNameOf, IsNamed, r_type_of}
 pub use Rattle.linker_elf.specs.LoongArch.{loongarch_form}
 pub use Rattle.linker_elf.specs.LoongArchRelocations.{loongarch_name, loongarch_row, low_row, rounded_row}
 pub use Rattle.linker_elf.specs.Originals.{HasWord}

@@ -79,7 +79,7 @@ module _ (architecture : Architecture) (addresses : Addresses) (bytes : List ℕ
 
     -- where the operands are
     module _ (of : IsOfInstruction n row)
-        (is_row : IsRow architecture (relocation_in bytes i).code (Some row)) (operands : Operands)
+        (is_row : IsRow architecture (relocation_in bytes i).r_type (Some row)) (operands : Operands)
         (taken : operands_of architecture addresses symbols row (relocation_in bytes i) ≡ Ok operands)
       where
         pub applied : IsApplied row operands (take n (drop (offset_at bytes i) before)) (take n (drop (offset_at bytes i) after))

@@ -41,8 +41,8 @@ module _ (l : Linked) (p : Packed) (joined : IsRewrittenAndPacked l p) (i : ℕ)
       ∙ (later_keep l joined.later i o 4 left (subst (λ n. i < n / 24) (sym joined.as_many) below) ∙ after_is)
 
   -- the relocation in the packed section
-  pub code_is : after.code ≡ code
-  code_is = kept.code ∙ ap (λ (x : Rela). x.code) before_is
+  pub r_type_is : after.r_type ≡ code
+  r_type_is = kept.r_type ∙ ap (λ (x : Rela). x.r_type) before_is
 
   offset_is : offset_at p.relocations i ≡ o
   offset_is = ap (λ (x : Rela). x.offset) before_is
@@ -82,7 +82,7 @@ module _ (l : Linked) (p : Packed) (joined : IsRewrittenAndPacked l p) (i : ℕ)
 
   -- so is the value of its own symbol
   pub own_there : (row : RelocationKindInfo) (of : IsOfInstruction 4 row)
-      → IsRow (architecture_of p.machine) after.code (Some row) → (here : Symbol) (got : ℕ)
+      → IsRow (architecture_of p.machine) after.r_type (Some row) → (here : Symbol) (got : ℕ)
       → operands_by (architecture_of p.machine) p.addresses row after here
       (entry_address p.addresses here (entry_of row after.addend here.is_thread_local))
       ≡ Ok (operands_with (architecture_of p.machine) p.addresses row here after got)

@@ -88,16 +88,16 @@ there_is bytes i r is = there_by bytes i r (ltb i (length bytes / 24)) refl is
 module _ (architecture : Architecture) (bytes section : List ℕ)
     (apart : AreApart architecture bytes section (length bytes / 24))
     (i : ℕ) (below : i < length bytes / 24) (row : RelocationKindInfo)
-    (is_row : IsRow architecture (relocation_in bytes i).code (Some row)) (high : IsHigh row) where
+    (is_row : IsRow architecture (relocation_in bytes i).r_type (Some row)) (high : IsHigh row) where
   field_of : (j : ℕ) (other : RelocationKindInfo)
-      → IsRow architecture (relocation_in bytes j).code (Some other) → IsHigh other
+      → IsRow architecture (relocation_in bytes j).r_type (Some other) → IsHigh other
       → IsField architecture bytes section j other
   field_of j other of is =
       record { is_row = of; some = let n = high_len other (drop (offset_at bytes j) section) is in omega (arith, n) }
 
   -- no other is there, since their fields would overlap
   one_there : (j : ℕ) (other : RelocationKindInfo) → j < length bytes / 24
-      → IsRow architecture (relocation_in bytes j).code (Some other) → IsHigh other
+      → IsRow architecture (relocation_in bytes j).r_type (Some other) → IsHigh other
       → offset_at bytes j ≡ offset_at bytes i → j ≡ i
   one_there j other within of is same =
       let mine = field_of i row is_row high in
@@ -126,10 +126,10 @@ module _ (architecture : Architecture) (addresses : Addresses) (bytes : List ℕ
     (symbols : List Symbol) (section : List ℕ)
     (apart : AreApart architecture bytes section (length bytes / 24))
     (i : ℕ) (below : i < length bytes / 24) (row : RelocationKindInfo)
-    (is_row : IsRow architecture (relocation_in bytes i).code (Some row)) (high : IsHigh row)
+    (is_row : IsRow architecture (relocation_in bytes i).r_type (Some row)) (high : IsHigh row)
     (operands : Operands)
     (taken : operands_of architecture addresses symbols row (relocation_in bytes i) ≡ Ok operands)
-    (r : Rela) (low : RelocationKindInfo) (low_is : IsRow architecture r.code (Some low))
+    (r : Rela) (low : RelocationKindInfo) (low_is : IsRow architecture r.r_type (Some low))
     (labelled : names_label low.size low.kind ≡ true) (of_low : low.kind ≡ kinds.RelativeRiscVLow12)
     (label : Symbol) (is_label : slice_get symbols r.symbol ≡ Some label)
     (labels : difference_64 label.address addresses.section ≡ offset_at bytes i)
@@ -142,15 +142,15 @@ module _ (architecture : Architecture) (addresses : Addresses) (bytes : List ℕ
   by_high None none result value ok is = absurd (let e : Ok value ≡ Err NoHighPart = sym ok ∙ is in cc)
   by_high (Some found) part result value ok is =
       let there = there_is bytes part.index (found.0) part.is_there in
-      let its : IsRow architecture (relocation_in bytes part.index).code (Some (found.1)) =
-      subst (λ (x : Rela). IsRow architecture x.code (Some (found.1))) (sym there.is) part.row_is in
+      let its : IsRow architecture (relocation_in bytes part.index).r_type (Some (found.1)) =
+      subst (λ (x : Rela). IsRow architecture x.r_type (Some (found.1))) (sym there.is) part.row_is in
       let equal : part.index ≡ i =
       one_there architecture bytes section apart i below row is_row high part.index (found.1) there.within its part.is_high
       (ap (λ (x : Rela). x.offset) there.is ∙ part.offset_is) in
       let same : found.0 ≡ relocation_in bytes i = sym there.is ∙ ap (relocation_in bytes) equal in
       let same_row : found.1 ≡ row =
-      one_info architecture (relocation_in bytes i).code (found.1) row
-      (subst (λ n. IsRow architecture (relocation_in bytes n).code (Some (found.1))) equal its) is_row in
+      one_info architecture (relocation_in bytes i).r_type (found.1) row
+      (subst (λ n. IsRow architecture (relocation_in bytes n).r_type (Some (found.1))) equal its) is_row in
       let takes : low_value architecture addresses symbols low (Some found) ≡ Ok (value_of low (low_operands row operands)) =
       ap (λ x. low_by low (found.1) (operands_of architecture addresses symbols (found.1) x)) same
       ∙ (ap (λ x. low_by low x (operands_of architecture addresses symbols x (relocation_in bytes i))) same_row
@@ -181,13 +181,13 @@ module _ (architecture : Architecture) (addresses : Addresses) (bytes : List ℕ
       → IsRowValue architecture addresses bytes symbols r (Ok found)
       → IsFoundOf low (low_operands row operands) found
   low_found (Some one) has =
-      let same : one.0 ≡ low = one_info architecture r.code (one.0) low has.is_row low_is in
+      let same : one.0 ≡ low = one_info architecture r.r_type (one.0) low has.is_row low_is in
       let value : value_of low (low_operands row operands) ≡ Some (one.1) =
       by_row (Some (one.1))
       (subst (λ x. IsValueIn architecture addresses bytes symbols r (Some x) (Ok (Some (one.1)))) same has.is_value) in
       record { value = one.1; is = ap (λ x. Some (x, one.1)) same; value_is = value }
   low_found None marked =
-      let same = one_row architecture r.code (marked.0) (Some low) (marked.1) low_is in
+      let same = one_row architecture r.r_type (marked.0) (Some low) (marked.1) low_is in
       let value : value_of low (low_operands row operands) ≡ None =
       by_row None (subst (λ x. IsValueIn architecture addresses bytes symbols r x (Ok None)) same (marked.2)) in
       absurd (isnt_none (value_of low (low_operands row operands)) some value)

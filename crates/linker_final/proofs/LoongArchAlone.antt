@@ -70,7 +70,7 @@ module _ (l : Linked) (made : AreRewritten l) (i : ℕ) (chosen : Choice Relaxat
 
   pub left_by : (kind : RewriteKind) (name old : LoongArch64Relocation) → IsEntry kind name old l.section (offset_of l i) chosen
       → relocation_in l.relocations_after i ≡ named_as name (relocation_in l.relocations i)
-  left_by kind name old by = named_after l made i chosen below decided kind by.kind_is name by.code_is
+  left_by kind name old by = named_after l made i chosen below decided kind by.kind_is name by.r_type_is
 
   pub becomes_by : (kind : RewriteKind) (name old : LoongArch64Relocation) → IsEntry kind name old l.section (offset_of l i) chosen
       → (new : ℕ → ℕ) → loongarch_rewrite kind ≡ Some (rewrites_word new) → IsRewritten kind before rewritten
@@ -148,11 +148,11 @@ module _ (groups : Groups) (l : Linked) (made : AreRewritten l) (loongarch : l.c
 
   abbrev HasLaw : LoongArch64Relocation → Type 0
   HasLaw name =
-      IsNameOf loongarch_name (relocation_in l.relocations i).code name
+      IsNameOf loongarch_name (relocation_in l.relocations i).r_type name
       → IsLawful l i chosen.kind (law_of name chosen.kind)
 
   pub table : (name : LoongArch64Relocation) → IsNamed (loongarch_name name)
-      → IsNameOf loongarch_name (relocation_in l.relocations i).code name
+      → IsNameOf loongarch_name (relocation_in l.relocations i).r_type name
       → IsByTable name l.section (offset_of l i) chosen
   table = by_table l made.decided loongarch i chosen below decided
 

@@ -1,6 +1,6 @@
 -- The rewrite that is chosen for a relocation of LoongArch is one of its table.
 use Rattle.std.proofs.Common.{◌≡◌, ℕ, ◌<◌, List, Bool, true, false, refl, sym, ap, subst, ◌∙◌}
-use Rattle.linker_final.proofs.Imports.{IsNamed, IsNameOf, code_of, loongarch_name, Choice, LinkFacts, LoongArch64Relocation, IsChosen, chosen_at, listed_at, IsOfEntry, LoongArchApplies, LoongArchEntry, AreDecidedIn, decision_at, IsScopeIn, loongarch_scope_in, Rewritten, Scope, Grouped, Independent, Labelled, NotRelaxable, Phase, relocation_in, Rela, IsArchitectureChoice, Relaxation, LoongArch64, Ppc64}
+use Rattle.linker_final.proofs.Imports.{IsNamed, IsNameOf, r_type_of, loongarch_name, Choice, LinkFacts, LoongArch64Relocation, IsChosen, chosen_at, listed_at, IsOfEntry, LoongArchApplies, LoongArchEntry, AreDecidedIn, decision_at, IsScopeIn, loongarch_scope_in, Rewritten, Scope, Grouped, Independent, Labelled, NotRelaxable, Phase, relocation_in, Rela, IsArchitectureChoice, Relaxation, LoongArch64, Ppc64}
 use Rattle.linker_elf.specs.declared.loongarch64.relocations.LoongArch64Relocation.TheVariants as names
 use Rattle.linker_rewriting.proofs.PreLayout.{AreEarly, IsListed, are_early}
 use Rattle.linker_rewriting.proofs.Entries.{IsOfOne, of_one}
@@ -87,24 +87,24 @@ module _ (l : Linked) (all : AreDecidedIn l.context l.kept l.relocations l.secti
   pub is_chosen : IsChosen l.context l.section r chosen
   is_chosen =
       chosen_at l.context l.kept l.relocations l.section l.decisions (count l) i chosen all below decided
-      (λ scope is. unlabelled l.context.phase r.code scope (subst (λ x. IsScopeIn x l.context.phase r.code scope) loongarch is))
+      (λ scope is. unlabelled l.context.phase r.r_type scope (subst (λ x. IsScopeIn x l.context.phase r.r_type scope) loongarch is))
 
-  pub choice_there : IsArchitectureChoice LoongArch64 r.code l.section r.offset is_chosen.facts chosen
+  pub choice_there : IsArchitectureChoice LoongArch64 r.r_type l.section r.offset is_chosen.facts chosen
   choice_there =
-      subst (λ x. IsArchitectureChoice x r.code l.section r.offset is_chosen.facts chosen) loongarch is_chosen.is_choice
+      subst (λ x. IsArchitectureChoice x r.r_type l.section r.offset is_chosen.facts chosen) loongarch is_chosen.is_choice
 
-  pub by_table : (name : LoongArch64Relocation) → IsNamed (loongarch_name name) → IsNameOf loongarch_name r.code name
+  pub by_table : (name : LoongArch64Relocation) → IsNamed (loongarch_name name) → IsNameOf loongarch_name r.r_type name
       → IsByTable name l.section r.offset chosen
   by_table name named is_name =
       let facts = is_chosen.facts in
       let listed : IsListed l.context r =
       listed_at l.context l.kept l.relocations l.section l.decisions (count l) i chosen all below decided in
-      let scope = subst (λ x. IsScopeIn x l.context.phase r.code listed.scope) loongarch listed.is_scope in
-      let same : scope.name ≡ name = scope.is_name.named name named is_name.code_is in
+      let scope = subst (λ x. IsScopeIn x l.context.phase r.r_type listed.scope) loongarch listed.is_scope in
+      let same : scope.name ≡ name = scope.is_name.named name named is_name.r_type_is in
       record {
         facts = facts;
         one = of_one loongarch_name relaxations.LoongArch64 (LoongArchApplies name l.section r.offset facts) chosen
-            (λ n. LoongArchApplies n l.section r.offset facts) loongarch_entries kinds.NoOp refl r.code name named is_name
+            (λ n. LoongArchApplies n l.section r.offset facts) loongarch_entries kinds.NoOp refl r.r_type name named is_name
             (λ e applies. applies) choice_there is_chosen.changed;
         early = λ without. are_early l.context l.section r chosen
             (only_early name without l.context.phase
@@ -116,7 +116,7 @@ module _ (l : Linked) (all : AreDecidedIn l.context l.kept l.relocations l.secti
 pub record IsEntry (kind : RewriteKind) (relocation name : LoongArch64Relocation) (section : List ℕ)
     (o : ℕ) (chosen : Choice Relaxation ℕ) : Type 0 where
   pub kind_is : chosen.kind ≡ relaxations.LoongArch64 kind
-  pub code_is : chosen.relocation ≡ code_of (loongarch_name relocation)
+  pub r_type_is : chosen.relocation ≡ r_type_of (loongarch_name relocation)
   pub pattern : HasPattern name kind section o
 
 pub entry_by : (name : LoongArch64Relocation) (section : List ℕ) (o : ℕ) (chosen : Choice Relaxation ℕ)
@@ -124,4 +124,4 @@ pub entry_by : (name : LoongArch64Relocation) (section : List ℕ) (o : ℕ) (ch
     → IsOfEntry loongarch_name relaxations.LoongArch64 (LoongArchApplies name section o facts) e chosen
     → IsEntry e.kind e.relocation name section o chosen
 entry_by name section o chosen facts e this =
-    record { kind_is = this.kind_is; code_is = this.code_is; pattern = this.meant.0 }
+    record { kind_is = this.kind_is; r_type_is = this.r_type_is; pattern = this.meant.0 }

@@ -122,7 +122,7 @@ module _ (groups : Groups) (l : Linked) (made : AreRewritten l) (loongarch : l.c
 
   abbrev HasLaw : LoongArch64Relocation → Type 0
   HasLaw name =
-      IsNameOf loongarch_name (relocation_in l.relocations i).code name
+      IsNameOf loongarch_name (relocation_in l.relocations i).r_type name
       → IsLawful l i chosen.kind (law_of name chosen.kind)
 
   pub page : HasLaw names.R_LARCH_TLS_DESC_PC_HI20

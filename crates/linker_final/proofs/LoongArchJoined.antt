@@ -1,8 +1,8 @@
 -- LoongArch: what a rewrite left of an instruction is in the final bytes, also of a section that
 -- was packed then.
 use Rattle.std.proofs.Common.{◌≡◌, ◌<◌, ℕ, List, sym, ap, subst, Some, Ok, IsSomeAnd}
-use Rattle.linker_final.proofs.Imports.{slice_get, IsApplied, IsRow, code_of, loongarch_name, value_of, LoongArch64, Operands, LoongArch64Relocation, IsRelocated, entry_of, relocation_in, entry_address, operands_by, operands_in, operands_with, Symbol, Rela}
-use Rattle.linker_final.proofs.Joined.{code_is, own_there, unwritten_there, within}
+use Rattle.linker_final.proofs.Imports.{slice_get, IsApplied, IsRow, r_type_of, loongarch_name, value_of, LoongArch64, Operands, LoongArch64Relocation, IsRelocated, entry_of, relocation_in, entry_address, operands_by, operands_in, operands_with, Symbol, Rela}
+use Rattle.linker_final.proofs.Joined.{r_type_is, own_there, unwritten_there, within}
 use Rattle.linker_final.proofs.LoongArchAlone.{IsWritable}
 use Rattle.linker_final.proofs.LoongArchWritten.{IsAfter, as_named, relocated_there, row_of, unwritten_nop}
 use Rattle.linker_final.proofs.Written.{IsRowOf, row_in, with_operands}
@@ -26,16 +26,16 @@ module _ (l : Linked) (p : Packed) (joined : IsRewrittenAndPacked l p) (loongarc
   after = relocation_in p.relocations_after i
 
   abbrev code : ℕ
-  code = code_of (loongarch_name name)
+  code = r_type_of (loongarch_name name)
 
   is : architecture_of p.machine ≡ LoongArch64
   is = ap architecture_of loongarch
 
-  row_is : IsRow (architecture_of p.machine) after.code (Some a.row)
+  row_is : IsRow (architecture_of p.machine) after.r_type (Some a.row)
   row_is =
       let written = joined.packed.written in
       row_in (architecture_of p.machine) p.addresses p.relocations_after p.symbols after a.row
-      (subst (λ c. IsRowOf (architecture_of p.machine) c a.row) (sym (code_is l p joined i below code r.symbol r.addend after_is kept left))
+      (subst (λ c. IsRowOf (architecture_of p.machine) c a.row) (sym (r_type_is l p joined i below code r.symbol r.addend after_is kept left))
       (row_of (architecture_of p.machine) is name a.named a.row a.is))
       (written.can.found i) (written.can.are_found i (within l p joined i below code r.symbol r.addend after_is kept left))
 

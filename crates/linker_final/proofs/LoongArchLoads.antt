@@ -1,6 +1,6 @@
 -- Rewritten loads from the GOT of LoongArch are groups in the final bytes.
 use Rattle.std.proofs.Common.{◌≡◌, ℕ, ℤ, ◌+◌, ◌<◌, drop, List, refl, sym, ap, subst, ◌∙◌, arith, inl, inr, IsSomeAnd}
-use Rattle.linker_final.proofs.Imports.{slice_get, field, IsApplied, entry, IsNameOf, code_of, loongarch_name, loongarch_row, low_row, rounded_row, paged_row, place_pages, entry_pages, value_of, Relative, AbsoluteLowPart, GotRelative, RelocationKindInfo, Choice, LoongArch64Relocation, isnt, IsRewritten, IsLd, decision_at, RelaxContext, Rewritten, relocation_in, operands_with, Addresses, Symbol, Rela, relaxation_rewrite, Relaxation, LoongArch64}
+use Rattle.linker_final.proofs.Imports.{slice_get, field, IsApplied, entry, IsNameOf, r_type_of, loongarch_name, loongarch_row, low_row, rounded_row, paged_row, place_pages, entry_pages, value_of, Relative, AbsoluteLowPart, GotRelative, RelocationKindInfo, Choice, LoongArch64Relocation, isnt, IsRewritten, IsLd, decision_at, RelaxContext, Rewritten, relocation_in, operands_with, Addresses, Symbol, Rela, relaxation_rewrite, Relaxation, LoongArch64}
 use Rattle.linker_elf.specs.declared.loongarch64.relocations.LoongArch64Relocation.TheVariants as names
 use Rattle.linker_final.proofs.InstructionFields.{of_bits}
 use Rattle.linker_final.proofs.LoongArchChosen.{IsByTable, IsEntry, by_table, entry_by}
@@ -116,23 +116,23 @@ module _ (groups : Groups) (l : Linked) (linked : IsLinked l) (loongarch : l.con
       let within = there.within in
       let stayed : instruction_at l.rewritten o ≡ instruction_at l.section o =
       stays l (are_rewritten l linked) i of.page_chosen of.page_below of.page_decided (ap relaxation_rewrite page.kind_is) alone (omega (arith, within)) in
-      let page_code = code_of (loongarch_name names.R_LARCH_PCALA_HI20) in
-      let low_code = code_of (loongarch_name names.R_LARCH_PCALA_LO12) in
+      let page_code = r_type_of (loongarch_name names.R_LARCH_PCALA_HI20) in
+      let low_r_type = r_type_of (loongarch_name names.R_LARCH_PCALA_LO12) in
       let page_written : IsApplied page_after.row w (instruction_at l.section o) (instruction_at l.final o) =
       with_operands page_after.row
       (operands_with LoongArch64 l.addresses page_after.row symbol (rela o page_code first.symbol first.addend) 0)
       w (instruction_at l.section o) (instruction_at l.final o) refl
       (subst (λ xs. IsApplied page_after.row (operands_with LoongArch64 l.addresses page_after.row symbol (rela o page_code first.symbol first.addend) 0) xs (instruction_at l.final o)) stayed
       (applied_there l linked loongarch i of.page_chosen of.page_below of.page_decided (left.0) kinds.NoOp page.kind_is
-      names.R_LARCH_PCALA_HI20 page.code_is page_after symbol 0 refl is_symbol)) in
+      names.R_LARCH_PCALA_HI20 page.r_type_is page_after symbol 0 refl is_symbol)) in
       let low_written : IsApplied low_after.row (following 4 w) (instruction_at l.rewritten (o + 4)) (instruction_at l.final (o + 4)) =
       subst (λ n. IsApplied low_after.row (following 4 w) (instruction_at l.rewritten n) (instruction_at l.final n)) next
       (with_operands low_after.row
-      (operands_with LoongArch64 l.addresses low_after.row symbol (rela second.offset low_code second.symbol second.addend) 0)
+      (operands_with LoongArch64 l.addresses low_after.row symbol (rela second.offset low_r_type second.symbol second.addend) 0)
       (following 4 w) (instruction_at l.rewritten second.offset) (instruction_at l.final second.offset)
-      (low_value l.addresses symbol first got second.offset low_code second.symbol second.addend of.same_addend)
+      (low_value l.addresses symbol first got second.offset low_r_type second.symbol second.addend of.same_addend)
       (applied_there l linked loongarch j of.low_chosen of.low_below of.low_decided (left.1) kinds.LdToAddi low.kind_is
-      names.R_LARCH_PCALA_LO12 low.code_is low_after symbol 0 refl
+      names.R_LARCH_PCALA_LO12 low.r_type_is low_after symbol 0 refl
       (ap (slice_get l.symbols) of.same_symbol ∙ is_symbol))) in
       let added : IsRewritten kinds.LdToAddi (instruction_at l.section (o + 4)) (instruction_at l.rewritten (o + 4)) =
       subst (λ n. IsRewritten kinds.LdToAddi (instruction_at l.section n) (instruction_at l.rewritten n)) next
@@ -144,10 +144,10 @@ module _ (groups : Groups) (l : Linked) (linked : IsLinked l) (loongarch : l.con
       (record { relocated = instruction_at l.final (o + 4); applied = low_written; stands = low_stands })
 
 pub load_is : Groups → (l : Linked) (i : ℕ) (chosen : Choice Relaxation ℕ) (name : LoongArch64Relocation) → i < count l
-    → IsNameOf loongarch_name (relocation_in l.relocations i).code name
+    → IsNameOf loongarch_name (relocation_in l.relocations i).r_type name
     → decision_at l.decisions i ≡ Rewritten chosen → IsLoad l i name
     → IsSomeAnd (loongarch_row names.R_LARCH_GOT_PC_HI20) (LoadsTheSame l i)
 load_is groups l i chosen name below is_name decided of =
     loads_the_same groups l of.linked (ap (λ (x : RelaxContext). x.architecture) of.early) i (i + 2)
     (load_of l of.linked.decided of.early i chosen below
-    (subst (IsNameOf loongarch_name (relocation_in l.relocations i).code) of.is is_name) decided) of.left of.alone
+    (subst (IsNameOf loongarch_name (relocation_in l.relocations i).r_type) of.is is_name) decided) of.left of.alone

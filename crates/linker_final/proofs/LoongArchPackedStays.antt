@@ -53,7 +53,7 @@ module _ (p : Packed) (is : IsPacked p) (machine : p.machine ≡ LoongArch64) (i
       (instructions p is i row y
       (record {
         within = stays.within;
-        is_row = subst (λ a. IsRow a r.code (Some row)) there
+        is_row = subst (λ a. IsRow a r.r_type (Some row)) there
             (record { name = name; is_name = stays.is_name; value_is = sym row_is });
         bits = bits;
         insn = insn;

@@ -53,8 +53,8 @@ module _ (l : Linked) (made : AreRewritten l) (loongarch : l.context.architectur
   unconsumed i below is =
       let own = subst (λ t. IsDecidedAfter l.context l.kept l.relocations l.section i t (decision_at l.decisions i)) (untaken i below) (made.decided i below) in
       by_scope i (own.0)
-      (plain l.context.phase (relocation_in l.relocations i).code (own.0)
-      (subst (λ x. IsScopeIn x l.context.phase (relocation_in l.relocations i).code (own.0)) loongarch (own.1)))
+      (plain l.context.phase (relocation_in l.relocations i).r_type (own.0)
+      (subst (λ x. IsScopeIn x l.context.phase (relocation_in l.relocations i).r_type (own.0)) loongarch (own.1)))
       (subst (IsScopeDecision l.context l.kept l.relocations l.section i (relocation_in l.relocations i) (own.0)) is (own.2))
 
   is_in : (b i : ℕ) (below : i < count l) → offset_of l i ≤ b → b < offset_of l i + 4 → (d : Decision)
@@ -64,7 +64,7 @@ module _ (l : Linked) (made : AreRewritten l) (loongarch : l.context.architectur
   is_in b i below from less (RewrittenWithSymbol chosen subject) is changed =
       absurd (without_label l made.decided loongarch unlabelled i chosen subject below is)
   is_in b i below from less (Rewritten chosen) is changed =
-      let code = (relocation_in l.relocations i).code in
+      let code = (relocation_in l.relocations i).r_type in
       let listed = listed_at l.context l.kept l.relocations l.section l.decisions (count l) i chosen made.decided below is in
       let scope = subst (λ x. IsScopeIn x l.context.phase code listed.scope) loongarch listed.is_scope in
       record {
@@ -91,7 +91,7 @@ are_in l made loongarch b =
 module _ (groups : Groups) (l : Linked) (made : AreRewritten l) (loongarch : l.context.architecture ≡ LoongArch64)
     (i : ℕ) (chosen : Choice Relaxation ℕ) (below : i < count l)
     (decided : decision_at l.decisions i ≡ Rewritten chosen) where
-  by_name : (name : LoongArch64Relocation) → IsNameOf loongarch_name (relocation_in l.relocations i).code name
+  by_name : (name : LoongArch64Relocation) → IsNameOf loongarch_name (relocation_in l.relocations i).r_type name
       → IsLawful l i chosen.kind (law_of name chosen.kind)
   by_name names.R_LARCH_TLS_IE_PC_HI20 = alone.high_half groups l made loongarch i chosen below decided
   by_name names.R_LARCH_TLS_IE_PC_LO12 = alone.low_half groups l made loongarch i chosen below decided

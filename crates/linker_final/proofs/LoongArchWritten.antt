@@ -1,6 +1,6 @@
 -- Instructions of LoongArch and their relocations in the final bytes of a section.
 use Rattle.std.proofs.Common.{◌≡◌, ℕ, ℤ, ◌+◌, ◌-◌, ◌<◌, ◌≤◌, List, length, drop, sym, ap, subst, ◌∙◌, arith, Some, Ok, refl, IsSomeAnd}
-use Rattle.linker_final.proofs.Imports.{take-take, slice_get, offset_after, addend_after, IsApplied, IsNamed, code_of, loongarch_name, loongarch_row, bytes_row, value_of, RelocationKindInfo, Choice, Operands, LoongArch64Relocation, IsRelocated, IsRewritten, loongarch_rewrite, rewrites_word, decision_at, AreDone, IsDone, IsMade, relocation_after, Rewritten, relocation_in, operands_with, operands_in, Symbol, Rela, IsRow, relaxation_rewrite, Relaxation, Architecture, LoongArch64}
+use Rattle.linker_final.proofs.Imports.{take-take, slice_get, offset_after, addend_after, IsApplied, IsNamed, r_type_of, loongarch_name, loongarch_row, bytes_row, value_of, RelocationKindInfo, Choice, Operands, LoongArch64Relocation, IsRelocated, IsRewritten, loongarch_rewrite, rewrites_word, decision_at, AreDone, IsDone, IsMade, relocation_after, Rewritten, relocation_in, operands_with, operands_in, Symbol, Rela, IsRow, relaxation_rewrite, Relaxation, Architecture, LoongArch64}
 use Rattle.linker_elf.specs.declared.elf.RelocationKind.TheVariants.{None as NoValue}
 use Rattle.linker_elf.specs.declared.loongarch64.relocations.LoongArch64Relocation.TheVariants as names
 use Rattle.linker_final.proofs.InstructionFields.{IsOfInstruction}
@@ -29,10 +29,10 @@ as_named name a y before after is =
 
 pub row_of : (architecture : Architecture) → architecture ≡ LoongArch64 → (name : LoongArch64Relocation)
     → IsNamed (loongarch_name name) → (row : RelocationKindInfo) → loongarch_row name ≡ Some row
-    → IsRowOf architecture (code_of (loongarch_name name)) row
+    → IsRowOf architecture (r_type_of (loongarch_name name)) row
 row_of architecture loongarch name named row is found there =
     by_name loongarch_name loongarch_row name named found
-    (subst (λ x. IsRow x (code_of (loongarch_name name)) found) loongarch there) ∙ is
+    (subst (λ x. IsRow x (r_type_of (loongarch_name name)) found) loongarch there) ∙ is
 
 -- no rewrite moves the offset or changes the addend
 unmoved : (kind : RewriteKind) (o : ℕ) → offset_after (loongarch_rewrite kind) o ≡ o
@@ -69,15 +69,15 @@ same_addend kinds.DeleteAddi a = refl
 pub named_after : (l : Linked) → AreRewritten l → (i : ℕ) (chosen : Choice Relaxation ℕ) → i < count l
     → decision_at l.decisions i ≡ Rewritten chosen
     → (kind : RewriteKind) → chosen.kind ≡ relaxations.LoongArch64 kind
-    → (name : LoongArch64Relocation) → chosen.relocation ≡ code_of (loongarch_name name)
+    → (name : LoongArch64Relocation) → chosen.relocation ≡ r_type_of (loongarch_name name)
     → relocation_in l.relocations_after i ≡ named_as name (relocation_in l.relocations i)
-named_after l made i chosen below decided kind kind_is name code_is =
+named_after l made i chosen below decided kind kind_is name r_type_is =
     let r = relocation_in l.relocations i in
-    let code = code_of (loongarch_name name) in
+    let code = r_type_of (loongarch_name name) in
     made.relocations i below
     ∙ (ap (λ d. relocation_after d r) decided
     ∙ (ap (λ k. rela (offset_after (relaxation_rewrite k) r.offset) chosen.relocation r.symbol (addend_after (relaxation_rewrite k) r.addend)) kind_is
-    ∙ (ap (λ c. rela (offset_after (loongarch_rewrite kind) r.offset) c r.symbol (addend_after (loongarch_rewrite kind) r.addend)) code_is
+    ∙ (ap (λ c. rela (offset_after (loongarch_rewrite kind) r.offset) c r.symbol (addend_after (loongarch_rewrite kind) r.addend)) r_type_is
     ∙ (ap (λ x. rela x code r.symbol (addend_after (loongarch_rewrite kind) r.addend)) (unmoved kind r.offset)
     ∙ ap (λ x. rela r.offset code r.symbol x) (same_addend kind r.addend)))))
 
@@ -120,7 +120,7 @@ pub applied_there : (l : Linked) (linked : IsLinked l) (loongarch : l.context.ar
     (chosen : Choice Relaxation ℕ) (below : i < count l)
     (decided : decision_at l.decisions i ≡ Rewritten chosen) (left : UntouchedInstruction l i)
     (kind : RewriteKind) (kind_is : chosen.kind ≡ relaxations.LoongArch64 kind)
-    (name : LoongArch64Relocation) (code_is : chosen.relocation ≡ code_of (loongarch_name name))
+    (name : LoongArch64Relocation) (r_type_is : chosen.relocation ≡ r_type_of (loongarch_name name))
     (a : IsAfter name) (symbol : Symbol) (got : ℕ)
     → operands_in LoongArch64 l.addresses a.row (named_as name (relocation_in l.relocations i)) (Some symbol)
     ≡ Ok (operands_with LoongArch64 l.addresses a.row symbol (named_as name (relocation_in l.relocations i)) got)
@@ -128,9 +128,9 @@ pub applied_there : (l : Linked) (linked : IsLinked l) (loongarch : l.context.ar
     → IsApplied a.row
     (operands_with LoongArch64 l.addresses a.row symbol (named_as name (relocation_in l.relocations i)) got)
     (instruction_at l.rewritten (relocation_in l.relocations i).offset) (instruction_at l.final (relocation_in l.relocations i).offset)
-applied_there l linked loongarch i chosen below decided left kind kind_is name code_is a =
+applied_there l linked loongarch i chosen below decided left kind kind_is name r_type_is a =
     applied_after_it l linked loongarch i below name a
-    (named_after l (are_rewritten l linked) i chosen below decided kind kind_is name code_is) left
+    (named_after l (are_rewritten l linked) i chosen below decided kind kind_is name r_type_is) left
 
 -- an instruction that becomes another
 pub becomes : (l : Linked) → AreDone l.relocations l.decisions l.section l.rewritten (count l)
@@ -163,4 +163,4 @@ pub unwritten_nop : (l : Linked) → IsLinked l → l.context.architecture ≡ L
 unwritten_nop l linked loongarch i below after_is left inside alone =
     unwritten_without l linked i below (relocation_in l.relocations i).offset left
     (row_of l.context.architecture loongarch names.R_LARCH_NONE tt (bytes_row NoValue 0) refl)
-    (ap (λ (x : Rela). x.code) after_is) inside alone
+    (ap (λ (x : Rela). x.r_type) after_is) inside alone

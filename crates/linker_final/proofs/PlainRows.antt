@@ -110,7 +110,7 @@ pub record IsFoundOf (row : RelocationKindInfo) (operands : Operands)
 
 module _ (architecture : Architecture) (addresses : Addresses) (bytes : List ℕ)
     (symbols : List Symbol) (r : Rela) (row : RelocationKindInfo)
-    (is_row : IsRow architecture r.code (Some row))
+    (is_row : IsRow architecture r.r_type (Some row))
     (valued : has_value row.kind ≡ true)
     (unlabelled : names_label row.size row.kind ≡ false) where
   of_operands : (result : Result (Option ℤ) ValueError)
@@ -133,19 +133,19 @@ module _ (architecture : Architecture) (addresses : Addresses) (bytes : List ℕ
       → IsRowValue architecture addresses bytes symbols r (Ok found) → (error : ValueError)
       → operands_of architecture addresses symbols row r ≡ Err error → ⊥
   are_there (Some one) has error is =
-      let same : one.0 ≡ row = one_info architecture r.code (one.0) row has.is_row is_row in
+      let same : one.0 ≡ row = one_info architecture r.r_type (one.0) row has.is_row is_row in
       no_error (Some (one.1)) error is
       (of_operands (Ok (Some (one.1)))
       (subst (λ x. IsValueIn architecture addresses bytes symbols r (Some x) (Ok (Some (one.1)))) same has.is_value))
   are_there None marked error is =
-      let same = one_row architecture r.code (marked.0) (Some row) (marked.1) is_row in
+      let same = one_row architecture r.r_type (marked.0) (Some row) (marked.1) is_row in
       no_error None error is
       (of_operands (Ok None)
       (subst (λ x. IsValueIn architecture addresses bytes symbols r x (Ok None)) same (marked.2)))
 
 module _ (architecture : Architecture) (addresses : Addresses) (bytes : List ℕ)
     (symbols : List Symbol) (r : Rela) (row : RelocationKindInfo) (operands : Operands)
-    (is_row : IsRow architecture r.code (Some row))
+    (is_row : IsRow architecture r.r_type (Some row))
     (valued : has_value row.kind ≡ true)
     (unlabelled : names_label row.size row.kind ≡ false)
     (taken : operands_of architecture addresses symbols row r ≡ Ok operands)
@@ -174,7 +174,7 @@ module _ (architecture : Architecture) (addresses : Addresses) (bytes : List ℕ
       → IsRowValue architecture addresses bytes symbols r (Ok found)
       → IsFoundOf row operands found
   found_is (Some one) has =
-      let same : one.0 ≡ row = one_info architecture r.code (one.0) row has.is_row is_row in
+      let same : one.0 ≡ row = one_info architecture r.r_type (one.0) row has.is_row is_row in
       let value : Some (one.1) ≡ value_of row operands =
       by_row (Some (one.1))
       (subst (λ x. IsValueIn architecture addresses bytes symbols r (Some x) (Ok (Some (one.1)))) same has.is_value) in
@@ -184,7 +184,7 @@ module _ (architecture : Architecture) (addresses : Addresses) (bytes : List ℕ
         value_is = sym value;
       }
   found_is None marked =
-      let same = one_row architecture r.code (marked.0) (Some row) (marked.1) is_row in
+      let same = one_row architecture r.r_type (marked.0) (Some row) (marked.1) is_row in
       let value : None ≡ value_of row operands =
       by_row None
       (subst (λ x. IsValueIn architecture addresses bytes symbols r x (Ok None)) same (marked.2)) in

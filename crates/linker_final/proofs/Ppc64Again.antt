@@ -1,6 +1,6 @@
 -- In which phase alone PowerPC64's relocations of a name are rewritten.
 use Rattle.std.proofs.Common.{◌≡◌, ◌⊎◌, ℕ, List, Bool, true, false, refl, sym, ap, subst, ◌∙◌, inl, inr}
-use Rattle.linker_final.proofs.Imports.{IsNamed, code_of, ppc64_name, Choice, Ppc64Relocation, IsDecidedAfter, IsScopeDecision, decision_at, is_taken, RelaxContext, IsScopeIn, ppc64_scope_in, Decision, Kept, Rewritten, Consumed, UnrelaxableGroups, Scope, NotRelaxable, Phase, relocation_in, Relaxation, Ppc64}
+use Rattle.linker_final.proofs.Imports.{IsNamed, r_type_of, ppc64_name, Choice, Ppc64Relocation, IsDecidedAfter, IsScopeDecision, decision_at, is_taken, RelaxContext, IsScopeIn, ppc64_scope_in, Decision, Kept, Rewritten, Consumed, UnrelaxableGroups, Scope, NotRelaxable, Phase, relocation_in, Relaxation, Ppc64}
 use Rattle.linker_elf.specs.declared.ppc64.relocations.Ppc64Relocation.TheVariants as names
 use Rattle.linker_final.specs.Final.{AreRewritten, Linked}
 use Rattle.linker_final.specs.Ppc64Section.{IsOfNoPhase, Rewrites, RewrittenAgain}
@@ -21,7 +21,7 @@ module _ (s : RelaxContext) (kept : List UnrelaxableGroups) (bytes section : Lis
       isnt_kept (subst (λ x. IsScopeDecision s kept bytes section n (relocation_in bytes n) x decision) unlisted is)
 
   of_scope : (taken : Bool) → IsDecidedAfter s kept bytes section n taken decision
-      → (scope : Scope) × IsScopeIn s.architecture s.phase (relocation_in bytes n).code scope × (scope ≡ NotRelaxable → ⊥)
+      → (scope : Scope) × IsScopeIn s.architecture s.phase (relocation_in bytes n).r_type scope × (scope ≡ NotRelaxable → ⊥)
   of_scope true is = absurd (isnt_taken is)
   of_scope false is = (is.0, is.1, listed (is.0) (is.2))
 
@@ -29,11 +29,11 @@ module _ (s : RelaxContext) (kept : List UnrelaxableGroups) (bytes section : Lis
 in_scope : (l : Linked) → AreRewritten l → l.context.architecture ≡ Ppc64 → (g : Rewrites l) (name : Ppc64Relocation)
     → IsNamed (ppc64_name name) → g.name ≡ name → ppc64_scope_in l.context.phase name ≡ NotRelaxable → ⊥
 in_scope l rewriting ppc64 g name named is_name unlisted =
-    let code = (relocation_in l.relocations g.i).code in
+    let code = (relocation_in l.relocations g.i).r_type in
     let there = of_scope l.context l.kept l.relocations l.section g.i (decision_at l.decisions g.i) g.chosen g.decided (is_taken l.decisions g.i) (rewriting.decided g.i g.below) in
     let is = subst (λ x. IsScopeIn x l.context.phase code (there.0)) ppc64 (there.1) in
-    let of_code : code_of (ppc64_name name) ≡ code = ap (λ n. code_of (ppc64_name n)) (sym is_name) ∙ g.is_name.code_is in
-    there.2 (is.value_is ∙ (ap (ppc64_scope_in l.context.phase) (is.is_name.named name named of_code) ∙ unlisted))
+    let of_r_type : r_type_of (ppc64_name name) ≡ code = ap (λ n. r_type_of (ppc64_name n)) (sym is_name) ∙ g.is_name.r_type_is in
+    there.2 (is.value_is ∙ (ap (ppc64_scope_in l.context.phase) (is.is_name.named name named of_r_type) ∙ unlisted))
 
 -- ---- phases
 

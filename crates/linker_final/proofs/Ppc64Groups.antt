@@ -1,6 +1,6 @@
 -- Each rewritten instruction of PowerPC64 is a group.
 use Rattle.std.proofs.Common.{◌≡◌, ◌⊎◌, ℕ, Bool, ◌+◌, ◌-◌, ◌*◌, ◌^◌, ◌<◌, ◌≤◌, List, [], ◌∷◌, length, drop, take, get_or, refl, sym, ap, subst, ◌∙◌, arith, inl, inr, Some, not, eqb, IsSomeAnd, None}
-use Rattle.linker_final.proofs.Imports.{and_parts, cases_lt, drop-drop, get_or_past, length-drop, take-take, All-drop, All-take, All-get_or, IsTrue, ◌&&◌, slice_get, w32, from_le_bytes, to_le_bytes, byte_at, Rewrite, replaces, entry, IsNamed, IsNameOf, code_of, ppc64_name, ppc64_row, sum_64, Ppc64, Choice, Ppc64Relocation, word_below, window_of_rewrite, decision_at, Rewritten, relocation_in, operands_with, Symbol, Rela, HasTest, ppc64_entries, ppc64_matches, ppc64_rewrite, rewrites_marked, relaxation_rewrite, Relaxation, word_of_front}
+use Rattle.linker_final.proofs.Imports.{and_parts, cases_lt, drop-drop, get_or_past, length-drop, take-take, All-drop, All-take, All-get_or, IsTrue, ◌&&◌, slice_get, w32, from_le_bytes, to_le_bytes, byte_at, Rewrite, replaces, entry, IsNamed, IsNameOf, r_type_of, ppc64_name, ppc64_row, sum_64, Ppc64, Choice, Ppc64Relocation, word_below, window_of_rewrite, decision_at, Rewritten, relocation_in, operands_with, Symbol, Rela, HasTest, ppc64_entries, ppc64_matches, ppc64_rewrite, rewrites_marked, relaxation_rewrite, Relaxation, word_of_front}
 use Rattle.std.proofs.lemmas.Nat.{le_bytes_4}
 use Rattle.linker_elf.specs.Choices.{changed_toc}
 use Rattle.linker_elf.specs.declared.ppc64.relocations.Ppc64Relocation.TheVariants as names
@@ -85,7 +85,7 @@ Final l i at n left =
 pub record IsLawful (l : Linked) (i : ℕ) (chosen : Choice Relaxation ℕ) (kind : RewriteKind) (at n : ℕ) (law : Law)
     : Type 0 where
   pub kind_is : chosen.kind ≡ relaxations.Ppc64 kind
-  pub code_is : chosen.relocation ≡ code_of (ppc64_name (name_of law.left))
+  pub r_type_is : chosen.relocation ≡ r_type_of (ppc64_name (name_of law.left))
   pub group : IsRewrittenByNoOther l i at
       → law.IsGroup (take (4 * n) (drop at l.section)) (take (4 * n) (drop at l.rewritten))
   pub final : Final l i at n law.left
@@ -114,7 +114,7 @@ module _ (l : Linked) (linked : IsLinked l) (ppc64 : l.context.architecture ≡ 
   record After (n : ℕ) : Type 0 where
     pub left : Left
     pub final : (at : ℕ) → at + 4 * n ≤ length l.section → after.offset ≡ at
-        → after.code ≡ code_of (ppc64_name (name_of left)) → Final l i at n left
+        → after.r_type ≡ r_type_of (ppc64_name (name_of left)) → Final l i at n left
 
   unwritten : (start len p : ℕ) → start ≤ p → p + 4 ≤ start + len → UntouchedByOthers l i start len
       → IsWrittenByNoOther l i p
@@ -122,19 +122,19 @@ module _ (l : Linked) (linked : IsLinked l) (ppc64 : l.context.architecture ≡ 
       (alone.others j at lj isnt (omega (arith, low, from)) (omega (arith, high, less))).1 row field
 
   -- without a relocation
-  left_word : (start len p : ℕ) → start ≤ p → p + 4 ≤ start + len → p + 4 ≤ length l.section → after.code ≡ 0
+  left_word : (start len p : ℕ) → start ≤ p → p + 4 ≤ start + len → p + 4 ≤ length l.section → after.r_type ≡ 0
       → UntouchedByOthers l i start len → instruction_at l.final p ≡ instruction_at l.rewritten p
   left_word start len p low high inside gone alone =
       left_alone l linked ppc64 i below gone p (left_within l i start len p 4 low high alone.left) inside
       (unwritten start len p low high alone)
 
-  one_left : (at : ℕ) → at + 4 ≤ length l.section → after.code ≡ 0 → Final l i at 1 none
+  one_left : (at : ℕ) → at + 4 ≤ length l.section → after.r_type ≡ 0 → Final l i at 1 none
   one_left at inside gone alone c pc stands symbol any is_symbol =
       one_stands c.new pc (drop at l.final) (instruction_at l.rewritten at)
       (left_word at 4 at (omega arith) (omega arith) inside gone alone
       ∙ sym (take-take 4 4 (drop at l.rewritten) (omega arith))) stands
 
-  two_left : (at : ℕ) → at + 8 ≤ length l.section → after.code ≡ 0 → Final l i at 2 none
+  two_left : (at : ℕ) → at + 8 ≤ length l.section → after.r_type ≡ 0 → Final l i at 2 none
   two_left at inside gone alone c pc stands symbol any is_symbol =
       two_stand c.new pc (drop at l.final) (two_at l.rewritten at)
       (left_word at 8 at (omega arith) (omega arith) (omega (arith, inside)) gone alone
@@ -145,7 +145,7 @@ module _ (l : Linked) (linked : IsLinked l) (ppc64 : l.context.architecture ≡ 
 
   -- with one of a name, to m bytes
   applied_left : (n m : ℕ) (name : Ppc64Relocation) → Writes m (entry_by name) name → (at : ℕ) → after.offset ≡ at
-      → after.code ≡ code_of (ppc64_name name) → UntouchedBytes l i at m → (c : Code) (pc : ℕ)
+      → after.r_type ≡ r_type_of (ppc64_name name) → UntouchedBytes l i at m → (c : Code) (pc : ℕ)
       → Stands n c.new pc (take m (drop at l.final)) → (symbol : Symbol) (any : ℕ)
       → slice_get l.symbols after.symbol ≡ Some symbol
       → IsSomeAnd (ppc64_row name) (λ row. Has n c.new pc name (operands_with Ppc64 l.addresses row symbol after (entry_by name symbol any)) (take m (drop at l.rewritten)))
@@ -209,14 +209,14 @@ module _ (l : Linked) (linked : IsLinked l) (ppc64 : l.context.architecture ≡ 
       → IsOfEntry (entry kind (name_of a.left) conditions) l.section o chosen → IsLawful l i chosen kind o 1 (law a.left AreSo)
   word kind a conditions test AreSo so new is meant by =
       let there = meant by.meant in
-      let left = made_after l rewriting i chosen below decided kind by.kind_is (name_of a.left) by.code_is (rewrites_word new) is in
+      let left = made_after l rewriting i chosen below decided kind by.kind_is (name_of a.left) by.r_type_is (rewrites_word new) is in
       record {
         kind_is = by.kind_is;
-        code_is = by.code_is;
+        r_type_is = by.r_type_is;
         group = λ alone.
             so (instruction_at l.section o) (instruction_at l.rewritten o) (there.1)
             (becomes l rewriting i chosen below decided kind by.kind_is (rewrites_word new) is refl);
-        final = a.final o (there.0) (ap (λ (r : Rela). r.offset) left) (ap (λ (r : Rela). r.code) left);
+        final = a.final o (there.0) (ap (λ (r : Rela). r.offset) left) (ap (λ (r : Rela). r.r_type) left);
         others = λ b apart. inl (others_at kind by.kind_is (rewrites_word new) is refl b apart);
       }
 
@@ -242,15 +242,15 @@ module _ (l : Linked) (linked : IsLinked l) (ppc64 : l.context.architecture ≡ 
       → IsLawful l i chosen kinds.KeepAddis o 1 (law a.left AreSo)
   kept a conditions AreSo so by =
       let before = instruction_at l.section o in
-      let left = after_is l rewriting i chosen below decided kinds.KeepAddis by.kind_is (name_of a.left) by.code_is in
+      let left = after_is l rewriting i chosen below decided kinds.KeepAddis by.kind_is (name_of a.left) by.r_type_is in
       let none_is : relaxation_rewrite chosen.kind ≡ None = ap relaxation_rewrite by.kind_is in
       record {
         kind_is = by.kind_is;
-        code_is = by.code_is;
+        r_type_is = by.r_type_is;
         group = λ alone.
             subst (AreSo before) (sym (stays l rewriting i chosen below decided none_is alone (by.meant.0)))
             (so before (test_at l o is_addis_of_toc by.meant) refl);
-        final = a.final o (by.meant.0) (ap (λ (r : Rela). r.offset) left) (ap (λ (r : Rela). r.code) left);
+        final = a.final o (by.meant.0) (ap (λ (r : Rela). r.offset) left) (ap (λ (r : Rela). r.r_type) left);
         others = λ b apart. inl (spared l i (Rewritten chosen) decided (ap window_of_rewrite none_is) b);
       }
 
@@ -285,38 +285,38 @@ module _ (l : Linked) (linked : IsLinked l) (ppc64 : l.context.architecture ≡ 
   of_two kind a conditions test AreSo so bytes is meant by =
       let there = meant by.meant in
       let following = there.1.0 in
-      let left = made_after l rewriting i chosen below decided kind by.kind_is (name_of a.left) by.code_is (replaces 0 8 bytes) is in
+      let left = made_after l rewriting i chosen below decided kind by.kind_is (name_of a.left) by.r_type_is (replaces 0 8 bytes) is in
       record {
         kind_is = by.kind_is;
-        code_is = by.code_is;
+        r_type_is = by.r_type_is;
         group = λ alone.
             so (two_at l.section o) (two_at l.rewritten o) (both test there)
             (becomes l rewriting i chosen below decided kind by.kind_is (replaces 0 8 bytes) is refl);
-        final = a.final o (omega (arith, following)) (ap (λ (r : Rela). r.offset) left) (ap (λ (r : Rela). r.code) left);
+        final = a.final o (omega (arith, following)) (ap (λ (r : Rela). r.offset) left) (ap (λ (r : Rela). r.r_type) left);
         others = λ b apart. inl (others_at kind by.kind_is (replaces 0 8 bytes) is refl b apart);
       }
 
   -- of a call and what follows it
   call : (kind : RewriteKind) (left : Left) (conditions : Conditions) (AreSo : AreGroup)
       → Rewrites groups.is_any kind AreSo → (new : ℕ) → ppc64_rewrite kind ≡ Some (rewrites_call new)
-      → (o + 8 ≤ length l.section → after.offset ≡ o + 4 → after.code ≡ code_of (ppc64_name (name_of left)) → Final l i o 2 left)
+      → (o + 8 ≤ length l.section → after.offset ≡ o + 4 → after.r_type ≡ r_type_of (ppc64_name (name_of left)) → Final l i o 2 left)
       → (ppc64_matches kind l.section o → HasTwo is_call l.section o)
       → IsOfEntry (entry kind (name_of left) conditions) l.section o chosen → IsLawful l i chosen kind o 2 (law left AreSo)
   call kind left conditions AreSo so new is final meant by =
       let following = (meant by.meant).1.0 in
-      let made = made_after l rewriting i chosen below decided kind by.kind_is (name_of left) by.code_is (rewrites_call new) is in
+      let made = made_after l rewriting i chosen below decided kind by.kind_is (name_of left) by.r_type_is (rewrites_call new) is in
       record {
         kind_is = by.kind_is;
-        code_is = by.code_is;
+        r_type_is = by.r_type_is;
         group = λ alone.
             so (two_at l.section o) (two_at l.rewritten o) refl
             (becomes l rewriting i chosen below decided kind by.kind_is (rewrites_call new) is refl);
-        final = final (omega (arith, following)) (ap (λ (r : Rela). r.offset) made) (ap (λ (r : Rela). r.code) made);
+        final = final (omega (arith, following)) (ap (λ (r : Rela). r.offset) made) (ap (λ (r : Rela). r.r_type) made);
         others = λ b apart. inl (others_at kind by.kind_is (rewrites_call new) is refl b apart);
       }
 
   -- the low half in its second word
-  low_half : o + 8 ≤ length l.section → after.offset ≡ o + 4 → after.code ≡ code_of (ppc64_name names.R_PPC64_TPREL16_LO)
+  low_half : o + 8 ≤ length l.section → after.offset ≡ o + 4 → after.r_type ≡ r_type_of (ppc64_name names.R_PPC64_TPREL16_LO)
       → Final l i o 2 (to_second names.R_PPC64_TPREL16_LO)
   low_half inside offset code alone c pc stands symbol any is_symbol = (
     one_stands c.new pc (drop o l.final) (two_at l.rewritten o)
@@ -340,14 +340,14 @@ module _ (l : Linked) (linked : IsLinked l) (ppc64 : l.context.architecture ≡ 
       → IsLawful l i chosen kind (o - 1) 1 (law none AreSo)
   marked kind test AreSo so new is meant by =
       let there = meant by.meant in
-      let left = made_after l rewriting i chosen below decided kind by.kind_is names.R_PPC64_NONE by.code_is (rewrites_marked new) is in
+      let left = made_after l rewriting i chosen below decided kind by.kind_is names.R_PPC64_NONE by.r_type_is (rewrites_marked new) is in
       record {
         kind_is = by.kind_is;
-        code_is = by.code_is;
+        r_type_is = by.r_type_is;
         group = λ alone.
             so (instruction_at l.section (marked_offset l i)) (instruction_at l.rewritten (marked_offset l i))
             (test_at l (marked_offset l i) test there) (becomes_marked l rewriting i chosen below decided kind by.kind_is new is);
-        final = one_left (o - 1) (there.0) (ap (λ (r : Rela). r.code) left);
+        final = one_left (o - 1) (there.0) (ap (λ (r : Rela). r.r_type) left);
         others = λ b apart. inl (outside_of l i chosen (Some (rewrites_marked new)) decided (ap relaxation_rewrite by.kind_is ∙ is) b apart);
       }
 
@@ -357,20 +357,20 @@ module _ (l : Linked) (linked : IsLinked l) (ppc64 : l.context.architecture ≡ 
       → IsLawful l i chosen kinds.NopToRestoreToc (o + 4) 1 (law of_call Restores)
   restores so by =
       let following = by.meant.1.0 in
-      let left = made_after l rewriting i chosen below decided kinds.NopToRestoreToc by.kind_is names.R_PPC64_REL24 by.code_is (replaces 0 8 restores_toc) refl in
+      let left = made_after l rewriting i chosen below decided kinds.NopToRestoreToc by.kind_is names.R_PPC64_REL24 by.r_type_is (replaces 0 8 restores_toc) refl in
       let offset = ap (λ (r : Rela). r.offset) left in
       let made = becomes l rewriting i chosen below decided kinds.NopToRestoreToc by.kind_is (replaces 0 8 restores_toc) refl refl in
       let apart = others_at kinds.NopToRestoreToc by.kind_is (replaces 0 8 restores_toc) refl refl in
       record {
         kind_is = by.kind_is;
-        code_is = by.code_is;
+        r_type_is = by.r_type_is;
         group = λ alone call restored same same_after c k s old new.
             so (two_at l.section o) (two_at l.rewritten o) (both is_call by.meant) made c k s
             (subst (Stands 1 c.old s.pc) (same ∙ sym (second_same l.section o)) old)
             (subst (Stands 1 c.new s.pc) (same_after ∙ sym (second_same l.rewritten o)) new);
         final = λ alone c pc stands symbol any is_symbol.
             one_stands c.new pc (drop (o + 4) l.final) (instruction_at l.rewritten (o + 4))
-            (left_beside l linked ppc64 i below names.R_PPC64_REL24 call_after (ap (λ (r : Rela). r.code) left) (o + 4)
+            (left_beside l linked ppc64 i below names.R_PPC64_REL24 call_after (ap (λ (r : Rela). r.r_type) left) (o + 4)
             alone.left (omega (arith, following)) (inr (omega (arith, offset)))
             (unwritten (o + 4) 4 (o + 4) (omega arith) (omega arith) alone)
             ∙ sym (take-take 4 4 (drop (o + 4) l.rewritten) (omega arith))) stands;
@@ -387,12 +387,12 @@ module _ (l : Linked) (linked : IsLinked l) (ppc64 : l.context.architecture ≡ 
 
   -- ---- by the name
 
-  unlisted : (name : Ppc64Relocation) → IsNameOf ppc64_name (relocation_in l.relocations i).code name → IsOfNoPhase name → ⊥
+  unlisted : (name : Ppc64Relocation) → IsNameOf ppc64_name (relocation_in l.relocations i).r_type name → IsOfNoPhase name → ⊥
   unlisted name is_name never =
       never l rewriting ppc64
       (record { i = i; below = below; name = name; is_name = is_name; chosen = chosen; decided = decided }) refl
 
-  pub by_name : Groups → (name : Ppc64Relocation) → IsNameOf ppc64_name (relocation_in l.relocations i).code name
+  pub by_name : Groups → (name : Ppc64Relocation) → IsNameOf ppc64_name (relocation_in l.relocations i).r_type name
       → IsOfOne (ppc64_entries name) l.section o chosen → IsNamed (ppc64_name name) × Lawful l i chosen name
   by_name laws names.R_PPC64_REL24 is_name of = (tt, (kinds.NopToRestoreToc, restores laws.toc (only of)))
   by_name laws names.R_PPC64_TOC16_HA is_name of =

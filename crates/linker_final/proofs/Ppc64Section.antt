@@ -14,14 +14,14 @@ use Rattle.linker_laws.specs.Ppc64Groups.{Groups}
 -- the law of a rewrite, by its name
 law_there : Groups → (l : Linked) → IsLinked l → l.context.architecture ≡ Ppc64 → (i : ℕ) (chosen : Choice Relaxation ℕ)
     → i < count l → decision_at l.decisions i ≡ Rewritten chosen → (name : Ppc64Relocation)
-    → IsNameOf ppc64_name (relocation_in l.relocations i).code name
+    → IsNameOf ppc64_name (relocation_in l.relocations i).r_type name
     → IsLawful l i chosen (kind_at l i) (span l i).0 (shape (kind_at l i) (offset_of l i)).1 (law_of name (kind_at l i))
 law_there laws l linked ppc64 i chosen below decided name is_name =
     let t = has_entry l linked ppc64 i chosen below decided in
     let made = by_name l linked ppc64 i chosen below decided laws t.name t.is_name t.of in
     let kind = made.1.0 in
     let law = made.1.1 in
-    let same : name ≡ t.name = is_name.named t.name (made.0) t.is_name.code_is in
+    let same : name ≡ t.name = is_name.named t.name (made.0) t.is_name.r_type_is in
     let kind_is : kind_at l i ≡ kind = ap kind_of decided ∙ ap kind_by law.kind_is in
     subst (λ q. IsLawful l i chosen q (shape q (offset_of l i)).0 (shape q (offset_of l i)).1 (law_of name q)) (sym kind_is)
     (subst (λ n. IsLawful l i chosen kind (shape kind (offset_of l i)).0 (shape kind (offset_of l i)).1 (law_of n kind)) (sym same) law)
@@ -95,4 +95,4 @@ rewrites_are_groups laws x c called l is k s g n k' s' begins =
 
 pub names_are_left : Groups → NamesAreLeft
 names_are_left laws l linked ppc64 g =
-    (law_there laws l linked ppc64 g.i g.chosen g.below g.decided g.name g.is_name).code_is
+    (law_there laws l linked ppc64 g.i g.chosen g.below g.decided g.name g.is_name).r_type_is

@@ -1,6 +1,6 @@
 -- Instructions of PowerPC64 and their relocations in the final bytes of a section.
 use Rattle.std.proofs.Common.{true, false, ◌≡◌, ◌⊎◌, ℕ, ◌+◌, ◌-◌, ◌<◌, ◌≤◌, length, take, drop, sym, ap, subst, ◌∙◌, refl, arith, Some, None, Ok, IsSomeAnd, cond}
-use Rattle.linker_final.proofs.Imports.{take-take, IsTrue, slice_get, ⊤, Rewrite, addend_after, offset_after, IsApplied, IsNamed, code_of, ppc64_name, ppc64_row, window_len, bytes_row, signed_row, value_of, GotTpOff, Relative, TpOff, RelocationKindInfo, BitMasking, Choice, Operands, Ppc64Relocation, HasTest, ppc64_rewrite, rewrites_marked, decision_at, IsDone, IsMade, Rewritten, is_of_pair, entry_of, relocation_in, entry_address, has_value, is_there, names_label, operands_by, operands_with, Symbol, Entry, ThreadOffset, Rela, IsRow, relaxation_rewrite, Relaxation, Ppc64}
+use Rattle.linker_final.proofs.Imports.{take-take, IsTrue, slice_get, ⊤, Rewrite, addend_after, offset_after, IsApplied, IsNamed, r_type_of, ppc64_name, ppc64_row, window_len, bytes_row, signed_row, value_of, GotTpOff, Relative, TpOff, RelocationKindInfo, BitMasking, Choice, Operands, Ppc64Relocation, HasTest, ppc64_rewrite, rewrites_marked, decision_at, IsDone, IsMade, Rewritten, is_of_pair, entry_of, relocation_in, entry_address, has_value, is_there, names_label, operands_by, operands_with, Symbol, Entry, ThreadOffset, Rela, IsRow, relaxation_rewrite, Relaxation, Ppc64}
 use Rattle.linker_elf.specs.Ppc64Relocations.{branch_row, high_adjusted_row, low_ds_row, low_row, prefixed_row}
 use Rattle.linker_elf.specs.declared.elf.RelocationInstruction.TheVariants as insns
 use Rattle.linker_elf.specs.declared.elf.RelocationKind.TheVariants.{None as NoValue, GotTpOffGotBase, SymRelGotBase}
@@ -27,10 +27,10 @@ pub record IsAfter (n : ℕ) (name : Ppc64Relocation) : Type 0 where
 
 pub row_of : (l : Linked) → l.context.architecture ≡ Ppc64 → (name : Ppc64Relocation)
     → IsNamed (ppc64_name name) → (row : RelocationKindInfo) → ppc64_row name ≡ Some row
-    → IsRowOf l.context.architecture (code_of (ppc64_name name)) row
+    → IsRowOf l.context.architecture (r_type_of (ppc64_name name)) row
 row_of l ppc64 name named row is found there =
     by_name ppc64_name ppc64_row name named found
-    (subst (λ x. IsRow x (code_of (ppc64_name name)) found) ppc64 there) ∙ is
+    (subst (λ x. IsRow x (r_type_of (ppc64_name name)) found) ppc64 there) ∙ is
 
 pub no_row : (l : Linked) → l.context.architecture ≡ Ppc64
     → IsRowOf l.context.architecture 0 (bytes_row NoValue 0)
@@ -50,22 +50,22 @@ module _ (l : Linked) (rewriting : AreRewritten l) (i : ℕ) (chosen : Choice Re
 
   abbrev after : Ppc64Relocation → Rela
   after name =
-      rela (offset_after (ppc64_rewrite kind) r.offset) (code_of (ppc64_name name)) r.symbol
+      rela (offset_after (ppc64_rewrite kind) r.offset) (r_type_of (ppc64_name name)) r.symbol
       (addend_after (ppc64_rewrite kind) r.addend)
 
-  pub after_is : (name : Ppc64Relocation) → chosen.relocation ≡ code_of (ppc64_name name)
+  pub after_is : (name : Ppc64Relocation) → chosen.relocation ≡ r_type_of (ppc64_name name)
       → relocation_in l.relocations_after i ≡ after name
-  after_is name code_is =
-      relocation_is l rewriting i chosen below decided (ppc64_rewrite kind) (code_of (ppc64_name name))
-      (ap relaxation_rewrite kind_is) code_is
+  after_is name r_type_is =
+      relocation_is l rewriting i chosen below decided (ppc64_rewrite kind) (r_type_of (ppc64_name name))
+      (ap relaxation_rewrite kind_is) r_type_is
 
-  pub made_after : (name : Ppc64Relocation) → chosen.relocation ≡ code_of (ppc64_name name)
+  pub made_after : (name : Ppc64Relocation) → chosen.relocation ≡ r_type_of (ppc64_name name)
       → (made : Rewrite) → ppc64_rewrite kind ≡ Some made
       → relocation_in l.relocations_after i
-      ≡ rela (made.offset r.offset) (code_of (ppc64_name name)) r.symbol (made.addend r.addend)
-  made_after name code_is made is =
-      after_is name code_is
-      ∙ ap (λ q. rela (offset_after q r.offset) (code_of (ppc64_name name)) r.symbol (addend_after q r.addend)) is
+      ≡ rela (made.offset r.offset) (r_type_of (ppc64_name name)) r.symbol (made.addend r.addend)
+  made_after name r_type_is made is =
+      after_is name r_type_is
+      ∙ ap (λ q. rela (offset_after q r.offset) (r_type_of (ppc64_name name)) r.symbol (addend_after q r.addend)) is
 
   -- what becomes of the window of a rewrite
   pub becomes : (made : Rewrite) → ppc64_rewrite kind ≡ Some made → made.back ≡ 0
@@ -100,13 +100,13 @@ module _ (l : Linked) (linked : IsLinked l) (ppc64 : l.context.architecture ≡ 
   abbrev became : Rela
   became = relocation_in l.relocations_after i
 
-  row_there : (n : ℕ) (name : Ppc64Relocation) (a : IsAfter n name) → became.code ≡ code_of (ppc64_name name)
-      → IsRowOf l.context.architecture became.code a.row
+  row_there : (n : ℕ) (name : Ppc64Relocation) (a : IsAfter n name) → became.r_type ≡ r_type_of (ppc64_name name)
+      → IsRowOf l.context.architecture became.r_type a.row
   row_there n name a code =
       subst (λ x. IsRowOf l.context.architecture x a.row) (sym code) (row_of l ppc64 name a.named a.row a.is)
 
   -- the relocation that a rewrite left is applied to n bytes
-  pub applied_there : (n : ℕ) → 0 < n → (name : Ppc64Relocation) (a : IsAfter n name) → became.code ≡ code_of (ppc64_name name)
+  pub applied_there : (n : ℕ) → 0 < n → (name : Ppc64Relocation) (a : IsAfter n name) → became.r_type ≡ r_type_of (ppc64_name name)
       → UntouchedBytes l i became.offset n → (symbol : Symbol) → slice_get l.symbols became.symbol ≡ Some symbol → (got : ℕ)
       → operands_by Ppc64 l.addresses a.row became symbol
       (entry_address l.addresses symbol (entry_of a.row became.addend symbol.is_thread_local))
@@ -127,7 +127,7 @@ module _ (l : Linked) (linked : IsLinked l) (ppc64 : l.context.architecture ≡ 
       (with_operands a.row w o _ _ same there)
 
   -- the entry of its formula is there
-  pub entry_there : (n : ℕ) (name : Ppc64Relocation) (a : IsAfter n name) → became.code ≡ code_of (ppc64_name name)
+  pub entry_there : (n : ℕ) (name : Ppc64Relocation) (a : IsAfter n name) → became.r_type ≡ r_type_of (ppc64_name name)
       → UntouchedBytes l i became.offset n → (symbol : Symbol) → slice_get l.symbols became.symbol ≡ Some symbol
       → (entry : Entry) → entry_of a.row became.addend symbol.is_thread_local ≡ Some entry
       → is_there l.addresses symbol entry ≡ true
@@ -136,12 +136,12 @@ module _ (l : Linked) (linked : IsLinked l) (ppc64 : l.context.architecture ≡ 
       (row_there n name a code) symbol is_symbol entry is_entry
 
   -- an instruction is left that no other relocation writes, where the own one goes
-  pub left_alone : became.code ≡ 0 → (p : ℕ) → UntouchedBytes l i p 4 → p + 4 ≤ length l.section
+  pub left_alone : became.r_type ≡ 0 → (p : ℕ) → UntouchedBytes l i p 4 → p + 4 ≤ length l.section
       → IsWrittenByNoOther l i p → instruction_at l.final p ≡ instruction_at l.rewritten p
   left_alone gone p left inside alone = unwritten_without l linked i below p left (no_row l ppc64) gone inside alone
 
   -- and one beside that of the own relocation
-  pub left_beside : (name : Ppc64Relocation) (a : IsAfter 4 name) → became.code ≡ code_of (ppc64_name name)
+  pub left_beside : (name : Ppc64Relocation) (a : IsAfter 4 name) → became.r_type ≡ r_type_of (ppc64_name name)
       → (p : ℕ) → UntouchedBytes l i p 4 → p + 4 ≤ length l.section
       → (p + 4 ≤ became.offset) ⊎ (became.offset + 4 ≤ p)
       → IsWrittenByNoOther l i p → instruction_at l.final p ≡ instruction_at l.rewritten p
@@ -190,7 +190,7 @@ abbrev pub Writes : ℕ → (Symbol → ℕ → ℕ) → Ppc64Relocation → Typ
 Writes n entry name =
     (l : Linked) → IsLinked l → l.context.architecture ≡ Ppc64 → (i : ℕ) → i < count l
     → let r = relocation_in l.relocations_after i in
-    r.code ≡ code_of (ppc64_name name) → UntouchedBytes l i r.offset n
+    r.r_type ≡ r_type_of (ppc64_name name) → UntouchedBytes l i r.offset n
     → IsSomeAnd (ppc64_row name) (λ row. (symbol : Symbol) (any : ℕ)
     → slice_get l.symbols r.symbol ≡ Some symbol
     → IsRelocated name (operands_with Ppc64 l.addresses row symbol r (entry symbol any))

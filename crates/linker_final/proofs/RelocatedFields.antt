@@ -10,7 +10,7 @@ module _ (architecture : Architecture) (addresses : Addresses) (bytes : List ℕ
     (i : ℕ) (below : i < length bytes / 24) (row : RelocationKindInfo)
     (bits : BitRange) (insn : RelocationInstruction) (size : row.size ≡ BitMasking bits insn)
     (valued : has_value row.kind ≡ true) (unlabelled : names_label row.size row.kind ≡ false)
-    (is_row : IsRow architecture (relocation_in bytes i).code (Some row)) (operands : Operands)
+    (is_row : IsRow architecture (relocation_in bytes i).r_type (Some row)) (operands : Operands)
     (taken : operands_of architecture addresses symbols row (relocation_in bytes i) ≡ Ok operands)
     (has : IsSomeAnd (value_of row operands) (λ _. ⊤))
   where

@@ -54,13 +54,13 @@ module _ (groups : Groups) (l : Linked) (rewriting : AreRewritten l) (riscv : l.
       let one = becomes_of l rewriting riscv high (Rewritten of.chosen) of.chosen of.below of.decided refl names.R_RISCV_GOT_HI20 tt of.name_is
       names.R_RISCV_HI20 kinds.AuipcToLui of.kind_is (inl (λ e. cc), (inl (λ e. cc), (inr (refl, λ section o is. is.0), tt))) in
       part_alone l rewriting kinds.AuipcToLui (of_destination 0x37) refl high of.chosen of.below of.decided of.kind_is
-      names.R_RISCV_HI20 one.code_is one.inside
+      names.R_RISCV_HI20 one.r_type_is one.inside
 
   pub addi : IsAddiOfLoad l high low → MadePart l names.R_RISCV_LO12_I high low kinds.LdToAddi (instruction_at l.section (o + 4))
   addi of =
       let is = of.rewritten in
       part_of l rewriting kinds.LdToAddi load_to_addi refl high 4 names.R_RISCV_PCREL_LO12_I low is names.R_RISCV_LO12_I (record {
-        code_is = of.becomes;
+        r_type_is = of.becomes;
         inside = ld_inside l.section (offset_of l low) is.chosen
             (of_some l rewriting riscv low (RewrittenWithSymbol is.chosen is.subject) is.chosen is.below is.decided refl names.R_RISCV_PCREL_LO12_I tt is.name_is);
       })

@@ -1,6 +1,6 @@
 -- The rewrite that is chosen for a relocation of RISC-V.
 use Rattle.std.proofs.Common.{◌≡◌, ℕ, ◌+◌, ◌<◌, ◌≤◌, length, Bool, true, false, List, [], ◌∷◌, refl, sym, ap, subst, ◌∙◌, inl, inr, ◌⊎◌, Option, Some, None}
-use Rattle.linker_final.proofs.Imports.{choice, IsNamed, IsNameOf, code_of, riscv_name, Choice, LinkFacts, RiscVRelocation, choice_of, chosen_or_labelled, IsOfApplied, of_first, AppliesToRiscV, HasPattern, RiscVEntry, riscv_entries, IsCandidateWith, IsScopeIn, Labelled, Architecture, decision_at, RelaxContext, Decision, RewrittenWithSymbol, Rewritten, Subject, Phase, relocation_in, Rela, IsArchitectureChoice, relaxation_no_op, Relaxation, RiscV}
+use Rattle.linker_final.proofs.Imports.{choice, IsNamed, IsNameOf, r_type_of, riscv_name, Choice, LinkFacts, RiscVRelocation, choice_of, chosen_or_labelled, IsOfApplied, of_first, AppliesToRiscV, HasPattern, RiscVEntry, riscv_entries, IsCandidateWith, IsScopeIn, Labelled, Architecture, decision_at, RelaxContext, Decision, RewrittenWithSymbol, Rewritten, Subject, Phase, relocation_in, Rela, IsArchitectureChoice, relaxation_no_op, Relaxation, RiscV}
 use Rattle.linker_final.specs.Final.{AreRewritten, Linked, count}
 use Rattle.linker_utils.specs.RiscVRewrites.{IsRiscVChoice}
 use Rattle.linker_utils.specs.declared.riscv64.rewrites.RewriteKind.{RewriteKind}
@@ -34,7 +34,7 @@ of_phase phase chosen mine subject high is = either (takes_symbol phase mine.rel
 -- they are those of the high part at the label, whose symbol and addend are a subject
 pub record IsOfHigh (s : RelaxContext) (bytes : List ℕ) (n : ℕ) (r : Rela) (facts : LinkFacts) (subject : Subject)
     : Type 0 where
-  pub scope_is : IsScopeIn s.architecture s.phase r.code Labelled
+  pub scope_is : IsScopeIn s.architecture s.phase r.r_type Labelled
   pub high : ℕ
   pub is_high : IsHighIn s bytes r (Some high)
   pub facts_are : label_facts s bytes n r high ≡ Some facts
@@ -44,8 +44,8 @@ pub record IsOfHigh (s : RelaxContext) (bytes : List ℕ) (n : ℕ) (r : Rela) (
 pub record IsChosenAnyhow (s : RelaxContext) (bytes section : List ℕ) (n : ℕ) (r : Rela) (decision : Decision)
     (chosen : Choice Relaxation ℕ) : Type 0 where
   pub facts : LinkFacts
-  pub is_choice : IsArchitectureChoice s.architecture r.code section r.offset facts chosen
-  pub changed : ¬ IsUnchanged r.code chosen
+  pub is_choice : IsArchitectureChoice s.architecture r.r_type section r.offset facts chosen
+  pub changed : ¬ IsUnchanged r.r_type chosen
   pub of_high : (subject : Subject) → decision ≡ RewrittenWithSymbol chosen subject → IsOfHigh s bytes n r facts subject
 
 abbrev chosen_in : Choice Relaxation ℕ → Option (Choice Relaxation ℕ) → Choice Relaxation ℕ
@@ -62,7 +62,7 @@ label_choice phase chosen high = either (takes_symbol phase chosen.relocation)
 
 module _ (s : RelaxContext) (bytes section : List ℕ) (n : ℕ) (r : Rela) (decision : Decision)
     (chosen : Choice Relaxation ℕ) (by : choice_of decision ≡ Some chosen)
-    (scope_is : IsScopeIn s.architecture s.phase r.code Labelled) where
+    (scope_is : IsScopeIn s.architecture s.phase r.r_type Labelled) where
   by_facts : (high : ℕ) → IsHighIn s bytes r (Some high)
       → ((subject : Subject) → decision ≡ RewrittenWithSymbol chosen subject → subject ≡ subject_of (relocation_in bytes high))
       → (facts : Option LinkFacts) → label_facts s bytes n r high ≡ facts → IsCandidateWith s bytes section n r facts (Some chosen)
@@ -126,7 +126,7 @@ pub record IsOfTable (name : RiscVRelocation) (section : List ℕ) (o : ℕ) (fa
     : Type 0 where
   pub named : Choice RewriteKind RiscVRelocation
   pub kind_is : chosen.kind ≡ relaxations.RiscV named.kind
-  pub code_is : chosen.relocation ≡ code_of (riscv_name named.relocation)
+  pub r_type_is : chosen.relocation ≡ r_type_of (riscv_name named.relocation)
   pub applies : IsOfApplied (AppliesToRiscV (HasPattern name) section o facts) (riscv_entries name) named
 
 pub of_table : (architecture : Architecture) → architecture ≡ RiscV → (code : ℕ) (section : List ℕ) (o : ℕ)
@@ -135,15 +135,15 @@ pub of_table : (architecture : Architecture) → architecture ≡ RiscV → (cod
     → IsOfTable name section o facts chosen
 of_table architecture riscv code section o facts chosen is changed name named is_name =
     let h = subst (λ x. IsArchitectureChoice x code section o facts chosen) riscv is in
-    let same : h.name ≡ name = h.is_name.named name named is_name.code_is in
+    let same : h.name ≡ name = h.is_name.named name named is_name.r_type_is in
     record {
       named = h.named;
       kind_is = h.kind_is;
-      code_is = h.code_is;
+      r_type_is = h.r_type_is;
       applies = of_first (AppliesToRiscV (HasPattern name) section o facts) (riscv_entries name) (choice kinds.NoOp name) h.named
           (λ e. changed (
             subst relaxation_no_op (sym (h.kind_is ∙ ap (λ (q : Choice RewriteKind RiscVRelocation). relaxations.RiscV q.kind) e)) refl,
-            h.code_is ∙ (ap (λ (q : Choice RewriteKind RiscVRelocation). code_of (riscv_name q.relocation)) e ∙ is_name.code_is),
+            h.r_type_is ∙ (ap (λ (q : Choice RewriteKind RiscVRelocation). r_type_of (riscv_name q.relocation)) e ∙ is_name.r_type_is),
           ))
           (subst (λ x. IsRiscVChoice x section o facts h.named) same h.is_choice);
     }
@@ -151,7 +151,7 @@ of_table architecture riscv code section o facts chosen is changed name named is
 pub record IsOfEntry (name : RiscVRelocation) (e : RiscVEntry) (section : List ℕ) (o : ℕ)
     (chosen : Choice Relaxation ℕ) : Type 0 where
   pub kind_is : chosen.kind ≡ relaxations.RiscV e.kind
-  pub code_is : chosen.relocation ≡ code_of (riscv_name e.relocation)
+  pub r_type_is : chosen.relocation ≡ r_type_of (riscv_name e.relocation)
   pub pattern : HasPattern name e.kind section o
 
 abbrev pub IsOfSome : RiscVRelocation → List RiscVEntry → List ℕ → ℕ → Choice Relaxation ℕ → Type 0
@@ -162,18 +162,18 @@ IsOfSome name (e ∷ es) section o chosen =
 of_named : (name : RiscVRelocation) (section : List ℕ) (o : ℕ) (facts : LinkFacts)
     (chosen : Choice Relaxation ℕ) (named : Choice RewriteKind RiscVRelocation)
     → chosen.kind ≡ relaxations.RiscV named.kind
-    → chosen.relocation ≡ code_of (riscv_name named.relocation) → (es : List RiscVEntry)
+    → chosen.relocation ≡ r_type_of (riscv_name named.relocation) → (es : List RiscVEntry)
     → IsOfApplied (AppliesToRiscV (HasPattern name) section o facts) es named
     → IsOfSome name es section o chosen
-of_named name section o facts chosen named kind_is code_is [] nothing = absurd nothing
-of_named name section o facts chosen named kind_is code_is (e ∷ es) (inl this) =
+of_named name section o facts chosen named kind_is r_type_is [] nothing = absurd nothing
+of_named name section o facts chosen named kind_is r_type_is (e ∷ es) (inl this) =
     inl (record {
       kind_is = kind_is ∙ ap (λ (q : Choice RewriteKind RiscVRelocation). relaxations.RiscV q.kind) (this.1);
-      code_is = code_is ∙ ap (λ (q : Choice RewriteKind RiscVRelocation). code_of (riscv_name q.relocation)) (this.1);
+      r_type_is = r_type_is ∙ ap (λ (q : Choice RewriteKind RiscVRelocation). r_type_of (riscv_name q.relocation)) (this.1);
       pattern = this.0.0;
     })
-of_named name section o facts chosen named kind_is code_is (e ∷ es) (inr other) =
-    inr (of_named name section o facts chosen named kind_is code_is es other)
+of_named name section o facts chosen named kind_is r_type_is (e ∷ es) (inr other) =
+    inr (of_named name section o facts chosen named kind_is r_type_is es other)
 
 -- ---- those of one kind
 
@@ -184,7 +184,7 @@ kind_in other relaxation = other
 -- the relocation after a rewrite, of an instruction in the section
 pub record Becomes (name : RiscVRelocation) (section : List ℕ) (o : ℕ) (chosen : Choice Relaxation ℕ)
     : Type 0 where
-  pub code_is : chosen.relocation ≡ code_of (riscv_name name)
+  pub r_type_is : chosen.relocation ≡ r_type_of (riscv_name name)
   pub inside : o + 4 ≤ length section
 
 -- Each entry is of another kind, or has a relocation and requires an instruction.
@@ -204,7 +204,7 @@ becomes_by name after kind section o chosen is (e ∷ es) each (inl this) =
     elim (each.0) [
       | inl isnt ↦ absurd (isnt (ap (kind_in kind) (sym is ∙ this.kind_is)))
       | inr so ↦
-          record { code_is = this.code_is ∙ ap (λ r. code_of (riscv_name r)) (so.0); inside = so.1 section o this.pattern }
+          record { r_type_is = this.r_type_is ∙ ap (λ r. r_type_of (riscv_name r)) (so.0); inside = so.1 section o this.pattern }
     ]
 becomes_by name after kind section o chosen is (e ∷ es) each (inr other) =
     becomes_by name after kind section o chosen is es (each.1) other
@@ -213,7 +213,7 @@ module _ (l : Linked) (made : AreRewritten l) (riscv : l.context.architecture �
     (decision : Decision) (chosen : Choice Relaxation ℕ) (below : i < count l)
     (decided : decision_at l.decisions i ≡ decision) (by : choice_of decision ≡ Some chosen)
     (name : RiscVRelocation) (named : IsNamed (riscv_name name))
-    (is_name : IsNameOf riscv_name (relocation_in l.relocations i).code name)
+    (is_name : IsNameOf riscv_name (relocation_in l.relocations i).r_type name)
   where
     abbrev r : Rela
     r = relocation_in l.relocations i
@@ -221,8 +221,8 @@ module _ (l : Linked) (made : AreRewritten l) (riscv : l.context.architecture �
     pub of_some : IsOfSome name (riscv_entries name) l.section r.offset chosen
     of_some =
         let c = anyhow l made i decision chosen below decided by in
-        let h = of_table l.context.architecture riscv r.code l.section r.offset c.facts chosen c.is_choice c.changed name named is_name in
-        of_named name l.section r.offset c.facts chosen h.named h.kind_is h.code_is (riscv_entries name) h.applies
+        let h = of_table l.context.architecture riscv r.r_type l.section r.offset c.facts chosen c.is_choice c.changed name named is_name in
+        of_named name l.section r.offset c.facts chosen h.named h.kind_is h.r_type_is (riscv_entries name) h.applies
 
     -- the only one
     pub of_entry : (e : RiscVEntry) → riscv_entries name ≡ (e ∷ [])

@@ -1,6 +1,6 @@
 -- Rewritten loads from the GOT of RISC-V are groups, with what new has.
 use Rattle.std.proofs.Common.{◌≡◌, ℕ, ◌+◌, List, [], ◌∷◌, length, refl, sym, ap, subst, ◌∙◌, arith, inl, inr}
-use Rattle.linker_final.proofs.Imports.{entry, code_of, riscv_name, riscv_row, sum_64, RiscV, Choice, Groups, after_rewrite, Rewritten, relaxation_rewrite, load_to_addi, riscv_entries, Relaxation}
+use Rattle.linker_final.proofs.Imports.{entry, r_type_of, riscv_name, riscv_row, sum_64, RiscV, Choice, Groups, after_rewrite, Rewritten, relaxation_rewrite, load_to_addi, riscv_entries, Relaxation}
 use Rattle.linker_elf.specs.Choices.{got_high_part}
 use Rattle.linker_elf.specs.declared.riscv64.relocations.RiscVRelocation.TheVariants as names
 use Rattle.linker_final.proofs.RiscVChosen.{IsOfEntry, IsOfSome, of_some}
@@ -19,25 +19,25 @@ use Rattle.linker_utils.specs.declared.riscv64.rewrites.RewriteKind.TheVariants 
 -- ---- entries
 
 high_of : (section : List ℕ) (o : ℕ) (chosen : Choice Relaxation ℕ)
-    → chosen.relocation ≡ code_of (riscv_name names.R_RISCV_PCREL_HI20)
+    → chosen.relocation ≡ r_type_of (riscv_name names.R_RISCV_PCREL_HI20)
     → IsOfSome names.R_RISCV_GOT_HI20 (riscv_entries names.R_RISCV_GOT_HI20) section o chosen
     → IsOfEntry names.R_RISCV_GOT_HI20 (entry kinds.NoOp names.R_RISCV_PCREL_HI20 (without_got [])) section o chosen
 high_of section o chosen code (inl this) =
-    absurd (let e : 0 ≡ 23 = sym this.code_is ∙ code in omega (arith, e))
+    absurd (let e : 0 ≡ 23 = sym this.r_type_is ∙ code in omega (arith, e))
 high_of section o chosen code (inr (inl this)) = this
 high_of section o chosen code (inr (inr (inl this))) =
-    absurd (let e : 26 ≡ 23 = sym this.code_is ∙ code in omega (arith, e))
+    absurd (let e : 26 ≡ 23 = sym this.r_type_is ∙ code in omega (arith, e))
 high_of section o chosen code (inr (inr (inr nothing))) = absurd nothing
 
 low_of : (section : List ℕ) (o : ℕ) (chosen : Choice Relaxation ℕ)
-    → chosen.relocation ≡ code_of (riscv_name names.R_RISCV_PCREL_LO12_I)
+    → chosen.relocation ≡ r_type_of (riscv_name names.R_RISCV_PCREL_LO12_I)
     → IsOfSome names.R_RISCV_PCREL_LO12_I (riscv_entries names.R_RISCV_PCREL_LO12_I) section o chosen
     → IsOfEntry names.R_RISCV_PCREL_LO12_I (entry kinds.LdToAddi names.R_RISCV_PCREL_LO12_I (without_got (got_high_part ∷ []))) section o chosen
 low_of section o chosen code (inl this) =
-    absurd (let e : 27 ≡ 24 = sym this.code_is ∙ code in omega (arith, e))
+    absurd (let e : 27 ≡ 24 = sym this.r_type_is ∙ code in omega (arith, e))
 low_of section o chosen code (inr (inl this)) = this
 low_of section o chosen code (inr (inr (inl this))) =
-    absurd (let e : 27 ≡ 24 = sym this.code_is ∙ code in omega (arith, e))
+    absurd (let e : 27 ≡ 24 = sym this.r_type_is ∙ code in omega (arith, e))
 low_of section o chosen code (inr (inr (inr nothing))) = absurd nothing
 
 -- ---- a pair
@@ -68,7 +68,7 @@ module _ (groups : Groups) (l : Linked) (rewriting : AreRewritten l) (riscv : l.
       record {
         below = of.first_below;
         left = rewritten_after l rewriting i of.high_chosen of.first_below kinds.NoOp names.R_RISCV_PCREL_HI20
-            high_entry.kind_is high_entry.code_is (λ o. refl) (λ a. refl) of.high_decided;
+            high_entry.kind_is high_entry.r_type_is (λ o. refl) (λ a. refl) of.high_decided;
         inside = high_entry.pattern.0;
         bytes = λ linked. subst AreBytes (sym auipc_there) (bytes_there l.section o linked.section_bytes);
       }
@@ -76,7 +76,7 @@ module _ (groups : Groups) (l : Linked) (rewriting : AreRewritten l) (riscv : l.
   pub low : MadePart l names.R_RISCV_PCREL_LO12_I j j kinds.LdToAddi (instruction_at l.section (offset_of l j))
   low =
       part_alone l rewriting kinds.LdToAddi load_to_addi refl j of.low_chosen of.second_below of.low_decided
-      low_entry.kind_is names.R_RISCV_PCREL_LO12_I low_entry.code_is (low_entry.pattern.0)
+      low_entry.kind_is names.R_RISCV_PCREL_LO12_I low_entry.r_type_is (low_entry.pattern.0)
 
   pub loads : (new : New l) → law l i (load j of alone) new
   loads new over not_zero c x y k kind s small new_small at holds are old old_ld has =

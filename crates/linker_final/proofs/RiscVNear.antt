@@ -138,7 +138,7 @@ values_are_distances addresses values gp r value code base small symbol is_low b
     ap (λ c. relocation_over r c (base_of addresses values gp r)) is_low
     ∙ ap (relocation_over r (Some code)) of_symbol in
     let n : ℕ = difference_64 a b in (
-      ap (λ x. x.code) after,
+      ap (λ x. x.r_type) after,
       ap (λ x. x.symbol) after,
       ap (λ x. address_of addresses x value) after
           ∙ (ap (sum_64 (address_in addresses value)) (of_z-to_z w64 n (omega arith))

@@ -24,7 +24,7 @@ none_has_no_value l riscv found there =
 -- ---- nops
 
 in_new : (l : Linked) → AreRewritten l → l.context.architecture ≡ RiscV → (i : ℕ) → i < count l
-    → offset_of l i + 4 ≤ length l.section → (relocation_in l.relocations_after i).code ≡ 0
+    → offset_of l i + 4 ≤ length l.section → (relocation_in l.relocations_after i).r_type ≡ 0
     → ((bytes : List ℕ) → bytes ≡ instruction_at l.rewritten (offset_of l i) → IsNop (instruction_at l.section (offset_of l i)) bytes)
     → (new : New l) → BecomesNop l new i
 in_new l rewriting riscv i below inside gone nop anywhere = nop (instruction_at l.rewritten (offset_of l i)) refl
@@ -43,8 +43,8 @@ nops_of name named each l rewriting riscv new i chosen subject below is_name dec
     names.R_RISCV_NONE kinds.ReplaceWithLongNop kind_is each in
     let long = long_there l.section o one.inside in
     in_new l rewriting riscv i below one.inside
-    (ap (λ (x : Rela). x.code)
-    (redirected_after l rewriting i chosen below kinds.ReplaceWithLongNop names.R_RISCV_NONE kind_is one.code_is (λ o. refl) (λ a. refl) subject decided))
+    (ap (λ (x : Rela). x.r_type)
+    (redirected_after l rewriting i chosen below kinds.ReplaceWithLongNop names.R_RISCV_NONE kind_is one.r_type_is (λ o. refl) (λ a. refl) subject decided))
     (λ bytes same. (
       (omega (arith, long), tt),
       same ∙ becomes l rewriting i below decision decided chosen kinds.ReplaceWithLongNop kind_is (λ _. 0x13) refl (λ done. done) one.inside,

@@ -1,7 +1,7 @@
 -- Low parts of RISC-V that became ones over the thread pointer are groups, and what is deleted
 -- before them.
 use Rattle.std.proofs.Common.{◌≡◌, ℕ, List, [], ◌∷◌, refl, sym, ap, subst, ◌∙◌, arith, Option, IsSomeAnd}
-use Rattle.linker_final.proofs.Imports.{IsTrue, entry, code_of, HasWord, pair_row, riscv_name, TpOff, IType, RiscVRelocation, Action, Groups, funct3_of, opcode_of, HasPattern, IsLui, adds_low12, by_low_offset, riscv_entries, riscv_matches, Rewritten, relocation_in, RiscV}
+use Rattle.linker_final.proofs.Imports.{IsTrue, entry, r_type_of, HasWord, pair_row, riscv_name, TpOff, IType, RiscVRelocation, Action, Groups, funct3_of, opcode_of, HasPattern, IsLui, adds_low12, by_low_offset, riscv_entries, riscv_matches, Rewritten, relocation_in, RiscV}
 use Rattle.linker_elf.specs.declared.riscv64.forms.RiscVInstruction.TheVariants.{SType}
 use Rattle.linker_elf.specs.declared.riscv64.relocations.RiscVRelocation.TheVariants as names
 use Rattle.linker_final.proofs.Written.{mapped, word_same}
@@ -65,12 +65,12 @@ module _ (groups : Groups) (name : RiscVRelocation) (low : IsLow name) (l : Link
   instruction = instruction_at l.section (offset_of l i)
 
   adds_low : riscv_matches kinds.BaseToTp l.section (offset_of l i) × (is.chosen.kind ≡ relaxations.RiscV kinds.BaseToTp)
-      × (is.chosen.relocation ≡ code_of (riscv_name name))
+      × (is.chosen.relocation ≡ r_type_of (riscv_name name))
   adds_low =
       let by : IsOfEntry name (entry kinds.BaseToTp name by_low_offset) l.section (offset_of l i) is.chosen =
       of_entry l rewriting riscv i (Rewritten is.chosen) is.chosen is.below is.decided refl name low.own.after.named is.is_name
       (entry kinds.BaseToTp name by_low_offset) low.entries in
-      (low.adds l.section (offset_of l i) by.pattern, by.kind_is, by.code_is)
+      (low.adds l.section (offset_of l i) by.pattern, by.kind_is, by.r_type_is)
 
   pub low_part_is : MadePart l name i i kinds.BaseToTp instruction
   low_part_is =

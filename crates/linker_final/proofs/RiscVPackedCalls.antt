@@ -148,7 +148,7 @@ long_calls groups p is riscv i name stays symbol symbol_is small other_name of =
     let applied = instructions p is i call_row y
     (record {
       within = stays.within;
-      is_row = subst (λ a. IsRow a r.code (Some call_row)) machine
+      is_row = subst (λ a. IsRow a r.r_type (Some call_row)) machine
           (record { name = name; is_name = stays.is_name; value_is = sym row_is });
       bits = _;
       insn = _;

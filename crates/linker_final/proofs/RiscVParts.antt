@@ -1,11 +1,11 @@
 -- What new has of rewritten instructions of RISC-V, in the final bytes or once they are packed, is
 -- what the rewrites left, with the values of their relocations.
 use Rattle.std.proofs.Common.{◌≡◌, ℕ, ◌+◌, ◌/◌, ◌<◌, ◌≤◌, List, length, refl, sym, ap, subst, ◌∙◌, arith, Option, Some, Ok, IsSomeAnd}
-use Rattle.linker_final.proofs.Imports.{slice_get, BitRange, IsApplied, IsRow, IsNamed, code_of, Choice, addend_after, offset_after, pair_row, riscv_name, riscv_relocation, riscv_row, difference_64, value_of, Relative, RelativeRiscVLow12, RelocationKindInfo, Architecture, RiscV, Operands, IType, UType, RiscVRelocation, after_rewrite, decision_at, Rewritten, RewrittenWithSymbol, Subject, riscv_entries, riscv_rewrite, Relaxation, RiscV64, relocation_in, offset_at, operands_in, operands_of, operands_with, AreWritten, Addresses, Symbol, Rela}
+use Rattle.linker_final.proofs.Imports.{slice_get, BitRange, IsApplied, IsRow, IsNamed, r_type_of, Choice, addend_after, offset_after, pair_row, riscv_name, riscv_relocation, riscv_row, difference_64, value_of, Relative, RelativeRiscVLow12, RelocationKindInfo, Architecture, RiscV, Operands, IType, UType, RiscVRelocation, after_rewrite, decision_at, Rewritten, RewrittenWithSymbol, Subject, riscv_entries, riscv_rewrite, Relaxation, RiscV64, relocation_in, offset_at, operands_in, operands_of, operands_with, AreWritten, Addresses, Symbol, Rela}
 use Rattle.linker_elf.specs.declared.elf.RelocationInstruction.TheVariants as insns
 use Rattle.linker_elf.specs.declared.riscv64.relocations.RiscVRelocation.TheVariants as names
 use Rattle.linker_final.proofs.InstructionFields.{applied, applied_found, of_bits}
-use Rattle.linker_final.proofs.Joined.{code_is, final_inside, place_is, rewritten_inside, same_kept, within}
+use Rattle.linker_final.proofs.Joined.{r_type_is, final_inside, place_is, rewritten_inside, same_kept, within}
 use Rattle.linker_final.proofs.Labels.{low_found}
 use Rattle.linker_final.proofs.Phases.{bytes_left, last_length, last_within, later_bytes, relocation_left}
 use Rattle.linker_final.proofs.RiscVChosen.{Becomes, EachBecomes, becomes_of, of_subject}
@@ -40,7 +40,7 @@ record Output : Type 0 where
 -- has a name.
 record IsIn (l : Linked) (o : Output) (name : RiscVRelocation) (n place : ℕ) : Type 0 where
   pub within : n < length o.relocations / 24
-  pub code : (relocation_in o.relocations n).code ≡ code_of (riscv_name name)
+  pub r_type : (relocation_in o.relocations n).r_type ≡ r_type_of (riscv_name name)
   pub place_is : offset_at o.relocations n ≡ place
   pub same : instruction_at o.before place ≡ instruction_at l.rewritten (offset_of l n)
   pub inside : place + 4 ≤ length o.after
@@ -49,12 +49,12 @@ record IsIn (l : Linked) (o : Output) (name : RiscVRelocation) (n place : ℕ) :
 
 module _ (l : Linked) (o : Output) (name : RiscVRelocation) (n place : ℕ) (there : IsIn l o name n place)
     (a : IsAfter name) where
-  row_is : IsRow o.architecture (relocation_in o.relocations n).code (Some a.row)
+  row_is : IsRow o.architecture (relocation_in o.relocations n).r_type (Some a.row)
   row_is =
       row_in o.architecture o.addresses o.relocations o.symbols (relocation_in o.relocations n) a.row
-      (subst (λ code. IsRowOf o.architecture code a.row) (sym there.code) (λ found is.
+      (subst (λ code. IsRowOf o.architecture code a.row) (sym there.r_type) (λ found is.
       by_name riscv_name (λ (n : RiscVRelocation). (riscv_relocation n).row) name a.named found
-      (subst (λ x. IsRow x (code_of (riscv_name name)) found) o.riscv is) ∙ a.is))
+      (subst (λ x. IsRow x (r_type_of (riscv_name name)) found) o.riscv is) ∙ a.is))
       (o.written.can.found n) (o.written.can.are_found n there.within)
 
   -- the instruction has the value of operands
@@ -166,13 +166,13 @@ module _ (l : Linked) (rewriting : AreRewritten l) (kind : RewriteKind) (new : �
     (rewrites : riscv_rewrite kind ≡ Some (rewrites_word new)) where
   -- by itself
   pub part_alone : (i : ℕ) (chosen : Choice Relaxation ℕ) → i < count l → decision_at l.decisions i ≡ Rewritten chosen
-      → chosen.kind ≡ relaxations.RiscV kind → (name : RiscVRelocation) → chosen.relocation ≡ code_of (riscv_name name)
+      → chosen.kind ≡ relaxations.RiscV kind → (name : RiscVRelocation) → chosen.relocation ≡ r_type_of (riscv_name name)
       → offset_of l i + 4 ≤ length l.section → MadePart l name i i kind (instruction_at l.section (offset_of l i))
-  part_alone i chosen below decided kind_is name code_is inside =
+  part_alone i chosen below decided kind_is name r_type_is inside =
       record {
         part = record {
           below = below;
-          left = rewritten_after l rewriting i chosen below kind name kind_is code_is
+          left = rewritten_after l rewriting i chosen below kind name kind_is r_type_is
               (λ o. ap (λ q. offset_after q o) rewrites) (λ a. ap (λ q. addend_after q a) rewrites) decided;
           inside = inside;
           bytes = λ _. made_bytes l rewriting i below (Rewritten chosen) decided chosen kind kind_is new rewrites (λ done. done);
@@ -193,9 +193,9 @@ module _ (l : Linked) (rewriting : AreRewritten l) (kind : RewriteKind) (new : �
       record {
         part = record {
           below = of.below;
-          left = redirected_after l rewriting n of.chosen of.below kind after of.kind_is one.code_is
+          left = redirected_after l rewriting n of.chosen of.below kind after of.kind_is one.r_type_is
               (λ o. ap (λ q. offset_after q o) rewrites) (λ a. ap (λ q. addend_after q a) rewrites) of.subject of.decided
-              ∙ ap (λ (s : Subject). rela o (code_of (riscv_name after)) s.symbol s.addend)
+              ∙ ap (λ (s : Subject). rela o (r_type_of (riscv_name after)) s.symbol s.addend)
               (of_subject l rewriting n of.chosen of.subject of.below of.decided high of.labels);
           inside = inside;
           bytes = λ _. made_bytes l rewriting n of.below decision of.decided of.chosen kind of.kind_is new rewrites (λ done. done);
@@ -257,7 +257,7 @@ module _ (l : Linked) (riscv : l.context.architecture ≡ RiscV) where
         let ll = last_length l linked in
         record {
           within = last_within l linked n part.below;
-          code = ap (λ (x : Rela). x.code) last;
+          r_type = ap (λ (x : Rela). x.r_type) last;
           place_is = ap (λ (x : Rela). x.offset) last;
           same = bytes_left l linked n (offset_of l n) 4 left;
           inside = omega (arith, inside, sl, fl, ll);
@@ -268,11 +268,11 @@ module _ (l : Linked) (riscv : l.context.architecture ≡ RiscV) where
     in_packed : (p : Packed) (joined : IsRewrittenAndPacked l p) (machine : p.machine ≡ RiscV64) → IsKeptInstruction p n
         → UntouchedInstruction l n → IsIn l (packed_output p joined machine) name n (place_of p (offset_of l n))
     in_packed p joined machine kept left =
-        let code = code_of (riscv_name name) in
+        let code = r_type_of (riscv_name name) in
         let r = relocation_in l.relocations subject in
         record {
           within = within l p joined n part.below code r.symbol r.addend part.left kept left;
-          code = code_is l p joined n part.below code r.symbol r.addend part.left kept left;
+          r_type = r_type_is l p joined n part.below code r.symbol r.addend part.left kept left;
           place_is = place_is l p joined n part.below code r.symbol r.addend part.left kept left;
           same = same_kept l p joined n part.below code r.symbol r.addend part.left kept left;
           inside = final_inside l p joined n part.below code r.symbol r.addend part.left kept left;

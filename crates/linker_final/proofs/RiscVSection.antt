@@ -53,13 +53,13 @@ module _ (l : Linked) (made : AreRewritten l) (riscv : l.context.architecture �
 
     record IsScoped : Type 0 where
       pub name : RiscVRelocation
-      pub is_name : IsNameOf riscv_name (relocation_in l.relocations i).code name
+      pub is_name : IsNameOf riscv_name (relocation_in l.relocations i).r_type name
       pub by : By (riscv_scope_in l.context.phase name)
 
     scoped : is_taken l.decisions i ≡ false → IsScoped
     scoped free =
         let alone = subst (λ t. IsDecidedAfter l.context l.kept l.relocations l.section i t (decision_at l.decisions i)) free (made.decided i below) in
-        let scope = subst (λ x. IsScopeIn x l.context.phase (relocation_in l.relocations i).code (alone.0)) riscv (alone.1) in
+        let scope = subst (λ x. IsScopeIn x l.context.phase (relocation_in l.relocations i).r_type (alone.0)) riscv (alone.1) in
         record { name = scope.name; is_name = scope.is_name; by = subst By scope.value_is (alone.2) }
 
     skipped_by : IsScoped → (d : Decision) (chosen : Choice Relaxation ℕ) → decision_at l.decisions i ≡ d

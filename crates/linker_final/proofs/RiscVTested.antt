@@ -115,7 +115,7 @@ module _ (name : RiscVRelocation) (named : IsNamed (riscv_name name)) (kind : Re
   not_labelled : (phase : Phase) (code : ℕ) → IsNameOf riscv_name code name
       → IsScopeIn RiscV phase code Labelled → ⊥
   not_labelled phase code is_name scope =
-      let same : scope.name ≡ name = scope.is_name.named name named is_name.code_is in
+      let same : scope.name ≡ name = scope.is_name.named name named is_name.r_type_is in
       let e : true ≡ false = ap is_labelled (scope.value_is ∙ ap (riscv_scope_in phase) same) ∙ unlabelled phase in cc
 
   low_of : OffsetsAreLowOf name
@@ -126,9 +126,9 @@ module _ (name : RiscVRelocation) (named : IsNamed (riscv_name name)) (kind : Re
       elim (chosen_or_labelled s l.kept l.relocations l.section l.decisions (count l) i (Rewritten chosen) chosen rewriting.decided below decided refl) [
         | inl alone ↦ alone.chosen
         | inr label ↦
-            absurd (not_labelled s.phase r.code is_name (subst (λ x. IsScopeIn x s.phase r.code Labelled) riscv label.scope_is))
+            absurd (not_labelled s.phase r.r_type is_name (subst (λ x. IsScopeIn x s.phase r.r_type Labelled) riscv label.scope_is))
       ] in
-      let h = of_table s.architecture riscv r.code l.section r.offset c.facts chosen c.is_choice c.changed name named is_name in
+      let h = of_table s.architecture riscv r.r_type l.section r.offset c.facts chosen c.is_choice c.changed name named is_name in
       elim (subst (λ es. IsOfApplied (AppliesToRiscV (HasPattern name) l.section r.offset c.facts) es h.named) entries h.applies) [
         | inl this ↦
             let test = this.0.1.1.0 in
@@ -210,7 +210,7 @@ never name named kind each l rewriting riscv i chosen subject below is_name deci
     let c = anyhow l rewriting i (RewrittenWithSymbol chosen subject) chosen below decided refl in
     let of = c.of_high subject refl in
     let high = relocation_in l.relocations of.high in
-    let scope = subst (λ x. IsScopeIn x s.phase r.code Labelled) riscv of.scope_is in
+    let scope = subst (λ x. IsScopeIn x s.phase r.r_type Labelled) riscv of.scope_is in
     let late : s.phase ≢ phases.PreLayout =
     λ early. let e : Labelled ≡ NotRelaxable = scope.value_is ∙ ap (λ (p : Phase). riscv_scope_in p scope.name) early in cc in
     let marked = is_label_marked s.architecture s.phase l.relocations i r of.high in
@@ -223,7 +223,7 @@ never name named kind each l rewriting riscv i chosen subject below is_name deci
     let entry_is : c.facts.operands.got_entry ≡ far_entry c.facts.operands =
     ap (λ (f : LinkFacts). f.operands.got_entry) (own.2)
     ∙ sym (ap (λ (f : LinkFacts). far_entry f.operands) (own.2)) in
-    let h = of_table s.architecture riscv r.code l.section r.offset c.facts chosen c.is_choice c.changed name named is_name in
+    let h = of_table s.architecture riscv r.r_type l.section r.offset c.facts chosen c.is_choice c.changed name named is_name in
     far c.facts.operands entry_is (subst (λ z. cast_unsigned w64 z < 2 ^ 64) (sym addend) (bits_below (from_le_bytes w64 (drop 16 (take 24 (drop (of.high * 24) l.relocations))))))
     (reaches name kind l.section r.offset c.facts h.named (ap (kind_in kind) (sym is ∙ h.kind_is)) known (riscv_entries name) each h.applies)
 

@@ -1,6 +1,6 @@
 -- Instructions of RISC-V and their relocations in the final bytes of a section.
 use Rattle.std.proofs.Common.{◌≡◌, ℕ, zero, suc, ℤ, ◌+◌, ◌-◌, ◌<◌, ◌≤◌, ◌^◌, List, [], ◌∷◌, length, drop, get_or, sym, ap, subst, ◌∙◌, arith, Some, Ok, refl}
-use Rattle.linker_final.proofs.Imports.{length-drop, length-take-le, All-drop, All-from_get_or, All-take, w32, from_le_bytes, to_le_bytes, offset_after, addend_after, rewritten, IsNamed, code_of, riscv_name, riscv_relocation, riscv_row, RelocationKindInfo, Choice, RiscVRelocation, after_rewrite, decision_at, IsDone, IsMade, relocation_after, Decision, RewrittenWithSymbol, Rewritten, Subject, riscv_rewrite, relocation_in, operands_in, operands_with, Addresses, Symbol, Rela, relaxation_rewrite, Relaxation, RiscV}
+use Rattle.linker_final.proofs.Imports.{length-drop, length-take-le, All-drop, All-from_get_or, All-take, w32, from_le_bytes, to_le_bytes, offset_after, addend_after, rewritten, IsNamed, r_type_of, riscv_name, riscv_relocation, riscv_row, RelocationKindInfo, Choice, RiscVRelocation, after_rewrite, decision_at, IsDone, IsMade, relocation_after, Decision, RewrittenWithSymbol, Rewritten, Subject, riscv_rewrite, relocation_in, operands_in, operands_with, Addresses, Symbol, Rela, relaxation_rewrite, Relaxation, RiscV}
 use Rattle.linker_final.proofs.Written.{rela}
 use Rattle.linker_final.proofs.InstructionFields.{IsOfInstruction}
 use Rattle.linker_final.specs.Final.{AreBytes, AreRewritten, Linked, count, instruction_at}
@@ -42,7 +42,7 @@ made_is new (p ∷ q ∷ r ∷ s ∷ t ∷ more) long = absurd (omega (arith, lo
 
 module _ (l : Linked) (made : AreRewritten l) (i : ℕ) (chosen : Choice Relaxation ℕ) (below : i < count l)
     (kind : RewriteKind) (name : RiscVRelocation) (kind_is : chosen.kind ≡ relaxations.RiscV kind)
-    (code_is : chosen.relocation ≡ code_of (riscv_name name))
+    (r_type_is : chosen.relocation ≡ r_type_of (riscv_name name))
     (unmoved : (o : ℕ) → offset_after (riscv_rewrite kind) o ≡ o)
     (same_addend : (a : ℤ) → addend_after (riscv_rewrite kind) a ≡ a) where
   abbrev r : Rela
@@ -50,21 +50,21 @@ module _ (l : Linked) (made : AreRewritten l) (i : ℕ) (chosen : Choice Relaxat
 
   after_is : (symbol : ℕ) (addend : ℤ)
       → rela (offset_after (relaxation_rewrite chosen.kind) r.offset) chosen.relocation symbol (addend_after (relaxation_rewrite chosen.kind) addend)
-      ≡ rela r.offset (code_of (riscv_name name)) symbol addend
+      ≡ rela r.offset (r_type_of (riscv_name name)) symbol addend
   after_is symbol addend =
       ap (λ k. rela (offset_after (relaxation_rewrite k) r.offset) chosen.relocation symbol (addend_after (relaxation_rewrite k) addend)) kind_is
       ∙ (ap (λ x. rela x chosen.relocation symbol (addend_after (riscv_rewrite kind) addend)) (unmoved r.offset)
-      ∙ (ap (λ x. rela r.offset x symbol (addend_after (riscv_rewrite kind) addend)) code_is
-      ∙ ap (λ x. rela r.offset (code_of (riscv_name name)) symbol x) (same_addend addend)))
+      ∙ (ap (λ x. rela r.offset x symbol (addend_after (riscv_rewrite kind) addend)) r_type_is
+      ∙ ap (λ x. rela r.offset (r_type_of (riscv_name name)) symbol x) (same_addend addend)))
 
   pub rewritten_after : decision_at l.decisions i ≡ Rewritten chosen
-      → relocation_in l.relocations_after i ≡ rela r.offset (code_of (riscv_name name)) r.symbol r.addend
+      → relocation_in l.relocations_after i ≡ rela r.offset (r_type_of (riscv_name name)) r.symbol r.addend
   rewritten_after decided =
       made.relocations i below ∙ (ap (λ d. relocation_after d r) decided ∙ after_is r.symbol r.addend)
 
   pub redirected_after : (subject : Subject) → decision_at l.decisions i ≡ RewrittenWithSymbol chosen subject
       → relocation_in l.relocations_after i
-      ≡ rela r.offset (code_of (riscv_name name)) subject.symbol subject.addend
+      ≡ rela r.offset (r_type_of (riscv_name name)) subject.symbol subject.addend
   redirected_after subject decided =
       made.relocations i below ∙ (ap (λ d. relocation_after d r) decided ∙ after_is subject.symbol subject.addend)
 

@@ -60,7 +60,7 @@ pub without_label : {architecture : Architecture} (l : Linked)
     → (i : ℕ) (chosen : Choice Relaxation ℕ) (subject : Subject) → i < count l
     → decision_at l.decisions i ≡ RewrittenWithSymbol chosen subject → ⊥
 without_label l decided same unlabelled i chosen subject below is =
-    let code = (relocation_in l.relocations i).code in
+    let code = (relocation_in l.relocations i).r_type in
     elim (chosen_or_labelled l.context l.kept l.relocations l.section l.decisions (count l) i (RewrittenWithSymbol chosen subject) chosen decided below is refl) [
       | inl alone ↦ let e : RewrittenWithSymbol chosen subject ≡ Rewritten chosen = alone.is in cc
       | inr label ↦ unlabelled l.context.phase code Labelled

@@ -1,6 +1,6 @@
 -- Instructions and their relocations in the bytes that rewrites leave, and in the final bytes.
 use Rattle.std.proofs.Common.{◌≡◌, ℕ, ℤ, ◌+◌, ◌-◌, ◌/◌, ◌<◌, ◌≤◌, ◌⊎◌, List, length, take, drop, sym, ap, subst, ◌∙◌, refl, inl, inr, arith, Option, Some, None, IsSomeAnd, Ok, Err, Result, true}
-use Rattle.linker_final.proofs.Imports.{cases_eq, cases_lt, cases_Bool, cond-true, cond-false, take-take, drop-drop, w32, from_le_bytes, slice_get, Rewrite, addend_after, offset_after, window_of_rewrite, RewriteWindow, IsApplied, IsNamed, code_of, bytes_row, value_of, RelocationKindInfo, Choice, Operands, decision_at, window_of, written_end_at, IsDone, IsMade, relocation_after, Decision, Rewritten, IsField, field_end, field_len, entry_of, relocation_in, IsInNoField, IsRowValue, IsValueBy, IsValueIn, entry_address, has_value, is_there, lacks_origin, value_by, offset_at, operands_by, operands_in, operands_of, operands_with, Addresses, Symbol, Entry, Rela, ValueError, NoEntry, IsRow, relaxation_rewrite, Relaxation, Architecture, word_of_front}
+use Rattle.linker_final.proofs.Imports.{cases_eq, cases_lt, cases_Bool, cond-true, cond-false, take-take, drop-drop, w32, from_le_bytes, slice_get, Rewrite, addend_after, offset_after, window_of_rewrite, RewriteWindow, IsApplied, IsNamed, r_type_of, bytes_row, value_of, RelocationKindInfo, Choice, Operands, decision_at, window_of, written_end_at, IsDone, IsMade, relocation_after, Decision, Rewritten, IsField, field_end, field_len, entry_of, relocation_in, IsInNoField, IsRowValue, IsValueBy, IsValueIn, entry_address, has_value, is_there, lacks_origin, value_by, offset_at, operands_by, operands_in, operands_of, operands_with, Addresses, Symbol, Entry, Rela, ValueError, NoEntry, IsRow, relaxation_rewrite, Relaxation, Architecture, word_of_front}
 use Rattle.std.proofs.lemmas.List.{drop-take}
 use Rattle.linker_elf.specs.ElfNames.{ElfName}
 use Rattle.linker_elf.specs.declared.elf.RelocationKind.TheVariants.{None as NoValue}
@@ -46,7 +46,7 @@ mapped each (Some x) is = each x is
 
 -- what the code of a name means
 pub by_name : {N A : Type 0} (elf : N → ElfName) (meaning : N → A) (name : N) → IsNamed (elf name)
-    → (value : A) → IsNamedValue elf meaning (code_of (elf name)) value → value ≡ meaning name
+    → (value : A) → IsNamedValue elf meaning (r_type_of (elf name)) value → value ≡ meaning name
 by_name elf meaning name named value is =
     is.value_is ∙ ap meaning (is.is_name.named name named refl)
 
@@ -56,18 +56,18 @@ IsRowOf architecture code row =
     (found : Option RelocationKindInfo) → IsRow architecture code found → found ≡ Some row
 
 pub row_in : (architecture : Architecture) (addresses : Addresses) (relocations : List ℕ) (symbols : List Symbol)
-    (r : Rela) (row : RelocationKindInfo) → IsRowOf architecture r.code row
+    (r : Rela) (row : RelocationKindInfo) → IsRowOf architecture r.r_type row
     → (found : _) → IsRowValue architecture addresses relocations symbols r (Ok found)
-    → IsRow architecture r.code (Some row)
+    → IsRow architecture r.r_type (Some row)
 row_in architecture addresses relocations symbols r row only (Some one) has =
-    subst (λ x. IsRow architecture r.code x) (only (Some (one.0)) has.is_row) has.is_row
+    subst (λ x. IsRow architecture r.r_type x) (only (Some (one.0)) has.is_row) has.is_row
 row_in architecture addresses relocations symbols r row only None marked =
-    subst (λ x. IsRow architecture r.code x) (only (marked.0) (marked.1)) (marked.1)
+    subst (λ x. IsRow architecture r.r_type x) (only (marked.0) (marked.1)) (marked.1)
 
 -- ---- relocations that rewrites leave
 
 abbrev pub rela : ℕ → ℕ → ℕ → ℤ → Rela
-rela offset code symbol addend = record { offset = offset; code = code; symbol = symbol; addend = addend }
+rela offset code symbol addend = record { offset = offset; r_type = code; symbol = symbol; addend = addend }
 
 pub with_operands : (row : RelocationKindInfo) (o p : Operands) (old new : List ℕ)
     → value_of row p ≡ value_of row o → IsApplied row o old new → IsApplied row p old new
@@ -77,7 +77,7 @@ with_operands row o p old new same is =
 module _ (l : Linked) (linked : IsLinked l) (i : ℕ) (below : i < count l) (n : ℕ) (some : 0 < n)
     (row : RelocationKindInfo) (of : IsOfInstruction n row)
     (after : Rela) (is_after : relocation_in l.relocations_after i ≡ after)
-    (left : UntouchedBytes l i after.offset n) (only : IsRowOf l.context.architecture after.code row)
+    (left : UntouchedBytes l i after.offset n) (only : IsRowOf l.context.architecture after.r_type row)
     (symbol : Symbol) (is_symbol : slice_get l.symbols after.symbol ≡ Some symbol) (got : ℕ)
     (entry_is : operands_by l.context.architecture l.addresses row after symbol
     (entry_address l.addresses symbol (entry_of row after.addend symbol.is_thread_local))
@@ -91,10 +91,10 @@ module _ (l : Linked) (linked : IsLinked l) (i : ℕ) (below : i < count l) (n :
   is_last : relocation_in l.relocations_last i ≡ after
   is_last = relocation_left l linked i after.offset n left below ∙ is_after
 
-  there : IsRow l.context.architecture (relocation_in l.relocations_last i).code (Some row)
+  there : IsRow l.context.architecture (relocation_in l.relocations_last i).r_type (Some row)
   there =
       row_in l.context.architecture l.addresses l.relocations_last l.symbols (relocation_in l.relocations_last i) row
-      (subst (λ (x : Rela). IsRowOf l.context.architecture x.code row) (sym is_last) only)
+      (subst (λ (x : Rela). IsRowOf l.context.architecture x.r_type row) (sym is_last) only)
       (linked.written.can.found i) (linked.written.can.are_found i within)
 
   -- is applied to the bytes between
@@ -111,7 +111,7 @@ module _ (l : Linked) (linked : IsLinked l) (i : ℕ) (below : i < count l) (n :
 
 -- a relocation that has a value has the operands of its formula
 module _ (l : Linked) (r : Rela) (row : RelocationKindInfo) (n : ℕ) (of : IsOfInstruction n row)
-    (only : IsRowOf l.context.architecture r.code row) where
+    (only : IsRowOf l.context.architecture r.r_type row) where
   by_row : (result : Result (Option ℤ) ValueError)
       → IsValueIn l.context.architecture l.addresses l.relocations_last l.symbols r (Some row) result
       → result ≡ value_by (lacks_origin l.addresses l.symbols row r) row
@@ -142,7 +142,7 @@ module _ (l : Linked) (r : Rela) (row : RelocationKindInfo) (n : ℕ) (of : IsOf
 pub entry_is_there : (l : Linked) → IsLinked l → (i : ℕ) → i < count l → (n : ℕ)
     (row : RelocationKindInfo) → IsOfInstruction n row
     → (after : Rela) → relocation_in l.relocations_last i ≡ after
-    → IsRowOf l.context.architecture after.code row
+    → IsRowOf l.context.architecture after.r_type row
     → (symbol : Symbol) → slice_get l.symbols after.symbol ≡ Some symbol
     → (entry : Entry) → entry_of row after.addend symbol.is_thread_local ≡ Some entry
     → is_there l.addresses symbol entry ≡ true
@@ -207,11 +207,11 @@ module _ (l : Linked) (rewriting : AreRewritten l) (i : ℕ) (chosen : Choice Re
       → chosen.relocation ≡ code
       → relocation_in l.relocations_after i
       ≡ rela (offset_after rewrite r.offset) code r.symbol (addend_after rewrite r.addend)
-  relocation_is rewrite code is code_is =
+  relocation_is rewrite code is r_type_is =
       rewriting.relocations i below
       ∙ (ap (λ d. relocation_after d r) decided
       ∙ (ap (λ q. rela (offset_after q r.offset) chosen.relocation r.symbol (addend_after q r.addend)) is
-      ∙ ap (λ x. rela (offset_after rewrite r.offset) x r.symbol (addend_after rewrite r.addend)) code_is))
+      ∙ ap (λ x. rela (offset_after rewrite r.offset) x r.symbol (addend_after rewrite r.addend)) r_type_is))
 
   -- what a rewrite leaves of its window, which begins at the relocation
   pub made_there : (made : Rewrite) → relaxation_rewrite chosen.kind ≡ Some made → made.back ≡ 0
@@ -290,12 +290,12 @@ of_row other None = other
 of_row other (Some row) = row
 
 module _ (l : Linked) (i : ℕ) (after : Rela) (is_after : relocation_in l.relocations_last i ≡ after)
-    (row : RelocationKindInfo) (only : IsRowOf l.context.architecture after.code row) where
+    (row : RelocationKindInfo) (only : IsRowOf l.context.architecture after.r_type row) where
   same_row : (other : RelocationKindInfo)
       → IsField l.context.architecture l.relocations_last l.last i other → other ≡ row
   same_row other field =
       ap (of_row other)
-      (only (Some other) (subst (λ (x : Rela). IsRow l.context.architecture x.code (Some other)) is_after field.is_row))
+      (only (Some other) (subst (λ (x : Rela). IsRow l.context.architecture x.r_type (Some other)) is_after field.is_row))
 
   -- one without a value has no field
   pub apart_without : row ≡ bytes_row NoValue 0 → (p : ℕ) → IsApart l i p
@@ -320,7 +320,7 @@ module _ (l : Linked) (i : ℕ) (after : Rela) (is_after : relocation_in l.reloc
 -- an instruction stays that no other relocation writes, where the own one is of no type
 pub unwritten_without : (l : Linked) → IsLinked l → (i : ℕ) → i < count l → (p : ℕ)
     → UntouchedBytes l i p 4 → IsRowOf l.context.architecture 0 (bytes_row NoValue 0)
-    → (relocation_in l.relocations_after i).code ≡ 0 → p + 4 ≤ length l.section
+    → (relocation_in l.relocations_after i).r_type ≡ 0 → p + 4 ≤ length l.section
     → IsWrittenByNoOther l i p → instruction_at l.final p ≡ instruction_at l.rewritten p
 unwritten_without l linked i below p left none gone inside alone =
     let is_last = relocation_left l linked i p 4 left below in

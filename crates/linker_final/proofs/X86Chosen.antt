@@ -1,6 +1,6 @@
 -- The rewrite that is chosen for a relocation of x86-64.
 use Rattle.std.proofs.Common.{◌≡◌, ℕ, ℤ, ◌<◌, List, [], ◌∷◌, refl, sym, ap, subst, ◌∙◌, inl, inr, ◌⊎◌}
-use Rattle.linker_final.proofs.Imports.{AllHold, choice, IsNamed, IsNameOf, code_of, x86_64_name, x86_64_row, Choice, LinkFacts, X86_64Relocation, chosen_at, decision_at, IsScopeIn, Rewritten, relocation_in, IsArchitectureChoice, relaxation_no_op, Relaxation, X86_64, Original, Table, X86Entry, opcode_at, x86_64_after, x86_64_table, RewriteKind}
+use Rattle.linker_final.proofs.Imports.{AllHold, choice, IsNamed, IsNameOf, r_type_of, x86_64_name, x86_64_row, Choice, LinkFacts, X86_64Relocation, chosen_at, decision_at, IsScopeIn, Rewritten, relocation_in, IsArchitectureChoice, relaxation_no_op, Relaxation, X86_64, Original, Table, X86Entry, opcode_at, x86_64_after, x86_64_table, RewriteKind}
 use Rattle.linker_elf.specs.Choices.{Applies, IsFirst}
 use Rattle.linker_final.proofs.X86Names.{unlabelled}
 use Rattle.linker_final.specs.Final.{Linked, IsLinked, count}
@@ -12,7 +12,7 @@ use Rattle.linker_utils.specs.declared.x86_64.rewrites.RewriteKind.TheVariants a
 pub record IsOfEntry (pattern : List Original) (e : X86Entry) (section : List ℕ) (o : ℕ) (addend : ℤ)
     (chosen : Choice Relaxation ℕ) : Type 0 where
   pub kind_is : chosen.kind ≡ relaxations.X86_64 e.kind
-  pub code_is : chosen.relocation ≡ code_of (x86_64_name e.relocation)
+  pub r_type_is : chosen.relocation ≡ r_type_of (x86_64_name e.relocation)
   pub has_pattern : HasPattern pattern e.kind section o
   pub facts : LinkFacts
   pub same_addend : facts.operands.addend ≡ addend
@@ -28,7 +28,7 @@ module _ (name : X86_64Relocation) (section : List ℕ) (o : ℕ) (facts : LinkF
     (same_addend : facts.operands.addend ≡ addend)
     (chosen : Choice Relaxation ℕ) (named : Choice RewriteKind X86_64Relocation)
     (kind_is : chosen.kind ≡ relaxations.X86_64 named.kind)
-    (code_is : chosen.relocation ≡ code_of (x86_64_name named.relocation))
+    (r_type_is : chosen.relocation ≡ r_type_of (x86_64_name named.relocation))
     (changed : named ≡ choice kinds.NoOp name → ⊥) (pattern : List Original) where
   by_first : (es : List X86Entry)
       → IsFirst (Applies (HasPattern pattern) x86_64_row x86_64_after section o facts) es
@@ -38,7 +38,7 @@ module _ (name : X86_64Relocation) (section : List ℕ) (o : ℕ) (facts : LinkF
   by_first (e ∷ es) (inl this) =
       inl (record {
         kind_is = kind_is ∙ ap (λ (q : Choice RewriteKind X86_64Relocation). relaxations.X86_64 q.kind) (this.1);
-        code_is = code_is ∙ ap (λ (q : Choice RewriteKind X86_64Relocation). code_of (x86_64_name q.relocation)) (this.1);
+        r_type_is = r_type_is ∙ ap (λ (q : Choice RewriteKind X86_64Relocation). r_type_of (x86_64_name q.relocation)) (this.1);
         has_pattern = this.0.0;
         facts = facts;
         same_addend = same_addend;
@@ -52,7 +52,7 @@ IsOfTable t section o addend chosen = IsOfOne t.instructions t.entries section o
 -- of the relocation at an index
 pub record HasTable (l : Linked) (i : ℕ) (chosen : Choice Relaxation ℕ) : Type 0 where
   pub name : X86_64Relocation
-  pub is_name : IsNameOf x86_64_name (relocation_in l.relocations i).code name
+  pub is_name : IsNameOf x86_64_name (relocation_in l.relocations i).r_type name
   pub is : IsOfTable (x86_64_table name (opcode_at name l.section (relocation_in l.relocations i).offset))
       l.section (relocation_in l.relocations i).offset (relocation_in l.relocations i).addend chosen
 
@@ -62,16 +62,16 @@ pub has_table : (l : Linked) → IsLinked l → l.context.architecture ≡ X86_6
 has_table l linked x86 i chosen below decided =
     let r = relocation_in l.relocations i in
     let c = chosen_at l.context l.kept l.relocations l.section l.decisions (count l) i chosen linked.decided below decided
-    (λ scope is. unlabelled l.context.phase r.code scope (subst (λ x. IsScopeIn x l.context.phase r.code scope) x86 is)) in
-    let h = subst (λ x. IsArchitectureChoice x r.code l.section r.offset c.facts chosen) x86 c.is_choice in
+    (λ scope is. unlabelled l.context.phase r.r_type scope (subst (λ x. IsScopeIn x l.context.phase r.r_type scope) x86 is)) in
+    let h = subst (λ x. IsArchitectureChoice x r.r_type l.section r.offset c.facts chosen) x86 c.is_choice in
     let t = x86_64_table h.name (opcode_at h.name l.section r.offset) in
     record {
       name = h.name;
       is_name = h.is_name;
-      is = by_first h.name l.section r.offset c.facts r.addend c.addend chosen h.named h.kind_is h.code_is
+      is = by_first h.name l.section r.offset c.facts r.addend c.addend chosen h.named h.kind_is h.r_type_is
           (λ e. c.changed (
             subst relaxation_no_op (sym (h.kind_is ∙ ap (λ (q : Choice RewriteKind X86_64Relocation). relaxations.X86_64 q.kind) e)) refl,
-            h.code_is ∙ (ap (λ (q : Choice RewriteKind X86_64Relocation). code_of (x86_64_name q.relocation)) e ∙ h.is_name.code_is),
+            h.r_type_is ∙ (ap (λ (q : Choice RewriteKind X86_64Relocation). r_type_of (x86_64_name q.relocation)) e ∙ h.is_name.r_type_is),
           ))
           t.instructions t.entries h.is_choice;
     }
@@ -80,11 +80,11 @@ pub of_table : (l : Linked) → IsLinked l → l.context.architecture ≡ X86_64
     → (chosen : Choice Relaxation ℕ) → i < count l
     → decision_at l.decisions i ≡ Rewritten chosen
     → (name : X86_64Relocation) → IsNamed (x86_64_name name)
-    → IsNameOf x86_64_name (relocation_in l.relocations i).code name
+    → IsNameOf x86_64_name (relocation_in l.relocations i).r_type name
     → IsOfTable (x86_64_table name (opcode_at name l.section (relocation_in l.relocations i).offset))
     l.section (relocation_in l.relocations i).offset (relocation_in l.relocations i).addend chosen
 of_table l linked x86 i chosen below decided name named is_name =
     let r = relocation_in l.relocations i in
     let t = has_table l linked x86 i chosen below decided in
     subst (λ n. IsOfTable (x86_64_table n (opcode_at n l.section r.offset)) l.section r.offset r.addend chosen)
-    (t.is_name.named name named is_name.code_is) t.is
+    (t.is_name.named name named is_name.r_type_is) t.is

@@ -1,7 +1,7 @@
 -- The `lea` of a descriptor's address of x86-64 and the call of its function are groups in the
 -- final bytes.
 use Rattle.std.proofs.Common.{◌≡◌, ℕ, ◌+◌, ◌-◌, ◌^◌, ◌<◌, ◌≤◌, ◌||◌, Bool, List, [], ◌∷◌, length, drop, false, true, refl, sym, ap, subst, ◌∙◌, inl, inr, arith, IsTrue, Some, neg_ℤ, pos}
-use Rattle.linker_final.proofs.Imports.{slice_get, replaces, Symbol, x86_64_relocation_after, IsNamed, IsNameOf, code_of, x86_64_name, Choice, X86_64Relocation, thread_row, State, reg_after_rex, reg_after_rex2, seen, IsBefore, decision_at, Rewritten, relocation_in, is_of_got, operands_with, Rela, Relaxation, X86_64, is_at, is_one_at, x86_64_matches, x86_64_originals, x86_64_rewrite, RewriteKind}
+use Rattle.linker_final.proofs.Imports.{slice_get, replaces, Symbol, x86_64_relocation_after, IsNamed, IsNameOf, r_type_of, x86_64_name, Choice, X86_64Relocation, thread_row, State, reg_after_rex, reg_after_rex2, seen, IsBefore, decision_at, Rewritten, relocation_in, is_of_got, operands_with, Rela, Relaxation, X86_64, is_at, is_one_at, x86_64_matches, x86_64_originals, x86_64_rewrite, RewriteKind}
 use Rattle.linker_elf.specs.declared.x86_64.relocations.X86_64Relocation.TheVariants as names
 use Rattle.linker_final.proofs.Inner.{HasWindow, own_window}
 use Rattle.linker_final.proofs.Phases.{last_length}
@@ -25,7 +25,7 @@ use Rattle.std.proofs.lemmas.Bool.{or_cases, or_left, or_right}
 -- ---- the `lea`
 
 module _ (n : ℕ) (three : 3 ≤ n) (name : X86_64Relocation) (named : IsNamed (x86_64_name name))
-    (not_of_got : is_of_got X86_64 (code_of (x86_64_name name)) ≡ false)
+    (not_of_got : is_of_got X86_64 (r_type_of (x86_64_name name)) ≡ false)
     (register_of : List ℕ → ℕ)
     (shape : AreOf n 4 (lea_of_descriptor n))
     (of_offset : (bytes : List ℕ) (o : ℕ) → IsTrue (is_one_at (lea_of_descriptor n) bytes o)
@@ -37,7 +37,7 @@ module _ (n : ℕ) (three : 3 ≤ n) (name : X86_64Relocation) (named : IsNamed 
     (to_offset : LeaToOffset n name register_of) (to_entry : LeaToEntry n name register_of)
     (l : Linked) (linked : IsLinked l) (x86 : l.context.architecture ≡ X86_64) (i : ℕ)
     (chosen : Choice Relaxation ℕ) (below : i < count l)
-    (is_name : IsNameOf x86_64_name (relocation_in l.relocations i).code name)
+    (is_name : IsNameOf x86_64_name (relocation_in l.relocations i).r_type name)
     (decided : decision_at l.decisions i ≡ Rewritten chosen)
     (is : window_of name chosen.kind ≡ Some (window (lea register_of) n 4)) (small : n < 2 ^ 64)
   where
@@ -122,7 +122,7 @@ module _ (n : ℕ) (three : 3 ≤ n) (name : X86_64Relocation) (named : IsNamed 
         (before kind has symbol entry c s at (sym this.same_addend ∙ this.hold.1.1.1.0)) there
         (object_matches l i n 4 kind has (of_offset object o there)) at.applied
         (final_is l i n 4 kind has names.R_X86_64_TPOFF32 tpoff32
-        (ap (is_of_got X86_64) (sym is_name.code_is) ∙ not_of_got) this.code_is (omega arith) (omega arith) symbol is_symbol entry)
+        (ap (is_of_got X86_64) (sym is_name.r_type_is) ∙ not_of_got) this.r_type_is (omega arith) (omega arith) symbol is_symbol entry)
         at.old at.new h k descriptor
         (subst (λ x. Makes x symbol c k s operands (c.new_half h)) this.kind_is makes))
     lea_is_lawful (inr (inl this)) =
@@ -139,7 +139,7 @@ module _ (n : ℕ) (three : 3 ≤ n) (name : X86_64Relocation) (named : IsNamed 
         (to_entry symbol.thread_entry (made.0)) c s object at.original l.final o operands
         (before kind has symbol entry c s at (sym this.same_addend ∙ this.hold.1.1.0)) there
         (object_matches l i n 4 kind has (of_entry object o there)) at.applied
-        (entry_final l i n 4 kind has this.code_is symbol is_symbol (omega arith) (omega arith) entry)
+        (entry_final l i n 4 kind has this.r_type_is symbol is_symbol (omega arith) (omega arith) entry)
         at.old at.new h k descriptor (made.1))
     lea_is_lawful (inr (inr nothing)) = absurd nothing
 
@@ -157,7 +157,7 @@ module _ (law : groups.LeaOfDescriptor) (l : Linked) (linked : IsLinked l) (x86 
     abbrev it : Rela
     it = relocation_in l.relocations i
 
-    pub with_rex_is_lawful : IsNameOf x86_64_name it.code names.R_X86_64_GOTPC32_TLSDESC
+    pub with_rex_is_lawful : IsNameOf x86_64_name it.r_type names.R_X86_64_GOTPC32_TLSDESC
         → IsOfTable (descriptor_table 3) l.section it.offset it.addend chosen
         → IsLawful l i chosen names.R_X86_64_GOTPC32_TLSDESC (window (lea reg_after_rex) 3 4)
     with_rex_is_lawful is_name =
@@ -166,7 +166,7 @@ module _ (law : groups.LeaOfDescriptor) (l : Linked) (linked : IsLinked l) (x86 
         (λ bytes o is. first (is_at (with_rex rex_w 0x8d) bytes o) (is_at (with_rex2 rex2_w 0x8d) bytes o || false) is)
         refl refl (law.0) (law.1) l linked x86 i chosen below is_name decided refl (omega arith)
 
-    pub with_rex2_is_lawful : IsNameOf x86_64_name it.code names.R_X86_64_CODE_4_GOTPC32_TLSDESC
+    pub with_rex2_is_lawful : IsNameOf x86_64_name it.r_type names.R_X86_64_CODE_4_GOTPC32_TLSDESC
         → IsOfTable (descriptor_table 4) l.section it.offset it.addend chosen
         → IsLawful l i chosen names.R_X86_64_CODE_4_GOTPC32_TLSDESC (window (lea reg_after_rex2) 4 4)
     with_rex2_is_lawful is_name =
@@ -222,7 +222,7 @@ module _ (law : groups.CallOfDescriptor) (l : Linked) (linked : IsLinked l)
               (old
               ∙ same_windows at 2 l.section object (has.room.1) (object_length l i 0 2 skip has)
               (λ j from less. object_same l i 0 2 skip has j (omega (arith, from)) less))
-              (subst (λ xs. Stands c.new s.pc 2 (drop at xs)) (sym (unrelocated l i 0 2 skip has this.code_is))
+              (subst (λ xs. Stands c.new s.pc 2 (drop at xs)) (sym (unrelocated l i 0 2 skip has this.r_type_is))
               (subst (λ n. Stands c.new s.pc 2 (drop n l.final)) (let e : at - 0 ≡ at = omega arith in e)
               (subst (λ a. Stands c.new a 2 (drop (at - 0) l.final)) (sym pc) (final (at - 0) 2 (omega (arith, high, long))))));
         }

@@ -1,6 +1,6 @@
 -- A rewritten instruction of x86-64 is a group in the final bytes.
 use Rattle.std.proofs.Common.{◌≡◌, ℕ, ℤ, pos, ◌+◌, ◌-◌, ◌^◌, ◌<◌, ◌≤◌, List, length, false, refl, sym, ap, subst, ◌∙◌, arith, Option, Some, IsSomeAnd}
-use Rattle.linker_final.proofs.Imports.{cond-false, slice_get, Rewrite, rewritten, offset_after, operands_after, IsNameOf, code_of, sum_64, difference_64, value_of, x86_64_name, x86_64_row, RelocationKindInfo, Choice, Operands, X86_64Relocation, seen, IsBefore, decision_at, Rewritten, loads_plt_word, relocation_in, operands_with, operands_in, is_of_got, Addresses, Symbol, Rela, IsRow, Relaxation, X86_64, x86_64_relocation_after, x86_64_rewrite, x86_64_originals, RewriteKind}
+use Rattle.linker_final.proofs.Imports.{cond-false, slice_get, Rewrite, rewritten, offset_after, operands_after, IsNameOf, r_type_of, sum_64, difference_64, value_of, x86_64_name, x86_64_row, RelocationKindInfo, Choice, Operands, X86_64Relocation, seen, IsBefore, decision_at, Rewritten, loads_plt_word, relocation_in, operands_with, operands_in, is_of_got, Addresses, Symbol, Rela, IsRow, Relaxation, X86_64, x86_64_relocation_after, x86_64_rewrite, x86_64_originals, RewriteKind}
 use Rattle.linker_final.proofs.Inner.{HasWindow}
 use Rattle.linker_final.proofs.X86Chosen.{of_table}
 use Rattle.linker_final.proofs.X86Lawful.{HasLaw, IsServed, of_choice, shaped_of}
@@ -27,7 +27,7 @@ with_parts o symbol addend place = record o { symbol = symbol; addend = addend; 
 
 module _ (addresses : Addresses) (after : X86_64Relocation) (a : IsAfterRow after) (symbol : Symbol)
     (r : Rela) (made : Rewrite) (code entry : ℕ) (small : r.offset < 2 ^ 64)
-    (before_is : is_of_got X86_64 r.code ≡ false) (after_is : is_of_got X86_64 code ≡ false) where
+    (before_is : is_of_got X86_64 r.r_type ≡ false) (after_is : is_of_got X86_64 code ≡ false) where
   abbrev r' : Rela
   r' = rela (made.offset r.offset) code r.symbol (made.addend r.addend)
 
@@ -42,7 +42,7 @@ module _ (addresses : Addresses) (after : X86_64Relocation) (a : IsAfterRow afte
 
   symbol_same : was.symbol ≡ is.symbol
   symbol_same =
-      cond-false (is_of_got X86_64 r.code) addresses.got_base _ before_is
+      cond-false (is_of_got X86_64 r.r_type) addresses.got_base _ before_is
       ∙ (a.placeless addresses symbol (sum_64 addresses.section r.offset) (sum_64 addresses.section (made.offset r.offset))
       ∙ sym (cond-false (is_of_got X86_64 code) addresses.got_base _ after_is))
 
@@ -69,8 +69,8 @@ module _ (addresses : Addresses) (after : X86_64Relocation) (a : IsAfterRow afte
 -- of a rewrite that leaves a relocation without an entry
 pub final_is : (l : Linked) (i back end : ℕ) (kind : RewriteKind) (is : HasRewrite l i back end kind)
     (after : X86_64Relocation) (a : IsAfterRow after)
-    → is_of_got X86_64 (relocation_in l.relocations i).code ≡ false
-    → is.chosen.relocation ≡ code_of (x86_64_name after)
+    → is_of_got X86_64 (relocation_in l.relocations i).r_type ≡ false
+    → is.chosen.relocation ≡ r_type_of (x86_64_name after)
     → (relocation_in l.relocations i).offset - back ≤ is.window.made.offset (relocation_in l.relocations i).offset
     → is.window.made.offset (relocation_in l.relocations i).offset + 4 ≤ (relocation_in l.relocations i).offset + end
     → (symbol : Symbol) → slice_get l.symbols (relocation_in l.relocations i).symbol ≡ Some symbol
@@ -83,7 +83,7 @@ pub final_is : (l : Linked) (i back end : ℕ) (kind : RewriteKind) (is : HasRew
     (put_back ((relocation_in l.relocations i).offset - back) (back + end) l.section l.final)
     (relocation_in l.relocations i).offset)
     l.final
-final_is l i back end kind is after a before_is code_is low high symbol is_symbol entry =
+final_is l i back end kind is after a before_is r_type_is low high symbol is_symbol entry =
     let r = relocation_in l.relocations i in
     let made = is.window.made in
     let relocation = rela (made.offset r.offset) is.chosen.relocation r.symbol (made.addend r.addend) in
@@ -92,8 +92,8 @@ final_is l i back end kind is after a before_is code_is low high symbol is_symbo
     ≡ value_of a.row (operands_with X86_64 l.addresses a.row symbol relocation 0) =
     ap (λ q. value_of a.row (operands_after q r.offset of_object)) is.window.is
     ∙ value_same l.addresses after a symbol r made is.chosen.relocation entry (offset_small l i back end kind is)
-    before_is (ap (is_of_got X86_64) code_is ∙ a.is_not_of_got) in
-    relocated_after l i back end kind is after a.row a.plain a.is a.named code_is
+    before_is (ap (is_of_got X86_64) r_type_is ∙ a.is_not_of_got) in
+    relocated_after l i back end kind is after a.row a.plain a.is a.named r_type_is
     (operands_with X86_64 l.addresses a.row symbol relocation 0)
     (ap (operands_in X86_64 l.addresses a.row relocation) is_symbol ∙ a.alone l.addresses symbol relocation)
     low high (operands_after (x86_64_rewrite kind) r.offset of_object) value
@@ -104,7 +104,7 @@ module _ (laws : Groups) (name : X86_64Relocation) (operand : GotOperand)
     (wanted : got_operand name ≡ Some operand) (l : Linked) (linked : IsLinked l)
     (x86 : l.context.architecture ≡ X86_64) (i : ℕ) (chosen : Choice Relaxation ℕ)
     (below : i < count l) (decided : decision_at l.decisions i ≡ Rewritten chosen)
-    (is_name : IsNameOf x86_64_name (relocation_in l.relocations i).code name)
+    (is_name : IsNameOf x86_64_name (relocation_in l.relocations i).r_type name)
   where
     abbrev r : Rela
     r = relocation_in l.relocations i
@@ -162,10 +162,10 @@ module _ (laws : Groups) (name : X86_64Relocation) (operand : GotOperand)
       small : o < 2 ^ 64
       small = offset_small l i operand.back 4 kind has_rewrite
 
-      before_is : is_of_got X86_64 r.code ≡ false
+      before_is : is_of_got X86_64 r.r_type ≡ false
       before_is =
           let got = got_name name operand wanted in
-          ap (is_of_got X86_64) (sym is_name.code_is) ∙ got.is_not_of_got
+          ap (is_of_got X86_64) (sym is_name.r_type_is) ∙ got.is_not_of_got
 
       module _ (a : IsAfterRow after) (symbol : Symbol) (is_symbol : slice_get l.symbols r.symbol ≡ Some symbol)
           (entry : ℕ) where
@@ -177,7 +177,7 @@ module _ (laws : Groups) (name : X86_64Relocation) (operand : GotOperand)
         relocated =
             let moves = law.within.moves o (has_rewrite.room.0) in
             let high = moves.1 in
-            final_is l i operand.back 4 kind has_rewrite after a before_is served.code_is
+            final_is l i operand.back 4 kind has_rewrite after a before_is served.r_type_is
             (moves.0) (omega (arith, high)) symbol is_symbol entry
 
       does_the_same : (a : IsAfterRow after) → DoesTheSame a.row
@@ -189,7 +189,7 @@ module _ (laws : Groups) (name : X86_64Relocation) (operand : GotOperand)
             offset = small;
             addresses = there.addresses;
             addend = addend_was l.addresses after a symbol r w.made chosen.relocation entry small
-                before_is (ap (is_of_got X86_64) served.code_is ∙ a.is_not_of_got)
+                before_is (ap (is_of_got X86_64) served.r_type_is ∙ a.is_not_of_got)
                 ∙ served.is_from_end;
             ip = there.pc;
           } in
@@ -205,7 +205,7 @@ module _ (laws : Groups) (name : X86_64Relocation) (operand : GotOperand)
     row_same : (row : RelocationKindInfo) (is_row : IsRow X86_64 chosen.relocation (Some row))
         → law.row.row ≡ row
     row_same row is_row =
-        let same = is_row.is_name.named after law.row.named (sym served.code_is) in
+        let same = is_row.is_name.named after law.row.named (sym served.r_type_is) in
         ap (of_row row) (sym (is_row.value_is ∙ (ap x86_64_row same ∙ law.row.is)))
 
     of_any_row : UntouchedByOthers l i (o - operand.back) (operand.back + 4) → (row : RelocationKindInfo)

@@ -1,6 +1,6 @@
 -- Each rewrite that is chosen for an instruction with an operand in the GOT has a law.
 use Rattle.std.proofs.Common.{◌≡◌, ℕ, ℤ, pos, neg_ℤ, ◌+◌, ◌≤◌, List, [], ◌∷◌, length, Bool, true, false, IsTrue, eqb, cond, refl, sym, ap, subst, ◌∙◌, inl, inr, arith, Option, Some, None}
-use Rattle.linker_final.proofs.Imports.{⊤, AllHold, choice, code_of, x86_64_name, x86_64_row, Choice, LinkFacts, Operands, X86_64Relocation, address, thread_offset, Relaxation, x86_64_relocation_after, Original, is_one_at, x86_64_matches, opcode_at, x86_64_originals, x86_64_rewrite, x86_64_after, x86_64_table, X86Entry, Table, RewriteKind}
+use Rattle.linker_final.proofs.Imports.{⊤, AllHold, choice, r_type_of, x86_64_name, x86_64_row, Choice, LinkFacts, Operands, X86_64Relocation, address, thread_offset, Relaxation, x86_64_relocation_after, Original, is_one_at, x86_64_matches, opcode_at, x86_64_originals, x86_64_rewrite, x86_64_after, x86_64_table, X86Entry, Table, RewriteKind}
 use Rattle.linker_elf.specs.declared.x86_64.relocations.X86_64Relocation.TheVariants as names
 use Rattle.linker_final.proofs.Inner.{IsWithin, within, lea, jump, wide}
 use Rattle.linker_final.proofs.X86Chosen.{IsOfOne, IsOfTable}
@@ -139,7 +139,7 @@ pub record IsServed (n : ℕ) (name : X86_64Relocation) (held : Operands → ℕ
   pub named : Choice RewriteKind X86_64Relocation
   pub has_law : HasLaw n name held section o named
   pub kind_is : chosen.kind ≡ relaxations.X86_64 named.kind
-  pub code_is : chosen.relocation ≡ code_of (x86_64_name named.relocation)
+  pub r_type_is : chosen.relocation ≡ r_type_of (x86_64_name named.relocation)
   pub is_from_end : addend ≡ neg_ℤ (pos 4)
 
 by_entries : (n : ℕ) (name : X86_64Relocation) (held : Operands → ℕ) (pattern : List Original)
@@ -152,7 +152,7 @@ by_entries n name held pattern (e ∷ es) section o addend chosen serve (inl thi
       named = choice e.kind e.relocation;
       has_law = serve.0.serve section o this.has_pattern;
       kind_is = this.kind_is;
-      code_is = this.code_is;
+      r_type_is = this.r_type_is;
       is_from_end = sym this.same_addend ∙ serve.1 this.facts (x86_64_after e.kind o this.facts.operands) this.hold;
     }
 by_entries n name held pattern (e ∷ es) section o addend chosen serve (inr other) =

@@ -1,6 +1,6 @@
 -- The names of relocations of operands in the GOT.
 use Rattle.std.proofs.Common.{◌≡◌, ℕ, true, false, refl, sym, ap, ◌∙◌, Option, Some, None}
-use Rattle.linker_final.proofs.Imports.{IsNamed, code_of, x86_64_name, Operands, X86_64Relocation, address, thread_offset, IsScopeIn, is_labelled, Scope, Labelled, Phase, is_of_got, X86_64}
+use Rattle.linker_final.proofs.Imports.{IsNamed, r_type_of, x86_64_name, Operands, X86_64Relocation, address, thread_offset, IsScopeIn, is_labelled, Scope, Labelled, Phase, is_of_got, X86_64}
 use Rattle.linker_elf.specs.declared.x86_64.relocations.X86_64Relocation.TheVariants as names
 use Rattle.linker_rewriting.proofs.LabelGroups.{x86_64_none}
 
@@ -27,7 +27,7 @@ got_operand name = None
 -- a code of its own, which isn't that of the GOT's address
 pub record IsGotName (name : X86_64Relocation) : Type 0 where
   pub named : IsNamed (x86_64_name name)
-  pub is_not_of_got : is_of_got X86_64 (code_of (x86_64_name name)) ≡ false
+  pub is_not_of_got : is_of_got X86_64 (r_type_of (x86_64_name name)) ≡ false
 
 pub got_name : (name : X86_64Relocation) (operand : GotOperand) → got_operand name ≡ Some operand
     → IsGotName name

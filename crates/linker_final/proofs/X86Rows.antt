@@ -1,6 +1,6 @@
 -- The rows of the relocations that x86-64's rewrites leave.
 use Rattle.std.proofs.Common.{◌≡◌, ℕ, ℤ, pos, negsuc, ◌%◌, ◌^◌, ◌<◌, false, refl, ap, arith, Some, Ok}
-use Rattle.linker_final.proofs.Imports.{ints, w64, cast_unsigned, int_rem_euclid, IsWithin, bit_bounds, IsNamed, code_of, bytes_row, signed_row, value_of, x86_64_name, x86_64_row, RelocationKindInfo, Relative, Absolute, TpOff, Signed, Operands, X86_64Relocation, operands_by, operands_with, entry_address, is_of_got, loads_plt_word, entry_of, Addresses, Symbol, Rela, X86_64}
+use Rattle.linker_final.proofs.Imports.{ints, w64, cast_unsigned, int_rem_euclid, IsWithin, bit_bounds, IsNamed, r_type_of, bytes_row, signed_row, value_of, x86_64_name, x86_64_row, RelocationKindInfo, Relative, Absolute, TpOff, Signed, Operands, X86_64Relocation, operands_by, operands_with, entry_address, is_of_got, loads_plt_word, entry_of, Addresses, Symbol, Rela, X86_64}
 use Rattle.linker_elf.specs.Rows.{unsigned_row}
 use Rattle.linker_elf.specs.declared.elf.Sign.TheVariants.{Unsigned}
 use Rattle.linker_elf.specs.declared.x86_64.relocations.X86_64Relocation.TheVariants as names
@@ -37,7 +37,7 @@ pub record IsAfterRow (name : X86_64Relocation) : Type 0 where
   -- the value doesn't read the entry
   pub same_value : (o : Operands) (entry plt : ℕ)
       → value_of row (record o { got_entry = entry; plt_entry = plt }) ≡ value_of row o
-  pub is_not_of_got : is_of_got X86_64 (code_of (x86_64_name name)) ≡ false
+  pub is_not_of_got : is_of_got X86_64 (r_type_of (x86_64_name name)) ≡ false
   pub named : IsNamed (x86_64_name name)
 
 pub pc32 : IsAfterRow names.R_X86_64_PC32

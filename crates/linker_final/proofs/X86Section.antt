@@ -28,14 +28,14 @@ module _ (laws : Groups) (l : Linked) (linked : IsLinked l) (x86 : l.context.arc
       × (Lawful l i chosen name ⊎ ((window_of name chosen.kind ≡ None) × (relaxation_rewrite chosen.kind ≡ None)))
 
   got : (name : X86_64Relocation) (back : ℕ) (held : Operands → ℕ) → got_operand name ≡ operand back held
-      → IsNameOf x86_64_name (relocation_in l.relocations i).code name → IsNamed (x86_64_name name)
+      → IsNameOf x86_64_name (relocation_in l.relocations i).r_type name → IsNamed (x86_64_name name)
       → window_of name chosen.kind ≡ Some (window (in_got held) back 4) → back < 2 ^ 64 → Outcome name
   got name back held wanted is_name named is few = (
     named,
     inl (window (in_got held) back 4, got_is_lawful laws name (record { back = back; held = held }) wanted l linked x86 i chosen below decided is_name is few),
   )
 
-  by_name : (name : X86_64Relocation) → IsNameOf x86_64_name (relocation_in l.relocations i).code name
+  by_name : (name : X86_64Relocation) → IsNameOf x86_64_name (relocation_in l.relocations i).r_type name
       → IsOfTable (x86_64_table name (opcode_at name l.section (offset_of l i))) l.section (offset_of l i) (relocation_in l.relocations i).addend chosen
       → Outcome name
   by_name names.R_X86_64_GOTPCREL is_name of = got names.R_X86_64_GOTPCREL 3 address refl is_name tt refl (omega arith)
@@ -69,12 +69,12 @@ module _ (laws : Groups) (l : Linked) (linked : IsLinked l) (x86 : l.context.arc
   by_name name is_name of = absurd of
 
   -- of instructions that are rewritten together
-  law_there : (name : X86_64Relocation) (w : Window) → IsNameOf x86_64_name (relocation_in l.relocations i).code name
+  law_there : (name : X86_64Relocation) (w : Window) → IsNameOf x86_64_name (relocation_in l.relocations i).r_type name
       → window_of name chosen.kind ≡ Some w → IsLawful l i chosen name w
   law_there name w is_name is =
       let t = has_table l linked x86 i chosen below decided in
       let made = by_name t.name t.is_name t.is in
-      let same : name ≡ t.name = is_name.named t.name (made.0) t.is_name.code_is in
+      let same : name ≡ t.name = is_name.named t.name (made.0) t.is_name.r_type_is in
       let there : window_of t.name chosen.kind ≡ Some w = ap (λ n. window_of n chosen.kind) (sym same) ∙ is in
       subst (λ n. IsLawful l i chosen n w) (sym same)
       (elim (made.1) [
@@ -93,7 +93,7 @@ module _ (laws : Groups) (l : Linked) (linked : IsLinked l) (x86 : l.context.arc
 
   -- one with a law
   in_window : (i : ℕ) (chosen : Choice Relaxation ℕ) → i < count l → decision_at l.decisions i ≡ Rewritten chosen
-      → (name : X86_64Relocation) → IsNameOf x86_64_name (relocation_in l.relocations i).code name
+      → (name : X86_64Relocation) → IsNameOf x86_64_name (relocation_in l.relocations i).r_type name
       → (w : Window) → IsLawful l i chosen name w → IsOutside l.relocations l.decisions i b ⊎ Shown
   in_window i chosen below decided name is_name w law =
       let o = offset_of l i in

@@ -1,6 +1,6 @@
 -- Calls of `__tls_get_addr` of x86-64 that were rewritten are groups in the final bytes.
 use Rattle.std.proofs.Common.{Some, ◌≡◌, ℕ, ◌+◌, ◌-◌, ◌^◌, ◌<◌, ◌≤◌, List, [], ◌∷◌, length, drop, refl, sym, ap, subst, ◌∙◌, inl, inr, arith, neg_ℤ, pos}
-use Rattle.linker_final.proofs.Imports.{⊤, slice_get, IsNameOf, code_of, x86_64_name, RelocationKindInfo, Choice, Operands, X86_64Relocation, rewritten, x86_64_relocation_after, thread_row, Kinds, State, seen, IsBefore, decision_at, Rewritten, relocation_in, is_of_got, operands_with, Symbol, Rela, Relaxation, X86_64, Original, puts, x86_64_matches, x86_64_originals, x86_64_rewrite, RewriteKind}
+use Rattle.linker_final.proofs.Imports.{⊤, slice_get, IsNameOf, r_type_of, x86_64_name, RelocationKindInfo, Choice, Operands, X86_64Relocation, rewritten, x86_64_relocation_after, thread_row, Kinds, State, seen, IsBefore, decision_at, Rewritten, relocation_in, is_of_got, operands_with, Symbol, Rela, Relaxation, X86_64, Original, puts, x86_64_matches, x86_64_originals, x86_64_rewrite, RewriteKind}
 use Rattle.linker_elf.specs.declared.x86_64.relocations.X86_64Relocation.TheVariants as names
 use Rattle.linker_final.proofs.Inner.{HasWindow, own_window}
 use Rattle.linker_final.proofs.X86Chosen.{IsOfEntry, IsOfTable}
@@ -126,23 +126,23 @@ module _ (l : Linked) (linked : IsLinked l) (x86 : l.context.architecture ≡ X8
           }
 
     -- of a variable
-    module _ (count : ℕ) (is_name : IsNameOf x86_64_name r.code names.R_X86_64_TLSGD)
+    module _ (count : ℕ) (is_name : IsNameOf x86_64_name r.r_type names.R_X86_64_TLSGD)
         (addend : r.addend ≡ neg_ℤ (pos 4)) (low : o - back ≤ has_window.made.offset o)
         (high : has_window.made.offset o + 4 ≤ o + (4 + call)) where
       to_local : x86_64_relocation_after kind names.R_X86_64_TLSGD ≡ Some names.R_X86_64_TPOFF32
           → groups.Rewritten back (back + (4 + call)) (x86_64_originals kind) names.R_X86_64_TLSGD kind
           (λ operands. operands)
           (IsThreadCall (back + 4) (back + (4 + call)) count (λ c k s k' o. ⊤))
-          → chosen.relocation ≡ code_of (x86_64_name names.R_X86_64_TPOFF32)
+          → chosen.relocation ≡ r_type_of (x86_64_name names.R_X86_64_TPOFF32)
           → (symbol : Symbol) → slice_get l.symbols r.symbol ≡ Some symbol
           → LawAt l i names.R_X86_64_TLSGD thread_row (around (variable count)) chosen.kind symbol
-      to_local after_is law code_is symbol is_symbol entry c s there k k' s' pointer holds returns =
+      to_local after_is law r_type_is symbol is_symbol entry c s there k k' s' pointer holds returns =
           some_and _ (x86_64_relocation_after kind names.R_X86_64_TLSGD) names.R_X86_64_TPOFF32 after_is law c s
           object there.original l.final o (operands_with X86_64 l.addresses thread_row symbol r entry)
           (before thread_row symbol entry names.R_X86_64_TLSGD c s there addend) (matches.1) matches
           there.applied
           (final_is l i back (4 + call) kind has names.R_X86_64_TPOFF32 tpoff32
-          (ap (is_of_got X86_64) (sym is_name.code_is)) code_is low high symbol is_symbol entry)
+          (ap (is_of_got X86_64) (sym is_name.r_type_is)) r_type_is low high symbol is_symbol entry)
           there.old there.new k k' s' pointer tt returns
 
       to_initial : x86_64_relocation_after kind names.R_X86_64_TLSGD ≡ Some names.R_X86_64_GOTTPOFF
@@ -153,17 +153,17 @@ module _ (l : Linked) (linked : IsLinked l) (x86 : l.context.architecture ≡ X8
           → ((symbol : Symbol) (c : Code) (k : Kinds) (s : State) (k' : Kinds) (o : Operands)
           → EntryHolds (relaxations.X86_64 kind) symbol c k s k' o
           → (symbol.thread_entry < 2 ^ 64) × AddsOffset symbol.thread_entry c k s k' o)
-          → chosen.relocation ≡ code_of (x86_64_name names.R_X86_64_GOTTPOFF)
+          → chosen.relocation ≡ r_type_of (x86_64_name names.R_X86_64_GOTTPOFF)
           → (symbol : Symbol) → slice_get l.symbols r.symbol ≡ Some symbol
           → LawAt l i names.R_X86_64_TLSGD thread_row (around (variable count)) chosen.kind symbol
-      to_initial after_is law reads code_is symbol is_symbol entry c s there k k' s' pointer holds returns =
+      to_initial after_is law reads r_type_is symbol is_symbol entry c s there k k' s' pointer holds returns =
           let operands = operands_with X86_64 l.addresses thread_row symbol r entry in
           let held = reads symbol c k s k' operands
           (subst (λ x. EntryHolds x symbol c k s k' operands) kind_is holds) in
           some_and _ (x86_64_relocation_after kind names.R_X86_64_TLSGD) names.R_X86_64_GOTTPOFF after_is
           (law symbol.thread_entry (held.0)) c s object there.original l.final o operands
           (before thread_row symbol entry names.R_X86_64_TLSGD c s there addend) (matches.1) matches
-          there.applied (entry_final l i back (4 + call) kind has code_is symbol is_symbol low high entry)
+          there.applied (entry_final l i back (4 + call) kind has r_type_is symbol is_symbol low high entry)
           there.old there.new k k' s' pointer (held.1) returns
 
     -- of a module
@@ -180,7 +180,7 @@ module _ (l : Linked) (linked : IsLinked l) (x86 : l.context.architecture ≡ X8
 
 module _ (law : groups.GeneralDynamic) (l : Linked) (linked : IsLinked l) (x86 : l.context.architecture ≡ X86_64)
     (i : ℕ) (chosen : Choice Relaxation ℕ) (below : i < count l)
-    (is_name : IsNameOf x86_64_name (relocation_in l.relocations i).code names.R_X86_64_TLSGD)
+    (is_name : IsNameOf x86_64_name (relocation_in l.relocations i).r_type names.R_X86_64_TLSGD)
     (decided : decision_at l.decisions i ≡ Rewritten chosen) where
   pub variable_is_lawful : IsOfTable general_dynamic_table l.section (relocation_in l.relocations i).offset (relocation_in l.relocations i).addend chosen
       → Lawful l i chosen names.R_X86_64_TLSGD
@@ -192,7 +192,7 @@ module _ (law : groups.GeneralDynamic) (l : Linked) (linked : IsLinked l) (x86 :
       names.R_X86_64_TLSGD (variable 2) refl (omega arith) (λ symbol w c s object. object) thread_row (λ alone symbol row by. (
         ap (of_row row) (by.1),
         to_local l linked x86 i chosen below decided kind this.kind_is 4 8 window shape this.has_pattern alone 2 is_name
-            (sym this.same_addend ∙ this.hold.1.1.1.0) (omega arith) (omega arith) refl (law.0) this.code_is symbol (by.0),
+            (sym this.same_addend ∙ this.hold.1.1.1.0) (omega arith) (omega arith) refl (law.0) this.r_type_is symbol (by.0),
       ))
   variable_is_lawful (inr (inl this)) =
       let kind = kinds.TlsGdToLocalExecLarge in
@@ -202,7 +202,7 @@ module _ (law : groups.GeneralDynamic) (l : Linked) (linked : IsLinked l) (x86 :
       names.R_X86_64_TLSGD (variable 3) refl (omega arith) (λ symbol w c s object. object) thread_row (λ alone symbol row by. (
         ap (of_row row) (by.1),
         to_local l linked x86 i chosen below decided kind this.kind_is 3 15 window shape this.has_pattern alone 3 is_name
-            (sym this.same_addend ∙ this.hold.1.1.1.0) (omega arith) (omega arith) refl (law.2) this.code_is symbol (by.0),
+            (sym this.same_addend ∙ this.hold.1.1.1.0) (omega arith) (omega arith) refl (law.2) this.r_type_is symbol (by.0),
       ))
   variable_is_lawful (inr (inr (inl this))) =
       let kind = kinds.TlsGdToInitialExec in
@@ -212,7 +212,7 @@ module _ (law : groups.GeneralDynamic) (l : Linked) (linked : IsLinked l) (x86 :
       names.R_X86_64_TLSGD (variable 2) refl (omega arith) (λ symbol w c s object. object) thread_row (λ alone symbol row by. (
         ap (of_row row) (by.1),
         to_initial l linked x86 i chosen below decided kind this.kind_is 4 8 window shape this.has_pattern alone 2 is_name
-            (sym this.same_addend ∙ this.hold.1.1.0) (omega arith) (omega arith) refl (law.1) (λ symbol c k s k' o holds. holds) this.code_is symbol (by.0),
+            (sym this.same_addend ∙ this.hold.1.1.0) (omega arith) (omega arith) refl (law.1) (λ symbol c k s k' o holds. holds) this.r_type_is symbol (by.0),
       ))
   variable_is_lawful (inr (inr (inr nothing))) = absurd nothing
 
@@ -231,7 +231,7 @@ module _ (law : groups.LocalDynamic) (l : Linked) (linked : IsLinked l) (x86 : l
       (block n) is (omega arith) (λ symbol w c s object. object) tls_module_row (λ alone symbol row by. (
         ap (of_row row) by,
         module_law l linked x86 i chosen below decided kind this.kind_is 3 call has_window shape this.has_pattern alone n of
-            this.code_is (sym this.same_addend ∙ this.hold.1.1.0) symbol,
+            this.r_type_is (sym this.same_addend ∙ this.hold.1.1.0) symbol,
       ))
 
   pub module_is_lawful : IsOfTable local_dynamic_table l.section (relocation_in l.relocations i).offset (relocation_in l.relocations i).addend chosen

@@ -1,7 +1,7 @@
 -- A GOT entry of a variable's offset, which rewrites of x86-64 leave in place of a call or of a
 -- descriptor.
 use Rattle.std.proofs.Common.{◌≡◌, ℕ, pos, ◌+◌, ◌-◌, ◌≤◌, cond, refl, sym, ap, subst, ◌∙◌, inl, inr, Some, None, Ok, Err}
-use Rattle.linker_final.proofs.Imports.{cases_Bool, slice_get, rewritten, offset_after, operands_after, code_of, value_of, x86_64_name, Operands, thread_row, tls_got_row, relocation_in, is_there, operands_by, operands_in, operands_of, operands_with, Symbol, Entry, ThreadOffset, Rela, NoEntry, X86_64, x86_64_rewrite, RewriteKind}
+use Rattle.linker_final.proofs.Imports.{cases_Bool, slice_get, rewritten, offset_after, operands_after, r_type_of, value_of, x86_64_name, Operands, thread_row, tls_got_row, relocation_in, is_there, operands_by, operands_in, operands_of, operands_with, Symbol, Entry, ThreadOffset, Rela, NoEntry, X86_64, x86_64_rewrite, RewriteKind}
 use Rattle.linker_elf.specs.declared.x86_64.relocations.X86_64Relocation.TheVariants as names
 use Rattle.linker_final.proofs.PlainRows.{are_there}
 use Rattle.linker_final.proofs.X86Finals.{moved}
@@ -18,7 +18,7 @@ abbrev with_place : Operands → ℕ → ℕ → Operands
 with_place o entry place = record o { got_entry = entry; place = place }
 
 module _ (l : Linked) (i back end : ℕ) (kind : RewriteKind) (is : HasRewrite l i back end kind)
-    (code_is : is.chosen.relocation ≡ code_of (x86_64_name names.R_X86_64_GOTTPOFF))
+    (r_type_is : is.chosen.relocation ≡ r_type_of (x86_64_name names.R_X86_64_GOTTPOFF))
     (symbol : Symbol) (is_symbol : slice_get l.symbols (relocation_in l.relocations i).symbol ≡ Some symbol)
   where
     abbrev r : Rela
@@ -46,7 +46,7 @@ module _ (l : Linked) (i back end : ℕ) (kind : RewriteKind) (is : HasRewrite l
               (are_there l.context.architecture l.addresses l.relocations_last l.symbols
               (relocation_in l.relocations_last i) tls_got_row
               (row_after l is.linked is.x86 i is.below names.R_X86_64_GOTTPOFF tt tls_got_row refl
-              (ap (λ (x : Rela). x.code) after ∙ code_is)) refl refl (written.found i)
+              (ap (λ (x : Rela). x.r_type) after ∙ r_type_is)) refl refl (written.found i)
               (written.are_found i (within_after l i back end kind is)) NoEntry
               (subst (λ x. operands_of x l.addresses l.symbols tls_got_row (relocation_in l.relocations_last i) ≡ Err NoEntry) (sym is.x86)
               (subst (λ x. operands_of X86_64 l.addresses l.symbols tls_got_row x ≡ Err NoEntry) (sym after) error)))
@@ -65,7 +65,7 @@ module _ (l : Linked) (i back end : ℕ) (kind : RewriteKind) (is : HasRewrite l
         let was = operands_with X86_64 l.addresses thread_row symbol r entry in
         let e = symbol.thread_entry in
         let q = operands_after (Some made) r.offset was in
-        relocated_after l i back end kind is names.R_X86_64_GOTTPOFF tls_got_row plain_entry refl tt code_is
+        relocated_after l i back end kind is names.R_X86_64_GOTTPOFF tls_got_row plain_entry refl tt r_type_is
         (operands_with X86_64 l.addresses tls_got_row symbol relocation e) taken low high
         (record (operands_after (x86_64_rewrite kind) r.offset was) { got_entry = e })
         (ap (λ m. value_of tls_got_row (record (operands_after m r.offset was) { got_entry = e })) is.window.is

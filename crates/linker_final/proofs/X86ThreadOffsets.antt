@@ -1,6 +1,6 @@
 -- Offsets in a module's block that became offsets from the thread pointer lead to the same address.
 use Rattle.std.proofs.Common.{◌≡◌, ℕ, ◌+◌, ◌-◌, ◌/◌, ◌^◌, ◌<◌, ◌≤◌, ◌⊎◌, List, length, take, drop, false, refl, sym, ap, subst, ◌∙◌, inl, inr, arith, cond, Some, Ok}
-use Rattle.linker_final.proofs.Imports.{cases_lt, cond-false, length-take-le, addend_after, offset_after, IsApplied, IsNamed, IsNameOf, code_of, number_of_bytes, sum_64, value_of, x86_64_name, x86_64_row, RelocationKind, RelocationKindInfo, Choice, Operands, X86_64Relocation, long_thread_row, thread_row, IsRelocatedBy, decision_at, relocation_after, Rewritten, Composes, IsField, begins_pair, continues, ends_pair, field_end, of_number, of_pair, entry_of, relocation_in, entry_address, is_of_got, offset_at, operands_by, operands_in, operands_of, operands_with, Addresses, Symbol, Rela, IsRow, relaxation_rewrite, Relaxation, X86_64}
+use Rattle.linker_final.proofs.Imports.{cases_lt, cond-false, length-take-le, addend_after, offset_after, IsApplied, IsNamed, IsNameOf, r_type_of, number_of_bytes, sum_64, value_of, x86_64_name, x86_64_row, RelocationKind, RelocationKindInfo, Choice, Operands, X86_64Relocation, long_thread_row, thread_row, IsRelocatedBy, decision_at, relocation_after, Rewritten, Composes, IsField, begins_pair, continues, ends_pair, field_end, of_number, of_pair, entry_of, relocation_in, entry_address, is_of_got, offset_at, operands_by, operands_in, operands_of, operands_with, Addresses, Symbol, Rela, IsRow, relaxation_rewrite, Relaxation, X86_64}
 use Rattle.std.proofs.lemmas.List.{drop_at}
 use Rattle.linker_elf.specs.declared.elf.RelocationKind.TheVariants as values
 use Rattle.linker_elf.specs.declared.x86_64.relocations.X86_64Relocation.TheVariants as names
@@ -80,7 +80,7 @@ record AreRows (n : ℕ) (block thread : RelocationKindInfo) : Type 0 where
   origin : (addresses : Addresses) (symbol : Symbol) (r : Rela) (entry : ℕ)
       → (operands_with X86_64 addresses block symbol r entry).tls_base ≡ addresses.module_origin
   same : (addresses : Addresses) (symbol : Symbol) (r : Rela) (code entry : ℕ)
-      → is_of_got X86_64 r.code ≡ false → is_of_got X86_64 code ≡ false → symbol.is_undefined_weak ≡ false
+      → is_of_got X86_64 r.r_type ≡ false → is_of_got X86_64 code ≡ false → symbol.is_undefined_weak ≡ false
       → value_of thread (counted_from addresses.thread_origin (operands_with X86_64 addresses block symbol r entry))
       ≡ value_of thread (operands_with X86_64 addresses thread symbol (rela r.offset code r.symbol r.addend) 0)
 
@@ -95,7 +95,7 @@ short_rows =
       origin = λ addresses symbol r entry. refl;
       same = λ addresses symbol r code entry before after strong.
           ap (λ x. value_of thread_row (with_symbol (counted_from addresses.thread_origin (operands_with X86_64 addresses block_row symbol r entry)) x))
-          (address_is addresses symbol r.code addresses.module_origin before strong
+          (address_is addresses symbol r.r_type addresses.module_origin before strong
           ∙ sym (address_is addresses symbol code addresses.thread_origin after strong));
     }
 
@@ -110,7 +110,7 @@ long_rows =
       origin = λ addresses symbol r entry. refl;
       same = λ addresses symbol r code entry before after strong.
           ap (λ x. value_of long_thread_row (with_symbol (counted_from addresses.thread_origin (operands_with X86_64 addresses long_block_row symbol r entry)) x))
-          (address_is addresses symbol r.code addresses.module_origin before strong
+          (address_is addresses symbol r.r_type addresses.module_origin before strong
           ∙ sym (address_is addresses symbol code addresses.thread_origin after strong));
     }
 
@@ -124,16 +124,16 @@ rest_is row o p before after is inside =
 module _ (n : ℕ) (read : ℕ → ℕ) (block_row thread_row : RelocationKindInfo)
     (rows : AreRows n block_row thread_row) (name after : X86_64Relocation)
     (is_block : x86_64_row name ≡ Some block_row) (is_thread : x86_64_row after ≡ Some thread_row)
-    (name_is : is_of_got X86_64 (code_of (x86_64_name name)) ≡ false)
-    (after_is : is_of_got X86_64 (code_of (x86_64_name after)) ≡ false)
+    (name_is : is_of_got X86_64 (r_type_of (x86_64_name name)) ≡ false)
+    (after_is : is_of_got X86_64 (r_type_of (x86_64_name after)) ≡ false)
     (named : IsNamed (x86_64_name after)) (law : LeadToTheSame n read name after)
     (l : Linked) (linked : IsLinked l) (x86 : l.context.architecture ≡ X86_64) (i : ℕ)
     (chosen : Choice Relaxation ℕ) (below : i < count l)
-    (is_name : IsNameOf x86_64_name (relocation_in l.relocations i).code name)
+    (is_name : IsNameOf x86_64_name (relocation_in l.relocations i).r_type name)
     (decided : decision_at l.decisions i ≡ Rewritten chosen)
     (stays : UntouchedBytes l i (relocation_in l.relocations i).offset n)
     (kind_is : chosen.kind ≡ relaxations.X86_64 kinds.NoOp)
-    (code_is : chosen.relocation ≡ code_of (x86_64_name after)) where
+    (r_type_is : chosen.relocation ≡ r_type_of (x86_64_name after)) where
   abbrev r : Rela
   r = relocation_in l.relocations i
 
@@ -150,9 +150,9 @@ module _ (n : ℕ) (read : ℕ → ℕ) (block_row thread_row : RelocationKindIn
       ∙ (ap (λ d. relocation_after d r) decided
       ∙ ap (λ k. rela (offset_after (relaxation_rewrite k) o) chosen.relocation r.symbol (addend_after (relaxation_rewrite k) r.addend)) kind_is))
 
-  row_there : IsRow l.context.architecture (relocation_in l.relocations_last i).code (Some thread_row)
+  row_there : IsRow l.context.architecture (relocation_in l.relocations_last i).r_type (Some thread_row)
   row_there =
-      row_after l linked x86 i below after named thread_row is_thread (ap (λ (x : Rela). x.code) r_after ∙ code_is)
+      row_after l linked x86 i below after named thread_row is_thread (ap (λ (x : Rela). x.r_type) r_after ∙ r_type_is)
 
   within : i < length l.relocations_last / 24
   within = last_within l linked i below
@@ -200,7 +200,7 @@ module _ (n : ℕ) (read : ℕ → ℕ) (block_row thread_row : RelocationKindIn
       let counted = counted_from pointed operands in
       let written = operands_with X86_64 l.addresses thread_row symbol relocation 0 in
       let origin : operands.tls_base ≡ image = rows.origin l.addresses symbol r entry in
-      let before_is : is_of_got X86_64 r.code ≡ false = ap (is_of_got X86_64) (sym is_name.code_is) ∙ name_is in
+      let before_is : is_of_got X86_64 r.r_type ≡ false = ap (is_of_got X86_64) (sym is_name.r_type_is) ∙ name_is in
       let taken : operands_of X86_64 l.addresses l.symbols thread_row relocation ≡ Ok written =
       ap (operands_in X86_64 l.addresses thread_row relocation) is_symbol ∙ rows.alone l.addresses symbol relocation in
       let field : UntouchedField n thread_row written o l.last l.final =
@@ -220,7 +220,7 @@ module _ (n : ℕ) (read : ℕ → ℕ) (block_row thread_row : RelocationKindIn
       (put_back_is o n l.section l.final inside_final (sym final_length)).same_len in
       let base : IsRelocatedBy thread_row counted o object l.final =
       relocated n thread_row rows.plain written counted o l.last l.final object field
-      (rows.same l.addresses symbol r chosen.relocation entry before_is (ap (is_of_got X86_64) code_is ∙ after_is) strong)
+      (rows.same l.addresses symbol r chosen.relocation entry before_is (ap (is_of_got X86_64) r_type_is ∙ after_is) strong)
       object_length (sym rl)
       (λ at outside. back_outside o n l.section l.final inside_final (sym final_length) at outside) in
       let of_object : IsRelocatedBy block_row operands o object original =
@@ -246,14 +246,14 @@ offsets law = (
       elim (of_table l linked x86 i chosen below decided names.R_X86_64_DTPOFF32 tt is_name) [
         | inl this ↦
             leads 4 extended block_row thread_row short_rows names.R_X86_64_DTPOFF32 names.R_X86_64_TPOFF32 refl refl
-            refl refl tt (law.0) l linked x86 i chosen below is_name decided stays this.kind_is this.code_is
+            refl refl tt (law.0) l linked x86 i chosen below is_name decided stays this.kind_is this.r_type_is
         | inr nothing ↦ absurd nothing
       ],
   λ l linked x86 i chosen below is_name decided stays.
       elim (of_table l linked x86 i chosen below decided names.R_X86_64_DTPOFF64 tt is_name) [
         | inl this ↦
             leads 8 (λ offset. offset) long_block_row long_thread_row long_rows names.R_X86_64_DTPOFF64 names.R_X86_64_TPOFF64
-            refl refl refl refl tt (law.1) l linked x86 i chosen below is_name decided stays this.kind_is this.code_is
+            refl refl refl refl tt (law.1) l linked x86 i chosen below is_name decided stays this.kind_is this.r_type_is
         | inr nothing ↦ absurd nothing
       ],
 )

@@ -1,6 +1,6 @@
 -- The window of an instruction or a sequence of x86-64 in the final bytes of a section.
 use Rattle.std.proofs.Common.{◌≡◌, ℕ, ℤ, ◌+◌, ◌-◌, ◌*◌, ◌/◌, ◌^◌, ◌<◌, ◌≤◌, ◌⊎◌, List, ◌++◌, length, take, drop, get_or, sym, ap, subst, ◌∙◌, inl, inr, arith, Option, Some, None, Ok, IsSomeAnd, IsTrue}
-use Rattle.linker_final.proofs.Imports.{cases_eq, cases_lt, length-drop, drop-drop, ext_get_or, get_or-drop, get_or_past, All-take, All-drop, All-get_or, w64, from_le_bytes, cast_unsigned, Rewrite, CanRewrite, IsRewritable, rewritten, rewrite_window, offset_after, addend_after, IsNamed, code_of, IsWritten, low_bytes, number_of_bytes, number_written, window_len, size_len, bytes_row, difference_64, sum_64, value_of, x86_64_name, x86_64_row, RelocationKindInfo, Choice, Operands, X86_64Relocation, AreAddresses, State, IsRelocatedBy, decision_at, written_end_at, IsDone, IsMade, relocation_after, Rewritten, one_info, IsField, field_end, field_len, relocation_in, IsInNoField, IsRowValue, operands_of, operands_with, offset_at, Symbol, Rela, IsRow, relaxation_rewrite, Relaxation, X86_64, x86_64_rewrite, x86_64_matches, x86_64_originals, Original, is_one_at, RewriteKind}
+use Rattle.linker_final.proofs.Imports.{cases_eq, cases_lt, length-drop, drop-drop, ext_get_or, get_or-drop, get_or_past, All-take, All-drop, All-get_or, w64, from_le_bytes, cast_unsigned, Rewrite, CanRewrite, IsRewritable, rewritten, rewrite_window, offset_after, addend_after, IsNamed, r_type_of, IsWritten, low_bytes, number_of_bytes, number_written, window_len, size_len, bytes_row, difference_64, sum_64, value_of, x86_64_name, x86_64_row, RelocationKindInfo, Choice, Operands, X86_64Relocation, AreAddresses, State, IsRelocatedBy, decision_at, written_end_at, IsDone, IsMade, relocation_after, Rewritten, one_info, IsField, field_end, field_len, relocation_in, IsInNoField, IsRowValue, operands_of, operands_with, offset_at, Symbol, Rela, IsRow, relaxation_rewrite, Relaxation, X86_64, x86_64_rewrite, x86_64_matches, x86_64_originals, Original, is_one_at, RewriteKind}
 use Rattle.std.proofs.lemmas.List.{take-append-drop}
 use Rattle.std.proofs.lemmas.List.Elements.{All-append}
 use Rattle.linker_elf.specs.declared.elf.RelocationKind.TheVariants.{None as NoValue}
@@ -54,7 +54,7 @@ small_byte bytes are i =
 -- ---- a relocation and its rewrite
 
 abbrev pub rela : ℕ → ℕ → ℕ → ℤ → Rela
-rela offset code symbol addend = record { offset = offset; code = code; symbol = symbol; addend = addend }
+rela offset code symbol addend = record { offset = offset; r_type = code; symbol = symbol; addend = addend }
 
 -- what a decision with a rewrite makes of a relocation, and its window
 after_by : (chosen : Choice Relaxation ℕ) (made : Rewrite) (r : Rela)
@@ -114,11 +114,11 @@ of_row other (Some row) = row
 
 -- a relocation of no type has none
 pub no_field : (l : Linked) → l.context.architecture ≡ X86_64 → (j : ℕ)
-    → (relocation_in l.relocations_last j).code ≡ 0 → (row : RelocationKindInfo)
+    → (relocation_in l.relocations_last j).r_type ≡ 0 → (row : RelocationKindInfo)
     → IsField l.context.architecture l.relocations_last l.last j row → ⊥
 no_field l x86 j code row field =
-    let there : IsRow X86_64 (relocation_in l.relocations_last j).code (Some row) =
-    subst (λ x. IsRow x (relocation_in l.relocations_last j).code (Some row)) x86 field.is_row in
+    let there : IsRow X86_64 (relocation_in l.relocations_last j).r_type (Some row) =
+    subst (λ x. IsRow x (relocation_in l.relocations_last j).r_type (Some row)) x86 field.is_row in
     let same : there.name ≡ names.R_X86_64_NONE = there.is_name.named names.R_X86_64_NONE tt (sym code) in
     let is : Some row ≡ Some (bytes_row NoValue 0) = there.value_is ∙ ap x86_64_row same in
     let row_is : row ≡ bytes_row NoValue 0 = ap (of_row row) is in
@@ -130,33 +130,33 @@ no_field l x86 j code row field =
 
 row_by : (l : Linked) → l.context.architecture ≡ X86_64 → (code : ℕ) (name : X86_64Relocation)
     → IsNamed (x86_64_name name) → (row : RelocationKindInfo) → x86_64_row name ≡ Some row
-    → code ≡ code_of (x86_64_name name)
+    → code ≡ r_type_of (x86_64_name name)
     → (found : _) → IsRow l.context.architecture code found → IsRow l.context.architecture code (Some row)
-row_by l x86 code name named row is code_is found has =
+row_by l x86 code name named row is r_type_is found has =
     let there : IsRow X86_64 code found = subst (λ x. IsRow x code found) x86 has in
-    let same : there.name ≡ name = there.is_name.named name named (sym code_is) in
+    let same : there.name ≡ name = there.is_name.named name named (sym r_type_is) in
     let mine : IsRow X86_64 code (Some row) =
     record { name = there.name; is_name = there.is_name; value_is = sym (ap x86_64_row same ∙ is) } in
     subst (λ x. IsRow x code (Some row)) (sym x86) mine
 
 row_in : (l : Linked) → l.context.architecture ≡ X86_64 → (r : Rela) (name : X86_64Relocation)
     → IsNamed (x86_64_name name) → (row : RelocationKindInfo) → x86_64_row name ≡ Some row
-    → r.code ≡ code_of (x86_64_name name)
+    → r.r_type ≡ r_type_of (x86_64_name name)
     → (found : _) → IsRowValue l.context.architecture l.addresses l.relocations_last l.symbols r (Ok found)
-    → IsRow l.context.architecture r.code (Some row)
-row_in l x86 r name named row is code_is (Some one) has =
-    row_by l x86 r.code name named row is code_is (Some (one.0)) has.is_row
-row_in l x86 r name named row is code_is None marked =
-    row_by l x86 r.code name named row is code_is (marked.0) (marked.1)
+    → IsRow l.context.architecture r.r_type (Some row)
+row_in l x86 r name named row is r_type_is (Some one) has =
+    row_by l x86 r.r_type name named row is r_type_is (Some (one.0)) has.is_row
+row_in l x86 r name named row is r_type_is None marked =
+    row_by l x86 r.r_type name named row is r_type_is (marked.0) (marked.1)
 
 -- a relocation of a code, once the section is written
 pub row_after : (l : Linked) → IsLinked l → l.context.architecture ≡ X86_64 → (i : ℕ) → i < count l
     → (name : X86_64Relocation) → IsNamed (x86_64_name name)
     → (row : RelocationKindInfo) → x86_64_row name ≡ Some row
-    → (relocation_in l.relocations_last i).code ≡ code_of (x86_64_name name)
-    → IsRow l.context.architecture (relocation_in l.relocations_last i).code (Some row)
-row_after l linked x86 i below name named row is code_is =
-    row_in l x86 (relocation_in l.relocations_last i) name named row is code_is (linked.written.can.found i)
+    → (relocation_in l.relocations_last i).r_type ≡ r_type_of (x86_64_name name)
+    → IsRow l.context.architecture (relocation_in l.relocations_last i).r_type (Some row)
+row_after l linked x86 i below name named row is r_type_is =
+    row_in l x86 (relocation_in l.relocations_last i) name named row is r_type_is (linked.written.can.found i)
     (linked.written.can.are_found i (last_within l linked i below))
 
 -- ---- one rewrite
@@ -351,7 +351,7 @@ module _ (l : Linked) (i back end : ℕ) (kind : RewriteKind) (is : HasRewrite l
 
     pub unrelocated : is.chosen.relocation ≡ 0 → rewritten (x86_64_rewrite kind) object o ≡ l.final
     unrelocated code =
-        let none : (relocation_in l.relocations_last i).code ≡ 0 = ap (λ (x : Rela). x.code) r_after ∙ code in
+        let none : (relocation_in l.relocations_last i).r_type ≡ 0 = ap (λ (x : Rela). x.r_type) r_after ∙ code in
         object_rewritten
         ∙ ext_get_or 0 between l.final between_length
         (λ at below. between_same at (λ from less row is_field. absurd (no_field l is.x86 i none row is_field)))
@@ -360,14 +360,14 @@ module _ (l : Linked) (i back end : ℕ) (kind : RewriteKind) (is : HasRewrite l
 
     pub relocated_after : (after : X86_64Relocation) (row : RelocationKindInfo) → IsPlain 4 row
         → x86_64_row after ≡ Some row → IsNamed (x86_64_name after)
-        → is.chosen.relocation ≡ code_of (x86_64_name after) → (taken : Operands)
+        → is.chosen.relocation ≡ r_type_of (x86_64_name after) → (taken : Operands)
         → operands_of X86_64 l.addresses l.symbols row (rela (w.made.offset o) is.chosen.relocation r.symbol (w.made.addend r.addend))
         ≡ Ok taken
         → start ≤ w.made.offset o → w.made.offset o + 4 ≤ o + end
         → (operands : Operands) → value_of row operands ≡ value_of row taken
         → IsRelocated after operands (offset_after (x86_64_rewrite kind) o)
         (rewritten (x86_64_rewrite kind) object o) l.final
-    relocated_after after row plain row_is named code_is taken taken_is low high operands same_value =
+    relocated_after after row plain row_is named r_type_is taken taken_is low high operands same_value =
         let p = w.made.offset o in
         let field : UntouchedField 4 row taken p l.last l.final =
         subst (λ (x : Rela). UntouchedField 4 row taken x.offset l.last l.final) r_after
@@ -383,10 +383,10 @@ module _ (l : Linked) (i back end : ℕ) (kind : RewriteKind) (is : HasRewrite l
         (subst (λ xs. IsRelocatedBy row operands (offset_after (x86_64_rewrite kind) o) xs l.final) (sym object_rewritten)
         (subst (λ q. IsRelocatedBy row operands (offset_after q o) between l.final) (sym w.is) base))
       where
-        row_there : IsRow l.context.architecture (relocation_in l.relocations_last i).code (Some row)
+        row_there : IsRow l.context.architecture (relocation_in l.relocations_last i).r_type (Some row)
         row_there =
             row_after l linked is.x86 i is.below after named row row_is
-            (ap (λ (x : Rela). x.code) r_after ∙ code_is)
+            (ap (λ (x : Rela). x.r_type) r_after ∙ r_type_is)
 
         others_apart : (j : ℕ) (other : RelocationKindInfo) → j < length l.relocations_last / 24
             → (j ≡ i → ⊥)
@@ -401,7 +401,7 @@ module _ (l : Linked) (i back end : ℕ) (kind : RewriteKind) (is : HasRewrite l
             → IsField l.context.architecture l.relocations_last l.last i other
             → (at < offset_at l.relocations_last i) ⊎ (field_end l.relocations_last l.last i other ≤ at)
         own_field at outside other is_field =
-            let same : other ≡ row = one_info l.context.architecture (relocation_in l.relocations_last i).code other row is_field.is_row row_there in
+            let same : other ≡ row = one_info l.context.architecture (relocation_in l.relocations_last i).r_type other row is_field.is_row row_there in
             let offset : offset_at l.relocations_last i ≡ w.made.offset o = ap (λ (x : Rela). x.offset) r_after in
             let long : field_len other (drop (offset_at l.relocations_last i) l.last) ≡ 4 =
             ap (λ x. field_len x (drop (offset_at l.relocations_last i) l.last)) same

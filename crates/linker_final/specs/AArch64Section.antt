@@ -29,7 +29,7 @@ use Rattle.linker_utils.specs.declared.aarch64.rewrites.RewriteKind.TheVariants 
 -- the relocation at an index has a name, and its instruction is rewritten
 pub record IsRewrittenOf (l : Linked) (name : AArch64Relocation) (i : ℕ) : Type 0 where
   pub below : i < count l
-  pub is_name : IsNameOf aarch64_name (relocation_in l.relocations i).code name
+  pub is_name : IsNameOf aarch64_name (relocation_in l.relocations i).r_type name
   pub chosen : Choice Relaxation ℕ
   pub decided : decision_at l.decisions i ≡ Rewritten chosen
 

@@ -22,7 +22,7 @@ use Rattle.linker_laws.specs.Schemes.{IsAddress, number_at}
 pub record IsOfRow (p : Packed) (i : ℕ) (row : RelocationKindInfo) : Type 0 where
   pub within : i < count p
   pub inside : offset_at p.relocations i ≤ length p.section.bytes
-  pub is_row : IsRow (architecture_of p.machine) (relocation_in p.relocations_after i).code
+  pub is_row : IsRow (architecture_of p.machine) (relocation_in p.relocations_after i).r_type
       (Some row)
 
 -- the number of the instruction's final bytes

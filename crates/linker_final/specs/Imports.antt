@@ -2,7 +2,7 @@
 pub use Rattle.linker_base.specs.Bits.{field}
 pub use Rattle.linker_elf.specs.Architectures.{IsRow}
 pub use Rattle.linker_elf.specs.Choices.{RowIsWithin}
-pub use Rattle.linker_elf.specs.ElfNames.{IsNameOf, code_of}
+pub use Rattle.linker_elf.specs.ElfNames.{IsNameOf, r_type_of}
 pub use Rattle.linker_elf.specs.LoongArch.{loongarch_form}
 pub use Rattle.linker_elf.specs.LoongArchRelocations.{loongarch_name, loongarch_row}
 pub use Rattle.linker_elf.specs.Relocate.{window_len}

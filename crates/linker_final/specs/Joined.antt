@@ -20,7 +20,7 @@ pub record IsRewrittenAndPacked (l : Linked) (p : Packed) : Type 0 where
 -- written.
 pub record IsKeptInstruction (p : Packed) (i : ℕ) : Type 0 where
   pub bytes : StayTogether p (offset_at p.relocations i) 4
-  pub code : (relocation_in p.relocations_after i).code ≡ (relocation_in p.relocations i).code
+  pub r_type : (relocation_in p.relocations_after i).r_type ≡ (relocation_in p.relocations i).r_type
 
 -- the final bytes of an instruction at an offset of the section before
 abbrev pub final_instruction : Packed → ℕ → List ℕ

@@ -105,7 +105,7 @@ LoadedAddressesAreMade =
 -- The relocation at an index has a name, and is of n bytes that stay.
 pub record StaysAs (p : Packed) (i : ℕ) (name : LoongArch64Relocation) (len : ℕ) : Type 0 where
   pub within : i < count p
-  pub is_name : IsNameOf loongarch_name (relocation_in p.relocations_after i).code name
+  pub is_name : IsNameOf loongarch_name (relocation_in p.relocations_after i).r_type name
   pub stays : StayTogether p (offset_at p.relocations i) len
 
 -- what its formula takes

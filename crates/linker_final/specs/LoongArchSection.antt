@@ -2,7 +2,7 @@
 -- ELF psABI, relaxation and the sequences of thread-local storage).
 use Rattle.std.specs.Prelude.{◌≡◌, ◌≢◌, ℕ, pos, ◌+◌, ◌<◌, ◌^◌, true, List, Some, ⊤}
 use Rattle.std.specs.Prelude.{IsSomeAnd, slice_get}
-use Rattle.linker_final.specs.Imports.{RowIsWithin, IsNameOf, code_of, loongarch_name}
+use Rattle.linker_final.specs.Imports.{RowIsWithin, IsNameOf, r_type_of, loongarch_name}
 use Rattle.linker_final.specs.Imports.{loongarch_row, sum_64, RelocationKindInfo, Choice, Operands}
 use Rattle.linker_final.specs.Imports.{LoongArch64Relocation, Fits32, IsRelocated, word_of}
 use Rattle.linker_final.specs.Imports.{AreAddresses, symbol_address, Group, Kinds, State, of_link}
@@ -39,7 +39,7 @@ pub record Rewrites (l : Linked) : Type 0 where
   pub i : ℕ
   pub below : i < count l
   pub name : LoongArch64Relocation
-  pub is_name : IsNameOf loongarch_name (relocation_in l.relocations i).code name
+  pub is_name : IsNameOf loongarch_name (relocation_in l.relocations i).r_type name
   pub scoped : loongarch_scope_in l.context.phase name ≢ NotRelaxable
   pub chosen : Choice Relaxation ℕ
   pub decided : decision_at l.decisions i ≡ Rewritten chosen
@@ -232,7 +232,7 @@ rewriting =
 
 -- the relocation with another name
 abbrev pub named_as : LoongArch64Relocation → Rela → Rela
-named_as name r = record r { code = code_of (loongarch_name name) }
+named_as name r = record r { r_type = r_type_of (loongarch_name name) }
 
 -- of the relocation at an index
 abbrev pub IsLeft : Left → Linked → ℕ → Type 0

@@ -220,7 +220,7 @@ address_at p o = address_of p.section (p.section.base + o)
 pub record HasValue (p : Packed) (i : ℕ) (row : RelocationKindInfo) (operands : Operands) : Type 0 where
   pub within : i < count p
   pub inside : offset_at p.relocations i ≤ length p.section.bytes
-  pub is_row : IsRow (architecture_of p.machine) (relocation_in p.relocations_after i).code
+  pub is_row : IsRow (architecture_of p.machine) (relocation_in p.relocations_after i).r_type
       (Some row)
   pub bits : BitRange
   pub insn : RelocationInstruction
@@ -247,7 +247,7 @@ PlacesAreRelocated =
 pub record IsRelocatedInstruction (p : Packed) (i : ℕ) (row : RelocationKindInfo)
     (operands : Operands) : Type 0 where
   pub within : i < count p
-  pub is_row : IsRow (architecture_of p.machine) (relocation_in p.relocations_after i).code
+  pub is_row : IsRow (architecture_of p.machine) (relocation_in p.relocations_after i).r_type
       (Some row)
   pub bits : BitRange
   pub insn : RelocationInstruction

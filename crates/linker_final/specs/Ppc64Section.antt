@@ -2,7 +2,7 @@
 -- V2 ABI for Power, "TOC Optimizations" and "TLS Linkage Optimizations").
 use Rattle.std.specs.Prelude.{◌≡◌, ◌⊎◌, ℕ, ◌+◌, ◌-◌, ◌*◌, ◌<◌, ◌≤◌, IsSomeAnd}
 use Rattle.std.specs.Prelude.{List, take, drop, get_or, slice_get, Some}
-use Rattle.linker_final.specs.Imports.{IsNameOf, code_of, sum_64, Choice, Group, Kinds, State}
+use Rattle.linker_final.specs.Imports.{IsNameOf, r_type_of, sum_64, Choice, Group, Kinds, State}
 use Rattle.linker_final.specs.Imports.{of_link, decision_at, Decision, Rewritten, Phase}
 use Rattle.linker_final.specs.Imports.{relocation_in, operands_with, Symbol, Relaxation}
 use Rattle.linker_elf.specs.Ppc64Relocations.{ppc64_name, ppc64_row}
@@ -28,7 +28,7 @@ pub record Rewrites (l : Linked) : Type 0 where
   pub i : ℕ
   pub below : i < count l
   pub name : Ppc64Relocation
-  pub is_name : IsNameOf ppc64_name (relocation_in l.relocations i).code name
+  pub is_name : IsNameOf ppc64_name (relocation_in l.relocations i).r_type name
   pub chosen : Choice Relaxation ℕ
   pub decided : decision_at l.decisions i ≡ Rewritten chosen
 
@@ -262,7 +262,7 @@ rewriting =
 abbrev pub NamesAreLeft : Type 0
 NamesAreLeft =
     (l : Linked) → IsLinked l → l.context.architecture ≡ Ppc64 → (g : Rewrites l)
-    → g.chosen.relocation ≡ code_of (ppc64_name (name_of (law_at l g).left))
+    → g.chosen.relocation ≡ r_type_of (ppc64_name (name_of (law_at l g).left))
 
 -- ---- what is rewritten again
 

@@ -3,7 +3,7 @@
 -- Addresses", "Local-Exec TLS Relaxation", "TLS Descriptors -> Local Exec Relaxation").
 use Rattle.std.specs.Prelude.{◌≡◌, ◌≢◌, ℕ, ◌+◌, ◌*◌, ◌<◌, ◌^◌, List, Some, IsSomeAnd, slice_get}
 use Rattle.std.specs.Prelude.{true}
-use Rattle.linker_final.specs.Imports.{IsNameOf, code_of, riscv_name, riscv_row, sum_64}
+use Rattle.linker_final.specs.Imports.{IsNameOf, r_type_of, riscv_name, riscv_row, sum_64}
 use Rattle.linker_final.specs.Imports.{RelocationKindInfo, Choice, Operands, RiscVRelocation}
 use Rattle.linker_final.specs.Imports.{loaded, Action, register, rs1_of, IsLowOffset, offset_row}
 use Rattle.linker_final.specs.Imports.{AreBefore, AreDeleted, Code, Has, Stands, link, seen}
@@ -34,14 +34,14 @@ pub record AreOfPair (l : Linked) (i j : ℕ) : Type 0 where
   pub first_below : i < count l
   pub second_below : j < count l
   pub next : (relocation_in l.relocations j).offset ≡ (relocation_in l.relocations i).offset + 4
-  pub high : IsNameOf riscv_name (relocation_in l.relocations i).code names.R_RISCV_GOT_HI20
-  pub low : IsNameOf riscv_name (relocation_in l.relocations j).code names.R_RISCV_PCREL_LO12_I
+  pub high : IsNameOf riscv_name (relocation_in l.relocations i).r_type names.R_RISCV_GOT_HI20
+  pub low : IsNameOf riscv_name (relocation_in l.relocations j).r_type names.R_RISCV_PCREL_LO12_I
   pub high_chosen : Choice Relaxation ℕ
   pub high_decided : decision_at l.decisions i ≡ Rewritten high_chosen
-  pub high_becomes : high_chosen.relocation ≡ code_of (riscv_name names.R_RISCV_PCREL_HI20)
+  pub high_becomes : high_chosen.relocation ≡ r_type_of (riscv_name names.R_RISCV_PCREL_HI20)
   pub low_chosen : Choice Relaxation ℕ
   pub low_decided : decision_at l.decisions j ≡ Rewritten low_chosen
-  pub low_becomes : low_chosen.relocation ≡ code_of (riscv_name names.R_RISCV_PCREL_LO12_I)
+  pub low_becomes : low_chosen.relocation ≡ r_type_of (riscv_name names.R_RISCV_PCREL_LO12_I)
 
 -- The pair is a group, with what new has. The entry holds S + A, and both addresses are of a kind.
 abbrev pub LoadIsAlike : Linked → ℕ → (Operands → Code → Type 0) → Type 0
@@ -110,7 +110,7 @@ SumGoes l i =
 pub record IsOfDescriptor (l : Linked) (high : ℕ) (name : RiscVRelocation) (distance : ℕ)
     (kind : RewriteKind) (n : ℕ) : Type 0 where
   pub below : n < count l
-  pub name_is : IsNameOf riscv_name (relocation_in l.relocations n).code name
+  pub name_is : IsNameOf riscv_name (relocation_in l.relocations n).r_type name
   pub following : (relocation_in l.relocations n).offset
       ≡ (relocation_in l.relocations high).offset + distance
   pub labels : IsHighIn l.context l.relocations (relocation_in l.relocations n) (Some high)
@@ -143,7 +143,7 @@ abbrev pub named_as : RiscVRelocation → Rela → Rela → Rela
 named_as name r subject =
     record {
       offset = r.offset;
-      code = code_of (riscv_name name);
+      r_type = r_type_of (riscv_name name);
       symbol = subject.symbol;
       addend = subject.addend;
     }
@@ -153,7 +153,7 @@ named_as name r subject =
 -- The relocation at an index is that of an `auipc`, which became a `lui`.
 pub record IsLuiOfLoad (l : Linked) (high : ℕ) : Type 0 where
   pub below : high < count l
-  pub name_is : IsNameOf riscv_name (relocation_in l.relocations high).code names.R_RISCV_GOT_HI20
+  pub name_is : IsNameOf riscv_name (relocation_in l.relocations high).r_type names.R_RISCV_GOT_HI20
   pub chosen : Choice Relaxation ℕ
   pub decided : decision_at l.decisions high ≡ Rewritten chosen
   pub kind_is : chosen.kind ≡ relaxations.RiscV kinds.AuipcToLui
@@ -161,7 +161,7 @@ pub record IsLuiOfLoad (l : Linked) (high : ℕ) : Type 0 where
 -- The one at another index is that of the `ld` after it, which became an `addi` of the address.
 pub record IsAddiOfLoad (l : Linked) (high low : ℕ) : Type 0 where
   pub rewritten : IsOfDescriptor l high names.R_RISCV_PCREL_LO12_I 4 kinds.LdToAddi low
-  pub becomes : rewritten.chosen.relocation ≡ code_of (riscv_name names.R_RISCV_LO12_I)
+  pub becomes : rewritten.chosen.relocation ≡ r_type_of (riscv_name names.R_RISCV_LO12_I)
 
 -- The object's pair is a group, in whose place new has n instructions, where S + A is the same in
 -- both layouts, and what is said of the operands holds.
@@ -182,7 +182,7 @@ abbrev pub OffsetsAreLowOf : RiscVRelocation → Type 0
 OffsetsAreLowOf name =
     (l : Linked) → AreRewritten l → l.context.architecture ≡ RiscV
     → (i : ℕ) (chosen : Choice Relaxation ℕ) → i < count l
-    → IsNameOf riscv_name (relocation_in l.relocations i).code name
+    → IsNameOf riscv_name (relocation_in l.relocations i).r_type name
     → decision_at l.decisions i ≡ Rewritten chosen
     → IsSomeAnd (riscv_row names.R_RISCV_TPREL_LO12_I) (OffsetIsLow l i)
 
@@ -197,7 +197,7 @@ abbrev pub IsNotRewrittenBy : RiscVRelocation → RewriteKind → Type 0
 IsNotRewrittenBy name kind =
     (l : Linked) → AreRewritten l → l.context.architecture ≡ RiscV
     → (i : ℕ) (chosen : Choice Relaxation ℕ) (subject : Subject) → i < count l
-    → IsNameOf riscv_name (relocation_in l.relocations i).code name
+    → IsNameOf riscv_name (relocation_in l.relocations i).r_type name
     → decision_at l.decisions i ≡ RewrittenWithSymbol chosen subject
     → chosen.kind ≢ relaxations.RiscV kind
 

@@ -15,7 +15,7 @@ use Rattle.linker_laws.specs.RiscVGroups.{IsLeftOut, upper}
 use Rattle.linker_laws.specs.RiscVMachine.{stores, stores_float}
 use Rattle.linker_laws.specs.RiscVRewriteLaws.{low_row, word_of}
 use Rattle.linker_rewriting.specs.GlobalPointer.{address_of, base_for, based_relocation}
-use Rattle.linker_rewriting.specs.GlobalPointer.{is_low_word, low_code}
+use Rattle.linker_rewriting.specs.GlobalPointer.{is_low_word, low_r_type}
 use Rattle.linker_utils.specs.RiscVRewrites.{IsAuipc, lo12, rewrites_word, with_rs1}
 
 -- A register has what the high part of an address leaves: with the low part of its value it is the
@@ -72,11 +72,11 @@ LowPartsFromBase =
 -- from its base as its own S + A.
 abbrev pub ValuesAreDistances : Type 0
 ValuesAreDistances =
-    (addresses : Addresses) (values : List Symbol) (gp : ℕ) (r : Rela) (value : Symbol) (code : ℕ)
+    (addresses : Addresses) (values : List Symbol) (gp : ℕ) (r : Rela) (value : Symbol) (r_type : ℕ)
     (base : ℕ × ℕ) → gp < 2 ^ 64 → slice_get values r.symbol ≡ Some value
-    → low_code r.code ≡ Some code → base_for gp (address_of addresses r value) ≡ Some base
+    → low_r_type r.r_type ≡ Some r_type → base_for gp (address_of addresses r value) ≡ Some base
     → let after = based_relocation addresses values gp r in
-    (after.code ≡ code) × (after.symbol ≡ r.symbol)
+    (after.r_type ≡ r_type) × (after.symbol ≡ r.symbol)
     × (address_of addresses after value ≡ difference_64 (address_of addresses r value) (base.1))
 
 -- ---- high parts

@@ -71,7 +71,7 @@ SitesCallTheSame =
 pub record StaysCall (p : Packed) (i : ℕ) (name : RiscVRelocation) : Type 0 where
   pub within : i < count p
   pub of_call : IsOfCall name
-  pub is_name : IsNameOf riscv_name (relocation_in p.relocations_after i).code name
+  pub is_name : IsNameOf riscv_name (relocation_in p.relocations_after i).r_type name
   pub call : IsCallAt p.section.bytes (offset_at p.relocations i)
   pub stays : StayTogether p (offset_at p.relocations i) 8
 

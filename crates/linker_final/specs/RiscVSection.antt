@@ -30,7 +30,7 @@ use Rattle.linker_utils.specs.declared.riscv64.rewrites.RewriteKind.TheVariants 
 -- the relocation at an index has a name, and its instruction is rewritten
 pub record IsRewrittenOf (l : Linked) (name : RiscVRelocation) (i : ℕ) : Type 0 where
   pub below : i < count l
-  pub is_name : IsNameOf riscv_name (relocation_in l.relocations i).code name
+  pub is_name : IsNameOf riscv_name (relocation_in l.relocations i).r_type name
   pub chosen : Choice Relaxation ℕ
   pub decided : decision_at l.decisions i ≡ Rewritten chosen
 
@@ -46,7 +46,7 @@ pub record Rewrites (l : Linked) : Type 0 where
   pub i : ℕ
   pub below : i < count l
   pub name : RiscVRelocation
-  pub is_name : IsNameOf riscv_name (relocation_in l.relocations i).code name
+  pub is_name : IsNameOf riscv_name (relocation_in l.relocations i).r_type name
   pub changes : Changes (riscv_scope_in l.context.phase name) (decision_at l.decisions i)
 
 -- Instructions that have a law, the first of which is at the relocation with an index: loads from
@@ -194,7 +194,7 @@ abbrev pub NopsOf : RiscVRelocation → Type 0
 NopsOf name =
     (l : Linked) → AreRewritten l → l.context.architecture ≡ RiscV → (new : New l)
     (i : ℕ) (chosen : Choice Relaxation ℕ) (subject : Subject) → i < count l
-    → IsNameOf riscv_name (relocation_in l.relocations i).code name
+    → IsNameOf riscv_name (relocation_in l.relocations i).r_type name
     → decision_at l.decisions i ≡ RewrittenWithSymbol chosen subject
     → chosen.kind ≡ relaxations.RiscV kinds.ReplaceWithLongNop → BecomesNop l new i
 

@@ -76,7 +76,7 @@ pub record Rewrites (l : Linked) : Type 0 where
   pub i : ℕ
   pub below : i < count l
   pub name : X86_64Relocation
-  pub is_name : IsNameOf x86_64_name (relocation_in l.relocations i).code name
+  pub is_name : IsNameOf x86_64_name (relocation_in l.relocations i).r_type name
   pub chosen : Choice Relaxation ℕ
   pub decided : decision_at l.decisions i ≡ Rewritten chosen
   pub window : Window
@@ -124,20 +124,20 @@ put_back start len others bytes =
 -- Operands are by the row of what a relocation of the GOT became, or of an offset from the thread
 -- pointer. Those of a module's block are of any symbol.
 abbrev pub AreBy : Form → Linked → ℕ → ℕ → Symbol → RelocationKindInfo → Type 0
-AreBy (block n) l i code symbol row = x86_64_row names.R_X86_64_TLSLD ≡ Some row
-AreBy (in_got held) l i code symbol row =
+AreBy (block n) l i r_type symbol row = x86_64_row names.R_X86_64_TLSLD ≡ Some row
+AreBy (in_got held) l i r_type symbol row =
     (slice_get l.symbols (relocation_in l.relocations i).symbol ≡ Some symbol)
-    × IsRow X86_64 code (Some row)
-AreBy form l i code symbol row =
+    × IsRow X86_64 r_type (Some row)
+AreBy form l i r_type symbol row =
     (slice_get l.symbols (relocation_in l.relocations i).symbol ≡ Some symbol)
     × (x86_64_row names.R_X86_64_TPOFF32 ≡ Some row)
 
 -- The relocation is applied to the object's bytes, in their place in the final section. Old has
 -- them, up to 4 after its offset.
-pub record IsObject (l : Linked) (i : ℕ) (name : X86_64Relocation) (code : ℕ) (w : Window)
+pub record IsObject (l : Linked) (i : ℕ) (name : X86_64Relocation) (r_type : ℕ) (w : Window)
     (symbol : Symbol) (o : Operands) (c : Code) (s : State) : Type 0 where
   pub row : RelocationKindInfo
-  pub by : AreBy w.form l i code symbol row
+  pub by : AreBy w.form l i r_type symbol row
   pub entry : ℕ
   pub are : o ≡ operands_with X86_64 l.addresses row symbol (relocation_in l.relocations i) entry
   pub addresses : AreAddresses o
@@ -149,8 +149,8 @@ pub record IsObject (l : Linked) (i : ℕ) (name : X86_64Relocation) (code : ℕ
 -- A descriptor's call has no field.
 abbrev pub HasObject : Form → Linked → ℕ → X86_64Relocation → ℕ → Window → Symbol → Operands → Code
     → State → Type 0
-HasObject call l i name code w symbol o c s = Stands c.old s.pc 2 (drop (offset_of l i) l.section)
-HasObject form l i name code w symbol o c s = IsObject l i name code w symbol o c s
+HasObject call l i name r_type w symbol o c s = Stands c.old s.pc 2 (drop (offset_of l i) l.section)
+HasObject form l i name r_type w symbol o c s = IsObject l i name r_type w symbol o c s
 
 -- Old comes to instructions that are rewritten together. Later phases and other relocations leave
 -- them alone; that of a call of `__tls_get_addr` has no field any more. What else their law
@@ -210,7 +210,7 @@ abbrev pub EachOffset : ℕ → (ℕ → ℕ) → X86_64Relocation → Type 0
 EachOffset n read name =
     (l : Linked) → IsLinked l → l.context.architecture ≡ X86_64
     → (i : ℕ) (chosen : Choice Relaxation ℕ) → i < count l
-    → IsNameOf x86_64_name (relocation_in l.relocations i).code name
+    → IsNameOf x86_64_name (relocation_in l.relocations i).r_type name
     → decision_at l.decisions i ≡ Rewritten chosen → UntouchedBytes l i (offset_of l i) n
     → IsSomeAnd (x86_64_row name) (LeadsToTheSame n read name l i)
 

@@ -298,7 +298,7 @@ pub fn ppc64() -> bool
 fn as_items_take_them(relocations: &[u8], function: u32, target: u64) -> [Relocation; MOST] {
     let none = Relocation {
         offset: 0,
-        code: 0,
+        r_type: 0,
         has_symbol: false,
         addend: 0,
         target: None,
@@ -309,7 +309,7 @@ fn as_items_take_them(relocations: &[u8], function: u32, target: u64) -> [Reloca
         if let Some(found) = relocation_at(relocations, index) {
             taken[index] = Relocation {
                 offset: found.offset,
-                code: found.code,
+                r_type: found.r_type,
                 has_symbol: found.symbol != 0,
                 addend: found.addend,
                 target: if found.symbol == function {

@@ -2,7 +2,7 @@
 use Rattle.std.proofs.Common.{◌≡◌, ℕ, ◌^◌, ◌<◌, refl, ◌∙◌, ap, subst, arith, List, [], ◌∷◌, ◌++◌, length, take, drop, Option, Some, pos}
 use Rattle.linker_output.proofs.Imports.{IsSomeAnd, w64, from_le_bytes, cast_unsigned, drop_at, sum_64, RelocationKindInfo, Operands, AreAddresses}
 use Rattle.std.specs.Int.{w32}
-use Rattle.linker_elf.specs.ElfNames.{ElfName, IsNamed, code_of}
+use Rattle.linker_elf.specs.ElfNames.{ElfName, IsNamed, r_type_of}
 use Rattle.linker_output.specs.Stubs.{AppliesAt, StubCode, operands_of}
 use Rattle.linker_output.specs.declared.stubs.StubField.{StubField}
 use Rattle.linker_elf.specs.Architectures.{IsNamedValue}
@@ -55,7 +55,7 @@ module _ (code pair tail : List ℕ) (len : length pair ≡ 8) (is : code ≡ pa
 
 pub applies : {N : Type 0} (elf : N → ElfName) (row_of : N → Option RelocationKindInfo) (name : N)
     (field : StubField) (o : Operands) (before after : List ℕ) → IsNamed (elf name)
-    → code_of (elf name) ≡ field.relocation
+    → r_type_of (elf name) ≡ field.relocation
     → (row : RelocationKindInfo) → IsNamedValue elf row_of field.relocation (Some row)
     → AppliesAt field o before after row
     → IsSomeAnd (row_of name) (λ row. AppliesAt field o before after row)

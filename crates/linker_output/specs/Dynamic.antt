@@ -7,9 +7,9 @@ use Rattle.linker_section.specs.declared.needed.EntryClass.TheVariants.{Address,
 use Rattle.linker_section.specs.declared.needed.EntryClass.TheVariants.{ModuleOffset, Module}
 use Rattle.linker_section.specs.declared.needed.EntryClass.TheVariants.{Descriptor}
 
--- a type of dynamic relocations: its code, `r_type` in ELF files, and its name
+-- a type of dynamic relocations: its `r_type` in ELF files, and its name
 pub record DynamicKind : Type 0 where
-  pub code : ℕ
+  pub r_type : ℕ
   pub name : List ℕ
 
 -- the types that a linker emits
@@ -41,26 +41,27 @@ types_of types =
     types.word ∷ types.relative ∷ types.glob_dat ∷ types.jump_slot ∷ types.copy ∷ types.irelative
     ∷ types.module_number ∷ types.module_offset ∷ types.thread_offset ∷ in_list types.descriptor
 
--- the name of the first type with a code
+-- the name of the first type with an `r_type`
 abbrev pub name_in : List DynamicKind → ℕ → Option (List ℕ)
-name_in [] code = None
-name_in (type ∷ types) code = if type.code == code then Some type.name else name_in types code
+name_in [] r_type = None
+name_in (type ∷ types) r_type =
+    if type.r_type == r_type then Some type.name else name_in types r_type
 
 abbrev pub name_of : DynamicKinds → ℕ → Option (List ℕ)
-name_of types code = name_in (types_of types) code
+name_of types r_type = name_in (types_of types) r_type
 
 -- ---- the words of an entry
 
-abbrev pub code_of : Option DynamicKind → Option ℕ
-code_of None = None
-code_of (Some type) = Some type.code
+abbrev pub r_type_of : Option DynamicKind → Option ℕ
+r_type_of None = None
+r_type_of (Some type) = Some type.r_type
 
 -- the relocations of two words, of which the second may not be there
 abbrev pub words : Option ℕ → Option ℕ → List (Option ℕ)
 words first second = first ∷ second ∷ []
 
 abbrev pub unless : Bool → DynamicKind → Option ℕ
-unless is_known type = if is_known then None else Some type.code
+unless is_known type = if is_known then None else Some type.r_type
 
 -- A bound symbol is defined in this output, and no other definition can take its place. An
 -- executable knows its offsets from the thread pointer and its module's number, which is 1; a
@@ -68,7 +69,7 @@ unless is_known type = if is_known then None else Some type.code
 -- words.
 abbrev pub dynamic_words : DynamicKinds → EntryClass → Bool → Bool → List (Option ℕ)
 dynamic_words types Address is_bound is_executable =
-    words (Some (if is_bound then types.relative.code else types.glob_dat.code)) None
+    words (Some (if is_bound then types.relative.r_type else types.glob_dat.r_type)) None
 dynamic_words types ThreadOffset is_bound is_executable =
     words (unless (is_bound && is_executable) types.thread_offset) None
 dynamic_words types ModuleOffset is_bound is_executable =
@@ -76,4 +77,4 @@ dynamic_words types ModuleOffset is_bound is_executable =
     (unless is_bound types.module_offset)
 dynamic_words types Module is_bound is_executable =
     words (unless is_executable types.module_number) None
-dynamic_words types Descriptor is_bound is_executable = words (code_of types.descriptor) None
+dynamic_words types Descriptor is_bound is_executable = words (r_type_of types.descriptor) None

@@ -4,7 +4,7 @@ use Rattle.std.specs.Prelude.{◌∷◌, Bool}
 use Rattle.std.specs.Prelude.{true, false, not, nat_lt, length, drop, if◌then◌else◌, IsTrue}
 use Rattle.std.specs.Prelude.{Option, Some, None, Result, Ok, Err}
 use Rattle.std.specs.Int.{w64, cast_unsigned}
-use Rattle.linker_elf.specs.ElfNames.{code_of}
+use Rattle.linker_elf.specs.ElfNames.{r_type_of}
 use Rattle.linker_elf.specs.Ppc64Relocations.{ppc64_name}
 use Rattle.linker_elf.specs.Relocate.{IsAccepted}
 use Rattle.linker_elf.specs.Value.{sum_64}
@@ -57,41 +57,42 @@ may_go_by_stub row = is_relative row.kind && has_call_form row.size
 -- PowerPC64's branches of code that has a TOC pointer, and of code that has none (64-Bit ELF V2
 -- ABI, "Relocation Types")
 abbrev pub has_toc : Architecture → ℕ → Bool
-has_toc architectures.Ppc64 code =
-    code == code_of (ppc64_name ppc64.R_PPC64_REL24) || code == code_of (ppc64_name ppc64.R_PPC64_REL14)
-has_toc architecture code = false
+has_toc architectures.Ppc64 r_type =
+    r_type == r_type_of (ppc64_name ppc64.R_PPC64_REL24)
+    || r_type == r_type_of (ppc64_name ppc64.R_PPC64_REL14)
+has_toc architecture r_type = false
 
 abbrev pub has_no_toc : Architecture → ℕ → Bool
-has_no_toc architectures.Ppc64 code = code == code_of (ppc64_name ppc64.R_PPC64_REL24_NOTOC)
-has_no_toc architecture code = false
+has_no_toc architectures.Ppc64 r_type = r_type == r_type_of (ppc64_name ppc64.R_PPC64_REL24_NOTOC)
+has_no_toc architecture r_type = false
 
 -- ---- the function that a branch goes to (64-Bit ELF V2 ABI, "Symbol Values")
 
 -- The function may leave another TOC pointer, and the caller needs its own.
 abbrev pub loses_toc : Architecture → ℕ → Symbol → Bool
-loses_toc architecture code symbol = has_toc architecture code && changes_toc symbol
+loses_toc architecture r_type symbol = has_toc architecture r_type && changes_toc symbol
 
 -- The function of the output has a local entry point, where it takes the TOC pointer of its caller,
 -- which has none: it has to be entered at the global one, with its address in r12.
 abbrev pub lacks_toc : Architecture → ℕ → Symbol → Bool
-lacks_toc architecture code symbol =
-    has_no_toc architecture code
+lacks_toc architecture r_type symbol =
+    has_no_toc architecture r_type
     && (symbol.stub == 0 && (not symbol.is_undefined_weak && nat_lt 1 (symbol.other / 32)))
 
 -- where a stub goes for a branch: to the local entry point for code with the same TOC pointer
 abbrev pub after_global : Architecture → ℕ → Symbol → ℕ
-after_global architecture code symbol =
-    if has_toc architecture code then local_entry symbol.other else 0
+after_global architecture r_type symbol =
+    if has_toc architecture r_type then local_entry symbol.other else 0
 
 abbrev pub callee_of : Architecture → ℕ → Symbol → ℕ
-callee_of architecture code symbol =
-    if symbol.stub == 0 then sum_64 symbol.address (after_global architecture code symbol)
+callee_of architecture r_type symbol =
+    if symbol.stub == 0 then sum_64 symbol.address (after_global architecture r_type symbol)
     else symbol.stub
 
 -- with the addend
 abbrev pub stub_target : Architecture → Symbol → Rela → ℕ
 stub_target architecture symbol r =
-    sum_64 (callee_of architecture r.code symbol) (cast_unsigned w64 r.addend)
+    sum_64 (callee_of architecture r.r_type symbol) (cast_unsigned w64 r.addend)
 
 -- ---- room to restore the TOC pointer
 
@@ -141,9 +142,9 @@ by_reach target row symbol r (Some error) = Err (errors.Write error)
 abbrev pub route_by : Description → RelocationKindInfo → Symbol → Rela → Bool → Option RelocateError
     → Result Route RouteError
 route_by target row symbol r has_room obstacle =
-    if loses_toc target.instructions r.code symbol
-    || lacks_toc target.instructions r.code symbol then
-    by_jump target.jump_stub (loses_toc target.instructions r.code symbol) has_room
+    if loses_toc target.instructions r.r_type symbol
+    || lacks_toc target.instructions r.r_type symbol then
+    by_jump target.jump_stub (loses_toc target.instructions r.r_type symbol) has_room
     (stub_target target.instructions symbol r)
     else by_reach target row symbol r obstacle
 
@@ -182,7 +183,7 @@ IsRouteIn target addresses symbol r section (Some row) result =
 abbrev pub IsRoute : Description → Addresses → Symbol → Rela → List ℕ
     → Result Route RouteError → Type 0
 IsRoute target addresses symbol r section result =
-    (row : Option RelocationKindInfo) × IsRow target.instructions r.code row
+    (row : Option RelocationKindInfo) × IsRow target.instructions r.r_type row
     × IsRouteIn target addresses symbol r section row result
 
 -- ---- routes to the address in a word
@@ -190,7 +191,7 @@ IsRoute target addresses symbol r section result =
 -- by a stub, which keeps the caller's TOC pointer
 abbrev pub by_word : Description → Rela → ℕ → Bool → Result Route RouteError
 by_word target r word has_room =
-    by_stub Load target.load_stub.entry (has_toc target.instructions r.code) has_room word
+    by_stub Load target.load_stub.entry (has_toc target.instructions r.r_type) has_room word
 
 abbrev pub IsWordRouteBy : Bool → Description → Rela → ℕ → List ℕ → Result Route RouteError → Type 0
 IsWordRouteBy false target r word section result = result ≡ Err errors.NotABranch
@@ -206,7 +207,7 @@ IsWordRouteIn target r word section (Some row) result =
 
 abbrev pub IsWordRoute : Description → Rela → ℕ → List ℕ → Result Route RouteError → Type 0
 IsWordRoute target r word section result =
-    (row : Option RelocationKindInfo) × IsRow target.instructions r.code row
+    (row : Option RelocationKindInfo) × IsRow target.instructions r.r_type row
     × IsWordRouteIn target r word section row result
 
 -- ---- the law of stubs

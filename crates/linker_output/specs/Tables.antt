@@ -2,7 +2,7 @@
 use Rattle.std.specs.Prelude.{ℕ, ℤ, List, [], ◌∷◌, ◌++◌, Option, Some, None, pos}
 use Rattle.std.specs.Int.{w32, to_le_bytes}
 use Rattle.linker_elf.specs.Elf.{bit_bounds}
-use Rattle.linker_elf.specs.ElfNames.{ElfName, code_of, text_of}
+use Rattle.linker_elf.specs.ElfNames.{ElfName, r_type_of, text_of}
 use Rattle.linker_elf.specs.declared.elf.Sign.TheVariants.{Signed}
 use Rattle.linker_output.specs.Dynamic.{DynamicKind}
 use Rattle.linker_output.specs.Layout.{Path}
@@ -17,13 +17,13 @@ use Rattle.linker_output.specs.declared.tags.DynamicTag.{DynamicTag}
 use Rattle.linker_output.specs.declared.tags.TagRule.{TagRule}
 
 abbrev pub kind : ℕ → List ℕ → DynamicKind
-kind code name = record { code = code; name = name }
+kind r_type name = record { r_type = r_type; name = name }
 
 abbrev pub tag : ℕ → TagRule → DynamicTag
 tag number rule = record { tag = number; rule = rule }
 
 abbrev pub kind_of : ElfName → DynamicKind
-kind_of name = kind (code_of name) (text_of name)
+kind_of name = kind (r_type_of name) (text_of name)
 
 -- instructions of n bytes, whatever `e_flags` is
 abbrev pub units_of : ℕ → CodeUnit
@@ -45,7 +45,7 @@ only text = path 0 text ∷ []
 
 -- an instruction's relocations: for a word of a section, and for an entry of the GOT
 abbrev pub load_of : ElfName → ElfName → WordLoad
-load_of word entry = record { word = code_of word; entry = code_of entry }
+load_of word entry = record { word = r_type_of word; entry = r_type_of entry }
 
 -- little-endian bytes of an instruction of 4
 abbrev pub four : ℕ → ℕ → ℕ → ℕ → List ℕ
@@ -59,14 +59,14 @@ code_of_words (word ∷ words) = to_le_bytes w32 word ++ code_of_words words
 -- a field at an offset, with the value of a relocation
 abbrev pub field_of : ℕ → ElfName → StubField
 field_of offset name =
-    record { offset = offset; relocation = code_of name; range = record { bounds = None } }
+    record { offset = offset; relocation = r_type_of name; range = record { bounds = None } }
 
 -- the same, of a value of 32 bits in two's complement
 abbrev pub field_of_32 : ℕ → ElfName → StubField
 field_of_32 offset name =
     record {
       offset = offset;
-      relocation = code_of name;
+      relocation = r_type_of name;
       range = record { bounds = Some (bit_bounds 32 Signed) };
     }
 

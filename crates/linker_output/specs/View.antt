@@ -65,7 +65,7 @@ pub record Description : Type 0 where
 -- ---- of the code
 
 abbrev pub view_type : DynamicType → DynamicKind
-view_type t = record { code = t.code; name = t.name.now }
+view_type t = record { r_type = t.r_type; name = t.name.now }
 
 abbrev pub view_list : List DynamicType → List DynamicKind
 view_list [] = []

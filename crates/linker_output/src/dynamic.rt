@@ -10,8 +10,8 @@ use linker_section::needed::EntryClass;
 /// A type of dynamic relocations.
 #[derive(Clone, Copy)]
 pub struct DynamicType {
-    /// The code, `r_type` in ELF files.
-    pub code: u32,
+    /// The `r_type` in ELF files.
+    pub r_type: u32,
     /// The name, as "R_X86_64_RELATIVE".
     pub name: &'static str,
 }
@@ -41,11 +41,11 @@ pub struct DynamicTypes {
     pub descriptor: Option<DynamicType>,
 }
 
-/// A type with a code and a name.
+/// A type with an `r_type` and a name.
 macro_rules! named {
-    ($code:literal, $name:literal) => {
+    ($r_type:literal, $name:literal) => {
         DynamicType {
-            code: $code,
+            r_type: $r_type,
             name: $name,
         }
     };
@@ -53,13 +53,13 @@ macro_rules! named {
 
 pub(crate) use named;
 
-/// The name of the first of some types that has a code.
-fn name_in(types: &[DynamicType], code: u32) -> Option<&'static str>
-    ensures known { IfSome result (λ name. name_in (view_list types.now) code ≡ Some name.now) }
-    ensures unknown { IfNone result (name_in (view_list types.now) code ≡ None) }
+/// The name of the first of some types that has an `r_type`.
+fn name_in(types: &[DynamicType], r_type: u32) -> Option<&'static str>
+    ensures known { IfSome result (λ name. name_in (view_list types.now) r_type ≡ Some name.now) }
+    ensures unknown { IfNone result (name_in (view_list types.now) r_type ≡ None) }
 {
     for listed in types {
-        if listed.code == code {
+        if listed.r_type == r_type {
             return Some(listed.name);
         }
     }
@@ -67,8 +67,8 @@ fn name_in(types: &[DynamicType], code: u32) -> Option<&'static str>
 }
 
 impl Target {
-    /// The name of a type of dynamic relocations, as "R_X86_64_RELATIVE", by its code, `r_type` in
-    /// ELF files. None of a code that is no type of `DynamicTypes`.
+    /// The name of a type of dynamic relocations, as "R_X86_64_RELATIVE", by its `r_type`. None of
+    /// one that isn't of `DynamicTypes`.
     ///
     /// ```
     /// use linker_output::description::Target;
@@ -78,10 +78,10 @@ impl Target {
     /// assert_eq!(target.dynamic_name(12), Some("R_LARCH_IRELATIVE"));
     /// assert_eq!(target.dynamic_name(200), None);
     /// ```
-    pub fn dynamic_name(&self, code: u32) -> Option<&'static str>
+    pub fn dynamic_name(&self, r_type: u32) -> Option<&'static str>
         ensures known { IfSome result
-            (λ name. name_of (view_types self.now.dynamic) code ≡ Some name.now) }
-        ensures unknown { IfNone result (name_of (view_types self.now.dynamic) code ≡ None) }
+            (λ name. name_of (view_types self.now.dynamic) r_type ≡ Some name.now) }
+        ensures unknown { IfNone result (name_of (view_types self.now.dynamic) r_type ≡ None) }
     {
         let types = &self.dynamic;
         let all = [
@@ -95,16 +95,16 @@ impl Target {
             types.module_offset,
             types.thread_offset,
         ];
-        match name_in(&all, code) {
+        match name_in(&all, r_type) {
             Some(name) => Some(name),
             None => match types.descriptor {
-                Some(descriptor) if descriptor.code == code => Some(descriptor.name),
+                Some(descriptor) if descriptor.r_type == r_type => Some(descriptor.name),
                 _ => None,
             },
         }
     }
 
-    /// The types of the dynamic relocations of a GOT entry's words, by their codes: None for a word
+    /// The types of the dynamic relocations of a GOT entry's words, by `r_type`: None for a word
     /// that has none, whose value is known when the output is linked.
     ///
     /// `is_bound` says that the symbol's definition is in this output and no other can take its
@@ -121,7 +121,7 @@ impl Target {
     /// // a function that a position-independent executable imports
     /// let target = Target::of(Architecture::AArch64);
     /// let words = target.dynamic_words(EntryClass::Address, false, true);
-    /// assert_eq!(words, [Some(target.dynamic.glob_dat.code), None]);
+    /// assert_eq!(words, [Some(target.dynamic.glob_dat.r_type), None]);
     /// ```
     pub fn dynamic_words(
         &self,
@@ -134,22 +134,22 @@ impl Target {
     {
         let types = &self.dynamic;
         match class {
-            EntryClass::Address if is_bound => [Some(types.relative.code), None],
-            EntryClass::Address => [Some(types.glob_dat.code), None],
+            EntryClass::Address if is_bound => [Some(types.relative.r_type), None],
+            EntryClass::Address => [Some(types.glob_dat.r_type), None],
             EntryClass::ThreadOffset if is_bound && is_executable => [None, None],
-            EntryClass::ThreadOffset => [Some(types.thread_offset.code), None],
+            EntryClass::ThreadOffset => [Some(types.thread_offset.r_type), None],
             EntryClass::ModuleOffset if is_bound && is_executable => [None, None],
-            EntryClass::ModuleOffset if is_bound => [Some(types.module_number.code), None],
+            EntryClass::ModuleOffset if is_bound => [Some(types.module_number.r_type), None],
             EntryClass::ModuleOffset => {
                 [
-                    Some(types.module_number.code),
-                    Some(types.module_offset.code),
+                    Some(types.module_number.r_type),
+                    Some(types.module_offset.r_type),
                 ]
             }
             EntryClass::Module if is_executable => [None, None],
-            EntryClass::Module => [Some(types.module_number.code), None],
+            EntryClass::Module => [Some(types.module_number.r_type), None],
             EntryClass::Descriptor => match types.descriptor {
-                Some(descriptor) => [Some(descriptor.code), None],
+                Some(descriptor) => [Some(descriptor.r_type), None],
                 None => [None, None],
             },
         }

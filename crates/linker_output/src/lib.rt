@@ -6,7 +6,6 @@
 
 mod aarch64;
 pub mod addresses;
-mod codes;
 pub mod description;
 pub mod dynamic;
 pub mod flags;
@@ -20,6 +19,7 @@ mod loongarch64;
 pub mod placement;
 mod ppc64;
 pub mod properties;
+mod r_types;
 pub mod relr;
 mod riscv64;
 pub mod routes;

@@ -1,7 +1,6 @@
 //! What a linker adds to an output of PowerPC64.
 
 use crate::addresses::{AddressSection, WordLoad};
-use crate::codes::code;
 use crate::description::Target;
 use crate::dynamic::{DynamicType, DynamicTypes, named};
 use crate::flags::FlagRules;
@@ -9,6 +8,7 @@ use crate::got::{GotHeader, GotLayout, ThreadPointer};
 use crate::layout::{
     Interpreter, ProvidedSymbol, RunWord, SaveRestoreRoutines, SymbolPlace, WORDS,
 };
+use crate::r_types::r_type;
 use crate::stubs::{Stub, StubField, field};
 use crate::tags::{DynamicTag, TagRule, tag};
 use linker_utils::elf::{AllowedRange, Architecture};
@@ -154,16 +154,16 @@ pub(crate) static TARGET: Target = Target {
         name: ".toc",
         loads: &[
             WordLoad {
-                word: code!(R_PPC64_TOC16_HA),
-                entry: code!(R_PPC64_GOT16_HA),
+                word: r_type!(R_PPC64_TOC16_HA),
+                entry: r_type!(R_PPC64_GOT16_HA),
             },
             WordLoad {
-                word: code!(R_PPC64_TOC16_LO),
-                entry: code!(R_PPC64_GOT16_LO),
+                word: r_type!(R_PPC64_TOC16_LO),
+                entry: r_type!(R_PPC64_GOT16_LO),
             },
             WordLoad {
-                word: code!(R_PPC64_TOC16_LO_DS),
-                entry: code!(R_PPC64_GOT16_LO_DS),
+                word: r_type!(R_PPC64_TOC16_LO_DS),
+                entry: r_type!(R_PPC64_GOT16_LO_DS),
             },
         ],
     }),

@@ -52,7 +52,7 @@ pub enum StubError {
 pub struct StubField {
     /// Its offset in the pair.
     pub offset: usize,
-    /// The code of the relocation whose value it takes, `r_type` in ELF files.
+    /// The `r_type` of the relocation whose value it takes.
     pub relocation: u32,
     /// The values that lead to the target, where the relocation takes others too.
     pub range: AllowedRange,
@@ -91,7 +91,7 @@ macro_rules! field {
     ($offset:literal, $relocation:ident, $bounds:expr) => {
         StubField {
             offset: $offset,
-            relocation: $crate::codes::code!($relocation),
+            relocation: $crate::r_types::r_type!($relocation),
             range: AllowedRange { bounds: $bounds },
         }
     };

@@ -141,7 +141,7 @@ is_whole_row (Some row) = is_whole_size row.size row.kind
 
 x86_is_whole : (name : X86_64Relocation) → is_whole_row (x86_64_row name) ≡ true
 unfolding is_whole_row is_whole_size is_whole_kind
-x86_is_whole (r.Other code) = refl
+x86_is_whole (r.Other r_type) = refl
 x86_is_whole _ = refl
 
 of_whole_row : (found : Option RelocationKindInfo) (row : RelocationKindInfo) → is_whole_row found ≡ true → found ≡ Some row → IsWhole row.size row.kind

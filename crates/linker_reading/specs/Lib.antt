@@ -3,7 +3,7 @@ pub mod AArch64Recogniser
 pub mod Encodings
 pub mod Fields
 pub mod FieldsOfBytes
-pub mod FoundByCode
+pub mod FoundByType
 pub mod Inner
 pub mod LoongArchEncodings
 pub mod LoongArchRecogniser

@@ -68,11 +68,11 @@ pub record IsLeastWindow {K R : Type 0} (it : Recogniser K R) (name : R) (origin
   pub first : (e : ℕ) → o ≤ e → e < o - window.back + window.len
       → HasEach it name original o (o - window.back) e → ⊥
 
--- that of the choices at the relocation with a code
-pub record IsWindowBy {K R : Type 0} (it : Recogniser K R) (code : ℕ) (original : List ℕ) (o : ℕ)
+-- that of the choices at the relocation with an `r_type`
+pub record IsWindowBy {K R : Type 0} (it : Recogniser K R) (r_type : ℕ) (original : List ℕ) (o : ℕ)
     (window : RewriteWindow) : Type 0 where
   pub name : R
-  pub is_name : IsNameOf it.elf_name code name
+  pub is_name : IsNameOf it.elf_name r_type name
   pub least : IsLeastWindow it name original o window
 
 -- that of the choices at the relocation of an architecture

@@ -1,6 +1,6 @@
 -- Of a sequence of AArch64 all relocations are rewritten, or none is.
 use Rattle.std.proofs.Common.{◌≡◌, ◌≢◌, ℕ, zero, suc, ◌+◌, ◌-◌, ◌/◌, ◌<◌, ◌≤◌, ltb, ◌⊎◌, inl, inr, List, length, ap, sym, subst, ◌∙◌, arith, refl, Bool, true, false, Option, Some, None, slice_get}
-use Rattle.linker_rewriting.proofs.Imports.{AArch64, AArch64Relocation, Addresses, Choice, Consumed, Decision, FirstOfPair, Grouped, IfGroupMatches, Independent, IsAArch64Choice, IsArchitectureChoice, IsChosenBy, IsFirst, IsNameOf, IsNamed, Kept, Labelled, LinkFacts, Member, NotRelaxable, OutputFacts, Phase, Ppc64, Rela, Relaxation, Rewritten, RewrittenWithSymbol, Scope, Symbol, SymbolFacts, Tie, UnrelaxableGroups, aarch64_name, cases_Bool, choice, code_of, cond-false, cond-true, relaxation_no_op, relaxation_skipped, relocation_at, relocation_in, ◌&&◌}
+use Rattle.linker_rewriting.proofs.Imports.{AArch64, AArch64Relocation, Addresses, Choice, Consumed, Decision, FirstOfPair, Grouped, IfGroupMatches, Independent, IsAArch64Choice, IsArchitectureChoice, IsChosenBy, IsFirst, IsNameOf, IsNamed, Kept, Labelled, LinkFacts, Member, NotRelaxable, OutputFacts, Phase, Ppc64, Rela, Relaxation, Rewritten, RewrittenWithSymbol, Scope, Symbol, SymbolFacts, Tie, UnrelaxableGroups, aarch64_name, cases_Bool, choice, r_type_of, cond-false, cond-true, relaxation_no_op, relaxation_skipped, relocation_at, relocation_in, ◌&&◌}
 use Rattle.std.specs.Prelude.{is_some, ⊤}
 use Rattle.linker_elf.specs.Choices.{IsBound}
 use Rattle.linker_elf.specs.declared.aarch64.relocations.AArch64Relocation.TheVariants as names
@@ -34,9 +34,9 @@ unlabelled_in phases.ShortPcRel names.R_AARCH64_ADR_PREL_PG_HI21 = refl
 unlabelled_in phase name = refl
 
 -- AArch64 has no labels
-pub unlabelled : (phase : Phase) (code : ℕ) (scope : Scope) → IsScopeIn AArch64 phase code scope
+pub unlabelled : (phase : Phase) (r_type : ℕ) (scope : Scope) → IsScopeIn AArch64 phase r_type scope
     → scope ≡ Labelled → ⊥
-unlabelled phase code scope is labelled =
+unlabelled phase r_type scope is labelled =
     let no : is_labelled scope ≡ false = ap is_labelled is.value_is ∙ unlabelled_in phase is.name in
     let yes : is_labelled scope ≡ true = ap is_labelled labelled in
     let e : true ≡ false = sym yes ∙ no in cc
@@ -112,10 +112,10 @@ facts_in other (Some f) = f
 module _ (s : RelaxContext) (aarch64 : s.architecture ≡ AArch64) (kept : List UnrelaxableGroups)
     (bytes section : List ℕ) (decisions : List Decision)
     (decided : AreDecidedIn s kept bytes section decisions (length bytes / 24)) where
-  no_labels : (r : Rela) (scope : Scope) → IsScopeIn s.architecture s.phase r.code scope
+  no_labels : (r : Rela) (scope : Scope) → IsScopeIn s.architecture s.phase r.r_type scope
       → scope ≡ Labelled → ⊥
   no_labels r scope is =
-      unlabelled s.phase r.code scope (subst (λ x. IsScopeIn x s.phase r.code scope) aarch64 is)
+      unlabelled s.phase r.r_type scope (subst (λ x. IsScopeIn x s.phase r.r_type scope) aarch64 is)
 
   chosen_there : (n : ℕ) (chosen : Choice Relaxation ℕ) → n < length bytes / 24
       → decision_at decisions n ≡ Rewritten chosen → IsChosen s section (relocation_in bytes n) chosen
@@ -125,9 +125,9 @@ module _ (s : RelaxContext) (aarch64 : s.architecture ≡ AArch64) (kept : List 
 
   choice_there : (n : ℕ) (chosen : Choice Relaxation ℕ) (is : IsChosen s section (relocation_in bytes n) chosen)
       → IsChosenBy aarch64_name relaxations.AArch64
-      (λ name. IsAArch64Choice name section (relocation_in bytes n).offset is.facts) (relocation_in bytes n).code chosen
+      (λ name. IsAArch64Choice name section (relocation_in bytes n).offset is.facts) (relocation_in bytes n).r_type chosen
   choice_there n chosen is =
-      subst (λ x. IsArchitectureChoice x (relocation_in bytes n).code section (relocation_in bytes n).offset is.facts chosen)
+      subst (λ x. IsArchitectureChoice x (relocation_in bytes n).r_type section (relocation_in bytes n).offset is.facts chosen)
       aarch64 is.is_choice
 
   -- no rewrite takes the next relocation along
@@ -153,30 +153,30 @@ module _ (s : RelaxContext) (aarch64 : s.architecture ≡ AArch64) (kept : List 
       subst (λ t. IsDecidedAfter s kept bytes section n t (decision_at decisions n)) (untaken n below) (decided n below)
 
   pub scope_there : (n : ℕ) (below : n < length bytes / 24)
-      → IsScopeIn AArch64 s.phase (relocation_in bytes n).code (alone n below).0
+      → IsScopeIn AArch64 s.phase (relocation_in bytes n).r_type (alone n below).0
   scope_there n below =
-      subst (λ x. IsScopeIn x s.phase (relocation_in bytes n).code (alone n below).0) aarch64 (alone n below).1
+      subst (λ x. IsScopeIn x s.phase (relocation_in bytes n).r_type (alone n below).0) aarch64 (alone n below).1
 
   -- by the scope of its name
   scoped : (n : ℕ) (name : AArch64Relocation) → n < length bytes / 24
-      → IsNameOf aarch64_name (relocation_in bytes n).code name
+      → IsNameOf aarch64_name (relocation_in bytes n).r_type name
       → IsScopeDecision s kept bytes section n (relocation_in bytes n) (aarch64_scope_in s.phase name) (decision_at decisions n)
   scoped n name below is_name =
       subst (λ z. IsScopeDecision s kept bytes section n (relocation_in bytes n) z (decision_at decisions n))
-      (one_scope AArch64 s.phase (relocation_in bytes n).code (alone n below).0 (aarch64_scope_in s.phase name)
+      (one_scope AArch64 s.phase (relocation_in bytes n).r_type (alone n below).0 (aarch64_scope_in s.phase name)
       (scope_there n below) (record { name = name; is_name = is_name; value_is = refl }))
       (alone n below).2
 
-  -- a code has its name
+  -- an `r_type` has its name
   pub named_at : (n : ℕ) (name : AArch64Relocation) → n < length bytes / 24 → IsNamed (aarch64_name name)
-      → code_of (aarch64_name name) ≡ (relocation_in bytes n).code
-      → IsNameOf aarch64_name (relocation_in bytes n).code name
-  named_at n name below named code =
+      → r_type_of (aarch64_name name) ≡ (relocation_in bytes n).r_type
+      → IsNameOf aarch64_name (relocation_in bytes n).r_type name
+  named_at n name below named r_type =
       let is = scope_there n below in
-      subst (IsNameOf aarch64_name (relocation_in bytes n).code) (is.is_name.named name named code) is.is_name
+      subst (IsNameOf aarch64_name (relocation_in bytes n).r_type) (is.is_name.named name named r_type) is.is_name
 
   pub phase_is : (n : ℕ) (name : AArch64Relocation) (phase : Phase) → n < length bytes / 24
-      → IsNameOf aarch64_name (relocation_in bytes n).code name
+      → IsNameOf aarch64_name (relocation_in bytes n).r_type name
       → decision_at decisions n ≢ Kept → OnlyIn phase s.phase name → s.phase ≡ phase
   phase_is n name phase below is_name changed (inl is) = is
   phase_is n name phase below is_name changed (inr none) =
@@ -184,7 +184,7 @@ module _ (s : RelaxContext) (aarch64 : s.architecture ≡ AArch64) (kept : List 
       (scoped n name below is_name)))
 
   pub in_phase : (n : ℕ) (name : AArch64Relocation) (phase : Phase) → n < length bytes / 24
-      → IsNameOf aarch64_name (relocation_in bytes n).code name → s.phase ≡ phase
+      → IsNameOf aarch64_name (relocation_in bytes n).r_type name → s.phase ≡ phase
       → IsScopeDecision s kept bytes section n (relocation_in bytes n) (aarch64_scope_in phase name) (decision_at decisions n)
   in_phase n name phase below is_name is =
       subst (λ p. IsScopeDecision s kept bytes section n (relocation_in bytes n) (aarch64_scope_in p name) (decision_at decisions n)) is
@@ -227,11 +227,11 @@ module _ (s : RelaxContext) (aarch64 : s.architecture ≡ AArch64) (kept : List 
   -- what a member of its name is among
   abbrev IsAmong : List Member → ℕ → ℕ → ℕ → AArch64Relocation → Type 0
   IsAmong all place distance n name =
-      is_whole AArch64 bytes n (record (relocation_in bytes n) { code = code_of (aarch64_name name) })
+      is_whole AArch64 bytes n (record (relocation_in bytes n) { r_type = r_type_of (aarch64_name name) })
       ≡ (is_among all place distance bytes n (relocation_in bytes n) && true)
 
   whole : (all : List Member) (place distance n : ℕ) (name : AArch64Relocation) (chosen : Choice Relaxation ℕ)
-      → IsNameOf aarch64_name (relocation_in bytes n).code name
+      → IsNameOf aarch64_name (relocation_in bytes n).r_type name
       → IsCandidate s bytes section n (relocation_in bytes n) (Some chosen)
       → IsAmong all place distance n name
       → (place ≤ n) × (are_members all bytes (n - place) 0 ((relocation_in bytes n).offset - distance) (relocation_in bytes n) ≡ true)
@@ -239,7 +239,7 @@ module _ (s : RelaxContext) (aarch64 : s.architecture ≡ AArch64) (kept : List 
       let r = relocation_in bytes n in
       among all place distance bytes n r
       (sym at
-      ∙ (ap (λ c. is_whole AArch64 bytes n (record r { code = c })) is_name.code_is
+      ∙ (ap (λ c. is_whole AArch64 bytes n (record r { r_type = c })) is_name.r_type_is
       ∙ sym (let has : IsWhole AArch64 bytes n r true = subst (λ x. IsWhole x bytes n r true) aarch64 (whole_with n chosen _ is) in has)))
 
   part : (name : AArch64Relocation) (tie : Tie) (offset distance first i : ℕ) (head : Member) (one : Rela)
@@ -251,7 +251,7 @@ module _ (s : RelaxContext) (aarch64 : s.architecture ≡ AArch64) (kept : List 
       let start = begins.offset_is in
       record {
         below = there.below;
-        is_name = named_at i name there.below named (sym there.code_is);
+        is_name = named_at i name there.below named (sym there.r_type_is);
         offset = omega (arith, at, start, at_start);
         symbol = (there.of typed).0 ∙ sym (begins.of head_typed).0;
         addend = (there.of typed).1 ∙ sym (begins.of head_typed).1;
@@ -259,18 +259,18 @@ module _ (s : RelaxContext) (aarch64 : s.architecture ≡ AArch64) (kept : List 
 
   -- the rewrite of a name
   kind_of : (n : ℕ) (name : AArch64Relocation) → IsNamed (aarch64_name name) → n < length bytes / 24
-      → IsNameOf aarch64_name (relocation_in bytes n).code name → (made : IsMade n)
+      → IsNameOf aarch64_name (relocation_in bytes n).r_type name → (made : IsMade n)
       → IsOfOne aarch64_name relaxations.AArch64 (λ e. ⊤) (aarch64_entries name) made.chosen
   kind_of n name named below is_name made =
       let is = chosen_there n made.chosen below made.decided_so in
       of_one aarch64_name relaxations.AArch64 (λ e. ⊤) made.chosen
       (λ m. AArch64Applies m section (relocation_in bytes n).offset is.facts) aarch64_entries kinds.NoOp refl
-      (relocation_in bytes n).code name named is_name (λ e applies. tt) (choice_there n made.chosen is) is.changed
+      (relocation_in bytes n).r_type name named is_name (λ e applies. tt) (choice_there n made.chosen is) is.changed
 
   -- ---- a load from the GOT
 
   got_made : (i : ℕ) (name : AArch64Relocation) → aarch64_scope_in phases.GotToPcRel name ≡ Grouped groups.GotLoad
-      → i < length bytes / 24 → IsNameOf aarch64_name (relocation_in bytes i).code name
+      → i < length bytes / 24 → IsNameOf aarch64_name (relocation_in bytes i).r_type name
       → s.phase ≡ phases.GotToPcRel → group_stays kept groups.GotLoad (relocation_in bytes i).symbol ≡ false
       → IsMade i
   got_made i name scope below is_name late unkept =
@@ -308,7 +308,7 @@ module _ (s : RelaxContext) (aarch64 : s.architecture ≡ AArch64) (kept : List 
 
   -- one of its two relocations doesn't stay
   of_load : (n place distance : ℕ) (name : AArch64Relocation) → n < length bytes / 24
-      → IsNameOf aarch64_name (relocation_in bytes n).code name → decision_at decisions n ≢ Kept
+      → IsNameOf aarch64_name (relocation_in bytes n).r_type name → decision_at decisions n ≢ Kept
       → OnlyIn phases.GotToPcRel s.phase name
       → aarch64_scope_in phases.GotToPcRel name ≡ Grouped groups.GotLoad
       → IsAmong got_load place distance n name
@@ -367,8 +367,8 @@ module _ (s : RelaxContext) (aarch64 : s.architecture ≡ AArch64) (kept : List 
       let at : IsRewrittenAt s bytes section (first + 1) (Some next) (high_by.0) =
       subst (λ x. IsRewrittenAt s bytes section (first + 1) x (high_by.0)) (there bytes (first + 1) lower.below) (high_by.1) in
       let scope_is : at.0 ≡ Independent =
-      one_scope AArch64 s.phase next.code (at.0) (aarch64_scope_in s.phase names.R_AARCH64_ADD_ABS_LO12_NC)
-      (subst (λ x. IsScopeIn x s.phase next.code (at.0)) aarch64 (at.1))
+      one_scope AArch64 s.phase next.r_type (at.0) (aarch64_scope_in s.phase names.R_AARCH64_ADD_ABS_LO12_NC)
+      (subst (λ x. IsScopeIn x s.phase next.r_type (at.0)) aarch64 (at.1))
       (record { name = names.R_AARCH64_ADD_ABS_LO12_NC; is_name = lower.is_name; value_is = refl })
       ∙ ap (λ p. aarch64_scope_in p names.R_AARCH64_ADD_ABS_LO12_NC) late in
       record {
@@ -383,7 +383,7 @@ module _ (s : RelaxContext) (aarch64 : s.architecture ≡ AArch64) (kept : List 
 
   -- the second of the two has a rewrite
   of_second : (n : ℕ) (chosen : Choice Relaxation ℕ) → s.phase ≡ phases.ShortPcRel
-      → IsNameOf aarch64_name (relocation_in bytes n).code names.R_AARCH64_ADD_ABS_LO12_NC
+      → IsNameOf aarch64_name (relocation_in bytes n).r_type names.R_AARCH64_ADD_ABS_LO12_NC
       → IsCandidate s bytes section n (relocation_in bytes n) (Some chosen)
       → (1 ≤ n) × IsAddressRewritten bytes decisions (n - 1)
   of_second n chosen late is_name candidate =
@@ -397,7 +397,7 @@ module _ (s : RelaxContext) (aarch64 : s.architecture ≡ AArch64) (kept : List 
       )
 
   of_low : (n : ℕ) → n < length bytes / 24
-      → IsNameOf aarch64_name (relocation_in bytes n).code names.R_AARCH64_ADD_ABS_LO12_NC
+      → IsNameOf aarch64_name (relocation_in bytes n).r_type names.R_AARCH64_ADD_ABS_LO12_NC
       → decision_at decisions n ≢ Kept → (1 ≤ n) × IsAddressRewritten bytes decisions (n - 1)
   of_low n below is_name changed =
       let late = phase_is n names.R_AARCH64_ADD_ABS_LO12_NC phases.ShortPcRel below is_name changed (only_in phases.ShortPcRel names.R_AARCH64_ADD_ABS_LO12_NC (inr refl, inr refl, inr refl, inl refl) s.phase) in
@@ -425,15 +425,15 @@ module _ (s : RelaxContext) (aarch64 : s.architecture ≡ AArch64) (kept : List 
       let here : IsRewrittenAt s bytes section (n + 1) (Some next) true =
       subst (λ x. IsRewrittenAt s bytes section (n + 1) (Some x) true) same at in
       let it = of_alone_true (n + 1) next (here.0) (here.2) in
-      let is = subst (λ x. IsScopeIn x s.phase next.code (here.0)) aarch64 (here.1) in
+      let is = subst (λ x. IsScopeIn x s.phase next.r_type (here.0)) aarch64 (here.1) in
       let name_is : is.name ≡ names.R_AARCH64_ADD_ABS_LO12_NC =
       independent_is is.name (ap (λ p. aarch64_scope_in p is.name) (sym late) ∙ (sym is.value_is ∙ it.0)) in
-      let by = of_second (n + 1) (it.1) late (subst (IsNameOf aarch64_name next.code) name_is is.is_name) (it.2) in
+      let by = of_second (n + 1) (it.1) late (subst (IsNameOf aarch64_name next.r_type) name_is is.is_name) (it.2) in
       let e : n + 1 - 1 ≡ n = omega arith in
       subst (IsAddressRewritten bytes decisions) e (by.1)
 
   of_high : (n : ℕ) → n < length bytes / 24
-      → IsNameOf aarch64_name (relocation_in bytes n).code names.R_AARCH64_ADR_PREL_PG_HI21
+      → IsNameOf aarch64_name (relocation_in bytes n).r_type names.R_AARCH64_ADR_PREL_PG_HI21
       → decision_at decisions n ≢ Kept → IsAddressRewritten bytes decisions n
   of_high n below is_name changed =
       let late = phase_is n names.R_AARCH64_ADR_PREL_PG_HI21 phases.ShortPcRel below is_name changed (only_in phases.ShortPcRel names.R_AARCH64_ADR_PREL_PG_HI21 (inr refl, inr refl, inr refl, inl refl) s.phase) in
@@ -453,13 +453,13 @@ module _ (s : RelaxContext) (aarch64 : s.architecture ≡ AArch64) (kept : List 
   described : (i : ℕ) (name : AArch64Relocation) (n : ℕ) (local initial : AArch64Choice)
       → IsNamed (aarch64_name name) → aarch64_entries name ≡ descriptor_entries n local initial
       → ((o : ℕ) → aarch64_matches initial.kind section o → aarch64_matches local.kind section o)
-      → i < length bytes / 24 → IsNameOf aarch64_name (relocation_in bytes i).code name → (made : IsMade i)
+      → i < length bytes / 24 → IsNameOf aarch64_name (relocation_in bytes i).r_type name → (made : IsMade i)
       → s.phase ≡ phases.PreLayout → IsDescribed i made local initial
   described i name n local initial has_text entries matches below is_name made early =
       let r = relocation_in bytes i in
       let is = chosen_there i made.chosen below made.decided_so in
       let c = choice_there i made.chosen is in
-      let same : c.name ≡ name = c.is_name.named name has_text is_name.code_is in
+      let same : c.name ≡ name = c.is_name.named name has_text is_name.r_type_is in
       let isnt : s.architecture ≡ Ppc64 → ⊥ = λ other. let e : AArch64 ≡ Ppc64 = sym aarch64 ∙ other in cc in
       let first : IsFirst (AArch64Applies name section r.offset is.facts) (descriptor_entries n local initial) (choice kinds.NoOp name) c.named =
       subst (λ es. IsFirst (AArch64Applies name section r.offset is.facts) es (choice kinds.NoOp name) c.named) entries
@@ -475,7 +475,7 @@ module _ (s : RelaxContext) (aarch64 : s.architecture ≡ AArch64) (kept : List 
             (are_early s section r made.chosen early isnt is).unplaced (matches r.offset)
             (λ e. is.changed (
               subst relaxation_no_op (sym (c.kind_is ∙ ap (λ (q : AArch64Choice). relaxations.AArch64 q.kind) e)) refl,
-              c.code_is ∙ (ap (λ (q : AArch64Choice). code_of (aarch64_name q.relocation)) e ∙ is_name.code_is),
+              c.r_type_is ∙ (ap (λ (q : AArch64Choice). r_type_of (aarch64_name q.relocation)) e ∙ is_name.r_type_is),
             )) first;
       }
 
@@ -496,7 +496,7 @@ module _ (s : RelaxContext) (aarch64 : s.architecture ≡ AArch64) (kept : List 
       ∙ is_g))
 
   descriptor_made : (i : ℕ) (name : AArch64Relocation) → aarch64_scope_in phases.PreLayout name ≡ Grouped groups.Descriptor
-      → i < length bytes / 24 → IsNameOf aarch64_name (relocation_in bytes i).code name
+      → i < length bytes / 24 → IsNameOf aarch64_name (relocation_in bytes i).r_type name
       → s.phase ≡ phases.PreLayout → group_stays kept groups.Descriptor (relocation_in bytes i).symbol ≡ false
       → IsMade i
   descriptor_made i name scope below is_name early unkept =
@@ -507,7 +507,7 @@ module _ (s : RelaxContext) (aarch64 : s.architecture ≡ AArch64) (kept : List 
   -- what goes, for local-exec as for initial-exec
   erased_by : (i : ℕ) (name : AArch64Relocation) (n : ℕ) → IsNamed (aarch64_name name)
       → aarch64_entries name ≡ descriptor_entries n erased erased → i < length bytes / 24
-      → IsNameOf aarch64_name (relocation_in bytes i).code name → (made : IsMade i)
+      → IsNameOf aarch64_name (relocation_in bytes i).r_type name → (made : IsMade i)
       → IsRewrittenBy kinds.ReplaceWithNop (decision_at decisions i)
   erased_by i name n named entries below is_name made =
       elim (subst (λ es. IsOfOne aarch64_name relaxations.AArch64 (λ e. ⊤) es made.chosen) entries (kind_of i name named below is_name made)) [
@@ -580,7 +580,7 @@ module _ (s : RelaxContext) (aarch64 : s.architecture ≡ AArch64) (kept : List 
       ]
 
   of_descriptor : (n place distance : ℕ) (name : AArch64Relocation) → n < length bytes / 24
-      → IsNameOf aarch64_name (relocation_in bytes n).code name → decision_at decisions n ≢ Kept
+      → IsNameOf aarch64_name (relocation_in bytes n).r_type name → decision_at decisions n ≢ Kept
       → OnlyIn phases.PreLayout s.phase name
       → aarch64_scope_in phases.PreLayout name ≡ Grouped groups.Descriptor
       → IsAmong descriptor place distance n name
@@ -597,7 +597,7 @@ module _ (s : RelaxContext) (aarch64 : s.architecture ≡ AArch64) (kept : List 
   -- ---- by the name
 
   pub by_name : (n : ℕ) → n < length bytes / 24 → decision_at decisions n ≢ Kept
-      → (name : AArch64Relocation) → IsNameOf aarch64_name (relocation_in bytes n).code name
+      → (name : AArch64Relocation) → IsNameOf aarch64_name (relocation_in bytes n).r_type name
       → IsWholeBy name bytes decisions n
   by_name n below changed names.R_AARCH64_TLSDESC_ADR_PAGE21 is =
       of_descriptor n 0 0 names.R_AARCH64_TLSDESC_ADR_PAGE21 below is changed (only_in phases.PreLayout names.R_AARCH64_TLSDESC_ADR_PAGE21 (inl refl, inr refl, inr refl, inr refl) s.phase) refl refl

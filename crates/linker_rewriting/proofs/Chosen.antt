@@ -11,8 +11,8 @@ use Rattle.linker_rewriting.specs.Sequences.{is_marked_in}
 pub record IsChosen (s : RelaxContext) (section : List ℕ) (r : Rela) (chosen : Choice Relaxation ℕ)
     : Type 0 where
   pub facts : LinkFacts
-  pub is_choice : IsArchitectureChoice s.architecture r.code section r.offset facts chosen
-  pub changed : ¬ IsUnchanged r.code chosen
+  pub is_choice : IsArchitectureChoice s.architecture r.r_type section r.offset facts chosen
+  pub changed : ¬ IsUnchanged r.r_type chosen
   pub addend : facts.operands.addend ≡ r.addend
   pub marked : Bool
   -- before addresses are known the calls of PowerPC64 alone are marked
@@ -124,7 +124,7 @@ pub record IsChosenAlone (s : RelaxContext) (section : List ℕ) (r : Rela) (dec
 -- and by its label
 pub record IsOfLabel (s : RelaxContext) (bytes section : List ℕ) (n : ℕ) (r : Rela) (decision : Decision)
     : Type 0 where
-  pub scope_is : IsScopeIn s.architecture s.phase r.code Labelled
+  pub scope_is : IsScopeIn s.architecture s.phase r.r_type Labelled
   pub label_is : IsLabelDecision s bytes section n r decision
 
 module _ (s : RelaxContext) (bytes section : List ℕ) (n : ℕ) (r : Rela) (decision : Decision)
@@ -161,7 +161,7 @@ module _ (s : RelaxContext) (bytes section : List ℕ) (n : ℕ) (r : Rela) (dec
   of_ahead true is = absurd (isnt Consumed refl is)
   of_ahead false is = absurd (isnt Kept refl is)
 
-  of_scope : (kept : List UnrelaxableGroups) (scope : Scope) → IsScopeIn s.architecture s.phase r.code scope
+  of_scope : (kept : List UnrelaxableGroups) (scope : Scope) → IsScopeIn s.architecture s.phase r.r_type scope
       → IsScopeDecision s kept bytes section n r scope decision
       → IsChosenAlone s section r decision chosen ⊎ IsOfLabel s bytes section n r decision
   of_scope kept NotRelaxable of is = absurd (isnt Kept refl is)
@@ -196,7 +196,7 @@ pub chosen_at : (s : RelaxContext) (kept : List UnrelaxableGroups) (bytes sectio
     (decisions : List Decision) (limit n : ℕ) (chosen : Choice Relaxation ℕ)
     → AreDecidedIn s kept bytes section decisions limit → n < limit
     → decision_at decisions n ≡ Rewritten chosen
-    → ((scope : Scope) → IsScopeIn s.architecture s.phase (relocation_in bytes n).code scope
+    → ((scope : Scope) → IsScopeIn s.architecture s.phase (relocation_in bytes n).r_type scope
     → scope ≡ Labelled → ⊥)
     → IsChosen s section (relocation_in bytes n) chosen
 chosen_at s kept bytes section decisions limit n chosen decided below is unlabelled =

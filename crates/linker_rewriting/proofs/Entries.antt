@@ -1,12 +1,12 @@
 -- The rewrite that is chosen for a relocation is that of an entry of its table.
 use Rattle.std.proofs.Common.{◌≡◌, ℕ, List, [], ◌∷◌, sym, ap, subst, ◌∙◌, inl, inr, ◌⊎◌}
-use Rattle.linker_rewriting.proofs.Imports.{Choice, ElfName, Entry, IsChosenBy, IsFirst, IsNameOf, IsNamed, IsUnchanged, Relaxation, choice, code_of, relaxation_no_op}
+use Rattle.linker_rewriting.proofs.Imports.{Choice, ElfName, Entry, IsChosenBy, IsFirst, IsNameOf, IsNamed, IsUnchanged, Relaxation, choice, r_type_of, relaxation_no_op}
 
 -- It is that of an entry that is meant for what is there.
 pub record IsOfEntry {K N : Type 0} (elf : N → ElfName) (relaxation : K → Relaxation)
     (IsMeant : Entry K N → Type 0) (e : Entry K N) (chosen : Choice Relaxation ℕ) : Type 0 where
   pub kind_is : chosen.kind ≡ relaxation e.kind
-  pub code_is : chosen.relocation ≡ code_of (elf e.relocation)
+  pub r_type_is : chosen.relocation ≡ r_type_of (elf e.relocation)
   pub meant : IsMeant e
 
 -- one of some entries
@@ -20,32 +20,32 @@ module _ {K N : Type 0} (elf : N → ElfName) (relaxation : K → Relaxation)
     (IsMeant : Entry K N → Type 0) (chosen : Choice Relaxation ℕ) where
   by_first : (Applies : Entry K N → Type 0) → ((e : Entry K N) → Applies e → IsMeant e)
       → (otherwise named : Choice K N) → chosen.kind ≡ relaxation named.kind
-      → chosen.relocation ≡ code_of (elf named.relocation) → (named ≡ otherwise → ⊥)
+      → chosen.relocation ≡ r_type_of (elf named.relocation) → (named ≡ otherwise → ⊥)
       → (es : List (Entry K N)) → IsFirst Applies es otherwise named
       → IsOfOne elf relaxation IsMeant es chosen
-  by_first Applies meant otherwise named kind_is code_is changed [] is = absurd (changed is)
-  by_first Applies meant otherwise named kind_is code_is changed (e ∷ es) (inl this) =
+  by_first Applies meant otherwise named kind_is r_type_is changed [] is = absurd (changed is)
+  by_first Applies meant otherwise named kind_is r_type_is changed (e ∷ es) (inl this) =
       inl (record {
         kind_is = kind_is ∙ ap (λ (q : Choice K N). relaxation q.kind) (this.1);
-        code_is = code_is ∙ ap (λ (q : Choice K N). code_of (elf q.relocation)) (this.1);
+        r_type_is = r_type_is ∙ ap (λ (q : Choice K N). r_type_of (elf q.relocation)) (this.1);
         meant = meant e (this.0);
       })
-  by_first Applies meant otherwise named kind_is code_is changed (e ∷ es) (inr other) =
-      inr (by_first Applies meant otherwise named kind_is code_is changed es (other.1))
+  by_first Applies meant otherwise named kind_is r_type_is changed (e ∷ es) (inr other) =
+      inr (by_first Applies meant otherwise named kind_is r_type_is changed es (other.1))
 
   -- of a relocation with a name, where the choice changes something
   pub of_one : (Applies : N → Entry K N → Type 0) (entries : N → List (Entry K N)) (no_op : K)
-      → relaxation_no_op (relaxation no_op) → (code : ℕ) (name : N) → IsNamed (elf name)
-      → IsNameOf elf code name → ((e : Entry K N) → Applies name e → IsMeant e)
-      → IsChosenBy elf relaxation (λ n. IsFirst (Applies n) (entries n) (choice no_op n)) code chosen
-      → ¬ IsUnchanged code chosen
+      → relaxation_no_op (relaxation no_op) → (r_type : ℕ) (name : N) → IsNamed (elf name)
+      → IsNameOf elf r_type name → ((e : Entry K N) → Applies name e → IsMeant e)
+      → IsChosenBy elf relaxation (λ n. IsFirst (Applies n) (entries n) (choice no_op n)) r_type chosen
+      → ¬ IsUnchanged r_type chosen
       → IsOfOne elf relaxation IsMeant (entries name) chosen
-  of_one Applies entries no_op is_no_op code name named is_name meant is changed =
-      let same : is.name ≡ name = is.is_name.named name named is_name.code_is in
-      by_first (Applies name) meant (choice no_op name) is.named is.kind_is is.code_is
+  of_one Applies entries no_op is_no_op r_type name named is_name meant is changed =
+      let same : is.name ≡ name = is.is_name.named name named is_name.r_type_is in
+      by_first (Applies name) meant (choice no_op name) is.named is.kind_is is.r_type_is
       (λ e. changed (
         subst relaxation_no_op (sym (is.kind_is ∙ ap (λ (q : Choice K N). relaxation q.kind) e)) is_no_op,
-        is.code_is ∙ (ap (λ (q : Choice K N). code_of (elf q.relocation)) e ∙ is_name.code_is),
+        is.r_type_is ∙ (ap (λ (q : Choice K N). r_type_of (elf q.relocation)) e ∙ is_name.r_type_is),
       ))
       (entries name)
       (subst (λ n. IsFirst (Applies n) (entries n) (choice no_op n) is.named) same is.is_choice)

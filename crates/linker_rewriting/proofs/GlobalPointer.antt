@@ -5,7 +5,7 @@ use Rattle.linker_rewriting.proofs.LabelGroups.{one_high_from}
 use Rattle.linker_rewriting.proofs.Imports.{Addresses, Contradiction, Decision, IsAscending, Kept, NotSurveyed, Overlaps, Rela, RewritingError, Symbol, TooShort, leb-true, relocation_in}
 use Rattle.linker_rewriting.specs.Decisions.{CanBeMade, IsWithin, Matches, decision_at}
 use Rattle.linker_rewriting.specs.Facts.{RelaxContext}
-use Rattle.linker_rewriting.specs.GlobalPointer.{relative_high, IsLabelled, IsSubject, IsMemberBy, IsMember, part_of, is_reached, is_expected, fits, kept_by, part_decision, decided_by, IsPartDecided, ArePartsDecided, part_start, part_end, ArePartsRejected, MeansSymbolsUnsurveyed, ArePartsWhole, ArePartsWholeAcross, low_code, base_of, is_placed_by, is_placed, based_section, section_based}
+use Rattle.linker_rewriting.specs.GlobalPointer.{relative_high, IsLabelled, IsSubject, IsMemberBy, IsMember, part_of, is_reached, is_expected, fits, kept_by, part_decision, decided_by, IsPartDecided, ArePartsDecided, part_start, part_end, ArePartsRejected, MeansSymbolsUnsurveyed, ArePartsWhole, ArePartsWholeAcross, low_r_type, base_of, is_placed_by, is_placed, based_section, section_based}
 use Rattle.linker_rewriting.specs.RiscVPcrelGroups.{offset_of_label, is_beyond}
 use Rattle.linker_rewriting.specs.Rewritten.{IsRewritten}
 use Rattle.linker_rewriting.specs.Sequences.{is_marked_at}
@@ -37,8 +37,8 @@ one_subject : (addresses : Addresses) (values : List Symbol) (bytes : List ℕ) 
     (part : Part) (x y : Option Rela) → IsAscending bytes
     → IsSubject addresses values bytes r part x → IsSubject addresses values bytes r part y → x ≡ y
 one_subject addresses values bytes r (High opcode) x y up a b = a ∙ sym b
-one_subject addresses values bytes r (Low code) x y up a b = a ∙ sym b
-one_subject addresses values bytes r (Labelled code) x y up a b =
+one_subject addresses values bytes r (Low r_type) x y up a b = a ∙ sym b
+one_subject addresses values bytes r (Labelled r_type) x y up a b =
     one_labelled addresses values bytes r x y up a b
 
 some_subject : (x y : Rela) → Some x ≡ Some y → x ≡ y
@@ -63,7 +63,7 @@ one_member_by addresses values bytes r (Some part) (Some x) (Some y) up a b =
 one_member : (s : RelaxContext) (bytes : List ℕ) (r : Rela) (x y : Option (Part × Rela))
     → IsAscending bytes → IsMember s bytes r x → IsMember s bytes r y → x ≡ y
 one_member s bytes r x y up a b =
-    one_member_by s.addresses s.values bytes r (part_of s.architecture r.code) x y up a b
+    one_member_by s.addresses s.values bytes r (part_of s.architecture r.r_type) x y up a b
 
 -- ---- tests
 
@@ -90,8 +90,8 @@ part_made : (s : RelaxContext) (gp : ℕ) (a : Bool) (bytes section : List ℕ) 
     → CanBeMade (part_decision part subject) section r.offset
 part_made s gp a bytes section n r (High opcode) subject is =
     (tt, and_first _ _ (expected s gp a bytes section n r (High opcode) subject is))
-part_made s gp a bytes section n r (Low code) subject is = (tt, refl)
-part_made s gp a bytes section n r (Labelled code) subject is = (tt, refl)
+part_made s gp a bytes section n r (Low r_type) subject is = (tt, refl)
+part_made s gp a bytes section n r (Labelled r_type) subject is = (tt, refl)
 
 -- and its instruction is in the section
 part_inside : (s : RelaxContext) (gp : ℕ) (a : Bool) (bytes section : List ℕ) (n : ℕ) (r : Rela)
@@ -99,10 +99,10 @@ part_inside : (s : RelaxContext) (gp : ℕ) (a : Bool) (bytes section : List ℕ
     → part_end (part_decision part subject) r.offset ≤ length section
 part_inside s gp a bytes section n r (High opcode) subject is =
     leb-true (r.offset + 4) (length section) (and_first _ _ (expected s gp a bytes section n r (High opcode) subject is))
-part_inside s gp a bytes section n r (Low code) subject is =
-    leb-true (r.offset + 4) (length section) (and_first _ _ (expected s gp a bytes section n r (Low code) subject is))
-part_inside s gp a bytes section n r (Labelled code) subject is =
-    leb-true (r.offset + 4) (length section) (and_first _ _ (expected s gp a bytes section n r (Labelled code) subject is))
+part_inside s gp a bytes section n r (Low r_type) subject is =
+    leb-true (r.offset + 4) (length section) (and_first _ _ (expected s gp a bytes section n r (Low r_type) subject is))
+part_inside s gp a bytes section n r (Labelled r_type) subject is =
+    leb-true (r.offset + 4) (length section) (and_first _ _ (expected s gp a bytes section n r (Labelled r_type) subject is))
 
 pub member_made : (s : RelaxContext) (gp : ℕ) (a : Bool) (bytes section : List ℕ) (n : ℕ) (r : Rela)
     (member : Part × Rela) → fits s gp a bytes section n r member ≡ true
@@ -124,16 +124,16 @@ some_decision x y is = cc
 
 pub part_bytes : (part : Part) (subject : Rela) (o : ℕ) → IsWithin part_start part_end o (part_decision part subject)
 part_bytes (High opcode) subject o some = (omega arith, omega arith)
-part_bytes (Low code) subject o some = absurd (omega (arith, some))
-part_bytes (Labelled code) subject o some = absurd (omega (arith, some))
+part_bytes (Low r_type) subject o some = absurd (omega (arith, some))
+part_bytes (Labelled r_type) subject o some = absurd (omega (arith, some))
 
 pub part_matches : (s : RelaxContext) (gp : ℕ) (a : Bool) (bytes section : List ℕ) (n : ℕ) (r : Rela)
     (member : Part × Rela) → fits s gp a bytes section n r member ≡ true
     → Matches (part_decision (member.0) (member.1)) section r.offset
 part_matches s gp a bytes section n r (High opcode, subject) is =
     (leb-true (r.offset + 4) (length section) (and_first _ _ (expected s gp a bytes section n r (High opcode) subject is)), tt)
-part_matches s gp a bytes section n r (Low code, subject) is = tt
-part_matches s gp a bytes section n r (Labelled code, subject) is = tt
+part_matches s gp a bytes section n r (Low r_type, subject) is = tt
+part_matches s gp a bytes section n r (Labelled r_type, subject) is = tt
 
 -- ---- decided
 
@@ -205,8 +205,8 @@ made_too false false made d is unkept rewritten = absurd (let e : Some d ≡ Non
 
 part_rewritten : (part : Part) (subject : Rela) → IsRewritten (part_decision part subject)
 part_rewritten (High opcode) subject = tt
-part_rewritten (Low code) subject = tt
-part_rewritten (Labelled code) subject = tt
+part_rewritten (Low r_type) subject = tt
+part_rewritten (Labelled r_type) subject = tt
 
 decided_as : (s : RelaxContext) (gp : ℕ) (kept : List Bool) (bytes section : List ℕ) (n : ℕ) (r : Rela)
     (decision : Option Decision) (member : Option (Part × Rela)) → IsAscending bytes
@@ -280,15 +280,15 @@ means_unsurveyed s gp kept bytes section decisions room (Contradiction symbol) i
 
 -- ---- bases
 
-same_placed_by : (s t : List ℕ) (r : Rela) (code : Option ℕ) (base : Option (ℕ × ℕ))
-    → length s ≡ length t → is_placed_by s r code base ≡ is_placed_by t r code base
+same_placed_by : (s t : List ℕ) (r : Rela) (r_type : Option ℕ) (base : Option (ℕ × ℕ))
+    → length s ≡ length t → is_placed_by s r r_type base ≡ is_placed_by t r r_type base
 same_placed_by s t r None base same = refl
-same_placed_by s t r (Some code) base same = ap (λ n. nat_le (r.offset + 4) n && is_some base) same
+same_placed_by s t r (Some r_type) base same = ap (λ n. nat_le (r.offset + 4) n && is_some base) same
 
 pub same_placed : (addresses : Addresses) (values : List Symbol) (gp : ℕ) (s t : List ℕ) (r : Rela)
     → length s ≡ length t → is_placed addresses values gp s r ≡ is_placed addresses values gp t r
 same_placed addresses values gp s t r same =
-    same_placed_by s t r (low_code r.code) (base_of addresses values gp r) same
+    same_placed_by s t r (low_r_type r.r_type) (base_of addresses values gp r) same
 
 pub based_next : (addresses : Addresses) (values : List Symbol) (gp : ℕ) (bytes section : List ℕ)
     (k : ℕ) → section_based addresses values gp bytes section (k + 1)

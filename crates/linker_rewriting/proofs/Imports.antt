@@ -4,7 +4,7 @@ pub use Rattle.linker_base.specs.RewriteWindow.{window_of_rewrite}
 pub use Rattle.linker_base.specs.declared.rewrite.DeletedBytes.{DeletedBytes}
 pub use Rattle.linker_elf.specs.AArch64Relocations.{aarch64_name}
 pub use Rattle.linker_elf.specs.Choices.{Entry, IsFirst, choice}
-pub use Rattle.linker_elf.specs.ElfNames.{ElfName, IsNameOf, IsNamed, code_of}
+pub use Rattle.linker_elf.specs.ElfNames.{ElfName, IsNameOf, IsNamed, r_type_of}
 pub use Rattle.linker_elf.specs.LoongArchRelocations.{loongarch_name}
 pub use Rattle.linker_elf.specs.Ppc64Relocations.{ppc64_name}
 pub use Rattle.linker_elf.specs.declared.aarch64.relocations.AArch64Relocation.{AArch64Relocation}

@@ -13,7 +13,7 @@ use Rattle.linker_rewriting.specs.Decisions.{decision_at, label_decision, IsLabe
 use Rattle.linker_rewriting.specs.Decisions.{rewritten_by, takes_symbol}
 use Rattle.linker_rewriting.specs.Facts.{RelaxContext}
 use Rattle.linker_rewriting.specs.Groups.{aarch64_scope_in, loongarch_scope_in, ppc64_scope_in, x86_64_scope_in}
-use Rattle.linker_rewriting.specs.RiscVPcrelGroups.{high_code, is_high, searched, is_beyond, is_high_in, IsHighAt, offset_of_label, label_offset, IsHighFrom, IsHighIn, is_labelled, has_labels, IsInLabel, label_facts, IsLabelCandidate, Lacks, IsLacking, HasLacking, LabelFits, LabelStays, IsLabelNote}
+use Rattle.linker_rewriting.specs.RiscVPcrelGroups.{high_r_type, is_high, searched, is_beyond, is_high_in, IsHighAt, offset_of_label, label_offset, IsHighFrom, IsHighIn, is_labelled, has_labels, IsInLabel, label_facts, IsLabelCandidate, Lacks, IsLacking, HasLacking, LabelFits, LabelStays, IsLabelNote}
 use Rattle.linker_rewriting.specs.Notes.{is_note, AreHighsNoted, IsNoteAt, IsNoteOf, AreLabelsNoted}
 
 -- ---- one high part
@@ -21,12 +21,12 @@ use Rattle.linker_rewriting.specs.Notes.{is_note, AreHighsNoted, IsNoteAt, IsNot
 isnt : {A : Type 0} → true ≡ false → A
 isnt is = absurd (true≢false is)
 
-one_high_at : (bytes : List ℕ) (code at : ℕ) (x y : Option ℕ) → IsHighAt bytes code at x
-    → IsHighAt bytes code at y → x ≡ y
-one_high_at bytes code at None None a b = refl
-one_high_at bytes code at None (Some h) a b = isnt (sym (b.1) ∙ a h (b.0))
-one_high_at bytes code at (Some g) None a b = isnt (sym (a.1) ∙ b g (a.0))
-one_high_at bytes code at (Some g) (Some h) a b =
+one_high_at : (bytes : List ℕ) (r_type at : ℕ) (x y : Option ℕ) → IsHighAt bytes r_type at x
+    → IsHighAt bytes r_type at y → x ≡ y
+one_high_at bytes r_type at None None a b = refl
+one_high_at bytes r_type at None (Some h) a b = isnt (sym (b.1) ∙ a h (b.0))
+one_high_at bytes r_type at (Some g) None a b = isnt (sym (a.1) ∙ b g (a.0))
+one_high_at bytes r_type at (Some g) (Some h) a b =
     elim (cases_lt g h) [
       | inl less ↦ isnt (sym (a.1) ∙ b.2 g less)
       | inr le ↦ elim (cases_lt h g) [
@@ -35,15 +35,15 @@ one_high_at bytes code at (Some g) (Some h) a b =
       ]
     ]
 
-pub one_high_from : (bytes : List ℕ) (code : ℕ) (at x y : Option ℕ) → IsHighFrom bytes code at x
-    → IsHighFrom bytes code at y → x ≡ y
-one_high_from bytes code None x y a b = a ∙ sym b
-one_high_from bytes code (Some at) x y a b = one_high_at bytes code at x y a b
+pub one_high_from : (bytes : List ℕ) (r_type : ℕ) (at x y : Option ℕ) → IsHighFrom bytes r_type at x
+    → IsHighFrom bytes r_type at y → x ≡ y
+one_high_from bytes r_type None x y a b = a ∙ sym b
+one_high_from bytes r_type (Some at) x y a b = one_high_at bytes r_type at x y a b
 
 pub one_high : (s : RelaxContext) (bytes : List ℕ) (r : Rela) (x y : Option ℕ) → IsHighIn s bytes r x
     → IsHighIn s bytes r y → x ≡ y
 one_high s bytes r x y =
-    one_high_from bytes (high_code s.phase) (label_offset s.phase s.addresses s.values r) x y
+    one_high_from bytes (high_r_type s.phase) (label_offset s.phase s.addresses s.values r) x y
 
 some_one : (g h : ℕ) → Some g ≡ Some h → g ≡ h
 some_one g h is = cc
@@ -58,68 +58,68 @@ not_none s bytes r h a b =
     let e : Some h ≡ None = one_high s bytes r (Some h) None a b in cc
 
 -- a high part is its own
-own_from : (bytes : List ℕ) (code h : ℕ) (at : Option ℕ) → IsHighFrom bytes code at (Some h)
-    → (((relocation_in bytes h).code == code) ≡ true)
-    × IsHighAt bytes code (relocation_in bytes h).offset (Some h)
-own_from bytes code h None is = absurd (let e : Some h ≡ None = is in cc)
-own_from bytes code h (Some at) is =
-    let there = and_parts (is_high code at (relocation_in bytes h)) (not (is_beyond bytes at h)) (is.1) in
-    let parts = and_parts ((relocation_in bytes h).offset == at) ((relocation_in bytes h).code == code) (there.0) in (
+own_from : (bytes : List ℕ) (r_type h : ℕ) (at : Option ℕ) → IsHighFrom bytes r_type at (Some h)
+    → (((relocation_in bytes h).r_type == r_type) ≡ true)
+    × IsHighAt bytes r_type (relocation_in bytes h).offset (Some h)
+own_from bytes r_type h None is = absurd (let e : Some h ≡ None = is in cc)
+own_from bytes r_type h (Some at) is =
+    let there = and_parts (is_high r_type at (relocation_in bytes h)) (not (is_beyond bytes at h)) (is.1) in
+    let parts = and_parts ((relocation_in bytes h).offset == at) ((relocation_in bytes h).r_type == r_type) (there.0) in (
       parts.1,
-      subst (λ a. IsHighAt bytes code a (Some h))
+      subst (λ a. IsHighAt bytes r_type a (Some h))
           (sym (eqb-true (relocation_in bytes h).offset at (parts.0))) is,
     )
 
 own_high : (s : RelaxContext) (bytes : List ℕ) (r : Rela) (h : ℕ) → IsHighIn s bytes r (Some h)
     → IsHighIn s bytes (relocation_in bytes h) (Some h)
 own_high s bytes r h is =
-    let own = own_from bytes (high_code s.phase) h (label_offset s.phase s.addresses s.values r) is in
-    subst (λ at. IsHighFrom bytes (high_code s.phase) at (Some h))
-    (sym (cond-true ((relocation_in bytes h).code == high_code s.phase) (Some (relocation_in bytes h).offset)
+    let own = own_from bytes (high_r_type s.phase) h (label_offset s.phase s.addresses s.values r) is in
+    subst (λ at. IsHighFrom bytes (high_r_type s.phase) at (Some h))
+    (sym (cond-true ((relocation_in bytes h).r_type == high_r_type s.phase) (Some (relocation_in bytes h).offset)
     (offset_of_label s.addresses (slice_get s.values (relocation_in bytes h).symbol)) (own.0)))
     (own.1)
 
-high_within_from : (bytes : List ℕ) (code h : ℕ) (at : Option ℕ) → IsHighFrom bytes code at (Some h)
+high_within_from : (bytes : List ℕ) (r_type h : ℕ) (at : Option ℕ) → IsHighFrom bytes r_type at (Some h)
     → h < length bytes / 24
-high_within_from bytes code h None is = absurd (let e : Some h ≡ None = is in cc)
-high_within_from bytes code h (Some at) is = is.0
+high_within_from bytes r_type h None is = absurd (let e : Some h ≡ None = is in cc)
+high_within_from bytes r_type h (Some at) is = is.0
 
 pub high_within : (s : RelaxContext) (bytes : List ℕ) (r : Rela) (h : ℕ) → IsHighIn s bytes r (Some h)
     → h < length bytes / 24
 high_within s bytes r h =
-    high_within_from bytes (high_code s.phase) h (label_offset s.phase s.addresses s.values r)
+    high_within_from bytes (high_r_type s.phase) h (label_offset s.phase s.addresses s.values r)
 
 -- ---- the search
 
-pub isnt_code : (code at : ℕ) (r : Rela) → (r.code ≡ code → ⊥) → is_high code at r ≡ false
-isnt_code code at r ne =
-    elim (cases_Bool (r.code == code)) [
-      | inl same ↦ absurd (ne (eqb-true r.code code same))
+pub isnt_r_type : (r_type at : ℕ) (r : Rela) → (r.r_type ≡ r_type → ⊥) → is_high r_type at r ≡ false
+isnt_r_type r_type at r ne =
+    elim (cases_Bool (r.r_type == r_type)) [
+      | inl same ↦ absurd (ne (eqb-true r.r_type r_type same))
       | inr differs ↦ ap (λ b. (r.offset == at) && b) differs ∙ and-false (r.offset == at)
     ]
 
-pub isnt_there : (code at : ℕ) (r : Rela) → (r.offset ≡ at → ⊥) → is_high code at r ≡ false
-isnt_there code at r ne =
+pub isnt_there : (r_type at : ℕ) (r : Rela) → (r.offset ≡ at → ⊥) → is_high r_type at r ≡ false
+isnt_there r_type at r ne =
     elim (cases_Bool (r.offset == at)) [
       | inl same ↦ absurd (ne (eqb-true r.offset at same))
-      | inr differs ↦ ap (λ b. b && (r.code == code)) differs
+      | inr differs ↦ ap (λ b. b && (r.r_type == r_type)) differs
     ]
 
-is_there : (code at : ℕ) (r : Rela) → r.offset ≡ at → r.code ≡ code → is_high code at r ≡ true
-is_there code at r offset_is code_is =
-    ap (λ b. b && (r.code == code)) (eq-eqb r.offset at offset_is) ∙ eq-eqb r.code code code_is
+is_there : (r_type at : ℕ) (r : Rela) → r.offset ≡ at → r.r_type ≡ r_type → is_high r_type at r ≡ true
+is_there r_type at r offset_is r_type_is =
+    ap (λ b. b && (r.r_type == r_type)) (eq-eqb r.offset at offset_is) ∙ eq-eqb r.r_type r_type r_type_is
 
 -- none so far
 abbrev pub NoneIn : List ℕ → ℕ → ℕ → ℕ → ℕ → Type 0
-NoneIn bytes code at first limit =
-    (n : ℕ) → first ≤ n → n < limit → is_high code at (relocation_in bytes n) ≡ false
+NoneIn bytes r_type at first limit =
+    (n : ℕ) → first ≤ n → n < limit → is_high r_type at (relocation_in bytes n) ≡ false
 
-pub none_below : (bytes : List ℕ) (code at first limit : ℕ)
-    → ((n : ℕ) → n < first → offset_at bytes n < at) → NoneIn bytes code at first limit
-    → (n : ℕ) → n < limit → is_high code at (relocation_in bytes n) ≡ false
-none_below bytes code at first limit before none n less =
+pub none_below : (bytes : List ℕ) (r_type at first limit : ℕ)
+    → ((n : ℕ) → n < first → offset_at bytes n < at) → NoneIn bytes r_type at first limit
+    → (n : ℕ) → n < limit → is_high r_type at (relocation_in bytes n) ≡ false
+none_below bytes r_type at first limit before none n less =
     elim (cases_lt n first) [
-      | inl below ↦ isnt_there code at (relocation_in bytes n) (λ e. let b = before n below in absurd (omega (arith, b, e)))
+      | inl below ↦ isnt_there r_type at (relocation_in bytes n) (λ e. let b = before n below in absurd (omega (arith, b, e)))
       | inr from ↦ none n from less
     ]
 
@@ -127,9 +127,9 @@ both : (a b : Bool) → a ≡ true → b ≡ true → (a && b) ≡ true
 both a b x y = ap (λ c. c && b) x ∙ y
 
 -- what isn't one isn't one that is searched
-isnt_searched : (bytes : List ℕ) (code at n : ℕ) → is_high code at (relocation_in bytes n) ≡ false
-    → is_high_in bytes code at n ≡ false
-isnt_searched bytes code at n is = ap (λ b. b && not (is_beyond bytes at n)) is
+isnt_searched : (bytes : List ℕ) (r_type at n : ℕ) → is_high r_type at (relocation_in bytes n) ≡ false
+    → is_high_in bytes r_type at n ≡ false
+isnt_searched bytes r_type at n is = ap (λ b. b && not (is_beyond bytes at n)) is
 
 -- what is so near the first relocation at an offset is searched
 near_first : (bytes : List ℕ) (at first index : ℕ)
@@ -147,16 +147,16 @@ near_first bytes at first index before near =
       | inr isnt ↦ isnt
     ]
 
-pub found : (bytes : List ℕ) (code at first index : ℕ) (r : Rela)
-    → ((n : ℕ) → n < first → offset_at bytes n < at) → NoneIn bytes code at first index
+pub found : (bytes : List ℕ) (r_type at first index : ℕ) (r : Rela)
+    → ((n : ℕ) → n < first → offset_at bytes n < at) → NoneIn bytes r_type at first index
     → index < length bytes / 24 → index < first + searched → r ≡ relocation_in bytes index
-    → r.offset ≡ at → r.code ≡ code → IsHighAt bytes code at (Some index)
-found bytes code at first index r before none within near same offset_is code_is = (
+    → r.offset ≡ at → r.r_type ≡ r_type → IsHighAt bytes r_type at (Some index)
+found bytes r_type at first index r before none within near same offset_is r_type_is = (
   within,
-  both (is_high code at (relocation_in bytes index)) (not (is_beyond bytes at index))
-      (subst (λ x. is_high code at x ≡ true) same (is_there code at r offset_is code_is))
+  both (is_high r_type at (relocation_in bytes index)) (not (is_beyond bytes at index))
+      (subst (λ x. is_high r_type at x ≡ true) same (is_there r_type at r offset_is r_type_is))
       (ap not (near_first bytes at first index before near)),
-  λ n less. isnt_searched bytes code at n (none_below bytes code at first index before none n less),
+  λ n less. isnt_searched bytes r_type at n (none_below bytes r_type at first index before none n less),
 )
 
 -- what has as many others at its offset before it as are searched is beyond them
@@ -174,39 +174,39 @@ beyond bytes at first n ascending following far within there =
     (le-leb searched n deep) (eq-eqb (relocation_in bytes (n - searched)).offset at (omega (arith, low, up, there)))
 
 -- none is among those that are searched
-pub none_searched : (bytes : List ℕ) (code at first limit : ℕ) → IsAscending bytes
+pub none_searched : (bytes : List ℕ) (r_type at first limit : ℕ) → IsAscending bytes
     → ((n : ℕ) → n < first → offset_at bytes n < at)
     → ((n : ℕ) → first ≤ n → n < length bytes / 24 → at ≤ offset_at bytes n)
-    → NoneIn bytes code at first limit
+    → NoneIn bytes r_type at first limit
     → (length bytes / 24 ≤ limit) ⊎ (first + searched ≤ limit)
-    → IsHighAt bytes code at None
-none_searched bytes code at first limit ascending before following none far n less =
+    → IsHighAt bytes r_type at None
+none_searched bytes r_type at first limit ascending before following none far n less =
     elim (cases_lt n limit) [
-      | inl below ↦ isnt_searched bytes code at n (none_below bytes code at first limit before none n below)
+      | inl below ↦ isnt_searched bytes r_type at n (none_below bytes r_type at first limit before none n below)
       | inr on ↦ elim far [
         | inl all ↦ absurd (omega (arith, all, on, less))
-        | inr end ↦ elim (cases_Bool (is_high code at (relocation_in bytes n))) [
-          | inr isnt ↦ isnt_searched bytes code at n isnt
+        | inr end ↦ elim (cases_Bool (is_high r_type at (relocation_in bytes n))) [
+          | inr isnt ↦ isnt_searched bytes r_type at n isnt
           | inl is ↦
-              let there = and_parts ((relocation_in bytes n).offset == at) ((relocation_in bytes n).code == code) is in
+              let there = and_parts ((relocation_in bytes n).offset == at) ((relocation_in bytes n).r_type == r_type) is in
               let at_is : offset_at bytes n ≡ at = eqb-true (relocation_in bytes n).offset at (there.0) in
-              ap (λ b. is_high code at (relocation_in bytes n) && not b)
+              ap (λ b. is_high r_type at (relocation_in bytes n) && not b)
               (beyond bytes at first n ascending following (omega (arith, end, on)) less at_is)
-              ∙ and-false (is_high code at (relocation_in bytes n))
+              ∙ and-false (is_high r_type at (relocation_in bytes n))
         ]
       ]
     ]
 
-pub none_at : (bytes : List ℕ) (code at first index : ℕ) → IsAscending bytes
+pub none_at : (bytes : List ℕ) (r_type at first index : ℕ) → IsAscending bytes
     → ((n : ℕ) → n < first → offset_at bytes n < at)
     → ((n : ℕ) → first ≤ n → n < length bytes / 24 → at ≤ offset_at bytes n)
-    → NoneIn bytes code at first index → first ≤ index → index < length bytes / 24
+    → NoneIn bytes r_type at first index → first ≤ index → index < length bytes / 24
     → ((relocation_in bytes index).offset ≡ at → ⊥)
-    → IsHighAt bytes code at None
-none_at bytes code at first index ascending before following none from within other n less =
-    isnt_searched bytes code at n (elim (cases_lt n index) [
-      | inl below ↦ none_below bytes code at first index before none n below
-      | inr on ↦ isnt_there code at (relocation_in bytes n)
+    → IsHighAt bytes r_type at None
+none_at bytes r_type at first index ascending before following none from within other n less =
+    isnt_searched bytes r_type at n (elim (cases_lt n index) [
+      | inl below ↦ none_below bytes r_type at first index before none n below
+      | inr on ↦ isnt_there r_type at (relocation_in bytes n)
           (λ e. let b = following index from within in
           let up = ascending index n on less in
           other (omega (arith, b, up, e)))
@@ -214,10 +214,10 @@ none_at bytes code at first index ascending before following none from within ot
 
 -- ---- one candidate
 
-pub one_in_label : (architecture : Architecture) (phase : Phase) (code : ℕ) (x y : Bool)
-    → IsInLabel architecture phase code x → IsInLabel architecture phase code y → x ≡ y
-one_in_label architecture phase code x y a b =
-    a.2 ∙ (ap is_labelled (one_scope architecture phase code (a.0) (b.0) (a.1) (b.1)) ∙ sym (b.2))
+pub one_in_label : (architecture : Architecture) (phase : Phase) (r_type : ℕ) (x y : Bool)
+    → IsInLabel architecture phase r_type x → IsInLabel architecture phase r_type y → x ≡ y
+one_in_label architecture phase r_type x y a b =
+    a.2 ∙ (ap is_labelled (one_scope architecture phase r_type (a.0) (b.0) (a.1) (b.1)) ∙ sym (b.2))
 
 pub labelled : (scope : Scope) → true ≡ is_labelled scope → scope ≡ Labelled
 labelled Labelled is = refl
@@ -242,9 +242,9 @@ some_or_none s bytes section n r high x a b =
 -- ---- what one relocation lacks
 
 pub unlabelled_lacks : (s : RelaxContext) (bytes section : List ℕ) (n : ℕ) (r : Rela)
-    → IsInLabel s.architecture s.phase r.code false → IsLacking s bytes section n r None
+    → IsInLabel s.architecture s.phase r.r_type false → IsLacking s bytes section n r None
 unlabelled_lacks s bytes section n r isnt_in high lacks =
-    isnt (one_in_label s.architecture s.phase r.code true false (lacks.0) isnt_in)
+    isnt (one_in_label s.architecture s.phase r.r_type true false (lacks.0) isnt_in)
 
 pub rewritten_lacks : (s : RelaxContext) (bytes section : List ℕ) (n : ℕ) (r : Rela) (high : ℕ)
     (x : Choice Relaxation ℕ) → IsHighIn s bytes r (Some high)
@@ -308,14 +308,14 @@ more_noted s bytes section old k high noted lacks within =
 pub record AreCopied (s : RelaxContext) (bytes section : List ℕ) (first now : List Decision) (k : ℕ)
     : Type 0 where
   pub same_len : length now ≡ length first
-  pub done : (n : ℕ) → n < k → IsInLabel s.architecture s.phase (relocation_in bytes n).code true
+  pub done : (n : ℕ) → n < k → IsInLabel s.architecture s.phase (relocation_in bytes n).r_type true
       → IsLabelNote s bytes section (relocation_in bytes n) (is_note (decision_at now n))
   pub highs : (n high : ℕ) → IsHighIn s bytes (relocation_in bytes n) (Some high)
       → decision_at now high ≡ decision_at first high
 
 pub same_copied : (s : RelaxContext) (bytes section : List ℕ) (first now : List Decision) (k : ℕ)
     → AreCopied s bytes section first now k
-    → IsInLabel s.architecture s.phase (relocation_in bytes k).code false
+    → IsInLabel s.architecture s.phase (relocation_in bytes k).r_type false
     → AreCopied s bytes section first now (k + 1)
 same_copied s bytes section first now k copied outside =
     record {
@@ -324,8 +324,8 @@ same_copied s bytes section first now k copied outside =
         | inl below ↦ copied.done n below in_label
         | inr from ↦
             let here : n ≡ k = omega (arith, from, less) in
-            isnt (one_in_label s.architecture s.phase (relocation_in bytes k).code true false
-            (subst (λ m. IsInLabel s.architecture s.phase (relocation_in bytes m).code true) here in_label) outside)
+            isnt (one_in_label s.architecture s.phase (relocation_in bytes k).r_type true false
+            (subst (λ m. IsInLabel s.architecture s.phase (relocation_in bytes m).r_type true) here in_label) outside)
       ];
       highs = copied.highs;
     }
@@ -430,25 +430,25 @@ x86_64_none TlsLocalExec name = refl
 x86_64_none GotToPcRel name = refl
 x86_64_none ShortPcRel name = refl
 
-no_label : (architecture : Architecture) (phase : Phase) (code : ℕ)
-    → has_labels architecture phase ≡ false → IsInLabel architecture phase code true → ⊥
-no_label RiscV TlsLocalExec code is in_label = isnt is
-no_label RiscV GotToPcRel code is in_label = isnt is
-no_label RiscV PreLayout code is in_label = isnt (in_label.2 ∙ ap is_labelled (in_label.1).value_is)
-no_label RiscV ShortPcRel code is in_label = isnt (in_label.2 ∙ ap is_labelled (in_label.1).value_is)
-no_label AArch64 phase code is in_label =
+no_label : (architecture : Architecture) (phase : Phase) (r_type : ℕ)
+    → has_labels architecture phase ≡ false → IsInLabel architecture phase r_type true → ⊥
+no_label RiscV TlsLocalExec r_type is in_label = isnt is
+no_label RiscV GotToPcRel r_type is in_label = isnt is
+no_label RiscV PreLayout r_type is in_label = isnt (in_label.2 ∙ ap is_labelled (in_label.1).value_is)
+no_label RiscV ShortPcRel r_type is in_label = isnt (in_label.2 ∙ ap is_labelled (in_label.1).value_is)
+no_label AArch64 phase r_type is in_label =
     isnt (in_label.2 ∙ (ap is_labelled (in_label.1).value_is ∙ aarch64_none phase (in_label.1).name))
-no_label LoongArch64 phase code is in_label =
+no_label LoongArch64 phase r_type is in_label =
     isnt (in_label.2 ∙ (ap is_labelled (in_label.1).value_is ∙ loongarch_none phase (in_label.1).name))
-no_label Ppc64 phase code is in_label =
+no_label Ppc64 phase r_type is in_label =
     isnt (in_label.2 ∙ (ap is_labelled (in_label.1).value_is ∙ ppc64_none phase (in_label.1).name))
-no_label X86_64 phase code is in_label =
+no_label X86_64 phase r_type is in_label =
     isnt (in_label.2 ∙ (ap is_labelled (in_label.1).value_is ∙ x86_64_none phase (in_label.1).name))
 
 pub no_labels : (s : RelaxContext) (bytes section : List ℕ) (decisions : List Decision)
     → has_labels s.architecture s.phase ≡ false → AreLabelsNoted s bytes section decisions 0
 no_labels s bytes section decisions is n from less in_label =
-    absurd (no_label s.architecture s.phase (relocation_in bytes n).code is in_label)
+    absurd (no_label s.architecture s.phase (relocation_in bytes n).r_type is in_label)
 
 -- ---- decisions
 
@@ -489,7 +489,7 @@ one_label_decision s bytes section n r x y a b =
 -- all of a label can be rewritten: this one too
 pub fits_here : (s : RelaxContext) (bytes section : List ℕ) (n : ℕ) (r : Rela) (high : ℕ)
     → r ≡ relocation_in bytes n → n < length bytes / 24
-    → IsInLabel s.architecture s.phase r.code true → IsHighIn s bytes r (Some high)
+    → IsInLabel s.architecture s.phase r.r_type true → IsHighIn s bytes r (Some high)
     → LabelFits s bytes section high → IsLabelCandidate s bytes section n r high None → ⊥
 fits_here s bytes section n r high same within in_label is fits none =
     fits.1 (n, within, subst (λ x. Lacks s bytes section n x high) same (in_label, is, none))
@@ -516,7 +516,7 @@ pub never_kept : (s : RelaxContext) (bytes section : List ℕ) (n : ℕ) (r : Re
     → IsLabelNote s bytes section r false
     → (IsAscending bytes → IsHighIn s bytes r (Some high))
     → IsLabelCandidate s bytes section n r high None → r ≡ relocation_in bytes n
-    → n < length bytes / 24 → IsInLabel s.architecture s.phase r.code true → ⊥
+    → n < length bytes / 24 → IsInLabel s.architecture s.phase r.r_type true → ⊥
 never_kept s bytes section n r high noted is none same within in_label =
     let here = is (noted.2.0) in
     fits_here s bytes section n r high same within in_label here

@@ -1,6 +1,6 @@
 -- Of a marked load from LoongArch's GOT both instructions are rewritten, or neither is.
 use Rattle.std.proofs.Common.{◌≡◌, ℕ, ℤ, ◌∙◌, ◌+◌, ◌-◌, ◌≤◌, ◌⊎◌, ◌↔◌, inl, inr, List, [], ap, sym, subst, arith, refl, Bool, true, false, Option, Some, None, slice_get}
-use Rattle.linker_rewriting.proofs.Imports.{Choice, Decision, Independent, IsArchitectureChoice, IsLoongArchChoice, IsNameOf, IsNamed, IsUnchanged, LinkFacts, LoongArch64, LoongArch64Relocation, OutputFacts, PreLayout, Rela, Relaxation, Subject, SymbolFacts, UnrelaxableGroups, choice, code_of, loongarch_name, relaxation_deleted, relaxation_no_op, relaxation_skipped, relocation_in, ◌&&◌}
+use Rattle.linker_rewriting.proofs.Imports.{Choice, Decision, Independent, IsArchitectureChoice, IsLoongArchChoice, IsNameOf, IsNamed, IsUnchanged, LinkFacts, LoongArch64, LoongArch64Relocation, OutputFacts, PreLayout, Rela, Relaxation, Subject, SymbolFacts, UnrelaxableGroups, choice, r_type_of, loongarch_name, relaxation_deleted, relaxation_no_op, relaxation_skipped, relocation_in, ◌&&◌}
 use Rattle.linker_elf.specs.declared.loongarch64.relocations.LoongArch64Relocation.TheVariants as r
 use Rattle.linker_utils.specs.LoongArchRewrites.{IsPair, IsLd, LoongArchChoice, loongarch_deleted}
 use Rattle.linker_utils.specs.declared.loongarch64.rewrites.RewriteKind.{RewriteKind as LoongArchKind}
@@ -75,7 +75,7 @@ alike section o output symbol addend a b high low =
 -- of a relocation it reads the symbol and the addend alone
 abbrev load_of : List ℕ → ℕ → ℕ → ℕ → ℤ → Bool
 load_of bytes n offset symbol addend =
-    are_members marked_load bytes n 0 offset (record { offset = 0; code = 0; symbol = symbol; addend = addend })
+    are_members marked_load bytes n 0 offset (record { offset = 0; r_type = 0; symbol = symbol; addend = addend })
 
 same_load : (bytes : List ℕ) (n offset : ℕ) (one part : Rela) → IsOf one part
     → are_members marked_load bytes n 0 offset part ≡ are_members marked_load bytes n 0 offset one
@@ -84,12 +84,12 @@ same_load bytes n offset one part same =
     ∙ ap (load_of bytes n offset one.symbol) (same.1)
 
 -- a half of a name is among all of its load
-half_whole : (bytes : List ℕ) (n : ℕ) (r : Rela) (code place distance : ℕ) → code ≡ r.code
-    → is_whole LoongArch64 bytes n (record r { code = code })
+half_whole : (bytes : List ℕ) (n : ℕ) (r : Rela) (r_type place distance : ℕ) → r_type ≡ r.r_type
+    → is_whole LoongArch64 bytes n (record r { r_type = r_type })
     ≡ (is_among marked_load place distance bytes n r && true)
     → is_among marked_load place distance bytes n r ≡ true → IsWhole LoongArch64 bytes n r true
-half_whole bytes n r code place distance same at all =
-    sym (ap (λ c. is_whole LoongArch64 bytes n (record r { code = c })) (sym same)
+half_whole bytes n r r_type place distance same at all =
+    sym (ap (λ c. is_whole LoongArch64 bytes n (record r { r_type = c })) (sym same)
     ∙ (at ∙ ap (λ b. b && true) all))
 
 -- ---- candidates
@@ -100,26 +100,26 @@ record IsOfName (name : LoongArch64Relocation) (section : List ℕ) (o : ℕ) (f
   pub named : LoongArchChoice
   pub is_choice : IsLoongArchChoice name section o facts named
   pub kind_is : chosen.kind ≡ relaxations.LoongArch64 named.kind
-  pub code_is : chosen.relocation ≡ code_of (loongarch_name named.relocation)
+  pub r_type_is : chosen.relocation ≡ r_type_of (loongarch_name named.relocation)
 
-of_name : (code : ℕ) (name : LoongArch64Relocation) (section : List ℕ) (o : ℕ) (facts : LinkFacts)
+of_name : (r_type : ℕ) (name : LoongArch64Relocation) (section : List ℕ) (o : ℕ) (facts : LinkFacts)
     (chosen : Choice Relaxation ℕ) → IsNamed (loongarch_name name)
-    → code_of (loongarch_name name) ≡ code
-    → IsArchitectureChoice LoongArch64 code section o facts chosen
+    → r_type_of (loongarch_name name) ≡ r_type
+    → IsArchitectureChoice LoongArch64 r_type section o facts chosen
     → IsOfName name section o facts chosen
-of_name code name section o facts chosen has_text code_is by =
-    let same : by.name ≡ name = by.is_name.named name has_text code_is in
+of_name r_type name section o facts chosen has_text r_type_is by =
+    let same : by.name ≡ name = by.is_name.named name has_text r_type_is in
     record {
       named = by.named;
       is_choice = subst (λ z. IsLoongArchChoice z section o facts by.named) same by.is_choice;
       kind_is = by.kind_is;
-      code_is = by.code_is;
+      r_type_is = by.r_type_is;
     }
 
 -- what keeps one from being rewritten
 abbrev Lacks : List SymbolFacts → List ℕ → List ℕ → ℕ → Rela → Choice Relaxation ℕ → Type 0
 Lacks symbols bytes section n one chosen =
-    IsUnchanged one.code chosen
+    IsUnchanged one.r_type chosen
     ⊎ (IsTaken LoongArch64 symbols bytes n one.offset (relaxation_skipped chosen.kind) false
     ⊎ (IsWhole LoongArch64 bytes n one false
     ⊎ (deletes_within section one.offset (relaxation_deleted chosen.kind) ≡ false)))
@@ -127,7 +127,7 @@ Lacks symbols bytes section n one chosen =
 lacks_nothing : (symbols : List SymbolFacts) (bytes section : List ℕ) (n : ℕ) (one : Rela)
     (chosen : Choice Relaxation ℕ) (kind : LoongArchKind)
     → chosen.kind ≡ relaxations.LoongArch64 kind → loongarch_deleted kind ≡ None
-    → (IsUnchanged one.code chosen → ⊥) → IsWhole LoongArch64 bytes n one true
+    → (IsUnchanged one.r_type chosen → ⊥) → IsWhole LoongArch64 bytes n one true
     → Lacks symbols bytes section n one chosen → ⊥
 lacks_nothing symbols bytes section n one chosen kind is none changes whole lacks =
     elim lacks [
@@ -143,20 +143,20 @@ lacks_nothing symbols bytes section n one chosen kind is none changes whole lack
       ]
     ]
 
-unchanged_high : (code : ℕ) (chosen : Choice Relaxation ℕ) (named : LoongArchChoice)
+unchanged_high : (r_type : ℕ) (chosen : Choice Relaxation ℕ) (named : LoongArchChoice)
     (name : LoongArch64Relocation) → chosen.kind ≡ relaxations.LoongArch64 named.kind
-    → chosen.relocation ≡ code_of (loongarch_name named.relocation)
-    → code_of (loongarch_name name) ≡ code → named ≡ choice kinds.NoOp name
-    → IsUnchanged code chosen
-unchanged_high code chosen named name kind_is code_is is left = (
+    → chosen.relocation ≡ r_type_of (loongarch_name named.relocation)
+    → r_type_of (loongarch_name name) ≡ r_type → named ≡ choice kinds.NoOp name
+    → IsUnchanged r_type chosen
+unchanged_high r_type chosen named name kind_is r_type_is is left = (
   subst relaxation_no_op (sym (kind_is ∙ ap (λ c. relaxations.LoongArch64 c.kind) left)) refl,
-  code_is ∙ (ap (λ c. code_of (loongarch_name c.relocation)) left ∙ is),
+  r_type_is ∙ (ap (λ c. r_type_of (loongarch_name c.relocation)) left ∙ is),
 )
 
 -- both halves, and what is known of them
 record AreHalves (bytes : List ℕ) (n : ℕ) (high low : Rela) : Type 0 where
-  pub high_code : code_of (loongarch_name r.R_LARCH_GOT_PC_HI20) ≡ high.code
-  pub low_code : code_of (loongarch_name r.R_LARCH_GOT_PC_LO12) ≡ low.code
+  pub high_r_type : r_type_of (loongarch_name r.R_LARCH_GOT_PC_HI20) ≡ high.r_type
+  pub low_r_type : r_type_of (loongarch_name r.R_LARCH_GOT_PC_LO12) ≡ low.r_type
   pub low_offset : low.offset ≡ high.offset + 4
   pub high_whole : IsWhole LoongArch64 bytes n high true
   pub low_whole : IsWhole LoongArch64 bytes (n + 2) low true
@@ -169,8 +169,8 @@ high_alone : (symbols : List SymbolFacts) (bytes section : List ℕ) (n : ℕ) (
     → ⊥
 high_alone symbols bytes section n high low output symbol addend x are a b =
     let facts : LinkFacts = facts_of output symbol addend false in
-    let p = of_name high.code r.R_LARCH_GOT_PC_HI20 section high.offset facts x tt are.high_code (a.0) in
-    let q = of_name low.code r.R_LARCH_GOT_PC_LO12 section low.offset facts (b.0) tt are.low_code (b.1) in
+    let p = of_name high.r_type r.R_LARCH_GOT_PC_HI20 section high.offset facts x tt are.high_r_type (a.0) in
+    let q = of_name low.r_type r.R_LARCH_GOT_PC_LO12 section low.offset facts (b.0) tt are.low_r_type (b.1) in
     elim (alike section high.offset output symbol addend p.named q.named p.is_choice
     (subst (λ o. IsLoongArchChoice r.R_LARCH_GOT_PC_LO12 section o facts q.named) are.low_offset q.is_choice)) [
       | inl changed ↦
@@ -179,7 +179,7 @@ high_alone symbols bytes section n high low output symbol addend x are a b =
           lacks_nothing symbols bytes section (n + 2) low (b.0) kinds.LdToAddi is refl
           (λ u. let e : kinds.LdToAddi ≡ kinds.NoOp = subst relaxation_no_op is (u.0) in cc)
           are.low_whole (b.2)
-      | inr left ↦ a.1 (unchanged_high high.code x p.named r.R_LARCH_GOT_PC_HI20 p.kind_is p.code_is are.high_code (left.0))
+      | inr left ↦ a.1 (unchanged_high high.r_type x p.named r.R_LARCH_GOT_PC_HI20 p.kind_is p.r_type_is are.high_r_type (left.0))
     ]
 
 low_alone : (symbols : List SymbolFacts) (bytes section : List ℕ) (n : ℕ) (high low : Rela)
@@ -190,19 +190,19 @@ low_alone : (symbols : List SymbolFacts) (bytes section : List ℕ) (n : ℕ) (h
     → ⊥
 low_alone symbols bytes section n high low output symbol addend y are a b =
     let facts : LinkFacts = facts_of output symbol addend false in
-    let p = of_name high.code r.R_LARCH_GOT_PC_HI20 section high.offset facts (a.0) tt are.high_code (a.1) in
-    let q = of_name low.code r.R_LARCH_GOT_PC_LO12 section low.offset facts y tt are.low_code (b.0) in
+    let p = of_name high.r_type r.R_LARCH_GOT_PC_HI20 section high.offset facts (a.0) tt are.high_r_type (a.1) in
+    let q = of_name low.r_type r.R_LARCH_GOT_PC_LO12 section low.offset facts y tt are.low_r_type (b.0) in
     elim (alike section high.offset output symbol addend p.named q.named p.is_choice
     (subst (λ o. IsLoongArchChoice r.R_LARCH_GOT_PC_LO12 section o facts q.named) are.low_offset q.is_choice)) [
       | inl changed ↦
           let is : (a.0).kind ≡ relaxations.LoongArch64 kinds.NoOp =
           p.kind_is ∙ ap (λ c. relaxations.LoongArch64 c.kind) (changed.0) in
           lacks_nothing symbols bytes section n high (a.0) kinds.NoOp is refl
-          (λ u. let e : code_of (loongarch_name r.R_LARCH_PCALA_HI20) ≡ code_of (loongarch_name r.R_LARCH_GOT_PC_HI20) =
-          sym (p.code_is ∙ ap (λ c. code_of (loongarch_name c.relocation)) (changed.0)) ∙ (u.1 ∙ sym are.high_code) in
+          (λ u. let e : r_type_of (loongarch_name r.R_LARCH_PCALA_HI20) ≡ r_type_of (loongarch_name r.R_LARCH_GOT_PC_HI20) =
+          sym (p.r_type_is ∙ ap (λ c. r_type_of (loongarch_name c.relocation)) (changed.0)) ∙ (u.1 ∙ sym are.high_r_type) in
           omega (arith, e))
           are.high_whole (a.2)
-      | inr left ↦ b.1 (unchanged_high low.code y q.named r.R_LARCH_GOT_PC_LO12 q.kind_is q.code_is are.low_code (left.1))
+      | inr left ↦ b.1 (unchanged_high low.r_type y q.named r.R_LARCH_GOT_PC_LO12 q.kind_is q.r_type_is are.low_r_type (left.1))
     ]
 
 abbrev AreAlike : Option (Choice Relaxation ℕ) → Option (Choice Relaxation ℕ) → Type 0
@@ -241,23 +241,23 @@ by_symbol output symbols bytes section n high low (Some symbol) x y are addend a
 
 record IsAlone (s : RelaxContext) (bytes section : List ℕ) (n : ℕ) (one : Rela)
     (name : LoongArch64Relocation) (decision : Decision) : Type 0 where
-  pub is_name : IsNameOf loongarch_name one.code name
+  pub is_name : IsNameOf loongarch_name one.r_type name
   pub candidate : Option (Choice Relaxation ℕ)
   pub is_candidate : IsCandidate s bytes section n one candidate
   pub decided : decision ≡ decision_of candidate
 
 alone : (output : OutputFacts) (symbols : List SymbolFacts) (kept : List UnrelaxableGroups)
     (bytes section : List ℕ) (n : ℕ) (one : Rela) (name : LoongArch64Relocation) (decision : Decision)
-    → IsNamed (loongarch_name name) → code_of (loongarch_name name) ≡ one.code
+    → IsNamed (loongarch_name name) → r_type_of (loongarch_name name) ≡ one.r_type
     → loongarch_scope_in PreLayout name ≡ Independent
     → IsDecidedAlone (pre_layout LoongArch64 output symbols) kept bytes section n one decision
     → IsAlone (pre_layout LoongArch64 output symbols) bytes section n one name decision
-alone output symbols kept bytes section n one name decision has_text code_is scope_is decided =
-    let same : (decided.1).name ≡ name = (decided.1).is_name.named name has_text code_is in
+alone output symbols kept bytes section n one name decision has_text r_type_is scope_is decided =
+    let same : (decided.1).name ≡ name = (decided.1).is_name.named name has_text r_type_is in
     let is : decided.0 ≡ Independent = (decided.1).value_is ∙ (ap (loongarch_scope_in PreLayout) same ∙ scope_is) in
     let by = subst (λ z. IsScopeDecision (pre_layout LoongArch64 output symbols) kept bytes section n one z decision) is (decided.2) in
     record {
-      is_name = subst (IsNameOf loongarch_name one.code) same (decided.1).is_name;
+      is_name = subst (IsNameOf loongarch_name one.r_type) same (decided.1).is_name;
       candidate = by.0;
       is_candidate = by.1;
       decided = by.2;
@@ -271,20 +271,20 @@ loads_are_whole output symbols kept bytes section decisions limit n decided with
     let load = are_there marked_load high.offset high bytes n 0 is in
     let second = load.1.1.0 in
     let at = second.offset_is in
-    let high_code : code_of (loongarch_name r.R_LARCH_GOT_PC_HI20) ≡ high.code =
-    sym (at_first (member (loongarch_name r.R_LARCH_GOT_PC_HI20) 0 Subject) high.offset high bytes n (load.0)).code_is in
-    let low_code : code_of (loongarch_name r.R_LARCH_GOT_PC_LO12) ≡ low.code = sym second.code_is in
-    let a = alone output symbols kept bytes section n high r.R_LARCH_GOT_PC_HI20 (decision_at decisions n) tt high_code refl
+    let high_r_type : r_type_of (loongarch_name r.R_LARCH_GOT_PC_HI20) ≡ high.r_type =
+    sym (at_first (member (loongarch_name r.R_LARCH_GOT_PC_HI20) 0 Subject) high.offset high bytes n (load.0)).r_type_is in
+    let low_r_type : r_type_of (loongarch_name r.R_LARCH_GOT_PC_LO12) ≡ low.r_type = sym second.r_type_is in
+    let a = alone output symbols kept bytes section n high r.R_LARCH_GOT_PC_HI20 (decision_at decisions n) tt high_r_type refl
     (subst (λ t. IsDecidedAfter s kept bytes section n t (decision_at decisions n)) taken (decided n (omega (arith, within)))) in
-    let b = alone output symbols kept bytes section (n + 2) low r.R_LARCH_GOT_PC_LO12 (decision_at decisions (n + 2)) tt low_code refl
+    let b = alone output symbols kept bytes section (n + 2) low r.R_LARCH_GOT_PC_LO12 (decision_at decisions (n + 2)) tt low_r_type refl
     (subst (λ t. IsDecidedAfter s kept bytes section (n + 2) t (decision_at decisions (n + 2))) taken_too (decided (n + 2) within)) in
     let are : AreHalves bytes n high low = record {
-      high_code = high_code;
-      low_code = low_code;
+      high_r_type = high_r_type;
+      low_r_type = low_r_type;
       low_offset = at;
-      high_whole = half_whole bytes n high _ 0 0 high_code refl
+      high_whole = half_whole bytes n high _ 0 0 high_r_type refl
           (among_is marked_load 0 0 bytes n n high.offset high (omega arith) (omega arith) (omega arith) (omega arith) is);
-      low_whole = half_whole bytes (n + 2) low _ 2 4 low_code refl
+      low_whole = half_whole bytes (n + 2) low _ 2 4 low_r_type refl
           (among_is marked_load 2 4 bytes (n + 2) n high.offset low (omega arith) (omega (arith, at)) (omega arith) (omega (arith, at))
           (same_load bytes n high.offset high low (second.of refl) ∙ is));
     } in

@@ -25,12 +25,12 @@ group_in : Group → Scope → Group
 group_in other (Grouped group) = group
 group_in other scope = other
 
-pub one_group : (s : RelaxContext) (code : ℕ) (x y : Group)
-    → IsScopeIn s.architecture s.phase code (Grouped x)
-    → IsScopeIn s.architecture s.phase code (Grouped y) → x ≡ y
+pub one_group : (s : RelaxContext) (r_type : ℕ) (x y : Group)
+    → IsScopeIn s.architecture s.phase r_type (Grouped x)
+    → IsScopeIn s.architecture s.phase r_type (Grouped y) → x ≡ y
 unfolding group_in
-one_group s code x y a b =
-    ap (group_in x) (one_scope s.architecture s.phase code (Grouped x) (Grouped y) a b)
+one_group s r_type x y a b =
+    ap (group_in x) (one_scope s.architecture s.phase r_type (Grouped x) (Grouped y) a b)
 
 either_stays : (a b : Bool) → IsTrue b → (a || b) ≡ false → ⊥
 either_stays false true is stays = let e : true ≡ false = stays in cc
@@ -39,20 +39,20 @@ either_stays a false is stays = let e : false ≡ true = is in cc
 
 is_noted : (s : RelaxContext) (kept : List UnrelaxableGroups) (bytes section : List ℕ) (n : ℕ) (r : Rela)
     (group : Group) (noted : Option Group)
-    → IsScopeIn s.architecture s.phase r.code (Grouped group)
+    → IsScopeIn s.architecture s.phase r.r_type (Grouped group)
     → group_stays kept group r.symbol ≡ false
     → IsCandidate s bytes section n r None
     → IsKeeping s bytes section n r noted → StaysBy kept r.symbol noted → ⊥
 is_noted s kept bytes section n r group (Some other) scope stays none (inr keeping) noted =
     let e : IfGroupMatches other ≡ Grouped group =
-    one_scope s.architecture s.phase r.code (IfGroupMatches other) (Grouped group) (keeping.0) scope in cc
+    one_scope s.architecture s.phase r.r_type (IfGroupMatches other) (Grouped group) (keeping.0) scope in cc
 is_noted s kept bytes section n r group (Some other) scope stays none (inl keeping) noted =
-    let same : other ≡ group = one_group s r.code other group (keeping.0) scope in
+    let same : other ≡ group = one_group s r.r_type other group (keeping.0) scope in
     either_stays (stays_at kept group 0) (stays_at kept group (symbol_of_group group r.symbol))
     (subst (λ g. IsTrue (stays_at kept g (symbol_of_group g r.symbol))) same noted) stays
 is_noted s kept bytes section n r group None scope stays none keeping noted =
     let has = subst (HasRewrite s bytes section n r)
-    (one_scope s.architecture s.phase r.code (keeping.0) (Grouped group) (keeping.1) scope) (keeping.2) in
+    (one_scope s.architecture s.phase r.r_type (keeping.0) (Grouped group) (keeping.1) scope) (keeping.2) in
     no_other s bytes section n r (has.0) (has.1) none
 
 pub always_surveyed : (s : RelaxContext) (kept : List UnrelaxableGroups) (bytes section : List ℕ) (n : ℕ)

@@ -15,34 +15,34 @@ group_matched : Group → Scope → Group
 group_matched other (IfGroupMatches group) = group
 group_matched other scope = other
 
-one_match : (s : RelaxContext) (code : ℕ) (x y : Group)
-    → IsScopeIn s.architecture s.phase code (IfGroupMatches x)
-    → IsScopeIn s.architecture s.phase code (IfGroupMatches y) → x ≡ y
+one_match : (s : RelaxContext) (r_type : ℕ) (x y : Group)
+    → IsScopeIn s.architecture s.phase r_type (IfGroupMatches x)
+    → IsScopeIn s.architecture s.phase r_type (IfGroupMatches y) → x ≡ y
 unfolding group_matched
-one_match s code x y a b =
-    ap (group_matched x) (one_scope s.architecture s.phase code (IfGroupMatches x) (IfGroupMatches y) a b)
+one_match s r_type x y a b =
+    ap (group_matched x) (one_scope s.architecture s.phase r_type (IfGroupMatches x) (IfGroupMatches y) a b)
 
 -- a relocation keeps one kind of groups, or none
 one_keeping : (s : RelaxContext) (bytes section : List ℕ) (n : ℕ) (r : Rela) (group : Group)
     (other : Option Group) → IsKeeping s bytes section n r (Some group)
     → IsKeeping s bytes section n r other → Some group ≡ other
 one_keeping s bytes section n r group (Some other) (inl a) (inl b) =
-    ap Some (one_group s r.code group other (a.0) (b.0))
+    ap Some (one_group s r.r_type group other (a.0) (b.0))
 one_keeping s bytes section n r group (Some other) (inr a) (inr b) =
-    ap Some (one_match s r.code group other (a.0) (b.0))
+    ap Some (one_match s r.r_type group other (a.0) (b.0))
 one_keeping s bytes section n r group (Some other) (inl a) (inr b) =
     let e : Grouped group ≡ IfGroupMatches other =
-    one_scope s.architecture s.phase r.code (Grouped group) (IfGroupMatches other) (a.0) (b.0) in cc
+    one_scope s.architecture s.phase r.r_type (Grouped group) (IfGroupMatches other) (a.0) (b.0) in cc
 one_keeping s bytes section n r group (Some other) (inr a) (inl b) =
     let e : IfGroupMatches group ≡ Grouped other =
-    one_scope s.architecture s.phase r.code (IfGroupMatches group) (Grouped other) (a.0) (b.0) in cc
+    one_scope s.architecture s.phase r.r_type (IfGroupMatches group) (Grouped other) (a.0) (b.0) in cc
 one_keeping s bytes section n r group None (inl a) b =
     let has = subst (HasRewrite s bytes section n r)
-    (one_scope s.architecture s.phase r.code (b.0) (Grouped group) (b.1) (a.0)) (b.2) in
+    (one_scope s.architecture s.phase r.r_type (b.0) (Grouped group) (b.1) (a.0)) (b.2) in
     absurd (no_other s bytes section n r (has.0) (has.1) (a.1))
 one_keeping s bytes section n r group None (inr a) b =
     let has = subst (HasRewrite s bytes section n r)
-    (one_scope s.architecture s.phase r.code (b.0) (IfGroupMatches group) (b.1) (a.0)) (b.2) in
+    (one_scope s.architecture s.phase r.r_type (b.0) (IfGroupMatches group) (b.1) (a.0)) (b.2) in
     let e : true ≡ false = one_matched s bytes section n r true false has (a.1) in cc
 
 cause_stays : (s : RelaxContext) (bytes section : List ℕ) (before after : List UnrelaxableGroups)
@@ -137,7 +137,7 @@ one_rewritten s bytes section n None x y a b = a ∙ sym b
 one_rewritten s bytes section n (Some r) x y a b =
     one_alone s bytes section n r (b.0) x y
     (subst (λ scope. IsRewrittenAlone s bytes section n r scope x)
-    (one_scope s.architecture s.phase r.code (a.0) (b.0) (a.1) (b.1)) (a.2))
+    (one_scope s.architecture s.phase r.r_type (a.0) (b.0) (a.1) (b.1)) (a.2))
     (b.2)
 
 one_of_scope : (s : RelaxContext) (kept kept_too : List UnrelaxableGroups) (bytes section : List ℕ) (n : ℕ)
@@ -166,7 +166,7 @@ one_decision s kept kept_too bytes section n true x y same a b = a ∙ sym b
 one_decision s kept kept_too bytes section n false x y same a b =
     one_of_scope s kept kept_too bytes section n (relocation_in bytes n) (b.0) x y same
     (subst (λ scope. IsScopeDecision s kept bytes section n (relocation_in bytes n) scope x)
-    (one_scope s.architecture s.phase (relocation_in bytes n).code (a.0) (b.0) (a.1) (b.1)) (a.2))
+    (one_scope s.architecture s.phase (relocation_in bytes n).r_type (a.0) (b.0) (a.1) (b.1)) (a.2))
     (b.2)
 
 pub decisions_follow : DecisionsFollow

@@ -12,7 +12,7 @@ use Rattle.linker_rewriting.specs.Groups.{IsScopeIn}
 -- a relocation that is rewritten has one
 pub record IsListed (s : RelaxContext) (r : Rela) : Type 0 where
   pub scope : Scope
-  pub is_scope : IsScopeIn s.architecture s.phase r.code scope
+  pub is_scope : IsScopeIn s.architecture s.phase r.r_type scope
   pub listed : scope ≡ NotRelaxable → ⊥
 
 pub listed_at : (s : RelaxContext) (kept : List UnrelaxableGroups) (bytes section : List ℕ)

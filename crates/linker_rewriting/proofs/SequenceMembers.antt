@@ -25,13 +25,13 @@ members_left ms bytes first offset r k d found is less found_is is_so =
     (ap (is_member (get_or ms k d) offset r) (sym found_is) ∙ sym is_so)
 
 pub places_left : (all ms : List Member) (bytes : List ℕ) (n : ℕ) (r : Rela) (k : ℕ) (d : Member) (is : Bool)
-    → k < length ms → is ≡ is_place (get_or ms k d) r.code
+    → k < length ms → is ≡ is_place (get_or ms k d) r.r_type
     → is_whole_in all (drop k ms) k bytes n r
     ≡ cond is (is_among all k (get_or ms k d).distance bytes n r)
     (is_whole_in all (drop (k + 1) ms) (k + 1) bytes n r)
 places_left all ms bytes n r k d is less is_so =
     let e : is_whole_in all (drop k ms) k bytes n r
-    ≡ cond (is_place (get_or ms k d) r.code) (is_among all k (get_or ms k d).distance bytes n r)
+    ≡ cond (is_place (get_or ms k d) r.r_type) (is_among all k (get_or ms k d).distance bytes n r)
     (is_whole_in all (drop (k + 1) ms) (k + 1) bytes n r) =
     rw (drop-cons ms k d, add-one) refl in
     e
@@ -68,7 +68,7 @@ of_tie Mark one found is typed = absurd (let e : false ≡ true = typed in cc)
 pub record IsThere (m : Member) (offset : ℕ) (one : Rela) (bytes : List ℕ) (i : ℕ) : Type 0 where
   pub below : i < length bytes / 24
   pub offset_is : (relocation_in bytes i).offset ≡ offset + m.distance
-  pub code_is : (relocation_in bytes i).code ≡ m.r_type
+  pub r_type_is : (relocation_in bytes i).r_type ≡ m.r_type
   pub of : is_typed m.tie ≡ true → IsOf one (relocation_in bytes i)
 
 member_there : (m : Member) (offset : ℕ) (one : Rela) (bytes : List ℕ) (i : ℕ)
@@ -77,13 +77,13 @@ member_there m offset one bytes i is =
     let found = relocation_in bytes i in
     elim (cases_lt i (length bytes / 24)) [
       | inl below ↦
-          let a = and_parts (found.offset == offset + m.distance) ((found.code == m.r_type) && is_tied m.tie one found)
+          let a = and_parts (found.offset == offset + m.distance) ((found.r_type == m.r_type) && is_tied m.tie one found)
           (subst (λ x. is_member m offset one x ≡ true) (there bytes i below) is) in
-          let b = and_parts (found.code == m.r_type) (is_tied m.tie one found) (a.1) in
+          let b = and_parts (found.r_type == m.r_type) (is_tied m.tie one found) (a.1) in
           record {
             below = below;
             offset_is = eqb-true found.offset (offset + m.distance) (a.0);
-            code_is = eqb-true found.code m.r_type (b.0);
+            r_type_is = eqb-true found.r_type m.r_type (b.0);
             of = of_tie m.tie one found (b.1);
           }
       | inr past ↦

@@ -3,7 +3,7 @@ use Rattle.std.proofs.Common.{◌≡◌, ℕ, ◌+◌, inl, inr, ◌∙◌, List
 use Rattle.linker_rewriting.proofs.Imports.{AArch64, Addresses, Architecture, GotToPcRel, Group, Grouped, IfGroupMatches, LoongArch64, OutputFacts, Phase, Ppc64, PreLayout, Rela, RiscV, Scope, ShortPcRel, Symbol, SymbolFacts, TlsLocalExec, UnrelaxableGroups, X86_64, relocation_in, slice_get}
 use Rattle.linker_rewriting.specs.Facts.{RelaxContext, context}
 use Rattle.linker_rewriting.specs.Groups.{stays_at, symbol_of_group}
-use Rattle.linker_rewriting.specs.Inner.Codes.{needs_mark, is_of_group, KeepsNone}
+use Rattle.linker_rewriting.specs.Inner.RelocationTypes.{needs_mark, is_of_group, KeepsNone}
 use Rattle.linker_rewriting.specs.Surveys.{AreKeptToo, IsGroupOf, IsOfThreads, IsKeeping, IsUnmarked, IsUnmarkedIn, IsUnmarkedBy, HasRewrite, StaysBy, AllStayIf, IsNoted, IsCause, IsSurveyedIn}
 use borrow.Author.Count.{below_more}
 

@@ -1,6 +1,6 @@
--- What a code, a choice and a candidate are is one thing.
+-- What an `r_type`, a choice and a candidate are is one thing.
 use Rattle.std.proofs.Common.{◌≡◌, ℕ, refl, sym, ap, subst, ◌∙◌, List, [], ◌∷◌, Option, Some, None, Bool, true, false, ◌⊎◌, inl, inr, slice_get, ◌&&◌, ◌==◌, ◌+◌, zero, suc, is_some, not}
-use Rattle.linker_rewriting.proofs.Imports.{AArch64, AArch64Relocation, Architecture, Choice, ElfName, Entry, IsAArch64Choice, IsArchitectureChoice, IsChosenBy, IsFirst, IsLoongArchChoice, IsNameOf, IsNamed, IsPpc64Choice, IsUnchanged, LinkFacts, LoongArch64, LoongArch64Relocation, NotRelaxable, Phase, Ppc64, Ppc64Relocation, Rela, Relaxation, RiscV, Scope, SymbolFacts, X86_64, X86_64Relocation, aarch64_name, choice, code_of, loongarch_name, ppc64_name, relaxation_deleted, relaxation_skipped, relocation_at, relocation_in}
+use Rattle.linker_rewriting.proofs.Imports.{AArch64, AArch64Relocation, Architecture, Choice, ElfName, Entry, IsAArch64Choice, IsArchitectureChoice, IsChosenBy, IsFirst, IsLoongArchChoice, IsNameOf, IsNamed, IsPpc64Choice, IsUnchanged, LinkFacts, LoongArch64, LoongArch64Relocation, NotRelaxable, Phase, Ppc64, Ppc64Relocation, Rela, Relaxation, RiscV, Scope, SymbolFacts, X86_64, X86_64Relocation, aarch64_name, choice, r_type_of, loongarch_name, ppc64_name, relaxation_deleted, relaxation_skipped, relocation_at, relocation_in}
 use Rattle.linker_elf.specs.ElfNames.{named, unnamed}
 use Rattle.linker_elf.specs.RiscVRelocations.{riscv_name}
 use Rattle.linker_elf.specs.X86Relocations.{x86_64_name}
@@ -36,29 +36,29 @@ use Rattle.linker_elf.specs.Architectures.{IsNamedValue}
 -- ---- one name
 
 is_named_or_not : (elf : ElfName) → IsNamed elf ⊎ (IsNamed elf → ⊥)
-is_named_or_not (named code text) = inl tt
-is_named_or_not (unnamed code) = inr (λ is. is)
+is_named_or_not (named r_type text) = inl tt
+is_named_or_not (unnamed r_type) = inr (λ is. is)
 
--- two names of a code are the same, or have no text
+-- two names of an `r_type` are the same, or have no text
 abbrev AreOfOne : {Name : Type 0} → (Name → ElfName) → Name → Name → Type 0
 AreOfOne elf a b = (b ≡ a) ⊎ ((IsNamed (elf a) → ⊥) × (IsNamed (elf b) → ⊥))
 
-one_name : {Name : Type 0} (elf : Name → ElfName) (code : ℕ) (a b : Name) → IsNameOf elf code a
-    → IsNameOf elf code b → AreOfOne elf a b
-one_name elf code a b is_a is_b =
+one_name : {Name : Type 0} (elf : Name → ElfName) (r_type : ℕ) (a b : Name) → IsNameOf elf r_type a
+    → IsNameOf elf r_type b → AreOfOne elf a b
+one_name elf r_type a b is_a is_b =
     elim (is_named_or_not (elf a)) [
-      | inl is ↦ inl (is_b.named a is is_a.code_is)
+      | inl is ↦ inl (is_b.named a is is_a.r_type_is)
       | inr isnt ↦ elim (is_named_or_not (elf b)) [
-        | inl is ↦ inl (sym (is_a.named b is is_b.code_is))
+        | inl is ↦ inl (sym (is_a.named b is is_b.r_type_is))
         | inr other ↦ inr (isnt, other)
       ]
     ]
 
-of_one : {Name A : Type 0} (elf : Name → ElfName) (value_of : Name → A) (none : A) (code : ℕ)
+of_one : {Name A : Type 0} (elf : Name → ElfName) (value_of : Name → A) (none : A) (r_type : ℕ)
     (x y : A) → ((name : Name) → (IsNamed (elf name) → ⊥) → value_of name ≡ none)
-    → IsNamedValue elf value_of code x → IsNamedValue elf value_of code y → x ≡ y
-of_one elf value_of none code x y nothing a b =
-    elim (one_name elf code a.name b.name a.is_name b.is_name) [
+    → IsNamedValue elf value_of r_type x → IsNamedValue elf value_of r_type y → x ≡ y
+of_one elf value_of none r_type x y nothing a b =
+    elim (one_name elf r_type a.name b.name a.is_name b.is_name) [
       | inl same ↦ a.value_is ∙ (sym (ap value_of same) ∙ sym b.value_is)
       | inr isnt ↦ a.value_is ∙ (nothing a.name (isnt.0) ∙ (sym (nothing b.name (isnt.1)) ∙ sym b.value_is))
     ]
@@ -66,47 +66,47 @@ of_one elf value_of none code x y nothing a b =
 -- ---- names without a text have no scope
 
 aarch64_unlisted : (phase : Phase) (name : AArch64Relocation) → (IsNamed (aarch64_name name) → ⊥) → aarch64_scope_in phase name ≡ NotRelaxable
-aarch64_unlisted phases.PreLayout (aarch64_names.Other code) isnt = refl
-aarch64_unlisted phases.TlsLocalExec (aarch64_names.Other code) isnt = refl
-aarch64_unlisted phases.GotToPcRel (aarch64_names.Other code) isnt = refl
-aarch64_unlisted phases.ShortPcRel (aarch64_names.Other code) isnt = refl
+aarch64_unlisted phases.PreLayout (aarch64_names.Other r_type) isnt = refl
+aarch64_unlisted phases.TlsLocalExec (aarch64_names.Other r_type) isnt = refl
+aarch64_unlisted phases.GotToPcRel (aarch64_names.Other r_type) isnt = refl
+aarch64_unlisted phases.ShortPcRel (aarch64_names.Other r_type) isnt = refl
 aarch64_unlisted phase _ isnt = absurd (isnt tt)
 
 riscv64_unlisted : (phase : Phase) (name : RiscVRelocation) → (IsNamed (riscv_name name) → ⊥) → riscv_scope_in phase name ≡ NotRelaxable
-riscv64_unlisted phases.PreLayout (riscv64_names.Other code) isnt = refl
-riscv64_unlisted phases.TlsLocalExec (riscv64_names.Other code) isnt = refl
-riscv64_unlisted phases.GotToPcRel (riscv64_names.Other code) isnt = refl
-riscv64_unlisted phases.ShortPcRel (riscv64_names.Other code) isnt = refl
+riscv64_unlisted phases.PreLayout (riscv64_names.Other r_type) isnt = refl
+riscv64_unlisted phases.TlsLocalExec (riscv64_names.Other r_type) isnt = refl
+riscv64_unlisted phases.GotToPcRel (riscv64_names.Other r_type) isnt = refl
+riscv64_unlisted phases.ShortPcRel (riscv64_names.Other r_type) isnt = refl
 riscv64_unlisted phase _ isnt = absurd (isnt tt)
 
 loongarch64_unlisted : (phase : Phase) (name : LoongArch64Relocation) → (IsNamed (loongarch_name name) → ⊥) → loongarch_scope_in phase name ≡ NotRelaxable
-loongarch64_unlisted phases.PreLayout (loongarch64_names.Other code) isnt = refl
-loongarch64_unlisted phases.TlsLocalExec (loongarch64_names.Other code) isnt = refl
-loongarch64_unlisted phases.GotToPcRel (loongarch64_names.Other code) isnt = refl
-loongarch64_unlisted phases.ShortPcRel (loongarch64_names.Other code) isnt = refl
+loongarch64_unlisted phases.PreLayout (loongarch64_names.Other r_type) isnt = refl
+loongarch64_unlisted phases.TlsLocalExec (loongarch64_names.Other r_type) isnt = refl
+loongarch64_unlisted phases.GotToPcRel (loongarch64_names.Other r_type) isnt = refl
+loongarch64_unlisted phases.ShortPcRel (loongarch64_names.Other r_type) isnt = refl
 loongarch64_unlisted phase _ isnt = absurd (isnt tt)
 
 ppc64_unlisted : (phase : Phase) (name : Ppc64Relocation) → (IsNamed (ppc64_name name) → ⊥) → ppc64_scope_in phase name ≡ NotRelaxable
-ppc64_unlisted phases.PreLayout (ppc64_names.Other code) isnt = refl
-ppc64_unlisted phases.TlsLocalExec (ppc64_names.Other code) isnt = refl
-ppc64_unlisted phases.GotToPcRel (ppc64_names.Other code) isnt = refl
-ppc64_unlisted phases.ShortPcRel (ppc64_names.Other code) isnt = refl
+ppc64_unlisted phases.PreLayout (ppc64_names.Other r_type) isnt = refl
+ppc64_unlisted phases.TlsLocalExec (ppc64_names.Other r_type) isnt = refl
+ppc64_unlisted phases.GotToPcRel (ppc64_names.Other r_type) isnt = refl
+ppc64_unlisted phases.ShortPcRel (ppc64_names.Other r_type) isnt = refl
 ppc64_unlisted phase _ isnt = absurd (isnt tt)
 
 x86_64_unlisted : (phase : Phase) (name : X86_64Relocation) → (IsNamed (x86_64_name name) → ⊥) → x86_64_scope_in phase name ≡ NotRelaxable
-x86_64_unlisted phases.PreLayout (x86_64_names.Other code) isnt = refl
-x86_64_unlisted phases.TlsLocalExec (x86_64_names.Other code) isnt = refl
-x86_64_unlisted phases.GotToPcRel (x86_64_names.Other code) isnt = refl
-x86_64_unlisted phases.ShortPcRel (x86_64_names.Other code) isnt = refl
+x86_64_unlisted phases.PreLayout (x86_64_names.Other r_type) isnt = refl
+x86_64_unlisted phases.TlsLocalExec (x86_64_names.Other r_type) isnt = refl
+x86_64_unlisted phases.GotToPcRel (x86_64_names.Other r_type) isnt = refl
+x86_64_unlisted phases.ShortPcRel (x86_64_names.Other r_type) isnt = refl
 x86_64_unlisted phase _ isnt = absurd (isnt tt)
 
-pub one_scope : (architecture : Architecture) (phase : Phase) (code : ℕ) (x y : Scope)
-    → IsScopeIn architecture phase code x → IsScopeIn architecture phase code y → x ≡ y
-one_scope AArch64 phase code x y = of_one aarch64_name (aarch64_scope_in phase) NotRelaxable code x y (aarch64_unlisted phase)
-one_scope RiscV phase code x y = of_one riscv_name (riscv_scope_in phase) NotRelaxable code x y (riscv64_unlisted phase)
-one_scope LoongArch64 phase code x y = of_one loongarch_name (loongarch_scope_in phase) NotRelaxable code x y (loongarch64_unlisted phase)
-one_scope Ppc64 phase code x y = of_one ppc64_name (ppc64_scope_in phase) NotRelaxable code x y (ppc64_unlisted phase)
-one_scope X86_64 phase code x y = of_one x86_64_name (x86_64_scope_in phase) NotRelaxable code x y (x86_64_unlisted phase)
+pub one_scope : (architecture : Architecture) (phase : Phase) (r_type : ℕ) (x y : Scope)
+    → IsScopeIn architecture phase r_type x → IsScopeIn architecture phase r_type y → x ≡ y
+one_scope AArch64 phase r_type x y = of_one aarch64_name (aarch64_scope_in phase) NotRelaxable r_type x y (aarch64_unlisted phase)
+one_scope RiscV phase r_type x y = of_one riscv_name (riscv_scope_in phase) NotRelaxable r_type x y (riscv64_unlisted phase)
+one_scope LoongArch64 phase r_type x y = of_one loongarch_name (loongarch_scope_in phase) NotRelaxable r_type x y (loongarch64_unlisted phase)
+one_scope Ppc64 phase r_type x y = of_one ppc64_name (ppc64_scope_in phase) NotRelaxable r_type x y (ppc64_unlisted phase)
+one_scope X86_64 phase r_type x y = of_one x86_64_name (x86_64_scope_in phase) NotRelaxable r_type x y (x86_64_unlisted phase)
 
 -- ---- one choice
 
@@ -119,105 +119,105 @@ first_one A (e ∷ es) o x y (inr a) (inl b) = absurd (a.0 (b.0))
 first_one A (e ∷ es) o x y (inr a) (inr b) = first_one A es o x y (a.1) (b.1)
 
 same_choice : (x y : Choice Relaxation ℕ) → x.kind ≡ y.kind → x.relocation ≡ y.relocation → x ≡ y
-same_choice x y kind code =
-    ap (λ k. choice k x.relocation) kind ∙ ap (choice y.kind) code
+same_choice x y kind r_type =
+    ap (λ k. choice k x.relocation) kind ∙ ap (choice y.kind) r_type
 
 of_name : {Kind Name : Type 0} (elf : Name → ElfName) (relaxation : Kind → Relaxation)
-    (IsChoice : Name → Choice Kind Name → Type 0) (code : ℕ) (x y : Choice Relaxation ℕ)
+    (IsChoice : Name → Choice Kind Name → Type 0) (r_type : ℕ) (x y : Choice Relaxation ℕ)
     → ((name : Name) (p q : Choice Kind Name) → IsChoice name p → IsChoice name q → p ≡ q)
-    → (a : IsChosenBy elf relaxation IsChoice code x) → (b : IsChosenBy elf relaxation IsChoice code y)
+    → (a : IsChosenBy elf relaxation IsChoice r_type x) → (b : IsChosenBy elf relaxation IsChoice r_type y)
     → b.name ≡ a.name → x ≡ y
-of_name elf relaxation IsChoice code x y one a b same =
+of_name elf relaxation IsChoice r_type x y one a b same =
     let both = one a.name a.named b.named a.is_choice (subst (λ n. IsChoice n b.named) same b.is_choice) in
     same_choice x y
     (a.kind_is ∙ (ap (λ p. relaxation p.kind) both ∙ sym b.kind_is))
-    (a.code_is ∙ (ap (λ p. code_of (elf p.relocation)) both ∙ sym b.code_is))
+    (a.r_type_is ∙ (ap (λ p. r_type_of (elf p.relocation)) both ∙ sym b.r_type_is))
 
--- of a code without a name the choice changes nothing
+-- of an `r_type` without a name the choice changes nothing
 of_none : {Kind Name : Type 0} (elf : Name → ElfName) (relaxation : Kind → Relaxation)
-    (IsChoice : Name → Choice Kind Name → Type 0) (none : Kind) (code : ℕ) (x : Choice Relaxation ℕ)
+    (IsChoice : Name → Choice Kind Name → Type 0) (none : Kind) (r_type : ℕ) (x : Choice Relaxation ℕ)
     → ((name : Name) (p : Choice Kind Name) → (IsNamed (elf name) → ⊥) → IsChoice name p → p ≡ choice none name)
-    → (a : IsChosenBy elf relaxation IsChoice code x) → (IsNamed (elf a.name) → ⊥)
-    → x ≡ choice (relaxation none) code
-of_none elf relaxation IsChoice none code x nothing a isnt =
+    → (a : IsChosenBy elf relaxation IsChoice r_type x) → (IsNamed (elf a.name) → ⊥)
+    → x ≡ choice (relaxation none) r_type
+of_none elf relaxation IsChoice none r_type x nothing a isnt =
     let is = nothing a.name a.named isnt a.is_choice in
-    same_choice x (choice (relaxation none) code)
+    same_choice x (choice (relaxation none) r_type)
     (a.kind_is ∙ ap (λ p. relaxation p.kind) is)
-    (a.code_is ∙ (ap (λ p. code_of (elf p.relocation)) is ∙ a.is_name.code_is))
+    (a.r_type_is ∙ (ap (λ p. r_type_of (elf p.relocation)) is ∙ a.is_name.r_type_is))
 
 by_name : {Kind Name : Type 0} (elf : Name → ElfName) (relaxation : Kind → Relaxation)
-    (IsChoice : Name → Choice Kind Name → Type 0) (none : Kind) (code : ℕ) (x y : Choice Relaxation ℕ)
+    (IsChoice : Name → Choice Kind Name → Type 0) (none : Kind) (r_type : ℕ) (x y : Choice Relaxation ℕ)
     → ((name : Name) (p q : Choice Kind Name) → IsChoice name p → IsChoice name q → p ≡ q)
     → ((name : Name) (p : Choice Kind Name) → (IsNamed (elf name) → ⊥) → IsChoice name p → p ≡ choice none name)
-    → IsChosenBy elf relaxation IsChoice code x → IsChosenBy elf relaxation IsChoice code y → x ≡ y
-by_name elf relaxation IsChoice none code x y one nothing a b =
-    elim (one_name elf code a.name b.name a.is_name b.is_name) [
-      | inl same ↦ of_name elf relaxation IsChoice code x y one a b same
-      | inr isnt ↦ of_none elf relaxation IsChoice none code x nothing a (isnt.0)
-          ∙ sym (of_none elf relaxation IsChoice none code y nothing b (isnt.1))
+    → IsChosenBy elf relaxation IsChoice r_type x → IsChosenBy elf relaxation IsChoice r_type y → x ≡ y
+by_name elf relaxation IsChoice none r_type x y one nothing a b =
+    elim (one_name elf r_type a.name b.name a.is_name b.is_name) [
+      | inl same ↦ of_name elf relaxation IsChoice r_type x y one a b same
+      | inr isnt ↦ of_none elf relaxation IsChoice none r_type x nothing a (isnt.0)
+          ∙ sym (of_none elf relaxation IsChoice none r_type y nothing b (isnt.1))
     ]
 
 aarch64_nothing : (section : List ℕ) (o : ℕ) (facts : LinkFacts) (name : AArch64Relocation) (p : Choice AArch64Kind AArch64Relocation) → (IsNamed (aarch64_name name) → ⊥) → IsAArch64Choice name section o facts p → p ≡ choice aarch64_kinds.NoOp name
-aarch64_nothing section o facts (aarch64_names.Other code) p isnt is = is
+aarch64_nothing section o facts (aarch64_names.Other r_type) p isnt is = is
 aarch64_nothing section o facts _ p isnt is = absurd (isnt tt)
 
 riscv64_nothing : (section : List ℕ) (o : ℕ) (facts : LinkFacts) (name : RiscVRelocation) (p : Choice RiscVKind RiscVRelocation) → (IsNamed (riscv_name name) → ⊥) → IsRiscVChoice name section o facts p → p ≡ choice riscv64_kinds.NoOp name
-riscv64_nothing section o facts (riscv64_names.Other code) p isnt is = is
+riscv64_nothing section o facts (riscv64_names.Other r_type) p isnt is = is
 riscv64_nothing section o facts _ p isnt is = absurd (isnt tt)
 
 loongarch64_nothing : (section : List ℕ) (o : ℕ) (facts : LinkFacts) (name : LoongArch64Relocation) (p : Choice LoongArchKind LoongArch64Relocation) → (IsNamed (loongarch_name name) → ⊥) → IsLoongArchChoice name section o facts p → p ≡ choice loongarch64_kinds.NoOp name
-loongarch64_nothing section o facts (loongarch64_names.Other code) p isnt is = is
+loongarch64_nothing section o facts (loongarch64_names.Other r_type) p isnt is = is
 loongarch64_nothing section o facts _ p isnt is = absurd (isnt tt)
 
 ppc64_nothing : (section : List ℕ) (o : ℕ) (facts : LinkFacts) (name : Ppc64Relocation) (p : Choice Ppc64Kind Ppc64Relocation) → (IsNamed (ppc64_name name) → ⊥) → IsPpc64Choice name section o facts p → p ≡ choice ppc64_kinds.NoOp name
-ppc64_nothing section o facts (ppc64_names.Other code) p isnt is = is
+ppc64_nothing section o facts (ppc64_names.Other r_type) p isnt is = is
 ppc64_nothing section o facts _ p isnt is = absurd (isnt tt)
 
 x86_64_nothing : (section : List ℕ) (o : ℕ) (facts : LinkFacts) (name : X86_64Relocation) (p : Choice X86Kind X86_64Relocation) → (IsNamed (x86_64_name name) → ⊥) → IsX86Choice name section o facts p → p ≡ choice x86_64_kinds.NoOp name
-x86_64_nothing section o facts (x86_64_names.Other code) p isnt is = is
+x86_64_nothing section o facts (x86_64_names.Other r_type) p isnt is = is
 x86_64_nothing section o facts _ p isnt is = absurd (isnt tt)
 
-pub one_choice : (architecture : Architecture) (code : ℕ) (section : List ℕ) (o : ℕ)
+pub one_choice : (architecture : Architecture) (r_type : ℕ) (section : List ℕ) (o : ℕ)
     (facts : LinkFacts) (x y : Choice Relaxation ℕ)
-    → IsArchitectureChoice architecture code section o facts x
-    → IsArchitectureChoice architecture code section o facts y → x ≡ y
-one_choice AArch64 code section o facts x y =
-    by_name aarch64_name relaxations.AArch64 (λ name. IsAArch64Choice name section o facts) aarch64_kinds.NoOp code x y
+    → IsArchitectureChoice architecture r_type section o facts x
+    → IsArchitectureChoice architecture r_type section o facts y → x ≡ y
+one_choice AArch64 r_type section o facts x y =
+    by_name aarch64_name relaxations.AArch64 (λ name. IsAArch64Choice name section o facts) aarch64_kinds.NoOp r_type x y
     (λ name p q. first_one _ _ _ p q) (aarch64_nothing section o facts)
-one_choice RiscV code section o facts x y =
-    by_name riscv_name relaxations.RiscV (λ name. IsRiscVChoice name section o facts) riscv64_kinds.NoOp code x y
+one_choice RiscV r_type section o facts x y =
+    by_name riscv_name relaxations.RiscV (λ name. IsRiscVChoice name section o facts) riscv64_kinds.NoOp r_type x y
     (λ name p q. first_one _ _ _ p q) (riscv64_nothing section o facts)
-one_choice LoongArch64 code section o facts x y =
-    by_name loongarch_name relaxations.LoongArch64 (λ name. IsLoongArchChoice name section o facts) loongarch64_kinds.NoOp code x y
+one_choice LoongArch64 r_type section o facts x y =
+    by_name loongarch_name relaxations.LoongArch64 (λ name. IsLoongArchChoice name section o facts) loongarch64_kinds.NoOp r_type x y
     (λ name p q. first_one _ _ _ p q) (loongarch64_nothing section o facts)
-one_choice Ppc64 code section o facts x y =
-    by_name ppc64_name relaxations.Ppc64 (λ name. IsPpc64Choice name section o facts) ppc64_kinds.NoOp code x y
+one_choice Ppc64 r_type section o facts x y =
+    by_name ppc64_name relaxations.Ppc64 (λ name. IsPpc64Choice name section o facts) ppc64_kinds.NoOp r_type x y
     (λ name p q. first_one _ _ _ p q) (ppc64_nothing section o facts)
-one_choice X86_64 code section o facts x y =
-    by_name x86_64_name relaxations.X86_64 (λ name. IsX86Choice name section o facts) x86_64_kinds.NoOp code x y
+one_choice X86_64 r_type section o facts x y =
+    by_name x86_64_name relaxations.X86_64 (λ name. IsX86Choice name section o facts) x86_64_kinds.NoOp r_type x y
     (λ name p q. first_one _ _ _ p q) (x86_64_nothing section o facts)
 
 -- ---- one candidate
 
 riscv64_kept : (name : RiscVRelocation) → (IsNamed (riscv_name name) → ⊥) → riscv_may_be_skipped name ≡ false
-riscv64_kept (riscv64_names.Other code) isnt = refl
+riscv64_kept (riscv64_names.Other r_type) isnt = refl
 riscv64_kept _ isnt = absurd (isnt tt)
 
 ppc64_kept : (name : Ppc64Relocation) → (IsNamed (ppc64_name name) → ⊥) → ppc64_may_be_skipped name ≡ false
-ppc64_kept (ppc64_names.Other code) isnt = refl
+ppc64_kept (ppc64_names.Other r_type) isnt = refl
 ppc64_kept _ isnt = absurd (isnt tt)
 
 x86_64_kept : (name : X86_64Relocation) → (IsNamed (x86_64_name name) → ⊥) → x86_64_may_be_skipped name ≡ false
-x86_64_kept (x86_64_names.Other code) isnt = refl
+x86_64_kept (x86_64_names.Other r_type) isnt = refl
 x86_64_kept _ isnt = absurd (isnt tt)
 
-one_skippable : (architecture : Architecture) (code : ℕ) (x y : Bool)
-    → IsSkippable architecture code x → IsSkippable architecture code y → x ≡ y
-one_skippable AArch64 code x y a b = a ∙ sym b
-one_skippable LoongArch64 code x y a b = a ∙ sym b
-one_skippable RiscV code x y a b = of_one riscv_name riscv_may_be_skipped false code x y riscv64_kept a b
-one_skippable Ppc64 code x y a b = of_one ppc64_name ppc64_may_be_skipped false code x y ppc64_kept a b
-one_skippable X86_64 code x y a b = of_one x86_64_name x86_64_may_be_skipped false code x y x86_64_kept a b
+one_skippable : (architecture : Architecture) (r_type : ℕ) (x y : Bool)
+    → IsSkippable architecture r_type x → IsSkippable architecture r_type y → x ≡ y
+one_skippable AArch64 r_type x y a b = a ∙ sym b
+one_skippable LoongArch64 r_type x y a b = a ∙ sym b
+one_skippable RiscV r_type x y a b = of_one riscv_name riscv_may_be_skipped false r_type x y riscv64_kept a b
+one_skippable Ppc64 r_type x y a b = of_one ppc64_name ppc64_may_be_skipped false r_type x y ppc64_kept a b
+one_skippable X86_64 r_type x y a b = of_one x86_64_name x86_64_may_be_skipped false r_type x y x86_64_kept a b
 
 one_call : (architecture : Architecture) (symbols : List SymbolFacts) (offset distance : ℕ)
     (next : Option Rela) (x y : Bool) → IsCallIn architecture symbols offset distance next x
@@ -226,7 +226,7 @@ one_call architecture symbols offset distance None x y a b = a ∙ sym b
 one_call architecture symbols offset distance (Some next) x y a b =
     a.2
     ∙ (ap (λ z. (next.offset == offset + distance) && (z && calls_tls_get_addr (slice_get symbols next.symbol)))
-    (one_skippable architecture next.code (a.0) (b.0) (a.1) (b.1)) ∙ sym (b.2))
+    (one_skippable architecture next.r_type (a.0) (b.0) (a.1) (b.1)) ∙ sym (b.2))
 
 one_taken : (architecture : Architecture) (symbols : List SymbolFacts) (bytes : List ℕ)
     (n offset : ℕ) (skipped : Option ℕ) (x y : Bool)
@@ -253,9 +253,9 @@ not_both : (architecture : Architecture) (symbols : List SymbolFacts) (bytes sec
     → IsCandidateBy architecture symbols bytes section n r facts (Some x)
     → IsCandidateBy architecture symbols bytes section n r facts None → ⊥
 not_both architecture symbols bytes section n r facts x a b =
-    let same : b.0 ≡ x = one_choice architecture r.code section r.offset facts (b.0) x (b.1) (a.0) in
+    let same : b.0 ≡ x = one_choice architecture r.r_type section r.offset facts (b.0) x (b.1) (a.0) in
     elim (b.2) [
-      | inl unchanged ↦ a.1 (subst (IsUnchanged r.code) same unchanged)
+      | inl unchanged ↦ a.1 (subst (IsUnchanged r.r_type) same unchanged)
       | inr lacks ↦ elim lacks [
         | inl taken ↦ true_or_false
             (one_taken architecture symbols bytes n r.offset (relaxation_skipped x.kind) true false (a.2)
@@ -295,7 +295,7 @@ one_candidate_with s bytes section n r (Some facts) (Some x) None a b =
 one_candidate_with s bytes section n r (Some facts) None (Some y) a b =
     absurd (not_both s.architecture s.symbols bytes section n r facts y b a)
 one_candidate_with s bytes section n r (Some facts) (Some x) (Some y) a b =
-    ap Some (one_choice s.architecture r.code section r.offset facts x y (a.0) (b.0))
+    ap Some (one_choice s.architecture r.r_type section r.offset facts x y (a.0) (b.0))
 
 pub one_candidate : (s : RelaxContext) (bytes section : List ℕ) (n : ℕ) (r : Rela)
     (x y : Option (Choice Relaxation ℕ)) → IsCandidate s bytes section n r x
@@ -316,7 +316,7 @@ one_matched s bytes section n r x y a b =
 -- ---- marks of PowerPC64's calls
 
 markless : (name : Ppc64Relocation) → (IsNamed (ppc64_name name) → ⊥) → is_mark name ≡ false
-markless (ppc64_names.Other code) isnt = refl
+markless (ppc64_names.Other r_type) isnt = refl
 markless _ isnt = absurd (isnt tt)
 
 one_marked : (bytes : List ℕ) (n : ℕ) (r : Rela) (x y : Bool) → IsMarked bytes n r x
@@ -325,7 +325,7 @@ one_marked bytes zero r x y a b = a ∙ sym b
 one_marked bytes (suc n) r x y a b =
     a.2
     ∙ (ap (λ z. z && (relocation_in bytes n).offset == r.offset)
-    (of_one ppc64_name is_mark false (relocation_in bytes n).code (a.0) (b.0) markless (a.1) (b.1)) ∙ sym (b.2))
+    (of_one ppc64_name is_mark false (relocation_in bytes n).r_type (a.0) (b.0) markless (a.1) (b.1)) ∙ sym (b.2))
 
 one_unmarked_by : (calls : Bool) (bytes : List ℕ) (n : ℕ) (r : Rela) (x y : Bool)
     → IsUnmarkedBy calls bytes n r x → IsUnmarkedBy calls bytes n r y → x ≡ y

@@ -3,7 +3,7 @@ use Rattle.std.proofs.Common.{◌≡◌, ℕ, zero, suc, ◌+◌, ◌-◌, ◌�
 use Rattle.linker_rewriting.proofs.Surveying.{one_left}
 use Rattle.linker_rewriting.specs.Decisions.{deleted_of, deletion_by, deletions_by}
 use Rattle.linker_rewriting.specs.Facts.{context}
-use Rattle.linker_rewriting.specs.Inner.Codes.{KeepsNone}
+use Rattle.linker_rewriting.specs.Inner.RelocationTypes.{KeepsNone}
 use Rattle.linker_rewriting.specs.Inner.Left.{AreKept}
 use Rattle.linker_rewriting.specs.Surveys.{IsSurveyedIn}
 use Rattle.linker_rewriting.proofs.Imports.{Addresses, Architecture, Decision, OutputFacts, Phase, Symbol, SymbolFacts, UnrelaxableGroups, relocation_in}

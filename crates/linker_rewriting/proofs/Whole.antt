@@ -13,11 +13,11 @@ use Rattle.linker_rewriting.proofs.Imports.{Choice, Decision, Group, Grouped, Ph
 of_group : (s : RelaxContext) (kept : List UnrelaxableGroups) (bytes section : List ℕ) (n : ℕ) (r : Rela)
     (decision : Decision) (group : Group)
     → IsDecidedAlone s kept bytes section n r decision
-    → IsInGroupIn s.architecture s.phase r.code group
+    → IsInGroupIn s.architecture s.phase r.r_type group
     → IsGroupDecision s bytes section n r (group_stays kept group r.symbol) decision
 of_group s kept bytes section n r decision group decided member =
     subst (λ scope. IsScopeDecision s kept bytes section n r scope decision)
-    (one_scope s.architecture s.phase r.code (decided.0) (Grouped group) (decided.1) member)
+    (one_scope s.architecture s.phase r.r_type (decided.0) (Grouped group) (decided.1) member)
     (decided.2)
 
 not_kept : (s : RelaxContext) (bytes section : List ℕ) (n : ℕ) (r : Rela) (stays : Bool)
@@ -59,11 +59,11 @@ whole s kept bytes section decisions limit decided =
 
 of_label : (s : RelaxContext) (kept : List UnrelaxableGroups) (bytes section : List ℕ) (n : ℕ) (r : Rela)
     (decision : Decision) → IsDecidedAlone s kept bytes section n r decision
-    → IsInLabel s.architecture s.phase r.code true
+    → IsInLabel s.architecture s.phase r.r_type true
     → IsLabelDecision s bytes section n r decision
 of_label s kept bytes section n r decision decided in_label =
     subst (λ scope. IsScopeDecision s kept bytes section n r scope decision)
-    (one_scope s.architecture s.phase r.code (decided.0) (in_label.0) (decided.1) (in_label.1)
+    (one_scope s.architecture s.phase r.r_type (decided.0) (in_label.0) (decided.1) (in_label.1)
     ∙ labelled (in_label.0) (in_label.2))
     (decided.2)
 

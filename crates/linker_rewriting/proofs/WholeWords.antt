@@ -4,7 +4,7 @@ use Rattle.linker_rewriting.proofs.LabelGroups.{one_high_from}
 use Rattle.linker_rewriting.proofs.Unique.{one_candidate_with}
 use Rattle.linker_rewriting.specs.Facts.{RelaxContext, link_facts}
 use Rattle.linker_rewriting.specs.Rewritten.{IsRewritten}
-use Rattle.linker_rewriting.specs.TocIndirection.{IsLoad, IsLoadCandidate, IsLoadDecision, IsDecisionBy, IsWordDecision, IsKeepingWord, HasLoadRewrite, WordUnchangedBy, AreLoadsDecided, AreLoadsRejected, MeansWordsUnsurveyed, WordsAreWhole, WordsAreWholeAcross, word_code, word_offset, word_stays}
+use Rattle.linker_rewriting.specs.TocIndirection.{IsLoad, IsLoadCandidate, IsLoadDecision, IsDecisionBy, IsWordDecision, IsKeepingWord, HasLoadRewrite, WordUnchangedBy, AreLoadsDecided, AreLoadsRejected, MeansWordsUnsurveyed, WordsAreWhole, WordsAreWholeAcross, word_r_type, word_offset, word_stays}
 use Rattle.linker_rewriting.proofs.Imports.{Contradiction, Decision, IsAscending, NotSurveyed, Overlaps, Rela, RewritingError, TooShort, relocation_in}
 
 -- ---- one load
@@ -27,15 +27,15 @@ one_word s start words r None None up a b = refl
 one_word s start words r None (Some load) up (inl none) b =
     absurd (let e : None ≡ Some (load.0) = sym none ∙ b.0 in cc)
 one_word s start words r None (Some load) up (inr none) b =
-    absurd (let e : None ≡ Some (load.1) = one_high_from words word_code (word_offset s.addresses s.values start r) None (Some (load.1)) (none up) (b.1 up) in cc)
+    absurd (let e : None ≡ Some (load.1) = one_high_from words word_r_type (word_offset s.addresses s.values start r) None (Some (load.1)) (none up) (b.1 up) in cc)
 one_word s start words r (Some load) None up a (inl none) =
     absurd (let e : None ≡ Some (load.0) = sym none ∙ a.0 in cc)
 one_word s start words r (Some load) None up a (inr none) =
-    absurd (let e : None ≡ Some (load.1) = one_high_from words word_code (word_offset s.addresses s.values start r) None (Some (load.1)) (none up) (a.1 up) in cc)
+    absurd (let e : None ≡ Some (load.1) = one_high_from words word_r_type (word_offset s.addresses s.values start r) None (Some (load.1)) (none up) (a.1 up) in cc)
 one_word s start words r (Some load) (Some other) up a b =
     let entry : Some (load.0) ≡ Some (other.0) = sym (a.0) ∙ b.0 in
     let word : Some (load.1) ≡ Some (other.1) =
-    one_high_from words word_code (word_offset s.addresses s.values start r) (Some (load.1)) (Some (other.1)) (a.1 up) (b.1 up) in
+    one_high_from words word_r_type (word_offset s.addresses s.values start r) (Some (load.1)) (Some (other.1)) (a.1 up) (b.1 up) in
     same_pair load other (some_same (load.0) (other.0) entry) (some_same (load.1) (other.1) word)
 
 -- ---- whole words
@@ -99,7 +99,7 @@ noted_stays s start words kept bytes section n r load None up is stays none keep
     let has = subst (HasLoadRewrite s words bytes section n r)
     (one_word s start words r (keeping.0) (Some load) up (keeping.1) is) (keeping.2) in
     let e : Some (has.0) ≡ None =
-    one_candidate_with s bytes section n (record r { code = load.0 })
+    one_candidate_with s bytes section n (record r { r_type = load.0 })
     (link_facts s.phase s.output s.symbols s.addresses s.values r (relocation_in words (load.1)) false)
     (Some (has.0)) None (has.1) none in cc
 

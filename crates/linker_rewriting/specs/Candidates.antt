@@ -17,7 +17,7 @@ calls_tls_get_addr (Some symbol) = symbol.is_tls_get_addr
 abbrev pub IsCallIn : Architecture → List SymbolFacts → ℕ → ℕ → Option Rela → Bool → Type 0
 IsCallIn architecture symbols offset distance None found = found ≡ false
 IsCallIn architecture symbols offset distance (Some next) found =
-    (is_of_call : Bool) × IsSkippable architecture next.code is_of_call
+    (is_of_call : Bool) × IsSkippable architecture next.r_type is_of_call
     × (found ≡ ((next.offset == offset + distance) && (is_of_call
     && calls_tls_get_addr (slice_get symbols next.symbol))))
 
@@ -39,15 +39,15 @@ deletes_within section offset (Some deleted) =
 abbrev pub IsCandidateBy : Architecture → List SymbolFacts → List ℕ → List ℕ → ℕ → Rela → LinkFacts
     → Option (Choice Relaxation ℕ) → Type 0
 IsCandidateBy architecture symbols bytes section n r facts (Some chosen) =
-    IsArchitectureChoice architecture r.code section r.offset facts chosen
-    × (¬ IsUnchanged r.code chosen)
+    IsArchitectureChoice architecture r.r_type section r.offset facts chosen
+    × (¬ IsUnchanged r.r_type chosen)
     × IsTaken architecture symbols bytes n r.offset (relaxation_skipped chosen.kind) true
     × IsWhole architecture bytes n r true
     × (deletes_within section r.offset (relaxation_deleted chosen.kind) ≡ true)
 IsCandidateBy architecture symbols bytes section n r facts None =
     (chosen : Choice Relaxation ℕ)
-    × IsArchitectureChoice architecture r.code section r.offset facts chosen
-    × (IsUnchanged r.code chosen
+    × IsArchitectureChoice architecture r.r_type section r.offset facts chosen
+    × (IsUnchanged r.r_type chosen
     ⊎ (IsTaken architecture symbols bytes n r.offset (relaxation_skipped chosen.kind) false
     ⊎ (IsWhole architecture bytes n r false
     ⊎ (deletes_within section r.offset (relaxation_deleted chosen.kind) ≡ false))))

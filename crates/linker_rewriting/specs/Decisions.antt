@@ -7,7 +7,7 @@ use Rattle.linker_rewriting.specs.Imports.{FirstOfPair, Group, Grouped, IfGroupM
 use Rattle.linker_rewriting.specs.Imports.{Kept, Labelled, NotRelaxable, NotSurveyed, OutputFacts}
 use Rattle.linker_rewriting.specs.Imports.{Phase, Rela, Relaxation, RewritingError, Rewritten}
 use Rattle.linker_rewriting.specs.Imports.{RewrittenWithSymbol, Scope, Symbol, SymbolFacts}
-use Rattle.linker_rewriting.specs.Imports.{TlsLocalExec, UnrelaxableGroups, code_of, offset_at}
+use Rattle.linker_rewriting.specs.Imports.{TlsLocalExec, UnrelaxableGroups, r_type_of, offset_at}
 use Rattle.linker_rewriting.specs.Imports.{relaxation_deleted, relaxation_rewrite}
 use Rattle.linker_rewriting.specs.Imports.{relaxation_skipped, relocation_at, relocation_in}
 use Rattle.linker_rewriting.specs.Imports.{riscv_name}
@@ -102,7 +102,7 @@ IsRewrittenAlone s bytes section n r scope is_rewritten = is_rewritten ≡ false
 abbrev pub IsRewrittenAt : RelaxContext → List ℕ → List ℕ → ℕ → Option Rela → Bool → Type 0
 IsRewrittenAt s bytes section n None is_rewritten = is_rewritten ≡ false
 IsRewrittenAt s bytes section n (Some r) is_rewritten =
-    (scope : Scope) × IsScopeIn s.architecture s.phase r.code scope
+    (scope : Scope) × IsScopeIn s.architecture s.phase r.r_type scope
     × IsRewrittenAlone s bytes section n r scope is_rewritten
 
 -- it goes with the next one
@@ -113,8 +113,8 @@ decision_ahead false = Kept
 -- whether a relocation of a label gets the symbol and the addend of its high part: all of a TLS
 -- descriptor, and a low part of the address itself
 abbrev pub takes_symbol : Phase → ℕ → Bool
-takes_symbol TlsLocalExec code = true
-takes_symbol phase code = code == code_of (riscv_name riscv64.R_RISCV_LO12_I)
+takes_symbol TlsLocalExec r_type = true
+takes_symbol phase r_type = r_type == r_type_of (riscv_name riscv64.R_RISCV_LO12_I)
 
 abbrev pub rewritten_by : Bool → Choice Relaxation ℕ → Rela → Decision
 rewritten_by true chosen high =
@@ -159,14 +159,14 @@ IsScopeDecision s kept bytes section n r FirstOfPair decision =
 abbrev pub IsDecidedAlone : RelaxContext → List UnrelaxableGroups
     → List ℕ → List ℕ → ℕ → Rela → Decision → Type 0
 IsDecidedAlone s kept bytes section n r decision =
-    (scope : Scope) × IsScopeIn s.architecture s.phase r.code scope
+    (scope : Scope) × IsScopeIn s.architecture s.phase r.r_type scope
     × IsScopeDecision s kept bytes section n r scope decision
 
 -- its group doesn't stay, but it has no rewrite
 abbrev pub IsNotSurveyed : RelaxContext → List UnrelaxableGroups
     → List ℕ → List ℕ → ℕ → Rela → Type 0
 IsNotSurveyed s kept bytes section n r =
-    (group : Group) × IsScopeIn s.architecture s.phase r.code (Grouped group)
+    (group : Group) × IsScopeIn s.architecture s.phase r.r_type (Grouped group)
     × (group_stays kept group r.symbol ≡ false)
     × IsCandidate s bytes section n r None
 

@@ -8,7 +8,7 @@ use Rattle.std.specs.Int.{cast_signed}
 use Rattle.linker_rewriting.specs.Imports.{Addresses, Architecture, Consumed, Decision, IsAscending}
 use Rattle.linker_rewriting.specs.Imports.{Kept, NotSurveyed, Rela, RewritingError, Rewritten}
 use Rattle.linker_rewriting.specs.Imports.{RewrittenWithSymbol, RiscV, Symbol, SymbolFacts}
-use Rattle.linker_rewriting.specs.Imports.{cast_unsigned, code_of, difference_64, relocation_in}
+use Rattle.linker_rewriting.specs.Imports.{cast_unsigned, r_type_of, difference_64, relocation_in}
 use Rattle.linker_rewriting.specs.Imports.{rewritten, riscv_name, sum_64, w64}
 use Rattle.linker_elf.specs.Choices.{choice}
 use Rattle.linker_elf.specs.declared.riscv64.relocations.RiscVRelocation.TheVariants as riscv64
@@ -38,22 +38,22 @@ abbrev pub gprel_s : ℕ
 gprel_s = 48
 
 abbrev pub relative_high : ℕ
-relative_high = code_of (riscv_name riscv64.R_RISCV_PCREL_HI20)
+relative_high = r_type_of (riscv_name riscv64.R_RISCV_PCREL_HI20)
 
 -- What the instruction of a relocation is of an address: a high part with its opcode, `lui` or
 -- `auipc`, or a low part with the type that its relocation gets.
 abbrev pub part_of : Architecture → ℕ → Option Part
-part_of RiscV code =
-    if code_of (riscv_name riscv64.R_RISCV_HI20) == code then Some (High 0x37)
-    else (if relative_high == code then Some (High 0x17)
-    else (if code_of (riscv_name riscv64.R_RISCV_LO12_I) == code then Some (Low gprel_i)
-    else (if code_of (riscv_name riscv64.R_RISCV_LO12_S) == code then Some (Low gprel_s)
-    else (if code_of (riscv_name riscv64.R_RISCV_PCREL_LO12_I) == code
+part_of RiscV r_type =
+    if r_type_of (riscv_name riscv64.R_RISCV_HI20) == r_type then Some (High 0x37)
+    else (if relative_high == r_type then Some (High 0x17)
+    else (if r_type_of (riscv_name riscv64.R_RISCV_LO12_I) == r_type then Some (Low gprel_i)
+    else (if r_type_of (riscv_name riscv64.R_RISCV_LO12_S) == r_type then Some (Low gprel_s)
+    else (if r_type_of (riscv_name riscv64.R_RISCV_PCREL_LO12_I) == r_type
     then Some (Labelled gprel_i)
-    else (if code_of (riscv_name riscv64.R_RISCV_PCREL_LO12_S) == code
+    else (if r_type_of (riscv_name riscv64.R_RISCV_PCREL_LO12_S) == r_type
     then Some (Labelled gprel_s)
     else None)))))
-part_of architecture code = None
+part_of architecture r_type = None
 
 -- the high part at the label of a low part
 abbrev pub IsLabelled : Addresses → List Symbol → List ℕ → Rela → Option Rela → Type 0
@@ -69,8 +69,8 @@ IsLabelled addresses values bytes r (Some part) =
 -- the relocation whose symbol and addend are those of a part
 abbrev pub IsSubject : Addresses → List Symbol → List ℕ → Rela → Part → Option Rela → Type 0
 IsSubject addresses values bytes r (High opcode) subject = subject ≡ Some r
-IsSubject addresses values bytes r (Low code) subject = subject ≡ Some r
-IsSubject addresses values bytes r (Labelled code) subject =
+IsSubject addresses values bytes r (Low r_type) subject = subject ≡ Some r
+IsSubject addresses values bytes r (Labelled r_type) subject =
     IsLabelled addresses values bytes r subject
 
 -- a part with its subject; none where the relocation is of no address
@@ -83,7 +83,7 @@ IsMemberBy addresses values bytes r (Some part) (Some member) =
 
 abbrev pub IsMember : RelaxContext → List ℕ → Rela → Option (Part × Rela) → Type 0
 IsMember s bytes r =
-    IsMemberBy s.addresses s.values bytes r (part_of s.architecture r.code)
+    IsMemberBy s.addresses s.values bytes r (part_of s.architecture r.r_type)
 
 -- ---- what is required of a part
 
@@ -142,9 +142,9 @@ is_low_word word =
 abbrev pub is_expected : List ℕ → Rela → Part → Rela → Bool
 is_expected section r (High opcode) subject =
     has_word section r.offset && is_high_word opcode (word_at section r.offset)
-is_expected section r (Low code) subject =
+is_expected section r (Low r_type) subject =
     has_word section r.offset && is_low_word (word_at section r.offset)
-is_expected section r (Labelled code) subject =
+is_expected section r (Labelled r_type) subject =
     has_word section r.offset && (is_low_word (word_at section r.offset)
     && (has_word section subject.offset
     && (rs1_of (word_at section r.offset) == rd_of (word_at section subject.offset))))
@@ -190,10 +190,10 @@ AreSymbolsSurveyed s gp bytes section = AreSurveyedBy (KeepsSymbol s gp bytes se
 -- A high part goes. A low part is of the symbol and the addend of its subject.
 abbrev pub part_decision : Part → Rela → Decision
 part_decision (High opcode) subject = Rewritten (choice (relaxations.RiscV kinds.Delete) 0)
-part_decision (Low code) subject =
-    RewrittenWithSymbol (choice (relaxations.RiscV kinds.NoOp) code) (subject_of subject)
-part_decision (Labelled code) subject =
-    RewrittenWithSymbol (choice (relaxations.RiscV kinds.NoOp) code) (subject_of subject)
+part_decision (Low r_type) subject =
+    RewrittenWithSymbol (choice (relaxations.RiscV kinds.NoOp) r_type) (subject_of subject)
+part_decision (Labelled r_type) subject =
+    RewrittenWithSymbol (choice (relaxations.RiscV kinds.NoOp) r_type) (subject_of subject)
 
 -- none if its symbol doesn't stay, but it doesn't fit
 abbrev pub decided_by : RelaxContext → ℕ → Bool → List Bool → List ℕ → List ℕ → ℕ → Rela
@@ -239,12 +239,12 @@ ArePartsApart = AreApartBy part_start part_end
 -- a relocation after what became of it, where no bytes are rewritten
 abbrev pub relocation_by : Decision → Rela → Rela
 relocation_by Kept r = r
-relocation_by Consumed r = record r { code = 0 }
-relocation_by (Rewritten chosen) r = record r { code = chosen.relocation }
+relocation_by Consumed r = record r { r_type = 0 }
+relocation_by (Rewritten chosen) r = record r { r_type = chosen.relocation }
 relocation_by (RewrittenWithSymbol chosen subject) r =
     record {
       offset = r.offset;
-      code = chosen.relocation;
+      r_type = chosen.relocation;
       symbol = subject.symbol;
       addend = subject.addend;
     }
@@ -314,10 +314,10 @@ MeansSymbolsUnsurveyed s gp bytes section kept error = Unit {0}
 -- ---- bases
 
 -- the type that the relocation of a low part without a base gets
-abbrev pub low_code : ℕ → Option ℕ
-low_code code =
-    if code == gprel_i then Some (code_of (riscv_name riscv64.R_RISCV_LO12_I))
-    else (if code == gprel_s then Some (code_of (riscv_name riscv64.R_RISCV_LO12_S)) else None)
+abbrev pub low_r_type : ℕ → Option ℕ
+low_r_type r_type =
+    if r_type == gprel_i then Some (r_type_of (riscv_name riscv64.R_RISCV_LO12_I))
+    else (if r_type == gprel_s then Some (r_type_of (riscv_name riscv64.R_RISCV_LO12_S)) else None)
 
 -- A base register, and the address that it has: x0 where 12 bits hold the address, else x3 where
 -- they hold the distance from it.
@@ -337,37 +337,37 @@ base_of addresses values gp r = base_by addresses gp r (slice_get values r.symbo
 -- S + A
 abbrev pub is_placed_by : List ℕ → Rela → Option ℕ → Option (ℕ × ℕ) → Bool
 is_placed_by section r None base = true
-is_placed_by section r (Some code) base = has_word section r.offset && is_some base
+is_placed_by section r (Some r_type) base = has_word section r.offset && is_some base
 
 -- by what is known of symbols
 abbrev pub is_placed : Addresses → List Symbol → ℕ → List ℕ → Rela → Bool
 is_placed addresses values gp section r =
-    is_placed_by section r (low_code r.code) (base_of addresses values gp r)
+    is_placed_by section r (low_r_type r.r_type) (base_of addresses values gp r)
 
 -- The relocation after it: its value is the distance from the base.
 abbrev pub relocation_over : Rela → Option ℕ → Option (ℕ × ℕ) → Rela
 relocation_over r None base = r
-relocation_over r (Some code) None = r
-relocation_over r (Some code) (Some base) =
+relocation_over r (Some r_type) None = r
+relocation_over r (Some r_type) (Some base) =
     record r {
-      code = code;
+      r_type = r_type;
       addend = cast_signed w64 (difference_64 (cast_unsigned w64 r.addend) (base.1));
     }
 
 abbrev pub based_relocation : Addresses → List Symbol → ℕ → Rela → Rela
 based_relocation addresses values gp r =
-    relocation_over r (low_code r.code) (base_of addresses values gp r)
+    relocation_over r (low_r_type r.r_type) (base_of addresses values gp r)
 
 -- the section with the base in the instruction of one relocation
 abbrev pub section_over : List ℕ → Rela → Option ℕ → Option (ℕ × ℕ) → List ℕ
 section_over section r None base = section
-section_over section r (Some code) None = section
-section_over section r (Some code) (Some base) =
+section_over section r (Some r_type) None = section
+section_over section r (Some r_type) (Some base) =
     rewritten (Some (rewrites_word (with_rs1 (base.0)))) section r.offset
 
 abbrev pub based_section : Addresses → List Symbol → ℕ → List ℕ → Rela → List ℕ
 based_section addresses values gp section r =
-    section_over section r (low_code r.code) (base_of addresses values gp r)
+    section_over section r (low_r_type r.r_type) (base_of addresses values gp r)
 
 -- the section once the bases of all relocations with an index below a limit are set
 abbrev pub section_based : Addresses → List Symbol → ℕ → List ℕ → List ℕ → ℕ → List ℕ

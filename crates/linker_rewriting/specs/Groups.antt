@@ -149,7 +149,7 @@ abbrev pub x86_64_scope_in : Phase → X86_64Relocation → Scope
 x86_64_scope_in PreLayout name = x86_64_scope name
 x86_64_scope_in phase name = NotRelaxable
 
--- that of a code
+-- that of an `r_type`
 abbrev pub IsScopeIn : Architecture → Phase → ℕ → Scope → Type 0
 IsScopeIn AArch64 phase = IsNamedValue aarch64_name (aarch64_scope_in phase)
 IsScopeIn RiscV phase = IsNamedValue riscv_name (riscv_scope_in phase)
@@ -176,14 +176,14 @@ has_rewrites X86_64 phase = false
 abbrev pub IsNotRelaxableUnless : Architecture → Phase → Bool → Type 0
 IsNotRelaxableUnless architecture phase true = Unit {0}
 IsNotRelaxableUnless architecture phase false =
-    (code : ℕ) (scope : Scope) → IsScopeIn architecture phase code scope → scope ≡ NotRelaxable
+    (r_type : ℕ) (scope : Scope) → IsScopeIn architecture phase r_type scope → scope ≡ NotRelaxable
 
 abbrev pub IsScope : Architecture → ℕ → Scope → Type 0
 IsScope architecture = IsScopeIn architecture PreLayout
 
--- a code is of a group's kind
+-- an `r_type` is of a group's kind
 abbrev pub IsInGroupIn : Architecture → Phase → ℕ → Group → Type 0
-IsInGroupIn architecture phase code group = IsScopeIn architecture phase code (Grouped group)
+IsInGroupIn architecture phase r_type group = IsScopeIn architecture phase r_type (Grouped group)
 
 -- the index of the symbol whose groups it is one of: 0 of what is one group in the whole object
 abbrev pub symbol_of_group : Group → ℕ → ℕ

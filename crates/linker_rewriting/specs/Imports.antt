@@ -2,7 +2,7 @@
 pub use Rattle.linker_base.specs.Rewrite.{rewritten}
 pub use Rattle.linker_base.specs.declared.rewrite.DeletedBytes.{DeletedBytes}
 pub use Rattle.linker_elf.specs.AArch64Relocations.{aarch64_name}
-pub use Rattle.linker_elf.specs.ElfNames.{code_of}
+pub use Rattle.linker_elf.specs.ElfNames.{r_type_of}
 pub use Rattle.linker_elf.specs.LoongArchRelocations.{loongarch_name}
 pub use Rattle.linker_elf.specs.Ppc64Relocations.{ppc64_name}
 pub use Rattle.linker_elf.specs.RiscVRelocations.{riscv_name}

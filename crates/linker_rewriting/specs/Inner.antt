@@ -1,5 +1,5 @@
 pub mod Calls
-pub mod Codes
+pub mod RelocationTypes
 pub mod Left
 pub mod Places
 pub mod Contexts

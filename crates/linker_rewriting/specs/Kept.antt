@@ -2,7 +2,8 @@
 use Rattle.std.specs.Prelude.{◌≡◌, ℕ, ◌+◌, ◌*◌, ◌/◌, ◌<◌, ◌^◌, ℤ, Bool, true, false, List, length}
 use Rattle.std.specs.Prelude.{slice_get, Option, Some, None, ◌==◌, ◌&&◌, not}
 use Rattle.linker_rewriting.specs.Imports.{Addresses, Architecture, OutputFacts, Phase, Rela}
-use Rattle.linker_rewriting.specs.Imports.{Symbol, SymbolFacts, code_of, ppc64_name, relocation_in}
+use Rattle.linker_rewriting.specs.Imports.{Symbol, SymbolFacts, r_type_of, ppc64_name}
+use Rattle.linker_rewriting.specs.Imports.{relocation_in}
 use Rattle.linker_elf.specs.declared.ppc64.relocations.Ppc64Relocation.TheVariants as ppc64
 use Rattle.linker_rewriting.specs.Agreement.{Agree, IsContradiction}
 use Rattle.linker_rewriting.specs.Facts.{facts_of, placed_facts, is_imported}
@@ -78,7 +79,7 @@ need_stub_if (Some facts) symbol = needs_stub_if facts symbol
 -- an `R_PPC64_REL24` of such a function (64-Bit ELF V2 ABI, "Function Call")
 abbrev pub lacks_stub : Architecture → List SymbolFacts → List Symbol → Rela → Bool
 lacks_stub architectures.Ppc64 facts symbols r =
-    r.code == code_of (ppc64_name ppc64.R_PPC64_REL24)
+    r.r_type == r_type_of (ppc64_name ppc64.R_PPC64_REL24)
     && need_stub_if (slice_get facts r.symbol) (slice_get symbols r.symbol)
 lacks_stub architecture facts symbols r = false
 

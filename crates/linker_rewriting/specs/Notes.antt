@@ -36,5 +36,5 @@ IsNoteOf phase addresses values bytes decisions r note =
 abbrev pub AreLabelsNoted : RelaxContext → List ℕ → List ℕ → List Decision → ℕ → Type 0
 AreLabelsNoted s bytes section decisions from =
     (n : ℕ) → from ≤ n → n < length bytes / 24
-    → IsInLabel s.architecture s.phase (relocation_in bytes n).code true
+    → IsInLabel s.architecture s.phase (relocation_in bytes n).r_type true
     → IsLabelNote s bytes section (relocation_in bytes n) (is_note (decision_at decisions n))

@@ -25,18 +25,18 @@ use Rattle.linker_utils.specs.declared.architecture.Relaxation.TheVariants as re
 -- one that goes gets the type 0, so that indexes stay
 abbrev pub relocation_after : Decision → Rela → Rela
 relocation_after Kept r = r
-relocation_after Consumed r = record r { code = 0 }
+relocation_after Consumed r = record r { r_type = 0 }
 relocation_after (Rewritten chosen) r =
     record {
       offset = offset_after (relaxation_rewrite chosen.kind) r.offset;
-      code = chosen.relocation;
+      r_type = chosen.relocation;
       symbol = r.symbol;
       addend = addend_after (relaxation_rewrite chosen.kind) r.addend;
     }
 relocation_after (RewrittenWithSymbol chosen subject) r =
     record {
       offset = offset_after (relaxation_rewrite chosen.kind) r.offset;
-      code = chosen.relocation;
+      r_type = chosen.relocation;
       symbol = subject.symbol;
       addend = addend_after (relaxation_rewrite chosen.kind) subject.addend;
     }
@@ -95,8 +95,8 @@ IsRewritten decision = ⊥
 abbrev pub GroupsAreWholeIn : Architecture → Phase → List ℕ → List Decision → ℕ → Type 0
 GroupsAreWholeIn architecture phase bytes decisions limit =
     (i j : ℕ) (group : Group) → i < limit → j < limit
-    → IsInGroupIn architecture phase (relocation_in bytes i).code group
-    → IsInGroupIn architecture phase (relocation_in bytes j).code group
+    → IsInGroupIn architecture phase (relocation_in bytes i).r_type group
+    → IsInGroupIn architecture phase (relocation_in bytes j).r_type group
     → symbol_of_group group (relocation_in bytes i).symbol
     ≡ symbol_of_group group (relocation_in bytes j).symbol
     → is_taken decisions i ≡ false → is_taken decisions j ≡ false
@@ -112,8 +112,8 @@ GroupsAreWholeAcross =
     → AreDecidedIn s kept bytes section decisions limit
     → AreDecidedIn other kept others_bytes others_section others others_limit
     → (i j : ℕ) (group : Group) → i < limit → j < others_limit
-    → IsInGroupIn s.architecture s.phase (relocation_in bytes i).code group
-    → IsInGroupIn other.architecture other.phase (relocation_in others_bytes j).code group
+    → IsInGroupIn s.architecture s.phase (relocation_in bytes i).r_type group
+    → IsInGroupIn other.architecture other.phase (relocation_in others_bytes j).r_type group
     → symbol_of_group group (relocation_in bytes i).symbol
     ≡ symbol_of_group group (relocation_in others_bytes j).symbol
     → is_taken decisions i ≡ false → is_taken others j ≡ false
@@ -158,8 +158,8 @@ pub record AreMadeAs (bytes bytes_after section section_after : List ℕ) (decis
 abbrev pub LabelsAreWhole : RelaxContext → List ℕ → List Decision → ℕ → Type 0
 LabelsAreWhole s bytes decisions limit =
     (i j high : ℕ) → i < limit → j < limit
-    → IsInLabel s.architecture s.phase (relocation_in bytes i).code true
-    → IsInLabel s.architecture s.phase (relocation_in bytes j).code true
+    → IsInLabel s.architecture s.phase (relocation_in bytes i).r_type true
+    → IsInLabel s.architecture s.phase (relocation_in bytes j).r_type true
     → IsHighIn s bytes (relocation_in bytes i) (Some high)
     → IsHighIn s bytes (relocation_in bytes j) (Some high)
     → is_taken decisions i ≡ false → is_taken decisions j ≡ false
@@ -171,7 +171,7 @@ LabelsAreWhole s bytes decisions limit =
 -- symbol and addend.
 pub record IsPartAt (bytes : List ℕ) (first n i : ℕ) (name : AArch64Relocation) : Type 0 where
   pub below : i < length bytes / 24
-  pub is_name : IsNameOf aarch64_name (relocation_in bytes i).code name
+  pub is_name : IsNameOf aarch64_name (relocation_in bytes i).r_type name
   pub offset : (relocation_in bytes i).offset ≡ (relocation_in bytes first).offset + n
   pub symbol : (relocation_in bytes i).symbol ≡ (relocation_in bytes first).symbol
   pub addend : (relocation_in bytes i).addend ≡ (relocation_in bytes first).addend
@@ -241,7 +241,7 @@ SequencesAreWhole =
     (decisions : List Decision) (i : ℕ) (name : AArch64Relocation)
     → s.architecture ≡ AArch64
     → AreDecidedIn s kept bytes section decisions (length bytes / 24) → i < length bytes / 24
-    → IsNameOf aarch64_name (relocation_in bytes i).code name → decision_at decisions i ≢ Kept
+    → IsNameOf aarch64_name (relocation_in bytes i).r_type name → decision_at decisions i ≢ Kept
     → IsWholeBy name bytes decisions i
 
 -- ---- pairs

@@ -5,7 +5,7 @@ use Rattle.std.specs.Prelude.{length, Option, Some, None, if◌then◌else◌, s
 use Rattle.std.specs.Prelude.{◌-◌}
 use Rattle.linker_rewriting.specs.Imports.{Addresses, Architecture, Choice, GotToPcRel, IsAscending}
 use Rattle.linker_rewriting.specs.Imports.{Labelled, LinkFacts, Phase, Rela, Relaxation, RiscV}
-use Rattle.linker_rewriting.specs.Imports.{Scope, Symbol, TlsLocalExec, cast_unsigned, code_of}
+use Rattle.linker_rewriting.specs.Imports.{Scope, Symbol, TlsLocalExec, cast_unsigned, r_type_of}
 use Rattle.linker_rewriting.specs.Imports.{difference_64, relocation_in, riscv_name, sum_64, w64}
 use Rattle.linker_elf.specs.declared.elf.value.Operands.{Operands}
 use Rattle.linker_elf.specs.declared.riscv64.relocations.RiscVRelocation.TheVariants as riscv64
@@ -16,14 +16,14 @@ use Rattle.linker_rewriting.specs.Sequences.{is_marked_at}
 
 -- ---- high parts
 
--- the code of the high parts whose groups a phase rewrites
-abbrev pub high_code : Phase → ℕ
-high_code TlsLocalExec = code_of (riscv_name riscv64.R_RISCV_TLSDESC_HI20)
-high_code phase = code_of (riscv_name riscv64.R_RISCV_GOT_HI20)
+-- the `r_type` of the high parts whose groups a phase rewrites
+abbrev pub high_r_type : Phase → ℕ
+high_r_type TlsLocalExec = r_type_of (riscv_name riscv64.R_RISCV_TLSDESC_HI20)
+high_r_type phase = r_type_of (riscv_name riscv64.R_RISCV_GOT_HI20)
 
--- a relocation with a code is at an offset
+-- a relocation with an `r_type` is at an offset
 abbrev pub is_high : ℕ → ℕ → Rela → Bool
-is_high code at r = (r.offset == at) && (r.code == code)
+is_high r_type at r = (r.offset == at) && (r.r_type == r_type)
 
 -- how many relocations at one offset are searched, so that a search has a bound
 abbrev pub searched : ℕ
@@ -35,15 +35,16 @@ is_beyond bytes at n = nat_le searched n && ((relocation_in bytes (n - searched)
 
 -- the relocation with an index is such a one, and is searched
 abbrev pub is_high_in : List ℕ → ℕ → ℕ → ℕ → Bool
-is_high_in bytes code at n = is_high code at (relocation_in bytes n) && not (is_beyond bytes at n)
+is_high_in bytes r_type at n =
+    is_high r_type at (relocation_in bytes n) && not (is_beyond bytes at n)
 
 -- the index of the first one of a section
 abbrev pub IsHighAt : List ℕ → ℕ → ℕ → Option ℕ → Type 0
-IsHighAt bytes code at None =
-    (n : ℕ) → n < length bytes / 24 → is_high_in bytes code at n ≡ false
-IsHighAt bytes code at (Some high) =
-    (high < length bytes / 24) × (is_high_in bytes code at high ≡ true)
-    × ((n : ℕ) → n < high → is_high_in bytes code at n ≡ false)
+IsHighAt bytes r_type at None =
+    (n : ℕ) → n < length bytes / 24 → is_high_in bytes r_type at n ≡ false
+IsHighAt bytes r_type at (Some high) =
+    (high < length bytes / 24) × (is_high_in bytes r_type at high ≡ true)
+    × ((n : ℕ) → n < high → is_high_in bytes r_type at n ≡ false)
 
 -- where a label is in the section
 abbrev pub offset_of_label : Addresses → Option Symbol → Option ℕ
@@ -53,17 +54,17 @@ offset_of_label addresses (Some label) = Some (difference_64 label.address addre
 -- where the label of a relocation is: at a high part itself
 abbrev pub label_offset : Phase → Addresses → List Symbol → Rela → Option ℕ
 label_offset phase addresses values r =
-    if r.code == high_code phase then Some r.offset
+    if r.r_type == high_r_type phase then Some r.offset
     else offset_of_label addresses (slice_get values r.symbol)
 
 abbrev pub IsHighFrom : List ℕ → ℕ → Option ℕ → Option ℕ → Type 0
-IsHighFrom bytes code None high = high ≡ None
-IsHighFrom bytes code (Some at) high = IsHighAt bytes code at high
+IsHighFrom bytes r_type None high = high ≡ None
+IsHighFrom bytes r_type (Some at) high = IsHighAt bytes r_type at high
 
 -- the index of the high part at the label of a relocation
 abbrev pub IsHighOf : Phase → Addresses → List Symbol → List ℕ → Rela → Option ℕ → Type 0
 IsHighOf phase addresses values bytes r high =
-    IsHighFrom bytes (high_code phase) (label_offset phase addresses values r) high
+    IsHighFrom bytes (high_r_type phase) (label_offset phase addresses values r) high
 
 -- the same in a context
 abbrev pub IsHighIn : RelaxContext → List ℕ → Rela → Option ℕ → Type 0
@@ -81,10 +82,10 @@ has_labels RiscV TlsLocalExec = true
 has_labels RiscV GotToPcRel = true
 has_labels architecture phase = false
 
--- a code is of such groups
+-- an `r_type` is of such groups
 abbrev pub IsInLabel : Architecture → Phase → ℕ → Bool → Type 0
-IsInLabel architecture phase code in_label =
-    (scope : Scope) × IsScopeIn architecture phase code scope × (in_label ≡ is_labelled scope)
+IsInLabel architecture phase r_type in_label =
+    (scope : Scope) × IsScopeIn architecture phase r_type scope × (in_label ≡ is_labelled scope)
 
 -- the mark that counts: of a TLS descriptor that of the high part, of a load each one's own
 abbrev pub is_label_marked : Architecture → Phase → List ℕ → ℕ → Rela → ℕ → Bool
@@ -120,7 +121,7 @@ IsLabelCandidate s bytes section n r high candidate =
 -- it is of a label with a high part, and has no rewrite
 abbrev pub Lacks : RelaxContext → List ℕ → List ℕ → ℕ → Rela → ℕ → Type 0
 Lacks s bytes section n r high =
-    IsInLabel s.architecture s.phase r.code true × IsHighIn s bytes r (Some high)
+    IsInLabel s.architecture s.phase r.r_type true × IsHighIn s bytes r (Some high)
     × IsLabelCandidate s bytes section n r high None
 
 -- which high part keeps its group for a relocation

@@ -7,7 +7,7 @@ use Rattle.std.specs.Prelude.{◌≡◌, ℕ, ◌+◌, ◌-◌, ◌==◌, ◌&&�
 use Rattle.std.specs.Prelude.{List, [], ◌∷◌, Option, Some, None}
 use Rattle.std.specs.Ordering.{int_eq}
 use Rattle.linker_rewriting.specs.Imports.{AArch64, Architecture, LoongArch64, Phase, Ppc64}
-use Rattle.linker_rewriting.specs.Imports.{PreLayout, Rela, RiscV, aarch64_name, code_of}
+use Rattle.linker_rewriting.specs.Imports.{PreLayout, Rela, RiscV, aarch64_name, r_type_of}
 use Rattle.linker_rewriting.specs.Imports.{loongarch_name, ppc64_name, relocation_at, riscv_name}
 use Rattle.linker_elf.specs.ElfNames.{ElfName}
 use Rattle.linker_elf.specs.declared.aarch64.relocations.AArch64Relocation.TheVariants as aarch64
@@ -20,38 +20,38 @@ use Rattle.linker_rewriting.specs.declared.sequences.Tie.TheVariants.{Subject, S
 
 -- ---- marks
 
--- the code of the mark of an instruction that may be relaxed
-abbrev pub mark_code : Architecture → Option ℕ
-mark_code RiscV = Some (code_of (riscv_name riscv64.R_RISCV_RELAX))
-mark_code LoongArch64 = Some (code_of (loongarch_name loongarch64.R_LARCH_RELAX))
-mark_code architecture = None
+-- the `r_type` of the mark of an instruction that may be relaxed
+abbrev pub mark_r_type : Architecture → Option ℕ
+mark_r_type RiscV = Some (r_type_of (riscv_name riscv64.R_RISCV_RELAX))
+mark_r_type LoongArch64 = Some (r_type_of (loongarch_name loongarch64.R_LARCH_RELAX))
+mark_r_type architecture = None
 
 -- a relocation is a mark at an offset
 abbrev pub is_mark_of : Option ℕ → ℕ → Option Rela → Bool
 is_mark_of None offset r = false
-is_mark_of (Some code) offset None = false
-is_mark_of (Some code) offset (Some r) = (r.offset == offset) && (r.code == code)
+is_mark_of (Some r_type) offset None = false
+is_mark_of (Some r_type) offset (Some r) = (r.offset == offset) && (r.r_type == r_type)
 
 -- a mark stands after a relocation with an index
 abbrev pub is_marked_at : Architecture → List ℕ → ℕ → Rela → Bool
 is_marked_at architecture bytes n r =
-    is_mark_of (mark_code architecture) r.offset (relocation_at bytes (n + 1))
+    is_mark_of (mark_r_type architecture) r.offset (relocation_at bytes (n + 1))
 
 -- What is marked in a phase. Before addresses are known it is a call of PowerPC64's prefixed code:
 -- after the mark of a call, and at the same offset, its own relocation is R_PPC64_REL24_NOTOC.
-abbrev pub mark_code_in : Phase → Architecture → Option ℕ
-mark_code_in PreLayout Ppc64 = Some (code_of (ppc64_name ppc64.R_PPC64_REL24_NOTOC))
-mark_code_in PreLayout architecture = None
-mark_code_in phase architecture = mark_code architecture
+abbrev pub mark_r_type_in : Phase → Architecture → Option ℕ
+mark_r_type_in PreLayout Ppc64 = Some (r_type_of (ppc64_name ppc64.R_PPC64_REL24_NOTOC))
+mark_r_type_in PreLayout architecture = None
+mark_r_type_in phase architecture = mark_r_type architecture
 
 abbrev pub is_marked_in : Phase → Architecture → List ℕ → ℕ → Rela → Bool
 is_marked_in phase architecture bytes n r =
-    is_mark_of (mark_code_in phase architecture) r.offset (relocation_at bytes (n + 1))
+    is_mark_of (mark_r_type_in phase architecture) r.offset (relocation_at bytes (n + 1))
 
 -- ---- the members of sequences
 
 abbrev pub member : ElfName → ℕ → Tie → Member
-member name distance tie = record { r_type = code_of name; distance = distance; tie = tie }
+member name distance tie = record { r_type = r_type_of name; distance = distance; tie = tie }
 
 abbrev pub descriptor : List Member
 descriptor =
@@ -100,7 +100,7 @@ is_tied Mark r found = true
 abbrev pub is_member : Member → ℕ → Rela → Option Rela → Bool
 is_member m offset r None = false
 is_member m offset r (Some found) =
-    (found.offset == offset + m.distance) && ((found.code == m.r_type) && is_tied m.tie r found)
+    (found.offset == offset + m.distance) && ((found.r_type == m.r_type) && is_tied m.tie r found)
 
 -- those from a place on are all there, of a sequence whose first relocation has an index
 abbrev pub are_members : List Member → List ℕ → ℕ → ℕ → ℕ → Rela → Bool
@@ -121,13 +121,13 @@ is_typed Mark = false
 is_typed tie = true
 
 abbrev pub is_place : Member → ℕ → Bool
-is_place m code = (m.r_type == code) && is_typed m.tie
+is_place m r_type = (m.r_type == r_type) && is_typed m.tie
 
 -- a relocation is at no place of a sequence from one on, or all of the sequence are there
 abbrev pub is_whole_in : List Member → List Member → ℕ → List ℕ → ℕ → Rela → Bool
 is_whole_in all [] place bytes n r = true
 is_whole_in all (m ∷ ms) place bytes n r =
-    cond (is_place m r.code) (is_among all place m.distance bytes n r)
+    cond (is_place m r.r_type) (is_among all place m.distance bytes n r)
     (is_whole_in all ms (place + 1) bytes n r)
 
 abbrev pub are_whole : List (List Member) → List ℕ → ℕ → Rela → Bool

@@ -16,7 +16,7 @@ use Rattle.linker_rewriting.specs.Groups.{IsScopeIn, IsMark, stays_at, symbol_of
 abbrev pub IsMarked : List ℕ → ℕ → Rela → Bool → Type 0
 IsMarked bytes zero r marked = marked ≡ false
 IsMarked bytes (suc n) r marked =
-    (is_mark : Bool) × IsMark (relocation_in bytes n).code is_mark
+    (is_mark : Bool) × IsMark (relocation_in bytes n).r_type is_mark
     × (marked ≡ (is_mark && (relocation_in bytes n).offset == r.offset))
 
 abbrev pub IsUnmarkedBy : Bool → List ℕ → ℕ → Rela → Bool → Type 0
@@ -51,12 +51,12 @@ HasRewrite s bytes section n r scope = Unit {0}
 -- the kind of groups that a relocation keeps, since it has no rewrite, though it is of one
 abbrev pub IsKeeping : RelaxContext → List ℕ → List ℕ → ℕ → Rela → Option Group → Type 0
 IsKeeping s bytes section n r (Some group) =
-    (IsScopeIn s.architecture s.phase r.code (Grouped group)
+    (IsScopeIn s.architecture s.phase r.r_type (Grouped group)
     × IsCandidate s bytes section n r None)
-    ⊎ (IsScopeIn s.architecture s.phase r.code (IfGroupMatches group)
+    ⊎ (IsScopeIn s.architecture s.phase r.r_type (IfGroupMatches group)
     × IsMatched s bytes section n r false)
 IsKeeping s bytes section n r None =
-    (scope : Scope) × IsScopeIn s.architecture s.phase r.code scope
+    (scope : Scope) × IsScopeIn s.architecture s.phase r.r_type scope
     × HasRewrite s bytes section n r scope
 
 -- ---- tables before and after

@@ -6,7 +6,7 @@ use Rattle.std.specs.Prelude.{List, length, Option, None, Some, slice_get}
 use Rattle.linker_rewriting.specs.Imports.{Addresses, Architecture, Choice, Decision, IsAscending}
 use Rattle.linker_rewriting.specs.Imports.{Kept, NotSurveyed, Ppc64, Rela, Relaxation}
 use Rattle.linker_rewriting.specs.Imports.{RewritingError, RewrittenWithSymbol, Symbol}
-use Rattle.linker_rewriting.specs.Imports.{cast_unsigned, code_of, difference_64, ppc64_name}
+use Rattle.linker_rewriting.specs.Imports.{cast_unsigned, r_type_of, difference_64, ppc64_name}
 use Rattle.linker_rewriting.specs.Imports.{relocation_in, sum_64, w64}
 use Rattle.linker_elf.specs.declared.ppc64.relocations.Ppc64Relocation.TheVariants as ppc64
 use Rattle.linker_rewriting.specs.Candidates.{IsCandidateWith}
@@ -19,21 +19,21 @@ use Rattle.linker_rewriting.specs.declared.decisions.Subject.{Subject}
 
 -- ---- loads
 
--- the code of a relocation for an entry of the GOT in place of one for a word
-abbrev pub entry_code : Architecture → ℕ → Option ℕ
-entry_code Ppc64 code =
-    if code_of (ppc64_name ppc64.R_PPC64_TOC16_HA) == code
-    then Some (code_of (ppc64_name ppc64.R_PPC64_GOT16_HA))
-    else (if code_of (ppc64_name ppc64.R_PPC64_TOC16_LO) == code
-    then Some (code_of (ppc64_name ppc64.R_PPC64_GOT16_LO))
-    else (if code_of (ppc64_name ppc64.R_PPC64_TOC16_LO_DS) == code
-    then Some (code_of (ppc64_name ppc64.R_PPC64_GOT16_LO_DS))
+-- the `r_type` of a relocation for an entry of the GOT in place of one for a word
+abbrev pub entry_r_type : Architecture → ℕ → Option ℕ
+entry_r_type Ppc64 r_type =
+    if r_type_of (ppc64_name ppc64.R_PPC64_TOC16_HA) == r_type
+    then Some (r_type_of (ppc64_name ppc64.R_PPC64_GOT16_HA))
+    else (if r_type_of (ppc64_name ppc64.R_PPC64_TOC16_LO) == r_type
+    then Some (r_type_of (ppc64_name ppc64.R_PPC64_GOT16_LO))
+    else (if r_type_of (ppc64_name ppc64.R_PPC64_TOC16_LO_DS) == r_type
+    then Some (r_type_of (ppc64_name ppc64.R_PPC64_GOT16_LO_DS))
     else None))
-entry_code architecture code = None
+entry_r_type architecture r_type = None
 
--- the code of a word's own relocation
-abbrev pub word_code : ℕ
-word_code = code_of (ppc64_name ppc64.R_PPC64_ADDR64)
+-- the `r_type` of a word's own relocation
+abbrev pub word_r_type : ℕ
+word_r_type = r_type_of (ppc64_name ppc64.R_PPC64_ADDR64)
 
 -- how far S + A is after the start of the section of words
 abbrev pub offset_after : Addresses → ℕ → ℤ → Option Symbol → Option ℕ
@@ -50,21 +50,22 @@ word_offset addresses values start r =
 abbrev pub IsWordOf : RelaxContext → ℕ → List ℕ → Rela → Option ℕ → Type 0
 IsWordOf s start words r word =
     IsAscending words
-    → IsHighFrom words word_code (word_offset s.addresses s.values start r) word
+    → IsHighFrom words word_r_type (word_offset s.addresses s.values start r) word
 
--- what a relocation loads: the code for an entry, and the word
+-- what a relocation loads: the `r_type` for an entry, and the word
 abbrev pub IsLoad : RelaxContext → ℕ → List ℕ → Rela → Option (ℕ × ℕ) → Type 0
 IsLoad s start words r None =
-    (entry_code s.architecture r.code ≡ None) ⊎ IsWordOf s start words r None
+    (entry_r_type s.architecture r.r_type ≡ None) ⊎ IsWordOf s start words r None
 IsLoad s start words r (Some load) =
-    (entry_code s.architecture r.code ≡ Some (load.0)) × IsWordOf s start words r (Some (load.1))
+    (entry_r_type s.architecture r.r_type ≡ Some (load.0))
+    × IsWordOf s start words r (Some (load.1))
 
 -- The rewrite of such a load, if each other one of the word is rewritten: that of an entry of the
 -- GOT with the word's address.
 abbrev pub IsLoadCandidate : RelaxContext → List ℕ → List ℕ → List ℕ → ℕ → Rela → ℕ × ℕ
     → Option (Choice Relaxation ℕ) → Type 0
 IsLoadCandidate s words bytes section n r load candidate =
-    IsCandidateWith s bytes section n (record r { code = load.0 })
+    IsCandidateWith s bytes section n (record r { r_type = load.0 })
     (link_facts s.phase s.output s.symbols s.addresses s.values r
     (relocation_in words (load.1)) false) candidate
 

@@ -39,10 +39,10 @@ fn changes_toc(symbols: &[SymbolFacts], symbol: u32) -> bool
 #[inline(always)]
 fn aarch64_keeps(symbols: &[SymbolFacts], relocation: &Rela) -> bool
     ensures { result ≡ aarch64_keeps (slice_get symbols.now relocation.now.symbol)
-        relocation.now.code }
+        relocation.now.r_type }
 {
-    let is_call = relocation.code == AArch64Relocation::R_AARCH64_CALL26.elf_code();
-    let is_branch = is_call || relocation.code == AArch64Relocation::R_AARCH64_JUMP26.elf_code();
+    let is_call = relocation.r_type == AArch64Relocation::R_AARCH64_CALL26.r_type();
+    let is_branch = is_call || relocation.r_type == AArch64Relocation::R_AARCH64_JUMP26.r_type();
     is_branch && !is_weak_zero(symbols, relocation.symbol)
 }
 
@@ -50,9 +50,9 @@ fn aarch64_keeps(symbols: &[SymbolFacts], relocation: &Rela) -> bool
 #[inline(always)]
 fn ppc64_keeps(symbols: &[SymbolFacts], relocation: &Rela) -> bool
     ensures { result ≡ ppc64_keeps (slice_get symbols.now relocation.now.symbol)
-        relocation.now.code }
+        relocation.now.r_type }
 {
-    let is_call = relocation.code == Ppc64Relocation::R_PPC64_REL24.elf_code();
+    let is_call = relocation.r_type == Ppc64Relocation::R_PPC64_REL24.r_type();
     is_call && !changes_toc(symbols, relocation.symbol)
 }
 
@@ -65,7 +65,7 @@ pub(crate) fn keeps_call(
     relocation: &Rela,
 ) -> bool
     ensures { result ≡ keeps_call phase architecture
-        (slice_get symbols.now relocation.now.symbol) relocation.now.code }
+        (slice_get symbols.now relocation.now.symbol) relocation.now.r_type }
 {
     match (phase, architecture) {
         (Phase::PreLayout, Architecture::AArch64) => aarch64_keeps(symbols, relocation),

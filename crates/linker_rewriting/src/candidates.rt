@@ -46,7 +46,7 @@ fn is_call(
     let Some(next) = next else {
         return false;
     };
-    let is_of_call = may_be_skipped(architecture, next.code);
+    let is_of_call = may_be_skipped(architecture, next.r_type);
     let is_there = next.offset.checked_sub(offset) == Some(distance);
     is_there && is_of_call && is_tls_get_addr(symbols, next.symbol)
 }
@@ -96,10 +96,10 @@ pub(crate) fn deletes_within(section: &[u8], offset: u64, deleted: Option<Delete
 }
 
 /// The rewrite of the instruction of the relocation with an index by facts, if each other one of
-/// its group is rewritten, and the code of the relocation after it. None where there are no facts,
-/// `choose` has no rewrite for it, the one that it has takes a relocation along that isn't the next
-/// one or deletes bytes after the section, or it is of a sequence whose relocations aren't all next
-/// to it.
+/// its group is rewritten, and the `r_type` of the relocation after it. None where there are no
+/// facts, `choose` has no rewrite for it, the one that it has takes a relocation along that isn't
+/// the next one or deletes bytes after the section, or it is of a sequence whose relocations aren't
+/// all next to it.
 #[inline(always)]
 pub(crate) fn candidate_by(
     context: &RelaxContext<'_>,
@@ -120,8 +120,8 @@ pub(crate) fn candidate_by(
     };
     let architecture = context.architecture;
     let offset = relocation.offset;
-    let chosen = choose(architecture, relocation.code, section, offset, facts);
-    if chosen.is_unchanged(relocation.code) {
+    let chosen = choose(architecture, relocation.r_type, section, offset, facts);
+    if chosen.is_unchanged(relocation.r_type) {
         return None;
     }
     let kind = chosen.kind;

@@ -16,10 +16,10 @@ ghost use Rattle.linker_rewriting.specs.RiscVPcrelGroups.{IsInLabel, IsLabelNote
 
 use crate::calls::keeps_call;
 use crate::candidates::candidate;
-use crate::codes::{is_listed, lists_any, of_each};
 use crate::facts::{OutputFacts, RelaxContext, SymbolFacts};
 use crate::groups::{Scope, UnrelaxableGroups, group_stays, scope_in};
 use crate::phases::Phase;
+use crate::r_types::{is_listed, lists_any, of_each};
 use crate::relocations::relocation_in;
 use crate::riscv_pcrel_groups::{high_of, label_candidate, note_labels, set_all};
 use crate::rules::{Rule, decide_by};
@@ -267,7 +267,7 @@ fn is_rewritten_at(
     let Some(relocation) = relocation_at(relocations, index) else {
         return false;
     };
-    match scope_in(context.architecture, context.phase, relocation.code) {
+    match scope_in(context.architecture, context.phase, relocation.r_type) {
         Scope::Independent => candidate(
             context,
             relocations,
@@ -279,15 +279,15 @@ fn is_rewritten_at(
     }
 }
 
-/// Whether a relocation of a label gets the symbol and the addend of its high part, by its code
+/// Whether a relocation of a label gets the symbol and the addend of its high part, by its `r_type`
 /// after the rewrite.
 #[inline(always)]
-fn takes_symbol(phase: Phase, code: u32) -> bool
-    ensures { result ≡ takes_symbol phase code }
+fn takes_symbol(phase: Phase, r_type: u32) -> bool
+    ensures { result ≡ takes_symbol phase r_type }
 {
     match phase {
         Phase::TlsLocalExec => true,
-        _ => code == RiscVRelocation::R_RISCV_LO12_I.elf_code(),
+        _ => r_type == RiscVRelocation::R_RISCV_LO12_I.r_type(),
     }
 }
 
@@ -321,7 +321,7 @@ fn decide_label(
     requires index { index + 3 ≤ usize.MAX }
     requires within { index < length relocations.now / 24 }
     requires there { relocation.now ≡ relocation_in relocations.now index }
-    requires in_label { IsInLabel context.now.architecture context.now.phase relocation.now.code
+    requires in_label { IsInLabel context.now.architecture context.now.phase relocation.now.r_type
         true }
     requires noted { IsLabelNote (context_of context.now) relocations.now section.now relocation.now
         stays }
@@ -355,13 +355,13 @@ fn decide(
     requires index { index + 4 ≤ usize.MAX }
     requires within { index < length relocations.now / 24 }
     requires there { relocation.now ≡ relocation_in relocations.now index }
-    requires noted { IsInLabel context.now.architecture context.now.phase relocation.now.code true →
+    requires noted { IsInLabel context.now.architecture context.now.phase relocation.now.r_type true →
         IsLabelNote (context_of context.now) relocations.now section.now relocation.now stays }
     ensures decision { IsDecision (context_of context.now) kept.now relocations.now section.now
         index relocation.now result }
     ensures there { IfSome result (λ d. IsThere d section.now relocation.now.offset) }
 {
-    let is_grouped = match scope_in(context.architecture, context.phase, relocation.code) {
+    let is_grouped = match scope_in(context.architecture, context.phase, relocation.r_type) {
         Scope::NotRelaxable => return Some(Decision::Kept),
         Scope::Labelled => {
             return Some(decide_label(stays, context, relocations, section, index, relocation));
@@ -447,7 +447,8 @@ struct Groups<'a> {
 }
 
 /// Whether no other relocation takes along the one with an index, and it stays as it is by its
-/// code, or as a call by its symbol. The scope is for the proof alone: the compiler leaves it out.
+/// `r_type`, or as a call by its symbol. The scope is for the proof alone: the compiler leaves it
+/// out.
 #[inline(always)]
 fn is_left(rule: &Groups<'_>, is_taken: bool, relocations: &[u8], index: usize) -> bool
     requires { index < length relocations.now / 24 }
@@ -457,8 +458,8 @@ fn is_left(rule: &Groups<'_>, is_taken: bool, relocations: &[u8], index: usize) 
 {
     let (architecture, phase) = (rule.architecture, rule.phase);
     let relocation = relocation_in(relocations, index);
-    let scope = scope_in(architecture, phase, relocation.code);
-    let listed = is_listed(architecture, phase, relocation.code);
+    let scope = scope_in(architecture, phase, relocation.r_type);
+    let listed = is_listed(architecture, phase, relocation.r_type);
     !is_taken && (!listed || keeps_call(architecture, phase, rule.context.symbols, &relocation))
 }
 
@@ -473,7 +474,7 @@ impl Rule for Groups<'_> {
         × (s.phase ≡ s.context.now.phase) };
 
     ghost is_noted = { λ s bytes section n stays. IsInLabel s.context.now.architecture
-        s.context.now.phase (relocation_in bytes n).code true
+        s.context.now.phase (relocation_in bytes n).r_type true
         → IsLabelNote (context_of s.context.now) bytes section (relocation_in bytes n) stays };
 
     ghost start = { start_by };
@@ -560,7 +561,7 @@ fn decide_all<D: AsDecision>(
 }
 
 /// Decides what becomes of each relocation of a section and of its instruction, in the caller's
-/// memory. Nothing is rewritten. False if all stay as they are by their codes. It is compiled for
+/// memory. Nothing is rewritten. False if all stay as they are by their types. It is compiled for
 /// each architecture and phase.
 pub(crate) fn decide_section<D: AsDecision>(
     context: &RelaxContext<'_>,

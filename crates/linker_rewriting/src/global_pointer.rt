@@ -19,7 +19,7 @@ ghost use Rattle.linker_rewriting.specs.GlobalPointer.{AreSymbolsSurveyed, IsPar
 ghost use Rattle.linker_rewriting.specs.GlobalPointer.{ArePartsRewrittenAs, ArePartsRejected};
 ghost use Rattle.linker_rewriting.specs.GlobalPointer.{MeansSymbolsUnsurveyed, relocation_by};
 ghost use Rattle.linker_rewriting.specs.GlobalPointer.{AreRelocationsBy, part_start, part_end};
-ghost use Rattle.linker_rewriting.specs.GlobalPointer.{DecidesPart, low_code, base_for, base_of};
+ghost use Rattle.linker_rewriting.specs.GlobalPointer.{DecidesPart, low_r_type, base_for, base_of};
 ghost use Rattle.linker_rewriting.specs.GlobalPointer.{is_placed, based_relocation, based_section};
 ghost use Rattle.linker_rewriting.specs.GlobalPointer.{section_based, AreBased, IsFirstUnplaced};
 ghost use Rattle.linker_riscv64.specs.RiscVCalls.{word_at};
@@ -66,22 +66,22 @@ pub const GPREL_S: u32 = 48;
 
 /// What the instruction of a relocation is of an address.
 #[inline(always)]
-fn part_of(architecture: Architecture, code: u32) -> Option<Part>
-    ensures { result ≡ part_of architecture code }
+fn part_of(architecture: Architecture, r_type: u32) -> Option<Part>
+    ensures { result ≡ part_of architecture r_type }
 {
     match architecture {
         Architecture::RiscV => {
-            if RiscVRelocation::R_RISCV_HI20.elf_code() == code {
+            if RiscVRelocation::R_RISCV_HI20.r_type() == r_type {
                 Some(Part::High(0x37))
-            } else if RiscVRelocation::R_RISCV_PCREL_HI20.elf_code() == code {
+            } else if RiscVRelocation::R_RISCV_PCREL_HI20.r_type() == r_type {
                 Some(Part::High(0x17))
-            } else if RiscVRelocation::R_RISCV_LO12_I.elf_code() == code {
+            } else if RiscVRelocation::R_RISCV_LO12_I.r_type() == r_type {
                 Some(Part::Low(GPREL_I))
-            } else if RiscVRelocation::R_RISCV_LO12_S.elf_code() == code {
+            } else if RiscVRelocation::R_RISCV_LO12_S.r_type() == r_type {
                 Some(Part::Low(GPREL_S))
-            } else if RiscVRelocation::R_RISCV_PCREL_LO12_I.elf_code() == code {
+            } else if RiscVRelocation::R_RISCV_PCREL_LO12_I.r_type() == r_type {
                 Some(Part::Labelled(GPREL_I))
-            } else if RiscVRelocation::R_RISCV_PCREL_LO12_S.elf_code() == code {
+            } else if RiscVRelocation::R_RISCV_PCREL_LO12_S.r_type() == r_type {
                 Some(Part::Labelled(GPREL_S))
             } else {
                 None
@@ -99,8 +99,8 @@ fn labelled(context: &RelaxContext<'_>, relocations: &[u8], relocation: &Rela) -
     let Some(at) = label_at(context, relocation) else {
         return None;
     };
-    let code = RiscVRelocation::R_RISCV_PCREL_HI20.elf_code();
-    match high_at(relocations, code, at) {
+    let r_type = RiscVRelocation::R_RISCV_PCREL_HI20.r_type();
+    match high_at(relocations, r_type, at) {
         Some(high) => Some(relocation_in(relocations, high)),
         None => None,
     }
@@ -131,7 +131,7 @@ fn member_of(
 ) -> Option<(Part, Rela)>
     ensures { IsMember (context_of context.now) relocations.now relocation.now result }
 {
-    let Some(part) = part_of(context.architecture, relocation.code) else {
+    let Some(part) = part_of(context.architecture, relocation.r_type) else {
         return None;
     };
     match part_subject(context, relocations, relocation, part) {
@@ -199,10 +199,10 @@ fn window_at(section: &[u8], offset: u64) -> u32
 
 /// Whether an instruction has an opcode, and is of another register than x0 and x3.
 #[inline(always)]
-fn is_high_word(code: u32, word: u32) -> bool
-    ensures { result ≡ is_high_word code word }
+fn is_high_word(r_type: u32, word: u32) -> bool
+    ensures { result ≡ is_high_word r_type word }
 {
-    opcode(word) == code && destination(word) != 0 && destination(word) != 3
+    opcode(word) == r_type && destination(word) != 0 && destination(word) != 3
 }
 
 /// Whether an instruction writes no integer register: it is a store, or loads a number of floating
@@ -257,7 +257,7 @@ fn is_expected(section: &[u8], relocation: &Rela, part: Part, subject: &Rela) ->
         return false;
     }
     match part {
-        Part::High(code) => is_high_word(code, word_at(section, offset)),
+        Part::High(r_type) => is_high_word(r_type, word_at(section, offset)),
         Part::Low(_) => is_low_at(section, offset),
         Part::Labelled(_) => {
             is_low_at(section, offset) && has_base(section, offset, subject.offset)
@@ -532,16 +532,16 @@ fn relocation_by(decision: &Decision, relocation: &Rela) -> Rela
     match decision {
         Decision::Kept => *relocation,
         Decision::Consumed => Rela {
-            code: 0,
+            r_type: 0,
             ..*relocation
         },
         Decision::Rewritten(choice) => Rela {
-            code: choice.relocation,
+            r_type: choice.relocation,
             ..*relocation
         },
         Decision::RewrittenWithSymbol(choice, subject) => Rela {
             offset: relocation.offset,
-            code: choice.relocation,
+            r_type: choice.relocation,
             symbol: subject.symbol,
             addend: subject.addend,
         },
@@ -597,9 +597,9 @@ fn turn_all<D: AsDecision>(decisions: &[D], relocations: &mut [u8])
 ///
 /// // lui a0, %hi(x) and lw a0, %lo(x)(a0), both marked, where x is 2,047 above gp
 /// let mut relocations = [0; 96];
-/// for (at, offset, code) in [(0, 0, 26), (24, 0, 51), (48, 4, 27), (72, 4, 51)] {
-///     (relocations[at], relocations[at + 8]) = (offset, code);
-///     relocations[at + 12] = u8::from(code < 51);
+/// for (at, offset, r_type) in [(0, 0, 26), (24, 0, 51), (48, 4, 27), (72, 4, 51)] {
+///     (relocations[at], relocations[at + 8]) = (offset, r_type);
+///     relocations[at + 12] = u8::from(r_type < 51);
 /// }
 /// let mut deleted = [(0, 0)];
 /// let rewritten = rewrite_global_pointer(
@@ -687,13 +687,13 @@ pub fn rewrite_global_pointer<D: AsDecision, L: FromDeletion>(
 
 /// The type that the relocation of a low part without a base gets.
 #[inline(always)]
-fn low_code(code: u32) -> Option<u32>
-    ensures { result ≡ low_code code }
+fn low_r_type(r_type: u32) -> Option<u32>
+    ensures { result ≡ low_r_type r_type }
 {
-    if code == GPREL_I {
-        Some(RiscVRelocation::R_RISCV_LO12_I.elf_code())
-    } else if code == GPREL_S {
-        Some(RiscVRelocation::R_RISCV_LO12_S.elf_code())
+    if r_type == GPREL_I {
+        Some(RiscVRelocation::R_RISCV_LO12_I.r_type())
+    } else if r_type == GPREL_S {
+        Some(RiscVRelocation::R_RISCV_LO12_S.r_type())
     } else {
         None
     }
@@ -742,7 +742,7 @@ fn is_placed(
 ) -> bool
     ensures { result ≡ is_placed addresses.now values.now gp section.now relocation.now }
 {
-    match low_code(relocation.code) {
+    match low_r_type(relocation.r_type) {
         Some(_) => {
             has_word(section, relocation.offset)
                 && base_of(addresses, values, gp, relocation).is_some()
@@ -796,7 +796,7 @@ fn set_base(
         ≡ based_section addresses.now values.now gp section.old relocation.now }
     ensures relocation { result ≡ based_relocation addresses.now values.now gp relocation.now }
 {
-    let Some(code) = low_code(relocation.code) else {
+    let Some(r_type) = low_r_type(relocation.r_type) else {
         return *relocation;
     };
     let Some((register, address)) = base_of(addresses, values, gp, relocation) else {
@@ -806,7 +806,7 @@ fn set_base(
     overwrite(section, relocation.offset, &word.to_le_bytes());
     let addend = relocation.addend.cast_unsigned().wrapping_sub(address);
     Rela {
-        code,
+        r_type,
         addend: addend.cast_signed(),
         ..*relocation
     }

@@ -251,7 +251,7 @@ fn x86_64_scope_in(phase: Phase, name: X86_64Relocation) -> Scope
     }
 }
 
-/// What is rewritten together with the instruction of a relocation with a code in a phase.
+/// What is rewritten together with the instruction of a relocation with an `r_type` in a phase.
 ///
 /// ```
 /// use linker_rewriting::groups::{Group, Scope, scope_in};
@@ -264,17 +264,17 @@ fn x86_64_scope_in(phase: Phase, name: X86_64Relocation) -> Scope
 /// assert_eq!(scope_in(Architecture::AArch64, Phase::PreLayout, 311), Scope::NotRelaxable);
 /// ```
 #[inline(always)]
-pub fn scope_in(architecture: Architecture, phase: Phase, code: u32) -> Scope
-    ensures { IsScopeIn architecture phase code result }
+pub fn scope_in(architecture: Architecture, phase: Phase, r_type: u32) -> Scope
+    ensures { IsScopeIn architecture phase r_type result }
 {
     match architecture {
-        Architecture::AArch64 => aarch64_scope_in(phase, AArch64Relocation::from_elf(code)),
+        Architecture::AArch64 => aarch64_scope_in(phase, AArch64Relocation::from_elf(r_type)),
         Architecture::LoongArch64 => {
-            loongarch_scope_in(phase, LoongArch64Relocation::from_elf(code))
+            loongarch_scope_in(phase, LoongArch64Relocation::from_elf(r_type))
         }
-        Architecture::Ppc64 => ppc64_scope_in(phase, Ppc64Relocation::from_elf(code)),
-        Architecture::X86_64 => x86_64_scope_in(phase, X86_64Relocation::from_elf(code)),
-        Architecture::RiscV => riscv_scope_in(phase, RiscVRelocation::from_elf(code)),
+        Architecture::Ppc64 => ppc64_scope_in(phase, Ppc64Relocation::from_elf(r_type)),
+        Architecture::X86_64 => x86_64_scope_in(phase, X86_64Relocation::from_elf(r_type)),
+        Architecture::RiscV => riscv_scope_in(phase, RiscVRelocation::from_elf(r_type)),
     }
 }
 
@@ -310,8 +310,8 @@ pub fn has_rewrites(architecture: Architecture, phase: Phase) -> bool
     is_listed(architecture, phase)
 }
 
-/// What is rewritten together with the instruction of a relocation with a code, before addresses
-/// are known. RISC-V's rewrites all wait for them.
+/// What is rewritten together with the instruction of a relocation with an `r_type`, before
+/// addresses are known. RISC-V's rewrites all wait for them.
 ///
 /// ```
 /// use linker_rewriting::groups::{Group, Scope, scope_of};
@@ -323,10 +323,10 @@ pub fn has_rewrites(architecture: Architecture, phase: Phase) -> bool
 /// assert_eq!(scope_of(Architecture::X86_64, 2), Scope::NotRelaxable);
 /// ```
 #[inline(always)]
-pub fn scope_of(architecture: Architecture, code: u32) -> Scope
-    ensures { IsScope architecture code result }
+pub fn scope_of(architecture: Architecture, r_type: u32) -> Scope
+    ensures { IsScope architecture r_type result }
 {
-    scope_in(architecture, Phase::PreLayout, code)
+    scope_in(architecture, Phase::PreLayout, r_type)
 }
 
 /// Whether a name of PowerPC64 marks a call of `__tls_get_addr`.
@@ -340,12 +340,12 @@ fn is_mark(name: Ppc64Relocation) -> bool
     )
 }
 
-/// Whether a relocation with a code of PowerPC64 marks a call of `__tls_get_addr`.
+/// Whether a relocation with an `r_type` of PowerPC64 marks a call of `__tls_get_addr`.
 #[inline(always)]
-pub(crate) fn marks_call(code: u32) -> bool
-    ensures { IsMark code result }
+pub(crate) fn marks_call(r_type: u32) -> bool
+    ensures { IsMark r_type result }
 {
-    is_mark(Ppc64Relocation::from_elf(code))
+    is_mark(Ppc64Relocation::from_elf(r_type))
 }
 
 /// The index of the symbol whose groups a group is one of.

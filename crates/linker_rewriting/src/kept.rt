@@ -153,8 +153,8 @@ fn lacks_stub(
 ) -> bool
     ensures { result ≡ lacks_stub architecture facts.now symbols.now relocation.now }
 {
-    let call = Ppc64Relocation::R_PPC64_REL24.elf_code();
-    if !matches!(architecture, Architecture::Ppc64) || relocation.code != call {
+    let call = Ppc64Relocation::R_PPC64_REL24.r_type();
+    if !matches!(architecture, Architecture::Ppc64) || relocation.r_type != call {
         return false;
     }
     let index = relocation.symbol as usize;

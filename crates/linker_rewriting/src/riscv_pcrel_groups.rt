@@ -6,7 +6,7 @@ ghost use Rattle.linker_section.specs.Relocations.{relocation_in};
 ghost use Rattle.linker_section.specs.Values.{IsAscending};
 ghost use Rattle.linker_rewriting.specs.Decisions.{IsThere, decision_at};
 ghost use Rattle.linker_rewriting.specs.Inner.Contexts.{context_of};
-ghost use Rattle.linker_rewriting.specs.RiscVPcrelGroups.{high_code, IsHighAt, label_offset};
+ghost use Rattle.linker_rewriting.specs.RiscVPcrelGroups.{high_r_type, IsHighAt, label_offset};
 ghost use Rattle.linker_rewriting.specs.RiscVPcrelGroups.{IsHighOf, offset_of_label, is_beyond};
 ghost use Rattle.linker_rewriting.specs.RiscVPcrelGroups.{searched, is_labelled, IsInLabel};
 ghost use Rattle.linker_rewriting.specs.RiscVPcrelGroups.{is_label_marked, has_labels};
@@ -27,14 +27,14 @@ use linker_utils::architecture::Relaxation;
 use linker_utils::elf::{Architecture, Choice, LinkFacts, Operands};
 use linker_utils::riscv64::RiscVRelocation;
 
-/// The code of the high parts whose groups a phase rewrites.
+/// The `r_type` of the high parts whose groups a phase rewrites.
 #[inline(always)]
-fn high_code(phase: Phase) -> u32
-    ensures { result ≡ high_code phase }
+fn high_r_type(phase: Phase) -> u32
+    ensures { result ≡ high_r_type phase }
 {
     match phase {
-        Phase::TlsLocalExec => RiscVRelocation::R_RISCV_TLSDESC_HI20.elf_code(),
-        _ => RiscVRelocation::R_RISCV_GOT_HI20.elf_code(),
+        Phase::TlsLocalExec => RiscVRelocation::R_RISCV_TLSDESC_HI20.r_type(),
+        _ => RiscVRelocation::R_RISCV_GOT_HI20.r_type(),
     }
 }
 
@@ -67,11 +67,11 @@ fn search_end(first: usize, len: usize) -> usize
     }
 }
 
-/// The index of the first relocation with a code at an offset, among those that are searched of
-/// relocations that ascend. So it takes O(log n).
-pub(crate) fn high_at(relocations: &[u8], code: u32, at: u64) -> Option<usize>
+/// The index of the first relocation with an `r_type` at an offset, among those that are searched
+/// of relocations that ascend. So it takes O(log n).
+pub(crate) fn high_at(relocations: &[u8], r_type: u32, at: u64) -> Option<usize>
     ensures within { IfSome result (λ high. high < length relocations.now / 24) }
-    ensures high { IsAscending relocations.now → IsHighAt relocations.now code at result }
+    ensures high { IsAscending relocations.now → IsHighAt relocations.now r_type at result }
 {
     let first = first_from(relocations, at);
     for index in first..search_end(first, relocations_len(relocations)) {
@@ -79,7 +79,7 @@ pub(crate) fn high_at(relocations: &[u8], code: u32, at: u64) -> Option<usize>
         if relocation.offset != at {
             return None;
         }
-        if relocation.code == code {
+        if relocation.r_type == r_type {
             return Some(index);
         }
     }
@@ -104,7 +104,7 @@ fn label_offset(context: &RelaxContext<'_>, relocation: &Rela) -> Option<u64>
     ensures { result ≡ label_offset context.now.phase context.now.addresses.now
         context.now.values.now relocation.now }
 {
-    if relocation.code == high_code(context.phase) {
+    if relocation.r_type == high_r_type(context.phase) {
         Some(relocation.offset)
     } else {
         label_at(context, relocation)
@@ -123,7 +123,7 @@ pub(crate) fn high_of(
         relocations.now relocation.now result }
 {
     match label_offset(context, relocation) {
-        Some(at) => high_at(relocations, high_code(context.phase), at),
+        Some(at) => high_at(relocations, high_r_type(context.phase), at),
         None => None,
     }
 }
@@ -136,12 +136,12 @@ fn is_labelled(scope: Scope) -> bool
     matches!(scope, Scope::Labelled)
 }
 
-/// Whether a relocation with a code is rewritten with its label.
+/// Whether a relocation with an `r_type` is rewritten with its label.
 #[inline(always)]
-pub(crate) fn is_in_label(architecture: Architecture, phase: Phase, code: u32) -> bool
-    ensures { IsInLabel architecture phase code result }
+pub(crate) fn is_in_label(architecture: Architecture, phase: Phase, r_type: u32) -> bool
+    ensures { IsInLabel architecture phase r_type result }
 {
-    is_labelled(scope_in(architecture, phase, code))
+    is_labelled(scope_in(architecture, phase, r_type))
 }
 
 /// Whether the mark is there that counts for a relocation with a high part.
@@ -231,7 +231,7 @@ fn lacking(
     ensures lacking { IsAscending relocations.now → IsLacking (context_of context.now)
         relocations.now section.now index relocation.now result }
 {
-    if !is_in_label(context.architecture, context.phase, relocation.code) {
+    if !is_in_label(context.architecture, context.phase, relocation.r_type) {
         return None;
     }
     let Some(high) = high_of(context, relocations, relocation) else {
@@ -327,7 +327,7 @@ fn copy_notes<D: AsDecision>(
 {
     for index in 0..relocations_len(relocations) {
         let relocation = relocation_in(relocations, index);
-        if !is_in_label(context.architecture, context.phase, relocation.code) {
+        if !is_in_label(context.architecture, context.phase, relocation.r_type) {
             continue;
         }
         let note = note_of(context, relocations, decisions, &relocation);

@@ -37,19 +37,19 @@ fn make(decision: Decision, relocation: &mut Rela, section: &mut [u8])
 {
     match decision {
         Decision::Kept => {}
-        Decision::Consumed => relocation.code = 0,
+        Decision::Consumed => relocation.r_type = 0,
         Decision::Rewritten(choice) => {
             choice
                 .kind
                 .apply(section, &mut relocation.offset, &mut relocation.addend);
-            relocation.code = choice.relocation;
+            relocation.r_type = choice.relocation;
         }
         Decision::RewrittenWithSymbol(choice, subject) => {
             relocation.symbol = subject.symbol;
             relocation.addend = subject.addend;
             let kind = choice.kind;
             kind.apply(section, &mut relocation.offset, &mut relocation.addend);
-            relocation.code = choice.relocation;
+            relocation.r_type = choice.relocation;
         }
     }
 }

@@ -1,8 +1,9 @@
 //! Sequences whose relocations are next to each other, and marks of what may be relaxed.
 
 ghost use Rattle.std.specs.Prelude.{◌≡◌, ◌+◌, ◌≤◌, length};
-ghost use Rattle.linker_rewriting.specs.Sequences.{mark_code, is_mark_of, is_marked_at};
-ghost use Rattle.linker_rewriting.specs.Sequences.{mark_code_in, is_marked_in, is_tied, is_member};
+ghost use Rattle.linker_rewriting.specs.Sequences.{mark_r_type, is_mark_of, is_marked_at};
+ghost use Rattle.linker_rewriting.specs.Sequences.{mark_r_type_in, is_marked_in, is_tied};
+ghost use Rattle.linker_rewriting.specs.Sequences.{is_member};
 ghost use Rattle.linker_rewriting.specs.Sequences.{are_members, is_among, is_place, is_whole_in};
 ghost use Rattle.linker_rewriting.specs.Sequences.{is_whole};
 
@@ -14,30 +15,30 @@ use linker_utils::loongarch64::LoongArch64Relocation;
 use linker_utils::ppc64::Ppc64Relocation;
 use linker_utils::riscv64::RiscVRelocation;
 
-/// The code of the mark of an instruction that may be relaxed.
+/// The `r_type` of the mark of an instruction that may be relaxed.
 #[inline(always)]
-fn mark_code(architecture: Architecture) -> Option<u32>
-    ensures { result ≡ mark_code architecture }
+fn mark_r_type(architecture: Architecture) -> Option<u32>
+    ensures { result ≡ mark_r_type architecture }
 {
     match architecture {
-        Architecture::RiscV => Some(RiscVRelocation::R_RISCV_RELAX.elf_code()),
-        Architecture::LoongArch64 => Some(LoongArch64Relocation::R_LARCH_RELAX.elf_code()),
+        Architecture::RiscV => Some(RiscVRelocation::R_RISCV_RELAX.r_type()),
+        Architecture::LoongArch64 => Some(LoongArch64Relocation::R_LARCH_RELAX.r_type()),
         _ => None,
     }
 }
 
-/// Whether a relocation is a mark with a code at an offset.
+/// Whether a relocation is a mark with an `r_type` at an offset.
 #[inline(always)]
-fn is_mark_of(code: Option<u32>, offset: u64, relocation: Option<Rela>) -> bool
-    ensures { result ≡ is_mark_of code offset relocation }
+fn is_mark_of(r_type: Option<u32>, offset: u64, relocation: Option<Rela>) -> bool
+    ensures { result ≡ is_mark_of r_type offset relocation }
 {
-    let Some(code) = code else {
+    let Some(r_type) = r_type else {
         return false;
     };
     let Some(relocation) = relocation else {
         return false;
     };
-    relocation.offset == offset && relocation.code == code
+    relocation.offset == offset && relocation.r_type == r_type
 }
 
 /// Whether a mark stands after a relocation with an index.
@@ -52,21 +53,21 @@ pub(crate) fn is_marked_at(
     ensures { result ≡ is_marked_at architecture relocations.now index relocation.now }
 {
     let next = relocation_at(relocations, index + 1);
-    is_mark_of(mark_code(architecture), relocation.offset, next)
+    is_mark_of(mark_r_type(architecture), relocation.offset, next)
 }
 
-/// The code of what is marked in a phase: before addresses are known a call of PowerPC64's prefixed
-/// code, whose own relocation stands after its mark.
+/// The `r_type` of what is marked in a phase: before addresses are known a call of PowerPC64's
+/// prefixed `r_type`, whose own relocation stands after its mark.
 #[inline(always)]
-fn mark_code_in(phase: Phase, architecture: Architecture) -> Option<u32>
-    ensures { result ≡ mark_code_in phase architecture }
+fn mark_r_type_in(phase: Phase, architecture: Architecture) -> Option<u32>
+    ensures { result ≡ mark_r_type_in phase architecture }
 {
     match (phase, architecture) {
         (Phase::PreLayout, Architecture::Ppc64) => {
-            Some(Ppc64Relocation::R_PPC64_REL24_NOTOC.elf_code())
+            Some(Ppc64Relocation::R_PPC64_REL24_NOTOC.r_type())
         }
         (Phase::PreLayout, _) => None,
-        _ => mark_code(architecture),
+        _ => mark_r_type(architecture),
     }
 }
 
@@ -83,8 +84,8 @@ pub(crate) fn is_marked_in(
     ensures { result ≡ is_marked_in phase architecture relocations.now index relocation.now }
 {
     let next = relocation_at(relocations, index + 1);
-    let code = mark_code_in(phase, architecture);
-    is_mark_of(code, relocation.offset, next)
+    let r_type = mark_r_type_in(phase, architecture);
+    is_mark_of(r_type, relocation.offset, next)
 }
 
 /// What ties a relocation to the others of its sequence.
@@ -131,7 +132,7 @@ fn is_member(member: Member, offset: u64, relocation: &Rela, found: Option<Rela>
         return false;
     };
     found.offset.checked_sub(offset) == Some(member.distance)
-        && found.code == member.r_type
+        && found.r_type == member.r_type
         && is_tied(member.tie, relocation, &found)
 }
 
@@ -185,10 +186,10 @@ fn is_among(
 
 /// Whether a relocation with a type may be a member, and isn't its mark.
 #[inline(always)]
-fn is_place(member: Member, code: u32) -> bool
-    ensures { result ≡ is_place member code }
+fn is_place(member: Member, r_type: u32) -> bool
+    ensures { result ≡ is_place member r_type }
 {
-    member.r_type == code && !matches!(member.tie, Tie::Mark)
+    member.r_type == r_type && !matches!(member.tie, Tie::Mark)
 }
 
 /// Whether the relocation with an index is at no place of a sequence, or all of it are there.
@@ -198,7 +199,7 @@ fn is_whole_in(members: &[Member], relocations: &[u8], index: usize, relocation:
     ensures { result ≡ is_whole_in members.now members.now 0 relocations.now index relocation.now }
 {
     for (place, &member) in members.iter().enumerate() {
-        if is_place(member, relocation.code) {
+        if is_place(member, relocation.r_type) {
             return is_among(
                 members,
                 place,
@@ -221,7 +222,7 @@ macro_rules! sequences {
     ) => {
         $(is_whole_in(
             &[$(Member {
-                r_type: $names::$name.elf_code(),
+                r_type: $names::$name.r_type(),
                 distance: $distance,
                 tie: Tie::$tie,
             }),+],

@@ -7,17 +7,17 @@ ghost use Rattle.linker_rewriting.specs.Agreement.{Agree, IsContradiction};
 ghost use Rattle.linker_rewriting.specs.Candidates.{calls_tls_get_addr};
 ghost use Rattle.linker_rewriting.specs.Facts.{context};
 ghost use Rattle.linker_rewriting.specs.Inner.Contexts.{context_of};
-ghost use Rattle.linker_rewriting.specs.Inner.Codes.{needs_mark, KeepsNone};
+ghost use Rattle.linker_rewriting.specs.Inner.RelocationTypes.{needs_mark, KeepsNone};
 ghost use Rattle.linker_rewriting.specs.Surveys.{IsKeeping, IsMarked, IsUnmarkedIn, IsUnmarkedBy};
 ghost use Rattle.linker_rewriting.specs.Surveys.{AreKeptToo, IsGroup, IsGroupOf, IsOfThreads};
 ghost use Rattle.linker_rewriting.specs.Surveys.{IsSurveyed, IsSurveyedIn};
 
 use crate::agreement::contradiction;
 use crate::candidates::{candidate, is_matched, is_tls_get_addr};
-use crate::codes::{is_surveyed, of_each};
 use crate::facts::{NO_ADDRESSES, OutputFacts, RelaxContext, SymbolFacts};
 use crate::groups::{Group, Scope, UnrelaxableGroups, marks_call, scope_in, symbol_of_group};
 use crate::phases::Phase;
+use crate::r_types::{is_surveyed, of_each};
 use crate::relocations::relocation_in;
 use linker_section::facts::{Addresses, Symbol};
 use linker_section::relocations::{Rela, relocations_len};
@@ -69,7 +69,7 @@ fn keeping(
     ensures { IsKeeping (context_of context.now) relocations.now section.now index relocation.now
         result }
 {
-    match scope_in(context.architecture, context.phase, relocation.code) {
+    match scope_in(context.architecture, context.phase, relocation.r_type) {
         Scope::Grouped(group) => {
             match candidate(context, relocations, section, index, relocation) {
                 Some(_) => None,
@@ -97,7 +97,7 @@ fn is_marked(relocations: &[u8], index: usize, relocation: &Rela) -> bool
         return false;
     }
     let before = relocation_in(relocations, index - 1);
-    let is_mark = marks_call(before.code);
+    let is_mark = marks_call(before.r_type);
     is_mark && before.offset == relocation.offset
 }
 
@@ -157,7 +157,7 @@ fn needs_mark(
     }
 }
 
-/// Whether the relocation with an index is of no group by its code, and needs no mark.
+/// Whether the relocation with an index is of no group by its `r_type`, and needs no mark.
 #[inline(always)]
 fn keeps_none(
     architecture: Architecture,
@@ -171,7 +171,7 @@ fn keeps_none(
         → KeepsNone architecture phase symbols.now (relocation_in relocations.now index) }
 {
     let relocation = relocation_in(relocations, index);
-    let surveyed = is_surveyed(architecture, phase, relocation.code);
+    let surveyed = is_surveyed(architecture, phase, relocation.r_type);
     !surveyed && !needs_mark(architecture, phase, symbols, &relocation)
 }
 

@@ -8,8 +8,8 @@ ghost use Rattle.linker_rewriting.specs.Agreement.{Agree, IsContradiction};
 ghost use Rattle.linker_rewriting.specs.Decisions.{IsThere, start_by, end_by};
 ghost use Rattle.linker_rewriting.specs.Facts.{context};
 ghost use Rattle.linker_rewriting.specs.Inner.Contexts.{context_of};
-ghost use Rattle.linker_rewriting.specs.Inner.TocIndirection.{IsThatWord, with_code};
-ghost use Rattle.linker_rewriting.specs.TocIndirection.{entry_code, word_code, word_offset};
+ghost use Rattle.linker_rewriting.specs.Inner.TocIndirection.{IsThatWord, with_r_type};
+ghost use Rattle.linker_rewriting.specs.TocIndirection.{entry_r_type, word_r_type, word_offset};
 ghost use Rattle.linker_rewriting.specs.TocIndirection.{subject_of, DecidesLoad, IsLoad};
 ghost use Rattle.linker_rewriting.specs.TocIndirection.{IsLoadCandidate, word_stays, IsKeepingWord};
 ghost use Rattle.linker_rewriting.specs.TocIndirection.{IsLoadNotSurveyed, AreLoadsSurveyed};
@@ -33,19 +33,19 @@ use linker_utils::architecture::Relaxation;
 use linker_utils::elf::{Architecture, Choice};
 use linker_utils::ppc64::Ppc64Relocation;
 
-/// The code of a relocation for an entry of the GOT in place of one for a word.
+/// The `r_type` of a relocation for an entry of the GOT in place of one for a word.
 #[inline(always)]
-fn entry_code(architecture: Architecture, code: u32) -> Option<u32>
-    ensures { result ≡ entry_code architecture code }
+fn entry_r_type(architecture: Architecture, r_type: u32) -> Option<u32>
+    ensures { result ≡ entry_r_type architecture r_type }
 {
     match architecture {
         Architecture::Ppc64 => {
-            if Ppc64Relocation::R_PPC64_TOC16_HA.elf_code() == code {
-                Some(Ppc64Relocation::R_PPC64_GOT16_HA.elf_code())
-            } else if Ppc64Relocation::R_PPC64_TOC16_LO.elf_code() == code {
-                Some(Ppc64Relocation::R_PPC64_GOT16_LO.elf_code())
-            } else if Ppc64Relocation::R_PPC64_TOC16_LO_DS.elf_code() == code {
-                Some(Ppc64Relocation::R_PPC64_GOT16_LO_DS.elf_code())
+            if Ppc64Relocation::R_PPC64_TOC16_HA.r_type() == r_type {
+                Some(Ppc64Relocation::R_PPC64_GOT16_HA.r_type())
+            } else if Ppc64Relocation::R_PPC64_TOC16_LO.r_type() == r_type {
+                Some(Ppc64Relocation::R_PPC64_GOT16_LO.r_type())
+            } else if Ppc64Relocation::R_PPC64_TOC16_LO_DS.r_type() == r_type {
+                Some(Ppc64Relocation::R_PPC64_GOT16_LO_DS.r_type())
             } else {
                 None
             }
@@ -54,12 +54,12 @@ fn entry_code(architecture: Architecture, code: u32) -> Option<u32>
     }
 }
 
-/// The code of a word's own relocation.
+/// The `r_type` of a word's own relocation.
 #[inline(always)]
-fn word_code() -> u32
-    ensures { result ≡ word_code }
+fn word_r_type() -> u32
+    ensures { result ≡ word_r_type }
 {
-    Ppc64Relocation::R_PPC64_ADDR64.elf_code()
+    Ppc64Relocation::R_PPC64_ADDR64.r_type()
 }
 
 /// How far what a relocation refers to is after the start of the section of words.
@@ -93,7 +93,7 @@ struct Words<'a> {
     relocations: &'a [u8],
 }
 
-/// What a relocation loads: the code for an entry of the GOT, and the index of the word's
+/// What a relocation loads: the `r_type` for an entry of the GOT, and the index of the word's
 /// relocation.
 fn load_of(words: &Words<'_>, relocation: &Rela) -> Option<(u32, usize)>
     ensures within { IfSome result (λ load. load.1 < length words.now.relocations.now / 24) }
@@ -101,25 +101,25 @@ fn load_of(words: &Words<'_>, relocation: &Rela) -> Option<(u32, usize)>
         words.now.relocations.now relocation.now result }
 {
     let context = words.context;
-    let Some(entry) = entry_code(context.architecture, relocation.code) else {
+    let Some(entry) = entry_r_type(context.architecture, relocation.r_type) else {
         return None;
     };
     let Some(at) = word_offset(context.addresses, context.values, words.start, relocation) else {
         return None;
     };
-    match high_at(words.relocations, word_code(), at) {
+    match high_at(words.relocations, word_r_type(), at) {
         Some(word) => Some((entry, word)),
         None => None,
     }
 }
 
-/// A relocation with another code.
+/// A relocation with another `r_type`.
 #[inline(always)]
-fn with_code(code: u32, relocation: &Rela) -> Rela
-    ensures { result ≡ with_code code relocation.now }
+fn with_r_type(r_type: u32, relocation: &Rela) -> Rela
+    ensures { result ≡ with_r_type r_type relocation.now }
 {
     Rela {
-        code,
+        r_type,
         ..*relocation
     }
 }
@@ -144,7 +144,7 @@ fn load_candidate(
     let (entry, word) = load;
     let word = relocation_in(words.relocations, word);
     let facts = link_facts(words.context, relocation, &word, false);
-    let of_entry = with_code(entry, relocation);
+    let of_entry = with_r_type(entry, relocation);
     candidate_by(
         words.context,
         relocations,
@@ -229,9 +229,9 @@ fn keeping_word(
 ///
 /// // lwz 3,.toc@toc@l(3), with R_PPC64_TOC16_LO_DS of `.toc`, whose word is that of symbol 2: no
 /// // load of an address
-/// let relocation = |code: u8, symbol: u8| {
+/// let relocation = |r_type: u8, symbol: u8| {
 ///     let mut bytes = [0; 24];
-///     (bytes[8], bytes[12]) = (code, symbol);
+///     (bytes[8], bytes[12]) = (r_type, symbol);
 ///     bytes
 /// };
 /// let mut kept = [false];
@@ -408,9 +408,9 @@ impl Rule for Loads<'_, '_> {
 ///
 /// // addis 3,2,.toc@toc@ha and ld 3,.toc@toc@l(3), where the word at the start of `.toc` is that
 /// // of symbol 2, become addis 3,2,x@toc@ha and addi 3,3,x@toc@l
-/// let relocation = |offset: u8, code: u8, symbol: u8| {
+/// let relocation = |offset: u8, r_type: u8, symbol: u8| {
 ///     let mut bytes = [0; 24];
-///     (bytes[0], bytes[8], bytes[12]) = (offset, code, symbol);
+///     (bytes[0], bytes[8], bytes[12]) = (offset, r_type, symbol);
 ///     bytes
 /// };
 /// let mut section = [0, 0, 0x62, 0x3c, 0, 0, 0x63, 0xe8];

@@ -5,7 +5,7 @@ use Rattle.std.specs.Prelude.{Option, None, Some, Bool, true, false, ◌&&◌, n
 use Rattle.std.specs.Prelude.{if◌then◌else◌}
 use Rattle.std.specs.Int.{IsNextPowerOfTwo}
 use Rattle.linker_base.specs.Bits.{field}
-use Rattle.linker_elf.specs.ElfNames.{code_of}
+use Rattle.linker_elf.specs.ElfNames.{r_type_of}
 use Rattle.linker_elf.specs.LoongArchRelocations.{loongarch_name}
 use Rattle.linker_elf.specs.declared.loongarch64.relocations.LoongArch64Relocation.{LoongArch64Relocation}
 use Rattle.linker_elf.specs.declared.loongarch64.relocations.LoongArch64Relocation.TheVariants as r
@@ -20,7 +20,7 @@ use Rattle.linker_runs.specs.Relocations.{relocation_at, IsMarked}
 
 -- the relocation has the name
 abbrev pub HasLoongArchName : LoongArch64Relocation → Relocation → Type 0
-HasLoongArchName name relocation = relocation.code ≡ code_of (loongarch_name name)
+HasLoongArchName name relocation = relocation.r_type ≡ r_type_of (loongarch_name name)
 
 -- ---- alignments
 
@@ -63,7 +63,7 @@ pub record IsLoongArchAlignment (section : List ℕ) (base : ℕ) (relocation : 
 -- an instruction with the relocation may be relaxed
 abbrev pub IsRelaxable : LoongArch64Relocation → List Relocation → ℕ → Type 0
 IsRelaxable name relocations i = HasLoongArchName name (relocation_at relocations i)
-    × IsMarked (code_of (loongarch_name r.R_LARCH_RELAX)) relocations i
+    × IsMarked (r_type_of (loongarch_name r.R_LARCH_RELAX)) relocations i
 
 -- `pcaddu18i`, and a `jirl` from its register that links `ra` or none
 pub record IsCall36 (section : List ℕ) (relocations : List Relocation) (i : ℕ) : Type 0 where

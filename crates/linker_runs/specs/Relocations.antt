@@ -10,7 +10,7 @@ use Rattle.linker_runs.specs.declared.items.ItemsError.TheVariants.{OutOfMemory,
 abbrev pub no_relocation : Relocation
 no_relocation = record {
   offset = 0;
-  code = 0;
+  r_type = 0;
   has_symbol = false;
   addend = pos 0;
   target = None;
@@ -20,11 +20,11 @@ no_relocation = record {
 abbrev pub relocation_at : List Relocation → ℕ → Relocation
 relocation_at relocations i = slice_index_or relocations i no_relocation
 
--- The relocation after the one at an index has a code, and is at the same place: so a linker may
--- relax what is there, if the code is that of the psABI's relocation for this.
-pub record IsMarked (code : ℕ) (relocations : List Relocation) (i : ℕ) : Type 0 where
+-- The relocation after the one at an index has an `r_type`, and is at the same place: so a linker
+-- may relax what is there, if the `r_type` is that of the psABI's relocation for this.
+pub record IsMarked (r_type : ℕ) (relocations : List Relocation) (i : ℕ) : Type 0 where
   pub follows : i + 1 < length relocations
-  pub code_is : (relocation_at relocations (i + 1)).code ≡ code
+  pub r_type_is : (relocation_at relocations (i + 1)).r_type ≡ r_type
   pub same_place :
       (relocation_at relocations (i + 1)).offset ≡ (relocation_at relocations i).offset
 

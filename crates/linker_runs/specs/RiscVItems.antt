@@ -4,7 +4,7 @@ use Rattle.std.specs.Prelude.{◌≡◌, ◌≢◌, ℕ, ◌+◌, ◌%◌, ◌^�
 use Rattle.std.specs.Prelude.{Some, true, ◌-◌}
 use Rattle.std.specs.Int.{IsNextPowerOfTwo}
 use Rattle.linker_base.specs.Bits.{field}
-use Rattle.linker_elf.specs.ElfNames.{code_of}
+use Rattle.linker_elf.specs.ElfNames.{r_type_of}
 use Rattle.linker_elf.specs.RiscVRelocations.{riscv_name}
 use Rattle.linker_elf.specs.declared.riscv64.relocations.RiscVRelocation.{RiscVRelocation}
 use Rattle.linker_elf.specs.declared.riscv64.relocations.RiscVRelocation.TheVariants as r
@@ -21,7 +21,7 @@ use Rattle.linker_runs.specs.Relocations.{relocation_at, IsMarked}
 
 -- the relocation has the name
 abbrev pub HasRiscVName : RiscVRelocation → Relocation → Type 0
-HasRiscVName name relocation = relocation.code ≡ code_of (riscv_name name)
+HasRiscVName name relocation = relocation.r_type ≡ r_type_of (riscv_name name)
 
 -- it is that of a call
 abbrev pub IsOfCall : Relocation → Type 0
@@ -96,7 +96,7 @@ IsShapesOf section relocations i shapes = (MayBeCJ section relocations i × (sha
 pub record IsRiscVSite (section : List ℕ) (base : ℕ) (relocations : List Relocation) (i : ℕ)
     (call : site) : Type 0 where
   pub name : IsOfCall (relocation_at relocations i)
-  pub marked : IsMarked (code_of (riscv_name r.R_RISCV_RELAX)) relocations i
+  pub marked : IsMarked (r_type_of (riscv_name r.R_RISCV_RELAX)) relocations i
   pub frees : MayFree 4 relocations i
   pub place : call.offset ≡ base + (relocation_at relocations i).offset
   pub is_call : IsCallAt section (relocation_at relocations i).offset

@@ -25,7 +25,7 @@ use linker_utils::loongarch64::{LoongArch64Relocation, RewriteKind};
 fn has_name(relocation: &Relocation, name: LoongArch64Relocation) -> bool
     ensures { IsTrue result ↔ HasLoongArchName name relocation.now }
 {
-    relocation.code == name.elf_code()
+    relocation.r_type == name.r_type()
 }
 
 /// How many bytes of nops an addend stands for, and what they align to. None where these are no
@@ -118,7 +118,7 @@ fn is_relaxable<R: AsRelocation>(
         && is_marked(
             relocations,
             index,
-            LoongArch64Relocation::R_LARCH_RELAX.elf_code(),
+            LoongArch64Relocation::R_LARCH_RELAX.r_type(),
         )
 }
 

@@ -24,7 +24,7 @@ use linker_utils::riscv64::{LinkRegister, RiscVRelocation};
 fn has_name(relocation: &Relocation, name: RiscVRelocation) -> bool
     ensures { IsTrue result ↔ HasRiscVName name relocation.now }
 {
-    relocation.code == name.elf_code()
+    relocation.r_type == name.r_type()
 }
 
 /// Whether a relocation is that of a call.
@@ -177,11 +177,7 @@ fn site_at<R: AsRelocation>(
         → ¬ RiscVMakes section.now base (map R.relocation relocations.now) index item) }
 {
     let relocation = relocation_at(relocations, index);
-    if !is_marked(
-        relocations,
-        index,
-        RiscVRelocation::R_RISCV_RELAX.elf_code(),
-    ) {
+    if !is_marked(relocations, index, RiscVRelocation::R_RISCV_RELAX.r_type()) {
         return None;
     }
     let target = relocation.target?;

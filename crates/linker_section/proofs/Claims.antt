@@ -384,8 +384,8 @@ pub pair_begins : (architecture : Architecture) (bytes : List ℕ) (i j : ℕ)
     (row other : RelocationKindInfo) → offset_at bytes i ≡ offset_at bytes j → j ≡ i + 1
     → j < length bytes / 24 → begins_pair row.size row.kind ≡ true
     → ends_pair other.size other.kind ≡ true
-    → IsRow architecture (relocation_in bytes i).code (Some row)
-    → IsRow architecture (relocation_in bytes j).code (Some other) → BeginsPair architecture bytes i
+    → IsRow architecture (relocation_in bytes i).r_type (Some row)
+    → IsRow architecture (relocation_in bytes j).r_type (Some other) → BeginsPair architecture bytes i
 pair_begins architecture bytes i j row other offset next under begins ends is_row is_other =
     record {
       within = omega (arith, under, next);
@@ -394,7 +394,7 @@ pair_begins architecture bytes i j row other offset next under begins ends is_ro
       is_row = is_row;
       begins = begins;
       other = other;
-      is_other = subst (λ x. IsRow architecture (relocation_in bytes x).code (Some other)) next is_other;
+      is_other = subst (λ x. IsRow architecture (relocation_in bytes x).r_type (Some other)) next is_other;
       ends = ends;
     }
 

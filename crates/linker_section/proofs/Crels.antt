@@ -230,32 +230,32 @@ grows p h k l s =
 
 -- what a place is made of
 abbrev pub place_by : Header → Place → ℕ → ℕ → ℕ → Number → Number → Number → Place
-place_by header prior first flags high symbol code addend = record {
+place_by header prior first flags high symbol r_type addend = record {
   next = addend.next;
   offset = (prior.offset + (high * (128 / flags) % 2 ^ 64 + first % 128 / flags) % 2 ^ 64 * header.scale % 2 ^ 64) % 2 ^ 64;
-  code = (prior.code + code.value % 2 ^ 32) % 2 ^ 32;
+  r_type = (prior.r_type + r_type.value % 2 ^ 32) % 2 ^ 32;
   symbol = (prior.symbol + symbol.value % 2 ^ 32) % 2 ^ 32;
   addend = (prior.addend + addend.value) % 2 ^ 64;
 }
 
 pub next_is : (header : Header) (section : List ℕ) (prior : Place) (first flags : ℕ) (has : Bool)
-    (high symbol code addend : Number) → prior.next < length section
+    (high symbol r_type addend : Number) → prior.next < length section
     → first ≡ slice_index section prior.next → flags ≡ flags_of header
     → has ≡ (header.has_addends && (first / 4 % 2 == 1))
     → delta_at false (nat_le 128 first) section (prior.next + 1) ≡ Ok high
     → delta_at true (first % 2 == 1) section high.next ≡ Ok symbol
-    → delta_at true (first / 2 % 2 == 1) section symbol.next ≡ Ok code
-    → delta_at true has section code.next ≡ Ok addend
+    → delta_at true (first / 2 % 2 == 1) section symbol.next ≡ Ok r_type
+    → delta_at true has section r_type.next ≡ Ok addend
     → next_of header section prior
-    ≡ Ok (place_by header prior first flags high.value symbol code addend)
-next_is header section prior first flags has high symbol code addend there is bits test one two three four =
+    ≡ Ok (place_by header prior first flags high.value symbol r_type addend)
+next_is header section prior first flags has high symbol r_type addend there is bits test one two three four =
     let t : nat_lt prior.next (length section) ≡ true = grind (arith, nat_tests) in
-    let last : delta_at true (header.has_addends && (first / 4 % 2 == 1)) section code.next ≡ Ok addend =
-    ap (λ b. delta_at true b section code.next) (sym test) ∙ four in
+    let last : delta_at true (header.has_addends && (first / 4 % 2 == 1)) section r_type.next ≡ Ok addend =
+    ap (λ b. delta_at true b section r_type.next) (sym test) ∙ four in
     let offset = grows prior.offset high.value (128 / flags) (first % 128 / flags) header.scale in
-    let code_is : (prior.code + code.value % 2 ^ 32) % 2 ^ 32 ≡ (prior.code + code.value) % 2 ^ 32 = omega arith in
+    let r_type_is : (prior.r_type + r_type.value % 2 ^ 32) % 2 ^ 32 ≡ (prior.r_type + r_type.value) % 2 ^ 32 = omega arith in
     let symbol_is : (prior.symbol + symbol.value % 2 ^ 32) % 2 ^ 32 ≡ (prior.symbol + symbol.value) % 2 ^ 32 = omega arith in
-    rw (t, ← is, one, two, three, last, offset, code_is, symbol_is, bits)
+    rw (t, ← is, one, two, three, last, offset, r_type_is, symbol_is, bits)
 
 pub after_next : (n : ℕ) (header : Header) (section : List ℕ) (prior : Place) → after n header section ≡ Ok prior
     → after (n + 1) header section ≡ next_of header section prior
@@ -294,7 +294,7 @@ no_error (suc n) header section error there is =
 abbrev pub rela_of : Place → ℤ → Rela
 rela_of place addend = record {
   offset = place.offset;
-  code = place.code;
+  r_type = place.r_type;
   symbol = place.symbol;
   addend = addend;
 }

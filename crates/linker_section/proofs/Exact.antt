@@ -69,7 +69,7 @@ high_field : (architecture : Architecture) (bytes section : List ℕ) (low : Rel
 high_field architecture bytes section low at r row high =
     let i = high.index in
     let there = there_is bytes i r high.is_there in
-    let is_row : IsRow architecture (relocation_in bytes i).code (Some row) = subst (λ x. IsRow architecture x.code (Some row)) (sym there.is) high.row_is in
+    let is_row : IsRow architecture (relocation_in bytes i).r_type (Some row) = subst (λ x. IsRow architecture x.r_type (Some row)) (sym there.is) high.row_is in
     let auipc = auipc_size row.size (and_parts (is_auipc row.size) (is_high_kind low row.kind) high.is_high).0 in
     let no_pair : is_of_pair row ≡ false = ap (λ x. begins_pair x row.kind || ends_pair x row.kind) auipc.is in
     let valued = auipc_valued architecture _ row is_row (and_parts (is_auipc row.size) (is_high_kind low row.kind) high.is_high).0 in
@@ -126,7 +126,7 @@ module _ (architecture : Architecture) (addresses : Addresses) (bytes : List ℕ
             let a = there_is bytes x.index r x.is_there in
             let b = there_is bytes y.index s y.is_there in
             let same : r ≡ s = sym a.is ∙ (ap (relocation_in bytes) is ∙ b.is) in
-            record { relocation_is = same; row_is = one_info architecture _ row other x.row_is (subst (λ z. IsRow architecture z.code (Some other)) (sym same) y.row_is) }
+            record { relocation_is = same; row_is = one_info architecture _ row other x.row_is (subst (λ z. IsRow architecture z.r_type (Some other)) (sym same) y.row_is) }
         | inr isnt ↦ elim (cases_lt x.index y.index) [
           | inl less ↦ absurd (high_apart low at r s row other x y less)
           | inr most ↦ absurd (high_apart low at s r other row y x (omega (arith, isnt, most)))
@@ -139,7 +139,7 @@ module _ (architecture : Architecture) (addresses : Addresses) (bytes : List ℕ
       elim (none x.index r x.is_there) [
         | inl elsewhere ↦ elsewhere x.offset_is
         | inr other ↦
-            true≢false (sym x.is_high ∙ (ap (is_high_part low) (one_row architecture r.code (Some row) (other.0) x.row_is (other.1)) ∙ other.2))
+            true≢false (sym x.is_high ∙ (ap (is_high_part low) (one_row architecture r.r_type (Some row) (other.0) x.row_is (other.1)) ∙ other.2))
       ]
 
   same_high : (low : RelocationKind) (at : ℕ) (x y : Option (Rela × RelocationKindInfo))
@@ -177,7 +177,7 @@ module _ (architecture : Architecture) (addresses : Addresses) (bytes : List ℕ
       → IsValue architecture addresses bytes symbols r y → x ≡ y
   one_value r x y a b =
       one_in r (a.0) x y (a.2)
-      (subst (λ row. IsValueIn architecture addresses bytes symbols r row y) (one_row architecture r.code (b.0) (a.0) (b.1) (a.1)) (b.2))
+      (subst (λ row. IsValueIn architecture addresses bytes symbols r row y) (one_row architecture r.r_type (b.0) (a.0) (b.1) (a.1)) (b.2))
 
   value_of_has : (r : Rela) (row : RelocationKindInfo) (v : ℤ)
       → HasValue architecture addresses bytes symbols r row v
@@ -204,7 +204,7 @@ module _ (architecture : Architecture) (addresses : Addresses) (bytes : List ℕ
       → HasValue architecture addresses bytes symbols r row v → found ≡ Some (row, v)
   found_is r None row v is has = absurd (none_has r row v (mark_none architecture addresses bytes symbols r is) has)
   found_is r (Some f) row v is has =
-      ap (λ x. Some (x, f.1)) (one_info architecture r.code (f.0) row is.is_row has.is_row)
+      ap (λ x. Some (x, f.1)) (one_info architecture r.r_type (f.0) row is.is_row has.is_row)
       ∙ ap (λ x. Some (row, x)) (ap (first_of v) (ap (of_ok None) (one_value r (Ok (Some (f.1))) (Ok (Some v)) (value_of_has r (f.0) (f.1) is) (value_of_has r row v has))))
 
   has_found : (r : Rela) (found : Option (RelocationKindInfo × ℤ)) (row : RelocationKindInfo) (v : ℤ)

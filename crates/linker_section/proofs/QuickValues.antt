@@ -52,7 +52,7 @@ plain_some architecture addresses symbols row r operands (Some v) found is =
 
 pub plain_quick : (architecture : Architecture) (addresses : Addresses) (bytes : List ℕ)
     (symbols : List Symbol) (r : Rela) (row : RelocationKindInfo) (v : ℤ)
-    → IsRow architecture r.code (Some row) → SaysWay architecture row
+    → IsRow architecture r.r_type (Some row) → SaysWay architecture row
     → is_plain row ≡ true → (is_offset_way (way_of row.size row.kind) && not addresses.has_tls) ≡ false
     → lacks_stub architecture symbols r ≡ false
     → IsPlainValue architecture addresses symbols row r v → needs_upper architecture r v ≡ false
@@ -86,7 +86,7 @@ plain_quick architecture addresses bytes symbols r row v is_row way plain origin
 
 pub low_quick : (architecture : Architecture) (addresses : Addresses) (bytes : List ℕ)
     (symbols : List Symbol) (r : Rela) (row : RelocationKindInfo) (v : ℤ)
-    (high : Option HighPart) → IsRow architecture r.code (Some row)
+    (high : Option HighPart) → IsRow architecture r.r_type (Some row)
     → SaysWay architecture row → is_low row ≡ true
     → lacks_stub architecture symbols r ≡ false → IfSome high (IsHighValue architecture addresses bytes symbols)
     → HasHighValue addresses symbols r high v → needs_upper architecture r v ≡ false

@@ -75,7 +75,7 @@ below_kept architecture addresses bytes values before now after memory other i s
       same_length = below.same_length;
     })
 
--- one value is written that is found by the number of its code
+-- one value is written that is found by its `r_type`
 pub below_quickly : (architecture : Architecture) (addresses : Addresses) (bytes : List ℕ)
     (values : Values) (before now after memory other : List ℕ) (i end next : ℕ)
     → i < length bytes / 24 → i < length memory

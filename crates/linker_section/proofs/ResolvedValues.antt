@@ -143,17 +143,17 @@ lookup_outcome architecture addresses bytes lookup i (Ok (Some found)) is =
     let known = lookup i (relocation_in bytes i) in
     let some = some_unless (is_skipped (is.0) known) architecture addresses bytes lookup i (is.0) found (is.2) in
     record {
-      is_row = subst (IsRow architecture (relocation_in bytes i).code) (some.0) (is.1);
+      is_row = subst (IsRow architecture (relocation_in bytes i).r_type) (some.0) (is.1);
       valued = some.1;
       is_value = is;
     }
 lookup_outcome architecture addresses bytes lookup i (Ok None) is =
-    let code = (relocation_in bytes i).code in
+    let r_type = (relocation_in bytes i).r_type in
     let known = lookup i (relocation_in bytes i) in
-    let unless : (row : RelocationKindInfo) → IsRow architecture code (Some row)
+    let unless : (row : RelocationKindInfo) → IsRow architecture r_type (Some row)
     → IsResolvedUnless (is_skipped (Some row) known) architecture addresses bytes lookup i (Some row) (Ok None) =
     λ row is_row. subst (λ x. IsResolvedUnless (is_skipped x known) architecture addresses bytes lookup i x (Ok None))
-    (one_row architecture code (is.0) (Some row) (is.1) is_row) (is.2) in
+    (one_row architecture r_type (is.0) (Some row) (is.1) is_row) (is.2) in
     record {
       row = is.0;
       is_row = is.1;

@@ -23,7 +23,7 @@ IsSaid architecture (Some row) =
     × SaysWay architecture row
 
 aarch64_said : (name : AArch64Relocation) → IsSaid AArch64 (aarch64_row name)
-aarch64_said (aarch64.Other code) = tt
+aarch64_said (aarch64.Other r_type) = tt
 aarch64_said name = (
   (λ addend. refl),
   (λ addend. refl),
@@ -47,7 +47,7 @@ aarch64_said name = (
 )
 
 riscv64_said : (name : RiscVRelocation) → IsSaid RiscV ((riscv_relocation name).row)
-riscv64_said (riscv64.Other code) = tt
+riscv64_said (riscv64.Other r_type) = tt
 riscv64_said name = (
   (λ addend. refl),
   (λ addend. refl),
@@ -71,7 +71,7 @@ riscv64_said name = (
 )
 
 loongarch64_said : (name : LoongArch64Relocation) → IsSaid LoongArch64 (loongarch_row name)
-loongarch64_said (loongarch64.Other code) = tt
+loongarch64_said (loongarch64.Other r_type) = tt
 loongarch64_said name = (
   (λ addend. refl),
   (λ addend. refl),
@@ -95,7 +95,7 @@ loongarch64_said name = (
 )
 
 ppc64_said : (name : Ppc64Relocation) → IsSaid Ppc64 (ppc64_row name)
-ppc64_said (ppc64.Other code) = tt
+ppc64_said (ppc64.Other r_type) = tt
 ppc64_said name = (
   (λ addend. refl),
   (λ addend. refl),
@@ -119,7 +119,7 @@ ppc64_said name = (
 )
 
 x86_64_said : (name : X86_64Relocation) → IsSaid X86_64 (x86_64_row name)
-x86_64_said (x86_64.Other code) = tt
+x86_64_said (x86_64.Other r_type) = tt
 x86_64_said name = (
   (λ addend. refl),
   (λ addend. refl),
@@ -146,13 +146,13 @@ x86_64_said name = (
 
 by_names : {Name : Type 0} (architecture : Architecture) (elf : Name → ElfName)
     (row_of : Name → Option RelocationKindInfo) → ((name : Name) → IsSaid architecture (row_of name))
-    → (code : ℕ) (row : RelocationKindInfo) → IsNamedValue elf row_of code (Some row)
+    → (r_type : ℕ) (row : RelocationKindInfo) → IsNamedValue elf row_of r_type (Some row)
     → IsSaid architecture (Some row)
-by_names architecture elf row_of said code row of =
+by_names architecture elf row_of said r_type row of =
     subst (IsSaid architecture) (sym of.value_is) (said of.name)
 
-said : (architecture : Architecture) (code : ℕ) (row : RelocationKindInfo)
-    → IsRow architecture code (Some row) → IsSaid architecture (Some row)
+said : (architecture : Architecture) (r_type : ℕ) (row : RelocationKindInfo)
+    → IsRow architecture r_type (Some row) → IsSaid architecture (Some row)
 said AArch64 = by_names AArch64 aarch64_name aarch64_row aarch64_said
 said RiscV = by_names RiscV riscv_name (λ name. (riscv_relocation name).row) riscv64_said
 said LoongArch64 = by_names LoongArch64 loongarch_name loongarch_row loongarch64_said
@@ -166,11 +166,11 @@ by_tls : (row : RelocationKindInfo)
 by_tls row is isnt addend true = is addend
 by_tls row is isnt addend false = isnt addend
 
-pub says : (architecture : Architecture) (code : ℕ) (row : RelocationKindInfo)
-    → IsRow architecture code (Some row) → SaysNeeds row
-says architecture code row is_row =
-    let is = said architecture code row is_row in by_tls row is.0 is.1
+pub says : (architecture : Architecture) (r_type : ℕ) (row : RelocationKindInfo)
+    → IsRow architecture r_type (Some row) → SaysNeeds row
+says architecture r_type row is_row =
+    let is = said architecture r_type row is_row in by_tls row is.0 is.1
 
-pub says_way : (architecture : Architecture) (code : ℕ) (row : RelocationKindInfo)
-    → IsRow architecture code (Some row) → SaysWay architecture row
-says_way architecture code row is_row = (said architecture code row is_row).2
+pub says_way : (architecture : Architecture) (r_type : ℕ) (row : RelocationKindInfo)
+    → IsRow architecture r_type (Some row) → SaysWay architecture row
+says_way architecture r_type row is_row = (said architecture r_type row is_row).2

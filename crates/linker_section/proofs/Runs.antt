@@ -58,7 +58,7 @@ past_more architecture bytes section IsSeen IsSeenNow k last more within small n
       | inr same ↦
           let o = ap (λ r. r.offset) same in
           let e = next.1 row (drop (offset_at bytes i) section)
-          (subst (λ r. IsRow architecture r.code (Some row)) same is_field.is_row) (small i row (within i seen) is_field) in
+          (subst (λ r. IsRow architecture r.r_type (Some row)) same is_field.is_row) (small i row (within i seen) is_field) in
           omega (arith, o, e)
     ] in
     record {

@@ -82,7 +82,7 @@ restores_by architecture bytes memory other (suc n) now before same restores =
 -- a word that is kept of one more relocation
 pub restores_more : (architecture : Architecture) (bytes memory : List ℕ) (n word : ℕ)
     (middle now before : List ℕ) (row : Option RelocationKindInfo) → n < length memory
-    → IsRow architecture (relocation_in bytes n).code row
+    → IsRow architecture (relocation_in bytes n).r_type row
     → with_word (saved_place row (relocation_in bytes n).offset) word now ≡ middle
     → Restores architecture bytes memory n middle before
     → Restores architecture bytes (set memory n word) (suc n) now before
@@ -105,7 +105,7 @@ plus_two n = omega arith
 -- after a write of a relocation's field
 pub restores_local : (architecture : Architecture) (bytes memory : List ℕ) (n word : ℕ)
     (now after before : List ℕ) (row : RelocationKindInfo) → n < length memory
-    → IsRow architecture (relocation_in bytes n).code (Some row)
+    → IsRow architecture (relocation_in bytes n).r_type (Some row)
     → ends_pair row.size row.kind ≡ false
     → take (relocation_in bytes n).offset after ≡ take (relocation_in bytes n).offset now
     → drop ((relocation_in bytes n).offset + 8) after ≡ drop ((relocation_in bytes n).offset + 8) now
@@ -122,9 +122,9 @@ restores_local architecture bytes memory n word now after before row room is_row
 -- after that of a pair
 pub restores_pair : (architecture : Architecture) (bytes memory : List ℕ) (n word next : ℕ)
     (now after before : List ℕ) (row other : RelocationKindInfo) → n + 1 < length memory
-    → IsRow architecture (relocation_in bytes n).code (Some row)
+    → IsRow architecture (relocation_in bytes n).r_type (Some row)
     → ends_pair row.size row.kind ≡ false
-    → IsRow architecture (relocation_in bytes (n + 1)).code (Some other)
+    → IsRow architecture (relocation_in bytes (n + 1)).r_type (Some other)
     → ends_pair other.size other.kind ≡ true
     → (relocation_in bytes (n + 1)).offset ≡ (relocation_in bytes n).offset
     → sum_64 (relocation_in bytes n).offset 8 ≡ (relocation_in bytes n).offset + 8

@@ -84,23 +84,23 @@ is_sized_row None = true
 is_sized_row (Some row) = is_sized row.size row.kind
 
 sized_aarch64 : (name : AArch64Relocation) → is_sized_row (aarch64_row name) ≡ true
-sized_aarch64 (aarch64_names.Other code) = refl
+sized_aarch64 (aarch64_names.Other r_type) = refl
 sized_aarch64 _ = refl
 
 sized_riscv : (name : RiscVRelocation) → is_sized_row ((riscv_relocation name).row) ≡ true
-sized_riscv (riscv_names.Other code) = refl
+sized_riscv (riscv_names.Other r_type) = refl
 sized_riscv _ = refl
 
 sized_loongarch : (name : LoongArch64Relocation) → is_sized_row (loongarch_row name) ≡ true
-sized_loongarch (loongarch_names.Other code) = refl
+sized_loongarch (loongarch_names.Other r_type) = refl
 sized_loongarch _ = refl
 
 sized_ppc64 : (name : Ppc64Relocation) → is_sized_row (ppc64_row name) ≡ true
-sized_ppc64 (ppc64_names.Other code) = refl
+sized_ppc64 (ppc64_names.Other r_type) = refl
 sized_ppc64 _ = refl
 
 sized_x86_64 : (name : X86_64Relocation) → is_sized_row (x86_64_row name) ≡ true
-sized_x86_64 (x86_64_names.Other code) = refl
+sized_x86_64 (x86_64_names.Other r_type) = refl
 sized_x86_64 _ = refl
 
 -- and each `auipc` has a value
@@ -112,46 +112,46 @@ is_valued_row None = true
 is_valued_row (Some row) = is_valued row.size row.kind
 
 valued_aarch64 : (name : AArch64Relocation) → is_valued_row (aarch64_row name) ≡ true
-valued_aarch64 (aarch64_names.Other code) = refl
+valued_aarch64 (aarch64_names.Other r_type) = refl
 valued_aarch64 _ = refl
 
 valued_riscv : (name : RiscVRelocation) → is_valued_row ((riscv_relocation name).row) ≡ true
-valued_riscv (riscv_names.Other code) = refl
+valued_riscv (riscv_names.Other r_type) = refl
 valued_riscv _ = refl
 
 valued_loongarch : (name : LoongArch64Relocation) → is_valued_row (loongarch_row name) ≡ true
-valued_loongarch (loongarch_names.Other code) = refl
+valued_loongarch (loongarch_names.Other r_type) = refl
 valued_loongarch _ = refl
 
 valued_ppc64 : (name : Ppc64Relocation) → is_valued_row (ppc64_row name) ≡ true
-valued_ppc64 (ppc64_names.Other code) = refl
+valued_ppc64 (ppc64_names.Other r_type) = refl
 valued_ppc64 _ = refl
 
 valued_x86_64 : (name : X86_64Relocation) → is_valued_row (x86_64_row name) ≡ true
-valued_x86_64 (x86_64_names.Other code) = refl
+valued_x86_64 (x86_64_names.Other r_type) = refl
 valued_x86_64 _ = refl
 
 test_of : {Name : Type 0} (elf : Name → ElfName) (row_of : Name → Option RelocationKindInfo)
-    (code : ℕ) (row : Option RelocationKindInfo) (test : Option RelocationKindInfo → Bool)
-    → ((name : Name) → test (row_of name) ≡ true) → IsNamedValue elf row_of code row
+    (r_type : ℕ) (row : Option RelocationKindInfo) (test : Option RelocationKindInfo → Bool)
+    → ((name : Name) → test (row_of name) ≡ true) → IsNamedValue elf row_of r_type row
     → test row ≡ true
-test_of elf row_of code row test all is = ap test is.value_is ∙ all is.name
+test_of elf row_of r_type row test all is = ap test is.value_is ∙ all is.name
 
-sized : (architecture : Architecture) (code : ℕ) (row : Option RelocationKindInfo)
-    → IsRow architecture code row → is_sized_row row ≡ true
-sized AArch64 code row is = test_of aarch64_name aarch64_row code row is_sized_row sized_aarch64 is
-sized RiscV code row is = test_of riscv_name (λ name. (riscv_relocation name).row) code row is_sized_row sized_riscv is
-sized LoongArch64 code row is = test_of loongarch_name loongarch_row code row is_sized_row sized_loongarch is
-sized Ppc64 code row is = test_of ppc64_name ppc64_row code row is_sized_row sized_ppc64 is
-sized X86_64 code row is = test_of x86_64_name x86_64_row code row is_sized_row sized_x86_64 is
+sized : (architecture : Architecture) (r_type : ℕ) (row : Option RelocationKindInfo)
+    → IsRow architecture r_type row → is_sized_row row ≡ true
+sized AArch64 r_type row is = test_of aarch64_name aarch64_row r_type row is_sized_row sized_aarch64 is
+sized RiscV r_type row is = test_of riscv_name (λ name. (riscv_relocation name).row) r_type row is_sized_row sized_riscv is
+sized LoongArch64 r_type row is = test_of loongarch_name loongarch_row r_type row is_sized_row sized_loongarch is
+sized Ppc64 r_type row is = test_of ppc64_name ppc64_row r_type row is_sized_row sized_ppc64 is
+sized X86_64 r_type row is = test_of x86_64_name x86_64_row r_type row is_sized_row sized_x86_64 is
 
-valued : (architecture : Architecture) (code : ℕ) (row : Option RelocationKindInfo)
-    → IsRow architecture code row → is_valued_row row ≡ true
-valued AArch64 code row is = test_of aarch64_name aarch64_row code row is_valued_row valued_aarch64 is
-valued RiscV code row is = test_of riscv_name (λ name. (riscv_relocation name).row) code row is_valued_row valued_riscv is
-valued LoongArch64 code row is = test_of loongarch_name loongarch_row code row is_valued_row valued_loongarch is
-valued Ppc64 code row is = test_of ppc64_name ppc64_row code row is_valued_row valued_ppc64 is
-valued X86_64 code row is = test_of x86_64_name x86_64_row code row is_valued_row valued_x86_64 is
+valued : (architecture : Architecture) (r_type : ℕ) (row : Option RelocationKindInfo)
+    → IsRow architecture r_type row → is_valued_row row ≡ true
+valued AArch64 r_type row is = test_of aarch64_name aarch64_row r_type row is_valued_row valued_aarch64 is
+valued RiscV r_type row is = test_of riscv_name (λ name. (riscv_relocation name).row) r_type row is_valued_row valued_riscv is
+valued LoongArch64 r_type row is = test_of loongarch_name loongarch_row r_type row is_valued_row valued_loongarch is
+valued Ppc64 r_type row is = test_of ppc64_name ppc64_row r_type row is_valued_row valued_ppc64 is
+valued X86_64 r_type row is = test_of x86_64_name x86_64_row r_type row is_valued_row valued_x86_64 is
 
 -- and none is longer than 8 bytes
 abbrev is_short_row : Option RelocationKindInfo → Bool
@@ -159,32 +159,32 @@ is_short_row None = true
 is_short_row (Some row) = nat_le (window_len row) 8
 
 short_aarch64 : (name : AArch64Relocation) → is_short_row (aarch64_row name) ≡ true
-short_aarch64 (aarch64_names.Other code) = refl
+short_aarch64 (aarch64_names.Other r_type) = refl
 short_aarch64 _ = refl
 
 short_riscv : (name : RiscVRelocation) → is_short_row ((riscv_relocation name).row) ≡ true
-short_riscv (riscv_names.Other code) = refl
+short_riscv (riscv_names.Other r_type) = refl
 short_riscv _ = refl
 
 short_loongarch : (name : LoongArch64Relocation) → is_short_row (loongarch_row name) ≡ true
-short_loongarch (loongarch_names.Other code) = refl
+short_loongarch (loongarch_names.Other r_type) = refl
 short_loongarch _ = refl
 
 short_ppc64 : (name : Ppc64Relocation) → is_short_row (ppc64_row name) ≡ true
-short_ppc64 (ppc64_names.Other code) = refl
+short_ppc64 (ppc64_names.Other r_type) = refl
 short_ppc64 _ = refl
 
 short_x86_64 : (name : X86_64Relocation) → is_short_row (x86_64_row name) ≡ true
-short_x86_64 (x86_64_names.Other code) = refl
+short_x86_64 (x86_64_names.Other r_type) = refl
 short_x86_64 _ = refl
 
-short : (architecture : Architecture) (code : ℕ) (row : Option RelocationKindInfo)
-    → IsRow architecture code row → is_short_row row ≡ true
-short AArch64 code row is = test_of aarch64_name aarch64_row code row is_short_row short_aarch64 is
-short RiscV code row is = test_of riscv_name (λ name. (riscv_relocation name).row) code row is_short_row short_riscv is
-short LoongArch64 code row is = test_of loongarch_name loongarch_row code row is_short_row short_loongarch is
-short Ppc64 code row is = test_of ppc64_name ppc64_row code row is_short_row short_ppc64 is
-short X86_64 code row is = test_of x86_64_name x86_64_row code row is_short_row short_x86_64 is
+short : (architecture : Architecture) (r_type : ℕ) (row : Option RelocationKindInfo)
+    → IsRow architecture r_type row → is_short_row row ≡ true
+short AArch64 r_type row is = test_of aarch64_name aarch64_row r_type row is_short_row short_aarch64 is
+short RiscV r_type row is = test_of riscv_name (λ name. (riscv_relocation name).row) r_type row is_short_row short_riscv is
+short LoongArch64 r_type row is = test_of loongarch_name loongarch_row r_type row is_short_row short_loongarch is
+short Ppc64 r_type row is = test_of ppc64_name ppc64_row r_type row is_short_row short_ppc64 is
+short X86_64 r_type row is = test_of x86_64_name x86_64_row r_type row is_short_row short_x86_64 is
 
 uleb_short : (bytes : List ℕ) → uleb_len bytes ≤ length bytes
 uleb_short [] = omega arith
@@ -220,11 +220,11 @@ size_of (BitMasking bits insn) kind n sized composing len =
     never (sym (ap not composing) ∙ sized)
 
 -- a row of which a value composes is of whole bytes
-pub whole_bytes : (architecture : Architecture) (code : ℕ) (row : RelocationKindInfo) (n : ℕ)
-    → IsRow architecture code (Some row) → is_composing row.kind ≡ true → window_len row ≡ n
+pub whole_bytes : (architecture : Architecture) (r_type : ℕ) (row : RelocationKindInfo) (n : ℕ)
+    → IsRow architecture r_type (Some row) → is_composing row.kind ≡ true → window_len row ≡ n
     → row.size ≡ ByteSize n
-whole_bytes architecture code row n is_row composing len =
-    size_of row.size row.kind n (sized architecture code (Some row) is_row) composing len
+whole_bytes architecture r_type row n is_row composing len =
+    size_of row.size row.kind n (sized architecture r_type (Some row) is_row) composing len
 
 -- and one of an instruction composes with none
 instruction_size : (size : RelocationSize) (kind : RelocationKind) (bits : BitRange)
@@ -233,16 +233,16 @@ instruction_size : (size : RelocationSize) (kind : RelocationKind) (bits : BitRa
 instruction_size size kind bits insn same sized =
     not-true (is_composing kind) (subst (λ x. is_sized x kind ≡ true) same sized)
 
-pub instruction_alone : (architecture : Architecture) (code : ℕ) (row : RelocationKindInfo)
-    (bits : BitRange) (insn : RelocationInstruction) → IsRow architecture code (Some row)
+pub instruction_alone : (architecture : Architecture) (r_type : ℕ) (row : RelocationKindInfo)
+    (bits : BitRange) (insn : RelocationInstruction) → IsRow architecture r_type (Some row)
     → row.size ≡ BitMasking bits insn → is_composing row.kind ≡ false
-instruction_alone architecture code row bits insn is_row same =
-    instruction_size row.size row.kind bits insn same (sized architecture code (Some row) is_row)
+instruction_alone architecture r_type row bits insn is_row same =
+    instruction_size row.size row.kind bits insn same (sized architecture r_type (Some row) is_row)
 
-pub auipc_valued : (architecture : Architecture) (code : ℕ) (row : RelocationKindInfo)
-    → IsRow architecture code (Some row) → is_auipc row.size ≡ true → has_value row.kind ≡ true
-auipc_valued architecture code row is_row auipc =
-    elim (or_cases (not (is_auipc row.size)) (has_value row.kind) (valued architecture code (Some row) is_row)) [
+pub auipc_valued : (architecture : Architecture) (r_type : ℕ) (row : RelocationKindInfo)
+    → IsRow architecture r_type (Some row) → is_auipc row.size ≡ true → has_value row.kind ≡ true
+auipc_valued architecture r_type row is_row auipc =
+    elim (or_cases (not (is_auipc row.size)) (has_value row.kind) (valued architecture r_type (Some row) is_row)) [
       | inl isnt ↦ never (sym (ap not auipc) ∙ isnt)
       | inr has ↦ has
     ]

@@ -95,7 +95,7 @@ pub data IsClearField (architecture : Architecture) (bytes before : List ℕ) (k
 
 pub clear_field : (architecture : Architecture) (bytes before now : List ℕ) (k : ℕ) (last : Field)
     (row : RelocationKindInfo) → Ascends architecture bytes before now k last
-    → length now ≡ length before → IsRow architecture (relocation_in bytes k).code (Some row)
+    → length now ≡ length before → IsRow architecture (relocation_in bytes k).r_type (Some row)
     → has_value row.kind ≡ true → last.offset ≤ offset_at bytes k
     → clear_in None k (field_of_row row (offset_at bytes k) now) last ≡ true
     → IsClearField architecture bytes before k row (field_of_row row (offset_at bytes k) now) last
@@ -259,7 +259,7 @@ drop_after o w offset now after local window =
 pub ascends_one : (architecture : Architecture) (bytes before now after : List ℕ) (k : ℕ)
     (last : Field) (row : RelocationKindInfo) (v : ℤ) → Ascends architecture bytes before now k last
     → last.offset ≤ offset_at bytes k → length now ≡ length before
-    → IsRow architecture (relocation_in bytes k).code (Some row) → has_value row.kind ≡ true
+    → IsRow architecture (relocation_in bytes k).r_type (Some row) → has_value row.kind ≡ true
     → clear_in None k (field_of_row row (offset_at bytes k) now) last ≡ true
     → IsWritten row v (offset_at bytes k) now after
     → Ascends architecture bytes before after (k + 1) (next_field (field_of_row row (offset_at bytes k) now) last)
@@ -278,7 +278,7 @@ ascends_one architecture bytes before now after k last row v order below same is
       claimed = claimed_after architecture bytes before now k last field row order below refl is;
       no_pair = λ i other here is_other.
           let at : i ≡ k = omega (arith, here) in
-          let one : row ≡ other = one_info architecture _ row other is_row (subst (λ x. IsRow architecture (relocation_in bytes x).code (Some other)) at is_other) in
+          let one : row ≡ other = one_info architecture _ row other is_row (subst (λ x. IsRow architecture (relocation_in bytes x).r_type (Some other)) at is_other) in
           subst (λ x. begins_pair x.size x.kind ≡ false) one (or_parts (begins_pair row.size row.kind) (ends_pair row.size row.kind) alone).0;
       inside = λ some. elim following.is_one [
         | inl is_last ↦ let a = order.inside (let l = ap (λ f. f.len) is_last in omega (arith, some, l)) in
@@ -315,7 +315,7 @@ ascends_mark architecture bytes before now k last order alone none =
       claimed = claimed_mark architecture bytes before k last none order.claimed;
       no_pair = λ i row here is_row.
           let at : i ≡ k = omega (arith, here) in
-          (or_parts (begins_pair row.size row.kind) (ends_pair row.size row.kind) (alone row (subst (λ x. IsRow architecture (relocation_in bytes x).code (Some row)) at is_row))).0;
+          (or_parts (begins_pair row.size row.kind) (ends_pair row.size row.kind) (alone row (subst (λ x. IsRow architecture (relocation_in bytes x).r_type (Some row)) at is_row))).0;
       inside = order.inside;
       following = order.following;
     }
@@ -325,7 +325,7 @@ ascends_mark architecture bytes before now k last order alone none =
 ascends_left : (architecture : Architecture) (bytes before now : List ℕ) (k : ℕ) (last : Field)
     (row : RelocationKindInfo) → Ascends architecture bytes before now k last
     → last.offset ≤ offset_at bytes k → length now ≡ length before
-    → IsRow architecture (relocation_in bytes k).code (Some row) → has_value row.kind ≡ true
+    → IsRow architecture (relocation_in bytes k).r_type (Some row) → has_value row.kind ≡ true
     → is_of_pair row ≡ false → offset_at bytes k + window_len row ≤ length now
     → clear_in None k (field_of_row row (offset_at bytes k) now) last ≡ true
     → Ascends architecture bytes before now (k + 1) (next_field (field_of_row row (offset_at bytes k) now) last)
@@ -340,7 +340,7 @@ ascends_left architecture bytes before now k last row order below same is_row ha
       claimed = claimed_after architecture bytes before now k last field row order below refl is;
       no_pair = λ i other here is_other.
           let at : i ≡ k = omega (arith, here) in
-          let one : row ≡ other = one_info architecture _ row other is_row (subst (λ x. IsRow architecture (relocation_in bytes x).code (Some other)) at is_other) in
+          let one : row ≡ other = one_info architecture _ row other is_row (subst (λ x. IsRow architecture (relocation_in bytes x).r_type (Some other)) at is_other) in
           subst (λ x. begins_pair x.size x.kind ≡ false) one (or_parts (begins_pair row.size row.kind) (ends_pair row.size row.kind) alone).0;
       inside = λ some. elim following.is_one [
         | inl is_last ↦ let a = order.inside (let l = ap (λ f. f.len) is_last in omega (arith, some, l)) in
@@ -402,7 +402,7 @@ pub apart_next : (limit : Option ℕ) (architecture : Architecture) (bytes befor
     (k : ℕ) (last : Field) (row : RelocationKindInfo) → IsLimit architecture bytes before limit
     → IsInOrder limit architecture bytes before now k last → k < length bytes / 24
     → IfNone limit (last.offset ≤ offset_at bytes k)
-    → length now ≡ length before → IsRow architecture (relocation_in bytes k).code (Some row)
+    → length now ≡ length before → IsRow architecture (relocation_in bytes k).r_type (Some row)
     → has_value row.kind ≡ true
     → clear_in limit k (field_of_row row (offset_at bytes k) now) last ≡ true
     → AreApart architecture bytes before (k + 1)
@@ -418,7 +418,7 @@ pub one_order : (limit : Option ℕ) (architecture : Architecture) (bytes before
     → IsLimit architecture bytes before limit
     → IsInOrder limit architecture bytes before now k last → k < length bytes / 24
     → IfNone limit (last.offset ≤ offset_at bytes k)
-    → length now ≡ length before → IsRow architecture (relocation_in bytes k).code (Some row)
+    → length now ≡ length before → IsRow architecture (relocation_in bytes k).r_type (Some row)
     → has_value row.kind ≡ true
     → clear_in limit k (field_of_row row (offset_at bytes k) now) last ≡ true
     → IsWritten row v (offset_at bytes k) now after
@@ -432,7 +432,7 @@ pub left_order : (limit : Option ℕ) (architecture : Architecture) (bytes befor
     (k : ℕ) (last : Field) (row : RelocationKindInfo) → IsLimit architecture bytes before limit
     → IsInOrder limit architecture bytes before now k last → k < length bytes / 24
     → IfNone limit (last.offset ≤ offset_at bytes k)
-    → length now ≡ length before → IsRow architecture (relocation_in bytes k).code (Some row)
+    → length now ≡ length before → IsRow architecture (relocation_in bytes k).r_type (Some row)
     → has_value row.kind ≡ true → is_of_pair row ≡ false
     → offset_at bytes k + window_len row ≤ length now
     → clear_in limit k (field_of_row row (offset_at bytes k) now) last ≡ true
@@ -466,7 +466,7 @@ pub overlap_now : (limit : Option ℕ) (architecture : Architecture) (bytes befo
     (k : ℕ) (last : Field) (row : RelocationKindInfo) → IsLimit architecture bytes before limit
     → IsInOrder limit architecture bytes before now k last → k < length bytes / 24
     → IfNone limit (last.offset ≤ offset_at bytes k)
-    → length now ≡ length before → IsRow architecture (relocation_in bytes k).code (Some row)
+    → length now ≡ length before → IsRow architecture (relocation_in bytes k).r_type (Some row)
     → has_value row.kind ≡ true
     → clear_in limit k (field_of_row row (offset_at bytes k) now) last ≡ false
     → IsOverlapped architecture bytes before k
@@ -507,7 +507,7 @@ place_alone (Some row) offset alone =
 -- nothing is written
 pub mark_restores : (architecture : Architecture) (bytes memory before now : List ℕ) (k word : ℕ)
     (row : Option RelocationKindInfo) → k < length memory
-    → IsRow architecture (relocation_in bytes k).code row → IsAlone architecture bytes k
+    → IsRow architecture (relocation_in bytes k).r_type row → IsAlone architecture bytes k
     → IsSavedAt (offset_at bytes k) now word → Restores architecture bytes memory k now before
     → Restores architecture bytes (set memory k word) (k + 1) now before
 mark_restores architecture bytes memory before now k word row room is_row alone saved restores =
@@ -515,12 +515,12 @@ mark_restores architecture bytes memory before now k word row room is_row alone 
     subst (λ n. Restores architecture bytes (set memory k word) n now before) (plus_one k)
     (restores_more architecture bytes memory k word now now before row room is_row
     (ap (λ p. with_word p word now)
-    (place_alone row o (λ other is. alone other (subst (λ x. IsRow architecture (relocation_in bytes k).code x) is is_row)))
+    (place_alone row o (λ other is. alone other (subst (λ x. IsRow architecture (relocation_in bytes k).r_type x) is is_row)))
     ∙ undone o word now now refl refl refl saved) restores)
 
 pub one_restores : (architecture : Architecture) (bytes memory before now after : List ℕ)
     (k word : ℕ) (row : RelocationKindInfo) (v : ℤ) → k < length memory
-    → IsRow architecture (relocation_in bytes k).code (Some row)
+    → IsRow architecture (relocation_in bytes k).r_type (Some row)
     → IsWritten row v (offset_at bytes k) now after → IsSavedAt (offset_at bytes k) now word
     → Restores architecture bytes memory k now before
     → Restores architecture bytes (set memory k word) (k + 1) after before
@@ -599,7 +599,7 @@ ascends_pair : (architecture : Architecture) (addresses : Addresses) (bytes befo
     (values : Values) (k : ℕ) (last : Field) (row : RelocationKindInfo)
     → Ascends architecture bytes before now k last
     → last.offset ≤ offset_at bytes k → length now ≡ length before
-    → IsRow architecture (relocation_in bytes k).code (Some row) → has_value row.kind ≡ true
+    → IsRow architecture (relocation_in bytes k).r_type (Some row) → has_value row.kind ≡ true
     → clear_in None k (field_of_row row (offset_at bytes k) now) last ≡ true
     → (pair : BeginsPair architecture bytes k)
     → IsPairWritten architecture addresses bytes values k now after
@@ -630,7 +630,7 @@ ascends_pair architecture addresses bytes before now after values k last row ord
             claimed = claimed_pair architecture bytes before (λ i. i < k + 1) (λ i. i < k + 2) k row pair.other field (pair_below k) claimed h begins pair.same_offset second place.end_is;
             no_pair = λ i other here is_other.
                 let at : i ≡ k + 1 = omega (arith, here) in
-                let one : pair.other ≡ other = one_info architecture _ pair.other other pair.is_other (subst (λ x. IsRow architecture (relocation_in bytes x).code (Some other)) at is_other) in
+                let one : pair.other ≡ other = one_info architecture _ pair.other other pair.is_other (subst (λ x. IsRow architecture (relocation_in bytes x).r_type (Some other)) at is_other) in
                 subst (λ x. begins_pair x.size x.kind ≡ false) one (ended_begins_none pair.other.size pair.other.kind pair.ends);
             inside = λ some. omega (arith, inside, len, same);
             following = λ offset from. drop_after o (uleb_len (take 10 (drop o now))) offset now after local (inl (omega (arith, from, len)))
@@ -643,7 +643,7 @@ ascends_pair architecture addresses bytes before now after values k last row ord
 
 -- the second isn't the first that overlaps, since its field is the first's
 limit_pair : (architecture : Architecture) (bytes before : List ℕ) (k : ℕ)
-    (row : RelocationKindInfo) → IsRow architecture (relocation_in bytes k).code (Some row)
+    (row : RelocationKindInfo) → IsRow architecture (relocation_in bytes k).r_type (Some row)
     → has_value row.kind ≡ true → AreApart architecture bytes before (k + 1)
     → BeginsPair architecture bytes k → IsOverlapped architecture bytes before (k + 1) → ⊥
 limit_pair architecture bytes before k row is_row has apart pair at =
@@ -673,7 +673,7 @@ pub pair_order : (limit : Option ℕ) (architecture : Architecture) (addresses :
     (row : RelocationKindInfo) → IsLimit architecture bytes before limit
     → IsInOrder limit architecture bytes before now k last → k < length bytes / 24
     → IfNone limit (last.offset ≤ offset_at bytes k)
-    → length now ≡ length before → IsRow architecture (relocation_in bytes k).code (Some row)
+    → length now ≡ length before → IsRow architecture (relocation_in bytes k).r_type (Some row)
     → has_value row.kind ≡ true
     → clear_in limit k (field_of_row row (offset_at bytes k) now) last ≡ true
     → BeginsPair architecture bytes k
@@ -694,7 +694,7 @@ pair_order (Some limit) architecture addresses bytes before now after values k l
 pub pair_restores : (architecture : Architecture) (addresses : Addresses)
     (bytes memory before now after : List ℕ) (values : Values) (k word next : ℕ)
     (row : RelocationKindInfo) → k + 1 < length memory → length now < 2 ^ 63
-    → IsRow architecture (relocation_in bytes k).code (Some row)
+    → IsRow architecture (relocation_in bytes k).r_type (Some row)
     → BeginsPair architecture bytes k
     → IsPairWritten architecture addresses bytes values k now after
     → IsSavedAt (offset_at bytes k) now word → IsSavedAt (sum_64 (offset_at bytes k) 8) now next

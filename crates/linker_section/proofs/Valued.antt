@@ -126,14 +126,14 @@ mark_none architecture addresses bytes symbols r is = (is.0, is.1, is.2)
 pub no_value : (architecture : Architecture) (addresses : Addresses) (bytes : List ℕ)
     (symbols : List Symbol) (r : Rela) (other : RelocationKindInfo)
     → IsValue architecture addresses bytes symbols r (Ok None)
-    → IsRow architecture r.code (Some other) → has_value other.kind ≡ false
+    → IsRow architecture r.r_type (Some other) → has_value other.kind ≡ false
 no_value architecture addresses bytes symbols r other is is_other =
     in_none architecture addresses bytes symbols r (is.0) other
-    (one_row architecture r.code (is.0) (Some other) (is.1) is_other) (is.2)
+    (one_row architecture r.r_type (is.0) (Some other) (is.1) is_other) (is.2)
 
 pub mark_no_value : (architecture : Architecture) (addresses : Addresses) (bytes : List ℕ)
     (symbols : List Symbol) (r : Rela) → IsMark architecture addresses bytes symbols r
-    → (row : RelocationKindInfo) → IsRow architecture r.code (Some row)
+    → (row : RelocationKindInfo) → IsRow architecture r.r_type (Some row)
     → has_value row.kind ≡ false
 mark_no_value architecture addresses bytes symbols r mark row is_row =
     no_value architecture addresses bytes symbols r row (mark_none architecture addresses bytes symbols r mark) is_row

@@ -54,10 +54,10 @@ is_stated place addend =
 -- many bytes the nops have; that of `R_LARCH_ALIGN` with a symbol says both.
 abbrev pub is_filled : Architecture → Addresses → Rela → Bool
 is_filled architectures.RiscV addresses r =
-    not (r.code == 43)
+    not (r.r_type == 43)
     || is_padded (sum_64 addresses.section r.offset) (cast_unsigned w64 r.addend)
 is_filled architectures.LoongArch64 addresses r =
-    not (r.code == 102)
+    not (r.r_type == 102)
     || (if r.symbol == 0 then
     is_padded (sum_64 addresses.section r.offset) (cast_unsigned w64 r.addend)
     else is_stated (sum_64 addresses.section r.offset) (cast_unsigned w64 r.addend))
@@ -76,7 +76,7 @@ changes_toc_if (Some symbol) = changes_toc symbol
 
 -- an `R_PPC64_REL24`
 abbrev pub keeps_toc : Architecture → Rela → Bool
-keeps_toc architectures.Ppc64 r = r.code == 10
+keeps_toc architectures.Ppc64 r = r.r_type == 10
 keeps_toc architecture r = false
 
 -- of such a function
@@ -140,38 +140,39 @@ HoldsOffset row v offset section =
 
 -- ---- LoongArch's values of more than 32 bits
 
--- The code of the third relocation of the psABI's sequences for 64 bits, by that of the first, an
--- `*_HI20`. Those of local-dynamic and general-dynamic TLS have an entry of the GOT, and the other
--- relocations of its sequence (LoongArch ELF psABI, "Relocation Types" and "Code Models").
-abbrev pub upper_code : ℕ → Option ℕ
-upper_code code =
-    if code == 67 then Some 69
-    else (if code == 71 then Some 73
-    else (if code == 75 || (code == 95 || code == 97) then Some 77
-    else (if code == 79 || (code == 96 || code == 98) then Some 81
-    else (if code == 83 then Some 85
-    else (if code == 87 then Some 89
-    else (if code == 91 then Some 93
-    else (if code == 111 then Some 113
-    else (if code == 115 then Some 117
+-- The `r_type` of the third relocation of the psABI's sequences for 64 bits, by that of the first,
+-- an `*_HI20`. Those of local-dynamic and general-dynamic TLS have an entry of the GOT, and the
+-- other relocations of its sequence (LoongArch ELF psABI, "Relocation Types" and "Code Models").
+abbrev pub upper_r_type : ℕ → Option ℕ
+upper_r_type r_type =
+    if r_type == 67 then Some 69
+    else (if r_type == 71 then Some 73
+    else (if r_type == 75 || (r_type == 95 || r_type == 97) then Some 77
+    else (if r_type == 79 || (r_type == 96 || r_type == 98) then Some 81
+    else (if r_type == 83 then Some 85
+    else (if r_type == 87 then Some 89
+    else (if r_type == 91 then Some 93
+    else (if r_type == 111 then Some 113
+    else (if r_type == 115 then Some 117
     else None))))))))
 
 -- Such a first relocation is relative to the place: `R_LARCH_PCALA_HI20`, and those with `PC` in
 -- their names.
 abbrev pub is_placed : ℕ → Bool
-is_placed code =
-    code == 71 || (code == 75 || (code == 87 || (code == 95 || (code == 97 || code == 111))))
+is_placed r_type =
+    r_type == 71 || (r_type == 75 || (r_type == 87 || (r_type == 95 || (r_type == 97
+    || r_type == 111))))
 
 -- A relocation is the third of the sequence that another begins: of the same symbol and addend,
 -- and 8 bytes after it where it is relative to the place, since the four are adjacent there.
 abbrev pub is_upper_of : Option ℕ → Rela → Rela → Bool
 is_upper_of None high other = false
-is_upper_of (Some code) high other =
-    other.code == code && (other.symbol == high.symbol && (int_eq other.addend high.addend
-    && (not (is_placed high.code) || other.offset == sum_64 high.offset 8)))
+is_upper_of (Some r_type) high other =
+    other.r_type == r_type && (other.symbol == high.symbol && (int_eq other.addend high.addend
+    && (not (is_placed high.r_type) || other.offset == sum_64 high.offset 8)))
 
 abbrev pub is_upper : Rela → Rela → Bool
-is_upper high other = is_upper_of (upper_code high.code) high other
+is_upper high other = is_upper_of (upper_r_type high.r_type) high other
 
 -- one of a section's relocations is
 abbrev pub HasUpper : List ℕ → Rela → Type 0
@@ -183,7 +184,7 @@ HasUpper bytes high =
 abbrev pub needs_upper : Architecture → Rela → ℤ → Bool
 needs_upper architectures.LoongArch64 r v =
     (int_lt v (negsuc 0x7fffffff) || int_lt (pos 0x7fffffff) v)
-    && (r.code == 121 || is_some (upper_code r.code))
+    && (r.r_type == 121 || is_some (upper_r_type r.r_type))
 needs_upper architecture r v = false
 
 -- its section then has the relocation of the upper bits

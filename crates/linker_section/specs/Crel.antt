@@ -77,13 +77,14 @@ abbrev pub next_by : Header → List ℕ → Place → ℕ → Result Place Crel
 next_by header section prior first =
     followed (delta_at false (nat_le 128 first) section (prior.next + 1)) (λ high.
     followed (delta_at true (first % 2 == 1) section high.next) (λ symbol.
-    followed (delta_at true (first / 2 % 2 == 1) section symbol.next) (λ code.
-    followed (delta_at true (header.has_addends && (first / 4 % 2 == 1)) section code.next) (λ addend.
+    followed (delta_at true (first / 2 % 2 == 1) section symbol.next) (λ r_type.
+    followed (delta_at true (header.has_addends
+    && (first / 4 % 2 == 1)) section r_type.next) (λ addend.
     let delta = high.value * (128 / flags_of header) + first % 128 / flags_of header in
     Ok (record {
       next = addend.next;
       offset = (prior.offset + delta * header.scale) % 2 ^ 64;
-      code = (prior.code + code.value) % 2 ^ 32;
+      r_type = (prior.r_type + r_type.value) % 2 ^ 32;
       symbol = (prior.symbol + symbol.value) % 2 ^ 32;
       addend = (prior.addend + addend.value) % 2 ^ 64;
     })))))
@@ -97,14 +98,14 @@ next_of header section prior =
 -- what is known after n relocations, of which the last is the one here
 unfoldable pub after : ℕ → Header → List ℕ → Result Place CrelError
 after zero header section =
-    Ok (record { next = header.next; offset = 0; code = 0; symbol = 0; addend = 0 })
+    Ok (record { next = header.next; offset = 0; r_type = 0; symbol = 0; addend = 0 })
 after (suc n) header section = followed (after n header section) (next_of header section)
 
 abbrev pub relocation_of_place : Place → Rela
 relocation_of_place place =
     record {
       offset = place.offset;
-      code = place.code;
+      r_type = place.r_type;
       symbol = place.symbol;
       addend = cast_signed w64 place.addend;
     }

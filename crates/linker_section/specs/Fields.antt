@@ -48,7 +48,7 @@ field_len row bytes =
 -- the relocation at an index has a row and a field in the section
 pub record IsField (architecture : Architecture) (bytes section : List ℕ) (i : ℕ)
     (row : RelocationKindInfo) : Type 0 where
-  pub is_row : IsRow architecture (relocation_in bytes i).code (Some row)
+  pub is_row : IsRow architecture (relocation_in bytes i).r_type (Some row)
   pub some : 0 < field_len row (drop (offset_at bytes i) section)
 
 -- where its field ends

@@ -10,7 +10,7 @@ abbrev pub relocation_of : List ℕ → Rela
 relocation_of bytes =
     record {
       offset = from_le_bytes w64 bytes;
-      code = from_le_bytes w32 (drop 8 bytes);
+      r_type = from_le_bytes w32 (drop 8 bytes);
       symbol = from_le_bytes w32 (drop 12 bytes);
       addend = cast_signed w64 (from_le_bytes w64 (drop 16 bytes));
     }

@@ -168,6 +168,6 @@ IsResolvedUnless false architecture addresses bytes lookup i row (Err error) =
 -- the values of a section's relocations by a look-up
 abbrev pub by_lookup : Lookup → Values
 by_lookup lookup architecture addresses bytes i outcome =
-    (row : Option RelocationKindInfo) × IsRow architecture (relocation_in bytes i).code row
+    (row : Option RelocationKindInfo) × IsRow architecture (relocation_in bytes i).r_type row
     × IsResolvedUnless (is_skipped row (lookup i (relocation_in bytes i))) architecture addresses
     bytes lookup i row outcome

@@ -23,7 +23,7 @@ abbrev pub relocation32_of : List ℕ → Rela
 relocation32_of bytes =
     record {
       offset = from_le_bytes w32 bytes;
-      code = from_le_bytes w32 (drop 4 bytes) % 256;
+      r_type = from_le_bytes w32 (drop 4 bytes) % 256;
       symbol = from_le_bytes w32 (drop 4 bytes) / 256;
       addend = cast_signed w32 (from_le_bytes w32 (drop 8 bytes));
     }
@@ -75,7 +75,7 @@ wrapped_by addresses symbols r (Some row) =
 -- a relocation before and after its addend is wrapped
 abbrev pub IsWrapped : Addresses → List Symbol → Rela → Rela → Type 0
 IsWrapped addresses symbols r after =
-    (row : Option RelocationKindInfo) × IsRow RiscV r.code row
+    (row : Option RelocationKindInfo) × IsRow RiscV r.r_type row
     × (after ≡ wrapped_by addresses symbols r row)
 
 -- all of a section's

@@ -77,7 +77,7 @@ IsWrittenAt row v offset before after (Err error) =
 -- a relocation among those of its section has a row and a value
 pub record HasValue (architecture : Architecture) (addresses : Addresses) (bytes : List ℕ)
     (symbols : List Symbol) (r : Rela) (row : RelocationKindInfo) (v : ℤ) : Type 0 where
-  pub is_row : IsRow architecture r.code (Some row)
+  pub is_row : IsRow architecture r.r_type (Some row)
   pub is_value : IsValueIn architecture addresses bytes symbols r (Some row) (Ok (Some v))
   pub keeps_toc : lacks_stub architecture symbols r ≡ false
   pub in_reach : IsInReach architecture bytes r v
@@ -85,7 +85,7 @@ pub record HasValue (architecture : Architecture) (addresses : Addresses) (bytes
 -- A relocation has no value of its own, and if it is an alignment, it holds.
 abbrev pub IsMark : Architecture → Addresses → List ℕ → List Symbol → Rela → Type 0
 IsMark architecture addresses bytes symbols r =
-    (row : Option RelocationKindInfo) × IsRow architecture r.code row
+    (row : Option RelocationKindInfo) × IsRow architecture r.r_type row
     × IsValueIn architecture addresses bytes symbols r row (Ok None)
     × (is_filled architecture addresses r ≡ true)
 
@@ -133,7 +133,7 @@ by_index symbols architecture addresses bytes i outcome =
 -- the relocation at an index has a row and a value, and writes it
 pub record IsValued (architecture : Architecture) (addresses : Addresses) (bytes : List ℕ)
     (values : Values) (i : ℕ) (row : RelocationKindInfo) (v : ℤ) : Type 0 where
-  pub is_row : IsRow architecture (relocation_in bytes i).code (Some row)
+  pub is_row : IsRow architecture (relocation_in bytes i).r_type (Some row)
   pub valued : has_value row.kind ≡ true
   pub is_value : values architecture addresses bytes i (Ok (Some (row, v)))
 
@@ -196,10 +196,10 @@ pub record BeginsPair (architecture : Architecture) (bytes : List ℕ) (i : ℕ)
   pub within : i + 1 < length bytes / 24
   pub same_offset : offset_at bytes (i + 1) ≡ offset_at bytes i
   pub row : RelocationKindInfo
-  pub is_row : IsRow architecture (relocation_in bytes i).code (Some row)
+  pub is_row : IsRow architecture (relocation_in bytes i).r_type (Some row)
   pub begins : begins_pair row.size row.kind ≡ true
   pub other : RelocationKindInfo
-  pub is_other : IsRow architecture (relocation_in bytes (i + 1)).code (Some other)
+  pub is_other : IsRow architecture (relocation_in bytes (i + 1)).r_type (Some other)
   pub ends : ends_pair other.size other.kind ≡ true
 
 -- ---- all relocations

@@ -62,8 +62,8 @@ entry_address addresses symbol (Some entry) =
 -- The formulas of x86-64's `R_X86_64_GOTPC32` and `R_X86_64_GOTPC64` have the GOT's address,
 -- whatever the symbol is (x86-64 psABI, "Relocation Types").
 abbrev pub is_of_got : Architecture → ℕ → Bool
-is_of_got architectures.X86_64 code = code == 26 || code == 29
-is_of_got architecture code = false
+is_of_got architectures.X86_64 r_type = r_type == 26 || r_type == 29
+is_of_got architecture r_type = false
 
 -- The local entry point of a function after its global one: bits 5 to 7 of `st_other` say the
 -- logarithm of the distance, from 4 bytes on (64-Bit ELF V2 ABI, "Symbol Values").
@@ -126,7 +126,7 @@ operands_with architecture addresses row symbol r entry =
     in let target : ℕ = target_of architecture addresses row symbol place
     in let loads : Bool = loads_plt_word row.size row.kind
     in record {
-      symbol = if is_of_got architecture r.code then addresses.got_base else target;
+      symbol = if is_of_got architecture r.r_type then addresses.got_base else target;
       addend = if loads then pos 0 else r.addend;
       place = place;
       got_entry = entry;
@@ -232,14 +232,14 @@ pub record IsHighPart (architecture : Architecture) (bytes : List ℕ) (low : Re
   pub index : ℕ
   pub is_there : relocation_at bytes index ≡ Some r
   pub offset_is : r.offset ≡ at
-  pub row_is : IsRow architecture r.code (Some row)
+  pub row_is : IsRow architecture r.r_type (Some row)
   pub is_high : is_high_part low (Some row) ≡ true
 
 -- a relocation that is no high part at an offset
 abbrev pub IsNoHighPart : Architecture → RelocationKind → ℕ → Rela → Type 0
 IsNoHighPart architecture low at r =
     (r.offset ≢ at)
-    ⊎ ((row : Option RelocationKindInfo) × IsRow architecture r.code row
+    ⊎ ((row : Option RelocationKindInfo) × IsRow architecture r.r_type row
     × (is_high_part low row ≡ false))
 
 -- the high part at an offset, or none of the relocations is
@@ -295,5 +295,5 @@ IsValueIn architecture addresses bytes symbols r (Some row) result =
 abbrev pub IsValue : Architecture → Addresses → List ℕ → List Symbol → Rela
     → Result (Option ℤ) ValueError → Type 0
 IsValue architecture addresses bytes symbols r result =
-    (row : Option RelocationKindInfo) × IsRow architecture r.code row
+    (row : Option RelocationKindInfo) × IsRow architecture r.r_type row
     × IsValueIn architecture addresses bytes symbols r row result

@@ -57,7 +57,7 @@ fn write_quickly<S: Symbols>(
     if offset < end {
         return None;
     }
-    let Some(row) = architecture.row(relocation.code) else {
+    let Some(row) = architecture.row(relocation.r_type) else {
         return None;
     };
     let Some(word) = whole_word_at(section, offset) else {
@@ -99,7 +99,7 @@ fn last_field(architecture: Architecture, relocations: &[u8], index: usize, step
         return step.last;
     }
     let relocation = relocation_in(relocations, index - 1);
-    match architecture.row(relocation.code) {
+    match architecture.row(relocation.r_type) {
         Some(row) => Field {
             offset: relocation.offset,
             len: row.window(),

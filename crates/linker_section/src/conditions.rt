@@ -8,7 +8,7 @@ ghost use Rattle.linker_section.specs.Relocations.{relocation_in};
 ghost use Rattle.linker_section.specs.Conditions.{HasLength, changes_toc, is_filled, is_padded};
 ghost use Rattle.linker_section.specs.Conditions.{is_stated, keeps_toc, lacks_stub, needed};
 ghost use Rattle.linker_section.specs.Conditions.{shows, is_thread_based, holds_offset};
-ghost use Rattle.linker_section.specs.Conditions.{upper_code, is_placed, is_upper, needs_upper};
+ghost use Rattle.linker_section.specs.Conditions.{upper_r_type, is_placed, is_upper, needs_upper};
 ghost use Rattle.linker_section.specs.Conditions.{HasUpper, HoldsOffset, IsInReach};
 ghost use Rattle.linker_section.specs.Inner.Facts.{shows_lengths, word_shows};
 
@@ -38,7 +38,7 @@ pub(crate) fn keeps_toc(architecture: Architecture, relocation: &Rela) -> bool
     ensures { result ≡ keeps_toc architecture relocation.now }
 {
     matches!(architecture, Architecture::Ppc64)
-        && relocation.code == Ppc64Relocation::R_PPC64_REL24.elf_code()
+        && relocation.r_type == Ppc64Relocation::R_PPC64_REL24.r_type()
 }
 
 /// Whether a relocation is such a call, of such a symbol.
@@ -112,10 +112,10 @@ pub(crate) fn is_filled(
     let addend = relocation.addend.cast_unsigned();
     match architecture {
         Architecture::RiscV => {
-            relocation.code != RiscVRelocation::R_RISCV_ALIGN.elf_code() || is_padded(place, addend)
+            relocation.r_type != RiscVRelocation::R_RISCV_ALIGN.r_type() || is_padded(place, addend)
         }
         Architecture::LoongArch64 => {
-            if relocation.code != LoongArch64Relocation::R_LARCH_ALIGN.elf_code() {
+            if relocation.r_type != LoongArch64Relocation::R_LARCH_ALIGN.r_type() {
                 true
             } else if relocation.symbol == 0 {
                 is_padded(place, addend)
@@ -223,12 +223,13 @@ pub(crate) fn has_offset(row: &Row, value: i64, offset: u64, section: &[u8]) -> 
     there.len() < row.window() || holds_offset(row, value, there)
 }
 
-/// The code of the third relocation of a sequence of LoongArch for 64 bits, by that of the first.
+/// The `r_type` of the third relocation of a sequence of LoongArch for 64 bits, by that of the
+/// first.
 #[inline(always)]
-fn upper_code(code: u32) -> Option<u32>
-    ensures { result ≡ upper_code code }
+fn upper_r_type(r_type: u32) -> Option<u32>
+    ensures { result ≡ upper_r_type r_type }
 {
-    match code {
+    match r_type {
         // R_LARCH_ABS_HI20, R_LARCH_PCALA_HI20
         67 => Some(69),
         71 => Some(73),
@@ -249,10 +250,10 @@ fn upper_code(code: u32) -> Option<u32>
 
 /// Whether such a first relocation is relative to the place.
 #[inline(always)]
-fn is_placed(code: u32) -> bool
-    ensures { result ≡ is_placed code }
+fn is_placed(r_type: u32) -> bool
+    ensures { result ≡ is_placed r_type }
 {
-    matches!(code, 71 | 75 | 87 | 95 | 97 | 111)
+    matches!(r_type, 71 | 75 | 87 | 95 | 97 | 111)
 }
 
 /// Whether a relocation is the third of the sequence that another begins.
@@ -260,13 +261,13 @@ fn is_placed(code: u32) -> bool
 fn is_upper(high: &Rela, other: &Rela) -> bool
     ensures { result ≡ is_upper high.now other.now }
 {
-    let Some(code) = upper_code(high.code) else {
+    let Some(r_type) = upper_r_type(high.r_type) else {
         return false;
     };
-    other.code == code
+    other.r_type == r_type
         && other.symbol == high.symbol
         && other.addend == high.addend
-        && (!is_placed(high.code) || other.offset == high.offset.wrapping_add(8))
+        && (!is_placed(high.r_type) || other.offset == high.offset.wrapping_add(8))
 }
 
 /// Whether one of the relocations from an index to below another is.
@@ -301,8 +302,8 @@ pub(crate) fn needs_upper(architecture: Architecture, relocation: &Rela, value: 
 {
     matches!(architecture, Architecture::LoongArch64)
         && (value < -0x8000_0000 || 0x7fff_ffff < value)
-        && (relocation.code == LoongArch64Relocation::R_LARCH_TLS_LE_HI20_R.elf_code()
-            || upper_code(relocation.code).is_some())
+        && (relocation.r_type == LoongArch64Relocation::R_LARCH_TLS_LE_HI20_R.r_type()
+            || upper_r_type(relocation.r_type).is_some())
 }
 
 /// Whether a value is one of 32 signed bits, if a relocation begins a sequence of LoongArch without

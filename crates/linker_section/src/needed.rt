@@ -107,9 +107,9 @@ fn requirements_by(facts: &RowFacts, addend: i64, is_thread_local: bool) -> Requ
     }
 }
 
-/// What a relocation with a code, `r_type` in ELF files, and an addend requires of a linker, by
-/// whether its symbol is thread-local (`STT_TLS`). None of a code without a row, which no object's
-/// relocation has. Its `entry` is what the value of `Operands::got_entry` is the address of.
+/// What a relocation with an `r_type` and an addend requires of a linker, by whether its symbol is
+/// thread-local (`STT_TLS`). None of one without a row, which no object's relocation has. Its
+/// `entry` is what the value of `Operands::got_entry` is the address of.
 ///
 /// Where a relocation is rewritten, those of the one that it becomes count.
 ///
@@ -128,14 +128,14 @@ fn requirements_by(facts: &RowFacts, addend: i64, is_thread_local: bool) -> Requ
 #[inline(always)]
 pub fn needs(
     architecture: Architecture,
-    code: u32,
+    r_type: u32,
     addend: i64,
     is_thread_local: bool,
 ) -> Option<Requirements>
-    ensures { (row : Option RelocationKindInfo) × IsRow architecture code row
+    ensures { (row : Option RelocationKindInfo) × IsRow architecture r_type row
         × (result ≡ needs_in row addend is_thread_local) }
 {
-    match architecture.row(code) {
+    match architecture.row(r_type) {
         Some(row) => Some(requirements_by(row.facts(), addend, is_thread_local)),
         None => None,
     }

@@ -143,7 +143,7 @@ pub(crate) fn field_in(
         → ¬ IsField architecture relocations.now section.now index row) }
 {
     let relocation = relocation_in(relocations, index);
-    let Some(row) = architecture.row(relocation.code) else {
+    let Some(row) = architecture.row(relocation.r_type) else {
         return None;
     };
     if !has_value(row.kind()) {
@@ -164,7 +164,7 @@ fn is_second_of(architecture: Architecture, relocations: &[u8], first: usize, in
     if index != first + 1 {
         return false;
     }
-    let Some(row) = architecture.row(relocation_in(relocations, first).code) else {
+    let Some(row) = architecture.row(relocation_in(relocations, first).r_type) else {
         return false;
     };
     second_of_pair(architecture, relocations, first, &row).is_some()
@@ -183,7 +183,7 @@ fn is_past(architecture: Architecture, last: &Rela, next: &Rela) -> bool
     if distance >= 10 {
         return true;
     }
-    match architecture.row(last.code) {
+    match architecture.row(last.r_type) {
         Some(row) => !is_of_pair(&row.info()) && row.window() as u64 <= distance,
         None => false,
     }
@@ -200,7 +200,7 @@ pub(crate) fn are_runs_apart(architecture: Architecture, relocations: &[u8], sta
     let len = relocations_len(relocations);
     let mut last = Rela {
         offset: 0,
-        code: 0,
+        r_type: 0,
         symbol: 0,
         addend: 0,
     };

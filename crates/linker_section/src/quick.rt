@@ -125,7 +125,7 @@ pub(crate) fn plain_operands(
     requires needs { SaysNeeds row.now }
     requires way { SaysWay architecture row.now }
     requires plain { is_plain row.now ≡ true }
-    requires symbol { is_of_got architecture relocation.now.code ≡ false }
+    requires symbol { is_of_got architecture relocation.now.r_type ≡ false }
     ensures { result
         ≡ operands_with architecture addresses.now row.now symbol.now relocation.now entry }
 {
@@ -158,7 +158,7 @@ fn plain_value(
     requires needs { SaysNeeds row.now }
     requires way { SaysWay architecture row.now }
     requires plain { is_plain row.now ≡ true }
-    requires symbol { is_of_got architecture relocation.now.code ≡ false }
+    requires symbol { is_of_got architecture relocation.now.r_type ≡ false }
     ensures { IfSome result (IsPlainValue architecture addresses.now symbols.now row.now
         relocation.now) }
 {
@@ -230,14 +230,14 @@ fn found_value(
     relocation: &Rela,
     high: Option<HighPart>,
 ) -> Option<i64>
-    requires row { IsRow architecture relocation.now.code (Some row.now) }
+    requires row { IsRow architecture relocation.now.r_type (Some row.now) }
     requires high { IfSome high
         (IsHighValue architecture addresses.now _relocations.now symbols.now) }
     ensures { IfSome result (λ v. needs_upper architecture relocation.now v ≡ false
         → IsQuickValue architecture addresses.now _relocations.now symbols.now relocation.now
         row.now v) }
 {
-    if lacks_stub(architecture, symbols, relocation) || is_of_got(architecture, relocation.code) {
+    if lacks_stub(architecture, symbols, relocation) || is_of_got(architecture, relocation.r_type) {
         return None;
     }
     let way = row.facts().way;
@@ -263,7 +263,7 @@ pub(crate) fn quick_value(
     relocation: &Rela,
     high: Option<HighPart>,
 ) -> Option<i64>
-    requires row { IsRow architecture relocation.now.code (Some row.now) }
+    requires row { IsRow architecture relocation.now.r_type (Some row.now) }
     requires high { IfSome high
         (IsHighValue architecture addresses.now relocations.now symbols.now) }
     ensures { IfSome result (IsQuickValue architecture addresses.now relocations.now symbols.now

@@ -17,8 +17,8 @@ pub const RELA_LEN: usize = 24;
 pub struct Rela {
     /// Its place, `r_offset`: an offset in the section.
     pub offset: u64,
-    /// Its code, `r_type`: the low 32 bits of `r_info`.
-    pub code: u32,
+    /// Its `r_type`: the low 32 bits of `r_info`.
+    pub r_type: u32,
     /// The index of its symbol, `r_sym`: the high 32 bits of `r_info`.
     pub symbol: u32,
     /// Its addend, `r_addend`.
@@ -51,7 +51,7 @@ pub(crate) fn relocation_of(entry: &[u8]) -> Rela
 {
     Rela {
         offset: u64_from_slice(entry),
-        code: u32_at(entry, 8),
+        r_type: u32_at(entry, 8),
         symbol: u32_at(entry, 12),
         addend: u64_at(entry, 16).cast_signed(),
     }
@@ -98,7 +98,7 @@ fn write_relocation(entry: &mut [u8], relocation: &Rela)
 {
     let addend = relocation.addend.cast_unsigned();
     overwrite(entry, 0, &relocation.offset.to_le_bytes());
-    overwrite(entry, 8, &relocation.code.to_le_bytes());
+    overwrite(entry, 8, &relocation.r_type.to_le_bytes());
     overwrite(entry, 12, &relocation.symbol.to_le_bytes());
     overwrite(entry, 16, &addend.to_le_bytes());
 }
@@ -129,7 +129,7 @@ pub fn set_relocation(relocations: &mut [u8], index: usize, relocation: &Rela)
 /// bytes[16..].copy_from_slice(&(-4i64).to_le_bytes());
 /// let relocation = relocation_at(&bytes, 0).unwrap();
 /// assert_eq!(relocation.offset, 0x10);
-/// assert_eq!(relocation.code, 2);
+/// assert_eq!(relocation.r_type, 2);
 /// assert_eq!(relocation.symbol, 5);
 /// assert_eq!(relocation.addend, -4);
 /// assert_eq!(relocation_at(&bytes, 1), None);

@@ -274,7 +274,7 @@ fn resolved_row_value<L: Lookup>(
     ensures { by_lookup (L.resolved lookup) architecture addresses.now relocations.now index
         result }
 {
-    let Some(row) = architecture.row(relocation.code) else {
+    let Some(row) = architecture.row(relocation.r_type) else {
         return Err(ValueError::UnknownType);
     };
     let known = lookup.resolved(index, relocation);
@@ -322,7 +322,7 @@ fn plain_value(
     requires needs { SaysNeeds row.now }
     requires way { SaysWay architecture row.now }
     requires plain { is_plain row.now ≡ true }
-    requires symbol { is_of_got architecture relocation.now.code ≡ false }
+    requires symbol { is_of_got architecture relocation.now.r_type ≡ false }
     ensures { IfSome result (IsPlainResolved architecture addresses.now row.now relocation.now
         resolved.now) }
 {
@@ -354,7 +354,7 @@ fn found_resolved<L: Lookup>(
 ) -> Option<i64>
     requires within { _index < length _relocations.now / 24 }
     requires is { relocation.now ≡ relocation_in _relocations.now _index }
-    requires row { IsRow architecture relocation.now.code (Some row.now) }
+    requires row { IsRow architecture relocation.now.r_type (Some row.now) }
     requires known { L.resolved _lookup _index relocation.now ≡ Some known.now }
     requires high { IfSome high
         (IsResolvedHigh architecture addresses.now _relocations.now (L.resolved _lookup)) }
@@ -364,7 +364,7 @@ fn found_resolved<L: Lookup>(
 {
     if known.is_left_out
         || lacks_known_stub(architecture, relocation, known)
-        || is_of_got(architecture, relocation.code)
+        || is_of_got(architecture, relocation.r_type)
     {
         return None;
     }
@@ -394,7 +394,7 @@ fn quick_resolved<L: Lookup>(
 ) -> Option<i64>
     requires within { index < length relocations.now / 24 }
     requires is { relocation.now ≡ relocation_in relocations.now index }
-    requires row { IsRow architecture relocation.now.code (Some row.now) }
+    requires row { IsRow architecture relocation.now.r_type (Some row.now) }
     requires high { IfSome high
         (IsResolvedHigh architecture addresses.now relocations.now (L.resolved lookup)) }
     ensures { IfSome result (IsQuickResolved architecture addresses.now relocations.now

@@ -41,7 +41,7 @@ fn relocation32_of(entry: &[u8]) -> Rela
     let info = u32_at(entry, 4);
     Rela {
         offset: u64::from(u32_from_slice(entry)),
-        code: info % 256,
+        r_type: info % 256,
         symbol: info / 256,
         addend: signed(u32_at(entry, 8)),
     }
@@ -75,7 +75,7 @@ pub fn relocations32_len(entries: &[u8]) -> usize
 /// let mut relocations = [0; 24];
 /// read_rela32(&[0x10, 0, 0, 0, 26, 5, 0, 0, 0xfc, 0xff, 0xff, 0xff], &mut relocations);
 /// let relocation = relocation_at(&relocations, 0).unwrap();
-/// assert_eq!((relocation.offset, relocation.code), (0x10, 26));
+/// assert_eq!((relocation.offset, relocation.r_type), (0x10, 26));
 /// assert_eq!((relocation.symbol, relocation.addend), (5, -4));
 /// ```
 pub fn read_rela32(entries: &[u8], relocations: &mut [u8])
@@ -127,7 +127,7 @@ fn with_value(relocation: &Rela, value: i64, wanted: i64) -> Rela
 fn wrap_addend(addresses: &Addresses, symbols: &[Symbol], relocation: &Rela) -> Rela
     ensures { IsWrapped addresses.now symbols.now relocation.now result }
 {
-    let Some(row) = Architecture::RiscV.row(relocation.code) else {
+    let Some(row) = Architecture::RiscV.row(relocation.r_type) else {
         return *relocation;
     };
     let Some(least) = held_from(&row) else {

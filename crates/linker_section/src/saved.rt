@@ -99,7 +99,7 @@ pub(crate) fn restore(
     while index > 0 {
         index -= 1;
         let relocation = relocation_in(relocations, index);
-        let place = saved_place(architecture.row(relocation.code), relocation.offset);
+        let place = saved_place(architecture.row(relocation.r_type), relocation.offset);
         put_word(memory[index], place, section);
     }
 }

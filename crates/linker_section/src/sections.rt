@@ -104,7 +104,7 @@ pub(crate) fn row_value(
     ensures { IsRowValue architecture addresses.now relocations.now symbols.now relocation.now
         result }
 {
-    let Some(row) = architecture.row(relocation.code) else {
+    let Some(row) = architecture.row(relocation.r_type) else {
         return Err(ValueError::UnknownType);
     };
     match value_of(
@@ -189,8 +189,8 @@ pub(crate) fn field_at(row: &Row, offset: u64, section: &[u8]) -> Field
 }
 
 /// How many bytes of a section the relocation at an index writes, of at most ten: those of its row,
-/// or as many as the ULEB128 number has that it is at. None are of a relocation whose code has no
-/// row, or that has no value, as marks.
+/// or as many as the ULEB128 number has that it is at. None are of a relocation whose `r_type` has
+/// no row, or that has no value, as marks.
 pub fn field_len(
     architecture: Architecture,
     relocations: &[u8],
@@ -244,7 +244,7 @@ pub(crate) fn second_of_pair(
     row: &Row,
 ) -> Option<Rela>
     requires within { index < length relocations.now / 24 }
-    requires row { IsRow architecture (relocation_in relocations.now index).code (Some row.now) }
+    requires row { IsRow architecture (relocation_in relocations.now index).r_type (Some row.now) }
     ensures found { IfSome result (λ second. (second ≡ relocation_in relocations.now (index + 1))
         × BeginsPair architecture relocations.now index) }
     ensures none { IfNone result (¬ BeginsPair architecture relocations.now index) }
@@ -273,7 +273,7 @@ fn next_of_pair(architecture: Architecture, relocations: &[u8], index: usize) ->
     if second.offset != first.offset {
         return None;
     }
-    let Some(row) = architecture.row(second.code) else {
+    let Some(row) = architecture.row(second.r_type) else {
         return None;
     };
     let info = row.info();
@@ -678,9 +678,9 @@ pub fn memory_len(relocations: &[u8]) -> usize
 ///
 /// A relocation without a value, as `R_RISCV_RELAX`, has no field. Where code would be wrong with
 /// its value, it isn't written (`NotAligned`, `NeedsStub`, `OtherLength`, `OutOfReach`). A linker
-/// that removes the nops of an alignment itself sets the relocation's code to 0. n relocations that
-/// ascend by offset take time in proportion to n, also most that are two such lists, one after the
-/// other. In any other order their indexes are sorted in `memory` first, and the time is in
+/// that removes the nops of an alignment itself sets the relocation's `r_type` to 0. n relocations
+/// that ascend by offset take time in proportion to n, also most that are two such lists, one after
+/// the other. In any other order their indexes are sorted in `memory` first, and the time is in
 /// proportion to n log n; each low part of RISC-V then takes up to n more.
 ///
 /// # Errors

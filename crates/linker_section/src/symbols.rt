@@ -64,7 +64,7 @@ pub(crate) trait Symbols: Copy {
     ) -> Option<i64>
         requires within { index < length relocations.now / 24 }
         requires is { relocation.now ≡ relocation_in relocations.now index }
-        requires row { IsRow architecture relocation.now.code (Some row.now) }
+        requires row { IsRow architecture relocation.now.r_type (Some row.now) }
         requires high { IfSome high (has_high self architecture addresses.now relocations.now) }
         ensures value { IfSome result (IsQuickAt architecture addresses.now relocations.now
             (values self) index row.now) }

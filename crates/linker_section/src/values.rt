@@ -29,7 +29,7 @@ use linker_elf::x86_64::X86_64Relocation;
 /// Why a relocation has no value.
 #[derive(Clone, Copy)]
 pub enum ValueError {
-    /// Its code has no row: no object's relocation has it.
+    /// Its `r_type` has no row: no object's relocation has it.
     UnknownType,
     /// Its symbol, or that of its high part, isn't in the table.
     NoSymbol,
@@ -109,12 +109,12 @@ pub(crate) fn entry_address(
 
 /// Whether the formula has the GOT's address in place of the symbol's.
 #[inline(always)]
-pub(crate) fn is_of_got(architecture: Architecture, code: u32) -> bool
-    ensures { result ≡ is_of_got architecture code }
+pub(crate) fn is_of_got(architecture: Architecture, r_type: u32) -> bool
+    ensures { result ≡ is_of_got architecture r_type }
 {
     matches!(architecture, Architecture::X86_64)
-        && (code == X86_64Relocation::R_X86_64_GOTPC64.elf_code()
-            || code == X86_64Relocation::R_X86_64_GOTPC32.elf_code())
+        && (r_type == X86_64Relocation::R_X86_64_GOTPC64.r_type()
+            || r_type == X86_64Relocation::R_X86_64_GOTPC32.r_type())
 }
 
 /// How far after a function's global entry point its local one is.
@@ -255,7 +255,7 @@ fn operands_with(
     let target = target_of(architecture, addresses, row, symbol, place);
     let loads = info.size.loads_plt_word(info.kind);
     Operands {
-        symbol: if is_of_got(architecture, relocation.code) {
+        symbol: if is_of_got(architecture, relocation.r_type) {
             addresses.got_base
         } else {
             target
@@ -463,7 +463,7 @@ fn high_part_in(
     if relocation.offset != at {
         return None;
     }
-    let Some(row) = architecture.row(relocation.code) else {
+    let Some(row) = architecture.row(relocation.r_type) else {
         return None;
     };
     if is_high_part(low, &row.info()) {
@@ -554,7 +554,7 @@ fn low_value(
     row: &Row,
     high: Option<(Rela, Row)>,
 ) -> Result<Option<i64>, ValueError>
-    requires { IfSome high (λ found. IsRow architecture (found.0).code (Some (found.1))) }
+    requires { IfSome high (λ found. IsRow architecture (found.0).r_type (Some (found.1))) }
     ensures { result ≡ low_value architecture addresses.now symbols.now row.now high }
 {
     let Some((relocation, high)) = high else {
@@ -619,7 +619,7 @@ pub(crate) fn value_of(
 /// use linker_utils::elf::Architecture;
 ///
 /// // R_AARCH64_CALL26 at offset 4, of symbol 1
-/// let call = Rela { offset: 4, code: 283, symbol: 1, addend: 0 };
+/// let call = Rela { offset: 4, r_type: 283, symbol: 1, addend: 0 };
 /// let addresses = Addresses { section: 0x1000, ..Addresses::default() };
 /// let function = Symbol { address: 0x2000, ..Symbol::default() };
 /// let symbols = [Symbol::default(), function];
@@ -636,7 +636,7 @@ pub fn value(
 ) -> Result<Option<i64>, ValueError>
     ensures { IsValue architecture addresses.now relocations.now symbols.now relocation.now result }
 {
-    match architecture.row(relocation.code) {
+    match architecture.row(relocation.r_type) {
         Some(row) => value_of(
             architecture,
             addresses,

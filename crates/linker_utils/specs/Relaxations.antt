@@ -9,7 +9,7 @@ use Rattle.linker_utils.specs.AArch64Rewrites.{aarch64_matches}
 use Rattle.linker_elf.specs.AArch64Relocations.{aarch64_name}
 use Rattle.linker_elf.specs.Architectures.{IsNamedValue, of_some}
 use Rattle.linker_elf.specs.Choices.{with_group}
-use Rattle.linker_elf.specs.ElfNames.{ElfName, IsNameOf, code_of}
+use Rattle.linker_elf.specs.ElfNames.{ElfName, IsNameOf, r_type_of}
 use Rattle.linker_utils.specs.LoongArchRewrites.{IsLoongArchChoice}
 use Rattle.linker_utils.specs.LoongArchRewrites.{loongarch_matches}
 use Rattle.linker_elf.specs.LoongArchRelocations.{loongarch_name}
@@ -110,58 +110,59 @@ relaxation_deleted (relaxations.RiscV kind) = riscv_deleted kind
 relaxation_deleted (relaxations.LoongArch64 kind) = loongarch_deleted kind
 relaxation_deleted kind = None
 
--- a relocation of AArch64 by its code
-abbrev pub by_code : OtherRelocation AArch64Relocation → OtherRelocation ℕ
-by_code other =
-    record { offset = other.offset; relocation = code_of (aarch64_name other.relocation) }
+-- a relocation of AArch64 by its `r_type`
+abbrev pub by_type : OtherRelocation AArch64Relocation → OtherRelocation ℕ
+by_type other =
+    record { offset = other.offset; relocation = r_type_of (aarch64_name other.relocation) }
 
 -- the relocation of another instruction that it changes too
 abbrev pub relaxation_other : Relaxation → Option (OtherRelocation ℕ)
-relaxation_other (relaxations.AArch64 kind) = of_some by_code (aarch64_other kind)
+relaxation_other (relaxations.AArch64 kind) = of_some by_type (aarch64_other kind)
 relaxation_other kind = None
 
 -- ---- choices
 
--- a rewrite, and the code of the relocation after it: the choice for the name of a code
+-- a rewrite, and the `r_type` of the relocation after it: the choice for the name of an `r_type`
 pub record IsChosenBy {Kind Name : Type 0} (elf : Name → ElfName) (relaxation : Kind → Relaxation)
-    (IsChoice : Name → Choice Kind Name → Type 0) (code : ℕ) (chosen : Choice Relaxation ℕ)
+    (IsChoice : Name → Choice Kind Name → Type 0) (r_type : ℕ) (chosen : Choice Relaxation ℕ)
     : Type 0 where
   pub name : Name
   pub named : Choice Kind Name
-  pub is_name : IsNameOf elf code name
+  pub is_name : IsNameOf elf r_type name
   pub is_choice : IsChoice name named
   pub kind_is : chosen.kind ≡ relaxation named.kind
-  pub code_is : chosen.relocation ≡ code_of (elf named.relocation)
+  pub r_type_is : chosen.relocation ≡ r_type_of (elf named.relocation)
 
 -- a choice leaves a relocation and its instruction as they are
 abbrev pub IsUnchanged : ℕ → Choice Relaxation ℕ → Type 0
-IsUnchanged code chosen = relaxation_no_op chosen.kind × (chosen.relocation ≡ code)
+IsUnchanged r_type chosen = relaxation_no_op chosen.kind × (chosen.relocation ≡ r_type)
 
 -- of an architecture
 abbrev pub IsArchitectureChoice : Architecture → ℕ → List ℕ → ℕ → LinkFacts → Choice Relaxation ℕ
     → Type 0
-IsArchitectureChoice AArch64 code section o facts =
-    IsChosenBy aarch64_name relaxations.AArch64 (λ name. IsAArch64Choice name section o facts) code
-IsArchitectureChoice RiscV code section o facts =
-    IsChosenBy riscv_name relaxations.RiscV (λ name. IsRiscVChoice name section o facts) code
-IsArchitectureChoice LoongArch64 code section o facts =
+IsArchitectureChoice AArch64 r_type section o facts =
+    IsChosenBy aarch64_name relaxations.AArch64 (λ name. IsAArch64Choice name section o facts)
+    r_type
+IsArchitectureChoice RiscV r_type section o facts =
+    IsChosenBy riscv_name relaxations.RiscV (λ name. IsRiscVChoice name section o facts) r_type
+IsArchitectureChoice LoongArch64 r_type section o facts =
     IsChosenBy loongarch_name relaxations.LoongArch64
-    (λ name. IsLoongArchChoice name section o facts) code
-IsArchitectureChoice Ppc64 code section o facts =
-    IsChosenBy ppc64_name relaxations.Ppc64 (λ name. IsPpc64Choice name section o facts) code
-IsArchitectureChoice X86_64 code section o facts =
-    IsChosenBy x86_64_name relaxations.X86_64 (λ name. IsX86Choice name section o facts) code
+    (λ name. IsLoongArchChoice name section o facts) r_type
+IsArchitectureChoice Ppc64 r_type section o facts =
+    IsChosenBy ppc64_name relaxations.Ppc64 (λ name. IsPpc64Choice name section o facts) r_type
+IsArchitectureChoice X86_64 r_type section o facts =
+    IsChosenBy x86_64_name relaxations.X86_64 (λ name. IsX86Choice name section o facts) r_type
 
 -- whether a relocation can be rewritten, if each other one of its sequence can
 abbrev pub IsFit : Architecture → ℕ → List ℕ → ℕ → LinkFacts → Bool → Type 0
-IsFit architecture code section o facts fits =
+IsFit architecture r_type section o facts fits =
     (chosen : Choice Relaxation ℕ)
-    × IsArchitectureChoice architecture code section o (with_group facts) chosen
-    × (IsTrue fits ↔ ¬ IsUnchanged code chosen)
+    × IsArchitectureChoice architecture r_type section o (with_group facts) chosen
+    × (IsTrue fits ↔ ¬ IsUnchanged r_type chosen)
 
 -- whether it may be skipped after a rewrite
 abbrev pub IsSkippable : Architecture → ℕ → Bool → Type 0
 IsSkippable RiscV = IsNamedValue riscv_name riscv_may_be_skipped
 IsSkippable Ppc64 = IsNamedValue ppc64_name ppc64_may_be_skipped
 IsSkippable X86_64 = IsNamedValue x86_64_name x86_64_may_be_skipped
-IsSkippable architecture = λ code answer. answer ≡ false
+IsSkippable architecture = λ r_type answer. answer ≡ false

@@ -25,13 +25,13 @@ use Rattle.linker_elf.specs.declared.elf.architecture.Architecture.{Architecture
 use Rattle.linker_utils_c.specs.Relocate.{write_status}
 use Rattle.linker_utils_c.specs.Relocations.{IsCopied}
 use Rattle.linker_utils_c.specs.Status.{code}
-use Rattle.linker_utils_c.specs.declared.output.DynamicCodes.{DynamicCodes}
+use Rattle.linker_utils_c.specs.declared.output.DynamicNumbers.{DynamicNumbers}
 use Rattle.linker_utils_c.specs.declared.output.EntryWords.{EntryWords}
 use Rattle.linker_utils_c.specs.declared.output.GotNumbers.{GotNumbers}
 use Rattle.linker_utils_c.specs.declared.output.RunNumbers.{RunNumbers}
 use Rattle.linker_utils_c.specs.declared.output.StubNumbers.{StubNumbers}
 use Rattle.linker_utils_c.specs.declared.output.SymbolNumbers.{SymbolNumbers}
-use Rattle.linker_utils_c.specs.declared.output.WordCodes.{WordCodes}
+use Rattle.linker_utils_c.specs.declared.output.WordNumbers.{WordNumbers}
 use Rattle.linker_utils_c.specs.declared.status.Status.{Status}
 use Rattle.linker_utils_c.specs.declared.status.Status.TheVariants.{Success, TooShort}
 use Rattle.linker_utils_c.specs.declared.status.Status.TheVariants.{UnknownEntryClass}
@@ -41,23 +41,23 @@ use Rattle.linker_utils_c.specs.declared.status.Status.TheVariants.{NotProvided}
 -- ---- dynamic relocations
 
 -- 0 where the psABI has no such type
-abbrev pub code_or_none : Option DynamicKind → ℕ
-code_or_none None = 0
-code_or_none (Some kind) = kind.code
+abbrev pub r_type_or_none : Option DynamicKind → ℕ
+r_type_or_none None = 0
+r_type_or_none (Some kind) = kind.r_type
 
-abbrev pub codes_of : DynamicKinds → DynamicCodes
-codes_of types =
+abbrev pub numbers_of_types : DynamicKinds → DynamicNumbers
+numbers_of_types types =
     record {
-      word = types.word.code;
-      relative = types.relative.code;
-      glob_dat = types.glob_dat.code;
-      jump_slot = types.jump_slot.code;
-      copy = types.copy.code;
-      irelative = types.irelative.code;
-      module_number = types.module_number.code;
-      module_offset = types.module_offset.code;
-      thread_offset = types.thread_offset.code;
-      descriptor = code_or_none types.descriptor;
+      word = types.word.r_type;
+      relative = types.relative.r_type;
+      glob_dat = types.glob_dat.r_type;
+      jump_slot = types.jump_slot.r_type;
+      copy = types.copy.r_type;
+      irelative = types.irelative.r_type;
+      module_number = types.module_number.r_type;
+      module_offset = types.module_offset.r_type;
+      thread_offset = types.thread_offset.r_type;
+      descriptor = r_type_or_none types.descriptor;
     }
 
 -- a text is copied, or the status says that there is none
@@ -84,17 +84,17 @@ abbrev pub number_or_none : Option ℕ → ℕ
 number_or_none None = 0
 number_or_none (Some number) = number
 
-abbrev pub AreCodes : List (Option ℕ) → WordCodes → Type 0
-AreCodes (first ∷ second ∷ []) words =
+abbrev pub AreNumbers : List (Option ℕ) → WordNumbers → Type 0
+AreNumbers (first ∷ second ∷ []) words =
     words ≡ record { first = number_or_none first; second = number_or_none second }
-AreCodes others words = ⊥
+AreNumbers others words = ⊥
 
-abbrev pub AreWordsReturned : DynamicKinds → Option EntryClass → Bool → Bool → WordCodes
-    → WordCodes → ℕ → Type 0
+abbrev pub AreWordsReturned : DynamicKinds → Option EntryClass → Bool → Bool → WordNumbers
+    → WordNumbers → ℕ → Type 0
 AreWordsReturned types None is_bound is_executable old new status =
     (status ≡ code UnknownEntryClass) × (new ≡ old)
 AreWordsReturned types (Some class) is_bound is_executable old new status =
-    (status ≡ code Success) × AreCodes (dynamic_words types class is_bound is_executable) new
+    (status ≡ code Success) × AreNumbers (dynamic_words types class is_bound is_executable) new
 
 -- 0 of no class
 abbrev pub entry_words_of : Option EntryClass → ℕ

@@ -7,7 +7,7 @@ use Rattle.linker_elf.specs.Relocate.{window_len}
 use Rattle.linker_elf.specs.declared.elf.RelocationKindInfo.{RelocationKindInfo}
 use Rattle.linker_reading.specs.declared.fields.FieldValue.{FieldValue}
 use Rattle.linker_reading.specs.FieldsOfBytes.{is_field_bit, AreSameButFor}
-use Rattle.linker_reading.specs.FoundByCode.{AreFound, IsFoundChosen}
+use Rattle.linker_reading.specs.FoundByType.{AreFound, IsFoundChosen}
 use Rattle.linker_reading.specs.Windows.{IsWindowOf, IsDestination, symbol_of}
 use Rattle.linker_reading.specs.declared.windows.Destination.{Destination}
 use Rattle.linker_reading.specs.declared.recognise.engine.Recognised.{Recognised}

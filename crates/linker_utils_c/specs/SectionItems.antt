@@ -22,7 +22,7 @@ use Rattle.linker_utils_c.specs.Status.{code}
 abbrev pub relocation_of : Rela → Relocation
 relocation_of relocation = record {
   offset = relocation.offset;
-  code = relocation.r_type;
+  r_type = relocation.r_type;
   has_symbol = is_set relocation.has_symbol;
   addend = relocation.addend;
   target = if is_set relocation.has_target then Some relocation.target else None;

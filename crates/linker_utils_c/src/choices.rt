@@ -44,7 +44,7 @@ pub struct LinkFactNumbers {
 pub struct ChoiceNumbers {
     /// The rewrite's number.
     pub rewrite: u32,
-    /// The code of the relocation that is then written.
+    /// The `r_type` of the relocation that is then written.
     pub relocation: u32,
     /// What becomes of the next relocation: 1 if it is skipped, else 0.
     pub modifier: u32,
@@ -54,7 +54,7 @@ pub struct ChoiceNumbers {
     pub deleted_start: u64,
     /// Where another relocation is, from the offset on, whose instruction the rewrite changes too.
     pub other_offset: i64,
-    /// The code that it then has.
+    /// The `r_type` that it then has.
     pub other_relocation: u32,
     /// 1 if there is one; else 0, as are both numbers.
     pub has_other: u8,
@@ -124,12 +124,12 @@ pub(crate) fn in_numbers(chosen: Choice<Relaxation, u32>) -> ChoiceNumbers
 /// The choice of an architecture's rewrites, in numbers.
 macro_rules! chosen_in_numbers {
     ($of:ident $module:ident $names:ident
-        ($code:expr, $section:expr, $offset:expr, $facts:expr)) => {{
-        let name = linker_utils::$module::$names::from_elf($code);
+        ($r_type:expr, $section:expr, $offset:expr, $facts:expr)) => {{
+        let name = linker_utils::$module::$names::from_elf($r_type);
         let chosen = linker_utils::$module::choose(name, $section, $offset, $facts);
         in_numbers(Choice {
             kind: Relaxation::$of(chosen.kind),
-            relocation: chosen.relocation.elf_code(),
+            relocation: chosen.relocation.r_type(),
         })
     }};
 }
@@ -139,18 +139,18 @@ macro_rules! chosen_in_numbers {
 #[inline(always)]
 pub(crate) fn choose_in_numbers(
     architecture: Architecture,
-    code: u32,
+    r_type: u32,
     section: &[u8],
     offset: u64,
     facts: &LinkFacts,
 ) -> ChoiceNumbers
     ensures { (chosen : Choice Relaxation ℕ)
-        × IsArchitectureChoice architecture code section.now offset facts.now chosen
+        × IsArchitectureChoice architecture r_type section.now offset facts.now chosen
         × IsChoiceInNumbers architecture chosen result }
 {
     by_architecture!(
         architecture,
-        chosen_in_numbers(code, section, offset, facts)
+        chosen_in_numbers(r_type, section, offset, facts)
     )
 }
 

@@ -95,7 +95,7 @@ pub extern "C" fn linker_utils_may_be_skipped(machine: u16, r_type: u32) -> bool
 
 /// Writes the ELF name of a relocation, as "R_AARCH64_CALL26", to the beginning of `name`, without
 /// a NUL after it, and its length to `name_used`. No name is longer than 64 bytes.
-/// `UnknownArchitecture`; `UnknownRelocation` of a code without a name; `TooShort` where `name` has
+/// `UnknownArchitecture`; `UnknownRelocation` of a type without a name; `TooShort` where `name` has
 /// too few bytes.
 #[unsafe(no_mangle)]
 pub extern "C" fn linker_utils_relocation_name_nonnull(

@@ -1,13 +1,13 @@
 //! The rewrites of a section in one call, before addresses are known and once they are.
 
 ghost use Rattle.std.specs.Prelude.{◌≡◌, ◌/◌, ℕ, length, Some, false, OnOk, OnErr, MatchOption};
-ghost use Rattle.linker_output.specs.Addresses.{entry_code_of};
+ghost use Rattle.linker_output.specs.Addresses.{entry_r_type_of};
 ghost use Rattle.linker_output.specs.Targets.{target_of};
 ghost use Rattle.linker_rewriting.specs.Agreement.{Agree, IsContradiction};
 ghost use Rattle.linker_rewriting.specs.Facts.{pre_layout, context};
 ghost use Rattle.linker_rewriting.specs.Groups.{has_rewrites};
 ghost use Rattle.linker_rewriting.specs.Surveys.{IsSurveyed, IsSurveyedIn};
-ghost use Rattle.linker_rewriting.specs.TocIndirection.{AreLoadsSurveyed, entry_code};
+ghost use Rattle.linker_rewriting.specs.TocIndirection.{AreLoadsSurveyed, entry_r_type};
 ghost use Rattle.linker_utils.specs.Relaxations.{relaxation_architecture};
 ghost use Rattle.linker_elf.specs.Machines.{architecture_of, machine_of};
 ghost use Rattle.linker_utils_c.specs.AddressLoads.{AreLoadsReturned};
@@ -47,7 +47,7 @@ pub struct DecisionNumbers {
     /// The rewrite's number; 0 of a relocation whose instruction isn't rewritten, as the fields
     /// below but `fate`.
     pub rewrite: u32,
-    /// The relocation's code after it.
+    /// The relocation's `r_type` after it.
     pub relocation: u32,
     /// `e_machine` of the rewrite's architecture.
     pub machine: u16,
@@ -608,7 +608,7 @@ pub extern "C" fn linker_utils_rewrite_toc_loads_nonnull(
         relocations.new section.old section.new decisions.old decisions.new faulty.old faulty.new
         result) }
     ensures loads { (architecture : Architecture) (r_type : ℕ)
-        → entry_code_of (target_of architecture).addresses r_type ≡ entry_code architecture r_type }
+        → entry_r_type_of (target_of architecture).addresses r_type ≡ entry_r_type architecture r_type }
 {
     let Some(architecture) = Architecture::from_machine(machine) else {
         return Status::UnknownArchitecture as u32;

@@ -3,9 +3,9 @@
 
 use linker_utils::elf::Architecture;
 
-/// One way to write an instruction: its bytes, with 0 where a register and values go; the bytes and the
-/// bits above them where the register's number goes; and the relocations: the byte, the code (`r_type`
-/// in ELF files), the addend, and the byte that the value counts from. It may not lie in two units of
+/// One way to write an instruction: its bytes, with 0 where a register and values go; the bytes and
+/// the bits above them where the register's number goes; and the relocations: the byte, the
+/// `r_type`, the addend, and the byte that the value counts from. It may not lie in two units of
 /// `unit` bytes, unless that is 0.
 pub struct Form {
     pub bytes: &'static [u8],

@@ -119,8 +119,8 @@ fn relocations<'a>(
 ) -> impl Iterator<Item = (usize, Row, Operands)> + 'a {
     let symbol = statements.get(statement.target).map_or(end, |target| target.address);
     let relocations = statement.form().map_or(&[][..], |form| form.relocations);
-    relocations.iter().map(move |&(at, code, addend, from)| {
-        let row = architecture.row(code).expect("a code of the tables");
+    relocations.iter().map(move |&(at, r_type, addend, from)| {
+        let row = architecture.row(r_type).expect("a r_type of the tables");
         (at, row, Operands::new(symbol, addend, statement.address + from as u64))
     })
 }

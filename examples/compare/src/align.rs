@@ -32,12 +32,12 @@ fn unlike(linked: &Linked, it: &Section, offset: u64, address: u64) -> (usize, u
     }
     let (architecture, relocations) = (linked.architecture, &it.relocations[..]);
     let may_delete = |one: &Relocation| {
-        made::may_delete(architecture, one.code) || made::is_mark(architecture, one.code)
+        made::may_delete(architecture, one.r_type) || made::is_mark(architecture, one.r_type)
     };
     // rewrites may change the instruction and the next one
     let past = |one: &Relocation| match made::alignment(architecture, one, 0) {
         Some((nops, _)) => one.offset + nops,
-        None => one.offset + made::len(architecture, one.code).max(4) + 4,
+        None => one.offset + made::len(architecture, one.r_type).max(4) + 4,
     };
     let (first, last) = (offset.saturating_sub(BEFORE), offset.saturating_add(BEHIND));
     let last = last.min(it.bytes.len() as u64);
@@ -120,9 +120,9 @@ fn sites(architecture: Architecture, it: &Section, indices: Range<usize>) -> Vec
             made::alignment(architecture, one, 0).map(|(nops, _)| nops)
         };
         let is_alignment = all.iter().any(|one| nops(one).is_some());
-        let is_relaxable = all.iter().any(|one| made::may_delete(architecture, one.code));
+        let is_relaxable = all.iter().any(|one| made::may_delete(architecture, one.r_type));
         let lens = all.iter().map(|one| {
-            nops(one).unwrap_or_else(|| made::len(architecture, one.code))
+            nops(one).unwrap_or_else(|| made::len(architecture, one.r_type))
         });
         let start = all[0].offset;
         let end = (start + lens.max().unwrap_or(0)).min(it.bytes.len() as u64).max(start);
@@ -321,7 +321,7 @@ impl<'a> Walk<'a> {
     fn values(&self, site: &Site) -> Vec<Deletable<'a>> {
         let architecture = self.linked.architecture;
         let is_value = |index: &usize| {
-            !site.is_alignment && !made::is_mark(architecture, self.it.relocations[*index].code)
+            !site.is_alignment && !made::is_mark(architecture, self.it.relocations[*index].r_type)
         };
         let values = site.indices.clone().filter(is_value);
         values.map(|index| Deletable::new(self.linked, self.it, index)).collect()

@@ -29,7 +29,7 @@ pub struct Relocation {
     /// An offset in its section.
     pub offset: u64,
     /// `r_type`.
-    pub code: u32,
+    pub r_type: u32,
     /// An index of the object's symbols.
     pub symbol: usize,
     pub addend: i64,
@@ -267,7 +267,7 @@ fn read_object<'a>(
             }
             target.relocations.push(Relocation {
                 offset,
-                code: one.r_type(LE, false),
+                r_type: one.r_type(LE, false),
                 symbol,
                 addend: one.r_addend(LE),
             });

@@ -48,12 +48,12 @@ fn word(bytes: &[u8], at: usize) -> Option<u32> {
 /// relocation's in `original`, which `linked` was before the rewrite and its deletions.
 pub fn form(
     architecture: Architecture,
-    code: u32,
+    r_type: u32,
     original: &[u8],
     offset: usize,
     linked: &[u8],
 ) -> Option<(Form, u32)> {
-    let name = architecture.name(code)?;
+    let name = architecture.name(r_type)?;
     let deleted = original.len().checked_sub(linked.len())?;
     match architecture {
         Architecture::RiscV => riscv(name, original, offset, linked, deleted),

@@ -49,7 +49,7 @@ impl Compared<'_, '_> {
             object: object.path.clone(),
             place: format!("{}+{:#x}", self.function, self.distance),
             architecture: object.architecture,
-            relocation: one.code,
+            relocation: one.r_type,
             addresses: self.maps.map(|map| map::address_in(map, one.offset)),
             symbol: report::symbol(object, one),
             made: self.made.clone(),
@@ -129,7 +129,7 @@ pub fn compare<'a>(
             let both = a.take_made(at, index).into_iter().zip(b.take_made(at, index));
             let maps = [&a.maps[at][index], &b.maps[at][index]];
             for (relocation, (a, b)) in section.relocations.iter().zip(both) {
-                if made::is_mark(object.architecture, relocation.code) {
+                if made::is_mark(object.architecture, relocation.r_type) {
                     continue;
                 }
                 if a == Made::Nowhere && b == Made::Nowhere {

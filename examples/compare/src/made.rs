@@ -106,9 +106,9 @@ struct Properties {
 }
 
 impl Properties {
-    fn new(architecture: Architecture, code: u32) -> Properties {
-        let name = architecture.name(code).unwrap_or("");
-        let row = architecture.row(code);
+    fn new(architecture: Architecture, r_type: u32) -> Properties {
+        let name = architecture.name(r_type).unwrap_or("");
+        let row = architecture.row(r_type);
         let is_mark = ["_NONE", "_RELAX", "_ALIGN"].iter().any(|end| name.ends_with(end));
         let window = row.map_or(0, |row| row.window() as u64);
         Properties {
@@ -119,7 +119,7 @@ impl Properties {
                 // some only say what an instruction is for
                 _ => 4,
             },
-            is_rewritten: !name.is_empty() && has_rewrites(architecture, code),
+            is_rewritten: !name.is_empty() && has_rewrites(architecture, r_type),
             is_mark,
             is_uleb128: name.ends_with("_ULEB128"),
             may_delete: name.ends_with("_RELAX") || name.starts_with("R_RISCV_TLSDESC_"),
@@ -129,25 +129,25 @@ impl Properties {
 }
 
 /// Whether the library lists a rewrite of a relocation.
-fn has_rewrites(architecture: Architecture, code: u32) -> bool {
+fn has_rewrites(architecture: Architecture, r_type: u32) -> bool {
     // on x86-64 the byte of the opcode shows which
     fn lists<N: RecognisedName>(name: N, mut opcodes: RangeInclusive<u8>) -> bool {
         opcodes.any(|opcode| name.listed(&[opcode, 0], 2).1 > 1)
     }
     match architecture {
-        Architecture::AArch64 => lists(AArch64Relocation::from_elf(code), 0..=0),
-        Architecture::LoongArch64 => lists(LoongArch64Relocation::from_elf(code), 0..=0),
-        Architecture::Ppc64 => lists(Ppc64Relocation::from_elf(code), 0..=0),
-        Architecture::RiscV => lists(RiscVRelocation::from_elf(code), 0..=0),
-        Architecture::X86_64 => lists(X86_64Relocation::from_elf(code), 0..=u8::MAX),
+        Architecture::AArch64 => lists(AArch64Relocation::from_elf(r_type), 0..=0),
+        Architecture::LoongArch64 => lists(LoongArch64Relocation::from_elf(r_type), 0..=0),
+        Architecture::Ppc64 => lists(Ppc64Relocation::from_elf(r_type), 0..=0),
+        Architecture::RiscV => lists(RiscVRelocation::from_elf(r_type), 0..=0),
+        Architecture::X86_64 => lists(X86_64Relocation::from_elf(r_type), 0..=u8::MAX),
         _ => true,
     }
 }
 
 /// The numbers that have properties of their own; the psABIs' are below.
-const CODES: u32 = 2048;
+const R_TYPES: u32 = 2048;
 
-fn properties(architecture: Architecture, code: u32) -> &'static Properties {
+fn properties(architecture: Architecture, r_type: u32) -> &'static Properties {
     static TABLES: [OnceLock<Vec<Properties>>; 5] = [const { OnceLock::new() }; 5];
     const NOTHING: Properties = Properties {
         row: None,
@@ -167,39 +167,39 @@ fn properties(architecture: Architecture, code: u32) -> &'static Properties {
         Architecture::X86_64 => &TABLES[4],
         _ => return &OTHERS[0],
     };
-    let all = || (0..CODES).map(|code| Properties::new(architecture, code)).collect();
+    let all = || (0..R_TYPES).map(|r_type| Properties::new(architecture, r_type)).collect();
     let is_x86_64 = architecture == Architecture::X86_64;
-    table.get_or_init(all).get(code as usize).unwrap_or(&OTHERS[usize::from(is_x86_64)])
+    table.get_or_init(all).get(r_type as usize).unwrap_or(&OTHERS[usize::from(is_x86_64)])
 }
 
 /// The row of a relocation, as `Architecture::row`.
-pub fn row(architecture: Architecture, code: u32) -> Option<&'static Row> {
-    properties(architecture, code).row.as_ref()
+pub fn row(architecture: Architecture, r_type: u32) -> Option<&'static Row> {
+    properties(architecture, r_type).row.as_ref()
 }
 
 /// Whether a relocation only marks or pads.
-pub fn is_mark(architecture: Architecture, code: u32) -> bool {
-    properties(architecture, code).is_mark
+pub fn is_mark(architecture: Architecture, r_type: u32) -> bool {
+    properties(architecture, r_type).is_mark
 }
 
-pub fn is_uleb128(architecture: Architecture, code: u32) -> bool {
-    properties(architecture, code).is_uleb128
+pub fn is_uleb128(architecture: Architecture, r_type: u32) -> bool {
+    properties(architecture, r_type).is_uleb128
 }
 
 /// Whether a relocation says that bytes of those at its offset may be deleted. A mark of the first
 /// instruction of RISC-V's TLS descriptors counts for all four.
-pub fn may_delete(architecture: Architecture, code: u32) -> bool {
-    properties(architecture, code).may_delete
+pub fn may_delete(architecture: Architecture, r_type: u32) -> bool {
+    properties(architecture, r_type).may_delete
 }
 
 /// How many bytes of instructions or data a relocation is of.
-pub fn len(architecture: Architecture, code: u32) -> u64 {
-    properties(architecture, code).len
+pub fn len(architecture: Architecture, r_type: u32) -> u64 {
+    properties(architecture, r_type).len
 }
 
 /// Whether the library lists a rewrite of a relocation, whatever its instruction is.
-pub fn is_rewritten(architecture: Architecture, code: u32) -> bool {
-    properties(architecture, code).is_rewritten
+pub fn is_rewritten(architecture: Architecture, r_type: u32) -> bool {
+    properties(architecture, r_type).is_rewritten
 }
 
 /// Whether no choice of the library for a relocation has bytes outside of the relocation's.
@@ -207,21 +207,21 @@ pub fn is_narrow(architecture: Architecture, one: &Relocation, it: &Section) -> 
     let (before, past) = (one.offset.min(16), one.offset.saturating_add(48));
     let window = (one.offset - before) as usize..past.min(it.bytes.len() as u64) as usize;
     let Some(bytes) = it.bytes.get(window) else { return false };
-    let window = recognise::architecture::window_of(architecture, one.code, bytes, before);
-    window.back == 0 && window.len <= len(architecture, one.code)
+    let window = recognise::architecture::window_of(architecture, one.r_type, bytes, before);
+    window.back == 0 && window.len <= len(architecture, one.r_type)
 }
 
 /// Of an alignment how many bytes of nops the object has, and how many stay at a place.
 #[inline]
 pub fn alignment(architecture: Architecture, one: &Relocation, place: u64) -> Option<(u64, u64)> {
-    match properties(architecture, one.code).is_alignment {
+    match properties(architecture, one.r_type).is_alignment {
         true => nops(architecture, one, place),
         false => None,
     }
 }
 
 fn nops(architecture: Architecture, one: &Relocation, place: u64) -> Option<(u64, u64)> {
-    let (nops, to, most) = match architecture.name(one.code)? {
+    let (nops, to, most) = match architecture.name(one.r_type)? {
         "R_LARCH_ALIGN" if one.symbol != 0 => {
             // the psABI: the power of two, and from bit 8 on how many bytes of nops may stay
             let to = 1 << (one.addend as u64 & 0xff).min(16);
@@ -254,7 +254,7 @@ pub struct Field {
 #[derive(Clone)]
 pub struct Before {
     architecture: Architecture,
-    code: u32,
+    r_type: u32,
     bytes: Bytes,
     /// Where the relocation is in the bytes.
     offset: u64,
@@ -270,8 +270,8 @@ impl Before {
         (start, end): (u64, u64),
     ) -> Option<Before> {
         let bytes = Bytes::of(&it.bytes[start as usize..end as usize])?;
-        let (code, offset, addend) = (one.code, one.offset - start, one.addend);
-        Some(Before { architecture, code, bytes, offset, addend })
+        let (r_type, offset, addend) = (one.r_type, one.offset - start, one.addend);
+        Some(Before { architecture, r_type, bytes, offset, addend })
     }
 
     /// The library's choices after which the linked bytes are as they are.
@@ -281,7 +281,7 @@ impl Before {
         linked: &[u8],
     ) -> impl Iterator<Item = Chosen> + Clone + use<> {
         let windows = Windows { original: &self.bytes, offset: self.offset, others, linked };
-        recognise::architecture::recognise(self.architecture, self.code, &windows)
+        recognise::architecture::recognise(self.architecture, self.r_type, &windows)
         // without the values, which are large
         .map(|made| made.map(|made| made.choice))
         .into_iter()
@@ -293,7 +293,7 @@ impl Before {
     pub fn own_choice(&self, linked: &[u8]) -> Option<Chosen> {
         let (bytes, offset) = (&self.bytes, self.offset as usize);
         let (form, relocation) =
-            forms::form(self.architecture, self.code, bytes, offset, linked)?;
+            forms::form(self.architecture, self.r_type, bytes, offset, linked)?;
         Some(Chosen { kind: Kind::Own(form), relocation })
     }
 
@@ -314,7 +314,7 @@ impl Before {
             }
             let mut after = self.clone();
             kind.apply(&mut after.bytes, &mut after.offset, &mut after.addend);
-            after.code = first.relocation;
+            after.r_type = first.relocation;
             for chosen in after.choices(others, linked) {
                 if chosen.is_rewrite() {
                     found.push((after.clone(), chosen, Some(first)));

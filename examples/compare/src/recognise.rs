@@ -91,7 +91,7 @@ impl Side<'_> {
     /// PowerPC64: what a load from the TOC is of the address that is in the word there. So linkers see
     /// it that take the address itself.
     fn address_in_toc(&self, object: usize, one: &Relocation) -> Option<Relocation> {
-        let code = match (self.linked.architecture, one.code) {
+        let r_type = match (self.linked.architecture, one.r_type) {
             (Architecture::Ppc64, R_PPC64_TOC16_HA) => R_PPC64_GOT16_HA,
             (Architecture::Ppc64, R_PPC64_TOC16_LO_DS) => R_PPC64_GOT16_LO_DS,
             _ => return None,
@@ -102,23 +102,23 @@ impl Side<'_> {
         let at = symbol.value.wrapping_add(one.addend as u64);
         let words = &toc.relocations;
         let word = words.get(words.partition_point(|word| word.offset < at))?;
-        let is_address = toc.name == ".toc" && word.offset == at && word.code == R_PPC64_ADDR64;
+        let is_address = toc.name == ".toc" && word.offset == at && word.r_type == R_PPC64_ADDR64;
         let (offset, symbol, addend) = (one.offset, word.symbol, word.addend);
-        is_address.then_some(Relocation { offset, code, symbol, addend })
+        is_address.then_some(Relocation { offset, r_type, symbol, addend })
     }
 
     /// The choice for a relocation of which the library lists no rewrite, where its field alone is
     /// another, no other relocation is of its bytes, and it leads to its symbol.
     fn unchanged(&self, at: At, one: &Relocation) -> Option<Found> {
         let (architecture, linked) = (self.linked.architecture, self.linked);
-        if made::is_rewritten(architecture, one.code) {
+        if made::is_rewritten(architecture, one.r_type) {
             return None;
         }
-        let row = made::row(architecture, one.code)?;
-        let (start, end) = (one.offset, one.offset + made::len(architecture, one.code));
+        let row = made::row(architecture, one.r_type)?;
+        let (start, end) = (one.offset, one.offset + made::len(architecture, one.r_type));
         let original = at.it.bytes.get(start as usize..end as usize)?;
         let is_other = |other: &Relocation| {
-            let row = made::row(architecture, other.code);
+            let row = made::row(architecture, other.r_type);
             row.is_some_and(|row| other.offset + row.window() as u64 > start)
         };
         let before = at.it.relocations[..at.index].iter().rev();
@@ -137,7 +137,7 @@ impl Side<'_> {
         let field = Field::of(row, there, address, one.addend)?;
         let target = self.target_of(at, one, &field);
         let is_through_got = field.is_through_got();
-        let chosen = Chosen::nothing(architecture, one.code)?;
+        let chosen = Chosen::nothing(architecture, one.r_type)?;
         let found = Found { first: None, chosen, other: None, is_through_got, target, start, end };
         Some(found).filter(Found::is_sure)
     }
@@ -148,13 +148,13 @@ impl Side<'_> {
         if let Some(found) = self.unchanged(at, one) {
             return Some(found);
         }
-        let len = made::len(architecture, one.code);
+        let len = made::len(architecture, one.r_type);
         let windows: &[(u64, u64)] = match architecture {
             Architecture::X86_64 => &[(6, 12), (4, 12), (6, len), (3, len), (0, len)],
             _ => &[(4, 8), (0, 8), (4, 4), (0, 4), (0, len)],
         };
         // the psABI: behind a prefixed instruction the mark is one byte into its own
-        let into = match one.code {
+        let into = match one.r_type {
             R_PPC64_TLS if architecture == Architecture::Ppc64 => one.offset % 4,
             _ => 0,
         };
@@ -200,7 +200,7 @@ impl Side<'_> {
         let Some((start, end)) = fields(architecture, at.it, at.index, (start, end), others) else {
             return;
         };
-        let own = (one.offset, one.offset + made::len(architecture, one.code));
+        let own = (one.offset, one.offset + made::len(architecture, one.r_type));
         let Some(window) = map::window(linked, at.it, at.map, (start, end), own) else { return };
         let Some(before) = Before::new(architecture, one, at.it, (start, end)) else { return };
         let mut take = |before: &Before, chosen: Chosen, first: Option<Chosen>| {
@@ -229,7 +229,7 @@ impl Side<'_> {
             Pass::Library => {
                 // a high part alone may lead to its symbol by either relocation: its low half shows it
                 let found = before.choices(others, &window.bytes);
-                let is_same = |chosen: &Chosen| chosen.relocation == one.code;
+                let is_same = |chosen: &Chosen| chosen.relocation == one.r_type;
                 found.clone().filter(is_same).for_each(|chosen| take(&before, chosen, None));
                 found.filter(|one| !is_same(one)).for_each(|chosen| take(&before, chosen, None));
             }
@@ -239,7 +239,7 @@ impl Side<'_> {
             }
             Pass::Twice => {
                 let mut found = before.choices_after(others, &window.bytes);
-                found.sort_by_key(|(_, chosen, _)| chosen.relocation != one.code);
+                found.sort_by_key(|(_, chosen, _)| chosen.relocation != one.r_type);
                 for (before, chosen, first) in found {
                     take(&before, chosen, first);
                 }
@@ -261,7 +261,7 @@ fn has_same_opcode(linked: &Linked, at: At) -> bool {
     if linked.architecture != Architecture::X86_64 || !at.it.is_code {
         return true;
     }
-    let end = |other: &Relocation| other.offset + made::len(Architecture::X86_64, other.code);
+    let end = |other: &Relocation| other.offset + made::len(Architecture::X86_64, other.r_type);
     let before = at.it.relocations[..at.index].iter().rev().take(4).map(end);
     let start = before.max().unwrap_or(0).max(one.offset.saturating_sub(3));
     let Some(original) = at.it.bytes.get(start as usize..one.offset as usize) else { return true };
@@ -290,9 +290,9 @@ impl<'a> Deletable<'a> {
     pub fn new(linked: &'a Linked<'a>, it: &'a Section<'a>, index: usize) -> Deletable<'a> {
         let one = &it.relocations[index];
         let architecture = linked.architecture;
-        let past = one.offset + made::len(architecture, one.code);
+        let past = one.offset + made::len(architecture, one.r_type);
         let own = it.bytes.get(one.offset as usize..past as usize).unwrap_or(&[]);
-        let row = made::row(architecture, one.code);
+        let row = made::row(architecture, one.r_type);
         let field = row.filter(|row| row.window() <= own.len()).map(|row| field_bits(row, own));
         let kept = !field.unwrap_or(0);
         let (windows, may_be) = (OnceCell::new(), Default::default());
@@ -304,7 +304,7 @@ impl<'a> Deletable<'a> {
         self.windows.get_or_init(|| {
             let (it, architecture) = (self.it, self.linked.architecture);
             let one = &it.relocations[self.index];
-            let past = one.offset + made::len(architecture, one.code);
+            let past = one.offset + made::len(architecture, one.r_type);
             let ends = [one.offset + 8, past].map(|end| end.max(past).min(it.bytes.len() as u64));
             let window = |end: u64| {
                 let mut others = Vec::new();
@@ -390,7 +390,7 @@ fn fields(
     let one = &it.relocations[index];
     let (first, last) = (start, end + 16);
     let is_near = |other: &Relocation| other.offset + 16 >= first && other.offset <= last;
-    let row = |other: &Relocation| made::row(architecture, other.code);
+    let row = |other: &Relocation| made::row(architecture, other.r_type);
     let mut widen = |other: &Relocation| {
         let Some(row) = row(other) else { return };
         let (offset, past) = (other.offset, other.offset + row.window() as u64);

@@ -41,8 +41,8 @@ pub fn symbol(object: &Object, one: &Relocation) -> String {
     }
 }
 
-fn name(architecture: Architecture, code: u32) -> String {
-    architecture.name(code).map_or_else(|| format!("relocation {code}"), str::to_string)
+fn name(architecture: Architecture, r_type: u32) -> String {
+    architecture.name(r_type).map_or_else(|| format!("relocation {r_type}"), str::to_string)
 }
 
 /// A text without control characters, which names may have: the local labels of LoongArch's

@@ -83,13 +83,13 @@ fn starts(architecture: Architecture, code: &[u8]) -> Box<dyn Iterator<Item = us
 }
 
 /// Whether a dynamic relocation is of an indirect function.
-pub fn is_indirect(architecture: Architecture, code: u32) -> bool {
+pub fn is_indirect(architecture: Architecture, r_type: u32) -> bool {
     match architecture {
-        Architecture::AArch64 => code == elf::R_AARCH64_IRELATIVE,
-        Architecture::LoongArch64 => code == elf::R_LARCH_IRELATIVE,
-        Architecture::Ppc64 => matches!(code, elf::R_PPC64_IRELATIVE | R_PPC64_JMP_IREL),
-        Architecture::RiscV => code == R_RISCV_IRELATIVE,
-        Architecture::X86_64 => code == elf::R_X86_64_IRELATIVE,
+        Architecture::AArch64 => r_type == elf::R_AARCH64_IRELATIVE,
+        Architecture::LoongArch64 => r_type == elf::R_LARCH_IRELATIVE,
+        Architecture::Ppc64 => matches!(r_type, elf::R_PPC64_IRELATIVE | R_PPC64_JMP_IREL),
+        Architecture::RiscV => r_type == R_RISCV_IRELATIVE,
+        Architecture::X86_64 => r_type == elf::R_X86_64_IRELATIVE,
         _ => false,
     }
 }

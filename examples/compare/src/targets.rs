@@ -116,7 +116,7 @@ impl<'a> Side<'a> {
         let first = all.partition_point(|one| one.offset < symbol.value);
         let architecture = self.linked.architecture;
         let mut high = all[first..].iter().take_while(|one| one.offset == symbol.value);
-        let high = high.find(|one| !made::is_mark(architecture, one.code))?;
+        let high = high.find(|one| !made::is_mark(architecture, one.r_type))?;
         Some((high, self.address_in(object, section, symbol.value)?))
     }
 
@@ -162,7 +162,7 @@ impl<'a> Side<'a> {
 
     /// Whether a relocation is of the low part of an address, by the label of its high part.
     pub fn is_low(&self, one: &Relocation) -> bool {
-        let row = made::row(self.linked.architecture, one.code);
+        let row = made::row(self.linked.architecture, one.r_type);
         row.is_some_and(|row| row.kind() == RelocationKind::RelativeRiscVLow12)
     }
 
@@ -170,7 +170,7 @@ impl<'a> Side<'a> {
     fn low_target(&self, at: At, label: &Symbol, field: &Field, low: Operands) -> Target {
         let object = at.object;
         let Some((high, place)) = self.high_part(object, label) else { return self.bits(field) };
-        let Some(row) = made::row(self.linked.architecture, high.code) else { return self.bits(field) };
+        let Some(row) = made::row(self.linked.architecture, high.r_type) else { return self.bits(field) };
         let symbol = &self.objects[object].symbols[high.symbol];
         let low = Operands { place, addend: high.addend, ..low };
         let Some((address, _)) = self.address_of(object, high.symbol) else {

@@ -25,7 +25,7 @@ impl<'a> Side<'a> {
         let architecture = self.linked.architecture;
         for (index, one) in it.relocations.iter().enumerate() {
             let is_skipped = std::mem::take(&mut skipped);
-            if is_skipped || made::is_mark(architecture, one.code) {
+            if is_skipped || made::is_mark(architecture, one.r_type) {
                 all[index] = Made::Part;
                 continue;
             }
@@ -34,14 +34,14 @@ impl<'a> Side<'a> {
                 all[index] = match place.and_then(|place| self.linked.bytes_at(place)) {
                     _ if one.offset < covered => Made::Part,
                     // sums aren't read, and these have as many bytes as their numbers
-                    Some(_) if made::is_uleb128(architecture, one.code) => Made::Chosen {
+                    Some(_) if made::is_uleb128(architecture, one.r_type) => Made::Chosen {
                         rewrite: None,
-                        relocation: one.code,
+                        relocation: one.r_type,
                         is_through_got: false,
                         target: Target::Nothing,
                     },
                     Some(bytes) => {
-                        let len = made::len(architecture, one.code).max(4) as usize;
+                        let len = made::len(architecture, one.r_type).max(4) as usize;
                         Made::Unknown(bytes[..bytes.len().min(len)].to_vec())
                     }
                     None => Made::Nowhere,
@@ -75,7 +75,7 @@ impl<'a> Side<'a> {
         for (index, other) in either {
             if self.low_half(object, section, index).is_some_and(|low| {
                 matches!(&all[low], Made::Chosen { rewrite, relocation, .. }
-                    if rewrite.is_some() || *relocation != it.relocations[low].code)
+                    if rewrite.is_some() || *relocation != it.relocations[low].r_type)
             }) {
                 all[index] = other;
             }
@@ -89,12 +89,12 @@ impl<'a> Side<'a> {
         let all = &it.sections[section].relocations;
         let high = &all[index];
         let is_low = |one: &Relocation| {
-            let row = self.linked.architecture.row(one.code);
+            let row = self.linked.architecture.row(one.r_type);
             let symbol = &it.symbols[one.symbol];
             if row.is_some_and(|row| row.kind() == RelocationKind::RelativeRiscVLow12) {
                 return symbol.home == Home::Section(section) && symbol.value == high.offset;
             }
-            (one.symbol, one.addend) == (high.symbol, high.addend) && one.code != high.code
+            (one.symbol, one.addend) == (high.symbol, high.addend) && one.r_type != high.r_type
         };
         // compilers leave little between both
         let near = all.iter().enumerate().skip(index + 1).take(64);

@@ -67,7 +67,7 @@ fn text(line: &Line) -> String {
 }
 
 /// The types of all relocations, by the section tables alone.
-fn codes(inputs: &[(String, Vec<u8>)]) -> Vec<u32> {
+fn r_types(inputs: &[(String, Vec<u8>)]) -> Vec<u32> {
     let mut all = Vec::new();
     for (_, bytes) in inputs {
         let file = object::read::elf::ElfFile64::<object::LittleEndian>::parse(&bytes[..]).unwrap();
@@ -78,7 +78,7 @@ fn codes(inputs: &[(String, Vec<u8>)]) -> Vec<u32> {
             }
             let name = format!(".rela{}", section.name().unwrap());
             let Some(table) = file.section_by_name(&name) else { continue };
-            all.extend(relocations(table.data().unwrap()).map(|it| it.code));
+            all.extend(relocations(table.data().unwrap()).map(|it| it.r_type));
         }
     }
     all
@@ -95,8 +95,8 @@ fn another_layout_is_the_same() {
         // the marks have no value
         let marks = ["R_RISCV_RELAX", "R_RISCV_ALIGN", "R_LARCH_RELAX", "R_LARCH_ALIGN"];
         let architecture = elf::read_linked(&linked(&way, "plain")).unwrap().architecture;
-        let is_mark = |code: u32| marks.contains(&architecture.name(code).unwrap());
-        let all = codes(&inputs).into_iter().filter(|code| !is_mark(*code)).count();
+        let is_mark = |r_type: u32| marks.contains(&architecture.name(r_type).unwrap());
+        let all = r_types(&inputs).into_iter().filter(|r_type| !is_mark(*r_type)).count();
         assert_eq!(counts.relocations, all, "{way}");
     }
 }
@@ -200,7 +200,7 @@ fn a_wrong_target_is_found() {
             .iter()
             .find(|one| all[0].symbols[one.symbol].name == "say" && one.offset >= main)
             .unwrap();
-        let row = architecture.row(call.code).unwrap();
+        let row = architecture.row(call.r_type).unwrap();
         let place = at["main"] + call.offset - main;
         let operands = Operands {
             symbol: at["begin"],
@@ -215,7 +215,7 @@ fn a_wrong_target_is_found() {
         assert_ne!(planted, plain, "{way}");
         let (lines, _) = differences(&inputs, &plain, &planted);
         assert_eq!(lines.len(), 1, "{way}");
-        assert_eq!((lines[0].relocation, &lines[0].symbol[..3]), (call.code, "say"), "{way}");
+        assert_eq!((lines[0].relocation, &lines[0].symbol[..3]), (call.r_type, "say"), "{way}");
         let distance = call.offset - main;
         assert_eq!(lines[0].place, format!("main+{distance:#x}"), "{way}");
         let said = report::words(&lines[0], &lines[0].made[1]);
@@ -269,9 +269,9 @@ fn a_high_part_is_told_by_its_low_half() {
     let all = elf::read_objects("main.o", &inputs[1].1).unwrap();
     let main = all[0].symbols.iter().find(|one| one.name == "main").unwrap();
     let elf::Home::Section(section) = main.home else { panic!() };
-    let of_swaps = |code: u32| {
+    let of_swaps = |r_type: u32| {
         let mut found = all[0].sections[section].relocations.iter();
-        found.find(|one| one.code == code && all[0].symbols[one.symbol].name == "swaps").unwrap()
+        found.find(|one| one.r_type == r_type && all[0].symbols[one.symbol].name == "swaps").unwrap()
     };
     // R_AARCH64_ADR_GOT_PAGE, and R_AARCH64_LD64_GOT_LO12_NC
     let (high, low) = (of_swaps(311), of_swaps(312));

@@ -57,7 +57,7 @@ fn rows_of(folder: &str, names: [&str; 2]) -> (Vec<Line>, Counts) {
 fn table(bytes: &[u8], section: &str) -> Vec<(u64, u32)> {
     let it = ElfFile64::<LittleEndian>::parse(bytes).unwrap();
     let Some(table) = it.section_by_name(&format!(".rela{section}")) else { return Vec::new() };
-    relocations(table.data().unwrap()).map(|it| (it.offset, it.code)).collect()
+    relocations(table.data().unwrap()).map(|it| (it.offset, it.r_type)).collect()
 }
 
 /// GNU ld, and ld.lld for RISC-V, wrote into the files where they have each relocation.
@@ -85,8 +85,8 @@ fn places_are_those_that_the_linkers_wrote() {
                 // the linkers sort arrays, and put all into one section
                 let is_array = section.name.starts_with(".init_array");
                 let array = table(&linked, ".init_array");
-                for (at, (_, code)) in here.into_iter().enumerate() {
-                    if marks.contains(&code) || code == 0 {
+                for (at, (_, r_type)) in here.into_iter().enumerate() {
+                    if marks.contains(&r_type) || r_type == 0 {
                         continue;
                     }
                     let row = rows.next().unwrap();

@@ -18,7 +18,7 @@ fn entries_of(section: &Section) -> Vec<u8> {
     let mut entries = Vec::new();
     for it in &section.relocations {
         entries.extend(it.offset.to_le_bytes());
-        entries.extend((u64::from(it.code) | (it.symbol as u64) << 32).to_le_bytes());
+        entries.extend((u64::from(it.r_type) | (it.symbol as u64) << 32).to_le_bytes());
         entries.extend(it.addend.to_le_bytes());
     }
     entries
@@ -52,7 +52,7 @@ fn address_of(linked: &Linked, object: &Object, index: usize) -> Option<u64> {
 /// Bytes without the field of a relocation.
 fn without_field(architecture: Architecture, bytes: &[u8], relocation: &Rela) -> Vec<u8> {
     let mut bytes = bytes.to_vec();
-    if let Some(row) = architecture.row(relocation.code) {
+    if let Some(row) = architecture.row(relocation.r_type) {
         let field = &mut bytes[relocation.offset as usize..];
         row.write(0, field).unwrap();
     }
@@ -111,7 +111,7 @@ fn compare_way(way: &str, counts: &mut [usize; 2]) {
                 if symbols[before.symbol].is_undefined_weak {
                     continue;
                 }
-                let is_listed = scope_of(of, before.code) != Scope::NotRelaxable;
+                let is_listed = scope_of(of, before.r_type) != Scope::NotRelaxable;
                 let window = decision.window();
                 let window = match decision {
                     Decision::Rewritten(_) if window.len > 0 => (window.back, window.len),

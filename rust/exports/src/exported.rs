@@ -7,13 +7,13 @@ use crate::choices::ChoiceNumbers;
 use crate::choices::LinkFactNumbers;
 use crate::deltas::Deletion;
 use crate::lazy_plt::LazyPltNumbers;
-use crate::output::DynamicCodes;
+use crate::output::DynamicNumbers;
 use crate::output::EntryWords;
 use crate::output::GotNumbers;
 use crate::output::RunNumbers;
 use crate::output::StubNumbers;
 use crate::output::SymbolNumbers;
-use crate::output::WordCodes;
+use crate::output::WordNumbers;
 use crate::placement::PlacedStub;
 use crate::properties::LandingNumbers;
 use crate::reading::FieldValueNumbers;
@@ -800,7 +800,7 @@ unsafe extern "C" fn linker_utils_deltas_merge_nonnull(
 #[unsafe(no_mangle)]
 unsafe extern "C" fn linker_utils_get_dynamic_types(
     machine: u16,
-    types: *mut DynamicCodes,
+    types: *mut DynamicNumbers,
 ) -> u32 {
     // SAFETY: the arguments are as the head of the header says.
     unsafe {
@@ -836,7 +836,7 @@ unsafe extern "C" fn linker_utils_dynamic_words(
     entry_class: u32,
     is_bound: bool,
     is_executable: bool,
-    words: *mut WordCodes,
+    words: *mut WordNumbers,
 ) -> u32 {
     // SAFETY: the arguments are as the head of the header says.
     unsafe {

@@ -13,10 +13,10 @@ use linker_utils::source::output::{DynamicEntry, DynamicFacts};
 use linker_utils::source::section::EntryClass;
 use linker_utils::elf::Architecture;
 
-/// The codes of the dynamic relocations that a linker emits.
+/// The types of the dynamic relocations that a linker emits.
 #[repr(C)]
 #[derive(Clone, Copy)]
-pub struct DynamicCodes {
+pub struct DynamicNumbers {
     /// Of a word with S + A.
     pub word: u32,
     /// Of a word with the load address plus A.
@@ -84,30 +84,30 @@ pub struct StubNumbers {
     pub entry: u64,
 }
 
-/// Writes the codes of the dynamic relocations of an architecture. `UnknownArchitecture`.
-pub fn linker_utils_get_dynamic_types(machine: u16, types: &mut DynamicCodes) -> u32 {
+/// Writes the types of the dynamic relocations of an architecture. `UnknownArchitecture`.
+pub fn linker_utils_get_dynamic_types(machine: u16, types: &mut DynamicNumbers) -> u32 {
     let Some(architecture) = Architecture::from_machine(machine) else {
         return Status::UnknownArchitecture as u32;
     };
-    *types = codes_in(Target::of(architecture));
+    *types = numbers_in(Target::of(architecture));
     Status::Success as u32
 }
 
-/// The codes of a description.
-fn codes_in(target: &Target) -> DynamicCodes {
+/// The types of a description's dynamic relocations.
+fn numbers_in(target: &Target) -> DynamicNumbers {
     let types = &target.dynamic;
-    DynamicCodes {
-        word: types.word.code,
-        relative: types.relative.code,
-        glob_dat: types.glob_dat.code,
-        jump_slot: types.jump_slot.code,
-        copy: types.copy.code,
-        irelative: types.irelative.code,
-        module_number: types.module_number.code,
-        module_offset: types.module_offset.code,
-        thread_offset: types.thread_offset.code,
+    DynamicNumbers {
+        word: types.word.r_type,
+        relative: types.relative.r_type,
+        glob_dat: types.glob_dat.r_type,
+        jump_slot: types.jump_slot.r_type,
+        copy: types.copy.r_type,
+        irelative: types.irelative.r_type,
+        module_number: types.module_number.r_type,
+        module_offset: types.module_offset.r_type,
+        thread_offset: types.thread_offset.r_type,
         descriptor: match types.descriptor {
-            Some(descriptor) => descriptor.code,
+            Some(descriptor) => descriptor.r_type,
             None => 0,
         },
     }
@@ -126,7 +126,7 @@ fn put_text(text: &str, out: &mut [u8], used: &mut usize) -> u32 {
 
 /// Writes the name of a type of dynamic relocations, as "R_X86_64_RELATIVE", to the beginning of
 /// `name`, and its length to `name_used`. The first that applies of `UnknownArchitecture`;
-/// `UnknownRelocation`, of a code that is none of `linker_utils_get_dynamic_types`; `TooShort`.
+/// `UnknownRelocation`, of a type that is none of `linker_utils_get_dynamic_types`; `TooShort`.
 pub fn linker_utils_dynamic_name_nonnull(
     machine: u16,
     r_type: u32,
@@ -160,19 +160,19 @@ fn class_of(number: u32) -> Option<EntryClass> {
     }
 }
 
-/// A code; 0 where there is none.
+/// An `r_type`; 0 where there is none.
 #[inline]
-fn code_or_none(code: Option<u32>) -> u32 {
-    match code {
-        Some(code) => code,
+fn r_type_or_none(r_type: Option<u32>) -> u32 {
+    match r_type {
+        Some(r_type) => r_type,
         None => 0,
     }
 }
 
-/// The codes of the dynamic relocations of both words of a GOT entry; 0 for a word that has none.
+/// The types of the dynamic relocations of both words of a GOT entry; 0 for a word that has none.
 #[repr(C)]
 #[derive(Clone, Copy)]
-pub struct WordCodes {
+pub struct WordNumbers {
     pub first: u32,
     pub second: u32,
 }
@@ -185,14 +185,14 @@ pub struct EntryWords {
     pub second: u64,
 }
 
-/// Writes the codes of the dynamic relocations of the words of a GOT entry of a class, as
+/// Writes the types of the dynamic relocations of the words of a GOT entry of a class, as
 /// `Target::dynamic_words`. The first that applies of `UnknownArchitecture`; `UnknownEntryClass`.
 pub fn linker_utils_dynamic_words(
     machine: u16,
     entry_class: u32,
     is_bound: bool,
     is_executable: bool,
-    words: &mut WordCodes,
+    words: &mut WordNumbers,
 ) -> u32 {
     let Some(architecture) = Architecture::from_machine(machine) else {
         return Status::UnknownArchitecture as u32;
@@ -200,10 +200,10 @@ pub fn linker_utils_dynamic_words(
     let Some(class) = class_of(entry_class) else {
         return Status::UnknownEntryClass as u32;
     };
-    let codes = Target::of(architecture).dynamic_words(class, is_bound, is_executable);
-    *words = WordCodes {
-        first: code_or_none(codes[0]),
-        second: code_or_none(codes[1]),
+    let r_types = Target::of(architecture).dynamic_words(class, is_bound, is_executable);
+    *words = WordNumbers {
+        first: r_type_or_none(r_types[0]),
+        second: r_type_or_none(r_types[1]),
     };
     Status::Success as u32
 }
@@ -380,9 +380,9 @@ fn put_section_name(target: &Target, name: &mut [u8], name_used: &mut usize) -> 
     }
 }
 
-/// Writes the code of the relocation that an instruction would have if the address were in an entry
-/// of the GOT, by its code where that is in a word of this section. The first that applies of
-/// `UnknownArchitecture`; `NotProvided`, of other codes.
+/// Writes the type of the relocation that an instruction would have if the address were in an entry
+/// of the GOT, by its `r_type` where that is in a word of this section. The first that applies of
+/// `UnknownArchitecture`; `NotProvided`, of other types.
 pub fn linker_utils_entry_relocation(
     machine: u16,
     r_type: u32,
@@ -391,7 +391,7 @@ pub fn linker_utils_entry_relocation(
     let Some(architecture) = Architecture::from_machine(machine) else {
         return Status::UnknownArchitecture as u32;
     };
-    match Target::of(architecture).entry_code(r_type) {
+    match Target::of(architecture).entry_r_type(r_type) {
         Some(found) => {
             *entry_type = found;
             Status::Success as u32

@@ -31,7 +31,7 @@ pub struct DecisionNumbers {
     /// The rewrite's number; 0 of a relocation whose instruction isn't rewritten, as the fields
     /// below but `fate`.
     pub rewrite: u32,
-    /// The relocation's code after it.
+    /// The relocation's `r_type` after it.
     pub relocation: u32,
     /// `e_machine` of the rewrite's architecture.
     pub machine: u16,

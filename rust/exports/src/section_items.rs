@@ -37,7 +37,7 @@ impl AsRelocation for Rela {
     fn as_relocation(self) -> Relocation {
         Relocation {
             offset: self.offset,
-            code: self.r_type,
+            r_type: self.r_type,
             has_symbol: self.has_symbol != 0,
             addend: self.addend,
             target: if self.has_target != 0 {

@@ -95,9 +95,9 @@ fn add_units(
     units: &mut BTreeMap<u64, Unit>,
 ) {
     let (architecture, address) = (object.architecture, layout.sections[index]);
-    let mut codes = BTreeMap::new();
+    let mut r_types = BTreeMap::new();
     for it in relocations(&layout.relocations[index]) {
-        codes.entry(it.offset).or_insert(it.code);
+        r_types.entry(it.offset).or_insert(it.r_type);
         if makes_high_part(architecture, word(&linked.before, it.offset)) {
             let unit = Unit { is_high_part: true, ..Unit::part(address + it.offset + 4) };
             units.insert(address + it.offset, unit);
@@ -116,7 +116,7 @@ fn add_units(
         let at = linked.members[n].offset;
         let is_add = word(&linked.before, at - 2) as u16 == 0x0548;
         let (len, may_differ) = if is_add { (2, 7 << FLAGS) } else { (3, 0) };
-        let counts = Some(linked.members[n].code);
+        let counts = Some(linked.members[n].r_type);
         units.insert(
             address + at - len,
             Unit { counts, may_differ, ..Unit::part(address + at + 4) },
@@ -129,7 +129,7 @@ fn add_units(
         let shifted = sequence.shifted.map_or(0, |(register, _)| 1 << register);
         let flags = if sequence.compares_flags { 0 } else { 7 << FLAGS };
         let unit = Unit {
-            counts: Some(linked.members[sequence.member].code),
+            counts: Some(linked.members[sequence.member].r_type),
             may_differ: u128::from(sequence.may_differ) | shifted | flags,
             shifted: sequence.shifted,
             others: others.iter().map(|piece| piece.start).collect(),
@@ -147,7 +147,7 @@ fn add_units(
         match item {
             Item::Site(site) if site.shapes.count > 0 => {
                 let may_differ = scratch(architecture, first, word(&linked.before, at + 4));
-                let counts = codes.get(&at).copied();
+                let counts = r_types.get(&at).copied();
                 units.insert(start, Unit { counts, may_differ, ..Unit::part(end) });
             }
             Item::Site(_) => {}

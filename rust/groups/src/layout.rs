@@ -161,10 +161,10 @@ impl Layout {
         for section in &object.sections {
             let mut table = section.relocations.clone();
             for index in 0..relocations_len(&table) {
-                let Rela { code, symbol, addend, .. } = relocation_at(&table, index)?;
+                let Rela { r_type, symbol, addend, .. } = relocation_at(&table, index)?;
                 let own = symbols.get(symbol as usize)?.is_thread_local;
                 let Some(entry) =
-                    needs(object.architecture, code, addend, own).and_then(|needs| needs.entry)
+                    needs(object.architecture, r_type, addend, own).and_then(|needs| needs.entry)
                 else {
                     continue;
                 };

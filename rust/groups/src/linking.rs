@@ -22,7 +22,7 @@ use std::error::Error;
 pub struct Member {
     /// As the object has it.
     pub offset: u64,
-    pub code: u32,
+    pub r_type: u32,
     pub symbol: u32,
     pub addend: i64,
     /// The bytes that are rewritten or deleted.
@@ -82,7 +82,7 @@ fn without_alignments(architecture: Architecture, relocations: &[u8]) -> Vec<u8>
     };
     let mut relocations = relocations.to_vec();
     for index in 0..relocations_len(&relocations) {
-        if relocation_at(&relocations, index).is_some_and(|one| one.code == alignment) {
+        if relocation_at(&relocations, index).is_some_and(|one| one.r_type == alignment) {
             relocations[24 * index + 8..][..4].fill(0);
         }
     }
@@ -102,7 +102,7 @@ fn relocated(
     let mut section = Section { address, ..Section::new(bytes, relocations) };
     relocate_section(&layout.link, &known, &mut section, &mut memory).map_err(|error| {
         let code =
-            relocation_at(&section.relocations, error.index).map(|relocation| relocation.code);
+            relocation_at(&section.relocations, error.index).map(|relocation| relocation.r_type);
         format!("relocation {} of type {code:?}: {:?}", error.index, error.error)
     })?;
     Ok(section.bytes)
@@ -142,7 +142,7 @@ fn pack(
         .map(|it| {
             let symbol = &layout.symbols[it.symbol as usize];
             // what else than calls has a stub stays as it is
-            let is_call = matches!(it.code, 18 | 19 | 110);
+            let is_call = matches!(it.r_type, 18 | 19 | 110);
             let address = match symbol.stub {
                 0 => symbol.address.wrapping_add(it.addend as u64),
                 stub => stub,
@@ -152,7 +152,7 @@ fn pack(
                 && (is_call || symbol.stub == 0);
             Relocation {
                 offset: it.offset,
-                code: it.code,
+                r_type: it.r_type,
                 has_symbol: it.symbol > 0,
                 addend: it.addend,
                 target: may_reach.then(|| address - MEMORY),
@@ -281,7 +281,7 @@ pub fn link(object: &Object, layout: &Layout, packs: bool) -> Program {
                     let relocation = relocation_at(original, n)?;
                     Some(Member {
                         offset: relocation.offset,
-                        code: relocation.code,
+                        r_type: relocation.r_type,
                         symbol: relocation.symbol,
                         addend: relocation.addend,
                         start,

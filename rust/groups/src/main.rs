@@ -203,14 +203,14 @@ fn run_object(
         };
         let address = layout.sections[index];
         let sequences = sequences::sequences(architecture, address, section, layout);
-        let key = |member: usize| (format!("{architecture:?}"), section.members[member].code);
+        let key = |member: usize| (format!("{architecture:?}"), section.members[member].r_type);
         for &member in &sequences.without {
             report.counts.entry(key(member)).or_default().without += 1;
             if options.lists {
                 let it = &section.members[member];
                 eprintln!(
                     "{name} {} +{:#x} type {}: no sequence",
-                    object.sections[index].name, it.offset, it.code
+                    object.sections[index].name, it.offset, it.r_type
                 );
             }
         }
@@ -223,7 +223,7 @@ fn run_object(
                     "{name} {} +{:#x} type {}: {what}: {} became {}",
                     object.sections[index].name,
                     it.offset,
-                    it.code,
+                    it.r_type,
                     hex(&section.before[window.clone()]),
                     hex(&section.after[window]),
                 );

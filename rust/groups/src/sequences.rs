@@ -119,7 +119,7 @@ fn x86_64(section: &Section, index: usize) -> Made {
             ..strict(index, vec![window])
         })
     };
-    let name = X::from_elf(member.code);
+    let name = X::from_elf(member.r_type);
     match name {
         X::R_X86_64_GOTPCREL | X::R_X86_64_GOTPCRELX | X::R_X86_64_REX_GOTPCRELX => {
             let start = if name == X::R_X86_64_REX_GOTPCRELX { at - 3 } else { member.start };
@@ -139,7 +139,7 @@ fn x86_64(section: &Section, index: usize) -> Made {
         },
         X::R_X86_64_DTPOFF32 => Made::Offset(shift.wrapping_neg()),
         X::R_X86_64_TLSDESC_CALL => {
-            let lea = section.last(index, |m| X::from_elf(m.code) == X::R_X86_64_GOTPC32_TLSDESC);
+            let lea = section.last(index, |m| X::from_elf(m.r_type) == X::R_X86_64_GOTPC32_TLSDESC);
             let Some(lea) = lea else { return Made::Without };
             let pieces = vec![
                 section.bytes(lea.offset - 3, lea.offset + 4, true),
@@ -156,10 +156,10 @@ fn aarch64(section: &Section, index: usize) -> Made {
     let member = &section.linked.members[index];
     let word = section.word(member);
     let (destination, base) = (word % 32, word / 32 % 32);
-    let is = |name: A| move |m: &Member| A::from_elf(m.code) == name;
+    let is = |name: A| move |m: &Member| A::from_elf(m.r_type) == name;
     let makes = |m: &Member| section.word(m) % 32 == base;
     let own = section.single(member);
-    let name = A::from_elf(member.code);
+    let name = A::from_elf(member.r_type);
     match name {
         A::R_AARCH64_CALL26 | A::R_AARCH64_JUMP26 => {
             Made::Sequence(Sequence { may_differ: 1 << 30, ..strict(index, vec![own]) })
@@ -215,9 +215,9 @@ fn risc_v(section: &Section, index: usize) -> Made {
     let member = &section.linked.members[index];
     let destination = |m: &Member| section.word(m) / 128 % 32;
     let base = section.word(member) >> 15 & 31;
-    let is = |name: R| move |m: &Member| R::from_elf(m.code) == name;
+    let is = |name: R| move |m: &Member| R::from_elf(m.r_type) == name;
     let own = section.single(member);
-    let name = R::from_elf(member.code);
+    let name = R::from_elf(member.r_type);
     // of a label
     let label = section.layout.symbols.get(member.symbol as usize);
     let high_at = label.map_or(u64::MAX, |label| label.address.wrapping_sub(section.address));
@@ -282,7 +282,7 @@ fn loongarch(section: &Section, index: usize) -> Made {
     let member = &section.linked.members[index];
     let word = section.word(member);
     let (destination, base) = (word % 32, word / 32 % 32);
-    let is = |name: L| move |m: &Member| L::from_elf(m.code) == name;
+    let is = |name: L| move |m: &Member| L::from_elf(m.r_type) == name;
     let makes = |m: &Member, register: u32| section.word(m) % 32 == register;
     let own = section.single(member);
     let pair = |high: Option<&Member>| match high {
@@ -292,7 +292,7 @@ fn loongarch(section: &Section, index: usize) -> Made {
         }),
         None => Made::Without,
     };
-    match L::from_elf(member.code) {
+    match L::from_elf(member.r_type) {
         L::R_LARCH_GOT_PC_LO12 => {
             pair(section.last(index, |m| is(L::R_LARCH_GOT_PC_HI20)(m) && makes(m, base)))
         }
@@ -379,7 +379,7 @@ fn ppc64(section: &Section, index: usize) -> Made {
     let at = section.ppc64_at(member);
     let word = section.ppc64_word(member);
     let (target, base) = (section.ppc64_target(member), word >> 16 & 31);
-    let name_of = |m: &Member| P::from_elf(m.code);
+    let name_of = |m: &Member| P::from_elf(m.r_type);
     let last = |names: &'static [P], register: u32| {
         section.last(index, |m| {
             names.contains(&name_of(m))

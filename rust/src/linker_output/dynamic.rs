@@ -8,8 +8,8 @@ use crate::linker_section::needed::EntryClass;
 /// A type of dynamic relocations.
 #[derive(Clone, Copy, Debug, PartialEq, Eq, Hash)]
 pub struct DynamicType {
-    /// The code, `r_type` in ELF files.
-    pub code: u32,
+    /// The `r_type` in ELF files.
+    pub r_type: u32,
     /// The name, as "R_X86_64_RELATIVE".
     pub name: &'static str,
 }
@@ -39,11 +39,11 @@ pub struct DynamicTypes {
     pub descriptor: Option<DynamicType>,
 }
 
-/// A type with a code and a name.
+/// A type with an `r_type` and a name.
 macro_rules! named {
-    ($code:literal, $name:literal) => {
+    ($r_type:literal, $name:literal) => {
         DynamicType {
-            code: $code,
+            r_type: $r_type,
             name: $name,
         }
     };
@@ -51,10 +51,10 @@ macro_rules! named {
 
 pub(crate) use named;
 
-/// The name of the first of some types that has a code.
-fn name_in(types: &[DynamicType], code: u32) -> Option<&'static str> {
+/// The name of the first of some types that has an `r_type`.
+fn name_in(types: &[DynamicType], r_type: u32) -> Option<&'static str> {
     for listed in types {
-        if listed.code == code {
+        if listed.r_type == r_type {
             return Some(listed.name);
         }
     }
@@ -62,8 +62,8 @@ fn name_in(types: &[DynamicType], code: u32) -> Option<&'static str> {
 }
 
 impl Target {
-    /// The name of a type of dynamic relocations, as "R_X86_64_RELATIVE", by its code, `r_type` in
-    /// ELF files. None of a code that is no type of [`DynamicTypes`](crate::output::DynamicTypes).
+    /// The name of a type of dynamic relocations, as "R_X86_64_RELATIVE", by its `r_type`. None of
+    /// one that isn't of [`DynamicTypes`](crate::output::DynamicTypes).
     ///
     /// ```
     /// use linker_utils::output::Target;
@@ -74,7 +74,7 @@ impl Target {
     /// assert_eq!(target.dynamic_name(200), None);
     /// ```
     #[must_use]
-    pub fn dynamic_name(&self, code: u32) -> Option<&'static str> {
+    pub fn dynamic_name(&self, r_type: u32) -> Option<&'static str> {
         let types = &self.dynamic;
         let all = [
             types.word,
@@ -87,16 +87,16 @@ impl Target {
             types.module_offset,
             types.thread_offset,
         ];
-        match name_in(&all, code) {
+        match name_in(&all, r_type) {
             Some(name) => Some(name),
             None => match types.descriptor {
-                Some(descriptor) if descriptor.code == code => Some(descriptor.name),
+                Some(descriptor) if descriptor.r_type == r_type => Some(descriptor.name),
                 _ => None,
             },
         }
     }
 
-    /// The types of the dynamic relocations of a GOT entry's words, by their codes: None for a word
+    /// The types of the dynamic relocations of a GOT entry's words, by `r_type`: None for a word
     /// that has none, whose value is known when the output is linked.
     ///
     /// `is_bound` says that the symbol's definition is in this output and no other can take its
@@ -113,7 +113,7 @@ impl Target {
     /// // a function that a position-independent executable imports
     /// let target = Target::of(Architecture::AArch64);
     /// let words = target.dynamic_words(EntryClass::Address, false, true);
-    /// assert_eq!(words, [Some(target.dynamic.glob_dat.code), None]);
+    /// assert_eq!(words, [Some(target.dynamic.glob_dat.r_type), None]);
     /// ```
     #[must_use]
     pub fn dynamic_words(
@@ -124,22 +124,22 @@ impl Target {
     ) -> [Option<u32>; 2] {
         let types = &self.dynamic;
         match class {
-            EntryClass::Address if is_bound => [Some(types.relative.code), None],
-            EntryClass::Address => [Some(types.glob_dat.code), None],
+            EntryClass::Address if is_bound => [Some(types.relative.r_type), None],
+            EntryClass::Address => [Some(types.glob_dat.r_type), None],
             EntryClass::ThreadOffset if is_bound && is_executable => [None, None],
-            EntryClass::ThreadOffset => [Some(types.thread_offset.code), None],
+            EntryClass::ThreadOffset => [Some(types.thread_offset.r_type), None],
             EntryClass::ModuleOffset if is_bound && is_executable => [None, None],
-            EntryClass::ModuleOffset if is_bound => [Some(types.module_number.code), None],
+            EntryClass::ModuleOffset if is_bound => [Some(types.module_number.r_type), None],
             EntryClass::ModuleOffset => {
                 [
-                    Some(types.module_number.code),
-                    Some(types.module_offset.code),
+                    Some(types.module_number.r_type),
+                    Some(types.module_offset.r_type),
                 ]
             }
             EntryClass::Module if is_executable => [None, None],
-            EntryClass::Module => [Some(types.module_number.code), None],
+            EntryClass::Module => [Some(types.module_number.r_type), None],
             EntryClass::Descriptor => match types.descriptor {
-                Some(descriptor) => [Some(descriptor.code), None],
+                Some(descriptor) => [Some(descriptor.r_type), None],
                 None => [None, None],
             },
         }

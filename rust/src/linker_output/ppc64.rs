@@ -3,7 +3,6 @@
 //! What a linker adds to an output of PowerPC64.
 
 use crate::linker_output::addresses::{AddressSection, WordLoad};
-use crate::linker_output::codes::code;
 use crate::linker_output::description::Target;
 use crate::linker_output::dynamic::{DynamicType, DynamicTypes, named};
 use crate::linker_output::flags::FlagRules;
@@ -11,6 +10,7 @@ use crate::linker_output::got::{GotHeader, GotLayout, ThreadPointer};
 use crate::linker_output::layout::{
     Interpreter, ProvidedSymbol, RunWord, SaveRestoreRoutines, SymbolPlace, WORDS,
 };
+use crate::linker_output::r_types::r_type;
 use crate::linker_output::stubs::{Stub, StubField, field};
 use crate::linker_output::tags::{DynamicTag, TagRule, tag};
 use crate::elf::{AllowedRange, Architecture};
@@ -156,16 +156,16 @@ pub(crate) static TARGET: Target = Target {
         name: ".toc",
         loads: &[
             WordLoad {
-                word: code!(R_PPC64_TOC16_HA),
-                entry: code!(R_PPC64_GOT16_HA),
+                word: r_type!(R_PPC64_TOC16_HA),
+                entry: r_type!(R_PPC64_GOT16_HA),
             },
             WordLoad {
-                word: code!(R_PPC64_TOC16_LO),
-                entry: code!(R_PPC64_GOT16_LO),
+                word: r_type!(R_PPC64_TOC16_LO),
+                entry: r_type!(R_PPC64_GOT16_LO),
             },
             WordLoad {
-                word: code!(R_PPC64_TOC16_LO_DS),
-                entry: code!(R_PPC64_GOT16_LO_DS),
+                word: r_type!(R_PPC64_TOC16_LO_DS),
+                entry: r_type!(R_PPC64_GOT16_LO_DS),
             },
         ],
     }),

@@ -45,7 +45,7 @@ pub enum Route {
 #[derive(Clone, Copy, Debug, PartialEq, Eq, Hash)]
 pub enum RouteError {
     /// No stub may serve the relocation: it isn't that of a branch, and its formula has no L. Or
-    /// its code has no row.
+    /// its `r_type` has no row.
     NotABranch,
     /// The relocation has no value.
     Value(ValueError),
@@ -86,12 +86,12 @@ fn has_call_form(size: RelocationSize) -> bool {
 
 /// Whether it is a branch of PowerPC64's code that has a TOC pointer.
 #[inline(always)]
-fn has_toc(architecture: Architecture, code: u32) -> bool {
+fn has_toc(architecture: Architecture, r_type: u32) -> bool {
     match architecture {
         #[cfg(feature = "ppc64")]
         Architecture::Ppc64 => {
-            code == Ppc64Relocation::R_PPC64_REL24.elf_code()
-                || code == Ppc64Relocation::R_PPC64_REL14.elf_code()
+            r_type == Ppc64Relocation::R_PPC64_REL24.r_type()
+                || r_type == Ppc64Relocation::R_PPC64_REL14.r_type()
         }
         _ => false,
     }
@@ -99,10 +99,10 @@ fn has_toc(architecture: Architecture, code: u32) -> bool {
 
 /// Whether it is a branch of PowerPC64's code that has none.
 #[inline(always)]
-fn has_no_toc(architecture: Architecture, code: u32) -> bool {
+fn has_no_toc(architecture: Architecture, r_type: u32) -> bool {
     match architecture {
         #[cfg(feature = "ppc64")]
-        Architecture::Ppc64 => code == Ppc64Relocation::R_PPC64_REL24_NOTOC.elf_code(),
+        Architecture::Ppc64 => r_type == Ppc64Relocation::R_PPC64_REL24_NOTOC.r_type(),
         _ => false,
     }
 }
@@ -115,14 +115,14 @@ fn is_entered(symbol: &Symbol) -> bool {
 
 /// Whether the function may leave another TOC pointer, and the caller needs its own.
 #[inline(always)]
-fn loses_toc(architecture: Architecture, code: u32, symbol: &Symbol) -> bool {
-    has_toc(architecture, code) && is_entered(symbol) && symbol.other / 32 == 1
+fn loses_toc(architecture: Architecture, r_type: u32, symbol: &Symbol) -> bool {
+    has_toc(architecture, r_type) && is_entered(symbol) && symbol.other / 32 == 1
 }
 
 /// Whether the function takes a TOC pointer that the caller hasn't.
 #[inline(always)]
-fn lacks_toc(architecture: Architecture, code: u32, symbol: &Symbol) -> bool {
-    has_no_toc(architecture, code) && is_entered(symbol) && 1 < symbol.other / 32
+fn lacks_toc(architecture: Architecture, r_type: u32, symbol: &Symbol) -> bool {
+    has_no_toc(architecture, r_type) && is_entered(symbol) && 1 < symbol.other / 32
 }
 
 /// How far after a function's global entry point its local one is.
@@ -134,8 +134,8 @@ fn local_entry(other: u8) -> u64 {
 
 /// How far after a function's global entry point a stub goes.
 #[inline(always)]
-fn after_global(architecture: Architecture, code: u32, symbol: &Symbol) -> u64 {
-    if has_toc(architecture, code) {
+fn after_global(architecture: Architecture, r_type: u32, symbol: &Symbol) -> u64 {
+    if has_toc(architecture, r_type) {
         local_entry(symbol.other)
     } else {
         0
@@ -144,9 +144,9 @@ fn after_global(architecture: Architecture, code: u32, symbol: &Symbol) -> u64 {
 
 /// What a stub goes to in place of a symbol.
 #[inline(always)]
-fn callee_of(architecture: Architecture, code: u32, symbol: &Symbol) -> u64 {
+fn callee_of(architecture: Architecture, r_type: u32, symbol: &Symbol) -> u64 {
     if symbol.stub == 0 {
-        let offset = after_global(architecture, code, symbol);
+        let offset = after_global(architecture, r_type, symbol);
         symbol.address.wrapping_add(offset)
     } else {
         symbol.stub
@@ -156,7 +156,7 @@ fn callee_of(architecture: Architecture, code: u32, symbol: &Symbol) -> u64 {
 /// The same with the addend.
 #[inline(always)]
 fn stub_target(architecture: Architecture, symbol: &Symbol, relocation: &Rela) -> u64 {
-    let callee = callee_of(architecture, relocation.code, symbol);
+    let callee = callee_of(architecture, relocation.r_type, symbol);
     callee.wrapping_add(relocation.addend as u64)
 }
 
@@ -279,8 +279,8 @@ impl Target {
         has_room: bool,
         obstacle: Option<RelocateError>,
     ) -> Result<Route, RouteError> {
-        let loses = loses_toc(self.instructions, relocation.code, symbol);
-        let lacks = lacks_toc(self.instructions, relocation.code, symbol);
+        let loses = loses_toc(self.instructions, relocation.r_type, symbol);
+        let lacks = lacks_toc(self.instructions, relocation.r_type, symbol);
         if loses || lacks {
             let target = stub_target(self.instructions, symbol, relocation);
             by_jump(&self.jump_stub, loses, has_room, target)
@@ -337,8 +337,8 @@ fn value_of(
 
 /// The row of a relocation, if a stub may serve as its target.
 #[inline]
-fn served_row(architecture: Architecture, code: u32) -> Option<Row> {
-    let row = architecture.row(code)?;
+fn served_row(architecture: Architecture, r_type: u32) -> Option<Row> {
+    let row = architecture.row(r_type)?;
     if row.facts().may_use_stub {
         Some(row)
     } else {
@@ -385,7 +385,7 @@ impl Target {
     /// let target = Target::of(Architecture::AArch64);
     /// let addresses = Addresses { section: 0x40_0000, ..Addresses::default() };
     /// let far = Symbol { address: 0x1000_0000, ..Symbol::default() };
-    /// let call = Rela { offset: 0, code: 283, symbol: 1, addend: 0 };
+    /// let call = Rela { offset: 0, r_type: 283, symbol: 1, addend: 0 };
     /// let route = target.route(&addresses, &far, &call, &[0, 0, 0, 0x94]);
     /// let stub = Route::Stub { kind: StubKind::Jump, entry: 0, target: 0x1000_0000 };
     /// assert_eq!(route, Ok(stub));
@@ -397,7 +397,7 @@ impl Target {
         relocation: &Rela,
         section: &[u8],
     ) -> Result<Route, RouteError> {
-        let Some(row) = served_row(self.instructions, relocation.code) else {
+        let Some(row) = served_row(self.instructions, relocation.r_type) else {
             return Err(RouteError::NotABranch);
         };
         let value = value_of(self.instructions, addresses, symbol, relocation);
@@ -421,7 +421,7 @@ impl Target {
     ///
     /// // R_PPC64_REL24: `bl` and `nop`
     /// let target = Target::of(Architecture::Ppc64);
-    /// let call = Rela { offset: 0, code: 10, symbol: 1, addend: 0 };
+    /// let call = Rela { offset: 0, r_type: 10, symbol: 1, addend: 0 };
     /// let route = target.route_by_word(0x1002_0000, &call, &[1, 0, 0, 0x48, 0, 0, 0, 0x60]);
     /// let stub = Route::Stub { kind: StubKind::Load, entry: 0, target: 0x1002_0000 };
     /// assert_eq!(route, Ok(stub));
@@ -434,11 +434,11 @@ impl Target {
         relocation: &Rela,
         section: &[u8],
     ) -> Result<Route, RouteError> {
-        let Some(_) = served_row(self.instructions, relocation.code) else {
+        let Some(_) = served_row(self.instructions, relocation.r_type) else {
             return Err(RouteError::NotABranch);
         };
         let is_room = has_room(section, relocation.offset);
-        let has_toc = has_toc(self.instructions, relocation.code);
+        let has_toc = has_toc(self.instructions, relocation.r_type);
         by_stub(StubKind::Load, self.load_stub.entry, has_toc, is_room, word)
     }
 }

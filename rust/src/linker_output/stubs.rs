@@ -50,7 +50,7 @@ pub enum StubError {
 pub struct StubField {
     /// Its offset in the pair.
     pub offset: usize,
-    /// The code of the relocation whose value it takes, `r_type` in ELF files.
+    /// The `r_type` of the relocation whose value it takes.
     pub relocation: u32,
     /// The values that lead to the target, where the relocation takes others too.
     pub range: AllowedRange,
@@ -89,7 +89,7 @@ macro_rules! field {
     ($offset:literal, $relocation:ident, $bounds:expr) => {
         StubField {
             offset: $offset,
-            relocation: $crate::linker_output::codes::code!($relocation),
+            relocation: $crate::linker_output::r_types::r_type!($relocation),
             range: AllowedRange { bounds: $bounds },
         }
     };

@@ -35,8 +35,8 @@ fn changes_toc(symbols: &[SymbolFacts], symbol: u32) -> bool {
 #[cfg(feature = "aarch64")]
 #[inline(always)]
 fn aarch64_keeps(symbols: &[SymbolFacts], relocation: &Rela) -> bool {
-    let is_call = relocation.code == AArch64Relocation::R_AARCH64_CALL26.elf_code();
-    let is_branch = is_call || relocation.code == AArch64Relocation::R_AARCH64_JUMP26.elf_code();
+    let is_call = relocation.r_type == AArch64Relocation::R_AARCH64_CALL26.r_type();
+    let is_branch = is_call || relocation.r_type == AArch64Relocation::R_AARCH64_JUMP26.r_type();
     is_branch && !is_weak_zero(symbols, relocation.symbol)
 }
 
@@ -44,7 +44,7 @@ fn aarch64_keeps(symbols: &[SymbolFacts], relocation: &Rela) -> bool {
 #[cfg(feature = "ppc64")]
 #[inline(always)]
 fn ppc64_keeps(symbols: &[SymbolFacts], relocation: &Rela) -> bool {
-    let is_call = relocation.code == Ppc64Relocation::R_PPC64_REL24.elf_code();
+    let is_call = relocation.r_type == Ppc64Relocation::R_PPC64_REL24.r_type();
     is_call && !changes_toc(symbols, relocation.symbol)
 }
 

@@ -4,10 +4,10 @@
 
 use crate::linker_rewriting::calls::keeps_call;
 use crate::linker_rewriting::candidates::candidate;
-use crate::linker_rewriting::codes::{is_listed, lists_any, of_each};
 use crate::linker_rewriting::facts::{OutputFacts, RelaxContext, SymbolFacts};
 use crate::linker_rewriting::groups::{Scope, UnrelaxableGroups, group_stays, scope_in};
 use crate::linker_rewriting::phases::Phase;
+use crate::linker_rewriting::r_types::{is_listed, lists_any, of_each};
 use crate::linker_rewriting::relocations::relocation_in;
 use crate::linker_rewriting::riscv_pcrel_groups::{high_of, label_candidate, note_labels, set_all};
 use crate::linker_rewriting::rules::{Rule, decide_by};
@@ -213,7 +213,7 @@ fn is_rewritten_at(
     let Some(relocation) = relocation_at(relocations, index) else {
         return false;
     };
-    match scope_in(context.architecture, context.phase, relocation.code) {
+    match scope_in(context.architecture, context.phase, relocation.r_type) {
         Scope::Independent => candidate(
             context,
             relocations,
@@ -225,10 +225,10 @@ fn is_rewritten_at(
     }
 }
 
-/// Whether a relocation of a label gets the symbol and the addend of its high part, by its code
+/// Whether a relocation of a label gets the symbol and the addend of its high part, by its `r_type`
 /// after the rewrite.
 #[inline(always)]
-fn takes_symbol(phase: Phase, code: u32) -> bool {
+fn takes_symbol(phase: Phase, r_type: u32) -> bool {
     #[cfg(not(feature = "riscv64"))]
     {
         false
@@ -237,7 +237,7 @@ fn takes_symbol(phase: Phase, code: u32) -> bool {
     {
     match phase {
         Phase::TlsLocalExec => true,
-        _ => code == RiscVRelocation::R_RISCV_LO12_I.elf_code(),
+        _ => r_type == RiscVRelocation::R_RISCV_LO12_I.r_type(),
     }
     }
 }
@@ -290,7 +290,7 @@ fn decide(
     index: usize,
     relocation: &Rela,
 ) -> Option<Decision> {
-    let is_grouped = match scope_in(context.architecture, context.phase, relocation.code) {
+    let is_grouped = match scope_in(context.architecture, context.phase, relocation.r_type) {
         Scope::NotRelaxable => return Some(Decision::Kept),
         Scope::Labelled => {
             return Some(decide_label(stays, context, relocations, section, index, relocation));
@@ -368,13 +368,14 @@ struct Groups<'a> {
 }
 
 /// Whether no other relocation takes along the one with an index, and it stays as it is by its
-/// code, or as a call by its symbol. The scope is for the proof alone: the compiler leaves it out.
+/// `r_type`, or as a call by its symbol. The scope is for the proof alone: the compiler leaves it
+/// out.
 #[inline(always)]
 fn is_left(rule: &Groups<'_>, is_taken: bool, relocations: &[u8], index: usize) -> bool {
     let (architecture, phase) = (rule.architecture, rule.phase);
     let relocation = relocation_in(relocations, index);
-    let scope = scope_in(architecture, phase, relocation.code);
-    let listed = is_listed(architecture, phase, relocation.code);
+    let scope = scope_in(architecture, phase, relocation.r_type);
+    let listed = is_listed(architecture, phase, relocation.r_type);
     !is_taken && (!listed || keeps_call(architecture, phase, rule.context.symbols, &relocation))
 }
 
@@ -444,7 +445,7 @@ fn decide_all<D: AsDecision>(
 }
 
 /// Decides what becomes of each relocation of a section and of its instruction, in the caller's
-/// memory. Nothing is rewritten. False if all stay as they are by their codes. It is compiled for
+/// memory. Nothing is rewritten. False if all stay as they are by their types. It is compiled for
 /// each architecture and phase.
 pub(crate) fn decide_section<D: AsDecision>(
     context: &RelaxContext<'_>,

@@ -243,7 +243,7 @@ fn x86_64_scope_in(phase: Phase, name: X86_64Relocation) -> Scope {
     }
 }
 
-/// What is rewritten together with the instruction of a relocation with a code in a phase.
+/// What is rewritten together with the instruction of a relocation with an `r_type` in a phase.
 ///
 /// ```
 /// use linker_utils::rewriting::{Group, Scope, scope_in};
@@ -257,20 +257,20 @@ fn x86_64_scope_in(phase: Phase, name: X86_64Relocation) -> Scope {
 /// ```
 #[must_use]
 #[inline(always)]
-pub fn scope_in(architecture: Architecture, phase: Phase, code: u32) -> Scope {
+pub fn scope_in(architecture: Architecture, phase: Phase, r_type: u32) -> Scope {
     match architecture {
         #[cfg(feature = "aarch64")]
-        Architecture::AArch64 => aarch64_scope_in(phase, AArch64Relocation::from_elf(code)),
+        Architecture::AArch64 => aarch64_scope_in(phase, AArch64Relocation::from_elf(r_type)),
         #[cfg(feature = "loongarch64")]
         Architecture::LoongArch64 => {
-            loongarch_scope_in(phase, LoongArch64Relocation::from_elf(code))
+            loongarch_scope_in(phase, LoongArch64Relocation::from_elf(r_type))
         }
         #[cfg(feature = "ppc64")]
-        Architecture::Ppc64 => ppc64_scope_in(phase, Ppc64Relocation::from_elf(code)),
+        Architecture::Ppc64 => ppc64_scope_in(phase, Ppc64Relocation::from_elf(r_type)),
         #[cfg(feature = "x86_64")]
-        Architecture::X86_64 => x86_64_scope_in(phase, X86_64Relocation::from_elf(code)),
+        Architecture::X86_64 => x86_64_scope_in(phase, X86_64Relocation::from_elf(r_type)),
         #[cfg(feature = "riscv64")]
-        Architecture::RiscV => riscv_scope_in(phase, RiscVRelocation::from_elf(code)),
+        Architecture::RiscV => riscv_scope_in(phase, RiscVRelocation::from_elf(r_type)),
     }
 }
 
@@ -307,8 +307,8 @@ pub fn has_rewrites(architecture: Architecture, phase: Phase) -> bool {
     is_listed(architecture, phase)
 }
 
-/// What is rewritten together with the instruction of a relocation with a code, before addresses
-/// are known. RISC-V's rewrites all wait for them.
+/// What is rewritten together with the instruction of a relocation with an `r_type`, before
+/// addresses are known. RISC-V's rewrites all wait for them.
 ///
 /// ```
 /// use linker_utils::rewriting::{Group, Scope, scope_of};
@@ -321,8 +321,8 @@ pub fn has_rewrites(architecture: Architecture, phase: Phase) -> bool {
 /// ```
 #[must_use]
 #[inline(always)]
-pub fn scope_of(architecture: Architecture, code: u32) -> Scope {
-    scope_in(architecture, Phase::PreLayout, code)
+pub fn scope_of(architecture: Architecture, r_type: u32) -> Scope {
+    scope_in(architecture, Phase::PreLayout, r_type)
 }
 
 /// Whether a name of PowerPC64 marks a call of `__tls_get_addr`.
@@ -337,11 +337,11 @@ fn is_mark(name: Ppc64Relocation) -> bool {
     )
 }
 
-/// Whether a relocation with a code of PowerPC64 marks a call of `__tls_get_addr`.
+/// Whether a relocation with an `r_type` of PowerPC64 marks a call of `__tls_get_addr`.
 #[cfg(feature = "ppc64")]
 #[inline(always)]
-pub(crate) fn marks_call(code: u32) -> bool {
-    is_mark(Ppc64Relocation::from_elf(code))
+pub(crate) fn marks_call(r_type: u32) -> bool {
+    is_mark(Ppc64Relocation::from_elf(r_type))
 }
 
 /// The index of the symbol whose groups a group is one of.

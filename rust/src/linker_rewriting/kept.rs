@@ -129,8 +129,8 @@ fn lacks_stub(
     }
     #[cfg(feature = "ppc64")]
     {
-    let call = Ppc64Relocation::R_PPC64_REL24.elf_code();
-    if !matches_any!(architecture, #[cfg(feature = "ppc64")] Architecture::Ppc64) || relocation.code != call {
+    let call = Ppc64Relocation::R_PPC64_REL24.r_type();
+    if !matches_any!(architecture, #[cfg(feature = "ppc64")] Architecture::Ppc64) || relocation.r_type != call {
         return false;
     }
     let index = relocation.symbol as usize;

@@ -13,7 +13,7 @@ pub(crate) fn relocation_in(relocations: &[u8], index: usize) -> Rela {
         Some(relocation) => relocation,
         None => Rela {
             offset: 0,
-            code: 0,
+            r_type: 0,
             symbol: 0,
             addend: 0,
         },

@@ -16,9 +16,9 @@ use crate::elf::{Architecture, Choice, LinkFacts, Operands};
 #[cfg(feature = "riscv64")]
 use crate::riscv64::RiscVRelocation;
 
-/// The code of the high parts whose groups a phase rewrites.
+/// The `r_type` of the high parts whose groups a phase rewrites.
 #[inline(always)]
-fn high_code(phase: Phase) -> u32 {
+fn high_r_type(phase: Phase) -> u32 {
     #[cfg(not(feature = "riscv64"))]
     {
         0
@@ -26,8 +26,8 @@ fn high_code(phase: Phase) -> u32 {
     #[cfg(feature = "riscv64")]
     {
     match phase {
-        Phase::TlsLocalExec => RiscVRelocation::R_RISCV_TLSDESC_HI20.elf_code(),
-        _ => RiscVRelocation::R_RISCV_GOT_HI20.elf_code(),
+        Phase::TlsLocalExec => RiscVRelocation::R_RISCV_TLSDESC_HI20.r_type(),
+        _ => RiscVRelocation::R_RISCV_GOT_HI20.r_type(),
     }
     }
 }
@@ -52,16 +52,16 @@ fn search_end(first: usize, len: usize) -> usize {
     }
 }
 
-/// The index of the first relocation with a code at an offset, among those that are searched of
-/// relocations that ascend. So it takes O(log n).
-pub(crate) fn high_at(relocations: &[u8], code: u32, at: u64) -> Option<usize> {
+/// The index of the first relocation with an `r_type` at an offset, among those that are searched
+/// of relocations that ascend. So it takes O(log n).
+pub(crate) fn high_at(relocations: &[u8], r_type: u32, at: u64) -> Option<usize> {
     let first = first_from(relocations, at);
     for index in first..search_end(first, relocations_len(relocations)) {
         let relocation = relocation_in(relocations, index);
         if relocation.offset != at {
             return None;
         }
-        if relocation.code == code {
+        if relocation.r_type == r_type {
             return Some(index);
         }
     }
@@ -80,7 +80,7 @@ pub(crate) fn label_at(context: &RelaxContext<'_>, relocation: &Rela) -> Option<
 /// Where the label of a relocation is in the section.
 #[inline(always)]
 fn label_offset(context: &RelaxContext<'_>, relocation: &Rela) -> Option<u64> {
-    if relocation.code == high_code(context.phase) {
+    if relocation.r_type == high_r_type(context.phase) {
         Some(relocation.offset)
     } else {
         label_at(context, relocation)
@@ -94,7 +94,7 @@ pub(crate) fn high_of(
     relocation: &Rela,
 ) -> Option<usize> {
     match label_offset(context, relocation) {
-        Some(at) => high_at(relocations, high_code(context.phase), at),
+        Some(at) => high_at(relocations, high_r_type(context.phase), at),
         None => None,
     }
 }
@@ -105,10 +105,10 @@ fn is_labelled(scope: Scope) -> bool {
     matches!(scope, Scope::Labelled)
 }
 
-/// Whether a relocation with a code is rewritten with its label.
+/// Whether a relocation with an `r_type` is rewritten with its label.
 #[inline(always)]
-pub(crate) fn is_in_label(architecture: Architecture, phase: Phase, code: u32) -> bool {
-    is_labelled(scope_in(architecture, phase, code))
+pub(crate) fn is_in_label(architecture: Architecture, phase: Phase, r_type: u32) -> bool {
+    is_labelled(scope_in(architecture, phase, r_type))
 }
 
 /// Whether the mark is there that counts for a relocation with a high part.
@@ -177,7 +177,7 @@ fn lacking(
     index: usize,
     relocation: &Rela,
 ) -> Option<usize> {
-    if !is_in_label(context.architecture, context.phase, relocation.code) {
+    if !is_in_label(context.architecture, context.phase, relocation.r_type) {
         return None;
     }
     let Some(high) = high_of(context, relocations, relocation) else {
@@ -241,7 +241,7 @@ fn copy_notes<D: AsDecision>(
 ) {
     for index in 0..relocations_len(relocations) {
         let relocation = relocation_in(relocations, index);
-        if !is_in_label(context.architecture, context.phase, relocation.code) {
+        if !is_in_label(context.architecture, context.phase, relocation.r_type) {
             continue;
         }
         let note = note_of(context, relocations, decisions, &relocation);

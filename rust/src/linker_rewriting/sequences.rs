@@ -14,28 +14,28 @@ use crate::ppc64::Ppc64Relocation;
 #[cfg(feature = "riscv64")]
 use crate::riscv64::RiscVRelocation;
 
-/// The code of the mark of an instruction that may be relaxed.
+/// The `r_type` of the mark of an instruction that may be relaxed.
 #[inline(always)]
-fn mark_code(architecture: Architecture) -> Option<u32> {
+fn mark_r_type(architecture: Architecture) -> Option<u32> {
     match architecture {
         #[cfg(feature = "riscv64")]
-        Architecture::RiscV => Some(RiscVRelocation::R_RISCV_RELAX.elf_code()),
+        Architecture::RiscV => Some(RiscVRelocation::R_RISCV_RELAX.r_type()),
         #[cfg(feature = "loongarch64")]
-        Architecture::LoongArch64 => Some(LoongArch64Relocation::R_LARCH_RELAX.elf_code()),
+        Architecture::LoongArch64 => Some(LoongArch64Relocation::R_LARCH_RELAX.r_type()),
         _ => None,
     }
 }
 
-/// Whether a relocation is a mark with a code at an offset.
+/// Whether a relocation is a mark with an `r_type` at an offset.
 #[inline(always)]
-fn is_mark_of(code: Option<u32>, offset: u64, relocation: Option<Rela>) -> bool {
-    let Some(code) = code else {
+fn is_mark_of(r_type: Option<u32>, offset: u64, relocation: Option<Rela>) -> bool {
+    let Some(r_type) = r_type else {
         return false;
     };
     let Some(relocation) = relocation else {
         return false;
     };
-    relocation.offset == offset && relocation.code == code
+    relocation.offset == offset && relocation.r_type == r_type
 }
 
 /// Whether a mark stands after a relocation with an index.
@@ -47,19 +47,19 @@ pub(crate) fn is_marked_at(
     relocation: &Rela,
 ) -> bool {
     let next = relocation_at(relocations, index + 1);
-    is_mark_of(mark_code(architecture), relocation.offset, next)
+    is_mark_of(mark_r_type(architecture), relocation.offset, next)
 }
 
-/// The code of what is marked in a phase: before addresses are known a call of PowerPC64's prefixed
-/// code, whose own relocation stands after its mark.
+/// The `r_type` of what is marked in a phase: before addresses are known a call of PowerPC64's
+/// prefixed `r_type`, whose own relocation stands after its mark.
 #[inline(always)]
-fn mark_code_in(phase: Phase, architecture: Architecture) -> Option<u32> {
+fn mark_r_type_in(phase: Phase, architecture: Architecture) -> Option<u32> {
     match (phase, architecture) {
         #[cfg(feature = "ppc64")]
         (Phase::PreLayout, Architecture::Ppc64) => {
             #[cfg(feature = "ppc64")]
             {
-                Some(Ppc64Relocation::R_PPC64_REL24_NOTOC.elf_code())
+                Some(Ppc64Relocation::R_PPC64_REL24_NOTOC.r_type())
             }
             #[cfg(not(feature = "ppc64"))]
             {
@@ -67,7 +67,7 @@ fn mark_code_in(phase: Phase, architecture: Architecture) -> Option<u32> {
             }
         }
         (Phase::PreLayout, _) => None,
-        _ => mark_code(architecture),
+        _ => mark_r_type(architecture),
     }
 }
 
@@ -81,8 +81,8 @@ pub(crate) fn is_marked_in(
     relocation: &Rela,
 ) -> bool {
     let next = relocation_at(relocations, index + 1);
-    let code = mark_code_in(phase, architecture);
-    is_mark_of(code, relocation.offset, next)
+    let r_type = mark_r_type_in(phase, architecture);
+    is_mark_of(r_type, relocation.offset, next)
 }
 
 /// What ties a relocation to the others of its sequence.
@@ -125,7 +125,7 @@ fn is_member(member: Member, offset: u64, relocation: &Rela, found: Option<Rela>
         return false;
     };
     found.offset.checked_sub(offset) == Some(member.distance)
-        && found.code == member.r_type
+        && found.r_type == member.r_type
         && is_tied(member.tie, relocation, &found)
 }
 
@@ -172,15 +172,15 @@ fn is_among(
 
 /// Whether a relocation with a type may be a member, and isn't its mark.
 #[inline(always)]
-fn is_place(member: Member, code: u32) -> bool {
-    member.r_type == code && !matches!(member.tie, Tie::Mark)
+fn is_place(member: Member, r_type: u32) -> bool {
+    member.r_type == r_type && !matches!(member.tie, Tie::Mark)
 }
 
 /// Whether the relocation with an index is at no place of a sequence, or all of it are there.
 #[inline(always)]
 fn is_whole_in(members: &[Member], relocations: &[u8], index: usize, relocation: &Rela) -> bool {
     for (place, &member) in members.iter().enumerate() {
-        if is_place(member, relocation.code) {
+        if is_place(member, relocation.r_type) {
             return is_among(
                 members,
                 place,
@@ -203,7 +203,7 @@ macro_rules! sequences {
     ) => {
         $(is_whole_in(
             &[$(Member {
-                r_type: $names::$name.elf_code(),
+                r_type: $names::$name.r_type(),
                 distance: $distance,
                 tie: Tie::$tie,
             }),+],

@@ -4,12 +4,12 @@
 
 use crate::linker_rewriting::agreement::contradiction;
 use crate::linker_rewriting::candidates::{candidate, is_matched, is_tls_get_addr};
-use crate::linker_rewriting::codes::{is_surveyed, of_each};
 use crate::linker_rewriting::facts::{NO_ADDRESSES, OutputFacts, RelaxContext, SymbolFacts};
 use crate::linker_rewriting::groups::{Group, Scope, UnrelaxableGroups, scope_in, symbol_of_group};
 #[cfg(feature = "ppc64")]
 use crate::linker_rewriting::groups::marks_call;
 use crate::linker_rewriting::phases::Phase;
+use crate::linker_rewriting::r_types::{is_surveyed, of_each};
 use crate::linker_rewriting::relocations::relocation_in;
 use crate::linker_section::facts::{Addresses, Symbol};
 use crate::linker_section::relocations::{Rela, relocations_len};
@@ -51,7 +51,7 @@ fn keeping(
     index: usize,
     relocation: &Rela,
 ) -> Option<Group> {
-    match scope_in(context.architecture, context.phase, relocation.code) {
+    match scope_in(context.architecture, context.phase, relocation.r_type) {
         Scope::Grouped(group) => {
             match candidate(context, relocations, section, index, relocation) {
                 Some(_) => None,
@@ -77,7 +77,7 @@ fn is_marked(relocations: &[u8], index: usize, relocation: &Rela) -> bool {
         return false;
     }
     let before = relocation_in(relocations, index - 1);
-    let is_mark = marks_call(before.code);
+    let is_mark = marks_call(before.r_type);
     is_mark && before.offset == relocation.offset
 }
 
@@ -129,7 +129,7 @@ fn needs_mark(
     }
 }
 
-/// Whether the relocation with an index is of no group by its code, and needs no mark.
+/// Whether the relocation with an index is of no group by its `r_type`, and needs no mark.
 #[inline(always)]
 fn keeps_none(
     architecture: Architecture,
@@ -139,7 +139,7 @@ fn keeps_none(
     index: usize,
 ) -> bool {
     let relocation = relocation_in(relocations, index);
-    let surveyed = is_surveyed(architecture, phase, relocation.code);
+    let surveyed = is_surveyed(architecture, phase, relocation.r_type);
     !surveyed && !needs_mark(architecture, phase, symbols, &relocation)
 }
 

@@ -21,8 +21,8 @@ pub use rewritten::{RewrittenItemsError, rewritten_items_into};
 pub struct Relocation {
     /// Its place, `r_offset`: an offset in the section.
     pub offset: u64,
-    /// Its code, `r_type` in ELF files.
-    pub code: u32,
+    /// Its `r_type` in ELF files.
+    pub r_type: u32,
     /// Whether it has a symbol: `r_sym` isn't 0.
     pub has_symbol: bool,
     /// Its addend, `r_addend`.
@@ -109,14 +109,14 @@ pub(crate) fn has_bytes(section: &[u8], offset: u64, len: u64) -> bool {
     offset <= section_len && len <= section_len - offset
 }
 
-/// Whether the relocation after the one at an index has a code and is at the same place.
+/// Whether the relocation after the one at an index has an `r_type` and is at the same place.
 #[inline(always)]
-pub(crate) fn is_marked<R: AsRelocation>(relocations: &[R], index: usize, code: u32) -> bool {
+pub(crate) fn is_marked<R: AsRelocation>(relocations: &[R], index: usize, r_type: u32) -> bool {
     if index + 1 >= relocations.len() {
         return false;
     }
     let mark = relocation_at(relocations, index + 1);
-    mark.code == code && mark.offset == relocation_at(relocations, index).offset
+    mark.r_type == r_type && mark.offset == relocation_at(relocations, index).offset
 }
 
 /// The addend of a relocation, if it isn't below 0.

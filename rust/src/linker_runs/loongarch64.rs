@@ -12,7 +12,7 @@ use crate::loongarch64::{LoongArch64Relocation, RewriteKind};
 /// Whether a relocation has a name.
 #[inline(always)]
 fn has_name(relocation: &Relocation, name: LoongArch64Relocation) -> bool {
-    relocation.code == name.elf_code()
+    relocation.r_type == name.r_type()
 }
 
 /// How many bytes of nops an addend stands for, and what they align to. None where these are no
@@ -80,7 +80,7 @@ fn is_relaxable<R: AsRelocation>(
         && is_marked(
             relocations,
             index,
-            LoongArch64Relocation::R_LARCH_RELAX.elf_code(),
+            LoongArch64Relocation::R_LARCH_RELAX.r_type(),
         )
 }
 

@@ -12,7 +12,7 @@ use crate::riscv64::{LinkRegister, RiscVRelocation};
 /// Whether a relocation has a name.
 #[inline(always)]
 fn has_name(relocation: &Relocation, name: RiscVRelocation) -> bool {
-    relocation.code == name.elf_code()
+    relocation.r_type == name.r_type()
 }
 
 /// Whether a relocation is that of a call.
@@ -122,11 +122,7 @@ fn site_at<R: AsRelocation>(
     next: usize,
 ) -> Option<Site> {
     let relocation = relocation_at(relocations, index);
-    if !is_marked(
-        relocations,
-        index,
-        RiscVRelocation::R_RISCV_RELAX.elf_code(),
-    ) {
+    if !is_marked(relocations, index, RiscVRelocation::R_RISCV_RELAX.r_type()) {
         return None;
     }
     let target = relocation.target?;

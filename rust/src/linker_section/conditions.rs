@@ -36,7 +36,7 @@ pub(crate) fn keeps_toc(architecture: Architecture, relocation: &Rela) -> bool {
     #[cfg(feature = "ppc64")]
     {
     matches_any!(architecture, #[cfg(feature = "ppc64")] Architecture::Ppc64)
-        && relocation.code == Ppc64Relocation::R_PPC64_REL24.elf_code()
+        && relocation.r_type == Ppc64Relocation::R_PPC64_REL24.r_type()
     }
 }
 
@@ -97,11 +97,11 @@ pub(crate) fn is_filled(
     match architecture {
         #[cfg(feature = "riscv64")]
         Architecture::RiscV => {
-            relocation.code != RiscVRelocation::R_RISCV_ALIGN.elf_code() || is_padded(place, addend)
+            relocation.r_type != RiscVRelocation::R_RISCV_ALIGN.r_type() || is_padded(place, addend)
         }
         #[cfg(feature = "loongarch64")]
         Architecture::LoongArch64 => {
-            if relocation.code != LoongArch64Relocation::R_LARCH_ALIGN.elf_code() {
+            if relocation.r_type != LoongArch64Relocation::R_LARCH_ALIGN.r_type() {
                 true
             } else if relocation.symbol == 0 {
                 is_padded(place, addend)
@@ -194,10 +194,11 @@ pub(crate) fn has_offset(row: &Row, value: i64, offset: u64, section: &[u8]) -> 
     there.len() < row.window() || holds_offset(row, value, there)
 }
 
-/// The code of the third relocation of a sequence of LoongArch for 64 bits, by that of the first.
+/// The `r_type` of the third relocation of a sequence of LoongArch for 64 bits, by that of the
+/// first.
 #[inline(always)]
-fn upper_code(code: u32) -> Option<u32> {
-    match code {
+fn upper_r_type(r_type: u32) -> Option<u32> {
+    match r_type {
         // R_LARCH_ABS_HI20, R_LARCH_PCALA_HI20
         67 => Some(69),
         71 => Some(73),
@@ -218,20 +219,20 @@ fn upper_code(code: u32) -> Option<u32> {
 
 /// Whether such a first relocation is relative to the place.
 #[inline(always)]
-fn is_placed(code: u32) -> bool {
-    matches!(code, 71 | 75 | 87 | 95 | 97 | 111)
+fn is_placed(r_type: u32) -> bool {
+    matches!(r_type, 71 | 75 | 87 | 95 | 97 | 111)
 }
 
 /// Whether a relocation is the third of the sequence that another begins.
 #[inline(always)]
 fn is_upper(high: &Rela, other: &Rela) -> bool {
-    let Some(code) = upper_code(high.code) else {
+    let Some(r_type) = upper_r_type(high.r_type) else {
         return false;
     };
-    other.code == code
+    other.r_type == r_type
         && other.symbol == high.symbol
         && other.addend == high.addend
-        && (!is_placed(high.code) || other.offset == high.offset.wrapping_add(8))
+        && (!is_placed(high.r_type) || other.offset == high.offset.wrapping_add(8))
 }
 
 /// Whether one of the relocations from an index to below another is.
@@ -263,8 +264,8 @@ pub(crate) fn needs_upper(architecture: Architecture, relocation: &Rela, value: 
     {
     matches_any!(architecture, #[cfg(feature = "loongarch64")] Architecture::LoongArch64)
         && (value < -0x8000_0000 || 0x7fff_ffff < value)
-        && (relocation.code == LoongArch64Relocation::R_LARCH_TLS_LE_HI20_R.elf_code()
-            || upper_code(relocation.code).is_some())
+        && (relocation.r_type == LoongArch64Relocation::R_LARCH_TLS_LE_HI20_R.r_type()
+            || upper_r_type(relocation.r_type).is_some())
     }
 }
 

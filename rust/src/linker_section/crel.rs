@@ -120,7 +120,7 @@ fn header_of(section: &[u8]) -> Result<Header, CrelError> {
 struct Place {
     next: usize,
     offset: u64,
-    code: u32,
+    r_type: u32,
     symbol: u32,
     addend: u64,
 }
@@ -134,9 +134,9 @@ fn next_of(section: &[u8], header: &Header, prior: &Place) -> Result<Place, Crel
     let flags = if header.has_addends { 8 } else { 4 };
     let high = delta_at(section, prior.next + 1, false, first >= 128)?;
     let symbol = delta_at(section, high.next, true, first % 2 == 1)?;
-    let code = delta_at(section, symbol.next, true, first / 2 % 2 == 1)?;
+    let r_type = delta_at(section, symbol.next, true, first / 2 % 2 == 1)?;
     let has_addend = header.has_addends && first / 4 % 2 == 1;
-    let addend = delta_at(section, code.next, true, has_addend)?;
+    let addend = delta_at(section, r_type.next, true, has_addend)?;
     let delta = high
         .value
         .wrapping_mul(128 / flags)
@@ -144,7 +144,7 @@ fn next_of(section: &[u8], header: &Header, prior: &Place) -> Result<Place, Crel
     Ok(Place {
         next: addend.next,
         offset: prior.offset.wrapping_add(delta.wrapping_mul(header.scale)),
-        code: prior.code.wrapping_add((code.value % (1 << 32)) as u32),
+        r_type: prior.r_type.wrapping_add((r_type.value % (1 << 32)) as u32),
         symbol: prior.symbol.wrapping_add((symbol.value % (1 << 32)) as u32),
         addend: prior.addend.wrapping_add(addend.value),
     })
@@ -155,7 +155,7 @@ fn decode(section: &[u8], header: &Header, relocations: &mut [u8]) -> Result<(),
     let mut place = Place {
         next: header.next,
         offset: 0,
-        code: 0,
+        r_type: 0,
         symbol: 0,
         addend: 0,
     };
@@ -164,7 +164,7 @@ fn decode(section: &[u8], header: &Header, relocations: &mut [u8]) -> Result<(),
         if index < relocations_len(relocations) {
             let relocation = Rela {
                 offset: place.offset,
-                code: place.code,
+                r_type: place.r_type,
                 symbol: place.symbol,
                 addend: place.addend as i64,
             };
@@ -194,7 +194,7 @@ fn decode(section: &[u8], header: &Header, relocations: &mut [u8]) -> Result<(),
 /// let crel = read_crel(&section, &mut relocations)?;
 /// assert!(crel.count == 2 && crel.has_addends);
 /// let last = relocation_at(&relocations, 1).unwrap();
-/// assert_eq!((last.offset, last.code, last.symbol, last.addend), (0x18, 2, 5, -4));
+/// assert_eq!((last.offset, last.r_type, last.symbol, last.addend), (0x18, 2, 5, -4));
 /// # Ok::<(), CrelError>(())
 /// ```
 pub fn read_crel(section: &[u8], relocations: &mut [u8]) -> Result<Crel, CrelError> {

@@ -181,7 +181,7 @@ fn found_value(
     relocation: &Rela,
     high: Option<HighPart>,
 ) -> Option<i64> {
-    if lacks_stub(architecture, symbols, relocation) || is_of_got(architecture, relocation.code) {
+    if lacks_stub(architecture, symbols, relocation) || is_of_got(architecture, relocation.r_type) {
         return None;
     }
     let way = row.facts().way;

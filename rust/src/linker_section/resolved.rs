@@ -224,7 +224,7 @@ fn resolved_row_value<L: Lookup>(
     index: usize,
     relocation: &Rela,
 ) -> Result<Option<(Row, i64)>, ValueError> {
-    let Some(row) = architecture.row(relocation.code) else {
+    let Some(row) = architecture.row(relocation.r_type) else {
         return Err(ValueError::UnknownType);
     };
     let known = lookup.resolved(index, relocation);
@@ -297,7 +297,7 @@ fn found_resolved<L: Lookup>(
 ) -> Option<i64> {
     if known.is_left_out
         || lacks_known_stub(architecture, relocation, known)
-        || is_of_got(architecture, relocation.code)
+        || is_of_got(architecture, relocation.r_type)
     {
         return None;
     }

@@ -77,7 +77,7 @@ pub(crate) fn row_value(
     symbols: &[Symbol],
     relocation: &Rela,
 ) -> Result<Option<(Row, i64)>, ValueError> {
-    let Some(row) = architecture.row(relocation.code) else {
+    let Some(row) = architecture.row(relocation.r_type) else {
         return Err(ValueError::UnknownType);
     };
     match value_of(
@@ -153,8 +153,8 @@ pub(crate) fn field_at(row: &Row, offset: u64, section: &[u8]) -> Field {
 }
 
 /// How many bytes of a section the relocation at an index writes, of at most ten: those of its row,
-/// or as many as the ULEB128 number has that it is at. None are of a relocation whose code has no
-/// row, or that has no value, as marks.
+/// or as many as the ULEB128 number has that it is at. None are of a relocation whose `r_type` has
+/// no row, or that has no value, as marks.
 ///
 /// # Requires
 ///
@@ -221,7 +221,7 @@ fn next_of_pair(architecture: Architecture, relocations: &[u8], index: usize) ->
     if second.offset != first.offset {
         return None;
     }
-    let Some(row) = architecture.row(second.code) else {
+    let Some(row) = architecture.row(second.r_type) else {
         return None;
     };
     let info = row.info();

@@ -18,7 +18,7 @@ use crate::linker_elf::x86_64::X86_64Relocation;
 #[cfg_attr(not(exhaustive), non_exhaustive)]
 #[derive(Clone, Copy, Debug, PartialEq, Eq, Hash)]
 pub enum ValueError {
-    /// Its code has no row: no object's relocation has it.
+    /// Its `r_type` has no row: no object's relocation has it.
     UnknownType,
     /// Its symbol, or that of its high part, isn't in the table.
     NoSymbol,
@@ -90,7 +90,7 @@ pub(crate) fn entry_address(
 
 /// Whether the formula has the GOT's address in place of the symbol's.
 #[inline(always)]
-pub(crate) fn is_of_got(architecture: Architecture, code: u32) -> bool {
+pub(crate) fn is_of_got(architecture: Architecture, r_type: u32) -> bool {
     #[cfg(not(feature = "x86_64"))]
     {
         false
@@ -98,8 +98,8 @@ pub(crate) fn is_of_got(architecture: Architecture, code: u32) -> bool {
     #[cfg(feature = "x86_64")]
     {
     matches_any!(architecture, #[cfg(feature = "x86_64")] Architecture::X86_64)
-        && (code == X86_64Relocation::R_X86_64_GOTPC64.elf_code()
-            || code == X86_64Relocation::R_X86_64_GOTPC32.elf_code())
+        && (r_type == X86_64Relocation::R_X86_64_GOTPC64.r_type()
+            || r_type == X86_64Relocation::R_X86_64_GOTPC32.r_type())
     }
 }
 
@@ -225,7 +225,7 @@ fn operands_with(
     let target = target_of(architecture, addresses, row, symbol, place);
     let loads = info.size.loads_plt_word(info.kind);
     Operands {
-        symbol: if is_of_got(architecture, relocation.code) {
+        symbol: if is_of_got(architecture, relocation.r_type) {
             addresses.got_base
         } else {
             target
@@ -393,7 +393,7 @@ fn high_part_in(
     if relocation.offset != at {
         return None;
     }
-    let Some(row) = architecture.row(relocation.code) else {
+    let Some(row) = architecture.row(relocation.r_type) else {
         return None;
     };
     if is_high_part(low, &row.info()) {
@@ -533,7 +533,7 @@ pub(crate) fn value_of(
 /// use linker_utils::elf::Architecture;
 ///
 /// // R_AARCH64_CALL26 at offset 4, of symbol 1
-/// let call = Rela { offset: 4, code: 283, symbol: 1, addend: 0 };
+/// let call = Rela { offset: 4, r_type: 283, symbol: 1, addend: 0 };
 /// let addresses = Addresses { section: 0x1000, ..Addresses::default() };
 /// let function = Symbol { address: 0x2000, ..Symbol::default() };
 /// let symbols = [Symbol::default(), function];
@@ -548,7 +548,7 @@ pub fn value(
     symbols: &[Symbol],
     relocation: &Rela,
 ) -> Result<Option<i64>, ValueError> {
-    match architecture.row(relocation.code) {
+    match architecture.row(relocation.r_type) {
         Some(row) => value_of(
             architecture,
             addresses,

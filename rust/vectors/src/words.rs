@@ -382,12 +382,12 @@ fn other_names_have_no_row() {
         x86_64::relocation_from_raw(x86_64::X86_64Relocation::R_X86_64_TPOFF64),
     ];
     expect_eq("in order", found, [None; 7]);
-    for &code in &[0, 4, 5, 6, 47, 56, 57, 63, 116, 123, 132, 133] {
-        let name = ppc64::Ppc64Relocation::from_elf(code);
+    for &r_type in &[0, 4, 5, 6, 47, 56, 57, 63, 116, 123, 132, 133] {
+        let name = ppc64::Ppc64Relocation::from_elf(r_type);
         let found = (
             ppc64::relocation_type_from_raw(name),
-            Architecture::Ppc64.row(code).is_some(),
+            Architecture::Ppc64.row(r_type).is_some(),
         );
-        expect_eq(code, found, (None, true));
+        expect_eq(r_type, found, (None, true));
     }
 }

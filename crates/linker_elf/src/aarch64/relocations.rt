@@ -3,7 +3,7 @@
 ghost use Rattle.std.specs.Prelude.{◌≡◌, IfSome};
 ghost use denote.Enum.Declared.{tag_of};
 ghost use Rattle.linker_elf.specs.Agrees.{RowAgrees, RowFits};
-ghost use Rattle.linker_elf.specs.ElfNames.{IsNameOf, code_of, text_of};
+ghost use Rattle.linker_elf.specs.ElfNames.{IsNameOf, r_type_of, text_of};
 ghost use Rattle.linker_elf.specs.Readings.{RowReadsNoOther};
 ghost use Rattle.linker_elf.specs.AArch64Relocations.{aarch64_name, aarch64_row};
 ghost use Rattle.linker_elf.specs.contracts.aarch64.relocations.AArch64Relocation as names;
@@ -14,7 +14,7 @@ use crate::elf::{RelocationKindInfo, Row};
 use std::fmt;
 
 /// The relocations of AArch64, by their names in ELF for the Arm 64-bit Architecture, "Relocation".
-/// `from_elf` takes the code that an ELF file has.
+/// `from_elf` takes the `r_type` that an ELF file has.
 #[derive(Clone, Copy, PartialEq, Eq)]
 pub enum AArch64Relocation {
     R_AARCH64_NONE,
@@ -131,11 +131,11 @@ pub enum AArch64Relocation {
     R_AARCH64_TLSLE_LDST128_TPREL_LO12_NC,
     R_AARCH64_TLSLD_LDST128_DTPREL_LO12,
     R_AARCH64_TLSLD_LDST128_DTPREL_LO12_NC,
-    /// A code without a name here.
+    /// An `r_type` without a name here.
     Other(u32),
 }
 
-/// Each relocation: its code, its name and its row, in the order of the enum of names.
+/// Each relocation: its `r_type`, its name and its row, in the order of the enum of names.
 macro_rules! relocations {
     ($($made:tt)+) => { listed! { ($($made)+) 0 from 0 {
         0 R_AARCH64_NONE (None, 0 bytes, any)
@@ -262,29 +262,29 @@ macro_rules! relocations {
 impl fmt::Debug for AArch64Relocation {
     fn fmt<W: fmt::Write>(&self, f: &mut fmt::Formatter<W>) -> fmt::Result {
         match self {
-            AArch64Relocation::Other(code) => f.debug_tuple("Other").field(code).finish(),
+            AArch64Relocation::Other(r_type) => f.debug_tuple("Other").field(r_type).finish(),
             _ => f.write_str(self.name()),
         }
     }
 }
 
 impl AArch64Relocation {
-    /// The relocation with a code, `r_type` in ELF files; `Other(code)` for a code without a name.
+    /// The relocation with an `r_type`; `Other(r_type)` for one without a name.
     #[inline(always)]
-    pub fn from_elf(code: u32) -> AArch64Relocation
-        ensures { IsNameOf aarch64_name code result }
+    pub fn from_elf(r_type: u32) -> AArch64Relocation
+        ensures { IsNameOf aarch64_name r_type result }
     {
-        relocations!(name_of AArch64Relocation, code)
+        relocations!(name_of AArch64Relocation, r_type)
     }
 
-    /// The code, `r_type` in ELF files.
+    /// The `r_type` in ELF files.
     #[inline]
-    pub fn elf_code(self) -> u32
-        ensures { result ≡ code_of (aarch64_name self) }
+    pub fn r_type(self) -> u32
+        ensures { result ≡ r_type_of (aarch64_name self) }
     {
         match self {
-            AArch64Relocation::Other(code) => code,
-            _ => CODES[index(self)],
+            AArch64Relocation::Other(r_type) => r_type,
+            _ => R_TYPES[index(self)],
         }
     }
 
@@ -301,7 +301,7 @@ impl AArch64Relocation {
 
 const NAMES: &[&[AArch64Relocation]] = &relocations!(names AArch64Relocation);
 
-static CODES: &[u32] = &relocations!(codes);
+static R_TYPES: &[u32] = &relocations!(r_types);
 
 static TEXTS: &[&str] = &relocations!(texts);
 
@@ -315,9 +315,9 @@ fn index(name: AArch64Relocation) -> usize
     relocations!(index_of AArch64Relocation, name)
 }
 
-/// What a relocation means. It takes a name; `AArch64Relocation::from_elf` gives the name of a
-/// code. Returns `None` for `Other`. The bias is added before the page mask is applied, and both
-/// before the bits are taken.
+/// What a relocation means. It takes a name; `AArch64Relocation::from_elf` gives the name of an
+/// `r_type`. Returns `None` for `Other`. The bias is added before the page mask is applied, and
+/// both before the bits are taken.
 ///
 /// ```
 /// use linker_utils::aarch64::{AArch64Relocation, relocation_type_from_raw};

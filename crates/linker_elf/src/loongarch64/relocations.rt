@@ -3,7 +3,7 @@
 ghost use Rattle.std.specs.Prelude.{◌≡◌, IfSome};
 ghost use denote.Enum.Declared.{tag_of};
 ghost use Rattle.linker_elf.specs.Agrees.{LoongArchRowAgrees, RowFits};
-ghost use Rattle.linker_elf.specs.ElfNames.{IsNameOf, code_of, text_of};
+ghost use Rattle.linker_elf.specs.ElfNames.{IsNameOf, r_type_of, text_of};
 ghost use Rattle.linker_elf.specs.Readings.{LoongArchRowReadsNoOther};
 ghost use Rattle.linker_elf.specs.LoongArchRelocations.{loongarch_name, loongarch_row};
 ghost use Rattle.linker_elf.specs.LoongArchRelocations.{loongarch_uleb128_role, loongarch_raw_row};
@@ -16,7 +16,7 @@ use crate::elf::{RelocationKind, RelocationKindInfo, Row, SIZE_2KB, Uleb128Role}
 use std::fmt;
 
 /// The relocations of LoongArch, by their names in the LoongArch ELF psABI, "Relocation Types".
-/// `from_elf` takes the code that an ELF file has.
+/// `from_elf` takes the `r_type` that an ELF file has.
 #[derive(Clone, Copy, PartialEq, Eq)]
 #[allow(non_camel_case_types)]
 pub enum LoongArch64Relocation {
@@ -96,11 +96,11 @@ pub enum LoongArch64Relocation {
     R_LARCH_TLS_DESC_PCREL20_S2,
     R_LARCH_CALL30,
     R_LARCH_PCADD_HI20,
-    /// A code without a name here.
+    /// An `r_type` without a name here.
     Other(u32),
 }
 
-/// Each relocation: its code, its name and its row, in the order of the enum of names.
+/// Each relocation: its `r_type`, its name and its row, in the order of the enum of names.
 macro_rules! relocations {
     ($($made:tt)+) => { listed! { ($($made)+) 0 from 0 {
         0 R_LARCH_NONE (None, 0 bytes, any)
@@ -183,29 +183,29 @@ macro_rules! relocations {
 impl fmt::Debug for LoongArch64Relocation {
     fn fmt<W: fmt::Write>(&self, f: &mut fmt::Formatter<W>) -> fmt::Result {
         match self {
-            LoongArch64Relocation::Other(code) => f.debug_tuple("Other").field(code).finish(),
+            LoongArch64Relocation::Other(r_type) => f.debug_tuple("Other").field(r_type).finish(),
             _ => f.write_str(self.name()),
         }
     }
 }
 
 impl LoongArch64Relocation {
-    /// The relocation with a code, `r_type` in ELF files; `Other(code)` for a code without a name.
+    /// The relocation with an `r_type`; `Other(r_type)` for one without a name.
     #[inline(always)]
-    pub fn from_elf(code: u32) -> LoongArch64Relocation
-        ensures { IsNameOf loongarch_name code result }
+    pub fn from_elf(r_type: u32) -> LoongArch64Relocation
+        ensures { IsNameOf loongarch_name r_type result }
     {
-        relocations!(name_of LoongArch64Relocation, code)
+        relocations!(name_of LoongArch64Relocation, r_type)
     }
 
-    /// The code, `r_type` in ELF files.
+    /// The `r_type` in ELF files.
     #[inline]
-    pub fn elf_code(self) -> u32
-        ensures { result ≡ code_of (loongarch_name self) }
+    pub fn r_type(self) -> u32
+        ensures { result ≡ r_type_of (loongarch_name self) }
     {
         match self {
-            LoongArch64Relocation::Other(code) => code,
-            _ => CODES[index(self)],
+            LoongArch64Relocation::Other(r_type) => r_type,
+            _ => R_TYPES[index(self)],
         }
     }
 
@@ -233,7 +233,7 @@ impl LoongArch64Relocation {
 
 const NAMES: &[&[LoongArch64Relocation]] = &relocations!(names LoongArch64Relocation);
 
-static CODES: &[u32] = &relocations!(codes);
+static R_TYPES: &[u32] = &relocations!(r_types);
 
 static TEXTS: &[&str] = &relocations!(texts);
 
@@ -248,8 +248,8 @@ fn index(name: LoongArch64Relocation) -> usize
     relocations!(index_of LoongArch64Relocation, name)
 }
 
-/// What a relocation means. It takes a name; `LoongArch64Relocation::from_elf` gives the name of a
-/// code. Returns `None` for `Other`.
+/// What a relocation means. It takes a name; `LoongArch64Relocation::from_elf` gives the name of an
+/// `r_type`. Returns `None` for `Other`.
 ///
 /// # Ranges of pairs
 ///
@@ -276,7 +276,7 @@ impl RelocationName for LoongArch64Relocation {
 }
 
 /// The row with the kind that the crate `linker-utils` has: there `R_LARCH_ALIGN` has no kind of
-/// its own. Not by the name: LLVM compiles a match of it to a jump by the code.
+/// its own. Not by the name: LLVM compiles a match of it to a jump by the `r_type`.
 #[inline(always)]
 fn with_raw_kind(row: Option<RelocationKindInfo>) -> Option<RelocationKindInfo>
     ensures { result ≡ with_raw_kind row }

@@ -3,7 +3,7 @@
 ghost use Rattle.std.specs.Prelude.{◌≡◌, IfSome};
 ghost use denote.Enum.Declared.{tag_of};
 ghost use Rattle.linker_elf.specs.Agrees.{RowAgrees, RowFits};
-ghost use Rattle.linker_elf.specs.ElfNames.{IsNameOf, code_of, text_of};
+ghost use Rattle.linker_elf.specs.ElfNames.{IsNameOf, r_type_of, text_of};
 ghost use Rattle.linker_elf.specs.Readings.{RowReadsNoOther};
 ghost use Rattle.linker_elf.specs.Ppc64Relocations.{ppc64_name, ppc64_relocation, ppc64_row};
 ghost use Rattle.linker_elf.specs.Rows.{raw_row};
@@ -15,7 +15,7 @@ use crate::elf::{RelocationKindInfo, Row};
 use std::fmt;
 
 /// The relocations of PowerPC64, by their names in the 64-bit ELF V2 ABI for Power, "Relocation
-/// Types". `from_elf` takes the code that an ELF file has.
+/// Types". `from_elf` takes the `r_type` that an ELF file has.
 #[allow(non_camel_case_types)]
 #[derive(Clone, Copy, PartialEq, Eq)]
 pub enum Ppc64Relocation {
@@ -119,11 +119,11 @@ pub enum Ppc64Relocation {
     R_PPC64_REL16_LO,
     R_PPC64_REL16_HI,
     R_PPC64_REL16_HA,
-    /// A code without a name here.
+    /// An `r_type` without a name here.
     Other(u32),
 }
 
-/// Each relocation: its code, its name and its row, in the order of the enum of names.
+/// Each relocation: its `r_type`, its name and its row, in the order of the enum of names.
 macro_rules! relocations {
     ($($made:tt)+) => { listed! { ($($made)+) 0 from 0 {
         0 R_PPC64_NONE (None, 0 bytes, any, own: true)
@@ -238,29 +238,29 @@ macro_rules! relocations {
 impl fmt::Debug for Ppc64Relocation {
     fn fmt<W: fmt::Write>(&self, f: &mut fmt::Formatter<W>) -> fmt::Result {
         match self {
-            Ppc64Relocation::Other(code) => f.debug_tuple("Other").field(code).finish(),
+            Ppc64Relocation::Other(r_type) => f.debug_tuple("Other").field(r_type).finish(),
             _ => f.write_str(self.name()),
         }
     }
 }
 
 impl Ppc64Relocation {
-    /// The relocation with a code, `r_type` in ELF files; `Other(code)` for a code without a name.
+    /// The relocation with an `r_type`; `Other(r_type)` for one without a name.
     #[inline(always)]
-    pub fn from_elf(code: u32) -> Ppc64Relocation
-        ensures { IsNameOf ppc64_name code result }
+    pub fn from_elf(r_type: u32) -> Ppc64Relocation
+        ensures { IsNameOf ppc64_name r_type result }
     {
-        relocations!(name_of Ppc64Relocation, code)
+        relocations!(name_of Ppc64Relocation, r_type)
     }
 
-    /// The code, `r_type` in ELF files.
+    /// The `r_type` in ELF files.
     #[inline]
-    pub fn elf_code(self) -> u32
-        ensures { result ≡ code_of (ppc64_name self) }
+    pub fn r_type(self) -> u32
+        ensures { result ≡ r_type_of (ppc64_name self) }
     {
         match self {
-            Ppc64Relocation::Other(code) => code,
-            _ => CODES[index(self)],
+            Ppc64Relocation::Other(r_type) => r_type,
+            _ => R_TYPES[index(self)],
         }
     }
 
@@ -277,7 +277,7 @@ impl Ppc64Relocation {
 
 const NAMES: &[&[Ppc64Relocation]] = &relocations!(names Ppc64Relocation);
 
-static CODES: &[u32] = &relocations!(codes);
+static R_TYPES: &[u32] = &relocations!(r_types);
 
 static TEXTS: &[&str] = &relocations!(texts);
 
@@ -291,9 +291,9 @@ fn index(name: Ppc64Relocation) -> usize
     relocations!(index_of Ppc64Relocation, name)
 }
 
-/// What a relocation means. It takes a name; `Ppc64Relocation::from_elf` gives the name of a code.
-/// Returns `None` for `Other`. The adjusted parts (`_HA`, `_HIGHA`, `_HIGHERA`, `_HIGHESTA`) have a
-/// bias of 0x8000. Checked halves have a range of 16 signed bits.
+/// What a relocation means. It takes a name; `Ppc64Relocation::from_elf` gives the name of an
+/// `r_type`. Returns `None` for `Other`. The adjusted parts (`_HA`, `_HIGHA`, `_HIGHERA`,
+/// `_HIGHESTA`) have a bias of 0x8000. Checked halves have a range of 16 signed bits.
 ///
 /// The PLT entry of `R_PPC64_PLT16_HA`, `R_PPC64_PLT16_LO_DS`, `R_PPC64_PLT_PCREL34` and its
 /// `_NOTOC` is the doubleword of `.plt` that holds the function's address. `R_PPC64_ENTRY`,

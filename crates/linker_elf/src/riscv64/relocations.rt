@@ -3,7 +3,7 @@
 ghost use Rattle.std.specs.Prelude.{◌≡◌, IfSome};
 ghost use denote.Enum.Declared.{tag_of};
 ghost use Rattle.linker_elf.specs.Agrees.{RowAgrees, RowFits};
-ghost use Rattle.linker_elf.specs.ElfNames.{IsNameOf, code_of, text_of};
+ghost use Rattle.linker_elf.specs.ElfNames.{IsNameOf, r_type_of, text_of};
 ghost use Rattle.linker_elf.specs.Readings.{RowReadsNoOther};
 ghost use Rattle.linker_elf.specs.RiscVRelocations.{riscv_relocation, riscv_name, riscv_row};
 ghost use Rattle.linker_elf.specs.RiscVRelocations.{riscv_uleb128_role, clui_row};
@@ -15,7 +15,7 @@ use crate::elf::{RelocationKindInfo, Row, Uleb128Role};
 use std::fmt;
 
 /// The relocations of RISC-V, by their names in the RISC-V ELF psABI, "Relocations". `from_elf`
-/// takes the code that an ELF file has.
+/// takes the `r_type` that an ELF file has.
 #[derive(Clone, Copy, PartialEq, Eq)]
 pub enum RiscVRelocation {
     R_RISCV_NONE,
@@ -51,7 +51,7 @@ pub enum RiscVRelocation {
     R_RISCV_RVC_BRANCH,
     R_RISCV_RVC_JUMP,
     /// What `R_RISCV_HI20` means once its `lui` has become a `c.lui`, by older versions of the
-    /// psABI; later ones reserve the code. Its range is wider than what `c.lui` holds:
+    /// psABI; later ones reserve the `r_type`. Its range is wider than what `c.lui` holds:
     /// `RelaxationKind::hi20_fits_clui` is the test.
     R_RISCV_RVC_LUI,
     R_RISCV_RELAX,
@@ -71,11 +71,11 @@ pub enum RiscVRelocation {
     R_RISCV_TLSDESC_LOAD_LO12,
     R_RISCV_TLSDESC_ADD_LO12,
     R_RISCV_TLSDESC_CALL,
-    /// A code without a name here.
+    /// An `r_type` without a name here.
     Other(u32),
 }
 
-/// Each relocation: its code, its name and its row, in the order of the enum of names.
+/// Each relocation: its `r_type`, its name and its row, in the order of the enum of names.
 macro_rules! relocations {
     ($($made:tt)+) => { listed! { ($($made)+) 0 from 0 {
         0 R_RISCV_NONE (None, 0 bytes, any)
@@ -132,29 +132,29 @@ macro_rules! relocations {
 impl fmt::Debug for RiscVRelocation {
     fn fmt<W: fmt::Write>(&self, f: &mut fmt::Formatter<W>) -> fmt::Result {
         match self {
-            RiscVRelocation::Other(code) => f.debug_tuple("Other").field(code).finish(),
+            RiscVRelocation::Other(r_type) => f.debug_tuple("Other").field(r_type).finish(),
             _ => f.write_str(self.name()),
         }
     }
 }
 
 impl RiscVRelocation {
-    /// The relocation with a code, `r_type` in ELF files; `Other(code)` for a code without a name.
+    /// The relocation with an `r_type`; `Other(r_type)` for one without a name.
     #[inline(always)]
-    pub fn from_elf(code: u32) -> RiscVRelocation
-        ensures { IsNameOf riscv_name code result }
+    pub fn from_elf(r_type: u32) -> RiscVRelocation
+        ensures { IsNameOf riscv_name r_type result }
     {
-        relocations!(name_of RiscVRelocation, code)
+        relocations!(name_of RiscVRelocation, r_type)
     }
 
-    /// The code, `r_type` in ELF files.
+    /// The `r_type` in ELF files.
     #[inline]
-    pub fn elf_code(self) -> u32
-        ensures { result ≡ code_of (riscv_name self) }
+    pub fn r_type(self) -> u32
+        ensures { result ≡ r_type_of (riscv_name self) }
     {
         match self {
-            RiscVRelocation::Other(code) => code,
-            _ => CODES[index(self)],
+            RiscVRelocation::Other(r_type) => r_type,
+            _ => R_TYPES[index(self)],
         }
     }
 
@@ -182,7 +182,7 @@ impl RiscVRelocation {
 
 const NAMES: &[&[RiscVRelocation]] = &relocations!(names RiscVRelocation);
 
-static CODES: &[u32] = &relocations!(codes);
+static R_TYPES: &[u32] = &relocations!(r_types);
 
 static TEXTS: &[&str] = &relocations!(texts);
 
@@ -196,8 +196,8 @@ fn index(name: RiscVRelocation) -> usize
     relocations!(index_of RiscVRelocation, name)
 }
 
-/// What a relocation means. It takes a name; `RiscVRelocation::from_elf` gives the name of a code.
-/// Returns `None` for `Other`.
+/// What a relocation means. It takes a name; `RiscVRelocation::from_elf` gives the name of an
+/// `r_type`. Returns `None` for `Other`.
 ///
 /// The value of the relocations of TLS descriptors ("TLS Descriptors") is the distance from the
 /// place to the descriptor's GOT entry. The place of `R_RISCV_TLSDESC_LOAD_LO12` and

@@ -2,7 +2,7 @@
 
 ghost use Rattle.std.specs.Prelude.{◌≡◌};
 ghost use denote.Enum.Declared.{tag_of};
-ghost use Rattle.linker_elf.specs.ElfNames.{IsNameOf, code_of, text_of};
+ghost use Rattle.linker_elf.specs.ElfNames.{IsNameOf, r_type_of, text_of};
 ghost use Rattle.linker_elf.specs.Rows.{raw_row};
 ghost use Rattle.linker_elf.specs.X86Relocations.{x86_64_name, x86_64_relocation, x86_64_row};
 ghost use Rattle.linker_elf.specs.contracts.x86_64.relocations.X86_64Relocation as names;
@@ -13,7 +13,7 @@ use crate::elf::{RelocationKindInfo, Row};
 use std::fmt;
 
 /// The relocations of x86-64, by their names in the x86-64 psABI, "Relocation Types". `from_elf`
-/// takes the code that an ELF file has.
+/// takes the `r_type` that an ELF file has.
 #[allow(non_camel_case_types)]
 #[derive(Clone, Copy, PartialEq, Eq)]
 pub enum X86_64Relocation {
@@ -59,11 +59,11 @@ pub enum X86_64Relocation {
     R_X86_64_CODE_6_GOTPCRELX,
     R_X86_64_CODE_6_GOTTPOFF,
     R_X86_64_CODE_6_GOTPC32_TLSDESC,
-    /// A code without a name here.
+    /// An `r_type` without a name here.
     Other(u32),
 }
 
-/// Each relocation: its code, its name and its row, in the order of the enum of names.
+/// Each relocation: its `r_type`, its name and its row, in the order of the enum of names.
 macro_rules! relocations {
     ($($made:tt)+) => { listed! { ($($made)+) {
         0 R_X86_64_NONE (None, 0 bytes, any)
@@ -112,29 +112,29 @@ macro_rules! relocations {
 impl fmt::Debug for X86_64Relocation {
     fn fmt<W: fmt::Write>(&self, f: &mut fmt::Formatter<W>) -> fmt::Result {
         match self {
-            X86_64Relocation::Other(code) => f.debug_tuple("Other").field(code).finish(),
+            X86_64Relocation::Other(r_type) => f.debug_tuple("Other").field(r_type).finish(),
             _ => f.write_str(self.name()),
         }
     }
 }
 
 impl X86_64Relocation {
-    /// The relocation with a code, `r_type` in ELF files; `Other(code)` for a code without a name.
+    /// The relocation with an `r_type`; `Other(r_type)` for one without a name.
     #[inline(always)]
-    pub fn from_elf(code: u32) -> X86_64Relocation
-        ensures { IsNameOf x86_64_name code result }
+    pub fn from_elf(r_type: u32) -> X86_64Relocation
+        ensures { IsNameOf x86_64_name r_type result }
     {
-        relocations!(name_of X86_64Relocation, code)
+        relocations!(name_of X86_64Relocation, r_type)
     }
 
-    /// The code, `r_type` in ELF files.
+    /// The `r_type` in ELF files.
     #[inline]
-    pub fn elf_code(self) -> u32
-        ensures { result ≡ code_of (x86_64_name self) }
+    pub fn r_type(self) -> u32
+        ensures { result ≡ r_type_of (x86_64_name self) }
     {
         match self {
-            X86_64Relocation::Other(code) => code,
-            _ => CODES[index(self)],
+            X86_64Relocation::Other(r_type) => r_type,
+            _ => R_TYPES[index(self)],
         }
     }
 
@@ -149,11 +149,11 @@ impl X86_64Relocation {
     }
 }
 
-static CODES: &[u32] = &relocations!(codes);
+static R_TYPES: &[u32] = &relocations!(r_types);
 
 static TEXTS: &[&str] = &relocations!(texts);
 
-/// A constant, from which LLVM knows which codes have a row, and what all rows share.
+/// A constant, from which LLVM knows which types have a row, and what all rows share.
 const ROWS: &[Option<TableRow>] = &relocations!(table []);
 
 /// The index of a name in the table.
@@ -164,9 +164,9 @@ fn index(name: X86_64Relocation) -> usize
     relocations!(index_of X86_64Relocation, name)
 }
 
-/// What a relocation means. It takes a name; `X86_64Relocation::from_elf` gives the name of a code.
-/// Returns `None` for `Other`. Fields of 8 bytes are not checked. An address in 16 or 8 bits may be
-/// signed or unsigned.
+/// What a relocation means. It takes a name; `X86_64Relocation::from_elf` gives the name of an
+/// `r_type`. Returns `None` for `Other`. Fields of 8 bytes are not checked. An address in 16 or 8
+/// bits may be signed or unsigned.
 #[inline(always)]
 pub fn row(name: X86_64Relocation) -> Option<Row>
     ensures { result ≡ x86_64_row name }

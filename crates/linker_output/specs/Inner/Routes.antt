@@ -10,9 +10,9 @@ abbrev pub IsUnserved : Option RelocationKindInfo → Type 0
 IsUnserved None = ⊤
 IsUnserved (Some row) = may_use_stub row.size row.kind ≡ false
 
--- the row of a code, if a stub may serve its relocations
+-- the row of an `r_type`, if a stub may serve its relocations
 abbrev pub IsServedRow : Architecture → ℕ → Option RelocationKindInfo → Type 0
-IsServedRow architecture code None =
-    (row : Option RelocationKindInfo) × IsRow architecture code row × IsUnserved row
-IsServedRow architecture code (Some row) =
-    IsRow architecture code (Some row) × (may_use_stub row.size row.kind ≡ true)
+IsServedRow architecture r_type None =
+    (row : Option RelocationKindInfo) × IsRow architecture r_type row × IsUnserved row
+IsServedRow architecture r_type (Some row) =
+    IsRow architecture r_type (Some row) × (may_use_stub row.size row.kind ≡ true)

@@ -4,7 +4,7 @@ ghost use Rattle.std.specs.Prelude.{◌≡◌, ℕ, ◌-◌, ◌^◌, ◌<◌, �
 ghost use Rattle.std.specs.Prelude.{length, min, slice_get, slice_set, take, Option, Some};
 ghost use Rattle.linker_base.specs.declared.rewrite.DeletedBytes.{DeletedBytes};
 ghost use Rattle.linker_elf.specs.Choices.{choice};
-ghost use Rattle.linker_elf.specs.ElfNames.{code_of};
+ghost use Rattle.linker_elf.specs.ElfNames.{r_type_of};
 ghost use Rattle.linker_elf.specs.declared.elf.choice.Choice.{Choice};
 ghost use Rattle.linker_elf.specs.declared.elf.choice.LinkFacts.{LinkFacts};
 ghost use Rattle.linker_reading.specs.FieldsOfBytes.{is_in, is_in_field};
@@ -130,9 +130,9 @@ pub trait RecognisedName: RelocationName + PartialEq + 'static {
     // the tables and relocations
     ghost how: { Recogniser Self.Kind Self };
 
-    /// The code, `r_type` in ELF files.
-    fn code(self) -> u32
-        ensures { result ≡ code_of (how.elf_name self) };
+    /// The `r_type` in ELF files.
+    fn elf_type(self) -> u32
+        ensures { result ≡ r_type_of (how.elf_name self) };
 
     /// A rewrite as one of all architectures'.
     fn relaxation(kind: Self::Kind) -> Relaxation

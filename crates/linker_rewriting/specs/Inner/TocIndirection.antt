@@ -6,6 +6,6 @@ abbrev pub IsThatWord : Option ℕ → ℕ → Type 0
 IsThatWord None word = ⊥
 IsThatWord (Some that) word = word ≡ that
 
--- a relocation with another code
-abbrev pub with_code : ℕ → Rela → Rela
-with_code code r = record r { code = code }
+-- a relocation with another `r_type`
+abbrev pub with_r_type : ℕ → Rela → Rela
+with_r_type r_type r = record r { r_type = r_type }

@@ -80,7 +80,7 @@ pub record AreSwept (architecture : Architecture) (bytes section order : List �
 abbrev pub IsPast : Architecture → Rela → Rela → Type 0
 IsPast architecture last next =
     (last.offset ≤ next.offset)
-    × ((row : RelocationKindInfo) (there : List ℕ) → IsRow architecture last.code (Some row)
+    × ((row : RelocationKindInfo) (there : List ℕ) → IsRow architecture last.r_type (Some row)
     → field_len row there ≤ 10 → last.offset + field_len row there ≤ next.offset)
 
 -- each field has at most ten bytes

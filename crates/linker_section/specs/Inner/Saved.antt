@@ -35,6 +35,6 @@ saved_place (Some row) offset = if ends_pair row.size row.kind then sum_64 offse
 abbrev pub Restores : Architecture → List ℕ → List ℕ → ℕ → List ℕ → List ℕ → Type 0
 Restores architecture bytes memory zero now before = now ≡ before
 Restores architecture bytes memory (suc n) now before =
-    (row : Option RelocationKindInfo) × IsRow architecture (relocation_in bytes n).code row
+    (row : Option RelocationKindInfo) × IsRow architecture (relocation_in bytes n).r_type row
     × Restores architecture bytes memory n
     (with_word (saved_place row (relocation_in bytes n).offset) (slice_index memory n) now) before

@@ -51,19 +51,19 @@ pub record IsSecond (architecture : Architecture) (bytes : List ℕ) (i : ℕ) :
   pub within : i + 1 < length bytes / 24
   pub same_offset : offset_at bytes (i + 1) ≡ offset_at bytes i
   pub other : RelocationKindInfo
-  pub is_other : IsRow architecture (relocation_in bytes (i + 1)).code (Some other)
+  pub is_other : IsRow architecture (relocation_in bytes (i + 1)).r_type (Some other)
   pub ends : ends_pair other.size other.kind ≡ true
 
 -- the relocation at an index is of no pair
 abbrev pub IsAlone : Architecture → List ℕ → ℕ → Type 0
 IsAlone architecture bytes i =
-    (row : RelocationKindInfo) → IsRow architecture (relocation_in bytes i).code (Some row)
+    (row : RelocationKindInfo) → IsRow architecture (relocation_in bytes i).r_type (Some row)
     → is_of_pair row ≡ false
 
 -- it has no value, and no field
 abbrev pub HasNoValue : Architecture → List ℕ → ℕ → Type 0
 HasNoValue architecture bytes i =
-    (row : RelocationKindInfo) → IsRow architecture (relocation_in bytes i).code (Some row)
+    (row : RelocationKindInfo) → IsRow architecture (relocation_in bytes i).r_type (Some row)
     → has_value row.kind ≡ false
 
 -- why the number of the pair at an index isn't written
@@ -88,7 +88,7 @@ pub record Ascends (architecture : Architecture) (bytes before now : List ℕ) (
   pub apart : AreApart architecture bytes before k
   pub claimed : AreClaimed architecture bytes before (λ i. i < k) last
   pub no_pair : (i : ℕ) (row : RelocationKindInfo) → i + 1 ≡ k
-      → IsRow architecture (relocation_in bytes i).code (Some row)
+      → IsRow architecture (relocation_in bytes i).r_type (Some row)
       → begins_pair row.size row.kind ≡ false
   pub inside : 0 < last.len → last.offset + last.len ≤ length before
   pub following : (offset : ℕ) → last.offset + last.len ≤ offset → drop offset now ≡ drop offset before
@@ -111,7 +111,7 @@ pub record IsStopped (architecture : Architecture) (addresses : Addresses) (byte
 pub record IsUnvalued (architecture : Architecture) (addresses : Addresses) (bytes : List ℕ)
     (values : Values) (left_out : ℕ → Bool) (i : ℕ) : Type 0 where
   pub row : Option RelocationKindInfo
-  pub is_row : IsRow architecture (relocation_in bytes i).code row
+  pub is_row : IsRow architecture (relocation_in bytes i).r_type row
   pub is_value : values architecture addresses bytes i (Ok None)
   pub alone : IsAlone architecture bytes i
   pub none : left_out i ≡ false → HasNoValue architecture bytes i
@@ -171,7 +171,7 @@ IsStep architecture addresses bytes values limit before i now memory (Err error)
 pub record IsOwnField (architecture : Architecture) (bytes : List ℕ) (i : ℕ) (field : Field)
     : Type 0 where
   pub row : RelocationKindInfo
-  pub is_row : IsRow architecture (relocation_in bytes i).code (Some row)
+  pub is_row : IsRow architecture (relocation_in bytes i).r_type (Some row)
   pub is_field : field
       ≡ record { offset = offset_at bytes i; len = window_len row; kind = row.kind }
 

@@ -6,7 +6,7 @@ ghost use Rattle.linker_utils.specs.AArch64Rewrites as rewrites;
 ghost use Rattle.linker_utils.specs.Inner.AArch64Choices.{MatchesPattern, aarch64_tables};
 ghost use Rattle.linker_utils.specs.declared.aarch64.rewrites.RewriteKind.TheVariants as kinds;
 ghost use Rattle.linker_elf.specs.Choices.{Fits, choice, operands_after};
-ghost use Rattle.linker_elf.proofs.SameNames.{equalities, exact_code};
+ghost use Rattle.linker_elf.proofs.SameNames.{equalities, exact_r_type};
 ghost use Rattle.linker_elf.specs.contracts.aarch64.relocations.AArch64Relocation.{enum as names};
 
 use super::rewrites::{RewriteKind, test, tests};
@@ -75,7 +75,7 @@ impl RewriteSet for RewriteKind {
 
     ghost tables = { aarch64_tables };
 
-    ghost laws = { equalities kinds.NoOp names (λ x y. x.0 == y.0, tt) (exact_code, tt) };
+    ghost laws = { equalities kinds.NoOp names (λ x y. x.0 == y.0, tt) (exact_r_type, tt) };
 
     #[inline(always)]
     fn matches_at(self, originals: &Pattern, section: &[u8], offset: u64) -> bool {

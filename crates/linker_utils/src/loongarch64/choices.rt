@@ -3,7 +3,7 @@
 ghost use Rattle.std.specs.Prelude.{◌==◌, ◌↔◌, IsTrue};
 ghost use Rattle.linker_base.specs.Rewrite.{CanRewrite};
 ghost use Rattle.linker_elf.specs.Choices.{Fits, choice};
-ghost use Rattle.linker_elf.proofs.SameNames.{equalities, exact_code};
+ghost use Rattle.linker_elf.proofs.SameNames.{equalities, exact_r_type};
 ghost use Rattle.linker_elf.specs.contracts.loongarch64.relocations.LoongArch64Relocation.{enum as names};
 ghost use Rattle.linker_utils.specs.Inner.LoongArchPattern.{matches_pattern, loongarch_tables};
 ghost use Rattle.linker_utils.specs.LoongArchRewrites as rewrites;
@@ -60,7 +60,7 @@ impl RewriteSet for RewriteKind {
 
     ghost tables = { loongarch_tables };
 
-    ghost laws = { equalities kinds.NoOp names (λ x y. x.0 == y.0, tt) (exact_code, tt) };
+    ghost laws = { equalities kinds.NoOp names (λ x y. x.0 == y.0, tt) (exact_r_type, tt) };
 
     #[inline(always)]
     fn matches_at(self, originals: &Pattern, section: &[u8], offset: u64) -> bool {

@@ -3,7 +3,7 @@
 ghost use Rattle.std.specs.Prelude.{◌==◌, ◌↔◌, IsTrue};
 ghost use Rattle.linker_base.specs.Rewrite.{CanRewrite};
 ghost use Rattle.linker_elf.specs.Choices.{Fits, choice};
-ghost use Rattle.linker_elf.proofs.SameNames.{equalities, exact_code};
+ghost use Rattle.linker_elf.proofs.SameNames.{equalities, exact_r_type};
 ghost use Rattle.linker_elf.specs.contracts.ppc64.relocations.Ppc64Relocation.{enum as names};
 ghost use Rattle.linker_utils.specs.Inner.Ppc64Choices.{MatchesPattern, ppc64_tables};
 ghost use Rattle.linker_utils.specs.Ppc64Rewrites as rewrites;
@@ -31,7 +31,7 @@ impl RewriteSet for RewriteKind {
 
     ghost tables = { ppc64_tables };
 
-    ghost laws = { equalities kinds.NoOp names (λ x y. x.0 == y.0, tt) (exact_code, tt) };
+    ghost laws = { equalities kinds.NoOp names (λ x y. x.0 == y.0, tt) (exact_r_type, tt) };
 
     #[inline(always)]
     fn matches_at(self, originals: &Pattern, section: &[u8], offset: u64) -> bool {

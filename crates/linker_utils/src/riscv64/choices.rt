@@ -4,7 +4,7 @@ ghost use Rattle.std.specs.Prelude.{◌==◌, ◌≡◌, ◌↔◌, IsTrue};
 ghost use Rattle.std.specs.Int.{cast_unsigned, w64};
 ghost use Rattle.linker_base.specs.Rewrite.{CanRewrite};
 ghost use Rattle.linker_elf.specs.Choices.{Fits, choice};
-ghost use Rattle.linker_elf.proofs.SameNames.{equalities, exact_code};
+ghost use Rattle.linker_elf.proofs.SameNames.{equalities, exact_r_type};
 ghost use Rattle.linker_elf.specs.contracts.riscv64.relocations.RiscVRelocation.{enum as names};
 ghost use Rattle.linker_elf.specs.Value.{sum_64};
 ghost use Rattle.linker_utils.specs.Inner.RiscVChoices.{IsThere, riscv_tables};
@@ -40,7 +40,7 @@ impl RewriteSet for RewriteKind {
 
     ghost tables = { riscv_tables };
 
-    ghost laws = { equalities kinds.NoOp names (λ x y. x.0 == y.0, tt) (exact_code, tt) };
+    ghost laws = { equalities kinds.NoOp names (λ x y. x.0 == y.0, tt) (exact_r_type, tt) };
 
     #[inline(always)]
     fn matches_at(self, originals: &Pattern, section: &[u8], offset: u64) -> bool {

@@ -3,7 +3,7 @@
 ghost use Rattle.std.specs.Prelude.{◌==◌, ◌-◌, ◌≡◌, ◌≤◌, ◌↔◌, IsTrue, length, slice_index};
 ghost use Rattle.linker_elf.specs.Choices.{Fits, choice};
 ghost use Rattle.linker_elf.specs.Inner.ChoiceTables.{IsTableOf};
-ghost use Rattle.linker_elf.proofs.SameNames.{equalities, exact_code};
+ghost use Rattle.linker_elf.proofs.SameNames.{equalities, exact_r_type};
 ghost use Rattle.linker_elf.specs.contracts.x86_64.relocations.X86_64Relocation.{enum as names};
 ghost use Rattle.linker_utils.specs.Inner.X86Tables.{MatchesPattern, none_sampled, x86_64_tables};
 ghost use Rattle.linker_utils.specs.X86Rewrites as rewrites;
@@ -37,7 +37,7 @@ impl RewriteSet for RewriteKind {
 
     ghost tables = { x86_64_tables };
 
-    ghost laws = { equalities kinds.NoOp names (λ x y. x.0 == y.0, tt) (exact_code, tt) };
+    ghost laws = { equalities kinds.NoOp names (λ x y. x.0 == y.0, tt) (exact_r_type, tt) };
 
     #[inline(always)]
     fn matches_at(self, originals: &Pattern, section: &[u8], offset: u64) -> bool {

@@ -8,7 +8,7 @@ use crate::linker_elf::elf::{RelocationKindInfo, Row};
 use core::fmt;
 
 /// The relocations of AArch64, by their names in ELF for the Arm 64-bit Architecture, "Relocation".
-/// `from_elf` takes the code that an ELF file has.
+/// `from_elf` takes the `r_type` that an ELF file has.
 #[cfg_attr(not(exhaustive), non_exhaustive)]
 #[derive(Clone, Copy, PartialEq, Eq, Hash, PartialOrd, Ord)]
 pub enum AArch64Relocation {
@@ -126,11 +126,11 @@ pub enum AArch64Relocation {
     R_AARCH64_TLSLE_LDST128_TPREL_LO12_NC,
     R_AARCH64_TLSLD_LDST128_DTPREL_LO12,
     R_AARCH64_TLSLD_LDST128_DTPREL_LO12_NC,
-    /// A code without a name here.
+    /// An `r_type` without a name here.
     Other(u32),
 }
 
-/// Each relocation: its code, its name and its row, in the order of the enum of names.
+/// Each relocation: its `r_type`, its name and its row, in the order of the enum of names.
 macro_rules! relocations {
     ($($made:tt)+) => { listed! { ($($made)+) 0 from 0 {
         0 R_AARCH64_NONE (None, 0 bytes, any)
@@ -257,27 +257,27 @@ macro_rules! relocations {
 impl fmt::Debug for AArch64Relocation {
     fn fmt(&self, f: &mut fmt::Formatter<'_>) -> fmt::Result {
         match self {
-            AArch64Relocation::Other(code) => f.debug_tuple("Other").field(code).finish(),
+            AArch64Relocation::Other(r_type) => f.debug_tuple("Other").field(r_type).finish(),
             _ => f.write_str(self.name()),
         }
     }
 }
 
 impl AArch64Relocation {
-    /// The relocation with a code, `r_type` in ELF files; `Other(code)` for a code without a name.
+    /// The relocation with an `r_type`; `Other(r_type)` for one without a name.
     #[must_use]
     #[inline(always)]
-    pub const fn from_elf(code: u32) -> AArch64Relocation {
-        relocations!(name_of AArch64Relocation, code)
+    pub const fn from_elf(r_type: u32) -> AArch64Relocation {
+        relocations!(name_of AArch64Relocation, r_type)
     }
 
-    /// The code, `r_type` in ELF files.
+    /// The `r_type` in ELF files.
     #[must_use]
     #[inline]
-    pub const fn elf_code(self) -> u32 {
+    pub const fn r_type(self) -> u32 {
         match self {
-            AArch64Relocation::Other(code) => code,
-            _ => CODES[index(self)],
+            AArch64Relocation::Other(r_type) => r_type,
+            _ => R_TYPES[index(self)],
         }
     }
 
@@ -293,7 +293,7 @@ impl AArch64Relocation {
 
 const NAMES: &[&[AArch64Relocation]] = &relocations!(names AArch64Relocation);
 
-static CODES: &[u32] = &relocations!(codes);
+static R_TYPES: &[u32] = &relocations!(r_types);
 
 static TEXTS: &[&str] = &relocations!(texts);
 
@@ -305,9 +305,9 @@ const fn index(name: AArch64Relocation) -> usize {
     relocations!(index_of AArch64Relocation, name)
 }
 
-/// What a relocation means. It takes a name; [`AArch64Relocation::from_elf`](crate::aarch64::AArch64Relocation::from_elf) gives the name of a
-/// code. Returns `None` for `Other`. The bias is added before the page mask is applied, and both
-/// before the bits are taken.
+/// What a relocation means. It takes a name; [`AArch64Relocation::from_elf`](crate::aarch64::AArch64Relocation::from_elf) gives the name of an
+/// `r_type`. Returns `None` for `Other`. The bias is added before the page mask is applied, and
+/// both before the bits are taken.
 ///
 /// ```
 /// use linker_utils::aarch64::{AArch64Relocation, relocation_type_from_raw};

@@ -1,7 +1,6 @@
 // SPDX-License-Identifier: MIT OR Apache-2.0
 // Made by tools/generate of crates/linker_elf/src/elf/architecture.rt.
-//! The architectures: their relocations by codes (`r_type`) and handles, and their forms by
-//! numbers.
+//! The architectures: their relocations by `r_type` and handles, and their forms by numbers.
 
 use super::{ApplyError, Operands, RelocationInstruction, Row, Uleb128Role};
 #[cfg(feature = "aarch64")]
@@ -20,7 +19,7 @@ use crate::linker_elf::loongarch64::LoongArch64Relocation;
 use crate::linker_elf::riscv64::RiscVRelocation;
 use crate::linker_base::utils::{self, Uleb128Error};
 
-/// How many handles an architecture has: one for each code below.
+/// How many handles an architecture has: one for each `r_type` below.
 pub const HANDLE_UNIT: u32 = 0x1_0000;
 
 /// Why a pair of relocations at a ULEB128 number isn't written.
@@ -109,25 +108,25 @@ macro_rules! by_architecture {
 pub(crate) use by_architecture;
 
 macro_rules! row_of {
-    ($of:ident $module:ident $names:ident ($code:expr)) => {
-        crate::linker_elf::$module::row(crate::linker_elf::$module::$names::from_elf($code))
+    ($of:ident $module:ident $names:ident ($r_type:expr)) => {
+        crate::linker_elf::$module::row(crate::linker_elf::$module::$names::from_elf($r_type))
     };
 }
 
-/// `Architecture::apply`. Each listed code has code of its own, of which LLVM leaves what is the
-/// formula's and the form's.
+/// `Architecture::apply`. Each listed `r_type` has code of its own, of which LLVM leaves what is
+/// the formula's and the form's.
 macro_rules! applied {
-    (($architecture:expr, $code:expr, $operands:expr, $dest:expr) $($often:literal)+) => {
-        match $code {
-            $($often => $architecture.apply_in($code, $operands, $dest, true),)+
-            _ => $architecture.apply_in($code, $operands, $dest, false),
+    (($architecture:expr, $r_type:expr, $operands:expr, $dest:expr) $($often:literal)+) => {
+        match $r_type {
+            $($often => $architecture.apply_in($r_type, $operands, $dest, true),)+
+            _ => $architecture.apply_in($r_type, $operands, $dest, false),
         }
     };
 }
 
 macro_rules! text_of {
-    ($of:ident $module:ident $names:ident ($code:expr)) => {
-        match crate::linker_elf::$module::$names::from_elf($code) {
+    ($of:ident $module:ident $names:ident ($r_type:expr)) => {
+        match crate::linker_elf::$module::$names::from_elf($r_type) {
             crate::linker_elf::$module::$names::Other(_) => None,
             name => Some(name.name()),
         }
@@ -167,8 +166,8 @@ impl Architecture {
         self as u16
     }
 
-    /// What the relocation with a code, `r_type` in ELF files, means. None of a code without a
-    /// name, and of names without a row.
+    /// What the relocation with an `r_type` means. None of one without a name, and of names without
+    /// a row.
     ///
     /// ```
     /// use linker_utils::elf::Architecture;
@@ -178,12 +177,12 @@ impl Architecture {
     /// ```
     #[must_use]
     #[inline(always)]
-    pub const fn row(self, code: u32) -> Option<Row> {
-        by_architecture!(self, row_of(code))
+    pub const fn row(self, r_type: u32) -> Option<Row> {
+        by_architecture!(self, row_of(r_type))
     }
 
-    /// Computes the value of the relocation with a code and writes it, as [`Row::apply`](crate::elf::Row::apply) does. None
-    /// of a code without a row, and nothing is written.
+    /// Computes the value of the relocation with an `r_type` and writes it, as [`Row::apply`](crate::elf::Row::apply) does.
+    /// None of one without a row, and nothing is written.
     ///
     /// ```
     /// use linker_utils::elf::{Architecture, Operands};
@@ -197,26 +196,28 @@ impl Architecture {
     #[inline(always)]
     pub fn apply(
         self,
-        code: u32,
+        r_type: u32,
         operands: &Operands,
         dest: &mut [u8],
     ) -> Option<Result<(), ApplyError>> {
         match self {
             // ADR_PREL_PG_HI21, ADD_ABS_LO12_NC, JUMP26, CALL26, LDST64_ABS_LO12_NC
             #[cfg(feature = "aarch64")]
-            Architecture::AArch64 => { applied!((self, code, operands, dest) 275 277 282 283 286) }
+            Architecture::AArch64 => {
+                applied!((self, r_type, operands, dest) 275 277 282 283 286)
+            }
             // BRANCH, JAL, CALL_PLT, PCREL_HI20, PCREL_LO12_I
             #[cfg(feature = "riscv64")]
-            Architecture::RiscV => applied!((self, code, operands, dest) 16 17 19 23 24),
+            Architecture::RiscV => applied!((self, r_type, operands, dest) 16 17 19 23 24),
             // 64, B26, PCALA_HI20, CALL36
             #[cfg(feature = "loongarch64")]
-            Architecture::LoongArch64 => applied!((self, code, operands, dest) 2 66 71 110),
+            Architecture::LoongArch64 => applied!((self, r_type, operands, dest) 2 66 71 110),
             // REL24, ADDR64, TOC16_LO, TOC16_HA
             #[cfg(feature = "ppc64")]
-            Architecture::Ppc64 => applied!((self, code, operands, dest) 10 38 48 50),
+            Architecture::Ppc64 => applied!((self, r_type, operands, dest) 10 38 48 50),
             // 64, PC32, PLT32, GOTPCREL, 32S, REX_GOTPCRELX
             #[cfg(feature = "x86_64")]
-            Architecture::X86_64 => applied!((self, code, operands, dest) 1 2 4 9 11 42),
+            Architecture::X86_64 => applied!((self, r_type, operands, dest) 1 2 4 9 11 42),
         }
     }
 
@@ -224,19 +225,19 @@ impl Architecture {
     #[inline(always)]
     fn apply_in(
         self,
-        code: u32,
+        r_type: u32,
         operands: &Operands,
         dest: &mut [u8],
         in_place: bool,
     ) -> Option<Result<(), ApplyError>> {
-        match self.row(code) {
+        match self.row(r_type) {
             Some(row) => Some(row.apply_in(operands, dest, in_place)),
             None => None,
         }
     }
 
-    /// The handle of the relocation with a code: a number that names both, by which the library
-    /// for C looks it up. 0 of a code without a row.
+    /// The handle of the relocation with an `r_type`: a number that names both, by which the
+    /// library for C looks it up. 0 of one without a row.
     ///
     /// ```
     /// use linker_utils::elf::{Architecture, HANDLE_UNIT};
@@ -248,10 +249,10 @@ impl Architecture {
     /// assert_eq!(Architecture::X86_64.handle(5), 0);
     /// ```
     #[must_use]
-    pub fn handle(self, code: u32) -> u32 {
-        match self.row(code) {
-            // codes with a row are below the unit
-            Some(_) => self.first_handle() + code % HANDLE_UNIT,
+    pub fn handle(self, r_type: u32) -> u32 {
+        match self.row(r_type) {
+            // types with a row are below the unit
+            Some(_) => self.first_handle() + r_type % HANDLE_UNIT,
             None => 0,
         }
     }
@@ -261,23 +262,23 @@ impl Architecture {
         architectures!([first_of](self))
     }
 
-    /// The architecture of a handle, whose code is the rest by [`HANDLE_UNIT`](crate::elf::HANDLE_UNIT). None of a number that
-    /// is no handle.
+    /// The architecture of a handle, whose `r_type` is the rest by [`HANDLE_UNIT`](crate::elf::HANDLE_UNIT). None of a number
+    /// that is no handle.
     #[must_use]
     #[inline(always)]
     pub fn of_handle(handle: u32) -> Option<Architecture> {
         architectures!([of_handle](handle))
     }
 
-    /// The name of a relocation in its psABI, as "R_AARCH64_CALL26", of at most 39 bytes. None of a
-    /// code without a name.
+    /// The name of a relocation in its psABI, as "R_AARCH64_CALL26", of at most 39 bytes. None of
+    /// one without a name.
     #[must_use]
-    pub const fn name(self, code: u32) -> Option<&'static str> {
-        by_architecture!(self, text_of(code))
+    pub const fn name(self, r_type: u32) -> Option<&'static str> {
+        by_architecture!(self, text_of(r_type))
     }
 
-    /// Whether the relocation with a code requires a GOT entry, as
-    /// [`Row::asks_for_got`](crate::elf::Row::asks_for_got) says. False of a code without a row.
+    /// Whether the relocation with an `r_type` requires a GOT entry, as [`Row::asks_for_got`](crate::elf::Row::asks_for_got) says.
+    /// False of one without a row.
     ///
     /// ```
     /// use linker_utils::elf::Architecture;
@@ -287,15 +288,15 @@ impl Architecture {
     /// assert!(!Architecture::X86_64.asks_for_got(26));
     /// ```
     #[must_use]
-    pub fn asks_for_got(self, code: u32) -> bool {
-        match self.row(code) {
+    pub fn asks_for_got(self, r_type: u32) -> bool {
+        match self.row(r_type) {
             Some(row) => row.asks_for_got(),
             None => false,
         }
     }
 
-    /// Whether an entry of the PLT may serve as the target of the relocation with a code, as
-    /// [`Row::may_use_plt`](crate::elf::Row::may_use_plt) says. False of a code without a row.
+    /// Whether an entry of the PLT may serve as the target of the relocation with an `r_type`, as
+    /// [`Row::may_use_plt`](crate::elf::Row::may_use_plt) says. False of one without a row.
     ///
     /// ```
     /// use linker_utils::elf::Architecture;
@@ -305,8 +306,8 @@ impl Architecture {
     /// assert!(!Architecture::AArch64.may_use_plt(257));
     /// ```
     #[must_use]
-    pub fn may_use_plt(self, code: u32) -> bool {
-        match self.row(code) {
+    pub fn may_use_plt(self, r_type: u32) -> bool {
+        match self.row(r_type) {
             Some(row) => row.may_use_plt(),
             None => false,
         }
@@ -315,18 +316,18 @@ impl Architecture {
     /// What a relocation of a ULEB128 number does; `None` for all others. There are two of them at
     /// one number: `write_uleb128_pair` writes what both make of it.
     #[must_use]
-    pub fn uleb128_role(self, code: u32) -> Option<Uleb128Role> {
+    pub fn uleb128_role(self, r_type: u32) -> Option<Uleb128Role> {
         match self {
             #[cfg(feature = "riscv64")]
-            Architecture::RiscV => RiscVRelocation::from_elf(code).uleb128_role(),
+            Architecture::RiscV => RiscVRelocation::from_elf(r_type).uleb128_role(),
             #[cfg(feature = "loongarch64")]
-            Architecture::LoongArch64 => LoongArch64Relocation::from_elf(code).uleb128_role(),
+            Architecture::LoongArch64 => LoongArch64Relocation::from_elf(r_type).uleb128_role(),
             _ => None,
         }
     }
 
     /// Writes what two relocations make of the ULEB128 number that `dest` begins with, in as many
-    /// bytes: `code` is that of the first, and `first` and `second` are their values, S + A. With
+    /// bytes: `r_type` is that of the first, and `first` and `second` are their values, S + A. With
     /// `R_RISCV_SET_ULEB128` and `R_RISCV_SUB_ULEB128` it is the difference of both, and with
     /// `R_LARCH_ADD_ULEB128` and `R_LARCH_SUB_ULEB128` the existing number plus that, modulo 2^64.
     /// Bytes after the number are unchanged, and it is padded as `utils::write_uleb128` does.
@@ -342,17 +343,17 @@ impl Architecture {
     ///
     /// # Errors
     ///
-    /// `NotFirst` if the relocation with the code is neither of those that set or add. Else
+    /// `NotFirst` if the relocation with the `r_type` is neither of those that set or add. Else
     /// `Number` with the error of `utils::write_uleb128`: a difference below 0 is one of 64 bits,
     /// which fits ten bytes alone. Nothing is written then.
     pub fn write_uleb128_pair(
         self,
-        code: u32,
+        r_type: u32,
         dest: &mut [u8],
         first: u64,
         second: u64,
     ) -> Result<(), Uleb128PairError> {
-        write_pair(self.uleb128_role(code), dest, first, second)
+        write_pair(self.uleb128_role(r_type), dest, first, second)
     }
 
     /// The form with a number, its place in the enum of its architecture's forms. None above the

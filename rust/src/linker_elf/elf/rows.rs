@@ -53,7 +53,7 @@ pub(crate) struct WriteTests {
 }
 
 /// What a relocation of the library's tables means. Each architecture's `row` returns it for a
-/// name, and [`Architecture::row`](crate::elf::Architecture::row) for a code.
+/// name, and [`Architecture::row`](crate::elf::Architecture::row) for an `r_type`.
 ///
 /// ```
 /// use linker_utils::elf::Operands;
@@ -89,7 +89,7 @@ pub(crate) const fn row_in(entry: &'static Option<TableRow>) -> Option<Row> {
 #[inline(always)]
 pub(crate) const fn raw_info_in(entry: &'static Option<TableRow>) -> Option<RelocationKindInfo> {
     match entry {
-        // by the entry: LLVM compiles a match of the name to a jump by the code
+        // by the entry: LLVM compiles a match of the name to a jump by the `r_type`
         Some(entry) if !entry.is_own => Some(Row::of(entry).info()),
         _ => None,
     }
@@ -454,31 +454,31 @@ impl RelocationKindInfo {
     }
 }
 
-/// What is made of the relocations of an architecture. Its `relocations!` lists them as `code NAME
-/// (row)` in the order of the enum of names, in parts of ascending codes. After a relocation stand
-/// the codes up to the next one, which have no name. `names` makes the table of names by codes,
-/// part by part, and `name_of` looks a code up there. Of a list without parts, which has no such
-/// table, `name_of` matches the code. `index_of` makes the index of a name in the list. `codes`,
-/// `texts` and `table` make tables by these indices: of codes, of the names' texts, and of rows,
-/// where the last entry is that of `Other`. `table` is given the variant of
+/// What is made of the relocations of an architecture. Its `relocations!` lists them as `r_type
+/// NAME (row)` in the order of the enum of names, in parts of ascending types. After a relocation
+/// stand the types up to the next one, which have no name. `names` makes the table of names by
+/// `r_type`, part by part, and `name_of` looks an `r_type` up there. Of a list without parts, which
+/// has no such table, `name_of` matches the `r_type`. `index_of` makes the index of a name in the
+/// list. `r_types`, `texts` and `table` make tables by these indices: of types, of the names'
+/// texts, and of rows, where the last entry is that of `Other`. `table` is given the variant of
 /// `RelocationInstruction`, the enum of the forms and the `e_machine`. A list has at most 124
 /// names, since calls of macros nest at most 128 deep.
 macro_rules! listed {
-    ((name_of $names:ident, $code:ident) { $($number:literal $name:ident $row:tt)* }) => {
-        match $code {
+    ((name_of $names:ident, $r_type:ident) { $($number:literal $name:ident $row:tt)* }) => {
+        match $r_type {
             $($number => $names::$name,)*
-            _ => $names::Other($code),
+            _ => $names::Other($r_type),
         }
     };
-    ((name_of $names:ident, $code:ident)) => { $names::Other($code) };
+    ((name_of $names:ident, $r_type:ident)) => { $names::Other($r_type) };
     (
-        (name_of $names:ident, $code:ident)
+        (name_of $names:ident, $r_type:ident)
         $part:literal from $first:literal $relocations:tt $($parts:tt)*
     ) => {
         $crate::linker_elf::elf::rows::name_at(
             NAMES[$part],
-            $code.wrapping_sub($first),
-            $crate::linker_elf::elf::rows::listed!((name_of $names, $code) $($parts)*),
+            $r_type.wrapping_sub($first),
+            $crate::linker_elf::elf::rows::listed!((name_of $names, $r_type) $($parts)*),
         )
     };
     ((names $names:ident) $($part:literal from $first:literal {
@@ -491,7 +491,7 @@ macro_rules! listed {
     })+) => {
         $crate::linker_elf::elf::rows::listed!(@ $made $($($number $name $row)*)+)
     };
-    (@ (codes) $($number:literal $name:ident $row:tt)*) => {
+    (@ (r_types) $($number:literal $name:ident $row:tt)*) => {
         [$($number,)*]
     };
     (@ (texts) $($number:literal $name:ident $row:tt)*) => {

@@ -8,7 +8,7 @@ use crate::linker_elf::elf::{RelocationKind, RelocationKindInfo, Row, SIZE_2KB, 
 use core::fmt;
 
 /// The relocations of LoongArch, by their names in the LoongArch ELF psABI, "Relocation Types".
-/// `from_elf` takes the code that an ELF file has.
+/// `from_elf` takes the `r_type` that an ELF file has.
 #[cfg_attr(not(exhaustive), non_exhaustive)]
 #[derive(Clone, Copy, PartialEq, Eq, Hash, PartialOrd, Ord)]
 #[allow(non_camel_case_types)]
@@ -89,11 +89,11 @@ pub enum LoongArch64Relocation {
     R_LARCH_TLS_DESC_PCREL20_S2,
     R_LARCH_CALL30,
     R_LARCH_PCADD_HI20,
-    /// A code without a name here.
+    /// An `r_type` without a name here.
     Other(u32),
 }
 
-/// Each relocation: its code, its name and its row, in the order of the enum of names.
+/// Each relocation: its `r_type`, its name and its row, in the order of the enum of names.
 macro_rules! relocations {
     ($($made:tt)+) => { listed! { ($($made)+) 0 from 0 {
         0 R_LARCH_NONE (None, 0 bytes, any)
@@ -176,27 +176,27 @@ macro_rules! relocations {
 impl fmt::Debug for LoongArch64Relocation {
     fn fmt(&self, f: &mut fmt::Formatter<'_>) -> fmt::Result {
         match self {
-            LoongArch64Relocation::Other(code) => f.debug_tuple("Other").field(code).finish(),
+            LoongArch64Relocation::Other(r_type) => f.debug_tuple("Other").field(r_type).finish(),
             _ => f.write_str(self.name()),
         }
     }
 }
 
 impl LoongArch64Relocation {
-    /// The relocation with a code, `r_type` in ELF files; `Other(code)` for a code without a name.
+    /// The relocation with an `r_type`; `Other(r_type)` for one without a name.
     #[must_use]
     #[inline(always)]
-    pub const fn from_elf(code: u32) -> LoongArch64Relocation {
-        relocations!(name_of LoongArch64Relocation, code)
+    pub const fn from_elf(r_type: u32) -> LoongArch64Relocation {
+        relocations!(name_of LoongArch64Relocation, r_type)
     }
 
-    /// The code, `r_type` in ELF files.
+    /// The `r_type` in ELF files.
     #[must_use]
     #[inline]
-    pub const fn elf_code(self) -> u32 {
+    pub const fn r_type(self) -> u32 {
         match self {
-            LoongArch64Relocation::Other(code) => code,
-            _ => CODES[index(self)],
+            LoongArch64Relocation::Other(r_type) => r_type,
+            _ => R_TYPES[index(self)],
         }
     }
 
@@ -222,7 +222,7 @@ impl LoongArch64Relocation {
 
 const NAMES: &[&[LoongArch64Relocation]] = &relocations!(names LoongArch64Relocation);
 
-static CODES: &[u32] = &relocations!(codes);
+static R_TYPES: &[u32] = &relocations!(r_types);
 
 static TEXTS: &[&str] = &relocations!(texts);
 
@@ -235,8 +235,8 @@ const fn index(name: LoongArch64Relocation) -> usize {
     relocations!(index_of LoongArch64Relocation, name)
 }
 
-/// What a relocation means. It takes a name; [`LoongArch64Relocation::from_elf`](crate::loongarch64::LoongArch64Relocation::from_elf) gives the name of a
-/// code. Returns `None` for `Other`.
+/// What a relocation means. It takes a name; [`LoongArch64Relocation::from_elf`](crate::loongarch64::LoongArch64Relocation::from_elf) gives the name of an
+/// `r_type`. Returns `None` for `Other`.
 ///
 /// # Ranges of pairs
 ///
@@ -257,7 +257,7 @@ impl RelocationName for LoongArch64Relocation {
 }
 
 /// The row with the kind that the crate `linker-utils` has: there `R_LARCH_ALIGN` has no kind of
-/// its own. Not by the name: LLVM compiles a match of it to a jump by the code.
+/// its own. Not by the name: LLVM compiles a match of it to a jump by the `r_type`.
 #[inline(always)]
 const fn with_raw_kind(row: Option<RelocationKindInfo>) -> Option<RelocationKindInfo> {
     match row {

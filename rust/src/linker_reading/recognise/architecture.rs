@@ -1,6 +1,6 @@
 // SPDX-License-Identifier: MIT OR Apache-2.0
 // Made by tools/generate of crates/linker_reading/src/recognise/architecture.rt.
-//! What a linker made of a relocation, by its architecture and its code.
+//! What a linker made of a relocation, by its architecture and its `r_type`.
 
 use crate::linker_reading::recognise::engine::{self, CANDIDATES, Recognised, RecognisedName};
 use crate::linker_reading::recognise::fields::FieldBits;
@@ -10,24 +10,24 @@ use crate::linker_elf::elf::architecture::by_architecture;
 use crate::architecture::Relaxation;
 use crate::elf::{Architecture, Choice, LinkFacts, RewriteWindow};
 
-/// What is found of the relocation's name that an architecture has for a code.
+/// What is found of the relocation's name that an architecture has for an `r_type`.
 macro_rules! found_of {
-    ($of:ident $module:ident $names:ident ($code:expr, $name:ident => $found:expr)) => {{
-        let $name = crate::$module::$names::from_elf($code);
+    ($of:ident $module:ident $names:ident ($r_type:expr, $name:ident => $found:expr)) => {{
+        let $name = crate::$module::$names::from_elf($r_type);
         $found
     }};
 }
 
-/// The same with the rewrite as one of all architectures', and the relocation's code.
+/// The same with the rewrite as one of all architectures', and the relocation's `r_type`.
 #[inline(always)]
-fn coded<N: RecognisedName>(
+fn typed<N: RecognisedName>(
     found: Option<Recognised<N::Kind, N>>,
 ) -> Option<Recognised<Relaxation, u32>> {
     let made = found?;
     Some(Recognised {
         choice: Choice {
             kind: N::relaxation(made.choice.kind),
-            relocation: made.choice.relocation.code(),
+            relocation: made.choice.relocation.elf_type(),
         },
         offset: made.offset,
         value: made.value,
@@ -35,21 +35,21 @@ fn coded<N: RecognisedName>(
 }
 
 /// The same of each.
-fn all_by_code<N: RecognisedName>(
+fn all_by_type<N: RecognisedName>(
     found: [Option<Recognised<N::Kind, N>>; CANDIDATES],
 ) -> [Option<Recognised<Relaxation, u32>>; CANDIDATES] {
-    let mut by_code = [None; CANDIDATES];
+    let mut by_type = [None; CANDIDATES];
     for index in 0..CANDIDATES {
         if found[index].is_some() {
-            by_code[index] = coded(found[index]);
+            by_type[index] = typed(found[index]);
         }
     }
-    by_code
+    by_type
 }
 
 /// The choice that `choose` makes for a name, as [`recognise_chosen`](crate::recognise::recognise_chosen()) of this crate says, so.
 #[inline(always)]
-fn chosen_by_code<N: RecognisedName>(
+fn chosen_by_type<N: RecognisedName>(
     name: N,
     original: &[u8],
     offset: u64,
@@ -57,7 +57,7 @@ fn chosen_by_code<N: RecognisedName>(
     linked: &[u8],
     facts: &LinkFacts,
 ) -> Option<Recognised<Relaxation, u32>> {
-    coded(engine::recognise_chosen(name, original, offset, others, linked, facts))
+    typed(engine::recognise_chosen(name, original, offset, others, linked, facts))
 }
 
 /// `crate::recognise::recognise`, with more parameters.
@@ -81,15 +81,15 @@ fn chosen_by_code<N: RecognisedName>(
 #[cfg_attr(debug_assertions, track_caller)]
 pub fn recognise(
     architecture: Architecture,
-    code: u32,
+    r_type: u32,
     original: &[u8],
     offset: u64,
     others: &[FieldBits],
     linked: &[u8],
 ) -> [Option<Recognised<Relaxation, u32>>; CANDIDATES] {
     debug_assert!(original.len() <= 64);
-    by_architecture!(architecture, found_of(code, name => {
-        all_by_code(engine::recognise(name, original, offset, others, linked))
+    by_architecture!(architecture, found_of(r_type, name => {
+        all_by_type(engine::recognise(name, original, offset, others, linked))
     }))
 }
 
@@ -98,7 +98,7 @@ pub fn recognise(
 #[cfg_attr(debug_assertions, track_caller)]
 pub fn recognise_chosen(
     architecture: Architecture,
-    code: u32,
+    r_type: u32,
     original: &[u8],
     offset: u64,
     others: &[FieldBits],
@@ -106,17 +106,17 @@ pub fn recognise_chosen(
     facts: &LinkFacts,
 ) -> Option<Recognised<Relaxation, u32>> {
     debug_assert!(original.len() <= 64);
-    by_architecture!(architecture, found_of(code, name => {
-        chosen_by_code(name, original, offset, others, linked, facts)
+    by_architecture!(architecture, found_of(r_type, name => {
+        chosen_by_type(name, original, offset, others, linked, facts)
     }))
 }
 
-/// The window that [`recognise`](crate::recognise::recognise()) wants, in bytes of an object around the relocation with a code at an
-/// offset of them. It begins at the last byte, and ends at the first one, with which [`recognise`](crate::recognise::recognise())
-/// finds each choice that it finds in all of these bytes. So it has the bytes that their rewrites
-/// write and delete, those that `matches` reads, and the fields of the relocations after them. What
-/// other relocations write there is to be named in `others`. It begins `back` bytes before the
-/// offset.
+/// The window that [`recognise`](crate::recognise::recognise()) wants, in bytes of an object around the relocation with an `r_type`
+/// at an offset of them. It begins at the last byte, and ends at the first one, with which
+/// [`recognise`](crate::recognise::recognise()) finds each choice that it finds in all of these bytes. So it has the bytes that
+/// their rewrites write and delete, those that `matches` reads, and the fields of the relocations
+/// after them. What other relocations write there is to be named in `others`. It begins `back`
+/// bytes before the offset.
 ///
 /// A choice whose bytes aren't all given isn't counted: give 16 before the offset and 44 from there
 /// on, or those that there are. On PowerPC64 the first byte has to be at a multiple of 4 in its
@@ -129,12 +129,12 @@ pub fn recognise_chosen(
 #[cfg_attr(debug_assertions, track_caller)]
 pub fn window_of(
     architecture: Architecture,
-    code: u32,
+    r_type: u32,
     original: &[u8],
     offset: u64,
 ) -> RewriteWindow {
     debug_assert!(original.len() <= 64);
-    by_architecture!(architecture, found_of(code, name => {
+    by_architecture!(architecture, found_of(r_type, name => {
         let there = windows::those_there(name, original, offset);
         windows::least_window(name, &there, original, offset)
     }))

@@ -99,9 +99,9 @@ pub trait RecognisedName: RelocationName + PartialEq + 'static {
     /// The rewrites.
     type Kind: ChoiceTable<Relocation = Self, Originals: 'static> + PartialEq + 'static;
 
-    /// The code, `r_type` in ELF files.
+    /// The `r_type` in ELF files.
     #[must_use]
-    fn code(self) -> u32;
+    fn elf_type(self) -> u32;
 
     /// A rewrite as one of all architectures'.
     #[must_use]

@@ -16,26 +16,26 @@ use crate::riscv64::RiscVRelocation;
 /// The type of a relocation at a site whose instructions became one of n bytes: that of the
 /// one instruction. 0 where it isn't that of the site.
 #[inline]
-fn short_code(machine: Machine, kept: u64, code: u32) -> u32 {
+fn short_r_type(machine: Machine, kept: u64, r_type: u32) -> u32 {
     match machine {
         #[cfg(feature = "riscv64")]
         Machine::RiscV64 => {
-            if code != RiscVRelocation::R_RISCV_CALL.elf_code()
-                && code != RiscVRelocation::R_RISCV_CALL_PLT.elf_code()
+            if r_type != RiscVRelocation::R_RISCV_CALL.r_type()
+                && r_type != RiscVRelocation::R_RISCV_CALL_PLT.r_type()
             {
                 0
             } else if kept == 2 {
-                RiscVRelocation::R_RISCV_RVC_JUMP.elf_code()
+                RiscVRelocation::R_RISCV_RVC_JUMP.r_type()
             } else {
-                RiscVRelocation::R_RISCV_JAL.elf_code()
+                RiscVRelocation::R_RISCV_JAL.r_type()
             }
         }
         #[cfg(feature = "loongarch64")]
         Machine::LoongArch64 => {
-            if code == LoongArch64Relocation::R_LARCH_CALL36.elf_code() {
-                LoongArch64Relocation::R_LARCH_B26.elf_code()
-            } else if code == LoongArch64Relocation::R_LARCH_PCALA_HI20.elf_code() {
-                LoongArch64Relocation::R_LARCH_PCREL20_S2.elf_code()
+            if r_type == LoongArch64Relocation::R_LARCH_CALL36.r_type() {
+                LoongArch64Relocation::R_LARCH_B26.r_type()
+            } else if r_type == LoongArch64Relocation::R_LARCH_PCALA_HI20.r_type() {
+                LoongArch64Relocation::R_LARCH_PCREL20_S2.r_type()
             } else {
                 0
             }
@@ -45,27 +45,33 @@ fn short_code(machine: Machine, kept: u64, code: u32) -> u32 {
 
 /// The type of the relocation of an alignment.
 #[inline]
-fn align_code(machine: Machine) -> u32 {
+fn align_r_type(machine: Machine) -> u32 {
     match machine {
         #[cfg(feature = "riscv64")]
-        Machine::RiscV64 => RiscVRelocation::R_RISCV_ALIGN.elf_code(),
+        Machine::RiscV64 => RiscVRelocation::R_RISCV_ALIGN.r_type(),
         #[cfg(feature = "loongarch64")]
-        Machine::LoongArch64 => LoongArch64Relocation::R_LARCH_ALIGN.elf_code(),
+        Machine::LoongArch64 => LoongArch64Relocation::R_LARCH_ALIGN.r_type(),
     }
 }
 
 /// The type of a relocation at the begin of an item of which n bytes stay.
 #[inline]
-fn code_at_item(machine: Machine, item: &Item, kept: u64, code: u32) -> u32 {
+fn r_type_at_item(machine: Machine, item: &Item, kept: u64, r_type: u32) -> u32 {
     match item {
         Item::Site(site) => {
             if site.shapes.count == 0 || kept == u64::from(site.len) {
-                code
+                r_type
             } else {
-                short_code(machine, kept, code)
+                short_r_type(machine, kept, r_type)
             }
         }
-        Item::Aligned(_) => { if code == align_code(machine) { 0 } else { code } }
+        Item::Aligned(_) => {
+            if r_type == align_r_type(machine) {
+                0
+            } else {
+                r_type
+            }
+        }
     }
 }
 
@@ -86,12 +92,12 @@ fn item_from<I: AsItem>(items: &ItemList<'_, I>, offset: u64) -> Option<Item> {
 
 /// The type of a relocation at a position.
 #[inline]
-fn code_of<I: AsItem>(
+fn r_type_of<I: AsItem>(
     machine: Machine,
     items: &ItemList<'_, I>,
     deltas: &[RelaxDelta],
     here: &Position,
-    code: u32,
+    r_type: u32,
 ) -> u32 {
     let next = position_from(deltas, here, here.input_offset + 1);
     if next.output_offset == here.output_offset {
@@ -101,9 +107,9 @@ fn code_of<I: AsItem>(
         Some(item) => {
             let end = position_from(deltas, here, item.offset().saturating_add(item.len()));
             let kept = end.output_offset.saturating_sub(here.output_offset);
-            code_at_item(machine, &item, kept, code)
+            r_type_at_item(machine, &item, kept, r_type)
         }
-        None => code,
+        None => r_type,
     }
 }
 
@@ -123,14 +129,14 @@ fn moved<I: AsItem>(
         return *relocation;
     }
     let here = position_of(deltas, base + relocation.offset);
-    let code = if relocation.offset < len {
-        code_of(machine, items, deltas, &here, relocation.code)
+    let r_type = if relocation.offset < len {
+        r_type_of(machine, items, deltas, &here, relocation.r_type)
     } else {
-        relocation.code
+        relocation.r_type
     };
     let mut after = *relocation;
     after.offset = here.output_offset.saturating_sub(begin.output_offset);
-    after.code = code;
+    after.r_type = r_type;
     after
 }
 

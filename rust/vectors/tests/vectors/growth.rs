@@ -327,18 +327,18 @@ const RISCV_CALL: [u8; 8] = [0x97, 0, 0, 0, 0xe7, 0x80, 0, 0];
 const LOONGARCH_CALL: [u8; 8] = [0x01, 0, 0, 0x1e, 0x21, 0, 0, 0x4c];
 
 fn expect_sections(count: usize) {
-    let call = |code, mark| {
+    let call = |r_type, mark| {
         move |index: usize| {
             let (offset, target) = (8 * index as u64, Some(0));
             let one = Relocation {
                 offset,
-                code,
+                r_type,
                 has_symbol: true,
                 addend: 0,
                 target,
                 may_compress: true,
             };
-            [one, Relocation { code: mark, target: None, ..one }]
+            [one, Relocation { r_type: mark, target: None, ..one }]
         }
     };
     // R_RISCV_CALL_PLT and R_RISCV_RELAX, R_LARCH_CALL36 and R_LARCH_RELAX
@@ -388,7 +388,7 @@ fn expect_sections(count: usize) {
 /// The bytes of a section of relocations.
 fn entries(relocations: impl Iterator<Item = Rela>) -> Vec<u8> {
     let entry = |it: Rela| {
-        let info = u64::from(it.code) | u64::from(it.symbol) << 32;
+        let info = u64::from(it.r_type) | u64::from(it.symbol) << 32;
         [it.offset.to_le_bytes(), info.to_le_bytes(), it.addend.to_le_bytes()].concat()
     };
     relocations.flat_map(entry).collect()
@@ -412,10 +412,10 @@ fn relocated() -> [(&'static str, MakeRelocated); 2] {
     }
     /// R_RISCV_PCREL_HI20 of symbol 1, and R_RISCV_PCREL_LO12_I of the label of the one at an offset.
     fn high(offset: u64) -> Rela {
-        Rela { offset, code: 23, symbol: 1, addend: 0 }
+        Rela { offset, r_type: 23, symbol: 1, addend: 0 }
     }
     fn low(offset: u64, label: u32) -> Rela {
-        Rela { offset, code: 24, symbol: label, addend: 0 }
+        Rela { offset, r_type: 24, symbol: label, addend: 0 }
     }
     /// auipc a0, 0; addi a0, a0, 0
     const AUIPC: [u8; 4] = [0x17, 0x05, 0, 0];
@@ -465,15 +465,15 @@ fn expect_rewritten(count: usize) {
     // `call *f@GOTPCREL(%rip)`, with R_X86_64_GOTPCRELX
     let call = |index: usize, symbol: u32| Rela {
         offset: 6 * index as u64 + 2,
-        code: 41,
+        r_type: 41,
         symbol,
         addend: -4,
     };
     // `adrp` and `ldr`, with R_AARCH64_TLSIE_ADR_GOTTPREL_PAGE21 and
     // R_AARCH64_TLSIE_LD64_GOTTPREL_LO12_NC
     let page = |index: usize, symbol: u32| {
-        let (offset, code) = (4 * index as u64, 541 + index as u32 % 2);
-        Rela { offset, code, symbol: symbol / 2 * 2, addend: 0 }
+        let (offset, r_type) = (4 * index as u64, 541 + index as u32 % 2);
+        Rela { offset, r_type, symbol: symbol / 2 * 2, addend: 0 }
     };
     let pair = [0x03, 0, 0, 0x90, 0x63, 0, 0x40, 0xf9];
     type Made<'a> = (&'a str, Architecture, &'a dyn Fn(usize, u32) -> Rela, Vec<u8>);
@@ -517,7 +517,7 @@ fn expect_labels(count: usize) {
         [(62, 63, Phase::TlsLocalExec), (20, 24, Phase::GotToPcRel), (23, 24, Phase::ShortPcRel)];
     for ((high, low, phase), labels) in parts.into_iter().flat_map(|it| [(it, 1), (it, 2)]) {
         let made = |count: usize| {
-            let at = |offset, code, symbol| Rela { offset, code, symbol, addend: 0 };
+            let at = |offset, r_type, symbol| Rela { offset, r_type, symbol, addend: 0 };
             let label = |label: u64| {
                 let marks = (0..count / 2 / labels).map(move |_| at(4 * label, 51, 0));
                 marks.chain([at(4 * label, high, 3)])

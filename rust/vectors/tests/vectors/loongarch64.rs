@@ -219,7 +219,7 @@ fn jumps_take_the_low_part_in_words() {
 /// The psABI gives the code 20 to a mark, which has no field.
 #[test]
 fn marks_and_alignments_have_rows_without_bytes() {
-    for (name, code, kind, original) in [
+    for (name, r_type, kind, original) in [
         (LoongArch64Relocation::R_LARCH_MARK_LA, 20, RelocationKind::None, None),
         (
             LoongArch64Relocation::R_LARCH_ALIGN,
@@ -228,7 +228,7 @@ fn marks_and_alignments_have_rows_without_bytes() {
             Some(RelocationKind::None),
         ),
     ] {
-        assert_eq!((name.elf_code(), LoongArch64Relocation::from_elf(code)), (code, name));
+        assert_eq!((name.r_type(), LoongArch64Relocation::from_elf(r_type)), (r_type, name));
         let info = row(name).expect("a row").info();
         assert_eq!((info.kind, info.size), (kind, RelocationSize::ByteSize(0)), "{name:?}");
         let raw = relocation_type_from_raw(name);

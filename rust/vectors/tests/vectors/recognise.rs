@@ -392,7 +392,7 @@ fn jumps_and_kept_moves_are_recognised() {
 /// Bytes of an object with a relocation, and what a linker made of them.
 struct Site {
     architecture: Architecture,
-    code: u32,
+    r_type: u32,
     offset: usize,
     before: Vec<u8>,
     after: Vec<u8>,
@@ -409,29 +409,29 @@ fn bytes_of(words: &[u32]) -> Vec<u8> {
 /// All that linkers left in the tables of this folder.
 fn sites() -> Vec<Site> {
     let mut all = vec![];
-    let mut add = |architecture, code, offset, before: &[u8], after: &[u8], kind| {
+    let mut add = |architecture, r_type, offset, before: &[u8], after: &[u8], kind| {
         let (before, after) = (before.to_vec(), after.to_vec());
         let is_one_of_many = false;
-        all.push(Site { architecture, code, offset, before, after, kind, is_one_of_many });
+        all.push(Site { architecture, r_type, offset, before, after, kind, is_one_of_many });
     };
     for it in &x86_64::REWRITES {
         let kind = Some(Relaxation::X86_64(it.kind));
-        let (code, offset) = (it.name.elf_code(), it.offset as usize);
-        add(Architecture::X86_64, code, offset, &it.before, &it.after, kind);
+        let (r_type, offset) = (it.name.r_type(), it.offset as usize);
+        add(Architecture::X86_64, r_type, offset, &it.before, &it.after, kind);
     }
     for it in &x86_64::SEQUENCES {
         let kind = Some(Relaxation::X86_64(it.kind));
-        let (code, offset) = (it.name.elf_code(), it.offset as usize);
-        add(Architecture::X86_64, code, offset, &it.before, &it.after, kind);
+        let (r_type, offset) = (it.name.r_type(), it.offset as usize);
+        add(Architecture::X86_64, r_type, offset, &it.before, &it.after, kind);
     }
-    for &(code, _, _, place, before, after) in &ppc64::linked::SITES {
+    for &(r_type, _, _, place, before, after) in &ppc64::linked::SITES {
         let (before, after) = (before.to_le_bytes(), after.to_le_bytes());
-        add(Architecture::Ppc64, code, (place % 4) as usize, &before, &after, None);
+        add(Architecture::Ppc64, r_type, (place % 4) as usize, &before, &after, None);
     }
-    for &(code, _, _, _, _, before, after) in &riscv64::linked::SITES {
+    for &(r_type, _, _, _, _, before, after) in &riscv64::linked::SITES {
         let left = after.to_le_bytes();
         let left = if after == 0 { &[][..] } else { &left[..] };
-        add(Architecture::RiscV, code, 0, &before.to_le_bytes(), left, None);
+        add(Architecture::RiscV, r_type, 0, &before.to_le_bytes(), left, None);
     }
     let pairs = riscv64::pairs::SHORTENED_LUI.iter();
     for (before, after) in pairs.map(|(before, _, after)| (&before[..4], &after[..2])) {
@@ -442,8 +442,8 @@ fn sites() -> Vec<Site> {
         let kind = Some(Relaxation::AArch64(AArch64Kind::AdrpAddToNopAdr));
         add(Architecture::AArch64, 277, 4, before, after, kind);
     }
-    for &(code, offset, _, _, words, left) in &loongarch64::relaxed::SITES {
-        let listed = listed(Architecture::LoongArch64, code, &[], 0);
+    for &(r_type, offset, _, _, words, left) in &loongarch64::relaxed::SITES {
+        let listed = listed(Architecture::LoongArch64, r_type, &[], 0);
         // GNU ld deletes what is a `nop` by the library
         if left == 0 && listed.iter().all(|it| it.kind.deleted().is_none()) {
             continue;
@@ -467,7 +467,7 @@ fn sites() -> Vec<Site> {
         }
         all.push(Site {
             architecture: Architecture::LoongArch64,
-            code,
+            r_type,
             offset: offset as usize,
             before: bytes_of(&words),
             after: bytes_of(&after),
@@ -491,7 +491,7 @@ fn found_in_window(site: &Site) -> (Vec<Choice<Relaxation, u32>>, Vec<u8>, u64) 
     let from = site.offset / 4 * 4;
     let ample = &before[from..from + 60];
     let offset = 16 + site.offset - from;
-    let window = architecture::window_of(site.architecture, site.code, ample, offset as u64);
+    let window = architecture::window_of(site.architecture, site.r_type, ample, offset as u64);
     let begin = from + offset - window.back as usize;
     let original = &before[begin..begin + window.len as usize];
     let linked = &after[begin..begin + original.len() - (site.before.len() - site.after.len())];
@@ -502,7 +502,7 @@ fn found_in_window(site: &Site) -> (Vec<Choice<Relaxation, u32>>, Vec<u8>, u64) 
         .collect();
     let found = architecture::recognise(
         site.architecture,
-        site.code,
+        site.r_type,
         &Windows { original, offset: window.back, others: &others, linked },
     );
     let choices = found.into_iter().flatten().map(|made| made.choice).collect();
@@ -513,7 +513,7 @@ fn found_in_window(site: &Site) -> (Vec<Choice<Relaxation, u32>>, Vec<u8>, u64) 
 fn what_linkers_made_is_recognised_in_its_window() {
     for (index, site) in sites().iter().enumerate() {
         let (found, original, _) = found_in_window(site);
-        let what = (index, site.architecture, site.code, original, &site.after);
+        let what = (index, site.architecture, site.r_type, original, &site.after);
         match site.kind {
             Some(kind) => assert!(found.iter().any(|it| it.kind == kind), "{what:x?}: {found:?}"),
             None => assert!(!found.is_empty(), "{what:x?}"),
@@ -523,12 +523,12 @@ fn what_linkers_made_is_recognised_in_its_window() {
 
 /// The choices of a table, of whatever stands there.
 macro_rules! listed {
-    ($variant:ident, $kinds:ty, $names:ty, $code:expr, $bytes:expr, $at:expr) => {
-        <$kinds as ChoiceTable>::entries(<$names>::from_elf($code), $bytes, $at)
+    ($variant:ident, $kinds:ty, $names:ty, $r_type:expr, $bytes:expr, $at:expr) => {
+        <$kinds as ChoiceTable>::entries(<$names>::from_elf($r_type), $bytes, $at)
             .iter()
             .map(|it| Choice {
                 kind: Relaxation::$variant(it.kind),
-                relocation: it.relocation.elf_code(),
+                relocation: it.relocation.r_type(),
             })
             .collect()
     };
@@ -536,20 +536,20 @@ macro_rules! listed {
 
 fn listed(
     architecture: Architecture,
-    code: u32,
+    r_type: u32,
     bytes: &[u8],
     at: u64,
 ) -> Vec<Choice<Relaxation, u32>> {
     match architecture {
         Architecture::AArch64 => {
-            listed!(AArch64, AArch64Kind, AArch64Relocation, code, bytes, at)
+            listed!(AArch64, AArch64Kind, AArch64Relocation, r_type, bytes, at)
         }
-        Architecture::RiscV => listed!(RiscV, RiscVKind, RiscVRelocation, code, bytes, at),
+        Architecture::RiscV => listed!(RiscV, RiscVKind, RiscVRelocation, r_type, bytes, at),
         Architecture::LoongArch64 => {
-            listed!(LoongArch64, LoongArchKind, LoongArch64Relocation, code, bytes, at)
+            listed!(LoongArch64, LoongArchKind, LoongArch64Relocation, r_type, bytes, at)
         }
-        Architecture::Ppc64 => listed!(Ppc64, Ppc64Kind, Ppc64Relocation, code, bytes, at),
-        Architecture::X86_64 => listed!(X86_64, X86Kind, X86_64Relocation, code, bytes, at),
+        Architecture::Ppc64 => listed!(Ppc64, Ppc64Kind, Ppc64Relocation, r_type, bytes, at),
+        Architecture::X86_64 => listed!(X86_64, X86Kind, X86_64Relocation, r_type, bytes, at),
         _ => unreachable!(),
     }
 }
@@ -611,31 +611,31 @@ fn each_entry_is_recognised_in_its_window() {
     }
     let (mut all, mut tried) = (BTreeSet::new(), BTreeSet::new());
     let name =
-        |code: u32, it: &Choice<Relaxation, u32>| (code, format!("{:?}", it.kind), it.relocation);
-    for code in 0..300 {
+        |r_type: u32, it: &Choice<Relaxation, u32>| (r_type, format!("{:?}", it.kind), it.relocation);
+    for r_type in 0..300 {
         for architecture in [
             Architecture::AArch64,
             Architecture::RiscV,
             Architecture::LoongArch64,
             Architecture::Ppc64,
         ] {
-            all.extend(listed(architecture, code, &[], 0).iter().map(|it| name(code, it)));
+            all.extend(listed(architecture, r_type, &[], 0).iter().map(|it| name(r_type, it)));
         }
         for opcode in 0..=u8::MAX {
-            let entries = listed(Architecture::X86_64, code, &[opcode, 0], 2);
-            all.extend(entries.iter().map(|it| name(code, it)));
+            let entries = listed(Architecture::X86_64, r_type, &[opcode, 0], 2);
+            all.extend(entries.iter().map(|it| name(r_type, it)));
         }
         for (architecture, before, offset) in &samples {
             let mut site = Site {
                 architecture: *architecture,
-                code,
+                r_type,
                 offset: *offset,
                 before: before.clone(),
                 after: before.clone(),
                 kind: None,
                 is_one_of_many: false,
             };
-            for choice in listed(*architecture, code, before, *offset as u64) {
+            for choice in listed(*architecture, r_type, before, *offset as u64) {
                 if !choice.kind.matches(before, *offset as u64) {
                     continue;
                 }
@@ -647,8 +647,8 @@ fn each_entry_is_recognised_in_its_window() {
                     site.after.drain(start..start + deleted.count as usize);
                 }
                 let (found, original, back) = found_in_window(&site);
-                assert!(found.contains(&choice), "{code}: {choice:?} in {original:x?} at {back}");
-                tried.insert(name(code, &choice));
+                assert!(found.contains(&choice), "{r_type}: {choice:?} in {original:x?} at {back}");
+                tried.insert(name(r_type, &choice));
             }
         }
     }
@@ -675,15 +675,15 @@ fn a_branch_leads_to_the_symbol_of_its_local_entry() {
         // R_PPC64_ADDR64
         (38, 0, 0x1001_01e8, 0x1003_0200, 0x60, 0x1001_01e8, 0x1001_01e8),
     ];
-    for (code, before, after, place, st_other, symbol, entry) in table {
-        let is_branch = code != 38;
+    for (r_type, before, after, place, st_other, symbol, entry) in table {
+        let is_branch = r_type != 38;
         let len = if is_branch { 4 } else { 8 };
         let (original, linked) = (before.to_le_bytes(), after.to_le_bytes());
         let (original, linked) = (&original[..len], &linked[..len]);
         let of = Architecture::Ppc64;
         let found = architecture::recognise(
             of,
-            code,
+            r_type,
             &Windows { original, offset: 0, others: &[], linked },
         );
         let made = found.into_iter().flatten().next().expect("a choice");
@@ -693,9 +693,9 @@ fn a_branch_leads_to_the_symbol_of_its_local_entry() {
         assert_eq!(
             (led.symbol(st_other), led.local_entry()),
             (Some(symbol), Some(entry)),
-            "{code}"
+            "{r_type}"
         );
-        assert_eq!(led.is_local_entry, is_branch, "{code}");
+        assert_eq!(led.is_local_entry, is_branch, "{r_type}");
     }
 }
 

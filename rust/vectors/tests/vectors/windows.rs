@@ -26,7 +26,7 @@ fn window(row: &RelocationKindInfo) -> usize {
 
 /// Requires that a row's writes are rejected, with nothing written, where a byte is missing, be the
 /// value misaligned or out of reach or not, and else not for that. Returns how many were rejected.
-fn requires_bytes(code: u32, row: &Row) -> u64 {
+fn requires_bytes(r_type: u32, row: &Row) -> u64 {
     let info = row.info();
     // `write_uleb128` writes the numbers of these, and no manual says what `Call30` makes
     let is_unsupported = matches!(
@@ -47,13 +47,13 @@ fn requires_bytes(code: u32, row: &Row) -> u64 {
         for short in 0..len.min(8) {
             let mut bytes = [0xa5; 8];
             let written = row.write(value, &mut bytes[..short]);
-            assert_eq!(written, Err(error), "{code:?}, {short:?}");
-            assert_eq!(bytes, [0xa5; 8], "{code:?}, {short:?}");
+            assert_eq!(written, Err(error), "{r_type:?}, {short:?}");
+            assert_eq!(bytes, [0xa5; 8], "{r_type:?}, {short:?}");
             rejected += 1;
         }
         let mut bytes = [0; 8];
         let whole = row.write(value, &mut bytes[..len.min(8)]);
-        assert_ne!(whole, Err(RelocateError::TooShort), "{code:?}");
+        assert_ne!(whole, Err(RelocateError::TooShort), "{r_type:?}");
     }
     rejected
 }
@@ -62,9 +62,9 @@ fn requires_bytes(code: u32, row: &Row) -> u64 {
 fn rows_require_their_window() {
     for architecture in [Architecture::AArch64, Architecture::RiscV, Architecture::LoongArch64] {
         let mut rejected = 0;
-        for code in 0..1100 {
-            if let Some(row) = architecture.row(code) {
-                rejected += requires_bytes(code, &row);
+        for r_type in 0..1100 {
+            if let Some(row) = architecture.row(r_type) {
+                rejected += requires_bytes(r_type, &row);
             }
         }
         assert!(rejected > 500, "{rejected:?}");

@@ -21,7 +21,7 @@ unentered a b stub some =
 pub returns : goal.returns
 returns c target row symbol r stub some has_room obstacle =
     let to = record symbol { stub = stub } in
-    neither _ _ (by_jump target.jump_stub (loses_toc target.instructions r.code to) has_room (stub_target target.instructions to r))
+    neither _ _ (by_jump target.jump_stub (loses_toc target.instructions r.r_type to) has_room (stub_target target.instructions to r))
     (by_reach target row to r obstacle)
-    (unentered (has_toc target.instructions r.code) (not symbol.is_undefined_weak && symbol.other / 32 == 1) stub some)
-    (unentered (has_no_toc target.instructions r.code) (not symbol.is_undefined_weak && nat_lt 1 (symbol.other / 32)) stub some)
+    (unentered (has_toc target.instructions r.r_type) (not symbol.is_undefined_weak && symbol.other / 32 == 1) stub some)
+    (unentered (has_no_toc target.instructions r.r_type) (not symbol.is_undefined_weak && nat_lt 1 (symbol.other / 32)) stub some)

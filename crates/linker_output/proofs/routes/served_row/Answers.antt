@@ -8,4 +8,4 @@ pub returns-then-facts : goal.returns-then-facts
 returns-then-facts c =
     let row = c.in_ok-row.row in
     let is = c.in_ok-row.ensures in
-    (is, sym (ap (λ (r : Requirements). r.may_use_stub) (says c.args.architecture c.args.code row is (pos 0) false)) ∙ sym (ap (λ (f : RowFacts). f.may_use_stub) c.facts.ensures) ∙ c.if-facts.true)
+    (is, sym (ap (λ (r : Requirements). r.may_use_stub) (says c.args.architecture c.args.r_type row is (pos 0) false)) ∙ sym (ap (λ (f : RowFacts). f.may_use_stub) c.facts.ensures) ∙ c.if-facts.true)

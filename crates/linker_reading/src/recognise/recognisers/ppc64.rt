@@ -21,8 +21,8 @@ impl RecognisedName for Ppc64Relocation {
         (bare_is_equality ppc64_kind.the_type tt)
         (enum_is_equality ppc64_name.enum _ refl (numbers 1)) ppc64_chosen };
 
-    fn code(self) -> u32 {
-        self.elf_code()
+    fn elf_type(self) -> u32 {
+        self.r_type()
     }
 
     fn relaxation(kind: Self::Kind) -> Relaxation {

@@ -21,8 +21,8 @@ impl RecognisedName for RiscVRelocation {
         (bare_is_equality riscv_kind.the_type tt)
         (enum_is_equality riscv_name.enum _ refl (numbers 1)) riscv_chosen };
 
-    fn code(self) -> u32 {
-        self.elf_code()
+    fn elf_type(self) -> u32 {
+        self.r_type()
     }
 
     fn relaxation(kind: Self::Kind) -> Relaxation {

@@ -22,8 +22,8 @@ impl RecognisedName for X86_64Relocation {
         (enum_is_equality x86_64_name.enum _ refl (numbers 1))
         (λ name s o. x86_64_chosen (x86_64_table_at name s o) name s o) };
 
-    fn code(self) -> u32 {
-        self.elf_code()
+    fn elf_type(self) -> u32 {
+        self.r_type()
     }
 
     fn relaxation(kind: Self::Kind) -> Relaxation {

@@ -54,7 +54,7 @@ returns-clause-candidate c =
     let s = context_of a.context.now in
     let r = a.relocation.now in
     let chosen = c.choose-chosen.result in
-    let changed : ¬ IsUnchanged r.code chosen =
+    let changed : ¬ IsUnchanged r.r_type chosen =
     λ u. absurd (let is = c.is_unchanged.ensures.1 (u.0, eq-eqb _ _ (u.1)) in
     let isnt = c.if-is_unchanged.false in cc) in
     subst (λ f. IsCandidateWith s a.relocations.now a.section.now a.index r f (Some chosen)) (sym c.in-Some.is) (

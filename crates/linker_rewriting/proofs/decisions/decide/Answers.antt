@@ -18,21 +18,21 @@ returns-in-Some-clause-decision c =
     elim c.match-scope_in.branch [
       | in-Grouped+else-group_stays w ↦ (
         Grouped w.in-Grouped.group,
-        subst (IsScopeIn s.architecture s.phase r.code) w.in-Grouped.is c.scope_in.ensures,
+        subst (IsScopeIn s.architecture s.phase r.r_type) w.in-Grouped.is c.scope_in.ensures,
         subst (λ b. IsGroupDecision s a.relocations.now a.section.now a.index r b d)
             (sym (let no : group_stays a.kept.now w.in-Grouped.group r.symbol ≡ false = sym w.group_stays.ensures ∙ w.if-group_stays.false in no))
             (c.in-Some.choice, is, refl),
       )
       | in-IfGroupMatches+else-group_stays-2 w ↦ (
         IfGroupMatches w.in-IfGroupMatches.group,
-        subst (IsScopeIn s.architecture s.phase r.code) w.in-IfGroupMatches.is c.scope_in.ensures,
+        subst (IsScopeIn s.architecture s.phase r.r_type) w.in-IfGroupMatches.is c.scope_in.ensures,
         subst (λ b. IsMatchedDecision s a.relocations.now a.section.now a.index r b d)
             (sym (let no : group_stays a.kept.now w.in-IfGroupMatches.group r.symbol ≡ false = sym w.group_stays-in-IfGroupMatches.ensures ∙ w.if-group_stays-2.false in no))
             (Some c.in-Some.choice, is, refl),
       )
       | in-Independent w ↦ (
         Independent,
-        subst (IsScopeIn s.architecture s.phase r.code) w.in-Independent.is c.scope_in.ensures,
+        subst (IsScopeIn s.architecture s.phase r.r_type) w.in-Independent.is c.scope_in.ensures,
         (Some c.in-Some.choice, is, refl),
       )
     ]

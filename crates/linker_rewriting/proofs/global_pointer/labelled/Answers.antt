@@ -10,7 +10,7 @@ returns-in-Some-high_at c =
       c.in-Some-high_at.high,
       subst (λ offset. IsHighFrom bytes relative_high offset (Some c.in-Some-high_at.high))
           (sym (sym c.label_at.ensures ∙ c.in-Some.is))
-          (subst (λ code. IsHighAt bytes code c.in-Some.at (Some c.in-Some-high_at.high)) c.elf_code-code.ensures
+          (subst (λ r_type. IsHighAt bytes r_type c.in-Some.at (Some c.in-Some-high_at.high)) c.r_type-r_type.ensures
           (c.in-Some-high_at.ensures.high up)),
       c.relocation_in.ensures,
     )
@@ -20,5 +20,5 @@ returns-in-None c =
     let bytes = c.args.relocations.now in
     λ up. subst (λ offset. IsHighFrom bytes relative_high offset None)
     (sym (sym c.label_at.ensures ∙ c.in-Some.is))
-    (subst (λ code. IsHighAt bytes code c.in-Some.at None) c.elf_code-code.ensures
+    (subst (λ r_type. IsHighAt bytes r_type c.in-Some.at None) c.r_type-r_type.ensures
     (c.in-None.ensures.high up))

@@ -40,7 +40,7 @@ loop-index-preserved-then-not-is_in_label g c =
       copied = same_copied (context_of a.context.now) a.relocations.now a.section.now
           (map f a.decisions.now) (map f c.loop-index.decisions) k
           c.loop-index.invariant.copied
-          (subst (λ r. IsInLabel a.context.now.architecture a.context.now.phase r.code false) c.relocation_in-relocation.ensures
-          (subst (IsInLabel a.context.now.architecture a.context.now.phase c.relocation_in-relocation.result.code) c.if-not-is_in_label.true c.is_in_label.ensures));
+          (subst (λ r. IsInLabel a.context.now.architecture a.context.now.phase r.r_type false) c.relocation_in-relocation.ensures
+          (subst (IsInLabel a.context.now.architecture a.context.now.phase c.relocation_in-relocation.result.r_type) c.if-not-is_in_label.true c.is_in_label.ensures));
       others = c.loop-index.invariant.others;
     }

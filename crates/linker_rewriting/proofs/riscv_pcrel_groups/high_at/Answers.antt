@@ -1,6 +1,6 @@
 use Rattle.std.proofs.Common.{◌≡◌, ◌≤◌, ◌<◌, ◌⊎◌, inl, inr, ℕ, subst, arith, false, below_more}
 use Rattle.linker_rewriting.specs.RiscVPcrelGroups.{is_high}
-use Rattle.linker_rewriting.proofs.LabelGroups.{isnt_code, found, none_at, none_searched}
+use Rattle.linker_rewriting.proofs.LabelGroups.{isnt_r_type, found, none_at, none_searched}
 use Rattle.linker_rewriting.proofs.Imports.{relocation_in}
 use Rattle.linker_rewriting.proofs.riscv_pcrel_groups.high_at.Goals as goal
 
@@ -18,25 +18,25 @@ ended (inr some) most same = inr (omega (arith, some, most))
 pub loop-index-preserved : goal.loop-index-preserved
 loop-index-preserved c k from below =
     let a = c.args in
-    below_more (λ j. c.first_from-first.result ≤ j → is_high a.code a.at (relocation_in a.relocations.now j) ≡ false)
+    below_more (λ j. c.first_from-first.result ≤ j → is_high a.r_type a.at (relocation_in a.relocations.now j) ≡ false)
     c.loop-index.index (λ j under first. c.loop-index.invariant j first under)
-    (λ _. subst (λ r. is_high a.code a.at r ≡ false) c.relocation_in-relocation.ensures
-    (isnt_code a.code a.at c.relocation_in-relocation.result c.if-relocation-code.false))
+    (λ _. subst (λ r. is_high a.r_type a.at r ≡ false) c.relocation_in-relocation.ensures
+    (isnt_r_type a.r_type a.at c.relocation_in-relocation.result c.if-relocation-r_type.false))
     k below from
 
-pub returns-then-relocation-code-clause-high : goal.returns-then-relocation-code-clause-high
-returns-then-relocation-code-clause-high c =
+pub returns-then-relocation-r_type-clause-high : goal.returns-then-relocation-r_type-clause-high
+returns-then-relocation-r_type-clause-high c =
     let a = c.args in
-    λ ascending. found a.relocations.now a.code a.at c.first_from-first.result c.loop-index.index
+    λ ascending. found a.relocations.now a.r_type a.at c.first_from-first.result c.loop-index.index
     c.relocation_in-relocation.result (c.first_from-first.ensures.before ascending)
     c.loop-index.invariant (inside c.loop-index-test.true c.search_end-index-end.ensures.within c.relocations_len.ensures)
     (below c.loop-index-test.true c.search_end-index-end.ensures.near)
-    c.relocation_in-relocation.ensures c.if-relocation-at.false c.if-relocation-code.true
+    c.relocation_in-relocation.ensures c.if-relocation-at.false c.if-relocation-r_type.true
 
 pub returns-then-relocation-at-clause-high : goal.returns-then-relocation-at-clause-high
 returns-then-relocation-at-clause-high c =
     let a = c.args in
-    λ ascending. none_at a.relocations.now a.code a.at c.first_from-first.result c.loop-index.index ascending
+    λ ascending. none_at a.relocations.now a.r_type a.at c.first_from-first.result c.loop-index.index ascending
     (c.first_from-first.ensures.before ascending) (c.first_from-first.ensures.following ascending)
     c.loop-index.invariant c.loop-index.auto.index
     (inside c.loop-index-test.true c.search_end-index-end.ensures.within c.relocations_len.ensures)
@@ -45,7 +45,7 @@ returns-then-relocation-at-clause-high c =
 pub returns-clause-high : goal.returns-clause-high
 returns-clause-high c =
     let a = c.args in
-    λ ascending. none_searched a.relocations.now a.code a.at c.first_from-first.result c.loop-index.index ascending
+    λ ascending. none_searched a.relocations.now a.r_type a.at c.first_from-first.result c.loop-index.index ascending
     (c.first_from-first.ensures.before ascending) (c.first_from-first.ensures.following ascending)
     c.loop-index.invariant
     (ended c.search_end-index-end.ensures.far c.loop-index-test.false c.relocations_len.ensures)

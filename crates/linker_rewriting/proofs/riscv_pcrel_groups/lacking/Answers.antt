@@ -9,7 +9,7 @@ returns-then-not-is_in_label-clause-lacking c =
     let a = c.args in
     λ ascending. unlabelled_lacks (context_of a.context.now)
     a.relocations.now a.section.now a.index a.relocation.now
-    (subst (IsInLabel a.context.now.architecture a.context.now.phase a.relocation.now.code) c.if-not-is_in_label.true c.is_in_label.ensures)
+    (subst (IsInLabel a.context.now.architecture a.context.now.phase a.relocation.now.r_type) c.if-not-is_in_label.true c.is_in_label.ensures)
 
 pub returns-in-Some-label_candidate-clause-lacking : goal.returns-in-Some-label_candidate-clause-lacking
 returns-in-Some-label_candidate-clause-lacking c =

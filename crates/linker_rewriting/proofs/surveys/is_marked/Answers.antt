@@ -5,14 +5,14 @@ use Rattle.linker_rewriting.proofs.Imports.{Rela, relocation_in}
 use Rattle.linker_rewriting.proofs.surveys.is_marked.Goals as goal
 
 marked_by : (bytes : List ℕ) (n : ℕ) (r before : Rela) (marked is_mark : Bool) → n ≢ 0
-    → before ≡ relocation_in bytes (n - 1) → IsMark before.code is_mark
+    → before ≡ relocation_in bytes (n - 1) → IsMark before.r_type is_mark
     → marked ≡ (is_mark && before.offset == r.offset) → IsMarked bytes n r marked
 marked_by bytes zero r before marked is_mark some is marks value = absurd (some refl)
 marked_by bytes (suc n) r before marked is_mark some is marks value =
     let e : suc n - 1 ≡ n = omega arith in
     let there : before ≡ relocation_in bytes n = subst (λ m. before ≡ relocation_in bytes m) e is in (
       is_mark,
-      subst (λ x. IsMark x.code is_mark) there marks,
+      subst (λ x. IsMark x.r_type is_mark) there marks,
       subst (λ x. marked ≡ (is_mark && x.offset == r.offset)) there value,
     )
 

@@ -1,5 +1,5 @@
 use Rattle.std.proofs.Common.{◌≤◌, arith, refl, subst}
-use Rattle.linker_rewriting.specs.Inner.Codes.{KeepsNone}
+use Rattle.linker_rewriting.specs.Inner.RelocationTypes.{KeepsNone}
 use Rattle.linker_rewriting.proofs.Imports.{relocation_in}
 use Rattle.linker_rewriting.proofs.surveys.next_in.Goals as goal
 use borrow.Author.Count.{below_more}

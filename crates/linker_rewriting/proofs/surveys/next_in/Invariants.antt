@@ -1,5 +1,5 @@
 use Rattle.std.proofs.Common.{ℕ, ◌≤◌, ◌<◌}
-use Rattle.linker_rewriting.specs.Inner.Codes.{KeepsNone}
+use Rattle.linker_rewriting.specs.Inner.RelocationTypes.{KeepsNone}
 use Rattle.linker_rewriting.proofs.Imports.{relocation_in}
 use Rattle.linker_rewriting.proofs.surveys.next_in.Given as goal
 

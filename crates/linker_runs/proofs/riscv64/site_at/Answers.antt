@@ -26,7 +26,7 @@ returns-then-not-may_free-clause-none g c =
 pub returns-clause-some : goal.returns-clause-some
 returns-clause-some g c = record {
   name = c.requires.called;
-  marked = subst (λ code. IsMarked code (map g.R.AsRelocation.relocation c.args.relocations.now) c.args.index) c.elf_code.ensures (c.is_marked.ensures.0 (search rules));
+  marked = subst (λ r_type. IsMarked r_type (map g.R.AsRelocation.relocation c.args.relocations.now) c.args.index) c.r_type.ensures (c.is_marked.ensures.0 (search rules));
   frees = c.may_free.ensures.0 (search rules);
   place = ap (λ r. c.args.base + r.offset) c.relocation_at-relocation.ensures;
   is_call = subst (λ r. IsCallAt c.args.section.now r.offset) c.relocation_at-relocation.ensures c.in_ok-link.ensures.0;

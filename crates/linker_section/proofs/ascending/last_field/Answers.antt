@@ -14,9 +14,9 @@ returns-in-Some c field is =
     let following = c.requires.following in
     let own = is.own other k (omega (arith, other, following)) in
     let same = c.relocation_in-relocation.ensures in
-    let row : IsRow a.architecture (relocation_in a.relocations.now k).code (Some c.in-Some.row) =
-    subst (λ r. IsRow a.architecture r.code (Some c.in-Some.row)) same
-    (subst (IsRow a.architecture c.relocation_in-relocation.result.code) c.in-Some.is c.row.ensures) in
+    let row : IsRow a.architecture (relocation_in a.relocations.now k).r_type (Some c.in-Some.row) =
+    subst (λ r. IsRow a.architecture r.r_type (Some c.in-Some.row)) same
+    (subst (IsRow a.architecture c.relocation_in-relocation.result.r_type) c.in-Some.is c.row.ensures) in
     let one : c.in-Some.row ≡ own.row = one_info a.architecture _ c.in-Some.row own.row row own.is_row in
     let made : Field = record { offset = c.relocation_in-relocation.result.offset; len = c.window.result; kind = c.kind.result } in
     let first : made ≡ record { offset = offset_at a.relocations.now k; len = window_len c.in-Some.row; kind = c.in-Some.row.kind } =
@@ -30,7 +30,7 @@ returns-in-None c field is =
     let other = c.if-step-index.false in
     let following = c.requires.following in
     let own = is.own other k (omega (arith, other, following)) in
-    let row : IsRow a.architecture (relocation_in a.relocations.now k).code None =
-    subst (λ r. IsRow a.architecture r.code None) c.relocation_in-relocation.ensures
-    (subst (IsRow a.architecture c.relocation_in-relocation.result.code) c.in-None.is c.row.ensures) in
+    let row : IsRow a.architecture (relocation_in a.relocations.now k).r_type None =
+    subst (λ r. IsRow a.architecture r.r_type None) c.relocation_in-relocation.ensures
+    (subst (IsRow a.architecture c.relocation_in-relocation.result.r_type) c.in-None.is c.row.ensures) in
     absurd (true≢false (sym (ap is_some (one_row a.architecture _ None (Some own.row) row own.is_row))))

@@ -22,8 +22,8 @@ write_held_at-requires-clause-length g c inside long =
     let o = c.args.relocation.now.offset in
     let row = c.in-Some.row in
     let small : (i : ℕ) → slice_index section i < 256 = λ i. search rules in
-    let way = says_way c.args.architecture c.args.relocation.now.code row
-    (subst (IsRow c.args.architecture c.args.relocation.now.code) c.in-Some.is c.row.ensures) in
+    let way = says_way c.args.architecture c.args.relocation.now.r_type row
+    (subst (IsRow c.args.architecture c.args.relocation.now.r_type) c.in-Some.is c.row.ensures) in
     let word = subst (λ x. IfSome x (λ word. word ≡ from_le_bytes w64 (drop o section))) c.in-Some-whole_word_at.is c.whole_word_at.ensures.word in
     let several = shows_lengths c.args.architecture in
     elim (cases_Bool several) [

@@ -18,6 +18,6 @@ returns-clause-is c =
       | else-header-2 w ↦ w.has_addend-is ∙ w.if-header-2.false ∙ sym (ap (λ t. t && (first / 4 % 2 == 1)) w.if-header-2.false)
     ] in
     sym (next_is h c.args.section.now c.args.prior.now first c.if-header.flags c.if-header-2.has_addend
-    c.in_ok-high.high c.in_ok-symbol.symbol c.in_ok-code.code c.in_ok-addend.addend (omega arith) (search rules) flags has
+    c.in_ok-high.high c.in_ok-symbol.symbol c.in_ok-r_type.r_type c.in_ok-addend.addend (omega arith) (search rules) flags has
     (sym c.delta_at.ensures.is ∙ c.in_ok-high.was) (sym c.delta_at-2.ensures.is ∙ c.in_ok-symbol.was)
-    (sym c.delta_at-3.ensures.is ∙ c.in_ok-code.was) (sym c.delta_at-4.ensures.is ∙ c.in_ok-addend.was))
+    (sym c.delta_at-3.ensures.is ∙ c.in_ok-r_type.was) (sym c.delta_at-4.ensures.is ∙ c.in_ok-addend.was))

@@ -9,7 +9,7 @@ pub returns-in_default-clause-no : goal.returns-in_default-clause-no
 returns-in_default-clause-no c same next pair =
     let a = c.args in
     none_is_some (sym c.in_default.is ∙ one_row a.architecture _ c.row.result (Some pair.row)
-    (subst (λ r. IsRow a.architecture r.code c.row.result) c.relocation_in.ensures c.row.ensures) pair.is_row)
+    (subst (λ r. IsRow a.architecture r.r_type c.row.result) c.relocation_in.ensures c.row.ensures) pair.is_row)
 
 pub returns-clause-yes : goal.returns-clause-yes
 returns-clause-yes c answer = (

@@ -14,7 +14,7 @@ use Rattle.linker_section.proofs.resolved.found_resolved.Goals as goal
 pub plain_value-requires-clause-needs : goal.plain_value-requires-clause-needs
 plain_value-requires-clause-needs g c =
     let a = c.args in
-    says a.architecture a.relocation.now.code a.row.now c.requires.row
+    says a.architecture a.relocation.now.r_type a.row.now c.requires.row
 
 pub plain_value-requires-clause-plain : goal.plain_value-requires-clause-plain
 plain_value-requires-clause-plain g c = ap is_plain_way (sym (ap (λ f. f.way) c.facts.ensures)) ∙ c.has_plain_way.ensures.plain c.if-has_plain_way.true
@@ -22,7 +22,7 @@ plain_value-requires-clause-plain g c = ap is_plain_way (sym (ap (λ f. f.way) c
 pub plain_value-requires-clause-way : goal.plain_value-requires-clause-way
 plain_value-requires-clause-way g c =
     let a = c.args in
-    says_way a.architecture a.relocation.now.code a.row.now c.requires.row
+    says_way a.architecture a.relocation.now.r_type a.row.now c.requires.row
 
 pub returns-then-has_plain_way : goal.returns-then-has_plain_way
 returns-then-has_plain_way g c =
@@ -32,14 +32,14 @@ returns-then-has_plain_way g c =
     let known = a.known.now in
     let lookup = g.L.Lookup.resolved a._lookup in
     let is = c.requires.is in
-    let way = says_way a.architecture a.relocation.now.code row c.requires.row in
+    let way = says_way a.architecture a.relocation.now.r_type row c.requires.row in
     let said = sym (ap (λ f. f.way) c.facts.ensures) in
     let plain : is_plain row ≡ true = ap is_plain_way said ∙ c.has_plain_way.ensures.plain c.if-has_plain_way.true in
     let origin = ap (λ w. is_offset_way w && not a.addresses.now.has_tls) said ∙ c.has_plain_way.ensures.origin c.if-has_plain_way.true in
     let keeps = ap (λ r. lacks_resolved_stub a.architecture r (Some known)) (sym is) ∙ (sym c.lacks_known_stub.ensures ∙ c.if-lacks_known_stub.false) in
     if_some c.plain_value.result
     (λ v value reached. plain_resolved a.architecture a.addresses.now bytes lookup a._index row v known c.requires.within
-    (subst (λ r. IsRow a.architecture r.code (Some row)) is c.requires.row) way (ap (lookup a._index) (sym is) ∙ c.requires.known)
+    (subst (λ r. IsRow a.architecture r.r_type (Some row)) is c.requires.row) way (ap (lookup a._index) (sym is) ∙ c.requires.known)
     c.if-known.false keeps (ap (λ r. needs_upper a.architecture r v) (sym is) ∙ reached) plain origin
     (subst (λ r. IsPlainResolved a.architecture a.addresses.now row r known v) is value))
     c.plain_value.ensures
@@ -52,11 +52,11 @@ returns-in-Low g c =
     let known = a.known.now in
     let lookup = g.L.Lookup.resolved a._lookup in
     let is = c.requires.is in
-    let way = says_way a.architecture a.relocation.now.code row c.requires.row in
+    let way = says_way a.architecture a.relocation.now.r_type row c.requires.row in
     let low : is_low row ≡ true = ap is_low_way (sym (ap (λ f. f.way) c.facts.ensures) ∙ c.in-Low.is) in
     let keeps = ap (λ r. lacks_resolved_stub a.architecture r (Some known)) (sym is) ∙ (sym c.lacks_known_stub.ensures ∙ c.if-lacks_known_stub.false) in
     if_some c.value_at.result
     (λ v value reached. low_resolved a.architecture a.addresses.now bytes lookup a._index row v known c.requires.within
-    (subst (λ r. IsRow a.architecture r.code (Some row)) is c.requires.row) way (ap (lookup a._index) (sym is) ∙ c.requires.known)
+    (subst (λ r. IsRow a.architecture r.r_type (Some row)) is c.requires.row) way (ap (lookup a._index) (sym is) ∙ c.requires.known)
     c.if-known.false keeps (ap (λ r. needs_upper a.architecture r v) (sym is) ∙ reached) low a.high c.requires.high value)
     c.value_at.ensures

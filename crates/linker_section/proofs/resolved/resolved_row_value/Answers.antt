@@ -16,8 +16,8 @@ use Rattle.linker_section.proofs.resolved.resolved_row_value.Goals as goal
 pub returns-in_default : goal.returns-in_default
 returns-in_default g c =
     let a = c.args in
-    let is_row = subst (λ r. IsRow a.architecture r.code None) c.requires.is
-    (subst (IsRow a.architecture a.relocation.now.code) c.in_default.is c.row.ensures) in
+    let is_row = subst (λ r. IsRow a.architecture r.r_type None) c.requires.is
+    (subst (IsRow a.architecture a.relocation.now.r_type) c.in_default.is c.row.ensures) in
     (None, is_row, IsUnresolved.valueless refl)
 
 pub returns-then-is_skipped : goal.returns-then-is_skipped
@@ -27,8 +27,8 @@ returns-then-is_skipped g c =
     let r = relocation_in bytes a.index in
     let row = c.in-Some.row in
     let lookup = g.L.Lookup.resolved a.lookup in
-    let is_row = subst (λ x. IsRow a.architecture x.code (Some row)) c.requires.is
-    (subst (IsRow a.architecture a.relocation.now.code) c.in-Some.is c.row.ensures) in
+    let is_row = subst (λ x. IsRow a.architecture x.r_type (Some row)) c.requires.is
+    (subst (IsRow a.architecture a.relocation.now.r_type) c.in-Some.is c.row.ensures) in
     let known = c.resolved-known.ensures ∙ ap (lookup a.index) c.requires.is in
     let skipped : is_skipped (Some row) (lookup a.index r) ≡ true =
     ap (is_skipped (Some row)) (sym known) ∙ (sym c.is_skipped.ensures ∙ c.if-is_skipped.true) in (
@@ -39,7 +39,7 @@ returns-then-is_skipped g c =
 
 -- what is known of one that isn't left out
 record Known (g : Over) (c : After-value_by g) : Type 0 where
-  is_row : IsRow c.args.architecture (relocation_in c.args.relocations.now c.args.index).code (Some c.in-Some.row)
+  is_row : IsRow c.args.architecture (relocation_in c.args.relocations.now c.args.index).r_type (Some c.in-Some.row)
   known_is : c.resolved-known.result ≡ g.L.Lookup.resolved c.args.lookup c.args.index (relocation_in c.args.relocations.now c.args.index)
   isnt : is_skipped (Some c.in-Some.row) (g.L.Lookup.resolved c.args.lookup c.args.index (relocation_in c.args.relocations.now c.args.index)) ≡ false
   value : IsResolvedIn c.args.architecture c.args.addresses.now c.args.relocations.now (g.L.Lookup.resolved c.args.lookup) c.args.index (Some c.in-Some.row) c.value_by.result
@@ -53,8 +53,8 @@ known g c =
     let lookup = g.L.Lookup.resolved a.lookup in
     let is = c.resolved-known.ensures ∙ ap (lookup a.index) c.requires.is in
     record {
-      is_row = subst (λ x. IsRow a.architecture x.code (Some row)) c.requires.is
-          (subst (IsRow a.architecture a.relocation.now.code) c.in-Some.is c.row.ensures);
+      is_row = subst (λ x. IsRow a.architecture x.r_type (Some row)) c.requires.is
+          (subst (IsRow a.architecture a.relocation.now.r_type) c.in-Some.is c.row.ensures);
       known_is = is;
       isnt = ap (is_skipped (Some row)) (sym is) ∙ (sym c.is_skipped.ensures ∙ c.if-is_skipped.false);
       value = subst (λ x. IsResolvedBy (names_label row.size row.kind) a.architecture a.addresses.now bytes lookup row x c.resolved-known.result c.value_by.result → IsResolvedBy (names_label row.size row.kind) a.architecture a.addresses.now bytes lookup row r (lookup a.index r) c.value_by.result) (sym c.requires.is)
@@ -65,8 +65,8 @@ known g c =
 pub value_by-requires : goal.value_by-requires
 value_by-requires g c =
     let a = c.args in
-    says a.architecture a.relocation.now.code c.in-Some.row
-    (subst (IsRow a.architecture a.relocation.now.code) c.in-Some.is c.row.ensures)
+    says a.architecture a.relocation.now.r_type c.in-Some.row
+    (subst (IsRow a.architecture a.relocation.now.r_type) c.in-Some.is c.row.ensures)
 
 -- an outcome of one that isn't left out
 unless : (g : Over) (c : After-value_by g) (outcome : Outcome)

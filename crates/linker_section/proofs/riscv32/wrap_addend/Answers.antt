@@ -6,5 +6,5 @@ use Rattle.linker_section.proofs.riscv32.wrap_addend.Goals as goal
 
 pub own_value-requires : goal.own_value-requires
 own_value-requires c =
-    says RiscV c.args.relocation.now.code c.in-Some.row
-    (subst (IsRow RiscV c.args.relocation.now.code) c.in-Some.is c.row.ensures)
+    says RiscV c.args.relocation.now.r_type c.in-Some.row
+    (subst (IsRow RiscV c.args.relocation.now.r_type) c.in-Some.is c.row.ensures)

@@ -19,7 +19,7 @@ loop-index-preserved c =
           let kept = subst (λ k. Restores a.architecture a.relocations.now a.memory.now k c.loop-index.section before) one
           (c.loop-index.invariant.restores before start) in
           let same : kept.0 ≡ c.row.result = one_row a.architecture _ (kept.0) c.row.result (kept.1)
-          (subst (λ x. IsRow a.architecture x.code c.row.result) c.relocation_in-relocation.ensures c.row.ensures) in
+          (subst (λ x. IsRow a.architecture x.r_type c.row.result) c.relocation_in-relocation.ensures c.row.ensures) in
           let put : c.put_word.new.section ≡ with_word (saved_place c.row.result r.offset) word c.loop-index.section =
           c.put_word.ensures ∙ ap (λ p. with_word p word c.loop-index.section)
           (c.saved_place-place.ensures ∙ ap (λ x. saved_place c.row.result x.offset) c.relocation_in-relocation.ensures) in

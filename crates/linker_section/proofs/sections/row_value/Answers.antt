@@ -9,20 +9,20 @@ use Rattle.linker_section.proofs.sections.row_value.Goals as goal
 pub value_of-requires : goal.value_of-requires
 value_of-requires c =
     let a = c.args in
-    says a.architecture a.relocation.now.code c.in-Some.row
-    (subst (IsRow a.architecture a.relocation.now.code) c.in-Some.is c.row.ensures)
+    says a.architecture a.relocation.now.r_type c.in-Some.row
+    (subst (IsRow a.architecture a.relocation.now.r_type) c.in-Some.is c.row.ensures)
 
 pub returns-in_default : goal.returns-in_default
 returns-in_default c =
     let a = c.args in
-    IsValueless.no_value (None, subst (IsRow a.architecture a.relocation.now.code) c.in_default.is c.row.ensures, refl)
+    IsValueless.no_value (None, subst (IsRow a.architecture a.relocation.now.r_type) c.in_default.is c.row.ensures, refl)
 
 pub returns-then-lacks_stub : goal.returns-then-lacks_stub
 returns-then-lacks_stub c =
     let a = c.args in
     let value : IsValue a.architecture a.addresses.now a.relocations.now a.symbols.now a.relocation.now c.value_of.result = (
       Some c.in-Some.row,
-      subst (IsRow a.architecture a.relocation.now.code) c.in-Some.is c.row.ensures,
+      subst (IsRow a.architecture a.relocation.now.r_type) c.in-Some.is c.row.ensures,
       c.value_of.ensures,
     ) in
     IsValueless.no_stub
@@ -34,7 +34,7 @@ returns-then-not-is_in_reach c =
     let a = c.args in
     let value : IsValue a.architecture a.addresses.now a.relocations.now a.symbols.now a.relocation.now c.value_of.result = (
       Some c.in-Some.row,
-      subst (IsRow a.architecture a.relocation.now.code) c.in-Some.is c.row.ensures,
+      subst (IsRow a.architecture a.relocation.now.r_type) c.in-Some.is c.row.ensures,
       c.value_of.ensures,
     ) in
     let fits : FitsSigned w64 c.in-Ok-Some.value = search rules in
@@ -47,7 +47,7 @@ returns-else-is_filled c =
     let a = c.args in
     let value : IsValue a.architecture a.addresses.now a.relocations.now a.symbols.now a.relocation.now c.value_of.result = (
       Some c.in-Some.row,
-      subst (IsRow a.architecture a.relocation.now.code) c.in-Some.is c.row.ensures,
+      subst (IsRow a.architecture a.relocation.now.r_type) c.in-Some.is c.row.ensures,
       c.value_of.ensures,
     ) in
     IsValueless.not_filled
@@ -59,7 +59,7 @@ returns-in-Err c =
     let a = c.args in
     let value : IsValue a.architecture a.addresses.now a.relocations.now a.symbols.now a.relocation.now c.value_of.result = (
       Some c.in-Some.row,
-      subst (IsRow a.architecture a.relocation.now.code) c.in-Some.is c.row.ensures,
+      subst (IsRow a.architecture a.relocation.now.r_type) c.in-Some.is c.row.ensures,
       c.value_of.ensures,
     ) in
     IsValueless.no_value
@@ -75,7 +75,7 @@ returns-else-not-is_in_reach c =
     c.value_of.ensures in
     subst (HasValue a.architecture a.addresses.now a.relocations.now a.symbols.now a.relocation.now row) (sym (to_z-of_z w64 v fits))
     (record {
-      is_row = subst (IsRow a.architecture a.relocation.now.code) c.in-Some.is c.row.ensures;
+      is_row = subst (IsRow a.architecture a.relocation.now.r_type) c.in-Some.is c.row.ensures;
       is_value = subst (IsValueIn a.architecture a.addresses.now a.relocations.now a.symbols.now a.relocation.now (Some row)) (c.in-Ok-Some.is ∙ ap Ok c.in-Ok-Some.field-0-is) value;
       keeps_toc = sym c.lacks_stub.ensures ∙ c.if-lacks_stub.false;
       in_reach = subst (IsInReach a.architecture a.relocations.now a.relocation.now) (to_z-of_z w64 v fits) ((c.is_in_reach.ensures).0 c.if-not-is_in_reach.false);

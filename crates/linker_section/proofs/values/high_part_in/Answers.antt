@@ -16,7 +16,7 @@ returns-then-is_high_part-clause-found c =
         is_there = cond-true _ (Some (relocation_in bytes a.index)) None (lt-ltb a.index (length bytes / 24) c.requires)
             ∙ ap Some (sym c.relocation_in-relocation.ensures);
         offset_is = omega (arith, same);
-        row_is = subst (IsRow a.architecture r.code) c.in-Some.is c.row.ensures;
+        row_is = subst (IsRow a.architecture r.r_type) c.in-Some.is c.row.ensures;
         is_high = subst (λ info. is_high_part a.low (Some info) ≡ true) c.info.ensures.row
             (sym c.is_high_part.ensures ∙ c.if-is_high_part.true);
       },

@@ -9,8 +9,8 @@ use crate::riscv64::{RewriteKind, RiscVRelocation};
 impl RecognisedName for RiscVRelocation {
     type Kind = RewriteKind;
 
-    fn code(self) -> u32 {
-        self.elf_code()
+    fn elf_type(self) -> u32 {
+        self.r_type()
     }
 
     fn relaxation(kind: Self::Kind) -> Relaxation {

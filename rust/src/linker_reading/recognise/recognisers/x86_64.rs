@@ -9,8 +9,8 @@ use crate::x86_64::{RewriteKind, X86_64Relocation};
 impl RecognisedName for X86_64Relocation {
     type Kind = RewriteKind;
 
-    fn code(self) -> u32 {
-        self.elf_code()
+    fn elf_type(self) -> u32 {
+        self.r_type()
     }
 
     fn relaxation(kind: Self::Kind) -> Relaxation {

@@ -284,8 +284,8 @@ fn halves_made<const N: usize>(mut words: [u32; N], halves: &[(u64, bool)]) -> (
         false => AArch64Relocation::R_AARCH64_TLSIE_LD64_GOTTPREL_LO12_NC,
     };
     let group_fits = halves.iter().all(|&(at, is_high)| {
-        let code = named(is_high).elf_code();
-        fits(Architecture::AArch64, code, &section, at, &facts)
+        let r_type = named(is_high).r_type();
+        fits(Architecture::AArch64, r_type, &section, at, &facts)
     });
     let facts = LinkFacts { group_fits, ..facts };
     let chosen: Vec<_> = halves

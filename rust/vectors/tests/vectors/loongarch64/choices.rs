@@ -249,8 +249,8 @@ fn group_made<const N: usize>(
         LinkFacts { group_fits, operands: Operands { place, ..facts.operands }, ..*facts }
     };
     let group_fits = group.iter().all(|&(at, name)| {
-        let (of, code) = (Architecture::LoongArch64, name.elf_code());
-        architecture::fits(of, code, &section, at, &at_place(at, false))
+        let (of, r_type) = (Architecture::LoongArch64, name.r_type());
+        architecture::fits(of, r_type, &section, at, &at_place(at, false))
     });
     let chosen: Vec<_> = group
         .iter()

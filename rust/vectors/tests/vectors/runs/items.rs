@@ -16,13 +16,13 @@ fn section_items(
     runs::section_items(machine, &Section { base, ..Section::new(section, []) }, relocations)
 }
 
-fn relocation(offset: u64, code: u32, addend: i64, target: Option<u64>) -> Relocation {
-    Relocation { offset, code, has_symbol: false, addend, target, may_compress: true }
+fn relocation(offset: u64, r_type: u32, addend: i64, target: Option<u64>) -> Relocation {
+    Relocation { offset, r_type, has_symbol: false, addend, target, may_compress: true }
 }
 
 /// As `relocation`, with a symbol.
-fn of_symbol(offset: u64, code: u32, addend: i64) -> Relocation {
-    Relocation { has_symbol: true, ..relocation(offset, code, addend, None) }
+fn of_symbol(offset: u64, r_type: u32, addend: i64) -> Relocation {
+    Relocation { has_symbol: true, ..relocation(offset, r_type, addend, None) }
 }
 
 /// Requires these items of a section at the offset 0x100 of the run, each of the relocation at its

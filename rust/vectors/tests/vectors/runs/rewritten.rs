@@ -36,9 +36,9 @@ type Bytes = Section<Vec<u8>, Vec<u8>>;
 /// The bytes of a section of relocations.
 fn table(entries: &[Entry]) -> Vec<u8> {
     let mut bytes = Vec::new();
-    for &(offset, code, symbol, addend) in entries {
+    for &(offset, r_type, symbol, addend) in entries {
         bytes.extend(offset.to_le_bytes());
-        bytes.extend((u64::from(code) | u64::from(symbol) << 32).to_le_bytes());
+        bytes.extend((u64::from(r_type) | u64::from(symbol) << 32).to_le_bytes());
         bytes.extend(addend.to_le_bytes());
     }
     bytes
@@ -113,10 +113,10 @@ fn expect(
     let run = Run { start: START, items: &items, deltas };
     pack_run(machine, &mut section, &run, &mut packed).unwrap();
     assert_eq!(packed, expected);
-    let is_mark = |code| code == 0 || code == 51 || code == 100; // `R_RISCV_RELAX`, `R_LARCH_RELAX`
+    let is_mark = |r_type| r_type == 0 || r_type == 51 || r_type == 100; // `R_RISCV_RELAX`, `R_LARCH_RELAX`
     let left: Vec<_> = relocations(&section.relocations)
-        .filter(|it| !is_mark(it.code))
-        .map(|it| (it.offset, it.code))
+        .filter(|it| !is_mark(it.r_type))
+        .map(|it| (it.offset, it.r_type))
         .collect();
     assert_eq!(left, types);
     // values leave these bytes, and follow a symbol that is elsewhere
@@ -188,7 +188,7 @@ const LOONGARCH: [u32; 14] = [
 #[test]
 fn loongarch_sections_without_thread_offsets_are_packed() {
     let section: Vec<u8> = LOONGARCH[..13].iter().flat_map(|word| word.to_le_bytes()).collect();
-    let relaxed = |offset, code, symbol| [(offset, code, symbol, 0), (offset, 100, 0, 0)];
+    let relaxed = |offset, r_type, symbol| [(offset, r_type, symbol, 0), (offset, 100, 0, 0)];
     let entries = [
         relaxed(0, 110, 2),
         relaxed(8, 121, 1),
@@ -210,8 +210,8 @@ fn loongarch_sections_without_thread_offsets_are_packed() {
     expect(LoongArch64, Architecture::LoongArch64, &section, &entries, 40, &expected, &types);
 }
 
-fn relocation(offset: u64, code: u32, addend: i64, target: Option<u64>) -> Relocation {
-    Relocation { offset, code, has_symbol: false, addend, target, may_compress: true }
+fn relocation(offset: u64, r_type: u32, addend: i64, target: Option<u64>) -> Relocation {
+    Relocation { offset, r_type, has_symbol: false, addend, target, may_compress: true }
 }
 
 /// The items of the RISC-V section with such deletions, and their makers.

@@ -42,4 +42,4 @@ decide-requires-clause-noted c in_label =
     let a = c.args in
     let x = a.self.now.context.now in
     subst (λ r. IsLabelNote (context_of x) a.relocations.now a.section.now r a.stays) (sym c.requires.there)
-    (c.requires.noted (subst (λ r. IsInLabel x.architecture x.phase r.code true) c.requires.there in_label))
+    (c.requires.noted (subst (λ r. IsInLabel x.architecture x.phase r.r_type true) c.requires.there in_label))

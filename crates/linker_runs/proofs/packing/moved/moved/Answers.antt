@@ -1,7 +1,7 @@
 use Rattle.std.proofs.Common.{rules, ◌≡◌, ◌+◌, ◌-◌, ◌∙◌, ap, sym, subst, arith}
 use Rattle.linker_base.specs.Deltas.{deletions_of}
 use Rattle.linker_base.specs.Deletions.{rank}
-use Rattle.linker_runs.specs.Moved.{BecomesCode}
+use Rattle.linker_runs.specs.Moved.{BecomesType}
 use Rattle.linker_runs.specs.Packing.{section_of}
 use Rattle.linker_runs.proofs.packing.moved.moved.Goals as goal
 use Rattle.linker_runs.proofs.packing.moved.moved.Goals.{then-relocation-len-2, else-relocation-len-2}
@@ -16,18 +16,18 @@ returns g c = λ valid begun start ready.
     let from : c.args.begin.now.output_offset ≡ rank ds c.args.base = begun.output ∙ ap (rank ds) c.requires.begin in
     record {
       offset = λ inside. omega (arith, c.saturating_sub.ensures, to, from);
-      code = λ low. elim c.if-relocation-len-2.branch [
+      r_type = λ low. elim c.if-relocation-len-2.branch [
         | then-relocation-len-2 w ↦
-            subst (λ code. BecomesCode c.args.machine s c.args.items.now (c.args.base + c.args.relocation.now.offset) c.args.relocation.now.code code) (sym w.code-is)
-            (subst (λ p. BecomesCode c.args.machine s c.args.items.now p c.args.relocation.now.code w.code_of-code.result) place
-            (w.code_of-code.ensures valid here c.args.section.now c.args.base start c.requires.small ready))
+            subst (λ r_type. BecomesType c.args.machine s c.args.items.now (c.args.base + c.args.relocation.now.offset) c.args.relocation.now.r_type r_type) (sym w.r_type-is)
+            (subst (λ p. BecomesType c.args.machine s c.args.items.now p c.args.relocation.now.r_type w.r_type_of-r_type.result) place
+            (w.r_type_of-r_type.ensures valid here c.args.section.now c.args.base start c.requires.small ready))
         | else-relocation-len-2 w ↦ absurd (omega (arith, w.if-relocation-len-2.false, low))
       ];
       symbol = search rules;
       addend = search rules;
-      end_code = λ past. elim c.if-relocation-len-2.branch [
+      end_r_type = λ past. elim c.if-relocation-len-2.branch [
         | then-relocation-len-2 w ↦ absurd (omega (arith, w.if-relocation-len-2.true, past))
-        | else-relocation-len-2 w ↦ w.code-is
+        | else-relocation-len-2 w ↦ w.r_type-is
       ];
       outside = λ far. absurd (omega (arith, c.if-relocation-len.false, far));
     }

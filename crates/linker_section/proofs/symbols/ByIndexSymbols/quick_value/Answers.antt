@@ -20,6 +20,6 @@ returns-clause-high c =
     let same = c.requires.is in
     if_some c.quick_value.result
     (λ v quick high. high_is a.architecture a.addresses.now bytes a.self.symbols.now a._index row a.relocation.now.offset v
-    c.requires.within (ap (λ r. r.offset) same) (says_way a.architecture a.relocation.now.code row c.requires.row) high
+    c.requires.within (ap (λ r. r.offset) same) (says_way a.architecture a.relocation.now.r_type row c.requires.row) high
     (subst (λ r. IsQuickValue a.architecture a.addresses.now bytes a.self.symbols.now r row v) same quick))
     c.quick_value.ensures

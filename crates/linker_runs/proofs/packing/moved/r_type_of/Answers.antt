@@ -1,11 +1,11 @@
 use Rattle.std.proofs.Common.{◌≡◌, ◌∙◌, refl, ap, sym, subst, arith}
 use Rattle.linker_base.specs.Deltas.{deletions_of}
 use Rattle.linker_base.specs.Deletions.{rank}
-use Rattle.linker_runs.specs.Moved.{BeginsAt, code_at_item, gone, of_item, other}
+use Rattle.linker_runs.specs.Moved.{BeginsAt, r_type_at_item, gone, of_item, other}
 use Rattle.linker_runs.specs.Packing.{kept_len}
 use Rattle.linker_runs.specs.Relaxing.{item_at, end_of, offset_of}
 use Rattle.linker_runs.proofs.Moved.{apart_items, gone_of, kept_of}
-use Rattle.linker_runs.proofs.packing.moved.code_of.Goals as goal
+use Rattle.linker_runs.proofs.packing.moved.r_type_of.Goals as goal
 
 pub returns-then-next-here : goal.returns-then-next-here
 returns-then-next-here g c = λ valid here bytes base start small ready.
@@ -30,7 +30,7 @@ returns-in-Some g c = λ valid here bytes base start small ready.
     let from : c.args.here.now.output_offset ≡ rank ds (offset_of item) = here.output ∙ ap (rank ds) (sym begins.0) in
     let len : c.saturating_sub-kept.result ≡ kept_len ds item = omega (arith, c.saturating_sub-kept.ensures, to, from) in
     of_item found.0 kept found.1 (subst (λ it. BeginsAt it p) (sym is) begins)
-    (c.code_at_item.ensures ∙ ap (λ n. code_at_item c.args.machine item n c.args.code) len ∙ ap (λ it. code_at_item c.args.machine it (kept_len ds it) c.args.code) (sym is))
+    (c.r_type_at_item.ensures ∙ ap (λ n. r_type_at_item c.args.machine item n c.args.r_type) len ∙ ap (λ it. r_type_at_item c.args.machine it (kept_len ds it) c.args.r_type) (sym is))
 
 pub returns-in-None : goal.returns-in-None
 returns-in-None g c = λ valid here bytes base start small ready.

@@ -1,5 +1,5 @@
 use Rattle.linker_rewriting.specs.Inner.Left.{AreUnlisted}
-use Rattle.linker_rewriting.proofs.codes.lists_any.Given as goal
+use Rattle.linker_rewriting.proofs.r_types.lists_any.Given as goal
 
 abbrev pub invariant-loop-index : goal.invariant-loop-index
 invariant-loop-index l = AreUnlisted l.architecture l.phase l.relocations l.index

@@ -1,8 +1,8 @@
 // SPDX-License-Identifier: MIT OR Apache-2.0
-// Made by tools/generate of crates/linker_rewriting/src/codes.rt.
-//! Whether a relocation may be rewritten in a phase, by its code, and whether a survey looks for
-//! its rewrite. Loops that ask this are compiled for each architecture and phase by itself: LLVM
-//! makes a few comparisons of it then.
+// Made by tools/generate of crates/linker_rewriting/src/r_types.rt.
+//! Whether a relocation may be rewritten in a phase, by its `r_type`, and whether a survey looks
+//! for its rewrite. Loops that ask this are compiled for each architecture and phase by itself:
+//! LLVM makes a few comparisons of it then.
 
 use crate::linker_rewriting::groups::{Scope, scope_in};
 use crate::linker_rewriting::phases::Phase;
@@ -30,28 +30,28 @@ macro_rules! of_each {
 
 pub(crate) use of_each;
 
-/// Whether a relocation with a code may be rewritten in a phase.
+/// Whether a relocation with an `r_type` may be rewritten in a phase.
 #[inline(always)]
-pub(crate) fn is_listed(architecture: Architecture, phase: Phase, code: u32) -> bool {
-    !matches!(scope_in(architecture, phase, code), Scope::NotRelaxable)
+pub(crate) fn is_listed(architecture: Architecture, phase: Phase, r_type: u32) -> bool {
+    !matches!(scope_in(architecture, phase, r_type), Scope::NotRelaxable)
 }
 
-/// Whether a survey of a phase looks for the rewrite of a relocation with a code, since it is of a
-/// group.
+/// Whether a survey of a phase looks for the rewrite of a relocation with an `r_type`, since it is
+/// of a group.
 #[inline(always)]
-pub(crate) fn is_surveyed(architecture: Architecture, phase: Phase, code: u32) -> bool {
+pub(crate) fn is_surveyed(architecture: Architecture, phase: Phase, r_type: u32) -> bool {
     matches!(
-        scope_in(architecture, phase, code),
+        scope_in(architecture, phase, r_type),
         Scope::Grouped(_) | Scope::IfGroupMatches(_)
     )
 }
 
-/// Whether one of the relocations may be rewritten in a phase, by its code.
+/// Whether one of the relocations may be rewritten in a phase, by its `r_type`.
 #[inline(always)]
 pub(crate) fn lists_any(architecture: Architecture, phase: Phase, relocations: &[u8]) -> bool {
     for index in 0..relocations_len(relocations) {
-        let code = relocation_in(relocations, index).code;
-        if is_listed(architecture, phase, code) {
+        let r_type = relocation_in(relocations, index).r_type;
+        if is_listed(architecture, phase, r_type) {
             return true;
         }
     }

@@ -1,8 +1,8 @@
-//! The codes, `r_type` in ELF files, of the relocations that fields of stubs and lazy PLTs have,
-//! and that loads from PowerPC64's `.toc` have.
+//! The `r_type`s of the relocations that fields of stubs and lazy PLTs have, and that loads from
+//! PowerPC64's `.toc` have.
 
-/// The code of a name.
-macro_rules! code {
+/// The `r_type` of a name.
+macro_rules! r_type {
     (R_AARCH64_ABS64) => { 257 };
     (R_AARCH64_PREL64) => { 260 };
     (R_AARCH64_ADR_PREL_PG_HI21) => { 275 };
@@ -28,4 +28,4 @@ macro_rules! code {
     (R_X86_64_32S) => { 11 };
 }
 
-pub(crate) use code;
+pub(crate) use r_type;

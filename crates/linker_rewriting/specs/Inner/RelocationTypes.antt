@@ -6,10 +6,10 @@ use Rattle.linker_rewriting.specs.Candidates.{calls_tls_get_addr}
 use Rattle.linker_rewriting.specs.Groups.{IsScopeIn}
 use Rattle.linker_elf.specs.declared.elf.architecture.Architecture.TheVariants as architectures
 
--- a relocation with a code that isn't listed has no scope
+-- a relocation with an `r_type` that isn't listed has no scope
 abbrev pub IsListed : Architecture → Phase → ℕ → Bool → Type 0
-IsListed architecture phase code listed =
-    listed ≡ false → IsScopeIn architecture phase code NotRelaxable
+IsListed architecture phase r_type listed =
+    listed ≡ false → IsScopeIn architecture phase r_type NotRelaxable
 
 -- a survey asks for the rewrite of what is of a group
 abbrev pub is_of_group : Scope → Bool
@@ -18,12 +18,13 @@ is_of_group (IfGroupMatches group) = true
 is_of_group scope = false
 
 abbrev pub IsOfNone : Architecture → Phase → ℕ → Type 0
-IsOfNone architecture phase code =
-    (scope : Scope) × IsScopeIn architecture phase code scope × (is_of_group scope ≡ false)
+IsOfNone architecture phase r_type =
+    (scope : Scope) × IsScopeIn architecture phase r_type scope × (is_of_group scope ≡ false)
 
 -- one that it doesn't ask for is of none
 abbrev pub IsUngroupedUnless : Architecture → Phase → ℕ → Bool → Type 0
-IsUngroupedUnless architecture phase code may_be_grouped = may_be_grouped ≡ false → IsOfNone architecture phase code
+IsUngroupedUnless architecture phase r_type may_be_grouped =
+    may_be_grouped ≡ false → IsOfNone architecture phase r_type
 
 -- PowerPC64: it asks for the mark of a use of `__tls_get_addr`
 abbrev pub needs_mark : Phase → Architecture → Option SymbolFacts → Bool
@@ -33,5 +34,5 @@ needs_mark phase architecture = λ symbol. false
 -- a relocation is of no group, and isn't may_be_grouped for its mark
 abbrev pub KeepsNone : Architecture → Phase → List SymbolFacts → Rela → Type 0
 KeepsNone architecture phase symbols r =
-    IsOfNone architecture phase r.code
+    IsOfNone architecture phase r.r_type
     × (needs_mark phase architecture (slice_get symbols r.symbol) ≡ false)

@@ -1,10 +1,10 @@
 // SPDX-License-Identifier: MIT OR Apache-2.0
-// Made by tools/generate of crates/linker_output/src/codes.rt.
-//! The codes, `r_type` in ELF files, of the relocations that fields of stubs and lazy PLTs have,
-//! and that loads from PowerPC64's `.toc` have.
+// Made by tools/generate of crates/linker_output/src/r_types.rt.
+//! The `r_type`s of the relocations that fields of stubs and lazy PLTs have, and that loads from
+//! PowerPC64's `.toc` have.
 
-/// The code of a name.
-macro_rules! code {
+/// The `r_type` of a name.
+macro_rules! r_type {
     (R_AARCH64_ABS64) => { 257 };
     (R_AARCH64_PREL64) => { 260 };
     (R_AARCH64_ADR_PREL_PG_HI21) => { 275 };
@@ -30,4 +30,4 @@ macro_rules! code {
     (R_X86_64_32S) => { 11 };
 }
 
-pub(crate) use code;
+pub(crate) use r_type;

@@ -1,25 +1,25 @@
 use Rattle.std.proofs.Common.{◌≡◌, ◌+◌, ◌-◌, ◌++◌, ◌<◌, ◌≤◌, None, suc, length, get_or, map, take, replicate, set, ap, sym, ◌∙◌, arith}
 use Rattle.std.proofs.lemmas.List.{append-nil, take_all}
-use Rattle.linker_reading.specs.FoundByCode.{by_code}
+use Rattle.linker_reading.specs.FoundByType.{by_type}
 use Rattle.linker_elf.specs.Architectures.{of_some}
 use Rattle.linker_reading.proofs.Tables.{mapped_more, same_more, none_of}
-use Rattle.linker_reading.proofs.recognise.architecture.all_by_code.Goals.{then-is_some, else-is_some}
-use Rattle.linker_reading.proofs.recognise.architecture.all_by_code.Goals as goal
+use Rattle.linker_reading.proofs.recognise.architecture.all_by_type.Goals.{then-is_some, else-is_some}
+use Rattle.linker_reading.proofs.recognise.architecture.all_by_type.Goals as goal
 
 pub loop-index-preserved : goal.loop-index-preserved
 loop-index-preserved g c =
     let i = c.loop-index.index in
     let found = c.args.found in
-    let f = of_some (by_code g.N.RecognisedName.how) in
+    let f = of_some (by_type g.N.RecognisedName.how) in
     let within : i < length found = omega (arith, c.requires, c.loop-index-test.true) in
     let left : 6 - i ≡ suc (6 - (i + 1)) = omega (arith, c.loop-index-test.true) in
     let next = ap (λ n. map f (take n found) ++ replicate (6 - (i + 1)) None) (let e : suc i ≡ i + 1 = omega arith in e) in
     elim c.if-is_some.branch [
-      | then-is_some w ↦ w.by_code-is ∙ ap (λ l. set l i w.coded.result) c.loop-index.invariant
-          ∙ ap (λ y. set (map f (take i found) ++ replicate (6 - i) None) i y) w.coded.ensures
+      | then-is_some w ↦ w.by_type-is ∙ ap (λ l. set l i w.typed.result) c.loop-index.invariant
+          ∙ ap (λ y. set (map f (take i found) ++ replicate (6 - i) None) i y) w.typed.ensures
           ∙ ap (λ n. set (map f (take i found) ++ replicate n None) i (f (get_or found i w.index-found-index-then-is_some.result))) left
           ∙ mapped_more f found i (6 - (i + 1)) w.index-found-index-then-is_some.result None within ∙ next
-      | else-is_some w ↦ w.by_code-is ∙ c.loop-index.invariant
+      | else-is_some w ↦ w.by_type-is ∙ c.loop-index.invariant
           ∙ ap (λ n. map f (take i found) ++ replicate n None) left
           ∙ same_more f found i (6 - (i + 1)) c.index-found-index.result None within
           (ap f (none_of (get_or found i c.index-found-index.result) (sym c.is_some.ensures ∙ w.if-is_some.false))) ∙ next
@@ -27,7 +27,7 @@ loop-index-preserved g c =
 
 pub returns : goal.returns
 returns g c =
-    let f = of_some (by_code g.N.RecognisedName.how) in
+    let f = of_some (by_type g.N.RecognisedName.how) in
     let found = c.args.found in
     let past : 6 ≤ c.loop-index.index = c.loop-index-test.false in
     c.loop-index.invariant

@@ -1,7 +1,7 @@
--- What a linker made of a relocation, by its architecture and its code.
+-- What a linker made of a relocation, by its architecture and its `r_type`.
 use Rattle.std.specs.Prelude.{◌≡◌, ◌↔◌, ℕ, List, map, Option, Some}
 use Rattle.linker_elf.specs.Choices.{choice}
-use Rattle.linker_elf.specs.ElfNames.{IsNameOf, code_of}
+use Rattle.linker_elf.specs.ElfNames.{IsNameOf, r_type_of}
 use Rattle.linker_elf.specs.declared.elf.choice.LinkFacts.{LinkFacts}
 use Rattle.linker_reading.specs.Recognised.{Recogniser, IsChosen, IsMade, IsFound}
 use Rattle.linker_reading.specs.Recognised.{AreExactly, ArePlaced, choices_at}
@@ -19,25 +19,25 @@ use Rattle.linker_elf.specs.declared.elf.architecture.Architecture.TheVariants.{
 use Rattle.linker_elf.specs.declared.elf.architecture.Architecture.TheVariants.{Ppc64, X86_64}
 use Rattle.linker_elf.specs.declared.elf.architecture.Architecture.{Architecture}
 
--- the same with the rewrite as one of all architectures', and the relocation's code
-abbrev pub by_code : {K R : Type 0} → Recogniser K R → Recognised K R → Recognised Relaxation ℕ
-by_code it m =
+-- the same with the rewrite as one of all architectures', and the relocation's `r_type`
+abbrev pub by_type : {K R : Type 0} → Recogniser K R → Recognised K R → Recognised Relaxation ℕ
+by_type it m =
     record {
-      choice = choice (it.relaxation m.choice.kind) (code_of (it.elf_name m.choice.relocation));
+      choice = choice (it.relaxation m.choice.kind) (r_type_of (it.elf_name m.choice.relocation));
       offset = m.offset;
       value = m.value;
     }
 
--- Those that were found for the name of a code, in their order.
-pub record AreFoundBy {K R : Type 0} (it : Recogniser K R) (code : ℕ) (original : List ℕ) (o : ℕ)
+-- Those that were found for the name of an `r_type`, in their order.
+pub record AreFoundBy {K R : Type 0} (it : Recogniser K R) (r_type : ℕ) (original : List ℕ) (o : ℕ)
     (others : List FieldBits) (linked : List ℕ) (found : List (Option (Recognised Relaxation ℕ)))
     : Type 0 where
   pub name : R
   pub named : List (Option (Recognised K R))
-  pub is_name : IsNameOf it.elf_name code name
+  pub is_name : IsNameOf it.elf_name r_type name
   pub those : AreExactly (IsFound it name original o others linked) named
   pub placed : ArePlaced (choices_at it name original o) named
-  pub found_are : found ≡ map (of_some (by_code it)) named
+  pub found_are : found ≡ map (of_some (by_type it)) named
 
 -- those of a relocation of an architecture
 abbrev pub AreFound : Architecture → ℕ → List ℕ → ℕ → List FieldBits → List ℕ
@@ -48,17 +48,17 @@ AreFound LoongArch64 = AreFoundBy loongarch
 AreFound Ppc64 = AreFoundBy ppc64
 AreFound X86_64 = AreFoundBy x86_64
 
--- What was found for the name of a code: the choice by what a linker knows, if it leaves the linked
--- bytes, and what is read of its relocation.
-pub record IsFoundBy {K R : Type 0} (it : Recogniser K R) (code : ℕ) (original : List ℕ) (o : ℕ)
+-- What was found for the name of an `r_type`: the choice by what a linker knows, if it leaves the
+-- linked bytes, and what is read of its relocation.
+pub record IsFoundBy {K R : Type 0} (it : Recogniser K R) (r_type : ℕ) (original : List ℕ) (o : ℕ)
     (others : List FieldBits) (linked : List ℕ) (facts : LinkFacts)
     (found : Option (Recognised Relaxation ℕ)) : Type 0 where
   pub name : R
   pub named : Option (Recognised K R)
-  pub is_name : IsNameOf it.elf_name code name
+  pub is_name : IsNameOf it.elf_name r_type name
   pub exactly : (m : Recognised K R) → (named ≡ Some m)
       ↔ (IsChosen it name original o facts m.choice × IsMade it original o others linked m)
-  pub found_is : found ≡ of_some (by_code it) named
+  pub found_is : found ≡ of_some (by_type it) named
 
 -- that of a relocation of an architecture
 abbrev pub IsFoundChosen : Architecture → ℕ → List ℕ → ℕ → List FieldBits → List ℕ → LinkFacts

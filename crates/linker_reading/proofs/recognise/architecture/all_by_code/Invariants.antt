@@ -1,8 +1,0 @@
-use Rattle.std.proofs.Common.{◌≡◌, ◌-◌, ◌++◌, None, map, take, replicate}
-use Rattle.linker_reading.specs.FoundByCode.{by_code}
-use Rattle.linker_elf.specs.Architectures.{of_some}
-use Rattle.linker_reading.proofs.recognise.architecture.all_by_code.Given as goal
-
--- those so far
-abbrev pub invariant-loop-index : goal.invariant-loop-index
-invariant-loop-index g l = l.by_code ≡ map (of_some (by_code g.N.RecognisedName.how)) (take l.index l.found) ++ replicate (6 - l.index) None
