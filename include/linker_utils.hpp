@@ -214,6 +214,14 @@ inline outcome relocate_section(const linker_utils_link &link, const linker_util
                                           &faulty), faulty};
 }
 
+/* The same by the section's `resolved`: `linker_utils_relocate_resolved`. */
+inline outcome relocate_resolved(const linker_utils_link &link, const linker_utils_section &section,
+                                 span<uint64_t> memory) noexcept {
+    size_t faulty = no_index;
+    return {linker_utils_relocate_resolved(&link, &section, memory.data(), memory.size(), &faulty),
+            faulty};
+}
+
 /* The deltas of deletions: a container that owns their list. */
 class deltas {
 public:

@@ -172,6 +172,39 @@ fn by_export(input: &Input) -> Side<'_> {
     })
 }
 
+/// The same by what is known for each relocation.
+fn by_resolved(input: &Input) -> Side<'_> {
+    let mut memory = vec![0; sathunne::relocate_memory(&input.relocations)];
+    let known = |relocation: section::Rela| {
+        let symbol = &input.symbols[relocation.symbol as usize];
+        sathunne::Resolved {
+            address: symbol.address,
+            entry: symbol.address_entry,
+            ..sathunne::Resolved::default()
+        }
+    };
+    let resolved: Vec<_> = section::relocations(&input.relocations).map(known).collect();
+    Side::writes(input.section.clone(), move |section| {
+        // SAFETY: a slice's pointer and length are its own, and a reference is of one value.
+        let status = unsafe {
+            linker_utils_relocate_resolved_nonnull(
+                input.machine,
+                &input.addresses,
+                input.relocations.as_ptr(),
+                input.relocations.len(),
+                resolved.as_ptr(),
+                resolved.len(),
+                section.as_mut_ptr(),
+                section.len(),
+                memory.as_mut_ptr(),
+                memory.len(),
+                &mut 0,
+            )
+        };
+        assert_eq!(status, 0);
+    })
+}
+
 /// The same where what choices read of symbols is as kept.
 fn by_kept(input: &Input) -> Side<'_> {
     let needed = sathunne::relocate_memory(&input.relocations);
@@ -281,6 +314,38 @@ fn by_crate(input: &Input) -> Side<'_> {
     })
 }
 
+/// A look-up in the same symbols.
+#[derive(Clone, Copy)]
+struct Symbols<'a> {
+    symbols: &'a [section::Symbol],
+}
+
+impl section::Lookup for Symbols<'_> {
+    fn resolved(self, _: usize, relocation: &section::Rela) -> Option<section::Resolved> {
+        let symbol = self.symbols.get(relocation.symbol as usize)?;
+        Some(section::Resolved {
+            address: symbol.address,
+            entry: symbol.address_entry,
+            ..section::Resolved::default()
+        })
+    }
+}
+
+/// All values in one call of the crate's that looks symbols up.
+fn by_lookup(input: &Input) -> Side<'_> {
+    let (symbols, link) = input.of_crate();
+    let mut memory = vec![0; section::memory_len(&input.relocations)];
+    Side::writes(input.section.clone(), move |bytes| {
+        let mut section = section::Section {
+            address: input.addresses.section,
+            ..section::Section::new(bytes, &input.relocations)
+        };
+        let lookup = Symbols { symbols: &symbols };
+        let written = section::relocate_resolved(&link, lookup, &mut section, &mut memory);
+        assert_eq!(written, Ok(()));
+    })
+}
+
 /// The same by `row`, `value` and `write` for each, whose operands are there already.
 fn one_by_one(input: &Input) -> Side<'_> {
     let architecture = input.architecture();
@@ -367,6 +432,19 @@ pub fn sections(report: &mut Report) {
             Some(by_exports(input)),
             Some(by_crate(input)),
             Some(one_by_one(input)),
+        ];
+        report.line(name_of(input.machine), input.count(), true, sides);
+    }
+    report.heading(
+        "The same by `linker_utils_relocate_resolved`",
+        Beside::Other("by a table of symbols"),
+    );
+    for input in &inputs {
+        let sides = [
+            Some(by_resolved(input)),
+            Some(by_export(input)),
+            Some(by_lookup(input)),
+            Some(by_crate(input)),
         ];
         report.line(name_of(input.machine), input.count(), true, sides);
     }

@@ -124,7 +124,7 @@ static void sections() {
     link.machine = EM_RISCV;
     link.got_base = 0x413000;
     const lu::object object({}, symbols);
-    const lu::section section({reinterpret_cast<uint8_t *>(code), sizeof code}, relas, 0x401000);
+    lu::section section({reinterpret_cast<uint8_t *>(code), sizeof code}, relas, 0x401000);
     std::vector<uint64_t> memory(relas.size());
     for (int step = 0; step < 2; step++) {
         lu::outcome ended = lu::relocate_section(link, object, section, memory);
@@ -134,6 +134,21 @@ static void sections() {
         std::printf("\n");
         symbols[1].address_entry = 0;
         symbols[3].address = 0x501000;
+    }
+    std::vector<linker_utils_resolved> resolved(3);
+    resolved[0].address = 0x412344;
+    resolved[0].entry = 0x413010;
+    resolved[1].address = 0x401000;
+    resolved[2].address = 0x40500000;
+    resolved[2].stub = 0x401800;
+    section.resolved = resolved.data();
+    section.resolved_len = resolved.size();
+    for (int step = 0; step < 2; step++) {
+        lu::outcome ended = lu::relocate_resolved(link, section, memory);
+        for (uint32_t word : code) std::printf("%08x ", (unsigned)word);
+        std::printf("%s\n", ended.text());
+        resolved[0].entry = 0x414020;
+        resolved[1].is_left_out = true;
     }
 }
 

@@ -16,7 +16,7 @@ const ARCHITECTURES: [Architecture; 5] = [AArch64, RiscV, LoongArch64, Ppc64, X8
 fn rela(offset: u64, r_type: u32, symbol: u32, addend: i64) -> [u8; 24] {
     let mut bytes = [0; 24];
     bytes[..8].copy_from_slice(&offset.to_le_bytes());
-    bytes[8..12].copy_from_slice(&code.to_le_bytes());
+    bytes[8..12].copy_from_slice(&r_type.to_le_bytes());
     bytes[12..16].copy_from_slice(&symbol.to_le_bytes());
     bytes[16..].copy_from_slice(&addend.to_le_bytes());
     bytes
@@ -37,8 +37,8 @@ fn link(architecture: Architecture) -> Link {
 /// What a table says of the symbol of one relocation.
 fn resolved(link: &Link, symbols: &[Symbol], relocation: &Rela) -> Option<Resolved> {
     let symbol = symbols.get(relocation.symbol as usize)?;
-    let (code, addend) = (relocation.r_type, relocation.addend);
-    let required = needs(link.architecture, code, addend, symbol.is_thread_local);
+    let (r_type, addend) = (relocation.r_type, relocation.addend);
+    let required = needs(link.architecture, r_type, addend, symbol.is_thread_local);
     let entry = required.and_then(|required| required.entry);
     let entry = entry.map_or(0, |entry| match entry.class {
         EntryClass::Module => link.module_entry.unwrap(),
@@ -48,7 +48,7 @@ fn resolved(link: &Link, symbols: &[Symbol], relocation: &Rela) -> Option<Resolv
         EntryClass::ModuleOffset => symbol.module_entry,
         EntryClass::Descriptor => symbol.descriptor,
     });
-    let is_size = matches!((link.architecture, code), (X86_64, 32 | 33));
+    let is_size = matches!((link.architecture, r_type), (X86_64, 32 | 33));
     Some(Resolved {
         address: if is_size { symbol.size } else { symbol.address },
         entry,

@@ -9,7 +9,7 @@ use linker_utils::recognise::FieldBits;
 use linker_utils::relaxation::{BlockHead, Call, RelaxDelta};
 use linker_utils::rewriting::{FactsSnapshot, UnrelaxableGroups, SymbolFacts};
 use linker_utils::source::rewriting::OutputFacts;
-use linker_utils::section::{Addresses, Symbol};
+use linker_utils::section::{Addresses, Resolved, Symbol};
 
 fields! { RelaxDelta: input_offset, bytes_deleted, cumulative_deleted, }
 fields! { BlockHead: input_offset, output_offset, }
@@ -20,6 +20,7 @@ fields! {
     Symbol: address, size, stub, address_entry, thread_entry, module_entry, descriptor,
     entry_addend, other, is_thread_local, is_undefined_weak,
 }
+fields! { Resolved: address, entry, stub, other, is_undefined_weak, is_left_out, }
 fields! { Addresses: section, got_base, thread_origin, module_origin, module_entry, has_tls, }
 fields! {
     SymbolFacts: is_local, is_ifunc, is_absolute, is_undefined_weak, is_tls_get_addr, other,
