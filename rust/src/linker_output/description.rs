@@ -87,7 +87,7 @@ impl Target {
     /// use linker_utils::elf::Architecture;
     ///
     /// let target = Target::of(Architecture::X86_64);
-    /// assert_eq!(target.dynamic.relative.code, 8);
+    /// assert_eq!(target.dynamic.relative.r_type, 8);
     /// assert_eq!(target.dynamic.relative.name, "R_X86_64_RELATIVE");
     /// assert_eq!(target.page, 0x1000);
     /// ```
