@@ -610,8 +610,9 @@ fn each_entry_is_recognised_in_its_window() {
         samples.push((Architecture::X86_64, [&evex[..], &[0; 4]].concat(), 6));
     }
     let (mut all, mut tried) = (BTreeSet::new(), BTreeSet::new());
-    let name =
-        |r_type: u32, it: &Choice<Relaxation, u32>| (r_type, format!("{:?}", it.kind), it.relocation);
+    let name = |r_type: u32, it: &Choice<Relaxation, u32>| {
+        (r_type, format!("{:?}", it.kind), it.relocation)
+    };
     for r_type in 0..300 {
         for architecture in [
             Architecture::AArch64,
