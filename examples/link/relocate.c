@@ -73,7 +73,7 @@ struct linker_utils_section section_of(const struct section *s) {
     const struct output *o = s->output;
     return (struct linker_utils_section){
         BYTES_OF(s), s->relocations, s->relocations_len, o->address + s->offset,
-        o->base + s->offset, s->deleted, s->deleted_len};
+        o->base + s->offset, s->deleted, s->deleted_len, NULL, 0};
 }
 
 /* Adds the value of a relocation to a ULEB128 number, or subtracts it, modulo what its bytes hold,
