@@ -1,17 +1,13 @@
 -- Addresses of AArch64 by two instructions, of which `nop` and `adr` are made, are groups.
-use Rattle.std.proofs.Common.{◌≡◌, ℕ, ◌+◌, ◌-◌, ◌≤◌, length, take, drop, false, refl, sym, ap, subst, ◌∙◌, arith, Some}
-use Rattle.linker_final.proofs.Imports.{cond-false, take-take, slice_get, replaces, insn_row, entry, paged_row, place_pages, signed_row, sum_64, Adr, Relative, RelocationKindInfo, AArch64, Operands, Code, Has, Leaves, Stands, IsPair, following, word_of, symbol_address, Kinds, State, IsDone, IsMade, relocation_after, relocation_in, operands_with, Symbol, AArch64Entry, AreOfOneRegister, relaxation_rewrite}
+use Rattle.linker_final.proofs.Imports.{◌≡◌, ℕ, ◌+◌, ◌-◌, ◌≤◌, length, take, drop, false, refl, sym, ap, subst, ◌∙◌, arith, Some, cond-false, take-take, slice_get, replaces, insn_row, entry, paged_row, place_pages, signed_row, sum_64, Adr, Relative, RelocationKindInfo, AArch64, Operands, Code, Has, Leaves, Stands, IsPair, following, word_of, symbol_address, Kinds, State, IsDone, IsMade, relocation_after, relocation_in, operands_with, Symbol, AArch64Entry, AreOfOneRegister, relaxation_rewrite, IsWrittenByNoOther, Linked, UntouchedInstructions, instruction_at, two_at, IsAddressRewritten, IsAdd64, nop_adr, to_adr}
 use Rattle.linker_elf.specs.declared.aarch64.relocations.AArch64Relocation.TheVariants as names
 use Rattle.linker_final.proofs.InstructionFields.{of_bits}
 use Rattle.linker_final.proofs.AArch64Written.{IsAfter, IsNamedAs, IsNew, IsOfEntry, after, has_after, of_entry, of_part, place_of, same_value, stands_left}
 use Rattle.linker_final.proofs.Written.{first_same, second_same, word_same}
 use Rattle.linker_final.specs.AArch64Section.{ComesTo, IsRewrittenOf, object, register}
 use Rattle.linker_final.specs.SectionRuns.{offset_of}
-use Rattle.linker_final.specs.Final.{IsWrittenByNoOther, Linked, UntouchedInstructions, instruction_at, two_at}
 use Rattle.linker_laws.specs.AArch64Groups.{Groups, seen}
 use Rattle.linker_laws.specs.AArch64RewriteLaws.{IsRewritten}
-use Rattle.linker_rewriting.specs.Rewritten.{IsAddressRewritten}
-use Rattle.linker_utils.specs.AArch64Rewrites.{IsAdd64, nop_adr, to_adr}
 use Rattle.linker_utils.specs.declared.aarch64.rewrites.RewriteKind.TheVariants as kinds
 
 abbrev pub page_row : RelocationKindInfo

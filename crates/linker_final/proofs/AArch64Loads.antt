@@ -1,8 +1,6 @@
 -- Loads of AArch64 from the GOT, of which a sum is made, or in two phases `nop` and `adr`, are
 -- groups.
-use Rattle.std.proofs.Common.{◌≡◌, ℕ, ◌+◌, ◌-◌, ◌≤◌, length, drop, false, refl, sym, ap, subst, ◌∙◌, arith}
-use Rattle.linker_final.proofs.Imports.{cond-false, slice_get, field, insn_row, entry, entry_pages, paged_row, signed_row, sum_64, Adr, AbsoluteLowPart, GotRelative, RelocationKindInfo, AArch64, Operands, Code, Has, Leaves, load_64, IsPair, following, word_of, symbol_address, Kinds, State, IsLoadRewritten, relocation_in, operands_with, Rela, AArch64Entry, AreOfOneRegister, IsLdr64, relaxation_rewrite}
-use Rattle.linker_elf.specs.declared.aarch64.forms.AArch64Instruction.TheVariants.{Add}
+use Rattle.linker_final.proofs.Imports.{◌≡◌, ℕ, ◌+◌, ◌-◌, ◌≤◌, length, drop, false, refl, sym, ap, subst, ◌∙◌, arith, cond-false, slice_get, field, insn_row, entry, entry_pages, paged_row, signed_row, sum_64, Adr, AbsoluteLowPart, GotRelative, RelocationKindInfo, AArch64, Operands, Code, Has, Leaves, load_64, IsPair, following, word_of, symbol_address, Kinds, State, IsLoadRewritten, relocation_in, operands_with, Rela, AArch64Entry, AreOfOneRegister, IsLdr64, relaxation_rewrite, Add, IsRewrittenByNoOther, Linked, UntouchedInstructions, instruction_at, two_at, is_ldr64, to_address}
 use Rattle.linker_elf.specs.declared.aarch64.relocations.AArch64Relocation.TheVariants as names
 use Rattle.linker_final.proofs.AArch64Addresses.{adr_there, made_two, nop_there, page_row}
 use Rattle.linker_final.proofs.InstructionFields.{of_bits}
@@ -10,9 +8,7 @@ use Rattle.linker_final.proofs.AArch64Written.{IsAfter, IsNew, IsOfEntry, after,
 use Rattle.linker_final.proofs.Written.{are_rewritten, first_same, stays, word_same}
 use Rattle.linker_final.specs.AArch64Section.{ComesTo, IsRewrittenAgain, IsRewrittenOf, object, register}
 use Rattle.linker_final.specs.SectionRuns.{Section, offset_of}
-use Rattle.linker_final.specs.Final.{IsRewrittenByNoOther, Linked, UntouchedInstructions, instruction_at, two_at}
 use Rattle.linker_laws.specs.AArch64Groups.{Groups, seen}
-use Rattle.linker_utils.specs.AArch64Rewrites.{is_ldr64, to_address}
 use Rattle.linker_utils.specs.declared.aarch64.rewrites.RewriteKind.TheVariants as kinds
 
 abbrev pub got_row : RelocationKindInfo

@@ -1,7 +1,6 @@
 -- The rewrites of a section of AArch64: each is of instructions that are rewritten together, and
 -- these are groups.
-use Rattle.std.proofs.Common.{◌≡◌, ◌≢◌, ℕ, ◌+◌, ◌-◌, ◌*◌, ◌<◌, ◌≤◌, inl, inr, ap, sym, subst, ◌∙◌, arith, refl}
-use Rattle.linker_final.proofs.Imports.{eq-eqb, aarch64_name, IsNameOf, AArch64Relocation, AArch64, Operands, Code, link, with_register, Group, Kinds, State, of_link, in_phase, sequences_are_whole, IsScopeDecision, decision_at, group_stays, Kept, Grouped, Independent, Phase, relocation_in}
+use Rattle.linker_final.proofs.Imports.{◌≡◌, ◌≢◌, ℕ, ◌+◌, ◌-◌, ◌*◌, ◌<◌, ◌≤◌, inl, inr, ap, sym, subst, ◌∙◌, arith, refl, eq-eqb, aarch64_name, IsNameOf, AArch64Relocation, AArch64, Operands, Code, link, with_register, Group, Kinds, State, of_link, in_phase, sequences_are_whole, IsScopeDecision, decision_at, group_stays, Kept, Grouped, Independent, Phase, relocation_in, IsLinked, Linked, count, is_b, is_bl, anything, of_group, of_option, scope_there, aarch64_scope_in, IsWholeBy}
 use Rattle.linker_elf.specs.declared.aarch64.relocations.AArch64Relocation.TheVariants as names
 use Rattle.linker_final.proofs.AArch64Addresses.{address_is_group}
 use Rattle.linker_final.proofs.AArch64Alone.{branch_is_group, high_is_group, low_is_group}
@@ -10,15 +9,9 @@ use Rattle.linker_final.proofs.AArch64Loads.{load_again_is_group, load_is_group}
 use Rattle.linker_final.proofs.AArch64Written.{IsNew}
 use Rattle.linker_final.proofs.SectionRuns.{AreIn, beside_or, final_in, is_linked, is_of}
 use Rattle.linker_final.specs.AArch64Section.{Begins, HasFinal, IsRewrittenOf, Rewrites, address, at_address, at_call, at_high, at_initial, at_jump, at_load, at_local, at_low, call, high, jump, load, low, rewriting, span, to_initial, to_local}
-use Rattle.linker_final.specs.Final.{IsLinked, Linked, count}
 use Rattle.linker_final.specs.SectionRuns.{AreCalled, IsPhase, RewritesAreGroups, Section, offset_of}
 use Rattle.linker_laws.specs.AArch64Groups.{Groups, go_and_link}
-use Rattle.linker_laws.specs.AArch64Machine.{is_b, is_bl}
 use Rattle.linker_laws.specs.Changes.{go_to}
-use Rattle.linker_laws.specs.Simulation.{anything}
-use Rattle.linker_rewriting.proofs.AArch64Sequences.{of_group, of_option, scope_there}
-use Rattle.linker_rewriting.specs.Groups.{aarch64_scope_in}
-use Rattle.linker_rewriting.specs.Rewritten.{IsWholeBy}
 use Rattle.linker_rewriting.specs.declared.groups.Group.TheVariants as groups
 use Rattle.linker_rewriting.specs.declared.phases.Phase.TheVariants as phases
 

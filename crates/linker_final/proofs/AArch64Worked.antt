@@ -1,7 +1,5 @@
 -- The groups of AArch64's program that the calls link.
-use Rattle.std.proofs.Common.{◌≡◌, ◌≢◌, ℕ, zero, suc, ◌+◌, ◌-◌, ◌/◌, ◌<◌, ◌≤◌, ◌⊎◌, inl, inr, List, [], ◌∷◌, length, Bool, true, false, eqb, eqb-true, refl, sym, ap, subst, ◌∙◌, arith, lit<, lit≤, pos, Some, true≢false}
-use Rattle.linker_final.proofs.Imports.{◌&&◌, slice_get, replicate, cases_lt, ints, window_of_rewrite, RewriteWindow, aarch64_name, entry, IsNamed, IsNameOf, r_type_of, sum_64, AArch64Relocation, AArch64, Operands, Has, following, word_of, put, with_register, loaded, AreAddresses, Kinds, State, half, in_phase, sequences_are_whole, IsGroupDecision, decision_at, window_of, group_stays, IsLoadRewritten, IsRewrittenBy, relocation_after, Decision, Kept, Rewritten, UnrelaxableGroups, relocation_in, operands_with, Addresses, Symbol, Rela, AArch64Entry, halves_to_local_exec, relaxation_rewrite}
-use Rattle.std.proofs.lemmas.List.Elements.{All-nil, All-cons}
+use Rattle.linker_final.proofs.Imports.{◌≡◌, ◌≢◌, ℕ, zero, suc, ◌+◌, ◌-◌, ◌/◌, ◌<◌, ◌≤◌, ◌⊎◌, inl, inr, List, [], ◌∷◌, length, Bool, true, false, eqb, eqb-true, refl, sym, ap, subst, ◌∙◌, arith, lit<, lit≤, pos, Some, true≢false, ◌&&◌, slice_get, replicate, cases_lt, ints, window_of_rewrite, RewriteWindow, aarch64_name, entry, IsNamed, IsNameOf, r_type_of, sum_64, AArch64Relocation, AArch64, Operands, Has, following, word_of, put, with_register, loaded, AreAddresses, Kinds, State, half, in_phase, sequences_are_whole, IsGroupDecision, decision_at, window_of, group_stays, IsLoadRewritten, IsRewrittenBy, relocation_after, Decision, Kept, Rewritten, UnrelaxableGroups, relocation_in, operands_with, Addresses, Symbol, Rela, AArch64Entry, halves_to_local_exec, relaxation_rewrite, All-nil, All-cons, AreLinked, IsLinked, IsOutside, IsRewrittenByNoOther, Linked, RewritingPhase, UntouchedInPhase, UntouchedInstruction, count, instruction_at, linked_by, AARCH64_OBJECT, AARCH64_RELOCATIONS, same, named_at}
 use Rattle.linker_base.specs.Form.{place_sum}
 use Rattle.linker_elf.specs.declared.aarch64.relocations.AArch64Relocation.TheVariants as names
 use Rattle.linker_final.proofs.AArch64Alone.{high_row}
@@ -10,15 +8,11 @@ use Rattle.linker_final.proofs.AArch64Written.{IsNew, IsOfEntry, named_after, of
 use Rattle.linker_final.proofs.PutBack.{same_windows}
 use Rattle.linker_final.proofs.Written.{rela}
 use Rattle.linker_final.specs.AArch64Section.{Begins, ComesTo, HasFinal, IsRewrittenOf, at_high, at_load, at_low, high, load, low, object, register, rewriting}
-use Rattle.linker_final.specs.Final.{AreLinked, IsLinked, IsOutside, IsRewrittenByNoOther, Linked, RewritingPhase, UntouchedInPhase, UntouchedInstruction, count, instruction_at, linked_by}
 use Rattle.linker_final.specs.SectionRuns.{Section, offset_of}
 use Rattle.linker_final.specs.Worked.{HasGroups, IsGroupOf, IsPhaseOf, code_at, halves, none_stays}
-use Rattle.linker_final.specs.declared.worked.TheConstants.{AARCH64_OBJECT, AARCH64_RELOCATIONS}
 use Rattle.linker_laws.proofs.Relocated.{addresses as small, relocated}
 use Rattle.linker_laws.specs.AArch64GroupsWorked.{known, starting}
 use Rattle.linker_laws.specs.AArch64RewriteLaws.{IsRelocated}
-use Rattle.linker_laws.specs.Simulation.{same}
-use Rattle.linker_rewriting.proofs.AArch64Sequences.{named_at}
 use Rattle.linker_rewriting.specs.declared.groups.Group.{Group}
 use Rattle.linker_rewriting.specs.declared.groups.Group.TheVariants as groups
 use Rattle.linker_rewriting.specs.declared.phases.Phase.TheVariants as phases

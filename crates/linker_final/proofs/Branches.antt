@@ -1,17 +1,12 @@
 -- Branches that stay, in the final bytes of a packed section.
-use Rattle.std.proofs.Common.{◌≡◌, ℕ, take, drop, refl, sym, ap, subst, ◌∙◌, true, false, Option, Some, None, Ok, pos, IsSomeAnd}
-use Rattle.linker_final.proofs.Imports.{⊤, BitRange, loongarch_form, loongarch_row, window_len, riscv_form, riscv_row, bytes_row, sum_64, value_of, RelocationInstruction, RelocationKindInfo, BitMasking, Operands, Branch26, Shift10, LoongArch64Relocation, RiscVRelocation, IsAddress, plt_address, symbol_address, Machine, RiscV64, relocation_in, has_value, names_label, offset_at, operands_in, operands_of, operands_with, Addresses, Symbol, Rela}
-use Rattle.std.specs.Prelude.{ℤ, ◌+ℤ◌, ◌*ℤ◌}
+use Rattle.linker_final.proofs.Imports.{◌≡◌, ℕ, take, drop, refl, sym, ap, subst, ◌∙◌, true, false, Option, Some, None, Ok, pos, IsSomeAnd, ⊤, BitRange, loongarch_form, loongarch_row, window_len, riscv_form, riscv_row, bytes_row, sum_64, value_of, RelocationInstruction, RelocationKindInfo, BitMasking, Operands, Branch26, Shift10, LoongArch64Relocation, RiscVRelocation, IsAddress, plt_address, symbol_address, Machine, RiscV64, relocation_in, has_value, names_label, offset_at, operands_in, operands_of, operands_with, Addresses, Symbol, Rela, ℤ, ◌+ℤ◌, ◌*ℤ◌, Branch21, Shift5, BType, CbType, CjType, JType, address_at, architecture_of, place_of}
 use Rattle.linker_elf.specs.declared.elf.RelocationKind.TheVariants.{None as NoValue}
-use Rattle.linker_elf.specs.declared.loongarch64.forms.LoongArch64Instruction.TheVariants.{Branch21, Shift5}
 use Rattle.linker_elf.specs.declared.loongarch64.relocations.LoongArch64Relocation.TheVariants as loongarch_names
-use Rattle.linker_elf.specs.declared.riscv64.forms.RiscVInstruction.TheVariants.{BType, CbType, CjType, JType}
 use Rattle.linker_elf.specs.declared.riscv64.relocations.RiscVRelocation.TheVariants as riscv_names
 use Rattle.linker_final.proofs.InstructionFields.{some_value}
 use Rattle.linker_final.proofs.PackedBytes.{addresses}
 use Rattle.linker_final.proofs.PackedInstructions.{places}
 use Rattle.linker_final.specs.Branches.{Goes, LoongArchBranchesGo, RiscVBranchesGo, final_number}
-use Rattle.linker_final.specs.Packed.{address_at, architecture_of, place_of}
 use Rattle.linker_laws.specs.LoongArchRelocationLaws as loongarch_laws
 use Rattle.linker_laws.specs.RiscVRelocationLaws as riscv_laws
 use Rattle.linker_laws.specs.Schemes.{Adds, here, place}

@@ -1,7 +1,5 @@
 -- The field of a plain row in the final bytes of a section.
-use Rattle.std.proofs.Common.{◌≡◌, ℕ, ℤ, pos, ◌+◌, ◌*◌, ◌/◌, ◌%◌, ◌^◌, ◌<◌, ◌≤◌, ◌⊎◌, List, [], ◌∷◌, length, take, drop, get_or, cond, sym, ap, subst, ◌∙◌, inl, inr, arith, Some, Ok, unsigned_abs}
-use Rattle.linker_final.proofs.Imports.{cond-true, cond-false, cases_lt, length-drop, length-take-le, get_or-take, get_or-drop, get_or_past, w64, cast_unsigned, int_rem_euclid, byte_at, number_of_bytes, low_bytes, window_len, size_len, value_of, RelocationKindInfo, Operands, IsField, field_len, field_end, is_of_pair, uleb_len, relocation_in, IsRowValue, has_value, offset_at, operands_of, AreWritten, HoldsValue, HoldsNumber, composed, field_bytes, Addresses, Symbol, IsRow, Architecture}
-use Rattle.linker_elf.specs.Relocate.{IsAccepted}
+use Rattle.linker_final.proofs.Imports.{◌≡◌, ℕ, ℤ, pos, ◌+◌, ◌*◌, ◌/◌, ◌%◌, ◌^◌, ◌<◌, ◌≤◌, ◌⊎◌, List, [], ◌∷◌, length, take, drop, get_or, cond, sym, ap, subst, ◌∙◌, inl, inr, arith, Some, Ok, unsigned_abs, cond-true, cond-false, cases_lt, length-drop, length-take-le, get_or-take, get_or-drop, get_or_past, w64, cast_unsigned, int_rem_euclid, byte_at, number_of_bytes, low_bytes, window_len, size_len, value_of, RelocationKindInfo, Operands, IsField, field_len, field_end, is_of_pair, uleb_len, relocation_in, IsRowValue, has_value, offset_at, operands_of, AreWritten, HoldsValue, HoldsNumber, composed, field_bytes, Addresses, Symbol, IsRow, Architecture, IsAccepted}
 use Rattle.linker_final.proofs.PlainRows.{IsPlain, found_is, composed_alone}
 use Rattle.linker_section.specs.Sections.{HasValue}
 

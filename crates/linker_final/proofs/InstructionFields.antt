@@ -1,8 +1,6 @@
 -- The relocation of an instruction in the final bytes of a section: it is applied to the bytes
 -- between.
-use Rattle.std.proofs.Common.{◌≡◌, ℕ, ℤ, ◌/◌, ◌<◌, List, length, take, drop, true, false, cond, subst, ◌∙◌, refl, arith, Ok, Option, Some, None, IsSomeAnd}
-use Rattle.linker_final.proofs.Imports.{cond-true, cond-false, ⊤, BitRange, IsApplied, window_len, value_of, RelocationInstruction, RelocationKindInfo, BitMasking, Operands, field_len, is_of_pair, uleb_len, relocation_in, has_value, names_label, offset_at, operands_of, AreWritten, HoldsValue, composed, field_bytes, Addresses, Symbol, IsRow, Architecture}
-use Rattle.linker_elf.specs.Relocate.{WritesRow}
+use Rattle.linker_final.proofs.Imports.{◌≡◌, ℕ, ℤ, ◌/◌, ◌<◌, List, length, take, drop, true, false, cond, subst, ◌∙◌, refl, arith, Ok, Option, Some, None, IsSomeAnd, cond-true, cond-false, ⊤, BitRange, IsApplied, window_len, value_of, RelocationInstruction, RelocationKindInfo, BitMasking, Operands, field_len, is_of_pair, uleb_len, relocation_in, has_value, names_label, offset_at, operands_of, AreWritten, HoldsValue, composed, field_bytes, Addresses, Symbol, IsRow, Architecture, WritesRow}
 use Rattle.linker_final.proofs.PlainRows.{IsFoundOf, found_is}
 
 -- of an instruction of n bytes

@@ -1,13 +1,9 @@
 -- Instructions that were rewritten, and stay in a section that was packed then.
-use Rattle.std.proofs.Common.{◌≡◌, ℕ, ℤ, ◌+◌, ◌/◌, ◌<◌, length, sym, ap, subst, ◌∙◌, arith, Ok, Some, ◌≤◌}
-use Rattle.linker_final.proofs.Imports.{slice_get, IsApplied, RelocationKindInfo, Operands, entry_of, relocation_in, entry_address, offset_at, operands_by, operands_in, operands_with, Symbol, Rela, IsRow}
+use Rattle.linker_final.proofs.Imports.{◌≡◌, ℕ, ℤ, ◌+◌, ◌/◌, ◌<◌, length, sym, ap, subst, ◌∙◌, arith, Ok, Some, ◌≤◌, slice_get, IsApplied, RelocationKindInfo, Operands, entry_of, relocation_in, entry_address, offset_at, operands_by, operands_in, operands_with, Symbol, Rela, IsRow, UntouchedInstruction, UntouchedBytes, Linked, count, instruction_at, IsRewrittenAndPacked, IsKeptInstruction, IsUnwritten, Packed, StayTogether, architecture_of, place_of}
 use Rattle.linker_final.proofs.InstructionFields.{IsOfInstruction, applied}
 use Rattle.linker_final.proofs.PackedBytes.{packed_there, places_inside, same_there, stay_inside}
 use Rattle.linker_final.proofs.Phases.{later_as_many, later_bytes, later_keep, later_length}
 use Rattle.linker_final.proofs.Written.{rela}
-use Rattle.linker_final.specs.Final.{UntouchedInstruction, UntouchedBytes, Linked, count, instruction_at}
-use Rattle.linker_final.specs.Joined.{IsRewrittenAndPacked, IsKeptInstruction}
-use Rattle.linker_final.specs.Packed.{IsUnwritten, Packed, StayTogether, architecture_of, place_of}
 use Rattle.linker_final.specs.Packed as packed
 
 -- an instruction that stays, in which no relocation has a field

@@ -1,14 +1,11 @@
 -- Instructions of TLS descriptors of LoongArch that became those of local-exec or of initial-exec
 -- are groups, each by itself.
-use Rattle.std.proofs.Common.{◌≡◌, ◌⊎◌, ℕ, ◌+◌, ◌<◌, List, [], refl, sym, ap, subst, inl, inr, Some, None, cond}
-use Rattle.linker_final.proofs.Imports.{field, entry, IsNameOf, loongarch_name, low_row, rounded_row, entry_pages, paged_row, GotTpOff, GotTpOffGot, LoongArch64, Choice, LinkFacts, LoongArch64Relocation, IsRelocated, IsOfEntry, isnt, decision_at, Rewritten, relocation_in, operands_by, LoongArchApplies, LoongArchEntry, rd_of, to_local_exec, relaxation_rewrite, Relaxation}
+use Rattle.linker_final.proofs.Imports.{◌≡◌, ◌⊎◌, ℕ, ◌+◌, ◌<◌, List, [], refl, sym, ap, subst, inl, inr, Some, None, cond, field, entry, IsNameOf, loongarch_name, low_row, rounded_row, entry_pages, paged_row, GotTpOff, GotTpOffGot, LoongArch64, Choice, LinkFacts, LoongArch64Relocation, IsRelocated, IsOfEntry, isnt, decision_at, Rewritten, relocation_in, operands_by, LoongArchApplies, LoongArchEntry, rd_of, to_local_exec, relaxation_rewrite, Relaxation, AreRewritten, Linked, count, law_of}
 use Rattle.linker_elf.specs.declared.loongarch64.relocations.LoongArch64Relocation.TheVariants as names
 use Rattle.linker_final.proofs.InstructionFields.{of_bits}
 use Rattle.linker_final.proofs.LoongArchAlone.{IsLawful, Takes, becomes_by, before, high_offset, left_by, low_offset, rewritten, table}
 use Rattle.linker_final.proofs.LoongArchChosen.{IsByTable, IsEntry, entry_by}
 use Rattle.linker_final.proofs.Written.{stays, word_same}
-use Rattle.linker_final.specs.Final.{AreRewritten, Linked, count}
-use Rattle.linker_final.specs.LoongArchSection.{law_of}
 use Rattle.linker_final.specs.SectionRuns.{offset_of}
 use Rattle.linker_laws.specs.LoongArchGroups.{CallOfDescriptor, Groups, LoadOfDescriptor}
 use Rattle.linker_laws.specs.LoongArchRewriteLaws.{word_of}

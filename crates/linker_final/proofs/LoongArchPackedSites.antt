@@ -1,19 +1,10 @@
 -- LoongArch: what sites do in the final bytes of a packed section.
-use Rattle.std.proofs.Common.{◌≡◌, ◌≢◌, ℕ, ◌+◌, ◌/◌, ◌^◌, ◌<◌, ◌≤◌, inl, inr, Bool, true, false, not, eqb, if◌then◌else◌, List, [], ◌∷◌, length, take, drop, IsSomeAnd, refl, sym, ap, subst, ◌∙◌, arith, pos, ◌+ℤ◌, ◌*ℤ◌, ℤ, Some}
-use Rattle.linker_final.proofs.Imports.{cond-false, or_parts, drop-drop, length-drop, All-drop, All-take, field, signed, IsApplied, loongarch_form, loongarch_row, IsWritten, sum_64, AbsoluteLowPart, BitMasking, Operands, Branch26, Shift10, word_below, Fits32, IsRelocated, IsRewritten, pair, Relocated, loaded, wrapped, AreAddresses, IsAddress, plt_address, symbol_address, IsLd, rd_of, rj_of, destination, SiteBecomes, word_of_front}
-use Rattle.std.proofs.lemmas.Bool.{ne_eqb}
-use Rattle.std.specs.Prelude.{◌==◌}
+use Rattle.linker_final.proofs.Imports.{◌≡◌, ◌≢◌, ℕ, ◌+◌, ◌/◌, ◌^◌, ◌<◌, ◌≤◌, inl, inr, Bool, true, false, not, eqb, if◌then◌else◌, List, [], ◌∷◌, length, take, drop, IsSomeAnd, refl, sym, ap, subst, ◌∙◌, arith, pos, ◌+ℤ◌, ◌*ℤ◌, ℤ, Some, cond-false, or_parts, drop-drop, length-drop, All-drop, All-take, field, signed, IsApplied, loongarch_form, loongarch_row, IsWritten, sum_64, AbsoluteLowPart, BitMasking, Operands, Branch26, Shift10, word_below, Fits32, IsRelocated, IsRewritten, pair, Relocated, loaded, wrapped, AreAddresses, IsAddress, plt_address, symbol_address, IsLd, rd_of, rj_of, destination, SiteBecomes, word_of_front, ne_eqb, ◌==◌, ValueIsWithin, pcalau12i, InstructionWritten, is_jirl, AreBytes, CallsTheSame, AddressesAreMade, LoadedAddressesAreMade, words_in, Packed, IsPacked, IsSiteOf, site_after, site_bytes, site_len, site_offset, site_place, site_target, entry_and_addend, IsBranch, IsCall36At, IsFarCall, IsPcalaAt, IsPcaddi, LoongArchBecomes}
 use Rattle.linker_elf.proofs.Relocated.{plain_written}
-use Rattle.linker_elf.specs.Choices.{ValueIsWithin}
-use Rattle.linker_elf.specs.LoongArch.{pcalau12i}
-use Rattle.linker_elf.specs.Relocate.{InstructionWritten, is_jirl}
 use Rattle.linker_elf.specs.declared.elf.RelocationInstruction.TheVariants.{LoongArch64 as of_loongarch}
 use Rattle.linker_elf.specs.declared.loongarch64.relocations.LoongArch64Relocation.TheVariants as names
 use Rattle.linker_final.proofs.PackedSites.{site_becomes, site_inside, site_length, site_small}
 use Rattle.linker_final.proofs.PutBack.{window_length}
-use Rattle.linker_final.specs.Final.{AreBytes}
-use Rattle.linker_final.specs.LoongArchPacked.{CallsTheSame, AddressesAreMade, LoadedAddressesAreMade, words_in}
-use Rattle.linker_final.specs.Packed.{Packed, IsPacked, IsSiteOf, site_after, site_bytes, site_len, site_offset, site_place, site_target}
 use Rattle.linker_laws.proofs.AArch64Pairs.{word_made}
 use Rattle.linker_laws.proofs.AArch64Steps.{address_is}
 use Rattle.linker_laws.proofs.LoongArchCalls.{call_is, new_first, new_second, target_is, decodes_far, decodes_jirl, decodes_b, decodes_bl}
@@ -23,11 +14,9 @@ use Rattle.linker_laws.proofs.LoongArchWords.{high_after, low_after}
 use Rattle.linker_laws.specs.LoongArchMachine.{AreAlikeBut, EndSo, State, branch_target, execute, far_address, go_on, go_to, near_address, next_pc, page_address, read, register_target, run, step, sum_of, with_register, write}
 use Rattle.linker_laws.specs.LoongArchRelocationLaws as relocation_laws
 use Rattle.linker_laws.specs.LoongArchRewriteLaws.{HaveCalled, HaveMade, LoadsEntry, following, no_register, word_of}
-use Rattle.linker_laws.specs.Schemes.{entry_and_addend}
 use Rattle.linker_utils.specs.LoongArchRewrites.{AreOfOneRegister, IsAddi, IsCall, signed_32, word_at}
 use Rattle.linker_utils.specs.declared.loongarch64.rewrites.RewriteKind.TheVariants as kinds
 use Rattle.linker_final.proofs.Written.{back_of_pair, front_of_pair}
-use Rattle.linker_runs.specs.LoongArchSites.{IsBranch, IsCall36At, IsFarCall, IsPcalaAt, IsPcaddi, LoongArchBecomes}
 use Rattle.linker_runs.specs.LoongArchSites.LoongArchBecomes.{jump, call, far_call, address, far_address as far_pair}
 use Rattle.linker_runs.specs.Sites.{operands_of}
 use Rattle.linker_runs.specs.declared.packing.Machine.TheVariants.{LoongArch64}

@@ -1,6 +1,5 @@
 -- LoongArch: calls and addresses that stay, in the final bytes of a packed section.
-use Rattle.std.proofs.Common.{◌≡◌, ℕ, ◌+◌, ◌^◌, ◌<◌, take, drop, refl, sym, ap, subst, ◌∙◌, arith, true, false, Option, Some, None, Ok, IsSomeAnd}
-use Rattle.linker_final.proofs.Imports.{All-drop, All-take, ⊤, slice_get, BitRange, IsApplied, loongarch_row, window_len, bytes_row, sum_64, value_of, RelocationInstruction, RelocationKindInfo, BitMasking, Operands, LoongArch64Relocation, Fits32, pair, AreAddresses, plt_address, symbol_address, rd_of, destination, relocation_in, has_value, names_label, offset_at, operands_in, operands_of, Symbol, IsRow}
+use Rattle.linker_final.proofs.Imports.{◌≡◌, ℕ, ◌+◌, ◌^◌, ◌<◌, take, drop, refl, sym, ap, subst, ◌∙◌, arith, true, false, Option, Some, None, Ok, IsSomeAnd, All-drop, All-take, ⊤, slice_get, BitRange, IsApplied, loongarch_row, window_len, bytes_row, sum_64, value_of, RelocationInstruction, RelocationKindInfo, BitMasking, Operands, LoongArch64Relocation, Fits32, pair, AreAddresses, plt_address, symbol_address, rd_of, destination, relocation_in, has_value, names_label, offset_at, operands_in, operands_of, Symbol, IsRow, LongAddressesStay, LongCallsStay, LongLoadedAddressesStay, IsPairOf, StaysAs, operands_at, Packed, IsPacked, architecture_of, place_of}
 use Rattle.linker_elf.specs.declared.elf.RelocationKind.TheVariants.{None as NoValue}
 use Rattle.linker_elf.specs.declared.loongarch64.relocations.LoongArch64Relocation.TheVariants as names
 use Rattle.linker_final.proofs.InstructionFields.{some_value}
@@ -9,8 +8,6 @@ use Rattle.linker_final.proofs.Written.{back_of_pair, front_of_pair}
 use Rattle.linker_final.proofs.PackedBytes.{place_after, places_inside, stay_inside}
 use Rattle.linker_final.proofs.PackedInstructions.{instructions}
 use Rattle.linker_final.proofs.PutBack.{window_length}
-use Rattle.linker_final.specs.LoongArchPacked.{LongAddressesStay, LongCallsStay, LongLoadedAddressesStay, IsPairOf, StaysAs, operands_at}
-use Rattle.linker_final.specs.Packed.{Packed, IsPacked, architecture_of, place_of}
 use Rattle.linker_laws.specs.LoongArchMachine.{State}
 use Rattle.linker_laws.specs.LoongArchRelocationLaws as relocation_laws
 use Rattle.linker_laws.specs.LoongArchRewriteLaws.{following}

@@ -1,12 +1,8 @@
 -- The relocations of a load from the GOT of LoongArch stand next to each other, and both are
 -- rewritten.
-use Rattle.std.proofs.Common.{◌≡◌, ℕ, suc, ◌∙◌, ◌+◌, ◌-◌, ◌<◌, inl, inr, List, ap, sym, subst, arith, refl, true, false, Option, Some, None}
-use Rattle.linker_final.proofs.Imports.{cases_Bool, IsNamed, IsNameOf, r_type_of, loongarch_name, Choice, LinkFacts, LoongArch64Relocation, IsCandidateWith, AreDecidedIn, IsDecidedAfter, IsScopeDecision, decision_at, decision_of, is_taken, takes_next, RelaxContext, pre_layout, link_facts, IsScopeIn, loongarch_scope_in, Decision, Kept, Rewritten, Consumed, relocation_in, Rela, Relaxation, LoongArch64}
+use Rattle.linker_final.proofs.Imports.{◌≡◌, ℕ, suc, ◌∙◌, ◌+◌, ◌-◌, ◌<◌, inl, inr, List, ap, sym, subst, arith, refl, true, false, Option, Some, None, cases_Bool, IsNamed, IsNameOf, r_type_of, loongarch_name, Choice, LinkFacts, LoongArch64Relocation, IsCandidateWith, AreDecidedIn, IsDecidedAfter, IsScopeDecision, decision_at, decision_of, is_taken, takes_next, RelaxContext, pre_layout, link_facts, IsScopeIn, loongarch_scope_in, Decision, Kept, Rewritten, Consumed, relocation_in, Rela, Relaxation, LoongArch64, Linked, count, IsCandidate, IsDecidedAlone}
 use Rattle.linker_elf.specs.declared.loongarch64.relocations.LoongArch64Relocation.TheVariants as names
-use Rattle.linker_final.specs.Final.{Linked, count}
 use Rattle.linker_rewriting.proofs.LoongArchLoads.{loads_are_whole}
-use Rattle.linker_rewriting.specs.Candidates.{IsCandidate}
-use Rattle.linker_rewriting.specs.Decisions.{IsDecidedAlone}
 use Rattle.linker_rewriting.specs.Rewritten.{IsLoadAt, IsRewritten}
 use Rattle.linker_rewriting.proofs.SequenceMembers.{among, are_there}
 use Rattle.linker_rewriting.specs.Sequences.{IsWhole, are_members, is_marked_in, is_whole, marked_load}

@@ -1,13 +1,9 @@
 -- Instructions of LoongArch and their relocations in the final bytes of a section.
-use Rattle.std.proofs.Common.{◌≡◌, ℕ, ℤ, ◌+◌, ◌-◌, ◌<◌, ◌≤◌, List, length, drop, sym, ap, subst, ◌∙◌, arith, Some, Ok, refl, IsSomeAnd}
-use Rattle.linker_final.proofs.Imports.{take-take, slice_get, offset_after, addend_after, IsApplied, IsNamed, r_type_of, loongarch_name, loongarch_row, bytes_row, value_of, RelocationKindInfo, Choice, Operands, LoongArch64Relocation, IsRelocated, IsRewritten, loongarch_rewrite, rewrites_word, decision_at, AreDone, IsDone, IsMade, relocation_after, Rewritten, relocation_in, operands_with, operands_in, Symbol, Rela, IsRow, relaxation_rewrite, Relaxation, Architecture, LoongArch64}
+use Rattle.linker_final.proofs.Imports.{◌≡◌, ℕ, ℤ, ◌+◌, ◌-◌, ◌<◌, ◌≤◌, List, length, drop, sym, ap, subst, ◌∙◌, arith, Some, Ok, refl, IsSomeAnd, take-take, slice_get, offset_after, addend_after, IsApplied, IsNamed, r_type_of, loongarch_name, loongarch_row, bytes_row, value_of, RelocationKindInfo, Choice, Operands, LoongArch64Relocation, IsRelocated, IsRewritten, loongarch_rewrite, rewrites_word, decision_at, AreDone, IsDone, IsMade, relocation_after, Rewritten, relocation_in, operands_with, operands_in, Symbol, Rela, IsRow, relaxation_rewrite, Relaxation, Architecture, LoongArch64, AreRewritten, UntouchedInstruction, Linked, IsLinked, IsWrittenByNoOther, count, instruction_at, named_as, BeginsRewritten}
 use Rattle.linker_elf.specs.declared.elf.RelocationKind.TheVariants.{None as NoValue}
 use Rattle.linker_elf.specs.declared.loongarch64.relocations.LoongArch64Relocation.TheVariants as names
 use Rattle.linker_final.proofs.InstructionFields.{IsOfInstruction}
 use Rattle.linker_final.proofs.Written.{IsRowOf, applied_after, are_rewritten, by_name, rela, unwritten_without, with_operands}
-use Rattle.linker_final.specs.Final.{AreRewritten, UntouchedInstruction, Linked, IsLinked, IsWrittenByNoOther, count, instruction_at}
-use Rattle.linker_final.specs.LoongArchSection.{named_as}
-use Rattle.linker_laws.specs.LoongArchRewriteLaws.{BeginsRewritten}
 use Rattle.linker_utils.specs.declared.loongarch64.rewrites.RewriteKind.{RewriteKind}
 use Rattle.linker_utils.specs.declared.loongarch64.rewrites.RewriteKind.TheVariants as kinds
 use Rattle.linker_utils.specs.declared.architecture.Relaxation.TheVariants as relaxations

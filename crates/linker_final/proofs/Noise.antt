@@ -1,7 +1,6 @@
 -- The numbers before a row's instruction, with the powers of 2 written out, since `2 ^ n` takes n
 -- steps.
-use Rattle.std.proofs.Common.{◌≡◌, ℕ, ◌+◌, ◌*◌, ◌/◌, ◌%◌, ◌^◌, ◌==◌, ◌&&◌, Bool, true, List, [], ◌∷◌, refl, ap, ◌∙◌}
-use Rattle.linker_final.proofs.Imports.{if◌then◌else◌, list_all}
+use Rattle.linker_final.proofs.Imports.{◌≡◌, ℕ, ◌+◌, ◌*◌, ◌/◌, ◌%◌, ◌^◌, ◌==◌, ◌&&◌, Bool, true, List, [], ◌∷◌, refl, ap, ◌∙◌, if◌then◌else◌, list_all}
 use Rattle.linker_final.specs.Steps.{Executed, Group, at, pc}
 
 abbrev noise_64 : ℕ → ℕ

@@ -1,9 +1,7 @@
 -- Programs that the calls link.
-use Rattle.std.proofs.Common.{◌≡◌, ℕ, List, [], ◌∷◌, length, inl, inr, refl, ap, subst, ◌∙◌}
-use Rattle.linker_final.specs.Final.{IsLinked, Linked}
 use Rattle.linker_final.specs.SectionRuns.{Rewriting, Section}
 use Rattle.linker_final.specs.Worked.{IsLinkedAs, IsOfCalls, code_at}
-use Rattle.linker_final.proofs.Imports.{Phase, Architecture, AreMoved, IsPackedRun, section_of, Machine, Item, AreWritten, Addresses, Symbol}
+use Rattle.linker_final.proofs.Imports.{◌≡◌, ℕ, List, [], ◌∷◌, length, inl, inr, refl, ap, subst, ◌∙◌, Phase, Architecture, AreMoved, IsPackedRun, section_of, Machine, Item, AreWritten, Addresses, Symbol, IsLinked, Linked}
 
 abbrev pub of_calls : (r : Rewriting) (phase : Phase) (addresses : Addresses) (symbols : List Symbol)
     (relocations object final : List ℕ) (old new : ℕ → ℕ) → ((l : Linked) → IsLinked l → r.Ensured l)

@@ -1,9 +1,6 @@
 -- What no rewrite took of a section.
-use Rattle.std.proofs.Common.{◌/◌, ◌<◌, ap, sym, subst, ◌∙◌}
 use Rattle.linker_final.proofs.Phases.{last_as_many, last_within, phases_keep, phases_spare}
-use Rattle.linker_final.specs.Final.{OtherBytes, OtherFields}
-use Rattle.linker_final.proofs.Imports.{relocation_after, relocation_in}
-use Rattle.linker_section.specs.WrittenFields.{IsHeld}
+use Rattle.linker_final.proofs.Imports.{◌/◌, ◌<◌, ap, sym, subst, ◌∙◌, relocation_after, relocation_in, OtherBytes, OtherFields, IsHeld}
 
 pub bytes : OtherBytes
 bytes l linked at free none =

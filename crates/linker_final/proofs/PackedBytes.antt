@@ -1,11 +1,6 @@
 -- The final bytes of a packed section: those that stay, padding, and where each is.
-use Rattle.std.proofs.Common.{◌≡◌, ℕ, zero, suc, ◌+◌, ◌-◌, ◌^◌, ◌<◌, ◌≤◌, List, [], ◌∷◌, length, map, take, drop, get_or, false, refl, sym, ap, subst, ◌∙◌, inl, inr, arith}
-use Rattle.linker_final.proofs.Imports.{cases_lt, cases_Bool, ext_get_or, All-from_get_or, IsTrue, rank-mono, rank, sum_64, ItemBecomes, is_fixed, kept_len, packed_offset, offset_of, end_of, Item, Aligned}
-use Rattle.linker_base.proofs.Rank.{rank_kept, rank_gone, rank_all_kept, selected_once}
-use Rattle.linker_base.specs.Deletions.{is_kept}
+use Rattle.linker_final.proofs.Imports.{◌≡◌, ℕ, zero, suc, ◌+◌, ◌-◌, ◌^◌, ◌<◌, ◌≤◌, List, [], ◌∷◌, length, map, take, drop, get_or, false, refl, sym, ap, subst, ◌∙◌, inl, inr, arith, cases_lt, cases_Bool, ext_get_or, All-from_get_or, IsTrue, rank-mono, rank, sum_64, ItemBecomes, is_fixed, kept_len, packed_offset, offset_of, end_of, Item, Aligned, rank_kept, rank_gone, rank_all_kept, selected_once, is_kept, AreBytes, Packed, AreDeleted, address_at, IsPacked, Stays, StayTogether, IsUnwritten, place_of, KeptBytesStay, PaddingIsNops, DeletedBytesAreGone, ItemsAreDeleted, PlacesHaveAddresses}
 use Rattle.linker_final.proofs.PutBack.{same_windows, window_byte, window_length}
-use Rattle.linker_final.specs.Final.{AreBytes}
-use Rattle.linker_final.specs.Packed.{Packed, AreDeleted, address_at, IsPacked, Stays, StayTogether, IsUnwritten, place_of, KeptBytesStay, PaddingIsNops, DeletedBytesAreGone, ItemsAreDeleted, PlacesHaveAddresses}
 use Rattle.linker_runs.specs.Packing.{Section, IsInside, nops}
 
 -- ---- lists

@@ -1,9 +1,7 @@
 -- Relocated instructions that stay, in the final bytes of a packed section.
-use Rattle.std.proofs.Common.{◌<◌, arith, take, drop, sym, subst, IsSomeAnd}
-use Rattle.linker_final.proofs.Imports.{⊤, IsApplied, size_len, window_len, value_of, some_window, offset_at}
+use Rattle.linker_final.proofs.Imports.{◌<◌, arith, take, drop, sym, subst, IsSomeAnd, ⊤, IsApplied, size_len, window_len, value_of, some_window, offset_at, InstructionsAreRelocated, PlacesAreRelocated, architecture_of, place_of}
 use Rattle.linker_final.proofs.PackedBytes.{same_there}
 use Rattle.linker_final.proofs.RelocatedFields.{applied}
-use Rattle.linker_final.specs.Packed.{InstructionsAreRelocated, PlacesAreRelocated, architecture_of, place_of}
 
 pub places : PlacesAreRelocated
 places p is i row operands of =

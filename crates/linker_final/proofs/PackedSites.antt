@@ -1,10 +1,7 @@
 -- What sites are in the final bytes of a packed section.
-use Rattle.std.proofs.Common.{◌≡◌, ℕ, ◌+◌, ◌^◌, ◌<◌, ◌≤◌, false, length, take, drop, sym, subst, arith}
-use Rattle.linker_final.proofs.Imports.{All-drop, All-take, ItemBecomes, SiteBecomes, is_fixed, kept_len, packed_offset, offset_of, Site}
+use Rattle.linker_final.proofs.Imports.{◌≡◌, ℕ, ◌+◌, ◌^◌, ◌<◌, ◌≤◌, false, length, take, drop, sym, subst, arith, All-drop, All-take, ItemBecomes, SiteBecomes, is_fixed, kept_len, packed_offset, offset_of, Site, AreBytes, Packed, IsPacked, IsSiteOf, site_bytes, site_len, site_offset}
 use Rattle.linker_final.proofs.PackedBytes.{item_inside, packed_there}
 use Rattle.linker_final.proofs.PutBack.{window_length}
-use Rattle.linker_final.specs.Final.{AreBytes}
-use Rattle.linker_final.specs.Packed.{Packed, IsPacked, IsSiteOf, site_bytes, site_len, site_offset}
 use Rattle.linker_runs.specs.declared.relaxation.Site.{Site as sites}
 
 -- in the section before

@@ -1,11 +1,5 @@
 -- What phases leave alone is the same after them.
-use Rattle.std.proofs.Common.{◌≡◌, ℕ, ◌+◌, ◌-◌, ◌/◌, ◌<◌, ◌≤◌, List, [], ◌∷◌, length, take, drop, get_or, sym, ap, subst, ◌∙◌, arith}
-use Rattle.linker_final.proofs.Imports.{length-drop, get_or-take, get_or-drop, ext_get_or, relocation_after, relocation_in}
-use Rattle.std.proofs.lemmas.List.{length-take}
-use Rattle.std.proofs.lemmas.List.Elements.{All-head, All-tail, All-weaker}
-use Rattle.std.specs.List.{All}
-use Rattle.std.specs.Prelude.{min}
-use Rattle.linker_final.specs.Final.{ArePhases, UntouchedBytes, IsLinked, Keeps, UntouchedInPhase, UntouchedBytesAreTheSame, Linked, RewritesNone, RewritingPhase, count, count_of}
+use Rattle.linker_final.proofs.Imports.{◌≡◌, ℕ, ◌+◌, ◌-◌, ◌/◌, ◌<◌, ◌≤◌, List, [], ◌∷◌, length, take, drop, get_or, sym, ap, subst, ◌∙◌, arith, length-drop, get_or-take, get_or-drop, ext_get_or, relocation_after, relocation_in, length-take, All-head, All-tail, All-weaker, All, min, ArePhases, UntouchedBytes, IsLinked, Keeps, UntouchedInPhase, UntouchedBytesAreTheSame, Linked, RewritesNone, RewritingPhase, count, count_of}
 
 -- ---- phases
 

@@ -1,12 +1,6 @@
 -- Rows of whole bytes whose value replaces what is there, and what a section's relocation of such a
 -- row leaves in its field.
-use Rattle.std.proofs.Common.{◌≡◌, ℕ, zero, suc, ℤ, pos, ◌*◌, ◌%◌, ◌^◌, ◌<◌, ◌≤◌, List, drop, true, false, eqb, ltb, cond, refl, sym, ap, subst, ◌∙◌, inl, inr, arith, Option, Some, None, Ok, Err, Result, IsSomeAnd, Bool}
-use Rattle.linker_final.proofs.Imports.{cases_eq, cases_lt, cases_Bool, cond-true, cond-false, eq-eqb, ⊤, w64, cast_unsigned, int_rem_euclid, IsWithin, number_of_bytes, number_written, value_of, RelocationKindInfo, Operands, one_row, one_info, field_len, is_of_pair, IsRowValue, IsValueIn, IsValueBy, has_value, names_label, offset_at, lacks_origin, operands_of, value_by, composed, HoldsNumber, Addresses, Symbol, Rela, ValueError, IsRow, Architecture}
-use Rattle.std.proofs.lemmas.Bool.{eqb-true, lt-ltb, le-ltb}
-use Rattle.linker_elf.specs.Reach.{reach_of}
-use Rattle.linker_elf.specs.declared.elf.RelocationSize.TheVariants.{ByteSize}
-use Rattle.linker_section.specs.WrittenFields.{Found, composed_by, composed_with}
-use Rattle.linker_section.specs.declared.values.ValueError.TheVariants.{NoTlsBase}
+use Rattle.linker_final.proofs.Imports.{◌≡◌, ℕ, zero, suc, ℤ, pos, ◌*◌, ◌%◌, ◌^◌, ◌<◌, ◌≤◌, List, drop, true, false, eqb, ltb, cond, refl, sym, ap, subst, ◌∙◌, inl, inr, arith, Option, Some, None, Ok, Err, Result, IsSomeAnd, Bool, cases_eq, cases_lt, cases_Bool, cond-true, cond-false, eq-eqb, ⊤, w64, cast_unsigned, int_rem_euclid, IsWithin, number_of_bytes, number_written, value_of, RelocationKindInfo, Operands, one_row, one_info, field_len, is_of_pair, IsRowValue, IsValueIn, IsValueBy, has_value, names_label, offset_at, lacks_origin, operands_of, value_by, composed, HoldsNumber, Addresses, Symbol, Rela, ValueError, IsRow, Architecture, eqb-true, lt-ltb, le-ltb, reach_of, ByteSize, Found, composed_by, composed_with, NoTlsBase}
 
 -- of n bytes, which the value replaces
 pub record IsPlain (n : ℕ) (row : RelocationKindInfo) : Type 0 where

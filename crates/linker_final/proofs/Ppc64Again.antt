@@ -1,8 +1,6 @@
 -- In which phase alone PowerPC64's relocations of a name are rewritten.
-use Rattle.std.proofs.Common.{◌≡◌, ◌⊎◌, ℕ, List, Bool, true, false, refl, sym, ap, subst, ◌∙◌, inl, inr}
-use Rattle.linker_final.proofs.Imports.{IsNamed, r_type_of, ppc64_name, Choice, Ppc64Relocation, IsDecidedAfter, IsScopeDecision, decision_at, is_taken, RelaxContext, IsScopeIn, ppc64_scope_in, Decision, Kept, Rewritten, Consumed, UnrelaxableGroups, Scope, NotRelaxable, Phase, relocation_in, Relaxation, Ppc64}
+use Rattle.linker_final.proofs.Imports.{◌≡◌, ◌⊎◌, ℕ, List, Bool, true, false, refl, sym, ap, subst, ◌∙◌, inl, inr, IsNamed, r_type_of, ppc64_name, Choice, Ppc64Relocation, IsDecidedAfter, IsScopeDecision, decision_at, is_taken, RelaxContext, IsScopeIn, ppc64_scope_in, Decision, Kept, Rewritten, Consumed, UnrelaxableGroups, Scope, NotRelaxable, Phase, relocation_in, Relaxation, Ppc64, AreRewritten, Linked}
 use Rattle.linker_elf.specs.declared.ppc64.relocations.Ppc64Relocation.TheVariants as names
-use Rattle.linker_final.specs.Final.{AreRewritten, Linked}
 use Rattle.linker_final.specs.Ppc64Section.{IsOfNoPhase, Rewrites, RewrittenAgain}
 use Rattle.linker_rewriting.specs.declared.phases.Phase.TheVariants as phases
 

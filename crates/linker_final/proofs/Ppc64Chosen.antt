@@ -1,14 +1,10 @@
 -- The rewrite that is chosen for a relocation of PowerPC64.
-use Rattle.std.proofs.Common.{◌≡◌, ℕ, ◌<◌, List, [], ◌∷◌, true, false, refl, sym, ap, subst, ◌∙◌, inl, inr}
-use Rattle.linker_final.proofs.Imports.{choice, IsNameOf, r_type_of, ppc64_name, Choice, LinkFacts, Ppc64Relocation, chosen_at, IsOfApplied, of_first, ppc64_entries, ppc64_matches, decision_at, IsScopeIn, is_labelled, Rewritten, Scope, Labelled, Phase, relocation_in, IsArchitectureChoice, relaxation_no_op, Relaxation, Ppc64}
+use Rattle.linker_final.proofs.Imports.{◌≡◌, ℕ, ◌<◌, List, [], ◌∷◌, true, false, refl, sym, ap, subst, ◌∙◌, inl, inr, choice, IsNameOf, r_type_of, ppc64_name, Choice, LinkFacts, Ppc64Relocation, chosen_at, IsOfApplied, of_first, ppc64_entries, ppc64_matches, decision_at, IsScopeIn, is_labelled, Rewritten, Scope, Labelled, Phase, relocation_in, IsArchitectureChoice, relaxation_no_op, Relaxation, Ppc64, IsLinked, Linked, count, Ppc64Applies, ppc64_none}
 use Rattle.linker_elf.specs.Choices.{Entry}
 use Rattle.linker_rewriting.proofs.Entries.{IsOfEntry as IsOfEntryIn, IsOfOne as IsOfOneIn}
-use Rattle.linker_final.specs.Final.{IsLinked, Linked, count}
-use Rattle.linker_utils.specs.Ppc64Rewrites.{Ppc64Applies}
 use Rattle.linker_utils.specs.declared.ppc64.rewrites.RewriteKind.{RewriteKind}
 use Rattle.linker_utils.specs.declared.ppc64.rewrites.RewriteKind.TheVariants as kinds
 use Rattle.linker_utils.specs.declared.architecture.Relaxation.TheVariants as relaxations
-use Rattle.linker_rewriting.proofs.LabelGroups.{ppc64_none}
 
 -- ---- scopes
 

@@ -1,8 +1,5 @@
 -- Each rewritten instruction of PowerPC64 is a group.
-use Rattle.std.proofs.Common.{◌≡◌, ◌⊎◌, ℕ, Bool, ◌+◌, ◌-◌, ◌*◌, ◌^◌, ◌<◌, ◌≤◌, List, [], ◌∷◌, length, drop, take, get_or, refl, sym, ap, subst, ◌∙◌, arith, inl, inr, Some, not, eqb, IsSomeAnd, None}
-use Rattle.linker_final.proofs.Imports.{and_parts, cases_lt, drop-drop, get_or_past, length-drop, take-take, All-drop, All-take, All-get_or, IsTrue, ◌&&◌, slice_get, w32, from_le_bytes, to_le_bytes, byte_at, Rewrite, replaces, entry, IsNamed, IsNameOf, r_type_of, ppc64_name, ppc64_row, sum_64, Ppc64, Choice, Ppc64Relocation, word_below, window_of_rewrite, decision_at, Rewritten, relocation_in, operands_with, Symbol, Rela, HasTest, ppc64_entries, ppc64_matches, ppc64_rewrite, rewrites_marked, relaxation_rewrite, Relaxation, word_of_front}
-use Rattle.std.proofs.lemmas.Nat.{le_bytes_4}
-use Rattle.linker_elf.specs.Choices.{changed_toc}
+use Rattle.linker_final.proofs.Imports.{◌≡◌, ◌⊎◌, ℕ, Bool, ◌+◌, ◌-◌, ◌*◌, ◌^◌, ◌<◌, ◌≤◌, List, [], ◌∷◌, length, drop, take, get_or, refl, sym, ap, subst, ◌∙◌, arith, inl, inr, Some, not, eqb, IsSomeAnd, None, and_parts, cases_lt, drop-drop, get_or_past, length-drop, take-take, All-drop, All-take, All-get_or, IsTrue, ◌&&◌, slice_get, w32, from_le_bytes, to_le_bytes, byte_at, Rewrite, replaces, entry, IsNamed, IsNameOf, r_type_of, ppc64_name, ppc64_row, sum_64, Ppc64, Choice, Ppc64Relocation, word_below, window_of_rewrite, decision_at, Rewritten, relocation_in, operands_with, Symbol, Rela, HasTest, ppc64_entries, ppc64_matches, ppc64_rewrite, rewrites_marked, relaxation_rewrite, Relaxation, word_of_front, le_bytes_4, changed_toc, AreBytes, AreRewritten, IsLinked, IsOutside, IsRewrittenByNoOther, IsWrittenByNoOther, Linked, UntouchedByOthers, UntouchedBytes, count, instruction_at, two_at}
 use Rattle.linker_elf.specs.declared.ppc64.relocations.Ppc64Relocation.TheVariants as names
 use Rattle.linker_final.proofs.Phases.{left_within}
 use Rattle.linker_final.proofs.Ppc64Again.{of_none}
@@ -10,7 +7,6 @@ use Rattle.linker_final.proofs.Ppc64Chosen.{IsOfEntry, IsOfOne}
 use Rattle.linker_final.proofs.Ppc64Written.{Writes, after_is, becomes, becomes_marked, call_after, distance, entry_high, entry_low, entry_prefixed, left_alone, left_beside, made_after, marked_offset, near_entry, test_at, thread, thread_high, thread_low, thread_low_after, thread_low_words, thread_prefixed, thread_words, toc, toc_high, toc_low, toc_words}
 use Rattle.linker_final.proofs.PutBack.{window_byte, window_length}
 use Rattle.linker_final.proofs.Written.{are_rewritten, first_same, mapped, outside_of, second_same, spared, stays, word_same}
-use Rattle.linker_final.specs.Final.{AreBytes, AreRewritten, IsLinked, IsOutside, IsRewrittenByNoOther, IsWrittenByNoOther, Linked, UntouchedByOthers, UntouchedBytes, count, instruction_at, two_at}
 use Rattle.linker_final.specs.Ppc64Section.{AreLeftAlone, HasApplied, IsMade, IsOfNoPhase, Law, Left, Restores, applied, entry_by, law, law_of, name_of, none, of_call, shape, to_second}
 use Rattle.linker_final.specs.SectionRuns.{offset_of}
 use Rattle.linker_laws.specs.Ppc64Groups as groups

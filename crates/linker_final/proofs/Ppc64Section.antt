@@ -1,12 +1,10 @@
 -- The rewrites of a section of PowerPC64: each is of words that are rewritten together, and these
 -- are groups.
-use Rattle.std.proofs.Common.{◌≡◌, ℕ, ◌+◌, ◌*◌, ◌<◌, ◌≤◌, ◌⊎◌, get_or, sym, ap, subst, ◌∙◌, refl, arith, inl, inr}
-use Rattle.linker_final.proofs.Imports.{cases_lt, IsNameOf, ppc64_name, Ppc64, Choice, Ppc64Relocation, decision_at, Decision, Kept, Rewritten, Consumed, RewrittenWithSymbol, relocation_in, Relaxation}
+use Rattle.linker_final.proofs.Imports.{◌≡◌, ℕ, ◌+◌, ◌*◌, ◌<◌, ◌≤◌, ◌⊎◌, get_or, sym, ap, subst, ◌∙◌, refl, arith, inl, inr, cases_lt, IsNameOf, ppc64_name, Ppc64, Choice, Ppc64Relocation, decision_at, Decision, Kept, Rewritten, Consumed, RewrittenWithSymbol, relocation_in, Relaxation, IsLinked, IsOutside, Linked, count}
 use Rattle.linker_final.proofs.Ppc64Chosen.{has_entry, unlabelled}
 use Rattle.linker_final.proofs.Ppc64Groups.{IsLawful, by_name}
 use Rattle.linker_final.proofs.SectionRuns.{AreIn, IsIn, each_or, is_linked, without_label}
 use Rattle.linker_final.proofs.Written.{spared}
-use Rattle.linker_final.specs.Final.{IsLinked, IsOutside, Linked, count}
 use Rattle.linker_final.specs.Ppc64Section.{NamesAreLeft, kind_at, kind_by, kind_of, law_of, rewriting, shape, span}
 use Rattle.linker_final.specs.SectionRuns.{RewritesAreGroups, offset_of}
 use Rattle.linker_laws.specs.Ppc64Groups.{Groups}

@@ -1,6 +1,5 @@
 -- Instructions of PowerPC64 and their relocations in the final bytes of a section.
-use Rattle.std.proofs.Common.{true, false, ◌≡◌, ◌⊎◌, ℕ, ◌+◌, ◌-◌, ◌<◌, ◌≤◌, length, take, drop, sym, ap, subst, ◌∙◌, refl, arith, Some, None, Ok, IsSomeAnd, cond}
-use Rattle.linker_final.proofs.Imports.{take-take, IsTrue, slice_get, ⊤, Rewrite, addend_after, offset_after, IsApplied, IsNamed, r_type_of, ppc64_name, ppc64_row, window_len, bytes_row, signed_row, value_of, GotTpOff, Relative, TpOff, RelocationKindInfo, BitMasking, Choice, Operands, Ppc64Relocation, HasTest, ppc64_rewrite, rewrites_marked, decision_at, IsDone, IsMade, Rewritten, is_of_pair, entry_of, relocation_in, entry_address, has_value, is_there, names_label, operands_by, operands_with, Symbol, Entry, ThreadOffset, Rela, IsRow, relaxation_rewrite, Relaxation, Ppc64}
+use Rattle.linker_final.proofs.Imports.{true, false, ◌≡◌, ◌⊎◌, ℕ, ◌+◌, ◌-◌, ◌<◌, ◌≤◌, length, take, drop, sym, ap, subst, ◌∙◌, refl, arith, Some, None, Ok, IsSomeAnd, cond, take-take, IsTrue, slice_get, ⊤, Rewrite, addend_after, offset_after, IsApplied, IsNamed, r_type_of, ppc64_name, ppc64_row, window_len, bytes_row, signed_row, value_of, GotTpOff, Relative, TpOff, RelocationKindInfo, BitMasking, Choice, Operands, Ppc64Relocation, HasTest, ppc64_rewrite, rewrites_marked, decision_at, IsDone, IsMade, Rewritten, is_of_pair, entry_of, relocation_in, entry_address, has_value, is_there, names_label, operands_by, operands_with, Symbol, Entry, ThreadOffset, Rela, IsRow, relaxation_rewrite, Relaxation, Ppc64, UntouchedBytes, AreRewritten, Linked, IsLinked, IsWrittenByNoOther, count, instruction_at}
 use Rattle.linker_elf.specs.Ppc64Relocations.{branch_row, high_adjusted_row, low_ds_row, low_row, prefixed_row}
 use Rattle.linker_elf.specs.declared.elf.RelocationInstruction.TheVariants as insns
 use Rattle.linker_elf.specs.declared.elf.RelocationKind.TheVariants.{None as NoValue, GotTpOffGotBase, SymRelGotBase}
@@ -10,7 +9,6 @@ use Rattle.linker_elf.specs.declared.ppc64.relocations.Ppc64Relocation.TheVarian
 use Rattle.linker_final.proofs.InstructionFields.{IsOfInstruction}
 use Rattle.linker_final.proofs.Phases.{relocation_left}
 use Rattle.linker_final.proofs.Written.{IsRowOf, apart_with, applied_after, by_name, entry_is_there, made_there, rela, relocation_is, unwritten_but, unwritten_without, with_operands, word_same}
-use Rattle.linker_final.specs.Final.{UntouchedBytes, AreRewritten, Linked, IsLinked, IsWrittenByNoOther, count, instruction_at}
 use Rattle.linker_final.specs.SectionRuns.{offset_of}
 use Rattle.linker_laws.specs.Ppc64RewriteLaws.{IsRelocated, IsRewritten, word_of}
 use Rattle.linker_utils.specs.declared.ppc64.rewrites.RewriteKind.{RewriteKind}

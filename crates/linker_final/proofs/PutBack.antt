@@ -1,8 +1,5 @@
 -- Bytes in which a window is another's, and what a rewrite makes of them.
-use Rattle.std.proofs.Common.{◌≡◌, ℕ, ◌+◌, ◌-◌, ◌<◌, ◌≤◌, ◌⊎◌, inl, inr, List, ◌++◌, length, take, drop, get_or, ap, sym, ◌∙◌, arith, refl, Some}
-use Rattle.linker_final.proofs.Imports.{cases_lt, length-drop, length-take-le, get_or-drop, get_or-take, ext_get_or, Rewrite, rewritten, rewrite_window}
-use Rattle.std.proofs.lemmas.List.{length-append}
-use Rattle.linker_final.specs.X86Section.{put_back}
+use Rattle.linker_final.proofs.Imports.{◌≡◌, ℕ, ◌+◌, ◌-◌, ◌<◌, ◌≤◌, ◌⊎◌, inl, inr, List, ◌++◌, length, take, drop, get_or, ap, sym, ◌∙◌, arith, refl, Some, cases_lt, length-drop, length-take-le, get_or-drop, get_or-take, ext_get_or, Rewrite, rewritten, rewrite_window, length-append, put_back}
 use Rattle.linker_section.proofs.Windows.{IsReplaced, in_window, outside_window}
 
 -- a byte of n from a start on

@@ -1,16 +1,9 @@
 -- The alignments of a relaxed run, in the final bytes of its sections.
-use Rattle.std.proofs.Common.{◌≡◌, ◌≢◌, ℕ, ◌+◌, ◌-◌, ◌*◌, ◌/◌, ◌%◌, ◌^◌, ◌<◌, ◌≤◌, List, length, get_or, refl, sym, ap, subst, ◌∙◌, inl, inr, arith}
-use Rattle.std.specs.Prelude.{◌⊎◌, MatchOption, Option, None, Some}
 use Rattle.std.proofs.Math.Nat.{mod-lt, mod-eq_of_lt, mod_self}
-use Rattle.linker_final.proofs.Imports.{cases_lt, rank-mono, rank, sum_64, deletions_of_run, kept_len, packed_offset, end_of, offset_of, Item, Aligned, Addresses, Symbol}
-use Rattle.std.proofs.lemmas.Nat.{div-add-mod', mod-mul-add}
-use Rattle.linker_base.proofs.Rank.{rank-le}
-use Rattle.linker_base.specs.Deletions.{IsValid}
-use Rattle.linker_base.specs.Deltas.{RecordsDeletions}
+use Rattle.linker_final.proofs.Imports.{◌≡◌, ◌≢◌, ℕ, ◌+◌, ◌-◌, ◌*◌, ◌/◌, ◌%◌, ◌^◌, ◌<◌, ◌≤◌, List, length, get_or, refl, sym, ap, subst, ◌∙◌, inl, inr, arith, cases_lt, rank-mono, rank, sum_64, deletions_of_run, kept_len, packed_offset, end_of, offset_of, Item, Aligned, Addresses, Symbol, ◌⊎◌, MatchOption, Option, None, Some, div-add-mod', mod-mul-add, rank-le, IsValid, RecordsDeletions, Packed, IsPacked}
 use Rattle.linker_base.specs.Listed.{AreValidDeltas}
 use Rattle.linker_base.specs.declared.relaxation.RelaxDelta.{RelaxDelta}
 use Rattle.linker_final.proofs.PackedBytes.{addresses}
-use Rattle.linker_final.specs.Packed.{Packed, IsPacked}
 use Rattle.linker_final.specs.Relaxed.{AreRelaxedAndPacked, packed_of, Run, AlignmentsHold, AlignmentHolds, HoldsIn, IsAligned, IsOfRun, IsSkipped, LeadsInto, SectionsAreAligned, code_at, code_index, padding_at, padding_index, padding_len}
 use Rattle.linker_final.specs.declared.packed.RunSection.{RunSection}
 use Rattle.linker_runs.proofs.First.{first_bytes}

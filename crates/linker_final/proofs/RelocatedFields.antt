@@ -1,6 +1,5 @@
 -- The relocation of an instruction of any length in the bytes once a section's values are written.
-use Rattle.std.proofs.Common.{◌≡◌, ℕ, ◌/◌, ◌<◌, List, length, take, drop, true, false, subst, sym, ap, refl, Ok, Some, IsSomeAnd}
-use Rattle.linker_final.proofs.Imports.{⊤, ◌||◌, BitRange, IsApplied, size_len, window_len, value_of, RelocationInstruction, RelocationKindInfo, BitMasking, Operands, some_window, begins_pair, ends_pair, is_of_pair, relocation_in, has_value, names_label, offset_at, operands_of, AreWritten, Addresses, Symbol, IsRow, Architecture}
+use Rattle.linker_final.proofs.Imports.{◌≡◌, ℕ, ◌/◌, ◌<◌, List, length, take, drop, true, false, subst, sym, ap, refl, Ok, Some, IsSomeAnd, ⊤, ◌||◌, BitRange, IsApplied, size_len, window_len, value_of, RelocationInstruction, RelocationKindInfo, BitMasking, Operands, some_window, begins_pair, ends_pair, is_of_pair, relocation_in, has_value, names_label, offset_at, operands_of, AreWritten, Addresses, Symbol, IsRow, Architecture}
 use Rattle.linker_final.proofs.InstructionFields.{applied_found}
 use Rattle.linker_final.proofs.PlainRows.{found_is}
 

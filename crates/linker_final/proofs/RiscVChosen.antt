@@ -1,14 +1,7 @@
 -- The rewrite that is chosen for a relocation of RISC-V.
-use Rattle.std.proofs.Common.{◌≡◌, ℕ, ◌+◌, ◌<◌, ◌≤◌, length, Bool, true, false, List, [], ◌∷◌, refl, sym, ap, subst, ◌∙◌, inl, inr, ◌⊎◌, Option, Some, None}
-use Rattle.linker_final.proofs.Imports.{choice, IsNamed, IsNameOf, r_type_of, riscv_name, Choice, LinkFacts, RiscVRelocation, choice_of, chosen_or_labelled, IsOfApplied, of_first, AppliesToRiscV, HasPattern, RiscVEntry, riscv_entries, IsCandidateWith, IsScopeIn, Labelled, Architecture, decision_at, RelaxContext, Decision, RewrittenWithSymbol, Rewritten, Subject, Phase, relocation_in, Rela, IsArchitectureChoice, relaxation_no_op, Relaxation, RiscV}
-use Rattle.linker_final.specs.Final.{AreRewritten, Linked, count}
-use Rattle.linker_utils.specs.RiscVRewrites.{IsRiscVChoice}
+use Rattle.linker_final.proofs.Imports.{◌≡◌, ℕ, ◌+◌, ◌<◌, ◌≤◌, length, Bool, true, false, List, [], ◌∷◌, refl, sym, ap, subst, ◌∙◌, inl, inr, ◌⊎◌, Option, Some, None, choice, IsNamed, IsNameOf, r_type_of, riscv_name, Choice, LinkFacts, RiscVRelocation, choice_of, chosen_or_labelled, IsOfApplied, of_first, AppliesToRiscV, HasPattern, RiscVEntry, riscv_entries, IsCandidateWith, IsScopeIn, Labelled, Architecture, decision_at, RelaxContext, Decision, RewrittenWithSymbol, Rewritten, Subject, Phase, relocation_in, Rela, IsArchitectureChoice, relaxation_no_op, Relaxation, RiscV, AreRewritten, Linked, count, IsRiscVChoice, IsLabelDecision, label_decision, rewritten_by, takes_symbol, one_index, IsHighIn, IsLabelCandidate, label_facts, IsUnchanged}
 use Rattle.linker_utils.specs.declared.riscv64.rewrites.RewriteKind.{RewriteKind}
 use Rattle.linker_utils.specs.declared.riscv64.rewrites.RewriteKind.TheVariants as kinds
-use Rattle.linker_rewriting.specs.Decisions.{IsLabelDecision, label_decision, rewritten_by, takes_symbol}
-use Rattle.linker_rewriting.proofs.LabelGroups.{one_index}
-use Rattle.linker_rewriting.specs.RiscVPcrelGroups.{IsHighIn, IsLabelCandidate, label_facts}
-use Rattle.linker_utils.specs.Relaxations.{IsUnchanged}
 use Rattle.linker_utils.specs.declared.architecture.Relaxation.TheVariants as relaxations
 
 -- ---- subjects

@@ -1,15 +1,9 @@
 -- RISC-V: low parts over x3 and x0, and what is deleted before them.
-use Rattle.std.proofs.Common.{◌≡◌, ℕ, pos, ◌+ℤ◌, ◌+◌, ◌-◌, ◌%◌, ◌^◌, ◌<◌, ◌≤◌, ◌⊎◌, Bool, true, false, true≢false, refl, sym, ◌∙◌, ap, subst, arith, List, drop, ℤ, Option, Some, None, if◌then◌else◌}
-use Rattle.linker_final.proofs.Imports.{◌&&◌, IsTrue, w32, w64, cast_signed, cast_unsigned, from_le_bytes, ints, of_z-to_z, ltb-true, signed, riscv_form, pair_row, sum_64, difference_64, RelocationKind, Absolute, Relative, RelativeRiscVLow12, RelocationKindInfo, Operands, IType, UType, word_at, opcode_of, funct3_of, adds_low12, address_in, Relocated, wrapped, Action, register, symbol_address, IsAddress}
-use Rattle.std.specs.Prelude.{unsigned_abs}
-use Rattle.std.specs.Option.{IsSomeAnd}
+use Rattle.linker_final.proofs.Imports.{◌≡◌, ℕ, pos, ◌+ℤ◌, ◌+◌, ◌-◌, ◌%◌, ◌^◌, ◌<◌, ◌≤◌, ◌⊎◌, Bool, true, false, true≢false, refl, sym, ◌∙◌, ap, subst, arith, List, drop, ℤ, Option, Some, None, if◌then◌else◌, ◌&&◌, IsTrue, w32, w64, cast_signed, cast_unsigned, from_le_bytes, ints, of_z-to_z, ltb-true, signed, riscv_form, pair_row, sum_64, difference_64, RelocationKind, Absolute, Relative, RelativeRiscVLow12, RelocationKindInfo, Operands, IType, UType, word_at, opcode_of, funct3_of, adds_low12, address_in, Relocated, wrapped, Action, register, symbol_address, IsAddress, unsigned_abs, IsSomeAnd, lo12, moved, AbsoluteAddresses, RelativeAddresses, sum_zero}
 use Rattle.linker_riscv64.specs.RiscVFields.{rd_of}
-use Rattle.linker_utils.specs.RiscVRewrites.{lo12}
 use Rattle.linker_rewriting.specs.GlobalPointer.{address_of, base_by, base_for, base_of, based_relocation, is_near, relocation_over}
-use Rattle.linker_laws.specs.Machine.{moved}
 use Rattle.linker_laws.specs.RiscVMachine.{auipc, goes_to, lui, with_integer, adds, adds_word, jumps, loads, stores, loads_float, stores_float, rs1_of}
 use Rattle.linker_laws.specs.RiscVRewriteLaws.{low_row, word_of}
-use Rattle.linker_laws.specs.RiscVRelocationLaws.{AbsoluteAddresses, RelativeAddresses}
 use Rattle.linker_laws.proofs.RiscVHighParts.{IsFormulaOf, of_address}
 use Rattle.linker_laws.proofs.RiscVDescriptors.{lui_word, upper_long, upper_word}
 use Rattle.linker_laws.proofs.RiscVGroups.{absolute_rows, based_group, below_32, nothing_left, puts, row_of, word_goes}
@@ -19,7 +13,6 @@ use Rattle.linker_laws.specs.RiscVGroups.{Has, machine, seen}
 use Rattle.linker_final.specs.RiscVNear.{AuipcGoes, FromBase, LowPartsFromBase, LuiGoes, PartsFromBase, ValuesAreDistances, after_base, distance, labelled_row}
 use Rattle.std.proofs.lemmas.Option.{same_Some}
 use Rattle.linker_elf.proofs.Entries.{sum_below}
-use Rattle.linker_laws.proofs.Sums.{sum_zero}
 
 -- ---- low parts
 

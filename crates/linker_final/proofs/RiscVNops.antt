@@ -1,16 +1,11 @@
 -- Instructions of RISC-V's TLS descriptors that became nops do nothing in the final bytes.
-use Rattle.std.proofs.Common.{◌≡◌, ℕ, ◌+◌, ◌<◌, ◌≤◌, List, length, refl, ap, subst, ◌∙◌, inl, inr, arith}
-use Rattle.linker_final.proofs.Imports.{IsRow, IsNamed, riscv_name, riscv_relocation, bytes_row, RiscV, RiscVRelocation, RewrittenWithSymbol, relocation_in, Rela, riscv_entries}
+use Rattle.linker_final.proofs.Imports.{◌≡◌, ℕ, ◌+◌, ◌<◌, ◌≤◌, List, length, refl, ap, subst, ◌∙◌, inl, inr, arith, IsRow, IsNamed, riscv_name, riscv_relocation, bytes_row, RiscV, RiscVRelocation, RewrittenWithSymbol, relocation_in, Rela, riscv_entries, AreRewritten, Linked, count, instruction_at, final_instruction, IsNop, BecomesNop, New, Nops, NopsOf, anywhere, final, packed}
 use Rattle.linker_elf.specs.declared.elf.RelocationKind.TheVariants.{None as NoValue}
 use Rattle.linker_elf.specs.declared.riscv64.relocations.RiscVRelocation.TheVariants as names
 use Rattle.linker_final.proofs.Joined.{unwritten_there}
 use Rattle.linker_final.proofs.RiscVChosen.{EachBecomes, becomes_of}
 use Rattle.linker_final.proofs.RiscVWritten.{becomes, long_there, redirected_after}
 use Rattle.linker_final.proofs.Written.{IsRowOf, by_name, unwritten_without}
-use Rattle.linker_final.specs.Final.{AreRewritten, Linked, count, instruction_at}
-use Rattle.linker_final.specs.Joined.{final_instruction}
-use Rattle.linker_final.specs.RiscVFinal.{IsNop}
-use Rattle.linker_final.specs.RiscVSection.{BecomesNop, New, Nops, NopsOf, anywhere, final, packed}
 use Rattle.linker_final.specs.SectionRuns.{offset_of}
 use Rattle.linker_utils.specs.declared.riscv64.rewrites.RewriteKind.TheVariants as kinds
 

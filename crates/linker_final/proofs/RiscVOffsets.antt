@@ -1,25 +1,17 @@
 -- Low parts of RISC-V that became ones over the thread pointer are groups, and what is deleted
 -- before them.
-use Rattle.std.proofs.Common.{◌≡◌, ℕ, List, [], ◌∷◌, refl, sym, ap, subst, ◌∙◌, arith, Option, IsSomeAnd}
-use Rattle.linker_final.proofs.Imports.{IsTrue, entry, r_type_of, HasWord, pair_row, riscv_name, TpOff, IType, RiscVRelocation, Action, Groups, funct3_of, opcode_of, HasPattern, IsLui, adds_low12, by_low_offset, riscv_entries, riscv_matches, Rewritten, relocation_in, RiscV}
-use Rattle.linker_elf.specs.declared.riscv64.forms.RiscVInstruction.TheVariants.{SType}
+use Rattle.linker_final.proofs.Imports.{◌≡◌, ℕ, List, [], ◌∷◌, refl, sym, ap, subst, ◌∙◌, arith, Option, IsSomeAnd, IsTrue, entry, r_type_of, HasWord, pair_row, riscv_name, TpOff, IType, RiscVRelocation, Action, Groups, funct3_of, opcode_of, HasPattern, IsLui, adds_low12, by_low_offset, riscv_entries, riscv_matches, Rewritten, relocation_in, RiscV, SType, AreRewritten, Linked, instruction_at, HighPartGoes, IsDeleted, SumGoes, action_of, action_at, offset_row, deleted_of, relaxation_deleted}
 use Rattle.linker_elf.specs.declared.riscv64.relocations.RiscVRelocation.TheVariants as names
 use Rattle.linker_final.proofs.Written.{mapped, word_same}
 use Rattle.linker_final.proofs.InstructionFields.{of_bits}
 use Rattle.linker_final.proofs.RiscVChosen.{IsOfEntry, of_entry}
 use Rattle.linker_final.proofs.RiscVParts.{MadePart, has_own, part_alone}
 use Rattle.linker_final.proofs.RiscVWritten.{IsOwn, long_there}
-use Rattle.linker_final.specs.Final.{AreRewritten, Linked, instruction_at}
-use Rattle.linker_final.specs.RiscVFinal.{HighPartGoes, IsDeleted, SumGoes}
 use Rattle.linker_final.specs.RiscVSection.{IsRewrittenOf, New, low_law}
 use Rattle.linker_final.specs.SectionRuns.{offset_of}
-use Rattle.linker_laws.specs.RiscVMachine.{action_of}
 use Rattle.linker_laws.specs.RiscVGroups.{Has}
-use Rattle.linker_laws.specs.RiscVRewriteLaws.{action_at, offset_row}
 use Rattle.linker_utils.specs.RiscVRewrites.{IsAddTp, tp, with_rs1}
 use Rattle.linker_utils.specs.declared.riscv64.rewrites.RewriteKind.TheVariants as kinds
-use Rattle.linker_rewriting.specs.Decisions.{deleted_of}
-use Rattle.linker_utils.specs.Relaxations.{relaxation_deleted}
 use Rattle.linker_utils.specs.declared.architecture.Relaxation.TheVariants as relaxations
 
 -- ---- rows

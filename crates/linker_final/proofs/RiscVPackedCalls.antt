@@ -1,22 +1,15 @@
 -- RISC-V: where calls go in the final bytes of a packed section.
-use Rattle.std.proofs.Common.{◌≡◌, ◌≢◌, ℕ, ◌+◌, ◌-◌, ◌%◌, ◌^◌, ◌<◌, ◌≤◌, inl, inr, List, length, take, drop, refl, sym, ap, subst, ◌∙◌, arith, Some, Ok, IsSomeAnd}
-use Rattle.linker_final.proofs.Imports.{drop-drop, All-drop, All-take, w32, from_le_bytes, riscv_relocation, IsApplied, value_of, Operands, RiscVRelocation, Groups, AreAddresses, plt_address, word_at, SiteBecomes, Site, relocation_in, offset_at, operands_with, IsRow, RiscV}
-use Rattle.std.proofs.lemmas.List.{take_all}
+use Rattle.linker_final.proofs.Imports.{◌≡◌, ◌≢◌, ℕ, ◌+◌, ◌-◌, ◌%◌, ◌^◌, ◌<◌, ◌≤◌, inl, inr, List, length, take, drop, refl, sym, ap, subst, ◌∙◌, arith, Some, Ok, IsSomeAnd, drop-drop, All-drop, All-take, w32, from_le_bytes, riscv_relocation, IsApplied, value_of, Operands, RiscVRelocation, Groups, AreAddresses, plt_address, word_at, SiteBecomes, Site, relocation_in, offset_at, operands_with, IsRow, RiscV, take_all, AreBytes, architecture_of, place_of, site_bytes, site_len, site_offset, site_place, site_target, CallStays, even, IsCallPair}
 use Rattle.linker_elf.specs.declared.riscv64.relocations.RiscVRelocation.TheVariants as names
 use Rattle.linker_final.proofs.InstructionFields.{some_value}
 use Rattle.linker_final.proofs.PackedBytes.{stay_inside, places_inside}
 use Rattle.linker_final.proofs.PackedInstructions.{instructions}
 use Rattle.linker_final.proofs.PackedSites.{site_becomes, site_inside, site_length, site_small}
 use Rattle.linker_final.proofs.PutBack.{window_length}
-use Rattle.linker_final.specs.Final.{AreBytes}
-use Rattle.linker_final.specs.Packed.{architecture_of, place_of, site_bytes, site_len, site_offset, site_place, site_target}
 use Rattle.linker_final.specs.RiscVPacked.{CallIsAlike, IsOfCall, LongCallsStay, SitesCallTheSame, call_row, instructions_in, landing}
 use Rattle.linker_laws.proofs.RiscVGroups.{cj_goes, jal_goes, jump_group}
 use Rattle.linker_laws.proofs.RiscVMachine.{address_is}
-use Rattle.linker_laws.specs.RiscVGroups.{CallStays}
-use Rattle.linker_laws.specs.RiscVRelocationLaws.{even}
 use Rattle.linker_final.proofs.Written.{back_of_pair, front_of_pair}
-use Rattle.linker_riscv64.specs.RiscVCalls.{IsCallPair}
 use Rattle.linker_riscv64.specs.RiscVFields.{rd_of}
 use Rattle.linker_runs.specs.Origins.{HasItsInstructions}
 use Rattle.linker_runs.specs.RiscVItems.{IsCallAt}

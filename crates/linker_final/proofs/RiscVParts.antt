@@ -1,7 +1,6 @@
 -- What new has of rewritten instructions of RISC-V, in the final bytes or once they are packed, is
 -- what the rewrites left, with the values of their relocations.
-use Rattle.std.proofs.Common.{◌≡◌, ℕ, ◌+◌, ◌/◌, ◌<◌, ◌≤◌, List, length, refl, sym, ap, subst, ◌∙◌, arith, Option, Some, Ok, IsSomeAnd}
-use Rattle.linker_final.proofs.Imports.{slice_get, BitRange, IsApplied, IsRow, IsNamed, r_type_of, Choice, addend_after, offset_after, pair_row, riscv_name, riscv_relocation, riscv_row, difference_64, value_of, Relative, RelativeRiscVLow12, RelocationKindInfo, Architecture, RiscV, Operands, IType, UType, RiscVRelocation, after_rewrite, decision_at, Rewritten, RewrittenWithSymbol, Subject, riscv_entries, riscv_rewrite, Relaxation, RiscV64, relocation_in, offset_at, operands_in, operands_of, operands_with, AreWritten, Addresses, Symbol, Rela}
+use Rattle.linker_final.proofs.Imports.{◌≡◌, ℕ, ◌+◌, ◌/◌, ◌<◌, ◌≤◌, List, length, refl, sym, ap, subst, ◌∙◌, arith, Option, Some, Ok, IsSomeAnd, slice_get, BitRange, IsApplied, IsRow, IsNamed, r_type_of, Choice, addend_after, offset_after, pair_row, riscv_name, riscv_relocation, riscv_row, difference_64, value_of, Relative, RelativeRiscVLow12, RelocationKindInfo, Architecture, RiscV, Operands, IType, UType, RiscVRelocation, after_rewrite, decision_at, Rewritten, RewrittenWithSymbol, Subject, riscv_entries, riscv_rewrite, Relaxation, RiscV64, relocation_in, offset_at, operands_in, operands_of, operands_with, AreWritten, Addresses, Symbol, Rela, AreBytes, AreRewritten, IsLinked, Linked, UntouchedInstruction, count, instruction_at, IsKeptInstruction, IsRewrittenAndPacked, Packed, architecture_of, place_of, HasLow, HasNamed, HasOwn, HasValue, IsNamedAs, New, anywhere, final, packed}
 use Rattle.linker_elf.specs.declared.elf.RelocationInstruction.TheVariants as insns
 use Rattle.linker_elf.specs.declared.riscv64.relocations.RiscVRelocation.TheVariants as names
 use Rattle.linker_final.proofs.InstructionFields.{applied, applied_found, of_bits}
@@ -11,11 +10,7 @@ use Rattle.linker_final.proofs.Phases.{bytes_left, last_length, last_within, lat
 use Rattle.linker_final.proofs.RiscVChosen.{Becomes, EachBecomes, becomes_of, of_subject}
 use Rattle.linker_final.proofs.RiscVWritten.{IsAfter, IsOwn, becomes, bytes_there, long_there, made_bytes, redirected_after, rewritten_after}
 use Rattle.linker_final.proofs.Written.{IsRowOf, by_name, rela, row_in, with_operands}
-use Rattle.linker_final.specs.Final.{AreBytes, AreRewritten, IsLinked, Linked, UntouchedInstruction, count, instruction_at}
-use Rattle.linker_final.specs.Joined.{IsKeptInstruction, IsRewrittenAndPacked}
-use Rattle.linker_final.specs.Packed.{Packed, architecture_of, place_of}
 use Rattle.linker_final.specs.RiscVFinal.{IsOfDescriptor, named_as}
-use Rattle.linker_final.specs.RiscVSection.{HasLow, HasNamed, HasOwn, HasValue, IsNamedAs, New, anywhere, final, packed}
 use Rattle.linker_final.specs.SectionRuns.{offset_of}
 use Rattle.linker_laws.specs.RiscVGroups.{Has, Stands}
 use Rattle.linker_utils.specs.RiscVRewrites.{rewrites_word}

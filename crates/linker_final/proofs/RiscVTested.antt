@@ -1,21 +1,11 @@
 -- What the choice of a rewrite over the thread pointer tested: the offset is a number of 12 bits.
-use Rattle.std.proofs.Common.{◌≡◌, ◌≢◌, ◌⊎◌, ◌^◌, ◌<◌, ◌-◌, ◌*◌, pos, negsuc, ℕ, suc, [], ◌∷◌, Bool, true, false, refl, sym, ap, subst, ◌∙◌, inl, inr, arith, List, Option, Some, None}
-use Rattle.linker_final.proofs.Imports.{if◌then◌else◌, slice_get, nat_lt, w64, cast_signed, cast_unsigned, from_le_bytes, AllHold, entry, IsWithin, ints, ltb-true, IsNamed, IsNameOf, pair_row, riscv_name, difference_64, sum_64, GotTpOff, TpOff, RelocationKindInfo, Choice, LinkFacts, Operands, IType, UType, RiscVRelocation, IsChosen, chosen_or_labelled, IsOfApplied, IsLowOffset, AppliesToRiscV, HasPattern, RiscVEntry, by_low_offset, riscv_entries, RelaxContext, address_in, link_facts, IsScopeIn, riscv_scope_in, is_labelled, Rewritten, RewrittenWithSymbol, Labelled, NotRelaxable, Phase, relocation_in, operands_with, Addresses, Symbol, Rela, Relaxation, RiscV}
-use Rattle.std.specs.Prelude.{take, drop}
+use Rattle.linker_final.proofs.Imports.{◌≡◌, ◌≢◌, ◌⊎◌, ◌^◌, ◌<◌, ◌-◌, ◌*◌, pos, negsuc, ℕ, suc, [], ◌∷◌, Bool, true, false, refl, sym, ap, subst, ◌∙◌, inl, inr, arith, List, Option, Some, None, if◌then◌else◌, slice_get, nat_lt, w64, cast_signed, cast_unsigned, from_le_bytes, AllHold, entry, IsWithin, ints, ltb-true, IsNamed, IsNameOf, pair_row, riscv_name, difference_64, sum_64, GotTpOff, TpOff, RelocationKindInfo, Choice, LinkFacts, Operands, IType, UType, RiscVRelocation, IsChosen, chosen_or_labelled, IsOfApplied, IsLowOffset, AppliesToRiscV, HasPattern, RiscVEntry, by_low_offset, riscv_entries, RelaxContext, address_in, link_facts, IsScopeIn, riscv_scope_in, is_labelled, Rewritten, RewrittenWithSymbol, Labelled, NotRelaxable, Phase, relocation_in, operands_with, Addresses, Symbol, Rela, Relaxation, RiscV, take, drop, HasAddresses, low_12_bounds, operands_before, Reaches, riscv_pair_bounds, count, IsNotRewrittenBy, NoneIsInitialExec, OffsetsAreLow, OffsetsAreLowOf, riscv_row_of, facts_at, facts_by, facts_with, placed_facts, far_entry, is_label_marked, without_entry}
 use mir.Val.{sel}
-use Rattle.linker_elf.specs.Choices.{HasAddresses, low_12_bounds, operands_before}
-use Rattle.linker_elf.specs.Relocate.{Reaches}
 use Rattle.linker_base.proofs.Bits.{cast_negative}
-use Rattle.linker_elf.specs.Reach.{riscv_pair_bounds}
 use Rattle.linker_elf.specs.declared.riscv64.relocations.RiscVRelocation.TheVariants as names
 use Rattle.linker_final.proofs.RiscVChosen.{anyhow, kind_in, of_table}
-use Rattle.linker_final.specs.Final.{count}
-use Rattle.linker_final.specs.RiscVFinal.{IsNotRewrittenBy, NoneIsInitialExec, OffsetsAreLow, OffsetsAreLowOf}
-use Rattle.linker_utils.specs.RiscVRewrites.{riscv_row_of}
 use Rattle.linker_utils.specs.declared.riscv64.rewrites.RewriteKind.{RewriteKind}
 use Rattle.linker_utils.specs.declared.riscv64.rewrites.RewriteKind.TheVariants as kinds
-use Rattle.linker_rewriting.specs.Facts.{facts_at, facts_by, facts_with, placed_facts}
-use Rattle.linker_rewriting.specs.RiscVPcrelGroups.{far_entry, is_label_marked, without_entry}
 use Rattle.linker_rewriting.specs.declared.facts.OutputFacts.{OutputFacts}
 use Rattle.linker_rewriting.specs.declared.facts.SymbolFacts.{SymbolFacts}
 use Rattle.linker_rewriting.specs.declared.phases.Phase.TheVariants as phases

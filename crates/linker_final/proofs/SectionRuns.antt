@@ -1,9 +1,6 @@
 -- What stands at each place of a section, and runs of its code, of any architecture.
-use Rattle.std.proofs.Common.{◌≡◌, ◌≢◌, ℕ, zero, suc, ◌+◌, ◌-◌, ◌<◌, ◌≤◌, ◌⊎◌, inl, inr, List, [], ◌∷◌, ap, sym, subst, arith, refl, Bool, true, false}
-use Rattle.linker_final.proofs.Imports.{cases_eq, cases_lt, Architecture, Choice, Kinds, State, chosen_or_labelled, AreDecidedIn, decision_at, IsScopeIn, Decision, Consumed, Kept, Rewritten, RewrittenWithSymbol, Subject, Scope, Labelled, Phase, relocation_in, Addresses, Relaxation}
-use Rattle.linker_final.specs.Final.{AreInTurn, Linked, RewritingPhase, count, linked_by}
+use Rattle.linker_final.proofs.Imports.{◌≡◌, ◌≢◌, ℕ, zero, suc, ◌+◌, ◌-◌, ◌<◌, ◌≤◌, ◌⊎◌, inl, inr, List, [], ◌∷◌, ap, sym, subst, arith, refl, Bool, true, false, cases_eq, cases_lt, Architecture, Choice, Kinds, State, chosen_or_labelled, AreDecidedIn, decision_at, IsScopeIn, Decision, Consumed, Kept, Rewritten, RewrittenWithSymbol, Subject, Scope, Labelled, Phase, relocation_in, Addresses, Relaxation, AreInTurn, Linked, RewritingPhase, count, linked_by, Comparison, Next, Simulates, by_group, uncovered}
 use Rattle.linker_final.specs.SectionRuns.{AreCalled, AreLeft, EachPlace, IsBeside, IsBesideAll, IsFollowed, IsPhase, IsPhaseIn, Known, Knows, Place, Rewriting, RewritesAreGroups, RunsAreFollowed, Section, begins, comparison, elsewhere, offset_of, rewritten, unchanged, within}
-use Rattle.linker_laws.specs.Simulation.{Comparison, Next, Simulates, by_group, uncovered}
 
 -- all below a limit, or what one of them shows
 pub each_or : {Q : Type 0} (P : ℕ → Type 0) (m : ℕ) → ((i : ℕ) → i < m → P i ⊎ Q)

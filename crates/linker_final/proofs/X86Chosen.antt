@@ -1,9 +1,6 @@
 -- The rewrite that is chosen for a relocation of x86-64.
-use Rattle.std.proofs.Common.{◌≡◌, ℕ, ℤ, ◌<◌, List, [], ◌∷◌, refl, sym, ap, subst, ◌∙◌, inl, inr, ◌⊎◌}
-use Rattle.linker_final.proofs.Imports.{AllHold, choice, IsNamed, IsNameOf, r_type_of, x86_64_name, x86_64_row, Choice, LinkFacts, X86_64Relocation, chosen_at, decision_at, IsScopeIn, Rewritten, relocation_in, IsArchitectureChoice, relaxation_no_op, Relaxation, X86_64, Original, Table, X86Entry, opcode_at, x86_64_after, x86_64_table, RewriteKind}
-use Rattle.linker_elf.specs.Choices.{Applies, IsFirst}
+use Rattle.linker_final.proofs.Imports.{◌≡◌, ℕ, ℤ, ◌<◌, List, [], ◌∷◌, refl, sym, ap, subst, ◌∙◌, inl, inr, ◌⊎◌, AllHold, choice, IsNamed, IsNameOf, r_type_of, x86_64_name, x86_64_row, Choice, LinkFacts, X86_64Relocation, chosen_at, decision_at, IsScopeIn, Rewritten, relocation_in, IsArchitectureChoice, relaxation_no_op, Relaxation, X86_64, Original, Table, X86Entry, opcode_at, x86_64_after, x86_64_table, RewriteKind, Applies, IsFirst, Linked, IsLinked, count}
 use Rattle.linker_final.proofs.X86Names.{unlabelled}
-use Rattle.linker_final.specs.Final.{Linked, IsLinked, count}
 use Rattle.linker_utils.specs.declared.architecture.Relaxation.TheVariants as relaxations
 use Rattle.linker_utils.specs.X86Rewrites.{HasPattern}
 use Rattle.linker_utils.specs.declared.x86_64.rewrites.RewriteKind.TheVariants as kinds

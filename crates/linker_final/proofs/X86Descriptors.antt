@@ -1,7 +1,6 @@
 -- The `lea` of a descriptor's address of x86-64 and the call of its function are groups in the
 -- final bytes.
-use Rattle.std.proofs.Common.{◌≡◌, ℕ, ◌+◌, ◌-◌, ◌^◌, ◌<◌, ◌≤◌, ◌||◌, Bool, List, [], ◌∷◌, length, drop, false, true, refl, sym, ap, subst, ◌∙◌, inl, inr, arith, IsTrue, Some, neg_ℤ, pos}
-use Rattle.linker_final.proofs.Imports.{slice_get, replaces, Symbol, x86_64_relocation_after, IsNamed, IsNameOf, r_type_of, x86_64_name, Choice, X86_64Relocation, thread_row, State, reg_after_rex, reg_after_rex2, seen, IsBefore, decision_at, Rewritten, relocation_in, is_of_got, operands_with, Rela, Relaxation, X86_64, is_at, is_one_at, x86_64_matches, x86_64_originals, x86_64_rewrite, RewriteKind}
+use Rattle.linker_final.proofs.Imports.{◌≡◌, ℕ, ◌+◌, ◌-◌, ◌^◌, ◌<◌, ◌≤◌, ◌||◌, Bool, List, [], ◌∷◌, length, drop, false, true, refl, sym, ap, subst, ◌∙◌, inl, inr, arith, IsTrue, Some, neg_ℤ, pos, slice_get, replaces, Symbol, x86_64_relocation_after, IsNamed, IsNameOf, r_type_of, x86_64_name, Choice, X86_64Relocation, thread_row, State, reg_after_rex, reg_after_rex2, seen, IsBefore, decision_at, Rewritten, relocation_in, is_of_got, operands_with, Rela, Relaxation, X86_64, is_at, is_one_at, x86_64_matches, x86_64_originals, x86_64_rewrite, RewriteKind, UntouchedByOthers, IsLinked, Linked, count, any_entry, descriptor_table, lea_of_descriptor, rex2_w, rex_mov, rex_w, unrelocated_by, with_rex, with_rex2, or_cases, or_left, or_right}
 use Rattle.linker_elf.specs.declared.x86_64.relocations.X86_64Relocation.TheVariants as names
 use Rattle.linker_final.proofs.Inner.{HasWindow, own_window}
 use Rattle.linker_final.proofs.Phases.{last_length}
@@ -13,14 +12,11 @@ use Rattle.linker_final.proofs.X86Patterns.{there_inside}
 use Rattle.linker_final.proofs.X86Rows.{tpoff32}
 use Rattle.linker_final.proofs.X86ThreadEntries.{entry_final}
 use Rattle.linker_final.proofs.X86Windows.{HasRewrite, IsLawful, LawAt, StandsThere, object_bytes, object_has, object_length, object_matches, object_same, of_field, of_row, offset_small, unrelocated}
-use Rattle.linker_final.specs.Final.{UntouchedByOthers, IsLinked, Linked, count}
 use Rattle.linker_final.specs.X86Section.{Makes, Window, call, lea, put_back, window, window_of}
 use Rattle.linker_laws.specs.X86Groups as groups
 use Rattle.linker_laws.specs.X86Groups.{Code, LeaToEntry, LeaToOffset, Stands}
 use Rattle.linker_utils.specs.declared.architecture.Relaxation.TheVariants as relaxations
-use Rattle.linker_utils.specs.X86Rewrites.{any_entry, descriptor_table, lea_of_descriptor, rex2_w, rex_mov, rex_w, unrelocated_by, with_rex, with_rex2}
 use Rattle.linker_utils.specs.declared.x86_64.rewrites.RewriteKind.TheVariants as kinds
-use Rattle.std.proofs.lemmas.Bool.{or_cases, or_left, or_right}
 
 -- ---- the `lea`
 

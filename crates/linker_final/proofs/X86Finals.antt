@@ -1,6 +1,5 @@
 -- A rewritten instruction of x86-64 is a group in the final bytes.
-use Rattle.std.proofs.Common.{◌≡◌, ℕ, ℤ, pos, ◌+◌, ◌-◌, ◌^◌, ◌<◌, ◌≤◌, List, length, false, refl, sym, ap, subst, ◌∙◌, arith, Option, Some, IsSomeAnd}
-use Rattle.linker_final.proofs.Imports.{cond-false, slice_get, Rewrite, rewritten, offset_after, operands_after, IsNameOf, r_type_of, sum_64, difference_64, value_of, x86_64_name, x86_64_row, RelocationKindInfo, Choice, Operands, X86_64Relocation, seen, IsBefore, decision_at, Rewritten, loads_plt_word, relocation_in, operands_with, operands_in, is_of_got, Addresses, Symbol, Rela, IsRow, Relaxation, X86_64, x86_64_relocation_after, x86_64_rewrite, x86_64_originals, RewriteKind}
+use Rattle.linker_final.proofs.Imports.{◌≡◌, ℕ, ℤ, pos, ◌+◌, ◌-◌, ◌^◌, ◌<◌, ◌≤◌, List, length, false, refl, sym, ap, subst, ◌∙◌, arith, Option, Some, IsSomeAnd, cond-false, slice_get, Rewrite, rewritten, offset_after, operands_after, IsNameOf, r_type_of, sum_64, difference_64, value_of, x86_64_name, x86_64_row, RelocationKindInfo, Choice, Operands, X86_64Relocation, seen, IsBefore, decision_at, Rewritten, loads_plt_word, relocation_in, operands_with, operands_in, is_of_got, Addresses, Symbol, Rela, IsRow, Relaxation, X86_64, x86_64_relocation_after, x86_64_rewrite, x86_64_originals, RewriteKind, Linked, IsLinked, UntouchedByOthers, count}
 use Rattle.linker_final.proofs.Inner.{HasWindow}
 use Rattle.linker_final.proofs.X86Chosen.{of_table}
 use Rattle.linker_final.proofs.X86Lawful.{HasLaw, IsServed, of_choice, shaped_of}
@@ -8,7 +7,6 @@ use Rattle.linker_final.proofs.X86Names.{GotOperand, got_name, got_operand}
 use Rattle.linker_final.proofs.X86Patterns.{there_inside}
 use Rattle.linker_final.proofs.X86Rows.{IsAfterRow}
 use Rattle.linker_final.proofs.X86Windows.{HasRewrite, IsLawful, LawAt, object_bytes, object_has, object_matches, of_field, of_row, offset_small, rela, relocated_after}
-use Rattle.linker_final.specs.Final.{Linked, IsLinked, UntouchedByOthers, count}
 use Rattle.linker_final.specs.X86Section.{IsGroupOf, Window, in_got, put_back, window, window_of}
 use Rattle.linker_laws.specs.X86Groups.{Groups}
 use Rattle.linker_laws.specs.X86RewriteLaws.{IsRelocated}

@@ -1,15 +1,12 @@
 -- Each rewrite that is chosen for an instruction with an operand in the GOT has a law.
-use Rattle.std.proofs.Common.{◌≡◌, ℕ, ℤ, pos, neg_ℤ, ◌+◌, ◌≤◌, List, [], ◌∷◌, length, Bool, true, false, IsTrue, eqb, cond, refl, sym, ap, subst, ◌∙◌, inl, inr, arith, Option, Some, None}
-use Rattle.linker_final.proofs.Imports.{⊤, AllHold, choice, r_type_of, x86_64_name, x86_64_row, Choice, LinkFacts, Operands, X86_64Relocation, address, thread_offset, Relaxation, x86_64_relocation_after, Original, is_one_at, x86_64_matches, opcode_at, x86_64_originals, x86_64_rewrite, x86_64_after, x86_64_table, X86Entry, Table, RewriteKind}
+use Rattle.linker_final.proofs.Imports.{◌≡◌, ℕ, ℤ, pos, neg_ℤ, ◌+◌, ◌≤◌, List, [], ◌∷◌, length, Bool, true, false, IsTrue, eqb, cond, refl, sym, ap, subst, ◌∙◌, inl, inr, arith, Option, Some, None, ⊤, AllHold, choice, r_type_of, x86_64_name, x86_64_row, Choice, LinkFacts, Operands, X86_64Relocation, address, thread_offset, Relaxation, x86_64_relocation_after, Original, is_one_at, x86_64_matches, opcode_at, x86_64_originals, x86_64_rewrite, x86_64_after, x86_64_table, X86Entry, Table, RewriteKind, IsGroupOf, immediate_of}
 use Rattle.linker_elf.specs.declared.x86_64.relocations.X86_64Relocation.TheVariants as names
 use Rattle.linker_final.proofs.Inner.{IsWithin, within, lea, jump, wide}
 use Rattle.linker_final.proofs.X86Chosen.{IsOfOne, IsOfTable}
 use Rattle.linker_final.proofs.X86Names.{GotOperand, got_operand}
 use Rattle.linker_final.proofs.X86Rows.{IsAfterRow, pc32, absolute32, signed32, tpoff32}
-use Rattle.linker_final.specs.X86Section.{IsGroupOf}
 use Rattle.linker_laws.specs.X86Groups.{Groups, Rewritten}
 use Rattle.linker_utils.specs.declared.architecture.Relaxation.TheVariants as relaxations
-use Rattle.linker_utils.specs.X86RelocationsAfter.{immediate_of}
 use Rattle.linker_utils.specs.X86Rewrites as x86
 use Rattle.linker_utils.specs.X86Rewrites.{legacy, HasPattern}
 use Rattle.linker_utils.specs.declared.x86_64.rewrites.RewriteKind.TheVariants as kinds

@@ -1,8 +1,6 @@
 -- The names of relocations of operands in the GOT.
-use Rattle.std.proofs.Common.{◌≡◌, ℕ, true, false, refl, sym, ap, ◌∙◌, Option, Some, None}
-use Rattle.linker_final.proofs.Imports.{IsNamed, r_type_of, x86_64_name, Operands, X86_64Relocation, address, thread_offset, IsScopeIn, is_labelled, Scope, Labelled, Phase, is_of_got, X86_64}
+use Rattle.linker_final.proofs.Imports.{◌≡◌, ℕ, true, false, refl, sym, ap, ◌∙◌, Option, Some, None, IsNamed, r_type_of, x86_64_name, Operands, X86_64Relocation, address, thread_offset, IsScopeIn, is_labelled, Scope, Labelled, Phase, is_of_got, X86_64, x86_64_none}
 use Rattle.linker_elf.specs.declared.x86_64.relocations.X86_64Relocation.TheVariants as names
-use Rattle.linker_rewriting.proofs.LabelGroups.{x86_64_none}
 
 -- how many bytes of an instruction are before the field of its operand's distance, and what the
 -- operand's entry in the GOT holds

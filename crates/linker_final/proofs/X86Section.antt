@@ -1,8 +1,6 @@
 -- The rewrites of a section of x86-64: each is of instructions that are rewritten together, and
 -- these are groups.
-use Rattle.std.proofs.Common.{◌≡◌, ℕ, ◌+◌, ◌-◌, ◌^◌, ◌<◌, ◌⊎◌, get_or, sym, ap, subst, ◌∙◌, refl, arith, inl, inr, Some, None}
-use Rattle.linker_final.proofs.Imports.{cases_lt, CanRewrite, IsRewritable, window_of_rewrite, IsNamed, IsNameOf, x86_64_name, X86_64, Choice, Operands, X86_64Relocation, reg_after_rex, reg_after_rex2, address, thread_offset, decision_at, IsDone, IsMade, Decision, Kept, Rewritten, Consumed, RewrittenWithSymbol, relocation_in, relaxation_rewrite, opcode_at, x86_64_table, Relaxation}
-use Rattle.std.specs.Option.{unwrap_or}
+use Rattle.linker_final.proofs.Imports.{◌≡◌, ℕ, ◌+◌, ◌-◌, ◌^◌, ◌<◌, ◌⊎◌, get_or, sym, ap, subst, ◌∙◌, refl, arith, inl, inr, Some, None, cases_lt, CanRewrite, IsRewritable, window_of_rewrite, IsNamed, IsNameOf, x86_64_name, X86_64, Choice, Operands, X86_64Relocation, reg_after_rex, reg_after_rex2, address, thread_offset, decision_at, IsDone, IsMade, Decision, Kept, Rewritten, Consumed, RewrittenWithSymbol, relocation_in, relaxation_rewrite, opcode_at, x86_64_table, Relaxation, unwrap_or, IsLinked, IsOutside, Linked, count}
 use Rattle.linker_elf.specs.declared.x86_64.relocations.X86_64Relocation.TheVariants as names
 use Rattle.linker_final.proofs.SectionRuns.{AreIn, IsIn, each_or, final_in, is_linked, without_label}
 use Rattle.linker_final.proofs.Written.{outside_of, spared}
@@ -12,7 +10,6 @@ use Rattle.linker_final.proofs.X86Finals.{got_is_lawful}
 use Rattle.linker_final.proofs.X86Names.{got_operand, operand, unlabelled}
 use Rattle.linker_final.proofs.X86ThreadCalls.{Lawful, module_is_lawful, variable_is_lawful}
 use Rattle.linker_final.proofs.X86Windows.{IsLawful}
-use Rattle.linker_final.specs.Final.{IsLinked, IsOutside, Linked, count}
 use Rattle.linker_final.specs.SectionRuns.{RewritesAreGroups, offset_of}
 use Rattle.linker_final.specs.X86Section.{HasFinal, Window, call, in_got, lea, rewriting, window, window_of}
 use Rattle.linker_laws.specs.X86Groups.{Groups}

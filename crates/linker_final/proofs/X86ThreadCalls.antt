@@ -1,6 +1,5 @@
 -- Calls of `__tls_get_addr` of x86-64 that were rewritten are groups in the final bytes.
-use Rattle.std.proofs.Common.{Some, ◌≡◌, ℕ, ◌+◌, ◌-◌, ◌^◌, ◌<◌, ◌≤◌, List, [], ◌∷◌, length, drop, refl, sym, ap, subst, ◌∙◌, inl, inr, arith, neg_ℤ, pos}
-use Rattle.linker_final.proofs.Imports.{⊤, slice_get, IsNameOf, r_type_of, x86_64_name, RelocationKindInfo, Choice, Operands, X86_64Relocation, rewritten, x86_64_relocation_after, thread_row, Kinds, State, seen, IsBefore, decision_at, Rewritten, relocation_in, is_of_got, operands_with, Symbol, Rela, Relaxation, X86_64, Original, puts, x86_64_matches, x86_64_originals, x86_64_rewrite, RewriteKind}
+use Rattle.linker_final.proofs.Imports.{Some, ◌≡◌, ℕ, ◌+◌, ◌-◌, ◌^◌, ◌<◌, ◌≤◌, List, [], ◌∷◌, length, drop, refl, sym, ap, subst, ◌∙◌, inl, inr, arith, neg_ℤ, pos, ⊤, slice_get, IsNameOf, r_type_of, x86_64_name, RelocationKindInfo, Choice, Operands, X86_64Relocation, rewritten, x86_64_relocation_after, thread_row, Kinds, State, seen, IsBefore, decision_at, Rewritten, relocation_in, is_of_got, operands_with, Symbol, Rela, Relaxation, X86_64, Original, puts, x86_64_matches, x86_64_originals, x86_64_rewrite, RewriteKind, UntouchedByOthers, IsLinked, Linked, count, tls_module_row}
 use Rattle.linker_elf.specs.declared.x86_64.relocations.X86_64Relocation.TheVariants as names
 use Rattle.linker_final.proofs.Inner.{HasWindow, own_window}
 use Rattle.linker_final.proofs.X86Chosen.{IsOfEntry, IsOfTable}
@@ -10,9 +9,7 @@ use Rattle.linker_final.proofs.X86Patterns.{there_inside}
 use Rattle.linker_final.proofs.X86Rows.{tpoff32}
 use Rattle.linker_final.proofs.X86ThreadEntries.{entry_final}
 use Rattle.linker_final.proofs.X86Windows.{HasRewrite, IsLawful, LawAt, StandsThere, object_bytes, object_has, object_matches, of_field, of_row, offset_small, unrelocated}
-use Rattle.linker_final.specs.Final.{UntouchedByOthers, IsLinked, Linked, count}
 use Rattle.linker_final.specs.X86Section.{AreBy, EntryHolds, Form, HasObject, IsObject, Window, block, put_back, sequence_of, variable, window, window_of}
-use Rattle.linker_laws.proofs.X86Fields.{tls_module_row}
 use Rattle.linker_laws.specs.X86Groups as groups
 use Rattle.linker_laws.specs.X86Groups.{AddsOffset, Code, IsModuleCall, IsThreadCall, Stands}
 use Rattle.linker_laws.specs.X86RewriteLaws.{IsRelocated}

@@ -1,14 +1,11 @@
 -- A GOT entry of a variable's offset, which rewrites of x86-64 leave in place of a call or of a
 -- descriptor.
-use Rattle.std.proofs.Common.{◌≡◌, ℕ, pos, ◌+◌, ◌-◌, ◌≤◌, cond, refl, sym, ap, subst, ◌∙◌, inl, inr, Some, None, Ok, Err}
-use Rattle.linker_final.proofs.Imports.{cases_Bool, slice_get, rewritten, offset_after, operands_after, r_type_of, value_of, x86_64_name, Operands, thread_row, tls_got_row, relocation_in, is_there, operands_by, operands_in, operands_of, operands_with, Symbol, Entry, ThreadOffset, Rela, NoEntry, X86_64, x86_64_rewrite, RewriteKind}
+use Rattle.linker_final.proofs.Imports.{◌≡◌, ℕ, pos, ◌+◌, ◌-◌, ◌≤◌, cond, refl, sym, ap, subst, ◌∙◌, inl, inr, Some, None, Ok, Err, cases_Bool, slice_get, rewritten, offset_after, operands_after, r_type_of, value_of, x86_64_name, Operands, thread_row, tls_got_row, relocation_in, is_there, operands_by, operands_in, operands_of, operands_with, Symbol, Entry, ThreadOffset, Rela, NoEntry, X86_64, x86_64_rewrite, RewriteKind, Linked, put_back}
 use Rattle.linker_elf.specs.declared.x86_64.relocations.X86_64Relocation.TheVariants as names
 use Rattle.linker_final.proofs.PlainRows.{are_there}
 use Rattle.linker_final.proofs.X86Finals.{moved}
 use Rattle.linker_final.proofs.X86ThreadRows.{plain_entry}
 use Rattle.linker_final.proofs.X86Windows.{HasRewrite, offset_small, r_after, rela, relocated_after, row_after, within_after}
-use Rattle.linker_final.specs.Final.{Linked}
-use Rattle.linker_final.specs.X86Section.{put_back}
 use Rattle.linker_laws.specs.X86RewriteLaws.{IsRelocated}
 
 abbrev offset_entry : Entry

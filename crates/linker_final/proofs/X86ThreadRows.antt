@@ -1,10 +1,7 @@
 -- Rows of relocations that x86-64's sequences for thread-local variables have.
-use Rattle.std.proofs.Common.{◌≡◌, ℕ, ℤ, pos, ◌%◌, ◌^◌, ◌<◌, refl, sym, ap, ◌∙◌, arith, Some}
-use Rattle.linker_final.proofs.Imports.{of_z-to_z, w64, cast_signed, cast_unsigned, int_rem_euclid, difference_64, long_thread_row, tls_got_row}
-use Rattle.linker_elf.specs.Value.{symbol_term}
+use Rattle.linker_final.proofs.Imports.{◌≡◌, ℕ, ℤ, pos, ◌%◌, ◌^◌, ◌<◌, refl, sym, ap, ◌∙◌, arith, Some, of_z-to_z, w64, cast_signed, cast_unsigned, int_rem_euclid, difference_64, long_thread_row, tls_got_row, symbol_term, cast_is, difference_below}
 use Rattle.linker_final.proofs.PlainRows.{IsPlain, value_in}
 use Rattle.linker_final.proofs.X86Rows.{signed_remainder}
-use Rattle.linker_laws.proofs.Sums.{cast_is, difference_below}
 
 pub plain_entry : IsPlain 4 tls_got_row
 plain_entry =

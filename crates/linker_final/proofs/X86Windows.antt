@@ -1,8 +1,5 @@
 -- The window of an instruction or a sequence of x86-64 in the final bytes of a section.
-use Rattle.std.proofs.Common.{◌≡◌, ℕ, ℤ, ◌+◌, ◌-◌, ◌*◌, ◌/◌, ◌^◌, ◌<◌, ◌≤◌, ◌⊎◌, List, ◌++◌, length, take, drop, get_or, sym, ap, subst, ◌∙◌, inl, inr, arith, Option, Some, None, Ok, IsSomeAnd, IsTrue}
-use Rattle.linker_final.proofs.Imports.{cases_eq, cases_lt, length-drop, drop-drop, ext_get_or, get_or-drop, get_or_past, All-take, All-drop, All-get_or, w64, from_le_bytes, cast_unsigned, Rewrite, CanRewrite, IsRewritable, rewritten, rewrite_window, offset_after, addend_after, IsNamed, r_type_of, IsWritten, low_bytes, number_of_bytes, number_written, window_len, size_len, bytes_row, difference_64, sum_64, value_of, x86_64_name, x86_64_row, RelocationKindInfo, Choice, Operands, X86_64Relocation, AreAddresses, State, IsRelocatedBy, decision_at, written_end_at, IsDone, IsMade, relocation_after, Rewritten, one_info, IsField, field_end, field_len, relocation_in, IsInNoField, IsRowValue, operands_of, operands_with, offset_at, Symbol, Rela, IsRow, relaxation_rewrite, Relaxation, X86_64, x86_64_rewrite, x86_64_matches, x86_64_originals, Original, is_one_at, RewriteKind}
-use Rattle.std.proofs.lemmas.List.{take-append-drop}
-use Rattle.std.proofs.lemmas.List.Elements.{All-append}
+use Rattle.linker_final.proofs.Imports.{◌≡◌, ℕ, ℤ, ◌+◌, ◌-◌, ◌*◌, ◌/◌, ◌^◌, ◌<◌, ◌≤◌, ◌⊎◌, List, ◌++◌, length, take, drop, get_or, sym, ap, subst, ◌∙◌, inl, inr, arith, Option, Some, None, Ok, IsSomeAnd, IsTrue, cases_eq, cases_lt, length-drop, drop-drop, ext_get_or, get_or-drop, get_or_past, All-take, All-drop, All-get_or, w64, from_le_bytes, cast_unsigned, Rewrite, CanRewrite, IsRewritable, rewritten, rewrite_window, offset_after, addend_after, IsNamed, r_type_of, IsWritten, low_bytes, number_of_bytes, number_written, window_len, size_len, bytes_row, difference_64, sum_64, value_of, x86_64_name, x86_64_row, RelocationKindInfo, Choice, Operands, X86_64Relocation, AreAddresses, State, IsRelocatedBy, decision_at, written_end_at, IsDone, IsMade, relocation_after, Rewritten, one_info, IsField, field_end, field_len, relocation_in, IsInNoField, IsRowValue, operands_of, operands_with, offset_at, Symbol, Rela, IsRow, relaxation_rewrite, Relaxation, X86_64, x86_64_rewrite, x86_64_matches, x86_64_originals, Original, is_one_at, RewriteKind, take-append-drop, All-append, Linked, IsLinked, UntouchedByOthers, AreBytes, count, start_at, HaveSameWindow, accepted_same}
 use Rattle.linker_elf.specs.declared.elf.RelocationKind.TheVariants.{None as NoValue}
 use Rattle.linker_elf.specs.declared.x86_64.relocations.X86_64Relocation.TheVariants as names
 use Rattle.linker_final.proofs.Fields.{UntouchedField, four_bytes, left, len_is}
@@ -13,13 +10,10 @@ use Rattle.linker_final.proofs.PutBack.{put_back_is, back_inside, back_outside, 
 use Rattle.linker_final.proofs.X86Lawful.{HaveShape}
 use Rattle.linker_final.proofs.X86Patterns.{one_same}
 use Rattle.linker_final.proofs.Written.{outside_of}
-use Rattle.linker_final.specs.Final.{Linked, IsLinked, UntouchedByOthers, AreBytes, count}
 use Rattle.linker_final.specs.SectionRuns.{offset_of}
 use Rattle.linker_final.specs.X86Section.{HasFinal, HasObject, IsObject, LawOf, Window, put_back, window_of}
 use Rattle.linker_laws.specs.X86Groups.{Code, Stands}
 use Rattle.linker_laws.specs.X86RewriteLaws.{IsRelocated}
-use Rattle.linker_rewriting.specs.Decisions.{start_at}
-use Rattle.linker_section.proofs.Fronts.{HaveSameWindow, accepted_same}
 use Rattle.linker_utils.specs.declared.architecture.Relaxation.TheVariants as relaxations
 
 -- ---- lists and numbers

@@ -1,6 +1,5 @@
 -- The words of PowerPC64: by computation.
-use Rattle.std.proofs.Common.{◌≡◌, ◌+◌, ◌==◌, Bool, true, false, Option, Some, None, refl, ap, ◌∙◌}
-use Rattle.linker_final.proofs.Imports.{if◌then◌else◌, list_all}
+use Rattle.linker_final.proofs.Imports.{◌≡◌, ◌+◌, ◌==◌, Bool, true, false, Option, Some, None, refl, ap, ◌∙◌, if◌then◌else◌, list_all}
 use Rattle.linker_base.specs.Form.{place_sum}
 use Rattle.linker_final.specs.Ppc64Table.{d_words, ds_words, dq_words, branch14_words, branch24_words, prefixed_words, halves_words, unadjusted_words, dunsigned_words, quarters_words}
 use Rattle.linker_final.specs.Ppc64Steps.{ppc64_groups}

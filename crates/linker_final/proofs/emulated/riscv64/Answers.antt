@@ -1,6 +1,5 @@
 -- The words of RISC-V: by computation.
-use Rattle.std.proofs.Common.{◌≡◌, ℕ, ◌+◌, ◌-◌, ◌%◌, ◌^◌, ◌==◌, Bool, true, false, Option, Some, None, refl, ap, ◌∙◌}
-use Rattle.linker_final.proofs.Imports.{if◌then◌else◌, nat_lt, list_all, register}
+use Rattle.linker_final.proofs.Imports.{◌≡◌, ℕ, ◌+◌, ◌-◌, ◌%◌, ◌^◌, ◌==◌, Bool, true, false, Option, Some, None, refl, ap, ◌∙◌, if◌then◌else◌, nat_lt, list_all, register}
 use Rattle.linker_base.specs.Form.{place_sum}
 use Rattle.linker_final.specs.RiscVTable.{utype_words, itype_words, stype_words, btype_words, jtype_words, cbtype_words, cjtype_words, cluitype_words, uitype_words, call_words}
 use Rattle.linker_final.specs.RiscVSteps.{riscv_groups}

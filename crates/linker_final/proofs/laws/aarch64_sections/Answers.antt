@@ -1,8 +1,7 @@
 use Rattle.linker_final.proofs.AArch64Section.{are_in, rewrites_are_groups}
 use Rattle.linker_final.proofs.SectionRuns.{each_place, runs_are_followed}
 use Rattle.linker_final.proofs.laws.aarch64_sections.Goals as goal
-use Rattle.linker_final.specs.AArch64Section.{rewriting}
-use Rattle.linker_final.proofs.Imports.{link, one}
+use Rattle.linker_final.proofs.Imports.{link, one, rewriting}
 
 pub returns : goal.returns
 returns c =

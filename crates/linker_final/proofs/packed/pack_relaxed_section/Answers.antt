@@ -1,9 +1,6 @@
-use Rattle.std.proofs.Common.{◌≡◌, ◌∙◌, ◌+◌, length, refl, subst, sym}
-use Rattle.std.specs.Prelude.{IfErr}
 use Rattle.std.proofs.lemmas.Result.{on_ok_weaker}
-use Rattle.linker_final.proofs.Imports.{deletions_of, deletions_of_run, packed_offset, section_of}
+use Rattle.linker_final.proofs.Imports.{◌≡◌, ◌∙◌, ◌+◌, length, refl, subst, sym, deletions_of, deletions_of_run, packed_offset, section_of, IfErr, IsPackCause}
 use Rattle.linker_final.proofs.Relaxed.{listed_deltas, packed_run}
-use Rattle.linker_final.specs.Packed.{IsPackCause}
 use Rattle.linker_final.proofs.packed.pack_relaxed_section.Goals as goal
 
 pub pack_section-requires-clause-room : goal.pack_section-requires-clause-room

@@ -1,9 +1,5 @@
-use Rattle.std.proofs.Common.{◌≡◌, ℕ, ◌^◌, ◌/◌, ◌<◌, get_or, subst, sym, rules}
-use Rattle.linker_final.proofs.Imports.{deletions_of, AreMoved, IsPackedRun, section_of, AreWritten}
+use Rattle.linker_final.proofs.Imports.{◌≡◌, ℕ, ◌^◌, ◌/◌, ◌<◌, get_or, subst, sym, rules, deletions_of, AreMoved, IsPackedRun, section_of, AreWritten, architecture_of, IsFirstRejected, IsFirstFault}
 use Rattle.linker_final.proofs.PackedBytes.{are_bytes, same_items}
-use Rattle.linker_final.specs.Packed.{architecture_of}
-use Rattle.linker_runs.specs.Packing.{IsFirstRejected}
-use Rattle.linker_section.specs.WrittenFields.{IsFirstFault}
 use Rattle.linker_final.proofs.packed.pack_section.Goals as goal
 
 pub returns-in-Ok-clause-packed : goal.returns-in-Ok-clause-packed

@@ -1,9 +1,6 @@
-use Rattle.std.proofs.Common.{ℕ, ◌^◌, ◌<◌, get_or, refl, subst, sym, rules}
 use Rattle.linker_final.proofs.PackedBytes.{are_bytes}
 use Rattle.linker_final.proofs.SameDecisions.{same_decisions}
-use Rattle.linker_final.proofs.Imports.{IsRejected, pre_layout, IsWritingCause}
-use Rattle.linker_rewriting.specs.Rewritten.{IsRewrittenAs}
-use Rattle.linker_final.specs.Final.{HasRewritten, rewriting_phase}
+use Rattle.linker_final.proofs.Imports.{ℕ, ◌^◌, ◌<◌, get_or, refl, subst, sym, rules, IsRejected, pre_layout, IsWritingCause, IsRewrittenAs, HasRewritten, rewriting_phase}
 use Rattle.linker_final.proofs.sections.link_section.Goals as goal
 
 pub returns-in-Err-clause-cause : goal.returns-in-Err-clause-cause

@@ -1,10 +1,6 @@
-use Rattle.std.proofs.Common.{◌≡◌, ℕ, ◌/◌, ◌^◌, ◌<◌, List, length, take, map, get_or, refl, sym, subst, rules}
 use Rattle.linker_final.proofs.PackedBytes.{are_bytes}
 use Rattle.linker_final.proofs.SameDecisions.{same_decisions, same_deletions}
-use Rattle.linker_final.specs.Final.{AreListed, HasRewritten, RewritingPhase, deletions_in, rewriting_phase}
-use Rattle.linker_final.proofs.Imports.{IsRejected, pre_layout, context, IsWritingCause}
-use Rattle.linker_rewriting.specs.Rewritten.{IsRewrittenAs}
-use Rattle.linker_rewriting.specs.Decisions.{IsRejectedPlaced, deletions_by}
+use Rattle.linker_final.proofs.Imports.{◌≡◌, ℕ, ◌/◌, ◌^◌, ◌<◌, List, length, take, map, get_or, refl, sym, subst, rules, IsRejected, pre_layout, context, IsWritingCause, AreListed, HasRewritten, RewritingPhase, deletions_in, rewriting_phase, IsRewrittenAs, IsRejectedPlaced, deletions_by}
 use Rattle.linker_final.proofs.sections.link_section_in_two_phases.Goals as goal
 
 pub returns-in-Err-clause-cause : goal.returns-in-Err-clause-cause

@@ -1,9 +1,6 @@
-use Rattle.std.proofs.Common.{refl, subst, rules}
-use Rattle.linker_final.proofs.Imports.{replicate, context}
-use Rattle.linker_rewriting.specs.Rewritten.{IsRewrittenAs}
+use Rattle.linker_final.proofs.Imports.{refl, subst, rules, replicate, context, IsRewrittenAs, OUTPUT}
 use Rattle.linker_final.proofs.SameDecisions.{same_decisions}
 use Rattle.linker_final.proofs.worked.is_rewritten.Goals as goal
-use Rattle.linker_final.specs.declared.worked.TheConstants.{OUTPUT}
 
 pub returns-in-Ok : goal.returns-in-Ok
 returns-in-Ok c so =
