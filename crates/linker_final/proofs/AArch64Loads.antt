@@ -5,7 +5,7 @@ use Rattle.linker_elf.specs.declared.aarch64.relocations.AArch64Relocation.TheVa
 use Rattle.linker_final.proofs.AArch64Addresses.{adr_there, made_two, nop_there, page_row}
 use Rattle.linker_final.proofs.InstructionFields.{of_bits}
 use Rattle.linker_final.proofs.AArch64Written.{IsAfter, IsNew, IsOfEntry, after, becomes, has_after, named_after, of_entry, of_part, place_of, same_value}
-use Rattle.linker_final.proofs.Written.{are_rewritten, first_same, stays, word_same}
+use Rattle.linker_final.proofs.Written.{first_same, stays, word_same}
 use Rattle.linker_final.specs.AArch64Section.{ComesTo, IsRewrittenAgain, IsRewrittenOf, object, register}
 use Rattle.linker_final.specs.SectionRuns.{Section, offset_of}
 use Rattle.linker_laws.specs.AArch64Groups.{Groups, seen}
@@ -51,7 +51,7 @@ module _ (laws : Groups) {l : Linked} {c : Code} (new : IsNew l c) (i : ℕ)
 
   stayed : instruction_at l.rewritten (offset_of l i) ≡ object l i
   stayed =
-      stays l (are_rewritten l new.linked) i page_of.chosen page_of.below page_of.decided (ap relaxation_rewrite page_entry.kind_is) alone page_inside
+      stays l new.linked.made i page_of.chosen page_of.below page_of.decided (ap relaxation_rewrite page_entry.kind_is) alone page_inside
 
   module _ (k : Kinds) (s : State) (o : Operands) (at : ComesTo l s names.R_AARCH64_ADR_GOT_PAGE i o)
       (defined : at.symbol.is_undefined_weak ≡ false) (holds : load_64 s.memory o.got_entry ≡ symbol_address o)

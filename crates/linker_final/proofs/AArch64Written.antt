@@ -4,7 +4,7 @@ use Rattle.linker_elf.specs.declared.aarch64.relocations.AArch64Relocation.TheVa
 use Rattle.linker_elf.specs.declared.elf.RelocationKind.TheVariants.{None as NoValue}
 use Rattle.linker_final.proofs.InstructionFields.{IsOfInstruction}
 use Rattle.linker_final.proofs.Phases.{last_length, relocation_left}
-use Rattle.linker_final.proofs.Written.{IsRowOf, applied_after, are_rewritten, by_name, entry_is_there, made_there, rela, relocation_is, unwritten_without, with_operands}
+use Rattle.linker_final.proofs.Written.{IsRowOf, applied_after, by_name, entry_is_there, made_there, rela, relocation_is, unwritten_without, with_operands}
 use Rattle.linker_final.specs.SectionRuns.{offset_of}
 use Rattle.linker_laws.specs.AArch64RewriteLaws.{BeginsRewritten, IsRewritten}
 use Rattle.linker_rewriting.proofs.Entries.{IsOfEntry as IsOfEntryIn, IsOfOne as IsOfOneIn, of_entry as of_entry_in, of_one as of_one_in}
@@ -140,7 +140,7 @@ module _ {l : Linked} {c : Code} (new : IsNew l c) where
         → IsRewritten kind (object l i) (instruction_at l.rewritten (offset_of l i))
     becomes kind test word is kind_is =
         subst (λ q. IsSomeAnd q (λ made. BeginsRewritten made (object l i) (instruction_at l.rewritten (offset_of l i)))) (sym is)
-        (made_there l (are_rewritten l new.linked) i of.chosen of.below of.decided (rewrites_where test word) (ap relaxation_rewrite kind_is ∙ is) refl)
+        (made_there l new.linked.made i of.chosen of.below of.decided (rewrites_where test word) (ap relaxation_rewrite kind_is ∙ is) refl)
 
     module _ (e : AArch64Entry) (by : IsOfEntry name e l.section (offset_of l i) of.chosen)
         (unmoved : (o : ℕ) → offset_after (aarch64_rewrite e.kind) o ≡ o)
@@ -150,7 +150,7 @@ module _ {l : Linked} {c : Code} (new : IsNew l c) where
       named_after =
           let r = relocation_in l.relocations i in
           let code = r_type_of (aarch64_name e.relocation) in
-          relocation_is l (are_rewritten l new.linked) i of.chosen of.below of.decided (aarch64_rewrite e.kind) code (ap relaxation_rewrite by.kind_is) by.r_type_is
+          relocation_is l new.linked.made i of.chosen of.below of.decided (aarch64_rewrite e.kind) code (ap relaxation_rewrite by.kind_is) by.r_type_is
           ∙ (ap (λ x. rela x code r.symbol (addend_after (aarch64_rewrite e.kind) r.addend)) (unmoved r.offset)
           ∙ ap (λ x. rela r.offset code r.symbol x) (same_addend r.addend))
 

@@ -45,7 +45,7 @@ pub use Rattle.linker_elf.specs.declared.riscv64.forms.RiscVInstruction.TheVaria
 pub use Rattle.linker_elf.specs.declared.riscv64.relocations.RiscVRelocation.{RiscVRelocation}
 pub use Rattle.linker_elf.specs.declared.x86_64.relocations.X86_64Relocation.{X86_64Relocation}
 pub use Rattle.linker_final.specs.AArch64Section.{ComesTo, HasFinal, HoldsOffset, IsDescriptorLeft, IsRewrittenOf, object, rewriting}
-pub use Rattle.linker_final.specs.Final.{AreBytes, AreInTurn, AreLinked, AreListed, ArePhases, AreRewritten, HasRewritten, IsLinked, IsOutside, IsRewrittenByNoOther, IsWrittenByNoOther, Keeps, Linked, OtherBytes, OtherFields, RewritesNone, RewritingPhase, UntouchedByOthers, UntouchedBytes, UntouchedBytesAreTheSame, UntouchedInPhase, UntouchedInstruction, UntouchedInstructions, count, count_of, deletions_in, instruction_at, linked_by, rewriting_phase, two_at}
+pub use Rattle.linker_final.specs.Final.{AreBytes, AreInTurn, AreLinked, AreListed, ArePhases, AreRewritten, HasRewritten, IsLinked, IsOutside, IsRewrittenByNoOther, IsWrittenByNoOther, Keeps, Linked, OtherBytes, OtherFields, RewritesNone, RewritingPhase, Takes, UntouchedByOthers, UntouchedBytes, UntouchedBytesAreTheSame, UntouchedInPhase, UntouchedInstruction, UntouchedInstructions, count, count_of, deletions_in, instruction_at, linked, linked_by, rewriting_phase, two_at}
 pub use Rattle.linker_final.specs.Joined.{IsKeptInstruction, IsRewrittenAndPacked, final_instruction}
 pub use Rattle.linker_final.specs.LoongArchPacked.{AddressesAreMade, CallsTheSame, IsPairOf, LoadedAddressesAreMade, LongAddressesStay, LongCallsStay, LongLoadedAddressesStay, StaysAs, operands_at, words_in}
 pub use Rattle.linker_final.specs.LoongArchSection.{IsLoad, LoadsTheSame, law_of, named_as}

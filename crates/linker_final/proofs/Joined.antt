@@ -29,11 +29,11 @@ module _ (l : Linked) (p : Packed) (joined : IsRewrittenAndPacked l p) (i : ℕ)
   pub within : i < packed.count p
   within =
       subst (λ n. i < n / 24)
-      (sym (joined.packed.as_many ∙ (ap length joined.relocations ∙ (later_as_many l joined.later ∙ joined.as_many)))) below
+      (sym (joined.packed.as_many ∙ (ap length joined.relocations_are ∙ (later_as_many l joined.later ∙ joined.as_many)))) below
 
   before_is : relocation_in p.relocations i ≡ rela o code symbol addend
   before_is =
-      ap (λ bytes. relocation_in bytes i) joined.relocations
+      ap (λ bytes. relocation_in bytes i) joined.relocations_are
       ∙ (later_keep l joined.later i o 4 left (subst (λ n. i < n / 24) (sym joined.as_many) below) ∙ after_is)
 
   -- the relocation in the packed section

@@ -5,7 +5,7 @@ use Rattle.linker_final.proofs.InstructionFields.{of_bits}
 use Rattle.linker_final.proofs.LoongArchChosen.{IsByTable, IsEntry, by_table, entry_by}
 use Rattle.linker_final.proofs.LoongArchPairs.{AreOfLoad, load_of}
 use Rattle.linker_final.proofs.LoongArchWritten.{IsAfter, applied_there, becomes}
-use Rattle.linker_final.proofs.Written.{are_rewritten, rela, stays, with_operands, word_same}
+use Rattle.linker_final.proofs.Written.{rela, stays, with_operands, word_same}
 use Rattle.linker_laws.specs.LoongArchGroups.{Groups}
 use Rattle.linker_laws.specs.LoongArchRewriteLaws.{IsPair, following, word_of}
 use Rattle.linker_utils.specs.LoongArchRewrites.{AreOfOneRegister, bound_by_pages}
@@ -112,7 +112,7 @@ module _ (groups : Groups) (l : Linked) (linked : IsLinked l) (loongarch : l.con
       } in
       let within = there.within in
       let stayed : instruction_at l.rewritten o ≡ instruction_at l.section o =
-      stays l (are_rewritten l linked) i of.page_chosen of.page_below of.page_decided (ap relaxation_rewrite page.kind_is) alone (omega (arith, within)) in
+      stays l linked.made i of.page_chosen of.page_below of.page_decided (ap relaxation_rewrite page.kind_is) alone (omega (arith, within)) in
       let page_code = r_type_of (loongarch_name names.R_LARCH_PCALA_HI20) in
       let low_r_type = r_type_of (loongarch_name names.R_LARCH_PCALA_LO12) in
       let page_written : IsApplied page_after.row w (instruction_at l.section o) (instruction_at l.final o) =

@@ -3,7 +3,7 @@ use Rattle.linker_final.proofs.Imports.{◌≡◌, ℕ, ℤ, ◌+◌, ◌-◌, �
 use Rattle.linker_elf.specs.declared.elf.RelocationKind.TheVariants.{None as NoValue}
 use Rattle.linker_elf.specs.declared.loongarch64.relocations.LoongArch64Relocation.TheVariants as names
 use Rattle.linker_final.proofs.InstructionFields.{IsOfInstruction}
-use Rattle.linker_final.proofs.Written.{IsRowOf, applied_after, are_rewritten, by_name, rela, unwritten_without, with_operands}
+use Rattle.linker_final.proofs.Written.{IsRowOf, applied_after, by_name, rela, unwritten_without, with_operands}
 use Rattle.linker_utils.specs.declared.loongarch64.rewrites.RewriteKind.{RewriteKind}
 use Rattle.linker_utils.specs.declared.loongarch64.rewrites.RewriteKind.TheVariants as kinds
 use Rattle.linker_utils.specs.declared.architecture.Relaxation.TheVariants as relaxations
@@ -126,7 +126,7 @@ pub applied_there : (l : Linked) (linked : IsLinked l) (loongarch : l.context.ar
     (instruction_at l.rewritten (relocation_in l.relocations i).offset) (instruction_at l.final (relocation_in l.relocations i).offset)
 applied_there l linked loongarch i chosen below decided left kind kind_is name r_type_is a =
     applied_after_it l linked loongarch i below name a
-    (named_after l (are_rewritten l linked) i chosen below decided kind kind_is name r_type_is) left
+    (named_after l linked.made i chosen below decided kind kind_is name r_type_is) left
 
 -- an instruction that becomes another
 pub becomes : (l : Linked) → AreDone l.relocations l.decisions l.section l.rewritten (count l)

@@ -6,7 +6,7 @@ use Rattle.linker_final.proofs.Ppc64Again.{of_none}
 use Rattle.linker_final.proofs.Ppc64Chosen.{IsOfEntry, IsOfOne}
 use Rattle.linker_final.proofs.Ppc64Written.{Writes, after_is, becomes, becomes_marked, call_after, distance, entry_high, entry_low, entry_prefixed, left_alone, left_beside, made_after, marked_offset, near_entry, test_at, thread, thread_high, thread_low, thread_low_after, thread_low_words, thread_prefixed, thread_words, toc, toc_high, toc_low, toc_words}
 use Rattle.linker_final.proofs.PutBack.{window_byte, window_length}
-use Rattle.linker_final.proofs.Written.{are_rewritten, first_same, mapped, outside_of, second_same, spared, stays, word_same}
+use Rattle.linker_final.proofs.Written.{first_same, mapped, outside_of, second_same, spared, stays, word_same}
 use Rattle.linker_final.specs.Ppc64Section.{AreLeftAlone, HasApplied, IsMade, IsOfNoPhase, Law, Left, Restores, applied, entry_by, law, law_of, name_of, none, of_call, shape, to_second}
 use Rattle.linker_final.specs.SectionRuns.{offset_of}
 use Rattle.linker_laws.specs.Ppc64Groups as groups
@@ -195,7 +195,7 @@ module _ (l : Linked) (linked : IsLinked l) (ppc64 : l.context.architecture ≡ 
   -- ---- one rewrite
 
   abbrev rewriting : AreRewritten l
-  rewriting = are_rewritten l linked
+  rewriting = linked.made
 
   -- of a word
   word : (kind : RewriteKind) (a : After 1) (conditions : Conditions) (test : ℕ → Bool) (AreSo : AreGroup)

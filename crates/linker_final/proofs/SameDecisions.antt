@@ -1,6 +1,6 @@
--- The decisions and deletions of a call that takes them as they are.
-use Rattle.std.proofs.Common.{◌≡◌, ℕ, List, [], ◌∷◌, map, refl, ap}
-use Rattle.linker_rewriting.specs.declared.decisions.Decision.{Decision}
+-- What a call of a phase leaves, whose decisions and deletions are taken as they are.
+use Rattle.linker_final.proofs.Imports.{◌≡◌, ℕ, ◌^◌, ◌<◌, List, [], ◌∷◌, map, length, get_or, refl, ap, subst, Decision, RelaxContext, UnrelaxableGroups, AreWritten, HasRewritten, IsLinked, Linked, rewriting_phase, ArePhases, IsRewrittenAs, take, drop, deletions_by, count_of, AreListed, deletions_in, RewritingPhase}
+use Rattle.linker_final.proofs.PackedBytes.{are_bytes}
 
 pub same_decisions : (ds : List Decision) → map (λ d. d) ds ≡ ds
 same_decisions [] = refl
@@ -9,3 +9,47 @@ same_decisions (d ∷ ds) = ap (λ xs. d ∷ xs) (same_decisions ds)
 pub same_deletions : (ds : List (ℕ × ℕ)) → map (λ d. d) ds ≡ ds
 same_deletions [] = refl
 same_deletions (d ∷ ds) = ap (λ xs. d ∷ xs) (same_deletions ds)
+
+pub has_rewritten : (s : RelaxContext) (kept : List UnrelaxableGroups) (before section : List ℕ) (ds : List Decision)
+    (after bytes : List ℕ) → IsRewrittenAs s kept before after section bytes (map (λ d. d) ds)
+    → length after ≡ length before → length bytes ≡ length section
+    → HasRewritten (rewriting_phase s kept before section ds after bytes)
+has_rewritten s kept before section ds after bytes is as_many same_length =
+    let made = subst (IsRewrittenAs s kept before after section bytes) (same_decisions ds) is in
+    record {
+      made = record {
+        decided = made.decided;
+        relocations = made.relocations;
+        done = made.done;
+        others = made.others;
+        same_length = same_length;
+      };
+      as_many = as_many;
+    }
+
+-- by what is known of slices
+pub is_linked : (l : Linked) → HasRewritten l.phase
+    → ArePhases l.later l.relocations_after l.rewritten l.relocations_last l.last
+    → AreWritten l.context.architecture l.addresses l.relocations_last l.symbols l.last l.final
+    → ((i : ℕ) → get_or l.relocations i 0 < 2 ^ 8) → ((i : ℕ) → get_or l.section i 0 < 2 ^ 8)
+    → ((i : ℕ) → get_or l.final i 0 < 2 ^ 8) → IsLinked l
+is_linked l first later written relocations section final =
+    record {
+      first = first;
+      later = later;
+      written = written;
+      relocation_bytes = are_bytes l.relocations relocations;
+      section_bytes = are_bytes l.section section;
+      final_bytes = are_bytes l.final final;
+    }
+
+pub listed_so : (p : RewritingPhase) (before after : List (ℕ × ℕ)) (len : ℕ)
+    → take len (map (λ d. d) after) ≡ deletions_by p.relocations (map (λ d. d) p.decisions) (count_of p)
+    → drop len after ≡ drop len before → AreListed p before after
+listed_so p before after len listed others =
+    record {
+      len = len;
+      listed = subst (λ ds. take len ds ≡ deletions_in p) (same_deletions after)
+          (subst (λ ds. take len (map (λ d. d) after) ≡ deletions_by p.relocations ds (count_of p)) (same_decisions p.decisions) listed);
+      others = others;
+    }

@@ -181,16 +181,6 @@ spared l i d is none b =
 
 -- ---- bytes that rewrites leave
 
-pub are_rewritten : (l : Linked) → IsLinked l → AreRewritten l
-are_rewritten l linked =
-    record {
-      decided = linked.decided;
-      relocations = linked.relocations;
-      done = linked.done;
-      others = linked.others;
-      same_length = linked.same_length;
-    }
-
 module _ (l : Linked) (rewriting : AreRewritten l) (i : ℕ) (chosen : Choice Relaxation ℕ)
     (below : i < count l) (decided : decision_at l.decisions i ≡ Rewritten chosen) where
   abbrev r : Rela

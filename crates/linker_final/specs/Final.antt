@@ -50,15 +50,20 @@ rewriting_phase context kept relocations section decisions relocations_after rew
 abbrev pub count_of : RewritingPhase → ℕ
 count_of p = length p.relocations / 24
 
--- The call succeeded.
-pub record HasRewritten (p : RewritingPhase) : Type 0 where
+-- The rewrites of a phase were chosen, and made.
+pub record AreMadeIn (p : RewritingPhase) : Type 0 where
   pub decided : AreDecidedIn p.context p.kept p.relocations p.section p.decisions (count_of p)
   pub relocations : AreRelocationsAfter p.decisions p.relocations p.relocations_after (count_of p)
   pub done : AreDone p.relocations p.decisions p.section p.rewritten (count_of p)
   pub others : OthersStay p.relocations p.decisions p.section p.rewritten (count_of p)
+  pub same_length : length p.rewritten ≡ length p.section
+
+-- The call succeeded.
+pub record HasRewritten (p : RewritingPhase) : Type 0 where
+  pub made : AreMadeIn p
+  pub open made use *
   -- what slices have
   pub as_many : length p.relocations_after ≡ length p.relocations
-  pub same_length : length p.rewritten ≡ length p.section
 
 -- It takes the relocations and the bytes that are there.
 pub record Takes (p : RewritingPhase) (relocations section : List ℕ) : Type 0 where
@@ -105,16 +110,9 @@ UntouchedBytesAreTheSame =
 -- What is passed to `rewrite_section` or `rewrite_placed_section`, then maybe to later phases, and
 -- then to `relocate_section`, and what they leave.
 pub record Linked : Type 0 where
-  -- what rewrites are chosen by
-  pub context : RelaxContext
-  pub kept : List UnrelaxableGroups
-  -- the object's relocations and bytes, or those that earlier phases left
-  pub relocations : List ℕ
-  pub section : List ℕ
-  -- those once the section is rewritten, and what became of each relocation
-  pub decisions : List Decision
-  pub relocations_after : List ℕ
-  pub rewritten : List ℕ
+  -- of the object's relocations and bytes, or of those that earlier phases left
+  pub phase : RewritingPhase
+  pub open phase use *
   -- the phases after that one, and what the last of all left
   pub later : List RewritingPhase
   pub relocations_last : List ℕ
@@ -131,42 +129,28 @@ count l = length l.relocations / 24
 abbrev pub AreBytes : List ℕ → Type 0
 AreBytes bytes = All (λ b. b < 2 ^ 8) bytes
 
+-- The first call succeeded, whatever becomes of the section then.
+abbrev pub AreRewritten : Linked → Type 0
+AreRewritten l = AreMadeIn l.phase
+
 -- All calls succeeded: what their contracts ensure.
 pub record IsLinked (l : Linked) : Type 0 where
-  pub decided : AreDecidedIn l.context l.kept l.relocations l.section l.decisions (count l)
-  pub relocations : AreRelocationsAfter l.decisions l.relocations l.relocations_after (count l)
-  pub done : AreDone l.relocations l.decisions l.section l.rewritten (count l)
-  pub others : OthersStay l.relocations l.decisions l.section l.rewritten (count l)
+  pub first : HasRewritten l.phase
+  pub open first use *
   pub later : ArePhases l.later l.relocations_after l.rewritten l.relocations_last l.last
   pub written : AreWritten l.context.architecture l.addresses l.relocations_last l.symbols
       l.last l.final
   -- what slices have
-  pub as_many : length l.relocations_after ≡ length l.relocations
-  pub same_length : length l.rewritten ≡ length l.section
   pub relocation_bytes : AreBytes l.relocations
   pub section_bytes : AreBytes l.section
   pub final_bytes : AreBytes l.final
-
--- The first call succeeded, whatever becomes of the section then.
-pub record AreRewritten (l : Linked) : Type 0 where
-  pub decided : AreDecidedIn l.context l.kept l.relocations l.section l.decisions (count l)
-  pub relocations : AreRelocationsAfter l.decisions l.relocations l.relocations_after (count l)
-  pub done : AreDone l.relocations l.decisions l.section l.rewritten (count l)
-  pub others : OthersStay l.relocations l.decisions l.section l.rewritten (count l)
-  pub same_length : length l.rewritten ≡ length l.section
 
 -- of what phases were passed and left, and the call that writes values after them
 abbrev pub linked_by : RewritingPhase → List RewritingPhase → List ℕ → List ℕ → Addresses
     → List Symbol → List ℕ → Linked
 linked_by first later relocations_last last addresses symbols final =
     record {
-      context = first.context;
-      kept = first.kept;
-      relocations = first.relocations;
-      section = first.section;
-      decisions = first.decisions;
-      relocations_after = first.relocations_after;
-      rewritten = first.rewritten;
+      phase = first;
       later = later;
       relocations_last = relocations_last;
       last = last;

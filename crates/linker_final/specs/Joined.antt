@@ -1,20 +1,19 @@
 -- A section of code that is rewritten, in one phase or in several, then packed, and whose values
 -- are written last.
-use Rattle.std.specs.Prelude.{◌≡◌, ℕ, List, length}
-use Rattle.linker_final.specs.Final.{ArePhases, AreRewritten, Linked, instruction_at}
+use Rattle.std.specs.Prelude.{◌≡◌, ℕ, List}
+use Rattle.linker_final.specs.Final.{ArePhases, HasRewritten, Linked, instruction_at}
 use Rattle.linker_final.specs.Packed.{Packed, IsPacked, StayTogether, architecture_of, place_of}
 use Rattle.linker_final.specs.Imports.{relocation_in, offset_at}
 
 -- All calls succeeded, and the one that packs took what the last phase left.
 pub record IsRewrittenAndPacked (l : Linked) (p : Packed) : Type 0 where
-  pub rewritten : AreRewritten l
+  pub first : HasRewritten l.phase
+  pub open first use *
   pub later : ArePhases l.later l.relocations_after l.rewritten l.relocations_last l.last
   pub packed : IsPacked p
   pub architecture : l.context.architecture ≡ architecture_of p.machine
   pub bytes : p.section.bytes ≡ l.last
-  pub relocations : p.relocations ≡ l.relocations_last
-  -- what slices have
-  pub as_many : length l.relocations_after ≡ length l.relocations
+  pub relocations_are : p.relocations ≡ l.relocations_last
 
 -- The instruction of the relocation at an index stays as it was rewritten, and its relocation is
 -- written.

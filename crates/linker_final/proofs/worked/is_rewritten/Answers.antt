@@ -1,5 +1,5 @@
-use Rattle.linker_final.proofs.Imports.{refl, subst, rules, replicate, context, IsRewrittenAs, OUTPUT}
-use Rattle.linker_final.proofs.SameDecisions.{same_decisions}
+use Rattle.linker_final.proofs.Imports.{refl, rules, replicate, context, OUTPUT}
+use Rattle.linker_final.proofs.SameDecisions.{has_rewritten}
 use Rattle.linker_final.proofs.worked.is_rewritten.Goals as goal
 
 pub returns-in-Ok : goal.returns-in-Ok
@@ -8,23 +8,14 @@ returns-in-Ok c so =
     let s = context known.architecture known.phase OUTPUT c.facts.result known.addresses known.symbols.now in
     let kept = replicate 12 c.default.result in
     let ds = c.rewrite_placed_section.new.decisions in
-    let same = same_decisions ds in
     let before = c.args.relocations.now in
     let section = c.args.section.now in
     let after = c.rewrite_placed_section.new.relocations in
     let rewritten = c.rewrite_placed_section.new.section in
-    let made = subst (IsRewrittenAs s kept before after section rewritten) same c.in-Ok.ensures.rewritten in
     record {
       context = s;
       kept = kept;
       decisions = ds;
-      rewritten_by = record {
-        decided = made.decided;
-        relocations = made.relocations;
-        done = made.done;
-        others = made.others;
-        as_many = search rules;
-        same_length = search rules;
-      };
+      rewritten_by = has_rewritten s kept before section ds after rewritten c.in-Ok.ensures.rewritten (search rules) (search rules);
       of_one = refl;
     }
