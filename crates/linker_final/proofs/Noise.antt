@@ -1,7 +1,7 @@
 -- The numbers before a row's instruction, with the powers of 2 written out, since `2 ^ n` takes n
 -- steps.
-use Rattle.linker_final.proofs.Imports.{◌≡◌, ℕ, ◌+◌, ◌*◌, ◌/◌, ◌%◌, ◌^◌, ◌==◌, ◌&&◌, Bool, true, List, [], ◌∷◌, refl, ap, ◌∙◌, if◌then◌else◌, list_all}
-use Rattle.linker_final.specs.Steps.{Executed, Group, at, pc}
+use Rattle.linker_final.proofs.Imports.{◌≡◌, ℕ, ◌+◌, ◌*◌, ◌/◌, ◌%◌, ◌^◌, ◌==◌, Bool, List, sym, subst, if◌then◌else◌}
+use Rattle.linker_final.specs.Steps.{AllPass, Executed, Group, Numbers, at, pc}
 
 abbrev noise_64 : ℕ → ℕ
 noise_64 k =
@@ -28,15 +28,7 @@ quick_low row place =
     if place == pc then part + 2 ^ 20 + 2 ^ 14 * row + 2 ^ 10 + 4 * (number / 3 % 3584) else (
     if place == at then part + 2 ^ 26 + number / 3 % 2 ^ 24 else number)
 
-same_all : {A : Type 0} (f g : A → Bool) → ((a : A) → f a ≡ g a) → (xs : List A) → list_all f xs ≡ list_all g xs
-same_all f g same [] = refl
-same_all f g same (x ∷ xs) = ap (λ b. b && list_all f xs) (same x) ∙ ap (λ b. g x && b) (same_all f g same xs)
-
--- the rows of all groups pass a test that is the same as one that they pass
-pub groups_pass : (slow quick : Group → Executed → Bool) → ((g : Group) (e : Executed) → slow g e ≡ quick g e)
-    → (groups : List Group) → list_all (λ (g : Group). list_all (quick g) g.rows) groups ≡ true
-    → list_all (λ (g : Group). list_all (slow g) g.rows) groups ≡ true
-groups_pass slow quick same groups pass =
-    same_all (λ (g : Group). list_all (slow g) g.rows) (λ (g : Group). list_all (quick g) g.rows)
-    (λ (g : Group). same_all (slow g) (quick g) (same g) g.rows) groups
-    ∙ pass
+-- groups pass with what is quick, so they do with the same numbers
+pub all_pass : (made quick : ℕ → Numbers) → made ≡ quick → (test : Group → Numbers → Executed → Bool) (groups : List Group)
+    → AllPass quick test groups → AllPass made test groups
+all_pass made quick same test groups = subst (λ m. AllPass m test groups) (sym same)

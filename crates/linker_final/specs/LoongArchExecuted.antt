@@ -1,11 +1,10 @@
 -- LoongArch: the instructions of `linker_laws`, and those of lazy PLTs in `linker_output`, compared
 -- with an emulator. Registers 32 to 63 are those of vectors.
-use Rattle.std.specs.Prelude.{ℕ, ◌≡◌, ◌+◌, ◌-◌, ◌*◌, ◌/◌, ◌^◌, ◌==◌, ◌&&◌, nat_le, nat_lt}
-use Rattle.std.specs.Prelude.{if◌then◌else◌, Bool, true, false, Option, Some, None}
-use Rattle.std.specs.List.{list_all}
+use Rattle.std.specs.Prelude.{ℕ, ◌+◌, ◌-◌, ◌*◌, ◌/◌, ◌^◌, ◌==◌, ◌&&◌, nat_le, nat_lt}
+use Rattle.std.specs.Prelude.{if◌then◌else◌, Bool, false, Option, Some, None}
 use Rattle.linker_laws.specs.LoongArchMachine.{State, Floats, read}
 use Rattle.linker_output.specs.LoongArchLazyPlt.{step}
-use Rattle.linker_final.specs.Steps.{Executed, Group, Numbers, at, pc, noise, made_low, before}
+use Rattle.linker_final.specs.Steps.{AllPass, Executed, Group, Numbers, at, pc, noise, made_low}
 use Rattle.linker_final.specs.Steps.{memory_in, bytes_from, is_left}
 use Rattle.linker_final.specs.LoongArchSteps.{loongarch_groups}
 
@@ -16,40 +15,33 @@ made row place =
     if nat_le 32 place && nat_lt place 64 then noise 256 (256 * row + place)
     else made_low row place)
 
-abbrev pub numbers : Executed → Numbers
-numbers = before made
-
 -- The emulator's `fld.s` sets the bits from 32 to 63. Its loads leave the higher ones as they were.
-abbrev pub floats : Executed → Floats
-floats e =
+abbrev pub floats : Numbers → Floats
+floats n =
     record {
-      numbers = λ r. numbers e (32 + r);
+      numbers = λ r. n (32 + r);
       widened = λ bytes old number.
           if bytes == 4
           then number + (2 ^ 64 - 2 ^ 32) + old / 2 ^ 64 * 2 ^ 64
           else number + old / 2 ^ (8 * bytes) * 2 ^ (8 * bytes);
     }
 
-abbrev pub begun : Executed → State
-begun e =
-    let start = numbers e at in
-    let memory = memory_in (numbers e) in
-    record {
-      registers = numbers e;
-      floats = floats e;
-      pc = numbers e pc;
-      memory = bytes_from start memory;
-    }
+abbrev pub begun : Numbers → State
+begun n =
+    let start = n at in
+    let memory = memory_in n in
+    record { registers = n; floats = floats n; pc = n pc; memory = bytes_from start memory }
 
 abbrev pub register : State → ℕ → ℕ
 register s r = if nat_lt r 32 then read r s else s.floats.numbers (r - 32)
 
-abbrev pub ends_so : Executed → Option State → Bool
-ends_so e None = false
-ends_so e (Some s) = is_left 64 4 0 e (numbers e) (register s) s.pc s.memory 0
+abbrev pub ends_so : Numbers → Executed → Option State → Bool
+ends_so n e None = false
+ends_so n e (Some s) = is_left 64 4 0 e n (register s) s.pc s.memory 0
+
+abbrev pub passes : Group → Numbers → Executed → Bool
+passes g n e = ends_so n e (step e.code (begun n))
 
 -- Each instruction leaves what the emulator did.
 abbrev pub Agrees : Type 0
-Agrees =
-    list_all (λ (g : Group). list_all (λ e. ends_so e (step e.code (begun e))) g.rows)
-    loongarch_groups ≡ true
+Agrees = AllPass made passes loongarch_groups

@@ -1,17 +1,16 @@
 -- PowerPC64: the instructions of `linker_laws`, and those of stubs of `linker_output`, compared
 -- with an emulator. Registers 32 to 63 are those of floating-point numbers, 64 is the link
 -- register, and 65 the count register.
-use Rattle.std.specs.Prelude.{ℕ, ◌≡◌, ◌+◌, ◌-◌, ◌*◌, ◌/◌, ◌^◌, ◌==◌, nat_lt, if◌then◌else◌}
-use Rattle.std.specs.Prelude.{Bool, true, false, Option, Some, None}
-use Rattle.std.specs.List.{list_all}
+use Rattle.std.specs.Prelude.{ℕ, ◌+◌, ◌-◌, ◌*◌, ◌/◌, ◌^◌, ◌==◌, nat_lt, if◌then◌else◌}
+use Rattle.std.specs.Prelude.{Bool, false, Option, Some, None}
 use Rattle.std.specs.Int.{w64, leading_zeros}
 use Rattle.linker_base.specs.Bits.{field}
 use Rattle.linker_laws.specs.Ppc64Machine.{Formats, step_prefixed}
 use Rattle.linker_output.specs.Ppc64LazyPlt.{step}
 use Rattle.linker_output.specs.Ppc64Saves as saves
 use Rattle.linker_output.specs.Ppc64Stubs.{Counted, lifted}
-use Rattle.linker_final.specs.Steps.{Executed, Group, Numbers, at, pc, made_low, before, memory_in}
-use Rattle.linker_final.specs.Steps.{bytes_from, is_left}
+use Rattle.linker_final.specs.Steps.{AllPass, Executed, Group, Numbers, at, pc, made_low}
+use Rattle.linker_final.specs.Steps.{memory_in, bytes_from, is_left}
 use Rattle.linker_final.specs.Ppc64Steps.{ppc64_groups}
 
 -- ---- single and double precision
@@ -53,23 +52,20 @@ formats = record { widened = widened; narrowed = narrowed }
 
 -- ---- what is compared
 
-abbrev pub numbers : Executed → Numbers
-numbers = before made_low
-
-abbrev pub begun : Executed → Counted
-begun e =
-    let start = numbers e at in
-    let memory = memory_in (numbers e) in
+abbrev pub begun : Numbers → Counted
+begun n =
+    let start = n at in
+    let memory = memory_in n in
     record {
       state =
           record {
-            registers = numbers e;
-            floats = λ r. numbers e (32 + r);
-            link = numbers e 64;
-            pc = numbers e pc;
+            registers = n;
+            floats = λ r. n (32 + r);
+            link = n 64;
+            pc = n pc;
             memory = bytes_from start memory;
           };
-      count = numbers e 65;
+      count = n 65;
     }
 
 abbrev pub register : Counted → ℕ → ℕ
@@ -82,17 +78,20 @@ register c r =
 abbrev pub length_of : ℕ → ℕ
 length_of code = if nat_lt code (2 ^ 32) then 4 else 8
 
-abbrev pub ends_so : Executed → Option Counted → Bool
-ends_so e None = false
-ends_so e (Some c) =
-    is_left 66 (length_of e.code) 0 e (numbers e) (register c) c.state.pc c.state.memory 0
+abbrev pub ends_so : Numbers → Executed → Option Counted → Bool
+ends_so n e None = false
+ends_so n e (Some c) =
+    is_left 66 (length_of e.code) 0 e n (register c) c.state.pc c.state.memory 0
 
-abbrev pub executed : Executed → Option Counted
-executed e =
-    if e.code == 0x4e800020 then saves.step formats e.code (begun e) else (
-    if length_of e.code == 4 then step formats e.code (begun e)
-    else lifted (begun e) (step_prefixed formats e.code ((begun e).state)))
+abbrev pub executed : Numbers → Executed → Option Counted
+executed n e =
+    if e.code == 0x4e800020 then saves.step formats e.code (begun n) else (
+    if length_of e.code == 4 then step formats e.code (begun n)
+    else lifted (begun n) (step_prefixed formats e.code ((begun n).state)))
+
+abbrev pub passes : Group → Numbers → Executed → Bool
+passes g n e = ends_so n e (executed n e)
 
 -- Each instruction leaves what the emulator did.
 abbrev pub Agrees : Type 0
-Agrees = list_all (λ (g : Group). list_all (λ e. ends_so e (executed e)) g.rows) ppc64_groups ≡ true
+Agrees = AllPass made_low passes ppc64_groups

@@ -8,9 +8,9 @@ use Rattle.linker_output.specs.Layout.{Run}
 use Rattle.linker_output.specs.Ppc64Output.{ppc64_output}
 use Rattle.linker_output.specs.Ppc64Saves.{code_for}
 use Rattle.linker_output.specs.Ppc64Vectors.{run_vectored, vector_code}
-use Rattle.linker_final.specs.Ppc64Executed.{formats, numbers, register}
+use Rattle.linker_final.specs.Ppc64Executed.{formats, register}
 use Rattle.linker_final.specs.Ppc64Executed as ordinary
-use Rattle.linker_final.specs.Ppc64VectorsExecuted.{with_vectors, are_vectors_left}
+use Rattle.linker_final.specs.Ppc64VectorsExecuted.{are_vectors_left, numbers, with_vectors}
 use Rattle.linker_final.specs.Steps.{Executed, Functions, Numbers, at, pc, after, listed_or}
 use Rattle.linker_final.specs.Steps.{memory_from, bytes_of, all_below, are_bytes}
 use Rattle.linker_final.specs.Ppc64Steps.{ppc64_savegpr0, ppc64_restgpr0, ppc64_savegpr1}
@@ -28,7 +28,7 @@ abbrev pub begun : Executed → Vectored
 begun e =
     let start = numbers e at in
     let memory = memory_in (numbers e) in
-    with_vectors (with_memory (bytes_of 208 start memory) (ordinary.begun e)) e
+    with_vectors (with_memory (bytes_of 208 start memory) (ordinary.begun (numbers e))) e
 
 -- by the code of the function
 abbrev pub ends_so : List ℕ → Executed → Option Vectored → Bool

@@ -6,7 +6,8 @@ use Rattle.linker_output.specs.Ppc64Stubs.{Counted}
 use Rattle.linker_output.specs.Ppc64Vectors.{Vectored, step_vectored}
 use Rattle.linker_final.specs.Ppc64Executed as ordinary
 use Rattle.linker_final.specs.Ppc64Executed.{formats}
-use Rattle.linker_final.specs.Steps.{Executed, Group, noise, listed_or, all_below}
+use Rattle.linker_final.specs.Steps.{Executed, Group, Numbers, all_below, before}
+use Rattle.linker_final.specs.Steps.{listed_or, made_low, noise}
 use Rattle.linker_final.specs.Ppc64Steps.{ppc64_vector_groups}
 
 -- ---- vector registers
@@ -21,6 +22,9 @@ abbrev pub are_vectors_left : Executed → (ℕ → ℕ) → Bool
 are_vectors_left e vectors =
     all_below 32 (λ r. vectors r == listed_or (vectors_before e r) e.left (128 + r))
 
+abbrev pub numbers : Executed → Numbers
+numbers = before made_low
+
 abbrev pub with_vectors : Counted → Executed → Vectored
 with_vectors c e = record { counted = c; vectors = vectors_before e }
 
@@ -28,10 +32,11 @@ with_vectors c e = record { counted = c; vectors = vectors_before e }
 
 abbrev pub ends_so : Executed → Option Vectored → Bool
 ends_so e None = false
-ends_so e (Some v) = ordinary.ends_so e (Some v.counted) && are_vectors_left e v.vectors
+ends_so e (Some v) =
+    ordinary.ends_so (numbers e) e (Some v.counted) && are_vectors_left e v.vectors
 
 abbrev pub executed : Executed → Option Vectored
-executed e = step_vectored formats e.code (with_vectors (ordinary.begun e) e)
+executed e = step_vectored formats e.code (with_vectors (ordinary.begun (numbers e)) e)
 
 -- Each instruction leaves what the emulator did.
 abbrev pub Agrees : Type 0

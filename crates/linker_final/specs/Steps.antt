@@ -2,7 +2,8 @@
 -- left. The tables have the instructions, and what the emulator changed. The numbers before are
 -- defined here, and `tools/oracle steps` gives the emulator the same ones.
 use Rattle.std.specs.Prelude.{ℕ, zero, suc, ◌+◌, ◌*◌, ◌/◌, ◌%◌, ◌^◌, ◌==◌, ◌&&◌, Bool, true}
-use Rattle.std.specs.Prelude.{nat_lt, if◌then◌else◌, List, [], ◌∷◌, bit_and}
+use Rattle.std.specs.Prelude.{◌≡◌, nat_lt, if◌then◌else◌, List, [], ◌∷◌, bit_and}
+use Rattle.std.specs.List.{list_all}
 use Rattle.std.specs.Int.{byte_at}
 use Rattle.linker_elf.specs.Value.{sum_64, difference_64}
 
@@ -150,3 +151,8 @@ is_left registers bytes mask e numbers register next memory flags_after =
     && are_bytes 32 start memory_after memory
     && next == listed_or (sum_64 (numbers pc) bytes) e.left pc
     && bit_and flags_after mask == bit_and (after numbers e flags) mask
+
+-- Each row of groups passes a test of its numbers before, which are made so.
+abbrev pub AllPass : (ℕ → Numbers) → (Group → Numbers → Executed → Bool) → List Group → Type 0
+AllPass made test groups =
+    list_all (λ (g : Group). list_all (λ e. test g (before made e) e) g.rows) groups ≡ true

@@ -1,13 +1,12 @@
 -- x86-64: the instructions of `linker_laws`, and PUSH and ENDBR64 of `linker_output`, compared with
 -- an emulator. Register 16 is where the FS segment begins.
-use Rattle.std.specs.Prelude.{ℕ, ◌≡◌, ◌==◌, Bool, true, false, Option, Some, None, if◌then◌else◌}
+use Rattle.std.specs.Prelude.{ℕ, ◌==◌, Bool, false, Option, Some, None, if◌then◌else◌}
 use Rattle.std.specs.Prelude.{List, [], length}
-use Rattle.std.specs.List.{list_all}
 use Rattle.std.specs.Int.{bit_at}
 use Rattle.linker_laws.specs.X86Examples.{bytes_before, flags_number}
 use Rattle.linker_laws.specs.X86Machine.{State, Flags}
 use Rattle.linker_output.specs.X86LazyPlt.{step}
-use Rattle.linker_final.specs.Steps.{Executed, Group, Numbers, at, flags, pc, made_high, before}
+use Rattle.linker_final.specs.Steps.{AllPass, Executed, Group, Numbers, at, flags, pc, made_high}
 use Rattle.linker_final.specs.Steps.{memory_in, bytes_from, is_left}
 use Rattle.linker_final.specs.X86Steps.{x86_groups}
 
@@ -23,19 +22,16 @@ flags_in n =
       overflow = bit_at n 11 == 1;
     }
 
-abbrev pub numbers : Executed → Numbers
-numbers = before (made_high 1)
-
-abbrev pub begun : Executed → State
-begun e =
-    let start = numbers e at in
-    let memory = memory_in (numbers e) in
+abbrev pub begun : Numbers → State
+begun n =
+    let start = n at in
+    let memory = memory_in n in
     record {
-      register = numbers e;
-      ip = numbers e pc;
+      register = n;
+      ip = n pc;
       memory = bytes_from start memory;
-      flags = flags_in (numbers e flags);
-      fs = numbers e 16;
+      flags = flags_in (n flags);
+      fs = n 16;
     }
 
 abbrev pub bytes_of : Executed → List ℕ
@@ -44,14 +40,14 @@ bytes_of e = bytes_before 15 e.code []
 abbrev pub register : State → ℕ → ℕ
 register s r = if r == 16 then s.fs else s.register r
 
-abbrev pub ends_so : ℕ → Executed → Option State → Bool
-ends_so mask e None = false
-ends_so mask e (Some s) =
-    is_left 17 (length (bytes_of e)) mask e (numbers e) (register s) s.ip s.memory
-    (flags_number s.flags)
+abbrev pub ends_so : ℕ → Numbers → Executed → Option State → Bool
+ends_so mask n e None = false
+ends_so mask n e (Some s) =
+    is_left 17 (length (bytes_of e)) mask e n (register s) s.ip s.memory (flags_number s.flags)
+
+abbrev pub passes : Group → Numbers → Executed → Bool
+passes g n e = ends_so g.mask n e (step (bytes_of e) (begun n))
 
 -- Each instruction leaves what the emulator did.
 abbrev pub Agrees : Type 0
-Agrees =
-    list_all (λ (g : Group). list_all (λ e. ends_so g.mask e (step (bytes_of e) (begun e))) g.rows)
-    x86_groups ≡ true
+Agrees = AllPass (made_high 1) passes x86_groups
