@@ -16,6 +16,29 @@ pub record IsPlain (n : ℕ) (row : RelocationKindInfo) : Type 0 where
   pub holds : (len : ℕ) (v : ℤ) (before after : List ℕ) → HoldsNumber row.kind len v before after
       → pos (number_of_bytes len after) ≡ int_rem_euclid v (pos (2 ^ (8 * len)))
 
+abbrev pub plain : {n : ℕ} {row : RelocationKindInfo} → row.size ≡ ByteSize n → has_value row.kind ≡ true
+    → names_label row.size row.kind ≡ false → is_of_pair row ≡ false
+    → ((o : Operands) → IsSomeAnd (value_of row o) (λ _. ⊤))
+    → ((v : ℤ) (old : ℕ) → number_written row.kind v old ≡ cast_unsigned w64 v)
+    → ((v number : ℤ) → composed_with row.kind v number ≡ v)
+    → ((o : Operands) (v : ℤ) → value_of row o ≡ Some v → IsWithin (reach_of row) v
+    → int_rem_euclid v (pos (2 ^ (8 * n))) ≡ pos (cast_unsigned w64 v % 2 ^ (8 * n)))
+    → ((len : ℕ) (v : ℤ) (before after : List ℕ) → HoldsNumber row.kind len v before after
+    → pos (number_of_bytes len after) ≡ int_rem_euclid v (pos (2 ^ (8 * len))))
+    → IsPlain n row
+plain size valued unlabelled alone some writes composes remainder holds =
+    record {
+      size = size;
+      valued = valued;
+      unlabelled = unlabelled;
+      alone = alone;
+      some = some;
+      writes = writes;
+      composes = composes;
+      remainder = remainder;
+      holds = holds;
+    }
+
 -- ---- what is composed at the field
 
 -- a relocation without a field in the bytes there composes nothing

@@ -1,7 +1,7 @@
 -- The rows of the relocations that x86-64's rewrites leave.
 use Rattle.linker_final.proofs.Imports.{◌≡◌, ℕ, ℤ, pos, negsuc, ◌%◌, ◌^◌, ◌<◌, false, refl, ap, arith, Some, Ok, ints, w64, cast_unsigned, int_rem_euclid, IsWithin, bit_bounds, IsNamed, r_type_of, bytes_row, signed_row, value_of, x86_64_name, x86_64_row, RelocationKindInfo, Relative, Absolute, TpOff, Signed, Operands, X86_64Relocation, operands_by, operands_with, entry_address, is_of_got, loads_plt_word, entry_of, Addresses, Symbol, Rela, X86_64, unsigned_row, Unsigned, target_of}
 use Rattle.linker_elf.specs.declared.x86_64.relocations.X86_64Relocation.TheVariants as names
-use Rattle.linker_final.proofs.PlainRows.{IsPlain}
+use Rattle.linker_final.proofs.PlainRows.{IsPlain, plain}
 
 -- ---- values of 32 bits
 
@@ -36,98 +36,48 @@ pub record IsAfterRow (name : X86_64Relocation) : Type 0 where
   pub is_not_of_got : is_of_got X86_64 (r_type_of (x86_64_name name)) ≡ false
   pub named : IsNamed (x86_64_name name)
 
+abbrev after_row : (name : X86_64Relocation) (row : RelocationKindInfo) → x86_64_row name ≡ Some row → IsPlain 4 row
+    → loads_plt_word row.size row.kind ≡ false
+    → ((addresses : Addresses) (symbol : Symbol) (place other : ℕ)
+    → target_of X86_64 addresses row symbol place ≡ target_of X86_64 addresses row symbol other)
+    → ((addresses : Addresses) (symbol : Symbol) (r : Rela)
+    → operands_by X86_64 addresses row r symbol (entry_address addresses symbol (entry_of row r.addend symbol.is_thread_local))
+    ≡ Ok (operands_with X86_64 addresses row symbol r 0))
+    → ((o : Operands) (entry plt : ℕ) → value_of row (record o { got_entry = entry; plt_entry = plt }) ≡ value_of row o)
+    → is_of_got X86_64 (r_type_of (x86_64_name name)) ≡ false → IsNamed (x86_64_name name) → IsAfterRow name
+after_row name row is plain unloaded placeless alone same_value is_not_of_got named =
+    record {
+      row = row;
+      is = is;
+      plain = plain;
+      unloaded = unloaded;
+      placeless = placeless;
+      alone = alone;
+      same_value = same_value;
+      is_not_of_got = is_not_of_got;
+      named = named;
+    }
+
 pub pc32 : IsAfterRow names.R_X86_64_PC32
 pc32 =
-    record {
-      row = signed_row 32 (bytes_row Relative 4);
-      is = refl;
-      plain = record {
-        size = refl;
-        valued = refl;
-        unlabelled = refl;
-        alone = refl;
-        some = λ o. tt;
-        writes = λ v old. refl;
-        composes = λ v number. refl;
-        remainder = λ o v is. signed_remainder v;
-        holds = λ len v before after is. is;
-      };
-      unloaded = refl;
-      placeless = λ addresses symbol place other. refl;
-      alone = λ addresses symbol r. refl;
-      same_value = λ o entry plt. refl;
-      is_not_of_got = refl;
-      named = tt;
-    }
+    after_row names.R_X86_64_PC32 (signed_row 32 (bytes_row Relative 4)) refl
+    (plain refl refl refl refl (λ o. tt) (λ v old. refl) (λ v number. refl) (λ o v is. signed_remainder v) (λ len v before after is. is))
+    refl (λ addresses symbol place other. refl) (λ addresses symbol r. refl) (λ o entry plt. refl) refl tt
 
 pub absolute32 : IsAfterRow names.R_X86_64_32
 absolute32 =
-    record {
-      row = unsigned_row 32 (bytes_row Absolute 4);
-      is = refl;
-      plain = record {
-        size = refl;
-        valued = refl;
-        unlabelled = refl;
-        alone = refl;
-        some = λ o. tt;
-        writes = λ v old. refl;
-        composes = λ v number. refl;
-        remainder = λ o v is. unsigned_remainder v;
-        holds = λ len v before after is. is;
-      };
-      unloaded = refl;
-      placeless = λ addresses symbol place other. refl;
-      alone = λ addresses symbol r. refl;
-      same_value = λ o entry plt. refl;
-      is_not_of_got = refl;
-      named = tt;
-    }
+    after_row names.R_X86_64_32 (unsigned_row 32 (bytes_row Absolute 4)) refl
+    (plain refl refl refl refl (λ o. tt) (λ v old. refl) (λ v number. refl) (λ o v is. unsigned_remainder v) (λ len v before after is. is))
+    refl (λ addresses symbol place other. refl) (λ addresses symbol r. refl) (λ o entry plt. refl) refl tt
 
 pub signed32 : IsAfterRow names.R_X86_64_32S
 signed32 =
-    record {
-      row = signed_row 32 (bytes_row Absolute 4);
-      is = refl;
-      plain = record {
-        size = refl;
-        valued = refl;
-        unlabelled = refl;
-        alone = refl;
-        some = λ o. tt;
-        writes = λ v old. refl;
-        composes = λ v number. refl;
-        remainder = λ o v is. signed_remainder v;
-        holds = λ len v before after is. is;
-      };
-      unloaded = refl;
-      placeless = λ addresses symbol place other. refl;
-      alone = λ addresses symbol r. refl;
-      same_value = λ o entry plt. refl;
-      is_not_of_got = refl;
-      named = tt;
-    }
+    after_row names.R_X86_64_32S (signed_row 32 (bytes_row Absolute 4)) refl
+    (plain refl refl refl refl (λ o. tt) (λ v old. refl) (λ v number. refl) (λ o v is. signed_remainder v) (λ len v before after is. is))
+    refl (λ addresses symbol place other. refl) (λ addresses symbol r. refl) (λ o entry plt. refl) refl tt
 
 abbrev pub tpoff32 : IsAfterRow names.R_X86_64_TPOFF32
 tpoff32 =
-    record {
-      row = signed_row 32 (bytes_row TpOff 4);
-      is = refl;
-      plain = record {
-        size = refl;
-        valued = refl;
-        unlabelled = refl;
-        alone = refl;
-        some = λ o. tt;
-        writes = λ v old. refl;
-        composes = λ v number. refl;
-        remainder = λ o v is. signed_remainder v;
-        holds = λ len v before after is. is;
-      };
-      unloaded = refl;
-      placeless = λ addresses symbol place other. refl;
-      alone = λ addresses symbol r. refl;
-      same_value = λ o entry plt. refl;
-      is_not_of_got = refl;
-      named = tt;
-    }
+    after_row names.R_X86_64_TPOFF32 (signed_row 32 (bytes_row TpOff 4)) refl
+    (plain refl refl refl refl (λ o. tt) (λ v old. refl) (λ v number. refl) (λ o v is. signed_remainder v) (λ len v before after is. is))
+    refl (λ addresses symbol place other. refl) (λ addresses symbol r. refl) (λ o entry plt. refl) refl tt

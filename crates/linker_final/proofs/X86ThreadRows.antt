@@ -1,21 +1,11 @@
 -- Rows of relocations that x86-64's sequences for thread-local variables have.
 use Rattle.linker_final.proofs.Imports.{◌≡◌, ℕ, ℤ, pos, ◌%◌, ◌^◌, ◌<◌, refl, sym, ap, ◌∙◌, arith, Some, of_z-to_z, w64, cast_signed, cast_unsigned, int_rem_euclid, difference_64, long_thread_row, tls_got_row, symbol_term, cast_is, difference_below}
-use Rattle.linker_final.proofs.PlainRows.{IsPlain, value_in}
+use Rattle.linker_final.proofs.PlainRows.{IsPlain, plain, value_in}
 use Rattle.linker_final.proofs.X86Rows.{signed_remainder}
 
 pub plain_entry : IsPlain 4 tls_got_row
 plain_entry =
-    record {
-      size = refl;
-      valued = refl;
-      unlabelled = refl;
-      alone = refl;
-      some = λ o. tt;
-      writes = λ v old. refl;
-      composes = λ v number. refl;
-      remainder = λ o v is. signed_remainder v;
-      holds = λ len v before after is. is;
-    }
+    plain refl refl refl refl (λ o. tt) (λ v old. refl) (λ v number. refl) (λ o v is. signed_remainder v) (λ len v before after is. is)
 
 same_value : (v w : ℤ) → Some w ≡ Some v → v ≡ w
 same_value v w is = sym (ap (value_in v) is)
@@ -29,16 +19,8 @@ any_remainder v m below is =
 
 pub plain_long_thread : IsPlain 8 long_thread_row
 plain_long_thread =
-    record {
-      size = refl;
-      valued = refl;
-      unlabelled = refl;
-      alone = refl;
-      some = λ o. tt;
-      writes = λ v old. refl;
-      composes = λ v number. refl;
-      remainder = λ o v is within.
-          any_remainder v (difference_64 (symbol_term long_thread_row o) o.tls_base)
-          (difference_below (symbol_term long_thread_row o) o.tls_base) (same_value v _ is);
-      holds = λ len v before after is. is;
-    }
+    plain refl refl refl refl (λ o. tt) (λ v old. refl) (λ v number. refl)
+    (λ o v is within.
+    any_remainder v (difference_64 (symbol_term long_thread_row o) o.tls_base)
+    (difference_below (symbol_term long_thread_row o) o.tls_base) (same_value v _ is))
+    (λ len v before after is. is)
