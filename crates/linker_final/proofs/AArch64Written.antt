@@ -4,7 +4,7 @@ use Rattle.linker_elf.specs.declared.aarch64.relocations.AArch64Relocation.TheVa
 use Rattle.linker_elf.specs.declared.elf.RelocationKind.TheVariants.{None as NoValue}
 use Rattle.linker_final.proofs.InstructionFields.{IsOfInstruction}
 use Rattle.linker_final.proofs.Phases.{last_length, relocation_left}
-use Rattle.linker_final.proofs.Written.{IsRowOf, applied_after, by_name, entry_is_there, made_there, rela, relocation_is, unwritten_without, with_operands}
+use Rattle.linker_final.proofs.Written.{IsRowOf, applied_after, by_name, entry_is_there, made_there, rela, relocation_named, unwritten_without, with_operands}
 use Rattle.linker_final.specs.SectionRuns.{offset_of}
 use Rattle.linker_laws.specs.AArch64RewriteLaws.{BeginsRewritten, IsRewritten}
 use Rattle.linker_rewriting.proofs.Entries.{IsOfEntry as IsOfEntryIn, IsOfOne as IsOfOneIn, of_entry as of_entry_in, of_one as of_one_in}
@@ -148,11 +148,8 @@ module _ {l : Linked} {c : Code} (new : IsNew l c) where
       -- its relocation gets a name
       pub named_after : IsNamedAs e.relocation l i
       named_after =
-          let r = relocation_in l.relocations i in
-          let code = r_type_of (aarch64_name e.relocation) in
-          relocation_is l new.linked.made i of.chosen of.below of.decided (aarch64_rewrite e.kind) code (ap relaxation_rewrite by.kind_is) by.r_type_is
-          ∙ (ap (λ x. rela x code r.symbol (addend_after (aarch64_rewrite e.kind) r.addend)) (unmoved r.offset)
-          ∙ ap (λ x. rela r.offset code r.symbol x) (same_addend r.addend))
+          relocation_named l new.linked.made i of.chosen of.below of.decided (aarch64_rewrite e.kind) (r_type_of (aarch64_name e.relocation))
+          (ap relaxation_rewrite by.kind_is) by.r_type_is unmoved same_addend
 
       -- and this is applied
       pub has_after : (a : IsAfter e.relocation) → UntouchedInstruction l i → (symbol : Symbol)

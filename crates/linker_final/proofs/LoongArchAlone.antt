@@ -3,7 +3,7 @@
 use Rattle.linker_final.proofs.Imports.{◌≡◌, ℕ, ◌+◌, ◌*◌, ◌-◌, ◌/◌, ◌^◌, ◌<◌, ◌≤◌, List, length, IsTrue, Ok, Some, refl, subst, inl, inr, ⊤, field, entry, IsNamed, IsNameOf, loongarch_name, low_row, TpOff, LoongArch64, Choice, Operands, LoongArch64Relocation, IsRewritten, isnt, decision_at, Rewritten, relocation_in, operands_in, operands_with, Addresses, Symbol, Rela, IsLd, loongarch_rewrite, rd_of, rewrites_word, rj_of, to_local_exec, Relaxation, high_row, AreRewritten, Linked, count, instruction_at}
 use Rattle.linker_elf.specs.declared.loongarch64.relocations.LoongArch64Relocation.TheVariants as names
 use Rattle.linker_final.proofs.InstructionFields.{of_bits}
-use Rattle.linker_final.proofs.LoongArchChosen.{IsByTable, IsEntry, by_table, entry_by}
+use Rattle.linker_final.proofs.LoongArchChosen.{IsByTable, IsEntry, by_table, entry_by, shown}
 use Rattle.linker_final.proofs.LoongArchWritten.{IsAfter, becomes, named_after}
 use Rattle.linker_final.proofs.Written.{word_same}
 use Rattle.linker_final.specs.LoongArchSection.{HasEntry, IsAlone, IsLeft, IsMade, Law, Left, applied, entry_by as entry_of_name, law_of, named_as, none, without_law}
@@ -71,66 +71,7 @@ module _ (l : Linked) (made : AreRewritten l) (i : ℕ) (chosen : Choice Relaxat
 
   pub becomes_by : (kind : RewriteKind) (name old : LoongArch64Relocation) → IsEntry kind name old l.section (offset_of l i) chosen
       → (new : ℕ → ℕ) → loongarch_rewrite kind ≡ Some (rewrites_word new) → IsRewritten kind before rewritten
-  becomes_by kind name old by = becomes l made.done i chosen below decided kind by.kind_is
-
--- ---- entries
-
-module _ (section : List ℕ) (o : ℕ) (chosen : Choice Relaxation ℕ) where
-  high_entry : IsByTable names.R_LARCH_TLS_IE_PC_HI20 section o chosen
-      → IsEntry kinds.PcalaToLu12i names.R_LARCH_TLS_LE_HI20 names.R_LARCH_TLS_IE_PC_HI20 section o chosen
-  high_entry by =
-      elim by.one [
-        | inl short ↦ isnt by.facts.has_addresses (by.early refl).unplaced (short.meant.1.1.1.1.1.0.0)
-        | inr rest ↦ elim rest [
-          | inl this ↦
-              entry_by names.R_LARCH_TLS_IE_PC_HI20 section o chosen by.facts
-              (entry kinds.PcalaToLu12i names.R_LARCH_TLS_LE_HI20 to_local_exec) this
-          | inr nothing ↦ absurd nothing
-        ]
-      ]
-
-  low_entry : IsByTable names.R_LARCH_TLS_IE_PC_LO12 section o chosen
-      → IsEntry kinds.LowToOri names.R_LARCH_TLS_LE_LO12 names.R_LARCH_TLS_IE_PC_LO12 section o chosen
-  low_entry by =
-      elim by.one [
-        | inl short ↦ isnt by.facts.has_addresses (by.early refl).unplaced (short.meant.1.1.1.1.1.0.0)
-        | inr rest ↦ elim rest [
-          | inl this ↦
-              entry_by names.R_LARCH_TLS_IE_PC_LO12 section o chosen by.facts
-              (entry kinds.LowToOri names.R_LARCH_TLS_LE_LO12 to_local_exec) this
-          | inr nothing ↦ absurd nothing
-        ]
-      ]
-
-  lu12i_entry : IsByTable names.R_LARCH_TLS_LE_HI20_R section o chosen
-      → IsEntry kinds.Delete names.R_LARCH_NONE names.R_LARCH_TLS_LE_HI20_R section o chosen
-  lu12i_entry by =
-      elim by.one [
-        | inl this ↦
-            entry_by names.R_LARCH_TLS_LE_HI20_R section o chosen by.facts
-            (entry kinds.Delete names.R_LARCH_NONE by_low_part) this
-        | inr nothing ↦ absurd nothing
-      ]
-
-  sum_entry : IsByTable names.R_LARCH_TLS_LE_ADD_R section o chosen
-      → IsEntry kinds.Delete names.R_LARCH_NONE names.R_LARCH_TLS_LE_ADD_R section o chosen
-  sum_entry by =
-      elim by.one [
-        | inl this ↦
-            entry_by names.R_LARCH_TLS_LE_ADD_R section o chosen by.facts
-            (entry kinds.Delete names.R_LARCH_NONE by_low_part) this
-        | inr nothing ↦ absurd nothing
-      ]
-
-  part_entry : IsByTable names.R_LARCH_TLS_LE_LO12_R section o chosen
-      → IsEntry kinds.BaseToTp names.R_LARCH_TLS_LE_LO12_R names.R_LARCH_TLS_LE_LO12_R section o chosen
-  part_entry by =
-      elim by.one [
-        | inl this ↦
-            entry_by names.R_LARCH_TLS_LE_LO12_R section o chosen by.facts
-            (entry kinds.BaseToTp names.R_LARCH_TLS_LE_LO12_R by_low_part) this
-        | inr nothing ↦ absurd nothing
-      ]
+  becomes_by kind name old by = becomes l made i chosen below decided kind by.kind_is
 
 -- ---- laws
 
@@ -157,7 +98,9 @@ module _ (groups : Groups) (l : Linked) (made : AreRewritten l) (loongarch : l.c
   pub high_half : HasLaw names.R_LARCH_TLS_IE_PC_HI20
   high_half is_name =
       let name = names.R_LARCH_TLS_IE_PC_HI20 in
-      let by = high_entry l.section (offset_of l i) chosen (table name tt is_name) in
+      let t = table name tt is_name in
+      let by : IsEntry kinds.PcalaToLu12i names.R_LARCH_TLS_LE_HI20 name l.section (offset_of l i) chosen =
+      shown t (λ short. isnt t.facts.has_addresses (t.early refl).unplaced (short.meant.1.1.1.1.1.0.0), (λ this. entry_by name l.section (offset_of l i) chosen t.facts _ this, tt)) in
       record {
         writable = high_offset;
         left = left_by l made i chosen below decided kinds.PcalaToLu12i names.R_LARCH_TLS_LE_HI20 name by;
@@ -171,7 +114,9 @@ module _ (groups : Groups) (l : Linked) (made : AreRewritten l) (loongarch : l.c
   pub low_half : HasLaw names.R_LARCH_TLS_IE_PC_LO12
   low_half is_name =
       let name = names.R_LARCH_TLS_IE_PC_LO12 in
-      let by = low_entry l.section (offset_of l i) chosen (table name tt is_name) in
+      let t = table name tt is_name in
+      let by : IsEntry kinds.LowToOri names.R_LARCH_TLS_LE_LO12 name l.section (offset_of l i) chosen =
+      shown t (λ short. isnt t.facts.has_addresses (t.early refl).unplaced (short.meant.1.1.1.1.1.0.0), (λ this. entry_by name l.section (offset_of l i) chosen t.facts _ this, tt)) in
       record {
         writable = low_offset;
         left = left_by l made i chosen below decided kinds.LowToOri names.R_LARCH_TLS_LE_LO12 name by;
@@ -186,7 +131,9 @@ module _ (groups : Groups) (l : Linked) (made : AreRewritten l) (loongarch : l.c
   pub high_part : HasLaw names.R_LARCH_TLS_LE_HI20_R
   high_part is_name =
       let name = names.R_LARCH_TLS_LE_HI20_R in
-      let by = lu12i_entry l.section (offset_of l i) chosen (table name tt is_name) in
+      let t = table name tt is_name in
+      let by : IsEntry kinds.Delete names.R_LARCH_NONE name l.section (offset_of l i) chosen =
+      shown t (λ this. entry_by name l.section (offset_of l i) chosen t.facts _ this, tt) in
       record {
         writable = by.pattern.0;
         left = left_by l made i chosen below decided kinds.Delete names.R_LARCH_NONE name by;
@@ -198,7 +145,9 @@ module _ (groups : Groups) (l : Linked) (made : AreRewritten l) (loongarch : l.c
   pub sum : HasLaw names.R_LARCH_TLS_LE_ADD_R
   sum is_name =
       let name = names.R_LARCH_TLS_LE_ADD_R in
-      let by = sum_entry l.section (offset_of l i) chosen (table name tt is_name) in
+      let t = table name tt is_name in
+      let by : IsEntry kinds.Delete names.R_LARCH_NONE name l.section (offset_of l i) chosen =
+      shown t (λ this. entry_by name l.section (offset_of l i) chosen t.facts _ this, tt) in
       record {
         writable = by.pattern.0;
         left = left_by l made i chosen below decided kinds.Delete names.R_LARCH_NONE name by;
@@ -210,7 +159,9 @@ module _ (groups : Groups) (l : Linked) (made : AreRewritten l) (loongarch : l.c
   pub low_part : HasLaw names.R_LARCH_TLS_LE_LO12_R
   low_part is_name =
       let name = names.R_LARCH_TLS_LE_LO12_R in
-      let by = part_entry l.section (offset_of l i) chosen (table name tt is_name) in
+      let t = table name tt is_name in
+      let by : IsEntry kinds.BaseToTp names.R_LARCH_TLS_LE_LO12_R name l.section (offset_of l i) chosen =
+      shown t (λ this. entry_by name l.section (offset_of l i) chosen t.facts _ this, tt) in
       record {
         writable = part_offset;
         left = left_by l made i chosen below decided kinds.BaseToTp name name by;

@@ -1,5 +1,5 @@
 -- The rewrite that is chosen for a relocation of LoongArch is one of its table.
-use Rattle.linker_final.proofs.Imports.{◌≡◌, ℕ, ◌<◌, List, Bool, true, false, refl, sym, ap, subst, ◌∙◌, IsNamed, IsNameOf, r_type_of, loongarch_name, Choice, LinkFacts, LoongArch64Relocation, IsChosen, chosen_at, listed_at, IsOfEntry, LoongArchApplies, LoongArchEntry, AreDecidedIn, decision_at, IsScopeIn, loongarch_scope_in, Rewritten, Scope, Grouped, Independent, Labelled, NotRelaxable, Phase, relocation_in, Rela, IsArchitectureChoice, Relaxation, LoongArch64, Ppc64, AreEarly, IsListed, are_early, IsOfOne, of_one, Linked, count, loongarch_scope}
+use Rattle.linker_final.proofs.Imports.{◌≡◌, ℕ, ◌<◌, List, Bool, true, false, refl, sym, ap, subst, ◌∙◌, IsNamed, IsNameOf, r_type_of, loongarch_name, Choice, LinkFacts, LoongArch64Relocation, IsChosen, chosen_at, listed_at, IsOfEntry, LoongArchApplies, LoongArchEntry, AreDecidedIn, decision_at, IsScopeIn, loongarch_scope_in, Rewritten, Scope, Grouped, Independent, Labelled, NotRelaxable, Phase, relocation_in, Rela, IsArchitectureChoice, Relaxation, LoongArch64, Ppc64, AreEarly, IsListed, are_early, IsOfOne, of_one, Linked, count, loongarch_scope, [], ◌∷◌, ⊤, inl, inr}
 use Rattle.linker_elf.specs.declared.loongarch64.relocations.LoongArch64Relocation.TheVariants as names
 use Rattle.linker_utils.specs.LoongArchRewrites.{HasPattern, loongarch_entries}
 use Rattle.linker_utils.specs.declared.loongarch64.rewrites.RewriteKind.{RewriteKind}
@@ -18,23 +18,10 @@ is_plain scope = false
 
 early_plain : (name : LoongArch64Relocation) → is_plain (loongarch_scope name) ≡ true
 early_plain names.R_LARCH_GOT_PC_HI20 = refl
-early_plain names.R_LARCH_GOT_PC_LO12 = refl
-early_plain names.R_LARCH_TLS_IE_PC_HI20 = refl
-early_plain names.R_LARCH_TLS_IE_PC_LO12 = refl
-early_plain names.R_LARCH_TLS_IE64_PC_LO20 = refl
-early_plain names.R_LARCH_TLS_IE64_PC_HI12 = refl
-early_plain names.R_LARCH_TLS_DESC_PC_HI20 = refl
-early_plain names.R_LARCH_TLS_DESC_PC_LO12 = refl
-early_plain names.R_LARCH_TLS_DESC64_PC_LO20 = refl
-early_plain names.R_LARCH_TLS_DESC64_PC_HI12 = refl
-early_plain names.R_LARCH_TLS_DESC_LD = refl
-early_plain names.R_LARCH_TLS_DESC_CALL = refl
 early_plain name = refl
 
 thread_plain : (name : LoongArch64Relocation) → is_plain (loongarch_scope_in phases.TlsLocalExec name) ≡ true
 thread_plain names.R_LARCH_TLS_LE_HI20_R = refl
-thread_plain names.R_LARCH_TLS_LE_ADD_R = refl
-thread_plain names.R_LARCH_TLS_LE_LO12_R = refl
 thread_plain name = refl
 
 plain_in : (phase : Phase) (name : LoongArch64Relocation)
@@ -72,6 +59,28 @@ pub record IsByTable (name : LoongArch64Relocation) (section : List ℕ) (o : �
   pub one : IsOfOne loongarch_name relaxations.LoongArch64 (LoongArchApplies name section o facts)
       (loongarch_entries name) chosen
   pub early : loongarch_scope_in phases.TlsLocalExec name ≡ NotRelaxable → AreEarly facts
+
+-- what each entry of a table shows
+abbrev pub Cases : Type 0 → (LoongArchEntry → Type 0) → List LoongArchEntry → Type 0
+Cases Q Is [] = ⊤
+Cases Q Is (e ∷ es) = (Is e → Q) × Cases Q Is es
+
+module _ {Q : Type 0} (IsMeant : LoongArchEntry → Type 0) (chosen : Choice Relaxation ℕ) where
+  abbrev Is : LoongArchEntry → Type 0
+  Is e = IsOfEntry loongarch_name relaxations.LoongArch64 IsMeant e chosen
+
+  by_cases : (es : List LoongArchEntry) → IsOfOne loongarch_name relaxations.LoongArch64 IsMeant es chosen → Cases Q Is es → Q
+  by_cases [] nothing cases = absurd nothing
+  by_cases (e ∷ es) (inl this) cases = (cases.0) this
+  by_cases (e ∷ es) (inr other) cases = by_cases es other (cases.1)
+
+pub shown : {Q : Type 0} {name : LoongArch64Relocation} {section : List ℕ} {o : ℕ} {chosen : Choice Relaxation ℕ}
+    (by : IsByTable name section o chosen)
+    → Cases Q
+    (λ e. IsOfEntry loongarch_name relaxations.LoongArch64 (LoongArchApplies name section o by.facts) e chosen)
+    (loongarch_entries name)
+    → Q
+shown {Q} {name} {section} {o} {chosen} by = by_cases (LoongArchApplies name section o by.facts) chosen (loongarch_entries name) by.one
 
 module _ (l : Linked) (all : AreDecidedIn l.context l.kept l.relocations l.section l.decisions (count l))
     (loongarch : l.context.architecture ≡ LoongArch64) (i : ℕ) (chosen : Choice Relaxation ℕ) (below : i < count l)

@@ -4,7 +4,7 @@ use Rattle.linker_final.proofs.Imports.{◌≡◌, ◌⊎◌, ℕ, ◌+◌, ◌<
 use Rattle.linker_elf.specs.declared.loongarch64.relocations.LoongArch64Relocation.TheVariants as names
 use Rattle.linker_final.proofs.InstructionFields.{of_bits}
 use Rattle.linker_final.proofs.LoongArchAlone.{IsLawful, Takes, becomes_by, before, high_offset, left_by, low_offset, rewritten, table}
-use Rattle.linker_final.proofs.LoongArchChosen.{IsByTable, IsEntry, entry_by}
+use Rattle.linker_final.proofs.LoongArchChosen.{IsEntry, entry_by, shown}
 use Rattle.linker_final.proofs.Written.{stays, word_same}
 use Rattle.linker_final.specs.SectionRuns.{offset_of}
 use Rattle.linker_laws.specs.LoongArchGroups.{CallOfDescriptor, Groups, LoadOfDescriptor}
@@ -33,79 +33,6 @@ entry_low =
           ap (λ b. operands_by LoongArch64 addresses row r symbol (cond b (Some symbol.thread_entry) None)) there;
     }
 
--- ---- entries, by the kinds of their rewrites
-
-module _ (section : List ℕ) (o : ℕ) (chosen : Choice Relaxation ℕ) where
-  abbrev IsOf : LoongArch64Relocation → LinkFacts → LoongArchEntry → Type 0
-  IsOf name facts e = IsOfEntry loongarch_name relaxations.LoongArch64 (LoongArchApplies name section o facts) e chosen
-
-  -- Before addresses are known nothing is deleted, and no offset has 12 bits.
-  of_page : (by : IsByTable names.R_LARCH_TLS_DESC_PC_HI20 section o chosen)
-      → IsOf names.R_LARCH_TLS_DESC_PC_HI20 by.facts (entry kinds.PcalaToLu12i names.R_LARCH_TLS_LE_HI20 to_local_exec)
-      ⊎ IsOf names.R_LARCH_TLS_DESC_PC_HI20 by.facts (entry kinds.NoOp names.R_LARCH_TLS_IE_PC_HI20 page_to_initial_exec)
-  of_page by =
-      elim by.one [
-        | inl short ↦ isnt by.facts.is_relaxable (by.early refl).unmarked (short.meant.1.1.1.0)
-        | inr rest ↦ elim rest [
-          | inl short ↦ isnt by.facts.has_addresses (by.early refl).unplaced (short.meant.1.1.1.1.1.0.0)
-          | inr rest ↦ elim rest [
-            | inl this ↦ inl this
-            | inr rest ↦ elim rest [
-              | inl this ↦ inr this
-              | inr rest ↦ elim rest [
-                | inl near ↦ isnt by.facts.is_relaxable (by.early refl).unmarked (near.meant.1.0)
-                | inr nothing ↦ absurd nothing
-              ]
-            ]
-          ]
-        ]
-      ]
-
-  of_low : (by : IsByTable names.R_LARCH_TLS_DESC_PC_LO12 section o chosen)
-      → IsOf names.R_LARCH_TLS_DESC_PC_LO12 by.facts (entry kinds.LowToOri names.R_LARCH_TLS_LE_LO12 to_local_exec)
-      ⊎ IsOf names.R_LARCH_TLS_DESC_PC_LO12 by.facts (entry kinds.AddiToLd names.R_LARCH_TLS_IE_PC_LO12 (to_initial_exec []))
-  of_low by =
-      elim by.one [
-        | inl short ↦ isnt by.facts.has_addresses (by.early refl).unplaced (short.meant.1.1.1.1.1.0.0)
-        | inr rest ↦ elim rest [
-          | inl this ↦ inl this
-          | inr rest ↦ elim rest [
-            | inl this ↦ inr this
-            | inr rest ↦ elim rest [
-              | inl near ↦ isnt by.facts.is_relaxable (by.early refl).unmarked (near.meant.1.0)
-              | inr nothing ↦ absurd nothing
-            ]
-          ]
-        ]
-      ]
-
-  -- what becomes a `nop`, for local-exec and for initial-exec
-  load_goes : IsByTable names.R_LARCH_TLS_DESC_LD section o chosen
-      → IsEntry kinds.ReplaceWithNop names.R_LARCH_NONE names.R_LARCH_TLS_DESC_LD section o chosen
-  load_goes by =
-      elim by.one [
-        | inl gone ↦ isnt by.facts.is_relaxable (by.early refl).unmarked (gone.meant.1.1.0)
-        | inr rest ↦ elim rest [
-          | inl this ↦
-              entry_by names.R_LARCH_TLS_DESC_LD section o chosen by.facts
-              (entry kinds.ReplaceWithNop names.R_LARCH_NONE (to_initial_exec [])) this
-          | inr nothing ↦ absurd nothing
-        ]
-      ]
-
-  call_goes : IsByTable names.R_LARCH_TLS_DESC_CALL section o chosen
-      → IsEntry kinds.ReplaceWithNop names.R_LARCH_NONE names.R_LARCH_TLS_DESC_CALL section o chosen
-  call_goes by =
-      elim by.one [
-        | inl gone ↦ isnt by.facts.is_relaxable (by.early refl).unmarked (gone.meant.1.1.0)
-        | inr rest ↦ elim rest [
-          | inl this ↦
-              entry_by names.R_LARCH_TLS_DESC_CALL section o chosen by.facts
-              (entry kinds.ReplaceWithNop names.R_LARCH_NONE (to_initial_exec [])) this
-          | inr nothing ↦ absurd nothing
-        ]
-      ]
-
 -- ---- laws
 
 module _ (groups : Groups) (l : Linked) (made : AreRewritten l) (loongarch : l.context.architecture ≡ LoongArch64)
@@ -127,9 +54,13 @@ module _ (groups : Groups) (l : Linked) (made : AreRewritten l) (loongarch : l.c
       let name = names.R_LARCH_TLS_DESC_PC_HI20 in
       let o = offset_of l i in
       let by = table groups l made loongarch i chosen below decided name tt is_name in
-      elim (of_page l.section o chosen by) [
-        | inl this ↦
-            let is = entry_by name l.section o chosen by.facts (entry kinds.PcalaToLu12i names.R_LARCH_TLS_LE_HI20 to_local_exec) this in
+      let which : IsEntry kinds.PcalaToLu12i names.R_LARCH_TLS_LE_HI20 name l.section o chosen ⊎ IsEntry kinds.NoOp names.R_LARCH_TLS_IE_PC_HI20 name l.section o chosen =
+      shown by
+      (λ short. isnt by.facts.is_relaxable (by.early refl).unmarked (short.meant.1.1.1.0),
+      (λ short. isnt by.facts.has_addresses (by.early refl).unplaced (short.meant.1.1.1.1.1.0.0),
+      (λ this. inl (entry_by name l.section o chosen by.facts _ this), (λ this. inr (entry_by name l.section o chosen by.facts _ this), (λ near. isnt by.facts.is_relaxable (by.early refl).unmarked (near.meant.1.0), tt))))) in
+      elim which [
+        | inl is ↦
             let page_is : IsPageOfDescriptor (word_of old) = subst IsPageOfDescriptor (word_same l.section o) (is.pattern.1) in
             let law : IsLawful l i (relaxations.LoongArch64 kinds.PcalaToLu12i) (law_of name (relaxations.LoongArch64 kinds.PcalaToLu12i)) =
             record {
@@ -141,8 +72,7 @@ module _ (groups : Groups) (l : Linked) (made : AreRewritten l) (loongarch : l.c
                   made_so;
             } in
             subst (λ k. IsLawful l i k (law_of name k)) (sym is.kind_is) law
-        | inr this ↦
-            let is = entry_by name l.section o chosen by.facts (entry kinds.NoOp names.R_LARCH_TLS_IE_PC_HI20 page_to_initial_exec) this in
+        | inr is ↦
             let page_is : IsPageOfDescriptor (word_of old) = subst IsPageOfDescriptor (word_same l.section o) (is.pattern.1) in
             let law : IsLawful l i (relaxations.LoongArch64 kinds.NoOp) (law_of name (relaxations.LoongArch64 kinds.NoOp)) =
             record {
@@ -162,9 +92,12 @@ module _ (groups : Groups) (l : Linked) (made : AreRewritten l) (loongarch : l.c
       let name = names.R_LARCH_TLS_DESC_PC_LO12 in
       let o = offset_of l i in
       let by = table groups l made loongarch i chosen below decided name tt is_name in
-      elim (of_low l.section o chosen by) [
-        | inl this ↦
-            let is = entry_by name l.section o chosen by.facts (entry kinds.LowToOri names.R_LARCH_TLS_LE_LO12 to_local_exec) this in
+      let which : IsEntry kinds.LowToOri names.R_LARCH_TLS_LE_LO12 name l.section o chosen ⊎ IsEntry kinds.AddiToLd names.R_LARCH_TLS_IE_PC_LO12 name l.section o chosen =
+      shown by
+      (λ short. isnt by.facts.has_addresses (by.early refl).unplaced (short.meant.1.1.1.1.1.0.0),
+      (λ this. inl (entry_by name l.section o chosen by.facts _ this), (λ this. inr (entry_by name l.section o chosen by.facts _ this), (λ near. isnt by.facts.is_relaxable (by.early refl).unmarked (near.meant.1.0), tt)))) in
+      elim which [
+        | inl is ↦
             let law : IsLawful l i (relaxations.LoongArch64 kinds.LowToOri) (law_of name (relaxations.LoongArch64 kinds.LowToOri)) =
             record {
               writable = low_offset;
@@ -175,8 +108,7 @@ module _ (groups : Groups) (l : Linked) (made : AreRewritten l) (loongarch : l.c
                   made_so;
             } in
             subst (λ k. IsLawful l i k (law_of name k)) (sym is.kind_is) law
-        | inr this ↦
-            let is = entry_by name l.section o chosen by.facts (entry kinds.AddiToLd names.R_LARCH_TLS_IE_PC_LO12 (to_initial_exec [])) this in
+        | inr is ↦
             let law : IsLawful l i (relaxations.LoongArch64 kinds.AddiToLd) (law_of name (relaxations.LoongArch64 kinds.AddiToLd)) =
             record {
               writable = entry_low;
@@ -192,7 +124,9 @@ module _ (groups : Groups) (l : Linked) (made : AreRewritten l) (loongarch : l.c
   pub load : HasLaw names.R_LARCH_TLS_DESC_LD
   load is_name =
       let name = names.R_LARCH_TLS_DESC_LD in
-      let is = load_goes l.section (offset_of l i) chosen (table groups l made loongarch i chosen below decided name tt is_name) in
+      let by = table groups l made loongarch i chosen below decided name tt is_name in
+      let is : IsEntry kinds.ReplaceWithNop names.R_LARCH_NONE name l.section (offset_of l i) chosen =
+      shown by (λ gone. isnt by.facts.is_relaxable (by.early refl).unmarked (gone.meant.1.1.0), (λ this. entry_by name l.section (offset_of l i) chosen by.facts _ this, tt)) in
       record {
         writable = is.pattern.0;
         left = left_by l made i chosen below decided kinds.ReplaceWithNop names.R_LARCH_NONE name is;
@@ -205,7 +139,9 @@ module _ (groups : Groups) (l : Linked) (made : AreRewritten l) (loongarch : l.c
   pub call : HasLaw names.R_LARCH_TLS_DESC_CALL
   call is_name =
       let name = names.R_LARCH_TLS_DESC_CALL in
-      let is = call_goes l.section (offset_of l i) chosen (table groups l made loongarch i chosen below decided name tt is_name) in
+      let by = table groups l made loongarch i chosen below decided name tt is_name in
+      let is : IsEntry kinds.ReplaceWithNop names.R_LARCH_NONE name l.section (offset_of l i) chosen =
+      shown by (λ gone. isnt by.facts.is_relaxable (by.early refl).unmarked (gone.meant.1.1.0), (λ this. entry_by name l.section (offset_of l i) chosen by.facts _ this, tt)) in
       record {
         writable = is.pattern.0;
         left = left_by l made i chosen below decided kinds.ReplaceWithNop names.R_LARCH_NONE name is;

@@ -2,9 +2,9 @@
 use Rattle.linker_final.proofs.Imports.{◌≡◌, ℕ, ℤ, ◌+◌, ◌<◌, drop, List, refl, sym, ap, subst, ◌∙◌, arith, inl, inr, IsSomeAnd, slice_get, field, IsApplied, entry, IsNameOf, r_type_of, loongarch_name, loongarch_row, low_row, rounded_row, paged_row, place_pages, entry_pages, value_of, Relative, AbsoluteLowPart, GotRelative, RelocationKindInfo, Choice, LoongArch64Relocation, isnt, IsRewritten, IsLd, decision_at, RelaxContext, Rewritten, relocation_in, operands_with, Addresses, Symbol, Rela, relaxation_rewrite, Relaxation, LoongArch64, UntouchedInstructions, Linked, IsLinked, IsRewrittenByNoOther, count, instruction_at, IsLoad, LoadsTheSame}
 use Rattle.linker_elf.specs.declared.loongarch64.relocations.LoongArch64Relocation.TheVariants as names
 use Rattle.linker_final.proofs.InstructionFields.{of_bits}
-use Rattle.linker_final.proofs.LoongArchChosen.{IsByTable, IsEntry, by_table, entry_by}
+use Rattle.linker_final.proofs.LoongArchChosen.{IsEntry, by_table, entry_by, shown}
 use Rattle.linker_final.proofs.LoongArchPairs.{AreOfLoad, load_of}
-use Rattle.linker_final.proofs.LoongArchWritten.{IsAfter, applied_there, becomes}
+use Rattle.linker_final.proofs.LoongArchWritten.{IsAfter, applied_after_it, becomes, named_after}
 use Rattle.linker_final.proofs.Written.{rela, stays, with_operands, word_same}
 use Rattle.linker_laws.specs.LoongArchGroups.{Groups}
 use Rattle.linker_laws.specs.LoongArchRewriteLaws.{IsPair, following, word_of}
@@ -44,39 +44,6 @@ low_value : (addresses : Addresses) (symbol : Symbol) (r : Rela) (got offset cod
 low_value addresses symbol r got offset code index addend same =
     ap (λ x. value_of low_after.row (operands_with LoongArch64 addresses low_after.row symbol (rela offset code index x) 0)) (sym same)
 
--- ---- entries
-
-page_entry : (section : List ℕ) (o : ℕ) (chosen : Choice Relaxation ℕ)
-    → IsByTable names.R_LARCH_GOT_PC_HI20 section o chosen
-    → IsEntry kinds.NoOp names.R_LARCH_PCALA_HI20 names.R_LARCH_GOT_PC_HI20 section o chosen
-page_entry section o chosen by =
-    elim by.one [
-      | inl near ↦ isnt by.facts.is_relaxable (by.early refl).unmarked (near.meant.1.1.1.0)
-      | inr rest ↦ elim rest [
-        | inl this ↦
-            entry_by names.R_LARCH_GOT_PC_HI20 section o chosen by.facts
-            (entry kinds.NoOp names.R_LARCH_PCALA_HI20 (bound_by_pages 0)) this
-        | inr nothing ↦ absurd nothing
-      ]
-    ]
-
-low_entry : (section : List ℕ) (o : ℕ) (chosen : Choice Relaxation ℕ)
-    → IsByTable names.R_LARCH_GOT_PC_LO12 section o chosen
-    → IsEntry kinds.LdToAddi names.R_LARCH_PCALA_LO12 names.R_LARCH_GOT_PC_LO12 section o chosen
-low_entry section o chosen by =
-    elim by.one [
-      | inl near ↦ isnt by.facts.is_relaxable (by.early refl).unmarked (near.meant.1.1.1.0)
-      | inr rest ↦ elim rest [
-        | inl this ↦
-            entry_by names.R_LARCH_GOT_PC_LO12 section o chosen by.facts
-            (entry kinds.LdToAddi names.R_LARCH_PCALA_LO12 (bound_by_pages 4)) this
-        | inr last ↦ elim last [
-          | inl of_entry ↦ isnt by.facts.is_relaxable (by.early refl).unmarked (of_entry.meant.1.0)
-          | inr nothing ↦ absurd nothing
-        ]
-      ]
-    ]
-
 -- ---- a pair
 
 module _ (groups : Groups) (l : Linked) (linked : IsLinked l) (loongarch : l.context.architecture ≡ LoongArch64)
@@ -89,13 +56,16 @@ module _ (groups : Groups) (l : Linked) (linked : IsLinked l) (loongarch : l.con
 
   page : IsEntry kinds.NoOp names.R_LARCH_PCALA_HI20 names.R_LARCH_GOT_PC_HI20 l.section first.offset of.page_chosen
   page =
-      page_entry l.section first.offset of.page_chosen
-      (by_table l linked.decided loongarch i of.page_chosen of.page_below of.page_decided names.R_LARCH_GOT_PC_HI20 tt of.page)
+      let by = by_table l linked.decided loongarch i of.page_chosen of.page_below of.page_decided names.R_LARCH_GOT_PC_HI20 tt of.page in
+      shown by (λ near. isnt by.facts.is_relaxable (by.early refl).unmarked (near.meant.1.1.1.0), (λ this. entry_by names.R_LARCH_GOT_PC_HI20 l.section first.offset of.page_chosen by.facts _ this, tt))
 
   low : IsEntry kinds.LdToAddi names.R_LARCH_PCALA_LO12 names.R_LARCH_GOT_PC_LO12 l.section second.offset of.low_chosen
   low =
-      low_entry l.section second.offset of.low_chosen
-      (by_table l linked.decided loongarch j of.low_chosen of.low_below of.low_decided names.R_LARCH_GOT_PC_LO12 tt of.low)
+      let by = by_table l linked.decided loongarch j of.low_chosen of.low_below of.low_decided names.R_LARCH_GOT_PC_LO12 tt of.low in
+      shown by
+      (λ near. isnt by.facts.is_relaxable (by.early refl).unmarked (near.meant.1.1.1.0),
+      (λ this. entry_by names.R_LARCH_GOT_PC_LO12 l.section second.offset of.low_chosen by.facts _ this,
+      (λ of_entry. isnt by.facts.is_relaxable (by.early refl).unmarked (of_entry.meant.1.0), tt)))
 
   pub loads_the_same : LoadsTheSame l i got_row
   loads_the_same symbol is_symbol got c k s loads fits page_stands low_stands =
@@ -120,20 +90,21 @@ module _ (groups : Groups) (l : Linked) (linked : IsLinked l) (loongarch : l.con
       (operands_with LoongArch64 l.addresses page_after.row symbol (rela o page_code first.symbol first.addend) 0)
       w (instruction_at l.section o) (instruction_at l.final o) refl
       (subst (λ xs. IsApplied page_after.row (operands_with LoongArch64 l.addresses page_after.row symbol (rela o page_code first.symbol first.addend) 0) xs (instruction_at l.final o)) stayed
-      (applied_there l linked loongarch i of.page_chosen of.page_below of.page_decided (left.0) kinds.NoOp page.kind_is
-      names.R_LARCH_PCALA_HI20 page.r_type_is page_after symbol 0 refl is_symbol)) in
+      (applied_after_it l linked loongarch i of.page_below names.R_LARCH_PCALA_HI20 page_after
+      (named_after l linked.made i of.page_chosen of.page_below of.page_decided kinds.NoOp page.kind_is names.R_LARCH_PCALA_HI20 page.r_type_is)
+      (left.0) symbol 0 refl is_symbol)) in
       let low_written : IsApplied low_after.row (following 4 w) (instruction_at l.rewritten (o + 4)) (instruction_at l.final (o + 4)) =
       subst (λ n. IsApplied low_after.row (following 4 w) (instruction_at l.rewritten n) (instruction_at l.final n)) next
       (with_operands low_after.row
       (operands_with LoongArch64 l.addresses low_after.row symbol (rela second.offset low_r_type second.symbol second.addend) 0)
       (following 4 w) (instruction_at l.rewritten second.offset) (instruction_at l.final second.offset)
       (low_value l.addresses symbol first got second.offset low_r_type second.symbol second.addend of.same_addend)
-      (applied_there l linked loongarch j of.low_chosen of.low_below of.low_decided (left.1) kinds.LdToAddi low.kind_is
-      names.R_LARCH_PCALA_LO12 low.r_type_is low_after symbol 0 refl
-      (ap (slice_get l.symbols) of.same_symbol ∙ is_symbol))) in
+      (applied_after_it l linked loongarch j of.low_below names.R_LARCH_PCALA_LO12 low_after
+      (named_after l linked.made j of.low_chosen of.low_below of.low_decided kinds.LdToAddi low.kind_is names.R_LARCH_PCALA_LO12 low.r_type_is)
+      (left.1) symbol 0 refl (ap (slice_get l.symbols) of.same_symbol ∙ is_symbol))) in
       let added : IsRewritten kinds.LdToAddi (instruction_at l.section (o + 4)) (instruction_at l.rewritten (o + 4)) =
       subst (λ n. IsRewritten kinds.LdToAddi (instruction_at l.section n) (instruction_at l.rewritten n)) next
-      (becomes l linked.done j of.low_chosen of.low_below of.low_decided kinds.LdToAddi low.kind_is
+      (becomes l linked.made j of.low_chosen of.low_below of.low_decided kinds.LdToAddi low.kind_is
       (λ word. 0x02c00000 + field word 0 22) refl) in
       groups.got c w w k s (instruction_at l.section o) (instruction_at l.section (o + 4)) (instruction_at l.rewritten (o + 4))
       together loads added loads.small fits

@@ -3,7 +3,7 @@ use Rattle.linker_final.proofs.Imports.{◌≡◌, ℕ, ℤ, ◌+◌, ◌-◌, �
 use Rattle.linker_elf.specs.declared.elf.RelocationKind.TheVariants.{None as NoValue}
 use Rattle.linker_elf.specs.declared.loongarch64.relocations.LoongArch64Relocation.TheVariants as names
 use Rattle.linker_final.proofs.InstructionFields.{IsOfInstruction}
-use Rattle.linker_final.proofs.Written.{IsRowOf, applied_after, by_name, rela, unwritten_without, with_operands}
+use Rattle.linker_final.proofs.Written.{IsRowOf, applied_after, by_name, made_there, relocation_named, unwritten_without, with_operands}
 use Rattle.linker_utils.specs.declared.loongarch64.rewrites.RewriteKind.{RewriteKind}
 use Rattle.linker_utils.specs.declared.loongarch64.rewrites.RewriteKind.TheVariants as kinds
 use Rattle.linker_utils.specs.declared.architecture.Relaxation.TheVariants as relaxations
@@ -33,33 +33,11 @@ row_of architecture loongarch name named row is found there =
 -- no rewrite moves the offset or changes the addend
 unmoved : (kind : RewriteKind) (o : ℕ) → offset_after (loongarch_rewrite kind) o ≡ o
 unmoved kinds.NoOp o = refl
-unmoved kinds.ReplaceWithNop o = refl
-unmoved kinds.LdToAddi o = refl
-unmoved kinds.AddiToLd o = refl
-unmoved kinds.PcalaToPcaddi o = refl
-unmoved kinds.PcalaToLu12i o = refl
-unmoved kinds.CallToBl o = refl
-unmoved kinds.CallToB o = refl
-unmoved kinds.LowToOri o = refl
-unmoved kinds.LowToOriZero o = refl
-unmoved kinds.BaseToTp o = refl
-unmoved kinds.Delete o = refl
-unmoved kinds.DeleteAddi o = refl
+unmoved kind o = refl
 
 same_addend : (kind : RewriteKind) (a : ℤ) → addend_after (loongarch_rewrite kind) a ≡ a
 same_addend kinds.NoOp a = refl
-same_addend kinds.ReplaceWithNop a = refl
-same_addend kinds.LdToAddi a = refl
-same_addend kinds.AddiToLd a = refl
-same_addend kinds.PcalaToPcaddi a = refl
-same_addend kinds.PcalaToLu12i a = refl
-same_addend kinds.CallToBl a = refl
-same_addend kinds.CallToB a = refl
-same_addend kinds.LowToOri a = refl
-same_addend kinds.LowToOriZero a = refl
-same_addend kinds.BaseToTp a = refl
-same_addend kinds.Delete a = refl
-same_addend kinds.DeleteAddi a = refl
+same_addend kind a = refl
 
 -- the relocation that is left has another name
 pub named_after : (l : Linked) → AreRewritten l → (i : ℕ) (chosen : Choice Relaxation ℕ) → i < count l
@@ -68,14 +46,8 @@ pub named_after : (l : Linked) → AreRewritten l → (i : ℕ) (chosen : Choice
     → (name : LoongArch64Relocation) → chosen.relocation ≡ r_type_of (loongarch_name name)
     → relocation_in l.relocations_after i ≡ named_as name (relocation_in l.relocations i)
 named_after l made i chosen below decided kind kind_is name r_type_is =
-    let r = relocation_in l.relocations i in
-    let code = r_type_of (loongarch_name name) in
-    made.relocations i below
-    ∙ (ap (λ d. relocation_after d r) decided
-    ∙ (ap (λ k. rela (offset_after (relaxation_rewrite k) r.offset) chosen.relocation r.symbol (addend_after (relaxation_rewrite k) r.addend)) kind_is
-    ∙ (ap (λ c. rela (offset_after (loongarch_rewrite kind) r.offset) c r.symbol (addend_after (loongarch_rewrite kind) r.addend)) r_type_is
-    ∙ (ap (λ x. rela x code r.symbol (addend_after (loongarch_rewrite kind) r.addend)) (unmoved kind r.offset)
-    ∙ ap (λ x. rela r.offset code r.symbol x) (same_addend kind r.addend)))))
+    relocation_named l made i chosen below decided (loongarch_rewrite kind) (r_type_of (loongarch_name name))
+    (ap relaxation_rewrite kind_is) r_type_is (unmoved kind) (same_addend kind)
 
 module _ (l : Linked) (linked : IsLinked l) (loongarch : l.context.architecture ≡ LoongArch64) (i : ℕ)
     (below : i < count l) (name : LoongArch64Relocation) (a : IsAfter name)
@@ -111,41 +83,16 @@ module _ (l : Linked) (linked : IsLinked l) (loongarch : l.context.architecture 
       (instruction_at l.rewritten r.offset) (instruction_at l.final r.offset) same
       (applied_after_it symbol got taken is_symbol))
 
--- the relocation of a rewrite's name is applied to what it leaves
-pub applied_there : (l : Linked) (linked : IsLinked l) (loongarch : l.context.architecture ≡ LoongArch64) (i : ℕ)
-    (chosen : Choice Relaxation ℕ) (below : i < count l)
-    (decided : decision_at l.decisions i ≡ Rewritten chosen) (left : UntouchedInstruction l i)
-    (kind : RewriteKind) (kind_is : chosen.kind ≡ relaxations.LoongArch64 kind)
-    (name : LoongArch64Relocation) (r_type_is : chosen.relocation ≡ r_type_of (loongarch_name name))
-    (a : IsAfter name) (symbol : Symbol) (got : ℕ)
-    → operands_in LoongArch64 l.addresses a.row (named_as name (relocation_in l.relocations i)) (Some symbol)
-    ≡ Ok (operands_with LoongArch64 l.addresses a.row symbol (named_as name (relocation_in l.relocations i)) got)
-    → slice_get l.symbols (relocation_in l.relocations i).symbol ≡ Some symbol
-    → IsApplied a.row
-    (operands_with LoongArch64 l.addresses a.row symbol (named_as name (relocation_in l.relocations i)) got)
-    (instruction_at l.rewritten (relocation_in l.relocations i).offset) (instruction_at l.final (relocation_in l.relocations i).offset)
-applied_there l linked loongarch i chosen below decided left kind kind_is name r_type_is a =
-    applied_after_it l linked loongarch i below name a
-    (named_after l linked.made i chosen below decided kind kind_is name r_type_is) left
-
 -- an instruction that becomes another
-pub becomes : (l : Linked) → AreDone l.relocations l.decisions l.section l.rewritten (count l)
-    → (i : ℕ) (chosen : Choice Relaxation ℕ) → i < count l → decision_at l.decisions i ≡ Rewritten chosen
+pub becomes : (l : Linked) → AreRewritten l → (i : ℕ) (chosen : Choice Relaxation ℕ) → i < count l
+    → decision_at l.decisions i ≡ Rewritten chosen
     → (kind : RewriteKind) → chosen.kind ≡ relaxations.LoongArch64 kind
     → (new : ℕ → ℕ) → loongarch_rewrite kind ≡ Some (rewrites_word new)
     → IsRewritten kind (instruction_at l.section (relocation_in l.relocations i).offset) (instruction_at l.rewritten (relocation_in l.relocations i).offset)
-becomes l done i chosen below decided kind kind_is new is =
+becomes l made i chosen below decided kind kind_is new is =
     let o = (relocation_in l.relocations i).offset in
-    let r = rewrites_word new in
-    let made : IsMade (Some r) o l.section l.rewritten =
-    subst (λ q. IsMade q o l.section l.rewritten) (ap relaxation_rewrite kind_is ∙ is)
-    (subst (λ d. IsDone d o l.section l.rewritten) decided (done i below)) in
-    let here : instruction_at l.rewritten o ≡ r.bytes (instruction_at l.section o) =
-    subst (λ n. instruction_at l.rewritten n ≡ r.bytes (instruction_at l.section n)) (let e : o - 0 ≡ o = omega arith in e) made in
-    let begins : BeginsRewritten r (instruction_at l.section o) (instruction_at l.rewritten o) =
-    take-take 4 4 (drop o l.rewritten) (omega arith)
-    ∙ (here ∙ ap r.bytes (sym (take-take 4 4 (drop o l.section) (omega arith)))) in
-    subst (λ q. IsSomeAnd q (λ made. BeginsRewritten made (instruction_at l.section o) (instruction_at l.rewritten o))) (sym is) begins
+    subst (λ q. IsSomeAnd q (λ made. BeginsRewritten made (instruction_at l.section o) (instruction_at l.rewritten o))) (sym is)
+    (made_there l made i chosen below decided (rewrites_word new) (ap relaxation_rewrite kind_is ∙ is) refl)
 
 -- ---- instructions without a field
 

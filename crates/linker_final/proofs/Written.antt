@@ -196,6 +196,15 @@ module _ (l : Linked) (rewriting : AreRewritten l) (i : ℕ) (chosen : Choice Re
       ∙ (ap (λ q. rela (offset_after q r.offset) chosen.relocation r.symbol (addend_after q r.addend)) is
       ∙ ap (λ x. rela (offset_after rewrite r.offset) x r.symbol (addend_after rewrite r.addend)) r_type_is))
 
+  -- where neither the offset nor the addend changes
+  pub relocation_named : (rewrite : Option Rewrite) (code : ℕ) → relaxation_rewrite chosen.kind ≡ rewrite
+      → chosen.relocation ≡ code → ((o : ℕ) → offset_after rewrite o ≡ o) → ((a : ℤ) → addend_after rewrite a ≡ a)
+      → relocation_in l.relocations_after i ≡ rela r.offset code r.symbol r.addend
+  relocation_named rewrite code is r_type_is unmoved same_addend =
+      relocation_is rewrite code is r_type_is
+      ∙ (ap (λ x. rela x code r.symbol (addend_after rewrite r.addend)) (unmoved r.offset)
+      ∙ ap (λ x. rela r.offset code r.symbol x) (same_addend r.addend))
+
   -- what a rewrite leaves of its window, which begins at the relocation
   pub made_there : (made : Rewrite) → relaxation_rewrite chosen.kind ≡ Some made → made.back ≡ 0
       → take made.len (take made.len (drop r.offset l.rewritten))
