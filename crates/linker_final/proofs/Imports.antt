@@ -74,7 +74,7 @@ pub use Rattle.linker_laws.specs.X86Groups.{BlockOffsets, LeadToTheSame, reg_aft
 pub use Rattle.linker_laws.specs.X86RewriteLaws.{IsBefore, IsRelocatedBy, address, thread_offset}
 pub use Rattle.linker_rewriting.proofs.AArch64Sequences.{in_phase, named_at, of_group, of_option, scope_there, sequences_are_whole, unlabelled}
 pub use Rattle.linker_rewriting.proofs.Chosen.{IsChosen, choice_of, chosen_at, chosen_or_labelled}
-pub use Rattle.linker_rewriting.proofs.Entries.{IsOfApplied, IsOfEntry, IsOfOne, of_first, of_one}
+pub use Rattle.linker_rewriting.proofs.Entries.{IsOfApplied, IsOfEntry, IsOfOne, of_entry, of_first, of_one}
 pub use Rattle.linker_rewriting.proofs.LabelGroups.{one_index, ppc64_none, x86_64_none}
 pub use Rattle.linker_rewriting.proofs.PreLayout.{AreEarly, IsListed, are_early, isnt, listed_at}
 pub use Rattle.linker_rewriting.specs.Candidates.{IsCandidate, IsCandidateWith}

@@ -5,37 +5,27 @@ use Rattle.linker_elf.specs.declared.riscv64.relocations.RiscVRelocation.TheVari
 use Rattle.linker_final.proofs.InstructionFields.{of_bits}
 use Rattle.linker_final.proofs.RiscVChosen.{IsOfSome, becomes_of, of_some}
 use Rattle.linker_final.proofs.RiscVParts.{MadePart, has_named, part_alone, part_by, part_of}
-use Rattle.linker_final.proofs.RiscVWritten.{IsOwn}
+use Rattle.linker_final.proofs.RiscVWritten.{IsOwn, own_row}
 use Rattle.linker_final.specs.SectionRuns.{offset_of}
 use Rattle.linker_utils.specs.declared.riscv64.rewrites.RewriteKind.TheVariants as kinds
 
 ld_inside : (section : List ℕ) (o : ℕ) (chosen : Choice Relaxation ℕ)
     → IsOfSome names.R_RISCV_PCREL_LO12_I (riscv_entries names.R_RISCV_PCREL_LO12_I) section o chosen
     → o + 4 ≤ length section
-ld_inside section o chosen (inl this) = this.pattern.0
-ld_inside section o chosen (inr (inl this)) = this.pattern.0
-ld_inside section o chosen (inr (inr (inl this))) = this.pattern.0
+ld_inside section o chosen (inl this) = this.meant.0
+ld_inside section o chosen (inr (inl this)) = this.meant.0
+ld_inside section o chosen (inr (inr (inl this))) = this.meant.0
 ld_inside section o chosen (inr (inr (inr nothing))) = absurd nothing
 
 -- ---- rows
 
 abbrev high_row : IsOwn names.R_RISCV_HI20
 high_row =
-    record {
-      after = record { row = pair_row Absolute 32 UType; is = refl; named = tt };
-      of = of_bits refl refl refl refl refl (λ o. tt);
-      is_row = refl;
-      no_entry = λ addresses r symbol. refl;
-    }
+    own_row names.R_RISCV_HI20 (pair_row Absolute 32 UType) refl tt (of_bits refl refl refl refl refl (λ o. tt)) refl (λ addresses r symbol. refl)
 
 abbrev low_row : IsOwn names.R_RISCV_LO12_I
 low_row =
-    record {
-      after = record { row = pair_row Absolute 32 IType; is = refl; named = tt };
-      of = of_bits refl refl refl refl refl (λ o. tt);
-      is_row = refl;
-      no_entry = λ addresses r symbol. refl;
-    }
+    own_row names.R_RISCV_LO12_I (pair_row Absolute 32 IType) refl tt (of_bits refl refl refl refl refl (λ o. tt)) refl (λ addresses r symbol. refl)
 
 -- ---- laws
 

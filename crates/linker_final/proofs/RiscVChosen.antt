@@ -1,5 +1,6 @@
 -- The rewrite that is chosen for a relocation of RISC-V.
 use Rattle.linker_final.proofs.Imports.{◌≡◌, ℕ, ◌+◌, ◌<◌, ◌≤◌, length, Bool, true, false, List, [], ◌∷◌, refl, sym, ap, subst, ◌∙◌, inl, inr, ◌⊎◌, Option, Some, None, choice, IsNamed, IsNameOf, r_type_of, riscv_name, Choice, LinkFacts, RiscVRelocation, choice_of, chosen_or_labelled, IsOfApplied, of_first, AppliesToRiscV, HasPattern, RiscVEntry, riscv_entries, IsCandidateWith, IsScopeIn, Labelled, Architecture, decision_at, RelaxContext, Decision, RewrittenWithSymbol, Rewritten, Subject, Phase, relocation_in, Rela, IsArchitectureChoice, relaxation_no_op, Relaxation, RiscV, AreRewritten, Linked, count, IsRiscVChoice, IsLabelDecision, label_decision, rewritten_by, takes_symbol, one_index, IsHighIn, IsLabelCandidate, label_facts, IsUnchanged}
+use Rattle.linker_rewriting.proofs.Entries.{IsOfEntry as IsOfEntryIn, IsOfOne as IsOfOneIn, of_entry as of_entry_in, of_one}
 use Rattle.linker_utils.specs.declared.riscv64.rewrites.RewriteKind.{RewriteKind}
 use Rattle.linker_utils.specs.declared.riscv64.rewrites.RewriteKind.TheVariants as kinds
 use Rattle.linker_utils.specs.declared.architecture.Relaxation.TheVariants as relaxations
@@ -114,59 +115,22 @@ of_subject l made n chosen subject below decided high is_high =
 
 -- ---- the entry
 
--- the choice is that of an entry of the name, which applies
-pub record IsOfTable (name : RiscVRelocation) (section : List ℕ) (o : ℕ) (facts : LinkFacts) (chosen : Choice Relaxation ℕ)
-    : Type 0 where
-  pub named : Choice RewriteKind RiscVRelocation
-  pub kind_is : chosen.kind ≡ relaxations.RiscV named.kind
-  pub r_type_is : chosen.relocation ≡ r_type_of (riscv_name named.relocation)
-  pub applies : IsOfApplied (AppliesToRiscV (HasPattern name) section o facts) (riscv_entries name) named
+abbrev pub IsOfEntry : RiscVRelocation → RiscVEntry → List ℕ → ℕ → Choice Relaxation ℕ → Type 0
+IsOfEntry name e section o = IsOfEntryIn riscv_name relaxations.RiscV (λ (e : RiscVEntry). HasPattern name e.kind section o) e
 
+abbrev pub IsOfSome : RiscVRelocation → List RiscVEntry → List ℕ → ℕ → Choice Relaxation ℕ → Type 0
+IsOfSome name es section o = IsOfOneIn riscv_name relaxations.RiscV (λ (e : RiscVEntry). HasPattern name e.kind section o) es
+
+-- of one of the name, which applies
 pub of_table : (architecture : Architecture) → architecture ≡ RiscV → (code : ℕ) (section : List ℕ) (o : ℕ)
     (facts : LinkFacts) (chosen : Choice Relaxation ℕ) → IsArchitectureChoice architecture code section o facts chosen
     → ¬ IsUnchanged code chosen → (name : RiscVRelocation) → IsNamed (riscv_name name) → IsNameOf riscv_name code name
-    → IsOfTable name section o facts chosen
-of_table architecture riscv code section o facts chosen is changed name named is_name =
-    let h = subst (λ x. IsArchitectureChoice x code section o facts chosen) riscv is in
-    let same : h.name ≡ name = h.is_name.named name named is_name.r_type_is in
-    record {
-      named = h.named;
-      kind_is = h.kind_is;
-      r_type_is = h.r_type_is;
-      applies = of_first (AppliesToRiscV (HasPattern name) section o facts) (riscv_entries name) (choice kinds.NoOp name) h.named
-          (λ e. changed (
-            subst relaxation_no_op (sym (h.kind_is ∙ ap (λ (q : Choice RewriteKind RiscVRelocation). relaxations.RiscV q.kind) e)) refl,
-            h.r_type_is ∙ (ap (λ (q : Choice RewriteKind RiscVRelocation). r_type_of (riscv_name q.relocation)) e ∙ is_name.r_type_is),
-          ))
-          (subst (λ x. IsRiscVChoice x section o facts h.named) same h.is_choice);
-    }
-
-pub record IsOfEntry (name : RiscVRelocation) (e : RiscVEntry) (section : List ℕ) (o : ℕ)
-    (chosen : Choice Relaxation ℕ) : Type 0 where
-  pub kind_is : chosen.kind ≡ relaxations.RiscV e.kind
-  pub r_type_is : chosen.relocation ≡ r_type_of (riscv_name e.relocation)
-  pub pattern : HasPattern name e.kind section o
-
-abbrev pub IsOfSome : RiscVRelocation → List RiscVEntry → List ℕ → ℕ → Choice Relaxation ℕ → Type 0
-IsOfSome name [] section o chosen = ⊥
-IsOfSome name (e ∷ es) section o chosen =
-    IsOfEntry name e section o chosen ⊎ IsOfSome name es section o chosen
-
-of_named : (name : RiscVRelocation) (section : List ℕ) (o : ℕ) (facts : LinkFacts)
-    (chosen : Choice Relaxation ℕ) (named : Choice RewriteKind RiscVRelocation)
-    → chosen.kind ≡ relaxations.RiscV named.kind
-    → chosen.relocation ≡ r_type_of (riscv_name named.relocation) → (es : List RiscVEntry)
-    → IsOfApplied (AppliesToRiscV (HasPattern name) section o facts) es named
-    → IsOfSome name es section o chosen
-of_named name section o facts chosen named kind_is r_type_is [] nothing = absurd nothing
-of_named name section o facts chosen named kind_is r_type_is (e ∷ es) (inl this) =
-    inl (record {
-      kind_is = kind_is ∙ ap (λ (q : Choice RewriteKind RiscVRelocation). relaxations.RiscV q.kind) (this.1);
-      r_type_is = r_type_is ∙ ap (λ (q : Choice RewriteKind RiscVRelocation). r_type_of (riscv_name q.relocation)) (this.1);
-      pattern = this.0.0;
-    })
-of_named name section o facts chosen named kind_is r_type_is (e ∷ es) (inr other) =
-    inr (of_named name section o facts chosen named kind_is r_type_is es other)
+    → (IsMeant : RiscVEntry → Type 0) → ((e : RiscVEntry) → AppliesToRiscV (HasPattern name) section o facts e → IsMeant e)
+    → IsOfOneIn riscv_name relaxations.RiscV IsMeant (riscv_entries name) chosen
+of_table architecture riscv code section o facts chosen is changed name named is_name IsMeant meant =
+    of_one riscv_name relaxations.RiscV IsMeant chosen (λ n. AppliesToRiscV (HasPattern n) section o facts)
+    riscv_entries kinds.NoOp refl code name named is_name meant
+    (subst (λ x. IsArchitectureChoice x code section o facts chosen) riscv is) changed
 
 -- ---- those of one kind
 
@@ -197,7 +161,7 @@ becomes_by name after kind section o chosen is (e ∷ es) each (inl this) =
     elim (each.0) [
       | inl isnt ↦ absurd (isnt (ap (kind_in kind) (sym is ∙ this.kind_is)))
       | inr so ↦
-          record { r_type_is = this.r_type_is ∙ ap (λ r. r_type_of (riscv_name r)) (so.0); inside = so.1 section o this.pattern }
+          record { r_type_is = this.r_type_is ∙ ap (λ r. r_type_of (riscv_name r)) (so.0); inside = so.1 section o this.meant }
     ]
 becomes_by name after kind section o chosen is (e ∷ es) each (inr other) =
     becomes_by name after kind section o chosen is es (each.1) other
@@ -214,17 +178,14 @@ module _ (l : Linked) (made : AreRewritten l) (riscv : l.context.architecture �
     pub of_some : IsOfSome name (riscv_entries name) l.section r.offset chosen
     of_some =
         let c = anyhow l made i decision chosen below decided by in
-        let h = of_table l.context.architecture riscv r.r_type l.section r.offset c.facts chosen c.is_choice c.changed name named is_name in
-        of_named name l.section r.offset c.facts chosen h.named h.kind_is h.r_type_is (riscv_entries name) h.applies
+        of_table l.context.architecture riscv r.r_type l.section r.offset c.facts chosen c.is_choice c.changed name named is_name
+        (λ e. HasPattern name e.kind l.section r.offset) (λ e applies. applies.0)
 
     -- the only one
     pub of_entry : (e : RiscVEntry) → riscv_entries name ≡ (e ∷ [])
         → IsOfEntry name e l.section r.offset chosen
     of_entry e entries =
-        elim (subst (λ es. IsOfSome name es l.section r.offset chosen) entries of_some) [
-          | inl this ↦ this
-          | inr nothing ↦ absurd nothing
-        ]
+        of_entry_in riscv_name relaxations.RiscV (λ e. HasPattern name e.kind l.section r.offset) chosen e (riscv_entries name) entries of_some
 
     pub becomes_of : (after : RiscVRelocation) (kind : RewriteKind) → chosen.kind ≡ relaxations.RiscV kind
         → EachBecomes name kind after (riscv_entries name) → Becomes after l.section r.offset chosen

@@ -5,18 +5,13 @@ use Rattle.linker_elf.specs.declared.riscv64.relocations.RiscVRelocation.TheVari
 use Rattle.linker_final.proofs.InstructionFields.{of_bits}
 use Rattle.linker_final.proofs.RiscVOffsets.{low_i}
 use Rattle.linker_final.proofs.RiscVParts.{MadePart, has_named, part_by}
-use Rattle.linker_final.proofs.RiscVWritten.{IsOwn}
+use Rattle.linker_final.proofs.RiscVWritten.{IsOwn, own_row}
 use Rattle.linker_final.specs.SectionRuns.{offset_of}
 use Rattle.linker_utils.specs.declared.riscv64.rewrites.RewriteKind.TheVariants as kinds
 
 abbrev high_tp : IsOwn names.R_RISCV_TPREL_HI20
 high_tp =
-    record {
-      after = record { row = pair_row TpOff 32 UType; is = refl; named = tt };
-      of = of_bits refl refl refl refl refl (λ o. tt);
-      is_row = refl;
-      no_entry = λ addresses r symbol. refl;
-    }
+    own_row names.R_RISCV_TPREL_HI20 (pair_row TpOff 32 UType) refl tt (of_bits refl refl refl refl refl (λ o. tt)) refl (λ addresses r symbol. refl)
 
 module _ (groups : Groups) (l : Linked) (rewriting : AreRewritten l) (riscv : l.context.architecture ≡ RiscV) (high : ℕ)
   where

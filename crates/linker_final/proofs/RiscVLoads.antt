@@ -56,7 +56,7 @@ module _ (groups : Groups) (l : Linked) (rewriting : AreRewritten l) (riscv : l.
   auipc_there : instruction_at l.rewritten o ≡ instruction_at l.section o
   auipc_there =
       stays l rewriting i of.high_chosen of.first_below of.high_decided (ap relaxation_rewrite high_entry.kind_is) alone
-      (high_entry.pattern.0)
+      (high_entry.meant.0)
 
   pub high : IsPart l names.R_RISCV_PCREL_HI20 i i
   high =
@@ -64,22 +64,22 @@ module _ (groups : Groups) (l : Linked) (rewriting : AreRewritten l) (riscv : l.
         below = of.first_below;
         left = rewritten_after l rewriting i of.high_chosen of.first_below kinds.NoOp names.R_RISCV_PCREL_HI20
             high_entry.kind_is high_entry.r_type_is (λ o. refl) (λ a. refl) of.high_decided;
-        inside = high_entry.pattern.0;
+        inside = high_entry.meant.0;
         bytes = λ linked. subst AreBytes (sym auipc_there) (bytes_there l.section o linked.section_bytes);
       }
 
   pub low : MadePart l names.R_RISCV_PCREL_LO12_I j j kinds.LdToAddi (instruction_at l.section (offset_of l j))
   low =
       part_alone l rewriting kinds.LdToAddi load_to_addi refl j of.low_chosen of.second_below of.low_decided
-      low_entry.kind_is names.R_RISCV_PCREL_LO12_I low_entry.r_type_is (low_entry.pattern.0)
+      low_entry.kind_is names.R_RISCV_PCREL_LO12_I low_entry.r_type_is (low_entry.meant.0)
 
   pub loads : (new : New l) → law l i (load j of alone) new
   loads new over not_zero c x y k kind s small new_small at holds are old old_ld has =
       let auipc = instruction_at l.section o in
       let ld = instruction_at l.section (o + 4) in
-      let is_auipc : IsAuipc (word_of auipc) = subst IsAuipc (word_same l.section o) (high_entry.pattern.1) in
+      let is_auipc : IsAuipc (word_of auipc) = subst IsAuipc (word_same l.section o) (high_entry.meant.1) in
       let is_ld : IsLd (word_of ld) =
-      subst (λ n. IsLd (word_of (instruction_at l.section n))) of.next (subst IsLd (word_same l.section (offset_of l j)) (low_entry.pattern.1)) in
+      subst (λ n. IsLd (word_of (instruction_at l.section n))) of.next (subst IsLd (word_same l.section (offset_of l j)) (low_entry.meant.1)) in
       let together : IsLoadFromGot (word_of auipc) (word_of ld) =
       record { first = is_auipc; second = is_ld; base = over; not_zero = not_zero } in
       let long : length ld ≡ 4 = subst (λ n. length (instruction_at l.section n) ≡ 4) of.next low.long in

@@ -6,7 +6,7 @@ use Rattle.linker_final.proofs.Written.{mapped, word_same}
 use Rattle.linker_final.proofs.InstructionFields.{of_bits}
 use Rattle.linker_final.proofs.RiscVChosen.{IsOfEntry, of_entry}
 use Rattle.linker_final.proofs.RiscVParts.{MadePart, has_own, part_alone}
-use Rattle.linker_final.proofs.RiscVWritten.{IsOwn, long_there}
+use Rattle.linker_final.proofs.RiscVWritten.{IsOwn, long_there, own_row}
 use Rattle.linker_final.specs.RiscVSection.{IsRewrittenOf, New, low_law}
 use Rattle.linker_final.specs.SectionRuns.{offset_of}
 use Rattle.linker_laws.specs.RiscVGroups.{Has}
@@ -18,21 +18,11 @@ use Rattle.linker_utils.specs.declared.architecture.Relaxation.TheVariants as re
 
 abbrev pub low_i : IsOwn names.R_RISCV_TPREL_LO12_I
 low_i =
-    record {
-      after = record { row = pair_row TpOff 32 IType; is = refl; named = tt };
-      of = of_bits refl refl refl refl refl (λ o. tt);
-      is_row = refl;
-      no_entry = λ addresses r symbol. refl;
-    }
+    own_row names.R_RISCV_TPREL_LO12_I (pair_row TpOff 32 IType) refl tt (of_bits refl refl refl refl refl (λ o. tt)) refl (λ addresses r symbol. refl)
 
 abbrev low_s : IsOwn names.R_RISCV_TPREL_LO12_S
 low_s =
-    record {
-      after = record { row = pair_row TpOff 32 SType; is = refl; named = tt };
-      of = of_bits refl refl refl refl refl (λ o. tt);
-      is_row = refl;
-      no_entry = λ addresses r symbol. refl;
-    }
+    own_row names.R_RISCV_TPREL_LO12_S (pair_row TpOff 32 SType) refl tt (of_bits refl refl refl refl refl (λ o. tt)) refl (λ addresses r symbol. refl)
 
 -- ---- one instruction
 
@@ -62,7 +52,7 @@ module _ (groups : Groups) (name : RiscVRelocation) (low : IsLow name) (l : Link
       let by : IsOfEntry name (entry kinds.BaseToTp name by_low_offset) l.section (offset_of l i) is.chosen =
       of_entry l rewriting riscv i (Rewritten is.chosen) is.chosen is.below is.decided refl name low.own.after.named is.is_name
       (entry kinds.BaseToTp name by_low_offset) low.entries in
-      (low.adds l.section (offset_of l i) by.pattern, by.kind_is, by.r_type_is)
+      (low.adds l.section (offset_of l i) by.meant, by.kind_is, by.r_type_is)
 
   pub low_part_is : MadePart l name i i kinds.BaseToTp instruction
   low_part_is =
@@ -94,7 +84,7 @@ module _ (groups : Groups) (l : Linked) (rewritten : AreRewritten l) (riscv : l.
         let by : IsOfEntry names.R_RISCV_TPREL_HI20 (entry kinds.Delete names.R_RISCV_NONE by_low_offset) l.section at of.chosen =
         of_entry l rewritten riscv i (Rewritten of.chosen) of.chosen of.below of.decided refl names.R_RISCV_TPREL_HI20 tt of.is_name
         (entry kinds.Delete names.R_RISCV_NONE by_low_offset) refl in
-        let pattern = by.pattern in
+        let pattern = by.meant in
         let long = long_there l.section at pattern.0 in
         let there : HasWord lui 0 IsLui = (omega (arith, long), subst IsLui (word_same l.section at) (pattern.1)) in (
           ap deleted_of of.decided ∙ ap relaxation_deleted by.kind_is,
@@ -108,7 +98,7 @@ module _ (groups : Groups) (l : Linked) (rewritten : AreRewritten l) (riscv : l.
         let by : IsOfEntry names.R_RISCV_TPREL_ADD (entry kinds.Delete names.R_RISCV_NONE by_low_offset) l.section at of.chosen =
         of_entry l rewritten riscv i (Rewritten of.chosen) of.chosen of.below of.decided refl names.R_RISCV_TPREL_ADD tt of.is_name
         (entry kinds.Delete names.R_RISCV_NONE by_low_offset) refl in
-        let pattern = by.pattern in
+        let pattern = by.meant in
         let long = long_there l.section at pattern.0 in
         let there : HasWord add 0 IsAddTp = (omega (arith, long), subst IsAddTp (word_same l.section at) (pattern.1)) in (
           ap deleted_of of.decided ∙ ap relaxation_deleted by.kind_is,

@@ -8,7 +8,7 @@ use Rattle.linker_final.proofs.Joined.{r_type_is, final_inside, place_is, rewrit
 use Rattle.linker_final.proofs.Labels.{low_found}
 use Rattle.linker_final.proofs.Phases.{bytes_left, last_length, last_within, later_bytes, relocation_left}
 use Rattle.linker_final.proofs.RiscVChosen.{Becomes, EachBecomes, becomes_of, of_subject}
-use Rattle.linker_final.proofs.RiscVWritten.{IsAfter, IsOwn, becomes, bytes_there, long_there, made_bytes, redirected_after, rewritten_after}
+use Rattle.linker_final.proofs.RiscVWritten.{IsAfter, IsOwn, becomes, bytes_there, long_there, made_bytes, own_row, redirected_after, rewritten_after}
 use Rattle.linker_final.proofs.Written.{IsRowOf, by_name, rela, row_in, with_operands}
 use Rattle.linker_final.specs.RiscVFinal.{IsOfDescriptor, named_as}
 use Rattle.linker_final.specs.SectionRuns.{offset_of}
@@ -109,12 +109,7 @@ own l o name w n place there row y v =
 
 abbrev pub high_part : IsOwn names.R_RISCV_PCREL_HI20
 high_part =
-    record {
-      after = record { row = pair_row Relative 32 UType; is = refl; named = tt };
-      of = of_bits refl refl refl refl refl (λ o. tt);
-      is_row = refl;
-      no_entry = λ addresses r symbol. refl;
-    }
+    own_row names.R_RISCV_PCREL_HI20 (pair_row Relative 32 UType) refl tt (of_bits refl refl refl refl refl (λ o. tt)) refl (λ addresses r symbol. refl)
 
 abbrev low_part : IsAfter names.R_RISCV_PCREL_LO12_I
 low_part = record { row = pair_row RelativeRiscVLow12 32 IType; is = refl; named = tt }

@@ -1,5 +1,5 @@
 -- What the choice of a rewrite over the thread pointer tested: the offset is a number of 12 bits.
-use Rattle.linker_final.proofs.Imports.{◌≡◌, ◌≢◌, ◌⊎◌, ◌^◌, ◌<◌, ◌-◌, ◌*◌, pos, negsuc, ℕ, suc, [], ◌∷◌, Bool, true, false, refl, sym, ap, subst, ◌∙◌, inl, inr, arith, List, Option, Some, None, if◌then◌else◌, slice_get, nat_lt, w64, cast_signed, cast_unsigned, from_le_bytes, AllHold, entry, IsWithin, ints, ltb-true, IsNamed, IsNameOf, pair_row, riscv_name, difference_64, sum_64, GotTpOff, TpOff, RelocationKindInfo, Choice, LinkFacts, Operands, IType, UType, RiscVRelocation, IsChosen, chosen_or_labelled, IsOfApplied, IsLowOffset, AppliesToRiscV, HasPattern, RiscVEntry, by_low_offset, riscv_entries, RelaxContext, address_in, link_facts, IsScopeIn, riscv_scope_in, is_labelled, Rewritten, RewrittenWithSymbol, Labelled, NotRelaxable, Phase, relocation_in, operands_with, Addresses, Symbol, Rela, Relaxation, RiscV, take, drop, HasAddresses, low_12_bounds, operands_before, Reaches, riscv_pair_bounds, count, IsNotRewrittenBy, NoneIsInitialExec, OffsetsAreLow, OffsetsAreLowOf, riscv_row_of, facts_at, facts_by, facts_with, placed_facts, far_entry, is_label_marked, without_entry}
+use Rattle.linker_final.proofs.Imports.{◌≡◌, ◌≢◌, ◌⊎◌, ◌^◌, ◌<◌, ◌-◌, ◌*◌, pos, negsuc, ℕ, suc, [], ◌∷◌, Bool, true, false, refl, sym, ap, subst, ◌∙◌, inl, inr, arith, List, Option, Some, None, if◌then◌else◌, slice_get, nat_lt, w64, cast_signed, cast_unsigned, from_le_bytes, AllHold, entry, IsWithin, ints, ltb-true, IsNamed, IsNameOf, pair_row, riscv_name, difference_64, sum_64, GotTpOff, TpOff, RelocationKindInfo, Choice, LinkFacts, Operands, IType, UType, RiscVRelocation, IsChosen, chosen_or_labelled, IsLowOffset, AppliesToRiscV, HasPattern, RiscVEntry, by_low_offset, riscv_entries, RelaxContext, address_in, link_facts, IsScopeIn, riscv_scope_in, is_labelled, Rewritten, RewrittenWithSymbol, Labelled, NotRelaxable, Phase, relocation_in, operands_with, Addresses, Symbol, Rela, Relaxation, RiscV, take, drop, HasAddresses, low_12_bounds, operands_before, Reaches, riscv_pair_bounds, count, IsNotRewrittenBy, NoneIsInitialExec, OffsetsAreLow, OffsetsAreLowOf, riscv_row_of, facts_at, facts_by, facts_with, placed_facts, far_entry, is_label_marked, without_entry, IsOfOne, of_entry}
 use mir.Val.{sel}
 use Rattle.linker_base.proofs.Bits.{cast_negative}
 use Rattle.linker_elf.specs.declared.riscv64.relocations.RiscVRelocation.TheVariants as names
@@ -118,13 +118,11 @@ module _ (name : RiscVRelocation) (named : IsNamed (riscv_name name)) (kind : Re
         | inr label ↦
             absurd (not_labelled s.phase r.r_type is_name (subst (λ x. IsScopeIn x s.phase r.r_type Labelled) riscv label.scope_is))
       ] in
-      let h = of_table s.architecture riscv r.r_type l.section r.offset c.facts chosen c.is_choice c.changed name named is_name in
-      elim (subst (λ es. IsOfApplied (AppliesToRiscV (HasPattern name) l.section r.offset c.facts) es h.named) entries h.applies) [
-        | inl this ↦
-            let test = this.0.1.1.0 in
-            by_test s l.section r chosen c value is_value thread_local (test.0) (test.1)
-        | inr nothing ↦ absurd nothing
-      ]
+      let applies = AppliesToRiscV (HasPattern name) l.section r.offset c.facts in
+      let this = of_entry riscv_name relaxations.RiscV applies chosen (entry kind after by_low_offset) (riscv_entries name) entries
+      (of_table s.architecture riscv r.r_type l.section r.offset c.facts chosen c.is_choice c.changed name named is_name applies (λ e is. is)) in
+      let test = this.meant.1.1.0 in
+      by_test s l.section r chosen c value is_value thread_local (test.0) (test.1)
 
 no_label : (name : RiscVRelocation) → is_labelled (riscv_scope_in phases.TlsLocalExec name) ≡ false
     → is_labelled (riscv_scope_in phases.GotToPcRel name) ≡ false → (phase : Phase)
@@ -180,17 +178,18 @@ EachReaches kind (e ∷ es) =
     × EachReaches kind es
 
 reaches : (name : RiscVRelocation) (kind : RewriteKind) (section : List ℕ) (o : ℕ) (facts : LinkFacts)
-    (named : Choice RewriteKind RiscVRelocation) → kind ≡ named.kind → HasAddresses facts → (es : List RiscVEntry)
-    → EachReaches kind es → IsOfApplied (AppliesToRiscV (HasPattern name) section o facts) es named
+    (chosen : Choice Relaxation ℕ) → chosen.kind ≡ relaxations.RiscV kind → HasAddresses facts → (es : List RiscVEntry)
+    → EachReaches kind es
+    → IsOfOne riscv_name relaxations.RiscV (AppliesToRiscV (HasPattern name) section o facts) es chosen
     → Reaches entry_row (operands_before 0 facts.operands)
-reaches name kind section o facts named is known [] each nothing = absurd nothing
-reaches name kind section o facts named is known (e ∷ es) each (inl this) =
+reaches name kind section o facts chosen is known [] each nothing = absurd nothing
+reaches name kind section o facts chosen is known (e ∷ es) each (inl this) =
     elim (each.0) [
-      | inl isnt ↦ absurd (isnt (is ∙ ap (λ (q : Choice RewriteKind RiscVRelocation). q.kind) (this.1)))
-      | inr requires_one ↦ requires_one facts (this.0.1) known
+      | inl isnt ↦ absurd (isnt (ap (kind_in kind) (sym is ∙ this.kind_is)))
+      | inr requires_one ↦ requires_one facts (this.meant.1) known
     ]
-reaches name kind section o facts named is known (e ∷ es) each (inr other) =
-    reaches name kind section o facts named is known es (each.1) other
+reaches name kind section o facts chosen is known (e ∷ es) each (inr other) =
+    reaches name kind section o facts chosen is known es (each.1) other
 
 never : (name : RiscVRelocation) → IsNamed (riscv_name name) → (kind : RewriteKind) → EachReaches kind (riscv_entries name)
     → IsNotRewrittenBy name kind
@@ -213,9 +212,10 @@ never name named kind each l rewriting riscv i chosen subject below is_name deci
     let entry_is : c.facts.operands.got_entry ≡ far_entry c.facts.operands =
     ap (λ (f : LinkFacts). f.operands.got_entry) (own.2)
     ∙ sym (ap (λ (f : LinkFacts). far_entry f.operands) (own.2)) in
-    let h = of_table s.architecture riscv r.r_type l.section r.offset c.facts chosen c.is_choice c.changed name named is_name in
     far c.facts.operands entry_is (subst (λ z. cast_unsigned w64 z < 2 ^ 64) (sym addend) (bits_below (from_le_bytes w64 (drop 16 (take 24 (drop (of.high * 24) l.relocations))))))
-    (reaches name kind l.section r.offset c.facts h.named (ap (kind_in kind) (sym is ∙ h.kind_is)) known (riscv_entries name) each h.applies)
+    (reaches name kind l.section r.offset c.facts chosen is known (riscv_entries name) each
+    (of_table s.architecture riscv r.r_type l.section r.offset c.facts chosen c.is_choice c.changed name named is_name
+    (AppliesToRiscV (HasPattern name) l.section r.offset c.facts) (λ e is. is)))
 
 pub none_is_initial_exec : NoneIsInitialExec
 none_is_initial_exec = (

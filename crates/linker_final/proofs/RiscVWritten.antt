@@ -83,6 +83,14 @@ pub record IsOwn (name : RiscVRelocation) : Type 0 where
       → operands_in RiscV addresses after.row r (Some symbol)
       ≡ Ok (operands_with RiscV addresses after.row symbol r 0)
 
+abbrev pub own_row : (name : RiscVRelocation) (row : RelocationKindInfo) → (riscv_relocation name).row ≡ Some row
+    → IsNamed (riscv_name name) → IsOfInstruction 4 row → riscv_row name ≡ Some row
+    → ((addresses : Addresses) (r : Rela) (symbol : Symbol)
+    → operands_in RiscV addresses row r (Some symbol) ≡ Ok (operands_with RiscV addresses row symbol r 0))
+    → IsOwn name
+own_row name row is named of is_row no_entry =
+    record { after = record { row = row; is = is; named = named }; of = of; is_row = is_row; no_entry = no_entry }
+
 -- ---- instructions
 
 -- one of which another word is made
