@@ -1,5 +1,5 @@
 -- The groups of AArch64's program that the calls link.
-use Rattle.linker_final.proofs.Imports.{◌≡◌, ◌≢◌, ℕ, zero, suc, ◌+◌, ◌-◌, ◌/◌, ◌<◌, ◌≤◌, ◌⊎◌, inl, inr, List, [], ◌∷◌, length, Bool, true, false, eqb, eqb-true, refl, sym, ap, subst, ◌∙◌, arith, lit<, lit≤, pos, Some, true≢false, ◌&&◌, slice_get, replicate, cases_lt, ints, window_of_rewrite, RewriteWindow, aarch64_name, entry, IsNamed, IsNameOf, r_type_of, sum_64, AArch64Relocation, AArch64, Operands, Has, following, word_of, put, with_register, loaded, AreAddresses, Kinds, State, half, in_phase, sequences_are_whole, IsGroupDecision, decision_at, window_of, group_stays, IsLoadRewritten, IsRewrittenBy, relocation_after, Decision, Kept, Rewritten, UnrelaxableGroups, relocation_in, operands_with, Addresses, Symbol, Rela, AArch64Entry, halves_to_local_exec, relaxation_rewrite, All-nil, All-cons, AreLinked, IsLinked, IsOutside, IsRewrittenByNoOther, Linked, RewritingPhase, UntouchedInPhase, UntouchedInstruction, count, instruction_at, linked_by, AARCH64_OBJECT, AARCH64_RELOCATIONS, same, named_at}
+use Rattle.linker_final.proofs.Imports.{◌≡◌, ◌≢◌, ℕ, zero, suc, ◌+◌, ◌-◌, ◌/◌, ◌<◌, ◌≤◌, ◌⊎◌, inl, inr, List, [], ◌∷◌, length, Bool, true, false, eqb, eqb-true, refl, sym, ap, subst, ◌∙◌, arith, lit<, lit≤, pos, Some, true≢false, ◌&&◌, slice_get, replicate, cases_lt, ints, window_of_rewrite, RewriteWindow, aarch64_name, entry, IsNamed, IsNameOf, r_type_of, sum_64, AArch64Relocation, AArch64, Operands, Has, following, word_of, put, with_register, loaded, AreAddresses, Kinds, State, half, in_phase, sequences_are_whole, IsGroupDecision, decision_at, window_of, group_stays, IsLoadRewritten, IsRewrittenBy, relocation_after, Decision, Kept, Rewritten, UnrelaxableGroups, relocation_in, operands_with, Addresses, Symbol, Rela, AArch64Entry, halves_to_local_exec, relaxation_rewrite, All-nil, All-cons, AreLinked, IsLinked, IsOutside, IsRewrittenByNoOther, Linked, RewritingPhase, UntouchedInPhase, UntouchedInstruction, count, instruction_at, linked_by, AARCH64_OBJECT, AARCH64_RELOCATIONS, same, named_at, Phase, IsScopeDecision, Grouped, aarch64_scope_in}
 use Rattle.linker_base.specs.Form.{place_sum}
 use Rattle.linker_elf.specs.declared.aarch64.relocations.AArch64Relocation.TheVariants as names
 use Rattle.linker_final.proofs.AArch64Alone.{high_row}
@@ -120,15 +120,6 @@ of_high = operands_with AArch64 addresses high_row thread_variable (relocation 2
 abbrev of_low : Operands
 of_low = operands_with AArch64 addresses high_row thread_variable (relocation 3) 0x411018
 
-load_small : AreAddresses of_load
-load_small = small of_load (lit< tt) (lit< tt) (lit< tt) (lit< tt) (lit< tt) (lit< tt)
-
-high_small : AreAddresses of_high
-high_small = small of_high (lit< tt) (lit< tt) (lit< tt) (lit< tt) (lit< tt) (lit< tt)
-
-low_small : AreAddresses of_low
-low_small = small of_low (lit< tt) (lit< tt) (lit< tt) (lit< tt) (lit< tt) (lit< tt)
-
 page_has : Has halves.old names.R_AARCH64_ADR_GOT_PAGE of_load (0x0 ∷ 0x0 ∷ 0x0 ∷ 0x90 ∷ [])
 unfolding place_sum
 page_has =
@@ -203,12 +194,32 @@ k1 = with_register 0 same known
 abbrev k3 : Kinds
 k3 = with_register 2 (half 0) (with_register 1 (half 0) k1)
 
--- no group of its symbols stays
-decided : (s : List UnrelaxableGroups) (group : Group) (r r' : Rela) → s ≡ replicate 12 none_stays → r ≡ r'
-    → group_stays (replicate 12 none_stays) group r'.symbol ≡ false → group_stays s group r.symbol ≡ false
-decided s group r r' none is e =
-    subst (λ k. group_stays k group r.symbol ≡ false) (sym none)
-    (subst (λ (r : Rela). group_stays (replicate 12 none_stays) group r.symbol ≡ false) (sym is) e)
+-- what a phase decides of a relocation
+module _ (l : Linked) (linked : IsLinked l) (phase : Phase) (is : IsPhaseOf AArch64 phase l.phase) (all : count l ≡ 4)
+    (i : ℕ) (less : i < 4) (name : AArch64Relocation) (named : IsNamed (aarch64_name name)) (was : Rela)
+    (there : relocation_in l.relocations i ≡ was) (code : r_type_of (aarch64_name name) ≡ was.r_type) where
+  abbrev r : Rela
+  r = relocation_in l.relocations i
+
+  below : i < count l
+  below = omega (arith, less, all)
+
+  is_name : IsNameOf aarch64_name r.r_type name
+  is_name =
+      named_at l.context is.architecture_is l.kept l.relocations l.section l.decisions linked.decided i name below named
+      (code ∙ ap (λ (r : Rela). r.r_type) (sym there))
+
+  decided : IsScopeDecision l.context l.kept l.relocations l.section i r (aarch64_scope_in phase name) (decision_at l.decisions i)
+  decided = in_phase l.context is.architecture_is l.kept l.relocations l.section l.decisions linked.decided i name phase below is_name is.phase_is
+
+  -- with its group, of which nothing stays
+  in_group : (group : Group) → aarch64_scope_in phase name ≡ Grouped group
+      → group_stays (replicate 12 none_stays) group was.symbol ≡ false → IsRewrittenOf l name i
+  in_group group of none =
+      let by = subst (λ scope. IsScopeDecision l.context l.kept l.relocations l.section i r scope (decision_at l.decisions i)) of decided in
+      let made = subst (λ b. IsGroupDecision l.context l.relocations l.section i r b (decision_at l.decisions i))
+      (ap (λ k. group_stays k group r.symbol) is.kept_are ∙ (ap (λ (x : Rela). group_stays (replicate 12 none_stays) group x.symbol) there ∙ none)) by in
+      record { below = below; is_name = is_name; chosen = made.0; decided = made.2 }
 
 module _ (p q : RewritingPhase) (relocations_last last final : List ℕ) (symbols : List Symbol)
     (is_p : IsPhaseOf AArch64 phases.PreLayout p) (is_q : IsPhaseOf AArch64 phases.GotToPcRel q)
@@ -241,50 +252,19 @@ module _ (p q : RewritingPhase) (relocations_last last final : List ℕ) (symbol
   count_l : count l ≡ 4
   count_l = ap (λ bytes. length bytes / 24) are.0.same_relocations
 
-  below_l : (i : ℕ) → i < 4 → i < count l
-  below_l i below = omega (arith, below, count_l)
-
-  named_l : (i : ℕ) (name : AArch64Relocation) → i < 4 → IsNamed (aarch64_name name)
-      → r_type_of (aarch64_name name) ≡ (relocation i).r_type → IsNameOf aarch64_name (relocation_in l.relocations i).r_type name
-  named_l i name below named code =
-      named_at l.context is_p.architecture_is l.kept l.relocations l.section l.decisions linked_l.decided i name
-      (below_l i below) named (code ∙ ap (λ (r : Rela). r.r_type) (sym (there i)))
-
   page_stays : decision_at l.decisions 0 ≡ Kept
-  page_stays =
-      in_phase l.context is_p.architecture_is l.kept l.relocations l.section l.decisions linked_l.decided 0
-      names.R_AARCH64_ADR_GOT_PAGE phases.PreLayout (below_l 0 (lit< tt))
-      (named_l 0 names.R_AARCH64_ADR_GOT_PAGE (lit< tt) tt refl) is_p.phase_is
+  page_stays = decided l linked_l phases.PreLayout is_p count_l 0 (lit< tt) names.R_AARCH64_ADR_GOT_PAGE tt (relocation 0) (there 0) refl
 
   load_stays : decision_at l.decisions 1 ≡ Kept
-  load_stays =
-      in_phase l.context is_p.architecture_is l.kept l.relocations l.section l.decisions linked_l.decided 1
-      names.R_AARCH64_LD64_GOT_LO12_NC phases.PreLayout (below_l 1 (lit< tt))
-      (named_l 1 names.R_AARCH64_LD64_GOT_LO12_NC (lit< tt) tt refl) is_p.phase_is
-
-  half_of : (i : ℕ) (name : AArch64Relocation) → (below : i < 4) → IsNameOf aarch64_name (relocation_in l.relocations i).r_type name
-      → IsGroupDecision l.context l.relocations l.section i (relocation_in l.relocations i)
-      (group_stays l.kept groups.InitialExec (relocation_in l.relocations i).symbol) (decision_at l.decisions i)
-      → group_stays (replicate 12 none_stays) groups.InitialExec (relocation i).symbol ≡ false
-      → IsRewrittenOf l name i
-  half_of i name below is_name is none =
-      let made = subst (λ b. IsGroupDecision l.context l.relocations l.section i (relocation_in l.relocations i) b (decision_at l.decisions i))
-      (decided l.kept groups.InitialExec (relocation_in l.relocations i) (relocation i) is_p.kept_are (there i) none) is in
-      record { below = below_l i below; is_name = is_name; chosen = made.0; decided = made.2 }
+  load_stays = decided l linked_l phases.PreLayout is_p count_l 1 (lit< tt) names.R_AARCH64_LD64_GOT_LO12_NC tt (relocation 1) (there 1) refl
 
   high_of : IsRewrittenOf l high_name 2
   high_of =
-      let is_name = named_l 2 high_name (lit< tt) tt refl in
-      half_of 2 high_name (lit< tt) is_name
-      (in_phase l.context is_p.architecture_is l.kept l.relocations l.section l.decisions linked_l.decided 2
-      high_name phases.PreLayout (below_l 2 (lit< tt)) is_name is_p.phase_is) refl
+      in_group l linked_l phases.PreLayout is_p count_l 2 (lit< tt) high_name tt (relocation 2) (there 2) refl groups.InitialExec refl refl
 
   low_of : IsRewrittenOf l low_name 3
   low_of =
-      let is_name = named_l 3 low_name (lit< tt) tt refl in
-      half_of 3 low_name (lit< tt) is_name
-      (in_phase l.context is_p.architecture_is l.kept l.relocations l.section l.decisions linked_l.decided 3
-      low_name phases.PreLayout (below_l 3 (lit< tt)) is_name is_p.phase_is) refl
+      in_group l linked_l phases.PreLayout is_p count_l 3 (lit< tt) low_name tt (relocation 3) (there 3) refl groups.InitialExec refl refl
 
   high_by : IsOfEntry high_name high_entry l.section (offset_of l 2) high_of.chosen
   high_by = of_entry new_l high_name 2 high_of tt high_entry refl
@@ -300,12 +280,9 @@ module _ (p q : RewritingPhase) (relocations_last last final : List ℕ) (symbol
   count_m : count m ≡ 4
   count_m = ap (λ bytes. length bytes / 24) are.2.0.same_relocations ∙ (ap (λ n. n / 24) linked_l.as_many ∙ count_l)
 
-  below_m : (i : ℕ) → i < 4 → i < count m
-  below_m i below = omega (arith, below, count_m)
-
   as_it_was : (i : ℕ) → i < 4 → decision_at l.decisions i ≡ Kept → relocation_in m.relocations i ≡ relocation i
   as_it_was i below stays =
-      taken i ∙ (linked_l.relocations i (below_l i below)
+      taken i ∙ (linked_l.relocations i (omega (arith, below, count_l))
       ∙ (ap (λ d. relocation_after d (relocation_in l.relocations i)) stays ∙ there i))
 
   page_there : relocation_in m.relocations 0 ≡ relocation 0
@@ -324,36 +301,18 @@ module _ (p q : RewritingPhase) (relocations_last last final : List ℕ) (symbol
       taken 3 ∙ (named_after new_l low_name 3 low_of low_entry low_by (λ o. refl) (λ a. refl)
       ∙ ap (λ (r : Rela). rela r.offset (r_type_of (aarch64_name low_after)) r.symbol r.addend) (there 3))
 
-  named_m : (i : ℕ) (name : AArch64Relocation) (r : Rela) → i < 4 → relocation_in m.relocations i ≡ r
-      → IsNamed (aarch64_name name) → r_type_of (aarch64_name name) ≡ r.r_type
-      → IsNameOf aarch64_name (relocation_in m.relocations i).r_type name
-  named_m i name r below is named code =
-      named_at m.context is_q.architecture_is m.kept m.relocations m.section m.decisions linked_m.decided i name
-      (below_m i below) named (code ∙ ap (λ (r : Rela). r.r_type) (sym is))
-
   high_stays : decision_at m.decisions 2 ≡ Kept
-  high_stays =
-      in_phase m.context is_q.architecture_is m.kept m.relocations m.section m.decisions linked_m.decided 2
-      high_after phases.GotToPcRel (below_m 2 (lit< tt))
-      (named_m 2 high_after _ (lit< tt) high_there tt refl) is_q.phase_is
+  high_stays = decided m linked_m phases.GotToPcRel is_q count_m 2 (lit< tt) high_after tt _ high_there refl
 
   low_stays : decision_at m.decisions 3 ≡ Kept
-  low_stays =
-      in_phase m.context is_q.architecture_is m.kept m.relocations m.section m.decisions linked_m.decided 3
-      low_after phases.GotToPcRel (below_m 3 (lit< tt))
-      (named_m 3 low_after _ (lit< tt) low_there tt refl) is_q.phase_is
+  low_stays = decided m linked_m phases.GotToPcRel is_q count_m 3 (lit< tt) low_after tt _ low_there refl
 
   load_of : IsLoadRewritten m.relocations m.decisions 0
   load_of =
       let name = names.R_AARCH64_ADR_GOT_PAGE in
-      let is_name = named_m 0 name _ (lit< tt) page_there tt refl in
-      let is = in_phase m.context is_q.architecture_is m.kept m.relocations m.section m.decisions linked_m.decided 0
-      name phases.GotToPcRel (below_m 0 (lit< tt)) is_name is_q.phase_is in
-      let made = subst (λ b. IsGroupDecision m.context m.relocations m.section 0 (relocation_in m.relocations 0) b (decision_at m.decisions 0))
-      (decided m.kept groups.GotLoad (relocation_in m.relocations 0) (relocation 0) is_q.kept_are page_there refl) is in
-      let changed : decision_at m.decisions 0 ≢ Kept = λ e. (let f : Rewritten made.0 ≡ Kept = sym made.2 ∙ e in cc) in
+      let made = in_group m linked_m phases.GotToPcRel is_q count_m 0 (lit< tt) name tt (relocation 0) page_there refl groups.GotLoad refl refl in
       (sequences_are_whole m.context m.kept m.relocations m.section m.decisions 0 name is_q.architecture_is linked_m.decided
-      (below_m 0 (lit< tt)) is_name changed).1
+      made.below made.is_name (λ e. (let f : Rewritten made.chosen ≡ Kept = sym made.decided ∙ e in cc))).1
 
   -- ---- which bytes are whose
 
@@ -427,7 +386,7 @@ module _ (p q : RewritingPhase) (relocations_last last final : List ℕ) (symbol
   load_comes =
       record {
         pc = refl;
-        small = load_small;
+        small = small of_load (lit< tt) (lit< tt) (lit< tt) (lit< tt) (lit< tt) (lit< tt);
         symbol = variable;
         is_symbol = ap (λ (r : Rela). slice_get symbols r.symbol) page_there ∙ x_is;
         are = ap (λ r. operands_with AArch64 addresses got_row variable r 0x411010) (sym page_there);
@@ -458,7 +417,7 @@ module _ (p q : RewritingPhase) (relocations_last last final : List ℕ) (symbol
   high_comes =
       record {
         pc = refl;
-        small = high_small;
+        small = small of_high (lit< tt) (lit< tt) (lit< tt) (lit< tt) (lit< tt) (lit< tt);
         symbol = thread_variable;
         is_symbol = ap (λ (r : Rela). slice_get symbols r.symbol) (there 2) ∙ y_is;
         are = ap (λ r. operands_with AArch64 addresses high_row thread_variable r 0x411018) (sym (there 2));
@@ -487,7 +446,7 @@ module _ (p q : RewritingPhase) (relocations_last last final : List ℕ) (symbol
   low_comes =
       record {
         pc = refl;
-        small = low_small;
+        small = small of_low (lit< tt) (lit< tt) (lit< tt) (lit< tt) (lit< tt) (lit< tt);
         symbol = thread_variable;
         is_symbol = ap (λ (r : Rela). slice_get symbols r.symbol) (there 3) ∙ y_is;
         are = ap (λ r. operands_with AArch64 addresses high_row thread_variable r 0x411018) (sym (there 3));

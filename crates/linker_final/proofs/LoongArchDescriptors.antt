@@ -55,10 +55,13 @@ module _ (groups : Groups) (l : Linked) (made : AreRewritten l) (loongarch : l.c
       let o = offset_of l i in
       let by = table groups l made loongarch i chosen below decided name tt is_name in
       let which : IsEntry kinds.PcalaToLu12i names.R_LARCH_TLS_LE_HI20 name l.section o chosen ⊎ IsEntry kinds.NoOp names.R_LARCH_TLS_IE_PC_HI20 name l.section o chosen =
-      shown by
-      (λ short. isnt by.facts.is_relaxable (by.early refl).unmarked (short.meant.1.1.1.0),
-      (λ short. isnt by.facts.has_addresses (by.early refl).unplaced (short.meant.1.1.1.1.1.0.0),
-      (λ this. inl (entry_by name l.section o chosen by.facts _ this), (λ this. inr (entry_by name l.section o chosen by.facts _ this), (λ near. isnt by.facts.is_relaxable (by.early refl).unmarked (near.meant.1.0), tt))))) in
+      shown by (
+        λ short. isnt by.facts.is_relaxable (by.early refl).unmarked (short.meant.1.1.1.0),
+        (
+          λ short. isnt by.facts.has_addresses (by.early refl).unplaced (short.meant.1.1.1.1.1.0.0),
+          (λ this. inl (entry_by name l.section o chosen by.facts _ this), (λ this. inr (entry_by name l.section o chosen by.facts _ this), (λ near. isnt by.facts.is_relaxable (by.early refl).unmarked (near.meant.1.0), tt))),
+        ),
+      ) in
       elim which [
         | inl is ↦
             let page_is : IsPageOfDescriptor (word_of old) = subst IsPageOfDescriptor (word_same l.section o) (is.pattern.1) in
@@ -93,9 +96,10 @@ module _ (groups : Groups) (l : Linked) (made : AreRewritten l) (loongarch : l.c
       let o = offset_of l i in
       let by = table groups l made loongarch i chosen below decided name tt is_name in
       let which : IsEntry kinds.LowToOri names.R_LARCH_TLS_LE_LO12 name l.section o chosen ⊎ IsEntry kinds.AddiToLd names.R_LARCH_TLS_IE_PC_LO12 name l.section o chosen =
-      shown by
-      (λ short. isnt by.facts.has_addresses (by.early refl).unplaced (short.meant.1.1.1.1.1.0.0),
-      (λ this. inl (entry_by name l.section o chosen by.facts _ this), (λ this. inr (entry_by name l.section o chosen by.facts _ this), (λ near. isnt by.facts.is_relaxable (by.early refl).unmarked (near.meant.1.0), tt)))) in
+      shown by (
+        λ short. isnt by.facts.has_addresses (by.early refl).unplaced (short.meant.1.1.1.1.1.0.0),
+        (λ this. inl (entry_by name l.section o chosen by.facts _ this), (λ this. inr (entry_by name l.section o chosen by.facts _ this), (λ near. isnt by.facts.is_relaxable (by.early refl).unmarked (near.meant.1.0), tt))),
+      ) in
       elim which [
         | inl is ↦
             let law : IsLawful l i (relaxations.LoongArch64 kinds.LowToOri) (law_of name (relaxations.LoongArch64 kinds.LowToOri)) =

@@ -62,10 +62,13 @@ module _ (groups : Groups) (l : Linked) (linked : IsLinked l) (loongarch : l.con
   low : IsEntry kinds.LdToAddi names.R_LARCH_PCALA_LO12 names.R_LARCH_GOT_PC_LO12 l.section second.offset of.low_chosen
   low =
       let by = by_table l linked.decided loongarch j of.low_chosen of.low_below of.low_decided names.R_LARCH_GOT_PC_LO12 tt of.low in
-      shown by
-      (λ near. isnt by.facts.is_relaxable (by.early refl).unmarked (near.meant.1.1.1.0),
-      (λ this. entry_by names.R_LARCH_GOT_PC_LO12 l.section second.offset of.low_chosen by.facts _ this,
-      (λ of_entry. isnt by.facts.is_relaxable (by.early refl).unmarked (of_entry.meant.1.0), tt)))
+      shown by (
+        λ near. isnt by.facts.is_relaxable (by.early refl).unmarked (near.meant.1.1.1.0),
+        (
+          λ this. entry_by names.R_LARCH_GOT_PC_LO12 l.section second.offset of.low_chosen by.facts _ this,
+          (λ of_entry. isnt by.facts.is_relaxable (by.early refl).unmarked (of_entry.meant.1.0), tt),
+        ),
+      )
 
   pub loads_the_same : LoadsTheSame l i got_row
   loads_the_same symbol is_symbol got c k s loads fits page_stands low_stands =
