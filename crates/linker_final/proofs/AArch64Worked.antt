@@ -1,5 +1,5 @@
 -- The groups of AArch64's program that the calls link.
-use Rattle.linker_final.proofs.Imports.{◌≡◌, ◌≢◌, ℕ, zero, suc, ◌+◌, ◌-◌, ◌/◌, ◌<◌, ◌≤◌, ◌⊎◌, inl, inr, List, [], ◌∷◌, length, Bool, true, false, eqb, eqb-true, refl, sym, ap, subst, ◌∙◌, arith, lit<, lit≤, pos, Some, true≢false, ◌&&◌, slice_get, replicate, cases_lt, ints, window_of_rewrite, RewriteWindow, aarch64_name, entry, IsNamed, IsNameOf, r_type_of, sum_64, AArch64Relocation, AArch64, Operands, Has, following, word_of, put, with_register, loaded, AreAddresses, Kinds, State, half, in_phase, sequences_are_whole, IsGroupDecision, decision_at, window_of, group_stays, IsLoadRewritten, IsRewrittenBy, relocation_after, Decision, Kept, Rewritten, UnrelaxableGroups, relocation_in, operands_with, Addresses, Symbol, Rela, AArch64Entry, halves_to_local_exec, relaxation_rewrite, All-nil, All-cons, AreLinked, IsLinked, IsOutside, IsRewrittenByNoOther, Linked, RewritingPhase, UntouchedInPhase, UntouchedInstruction, count, instruction_at, linked_by, AARCH64_OBJECT, AARCH64_RELOCATIONS, same, named_at, Phase, IsScopeDecision, Grouped, aarch64_scope_in}
+use Rattle.linker_final.proofs.Imports.{◌≡◌, ◌≢◌, ℕ, zero, suc, ◌+◌, ◌-◌, ◌/◌, ◌<◌, ◌≤◌, ◌⊎◌, inl, inr, List, [], ◌∷◌, length, Bool, true, false, eqb, eqb-true, refl, sym, ap, subst, ◌∙◌, arith, lit<, lit≤, pos, Some, true≢false, ◌&&◌, slice_get, replicate, cases_lt, ints, window_of_rewrite, RewriteWindow, aarch64_name, entry, IsNamed, IsNameOf, r_type_of, sum_64, AArch64Relocation, AArch64, Operands, Has, following, word_of, put, with_register, loaded, Kinds, State, half, in_phase, sequences_are_whole, IsGroupDecision, decision_at, window_of, group_stays, IsLoadRewritten, IsRewrittenBy, relocation_after, Decision, Kept, Rewritten, relocation_in, operands_with, Addresses, Symbol, Rela, AArch64Entry, halves_to_local_exec, relaxation_rewrite, All-nil, All-cons, AreLinked, IsLinked, IsOutside, IsRewrittenByNoOther, Linked, RewritingPhase, UntouchedInPhase, UntouchedInstruction, count, instruction_at, linked_by, AARCH64_OBJECT, AARCH64_RELOCATIONS, same, named_at, Phase, IsScopeDecision, Grouped, aarch64_scope_in}
 use Rattle.linker_base.specs.Form.{place_sum}
 use Rattle.linker_elf.specs.declared.aarch64.relocations.AArch64Relocation.TheVariants as names
 use Rattle.linker_final.proofs.AArch64Alone.{high_row}

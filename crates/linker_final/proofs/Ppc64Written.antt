@@ -1,12 +1,10 @@
 -- Instructions of PowerPC64 and their relocations in the final bytes of a section.
-use Rattle.linker_final.proofs.Imports.{true, false, ◌≡◌, ◌⊎◌, ℕ, ◌+◌, ◌-◌, ◌<◌, ◌≤◌, length, take, drop, sym, ap, subst, ◌∙◌, refl, arith, Some, None, Ok, IsSomeAnd, cond, take-take, IsTrue, slice_get, ⊤, Rewrite, addend_after, offset_after, IsApplied, IsNamed, r_type_of, ppc64_name, ppc64_row, window_len, bytes_row, signed_row, value_of, GotTpOff, Relative, TpOff, RelocationKindInfo, BitMasking, Choice, Operands, Ppc64Relocation, HasTest, ppc64_rewrite, rewrites_marked, decision_at, IsDone, IsMade, Rewritten, is_of_pair, entry_of, relocation_in, entry_address, has_value, is_there, names_label, operands_by, operands_with, Symbol, Entry, ThreadOffset, Rela, IsRow, relaxation_rewrite, Relaxation, Ppc64, UntouchedBytes, AreRewritten, Linked, IsLinked, IsWrittenByNoOther, count, instruction_at}
+use Rattle.linker_final.proofs.Imports.{true, ◌≡◌, ◌⊎◌, ℕ, ◌+◌, ◌-◌, ◌<◌, ◌≤◌, length, take, drop, sym, ap, subst, ◌∙◌, refl, arith, Some, None, Ok, IsSomeAnd, cond, take-take, IsTrue, slice_get, Rewrite, addend_after, offset_after, IsApplied, IsNamed, r_type_of, ppc64_name, ppc64_row, bytes_row, signed_row, value_of, GotTpOff, Relative, TpOff, RelocationKindInfo, Choice, Operands, Ppc64Relocation, HasTest, ppc64_rewrite, rewrites_marked, decision_at, IsDone, IsMade, Rewritten, entry_of, relocation_in, entry_address, is_there, operands_by, operands_with, Symbol, Entry, ThreadOffset, Rela, IsRow, relaxation_rewrite, Relaxation, Ppc64, UntouchedBytes, AreRewritten, Linked, IsLinked, IsWrittenByNoOther, count, instruction_at}
 use Rattle.linker_elf.specs.Ppc64Relocations.{branch_row, high_adjusted_row, low_ds_row, low_row, prefixed_row}
-use Rattle.linker_elf.specs.declared.elf.RelocationInstruction.TheVariants as insns
 use Rattle.linker_elf.specs.declared.elf.RelocationKind.TheVariants.{None as NoValue, GotTpOffGotBase, SymRelGotBase}
-use Rattle.linker_elf.specs.declared.ppc64.forms.Ppc64Instruction.{Ppc64Instruction}
-use Rattle.linker_elf.specs.declared.ppc64.forms.Ppc64Instruction.TheVariants.{Branch24, D, Ds, Prefixed}
+use Rattle.linker_elf.specs.declared.ppc64.forms.Ppc64Instruction.TheVariants.{Branch24}
 use Rattle.linker_elf.specs.declared.ppc64.relocations.Ppc64Relocation.TheVariants as names
-use Rattle.linker_final.proofs.InstructionFields.{IsOfInstruction}
+use Rattle.linker_final.proofs.InstructionFields.{IsOfInstruction, of_bits}
 use Rattle.linker_final.proofs.Phases.{relocation_left}
 use Rattle.linker_final.proofs.Written.{IsRowOf, apart_with, applied_after, by_name, entry_is_there, made_there, rela, relocation_is, unwritten_but, unwritten_without, with_operands, word_same}
 use Rattle.linker_final.specs.SectionRuns.{offset_of}
@@ -149,36 +147,17 @@ module _ (l : Linked) (linked : IsLinked l) (ppc64 : l.context.architecture ≡ 
 
 -- ---- rows
 
--- of bits of an instruction
-abbrev after_of : (n : ℕ) (name : Ppc64Relocation) (row : RelocationKindInfo) (start end : ℕ) (insn : Ppc64Instruction)
-    → ppc64_row name ≡ Some row → IsNamed (ppc64_name name)
-    → row.size ≡ BitMasking (record { start = start; end = end }) (insns.Ppc64 insn) → window_len row ≡ n
-    → has_value row.kind ≡ true → names_label row.size row.kind ≡ false → is_of_pair row ≡ false
-    → ((o : Operands) → IsSomeAnd (value_of row o) (λ _. ⊤)) → IsAfter n name
-after_of n name row start end insn is named size wide valued unlabelled alone some =
-    record {
-      row = row;
-      is = is;
-      named = named;
-      of = record {
-        bits = record { start = start; end = end };
-        insn = insns.Ppc64 insn;
-        size = size;
-        wide = wide;
-        valued = valued;
-        unlabelled = unlabelled;
-        alone = alone;
-        some = some;
-      };
-    }
+abbrev after_of : (n : ℕ) (name : Ppc64Relocation) (row : RelocationKindInfo) → ppc64_row name ≡ Some row
+    → IsNamed (ppc64_name name) → IsOfInstruction n row → IsAfter n name
+after_of n name row is named of = record { row = row; is = is; named = named; of = of }
 
 abbrev pub thread_low_after : IsAfter 4 names.R_PPC64_TPREL16_LO
 thread_low_after =
-    after_of 4 names.R_PPC64_TPREL16_LO (low_row TpOff) 0 16 D refl tt refl refl refl refl refl (λ o. tt)
+    after_of 4 names.R_PPC64_TPREL16_LO (low_row TpOff) refl tt (of_bits refl refl refl refl refl (λ o. tt))
 
 abbrev pub call_after : IsAfter 4 names.R_PPC64_REL24
 call_after =
-    after_of 4 names.R_PPC64_REL24 (branch_row Relative 26 Branch24) 0 26 Branch24 refl tt refl refl refl refl refl (λ o. tt)
+    after_of 4 names.R_PPC64_REL24 (branch_row Relative 26 Branch24) refl tt (of_bits refl refl refl refl refl (λ o. tt))
 
 -- ---- what the final bytes have
 
@@ -195,129 +174,116 @@ Writes n entry name =
     (take n (drop r.offset l.rewritten)) (take n (drop r.offset l.final)))
 
 -- of a relocation without an entry
-written : (n : ℕ) → 0 < n → (name : Ppc64Relocation) (a : IsAfter n name)
+written : (n : ℕ) → 0 < n → (name : Ppc64Relocation) (row : RelocationKindInfo) → ppc64_row name ≡ Some row
+    → IsNamed (ppc64_name name) → IsOfInstruction n row
     → ((l : Linked) (r : Rela) (symbol : Symbol)
-    → operands_by Ppc64 l.addresses a.row r symbol (entry_address l.addresses symbol (entry_of a.row r.addend symbol.is_thread_local))
-    ≡ Ok (operands_with Ppc64 l.addresses a.row symbol r 0))
+    → operands_by Ppc64 l.addresses row r symbol (entry_address l.addresses symbol (entry_of row r.addend symbol.is_thread_local))
+    ≡ Ok (operands_with Ppc64 l.addresses row symbol r 0))
     → ((l : Linked) (r : Rela) (symbol : Symbol) (any : ℕ)
-    → value_of a.row (operands_with Ppc64 l.addresses a.row symbol r any)
-    ≡ value_of a.row (operands_with Ppc64 l.addresses a.row symbol r 0))
+    → value_of row (operands_with Ppc64 l.addresses row symbol r any)
+    ≡ value_of row (operands_with Ppc64 l.addresses row symbol r 0))
     → Writes n (λ symbol any. any) name
-written n some name a none same l linked ppc64 i below code left =
+written n some name row is named of none same l linked ppc64 i below code left =
     let r = relocation_in l.relocations_after i in
     subst (λ q. IsSomeAnd q (λ row. (symbol : Symbol) (any : ℕ) → slice_get l.symbols r.symbol ≡ Some symbol
     → IsRelocated name (operands_with Ppc64 l.addresses row symbol r any)
-    (take n (drop r.offset l.rewritten)) (take n (drop r.offset l.final)))) (sym a.is)
+    (take n (drop r.offset l.rewritten)) (take n (drop r.offset l.final)))) (sym is)
     (λ symbol any is_symbol.
-    applied_there l linked ppc64 i below n some name a code left symbol is_symbol 0 (none l r symbol)
-    (operands_with Ppc64 l.addresses a.row symbol r any) (same l r symbol any))
+    applied_there l linked ppc64 i below n some name (after_of n name row is named of) code left symbol is_symbol 0 (none l r symbol)
+    (operands_with Ppc64 l.addresses row symbol r any) (same l r symbol any))
 
 -- and of one with that of an offset
-written_by_entry : (n : ℕ) → 0 < n → (name : Ppc64Relocation) (a : IsAfter n name)
-    → ((r : Rela) (symbol : Symbol) → entry_of a.row r.addend symbol.is_thread_local
+written_by_entry : (n : ℕ) → 0 < n → (name : Ppc64Relocation) (row : RelocationKindInfo) → ppc64_row name ≡ Some row
+    → IsNamed (ppc64_name name) → IsOfInstruction n row
+    → ((r : Rela) (symbol : Symbol) → entry_of row r.addend symbol.is_thread_local
     ≡ Some (record { class = ThreadOffset; addend = r.addend }))
     → Writes n (λ symbol any. symbol.thread_entry) name
-written_by_entry n some name a has l linked ppc64 i below code left =
+written_by_entry n some name row is named of has l linked ppc64 i below code left =
     let r = relocation_in l.relocations_after i in
     subst (λ q. IsSomeAnd q (λ row. (symbol : Symbol) (any : ℕ) → slice_get l.symbols r.symbol ≡ Some symbol
     → IsRelocated name (operands_with Ppc64 l.addresses row symbol r symbol.thread_entry)
-    (take n (drop r.offset l.rewritten)) (take n (drop r.offset l.final)))) (sym a.is)
+    (take n (drop r.offset l.rewritten)) (take n (drop r.offset l.final)))) (sym is)
     (λ symbol any is_symbol.
-    applied_there l linked ppc64 i below n some name a code left symbol is_symbol symbol.thread_entry
-    (ap (λ e. operands_by Ppc64 l.addresses a.row r symbol (entry_address l.addresses symbol e)) (has r symbol)
-    ∙ ap (λ b. operands_by Ppc64 l.addresses a.row r symbol (cond b (Some symbol.thread_entry) None))
-    (entry_there l linked ppc64 i below n name a code left symbol is_symbol
+    applied_there l linked ppc64 i below n some name (after_of n name row is named of) code left symbol is_symbol symbol.thread_entry
+    (ap (λ e. operands_by Ppc64 l.addresses row r symbol (entry_address l.addresses symbol e)) (has r symbol)
+    ∙ ap (λ b. operands_by Ppc64 l.addresses row r symbol (cond b (Some symbol.thread_entry) None))
+    (entry_there l linked ppc64 i below n name (after_of n name row is named of) code left symbol is_symbol
     (record { class = ThreadOffset; addend = r.addend }) (has r symbol)))
-    (operands_with Ppc64 l.addresses a.row symbol r symbol.thread_entry) refl)
+    (operands_with Ppc64 l.addresses row symbol r symbol.thread_entry) refl)
 
 pub toc : Writes 4 (λ symbol any. any) names.R_PPC64_TOC16
 toc =
-    written 4 (omega arith) names.R_PPC64_TOC16
-    (after_of 4 names.R_PPC64_TOC16 (signed_row 16 (low_row SymRelGotBase)) 0 16 D refl tt refl refl refl refl refl (λ o. tt))
+    written 4 (omega arith) names.R_PPC64_TOC16 (signed_row 16 (low_row SymRelGotBase)) refl tt (of_bits refl refl refl refl refl (λ o. tt))
     (λ l r s. refl) (λ l r s any. refl)
 
 pub toc_words : Writes 4 (λ symbol any. any) names.R_PPC64_TOC16_DS
 toc_words =
-    written 4 (omega arith) names.R_PPC64_TOC16_DS
-    (after_of 4 names.R_PPC64_TOC16_DS (signed_row 16 (low_ds_row SymRelGotBase)) 0 16 Ds refl tt refl refl refl refl refl (λ o. tt))
+    written 4 (omega arith) names.R_PPC64_TOC16_DS (signed_row 16 (low_ds_row SymRelGotBase)) refl tt (of_bits refl refl refl refl refl (λ o. tt))
     (λ l r s. refl) (λ l r s any. refl)
 
 pub toc_high : Writes 4 (λ symbol any. any) names.R_PPC64_TOC16_HA
 toc_high =
-    written 4 (omega arith) names.R_PPC64_TOC16_HA
-    (after_of 4 names.R_PPC64_TOC16_HA (high_adjusted_row SymRelGotBase) 16 32 D refl tt refl refl refl refl refl (λ o. tt))
+    written 4 (omega arith) names.R_PPC64_TOC16_HA (high_adjusted_row SymRelGotBase) refl tt (of_bits refl refl refl refl refl (λ o. tt))
     (λ l r s. refl) (λ l r s any. refl)
 
 pub toc_low : Writes 4 (λ symbol any. any) names.R_PPC64_TOC16_LO
 toc_low =
-    written 4 (omega arith) names.R_PPC64_TOC16_LO
-    (after_of 4 names.R_PPC64_TOC16_LO (low_row SymRelGotBase) 0 16 D refl tt refl refl refl refl refl (λ o. tt))
+    written 4 (omega arith) names.R_PPC64_TOC16_LO (low_row SymRelGotBase) refl tt (of_bits refl refl refl refl refl (λ o. tt))
     (λ l r s. refl) (λ l r s any. refl)
 
 pub distance : Writes 8 (λ symbol any. any) names.R_PPC64_PCREL34
 distance =
-    written 8 (omega arith) names.R_PPC64_PCREL34
-    (after_of 8 names.R_PPC64_PCREL34 (prefixed_row Relative) 0 34 Prefixed refl tt refl refl refl refl refl (λ o. tt))
+    written 8 (omega arith) names.R_PPC64_PCREL34 (prefixed_row Relative) refl tt (of_bits refl refl refl refl refl (λ o. tt))
     (λ l r s. refl) (λ l r s any. refl)
 
 pub thread : Writes 4 (λ symbol any. any) names.R_PPC64_TPREL16
 thread =
-    written 4 (omega arith) names.R_PPC64_TPREL16
-    (after_of 4 names.R_PPC64_TPREL16 (signed_row 16 (low_row TpOff)) 0 16 D refl tt refl refl refl refl refl (λ o. tt))
+    written 4 (omega arith) names.R_PPC64_TPREL16 (signed_row 16 (low_row TpOff)) refl tt (of_bits refl refl refl refl refl (λ o. tt))
     (λ l r s. refl) (λ l r s any. refl)
 
 pub thread_words : Writes 4 (λ symbol any. any) names.R_PPC64_TPREL16_DS
 thread_words =
-    written 4 (omega arith) names.R_PPC64_TPREL16_DS
-    (after_of 4 names.R_PPC64_TPREL16_DS (signed_row 16 (low_ds_row TpOff)) 0 16 Ds refl tt refl refl refl refl refl (λ o. tt))
+    written 4 (omega arith) names.R_PPC64_TPREL16_DS (signed_row 16 (low_ds_row TpOff)) refl tt (of_bits refl refl refl refl refl (λ o. tt))
     (λ l r s. refl) (λ l r s any. refl)
 
 pub thread_high : Writes 4 (λ symbol any. any) names.R_PPC64_TPREL16_HA
 thread_high =
-    written 4 (omega arith) names.R_PPC64_TPREL16_HA
-    (after_of 4 names.R_PPC64_TPREL16_HA (high_adjusted_row TpOff) 16 32 D refl tt refl refl refl refl refl (λ o. tt))
+    written 4 (omega arith) names.R_PPC64_TPREL16_HA (high_adjusted_row TpOff) refl tt (of_bits refl refl refl refl refl (λ o. tt))
     (λ l r s. refl) (λ l r s any. refl)
 
 pub thread_low : Writes 4 (λ symbol any. any) names.R_PPC64_TPREL16_LO
 thread_low =
-    written 4 (omega arith) names.R_PPC64_TPREL16_LO
-    thread_low_after
+    written 4 (omega arith) names.R_PPC64_TPREL16_LO (low_row TpOff) refl tt (of_bits refl refl refl refl refl (λ o. tt))
     (λ l r s. refl) (λ l r s any. refl)
 
 pub thread_low_words : Writes 4 (λ symbol any. any) names.R_PPC64_TPREL16_LO_DS
 thread_low_words =
-    written 4 (omega arith) names.R_PPC64_TPREL16_LO_DS
-    (after_of 4 names.R_PPC64_TPREL16_LO_DS (low_ds_row TpOff) 0 16 Ds refl tt refl refl refl refl refl (λ o. tt))
+    written 4 (omega arith) names.R_PPC64_TPREL16_LO_DS (low_ds_row TpOff) refl tt (of_bits refl refl refl refl refl (λ o. tt))
     (λ l r s. refl) (λ l r s any. refl)
 
 pub thread_prefixed : Writes 8 (λ symbol any. any) names.R_PPC64_TPREL34
 thread_prefixed =
-    written 8 (omega arith) names.R_PPC64_TPREL34
-    (after_of 8 names.R_PPC64_TPREL34 (prefixed_row TpOff) 0 34 Prefixed refl tt refl refl refl refl refl (λ o. tt))
+    written 8 (omega arith) names.R_PPC64_TPREL34 (prefixed_row TpOff) refl tt (of_bits refl refl refl refl refl (λ o. tt))
     (λ l r s. refl) (λ l r s any. refl)
 
 -- ---- by the entry of an offset
 
 pub entry_high : Writes 4 (λ symbol any. symbol.thread_entry) names.R_PPC64_GOT_TPREL16_HA
 entry_high =
-    written_by_entry 4 (omega arith) names.R_PPC64_GOT_TPREL16_HA
-    (after_of 4 names.R_PPC64_GOT_TPREL16_HA (high_adjusted_row GotTpOffGotBase) 16 32 D refl tt refl refl refl refl refl (λ o. tt))
+    written_by_entry 4 (omega arith) names.R_PPC64_GOT_TPREL16_HA (high_adjusted_row GotTpOffGotBase) refl tt (of_bits refl refl refl refl refl (λ o. tt))
     (λ r s. refl)
 
 pub entry_low : Writes 4 (λ symbol any. symbol.thread_entry) names.R_PPC64_GOT_TPREL16_LO_DS
 entry_low =
-    written_by_entry 4 (omega arith) names.R_PPC64_GOT_TPREL16_LO_DS
-    (after_of 4 names.R_PPC64_GOT_TPREL16_LO_DS (low_ds_row GotTpOffGotBase) 0 16 Ds refl tt refl refl refl refl refl (λ o. tt))
+    written_by_entry 4 (omega arith) names.R_PPC64_GOT_TPREL16_LO_DS (low_ds_row GotTpOffGotBase) refl tt (of_bits refl refl refl refl refl (λ o. tt))
     (λ r s. refl)
 
 pub near_entry : Writes 4 (λ symbol any. symbol.thread_entry) names.R_PPC64_GOT_TPREL16_DS
 near_entry =
-    written_by_entry 4 (omega arith) names.R_PPC64_GOT_TPREL16_DS
-    (after_of 4 names.R_PPC64_GOT_TPREL16_DS (signed_row 16 (low_ds_row GotTpOffGotBase)) 0 16 Ds refl tt refl refl refl refl refl (λ o. tt))
+    written_by_entry 4 (omega arith) names.R_PPC64_GOT_TPREL16_DS (signed_row 16 (low_ds_row GotTpOffGotBase)) refl tt (of_bits refl refl refl refl refl (λ o. tt))
     (λ r s. refl)
 
 pub entry_prefixed : Writes 8 (λ symbol any. symbol.thread_entry) names.R_PPC64_GOT_TPREL_PCREL34
 entry_prefixed =
-    written_by_entry 8 (omega arith) names.R_PPC64_GOT_TPREL_PCREL34
-    (after_of 8 names.R_PPC64_GOT_TPREL_PCREL34 (prefixed_row GotTpOff) 0 34 Prefixed refl tt refl refl refl refl refl (λ o. tt))
+    written_by_entry 8 (omega arith) names.R_PPC64_GOT_TPREL_PCREL34 (prefixed_row GotTpOff) refl tt (of_bits refl refl refl refl refl (λ o. tt))
     (λ r s. refl)
