@@ -1,6 +1,6 @@
 -- The `lea` of a descriptor's address of x86-64 and the call of its function are groups in the
 -- final bytes.
-use Rattle.linker_final.proofs.Imports.{◌≡◌, ℕ, ◌+◌, ◌-◌, ◌^◌, ◌<◌, ◌≤◌, ◌||◌, Bool, List, [], ◌∷◌, length, drop, false, true, refl, sym, ap, subst, ◌∙◌, inl, inr, arith, IsTrue, Some, neg_ℤ, pos, slice_get, replaces, Symbol, x86_64_relocation_after, IsNamed, IsNameOf, r_type_of, x86_64_name, Choice, X86_64Relocation, thread_row, State, reg_after_rex, reg_after_rex2, seen, IsBefore, decision_at, Rewritten, relocation_in, is_of_got, operands_with, Rela, Relaxation, X86_64, is_at, is_one_at, x86_64_matches, x86_64_originals, x86_64_rewrite, RewriteKind, UntouchedByOthers, IsLinked, Linked, count, any_entry, descriptor_table, lea_of_descriptor, rex2_w, rex_mov, rex_w, unrelocated_by, with_rex, with_rex2, or_cases, or_left, or_right}
+use Rattle.linker_final.proofs.Imports.{◌≡◌, ℕ, ◌+◌, ◌-◌, ◌^◌, ◌<◌, ◌≤◌, ◌||◌, Bool, List, [], ◌∷◌, length, drop, false, true, refl, sym, ap, subst, ◌∙◌, inl, inr, arith, IsTrue, Some, slice_get, replaces, Symbol, x86_64_relocation_after, IsNamed, IsNameOf, r_type_of, x86_64_name, Choice, X86_64Relocation, thread_row, reg_after_rex, reg_after_rex2, decision_at, Rewritten, relocation_in, is_of_got, operands_with, Rela, Relaxation, X86_64, is_at, is_one_at, x86_64_matches, x86_64_originals, x86_64_rewrite, RewriteKind, UntouchedByOthers, IsLinked, Linked, count, any_entry, descriptor_table, lea_of_descriptor, rex2_w, rex_mov, rex_w, unrelocated_by, with_rex, with_rex2, or_cases, or_left, or_right}
 use Rattle.linker_elf.specs.declared.x86_64.relocations.X86_64Relocation.TheVariants as names
 use Rattle.linker_final.proofs.Inner.{HasWindow, own_window}
 use Rattle.linker_final.proofs.Phases.{last_length}
@@ -11,10 +11,10 @@ use Rattle.linker_final.proofs.X86Lawful.{AreOf, shaped_of}
 use Rattle.linker_final.proofs.X86Patterns.{there_inside}
 use Rattle.linker_final.proofs.X86Rows.{tpoff32}
 use Rattle.linker_final.proofs.X86ThreadEntries.{entry_final}
-use Rattle.linker_final.proofs.X86Windows.{HasRewrite, IsLawful, LawAt, StandsThere, object_bytes, object_has, object_length, object_matches, object_same, of_field, of_row, offset_small, unrelocated}
+use Rattle.linker_final.proofs.X86Windows.{IsLawful, LawAt, before, has_rewrite, object_bytes, object_has, object_length, object_matches, object_same, of_field, of_row, unrelocated}
 use Rattle.linker_final.specs.X86Section.{Makes, Window, call, lea, put_back, window, window_of}
 use Rattle.linker_laws.specs.X86Groups as groups
-use Rattle.linker_laws.specs.X86Groups.{Code, LeaToEntry, LeaToOffset, Stands}
+use Rattle.linker_laws.specs.X86Groups.{LeaToEntry, LeaToOffset, Stands}
 use Rattle.linker_utils.specs.declared.architecture.Relaxation.TheVariants as relaxations
 use Rattle.linker_utils.specs.declared.x86_64.rewrites.RewriteKind.TheVariants as kinds
 
@@ -71,38 +71,6 @@ module _ (n : ℕ) (three : 3 ≤ n) (name : X86_64Relocation) (named : IsNamed 
               thread_row (ap (of_row object.row) (object.by.1)) (law alone symbol (object.by.0));
         }
 
-    abbrev has_rewrite : UntouchedByOthers l i (o - n) (n + 4) → (kind : RewriteKind) → chosen.kind ≡ relaxations.X86_64 kind
-        → HasWindow n 4 (x86_64_rewrite kind) → IsTrue (is_one_at (lea_of_descriptor n) l.section o)
-        → x86_64_matches kind l.section o → HasRewrite l i n 4 kind
-    has_rewrite alone kind kind_is has_window there matches =
-        record {
-          linked = linked;
-          x86 = x86;
-          chosen = chosen;
-          below = below;
-          decided = decided;
-          kind_is = kind_is;
-          window = has_window;
-          matches = matches;
-          room = room there;
-          alone = alone;
-        }
-
-    -- the state before it
-    before : (kind : RewriteKind) (has : HasRewrite l i n 4 kind) (symbol : Symbol) (entry : ℕ) (c : Code)
-        (s : State)
-        → let operands = operands_with X86_64 l.addresses thread_row symbol r entry in
-        StandsThere l i n 4 name operands c s → r.addend ≡ neg_ℤ (pos 4)
-        → IsBefore n object o operands (seen s)
-    before kind has symbol entry c s there addend =
-        record {
-          bytes = object_bytes l i n 4 kind has;
-          offset = offset_small l i n 4 kind has;
-          addresses = there.addresses;
-          addend = addend;
-          ip = there.pc;
-        }
-
     pub lea_is_lawful : IsOfTable (descriptor_table n) l.section o r.addend chosen
         → IsLawful l i chosen name w
     lea_is_lawful (inl this) =
@@ -110,12 +78,12 @@ module _ (n : ℕ) (three : 3 ≤ n) (name : X86_64Relocation) (named : IsNamed 
         let has_window = own_window n 4 (x86_64_rewrite kind) (rex_mov n) refl (λ window. refl) three (omega arith) in
         lawful kind this.kind_is has_window (this.has_pattern.0) (this.has_pattern.1)
         (λ alone symbol is_symbol entry c s at h k descriptor makes.
-        let has = has_rewrite alone kind this.kind_is has_window (this.has_pattern.0) (this.has_pattern.1) in
+        let has = has_rewrite l linked x86 i chosen below decided this.kind_is has_window (this.has_pattern.1) (room (this.has_pattern.0)) alone in
         let there = object_has l i n 4 kind has (lea_of_descriptor n) (shaped_of n 4 (lea_of_descriptor n) shape) (this.has_pattern.0) in
         let operands = operands_with X86_64 l.addresses thread_row symbol r entry in
         some_and _ (x86_64_relocation_after kind name) names.R_X86_64_TPOFF32 offset_after to_offset c s object
         at.original l.final o operands
-        (before kind has symbol entry c s at (sym this.same_addend ∙ this.hold.1.1.1.0)) there
+        (before l i n 4 kind has name operands c s at (sym this.same_addend ∙ this.hold.1.1.1.0)) there
         (object_matches l i n 4 kind has (of_offset object o there)) at.applied
         (final_is l i n 4 kind has names.R_X86_64_TPOFF32 tpoff32
         (ap (is_of_got X86_64) (sym is_name.r_type_is) ∙ not_of_got) this.r_type_is (omega arith) (omega arith) symbol is_symbol entry)
@@ -126,14 +94,14 @@ module _ (n : ℕ) (three : 3 ≤ n) (name : X86_64Relocation) (named : IsNamed 
         let has_window = own_window n 4 (x86_64_rewrite kind) (replaces 2 1 _) refl (λ window. refl) (omega (arith, three)) (omega arith) in
         lawful kind this.kind_is has_window (this.has_pattern.0) (this.has_pattern.1)
         (λ alone symbol is_symbol entry c s at h k descriptor makes.
-        let has = has_rewrite alone kind this.kind_is has_window (this.has_pattern.0) (this.has_pattern.1) in
+        let has = has_rewrite l linked x86 i chosen below decided this.kind_is has_window (this.has_pattern.1) (room (this.has_pattern.0)) alone in
         let there = object_has l i n 4 kind has (lea_of_descriptor n) (shaped_of n 4 (lea_of_descriptor n) shape) (this.has_pattern.0) in
         let operands = operands_with X86_64 l.addresses thread_row symbol r entry in
         let made : Makes (relaxations.X86_64 kind) symbol c k s operands (c.new_half h) =
         subst (λ x. Makes x symbol c k s operands (c.new_half h)) this.kind_is makes in
         some_and _ (x86_64_relocation_after kind name) names.R_X86_64_GOTTPOFF entry_after
         (to_entry symbol.thread_entry (made.0)) c s object at.original l.final o operands
-        (before kind has symbol entry c s at (sym this.same_addend ∙ this.hold.1.1.0)) there
+        (before l i n 4 kind has name operands c s at (sym this.same_addend ∙ this.hold.1.1.0)) there
         (object_matches l i n 4 kind has (of_entry object o there)) at.applied
         (entry_final l i n 4 kind has this.r_type_is symbol is_symbol (omega arith) (omega arith) entry)
         at.old at.new h k descriptor (made.1))
@@ -196,18 +164,7 @@ module _ (law : groups.CallOfDescriptor) (l : Linked) (linked : IsLinked l)
           matches = this.has_pattern.1;
           room = room;
           law = λ alone symbol o c s final pc old.
-              let has : HasRewrite l i 0 2 skip = record {
-                linked = linked;
-                x86 = x86;
-                chosen = chosen;
-                below = below;
-                decided = decided;
-                kind_is = this.kind_is;
-                window = has_window;
-                matches = this.has_pattern.1;
-                room = room;
-                alone = alone;
-              } in
+              let has = has_rewrite l linked x86 i chosen below decided this.kind_is has_window (this.has_pattern.1) room alone in
               let high = room.1 in
               let long : length l.final ≡ length l.section =
               linked.written.same_length ∙ (last_length l linked ∙ linked.same_length) in

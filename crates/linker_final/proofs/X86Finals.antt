@@ -1,12 +1,12 @@
 -- A rewritten instruction of x86-64 is a group in the final bytes.
-use Rattle.linker_final.proofs.Imports.{◌≡◌, ℕ, ℤ, pos, ◌+◌, ◌-◌, ◌^◌, ◌<◌, ◌≤◌, List, length, false, refl, sym, ap, subst, ◌∙◌, arith, Option, Some, IsSomeAnd, cond-false, slice_get, Rewrite, rewritten, offset_after, operands_after, IsNameOf, r_type_of, sum_64, difference_64, value_of, x86_64_name, x86_64_row, RelocationKindInfo, Choice, Operands, X86_64Relocation, seen, IsBefore, decision_at, Rewritten, loads_plt_word, relocation_in, operands_with, operands_in, is_of_got, Addresses, Symbol, Rela, IsRow, Relaxation, X86_64, x86_64_relocation_after, x86_64_rewrite, x86_64_originals, RewriteKind, Linked, IsLinked, UntouchedByOthers, count}
+use Rattle.linker_final.proofs.Imports.{◌≡◌, ℕ, ℤ, pos, ◌+◌, ◌-◌, ◌^◌, ◌<◌, ◌≤◌, List, length, false, refl, sym, ap, subst, ◌∙◌, arith, Option, Some, IsSomeAnd, cond-false, slice_get, Rewrite, rewritten, offset_after, operands_after, IsNameOf, r_type_of, sum_64, difference_64, value_of, x86_64_name, x86_64_row, RelocationKindInfo, Choice, Operands, X86_64Relocation, decision_at, Rewritten, loads_plt_word, relocation_in, operands_with, operands_in, is_of_got, Addresses, Symbol, Rela, IsRow, Relaxation, X86_64, x86_64_relocation_after, x86_64_rewrite, x86_64_originals, RewriteKind, Linked, IsLinked, UntouchedByOthers, count}
 use Rattle.linker_final.proofs.Inner.{HasWindow}
 use Rattle.linker_final.proofs.X86Chosen.{of_table}
 use Rattle.linker_final.proofs.X86Lawful.{HasLaw, IsServed, of_choice, shaped_of}
 use Rattle.linker_final.proofs.X86Names.{GotOperand, got_name, got_operand}
 use Rattle.linker_final.proofs.X86Patterns.{there_inside}
 use Rattle.linker_final.proofs.X86Rows.{IsAfterRow}
-use Rattle.linker_final.proofs.X86Windows.{HasRewrite, IsLawful, LawAt, object_bytes, object_has, object_matches, of_field, of_row, offset_small, rela, relocated_after}
+use Rattle.linker_final.proofs.X86Windows.{HasRewrite, IsLawful, LawAt, before, has_rewrite, object_has, object_matches, of_field, of_row, offset_small, rela, relocated_after}
 use Rattle.linker_final.specs.X86Section.{IsGroupOf, Window, in_got, put_back, window, window_of}
 use Rattle.linker_laws.specs.X86Groups.{Groups}
 use Rattle.linker_laws.specs.X86RewriteLaws.{IsRelocated}
@@ -139,26 +139,14 @@ module _ (laws : Groups) (name : X86_64Relocation) (operand : GotOperand)
     room = there_inside operand.back 4 (omega arith) law.instructions l.section o law.are_of law.there
 
     module _ (alone : UntouchedByOthers l i (o - operand.back) (operand.back + 4)) where
-      abbrev has_rewrite : HasRewrite l i operand.back 4 kind
-      has_rewrite =
-          record {
-            linked = linked;
-            x86 = x86;
-            chosen = chosen;
-            below = below;
-            decided = decided;
-            kind_is = served.kind_is;
-            window = w;
-            matches = law.matches;
-            room = room;
-            alone = alone;
-          }
+      abbrev has : HasRewrite l i operand.back 4 kind
+      has = has_rewrite l linked x86 i chosen below decided served.kind_is w law.matches room alone
 
       abbrev object : List ℕ
       object = put_back (o - operand.back) (operand.back + 4) l.section l.final
 
       small : o < 2 ^ 64
-      small = offset_small l i operand.back 4 kind has_rewrite
+      small = offset_small l i operand.back 4 kind has
 
       before_is : is_of_got X86_64 r.r_type ≡ false
       before_is =
@@ -173,30 +161,23 @@ module _ (laws : Groups) (name : X86_64Relocation) (operand : GotOperand)
         relocated : IsRelocated after (operands_after (x86_64_rewrite kind) o operands_of_object)
             (offset_after (x86_64_rewrite kind) o) (rewritten (x86_64_rewrite kind) object o) l.final
         relocated =
-            let moves = law.within.moves o (has_rewrite.room.0) in
+            let moves = law.within.moves o (has.room.0) in
             let high = moves.1 in
-            final_is l i operand.back 4 kind has_rewrite after a before_is served.r_type_is
+            final_is l i operand.back 4 kind has after a before_is served.r_type_is
             (moves.0) (omega (arith, high)) symbol is_symbol entry
 
       does_the_same : (a : IsAfterRow after) → DoesTheSame a.row
       does_the_same a symbol is_symbol entry c s there =
           let operands = operands_of_object a symbol is_symbol entry in
-          let before : IsBefore operand.back object o operands (seen s) =
-          record {
-            bytes = object_bytes l i operand.back 4 kind has_rewrite;
-            offset = small;
-            addresses = there.addresses;
-            addend = addend_was l.addresses after a symbol r w.made chosen.relocation entry small
-                before_is (ap (is_of_got X86_64) served.r_type_is ∙ a.is_not_of_got)
-                ∙ served.is_from_end;
-            ip = there.pc;
-          } in
+          let addend = addend_was l.addresses after a symbol r w.made chosen.relocation entry small
+          before_is (ap (is_of_got X86_64) served.r_type_is ∙ a.is_not_of_got)
+          ∙ served.is_from_end in
           subst (λ k. IsGroupOf k operand.held c operands s) (sym served.kind_is)
           (some_and _ (x86_64_relocation_after kind name) after law.after law.law
-          c s object there.original l.final o operands before
-          (object_has l i operand.back 4 kind has_rewrite law.instructions (shaped_of operand.back 4 law.instructions law.are_of) law.there)
-          (object_matches l i operand.back 4 kind has_rewrite
-          (object_has l i operand.back 4 kind has_rewrite (x86_64_originals kind) law.shaped_too (law.matches.1)))
+          c s object there.original l.final o operands (before l i operand.back 4 kind has name operands c s there addend)
+          (object_has l i operand.back 4 kind has law.instructions (shaped_of operand.back 4 law.instructions law.are_of) law.there)
+          (object_matches l i operand.back 4 kind has
+          (object_has l i operand.back 4 kind has (x86_64_originals kind) law.shaped_too (law.matches.1)))
           there.applied (relocated a symbol is_symbol entry) there.old there.new)
 
     -- the row of the relocation after

@@ -8,7 +8,7 @@ use Rattle.linker_final.proofs.X86Lawful.{AreOf, shaped_of}
 use Rattle.linker_final.proofs.X86Patterns.{there_inside}
 use Rattle.linker_final.proofs.X86Rows.{tpoff32}
 use Rattle.linker_final.proofs.X86ThreadEntries.{entry_final}
-use Rattle.linker_final.proofs.X86Windows.{HasRewrite, IsLawful, LawAt, StandsThere, object_bytes, object_has, object_matches, of_field, of_row, offset_small, unrelocated}
+use Rattle.linker_final.proofs.X86Windows.{HasRewrite, IsLawful, LawAt, before, has_rewrite, object_has, object_matches, of_field, of_row, unrelocated}
 use Rattle.linker_final.specs.X86Section.{AreBy, EntryHolds, Form, HasObject, IsObject, Window, block, put_back, sequence_of, variable, window, window_of}
 use Rattle.linker_laws.specs.X86Groups as groups
 use Rattle.linker_laws.specs.X86Groups.{AddsOffset, Code, IsModuleCall, IsThreadCall, Stands}
@@ -84,19 +84,7 @@ module _ (l : Linked) (linked : IsLinked l) (x86 : l.context.architecture ≡ X8
 
   module _ (alone : UntouchedByOthers l i (o - back) (back + (4 + call))) where
     abbrev has : HasRewrite l i back (4 + call) kind
-    has =
-        record {
-          linked = linked;
-          x86 = x86;
-          chosen = chosen;
-          below = below;
-          decided = decided;
-          kind_is = kind_is;
-          window = has_window;
-          matches = pattern.1;
-          room = room;
-          alone = alone;
-        }
+    has = has_rewrite l linked x86 i chosen below decided kind_is has_window (pattern.1) room alone
 
     abbrev object : List ℕ
     object = put_back (o - back) (back + (4 + call)) l.section l.final
@@ -106,21 +94,6 @@ module _ (l : Linked) (linked : IsLinked l) (x86 : l.context.architecture ≡ X8
         object_matches l i back (4 + call) kind has
         (object_has l i back (4 + call) kind has (x86_64_originals kind)
         (shaped_of back (4 + call) (x86_64_originals kind) shape) (pattern.1.1))
-
-    -- of a symbol and of an entry
-    module _ (row : RelocationKindInfo) (symbol : Symbol) (entry : ℕ) (name : X86_64Relocation) (c : Code)
-        (s : State)
-        (there : StandsThere l i back (4 + call) name (operands_with X86_64 l.addresses row symbol r entry) c s)
-        (addend : (operands_with X86_64 l.addresses row symbol r entry).addend ≡ neg_ℤ (pos 4)) where
-      before : IsBefore back object o (operands_with X86_64 l.addresses row symbol r entry) (seen s)
-      before =
-          record {
-            bytes = object_bytes l i back (4 + call) kind has;
-            offset = offset_small l i back (4 + call) kind has;
-            addresses = there.addresses;
-            addend = addend;
-            ip = there.pc;
-          }
 
     -- of a variable
     module _ (count : ℕ) (is_name : IsNameOf x86_64_name r.r_type names.R_X86_64_TLSGD)
@@ -136,7 +109,7 @@ module _ (l : Linked) (linked : IsLinked l) (x86 : l.context.architecture ≡ X8
       to_local after_is law r_type_is symbol is_symbol entry c s there k k' s' pointer holds returns =
           some_and _ (x86_64_relocation_after kind names.R_X86_64_TLSGD) names.R_X86_64_TPOFF32 after_is law c s
           object there.original l.final o (operands_with X86_64 l.addresses thread_row symbol r entry)
-          (before thread_row symbol entry names.R_X86_64_TLSGD c s there addend) (matches.1) matches
+          (before l i back (4 + call) kind has names.R_X86_64_TLSGD _ c s there addend) (matches.1) matches
           there.applied
           (final_is l i back (4 + call) kind has names.R_X86_64_TPOFF32 tpoff32
           (ap (is_of_got X86_64) (sym is_name.r_type_is)) r_type_is low high symbol is_symbol entry)
@@ -159,7 +132,7 @@ module _ (l : Linked) (linked : IsLinked l) (x86 : l.context.architecture ≡ X8
           (subst (λ x. EntryHolds x symbol c k s k' operands) kind_is holds) in
           some_and _ (x86_64_relocation_after kind names.R_X86_64_TLSGD) names.R_X86_64_GOTTPOFF after_is
           (law symbol.thread_entry (held.0)) c s object there.original l.final o operands
-          (before thread_row symbol entry names.R_X86_64_TLSGD c s there addend) (matches.1) matches
+          (before l i back (4 + call) kind has names.R_X86_64_TLSGD _ c s there addend) (matches.1) matches
           there.applied (entry_final l i back (4 + call) kind has r_type_is symbol is_symbol low high entry)
           there.old there.new k k' s' pointer (held.1) returns
 
@@ -168,7 +141,7 @@ module _ (l : Linked) (linked : IsLinked l) (x86 : l.context.architecture ≡ X8
         → (symbol : Symbol) → LawAt l i names.R_X86_64_TLSLD tls_module_row (around (block count)) chosen.kind symbol
     module_law count law code addend symbol entry c s there =
         law c s object there.original o (operands_with X86_64 l.addresses tls_module_row symbol r entry)
-        (before tls_module_row symbol entry names.R_X86_64_TLSLD c s there addend) matches there.applied
+        (before l i back (4 + call) kind has names.R_X86_64_TLSLD _ c s there addend) matches there.applied
         there.old
         (subst (λ xs. Stands c.new s.pc (back + (4 + call)) (drop (o - back) xs))
         (sym (unrelocated l i back (4 + call) kind has code)) there.new)

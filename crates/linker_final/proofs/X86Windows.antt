@@ -1,5 +1,5 @@
 -- The window of an instruction or a sequence of x86-64 in the final bytes of a section.
-use Rattle.linker_final.proofs.Imports.{◌≡◌, ℕ, ℤ, ◌+◌, ◌-◌, ◌*◌, ◌/◌, ◌^◌, ◌<◌, ◌≤◌, ◌⊎◌, List, ◌++◌, length, take, drop, get_or, sym, ap, subst, ◌∙◌, inl, inr, arith, Option, Some, None, Ok, IsSomeAnd, IsTrue, cases_eq, cases_lt, length-drop, drop-drop, ext_get_or, get_or-drop, get_or_past, All-take, All-drop, All-get_or, w64, from_le_bytes, cast_unsigned, Rewrite, CanRewrite, IsRewritable, rewritten, rewrite_window, offset_after, addend_after, IsNamed, r_type_of, IsWritten, low_bytes, number_of_bytes, number_written, window_len, size_len, bytes_row, difference_64, sum_64, value_of, x86_64_name, x86_64_row, RelocationKindInfo, Choice, Operands, X86_64Relocation, AreAddresses, State, IsRelocatedBy, decision_at, written_end_at, IsDone, IsMade, relocation_after, Rewritten, one_info, IsField, field_end, field_len, relocation_in, IsInNoField, IsRowValue, operands_of, operands_with, offset_at, Symbol, Rela, IsRow, relaxation_rewrite, Relaxation, X86_64, x86_64_rewrite, x86_64_matches, x86_64_originals, Original, is_one_at, RewriteKind, take-append-drop, All-append, Linked, IsLinked, UntouchedByOthers, AreBytes, count, start_at, HaveSameWindow, accepted_same}
+use Rattle.linker_final.proofs.Imports.{◌≡◌, ℕ, ℤ, ◌+◌, ◌-◌, ◌*◌, ◌/◌, ◌^◌, ◌<◌, ◌≤◌, ◌⊎◌, List, ◌++◌, length, take, drop, get_or, sym, ap, subst, ◌∙◌, inl, inr, arith, Option, Some, None, Ok, IsSomeAnd, IsTrue, cases_eq, cases_lt, length-drop, drop-drop, ext_get_or, get_or-drop, get_or_past, All-take, All-drop, All-get_or, w64, from_le_bytes, cast_unsigned, Rewrite, CanRewrite, IsRewritable, rewritten, rewrite_window, offset_after, addend_after, IsNamed, r_type_of, IsWritten, low_bytes, number_of_bytes, number_written, window_len, size_len, bytes_row, difference_64, sum_64, value_of, x86_64_name, x86_64_row, RelocationKindInfo, Choice, Operands, X86_64Relocation, AreAddresses, State, IsRelocatedBy, decision_at, written_end_at, IsDone, IsMade, relocation_after, Rewritten, one_info, IsField, field_end, field_len, relocation_in, IsInNoField, IsRowValue, operands_of, operands_with, offset_at, Symbol, Rela, IsRow, relaxation_rewrite, Relaxation, X86_64, x86_64_rewrite, x86_64_matches, x86_64_originals, Original, is_one_at, RewriteKind, take-append-drop, All-append, Linked, IsLinked, UntouchedByOthers, AreBytes, count, start_at, HaveSameWindow, accepted_same, neg_ℤ, pos, IsBefore, seen}
 use Rattle.linker_elf.specs.declared.elf.RelocationKind.TheVariants.{None as NoValue}
 use Rattle.linker_elf.specs.declared.x86_64.relocations.X86_64Relocation.TheVariants as names
 use Rattle.linker_final.proofs.Fields.{UntouchedField, four_bytes, left, len_is}
@@ -168,6 +168,26 @@ pub record HasRewrite (l : Linked) (i back end : ℕ) (kind : RewriteKind) : Typ
   pub room : (back ≤ (relocation_in l.relocations i).offset)
       × ((relocation_in l.relocations i).offset + end ≤ length l.section)
   pub alone : UntouchedByOthers l i ((relocation_in l.relocations i).offset - back) (back + end)
+
+abbrev pub has_rewrite : {back end : ℕ} {kind : RewriteKind} (l : Linked) → IsLinked l → l.context.architecture ≡ X86_64
+    → (i : ℕ) (chosen : Choice Relaxation ℕ) → i < count l → decision_at l.decisions i ≡ Rewritten chosen
+    → chosen.kind ≡ relaxations.X86_64 kind → HasWindow back end (x86_64_rewrite kind)
+    → x86_64_matches kind l.section (relocation_in l.relocations i).offset
+    → (back ≤ (relocation_in l.relocations i).offset) × ((relocation_in l.relocations i).offset + end ≤ length l.section)
+    → UntouchedByOthers l i ((relocation_in l.relocations i).offset - back) (back + end) → HasRewrite l i back end kind
+has_rewrite l linked x86 i chosen below decided kind_is window matches room alone =
+    record {
+      linked = linked;
+      x86 = x86;
+      chosen = chosen;
+      below = below;
+      decided = decided;
+      kind_is = kind_is;
+      window = window;
+      matches = matches;
+      room = room;
+      alone = alone;
+    }
 
 module _ (l : Linked) (i back end : ℕ) (kind : RewriteKind) (is : HasRewrite l i back end kind)
   where
@@ -417,6 +437,19 @@ pub record StandsThere (l : Linked) (i n end : ℕ) (name : X86_64Relocation) (o
   pub applied : IsRelocated name o (offset_of l i) (put_back (offset_of l i - n) (n + end) l.section l.final) original
   pub old : Stands c.old s.pc (n + 4) (drop (offset_of l i - n) original)
   pub new : Stands c.new s.pc (n + end) (drop (offset_of l i - n) l.final)
+
+-- the state before it
+pub before : (l : Linked) (i back end : ℕ) (kind : RewriteKind) → HasRewrite l i back end kind → (name : X86_64Relocation)
+    (operands : Operands) (c : Code) (s : State) → StandsThere l i back end name operands c s → operands.addend ≡ neg_ℤ (pos 4)
+    → IsBefore back (put_back (offset_of l i - back) (back + end) l.section l.final) (offset_of l i) operands (seen s)
+before l i back end kind has name operands c s there addend =
+    record {
+      bytes = object_bytes l i back end kind has;
+      offset = offset_small l i back end kind has;
+      addresses = there.addresses;
+      addend = addend;
+      ip = there.pc;
+    }
 
 -- what holds where they do
 abbrev pub LawAt : Linked → ℕ → X86_64Relocation → RelocationKindInfo → Window → Relaxation → Symbol → Type 0
