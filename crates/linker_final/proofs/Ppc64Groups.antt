@@ -1,12 +1,12 @@
 -- Each rewritten instruction of PowerPC64 is a group.
-use Rattle.linker_final.proofs.Imports.{◌≡◌, ◌⊎◌, ℕ, Bool, ◌+◌, ◌-◌, ◌*◌, ◌^◌, ◌<◌, ◌≤◌, List, [], ◌∷◌, length, drop, take, get_or, refl, sym, ap, subst, ◌∙◌, arith, inl, inr, Some, not, eqb, IsSomeAnd, None, and_parts, cases_lt, drop-drop, get_or_past, length-drop, take-take, All-drop, All-take, All-get_or, IsTrue, ◌&&◌, slice_get, w32, from_le_bytes, to_le_bytes, byte_at, Rewrite, replaces, entry, IsNamed, IsNameOf, r_type_of, ppc64_name, ppc64_row, sum_64, Ppc64, Choice, Ppc64Relocation, word_below, window_of_rewrite, decision_at, Rewritten, relocation_in, operands_with, Symbol, Rela, HasTest, ppc64_entries, ppc64_matches, ppc64_rewrite, rewrites_marked, relaxation_rewrite, Relaxation, word_of_front, le_bytes_4, changed_toc, AreBytes, AreRewritten, IsLinked, IsOutside, IsRewrittenByNoOther, IsWrittenByNoOther, Linked, UntouchedByOthers, UntouchedBytes, count, instruction_at, two_at}
+use Rattle.linker_final.proofs.Imports.{◌≡◌, ◌⊎◌, ℕ, Bool, ◌+◌, ◌-◌, ◌*◌, ◌^◌, ◌<◌, ◌≤◌, List, [], ◌∷◌, length, drop, take, get_or, refl, sym, ap, subst, ◌∙◌, arith, inl, inr, Some, not, eqb, IsSomeAnd, None, and_parts, cases_lt, drop-drop, length-drop, take-take, All-drop, All-take, IsTrue, ◌&&◌, slice_get, w32, from_le_bytes, to_le_bytes, byte_at, Rewrite, replaces, entry, IsNamed, IsNameOf, r_type_of, ppc64_name, ppc64_row, sum_64, Ppc64, Choice, Ppc64Relocation, word_below, window_of_rewrite, decision_at, Rewritten, relocation_in, operands_with, Symbol, Rela, HasTest, ppc64_entries, ppc64_matches, ppc64_rewrite, rewrites_marked, relaxation_rewrite, Relaxation, word_of_front, le_bytes_4, changed_toc, AreBytes, AreRewritten, IsLinked, IsOutside, IsRewrittenByNoOther, IsWrittenByNoOther, Linked, UntouchedByOthers, UntouchedBytes, count, instruction_at, two_at}
 use Rattle.linker_elf.specs.declared.ppc64.relocations.Ppc64Relocation.TheVariants as names
 use Rattle.linker_final.proofs.Phases.{left_within}
 use Rattle.linker_final.proofs.Ppc64Again.{of_none}
 use Rattle.linker_final.proofs.Ppc64Chosen.{IsOfEntry, IsOfOne}
 use Rattle.linker_final.proofs.Ppc64Written.{Writes, after_is, becomes, becomes_marked, call_after, distance, entry_high, entry_low, entry_prefixed, left_alone, left_beside, made_after, marked_offset, near_entry, test_at, thread, thread_high, thread_low, thread_low_after, thread_low_words, thread_prefixed, thread_words, toc, toc_high, toc_low, toc_words}
 use Rattle.linker_final.proofs.PutBack.{window_byte, window_length}
-use Rattle.linker_final.proofs.Written.{first_same, mapped, outside_of, second_same, spared, stays, word_same}
+use Rattle.linker_final.proofs.Written.{first_same, mapped, outside_of, second_same, small_byte, spared, stays, word_same}
 use Rattle.linker_final.specs.Ppc64Section.{AreLeftAlone, HasApplied, IsMade, IsOfNoPhase, Law, Left, Restores, applied, entry_by, law, law_of, name_of, none, of_call, shape, to_second}
 use Rattle.linker_final.specs.SectionRuns.{offset_of}
 use Rattle.linker_laws.specs.Ppc64Groups as groups
@@ -45,11 +45,7 @@ call_stays before after o small inside made =
     sym (take-take 4 8 (drop o after) (omega arith))
     ∙ (ap (take 4) (sym (take-take 8 8 (drop o after) (omega arith)) ∙ made)
     ∙ (first_bytes a (omega (arith, same, below))
-    ∙ le_bytes_4 (instruction_at before o) a long
-    (λ i. elim (cases_lt i 4) [
-      | inl less ↦ All-get_or (λ b. b < 2 ^ 8) (instruction_at before o) i 0 (omega (arith, less, long)) there
-      | inr most ↦ subst (λ y. y < 256) (sym (get_or_past (instruction_at before o) i 0 (omega (arith, long, most)))) (omega arith)
-    ]) same))
+    ∙ le_bytes_4 (instruction_at before o) a long (small_byte (instruction_at before o) there) same))
 
 -- ---- words that stand
 

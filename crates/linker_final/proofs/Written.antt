@@ -1,9 +1,16 @@
 -- Instructions and their relocations in the bytes that rewrites leave, and in the final bytes.
-use Rattle.linker_final.proofs.Imports.{◌≡◌, ℕ, ℤ, ◌+◌, ◌-◌, ◌/◌, ◌<◌, ◌≤◌, ◌⊎◌, List, length, take, drop, sym, ap, subst, ◌∙◌, refl, inl, inr, arith, Option, Some, None, IsSomeAnd, Ok, Err, Result, true, cases_eq, cases_lt, cases_Bool, cond-true, cond-false, take-take, drop-drop, w32, from_le_bytes, slice_get, Rewrite, addend_after, offset_after, window_of_rewrite, RewriteWindow, IsApplied, IsNamed, r_type_of, bytes_row, value_of, RelocationKindInfo, Choice, Operands, decision_at, window_of, written_end_at, IsDone, IsMade, relocation_after, Decision, Rewritten, IsField, field_end, field_len, entry_of, relocation_in, IsInNoField, IsRowValue, IsValueBy, IsValueIn, entry_address, has_value, is_there, lacks_origin, value_by, offset_at, operands_by, operands_in, operands_of, operands_with, Addresses, Symbol, Entry, Rela, ValueError, NoEntry, IsRow, relaxation_rewrite, Relaxation, Architecture, word_of_front, drop-take, ElfName, AreRewritten, Linked, UntouchedBytes, IsLinked, IsOutside, IsRewrittenByNoOther, IsWrittenByNoOther, count, instruction_at, two_at, start_by, written_end_by, entry_in, IsNamedValue}
+use Rattle.linker_final.proofs.Imports.{◌≡◌, ℕ, ℤ, ◌+◌, ◌-◌, ◌/◌, ◌<◌, ◌≤◌, ◌⊎◌, List, length, take, drop, sym, ap, subst, ◌∙◌, refl, inl, inr, arith, Option, Some, None, IsSomeAnd, Ok, Err, Result, true, cases_eq, cases_lt, cases_Bool, cond-true, cond-false, take-take, drop-drop, w32, from_le_bytes, slice_get, Rewrite, addend_after, offset_after, window_of_rewrite, RewriteWindow, IsApplied, IsNamed, r_type_of, bytes_row, value_of, RelocationKindInfo, Choice, Operands, decision_at, window_of, written_end_at, IsDone, IsMade, relocation_after, Decision, Rewritten, IsField, field_end, field_len, entry_of, relocation_in, IsInNoField, IsRowValue, IsValueBy, IsValueIn, entry_address, has_value, is_there, lacks_origin, value_by, offset_at, operands_by, operands_in, operands_of, operands_with, Addresses, Symbol, Entry, Rela, ValueError, NoEntry, IsRow, relaxation_rewrite, Relaxation, Architecture, word_of_front, drop-take, ElfName, AreRewritten, Linked, UntouchedBytes, IsLinked, IsOutside, IsRewrittenByNoOther, IsWrittenByNoOther, count, instruction_at, two_at, start_by, written_end_by, entry_in, IsNamedValue, AreBytes, All-get_or, get_or_past}
 use Rattle.linker_elf.specs.declared.elf.RelocationKind.TheVariants.{None as NoValue}
 use Rattle.linker_final.proofs.InstructionFields.{IsOfInstruction, applied, instruction_len}
 use Rattle.linker_final.proofs.Phases.{bytes_left, last_as_many, last_length, last_within, relocation_left}
 use Rattle.linker_final.proofs.PutBack.{same_windows}
+
+pub small_byte : (bytes : List ℕ) → AreBytes bytes → (i : ℕ) → get_or bytes i 0 < 256
+small_byte bytes are i =
+    elim (cases_lt i (length bytes)) [
+      | inl below ↦ All-get_or (λ b. b < 2 ^ 8) bytes i 0 below are
+      | inr past ↦ subst (λ b. b < 256) (sym (get_or_past bytes i 0 past)) (omega arith)
+    ]
 
 -- ---- words
 
@@ -277,7 +284,7 @@ unwritten_but l linked i p left inside apart alone =
     ])
     ∙ bytes_left l linked i p 4 left
 
-abbrev of_row : RelocationKindInfo → Option RelocationKindInfo → RelocationKindInfo
+abbrev pub of_row : RelocationKindInfo → Option RelocationKindInfo → RelocationKindInfo
 of_row other None = other
 of_row other (Some row) = row
 
@@ -290,8 +297,9 @@ module _ (l : Linked) (i : ℕ) (after : Rela) (is_after : relocation_in l.reloc
       (only (Some other) (subst (λ (x : Rela). IsRow l.context.architecture x.r_type (Some other)) is_after field.is_row))
 
   -- one without a value has no field
-  pub apart_without : row ≡ bytes_row NoValue 0 → (p : ℕ) → IsApart l i p
-  apart_without is p other field =
+  pub no_field : row ≡ bytes_row NoValue 0 → (other : RelocationKindInfo)
+      → IsField l.context.architecture l.relocations_last l.last i other → ⊥
+  no_field is other field =
       let some : 0 < field_len (bytes_row NoValue 0) (drop (offset_at l.relocations_last i) l.last) =
       subst (λ x. 0 < field_len x (drop (offset_at l.relocations_last i) l.last)) (same_row other field ∙ is) field.some in
       absurd (omega (arith, some))
@@ -317,6 +325,6 @@ pub unwritten_without : (l : Linked) → IsLinked l → (i : ℕ) → i < count 
 unwritten_without l linked i below p left none gone inside alone =
     let is_last = relocation_left l linked i p 4 left below in
     unwritten_but l linked i p left inside
-    (apart_without l i (relocation_in l.relocations_after i) is_last (bytes_row NoValue 0)
-    (subst (λ x. IsRowOf l.context.architecture x (bytes_row NoValue 0)) (sym gone) none) refl p)
+    (λ row field. absurd (no_field l i (relocation_in l.relocations_after i) is_last (bytes_row NoValue 0)
+    (subst (λ x. IsRowOf l.context.architecture x (bytes_row NoValue 0)) (sym gone) none) refl row field))
     alone

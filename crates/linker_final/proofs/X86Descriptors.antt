@@ -11,7 +11,8 @@ use Rattle.linker_final.proofs.X86Lawful.{AreOf, shaped_of}
 use Rattle.linker_final.proofs.X86Patterns.{there_inside}
 use Rattle.linker_final.proofs.X86Rows.{tpoff32}
 use Rattle.linker_final.proofs.X86ThreadEntries.{entry_final}
-use Rattle.linker_final.proofs.X86Windows.{IsLawful, LawAt, before, has_rewrite, object_bytes, object_has, object_length, object_matches, object_same, of_field, of_row, unrelocated}
+use Rattle.linker_final.proofs.X86Windows.{IsLawful, LawAt, before, has_rewrite, object_bytes, object_has, object_length, object_matches, object_same, of_field, unrelocated}
+use Rattle.linker_final.proofs.Written.{of_row}
 use Rattle.linker_final.specs.X86Section.{Makes, Window, call, lea, put_back, window, window_of}
 use Rattle.linker_laws.specs.X86Groups as groups
 use Rattle.linker_laws.specs.X86Groups.{LeaToEntry, LeaToOffset, Stands}

@@ -6,7 +6,8 @@ use Rattle.linker_final.proofs.X86Lawful.{HasLaw, IsServed, of_choice, shaped_of
 use Rattle.linker_final.proofs.X86Names.{GotOperand, got_name, got_operand}
 use Rattle.linker_final.proofs.X86Patterns.{there_inside}
 use Rattle.linker_final.proofs.X86Rows.{IsAfterRow}
-use Rattle.linker_final.proofs.X86Windows.{HasRewrite, IsLawful, LawAt, before, has_rewrite, object_has, object_matches, of_field, of_row, offset_small, rela, relocated_after}
+use Rattle.linker_final.proofs.X86Windows.{HasRewrite, IsLawful, LawAt, before, has_rewrite, object_has, object_matches, of_field, offset_small, relocated_after}
+use Rattle.linker_final.proofs.Written.{of_row, rela}
 use Rattle.linker_final.specs.X86Section.{IsGroupOf, Window, in_got, put_back, window, window_of}
 use Rattle.linker_laws.specs.X86Groups.{Groups}
 use Rattle.linker_laws.specs.X86RewriteLaws.{IsRelocated}

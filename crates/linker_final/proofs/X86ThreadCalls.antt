@@ -8,7 +8,8 @@ use Rattle.linker_final.proofs.X86Lawful.{AreOf, shaped_of}
 use Rattle.linker_final.proofs.X86Patterns.{there_inside}
 use Rattle.linker_final.proofs.X86Rows.{tpoff32}
 use Rattle.linker_final.proofs.X86ThreadEntries.{entry_final}
-use Rattle.linker_final.proofs.X86Windows.{HasRewrite, IsLawful, LawAt, before, has_rewrite, object_has, object_matches, of_field, of_row, unrelocated}
+use Rattle.linker_final.proofs.X86Windows.{HasRewrite, IsLawful, LawAt, before, has_rewrite, object_has, object_matches, of_field, unrelocated}
+use Rattle.linker_final.proofs.Written.{of_row}
 use Rattle.linker_final.specs.X86Section.{AreBy, EntryHolds, Form, HasObject, IsObject, Window, block, put_back, sequence_of, variable, window, window_of}
 use Rattle.linker_laws.specs.X86Groups as groups
 use Rattle.linker_laws.specs.X86Groups.{AddsOffset, Code, IsModuleCall, IsThreadCall, Stands}

@@ -5,7 +5,8 @@ use Rattle.linker_elf.specs.declared.x86_64.relocations.X86_64Relocation.TheVari
 use Rattle.linker_final.proofs.PlainRows.{are_there}
 use Rattle.linker_final.proofs.X86Finals.{moved}
 use Rattle.linker_final.proofs.X86ThreadRows.{plain_entry}
-use Rattle.linker_final.proofs.X86Windows.{HasRewrite, offset_small, r_after, rela, relocated_after, row_after, within_after}
+use Rattle.linker_final.proofs.Written.{rela}
+use Rattle.linker_final.proofs.X86Windows.{HasRewrite, offset_small, r_after, relocated_after, row_after, within_after}
 use Rattle.linker_laws.specs.X86RewriteLaws.{IsRelocated}
 
 abbrev offset_entry : Entry

@@ -10,7 +10,8 @@ use Rattle.linker_final.proofs.X86Chosen.{of_table}
 use Rattle.linker_final.proofs.X86Finals.{some_and}
 use Rattle.linker_final.proofs.X86Rows.{tpoff32}
 use Rattle.linker_final.proofs.X86ThreadRows.{plain_long_thread}
-use Rattle.linker_final.proofs.X86Windows.{rela, relocated, row_after, small_byte}
+use Rattle.linker_final.proofs.X86Windows.{relocated, row_after}
+use Rattle.linker_final.proofs.Written.{rela, small_byte}
 use Rattle.linker_laws.specs.X86Machine.{extended}
 use Rattle.linker_utils.specs.declared.architecture.Relaxation.TheVariants as relaxations
 use Rattle.linker_utils.specs.declared.x86_64.rewrites.RewriteKind.TheVariants as kinds

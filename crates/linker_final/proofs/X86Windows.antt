@@ -1,5 +1,5 @@
 -- The window of an instruction or a sequence of x86-64 in the final bytes of a section.
-use Rattle.linker_final.proofs.Imports.{◌≡◌, ℕ, ℤ, ◌+◌, ◌-◌, ◌*◌, ◌/◌, ◌^◌, ◌<◌, ◌≤◌, ◌⊎◌, List, ◌++◌, length, take, drop, get_or, sym, ap, subst, ◌∙◌, inl, inr, arith, Option, Some, None, Ok, IsSomeAnd, IsTrue, cases_eq, cases_lt, length-drop, drop-drop, ext_get_or, get_or-drop, get_or_past, All-take, All-drop, All-get_or, w64, from_le_bytes, cast_unsigned, Rewrite, CanRewrite, IsRewritable, rewritten, rewrite_window, offset_after, addend_after, IsNamed, r_type_of, IsWritten, low_bytes, number_of_bytes, number_written, window_len, size_len, bytes_row, difference_64, sum_64, value_of, x86_64_name, x86_64_row, RelocationKindInfo, Choice, Operands, X86_64Relocation, AreAddresses, State, IsRelocatedBy, decision_at, written_end_at, IsDone, IsMade, relocation_after, Rewritten, one_info, IsField, field_end, field_len, relocation_in, IsInNoField, IsRowValue, operands_of, operands_with, offset_at, Symbol, Rela, IsRow, relaxation_rewrite, Relaxation, X86_64, x86_64_rewrite, x86_64_matches, x86_64_originals, Original, is_one_at, RewriteKind, take-append-drop, All-append, Linked, IsLinked, UntouchedByOthers, AreBytes, count, start_at, HaveSameWindow, accepted_same, neg_ℤ, pos, IsBefore, seen}
+use Rattle.linker_final.proofs.Imports.{◌≡◌, ℕ, ◌+◌, ◌-◌, ◌*◌, ◌/◌, ◌^◌, ◌<◌, ◌≤◌, ◌⊎◌, List, ◌++◌, length, take, drop, get_or, sym, ap, subst, ◌∙◌, inl, inr, arith, Some, Ok, IsSomeAnd, IsTrue, cases_eq, cases_lt, length-drop, drop-drop, ext_get_or, get_or-drop, All-take, All-drop, w64, from_le_bytes, cast_unsigned, CanRewrite, IsRewritable, rewritten, rewrite_window, offset_after, IsNamed, r_type_of, IsWritten, low_bytes, number_of_bytes, number_written, window_len, size_len, bytes_row, difference_64, sum_64, value_of, x86_64_name, x86_64_row, RelocationKindInfo, Choice, Operands, X86_64Relocation, AreAddresses, State, IsRelocatedBy, decision_at, written_end_at, IsDone, IsMade, Rewritten, one_info, IsField, field_end, field_len, relocation_in, IsInNoField, operands_of, operands_with, offset_at, Symbol, Rela, IsRow, relaxation_rewrite, Relaxation, X86_64, x86_64_rewrite, x86_64_matches, x86_64_originals, Original, is_one_at, RewriteKind, take-append-drop, All-append, Linked, IsLinked, UntouchedByOthers, AreBytes, count, start_at, HaveSameWindow, accepted_same, neg_ℤ, pos, IsBefore, seen}
 use Rattle.linker_elf.specs.declared.elf.RelocationKind.TheVariants.{None as NoValue}
 use Rattle.linker_elf.specs.declared.x86_64.relocations.X86_64Relocation.TheVariants as names
 use Rattle.linker_final.proofs.Fields.{UntouchedField, four_bytes, left, len_is}
@@ -9,7 +9,7 @@ use Rattle.linker_final.proofs.PlainRows.{IsPlain}
 use Rattle.linker_final.proofs.PutBack.{put_back_is, back_inside, back_outside, back_rewritten, same_windows}
 use Rattle.linker_final.proofs.X86Lawful.{HaveShape}
 use Rattle.linker_final.proofs.X86Patterns.{one_same}
-use Rattle.linker_final.proofs.Written.{outside_of}
+use Rattle.linker_final.proofs.Written.{IsRowOf, by_name, no_field, outside_of, rela, relocation_is, row_in, small_byte}
 use Rattle.linker_final.specs.SectionRuns.{offset_of}
 use Rattle.linker_final.specs.X86Section.{HasFinal, HasObject, IsObject, LawOf, Window, put_back, window_of}
 use Rattle.linker_laws.specs.X86Groups.{Code, Stands}
@@ -37,26 +37,6 @@ small_number bytes small =
     let b0 = small 0 in let b1 = small 1 in let b2 = small 2 in let b3 = small 3 in
     let b4 = small 4 in let b5 = small 5 in let b6 = small 6 in let b7 = small 7 in
     omega (arith, b0, b1, b2, b3, b4, b5, b6, b7)
-
-pub small_byte : (bytes : List ℕ) → AreBytes bytes → (i : ℕ) → get_or bytes i 0 < 256
-small_byte bytes are i =
-    elim (cases_lt i (length bytes)) [
-      | inl below ↦ All-get_or (λ b. b < 2 ^ 8) bytes i 0 below are
-      | inr past ↦ subst (λ b. b < 256) (sym (get_or_past bytes i 0 past)) (omega arith)
-    ]
-
--- ---- a relocation and its rewrite
-
-abbrev pub rela : ℕ → ℕ → ℕ → ℤ → Rela
-rela offset code symbol addend = record { offset = offset; r_type = code; symbol = symbol; addend = addend }
-
--- what a decision with a rewrite makes of a relocation, and its window
-after_by : (chosen : Choice Relaxation ℕ) (made : Rewrite) (r : Rela)
-    → relaxation_rewrite chosen.kind ≡ Some made
-    → relocation_after (Rewritten chosen) r
-    ≡ rela (made.offset r.offset) chosen.relocation r.symbol (made.addend r.addend)
-after_by chosen made r is =
-    ap (λ q. rela (offset_after q r.offset) chosen.relocation r.symbol (addend_after q r.addend)) is
 
 -- ---- the field in bytes that were put back
 
@@ -100,48 +80,14 @@ module _ (n : ℕ) (row : RelocationKindInfo) (plain : IsPlain n row) (operands 
             (λ at below. sym (outside at (inl below))));
       }
 
--- ---- codes without a field
+-- ---- rows
 
-abbrev pub of_row : RelocationKindInfo → Option RelocationKindInfo → RelocationKindInfo
-of_row other None = other
-of_row other (Some row) = row
-
--- a relocation of no type has none
-pub no_field : (l : Linked) → l.context.architecture ≡ X86_64 → (j : ℕ)
-    → (relocation_in l.relocations_last j).r_type ≡ 0 → (row : RelocationKindInfo)
-    → IsField l.context.architecture l.relocations_last l.last j row → ⊥
-no_field l x86 j code row field =
-    let there : IsRow X86_64 (relocation_in l.relocations_last j).r_type (Some row) =
-    subst (λ x. IsRow x (relocation_in l.relocations_last j).r_type (Some row)) x86 field.is_row in
-    let same : there.name ≡ names.R_X86_64_NONE = there.is_name.named names.R_X86_64_NONE tt (sym code) in
-    let is : Some row ≡ Some (bytes_row NoValue 0) = there.value_is ∙ ap x86_64_row same in
-    let row_is : row ≡ bytes_row NoValue 0 = ap (of_row row) is in
-    let some : 0 < field_len (bytes_row NoValue 0) (drop (offset_at l.relocations_last j) l.last) =
-    subst (λ x. 0 < field_len x (drop (offset_at l.relocations_last j) l.last)) row_is field.some in
-    absurd (omega (arith, some))
-
--- ---- codes of a name
-
-row_by : (l : Linked) → l.context.architecture ≡ X86_64 → (code : ℕ) (name : X86_64Relocation)
+row_of : (l : Linked) → l.context.architecture ≡ X86_64 → (name : X86_64Relocation)
     → IsNamed (x86_64_name name) → (row : RelocationKindInfo) → x86_64_row name ≡ Some row
-    → code ≡ r_type_of (x86_64_name name)
-    → (found : _) → IsRow l.context.architecture code found → IsRow l.context.architecture code (Some row)
-row_by l x86 code name named row is r_type_is found has =
-    let there : IsRow X86_64 code found = subst (λ x. IsRow x code found) x86 has in
-    let same : there.name ≡ name = there.is_name.named name named (sym r_type_is) in
-    let mine : IsRow X86_64 code (Some row) =
-    record { name = there.name; is_name = there.is_name; value_is = sym (ap x86_64_row same ∙ is) } in
-    subst (λ x. IsRow x code (Some row)) (sym x86) mine
-
-row_in : (l : Linked) → l.context.architecture ≡ X86_64 → (r : Rela) (name : X86_64Relocation)
-    → IsNamed (x86_64_name name) → (row : RelocationKindInfo) → x86_64_row name ≡ Some row
-    → r.r_type ≡ r_type_of (x86_64_name name)
-    → (found : _) → IsRowValue l.context.architecture l.addresses l.relocations_last l.symbols r (Ok found)
-    → IsRow l.context.architecture r.r_type (Some row)
-row_in l x86 r name named row is r_type_is (Some one) has =
-    row_by l x86 r.r_type name named row is r_type_is (Some (one.0)) has.is_row
-row_in l x86 r name named row is r_type_is None marked =
-    row_by l x86 r.r_type name named row is r_type_is (marked.0) (marked.1)
+    → IsRowOf l.context.architecture (r_type_of (x86_64_name name)) row
+row_of l x86 name named row is found there =
+    by_name x86_64_name x86_64_row name named found
+    (subst (λ x. IsRow x (r_type_of (x86_64_name name)) found) x86 there) ∙ is
 
 -- a relocation of a code, once the section is written
 pub row_after : (l : Linked) → IsLinked l → l.context.architecture ≡ X86_64 → (i : ℕ) → i < count l
@@ -150,8 +96,9 @@ pub row_after : (l : Linked) → IsLinked l → l.context.architecture ≡ X86_6
     → (relocation_in l.relocations_last i).r_type ≡ r_type_of (x86_64_name name)
     → IsRow l.context.architecture (relocation_in l.relocations_last i).r_type (Some row)
 row_after l linked x86 i below name named row is r_type_is =
-    row_in l x86 (relocation_in l.relocations_last i) name named row is r_type_is (linked.written.can.found i)
-    (linked.written.can.are_found i (last_within l linked i below))
+    row_in l.context.architecture l.addresses l.relocations_last l.symbols (relocation_in l.relocations_last i) row
+    (subst (λ code. IsRowOf l.context.architecture code row) (sym r_type_is) (row_of l x86 name named row is))
+    (linked.written.can.found i) (linked.written.can.are_found i (last_within l linked i below))
 
 -- ---- one rewrite
 
@@ -226,8 +173,7 @@ module _ (l : Linked) (i back end : ℕ) (kind : RewriteKind) (is : HasRewrite l
         ≡ rela (w.made.offset o) chosen.relocation r.symbol (w.made.addend r.addend)
     r_after =
         relocation_left l linked i start len is.alone.left is.below
-        ∙ (linked.relocations i is.below
-        ∙ (ap (λ d. relocation_after d r) is.decided ∙ after_by chosen w.made r made_is))
+        ∙ relocation_is l linked.made i chosen is.below is.decided (Some w.made) chosen.relocation made_is refl
 
     pub within_after : i < length l.relocations_last / 24
     within_after = last_within l linked i is.below
@@ -368,7 +314,10 @@ module _ (l : Linked) (i back end : ℕ) (kind : RewriteKind) (is : HasRewrite l
         let none : (relocation_in l.relocations_last i).r_type ≡ 0 = ap (λ (x : Rela). x.r_type) r_after ∙ code in
         object_rewritten
         ∙ ext_get_or 0 between l.final between_length
-        (λ at below. between_same at (λ from less row is_field. absurd (no_field l is.x86 i none row is_field)))
+        (λ at below. between_same at (λ from less row is_field.
+        absurd (no_field l i (relocation_in l.relocations_last i) refl (bytes_row NoValue 0)
+        (subst (λ code. IsRowOf l.context.architecture code (bytes_row NoValue 0)) (sym none) (row_of l is.x86 names.R_X86_64_NONE tt (bytes_row NoValue 0) refl))
+        refl row is_field)))
 
     -- ---- with one, whose value is written
 
