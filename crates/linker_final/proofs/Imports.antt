@@ -126,7 +126,7 @@ pub use Rattle.linker_utils.specs.X86RelocationsAfter.{immediate_of, x86_64_relo
 pub use Rattle.linker_utils.specs.X86Rewrites.{Original, Table, X86Entry, any_entry, descriptor_table, is_at, is_one_at, lea_of_descriptor, opcode_at, puts, rex2_w, rex_mov, rex_w, unrelocated_by, with_rex, with_rex2, x86_64_after, x86_64_matches, x86_64_originals, x86_64_rewrite, x86_64_table}
 pub use Rattle.linker_utils.specs.declared.architecture.Relaxation.{Relaxation}
 pub use Rattle.linker_utils.specs.declared.x86_64.rewrites.RewriteKind.{RewriteKind}
-pub use Rattle.std.proofs.Common.{Bool, Err, List, Ok, Result, [], ap, arith, cond, eqb, false, get_or, inl, inr, length, lit<, lit≤, ltb, map, neg_ℤ, negsuc, not, pos, refl, rules, subst, suc, sym, true, true≢false, zero, ℕ, ◌%◌, ◌*◌, ◌++◌, ◌+◌, ◌-◌, ◌/◌, ◌<◌, ◌^◌, ◌∙◌, ◌∷◌, ◌≡◌, ◌≢◌, ◌≤◌}
+pub use Rattle.std.proofs.Common.{Bool, Err, List, Ok, Result, [], ap, arith, cond, eqb, false, get_or, inl, inr, length, lit<, lit≤, ltb, map, neg_ℤ, negsuc, not, pos, refl, rules, subst, suc, sym, true, true≢false, zero, ℕ, ◌%◌, ◌*◌, ◌++◌, ◌+◌, ◌-◌, ◌/◌, ◌<◌, ◌^◌, ◌∙◌, ◌∷◌, ◌≡◌, ◌≢◌, ◌≤◌, nat_le}
 pub use Rattle.std.proofs.lemmas.Bool.{and_parts, cases_Bool, cases_eq, cases_lt, cond-false, cond-true, eq-eqb, eqb-true, le-ltb, lt-ltb, ltb-true, ne_eqb, or_cases, or_from, or_left, or_parts, or_right}
 pub use Rattle.std.proofs.lemmas.Int.{ints, of_z-to_z}
 pub use Rattle.std.proofs.lemmas.List.Elements.{All-append, All-cons, All-drop, All-from_get_or, All-get_or, All-head, All-nil, All-tail, All-take, All-weaker}

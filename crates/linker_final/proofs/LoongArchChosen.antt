@@ -65,14 +65,12 @@ abbrev pub Cases : Type 0 → (LoongArchEntry → Type 0) → List LoongArchEntr
 Cases Q Is [] = ⊤
 Cases Q Is (e ∷ es) = (Is e → Q) × Cases Q Is es
 
-module _ {Q : Type 0} (IsMeant : LoongArchEntry → Type 0) (chosen : Choice Relaxation ℕ) where
-  abbrev Is : LoongArchEntry → Type 0
-  Is e = IsOfEntry loongarch_name relaxations.LoongArch64 IsMeant e chosen
-
-  by_cases : (es : List LoongArchEntry) → IsOfOne loongarch_name relaxations.LoongArch64 IsMeant es chosen → Cases Q Is es → Q
-  by_cases [] nothing cases = absurd nothing
-  by_cases (e ∷ es) (inl this) cases = (cases.0) this
-  by_cases (e ∷ es) (inr other) cases = by_cases es other (cases.1)
+by_cases : {Q : Type 0} (IsMeant : LoongArchEntry → Type 0) (chosen : Choice Relaxation ℕ) (es : List LoongArchEntry)
+    → IsOfOne loongarch_name relaxations.LoongArch64 IsMeant es chosen
+    → Cases Q (λ e. IsOfEntry loongarch_name relaxations.LoongArch64 IsMeant e chosen) es → Q
+by_cases IsMeant chosen [] nothing cases = absurd nothing
+by_cases IsMeant chosen (e ∷ es) (inl this) cases = (cases.0) this
+by_cases IsMeant chosen (e ∷ es) (inr other) cases = by_cases IsMeant chosen es other (cases.1)
 
 pub shown : {Q : Type 0} {name : LoongArch64Relocation} {section : List ℕ} {o : ℕ} {chosen : Choice Relaxation ℕ}
     (by : IsByTable name section o chosen)

@@ -4,6 +4,7 @@ use mir.Val.{sel}
 use Rattle.linker_base.proofs.Bits.{cast_negative}
 use Rattle.linker_elf.specs.declared.riscv64.relocations.RiscVRelocation.TheVariants as names
 use Rattle.linker_final.proofs.RiscVChosen.{anyhow, kind_in, of_table}
+use Rattle.linker_utils.specs.declared.architecture.Relaxation.TheVariants as relaxations
 use Rattle.linker_utils.specs.declared.riscv64.rewrites.RewriteKind.{RewriteKind}
 use Rattle.linker_utils.specs.declared.riscv64.rewrites.RewriteKind.TheVariants as kinds
 use Rattle.linker_rewriting.specs.declared.facts.OutputFacts.{OutputFacts}

@@ -1,5 +1,5 @@
 -- The window of an instruction or a sequence of x86-64 in the final bytes of a section.
-use Rattle.linker_final.proofs.Imports.{◌≡◌, ℕ, ◌+◌, ◌-◌, ◌*◌, ◌/◌, ◌^◌, ◌<◌, ◌≤◌, ◌⊎◌, List, ◌++◌, length, take, drop, get_or, sym, ap, subst, ◌∙◌, inl, inr, arith, Some, Ok, IsSomeAnd, IsTrue, cases_eq, cases_lt, length-drop, drop-drop, ext_get_or, get_or-drop, All-take, All-drop, w64, from_le_bytes, cast_unsigned, CanRewrite, IsRewritable, rewritten, rewrite_window, offset_after, IsNamed, r_type_of, IsWritten, low_bytes, number_of_bytes, number_written, window_len, size_len, bytes_row, difference_64, sum_64, value_of, x86_64_name, x86_64_row, RelocationKindInfo, Choice, Operands, X86_64Relocation, AreAddresses, State, IsRelocatedBy, decision_at, written_end_at, IsDone, IsMade, Rewritten, one_info, IsField, field_end, field_len, relocation_in, IsInNoField, operands_of, operands_with, offset_at, Symbol, Rela, IsRow, relaxation_rewrite, Relaxation, X86_64, x86_64_rewrite, x86_64_matches, x86_64_originals, Original, is_one_at, RewriteKind, take-append-drop, All-append, Linked, IsLinked, UntouchedByOthers, AreBytes, count, start_at, HaveSameWindow, accepted_same, neg_ℤ, pos, IsBefore, seen}
+use Rattle.linker_final.proofs.Imports.{◌≡◌, ℕ, ◌+◌, ◌-◌, ◌*◌, ◌/◌, ◌^◌, ◌<◌, ◌≤◌, ◌⊎◌, List, ◌++◌, length, take, drop, get_or, sym, ap, subst, ◌∙◌, inl, inr, arith, Some, Ok, IsSomeAnd, IsTrue, cases_eq, cases_lt, length-drop, drop-drop, ext_get_or, get_or-drop, All-take, All-drop, w64, from_le_bytes, cast_unsigned, CanRewrite, IsRewritable, rewritten, rewrite_window, offset_after, IsNamed, r_type_of, IsWritten, low_bytes, number_of_bytes, number_written, window_len, size_len, bytes_row, difference_64, sum_64, value_of, x86_64_name, x86_64_row, RelocationKindInfo, Choice, Operands, X86_64Relocation, AreAddresses, State, IsRelocatedBy, decision_at, written_end_at, IsDone, IsMade, Rewritten, one_info, IsField, field_end, field_len, relocation_in, IsInNoField, operands_of, operands_with, offset_at, Symbol, Rela, IsRow, relaxation_rewrite, Relaxation, X86_64, x86_64_rewrite, x86_64_matches, x86_64_originals, Original, is_one_at, RewriteKind, take-append-drop, All-append, Linked, IsLinked, UntouchedByOthers, AreBytes, count, start_at, HaveSameWindow, accepted_same, neg_ℤ, pos, IsBefore, seen, refl}
 use Rattle.linker_elf.specs.declared.elf.RelocationKind.TheVariants.{None as NoValue}
 use Rattle.linker_elf.specs.declared.x86_64.relocations.X86_64Relocation.TheVariants as names
 use Rattle.linker_final.proofs.Fields.{UntouchedField, four_bytes, left, len_is}
