@@ -6,10 +6,10 @@ use Rattle.linker_final.specs.Imports.{IsNameOf, sum_64, Choice, Operands, put, 
 use Rattle.linker_final.specs.Imports.{loaded, AreAddresses, plt_address, symbol_address, Agree}
 use Rattle.linker_final.specs.Imports.{Kinds, State, anything, half, same, decision_at, Rewritten}
 use Rattle.linker_final.specs.Imports.{relocation_in, operands_with, Addresses, Symbol, Relaxation}
-use Rattle.linker_elf.specs.LoongArch.{page}
+use Rattle.linker_final.specs.Imports.{page, AArch64, go_to, IsAddressRewritten}
+use Rattle.linker_final.specs.Imports.{IsDescriptorRewritten, IsLoadRewritten}
 use Rattle.linker_elf.specs.declared.aarch64.relocations.AArch64Relocation.{AArch64Relocation}
 use Rattle.linker_elf.specs.declared.aarch64.relocations.AArch64Relocation.TheVariants as names
-use Rattle.linker_elf.specs.declared.elf.architecture.Architecture.TheVariants.{AArch64}
 use Rattle.linker_final.specs.Final.{IsLinked, IsRewrittenByNoOther, Linked, count}
 use Rattle.linker_final.specs.Final.{instruction_at}
 use Rattle.linker_final.specs.Final.{IsWrittenByNoOther, UntouchedInstruction}
@@ -18,9 +18,6 @@ use Rattle.linker_final.specs.SectionRuns.{IsBesideAll, IsPhase, Rewriting, Sect
 use Rattle.linker_laws.specs.AArch64Groups.{Code, Descriptor, Has, go_and_link, link}
 use Rattle.linker_laws.specs.AArch64Machine.{load_64}
 use Rattle.linker_laws.specs.AArch64RewriteLaws.{word_of, following, thread_offset}
-use Rattle.linker_laws.specs.Changes.{go_to}
-use Rattle.linker_rewriting.specs.Rewritten.{IsAddressRewritten, IsDescriptorRewritten}
-use Rattle.linker_rewriting.specs.Rewritten.{IsLoadRewritten}
 use Rattle.linker_utils.specs.AArch64Rewrites.{rd_of}
 use Rattle.linker_utils.specs.declared.aarch64.rewrites.RewriteKind.TheVariants as kinds
 

@@ -9,14 +9,14 @@ use Rattle.linker_final.specs.Imports.{riscv_row, RelocationKindInfo, Operands, 
 use Rattle.linker_final.specs.Imports.{Shift5, Shift10, LoongArch64Relocation, BType, JType, CbType}
 use Rattle.linker_final.specs.Imports.{CjType, RiscVRelocation, AreAddresses, plt_address}
 use Rattle.linker_final.specs.Imports.{symbol_address, Machine, RiscV64, LoongArch64, relocation_in}
-use Rattle.linker_final.specs.Imports.{offset_at, operands_with, Symbol, IsRow}
+use Rattle.linker_final.specs.Imports.{offset_at, operands_with, Symbol, IsRow, IsAddress}
+use Rattle.linker_final.specs.Imports.{number_at}
 use Rattle.linker_elf.specs.declared.loongarch64.forms.LoongArch64Instruction.{LoongArch64Instruction}
 use Rattle.linker_elf.specs.declared.loongarch64.relocations.LoongArch64Relocation.TheVariants as loongarch_names
 use Rattle.linker_elf.specs.declared.riscv64.forms.RiscVInstruction.{RiscVInstruction}
 use Rattle.linker_elf.specs.declared.riscv64.relocations.RiscVRelocation.TheVariants as riscv_names
 use Rattle.linker_final.specs.Packed.{Packed, IsPacked, address_at, architecture_of}
 use Rattle.linker_final.specs.Packed.{count, place_of}
-use Rattle.linker_laws.specs.Schemes.{IsAddress, number_at}
 
 -- The relocation at an index, whose place is in the section, has a row where it is written.
 pub record IsOfRow (p : Packed) (i : ℕ) (row : RelocationKindInfo) : Type 0 where

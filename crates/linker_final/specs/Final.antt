@@ -5,21 +5,19 @@ use Rattle.std.specs.Prelude.{length, take, drop, get_or, ℤ, Some}
 use Rattle.std.specs.List.{All}
 use Rattle.linker_final.specs.Imports.{RelocationKindInfo, decision_at, RelaxContext, pre_layout}
 use Rattle.linker_final.specs.Imports.{Decision, Kept, UnrelaxableGroups, relocation_in, offset_at}
-use Rattle.linker_final.specs.Imports.{AreWritten, Addresses, Symbol, Architecture}
+use Rattle.linker_final.specs.Imports.{AreWritten, Addresses, Symbol, Architecture, IsRejected}
+use Rattle.linker_final.specs.Imports.{IsRejectedIn, IsRejectedPlaced, AreDecidedIn, start_at}
+use Rattle.linker_final.specs.Imports.{written_end_at, deletions_by, AreRelocationsAfter, AreDone}
+use Rattle.linker_final.specs.Imports.{OthersStay, IsHeld}
 use Rattle.linker_final.specs.declared.sections.LinkError.{LinkError}
 use Rattle.linker_final.specs.declared.sections.LinkError.TheVariants.{Rewriting, Writing}
 use Rattle.linker_final.specs.declared.sections.PhaseError.{PhaseError}
 use Rattle.linker_final.specs.declared.sections.PhaseError.TheVariants as phase_errors
-use Rattle.linker_rewriting.specs.Decisions.{IsRejected, IsRejectedIn, IsRejectedPlaced}
-use Rattle.linker_rewriting.specs.Decisions.{AreDecidedIn, start_at, written_end_at}
-use Rattle.linker_rewriting.specs.Decisions.{deletions_by}
 use Rattle.linker_rewriting.specs.Kept.{IsWritingCause}
-use Rattle.linker_rewriting.specs.Rewritten.{AreRelocationsAfter, AreDone, OthersStay}
 use Rattle.linker_rewriting.specs.declared.facts.OutputFacts.{OutputFacts}
 use Rattle.linker_rewriting.specs.declared.facts.SymbolFacts.{SymbolFacts}
 use Rattle.linker_rewriting.specs.declared.kept.FactsSnapshot.{FactsSnapshot}
 use Rattle.linker_section.specs.Fields.{IsField, field_end, field_len}
-use Rattle.linker_section.specs.WrittenFields.{IsHeld}
 
 -- ---- phases
 

@@ -6,10 +6,9 @@ use Rattle.linker_final.specs.Imports.{RowIsWithin, IsNameOf, r_type_of, loongar
 use Rattle.linker_final.specs.Imports.{loongarch_row, sum_64, RelocationKindInfo, Choice, Operands}
 use Rattle.linker_final.specs.Imports.{LoongArch64Relocation, Fits32, IsRelocated, word_of}
 use Rattle.linker_final.specs.Imports.{AreAddresses, symbol_address, Group, Kinds, State, of_link}
-use Rattle.linker_final.specs.Imports.{decision_at}
-use Rattle.linker_final.specs.Imports.{pre_layout, Rewritten, NotRelaxable, relocation_in}
-use Rattle.linker_final.specs.Imports.{operands_with, Addresses, Symbol, Rela, rj_of, signed_12, tp}
-use Rattle.linker_final.specs.Imports.{Relaxation}
+use Rattle.linker_final.specs.Imports.{decision_at, pre_layout, Rewritten, NotRelaxable}
+use Rattle.linker_final.specs.Imports.{relocation_in, operands_with, Addresses, Symbol, Rela, rj_of}
+use Rattle.linker_final.specs.Imports.{signed_12, tp, Relaxation, loongarch_scope_in, is_there}
 use Rattle.linker_elf.specs.declared.elf.architecture.Architecture.TheVariants.{LoongArch64}
 use Rattle.linker_elf.specs.declared.loongarch64.relocations.LoongArch64Relocation.TheVariants as names
 use Rattle.linker_final.specs.Final.{AreRewritten, IsLinked, IsRewrittenByNoOther}
@@ -24,9 +23,7 @@ use Rattle.linker_laws.specs.LoongArchGroups.{LoadsOffset}
 use Rattle.linker_laws.specs.LoongArchGroups.{LowHalf, LowOfDescriptor, LowPart, Makes}
 use Rattle.linker_laws.specs.LoongArchGroups.{MakesOffset, Stands, deleted_by, link}
 use Rattle.linker_laws.specs.LoongArchGroups.{register}
-use Rattle.linker_rewriting.specs.Groups.{loongarch_scope_in}
 use Rattle.linker_runs.specs.declared.packing.Machine.TheVariants.{LoongArch64 as loongarch64}
-use Rattle.linker_section.specs.Values.{is_there}
 use Rattle.linker_section.specs.declared.needed.EntryClass.TheVariants.{ThreadOffset}
 use Rattle.linker_utils.specs.LoongArchRewrites.{rd_of}
 use Rattle.linker_utils.specs.declared.architecture.Relaxation.TheVariants as relaxations

@@ -9,22 +9,18 @@ use Rattle.linker_final.specs.Imports.{window_len, sum_64, value_of, RelocationK
 use Rattle.linker_final.specs.Imports.{AreMoved, packed_offset, address_of, kept_len, IsPackedRun}
 use Rattle.linker_final.specs.Imports.{item_at, Machine, RiscV64, LoongArch64, Alignment, Item}
 use Rattle.linker_final.specs.Imports.{Aligned, relocation_in, offset_at, AreWritten, Addresses}
-use Rattle.linker_final.specs.Imports.{Symbol, IsRow, Architecture}
+use Rattle.linker_final.specs.Imports.{Symbol, IsRow, Architecture, IsMoved, Section, is_fixed}
+use Rattle.linker_final.specs.Imports.{nops, IsFirstRejected, IsInside, IsNotIn, len_of, offset_of}
+use Rattle.linker_final.specs.Imports.{Site, IsFirstFault}
 use Rattle.linker_elf.specs.declared.elf.RelocationInstruction.{RelocationInstruction}
 use Rattle.linker_elf.specs.declared.elf.RelocationSize.TheVariants.{BitMasking}
 use Rattle.linker_final.specs.Final.{AreBytes}
 use Rattle.linker_final.specs.declared.packed.PackError.{PackError}
 use Rattle.linker_final.specs.declared.packed.PackError.TheVariants.{Misplaced, Packing, Writing}
-use Rattle.linker_runs.specs.Moved.{IsMoved}
 use Rattle.linker_runs.specs.Origins.{HasItsInstructions}
-use Rattle.linker_runs.specs.Packing.{Section, is_fixed, nops}
-use Rattle.linker_runs.specs.Packing.{IsFirstRejected, IsInside, IsNotIn}
-use Rattle.linker_runs.specs.Relaxing.{len_of, offset_of}
-use Rattle.linker_runs.specs.declared.relaxation.Item.TheVariants.{Site}
 use Rattle.linker_runs.specs.declared.relaxation.Site.{Site as site}
 use Rattle.linker_section.specs.Sections.{IsInNoField}
 use Rattle.linker_section.specs.Values.{has_value, names_label, operands_of}
-use Rattle.linker_section.specs.WrittenFields.{IsFirstFault}
 use Rattle.linker_elf.specs.declared.elf.architecture.Architecture.TheVariants as architectures
 
 -- What is passed to `pack_run` and then to `relocate_section`, and what they leave.

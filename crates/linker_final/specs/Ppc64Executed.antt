@@ -4,11 +4,10 @@
 use Rattle.std.specs.Prelude.{ℕ, ◌+◌, ◌-◌, ◌*◌, ◌/◌, ◌^◌, ◌==◌, nat_lt, if◌then◌else◌}
 use Rattle.std.specs.Prelude.{Bool, false, Option, Some, None}
 use Rattle.std.specs.Int.{w64, leading_zeros}
-use Rattle.linker_base.specs.Bits.{field}
+use Rattle.linker_final.specs.Imports.{field, Counted, lifted}
 use Rattle.linker_laws.specs.Ppc64Machine.{Formats, step_prefixed}
 use Rattle.linker_output.specs.Ppc64LazyPlt.{step}
 use Rattle.linker_output.specs.Ppc64Saves as saves
-use Rattle.linker_output.specs.Ppc64Stubs.{Counted, lifted}
 use Rattle.linker_final.specs.Steps.{AllPass, Executed, Group, Numbers, at, pc, made_low}
 use Rattle.linker_final.specs.Steps.{memory_in, bytes_from, is_left}
 use Rattle.linker_final.specs.Ppc64Steps.{ppc64_groups}

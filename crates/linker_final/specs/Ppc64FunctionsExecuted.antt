@@ -2,12 +2,10 @@
 -- first instruction until they have returned. Registers are as in `Ppc64VectorsExecuted`.
 use Rattle.std.specs.Prelude.{ℕ, ◌≡◌, ◌+◌, ◌*◌, ◌==◌, ◌&&◌, length, Bool, true, false, slice_get}
 use Rattle.std.specs.Prelude.{List, [], ◌∷◌, Option, Some, None, IsSomeAnd}
-use Rattle.linker_final.specs.Imports.{sum_64, Counted, Vectored}
-use Rattle.linker_laws.specs.Machine.{Memory}
+use Rattle.linker_final.specs.Imports.{sum_64, Counted, Vectored, Memory, run_vectored, vector_code}
 use Rattle.linker_output.specs.Layout.{Run}
 use Rattle.linker_output.specs.Ppc64Output.{ppc64_output}
 use Rattle.linker_output.specs.Ppc64Saves.{code_for}
-use Rattle.linker_output.specs.Ppc64Vectors.{run_vectored, vector_code}
 use Rattle.linker_final.specs.Ppc64Executed.{formats, register}
 use Rattle.linker_final.specs.Ppc64Executed as ordinary
 use Rattle.linker_final.specs.Ppc64VectorsExecuted.{are_vectors_left, numbers, with_vectors}

@@ -4,9 +4,8 @@ use Rattle.std.specs.Prelude.{◌≡◌, ◌⊎◌, ℕ, ◌+◌, ◌-◌, ◌*�
 use Rattle.std.specs.Prelude.{List, take, drop, get_or, slice_get, Some}
 use Rattle.linker_final.specs.Imports.{IsNameOf, r_type_of, sum_64, Choice, Group, Kinds, State}
 use Rattle.linker_final.specs.Imports.{of_link, decision_at, Decision, Rewritten, Phase}
-use Rattle.linker_final.specs.Imports.{relocation_in, operands_with, Symbol, Relaxation}
+use Rattle.linker_final.specs.Imports.{relocation_in, operands_with, Symbol, Relaxation, Ppc64}
 use Rattle.linker_elf.specs.Ppc64Relocations.{ppc64_name, ppc64_row}
-use Rattle.linker_elf.specs.declared.elf.architecture.Architecture.TheVariants.{Ppc64}
 use Rattle.linker_elf.specs.declared.ppc64.relocations.Ppc64Relocation.{Ppc64Relocation}
 use Rattle.linker_elf.specs.declared.ppc64.relocations.Ppc64Relocation.TheVariants as names
 use Rattle.linker_final.specs.Final.{AreRewritten, IsLinked, IsRewrittenByNoOther, Linked, count}

@@ -2,8 +2,7 @@
 -- These registers are at places 128 to 159, and the other ones as in `Ppc64Executed`.
 use Rattle.std.specs.Prelude.{ℕ, ◌≡◌, ◌+◌, ◌*◌, ◌==◌, ◌&&◌, Bool, true, false, Option, Some, None}
 use Rattle.std.specs.List.{list_all}
-use Rattle.linker_output.specs.Ppc64Stubs.{Counted}
-use Rattle.linker_output.specs.Ppc64Vectors.{Vectored, step_vectored}
+use Rattle.linker_final.specs.Imports.{Counted, Vectored, step_vectored}
 use Rattle.linker_final.specs.Ppc64Executed as ordinary
 use Rattle.linker_final.specs.Ppc64Executed.{formats}
 use Rattle.linker_final.specs.Steps.{Executed, Group, Numbers, all_below, before}

@@ -4,11 +4,9 @@ use Rattle.std.specs.Prelude.{◌≡◌, ◌≢◌, ◌⊎◌, ℕ, ◌+◌, ◌
 use Rattle.std.specs.Prelude.{MatchOption, None}
 use Rattle.linker_final.specs.Imports.{sum_64, IsRelaxation, deletions_of_run, address_of, kept_len}
 use Rattle.linker_final.specs.Imports.{packed_offset, section_of, item_at, Alignment, Item, Aligned}
-use Rattle.linker_final.specs.Imports.{Addresses, Symbol}
+use Rattle.linker_final.specs.Imports.{Addresses, Symbol, AreItems, end_of}
 use Rattle.linker_final.specs.Packed.{Packed, IsPacked, packed_as}
 use Rattle.linker_final.specs.declared.packed.RunSection.{RunSection}
-use Rattle.linker_runs.specs.Choosing.{AreItems}
-use Rattle.linker_runs.specs.Relaxing.{end_of}
 
 -- What `relax` was passed and returned.
 pub record Run : Type 0 where

@@ -11,15 +11,13 @@ use Rattle.linker_final.specs.Imports.{upper_from, put, with_register, Group, Ki
 use Rattle.linker_final.specs.Imports.{anything, of_link, same, AreAddresses, entry_and_addend}
 use Rattle.linker_final.specs.Imports.{symbol_address, decision_at, RewrittenWithSymbol, Rewritten}
 use Rattle.linker_final.specs.Imports.{Subject, rd_of, relocation_in, operands_with, Symbol, Rela}
-use Rattle.linker_final.specs.Imports.{Relaxation, RiscV}
+use Rattle.linker_final.specs.Imports.{Relaxation, RiscV, AreOf, Kind, deleted_of}
 use Rattle.linker_elf.specs.declared.riscv64.relocations.RiscVRelocation.TheVariants as names
 use Rattle.linker_final.specs.Final.{AreRewritten, Linked, count, instruction_at}
 use Rattle.linker_laws.specs.RiscVRewriteLaws.{HaveOneOffset, HaveOneTarget, of_entry, word_of}
 use Rattle.linker_laws.specs.RiscVRewriteLaws.{after_rewrite, thread_offset}
 use Rattle.linker_laws.specs.RiscVGroups.{AreNops, Descriptor, IsLeftOut, LeavesAddress}
 use Rattle.linker_laws.specs.RiscVGroups.{LoadFromGot, LowPartBy}
-use Rattle.linker_laws.specs.Simulation.{AreOf, Kind}
-use Rattle.linker_rewriting.specs.Decisions.{deleted_of}
 use Rattle.linker_rewriting.specs.RiscVPcrelGroups.{IsHighIn}
 use Rattle.linker_utils.specs.RiscVRewrites.{deleted_from, riscv_matches, tp}
 use Rattle.linker_utils.specs.declared.riscv64.rewrites.RewriteKind.{RewriteKind}

@@ -4,19 +4,16 @@ use Rattle.std.specs.Prelude.{◌≡◌, ◌≢◌, ℕ, ◌+◌, ◌≤◌, ◌
 use Rattle.std.specs.Prelude.{IsSomeAnd, Option, slice_get}
 use Rattle.linker_base.specs.Rewrite.{rewritten}
 use Rattle.linker_final.specs.Imports.{riscv_row, difference_64, RelocationKindInfo, Operands, put}
-use Rattle.linker_final.specs.Imports.{Relocated, AreBefore, AreDeleted, Code, Has}
-use Rattle.linker_final.specs.Imports.{link, seen, upper_from, uses, Action, register, rs1_of}
-use Rattle.linker_final.specs.Imports.{action_at, AreAddresses, symbol_address, Agree, Group, Kinds}
-use Rattle.linker_final.specs.Imports.{State, of_link, word_at, rd_of, IsLui, Addresses}
-use Rattle.linker_final.specs.Imports.{Symbol, Rela}
+use Rattle.linker_final.specs.Imports.{Relocated, AreBefore, AreDeleted, Code, Has, link, seen}
+use Rattle.linker_final.specs.Imports.{upper_from, uses, Action, register, rs1_of, action_at}
+use Rattle.linker_final.specs.Imports.{AreAddresses, symbol_address, Agree, Group, Kinds, State}
+use Rattle.linker_final.specs.Imports.{of_link, word_at, rd_of, IsLui, Addresses, Symbol, Rela}
+use Rattle.linker_final.specs.Imports.{moved, IsLeftOut, upper, stores, stores_float, IsAuipc, lo12}
+use Rattle.linker_final.specs.Imports.{rewrites_word, with_rs1}
 use Rattle.linker_elf.specs.declared.riscv64.relocations.RiscVRelocation.TheVariants as names
-use Rattle.linker_laws.specs.Machine.{moved}
-use Rattle.linker_laws.specs.RiscVGroups.{IsLeftOut, upper}
-use Rattle.linker_laws.specs.RiscVMachine.{stores, stores_float}
 use Rattle.linker_laws.specs.RiscVRewriteLaws.{low_row, word_of}
 use Rattle.linker_rewriting.specs.GlobalPointer.{address_of, base_for, based_relocation}
 use Rattle.linker_rewriting.specs.GlobalPointer.{is_low_word, low_r_type}
-use Rattle.linker_utils.specs.RiscVRewrites.{IsAuipc, lo12, rewrites_word, with_rs1}
 
 -- A register has what the high part of an address leaves: with the low part of its value it is the
 -- address.

@@ -7,9 +7,8 @@ use Rattle.linker_final.specs.Imports.{Operands, UiType, RiscVRelocation, AreBef
 use Rattle.linker_final.specs.Imports.{Stands, seen, Kinds, State, register, rs1_of, IsLow12}
 use Rattle.linker_final.specs.Imports.{IsLowOffset, AreAddresses, plt_address, word_at, rd_of}
 use Rattle.linker_final.specs.Imports.{IsLui, RiscV64, relocation_in, offset_at, operands_with}
-use Rattle.linker_final.specs.Imports.{Symbol, RiscV}
+use Rattle.linker_final.specs.Imports.{Symbol, RiscV, pair_row, even}
 use Rattle.linker_elf.specs.Originals.{HasWord}
-use Rattle.linker_elf.specs.RiscVRelocations.{pair_row}
 use Rattle.linker_elf.specs.declared.elf.RelocationKind.TheVariants.{PltRelative}
 use Rattle.linker_elf.specs.declared.riscv64.relocations.RiscVRelocation.TheVariants as names
 use Rattle.linker_final.specs.Packed.{Packed, AreDeleted, IsPacked, IsSiteOf, StayTogether}
@@ -17,7 +16,6 @@ use Rattle.linker_final.specs.Packed.{address_at, count, place_of}
 use Rattle.linker_final.specs.Packed.{site_bytes, site_len, site_offset, site_place}
 use Rattle.linker_final.specs.Packed.{site_target}
 use Rattle.linker_laws.specs.RiscVGroups.{IsCall, IsLeftOut}
-use Rattle.linker_laws.specs.RiscVRelocationLaws.{even}
 use Rattle.linker_utils.specs.RiscVRewrites.{IsAddTp, tp}
 use Rattle.linker_runs.specs.RiscVItems.{IsCallAt}
 use Rattle.linker_runs.specs.Sites.{operands_of}

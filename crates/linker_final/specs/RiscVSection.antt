@@ -7,7 +7,7 @@ use Rattle.linker_final.specs.Imports.{IsLowOffset, action_at, offset_row, AreAd
 use Rattle.linker_final.specs.Imports.{Kinds, State, of_link, decision_at, Decision, Kept}
 use Rattle.linker_final.specs.Imports.{Rewritten, RewrittenWithSymbol, Subject, NotRelaxable}
 use Rattle.linker_final.specs.Imports.{RiscV64, relocation_in, operands_with, Addresses, Symbol}
-use Rattle.linker_final.specs.Imports.{Relaxation}
+use Rattle.linker_final.specs.Imports.{Relaxation, riscv_scope_in, Grouped}
 use Rattle.linker_elf.specs.declared.riscv64.relocations.RiscVRelocation.TheVariants as names
 use Rattle.linker_final.specs.Final.{AreRewritten, IsLinked, IsRewrittenByNoOther}
 use Rattle.linker_final.specs.Final.{IsWrittenByNoOther, Linked, UntouchedInstruction, count}
@@ -19,9 +19,7 @@ use Rattle.linker_final.specs.RiscVFinal.{IsDeleted, IsLuiOfLoad, IsNop, IsOfDes
 use Rattle.linker_final.specs.RiscVFinal.{LoadIsAlike, LowPartIsAlike, OffsetIsAlike, SumGoes}
 use Rattle.linker_final.specs.RiscVFinal.{named_as}
 use Rattle.linker_final.specs.SectionRuns.{IsBesideAll, Rewriting, Section, offset_of}
-use Rattle.linker_rewriting.specs.Groups.{riscv_scope_in}
 use Rattle.linker_rewriting.specs.declared.groups.Scope.{Scope}
-use Rattle.linker_rewriting.specs.declared.groups.Scope.TheVariants.{Grouped}
 use Rattle.linker_utils.specs.declared.architecture.Relaxation.TheVariants as relaxations
 use Rattle.linker_utils.specs.declared.riscv64.rewrites.RewriteKind.TheVariants as kinds
 

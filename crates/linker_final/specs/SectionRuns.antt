@@ -3,9 +3,8 @@
 use Rattle.std.specs.Prelude.{◌≡◌, ℕ, ◌+◌, ◌<◌, ◌≤◌, ◌≢◌, ◌⊎◌, List, [], ◌∷◌, IsSomeAnd}
 use Rattle.linker_final.specs.Imports.{Architecture, Agree, Group, Kinds, State, of_link}
 use Rattle.linker_final.specs.Imports.{decision_at, Kept, relocation_in, Addresses, Symbol}
+use Rattle.linker_final.specs.Imports.{Comparison, Covered, Link, Next, Stops, run, uncovered}
 use Rattle.linker_final.specs.Final.{AreInTurn, Linked, RewritingPhase, count, linked_by}
-use Rattle.linker_laws.specs.Simulation.{Comparison, Covered, Link, Next}
-use Rattle.linker_laws.specs.Simulation.{Stops, run, uncovered}
 
 -- ---- a section
 

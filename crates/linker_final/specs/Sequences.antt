@@ -4,14 +4,13 @@ use Rattle.std.specs.Prelude.{ℕ, ◌+◌, ◌*◌, ◌++◌, ℤ, pos, false}
 use Rattle.std.specs.Int.{w64, to_le_bytes}
 use Rattle.std.specs.Option.{unwrap_or}
 use Rattle.linker_final.specs.Imports.{field, riscv_form, Add, Operands, UiType}
+use Rattle.linker_final.specs.Imports.{upper_and_lower_value, five_instructions, without_bit_0}
+use Rattle.linker_final.specs.Imports.{zero}
 use Rattle.linker_utils.specs.AArch64Rewrites.{moved4, rd_of}
-use Rattle.linker_elf.specs.LoongArch.{upper_and_lower_value, five_instructions}
 use Rattle.linker_elf.specs.Ppc64.{pair}
 use Rattle.linker_laws.specs.AArch64RelocationLaws.{page_and_offset}
 use Rattle.linker_laws.specs.LoongArchRelocationLaws.{upper_and_or, four, page_and_low}
 use Rattle.linker_laws.specs.Ppc64RelocationLaws.{unadjusted, unadjusted_quarters}
-use Rattle.linker_laws.specs.RiscVRelocationLaws.{without_bit_0}
-use Rattle.linker_laws.specs.Schemes.{zero}
 
 abbrev pub word : ℕ → ℕ → ℕ
 word k words = field words (32 * k) (32 * k + 32)

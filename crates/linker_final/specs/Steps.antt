@@ -5,7 +5,7 @@ use Rattle.std.specs.Prelude.{ℕ, zero, suc, ◌+◌, ◌*◌, ◌/◌, ◌%◌
 use Rattle.std.specs.Prelude.{◌≡◌, nat_lt, if◌then◌else◌, List, [], ◌∷◌, bit_and}
 use Rattle.std.specs.List.{list_all}
 use Rattle.std.specs.Int.{byte_at}
-use Rattle.linker_elf.specs.Value.{sum_64, difference_64}
+use Rattle.linker_final.specs.Imports.{sum_64, difference_64}
 
 -- ---- rows
 

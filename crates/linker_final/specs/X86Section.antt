@@ -6,10 +6,8 @@ use Rattle.std.specs.Prelude.{slice_get}
 use Rattle.linker_final.specs.Imports.{IsRow, IsNameOf, difference_64, sum_64, RelocationKindInfo}
 use Rattle.linker_final.specs.Imports.{Choice, Operands, AreAddresses, Group, Kinds, State, of_link}
 use Rattle.linker_final.specs.Imports.{decision_at, Rewritten, relocation_in, operands_with}
-use Rattle.linker_final.specs.Imports.{Addresses, Symbol, Relaxation}
-use Rattle.linker_elf.specs.Relocate.{number_of_bytes}
+use Rattle.linker_final.specs.Imports.{Addresses, Symbol, Relaxation, number_of_bytes, X86_64}
 use Rattle.linker_elf.specs.X86Relocations.{x86_64_name, x86_64_row}
-use Rattle.linker_elf.specs.declared.elf.architecture.Architecture.TheVariants.{X86_64}
 use Rattle.linker_elf.specs.declared.x86_64.relocations.X86_64Relocation.{X86_64Relocation}
 use Rattle.linker_elf.specs.declared.x86_64.relocations.X86_64Relocation.TheVariants as names
 use Rattle.linker_final.specs.Final.{IsLinked, Linked, UntouchedByOthers, UntouchedBytes, count}
