@@ -31,7 +31,7 @@ module _ {l : Linked} {c : Code} (new : IsNew l c) (i : ℕ) (of : IsAddressRewr
   by = of_entry new names.R_AARCH64_ADD_ABS_LO12_NC (i + 1) low_of tt to_nop_adr refl
 
   inside : offset_of l (i + 1) + 4 ≤ length l.section
-  inside = by.meant.matches.1.1.0
+  inside = by.meant.0.1.1.0
 
   back : offset_of l (i + 1) - 4 ≡ offset_of l i
   back = let next = of.low.offset in omega (arith, next)
@@ -91,7 +91,7 @@ address_is_group laws l c new i of left alone k s o at defined page low =
     let word_first : word_of (drop p l.section) ≡ word_of (two_at l.section p) = word_same l.section p ∙ sym (first_same l.section p) in
     let word_second : word_of (drop (offset_of l (i + 1)) l.section) ≡ word_of (drop 4 (two_at l.section p)) =
     word_same l.section (offset_of l (i + 1)) ∙ ap word_of (sym second) in
-    let matches = (by new i of).meant.matches.1.1.1 in
+    let matches = (by new i of).meant.0.1.1.1 in
     let together : IsPair IsAdd64 o (seen s) (two_at l.section p) (drop 4 (two_at l.section p)) =
     record {
       small = at.small;

@@ -41,11 +41,11 @@ module _ (laws : Groups) {l : Linked} {c : Code} (new : IsNew l c) (i : ℕ) (le
         let e = entry kinds.MovzXnLsl16 names.R_AARCH64_TLSLE_MOVW_TPREL_G1 halves_to_local_exec in
         let by = of_entry new names.R_AARCH64_TLSIE_ADR_GOTTPREL_PAGE21 i of tt e refl in
         laws.high_halves c h o k s (object l i) (instruction_at l.rewritten (offset_of l i)) at.small at.pc entry_is offset_is
-        (subst IsAdrp (word_same l.section (offset_of l i)) (by.meant.matches.1)) not_31
+        (subst IsAdrp (word_same l.section (offset_of l i)) (by.meant.0.1)) not_31
         (becomes new names.R_AARCH64_TLSIE_ADR_GOTTPREL_PAGE21 i of kinds.MovzXnLsl16 (λ _. true) (λ word. 0xd2a00000 + rd_of word) refl by.kind_is)
         has
         (has_after new names.R_AARCH64_TLSIE_ADR_GOTTPREL_PAGE21 i of e by (λ o. refl) (λ a. refl) high_after left
-        at.symbol at.is_symbol 0 refl o (ap (value_of high_row) are) place (by.meant.matches.0))
+        at.symbol at.is_symbol 0 refl o (ap (value_of high_row) are) place (by.meant.0.0))
 
     pub low_is_group : IsRewrittenOf l names.R_AARCH64_TLSIE_LD64_GOTTPREL_LO12_NC i
         → load_64 s.memory o.got_entry ≡ thread_offset o → k.registers (register (object l i)) ≡ half h
@@ -57,11 +57,11 @@ module _ (laws : Groups) {l : Linked} {c : Code} (new : IsNew l c) (i : ℕ) (le
         let by = of_entry new names.R_AARCH64_TLSIE_LD64_GOTTPREL_LO12_NC i of tt e refl in
         let word = word_same l.section (offset_of l i) in
         laws.low_halves c h o k s (object l i) (instruction_at l.rewritten (offset_of l i)) at.small at.pc entry_is offset_is
-        (subst IsLdr64 word (by.meant.matches.1.0)) (subst IsIntoOwnSource word (by.meant.matches.1.1))
+        (subst IsLdr64 word (by.meant.0.1.0)) (subst IsIntoOwnSource word (by.meant.0.1.1))
         (becomes new names.R_AARCH64_TLSIE_LD64_GOTTPREL_LO12_NC i of kinds.MovkXn (λ word. eqb (rn_of word) (rd_of word)) (λ word. 0xf2800000 + rd_of word) refl by.kind_is)
         holds known has_page has
         (has_after new names.R_AARCH64_TLSIE_LD64_GOTTPREL_LO12_NC i of e by (λ o. refl) (λ a. refl) low_after left
-        at.symbol at.is_symbol 0 refl o (ap (value_of low_row) are) place (by.meant.matches.0))
+        at.symbol at.is_symbol 0 refl o (ap (value_of low_row) are) place (by.meant.0.0))
 
   -- a branch, of a name with one entry
   pub branch_is_group : (name : AArch64Relocation) → IsNamed (aarch64_name name)
@@ -76,6 +76,6 @@ module _ (laws : Groups) {l : Linked} {c : Code} (new : IsNew l c) (i : ℕ) (le
       let e : AArch64Entry = entry kinds.ReplaceWithNop names.R_AARCH64_NONE (weak_zero ∷ []) in
       let by = of_entry new name i of named e only in
       law c o k s (object l i) (instruction_at l.rewritten (offset_of l i)) at.small at.pc goes_on
-      (subst (λ word. is_branch word ≡ true) (word_same l.section (offset_of l i)) (is_one by.meant.pattern))
+      (subst (λ word. is_branch word ≡ true) (word_same l.section (offset_of l i)) (is_one by.meant.1))
       (becomes new name i of kinds.ReplaceWithNop (λ _. true) (λ _. nop) refl by.kind_is) has
-      (stands_left new i of.below (named_after new name i of e by (λ o. refl) (λ a. refl)) left alone (by.meant.matches.0) o place)
+      (stands_left new i of.below (named_after new name i of e by (λ o. refl) (λ a. refl)) left alone (by.meant.0.0) o place)

@@ -44,17 +44,9 @@ either_of : (name : AArch64Relocation) (x y : List (Condition AArch64Relocation)
     (chosen : Choice Relaxation ℕ) → IsOfOne name (erased_by x ∷ erased_by y ∷ []) section o chosen
     → IsOfEntry name (erased_by []) section o chosen
 either_of name x y section o chosen (inl this) =
-    record {
-      kind_is = this.kind_is;
-      r_type_is = this.r_type_is;
-      meant = record { matches = this.meant.matches; pattern = this.meant.pattern };
-    }
+    record { kind_is = this.kind_is; r_type_is = this.r_type_is; meant = this.meant }
 either_of name x y section o chosen (inr (inl this)) =
-    record {
-      kind_is = this.kind_is;
-      r_type_is = this.r_type_is;
-      meant = record { matches = this.meant.matches; pattern = this.meant.pattern };
-    }
+    record { kind_is = this.kind_is; r_type_is = this.r_type_is; meant = this.meant }
 either_of name x y section o chosen (inr (inr nothing)) = absurd nothing
 
 -- ---- the sequence
@@ -67,7 +59,7 @@ module _ {l : Linked} {c : Code} (new : IsNew l c) (name : AArch64Relocation) (j
   nop_there : Stands c.new o (instruction_at l.rewritten (offset_of l j))
   nop_there =
       stands_left new j of.below (named_after new name j of (erased_by []) by (λ o. refl) (λ a. refl)) left alone
-      (by.meant.matches.0) o place
+      (by.meant.0.0) o place
 
 module _ {l : Linked} {c : Code} (new : IsNew l c) (high low : RewriteKind) (i : ℕ)
     (of : IsDescriptorRewritten high low l.relocations l.decisions i) where
@@ -129,12 +121,12 @@ local_is_group laws l c new i of k k' s s' o at left described =
     (becomes new page i is_page kinds.MovzX0Lsl16 (λ _. true) (λ _. 0xd2a00000) refl of.page_decided.kind_is)
     (becomes new load (i + 1) is_load kinds.MovkX0 (λ _. true) (λ _. 0xf2800000) refl of.load_decided.kind_is)
     (has_after new page i is_page to_high by_high (λ o. refl) (λ a. refl) high_after (left.first.0)
-    at.symbol at.is_symbol 0 refl o (ap (value_of high_row) are) place (by_high.meant.matches.0))
+    at.symbol at.is_symbol 0 refl o (ap (value_of high_row) are) place (by_high.meant.0.0))
     (has_after new load (i + 1) is_load to_low by_low (λ o. refl) (λ a. refl) low_after (left.first.1)
     at.symbol (ap (slice_get l.symbols) of.load.symbol ∙ at.is_symbol) 0 refl (following 4 o)
     (ap (λ w. value_of low_row (following 4 w)) are
     ∙ ap (λ x. value_of low_row (operands_with AArch64 l.addresses low_row at.symbol (record (after l (i + 1) names.R_AARCH64_TLSLE_MOVW_TPREL_G0_NC) { addend = x }) 0)) (sym of.load.addend))
-    (place_of l i (i + 1) 4 o place of.load.offset) (by_low.meant.matches.0))
+    (place_of l i (i + 1) 4 o place of.load.offset) (by_low.meant.0.0))
 
 -- ---- for initial-exec
 
@@ -185,7 +177,7 @@ initial_is_group laws l c new i of k k' s s' o offset at left small holds descri
     (becomes new load (i + 1) is_load kinds.LdrX0 (λ _. true) (λ _. 0xf9400000) refl of.load_decided.kind_is)
     (has_after new page i is_page to_page by_page (λ o. refl) (λ a. refl) page_after (left.first.0) symbol at.is_symbol e
     (ap (λ b. operands_by AArch64 l.addresses page_row (after l i names.R_AARCH64_TLSIE_ADR_GOTTPREL_PAGE21) symbol (cond b (Some e) None)) there)
-    (with_entry e o) (ap (λ w. value_of page_row (with_entry e w)) are) place (by_page.meant.matches.0))
+    (with_entry e o) (ap (λ w. value_of page_row (with_entry e w)) are) place (by_page.meant.0.0))
     (has_after new load (i + 1) is_load to_load by_load (λ o. refl) (λ a. refl) load_after (left.first.1) symbol
     (ap (slice_get l.symbols) of.load.symbol ∙ at.is_symbol) e
     (ap (λ b. operands_by AArch64 l.addresses load_row (after l (i + 1) names.R_AARCH64_TLSIE_LD64_GOTTPREL_LO12_NC) symbol (cond b (Some e) None))
@@ -193,4 +185,4 @@ initial_is_group laws l c new i of k k' s s' o offset at left small holds descri
     (following 4 (with_entry e o))
     (ap (λ w. value_of load_row (following 4 (with_entry e w))) are
     ∙ ap (λ x. value_of load_row (operands_with AArch64 l.addresses load_row symbol (record (after l (i + 1) names.R_AARCH64_TLSIE_LD64_GOTTPREL_LO12_NC) { addend = x }) e)) (sym of.load.addend))
-    (place_of l i (i + 1) 4 o place of.load.offset) (by_load.meant.matches.0))
+    (place_of l i (i + 1) 4 o place of.load.offset) (by_load.meant.0.0))

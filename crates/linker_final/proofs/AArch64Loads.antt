@@ -44,7 +44,7 @@ module _ (laws : Groups) {l : Linked} {c : Code} (new : IsNew l c) (i : ℕ)
   low_entry = of_entry new names.R_AARCH64_LD64_GOT_LO12_NC (i + 1) low_of tt to_add refl
 
   low_inside : offset_of l (i + 1) + 4 ≤ length l.section
-  low_inside = low_entry.meant.pattern.1.1.0
+  low_inside = low_entry.meant.1.1.1.0
 
   page_inside : offset_of l i + 4 ≤ length l.section
   page_inside = let next = of.low.offset in let inside = low_inside in omega (arith, next, inside)
@@ -80,8 +80,8 @@ module _ (laws : Groups) {l : Linked} {c : Code} (new : IsNew l c) (i : ℕ)
           one_register =
               subst (λ x. AreOfOneRegister x (word_of (object l (i + 1))))
               (ap (λ n. word_of (drop n l.section)) back ∙ word_same l.section (offset_of l i))
-              (subst (AreOfOneRegister (word_of (drop (offset_of l (i + 1) - 4) l.section))) second (low_entry.meant.pattern.1.1.1.1));
-          second_is = subst IsLdr64 second (low_entry.meant.pattern.1.1.1.0);
+              (subst (AreOfOneRegister (word_of (drop (offset_of l (i + 1) - 4) l.section))) second (low_entry.meant.1.1.1.1.1));
+          second_is = subst IsLdr64 second (low_entry.meant.1.1.1.1.0);
         }
 
     -- in one phase

@@ -51,10 +51,8 @@ place_of l i j n o place next =
 -- ---- the rewrite that is chosen
 
 -- what an entry is meant for is there, and what the relocation requires
-pub record IsMeant (name : AArch64Relocation) (section : List ℕ) (o : ℕ) (e : AArch64Entry) : Type 0
-  where
-    pub matches : aarch64_matches e.kind section o
-    pub pattern : HasPattern name section o
+abbrev pub IsMeant : AArch64Relocation → List ℕ → ℕ → AArch64Entry → Type 0
+IsMeant name section o e = aarch64_matches e.kind section o × HasPattern name section o
 
 abbrev pub IsOfEntry : AArch64Relocation → AArch64Entry → List ℕ → ℕ → Choice Relaxation ℕ → Type 0
 IsOfEntry name e section o = IsOfEntryIn aarch64_name relaxations.AArch64 (IsMeant name section o) e
@@ -124,7 +122,7 @@ module _ {l : Linked} {c : Code} (new : IsNew l c) where
         (λ scope is. unlabelled l.context.phase r.r_type scope (subst (λ x. IsScopeIn x l.context.phase r.r_type scope) new.aarch64 is)) in
         of_one_in aarch64_name relaxations.AArch64 (IsMeant name l.section r.offset) of.chosen
         (λ n. AArch64Applies n l.section r.offset f.facts) aarch64_entries kinds.NoOp refl r.r_type name named of.is_name
-        (λ e applies. record { matches = applies.0.0; pattern = applies.0.1 })
+        (λ e applies. applies.0)
         (subst (λ x. IsArchitectureChoice x r.r_type l.section r.offset f.facts of.chosen) new.aarch64 f.is_choice) f.changed
 
     -- the only one

@@ -8,7 +8,7 @@ use Rattle.linker_final.proofs.PutBack.{window_length}
 use Rattle.linker_laws.proofs.AArch64Pairs.{word_made}
 use Rattle.linker_laws.proofs.AArch64Steps.{address_is}
 use Rattle.linker_laws.proofs.LoongArchCalls.{call_is, new_first, new_second, target_is, decodes_far, decodes_jirl, decodes_b, decodes_bl}
-use Rattle.linker_laws.proofs.LoongArchPairs.{Adds, Loads, adds, loads, nears}
+use Rattle.linker_laws.proofs.LoongArchPairs.{Loads, adds, loads, nears}
 use Rattle.linker_laws.proofs.LoongArchSteps.{ends_so, loaded_of, read_back, run_pair, set}
 use Rattle.linker_laws.proofs.LoongArchWords.{high_after, low_after}
 use Rattle.linker_laws.specs.LoongArchMachine.{AreAlikeBut, EndSo, State, branch_target, execute, far_address, go_on, go_to, near_address, next_pc, page_address, read, register_target, run, step, sum_of, with_register, write}
@@ -24,36 +24,25 @@ use Rattle.linker_runs.specs.declared.relaxation.Site.{Site as sites}
 
 -- ---- registers
 
--- the others stay
-write_others : (n v m : ℕ) (s : State) → (m == n) ≡ false → read m (write n v s) ≡ read m s
-write_others n v m s other = both (n == 0)
-  where
-    both : (zero : Bool) → read m (if zero then s else with_register n v s) ≡ read m s
-    both true = refl
-    both false = ap (λ same. if m == 0 then 0 else (if same then v else s.registers m)) other
-
 write_back : (n v : ℕ) (s : State) → n ≢ 0 → read n (write n v s) ≡ v
 write_back n v s some =
     ap (λ zero. read n (if zero then s else with_register n v s)) (ne_eqb n 0 some)
     ∙ read_back n v n s refl some
 
-write_floats : (n v : ℕ) (s : State) → (write n v s).floats ≡ s.floats
-write_floats n v s = both (n == 0)
+-- the others stay, and what is no register
+write_is : {A : Type 0} (f : State → A) (n v : ℕ) (s : State) → f (with_register n v s) ≡ f s → f (write n v s) ≡ f s
+write_is f n v s same = both (n == 0)
   where
-    both : (zero : Bool) → (if zero then s else with_register n v s).floats ≡ s.floats
+    both : (zero : Bool) → f (if zero then s else with_register n v s) ≡ f s
     both true = refl
-    both false = refl
-
-write_memory : (n v : ℕ) (s : State) → (write n v s).memory ≡ s.memory
-write_memory n v s = both (n == 0)
-  where
-    both : (zero : Bool) → (if zero then s else with_register n v s).memory ≡ s.memory
-    both true = refl
-    both false = refl
+    both false = same
 
 set_others : (n v m : ℕ) (s : State) → (m == n) ≡ false → read m (set n v s) ≡ read m s
 set_others n v m s other =
     ap (λ same. if m == 0 then 0 else (if same then v else s.registers m)) other
+
+write_others : (n v m : ℕ) (s : State) → (m == n) ≡ false → read m (write n v s) ≡ read m s
+write_others n v m s other = write_is (read m) n v s (set_others n v m s other)
 
 -- ---- one run
 
@@ -138,8 +127,8 @@ far calls link x before code is r small s at =
       end = go_to (register_target q u) (write link (next_pc u) u);
       runs = run_pair p q s u _ first refl second;
       keeps = λ m e f. write_others link (next_pc u) m u e ∙ set_others n (far_address p s) m s f;
-      floats = write_floats link (next_pc u) u;
-      memory = write_memory link (next_pc u) u;
+      floats = write_is (λ (x : State). x.floats) link (next_pc u) u refl;
+      memory = write_is (λ (x : State). x.memory) link (next_pc u) u refl;
       links = λ some.
           write_back link (next_pc u) u some
           ∙ ap (λ a. sum_64 (sum_64 a 4) 4) at
@@ -217,18 +206,19 @@ low_written v before after op w =
     plain_written (of_loongarch Shift10) AbsoluteLowPart (record { start = 0; end = 12 }) v before after refl
     (no_jirl (word_of before) op) w
 
-far_sum : (x : Operands) (n target : ℕ) (high low : List ℕ) (s : State) → n ≢ 0 → s.pc ≡ x.place
-    → Adds n (word_of high) (word_of low) target s
-    → Made (pair high low) n target (sum_64 x.place 8) s
-far_sum x n target high low s some at is =
-    let u = set n (page_address (word_of high) s) s in
+-- two instructions that set a register, the second one to a value
+two_set : (x : Operands) (n v w value : ℕ) (high low : List ℕ) (s : State) → n ≢ 0 → s.pc ≡ x.place
+    → step (word_of high) s ≡ Some (set n v s) → step (word_of low) (set n v s) ≡ Some (set n w (set n v s)) → w ≡ value
+    → Made (pair high low) n value (sum_64 x.place 8) s
+two_set x n v w value high low s some at first second value_is =
+    let u = set n v s in
     record {
-      end = set n (sum_of (word_of low) u) u;
-      runs = run_pair (word_of high) (word_of low) s u _ is.first refl is.second;
-      keeps = λ m e. set_others n (sum_of (word_of low) u) m u e ∙ set_others n (page_address (word_of high) s) m s e;
+      end = set n w u;
+      runs = run_pair (word_of high) (word_of low) s u _ first refl second;
+      keeps = λ m e. set_others n w m u e ∙ set_others n v m s e;
       floats = refl;
       memory = refl;
-      made = read_back n (sum_of (word_of low) u) n u refl some ∙ is.value_is;
+      made = read_back n w n u refl some ∙ value_is;
       next = ap (λ a. sum_64 (sum_64 a 4) 4) at
           ∙ (let e : sum_64 (sum_64 x.place 4) 4 ≡ sum_64 x.place 8 = omega arith in e);
     }
@@ -238,17 +228,8 @@ pub load_run : (x : Operands) (n value : ℕ) (high low : List ℕ) (s : State) 
     → loaded 8 s.memory (entry_and_addend x) ≡ value
     → Made (pair high low) n value (sum_64 x.place 8) s
 load_run x n value high low s some at is holds =
-    let u = set n (page_address (word_of high) s) s in
-    record {
-      end = set n (loaded_of (word_of low) u) u;
-      runs = run_pair (word_of high) (word_of low) s u _ is.first refl is.second;
-      keeps = λ m e. set_others n (loaded_of (word_of low) u) m u e ∙ set_others n (page_address (word_of high) s) m s e;
-      floats = refl;
-      memory = refl;
-      made = read_back n (loaded_of (word_of low) u) n u refl some ∙ is.value_is ∙ holds;
-      next = ap (λ a. sum_64 (sum_64 a 4) 4) at
-          ∙ (let e : sum_64 (sum_64 x.place 4) 4 ≡ sum_64 x.place 8 = omega arith in e);
-    }
+    two_set x n (page_address (word_of high) s) (loaded_of (word_of low) (set n (page_address (word_of high) s) s)) value
+    high low s some at is.first is.second (is.value_is ∙ holds)
 
 -- The pair with its relocations applied makes the address that its words lead to.
 pub sum_run : (x y : Operands) (n target : ℕ) (old_high old_low high low : List ℕ)
@@ -260,11 +241,12 @@ pub sum_run : (x y : Operands) (n target : ℕ) (old_high old_low high low : Lis
     → (s : State) → s.pc ≡ x.place → Made (pair high low) n target (sum_64 x.place 8) s
 sum_run x y n target old_high old_low high low one op rd a d leads s at =
     let some : n ≢ 0 = λ none. one.into_own_source.not_zero (rd ∙ none) in
-    far_sum x n target high low s some at
-    (adds x n (word_of high) (word_of low) target s
+    let sum = adds x n (word_of high) (word_of low) target s
     (high_after 12 0x0d n _ old_high high a.written one.first (one.register ∙ rd))
     (low_after 0x00b n n _ old_low low (low_written d.value old_low low op d.written) op rd (one.into_own_source.same ∙ rd))
-    some at leads)
+    some at leads in
+    two_set x n (page_address (word_of high) s) (sum_of (word_of low) (set n (page_address (word_of high) s) s)) target
+    high low s some at sum.first sum.second sum.value_is
 
 -- ---- what the words of a window are
 
