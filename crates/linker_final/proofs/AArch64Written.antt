@@ -108,7 +108,7 @@ module _ {l : Linked} {c : Code} (new : IsNew l c) where
       → entry_of a.row (relocation_in l.relocations i).addend symbol.is_thread_local ≡ Some entry
       → is_there l.addresses symbol entry ≡ true
   entry_there i below name a named left symbol is_symbol entry is_entry =
-      entry_is_there l new.linked i below 4 a.row a.of (after l i name)
+      entry_is_there l new.linked i below a.row a.of.valued a.of.unlabelled (after l i name)
       (relocation_left l new.linked i (offset_of l i) 4 left below ∙ named)
       (row_of name a.named a.row a.is) symbol is_symbol entry is_entry
 

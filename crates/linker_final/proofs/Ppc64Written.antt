@@ -128,7 +128,7 @@ module _ (l : Linked) (linked : IsLinked l) (ppc64 : l.context.architecture ≡ 
       → (entry : Entry) → entry_of a.row became.addend symbol.is_thread_local ≡ Some entry
       → is_there l.addresses symbol entry ≡ true
   entry_there n name a code left symbol is_symbol entry is_entry =
-      entry_is_there l linked i below n a.row a.of became (relocation_left l linked i became.offset n left below)
+      entry_is_there l linked i below a.row a.of.valued a.of.unlabelled became (relocation_left l linked i became.offset n left below)
       (row_there n name a code) symbol is_symbol entry is_entry
 
   -- an instruction is left that no other relocation writes, where the own one goes

@@ -1,8 +1,9 @@
 -- Instructions and their relocations in the bytes that rewrites leave, and in the final bytes.
-use Rattle.linker_final.proofs.Imports.{◌≡◌, ℕ, ℤ, ◌+◌, ◌-◌, ◌/◌, ◌<◌, ◌≤◌, ◌⊎◌, List, length, take, drop, sym, ap, subst, ◌∙◌, refl, inl, inr, arith, Option, Some, None, IsSomeAnd, Ok, Err, Result, true, cases_eq, cases_lt, cases_Bool, cond-true, cond-false, take-take, drop-drop, w32, from_le_bytes, slice_get, Rewrite, addend_after, offset_after, window_of_rewrite, RewriteWindow, IsApplied, IsNamed, r_type_of, bytes_row, value_of, RelocationKindInfo, Choice, Operands, decision_at, window_of, written_end_at, IsDone, IsMade, relocation_after, Decision, Rewritten, IsField, field_end, field_len, entry_of, relocation_in, IsInNoField, IsRowValue, IsValueBy, IsValueIn, entry_address, has_value, is_there, lacks_origin, value_by, offset_at, operands_by, operands_in, operands_of, operands_with, Addresses, Symbol, Entry, Rela, ValueError, NoEntry, IsRow, relaxation_rewrite, Relaxation, Architecture, word_of_front, drop-take, ElfName, AreRewritten, Linked, UntouchedBytes, IsLinked, IsOutside, IsRewrittenByNoOther, IsWrittenByNoOther, count, instruction_at, two_at, start_by, written_end_by, entry_in, IsNamedValue, AreBytes, All-get_or, get_or_past, get_or}
+use Rattle.linker_final.proofs.Imports.{◌≡◌, ℕ, ℤ, ◌+◌, ◌-◌, ◌/◌, ◌<◌, ◌≤◌, ◌⊎◌, List, length, take, drop, sym, ap, subst, ◌∙◌, refl, inl, inr, arith, Option, Some, None, IsSomeAnd, Ok, true, cases_eq, cases_lt, cases_Bool, cond-false, take-take, drop-drop, w32, from_le_bytes, slice_get, Rewrite, addend_after, offset_after, window_of_rewrite, RewriteWindow, IsApplied, IsNamed, r_type_of, bytes_row, value_of, RelocationKindInfo, Choice, Operands, decision_at, window_of, written_end_at, IsDone, IsMade, relocation_after, Decision, Rewritten, IsField, field_end, field_len, entry_of, relocation_in, IsInNoField, IsRowValue, entry_address, has_value, is_there, offset_at, operands_by, operands_in, operands_of, operands_with, Addresses, Symbol, Entry, Rela, NoEntry, IsRow, relaxation_rewrite, Relaxation, Architecture, word_of_front, drop-take, ElfName, AreRewritten, Linked, UntouchedBytes, IsLinked, IsOutside, IsRewrittenByNoOther, IsWrittenByNoOther, count, instruction_at, two_at, start_by, written_end_by, entry_in, IsNamedValue, AreBytes, All-get_or, get_or_past, get_or}
 use Rattle.linker_elf.specs.declared.elf.RelocationKind.TheVariants.{None as NoValue}
 use Rattle.linker_final.proofs.InstructionFields.{IsOfInstruction, applied, instruction_len}
 use Rattle.linker_final.proofs.Phases.{bytes_left, last_as_many, last_length, last_within, relocation_left}
+use Rattle.linker_final.proofs.PlainRows.{are_there}
 use Rattle.linker_final.proofs.PutBack.{same_windows}
 
 pub small_byte : (bytes : List ℕ) → AreBytes bytes → (i : ℕ) → get_or bytes i 0 < 256
@@ -109,54 +110,26 @@ module _ (l : Linked) (linked : IsLinked l) (i : ℕ) (below : i < count l) (n :
 
 -- ---- entries of the GOT
 
--- a relocation that has a value has the operands of its formula
-module _ (l : Linked) (r : Rela) (row : RelocationKindInfo) (n : ℕ) (of : IsOfInstruction n row)
-    (only : IsRowOf l.context.architecture r.r_type row) where
-  by_row : (result : Result (Option ℤ) ValueError)
-      → IsValueIn l.context.architecture l.addresses l.relocations_last l.symbols r (Some row) result
-      → result ≡ value_by (lacks_origin l.addresses l.symbols row r) row
-      (operands_of l.context.architecture l.addresses l.symbols row r)
-  by_row result is =
-      subst (λ labels. IsValueBy labels l.context.architecture l.addresses l.relocations_last l.symbols row r result) of.unlabelled is
-      ∙ cond-true (has_value row.kind)
-      (value_by (lacks_origin l.addresses l.symbols row r) row (operands_of l.context.architecture l.addresses l.symbols row r))
-      (Ok None) of.valued
-
-  has_operands : (found : Option (RelocationKindInfo × ℤ))
-      → IsRowValue l.context.architecture l.addresses l.relocations_last l.symbols r (Ok found)
-      → (error : ValueError) → operands_of l.context.architecture l.addresses l.symbols row r ≡ Err error → ⊥
-  has_operands (Some one) has error fails =
-      let value : Ok (Some (one.1))
-      ≡ value_by (lacks_origin l.addresses l.symbols row r) row (operands_of l.context.architecture l.addresses l.symbols row r) =
-      by_row (Ok (Some (one.1)))
-      (subst (λ x. IsValueIn l.context.architecture l.addresses l.relocations_last l.symbols r x (Ok (Some (one.1)))) (only (Some (one.0)) has.is_row) has.is_value) in
-      absurd (let e : Ok (Some (one.1)) ≡ Err error = value ∙ ap (value_by (lacks_origin l.addresses l.symbols row r) row) fails in cc)
-  has_operands None marked error fails =
-      let value : Ok None
-      ≡ value_by (lacks_origin l.addresses l.symbols row r) row (operands_of l.context.architecture l.addresses l.symbols row r) =
-      by_row (Ok None)
-      (subst (λ x. IsValueIn l.context.architecture l.addresses l.relocations_last l.symbols r x (Ok None)) (only (marked.0) (marked.1)) (marked.2)) in
-      absurd (let e : Ok None ≡ Err error = value ∙ ap (value_by (lacks_origin l.addresses l.symbols row r) row) fails in cc)
-
 -- the entry that its formula has is there
-pub entry_is_there : (l : Linked) → IsLinked l → (i : ℕ) → i < count l → (n : ℕ)
-    (row : RelocationKindInfo) → IsOfInstruction n row
+pub entry_is_there : (l : Linked) → IsLinked l → (i : ℕ) → i < count l → (row : RelocationKindInfo)
+    → has_value row.kind ≡ true → names_label row.size row.kind ≡ false
     → (after : Rela) → relocation_in l.relocations_last i ≡ after
     → IsRowOf l.context.architecture after.r_type row
     → (symbol : Symbol) → slice_get l.symbols after.symbol ≡ Some symbol
     → (entry : Entry) → entry_of row after.addend symbol.is_thread_local ≡ Some entry
     → is_there l.addresses symbol entry ≡ true
-entry_is_there l linked i below n row of after is_after only symbol is_symbol entry is_entry =
+entry_is_there l linked i below row valued unlabelled after is_after only symbol is_symbol entry is_entry =
     elim (cases_Bool (is_there l.addresses symbol entry)) [
       | inl there ↦ there
       | inr missing ↦
           let none : entry_address l.addresses symbol (entry_of row after.addend symbol.is_thread_local) ≡ None =
           ap (entry_address l.addresses symbol) is_entry
           ∙ cond-false (is_there l.addresses symbol entry) (Some (entry_in l.addresses symbol entry.class)) None missing in
-          absurd (has_operands l after row n of only (linked.written.can.found i)
-          (subst (λ (x : Rela). IsRowValue l.context.architecture l.addresses l.relocations_last l.symbols x (Ok (linked.written.can.found i))) is_after
-          (linked.written.can.are_found i (last_within l linked i below)))
-          NoEntry
+          let found = linked.written.can.found i in
+          let has = subst (λ (x : Rela). IsRowValue l.context.architecture l.addresses l.relocations_last l.symbols x (Ok found)) is_after
+          (linked.written.can.are_found i (last_within l linked i below)) in
+          absurd (are_there l.context.architecture l.addresses l.relocations_last l.symbols after row
+          (row_in l.context.architecture l.addresses l.relocations_last l.symbols after row only found has) valued unlabelled found has NoEntry
           (ap (operands_in l.context.architecture l.addresses row after) is_symbol
           ∙ ap (operands_by l.context.architecture l.addresses row after symbol) none))
     ]

@@ -1,12 +1,11 @@
 -- A GOT entry of a variable's offset, which rewrites of x86-64 leave in place of a call or of a
 -- descriptor.
-use Rattle.linker_final.proofs.Imports.{◌≡◌, ℕ, pos, ◌+◌, ◌-◌, ◌≤◌, cond, refl, sym, ap, subst, ◌∙◌, inl, inr, Some, None, Ok, Err, cases_Bool, slice_get, rewritten, offset_after, operands_after, r_type_of, value_of, x86_64_name, Operands, thread_row, tls_got_row, relocation_in, is_there, operands_by, operands_in, operands_of, operands_with, Symbol, Entry, ThreadOffset, Rela, NoEntry, X86_64, x86_64_rewrite, RewriteKind, Linked, put_back}
+use Rattle.linker_final.proofs.Imports.{◌≡◌, ℕ, pos, ◌+◌, ◌-◌, ◌≤◌, cond, refl, sym, ap, subst, ◌∙◌, Some, None, Ok, slice_get, rewritten, offset_after, operands_after, r_type_of, value_of, x86_64_name, Operands, thread_row, tls_got_row, relocation_in, operands_by, operands_in, operands_of, operands_with, Symbol, Entry, ThreadOffset, Rela, X86_64, x86_64_rewrite, RewriteKind, Linked, put_back}
 use Rattle.linker_elf.specs.declared.x86_64.relocations.X86_64Relocation.TheVariants as names
-use Rattle.linker_final.proofs.PlainRows.{are_there}
 use Rattle.linker_final.proofs.X86Finals.{moved}
 use Rattle.linker_final.proofs.X86ThreadRows.{plain_entry}
-use Rattle.linker_final.proofs.Written.{rela}
-use Rattle.linker_final.proofs.X86Windows.{HasRewrite, offset_small, r_after, relocated_after, row_after, within_after}
+use Rattle.linker_final.proofs.Written.{IsRowOf, entry_is_there, rela}
+use Rattle.linker_final.proofs.X86Windows.{HasRewrite, offset_small, r_after, relocated_after, row_of}
 use Rattle.linker_laws.specs.X86RewriteLaws.{IsRelocated}
 
 abbrev offset_entry : Entry
@@ -30,25 +29,11 @@ module _ (l : Linked) (i back end : ℕ) (kind : RewriteKind) (is : HasRewrite l
     taken : operands_of X86_64 l.addresses l.symbols tls_got_row relocation
         ≡ Ok (operands_with X86_64 l.addresses tls_got_row symbol relocation symbol.thread_entry)
     taken =
-        elim (cases_Bool (is_there l.addresses symbol offset_entry)) [
-          | inl there ↦
-              ap (operands_in X86_64 l.addresses tls_got_row relocation) is_symbol
-              ∙ ap (λ b. operands_by X86_64 l.addresses tls_got_row relocation symbol (cond b (Some symbol.thread_entry) None)) there
-          | inr missing ↦
-              let error : operands_of X86_64 l.addresses l.symbols tls_got_row relocation ≡ Err NoEntry =
-              ap (operands_in X86_64 l.addresses tls_got_row relocation) is_symbol
-              ∙ ap (λ b. operands_by X86_64 l.addresses tls_got_row relocation symbol (cond b (Some symbol.thread_entry) None)) missing in
-              let after = r_after l i back end kind is in
-              let written = is.linked.written.can in
-              absurd
-              (are_there l.context.architecture l.addresses l.relocations_last l.symbols
-              (relocation_in l.relocations_last i) tls_got_row
-              (row_after l is.linked is.x86 i is.below names.R_X86_64_GOTTPOFF tt tls_got_row refl
-              (ap (λ (x : Rela). x.r_type) after ∙ r_type_is)) refl refl (written.found i)
-              (written.are_found i (within_after l i back end kind is)) NoEntry
-              (subst (λ x. operands_of x l.addresses l.symbols tls_got_row (relocation_in l.relocations_last i) ≡ Err NoEntry) (sym is.x86)
-              (subst (λ x. operands_of X86_64 l.addresses l.symbols tls_got_row x ≡ Err NoEntry) (sym after) error)))
-        ]
+        ap (operands_in X86_64 l.addresses tls_got_row relocation) is_symbol
+        ∙ ap (λ b. operands_by X86_64 l.addresses tls_got_row relocation symbol (cond b (Some symbol.thread_entry) None))
+        (entry_is_there l is.linked i is.below tls_got_row refl refl relocation (r_after l i back end kind is)
+        (subst (λ code. IsRowOf l.context.architecture code tls_got_row) (sym r_type_is) (row_of l is.x86 names.R_X86_64_GOTTPOFF tt tls_got_row refl))
+        symbol is_symbol offset_entry refl)
 
     pub entry_final : r.offset - back ≤ is.window.made.offset r.offset
         → is.window.made.offset r.offset + 4 ≤ r.offset + end → (entry : ℕ)

@@ -82,7 +82,7 @@ module _ (n : ℕ) (row : RelocationKindInfo) (plain : IsPlain n row) (operands 
 
 -- ---- rows
 
-row_of : (l : Linked) → l.context.architecture ≡ X86_64 → (name : X86_64Relocation)
+pub row_of : (l : Linked) → l.context.architecture ≡ X86_64 → (name : X86_64Relocation)
     → IsNamed (x86_64_name name) → (row : RelocationKindInfo) → x86_64_row name ≡ Some row
     → IsRowOf l.context.architecture (r_type_of (x86_64_name name)) row
 row_of l x86 name named row is found there =
