@@ -1,10 +1,10 @@
 -- Rewritten instructions of AArch64 in a phase, and in code that has the final bytes.
-use Rattle.linker_final.proofs.Imports.{◌≡◌, ℕ, ℤ, ◌+◌, ◌<◌, ◌≤◌, List, [], ◌∷◌, length, sym, ap, subst, ◌∙◌, refl, arith, Some, Ok, Bool, true, IsSomeAnd, slice_get, addend_after, offset_after, aarch64_name, IsApplied, IsRow, IsNamed, r_type_of, bytes_row, sum_64, value_of, AArch64Relocation, RelocationKindInfo, AArch64, Choice, Operands, Code, Has, Stands, loaded, chosen_at, decision_at, IsScopeIn, IsRewrittenBy, entry_of, relocation_in, entry_address, is_there, operands_by, operands_with, Symbol, Entry, Rela, AArch64Entry, aarch64_entries, IsArchitectureChoice, relaxation_rewrite, Relaxation, aarch64_row, HasFinal, IsRewrittenOf, object, IsLinked, IsWrittenByNoOther, Linked, UntouchedInstruction, count, instruction_at, unlabelled, IsPartAt}
+use Rattle.linker_final.proofs.Imports.{◌≡◌, ℕ, ℤ, ◌+◌, ◌<◌, ◌≤◌, List, [], ◌∷◌, length, sym, ap, subst, ◌∙◌, refl, arith, Some, Ok, Bool, true, IsSomeAnd, slice_get, addend_after, offset_after, aarch64_name, IsRow, IsNamed, r_type_of, bytes_row, sum_64, value_of, AArch64Relocation, RelocationKindInfo, AArch64, Choice, Operands, Code, Has, Stands, loaded, chosen_at, decision_at, IsScopeIn, IsRewrittenBy, entry_of, relocation_in, entry_address, is_there, operands_by, operands_with, Symbol, Entry, Rela, AArch64Entry, aarch64_entries, IsArchitectureChoice, relaxation_rewrite, Relaxation, aarch64_row, HasFinal, IsRewrittenOf, object, IsLinked, IsWrittenByNoOther, Linked, UntouchedInstruction, count, instruction_at, unlabelled, IsPartAt}
 use Rattle.linker_elf.specs.declared.aarch64.relocations.AArch64Relocation.TheVariants as names
 use Rattle.linker_elf.specs.declared.elf.RelocationKind.TheVariants.{None as NoValue}
 use Rattle.linker_final.proofs.InstructionFields.{IsOfInstruction}
 use Rattle.linker_final.proofs.Phases.{last_length, relocation_left}
-use Rattle.linker_final.proofs.Written.{IsRowOf, applied_after, by_name, entry_is_there, made_there, rela, relocation_named, unwritten_without, with_operands}
+use Rattle.linker_final.proofs.Written.{IsRowOf, applied_after, by_name, entry_is_there, made_there, rela, relocation_named, unwritten_without}
 use Rattle.linker_final.specs.SectionRuns.{offset_of}
 use Rattle.linker_laws.specs.AArch64RewriteLaws.{BeginsRewritten, IsRewritten}
 use Rattle.linker_rewriting.proofs.Entries.{IsOfEntry as IsOfEntryIn, IsOfOne as IsOfOneIn, of_entry as of_entry_in, of_one as of_one_in}
@@ -161,19 +161,9 @@ module _ {l : Linked} {c : Code} (new : IsNew l c) where
           → Has c.new e.relocation o (instruction_at l.rewritten (offset_of l i))
       has_after a left symbol is_symbol got entry_is o same place inside =
           let p = offset_of l i in
-          let r = after l i e.relocation in
-          let w = operands_with AArch64 l.addresses a.row symbol r got in
-          let there : IsApplied a.row w (instruction_at l.rewritten p) (instruction_at l.final p) =
-          subst (λ x. IsApplied a.row (operands_with x l.addresses a.row symbol r got) (instruction_at l.rewritten p) (instruction_at l.final p)) new.aarch64
-          (applied_after l new.linked i of.below 4 (omega arith) a.row a.of r named_after left
-          (row_of e.relocation a.named a.row a.is) symbol is_symbol got
-          (subst (λ x. operands_by x l.addresses a.row r symbol
-          (entry_address l.addresses symbol (entry_of a.row r.addend symbol.is_thread_local))
-          ≡ Ok (operands_with x l.addresses a.row symbol r got)) (sym new.aarch64) entry_is)) in
           record {
             relocated = instruction_at l.final p;
-            applied =
-                subst (λ q. IsSomeAnd q (λ row. IsApplied row o (instruction_at l.rewritten p) (instruction_at l.final p))) (sym a.is)
-                (with_operands a.row w o (instruction_at l.rewritten p) (instruction_at l.final p) same there);
+            applied = applied_after l new.linked i of.below 4 (omega arith) a.row a.of (after l i e.relocation) named_after left
+                (row_of e.relocation a.named a.row a.is) symbol is_symbol got AArch64 new.aarch64 entry_is o same (aarch64_row e.relocation) a.is;
             stands = stands_at p o place inside;
           }

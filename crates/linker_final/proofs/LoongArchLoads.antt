@@ -4,8 +4,8 @@ use Rattle.linker_elf.specs.declared.loongarch64.relocations.LoongArch64Relocati
 use Rattle.linker_final.proofs.InstructionFields.{of_bits}
 use Rattle.linker_final.proofs.LoongArchChosen.{IsEntry, by_table, entry_by, shown}
 use Rattle.linker_final.proofs.LoongArchPairs.{AreOfLoad, load_of}
-use Rattle.linker_final.proofs.LoongArchWritten.{IsAfter, applied_after_it, becomes, named_after}
-use Rattle.linker_final.proofs.Written.{rela, stays, with_operands, word_same}
+use Rattle.linker_final.proofs.LoongArchWritten.{IsAfter, becomes, named_after, relocated_there}
+use Rattle.linker_final.proofs.Written.{rela, stays, word_same}
 use Rattle.linker_laws.specs.LoongArchGroups.{Groups}
 use Rattle.linker_laws.specs.LoongArchRewriteLaws.{IsPair, following, word_of}
 use Rattle.linker_utils.specs.LoongArchRewrites.{AreOfOneRegister}
@@ -86,25 +86,18 @@ module _ (groups : Groups) (l : Linked) (linked : IsLinked l) (loongarch : l.con
       let within = there.within in
       let stayed : instruction_at l.rewritten o ≡ instruction_at l.section o =
       stays l linked.made i of.page_chosen of.page_below of.page_decided (ap relaxation_rewrite page.kind_is) alone (omega (arith, within)) in
-      let page_code = r_type_of (loongarch_name names.R_LARCH_PCALA_HI20) in
       let low_r_type = r_type_of (loongarch_name names.R_LARCH_PCALA_LO12) in
       let page_written : IsApplied page_after.row w (instruction_at l.section o) (instruction_at l.final o) =
-      with_operands page_after.row
-      (operands_with LoongArch64 l.addresses page_after.row symbol (rela o page_code first.symbol first.addend) 0)
-      w (instruction_at l.section o) (instruction_at l.final o) refl
-      (subst (λ xs. IsApplied page_after.row (operands_with LoongArch64 l.addresses page_after.row symbol (rela o page_code first.symbol first.addend) 0) xs (instruction_at l.final o)) stayed
-      (applied_after_it l linked loongarch i of.page_below names.R_LARCH_PCALA_HI20 page_after
+      subst (λ xs. IsApplied page_after.row w xs (instruction_at l.final o)) stayed
+      (relocated_there l linked loongarch i of.page_below names.R_LARCH_PCALA_HI20 page_after
       (named_after l linked.made i of.page_chosen of.page_below of.page_decided kinds.NoOp page.kind_is names.R_LARCH_PCALA_HI20 page.r_type_is)
-      (left.0) symbol 0 refl is_symbol)) in
+      (left.0) symbol 0 refl is_symbol w refl) in
       let low_written : IsApplied low_after.row (following 4 w) (instruction_at l.rewritten (o + 4)) (instruction_at l.final (o + 4)) =
       subst (λ n. IsApplied low_after.row (following 4 w) (instruction_at l.rewritten n) (instruction_at l.final n)) next
-      (with_operands low_after.row
-      (operands_with LoongArch64 l.addresses low_after.row symbol (rela second.offset low_r_type second.symbol second.addend) 0)
-      (following 4 w) (instruction_at l.rewritten second.offset) (instruction_at l.final second.offset)
-      (low_value l.addresses symbol first got second.offset low_r_type second.symbol second.addend of.same_addend)
-      (applied_after_it l linked loongarch j of.low_below names.R_LARCH_PCALA_LO12 low_after
+      (relocated_there l linked loongarch j of.low_below names.R_LARCH_PCALA_LO12 low_after
       (named_after l linked.made j of.low_chosen of.low_below of.low_decided kinds.LdToAddi low.kind_is names.R_LARCH_PCALA_LO12 low.r_type_is)
-      (left.1) symbol 0 refl (ap (slice_get l.symbols) of.same_symbol ∙ is_symbol))) in
+      (left.1) symbol 0 refl (ap (slice_get l.symbols) of.same_symbol ∙ is_symbol) (following 4 w)
+      (low_value l.addresses symbol first got second.offset low_r_type second.symbol second.addend of.same_addend)) in
       let added : IsRewritten kinds.LdToAddi (instruction_at l.section (o + 4)) (instruction_at l.rewritten (o + 4)) =
       subst (λ n. IsRewritten kinds.LdToAddi (instruction_at l.section n) (instruction_at l.rewritten n)) next
       (becomes l linked.made j of.low_chosen of.low_below of.low_decided kinds.LdToAddi low.kind_is

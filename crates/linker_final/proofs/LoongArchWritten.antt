@@ -3,7 +3,7 @@ use Rattle.linker_final.proofs.Imports.{◌≡◌, ℕ, ℤ, ◌+◌, ◌<◌, �
 use Rattle.linker_elf.specs.declared.elf.RelocationKind.TheVariants.{None as NoValue}
 use Rattle.linker_elf.specs.declared.loongarch64.relocations.LoongArch64Relocation.TheVariants as names
 use Rattle.linker_final.proofs.InstructionFields.{IsOfInstruction}
-use Rattle.linker_final.proofs.Written.{IsRowOf, applied_after, by_name, made_there, relocation_named, unwritten_without, with_operands}
+use Rattle.linker_final.proofs.Written.{IsRowOf, applied_after, by_name, made_there, relocation_named, unwritten_without}
 use Rattle.linker_utils.specs.declared.loongarch64.rewrites.RewriteKind.{RewriteKind}
 use Rattle.linker_utils.specs.declared.loongarch64.rewrites.RewriteKind.TheVariants as kinds
 use Rattle.linker_utils.specs.declared.architecture.Relaxation.TheVariants as relaxations
@@ -56,21 +56,7 @@ module _ (l : Linked) (linked : IsLinked l) (loongarch : l.context.architecture 
   abbrev r : Rela
   r = relocation_in l.relocations i
 
-  -- is applied to what the rewrite leaves
-  pub applied_after_it : (symbol : Symbol) (got : ℕ)
-      → operands_in LoongArch64 l.addresses a.row (named_as name r) (Some symbol)
-      ≡ Ok (operands_with LoongArch64 l.addresses a.row symbol (named_as name r) got)
-      → slice_get l.symbols r.symbol ≡ Some symbol
-      → IsApplied a.row (operands_with LoongArch64 l.addresses a.row symbol (named_as name r) got)
-      (instruction_at l.rewritten r.offset) (instruction_at l.final r.offset)
-  applied_after_it symbol got taken is_symbol =
-      let after = named_as name r in
-      subst (λ x. IsApplied a.row (operands_with x l.addresses a.row symbol after got) (instruction_at l.rewritten r.offset) (instruction_at l.final r.offset)) loongarch
-      (applied_after l linked i below 4 (omega arith) a.row a.of after after_is left
-      (row_of l.context.architecture loongarch name a.named a.row a.is) symbol is_symbol got
-      (subst (λ x. operands_in x l.addresses a.row after (Some symbol) ≡ Ok (operands_with x l.addresses a.row symbol after got)) (sym loongarch) taken))
-
-  -- by operands with the same value
+  -- is applied to what the rewrite leaves, by operands with the same value
   pub relocated_there : (symbol : Symbol) (got : ℕ)
       → operands_in LoongArch64 l.addresses a.row (named_as name r) (Some symbol)
       ≡ Ok (operands_with LoongArch64 l.addresses a.row symbol (named_as name r) got)
@@ -78,10 +64,8 @@ module _ (l : Linked) (linked : IsLinked l) (loongarch : l.context.architecture 
       → value_of a.row y ≡ value_of a.row (operands_with LoongArch64 l.addresses a.row symbol (named_as name r) got)
       → IsRelocated name y (instruction_at l.rewritten r.offset) (instruction_at l.final r.offset)
   relocated_there symbol got taken is_symbol y same =
-      as_named name a y (instruction_at l.rewritten r.offset) (instruction_at l.final r.offset)
-      (with_operands a.row (operands_with LoongArch64 l.addresses a.row symbol (named_as name r) got) y
-      (instruction_at l.rewritten r.offset) (instruction_at l.final r.offset) same
-      (applied_after_it symbol got taken is_symbol))
+      applied_after l linked i below 4 (omega arith) a.row a.of (named_as name r) after_is left
+      (row_of l.context.architecture loongarch name a.named a.row a.is) symbol is_symbol got LoongArch64 loongarch taken y same (loongarch_row name) a.is
 
 -- an instruction that becomes another
 pub becomes : (l : Linked) → AreRewritten l → (i : ℕ) (chosen : Choice Relaxation ℕ) → i < count l

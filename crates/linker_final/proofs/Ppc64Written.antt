@@ -1,12 +1,12 @@
 -- Instructions of PowerPC64 and their relocations in the final bytes of a section.
-use Rattle.linker_final.proofs.Imports.{true, ◌≡◌, ◌⊎◌, ℕ, ◌+◌, ◌-◌, ◌<◌, ◌≤◌, length, take, drop, sym, ap, subst, ◌∙◌, refl, arith, Some, None, Ok, IsSomeAnd, cond, take-take, IsTrue, slice_get, Rewrite, addend_after, offset_after, IsApplied, IsNamed, r_type_of, ppc64_name, ppc64_row, bytes_row, signed_row, value_of, GotTpOff, Relative, TpOff, RelocationKindInfo, Choice, Operands, Ppc64Relocation, HasTest, ppc64_rewrite, rewrites_marked, decision_at, IsDone, IsMade, Rewritten, entry_of, relocation_in, entry_address, is_there, operands_by, operands_with, Symbol, Entry, ThreadOffset, Rela, IsRow, relaxation_rewrite, Relaxation, Ppc64, UntouchedBytes, AreRewritten, Linked, IsLinked, IsWrittenByNoOther, count, instruction_at}
+use Rattle.linker_final.proofs.Imports.{true, ◌≡◌, ◌⊎◌, ℕ, ◌+◌, ◌-◌, ◌<◌, ◌≤◌, length, take, drop, sym, ap, subst, ◌∙◌, refl, arith, Some, None, Ok, IsSomeAnd, cond, take-take, IsTrue, slice_get, Rewrite, addend_after, offset_after, IsNamed, r_type_of, ppc64_name, ppc64_row, bytes_row, signed_row, value_of, GotTpOff, Relative, TpOff, RelocationKindInfo, Choice, Operands, Ppc64Relocation, HasTest, ppc64_rewrite, rewrites_marked, decision_at, IsDone, IsMade, Rewritten, entry_of, relocation_in, entry_address, is_there, operands_by, operands_with, Symbol, Entry, ThreadOffset, Rela, IsRow, relaxation_rewrite, Relaxation, Ppc64, UntouchedBytes, AreRewritten, Linked, IsLinked, IsWrittenByNoOther, count, instruction_at}
 use Rattle.linker_elf.specs.Ppc64Relocations.{branch_row, high_adjusted_row, low_ds_row, low_row, prefixed_row}
 use Rattle.linker_elf.specs.declared.elf.RelocationKind.TheVariants.{None as NoValue, GotTpOffGotBase, SymRelGotBase}
 use Rattle.linker_elf.specs.declared.ppc64.forms.Ppc64Instruction.TheVariants.{Branch24}
 use Rattle.linker_elf.specs.declared.ppc64.relocations.Ppc64Relocation.TheVariants as names
 use Rattle.linker_final.proofs.InstructionFields.{IsOfInstruction, of_bits}
 use Rattle.linker_final.proofs.Phases.{relocation_left}
-use Rattle.linker_final.proofs.Written.{IsRowOf, apart_with, applied_after, by_name, entry_is_there, made_there, rela, relocation_is, unwritten_but, unwritten_without, with_operands, word_same}
+use Rattle.linker_final.proofs.Written.{IsRowOf, apart_with, applied_after, by_name, entry_is_there, made_there, rela, relocation_is, unwritten_but, unwritten_without, word_same}
 use Rattle.linker_final.specs.SectionRuns.{offset_of}
 use Rattle.linker_laws.specs.Ppc64RewriteLaws.{IsRelocated, IsRewritten, word_of}
 use Rattle.linker_utils.specs.declared.ppc64.rewrites.RewriteKind.{RewriteKind}
@@ -111,16 +111,8 @@ module _ (l : Linked) (linked : IsLinked l) (ppc64 : l.context.architecture ≡ 
       → value_of a.row o ≡ value_of a.row (operands_with Ppc64 l.addresses a.row symbol became got)
       → IsRelocated name o (take n (drop became.offset l.rewritten)) (take n (drop became.offset l.final))
   applied_there n some name a code left symbol is_symbol got entry_is o same =
-      let w = operands_with Ppc64 l.addresses a.row symbol became got in
-      let there : IsApplied a.row w (take n (drop became.offset l.rewritten)) (take n (drop became.offset l.final)) =
-      subst (λ x. IsApplied a.row (operands_with x l.addresses a.row symbol became got)
-      (take n (drop became.offset l.rewritten)) (take n (drop became.offset l.final))) ppc64
-      (applied_after l linked i below n some a.row a.of became refl left (row_there n name a code) symbol is_symbol got
-      (subst (λ x. operands_by x l.addresses a.row became symbol
-      (entry_address l.addresses symbol (entry_of a.row became.addend symbol.is_thread_local))
-      ≡ Ok (operands_with x l.addresses a.row symbol became got)) (sym ppc64) entry_is)) in
-      subst (λ q. IsSomeAnd q (λ row. IsApplied row o (take n (drop became.offset l.rewritten)) (take n (drop became.offset l.final)))) (sym a.is)
-      (with_operands a.row w o _ _ same there)
+      applied_after l linked i below n some a.row a.of became refl left (row_there n name a code) symbol is_symbol got Ppc64 ppc64 entry_is
+      o same (ppc64_row name) a.is
 
   -- the entry of its formula is there
   pub entry_there : (n : ℕ) (name : Ppc64Relocation) (a : IsAfter n name) → became.r_type ≡ r_type_of (ppc64_name name)

@@ -80,11 +80,12 @@ module _ (l : Linked) (linked : IsLinked l) (i : ℕ) (below : i < count l) (n :
     (after : Rela) (is_after : relocation_in l.relocations_after i ≡ after)
     (left : UntouchedBytes l i after.offset n) (only : IsRowOf l.context.architecture after.r_type row)
     (symbol : Symbol) (is_symbol : slice_get l.symbols after.symbol ≡ Some symbol) (got : ℕ)
-    (entry_is : operands_by l.context.architecture l.addresses row after symbol
+    (architecture : Architecture) (is_architecture : l.context.architecture ≡ architecture)
+    (entry_is : operands_by architecture l.addresses row after symbol
     (entry_address l.addresses symbol (entry_of row after.addend symbol.is_thread_local))
-    ≡ Ok (operands_with l.context.architecture l.addresses row symbol after got)) where
+    ≡ Ok (operands_with architecture l.addresses row symbol after got)) where
   abbrev operands : Operands
-  operands = operands_with l.context.architecture l.addresses row symbol after got
+  operands = operands_with architecture l.addresses row symbol after got
 
   within : i < length l.relocations_last / 24
   within = last_within l linked i below
@@ -98,15 +99,19 @@ module _ (l : Linked) (linked : IsLinked l) (i : ℕ) (below : i < count l) (n :
       (subst (λ (x : Rela). IsRowOf l.context.architecture x.r_type row) (sym is_last) only)
       (linked.written.can.found i) (linked.written.can.are_found i within)
 
-  -- is applied to the bytes between
-  pub applied_after : IsApplied row operands (take n (drop after.offset l.rewritten)) (take n (drop after.offset l.final))
-  applied_after =
-      subst (λ xs. IsApplied row operands xs (take n (drop after.offset l.final))) (bytes_left l linked i after.offset n left)
+  -- is applied to the bytes between, by operands with the same value
+  pub applied_after : (o : Operands) → value_of row o ≡ value_of row operands → (found : Option RelocationKindInfo) → found ≡ Some row
+      → IsSomeAnd found (λ row. IsApplied row o (take n (drop after.offset l.rewritten)) (take n (drop after.offset l.final)))
+  applied_after o same found is =
+      subst (λ q. IsSomeAnd q (λ row. IsApplied row o (take n (drop after.offset l.rewritten)) (take n (drop after.offset l.final)))) (sym is)
+      (with_operands row operands o _ _ same
+      (subst (λ xs. IsApplied row operands xs (take n (drop after.offset l.final))) (bytes_left l linked i after.offset n left)
       (subst (λ (x : Rela). IsApplied row operands (take n (drop x.offset l.last)) (take n (drop x.offset l.final))) is_last
       (applied l.context.architecture l.addresses l.relocations_last l.symbols l.last l.final linked.written
       i within n some row of there operands
       (subst (λ x. operands_of l.context.architecture l.addresses l.symbols row x ≡ Ok operands) (sym is_last)
-      (ap (operands_in l.context.architecture l.addresses row after) is_symbol ∙ entry_is))))
+      (subst (λ a. operands_of a l.addresses l.symbols row after ≡ Ok operands) (sym is_architecture)
+      (ap (operands_in architecture l.addresses row after) is_symbol ∙ entry_is)))))))
 
 -- ---- entries of the GOT
 
