@@ -124,46 +124,27 @@ module _ (p : Packed) (is : IsPacked p) (run : Run) (of : IsOfRun p run) (i : �
   ascends : rank p.section.deletions alignment.offset ≤ rank p.section.deletions (end_of (Aligned alignment))
   ascends = rank-mono p.section.deletions alignment.offset (end_of (Aligned alignment)) (omega arith)
 
-  next : code_at p alignment ≡ padding_at p alignment + padding_len p alignment
-  next =
-      let low = ascends in
-      let high = rank-le p.section.deletions (end_of (Aligned alignment)) in
-      let small = fits in
-      omega (arith, low, high, small)
-
-  inside : LeadsInto p alignment → code_index p alignment ≤ length p.final
-  inside leads =
-      let s = p.section in
-      let low = rank-mono s.deletions s.base (end_of (Aligned alignment)) leads.lower in
-      let high = rank-mono s.deletions (end_of (Aligned alignment)) (s.base + length s.bytes) leads.upper in
-      let len = is.run.len in
-      let same = is.written.same_length in
-      omega (arith, low, high, len, same)
-
-  there : LeadsInto p alignment
-      → sum_64 p.addresses.section (code_index p alignment) ≡ code_at p alignment
-  there leads =
-      let s = p.section in
-      let lower = leads.lower in
-      let e : s.base + (end_of (Aligned alignment) - s.base) ≡ end_of (Aligned alignment) = omega (arith, lower) in
-      subst (λ q. sum_64 p.addresses.section (packed_offset s q) ≡ address_of s q) e
-      (addresses p is (end_of (Aligned alignment) - s.base))
-
-  next_there : p.section.base ≤ alignment.offset
-      → code_index p alignment ≡ padding_index p alignment + padding_len p alignment
-  next_there lower =
-      let low = ascends in
-      let first = rank-mono p.section.deletions p.section.base alignment.offset lower in
-      omega (arith, low, first)
-
   holds : HoldsIn p alignment
   holds =
+      let s = p.section in
+      let low = ascends in
+      let small = fits in
       record {
         holds = exact_holds alignment (padding_at p alignment) (padding_len p alignment) power_some exact;
-        next = next;
-        inside = inside;
-        there = there;
-        next_there = next_there;
+        next = let high = rank-le s.deletions (end_of (Aligned alignment)) in omega (arith, low, high, small);
+        inside = λ leads.
+            let first = rank-mono s.deletions s.base (end_of (Aligned alignment)) leads.lower in
+            let last = rank-mono s.deletions (end_of (Aligned alignment)) (s.base + length s.bytes) leads.upper in
+            let len = is.run.len in
+            let same = is.written.same_length in
+            omega (arith, first, last, len, same);
+        there = λ leads.
+            let lower = leads.lower in
+            let e : s.base + (end_of (Aligned alignment) - s.base) ≡ end_of (Aligned alignment) = omega (arith, lower) in
+            subst (λ q. sum_64 p.addresses.section (packed_offset s q) ≡ address_of s q) e
+            (addresses p is (end_of (Aligned alignment) - s.base));
+        next_there = λ lower.
+            let first = rank-mono s.deletions s.base alignment.offset lower in omega (arith, low, first);
       }
 
 pub alignments : AlignmentsHold
