@@ -30,7 +30,6 @@ goes machine row bits insn reads unit target size has unlabelled taken valued la
     let applied = places p is i row y
     (record {
       within = of.within;
-      inside = of.inside;
       is_row = of.is_row;
       bits = bits;
       insn = insn;
@@ -41,7 +40,7 @@ goes machine row bits insn reads unit target size has unlabelled taken valued la
           (ap (operands_in (architecture_of machine) p.addresses row r) symbol_is ∙ taken p.addresses symbol r);
       value = value.0;
       value_is = value.1;
-    }) in
+    }) of.inside in
     let placed : sum_64 p.addresses.section r.offset ≡ address_at p o =
     ap (sum_64 p.addresses.section) ((is.moved i of.within).offset of.inside) ∙ addresses p is o in
     subst (λ a. IsAddress (pos a +ℤ (reads (final_number p i row) *ℤ pos unit)) (target y)) placed

@@ -61,8 +61,8 @@ module _ (p : Packed) (is : IsPacked p) (machine : p.machine ≡ LoongArch64) (i
             (ap (operands_in architectures.LoongArch64 p.addresses row r) symbol_is ∙ taken);
         value = value.0;
         value_is = value.1;
-        stays = λ k below. stays.stays k (subst (λ m. k < m) wide below);
-      }))
+      })
+      (λ k below. stays.stays k (subst (λ m. k < m) wide below)))
 
 pub long_calls : relocation_laws.Calls → LongCallsStay
 long_calls law p is machine i stays at symbol symbol_is small x small_x original relocated s t hs ht alike =

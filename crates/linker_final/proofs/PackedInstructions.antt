@@ -4,33 +4,19 @@ use Rattle.linker_final.proofs.PackedBytes.{same_there}
 use Rattle.linker_final.proofs.RelocatedFields.{applied}
 
 pub places : PlacesAreRelocated
-places p is i row operands of =
+places p is i row operands of inside =
     let n = window_len row in
     let has : IsSomeAnd (value_of row operands) (λ _. ⊤) =
     subst (λ v. IsSomeAnd v (λ _. ⊤)) (sym of.value_is) tt in
     let there = applied (architecture_of p.machine) p.addresses p.relocations_after p.symbols p.packed p.final
     is.written i of.within row of.bits of.insn of.size of.has of.unlabelled of.is_row operands of.taken has in
     subst (λ q. IsApplied row operands (take n (drop q p.packed)) (take n (drop q p.final)))
-    ((is.moved i of.within).offset of.inside) there
+    ((is.moved i of.within).offset inside) there
 
 pub instructions : InstructionsAreRelocated
-instructions p is i row operands of =
+instructions p is i row operands of stays =
     let n = window_len row in
     let o = offset_at p.relocations i in
     let some : 0 < n = subst (λ s. 0 < size_len s) (sym of.size) (some_window of.insn) in
-    let placed = places p is i row operands
-    (record {
-      within = of.within;
-      inside = omega (arith, (of.stays 0 some).inside);
-      is_row = of.is_row;
-      bits = of.bits;
-      insn = of.insn;
-      size = of.size;
-      has = of.has;
-      unlabelled = of.unlabelled;
-      taken = of.taken;
-      value = of.value;
-      value_is = of.value_is;
-    }) in
     subst (λ bytes. IsApplied row operands bytes (take n (drop (place_of p o) p.final)))
-    (same_there p is o n some of.stays) placed
+    (same_there p is o n some stays) (places p is i row operands of (omega (arith, (stays 0 some).inside)))

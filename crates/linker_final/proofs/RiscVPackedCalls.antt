@@ -152,8 +152,7 @@ long_calls groups p is riscv i name stays symbol symbol_is small other_name of =
           (ap (values.operands_in RiscV p.addresses call_row r) symbol_is);
       value = value.0;
       value_is = value.1;
-      stays = stays.stays;
-    }) in
+    }) stays.stays in
     let inside = stay_inside p is o 8 (omega arith) stays.stays in
     let fits = places_inside p is o 8 (omega arith) stays.stays in
     let same = is.written.same_length in

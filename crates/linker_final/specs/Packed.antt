@@ -211,11 +211,9 @@ address_at p o = address_of p.section (p.section.base + o)
 
 -- ---- relocated instructions
 
--- The relocation at an index, whose place is in the section, is of an instruction by its row, and
--- has a value by its own symbol.
+-- The relocation at an index is of an instruction by its row, and has a value by its own symbol.
 pub record HasValue (p : Packed) (i : ℕ) (row : RelocationKindInfo) (operands : Operands) : Type 0 where
   pub within : i < count p
-  pub inside : offset_at p.relocations i ≤ length p.section.bytes
   pub is_row : IsRow (architecture_of p.machine) (relocation_in p.relocations_after i).r_type
       (Some row)
   pub bits : BitRange
@@ -229,38 +227,22 @@ pub record HasValue (p : Packed) (i : ℕ) (row : RelocationKindInfo) (operands 
   pub value_is : value_of row operands ≡ Some value
 
 -- Where it goes there is in the final section what the packing left there, with the relocation
--- applied. It may be the one instruction of a site that became shorter.
+-- applied, if its place is in the section. It may be the one instruction of a site that became
+-- shorter.
 abbrev pub PlacesAreRelocated : Type 0
 PlacesAreRelocated =
     (p : Packed) → IsPacked p → (i : ℕ) (row : RelocationKindInfo) (operands : Operands)
-    → HasValue p i row operands
+    → HasValue p i row operands → offset_at p.relocations i ≤ length p.section.bytes
     → let place = place_of p (offset_at p.relocations i) in
     IsApplied row operands (take (window_len row) (drop place p.packed))
     (take (window_len row) (drop place p.final))
 
--- The relocation at an index is of an instruction that stays, by its row, and has a value by its
--- own symbol.
-pub record IsRelocatedInstruction (p : Packed) (i : ℕ) (row : RelocationKindInfo)
-    (operands : Operands) : Type 0 where
-  pub within : i < count p
-  pub is_row : IsRow (architecture_of p.machine) (relocation_in p.relocations_after i).r_type
-      (Some row)
-  pub bits : BitRange
-  pub insn : RelocationInstruction
-  pub size : row.size ≡ BitMasking bits insn
-  pub has : has_value row.kind ≡ true
-  pub unlabelled : names_label row.size row.kind ≡ false
-  pub taken : operands_of (architecture_of p.machine) p.addresses p.symbols row
-      (relocation_in p.relocations_after i) ≡ Ok operands
-  pub value : ℤ
-  pub value_is : value_of row operands ≡ Some value
-  pub stays : StayTogether p (offset_at p.relocations i) (window_len row)
-
--- In the final section it is the instruction of the section before with its relocation applied.
+-- If it stays, it is in the final section the instruction of the section before with its relocation
+-- applied.
 abbrev pub InstructionsAreRelocated : Type 0
 InstructionsAreRelocated =
     (p : Packed) → IsPacked p → (i : ℕ) (row : RelocationKindInfo) (operands : Operands)
-    → IsRelocatedInstruction p i row operands
-    → let o = offset_at p.relocations i in
-    IsApplied row operands (take (window_len row) (drop o p.section.bytes))
+    → HasValue p i row operands → let o = offset_at p.relocations i in
+    StayTogether p o (window_len row)
+    → IsApplied row operands (take (window_len row) (drop o p.section.bytes))
     (take (window_len row) (drop (place_of p o) p.final))
