@@ -51,7 +51,7 @@ module _ (laws : Groups) {l : Linked} {c : Code} (new : IsNew l c) (i : ℕ)
 
   stayed : instruction_at l.rewritten (offset_of l i) ≡ object l i
   stayed =
-      stays l new.linked.made i page_of.chosen page_of.below page_of.decided (ap relaxation_rewrite page_entry.kind_is) alone page_inside
+      stays l new.linked.made i page_of.chosen page_of.below page_of.decided (ap relaxation_rewrite page_entry.kind_is) alone
 
   module _ (k : Kinds) (s : State) (o : Operands) (at : ComesTo l s names.R_AARCH64_ADR_GOT_PAGE i o)
       (defined : at.symbol.is_undefined_weak ≡ false) (holds : load_64 s.memory o.got_entry ≡ symbol_address o)

@@ -375,12 +375,9 @@ module _ (p q : RewritingPhase) (relocations_last last final : List ℕ) (symbol
   object_m i is inside =
       ap (λ bytes. instruction_at bytes (offset_of m i)) are.2.0.same_section
       ∙ (ap (λ (r : Rela). instruction_at l.rewritten r.offset) is
-      ∙ (same_windows (relocation i).offset 4 l.rewritten l.section (omega (arith, inside, long, linked_l.same_length)) (sym linked_l.same_length)
+      ∙ (same_windows (relocation i).offset 4 l.rewritten l.section (sym linked_l.same_length)
       (λ at from less. linked_l.others at (outside_l at (omega (arith, less, inside))))
       ∙ ap (λ bytes. instruction_at bytes (relocation i).offset) are.0.same_section))
-    where
-      long : length l.section ≡ 20
-      long = ap length are.0.same_section
 
   abbrev load_comes : ComesTo m s0 names.R_AARCH64_ADR_GOT_PAGE 0 of_load
   load_comes =

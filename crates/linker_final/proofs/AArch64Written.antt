@@ -98,7 +98,7 @@ module _ {l : Linked} {c : Code} (new : IsNew l c) where
       subst (Stands c.new o)
       (unwritten_without l new.linked i below (offset_of l i) left
       (row_of names.R_AARCH64_NONE tt (bytes_row NoValue 0) refl)
-      (ap (λ (x : Rela). x.r_type) named) inside alone)
+      (ap (λ (x : Rela). x.r_type) named) alone)
       (stands_at (offset_of l i) o place inside)
 
   -- the entry of a formula is there

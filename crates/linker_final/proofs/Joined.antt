@@ -12,7 +12,7 @@ pub unwritten_there : (l : Linked) (p : Packed) → IsRewrittenAndPacked l p →
     → instruction_at p.final (place_of p o) ≡ instruction_at l.rewritten o
 unwritten_there l p joined i o left stay free =
     let is = joined.packed in
-    packed_there p is (place_of p o) 4 (places_inside p is o 4 (omega arith) stay) free
+    packed_there p is (place_of p o) 4 free
     ∙ (same_there p is o 4 (omega arith) stay
     ∙ (ap (λ bytes. instruction_at bytes o) joined.bytes ∙ later_bytes l joined.later i o 4 left))
 

@@ -1,12 +1,12 @@
 -- Instructions of LoongArch that are rewritten each by itself are groups with what new has: those
 -- of initial-exec and of local-exec.
-use Rattle.linker_final.proofs.Imports.{◌≡◌, ℕ, ◌+◌, ◌*◌, ◌-◌, ◌/◌, ◌^◌, ◌<◌, ◌≤◌, List, length, IsTrue, Ok, Some, refl, subst, ⊤, field, IsNamed, IsNameOf, loongarch_name, low_row, TpOff, LoongArch64, Choice, Operands, LoongArch64Relocation, IsRewritten, isnt, decision_at, Rewritten, relocation_in, operands_in, operands_with, Addresses, Symbol, Rela, IsLd, loongarch_rewrite, rd_of, rewrites_word, rj_of, Relaxation, high_row, AreRewritten, Linked, count, instruction_at}
+use Rattle.linker_final.proofs.Imports.{◌≡◌, ℕ, ◌+◌, ◌*◌, ◌-◌, ◌/◌, ◌^◌, ◌<◌, List, IsTrue, Ok, Some, refl, subst, ⊤, field, IsNamed, IsNameOf, loongarch_name, low_row, TpOff, LoongArch64, Choice, Operands, LoongArch64Relocation, IsRewritten, isnt, decision_at, Rewritten, relocation_in, operands_in, operands_with, Addresses, Symbol, Rela, IsLd, loongarch_rewrite, rd_of, rewrites_word, rj_of, Relaxation, high_row, AreRewritten, Linked, count, instruction_at}
 use Rattle.linker_elf.specs.declared.loongarch64.relocations.LoongArch64Relocation.TheVariants as names
 use Rattle.linker_final.proofs.InstructionFields.{of_bits}
 use Rattle.linker_final.proofs.LoongArchChosen.{IsByTable, IsEntry, by_table, entry_by, shown}
 use Rattle.linker_final.proofs.LoongArchWritten.{IsAfter, becomes, named_after}
 use Rattle.linker_final.proofs.Written.{word_same}
-use Rattle.linker_final.specs.LoongArchSection.{HasEntry, IsAlone, IsLeft, IsMade, Law, Left, applied, entry_by as entry_of_name, law_of, named_as, none, without_law}
+use Rattle.linker_final.specs.LoongArchSection.{HasEntry, IsAlone, IsLeft, IsMade, Law, Left, applied, entry_by as entry_of_name, law_of, named_as}
 use Rattle.linker_final.specs.SectionRuns.{offset_of}
 use Rattle.linker_laws.specs.LoongArchGroups.{Groups}
 use Rattle.linker_utils.specs.LoongArchRewrites.{IsAddTp, IsLu12i, IsPcalau12i, adds_low12, tp}
@@ -46,9 +46,8 @@ part_offset =
 -- ---- a rewrite
 
 abbrev pub IsWritable : Left → Linked → ℕ → Type 0
-IsWritable none l i = offset_of l i + 4 ≤ length l.section
 IsWritable (applied name) l i = Takes name
-IsWritable without_law l i = ⊤
+IsWritable left l i = ⊤
 
 pub record IsLawful (l : Linked) (i : ℕ) (kind : Relaxation) (law : Law) : Type 0 where
   pub writable : IsWritable law.left l i
@@ -135,7 +134,7 @@ module _ (groups : Groups) (l : Linked) (made : AreRewritten l) (loongarch : l.c
       let by : IsEntry kinds.Delete names.R_LARCH_NONE name l.section (offset_of l i) chosen =
       shown t (λ this. entry_by name l.section (offset_of l i) chosen t.facts _ this, tt) in
       record {
-        writable = by.pattern.0;
+        writable = tt;
         left = left_by l made i chosen below decided kinds.Delete names.R_LARCH_NONE name by;
         group = λ alone u y after made_so c x k s gone small at low has.
             groups.high_offsets c x k s section_word gone small at
@@ -149,7 +148,7 @@ module _ (groups : Groups) (l : Linked) (made : AreRewritten l) (loongarch : l.c
       let by : IsEntry kinds.Delete names.R_LARCH_NONE name l.section (offset_of l i) chosen =
       shown t (λ this. entry_by name l.section (offset_of l i) chosen t.facts _ this, tt) in
       record {
-        writable = by.pattern.0;
+        writable = tt;
         left = left_by l made i chosen below decided kinds.Delete names.R_LARCH_NONE name by;
         group = λ alone u y after made_so c k s gone zero wide stands.
             groups.sums c k s section_word gone

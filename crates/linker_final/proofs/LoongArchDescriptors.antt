@@ -83,7 +83,7 @@ module _ (groups : Groups) (l : Linked) (made : AreRewritten l) (loongarch : l.c
               left = left_by l made i chosen below decided kinds.NoOp names.R_LARCH_TLS_IE_PC_HI20 name is;
               group = λ alone u y after made_so.
                   let stayed : new ≡ old =
-                  stays l made i chosen below decided (ap relaxation_rewrite is.kind_is) alone (is.pattern.0) in
+                  stays l made i chosen below decided (ap relaxation_rewrite is.kind_is) alone in
                   groups.descriptor_entries u y old after (page_is.0)
                   (subst (λ bytes. IsRelocated names.R_LARCH_TLS_IE_PC_HI20 y bytes after) stayed made_so);
             } in
@@ -132,7 +132,7 @@ module _ (groups : Groups) (l : Linked) (made : AreRewritten l) (loongarch : l.c
       let is : IsEntry kinds.ReplaceWithNop names.R_LARCH_NONE name l.section (offset_of l i) chosen =
       shown by (λ gone. isnt by.facts.is_relaxable (by.early refl).unmarked (gone.meant.1.1.0), (λ this. entry_by name l.section (offset_of l i) chosen by.facts _ this, tt)) in
       record {
-        writable = is.pattern.0;
+        writable = tt;
         left = left_by l made i chosen below decided kinds.ReplaceWithNop names.R_LARCH_NONE name is;
         group = λ alone u y after made_so.
             subst (LoadOfDescriptor old) (sym made_so)
@@ -147,7 +147,7 @@ module _ (groups : Groups) (l : Linked) (made : AreRewritten l) (loongarch : l.c
       let is : IsEntry kinds.ReplaceWithNop names.R_LARCH_NONE name l.section (offset_of l i) chosen =
       shown by (λ gone. isnt by.facts.is_relaxable (by.early refl).unmarked (gone.meant.1.1.0), (λ this. entry_by name l.section (offset_of l i) chosen by.facts _ this, tt)) in
       record {
-        writable = is.pattern.0;
+        writable = tt;
         left = left_by l made i chosen below decided kinds.ReplaceWithNop names.R_LARCH_NONE name is;
         group = λ alone u y after made_so.
             subst (CallOfDescriptor old) (sym made_so)

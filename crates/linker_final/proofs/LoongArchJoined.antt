@@ -63,8 +63,8 @@ module _ (l : Linked) (loongarch : l.context.architecture ≡ LoongArch64) (i : 
 
   in_final : (left : Left) → IsWritable left l i → IsLeft left l i → IsLinked l → UntouchedInstruction l i
       → (y : Operands) → IsFinal left l i y → IsMade left y rewritten (instruction_at l.final (offset_of l i))
-  in_final none inside after_is linked left y alone =
-      unwritten_nop l linked loongarch i below after_is left inside alone
+  in_final none writable after_is linked left y alone =
+      unwritten_nop l linked loongarch i below after_is left alone
   in_final (applied name) takes after_is linked left y of =
       let after = named_as name (relocation_in l.relocations i) in
       let here : AreOf name l.addresses l.symbols after y = subst (λ q. AreOf name l.addresses l.symbols q y) after_is of in
@@ -77,7 +77,7 @@ module _ (l : Linked) (loongarch : l.context.architecture ≡ LoongArch64) (i : 
   in_packed : (left : Left) → IsWritable left l i → IsLeft left l i → (p : Packed) → IsRewrittenAndPacked l p
       → p.machine ≡ loongarch64 → UntouchedInstruction l i → (y : Operands) → IsKept left l p i y
       → IsMade left y rewritten (final_instruction p (offset_of l i))
-  in_packed none inside after_is p joined machine left y stays =
+  in_packed none writable after_is p joined machine left y stays =
       unwritten_there l p joined i (offset_of l i) left (stays.0) (stays.1)
   in_packed (applied name) takes after_is p joined machine left y stays =
       let after = relocation_in p.relocations_after i in

@@ -1,5 +1,5 @@
 -- Rewritten loads from the GOT of LoongArch are groups in the final bytes.
-use Rattle.linker_final.proofs.Imports.{◌≡◌, ℕ, ℤ, ◌+◌, ◌<◌, drop, refl, sym, ap, subst, ◌∙◌, arith, IsSomeAnd, slice_get, field, IsApplied, IsNameOf, r_type_of, loongarch_name, loongarch_row, low_row, rounded_row, paged_row, place_pages, entry_pages, value_of, Relative, AbsoluteLowPart, GotRelative, RelocationKindInfo, Choice, LoongArch64Relocation, isnt, IsRewritten, IsLd, decision_at, RelaxContext, Rewritten, relocation_in, operands_with, Addresses, Symbol, Rela, relaxation_rewrite, Relaxation, LoongArch64, UntouchedInstructions, Linked, IsLinked, IsRewrittenByNoOther, count, instruction_at, IsLoad, LoadsTheSame}
+use Rattle.linker_final.proofs.Imports.{◌≡◌, ℕ, ℤ, ◌+◌, ◌<◌, drop, refl, sym, ap, subst, ◌∙◌, IsSomeAnd, slice_get, field, IsApplied, IsNameOf, r_type_of, loongarch_name, loongarch_row, low_row, rounded_row, paged_row, place_pages, entry_pages, value_of, Relative, AbsoluteLowPart, GotRelative, RelocationKindInfo, Choice, LoongArch64Relocation, isnt, IsRewritten, IsLd, decision_at, RelaxContext, Rewritten, relocation_in, operands_with, Addresses, Symbol, Rela, relaxation_rewrite, Relaxation, LoongArch64, UntouchedInstructions, Linked, IsLinked, IsRewrittenByNoOther, count, instruction_at, IsLoad, LoadsTheSame}
 use Rattle.linker_elf.specs.declared.loongarch64.relocations.LoongArch64Relocation.TheVariants as names
 use Rattle.linker_final.proofs.InstructionFields.{of_bits}
 use Rattle.linker_final.proofs.LoongArchChosen.{IsEntry, by_table, entry_by, shown}
@@ -83,9 +83,8 @@ module _ (groups : Groups) (l : Linked) (linked : IsLinked l) (loongarch : l.con
             (subst (λ x. AreOfOneRegister (word_of (drop o l.section)) x) (word_same l.section (o + 4)) there.one_register);
         second_is = subst IsLd (word_same l.section (o + 4)) there.second;
       } in
-      let within = there.within in
       let stayed : instruction_at l.rewritten o ≡ instruction_at l.section o =
-      stays l linked.made i of.page_chosen of.page_below of.page_decided (ap relaxation_rewrite page.kind_is) alone (omega (arith, within)) in
+      stays l linked.made i of.page_chosen of.page_below of.page_decided (ap relaxation_rewrite page.kind_is) alone in
       let low_r_type = r_type_of (loongarch_name names.R_LARCH_PCALA_LO12) in
       let page_written : IsApplied page_after.row w (instruction_at l.section o) (instruction_at l.final o) =
       subst (λ xs. IsApplied page_after.row w xs (instruction_at l.final o)) stayed

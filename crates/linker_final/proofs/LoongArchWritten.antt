@@ -1,5 +1,5 @@
 -- Instructions of LoongArch and their relocations in the final bytes of a section.
-use Rattle.linker_final.proofs.Imports.{◌≡◌, ℕ, ℤ, ◌+◌, ◌<◌, ◌≤◌, List, length, sym, ap, subst, ◌∙◌, arith, Some, Ok, refl, IsSomeAnd, slice_get, offset_after, addend_after, IsApplied, IsNamed, r_type_of, loongarch_name, loongarch_row, bytes_row, value_of, RelocationKindInfo, Choice, Operands, LoongArch64Relocation, IsRelocated, IsRewritten, loongarch_rewrite, rewrites_word, decision_at, Rewritten, relocation_in, operands_with, operands_in, Symbol, Rela, IsRow, relaxation_rewrite, Relaxation, Architecture, LoongArch64, AreRewritten, UntouchedInstruction, Linked, IsLinked, IsWrittenByNoOther, count, instruction_at, named_as, BeginsRewritten}
+use Rattle.linker_final.proofs.Imports.{◌≡◌, ℕ, ℤ, ◌<◌, List, sym, ap, subst, ◌∙◌, arith, Some, Ok, refl, IsSomeAnd, slice_get, offset_after, addend_after, IsApplied, IsNamed, r_type_of, loongarch_name, loongarch_row, bytes_row, value_of, RelocationKindInfo, Choice, Operands, LoongArch64Relocation, IsRelocated, IsRewritten, loongarch_rewrite, rewrites_word, decision_at, Rewritten, relocation_in, operands_with, operands_in, Symbol, Rela, IsRow, relaxation_rewrite, Relaxation, Architecture, LoongArch64, AreRewritten, UntouchedInstruction, Linked, IsLinked, IsWrittenByNoOther, count, instruction_at, named_as, BeginsRewritten}
 use Rattle.linker_elf.specs.declared.elf.RelocationKind.TheVariants.{None as NoValue}
 use Rattle.linker_elf.specs.declared.loongarch64.relocations.LoongArch64Relocation.TheVariants as names
 use Rattle.linker_final.proofs.InstructionFields.{IsOfInstruction}
@@ -83,11 +83,10 @@ becomes l made i chosen below decided kind kind_is new is =
 -- one whose relocation has no type then
 pub unwritten_nop : (l : Linked) → IsLinked l → l.context.architecture ≡ LoongArch64 → (i : ℕ) → i < count l
     → relocation_in l.relocations_after i ≡ named_as names.R_LARCH_NONE (relocation_in l.relocations i)
-    → UntouchedInstruction l i → (relocation_in l.relocations i).offset + 4 ≤ length l.section
-    → IsWrittenByNoOther l i (relocation_in l.relocations i).offset
+    → UntouchedInstruction l i → IsWrittenByNoOther l i (relocation_in l.relocations i).offset
     → instruction_at l.final (relocation_in l.relocations i).offset
     ≡ instruction_at l.rewritten (relocation_in l.relocations i).offset
-unwritten_nop l linked loongarch i below after_is left inside alone =
+unwritten_nop l linked loongarch i below after_is left alone =
     unwritten_without l linked i below (relocation_in l.relocations i).offset left
     (row_of l.context.architecture loongarch names.R_LARCH_NONE tt (bytes_row NoValue 0) refl)
-    (ap (λ (x : Rela). x.r_type) after_is) inside alone
+    (ap (λ (x : Rela). x.r_type) after_is) alone

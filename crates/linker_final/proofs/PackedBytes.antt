@@ -27,11 +27,10 @@ kept_bytes p is o stays free =
 -- ---- parts of the section
 
 -- what no field has stays as it is packed
-pub packed_there : (p : Packed) → IsPacked p → (start len : ℕ) → start + len ≤ length p.packed
+pub packed_there : (p : Packed) → IsPacked p → (start len : ℕ)
     → IsUnwritten p start len → take len (drop start p.final) ≡ take len (drop start p.packed)
-packed_there p is start len inside free =
-    let same = is.written.same_length in
-    same_windows start len p.final p.packed (omega (arith, inside, same)) (sym same)
+packed_there p is start len free =
+    same_windows start len p.final p.packed (sym is.written.same_length)
     (λ at from less. is.written.others at (free at from less))
 
 -- an item's bytes that stay lie in the packed section
@@ -119,7 +118,7 @@ padding p is i alignment below here inside free =
     let written = subst (λ x. is_fixed x ≡ false
     → ItemBecomes p.machine p.section x (take (kept_len d x) (drop (packed_offset p.section (offset_of x)) p.packed)))
     here (is.run.written i below) refl in
-    packed_there p is place kept fits free
+    packed_there p is place kept free
     ∙ (written ∙ ap (nops p.machine) (window_length place kept p.packed fits))
 
 -- ---- places

@@ -42,4 +42,4 @@ module _ (p : Packed) (is : IsPacked p) where
         let made = subst (λ y. is_fixed y ≡ false
         → ItemBecomes p.machine s y (take (kept_len d y) (drop (packed_offset s (offset_of y)) p.packed)))
         of.item (is.run.written i of.below) of.short in
-        subst (SiteBecomes p.machine s here) (sym (packed_there p is place kept fits of.unwritten)) made
+        subst (SiteBecomes p.machine s here) (sym (packed_there p is place kept of.unwritten)) made

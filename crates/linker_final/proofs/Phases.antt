@@ -1,5 +1,6 @@
 -- What phases leave alone is the same after them.
-use Rattle.linker_final.proofs.Imports.{◌≡◌, ℕ, ◌+◌, ◌-◌, ◌/◌, ◌<◌, ◌≤◌, List, [], ◌∷◌, length, take, drop, get_or, sym, ap, subst, ◌∙◌, arith, length-drop, get_or-take, get_or-drop, ext_get_or, relocation_after, relocation_in, length-take, All-head, All-tail, All-weaker, All, min, ArePhases, UntouchedBytes, IsLinked, Keeps, UntouchedInPhase, UntouchedBytesAreTheSame, Linked, RewritesNone, RewritingPhase, count, count_of}
+use Rattle.linker_final.proofs.Imports.{◌≡◌, ℕ, ◌+◌, ◌-◌, ◌/◌, ◌<◌, ◌≤◌, List, [], ◌∷◌, length, take, drop, get_or, sym, ap, subst, ◌∙◌, arith, relocation_after, relocation_in, All-head, All-tail, All-weaker, All, ArePhases, UntouchedBytes, IsLinked, Keeps, UntouchedInPhase, UntouchedBytesAreTheSame, Linked, RewritesNone, RewritingPhase, count, count_of}
+use Rattle.linker_final.proofs.PutBack.{same_windows}
 
 -- ---- phases
 
@@ -46,23 +47,6 @@ phases_spare (p ∷ phases) relocations section relocations_last last is at none
     ∙ ((is.1).others at (All-head (RewritesNone at) p phases none)
     ∙ ap (λ bytes. get_or bytes at 0) (is.0).same_section)
 
--- n bytes
-same_window : (start len : ℕ) (xs ys : List ℕ) → length xs ≡ length ys
-    → ((at : ℕ) → start ≤ at → at < start + len → get_or xs at 0 ≡ get_or ys at 0)
-    → take len (drop start xs) ≡ take len (drop start ys)
-same_window start len xs ys same each =
-    ext_get_or 0 (take len (drop start xs)) (take len (drop start ys))
-    (length-take len (drop start xs)
-    ∙ (ap (min len) (length-drop start xs ∙ (ap (λ n. n - start) same ∙ sym (length-drop start ys)))
-    ∙ sym (length-take len (drop start ys))))
-    (λ i below.
-    let lt = length-take len (drop start xs) in
-    let within : i < len = omega (arith, below, lt) in
-    get_or-take len (drop start xs) i 0 within
-    ∙ (get_or-drop start xs i 0
-    ∙ (each (start + i) (omega arith) (omega (arith, within))
-    ∙ (sym (get_or-drop start ys i 0) ∙ sym (get_or-take len (drop start ys) i 0 within)))))
-
 -- what all leave alone
 module _ (phases : List RewritingPhase) (i start len : ℕ) (alone : All (UntouchedInPhase i start len) phases) where
   pub all_keep : All (Keeps i) phases
@@ -75,7 +59,7 @@ module _ (phases : List RewritingPhase) (i start len : ℕ) (alone : All (Untouc
 pub left_alone_is_the_same : UntouchedBytesAreTheSame
 left_alone_is_the_same phases relocations section relocations_last last are i start len below alone = (
   phases_keep phases relocations section relocations_last last are i below (all_keep phases i start len alone),
-  same_window start len last section (phases_same_length phases relocations section relocations_last last are)
+  same_windows start len last section (sym (phases_same_length phases relocations section relocations_last last are))
       (λ at from less.
       phases_spare phases relocations section relocations_last last are at (none_rewrites phases i start len alone at from less)),
 )
@@ -102,7 +86,7 @@ module _ (l : Linked) (later : ArePhases l.later l.relocations_after l.rewritten
         (none_rewrites l.later i start len left at from less)
 
     pub later_bytes : take len (drop start l.last) ≡ take len (drop start l.rewritten)
-    later_bytes = same_window start len l.last l.rewritten later_length later_byte
+    later_bytes = same_windows start len l.last l.rewritten (sym later_length) later_byte
 
 -- and after them values are written
 module _ (l : Linked) (linked : IsLinked l) where

@@ -105,7 +105,7 @@ module _ (l : Linked) (linked : IsLinked l) (ppc64 : l.context.architecture ≡ 
   -- n words at an offset, from what is known of the relocation that is left
   record After (n : ℕ) : Type 0 where
     pub left : Left
-    pub final : (at : ℕ) → at + 4 * n ≤ length l.section → after.offset ≡ at
+    pub final : (at : ℕ) → after.offset ≡ at
         → after.r_type ≡ r_type_of (ppc64_name (name_of left)) → Final l i at n left
 
   unwritten : (start len p : ℕ) → start ≤ p → p + 4 ≤ start + len → UntouchedByOthers l i start len
@@ -114,25 +114,25 @@ module _ (l : Linked) (linked : IsLinked l) (ppc64 : l.context.architecture ≡ 
       (alone.others j at lj isnt (omega (arith, low, from)) (omega (arith, high, less))).1 row field
 
   -- without a relocation
-  left_word : (start len p : ℕ) → start ≤ p → p + 4 ≤ start + len → p + 4 ≤ length l.section → after.r_type ≡ 0
+  left_word : (start len p : ℕ) → start ≤ p → p + 4 ≤ start + len → after.r_type ≡ 0
       → UntouchedByOthers l i start len → instruction_at l.final p ≡ instruction_at l.rewritten p
-  left_word start len p low high inside gone alone =
-      left_alone l linked ppc64 i below gone p (left_within l i start len p 4 low high alone.left) inside
+  left_word start len p low high gone alone =
+      left_alone l linked ppc64 i below gone p (left_within l i start len p 4 low high alone.left)
       (unwritten start len p low high alone)
 
-  one_left : (at : ℕ) → at + 4 ≤ length l.section → after.r_type ≡ 0 → Final l i at 1 none
-  one_left at inside gone alone c pc stands symbol any is_symbol =
+  one_left : (at : ℕ) → after.r_type ≡ 0 → Final l i at 1 none
+  one_left at gone alone c pc stands symbol any is_symbol =
       one_stands c.new pc (drop at l.final) (instruction_at l.rewritten at)
-      (left_word at 4 at (omega arith) (omega arith) inside gone alone
+      (left_word at 4 at (omega arith) (omega arith) gone alone
       ∙ sym (take-take 4 4 (drop at l.rewritten) (omega arith))) stands
 
-  two_left : (at : ℕ) → at + 8 ≤ length l.section → after.r_type ≡ 0 → Final l i at 2 none
-  two_left at inside gone alone c pc stands symbol any is_symbol =
+  two_left : (at : ℕ) → after.r_type ≡ 0 → Final l i at 2 none
+  two_left at gone alone c pc stands symbol any is_symbol =
       two_stand c.new pc (drop at l.final) (two_at l.rewritten at)
-      (left_word at 8 at (omega arith) (omega arith) (omega (arith, inside)) gone alone
+      (left_word at 8 at (omega arith) (omega arith) gone alone
       ∙ sym (take-take 4 8 (drop at l.rewritten) (omega arith)))
       (ap (take 4) (drop-drop 4 at l.final)
-      ∙ (left_word at 8 (at + 4) (omega arith) (omega arith) (omega (arith, inside)) gone alone
+      ∙ (left_word at 8 (at + 4) (omega arith) (omega arith) gone alone
       ∙ sym (second_in l.rewritten at))) stands
 
   -- with one of a name, to m bytes
@@ -152,17 +152,17 @@ module _ (l : Linked) (linked : IsLinked l) (ppc64 : l.context.architecture ≡ 
       (ppc64_row name) (writes l linked ppc64 i below code (subst (λ p. UntouchedBytes l i p m) (sym offset) left))
 
   abbrev gone : After 1
-  gone = record { left = none; final = λ at inside offset code. one_left at inside code }
+  gone = record { left = none; final = λ at offset code. one_left at code }
 
   abbrev both_gone : After 2
   both_gone =
-      record { left = none; final = λ at inside offset code. two_left at inside code }
+      record { left = none; final = λ at offset code. two_left at code }
 
   abbrev named : (name : Ppc64Relocation) → Writes 4 (entry_by name) name → After 1
   named name writes =
       record {
         left = applied name;
-        final = λ at inside offset code alone c pc stands.
+        final = λ at offset code alone c pc stands.
             applied_left 1 4 name writes at offset code alone c pc
             (one_stands c.new pc (drop at l.final) (instruction_at l.final at) (sym (take-take 4 4 (drop at l.final) (omega arith))) stands);
       }
@@ -171,7 +171,7 @@ module _ (l : Linked) (linked : IsLinked l) (ppc64 : l.context.architecture ≡ 
   both_named name writes =
       record {
         left = applied name;
-        final = λ at inside offset code alone c pc stands.
+        final = λ at offset code alone c pc stands.
             applied_left 2 8 name writes at offset code alone c pc
             (two_stand c.new pc (drop at l.final) (two_at l.final at) (sym (take-take 4 8 (drop at l.final) (omega arith)))
             (ap (take 4) (drop-drop 4 at l.final) ∙ sym (second_in l.final at)) stands);
@@ -208,7 +208,7 @@ module _ (l : Linked) (linked : IsLinked l) (ppc64 : l.context.architecture ≡ 
         group = λ alone.
             so (instruction_at l.section o) (instruction_at l.rewritten o) (there.1)
             (becomes l rewriting i chosen below decided kind by.kind_is (rewrites_word new) is refl);
-        final = a.final o (there.0) (ap (λ (r : Rela). r.offset) left) (ap (λ (r : Rela). r.r_type) left);
+        final = a.final o (ap (λ (r : Rela). r.offset) left) (ap (λ (r : Rela). r.r_type) left);
         others = λ b apart. inl (others_at kind by.kind_is (rewrites_word new) is refl b apart);
       }
 
@@ -240,9 +240,9 @@ module _ (l : Linked) (linked : IsLinked l) (ppc64 : l.context.architecture ≡ 
         kind_is = by.kind_is;
         r_type_is = by.r_type_is;
         group = λ alone.
-            subst (AreSo before) (sym (stays l rewriting i chosen below decided none_is alone (by.meant.0)))
+            subst (AreSo before) (sym (stays l rewriting i chosen below decided none_is alone))
             (so before (test_at l o is_addis_of_toc by.meant) refl);
-        final = a.final o (by.meant.0) (ap (λ (r : Rela). r.offset) left) (ap (λ (r : Rela). r.r_type) left);
+        final = a.final o (ap (λ (r : Rela). r.offset) left) (ap (λ (r : Rela). r.r_type) left);
         others = λ b apart. inl (spared l i (Rewritten chosen) decided (ap window_of_rewrite none_is) b);
       }
 
@@ -276,7 +276,6 @@ module _ (l : Linked) (linked : IsLinked l) (ppc64 : l.context.architecture ≡ 
       → IsOfEntry (entry kind (name_of a.left) conditions) l.section o chosen → IsLawful l i chosen kind o 2 (law a.left AreSo)
   of_two kind a conditions test AreSo so bytes is meant by =
       let there = meant by.meant in
-      let following = there.1.0 in
       let left = made_after l rewriting i chosen below decided kind by.kind_is (name_of a.left) by.r_type_is (replaces 0 8 bytes) is in
       record {
         kind_is = by.kind_is;
@@ -284,18 +283,16 @@ module _ (l : Linked) (linked : IsLinked l) (ppc64 : l.context.architecture ≡ 
         group = λ alone.
             so (two_at l.section o) (two_at l.rewritten o) (both test there)
             (becomes l rewriting i chosen below decided kind by.kind_is (replaces 0 8 bytes) is refl);
-        final = a.final o (omega (arith, following)) (ap (λ (r : Rela). r.offset) left) (ap (λ (r : Rela). r.r_type) left);
+        final = a.final o (ap (λ (r : Rela). r.offset) left) (ap (λ (r : Rela). r.r_type) left);
         others = λ b apart. inl (others_at kind by.kind_is (replaces 0 8 bytes) is refl b apart);
       }
 
   -- of a call and what follows it
   call : (kind : RewriteKind) (left : Left) (conditions : Conditions) (AreSo : AreGroup)
       → Rewrites groups.is_any kind AreSo → (new : ℕ) → ppc64_rewrite kind ≡ Some (rewrites_call new)
-      → (o + 8 ≤ length l.section → after.offset ≡ o + 4 → after.r_type ≡ r_type_of (ppc64_name (name_of left)) → Final l i o 2 left)
-      → (ppc64_matches kind l.section o → HasTwo is_call l.section o)
+      → (after.offset ≡ o + 4 → after.r_type ≡ r_type_of (ppc64_name (name_of left)) → Final l i o 2 left)
       → IsOfEntry (entry kind (name_of left) conditions) l.section o chosen → IsLawful l i chosen kind o 2 (law left AreSo)
-  call kind left conditions AreSo so new is final meant by =
-      let following = (meant by.meant).1.0 in
+  call kind left conditions AreSo so new is final by =
       let made = made_after l rewriting i chosen below decided kind by.kind_is (name_of left) by.r_type_is (rewrites_call new) is in
       record {
         kind_is = by.kind_is;
@@ -303,17 +300,17 @@ module _ (l : Linked) (linked : IsLinked l) (ppc64 : l.context.architecture ≡ 
         group = λ alone.
             so (two_at l.section o) (two_at l.rewritten o) refl
             (becomes l rewriting i chosen below decided kind by.kind_is (rewrites_call new) is refl);
-        final = final (omega (arith, following)) (ap (λ (r : Rela). r.offset) made) (ap (λ (r : Rela). r.r_type) made);
+        final = final (ap (λ (r : Rela). r.offset) made) (ap (λ (r : Rela). r.r_type) made);
         others = λ b apart. inl (others_at kind by.kind_is (rewrites_call new) is refl b apart);
       }
 
   -- the low half in its second word
-  low_half : o + 8 ≤ length l.section → after.offset ≡ o + 4 → after.r_type ≡ r_type_of (ppc64_name names.R_PPC64_TPREL16_LO)
+  low_half : after.offset ≡ o + 4 → after.r_type ≡ r_type_of (ppc64_name names.R_PPC64_TPREL16_LO)
       → Final l i o 2 (to_second names.R_PPC64_TPREL16_LO)
-  low_half inside offset code alone c pc stands symbol any is_symbol = (
+  low_half offset code alone c pc stands symbol any is_symbol = (
     one_stands c.new pc (drop o l.final) (two_at l.rewritten o)
         (left_beside l linked ppc64 i below names.R_PPC64_TPREL16_LO thread_low_after code o
-        (left_within l i o 8 o 4 (omega arith) (omega arith) alone.left) (omega (arith, inside)) (inl (omega (arith, offset)))
+        (left_within l i o 8 o 4 (omega arith) (omega arith) alone.left) (inl (omega (arith, offset)))
         (unwritten o 8 o (omega arith) (omega arith) alone)
         ∙ sym (take-take 4 8 (drop o l.rewritten) (omega arith))) (stands.0, tt),
     subst (λ words. HasApplied names.R_PPC64_TPREL16_LO l i symbol any c 1 (sum_64 pc 4) words) (sym (second_same l.rewritten o))
@@ -339,7 +336,7 @@ module _ (l : Linked) (linked : IsLinked l) (ppc64 : l.context.architecture ≡ 
         group = λ alone.
             so (instruction_at l.section (marked_offset l i)) (instruction_at l.rewritten (marked_offset l i))
             (test_at l (marked_offset l i) test there) (becomes_marked l rewriting i chosen below decided kind by.kind_is new is);
-        final = one_left (o - 1) (there.0) (ap (λ (r : Rela). r.r_type) left);
+        final = one_left (o - 1) (ap (λ (r : Rela). r.r_type) left);
         others = λ b apart. inl (outside_of l i chosen (Some (rewrites_marked new)) decided (ap relaxation_rewrite by.kind_is ∙ is) b apart);
       }
 
@@ -348,7 +345,6 @@ module _ (l : Linked) (linked : IsLinked l) (ppc64 : l.context.architecture ≡ 
       → IsOfEntry (entry kinds.NopToRestoreToc names.R_PPC64_REL24 (changed_toc ∷ [])) l.section o chosen
       → IsLawful l i chosen kinds.NopToRestoreToc (o + 4) 1 (law of_call Restores)
   restores so by =
-      let following = by.meant.1.0 in
       let left = made_after l rewriting i chosen below decided kinds.NopToRestoreToc by.kind_is names.R_PPC64_REL24 by.r_type_is (replaces 0 8 restores_toc) refl in
       let offset = ap (λ (r : Rela). r.offset) left in
       let made = becomes l rewriting i chosen below decided kinds.NopToRestoreToc by.kind_is (replaces 0 8 restores_toc) refl refl in
@@ -363,7 +359,7 @@ module _ (l : Linked) (linked : IsLinked l) (ppc64 : l.context.architecture ≡ 
         final = λ alone c pc stands symbol any is_symbol.
             one_stands c.new pc (drop (o + 4) l.final) (instruction_at l.rewritten (o + 4))
             (left_beside l linked ppc64 i below names.R_PPC64_REL24 call_after (ap (λ (r : Rela). r.r_type) left) (o + 4)
-            alone.left (omega (arith, following)) (inr (omega (arith, offset)))
+            alone.left (inr (omega (arith, offset)))
             (unwritten (o + 4) 4 (o + 4) (omega arith) (omega arith) alone)
             ∙ sym (take-take 4 4 (drop (o + 4) l.rewritten) (omega arith))) stands;
         others = λ b outside. elim outside [
@@ -442,9 +438,9 @@ module _ (l : Linked) (linked : IsLinked l) (ppc64 : l.context.architecture ≡ 
   by_name laws names.R_PPC64_TLSGD is_name (inr (inl by)) =
       (tt, (kinds.BranchToAdd, word kinds.BranchToAdd gone called_to_initial_exec groups.is_any (CallTo 1 sum_64) (laws.calls.3) (λ _. 0x7c636a14) refl (λ m. (m.0, refl)) by))
   by_name laws names.R_PPC64_TLSGD is_name (inr (inr (inl by))) =
-      (tt, (kinds.CallToAddi, call kinds.CallToAddi (to_second names.R_PPC64_TPREL16_LO) to_local_exec groups.CallToLowHalf laws.call_low_halves 0x38630000 refl low_half (λ m. m) by))
+      (tt, (kinds.CallToAddi, call kinds.CallToAddi (to_second names.R_PPC64_TPREL16_LO) to_local_exec groups.CallToLowHalf laws.call_low_halves 0x38630000 refl low_half by))
   by_name laws names.R_PPC64_TLSGD is_name (inr (inr (inr rest))) =
-      (tt, (kinds.CallToAdd, call kinds.CallToAdd none to_initial_exec (CallTo 2 sum_64) (laws.calls.0) 0x7c636a14 refl (λ inside offset. two_left o inside) (λ m. m) (only rest)))
+      (tt, (kinds.CallToAdd, call kinds.CallToAdd none to_initial_exec (CallTo 2 sum_64) (laws.calls.0) 0x7c636a14 refl (λ offset. two_left o) (only rest)))
   by_name laws names.R_PPC64_GOT_TLSLD16_HA is_name of =
       (tt, (kinds.AddisToNop, of_sort kinds.AddisToNop gone to_module (is_addis_over 2) groups.ModuleHigh (laws.high_halves.4) (λ _. nop) refl (λ m. m) (only of)))
   by_name laws names.R_PPC64_GOT_TLSLD16_LO is_name of =
@@ -456,7 +452,7 @@ module _ (l : Linked) (linked : IsLinked l) (ppc64 : l.context.architecture ≡ 
   by_name laws names.R_PPC64_TLSLD is_name (inl by) =
       (tt, (kinds.BranchToNop, word kinds.BranchToNop gone called_to_module groups.is_any (CallTo 1 groups.keep_number) (laws.calls.2) (λ _. nop) refl (λ m. (m.0, refl)) by))
   by_name laws names.R_PPC64_TLSLD is_name (inr rest) =
-      (tt, (kinds.CallToAddi4096, call kinds.CallToAddi4096 none to_module (CallTo 2 groups.add_block) (laws.calls.1) 0x38631000 refl (λ inside offset. two_left o inside) (λ m. m) (only rest)))
+      (tt, (kinds.CallToAddi4096, call kinds.CallToAddi4096 none to_module (CallTo 2 groups.add_block) (laws.calls.1) 0x38631000 refl (λ offset. two_left o) (only rest)))
   by_name laws names.R_PPC64_REL16_HA is_name of = absurd (unlisted names.R_PPC64_REL16_HA is_name (of_none names.R_PPC64_REL16_HA tt refl refl refl))
   by_name laws names.R_PPC64_REL16_LO is_name of = absurd (unlisted names.R_PPC64_REL16_LO is_name (of_none names.R_PPC64_REL16_LO tt refl refl refl))
   by_name laws name is_name of = absurd of

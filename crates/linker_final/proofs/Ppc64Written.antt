@@ -1,5 +1,5 @@
 -- Instructions of PowerPC64 and their relocations in the final bytes of a section.
-use Rattle.linker_final.proofs.Imports.{true, ◌≡◌, ◌⊎◌, ℕ, ◌+◌, ◌-◌, ◌<◌, ◌≤◌, length, take, drop, sym, ap, subst, ◌∙◌, refl, arith, Some, None, Ok, IsSomeAnd, cond, take-take, IsTrue, slice_get, Rewrite, addend_after, offset_after, IsNamed, r_type_of, ppc64_name, ppc64_row, bytes_row, signed_row, value_of, GotTpOff, Relative, TpOff, RelocationKindInfo, Choice, Operands, Ppc64Relocation, HasTest, ppc64_rewrite, rewrites_marked, decision_at, IsDone, IsMade, Rewritten, entry_of, relocation_in, entry_address, is_there, operands_by, operands_with, Symbol, Entry, ThreadOffset, Rela, IsRow, relaxation_rewrite, Relaxation, Ppc64, UntouchedBytes, AreRewritten, Linked, IsLinked, IsWrittenByNoOther, count, instruction_at}
+use Rattle.linker_final.proofs.Imports.{true, ◌≡◌, ◌⊎◌, ℕ, ◌+◌, ◌-◌, ◌<◌, ◌≤◌, take, drop, sym, ap, subst, ◌∙◌, refl, arith, Some, None, Ok, IsSomeAnd, cond, take-take, IsTrue, slice_get, Rewrite, addend_after, offset_after, IsNamed, r_type_of, ppc64_name, ppc64_row, bytes_row, signed_row, value_of, GotTpOff, Relative, TpOff, RelocationKindInfo, Choice, Operands, Ppc64Relocation, HasTest, ppc64_rewrite, rewrites_marked, decision_at, IsDone, IsMade, Rewritten, entry_of, relocation_in, entry_address, is_there, operands_by, operands_with, Symbol, Entry, ThreadOffset, Rela, IsRow, relaxation_rewrite, Relaxation, Ppc64, UntouchedBytes, AreRewritten, Linked, IsLinked, IsWrittenByNoOther, count, instruction_at}
 use Rattle.linker_elf.specs.Ppc64Relocations.{branch_row, high_adjusted_row, low_ds_row, low_row, prefixed_row}
 use Rattle.linker_elf.specs.declared.elf.RelocationKind.TheVariants.{None as NoValue, GotTpOffGotBase, SymRelGotBase}
 use Rattle.linker_elf.specs.declared.ppc64.forms.Ppc64Instruction.TheVariants.{Branch24}
@@ -124,17 +124,17 @@ module _ (l : Linked) (linked : IsLinked l) (ppc64 : l.context.architecture ≡ 
       (row_there n name a code) symbol is_symbol entry is_entry
 
   -- an instruction is left that no other relocation writes, where the own one goes
-  pub left_alone : became.r_type ≡ 0 → (p : ℕ) → UntouchedBytes l i p 4 → p + 4 ≤ length l.section
+  pub left_alone : became.r_type ≡ 0 → (p : ℕ) → UntouchedBytes l i p 4
       → IsWrittenByNoOther l i p → instruction_at l.final p ≡ instruction_at l.rewritten p
-  left_alone gone p left inside alone = unwritten_without l linked i below p left (no_row l ppc64) gone inside alone
+  left_alone gone p left alone = unwritten_without l linked i below p left (no_row l ppc64) gone alone
 
   -- and one beside that of the own relocation
   pub left_beside : (name : Ppc64Relocation) (a : IsAfter 4 name) → became.r_type ≡ r_type_of (ppc64_name name)
-      → (p : ℕ) → UntouchedBytes l i p 4 → p + 4 ≤ length l.section
+      → (p : ℕ) → UntouchedBytes l i p 4
       → (p + 4 ≤ became.offset) ⊎ (became.offset + 4 ≤ p)
       → IsWrittenByNoOther l i p → instruction_at l.final p ≡ instruction_at l.rewritten p
-  left_beside name a code p left inside beside alone =
-      unwritten_but l linked i p left inside
+  left_beside name a code p left beside alone =
+      unwritten_but l linked i p left
       (apart_with l i became (relocation_left l linked i p 4 left below) a.row (row_there 4 name a code) 4 a.of p beside) alone
 
 -- ---- rows

@@ -1,5 +1,5 @@
 -- Bytes in which a window is another's, and what a rewrite makes of them.
-use Rattle.linker_final.proofs.Imports.{◌≡◌, ℕ, ◌+◌, ◌-◌, ◌<◌, ◌≤◌, ◌⊎◌, inl, inr, List, ◌++◌, length, take, drop, get_or, ap, sym, ◌∙◌, arith, refl, Some, cases_lt, length-drop, length-take-le, get_or-drop, get_or-take, ext_get_or, Rewrite, rewritten, rewrite_window, length-append, put_back}
+use Rattle.linker_final.proofs.Imports.{◌≡◌, ℕ, ◌+◌, ◌-◌, ◌<◌, ◌≤◌, ◌⊎◌, inl, inr, List, ◌++◌, length, take, drop, get_or, ap, sym, ◌∙◌, arith, refl, Some, cases_lt, length-drop, length-take-le, get_or-drop, get_or-take, ext_get_or, Rewrite, rewritten, rewrite_window, length-append, put_back, length-take}
 use Rattle.linker_section.proofs.Windows.{IsReplaced, in_window, outside_window}
 
 -- a byte of n from a start on
@@ -54,23 +54,21 @@ back_outside start len others bytes inside same at outside =
     outside_window (put_back_is start len others bytes inside same) at outside
 
 -- two windows are the same if each byte is
-pub same_windows : (start len : ℕ) (xs ys : List ℕ) → start + len ≤ length xs
-    → length ys ≡ length xs
+pub same_windows : (start len : ℕ) (xs ys : List ℕ) → length ys ≡ length xs
     → ((at : ℕ) → start ≤ at → at < start + len → get_or xs at 0 ≡ get_or ys at 0)
     → take len (drop start xs) ≡ take len (drop start ys)
-same_windows start len xs ys inside same each =
-    let lx = window_length start len xs inside in
-    let ly = window_length start len ys (omega (arith, inside, same)) in
-    ext_get_or 0 (take len (drop start xs)) (take len (drop start ys)) (omega (arith, lx, ly))
+same_windows start len xs ys same each =
+    let lx = length-take len (drop start xs) in
+    let ly = length-take len (drop start ys) in
+    let dx = length-drop start xs in
+    let dy = length-drop start ys in
+    ext_get_or 0 (take len (drop start xs)) (take len (drop start ys)) (omega (arith, lx, ly, dx, dy, same))
     (λ i below.
-    let back : start + i - start ≡ i = omega arith in
-    let low : start ≤ start + i = omega arith in
-    let high : start + i < start + len = omega (arith, below, lx) in
-    ap (λ n. get_or (take len (drop start xs)) n 0) (sym back)
-    ∙ (window_byte start len (start + i) xs low high
-    ∙ (each (start + i) low high
-    ∙ (sym (window_byte start len (start + i) ys low high)
-    ∙ ap (λ n. get_or (take len (drop start ys)) n 0) back))))
+    let within : i < len = omega (arith, below, lx) in
+    get_or-take len (drop start xs) i 0 within
+    ∙ (get_or-drop start xs i 0
+    ∙ (each (start + i) (omega arith) (omega (arith, within))
+    ∙ (sym (get_or-drop start ys i 0) ∙ sym (get_or-take len (drop start ys) i 0 within)))))
 
 -- ---- a rewrite of a window in bytes that were put back
 
@@ -85,8 +83,7 @@ module _ (start len : ℕ) (r : Rewrite) (o : ℕ) (section middle final : List 
   pub back_window : rewrite_window r (put_back start len section final) o ≡ rewrite_window r section o
   back_window =
       let s = put_back_is start len section final inside section_length in
-      same_windows (o - r.back) r.len (put_back start len section final) section
-      (let l = s.same_len in omega (arith, l, inside, last)) (let l = s.same_len in omega (arith, l, section_length))
+      same_windows (o - r.back) r.len (put_back start len section final) section (let l = s.same_len in omega (arith, l, section_length))
       (λ at from below. back_inside start len section final inside section_length at
       (omega (arith, first, from)) (omega (arith, last, below)))
 

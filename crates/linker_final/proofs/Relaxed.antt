@@ -4,7 +4,7 @@ use Rattle.linker_final.proofs.Imports.{◌≡◌, ◌≢◌, ℕ, ◌+◌, ◌-
 use Rattle.linker_base.specs.Listed.{AreValidDeltas}
 use Rattle.linker_base.specs.declared.relaxation.RelaxDelta.{RelaxDelta}
 use Rattle.linker_final.proofs.PackedBytes.{addresses}
-use Rattle.linker_final.specs.Relaxed.{AreRelaxedAndPacked, packed_of, Run, AlignmentsHold, AlignmentHolds, HoldsIn, IsAligned, IsOfRun, IsSkipped, LeadsInto, SectionsAreAligned, code_at, code_index, padding_at, padding_index, padding_len}
+use Rattle.linker_final.specs.Relaxed.{AreRelaxedAndPacked, packed_of, Run, AlignmentsHold, AlignmentHolds, HoldsIn, IsAligned, IsOfRun, IsSkipped, SectionsAreAligned, padding_at, padding_len}
 use Rattle.linker_final.specs.declared.packed.RunSection.{RunSection}
 use Rattle.linker_runs.proofs.First.{first_bytes}
 use Rattle.linker_runs.proofs.Layouts.{freed_fits}

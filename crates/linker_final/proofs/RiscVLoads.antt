@@ -56,7 +56,6 @@ module _ (groups : Groups) (l : Linked) (rewriting : AreRewritten l) (riscv : l.
   auipc_there : instruction_at l.rewritten o ≡ instruction_at l.section o
   auipc_there =
       stays l rewriting i of.high_chosen of.first_below of.high_decided (ap relaxation_rewrite high_entry.kind_is) alone
-      (high_entry.meant.0)
 
   pub high : IsPart l names.R_RISCV_PCREL_HI20 i i
   high =

@@ -1,5 +1,5 @@
 -- Instructions of RISC-V's TLS descriptors that became nops do nothing in the final bytes.
-use Rattle.linker_final.proofs.Imports.{◌≡◌, ℕ, ◌+◌, ◌<◌, ◌≤◌, List, length, refl, ap, subst, ◌∙◌, inl, inr, arith, IsRow, IsNamed, riscv_name, riscv_relocation, bytes_row, RiscV, RiscVRelocation, RewrittenWithSymbol, relocation_in, Rela, riscv_entries, AreRewritten, Linked, count, instruction_at, final_instruction, IsNop, BecomesNop, New, Nops, NopsOf, anywhere, final, packed}
+use Rattle.linker_final.proofs.Imports.{◌≡◌, ℕ, ◌<◌, List, refl, ap, subst, ◌∙◌, inl, inr, arith, IsRow, IsNamed, riscv_name, riscv_relocation, bytes_row, RiscV, RiscVRelocation, RewrittenWithSymbol, relocation_in, Rela, riscv_entries, AreRewritten, Linked, count, instruction_at, final_instruction, IsNop, BecomesNop, New, Nops, NopsOf, anywhere, final, packed}
 use Rattle.linker_elf.specs.declared.elf.RelocationKind.TheVariants.{None as NoValue}
 use Rattle.linker_elf.specs.declared.riscv64.relocations.RiscVRelocation.TheVariants as names
 use Rattle.linker_final.proofs.Joined.{unwritten_there}
@@ -19,14 +19,14 @@ none_has_no_value l riscv found there =
 -- ---- nops
 
 in_new : (l : Linked) → AreRewritten l → l.context.architecture ≡ RiscV → (i : ℕ) → i < count l
-    → offset_of l i + 4 ≤ length l.section → (relocation_in l.relocations_after i).r_type ≡ 0
+    → (relocation_in l.relocations_after i).r_type ≡ 0
     → ((bytes : List ℕ) → bytes ≡ instruction_at l.rewritten (offset_of l i) → IsNop (instruction_at l.section (offset_of l i)) bytes)
     → (new : New l) → BecomesNop l new i
-in_new l rewriting riscv i below inside gone nop anywhere = nop (instruction_at l.rewritten (offset_of l i)) refl
-in_new l rewriting riscv i below inside gone nop (final linked) =
+in_new l rewriting riscv i below gone nop anywhere = nop (instruction_at l.rewritten (offset_of l i)) refl
+in_new l rewriting riscv i below gone nop (final linked) =
     λ left alone. nop (instruction_at l.final (offset_of l i))
-    (unwritten_without l linked i below (offset_of l i) left (none_has_no_value l riscv) gone inside alone)
-in_new l rewriting riscv i below inside gone nop (packed p joined machine) =
+    (unwritten_without l linked i below (offset_of l i) left (none_has_no_value l riscv) gone alone)
+in_new l rewriting riscv i below gone nop (packed p joined machine) =
     λ left stay free. nop (final_instruction p (offset_of l i)) (unwritten_there l p joined i (offset_of l i) left stay free)
 
 nops_of : (name : RiscVRelocation) → IsNamed (riscv_name name)
@@ -37,7 +37,7 @@ nops_of name named each l rewriting riscv new i chosen subject below is_name dec
     let one = becomes_of l rewriting riscv i decision chosen below decided refl name named is_name
     names.R_RISCV_NONE kinds.ReplaceWithLongNop kind_is each in
     let long = long_there l.section o one.inside in
-    in_new l rewriting riscv i below one.inside
+    in_new l rewriting riscv i below
     (ap (λ (x : Rela). x.r_type)
     (redirected_after l rewriting i chosen below kinds.ReplaceWithLongNop names.R_RISCV_NONE kind_is one.r_type_is (λ o. refl) (λ a. refl) subject decided))
     (λ bytes same. (

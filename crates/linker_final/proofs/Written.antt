@@ -2,7 +2,7 @@
 use Rattle.linker_final.proofs.Imports.{◌≡◌, ℕ, ℤ, ◌+◌, ◌-◌, ◌/◌, ◌<◌, ◌≤◌, ◌⊎◌, List, length, take, drop, sym, ap, subst, ◌∙◌, refl, inl, inr, arith, Option, Some, None, IsSomeAnd, Ok, true, cases_eq, cases_lt, cases_Bool, cond-false, take-take, drop-drop, w32, from_le_bytes, slice_get, Rewrite, addend_after, offset_after, window_of_rewrite, RewriteWindow, IsApplied, IsNamed, r_type_of, bytes_row, value_of, RelocationKindInfo, Choice, Operands, decision_at, window_of, written_end_at, IsDone, IsMade, relocation_after, Decision, Rewritten, IsField, field_end, field_len, entry_of, relocation_in, IsInNoField, IsRowValue, entry_address, has_value, is_there, offset_at, operands_by, operands_in, operands_of, operands_with, Addresses, Symbol, Entry, Rela, NoEntry, IsRow, relaxation_rewrite, Relaxation, Architecture, word_of_front, drop-take, ElfName, AreRewritten, Linked, UntouchedBytes, IsLinked, IsOutside, IsRewrittenByNoOther, IsWrittenByNoOther, count, instruction_at, two_at, start_by, written_end_by, entry_in, IsNamedValue, AreBytes, All-get_or, get_or_past, get_or, ◌^◌}
 use Rattle.linker_elf.specs.declared.elf.RelocationKind.TheVariants.{None as NoValue}
 use Rattle.linker_final.proofs.InstructionFields.{IsOfInstruction, applied, instruction_len}
-use Rattle.linker_final.proofs.Phases.{bytes_left, last_as_many, last_length, last_within, relocation_left}
+use Rattle.linker_final.proofs.Phases.{bytes_left, last_as_many, last_within, relocation_left}
 use Rattle.linker_final.proofs.PlainRows.{are_there}
 use Rattle.linker_final.proofs.PutBack.{same_windows}
 
@@ -208,11 +208,9 @@ module _ (l : Linked) (rewriting : AreRewritten l) (i : ℕ) (chosen : Choice Re
 
   -- an instruction that isn't changed
   pub stays : relaxation_rewrite chosen.kind ≡ None → IsRewrittenByNoOther l i r.offset
-      → r.offset + 4 ≤ length l.section
       → instruction_at l.rewritten r.offset ≡ instruction_at l.section r.offset
-  stays is alone inside =
-      let long = rewriting.same_length in
-      same_windows r.offset 4 l.rewritten l.section (omega (arith, inside, long)) (sym long)
+  stays is alone =
+      same_windows r.offset 4 l.rewritten l.section (sym rewriting.same_length)
       (λ at from less. rewriting.others at (λ j lj. elim (cases_eq j i) [
         | inl same ↦ inr (subst (λ k. written_end_at l.relocations l.decisions k ≤ at) (sym same) (own at from))
         | inr isnt ↦ alone j at lj isnt from less
@@ -228,15 +226,12 @@ module _ (l : Linked) (rewriting : AreRewritten l) (i : ℕ) (chosen : Choice Re
 -- ---- bytes that no relocation writes
 
 -- those of an instruction stay
-unwritten : (l : Linked) → IsLinked l → (p : ℕ) → p + 4 ≤ length l.section
+unwritten : (l : Linked) → IsLinked l → (p : ℕ)
     → ((at : ℕ) → p ≤ at → at < p + 4
     → IsInNoField l.context.architecture l.relocations_last l.last (length l.relocations_last / 24) at)
     → instruction_at l.final p ≡ instruction_at l.last p
-unwritten l linked p inside free =
-    let fl = linked.written.same_length in
-    let ll = last_length l linked in
-    let rl = linked.same_length in
-    same_windows p 4 l.final l.last (omega (arith, inside, fl, ll, rl)) (sym fl)
+unwritten l linked p free =
+    same_windows p 4 l.final l.last (sym linked.written.same_length)
     (λ at from less. linked.written.others at (free at from less))
 
 -- The field of a relocation is apart from an instruction.
@@ -246,11 +241,10 @@ IsApart l i p =
     → (p + 4 ≤ offset_at l.relocations_last i) ⊎ (field_end l.relocations_last l.last i row ≤ p)
 
 -- no other relocation has one in it
-pub unwritten_but : (l : Linked) → IsLinked l → (i p : ℕ) → UntouchedBytes l i p 4
-    → p + 4 ≤ length l.section → IsApart l i p
+pub unwritten_but : (l : Linked) → IsLinked l → (i p : ℕ) → UntouchedBytes l i p 4 → IsApart l i p
     → IsWrittenByNoOther l i p → instruction_at l.final p ≡ instruction_at l.rewritten p
-unwritten_but l linked i p left inside apart alone =
-    unwritten l linked p inside
+unwritten_but l linked i p left apart alone =
+    unwritten l linked p
     (λ at from less j row lj field. elim (cases_eq j i) [
       | inl same ↦
           subst (λ k. (at < offset_at l.relocations_last k) ⊎ (field_end l.relocations_last l.last k row ≤ at)) (sym same)
@@ -298,11 +292,11 @@ module _ (l : Linked) (i : ℕ) (after : Rela) (is_after : relocation_in l.reloc
 -- an instruction stays that no other relocation writes, where the own one is of no type
 pub unwritten_without : (l : Linked) → IsLinked l → (i : ℕ) → i < count l → (p : ℕ)
     → UntouchedBytes l i p 4 → IsRowOf l.context.architecture 0 (bytes_row NoValue 0)
-    → (relocation_in l.relocations_after i).r_type ≡ 0 → p + 4 ≤ length l.section
+    → (relocation_in l.relocations_after i).r_type ≡ 0
     → IsWrittenByNoOther l i p → instruction_at l.final p ≡ instruction_at l.rewritten p
-unwritten_without l linked i below p left none gone inside alone =
+unwritten_without l linked i below p left none gone alone =
     let is_last = relocation_left l linked i p 4 left below in
-    unwritten_but l linked i p left inside
+    unwritten_but l linked i p left
     (λ row field. absurd (no_field l i (relocation_in l.relocations_after i) is_last (bytes_row NoValue 0)
     (subst (λ x. IsRowOf l.context.architecture x (bytes_row NoValue 0)) (sym gone) none) refl row field))
     alone

@@ -174,7 +174,7 @@ module _ (law : groups.CallOfDescriptor) (l : Linked) (linked : IsLinked l)
               (object_matches l i 0 2 skip has
               (object_has l i 0 2 skip has (x86_64_originals skip) (shaped_of 0 2 (x86_64_originals skip) ((refl, refl), tt)) (this.has_pattern.1.1)))
               (old
-              ∙ same_windows at 2 l.section object (has.room.1) (object_length l i 0 2 skip has)
+              ∙ same_windows at 2 l.section object (object_length l i 0 2 skip has)
               (λ j from less. object_same l i 0 2 skip has j (omega (arith, from)) less))
               (subst (λ xs. Stands c.new s.pc 2 (drop at xs)) (sym (unrelocated l i 0 2 skip has this.r_type_is))
               (subst (λ n. Stands c.new s.pc 2 (drop n l.final)) (let e : at - 0 ≡ at = omega arith in e)

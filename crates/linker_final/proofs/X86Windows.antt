@@ -19,10 +19,10 @@ use Rattle.linker_utils.specs.declared.architecture.Relaxation.TheVariants as re
 -- ---- lists and numbers
 
 -- what a window leaves of two lists that are the same elsewhere
-same_front : (p : ℕ) (xs ys : List ℕ) → p ≤ length xs → length ys ≡ length xs
+same_front : (p : ℕ) (xs ys : List ℕ) → length ys ≡ length xs
     → ((at : ℕ) → at < p → get_or xs at 0 ≡ get_or ys at 0) → take p xs ≡ take p ys
-same_front p xs ys inside long same =
-    same_windows 0 p xs ys (omega (arith, inside)) long (λ at from below. same at (omega (arith, below)))
+same_front p xs ys long same =
+    same_windows 0 p xs ys long (λ at from below. same at (omega (arith, below)))
 
 same_rest : (p : ℕ) (xs ys : List ℕ) → length ys ≡ length xs
     → ((at : ℕ) → p ≤ at → get_or xs at 0 ≡ get_or ys at 0) → drop p xs ≡ drop p ys
@@ -76,7 +76,7 @@ module _ (n : ℕ) (row : RelocationKindInfo) (plain : IsPlain n row) (operands 
         };
         whole = sym (take-append-drop p final)
             ∙ ap (λ xs. xs ++ drop p final)
-            (same_front p final bytes (omega (arith, inside, same_length)) long
+            (same_front p final bytes long
             (λ at below. sym (outside at (inl below))));
       }
 
