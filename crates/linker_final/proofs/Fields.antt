@@ -26,11 +26,7 @@ four_bytes (a ∷ b ∷ c ∷ d ∷ []) number long small is =
     ∙ (ap (λ x. byte_at 0 number ∷ x ∷ c ∷ d ∷ []) eb
     ∙ (ap (λ x. byte_at 0 number ∷ byte_at 1 number ∷ x ∷ d ∷ []) ec
     ∙ ap (λ x. byte_at 0 number ∷ byte_at 1 number ∷ byte_at 2 number ∷ x ∷ []) ed))
-four_bytes [] number long small is = absurd (omega (arith, long))
-four_bytes (a ∷ []) number long small is = absurd (omega (arith, long))
-four_bytes (a ∷ b ∷ []) number long small is = absurd (omega (arith, long))
-four_bytes (a ∷ b ∷ c ∷ []) number long small is = absurd (omega (arith, long))
-four_bytes (a ∷ b ∷ c ∷ d ∷ e ∷ xs) number long small is = absurd (omega (arith, long))
+four_bytes xs number long small is = absurd (omega (arith, long))
 
 pub eight_bytes : AreLowest 8
 eight_bytes (a ∷ b ∷ c ∷ d ∷ e ∷ f ∷ g ∷ h ∷ []) number long small is =
@@ -60,15 +56,7 @@ eight_bytes (a ∷ b ∷ c ∷ d ∷ e ∷ f ∷ g ∷ h ∷ []) number long sma
     ∙ (ap (λ x. byte_at 0 number ∷ byte_at 1 number ∷ byte_at 2 number ∷ byte_at 3 number ∷ byte_at 4 number ∷ x ∷ g ∷ h ∷ []) ef
     ∙ (ap (λ x. byte_at 0 number ∷ byte_at 1 number ∷ byte_at 2 number ∷ byte_at 3 number ∷ byte_at 4 number ∷ byte_at 5 number ∷ x ∷ h ∷ []) eg
     ∙ ap (λ x. byte_at 0 number ∷ byte_at 1 number ∷ byte_at 2 number ∷ byte_at 3 number ∷ byte_at 4 number ∷ byte_at 5 number ∷ byte_at 6 number ∷ x ∷ []) eh))))))
-eight_bytes [] number long small is = absurd (omega (arith, long))
-eight_bytes (a ∷ []) number long small is = absurd (omega (arith, long))
-eight_bytes (a ∷ b ∷ []) number long small is = absurd (omega (arith, long))
-eight_bytes (a ∷ b ∷ c ∷ []) number long small is = absurd (omega (arith, long))
-eight_bytes (a ∷ b ∷ c ∷ d ∷ []) number long small is = absurd (omega (arith, long))
-eight_bytes (a ∷ b ∷ c ∷ d ∷ e ∷ []) number long small is = absurd (omega (arith, long))
-eight_bytes (a ∷ b ∷ c ∷ d ∷ e ∷ f ∷ []) number long small is = absurd (omega (arith, long))
-eight_bytes (a ∷ b ∷ c ∷ d ∷ e ∷ f ∷ g ∷ []) number long small is = absurd (omega (arith, long))
-eight_bytes (a ∷ b ∷ c ∷ d ∷ e ∷ f ∷ g ∷ h ∷ i ∷ xs) number long small is = absurd (omega (arith, long))
+eight_bytes xs number long small is = absurd (omega (arith, long))
 
 -- ---- the field of a relocation
 

@@ -31,9 +31,6 @@ module _ (laws : Groups) (l : Linked) (linked : IsLinked l) (ppc64 : l.context.a
   in_span : (i : ℕ) → i < count l → (d : Decision) → decision_at l.decisions i ≡ d → (span l i).0 ≤ b → b < (span l i).1
       → (shape (kind_of d) (offset_of l i)).0 ≤ b
       → b < (shape (kind_of d) (offset_of l i)).0 + 4 * (shape (kind_of d) (offset_of l i)).1 → IsIn rewriting l b
-  in_span i below Kept is from less first last = absurd (omega (arith, first, last))
-  in_span i below Consumed is from less first last = absurd (omega (arith, first, last))
-  in_span i below (RewrittenWithSymbol chosen subject) is from less first last = absurd (omega (arith, first, last))
   in_span i below (Rewritten chosen) is from less first last =
       let t = has_entry l linked ppc64 i chosen below is in
       record {
@@ -41,6 +38,7 @@ module _ (laws : Groups) (l : Linked) (linked : IsLinked l) (ppc64 : l.context.a
         first = from;
         last = less;
       }
+  in_span i below d is from less first last = absurd (omega (arith, first, last))
 
   apart_or_in : (i : ℕ) → i < count l → ((b < (span l i).0) ⊎ ((span l i).1 ≤ b)) ⊎ IsIn rewriting l b
   apart_or_in i below =

@@ -2,7 +2,7 @@
 use Rattle.linker_final.proofs.Imports.{◌≡◌, ℕ, pos, ◌+ℤ◌, ◌+◌, ◌-◌, ◌%◌, ◌^◌, ◌<◌, ◌≤◌, ◌⊎◌, Bool, true, false, true≢false, refl, sym, ◌∙◌, ap, subst, arith, List, drop, ℤ, Option, Some, None, if◌then◌else◌, ◌&&◌, IsTrue, w32, w64, cast_signed, cast_unsigned, from_le_bytes, ints, of_z-to_z, ltb-true, signed, riscv_form, pair_row, sum_64, difference_64, RelocationKind, Absolute, Relative, RelativeRiscVLow12, RelocationKindInfo, Operands, IType, UType, word_at, opcode_of, funct3_of, adds_low12, address_in, Relocated, wrapped, Action, register, symbol_address, IsAddress, unsigned_abs, IsSomeAnd, lo12, moved, AbsoluteAddresses, RelativeAddresses, sum_zero}
 use Rattle.linker_riscv64.specs.RiscVFields.{rd_of}
 use Rattle.linker_rewriting.specs.GlobalPointer.{address_of, base_by, base_for, base_of, based_relocation, is_near, relocation_over}
-use Rattle.linker_laws.specs.RiscVMachine.{auipc, goes_to, lui, with_integer, adds, adds_word, jumps, loads, stores, loads_float, stores_float, rs1_of}
+use Rattle.linker_laws.specs.RiscVMachine.{auipc, goes_to, lui, with_integer, stores, rs1_of}
 use Rattle.linker_laws.specs.RiscVRewriteLaws.{low_row, word_of}
 use Rattle.linker_laws.proofs.RiscVHighParts.{IsFormulaOf, of_address}
 use Rattle.linker_laws.proofs.RiscVDescriptors.{lui_word, upper_long, upper_word}
@@ -75,13 +75,8 @@ based_sum gp x y base v is value there =
     ∙ back (base.1) (symbol_address x) is.below (sum_below x.symbol _)))
 
 labelled_rows : (a : Action) → labelled_row a ≡ row_of RelativeRiscVLow12 a
-labelled_rows adds = refl
-labelled_rows adds_word = refl
-labelled_rows jumps = refl
-labelled_rows (loads f) = refl
 labelled_rows (stores f) = refl
-labelled_rows (loads_float f) = refl
-labelled_rows (stores_float f) = refl
+labelled_rows a = refl
 
 first_of_and : (a b : Bool) → (a && b) ≡ true → IsTrue a
 first_of_and true b is = refl

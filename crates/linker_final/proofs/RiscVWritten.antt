@@ -29,12 +29,8 @@ long_there bytes o inside =
 -- what a rewrite of a word makes of four bytes
 made_is : (new : ℕ → ℕ) (bytes : List ℕ) → length bytes ≡ 4
     → rewritten (Some (rewrites_word new)) bytes 0 ≡ to_le_bytes w32 (new (from_le_bytes w32 bytes))
-made_is new [] long = absurd (omega (arith, long))
-made_is new (p ∷ []) long = absurd (omega (arith, long))
-made_is new (p ∷ q ∷ []) long = absurd (omega (arith, long))
-made_is new (p ∷ q ∷ r ∷ []) long = absurd (omega (arith, long))
 made_is new (p ∷ q ∷ r ∷ s ∷ []) long = refl
-made_is new (p ∷ q ∷ r ∷ s ∷ t ∷ more) long = absurd (omega (arith, long))
+made_is new bytes long = absurd (omega (arith, long))
 
 -- ---- what a decision leaves of a relocation
 

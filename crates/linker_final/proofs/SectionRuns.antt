@@ -1,5 +1,5 @@
 -- What stands at each place of a section, and runs of its code, of any architecture.
-use Rattle.linker_final.proofs.Imports.{◌≡◌, ◌≢◌, ℕ, zero, suc, ◌+◌, ◌-◌, ◌<◌, ◌≤◌, ◌⊎◌, inl, inr, List, [], ◌∷◌, ap, sym, subst, arith, refl, Bool, true, false, cases_eq, cases_lt, Architecture, Choice, Kinds, State, chosen_or_labelled, AreDecidedIn, decision_at, IsScopeIn, Decision, Consumed, Kept, Rewritten, RewrittenWithSymbol, Subject, Scope, Labelled, Phase, relocation_in, Addresses, Relaxation, AreInTurn, Linked, RewritingPhase, count, linked_by, Comparison, Next, Simulates, by_group, uncovered}
+use Rattle.linker_final.proofs.Imports.{◌≡◌, ◌≢◌, ℕ, zero, suc, ◌+◌, ◌-◌, ◌<◌, ◌≤◌, ◌⊎◌, inl, inr, List, [], ◌∷◌, ap, sym, subst, arith, refl, Bool, true, false, cases_eq, cases_lt, Architecture, Choice, Kinds, State, chosen_or_labelled, AreDecidedIn, decision_at, IsScopeIn, Decision, Kept, Rewritten, RewrittenWithSymbol, Subject, Scope, Labelled, Phase, relocation_in, Addresses, Relaxation, AreInTurn, Linked, RewritingPhase, count, linked_by, Comparison, Next, Simulates, by_group, uncovered}
 use Rattle.linker_final.specs.SectionRuns.{AreCalled, AreLeft, EachPlace, IsBeside, IsBesideAll, IsFollowed, IsPhase, IsPhaseIn, Known, Knows, Place, Rewriting, RewritesAreGroups, RunsAreFollowed, Section, begins, comparison, elsewhere, offset_of, rewritten, unchanged, within}
 
 -- all below a limit, or what one of them shows
@@ -68,9 +68,7 @@ without_label l decided same unlabelled i chosen subject below is =
 
 kept_or_not : (d : Decision) → (d ≡ Kept) ⊎ (d ≢ Kept)
 kept_or_not Kept = inl refl
-kept_or_not (Rewritten chosen) = inr (λ e. cc)
-kept_or_not (RewrittenWithSymbol chosen subject) = inr (λ e. cc)
-kept_or_not Consumed = inr (λ e. cc)
+kept_or_not d = inr (λ e. cc)
 
 -- a byte is of none whose relocation doesn't stay, or what one shows of which it is
 pub beside_or : {Q : Type 0} (l : Linked) (b : ℕ)

@@ -22,11 +22,6 @@ use Rattle.linker_base.proofs.Tests.{never}
 -- an offset from the thread pointer composes with nothing
 continues_none : (kind : RelocationKind) → continues kind values.TpOff ≡ false
 continues_none values.AbsoluteSet = refl
-continues_none values.AbsoluteAddition = refl
-continues_none values.AbsoluteSubtraction = refl
-continues_none values.AbsoluteSetWord6 = refl
-continues_none values.AbsoluteAdditionWord6 = refl
-continues_none values.AbsoluteSubtractionWord6 = refl
 continues_none kind = refl
 
 -- a row of n bytes
