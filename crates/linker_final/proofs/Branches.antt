@@ -46,7 +46,7 @@ goes machine row bits insn reads unit target size has unlabelled taken valued la
     subst (λ a. IsAddress (pos a +ℤ (reads (final_number p i row) *ℤ pos unit)) (target y)) placed
     (law y small 0 (take n (drop (place_of p o) p.packed)) (take n (drop (place_of p o) p.final)) applied tt)
 
-abbrev the_row : Option RelocationKindInfo → RelocationKindInfo
+abbrev pub the_row : Option RelocationKindInfo → RelocationKindInfo
 the_row (Some row) = row
 the_row None = bytes_row NoValue 0
 

@@ -1,10 +1,10 @@
 -- The value of a low part of RISC-V in the final bytes of a section: that of the high part at its
 -- label.
-use Rattle.linker_final.proofs.Imports.{◌≡◌, ℕ, ℤ, ◌/◌, ◌<◌, List, length, take, drop, Bool, true, false, cond, refl, sym, ap, subst, ◌∙◌, inl, inr, arith, ltb, Option, Some, None, Ok, Err, Result, IsSomeAnd, cases_eq, cases_lt, cond-true, cond-false, ltb-true, slice_get, ⊤, size_len, window_len, value_of, difference_64, RelocationKind, RelocationKindInfo, BitMasking, Operands, UType, one_row, one_info, Composes, IsField, begins_pair, continues, ends_pair, field_len, is_of_pair, of_number, of_pair, uleb_len, relocation_in, IsRowValue, IsValueBy, IsValueIn, has_value, names_label, offset_at, operands_of, Addresses, Symbol, Rela, ValueError, IsRow, Architecture, AreApart, relocation_at, IsHighPartAt, IsLowValue, is_auipc, is_high_kind, is_high_part, low_by, low_operands, low_value, NoHighPart, and_parts, or_from}
+use Rattle.linker_final.proofs.Imports.{◌≡◌, ℕ, ℤ, ◌/◌, ◌<◌, List, length, take, drop, Bool, true, false, cond, refl, sym, ap, subst, ◌∙◌, inl, inr, arith, ltb, Option, Some, None, Ok, Err, Result, IsSomeAnd, cases_eq, cases_lt, cond-true, cond-false, ltb-true, slice_get, ⊤, size_len, window_len, value_of, difference_64, RelocationKind, RelocationKindInfo, BitMasking, Operands, UType, one_info, Composes, IsField, begins_pair, continues, ends_pair, field_len, is_of_pair, of_number, of_pair, uleb_len, relocation_in, IsRowValue, IsValueBy, IsValueIn, has_value, names_label, offset_at, operands_of, Addresses, Symbol, Rela, ValueError, IsRow, Architecture, AreApart, relocation_at, IsHighPartAt, IsLowValue, is_auipc, is_high_kind, is_high_part, low_by, low_operands, low_value, NoHighPart, and_parts, or_from}
 use Rattle.linker_elf.specs.declared.elf.RelocationInstruction.TheVariants.{RiscV}
 use Rattle.linker_elf.specs.declared.elf.RelocationKind.TheVariants as kinds
 use Rattle.linker_elf.specs.declared.elf.RelocationSize.{RelocationSize}
-use Rattle.linker_final.proofs.PlainRows.{IsFoundOf}
+use Rattle.linker_final.proofs.PlainRows.{IsFoundOf, found_by}
 
 -- ---- high parts
 
@@ -167,21 +167,8 @@ module _ (architecture : Architecture) (addresses : Addresses) (bytes : List ℕ
       (subst (λ s. IsLowValue architecture addresses bytes symbols low s (Ok value)) is_label
       (subst (λ labels. IsValueBy labels architecture addresses bytes symbols low r (Ok value)) labelled is))
 
-  isnt_none : (value : Option ℤ) → IsSomeAnd value (λ _. ⊤) → value ≡ None → ⊥
-  isnt_none None nothing is = nothing
-  isnt_none (Some v) there is = absurd (let e : Some v ≡ None = is in cc)
-
   pub low_found : (found : Option (RelocationKindInfo × ℤ))
       → IsRowValue architecture addresses bytes symbols r (Ok found)
       → IsFoundOf low (low_operands row operands) found
-  low_found (Some one) has =
-      let same : one.0 ≡ low = one_info architecture r.r_type (one.0) low has.is_row low_is in
-      let value : value_of low (low_operands row operands) ≡ Some (one.1) =
-      by_row (Some (one.1))
-      (subst (λ x. IsValueIn architecture addresses bytes symbols r (Some x) (Ok (Some (one.1)))) same has.is_value) in
-      record { value = one.1; is = ap (λ x. Some (x, one.1)) same; value_is = value }
-  low_found None marked =
-      let same = one_row architecture r.r_type (marked.0) (Some low) (marked.1) low_is in
-      let value : value_of low (low_operands row operands) ≡ None =
-      by_row None (subst (λ x. IsValueIn architecture addresses bytes symbols r x (Ok None)) same (marked.2)) in
-      absurd (isnt_none (value_of low (low_operands row operands)) some value)
+  low_found =
+      found_by architecture addresses bytes symbols r low low_is (low_operands row operands) (λ value is. sym (by_row value is)) some

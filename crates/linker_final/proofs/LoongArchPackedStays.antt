@@ -1,7 +1,7 @@
 -- LoongArch: calls and addresses that stay, in the final bytes of a packed section.
-use Rattle.linker_final.proofs.Imports.{◌≡◌, ℕ, ◌+◌, ◌^◌, ◌<◌, take, drop, refl, sym, ap, subst, ◌∙◌, arith, true, false, Option, Some, None, Ok, IsSomeAnd, All-drop, All-take, ⊤, slice_get, BitRange, IsApplied, loongarch_row, window_len, bytes_row, sum_64, value_of, RelocationInstruction, RelocationKindInfo, BitMasking, Operands, LoongArch64Relocation, Fits32, pair, AreAddresses, plt_address, symbol_address, rd_of, destination, relocation_in, has_value, names_label, offset_at, operands_in, operands_of, Symbol, IsRow, LongAddressesStay, LongCallsStay, LongLoadedAddressesStay, IsPairOf, StaysAs, operands_at, Packed, IsPacked, architecture_of, place_of}
-use Rattle.linker_elf.specs.declared.elf.RelocationKind.TheVariants.{None as NoValue}
+use Rattle.linker_final.proofs.Imports.{◌≡◌, ℕ, ◌+◌, ◌^◌, ◌<◌, take, drop, refl, sym, ap, subst, ◌∙◌, arith, true, false, Some, Ok, IsSomeAnd, All-drop, All-take, ⊤, slice_get, BitRange, IsApplied, loongarch_row, window_len, sum_64, value_of, RelocationInstruction, RelocationKindInfo, BitMasking, Operands, LoongArch64Relocation, Fits32, pair, AreAddresses, plt_address, symbol_address, rd_of, destination, relocation_in, has_value, names_label, offset_at, operands_in, operands_of, Symbol, IsRow, LongAddressesStay, LongCallsStay, LongLoadedAddressesStay, IsPairOf, StaysAs, operands_at, Packed, IsPacked, architecture_of, place_of}
 use Rattle.linker_elf.specs.declared.loongarch64.relocations.LoongArch64Relocation.TheVariants as names
+use Rattle.linker_final.proofs.Branches.{the_row}
 use Rattle.linker_final.proofs.InstructionFields.{some_value}
 use Rattle.linker_final.proofs.LoongArchPackedSites.{Made, both_call, both_make, by_addi, by_ld, either, from_there, second_at}
 use Rattle.linker_final.proofs.Written.{back_of_pair, front_of_pair}
@@ -14,10 +14,6 @@ use Rattle.linker_laws.specs.LoongArchRewriteLaws.{following}
 use Rattle.linker_utils.specs.LoongArchRewrites.{word_at}
 use Rattle.linker_runs.specs.declared.packing.Machine.TheVariants.{LoongArch64}
 use Rattle.linker_elf.specs.declared.elf.architecture.Architecture.TheVariants as architectures
-
-abbrev the_row : Option RelocationKindInfo → RelocationKindInfo
-the_row (Some row) = row
-the_row None = bytes_row NoValue 0
 
 abbrev call_row : RelocationKindInfo
 call_row = the_row (loongarch_row names.R_LARCH_CALL36)

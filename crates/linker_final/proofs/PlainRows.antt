@@ -125,6 +125,46 @@ pub record IsFoundOf (row : RelocationKindInfo) (operands : Operands)
   pub is : found ≡ Some (row, value)
   pub value_is : value_of row operands ≡ Some value
 
+abbrev with_row : RelocationKindInfo → Option ℤ → Option (RelocationKindInfo × ℤ)
+with_row row None = None
+with_row row (Some v) = Some (row, v)
+
+some_is_not : (value : Option ℤ) → IsSomeAnd value (λ _. ⊤) → None ≡ value → ⊥
+some_is_not None nothing is = nothing
+some_is_not (Some v) there is = absurd (let e : None ≡ Some v = is in cc)
+
+module _ (architecture : Architecture) (addresses : Addresses) (bytes : List ℕ)
+    (symbols : List Symbol) (r : Rela) (row : RelocationKindInfo)
+    (is_row : IsRow architecture r.r_type (Some row)) where
+  -- it is found by the row
+  of_row : (found : Option (RelocationKindInfo × ℤ)) → IsRowValue architecture addresses bytes symbols r (Ok found)
+      → (value : Option ℤ) × (found ≡ with_row row value)
+      × IsValueIn architecture addresses bytes symbols r (Some row) (Ok value)
+  of_row (Some one) has =
+      let same : one.0 ≡ row = one_info architecture r.r_type (one.0) row has.is_row is_row in (
+        Some (one.1),
+        ap (λ x. Some (x, one.1)) same,
+        subst (λ x. IsValueIn architecture addresses bytes symbols r (Some x) (Ok (Some (one.1)))) same has.is_value,
+      )
+  of_row None marked = (
+    None,
+    refl,
+    subst (λ x. IsValueIn architecture addresses bytes symbols r x (Ok None))
+        (one_row architecture r.r_type (marked.0) (Some row) (marked.1) is_row) (marked.2),
+  )
+
+  module _ (operands : Operands)
+      (by : (value : Option ℤ) → IsValueIn architecture addresses bytes symbols r (Some row) (Ok value) → value ≡ value_of row operands)
+      (some : IsSomeAnd (value_of row operands) (λ _. ⊤)) where
+    made : (found : Option (RelocationKindInfo × ℤ)) (value : Option ℤ) → found ≡ with_row row value
+        → value ≡ value_of row operands → IsFoundOf row operands found
+    made found (Some v) is value_is = record { value = v; is = is; value_is = sym value_is }
+    made found None is value_is = absurd (some_is_not (value_of row operands) some value_is)
+
+    pub found_by : (found : Option (RelocationKindInfo × ℤ))
+        → IsRowValue architecture addresses bytes symbols r (Ok found) → IsFoundOf row operands found
+    found_by found has = let own = of_row found has in made found (own.0) (own.1) (by (own.0) (own.2))
+
 module _ (architecture : Architecture) (addresses : Addresses) (bytes : List ℕ)
     (symbols : List Symbol) (r : Rela) (row : RelocationKindInfo)
     (is_row : IsRow architecture r.r_type (Some row))
@@ -149,16 +189,9 @@ module _ (architecture : Architecture) (addresses : Addresses) (bytes : List ℕ
   pub are_there : (found : Option (RelocationKindInfo × ℤ))
       → IsRowValue architecture addresses bytes symbols r (Ok found) → (error : ValueError)
       → operands_of architecture addresses symbols row r ≡ Err error → ⊥
-  are_there (Some one) has error is =
-      let same : one.0 ≡ row = one_info architecture r.r_type (one.0) row has.is_row is_row in
-      no_error (Some (one.1)) error is
-      (of_operands (Ok (Some (one.1)))
-      (subst (λ x. IsValueIn architecture addresses bytes symbols r (Some x) (Ok (Some (one.1)))) same has.is_value))
-  are_there None marked error is =
-      let same = one_row architecture r.r_type (marked.0) (Some row) (marked.1) is_row in
-      no_error None error is
-      (of_operands (Ok None)
-      (subst (λ x. IsValueIn architecture addresses bytes symbols r x (Ok None)) same (marked.2)))
+  are_there found has error is =
+      let own = of_row architecture addresses bytes symbols r row is_row found has in
+      no_error (own.0) error is (of_operands (Ok (own.0)) (own.2))
 
 module _ (architecture : Architecture) (addresses : Addresses) (bytes : List ℕ)
     (symbols : List Symbol) (r : Rela) (row : RelocationKindInfo) (operands : Operands)
@@ -183,26 +216,7 @@ module _ (architecture : Architecture) (addresses : Addresses) (bytes : List ℕ
       (of_operands architecture addresses bytes symbols r row is_row valued unlabelled (Ok value) is
       ∙ ap (value_by (lacks_origin addresses symbols row r) row) taken)
 
-  some_is_not : (value : Option ℤ) → IsSomeAnd value (λ _. ⊤) → None ≡ value → ⊥
-  some_is_not None nothing is = nothing
-  some_is_not (Some v) there is = absurd (let e : None ≡ Some v = is in cc)
-
   pub found_is : (found : Option (RelocationKindInfo × ℤ))
       → IsRowValue architecture addresses bytes symbols r (Ok found)
       → IsFoundOf row operands found
-  found_is (Some one) has =
-      let same : one.0 ≡ row = one_info architecture r.r_type (one.0) row has.is_row is_row in
-      let value : Some (one.1) ≡ value_of row operands =
-      by_row (Some (one.1))
-      (subst (λ x. IsValueIn architecture addresses bytes symbols r (Some x) (Ok (Some (one.1)))) same has.is_value) in
-      record {
-        value = one.1;
-        is = ap (λ x. Some (x, one.1)) same;
-        value_is = sym value;
-      }
-  found_is None marked =
-      let same = one_row architecture r.r_type (marked.0) (Some row) (marked.1) is_row in
-      let value : None ≡ value_of row operands =
-      by_row None
-      (subst (λ x. IsValueIn architecture addresses bytes symbols r x (Ok None)) same (marked.2)) in
-      absurd (some_is_not (value_of row operands) some value)
+  found_is = found_by architecture addresses bytes symbols r row is_row operands by_row some
