@@ -14,13 +14,9 @@ use Rattle.linker_utils.specs.declared.architecture.Relaxation.TheVariants as re
 
 -- ---- choices
 
-abbrev kind_in : RewriteKind → Relaxation → RewriteKind
-kind_in other (relaxations.AArch64 kind) = kind
-kind_in other relaxation = other
-
 same_kind : (k : Relaxation) (x y : RewriteKind) → k ≡ relaxations.AArch64 x → k ≡ relaxations.AArch64 y
     → x ≡ y
-same_kind k x y is_x is_y = ap (kind_in x) (sym is_x ∙ is_y)
+same_kind k x y is_x is_y = let both : relaxations.AArch64 x ≡ relaxations.AArch64 y = sym is_x ∙ is_y in cc
 
 -- of two entries the one of a kind
 module _ (name : AArch64Relocation) (a b : AArch64Entry) (section : List ℕ) (o : ℕ) (chosen : Choice Relaxation ℕ) where

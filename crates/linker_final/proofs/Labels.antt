@@ -64,14 +64,10 @@ pub record IsRelocationAt (bytes : List ℕ) (i : ℕ) (r : Rela) : Type 0 where
   pub within : i < length bytes / 24
   pub is : relocation_in bytes i ≡ r
 
-abbrev rela_in : Rela → Option Rela → Rela
-rela_in other None = other
-rela_in other (Some r) = r
-
 there_by : (bytes : List ℕ) (i : ℕ) (r : Rela) (within : Bool) → ltb i (length bytes / 24) ≡ within
     → cond within (Some (relocation_in bytes i)) None ≡ Some r → IsRelocationAt bytes i r
 there_by bytes i r true within is =
-    record { within = ltb-true i (length bytes / 24) within; is = ap (rela_in r) is }
+    let both : Some (relocation_in bytes i) ≡ Some r = is in record { within = ltb-true i (length bytes / 24) within; is = cc }
 there_by bytes i r false within is = absurd (let e : None ≡ Some r = is in cc)
 
 there_is : (bytes : List ℕ) (i : ℕ) (r : Rela) → relocation_at bytes i ≡ Some r → IsRelocationAt bytes i r
@@ -112,10 +108,6 @@ module _ (architecture : Architecture) (bytes section : List ℕ)
 
 -- ---- what is found of a low part
 
-abbrev value_in : Option ℤ → Result (Option ℤ) ValueError → Option ℤ
-value_in other (Ok found) = found
-value_in other (Err error) = other
-
 module _ (architecture : Architecture) (addresses : Addresses) (bytes : List ℕ)
     (symbols : List Symbol) (section : List ℕ)
     (apart : AreApart architecture bytes section (length bytes / 24))
@@ -149,7 +141,7 @@ module _ (architecture : Architecture) (addresses : Addresses) (bytes : List ℕ
       ap (λ x. low_by low (found.1) (operands_of architecture addresses symbols (found.1) x)) same
       ∙ (ap (λ x. low_by low x (operands_of architecture addresses symbols x (relocation_in bytes i))) same_row
       ∙ ap (low_by low row) taken) in
-      ap (value_in value) (sym takes ∙ (sym is ∙ ok))
+      let both : Ok (value_of low (low_operands row operands)) ≡ Ok value = sym takes ∙ (sym is ∙ ok) in cc
 
   by_label : (result : Result (Option ℤ) ValueError) (value : Option ℤ) → result ≡ Ok value
       → IsLowValue architecture addresses bytes symbols low (Some label) result

@@ -114,10 +114,6 @@ module _ (found : Found) (bytes section : List ℕ) (number : ℤ) (i : ℕ) (ro
 
 -- ---- what is found
 
-abbrev pub value_in : ℤ → Option ℤ → ℤ
-value_in other None = other
-value_in other (Some v) = v
-
 -- a relocation of a row, with the operands of its formula, has the value of the formula
 pub record IsFoundOf (row : RelocationKindInfo) (operands : Operands)
     (found : Option (RelocationKindInfo × ℤ)) : Type 0 where
@@ -200,14 +196,10 @@ module _ (architecture : Architecture) (addresses : Addresses) (bytes : List ℕ
     (unlabelled : names_label row.size row.kind ≡ false)
     (taken : operands_of architecture addresses symbols row r ≡ Ok operands)
     (some : IsSomeAnd (value_of row operands) (λ _. ⊤)) where
-  abbrev of_ok : Result (Option ℤ) ValueError → Option ℤ
-  of_ok (Ok found) = found
-  of_ok (Err error) = None
-
   of_value : (lacks : Bool) (value : Option ℤ) → Ok value ≡ value_by lacks row (Ok operands)
       → value ≡ value_of row operands
   of_value true value same = absurd (let e : Ok value ≡ Err NoTlsBase = same in cc)
-  of_value false value same = ap of_ok same
+  of_value false value same = let both : Ok value ≡ Ok (value_of row operands) = same in cc
 
   by_row : (value : Option ℤ) → IsValueIn architecture addresses bytes symbols r (Some row) (Ok value)
       → value ≡ value_of row operands

@@ -7,10 +7,6 @@ use Rattle.linker_utils.specs.declared.architecture.Relaxation.TheVariants as re
 
 -- ---- subjects
 
-abbrev subject_in : Subject → Decision → Subject
-subject_in other (RewrittenWithSymbol chosen subject) = subject
-subject_in other decision = other
-
 abbrev subject_of : Rela → Subject
 subject_of high = record { symbol = high.symbol; addend = high.addend }
 
@@ -20,7 +16,7 @@ of_phase phase chosen mine subject high is = either (takes_symbol phase mine.rel
   where
     either : (takes : Bool) → RewrittenWithSymbol chosen subject ≡ rewritten_by takes mine high
         → subject ≡ subject_of high
-    either true same = ap (subject_in subject) same
+    either true same = let both : RewrittenWithSymbol chosen subject ≡ RewrittenWithSymbol mine (subject_of high) = same in cc
     either false same = absurd (let e : RewrittenWithSymbol chosen subject ≡ Rewritten mine = same in cc)
 
 -- ---- choices by some facts
@@ -41,10 +37,6 @@ pub record IsChosenAnyhow (s : RelaxContext) (bytes section : List ℕ) (n : ℕ
   pub is_choice : IsArchitectureChoice s.architecture r.r_type section r.offset facts chosen
   pub changed : ¬ IsUnchanged r.r_type chosen
   pub of_high : (subject : Subject) → decision ≡ RewrittenWithSymbol chosen subject → IsOfHigh s bytes n r facts subject
-
-abbrev chosen_in : Choice Relaxation ℕ → Option (Choice Relaxation ℕ) → Choice Relaxation ℕ
-chosen_in other None = other
-chosen_in other (Some chosen) = chosen
 
 label_choice : (phase : Phase) (chosen : Choice Relaxation ℕ) (high : Rela)
     → choice_of (label_decision phase chosen high) ≡ Some chosen
@@ -81,8 +73,8 @@ module _ (s : RelaxContext) (bytes section : List ℕ) (n : ℕ) (r : Rela) (dec
   by_label (inr of) =
       let high = of.0 in
       let mine = of.3 in
-      let same : mine ≡ chosen =
-      ap (chosen_in mine) (sym (label_choice s.phase mine (relocation_in bytes high)) ∙ (sym (ap choice_of (of.5)) ∙ by)) in
+      let both : Some mine ≡ Some chosen = sym (label_choice s.phase mine (relocation_in bytes high)) ∙ (sym (ap choice_of (of.5)) ∙ by) in
+      let same : mine ≡ chosen = cc in
       by_facts high (of.1) (λ subject to. of_phase s.phase chosen mine subject (relocation_in bytes high) (sym to ∙ of.5))
       (label_facts s bytes n r high) refl
       (subst (λ c. IsLabelCandidate s bytes section n r high (Some c)) same (of.4))

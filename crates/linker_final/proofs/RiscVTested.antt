@@ -82,10 +82,6 @@ address_is addresses value is =
 abbrev row : RelocationKindInfo
 row = pair_row TpOff 32 IType
 
-abbrev symbol_in : Symbol → Option Symbol → Symbol
-symbol_in other None = other
-symbol_in other (Some symbol) = symbol
-
 -- what the entry's last condition says
 by_test : (s : RelaxContext) (section : List ℕ) (r : Rela) (chosen : Choice Relaxation ℕ)
     (c : IsChosen s section r chosen) (value : Symbol) → slice_get s.values r.symbol ≡ Some value
@@ -93,7 +89,8 @@ by_test : (s : RelaxContext) (section : List ℕ) (r : Rela) (chosen : Choice Re
     → IsLowOffset (operands_with RiscV s.addresses row value r 0)
 by_test s section r chosen c value is_value thread_local known is =
     let placed = by_symbol s.output s.addresses s.values r c.marked c.facts s.phase (slice_get s.symbols r.symbol) (inl known) c.facts_are in
-    let same : placed.value ≡ value = ap (symbol_in value) (sym placed.is_value ∙ is_value) in
+    let both : Some placed.value ≡ Some value = sym placed.is_value ∙ is_value in
+    let same : placed.value ≡ value = cc in
     let low : IsLowBy (placed_facts s.phase s.output s.addresses placed.symbol placed.value r.offset r.addend c.marked).operands =
     subst (λ (f : LinkFacts). IsLowBy f.operands) placed.are (without_bias c.facts.operands is) in
     subst (λ a. IsWithin (Some low_12_bounds) (cast_signed w64 (difference_64 (sum_64 a (cast_unsigned w64 r.addend)) s.addresses.thread_origin)))

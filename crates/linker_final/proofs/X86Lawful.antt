@@ -1,5 +1,5 @@
 -- Each rewrite that is chosen for an instruction with an operand in the GOT has a law.
-use Rattle.linker_final.proofs.Imports.{◌≡◌, ℕ, ℤ, pos, neg_ℤ, ◌+◌, ◌≤◌, List, [], ◌∷◌, length, Bool, true, false, IsTrue, eqb, cond, refl, sym, ap, subst, ◌∙◌, inl, inr, arith, Option, Some, None, ⊤, AllHold, choice, r_type_of, x86_64_name, x86_64_row, Choice, LinkFacts, Operands, X86_64Relocation, address, thread_offset, Relaxation, x86_64_relocation_after, Original, is_one_at, x86_64_matches, opcode_at, x86_64_originals, x86_64_rewrite, x86_64_after, x86_64_table, X86Entry, Table, RewriteKind, IsGroupOf, immediate_of}
+use Rattle.linker_final.proofs.Imports.{◌≡◌, ℕ, ℤ, pos, neg_ℤ, ◌+◌, ◌≤◌, List, [], ◌∷◌, length, Bool, true, false, IsTrue, eqb, cond, refl, sym, subst, ◌∙◌, inl, inr, arith, Some, None, ⊤, AllHold, choice, r_type_of, x86_64_name, x86_64_row, Choice, LinkFacts, Operands, X86_64Relocation, address, thread_offset, Relaxation, x86_64_relocation_after, Original, is_one_at, x86_64_matches, opcode_at, x86_64_originals, x86_64_rewrite, x86_64_after, x86_64_table, X86Entry, Table, RewriteKind, IsGroupOf, immediate_of}
 use Rattle.linker_elf.specs.declared.x86_64.relocations.X86_64Relocation.TheVariants as names
 use Rattle.linker_final.proofs.Inner.{IsWithin, within, lea, jump, wide}
 use Rattle.linker_final.proofs.X86Chosen.{IsOfOne, IsOfTable}
@@ -356,15 +356,11 @@ module _ (laws : Groups) where
   ServesName name operand =
       (opcode : ℕ) → TableServes operand.back name operand.held (x86_64_table name opcode)
 
-  of_some : GotOperand → Option GotOperand → GotOperand
-  of_some other None = other
-  of_some other (Some operand) = operand
-
   named : (name : X86_64Relocation) (mine operand : GotOperand) → got_operand name ≡ Some mine
       → got_operand name ≡ Some operand → ServesName name mine → ServesName name operand
-  unfolding of_some
   named name mine operand is wanted serves =
-      subst (ServesName name) (ap (of_some mine) (sym is ∙ wanted)) serves
+      let both : Some mine ≡ Some operand = sym is ∙ wanted in
+      let same : mine ≡ operand = cc in subst (ServesName name) same serves
 
   none : (name : X86_64Relocation) (operand : GotOperand) → got_operand name ≡ None
       → got_operand name ≡ Some operand → ServesName name operand
