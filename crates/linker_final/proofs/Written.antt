@@ -1,5 +1,5 @@
 -- Instructions and their relocations in the bytes that rewrites leave, and in the final bytes.
-use Rattle.linker_final.proofs.Imports.{◌≡◌, ℕ, ℤ, ◌+◌, ◌-◌, ◌/◌, ◌<◌, ◌≤◌, ◌⊎◌, List, length, take, drop, sym, ap, subst, ◌∙◌, refl, inl, inr, arith, Option, Some, None, IsSomeAnd, Ok, true, cases_eq, cases_lt, cases_Bool, cond-false, take-take, drop-drop, w32, from_le_bytes, slice_get, Rewrite, addend_after, offset_after, window_of_rewrite, RewriteWindow, IsApplied, IsNamed, r_type_of, bytes_row, value_of, RelocationKindInfo, Choice, Operands, decision_at, window_of, written_end_at, IsDone, IsMade, relocation_after, Decision, Rewritten, IsField, field_end, field_len, entry_of, relocation_in, IsInNoField, IsRowValue, entry_address, has_value, is_there, offset_at, operands_by, operands_in, operands_of, operands_with, Addresses, Symbol, Entry, Rela, NoEntry, IsRow, relaxation_rewrite, Relaxation, Architecture, word_of_front, drop-take, ElfName, AreRewritten, Linked, UntouchedBytes, IsLinked, IsOutside, IsRewrittenByNoOther, IsWrittenByNoOther, count, instruction_at, two_at, start_by, written_end_by, entry_in, IsNamedValue, AreBytes, All-get_or, get_or_past, get_or, ◌^◌, names_label}
+use Rattle.linker_final.proofs.Imports.{◌≡◌, ℕ, ℤ, ◌+◌, ◌-◌, ◌/◌, ◌<◌, ◌≤◌, ◌⊎◌, List, length, take, drop, sym, ap, subst, ◌∙◌, refl, inl, inr, arith, Option, Some, None, IsSomeAnd, Ok, true, cases_eq, cases_lt, cases_Bool, cond-false, take-take, drop-drop, w32, from_le_bytes, slice_get, Rewrite, addend_after, offset_after, window_of_rewrite, RewriteWindow, IsApplied, IsNamed, r_type_of, bytes_row, value_of, RelocationKindInfo, Choice, Operands, decision_at, window_of, written_end_at, IsDone, IsMade, relocation_after, Decision, Rewritten, IsField, field_end, field_len, entry_of, relocation_in, IsInNoField, IsRowValue, entry_address, has_value, is_there, offset_at, operands_by, operands_in, operands_of, operands_with, Addresses, Symbol, Entry, Rela, NoEntry, IsRow, relaxation_rewrite, Relaxation, Architecture, word_of_front, drop-take, ElfName, AreRewritten, Linked, UntouchedBytes, IsLinked, IsOutside, IsRewrittenByNoOther, IsWrittenByNoOther, count, instruction_at, two_at, start_by, written_end_by, entry_in, IsNamedValue, AreBytes, All-get_or, get_or_past, get_or, ◌^◌, names_label, false}
 use Rattle.linker_elf.specs.declared.elf.RelocationKind.TheVariants.{None as NoValue}
 use Rattle.linker_final.proofs.InstructionFields.{IsOfInstruction, applied, instruction_len}
 use Rattle.linker_final.proofs.Phases.{bytes_left, last_as_many, last_within, relocation_left}
