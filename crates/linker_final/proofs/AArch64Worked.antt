@@ -1,5 +1,5 @@
 -- The groups of AArch64's program that the calls link.
-use Rattle.linker_final.proofs.Imports.{◌≡◌, ◌≢◌, ℕ, zero, suc, ◌+◌, ◌-◌, ◌/◌, ◌<◌, ◌≤◌, ◌⊎◌, inl, inr, List, [], ◌∷◌, length, Bool, true, false, eqb, eqb-true, refl, sym, ap, subst, ◌∙◌, arith, lit<, lit≤, pos, Some, true≢false, ◌&&◌, slice_get, replicate, cases_lt, ints, window_of_rewrite, RewriteWindow, aarch64_name, entry, IsNamed, IsNameOf, r_type_of, sum_64, AArch64Relocation, AArch64, Operands, Has, following, word_of, put, with_register, loaded, Kinds, State, half, in_phase, sequences_are_whole, IsGroupDecision, decision_at, window_of, group_stays, IsLoadRewritten, IsRewrittenBy, relocation_after, Decision, Kept, Rewritten, relocation_in, operands_with, Addresses, Symbol, Rela, AArch64Entry, halves_to_local_exec, relaxation_rewrite, All-nil, All-cons, AreLinked, IsLinked, IsOutside, IsRewrittenByNoOther, Linked, RewritingPhase, UntouchedInPhase, UntouchedInstruction, count, instruction_at, linked_by, AARCH64_OBJECT, AARCH64_RELOCATIONS, same, named_at, Phase, IsScopeDecision, Grouped, aarch64_scope_in}
+use Rattle.linker_final.proofs.Imports.{◌≡◌, ℕ, zero, suc, ◌+◌, ◌-◌, ◌/◌, ◌<◌, ◌≤◌, ◌⊎◌, inl, inr, List, [], ◌∷◌, length, Bool, true, false, eqb, eqb-true, refl, sym, ap, subst, ◌∙◌, arith, lit<, lit≤, pos, Some, slice_get, replicate, cases_lt, ints, window_of_rewrite, RewriteWindow, aarch64_name, entry, IsNamed, IsNameOf, r_type_of, sum_64, AArch64Relocation, AArch64, Operands, Has, following, word_of, put, with_register, loaded, Kinds, State, half, in_phase, sequences_are_whole, IsGroupDecision, decision_at, window_of, group_stays, IsLoadRewritten, IsRewrittenBy, relocation_after, Decision, Kept, Rewritten, relocation_in, operands_with, Addresses, Symbol, Rela, AArch64Entry, halves_to_local_exec, relaxation_rewrite, All-nil, All-cons, AreLinked, IsLinked, IsOutside, IsRewrittenByNoOther, Linked, RewritingPhase, UntouchedInPhase, UntouchedInstruction, count, instruction_at, linked_by, AARCH64_OBJECT, AARCH64_RELOCATIONS, same, named_at, Phase, IsScopeDecision, Grouped, aarch64_scope_in, and_parts}
 use Rattle.linker_base.specs.Form.{place_sum}
 use Rattle.linker_elf.specs.declared.aarch64.relocations.AArch64Relocation.TheVariants as names
 use Rattle.linker_final.proofs.AArch64Alone.{high_row}
@@ -9,6 +9,7 @@ use Rattle.linker_final.proofs.PutBack.{same_windows}
 use Rattle.linker_final.proofs.Written.{rela}
 use Rattle.linker_final.specs.AArch64Section.{Begins, ComesTo, HasFinal, IsRewrittenOf, at_high, at_load, at_low, high, load, low, object, register, rewriting}
 use Rattle.linker_final.specs.SectionRuns.{Section, offset_of}
+use Rattle.linker_final.specs.Steps.{all_below}
 use Rattle.linker_final.specs.Worked.{HasGroups, IsGroupOf, IsPhaseOf, code_at, halves, none_stays}
 use Rattle.linker_laws.proofs.Relocated.{addresses as small, relocated}
 use Rattle.linker_laws.specs.AArch64GroupsWorked.{known, starting}
@@ -150,25 +151,13 @@ low_has =
 
 -- ---- the final bytes
 
-abbrev each_below : ℕ → (ℕ → Bool) → Bool
-each_below zero f = true
-each_below (suc n) f = f n && each_below n f
-
-first_of : (a b : Bool) → (a && b) ≡ true → a ≡ true
-first_of true b e = refl
-first_of false b e = e
-
-second_of : (a b : Bool) → (a && b) ≡ true → b ≡ true
-second_of true b e = e
-second_of false b e = absurd (true≢false (sym e))
-
-below_each : (n : ℕ) (f : ℕ → Bool) → each_below n f ≡ true → (k : ℕ) → k < n → f k ≡ true
+below_each : (n : ℕ) (f : ℕ → Bool) → all_below n f ≡ true → (k : ℕ) → k < n → f k ≡ true
 below_each zero f e k below = absurd (omega (arith, below))
 below_each (suc n) f e k below =
+    let parts = and_parts (f n) (all_below n f) e in
     elim (cases_lt k n) [
-      | inl less ↦ below_each n f (second_of (f n) (each_below n f) e) k less
-      | inr past ↦ let same : n ≡ k = omega (arith, below, past) in
-          subst (λ k. f k ≡ true) same (first_of (f n) (each_below n f) e)
+      | inl less ↦ below_each n f (parts.1) k less
+      | inr past ↦ let same : n ≡ k = omega (arith, below, past) in subst (λ k. f k ≡ true) same (parts.0)
     ]
 
 pub new_is_final : HasFinal addresses (code_at halves.new 0x400000 20) halves
