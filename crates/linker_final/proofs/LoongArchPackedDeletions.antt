@@ -1,13 +1,13 @@
 -- LoongArch: instructions that are deleted, and the run without them.
 use Rattle.std.proofs.Common.{ℕ, drop, take, sym, ◌∙◌}
 use Rattle.linker_final.proofs.PackedBytes.{no_place}
-use Rattle.linker_final.specs.LoongArchPacked.{HighPartIsLeftOut, IsBefore, SumIsLeftOut}
-use Rattle.linker_final.specs.Packed.{AreDeleted as IsGone, Packed}
+use Rattle.linker_final.specs.LoongArchPacked.{HighPartIsLeftOut, SumIsLeftOut}
+use Rattle.linker_final.specs.Packed.{AreDeleted as IsGone, IsBefore, Packed}
 use Rattle.linker_laws.specs.LoongArchGroups.{AreDeleted, Code, Groups}
 use Rattle.linker_laws.specs.Simulation.{State}
 
 -- new has nothing of the bytes
-gone_in : (p : Packed) (o : ℕ) (c : Code) (s : State) → IsGone p o 4 → IsBefore p o c s → AreDeleted c 4 s
+gone_in : (p : Packed) (o : ℕ) (c : Code) (s : State) → IsGone p o 4 → IsBefore p o c.moved s.pc → AreDeleted c 4 s
 gone_in p o c s gone before =
     record {
       small = before.small;

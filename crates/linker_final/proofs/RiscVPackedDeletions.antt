@@ -2,14 +2,14 @@
 use Rattle.linker_final.proofs.Imports.{ℕ, ◌+◌, ◌≤◌, List, drop, length, sym, ◌∙◌, arith, HasWord, Operands, RiscVRelocation, Groups, IsLowOffset, State, IsLui, riscv_matches, length-drop, IsLow12}
 use Rattle.linker_elf.specs.declared.riscv64.relocations.RiscVRelocation.TheVariants as names
 use Rattle.linker_final.proofs.PackedBytes.{no_place}
-use Rattle.linker_final.specs.Packed.{AreDeleted as IsGone, Packed}
-use Rattle.linker_final.specs.RiscVPacked.{HighPartsAreLeftOut, IsBefore, LuiIsLeftOut, SumIsLeftOut}
+use Rattle.linker_final.specs.Packed.{AreDeleted as IsGone, IsBefore, Packed}
+use Rattle.linker_final.specs.RiscVPacked.{HighPartsAreLeftOut, LuiIsLeftOut, SumIsLeftOut}
 use Rattle.linker_laws.specs.RiscVGroups.{AreDeleted, Code, DeletedLui}
 use Rattle.linker_utils.specs.declared.riscv64.rewrites.RewriteKind.{RewriteKind}
 use Rattle.linker_utils.specs.declared.riscv64.rewrites.RewriteKind.TheVariants as kinds
 
 -- new has nothing of the bytes
-gone_in : (p : Packed) (o : ℕ) (c : Code) (s : State) → IsGone p o 4 → IsBefore p o c s → AreDeleted c 4 s
+gone_in : (p : Packed) (o : ℕ) (c : Code) (s : State) → IsGone p o 4 → IsBefore p o c.moved s.pc → AreDeleted c 4 s
 gone_in p o c s gone before =
     record {
       small = before.small;

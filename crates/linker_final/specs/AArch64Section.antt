@@ -10,8 +10,7 @@ use Rattle.linker_final.specs.Imports.{page, AArch64, go_to, IsAddressRewritten}
 use Rattle.linker_final.specs.Imports.{IsDescriptorRewritten, IsLoadRewritten}
 use Rattle.linker_elf.specs.declared.aarch64.relocations.AArch64Relocation.{AArch64Relocation}
 use Rattle.linker_elf.specs.declared.aarch64.relocations.AArch64Relocation.TheVariants as names
-use Rattle.linker_final.specs.Final.{IsLinked, IsRewrittenByNoOther, Linked, count}
-use Rattle.linker_final.specs.Final.{instruction_at}
+use Rattle.linker_final.specs.Final.{IsLinked, IsRewrittenByNoOther, Linked, count, instruction_at}
 use Rattle.linker_final.specs.Final.{IsWrittenByNoOther, UntouchedInstruction}
 use Rattle.linker_final.specs.Final.{UntouchedInstructions, two_at}
 use Rattle.linker_final.specs.SectionRuns.{IsBesideAll, IsPhase, Rewriting, Section, offset_of}

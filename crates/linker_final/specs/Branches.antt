@@ -2,21 +2,19 @@
 -- its relocation's formula. So does the one of a site that became shorter, by the type that its
 -- relocation has then.
 use Rattle.std.specs.Prelude.{◌≡◌, ◌<◌, ◌≤◌, length, ℕ, ℤ, pos, ◌+ℤ◌, ◌*ℤ◌, take, drop, slice_get}
-use Rattle.std.specs.Prelude.{IsSomeAnd}
-use Rattle.std.specs.Prelude.{Option, Some}
-use Rattle.linker_final.specs.Imports.{loongarch_form, loongarch_row, window_len, riscv_form}
-use Rattle.linker_final.specs.Imports.{riscv_row, RelocationKindInfo, Operands, Branch21, Branch26}
-use Rattle.linker_final.specs.Imports.{Shift5, Shift10, LoongArch64Relocation, BType, JType, CbType}
-use Rattle.linker_final.specs.Imports.{CjType, RiscVRelocation, AreAddresses, plt_address}
-use Rattle.linker_final.specs.Imports.{symbol_address, Machine, RiscV64, LoongArch64, relocation_in}
-use Rattle.linker_final.specs.Imports.{offset_at, operands_with, Symbol, IsRow, IsAddress}
-use Rattle.linker_final.specs.Imports.{number_at}
+use Rattle.std.specs.Prelude.{IsSomeAnd, Option, Some}
+use Rattle.linker_final.specs.Imports.{loongarch_form, loongarch_row, symbol_address, relocation_in}
+use Rattle.linker_final.specs.Imports.{window_len, riscv_form, riscv_row, offset_at, IsAddress}
+use Rattle.linker_final.specs.Imports.{RelocationKindInfo, LoongArch64Relocation, RiscVRelocation}
+use Rattle.linker_final.specs.Imports.{Operands, Branch21, Branch26, Shift10, Machine, number_at}
+use Rattle.linker_final.specs.Imports.{Shift5, JType, CbType, CjType, RiscV64, Symbol, IsRow}
+use Rattle.linker_final.specs.Imports.{BType, AreAddresses, plt_address, LoongArch64, operands_with}
 use Rattle.linker_elf.specs.declared.loongarch64.forms.LoongArch64Instruction.{LoongArch64Instruction}
 use Rattle.linker_elf.specs.declared.loongarch64.relocations.LoongArch64Relocation.TheVariants as loongarch_names
 use Rattle.linker_elf.specs.declared.riscv64.forms.RiscVInstruction.{RiscVInstruction}
 use Rattle.linker_elf.specs.declared.riscv64.relocations.RiscVRelocation.TheVariants as riscv_names
-use Rattle.linker_final.specs.Packed.{Packed, IsPacked, address_at, architecture_of}
-use Rattle.linker_final.specs.Packed.{count, place_of}
+use Rattle.linker_final.specs.Packed.{Packed, IsPacked, address_at, architecture_of, count}
+use Rattle.linker_final.specs.Packed.{place_of}
 
 -- The relocation at an index, whose place is in the section, has a row where it is written.
 pub record IsOfRow (p : Packed) (i : ℕ) (row : RelocationKindInfo) : Type 0 where

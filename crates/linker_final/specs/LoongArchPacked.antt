@@ -1,26 +1,23 @@
 -- LoongArch: in a section that was packed, calls go where the object's do, and addresses are made
 -- that the object's instructions make (LoongArch ELF psABI, linker relaxation).
-use Rattle.std.specs.Prelude.{◌≡◌, ℕ, ◌+◌, ◌==◌, List, [], ◌∷◌, take, drop}
-use Rattle.std.specs.Prelude.{if◌then◌else◌, IsSomeAnd, Some, slice_get, ◌<◌, ◌^◌}
+use Rattle.std.specs.Prelude.{◌≡◌, ℕ, ◌+◌, ◌==◌, List, [], ◌∷◌, take, drop, if◌then◌else◌}
+use Rattle.std.specs.Prelude.{IsSomeAnd, Some, slice_get, ◌<◌, ◌^◌}
 use Rattle.linker_final.specs.Imports.{RowIsWithin, IsNameOf, loongarch_name, loongarch_row, sum_64}
-use Rattle.linker_final.specs.Imports.{RelocationKindInfo, Operands, LoongArch64Relocation}
-use Rattle.linker_final.specs.Imports.{Fits32, IsRelocated, word_of, Relocated, loaded, Symbol}
+use Rattle.linker_final.specs.Imports.{RelocationKindInfo, Operands, LoongArch64Relocation, Fits32}
+use Rattle.linker_final.specs.Imports.{IsRelocated, word_of, Relocated, loaded, Symbol}
 use Rattle.linker_final.specs.Imports.{AreAddresses, entry_and_addend, plt_address, symbol_address}
 use Rattle.linker_final.specs.Imports.{Kinds, rj_of, signed_12, tp, LoongArch64, relocation_in}
 use Rattle.linker_final.specs.Imports.{offset_at, operands_with}
 use Rattle.linker_elf.specs.declared.loongarch64.relocations.LoongArch64Relocation.TheVariants as names
-use Rattle.linker_final.specs.Packed.{Packed, AreDeleted, IsPacked, IsSiteOf, address_at}
-use Rattle.linker_final.specs.Packed.{StayTogether, count, place_of}
-use Rattle.linker_final.specs.Packed.{site_after, site_bytes, site_len}
-use Rattle.linker_final.specs.Packed.{site_offset, site_place, site_target}
+use Rattle.linker_final.specs.Packed.{Packed, AreDeleted, IsBefore, IsPacked, IsSiteOf}
+use Rattle.linker_final.specs.Packed.{StayTogether, count, place_of, site_after, site_bytes}
+use Rattle.linker_final.specs.Packed.{site_len, site_offset, site_place, site_target}
 use Rattle.linker_laws.specs.LoongArchGroups.{Code, Has, IsLeftOut, Stands, register}
 use Rattle.linker_laws.specs.LoongArchMachine.{AreAlikeBut, EndSo, State}
-use Rattle.linker_laws.specs.LoongArchRewriteLaws.{HaveCalled, HaveMade}
-use Rattle.linker_laws.specs.LoongArchRewriteLaws.{IsRewritten, LoadsEntry, following}
-use Rattle.linker_laws.specs.LoongArchRewriteLaws.{no_register, pair}
+use Rattle.linker_laws.specs.LoongArchRewriteLaws.{HaveCalled, HaveMade, IsRewritten, LoadsEntry}
+use Rattle.linker_laws.specs.LoongArchRewriteLaws.{following, no_register, pair}
 use Rattle.linker_laws.specs.Simulation.{State as state}
-use Rattle.linker_utils.specs.LoongArchRewrites.{IsAddTp, IsLd, IsLu12i, rd_of}
-use Rattle.linker_utils.specs.LoongArchRewrites.{word_at}
+use Rattle.linker_utils.specs.LoongArchRewrites.{IsAddTp, IsLd, IsLu12i, rd_of, word_at}
 use Rattle.linker_utils.specs.declared.loongarch64.rewrites.RewriteKind.TheVariants as kinds
 use Rattle.linker_runs.specs.LoongArchSites.{IsCall36At, IsPcalaAt, destination}
 use Rattle.linker_runs.specs.declared.relaxation.Site.{Site as site}
@@ -175,12 +172,6 @@ LongLoadedAddressesStay =
 
 -- ---- deleted instructions (thread-local storage)
 
--- Old is before four bytes at an offset of the section, and new where they and the next ones go.
-pub record IsBefore (p : Packed) (o : ℕ) (c : Code) (s : state) : Type 0 where
-  pub small : s.pc + 4 < 2 ^ 64
-  pub place : c.moved s.pc ≡ address_at p o
-  pub next : c.moved (s.pc + 4) ≡ address_at p (o + 4)
-
 -- A `lu12i.w` of an offset from the thread pointer of 12 bits is a group, of which new has nothing.
 abbrev pub HighPartIsLeftOut : Type 0
 HighPartIsLeftOut =
@@ -188,7 +179,7 @@ HighPartIsLeftOut =
     → let lu12i = take 4 (drop o p.section.bytes) in
     IsLu12i (word_of lu12i) → (x : Operands) → AreAddresses x
     → RowIsWithin (loongarch_row names.R_LARCH_TLS_LE_LO12_R) signed_12 x
-    → (c : Code) (k : Kinds) (s : state) → IsBefore p o c s → s.pc ≡ x.place
+    → (c : Code) (k : Kinds) (s : state) → IsBefore p o c.moved s.pc → s.pc ≡ x.place
     → Has c.old names.R_LARCH_TLS_LE_HI20_R x lu12i → IsLeftOut c k s (rd_of (word_of lu12i)) 0
 
 -- So is an `add.d` of the thread pointer to a register with 0.
@@ -196,7 +187,7 @@ abbrev pub SumIsLeftOut : Type 0
 SumIsLeftOut =
     (p : Packed) → IsPacked p → p.machine ≡ LoongArch64 → (o : ℕ) → AreDeleted p o 4
     → let add = word_at p.section.bytes o in
-    IsAddTp add → (c : Code) (k : Kinds) (s : state) → IsBefore p o c s
+    IsAddTp add → (c : Code) (k : Kinds) (s : state) → IsBefore p o c.moved s.pc
     → register s (rj_of add) ≡ 0 → s.registers tp < 2 ^ 64
     → Stands c.old s.pc (drop o p.section.bytes)
     → IsLeftOut c k s (rd_of add) (s.registers tp)

@@ -1,7 +1,7 @@
 -- LoongArch: what the rewrites of a section are, and where they begin in a run of old (LoongArch
 -- ELF psABI, relaxation and the sequences of thread-local storage).
-use Rattle.std.specs.Prelude.{◌≡◌, ◌≢◌, ℕ, pos, ◌+◌, ◌<◌, ◌^◌, true, List, Some, ⊤}
-use Rattle.std.specs.Prelude.{IsSomeAnd, slice_get}
+use Rattle.std.specs.Prelude.{◌≡◌, ◌≢◌, ℕ, pos, ◌+◌, ◌<◌, ◌^◌, true, List, Some, ⊤, IsSomeAnd}
+use Rattle.std.specs.Prelude.{slice_get}
 use Rattle.linker_final.specs.Imports.{RowIsWithin, IsNameOf, r_type_of, loongarch_name}
 use Rattle.linker_final.specs.Imports.{loongarch_row, sum_64, RelocationKindInfo, Choice, Operands}
 use Rattle.linker_final.specs.Imports.{LoongArch64Relocation, Fits32, IsRelocated, word_of}
@@ -19,10 +19,8 @@ use Rattle.linker_final.specs.Packed.{IsUnwritten, Packed, StayTogether, place_o
 use Rattle.linker_final.specs.SectionRuns.{IsBesideAll, Rewriting, Section, offset_of}
 use Rattle.linker_laws.specs.LoongArchGroups.{AreDeleted, CallOfDescriptor, Code, Has, HighEntry}
 use Rattle.linker_laws.specs.LoongArchGroups.{HighOffset, IsLeftOut, LoadOfDescriptor, Loads}
-use Rattle.linker_laws.specs.LoongArchGroups.{LoadsOffset}
-use Rattle.linker_laws.specs.LoongArchGroups.{LowHalf, LowOfDescriptor, LowPart, Makes}
-use Rattle.linker_laws.specs.LoongArchGroups.{MakesOffset, Stands, deleted_by, link}
-use Rattle.linker_laws.specs.LoongArchGroups.{register}
+use Rattle.linker_laws.specs.LoongArchGroups.{LoadsOffset, LowHalf, LowOfDescriptor, LowPart, Makes}
+use Rattle.linker_laws.specs.LoongArchGroups.{MakesOffset, Stands, deleted_by, link, register}
 use Rattle.linker_runs.specs.declared.packing.Machine.TheVariants.{LoongArch64 as loongarch64}
 use Rattle.linker_section.specs.declared.needed.EntryClass.TheVariants.{ThreadOffset}
 use Rattle.linker_utils.specs.LoongArchRewrites.{rd_of}

@@ -1,14 +1,10 @@
 -- What qemu-loongarch64 made of instructions. `tools/oracle words` makes this file.
-use Rattle.std.specs.Prelude.{List, [], ◌∷◌, ◌^◌}
+use Rattle.std.specs.Prelude.{List, [], ◌∷◌, ◌^◌, false}
 use Rattle.linker_final.specs.Imports.{loongarch_form, Shift5, Shift10, Branch21, Branch26}
 use Rattle.linker_elf.specs.declared.loongarch64.forms.LoongArch64Instruction.TheVariants.{Call36}
-use Rattle.std.specs.Prelude.{false}
 use Rattle.linker_elf.specs.Agrees.{loongarch_reads}
 use Rattle.linker_elf.specs.LoongArch.{reach}
-use Rattle.linker_final.specs.Sequences.{parts_number}
-use Rattle.linker_final.specs.Sequences.{upper_number}
-use Rattle.linker_final.specs.Sequences.{four_number}
-use Rattle.linker_final.specs.Sequences.{near_number}
+use Rattle.linker_final.specs.Sequences.{parts_number, upper_number, four_number, near_number}
 use Rattle.linker_final.specs.Sequences.{address_number}
 use Rattle.linker_final.specs.Emulated.{Words, words, IsComputed}
 

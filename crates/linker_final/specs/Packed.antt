@@ -1,6 +1,6 @@
 -- Sections that get shorter between their rewrites and their values: a section of a relaxed run is
 -- packed, and then its values are written. What its final bytes are of the section before.
-use Rattle.std.specs.Prelude.{◌≡◌, ◌≢◌, ℕ, ◌+◌, ◌-◌, ◌/◌, ◌<◌, ◌≤◌, List, length}
+use Rattle.std.specs.Prelude.{◌≡◌, ◌≢◌, ℕ, ◌+◌, ◌-◌, ◌/◌, ◌^◌, ◌<◌, ◌≤◌, List, length}
 use Rattle.std.specs.Prelude.{take, drop, slice_index, IsTrue, Ok, Some, true, false, ℤ}
 use Rattle.linker_base.specs.Deletions.{is_kept}
 use Rattle.linker_base.specs.declared.bit_misc.BitRange.{BitRange}
@@ -208,6 +208,13 @@ ItemsAreDeleted =
 -- the address where an offset of the section before goes
 abbrev pub address_at : Packed → ℕ → ℕ
 address_at p o = address_of p.section (p.section.base + o)
+
+-- Old is before four bytes at an offset of the section, and new where they and the next ones go, by
+-- where code moved.
+pub record IsBefore (p : Packed) (o : ℕ) (moved : ℕ → ℕ) (pc : ℕ) : Type 0 where
+  pub small : pc + 4 < 2 ^ 64
+  pub place : moved pc ≡ address_at p o
+  pub next : moved (pc + 4) ≡ address_at p (o + 4)
 
 -- ---- relocated instructions
 

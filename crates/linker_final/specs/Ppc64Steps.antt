@@ -1,8 +1,7 @@
 -- What qemu-ppc64le made of instructions. `tools/oracle steps` makes this file.
 use Rattle.std.specs.Prelude.{List, [], ◌∷◌}
 use Rattle.linker_final.specs.Steps.{Functions, Group, at, functions, group, m0, m1, m2, m3, pc}
-use Rattle.linker_final.specs.Steps.{row}
-use Rattle.linker_final.specs.Steps.{◌=>◌, ◌with◌}
+use Rattle.linker_final.specs.Steps.{row, ◌=>◌, ◌with◌}
 
 unfoldable pub ppc64_groups : List Group
 ppc64_groups =

@@ -1,7 +1,6 @@
 -- Sections that are packed with what `relax` returned of their run: each alignment holds in the
 -- final bytes.
-use Rattle.std.specs.Prelude.{◌≡◌, ◌≢◌, ◌⊎◌, ℕ, ◌+◌, ◌%◌, ◌<◌, ◌≤◌, List, length}
-use Rattle.std.specs.Prelude.{MatchOption, None}
+use Rattle.std.specs.Prelude.{◌≡◌, ◌≢◌, ◌⊎◌, ℕ, ◌+◌, ◌%◌, ◌<◌, ◌≤◌, List, length, MatchOption, None}
 use Rattle.linker_final.specs.Imports.{sum_64, IsRelaxation, deletions_of_run, address_of, kept_len}
 use Rattle.linker_final.specs.Imports.{packed_offset, section_of, item_at, Alignment, Item, Aligned}
 use Rattle.linker_final.specs.Imports.{Addresses, Symbol, AreItems, end_of}

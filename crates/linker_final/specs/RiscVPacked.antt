@@ -1,20 +1,18 @@
 -- RISC-V: in a section that was packed, calls go where the object's do (RISC-V ELF psABI, "Function
 -- Call Relaxation" and "Compressed Tail Call Relaxation").
-use Rattle.std.specs.Prelude.{◌≡◌, ◌⊎◌, ℕ, ◌+◌, ◌-◌, ◌%◌, ◌==◌, List}
-use Rattle.std.specs.Prelude.{take, drop, if◌then◌else◌, slice_get, Some, ◌<◌, ◌^◌}
-use Rattle.linker_final.specs.Imports.{IsNameOf, riscv_name, riscv_row, RelocationKindInfo}
-use Rattle.linker_final.specs.Imports.{Operands, UiType, RiscVRelocation, AreBefore, Code, Has}
-use Rattle.linker_final.specs.Imports.{Stands, seen, Kinds, State, register, rs1_of, IsLow12}
-use Rattle.linker_final.specs.Imports.{IsLowOffset, AreAddresses, plt_address, word_at, rd_of}
-use Rattle.linker_final.specs.Imports.{IsLui, RiscV64, relocation_in, offset_at, operands_with}
-use Rattle.linker_final.specs.Imports.{Symbol, RiscV, pair_row, even}
+use Rattle.std.specs.Prelude.{◌≡◌, ◌⊎◌, ℕ, ◌-◌, ◌%◌, ◌==◌, List, take, drop, if◌then◌else◌}
+use Rattle.std.specs.Prelude.{slice_get, Some, ◌<◌, ◌^◌}
+use Rattle.linker_final.specs.Imports.{IsNameOf, RelocationKindInfo, RiscVRelocation, relocation_in}
+use Rattle.linker_final.specs.Imports.{riscv_name, riscv_row, Operands, AreBefore, State, offset_at}
+use Rattle.linker_final.specs.Imports.{UiType, register, IsLow12, word_at, rd_of, RiscV64, pair_row}
+use Rattle.linker_final.specs.Imports.{Code, Has, Stands, seen, rs1_of, IsLui, Symbol, RiscV, even}
+use Rattle.linker_final.specs.Imports.{Kinds, IsLowOffset, AreAddresses, plt_address, operands_with}
 use Rattle.linker_elf.specs.Originals.{HasWord}
 use Rattle.linker_elf.specs.declared.elf.RelocationKind.TheVariants.{PltRelative}
 use Rattle.linker_elf.specs.declared.riscv64.relocations.RiscVRelocation.TheVariants as names
-use Rattle.linker_final.specs.Packed.{Packed, AreDeleted, IsPacked, IsSiteOf, StayTogether}
-use Rattle.linker_final.specs.Packed.{address_at, count, place_of}
-use Rattle.linker_final.specs.Packed.{site_bytes, site_len, site_offset, site_place}
-use Rattle.linker_final.specs.Packed.{site_target}
+use Rattle.linker_final.specs.Packed.{Packed, AreDeleted, IsBefore, IsPacked, IsSiteOf}
+use Rattle.linker_final.specs.Packed.{StayTogether, count, place_of, site_bytes, site_len}
+use Rattle.linker_final.specs.Packed.{site_offset, site_place, site_target}
 use Rattle.linker_laws.specs.RiscVGroups.{IsCall, IsLeftOut}
 use Rattle.linker_utils.specs.RiscVRewrites.{IsAddTp, tp}
 use Rattle.linker_runs.specs.RiscVItems.{IsCallAt}
@@ -87,26 +85,20 @@ LongCallsStay =
 
 -- ---- deleted instructions (psABI, "Zero-page Relaxation"; thread-local storage)
 
--- Old is before four bytes at an offset of the section, and new where they and the next ones go.
-pub record IsBefore (p : Packed) (o : ℕ) (c : Code) (s : State) : Type 0 where
-  pub small : s.pc + 4 < 2 ^ 64
-  pub place : c.moved s.pc ≡ address_at p o
-  pub next : c.moved (s.pc + 4) ≡ address_at p (o + 4)
-
 -- A `lui` of a number of 12 bits, or of an offset from the thread pointer of 12 bits, is a group,
 -- of which new has nothing.
 abbrev pub LuiIsLeftOut : RiscVRelocation → (Operands → Type 0) → Type 0
 LuiIsLeftOut name IsLow =
     (p : Packed) → IsPacked p → p.machine ≡ RiscV64 → (o : ℕ) → HasWord p.section.bytes o IsLui
     → AreDeleted p o 4 → (x : Operands) → IsLow x → (c : Code) (k : Kinds) (s : State)
-    → IsBefore p o c s → Has 4 c.old s.pc (riscv_row name) x (drop o p.section.bytes)
+    → IsBefore p o c.moved s.pc → Has 4 c.old s.pc (riscv_row name) x (drop o p.section.bytes)
     → IsLeftOut c k s (rd_of (word_at p.section.bytes o)) 0
 
 -- So is an `add` of the thread pointer to a register with 0.
 abbrev pub SumIsLeftOut : Type 0
 SumIsLeftOut =
     (p : Packed) → IsPacked p → p.machine ≡ RiscV64 → (o : ℕ) → HasWord p.section.bytes o IsAddTp
-    → AreDeleted p o 4 → (c : Code) (k : Kinds) (s : State) → IsBefore p o c s
+    → AreDeleted p o 4 → (c : Code) (k : Kinds) (s : State) → IsBefore p o c.moved s.pc
     → register (seen s) (rs1_of (word_at p.section.bytes o)) ≡ 0 → s.registers tp < 2 ^ 64
     → Stands 4 c.old s.pc (drop o p.section.bytes)
     → IsLeftOut c k s (rd_of (word_at p.section.bytes o)) (s.registers tp)

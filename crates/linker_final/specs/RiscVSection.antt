@@ -9,15 +9,13 @@ use Rattle.linker_final.specs.Imports.{Rewritten, RewrittenWithSymbol, Subject, 
 use Rattle.linker_final.specs.Imports.{RiscV64, relocation_in, operands_with, Addresses, Symbol}
 use Rattle.linker_final.specs.Imports.{Relaxation, riscv_scope_in, Grouped}
 use Rattle.linker_elf.specs.declared.riscv64.relocations.RiscVRelocation.TheVariants as names
-use Rattle.linker_final.specs.Final.{AreRewritten, IsLinked, IsRewrittenByNoOther}
-use Rattle.linker_final.specs.Final.{IsWrittenByNoOther, Linked, UntouchedInstruction, count}
-use Rattle.linker_final.specs.Final.{instruction_at}
+use Rattle.linker_final.specs.Final.{AreRewritten, IsLinked, Linked, count, instruction_at}
+use Rattle.linker_final.specs.Final.{IsRewrittenByNoOther, IsWrittenByNoOther, UntouchedInstruction}
 use Rattle.linker_final.specs.Joined.{IsKeptInstruction, IsRewrittenAndPacked, final_instruction}
 use Rattle.linker_final.specs.Packed.{IsUnwritten, Packed, StayTogether, place_of}
-use Rattle.linker_final.specs.RiscVFinal.{AddressIsAlike, AreOfPair, HighPartGoes, IsAddiOfLoad}
-use Rattle.linker_final.specs.RiscVFinal.{IsDeleted, IsLuiOfLoad, IsNop, IsOfDescriptor}
-use Rattle.linker_final.specs.RiscVFinal.{LoadIsAlike, LowPartIsAlike, OffsetIsAlike, SumGoes}
-use Rattle.linker_final.specs.RiscVFinal.{named_as}
+use Rattle.linker_final.specs.RiscVFinal.{AddressIsAlike, AreOfPair, IsOfDescriptor, LowPartIsAlike}
+use Rattle.linker_final.specs.RiscVFinal.{HighPartGoes, IsAddiOfLoad, IsLuiOfLoad, OffsetIsAlike}
+use Rattle.linker_final.specs.RiscVFinal.{IsDeleted, IsNop, LoadIsAlike, SumGoes, named_as}
 use Rattle.linker_final.specs.SectionRuns.{IsBesideAll, Rewriting, Section, offset_of}
 use Rattle.linker_rewriting.specs.declared.groups.Scope.{Scope}
 use Rattle.linker_utils.specs.declared.architecture.Relaxation.TheVariants as relaxations

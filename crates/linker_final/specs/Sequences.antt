@@ -3,9 +3,8 @@
 use Rattle.std.specs.Prelude.{ℕ, ◌+◌, ◌*◌, ◌++◌, ℤ, pos, false}
 use Rattle.std.specs.Int.{w64, to_le_bytes}
 use Rattle.std.specs.Option.{unwrap_or}
-use Rattle.linker_final.specs.Imports.{field, riscv_form, Add, Operands, UiType}
-use Rattle.linker_final.specs.Imports.{upper_and_lower_value, five_instructions, without_bit_0}
-use Rattle.linker_final.specs.Imports.{zero}
+use Rattle.linker_final.specs.Imports.{field, riscv_form, Operands, UiType, zero}
+use Rattle.linker_final.specs.Imports.{Add, upper_and_lower_value, five_instructions, without_bit_0}
 use Rattle.linker_utils.specs.AArch64Rewrites.{moved4, rd_of}
 use Rattle.linker_elf.specs.Ppc64.{pair}
 use Rattle.linker_laws.specs.AArch64RelocationLaws.{page_and_offset}

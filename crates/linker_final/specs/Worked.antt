@@ -1,6 +1,5 @@
 -- Programs that the calls link: words of which every premise of the laws of runs holds.
-use Rattle.std.specs.Prelude.{◌≡◌, ℕ, zero, suc, ◌+◌, ◌/◌, List, [], ◌∷◌, length, false}
-use Rattle.std.specs.Prelude.{replicate}
+use Rattle.std.specs.Prelude.{◌≡◌, ℕ, zero, suc, ◌+◌, ◌/◌, List, [], ◌∷◌, length, false, replicate}
 use Rattle.linker_final.specs.Imports.{Architecture, RiscV, put, with_register, Kinds, State, half}
 use Rattle.linker_final.specs.Imports.{same, RelaxContext, Decision, UnrelaxableGroups, Phase}
 use Rattle.linker_final.specs.Imports.{IsRelaxation, deletions_of_run, AreMoved, IsPackedRun}

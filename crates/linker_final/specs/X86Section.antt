@@ -1,8 +1,7 @@
 -- x86-64: what the rewrites of a section are, and where they begin in a run of old (x86-64 psABI,
 -- "Optimize GOTPCRELX Relocations" and "ELF Handling For Thread-Local Storage").
-use Rattle.std.specs.Prelude.{◌≡◌, ℕ, ◌+◌, ◌-◌, ◌^◌, ◌<◌, ◌≤◌, false, ⊤}
-use Rattle.std.specs.Prelude.{List, get_or, length, take, drop, ◌++◌, Option, Some, None, IsSomeAnd}
-use Rattle.std.specs.Prelude.{slice_get}
+use Rattle.std.specs.Prelude.{◌≡◌, ℕ, ◌+◌, ◌-◌, ◌^◌, ◌<◌, ◌≤◌, false, ⊤, List, get_or, length, take}
+use Rattle.std.specs.Prelude.{drop, ◌++◌, Option, Some, None, IsSomeAnd, slice_get}
 use Rattle.linker_final.specs.Imports.{IsRow, IsNameOf, difference_64, sum_64, RelocationKindInfo}
 use Rattle.linker_final.specs.Imports.{Choice, Operands, AreAddresses, Group, Kinds, State, of_link}
 use Rattle.linker_final.specs.Imports.{decision_at, Rewritten, relocation_in, operands_with}
