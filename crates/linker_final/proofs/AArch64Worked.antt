@@ -230,9 +230,6 @@ module _ (p q : RewritingPhase) (relocations_last last final : List ℕ) (symbol
   new_l : IsNew l halves
   new_l = record { linked = linked_l; aarch64 = is_p.architecture_is; final = has_final }
 
-  new_m : IsNew m halves
-  new_m = record { linked = linked_m; aarch64 = is_q.architecture_is; final = has_final }
-
   -- ---- the first phase
 
   there : (i : ℕ) → relocation_in l.relocations i ≡ relocation i
