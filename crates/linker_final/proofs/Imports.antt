@@ -65,8 +65,6 @@ pub use Rattle.linker_laws.specs.Changes.{put, with_register}
 pub use Rattle.linker_laws.specs.LoongArchRewriteLaws.{BeginsRewritten, Fits32, IsRelocated, IsRewritten, pair}
 pub use Rattle.linker_laws.specs.Machine.{Relocated, loaded, moved, wrapped}
 pub use Rattle.linker_laws.specs.RiscVGroups.{CallStays, Groups}
-pub use Rattle.linker_laws.specs.RiscVMachine.{Action, action_of, register}
-pub use Rattle.linker_laws.specs.RiscVRelocationLaws.{AbsoluteAddresses, RelativeAddresses, even}
 pub use Rattle.linker_laws.specs.RiscVRewriteLaws.{IsLow12, IsLowOffset, action_at, after_rewrite, offset_row}
 pub use Rattle.linker_laws.specs.Schemes.{AreAddresses, IsAddress, entry_and_addend, plt_address, symbol_address}
 pub use Rattle.linker_laws.specs.Simulation.{Comparison, Group, Kinds, Next, Simulates, State, anything, by_group, half, of_link, same, uncovered}
@@ -91,7 +89,6 @@ pub use Rattle.linker_rewriting.specs.declared.groups.Scope.TheVariants.{Grouped
 pub use Rattle.linker_rewriting.specs.declared.groups.Scope.{Scope}
 pub use Rattle.linker_rewriting.specs.declared.groups.UnrelaxableGroups.{UnrelaxableGroups}
 pub use Rattle.linker_rewriting.specs.declared.phases.Phase.{Phase}
-pub use Rattle.linker_riscv64.specs.RiscVCalls.{IsCallPair, word_at}
 pub use Rattle.linker_riscv64.specs.RiscVFields.{funct3_of, opcode_of}
 pub use Rattle.linker_runs.specs.Deleting.{deletions_of_run}
 pub use Rattle.linker_runs.specs.LoongArchSites.{IsBranch, IsCall36At, IsFarCall, IsPcaddi, IsPcalaAt, LoongArchBecomes, destination}

@@ -1,6 +1,7 @@
 -- Low parts of RISC-V that became ones over the thread pointer are groups, and what is deleted
 -- before them.
-use Rattle.linker_final.proofs.Imports.{◌≡◌, ℕ, List, [], ◌∷◌, refl, sym, ap, subst, ◌∙◌, arith, Option, IsSomeAnd, IsTrue, entry, r_type_of, HasWord, pair_row, riscv_name, TpOff, IType, RiscVRelocation, Action, Groups, funct3_of, opcode_of, HasPattern, IsLui, adds_low12, by_low_offset, riscv_entries, riscv_matches, Rewritten, relocation_in, RiscV, SType, AreRewritten, Linked, instruction_at, HighPartGoes, IsDeleted, SumGoes, action_of, action_at, offset_row, deleted_of, relaxation_deleted}
+use Rattle.linker_final.proofs.Imports.{◌≡◌, ℕ, List, [], ◌∷◌, refl, sym, ap, subst, ◌∙◌, arith, Option, IsSomeAnd, IsTrue, entry, r_type_of, HasWord, pair_row, riscv_name, TpOff, IType, RiscVRelocation, Groups, funct3_of, opcode_of, HasPattern, IsLui, adds_low12, by_low_offset, riscv_entries, riscv_matches, Rewritten, relocation_in, RiscV, SType, AreRewritten, Linked, instruction_at, HighPartGoes, IsDeleted, SumGoes, action_at, offset_row, deleted_of, relaxation_deleted}
+use Rattle.linker_laws.specs.RiscVMachine.{Action, action_of}
 use Rattle.linker_elf.specs.declared.riscv64.relocations.RiscVRelocation.TheVariants as names
 use Rattle.linker_final.proofs.Written.{mapped, word_same}
 use Rattle.linker_final.proofs.InstructionFields.{of_bits}

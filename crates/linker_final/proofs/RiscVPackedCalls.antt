@@ -1,5 +1,7 @@
 -- RISC-V: where calls go in the final bytes of a packed section.
-use Rattle.linker_final.proofs.Imports.{◌≡◌, ◌≢◌, ℕ, ◌+◌, ◌-◌, ◌%◌, ◌^◌, ◌<◌, ◌≤◌, inl, inr, List, length, take, drop, refl, sym, ap, subst, ◌∙◌, arith, Some, Ok, IsSomeAnd, drop-drop, All-drop, All-take, w32, from_le_bytes, riscv_relocation, IsApplied, value_of, Operands, RiscVRelocation, Groups, AreAddresses, plt_address, word_at, SiteBecomes, Site, relocation_in, offset_at, operands_with, IsRow, RiscV, take_all, AreBytes, architecture_of, place_of, site_bytes, site_len, site_offset, site_place, site_target, CallStays, even, IsCallPair}
+use Rattle.linker_final.proofs.Imports.{◌≡◌, ◌≢◌, ℕ, ◌+◌, ◌-◌, ◌%◌, ◌^◌, ◌<◌, ◌≤◌, inl, inr, List, length, take, drop, refl, sym, ap, subst, ◌∙◌, arith, Some, Ok, IsSomeAnd, drop-drop, All-drop, All-take, w32, from_le_bytes, riscv_relocation, IsApplied, value_of, Operands, RiscVRelocation, Groups, AreAddresses, plt_address, SiteBecomes, Site, relocation_in, offset_at, operands_with, IsRow, RiscV, take_all, AreBytes, architecture_of, place_of, site_bytes, site_len, site_offset, site_place, site_target, CallStays}
+use Rattle.linker_riscv64.specs.RiscVCalls.{word_at, IsCallPair}
+use Rattle.linker_laws.specs.RiscVRelocationLaws.{even}
 use Rattle.linker_elf.specs.declared.riscv64.relocations.RiscVRelocation.TheVariants as names
 use Rattle.linker_final.proofs.InstructionFields.{some_value}
 use Rattle.linker_final.proofs.PackedBytes.{stay_inside, places_inside}
