@@ -1,9 +1,9 @@
 -- Instructions that were rewritten, and stay in a section that was packed then.
-use Rattle.linker_final.proofs.Imports.{◌≡◌, ℕ, ℤ, ◌+◌, ◌/◌, ◌<◌, length, sym, ap, subst, ◌∙◌, arith, Ok, Some, ◌≤◌, slice_get, IsApplied, RelocationKindInfo, Operands, entry_of, relocation_in, entry_address, offset_at, operands_by, operands_in, operands_with, Symbol, Rela, IsRow, UntouchedInstruction, UntouchedBytes, Linked, count, instruction_at, IsRewrittenAndPacked, IsKeptInstruction, IsUnwritten, Packed, StayTogether, architecture_of, place_of}
+use Rattle.linker_final.proofs.Imports.{◌≡◌, ℕ, ℤ, ◌+◌, ◌/◌, ◌<◌, length, sym, ap, subst, ◌∙◌, arith, Ok, Some, ◌≤◌, slice_get, IsApplied, RelocationKindInfo, Operands, relocation_in, offset_at, operands_in, operands_with, Symbol, Rela, IsRow, UntouchedInstruction, UntouchedBytes, Linked, count, instruction_at, IsRewrittenAndPacked, IsKeptInstruction, IsUnwritten, Packed, StayTogether, architecture_of, place_of, Architecture, value_of, operands_of}
 use Rattle.linker_final.proofs.InstructionFields.{IsOfInstruction, applied}
 use Rattle.linker_final.proofs.PackedBytes.{packed_there, places_inside, same_there, stay_inside}
 use Rattle.linker_final.proofs.Phases.{later_as_many, later_bytes, later_keep, later_length}
-use Rattle.linker_final.proofs.Written.{rela}
+use Rattle.linker_final.proofs.Written.{rela, with_operands}
 use Rattle.linker_final.specs.Packed as packed
 
 -- an instruction that stays, in which no relocation has a field
@@ -78,16 +78,17 @@ module _ (l : Linked) (p : Packed) (joined : IsRewrittenAndPacked l p) (i : ℕ)
 
   -- so is the value of its own symbol
   pub own_there : (row : RelocationKindInfo) (of : IsOfInstruction 4 row)
-      → IsRow (architecture_of p.machine) after.r_type (Some row) → (here : Symbol) (got : ℕ)
-      → operands_by (architecture_of p.machine) p.addresses row after here
-      (entry_address p.addresses here (entry_of row after.addend here.is_thread_local))
-      ≡ Ok (operands_with (architecture_of p.machine) p.addresses row here after got)
-      → slice_get p.symbols after.symbol ≡ Some here
-      → IsApplied row (operands_with (architecture_of p.machine) p.addresses row here after got)
-      (instruction_at l.rewritten o) (instruction_at p.final (place_of p o))
-  own_there row of is_row here got entry_is is_here =
-      let y = operands_with (architecture_of p.machine) p.addresses row here after got in
-      kept_there row y
+      → IsRow (architecture_of p.machine) after.r_type (Some row)
+      → (architecture : Architecture) → architecture_of p.machine ≡ architecture → (here : Symbol) (got : ℕ)
+      → operands_in architecture p.addresses row after (Some here) ≡ Ok (operands_with architecture p.addresses row here after got)
+      → slice_get p.symbols after.symbol ≡ Some here → (y : Operands)
+      → value_of row y ≡ value_of row (operands_with architecture p.addresses row here after got)
+      → IsApplied row y (instruction_at l.rewritten o) (instruction_at p.final (place_of p o))
+  own_there row of is_row architecture is here got taken is_here y same =
+      let mine = operands_with architecture p.addresses row here after got in
+      with_operands row mine y _ _ same
+      (kept_there row mine
       (applied (architecture_of p.machine) p.addresses p.relocations_after p.symbols p.packed p.final joined.packed.written
-      i within 4 (omega arith) row of is_row y
-      (ap (operands_in (architecture_of p.machine) p.addresses row after) is_here ∙ entry_is))
+      i within 4 (omega arith) row of is_row mine
+      (subst (λ a. operands_of a p.addresses p.symbols row after ≡ Ok mine) (sym is)
+      (ap (operands_in architecture p.addresses row after) is_here ∙ taken))))

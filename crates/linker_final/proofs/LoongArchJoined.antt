@@ -1,10 +1,10 @@
 -- LoongArch: what a rewrite left of an instruction is in the final bytes, also of a section that
 -- was packed then.
-use Rattle.linker_final.proofs.Imports.{◌≡◌, ◌<◌, ℕ, List, sym, ap, subst, Some, Ok, IsSomeAnd, slice_get, IsApplied, IsRow, r_type_of, loongarch_name, value_of, LoongArch64, Operands, LoongArch64Relocation, IsRelocated, entry_of, relocation_in, entry_address, operands_by, operands_in, operands_with, Symbol, Rela, IsLinked, Linked, UntouchedInstruction, count, instruction_at, IsKeptInstruction, IsRewrittenAndPacked, final_instruction, Packed, architecture_of}
+use Rattle.linker_final.proofs.Imports.{◌≡◌, ◌<◌, ℕ, List, sym, ap, subst, Some, Ok, IsSomeAnd, slice_get, IsRow, r_type_of, loongarch_name, value_of, LoongArch64, Operands, LoongArch64Relocation, IsRelocated, relocation_in, operands_in, operands_with, Symbol, Rela, IsLinked, Linked, UntouchedInstruction, count, instruction_at, IsKeptInstruction, IsRewrittenAndPacked, final_instruction, Packed, architecture_of}
 use Rattle.linker_final.proofs.Joined.{r_type_is, own_there, unwritten_there, within}
 use Rattle.linker_final.proofs.LoongArchAlone.{IsWritable}
 use Rattle.linker_final.proofs.LoongArchWritten.{IsAfter, as_named, relocated_there, row_of, unwritten_nop}
-use Rattle.linker_final.proofs.Written.{IsRowOf, row_in, with_operands}
+use Rattle.linker_final.proofs.Written.{IsRowOf, row_in}
 use Rattle.linker_final.specs.LoongArchSection.{AreOf, IsFinal, IsKept, IsLeft, IsMade, IsNew, Left, anywhere, applied, entry_by, final, named_as, none, packed, without_law}
 use Rattle.linker_final.specs.SectionRuns.{offset_of}
 use Rattle.linker_runs.specs.declared.packing.Machine.TheVariants.{LoongArch64 as loongarch64}
@@ -43,17 +43,8 @@ module _ (l : Linked) (p : Packed) (joined : IsRewrittenAndPacked l p) (loongarc
       → value_of a.row y ≡ value_of a.row (operands_with LoongArch64 p.addresses a.row symbol after got)
       → IsRelocated name y (instruction_at l.rewritten r.offset) (final_instruction p r.offset)
   relocated_kept symbol got taken is_symbol y same =
-      let before = instruction_at l.rewritten r.offset in
-      let final = final_instruction p r.offset in
-      let own : IsApplied a.row (operands_with LoongArch64 p.addresses a.row symbol after got) before final =
-      subst (λ x. IsApplied a.row (operands_with x p.addresses a.row symbol after got) before final) is
-      (own_there l p joined i below code r.symbol r.addend after_is kept left a.row a.of row_is symbol got
-      (subst (λ x. operands_by x p.addresses a.row after symbol
-      (entry_address p.addresses symbol (entry_of a.row after.addend symbol.is_thread_local))
-      ≡ Ok (operands_with x p.addresses a.row symbol after got)) (sym is) taken)
-      is_symbol) in
-      as_named name a y before final
-      (with_operands a.row (operands_with LoongArch64 p.addresses a.row symbol after got) y before final same own)
+      as_named name a y (instruction_at l.rewritten r.offset) (final_instruction p r.offset)
+      (own_there l p joined i below code r.symbol r.addend after_is kept left a.row a.of row_is LoongArch64 is symbol got taken is_symbol y same)
 
 -- ---- what new has
 
