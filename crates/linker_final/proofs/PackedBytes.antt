@@ -1,6 +1,6 @@
 -- The final bytes of a packed section: those that stay, padding, and where each is.
-use Rattle.linker_final.proofs.Imports.{◌≡◌, ℕ, zero, suc, ◌+◌, ◌-◌, ◌^◌, ◌<◌, ◌≤◌, List, [], ◌∷◌, length, map, take, drop, get_or, false, refl, sym, ap, subst, ◌∙◌, inl, inr, arith, cases_lt, cases_Bool, ext_get_or, All-from_get_or, IsTrue, rank-mono, rank, sum_64, ItemBecomes, is_fixed, kept_len, packed_offset, offset_of, end_of, Item, Aligned, rank_kept, rank_gone, rank_all_kept, selected_once, is_kept, AreBytes, Packed, AreDeleted, address_at, IsPacked, Stays, StayTogether, IsUnwritten, place_of, KeptBytesStay, PaddingIsNops, DeletedBytesAreGone, ItemsAreDeleted, PlacesHaveAddresses}
-use Rattle.linker_final.proofs.PutBack.{same_windows, window_byte, window_length}
+use Rattle.linker_final.proofs.Imports.{◌≡◌, ℕ, zero, suc, ◌+◌, ◌-◌, ◌^◌, ◌<◌, ◌≤◌, List, [], ◌∷◌, length, map, take, drop, get_or, false, refl, sym, ap, subst, ◌∙◌, inl, inr, arith, cases_lt, cases_Bool, All-from_get_or, IsTrue, rank-mono, rank, sum_64, ItemBecomes, is_fixed, kept_len, packed_offset, offset_of, end_of, Item, Aligned, rank_kept, rank_gone, rank_all_kept, selected_once, is_kept, AreBytes, Packed, AreDeleted, address_at, IsPacked, Stays, StayTogether, IsUnwritten, place_of, KeptBytesStay, PaddingIsNops, DeletedBytesAreGone, ItemsAreDeleted, PlacesHaveAddresses}
+use Rattle.linker_final.proofs.PutBack.{same_windows, window_length, windows}
 use Rattle.linker_runs.specs.Packing.{Section, IsInside, nops}
 
 -- ---- lists
@@ -94,17 +94,8 @@ module _ (p : Packed) (is : IsPacked p) (o n : ℕ) (some : 0 < n) (stay : StayT
   same_there =
       let lx = window_length (place_of p o) n p.packed places_inside in
       let ly = window_length o n p.section.bytes stay_inside in
-      ext_get_or 0 (take n (drop (place_of p o) p.packed)) (take n (drop o p.section.bytes)) (omega (arith, lx, ly))
-      (λ k below.
-      let less : k < n = omega (arith, below, lx) in
-      let back : place_of p o + k - place_of p o ≡ k = omega arith in
-      let back' : o + k - o ≡ k = omega arith in
-      ap (λ m. get_or (take n (drop (place_of p o) p.packed)) m 0) (sym back)
-      ∙ (window_byte (place_of p o) n (place_of p o + k) p.packed (omega arith) (omega (arith, less))
-      ∙ (ap (λ m. get_or p.packed m 0) (sym (next_place k less))
-      ∙ (packed_byte p is (o + k) (stay k less)
-      ∙ (sym (window_byte o n (o + k) p.section.bytes (omega arith) (omega (arith, less)))
-      ∙ ap (λ m. get_or (take n (drop o p.section.bytes)) m 0) back')))))
+      windows (place_of p o) o n p.packed p.section.bytes (omega (arith, lx, ly))
+      (λ k less. ap (λ m. get_or p.packed m 0) (sym (next_place k less)) ∙ packed_byte p is (o + k) (stay k less))
 
 -- ---- padding
 

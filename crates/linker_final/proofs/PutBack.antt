@@ -54,6 +54,17 @@ back_outside start len others bytes inside same at outside =
     outside_window (put_back_is start len others bytes inside same) at outside
 
 -- two windows are the same if each byte is
+pub windows : (a b len : ℕ) (xs ys : List ℕ) → length (take len (drop a xs)) ≡ length (take len (drop b ys))
+    → ((k : ℕ) → k < len → get_or xs (a + k) 0 ≡ get_or ys (b + k) 0) → take len (drop a xs) ≡ take len (drop b ys)
+windows a b len xs ys long each =
+    ext_get_or 0 (take len (drop a xs)) (take len (drop b ys)) long
+    (λ k below.
+    let lx = length-take len (drop a xs) in
+    let within : k < len = omega (arith, below, lx) in
+    get_or-take len (drop a xs) k 0 within
+    ∙ (get_or-drop a xs k 0
+    ∙ (each k within ∙ (sym (get_or-drop b ys k 0) ∙ sym (get_or-take len (drop b ys) k 0 within)))))
+
 pub same_windows : (start len : ℕ) (xs ys : List ℕ) → length ys ≡ length xs
     → ((at : ℕ) → start ≤ at → at < start + len → get_or xs at 0 ≡ get_or ys at 0)
     → take len (drop start xs) ≡ take len (drop start ys)
@@ -62,13 +73,8 @@ same_windows start len xs ys same each =
     let ly = length-take len (drop start ys) in
     let dx = length-drop start xs in
     let dy = length-drop start ys in
-    ext_get_or 0 (take len (drop start xs)) (take len (drop start ys)) (omega (arith, lx, ly, dx, dy, same))
-    (λ i below.
-    let within : i < len = omega (arith, below, lx) in
-    get_or-take len (drop start xs) i 0 within
-    ∙ (get_or-drop start xs i 0
-    ∙ (each (start + i) (omega arith) (omega (arith, within))
-    ∙ (sym (get_or-drop start ys i 0) ∙ sym (get_or-take len (drop start ys) i 0 within)))))
+    windows start start len xs ys (omega (arith, lx, ly, dx, dy, same))
+    (λ k within. each (start + k) (omega arith) (omega (arith, within)))
 
 -- ---- a rewrite of a window in bytes that were put back
 
