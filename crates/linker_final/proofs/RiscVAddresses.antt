@@ -36,7 +36,7 @@ module _ (groups : Groups) (l : Linked) (rewriting : AreRewritten l) (riscv : l.
 
   pub lui : IsLuiOfLoad l high → MadePart l names.R_RISCV_HI20 high high kinds.AuipcToLui (instruction_at l.section o)
   lui of =
-      let one = becomes_of l rewriting riscv high (Rewritten of.chosen) of.chosen of.below of.decided refl names.R_RISCV_GOT_HI20 tt of.name_is
+      let one = becomes_of l rewriting riscv high (Rewritten of.chosen) of.chosen of.below of.decided refl names.R_RISCV_GOT_HI20 tt of.is_name
       names.R_RISCV_HI20 kinds.AuipcToLui of.kind_is (inl (λ e. cc), (inl (λ e. cc), (inr (refl, λ section o is. is.0), tt))) in
       part_alone l rewriting kinds.AuipcToLui (of_destination 0x37) refl high of.chosen of.below of.decided of.kind_is
       names.R_RISCV_HI20 one.r_type_is one.inside

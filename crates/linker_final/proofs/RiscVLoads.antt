@@ -42,34 +42,34 @@ module _ (groups : Groups) (l : Linked) (rewriting : AreRewritten l) (riscv : l.
   abbrev o : ℕ
   o = offset_of l i
 
-  high_entry : IsOfEntry names.R_RISCV_GOT_HI20 (entry kinds.NoOp names.R_RISCV_PCREL_HI20 (without_got [])) l.section o of.high_chosen
+  high_entry : IsOfEntry names.R_RISCV_GOT_HI20 (entry kinds.NoOp names.R_RISCV_PCREL_HI20 (without_got [])) l.section o of.first.chosen
   high_entry =
-      high_of l.section o of.high_chosen of.high_becomes
-      (of_some l rewriting riscv i (Rewritten of.high_chosen) of.high_chosen of.first_below of.high_decided refl names.R_RISCV_GOT_HI20 tt of.high)
+      high_of l.section o of.first.chosen of.high_becomes
+      (of_some l rewriting riscv i (Rewritten of.first.chosen) of.first.chosen of.first.below of.first.decided refl names.R_RISCV_GOT_HI20 tt of.first.is_name)
 
-  low_entry : IsOfEntry names.R_RISCV_PCREL_LO12_I (entry kinds.LdToAddi names.R_RISCV_PCREL_LO12_I (without_got (got_high_part ∷ []))) l.section (offset_of l j) of.low_chosen
+  low_entry : IsOfEntry names.R_RISCV_PCREL_LO12_I (entry kinds.LdToAddi names.R_RISCV_PCREL_LO12_I (without_got (got_high_part ∷ []))) l.section (offset_of l j) of.second.chosen
   low_entry =
-      low_of l.section (offset_of l j) of.low_chosen of.low_becomes
-      (of_some l rewriting riscv j (Rewritten of.low_chosen) of.low_chosen of.second_below of.low_decided refl names.R_RISCV_PCREL_LO12_I tt of.low)
+      low_of l.section (offset_of l j) of.second.chosen of.low_becomes
+      (of_some l rewriting riscv j (Rewritten of.second.chosen) of.second.chosen of.second.below of.second.decided refl names.R_RISCV_PCREL_LO12_I tt of.second.is_name)
 
   -- the `auipc` stays
   auipc_there : instruction_at l.rewritten o ≡ instruction_at l.section o
   auipc_there =
-      stays l rewriting i of.high_chosen of.first_below of.high_decided (ap relaxation_rewrite high_entry.kind_is) alone
+      stays l rewriting i of.first.chosen of.first.below of.first.decided (ap relaxation_rewrite high_entry.kind_is) alone
 
   pub high : IsPart l names.R_RISCV_PCREL_HI20 i i
   high =
       record {
-        below = of.first_below;
-        left = rewritten_after l rewriting i of.high_chosen of.first_below kinds.NoOp names.R_RISCV_PCREL_HI20
-            high_entry.kind_is high_entry.r_type_is (λ o. refl) (λ a. refl) of.high_decided;
+        below = of.first.below;
+        left = rewritten_after l rewriting i of.first.chosen of.first.below kinds.NoOp names.R_RISCV_PCREL_HI20
+            high_entry.kind_is high_entry.r_type_is (λ o. refl) (λ a. refl) of.first.decided;
         inside = high_entry.meant.0;
         bytes = λ linked. subst AreBytes (sym auipc_there) (bytes_there l.section o linked.section_bytes);
       }
 
   pub low : MadePart l names.R_RISCV_PCREL_LO12_I j j kinds.LdToAddi (instruction_at l.section (offset_of l j))
   low =
-      part_alone l rewriting kinds.LdToAddi load_to_addi refl j of.low_chosen of.second_below of.low_decided
+      part_alone l rewriting kinds.LdToAddi load_to_addi refl j of.second.chosen of.second.below of.second.decided
       low_entry.kind_is names.R_RISCV_PCREL_LO12_I low_entry.r_type_is (low_entry.meant.0)
 
   pub loads : (new : New l) → law l i (load j of alone) new

@@ -8,7 +8,8 @@ use Rattle.linker_final.proofs.InstructionFields.{of_bits}
 use Rattle.linker_final.proofs.RiscVChosen.{IsOfEntry, of_entry}
 use Rattle.linker_final.proofs.RiscVParts.{MadePart, has_own, part_alone}
 use Rattle.linker_final.proofs.RiscVWritten.{IsOwn, long_there, own_row}
-use Rattle.linker_final.specs.RiscVSection.{IsRewrittenOf, New, low_law}
+use Rattle.linker_final.specs.RiscVFinal.{IsRewrittenOf}
+use Rattle.linker_final.specs.RiscVSection.{New, low_law}
 use Rattle.linker_final.specs.SectionRuns.{offset_of}
 use Rattle.linker_laws.specs.RiscVGroups.{Has}
 use Rattle.linker_utils.specs.RiscVRewrites.{IsAddTp, tp, with_rs1}

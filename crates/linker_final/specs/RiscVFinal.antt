@@ -24,22 +24,23 @@ use Rattle.linker_utils.specs.declared.riscv64.rewrites.RewriteKind.{RewriteKind
 use Rattle.linker_utils.specs.declared.riscv64.rewrites.RewriteKind.TheVariants as kinds
 use Rattle.linker_utils.specs.declared.architecture.Relaxation.TheVariants as relaxations
 
+-- the relocation at an index has a name, and its instruction is rewritten
+pub record IsRewrittenOf (l : Linked) (name : RiscVRelocation) (i : ℕ) : Type 0 where
+  pub below : i < count l
+  pub is_name : IsNameOf riscv_name (relocation_in l.relocations i).r_type name
+  pub chosen : Choice Relaxation ℕ
+  pub decided : decision_at l.decisions i ≡ Rewritten chosen
+
 -- ---- loads of addresses from the GOT
 
 -- The relocations at two indexes are those of an `auipc` and of the `ld` after it, and both are
 -- rewritten to those of the distance.
 pub record AreOfPair (l : Linked) (i j : ℕ) : Type 0 where
-  pub first_below : i < count l
-  pub second_below : j < count l
+  pub first : IsRewrittenOf l names.R_RISCV_GOT_HI20 i
+  pub second : IsRewrittenOf l names.R_RISCV_PCREL_LO12_I j
   pub next : (relocation_in l.relocations j).offset ≡ (relocation_in l.relocations i).offset + 4
-  pub high : IsNameOf riscv_name (relocation_in l.relocations i).r_type names.R_RISCV_GOT_HI20
-  pub low : IsNameOf riscv_name (relocation_in l.relocations j).r_type names.R_RISCV_PCREL_LO12_I
-  pub high_chosen : Choice Relaxation ℕ
-  pub high_decided : decision_at l.decisions i ≡ Rewritten high_chosen
-  pub high_becomes : high_chosen.relocation ≡ r_type_of (riscv_name names.R_RISCV_PCREL_HI20)
-  pub low_chosen : Choice Relaxation ℕ
-  pub low_decided : decision_at l.decisions j ≡ Rewritten low_chosen
-  pub low_becomes : low_chosen.relocation ≡ r_type_of (riscv_name names.R_RISCV_PCREL_LO12_I)
+  pub high_becomes : first.chosen.relocation ≡ r_type_of (riscv_name names.R_RISCV_PCREL_HI20)
+  pub low_becomes : second.chosen.relocation ≡ r_type_of (riscv_name names.R_RISCV_PCREL_LO12_I)
 
 -- The pair is a group, with what new has. The entry holds S + A, and both addresses are of a kind.
 abbrev pub LoadIsAlike : Linked → ℕ → (Operands → Code → Type 0) → Type 0
@@ -150,11 +151,9 @@ named_as name r subject =
 
 -- The relocation at an index is that of an `auipc`, which became a `lui`.
 pub record IsLuiOfLoad (l : Linked) (high : ℕ) : Type 0 where
-  pub below : high < count l
-  pub name_is : IsNameOf riscv_name (relocation_in l.relocations high).r_type names.R_RISCV_GOT_HI20
-  pub chosen : Choice Relaxation ℕ
-  pub decided : decision_at l.decisions high ≡ Rewritten chosen
-  pub kind_is : chosen.kind ≡ relaxations.RiscV kinds.AuipcToLui
+  pub of : IsRewrittenOf l names.R_RISCV_GOT_HI20 high
+  pub open of use *
+  pub kind_is : of.chosen.kind ≡ relaxations.RiscV kinds.AuipcToLui
 
 -- The one at another index is that of the `ld` after it, which became an `addi` of the address.
 pub record IsAddiOfLoad (l : Linked) (high low : ℕ) : Type 0 where

@@ -13,6 +13,7 @@ use Rattle.linker_final.specs.Final.{AreRewritten, IsLinked, Linked, count, inst
 use Rattle.linker_final.specs.Final.{IsRewrittenByNoOther, IsWrittenByNoOther, UntouchedInstruction}
 use Rattle.linker_final.specs.Joined.{IsKeptInstruction, IsRewrittenAndPacked, final_instruction}
 use Rattle.linker_final.specs.Packed.{IsUnwritten, Packed, StayTogether, place_of}
+use Rattle.linker_final.specs.RiscVFinal.{IsRewrittenOf}
 use Rattle.linker_final.specs.RiscVFinal.{AddressIsAlike, AreOfPair, IsOfDescriptor, LowPartIsAlike}
 use Rattle.linker_final.specs.RiscVFinal.{HighPartGoes, IsAddiOfLoad, IsLuiOfLoad, OffsetIsAlike}
 use Rattle.linker_final.specs.RiscVFinal.{IsDeleted, IsNop, LoadIsAlike, SumGoes, named_as}
@@ -22,13 +23,6 @@ use Rattle.linker_utils.specs.declared.architecture.Relaxation.TheVariants as re
 use Rattle.linker_utils.specs.declared.riscv64.rewrites.RewriteKind.TheVariants as kinds
 
 -- ---- what is rewritten
-
--- the relocation at an index has a name, and its instruction is rewritten
-pub record IsRewrittenOf (l : Linked) (name : RiscVRelocation) (i : ℕ) : Type 0 where
-  pub below : i < count l
-  pub is_name : IsNameOf riscv_name (relocation_in l.relocations i).r_type name
-  pub chosen : Choice Relaxation ℕ
-  pub decided : decision_at l.decisions i ≡ Rewritten chosen
 
 -- what becomes of an instruction by the scope of its name
 abbrev pub Changes : Scope → Decision → Type 0
