@@ -1,5 +1,5 @@
 -- What phases leave alone is the same after them.
-use Rattle.linker_final.proofs.Imports.{◌≡◌, ℕ, ◌+◌, ◌-◌, ◌/◌, ◌<◌, ◌≤◌, List, [], ◌∷◌, length, take, drop, get_or, sym, ap, subst, ◌∙◌, arith, relocation_after, relocation_in, All-head, All-tail, All-weaker, All, ArePhases, UntouchedBytes, IsLinked, Keeps, UntouchedInPhase, UntouchedBytesAreTheSame, Linked, RewritesNone, RewritingPhase, count, count_of}
+use Rattle.linker_final.proofs.Imports.{◌≡◌, ℕ, ◌+◌, ◌/◌, ◌<◌, ◌≤◌, List, [], ◌∷◌, length, take, drop, get_or, sym, ap, subst, ◌∙◌, arith, relocation_after, relocation_in, All-head, All-tail, All-weaker, All, ArePhases, UntouchedBytes, IsLinked, Keeps, UntouchedInPhase, UntouchedBytesAreTheSame, Linked, RewritesNone, RewritingPhase, count, count_of}
 use Rattle.linker_final.proofs.PutBack.{same_windows}
 
 -- ---- phases
