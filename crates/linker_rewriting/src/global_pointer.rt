@@ -343,31 +343,6 @@ fn keeping_symbol(
 ///
 /// `kept` is as before. `symbols` and `values` contradict each other about the symbol of a
 /// relocation, as `RewritingError::Contradiction` says: the index of the first such symbol.
-///
-/// ```
-/// use linker_rewriting::facts::{OutputFacts, SymbolFacts};
-/// use linker_rewriting::global_pointer::survey_global_pointer;
-/// use linker_section::facts::{Addresses, Symbol};
-/// use linker_utils::elf::Architecture;
-///
-/// // lui a0, %hi(x), with R_RISCV_HI20 of symbol 1 and R_RISCV_RELAX, where x is 2,048 above gp
-/// let mut relocations = [0; 48];
-/// (relocations[8], relocations[12], relocations[32]) = (26, 1, 51);
-/// let mut kept = [false; 2];
-/// survey_global_pointer(
-///     Architecture::RiscV,
-///     &OutputFacts { is_executable: true, is_fixed: true, has_near_symbols: true },
-///     &[SymbolFacts { is_local: true, ..SymbolFacts::default() }; 2],
-///     &Addresses { section: 0x1_0000, ..Addresses::default() },
-///     &[0, 0x2_1000].map(|address| Symbol { address, ..Symbol::default() }),
-///     0x2_0800,
-///     &relocations,
-///     &[0x37, 0x05, 0, 0],
-///     &mut kept,
-/// )
-/// .unwrap();
-/// assert_eq!(kept, [false, true]);
-/// ```
 pub fn survey_global_pointer(
     architecture: Architecture,
     output: &OutputFacts,
@@ -846,22 +821,6 @@ fn set_bases(
 /// The section and its relocations are as before. The index of the first relocation whose S + A is
 /// neither within 2 KiB of `gp`, from 2,048 below it to 2,047 above it, nor of 0; whose symbol
 /// isn't in the table; or whose instruction isn't in the section.
-///
-/// ```
-/// use linker_rewriting::global_pointer::{GPREL_I, finish_gp_relaxation};
-/// use linker_section::facts::{Addresses, Symbol};
-///
-/// // lw a0, %lo(x)(a0), whose lui was deleted, becomes lw a0, 5(gp), where x is 5 above gp
-/// let mut section = [0x03, 0x25, 0x05, 0];
-/// let mut relocations = [0; 24];
-/// relocations[8] = u8::try_from(GPREL_I).unwrap();
-/// let values = [Symbol { address: 0x2_0805, ..Symbol::default() }];
-/// let addresses = Addresses::default();
-/// finish_gp_relaxation(&addresses, &values, 0x2_0800, &mut relocations, &mut section).unwrap();
-/// assert_eq!(section, [0x03, 0xa5, 0x01, 0]);
-/// // R_RISCV_LO12_I, whose value is x - 0x20800
-/// assert_eq!((relocations[8], &relocations[16..]), (27, &(-0x2_0800i64).to_le_bytes()[..]));
-/// ```
 pub fn finish_gp_relaxation(
     addresses: &Addresses,
     values: &[Symbol],

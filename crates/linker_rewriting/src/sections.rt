@@ -120,39 +120,6 @@ pub(crate) fn make_all<D: AsDecision>(
 /// of instructions that can be rewritten have to ascend by offset. Where no other error is, it is
 /// of the first relocation whose field has a byte that the rewrite of another one changes, and
 /// which that rewrite doesn't take along. All other relocations may be in any order.
-///
-/// ```
-/// use linker_rewriting::decisions::Decision;
-/// use linker_rewriting::facts::{OutputFacts, SymbolFacts};
-/// use linker_rewriting::groups::UnrelaxableGroups;
-/// use linker_rewriting::sections::rewrite_section;
-/// use linker_utils::elf::Architecture;
-///
-/// // call *f@GOTPCREL(%rip), with R_X86_64_GOTPCRELX of symbol 1 at 2, becomes addr32 call f
-/// let mut section = [0xff, 0x15, 0, 0, 0, 0];
-/// let mut relocations = [0; 24];
-/// (relocations[0], relocations[8], relocations[12]) = (2, 41, 1);
-/// relocations[16..].copy_from_slice(&(-4i64).to_le_bytes());
-/// let output = OutputFacts { is_executable: true, is_fixed: false, has_near_symbols: true };
-/// let symbols = [
-///     SymbolFacts::default(),
-///     SymbolFacts { is_local: true, ..SymbolFacts::default() },
-/// ];
-/// let mut decisions = [Decision::Kept];
-/// rewrite_section(
-///     Architecture::X86_64,
-///     &output,
-///     &symbols,
-///     &[UnrelaxableGroups::default(); 2],
-///     &mut relocations,
-///     &mut section,
-///     &mut decisions,
-/// )
-/// .unwrap();
-/// assert_eq!(section, [0x67, 0xe8, 0, 0, 0, 0]);
-/// // R_X86_64_PC32
-/// assert_eq!(relocations[8], 2);
-/// ```
 pub fn rewrite_section<D: AsDecision>(
     architecture: Architecture,
     output: &OutputFacts,
@@ -397,44 +364,6 @@ pub(crate) fn list_deletions<D: AsDecision, L: FromDeletion>(
 /// contradict each other about the symbol of a relocation, with the index of the first such symbol;
 /// an undefined weak symbol that the dynamic linker may define is none. Those of `rewrite_section`,
 /// and `TooShort` where `deleted` has less room than there are deletions.
-///
-/// ```
-/// use linker_rewriting::decisions::Decision;
-/// use linker_rewriting::facts::{OutputFacts, SymbolFacts};
-/// use linker_rewriting::groups::UnrelaxableGroups;
-/// use linker_rewriting::phases::Phase;
-/// use linker_rewriting::sections::rewrite_placed_section;
-/// use linker_section::facts::{Addresses, Symbol};
-/// use linker_utils::elf::Architecture;
-///
-/// // adrp x0, x and add x0, x0, :lo12:x, at 0x1000, where x is at 0x2004, become nop and adr x0, x
-/// let mut section = [0, 0, 0, 0x90, 0, 0, 0, 0x91];
-/// let mut relocations = [0; 48];
-/// for (index, offset, code) in [(0, 0, 275u32), (1, 4, 277)] {
-///     relocations[24 * index] = offset;
-///     relocations[24 * index + 8..][..4].copy_from_slice(&code.to_le_bytes());
-///     relocations[24 * index + 12] = 1;
-/// }
-/// let values = [Symbol::default(), Symbol { address: 0x2004, ..Symbol::default() }];
-/// let rewritten = rewrite_placed_section(
-///     Architecture::AArch64,
-///     Phase::ShortPcRel,
-///     &OutputFacts { is_executable: true, is_fixed: true, has_near_symbols: true },
-///     &[SymbolFacts { is_local: true, ..SymbolFacts::default() }; 2],
-///     &Addresses { section: 0x1000, ..Addresses::default() },
-///     &values,
-///     &[UnrelaxableGroups::default(); 2],
-///     &mut relocations,
-///     &mut section,
-///     &mut [Decision::Kept; 2],
-///     &mut [(0, 0); 0],
-/// );
-/// assert_eq!(rewritten, Ok(0));
-/// assert_eq!(section, [0x1f, 0x20, 0x03, 0xd5, 0, 0, 0, 0x10]);
-/// // R_AARCH64_ADR_PREL_LO21, and no relocation of the nop
-/// assert_eq!((relocations[8], relocations[9]), (0, 0));
-/// assert_eq!((relocations[32], relocations[33]), (0x12, 1));
-/// ```
 pub fn rewrite_placed_section<D: AsDecision, L: FromDeletion>(
     architecture: Architecture,
     phase: Phase,

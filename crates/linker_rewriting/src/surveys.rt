@@ -304,33 +304,6 @@ pub fn survey(
 ///
 /// `kept` is as before. `symbols` and `values` contradict each other about the symbol of a
 /// relocation, as `RewritingError::Contradiction` says: the index of the first such symbol.
-///
-/// ```
-/// use linker_rewriting::facts::{OutputFacts, SymbolFacts};
-/// use linker_rewriting::groups::UnrelaxableGroups;
-/// use linker_rewriting::phases::Phase;
-/// use linker_rewriting::surveys::survey_placed_section;
-/// use linker_section::facts::{Addresses, Symbol};
-/// use linker_utils::elf::Architecture;
-///
-/// // lui a0, 0, with R_RISCV_TPREL_HI20 of symbol 1, which no mark follows
-/// let mut relocations = [0; 24];
-/// (relocations[8], relocations[12]) = (29, 1);
-/// let mut kept = [UnrelaxableGroups::default(); 2];
-/// survey_placed_section(
-///     Architecture::RiscV,
-///     Phase::TlsLocalExec,
-///     &OutputFacts { is_executable: true, is_fixed: true, has_near_symbols: true },
-///     &[SymbolFacts { is_local: true, ..SymbolFacts::default() }; 2],
-///     &Addresses::default(),
-///     &[Symbol::default(); 2],
-///     &relocations,
-///     &[0x37, 0x05, 0, 0],
-///     &mut kept,
-/// )
-/// .unwrap();
-/// assert!(kept[1].initial_exec);
-/// ```
 pub fn survey_placed_section(
     architecture: Architecture,
     phase: Phase,

@@ -220,36 +220,6 @@ fn keeping_word(
 /// `kept` is as before. `symbols` and `values` contradict each other about the symbol of a
 /// relocation of the section, as `RewritingError::Contradiction` says: the index of the first such
 /// symbol. Those of words are compared by the call that writes the words' values by both tables.
-///
-/// ```
-/// use linker_rewriting::facts::{OutputFacts, SymbolFacts};
-/// use linker_rewriting::toc_indirection::survey_toc_loads;
-/// use linker_section::facts::{Addresses, Symbol};
-/// use linker_utils::elf::Architecture;
-///
-/// // lwz 3,.toc@toc@l(3), with R_PPC64_TOC16_LO_DS of `.toc`, whose word is that of symbol 2: no
-/// // load of an address
-/// let relocation = |r_type: u8, symbol: u8| {
-///     let mut bytes = [0; 24];
-///     (bytes[8], bytes[12]) = (r_type, symbol);
-///     bytes
-/// };
-/// let mut kept = [false];
-/// survey_toc_loads(
-///     Architecture::Ppc64,
-///     &OutputFacts { is_executable: true, is_fixed: true, has_near_symbols: true },
-///     &[SymbolFacts { is_local: true, ..SymbolFacts::default() }; 3],
-///     &Addresses { section: 0x1000, got_base: 0x1_8000, ..Addresses::default() },
-///     &[0, 0x1_0000, 0x1_2345].map(|address| Symbol { address, ..Symbol::default() }),
-///     0x1_0000,
-///     &relocation(38, 2),
-///     &relocation(64, 1),
-///     &[0, 0, 0x63, 0x80],
-///     &mut kept,
-/// )
-/// .unwrap();
-/// assert_eq!(kept, [true]);
-/// ```
 pub fn survey_toc_loads(
     architecture: Architecture,
     output: &OutputFacts,
