@@ -7,7 +7,7 @@ use crate::linker_output::got::Origins;
 use crate::linker_rewriting::decisions::{
     AsDecision, AsKeptDecision, DecisionError, FromDeletion, RewritingError,
 };
-use crate::linker_rewriting::facts::{OutputFacts, SymbolFacts};
+use crate::linker_rewriting::facts::{OutputFacts, RelaxContext, SymbolFacts};
 use crate::linker_rewriting::groups::UnrelaxableGroups;
 use crate::linker_rewriting::kept::{self, FactsSnapshot};
 use crate::linker_rewriting::phases::Phase;
@@ -416,6 +416,20 @@ pub fn relocate_resolved<L: Lookup, B: AsMut<[u8]>, R: AsRef<[u8]>>(
         })
 }
 
+/// What the proved functions choose rewrites by in a phase.
+macro_rules! context {
+    ($link:ident, $object:ident, $section:ident, $phase:expr) => {
+        &RelaxContext {
+            architecture: $link.architecture,
+            phase: $phase,
+            output: &$link.output(),
+            symbols: $object.facts,
+            addresses: &$link.addresses($section.address),
+            values: $object.values,
+        }
+    };
+}
+
 //= linker_rewriting::surveys::survey
 ///
 /// ```
@@ -590,12 +604,7 @@ pub fn survey_placed_section<B: AsRef<[u8]>, R: AsRef<[u8]>>(
     kept: &mut [UnrelaxableGroups],
 ) -> Result<(), usize> {
     surveys::survey_placed_section(
-        link.architecture,
-        phase,
-        &link.output(),
-        object.facts,
-        &link.addresses(section.address),
-        object.values,
+        context!(link, object, section, phase),
         section.relocations.as_ref(),
         section.bytes.as_ref(),
         kept,
@@ -646,12 +655,7 @@ pub fn rewrite_placed_section<B: AsMut<[u8]>, R: AsMut<[u8]>, D: AsDecision, L: 
     deleted: &mut [L],
 ) -> Result<usize, RewritingError> {
     crate::linker_rewriting::sections::rewrite_placed_section(
-        link.architecture,
-        phase,
-        &link.output(),
-        object.facts,
-        &link.addresses(section.address),
-        object.values,
+        context!(link, object, section, phase),
         object.unrelaxable_groups,
         section.relocations.as_mut(),
         section.bytes.as_mut(),
@@ -696,11 +700,7 @@ pub fn survey_toc_loads<B: AsRef<[u8]>, R: AsRef<[u8]>>(
     kept: &mut [bool],
 ) -> Result<(), usize> {
     toc_indirection::survey_toc_loads(
-        link.architecture,
-        &link.output(),
-        object.facts,
-        &link.addresses(section.address),
-        object.values,
+        context!(link, object, section, Phase::ShortPcRel),
         words.address,
         words.relocations,
         section.relocations.as_ref(),
@@ -749,11 +749,7 @@ pub fn rewrite_toc_loads<B: AsMut<[u8]>, R: AsMut<[u8]>, D: AsDecision>(
     decisions: &mut [D],
 ) -> Result<(), RewritingError> {
     toc_indirection::rewrite_toc_loads(
-        link.architecture,
-        &link.output(),
-        object.facts,
-        &link.addresses(section.address),
-        object.values,
+        context!(link, object, section, Phase::ShortPcRel),
         words.address,
         words.relocations,
         words.kept,
@@ -793,11 +789,7 @@ pub fn survey_global_pointer<B: AsRef<[u8]>, R: AsRef<[u8]>>(
     kept: &mut [bool],
 ) -> Result<(), usize> {
     crate::linker_rewriting::global_pointer::survey_global_pointer(
-        link.architecture,
-        &link.output(),
-        object.facts,
-        &link.addresses(section.address),
-        object.values,
+        context!(link, object, section, Phase::ShortPcRel),
         link.global_pointer,
         section.relocations.as_ref(),
         section.bytes.as_ref(),
@@ -843,11 +835,7 @@ pub fn rewrite_global_pointer<B: AsRef<[u8]>, R: AsMut<[u8]>, D: AsDecision, L: 
     deleted: &mut [L],
 ) -> Result<usize, RewritingError> {
     crate::linker_rewriting::global_pointer::rewrite_global_pointer(
-        link.architecture,
-        &link.output(),
-        object.facts,
-        &link.addresses(section.address),
-        object.values,
+        context!(link, object, section, Phase::ShortPcRel),
         link.global_pointer,
         object.kept_high_parts,
         section.relocations.as_mut(),

@@ -64,7 +64,7 @@ pub mod source {
     }
 
     pub mod rewriting {
-        pub use crate::linker_rewriting::facts::OutputFacts;
+        pub use crate::linker_rewriting::facts::{OutputFacts, RelaxContext};
         pub use crate::linker_rewriting::global_pointer::{
             finish_gp_relaxation, rewrite_global_pointer, survey_global_pointer,
         };

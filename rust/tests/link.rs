@@ -9,7 +9,7 @@ use linker_utils::rewriting::{self, Decision, FactsSnapshot, UnrelaxableGroups, 
 use linker_utils::runs::{self, Alignment, Item, Machine, Relocation, Run, relax};
 use linker_utils::section::{self, Addresses, Link, Object, Section, Symbol, memory_len};
 use linker_utils::source;
-use linker_utils::source::rewriting::OutputFacts;
+use linker_utils::source::rewriting::{OutputFacts, RelaxContext};
 use std::fmt::Debug;
 
 struct Random(u64);
@@ -219,6 +219,14 @@ fn compare(architecture: Architecture, random: &mut Random, counts: &mut [usize;
         };
     }
     use source::rewriting as long;
+    let in_phase = |phase| RelaxContext {
+        architecture: a,
+        phase,
+        output: o,
+        symbols: &facts,
+        addresses: at,
+        values: &values,
+    };
     let section = |it: &Written| {
         let (bytes, relocations) = (it.bytes.clone(), it.relocations.clone());
         Section { bytes, relocations, address, base }
@@ -234,21 +242,21 @@ fn compare(architecture: Architecture, random: &mut Random, counts: &mut [usize;
         rewriting::survey_placed_section(&link, &object, &section(it), phase, &mut groups)
     }, {
         let Written { bytes, relocations, groups, .. } = it;
-        long::survey_placed_section(a, phase, o, &facts, at, &values, relocations, bytes, groups)
+        long::survey_placed_section(&in_phase(phase), relocations, bytes, groups)
     });
     same!(2, it, [flags] {
         rewriting::survey_toc_loads(&link, &object, &section(it), &words, &mut flags)
     }, {
         let Written { bytes, relocations, flags, .. } = it;
         let Words { address, relocations: words, .. } = words;
-        let (facts, values) = (&facts, &values);
-        long::survey_toc_loads(a, o, facts, at, values, address, words, relocations, bytes, flags)
+        let context = in_phase(Phase::ShortPcRel);
+        long::survey_toc_loads(&context, address, words, relocations, bytes, flags)
     });
     same!(3, it, [flags] {
         rewriting::survey_global_pointer(&link, &object, &section(it), &mut flags)
     }, {
         let Written { bytes, relocations, flags, .. } = it;
-        long::survey_global_pointer(a, o, &facts, at, &values, gp, relocations, bytes, flags)
+        long::survey_global_pointer(&in_phase(phase), gp, relocations, bytes, flags)
     });
     same!(4, it, [decisions] {
         rewriting::rewrite_section(&link, &object, &mut of(it, address, base), &mut decisions)
@@ -262,10 +270,7 @@ fn compare(architecture: Architecture, random: &mut Random, counts: &mut [usize;
         rewriting::rewrite_placed_section(&link, &object, &mut section, phase, made, gone)
     }, {
         let Written { bytes, relocations, decisions: made, deleted: gone, .. } = it;
-        let (facts, values, groups) = (&facts, &values, &groups);
-        long::rewrite_placed_section(
-            a, phase, o, facts, at, values, groups, relocations, bytes, made, gone,
-        )
+        long::rewrite_placed_section(&in_phase(phase), &groups, relocations, bytes, made, gone)
     });
     same!(6, it, [decisions] {
         let mut section = of(it, address, base);
@@ -273,10 +278,8 @@ fn compare(architecture: Architecture, random: &mut Random, counts: &mut [usize;
     }, {
         let Written { bytes, relocations, decisions: made, .. } = it;
         let Words { address, relocations: words, kept } = words;
-        let (facts, values) = (&facts, &values);
-        long::rewrite_toc_loads(
-            a, o, facts, at, values, address, words, kept, relocations, bytes, made,
-        )
+        let context = in_phase(Phase::ShortPcRel);
+        long::rewrite_toc_loads(&context, address, words, kept, relocations, bytes, made)
     });
     same!(7, it, [decisions, deleted] {
         let (made, gone) = (&mut decisions, &mut deleted);
@@ -285,9 +288,9 @@ fn compare(architecture: Architecture, random: &mut Random, counts: &mut [usize;
             .map(|count| (count, rewriting::finish_gp_relaxation(&link, &object, &mut section)))
     }, {
         let Written { bytes, relocations, decisions: made, deleted: gone, .. } = it;
-        let (facts, values, kept) = (&facts, &values, &high_parts);
-        long::rewrite_global_pointer(a, o, facts, at, values, gp, kept, relocations, bytes, made, gone)
-            .map(|count| (count, long::finish_gp_relaxation(at, values, gp, relocations, bytes)))
+        let context = in_phase(phase);
+        long::rewrite_global_pointer(&context, gp, &high_parts, relocations, bytes, made, gone)
+            .map(|count| (count, long::finish_gp_relaxation(at, &values, gp, relocations, bytes)))
     });
     same!(8, it, [] {
         section::relocate_section(&link, &object, &mut of(it, address, base), &mut memory)

@@ -6,7 +6,7 @@ ghost use Rattle.linker_final.specs.Final.{AreLinked, AreListed, IsPhaseCause, r
 ghost use Rattle.linker_rewriting.specs.Facts.{pre_layout, context};
 
 use linker_rewriting::decisions::{Decision, RewritingError};
-use linker_rewriting::facts::{OutputFacts, SymbolFacts};
+use linker_rewriting::facts::{OutputFacts, RelaxContext, SymbolFacts};
 use linker_rewriting::groups::UnrelaxableGroups;
 use linker_rewriting::kept::{FactsSnapshot, WritingError, relocate_rewritten_section};
 use linker_rewriting::phases::Phase;
@@ -146,13 +146,16 @@ pub fn link_section_in_two_phases(
     ) {
         return Err(PhaseError::First(error));
     }
-    if let Err(error) = rewrite_placed_section(
+    let context = RelaxContext {
         architecture,
         phase,
         output,
-        facts,
+        symbols: facts,
         addresses,
-        symbols,
+        values: symbols,
+    };
+    if let Err(error) = rewrite_placed_section(
+        &context,
         placed_groups,
         relocations,
         section,

@@ -19,7 +19,7 @@ ghost use Rattle.linker_section.specs.WrittenFields.{AreWritten};
 use crate::sections::link_section_in_two_phases;
 use linker_base::relaxation::{DeltaSlice, OutOfMemory};
 use linker_rewriting::decisions::Decision;
-use linker_rewriting::facts::{OutputFacts, SymbolFacts};
+use linker_rewriting::facts::{OutputFacts, RelaxContext, SymbolFacts};
 use linker_rewriting::global_pointer::{
     finish_gp_relaxation, rewrite_global_pointer, survey_global_pointer,
 };
@@ -146,13 +146,17 @@ fn is_rewritten(known: &Known<'_>, relocations: &mut [u8], section: &mut [u8]) -
     ensures { IsTrue result → IsRewrittenAs known.now.architecture relocations.old section.old
         relocations.new section.new }
 {
+    let facts = facts();
+    let context = RelaxContext {
+        architecture: known.architecture,
+        phase: known.phase,
+        output: &OUTPUT,
+        symbols: &facts,
+        addresses: &known.addresses,
+        values: known.symbols,
+    };
     match rewrite_placed_section(
-        known.architecture,
-        known.phase,
-        &OUTPUT,
-        &facts(),
-        &known.addresses,
-        known.symbols,
+        &context,
         &[UnrelaxableGroups::default(); MOST],
         relocations,
         section,
@@ -406,27 +410,21 @@ pub fn riscv64(alloc: Global) -> Result<bool, OutOfMemory>
     }
     let gp = 0x2_0000;
     let mut kept = [false; MOST];
-    let surveyed = survey_global_pointer(
-        Architecture::RiscV,
-        &OUTPUT,
-        &facts(),
-        &addresses,
-        &symbols,
-        gp,
-        &relocations,
-        &section,
-        &mut kept,
-    );
-    if surveyed.is_err() {
+    let facts = facts();
+    let context = RelaxContext {
+        architecture: Architecture::RiscV,
+        phase: Phase::ShortPcRel,
+        output: &OUTPUT,
+        symbols: &facts,
+        addresses: &addresses,
+        values: &symbols,
+    };
+    if survey_global_pointer(&context, gp, &relocations, &section, &mut kept).is_err() {
         return Ok(false);
     }
     let mut deleted = [(0, 0)];
     let Ok(1) = rewrite_global_pointer(
-        Architecture::RiscV,
-        &OUTPUT,
-        &facts(),
-        &addresses,
-        &symbols,
+        &context,
         gp,
         &kept,
         &mut relocations,

@@ -5,6 +5,7 @@ use Rattle.std.specs.Prelude.{Some, None, if◌then◌else◌, slice_get}
 use Rattle.linker_rewriting.specs.Imports.{Addresses, Architecture, LinkFacts, OutputFacts, Phase}
 use Rattle.linker_rewriting.specs.Imports.{PreLayout, Rela, Symbol, SymbolFacts, TlsLocalExec}
 use Rattle.linker_rewriting.specs.Imports.{sum_64}
+use Rattle.linker_rewriting.specs.declared.facts.RelaxContext.{RelaxContext as Passed}
 
 -- ---- before addresses are known
 
@@ -136,6 +137,11 @@ context architecture phase output symbols addresses values =
       addresses = addresses;
       values = values;
     }
+
+-- as the code passes it on
+abbrev pub context_of : Passed → RelaxContext
+context_of s =
+    context s.architecture s.phase s.output.now s.symbols.now s.addresses.now s.values.now
 
 abbrev pub no_addresses : Addresses
 no_addresses =

@@ -2,5 +2,4 @@ pub mod Calls
 pub mod RelocationTypes
 pub mod Left
 pub mod Places
-pub mod Contexts
 pub mod TocIndirection

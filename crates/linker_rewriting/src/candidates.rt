@@ -8,8 +8,7 @@ ghost use Rattle.linker_rewriting.specs.Candidates.{IsCandidateWith, calls_tls_g
 ghost use Rattle.linker_rewriting.specs.Candidates.{deletes_within};
 ghost use Rattle.linker_rewriting.specs.Decisions.{IsThere};
 ghost use Rattle.linker_rewriting.specs.declared.decisions.Decision.TheVariants.{Rewritten};
-ghost use Rattle.linker_rewriting.specs.Facts.{link_facts};
-ghost use Rattle.linker_rewriting.specs.Inner.Contexts.{context_of};
+ghost use Rattle.linker_rewriting.specs.Facts.{context_of, link_facts};
 ghost use Rattle.linker_rewriting.specs.Sequences.{is_marked_in};
 
 use crate::facts::{OutputFacts, RelaxContext, SymbolFacts, link_facts};

@@ -9,7 +9,7 @@ ghost use Rattle.linker_rewriting.specs.Decisions.{deleted_of, deleted_end, star
 ghost use Rattle.linker_rewriting.specs.Decisions.{AreAllDecided, IsDecidedAfter, IsNotSurveyed};
 ghost use Rattle.linker_rewriting.specs.Decisions.{IsEndAfter, IsRejectedIn, IsRewrittenAt};
 ghost use Rattle.linker_rewriting.specs.Decisions.{label_decision, IsLabelDecision, takes_symbol};
-ghost use Rattle.linker_rewriting.specs.Inner.Contexts.{context_of};
+ghost use Rattle.linker_rewriting.specs.Facts.{context_of};
 ghost use Rattle.linker_rewriting.specs.Inner.Calls.{IsLeft};
 ghost use Rattle.linker_rewriting.specs.Inner.Left.{AreKept};
 ghost use Rattle.linker_rewriting.specs.RiscVPcrelGroups.{IsInLabel, IsLabelNote};

@@ -115,22 +115,23 @@ pub(crate) fn facts_of(
     }
 }
 
-/// What rewrites are chosen by in a phase. Before addresses are known those are 0, and there are no
-/// values.
+/// What the rewrites of a section are chosen by in a phase. Before addresses are known those are 0,
+/// and there are no values.
 #[derive(Clone, Copy)]
-pub(crate) struct RelaxContext<'a> {
+pub struct RelaxContext<'a> {
     /// The architecture.
-    pub(crate) architecture: Architecture,
-    /// The phase.
-    pub(crate) phase: Phase,
+    pub architecture: Architecture,
+    /// The phase. Loads from `.toc` are rewritten in `ShortPcRel`. The rewrites by the global pointer
+    /// don't read it.
+    pub phase: Phase,
     /// What is known of the output.
-    pub(crate) output: &'a OutputFacts,
-    /// What is known of the object's symbols.
-    pub(crate) symbols: &'a [SymbolFacts],
+    pub output: &'a OutputFacts,
+    /// What is known of the object's symbols, at the indexes that its relocations name (`r_sym`).
+    pub symbols: &'a [SymbolFacts],
     /// The section's address, and those that values are counted from.
-    pub(crate) addresses: &'a Addresses,
-    /// The addresses of the object's symbols.
-    pub(crate) values: &'a [Symbol],
+    pub addresses: &'a Addresses,
+    /// The addresses of the object's symbols, at the same indexes.
+    pub values: &'a [Symbol],
 }
 
 /// S, which counts as the thread pointer's address of a thread-local symbol that nothing defines.

@@ -8,8 +8,7 @@ ghost use Rattle.std.specs.Int.{w32, from_le_bytes};
 ghost use Rattle.linker_rewriting.specs.Agreement.{Agree, IsContradiction};
 ghost use Rattle.linker_rewriting.specs.Decisions.{AllCanBeMade, IsThere, IsWithin};
 ghost use Rattle.linker_rewriting.specs.Decisions.{deletions_by, IsRejectedFirst};
-ghost use Rattle.linker_rewriting.specs.Facts.{context};
-ghost use Rattle.linker_rewriting.specs.Inner.Contexts.{context_of};
+ghost use Rattle.linker_rewriting.specs.Facts.{context_of};
 ghost use Rattle.linker_rewriting.specs.GlobalPointer.{part_of, IsLabelled, IsSubject, IsMember};
 ghost use Rattle.linker_rewriting.specs.GlobalPointer.{is_near, is_bound, address_of, has_word};
 ghost use Rattle.linker_rewriting.specs.GlobalPointer.{is_reached, is_high_word, writes_none};
@@ -335,46 +334,33 @@ fn keeping_symbol(
 /// of code of the object before one of them is rewritten, with one table, all of whose elements are
 /// false at first. What stays there already stays. A symbol without an element stays.
 ///
-/// `gp` is the address of `__global_pointer$`. `symbols` and `values` both have an object's symbols
-/// at the indexes that its relocations name, and `kept` has an element for each. For other
-/// architectures than RISC-V nothing is noted.
+/// `gp` is the address of `__global_pointer$`, and `kept` has an element for each symbol of the
+/// object. For other architectures than RISC-V nothing is noted.
 ///
 /// # Errors
 ///
 /// `kept` is as before. `symbols` and `values` contradict each other about the symbol of a
 /// relocation, as `RewritingError::Contradiction` says: the index of the first such symbol.
 pub fn survey_global_pointer(
-    architecture: Architecture,
-    output: &OutputFacts,
-    symbols: &[SymbolFacts],
-    addresses: &Addresses,
-    values: &[Symbol],
+    context: &RelaxContext<'_>,
     gp: u64,
     relocations: &[u8],
     section: &[u8],
     kept: &mut [bool],
 ) -> Result<(), usize>
-    ensures surveyed { OnOk result (AreSymbolsSurveyed (context architecture Phase.ShortPcRel
-        output.now symbols.now addresses.now values.now) gp relocations.now section.now kept.old
-        kept.new (length relocations.now / 24)) }
-    ensures agree { OnOk result (Agree symbols.now values.now relocations.now) }
-    ensures contradiction { IfErr result
-        (IsContradiction symbols.now values.now relocations.now) }
+    ensures surveyed { OnOk result (AreSymbolsSurveyed (context_of context.now) gp relocations.now
+        section.now kept.old kept.new (length relocations.now / 24)) }
+    ensures agree { OnOk result (Agree context.now.symbols.now context.now.values.now
+        relocations.now) }
+    ensures contradiction { IfErr result (IsContradiction context.now.symbols.now
+        context.now.values.now relocations.now) }
     ensures unchanged { OnErr result (kept.new ≡ kept.old) }
 {
-    if let Some(symbol) = contradiction(symbols, values, relocations) {
+    if let Some(symbol) = contradiction(context.symbols, context.values, relocations) {
         return Err(symbol);
     }
-    let context = RelaxContext {
-        architecture,
-        phase: Phase::ShortPcRel,
-        output,
-        symbols,
-        addresses,
-        values,
-    };
     let parts = Parts {
-        context: &context,
+        context,
         gp,
         ascends: is_ascending(relocations),
     };
@@ -565,8 +551,9 @@ fn turn_all<D: AsDecision>(decisions: &[D], relocations: &mut [u8])
 ///
 /// ```
 /// use linker_rewriting::decisions::Decision;
-/// use linker_rewriting::facts::{OutputFacts, SymbolFacts};
+/// use linker_rewriting::facts::{OutputFacts, RelaxContext, SymbolFacts};
 /// use linker_rewriting::global_pointer::{GPREL_I, rewrite_global_pointer};
+/// use linker_rewriting::phases::Phase;
 /// use linker_section::facts::{Addresses, Symbol};
 /// use linker_utils::elf::Architecture;
 ///
@@ -577,12 +564,16 @@ fn turn_all<D: AsDecision>(decisions: &[D], relocations: &mut [u8])
 ///     relocations[at + 12] = u8::from(r_type < 51);
 /// }
 /// let mut deleted = [(0, 0)];
+/// let context = RelaxContext {
+///     architecture: Architecture::RiscV,
+///     phase: Phase::ShortPcRel,
+///     output: &OutputFacts { is_executable: true, is_fixed: true, has_near_symbols: true },
+///     symbols: &[SymbolFacts { is_local: true, ..SymbolFacts::default() }; 2],
+///     addresses: &Addresses { section: 0x1_0000, ..Addresses::default() },
+///     values: &[0, 0x2_0fff].map(|address| Symbol { address, ..Symbol::default() }),
+/// };
 /// let rewritten = rewrite_global_pointer(
-///     Architecture::RiscV,
-///     &OutputFacts { is_executable: true, is_fixed: true, has_near_symbols: true },
-///     &[SymbolFacts { is_local: true, ..SymbolFacts::default() }; 2],
-///     &Addresses { section: 0x1_0000, ..Addresses::default() },
-///     &[0, 0x2_0fff].map(|address| Symbol { address, ..Symbol::default() }),
+///     &context,
 ///     0x2_0800,
 ///     &[false; 2],
 ///     &mut relocations,
@@ -594,11 +585,7 @@ fn turn_all<D: AsDecision>(decisions: &[D], relocations: &mut [u8])
 /// assert_eq!((relocations[8], u32::from(relocations[56])), (0, GPREL_I));
 /// ```
 pub fn rewrite_global_pointer<D: AsDecision, L: FromDeletion>(
-    architecture: Architecture,
-    output: &OutputFacts,
-    symbols: &[SymbolFacts],
-    addresses: &Addresses,
-    values: &[Symbol],
+    context: &RelaxContext<'_>,
     gp: u64,
     kept: &[bool],
     relocations: &mut [u8],
@@ -606,10 +593,10 @@ pub fn rewrite_global_pointer<D: AsDecision, L: FromDeletion>(
     decisions: &mut [D],
     deleted: &mut [L],
 ) -> Result<usize, RewritingError>
-    ensures agree { OnOk result (Agree symbols.now values.now relocations.old) }
-    ensures rewritten { OnOk result (ArePartsRewrittenAs (context architecture Phase.ShortPcRel
-        output.now symbols.now addresses.now values.now) gp kept.now relocations.old
-        relocations.new section.now (map D.decision decisions.new)) }
+    ensures agree { OnOk result (Agree context.now.symbols.now context.now.values.now
+        relocations.old) }
+    ensures rewritten { OnOk result (ArePartsRewrittenAs (context_of context.now) gp kept.now
+        relocations.old relocations.new section.now (map D.decision decisions.new)) }
     ensures within { OnOk result (AllCanBeMade relocations.old section.now
         (map D.decision decisions.new) (length relocations.old / 24)) }
     ensures listed { IfOk result (λ len. take len (map L.deletion deleted.new)
@@ -620,35 +607,26 @@ pub fn rewrite_global_pointer<D: AsDecision, L: FromDeletion>(
     ensures others_stay { drop (length relocations.old / 24) decisions.new
         ≡ drop (length relocations.old / 24) decisions.old }
     ensures deletions_stay { IfOk result (λ len. drop len deleted.new ≡ drop len deleted.old) }
-    ensures rejected { IfErr result (IsRejectedFirst symbols.now values.now relocations.old
-        (ArePartsRejected (context architecture Phase.ShortPcRel output.now symbols.now addresses.now
-        values.now) gp kept.now relocations.old section.now (map D.decision decisions.new)
-        (length deleted.old))) }
-    ensures surveyed { IfErr result (MeansSymbolsUnsurveyed (context architecture Phase.ShortPcRel
-        output.now symbols.now addresses.now values.now) gp relocations.old section.now kept.now) }
+    ensures rejected { IfErr result (IsRejectedFirst context.now.symbols.now context.now.values.now
+        relocations.old (ArePartsRejected (context_of context.now) gp kept.now relocations.old
+        section.now (map D.decision decisions.new) (length deleted.old))) }
+    ensures surveyed { IfErr result (MeansSymbolsUnsurveyed (context_of context.now) gp
+        relocations.old section.now kept.now) }
     ensures entries { OnErr result (relocations.new ≡ relocations.old) }
 {
-    if let Some(symbol) = contradiction(symbols, values, relocations) {
+    if let Some(symbol) = contradiction(context.symbols, context.values, relocations) {
         return Err(RewritingError::Contradiction(symbol));
     }
     if decisions.len() < relocations_len(relocations) {
         return Err(RewritingError::TooShort);
     }
-    let context = RelaxContext {
-        architecture,
-        phase: Phase::ShortPcRel,
-        output,
-        symbols,
-        addresses,
-        values,
-    };
     let parts = Parts {
-        context: &context,
+        context,
         gp,
         ascends: is_ascending(relocations),
     };
     let rule = Symbols { parts, kept };
-    match decide_by(&rule, architecture, relocations, section, decisions) {
+    match decide_by(&rule, context.architecture, relocations, section, decisions) {
         Ok(()) => match list_deletions(true, relocations, decisions, deleted) {
             Some(len) => {
                 turn_all(decisions, relocations);

@@ -5,7 +5,7 @@ ghost use Rattle.std.specs.Prelude.{drop, take, All, slice_get};
 ghost use Rattle.linker_section.specs.Relocations.{relocation_in};
 ghost use Rattle.linker_section.specs.Values.{IsAscending};
 ghost use Rattle.linker_rewriting.specs.Decisions.{IsThere, decision_at};
-ghost use Rattle.linker_rewriting.specs.Inner.Contexts.{context_of};
+ghost use Rattle.linker_rewriting.specs.Facts.{context_of};
 ghost use Rattle.linker_rewriting.specs.RiscVPcrelGroups.{high_r_type, IsHighAt, label_offset};
 ghost use Rattle.linker_rewriting.specs.RiscVPcrelGroups.{IsHighOf, offset_of_label, is_beyond};
 ghost use Rattle.linker_rewriting.specs.RiscVPcrelGroups.{searched, is_labelled, IsInLabel};

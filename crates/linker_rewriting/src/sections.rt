@@ -7,7 +7,7 @@ ghost use Rattle.linker_rewriting.specs.Agreement.{Agree};
 ghost use Rattle.linker_rewriting.specs.Decisions.{CanBeMade, AllCanBeMade, AreApart, IsRejected};
 ghost use Rattle.linker_rewriting.specs.Decisions.{IsRejectedPlaced, decision_at, deleted_of};
 ghost use Rattle.linker_rewriting.specs.Decisions.{deleted_end, deletions_by, IsUnmade};
-ghost use Rattle.linker_rewriting.specs.Facts.{pre_layout, context};
+ghost use Rattle.linker_rewriting.specs.Facts.{pre_layout, context_of};
 ghost use Rattle.linker_rewriting.specs.Inner.Left.{AreKept};
 ghost use Rattle.linker_rewriting.specs.Rewritten.{section_after, relocation_after, AreDone};
 ghost use Rattle.linker_rewriting.specs.Rewritten.{AreRelocationsAfter, OthersStay, IsRewrittenAs};
@@ -24,7 +24,6 @@ use crate::facts::{NO_ADDRESSES, OutputFacts, RelaxContext, SymbolFacts};
 use crate::groups::UnrelaxableGroups;
 use crate::phases::Phase;
 use crate::relocations::relocation_in;
-use linker_section::facts::{Addresses, Symbol};
 use linker_section::relocations::{Rela, relocations_len, set_relocation};
 use linker_utils::elf::{Architecture, InstructionRewrite};
 
@@ -332,7 +331,6 @@ pub(crate) fn list_deletions<D: AsDecision, L: FromDeletion>(
 /// `survey_placed_section` made of all sections of code of the object for the phase with the same
 /// facts and addresses.
 ///
-/// `symbols` and `values` both have an object's symbols at the indexes that its relocations name.
 /// Each address has to be that by which values are written later, or differ from it by less than
 /// the reach that is left: a linker that deletes bytes afterwards makes distances shorter, never
 /// longer.
@@ -365,55 +363,40 @@ pub(crate) fn list_deletions<D: AsDecision, L: FromDeletion>(
 /// an undefined weak symbol that the dynamic linker may define is none. Those of `rewrite_section`,
 /// and `TooShort` where `deleted` has less room than there are deletions.
 pub fn rewrite_placed_section<D: AsDecision, L: FromDeletion>(
-    architecture: Architecture,
-    phase: Phase,
-    output: &OutputFacts,
-    symbols: &[SymbolFacts],
-    addresses: &Addresses,
-    values: &[Symbol],
+    context: &RelaxContext<'_>,
     kept: &[UnrelaxableGroups],
     relocations: &mut [u8],
     section: &mut [u8],
     decisions: &mut [D],
     deleted: &mut [L],
 ) -> Result<usize, RewritingError>
-    ensures agree { OnOk result (Agree symbols.now values.now relocations.old) }
-    ensures rewritten { OnOk result (IsRewrittenAs (context architecture phase output.now
-        symbols.now addresses.now values.now) kept.now relocations.old relocations.new section.old
-        section.new (map D.decision decisions.new)) }
+    ensures agree { OnOk result (Agree context.now.symbols.now context.now.values.now
+        relocations.old) }
+    ensures rewritten { OnOk result (IsRewrittenAs (context_of context.now) kept.now relocations.old
+        relocations.new section.old section.new (map D.decision decisions.new)) }
     ensures within { OnOk result (AllCanBeMade relocations.old section.old
         (map D.decision decisions.new) (length relocations.old / 24)) }
     ensures listed { IfOk result (λ len. take len (map L.deletion deleted.new)
         ≡ deletions_by relocations.old (map D.decision decisions.new)
         (length relocations.old / 24)) }
-    ensures labels { OnOk result (LabelsAreWhole (context architecture phase output.now symbols.now
-        addresses.now values.now) relocations.old (map D.decision decisions.new)
-        (length relocations.old / 24)) }
+    ensures labels { OnOk result (LabelsAreWhole (context_of context.now) relocations.old
+        (map D.decision decisions.new) (length relocations.old / 24)) }
     ensures form { OnOk result
         (All D.is_written (take (length relocations.old / 24) decisions.new)) }
     ensures others_stay { drop (length relocations.old / 24) decisions.new
         ≡ drop (length relocations.old / 24) decisions.old }
     ensures deletions_stay { IfOk result (λ len. drop len deleted.new ≡ drop len deleted.old) }
-    ensures rejected { IfErr result (IsRejectedPlaced (context architecture phase output.now
-        symbols.now addresses.now values.now) kept.now relocations.old section.old
-        (map D.decision decisions.new) (length deleted.old)) }
-    ensures surveyed { IfErr result (MeansUnsurveyed (context architecture phase output.now
-        symbols.now addresses.now values.now) relocations.old section.old kept.now) }
+    ensures rejected { IfErr result (IsRejectedPlaced (context_of context.now) kept.now
+        relocations.old section.old (map D.decision decisions.new) (length deleted.old)) }
+    ensures surveyed { IfErr result (MeansUnsurveyed (context_of context.now) relocations.old
+        section.old kept.now) }
     ensures section { OnErr result (section.new ≡ section.old) }
     ensures entries { OnErr result (relocations.new ≡ relocations.old) }
 {
-    if let Some(symbol) = contradiction(symbols, values, relocations) {
+    if let Some(symbol) = contradiction(context.symbols, context.values, relocations) {
         return Err(RewritingError::Contradiction(symbol));
     }
-    let context = RelaxContext {
-        architecture,
-        phase,
-        output,
-        symbols,
-        addresses,
-        values,
-    };
-    match decide_section(&context, kept, relocations, section, decisions) {
+    match decide_section(context, kept, relocations, section, decisions) {
         Ok(changes) => match list_deletions(changes, relocations, decisions, deleted) {
             Some(len) => {
                 make_all(changes, decisions, relocations, section);

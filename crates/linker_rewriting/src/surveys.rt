@@ -5,8 +5,7 @@ ghost use Rattle.std.specs.Prelude.{IfErr, OnErr};
 ghost use Rattle.linker_section.specs.Relocations.{relocation_in};
 ghost use Rattle.linker_rewriting.specs.Agreement.{Agree, IsContradiction};
 ghost use Rattle.linker_rewriting.specs.Candidates.{calls_tls_get_addr};
-ghost use Rattle.linker_rewriting.specs.Facts.{context};
-ghost use Rattle.linker_rewriting.specs.Inner.Contexts.{context_of};
+ghost use Rattle.linker_rewriting.specs.Facts.{context_of};
 ghost use Rattle.linker_rewriting.specs.Inner.RelocationTypes.{needs_mark, KeepsNone};
 ghost use Rattle.linker_rewriting.specs.Surveys.{IsKeeping, IsMarked, IsUnmarkedIn, IsUnmarkedBy};
 ghost use Rattle.linker_rewriting.specs.Surveys.{AreKeptToo, IsGroup, IsGroupOf, IsOfThreads};
@@ -19,7 +18,6 @@ use crate::groups::{Group, Scope, UnrelaxableGroups, marks_call, scope_in, symbo
 use crate::phases::Phase;
 use crate::r_types::{is_surveyed, of_each};
 use crate::relocations::relocation_in;
-use linker_section::facts::{Addresses, Symbol};
 use linker_section::relocations::{Rela, relocations_len};
 use linker_utils::elf::Architecture;
 
@@ -298,42 +296,27 @@ pub fn survey(
 /// one table for the object and the phase. A group stays too where a table has no entry for its
 /// symbol. Relocations of a label of RISC-V aren't surveyed: all of a label are in one section.
 ///
-/// `symbols` and `values` both have an object's symbols at the indexes that its relocations name.
-///
 /// # Errors
 ///
 /// `kept` is as before. `symbols` and `values` contradict each other about the symbol of a
 /// relocation, as `RewritingError::Contradiction` says: the index of the first such symbol.
 pub fn survey_placed_section(
-    architecture: Architecture,
-    phase: Phase,
-    output: &OutputFacts,
-    symbols: &[SymbolFacts],
-    addresses: &Addresses,
-    values: &[Symbol],
+    context: &RelaxContext<'_>,
     relocations: &[u8],
     section: &[u8],
     kept: &mut [UnrelaxableGroups],
 ) -> Result<(), usize>
-    ensures surveyed { OnOk result (IsSurveyedIn (context architecture phase output.now symbols.now
-        addresses.now values.now) relocations.now section.now kept.old kept.new
-        (length relocations.now / 24)) }
-    ensures agree { OnOk result (Agree symbols.now values.now relocations.now) }
-    ensures contradiction { IfErr result
-        (IsContradiction symbols.now values.now relocations.now) }
+    ensures surveyed { OnOk result (IsSurveyedIn (context_of context.now) relocations.now section.now
+        kept.old kept.new (length relocations.now / 24)) }
+    ensures agree { OnOk result (Agree context.now.symbols.now context.now.values.now
+        relocations.now) }
+    ensures contradiction { IfErr result (IsContradiction context.now.symbols.now
+        context.now.values.now relocations.now) }
     ensures unchanged { OnErr result (kept.new ≡ kept.old) }
 {
-    if let Some(symbol) = contradiction(symbols, values, relocations) {
+    if let Some(symbol) = contradiction(context.symbols, context.values, relocations) {
         return Err(symbol);
     }
-    let context = RelaxContext {
-        architecture,
-        phase,
-        output,
-        symbols,
-        addresses,
-        values,
-    };
-    survey_in(&context, relocations, section, kept);
+    survey_in(context, relocations, section, kept);
     Ok(())
 }

@@ -6,8 +6,7 @@ ghost use Rattle.std.specs.Prelude.{◌≡◌, ◌⊎◌, ◌↔◌, ◌+◌, �
 ghost use Rattle.std.specs.Prelude.{IfSome, IfErr, OnOk, OnErr, All, true, ⊤};
 ghost use Rattle.linker_rewriting.specs.Agreement.{Agree, IsContradiction};
 ghost use Rattle.linker_rewriting.specs.Decisions.{IsThere, start_by, end_by};
-ghost use Rattle.linker_rewriting.specs.Facts.{context};
-ghost use Rattle.linker_rewriting.specs.Inner.Contexts.{context_of};
+ghost use Rattle.linker_rewriting.specs.Facts.{context_of};
 ghost use Rattle.linker_rewriting.specs.Inner.TocIndirection.{IsThatWord, with_r_type};
 ghost use Rattle.linker_rewriting.specs.TocIndirection.{entry_r_type, word_r_type, word_offset};
 ghost use Rattle.linker_rewriting.specs.TocIndirection.{subject_of, DecidesLoad, IsLoad};
@@ -211,8 +210,7 @@ fn keeping_word(
 ///
 /// `words` are the relocations of the section of addresses, as `linker_output`'s description names
 /// it, and have to ascend by offset; `kept` has an element for each. `words_start` is its address.
-/// A relocation is of a word where it refers to its address, whichever its symbol. `symbols` and
-/// `values` both have an object's symbols at the indexes that its relocations name. Only PowerPC64
+/// A relocation is of a word where it refers to its address, whichever its symbol. Only PowerPC64
 /// has such a section: of other architectures nothing is noted.
 ///
 /// # Errors
@@ -221,39 +219,26 @@ fn keeping_word(
 /// relocation of the section, as `RewritingError::Contradiction` says: the index of the first such
 /// symbol. Those of words are compared by the call that writes the words' values by both tables.
 pub fn survey_toc_loads(
-    architecture: Architecture,
-    output: &OutputFacts,
-    symbols: &[SymbolFacts],
-    addresses: &Addresses,
-    values: &[Symbol],
+    context: &RelaxContext<'_>,
     words_start: u64,
     words: &[u8],
     relocations: &[u8],
     section: &[u8],
     kept: &mut [bool],
 ) -> Result<(), usize>
-    ensures surveyed { OnOk result (AreLoadsSurveyed (context architecture Phase.ShortPcRel
-        output.now symbols.now addresses.now values.now) words_start words.now relocations.now
-        section.now kept.old kept.new (length relocations.now / 24)) }
-    ensures agree { OnOk result
-        (Agree symbols.now values.now relocations.now) }
-    ensures contradiction { IfErr result
-        (IsContradiction symbols.now values.now relocations.now) }
+    ensures surveyed { OnOk result (AreLoadsSurveyed (context_of context.now) words_start words.now
+        relocations.now section.now kept.old kept.new (length relocations.now / 24)) }
+    ensures agree { OnOk result (Agree context.now.symbols.now context.now.values.now
+        relocations.now) }
+    ensures contradiction { IfErr result (IsContradiction context.now.symbols.now
+        context.now.values.now relocations.now) }
     ensures unchanged { OnErr result (kept.new ≡ kept.old) }
 {
-    if let Some(symbol) = contradiction(symbols, values, relocations) {
+    if let Some(symbol) = contradiction(context.symbols, context.values, relocations) {
         return Err(symbol);
     }
-    let context = RelaxContext {
-        architecture,
-        phase: Phase::ShortPcRel,
-        output,
-        symbols,
-        addresses,
-        values,
-    };
     let words = Words {
-        context: &context,
+        context,
         start: words_start,
         relocations: words,
     };
@@ -371,7 +356,8 @@ impl Rule for Loads<'_, '_> {
 ///
 /// ```
 /// use linker_rewriting::decisions::Decision;
-/// use linker_rewriting::facts::{OutputFacts, SymbolFacts};
+/// use linker_rewriting::facts::{OutputFacts, RelaxContext, SymbolFacts};
+/// use linker_rewriting::phases::Phase;
 /// use linker_rewriting::toc_indirection::rewrite_toc_loads;
 /// use linker_section::facts::{Addresses, Symbol};
 /// use linker_utils::elf::Architecture;
@@ -385,12 +371,16 @@ impl Rule for Loads<'_, '_> {
 /// };
 /// let mut section = [0, 0, 0x62, 0x3c, 0, 0, 0x63, 0xe8];
 /// let mut relocations = [relocation(0, 50, 1), relocation(4, 64, 1)].concat();
+/// let context = RelaxContext {
+///     architecture: Architecture::Ppc64,
+///     phase: Phase::ShortPcRel,
+///     output: &OutputFacts { is_executable: true, is_fixed: true, has_near_symbols: true },
+///     symbols: &[SymbolFacts { is_local: true, ..SymbolFacts::default() }; 3],
+///     addresses: &Addresses { section: 0x1000, got_base: 0x1_8000, ..Addresses::default() },
+///     values: &[0, 0x1_0000, 0x1_2345].map(|address| Symbol { address, ..Symbol::default() }),
+/// };
 /// rewrite_toc_loads(
-///     Architecture::Ppc64,
-///     &OutputFacts { is_executable: true, is_fixed: true, has_near_symbols: true },
-///     &[SymbolFacts { is_local: true, ..SymbolFacts::default() }; 3],
-///     &Addresses { section: 0x1000, got_base: 0x1_8000, ..Addresses::default() },
-///     &[0, 0x1_0000, 0x1_2345].map(|address| Symbol { address, ..Symbol::default() }),
+///     &context,
 ///     0x1_0000,
 ///     &relocation(0, 38, 2),
 ///     &[false],
@@ -405,11 +395,7 @@ impl Rule for Loads<'_, '_> {
 /// assert_eq!((relocations[32], relocations[36]), (48, 2));
 /// ```
 pub fn rewrite_toc_loads<D: AsDecision>(
-    architecture: Architecture,
-    output: &OutputFacts,
-    symbols: &[SymbolFacts],
-    addresses: &Addresses,
-    values: &[Symbol],
+    context: &RelaxContext<'_>,
     words_start: u64,
     words: &[u8],
     kept: &[bool],
@@ -417,45 +403,35 @@ pub fn rewrite_toc_loads<D: AsDecision>(
     section: &mut [u8],
     decisions: &mut [D],
 ) -> Result<(), RewritingError>
-    ensures agree { OnOk result
-        (Agree symbols.now values.now relocations.old) }
-    ensures rewritten { OnOk result (AreLoadsRewrittenAs (context architecture Phase.ShortPcRel
-        output.now symbols.now addresses.now values.now) words_start words.now kept.now
-        relocations.old relocations.new section.old section.new (map D.decision decisions.new)) }
+    ensures agree { OnOk result (Agree context.now.symbols.now context.now.values.now
+        relocations.old) }
+    ensures rewritten { OnOk result (AreLoadsRewrittenAs (context_of context.now) words_start
+        words.now kept.now relocations.old relocations.new section.old section.new
+        (map D.decision decisions.new)) }
     ensures form { OnOk result
         (All D.is_written (take (length relocations.old / 24) decisions.new)) }
     ensures others_stay { drop (length relocations.old / 24) decisions.new
         ≡ drop (length relocations.old / 24) decisions.old }
-    ensures rejected { IfErr result (AreLoadsRejectedFirst (context architecture Phase.ShortPcRel
-        output.now symbols.now addresses.now values.now) words_start words.now kept.now
-        relocations.old section.old (map D.decision decisions.new)) }
-    ensures surveyed { IfErr result (MeansWordsUnsurveyed (context architecture Phase.ShortPcRel
-        output.now symbols.now addresses.now values.now) words_start words.now relocations.old
-        section.old kept.now) }
+    ensures rejected { IfErr result (AreLoadsRejectedFirst (context_of context.now) words_start
+        words.now kept.now relocations.old section.old (map D.decision decisions.new)) }
+    ensures surveyed { IfErr result (MeansWordsUnsurveyed (context_of context.now) words_start
+        words.now relocations.old section.old kept.now) }
     ensures section { OnErr result (section.new ≡ section.old) }
     ensures entries { OnErr result (relocations.new ≡ relocations.old) }
 {
-    if let Some(symbol) = contradiction(symbols, values, relocations) {
+    if let Some(symbol) = contradiction(context.symbols, context.values, relocations) {
         return Err(RewritingError::Contradiction(symbol));
     }
     if decisions.len() < relocations_len(relocations) {
         return Err(RewritingError::TooShort);
     }
-    let context = RelaxContext {
-        architecture,
-        phase: Phase::ShortPcRel,
-        output,
-        symbols,
-        addresses,
-        values,
-    };
     let words = Words {
-        context: &context,
+        context,
         start: words_start,
         relocations: words,
     };
     let rule = Loads { words, kept };
-    match decide_by(&rule, architecture, relocations, section, decisions) {
+    match decide_by(&rule, context.architecture, relocations, section, decisions) {
         Ok(()) => {
             make_all(true, decisions, relocations, section);
             Ok(())

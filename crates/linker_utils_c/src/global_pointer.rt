@@ -12,7 +12,7 @@ ghost use Rattle.linker_utils_c.specs.Status.{code};
 use crate::deltas::Deletion;
 use crate::rewriting::{DecisionNumbers, put_error, survey_status};
 use crate::status::Status;
-use linker_rewriting::facts::{OutputFacts, SymbolFacts};
+use linker_rewriting::facts::{OutputFacts, RelaxContext, SymbolFacts};
 use linker_rewriting::global_pointer::{
     finish_gp_relaxation, rewrite_global_pointer, survey_global_pointer,
 };
@@ -47,17 +47,15 @@ pub extern "C" fn linker_utils_survey_global_pointer_nonnull(
     let Some(architecture) = Architecture::from_machine(machine) else {
         return Status::UnknownArchitecture as u32;
     };
-    survey_status(survey_global_pointer(
+    let context = RelaxContext {
         architecture,
+        phase: Phase::ShortPcRel,
         output,
         symbols,
         addresses,
         values,
-        global_pointer,
-        relocations,
-        section,
-        kept,
-    ))
+    };
+    survey_status(survey_global_pointer(&context, global_pointer, relocations, section, kept))
 }
 
 /// Has the high parts of addresses near the global pointer or 0 go, and turns the relocations of a
@@ -98,12 +96,16 @@ pub extern "C" fn linker_utils_rewrite_global_pointer_nonnull(
     let Some(architecture) = Architecture::from_machine(machine) else {
         return Status::UnknownArchitecture as u32;
     };
-    match rewrite_global_pointer(
+    let context = RelaxContext {
         architecture,
+        phase: Phase::ShortPcRel,
         output,
         symbols,
         addresses,
         values,
+    };
+    match rewrite_global_pointer(
+        &context,
         global_pointer,
         kept,
         relocations,

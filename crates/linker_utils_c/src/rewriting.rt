@@ -23,7 +23,7 @@ use crate::status::Status;
 use linker_rewriting::decisions::{
     AsDecision, AsKeptDecision, Decision, DecisionError, FromDeletion, RewritingError, Subject,
 };
-use linker_rewriting::facts::{OutputFacts, SymbolFacts};
+use linker_rewriting::facts::{OutputFacts, RelaxContext, SymbolFacts};
 use linker_rewriting::groups::{UnrelaxableGroups, has_rewrites};
 use linker_rewriting::phases::Phase;
 use linker_rewriting::sections::{
@@ -292,17 +292,15 @@ pub extern "C" fn linker_utils_survey_placed_section_nonnull(
     let Some(phase) = phase_of(phase) else {
         return Status::UnknownPhase as u32;
     };
-    survey_status(survey_placed_section(
+    let context = RelaxContext {
         architecture,
         phase,
         output,
         symbols,
         addresses,
         values,
-        relocations,
-        section,
-        kept,
-    ))
+    };
+    survey_status(survey_placed_section(&context, relocations, section, kept))
 }
 
 /// The status of a survey.
@@ -512,19 +510,15 @@ pub extern "C" fn linker_utils_rewrite_placed_section_nonnull(
     let Some(phase) = phase_of(phase) else {
         return Status::UnknownPhase as u32;
     };
-    match rewrite_placed_section(
+    let context = RelaxContext {
         architecture,
         phase,
         output,
         symbols,
         addresses,
         values,
-        kept,
-        relocations,
-        section,
-        decisions,
-        deleted,
-    ) {
+    };
+    match rewrite_placed_section(&context, kept, relocations, section, decisions, deleted) {
         Ok(len) => {
             *deleted_used = len;
             Status::Success as u32
@@ -560,18 +554,15 @@ pub extern "C" fn linker_utils_survey_toc_loads_nonnull(
     let Some(architecture) = Architecture::from_machine(machine) else {
         return Status::UnknownArchitecture as u32;
     };
-    survey_status(survey_toc_loads(
+    let context = RelaxContext {
         architecture,
+        phase: Phase::ShortPcRel,
         output,
         symbols,
         addresses,
         values,
-        words_start,
-        words,
-        relocations,
-        section,
-        kept,
-    ))
+    };
+    survey_status(survey_toc_loads(&context, words_start, words, relocations, section, kept))
 }
 
 /// Has the instructions of a section of code compute the addresses that they load from words of an
@@ -613,12 +604,16 @@ pub extern "C" fn linker_utils_rewrite_toc_loads_nonnull(
     let Some(architecture) = Architecture::from_machine(machine) else {
         return Status::UnknownArchitecture as u32;
     };
-    match rewrite_toc_loads(
+    let context = RelaxContext {
         architecture,
+        phase: Phase::ShortPcRel,
         output,
         symbols,
         addresses,
         values,
+    };
+    match rewrite_toc_loads(
+        &context,
         words_start,
         words,
         kept,

@@ -2,7 +2,7 @@ use Rattle.std.proofs.Common.{None, Some, inl, inr, subst, sym, eq-eqb}
 use Rattle.linker_rewriting.proofs.Imports.{IsUnchanged, eqb-true, relaxation_skipped}
 use Rattle.linker_rewriting.proofs.SequenceMembers.{whole_so}
 use Rattle.linker_rewriting.specs.Candidates.{IsCandidateWith, IsTaken}
-use Rattle.linker_rewriting.specs.Inner.Contexts.{context_of}
+use Rattle.linker_rewriting.specs.Facts.{context_of}
 use Rattle.linker_rewriting.specs.Sequences.{IsWhole}
 use Rattle.linker_rewriting.proofs.candidates.candidate_by.Goals as goal
 

@@ -2,7 +2,7 @@ use Rattle.std.proofs.Common.{ℕ, ◌≤◌, ◌∙◌, length, None, Some, ref
 use Rattle.linker_rewriting.proofs.GlobalPointer.{member_made, member_ends, part_bytes, part_decided, part_kept, part_undecided, part_matches}
 use Rattle.linker_rewriting.specs.Decisions.{IsThere, IsWithin}
 use Rattle.linker_rewriting.specs.GlobalPointer.{IsMember, part_start, part_end}
-use Rattle.linker_rewriting.specs.Inner.Contexts.{context_of}
+use Rattle.linker_rewriting.specs.Facts.{context_of}
 use Rattle.linker_rewriting.proofs.global_pointer.decide_part.Goals as goal
 
 pub returns-in_default-clause-decision : goal.returns-in_default-clause-decision

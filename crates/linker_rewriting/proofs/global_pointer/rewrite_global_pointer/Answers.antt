@@ -1,11 +1,11 @@
 use Rattle.std.proofs.Common.{◌/◌, length, map, arith, inl, refl, rules, None}
-use Rattle.linker_rewriting.proofs.Imports.{ShortPcRel, length-map, relocation_in}
+use Rattle.linker_rewriting.proofs.Imports.{length-map, relocation_in}
 use Rattle.linker_rewriting.proofs.GlobalPointer.{whole, means_unsurveyed}
 use Rattle.linker_rewriting.proofs.Rejected.{rejected_first, rejected_with}
 use Rattle.linker_rewriting.specs.Decisions.{IsRejectedBy}
 use Rattle.linker_rewriting.specs.GlobalPointer.{ArePartsRejected, DecidesPart, IsPartDecided, part_start, part_end}
 use Rattle.linker_rewriting.proofs.Listing.{all_fit}
-use Rattle.linker_rewriting.specs.Facts.{context}
+use Rattle.linker_rewriting.specs.Facts.{context_of}
 use Rattle.linker_rewriting.proofs.global_pointer.rewrite_global_pointer.Goals as goal
 
 pub list_deletions-requires-clause-fit : goal.list_deletions-requires-clause-fit
@@ -23,7 +23,7 @@ returns-in-Some-list_deletions g c =
       agree = c.in_default.ensures;
       rewritten = record {
         decided = e.decided;
-        whole = whole (context a.architecture ShortPcRel a.output.now a.symbols.now a.addresses.now a.values.now)
+        whole = whole (context_of a.context.now)
             a.gp a.kept.now a.relocations.now a.section.now (map g.D.AsDecision.decision c.decide_by.new.decisions)
             (length a.relocations.now / 24) e.decided;
         apart = e.apart_by;
@@ -43,10 +43,10 @@ returns-in-Some-list_deletions g c =
 pub returns-in-Err : goal.returns-in-Err
 returns-in-Err g c =
     let a = c.args in
-    let s = context a.architecture ShortPcRel a.output.now a.symbols.now a.addresses.now a.values.now in
+    let s = context_of a.context.now in
     let ds = map g.D.AsDecision.decision c.decide_by.new.decisions in
     let Decides = DecidesPart s a.gp a.kept.now a.relocations.now a.section.now in
-    let IsError = IsRejectedBy Decides (λ n. IsPartDecided s a.gp a.kept.now a.relocations.now a.section.now n (relocation_in a.relocations.now n) None) part_start part_end a.architecture a.relocations.now a.section.now ds in
+    let IsError = IsRejectedBy Decides (λ n. IsPartDecided s a.gp a.kept.now a.relocations.now a.section.now n (relocation_in a.relocations.now n) None) part_start part_end s.architecture a.relocations.now a.section.now ds in
     let is = rejected_with Decides a.relocations.now ds (length a.deleted.now) IsError _ c.in-Err.ensures.rejected in
     record {
       agree = tt;
@@ -56,7 +56,7 @@ returns-in-Err g c =
       form = tt;
       others_stay = c.decide_by.ensures.others_stay;
       deletions_stay = tt;
-      rejected = rejected_first a.symbols.now a.values.now a.relocations.now
+      rejected = rejected_first s.symbols s.values a.relocations.now
           (ArePartsRejected s a.gp a.kept.now a.relocations.now a.section.now ds (length a.deleted.now)) _ (λ n no. no) c.in_default.ensures is;
       surveyed = means_unsurveyed s a.gp a.kept.now a.relocations.now a.section.now ds (length a.deleted.now) _ is;
       entries = refl;

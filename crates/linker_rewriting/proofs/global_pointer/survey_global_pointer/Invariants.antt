@@ -1,9 +1,8 @@
-use Rattle.linker_rewriting.specs.Facts.{context}
+use Rattle.linker_rewriting.specs.Facts.{context_of}
 use Rattle.linker_rewriting.specs.GlobalPointer.{AreSymbolsSurveyed}
-use Rattle.linker_rewriting.proofs.Imports.{ShortPcRel}
 use Rattle.linker_rewriting.proofs.global_pointer.survey_global_pointer.Given as goal
 
 abbrev pub invariant-loop-index : goal.invariant-loop-index
 invariant-loop-index l =
-    AreSymbolsSurveyed (context l.fn.architecture ShortPcRel l.output l.symbols l.addresses l.values) l.gp
+    AreSymbolsSurveyed (context_of l.context) l.gp
     l.relocations l.section l.fn.kept l.kept l.index

@@ -1,6 +1,6 @@
 use Rattle.std.proofs.Common.{◌≡◌, ◌<◌, ◌+◌, ◌/◌, ◌∙◌, length, map, slice_set, ap, sym, subst, arith, false}
 use Rattle.linker_rewriting.proofs.Imports.{drop-set-lt, length-map, map-set}
-use Rattle.linker_rewriting.specs.Inner.Contexts.{context_of}
+use Rattle.linker_rewriting.specs.Facts.{context_of}
 use Rattle.linker_rewriting.specs.RiscVPcrelGroups.{IsInLabel}
 use Rattle.linker_rewriting.specs.Notes.{IsNoteOf}
 use Rattle.linker_rewriting.proofs.LabelGroups.{AreCopied, more_copied, same_copied}

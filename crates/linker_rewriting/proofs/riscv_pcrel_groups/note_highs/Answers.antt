@@ -1,6 +1,6 @@
 use Rattle.std.proofs.Common.{◌≡◌, ◌<◌, ◌+◌, ◌/◌, ◌∙◌, length, map, slice_set, ap, sym, subst, arith, Some, None}
 use Rattle.linker_rewriting.proofs.Imports.{Consumed, IfSome, drop-set-lt, length-map, map-set}
-use Rattle.linker_rewriting.specs.Inner.Contexts.{context_of}
+use Rattle.linker_rewriting.specs.Facts.{context_of}
 use Rattle.linker_rewriting.specs.RiscVPcrelGroups.{IsLacking}
 use Rattle.linker_rewriting.specs.Notes.{AreHighsNoted}
 use Rattle.linker_rewriting.proofs.LabelGroups.{more_noted, same_noted}

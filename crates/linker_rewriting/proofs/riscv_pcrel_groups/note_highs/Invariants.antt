@@ -1,5 +1,5 @@
 use Rattle.std.proofs.Common.{◌≡◌, ◌/◌, length, map, drop}
-use Rattle.linker_rewriting.specs.Inner.Contexts.{context_of}
+use Rattle.linker_rewriting.specs.Facts.{context_of}
 use Rattle.linker_rewriting.specs.Notes.{AreHighsNoted}
 use Rattle.linker_rewriting.proofs.riscv_pcrel_groups.note_highs.Given as goal
 

@@ -1,5 +1,5 @@
 use Rattle.std.proofs.Common.{◌∙◌, map, sym}
-use Rattle.linker_rewriting.specs.Inner.Contexts.{context_of}
+use Rattle.linker_rewriting.specs.Facts.{context_of}
 use Rattle.linker_rewriting.proofs.LabelGroups.{no_labels}
 use Rattle.linker_rewriting.proofs.riscv_pcrel_groups.note_labels.Goals as goal
 

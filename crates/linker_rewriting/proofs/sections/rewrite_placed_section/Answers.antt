@@ -1,6 +1,6 @@
 use Rattle.std.proofs.Common.{◌/◌, length, map, refl, rules}
 use Rattle.linker_rewriting.specs.Decisions.{IsDecidedAfter, IsRejectedIn, IsRejectedWith}
-use Rattle.linker_rewriting.specs.Facts.{context}
+use Rattle.linker_rewriting.specs.Facts.{context_of}
 use Rattle.linker_rewriting.proofs.Listing.{all_fit}
 use Rattle.linker_rewriting.proofs.Noted.{means_unsurveyed}
 use Rattle.linker_rewriting.proofs.Rejected.{rejected_first, rejected_with}
@@ -16,7 +16,7 @@ list_deletions-requires-clause-fit g c =
 pub returns-in-Some-list_deletions : goal.returns-in-Some-list_deletions
 returns-in-Some-list_deletions g c =
     let a = c.args in
-    let s = context a.architecture a.phase a.output.now a.symbols.now a.addresses.now a.values.now in
+    let s = context_of a.context.now in
     let ds = map g.D.AsDecision.decision c.decide_section.new.decisions in
     let e = c.in-Ok.ensures.decided in
     let m = c.make_all.ensures in
@@ -47,7 +47,7 @@ returns-in-Some-list_deletions g c =
 pub returns-in-Err : goal.returns-in-Err
 returns-in-Err g c =
     let a = c.args in
-    let s = context a.architecture a.phase a.output.now a.symbols.now a.addresses.now a.values.now in
+    let s = context_of a.context.now in
     let ds = map g.D.AsDecision.decision c.decide_section.new.decisions in
     let is = c.in-Err.ensures.rejected in
     record {
@@ -59,7 +59,7 @@ returns-in-Err g c =
       form = tt;
       others_stay = c.decide_section.ensures.others_stay;
       deletions_stay = tt;
-      rejected = rejected_first a.symbols.now a.values.now a.relocations.now
+      rejected = rejected_first s.symbols s.values a.relocations.now
           (IsRejectedWith (IsDecidedAfter s a.kept.now a.relocations.now a.section.now) a.relocations.now ds (length a.deleted.now) (IsRejectedIn s a.kept.now a.relocations.now a.section.now ds)) _ (λ n no. no) c.in_default.ensures
           (rejected_with (IsDecidedAfter s a.kept.now a.relocations.now a.section.now) a.relocations.now ds (length a.deleted.now) (IsRejectedIn s a.kept.now a.relocations.now a.section.now ds) _ is);
       surveyed = means_unsurveyed s a.kept.now a.relocations.now a.section.now ds _ is;

@@ -1,7 +1,6 @@
 use Rattle.std.proofs.Common.{◌∙◌, ap, subst, false}
 use Rattle.linker_rewriting.specs.Candidates.{IsCandidateWith}
-use Rattle.linker_rewriting.specs.Facts.{link_facts}
-use Rattle.linker_rewriting.specs.Inner.Contexts.{context_of}
+use Rattle.linker_rewriting.specs.Facts.{context_of, link_facts}
 use Rattle.linker_rewriting.proofs.Imports.{relocation_in}
 use Rattle.linker_rewriting.proofs.toc_indirection.load_candidate.Goals as goal
 

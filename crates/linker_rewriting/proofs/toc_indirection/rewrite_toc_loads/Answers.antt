@@ -1,8 +1,8 @@
 use Rattle.std.proofs.Common.{◌/◌, length, map, arith, refl}
-use Rattle.linker_rewriting.proofs.Imports.{ShortPcRel, length-map}
+use Rattle.linker_rewriting.proofs.Imports.{length-map}
 use Rattle.linker_rewriting.proofs.Rejected.{rejected_first}
 use Rattle.linker_rewriting.proofs.WholeWords.{whole, means_unsurveyed}
-use Rattle.linker_rewriting.specs.Facts.{context}
+use Rattle.linker_rewriting.specs.Facts.{context_of}
 use Rattle.linker_rewriting.specs.TocIndirection.{AreLoadsRejected}
 use Rattle.linker_rewriting.proofs.toc_indirection.rewrite_toc_loads.Goals as goal
 
@@ -15,7 +15,7 @@ returns-in-Ok g c =
       agree = c.in_default.ensures;
       rewritten = record {
         decided = e.decided;
-        whole = whole (context a.architecture ShortPcRel a.output.now a.symbols.now a.addresses.now a.values.now)
+        whole = whole (context_of a.context.now)
             a.words_start a.words.now a.kept.now a.relocations.now a.section.now
             (map g.D.AsDecision.decision c.decide_by.new.decisions) (length a.relocations.now / 24) e.decided;
         apart = e.apart;
@@ -35,14 +35,14 @@ returns-in-Ok g c =
 pub returns-in-Err : goal.returns-in-Err
 returns-in-Err g c =
     let a = c.args in
-    let s = context a.architecture ShortPcRel a.output.now a.symbols.now a.addresses.now a.values.now in
+    let s = context_of a.context.now in
     let ds = map g.D.AsDecision.decision c.decide_by.new.decisions in
     record {
       agree = tt;
       rewritten = tt;
       form = tt;
       others_stay = c.decide_by.ensures.others_stay;
-      rejected = rejected_first a.symbols.now a.values.now a.relocations.now
+      rejected = rejected_first s.symbols s.values a.relocations.now
           (AreLoadsRejected s a.words_start a.words.now a.kept.now a.relocations.now a.section.now ds) _ (λ n no. no) c.in_default.ensures c.in-Err.ensures.rejected;
       surveyed = means_unsurveyed s a.words_start a.words.now a.kept.now a.relocations.now a.section.now ds _ c.in-Err.ensures.rejected;
       section = refl;

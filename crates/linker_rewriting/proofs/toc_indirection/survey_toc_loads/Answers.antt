@@ -1,15 +1,14 @@
 use Rattle.std.proofs.Common.{subst}
 use Rattle.linker_rewriting.proofs.WordsNoted.{more_words}
-use Rattle.linker_rewriting.specs.Facts.{context}
+use Rattle.linker_rewriting.specs.Facts.{context_of}
 use Rattle.linker_rewriting.specs.TocIndirection.{IsKeepingWord, KeepsWord}
-use Rattle.linker_rewriting.proofs.Imports.{ShortPcRel}
 use Rattle.linker_rewriting.proofs.toc_indirection.survey_toc_loads.Goals as goal
 
 pub loop-index-preserved : goal.loop-index-preserved
 loop-index-preserved c =
     let a = c.args in
     let k = c.loop-index.index in
-    let s = context a.architecture ShortPcRel a.output.now a.symbols.now a.addresses.now a.values.now in
+    let s = context_of a.context.now in
     more_words (KeepsWord s a.words_start a.words.now a.relocations.now a.section.now) a.kept.now c.loop-index.kept
     c.keep_word.new.kept k c.keeping_word-word.result c.loop-index.invariant
     (subst (λ r. IsKeepingWord s a.words_start a.words.now a.relocations.now a.section.now k r c.keeping_word-word.result)

@@ -1,9 +1,8 @@
-use Rattle.linker_rewriting.specs.Facts.{context}
+use Rattle.linker_rewriting.specs.Facts.{context_of}
 use Rattle.linker_rewriting.specs.TocIndirection.{AreLoadsSurveyed}
-use Rattle.linker_rewriting.proofs.Imports.{ShortPcRel}
 use Rattle.linker_rewriting.proofs.toc_indirection.survey_toc_loads.Given as goal
 
 abbrev pub invariant-loop-index : goal.invariant-loop-index
 invariant-loop-index l =
-    AreLoadsSurveyed (context l.fn.architecture ShortPcRel l.output l.symbols l.addresses l.values) l.words_start
+    AreLoadsSurveyed (context_of l.context) l.words_start
     l.fn.words l.relocations l.section l.fn.kept l.kept l.index

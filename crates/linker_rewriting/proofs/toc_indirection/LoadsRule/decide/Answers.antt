@@ -1,6 +1,6 @@
 use Rattle.linker_rewriting.proofs.Deciding.{by_rule, ends_in, itself, lacks_by}
 use Rattle.linker_rewriting.specs.Decisions.{start_by, end_by}
-use Rattle.linker_rewriting.specs.Inner.Contexts.{context_of}
+use Rattle.linker_rewriting.specs.Facts.{context_of}
 use Rattle.linker_rewriting.specs.TocIndirection.{DecidesLoad, IsLoadDecided}
 use Rattle.linker_rewriting.proofs.toc_indirection.LoadsRule.decide.Goals as goal
 
