@@ -1,5 +1,6 @@
 -- Groups that stay, noted in a table.
 use Rattle.std.proofs.Common.{◌≡◌, ◌≢◌, ℕ, zero, suc, ◌≤◌, ◌<◌, ◌⊎◌, inl, inr, ◌∙◌, ◌↔◌, List, [], ◌∷◌, length, ap, sym, subst, arith, refl, IsTrue, None, Some, get_or, rules, slice_get, slice_set}
+use Rattle.std.proofs.lemmas.Option.{slice_get-get_or, slice_get_past}
 use Rattle.linker_rewriting.specs.Groups.{keeps, with_kept, kept_by}
 use Rattle.linker_rewriting.specs.Surveys.{AreKeptToo, IsGroup}
 use Rattle.linker_rewriting.proofs.Imports.{Group, UnrelaxableGroups}
@@ -19,45 +20,15 @@ get_set_other (x ∷ xs) zero (suc j) a ne = refl
 get_set_other (x ∷ xs) (suc i) zero a ne = refl
 get_set_other (x ∷ xs) (suc i) (suc j) a ne = get_set_other xs i j a (λ e. ne (ap suc e))
 
-get_past : {X : Type 0} (xs : List X) (i : ℕ) → length xs ≤ i → slice_get xs i ≡ None
-get_past [] i le = refl
-get_past (x ∷ xs) zero le = absurd (omega arith)
-get_past (x ∷ xs) (suc i) le = get_past xs i (omega arith)
-
-pub get_there : {X : Type 0} (xs : List X) (i : ℕ) (x d : X) → i < length xs
-    → x ≡ get_or xs i d → slice_get xs i ≡ Some x
-get_there [] i x d less is = absurd (omega arith)
-get_there (y ∷ ys) zero x d less is = ap Some (sym is)
-get_there (y ∷ ys) (suc i) x d less is = get_there ys i x d (omega arith) is
-
 -- one more kind stays
 kept_with : (group g : Group) (k : UnrelaxableGroups)
     → IsTrue (keeps g (with_kept group k)) ↔ (IsTrue (keeps g k) ⊎ (g ≡ group))
 kept_with InitialExec InitialExec k = (λ _. inr refl, λ _. refl)
-kept_with InitialExec GeneralDynamic k = (λ h. inl h, λ either. elim either [ inl h ↦ h | inr e ↦ absurd (cc) ])
-kept_with InitialExec LocalDynamic k = (λ h. inl h, λ either. elim either [ inl h ↦ h | inr e ↦ absurd (cc) ])
-kept_with InitialExec Descriptor k = (λ h. inl h, λ either. elim either [ inl h ↦ h | inr e ↦ absurd (cc) ])
-kept_with InitialExec GotLoad k = (λ h. inl h, λ either. elim either [ inl h ↦ h | inr e ↦ absurd (cc) ])
-kept_with GeneralDynamic InitialExec k = (λ h. inl h, λ either. elim either [ inl h ↦ h | inr e ↦ absurd (cc) ])
 kept_with GeneralDynamic GeneralDynamic k = (λ _. inr refl, λ _. refl)
-kept_with GeneralDynamic LocalDynamic k = (λ h. inl h, λ either. elim either [ inl h ↦ h | inr e ↦ absurd (cc) ])
-kept_with GeneralDynamic Descriptor k = (λ h. inl h, λ either. elim either [ inl h ↦ h | inr e ↦ absurd (cc) ])
-kept_with GeneralDynamic GotLoad k = (λ h. inl h, λ either. elim either [ inl h ↦ h | inr e ↦ absurd (cc) ])
-kept_with LocalDynamic InitialExec k = (λ h. inl h, λ either. elim either [ inl h ↦ h | inr e ↦ absurd (cc) ])
-kept_with LocalDynamic GeneralDynamic k = (λ h. inl h, λ either. elim either [ inl h ↦ h | inr e ↦ absurd (cc) ])
 kept_with LocalDynamic LocalDynamic k = (λ _. inr refl, λ _. refl)
-kept_with LocalDynamic Descriptor k = (λ h. inl h, λ either. elim either [ inl h ↦ h | inr e ↦ absurd (cc) ])
-kept_with LocalDynamic GotLoad k = (λ h. inl h, λ either. elim either [ inl h ↦ h | inr e ↦ absurd (cc) ])
-kept_with Descriptor InitialExec k = (λ h. inl h, λ either. elim either [ inl h ↦ h | inr e ↦ absurd (cc) ])
-kept_with Descriptor GeneralDynamic k = (λ h. inl h, λ either. elim either [ inl h ↦ h | inr e ↦ absurd (cc) ])
-kept_with Descriptor LocalDynamic k = (λ h. inl h, λ either. elim either [ inl h ↦ h | inr e ↦ absurd (cc) ])
 kept_with Descriptor Descriptor k = (λ _. inr refl, λ _. refl)
-kept_with Descriptor GotLoad k = (λ h. inl h, λ either. elim either [ inl h ↦ h | inr e ↦ absurd (cc) ])
-kept_with GotLoad InitialExec k = (λ h. inl h, λ either. elim either [ inl h ↦ h | inr e ↦ absurd (cc) ])
-kept_with GotLoad GeneralDynamic k = (λ h. inl h, λ either. elim either [ inl h ↦ h | inr e ↦ absurd (cc) ])
-kept_with GotLoad LocalDynamic k = (λ h. inl h, λ either. elim either [ inl h ↦ h | inr e ↦ absurd (cc) ])
-kept_with GotLoad Descriptor k = (λ h. inl h, λ either. elim either [ inl h ↦ h | inr e ↦ absurd (cc) ])
 kept_with GotLoad GotLoad k = (λ _. inr refl, λ _. refl)
+kept_with group g k = (λ h. inl h, λ either. elim either [ inl h ↦ h | inr e ↦ absurd (cc) ])
 
 pub past_kept : (table : List UnrelaxableGroups) (group : Group) (symbol : ℕ) → length table ≤ symbol
     → AreKeptToo table table (IsGroup group symbol)
@@ -65,7 +36,7 @@ past_kept table group symbol le g s = (
   λ h. inl h,
   λ either. elim either [
     | inl h ↦ h
-    | inr e ↦ subst (λ k. IsTrue (kept_by g k)) (sym (get_past table s (let same = e.1 in omega arith))) refl
+    | inr e ↦ subst (λ k. IsTrue (kept_by g k)) (sym (slice_get_past table s (let same = e.1 in omega arith))) refl
   ],
 )
 
@@ -104,13 +75,9 @@ one_kept table group symbol old less is g s =
           )
     ]
 
-get_is : {X : Type 0} (xs : List X) (i : ℕ) (d : X) → i < length xs
-    → slice_get xs i ≡ Some (get_or xs i d)
-get_is xs i d less = get_there xs i (get_or xs i d) d less refl
-
 pub set_kept : (table : List UnrelaxableGroups) (group : Group) (symbol : ℕ) (new d : UnrelaxableGroups)
     → symbol < length table → new ≡ with_kept group (get_or table symbol d)
     → AreKeptToo table (slice_set table symbol new) (IsGroup group symbol)
 set_kept table group symbol new d less is =
     subst (λ x. AreKeptToo table (slice_set table symbol x) (IsGroup group symbol)) (sym is)
-    (one_kept table group symbol (get_or table symbol d) less (get_is table symbol d less))
+    (one_kept table group symbol (get_or table symbol d) less (slice_get-get_or table symbol d less))

@@ -1,10 +1,10 @@
 -- The groups that stay, noted relocation by relocation.
 use Rattle.std.proofs.Common.{◌≡◌, ℕ, ◌+◌, inl, inr, ◌∙◌, List, ap, sym, subst, arith, refl, IsTrue, Option, None, Some, Bool, true, false}
-use Rattle.linker_rewriting.proofs.Imports.{AArch64, Addresses, Architecture, GotToPcRel, Group, Grouped, IfGroupMatches, LoongArch64, OutputFacts, Phase, Ppc64, PreLayout, Rela, RiscV, Scope, ShortPcRel, Symbol, SymbolFacts, TlsLocalExec, UnrelaxableGroups, X86_64, relocation_in, slice_get}
-use Rattle.linker_rewriting.specs.Facts.{RelaxContext, context}
+use Rattle.linker_rewriting.proofs.Imports.{Group, Grouped, IfGroupMatches, Rela, Scope, UnrelaxableGroups, relocation_in}
+use Rattle.linker_rewriting.specs.Facts.{RelaxContext}
 use Rattle.linker_rewriting.specs.Groups.{stays_at, symbol_of_group}
-use Rattle.linker_rewriting.specs.Inner.RelocationTypes.{needs_mark, is_of_group, KeepsNone}
-use Rattle.linker_rewriting.specs.Surveys.{AreKeptToo, IsGroupOf, IsOfThreads, IsKeeping, IsUnmarked, IsUnmarkedIn, IsUnmarkedBy, HasRewrite, StaysBy, AllStayIf, IsNoted, IsCause, IsSurveyedIn}
+use Rattle.linker_rewriting.specs.Inner.RelocationTypes.{is_of_group, KeepsNone}
+use Rattle.linker_rewriting.specs.Surveys.{AreKeptToo, IsGroupOf, IsOfThreads, IsKeeping, IsUnmarked, IsUnmarkedBy, HasRewrite, StaysBy, AllStayIf, IsNoted, IsCause, IsSurveyedIn}
 use borrow.Author.Count.{below_more}
 
 abbrev pub AreKept : List UnrelaxableGroups → List UnrelaxableGroups → Type 0
@@ -100,19 +100,6 @@ more_surveyed s bytes section before mid once after k group unmarked surveyed ke
 
 -- ---- a relocation that keeps none
 
-not_marked : (architecture : Architecture) (phase : Phase) (symbols : List SymbolFacts)
-    (bytes : List ℕ) (n : ℕ) (r : Rela)
-    → needs_mark phase architecture (slice_get symbols r.symbol) ≡ false
-    → IsUnmarkedIn phase architecture symbols bytes n r false
-not_marked Ppc64 PreLayout symbols bytes n r is = subst (λ b. IsUnmarkedBy b bytes n r false) (sym is) refl
-not_marked AArch64 PreLayout symbols bytes n r is = refl
-not_marked RiscV PreLayout symbols bytes n r is = refl
-not_marked LoongArch64 PreLayout symbols bytes n r is = refl
-not_marked X86_64 PreLayout symbols bytes n r is = refl
-not_marked architecture TlsLocalExec symbols bytes n r is = refl
-not_marked architecture GotToPcRel symbols bytes n r is = refl
-not_marked architecture ShortPcRel symbols bytes n r is = refl
-
 of_no_group : (s : RelaxContext) (bytes section : List ℕ) (n : ℕ) (r : Rela) (scope : Scope)
     → is_of_group scope ≡ false → HasRewrite s bytes section n r scope
 of_no_group s bytes section n r (Grouped group) isnt = absurd (let e : true ≡ false = isnt in cc)
@@ -129,17 +116,14 @@ none_too kept IsAdded none group symbol = (
   ]),
 )
 
-pub one_left : (architecture : Architecture) (phase : Phase) (output : OutputFacts)
-    (symbols : List SymbolFacts) (addresses : Addresses) (values : List Symbol)
-    (bytes section : List ℕ) (before mid : List UnrelaxableGroups) (k : ℕ)
-    → IsSurveyedIn (context architecture phase output symbols addresses values) bytes section before mid k
-    → KeepsNone architecture phase symbols (relocation_in bytes k)
-    → IsSurveyedIn (context architecture phase output symbols addresses values) bytes section before mid (k + 1)
-one_left architecture phase output symbols addresses values bytes section before mid k surveyed none =
-    let s = context architecture phase output symbols addresses values in
+pub one_left : (s : RelaxContext) (bytes section : List ℕ) (before mid : List UnrelaxableGroups) (k : ℕ)
+    → IsSurveyedIn s bytes section before mid k
+    → KeepsNone s.architecture s.phase s.symbols (relocation_in bytes k)
+    → IsSurveyedIn s bytes section before mid (k + 1)
+one_left s bytes section before mid k surveyed none =
     let r = relocation_in bytes k in
     more_surveyed s bytes section before mid mid mid k None false surveyed
     ((none.0).0, (none.0).1, of_no_group s bytes section k r ((none.0).0) ((none.0).2))
     (none_too mid (IsGroupOf None r.symbol) (λ group symbol is. is))
-    (not_marked architecture phase symbols bytes k r (none.1))
+    (subst (λ b. IsUnmarkedBy b bytes k r false) (sym (none.1)) refl)
     (none_too mid (IsOfThreads false) (λ group symbol is. let e : false ≡ true = is.0 in cc))

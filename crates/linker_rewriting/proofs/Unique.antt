@@ -28,7 +28,7 @@ use Rattle.linker_utils.specs.declared.architecture.Relaxation.TheVariants as re
 use Rattle.linker_rewriting.specs.Candidates.{IsCallIn, IsTaken, IsCandidate, IsCandidateBy, IsCandidateWith, IsMatched, at_base, calls_tls_get_addr, deletes_within}
 use Rattle.linker_rewriting.specs.Facts.{RelaxContext, link_facts}
 use Rattle.linker_rewriting.specs.Sequences.{IsWhole, is_marked_in}
-use Rattle.linker_rewriting.specs.Surveys.{IsMarked, IsUnmarkedBy, IsUnmarkedIn}
+use Rattle.linker_rewriting.specs.Surveys.{IsMarked, IsUnmarkedBy}
 use Rattle.linker_rewriting.specs.Groups.{is_mark, aarch64_scope_in, riscv_scope_in, loongarch_scope_in, ppc64_scope_in, x86_64_scope_in, IsScopeIn}
 use Rattle.linker_rewriting.specs.declared.phases.Phase.TheVariants as phases
 use Rattle.linker_elf.specs.Architectures.{IsNamedValue}
@@ -327,22 +327,8 @@ one_marked bytes (suc n) r x y a b =
     ∙ (ap (λ z. z && (relocation_in bytes n).offset == r.offset)
     (of_one ppc64_name is_mark false (relocation_in bytes n).r_type (a.0) (b.0) markless (a.1) (b.1)) ∙ sym (b.2))
 
-one_unmarked_by : (calls : Bool) (bytes : List ℕ) (n : ℕ) (r : Rela) (x y : Bool)
-    → IsUnmarkedBy calls bytes n r x → IsUnmarkedBy calls bytes n r y → x ≡ y
+pub one_unmarked_by : (needs : Bool) (bytes : List ℕ) (n : ℕ) (r : Rela) (x y : Bool)
+    → IsUnmarkedBy needs bytes n r x → IsUnmarkedBy needs bytes n r y → x ≡ y
 one_unmarked_by false bytes n r x y a b = a ∙ sym b
 one_unmarked_by true bytes n r x y a b =
     a.2 ∙ (ap not (one_marked bytes n r (a.0) (b.0) (a.1) (b.1)) ∙ sym (b.2))
-
-pub one_unmarked : (phase : Phase) (architecture : Architecture) (symbols : List SymbolFacts)
-    (bytes : List ℕ) (n : ℕ) (r : Rela) (x y : Bool)
-    → IsUnmarkedIn phase architecture symbols bytes n r x
-    → IsUnmarkedIn phase architecture symbols bytes n r y → x ≡ y
-one_unmarked phases.PreLayout Ppc64 symbols bytes n r x y a b =
-    one_unmarked_by (calls_tls_get_addr (slice_get symbols r.symbol)) bytes n r x y a b
-one_unmarked phases.PreLayout AArch64 symbols bytes n r x y a b = a ∙ sym b
-one_unmarked phases.PreLayout RiscV symbols bytes n r x y a b = a ∙ sym b
-one_unmarked phases.PreLayout LoongArch64 symbols bytes n r x y a b = a ∙ sym b
-one_unmarked phases.PreLayout X86_64 symbols bytes n r x y a b = a ∙ sym b
-one_unmarked phases.TlsLocalExec architecture symbols bytes n r x y a b = a ∙ sym b
-one_unmarked phases.GotToPcRel architecture symbols bytes n r x y a b = a ∙ sym b
-one_unmarked phases.ShortPcRel architecture symbols bytes n r x y a b = a ∙ sym b

@@ -2,13 +2,11 @@
 use Rattle.std.proofs.Common.{◌≡◌, ℕ, zero, suc, ◌+◌, ◌-◌, ◌≤◌, ◌<◌, ◌∙◌, List, [], ◌++◌, ap, subst, arith, refl}
 use Rattle.linker_rewriting.proofs.Surveying.{one_left}
 use Rattle.linker_rewriting.specs.Decisions.{deleted_of, deletion_by, deletions_by}
-use Rattle.linker_rewriting.specs.Facts.{context}
+use Rattle.linker_rewriting.specs.Facts.{RelaxContext}
 use Rattle.linker_rewriting.specs.Inner.RelocationTypes.{KeepsNone}
 use Rattle.linker_rewriting.specs.Inner.Left.{AreKept}
 use Rattle.linker_rewriting.specs.Surveys.{IsSurveyedIn}
-use Rattle.linker_rewriting.proofs.Imports.{Addresses, Architecture, Decision, OutputFacts, Phase, Symbol, SymbolFacts, UnrelaxableGroups, relocation_in}
-
--- ---- decisions
+use Rattle.linker_rewriting.proofs.Imports.{Decision, UnrelaxableGroups, relocation_in}
 
 -- ---- what is made
 
@@ -22,33 +20,25 @@ none_deleted bytes decisions (suc n) are =
 
 -- ---- surveys
 
-left_so_far : (architecture : Architecture) (phase : Phase) (output : OutputFacts)
-    (symbols : List SymbolFacts) (addresses : Addresses) (values : List Symbol)
-    (bytes section : List ℕ) (before mid : List UnrelaxableGroups) (from count : ℕ)
-    → IsSurveyedIn (context architecture phase output symbols addresses values) bytes section before mid from
-    → ((n : ℕ) → from ≤ n → n < from + count
-    → KeepsNone architecture phase symbols (relocation_in bytes n))
-    → IsSurveyedIn (context architecture phase output symbols addresses values) bytes section before mid (from + count)
-left_so_far architecture phase output symbols addresses values bytes section before mid from zero surveyed none =
-    let e : from ≡ from + 0 = omega arith in
-    subst (IsSurveyedIn (context architecture phase output symbols addresses values) bytes section before mid) e surveyed
-left_so_far architecture phase output symbols addresses values bytes section before mid from (suc count) surveyed none =
-    let e : from + count + 1 ≡ from + suc count = omega arith in
-    subst (IsSurveyedIn (context architecture phase output symbols addresses values) bytes section before mid) e
-    (one_left architecture phase output symbols addresses values bytes section before mid (from + count)
-    (left_so_far architecture phase output symbols addresses values bytes section before mid from count surveyed
-    (λ n le less. none n le (omega (arith, less))))
-    (none (from + count) (omega arith) (omega arith)))
+module _ (s : RelaxContext) (bytes section : List ℕ) (before mid : List UnrelaxableGroups) where
+  left_so_far : (from count : ℕ) → IsSurveyedIn s bytes section before mid from
+      → ((n : ℕ) → from ≤ n → n < from + count
+      → KeepsNone s.architecture s.phase s.symbols (relocation_in bytes n))
+      → IsSurveyedIn s bytes section before mid (from + count)
+  left_so_far from zero surveyed none =
+      let e : from ≡ from + 0 = omega arith in subst (IsSurveyedIn s bytes section before mid) e surveyed
+  left_so_far from (suc count) surveyed none =
+      let e : from + count + 1 ≡ from + suc count = omega arith in
+      subst (IsSurveyedIn s bytes section before mid) e
+      (one_left s bytes section before mid (from + count)
+      (left_so_far from count surveyed (λ n le less. none n le (omega (arith, less))))
+      (none (from + count) (omega arith) (omega arith)))
 
--- what is surveyed up to an index is so up to a later one, where those between keep none
-pub left_between : (architecture : Architecture) (phase : Phase) (output : OutputFacts)
-    (symbols : List SymbolFacts) (addresses : Addresses) (values : List Symbol)
-    (bytes section : List ℕ) (before mid : List UnrelaxableGroups) (from to : ℕ) → from ≤ to
-    → IsSurveyedIn (context architecture phase output symbols addresses values) bytes section before mid from
-    → ((n : ℕ) → from ≤ n → n < to → KeepsNone architecture phase symbols (relocation_in bytes n))
-    → IsSurveyedIn (context architecture phase output symbols addresses values) bytes section before mid to
-left_between architecture phase output symbols addresses values bytes section before mid from to le surveyed none =
-    let e : from + (to - from) ≡ to = omega (arith, le) in
-    subst (IsSurveyedIn (context architecture phase output symbols addresses values) bytes section before mid) e
-    (left_so_far architecture phase output symbols addresses values bytes section before mid from (to - from) surveyed
-    (λ n from_n less. none n from_n (omega (arith, less, le))))
+  -- what is surveyed up to an index is so up to a later one, where those between keep none
+  pub left_between : (from to : ℕ) → from ≤ to → IsSurveyedIn s bytes section before mid from
+      → ((n : ℕ) → from ≤ n → n < to → KeepsNone s.architecture s.phase s.symbols (relocation_in bytes n))
+      → IsSurveyedIn s bytes section before mid to
+  left_between from to le surveyed none =
+      let e : from + (to - from) ≡ to = omega (arith, le) in
+      subst (IsSurveyedIn s bytes section before mid) e
+      (left_so_far from (to - from) surveyed (λ n from_n less. none n from_n (omega (arith, less, le))))

@@ -24,16 +24,15 @@ IsUnmarkedBy false bytes n r unmarked = unmarked ≡ false
 IsUnmarkedBy true bytes n r unmarked =
     (marked : Bool) × IsMarked bytes n r marked × (unmarked ≡ not marked)
 
--- PowerPC64: a use of `__tls_get_addr` without a mark, of which nobody knows whose address it is
--- called for (64-Bit ELF V2 ABI, "TLS Linkage Optimizations")
-abbrev pub IsUnmarkedIn : Phase → Architecture → List SymbolFacts → List ℕ → ℕ → Rela → Bool
-    → Type 0
-IsUnmarkedIn PreLayout Ppc64 symbols bytes n r unmarked =
-    IsUnmarkedBy (calls_tls_get_addr (slice_get symbols r.symbol)) bytes n r unmarked
-IsUnmarkedIn phase architecture symbols bytes n r unmarked = unmarked ≡ false
+-- PowerPC64: a use of `__tls_get_addr`. Without a mark nobody knows whose address it is called for
+-- (64-Bit ELF V2 ABI, "TLS Linkage Optimizations").
+abbrev pub needs_mark : Phase → Architecture → Option SymbolFacts → Bool
+needs_mark PreLayout Ppc64 = calls_tls_get_addr
+needs_mark phase architecture = λ symbol. false
 
 abbrev pub IsUnmarked : RelaxContext → List ℕ → ℕ → Rela → Bool → Type 0
-IsUnmarked s = IsUnmarkedIn s.phase s.architecture s.symbols
+IsUnmarked s bytes n r =
+    IsUnmarkedBy (needs_mark s.phase s.architecture (slice_get s.symbols r.symbol)) bytes n r
 
 -- it keeps these
 abbrev pub IsThreadLocal : Group → Type 0

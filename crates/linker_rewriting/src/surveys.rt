@@ -4,10 +4,9 @@ ghost use Rattle.std.specs.Prelude.{◌≡◌, ◌+◌, ◌<◌, ◌≤◌, ◌/
 ghost use Rattle.std.specs.Prelude.{IfErr, OnErr};
 ghost use Rattle.linker_section.specs.Relocations.{relocation_in};
 ghost use Rattle.linker_rewriting.specs.Agreement.{Agree, IsContradiction};
-ghost use Rattle.linker_rewriting.specs.Candidates.{calls_tls_get_addr};
 ghost use Rattle.linker_rewriting.specs.Facts.{context_of};
-ghost use Rattle.linker_rewriting.specs.Inner.RelocationTypes.{needs_mark, KeepsNone};
-ghost use Rattle.linker_rewriting.specs.Surveys.{IsKeeping, IsMarked, IsUnmarkedIn, IsUnmarkedBy};
+ghost use Rattle.linker_rewriting.specs.Inner.RelocationTypes.{KeepsNone};
+ghost use Rattle.linker_rewriting.specs.Surveys.{IsKeeping, IsMarked, IsUnmarked, needs_mark};
 ghost use Rattle.linker_rewriting.specs.Surveys.{AreKeptToo, IsGroup, IsGroupOf, IsOfThreads};
 ghost use Rattle.linker_rewriting.specs.Surveys.{IsSurveyed, IsSurveyedIn};
 
@@ -99,44 +98,6 @@ fn is_marked(relocations: &[u8], index: usize, relocation: &Rela) -> bool
     is_mark && before.offset == relocation.offset
 }
 
-/// PowerPC64: whether a relocation is of `__tls_get_addr` and has no mark.
-#[inline(always)]
-fn ppc64_is_unmarked(
-    symbols: &[SymbolFacts],
-    relocations: &[u8],
-    index: usize,
-    relocation: &Rela,
-) -> bool
-    requires { index ≤ length relocations.now / 24 }
-    ensures { IsUnmarkedBy (calls_tls_get_addr (slice_get symbols.now relocation.now.symbol))
-        relocations.now index relocation.now result }
-{
-    if !is_tls_get_addr(symbols, relocation.symbol) {
-        return false;
-    }
-    !is_marked(relocations, index, relocation)
-}
-
-/// Whether a relocation is one that keeps all thread-local storage of its object.
-#[inline(always)]
-fn is_unmarked(
-    context: &RelaxContext<'_>,
-    relocations: &[u8],
-    index: usize,
-    relocation: &Rela,
-) -> bool
-    requires { index ≤ length relocations.now / 24 }
-    ensures { IsUnmarkedIn context.now.phase context.now.architecture context.now.symbols.now
-        relocations.now index relocation.now result }
-{
-    match (context.phase, context.architecture) {
-        (Phase::PreLayout, Architecture::Ppc64) => {
-            ppc64_is_unmarked(context.symbols, relocations, index, relocation)
-        }
-        _ => false,
-    }
-}
-
 /// Whether a relocation is one whose mark a survey looks for: a use of `__tls_get_addr` on
 /// PowerPC64.
 #[inline(always)]
@@ -153,6 +114,24 @@ fn needs_mark(
         (Phase::PreLayout, Architecture::Ppc64) => is_tls_get_addr(symbols, relocation.symbol),
         _ => false,
     }
+}
+
+/// Whether a relocation is one that keeps all thread-local storage of its object: it needs a mark,
+/// and has none.
+#[inline(always)]
+fn is_unmarked(
+    context: &RelaxContext<'_>,
+    relocations: &[u8],
+    index: usize,
+    relocation: &Rela,
+) -> bool
+    requires { index ≤ length relocations.now / 24 }
+    ensures { IsUnmarked (context_of context.now) relocations.now index relocation.now result }
+{
+    if !needs_mark(context.architecture, context.phase, context.symbols, relocation) {
+        return false;
+    }
+    !is_marked(relocations, index, relocation)
 }
 
 /// Whether the relocation with an index is of no group by its `r_type`, and needs no mark.

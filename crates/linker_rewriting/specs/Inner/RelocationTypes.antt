@@ -1,10 +1,9 @@
 -- Which relocations are rewritten in a phase, and for which a survey asks.
-use Rattle.std.specs.Prelude.{◌≡◌, ℕ, Bool, true, false, List, slice_get, Option}
+use Rattle.std.specs.Prelude.{◌≡◌, ℕ, Bool, true, false, List, slice_get}
 use Rattle.linker_rewriting.specs.Imports.{Architecture, Grouped, IfGroupMatches, NotRelaxable}
-use Rattle.linker_rewriting.specs.Imports.{Phase, PreLayout, Rela, Scope, SymbolFacts}
-use Rattle.linker_rewriting.specs.Candidates.{calls_tls_get_addr}
+use Rattle.linker_rewriting.specs.Imports.{Phase, Rela, Scope, SymbolFacts}
 use Rattle.linker_rewriting.specs.Groups.{IsScopeIn}
-use Rattle.linker_elf.specs.declared.elf.architecture.Architecture.TheVariants as architectures
+use Rattle.linker_rewriting.specs.Surveys.{needs_mark}
 
 -- a relocation with an `r_type` that isn't listed has no scope
 abbrev pub IsListed : Architecture → Phase → ℕ → Bool → Type 0
@@ -26,12 +25,7 @@ abbrev pub IsUngroupedUnless : Architecture → Phase → ℕ → Bool → Type 
 IsUngroupedUnless architecture phase r_type may_be_grouped =
     may_be_grouped ≡ false → IsOfNone architecture phase r_type
 
--- PowerPC64: it asks for the mark of a use of `__tls_get_addr`
-abbrev pub needs_mark : Phase → Architecture → Option SymbolFacts → Bool
-needs_mark PreLayout architectures.Ppc64 = calls_tls_get_addr
-needs_mark phase architecture = λ symbol. false
-
--- a relocation is of no group, and isn't may_be_grouped for its mark
+-- a relocation is of no group, and needs no mark
 abbrev pub KeepsNone : Architecture → Phase → List SymbolFacts → Rela → Type 0
 KeepsNone architecture phase symbols r =
     IsOfNone architecture phase r.r_type

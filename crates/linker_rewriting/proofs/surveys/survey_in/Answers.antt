@@ -13,8 +13,7 @@ loop-index-preserved c =
     let same = c.relocation_in-relocation.ensures in
     record {
       within = c.next_keeping-index-in-loop-index.ensures.within;
-      surveyed = left_between a.context.now.architecture a.context.now.phase a.context.now.output.now a.context.now.symbols.now a.context.now.addresses.now a.context.now.values.now a.relocations.now a.section.now
-          a.kept.now c.keep_threads.new.kept (k + 1) c.next_keeping-index-in-loop-index.result c.next_keeping-index-in-loop-index.ensures.from
+      surveyed = left_between s a.relocations.now a.section.now a.kept.now c.keep_threads.new.kept (k + 1) c.next_keeping-index-in-loop-index.result c.next_keeping-index-in-loop-index.ensures.from
           (more_surveyed s a.relocations.now a.section.now
           a.kept.now c.loop-index.kept c.keep_group.new.kept c.keep_threads.new.kept k
           c.keeping-group.result c.is_unmarked-unmarked.result c.loop-index.invariant.surveyed
@@ -31,8 +30,7 @@ loop-index-init c =
     let s = context_of a.context.now in
     record {
       within = c.next_keeping-index.ensures.within;
-      surveyed = left_between a.context.now.architecture a.context.now.phase a.context.now.output.now a.context.now.symbols.now a.context.now.addresses.now a.context.now.values.now a.relocations.now a.section.now
-          a.kept.now a.kept.now 0 c.next_keeping-index.result c.next_keeping-index.ensures.from
+      surveyed = left_between s a.relocations.now a.section.now a.kept.now a.kept.now 0 c.next_keeping-index.result c.next_keeping-index.ensures.from
           (none_surveyed s a.relocations.now a.section.now a.kept.now)
           c.next_keeping-index.ensures.between;
     }
