@@ -1,12 +1,12 @@
 -- The relocations of a load from the GOT of LoongArch stand next to each other, and both are
 -- rewritten.
 use Rattle.linker_final.proofs.Imports.{◌≡◌, ℕ, suc, ◌∙◌, ◌+◌, ◌-◌, ◌<◌, inl, inr, List, ap, sym, subst, arith, refl, true, false, Option, Some, None, cases_Bool, IsNamed, IsNameOf, r_type_of, loongarch_name, Choice, LinkFacts, LoongArch64Relocation, IsCandidateWith, AreDecidedIn, IsDecidedAfter, IsScopeDecision, decision_at, decision_of, is_taken, takes_next, RelaxContext, pre_layout, link_facts, IsScopeIn, loongarch_scope_in, Decision, Kept, Rewritten, Consumed, relocation_in, Rela, Relaxation, LoongArch64, Linked, count, IsCandidate, IsDecidedAlone}
-use Rattle.linker_elf.specs.declared.loongarch64.relocations.LoongArch64Relocation.TheVariants as names
 use Rattle.linker_rewriting.proofs.LoongArchLoads.{loads_are_whole}
 use Rattle.linker_rewriting.specs.Rewritten.{IsLoadAt, IsRewritten}
 use Rattle.linker_rewriting.proofs.SequenceMembers.{among, are_there}
 use Rattle.linker_rewriting.specs.Sequences.{IsWhole, are_members, is_marked_in, is_whole, marked_load}
 use Rattle.linker_rewriting.specs.declared.phases.Phase.TheVariants.{PreLayout}
+use Rattle.linker_elf.specs.declared.loongarch64.relocations.LoongArch64Relocation.TheVariants as names
 
 -- The relocations at two indexes are those of a `pcalau12i` and of the `ld.d` after it, of one S +
 -- A, and both are rewritten.
@@ -98,7 +98,7 @@ whole_of : (s : RelaxContext) (bytes section : List ℕ) (n : ℕ) (r : Rela) (c
     → IsCandidate s bytes section n r (Some chosen) → IsWhole s.architecture bytes n r true
 whole_of s bytes section n r chosen =
     whole_with s bytes section n r chosen
-    (link_facts s.phase s.output s.symbols s.addresses s.values r r (is_marked_in s.phase s.architecture bytes n r))
+    (link_facts s r r (is_marked_in s.phase s.architecture bytes n r))
 
 -- a decision of one candidate
 record IsMade (d : Decision) (candidate : Option (Choice Relaxation ℕ)) : Type 0 where

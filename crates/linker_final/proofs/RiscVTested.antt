@@ -2,13 +2,13 @@
 use Rattle.linker_final.proofs.Imports.{◌≡◌, ◌≢◌, ◌⊎◌, ◌^◌, ◌<◌, ◌-◌, ◌*◌, pos, negsuc, ℕ, suc, [], ◌∷◌, Bool, true, false, refl, sym, ap, subst, ◌∙◌, inl, inr, arith, List, Option, Some, None, if◌then◌else◌, slice_get, nat_lt, w64, cast_signed, cast_unsigned, from_le_bytes, AllHold, entry, IsWithin, ints, ltb-true, IsNamed, IsNameOf, pair_row, riscv_name, difference_64, sum_64, GotTpOff, TpOff, RelocationKindInfo, Choice, LinkFacts, Operands, IType, UType, RiscVRelocation, IsChosen, chosen_or_labelled, IsLowOffset, AppliesToRiscV, HasPattern, RiscVEntry, by_low_offset, riscv_entries, RelaxContext, address_in, link_facts, IsScopeIn, riscv_scope_in, is_labelled, Rewritten, RewrittenWithSymbol, Labelled, NotRelaxable, Phase, relocation_in, operands_with, Addresses, Symbol, Rela, Relaxation, RiscV, take, drop, HasAddresses, low_12_bounds, operands_before, Reaches, riscv_pair_bounds, count, IsNotRewrittenBy, NoneIsInitialExec, OffsetsAreLow, OffsetsAreLowOf, riscv_row_of, facts_at, facts_by, facts_with, placed_facts, far_entry, is_label_marked, without_entry, IsOfOne, of_entry}
 use mir.Val.{sel}
 use Rattle.linker_base.proofs.Bits.{cast_negative}
-use Rattle.linker_elf.specs.declared.riscv64.relocations.RiscVRelocation.TheVariants as names
 use Rattle.linker_final.proofs.RiscVChosen.{anyhow, kind_in, of_table}
-use Rattle.linker_utils.specs.declared.architecture.Relaxation.TheVariants as relaxations
 use Rattle.linker_utils.specs.declared.riscv64.rewrites.RewriteKind.{RewriteKind}
-use Rattle.linker_utils.specs.declared.riscv64.rewrites.RewriteKind.TheVariants as kinds
 use Rattle.linker_rewriting.specs.declared.facts.OutputFacts.{OutputFacts}
 use Rattle.linker_rewriting.specs.declared.facts.SymbolFacts.{SymbolFacts}
+use Rattle.linker_elf.specs.declared.riscv64.relocations.RiscVRelocation.TheVariants as names
+use Rattle.linker_utils.specs.declared.architecture.Relaxation.TheVariants as relaxations
+use Rattle.linker_utils.specs.declared.riscv64.rewrites.RewriteKind.TheVariants as kinds
 use Rattle.linker_rewriting.specs.declared.phases.Phase.TheVariants as phases
 
 -- ---- the facts
@@ -201,7 +201,7 @@ never name named kind each l rewriting riscv i chosen subject below is_name deci
     let late : s.phase ≢ phases.PreLayout =
     λ early. let e : Labelled ≡ NotRelaxable = scope.value_is ∙ ap (λ (p : Phase). riscv_scope_in p scope.name) early in cc in
     let marked = is_label_marked s.architecture s.phase l.relocations i r of.high in
-    let own = without_entry_is (link_facts s.phase s.output s.symbols s.addresses s.values high high marked) c.facts of.facts_are in
+    let own = without_entry_is (link_facts s high high marked) c.facts of.facts_are in
     let placed = by_symbol s.output s.addresses s.values high marked (own.0) s.phase (slice_get s.symbols high.symbol) (inr late) (own.1) in
     let known : c.facts.has_addresses ≡ true =
     ap (λ (f : LinkFacts). f.has_addresses) (own.2) ∙ ap (λ (f : LinkFacts). f.has_addresses) placed.are in

@@ -11,7 +11,7 @@ use Rattle.linker_rewriting.proofs.PreLayout.{are_early}
 use Rattle.linker_rewriting.proofs.Unique.{one_candidate, one_scope}
 use Rattle.linker_rewriting.specs.Candidates.{IsCandidate, IsCandidateWith}
 use Rattle.linker_rewriting.specs.Decisions.{AreDecidedIn, IsDecidedAfter, IsDecidedAlone, IsScopeDecision, IsGroupDecision, IsRewrittenAlone, IsRewrittenAt, decision_ahead, decision_at, decision_of, is_taken, takes_next}
-use Rattle.linker_rewriting.specs.Facts.{RelaxContext, facts_by, facts_of, link_facts}
+use Rattle.linker_rewriting.specs.Facts.{RelaxContext, facts_by, facts_of}
 use Rattle.linker_rewriting.specs.Groups.{IsScopeIn, aarch64_scope_in, group_stays}
 use Rattle.linker_rewriting.specs.Rewritten.{IsAddressRewritten, IsDescriptorWhole, IsLoadRewritten, IsPartAt, IsRewrittenBy, IsWholeBy, SequencesAreWhole}
 use Rattle.linker_rewriting.specs.RiscVPcrelGroups.{is_labelled}
@@ -442,10 +442,13 @@ module _ (s : RelaxContext) (aarch64 : s.architecture ≡ AArch64) (kept : List 
 
   -- ---- a descriptor
 
+  abbrev facts_in_phase : Phase → Bool → Rela → Option LinkFacts
+  facts_in_phase phase marked r =
+      facts_by phase s.output s.addresses s.values r r marked (slice_get s.symbols r.symbol)
+
   record IsDescribed (i : ℕ) (made : IsMade i) (local initial : AArch64Choice) : Type 0 where
     pub facts : LinkFacts
-    pub facts_are : link_facts phases.PreLayout s.output s.symbols s.addresses s.values
-        (relocation_in bytes i) (relocation_in bytes i) false ≡ Some facts
+    pub facts_are : facts_in_phase phases.PreLayout false (relocation_in bytes i) ≡ Some facts
     pub named : AArch64Choice
     pub kind_is : made.chosen.kind ≡ relaxations.AArch64 named.kind
     pub is_member : IsMember facts local initial named
@@ -467,8 +470,8 @@ module _ (s : RelaxContext) (aarch64 : s.architecture ≡ AArch64) (kept : List 
       record {
         facts = is.facts;
         facts_are =
-            subst (λ m. link_facts phases.PreLayout s.output s.symbols s.addresses s.values r r m ≡ Some is.facts) (is.unmarked early isnt)
-            (subst (λ p. link_facts p s.output s.symbols s.addresses s.values r r is.marked ≡ Some is.facts) early is.facts_are);
+            subst (λ m. facts_in_phase phases.PreLayout m r ≡ Some is.facts) (is.unmarked early isnt)
+            (subst (λ p. facts_in_phase p is.marked r ≡ Some is.facts) early is.facts_are);
         named = c.named;
         kind_is = c.kind_is;
         is_member = one_of_two name n section r.offset is.facts local initial c.named
@@ -481,11 +484,8 @@ module _ (s : RelaxContext) (aarch64 : s.architecture ≡ AArch64) (kept : List 
 
   same_facts : (i j : ℕ) (f g : LinkFacts) → (relocation_in bytes j).symbol ≡ (relocation_in bytes i).symbol
       → (relocation_in bytes j).addend ≡ (relocation_in bytes i).addend
-      → link_facts phases.PreLayout s.output s.symbols s.addresses s.values
-      (relocation_in bytes i) (relocation_in bytes i) false ≡ Some f
-      → link_facts phases.PreLayout s.output s.symbols s.addresses s.values
-      (relocation_in bytes j) (relocation_in bytes j) false ≡ Some g
-      → f ≡ g
+      → facts_in_phase phases.PreLayout false (relocation_in bytes i) ≡ Some f
+      → facts_in_phase phases.PreLayout false (relocation_in bytes j) ≡ Some g → f ≡ g
   same_facts i j f g symbol addend is_f is_g =
       let r = relocation_in bytes i in
       let q = relocation_in bytes j in

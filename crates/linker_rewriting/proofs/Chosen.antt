@@ -17,7 +17,7 @@ pub record IsChosen (s : RelaxContext) (section : List ℕ) (r : Rela) (chosen :
   pub marked : Bool
   -- before addresses are known the calls of PowerPC64 alone are marked
   pub unmarked : s.phase ≡ PreLayout → (s.architecture ≡ Ppc64 → ⊥) → marked ≡ false
-  pub facts_are : link_facts s.phase s.output s.symbols s.addresses s.values r r marked ≡ Some facts
+  pub facts_are : link_facts s r r marked ≡ Some facts
 
 -- ---- the facts have the addend of their subject
 
@@ -75,7 +75,7 @@ unmarked_in bytes n r X86_64 isnt = refl
 with_facts : (s : RelaxContext) (bytes section : List ℕ) (n : ℕ) (r : Rela)
     (chosen : Choice Relaxation ℕ) (marked : Bool) (f : Option LinkFacts)
     → (s.phase ≡ PreLayout → (s.architecture ≡ Ppc64 → ⊥) → marked ≡ false)
-    → link_facts s.phase s.output s.symbols s.addresses s.values r r marked ≡ f → HasAddend r.addend f
+    → link_facts s r r marked ≡ f → HasAddend r.addend f
     → IsCandidateWith s bytes section n r f (Some chosen) → IsChosen s section r chosen
 unfolding HasAddend
 with_facts s bytes section n r chosen marked None unmarked facts_are has is =
@@ -97,7 +97,7 @@ of_candidate : (s : RelaxContext) (bytes section : List ℕ) (n : ℕ) (r : Rela
 of_candidate s bytes section n r chosen is =
     let marked = is_marked_in s.phase s.architecture bytes n r in
     with_facts s bytes section n r chosen marked
-    (link_facts s.phase s.output s.symbols s.addresses s.values r r marked)
+    (link_facts s r r marked)
     (λ early isnt. ap (λ p. is_marked_in p s.architecture bytes n r) early ∙ unmarked_in bytes n r s.architecture isnt)
     refl
     (by_has s.phase s.output s.addresses s.values r r marked (slice_get s.symbols r.symbol))

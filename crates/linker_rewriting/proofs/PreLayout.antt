@@ -4,7 +4,7 @@ use Rattle.std.proofs.Common.{◌≡◌, ℕ, ◌<◌, List, Bool, true, false, 
 use Rattle.linker_rewriting.proofs.Imports.{Addresses, Choice, Consumed, Decision, Kept, LinkFacts, NotRelaxable, OutputFacts, Ppc64, PreLayout, Rela, Relaxation, Rewritten, Scope, Symbol, SymbolFacts, UnrelaxableGroups, relocation_in, slice_get}
 use Rattle.linker_rewriting.proofs.Chosen.{IsChosen}
 use Rattle.linker_rewriting.specs.Decisions.{AreDecidedIn, IsDecidedAfter, IsDecidedAlone, IsScopeDecision, decision_at, is_taken}
-use Rattle.linker_rewriting.specs.Facts.{RelaxContext, link_facts, facts_by}
+use Rattle.linker_rewriting.specs.Facts.{RelaxContext, facts_by}
 use Rattle.linker_rewriting.specs.Groups.{IsScopeIn}
 
 -- ---- scopes
@@ -68,7 +68,7 @@ pub are_early : (s : RelaxContext) (section : List ℕ) (r : Rela) (chosen : Cho
     → s.phase ≡ PreLayout → (s.architecture ≡ Ppc64 → ⊥) → (is : IsChosen s section r chosen) → AreEarly is.facts
 are_early s section r chosen early isnt is =
     early_by s.output s.addresses s.values r is.marked (slice_get s.symbols r.symbol) is.facts (is.unmarked early isnt)
-    (subst (λ p. link_facts p s.output s.symbols s.addresses s.values r r is.marked ≡ Some is.facts) early is.facts_are)
+    (subst (λ p. facts_by p s.output s.addresses s.values r r is.marked (slice_get s.symbols r.symbol) ≡ Some is.facts) early is.facts_are)
 
 -- what a condition says isn't so
 pub isnt : {A : Type 0} (b : Bool) → b ≡ false → b ≡ true → A

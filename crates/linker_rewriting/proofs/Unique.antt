@@ -25,9 +25,9 @@ use Rattle.linker_utils.specs.declared.x86_64.rewrites.RewriteKind.{RewriteKind 
 use Rattle.linker_utils.specs.declared.x86_64.rewrites.RewriteKind.TheVariants as x86_64_kinds
 use Rattle.linker_utils.specs.Relaxations.{IsSkippable}
 use Rattle.linker_utils.specs.declared.architecture.Relaxation.TheVariants as relaxations
-use Rattle.linker_rewriting.specs.Candidates.{IsCallIn, IsTaken, IsCandidate, IsCandidateBy, IsCandidateWith, IsMatched, at_base, calls_tls_get_addr, deletes_within}
-use Rattle.linker_rewriting.specs.Facts.{RelaxContext, link_facts}
-use Rattle.linker_rewriting.specs.Sequences.{IsWhole, is_marked_in}
+use Rattle.linker_rewriting.specs.Candidates.{IsCallIn, IsTaken, IsCandidate, IsCandidateBy, IsCandidateWith, IsMatched, at_base, calls_tls_get_addr, deletes_within, own_facts}
+use Rattle.linker_rewriting.specs.Facts.{RelaxContext}
+use Rattle.linker_rewriting.specs.Sequences.{IsWhole}
 use Rattle.linker_rewriting.specs.Surveys.{IsMarked, IsUnmarkedBy}
 use Rattle.linker_rewriting.specs.Groups.{is_mark, aarch64_scope_in, riscv_scope_in, loongarch_scope_in, ppc64_scope_in, x86_64_scope_in, IsScopeIn}
 use Rattle.linker_rewriting.specs.declared.phases.Phase.TheVariants as phases
@@ -281,7 +281,7 @@ pub no_other : (s : RelaxContext) (bytes section : List ℕ) (n : ℕ) (r : Rela
     → IsCandidate s bytes section n r None → ⊥
 no_other s bytes section n r x a b =
     not_both_with s bytes section n r
-    (link_facts s.phase s.output s.symbols s.addresses s.values r r (is_marked_in s.phase s.architecture bytes n r))
+    (own_facts s bytes n r)
     x a b
 
 pub one_candidate_with : (s : RelaxContext) (bytes section : List ℕ) (n : ℕ) (r : Rela)
@@ -302,7 +302,7 @@ pub one_candidate : (s : RelaxContext) (bytes section : List ℕ) (n : ℕ) (r :
     → IsCandidate s bytes section n r y → x ≡ y
 one_candidate s bytes section n r x y a b =
     one_candidate_with s bytes section n r
-    (link_facts s.phase s.output s.symbols s.addresses s.values r r (is_marked_in s.phase s.architecture bytes n r))
+    (own_facts s bytes n r)
     x y a b
 
 pub one_matched : (s : RelaxContext) (bytes section : List ℕ) (n : ℕ) (r : Rela) (x y : Bool)
@@ -310,7 +310,7 @@ pub one_matched : (s : RelaxContext) (bytes section : List ℕ) (n : ℕ) (r : R
 one_matched s bytes section n r x y a b =
     a.2
     ∙ (ap is_some (one_candidate_with s bytes section n r
-    (at_base (link_facts s.phase s.output s.symbols s.addresses s.values r r (is_marked_in s.phase s.architecture bytes n r)))
+    (at_base (own_facts s bytes n r))
     (a.0) (b.0) (a.1) (b.1)) ∙ sym (b.2))
 
 -- ---- marks of PowerPC64's calls

@@ -100,7 +100,7 @@ noted_stays s start words kept bytes section n r load None up is stays none keep
     (one_word s start words r (keeping.0) (Some load) up (keeping.1) is) (keeping.2) in
     let e : Some (has.0) ≡ None =
     one_candidate_with s bytes section n (record r { r_type = load.0 })
-    (link_facts s.phase s.output s.symbols s.addresses s.values r (relocation_in words (load.1)) false)
+    (link_facts s r (relocation_in words (load.1)) false)
     (Some (has.0)) None (has.1) none in cc
 
 pub means_unsurveyed : (s : RelaxContext) (start : ℕ) (words : List ℕ) (kept : List Bool)

@@ -59,13 +59,14 @@ IsCandidateWith s bytes section n r None candidate = candidate ≡ None
 IsCandidateWith s bytes section n r (Some facts) candidate =
     IsCandidateBy s.architecture s.symbols bytes section n r facts candidate
 
--- of the relocation with an index among those in bytes
+-- what the rewrite of the relocation with an index is chosen by, by its own symbol and mark
+abbrev pub own_facts : RelaxContext → List ℕ → ℕ → Rela → Option LinkFacts
+own_facts s bytes n r = link_facts s r r (is_marked_in s.phase s.architecture bytes n r)
+
+-- of that among those in bytes
 abbrev pub IsCandidate : RelaxContext → List ℕ → List ℕ → ℕ → Rela
     → Option (Choice Relaxation ℕ) → Type 0
-IsCandidate s bytes section n r candidate =
-    IsCandidateWith s bytes section n r
-    (link_facts s.phase s.output s.symbols s.addresses s.values r r
-    (is_marked_in s.phase s.architecture bytes n r)) candidate
+IsCandidate s bytes section n r = IsCandidateWith s bytes section n r (own_facts s bytes n r)
 
 -- the same facts of what is where the GOT's or the TOC's base is, at the distance 0
 abbrev pub at_base : Option LinkFacts → Option LinkFacts
@@ -79,7 +80,5 @@ at_base (Some facts) =
 abbrev pub IsMatched : RelaxContext → List ℕ → List ℕ → ℕ → Rela → Bool → Type 0
 IsMatched s bytes section n r matched =
     (candidate : Option (Choice Relaxation ℕ))
-    × IsCandidateWith s bytes section n r
-    (at_base (link_facts s.phase s.output s.symbols s.addresses s.values r r
-    (is_marked_in s.phase s.architecture bytes n r))) candidate
+    × IsCandidateWith s bytes section n r (at_base (own_facts s bytes n r)) candidate
     × (matched ≡ is_some candidate)

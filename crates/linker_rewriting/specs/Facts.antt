@@ -178,7 +178,7 @@ facts_by phase output addresses values r subject marked None = None
 facts_by phase output addresses values r subject marked (Some symbol) =
     facts_at phase output addresses values r subject marked symbol
 
-abbrev pub link_facts : Phase → OutputFacts → List SymbolFacts → Addresses → List Symbol → Rela
-    → Rela → Bool → Option LinkFacts
-link_facts phase output symbols addresses values r subject marked =
-    facts_by phase output addresses values r subject marked (slice_get symbols subject.symbol)
+abbrev pub link_facts : RelaxContext → Rela → Rela → Bool → Option LinkFacts
+link_facts s r subject marked =
+    facts_by s.phase s.output s.addresses s.values r subject marked
+    (slice_get s.symbols subject.symbol)

@@ -108,8 +108,7 @@ without_entry (Some facts) =
 -- what all of a label are chosen by: the symbol, the addend and the place of the high part
 abbrev pub label_facts : RelaxContext → List ℕ → ℕ → Rela → ℕ → Option LinkFacts
 label_facts s bytes n r high =
-    without_entry (link_facts s.phase s.output s.symbols s.addresses s.values
-    (relocation_in bytes high) (relocation_in bytes high)
+    without_entry (link_facts s (relocation_in bytes high) (relocation_in bytes high)
     (is_label_marked s.architecture s.phase bytes n r high))
 
 -- the rewrite of a relocation with a high part

@@ -66,8 +66,7 @@ abbrev pub IsLoadCandidate : RelaxContext → List ℕ → List ℕ → List ℕ
     → Option (Choice Relaxation ℕ) → Type 0
 IsLoadCandidate s words bytes section n r load candidate =
     IsCandidateWith s bytes section n (record r { r_type = load.0 })
-    (link_facts s.phase s.output s.symbols s.addresses s.values r
-    (relocation_in words (load.1)) false) candidate
+    (link_facts s r (relocation_in words (load.1)) false) candidate
 
 -- ---- words that stay
 

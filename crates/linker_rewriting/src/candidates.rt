@@ -5,11 +5,10 @@ ghost use Rattle.linker_utils.specs.Relaxations.{relaxation_skipped};
 ghost use Rattle.linker_section.specs.Relocations.{relocation_at};
 ghost use Rattle.linker_rewriting.specs.Candidates.{IsCallIn, IsTaken, IsCandidate, IsMatched};
 ghost use Rattle.linker_rewriting.specs.Candidates.{IsCandidateWith, calls_tls_get_addr, at_base};
-ghost use Rattle.linker_rewriting.specs.Candidates.{deletes_within};
+ghost use Rattle.linker_rewriting.specs.Candidates.{deletes_within, own_facts};
 ghost use Rattle.linker_rewriting.specs.Decisions.{IsThere};
 ghost use Rattle.linker_rewriting.specs.declared.decisions.Decision.TheVariants.{Rewritten};
-ghost use Rattle.linker_rewriting.specs.Facts.{context_of, link_facts};
-ghost use Rattle.linker_rewriting.specs.Sequences.{is_marked_in};
+ghost use Rattle.linker_rewriting.specs.Facts.{context_of};
 
 use crate::facts::{OutputFacts, RelaxContext, SymbolFacts, link_facts};
 use crate::phases::Phase;
@@ -145,10 +144,7 @@ fn own_facts(
     relocation: &Rela,
 ) -> Option<LinkFacts>
     requires { index + 1 ≤ usize.MAX }
-    ensures { result ≡ link_facts context.now.phase context.now.output.now context.now.symbols.now
-        context.now.addresses.now context.now.values.now relocation.now relocation.now
-        (is_marked_in context.now.phase context.now.architecture relocations.now index
-        relocation.now) }
+    ensures { result ≡ own_facts (context_of context.now) relocations.now index relocation.now }
 {
     let phase = context.phase;
     let marked = is_marked_in(phase, context.architecture, relocations, index, relocation);

@@ -3,7 +3,7 @@
 ghost use Rattle.std.specs.Prelude.{◌≡◌, ◌||◌};
 ghost use Rattle.linker_rewriting.specs.Facts.{facts_of, placed_facts, address_in, has_own_address};
 ghost use Rattle.linker_rewriting.specs.Facts.{is_executable_in, facts_at, link_facts};
-ghost use Rattle.linker_rewriting.specs.Facts.{may_change_toc, may_delete};
+ghost use Rattle.linker_rewriting.specs.Facts.{context_of, may_change_toc, may_delete};
 
 use crate::phases::Phase;
 use linker_section::facts::{Addresses, Symbol};
@@ -172,80 +172,55 @@ fn may_delete(phase: Phase) -> bool
 /// relocation of its group can be rewritten, as `placed_facts` says.
 #[inline(always)]
 fn placed_facts(
-    phase: Phase,
-    output: &OutputFacts,
-    addresses: &Addresses,
+    context: &RelaxContext<'_>,
     symbol: &SymbolFacts,
     value: &Symbol,
     offset: u64,
     addend: i64,
     marked: bool,
 ) -> LinkFacts
-    ensures { result ≡ placed_facts phase output.now addresses.now symbol.now value.now
-        offset addend marked }
+    ensures { result ≡ placed_facts context.now.phase context.now.output.now
+        context.now.addresses.now symbol.now value.now offset addend marked }
 {
-    let has_own_address = has_own_address(symbol);
-    let is_near = output.is_fixed || !has_own_address;
+    let (phase, output, addresses) = (context.phase, context.output, context.addresses);
+    let is_near = output.is_fixed || !has_own_address(symbol);
+    let facts = facts_of(output, symbol, addend, marked && may_delete(phase));
     LinkFacts {
-        is_local: symbol.is_local,
-        is_ifunc: symbol.is_ifunc,
-        is_undefined_weak: symbol.is_undefined_weak,
-        has_fixed_address: output.is_fixed || has_own_address,
         is_pcrel_link_time_constant: is_near && !symbol.is_undefined_weak,
         is_executable: is_executable_in(phase, output, symbol),
-        has_local_exec_base: true,
-        may_compress: false,
-        is_relaxable: marked && may_delete(phase),
         has_got_high_part: true,
         is_label_relaxable: marked,
         toc_base_is_exclusive: true,
-        may_change_toc: may_change_toc(symbol),
-        group_fits: true,
         has_addresses: true,
         operands: Operands {
-            addend,
             symbol: address_in(addresses, value),
             place: addresses.section.wrapping_add(offset),
-            got_entry: 0,
             got_base: addresses.got_base,
-            plt_entry: 0,
-            symbol_size: 0,
             tls_base: addresses.thread_origin,
-            has_got_entry: false,
-            has_plt_entry: false,
             has_tls_base: addresses.has_tls,
+            ..facts.operands
         },
+        ..facts
     }
 }
 
 /// The facts of a relocation of a symbol in a phase, as `facts_at` says.
 #[inline(always)]
 fn facts_at(
-    phase: Phase,
-    output: &OutputFacts,
-    addresses: &Addresses,
-    values: &[Symbol],
+    context: &RelaxContext<'_>,
     relocation: &Rela,
     subject: &Rela,
     marked: bool,
     symbol: &SymbolFacts,
 ) -> Option<LinkFacts>
-    ensures { result ≡ facts_at phase output.now addresses.now values.now relocation.now subject.now
-        marked symbol.now }
+    ensures { result ≡ facts_at context.now.phase context.now.output.now context.now.addresses.now
+        context.now.values.now relocation.now subject.now marked symbol.now }
 {
-    match phase {
-        Phase::PreLayout => Some(facts_of(output, symbol, subject.addend, marked)),
-        _ => match values.get(subject.symbol as usize) {
-            Some(value) => Some(placed_facts(
-                phase,
-                output,
-                addresses,
-                symbol,
-                value,
-                relocation.offset,
-                subject.addend,
-                marked,
-            )),
+    let (offset, addend) = (relocation.offset, subject.addend);
+    match context.phase {
+        Phase::PreLayout => Some(facts_of(context.output, symbol, addend, marked)),
+        _ => match context.values.get(subject.symbol as usize) {
+            Some(value) => Some(placed_facts(context, symbol, value, offset, addend, marked)),
             None => None,
         },
     }
@@ -260,20 +235,10 @@ pub(crate) fn link_facts(
     subject: &Rela,
     marked: bool,
 ) -> Option<LinkFacts>
-    ensures { result ≡ link_facts context.now.phase context.now.output.now context.now.symbols.now
-        context.now.addresses.now context.now.values.now relocation.now subject.now marked }
+    ensures { result ≡ link_facts (context_of context.now) relocation.now subject.now marked }
 {
     match context.symbols.get(subject.symbol as usize) {
-        Some(symbol) => facts_at(
-            context.phase,
-            context.output,
-            context.addresses,
-            context.values,
-            relocation,
-            subject,
-            marked,
-            symbol,
-        ),
+        Some(symbol) => facts_at(context, relocation, subject, marked, symbol),
         None => None,
     }
 }

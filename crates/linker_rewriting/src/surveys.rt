@@ -128,7 +128,12 @@ fn is_unmarked(
     requires { index ≤ length relocations.now / 24 }
     ensures { IsUnmarked (context_of context.now) relocations.now index relocation.now result }
 {
-    if !needs_mark(context.architecture, context.phase, context.symbols, relocation) {
+    if !needs_mark(
+        context.architecture,
+        context.phase,
+        context.symbols,
+        relocation,
+    ) {
         return false;
     }
     !is_marked(relocations, index, relocation)
