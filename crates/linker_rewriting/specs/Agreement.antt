@@ -15,18 +15,16 @@ abbrev pub contradicts : SymbolFacts → Symbol → Bool
 contradicts facts symbol =
     (facts.is_local && is_absent facts symbol) || not (facts.other == symbol.other)
 
-abbrev pub contradicts_if : SymbolFacts → Option Symbol → Bool
-contradicts_if facts None = false
-contradicts_if facts (Some symbol) = contradicts facts symbol
+-- what holds of a symbol's entries in both tables; not where one has none
+abbrev pub of_both : (SymbolFacts → Symbol → Bool) → Option SymbolFacts → Option Symbol → Bool
+of_both test None symbol = false
+of_both test (Some facts) None = false
+of_both test (Some facts) (Some symbol) = test facts symbol
 
-abbrev pub contradict_if : Option SymbolFacts → Option Symbol → Bool
-contradict_if None symbol = false
-contradict_if (Some facts) symbol = contradicts_if facts symbol
-
--- the tables contradict each other about a relocation's symbol; not where one has no entry for it
+-- the tables contradict each other about a relocation's symbol
 abbrev pub contradict_at : List SymbolFacts → List Symbol → Rela → Bool
 contradict_at facts symbols r =
-    contradict_if (slice_get facts r.symbol) (slice_get symbols r.symbol)
+    of_both contradicts (slice_get facts r.symbol) (slice_get symbols r.symbol)
 
 -- about none of the relocations with an index below a limit
 abbrev pub AgreeBelow : List SymbolFacts → List Symbol → List ℕ → ℕ → Type 0

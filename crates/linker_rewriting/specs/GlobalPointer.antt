@@ -16,6 +16,7 @@ use Rattle.linker_riscv64.specs.RiscVCalls.{word_at}
 use Rattle.linker_riscv64.specs.RiscVFields.{opcode_of, funct3_of, rd_of, rs1_of, stores_base}
 use Rattle.linker_utils.specs.RiscVRewrites.{adds_low12, rewrites_word, with_rs1}
 use Rattle.linker_utils.specs.declared.riscv64.rewrites.RewriteKind.TheVariants as kinds
+use Rattle.linker_rewriting.specs.Agreement.{of_both}
 use Rattle.linker_rewriting.specs.Decisions.{AreApartBy, AreDecidedBy, IsRejectedBy, IsRejectedWith}
 use Rattle.linker_rewriting.specs.Decisions.{decision_at, AreClear}
 use Rattle.linker_rewriting.specs.Facts.{RelaxContext, address_in}
@@ -102,17 +103,12 @@ abbrev pub address_of : Addresses → Rela → Symbol → ℕ
 address_of addresses r value =
     sum_64 (address_in addresses value) (cast_unsigned w64 r.addend)
 
-abbrev pub is_reached_by : Addresses → ℕ → Rela → Option SymbolFacts → Option Symbol → Bool
-is_reached_by addresses gp r None value = false
-is_reached_by addresses gp r (Some symbol) None = false
-is_reached_by addresses gp r (Some symbol) (Some value) =
-    is_bound symbol value
-    && (is_near gp (address_of addresses r value) || is_near 0 (address_of addresses r value))
-
 -- x3 or x0 reaches S + A
 abbrev pub is_reached : RelaxContext → ℕ → Rela → Bool
 is_reached s gp r =
-    is_reached_by s.addresses gp r (slice_get s.symbols r.symbol) (slice_get s.values r.symbol)
+    of_both (λ symbol value. is_bound symbol value
+    && (is_near gp (address_of s.addresses r value) || is_near 0 (address_of s.addresses r value)))
+    (slice_get s.symbols r.symbol) (slice_get s.values r.symbol)
 
 -- four bytes from an offset on are in the section
 abbrev pub has_word : List ℕ → ℕ → Bool

@@ -5,7 +5,7 @@ use Rattle.linker_rewriting.specs.Imports.{Addresses, Architecture, OutputFacts,
 use Rattle.linker_rewriting.specs.Imports.{Symbol, SymbolFacts, r_type_of, ppc64_name}
 use Rattle.linker_rewriting.specs.Imports.{relocation_in}
 use Rattle.linker_elf.specs.declared.ppc64.relocations.Ppc64Relocation.TheVariants as ppc64
-use Rattle.linker_rewriting.specs.Agreement.{Agree, IsContradiction}
+use Rattle.linker_rewriting.specs.Agreement.{Agree, IsContradiction, of_both}
 use Rattle.linker_rewriting.specs.Facts.{facts_of, placed_facts, is_imported}
 use Rattle.linker_rewriting.specs.declared.kept.FactsSnapshot.{FactsSnapshot}
 use Rattle.linker_rewriting.specs.declared.kept.WritingError.{WritingError}
@@ -68,19 +68,11 @@ abbrev pub needs_stub : SymbolFacts → Symbol → Bool
 needs_stub facts symbol =
     is_imported facts && (symbol.stub == 0 && not symbol.is_undefined_weak)
 
-abbrev pub needs_stub_if : SymbolFacts → Option Symbol → Bool
-needs_stub_if facts None = false
-needs_stub_if facts (Some symbol) = needs_stub facts symbol
-
-abbrev pub need_stub_if : Option SymbolFacts → Option Symbol → Bool
-need_stub_if None symbol = false
-need_stub_if (Some facts) symbol = needs_stub_if facts symbol
-
 -- an `R_PPC64_REL24` of such a function (64-Bit ELF V2 ABI, "Function Call")
 abbrev pub lacks_stub : Architecture → List SymbolFacts → List Symbol → Rela → Bool
 lacks_stub architectures.Ppc64 facts symbols r =
     r.r_type == r_type_of (ppc64_name ppc64.R_PPC64_REL24)
-    && need_stub_if (slice_get facts r.symbol) (slice_get symbols r.symbol)
+    && of_both needs_stub (slice_get facts r.symbol) (slice_get symbols r.symbol)
 lacks_stub architecture facts symbols r = false
 
 -- none of the relocations with an index below a limit is one

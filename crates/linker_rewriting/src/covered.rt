@@ -8,7 +8,7 @@ ghost use Rattle.linker_rewriting.specs.Inner.Places.{IsBounded, AreBounded, Are
 ghost use Rattle.linker_rewriting.specs.Inner.Places.{IsPlaceBeside};
 ghost use Rattle.linker_section.specs.Fields.{IsField, field_end};
 
-use crate::decisions::{AsDecision, Decision, span_of};
+use crate::decisions::{AsDecision, Decision, decision_in, span_of};
 use crate::relocations::relocation_in;
 use linker_section::relocations::relocations_len;
 use linker_section::sections::field_len;
@@ -39,10 +39,8 @@ fn span_at<D: AsDecision>(relocations: &[u8], decisions: &[D], index: usize) -> 
       end_at relocations.now (map D.decision decisions.now) index,
     ) }
 {
-    span_of(
-        &decisions[index].as_decision(),
-        relocation_in(relocations, index).offset,
-    )
+    let offset = relocation_in(relocations, index).offset;
+    span_of(&decision_in(decisions, index), offset)
 }
 
 /// Whether the relocation with an index stays as it is, and so does its instruction.
@@ -52,7 +50,7 @@ fn is_kept<D: AsDecision>(decisions: &[D], index: usize) -> bool
     ensures { result ≡ true
         → decision_at (map D.decision decisions.now) index ≡ Decision.Kept }
 {
-    matches!(decisions[index].as_decision(), Decision::Kept)
+    matches!(decision_in(decisions, index), Decision::Kept)
 }
 
 /// An index that is no more than another, below which all bytes end at or below an offset.
@@ -193,7 +191,7 @@ fn is_taken<D: AsDecision>(decisions: &[D], index: usize) -> bool
     ensures no { result ≡ false
         → decision_at (map D.decision decisions.now) index ≢ Decision.Consumed }
 {
-    matches!(decisions[index].as_decision(), Decision::Consumed)
+    matches!(decision_in(decisions, index), Decision::Consumed)
 }
 
 /// The first relocation that no rewrite takes along and whose field has a byte that the decision of

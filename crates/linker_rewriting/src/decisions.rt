@@ -7,12 +7,14 @@ ghost use Rattle.linker_section.specs.Relocations.{relocation_in, relocation_at}
 ghost use Rattle.linker_rewriting.specs.Decisions.{takes_next, window_of, IsDecision, IsThere};
 ghost use Rattle.linker_rewriting.specs.Decisions.{deleted_of, deleted_end, start_by, end_by};
 ghost use Rattle.linker_rewriting.specs.Decisions.{AreAllDecided, IsDecidedAfter, IsNotSurveyed};
+ghost use Rattle.linker_rewriting.specs.Decisions.{decision_at};
 ghost use Rattle.linker_rewriting.specs.Decisions.{IsEndAfter, IsRejectedIn, IsRewrittenAt};
 ghost use Rattle.linker_rewriting.specs.Decisions.{label_decision, IsLabelDecision, takes_symbol};
 ghost use Rattle.linker_rewriting.specs.Facts.{context_of};
 ghost use Rattle.linker_rewriting.specs.Inner.Calls.{IsLeft};
 ghost use Rattle.linker_rewriting.specs.Inner.Left.{AreKept};
 ghost use Rattle.linker_rewriting.specs.RiscVPcrelGroups.{IsInLabel, IsLabelNote};
+ghost use Rattle.linker_rewriting.specs.TocIndirection.{subject_of};
 
 use crate::calls::keeps_call;
 use crate::candidates::candidate;
@@ -72,6 +74,15 @@ pub trait AsDecision: Copy {
     fn from_decision(made: Decision) -> Self
         ensures decision { decision result ≡ made }
         ensures form { is_written result };
+}
+
+/// The decision with an index.
+#[inline(always)]
+pub(crate) fn decision_in<D: AsDecision>(decisions: &[D], index: usize) -> Decision
+    requires { index < length decisions.now }
+    ensures { result ≡ decision_at (map D.decision decisions.now) index }
+{
+    decisions[index].as_decision()
 }
 
 impl AsDecision for Decision {
@@ -268,13 +279,10 @@ fn is_rewritten_at(
         return false;
     };
     match scope_in(context.architecture, context.phase, relocation.r_type) {
-        Scope::Independent => candidate(
-            context,
-            relocations,
-            section,
-            index,
-            &relocation,
-        ).is_some(),
+        Scope::Independent => {
+            let chosen = candidate(context, relocations, section, index, &relocation);
+            chosen.is_some()
+        }
         _ => false,
     }
 }
@@ -291,19 +299,24 @@ fn takes_symbol(phase: Phase, r_type: u32) -> bool
     }
 }
 
+/// What a relocation is of: its symbol and its addend.
+#[inline(always)]
+pub(crate) fn subject_of(relocation: &Rela) -> Subject
+    ensures { result ≡ subject_of relocation.now }
+{
+    Subject {
+        symbol: relocation.symbol,
+        addend: relocation.addend,
+    }
+}
+
 /// What rewrites the instruction of a relocation of a label with a high part.
 #[inline(always)]
 fn label_decision(phase: Phase, chosen: Choice<Relaxation, u32>, high: &Rela) -> Decision
     ensures { result ≡ label_decision phase chosen high.now }
 {
     if takes_symbol(phase, chosen.relocation) {
-        Decision::RewrittenWithSymbol(
-            chosen,
-            Subject {
-                symbol: high.symbol,
-                addend: high.addend,
-            },
-        )
+        Decision::RewrittenWithSymbol(chosen, subject_of(high))
     } else {
         Decision::Rewritten(chosen)
     }
@@ -345,8 +358,7 @@ fn decide_label(
 /// None if its group doesn't stay, but it can't be rewritten.
 fn decide(
     stays: bool,
-    context: &RelaxContext<'_>,
-    kept: &[UnrelaxableGroups],
+    rule: &Groups<'_>,
     relocations: &[u8],
     section: &[u8],
     index: usize,
@@ -355,12 +367,15 @@ fn decide(
     requires index { index + 4 ≤ usize.MAX }
     requires within { index < length relocations.now / 24 }
     requires there { relocation.now ≡ relocation_in relocations.now index }
-    requires noted { IsInLabel context.now.architecture context.now.phase relocation.now.r_type true →
-        IsLabelNote (context_of context.now) relocations.now section.now relocation.now stays }
-    ensures decision { IsDecision (context_of context.now) kept.now relocations.now section.now
-        index relocation.now result }
+    requires noted { IsInLabel rule.now.context.now.architecture rule.now.context.now.phase
+        relocation.now.r_type true
+        → IsLabelNote (context_of rule.now.context.now) relocations.now section.now relocation.now
+        stays }
+    ensures decision { IsDecision (context_of rule.now.context.now) rule.now.kept.now relocations.now
+        section.now index relocation.now result }
     ensures there { IfSome result (λ d. IsThere d section.now relocation.now.offset) }
 {
+    let (context, kept) = (rule.context, rule.kept);
     let is_grouped = match scope_in(context.architecture, context.phase, relocation.r_type) {
         Scope::NotRelaxable => return Some(Decision::Kept),
         Scope::Labelled => {
@@ -499,15 +514,7 @@ impl Rule for Groups<'_> {
         if is_taken {
             return Some(Decision::Consumed);
         }
-        decide(
-            stays,
-            self.context,
-            self.kept,
-            relocations,
-            section,
-            index,
-            relocation,
-        )
+        decide(stays, self, relocations, section, index, relocation)
     }
 
     #[inline(always)]

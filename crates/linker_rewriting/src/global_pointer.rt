@@ -28,7 +28,9 @@ ghost use Rattle.linker_section.specs.Relocations.{relocation_in};
 ghost use Rattle.linker_section.specs.Values.{IsAscending};
 
 use crate::agreement::contradiction;
-use crate::decisions::{AsDecision, Decision, FromDeletion, RewritingError};
+use crate::decisions::{
+    AsDecision, Decision, FromDeletion, RewritingError, decision_in, subject_of,
+};
 use crate::facts::{OutputFacts, RelaxContext, SymbolFacts, address_in};
 use crate::phases::Phase;
 use crate::relocations::relocation_in;
@@ -36,7 +38,7 @@ use crate::riscv_pcrel_groups::{high_at, is_beyond, label_at};
 use crate::rules::{Rule, decide_by};
 use crate::sections::list_deletions;
 use crate::sequences::is_marked_at;
-use crate::toc_indirection::{keep_word, subject_of, word_stays};
+use crate::toc_indirection::{keep_word, word_stays};
 use linker_base::rewrite::overwrite;
 use linker_section::facts::{Addresses, Symbol};
 use linker_section::relocations::{Rela, is_ascending, relocations_len, set_relocation};
@@ -418,20 +420,14 @@ fn decide_part(
     ensures ends { IfSome result (λ d. (limit : ℕ) → relocation.now.offset ≤ limit
         → length section.now ≤ limit → part_end d relocation.now.offset ≤ limit) }
 {
-    let Some(member) = member_of(rule.parts.context, relocations, relocation) else {
+    let parts = &rule.parts;
+    let Some(member) = member_of(parts.context, relocations, relocation) else {
         return Some(Decision::Kept);
     };
     if word_stays(rule.kept, member.1.symbol as usize) {
         return Some(Decision::Kept);
     }
-    if fits(
-        &rule.parts,
-        relocations,
-        section,
-        index,
-        relocation,
-        &member,
-    ) {
+    if fits(parts, relocations, section, index, relocation, &member) {
         Some(part_decision(member.0, &member.1))
     } else {
         None
@@ -517,7 +513,7 @@ fn turn_all<D: AsDecision>(decisions: &[D], relocations: &mut [u8])
         (length relocations.old / 24) }
 {
     for index in 0..relocations_len(relocations) {
-        let decision = decisions[index].as_decision();
+        let decision = decision_in(decisions, index);
         let relocation = relocation_by(&decision, &relocation_in(relocations, index));
         set_relocation(relocations, index, &relocation);
     }
@@ -626,16 +622,12 @@ pub fn rewrite_global_pointer<D: AsDecision, L: FromDeletion>(
         ascends: is_ascending(relocations),
     };
     let rule = Symbols { parts, kept };
-    match decide_by(&rule, context.architecture, relocations, section, decisions) {
-        Ok(()) => match list_deletions(true, relocations, decisions, deleted) {
-            Some(len) => {
-                turn_all(decisions, relocations);
-                Ok(len)
-            }
-            None => Err(RewritingError::TooShort),
-        },
-        Err(error) => Err(error),
-    }
+    decide_by(&rule, context.architecture, relocations, section, decisions)?;
+    let Some(len) = list_deletions(true, relocations, decisions, deleted) else {
+        return Err(RewritingError::TooShort);
+    };
+    turn_all(decisions, relocations);
+    Ok(len)
 }
 
 /// The type that the relocation of a low part without a base gets.

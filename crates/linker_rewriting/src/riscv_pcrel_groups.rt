@@ -15,7 +15,7 @@ ghost use Rattle.linker_rewriting.specs.RiscVPcrelGroups.{IsLabelCandidate, IsLa
 ghost use Rattle.linker_rewriting.specs.Notes.{is_note, AreHighsNoted, IsNoteOf, AreLabelsNoted};
 
 use crate::candidates::candidate_by;
-use crate::decisions::{AsDecision, Decision};
+use crate::decisions::{AsDecision, Decision, decision_in};
 use crate::facts::{OutputFacts, RelaxContext, SymbolFacts, link_facts};
 use crate::groups::{Scope, scope_in};
 use crate::phases::Phase;
@@ -304,7 +304,7 @@ fn note_of<D: AsDecision>(
         relocations.now (map D.decision decisions.now) relocation.now result }
 {
     match high_of(context, relocations, relocation) {
-        Some(high) => decisions[high].as_decision(),
+        Some(high) => decision_in(decisions, high),
         None => Decision::Consumed,
     }
 }

@@ -18,7 +18,7 @@ use crate::agreement::contradiction;
 use crate::checked::{check_decisions, keep_bytes};
 use crate::decisions::{
     AsDecision, AsKeptDecision, Decision, DecisionError, FromDeletion, RewritingError,
-    decide_section,
+    decide_section, decision_in,
 };
 use crate::facts::{NO_ADDRESSES, OutputFacts, RelaxContext, SymbolFacts};
 use crate::groups::UnrelaxableGroups;
@@ -78,7 +78,7 @@ pub(crate) fn make_all<D: AsDecision>(
         return;
     }
     for index in 0..relocations_len(relocations) {
-        let decision = decisions[index].as_decision();
+        let decision = decision_in(decisions, index);
         if let Decision::Kept = decision {
             continue;
         }
@@ -150,13 +150,9 @@ pub fn rewrite_section<D: AsDecision>(
         addresses: &NO_ADDRESSES,
         values: &[],
     };
-    match decide_section(&context, kept, relocations, section, decisions) {
-        Ok(changes) => {
-            make_all(changes, decisions, relocations, section);
-            Ok(())
-        }
-        Err(error) => Err(error),
-    }
+    let changes = decide_section(&context, kept, relocations, section, decisions)?;
+    make_all(changes, decisions, relocations, section);
+    Ok(())
 }
 
 /// Decides what `rewrite_section` would do, and writes nothing but `decisions`. So a linker can
@@ -236,13 +232,9 @@ pub fn decide_rewrites<D: AsKeptDecision>(
         addresses: &NO_ADDRESSES,
         values: &[],
     };
-    match decide_section(&context, kept, relocations, section, decisions) {
-        Ok(changes) => {
-            keep_bytes(changes, relocations, section, decisions);
-            Ok(())
-        }
-        Err(error) => Err(error),
-    }
+    let changes = decide_section(&context, kept, relocations, section, decisions)?;
+    keep_bytes(changes, relocations, section, decisions);
+    Ok(())
 }
 
 /// Makes decisions of `decide_rewrites`: rewrites the instructions of a section, or of a copy, and
@@ -312,7 +304,7 @@ pub(crate) fn list_deletions<D: AsDecision, L: FromDeletion>(
     }
     let mut len = 0;
     for index in 0..relocations_len(relocations) {
-        let Some(bytes) = decisions[index].as_decision().deleted() else {
+        let Some(bytes) = decision_in(decisions, index).deleted() else {
             continue;
         };
         if deleted.len() <= len {
@@ -396,14 +388,10 @@ pub fn rewrite_placed_section<D: AsDecision, L: FromDeletion>(
     if let Some(symbol) = contradiction(context.symbols, context.values, relocations) {
         return Err(RewritingError::Contradiction(symbol));
     }
-    match decide_section(context, kept, relocations, section, decisions) {
-        Ok(changes) => match list_deletions(changes, relocations, decisions, deleted) {
-            Some(len) => {
-                make_all(changes, decisions, relocations, section);
-                Ok(len)
-            }
-            None => Err(RewritingError::TooShort),
-        },
-        Err(error) => Err(error),
-    }
+    let changes = decide_section(context, kept, relocations, section, decisions)?;
+    let Some(len) = list_deletions(changes, relocations, decisions, deleted) else {
+        return Err(RewritingError::TooShort);
+    };
+    make_all(changes, decisions, relocations, section);
+    Ok(len)
 }

@@ -7,9 +7,9 @@ ghost use Rattle.std.specs.Prelude.{IfSome, IfErr, OnOk, OnErr, All, true, ⊤};
 ghost use Rattle.linker_rewriting.specs.Agreement.{Agree, IsContradiction};
 ghost use Rattle.linker_rewriting.specs.Decisions.{IsThere, start_by, end_by};
 ghost use Rattle.linker_rewriting.specs.Facts.{context_of};
-ghost use Rattle.linker_rewriting.specs.Inner.TocIndirection.{IsThatWord, with_r_type};
+ghost use Rattle.linker_rewriting.specs.Inner.TocIndirection.{IsThatWord};
 ghost use Rattle.linker_rewriting.specs.TocIndirection.{entry_r_type, word_r_type, word_offset};
-ghost use Rattle.linker_rewriting.specs.TocIndirection.{subject_of, DecidesLoad, IsLoad};
+ghost use Rattle.linker_rewriting.specs.TocIndirection.{DecidesLoad, IsLoad};
 ghost use Rattle.linker_rewriting.specs.TocIndirection.{IsLoadCandidate, word_stays, IsKeepingWord};
 ghost use Rattle.linker_rewriting.specs.TocIndirection.{IsLoadNotSurveyed, AreLoadsSurveyed};
 ghost use Rattle.linker_rewriting.specs.TocIndirection.{IsLoadDecided, AreLoadsRewrittenAs};
@@ -19,7 +19,7 @@ ghost use Rattle.linker_section.specs.Relocations.{relocation_in};
 
 use crate::agreement::contradiction;
 use crate::candidates::candidate_by;
-use crate::decisions::{AsDecision, Decision, RewritingError, Subject, span_of};
+use crate::decisions::{AsDecision, Decision, RewritingError, span_of, subject_of};
 use crate::facts::{OutputFacts, RelaxContext, SymbolFacts, address_in, link_facts};
 use crate::phases::Phase;
 use crate::relocations::relocation_in;
@@ -63,18 +63,14 @@ fn word_r_type() -> u32
 
 /// How far what a relocation refers to is after the start of the section of words.
 #[inline(always)]
-fn word_offset(
-    addresses: &Addresses,
-    values: &[Symbol],
-    start: u64,
-    relocation: &Rela,
-) -> Option<u64>
-    ensures { result ≡ word_offset addresses.now values.now start relocation.now }
+fn word_offset(context: &RelaxContext<'_>, start: u64, relocation: &Rela) -> Option<u64>
+    ensures { result ≡ word_offset context.now.addresses.now context.now.values.now start
+        relocation.now }
 {
-    match values.get(relocation.symbol as usize) {
+    match context.values.get(relocation.symbol as usize) {
         Some(value) => {
             let addend = relocation.addend.cast_unsigned();
-            let address = address_in(addresses, value).wrapping_add(addend);
+            let address = address_in(context.addresses, value).wrapping_add(addend);
             Some(address.wrapping_sub(start))
         }
         None => None,
@@ -103,23 +99,12 @@ fn load_of(words: &Words<'_>, relocation: &Rela) -> Option<(u32, usize)>
     let Some(entry) = entry_r_type(context.architecture, relocation.r_type) else {
         return None;
     };
-    let Some(at) = word_offset(context.addresses, context.values, words.start, relocation) else {
+    let Some(at) = word_offset(context, words.start, relocation) else {
         return None;
     };
     match high_at(words.relocations, word_r_type(), at) {
         Some(word) => Some((entry, word)),
         None => None,
-    }
-}
-
-/// A relocation with another `r_type`.
-#[inline(always)]
-fn with_r_type(r_type: u32, relocation: &Rela) -> Rela
-    ensures { result ≡ with_r_type r_type relocation.now }
-{
-    Rela {
-        r_type,
-        ..*relocation
     }
 }
 
@@ -140,10 +125,13 @@ fn load_candidate(
     ensures there { IfSome result
         (λ chosen. IsThere (Decision.Rewritten chosen) section.now relocation.now.offset) }
 {
-    let (entry, word) = load;
+    let (r_type, word) = load;
     let word = relocation_in(words.relocations, word);
     let facts = link_facts(words.context, relocation, &word, false);
-    let of_entry = with_r_type(entry, relocation);
+    let of_entry = Rela {
+        r_type,
+        ..*relocation
+    };
     candidate_by(
         words.context,
         relocations,
@@ -248,17 +236,6 @@ pub fn survey_toc_loads(
         keep_word(kept, word);
     }
     Ok(())
-}
-
-/// What a rewritten load's relocation is of: the symbol and the addend of the word's.
-#[inline(always)]
-pub(crate) fn subject_of(word: &Rela) -> Subject
-    ensures { result ≡ subject_of word.now }
-{
-    Subject {
-        symbol: word.symbol,
-        addend: word.addend,
-    }
 }
 
 /// The rule of loads: all of a word are rewritten, or none is.
@@ -431,11 +408,7 @@ pub fn rewrite_toc_loads<D: AsDecision>(
         relocations: words,
     };
     let rule = Loads { words, kept };
-    match decide_by(&rule, context.architecture, relocations, section, decisions) {
-        Ok(()) => {
-            make_all(true, decisions, relocations, section);
-            Ok(())
-        }
-        Err(error) => Err(error),
-    }
+    decide_by(&rule, context.architecture, relocations, section, decisions)?;
+    make_all(true, decisions, relocations, section);
+    Ok(())
 }

@@ -12,13 +12,13 @@ pub list_deletions-requires-clause-fit : goal.list_deletions-requires-clause-fit
 list_deletions-requires-clause-fit g c =
     let a = c.args in
     all_fit a.relocations.now a.section.now (map g.D.AsDecision.decision c.decide_by.new.decisions)
-    (length a.relocations.now / 24) _ c.in-Ok.ensures.decided.made (search rules)
+    (length a.relocations.now / 24) _ c.in_ok-decide_by.ensures.decided.made (search rules)
 
-pub returns-in-Some-list_deletions : goal.returns-in-Some-list_deletions
-returns-in-Some-list_deletions g c =
+pub returns : goal.returns
+returns g c =
     let a = c.args in
-    let e = c.in-Ok.ensures.decided in
-    let l = c.in-Some-list_deletions.ensures in
+    let e = c.in_ok-decide_by.ensures.decided in
+    let l = c.in-Some.ensures in
     record {
       agree = c.in_default.ensures;
       rewritten = record {
@@ -32,7 +32,7 @@ returns-in-Some-list_deletions g c =
       };
       within = e.made;
       listed = l.listed;
-      form = c.in-Ok.ensures.form;
+      form = c.in_ok-decide_by.ensures.form;
       others_stay = c.decide_by.ensures.others_stay;
       deletions_stay = l.others_stay;
       rejected = tt;
@@ -40,14 +40,14 @@ returns-in-Some-list_deletions g c =
       entries = tt;
     }
 
-pub returns-in-Err : goal.returns-in-Err
-returns-in-Err g c =
+pub returns-in_err-decide_by : goal.returns-in_err-decide_by
+returns-in_err-decide_by g c =
     let a = c.args in
     let s = context_of a.context.now in
     let ds = map g.D.AsDecision.decision c.decide_by.new.decisions in
     let Decides = DecidesPart s a.gp a.kept.now a.relocations.now a.section.now in
     let IsError = IsRejectedBy Decides (λ n. IsPartDecided s a.gp a.kept.now a.relocations.now a.section.now n (relocation_in a.relocations.now n) None) part_start part_end s.architecture a.relocations.now a.section.now ds in
-    let is = rejected_with Decides a.relocations.now ds (length a.deleted.now) IsError _ c.in-Err.ensures.rejected in
+    let is = rejected_with Decides a.relocations.now ds (length a.deleted.now) IsError _ c.in_err-decide_by.ensures.rejected in
     record {
       agree = tt;
       rewritten = tt;

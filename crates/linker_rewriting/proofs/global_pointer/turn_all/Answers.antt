@@ -1,5 +1,5 @@
 use Rattle.std.proofs.Common.{◌≡◌, ◌<◌, ◌/◌, ◌∙◌, List, length, map, sym, subst, arith, rules}
-use Rattle.linker_rewriting.proofs.Imports.{Decision, Kept, get_or-map}
+use Rattle.linker_rewriting.proofs.Imports.{Decision}
 use Rattle.linker_rewriting.proofs.GlobalPointer.{turned_next}
 use Rattle.linker_rewriting.specs.Decisions.{decision_at}
 use Rattle.linker_rewriting.specs.GlobalPointer.{relocation_by}
@@ -12,17 +12,14 @@ loop-index-preserved g c =
     let ds : List Decision = map f a.decisions.now in
     let k = c.loop-index.index in
     let r = c.relocation_in.result in
-    let d = c.as_decision-decision.result in
     let limit = length a.relocations.now / 24 in
     let less : k < limit =
     (let t = c.loop-index-test.true in let e = c.relocations_len-index-end.ensures in omega arith) in
-    let is : d ≡ decision_at ds k =
-    sym (get_or-map f a.decisions.now k c.index-decisions-index.result Kept (let n = c.requires in omega (arith, n, less)) ∙ rw (← c.index-decisions-index.is) (sym c.as_decision-decision.ensures)) in
     let same_len : length c.loop-index.relocations ≡ length a.relocations.now =
     c.loop-index.invariant.same_len in
     turned_next (λ n x. relocation_by (decision_at ds n) x) a.relocations.now c.loop-index.relocations c.set_relocation.new.relocations limit k
     r c.relocation_by-relocation.result c.loop-index.invariant less c.relocation_in.ensures
-    (subst (λ y. c.relocation_by-relocation.result ≡ relocation_by y r) is c.relocation_by-relocation.ensures)
+    (subst (λ y. c.relocation_by-relocation.result ≡ relocation_by y r) c.decision_in-decision.ensures c.relocation_by-relocation.ensures)
     c.set_relocation.ensures.set
     (λ n below ne. c.set_relocation.ensures.others n (subst (λ l. n < l / 24) (sym same_len) below) ne)
     (search rules)

@@ -5,13 +5,13 @@ use Rattle.linker_rewriting.proofs.Noted.{means_unsurveyed}
 use Rattle.linker_rewriting.proofs.Whole.{whole}
 use Rattle.linker_rewriting.proofs.sections.decide_rewrites.Goals as goal
 
-pub returns-in-Ok : goal.returns-in-Ok
-returns-in-Ok g c =
+pub returns : goal.returns
+returns g c =
     let a = c.args in
     let s = pre_layout a.architecture a.output.now a.symbols.now in
     let k = c.keep_bytes.ensures in
     let e = subst (AreAllDecided (IsDecidedAfter s a.kept.now a.relocations.now a.section.now) start_by end_by a.architecture a.relocations.now a.section.now)
-    (sym k.decisions) c.in-Ok.ensures.decided in
+    (sym k.decisions) c.in_ok-changes.ensures.decided in
     record {
       decided = record {
         decided = e.decided;
@@ -22,20 +22,20 @@ returns-in-Ok g c =
         clear = e.clear;
       };
       form = k.form;
-      others_stay = k.others_stay ∙ c.decide_section.ensures.others_stay;
+      others_stay = k.others_stay ∙ c.decide_section-changes.ensures.others_stay;
       rejected = tt;
       surveyed = tt;
     }
 
-pub returns-in-Err : goal.returns-in-Err
-returns-in-Err g c =
+pub returns-in_err-changes : goal.returns-in_err-changes
+returns-in_err-changes g c =
     let a = c.args in
-    let is = c.in-Err.ensures.rejected in
+    let is = c.in_err-changes.ensures.rejected in
     record {
       decided = tt;
       form = tt;
-      others_stay = c.decide_section.ensures.others_stay;
+      others_stay = c.decide_section-changes.ensures.others_stay;
       rejected = is;
       surveyed = means_unsurveyed (pre_layout a.architecture a.output.now a.symbols.now) a.kept.now a.relocations.now a.section.now
-          (map g.D.AsDecision.decision c.decide_section.new.decisions) _ is;
+          (map g.D.AsDecision.decision c.decide_section-changes.new.decisions) _ is;
     }

@@ -1,5 +1,5 @@
 use Rattle.std.proofs.Common.{◌≡◌, ◌<◌, ◌≤◌, ◌/◌, ◌∙◌, ◌+◌, length, map, slice_set, ap, sym, subst, arith, Some}
-use Rattle.linker_rewriting.proofs.Imports.{Kept, drop-set-lt, drop_more_same, get_or-map, length-map, map-set, relocation_in}
+use Rattle.linker_rewriting.proofs.Imports.{Kept, drop-set-lt, drop_more_same, length-map, map-set, relocation_in}
 use Rattle.linker_rewriting.specs.Decisions.{decision_at, deleted_of, deleted_end}
 use Rattle.linker_rewriting.proofs.Listing.{AreListed, nothing_more, one_more, no_room}
 use Rattle.linker_rewriting.proofs.Untouched.{none_deleted}
@@ -13,9 +13,7 @@ returns-then-deleted-len-clause-short g c =
     let k = c.loop-index.index in
     let less : k < length a.relocations.now / 24 =
     (let t = c.loop-index-test.true in let e = c.relocations_len-index-end.ensures in omega arith) in
-    let within : k < length a.decisions.now = (let n = c.requires.enough in omega (arith, n, less)) in
-    let at : decision_at (map f a.decisions.now) k ≡ c.as_decision.result =
-    get_or-map f a.decisions.now k c.index-decisions-index.result Kept within ∙ rw (← c.index-decisions-index.is) (sym c.as_decision.ensures) in
+    let at = sym c.decision_in.ensures in
     let enough : length a.relocations.now / 24 ≤ length (map f a.decisions.now) =
     (let e = length-map a.decisions.now f in let n = c.requires.enough in omega (arith, e, n)) in
     let full : length (map h c.loop-index.deleted) ≤ c.loop-index.len =
@@ -34,9 +32,7 @@ loop-index-preserved-in_default g c =
     let k = c.loop-index.index in
     let less : k < length a.relocations.now / 24 =
     (let t = c.loop-index-test.true in let e = c.relocations_len-index-end.ensures in omega arith) in
-    let within : k < length a.decisions.now = (let n = c.requires.enough in omega (arith, n, less)) in
-    let at : decision_at (map f a.decisions.now) k ≡ c.as_decision.result =
-    get_or-map f a.decisions.now k c.index-decisions-index.result Kept within ∙ rw (← c.index-decisions-index.is) (sym c.as_decision.ensures) in
+    let at = sym c.decision_in.ensures in
     record {
       listed = nothing_more a.relocations.now (map f a.decisions.now) (map h a.deleted.now) (map h c.loop-index.deleted) c.loop-index.len k
           c.loop-index.invariant.listed (ap deleted_of at ∙ sym c.deleted.ensures ∙ c.in_default.is);
@@ -50,9 +46,7 @@ overflow_add-relocation g c =
     let k = c.loop-index.index in
     let less : k < length a.relocations.now / 24 =
     (let t = c.loop-index-test.true in let e = c.relocations_len-index-end.ensures in omega arith) in
-    let within : k < length a.decisions.now = (let n = c.requires.enough in omega (arith, n, less)) in
-    let at : decision_at (map f a.decisions.now) k ≡ c.as_decision.result =
-    get_or-map f a.decisions.now k c.index-decisions-index.result Kept within ∙ rw (← c.index-decisions-index.is) (sym c.as_decision.ensures) in
+    let at = sym c.decision_in.ensures in
     let is : deleted_of (decision_at (map f a.decisions.now) k) ≡ Some c.in-Some.bytes =
     ap deleted_of at ∙ sym c.deleted.ensures ∙ c.in-Some.is in
     let fit = c.requires.fit k less in
@@ -70,9 +64,7 @@ loop-index-preserved g c =
     let now = c.loop-index.deleted in
     let less : k < length a.relocations.now / 24 =
     (let t = c.loop-index-test.true in let e = c.relocations_len-index-end.ensures in omega arith) in
-    let within : k < length a.decisions.now = (let n = c.requires.enough in omega (arith, n, less)) in
-    let at : decision_at (map f a.decisions.now) k ≡ c.as_decision.result =
-    get_or-map f a.decisions.now k c.index-decisions-index.result Kept within ∙ rw (← c.index-decisions-index.is) (sym c.as_decision.ensures) in
+    let at = sym c.decision_in.ensures in
     let is : deleted_of (decision_at (map f a.decisions.now) k) ≡ Some c.in-Some.bytes =
     ap deleted_of at ∙ sym c.deleted.ensures ∙ c.in-Some.is in
     let room : len < length (map h now) = (let e = length-map now h in let n = c.if-deleted-len.false in omega (arith, e, n)) in

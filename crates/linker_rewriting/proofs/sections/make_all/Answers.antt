@@ -1,5 +1,5 @@
 use Rattle.std.proofs.Common.{◌≡◌, ◌<◌, ◌≤◌, ◌/◌, ◌∙◌, List, length, map, ap, refl, sym, subst, arith, rules}
-use Rattle.linker_rewriting.proofs.Imports.{Decision, Kept, get_or-map, length-map, relocation_in}
+use Rattle.linker_rewriting.proofs.Imports.{Decision, Kept, length-map, relocation_in}
 use Rattle.linker_rewriting.specs.Decisions.{CanBeMade, decision_at}
 use Rattle.linker_rewriting.specs.Rewritten.{section_after, relocation_after, IsDone}
 use Rattle.linker_rewriting.proofs.Making.{made_next, kept_next, can_next, windows_apart}
@@ -11,14 +11,13 @@ loop-index-preserved g c =
     let f = g.D.AsDecision.decision in
     let ds : List Decision = map f a.decisions.now in
     let k = c.loop-index.index in
-    let d = c.as_decision-decision.result in
+    let d = c.decision_in-decision.result in
     let r = c.relocation_in-relocation.result in
     let limit = length a.relocations.now / 24 in
     let less : k < limit =
     (let t = c.loop-index-test.true in let e = c.relocations_len-index-end.ensures in omega arith) in
     let enough : limit ≤ length ds = (let e = length-map a.decisions.now f in let n = c.requires.enough in omega (arith, e, n)) in
-    let is : d ≡ decision_at ds k =
-    sym (get_or-map f a.decisions.now k c.index-decisions-index.result Kept (let n = c.requires.enough in omega (arith, n, less)) ∙ rw (← c.index-decisions-index.is) (sym c.as_decision-decision.ensures)) in
+    let is = c.decision_in-decision.ensures in
     let same_len : length c.loop-index.relocations ≡ length a.relocations.now =
     c.loop-index.invariant.same_entries_len in
     made_next ds a.relocations.now c.loop-index.relocations
@@ -41,8 +40,7 @@ loop-index-preserved-in-Kept g c =
     let less : k < limit =
     (let t = c.loop-index-test.true in let e = c.relocations_len-index-end.ensures in omega arith) in
     let enough : limit ≤ length ds = (let e = length-map a.decisions.now f in let n = c.requires.enough in omega (arith, e, n)) in
-    let is : c.as_decision-decision.result ≡ decision_at ds k =
-    sym (get_or-map f a.decisions.now k c.index-decisions-index.result Kept (let n = c.requires.enough in omega (arith, n, less)) ∙ rw (← c.index-decisions-index.is) (sym c.as_decision-decision.ensures)) in
+    let is = c.decision_in-decision.ensures in
     kept_next ds a.relocations.now c.loop-index.relocations a.section.now
     c.loop-index.section limit k Kept c.loop-index.invariant less enough c.requires.made
     (windows_apart _ _ _ c.requires.apart) (sym is ∙ c.in-Kept.is)
@@ -58,8 +56,7 @@ make-requires g c =
     let less : k < limit =
     (let t = c.loop-index-test.true in let e = c.relocations_len-index-end.ensures in omega arith) in
     let enough : limit ≤ length ds = (let e = length-map a.decisions.now f in let n = c.requires.enough in omega (arith, e, n)) in
-    let is : c.as_decision-decision.result ≡ decision_at ds k =
-    sym (get_or-map f a.decisions.now k c.index-decisions-index.result Kept (let n = c.requires.enough in omega (arith, n, less)) ∙ rw (← c.index-decisions-index.is) (sym c.as_decision-decision.ensures)) in
+    let is = c.decision_in-decision.ensures in
     subst (λ y. CanBeMade y c.loop-index.section r.offset) (sym is)
     (can_next ds a.relocations.now c.loop-index.relocations a.section.now
     c.loop-index.section limit k Kept r c.loop-index.invariant less

@@ -10,17 +10,17 @@ use Rattle.linker_rewriting.proofs.sections.rewrite_placed_section.Goals as goal
 pub list_deletions-requires-clause-fit : goal.list_deletions-requires-clause-fit
 list_deletions-requires-clause-fit g c =
     let a = c.args in
-    all_fit a.relocations.now a.section.now (map g.D.AsDecision.decision c.decide_section.new.decisions)
-    (length a.relocations.now / 24) _ c.in-Ok.ensures.decided.made (search rules)
+    all_fit a.relocations.now a.section.now (map g.D.AsDecision.decision c.decide_section-changes.new.decisions)
+    (length a.relocations.now / 24) _ c.in_ok-changes.ensures.decided.made (search rules)
 
-pub returns-in-Some-list_deletions : goal.returns-in-Some-list_deletions
-returns-in-Some-list_deletions g c =
+pub returns : goal.returns
+returns g c =
     let a = c.args in
     let s = context_of a.context.now in
-    let ds = map g.D.AsDecision.decision c.decide_section.new.decisions in
-    let e = c.in-Ok.ensures.decided in
+    let ds = map g.D.AsDecision.decision c.decide_section-changes.new.decisions in
+    let e = c.in_ok-changes.ensures.decided in
     let m = c.make_all.ensures in
-    let l = c.in-Some-list_deletions.ensures in
+    let l = c.in-Some.ensures in
     record {
       agree = c.in_default.ensures;
       rewritten = record {
@@ -35,8 +35,8 @@ returns-in-Some-list_deletions g c =
       within = e.made;
       listed = l.listed;
       labels = labels_whole s a.kept.now a.relocations.now a.section.now ds (length a.relocations.now / 24) e.decided;
-      form = c.in-Ok.ensures.form;
-      others_stay = c.decide_section.ensures.others_stay;
+      form = c.in_ok-changes.ensures.form;
+      others_stay = c.decide_section-changes.ensures.others_stay;
       deletions_stay = l.others_stay;
       rejected = tt;
       surveyed = tt;
@@ -44,12 +44,12 @@ returns-in-Some-list_deletions g c =
       entries = tt;
     }
 
-pub returns-in-Err : goal.returns-in-Err
-returns-in-Err g c =
+pub returns-in_err-changes : goal.returns-in_err-changes
+returns-in_err-changes g c =
     let a = c.args in
     let s = context_of a.context.now in
-    let ds = map g.D.AsDecision.decision c.decide_section.new.decisions in
-    let is = c.in-Err.ensures.rejected in
+    let ds = map g.D.AsDecision.decision c.decide_section-changes.new.decisions in
+    let is = c.in_err-changes.ensures.rejected in
     record {
       agree = tt;
       rewritten = tt;
@@ -57,7 +57,7 @@ returns-in-Err g c =
       listed = tt;
       labels = tt;
       form = tt;
-      others_stay = c.decide_section.ensures.others_stay;
+      others_stay = c.decide_section-changes.ensures.others_stay;
       deletions_stay = tt;
       rejected = rejected_first s.symbols s.values a.relocations.now
           (IsRejectedWith (IsDecidedAfter s a.kept.now a.relocations.now a.section.now) a.relocations.now ds (length a.deleted.now) (IsRejectedIn s a.kept.now a.relocations.now a.section.now ds)) _ (λ n no. no) c.in_default.ensures

@@ -4,41 +4,41 @@ use Rattle.linker_rewriting.proofs.Noted.{means_unsurveyed}
 use Rattle.linker_rewriting.proofs.Whole.{whole}
 use Rattle.linker_rewriting.proofs.sections.rewrite_section.Goals as goal
 
-pub returns-in-Ok : goal.returns-in-Ok
-returns-in-Ok g c =
+pub returns : goal.returns
+returns g c =
     let a = c.args in
-    let e = c.in-Ok.ensures.decided in
+    let e = c.in_ok-changes.ensures.decided in
     let m = c.make_all.ensures in
     record {
       rewritten = record {
         decided = e.decided;
         groups = whole (pre_layout a.architecture a.output.now a.symbols.now) a.kept.now a.relocations.now a.section.now
-            (map g.D.AsDecision.decision c.decide_section.new.decisions) (length a.relocations.now / 24) e.decided;
+            (map g.D.AsDecision.decision c.decide_section-changes.new.decisions) (length a.relocations.now / 24) e.decided;
         apart = e.apart;
         clear = e.clear;
         relocations = m.relocations;
         done = m.done;
         others = m.others;
       };
-      form = c.in-Ok.ensures.form;
-      others_stay = c.decide_section.ensures.others_stay;
+      form = c.in_ok-changes.ensures.form;
+      others_stay = c.decide_section-changes.ensures.others_stay;
       rejected = tt;
       surveyed = tt;
       section = tt;
       entries = tt;
     }
 
-pub returns-in-Err : goal.returns-in-Err
-returns-in-Err g c =
+pub returns-in_err-changes : goal.returns-in_err-changes
+returns-in_err-changes g c =
     let a = c.args in
-    let is = c.in-Err.ensures.rejected in
+    let is = c.in_err-changes.ensures.rejected in
     record {
       rewritten = tt;
       form = tt;
-      others_stay = c.decide_section.ensures.others_stay;
+      others_stay = c.decide_section-changes.ensures.others_stay;
       rejected = is;
       surveyed = means_unsurveyed (pre_layout a.architecture a.output.now a.symbols.now) a.kept.now a.relocations.now a.section.now
-          (map g.D.AsDecision.decision c.decide_section.new.decisions) _ is;
+          (map g.D.AsDecision.decision c.decide_section-changes.new.decisions) _ is;
       section = refl;
       entries = refl;
     }

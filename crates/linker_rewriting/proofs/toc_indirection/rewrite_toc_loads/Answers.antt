@@ -6,10 +6,10 @@ use Rattle.linker_rewriting.specs.Facts.{context_of}
 use Rattle.linker_rewriting.specs.TocIndirection.{AreLoadsRejected}
 use Rattle.linker_rewriting.proofs.toc_indirection.rewrite_toc_loads.Goals as goal
 
-pub returns-in-Ok : goal.returns-in-Ok
-returns-in-Ok g c =
+pub returns : goal.returns
+returns g c =
     let a = c.args in
-    let e = c.in-Ok.ensures.decided in
+    let e = c.in_ok-decide_by.ensures.decided in
     let m = c.make_all.ensures in
     record {
       agree = c.in_default.ensures;
@@ -24,7 +24,7 @@ returns-in-Ok g c =
         done = m.done;
         others = m.others;
       };
-      form = c.in-Ok.ensures.form;
+      form = c.in_ok-decide_by.ensures.form;
       others_stay = c.decide_by.ensures.others_stay;
       rejected = tt;
       surveyed = tt;
@@ -32,8 +32,8 @@ returns-in-Ok g c =
       entries = tt;
     }
 
-pub returns-in-Err : goal.returns-in-Err
-returns-in-Err g c =
+pub returns-in_err-decide_by : goal.returns-in_err-decide_by
+returns-in_err-decide_by g c =
     let a = c.args in
     let s = context_of a.context.now in
     let ds = map g.D.AsDecision.decision c.decide_by.new.decisions in
@@ -43,8 +43,8 @@ returns-in-Err g c =
       form = tt;
       others_stay = c.decide_by.ensures.others_stay;
       rejected = rejected_first s.symbols s.values a.relocations.now
-          (AreLoadsRejected s a.words_start a.words.now a.kept.now a.relocations.now a.section.now ds) _ (λ n no. no) c.in_default.ensures c.in-Err.ensures.rejected;
-      surveyed = means_unsurveyed s a.words_start a.words.now a.kept.now a.relocations.now a.section.now ds _ c.in-Err.ensures.rejected;
+          (AreLoadsRejected s a.words_start a.words.now a.kept.now a.relocations.now a.section.now ds) _ (λ n no. no) c.in_default.ensures c.in_err-decide_by.ensures.rejected;
+      surveyed = means_unsurveyed s a.words_start a.words.now a.kept.now a.relocations.now a.section.now ds _ c.in_err-decide_by.ensures.rejected;
       section = refl;
       entries = refl;
     }
