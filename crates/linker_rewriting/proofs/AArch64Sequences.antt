@@ -6,6 +6,7 @@ use Rattle.linker_elf.specs.Choices.{IsBound}
 use Rattle.linker_elf.specs.declared.aarch64.relocations.AArch64Relocation.TheVariants as names
 use Rattle.linker_rewriting.proofs.Chosen.{IsChosen, chosen_at, chosen_or_labelled}
 use Rattle.linker_rewriting.proofs.Entries.{IsOfOne, of_one}
+use Rattle.linker_rewriting.proofs.LabelGroups.{aarch64_none}
 use Rattle.linker_rewriting.proofs.SequenceMembers.{IsThere, among, are_there, at_first, there}
 use Rattle.linker_rewriting.proofs.PreLayout.{are_early}
 use Rattle.linker_rewriting.proofs.Unique.{one_candidate, one_scope}
@@ -13,7 +14,7 @@ use Rattle.linker_rewriting.specs.Candidates.{IsCandidate, IsCandidateWith}
 use Rattle.linker_rewriting.specs.Decisions.{AreDecidedIn, IsDecidedAfter, IsDecidedAlone, IsScopeDecision, IsGroupDecision, IsRewrittenAlone, IsRewrittenAt, decision_ahead, decision_at, decision_of, is_taken, takes_next}
 use Rattle.linker_rewriting.specs.Facts.{RelaxContext, facts_by, facts_of}
 use Rattle.linker_rewriting.specs.Groups.{IsScopeIn, aarch64_scope_in, group_stays}
-use Rattle.linker_rewriting.specs.Rewritten.{IsAddressRewritten, IsDescriptorWhole, IsLoadRewritten, IsPartAt, IsRewrittenBy, IsWholeBy, SequencesAreWhole}
+use Rattle.linker_rewriting.specs.Rewritten.{IsAddressRewritten, IsDescriptorRewritten, IsDescriptorWhole, IsLoadRewritten, IsPartAt, IsRewrittenBy, IsWholeBy, SequencesAreWhole}
 use Rattle.linker_rewriting.specs.RiscVPcrelGroups.{is_labelled}
 use Rattle.linker_rewriting.specs.Sequences.{IsWhole, are_members, descriptor, got_load, is_among, is_typed, is_whole, member, page_and_offset}
 use Rattle.linker_rewriting.specs.declared.groups.Group.TheVariants as groups
@@ -25,19 +26,11 @@ use Rattle.linker_utils.specs.declared.architecture.Relaxation.TheVariants as re
 
 -- ---- scopes
 
-unlabelled_in : (phase : Phase) (name : AArch64Relocation)
-    → is_labelled (aarch64_scope_in phase name) ≡ false
-unlabelled_in phases.PreLayout names.R_AARCH64_CALL26 = refl
-unlabelled_in phases.TlsLocalExec name = refl
-unlabelled_in phases.GotToPcRel names.R_AARCH64_ADR_GOT_PAGE = refl
-unlabelled_in phases.ShortPcRel names.R_AARCH64_ADR_PREL_PG_HI21 = refl
-unlabelled_in phase name = refl
-
 -- AArch64 has no labels
 pub unlabelled : (phase : Phase) (r_type : ℕ) (scope : Scope) → IsScopeIn AArch64 phase r_type scope
     → scope ≡ Labelled → ⊥
 unlabelled phase r_type scope is labelled =
-    let no : is_labelled scope ≡ false = ap is_labelled is.value_is ∙ unlabelled_in phase is.name in
+    let no : is_labelled scope ≡ false = ap is_labelled is.value_is ∙ aarch64_none phase is.name in
     let yes : is_labelled scope ≡ true = ap is_labelled labelled in
     let e : true ≡ false = sym yes ∙ no in cc
 
@@ -550,32 +543,25 @@ module _ (s : RelaxContext) (aarch64 : s.architecture ≡ AArch64) (kept : List 
       let same : p.facts ≡ q.facts = same_facts first (first + 1) p.facts q.facts load.symbol load.addend p.facts_are q.facts_are in
       let nop_add = erased_by (first + 2) names.R_AARCH64_TLSDESC_ADD_LO12 8 tt refl add.below add.is_name add_made in
       let nop_call = erased_by (first + 3) names.R_AARCH64_TLSDESC_CALL 12 tt refl call.below call.is_name call_made in
+      let by_both : (x y : AArch64Choice) → p.named ≡ x → q.named ≡ y → IsDescriptorRewritten x.kind y.kind bytes decisions first =
+      λ x y a b. record {
+        page = page;
+        load = load;
+        add = add;
+        call = call;
+        page_decided = record { chosen = page_made.chosen; decided = page_made.decided_so; kind_is = p.kind_is ∙ ap (λ (z : AArch64Choice). relaxations.AArch64 z.kind) a };
+        load_decided = record { chosen = load_made.chosen; decided = load_made.decided_so; kind_is = q.kind_is ∙ ap (λ (z : AArch64Choice). relaxations.AArch64 z.kind) b };
+        add_decided = nop_add;
+        call_decided = nop_call;
+      } in
       elim p.is_member [
         | inl to_local ↦ elim q.is_member [
-          | inl too ↦ inl (record {
-            page = page;
-            load = load;
-            add = add;
-            call = call;
-            page_decided = record { chosen = page_made.chosen; decided = page_made.decided_so; kind_is = p.kind_is ∙ ap (λ (x : AArch64Choice). relaxations.AArch64 x.kind) (to_local.1) };
-            load_decided = record { chosen = load_made.chosen; decided = load_made.decided_so; kind_is = q.kind_is ∙ ap (λ (x : AArch64Choice). relaxations.AArch64 x.kind) (too.1) };
-            add_decided = nop_add;
-            call_decided = nop_call;
-          })
+          | inl too ↦ inl (by_both _ _ (to_local.1) (too.1))
           | inr not_too ↦ absurd (not_too.0 (subst IsLocal same (to_local.0)))
         ]
         | inr to_initial ↦ elim q.is_member [
           | inl too ↦ absurd (to_initial.0 (subst IsLocal (sym same) (too.0)))
-          | inr not_too ↦ inr (record {
-            page = page;
-            load = load;
-            add = add;
-            call = call;
-            page_decided = record { chosen = page_made.chosen; decided = page_made.decided_so; kind_is = p.kind_is ∙ ap (λ (x : AArch64Choice). relaxations.AArch64 x.kind) (to_initial.1) };
-            load_decided = record { chosen = load_made.chosen; decided = load_made.decided_so; kind_is = q.kind_is ∙ ap (λ (x : AArch64Choice). relaxations.AArch64 x.kind) (not_too.1) };
-            add_decided = nop_add;
-            call_decided = nop_call;
-          })
+          | inr not_too ↦ inr (by_both _ _ (to_initial.1) (not_too.1))
         ]
       ]
 

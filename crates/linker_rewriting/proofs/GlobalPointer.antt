@@ -1,6 +1,7 @@
 -- Parts of addresses near the global pointer: what is noted, decided and turned, relocation by
 -- relocation, and that all parts of a symbol are rewritten, or none is.
-use Rattle.std.proofs.Common.{◌≡◌, ◌≢◌, ℕ, suc, nat_le, not, is_some, ◌+◌, ◌<◌, ◌≤◌, ◌∙◌, ◌&&◌, List, length, ap, sym, subst, arith, refl, Bool, true, false, true≢false, Option, None, Some, slice_get, if◌then◌else◌}
+use Rattle.std.proofs.Common.{◌≡◌, ◌≢◌, ℕ, suc, nat_le, not, is_some, IsTrue, ◌↔◌, ◌+◌, ◌<◌, ◌≤◌, ◌∙◌, ◌&&◌, List, length, ap, sym, subst, arith, refl, Bool, true, false, true≢false, Option, None, Some, slice_get, if◌then◌else◌}
+use Rattle.linker_base.proofs.Tests.{and_first, and_second}
 use Rattle.linker_rewriting.proofs.LabelGroups.{one_high_from}
 use Rattle.linker_rewriting.proofs.Imports.{Addresses, Contradiction, Decision, IsAscending, Kept, NotSurveyed, Overlaps, Rela, RewritingError, Symbol, TooShort, leb-true, relocation_in}
 use Rattle.linker_rewriting.specs.Decisions.{CanBeMade, IsWithin, Matches, decision_at}
@@ -67,55 +68,42 @@ one_member s bytes r x y up a b =
 
 -- ---- tests
 
-and_first : (a b : Bool) → (a && b) ≡ true → a ≡ true
-and_first true b is = refl
-and_first false b is = absurd (true≢false (sym is))
-
-and_second : (a b : Bool) → (a && b) ≡ true → b ≡ true
-and_second true b is = is
-and_second false b is = absurd (true≢false (sym is))
-
-expected : (s : RelaxContext) (gp : ℕ) (a : Bool) (bytes section : List ℕ) (n : ℕ) (r : Rela)
-    (part : Part) (subject : Rela) → fits s gp a bytes section n r (part, subject) ≡ true
-    → is_expected section r part subject ≡ true
-expected s gp a bytes section n r part subject is =
-    and_second (is_reached s gp subject) _
+-- what fits has an expected instruction
+pub expected : (s : RelaxContext) (gp : ℕ) (a : Bool) (bytes section : List ℕ) (n : ℕ) (r : Rela)
+    (member : Part × Rela) → fits s gp a bytes section n r member ≡ true
+    → is_expected section r (member.0) (member.1) ≡ true
+expected s gp a bytes section n r member is =
+    and_second (is_reached s gp (member.1)) _
     (and_second (is_marked_at s.architecture bytes n r) _
     (and_second s.output.is_fixed _ (and_second s.output.is_executable _
     (and_second (not (is_beyond bytes r.offset n)) _ (and_second a _ is)))))
 
--- what fits can be made
-part_made : (s : RelaxContext) (gp : ℕ) (a : Bool) (bytes section : List ℕ) (n : ℕ) (r : Rela)
-    (part : Part) (subject : Rela) → fits s gp a bytes section n r (part, subject) ≡ true
-    → CanBeMade (part_decision part subject) section r.offset
-part_made s gp a bytes section n r (High opcode) subject is =
-    (tt, and_first _ _ (expected s gp a bytes section n r (High opcode) subject is))
-part_made s gp a bytes section n r (Low r_type) subject is = (tt, refl)
-part_made s gp a bytes section n r (Labelled r_type) subject is = (tt, refl)
+module _ (section : List ℕ) (r : Rela) where
+  -- it can be made
+  pub part_made : (part : Part) (subject : Rela) → is_expected section r part subject ≡ true
+      → CanBeMade (part_decision part subject) section r.offset
+  part_made (High opcode) subject is = (tt, and_first _ _ is)
+  part_made (Low r_type) subject is = (tt, refl)
+  part_made (Labelled r_type) subject is = (tt, refl)
 
--- and its instruction is in the section
-part_inside : (s : RelaxContext) (gp : ℕ) (a : Bool) (bytes section : List ℕ) (n : ℕ) (r : Rela)
-    (part : Part) (subject : Rela) → fits s gp a bytes section n r (part, subject) ≡ true
-    → part_end (part_decision part subject) r.offset ≤ length section
-part_inside s gp a bytes section n r (High opcode) subject is =
-    leb-true (r.offset + 4) (length section) (and_first _ _ (expected s gp a bytes section n r (High opcode) subject is))
-part_inside s gp a bytes section n r (Low r_type) subject is =
-    leb-true (r.offset + 4) (length section) (and_first _ _ (expected s gp a bytes section n r (Low r_type) subject is))
-part_inside s gp a bytes section n r (Labelled r_type) subject is =
-    leb-true (r.offset + 4) (length section) (and_first _ _ (expected s gp a bytes section n r (Labelled r_type) subject is))
+  pub part_matches : (part : Part) (subject : Rela) → is_expected section r part subject ≡ true
+      → Matches (part_decision part subject) section r.offset
+  part_matches (High opcode) subject is =
+      (leb-true (r.offset + 4) (length section) (and_first _ _ is), tt)
+  part_matches (Low r_type) subject is = tt
+  part_matches (Labelled r_type) subject is = tt
 
-pub member_made : (s : RelaxContext) (gp : ℕ) (a : Bool) (bytes section : List ℕ) (n : ℕ) (r : Rela)
-    (member : Part × Rela) → fits s gp a bytes section n r member ≡ true
-    → CanBeMade (part_decision (member.0) (member.1)) section r.offset
-member_made s gp a bytes section n r (part, subject) is =
-    part_made s gp a bytes section n r part subject is
+  part_inside : (part : Part) (subject : Rela) → is_expected section r part subject ≡ true
+      → part_end (part_decision part subject) r.offset ≤ length section
+  part_inside (High opcode) subject is = leb-true (r.offset + 4) (length section) (and_first _ _ is)
+  part_inside (Low r_type) subject is = leb-true (r.offset + 4) (length section) (and_first _ _ is)
+  part_inside (Labelled r_type) subject is = leb-true (r.offset + 4) (length section) (and_first _ _ is)
 
-pub member_ends : (s : RelaxContext) (gp : ℕ) (a : Bool) (bytes section : List ℕ) (n : ℕ) (r : Rela)
-    (member : Part × Rela) → fits s gp a bytes section n r member ≡ true
-    → (limit : ℕ) → r.offset ≤ limit → length section ≤ limit
-    → part_end (part_decision (member.0) (member.1)) r.offset ≤ limit
-member_ends s gp a bytes section n r (part, subject) is limit low long =
-    let e = part_inside s gp a bytes section n r part subject is in omega (arith, e, long)
+  pub part_ends : (part : Part) (subject : Rela) → is_expected section r part subject ≡ true
+      → (limit : ℕ) → r.offset ≤ limit → length section ≤ limit
+      → part_end (part_decision part subject) r.offset ≤ limit
+  part_ends part subject is limit low long =
+      let e = part_inside part subject is in omega (arith, e, long)
 
 -- ---- apart
 
@@ -127,15 +115,22 @@ part_bytes (High opcode) subject o some = (omega arith, omega arith)
 part_bytes (Low r_type) subject o some = absurd (omega (arith, some))
 part_bytes (Labelled r_type) subject o some = absurd (omega (arith, some))
 
-pub part_matches : (s : RelaxContext) (gp : ℕ) (a : Bool) (bytes section : List ℕ) (n : ℕ) (r : Rela)
-    (member : Part × Rela) → fits s gp a bytes section n r member ≡ true
-    → Matches (part_decision (member.0) (member.1)) section r.offset
-part_matches s gp a bytes section n r (High opcode, subject) is =
-    (leb-true (r.offset + 4) (length section) (and_first _ _ (expected s gp a bytes section n r (High opcode) subject is)), tt)
-part_matches s gp a bytes section n r (Low r_type, subject) is = tt
-part_matches s gp a bytes section n r (Labelled r_type, subject) is = tt
-
 -- ---- decided
+
+-- by the member that was found
+pub of_member : (s : RelaxContext) (gp : ℕ) (kept : List Bool) (bytes section : List ℕ) (n : ℕ) (r : Rela)
+    (a : Bool) (found member : Option (Part × Rela)) (d : Option Decision)
+    → (IsTrue a ↔ IsAscending bytes) → found ≡ member → IsMember s bytes r found
+    → d ≡ decided_by s gp a kept bytes section n r member
+    → IsPartDecided s gp kept bytes section n r d
+of_member s gp kept bytes section n r a found member d ascending same is decided =
+    record {
+      ascends = a;
+      is_ascending = ascending;
+      member = member;
+      is_member = subst (IsMember s bytes r) same is;
+      decided = decided;
+    }
 
 -- of a member whose symbol stays
 pub part_kept : (s : RelaxContext) (gp : ℕ) (a : Bool) (kept : List Bool) (bytes section : List ℕ) (n : ℕ)

@@ -4,6 +4,7 @@ use Rattle.linker_rewriting.proofs.Imports.{AArch64, AArch64Relocation, Architec
 use Rattle.std.specs.Prelude.{◌⊎◌, ◌-◌, not}
 use Rattle.std.proofs.Math.Bool.{and-false}
 use Rattle.std.proofs.lemmas.Bool.{cases_eq}
+use Rattle.std.proofs.lemmas.List.{length-set}
 use Rattle.linker_elf.specs.declared.aarch64.relocations.AArch64Relocation.TheVariants as aarch64
 use Rattle.linker_elf.specs.declared.loongarch64.relocations.LoongArch64Relocation.TheVariants as loongarch64
 use Rattle.linker_elf.specs.declared.ppc64.relocations.Ppc64Relocation.TheVariants as ppc64
@@ -365,7 +366,7 @@ more_copied s bytes section first now k note copied within ascending noted is =
     let other : (n : ℕ) → (n ≡ k → ⊥) → decision_at new n ≡ decision_at now n =
     λ n ne. get_or-set_other now k n note Kept ne in
     record {
-      same_len = length_set now k note ∙ copied.same_len;
+      same_len = length-set now k note ∙ copied.same_len;
       done = λ n less in_label. elim (cases_lt n k) [
         | inl below ↦
             subst (λ d. IsLabelNote s bytes section (relocation_in bytes n) (is_note d))
@@ -389,46 +390,30 @@ more_copied s bytes section first now k note copied within ascending noted is =
         | inr ne ↦ other high ne ∙ copied.highs n high of
       ];
     }
-  where
-    length_set : (xs : List Decision) (n : ℕ) (x : Decision) → length (slice_set xs n x) ≡ length xs
-    length_set [] n x = refl
-    length_set (y ∷ ys) zero x = refl
-    length_set (y ∷ ys) (suc n) x = ap suc (length_set ys n x)
 
 -- ---- architectures without labels
 
-aarch64_none : (phase : Phase) (name : AArch64Relocation) → is_labelled (aarch64_scope_in phase name) ≡ false
+pub aarch64_none : (phase : Phase) (name : AArch64Relocation) → is_labelled (aarch64_scope_in phase name) ≡ false
 aarch64_none PreLayout aarch64.R_AARCH64_CALL26 = refl
-aarch64_none PreLayout name = refl
 aarch64_none TlsLocalExec name = refl
 aarch64_none GotToPcRel aarch64.R_AARCH64_ADR_GOT_PAGE = refl
-aarch64_none GotToPcRel name = refl
 aarch64_none ShortPcRel aarch64.R_AARCH64_ADR_PREL_PG_HI21 = refl
-aarch64_none ShortPcRel name = refl
+aarch64_none phase name = refl
 
 loongarch_none : (phase : Phase) (name : LoongArch64Relocation) → is_labelled (loongarch_scope_in phase name) ≡ false
 loongarch_none PreLayout loongarch64.R_LARCH_GOT_PC_HI20 = refl
-loongarch_none PreLayout name = refl
 loongarch_none TlsLocalExec loongarch64.R_LARCH_TLS_LE_HI20_R = refl
-loongarch_none TlsLocalExec name = refl
-loongarch_none GotToPcRel name = refl
-loongarch_none ShortPcRel name = refl
+loongarch_none phase name = refl
 
 pub ppc64_none : (phase : Phase) (name : Ppc64Relocation) → is_labelled (ppc64_scope_in phase name) ≡ false
 ppc64_none PreLayout ppc64.R_PPC64_REL24 = refl
-ppc64_none PreLayout name = refl
 ppc64_none TlsLocalExec ppc64.R_PPC64_TPREL16_HA = refl
-ppc64_none TlsLocalExec name = refl
-ppc64_none GotToPcRel name = refl
 ppc64_none ShortPcRel ppc64.R_PPC64_TOC16_HA = refl
-ppc64_none ShortPcRel name = refl
+ppc64_none phase name = refl
 
 pub x86_64_none : (phase : Phase) (name : X86_64Relocation) → is_labelled (x86_64_scope_in phase name) ≡ false
 x86_64_none PreLayout x86_64.R_X86_64_GOTPCREL = refl
-x86_64_none PreLayout name = refl
-x86_64_none TlsLocalExec name = refl
-x86_64_none GotToPcRel name = refl
-x86_64_none ShortPcRel name = refl
+x86_64_none phase name = refl
 
 no_label : (architecture : Architecture) (phase : Phase) (r_type : ℕ)
     → has_labels architecture phase ≡ false → IsInLabel architecture phase r_type true → ⊥

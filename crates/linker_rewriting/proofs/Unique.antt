@@ -67,37 +67,27 @@ of_one elf value_of none r_type x y nothing a b =
 
 aarch64_unlisted : (phase : Phase) (name : AArch64Relocation) → (IsNamed (aarch64_name name) → ⊥) → aarch64_scope_in phase name ≡ NotRelaxable
 aarch64_unlisted phases.PreLayout (aarch64_names.Other r_type) isnt = refl
-aarch64_unlisted phases.TlsLocalExec (aarch64_names.Other r_type) isnt = refl
-aarch64_unlisted phases.GotToPcRel (aarch64_names.Other r_type) isnt = refl
-aarch64_unlisted phases.ShortPcRel (aarch64_names.Other r_type) isnt = refl
+aarch64_unlisted phase (aarch64_names.Other r_type) isnt = refl
 aarch64_unlisted phase _ isnt = absurd (isnt tt)
 
 riscv64_unlisted : (phase : Phase) (name : RiscVRelocation) → (IsNamed (riscv_name name) → ⊥) → riscv_scope_in phase name ≡ NotRelaxable
 riscv64_unlisted phases.PreLayout (riscv64_names.Other r_type) isnt = refl
-riscv64_unlisted phases.TlsLocalExec (riscv64_names.Other r_type) isnt = refl
-riscv64_unlisted phases.GotToPcRel (riscv64_names.Other r_type) isnt = refl
-riscv64_unlisted phases.ShortPcRel (riscv64_names.Other r_type) isnt = refl
+riscv64_unlisted phase (riscv64_names.Other r_type) isnt = refl
 riscv64_unlisted phase _ isnt = absurd (isnt tt)
 
 loongarch64_unlisted : (phase : Phase) (name : LoongArch64Relocation) → (IsNamed (loongarch_name name) → ⊥) → loongarch_scope_in phase name ≡ NotRelaxable
 loongarch64_unlisted phases.PreLayout (loongarch64_names.Other r_type) isnt = refl
-loongarch64_unlisted phases.TlsLocalExec (loongarch64_names.Other r_type) isnt = refl
-loongarch64_unlisted phases.GotToPcRel (loongarch64_names.Other r_type) isnt = refl
-loongarch64_unlisted phases.ShortPcRel (loongarch64_names.Other r_type) isnt = refl
+loongarch64_unlisted phase (loongarch64_names.Other r_type) isnt = refl
 loongarch64_unlisted phase _ isnt = absurd (isnt tt)
 
 ppc64_unlisted : (phase : Phase) (name : Ppc64Relocation) → (IsNamed (ppc64_name name) → ⊥) → ppc64_scope_in phase name ≡ NotRelaxable
 ppc64_unlisted phases.PreLayout (ppc64_names.Other r_type) isnt = refl
-ppc64_unlisted phases.TlsLocalExec (ppc64_names.Other r_type) isnt = refl
-ppc64_unlisted phases.GotToPcRel (ppc64_names.Other r_type) isnt = refl
-ppc64_unlisted phases.ShortPcRel (ppc64_names.Other r_type) isnt = refl
+ppc64_unlisted phase (ppc64_names.Other r_type) isnt = refl
 ppc64_unlisted phase _ isnt = absurd (isnt tt)
 
 x86_64_unlisted : (phase : Phase) (name : X86_64Relocation) → (IsNamed (x86_64_name name) → ⊥) → x86_64_scope_in phase name ≡ NotRelaxable
 x86_64_unlisted phases.PreLayout (x86_64_names.Other r_type) isnt = refl
-x86_64_unlisted phases.TlsLocalExec (x86_64_names.Other r_type) isnt = refl
-x86_64_unlisted phases.GotToPcRel (x86_64_names.Other r_type) isnt = refl
-x86_64_unlisted phases.ShortPcRel (x86_64_names.Other r_type) isnt = refl
+x86_64_unlisted phase (x86_64_names.Other r_type) isnt = refl
 x86_64_unlisted phase _ isnt = absurd (isnt tt)
 
 pub one_scope : (architecture : Architecture) (phase : Phase) (r_type : ℕ) (x y : Scope)

@@ -39,8 +39,8 @@ fn span_at<D: AsDecision>(relocations: &[u8], decisions: &[D], index: usize) -> 
       end_at relocations.now (map D.decision decisions.now) index,
     ) }
 {
-    let offset = relocation_in(relocations, index).offset;
-    span_of(&decision_in(decisions, index), offset)
+    let decision = decision_in(decisions, index);
+    span_of(&decision, relocation_in(relocations, index).offset)
 }
 
 /// Whether the relocation with an index stays as it is, and so does its instruction.

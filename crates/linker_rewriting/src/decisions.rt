@@ -358,7 +358,8 @@ fn decide_label(
 /// None if its group doesn't stay, but it can't be rewritten.
 fn decide(
     stays: bool,
-    rule: &Groups<'_>,
+    context: &RelaxContext<'_>,
+    kept: &[UnrelaxableGroups],
     relocations: &[u8],
     section: &[u8],
     index: usize,
@@ -367,15 +368,12 @@ fn decide(
     requires index { index + 4 ≤ usize.MAX }
     requires within { index < length relocations.now / 24 }
     requires there { relocation.now ≡ relocation_in relocations.now index }
-    requires noted { IsInLabel rule.now.context.now.architecture rule.now.context.now.phase
-        relocation.now.r_type true
-        → IsLabelNote (context_of rule.now.context.now) relocations.now section.now relocation.now
-        stays }
-    ensures decision { IsDecision (context_of rule.now.context.now) rule.now.kept.now relocations.now
-        section.now index relocation.now result }
+    requires noted { IsInLabel context.now.architecture context.now.phase relocation.now.r_type true →
+        IsLabelNote (context_of context.now) relocations.now section.now relocation.now stays }
+    ensures decision { IsDecision (context_of context.now) kept.now relocations.now section.now
+        index relocation.now result }
     ensures there { IfSome result (λ d. IsThere d section.now relocation.now.offset) }
 {
-    let (context, kept) = (rule.context, rule.kept);
     let is_grouped = match scope_in(context.architecture, context.phase, relocation.r_type) {
         Scope::NotRelaxable => return Some(Decision::Kept),
         Scope::Labelled => {
@@ -514,7 +512,15 @@ impl Rule for Groups<'_> {
         if is_taken {
             return Some(Decision::Consumed);
         }
-        decide(stays, self, relocations, section, index, relocation)
+        decide(
+            stays,
+            self.context,
+            self.kept,
+            relocations,
+            section,
+            index,
+            relocation,
+        )
     }
 
     #[inline(always)]

@@ -7,7 +7,7 @@ ghost use Rattle.std.specs.Prelude.{IfSome, IfErr, OnOk, OnErr, All, true, ⊤};
 ghost use Rattle.linker_rewriting.specs.Agreement.{Agree, IsContradiction};
 ghost use Rattle.linker_rewriting.specs.Decisions.{IsThere, start_by, end_by};
 ghost use Rattle.linker_rewriting.specs.Facts.{context_of};
-ghost use Rattle.linker_rewriting.specs.Inner.TocIndirection.{IsThatWord};
+ghost use Rattle.linker_rewriting.specs.Inner.TocIndirection.{IsThatWord, with_r_type};
 ghost use Rattle.linker_rewriting.specs.TocIndirection.{entry_r_type, word_r_type, word_offset};
 ghost use Rattle.linker_rewriting.specs.TocIndirection.{DecidesLoad, IsLoad};
 ghost use Rattle.linker_rewriting.specs.TocIndirection.{IsLoadCandidate, word_stays, IsKeepingWord};
@@ -108,6 +108,17 @@ fn load_of(words: &Words<'_>, relocation: &Rela) -> Option<(u32, usize)>
     }
 }
 
+/// A relocation with another `r_type`.
+#[inline(always)]
+fn with_r_type(r_type: u32, relocation: &Rela) -> Rela
+    ensures { result ≡ with_r_type r_type relocation.now }
+{
+    Rela {
+        r_type,
+        ..*relocation
+    }
+}
+
 /// The rewrite of a load, if each other one of the word is rewritten.
 #[inline(always)]
 fn load_candidate(
@@ -125,13 +136,10 @@ fn load_candidate(
     ensures there { IfSome result
         (λ chosen. IsThere (Decision.Rewritten chosen) section.now relocation.now.offset) }
 {
-    let (r_type, word) = load;
+    let (entry, word) = load;
     let word = relocation_in(words.relocations, word);
     let facts = link_facts(words.context, relocation, &word, false);
-    let of_entry = Rela {
-        r_type,
-        ..*relocation
-    };
+    let of_entry = with_r_type(entry, relocation);
     candidate_by(
         words.context,
         relocations,

@@ -7,7 +7,7 @@ pub span_of-requires : goal.span_of-requires
 span_of-requires g c =
     let a = c.args in
     let ds = map g.D.AsDecision.decision a.decisions.now in
-    let same = c.relocation_in-offset.ensures in
-    subst (λ d. end_by d c.relocation_in-offset.result.offset ≤ 0xffffffffffffffff) (sym c.decision_in.ensures)
+    let same = c.relocation_in.ensures in
+    subst (λ d. end_by d c.relocation_in.result.offset ≤ 0xffffffffffffffff) (sym c.decision_in-decision.ensures)
     (subst (λ r. end_by (decision_at ds a.index) r.offset ≤ 0xffffffffffffffff) (sym same)
     (c.requires.bounded (subst (λ r. r.offset ≤ 0xffffffffffffffff) same (omega arith))))

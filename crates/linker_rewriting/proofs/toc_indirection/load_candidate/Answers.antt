@@ -1,13 +1,17 @@
 use Rattle.std.proofs.Common.{◌∙◌, ap, subst, false}
 use Rattle.linker_rewriting.specs.Candidates.{IsCandidateWith}
 use Rattle.linker_rewriting.specs.Facts.{context_of, link_facts}
+use Rattle.linker_rewriting.proofs.Imports.{relocation_in}
 use Rattle.linker_rewriting.proofs.toc_indirection.load_candidate.Goals as goal
 
 pub returns-clause-candidate : goal.returns-clause-candidate
 returns-clause-candidate c =
     let a = c.args in
     let s = context_of a.words.now.context.now in
-    subst (λ facts. IsCandidateWith s a.relocations.now a.section.now a.index (record a.relocation.now { r_type = a.load.0 }) facts c.candidate_by.result)
-    (c.link_facts-facts.ensures
-    ∙ ap (λ w. link_facts s a.relocation.now w false) c.relocation_in-word.ensures)
-    c.candidate_by.ensures.candidate
+    let candidate = c.candidate_by.result in
+    subst (λ r. IsCandidateWith s a.relocations.now a.section.now a.index r
+    (link_facts s a.relocation.now (relocation_in a.words.now.relocations.now (a.load.1)) false) candidate)
+    c.with_r_type-of_entry.ensures
+    (subst (λ facts. IsCandidateWith s a.relocations.now a.section.now a.index c.with_r_type-of_entry.result facts candidate)
+    (c.link_facts-facts.ensures ∙ ap (λ w. link_facts s a.relocation.now w false) c.relocation_in-word.ensures)
+    c.candidate_by.ensures.candidate)
