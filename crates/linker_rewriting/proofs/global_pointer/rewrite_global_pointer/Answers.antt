@@ -1,4 +1,5 @@
-use Rattle.std.proofs.Common.{◌/◌, length, map, arith, inl, refl, rules, None}
+use Rattle.std.proofs.Common.{◌/◌, length, map, arith, inl, rules, None}
+use Rattle.std.proofs.lemmas.Result.{err_from_is_err_and}
 use Rattle.linker_rewriting.proofs.Imports.{length-map, relocation_in}
 use Rattle.linker_rewriting.proofs.GlobalPointer.{whole, means_unsurveyed}
 use Rattle.linker_rewriting.proofs.Rejected.{rejected_first, rejected_with}
@@ -18,7 +19,7 @@ pub returns : goal.returns
 returns g c =
     let a = c.args in
     let e = c.in_ok-decide_by.ensures.decided in
-    let l = c.in-Some.ensures in
+    let l = c.in-Some-list_deletions.ensures in
     record {
       agree = c.in_default.ensures;
       rewritten = record {
@@ -40,27 +41,28 @@ returns g c =
       entries = tt;
     }
 
-pub returns-in_err-decide_by : goal.returns-in_err-decide_by
-returns-in_err-decide_by g c =
+pub returns-in_err-decide_by-clause-rejected : goal.returns-in_err-decide_by-clause-rejected
+returns-in_err-decide_by-clause-rejected g c =
     let a = c.args in
+    let p = err_from_is_err_and c.from_residual.result c.from_residual.ensures.1 in
     let s = context_of a.context.now in
     let ds = map g.D.AsDecision.decision c.decide_by.new.decisions in
     let Decides = DecidesPart s a.gp a.kept.now a.relocations.now a.section.now in
     let IsError = IsRejectedBy Decides (λ n. IsPartDecided s a.gp a.kept.now a.relocations.now a.section.now n (relocation_in a.relocations.now n) None) part_start part_end s.architecture a.relocations.now a.section.now ds in
     let is = rejected_with Decides a.relocations.now ds (length a.deleted.now) IsError _ c.in_err-decide_by.ensures.rejected in
-    record {
-      agree = tt;
-      rewritten = tt;
-      within = tt;
-      listed = tt;
-      form = tt;
-      others_stay = c.decide_by.ensures.others_stay;
-      deletions_stay = tt;
-      rejected = rejected_first s.symbols s.values a.relocations.now
-          (ArePartsRejected s a.gp a.kept.now a.relocations.now a.section.now ds (length a.deleted.now)) _ (λ n no. no) c.in_default.ensures is;
-      surveyed = means_unsurveyed s a.gp a.kept.now a.relocations.now a.section.now ds (length a.deleted.now) _ is;
-      entries = refl;
-    }
+    rw (p.1, p.2) (rejected_first s.symbols s.values a.relocations.now
+    (ArePartsRejected s a.gp a.kept.now a.relocations.now a.section.now ds (length a.deleted.now)) _ (λ n no. no) c.in_default.ensures is)
+
+pub returns-in_err-decide_by-clause-surveyed : goal.returns-in_err-decide_by-clause-surveyed
+returns-in_err-decide_by-clause-surveyed g c =
+    let a = c.args in
+    let p = err_from_is_err_and c.from_residual.result c.from_residual.ensures.1 in
+    let s = context_of a.context.now in
+    let ds = map g.D.AsDecision.decision c.decide_by.new.decisions in
+    let Decides = DecidesPart s a.gp a.kept.now a.relocations.now a.section.now in
+    let IsError = IsRejectedBy Decides (λ n. IsPartDecided s a.gp a.kept.now a.relocations.now a.section.now n (relocation_in a.relocations.now n) None) part_start part_end s.architecture a.relocations.now a.section.now ds in
+    let is = rejected_with Decides a.relocations.now ds (length a.deleted.now) IsError _ c.in_err-decide_by.ensures.rejected in
+    rw (p.1, p.2) (means_unsurveyed s a.gp a.kept.now a.relocations.now a.section.now ds (length a.deleted.now) _ is)
 
 pub returns-then-decisions-relocations_len-clause-rejected : goal.returns-then-decisions-relocations_len-clause-rejected
 returns-then-decisions-relocations_len-clause-rejected g c = (

@@ -1,4 +1,5 @@
 use Rattle.std.proofs.Common.{◌∙◌, ◌/◌, length, map, sym, subst}
+use Rattle.std.proofs.lemmas.Result.{err_from_is_err_and}
 use Rattle.linker_rewriting.specs.Decisions.{AreAllDecided, IsDecidedAfter, start_by, end_by}
 use Rattle.linker_rewriting.specs.Facts.{pre_layout}
 use Rattle.linker_rewriting.proofs.Noted.{means_unsurveyed}
@@ -22,20 +23,14 @@ returns g c =
         clear = e.clear;
       };
       form = k.form;
-      others_stay = k.others_stay ∙ c.decide_section-changes.ensures.others_stay;
+      others_stay = k.others_stay ∙ c.decide_section.ensures.others_stay;
       rejected = tt;
       surveyed = tt;
     }
 
-pub returns-in_err-changes : goal.returns-in_err-changes
-returns-in_err-changes g c =
+pub returns-in_err-changes-clause-surveyed : goal.returns-in_err-changes-clause-surveyed
+returns-in_err-changes-clause-surveyed g c =
     let a = c.args in
-    let is = c.in_err-changes.ensures.rejected in
-    record {
-      decided = tt;
-      form = tt;
-      others_stay = c.decide_section-changes.ensures.others_stay;
-      rejected = is;
-      surveyed = means_unsurveyed (pre_layout a.architecture a.output.now a.symbols.now) a.kept.now a.relocations.now a.section.now
-          (map g.D.AsDecision.decision c.decide_section-changes.new.decisions) _ is;
-    }
+    let p = err_from_is_err_and c.from_residual.result c.from_residual.ensures.1 in
+    rw (p.1, p.2) (means_unsurveyed (pre_layout a.architecture a.output.now a.symbols.now) a.kept.now a.relocations.now a.section.now
+    (map g.D.AsDecision.decision c.decide_section.new.decisions) _ c.in_err-changes.ensures.rejected)

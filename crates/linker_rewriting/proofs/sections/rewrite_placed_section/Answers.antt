@@ -1,4 +1,5 @@
-use Rattle.std.proofs.Common.{◌/◌, length, map, refl, rules}
+use Rattle.std.proofs.Common.{◌/◌, length, map, rules}
+use Rattle.std.proofs.lemmas.Result.{err_from_is_err_and}
 use Rattle.linker_rewriting.specs.Decisions.{IsDecidedAfter, IsRejectedIn, IsRejectedWith}
 use Rattle.linker_rewriting.specs.Facts.{context_of}
 use Rattle.linker_rewriting.proofs.Listing.{all_fit}
@@ -10,17 +11,17 @@ use Rattle.linker_rewriting.proofs.sections.rewrite_placed_section.Goals as goal
 pub list_deletions-requires-clause-fit : goal.list_deletions-requires-clause-fit
 list_deletions-requires-clause-fit g c =
     let a = c.args in
-    all_fit a.relocations.now a.section.now (map g.D.AsDecision.decision c.decide_section-changes.new.decisions)
+    all_fit a.relocations.now a.section.now (map g.D.AsDecision.decision c.decide_section.new.decisions)
     (length a.relocations.now / 24) _ c.in_ok-changes.ensures.decided.made (search rules)
 
 pub returns : goal.returns
 returns g c =
     let a = c.args in
     let s = context_of a.context.now in
-    let ds = map g.D.AsDecision.decision c.decide_section-changes.new.decisions in
+    let ds = map g.D.AsDecision.decision c.decide_section.new.decisions in
     let e = c.in_ok-changes.ensures.decided in
     let m = c.make_all.ensures in
-    let l = c.in-Some.ensures in
+    let l = c.in-Some-list_deletions.ensures in
     record {
       agree = c.in_default.ensures;
       rewritten = record {
@@ -36,7 +37,7 @@ returns g c =
       listed = l.listed;
       labels = labels_whole s a.kept.now a.relocations.now a.section.now ds (length a.relocations.now / 24) e.decided;
       form = c.in_ok-changes.ensures.form;
-      others_stay = c.decide_section-changes.ensures.others_stay;
+      others_stay = c.decide_section.ensures.others_stay;
       deletions_stay = l.others_stay;
       rejected = tt;
       surveyed = tt;
@@ -44,25 +45,22 @@ returns g c =
       entries = tt;
     }
 
-pub returns-in_err-changes : goal.returns-in_err-changes
-returns-in_err-changes g c =
+pub returns-in_err-changes-clause-rejected : goal.returns-in_err-changes-clause-rejected
+returns-in_err-changes-clause-rejected g c =
     let a = c.args in
+    let p = err_from_is_err_and c.from_residual.result c.from_residual.ensures.1 in
     let s = context_of a.context.now in
-    let ds = map g.D.AsDecision.decision c.decide_section-changes.new.decisions in
-    let is = c.in_err-changes.ensures.rejected in
-    record {
-      agree = tt;
-      rewritten = tt;
-      within = tt;
-      listed = tt;
-      labels = tt;
-      form = tt;
-      others_stay = c.decide_section-changes.ensures.others_stay;
-      deletions_stay = tt;
-      rejected = rejected_first s.symbols s.values a.relocations.now
-          (IsRejectedWith (IsDecidedAfter s a.kept.now a.relocations.now a.section.now) a.relocations.now ds (length a.deleted.now) (IsRejectedIn s a.kept.now a.relocations.now a.section.now ds)) _ (λ n no. no) c.in_default.ensures
-          (rejected_with (IsDecidedAfter s a.kept.now a.relocations.now a.section.now) a.relocations.now ds (length a.deleted.now) (IsRejectedIn s a.kept.now a.relocations.now a.section.now ds) _ is);
-      surveyed = means_unsurveyed s a.kept.now a.relocations.now a.section.now ds _ is;
-      section = refl;
-      entries = refl;
-    }
+    let ds = map g.D.AsDecision.decision c.decide_section.new.decisions in
+    let IsError = IsRejectedIn s a.kept.now a.relocations.now a.section.now ds in
+    let Decides = IsDecidedAfter s a.kept.now a.relocations.now a.section.now in
+    rw (p.1, p.2) (rejected_first s.symbols s.values a.relocations.now
+    (IsRejectedWith Decides a.relocations.now ds (length a.deleted.now) IsError) _ (λ n no. no) c.in_default.ensures
+    (rejected_with Decides a.relocations.now ds (length a.deleted.now) IsError _ c.in_err-changes.ensures.rejected))
+
+pub returns-in_err-changes-clause-surveyed : goal.returns-in_err-changes-clause-surveyed
+returns-in_err-changes-clause-surveyed g c =
+    let a = c.args in
+    let p = err_from_is_err_and c.from_residual.result c.from_residual.ensures.1 in
+    let s = context_of a.context.now in
+    let ds = map g.D.AsDecision.decision c.decide_section.new.decisions in
+    rw (p.1, p.2) (means_unsurveyed s a.kept.now a.relocations.now a.section.now ds _ c.in_err-changes.ensures.rejected)

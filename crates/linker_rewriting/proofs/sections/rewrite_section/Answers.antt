@@ -1,4 +1,5 @@
-use Rattle.std.proofs.Common.{◌/◌, length, map, refl}
+use Rattle.std.proofs.Common.{◌/◌, length, map}
+use Rattle.std.proofs.lemmas.Result.{err_from_is_err_and}
 use Rattle.linker_rewriting.specs.Facts.{pre_layout}
 use Rattle.linker_rewriting.proofs.Noted.{means_unsurveyed}
 use Rattle.linker_rewriting.proofs.Whole.{whole}
@@ -13,7 +14,7 @@ returns g c =
       rewritten = record {
         decided = e.decided;
         groups = whole (pre_layout a.architecture a.output.now a.symbols.now) a.kept.now a.relocations.now a.section.now
-            (map g.D.AsDecision.decision c.decide_section-changes.new.decisions) (length a.relocations.now / 24) e.decided;
+            (map g.D.AsDecision.decision c.decide_section.new.decisions) (length a.relocations.now / 24) e.decided;
         apart = e.apart;
         clear = e.clear;
         relocations = m.relocations;
@@ -21,24 +22,16 @@ returns g c =
         others = m.others;
       };
       form = c.in_ok-changes.ensures.form;
-      others_stay = c.decide_section-changes.ensures.others_stay;
+      others_stay = c.decide_section.ensures.others_stay;
       rejected = tt;
       surveyed = tt;
       section = tt;
       entries = tt;
     }
 
-pub returns-in_err-changes : goal.returns-in_err-changes
-returns-in_err-changes g c =
+pub returns-in_err-changes-clause-surveyed : goal.returns-in_err-changes-clause-surveyed
+returns-in_err-changes-clause-surveyed g c =
     let a = c.args in
-    let is = c.in_err-changes.ensures.rejected in
-    record {
-      rewritten = tt;
-      form = tt;
-      others_stay = c.decide_section-changes.ensures.others_stay;
-      rejected = is;
-      surveyed = means_unsurveyed (pre_layout a.architecture a.output.now a.symbols.now) a.kept.now a.relocations.now a.section.now
-          (map g.D.AsDecision.decision c.decide_section-changes.new.decisions) _ is;
-      section = refl;
-      entries = refl;
-    }
+    let p = err_from_is_err_and c.from_residual.result c.from_residual.ensures.1 in
+    rw (p.1, p.2) (means_unsurveyed (pre_layout a.architecture a.output.now a.symbols.now) a.kept.now a.relocations.now a.section.now
+    (map g.D.AsDecision.decision c.decide_section.new.decisions) _ c.in_err-changes.ensures.rejected)

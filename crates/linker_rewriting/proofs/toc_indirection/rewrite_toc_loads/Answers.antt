@@ -1,4 +1,5 @@
-use Rattle.std.proofs.Common.{◌/◌, length, map, arith, refl}
+use Rattle.std.proofs.Common.{◌/◌, length, map, arith}
+use Rattle.std.proofs.lemmas.Result.{err_from_is_err_and}
 use Rattle.linker_rewriting.proofs.Imports.{length-map}
 use Rattle.linker_rewriting.proofs.Rejected.{rejected_first}
 use Rattle.linker_rewriting.proofs.WholeWords.{whole, means_unsurveyed}
@@ -32,22 +33,22 @@ returns g c =
       entries = tt;
     }
 
-pub returns-in_err-decide_by : goal.returns-in_err-decide_by
-returns-in_err-decide_by g c =
+pub returns-in_err-decide_by-clause-rejected : goal.returns-in_err-decide_by-clause-rejected
+returns-in_err-decide_by-clause-rejected g c =
     let a = c.args in
+    let p = err_from_is_err_and c.from_residual.result c.from_residual.ensures.1 in
     let s = context_of a.context.now in
     let ds = map g.D.AsDecision.decision c.decide_by.new.decisions in
-    record {
-      agree = tt;
-      rewritten = tt;
-      form = tt;
-      others_stay = c.decide_by.ensures.others_stay;
-      rejected = rejected_first s.symbols s.values a.relocations.now
-          (AreLoadsRejected s a.words_start a.words.now a.kept.now a.relocations.now a.section.now ds) _ (λ n no. no) c.in_default.ensures c.in_err-decide_by.ensures.rejected;
-      surveyed = means_unsurveyed s a.words_start a.words.now a.kept.now a.relocations.now a.section.now ds _ c.in_err-decide_by.ensures.rejected;
-      section = refl;
-      entries = refl;
-    }
+    rw (p.1, p.2) (rejected_first s.symbols s.values a.relocations.now
+    (AreLoadsRejected s a.words_start a.words.now a.kept.now a.relocations.now a.section.now ds) _ (λ n no. no) c.in_default.ensures c.in_err-decide_by.ensures.rejected)
+
+pub returns-in_err-decide_by-clause-surveyed : goal.returns-in_err-decide_by-clause-surveyed
+returns-in_err-decide_by-clause-surveyed g c =
+    let a = c.args in
+    let p = err_from_is_err_and c.from_residual.result c.from_residual.ensures.1 in
+    let s = context_of a.context.now in
+    let ds = map g.D.AsDecision.decision c.decide_by.new.decisions in
+    rw (p.1, p.2) (means_unsurveyed s a.words_start a.words.now a.kept.now a.relocations.now a.section.now ds _ c.in_err-decide_by.ensures.rejected)
 
 pub returns-then-decisions-relocations_len-clause-rejected : goal.returns-then-decisions-relocations_len-clause-rejected
 returns-then-decisions-relocations_len-clause-rejected g c = (
