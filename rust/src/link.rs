@@ -9,7 +9,7 @@ use crate::linker_output::got::Origins;
 use crate::linker_rewriting::decisions::{
     AsDecision, AsKeptDecision, DecisionError, FromDeletion, RewritingError,
 };
-use crate::linker_rewriting::facts::{OutputFacts, SymbolFacts};
+use crate::linker_rewriting::facts::{OutputFacts, RelaxContext, SymbolFacts};
 use crate::linker_rewriting::groups::UnrelaxableGroups;
 use crate::linker_rewriting::kept::{self, FactsSnapshot};
 use crate::linker_rewriting::phases::Phase;
@@ -464,6 +464,20 @@ pub fn relocate_resolved<L: Lookup, B: AsMut<[u8]>, R: AsRef<[u8]>>(
         })
 }
 
+/// What the proved functions choose rewrites by in a phase.
+macro_rules! context {
+    ($link:ident, $object:ident, $section:ident, $phase:expr) => {
+        &RelaxContext {
+            architecture: $link.architecture,
+            phase: $phase,
+            output: &$link.output(),
+            symbols: $object.facts,
+            addresses: &$link.addresses($section.address),
+            values: $object.values,
+        }
+    };
+}
+
 /// Notes which groups of an object stay as they are, since a relocation of this section is of them
 /// and has no rewrite: its instruction is none that a rewrite is meant for, its symbol may be of
 /// another file, or what the rewrite takes along isn't there. [`rewrite_section`](crate::rewriting::rewrite_section()) rewrites all of a
@@ -691,8 +705,6 @@ pub fn make_rewrites<B: AsMut<[u8]>, R: AsMut<[u8]>, D: AsKeptDecision>(
 /// one table for the object and the phase. A group stays too where a table has no entry for its
 /// symbol. Relocations of a label of RISC-V aren't surveyed: all of a label are in one section.
 ///
-/// `facts` and `values` both have an object's symbols at the indexes that its relocations name.
-///
 /// # Errors
 ///
 /// `kept` is as before. `facts` and `values` contradict each other about the symbol of a
@@ -726,12 +738,7 @@ pub fn survey_placed_section<B: AsRef<[u8]>, R: AsRef<[u8]>>(
     kept: &mut [UnrelaxableGroups],
 ) -> Result<(), usize> {
     surveys::survey_placed_section(
-        link.architecture,
-        phase,
-        &link.output(),
-        object.facts,
-        &link.addresses(section.address),
-        object.values,
+        context!(link, object, section, phase),
         section.relocations.as_ref(),
         section.bytes.as_ref(),
         kept,
@@ -744,7 +751,6 @@ pub fn survey_placed_section<B: AsRef<[u8]>, R: AsRef<[u8]>>(
 /// [`survey_placed_section`](crate::rewriting::survey_placed_section()) made of all sections of code of the object for the phase with the same
 /// facts and addresses.
 ///
-/// `facts` and `values` both have an object's symbols at the indexes that its relocations name.
 /// Each address has to be that by which values are written later, or differ from it by less than
 /// the reach that is left: a linker that deletes bytes afterwards makes distances shorter, never
 /// longer.
@@ -819,12 +825,7 @@ pub fn rewrite_placed_section<B: AsMut<[u8]>, R: AsMut<[u8]>, D: AsDecision, L: 
     deleted: &mut [L],
 ) -> Result<usize, RewritingError> {
     crate::linker_rewriting::sections::rewrite_placed_section(
-        link.architecture,
-        phase,
-        &link.output(),
-        object.facts,
-        &link.addresses(section.address),
-        object.values,
+        context!(link, object, section, phase),
         object.unrelaxable_groups,
         section.relocations.as_mut(),
         section.bytes.as_mut(),
@@ -843,8 +844,7 @@ pub fn rewrite_placed_section<B: AsMut<[u8]>, R: AsMut<[u8]>, D: AsDecision, L: 
 ///
 /// `words.relocations` are the relocations of the section of addresses, as `output`'s description names
 /// it, and have to ascend by offset; `kept` has an element for each. `words.address` is its address.
-/// A relocation is of a word where it refers to its address, whichever its symbol. `facts` and
-/// `values` both have an object's symbols at the indexes that its relocations name. Only PowerPC64
+/// A relocation is of a word where it refers to its address, whichever its symbol. Only PowerPC64
 /// has such a section: of other architectures nothing is noted.
 ///
 /// # Errors
@@ -887,11 +887,7 @@ pub fn survey_toc_loads<B: AsRef<[u8]>, R: AsRef<[u8]>>(
     kept: &mut [bool],
 ) -> Result<(), usize> {
     toc_indirection::survey_toc_loads(
-        link.architecture,
-        &link.output(),
-        object.facts,
-        &link.addresses(section.address),
-        object.values,
+        context!(link, object, section, Phase::ShortPcRel),
         words.address,
         words.relocations,
         section.relocations.as_ref(),
@@ -958,11 +954,7 @@ pub fn rewrite_toc_loads<B: AsMut<[u8]>, R: AsMut<[u8]>, D: AsDecision>(
     decisions: &mut [D],
 ) -> Result<(), RewritingError> {
     toc_indirection::rewrite_toc_loads(
-        link.architecture,
-        &link.output(),
-        object.facts,
-        &link.addresses(section.address),
-        object.values,
+        context!(link, object, section, Phase::ShortPcRel),
         words.address,
         words.relocations,
         words.kept,
@@ -984,9 +976,8 @@ pub fn rewrite_toc_loads<B: AsMut<[u8]>, R: AsMut<[u8]>, D: AsDecision>(
 /// of code of the object before one of them is rewritten, with one table, all of whose elements are
 /// false at first. What stays there already stays. A symbol without an element stays.
 ///
-/// `global_pointer` is the address of `__global_pointer$`. `facts` and `values` both have an object's symbols
-/// at the indexes that its relocations name, and `kept` has an element for each. For other
-/// architectures than RISC-V nothing is noted.
+/// `global_pointer` is the address of `__global_pointer$`, and `kept` has an element for each symbol of the
+/// object. For other architectures than RISC-V nothing is noted.
 ///
 /// # Errors
 ///
@@ -1022,11 +1013,7 @@ pub fn survey_global_pointer<B: AsRef<[u8]>, R: AsRef<[u8]>>(
     kept: &mut [bool],
 ) -> Result<(), usize> {
     crate::linker_rewriting::global_pointer::survey_global_pointer(
-        link.architecture,
-        &link.output(),
-        object.facts,
-        &link.addresses(section.address),
-        object.values,
+        context!(link, object, section, Phase::ShortPcRel),
         link.global_pointer,
         section.relocations.as_ref(),
         section.bytes.as_ref(),
@@ -1097,11 +1084,7 @@ pub fn rewrite_global_pointer<B: AsRef<[u8]>, R: AsMut<[u8]>, D: AsDecision, L: 
     deleted: &mut [L],
 ) -> Result<usize, RewritingError> {
     crate::linker_rewriting::global_pointer::rewrite_global_pointer(
-        link.architecture,
-        &link.output(),
-        object.facts,
-        &link.addresses(section.address),
-        object.values,
+        context!(link, object, section, Phase::ShortPcRel),
         link.global_pointer,
         object.kept_high_parts,
         section.relocations.as_mut(),

@@ -2,7 +2,7 @@
 -- relocation, and that all parts of a symbol are rewritten, or none is.
 use Rattle.std.proofs.Common.{◌≡◌, ◌≢◌, ℕ, suc, nat_le, not, is_some, IsTrue, ◌↔◌, ◌+◌, ◌<◌, ◌≤◌, ◌∙◌, ◌&&◌, List, length, ap, sym, subst, arith, refl, Bool, true, false, true≢false, Option, None, Some, slice_get, if◌then◌else◌}
 use Rattle.linker_base.proofs.Tests.{and_first, and_second}
-use Rattle.linker_rewriting.proofs.LabelGroups.{one_high_from}
+use Rattle.linker_rewriting.proofs.LabelGroups.{one_high_from, some_one}
 use Rattle.linker_rewriting.proofs.Imports.{Addresses, Contradiction, Decision, IsAscending, Kept, NotSurveyed, Overlaps, Rela, RewritingError, Symbol, TooShort, leb-true, relocation_in}
 use Rattle.linker_rewriting.specs.Decisions.{CanBeMade, IsWithin, Matches, decision_at}
 use Rattle.linker_rewriting.specs.Facts.{RelaxContext}
@@ -42,9 +42,6 @@ one_subject addresses values bytes r (Low r_type) x y up a b = a ∙ sym b
 one_subject addresses values bytes r (Labelled r_type) x y up a b =
     one_labelled addresses values bytes r x y up a b
 
-some_subject : (x y : Rela) → Some x ≡ Some y → x ≡ y
-some_subject x y is = cc
-
 same_member : (x y : Part × Rela) → x.0 ≡ y.0 → x.1 ≡ y.1 → Some x ≡ Some y
 same_member (a, b) (c, d) first second = ap (λ p. Some (p, b)) first ∙ ap (λ p. Some (c, p)) second
 
@@ -59,7 +56,7 @@ one_member_by addresses values bytes r (Some part) (Some x) None up a b =
     absurd (let e : None ≡ Some (x.1) = one_subject addresses values bytes r part None (Some (x.1)) up b (a.1) in cc)
 one_member_by addresses values bytes r (Some part) (Some x) (Some y) up a b =
     same_member x y (a.0 ∙ sym (b.0))
-    (some_subject (x.1) (y.1) (one_subject addresses values bytes r part (Some (x.1)) (Some (y.1)) up (a.1) (b.1)))
+    (some_one (x.1) (y.1) (one_subject addresses values bytes r part (Some (x.1)) (Some (y.1)) up (a.1) (b.1)))
 
 one_member : (s : RelaxContext) (bytes : List ℕ) (r : Rela) (x y : Option (Part × Rela))
     → IsAscending bytes → IsMember s bytes r x → IsMember s bytes r y → x ≡ y
@@ -106,9 +103,6 @@ module _ (section : List ℕ) (r : Rela) where
       let e = part_inside part subject is in omega (arith, e, long)
 
 -- ---- apart
-
-some_decision : (x y : Decision) → Some x ≡ Some y → x ≡ y
-some_decision x y is = cc
 
 pub part_bytes : (part : Part) (subject : Rela) (o : ℕ) → IsWithin part_start part_end o (part_decision part subject)
 part_bytes (High opcode) subject o some = (omega arith, omega arith)
@@ -187,7 +181,7 @@ not_stayed : (stays fit : Bool) (made d : Decision)
     → Some d ≡ (if stays then Some Kept else (if fit then Some made else None))
     → IsRewritten d → stays ≡ false
 not_stayed true fit made d is rewritten =
-    absurd (subst IsRewritten (some_decision d Kept is) rewritten)
+    absurd (subst IsRewritten (some_one d Kept is) rewritten)
 not_stayed false fit made d is rewritten = refl
 
 made_too : (stays fit : Bool) (made d : Decision)
@@ -195,7 +189,7 @@ made_too : (stays fit : Bool) (made d : Decision)
     → stays ≡ false → IsRewritten made → IsRewritten d
 made_too true fit made d is unkept rewritten = absurd (true≢false unkept)
 made_too false true made d is unkept rewritten =
-    subst IsRewritten (sym (some_decision d made is)) rewritten
+    subst IsRewritten (sym (some_one d made is)) rewritten
 made_too false false made d is unkept rewritten = absurd (let e : Some d ≡ None = is in cc)
 
 part_rewritten : (part : Part) (subject : Rela) → IsRewritten (part_decision part subject)

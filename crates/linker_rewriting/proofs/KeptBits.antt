@@ -2,7 +2,7 @@
 use Rattle.std.proofs.Common.{◌≡◌, ℕ, ℤ, ◌+◌, ◌*◌, ◌/◌, ◌^◌, ◌<◌, Bool, true, false, refl, sym, ap, ◌∙◌, arith}
 use Rattle.linker_rewriting.specs.Facts.{facts_of, placed_facts}
 use Rattle.linker_rewriting.specs.Kept.{bit_if, kept_bits, KeptFactsTell}
-use Rattle.linker_rewriting.proofs.Imports.{Addresses, GotToPcRel, OutputFacts, Phase, PreLayout, ShortPcRel, Symbol, SymbolFacts, TlsLocalExec}
+use Rattle.linker_rewriting.proofs.Imports.{Addresses, OutputFacts, Phase, Symbol, SymbolFacts, TlsLocalExec}
 use Rattle.linker_rewriting.specs.declared.kept.FactsSnapshot.{FactsSnapshot}
 
 -- a bit's number
@@ -115,13 +115,9 @@ placed : (phase : Phase) (addresses : Addresses) (value : Symbol) (offset : ℕ)
     → AreSame output other symbol another
     → placed_facts phase output addresses symbol value offset addend marked
     ≡ placed_facts phase other addresses another value offset addend marked
-placed PreLayout addresses value offset addend marked output other symbol another is =
-    let e0 = is.is_fixed in let e1 = is.is_executable in let e2 = is.toc in let e3 = is.is_tls_get_addr in let e4 = is.is_undefined_weak in let e5 = is.is_absolute in let e6 = is.is_ifunc in let e7 = is.is_local in let e8 = is.has_near_symbols in cc
 placed TlsLocalExec addresses value offset addend marked output other symbol another is =
     let e0 = is.is_fixed in let e1 = is.is_executable in let e2 = is.toc in let e3 = is.is_tls_get_addr in let e4 = is.is_undefined_weak in let e5 = is.is_absolute in let e6 = is.is_ifunc in let e7 = is.is_local in let e8 = is.has_near_symbols in cc
-placed GotToPcRel addresses value offset addend marked output other symbol another is =
-    let e0 = is.is_fixed in let e1 = is.is_executable in let e2 = is.toc in let e3 = is.is_tls_get_addr in let e4 = is.is_undefined_weak in let e5 = is.is_absolute in let e6 = is.is_ifunc in let e7 = is.is_local in let e8 = is.has_near_symbols in cc
-placed ShortPcRel addresses value offset addend marked output other symbol another is =
+placed phase addresses value offset addend marked output other symbol another is =
     let e0 = is.is_fixed in let e1 = is.is_executable in let e2 = is.toc in let e3 = is.is_tls_get_addr in let e4 = is.is_undefined_weak in let e5 = is.is_absolute in let e6 = is.is_ifunc in let e7 = is.is_local in let e8 = is.has_near_symbols in cc
 
 pub tell : KeptFactsTell

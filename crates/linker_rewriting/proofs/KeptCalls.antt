@@ -1,6 +1,6 @@
 -- Relocations that stay as they are by their `r_type`, or as calls by their symbol.
 use Rattle.std.proofs.Common.{◌≡◌, ℕ, ◌∙◌, ◌⊎◌, inl, inr, ◌||◌, eqb, not, List, sym, subst, refl, Bool, true, false, true≢false, Option, Some, None}
-use Rattle.linker_rewriting.proofs.Imports.{AArch64, AArch64Relocation, Addresses, Architecture, Choice, GotToPcRel, Independent, IsAArch64Choice, IsNameOf, IsPpc64Choice, Kept, LinkFacts, LoongArch64, NotRelaxable, OutputFacts, Phase, Ppc64, Ppc64Relocation, PreLayout, Rela, Relaxation, RiscV, Scope, ShortPcRel, Symbol, SymbolFacts, TlsLocalExec, UnrelaxableGroups, X86_64, aarch64_name, and_parts, cases_Bool, choice, r_type_of, eqb-true, ppc64_name, slice_get}
+use Rattle.linker_rewriting.proofs.Imports.{AArch64, AArch64Relocation, Addresses, Architecture, Choice, Independent, IsAArch64Choice, IsNameOf, IsPpc64Choice, Kept, LinkFacts, NotRelaxable, OutputFacts, Phase, Ppc64, Ppc64Relocation, PreLayout, Rela, Relaxation, Scope, Symbol, SymbolFacts, UnrelaxableGroups, aarch64_name, and_parts, cases_Bool, choice, r_type_of, eqb-true, ppc64_name, slice_get}
 use Rattle.linker_utils.specs.declared.aarch64.rewrites.RewriteKind.TheVariants as aarch64_kinds
 use Rattle.linker_elf.specs.declared.aarch64.relocations.AArch64Relocation.TheVariants as aarch64
 use Rattle.linker_elf.specs.declared.ppc64.relocations.Ppc64Relocation.TheVariants as ppc64
@@ -165,15 +165,5 @@ left_decided Ppc64 PreLayout output symbols addresses values kept bytes section 
     by_call (context Ppc64 PreLayout output symbols addresses values) kept bytes section n r (left.0)
     (ppc64_keeps (slice_get symbols r.symbol) r.r_type) (left.1)
     (ppc64_decided output symbols addresses values kept bytes section n r (left.0) (left.1)) (left.2)
-left_decided RiscV PreLayout output symbols addresses values kept bytes section n r left =
-    by_type (context RiscV PreLayout output symbols addresses values) kept bytes section n r (left.0) (left.1) (left.2)
-left_decided LoongArch64 PreLayout output symbols addresses values kept bytes section n r left =
-    by_type (context LoongArch64 PreLayout output symbols addresses values) kept bytes section n r (left.0) (left.1) (left.2)
-left_decided X86_64 PreLayout output symbols addresses values kept bytes section n r left =
-    by_type (context X86_64 PreLayout output symbols addresses values) kept bytes section n r (left.0) (left.1) (left.2)
-left_decided architecture TlsLocalExec output symbols addresses values kept bytes section n r left =
-    by_type (context architecture TlsLocalExec output symbols addresses values) kept bytes section n r (left.0) (left.1) (left.2)
-left_decided architecture GotToPcRel output symbols addresses values kept bytes section n r left =
-    by_type (context architecture GotToPcRel output symbols addresses values) kept bytes section n r (left.0) (left.1) (left.2)
-left_decided architecture ShortPcRel output symbols addresses values kept bytes section n r left =
-    by_type (context architecture ShortPcRel output symbols addresses values) kept bytes section n r (left.0) (left.1) (left.2)
+left_decided architecture phase output symbols addresses values kept bytes section n r left =
+    by_type (context architecture phase output symbols addresses values) kept bytes section n r (left.0) (left.1) (left.2)

@@ -46,8 +46,8 @@ pub one_high : (s : RelaxContext) (bytes : List ℕ) (r : Rela) (x y : Option �
 one_high s bytes r x y =
     one_high_from bytes (high_r_type s.phase) (label_offset s.phase s.addresses s.values r) x y
 
-some_one : (g h : ℕ) → Some g ≡ Some h → g ≡ h
-some_one g h is = cc
+pub some_one : {A : Type 0} (x y : A) → Some x ≡ Some y → x ≡ y
+some_one x y is = cc
 
 pub one_index : (s : RelaxContext) (bytes : List ℕ) (r : Rela) (g h : ℕ) → IsHighIn s bytes r (Some g)
     → IsHighIn s bytes r (Some h) → g ≡ h

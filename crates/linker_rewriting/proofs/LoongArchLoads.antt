@@ -1,12 +1,11 @@
 -- Of a marked load from LoongArch's GOT both instructions are rewritten, or neither is.
-use Rattle.std.proofs.Common.{◌≡◌, ℕ, ℤ, ◌∙◌, ◌+◌, ◌-◌, ◌≤◌, ◌⊎◌, ◌↔◌, inl, inr, List, [], ap, sym, subst, arith, refl, Bool, true, false, Option, Some, None, slice_get}
+use Rattle.std.proofs.Common.{◌≡◌, ℕ, ℤ, ◌∙◌, ◌+◌, ◌-◌, ◌≤◌, ◌⊎◌, ◌↔◌, inl, inr, List, [], ap, sym, subst, arith, refl, Bool, true, false, true≢false, Option, Some, None, slice_get}
 use Rattle.linker_rewriting.proofs.Imports.{Choice, Decision, Independent, IsArchitectureChoice, IsLoongArchChoice, IsNameOf, IsNamed, IsUnchanged, LinkFacts, LoongArch64, LoongArch64Relocation, OutputFacts, PreLayout, Rela, Relaxation, Subject, SymbolFacts, UnrelaxableGroups, choice, r_type_of, loongarch_name, relaxation_deleted, relaxation_no_op, relaxation_skipped, relocation_in, ◌&&◌}
 use Rattle.linker_elf.specs.declared.loongarch64.relocations.LoongArch64Relocation.TheVariants as r
 use Rattle.linker_utils.specs.LoongArchRewrites.{IsPair, IsLd, LoongArchChoice, loongarch_deleted}
 use Rattle.linker_utils.specs.declared.loongarch64.rewrites.RewriteKind.{RewriteKind as LoongArchKind}
 use Rattle.linker_utils.specs.declared.loongarch64.rewrites.RewriteKind.TheVariants as kinds
 use Rattle.linker_rewriting.proofs.SequenceMembers.{IsOf, among_is, are_there, at_first}
-use Rattle.linker_rewriting.proofs.Unique.{true_or_false}
 use Rattle.linker_rewriting.specs.Candidates.{IsCandidate, IsCandidateWith, IsCandidateBy, IsTaken, deletes_within}
 use Rattle.linker_rewriting.specs.Decisions.{IsDecidedAfter, IsDecidedAlone, IsScopeDecision, decision_at, decision_of}
 use Rattle.linker_rewriting.specs.Facts.{RelaxContext, pre_layout, facts_of, facts_by, no_addresses}
@@ -135,8 +134,8 @@ lacks_nothing symbols bytes section n one chosen kind is none changes whole lack
       | inr other ↦ elim other [
         | inl taken ↦ isnt (subst (λ k. IsTaken LoongArch64 symbols bytes n one.offset (relaxation_skipped k) false) is taken)
         | inr less ↦ elim less [
-          | inl lone ↦ true_or_false (whole ∙ sym lone)
-          | inr deletes ↦ true_or_false
+          | inl lone ↦ true≢false (whole ∙ sym lone)
+          | inr deletes ↦ true≢false
               (sym (ap (λ k. deletes_within section one.offset (relaxation_deleted k)) is
               ∙ ap (deletes_within section one.offset) none) ∙ deletes)
         ]

@@ -1,6 +1,6 @@
 -- What has been made of a section and of its relocations, one decision after the other.
-use Rattle.std.proofs.Common.{◌≡◌, ◌≢◌, ℕ, ◌+◌, ◌-◌, ◌≤◌, ◌<◌, inl, inr, ◌∙◌, List, length, take, drop, get_or, ap, sym, subst, arith, refl, IsTrue, Option, None, Some, true, nat_le}
-use Rattle.linker_rewriting.proofs.Imports.{CanRewrite, Consumed, Decision, DeletedBytes, Kept, Rela, Rewrite, Rewritten, RewrittenWithSymbol, get_or_default, relaxation_deleted, relaxation_rewrite, relocation_in, window_of_rewrite}
+use Rattle.std.proofs.Common.{◌≡◌, ◌≢◌, ℕ, ◌+◌, ◌-◌, ◌≤◌, ◌<◌, inl, inr, ◌∙◌, List, length, take, drop, ap, sym, subst, arith, refl, IsTrue, Option, None, Some, true, nat_le}
+use Rattle.linker_rewriting.proofs.Imports.{CanRewrite, Consumed, Decision, DeletedBytes, Kept, Rela, Rewrite, Rewritten, RewrittenWithSymbol, relaxation_deleted, relaxation_rewrite, relocation_in, window_of_rewrite}
 use Rattle.linker_base.specs.Rewrite.{IsRewritable, rewritten, rewrite_window}
 use Rattle.linker_rewriting.specs.Candidates.{deletes_within}
 use Rattle.linker_rewriting.specs.Decisions.{window_of, CanBeMade, AllCanBeMade, AreApart, decision_at, start_at, written_end_at, end_at}
@@ -194,39 +194,28 @@ more_made decisions entries old new section before after limit k made less can a
 
 -- the same, by what the code has
 pub made_next : (decisions : List Decision) (entries old new section before after : List ℕ)
-    (limit k : ℕ) (x : Decision) (r r_new : Rela)
-    → AreMade decisions entries old section before limit k → k < limit
-    → limit ≤ length decisions
+    (limit k : ℕ) (r r_new : Rela) → AreMade decisions entries old section before limit k → k < limit
     → AllCanBeMade entries section decisions limit → AreWindowsApart entries decisions limit
-    → r ≡ relocation_in old k
-    → after ≡ section_after (get_or decisions k x) r.offset before
+    → r ≡ relocation_in old k → after ≡ section_after (decision_at decisions k) r.offset before
     → length after ≡ length before
-    → relocation_in new k ≡ r_new → r_new ≡ relocation_after (get_or decisions k x) r
+    → relocation_in new k ≡ r_new → r_new ≡ relocation_after (decision_at decisions k) r
     → ((n : ℕ) → n < limit → n ≢ k → relocation_in new n ≡ relocation_in old n)
     → length new ≡ length old
     → AreMade decisions entries new section after limit (k + 1)
-made_next decisions entries old new section before after limit k x r r_new made less enough can apart is_r is same set set_is others new_len =
-    let d : get_or decisions k x ≡ decision_at decisions k =
-    get_or_default decisions k x Kept (omega arith) in
+made_next decisions entries old new section before after limit k r r_new made less can apart is_r is same set set_is others new_len =
     let there : r ≡ relocation_in entries k = is_r ∙ made.left k (omega arith) less in
     more_made decisions entries old new section before after limit k made less can apart
-    (is ∙ (ap (λ y. section_after y r.offset before) d
-    ∙ ap (λ y. section_after (decision_at decisions k) y.offset before) there))
-    same
-    (set ∙ (set_is ∙ (ap (λ y. relocation_after y r) d
-    ∙ ap (relocation_after (decision_at decisions k)) there)))
+    (is ∙ ap (λ y. section_after (decision_at decisions k) y.offset before) there) same
+    (set ∙ (set_is ∙ ap (relocation_after (decision_at decisions k)) there))
     others new_len
 
 -- and where nothing is made
 pub kept_next : (decisions : List Decision) (entries old section before : List ℕ) (limit k : ℕ)
-    (x : Decision) → AreMade decisions entries old section before limit k → k < limit
-    → limit ≤ length decisions
+    → AreMade decisions entries old section before limit k → k < limit
     → AllCanBeMade entries section decisions limit → AreWindowsApart entries decisions limit
-    → get_or decisions k x ≡ Kept
+    → decision_at decisions k ≡ Kept
     → AreMade decisions entries old section before limit (k + 1)
-kept_next decisions entries old section before limit k x made less enough can apart is =
-    let d : decision_at decisions k ≡ Kept =
-    sym (get_or_default decisions k x Kept (omega arith)) ∙ is in
+kept_next decisions entries old section before limit k made less can apart d =
     more_made decisions entries old old section before before limit k made less can apart
     (sym (ap (λ y. section_after y (relocation_in entries k).offset before) d)) refl
     (made.left k (omega arith) less
@@ -235,15 +224,11 @@ kept_next decisions entries old section before limit k x made less enough can ap
 
 -- what is to be made can still be
 pub can_next : (decisions : List Decision) (entries old section before : List ℕ) (limit k : ℕ)
-    (x : Decision) (r : Rela) → AreMade decisions entries old section before limit k → k < limit
-    → limit ≤ length decisions → AllCanBeMade entries section decisions limit
-    → r ≡ relocation_in old k
-    → CanBeMade (get_or decisions k x) before r.offset
-can_next decisions entries old section before limit k x r made less enough can is =
-    let d : get_or decisions k x ≡ decision_at decisions k =
-    get_or_default decisions k x Kept (omega arith) in
+    (r : Rela) → AreMade decisions entries old section before limit k → k < limit
+    → AllCanBeMade entries section decisions limit → r ≡ relocation_in old k
+    → CanBeMade (decision_at decisions k) before r.offset
+can_next decisions entries old section before limit k r made less can is =
     let there : r ≡ relocation_in entries k = is ∙ made.left k (omega arith) less in
-    subst (λ y. CanBeMade y before r.offset) (sym d)
-    (subst (λ y. CanBeMade (decision_at decisions k) before y.offset) (sym there)
+    subst (λ y. CanBeMade (decision_at decisions k) before y.offset) (sym there)
     (can_make (decision_at decisions k) (relocation_in entries k).offset section before (can k less)
-    made.same_len (made.ahead k (omega arith) less)))
+    made.same_len (made.ahead k (omega arith) less))

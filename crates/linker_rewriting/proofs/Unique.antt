@@ -1,5 +1,5 @@
 -- What an `r_type`, a choice and a candidate are is one thing.
-use Rattle.std.proofs.Common.{◌≡◌, ℕ, refl, sym, ap, subst, ◌∙◌, List, [], ◌∷◌, Option, Some, None, Bool, true, false, ◌⊎◌, inl, inr, slice_get, ◌&&◌, ◌==◌, ◌+◌, zero, suc, is_some, not}
+use Rattle.std.proofs.Common.{◌≡◌, ℕ, refl, sym, ap, subst, ◌∙◌, List, [], ◌∷◌, Option, Some, None, Bool, true, false, true≢false, ◌⊎◌, inl, inr, slice_get, ◌&&◌, ◌==◌, ◌+◌, zero, suc, is_some, not}
 use Rattle.linker_rewriting.proofs.Imports.{AArch64, AArch64Relocation, Architecture, Choice, ElfName, Entry, IsAArch64Choice, IsArchitectureChoice, IsChosenBy, IsFirst, IsLoongArchChoice, IsNameOf, IsNamed, IsPpc64Choice, IsUnchanged, LinkFacts, LoongArch64, LoongArch64Relocation, NotRelaxable, Phase, Ppc64, Ppc64Relocation, Rela, Relaxation, RiscV, Scope, SymbolFacts, X86_64, X86_64Relocation, aarch64_name, choice, r_type_of, loongarch_name, ppc64_name, relaxation_deleted, relaxation_skipped, relocation_at, relocation_in}
 use Rattle.linker_elf.specs.ElfNames.{named, unnamed}
 use Rattle.linker_elf.specs.RiscVRelocations.{riscv_name}
@@ -234,9 +234,6 @@ one_whole RiscV bytes n r x y a b = a ∙ sym b
 one_whole Ppc64 bytes n r x y a b = a ∙ sym b
 one_whole X86_64 bytes n r x y a b = a ∙ sym b
 
-pub true_or_false : true ≡ false → ⊥
-true_or_false e = cc
-
 -- one that can be rewritten doesn't lack what another one lacks
 not_both : (architecture : Architecture) (symbols : List SymbolFacts) (bytes section : List ℕ)
     (n : ℕ) (r : Rela) (facts : LinkFacts) (x : Choice Relaxation ℕ)
@@ -247,12 +244,12 @@ not_both architecture symbols bytes section n r facts x a b =
     elim (b.2) [
       | inl unchanged ↦ a.1 (subst (IsUnchanged r.r_type) same unchanged)
       | inr lacks ↦ elim lacks [
-        | inl taken ↦ true_or_false
+        | inl taken ↦ true≢false
             (one_taken architecture symbols bytes n r.offset (relaxation_skipped x.kind) true false (a.2)
             (subst (λ z. IsTaken architecture symbols bytes n r.offset (relaxation_skipped z.kind) false) same taken))
         | inr less ↦ elim less [
-          | inl whole ↦ true_or_false (one_whole architecture bytes n r true false (a.3) whole)
-          | inr deletes ↦ true_or_false
+          | inl whole ↦ true≢false (one_whole architecture bytes n r true false (a.3) whole)
+          | inr deletes ↦ true≢false
               (sym (a.4) ∙ subst (λ z. deletes_within section r.offset (relaxation_deleted z.kind) ≡ false) same deletes)
         ]
       ]

@@ -1,6 +1,6 @@
 -- Of a word all loads are rewritten, or none is.
 use Rattle.std.proofs.Common.{◌≡◌, ℕ, ◌∙◌, inl, inr, None, Some, Option, List, ap, sym, subst, refl, Bool, true, false, true≢false}
-use Rattle.linker_rewriting.proofs.LabelGroups.{one_high_from}
+use Rattle.linker_rewriting.proofs.LabelGroups.{one_high_from, some_one}
 use Rattle.linker_rewriting.proofs.Unique.{one_candidate_with}
 use Rattle.linker_rewriting.specs.Facts.{RelaxContext, link_facts}
 use Rattle.linker_rewriting.specs.Rewritten.{IsRewritten}
@@ -9,14 +9,8 @@ use Rattle.linker_rewriting.proofs.Imports.{Contradiction, Decision, IsAscending
 
 -- ---- one load
 
-some_same : (x y : ℕ) → Some x ≡ Some y → x ≡ y
-some_same x y is = cc
-
-some_pair : (x y : ℕ × ℕ) → Some x ≡ Some y → x ≡ y
-some_pair x y is = cc
-
 second_same : (x y : ℕ × ℕ) → Some x ≡ Some y → x.1 ≡ y.1
-second_same x y is = ap (λ p. p.1) (some_pair x y is)
+second_same x y is = ap (λ p. p.1) (some_one x y is)
 
 same_pair : (x y : ℕ × ℕ) → x.0 ≡ y.0 → x.1 ≡ y.1 → Some x ≡ Some y
 same_pair (a, b) (c, d) first second = ap (λ p. Some (p, b)) first ∙ ap (λ p. Some (c, p)) second
@@ -36,7 +30,7 @@ one_word s start words r (Some load) (Some other) up a b =
     let entry : Some (load.0) ≡ Some (other.0) = sym (a.0) ∙ b.0 in
     let word : Some (load.1) ≡ Some (other.1) =
     one_high_from words word_r_type (word_offset s.addresses s.values start r) (Some (load.1)) (Some (other.1)) (a.1 up) (b.1 up) in
-    same_pair load other (some_same (load.0) (other.0) entry) (some_same (load.1) (other.1) word)
+    same_pair load other (some_one (load.0) (other.0) entry) (some_one (load.1) (other.1) word)
 
 -- ---- whole words
 

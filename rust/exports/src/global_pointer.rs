@@ -5,7 +5,7 @@
 use crate::deltas::Deletion;
 use crate::rewriting::{DecisionNumbers, put_error, survey_status};
 use crate::status::Status;
-use linker_utils::source::rewriting::{OutputFacts, SymbolFacts};
+use linker_utils::source::rewriting::{OutputFacts, RelaxContext, SymbolFacts};
 use linker_utils::source::rewriting::{
     finish_gp_relaxation, rewrite_global_pointer, survey_global_pointer,
 };
@@ -30,17 +30,15 @@ pub fn linker_utils_survey_global_pointer_nonnull(
     let Some(architecture) = Architecture::from_machine(machine) else {
         return Status::UnknownArchitecture as u32;
     };
-    survey_status(survey_global_pointer(
+    let context = RelaxContext {
         architecture,
+        phase: Phase::ShortPcRel,
         output,
         symbols,
         addresses,
         values,
-        global_pointer,
-        relocations,
-        section,
-        kept,
-    ))
+    };
+    survey_status(survey_global_pointer(&context, global_pointer, relocations, section, kept))
 }
 
 /// Has the high parts of addresses near the global pointer or 0 go, and turns the relocations of a
@@ -70,12 +68,16 @@ pub fn linker_utils_rewrite_global_pointer_nonnull(
     let Some(architecture) = Architecture::from_machine(machine) else {
         return Status::UnknownArchitecture as u32;
     };
-    match rewrite_global_pointer(
+    let context = RelaxContext {
         architecture,
+        phase: Phase::ShortPcRel,
         output,
         symbols,
         addresses,
         values,
+    };
+    match rewrite_global_pointer(
+        &context,
         global_pointer,
         kept,
         relocations,

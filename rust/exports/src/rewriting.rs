@@ -7,7 +7,7 @@ use crate::status::Status;
 use linker_utils::source::rewriting::{
     AsDecision, AsKeptDecision, Decision, DecisionError, FromDeletion, RewritingError, Subject,
 };
-use linker_utils::source::rewriting::{OutputFacts, SymbolFacts};
+use linker_utils::source::rewriting::{OutputFacts, RelaxContext, SymbolFacts};
 use linker_utils::source::rewriting::{UnrelaxableGroups, has_rewrites};
 use linker_utils::source::rewriting::Phase;
 use linker_utils::source::rewriting::{
@@ -227,17 +227,15 @@ pub fn linker_utils_survey_placed_section_nonnull(
     let Some(phase) = phase_of(phase) else {
         return Status::UnknownPhase as u32;
     };
-    survey_status(survey_placed_section(
+    let context = RelaxContext {
         architecture,
         phase,
         output,
         symbols,
         addresses,
         values,
-        relocations,
-        section,
-        kept,
-    ))
+    };
+    survey_status(survey_placed_section(&context, relocations, section, kept))
 }
 
 /// The status of a survey.
@@ -400,19 +398,15 @@ pub fn linker_utils_rewrite_placed_section_nonnull(
     let Some(phase) = phase_of(phase) else {
         return Status::UnknownPhase as u32;
     };
-    match rewrite_placed_section(
+    let context = RelaxContext {
         architecture,
         phase,
         output,
         symbols,
         addresses,
         values,
-        kept,
-        relocations,
-        section,
-        decisions,
-        deleted,
-    ) {
+    };
+    match rewrite_placed_section(&context, kept, relocations, section, decisions, deleted) {
         Ok(len) => {
             *deleted_used = len;
             Status::Success as u32
@@ -438,18 +432,15 @@ pub fn linker_utils_survey_toc_loads_nonnull(
     let Some(architecture) = Architecture::from_machine(machine) else {
         return Status::UnknownArchitecture as u32;
     };
-    survey_status(survey_toc_loads(
+    let context = RelaxContext {
         architecture,
+        phase: Phase::ShortPcRel,
         output,
         symbols,
         addresses,
         values,
-        words_start,
-        words,
-        relocations,
-        section,
-        kept,
-    ))
+    };
+    survey_status(survey_toc_loads(&context, words_start, words, relocations, section, kept))
 }
 
 /// Has the instructions of a section of code compute the addresses that they load from words of an
@@ -479,12 +470,16 @@ pub fn linker_utils_rewrite_toc_loads_nonnull(
     let Some(architecture) = Architecture::from_machine(machine) else {
         return Status::UnknownArchitecture as u32;
     };
-    match rewrite_toc_loads(
+    let context = RelaxContext {
         architecture,
+        phase: Phase::ShortPcRel,
         output,
         symbols,
         addresses,
         values,
+    };
+    match rewrite_toc_loads(
+        &context,
         words_start,
         words,
         kept,

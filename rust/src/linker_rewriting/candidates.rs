@@ -22,19 +22,13 @@ pub(crate) fn is_tls_get_addr(symbols: &[SymbolFacts], symbol: u32) -> bool {
 
 /// Whether a relocation is that of a call of `__tls_get_addr` n bytes after an offset.
 #[inline(always)]
-fn is_call(
-    architecture: Architecture,
-    symbols: &[SymbolFacts],
-    offset: u64,
-    distance: u64,
-    next: Option<Rela>,
-) -> bool {
+fn is_call(context: &RelaxContext<'_>, offset: u64, distance: u64, next: Option<Rela>) -> bool {
     let Some(next) = next else {
         return false;
     };
-    let is_of_call = may_be_skipped(architecture, next.r_type);
+    let is_of_call = may_be_skipped(context.architecture, next.r_type);
     let is_there = next.offset.checked_sub(offset) == Some(distance);
-    is_there && is_of_call && is_tls_get_addr(symbols, next.symbol)
+    is_there && is_of_call && is_tls_get_addr(context.symbols, next.symbol)
 }
 
 /// Whether the relocation that a rewrite takes along, if any, is the next one.
@@ -49,13 +43,7 @@ fn finds_next(
     match kind.skipped_offset() {
         Some(distance) => {
             let next = relocation_at(relocations, index + 1);
-            is_call(
-                context.architecture,
-                context.symbols,
-                offset,
-                distance,
-                next,
-            )
+            is_call(context, offset, distance, next)
         }
         None => true,
     }

@@ -2,7 +2,7 @@
 // Made by tools/generate of crates/linker_rewriting/src/covered.rt.
 //! Relocations that no rewrite takes along, in the bytes that one writes or deletes.
 
-use crate::linker_rewriting::decisions::{AsDecision, Decision, span_of};
+use crate::linker_rewriting::decisions::{AsDecision, Decision, decision_in, span_of};
 use crate::linker_rewriting::relocations::relocation_in;
 use crate::linker_section::relocations::relocations_len;
 use crate::linker_section::sections::field_len;
@@ -25,16 +25,14 @@ struct Place {
 /// Where the bytes begin and end that the decision with an index writes or deletes.
 #[inline(always)]
 fn span_at<D: AsDecision>(relocations: &[u8], decisions: &[D], index: usize) -> (u64, u64) {
-    span_of(
-        &decisions[index].as_decision(),
-        relocation_in(relocations, index).offset,
-    )
+    let offset = relocation_in(relocations, index).offset;
+    span_of(&decision_in(decisions, index), offset)
 }
 
 /// Whether the relocation with an index stays as it is, and so does its instruction.
 #[inline(always)]
 fn is_kept<D: AsDecision>(decisions: &[D], index: usize) -> bool {
-    matches!(decisions[index].as_decision(), Decision::Kept)
+    matches!(decision_in(decisions, index), Decision::Kept)
 }
 
 /// An index that is no more than another, below which all bytes end at or below an offset.
@@ -131,7 +129,7 @@ fn reaches(
 /// Whether a rewrite takes along the relocation with an index.
 #[inline(always)]
 fn is_taken<D: AsDecision>(decisions: &[D], index: usize) -> bool {
-    matches!(decisions[index].as_decision(), Decision::Consumed)
+    matches!(decision_in(decisions, index), Decision::Consumed)
 }
 
 /// The first relocation that no rewrite takes along and whose field has a byte that the decision of

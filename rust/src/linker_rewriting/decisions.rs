@@ -56,6 +56,12 @@ pub trait AsDecision: Copy {
     fn from_decision(made: Decision) -> Self;
 }
 
+/// The decision with an index.
+#[inline(always)]
+pub(crate) fn decision_in<D: AsDecision>(decisions: &[D], index: usize) -> Decision {
+    decisions[index].as_decision()
+}
+
 impl AsDecision for Decision {
     #[inline(always)]
     fn as_decision(self) -> Decision {
@@ -214,13 +220,10 @@ fn is_rewritten_at(
         return false;
     };
     match scope_in(context.architecture, context.phase, relocation.r_type) {
-        Scope::Independent => candidate(
-            context,
-            relocations,
-            section,
-            index,
-            &relocation,
-        ).is_some(),
+        Scope::Independent => {
+            let chosen = candidate(context, relocations, section, index, &relocation);
+            chosen.is_some()
+        }
         _ => false,
     }
 }
@@ -242,17 +245,20 @@ fn takes_symbol(phase: Phase, r_type: u32) -> bool {
     }
 }
 
+/// What a relocation is of: its symbol and its addend.
+#[inline(always)]
+pub(crate) fn subject_of(relocation: &Rela) -> Subject {
+    Subject {
+        symbol: relocation.symbol,
+        addend: relocation.addend,
+    }
+}
+
 /// What rewrites the instruction of a relocation of a label with a high part.
 #[inline(always)]
 fn label_decision(phase: Phase, chosen: Choice<Relaxation, u32>, high: &Rela) -> Decision {
     if takes_symbol(phase, chosen.relocation) {
-        Decision::RewrittenWithSymbol(
-            chosen,
-            Subject {
-                symbol: high.symbol,
-                addend: high.addend,
-            },
-        )
+        Decision::RewrittenWithSymbol(chosen, subject_of(high))
     } else {
         Decision::Rewritten(chosen)
     }
@@ -283,13 +289,13 @@ fn decide_label(
 /// None if its group doesn't stay, but it can't be rewritten.
 fn decide(
     stays: bool,
-    context: &RelaxContext<'_>,
-    kept: &[UnrelaxableGroups],
+    rule: &Groups<'_>,
     relocations: &[u8],
     section: &[u8],
     index: usize,
     relocation: &Rela,
 ) -> Option<Decision> {
+    let (context, kept) = (rule.context, rule.kept);
     let is_grouped = match scope_in(context.architecture, context.phase, relocation.r_type) {
         Scope::NotRelaxable => return Some(Decision::Kept),
         Scope::Labelled => {
@@ -398,15 +404,7 @@ impl Rule for Groups<'_> {
         if is_taken {
             return Some(Decision::Consumed);
         }
-        decide(
-            stays,
-            self.context,
-            self.kept,
-            relocations,
-            section,
-            index,
-            relocation,
-        )
+        decide(stays, self, relocations, section, index, relocation)
     }
 
     #[inline(always)]

@@ -106,22 +106,23 @@ pub(crate) fn facts_of(
     }
 }
 
-/// What rewrites are chosen by in a phase. Before addresses are known those are 0, and there are no
-/// values.
+/// What the rewrites of a section are chosen by in a phase. Before addresses are known those are 0,
+/// and there are no values.
 #[derive(Clone, Copy)]
-pub(crate) struct RelaxContext<'a> {
+pub struct RelaxContext<'a> {
     /// The architecture.
-    pub(crate) architecture: Architecture,
-    /// The phase.
-    pub(crate) phase: Phase,
+    pub architecture: Architecture,
+    /// The phase. Loads from `.toc` are rewritten in `ShortPcRel`. The rewrites by the global pointer
+    /// don't read it.
+    pub phase: Phase,
     /// What is known of the output.
-    pub(crate) output: &'a OutputFacts,
-    /// What is known of the object's symbols.
-    pub(crate) symbols: &'a [SymbolFacts],
+    pub output: &'a OutputFacts,
+    /// What is known of the object's symbols, at the indexes that its relocations name (`r_sym`).
+    pub symbols: &'a [SymbolFacts],
     /// The section's address, and those that values are counted from.
-    pub(crate) addresses: &'a Addresses,
-    /// The addresses of the object's symbols.
-    pub(crate) values: &'a [Symbol],
+    pub addresses: &'a Addresses,
+    /// The addresses of the object's symbols, at the same indexes.
+    pub values: &'a [Symbol],
 }
 
 /// S, which counts as the thread pointer's address of a thread-local symbol that nothing defines.
@@ -156,74 +157,49 @@ fn may_delete(phase: Phase) -> bool {
 /// relocation of its group can be rewritten, as `placed_facts` says.
 #[inline(always)]
 fn placed_facts(
-    phase: Phase,
-    output: &OutputFacts,
-    addresses: &Addresses,
+    context: &RelaxContext<'_>,
     symbol: &SymbolFacts,
     value: &Symbol,
     offset: u64,
     addend: i64,
     marked: bool,
 ) -> LinkFacts {
-    let has_own_address = has_own_address(symbol);
-    let is_near = output.is_fixed || !has_own_address;
+    let (phase, output, addresses) = (context.phase, context.output, context.addresses);
+    let is_near = output.is_fixed || !has_own_address(symbol);
+    let facts = facts_of(output, symbol, addend, marked && may_delete(phase));
     LinkFacts {
-        is_local: symbol.is_local,
-        is_ifunc: symbol.is_ifunc,
-        is_undefined_weak: symbol.is_undefined_weak,
-        has_fixed_address: output.is_fixed || has_own_address,
         is_pcrel_link_time_constant: is_near && !symbol.is_undefined_weak,
         is_executable: is_executable_in(phase, output, symbol),
-        has_local_exec_base: true,
-        may_compress: false,
-        is_relaxable: marked && may_delete(phase),
         has_got_high_part: true,
         is_label_relaxable: marked,
         toc_base_is_exclusive: true,
-        may_change_toc: may_change_toc(symbol),
-        group_fits: true,
         has_addresses: true,
         operands: Operands {
-            addend,
             symbol: address_in(addresses, value),
             place: addresses.section.wrapping_add(offset),
-            got_entry: 0,
             got_base: addresses.got_base,
-            plt_entry: 0,
-            symbol_size: 0,
             tls_base: addresses.thread_origin,
-            has_got_entry: false,
-            has_plt_entry: false,
             has_tls_base: addresses.has_tls,
+            ..facts.operands
         },
+        ..facts
     }
 }
 
 /// The facts of a relocation of a symbol in a phase, as `facts_at` says.
 #[inline(always)]
 fn facts_at(
-    phase: Phase,
-    output: &OutputFacts,
-    addresses: &Addresses,
-    values: &[Symbol],
+    context: &RelaxContext<'_>,
     relocation: &Rela,
     subject: &Rela,
     marked: bool,
     symbol: &SymbolFacts,
 ) -> Option<LinkFacts> {
-    match phase {
-        Phase::PreLayout => Some(facts_of(output, symbol, subject.addend, marked)),
-        _ => match values.get(subject.symbol as usize) {
-            Some(value) => Some(placed_facts(
-                phase,
-                output,
-                addresses,
-                symbol,
-                value,
-                relocation.offset,
-                subject.addend,
-                marked,
-            )),
+    let (offset, addend) = (relocation.offset, subject.addend);
+    match context.phase {
+        Phase::PreLayout => Some(facts_of(context.output, symbol, addend, marked)),
+        _ => match context.values.get(subject.symbol as usize) {
+            Some(value) => Some(placed_facts(context, symbol, value, offset, addend, marked)),
             None => None,
         },
     }
@@ -239,16 +215,7 @@ pub(crate) fn link_facts(
     marked: bool,
 ) -> Option<LinkFacts> {
     match context.symbols.get(subject.symbol as usize) {
-        Some(symbol) => facts_at(
-            context.phase,
-            context.output,
-            context.addresses,
-            context.values,
-            relocation,
-            subject,
-            marked,
-            symbol,
-        ),
+        Some(symbol) => facts_at(context, relocation, subject, marked, symbol),
         None => None,
     }
 }

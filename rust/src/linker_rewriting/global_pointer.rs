@@ -4,7 +4,9 @@
 //! `auipc`: each low part takes x3 or x0 as its base, all of a symbol or none.
 
 use crate::linker_rewriting::agreement::contradiction;
-use crate::linker_rewriting::decisions::{AsDecision, Decision, FromDeletion, RewritingError};
+use crate::linker_rewriting::decisions::{
+    AsDecision, Decision, FromDeletion, RewritingError, decision_in, subject_of,
+};
 use crate::linker_rewriting::facts::{OutputFacts, RelaxContext, SymbolFacts, address_in};
 use crate::linker_rewriting::phases::Phase;
 use crate::linker_rewriting::relocations::relocation_in;
@@ -12,7 +14,7 @@ use crate::linker_rewriting::riscv_pcrel_groups::{high_at, is_beyond, label_at};
 use crate::linker_rewriting::rules::{Rule, decide_by};
 use crate::linker_rewriting::sections::list_deletions;
 use crate::linker_rewriting::sequences::is_marked_at;
-use crate::linker_rewriting::toc_indirection::{keep_word, subject_of, word_stays};
+use crate::linker_rewriting::toc_indirection::{keep_word, word_stays};
 use crate::linker_base::rewrite::overwrite;
 use crate::linker_section::facts::{Addresses, Symbol};
 use crate::linker_section::relocations::{Rela, is_ascending, relocations_len, set_relocation};
@@ -250,55 +252,18 @@ fn keeping_symbol(
 }
 
 /// `crate::link::survey_global_pointer`, with more parameters.
-///
-/// ```
-/// use linker_utils::source::rewriting::{OutputFacts, SymbolFacts};
-/// use linker_utils::source::rewriting::survey_global_pointer;
-/// use linker_utils::source::section::{Addresses, Symbol};
-/// use linker_utils::elf::Architecture;
-///
-/// // lui a0, %hi(x), with R_RISCV_HI20 of symbol 1 and R_RISCV_RELAX, where x is 2,048 above gp
-/// let mut relocations = [0; 48];
-/// (relocations[8], relocations[12], relocations[32]) = (26, 1, 51);
-/// let mut kept = [false; 2];
-/// survey_global_pointer(
-///     Architecture::RiscV,
-///     &OutputFacts { is_executable: true, is_fixed: true, has_near_symbols: true },
-///     &[SymbolFacts { is_local: true, ..SymbolFacts::default() }; 2],
-///     &Addresses { section: 0x1_0000, ..Addresses::default() },
-///     &[0, 0x2_1000].map(|address| Symbol { address, ..Symbol::default() }),
-///     0x2_0800,
-///     &relocations,
-///     &[0x37, 0x05, 0, 0],
-///     &mut kept,
-/// )
-/// .unwrap();
-/// assert_eq!(kept, [false, true]);
-/// ```
 pub fn survey_global_pointer(
-    architecture: Architecture,
-    output: &OutputFacts,
-    symbols: &[SymbolFacts],
-    addresses: &Addresses,
-    values: &[Symbol],
+    context: &RelaxContext<'_>,
     gp: u64,
     relocations: &[u8],
     section: &[u8],
     kept: &mut [bool],
 ) -> Result<(), usize> {
-    if let Some(symbol) = contradiction(symbols, values, relocations) {
+    if let Some(symbol) = contradiction(context.symbols, context.values, relocations) {
         return Err(symbol);
     }
-    let context = RelaxContext {
-        architecture,
-        phase: Phase::ShortPcRel,
-        output,
-        symbols,
-        addresses,
-        values,
-    };
     let parts = Parts {
-        context: &context,
+        context,
         gp,
         ascends: is_ascending(relocations),
     };
@@ -345,20 +310,14 @@ fn decide_part(
     index: usize,
     relocation: &Rela,
 ) -> Option<Decision> {
-    let Some(member) = member_of(rule.parts.context, relocations, relocation) else {
+    let parts = &rule.parts;
+    let Some(member) = member_of(parts.context, relocations, relocation) else {
         return Some(Decision::Kept);
     };
     if word_stays(rule.kept, member.1.symbol as usize) {
         return Some(Decision::Kept);
     }
-    if fits(
-        &rule.parts,
-        relocations,
-        section,
-        index,
-        relocation,
-        &member,
-    ) {
+    if fits(parts, relocations, section, index, relocation, &member) {
         Some(part_decision(member.0, &member.1))
     } else {
         None
@@ -421,7 +380,7 @@ fn relocation_by(decision: &Decision, relocation: &Rela) -> Rela {
 /// rewritten.
 fn turn_all<D: AsDecision>(decisions: &[D], relocations: &mut [u8]) {
     for index in 0..relocations_len(relocations) {
-        let decision = decisions[index].as_decision();
+        let decision = decision_in(decisions, index);
         let relocation = relocation_by(&decision, &relocation_in(relocations, index));
         set_relocation(relocations, index, &relocation);
     }
@@ -431,8 +390,9 @@ fn turn_all<D: AsDecision>(decisions: &[D], relocations: &mut [u8]) {
 ///
 /// ```
 /// use linker_utils::source::rewriting::Decision;
-/// use linker_utils::source::rewriting::{OutputFacts, SymbolFacts};
+/// use linker_utils::source::rewriting::{OutputFacts, RelaxContext, SymbolFacts};
 /// use linker_utils::source::rewriting::{GPREL_I, rewrite_global_pointer};
+/// use linker_utils::source::rewriting::Phase;
 /// use linker_utils::source::section::{Addresses, Symbol};
 /// use linker_utils::elf::Architecture;
 ///
@@ -443,12 +403,16 @@ fn turn_all<D: AsDecision>(decisions: &[D], relocations: &mut [u8]) {
 ///     relocations[at + 12] = u8::from(r_type < 51);
 /// }
 /// let mut deleted = [(0, 0)];
+/// let context = RelaxContext {
+///     architecture: Architecture::RiscV,
+///     phase: Phase::ShortPcRel,
+///     output: &OutputFacts { is_executable: true, is_fixed: true, has_near_symbols: true },
+///     symbols: &[SymbolFacts { is_local: true, ..SymbolFacts::default() }; 2],
+///     addresses: &Addresses { section: 0x1_0000, ..Addresses::default() },
+///     values: &[0, 0x2_0fff].map(|address| Symbol { address, ..Symbol::default() }),
+/// };
 /// let rewritten = rewrite_global_pointer(
-///     Architecture::RiscV,
-///     &OutputFacts { is_executable: true, is_fixed: true, has_near_symbols: true },
-///     &[SymbolFacts { is_local: true, ..SymbolFacts::default() }; 2],
-///     &Addresses { section: 0x1_0000, ..Addresses::default() },
-///     &[0, 0x2_0fff].map(|address| Symbol { address, ..Symbol::default() }),
+///     &context,
 ///     0x2_0800,
 ///     &[false; 2],
 ///     &mut relocations,
@@ -460,11 +424,7 @@ fn turn_all<D: AsDecision>(decisions: &[D], relocations: &mut [u8]) {
 /// assert_eq!((relocations[8], u32::from(relocations[56])), (0, GPREL_I));
 /// ```
 pub fn rewrite_global_pointer<D: AsDecision, L: FromDeletion>(
-    architecture: Architecture,
-    output: &OutputFacts,
-    symbols: &[SymbolFacts],
-    addresses: &Addresses,
-    values: &[Symbol],
+    context: &RelaxContext<'_>,
     gp: u64,
     kept: &[bool],
     relocations: &mut [u8],
@@ -472,36 +432,24 @@ pub fn rewrite_global_pointer<D: AsDecision, L: FromDeletion>(
     decisions: &mut [D],
     deleted: &mut [L],
 ) -> Result<usize, RewritingError> {
-    if let Some(symbol) = contradiction(symbols, values, relocations) {
+    if let Some(symbol) = contradiction(context.symbols, context.values, relocations) {
         return Err(RewritingError::Contradiction(symbol));
     }
     if decisions.len() < relocations_len(relocations) {
         return Err(RewritingError::TooShort);
     }
-    let context = RelaxContext {
-        architecture,
-        phase: Phase::ShortPcRel,
-        output,
-        symbols,
-        addresses,
-        values,
-    };
     let parts = Parts {
-        context: &context,
+        context,
         gp,
         ascends: is_ascending(relocations),
     };
     let rule = Symbols { parts, kept };
-    match decide_by(&rule, architecture, relocations, section, decisions) {
-        Ok(()) => match list_deletions(true, relocations, decisions, deleted) {
-            Some(len) => {
-                turn_all(decisions, relocations);
-                Ok(len)
-            }
-            None => Err(RewritingError::TooShort),
-        },
-        Err(error) => Err(error),
-    }
+    decide_by(&rule, context.architecture, relocations, section, decisions)?;
+    let Some(len) = list_deletions(true, relocations, decisions, deleted) else {
+        return Err(RewritingError::TooShort);
+    };
+    turn_all(decisions, relocations);
+    Ok(len)
 }
 
 /// The type that the relocation of a low part without a base gets.
@@ -624,22 +572,6 @@ fn set_bases(
 }
 
 /// `crate::link::finish_gp_relaxation`, with more parameters.
-///
-/// ```
-/// use linker_utils::source::rewriting::{GPREL_I, finish_gp_relaxation};
-/// use linker_utils::source::section::{Addresses, Symbol};
-///
-/// // lw a0, %lo(x)(a0), whose lui was deleted, becomes lw a0, 5(gp), where x is 5 above gp
-/// let mut section = [0x03, 0x25, 0x05, 0];
-/// let mut relocations = [0; 24];
-/// relocations[8] = u8::try_from(GPREL_I).unwrap();
-/// let values = [Symbol { address: 0x2_0805, ..Symbol::default() }];
-/// let addresses = Addresses::default();
-/// finish_gp_relaxation(&addresses, &values, 0x2_0800, &mut relocations, &mut section).unwrap();
-/// assert_eq!(section, [0x03, 0xa5, 0x01, 0]);
-/// // R_RISCV_LO12_I, whose value is x - 0x20800
-/// assert_eq!((relocations[8], &relocations[16..]), (27, &(-0x2_0800i64).to_le_bytes()[..]));
-/// ```
 pub fn finish_gp_relaxation(
     addresses: &Addresses,
     values: &[Symbol],

@@ -216,15 +216,13 @@ pub fn relocate_rewritten_section(
     if let Some(index) = first_without_stub(architecture, facts, symbols, relocations) {
         return Err(WritingError::NeedsStub(index));
     }
-    match relocate_section(
+    relocate_section(
         architecture,
         addresses,
         relocations,
         symbols,
         section,
         memory,
-    ) {
-        Ok(()) => Ok(()),
-        Err(error) => Err(WritingError::Section(error)),
-    }
+    )
+    .map_err(WritingError::Section)
 }

@@ -3,7 +3,7 @@
 //! Groups of one label of RISC-V: a high part, and the low parts whose symbol is the label at it.
 
 use crate::linker_rewriting::candidates::candidate_by;
-use crate::linker_rewriting::decisions::{AsDecision, Decision};
+use crate::linker_rewriting::decisions::{AsDecision, Decision, decision_in};
 use crate::linker_rewriting::facts::{OutputFacts, RelaxContext, SymbolFacts, link_facts};
 use crate::linker_rewriting::groups::{Scope, scope_in};
 use crate::linker_rewriting::phases::Phase;
@@ -227,7 +227,7 @@ fn note_of<D: AsDecision>(
     relocation: &Rela,
 ) -> Decision {
     match high_of(context, relocations, relocation) {
-        Some(high) => decisions[high].as_decision(),
+        Some(high) => decision_in(decisions, high),
         None => Decision::Consumed,
     }
 }

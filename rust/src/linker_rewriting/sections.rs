@@ -6,13 +6,12 @@ use crate::linker_rewriting::agreement::contradiction;
 use crate::linker_rewriting::checked::{check_decisions, keep_bytes};
 use crate::linker_rewriting::decisions::{
     AsDecision, AsKeptDecision, Decision, DecisionError, FromDeletion, RewritingError,
-    decide_section,
+    decide_section, decision_in,
 };
 use crate::linker_rewriting::facts::{NO_ADDRESSES, OutputFacts, RelaxContext, SymbolFacts};
 use crate::linker_rewriting::groups::UnrelaxableGroups;
 use crate::linker_rewriting::phases::Phase;
 use crate::linker_rewriting::relocations::relocation_in;
-use crate::linker_section::facts::{Addresses, Symbol};
 use crate::linker_section::relocations::{Rela, relocations_len, set_relocation};
 use crate::elf::{Architecture, InstructionRewrite};
 
@@ -49,7 +48,7 @@ pub(crate) fn make_all<D: AsDecision>(
         return;
     }
     for index in 0..relocations_len(relocations) {
-        let decision = decisions[index].as_decision();
+        let decision = decision_in(decisions, index);
         if let Decision::Kept = decision {
             continue;
         }
@@ -60,39 +59,6 @@ pub(crate) fn make_all<D: AsDecision>(
 }
 
 /// `crate::link::rewrite_section`, with more parameters.
-///
-/// ```
-/// use linker_utils::source::rewriting::Decision;
-/// use linker_utils::source::rewriting::{OutputFacts, SymbolFacts};
-/// use linker_utils::source::rewriting::UnrelaxableGroups;
-/// use linker_utils::source::rewriting::rewrite_section;
-/// use linker_utils::elf::Architecture;
-///
-/// // call *f@GOTPCREL(%rip), with R_X86_64_GOTPCRELX of symbol 1 at 2, becomes addr32 call f
-/// let mut section = [0xff, 0x15, 0, 0, 0, 0];
-/// let mut relocations = [0; 24];
-/// (relocations[0], relocations[8], relocations[12]) = (2, 41, 1);
-/// relocations[16..].copy_from_slice(&(-4i64).to_le_bytes());
-/// let output = OutputFacts { is_executable: true, is_fixed: false, has_near_symbols: true };
-/// let symbols = [
-///     SymbolFacts::default(),
-///     SymbolFacts { is_local: true, ..SymbolFacts::default() },
-/// ];
-/// let mut decisions = [Decision::Kept];
-/// rewrite_section(
-///     Architecture::X86_64,
-///     &output,
-///     &symbols,
-///     &[UnrelaxableGroups::default(); 2],
-///     &mut relocations,
-///     &mut section,
-///     &mut decisions,
-/// )
-/// .unwrap();
-/// assert_eq!(section, [0x67, 0xe8, 0, 0, 0, 0]);
-/// // R_X86_64_PC32
-/// assert_eq!(relocations[8], 2);
-/// ```
 pub fn rewrite_section<D: AsDecision>(
     architecture: Architecture,
     output: &OutputFacts,
@@ -110,13 +76,9 @@ pub fn rewrite_section<D: AsDecision>(
         addresses: &NO_ADDRESSES,
         values: &[],
     };
-    match decide_section(&context, kept, relocations, section, decisions) {
-        Ok(changes) => {
-            make_all(changes, decisions, relocations, section);
-            Ok(())
-        }
-        Err(error) => Err(error),
-    }
+    let changes = decide_section(&context, kept, relocations, section, decisions)?;
+    make_all(changes, decisions, relocations, section);
+    Ok(())
 }
 
 /// `crate::link::decide_rewrites`, with more parameters.
@@ -169,13 +131,9 @@ pub fn decide_rewrites<D: AsKeptDecision>(
         addresses: &NO_ADDRESSES,
         values: &[],
     };
-    match decide_section(&context, kept, relocations, section, decisions) {
-        Ok(changes) => {
-            keep_bytes(changes, relocations, section, decisions);
-            Ok(())
-        }
-        Err(error) => Err(error),
-    }
+    let changes = decide_section(&context, kept, relocations, section, decisions)?;
+    keep_bytes(changes, relocations, section, decisions);
+    Ok(())
 }
 
 /// `crate::link::make_rewrites`, with more parameters.
@@ -202,7 +160,7 @@ pub(crate) fn list_deletions<D: AsDecision, L: FromDeletion>(
     }
     let mut len = 0;
     for index in 0..relocations_len(relocations) {
-        let Some(bytes) = decisions[index].as_decision().deleted() else {
+        let Some(bytes) = decision_in(decisions, index).deleted() else {
             continue;
         };
         if deleted.len() <= len {
@@ -216,76 +174,21 @@ pub(crate) fn list_deletions<D: AsDecision, L: FromDeletion>(
 }
 
 /// `crate::link::rewrite_placed_section`, with more parameters.
-///
-/// ```
-/// use linker_utils::source::rewriting::Decision;
-/// use linker_utils::source::rewriting::{OutputFacts, SymbolFacts};
-/// use linker_utils::source::rewriting::UnrelaxableGroups;
-/// use linker_utils::source::rewriting::Phase;
-/// use linker_utils::source::rewriting::rewrite_placed_section;
-/// use linker_utils::source::section::{Addresses, Symbol};
-/// use linker_utils::elf::Architecture;
-///
-/// // adrp x0, x and add x0, x0, :lo12:x, at 0x1000, where x is at 0x2004, become nop and adr x0, x
-/// let mut section = [0, 0, 0, 0x90, 0, 0, 0, 0x91];
-/// let mut relocations = [0; 48];
-/// for (index, offset, code) in [(0, 0, 275u32), (1, 4, 277)] {
-///     relocations[24 * index] = offset;
-///     relocations[24 * index + 8..][..4].copy_from_slice(&code.to_le_bytes());
-///     relocations[24 * index + 12] = 1;
-/// }
-/// let values = [Symbol::default(), Symbol { address: 0x2004, ..Symbol::default() }];
-/// let rewritten = rewrite_placed_section(
-///     Architecture::AArch64,
-///     Phase::ShortPcRel,
-///     &OutputFacts { is_executable: true, is_fixed: true, has_near_symbols: true },
-///     &[SymbolFacts { is_local: true, ..SymbolFacts::default() }; 2],
-///     &Addresses { section: 0x1000, ..Addresses::default() },
-///     &values,
-///     &[UnrelaxableGroups::default(); 2],
-///     &mut relocations,
-///     &mut section,
-///     &mut [Decision::Kept; 2],
-///     &mut [(0, 0); 0],
-/// );
-/// assert_eq!(rewritten, Ok(0));
-/// assert_eq!(section, [0x1f, 0x20, 0x03, 0xd5, 0, 0, 0, 0x10]);
-/// // R_AARCH64_ADR_PREL_LO21, and no relocation of the nop
-/// assert_eq!((relocations[8], relocations[9]), (0, 0));
-/// assert_eq!((relocations[32], relocations[33]), (0x12, 1));
-/// ```
 pub fn rewrite_placed_section<D: AsDecision, L: FromDeletion>(
-    architecture: Architecture,
-    phase: Phase,
-    output: &OutputFacts,
-    symbols: &[SymbolFacts],
-    addresses: &Addresses,
-    values: &[Symbol],
+    context: &RelaxContext<'_>,
     kept: &[UnrelaxableGroups],
     relocations: &mut [u8],
     section: &mut [u8],
     decisions: &mut [D],
     deleted: &mut [L],
 ) -> Result<usize, RewritingError> {
-    if let Some(symbol) = contradiction(symbols, values, relocations) {
+    if let Some(symbol) = contradiction(context.symbols, context.values, relocations) {
         return Err(RewritingError::Contradiction(symbol));
     }
-    let context = RelaxContext {
-        architecture,
-        phase,
-        output,
-        symbols,
-        addresses,
-        values,
+    let changes = decide_section(context, kept, relocations, section, decisions)?;
+    let Some(len) = list_deletions(changes, relocations, decisions, deleted) else {
+        return Err(RewritingError::TooShort);
     };
-    match decide_section(&context, kept, relocations, section, decisions) {
-        Ok(changes) => match list_deletions(changes, relocations, decisions, deleted) {
-            Some(len) => {
-                make_all(changes, decisions, relocations, section);
-                Ok(len)
-            }
-            None => Err(RewritingError::TooShort),
-        },
-        Err(error) => Err(error),
-    }
+    make_all(changes, decisions, relocations, section);
+    Ok(len)
 }

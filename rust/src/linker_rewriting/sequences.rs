@@ -161,13 +161,8 @@ fn is_among(
     if index < place || relocation.offset < distance {
         return false;
     }
-    are_members(
-        members,
-        relocations,
-        index - place,
-        relocation.offset - distance,
-        relocation,
-    )
+    let (first, offset) = (index - place, relocation.offset - distance);
+    are_members(members, relocations, first, offset, relocation)
 }
 
 /// Whether a relocation with a type may be a member, and isn't its mark.
@@ -181,14 +176,8 @@ fn is_place(member: Member, r_type: u32) -> bool {
 fn is_whole_in(members: &[Member], relocations: &[u8], index: usize, relocation: &Rela) -> bool {
     for (place, &member) in members.iter().enumerate() {
         if is_place(member, relocation.r_type) {
-            return is_among(
-                members,
-                place,
-                member.distance,
-                relocations,
-                index,
-                relocation,
-            );
+            let distance = member.distance;
+            return is_among(members, place, distance, relocations, index, relocation);
         }
     }
     true

@@ -11,7 +11,6 @@ use crate::linker_rewriting::groups::marks_call;
 use crate::linker_rewriting::phases::Phase;
 use crate::linker_rewriting::r_types::{is_surveyed, of_each};
 use crate::linker_rewriting::relocations::relocation_in;
-use crate::linker_section::facts::{Addresses, Symbol};
 use crate::linker_section::relocations::{Rela, relocations_len};
 use crate::elf::Architecture;
 
@@ -81,38 +80,6 @@ fn is_marked(relocations: &[u8], index: usize, relocation: &Rela) -> bool {
     is_mark && before.offset == relocation.offset
 }
 
-/// PowerPC64: whether a relocation is of `__tls_get_addr` and has no mark.
-#[cfg(feature = "ppc64")]
-#[inline(always)]
-fn ppc64_is_unmarked(
-    symbols: &[SymbolFacts],
-    relocations: &[u8],
-    index: usize,
-    relocation: &Rela,
-) -> bool {
-    if !is_tls_get_addr(symbols, relocation.symbol) {
-        return false;
-    }
-    !is_marked(relocations, index, relocation)
-}
-
-/// Whether a relocation is one that keeps all thread-local storage of its object.
-#[inline(always)]
-fn is_unmarked(
-    context: &RelaxContext<'_>,
-    relocations: &[u8],
-    index: usize,
-    relocation: &Rela,
-) -> bool {
-    match (context.phase, context.architecture) {
-        #[cfg(feature = "ppc64")]
-        (Phase::PreLayout, Architecture::Ppc64) => {
-            ppc64_is_unmarked(context.symbols, relocations, index, relocation)
-        }
-        _ => false,
-    }
-}
-
 /// Whether a relocation is one whose mark a survey looks for: a use of `__tls_get_addr` on
 /// PowerPC64.
 #[inline(always)]
@@ -127,6 +94,27 @@ fn needs_mark(
         (Phase::PreLayout, Architecture::Ppc64) => is_tls_get_addr(symbols, relocation.symbol),
         _ => false,
     }
+}
+
+/// Whether a relocation is one that keeps all thread-local storage of its object: it needs a mark,
+/// and has none.
+#[cfg(feature = "ppc64")]
+#[inline(always)]
+fn is_unmarked(
+    context: &RelaxContext<'_>,
+    relocations: &[u8],
+    index: usize,
+    relocation: &Rela,
+) -> bool {
+    if !needs_mark(
+        context.architecture,
+        context.phase,
+        context.symbols,
+        relocation,
+    ) {
+        return false;
+    }
+    !is_marked(relocations, index, relocation)
 }
 
 /// Whether the relocation with an index is of no group by its `r_type`, and needs no mark.
@@ -172,6 +160,7 @@ fn next_keeping(context: &RelaxContext<'_>, relocations: &[u8], from: usize) -> 
 }
 
 /// Notes which groups stay in a phase, by a section, as [`survey`](crate::rewriting::survey()) and [`survey_placed_section`](crate::rewriting::survey_placed_section()) say.
+#[cfg(feature = "ppc64")]
 #[inline(always)]
 fn survey_in(
     context: &RelaxContext<'_>,
@@ -209,6 +198,7 @@ fn survey_in(
 /// let none = UnrelaxableGroups::default();
 /// assert_eq!(kept, [none, UnrelaxableGroups { descriptor: true, ..none }]);
 /// ```
+#[cfg(feature = "ppc64")]
 pub fn survey(
     architecture: Architecture,
     output: &OutputFacts,
@@ -229,55 +219,16 @@ pub fn survey(
 }
 
 /// `crate::link::survey_placed_section`, with more parameters.
-///
-/// ```
-/// use linker_utils::source::rewriting::{OutputFacts, SymbolFacts};
-/// use linker_utils::source::rewriting::UnrelaxableGroups;
-/// use linker_utils::source::rewriting::Phase;
-/// use linker_utils::source::rewriting::survey_placed_section;
-/// use linker_utils::source::section::{Addresses, Symbol};
-/// use linker_utils::elf::Architecture;
-///
-/// // lui a0, 0, with R_RISCV_TPREL_HI20 of symbol 1, which no mark follows
-/// let mut relocations = [0; 24];
-/// (relocations[8], relocations[12]) = (29, 1);
-/// let mut kept = [UnrelaxableGroups::default(); 2];
-/// survey_placed_section(
-///     Architecture::RiscV,
-///     Phase::TlsLocalExec,
-///     &OutputFacts { is_executable: true, is_fixed: true, has_near_symbols: true },
-///     &[SymbolFacts { is_local: true, ..SymbolFacts::default() }; 2],
-///     &Addresses::default(),
-///     &[Symbol::default(); 2],
-///     &relocations,
-///     &[0x37, 0x05, 0, 0],
-///     &mut kept,
-/// )
-/// .unwrap();
-/// assert!(kept[1].initial_exec);
-/// ```
+#[cfg(feature = "ppc64")]
 pub fn survey_placed_section(
-    architecture: Architecture,
-    phase: Phase,
-    output: &OutputFacts,
-    symbols: &[SymbolFacts],
-    addresses: &Addresses,
-    values: &[Symbol],
+    context: &RelaxContext<'_>,
     relocations: &[u8],
     section: &[u8],
     kept: &mut [UnrelaxableGroups],
 ) -> Result<(), usize> {
-    if let Some(symbol) = contradiction(symbols, values, relocations) {
+    if let Some(symbol) = contradiction(context.symbols, context.values, relocations) {
         return Err(symbol);
     }
-    let context = RelaxContext {
-        architecture,
-        phase,
-        output,
-        symbols,
-        addresses,
-        values,
-    };
-    survey_in(&context, relocations, section, kept);
+    survey_in(context, relocations, section, kept);
     Ok(())
 }

@@ -6,7 +6,7 @@
 
 use crate::linker_rewriting::agreement::contradiction;
 use crate::linker_rewriting::candidates::candidate_by;
-use crate::linker_rewriting::decisions::{AsDecision, Decision, RewritingError, Subject, span_of};
+use crate::linker_rewriting::decisions::{AsDecision, Decision, RewritingError, span_of, subject_of};
 use crate::linker_rewriting::facts::{OutputFacts, RelaxContext, SymbolFacts, address_in, link_facts};
 use crate::linker_rewriting::phases::Phase;
 use crate::linker_rewriting::relocations::relocation_in;
@@ -76,16 +76,11 @@ fn word_r_type() -> u32 {
 
 /// How far what a relocation refers to is after the start of the section of words.
 #[inline(always)]
-fn word_offset(
-    addresses: &Addresses,
-    values: &[Symbol],
-    start: u64,
-    relocation: &Rela,
-) -> Option<u64> {
-    match values.get(relocation.symbol as usize) {
+fn word_offset(context: &RelaxContext<'_>, start: u64, relocation: &Rela) -> Option<u64> {
+    match context.values.get(relocation.symbol as usize) {
         Some(value) => {
             let addend = relocation.addend as u64;
-            let address = address_in(addresses, value).wrapping_add(addend);
+            let address = address_in(context.addresses, value).wrapping_add(addend);
             Some(address.wrapping_sub(start))
         }
         None => None,
@@ -110,21 +105,12 @@ fn load_of(words: &Words<'_>, relocation: &Rela) -> Option<(u32, usize)> {
     let Some(entry) = entry_r_type(context.architecture, relocation.r_type) else {
         return None;
     };
-    let Some(at) = word_offset(context.addresses, context.values, words.start, relocation) else {
+    let Some(at) = word_offset(context, words.start, relocation) else {
         return None;
     };
     match high_at(words.relocations, word_r_type(), at) {
         Some(word) => Some((entry, word)),
         None => None,
-    }
-}
-
-/// A relocation with another `r_type`.
-#[inline(always)]
-fn with_r_type(r_type: u32, relocation: &Rela) -> Rela {
-    Rela {
-        r_type,
-        ..*relocation
     }
 }
 
@@ -138,10 +124,13 @@ fn load_candidate(
     relocation: &Rela,
     load: (u32, usize),
 ) -> Option<Choice<Relaxation, u32>> {
-    let (entry, word) = load;
+    let (r_type, word) = load;
     let word = relocation_in(words.relocations, word);
     let facts = link_facts(words.context, relocation, &word, false);
-    let of_entry = with_r_type(entry, relocation);
+    let of_entry = Rela {
+        r_type,
+        ..*relocation
+    };
     candidate_by(
         words.context,
         relocations,
@@ -190,61 +179,19 @@ fn keeping_word(
 }
 
 /// `crate::link::survey_toc_loads`, with more parameters.
-///
-/// ```
-/// use linker_utils::source::rewriting::{OutputFacts, SymbolFacts};
-/// use linker_utils::source::rewriting::survey_toc_loads;
-/// use linker_utils::source::section::{Addresses, Symbol};
-/// use linker_utils::elf::Architecture;
-///
-/// // lwz 3,.toc@toc@l(3), with R_PPC64_TOC16_LO_DS of `.toc`, whose word is that of symbol 2: no
-/// // load of an address
-/// let relocation = |r_type: u8, symbol: u8| {
-///     let mut bytes = [0; 24];
-///     (bytes[8], bytes[12]) = (r_type, symbol);
-///     bytes
-/// };
-/// let mut kept = [false];
-/// survey_toc_loads(
-///     Architecture::Ppc64,
-///     &OutputFacts { is_executable: true, is_fixed: true, has_near_symbols: true },
-///     &[SymbolFacts { is_local: true, ..SymbolFacts::default() }; 3],
-///     &Addresses { section: 0x1000, got_base: 0x1_8000, ..Addresses::default() },
-///     &[0, 0x1_0000, 0x1_2345].map(|address| Symbol { address, ..Symbol::default() }),
-///     0x1_0000,
-///     &relocation(38, 2),
-///     &relocation(64, 1),
-///     &[0, 0, 0x63, 0x80],
-///     &mut kept,
-/// )
-/// .unwrap();
-/// assert_eq!(kept, [true]);
-/// ```
 pub fn survey_toc_loads(
-    architecture: Architecture,
-    output: &OutputFacts,
-    symbols: &[SymbolFacts],
-    addresses: &Addresses,
-    values: &[Symbol],
+    context: &RelaxContext<'_>,
     words_start: u64,
     words: &[u8],
     relocations: &[u8],
     section: &[u8],
     kept: &mut [bool],
 ) -> Result<(), usize> {
-    if let Some(symbol) = contradiction(symbols, values, relocations) {
+    if let Some(symbol) = contradiction(context.symbols, context.values, relocations) {
         return Err(symbol);
     }
-    let context = RelaxContext {
-        architecture,
-        phase: Phase::ShortPcRel,
-        output,
-        symbols,
-        addresses,
-        values,
-    };
     let words = Words {
-        context: &context,
+        context,
         start: words_start,
         relocations: words,
     };
@@ -254,15 +201,6 @@ pub fn survey_toc_loads(
         keep_word(kept, word);
     }
     Ok(())
-}
-
-/// What a rewritten load's relocation is of: the symbol and the addend of the word's.
-#[inline(always)]
-pub(crate) fn subject_of(word: &Rela) -> Subject {
-    Subject {
-        symbol: word.symbol,
-        addend: word.addend,
-    }
 }
 
 /// The rule of loads: all of a word are rewritten, or none is.
@@ -322,7 +260,8 @@ impl Rule for Loads<'_, '_> {
 ///
 /// ```
 /// use linker_utils::source::rewriting::Decision;
-/// use linker_utils::source::rewriting::{OutputFacts, SymbolFacts};
+/// use linker_utils::source::rewriting::{OutputFacts, RelaxContext, SymbolFacts};
+/// use linker_utils::source::rewriting::Phase;
 /// use linker_utils::source::rewriting::rewrite_toc_loads;
 /// use linker_utils::source::section::{Addresses, Symbol};
 /// use linker_utils::elf::Architecture;
@@ -336,12 +275,16 @@ impl Rule for Loads<'_, '_> {
 /// };
 /// let mut section = [0, 0, 0x62, 0x3c, 0, 0, 0x63, 0xe8];
 /// let mut relocations = [relocation(0, 50, 1), relocation(4, 64, 1)].concat();
+/// let context = RelaxContext {
+///     architecture: Architecture::Ppc64,
+///     phase: Phase::ShortPcRel,
+///     output: &OutputFacts { is_executable: true, is_fixed: true, has_near_symbols: true },
+///     symbols: &[SymbolFacts { is_local: true, ..SymbolFacts::default() }; 3],
+///     addresses: &Addresses { section: 0x1000, got_base: 0x1_8000, ..Addresses::default() },
+///     values: &[0, 0x1_0000, 0x1_2345].map(|address| Symbol { address, ..Symbol::default() }),
+/// };
 /// rewrite_toc_loads(
-///     Architecture::Ppc64,
-///     &OutputFacts { is_executable: true, is_fixed: true, has_near_symbols: true },
-///     &[SymbolFacts { is_local: true, ..SymbolFacts::default() }; 3],
-///     &Addresses { section: 0x1000, got_base: 0x1_8000, ..Addresses::default() },
-///     &[0, 0x1_0000, 0x1_2345].map(|address| Symbol { address, ..Symbol::default() }),
+///     &context,
 ///     0x1_0000,
 ///     &relocation(0, 38, 2),
 ///     &[false],
@@ -356,11 +299,7 @@ impl Rule for Loads<'_, '_> {
 /// assert_eq!((relocations[32], relocations[36]), (48, 2));
 /// ```
 pub fn rewrite_toc_loads<D: AsDecision>(
-    architecture: Architecture,
-    output: &OutputFacts,
-    symbols: &[SymbolFacts],
-    addresses: &Addresses,
-    values: &[Symbol],
+    context: &RelaxContext<'_>,
     words_start: u64,
     words: &[u8],
     kept: &[bool],
@@ -368,31 +307,19 @@ pub fn rewrite_toc_loads<D: AsDecision>(
     section: &mut [u8],
     decisions: &mut [D],
 ) -> Result<(), RewritingError> {
-    if let Some(symbol) = contradiction(symbols, values, relocations) {
+    if let Some(symbol) = contradiction(context.symbols, context.values, relocations) {
         return Err(RewritingError::Contradiction(symbol));
     }
     if decisions.len() < relocations_len(relocations) {
         return Err(RewritingError::TooShort);
     }
-    let context = RelaxContext {
-        architecture,
-        phase: Phase::ShortPcRel,
-        output,
-        symbols,
-        addresses,
-        values,
-    };
     let words = Words {
-        context: &context,
+        context,
         start: words_start,
         relocations: words,
     };
     let rule = Loads { words, kept };
-    match decide_by(&rule, architecture, relocations, section, decisions) {
-        Ok(()) => {
-            make_all(true, decisions, relocations, section);
-            Ok(())
-        }
-        Err(error) => Err(error),
-    }
+    decide_by(&rule, context.architecture, relocations, section, decisions)?;
+    make_all(true, decisions, relocations, section);
+    Ok(())
 }

@@ -1,6 +1,6 @@
-use Rattle.std.proofs.Common.{◌≡◌, ◌<◌, ◌≤◌, ◌/◌, ◌∙◌, List, length, map, ap, refl, sym, subst, arith, rules}
-use Rattle.linker_rewriting.proofs.Imports.{Decision, Kept, length-map, relocation_in}
-use Rattle.linker_rewriting.specs.Decisions.{CanBeMade, decision_at}
+use Rattle.std.proofs.Common.{◌≡◌, ◌<◌, ◌/◌, ◌∙◌, List, length, map, ap, refl, sym, subst, arith, rules}
+use Rattle.linker_rewriting.proofs.Imports.{Decision, relocation_in}
+use Rattle.linker_rewriting.specs.Decisions.{CanBeMade}
 use Rattle.linker_rewriting.specs.Rewritten.{section_after, relocation_after, IsDone}
 use Rattle.linker_rewriting.proofs.Making.{made_next, kept_next, can_next, windows_apart}
 use Rattle.linker_rewriting.proofs.sections.make_all.Goals as goal
@@ -8,22 +8,17 @@ use Rattle.linker_rewriting.proofs.sections.make_all.Goals as goal
 pub loop-index-preserved : goal.loop-index-preserved
 loop-index-preserved g c =
     let a = c.args in
-    let f = g.D.AsDecision.decision in
-    let ds : List Decision = map f a.decisions.now in
-    let k = c.loop-index.index in
-    let d = c.decision_in-decision.result in
     let r = c.relocation_in-relocation.result in
     let limit = length a.relocations.now / 24 in
-    let less : k < limit =
+    let less : c.loop-index.index < limit =
     (let t = c.loop-index-test.true in let e = c.relocations_len-index-end.ensures in omega arith) in
-    let enough : limit ≤ length ds = (let e = length-map a.decisions.now f in let n = c.requires.enough in omega (arith, e, n)) in
     let is = c.decision_in-decision.ensures in
     let same_len : length c.loop-index.relocations ≡ length a.relocations.now =
     c.loop-index.invariant.same_entries_len in
-    made_next ds a.relocations.now c.loop-index.relocations
-    c.set_relocation.new.relocations a.section.now c.loop-index.section c.make.new.section limit k Kept
+    made_next (map g.D.AsDecision.decision a.decisions.now) a.relocations.now c.loop-index.relocations
+    c.set_relocation.new.relocations a.section.now c.loop-index.section c.make.new.section limit c.loop-index.index
     r c.make.new.relocation c.loop-index.invariant less
-    enough c.requires.made (windows_apart _ _ _ c.requires.apart) c.relocation_in-relocation.ensures
+    c.requires.made (windows_apart _ _ _ c.requires.apart) c.relocation_in-relocation.ensures
     (subst (λ y. c.make.new.section ≡ section_after y r.offset c.loop-index.section) is c.make.ensures.section)
     (search rules) c.set_relocation.ensures.set
     (subst (λ y. c.make.new.relocation ≡ relocation_after y r) is c.make.ensures.relocation)
@@ -33,34 +28,24 @@ loop-index-preserved g c =
 pub loop-index-preserved-in-Kept : goal.loop-index-preserved-in-Kept
 loop-index-preserved-in-Kept g c =
     let a = c.args in
-    let f = g.D.AsDecision.decision in
-    let ds : List Decision = map f a.decisions.now in
-    let k = c.loop-index.index in
     let limit = length a.relocations.now / 24 in
-    let less : k < limit =
+    let less : c.loop-index.index < limit =
     (let t = c.loop-index-test.true in let e = c.relocations_len-index-end.ensures in omega arith) in
-    let enough : limit ≤ length ds = (let e = length-map a.decisions.now f in let n = c.requires.enough in omega (arith, e, n)) in
-    let is = c.decision_in-decision.ensures in
-    kept_next ds a.relocations.now c.loop-index.relocations a.section.now
-    c.loop-index.section limit k Kept c.loop-index.invariant less enough c.requires.made
-    (windows_apart _ _ _ c.requires.apart) (sym is ∙ c.in-Kept.is)
+    kept_next (map g.D.AsDecision.decision a.decisions.now) a.relocations.now c.loop-index.relocations a.section.now
+    c.loop-index.section limit c.loop-index.index c.loop-index.invariant less c.requires.made
+    (windows_apart _ _ _ c.requires.apart) (sym c.decision_in-decision.ensures ∙ c.in-Kept.is)
 
 pub make-requires : goal.make-requires
 make-requires g c =
     let a = c.args in
-    let f = g.D.AsDecision.decision in
-    let ds : List Decision = map f a.decisions.now in
-    let k = c.loop-index.index in
     let r = c.relocation_in-relocation.result in
     let limit = length a.relocations.now / 24 in
-    let less : k < limit =
+    let less : c.loop-index.index < limit =
     (let t = c.loop-index-test.true in let e = c.relocations_len-index-end.ensures in omega arith) in
-    let enough : limit ≤ length ds = (let e = length-map a.decisions.now f in let n = c.requires.enough in omega (arith, e, n)) in
-    let is = c.decision_in-decision.ensures in
-    subst (λ y. CanBeMade y c.loop-index.section r.offset) (sym is)
-    (can_next ds a.relocations.now c.loop-index.relocations a.section.now
-    c.loop-index.section limit k Kept r c.loop-index.invariant less
-    enough c.requires.made c.relocation_in-relocation.ensures)
+    subst (λ y. CanBeMade y c.loop-index.section r.offset) (sym c.decision_in-decision.ensures)
+    (can_next (map g.D.AsDecision.decision a.decisions.now) a.relocations.now c.loop-index.relocations a.section.now
+    c.loop-index.section limit c.loop-index.index r c.loop-index.invariant less
+    c.requires.made c.relocation_in-relocation.ensures)
 
 pub returns-clause-others : goal.returns-clause-others
 returns-clause-others g c =
