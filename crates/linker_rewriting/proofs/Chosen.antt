@@ -1,6 +1,6 @@
 -- The rewrite of a decision is one that was chosen for its relocation.
 use Rattle.std.proofs.Common.{◌≡◌, ℕ, ℤ, ◌<◌, List, Bool, true, false, refl, sym, ap, subst, ◌∙◌, ◌⊎◌, inl, inr, Option, Some, None}
-use Rattle.linker_rewriting.proofs.Imports.{AArch64, Addresses, Architecture, Choice, Consumed, Decision, FirstOfPair, GotToPcRel, Grouped, IfGroupMatches, Independent, IsArchitectureChoice, IsUnchanged, Kept, Labelled, LinkFacts, LoongArch64, NotRelaxable, OutputFacts, Phase, Ppc64, PreLayout, Rela, Relaxation, Rewritten, RewrittenWithSymbol, RiscV, Scope, ShortPcRel, Symbol, SymbolFacts, TlsLocalExec, UnrelaxableGroups, X86_64, relocation_in, slice_get}
+use Rattle.linker_rewriting.proofs.Imports.{AArch64, Addresses, Architecture, Choice, Consumed, Decision, FirstOfPair, Grouped, IfGroupMatches, Independent, IsArchitectureChoice, IsUnchanged, Kept, Labelled, LinkFacts, LoongArch64, NotRelaxable, OutputFacts, Phase, Ppc64, PreLayout, Rela, Relaxation, Rewritten, RewrittenWithSymbol, RiscV, Scope, Symbol, SymbolFacts, UnrelaxableGroups, X86_64, relocation_in, slice_get}
 use Rattle.linker_rewriting.specs.Candidates.{IsCandidate, IsCandidateWith}
 use Rattle.linker_rewriting.specs.Decisions.{AreDecidedIn, IsDecidedAfter, IsDecidedAlone, IsScopeDecision, IsGroupDecision, IsLabelDecision, IsMatchedDecision, decision_at, decision_ahead, decision_of, is_taken}
 use Rattle.linker_rewriting.specs.Facts.{RelaxContext, link_facts, facts_by, facts_at, facts_with}
@@ -48,12 +48,8 @@ at_has : (phase : Phase) (output : OutputFacts) (addresses : Addresses) (values 
     (r subject : Rela) (marked : Bool) (symbol : SymbolFacts)
     → HasAddend subject.addend (facts_at phase output addresses values r subject marked symbol)
 at_has PreLayout output addresses values r subject marked symbol = has_some subject.addend _ refl
-at_has TlsLocalExec output addresses values r subject marked symbol =
-    placed_has TlsLocalExec output addresses r subject marked symbol (slice_get values subject.symbol)
-at_has GotToPcRel output addresses values r subject marked symbol =
-    placed_has GotToPcRel output addresses r subject marked symbol (slice_get values subject.symbol)
-at_has ShortPcRel output addresses values r subject marked symbol =
-    placed_has ShortPcRel output addresses r subject marked symbol (slice_get values subject.symbol)
+at_has phase output addresses values r subject marked symbol =
+    placed_has phase output addresses r subject marked symbol (slice_get values subject.symbol)
 
 by_has : (phase : Phase) (output : OutputFacts) (addresses : Addresses) (values : List Symbol)
     (r subject : Rela) (marked : Bool) (symbol : Option SymbolFacts)

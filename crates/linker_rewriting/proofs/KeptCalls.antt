@@ -152,18 +152,18 @@ by_call : (s : RelaxContext) (kept : List UnrelaxableGroups) (bytes section : Li
 by_call s kept bytes section n r scope keeps of call (inl is) = by_type s kept bytes section n r scope of (inl is)
 by_call s kept bytes section n r scope keeps of call (inr is) = call is
 
-pub left_decided : (architecture : Architecture) (phase : Phase) (output : OutputFacts)
+pub left_decided : (phase : Phase) (architecture : Architecture) (output : OutputFacts)
     (symbols : List SymbolFacts) (addresses : Addresses) (values : List Symbol)
     (kept : List UnrelaxableGroups) (bytes section : List ℕ) (n : ℕ) (r : Rela)
     → IsLeft architecture phase symbols r
     → IsDecidedAlone (context architecture phase output symbols addresses values) kept bytes section n r Kept
-left_decided AArch64 PreLayout output symbols addresses values kept bytes section n r left =
+left_decided PreLayout AArch64 output symbols addresses values kept bytes section n r left =
     by_call (context AArch64 PreLayout output symbols addresses values) kept bytes section n r (left.0)
     (aarch64_keeps (slice_get symbols r.symbol) r.r_type) (left.1)
     (aarch64_decided output symbols addresses values kept bytes section n r (left.0) (left.1)) (left.2)
-left_decided Ppc64 PreLayout output symbols addresses values kept bytes section n r left =
+left_decided PreLayout Ppc64 output symbols addresses values kept bytes section n r left =
     by_call (context Ppc64 PreLayout output symbols addresses values) kept bytes section n r (left.0)
     (ppc64_keeps (slice_get symbols r.symbol) r.r_type) (left.1)
     (ppc64_decided output symbols addresses values kept bytes section n r (left.0) (left.1)) (left.2)
-left_decided architecture phase output symbols addresses values kept bytes section n r left =
+left_decided phase architecture output symbols addresses values kept bytes section n r left =
     by_type (context architecture phase output symbols addresses values) kept bytes section n r (left.0) (left.1) (left.2)

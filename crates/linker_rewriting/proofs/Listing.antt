@@ -1,7 +1,7 @@
 -- What decisions delete, listed one after the other.
-use Rattle.std.proofs.Common.{◌≡◌, ℕ, zero, suc, ◌+◌, ◌≤◌, ◌<◌, ◌⊎◌, inl, inr, ◌∙◌, List, [], ◌∷◌, ◌++◌, length, take, get_or, ap, sym, subst, arith, refl, true, Option, None, Some, slice_set, append-nil}
-use Rattle.linker_rewriting.proofs.Imports.{Consumed, Decision, DeletedBytes, Kept, Rewritten, RewrittenWithSymbol, get_or_default, leb-true, length-take-le, relaxation_deleted, relocation_in}
-use Rattle.std.proofs.lemmas.List.{length-append}
+use Rattle.std.proofs.Common.{◌≡◌, ℕ, zero, suc, ◌+◌, ◌≤◌, ◌<◌, ◌⊎◌, inl, inr, ◌∙◌, List, [], ◌∷◌, ◌++◌, length, take, ap, sym, subst, arith, refl, true, Option, None, Some, slice_set, append-nil}
+use Rattle.linker_rewriting.proofs.Imports.{Consumed, Decision, DeletedBytes, Kept, Rewritten, RewrittenWithSymbol, leb-true, length-take-le, relaxation_deleted, relocation_in}
+use Rattle.std.proofs.lemmas.List.{length-append, length-set, take_more_set}
 use Rattle.linker_rewriting.specs.Candidates.{deletes_within}
 use Rattle.linker_rewriting.specs.Decisions.{CanBeMade, AllCanBeMade, decision_at, deleted_of, deleted_end, deletion_by, deletions_by}
 
@@ -32,20 +32,6 @@ nothing_more bytes decisions old now len k are none =
       same_len = are.same_len;
     }
 
-take_set : {A : Type 0} (xs : List A) (n : ℕ) (x : A) → n < length xs
-    → take (n + 1) (slice_set xs n x) ≡ take n xs ++ (x ∷ [])
-take_set [] n x less = absurd (omega arith)
-take_set (y ∷ ys) zero x less = refl
-take_set (y ∷ ys) (suc n) x less =
-    let e : suc (n + 1) ≡ suc n + 1 = omega arith in
-    subst (λ m. take m (y ∷ slice_set ys n x) ≡ y ∷ (take n ys ++ (x ∷ []))) e
-    (ap (λ t. y ∷ t) (take_set ys n x (omega arith)))
-
-length_set : {A : Type 0} (xs : List A) (n : ℕ) (x : A) → length (slice_set xs n x) ≡ length xs
-length_set [] n x = refl
-length_set (y ∷ ys) zero x = refl
-length_set (y ∷ ys) (suc n) x = ap suc (length_set ys n x)
-
 -- one more
 pub one_more : (bytes : List ℕ) (decisions : List Decision) (old now : List (ℕ × ℕ))
     (len k : ℕ) (deleted : DeletedBytes) (offset : ℕ) → AreListed bytes decisions old now len k
@@ -55,9 +41,9 @@ pub one_more : (bytes : List ℕ) (decisions : List Decision) (old now : List (�
     (len + 1) (k + 1)
 one_more bytes decisions old now len k deleted offset are is less there =
     let x : ℕ × ℕ = (offset + deleted.start, deleted.count) in
-    let set = length_set now len x in
+    let set = length-set now len x in
     record {
-      listed = take_set now len x less
+      listed = take_more_set now len x less
           ∙ (ap (λ l. l ++ (x ∷ [])) are.listed
           ∙ (ap (λ o. deletions_by bytes decisions k ++ ((o + deleted.start, deleted.count) ∷ [])) there
           ∙ sym (deletions_next bytes decisions k
@@ -86,14 +72,10 @@ deletions_grow bytes decisions k (suc m) le =
 
 -- where there is no room for one more
 pub no_room : (bytes : List ℕ) (decisions : List Decision) (old now : List (ℕ × ℕ))
-    (len k limit : ℕ) (deleted : DeletedBytes) (x : Decision)
-    → AreListed bytes decisions old now len k
-    → length now ≤ len → k < limit → limit ≤ length decisions
-    → Some deleted ≡ deleted_of (get_or decisions k x)
+    (len k limit : ℕ) (deleted : DeletedBytes) → AreListed bytes decisions old now len k
+    → length now ≤ len → k < limit → deleted_of (decision_at decisions k) ≡ Some deleted
     → length old < length (deletions_by bytes decisions limit)
-no_room bytes decisions old now len k limit deleted x are full less enough is =
-    let there : deleted_of (decision_at decisions k) ≡ Some deleted =
-    sym (is ∙ ap deleted_of (get_or_default decisions k x Kept (omega arith))) in
+no_room bytes decisions old now len k limit deleted are full less there =
     let so_far : length (deletions_by bytes decisions k) ≡ len =
     sym (ap length are.listed) ∙ length-take-le len now are.within in
     let one = ap length (deletions_next bytes decisions k

@@ -6,25 +6,17 @@ use Rattle.linker_rewriting.proofs.Imports.{AArch64, Architecture, GotToPcRel, L
 by_table : (architecture : Architecture) (phase : Phase)
     → IsNotRelaxableUnless architecture phase (has_rewrites architecture phase)
 by_table AArch64 PreLayout = tt
-by_table AArch64 TlsLocalExec = λ r_type scope is. is.value_is
 by_table AArch64 GotToPcRel = tt
 by_table AArch64 ShortPcRel = tt
-by_table RiscV PreLayout = λ r_type scope is. is.value_is
 by_table RiscV TlsLocalExec = tt
 by_table RiscV GotToPcRel = tt
-by_table RiscV ShortPcRel = λ r_type scope is. is.value_is
 by_table LoongArch64 PreLayout = tt
 by_table LoongArch64 TlsLocalExec = tt
-by_table LoongArch64 GotToPcRel = λ r_type scope is. is.value_is
-by_table LoongArch64 ShortPcRel = λ r_type scope is. is.value_is
 by_table Ppc64 PreLayout = tt
 by_table Ppc64 TlsLocalExec = tt
-by_table Ppc64 GotToPcRel = λ r_type scope is. is.value_is
 by_table Ppc64 ShortPcRel = tt
 by_table X86_64 PreLayout = tt
-by_table X86_64 TlsLocalExec = λ r_type scope is. is.value_is
-by_table X86_64 GotToPcRel = λ r_type scope is. is.value_is
-by_table X86_64 ShortPcRel = λ r_type scope is. is.value_is
+by_table architecture phase = λ r_type scope is. is.value_is
 
 pub unlisted : (architecture : Architecture) (phase : Phase) (has : Bool)
     → has ≡ has_rewrites architecture phase → IsNotRelaxableUnless architecture phase has

@@ -1,5 +1,5 @@
 use Rattle.std.proofs.Common.{◌≡◌, ◌<◌, ◌≤◌, ◌/◌, ◌∙◌, ◌+◌, length, map, slice_set, ap, sym, subst, arith, Some}
-use Rattle.linker_rewriting.proofs.Imports.{Kept, drop-set-lt, drop_more_same, length-map, map-set, relocation_in}
+use Rattle.linker_rewriting.proofs.Imports.{drop-set-lt, drop_more_same, length-map, map-set, relocation_in}
 use Rattle.linker_rewriting.specs.Decisions.{decision_at, deleted_of, deleted_end}
 use Rattle.linker_rewriting.proofs.Listing.{AreListed, nothing_more, one_more, no_room}
 use Rattle.linker_rewriting.proofs.Untouched.{none_deleted}
@@ -14,14 +14,12 @@ returns-then-deleted-len-clause-short g c =
     let less : k < length a.relocations.now / 24 =
     (let t = c.loop-index-test.true in let e = c.relocations_len-index-end.ensures in omega arith) in
     let at = sym c.decision_in.ensures in
-    let enough : length a.relocations.now / 24 ≤ length (map f a.decisions.now) =
-    (let e = length-map a.decisions.now f in let n = c.requires.enough in omega (arith, e, n)) in
     let full : length (map h c.loop-index.deleted) ≤ c.loop-index.len =
     (let e = length-map c.loop-index.deleted h in let n = c.if-deleted-len.true in omega (arith, e, n)) in
     let same = length-map a.deleted.now h in
     let short = no_room a.relocations.now (map f a.decisions.now) (map h a.deleted.now) (map h c.loop-index.deleted) c.loop-index.len k
-    (length a.relocations.now / 24) c.in-Some.bytes Kept c.loop-index.invariant.listed full less
-    enough (sym c.in-Some.is ∙ c.deleted.ensures ∙ ap deleted_of (sym at)) in
+    (length a.relocations.now / 24) c.in-Some.bytes c.loop-index.invariant.listed full less
+    (ap deleted_of at ∙ sym c.deleted.ensures ∙ c.in-Some.is) in
     omega (arith, same, short)
 
 pub loop-index-preserved-in_default : goal.loop-index-preserved-in_default
@@ -30,8 +28,6 @@ loop-index-preserved-in_default g c =
     let f = g.D.AsDecision.decision in
     let h = g.L.AsDeletion.deletion in
     let k = c.loop-index.index in
-    let less : k < length a.relocations.now / 24 =
-    (let t = c.loop-index-test.true in let e = c.relocations_len-index-end.ensures in omega arith) in
     let at = sym c.decision_in.ensures in
     record {
       listed = nothing_more a.relocations.now (map f a.decisions.now) (map h a.deleted.now) (map h c.loop-index.deleted) c.loop-index.len k
@@ -62,8 +58,6 @@ loop-index-preserved g c =
     let k = c.loop-index.index in
     let len = c.loop-index.len in
     let now = c.loop-index.deleted in
-    let less : k < length a.relocations.now / 24 =
-    (let t = c.loop-index-test.true in let e = c.relocations_len-index-end.ensures in omega arith) in
     let at = sym c.decision_in.ensures in
     let is : deleted_of (decision_at (map f a.decisions.now) k) ≡ Some c.in-Some.bytes =
     ap deleted_of at ∙ sym c.deleted.ensures ∙ c.in-Some.is in

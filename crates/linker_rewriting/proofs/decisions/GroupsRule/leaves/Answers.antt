@@ -10,7 +10,7 @@ returns-clause-left c =
     let x = a.self.now.context.now in
     let r = relocation_in a.relocations.now a.index in
     λ is section. record {
-      decides = left_decided x.architecture x.phase x.output.now x.symbols.now x.addresses.now x.values.now a.self.now.kept.now a.relocations.now section a.index r
+      decides = left_decided x.phase x.architecture x.output.now x.symbols.now x.addresses.now x.values.now a.self.now.kept.now a.relocations.now section a.index r
           (subst (λ y. IsLeft y x.phase x.symbols.now r) (c.requires.valid.0)
           (subst (λ y. IsLeft a.self.now.architecture y x.symbols.now r) (c.requires.valid.1) (c.is_left.ensures.left is)));
       made = tt;
