@@ -23,90 +23,17 @@ use Rattle.linker_rewriting.specs.declared.phases.Phase.TheVariants.{ShortPcRel}
 use Rattle.linker_elf.specs.Architectures.{IsNamedValue}
 use Rattle.linker_elf.specs.declared.elf.architecture.Architecture.TheVariants.{X86_64}
 
--- ---- scopes before addresses are known
-
-abbrev pub aarch64_scope : AArch64Relocation → Scope
-aarch64_scope aarch64.R_AARCH64_CALL26 = Independent
-aarch64_scope aarch64.R_AARCH64_JUMP26 = Independent
-aarch64_scope aarch64.R_AARCH64_TLSIE_ADR_GOTTPREL_PAGE21 = Grouped InitialExec
-aarch64_scope aarch64.R_AARCH64_TLSIE_LD64_GOTTPREL_LO12_NC = Grouped InitialExec
-aarch64_scope aarch64.R_AARCH64_TLSDESC_ADR_PAGE21 = Grouped Descriptor
-aarch64_scope aarch64.R_AARCH64_TLSDESC_LD64_LO12 = Grouped Descriptor
-aarch64_scope aarch64.R_AARCH64_TLSDESC_ADD_LO12 = Grouped Descriptor
-aarch64_scope aarch64.R_AARCH64_TLSDESC_CALL = Grouped Descriptor
-aarch64_scope name = NotRelaxable
-
-abbrev pub loongarch_scope : LoongArch64Relocation → Scope
--- each where all of its pair is next to it (`IsWhole`), so that the pair is the group
-loongarch_scope loongarch64.R_LARCH_GOT_PC_HI20 = Independent
-loongarch_scope loongarch64.R_LARCH_GOT_PC_LO12 = Independent
-loongarch_scope loongarch64.R_LARCH_TLS_IE_PC_HI20 = Grouped InitialExec
-loongarch_scope loongarch64.R_LARCH_TLS_IE_PC_LO12 = Grouped InitialExec
-loongarch_scope loongarch64.R_LARCH_TLS_IE64_PC_LO20 = Grouped InitialExec
-loongarch_scope loongarch64.R_LARCH_TLS_IE64_PC_HI12 = Grouped InitialExec
-loongarch_scope loongarch64.R_LARCH_TLS_DESC_PC_HI20 = Grouped Descriptor
-loongarch_scope loongarch64.R_LARCH_TLS_DESC_PC_LO12 = Grouped Descriptor
-loongarch_scope loongarch64.R_LARCH_TLS_DESC64_PC_LO20 = Grouped Descriptor
-loongarch_scope loongarch64.R_LARCH_TLS_DESC64_PC_HI12 = Grouped Descriptor
-loongarch_scope loongarch64.R_LARCH_TLS_DESC_LD = Grouped Descriptor
-loongarch_scope loongarch64.R_LARCH_TLS_DESC_CALL = Grouped Descriptor
-loongarch_scope name = NotRelaxable
-
-abbrev pub ppc64_scope : Ppc64Relocation → Scope
-ppc64_scope ppc64.R_PPC64_REL24 = Independent
-ppc64_scope ppc64.R_PPC64_GOT_PCREL34 = Independent
-ppc64_scope ppc64.R_PPC64_GOT16 = Grouped GotLoad
-ppc64_scope ppc64.R_PPC64_GOT16_DS = Grouped GotLoad
-ppc64_scope ppc64.R_PPC64_GOT16_LO = Grouped GotLoad
-ppc64_scope ppc64.R_PPC64_GOT16_LO_DS = Grouped GotLoad
-ppc64_scope ppc64.R_PPC64_GOT16_HI = Grouped GotLoad
-ppc64_scope ppc64.R_PPC64_GOT16_HA = Grouped GotLoad
-ppc64_scope ppc64.R_PPC64_GOT_TPREL16_DS = Grouped InitialExec
-ppc64_scope ppc64.R_PPC64_GOT_TPREL16_LO_DS = Grouped InitialExec
-ppc64_scope ppc64.R_PPC64_GOT_TPREL16_HI = Grouped InitialExec
-ppc64_scope ppc64.R_PPC64_GOT_TPREL16_HA = Grouped InitialExec
-ppc64_scope ppc64.R_PPC64_GOT_TPREL_PCREL34 = Grouped InitialExec
-ppc64_scope ppc64.R_PPC64_TLS = Grouped InitialExec
-ppc64_scope ppc64.R_PPC64_GOT_TLSGD16 = Grouped GeneralDynamic
-ppc64_scope ppc64.R_PPC64_GOT_TLSGD16_LO = Grouped GeneralDynamic
-ppc64_scope ppc64.R_PPC64_GOT_TLSGD16_HI = Grouped GeneralDynamic
-ppc64_scope ppc64.R_PPC64_GOT_TLSGD16_HA = Grouped GeneralDynamic
-ppc64_scope ppc64.R_PPC64_GOT_TLSGD_PCREL34 = Grouped GeneralDynamic
-ppc64_scope ppc64.R_PPC64_TLSGD = Grouped GeneralDynamic
-ppc64_scope ppc64.R_PPC64_GOT_TLSLD16 = Grouped LocalDynamic
-ppc64_scope ppc64.R_PPC64_GOT_TLSLD16_LO = Grouped LocalDynamic
-ppc64_scope ppc64.R_PPC64_GOT_TLSLD16_HI = Grouped LocalDynamic
-ppc64_scope ppc64.R_PPC64_GOT_TLSLD16_HA = Grouped LocalDynamic
-ppc64_scope ppc64.R_PPC64_GOT_TLSLD_PCREL34 = Grouped LocalDynamic
-ppc64_scope ppc64.R_PPC64_TLSLD = Grouped LocalDynamic
-ppc64_scope name = NotRelaxable
-
-abbrev pub x86_64_scope : X86_64Relocation → Scope
-x86_64_scope x86_64.R_X86_64_GOTPCREL = Independent
-x86_64_scope x86_64.R_X86_64_GOTPCRELX = Independent
-x86_64_scope x86_64.R_X86_64_REX_GOTPCRELX = Independent
-x86_64_scope x86_64.R_X86_64_CODE_4_GOTPCRELX = Independent
-x86_64_scope x86_64.R_X86_64_CODE_6_GOTPCRELX = Independent
-x86_64_scope x86_64.R_X86_64_GOTTPOFF = Independent
-x86_64_scope x86_64.R_X86_64_CODE_4_GOTTPOFF = Independent
-x86_64_scope x86_64.R_X86_64_CODE_6_GOTTPOFF = Independent
-x86_64_scope x86_64.R_X86_64_TLSGD = Independent
-x86_64_scope x86_64.R_X86_64_TLSLD = Grouped LocalDynamic
-x86_64_scope x86_64.R_X86_64_DTPOFF32 = Grouped LocalDynamic
-x86_64_scope x86_64.R_X86_64_DTPOFF64 = Grouped LocalDynamic
-x86_64_scope x86_64.R_X86_64_GOTPC32_TLSDESC = Grouped Descriptor
-x86_64_scope x86_64.R_X86_64_CODE_4_GOTPC32_TLSDESC = Grouped Descriptor
--- No `lea` has n bytes before its field. One that claims to keeps the descriptors of its
--- symbol.
-x86_64_scope x86_64.R_X86_64_CODE_5_GOTPC32_TLSDESC = Grouped Descriptor
-x86_64_scope x86_64.R_X86_64_CODE_6_GOTPC32_TLSDESC = Grouped Descriptor
-x86_64_scope x86_64.R_X86_64_TLSDESC_CALL = Grouped Descriptor
-x86_64_scope name = NotRelaxable
-
--- ---- scopes in any phase
+-- ---- scopes
 
 abbrev pub aarch64_scope_in : Phase → AArch64Relocation → Scope
-aarch64_scope_in PreLayout name = aarch64_scope name
+aarch64_scope_in PreLayout aarch64.R_AARCH64_CALL26 = Independent
+aarch64_scope_in PreLayout aarch64.R_AARCH64_JUMP26 = Independent
+aarch64_scope_in PreLayout aarch64.R_AARCH64_TLSIE_ADR_GOTTPREL_PAGE21 = Grouped InitialExec
+aarch64_scope_in PreLayout aarch64.R_AARCH64_TLSIE_LD64_GOTTPREL_LO12_NC = Grouped InitialExec
+aarch64_scope_in PreLayout aarch64.R_AARCH64_TLSDESC_ADR_PAGE21 = Grouped Descriptor
+aarch64_scope_in PreLayout aarch64.R_AARCH64_TLSDESC_LD64_LO12 = Grouped Descriptor
+aarch64_scope_in PreLayout aarch64.R_AARCH64_TLSDESC_ADD_LO12 = Grouped Descriptor
+aarch64_scope_in PreLayout aarch64.R_AARCH64_TLSDESC_CALL = Grouped Descriptor
 aarch64_scope_in GotToPcRel aarch64.R_AARCH64_ADR_GOT_PAGE = Grouped GotLoad
 aarch64_scope_in GotToPcRel aarch64.R_AARCH64_LD64_GOT_LO12_NC = Grouped GotLoad
 aarch64_scope_in ShortPcRel aarch64.R_AARCH64_ADR_PREL_PG_HI21 = FirstOfPair
@@ -129,14 +56,51 @@ riscv_scope_in GotToPcRel riscv64.R_RISCV_PCREL_LO12_S = Labelled
 riscv_scope_in phase name = NotRelaxable
 
 abbrev pub loongarch_scope_in : Phase → LoongArch64Relocation → Scope
-loongarch_scope_in PreLayout name = loongarch_scope name
+-- each where all of its pair is next to it (`IsWhole`), so that the pair is the group
+loongarch_scope_in PreLayout loongarch64.R_LARCH_GOT_PC_HI20 = Independent
+loongarch_scope_in PreLayout loongarch64.R_LARCH_GOT_PC_LO12 = Independent
+loongarch_scope_in PreLayout loongarch64.R_LARCH_TLS_IE_PC_HI20 = Grouped InitialExec
+loongarch_scope_in PreLayout loongarch64.R_LARCH_TLS_IE_PC_LO12 = Grouped InitialExec
+loongarch_scope_in PreLayout loongarch64.R_LARCH_TLS_IE64_PC_LO20 = Grouped InitialExec
+loongarch_scope_in PreLayout loongarch64.R_LARCH_TLS_IE64_PC_HI12 = Grouped InitialExec
+loongarch_scope_in PreLayout loongarch64.R_LARCH_TLS_DESC_PC_HI20 = Grouped Descriptor
+loongarch_scope_in PreLayout loongarch64.R_LARCH_TLS_DESC_PC_LO12 = Grouped Descriptor
+loongarch_scope_in PreLayout loongarch64.R_LARCH_TLS_DESC64_PC_LO20 = Grouped Descriptor
+loongarch_scope_in PreLayout loongarch64.R_LARCH_TLS_DESC64_PC_HI12 = Grouped Descriptor
+loongarch_scope_in PreLayout loongarch64.R_LARCH_TLS_DESC_LD = Grouped Descriptor
+loongarch_scope_in PreLayout loongarch64.R_LARCH_TLS_DESC_CALL = Grouped Descriptor
 loongarch_scope_in TlsLocalExec loongarch64.R_LARCH_TLS_LE_HI20_R = Grouped InitialExec
 loongarch_scope_in TlsLocalExec loongarch64.R_LARCH_TLS_LE_ADD_R = Grouped InitialExec
 loongarch_scope_in TlsLocalExec loongarch64.R_LARCH_TLS_LE_LO12_R = Grouped InitialExec
 loongarch_scope_in phase name = NotRelaxable
 
 abbrev pub ppc64_scope_in : Phase → Ppc64Relocation → Scope
-ppc64_scope_in PreLayout name = ppc64_scope name
+ppc64_scope_in PreLayout ppc64.R_PPC64_REL24 = Independent
+ppc64_scope_in PreLayout ppc64.R_PPC64_GOT_PCREL34 = Independent
+ppc64_scope_in PreLayout ppc64.R_PPC64_GOT16 = Grouped GotLoad
+ppc64_scope_in PreLayout ppc64.R_PPC64_GOT16_DS = Grouped GotLoad
+ppc64_scope_in PreLayout ppc64.R_PPC64_GOT16_LO = Grouped GotLoad
+ppc64_scope_in PreLayout ppc64.R_PPC64_GOT16_LO_DS = Grouped GotLoad
+ppc64_scope_in PreLayout ppc64.R_PPC64_GOT16_HI = Grouped GotLoad
+ppc64_scope_in PreLayout ppc64.R_PPC64_GOT16_HA = Grouped GotLoad
+ppc64_scope_in PreLayout ppc64.R_PPC64_GOT_TPREL16_DS = Grouped InitialExec
+ppc64_scope_in PreLayout ppc64.R_PPC64_GOT_TPREL16_LO_DS = Grouped InitialExec
+ppc64_scope_in PreLayout ppc64.R_PPC64_GOT_TPREL16_HI = Grouped InitialExec
+ppc64_scope_in PreLayout ppc64.R_PPC64_GOT_TPREL16_HA = Grouped InitialExec
+ppc64_scope_in PreLayout ppc64.R_PPC64_GOT_TPREL_PCREL34 = Grouped InitialExec
+ppc64_scope_in PreLayout ppc64.R_PPC64_TLS = Grouped InitialExec
+ppc64_scope_in PreLayout ppc64.R_PPC64_GOT_TLSGD16 = Grouped GeneralDynamic
+ppc64_scope_in PreLayout ppc64.R_PPC64_GOT_TLSGD16_LO = Grouped GeneralDynamic
+ppc64_scope_in PreLayout ppc64.R_PPC64_GOT_TLSGD16_HI = Grouped GeneralDynamic
+ppc64_scope_in PreLayout ppc64.R_PPC64_GOT_TLSGD16_HA = Grouped GeneralDynamic
+ppc64_scope_in PreLayout ppc64.R_PPC64_GOT_TLSGD_PCREL34 = Grouped GeneralDynamic
+ppc64_scope_in PreLayout ppc64.R_PPC64_TLSGD = Grouped GeneralDynamic
+ppc64_scope_in PreLayout ppc64.R_PPC64_GOT_TLSLD16 = Grouped LocalDynamic
+ppc64_scope_in PreLayout ppc64.R_PPC64_GOT_TLSLD16_LO = Grouped LocalDynamic
+ppc64_scope_in PreLayout ppc64.R_PPC64_GOT_TLSLD16_HI = Grouped LocalDynamic
+ppc64_scope_in PreLayout ppc64.R_PPC64_GOT_TLSLD16_HA = Grouped LocalDynamic
+ppc64_scope_in PreLayout ppc64.R_PPC64_GOT_TLSLD_PCREL34 = Grouped LocalDynamic
+ppc64_scope_in PreLayout ppc64.R_PPC64_TLSLD = Grouped LocalDynamic
 ppc64_scope_in TlsLocalExec ppc64.R_PPC64_TPREL16_HA = Grouped InitialExec
 ppc64_scope_in TlsLocalExec ppc64.R_PPC64_TPREL16_LO = Grouped InitialExec
 ppc64_scope_in TlsLocalExec ppc64.R_PPC64_TPREL16_LO_DS = Grouped InitialExec
@@ -146,7 +110,25 @@ ppc64_scope_in ShortPcRel ppc64.R_PPC64_TOC16_LO_DS = IfGroupMatches GotLoad
 ppc64_scope_in phase name = NotRelaxable
 
 abbrev pub x86_64_scope_in : Phase → X86_64Relocation → Scope
-x86_64_scope_in PreLayout name = x86_64_scope name
+x86_64_scope_in PreLayout x86_64.R_X86_64_GOTPCREL = Independent
+x86_64_scope_in PreLayout x86_64.R_X86_64_GOTPCRELX = Independent
+x86_64_scope_in PreLayout x86_64.R_X86_64_REX_GOTPCRELX = Independent
+x86_64_scope_in PreLayout x86_64.R_X86_64_CODE_4_GOTPCRELX = Independent
+x86_64_scope_in PreLayout x86_64.R_X86_64_CODE_6_GOTPCRELX = Independent
+x86_64_scope_in PreLayout x86_64.R_X86_64_GOTTPOFF = Independent
+x86_64_scope_in PreLayout x86_64.R_X86_64_CODE_4_GOTTPOFF = Independent
+x86_64_scope_in PreLayout x86_64.R_X86_64_CODE_6_GOTTPOFF = Independent
+x86_64_scope_in PreLayout x86_64.R_X86_64_TLSGD = Independent
+x86_64_scope_in PreLayout x86_64.R_X86_64_TLSLD = Grouped LocalDynamic
+x86_64_scope_in PreLayout x86_64.R_X86_64_DTPOFF32 = Grouped LocalDynamic
+x86_64_scope_in PreLayout x86_64.R_X86_64_DTPOFF64 = Grouped LocalDynamic
+x86_64_scope_in PreLayout x86_64.R_X86_64_GOTPC32_TLSDESC = Grouped Descriptor
+x86_64_scope_in PreLayout x86_64.R_X86_64_CODE_4_GOTPC32_TLSDESC = Grouped Descriptor
+-- No `lea` has n bytes before its field. One that claims to keeps the descriptors of its
+-- symbol.
+x86_64_scope_in PreLayout x86_64.R_X86_64_CODE_5_GOTPC32_TLSDESC = Grouped Descriptor
+x86_64_scope_in PreLayout x86_64.R_X86_64_CODE_6_GOTPC32_TLSDESC = Grouped Descriptor
+x86_64_scope_in PreLayout x86_64.R_X86_64_TLSDESC_CALL = Grouped Descriptor
 x86_64_scope_in phase name = NotRelaxable
 
 -- that of an `r_type`
