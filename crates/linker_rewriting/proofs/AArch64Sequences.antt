@@ -1,6 +1,6 @@
 -- Of a sequence of AArch64 all relocations are rewritten, or none is.
 use Rattle.std.proofs.Common.{◌≡◌, ◌≢◌, ℕ, zero, suc, ◌+◌, ◌-◌, ◌/◌, ◌<◌, ◌≤◌, ltb, ◌⊎◌, inl, inr, List, length, ap, sym, subst, ◌∙◌, arith, refl, Bool, true, false, Option, Some, None, slice_get}
-use Rattle.linker_rewriting.proofs.Imports.{AArch64, AArch64Relocation, Addresses, Choice, Consumed, Decision, FirstOfPair, Grouped, IfGroupMatches, Independent, IsAArch64Choice, IsArchitectureChoice, IsChosenBy, IsFirst, IsNameOf, IsNamed, Kept, Labelled, LinkFacts, Member, NotRelaxable, OutputFacts, Phase, Ppc64, Rela, Relaxation, Rewritten, RewrittenWithSymbol, Scope, Symbol, SymbolFacts, Tie, UnrelaxableGroups, aarch64_name, cases_Bool, choice, r_type_of, cond-false, cond-true, relaxation_no_op, relaxation_skipped, relocation_at, relocation_in, ◌&&◌}
+use Rattle.linker_rewriting.proofs.Imports.{AArch64, AArch64Relocation, Addresses, Choice, Consumed, Decision, FirstOfPair, Group, Grouped, IfGroupMatches, Independent, IsAArch64Choice, IsArchitectureChoice, IsChosenBy, IsFirst, IsNameOf, IsNamed, Kept, Labelled, LinkFacts, Member, NotRelaxable, OutputFacts, Phase, Ppc64, Rela, Relaxation, Rewritten, RewrittenWithSymbol, Scope, Symbol, SymbolFacts, Tie, UnrelaxableGroups, aarch64_name, cases_Bool, choice, r_type_of, cond-false, cond-true, relaxation_no_op, relaxation_skipped, relocation_at, relocation_in, ◌&&◌}
 use Rattle.std.specs.Prelude.{is_some, ⊤}
 use Rattle.linker_elf.specs.Choices.{IsBound}
 use Rattle.linker_elf.specs.declared.aarch64.relocations.AArch64Relocation.TheVariants as names
@@ -260,16 +260,18 @@ module _ (s : RelaxContext) (aarch64 : s.architecture ≡ AArch64) (kept : List 
       (λ m. AArch64Applies m section (relocation_in bytes n).offset is.facts) aarch64_entries kinds.NoOp refl
       (relocation_in bytes n).r_type name named is_name (λ e applies. tt) (choice_there n made.chosen is) is.changed
 
-  -- ---- a load from the GOT
+  -- ---- of a group that doesn't stay
 
-  got_made : (i : ℕ) (name : AArch64Relocation) → aarch64_scope_in phases.GotToPcRel name ≡ Grouped groups.GotLoad
+  group_made : (phase : Phase) (group : Group) (i : ℕ) (name : AArch64Relocation)
+      → aarch64_scope_in phase name ≡ Grouped group
       → i < length bytes / 24 → IsNameOf aarch64_name (relocation_in bytes i).r_type name
-      → s.phase ≡ phases.GotToPcRel → group_stays kept groups.GotLoad (relocation_in bytes i).symbol ≡ false
-      → IsMade i
-  got_made i name scope below is_name late unkept =
-      of_group_too i (group_stays kept groups.GotLoad (relocation_in bytes i).symbol)
+      → s.phase ≡ phase → group_stays kept group (relocation_in bytes i).symbol ≡ false → IsMade i
+  group_made phase group i name scope below is_name is unkept =
+      of_group_too i (group_stays kept group (relocation_in bytes i).symbol)
       (subst (λ z. IsScopeDecision s kept bytes section i (relocation_in bytes i) z (decision_at decisions i)) scope
-      (in_phase i name phases.GotToPcRel below is_name late)) unkept
+      (in_phase i name phase below is_name is)) unkept
+
+  -- ---- a load from the GOT
 
   load_rewritten : (first offset : ℕ) (one : Rela) → s.phase ≡ phases.GotToPcRel
       → group_stays kept groups.GotLoad one.symbol ≡ false
@@ -282,9 +284,9 @@ module _ (s : RelaxContext) (aarch64 : s.architecture ≡ AArch64) (kept : List 
       let low = all.1.0 in
       let page = part names.R_AARCH64_ADR_GOT_PAGE ties.Symbol offset 0 first first head one tt refl refl refl high high in
       let lower = part names.R_AARCH64_LD64_GOT_LO12_NC ties.Symbol offset 4 first (first + 1) head one tt refl refl refl high low in
-      let page_made = got_made first names.R_AARCH64_ADR_GOT_PAGE refl page.below page.is_name late
+      let page_made = group_made phases.GotToPcRel groups.GotLoad first names.R_AARCH64_ADR_GOT_PAGE refl page.below page.is_name late
       (ap (group_stays kept groups.GotLoad) (high.of refl).0 ∙ unkept) in
-      let low_made = got_made (first + 1) names.R_AARCH64_LD64_GOT_LO12_NC refl lower.below lower.is_name late
+      let low_made = group_made phases.GotToPcRel groups.GotLoad (first + 1) names.R_AARCH64_LD64_GOT_LO12_NC refl lower.below lower.is_name late
       (ap (group_stays kept groups.GotLoad) (low.of refl).0 ∙ unkept) in
       record {
         page = page;
@@ -334,11 +336,7 @@ module _ (s : RelaxContext) (aarch64 : s.architecture ≡ AArch64) (kept : List 
           → (chosen : Choice Relaxation ℕ) × IsCandidate s bytes section i r (Some chosen)
       some None is none = absurd (let e : true ≡ false = none in cc)
       some (Some chosen) is none = (chosen, is)
-  of_alone_true i r NotRelaxable is = absurd (let e : true ≡ false = is in cc)
-  of_alone_true i r (Grouped group) is = absurd (let e : true ≡ false = is in cc)
-  of_alone_true i r (IfGroupMatches group) is = absurd (let e : true ≡ false = is in cc)
-  of_alone_true i r Labelled is = absurd (let e : true ≡ false = is in cc)
-  of_alone_true i r FirstOfPair is = absurd (let e : true ≡ false = is in cc)
+  of_alone_true i r scope is = absurd (let e : true ≡ false = is in cc)
 
   address_rewritten : (first offset : ℕ) (one : Rela) (chosen : Choice Relaxation ℕ)
       → s.phase ≡ phases.ShortPcRel
@@ -488,15 +486,6 @@ module _ (s : RelaxContext) (aarch64 : s.architecture ≡ AArch64) (kept : List 
       ∙ ap (λ x. facts_by phases.PreLayout s.output s.addresses s.values r r false (slice_get s.symbols x)) symbol)
       ∙ is_g))
 
-  descriptor_made : (i : ℕ) (name : AArch64Relocation) → aarch64_scope_in phases.PreLayout name ≡ Grouped groups.Descriptor
-      → i < length bytes / 24 → IsNameOf aarch64_name (relocation_in bytes i).r_type name
-      → s.phase ≡ phases.PreLayout → group_stays kept groups.Descriptor (relocation_in bytes i).symbol ≡ false
-      → IsMade i
-  descriptor_made i name scope below is_name early unkept =
-      of_group_too i (group_stays kept groups.Descriptor (relocation_in bytes i).symbol)
-      (subst (λ z. IsScopeDecision s kept bytes section i (relocation_in bytes i) z (decision_at decisions i)) scope
-      (in_phase i name phases.PreLayout below is_name early)) unkept
-
   -- what goes, for local-exec as for initial-exec
   erased_by : (i : ℕ) (name : AArch64Relocation) (n : ℕ) → IsNamed (aarch64_name name)
       → aarch64_entries name ≡ descriptor_entries n erased erased → i < length bytes / 24
@@ -526,13 +515,13 @@ module _ (s : RelaxContext) (aarch64 : s.architecture ≡ AArch64) (kept : List 
       let load = part names.R_AARCH64_TLSDESC_LD64_LO12 ties.Subject offset 4 first (first + 1) head one tt refl refl refl high second in
       let add = part names.R_AARCH64_TLSDESC_ADD_LO12 ties.Subject offset 8 first (first + 2) head one tt refl refl refl high third in
       let call = part names.R_AARCH64_TLSDESC_CALL ties.Subject offset 12 first (first + 3) head one tt refl refl refl high fourth in
-      let page_made = descriptor_made first names.R_AARCH64_TLSDESC_ADR_PAGE21 refl page.below page.is_name early
+      let page_made = group_made phases.PreLayout groups.Descriptor first names.R_AARCH64_TLSDESC_ADR_PAGE21 refl page.below page.is_name early
       (ap (group_stays kept groups.Descriptor) (high.of refl).0 ∙ unkept) in
-      let load_made = descriptor_made (first + 1) names.R_AARCH64_TLSDESC_LD64_LO12 refl load.below load.is_name early
+      let load_made = group_made phases.PreLayout groups.Descriptor (first + 1) names.R_AARCH64_TLSDESC_LD64_LO12 refl load.below load.is_name early
       (ap (group_stays kept groups.Descriptor) (second.of refl).0 ∙ unkept) in
-      let add_made = descriptor_made (first + 2) names.R_AARCH64_TLSDESC_ADD_LO12 refl add.below add.is_name early
+      let add_made = group_made phases.PreLayout groups.Descriptor (first + 2) names.R_AARCH64_TLSDESC_ADD_LO12 refl add.below add.is_name early
       (ap (group_stays kept groups.Descriptor) (third.of refl).0 ∙ unkept) in
-      let call_made = descriptor_made (first + 3) names.R_AARCH64_TLSDESC_CALL refl call.below call.is_name early
+      let call_made = group_made phases.PreLayout groups.Descriptor (first + 3) names.R_AARCH64_TLSDESC_CALL refl call.below call.is_name early
       (ap (group_stays kept groups.Descriptor) (fourth.of refl).0 ∙ unkept) in
       let p = described first names.R_AARCH64_TLSDESC_ADR_PAGE21 0
       (choice kinds.MovzX0Lsl16 names.R_AARCH64_TLSLE_MOVW_TPREL_G1) (choice kinds.AdrpX0 names.R_AARCH64_TLSIE_ADR_GOTTPREL_PAGE21)

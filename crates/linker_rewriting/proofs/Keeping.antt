@@ -1,5 +1,5 @@
 -- Groups that stay, noted in a table.
-use Rattle.std.proofs.Common.{◌≡◌, ◌≢◌, ℕ, zero, suc, ◌≤◌, ◌<◌, ◌⊎◌, inl, inr, ◌∙◌, ◌↔◌, List, [], ◌∷◌, length, ap, sym, subst, arith, refl, IsTrue, None, Some, get_or, rules, slice_get, slice_set}
+use Rattle.std.proofs.Common.{◌≡◌, ◌≢◌, ℕ, zero, suc, ◌≤◌, ◌<◌, ◌⊎◌, inl, inr, ◌∙◌, ◌↔◌, List, [], ◌∷◌, length, ap, sym, subst, arith, refl, IsTrue, Some, get_or, rules, slice_get, slice_set}
 use Rattle.std.proofs.lemmas.Option.{slice_get-get_or, slice_get_past}
 use Rattle.linker_rewriting.specs.Groups.{keeps, with_kept, kept_by}
 use Rattle.linker_rewriting.specs.Surveys.{AreKeptToo, IsGroup}

@@ -1,5 +1,5 @@
 -- Groups of one label: each relocation has one high part, and what is noted is right.
-use Rattle.std.proofs.Common.{◌≡◌, ℕ, zero, suc, ◌∙◌, ◌+◌, ◌≤◌, ◌<◌, ◌/◌, inl, inr, List, [], ◌∷◌, length, ap, sym, subst, arith, refl, Bool, true, false, true≢false, Option, Some, None, slice_get, slice_set, eq-eqb}
+use Rattle.std.proofs.Common.{◌≡◌, ℕ, ◌∙◌, ◌+◌, ◌≤◌, ◌<◌, ◌/◌, inl, inr, List, length, ap, sym, subst, arith, refl, Bool, true, false, true≢false, Option, Some, None, slice_get, slice_set, eq-eqb}
 use Rattle.linker_rewriting.proofs.Imports.{AArch64, AArch64Relocation, Architecture, Choice, Consumed, Decision, FirstOfPair, GotToPcRel, Grouped, IfGroupMatches, Independent, IsAscending, Kept, Labelled, LoongArch64, LoongArch64Relocation, NotRelaxable, Phase, Ppc64, Ppc64Relocation, PreLayout, Rela, Relaxation, RiscV, Scope, ShortPcRel, TlsLocalExec, X86_64, X86_64Relocation, and_parts, cases_Bool, cases_lt, cond-true, eqb-true, get_or-set_other, get_or-set_same, le-leb, leb-true, nat_le, offset_at, relocation_in, ◌&&◌, ◌==◌}
 use Rattle.std.specs.Prelude.{◌⊎◌, ◌-◌, not}
 use Rattle.std.proofs.Math.Bool.{and-false}

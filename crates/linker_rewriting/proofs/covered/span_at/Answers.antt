@@ -1,6 +1,5 @@
 use Rattle.std.proofs.Common.{◌≤◌, map, sym, subst, arith}
-use Rattle.linker_rewriting.proofs.Imports.{offset_at}
-use Rattle.linker_rewriting.specs.Decisions.{decision_at, start_by, end_by}
+use Rattle.linker_rewriting.specs.Decisions.{decision_at, end_by}
 use Rattle.linker_rewriting.proofs.covered.span_at.Goals as goal
 
 pub span_of-requires : goal.span_of-requires

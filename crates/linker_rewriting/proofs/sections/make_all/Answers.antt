@@ -1,5 +1,5 @@
-use Rattle.std.proofs.Common.{◌≡◌, ◌<◌, ◌/◌, ◌∙◌, List, length, map, ap, refl, sym, subst, arith, rules}
-use Rattle.linker_rewriting.proofs.Imports.{Decision, relocation_in}
+use Rattle.std.proofs.Common.{◌≡◌, ◌<◌, ◌/◌, ◌∙◌, length, map, ap, refl, sym, subst, arith, rules}
+use Rattle.linker_rewriting.proofs.Imports.{relocation_in}
 use Rattle.linker_rewriting.specs.Decisions.{CanBeMade}
 use Rattle.linker_rewriting.specs.Rewritten.{section_after, relocation_after, IsDone}
 use Rattle.linker_rewriting.proofs.Making.{made_next, kept_next, can_next, windows_apart}
