@@ -132,13 +132,9 @@ fn member_of(
 ) -> Option<(Part, Rela)>
     ensures { IsMember (context_of context.now) relocations.now relocation.now result }
 {
-    let Some(part) = part_of(context.architecture, relocation.r_type) else {
-        return None;
-    };
-    match part_subject(context, relocations, relocation, part) {
-        Some(subject) => Some((part, subject)),
-        None => None,
-    }
+    let part = part_of(context.architecture, relocation.r_type)?;
+    let subject = part_subject(context, relocations, relocation, part)?;
+    Some((part, subject))
 }
 
 /// Whether 12 signed bits hold the distance of an address from another one.

@@ -93,28 +93,15 @@ impl UnrelaxableGroups {
     pub(crate) fn with_kept(self, group: Group) -> UnrelaxableGroups
         ensures { result ≡ with_kept group self }
     {
+        let mut kept = self;
         match group {
-            Group::InitialExec => UnrelaxableGroups {
-                initial_exec: true,
-                ..self
-            },
-            Group::GeneralDynamic => UnrelaxableGroups {
-                general_dynamic: true,
-                ..self
-            },
-            Group::LocalDynamic => UnrelaxableGroups {
-                local_dynamic: true,
-                ..self
-            },
-            Group::Descriptor => UnrelaxableGroups {
-                descriptor: true,
-                ..self
-            },
-            Group::GotLoad => UnrelaxableGroups {
-                got_load: true,
-                ..self
-            },
+            Group::InitialExec => kept.initial_exec = true,
+            Group::GeneralDynamic => kept.general_dynamic = true,
+            Group::LocalDynamic => kept.local_dynamic = true,
+            Group::Descriptor => kept.descriptor = true,
+            Group::GotLoad => kept.got_load = true,
         }
+        kept
     }
 }
 

@@ -187,9 +187,7 @@ fn keeping_word(
     ensures { IsKeepingWord (context_of words.now.context.now) words.now.start
         words.now.relocations.now relocations.now section.now index relocation.now result }
 {
-    let Some(load) = load_of(words, relocation) else {
-        return None;
-    };
+    let load = load_of(words, relocation)?;
     match load_candidate(words, relocations, section, index, relocation, load) {
         Some(_) => None,
         None => Some(load.1),
