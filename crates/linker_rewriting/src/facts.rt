@@ -229,11 +229,13 @@ fn facts_at(
     ensures { result ≡ facts_at context.now.phase context.now.output.now context.now.addresses.now
         context.now.values.now relocation.now subject.now marked symbol.now }
 {
-    let (offset, addend) = (relocation.offset, subject.addend);
     match context.phase {
-        Phase::PreLayout => Some(facts_of(context.output, symbol, addend, marked)),
+        Phase::PreLayout => Some(facts_of(context.output, symbol, subject.addend, marked)),
         _ => match context.values.get(subject.symbol as usize) {
-            Some(value) => Some(placed_facts(context, symbol, value, offset, addend, marked)),
+            Some(value) => {
+                let (offset, addend) = (relocation.offset, subject.addend);
+                Some(placed_facts(context, symbol, value, offset, addend, marked))
+            }
             None => None,
         },
     }

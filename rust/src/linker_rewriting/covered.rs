@@ -25,8 +25,8 @@ struct Place {
 /// Where the bytes begin and end that the decision with an index writes or deletes.
 #[inline(always)]
 fn span_at<D: AsDecision>(relocations: &[u8], decisions: &[D], index: usize) -> (u64, u64) {
-    let offset = relocation_in(relocations, index).offset;
-    span_of(&decision_in(decisions, index), offset)
+    let decision = decision_in(decisions, index);
+    span_of(&decision, relocation_in(relocations, index).offset)
 }
 
 /// Whether the relocation with an index stays as it is, and so does its instruction.

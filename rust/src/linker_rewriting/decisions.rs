@@ -289,13 +289,13 @@ fn decide_label(
 /// None if its group doesn't stay, but it can't be rewritten.
 fn decide(
     stays: bool,
-    rule: &Groups<'_>,
+    context: &RelaxContext<'_>,
+    kept: &[UnrelaxableGroups],
     relocations: &[u8],
     section: &[u8],
     index: usize,
     relocation: &Rela,
 ) -> Option<Decision> {
-    let (context, kept) = (rule.context, rule.kept);
     let is_grouped = match scope_in(context.architecture, context.phase, relocation.r_type) {
         Scope::NotRelaxable => return Some(Decision::Kept),
         Scope::Labelled => {
@@ -404,7 +404,15 @@ impl Rule for Groups<'_> {
         if is_taken {
             return Some(Decision::Consumed);
         }
-        decide(stays, self, relocations, section, index, relocation)
+        decide(
+            stays,
+            self.context,
+            self.kept,
+            relocations,
+            section,
+            index,
+            relocation,
+        )
     }
 
     #[inline(always)]

@@ -98,13 +98,9 @@ fn member_of(
     relocations: &[u8],
     relocation: &Rela,
 ) -> Option<(Part, Rela)> {
-    let Some(part) = part_of(context.architecture, relocation.r_type) else {
-        return None;
-    };
-    match part_subject(context, relocations, relocation, part) {
-        Some(subject) => Some((part, subject)),
-        None => None,
-    }
+    let part = part_of(context.architecture, relocation.r_type)?;
+    let subject = part_subject(context, relocations, relocation, part)?;
+    Some((part, subject))
 }
 
 /// Whether 12 signed bits hold the distance of an address from another one.

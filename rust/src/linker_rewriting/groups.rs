@@ -90,28 +90,15 @@ impl UnrelaxableGroups {
     /// The same, where the group of a kind stays too.
     #[inline(always)]
     pub(crate) fn with_kept(self, group: Group) -> UnrelaxableGroups {
+        let mut kept = self;
         match group {
-            Group::InitialExec => UnrelaxableGroups {
-                initial_exec: true,
-                ..self
-            },
-            Group::GeneralDynamic => UnrelaxableGroups {
-                general_dynamic: true,
-                ..self
-            },
-            Group::LocalDynamic => UnrelaxableGroups {
-                local_dynamic: true,
-                ..self
-            },
-            Group::Descriptor => UnrelaxableGroups {
-                descriptor: true,
-                ..self
-            },
-            Group::GotLoad => UnrelaxableGroups {
-                got_load: true,
-                ..self
-            },
+            Group::InitialExec => kept.initial_exec = true,
+            Group::GeneralDynamic => kept.general_dynamic = true,
+            Group::LocalDynamic => kept.local_dynamic = true,
+            Group::Descriptor => kept.descriptor = true,
+            Group::GotLoad => kept.got_load = true,
         }
+        kept
     }
 }
 

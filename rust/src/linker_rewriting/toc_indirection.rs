@@ -114,6 +114,15 @@ fn load_of(words: &Words<'_>, relocation: &Rela) -> Option<(u32, usize)> {
     }
 }
 
+/// A relocation with another `r_type`.
+#[inline(always)]
+fn with_r_type(r_type: u32, relocation: &Rela) -> Rela {
+    Rela {
+        r_type,
+        ..*relocation
+    }
+}
+
 /// The rewrite of a load, if each other one of the word is rewritten.
 #[inline(always)]
 fn load_candidate(
@@ -124,13 +133,10 @@ fn load_candidate(
     relocation: &Rela,
     load: (u32, usize),
 ) -> Option<Choice<Relaxation, u32>> {
-    let (r_type, word) = load;
+    let (entry, word) = load;
     let word = relocation_in(words.relocations, word);
     let facts = link_facts(words.context, relocation, &word, false);
-    let of_entry = Rela {
-        r_type,
-        ..*relocation
-    };
+    let of_entry = with_r_type(entry, relocation);
     candidate_by(
         words.context,
         relocations,
@@ -169,9 +175,7 @@ fn keeping_word(
     index: usize,
     relocation: &Rela,
 ) -> Option<usize> {
-    let Some(load) = load_of(words, relocation) else {
-        return None;
-    };
+    let load = load_of(words, relocation)?;
     match load_candidate(words, relocations, section, index, relocation, load) {
         Some(_) => None,
         None => Some(load.1),
