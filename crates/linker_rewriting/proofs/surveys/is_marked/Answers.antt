@@ -1,4 +1,4 @@
-use Rattle.std.proofs.Common.{◌≡◌, ◌≢◌, ℕ, zero, suc, ◌-◌, List, Bool, true, false, ◌&&◌, ◌==◌, refl, subst, arith}
+use Rattle.std.proofs.Common.{◌≡◌, ◌≢◌, ℕ, zero, suc, ◌-◌, List, Bool, ◌&&◌, ◌==◌, refl, subst, sym, arith}
 use Rattle.linker_rewriting.specs.Groups.{IsMark}
 use Rattle.linker_rewriting.specs.Surveys.{IsMarked}
 use Rattle.linker_rewriting.proofs.Imports.{Rela, relocation_in}
@@ -16,24 +16,18 @@ marked_by bytes (suc n) r before marked is_mark some is marks value =
       subst (λ x. marked ≡ (is_mark && x.offset == r.offset)) there value,
     )
 
-with_true : (a b : Bool) → a ≡ true → b ≡ (a && b)
-with_true true b is = refl
-with_true false b is = absurd (let e : false ≡ true = is in cc)
-
-with_false : (a b : Bool) → a ≡ false → a ≡ (a && b)
-with_false false b is = refl
-with_false true b is = absurd (let e : true ≡ false = is in cc)
-
 pub returns-then-is_mark : goal.returns-then-is_mark
 returns-then-is_mark c =
+    let same = c.relocation_in-before.result.offset == c.args.relocation.now.offset in
     marked_by c.args.relocations.now c.args.index c.args.relocation.now
     c.relocation_in-before.result _ c.marks_call-is_mark.result
     (λ e. omega (arith, e, c.if-index-eq0.false)) c.relocation_in-before.ensures
-    c.marks_call-is_mark.ensures (with_true _ _ c.if-is_mark.true)
+    c.marks_call-is_mark.ensures (subst (λ b. same ≡ (b && same)) (sym c.if-is_mark.true) refl)
 
 pub returns-else-is_mark : goal.returns-else-is_mark
 returns-else-is_mark c =
+    let same = c.relocation_in-before.result.offset == c.args.relocation.now.offset in
     marked_by c.args.relocations.now c.args.index c.args.relocation.now
     c.relocation_in-before.result c.marks_call-is_mark.result c.marks_call-is_mark.result
     (λ e. omega (arith, e, c.if-index-eq0.false)) c.relocation_in-before.ensures
-    c.marks_call-is_mark.ensures (with_false _ _ c.if-is_mark.false)
+    c.marks_call-is_mark.ensures (subst (λ b. b ≡ (b && same)) (sym c.if-is_mark.false) refl)
