@@ -1,6 +1,6 @@
 -- Of a sequence of AArch64 all relocations are rewritten, or none is.
 use Rattle.std.proofs.Common.{◌≡◌, ◌≢◌, ℕ, zero, suc, ◌+◌, ◌-◌, ◌/◌, ◌<◌, ◌≤◌, ltb, ◌⊎◌, inl, inr, List, length, ap, sym, subst, ◌∙◌, arith, refl, Bool, true, false, Option, Some, None, slice_get}
-use Rattle.linker_rewriting.proofs.Imports.{AArch64, AArch64Relocation, Addresses, Choice, Consumed, Decision, FirstOfPair, Group, Grouped, IfGroupMatches, Independent, IsAArch64Choice, IsArchitectureChoice, IsChosenBy, IsFirst, IsNameOf, IsNamed, Kept, Labelled, LinkFacts, Member, NotRelaxable, OutputFacts, Phase, Ppc64, Rela, Relaxation, Rewritten, RewrittenWithSymbol, Scope, Symbol, SymbolFacts, Tie, UnrelaxableGroups, aarch64_name, cases_Bool, choice, r_type_of, cond-false, cond-true, relaxation_no_op, relaxation_skipped, relocation_at, relocation_in, ◌&&◌}
+use Rattle.linker_rewriting.proofs.Imports.{AArch64, AArch64Relocation, Addresses, Choice, Consumed, Decision, FirstOfPair, Group, Grouped, Independent, IsAArch64Choice, IsArchitectureChoice, IsChosenBy, IsFirst, IsNameOf, IsNamed, Kept, Labelled, LinkFacts, Member, NotRelaxable, OutputFacts, Phase, Ppc64, Rela, Relaxation, Rewritten, RewrittenWithSymbol, Scope, Symbol, SymbolFacts, Tie, UnrelaxableGroups, aarch64_name, cases_Bool, choice, r_type_of, cond-false, cond-true, relaxation_no_op, relaxation_skipped, relocation_at, relocation_in, ◌&&◌}
 use Rattle.std.specs.Prelude.{is_some, ⊤}
 use Rattle.linker_elf.specs.Choices.{IsBound}
 use Rattle.linker_elf.specs.declared.aarch64.relocations.AArch64Relocation.TheVariants as names

@@ -121,8 +121,8 @@ pub(crate) fn facts_of(
 pub struct RelaxContext<'a> {
     /// The architecture.
     pub architecture: Architecture,
-    /// The phase. Loads from `.toc` are rewritten in `ShortPcRel`. The rewrites by the global pointer
-    /// don't read it.
+    /// The phase. Loads from `.toc` are rewritten in `ShortPcRel`. The rewrites by the global
+    /// pointer don't read it.
     pub phase: Phase,
     /// What is known of the output.
     pub output: &'a OutputFacts,
