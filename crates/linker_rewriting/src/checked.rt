@@ -14,7 +14,7 @@ ghost use Rattle.linker_utils.specs.Relaxations.{relaxation_rewrite, relaxation_
 ghost use Rattle.linker_utils.specs.Relaxations.{relaxation_matches};
 
 use crate::candidates::deletes_within;
-use crate::decisions::{AsKeptDecision, Decision, DecisionError, end_after, span_of};
+use crate::decisions::{AsKeptDecision, Decision, DecisionError, decision_in, end_after, span_of};
 use crate::relocations::relocation_in;
 use linker_section::relocations::relocations_len;
 use linker_utils::architecture::Relaxation;
@@ -133,13 +133,12 @@ pub(crate) fn check_decisions<D: AsKeptDecision>(
     }
     let mut end = 0;
     for index in 0..len {
-        let kept = decisions[index];
-        let decision = kept.as_decision();
+        let decision = decision_in(decisions, index);
         if let Decision::Kept = decision {
             continue;
         }
         let offset = relocation_in(relocations, index).offset;
-        if !fits(&decision, kept.bytes(), section, offset) {
+        if !fits(&decision, decisions[index].bytes(), section, offset) {
             return Err(DecisionError::Changed(index));
         }
         let (start, own) = span_of(&decision, offset);

@@ -10,7 +10,7 @@ ghost use Rattle.linker_rewriting.specs.Notes.{is_note};
 ghost use Rattle.linker_section.specs.Relocations.{relocation_in};
 
 use crate::covered::first_covered;
-use crate::decisions::{AsDecision, Decision, RewritingError, end_after};
+use crate::decisions::{AsDecision, Decision, RewritingError, decision_in, end_after};
 use crate::relocations::relocation_in;
 use crate::riscv_pcrel_groups::is_note;
 use linker_section::relocations::{Rela, relocations_len};
@@ -115,7 +115,7 @@ pub(crate) fn decide_by<R: Rule, D: AsDecision>(
             continue;
         }
         let relocation = relocation_in(relocations, index);
-        let stays = is_note(&decisions[index].as_decision());
+        let stays = is_note(&decision_in(decisions, index));
         let Some(decision) = rule.decide(is_taken, stays, relocations, section, index, &relocation)
         else {
             return Err(RewritingError::NotSurveyed(index));

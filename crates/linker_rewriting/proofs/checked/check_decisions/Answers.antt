@@ -1,8 +1,8 @@
-use Rattle.linker_rewriting.proofs.Imports.{Kept, get_or, get_or-map, length-map, relocation_in}
+use Rattle.linker_rewriting.proofs.Imports.{get_or, get_or-map, length-map, relocation_in}
 use Rattle.std.proofs.Common.{◌≡◌, ◌<◌, ◌≤◌, ◌/◌, ◌∙◌, length, map, sym, subst, arith, None, Some}
 use Rattle.linker_rewriting.proofs.Makeable.{more_checked, kept_checked, overlaps}
 use Rattle.linker_rewriting.proofs.Deciding.{IsGrown, ends_within}
-use Rattle.linker_rewriting.specs.Decisions.{IsEndAfter, StillFits, decision_at, start_by, end_by}
+use Rattle.linker_rewriting.specs.Decisions.{IsEndAfter, StillFits, start_by, end_by}
 use Rattle.linker_rewriting.proofs.checked.check_decisions.Goals as goal
 
 pub loop-index-preserved-in-Kept : goal.loop-index-preserved-in-Kept
@@ -11,17 +11,13 @@ loop-index-preserved-in-Kept g c =
     let f = g.D.AsDecision.decision in
     let numbers = map g.D.AsKeptDecision.bytes a.decisions.now in
     let k = c.loop-index.index in
-    let within : k < length a.decisions.now =
-    (let t = c.loop-index-test.true in let e = c.relocations_len-len.ensures in let n = c.if-decisions-len.false in omega arith) in
-    let here : decision_at (map f a.decisions.now) k ≡ c.as_decision-decision.result =
-    get_or-map f a.decisions.now k c.index-decisions-index.result Kept within ∙ rw (← c.index-decisions-index.is) (sym c.as_decision-decision.ensures) in
     kept_checked a.relocations.now a.section.now (map f a.decisions.now) numbers c.loop-index.end k c.loop-index.invariant
-    (here ∙ c.in-Kept.is)
+    (sym c.decision_in-decision.ensures ∙ c.in-Kept.is)
 
 pub span_of-start-requires : goal.span_of-start-requires
 span_of-start-requires g c =
     let both = c.fits.ensures.0 c.if-not-fits.false in
-    ends_within c.as_decision-decision.result c.args.section.now c.relocation_in-offset.result.offset 0xffffffffffffffff (omega arith) (omega arith) (both.0)
+    ends_within c.decision_in-decision.result c.args.section.now c.relocation_in-offset.result.offset 0xffffffffffffffff (omega arith) (omega arith) (both.0)
 
 pub returns-in_default-end_after-clause-unmade : goal.returns-in_default-end_after-clause-unmade
 returns-in_default-end_after-clause-unmade g c =
@@ -29,7 +25,7 @@ returns-in_default-end_after-clause-unmade g c =
     let f = g.D.AsDecision.decision in
     let numbers = map g.D.AsKeptDecision.bytes a.decisions.now in
     let k = c.loop-index.index in
-    let d = c.as_decision-decision.result in
+    let d = c.decision_in-decision.result in
     let same = c.relocation_in-offset.ensures in
     let less : k < length a.relocations.now / 24 =
     (let t = c.loop-index-test.true in let e = c.relocations_len-len.ensures in omega arith) in
@@ -37,8 +33,7 @@ returns-in_default-end_after-clause-unmade g c =
     (let t = c.loop-index-test.true in let e = c.relocations_len-len.ensures in let n = c.if-decisions-len.false in omega arith) in
     let enough : length a.relocations.now / 24 ≤ length (map f a.decisions.now) =
     (let e = c.relocations_len-len.ensures in let n = c.if-decisions-len.false in let m = length-map a.decisions.now f in omega arith) in
-    let here : decision_at (map f a.decisions.now) k ≡ d =
-    get_or-map f a.decisions.now k c.index-decisions-index.result Kept within ∙ rw (← c.index-decisions-index.is) (sym c.as_decision-decision.ensures) in
+    let here = sym c.decision_in-decision.ensures in
     let both = c.fits.ensures.0 c.if-not-fits.false in
     let number : get_or numbers k 0 ≡ c.bytes.result =
     get_or-map g.D.AsKeptDecision.bytes a.decisions.now k c.index-decisions-index.result 0 within ∙ rw (← c.index-decisions-index.is) (sym c.bytes.ensures) in
@@ -56,13 +51,12 @@ loop-index-preserved g c =
     let f = g.D.AsDecision.decision in
     let numbers = map g.D.AsKeptDecision.bytes a.decisions.now in
     let k = c.loop-index.index in
-    let d = c.as_decision-decision.result in
+    let d = c.decision_in-decision.result in
     let end = c.in-Some.new_end in
     let same = c.relocation_in-offset.ensures in
     let within : k < length a.decisions.now =
     (let t = c.loop-index-test.true in let e = c.relocations_len-len.ensures in let n = c.if-decisions-len.false in omega arith) in
-    let here : decision_at (map f a.decisions.now) k ≡ d =
-    get_or-map f a.decisions.now k c.index-decisions-index.result Kept within ∙ rw (← c.index-decisions-index.is) (sym c.as_decision-decision.ensures) in
+    let here = sym c.decision_in-decision.ensures in
     let both = c.fits.ensures.0 c.if-not-fits.false in
     let number : get_or numbers k 0 ≡ c.bytes.result =
     get_or-map g.D.AsKeptDecision.bytes a.decisions.now k c.index-decisions-index.result 0 within ∙ rw (← c.index-decisions-index.is) (sym c.bytes.ensures) in

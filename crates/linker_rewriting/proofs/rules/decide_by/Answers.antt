@@ -1,7 +1,7 @@
 use Rattle.std.proofs.Common.{◌≡◌, ℕ, ◌<◌, ◌≤◌, ◌+◌, ◌/◌, ◌∙◌, length, map, take, slice_set, ap, sym, subst, arith, Some, None, inl, inr}
-use Rattle.linker_rewriting.proofs.Imports.{All, Decision, IfNone, IfSome, Kept, drop-set-lt, get_or-map, length-map, map-set, written_more}
+use Rattle.linker_rewriting.proofs.Imports.{All, Decision, IfNone, IfSome, Kept, drop-set-lt, length-map, map-set, written_more}
 use Rattle.linker_rewriting.proofs.Deciding.{AreDecidedTo, IsGrown, all_decided, bytes_apart, more_decided, more_kept, overlapping}
-use Rattle.linker_rewriting.specs.Decisions.{IsEndAfter, IsMadeBy, decision_at}
+use Rattle.linker_rewriting.specs.Decisions.{IsEndAfter, IsMadeBy}
 use Rattle.linker_rewriting.specs.Notes.{is_note}
 use Rattle.linker_rewriting.proofs.rules.decide_by.Goals as goal
 
@@ -114,15 +114,9 @@ pub decide-requires-clause-noted : goal.decide-requires-clause-noted
 decide-requires-clause-noted g c =
     let a = c.args in
     let k = c.loop-index.index in
-    let xs = c.loop-index.decisions in
-    let f = g.D.AsDecision.decision in
     let less : k < length a.relocations.now / 24 =
     (let t = c.loop-index-test.true in let e = c.relocations_len-index-end.ensures in omega (arith, t, e)) in
-    let within : k < length xs =
-    (let t = c.loop-index-test.true in let e = c.relocations_len-index-end.ensures in let f = c.requires.enough in let l = c.loop-index.auto.decisions in omega (arith, t, e, f, l)) in
-    let here : decision_at (map f xs) k ≡ c.as_decision.result =
-    get_or-map f xs k c.index-decisions-index.result Kept within ∙ rw (← c.index-decisions-index.is) (sym c.as_decision.ensures) in
-    subst (g.R.Rule.is_noted a.rule.now a.relocations.now a.section.now k) (ap is_note here ∙ sym c.is_note-stays.ensures)
+    subst (g.R.Rule.is_noted a.rule.now a.relocations.now a.section.now k) (ap is_note (sym c.decision_in.ensures) ∙ sym c.is_note-stays.ensures)
     (c.loop-index.invariant.decided.noted k (omega arith) less)
 
 pub span-start-requires : goal.span-start-requires
