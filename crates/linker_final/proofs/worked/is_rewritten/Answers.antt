@@ -5,7 +5,7 @@ use Rattle.linker_final.proofs.worked.is_rewritten.Goals as goal
 pub returns-in-Ok : goal.returns-in-Ok
 returns-in-Ok c so =
     let known = c.args.known.now in
-    let s = context known.architecture known.phase OUTPUT c.facts.result known.addresses known.symbols.now in
+    let s = context known.architecture known.phase OUTPUT c.facts-facts.result known.addresses known.symbols.now in
     let kept = replicate 12 c.default.result in
     let ds = c.rewrite_placed_section.new.decisions in
     let before = c.args.relocations.now in
