@@ -111,8 +111,8 @@ high_steps o s t adrp movz small at is named made adrp1 movz1 a b =
     let second = movnz_after _ _ movz movz1 moved_in wide in
     let rd : rd_of y ≡ n =
     second.rd_is ∙ (let e : rd_of (word_of movz) ≡ n = omega arith in e) in
-    let bits = movn_first 16 symbol_from_tls refl
-    (aarch64_rows names.R_AARCH64_TLSLE_MOVW_TPREL_G1).1 (λ o. refl) o small movz movz1 b
+    let bits = (movn_first 16 symbol_from_tls refl
+    (aarch64_rows names.R_AARCH64_TLSLE_MOVW_TPREL_G1).1 (λ o. refl)).bits o small movz movz1 b
     (ap (λ k. (eqb k 16 && eqb (bit_at (word_of movz) 31) 1) && not (is_movk (word_of movz))) shift
     ∙ ap (λ b. b && not (is_movk (word_of movz))) (eq-eqb _ _ wide) ∙ ap not no_movk) in
     let w = cast_signed w64 (relative symbol_address tls_base o) in

@@ -1,6 +1,6 @@
 -- Pages and offsets in them, of AArch64.
-use Rattle.std.proofs.Common.{◌≡◌, ℕ, ◌+◌, ◌-◌, ◌*◌, ◌/◌, ◌%◌, ◌^◌, ◌<◌, ◌≤◌, Bool, true, refl, sym, ◌∙◌, ap, subst, arith, List, [], ◌∷◌, ℤ, pos, ◌+ℤ◌, ◌*ℤ◌, Option, Some}
-use Rattle.linker_laws.proofs.Imports.{w64, cast_signed, mod_below, pow_pos, pow-add, field, window_of, is_sound_layout, low_of, high_of, aarch64_form, aarch64_layout, IsWithin, page, reach_of, value_of, sum_64, difference_64, AArch64Instruction, Adr, Add, AllowedRange, PageMask, AArch64, RelocationKind, RelocationKindInfo, Operands, IsApplied}
+use Rattle.std.proofs.Common.{◌≡◌, ℕ, ◌+◌, ◌-◌, ◌*◌, ◌/◌, ◌%◌, ◌^◌, ◌<◌, ◌≤◌, Bool, true, refl, sym, ◌∙◌, ap, subst, arith, List, [], ◌∷◌, leb, ℤ, pos, ◌+ℤ◌, ◌*ℤ◌, Option, Some}
+use Rattle.linker_laws.proofs.Imports.{w64, cast_signed, leb-true, bit_bounds, Signed, mod_below, pow_pos, pow-add, field, window_of, is_sound_layout, low_of, high_of, aarch64_form, aarch64_layout, IsWithin, page, reach_of, value_of, sum_64, difference_64, AArch64Instruction, Adr, Add, AllowedRange, PageMask, AArch64, RelocationKind, RelocationKindInfo, Operands, IsApplied}
 use Rattle.std.proofs.Math.Arith.{mod-mul}
 use Rattle.linker_base.specs.Form.{place_sum}
 use Rattle.linker_base.proofs.Immediates.{subst_below}
@@ -64,32 +64,31 @@ abbrev pub page_distance : (Operands → ℕ) → Operands → ℕ
 page_distance target o = difference_64 (page (sum_64 (target o) 0)) (page o.place)
 
 -- what checks the value of the high part: the row, or the law's premise
-abbrev pub Checks : RelocationKindInfo → Premise → ℤ × ℤ → Type 0
-Checks row premise b =
-    (x : ℕ) (v : ℤ) → IsWithin (reach_of row) v → PremiseHolds premise x v → IsWithin (Some b) v
+abbrev pub Checks : RelocationKindInfo → Premise → Type 0
+Checks row premise =
+    (x : ℕ) (v : ℤ) → IsWithin (reach_of row) v → PremiseHolds premise x v → IsWithin (Some (bit_bounds 33 Signed)) v
 
 pub pages : {target address : Operands → ℕ} → IsSmall target
     → ((o : Operands) → AreAddresses o → target o ≡ address o)
-    → (f : AArch64Instruction) → IsUnsigned f → (k : ℕ) → k ≤ 12
-    → (operands : Operands → ℕ → Operands) (premise : Premise) (b : ℤ × ℤ)
-    → {kind : RelocationKind} {mask : Option PageMask} {range : AllowedRange} {a : ℕ}
-    {bias : Option ℕ} {thunkable implicit : Bool}
-    {kind2 : RelocationKind} {mask2 : Option PageMask} {range2 : AllowedRange}
-    {bias2 : Option ℕ} {thunkable2 implicit2 : Bool}
-    → Checks (row_of kind 12 33 (AArch64 Adr) mask range a bias thunkable implicit) premise b
-    → is_read (AArch64 Adr) 12 33 b a ≡ true
+    → {f : AArch64Instruction} → IsUnsigned f → {k : ℕ} → leb k 12 ≡ true
+    → (operands : Operands → ℕ → Operands) (premise : Premise) {kind : RelocationKind} {mask : Option PageMask}
+    {range : AllowedRange} {a : ℕ} {bias : Option ℕ} {thunkable implicit : Bool} {kind2 : RelocationKind}
+    {mask2 : Option PageMask} {range2 : AllowedRange} {bias2 : Option ℕ} {thunkable2 implicit2 : Bool}
+    → Checks (row_of kind 12 33 (AArch64 Adr) mask range a bias thunkable implicit) premise
+    → is_read (AArch64 Adr) 12 33 (bit_bounds 33 Signed) a ≡ true
     → FirstHasNumber (row_of kind 12 33 (AArch64 Adr) mask range a bias thunkable implicit) (page_distance target)
     → HasNumber (row_of kind2 k 12 (AArch64 f) mask2 range2 (2 ^ k) bias2 thunkable2 implicit2) operands (absolute target)
     → Law
     (first_step (row_of kind 12 33 (AArch64 Adr) mask range a bias thunkable implicit) premise
     ∷ step_of (row_of kind2 k 12 (AArch64 f) mask2 range2 (2 ^ k) bias2 thunkable2 implicit2) operands none
     ∷ []) (page_and_offset f (2 ^ k)) address
-pages {target} {address} to same f is k short operands premise b checks ok e e2 =
+pages {target} {address} to same {f} is {k} in_12 operands premise checks ok e e2 =
     λ o small at before after high own at2 before2 after2 low any.
     let m = page_distance target o in
     let t = target o in
     let below = difference_below (page (sum_64 t 0)) (page o.place) in
-    let h = reads_bits _ _ _ _ _ _ _ _ _ _ o before after high b
+    let short = leb-true k 12 in_12 in
+    let h = reads_bits _ _ _ _ _ _ _ _ _ _ o before after high (bit_bounds 33 Signed)
     (checks (window_of (aarch64_form Adr) before) high.value high.accepted.reached.0 own) ok m below (e o small) in
     let l = offset_reads f is _ k _ _ _ _ _ _ before2 after2 low (sum_64 t 0) (sum_below t 0) short
     (e2 o small at2) in
@@ -104,14 +103,10 @@ pages {target} {address} to same f is k short operands premise b checks ok e e2 
 -- ---- offsets of 24 bits
 
 pub high_and_low_parts : {begin target number : Operands → ℕ} → IsNumber begin target number
-    → ((o : Operands) → number o < 2 ^ 64)
-    → (f : AArch64Instruction) → IsUnsigned f → (k : ℕ) → k ≤ 12
-    → (operands : Operands → ℕ → Operands)
-    → {kind : RelocationKind} {mask : Option PageMask} {range : AllowedRange} {a : ℕ}
-    {bias : Option ℕ} {thunkable implicit : Bool}
-    {kind2 : RelocationKind} {mask2 : Option PageMask} {range2 : AllowedRange}
-    {bias2 : Option ℕ} {thunkable2 implicit2 : Bool}
-    {b : ℤ × ℤ}
+    → {f : AArch64Instruction} → IsUnsigned f → {k : ℕ} → leb k 12 ≡ true
+    → (operands : Operands → ℕ → Operands) {kind : RelocationKind} {mask : Option PageMask}
+    {range : AllowedRange} {a : ℕ} {bias : Option ℕ} {thunkable implicit : Bool} {kind2 : RelocationKind}
+    {mask2 : Option PageMask} {range2 : AllowedRange} {bias2 : Option ℕ} {thunkable2 implicit2 : Bool} {b : ℤ × ℤ}
     → reach_of (row_of kind 12 24 (AArch64 Add) mask range a bias
     thunkable implicit) ≡ Some b
     → is_read (AArch64 Add) 12 24 b a ≡ true
@@ -121,11 +116,12 @@ pub high_and_low_parts : {begin target number : Operands → ℕ} → IsNumber b
     (first_step (row_of kind 12 24 (AArch64 Add) mask range a bias thunkable implicit) none
     ∷ step_of (row_of kind2 k 12 (AArch64 f) mask2 range2 (2 ^ k) bias2 thunkable2 implicit2) operands none
     ∷ []) (λ o x y. (pos (begin o) +ℤ ((aarch64_form Add).machine x *ℤ pos 4096)) +ℤ ((aarch64_form f).machine y *ℤ pos (2 ^ k))) target
-high_and_low_parts {begin} {target} {number} leads under f is k short operands within ok e e2 =
+high_and_low_parts {begin} {target} {number} leads {f} is {k} in_12 operands within ok e e2 =
     λ o small at before after high any at2 before2 after2 low any2.
     let n = number o in
     let numbers = leads o small in
-    let below = under o in
+    let below = numbers.below in
+    let short = leb-true k 12 in_12 in
     let h = reads_bits _ _ _ _ _ _ _ _ _ _ o before after high _
     (subst (λ b. IsWithin b high.value) within high.accepted.reached.0) ok n below (e o small) in
     let l = offset_reads f is _ k _ _ _ _ _ _ before2 after2 low n below short (e2 o small at2) in

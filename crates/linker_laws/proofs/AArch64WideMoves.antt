@@ -107,12 +107,12 @@ movk_reads kind s mask range a bias thunkable implicit o before after applied n 
 -- ---- sequences
 
 -- The first move has the value's bits from bit s up, by the operands' number.
-abbrev pub IsFirst : RelocationKindInfo → Premise → ℕ → (ℕ → ℤ) → (Operands → ℕ) → Type 0
-IsFirst row premise s move number =
-    (o : Operands) → AreAddresses o → (before after : List ℕ)
-    (applied : IsApplied row o before after)
-    → PremiseHolds premise (number_at row.size before) applied.value
-    → bits_from s (move (number_at row.size after)) ≡ bits_from s (cast_signed w64 (number o))
+pub record IsFirst (row : RelocationKindInfo) (premise : Premise) (s : ℕ) (move : ℕ → ℤ)
+    (begin target number : Operands → ℕ) : Type 0 where
+  pub leads : IsNumber begin target number
+  pub bits : (o : Operands) → AreAddresses o → (before after : List ℕ) (applied : IsApplied row o before after)
+      → PremiseHolds premise (number_at row.size before) applied.value
+      → bits_from s (move (number_at row.size after)) ≡ bits_from s (cast_signed w64 (number o))
 
 -- what the moves come to
 reached : (s : ℕ) {begin target number : Operands → ℕ} → IsNumber begin target number
@@ -157,22 +157,20 @@ after_32 r n f g small eg ef =
         + (0 + g * 2 ^ 16 + l) % 2 ^ 0 ≡ n % 2 ^ 32
     rest l n f g small eg ef = omega arith
 
-pub moves1 : {begin target number : Operands → ℕ} → IsNumber begin target number
-    → (row : RelocationKindInfo) (premise : Premise) (move : ℕ → ℤ)
-    → IsFirst row premise 0 move number
+pub moves1 : {begin target number : Operands → ℕ} {row : RelocationKindInfo} {premise : Premise} {move : ℕ → ℤ}
+    → IsFirst row premise 0 move begin target number
     → Law (first_step row premise ∷ []) (λ o x. pos (begin o) +ℤ move x) target
-moves1 {begin} {target} {number} leads row premise move first =
+moves1 {begin} {target} {number} {row} {premise} {move} first =
     λ o small at before after step holds.
     let v = move (number_at row.size after) in
     let p = parts 0 v in
     let below = p.below in
     let none : p.rest ≡ number o % 2 ^ 0 = omega arith in
-    reached 0 leads (omega arith) o small (bits_from 0 v) v (first o small before after step holds)
+    reached 0 first.leads (omega arith) o small (bits_from 0 v) v (first.bits o small before after step holds)
     (p.is ∙ ap (λ r. (bits_from 0 v *ℤ pos (2 ^ 0)) +ℤ pos r) none)
 
-pub moves2 : {begin target number : Operands → ℕ} → IsNumber begin target number
-    → (row : RelocationKindInfo) (premise : Premise) (move : ℕ → ℤ)
-    → IsFirst row premise 16 move number
+pub moves2 : {begin target number : Operands → ℕ} {row : RelocationKindInfo} {premise : Premise} {move : ℕ → ℤ}
+    → IsFirst row premise 16 move begin target number
     → (operands2 : Operands → ℕ → Operands)
     → {kind2 : RelocationKind} {mask2 : Option PageMask} {range2 : AllowedRange} {a2 : ℕ}
     {bias2 : Option ℕ} {thunkable2 implicit2 : Bool}
@@ -181,24 +179,23 @@ pub moves2 : {begin target number : Operands → ℕ} → IsNumber begin target 
     (first_step row premise
     ∷ step_of (row_of kind2 0 16 (AArch64 Movkz) mask2 range2 a2 bias2 thunkable2 implicit2) operands2 none
     ∷ []) (λ o x y. pos (begin o) +ℤ movk 0 (move x) y) target
-moves2 {begin} {target} {number} leads row premise move first operands2 e2 =
+moves2 {begin} {target} {number} {row} {premise} {move} first operands2 e2 =
     λ o small at before after step holds at2 before2 after2 step2 any2.
     let n = number o in
-    let numbers = leads o small in
+    let numbers = first.leads o small in
     let v = move (number_at row.size after) in
     let t = bits_from 16 v in
     let p = parts 16 v in
     let f = movk_reads _ 0 _ _ _ _ _ _ _ before2 after2 step2 n numbers.below (omega arith)
     (e2 o small at2) in
-    reached 16 leads (omega arith) o small t (movk 0 v (from_le_bytes w32 after2))
-    (first o small before after step holds)
+    reached 16 first.leads (omega arith) o small t (movk 0 v (from_le_bytes w32 after2))
+    (first.bits o small before after step holds)
     (ap (λ z. movk 0 z (from_le_bytes w32 after2)) p.is
     ∙ movk_parts 0 t p.rest 0 (field n 0 16) (from_le_bytes w32 after2) f
     ∙ ap (λ r. (t *ℤ pos (2 ^ 16)) +ℤ pos r) (first_16 p.rest n (field n 0 16) p.below refl))
 
-pub moves3 : {begin target number : Operands → ℕ} → IsNumber begin target number
-    → (row : RelocationKindInfo) (premise : Premise) (move : ℕ → ℤ)
-    → IsFirst row premise 32 move number
+pub moves3 : {begin target number : Operands → ℕ} {row : RelocationKindInfo} {premise : Premise} {move : ℕ → ℤ}
+    → IsFirst row premise 32 move begin target number
     → (operands2 operands3 : Operands → ℕ → Operands)
     → {kind2 : RelocationKind} {mask2 : Option PageMask} {range2 : AllowedRange} {a2 : ℕ}
     {bias2 : Option ℕ} {thunkable2 implicit2 : Bool}
@@ -211,11 +208,11 @@ pub moves3 : {begin target number : Operands → ℕ} → IsNumber begin target 
     ∷ step_of (row_of kind2 16 32 (AArch64 Movkz) mask2 range2 a2 bias2 thunkable2 implicit2) operands2 none
     ∷ step_of (row_of kind3 0 16 (AArch64 Movkz) mask3 range3 a3 bias3 thunkable3 implicit3) operands3 none
     ∷ []) (λ o x y z. pos (begin o) +ℤ movk 0 (movk 16 (move x) y) z) target
-moves3 {begin} {target} {number} leads row premise move first operands2 operands3 e2 e3 =
+moves3 {begin} {target} {number} {row} {premise} {move} first operands2 operands3 e2 e3 =
     λ o small at before after step holds at2 before2 after2 step2 any2 at3 before3 after3 step3
     any3.
     let n = number o in
-    let numbers = leads o small in
+    let numbers = first.leads o small in
     let v = move (number_at row.size after) in
     let t = bits_from 32 v in
     let p = parts 32 v in
@@ -224,9 +221,9 @@ moves3 {begin} {target} {number} leads row premise move first operands2 operands
     let f = movk_reads _ 0 _ _ _ _ _ _ _ before3 after3 step3 n numbers.below (omega arith)
     (e3 o small at3) in
     let r1 = p.rest - p.rest % 2 ^ 32 + field n 16 32 * 2 ^ 16 + p.rest % 2 ^ 16 in
-    reached 32 leads (omega arith) o small t
+    reached 32 first.leads (omega arith) o small t
     (movk 0 (movk 16 v (from_le_bytes w32 after2)) (from_le_bytes w32 after3))
-    (first o small before after step holds)
+    (first.bits o small before after step holds)
     (ap (λ z. movk 0 (movk 16 z (from_le_bytes w32 after2)) (from_le_bytes w32 after3)) p.is
     ∙ ap (λ z. movk 0 z (from_le_bytes w32 after3))
     (movk_parts 16 t p.rest 0 (field n 16 32) (from_le_bytes w32 after2) g)
@@ -237,13 +234,12 @@ moves3 {begin} {target} {number} leads row premise move first operands2 operands
 -- ---- four moves
 
 -- The first move of the highest 16 bits has them modulo 2 ^ 16.
-abbrev pub IsHighest : RelocationKindInfo → Premise → (ℕ → ℤ) → (Operands → ℕ) → Type 0
-IsHighest row premise move number =
-    (o : Operands) → AreAddresses o → (before after : List ℕ)
-    (applied : IsApplied row o before after)
-    → PremiseHolds premise (number_at row.size before) applied.value
-    → IsSameModulo 16 (bits_from 48 (move (number_at row.size after)))
-    (bits_from 48 (cast_signed w64 (number o)))
+pub record IsHighest (row : RelocationKindInfo) (premise : Premise) (move : ℕ → ℤ)
+    (begin target number : Operands → ℕ) : Type 0 where
+  pub leads : IsNumber begin target number
+  pub bits : (o : Operands) → AreAddresses o → (before after : List ℕ) (applied : IsApplied row o before after)
+      → PremiseHolds premise (number_at row.size before) applied.value
+      → IsSameModulo 16 (bits_from 48 (move (number_at row.size after))) (bits_from 48 (cast_signed w64 (number o)))
 
 rem_lifted : (z : ℤ) (j w : ℕ) → z +ℤ pos (j * 2 ^ 64) ≡ pos w
     → int_rem_euclid z (pos (2 ^ 16)) ≡ pos (w % 2 ^ 16)
@@ -295,9 +291,8 @@ step_16 l f g h n small eh eg ef =
 rest_below : (r k : ℕ) → r % 2 ^ k < 2 ^ k
 rest_below r k = mod_below r (2 ^ k) (pow_pos k)
 
-pub moves4 : {begin target number : Operands → ℕ} → IsNumber begin target number
-    → (row : RelocationKindInfo) (premise : Premise) (move : ℕ → ℤ)
-    → IsHighest row premise move number
+pub moves4 : {begin target number : Operands → ℕ} {row : RelocationKindInfo} {premise : Premise} {move : ℕ → ℤ}
+    → IsHighest row premise move begin target number
     → (operands2 operands3 operands4 : Operands → ℕ → Operands)
     → {kind2 : RelocationKind} {mask2 : Option PageMask} {range2 : AllowedRange} {a2 : ℕ}
     {bias2 : Option ℕ} {thunkable2 implicit2 : Bool}
@@ -314,12 +309,11 @@ pub moves4 : {begin target number : Operands → ℕ} → IsNumber begin target 
     ∷ step_of (row_of kind3 16 32 (AArch64 Movkz) mask3 range3 a3 bias3 thunkable3 implicit3) operands3 none
     ∷ step_of (row_of kind4 0 16 (AArch64 Movkz) mask4 range4 a4 bias4 thunkable4 implicit4) operands4 none
     ∷ []) (λ o x y z u. pos (begin o) +ℤ movk 0 (movk 16 (movk 32 (move x) y) z) u) target
-moves4 {begin} {target} {number} leads row premise move first operands2 operands3 operands4 e2 e3 e4
-    =
+moves4 {begin} {target} {number} {row} {premise} {move} first operands2 operands3 operands4 e2 e3 e4 =
     λ o small at before after step holds at2 before2 after2 step2 any2 at3 before3 after3 step3 any3
     at4 before4 after4 step4 any4.
     let n = number o in
-    let numbers = leads o small in
+    let numbers = first.leads o small in
     let v = move (number_at row.size after) in
     let t = bits_from 48 v in
     let p = parts 48 v in
@@ -350,8 +344,8 @@ moves4 {begin} {target} {number} leads row premise move first operands2 operands
     in
     ap (λ k. int_rem_euclid (pos (begin o) +ℤ k) (pos (2 ^ 64))) same
     ∙ congruent_sum (begin o) (n % 2 ^ 48) (target o) t (bits_from 48 w)
-    (first o small before after step holds)
-    (reached 48 leads (omega arith) o small (bits_from 48 w)
+    (first.bits o small before after step holds)
+    (reached 48 first.leads (omega arith) o small (bits_from 48 w)
     ((bits_from 48 w *ℤ pos (2 ^ 48)) +ℤ pos (n % 2 ^ 48)) refl refl)
 
 -- ---- first moves
@@ -370,15 +364,18 @@ pub movz_first : (s : ℕ) {begin target number : Operands → ℕ} → IsNumber
     → ((o : Operands) → value_of (row_of kind s (s + 16) (AArch64 Movkz) mask range a bias
     thunkable implicit) o ≡ Some (cast_signed w64 (number o)))
     → IsFirst (row_of kind s (s + 16) (AArch64 Movkz) mask range a bias
-    thunkable implicit) none s (movz s) number
+    thunkable implicit) none s (movz s) begin target number
 movz_first s {begin} {target} {number} leads short within ok e =
-    λ o small before after applied any.
-    let n = number o in
-    let below = (leads o small).below in
-    let m = movk_reads _ s _ _ _ _ _ _ o before after applied n below short (e o) in
-    let r = reads_bits _ _ _ _ _ _ _ _ _ _ o before after applied _
-    (subst (λ b. IsWithin b applied.value) within applied.accepted.reached.0) ok n below (e o) in
-    ap (λ z. bits_from s (z *ℤ pos (2 ^ s))) m ∙ scaled (field n s (s + 16)) s ∙ sym m ∙ r
+    record {
+      leads = leads;
+      bits = λ o small before after applied any.
+          let n = number o in
+          let below = (leads o small).below in
+          let m = movk_reads _ s _ _ _ _ _ _ o before after applied n below short (e o) in
+          let r = reads_bits _ _ _ _ _ _ _ _ _ _ o before after applied _
+          (subst (λ b. IsWithin b applied.value) within applied.accepted.reached.0) ok n below (e o) in
+          ap (λ z. bits_from s (z *ℤ pos (2 ^ s))) m ∙ scaled (field n s (s + 16)) s ∙ sym m ∙ r;
+    }
 
 -- a MOVK alone stays one
 no_movk : (x : ℕ) (bits : BitRange) → not (is_movk x) ≡ true
@@ -408,21 +405,25 @@ pub movn_first : (s : ℕ) {begin target number : Operands → ℕ} → IsNumber
     thunkable implicit) o ≡ Some (cast_signed w64 (number o)))
     → IsFirst (row_of kind s (s + 16) (AArch64 Movnz) mask range a bias
     thunkable implicit)
-    (of_words (λ x. (shift_of x == s && bit_at x 31 == 1) && not (is_movk x))) s movn_or_movz number
-movn_first s {begin} {target} {number} leads within agrees e = λ o small before after applied holds.
-    let n = number o in
-    let below = (leads o small).below in
-    let is = value_is _ o before after applied (cast_signed w64 n) (e o) in
-    let x = from_le_bytes w32 before in
-    let parts = and_parts (eqb (shift_of x) s && eqb (bit_at x 31) 1) (not (is_movk x)) holds in
-    let both = and_parts (eqb (shift_of x) s) (eqb (bit_at x 31) 1) parts.0 in
-    let wide = eqb-true (bit_at x 31) 1 both.1 in
-    let same = wide_reads _ _ applied.value x (from_le_bytes w32 after) wide
-    ((reads _ o before after applied n below is false agrees).other (no_movk x (record { start = s; end = s + 16 }) parts.1) refl
-    (eqb-true (shift_of x) s both.0) (λ narrow. absurd (let e : 1 ≡ 0 = sym wide ∙ narrow in omega arith))) in
-    subst (λ b. IsSameIn b (s + 16 - s) (aarch64_reads Movnz s (from_le_bytes w32 after))
-    (bits_from s applied.value)) within same
-    ∙ ap (bits_from s) (sym is)
+    (of_words (λ x. (shift_of x == s && bit_at x 31 == 1) && not (is_movk x))) s movn_or_movz begin target number
+movn_first s {begin} {target} {number} leads within agrees e =
+    record {
+      leads = leads;
+      bits = λ o small before after applied holds.
+          let n = number o in
+          let below = (leads o small).below in
+          let is = value_is _ o before after applied (cast_signed w64 n) (e o) in
+          let x = from_le_bytes w32 before in
+          let parts = and_parts (eqb (shift_of x) s && eqb (bit_at x 31) 1) (not (is_movk x)) holds in
+          let both = and_parts (eqb (shift_of x) s) (eqb (bit_at x 31) 1) parts.0 in
+          let wide = eqb-true (bit_at x 31) 1 both.1 in
+          let same = wide_reads _ _ applied.value x (from_le_bytes w32 after) wide
+          ((reads _ o before after applied n below is false agrees).other (no_movk x (record { start = s; end = s + 16 }) parts.1) refl
+          (eqb-true (shift_of x) s both.0) (λ narrow. absurd (let e : 1 ≡ 0 = sym wide ∙ narrow in omega arith))) in
+          subst (λ b. IsSameIn b (s + 16 - s) (aarch64_reads Movnz s (from_le_bytes w32 after))
+          (bits_from s applied.value)) within same
+          ∙ ap (bits_from s) (sym is);
+    }
 
 pub movn_highest : {begin target number : Operands → ℕ} → IsNumber begin target number
     → {kind : RelocationKind} {mask : Option PageMask} {range : AllowedRange} {a : ℕ}
@@ -435,21 +436,25 @@ pub movn_highest : {begin target number : Operands → ℕ} → IsNumber begin t
     thunkable implicit) o ≡ Some (cast_signed w64 (number o)))
     → IsHighest (row_of kind 48 64 (AArch64 Movnz) mask range a bias
     thunkable implicit)
-    (of_words (λ x. (shift_of x == 48 && bit_at x 31 == 1) && not (is_movk x))) movn_or_movz number
-movn_highest {begin} {target} {number} leads within agrees e = λ o small before after applied holds.
-    let n = number o in
-    let below = (leads o small).below in
-    let is = value_is _ o before after applied (cast_signed w64 n) (e o) in
-    let x = from_le_bytes w32 before in
-    let parts = and_parts (eqb (shift_of x) 48 && eqb (bit_at x 31) 1) (not (is_movk x)) holds in
-    let both = and_parts (eqb (shift_of x) 48) (eqb (bit_at x 31) 1) parts.0 in
-    let wide = eqb-true (bit_at x 31) 1 both.1 in
-    let same = wide_reads _ _ applied.value x (from_le_bytes w32 after) wide
-    ((reads _ o before after applied n below is false agrees).other (no_movk x (record { start = 48; end = 64 }) parts.1) refl
-    (eqb-true (shift_of x) 48 both.0) (λ narrow. absurd (let e : 1 ≡ 0 = sym wide ∙ narrow in omega arith))) in
-    (subst (λ b. IsSameIn b 16 (aarch64_reads Movnz 48 (from_le_bytes w32 after))
-    (bits_from 48 applied.value)) within same).0
-    ∙ ap (λ z. int_rem_euclid (bits_from 48 z) (pos (2 ^ 16))) (sym is)
+    (of_words (λ x. (shift_of x == 48 && bit_at x 31 == 1) && not (is_movk x))) movn_or_movz begin target number
+movn_highest {begin} {target} {number} leads within agrees e =
+    record {
+      leads = leads;
+      bits = λ o small before after applied holds.
+          let n = number o in
+          let below = (leads o small).below in
+          let is = value_is _ o before after applied (cast_signed w64 n) (e o) in
+          let x = from_le_bytes w32 before in
+          let parts = and_parts (eqb (shift_of x) 48 && eqb (bit_at x 31) 1) (not (is_movk x)) holds in
+          let both = and_parts (eqb (shift_of x) 48) (eqb (bit_at x 31) 1) parts.0 in
+          let wide = eqb-true (bit_at x 31) 1 both.1 in
+          let same = wide_reads _ _ applied.value x (from_le_bytes w32 after) wide
+          ((reads _ o before after applied n below is false agrees).other (no_movk x (record { start = 48; end = 64 }) parts.1) refl
+          (eqb-true (shift_of x) 48 both.0) (λ narrow. absurd (let e : 1 ≡ 0 = sym wide ∙ narrow in omega arith))) in
+          (subst (λ b. IsSameIn b 16 (aarch64_reads Movnz 48 (from_le_bytes w32 after))
+          (bits_from 48 applied.value)) within same).0
+          ∙ ap (λ z. int_rem_euclid (bits_from 48 z) (pos (2 ^ 16))) (sym is);
+    }
 
 pub movz_highest : {begin target number : Operands → ℕ} → IsNumber begin target number
     → {kind : RelocationKind} {mask : Option PageMask} {range : AllowedRange} {a : ℕ}
@@ -457,16 +462,20 @@ pub movz_highest : {begin target number : Operands → ℕ} → IsNumber begin t
     → ((o : Operands) → value_of (row_of kind 48 64 (AArch64 Movkz) mask range a bias
     thunkable implicit) o ≡ Some (cast_signed w64 (number o)))
     → IsHighest (row_of kind 48 64 (AArch64 Movkz) mask range a bias
-    thunkable implicit) none (movz 48) number
-movz_highest {begin} {target} {number} leads e = λ o small before after applied any.
-    let n = number o in
-    let below = (leads o small).below in
-    let m = movk_reads _ 48 _ _ _ _ _ _ o before after applied n below (omega arith) (e o) in
-    let f = field n 48 64 in
-    let bits = taken_is_field (record { start = 48; end = 64 }) (cast_signed w64 n)
-    (small_cast n below) (omega arith) (omega arith) in
-    let taken = taken_bits (record { start = 48; end = 64 }) n (cast_signed w64 n) below refl in
-    let short : f % 2 ^ 16 ≡ f = omega arith in
-    ap (λ z. int_rem_euclid (bits_from 48 (z *ℤ pos (2 ^ 48))) (pos (2 ^ 16))) m
-    ∙ ap (λ z. int_rem_euclid z (pos (2 ^ 16))) (scaled f 48)
-    ∙ ap pos short ∙ ap pos (sym taken) ∙ bits
+    thunkable implicit) none (movz 48) begin target number
+movz_highest {begin} {target} {number} leads e =
+    record {
+      leads = leads;
+      bits = λ o small before after applied any.
+          let n = number o in
+          let below = (leads o small).below in
+          let m = movk_reads _ 48 _ _ _ _ _ _ o before after applied n below (omega arith) (e o) in
+          let f = field n 48 64 in
+          let bits = taken_is_field (record { start = 48; end = 64 }) (cast_signed w64 n)
+          (small_cast n below) (omega arith) (omega arith) in
+          let taken = taken_bits (record { start = 48; end = 64 }) n (cast_signed w64 n) below refl in
+          let short : f % 2 ^ 16 ≡ f = omega arith in
+          ap (λ z. int_rem_euclid (bits_from 48 (z *ℤ pos (2 ^ 48))) (pos (2 ^ 16))) m
+          ∙ ap (λ z. int_rem_euclid z (pos (2 ^ 16))) (scaled f 48)
+          ∙ ap pos short ∙ ap pos (sym taken) ∙ bits;
+    }

@@ -1,5 +1,6 @@
 -- Addresses of LoongArch in parts.
 use Rattle.linker_laws.proofs.Sums.{high_sum, halves_sum, page_halves_sum, signed_12, sum_below, goes, difference_below, once}
+use Rattle.linker_elf.proofs.RowsAgree.{shift5_sum}
 use Rattle.linker_laws.specs.Schemes.{without_low, AreAddresses, Law, place, Premise, PremiseHolds, none, of_values, of_words}
 use Rattle.std.proofs.Common.{◌≡◌, ℕ, ◌+◌, ◌-◌, ◌*◌, ◌/◌, ◌%◌, ◌^◌, ◌<◌, Bool, refl, sym, ◌∙◌, ap, subst, true, false, arith, List, [], ◌∷◌, ℤ, pos, ◌+ℤ◌, ◌-ℤ◌, ◌*ℤ◌, inl, inr, Option, Some}
 use Rattle.linker_laws.proofs.Imports.{w64, cast_signed, int_rem_euclid, ints, int_rem_euclid_is, mod_below, pow_pos, field, signed, window_of, replaced, consecutive_bits_sum, signed_cases, bits_from, IsWithin, bit_bounds, loongarch_form, page, reach, value_of, sum_64, difference_64, AllowedRange, PageMask, Shift5, Shift10, Call36, LoongArch64, RelocationKind, Signed, Operands, shift5_places, page_and_distance, IsApplied, plain_written, AgreesInReach, is_jirl, is_low_jump, taken_below}
@@ -13,9 +14,6 @@ use Rattle.linker_laws.proofs.Rounded.{IsRounded}
 use Rattle.linker_laws.proofs.Instructions.{FirstHasNumber, HasNumber, IsNumber, IsSmall, absolute, first_step, row_of, reads_bits, field_sum, step_of, unbiased}
 
 -- ---- the immediates
-
-shift5_sum : (x : ℕ) → place_sum shift5_places x ≡ field x 5 25
-shift5_sum x = consecutive_bits_sum replaced 20 0 5 0 x refl ∙ omega arith
 
 -- an immediate of 20 bits
 pub high_field : (kind : RelocationKind) (start : ℕ) (mask : Option PageMask)

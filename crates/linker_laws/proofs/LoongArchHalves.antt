@@ -4,6 +4,7 @@ use Rattle.linker_laws.proofs.Imports.{w64, cast_signed, int_rem_euclid, ints, o
 use Rattle.std.specs.Int.RustNames.{bit_or}
 use Rattle.linker_base.specs.Form.{place_sum}
 use Rattle.linker_elf.specs.declared.loongarch64.relocations.LoongArch64Relocation.TheVariants as names
+use Rattle.linker_elf.proofs.RowsAgree.{shift5_sum}
 use Rattle.linker_laws.specs.Schemes.{IsAddress, AreAddresses, symbol_address, entry_and_addend, tls_base}
 use Rattle.linker_laws.proofs.Applied.{value_is, taken_bits}
 use Rattle.linker_laws.proofs.Instructions.{row_of, reads_bits, relative, unbiased}
@@ -27,9 +28,6 @@ pub whole : (n : ℕ) → n < 2 ^ 64 → wrapped (pos n +ℤ pos 0) ≡ n
 whole n small =
     address_is (pos n +ℤ pos 0) _ (lifted_is (pos n +ℤ pos 0) 0 n (omega (arith, ints)))
     ∙ (let e : n % 2 ^ 64 ≡ n = omega arith in e)
-
-shift5_sum : (x : ℕ) → place_sum shift5_places x ≡ field x 5 25
-shift5_sum x = consecutive_bits_sum replaced 20 0 5 0 x refl ∙ omega arith
 
 -- the page that a `pcalau12i` makes
 pub page_made : {kind : RelocationKind} {mask : Option PageMask} {range : AllowedRange} {a : ℕ}

@@ -53,9 +53,8 @@ adjusted_low n m low reads is =
     ∙ ap pos (let same : (n % 2 ^ 16 + 0x8000) % 2 ^ 16 ≡ m % 2 ^ 16 = omega arith in same)
 
 pub adjusted_halves : {begin target number rounded : Operands → ℕ} → IsNumber begin target number
-    → IsRounded 0x8000 number rounded → (f : Ppc64Instruction) {a' : ℕ} → ReadsLow f a'
-    → (operands : Operands → ℕ → Operands)
-    → {kind : RelocationKind} {mask : Option PageMask} {range : AllowedRange} {a : ℕ}
+    → IsRounded 0x8000 number rounded → {f : Ppc64Instruction} {a' : ℕ} → ReadsLow f a'
+    → (operands : Operands → ℕ → Operands) {kind : RelocationKind} {mask : Option PageMask} {range : AllowedRange} {a : ℕ}
     {bias : Option ℕ} {thunkable implicit : Bool} {b : ℤ × ℤ}
     {kind' : RelocationKind} {mask' : Option PageMask} {range' : AllowedRange}
     {bias' : Option ℕ} {thunkable' implicit' : Bool}
@@ -69,7 +68,7 @@ pub adjusted_halves : {begin target number rounded : Operands → ℕ} → IsNum
     (first_step (row_of kind 16 32 (Ppc64 D) mask range a bias thunkable implicit) none
     ∷ step_of (row_of kind' 0 16 (Ppc64 f) mask' range' a' bias' thunkable' implicit') operands none
     ∷ []) (adjusted begin f) target
-adjusted_halves {begin} {target} {number} {rounded} leads rounds f low operands within ok e e' =
+adjusted_halves {begin} {target} {number} {rounded} leads rounds {f} low operands within ok e e' =
     λ o small at before after high any at' before' after' rest any'.
     let n = number o in
     let numbers = leads o small in
@@ -89,9 +88,7 @@ pub d_field : (x : ℕ) → place_sum ((ppc64_form D).places 0) x ≡ field x 0 
 d_field x = consecutive_bits_sum replaced 16 0 0 0 x refl ∙ omega arith
 
 pub unadjusted_halves : {begin target number : Operands → ℕ} → IsNumber begin target number
-    → IsRounded 0 number number
-    → (operands : Operands → ℕ → Operands)
-    → {kind : RelocationKind} {mask : Option PageMask} {range : AllowedRange} {a : ℕ}
+    → (operands : Operands → ℕ → Operands) {kind : RelocationKind} {mask : Option PageMask} {range : AllowedRange} {a : ℕ}
     {bias : Option ℕ} {thunkable implicit : Bool} {b : ℤ × ℤ}
     {kind' : RelocationKind} {mask' : Option PageMask} {range' : AllowedRange}
     {bias' : Option ℕ} {thunkable' implicit' : Bool}
@@ -105,20 +102,20 @@ pub unadjusted_halves : {begin target number : Operands → ℕ} → IsNumber be
     (first_step (row_of kind 16 32 (Ppc64 D) mask range a bias thunkable implicit) none
     ∷ step_of (row_of kind' 0 16 (Ppc64 D) mask' range' 1 bias' thunkable' implicit') operands none
     ∷ []) (unadjusted begin) target
-unadjusted_halves {begin} {target} {number} leads rounds operands within ok e e' =
+unadjusted_halves {begin} {target} {number} leads operands within ok e e' =
     λ o small at before after high any at' before' after' rest any'.
     let n = number o in
     let numbers = leads o small in
+    let below = numbers.below in
     let h = reads_bits _ _ _ _ _ _ _ _ _ _ o before after high _
-    (subst (λ b. IsWithin b high.value) within high.accepted.reached.0) ok n numbers.below (e o)
-    in
+    (subst (λ b. IsWithin b high.value) within high.accepted.reached.0) ok n below (e o) in
     let y = window_of (ppc64_form D) after' in
     let sum = field_sum _ 0 16 (Ppc64 D) _ _ 1 _ _ _ _ before' after' rest refl refl (omega arith) n
     numbers.below (e' o small at') in
     let l : field y 0 16 ≡ n % 2 ^ 16 = sym (d_field y) ∙ sum ∙ omega arith in
     halves_sum 16 0 (begin o) (target o) n n
     ((ppc64_form D).machine (window_of (ppc64_form D) after)) (pos (field y 0 16)) (omega arith)
-    (omega arith) numbers.small numbers.below numbers.leads (rounds o small) h
+    (omega arith) numbers.small below numbers.leads (let same : n ≡ sum_64 n 0 = omega arith in same) h
     (ap (λ x. pos x +ℤ pos 0) l ∙ ap pos (omega arith))
 
 -- ---- the high half alone

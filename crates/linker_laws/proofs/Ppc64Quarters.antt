@@ -72,8 +72,7 @@ adjusted_sum : (p s n m upper : ℕ) → Leads p n s → m ≡ sum_64 n 0x8000
 adjusted_sum p s n m upper leads is e small = omega arith
 
 pub quarters : {begin target number : Operands → ℕ} → IsNumber begin target number
-    → (operands2 operands3 operands4 : Operands → ℕ → Operands)
-    → {kind : RelocationKind} {mask : Option PageMask} {range : AllowedRange} {a : ℕ}
+    → (operands2 operands3 operands4 : Operands → ℕ → Operands) {kind : RelocationKind} {mask : Option PageMask} {range : AllowedRange} {a : ℕ}
     {bias : Option ℕ} {thunkable implicit : Bool}
     {kind2 : RelocationKind} {mask2 : Option PageMask} {range2 : AllowedRange} {a2 : ℕ}
     {bias2 : Option ℕ} {thunkable2 implicit2 : Bool}
@@ -111,9 +110,8 @@ quarters {begin} {target} {number} leads operands2 operands3 operands4 e e2 e3 e
     (window_of (ppc64_form DUnsigned) after3) numbers.below x y z) (l ∙ omega arith))
 
 pub quarters_adjusted : {begin target number rounded : Operands → ℕ} → IsNumber begin target number
-    → IsRounded 0x8000 number rounded → (f : Ppc64Instruction) {a4 : ℕ} → ReadsLow f a4
-    → (operands2 operands3 operands4 : Operands → ℕ → Operands)
-    → {kind : RelocationKind} {mask : Option PageMask} {range : AllowedRange} {a : ℕ}
+    → IsRounded 0x8000 number rounded → {f : Ppc64Instruction} {a4 : ℕ} → ReadsLow f a4
+    → (operands2 operands3 operands4 : Operands → ℕ → Operands) {kind : RelocationKind} {mask : Option PageMask} {range : AllowedRange} {a : ℕ}
     {bias : Option ℕ} {thunkable implicit : Bool}
     {kind2 : RelocationKind} {mask2 : Option PageMask} {range2 : AllowedRange} {a2 : ℕ}
     {bias2 : Option ℕ} {thunkable2 implicit2 : Bool}
@@ -131,7 +129,7 @@ pub quarters_adjusted : {begin target number rounded : Operands → ℕ} → IsN
     ∷ step_of (row_of kind3 16 32 (Ppc64 DUnsigned) mask3 range3 a3 bias3 thunkable3 implicit3) operands3 none
     ∷ step_of (row_of kind4 0 16 (Ppc64 f) mask4 range4 a4 bias4 thunkable4 implicit4) operands4 none
     ∷ []) (adjusted_quarters begin f) target
-quarters_adjusted {begin} {target} {number} {rounded} leads rounds f low operands2 operands3
+quarters_adjusted {begin} {target} {number} {rounded} leads rounds {f} low operands2 operands3
     operands4 e e2 e3 e4 =
     λ o small at before after step any at2 before2 after2 step2 any2 at3 before3 after3 step3 any3
     at4 before4 after4 step4 any4.

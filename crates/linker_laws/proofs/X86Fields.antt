@@ -1,11 +1,13 @@
 -- What relocated fields come to, as numbers modulo 2 ^ 64.
-use Rattle.std.proofs.Common.{◌≡◌, ℕ, ◌+◌, ◌-◌, ◌*◌, ◌%◌, ◌^◌, refl, sym, ◌∙◌, ap, arith, List, ℤ, pos, negsuc, ◌+ℤ◌, ◌*ℤ◌, inl, inr, unsigned_abs}
-use Rattle.linker_laws.proofs.Imports.{w64, cast_unsigned, int_rem_euclid, ints, signed, unsigned, twos_complement, signed_cases, number_of_bytes, sum_64, RelocationKindInfo, Operands, IsApplied}
+use Rattle.std.proofs.Common.{◌≡◌, ℕ, ◌+◌, ◌-◌, ◌*◌, ◌%◌, ◌^◌, refl, sym, ◌∙◌, ap, arith, List, ℤ, pos, negsuc, ◌+ℤ◌, ◌*ℤ◌, inl, inr, unsigned_abs, Some, true}
+use Rattle.linker_laws.proofs.Imports.{w64, cast_signed, cast_unsigned, int_rem_euclid, ints, signed, unsigned, twos_complement, signed_cases, number_of_bytes, reach_of, sum_64, value_of, RelocationKind, RelocationKindInfo, Operands, IsApplied}
+use Rattle.linker_base.proofs.Fields.{cast_rem}
 use Rattle.linker_elf.specs.Rows.{bytes_row, signed_row, unsigned_row}
 use Rattle.linker_elf.specs.declared.elf.RelocationKind.TheVariants as values
+use Rattle.linker_elf.proofs.Agreement.{reaches}
 use Rattle.linker_laws.specs.Schemes.{IsAddress, AreAddresses, symbol_address, entry_and_addend}
-use Rattle.linker_laws.proofs.Fields.{field_adds, whole_field_adds}
-use Rattle.linker_laws.proofs.Instructions.{symbol_from_place, symbol_from_tls, symbol_itself, entry_and_addend_from_place}
+use Rattle.linker_laws.proofs.Fields.{IsValue, field_adds, whole_field_adds}
+use Rattle.linker_laws.proofs.Instructions.{IsNumber, symbol_from_place, symbol_from_tls, symbol_itself, entry_and_addend_from_place}
 use Rattle.linker_laws.proofs.Sums.{lifted_is}
 use Rattle.linker_laws.specs.X86Machine.{extended}
 
@@ -34,11 +36,6 @@ lifted f =
           }
     ]
 
-unsigned_rem : (z : ℤ) (m : ℕ) → z +ℤ pos (2 ^ 64) ≡ pos m
-    → cast_unsigned w64 z % 2 ^ 64 ≡ m % 2 ^ 64
-unsigned_rem (pos a) m e = let same : m ≡ a + 2 ^ 64 = omega (arith, ints) in omega arith
-unsigned_rem (negsuc a) m e = let same : m + a + 1 ≡ 2 ^ 64 = omega (arith, ints) in omega arith
-
 -- an address as the machine computes it
 pub computed : (p f t : ℕ) → IsAddress (pos p +ℤ (signed 32 f *ℤ pos 1)) t
     → sum_64 p (extended f) ≡ t
@@ -48,7 +45,7 @@ computed p f t h =
     let there : (p + l.number) % 2 ^ 64 ≡ t =
     ap unsigned_abs (sym (lifted_is (pos p +ℤ (signed 32 f *ℤ pos 1)) 1 (p + l.number)
     (added (signed 32 f) p l.number l.is)) ∙ h) in
-    let rem = unsigned_rem (signed 32 f) l.number l.is in
+    let rem = cast_rem (signed 32 f) l.number l.is in
     omega arith
   where
     added : (z : ℤ) (p n : ℕ) → z +ℤ pos (2 ^ 64) ≡ pos n
@@ -60,7 +57,7 @@ pub extended_low : (f : ℕ) → extended f % 2 ^ 32 ≡ f % 2 ^ 32
 extended_low f =
     let l = lifted f in
     let low = l.low in
-    let rem = unsigned_rem (signed 32 f) l.number l.is in
+    let rem = cast_rem (signed 32 f) l.number l.is in
     omega arith
 
 -- the same of a number that isn't sign-extended
@@ -113,87 +110,59 @@ abbrev pub unsigned_immediate : RelocationKindInfo
 unsigned_immediate = unsigned_row 32 (bytes_row values.Absolute 4)
 
 module _ (o : Operands) (addresses : AreAddresses o) (before after : List ℕ) where
-  pub entry_field : IsApplied got_row o before after
-      → sum_64 o.place (extended (number_of_bytes 4 after)) ≡ entry_and_addend o
-  entry_field applied =
-      computed o.place (number_of_bytes 4 after) (entry_and_addend o)
-      (field_adds entry_and_addend_from_place twos_complement (λ v old. refl) refl refl
-      (λ o. refl) o addresses 0 before after applied tt)
+  abbrev Leads : RelocationKindInfo → ℕ → ℕ → Type 0
+  Leads row begin target =
+      IsApplied row o before after → sum_64 begin (extended (number_of_bytes 4 after)) ≡ target
 
-  pub tls_entry_field : IsApplied tls_got_row o before after
-      → sum_64 o.place (extended (number_of_bytes 4 after)) ≡ entry_and_addend o
-  tls_entry_field applied =
-      computed o.place (number_of_bytes 4 after) (entry_and_addend o)
-      (field_adds entry_and_addend_from_place twos_complement (λ v old. refl) refl refl
-      (λ o. refl) o addresses 0 before after applied tt)
+  -- 4 bytes in two's complement, by their formula
+  leads : {begin target number : Operands → ℕ} → IsNumber begin target number → (kind : RelocationKind)
+      → IsValue kind → {b : ℤ × ℤ} → reach_of (signed_row 32 (bytes_row kind 4)) ≡ Some b
+      → reaches twos_complement 32 0 32 (Some b) ≡ true
+      → ((o : Operands) → value_of (signed_row 32 (bytes_row kind 4)) o ≡ Some (cast_signed w64 (number o)))
+      → Leads (signed_row 32 (bytes_row kind 4)) (begin o) (target o)
+  leads {begin} {target} formula kind whole within reads is applied =
+      computed (begin o) (number_of_bytes 4 after) (target o)
+      (field_adds formula twos_complement whole within reads is o addresses 0 before after applied tt)
 
-  pub tls_pair_field : IsApplied tls_pair_row o before after
-      → sum_64 o.place (extended (number_of_bytes 4 after)) ≡ entry_and_addend o
-  tls_pair_field applied =
-      computed o.place (number_of_bytes 4 after) (entry_and_addend o)
-      (field_adds entry_and_addend_from_place twos_complement (λ v old. refl) refl refl
-      (λ o. refl) o addresses 0 before after applied tt)
+  pub entry_field : Leads got_row o.place (entry_and_addend o)
+  entry_field = leads entry_and_addend_from_place values.GotRelative (λ v old. refl) refl refl (λ o. refl)
 
-  pub tls_module_field : IsApplied tls_module_row o before after
-      → sum_64 o.place (extended (number_of_bytes 4 after)) ≡ entry_and_addend o
-  tls_module_field applied =
-      computed o.place (number_of_bytes 4 after) (entry_and_addend o)
-      (field_adds entry_and_addend_from_place twos_complement (λ v old. refl) refl refl
-      (λ o. refl) o addresses 0 before after applied tt)
+  pub tls_entry_field : Leads tls_got_row o.place (entry_and_addend o)
+  tls_entry_field = leads entry_and_addend_from_place values.GotTpOff (λ v old. refl) refl refl (λ o. refl)
 
-  pub descriptor_field : IsApplied descriptor_row o before after
-      → sum_64 o.place (extended (number_of_bytes 4 after)) ≡ entry_and_addend o
-  descriptor_field applied =
-      computed o.place (number_of_bytes 4 after) (entry_and_addend o)
-      (field_adds entry_and_addend_from_place twos_complement (λ v old. refl) refl refl
-      (λ o. refl) o addresses 0 before after applied tt)
+  pub tls_pair_field : Leads tls_pair_row o.place (entry_and_addend o)
+  tls_pair_field = leads entry_and_addend_from_place values.TlsGd (λ v old. refl) refl refl (λ o. refl)
 
-  pub place_field : IsApplied place_row o before after
-      → sum_64 o.place (extended (number_of_bytes 4 after)) ≡ symbol_address o
-  place_field applied =
-      computed o.place (number_of_bytes 4 after) (symbol_address o)
-      (field_adds symbol_from_place twos_complement (λ v old. refl) refl refl
-      (λ o. refl) o addresses 0 before after applied tt)
+  pub tls_module_field : Leads tls_module_row o.place (entry_and_addend o)
+  tls_module_field = leads entry_and_addend_from_place values.TlsLd (λ v old. refl) refl refl (λ o. refl)
 
-  pub thread_field : IsApplied thread_row o before after
-      → sum_64 o.tls_base (extended (number_of_bytes 4 after)) ≡ symbol_address o
-  thread_field applied =
-      computed o.tls_base (number_of_bytes 4 after) (symbol_address o)
-      (field_adds symbol_from_tls twos_complement (λ v old. refl) refl refl
-      (λ o. refl) o addresses 0 before after applied tt)
+  pub descriptor_field : Leads descriptor_row o.place (entry_and_addend o)
+  descriptor_field = leads entry_and_addend_from_place values.TlsDesc (λ v old. refl) refl refl (λ o. refl)
 
-  pub block_field : IsApplied block_row o before after
-      → sum_64 o.tls_base (extended (number_of_bytes 4 after)) ≡ symbol_address o
-  block_field applied =
-      computed o.tls_base (number_of_bytes 4 after) (symbol_address o)
-      (field_adds symbol_from_tls twos_complement (λ v old. refl) refl refl
-      (λ o. refl) o addresses 0 before after applied tt)
+  pub place_field : Leads place_row o.place (symbol_address o)
+  place_field = leads symbol_from_place values.Relative (λ v old. refl) refl refl (λ o. refl)
 
-  pub long_thread_field : IsApplied long_thread_row o before after
-      → sum_64 o.tls_base (number_of_bytes 8 after) ≡ symbol_address o
+  pub thread_field : Leads thread_row o.tls_base (symbol_address o)
+  thread_field = leads symbol_from_tls values.TpOff (λ v old. refl) refl refl (λ o. refl)
+
+  pub block_field : Leads block_row o.tls_base (symbol_address o)
+  block_field = leads symbol_from_tls values.DtpOff (λ v old. refl) refl refl (λ o. refl)
+
+  pub signed_field : Leads signed_immediate 0 (symbol_address o)
+  signed_field = leads symbol_itself values.Absolute (λ v old. refl) refl refl (λ o. refl)
+
+  abbrev LongLeads : RelocationKindInfo → Type 0
+  LongLeads row = IsApplied row o before after → sum_64 o.tls_base (number_of_bytes 8 after) ≡ symbol_address o
+
+  pub long_thread_field : LongLeads long_thread_row
   long_thread_field applied =
-      number_is o.tls_base (number_of_bytes 8 after) (symbol_address o)
-      (whole_field_adds symbol_from_tls (λ v old. refl) (λ o. refl) o addresses 0 before after
-      applied tt)
+      number_is o.tls_base _ _ (whole_field_adds symbol_from_tls (λ v old. refl) (λ o. refl) o addresses 0 before after applied tt)
 
-  pub long_block_field : IsApplied long_block_row o before after
-      → sum_64 o.tls_base (number_of_bytes 8 after) ≡ symbol_address o
+  pub long_block_field : LongLeads long_block_row
   long_block_field applied =
-      number_is o.tls_base (number_of_bytes 8 after) (symbol_address o)
-      (whole_field_adds symbol_from_tls (λ v old. refl) (λ o. refl) o addresses 0 before after
-      applied tt)
+      number_is o.tls_base _ _ (whole_field_adds symbol_from_tls (λ v old. refl) (λ o. refl) o addresses 0 before after applied tt)
 
-  pub signed_field : IsApplied signed_immediate o before after
-      → sum_64 0 (extended (number_of_bytes 4 after)) ≡ symbol_address o
-  signed_field applied =
-      computed 0 (number_of_bytes 4 after) (symbol_address o)
-      (field_adds symbol_itself twos_complement (λ v old. refl) refl refl
-      (λ o. refl) o addresses 0 before after applied tt)
-
-  pub unsigned_field : IsApplied unsigned_immediate o before after
-      → number_of_bytes 4 after % 2 ^ 64 ≡ symbol_address o
+  pub unsigned_field : IsApplied unsigned_immediate o before after → number_of_bytes 4 after % 2 ^ 64 ≡ symbol_address o
   unsigned_field applied =
       from_zero (number_of_bytes 4 after)
-      ∙ number_is 0 (number_of_bytes 4 after) (symbol_address o)
-      (field_adds symbol_itself unsigned (λ v old. refl) refl refl
-      (λ o. refl) o addresses 0 before after applied tt)
+      ∙ number_is 0 _ _ (field_adds symbol_itself unsigned (λ v old. refl) refl refl (λ o. refl) o addresses 0 before after applied tt)

@@ -1,6 +1,6 @@
 -- Operations on a number from the GOT, and on an immediate.
 use Rattle.std.proofs.Common.{◌≡◌, ℕ, suc, ◌+◌, ◌-◌, ◌*◌, ◌%◌, ◌^◌, ◌<◌, List, [], ◌∷◌, ◌++◌, drop, take, refl, sym, ◌∙◌, ap, arith, Some, subst, inl, inr, IsTrue, true, pos, length, eqb, cond, get_or, drop-cons}
-use Rattle.linker_laws.proofs.Imports.{w64, cast_unsigned, All-drop, rewritten, IsRewritable, number_of_bytes, sum_64, difference_64, absolute, operand, prefixed_operand, original, rip_operand, with_rex, rex, with_rex2, rex2, is_one_at, Operands, IsApplied}
+use Rattle.linker_laws.proofs.Imports.{w64, cast_unsigned, All-drop, rewritten, IsRewritable, Rewrite, RelocationKindInfo, Original, number_of_bytes, sum_64, difference_64, absolute, operand, prefixed_operand, original, rip_operand, with_rex, rex, with_rex2, rex2, is_one_at, Operands, IsApplied}
 use Rattle.linker_utils.specs.X86Rewrites as x86
 use Rattle.linker_utils.specs.X86Rewrites.{plain}
 use Rattle.linker_laws.specs.Schemes.{AreAddresses}
@@ -36,122 +36,52 @@ pub record IsReplaced (opcode opcode' k number : ℕ) (op : Operation) : Type 0 
   pub moved : all_below 8 (moved_test k number) ≡ true
   pub operation : immediate_operation opcode' number ≡ Some op
 
-pub mov : IsReplaced 0x8b 0xc7 0xc0 0 MOV
-mov =
+-- one into a register, by what is computed of its opcodes
+into_register : {opcode opcode' k number : ℕ} (op : Operation)
+    → ((rest : List ℕ) → decode (opcode ∷ rest) ≡ decode_opcode no_prefix (opcode ∷ rest))
+    → ((p : Prefix) (m : ℕ) (rest : List ℕ) → is_relative m ≡ true → decode_opcode p (opcode ∷ m ∷ rest)
+    ≡ sized p 6 (operate op p.bits (register (reg_of m + p.reg)) (relative (number_of_bytes 4 rest))))
+    → ((rest : List ℕ) → decode (opcode' ∷ rest) ≡ decode_opcode no_prefix (opcode' ∷ rest))
+    → all_below 8 (moved_test k number) ≡ true → immediate_operation opcode' number ≡ Some op
+    → IsReplaced opcode opcode' k number op
+into_register op plain decoded plain' moved operation =
     record {
-      instruction = λ p m d. operate MOV p.bits (register (reg_of m + p.reg)) (relative d);
-      plain = λ rest. refl;
-      decoded = λ p m rest h. from_relative p 0x8b m rest h;
-      same = λ s next m d i p e. same_operation MOV s next p.bits (reg_of m + p.reg) d i e;
+      instruction = λ p m d. operate op p.bits (register (reg_of m + p.reg)) (relative d);
+      plain = plain;
+      decoded = decoded;
+      same = λ s next m d i p e. same_operation op s next p.bits (reg_of m + p.reg) d i e;
       flags = λ p m d. refl;
-      plain' = λ rest. refl;
-      moved = refl;
-      operation = refl;
+      plain' = plain';
+      moved = moved;
+      operation = operation;
     }
+
+pub mov : IsReplaced 0x8b 0xc7 0xc0 0 MOV
+mov = into_register MOV (λ rest. refl) (λ p. from_relative p 0x8b) (λ rest. refl) refl refl
 
 pub add : IsReplaced 0x03 0x81 0xc0 0 ADD
-add =
-    record {
-      instruction = λ p m d. operate ADD p.bits (register (reg_of m + p.reg)) (relative d);
-      plain = λ rest. refl;
-      decoded = λ p m rest h. from_relative p 0x03 m rest h;
-      same = λ s next m d i p e. same_operation ADD s next p.bits (reg_of m + p.reg) d i e;
-      flags = λ p m d. refl;
-      plain' = λ rest. refl;
-      moved = refl;
-      operation = refl;
-    }
+add = into_register ADD (λ rest. refl) (λ p. from_relative p 0x03) (λ rest. refl) refl refl
 
 pub or : IsReplaced 0x0b 0x81 0xc8 1 OR
-or =
-    record {
-      instruction = λ p m d. operate OR p.bits (register (reg_of m + p.reg)) (relative d);
-      plain = λ rest. refl;
-      decoded = λ p m rest h. from_relative p 0x0b m rest h;
-      same = λ s next m d i p e. same_operation OR s next p.bits (reg_of m + p.reg) d i e;
-      flags = λ p m d. refl;
-      plain' = λ rest. refl;
-      moved = refl;
-      operation = refl;
-    }
+or = into_register OR (λ rest. refl) (λ p. from_relative p 0x0b) (λ rest. refl) refl refl
 
 pub adc : IsReplaced 0x13 0x81 0xd0 2 ADC
-adc =
-    record {
-      instruction = λ p m d. operate ADC p.bits (register (reg_of m + p.reg)) (relative d);
-      plain = λ rest. refl;
-      decoded = λ p m rest h. from_relative p 0x13 m rest h;
-      same = λ s next m d i p e. same_operation ADC s next p.bits (reg_of m + p.reg) d i e;
-      flags = λ p m d. refl;
-      plain' = λ rest. refl;
-      moved = refl;
-      operation = refl;
-    }
+adc = into_register ADC (λ rest. refl) (λ p. from_relative p 0x13) (λ rest. refl) refl refl
 
 pub sbb : IsReplaced 0x1b 0x81 0xd8 3 SBB
-sbb =
-    record {
-      instruction = λ p m d. operate SBB p.bits (register (reg_of m + p.reg)) (relative d);
-      plain = λ rest. refl;
-      decoded = λ p m rest h. from_relative p 0x1b m rest h;
-      same = λ s next m d i p e. same_operation SBB s next p.bits (reg_of m + p.reg) d i e;
-      flags = λ p m d. refl;
-      plain' = λ rest. refl;
-      moved = refl;
-      operation = refl;
-    }
+sbb = into_register SBB (λ rest. refl) (λ p. from_relative p 0x1b) (λ rest. refl) refl refl
 
 pub and : IsReplaced 0x23 0x81 0xe0 4 AND
-and =
-    record {
-      instruction = λ p m d. operate AND p.bits (register (reg_of m + p.reg)) (relative d);
-      plain = λ rest. refl;
-      decoded = λ p m rest h. from_relative p 0x23 m rest h;
-      same = λ s next m d i p e. same_operation AND s next p.bits (reg_of m + p.reg) d i e;
-      flags = λ p m d. refl;
-      plain' = λ rest. refl;
-      moved = refl;
-      operation = refl;
-    }
+and = into_register AND (λ rest. refl) (λ p. from_relative p 0x23) (λ rest. refl) refl refl
 
 pub sub : IsReplaced 0x2b 0x81 0xe8 5 SUB
-sub =
-    record {
-      instruction = λ p m d. operate SUB p.bits (register (reg_of m + p.reg)) (relative d);
-      plain = λ rest. refl;
-      decoded = λ p m rest h. from_relative p 0x2b m rest h;
-      same = λ s next m d i p e. same_operation SUB s next p.bits (reg_of m + p.reg) d i e;
-      flags = λ p m d. refl;
-      plain' = λ rest. refl;
-      moved = refl;
-      operation = refl;
-    }
+sub = into_register SUB (λ rest. refl) (λ p. from_relative p 0x2b) (λ rest. refl) refl refl
 
 pub xor : IsReplaced 0x33 0x81 0xf0 6 XOR
-xor =
-    record {
-      instruction = λ p m d. operate XOR p.bits (register (reg_of m + p.reg)) (relative d);
-      plain = λ rest. refl;
-      decoded = λ p m rest h. from_relative p 0x33 m rest h;
-      same = λ s next m d i p e. same_operation XOR s next p.bits (reg_of m + p.reg) d i e;
-      flags = λ p m d. refl;
-      plain' = λ rest. refl;
-      moved = refl;
-      operation = refl;
-    }
+xor = into_register XOR (λ rest. refl) (λ p. from_relative p 0x33) (λ rest. refl) refl refl
 
 pub cmp : IsReplaced 0x3b 0x81 0xf8 7 CMP
-cmp =
-    record {
-      instruction = λ p m d. operate CMP p.bits (register (reg_of m + p.reg)) (relative d);
-      plain = λ rest. refl;
-      decoded = λ p m rest h. from_relative p 0x3b m rest h;
-      same = λ s next m d i p e. same_operation CMP s next p.bits (reg_of m + p.reg) d i e;
-      flags = λ p m d. refl;
-      plain' = λ rest. refl;
-      moved = refl;
-      operation = refl;
-    }
+cmp = into_register CMP (λ rest. refl) (λ p. from_relative p 0x3b) (λ rest. refl) refl refl
 
 pub test : IsReplaced 0x85 0xf7 0xc0 0 TEST
 test =
@@ -298,16 +228,45 @@ module _ {opcode opcode' k number : ℕ} {op : Operation}
 module _ {opcode opcode' k number : ℕ} {op : Operation}
     (replaced : IsReplaced opcode opcode' k number op) (section old new : List ℕ) (o : ℕ)
     (operands : Operands) (s : State) where
+  -- what holds of an instruction and its rewrite, by the relocations before and after
+  abbrev Law : ℕ → List Original → Rewrite → (row row' : RelocationKindInfo) → ℕ → Type 0
+  Law n patterns r row row' held =
+      IsBefore n section o operands s → IsTrue (is_one_at patterns section o)
+      → IsRewritable r section o × IsTrue (is_one_at patterns section o)
+      → load 8 s operands.got_entry ≡ held → IsRelocatedBy row operands o section old
+      → IsRelocatedBy row' (absolute_operands o operands) o (rewritten (Some r) section o) new
+      → AreReplaced n (drop (o - n) old) (drop (o - n) new) s
+
+  -- the same by what the fields come to
+  abbrev LawOfFields : ℕ → List Original → Rewrite → Type 0
+  LawOfFields n patterns r =
+      (held : ℕ) → held < 2 ^ 64 → IsBefore n section o operands s → IsTrue (is_one_at patterns section o)
+      → load 8 s operands.got_entry ≡ held → (rest rest' : List ℕ) → old ≡ take o section ++ rest
+      → new ≡ take o (rewritten (Some r) section o) ++ rest'
+      → sum_64 operands.place (extended (number_of_bytes 4 rest)) ≡ sum_64 operands.got_entry (2 ^ 64 - 4)
+      → ((bits : ℕ) → IsSize bits → extended (number_of_bytes 4 rest') % 2 ^ bits ≡ held % 2 ^ bits)
+      → AreReplaced n (drop (o - n) old) (drop (o - n) new) s
+
+  of_symbol : (n : ℕ) (patterns : List Original) (r : Rewrite) → LawOfFields n patterns r
+      → Law n patterns r got_row signed_immediate operands.symbol
+  of_symbol n patterns r law before there matches holds was is =
+      law operands.symbol before.addresses.symbol before there holds was.rest is.rest was.whole is.whole
+      (entry n section o operands s before (drop o section) was.rest was.applied)
+      (λ bits size. long_immediate n section o operands s before bits size
+      (drop o (rewritten (Some r) section o)) is.rest is.applied)
+
+  of_offset : (n : ℕ) (patterns : List Original) (r : Rewrite) → LawOfFields n patterns r
+      → Law n patterns r tls_got_row thread_row (thread_offset operands)
+  of_offset n patterns r law before there matches holds was is =
+      law (thread_offset operands) (difference_below operands.symbol operands.tls_base) before there holds
+      was.rest is.rest was.whole is.whole
+      (tls_entry n section o operands s before (drop o section) was.rest was.applied)
+      (λ bits size. offset_immediate n section o operands s before bits size
+      (drop o (rewritten (Some r) section o)) is.rest is.applied)
+
   -- with no prefix
-  pub without_prefix : IsBefore 2 section o operands s
-      → IsTrue (is_one_at (plain opcode) section o)
-      → IsRewritable (absolute 2 (operand opcode' k)) section o
-      × IsTrue (is_one_at (plain opcode) section o)
-      → load 8 s operands.got_entry ≡ operands.symbol
-      → IsRelocatedBy got_row operands o section old
-      → IsRelocatedBy unsigned_immediate (absolute_operands o operands) o
-      (rewritten (Some (absolute 2 (operand opcode' k))) section o) new
-      → AreReplaced 2 (drop (o - 2) old) (drop (o - 2) new) s
+  pub without_prefix : Law 2 (plain opcode) (absolute 2 (operand opcode' k)) got_row unsigned_immediate
+      operands.symbol
   without_prefix before there matches holds was is code_old code_new at at' =
       let shape = pattern_there (original 2 (rip_operand opcode)) section o there in
       let code = on_relative opcode (drop (o - 2) section)
@@ -327,15 +286,8 @@ module _ {opcode opcode' k number : ℕ} {op : Operation}
       (ap decode b'.is ∙ replaced.plain' (x86.modrm_reg_to_rm k code.modrm ∷ b'.after))
 
   -- the same by a rewrite that has the byte before the instruction in its window
-  pub within_window : IsBefore 2 section o operands s
-      → IsTrue (is_one_at (plain opcode) section o)
-      → IsRewritable (absolute 3 (prefixed_operand 2 opcode' k)) section o
-      × IsTrue (is_one_at (plain opcode) section o)
-      → load 8 s operands.got_entry ≡ operands.symbol
-      → IsRelocatedBy got_row operands o section old
-      → IsRelocatedBy unsigned_immediate (absolute_operands o operands) o
-      (rewritten (Some (absolute 3 (prefixed_operand 2 opcode' k))) section o) new
-      → AreReplaced 2 (drop (o - 2) old) (drop (o - 2) new) s
+  pub within_window : Law 2 (plain opcode) (absolute 3 (prefixed_operand 2 opcode' k)) got_row
+      unsigned_immediate operands.symbol
   within_window before there matches holds was is code_old code_new at at' =
       let room = matches.0.starts in
       let inside = matches.0.ends in
@@ -363,17 +315,8 @@ module _ {opcode opcode' k number : ℕ} {op : Operation}
       (ap decode b.is ∙ replaced.plain (code.modrm ∷ b.after))
       (ap decode b'.is ∙ replaced.plain' (x86.modrm_reg_to_rm k code.modrm ∷ b'.after))
 
-  -- with REX, by what the fields come to
-  with_rex_of : (held : ℕ) → held < 2 ^ 64 → IsBefore 3 section o operands s
-      → IsTrue (is_one_at (with_rex rex opcode ∷ []) section o)
-      → load 8 s operands.got_entry ≡ held → (rest rest' : List ℕ) → old ≡ take o section ++ rest
-      → new ≡ take o (rewritten (Some (absolute 3 (prefixed_operand 3 opcode' k))) section o)
-      ++ rest'
-      → sum_64 operands.place (extended (number_of_bytes 4 rest))
-      ≡ sum_64 operands.got_entry (2 ^ 64 - 4)
-      → ((bits : ℕ) → IsSize bits
-      → extended (number_of_bytes 4 rest') % 2 ^ bits ≡ held % 2 ^ bits)
-      → AreReplaced 3 (drop (o - 3) old) (drop (o - 3) new) s
+  -- with REX
+  with_rex_of : LawOfFields 3 (with_rex rex opcode ∷ []) (absolute 3 (prefixed_operand 3 opcode' k))
   with_rex_of held small before there holds rest rest' whole whole' leads value code_old code_new at
       at' =
       let shape = pattern_there (with_rex rex opcode) section o there in
@@ -395,50 +338,16 @@ module _ {opcode opcode' k number : ℕ} {op : Operation}
       (ap decode b'.is
       ∙ after_rex_byte p' (opcode' ∷ x86.modrm_reg_to_rm k m ∷ b'.after) code.is_rex.after)
 
-  pub with_rex_prefix : IsBefore 3 section o operands s
-      → IsTrue (is_one_at (with_rex rex opcode ∷ []) section o)
-      → IsRewritable (absolute 3 (prefixed_operand 3 opcode' k)) section o
-      × IsTrue (is_one_at (with_rex rex opcode ∷ []) section o)
-      → load 8 s operands.got_entry ≡ operands.symbol
-      → IsRelocatedBy got_row operands o section old
-      → IsRelocatedBy signed_immediate (absolute_operands o operands) o
-      (rewritten (Some (absolute 3 (prefixed_operand 3 opcode' k))) section o) new
-      → AreReplaced 3 (drop (o - 3) old) (drop (o - 3) new) s
-  with_rex_prefix before there matches holds was is =
-      with_rex_of operands.symbol before.addresses.symbol before there holds was.rest is.rest
-      was.whole is.whole (entry 3 section o operands s before (drop o section) was.rest was.applied)
-      (λ bits size. long_immediate 3 section o operands s before bits size
-      (drop o (rewritten (Some (absolute 3 (prefixed_operand 3 opcode' k))) section o)) is.rest
-      is.applied)
+  pub with_rex_prefix : Law 3 (with_rex rex opcode ∷ []) (absolute 3 (prefixed_operand 3 opcode' k)) got_row
+      signed_immediate operands.symbol
+  with_rex_prefix = of_symbol 3 (with_rex rex opcode ∷ []) (absolute 3 (prefixed_operand 3 opcode' k)) with_rex_of
 
-  pub of_thread : IsBefore 3 section o operands s
-      → IsTrue (is_one_at (with_rex rex opcode ∷ []) section o)
-      → IsRewritable (absolute 3 (prefixed_operand 3 opcode' k)) section o
-      × IsTrue (is_one_at (with_rex rex opcode ∷ []) section o)
-      → load 8 s operands.got_entry ≡ thread_offset operands
-      → IsRelocatedBy tls_got_row operands o section old
-      → IsRelocatedBy thread_row (absolute_operands o operands) o
-      (rewritten (Some (absolute 3 (prefixed_operand 3 opcode' k))) section o) new
-      → AreReplaced 3 (drop (o - 3) old) (drop (o - 3) new) s
-  of_thread before there matches holds was is =
-      with_rex_of (thread_offset operands) (difference_below operands.symbol operands.tls_base)
-      before there holds was.rest is.rest was.whole is.whole
-      (tls_entry 3 section o operands s before (drop o section) was.rest was.applied)
-      (λ bits size. offset_immediate 3 section o operands s before bits size
-      (drop o (rewritten (Some (absolute 3 (prefixed_operand 3 opcode' k))) section o)) is.rest
-      is.applied)
+  pub of_thread : Law 3 (with_rex rex opcode ∷ []) (absolute 3 (prefixed_operand 3 opcode' k)) tls_got_row
+      thread_row (thread_offset operands)
+  of_thread = of_offset 3 (with_rex rex opcode ∷ []) (absolute 3 (prefixed_operand 3 opcode' k)) with_rex_of
 
-  -- with REX2, by what the fields come to
-  with_rex2_of : (held : ℕ) → held < 2 ^ 64 → IsBefore 4 section o operands s
-      → IsTrue (is_one_at (with_rex2 rex2 opcode ∷ []) section o)
-      → load 8 s operands.got_entry ≡ held → (rest rest' : List ℕ) → old ≡ take o section ++ rest
-      → new ≡ take o (rewritten (Some (absolute 3 (prefixed_operand 4 opcode' k))) section o)
-      ++ rest'
-      → sum_64 operands.place (extended (number_of_bytes 4 rest))
-      ≡ sum_64 operands.got_entry (2 ^ 64 - 4)
-      → ((bits : ℕ) → IsSize bits
-      → extended (number_of_bytes 4 rest') % 2 ^ bits ≡ held % 2 ^ bits)
-      → AreReplaced 4 (drop (o - 4) old) (drop (o - 4) new) s
+  -- with REX2
+  with_rex2_of : LawOfFields 4 (with_rex2 rex2 opcode ∷ []) (absolute 3 (prefixed_operand 4 opcode' k))
   with_rex2_of held small before there holds rest rest' whole whole' leads value code_old code_new
       at at' =
       let shape = pattern_there (with_rex2 rex2 opcode) section o there in
@@ -460,35 +369,10 @@ module _ {opcode opcode' k number : ℕ} {op : Operation}
       (ap decode b'.is
       ∙ after_rex2_byte p' (opcode' ∷ x86.modrm_reg_to_rm k m ∷ b'.after) code.is_rex2.after)
 
-  pub with_rex2_prefix : IsBefore 4 section o operands s
-      → IsTrue (is_one_at (with_rex2 rex2 opcode ∷ []) section o)
-      → IsRewritable (absolute 3 (prefixed_operand 4 opcode' k)) section o
-      × IsTrue (is_one_at (with_rex2 rex2 opcode ∷ []) section o)
-      → load 8 s operands.got_entry ≡ operands.symbol
-      → IsRelocatedBy got_row operands o section old
-      → IsRelocatedBy signed_immediate (absolute_operands o operands) o
-      (rewritten (Some (absolute 3 (prefixed_operand 4 opcode' k))) section o) new
-      → AreReplaced 4 (drop (o - 4) old) (drop (o - 4) new) s
-  with_rex2_prefix before there matches holds was is =
-      with_rex2_of operands.symbol before.addresses.symbol before there holds was.rest is.rest
-      was.whole is.whole (entry 4 section o operands s before (drop o section) was.rest was.applied)
-      (λ bits size. long_immediate 4 section o operands s before bits size
-      (drop o (rewritten (Some (absolute 3 (prefixed_operand 4 opcode' k))) section o)) is.rest
-      is.applied)
+  pub with_rex2_prefix : Law 4 (with_rex2 rex2 opcode ∷ []) (absolute 3 (prefixed_operand 4 opcode' k)) got_row
+      signed_immediate operands.symbol
+  with_rex2_prefix = of_symbol 4 (with_rex2 rex2 opcode ∷ []) (absolute 3 (prefixed_operand 4 opcode' k)) with_rex2_of
 
-  pub of_thread_with_rex2 : IsBefore 4 section o operands s
-      → IsTrue (is_one_at (with_rex2 rex2 opcode ∷ []) section o)
-      → IsRewritable (absolute 3 (prefixed_operand 4 opcode' k)) section o
-      × IsTrue (is_one_at (with_rex2 rex2 opcode ∷ []) section o)
-      → load 8 s operands.got_entry ≡ thread_offset operands
-      → IsRelocatedBy tls_got_row operands o section old
-      → IsRelocatedBy thread_row (absolute_operands o operands) o
-      (rewritten (Some (absolute 3 (prefixed_operand 4 opcode' k))) section o) new
-      → AreReplaced 4 (drop (o - 4) old) (drop (o - 4) new) s
-  of_thread_with_rex2 before there matches holds was is =
-      with_rex2_of (thread_offset operands) (difference_below operands.symbol operands.tls_base)
-      before there holds was.rest is.rest was.whole is.whole
-      (tls_entry 4 section o operands s before (drop o section) was.rest was.applied)
-      (λ bits size. offset_immediate 4 section o operands s before bits size
-      (drop o (rewritten (Some (absolute 3 (prefixed_operand 4 opcode' k))) section o)) is.rest
-      is.applied)
+  pub of_thread_with_rex2 : Law 4 (with_rex2 rex2 opcode ∷ []) (absolute 3 (prefixed_operand 4 opcode' k)) tls_got_row
+      thread_row (thread_offset operands)
+  of_thread_with_rex2 = of_offset 4 (with_rex2 rex2 opcode ∷ []) (absolute 3 (prefixed_operand 4 opcode' k)) with_rex2_of

@@ -36,15 +36,20 @@ abbrev pub PageAndOffset : Step → AArch64Relocation → AArch64Instruction →
 PageAndOffset high low f unit target =
     Law (high ∷ row_anywhere low ∷ []) (page_and_offset f unit) target
 
--- a page, with ADD and with loads and stores of 1 to 16 bytes
+-- ADD, and loads and stores of 1 to 16 bytes
+abbrev pub OfSizes : (AArch64Relocation → AArch64Instruction → ℕ → Type 0)
+    → (add n1 n2 n4 n8 n16 : AArch64Relocation) → Type 0
+OfSizes Holds add n1 n2 n4 n8 n16 =
+    Holds add Add 1 × Holds n1 LdSt 1 × Holds n2 LdSt 2 × Holds n4 LdSt 4 × Holds n8 LdSt 8
+    × Holds n16 LdSt 16
+
+-- a page with them
 abbrev pub OfPage : Step → Type 0
 OfPage high =
-    PageAndOffset high names.R_AARCH64_ADD_ABS_LO12_NC Add 1 symbol_address
-    × PageAndOffset high names.R_AARCH64_LDST8_ABS_LO12_NC LdSt 1 symbol_address
-    × PageAndOffset high names.R_AARCH64_LDST16_ABS_LO12_NC LdSt 2 symbol_address
-    × PageAndOffset high names.R_AARCH64_LDST32_ABS_LO12_NC LdSt 4 symbol_address
-    × PageAndOffset high names.R_AARCH64_LDST64_ABS_LO12_NC LdSt 8 symbol_address
-    × PageAndOffset high names.R_AARCH64_LDST128_ABS_LO12_NC LdSt 16 symbol_address
+    OfSizes (λ low f unit. PageAndOffset high low f unit symbol_address)
+    names.R_AARCH64_ADD_ABS_LO12_NC names.R_AARCH64_LDST8_ABS_LO12_NC
+    names.R_AARCH64_LDST16_ABS_LO12_NC names.R_AARCH64_LDST32_ABS_LO12_NC
+    names.R_AARCH64_LDST64_ABS_LO12_NC names.R_AARCH64_LDST128_ABS_LO12_NC
 
 -- The value of the second page, which nothing else checks, is a number of 33 bits.
 abbrev pub RelativeAddresses : Type 0
@@ -84,43 +89,23 @@ Offset name f unit =
 
 abbrev pub ThreadAddresses : Type 0
 ThreadAddresses =
-    HighAndLow names.R_AARCH64_TLSLE_ADD_TPREL_HI12 names.R_AARCH64_TLSLE_ADD_TPREL_LO12_NC Add 1
-    × HighAndLow names.R_AARCH64_TLSLE_ADD_TPREL_HI12 names.R_AARCH64_TLSLE_LDST8_TPREL_LO12_NC
-    LdSt 1
-    × HighAndLow names.R_AARCH64_TLSLE_ADD_TPREL_HI12 names.R_AARCH64_TLSLE_LDST16_TPREL_LO12_NC
-    LdSt 2
-    × HighAndLow names.R_AARCH64_TLSLE_ADD_TPREL_HI12 names.R_AARCH64_TLSLE_LDST32_TPREL_LO12_NC
-    LdSt 4
-    × HighAndLow names.R_AARCH64_TLSLE_ADD_TPREL_HI12 names.R_AARCH64_TLSLE_LDST64_TPREL_LO12_NC
-    LdSt 8
-    × HighAndLow names.R_AARCH64_TLSLE_ADD_TPREL_HI12 names.R_AARCH64_TLSLE_LDST128_TPREL_LO12_NC
-    LdSt 16
-    × Offset names.R_AARCH64_TLSLE_ADD_TPREL_LO12 Add 1
-    × Offset names.R_AARCH64_TLSLE_LDST8_TPREL_LO12 LdSt 1
-    × Offset names.R_AARCH64_TLSLE_LDST16_TPREL_LO12 LdSt 2
-    × Offset names.R_AARCH64_TLSLE_LDST32_TPREL_LO12 LdSt 4
-    × Offset names.R_AARCH64_TLSLE_LDST64_TPREL_LO12 LdSt 8
-    × Offset names.R_AARCH64_TLSLE_LDST128_TPREL_LO12 LdSt 16
+    OfSizes (HighAndLow names.R_AARCH64_TLSLE_ADD_TPREL_HI12)
+    names.R_AARCH64_TLSLE_ADD_TPREL_LO12_NC names.R_AARCH64_TLSLE_LDST8_TPREL_LO12_NC
+    names.R_AARCH64_TLSLE_LDST16_TPREL_LO12_NC names.R_AARCH64_TLSLE_LDST32_TPREL_LO12_NC
+    names.R_AARCH64_TLSLE_LDST64_TPREL_LO12_NC names.R_AARCH64_TLSLE_LDST128_TPREL_LO12_NC
+    × OfSizes Offset names.R_AARCH64_TLSLE_ADD_TPREL_LO12 names.R_AARCH64_TLSLE_LDST8_TPREL_LO12
+    names.R_AARCH64_TLSLE_LDST16_TPREL_LO12 names.R_AARCH64_TLSLE_LDST32_TPREL_LO12
+    names.R_AARCH64_TLSLE_LDST64_TPREL_LO12 names.R_AARCH64_TLSLE_LDST128_TPREL_LO12
 
 abbrev pub ModuleAddresses : Type 0
 ModuleAddresses =
-    HighAndLow names.R_AARCH64_TLSLD_ADD_DTPREL_HI12 names.R_AARCH64_TLSLD_ADD_DTPREL_LO12_NC Add 1
-    × HighAndLow names.R_AARCH64_TLSLD_ADD_DTPREL_HI12 names.R_AARCH64_TLSLD_LDST8_DTPREL_LO12_NC
-    LdSt 1
-    × HighAndLow names.R_AARCH64_TLSLD_ADD_DTPREL_HI12 names.R_AARCH64_TLSLD_LDST16_DTPREL_LO12_NC
-    LdSt 2
-    × HighAndLow names.R_AARCH64_TLSLD_ADD_DTPREL_HI12 names.R_AARCH64_TLSLD_LDST32_DTPREL_LO12_NC
-    LdSt 4
-    × HighAndLow names.R_AARCH64_TLSLD_ADD_DTPREL_HI12 names.R_AARCH64_TLSLD_LDST64_DTPREL_LO12_NC
-    LdSt 8
-    × HighAndLow names.R_AARCH64_TLSLD_ADD_DTPREL_HI12
-    names.R_AARCH64_TLSLD_LDST128_DTPREL_LO12_NC LdSt 16
-    × Offset names.R_AARCH64_TLSLD_ADD_DTPREL_LO12 Add 1
-    × Offset names.R_AARCH64_TLSLD_LDST8_DTPREL_LO12 LdSt 1
-    × Offset names.R_AARCH64_TLSLD_LDST16_DTPREL_LO12 LdSt 2
-    × Offset names.R_AARCH64_TLSLD_LDST32_DTPREL_LO12 LdSt 4
-    × Offset names.R_AARCH64_TLSLD_LDST64_DTPREL_LO12 LdSt 8
-    × Offset names.R_AARCH64_TLSLD_LDST128_DTPREL_LO12 LdSt 16
+    OfSizes (HighAndLow names.R_AARCH64_TLSLD_ADD_DTPREL_HI12)
+    names.R_AARCH64_TLSLD_ADD_DTPREL_LO12_NC names.R_AARCH64_TLSLD_LDST8_DTPREL_LO12_NC
+    names.R_AARCH64_TLSLD_LDST16_DTPREL_LO12_NC names.R_AARCH64_TLSLD_LDST32_DTPREL_LO12_NC
+    names.R_AARCH64_TLSLD_LDST64_DTPREL_LO12_NC names.R_AARCH64_TLSLD_LDST128_DTPREL_LO12_NC
+    × OfSizes Offset names.R_AARCH64_TLSLD_ADD_DTPREL_LO12 names.R_AARCH64_TLSLD_LDST8_DTPREL_LO12
+    names.R_AARCH64_TLSLD_LDST16_DTPREL_LO12 names.R_AARCH64_TLSLD_LDST32_DTPREL_LO12
+    names.R_AARCH64_TLSLD_LDST64_DTPREL_LO12 names.R_AARCH64_TLSLD_LDST128_DTPREL_LO12
 
 -- ---- one instruction ("ADR", "LDR (literal)", "B", "BL", "B.cond", "CBZ", "TBZ")
 

@@ -1,126 +1,95 @@
 -- The laws of PowerPC64.
 use Rattle.std.proofs.Common.{◌≡◌, refl, ap, arith, Some}
-use Rattle.linker_laws.proofs.Imports.{w64, cast_signed, sum_64, difference_64, D, Ds, Operands}
+use Rattle.linker_laws.proofs.Imports.{w64, cast_signed, sum_64, difference_64, Operands}
 use Rattle.linker_laws.specs.Schemes.{symbol_address, got_base, tls_base, place, AreAddresses, plt_address, entry_address}
 use Rattle.linker_laws.proofs.Fields.{holds_distance}
 use Rattle.linker_laws.proofs.Instructions.{adds, symbol_from_place, symbol_from_got, symbol_from_tls, symbol_itself, entry_from_place, entry_from_got, entry_sum, place_small, got_small, plt_from_got, plt_from_place, tls_small, same_distance, relative, entry_is}
 use Rattle.linker_laws.proofs.Ppc64Halves.{adjusted_halves, high_half, unadjusted_halves, d_reads, ds_reads}
-use Rattle.linker_laws.proofs.Rounded.{relative_rounds, absolute_rounds, unrounded}
+use Rattle.linker_laws.proofs.Rounded.{relative_rounds, absolute_rounds}
 use Rattle.linker_laws.proofs.Ppc64Quarters.{quarters, quarters_adjusted}
-use Rattle.linker_laws.proofs.Sums.{difference_below, sum_below}
 use Rattle.linker_laws.proofs.relocations.ppc64.Goals as goal
 
 pub returns-clause-absolute : goal.returns-clause-absolute
 returns-clause-absolute c = (
   adjusted_halves symbol_itself (absolute_rounds 0x8000 symbol_address)
-      D d_reads _ refl refl
-      (λ o. refl) (λ o small at. refl),
+      d_reads _ refl refl (λ o. refl) (λ o s a. refl),
   adjusted_halves symbol_itself (absolute_rounds 0x8000 symbol_address)
-      Ds ds_reads _ refl refl
-      (λ o. refl) (λ o small at. refl),
-  unadjusted_halves symbol_itself (unrounded _ (λ o. sum_below _ _)) _ refl refl
-      (λ o. refl) (λ o small at. refl),
+      ds_reads _ refl refl (λ o. refl) (λ o s a. refl),
+  unadjusted_halves symbol_itself _ refl refl (λ o. refl) (λ o s a. refl),
 )
 
 pub returns-clause-relative : goal.returns-clause-relative
 returns-clause-relative c = (
   adjusted_halves symbol_from_place (relative_rounds 0x8000 place symbol_address place_small)
-      D d_reads _ refl refl
-      (λ o. refl) (λ o small at.
+      d_reads _ refl refl (λ o. refl) (λ o small at.
       ap (λ n. Some (cast_signed w64 n)) (same_distance 4 o small (omega arith))),
-  unadjusted_halves symbol_from_place (unrounded _ (λ o. difference_below _ _)) _ refl refl
-      (λ o. refl) (λ o small at.
+  unadjusted_halves symbol_from_place _ refl refl (λ o. refl) (λ o small at.
       ap (λ n. Some (cast_signed w64 n)) (same_distance 4 o small (omega arith))),
 )
 
 pub returns-clause-far : goal.returns-clause-far
 returns-clause-far c = (
-  quarters symbol_itself _ _ _ (λ o small. refl) (λ o small at. refl) (λ o small at. refl)
-      (λ o small at. refl),
-  quarters_adjusted symbol_itself (absolute_rounds 0x8000 symbol_address) D d_reads _ _ _
-      (λ o small. refl) (λ o small at. refl) (λ o small at. refl) (λ o small at. refl),
-  quarters_adjusted symbol_itself (absolute_rounds 0x8000 symbol_address) Ds ds_reads _ _ _
-      (λ o small. refl) (λ o small at. refl) (λ o small at. refl) (λ o small at. refl),
-  quarters symbol_from_tls _ _ _ (λ o small. refl) (λ o small at. refl) (λ o small at. refl)
-      (λ o small at. refl),
-  quarters_adjusted symbol_from_tls (relative_rounds 0x8000 tls_base symbol_address tls_small)
-      D d_reads _ _ _
-      (λ o small. refl) (λ o small at. refl) (λ o small at. refl) (λ o small at. refl),
-  quarters_adjusted symbol_from_tls (relative_rounds 0x8000 tls_base symbol_address tls_small)
-      Ds ds_reads _ _ _
-      (λ o small. refl) (λ o small at. refl) (λ o small at. refl) (λ o small at. refl),
-  quarters symbol_from_tls _ _ _ (λ o small. refl) (λ o small at. refl) (λ o small at. refl)
-      (λ o small at. refl),
-  quarters_adjusted symbol_from_tls (relative_rounds 0x8000 tls_base symbol_address tls_small)
-      D d_reads _ _ _
-      (λ o small. refl) (λ o small at. refl) (λ o small at. refl) (λ o small at. refl),
-  quarters_adjusted symbol_from_tls (relative_rounds 0x8000 tls_base symbol_address tls_small)
-      Ds ds_reads _ _ _
-      (λ o small. refl) (λ o small at. refl) (λ o small at. refl) (λ o small at. refl),
+  quarters symbol_itself _ _ _ (λ o s. refl) (λ o s a. refl) (λ o s a. refl) (λ o s a. refl),
+  quarters_adjusted symbol_itself (absolute_rounds 0x8000 symbol_address) d_reads _ _ _
+      (λ o s. refl) (λ o s a. refl) (λ o s a. refl) (λ o s a. refl),
+  quarters_adjusted symbol_itself (absolute_rounds 0x8000 symbol_address) ds_reads _ _ _
+      (λ o s. refl) (λ o s a. refl) (λ o s a. refl) (λ o s a. refl),
+  quarters symbol_from_tls _ _ _ (λ o s. refl) (λ o s a. refl) (λ o s a. refl) (λ o s a. refl),
+  quarters_adjusted symbol_from_tls (relative_rounds 0x8000 tls_base symbol_address tls_small) d_reads _ _ _
+      (λ o s. refl) (λ o s a. refl) (λ o s a. refl) (λ o s a. refl),
+  quarters_adjusted symbol_from_tls (relative_rounds 0x8000 tls_base symbol_address tls_small) ds_reads _ _ _
+      (λ o s. refl) (λ o s a. refl) (λ o s a. refl) (λ o s a. refl),
+  quarters symbol_from_tls _ _ _ (λ o s. refl) (λ o s a. refl) (λ o s a. refl) (λ o s a. refl),
+  quarters_adjusted symbol_from_tls (relative_rounds 0x8000 tls_base symbol_address tls_small) d_reads _ _ _
+      (λ o s. refl) (λ o s a. refl) (λ o s a. refl) (λ o s a. refl),
+  quarters_adjusted symbol_from_tls (relative_rounds 0x8000 tls_base symbol_address tls_small) ds_reads _ _ _
+      (λ o s. refl) (λ o s a. refl) (λ o s a. refl) (λ o s a. refl),
 )
 
 pub returns-clause-toc : goal.returns-clause-toc
 returns-clause-toc c = (
   adjusted_halves symbol_from_got (relative_rounds 0x8000 got_base symbol_address got_small)
-      D d_reads _ refl refl
-      (λ o. refl) (λ o small at. refl),
+      d_reads _ refl refl (λ o. refl) (λ o s a. refl),
   adjusted_halves symbol_from_got (relative_rounds 0x8000 got_base symbol_address got_small)
-      Ds ds_reads _ refl refl
-      (λ o. refl) (λ o small at. refl),
-  unadjusted_halves symbol_from_got (unrounded _ (λ o. difference_below _ _)) _ refl refl
-      (λ o. refl) (λ o small at. refl),
+      ds_reads _ refl refl (λ o. refl) (λ o s a. refl),
+  unadjusted_halves symbol_from_got _ refl refl (λ o. refl) (λ o s a. refl),
 )
 
 pub returns-clause-entries : goal.returns-clause-entries
 returns-clause-entries c = (
   adjusted_halves entry_from_got (relative_rounds 0x8000 got_base entry_sum got_small)
-      Ds ds_reads _ refl refl
-      (λ o. refl) (λ o small at. refl),
+      ds_reads _ refl refl (λ o. refl) (λ o s a. refl),
   adjusted_halves entry_from_got (relative_rounds 0x8000 got_base entry_sum got_small)
-      D d_reads _ refl refl
-      (λ o. refl) (λ o small at. refl),
+      d_reads _ refl refl (λ o. refl) (λ o s a. refl),
   adjusted_halves entry_from_got (relative_rounds 0x8000 got_base entry_sum got_small)
-      D d_reads _ refl refl
-      (λ o. refl) (λ o small at. refl),
-  unadjusted_halves entry_from_got (unrounded _ (λ o. difference_below _ _)) _ refl refl
-      (λ o. refl) (λ o small at. refl),
-  unadjusted_halves entry_from_got (unrounded _ (λ o. difference_below _ _)) _ refl refl
-      (λ o. refl) (λ o small at. refl),
+      d_reads _ refl refl (λ o. refl) (λ o s a. refl),
+  unadjusted_halves entry_from_got _ refl refl (λ o. refl) (λ o s a. refl),
+  unadjusted_halves entry_from_got _ refl refl (λ o. refl) (λ o s a. refl),
 )
 
 pub returns-clause-got : goal.returns-clause-got
 returns-clause-got c = (
   adjusted_halves entry_from_got (relative_rounds 0x8000 got_base entry_sum got_small)
-      Ds ds_reads _ refl refl
-      (λ o. refl) (λ o small at. refl),
+      ds_reads _ refl refl (λ o. refl) (λ o s a. refl),
   adjusted_halves entry_from_got (relative_rounds 0x8000 got_base entry_sum got_small)
-      D d_reads _ refl refl
-      (λ o. refl) (λ o small at. refl),
-  unadjusted_halves entry_from_got (unrounded _ (λ o. difference_below _ _)) _ refl refl
-      (λ o. refl) (λ o small at. refl),
+      d_reads _ refl refl (λ o. refl) (λ o s a. refl),
+  unadjusted_halves entry_from_got _ refl refl (λ o. refl) (λ o s a. refl),
   adjusted_halves plt_from_got (relative_rounds 0x8000 got_base plt_address got_small)
-      Ds ds_reads _ refl refl
-      (λ o. refl) (λ o small at. refl),
+      ds_reads _ refl refl (λ o. refl) (λ o s a. refl),
 )
 
 pub returns-clause-thread : goal.returns-clause-thread
 returns-clause-thread c = (
   adjusted_halves symbol_from_tls (relative_rounds 0x8000 tls_base symbol_address tls_small)
-      D d_reads _ refl refl
-      (λ o. refl) (λ o small at. refl),
+      d_reads _ refl refl (λ o. refl) (λ o s a. refl),
   adjusted_halves symbol_from_tls (relative_rounds 0x8000 tls_base symbol_address tls_small)
-      Ds ds_reads _ refl refl
-      (λ o. refl) (λ o small at. refl),
+      ds_reads _ refl refl (λ o. refl) (λ o s a. refl),
   adjusted_halves symbol_from_tls (relative_rounds 0x8000 tls_base symbol_address tls_small)
-      D d_reads _ refl refl
-      (λ o. refl) (λ o small at. refl),
+      d_reads _ refl refl (λ o. refl) (λ o s a. refl),
   adjusted_halves symbol_from_tls (relative_rounds 0x8000 tls_base symbol_address tls_small)
-      Ds ds_reads _ refl refl
-      (λ o. refl) (λ o small at. refl),
-  unadjusted_halves symbol_from_tls (unrounded _ (λ o. difference_below _ _)) _ refl refl
-      (λ o. refl) (λ o small at. refl),
-  unadjusted_halves symbol_from_tls (unrounded _ (λ o. difference_below _ _)) _ refl refl
-      (λ o. refl) (λ o small at. refl),
+      ds_reads _ refl refl (λ o. refl) (λ o s a. refl),
+  unadjusted_halves symbol_from_tls _ refl refl (λ o. refl) (λ o s a. refl),
+  unadjusted_halves symbol_from_tls _ refl refl (λ o. refl) (λ o s a. refl),
 )
 
 pub returns-clause-branches : goal.returns-clause-branches
