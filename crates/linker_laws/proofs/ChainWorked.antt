@@ -5,8 +5,8 @@ use Rattle.linker_laws.specs.Simulation.{State, Link, Kinds, AreStored, Agree, r
 use Rattle.linker_laws.specs.Changes.{put, go_to, with_register}
 use Rattle.linker_laws.specs.SimulationWorked.{machine, put_out, with_byte, of_byte, rewritten, packed, chain, all_same, with_entry, IsChainWorked}
 use Rattle.linker_laws.specs.Chains.{of_chain}
-use Rattle.linker_laws.proofs.CoveredRuns.{once, run_first, same_value, composes}
-use Rattle.linker_laws.proofs.Agreement.{agree_put, agree_put_old}
+use Rattle.linker_laws.proofs.CoveredRuns.{run_first, same_value, composes}
+use Rattle.linker_laws.proofs.Agreement.{agree_put, agree_put_old, another, one}
 
 -- ---- the first link
 
@@ -31,11 +31,6 @@ k1 = with_register 1 same k0
 abbrev k2 : Kinds
 k2 = with_register 7 (half 0) k1
 
--- an instruction of new, by the address where old is
-at : (l : Link) (p : ℕ → ℕ) (k : Kinds) (s t : State) → Agree l k s t
-    → machine p t ≡ machine p (go_to (l.moved s.pc) t)
-at l p k s t agree = ap (λ a. machine p (go_to a t)) agree.pc
-
 -- what is put out agrees
 put_out_agrees : (l : Link) (k : Kinds) (s t : State) (x y next next' : ℕ) → Agree l k s t
     → next < 2 ^ 64 → next' ≡ l.moved next → x ≡ y
@@ -51,40 +46,18 @@ put_out_agrees l k s t x y next next' agree small at is =
 
 p1 : Group (of_link rewritten) 1 k0 s0 k1 s1
 p1 =
-    record {
-      more = 0;
-      old_goes = refl;
-      new_goes =
-          λ t agree. once (machine rewritten.new) t (Agree rewritten k1 s1)
-          (subst (λ o. IsSomeAnd o (Agree rewritten k1 s1))
-          (sym (at rewritten rewritten.new k0 s0 t agree))
-          (agree_put rewritten k0 s0 t 1 same 7 7 0x11 0x11 agree (lit< tt) refl refl));
-      forward = λ e. lit< tt;
-    }
+    one rewritten (another rewritten refl (λ t agree.
+    agree_put rewritten k0 s0 t 1 same 7 7 0x11 0x11 agree (lit< tt) refl refl))
 
 p2 : Group (of_link rewritten) 1 k1 s1 k2 s2
 p2 =
-    record {
-      more = 0;
-      old_goes = refl;
-      new_goes =
-          λ t agree. once (machine rewritten.new) t (Agree rewritten k2 s2)
-          (subst (λ o. IsSomeAnd o (Agree rewritten k2 s2))
-          (sym (at rewritten rewritten.new k1 s1 t agree))
-          (agree_put rewritten k1 s1 t 7 (half 0) 0 0x20 0x12 0x12 agree (lit< tt) refl refl));
-      forward = λ e. lit< tt;
-    }
+    one rewritten (another rewritten refl (λ t agree.
+    agree_put rewritten k1 s1 t 7 (half 0) 0 0x20 0x12 0x12 agree (lit< tt) refl refl))
 
 p3 : Other (of_link rewritten) k2 s2 k2 s3
 p3 =
-    record {
-      old_goes = refl;
-      new_goes =
-          λ t agree. subst (λ o. IsSomeAnd o (Agree rewritten k2 s3))
-          (sym (at rewritten rewritten.new k2 s2 t agree))
-          (put_out_agrees rewritten k2 s2 t 7 (t.registers 1) 0x13 0x13 agree (lit< tt) refl
-          (agree.registers 1));
-    }
+    another rewritten refl (λ t agree.
+    put_out_agrees rewritten k2 s2 t 7 (t.registers 1) 0x13 0x13 agree (lit< tt) refl (agree.registers 1))
 
 first : Covered (of_link rewritten) 3 3 k0 s0 k2 s3
 first =
@@ -109,14 +82,9 @@ u3 u = put_out 7 0x13 (u2 u)
 
 o1 : (u : State) → u.pc ≡ 0x10 → Other (of_link packed) all_same u h1 (u1 u)
 o1 u is =
-    record {
-      old_goes = ap (λ a. machine packed.old (go_to a u)) is;
-      new_goes =
-          λ t agree. subst (λ o. IsSomeAnd o (Agree packed h1 (u1 u)))
-          (sym (at packed packed.new all_same u t agree
-          ∙ ap (λ a. machine packed.new (go_to (packed.moved a) t)) is))
-          (agree_put packed all_same u t 1 same 7 7 0x11 0x11 agree (lit< tt) refl refl);
-    }
+    another packed (ap (λ a. machine packed.old (go_to a u)) is) (λ t agree.
+    subst (λ a. IsSomeAnd (machine packed.new (go_to (packed.moved a) t)) (Agree packed h1 (u1 u))) (sym is)
+    (agree_put packed all_same u t 1 same 7 7 0x11 0x11 agree (lit< tt) refl refl))
 
 o2 : (u : State) → Group (of_link packed) 0 h1 (u1 u) h2 (u2 u)
 o2 u =
@@ -131,14 +99,8 @@ o2 u =
 
 o3 : (u : State) → Other (of_link packed) h2 (u2 u) h2 (u3 u)
 o3 u =
-    record {
-      old_goes = refl;
-      new_goes =
-          λ t agree. subst (λ o. IsSomeAnd o (Agree packed h2 (u3 u)))
-          (sym (at packed packed.new h2 (u2 u) t agree))
-          (put_out_agrees packed h2 (u2 u) t 7 (t.registers 1) 0x13 0x12 agree (lit< tt) refl
-          (agree.registers 1));
-    }
+    another packed refl (λ t agree.
+    put_out_agrees packed h2 (u2 u) t 7 (t.registers 1) 0x13 0x12 agree (lit< tt) refl (agree.registers 1))
 
 second : (u u' : State) → Agree rewritten k0 s0 u → run 3 (machine packed.old) u ≡ Some u'
     → Agree rewritten k2 s3 u' → Covered (of_link packed) 3 2 all_same u h2 u'

@@ -5,12 +5,13 @@ use Rattle.linker_base.specs.Form.{place_sum}
 use Rattle.linker_elf.specs.declared.loongarch64.relocations.LoongArch64Relocation.TheVariants as names
 use Rattle.linker_laws.specs.Changes.{put, with_register}
 use Rattle.linker_laws.specs.LoongArchGroups.{Groups, NewHas, executed, link, machine, seen}
-use Rattle.linker_laws.specs.LoongArchGroupsWorked.{EndsAt, IsWorked, code, is_entry, known, moved, new, old, starting, words}
+use Rattle.linker_laws.specs.LoongArchGroupsWorked.{EndsAt, IsWorked, code, moved, new, old, starting}
 use Rattle.linker_laws.specs.LoongArchMachine.{step}
 use Rattle.linker_laws.specs.LoongArchRewriteLaws.{IsRelocated, following}
 use Rattle.linker_laws.specs.Machine.{loaded}
 use Rattle.linker_laws.specs.Simulation.{Agree, Group, Kinds, State, anything, ends, group, half, of_link, run, same}
-use Rattle.linker_laws.proofs.Relocated.{addresses as small, relocated}
+use Rattle.linker_laws.specs.SimulationWorked.{all_same, words}
+use Rattle.linker_laws.proofs.Relocated.{nothing, small, applied}
 
 -- ---- operands
 
@@ -51,42 +52,33 @@ new_low = operands 0x54344 0x10008
 -- ---- relocations
 
 pcala_is : IsRelocated names.R_LARCH_PCALA_HI20 pair (0x04 ∷ 0x00 ∷ 0x00 ∷ 0x1a ∷ []) (0x64 ∷ 0x00 ∷ 0x00 ∷ 0x1a ∷ [])
-pcala_is =
-    relocated _ _ _ (pos 0x3000) 0x1a000004 refl refl (lit≤ tt) (refl, tt, λ e. refl) (tt, lit< tt, tt) refl refl
+pcala_is = applied (pos 0x3000) 0x1a000004 refl (refl, tt, λ e. refl) refl (lit< tt) tt refl refl
 
 addi_is : IsRelocated names.R_LARCH_PCALA_LO12 (following 4 pair) (0x84 ∷ 0x00 ∷ 0xc0 ∷ 0x02 ∷ [])
     (0x84 ∷ 0x80 ∷ 0xc4 ∷ 0x02 ∷ [])
-addi_is =
-    relocated _ _ _ (pos 0x13120) 0x02c00084 refl refl (lit≤ tt) (refl, tt, λ e. refl) (tt, lit< tt, tt) refl refl
+addi_is = applied (pos 0x13120) 0x02c00084 refl (refl, tt, λ e. refl) refl (lit< tt) tt refl refl
 
 pcaddi_is : IsRelocated names.R_LARCH_PCREL20_S2 pair (0x04 ∷ 0x00 ∷ 0x00 ∷ 0x18 ∷ []) (0x04 ∷ 0x89 ∷ 0x01 ∷ 0x18 ∷ [])
-pcaddi_is =
-    relocated _ _ _ (pos 0x3120) 0x18000004 refl refl (lit≤ tt) (refl, tt, λ e. refl)
-    ((omega (arith, ints), omega (arith, ints)), lit< tt, tt) refl refl
+pcaddi_is = applied (pos 0x3120) 0x18000004 refl (refl, tt, λ e. refl) refl (lit< tt) tt refl refl
 
 short_is : IsRelocated names.R_LARCH_TLS_LE_HI20_R short (0x05 ∷ 0x00 ∷ 0x00 ∷ 0x14 ∷ []) (0x05 ∷ 0x00 ∷ 0x00 ∷ 0x14 ∷ [])
-short_is =
-    relocated _ _ _ (pos 0x920) 0x14000005 refl refl (lit≤ tt) (refl, tt, λ e. refl) (tt, lit< tt, tt) refl refl
+short_is = applied (pos 0x920) 0x14000005 refl (refl, tt, λ e. refl) refl (lit< tt) tt refl refl
 
 page_is : IsRelocated names.R_LARCH_TLS_IE_PC_HI20 high (0x06 ∷ 0x00 ∷ 0x00 ∷ 0x1a ∷ []) (0x46 ∷ 0x00 ∷ 0x00 ∷ 0x1a ∷ [])
-page_is =
-    relocated _ _ _ (pos 0x2000) 0x1a000006 refl refl (lit≤ tt) (refl, tt, λ e. refl) (tt, lit< tt, tt) refl refl
+page_is = applied (pos 0x2000) 0x1a000006 refl (refl, tt, λ e. refl) refl (lit< tt) tt refl refl
 
 offset_is : IsRelocated names.R_LARCH_TLS_LE_HI20 new_high (0x06 ∷ 0x00 ∷ 0x00 ∷ 0x14 ∷ []) (0x86 ∷ 0x0a ∷ 0x00 ∷ 0x14 ∷ [])
-offset_is =
-    relocated _ _ _ (pos 0x54344) 0x14000006 refl refl (lit≤ tt) (refl, tt, λ e. refl) (tt, lit< tt, tt) refl refl
+offset_is = applied (pos 0x54344) 0x14000006 refl (refl, tt, λ e. refl) refl (lit< tt) tt refl refl
 
 load_is : IsRelocated names.R_LARCH_TLS_IE_PC_LO12 low (0xc7 ∷ 0x00 ∷ 0xc0 ∷ 0x28 ∷ []) (0xc7 ∷ 0x40 ∷ 0xc0 ∷ 0x28 ∷ [])
-load_is =
-    relocated _ _ _ (pos 0x12010) 0x28c000c7 refl refl (lit≤ tt) (refl, tt, λ e. refl) (tt, lit< tt, tt) refl refl
+load_is = applied (pos 0x12010) 0x28c000c7 refl (refl, tt, λ e. refl) refl (lit< tt) tt refl refl
 
 ori_is : IsRelocated names.R_LARCH_TLS_LE_LO12 new_low (0xc7 ∷ 0x00 ∷ 0x80 ∷ 0x03 ∷ []) (0xc7 ∷ 0x10 ∷ 0x8d ∷ 0x03 ∷ [])
-ori_is =
-    relocated _ _ _ (pos 0x54344) 0x038000c7 refl refl (lit≤ tt) (refl, tt, λ e. refl) (tt, lit< tt, tt) refl refl
+ori_is = applied (pos 0x54344) 0x038000c7 refl (refl, tt, λ e. refl) refl (lit< tt) tt refl refl
 
 -- ---- runs
 
-starts : Agree (link code) known starting starting
+starts : Agree (link code) all_same starting starting
 starts =
     record {
       small = lit< tt;
@@ -96,17 +88,12 @@ starts =
       outside = refl;
     }
   where
-    nothing : (a : ℕ) → a < 0x12010 → starting.memory a ≡ 0
-    nothing a below =
-        let none : is_entry a ≡ false = grind (arith, below) in
-        cond-false (is_entry a) _ 0 none
-
     by : (a : ℕ) (b : Bool) → nat_lt a 0x10018 ≡ b → starting.memory a ≡ starting.memory (moved a)
     by a true e =
         let below = ltb-true a 0x10018 e in
-        nothing a (omega arith)
+        nothing 0x12010 0x54344 a (omega arith)
         ∙ sym (ap starting.memory (cond-true _ (a - min 8 (a - 0x10004)) a e)
-        ∙ nothing (a - min 8 (a - 0x10004)) (omega arith))
+        ∙ nothing 0x12010 0x54344 (a - min 8 (a - 0x10004)) (omega arith))
     by a false e = sym (ap starting.memory (cond-false _ (a - min 8 (a - 0x10004)) a e))
 
 abbrev s1 : State
@@ -122,7 +109,7 @@ abbrev s4 : State
 s4 = put 7 0x54344 0x10014 s3
 
 abbrev k1 : Kinds
-k1 = with_register 4 same known
+k1 = with_register 4 same all_same
 
 abbrev k2 : Kinds
 k2 = with_register 5 anything k1
@@ -133,9 +120,9 @@ k3 = with_register 6 (half 0) k2
 abbrev k4 : Kinds
 k4 = with_register 7 same k3
 
-p1 : Groups → Group (of_link (link code)) 1 known starting k1 s1
+p1 : Groups → Group (of_link (link code)) 1 all_same starting k1 s1
 p1 g =
-    g.address code pair pair known starting (0x04 ∷ 0x00 ∷ 0x00 ∷ 0x1a ∷ []) (0x84 ∷ 0x00 ∷ 0xc0 ∷ 0x02 ∷ [])
+    g.address code pair pair all_same starting (0x04 ∷ 0x00 ∷ 0x00 ∷ 0x1a ∷ []) (0x84 ∷ 0x00 ∷ 0xc0 ∷ 0x02 ∷ [])
     (0x04 ∷ 0x00 ∷ 0x00 ∷ 0x18 ∷ [])
     (record {
       one_register = record {
@@ -146,28 +133,25 @@ p1 g =
       second_is = refl;
     })
     (record {
-      small = small pair (lit< tt) (lit< tt) (lit< tt) (lit< tt) (lit< tt) (lit< tt);
+      small = small pair refl;
       fits = (omega (arith, ints), omega (arith, ints));
       high = record { relocated = 0x64 ∷ 0x00 ∷ 0x00 ∷ 0x1a ∷ []; applied = pcala_is; stands = refl };
       low = record { relocated = 0x84 ∷ 0x80 ∷ 0xc4 ∷ 0x02 ∷ []; applied = addi_is; stands = refl };
     })
-    refl (small pair (lit< tt) (lit< tt) (lit< tt) (lit< tt) (lit< tt) (lit< tt))
-    (record { relocated = 0x04 ∷ 0x89 ∷ 0x01 ∷ 0x18 ∷ []; applied = pcaddi_is; stands = refl })
+    refl (small pair refl) (record { relocated = 0x04 ∷ 0x89 ∷ 0x01 ∷ 0x18 ∷ []; applied = pcaddi_is; stands = refl })
     same (record { at = refl; place = refl; next = refl }) refl
 
 p2 : Groups → Group (of_link (link code)) 0 k1 s1 k2 s2
 p2 g =
     g.high_offsets code short k1 s1 (0x05 ∷ 0x00 ∷ 0x00 ∷ 0x14 ∷ []) (record { small = lit< tt; moved = refl })
-    (small short (lit< tt) (lit< tt) (lit< tt) (lit< tt) (lit< tt) (lit< tt)) refl refl
-    (omega (arith, ints), omega (arith, ints))
+    (small short refl) refl refl (omega (arith, ints), omega (arith, ints))
     (record { relocated = 0x05 ∷ 0x00 ∷ 0x00 ∷ 0x14 ∷ []; applied = short_is; stands = refl })
 
 p3 : Groups → Group (of_link (link code)) 1 k2 s2 k3 s3
 p3 g =
     g.high_halves high new_high (0x06 ∷ 0x00 ∷ 0x00 ∷ 0x1a ∷ []) (0x06 ∷ 0x00 ∷ 0x00 ∷ 0x14 ∷ [])
     (0x86 ∷ 0x0a ∷ 0x00 ∷ 0x14 ∷ []) refl refl offset_is code 0 k2 s2
-    (small high (lit< tt) (lit< tt) (lit< tt) (lit< tt) (lit< tt) (lit< tt))
-    (record { at = refl; place = refl; next = refl }) (refl, refl)
+    (small high refl) (record { at = refl; place = refl; next = refl }) (refl, refl)
     (omega (arith, ints), omega (arith, ints)) (omega (arith, ints), omega (arith, ints))
     (record { relocated = 0x46 ∷ 0x00 ∷ 0x00 ∷ 0x1a ∷ []; applied = page_is; stands = refl }) refl
 
@@ -175,8 +159,7 @@ p4 : Groups → Group (of_link (link code)) 1 k3 s3 k4 s4
 p4 g =
     g.low_halves low new_low (0xc7 ∷ 0x00 ∷ 0xc0 ∷ 0x28 ∷ []) (0xc7 ∷ 0x00 ∷ 0x80 ∷ 0x03 ∷ [])
     (0xc7 ∷ 0x10 ∷ 0x8d ∷ 0x03 ∷ []) refl refl ori_is code k3 s3
-    (small low (lit< tt) (lit< tt) (lit< tt) (lit< tt) (lit< tt) (lit< tt))
-    (record { at = refl; place = refl; next = refl }) refl refl refl has
+    (small low refl) (record { at = refl; place = refl; next = refl }) refl refl refl has
     (record { relocated = 0xc7 ∷ 0x40 ∷ 0xc0 ∷ 0x28 ∷ []; applied = load_is; stands = refl }) refl
   where
     second : (a b : Bool) → (a && b) ≡ true → b ≡ true

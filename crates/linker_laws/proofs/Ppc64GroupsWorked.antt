@@ -1,16 +1,16 @@
 -- The worked program of PowerPC64.
 use Rattle.std.proofs.Common.{◌≡◌, ℕ, ◌^◌, ◌<◌, Bool, true, false, refl, sym, subst, ap, [], ◌∷◌, lit<, lit≤, pos, List, arith, eqb-true, true≢false}
-use Rattle.linker_laws.proofs.Imports.{◌&&◌, ◌==◌, IsSomeAnd, ints, Operands, D, Ds, is_add_of_thread, is_addi}
+use Rattle.linker_laws.proofs.Imports.{and_parts, ◌==◌, IsSomeAnd, Operands, D, Ds, is_add_of_thread, is_addi}
 use Rattle.linker_base.specs.Form.{place_sum}
 use Rattle.linker_elf.specs.declared.ppc64.relocations.Ppc64Relocation.TheVariants as names
 use Rattle.linker_laws.specs.Changes.{put, with_register}
 use Rattle.linker_laws.specs.Ppc64Groups.{Groups, Leaves, Low, NewLeads, execute, high_part, instruction_at, link, machine, used}
-use Rattle.linker_laws.specs.Ppc64GroupsWorked.{IsWorked, code, known, new, old, starting}
-use Rattle.linker_laws.specs.LoongArchGroupsWorked.{words}
+use Rattle.linker_laws.specs.Ppc64GroupsWorked.{IsWorked, code, new, old, starting}
+use Rattle.linker_laws.specs.SimulationWorked.{all_same, words}
 use Rattle.linker_laws.specs.Ppc64RewriteLaws.{IsRelocated, LowHalfLeads, adds, entry_from_toc, from_thread, from_toc}
 use Rattle.linker_laws.specs.Schemes.{AreAddresses}
 use Rattle.linker_laws.specs.Simulation.{Agree, Group, Kinds, State, anything, ends, group, half, of_link, run, same}
-use Rattle.linker_laws.proofs.Relocated.{relocated}
+use Rattle.linker_laws.proofs.Relocated.{applied}
 use Rattle.linker_laws.proofs.Ppc64Groups.{sum_keeps}
 
 -- ---- operands
@@ -84,40 +84,29 @@ abbrev nop : List ℕ
 nop = 0x00 ∷ 0x00 ∷ 0x00 ∷ 0x60 ∷ []
 
 addis_is : IsRelocated names.R_PPC64_TOC16_HA near addis addis
-addis_is =
-    relocated _ _ _ (pos 0x8120) 0x3c620000 refl refl (lit≤ tt) (refl, tt, λ e. refl)
-    ((omega (arith, ints), omega (arith, ints)), lit< tt, tt) refl refl
+addis_is = applied (pos 0x8120) 0x3c620000 refl (refl, tt, λ e. refl) refl (lit< tt) tt refl refl
 
 addi_is : IsRelocated names.R_PPC64_TOC16_LO near addi (0x20 ∷ 0x01 ∷ 0x63 ∷ 0x38 ∷ [])
-addi_is =
-    relocated _ _ _ (pos 0x120) 0x38630000 refl refl (lit≤ tt) (refl, tt, λ e. refl) (tt, lit< tt, tt) refl refl
+addi_is = applied (pos 0x120) 0x38630000 refl (refl, tt, λ e. refl) refl (lit< tt) tt refl refl
 
 over_is : IsRelocated names.R_PPC64_TOC16 near over (0x20 ∷ 0x01 ∷ 0x62 ∷ 0x38 ∷ [])
-over_is =
-    relocated _ _ _ (pos 0x120) 0x38620000 refl refl (lit≤ tt) (refl, tt, λ e. refl)
-    ((omega (arith, ints), omega (arith, ints)), lit< tt, tt) refl refl
+over_is = applied (pos 0x120) 0x38620000 refl (refl, tt, λ e. refl) refl (lit< tt) tt refl refl
 
 high_is : IsRelocated names.R_PPC64_GOT_TPREL16_HA variable high high
-high_is =
-    relocated _ _ _ (pos 0x8010) 0x3c820000 refl refl (lit≤ tt) (refl, tt, λ e. refl)
-    ((omega (arith, ints), omega (arith, ints)), lit< tt, tt) refl refl
+high_is = applied (pos 0x8010) 0x3c820000 refl (refl, tt, λ e. refl) refl (lit< tt) tt refl refl
 
 load_is : IsRelocated names.R_PPC64_GOT_TPREL16_LO_DS variable load load_of
-load_is =
-    relocated _ _ _ (pos 0x10) 0xe8840000 refl refl (lit≤ tt) (refl, (λ e. refl), λ e. refl) (tt, lit< tt, tt) refl refl
+load_is = applied (pos 0x10) 0xe8840000 refl (refl, (λ e. refl), λ e. refl) refl (lit< tt) tt refl refl
 
 high_13_is : IsRelocated names.R_PPC64_TPREL16_HA variable high_13 high_13_of
-high_13_is =
-    relocated _ _ _ (pos 0x5c344) 0x3c8d0000 refl refl (lit≤ tt) (refl, tt, λ e. refl)
-    ((omega (arith, ints), omega (arith, ints)), lit< tt, tt) refl refl
+high_13_is = applied (pos 0x5c344) 0x3c8d0000 refl (refl, tt, λ e. refl) refl (lit< tt) tt refl refl
 
 direct_is : IsRelocated names.R_PPC64_TPREL16_LO variable direct (0x44 ∷ 0x43 ∷ 0xa4 ∷ 0x38 ∷ [])
-direct_is =
-    relocated _ _ _ (pos 0x54344) 0x38a40000 refl refl (lit≤ tt) (refl, tt, λ e. refl) (tt, lit< tt, tt) refl refl
+direct_is = applied (pos 0x54344) 0x38a40000 refl (refl, tt, λ e. refl) refl (lit< tt) tt refl refl
 
 -- ---- runs
 
-starts : Agree (link code) known starting starting
+starts : Agree (link code) all_same starting starting
 starts =
     record {
       small = lit< tt;
@@ -143,7 +132,7 @@ abbrev s5 : State
 s5 = used code.processor (adds is_add_of_thread) 0x7ca46a14 0x54351 s4
 
 abbrev k1 : Kinds
-k1 = with_register 3 anything known
+k1 = with_register 3 anything all_same
 
 abbrev k2 : Kinds
 k2 = with_register 3 same k1
@@ -171,17 +160,13 @@ new_end : IsSomeAnd (run 5 (machine code.processor (words new)) starting)
 unfolding place_sum
 new_end = (refl, refl, refl)
 
-second : (a b : Bool) → (a && b) ≡ true → b ≡ true
-second true b e = e
-second false b e = absurd (true≢false (sym e))
-
 module _ (g : Groups) where
   -- near the TOC pointer
   toc : (Low names.R_PPC64_TOC16_LO D from_toc near (high_part addis starting) (starting.registers 2)
       × Low names.R_PPC64_TOC16_LO_DS Ds from_toc near (high_part addis starting) (starting.registers 2))
-      × Leaves 4 code known starting 3 anything (high_part addis starting)
+      × Leaves 4 code all_same starting 3 anything (high_part addis starting)
   toc =
-      g.high_halves.0 addis nop refl refl code near known starting (small 0x20120 (lit< tt))
+      g.high_halves.0 addis nop refl refl code near all_same starting (small 0x20120 (lit< tt))
       (record { relocated = addis; applied = addis_is; stands = (refl, tt) }) (refl, tt)
 
   p2 : Group (of_link (link code)) 1 k1 s1 k2 s2
@@ -209,7 +194,7 @@ module _ (g : Groups) where
   leads : NewLeads code variable k4 s4 4
   leads t agree =
       subst (λ n. LowHalfLeads variable n (from_thread variable 13))
-      (sym (eqb-true (t.registers 4) 0x5000d (second true (t.registers 4 == 0x5000d) (agree.registers 4)))) offset.0
+      (sym (eqb-true (t.registers 4) 0x5000d (and_parts true (t.registers 4 == 0x5000d) (agree.registers 4)).1)) offset.0
 
   p5 : Group (of_link (link code)) 1 k4 s4 k5 s5
   p5 =

@@ -1,12 +1,16 @@
 -- Relocations of a program that is given: by computation, what they write is what their rows say.
-use Rattle.std.proofs.Common.{◌≡◌, ◌≢◌, ℕ, zero, suc, ◌-◌, ◌^◌, ◌<◌, ◌≤◌, Bool, true, false, refl, sym, ◌∙◌, Option, int_lt, length, ℤ, subst, arith, drop, Some, ◌*◌, List, [], ◌∷◌, pos, true≢false, eqb-true, inl, inr, ltb-true, leb, leb-true, leb-false}
-use Rattle.linker_laws.proofs.Imports.{◌==◌, ◌&&◌, ◌||◌, ◌⊎◌, bit_at, eq-eqb, All-nil, All-cons, BitsWritten, ImmediateBit, bit_for, is_placed, placed_bit, window_of, IsApplied, relocation_form, InstructionWritten, bits_taken, places_cleared, with_bit_31_if, value_of, AllowedRange, BitRange, PageMask, RelocationInstruction, RelocationKind, Operands}
-use Rattle.std.specs.Prelude.{All, nat_lt}
+use Rattle.std.proofs.Common.{◌≡◌, ◌≢◌, ℕ, zero, suc, ◌+◌, ◌-◌, ◌^◌, ◌<◌, ◌≤◌, Bool, true, false, refl, sym, ◌∙◌, Option, None, int_lt, length, ℤ, subst, arith, drop, Some, ◌*◌, List, [], ◌∷◌, pos, true≢false, eqb-true, inl, inr, ltb-true, leb, leb-true, leb-false}
+use Rattle.linker_laws.proofs.Imports.{and_parts, cond-false, ◌==◌, ◌&&◌, ◌||◌, ◌⊎◌, bit_at, eq-eqb, All-nil, All-cons, BitsWritten, ImmediateBit, bit_for, is_placed, placed_bit, window_of, IsApplied, IsWithin, reach_of, relocation_form, InstructionWritten, bits_taken, places_cleared, with_bit_31_if, value_of, AllowedRange, BitRange, PageMask, RelocationInstruction, RelocationKind, RelocationKindInfo, Operands}
+use Rattle.std.specs.Prelude.{All, nat_le, nat_lt}
 use Rattle.std.specs.Int.{byte_len}
 use Rattle.std.proofs.lemmas.Nat.Bits.{bit_at_above}
-use Rattle.linker_elf.specs.Relocate.{IsMultiple, IsReached, bits_at, insn_at, is_32_bit_move, is_supported, number_placed, value_at, window_len}
+use Rattle.linker_elf.specs.Relocate.{HoldsBits, IsAccepted, IsEncoded, IsMultiple, IsReached, bits_at, insn_at, is_32_bit_move, is_supported, number_placed, value_at, window_len}
+use Rattle.linker_elf.proofs.Agreement.{le_yes}
+use Rattle.std.proofs.lemmas.Float.{T_from_true}
+use Rattle.std.specs.Int.Signed.{le_z, lt_z, lt_z_yes}
 use Rattle.linker_laws.proofs.Instructions.{row_of}
 use Rattle.linker_laws.specs.Schemes.{AreAddresses}
+use Rattle.linker_laws.specs.SimulationWorked.{entry}
 
 -- ---- bits that are written, by computation
 
@@ -21,14 +25,6 @@ is_kept_below zero ps before after = true
 is_kept_below (suc n) ps before after =
     (is_placed ps n || bit_at after n == bit_at before n) && is_kept_below n ps before after
 
-first_of_both : (a b : Bool) → (a && b) ≡ true → a ≡ true
-first_of_both true b e = refl
-first_of_both false b e = e
-
-second_of_both : (a b : Bool) → (a && b) ≡ true → b ≡ true
-second_of_both true b e = e
-second_of_both false b e = absurd (true≢false (sym e))
-
 other_of : (a b : Bool) → (a || b) ≡ true → a ≡ false → b ≡ true
 other_of true b e f = absurd (true≢false f)
 other_of false b e f = e
@@ -40,8 +36,8 @@ written_at [] v before after e = All-nil _
 written_at (p ∷ ps) v before after e =
     All-cons (λ (p : ImmediateBit). bit_at after p.insn_bit
     ≡ placed_bit p.mark (bit_for p v) (bit_at before p.insn_bit)) p ps
-    (eqb-true _ _ (first_of_both _ (is_written_at ps v before after) e))
-    (written_at ps v before after (second_of_both _ (is_written_at ps v before after) e))
+    (eqb-true _ _ (and_parts _ (is_written_at ps v before after) e).0)
+    (written_at ps v before after (and_parts _ (is_written_at ps v before after) e).1)
 
 kept_below : (n : ℕ) (ps : List ImmediateBit) (before after : ℕ)
     → is_kept_below n ps before after ≡ true → (w : ℕ) → w < n → is_placed ps w ≡ false
@@ -49,13 +45,13 @@ kept_below : (n : ℕ) (ps : List ImmediateBit) (before after : ℕ)
 kept_below zero ps before after e w below out = omega arith
 kept_below (suc n) ps before after e w below out =
     by (w == n) refl
-    (kept_below n ps before after (second_of_both _ (is_kept_below n ps before after) e) w)
+    (kept_below n ps before after (and_parts _ (is_kept_below n ps before after) e).1 w)
   where
     here : w ≡ n → bit_at after w ≡ bit_at before w
     here is =
         subst (λ w. bit_at after w ≡ bit_at before w) (sym is)
         (eqb-true _ _ (other_of (is_placed ps n) (bit_at after n == bit_at before n)
-        (first_of_both _ (is_kept_below n ps before after) e)
+        (and_parts _ (is_kept_below n ps before after) e).0
         (subst (λ w. is_placed ps w ≡ false) is out)))
 
     by : (b : Bool) → (w == n) ≡ b
@@ -95,13 +91,13 @@ bits_are_written n ps v before after =
 bits_by : (n : ℕ) (ps : List ImmediateBit) (v before after : ℕ)
     → bits_are_written n ps v before after ≡ true → BitsWritten ps v before after
 bits_by n ps v before after e =
-    let placed = first_of_both (is_written_at ps v before after) _ e in
-    let more = second_of_both (is_written_at ps v before after) _ e in
-    let kept = first_of_both (is_kept_below n ps before after) _ more in
-    let small = second_of_both (is_kept_below n ps before after) _ more in
+    let placed = (and_parts (is_written_at ps v before after) _ e).0 in
+    let more = (and_parts (is_written_at ps v before after) _ e).1 in
+    let kept = (and_parts (is_kept_below n ps before after) _ more).0 in
+    let small = (and_parts (is_kept_below n ps before after) _ more).1 in
     bits_written n ps v before after placed kept
-    (leb-true (suc before) (2 ^ n) (first_of_both (leb (suc before) (2 ^ n)) _ small))
-    (leb-true (suc after) (2 ^ n) (second_of_both (leb (suc before) (2 ^ n)) _ small))
+    (leb-true (suc before) (2 ^ n) (and_parts (leb (suc before) (2 ^ n)) _ small).0)
+    (leb-true (suc after) (2 ^ n) (and_parts (leb (suc before) (2 ^ n)) _ small).1)
 
 abbrev is_written_by : RelocationInstruction → BitRange → ℤ → ℕ → List ℕ → List ℕ → Bool
 is_written_by insn bits v clear before after =
@@ -124,8 +120,8 @@ written_by insn bits v clear before after e rest =
     let cleared = bits_are_written (8 * byte_len form.window) (places_cleared insn bits word) 0 word clear in
     record {
       clear = clear;
-      clears = bits_by _ _ _ _ _ (first_of_both cleared _ e);
-      written = bits_by _ _ _ _ _ (second_of_both cleared _ e);
+      clears = bits_by _ _ _ _ _ (and_parts cleared _ e).0;
+      written = bits_by _ _ _ _ _ (and_parts cleared _ e).1;
       rest = rest;
     }
 
@@ -157,6 +153,55 @@ relocated o before after v clear is supported long aligned reached e rest =
       written = written_by _ _ _ clear before after e rest;
     }
 
+abbrev is_within : Option (ℤ × ℤ) → ℤ → Bool
+is_within None v = true
+is_within (Some b) v = le_z b.0 v && lt_z v b.1
+
+within_by : (b : Option (ℤ × ℤ)) (v : ℤ) → is_within b v ≡ true → IsWithin b v
+within_by None v e = tt
+within_by (Some b) v e =
+    (le_yes b.0 v (and_parts (le_z b.0 v) _ e).0, lt_z_yes (T_from_true (lt_z v b.1) (and_parts (le_z b.0 v) _ e).1))
+
+-- the tests that say so of a given value
+abbrev pub is_accepted : RelocationKindInfo → ℤ → List ℕ → Bool
+is_accepted row v bytes =
+    is_supported row && (leb (window_len row) (length bytes) && is_within (reach_of row) v)
+
+pub accepted_by : (row : RelocationKindInfo) (v : ℤ) (bytes : List ℕ) → IsMultiple row v bytes
+    → is_accepted row v bytes ≡ true → HoldsBits row.size v bytes → IsEncoded row.size v
+    → IsAccepted row v bytes
+accepted_by row v bytes aligned e holds encoded =
+    let more = (and_parts (is_supported row) _ e).1 in
+    let short = leb (window_len row) (length bytes) in
+    record {
+      supported = (and_parts (is_supported row) _ e).0;
+      long = leb-true (window_len row) (length bytes) (and_parts short _ more).0;
+      aligned = aligned;
+      reached = (within_by (reach_of row) v (and_parts short _ more).1, holds, encoded);
+    }
+
+-- the same by fewer steps, where the numbers are given
+pub applied : {kind : RelocationKind} {start end : ℕ} {insn : RelocationInstruction}
+    {mask : Option PageMask} {range : AllowedRange} {a : ℕ} {bias : Option ℕ}
+    {thunkable implicit : Bool} {o : Operands} {before after : List ℕ} (v : ℤ) (clear : ℕ)
+    → let row = row_of kind start end insn mask range a bias thunkable implicit in
+    let word = window_of (relocation_form insn) before in
+    let bits : BitRange = record { start = start; end = end } in
+    value_of row o ≡ Some v → IsMultiple row v before → is_accepted row v before ≡ true
+    → HoldsBits row.size v before → IsEncoded row.size v
+    → is_written_by (insn_at insn bits word) (bits_at insn kind bits word) (value_at insn kind v word)
+    clear before after ≡ true
+    → drop (byte_len (relocation_form (insn_at insn bits word)).window) after
+    ≡ drop (byte_len (relocation_form (insn_at insn bits word)).window) before
+    → IsApplied row o before after
+applied {before = before} {after = after} v clear is aligned e holds encoded written rest =
+    record {
+      value = v;
+      value_is = is;
+      accepted = accepted_by _ v before aligned e holds encoded;
+      written = written_by _ _ _ clear before after written rest;
+    }
+
 -- ---- bytes and addresses
 
 abbrev pub all_small : List ℕ → Bool
@@ -167,10 +212,39 @@ pub are_bytes : (bytes : List ℕ) → all_small bytes ≡ true → All (λ b. b
 are_bytes [] e = All-nil _
 are_bytes (b ∷ bytes) e =
     All-cons (λ b. b < 2 ^ 8) b bytes
-    (ltb-true b 256 (first_of_both (nat_lt b 256) (all_small bytes) e))
-    (are_bytes bytes (second_of_both (nat_lt b 256) (all_small bytes) e))
+    (ltb-true b 256 (and_parts (nat_lt b 256) (all_small bytes) e).0)
+    (are_bytes bytes (and_parts (nat_lt b 256) (all_small bytes) e).1)
 
 pub addresses : (o : Operands) → o.symbol < 2 ^ 64 → o.place < 2 ^ 64 → o.got_entry < 2 ^ 64
     → o.got_base < 2 ^ 64 → o.plt_entry < 2 ^ 64 → o.tls_base < 2 ^ 64 → AreAddresses o
 addresses o a b c d e f =
     record { symbol = a; place = b; got_entry = c; got_base = d; plt_entry = e; tls_base = f }
+
+pub small : (o : Operands)
+    → (nat_lt o.symbol (2 ^ 64) && (nat_lt o.place (2 ^ 64) && (nat_lt o.got_entry (2 ^ 64)
+    && (nat_lt o.got_base (2 ^ 64) && (nat_lt o.plt_entry (2 ^ 64) && nat_lt o.tls_base (2 ^ 64)))))) ≡ true
+    → AreAddresses o
+small o e =
+    let e2 = (and_parts (nat_lt o.symbol (2 ^ 64)) _ e).1 in
+    let e3 = (and_parts (nat_lt o.place (2 ^ 64)) _ e2).1 in
+    let e4 = (and_parts (nat_lt o.got_entry (2 ^ 64)) _ e3).1 in
+    let e5 = (and_parts (nat_lt o.got_base (2 ^ 64)) _ e4).1 in
+    record {
+      symbol = below o.symbol _ e;
+      place = below o.place _ e2;
+      got_entry = below o.got_entry _ e3;
+      got_base = below o.got_base _ e4;
+      plt_entry = below o.plt_entry _ e5;
+      tls_base = ltb-true o.tls_base (2 ^ 64) (and_parts (nat_lt o.plt_entry (2 ^ 64)) _ e5).1;
+    }
+  where
+    below : (n : ℕ) (b : Bool) → (nat_lt n (2 ^ 64) && b) ≡ true → n < 2 ^ 64
+    below n b e = ltb-true n (2 ^ 64) (and_parts (nat_lt n (2 ^ 64)) b e).0
+
+-- ---- memory
+
+-- nothing is below an entry
+pub nothing : (first number a : ℕ) → a < first → entry first number a ≡ 0
+nothing first number a below =
+    let none : (nat_le first a && nat_lt a (first + 8)) ≡ false = grind (arith, below) in
+    cond-false (nat_le first a && nat_lt a (first + 8)) _ 0 none

@@ -8,12 +8,13 @@ use Rattle.linker_laws.specs.Changes.{put, with_register}
 use Rattle.linker_laws.specs.Machine.{moved as plus}
 use Rattle.linker_laws.specs.RiscVGroups.{Groups, Has, Stands, continued, instruction_at, link, machine, HasRoom, left, of_place, seen, uses, with_stored}
 use Rattle.linker_laws.specs.RiscVGroups.AreUsed.{as_stored, as_sum}
-use Rattle.linker_laws.specs.RiscVGroupsWorked.{EndsAt, IsWorked, code, is_entry, known, moved, new, old, others, starting, words}
+use Rattle.linker_laws.specs.RiscVGroupsWorked.{EndsAt, IsWorked, code, moved, new, old, others, starting}
 use Rattle.linker_laws.specs.RiscVMachine.{adds, goes_to, stores, step, with_integer}
 use Rattle.linker_laws.specs.RiscVRewriteLaws.{after_rewrite, of_entry}
 use Rattle.linker_laws.specs.Simulation.{Agree, Group, Kinds, Other, State, anything, ends, group, of_link, other, run, same}
 use Rattle.linker_utils.specs.declared.riscv64.rewrites.RewriteKind.TheVariants as kinds
-use Rattle.linker_laws.proofs.Relocated.{addresses as small, all_small, are_bytes, relocated}
+use Rattle.linker_laws.specs.SimulationWorked.{all_same, words}
+use Rattle.linker_laws.proofs.Relocated.{nothing, small, all_small, are_bytes, applied}
 use Rattle.linker_laws.proofs.Agreement.{agree_put}
 use Rattle.linker_laws.proofs.RiscVGroups.{wrote}
 
@@ -79,8 +80,7 @@ lui_has : Has 4 (words old) 0x10000 (riscv_row names.R_RISCV_HI20) high lui
 unfolding place_sum
 lui_has =
     has _ _ _ _ _ lui lui
-    (relocated _ _ _ (pos 0x120) 0x7b7 refl refl (lit≤ tt) (refl, tt, λ e. refl)
-    ((omega (arith, ints), omega (arith, ints)), lit< tt, tt) refl refl) refl refl refl refl
+    (applied (pos 0x120) 0x7b7 refl (refl, tt, λ e. refl) refl (lit< tt) tt refl refl) refl refl refl refl
 
 abbrev addi : List ℕ
 addi = 0x13 ∷ 0x85 ∷ 0x07 ∷ 0x00 ∷ []
@@ -89,16 +89,14 @@ addi_has : Has 4 (words old) 0x10004 (riscv_row names.R_RISCV_LO12_I) low addi
 unfolding place_sum
 addi_has =
     has _ _ _ _ _ addi (0x13 ∷ 0x85 ∷ 0x07 ∷ 0x12 ∷ [])
-    (relocated _ _ _ (pos 0x120) 0x78513 refl refl (lit≤ tt) (refl, tt, λ e. refl)
-    ((omega (arith, ints), omega (arith, ints)), lit< tt, tt) refl refl) refl refl refl refl
+    (applied (pos 0x120) 0x78513 refl (refl, tt, λ e. refl) refl (lit< tt) tt refl refl) refl refl refl refl
 
 made_has : Has 4 (words new) 0x10000 (riscv_row names.R_RISCV_LO12_I) high
     (after_rewrite kinds.Lo12Rs1ToZero addi 0)
 unfolding place_sum
 made_has =
     has _ _ _ _ _ (0x13 ∷ 0x05 ∷ 0x00 ∷ 0x00 ∷ []) (0x13 ∷ 0x05 ∷ 0x00 ∷ 0x12 ∷ [])
-    (relocated _ _ _ (pos 0x120) 0x513 refl refl (lit≤ tt) (refl, tt, λ e. refl)
-    ((omega (arith, ints), omega (arith, ints)), lit< tt, tt) refl refl) refl refl refl refl
+    (applied (pos 0x120) 0x513 refl (refl, tt, λ e. refl) refl (lit< tt) tt refl refl) refl refl refl refl
 
 abbrev kept : Operands
 kept = operands 0x128 0x10008
@@ -113,16 +111,14 @@ sd_has : Has 4 (words old) 0x10008 (riscv_row names.R_RISCV_LO12_S) kept sd
 unfolding place_sum
 sd_has =
     has _ _ _ _ _ sd (0x23 ∷ 0xb4 ∷ 0xa7 ∷ 0x12 ∷ [])
-    (relocated _ _ _ (pos 0x128) 0xa7b023 refl refl (lit≤ tt) (refl, tt, λ e. refl)
-    ((omega (arith, ints), omega (arith, ints)), lit< tt, tt) refl refl) refl refl refl refl
+    (applied (pos 0x128) 0xa7b023 refl (refl, tt, λ e. refl) refl (lit< tt) tt refl refl) refl refl refl refl
 
 sd_made : Has 4 (words new) 0x10004 (riscv_row names.R_RISCV_LO12_S) kept_after
     (after_rewrite kinds.Lo12Rs1ToZero sd 0)
 unfolding place_sum
 sd_made =
     has _ _ _ _ _ (0x23 ∷ 0x30 ∷ 0xa0 ∷ 0x00 ∷ []) (0x23 ∷ 0x34 ∷ 0xa0 ∷ 0x12 ∷ [])
-    (relocated _ _ _ (pos 0x128) 0xa03023 refl refl (lit≤ tt) (refl, tt, λ e. refl)
-    ((omega (arith, ints), omega (arith, ints)), lit< tt, tt) refl refl) refl refl refl refl
+    (applied (pos 0x128) 0xa03023 refl (refl, tt, λ e. refl) refl (lit< tt) tt refl refl) refl refl refl refl
 
 abbrev auipc : List ℕ
 auipc = 0x97 ∷ 0x05 ∷ 0x00 ∷ 0x00 ∷ []
@@ -134,30 +130,26 @@ entry_has : Has 4 (words old) 0x1000c (riscv_row names.R_RISCV_GOT_HI20) load au
 unfolding place_sum
 entry_has =
     has _ _ _ _ _ auipc (0x97 ∷ 0x25 ∷ 0x00 ∷ 0x00 ∷ [])
-    (relocated _ _ _ (pos 0x2004) 0x597 refl refl (lit≤ tt) (refl, tt, λ e. refl)
-    ((omega (arith, ints), omega (arith, ints)), lit< tt, tt) refl refl) refl refl refl refl
+    (applied (pos 0x2004) 0x597 refl (refl, tt, λ e. refl) refl (lit< tt) tt refl refl) refl refl refl refl
 
 ld_has : Has 4 (words old) 0x10010 (riscv_row names.R_RISCV_PCREL_LO12_I) (of_entry load) ld
 unfolding place_sum
 ld_has =
     has _ _ _ _ _ ld (0x83 ∷ 0xb5 ∷ 0x45 ∷ 0x00 ∷ [])
-    (relocated _ _ _ (pos 0x2004) 0x5b583 refl refl (lit≤ tt) (refl, tt, λ e. refl)
-    ((omega (arith, ints), omega (arith, ints)), lit< tt, tt) refl refl) refl refl refl refl
+    (applied (pos 0x2004) 0x5b583 refl (refl, tt, λ e. refl) refl (lit< tt) tt refl refl) refl refl refl refl
 
 near_has : Has 4 (words new) 0x10008 (riscv_row names.R_RISCV_PCREL_HI20) sum_at auipc
 unfolding place_sum
 near_has =
     has _ _ _ _ _ auipc (0x97 ∷ 0x35 ∷ 0x00 ∷ 0x00 ∷ [])
-    (relocated _ _ _ (pos 0x2ff8) 0x597 refl refl (lit≤ tt) (refl, tt, λ e. refl)
-    ((omega (arith, ints), omega (arith, ints)), lit< tt, tt) refl refl) refl refl refl refl
+    (applied (pos 0x2ff8) 0x597 refl (refl, tt, λ e. refl) refl (lit< tt) tt refl refl) refl refl refl refl
 
 rest_has : Has 4 (words new) 0x1000c (riscv_row names.R_RISCV_PCREL_LO12_I) sum_at
     (after_rewrite kinds.LdToAddi ld 0)
 unfolding place_sum
 rest_has =
     has _ _ _ _ _ (0x93 ∷ 0x85 ∷ 0x05 ∷ 0x00 ∷ []) (0x93 ∷ 0x85 ∷ 0x85 ∷ 0xff ∷ [])
-    (relocated _ _ _ (pos 0x2ff8) 0x58593 refl refl (lit≤ tt) (refl, tt, λ e. refl)
-    ((omega (arith, ints), omega (arith, ints)), lit< tt, tt) refl refl) refl refl refl refl
+    (applied (pos 0x2ff8) 0x58593 refl (refl, tt, λ e. refl) refl (lit< tt) tt refl refl) refl refl refl refl
 
 abbrev call : List ℕ
 call = 0x97 ∷ 0x00 ∷ 0x00 ∷ 0x00 ∷ 0xe7 ∷ 0x80 ∷ 0x00 ∷ 0x00 ∷ []
@@ -166,8 +158,7 @@ call_has : Has 8 (words old) 0x10014 (riscv_row names.R_RISCV_CALL_PLT) calling 
 unfolding place_sum
 call_has =
     has _ _ _ _ _ call (0x97 ∷ 0x00 ∷ 0x00 ∷ 0x00 ∷ 0xe7 ∷ 0x80 ∷ 0xc0 ∷ 0x00 ∷ [])
-    (relocated _ _ _ (pos 0xc) 0x80e700000097 refl refl (lit≤ tt) (refl, tt, λ e. refl)
-    ((omega (arith, ints), omega (arith, ints)), lit< tt, tt) refl refl) refl refl refl refl
+    (applied (pos 0xc) 0x80e700000097 refl (refl, tt, λ e. refl) refl (lit< tt) tt refl refl) refl refl refl refl
 
 jump_has : Has 4 (words new) 0x10010 (riscv_row names.R_RISCV_JAL) jumping
     (after_rewrite kinds.CallToJal call 0)
@@ -175,15 +166,14 @@ unfolding place_sum
 jump_has =
     has _ _ _ _ _ (0xef ∷ 0x00 ∷ 0x00 ∷ 0x00 ∷ 0xe7 ∷ 0x80 ∷ 0x00 ∷ 0x00 ∷ [])
     (0xef ∷ 0x00 ∷ 0x80 ∷ 0x00 ∷ 0xe7 ∷ 0x80 ∷ 0x00 ∷ 0x00 ∷ [])
-    (relocated _ _ _ (pos 0x8) 0xef refl refl (lit≤ tt) (refl, tt, λ e. refl)
-    ((omega (arith, ints), omega (arith, ints)), lit< tt, tt) refl refl) refl refl refl refl
+    (applied (pos 0x8) 0xef refl (refl, tt, λ e. refl) refl (lit< tt) tt refl refl) refl refl refl refl
 
 -- ---- runs
 
 abbrev shorter : ℕ → ℕ
 shorter a = (a - min 4 (a - 0x10000)) - min 4 (a - 0x10018)
 
-starts : Agree (link code) known starting starting
+starts : Agree (link code) all_same starting starting
 starts =
     record {
       small = lit< tt;
@@ -193,16 +183,11 @@ starts =
       outside = refl;
     }
   where
-    nothing : (a : ℕ) → a < 0x12010 → starting.memory a ≡ 0
-    nothing a below =
-        let none : is_entry a ≡ false = grind (arith, below) in
-        cond-false (is_entry a) _ 0 none
-
     by : (a : ℕ) (b : Bool) → nat_lt a 0x10028 ≡ b → starting.memory a ≡ starting.memory (moved a)
     by a true e =
         let below = ltb-true a 0x10028 e in
-        nothing a (omega arith)
-        ∙ sym (ap starting.memory (cond-true _ (shorter a) a e) ∙ nothing (shorter a) (omega arith))
+        nothing 0x12010 0x13000 a (omega arith)
+        ∙ sym (ap starting.memory (cond-true _ (shorter a) a e) ∙ nothing 0x12010 0x13000 (shorter a) (omega arith))
     by a false e = sym (ap starting.memory (cond-false _ (shorter a) a e))
 
 abbrev s1 : State
@@ -224,7 +209,7 @@ abbrev s6 : State
 s6 = put 0 0x10024 0x1001c s5
 
 abbrev k1 : Kinds
-k1 = with_register 15 anything known
+k1 = with_register 15 anything all_same
 
 abbrev k2 : Kinds
 k2 = with_register 10 same k1
@@ -241,9 +226,9 @@ k5 = with_register 1 (of_place 0x1001c) (with_register 1 anything k4)
 abbrev k6 : Kinds
 k6 = with_register 0 anything k5
 
-p1 : Groups → Group (of_link (link code)) 0 known starting k1 s1
+p1 : Groups → Group (of_link (link code)) 0 all_same starting k1 s1
 p1 g =
-    g.no_high_parts code high known starting lui (record { small = lit< tt; moved = refl }) (lit≤ tt, refl)
+    g.no_high_parts code high all_same starting lui (record { small = lit< tt; moved = refl }) (lit≤ tt, refl)
     refl (omega (arith, ints), omega (arith, ints)) lui_has
 
 p2 : Groups → Group (of_link (link code)) 1 k1 s1 k2 s2
@@ -283,9 +268,7 @@ p3 g =
 p4 : Groups → Group (of_link (link code)) 2 k3 s3 k4 s4
 unfolding place_sum entry_has has
 p4 g =
-    g.got code load sum_at k3 same s3 auipc ld
-    (small load (lit< tt) (lit< tt) (lit< tt) (lit< tt) (lit< tt) (lit< tt))
-    (small sum_at (lit< tt) (lit< tt) (lit< tt) (lit< tt) (lit< tt) (lit< tt))
+    g.got code load sum_at k3 same s3 auipc ld (small load refl) (small sum_at refl)
     (record { at = refl; small = lit< tt; place = refl; next = refl }) (lit≤ tt)
     (record { first = refl; second = (refl, refl); base = refl; not_zero = λ e. omega arith })
     refl refl entry_has ld_has near_has rest_has
@@ -293,9 +276,7 @@ p4 g =
 p5 : Groups → Group (of_link (link code)) 1 k4 s4 k5 s5
 unfolding place_sum call_has has
 p5 g =
-    g.calls.1 code calling jumping k4 s4 call (after_rewrite kinds.CallToJal call 0)
-    (small calling (lit< tt) (lit< tt) (lit< tt) (lit< tt) (lit< tt) (lit< tt))
-    (small jumping (lit< tt) (lit< tt) (lit< tt) (lit< tt) (lit< tt) (lit< tt))
+    g.calls.1 code calling jumping k4 s4 call (after_rewrite kinds.CallToJal call 0) (small calling refl) (small jumping refl)
     (record { at = refl; small = lit< tt; place = refl; next = refl }) refl
     (record { auipc_opcode = refl; jalr_opcode = refl; jalr_function = refl; base = refl }) (λ e. omega arith) refl
     call_has jump_has

@@ -7,7 +7,7 @@ use Rattle.linker_laws.specs.Simulation.{State, Kind, Kinds, AreOf, AreStored, A
 use Rattle.linker_laws.specs.SimulationWorked.{IsWorked, machine, link, first_old, first_new, put_byte, put_out, with_byte, case_less_base, first_known, of_byte, new_address}
 use Rattle.linker_laws.specs.Changes.{put, go_to, with_register}
 use Rattle.linker_laws.proofs.CoveredRuns.{once}
-use Rattle.linker_laws.proofs.Agreement.{agree_put, agree_put_old, agree_go}
+use Rattle.linker_laws.proofs.Agreement.{agree_put, agree_put_old, agree_go, another, one}
 
 -- ---- memory of bytes
 
@@ -205,57 +205,31 @@ at s t k agree = ap (λ a. machine link.new (go_to a t)) agree.pc
 
 p1 : Group (of_link link) 1 first_known first_old k1 s1
 p1 =
-    record {
-      more = 0;
-      old_goes = refl;
-      new_goes =
-          λ t agree. once (machine link.new) t (Agree link k1 s1) (subst (λ o. IsSomeAnd o (Agree link k1 s1)) (sym (at first_old t first_known agree))
-          (agree_put link first_known first_old t 1 same 7 7 0x11 0x11 agree (lit< tt) refl refl));
-      forward = λ e. lit< tt;
-    }
+    one link (another link refl (λ t agree.
+    agree_put link first_known first_old t 1 same 7 7 0x11 0x11 agree (lit< tt) refl refl))
 
 p2 : Group (of_link link) 1 k1 s1 k2 s2
 p2 =
-    record {
-      more = 0;
-      old_goes = refl;
-      new_goes =
-          λ t agree. once (machine link.new) t (Agree link k2 s2) (subst (λ o. IsSomeAnd o (Agree link k2 s2)) (sym (at s1 t k1 agree))
-          (agree_put link k1 s1 t 2 (half 0) 0x30 0x20 0x12 0x12 agree (lit< tt) refl refl));
-      forward = λ e. lit< tt;
-    }
+    one link (another link refl (λ t agree.
+    agree_put link k1 s1 t 2 (half 0) 0x30 0x20 0x12 0x12 agree (lit< tt) refl refl))
 
 p3 : Other (of_link link) k2 s2 k3 s3
 p3 =
-    record {
-      old_goes = refl;
-      new_goes =
-          λ t agree. subst (λ o. IsSomeAnd o (Agree link k3 s3)) (sym (at s2 t k2 agree))
-          (agree_byte k2 s2 t (half 0) 0x30 (t.registers 2) 0x13 0x13 agree (lit< tt) refl
-          (λ a. are_bytes (a == 0xf0) (a == 0xf3)) (ap (λ y. y % 0x100 == 0x20) (eqb-true (t.registers 2) 0x20 (agree.registers 2))));
-    }
+    another link refl (λ t agree.
+    agree_byte k2 s2 t (half 0) 0x30 (t.registers 2) 0x13 0x13 agree (lit< tt) refl
+    (λ a. are_bytes (a == 0xf0) (a == 0xf3)) (ap (λ y. y % 0x100 == 0x20) (eqb-true (t.registers 2) 0x20 (agree.registers 2))))
 
 p4 : Other (of_link link) k3 s3 k4 s4
 p4 =
-    record {
-      old_goes = refl;
-      new_goes =
-          λ t agree. subst (λ o. IsSomeAnd o (Agree link k4 s4)) (sym (at s3 t k3 agree))
-          (agree_put link k3 s3 t 3 (half 0) 0x30 (t.memory 0xf8) 0x14 0x14 agree (lit< tt) refl
-          (subst (λ y. AreOf link 8 (half 0) 0x30 y) (add-zero (t.memory 0xf8)) (agree.memory 0xf8 (lit< tt))));
-    }
+    another link refl (λ t agree.
+    agree_put link k3 s3 t 3 (half 0) 0x30 (t.memory 0xf8) 0x14 0x14 agree (lit< tt) refl
+    (subst (λ y. AreOf link 8 (half 0) 0x30 y) (add-zero (t.memory 0xf8)) (agree.memory 0xf8 (lit< tt))))
 
 p5 : Group (of_link link) 1 k4 s4 k5 s5
 p5 =
-    record {
-      more = 0;
-      old_goes = refl;
-      new_goes =
-          λ t agree. once (machine link.new) t (Agree link k5 s5) (subst (λ o. IsSomeAnd o (Agree link k5 s5)) (sym (at s4 t k4 agree))
-          (agree_put link k4 s4 t 4 same 0x35 (t.registers 3 + 0x15) 0x15 0x15 agree (lit< tt) refl
-          (sym (ap (λ y. y + 0x15) (eqb-true (t.registers 3) 0x20 (agree.registers 3))))));
-      forward = λ e. lit< tt;
-    }
+    one link (another link refl (λ t agree.
+    agree_put link k4 s4 t 4 same 0x35 (t.registers 3 + 0x15) 0x15 0x15 agree (lit< tt) refl
+    (sym (ap (λ y. y + 0x15) (eqb-true (t.registers 3) 0x20 (agree.registers 3))))))
 
 p6 : Group (of_link link) 0 k5 s5 k6 s6
 p6 =
@@ -269,14 +243,8 @@ p6 =
 
 p7 : Group (of_link link) 1 k6 s6 k7 s7
 p7 =
-    record {
-      more = 0;
-      old_goes = refl;
-      new_goes =
-          λ t agree. once (machine link.new) t (Agree link k7 s7) (subst (λ o. IsSomeAnd o (Agree link k7 s7)) (sym (at s6 t k6 agree))
-          (agree_put link k6 s6 t 8 same 3 3 0x17 0x16 agree (lit< tt) refl refl));
-      forward = λ e. lit< tt;
-    }
+    one link (another link refl (λ t agree.
+    agree_put link k6 s6 t 8 same 3 3 0x17 0x16 agree (lit< tt) refl refl))
 
 p8 : Group (of_link link) 1 k7 s7 k8 s8
 p8 =
@@ -296,23 +264,15 @@ p8 =
 
 p9 : Other (of_link link) k8 s8 k9 s9
 p9 =
-    record {
-      old_goes = refl;
-      new_goes = λ t agree.
-          subst (λ o. IsSomeAnd o (Agree link k9 s9)) (sym (at s8 t k8 agree))
-          (agree_put link k8 s8 t 9 (address 0x24) 0x24 0x21 0x21 0x1e agree (lit< tt) refl
-          (refl, refl));
-    }
+    another link refl (λ t agree.
+    agree_put link k8 s8 t 9 (address 0x24) 0x24 0x21 0x21 0x1e agree (lit< tt) refl
+    (refl, refl))
 
 p10 : Other (of_link link) k9 s9 k10 s10
 p10 =
-    record {
-      old_goes = refl;
-      new_goes = λ t agree.
-          subst (λ o. IsSomeAnd o (Agree link k10 s10)) (sym (at s9 t k9 agree))
-          (agree_put link k9 s9 t 9 same 0x55 (t.memory (t.registers 9)) 0x22 0x1f agree (lit< tt)
-          refl (loads t agree));
-    }
+    another link refl (λ t agree.
+    agree_put link k9 s9 t 9 same 0x55 (t.memory (t.registers 9)) 0x22 0x1f agree (lit< tt)
+    refl (loads t agree))
   where
     loads : (t : State) → Agree link k9 s9 t → 0x55 ≡ t.memory (t.registers 9)
     loads t agree =
@@ -321,82 +281,54 @@ p10 =
 
 p11 : Other (of_link link) k10 s10 k11 s11
 p11 =
-    record {
-      old_goes = refl;
-      new_goes = λ t agree.
-          subst (λ o. IsSomeAnd o (Agree link k11 s11)) (sym (at s10 t k10 agree))
-          (agree_put link k10 s10 t 4 same 0x8a (t.registers 4 + t.registers 9) 0x23 0x20 agree
-          (lit< tt) refl (ap₂ (λ x y. x + y) (agree.registers 4) (agree.registers 9)));
-    }
+    another link refl (λ t agree.
+    agree_put link k10 s10 t 4 same 0x8a (t.registers 4 + t.registers 9) 0x23 0x20 agree
+    (lit< tt) refl (ap₂ (λ x y. x + y) (agree.registers 4) (agree.registers 9)))
 
 p12 : Other (of_link link) k11 s11 k11 s12
 p12 =
-    record {
-      old_goes = refl;
-      new_goes = λ t agree.
-          subst (λ o. IsSomeAnd o (Agree link k11 s12)) (sym (at s11 t k11 agree))
-          (agree_go link k11 s11 t 0x19 (t.registers 6) agree (lit< tt)
-          (sym (ap unsigned_abs (agree.registers 6).1)));
-    }
+    another link refl (λ t agree.
+    agree_go link k11 s11 t 0x19 (t.registers 6) agree (lit< tt)
+    (sym (ap unsigned_abs (agree.registers 6).1)))
 
 p13 : Other (of_link link) k11 s12 k13 s13
 p13 =
-    record {
-      old_goes = refl;
-      new_goes = λ t agree.
-          subst (λ o. IsSomeAnd o (Agree link k13 s13)) (sym (at s12 t k11 agree))
-          (agree_put link k11 s12 t 4 same 0x91 (t.registers 4 + t.registers 1) 0x1a 0x18 agree
-          (lit< tt) refl (ap₂ (λ x y. x + y) (agree.registers 4) (agree.registers 1)));
-    }
+    another link refl (λ t agree.
+    agree_put link k11 s12 t 4 same 0x91 (t.registers 4 + t.registers 1) 0x1a 0x18 agree
+    (lit< tt) refl (ap₂ (λ x y. x + y) (agree.registers 4) (agree.registers 1)))
 
 p14 : Other (of_link link) k13 s13 k14 s14
 p14 =
-    record {
-      old_goes = refl;
-      new_goes = λ t agree.
-          subst (λ o. IsSomeAnd o (Agree link k14 s14)) (sym (at s13 t k13 agree))
-          (agree_put link k13 s13 t 9 case_less_base 5 (t.memory 0xf3) 0x1b 0x19 agree (lit< tt)
-          refl (refl, (agree.memory 0xf3 (lit< tt)).1 ∙ ap pos (add-zero (t.memory 0xf3))));
-    }
+    another link refl (λ t agree.
+    agree_put link k13 s13 t 9 case_less_base 5 (t.memory 0xf3) 0x1b 0x19 agree (lit< tt)
+    refl (refl, (agree.memory 0xf3 (lit< tt)).1 ∙ ap pos (add-zero (t.memory 0xf3))))
 
 p15 : Other (of_link link) k14 s14 k15 s15
 p15 =
-    record {
-      old_goes = refl;
-      new_goes = λ t agree.
-          subst (λ o. IsSomeAnd o (Agree link k15 s15)) (sym (at s14 t k14 agree))
-          (agree_put link k14 s14 t 9 (address 0x1e) 0x1e (t.registers 9 + t.registers 6) 0x1c 0x1a
-          agree (lit< tt) refl (
-            refl,
-            ap₂ (λ x y. pos (x + y)) (ap unsigned_abs (agree.registers 9).1)
-                (ap unsigned_abs (agree.registers 6).1),
-          ));
-    }
+    another link refl (λ t agree.
+    agree_put link k14 s14 t 9 (address 0x1e) 0x1e (t.registers 9 + t.registers 6) 0x1c 0x1a
+    agree (lit< tt) refl (
+      refl,
+      ap₂ (λ x y. pos (x + y)) (ap unsigned_abs (agree.registers 9).1)
+          (ap unsigned_abs (agree.registers 6).1),
+    ))
 
 p16 : Other (of_link link) k15 s15 k15 s16
 p16 =
-    record {
-      old_goes = refl;
-      new_goes = λ t agree.
-          subst (λ o. IsSomeAnd o (Agree link k15 s16)) (sym (at s15 t k15 agree))
-          (agree_go link k15 s15 t 0x1e (t.registers 9) agree (lit< tt)
-          (sym (ap unsigned_abs (agree.registers 9).1)));
-    }
+    another link refl (λ t agree.
+    agree_go link k15 s15 t 0x1e (t.registers 9) agree (lit< tt)
+    (sym (ap unsigned_abs (agree.registers 9).1)))
 
 p17 : Other (of_link link) k15 s16 k15 s17
 p17 =
+    another link {k = k15} {k' = k15} {s = s16} {s' = s17} refl (λ t agree.
     record {
-      old_goes = refl;
-      new_goes = λ t agree.
-          subst (λ o. IsSomeAnd o (Agree link k15 s17)) (sym (at s16 t k15 agree))
-          (record {
-            small = lit< tt;
-            pc = refl;
-            registers = agree.registers;
-            memory = agree.memory;
-            outside = ap₂ (λ x o. λ m. if m == 0 then x else o m) (agree.registers 4) agree.outside;
-          });
-    }
+      small = lit< tt;
+      pc = refl;
+      registers = agree.registers;
+      memory = agree.memory;
+      outside = ap₂ (λ x o. λ m. if m == 0 then x else o m) (agree.registers 4) agree.outside;
+    })
 
 stops : Stops (of_link link) k15 s17
 stops = record { old_stops = refl; new_stops = λ t agree. at s17 t k15 agree }
@@ -450,24 +382,6 @@ agree =
         (λ is. table (stays (a - 0) 0xf3 (lit< tt) is))
         (follows_code (a - 0)) (λ is. ap new_address is))
 
-old_pc : IsSomeAnd (run 18 (machine link.old) first_old) (λ s. s.pc ≡ 0x1f)
-old_pc = refl
-
-old_number : IsSomeAnd (run 18 (machine link.old) first_old) (λ s. s.registers 4 ≡ 0x91)
-old_number = refl
-
-old_outside : IsSomeAnd (run 18 (machine link.old) first_old) (λ s. s.outside 0 ≡ 0x91)
-old_outside = refl
-
-new_pc : IsSomeAnd (run 16 (machine link.new) first_new) (λ s. s.pc ≡ 0x1c)
-new_pc = refl
-
-new_number : IsSomeAnd (run 16 (machine link.new) first_new) (λ s. s.registers 4 ≡ 0x91)
-new_number = refl
-
-new_outside : IsSomeAnd (run 16 (machine link.new) first_new) (λ s. s.outside 0 ≡ 0x91)
-new_outside = refl
-
 covered : Covered (of_link link) 17 16 first_known first_old k15 s17
 covered =
     group 16 1 15 _ _ _ _ _ _ p1 (group 15 1 14 _ _ _ _ _ _ p2 (other 14 13 _ _ _ _ _ _ p3
@@ -485,6 +399,6 @@ is_worked =
       agree = agree;
       covered = covered;
       stops = stops;
-      old_ends = (old_pc, old_number, old_outside);
-      new_ends = (new_pc, new_number, new_outside);
+      old_ends = (refl, refl, refl);
+      new_ends = (refl, refl, refl);
     }

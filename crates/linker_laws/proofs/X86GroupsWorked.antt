@@ -3,8 +3,8 @@ use Rattle.std.proofs.Common.{◌≡◌, ℕ, ◌+◌, ◌-◌, ◌*◌, ◌^◌
 use Rattle.linker_laws.proofs.Imports.{◌&&◌, ◌||◌, ◌==◌, IsSomeAnd, nat_le, nat_lt, if◌then◌else◌, cond-false, cond-true, eqb-true, le-leb, lt-ltb, ints, IsWritten, RelocationKindInfo, difference_64, value_of, Operands}
 use Rattle.std.specs.Prelude.{neg_ℤ}
 use Rattle.std.specs.Option.{unwrap_or}
-use Rattle.linker_elf.specs.Relocate.{IsMultiple, IsReached, is_supported, window_len}
-use Rattle.linker_laws.proofs.Relocated.{addresses as small, all_small, are_bytes}
+use Rattle.linker_elf.specs.Relocate.{HoldsBits, IsEncoded, IsMultiple}
+use Rattle.linker_laws.proofs.Relocated.{accepted_by, all_small, are_bytes, is_accepted, small}
 use Rattle.linker_laws.specs.Schemes.{AreAddresses}
 use Rattle.linker_laws.specs.Changes.{IsKept, put, with_register}
 use Rattle.linker_laws.specs.Simulation.{Agree, AreOf, Group, Kinds, State, anything, ends, group, half, of_link, same}
@@ -54,22 +54,17 @@ before section operands bytes offset addresses addend ip =
 
 -- a field with the value of its relocation
 there : {row : RelocationKindInfo} {operands : Operands} {o : ℕ} {section after : List ℕ}
-    (rest : List ℕ) (v : ℤ) → value_of row operands ≡ Some v → is_supported row ≡ true
-    → window_len row ≤ length (drop o section) → IsMultiple row v (drop o section)
-    → IsReached row v (drop o section) → IsWritten row.size row.kind v (drop o section) rest
-    → after ≡ take o section ++ rest → IsRelocatedBy row operands o section after
-there rest v is supported long aligned reached written whole =
+    (rest : List ℕ) (v : ℤ) → value_of row operands ≡ Some v → is_accepted row v (drop o section) ≡ true
+    → IsMultiple row v (drop o section) → HoldsBits row.size v (drop o section) → IsEncoded row.size v
+    → IsWritten row.size row.kind v (drop o section) rest → after ≡ take o section ++ rest
+    → IsRelocatedBy row operands o section after
+there {row} {o = o} {section = section} rest v is e aligned holds encoded written whole =
     record {
       rest = rest;
       applied = record {
         value = v;
         value_is = is;
-        accepted = record {
-          supported = supported;
-          long = long;
-          aligned = aligned;
-          reached = reached;
-        };
+        accepted = accepted_by row v (drop o section) aligned e holds encoded;
         written = written;
       };
       whole = whole;
@@ -128,26 +123,20 @@ p1 : Groups → Group (of_link (link code)) 1 known s0 known s1
 p1 g =
     g.loads.0.1 code s0 mov (0x48 ∷ 0x8b ∷ 0x05 ∷ 0xf9 ∷ 0x2f ∷ 0x00 ∷ 0x00 ∷ [])
     (0x48 ∷ 0x8d ∷ 0x05 ∷ 0x19 ∷ 0x30 ∷ 0x00 ∷ 0x00 ∷ []) 3 of_a
-    (before mov of_a refl (lit< tt)
-    (small of_a (lit< tt) (lit< tt) (lit< tt) (lit< tt) (lit< tt) (lit< tt)) refl refl)
+    (before mov of_a refl (lit< tt) (small of_a refl) refl refl)
     refl (record { starts = lit≤ tt; ends = lit≤ tt; admitted = refl }, refl)
-    (there (0xf9 ∷ 0x2f ∷ 0x00 ∷ 0x00 ∷ []) (pos 0x2ff9) refl refl (lit≤ tt) (refl, tt, tt)
-    ((omega (arith, ints), omega (arith, ints)), tt, tt) refl refl)
-    (there (0x19 ∷ 0x30 ∷ 0x00 ∷ 0x00 ∷ []) (pos 0x3019) refl refl (lit≤ tt) (refl, tt, tt)
-    ((omega (arith, ints), omega (arith, ints)), tt, tt) refl refl)
+    (there (0xf9 ∷ 0x2f ∷ 0x00 ∷ 0x00 ∷ []) (pos 0x2ff9) refl refl (refl, tt, tt) tt tt refl refl)
+    (there (0x19 ∷ 0x30 ∷ 0x00 ∷ 0x00 ∷ []) (pos 0x3019) refl refl (refl, tt, tt) tt tt refl refl)
     refl refl refl known (λ r. same) (keeps s0 s1 refl)
 
 p2 : Groups → Group (of_link (link code)) 1 known s1 known s2
 p2 g =
     g.thread.1.0 code s1 add (0x48 ∷ 0x03 ∷ 0x0d ∷ 0xfa ∷ 0x2f ∷ 0x00 ∷ 0x00 ∷ [])
     (0x48 ∷ 0x81 ∷ 0xc1 ∷ 0xf0 ∷ 0xff ∷ 0xff ∷ 0xff ∷ []) 3 of_x
-    (before add of_x refl (lit< tt)
-    (small of_x (lit< tt) (lit< tt) (lit< tt) (lit< tt) (lit< tt) (lit< tt)) refl refl)
+    (before add of_x refl (lit< tt) (small of_x refl) refl refl)
     refl (record { starts = lit≤ tt; ends = lit≤ tt; admitted = refl }, refl)
-    (there (0xfa ∷ 0x2f ∷ 0x00 ∷ 0x00 ∷ []) (pos 0x2ffa) refl refl (lit≤ tt) (refl, tt, tt)
-    ((omega (arith, ints), omega (arith, ints)), tt, tt) refl refl)
-    (there (0xf0 ∷ 0xff ∷ 0xff ∷ 0xff ∷ []) (negsuc 15) refl refl (lit≤ tt) (refl, tt, tt)
-    ((omega (arith, ints), omega (arith, ints)), tt, tt) refl refl)
+    (there (0xfa ∷ 0x2f ∷ 0x00 ∷ 0x00 ∷ []) (pos 0x2ffa) refl refl (refl, tt, tt) tt tt refl refl)
+    (there (0xf0 ∷ 0xff ∷ 0xff ∷ 0xff ∷ []) (negsuc 15) refl refl (refl, tt, tt) tt tt refl refl)
     refl refl refl known (λ r. same) (keeps s1 s2 refl)
 
 -- The pushed bytes are no entry's.
@@ -167,13 +156,10 @@ p3 : Groups → Group (of_link (link code)) 1 known s2 known s3
 p3 g =
     g.branches.0 code s2 call (0xff ∷ 0x15 ∷ 0xfc ∷ 0x2f ∷ 0x00 ∷ 0x00 ∷ [])
     (0x67 ∷ 0xe8 ∷ 0x0c ∷ 0x00 ∷ 0x00 ∷ 0x00 ∷ []) 2 of_f
-    (before call of_f refl (lit< tt)
-    (small of_f (lit< tt) (lit< tt) (lit< tt) (lit< tt) (lit< tt) (lit< tt)) refl refl)
+    (before call of_f refl (lit< tt) (small of_f refl) refl refl)
     refl (record { starts = lit≤ tt; ends = lit≤ tt; admitted = refl }, refl)
-    (there (0xfc ∷ 0x2f ∷ 0x00 ∷ 0x00 ∷ []) (pos 0x2ffc) refl refl (lit≤ tt) (refl, tt, tt)
-    ((omega (arith, ints), omega (arith, ints)), tt, tt) refl refl)
-    (there (0x0c ∷ 0x00 ∷ 0x00 ∷ 0x00 ∷ []) (pos 0xc) refl refl (lit≤ tt) (refl, tt, tt)
-    ((omega (arith, ints), omega (arith, ints)), tt, tt) refl refl)
+    (there (0xfc ∷ 0x2f ∷ 0x00 ∷ 0x00 ∷ []) (pos 0x2ffc) refl refl (refl, tt, tt) tt tt refl refl)
+    (there (0x0c ∷ 0x00 ∷ 0x00 ∷ 0x00 ∷ []) (pos 0xc) refl refl (refl, tt, tt) tt tt refl refl)
     refl refl refl known known refl refl (λ a below. known_after a)
 
 pub is_worked : Groups → IsWorked
@@ -248,13 +234,10 @@ q1 : Groups → Group (of_link (link descriptor_code)) 1 known_but_open d0 with_
 q1 g =
     g.descriptor_address.0 descriptor_code d0 lea (0x48 ∷ 0x8d ∷ 0x05 ∷ 0xf9 ∷ 0x2f ∷ 0x00 ∷ 0x00 ∷ [])
     (0x48 ∷ 0xc7 ∷ 0xc0 ∷ 0xf0 ∷ 0xff ∷ 0xff ∷ 0xff ∷ []) 3 of_descriptor
-    (before lea of_descriptor refl (lit< tt)
-    (small of_descriptor (lit< tt) (lit< tt) (lit< tt) (lit< tt) (lit< tt) (lit< tt)) refl refl)
+    (before lea of_descriptor refl (lit< tt) (small of_descriptor refl) refl refl)
     refl (record { starts = lit≤ tt; ends = lit≤ tt; admitted = refl }, refl)
-    (there (0xf9 ∷ 0x2f ∷ 0x00 ∷ 0x00 ∷ []) (pos 0x2ff9) refl refl (lit≤ tt) (refl, tt, tt)
-    ((omega (arith, ints), omega (arith, ints)), tt, tt) refl refl)
-    (there (0xf0 ∷ 0xff ∷ 0xff ∷ 0xff ∷ []) (negsuc 15) refl refl (lit≤ tt) (refl, tt, tt)
-    ((omega (arith, ints), omega (arith, ints)), tt, tt) refl refl)
+    (there (0xf9 ∷ 0x2f ∷ 0x00 ∷ 0x00 ∷ []) (pos 0x2ff9) refl refl (refl, tt, tt) tt tt refl refl)
+    (there (0xf0 ∷ 0xff ∷ 0xff ∷ 0xff ∷ []) (negsuc 15) refl refl (refl, tt, tt) tt tt refl refl)
     refl refl 0 known_but_open refl refl
 
 -- The function changes only the 8 bytes below the stack pointer.

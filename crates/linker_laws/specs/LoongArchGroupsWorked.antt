@@ -1,13 +1,9 @@
 -- A program of LoongArch with groups, of which every premise holds, and both runs computed to the
 -- end.
-use Rattle.std.specs.Prelude.{◌≡◌, ℕ, ◌-◌, ◌/◌, ◌%◌, ◌^◌, nat_lt, nat_le, ◌&&◌, Bool}
-use Rattle.std.specs.Prelude.{if◌then◌else◌, List, [], ◌∷◌, None, min}
+use Rattle.std.specs.Prelude.{◌≡◌, ℕ, ◌-◌, nat_lt, if◌then◌else◌, List, [], ◌∷◌, None, min}
 use Rattle.linker_laws.specs.LoongArchGroups.{Code, link}
-use Rattle.linker_laws.specs.Simulation.{State, Kinds, same}
-use Rattle.linker_laws.specs.SimulationWorked.{AreRuns, of_byte, words_from}
-
-abbrev pub words : List ℕ → ℕ → ℕ
-words = words_from 0x10000
+use Rattle.linker_laws.specs.Simulation.{State}
+use Rattle.linker_laws.specs.SimulationWorked.{AreRuns, all_same, before_code, entry, words}
 
 -- No instruction is at the end.
 abbrev pub old : List ℕ
@@ -43,21 +39,9 @@ code =
       new_half = λ h. 0x54000;
     }
 
--- of the entry at 0x12010, which has the offset
-abbrev pub is_entry : ℕ → Bool
-is_entry a = nat_le 0x12010 a && nat_lt a 0x12018
-
+-- The entry at 0x12010 has the offset.
 abbrev pub starting : State
-starting =
-    record {
-      pc = 0x10000;
-      registers = λ r. r;
-      memory = λ a. if is_entry a then 0x54344 / 256 ^ (a - 0x12010) % 256 else 0;
-      outside = λ n. 0;
-    }
-
-abbrev pub known : Kinds
-known = record { registers = λ r. same; memory = λ a. of_byte same }
+starting = before_code (λ r. r) (entry 0x12010 0x54344)
 
 -- a0 and a3 have the address and the offset.
 abbrev pub EndsAt : ℕ → State → Type 0
@@ -65,4 +49,4 @@ EndsAt pc s = (s.pc ≡ pc) × (s.registers 4 ≡ 0x13120) × (s.registers 7 ≡
 
 -- Four groups are 5 instructions of old, and 3 of new.
 abbrev pub IsWorked : Type 0
-IsWorked = AreRuns (link code) known starting starting 4 5 3 (EndsAt 0x10014) (EndsAt 0x1000c)
+IsWorked = AreRuns (link code) all_same starting starting 4 5 3 (EndsAt 0x10014) (EndsAt 0x1000c)

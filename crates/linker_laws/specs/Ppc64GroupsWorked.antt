@@ -1,11 +1,9 @@
 -- A program of PowerPC64 with groups, of which every premise holds, and both runs computed to the
 -- end.
-use Rattle.std.specs.Prelude.{◌≡◌, ℕ, ◌-◌, ◌/◌, ◌%◌, ◌^◌, ◌==◌, ◌&&◌, nat_lt, nat_le}
-use Rattle.std.specs.Prelude.{if◌then◌else◌, List, [], ◌∷◌, None}
-use Rattle.linker_laws.specs.LoongArchGroupsWorked.{words}
+use Rattle.std.specs.Prelude.{◌≡◌, ℕ, ◌==◌, if◌then◌else◌, List, [], ◌∷◌, None}
 use Rattle.linker_laws.specs.Ppc64Groups.{Code, link}
-use Rattle.linker_laws.specs.Simulation.{State, Kinds, same}
-use Rattle.linker_laws.specs.SimulationWorked.{AreRuns, of_byte}
+use Rattle.linker_laws.specs.Simulation.{State}
+use Rattle.linker_laws.specs.SimulationWorked.{AreRuns, all_same, before_code, entry, words}
 
 -- No instruction is at the end.
 abbrev pub old : List ℕ
@@ -42,21 +40,11 @@ code =
 
 -- the TOC pointer in r2, and the offset in the entry at 0x20010
 abbrev pub starting : State
-starting =
-    record {
-      pc = 0x10000;
-      registers = λ r. if r == 2 then 0x20000 else r;
-      memory = λ a. if nat_le 0x20010 a && nat_lt a 0x20018 then 0x54344 / 256 ^ (a - 0x20010) % 256
-          else 0;
-      outside = λ n. 0;
-    }
-
-abbrev pub known : Kinds
-known = record { registers = λ r. same; memory = λ a. of_byte same }
+starting = before_code (λ r. if r == 2 then 0x20000 else r) (entry 0x20010 0x54344)
 
 abbrev pub Ends : State → Type 0
 Ends s = (s.pc ≡ 0x10014) × (s.registers 3 ≡ 0x20120) × (s.registers 5 ≡ 0x54351)
 
 -- Five groups, each of one instruction in both.
 abbrev pub IsWorked : Type 0
-IsWorked = AreRuns (link code) known starting starting 5 5 5 Ends Ends
+IsWorked = AreRuns (link code) all_same starting starting 5 5 5 Ends Ends

@@ -1,13 +1,9 @@
 -- A program of RISC-V with groups, of which every premise holds, and both runs computed to the end.
-use Rattle.std.specs.Prelude.{◌≡◌, ℕ, ◌-◌, ◌/◌, ◌%◌, ◌^◌, nat_lt, nat_le, ◌&&◌, Bool}
-use Rattle.std.specs.Prelude.{if◌then◌else◌, List, [], ◌∷◌, None, min}
+use Rattle.std.specs.Prelude.{◌≡◌, ℕ, ◌-◌, nat_lt, if◌then◌else◌, List, [], ◌∷◌, None, min}
 use Rattle.linker_laws.specs.Machine.{loaded}
 use Rattle.linker_laws.specs.RiscVGroups.{Code, link}
-use Rattle.linker_laws.specs.Simulation.{State, Program, Kinds, same}
-use Rattle.linker_laws.specs.SimulationWorked.{AreRuns, of_byte, words_from}
-
-abbrev pub words : List ℕ → ℕ → ℕ
-words = words_from 0x10000
+use Rattle.linker_laws.specs.Simulation.{State, Program}
+use Rattle.linker_laws.specs.SimulationWorked.{AreRuns, all_same, before_code, entry, words}
 
 -- The address is a number of 12 bits, and the entry at 0x12010 has another one. No instruction is
 -- after the call, to which the function returns.
@@ -48,20 +44,8 @@ others bytes s = None
 abbrev pub code : Code
 code = record { others = others; old = words old; new = words new; moved = moved }
 
-abbrev pub is_entry : ℕ → Bool
-is_entry a = nat_le 0x12010 a && nat_lt a 0x12018
-
 abbrev pub starting : State
-starting =
-    record {
-      pc = 0x10000;
-      registers = λ r. r;
-      memory = λ a. if is_entry a then 0x13000 / 256 ^ (a - 0x12010) % 256 else 0;
-      outside = λ n. 0;
-    }
-
-abbrev pub known : Kinds
-known = record { registers = λ r. same; memory = λ a. of_byte same }
+starting = before_code (λ r. r) (entry 0x12010 0x13000)
 
 -- The function has returned.
 abbrev pub EndsAt : ℕ → State → Type 0
@@ -72,4 +56,4 @@ EndsAt pc s =
 -- Five groups and the return are 8 instructions of old, and 6 of new. The link register has the
 -- address after the call in both.
 abbrev pub IsWorked : Type 0
-IsWorked = AreRuns (link code) known starting starting 6 8 6 (EndsAt 0x1001c) (EndsAt 0x10014)
+IsWorked = AreRuns (link code) all_same starting starting 6 8 6 (EndsAt 0x1001c) (EndsAt 0x10014)

@@ -1,7 +1,8 @@
 -- A small program of which every premise holds: groups and numbers of each kind, and both runs
 -- computed to the end.
 use Rattle.std.specs.Prelude.{◌≡◌, ℕ, ◌+◌, ◌-◌, ◌/◌, ◌%◌, ◌^◌, ◌==◌, nat_le, if◌then◌else◌}
-use Rattle.std.specs.Prelude.{◌&&◌, List, [], ◌∷◌, Option, Some, None, IsSomeAnd, slice_get}
+use Rattle.std.specs.Prelude.{◌&&◌, List, [], ◌∷◌, Option, Some, None, IsSomeAnd, nat_lt}
+use Rattle.std.specs.Prelude.{slice_get}
 use Rattle.std.specs.Option.{unwrap_or}
 use Rattle.linker_laws.specs.Simulation.{State, Machine, Link, Kind, code, same}
 use Rattle.linker_laws.specs.Simulation.{anything, Stored, Kinds, Agree, of_link, run, Covered}
@@ -150,6 +151,19 @@ first_new =
           if a == 0xf0 then 0x99 else (if a == 0xf3 then 4 else (if a == 0x21 then 0x55 else 0));
       outside = λ n. 0;
     }
+
+-- 8 bytes of a number from an address on, in memory that has nothing else
+abbrev pub entry : ℕ → ℕ → ℕ → ℕ
+entry first number a =
+    if nat_le first a && nat_lt a (first + 8) then number / 256 ^ (a - first) % 256 else 0
+
+-- Code is at 0x10000.
+abbrev pub before_code : (ℕ → ℕ) → (ℕ → ℕ) → State
+before_code registers memory =
+    record { pc = 0x10000; registers = registers; memory = memory; outside = λ n. 0 }
+
+abbrev pub words : List ℕ → ℕ → ℕ
+words = words_from 0x10000
 
 -- Old and new begin in states that agree. A covered run of q others and groups is m instructions of
 -- old and n of new. It leads to where both stop, and something holds of what each has there.
