@@ -19,7 +19,7 @@ use Rattle.linker_laws.proofs.AArch64Pages.{IsUnsigned, offset_reads}
 use Rattle.linker_laws.proofs.AArch64Pairs.{adds_pair, adr_is, pair_made, word_is, word_made}
 use Rattle.linker_laws.proofs.AArch64Steps.{address_is, set, step_add, step_adr, step_ldr}
 use Rattle.linker_laws.proofs.AArch64Words.{IsAdrOf, IsMadeAdr, add_after, adr_after, adr_of_adrp, adr_of_page, adr_of_register, adrp_after, decodes_adr, ldr_after, masked_field, of_registers}
-use Rattle.linker_laws.proofs.Agreement.{agree_go, unchanged, value_group}
+use Rattle.linker_laws.proofs.Agreement.{agree_go, group_of, unchanged, value_group}
 use Rattle.linker_laws.proofs.CoveredRuns.{holds_of, run_first}
 use Rattle.linker_laws.proofs.Instructions.{unbiased}
 use Rattle.linker_laws.proofs.Sums.{lifted_is, once, sum_below, eight}
@@ -310,22 +310,19 @@ are_ldr_to_adr literals c o k s ldr made small at is has holds is_made old new =
           sets_at c.others c.new t o.place y d (symbol_address o) (agree.pc ∙ at) new.stands
           (adr_steps literals o (seen t) d made new.relocated small (agree.pc ∙ at) named adr
           new.applied)),
-      λ zero_register. record {
-        more = 0;
-        old_goes = goes c.others c.old s x (aarch64_machine.loaded x (seen s)) at old.stands
-            (ap (λ i. execute i x (seen s)) after.decodes
-            ∙ ap (λ r. Some (go_on (write_x r (aarch64_machine.loaded x (seen s)) (seen s))))
-            (after.rd_is ∙ zero_register));
-        new_goes = λ t agree.
-            let a = adr_after 0 _ _ made new.relocated new.applied.written adr.opcode adr.top in
-            let v = aarch64_machine.adr_address y (seen t) in
-            holds_of (run 1 (machine c.others c.new) t) _ (go_to next t)
-            (goes c.others c.new t y v (agree.pc ∙ at) new.stands
-            (ap (λ i. execute i y (seen t)) (decodes_adr y a.opcode a.top)
-            ∙ ap (λ r. Some (go_on (write_x r v (seen t)))) (a.rd_is ∙ adr.rd_is ∙ zero_register)))
-            (agree_go (link c) k s t next next agree (below_64 o.place 4) refl);
-        forward = λ none. omega arith;
-      },
+      λ zero_register. group_of (link c) 0 0
+          (goes c.others c.old s x (aarch64_machine.loaded x (seen s)) at old.stands
+          (ap (λ i. execute i x (seen s)) after.decodes
+          ∙ ap (λ r. Some (go_on (write_x r (aarch64_machine.loaded x (seen s)) (seen s))))
+          (after.rd_is ∙ zero_register)))
+          (λ t agree.
+          let a = adr_after 0 _ _ made new.relocated new.applied.written adr.opcode adr.top in
+          let v = aarch64_machine.adr_address y (seen t) in
+          holds_of (run 1 (machine c.others c.new) t) _ (go_to next t)
+          (goes c.others c.new t y v (agree.pc ∙ at) new.stands
+          (ap (λ i. execute i y (seen t)) (decodes_adr y a.opcode a.top)
+          ∙ ap (λ r. Some (go_on (write_x r v (seen t)))) (a.rd_is ∙ adr.rd_is ∙ zero_register)))
+          (agree_go (link c) k s t next next agree (below_64 o.place 4) refl)),
     )
   where
     -- an instruction that writes XZR

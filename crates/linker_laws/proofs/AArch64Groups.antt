@@ -1,8 +1,8 @@
 -- AArch64's groups.
 use Rattle.std.proofs.Common.{◌≡◌, ℕ, ◌^◌, ◌<◌, Bool, true, false, refl, sym, ◌∙◌, ap, ap₂, subst, arith, List, Some, eqb, cond, ◌/◌, eqb-true, true≢false}
-use Rattle.linker_laws.proofs.Imports.{cond-false, eq-eqb, ne_eqb, IsSomeAnd, ◌==◌, ◌&&◌, page, sum_64, Operands, IsLdr64, nop, rd_of, ReplaceWithNop}
+use Rattle.linker_laws.proofs.Imports.{and_parts, cond-false, eq-eqb, ne_eqb, IsSomeAnd, ◌==◌, ◌&&◌, page, sum_64, Operands, IsLdr64, nop, rd_of, ReplaceWithNop}
 use Rattle.linker_elf.specs.declared.aarch64.relocations.AArch64Relocation.TheVariants as names
-use Rattle.linker_laws.specs.AArch64Groups.{Has, seen, executed, machine, link, Others}
+use Rattle.linker_laws.specs.AArch64Groups.{Has, does, seen, executed, machine, link, Others}
 use Rattle.linker_laws.specs.AArch64Groups as groups
 use Rattle.linker_laws.specs.AArch64Machine.{branch_target, execute, load_64, moved, step}
 use Rattle.linker_laws.specs.AArch64RelocationLaws as relocation_laws
@@ -16,7 +16,7 @@ use Rattle.linker_laws.proofs.AArch64Halves.{HasHigh, high_steps, low_steps}
 use Rattle.linker_laws.proofs.AArch64Pairs.{word_is}
 use Rattle.linker_laws.proofs.AArch64Steps.{branch_leads, set}
 use Rattle.linker_laws.proofs.AArch64Words.{branch_after, decodes_b, decodes_bl}
-use Rattle.linker_laws.proofs.Agreement.{agree_go, agree_put, agree_put_old, unchanged, value_group}
+use Rattle.linker_laws.proofs.Agreement.{agree_go, agree_put, agree_put_old, both_true, group_of, last_counts, others_agree, unchanged, value_group}
 use Rattle.linker_laws.proofs.CoveredRuns.{run_first, holds_of}
 use Rattle.linker_laws.proofs.Sums.{eight}
 
@@ -34,14 +34,6 @@ pub still_seen : (s : State) (n u : ℕ) → n < 32 → seen (put n u (sum_64 s.
 still_seen s n u small =
     ap (λ p. record (set n u (seen s)) { thread_pointer = p })
     (cond-false (eqb 32 n) u (s.registers 32) (ne_eqb 32 n (λ e. omega arith)))
-
--- what was written last counts
-last_counts : (n u v a b : ℕ) (s : State) → put n v b (put n u a s) ≡ put n v b s
-last_counts n u v a b s = λ i. record s { pc = b; registers = λ m. by (eqb m n) (s.registers m) i }
-  where
-    by : (c : Bool) (r : ℕ) → cond c v (cond c u r) ≡ cond c v r
-    by true r = refl
-    by false r = refl
 
 -- two that write one register
 pub sets_twice : (others : ℕ → Program) (bytes : ℕ → ℕ) (s : State) (place x y n u v value : ℕ)
@@ -108,38 +100,26 @@ sets_at others bytes s place x n v at here goes =
     (sets others bytes s x n v (ap (loaded 4 bytes) at ∙ here) goes)
     (ap (λ a. Some (put n v (sum_64 a 4) s)) at)
 
-both_true : (a b : Bool) → a ≡ true → b ≡ true → (a && b) ≡ true
-both_true true b e f = f
-both_true false b e f = e
-
-second_true : (a b : Bool) → (a && b) ≡ true → b ≡ true
-second_true true b e = e
-second_true false b e = absurd (true≢false (sym e))
-
 pub are_high_halves : groups.HighHalfToMovz
 are_high_halves c h o k s adrp movz small at entry offset is named made adrp1 movz1 =
     let n = rd_of (word_of adrp) in
     let v = moved (word_of movz1.relocated) in
     let next = sum_64 o.place 4 in
-    record {
-      more = 0;
-      old_goes =
-          sets_at c.others c.old s o.place (word_of adrp1.relocated) n (page o.got_entry) at adrp1.stands
-          (high_steps o (seen s) (seen s) adrp movz small at is named made adrp1.relocated
-          movz1.relocated adrp1.applied movz1.applied).first;
-      new_goes = λ t agree.
-          let steps = high_steps o (seen s) (seen t) adrp movz small at is named made adrp1.relocated
-          movz1.relocated adrp1.applied movz1.applied in
-          holds_of (run 1 (machine c.others c.new) t) _ (put n v next t)
-          (sets_at c.others c.new t o.place (word_of movz1.relocated) n v (agree.pc ∙ at) movz1.stands
-          steps.second)
-          (agree_put (link c) k s t n (half h) (page o.got_entry) v next next agree
-          (below_64 o.place 4) refl
-          (both_true (page o.got_entry == page (c.entry h)) (v / 2 ^ 16 == c.offset h / 2 ^ 16)
-          (eq-eqb _ _ (ap page (sym entry)))
-          (eq-eqb _ _ (steps.bits_are ∙ ap (λ d. d / 2 ^ 16) (sym offset)))));
-      forward = λ none. omega arith;
-    }
+    group_of (link c) 0 0
+    (sets_at c.others c.old s o.place (word_of adrp1.relocated) n (page o.got_entry) at adrp1.stands
+    (high_steps o (seen s) (seen s) adrp movz small at is named made adrp1.relocated
+    movz1.relocated adrp1.applied movz1.applied).first)
+    (λ t agree.
+    let steps = high_steps o (seen s) (seen t) adrp movz small at is named made adrp1.relocated
+    movz1.relocated adrp1.applied movz1.applied in
+    holds_of (run 1 (machine c.others c.new) t) _ (put n v next t)
+    (sets_at c.others c.new t o.place (word_of movz1.relocated) n v (agree.pc ∙ at) movz1.stands
+    steps.second)
+    (agree_put (link c) k s t n (half h) (page o.got_entry) v next next agree
+    (below_64 o.place 4) refl
+    (both_true (page o.got_entry == page (c.entry h)) (v / 2 ^ 16 == c.offset h / 2 ^ 16)
+    (eq-eqb _ _ (ap page (sym entry)))
+    (eq-eqb _ _ (steps.bits_are ∙ ap (λ d. d / 2 ^ 16) (sym offset))))))
 
 pub are_low_halves : groups.LowHalfToMovk
 are_low_halves c h o k s ldr movk small at entry offset is own made holds known has ldr1 movk1 =
@@ -163,8 +143,8 @@ are_low_halves c h o k s ldr movk small at entry offset is own made holds known 
         (agree.registers n) in
         record {
           page_is = has;
-          bits_are = eqb-true _ _ (second_true (s.registers n == page (c.entry h))
-              (t.registers n / 2 ^ 16 == c.offset h / 2 ^ 16) halves)
+          bits_are = eqb-true _ _ (and_parts (s.registers n == page (c.entry h))
+              (t.registers n / 2 ^ 16 == c.offset h / 2 ^ 16) halves).1
               ∙ ap (λ d. d / 2 ^ 16) offset;
         }
 
@@ -191,52 +171,34 @@ are_branches laws = (
   λ c o k s branch made small at next is rewritten on new.
       let x = word_of on.relocated in
       let op = branch_after _ _ branch on.relocated on.applied.written ∙ eqb-true _ _ is in
-      record {
-        more = 0;
-        old_goes =
-            run_first 0 (machine c.others c.old) s (go_to (branch_target x (seen s)) s) _
-            (ap (λ w. executed c.others w s (step w (seen s))) (ap (loaded 4 c.old) at ∙ on.stands)
-            ∙ ap (λ i. executed c.others x s (execute i x (seen s))) (decodes_b x op))
-            (ap (λ p. Some (go_to p s)) (branch_leads o x (seen s) at
-            (laws.1 o small o.place branch on.relocated on.applied tt) ∙ next));
-        new_goes = λ t agree.
-            holds_of (run 1 (machine c.others c.new) t) _ (go_to (sum_64 o.place 4) t)
-            (goes_on c.others c.new t o.place branch made (agree.pc ∙ at) rewritten new)
-            (agree_go (link c) k s t (sum_64 o.place 4) (sum_64 o.place 4) agree (below_64 o.place 4)
-            refl);
-        forward = λ none. omega arith;
-      },
+      group_of (link c) 0 0
+      (run_first 0 (machine c.others c.old) s (go_to (branch_target x (seen s)) s) _
+      (ap (λ w. executed c.others w s (step w (seen s))) (ap (loaded 4 c.old) at ∙ on.stands)
+      ∙ ap (λ i. executed c.others x s (execute i x (seen s))) (decodes_b x op))
+      (ap (λ p. Some (go_to p s)) (branch_leads o x (seen s) at
+      (laws.1 o small o.place branch on.relocated on.applied tt) ∙ next)))
+      (λ t agree.
+      holds_of (run 1 (machine c.others c.new) t) _ (go_to (sum_64 o.place 4) t)
+      (goes_on c.others c.new t o.place branch made (agree.pc ∙ at) rewritten new)
+      (agree_go (link c) k s t (sum_64 o.place 4) (sum_64 o.place 4) agree (below_64 o.place 4)
+      refl)),
   λ c o k s branch made small at next is rewritten on new.
       let x = word_of on.relocated in
       let n = sum_64 o.place 4 in
       let op = branch_after _ _ branch on.relocated on.applied.written ∙ eqb-true _ _ is in
-      record {
-        more = 0;
-        old_goes =
-            run_first 0 (machine c.others c.old) s
-            (put 30 (sum_64 s.pc 4) (branch_target x (seen s)) s) _
-            (ap (λ w. executed c.others w s (step w (seen s))) (ap (loaded 4 c.old) at ∙ on.stands)
-            ∙ ap (λ i. executed c.others x s (execute i x (seen s))) (decodes_bl x op))
-            (ap₂ (λ r p. Some (put 30 (sum_64 r 4) p s)) at (branch_leads o x (seen s) at
-            (laws.0 o small o.place branch on.relocated on.applied tt) ∙ next));
-        new_goes = λ t agree.
-            holds_of (run 1 (machine c.others c.new) t) _ (go_to n t)
-            (goes_on c.others c.new t o.place branch made (agree.pc ∙ at) rewritten new)
-            (agree_put_old (link c) k (go_to n s) (go_to n t) 30 anything n n
-            (agree_go (link c) k s t n n agree (below_64 o.place 4) refl) (below_64 o.place 4) refl tt);
-        forward = λ none. omega arith;
-      },
+      group_of (link c) 0 0
+      (run_first 0 (machine c.others c.old) s
+      (put 30 (sum_64 s.pc 4) (branch_target x (seen s)) s) _
+      (ap (λ w. executed c.others w s (step w (seen s))) (ap (loaded 4 c.old) at ∙ on.stands)
+      ∙ ap (λ i. executed c.others x s (execute i x (seen s))) (decodes_bl x op))
+      (ap₂ (λ r p. Some (put 30 (sum_64 r 4) p s)) at (branch_leads o x (seen s) at
+      (laws.0 o small o.place branch on.relocated on.applied tt) ∙ next)))
+      (λ t agree.
+      holds_of (run 1 (machine c.others c.new) t) _ (go_to n t)
+      (goes_on c.others c.new t o.place branch made (agree.pc ∙ at) rewritten new)
+      (agree_put_old (link c) k (go_to n s) (go_to n t) 30 anything n n
+      (agree_go (link c) k s t n n agree (below_64 o.place 4) refl) (below_64 o.place 4) refl tt)),
 )
 
 pub are_others : Others
-are_others c k k' s s' word goes keeps =
-    record {
-      old_goes = goes;
-      new_goes = λ t agree.
-          subst (λ o. IsSomeAnd o (Agree (link c) k' s')) (alike t agree.pc) (keeps t agree);
-    }
-  where
-    alike : (t : State) → t.pc ≡ s.pc → machine c.others c.old t ≡ machine c.others c.new t
-    alike t at =
-        ap (λ w. executed c.others w t (step w (seen t)))
-        (ap (loaded 4 c.old) at ∙ word ∙ ap (loaded 4 c.new) (sym at))
+are_others c = others_agree (does c.others) (link c) (λ code s. refl)

@@ -1,13 +1,14 @@
 -- The worked programs of AArch64.
 use Rattle.std.proofs.Common.{◌≡◌, ℕ, ◌+◌, ◌-◌, ◌<◌, ◌≤◌, Bool, true, false, refl, sym, ◌∙◌, ap, subst, arith, drop, None, Some, ◌*◌, List, [], ◌∷◌, lit<, lit≤, pos, inl, inr}
-use Rattle.linker_laws.proofs.Imports.{◌==◌, ◌⊎◌, IsSomeAnd, if◌then◌else◌, from_le_bytes, w64, cond-false, ints, Operands, IsAdd64, IsLdr64}
+use Rattle.linker_laws.proofs.Imports.{◌==◌, ◌⊎◌, IsSomeAnd, if◌then◌else◌, from_le_bytes, w64, cond-false, Operands, IsAdd64, IsLdr64}
 use Rattle.linker_base.specs.Form.{place_sum}
 use Rattle.linker_elf.specs.declared.aarch64.relocations.AArch64Relocation.TheVariants as names
 use Rattle.linker_elf.specs.declared.aarch64.relocations.AArch64Relocation.{AArch64Relocation}
-use Rattle.linker_laws.specs.AArch64Groups.{Code, Descriptor, Groups, Has, Stands, called, link, machine, seen}
+use Rattle.linker_utils.specs.AArch64Rewrites.{AreOfOneRegister}
+use Rattle.linker_laws.specs.AArch64Groups.{Code, Descriptor, Groups, Has, Stands, called, does, link, machine, seen}
 use Rattle.linker_laws.specs.AArch64GroupsWorked.{IsAddress, IsOffset, IsPassed, IsRun, IsWorked, code, entries, first_adr, is_entry, known, new_halves, new_load, new_moves, old_branches, old_descriptor, old_halves, old_load, old_sum, others, second_adr, starting, words}
 use Rattle.linker_laws.specs.AArch64Machine.{load_64}
-use Rattle.linker_laws.specs.AArch64RewriteLaws.{IsPair, IsRelocated, following, with_entry}
+use Rattle.linker_laws.specs.AArch64RewriteLaws.{IsPair, IsRelocated, following, with_entry, word_of}
 use Rattle.linker_laws.specs.Changes.{ChangesOpen, go_to, put, with_register}
 use Rattle.linker_laws.specs.Machine.{loaded}
 use Rattle.linker_laws.specs.Schemes.{AreAddresses}
@@ -15,7 +16,7 @@ use Rattle.linker_laws.specs.Simulation.{Agree, AreStored, Group, Kind, Kinds, O
 use Rattle.linker_laws.specs.SimulationWorked.{of_byte}
 use Rattle.linker_laws.proofs.Agreement.{agree_put}
 use Rattle.linker_laws.proofs.CoveredRuns.{holds_of}
-use Rattle.linker_laws.proofs.Relocated.{addresses, relocated}
+use Rattle.linker_laws.proofs.Relocated.{applied, small}
 
 -- ---- relocations that are applied
 
@@ -55,129 +56,87 @@ link_jump = record (operands 0 0x400004 0 0) { plt_entry = 0x400008; has_plt_ent
 
 entry_page : IsRelocated names.R_AARCH64_ADR_GOT_PAGE load
     (0x0 ∷ 0x0 ∷ 0x0 ∷ 0x90 ∷ []) (0x80 ∷ 0x0 ∷ 0x0 ∷ 0xb0 ∷ [])
-entry_page =
-    relocated _ _ _ (pos 0x11000) 0x90000000 refl refl (lit≤ tt) (refl, tt, λ e. refl)
-    ((omega (arith, ints), omega (arith, ints)), lit< tt, tt) refl refl
+entry_page = applied (pos 0x11000) 0x90000000 refl (refl, tt, λ e. refl) refl (lit< tt) tt refl refl
 
 entry_low : IsRelocated names.R_AARCH64_LD64_GOT_LO12_NC (following 4 load)
     (0x0 ∷ 0x0 ∷ 0x40 ∷ 0xf9 ∷ []) (0x0 ∷ 0x8 ∷ 0x40 ∷ 0xf9 ∷ [])
-entry_low =
-    relocated _ _ _ (pos 0x411010) 0xf9400000 refl refl (lit≤ tt) (refl, tt, λ e. refl)
-    (tt, lit< tt, tt) refl refl
+entry_low = applied (pos 0x411010) 0xf9400000 refl (refl, tt, λ e. refl) refl (lit< tt) tt refl refl
 
 symbol_page : IsRelocated names.R_AARCH64_ADR_PREL_PG_HI21 load
     (0x0 ∷ 0x0 ∷ 0x0 ∷ 0x90 ∷ []) (0x0 ∷ 0x1 ∷ 0x0 ∷ 0x90 ∷ [])
-symbol_page =
-    relocated _ _ _ (pos 0x20000) 0x90000000 refl refl (lit≤ tt) (refl, tt, λ e. refl)
-    ((omega (arith, ints), omega (arith, ints)), lit< tt, tt) refl refl
+symbol_page = applied (pos 0x20000) 0x90000000 refl (refl, tt, λ e. refl) refl (lit< tt) tt refl refl
 
 pair_page : IsRelocated names.R_AARCH64_ADR_PREL_PG_HI21 load
     (0x0 ∷ 0x0 ∷ 0x0 ∷ 0x90 ∷ 0x0 ∷ 0x0 ∷ 0x0 ∷ 0x91 ∷ []) (0x0 ∷ 0x1 ∷ 0x0 ∷ 0x90 ∷ 0x0 ∷ 0x0 ∷ 0x0 ∷ 0x91 ∷ [])
-pair_page =
-    relocated _ _ _ (pos 0x20000) 0x90000000 refl refl (lit≤ tt) (refl, tt, λ e. refl)
-    ((omega (arith, ints), omega (arith, ints)), lit< tt, tt) refl refl
+pair_page = applied (pos 0x20000) 0x90000000 refl (refl, tt, λ e. refl) refl (lit< tt) tt refl refl
 
 symbol_low : IsRelocated names.R_AARCH64_ADD_ABS_LO12_NC (following 4 load)
     (0x0 ∷ 0x0 ∷ 0x0 ∷ 0x91 ∷ []) (0x0 ∷ 0x80 ∷ 0x4 ∷ 0x91 ∷ [])
-symbol_low =
-    relocated _ _ _ (pos 0x420120) 0x91000000 refl refl (lit≤ tt) (refl, tt, λ e. refl)
-    (tt, lit< tt, tt) refl refl
+symbol_low = applied (pos 0x420120) 0x91000000 refl (refl, tt, λ e. refl) refl (lit< tt) tt refl refl
 
 high_page : IsRelocated names.R_AARCH64_TLSIE_ADR_GOTTPREL_PAGE21 high
     (0x1 ∷ 0x0 ∷ 0x0 ∷ 0x90 ∷ []) (0x81 ∷ 0x0 ∷ 0x0 ∷ 0xb0 ∷ [])
-high_page =
-    relocated _ _ _ (pos 0x11000) 0x90000001 refl refl (lit≤ tt) (refl, tt, λ e. refl)
-    ((omega (arith, ints), omega (arith, ints)), lit< tt, tt) refl refl
+high_page = applied (pos 0x11000) 0x90000001 refl (refl, tt, λ e. refl) refl (lit< tt) tt refl refl
 
 high_move : IsRelocated names.R_AARCH64_TLSLE_MOVW_TPREL_G1 high
     (0x1 ∷ 0x0 ∷ 0xa0 ∷ 0xd2 ∷ []) (0x21 ∷ 0x0 ∷ 0xa0 ∷ 0xd2 ∷ [])
-high_move =
-    relocated _ _ _ (pos 0x12344) 0xd2a00001 refl refl (lit≤ tt) (refl, tt, λ e. refl)
-    ((omega (arith, ints), omega (arith, ints)), lit< tt, tt) refl refl
+high_move = applied (pos 0x12344) 0xd2a00001 refl (refl, tt, λ e. refl) refl (lit< tt) tt refl refl
 
 low_load : IsRelocated names.R_AARCH64_TLSIE_LD64_GOTTPREL_LO12_NC low
     (0x42 ∷ 0x0 ∷ 0x40 ∷ 0xf9 ∷ []) (0x42 ∷ 0xc ∷ 0x40 ∷ 0xf9 ∷ [])
-low_load =
-    relocated _ _ _ (pos 0x411018) 0xf9400042 refl refl (lit≤ tt) (refl, tt, λ e. refl)
-    (tt, lit< tt, tt) refl refl
+low_load = applied (pos 0x411018) 0xf9400042 refl (refl, tt, λ e. refl) refl (lit< tt) tt refl refl
 
 low_move : IsRelocated names.R_AARCH64_TLSLE_MOVW_TPREL_G0_NC low
     (0x2 ∷ 0x0 ∷ 0x80 ∷ 0xf2 ∷ []) (0x82 ∷ 0x68 ∷ 0x84 ∷ 0xf2 ∷ [])
-low_move =
-    relocated _ _ _ (pos 0x12344) 0xf2800002 refl refl (lit≤ tt) (refl, tt, λ e. refl)
-    (tt, lit< tt, tt) refl refl
+low_move = applied (pos 0x12344) 0xf2800002 refl (refl, tt, λ e. refl) refl (lit< tt) tt refl refl
 
 near_second : IsRelocated names.R_AARCH64_ADR_PREL_LO21 (following 4 load)
     (0x0 ∷ 0x0 ∷ 0x0 ∷ 0x10 ∷ []) (0xe0 ∷ 0x8 ∷ 0x10 ∷ 0x10 ∷ [])
-near_second =
-    relocated _ _ _ (pos 0x2011c) 0x10000000 refl refl (lit≤ tt) (refl, tt, λ e. refl)
-    ((omega (arith, ints), omega (arith, ints)), lit< tt, tt) refl refl
+near_second = applied (pos 0x2011c) 0x10000000 refl (refl, tt, λ e. refl) refl (lit< tt) tt refl refl
 
 near_first : IsRelocated names.R_AARCH64_ADR_PREL_LO21 load
     (0x0 ∷ 0x0 ∷ 0x0 ∷ 0x10 ∷ []) (0x0 ∷ 0x9 ∷ 0x10 ∷ 0x10 ∷ [])
-near_first =
-    relocated _ _ _ (pos 0x20120) 0x10000000 refl refl (lit≤ tt) (refl, tt, λ e. refl)
-    ((omega (arith, ints), omega (arith, ints)), lit< tt, tt) refl refl
+near_first = applied (pos 0x20120) 0x10000000 refl (refl, tt, λ e. refl) refl (lit< tt) tt refl refl
 
 near_load : IsRelocated names.R_AARCH64_ADR_PREL_LO21 (following 4 load)
     (0x0 ∷ 0x0 ∷ 0x40 ∷ 0x70 ∷ []) (0xe0 ∷ 0x8 ∷ 0x10 ∷ 0x10 ∷ [])
-near_load =
-    relocated _ _ _ (pos 0x2011c) 0x10000000 refl refl (lit≤ tt) (refl, tt, λ e. refl)
-    ((omega (arith, ints), omega (arith, ints)), lit< tt, tt) refl refl
+near_load = applied (pos 0x2011c) 0x10000000 refl (refl, tt, λ e. refl) refl (lit< tt) tt refl refl
 
 descriptor_page : IsRelocated names.R_AARCH64_TLSDESC_ADR_PAGE21 thread
     (0x0 ∷ 0x0 ∷ 0x0 ∷ 0x90 ∷ []) (0x80 ∷ 0x0 ∷ 0x0 ∷ 0xb0 ∷ [])
-descriptor_page =
-    relocated _ _ _ (pos 0x11000) 0x90000000 refl refl (lit≤ tt) (refl, tt, λ e. refl)
-    ((omega (arith, ints), omega (arith, ints)), lit< tt, tt) refl refl
+descriptor_page = applied (pos 0x11000) 0x90000000 refl (refl, tt, λ e. refl) refl (lit< tt) tt refl refl
 
 descriptor_low : IsRelocated names.R_AARCH64_TLSDESC_LD64_LO12 (following 4 thread)
     (0x1 ∷ 0x0 ∷ 0x40 ∷ 0xf9 ∷ []) (0x1 ∷ 0x8 ∷ 0x40 ∷ 0xf9 ∷ [])
-descriptor_low =
-    relocated _ _ _ (pos 0x411010) 0xf9400001 refl refl (lit≤ tt) (refl, tt, λ e. refl)
-    (tt, lit< tt, tt) refl refl
+descriptor_low = applied (pos 0x411010) 0xf9400001 refl (refl, tt, λ e. refl) refl (lit< tt) tt refl refl
 
 descriptor_sum : IsRelocated names.R_AARCH64_TLSDESC_ADD_LO12 (following 8 thread)
     (0x0 ∷ 0x0 ∷ 0x0 ∷ 0x91 ∷ []) (0x0 ∷ 0x40 ∷ 0x0 ∷ 0x91 ∷ [])
-descriptor_sum =
-    relocated _ _ _ (pos 0x411010) 0x91000000 refl refl (lit≤ tt) (refl, tt, λ e. refl)
-    (tt, lit< tt, tt) refl refl
+descriptor_sum = applied (pos 0x411010) 0x91000000 refl (refl, tt, λ e. refl) refl (lit< tt) tt refl refl
 
 offset_high : IsRelocated names.R_AARCH64_TLSLE_MOVW_TPREL_G1 thread
     (0x0 ∷ 0x0 ∷ 0xa0 ∷ 0xd2 ∷ []) (0x20 ∷ 0x0 ∷ 0xa0 ∷ 0xd2 ∷ [])
-offset_high =
-    relocated _ _ _ (pos 0x12344) 0xd2a00000 refl refl (lit≤ tt) (refl, tt, λ e. refl)
-    ((omega (arith, ints), omega (arith, ints)), lit< tt, tt) refl refl
+offset_high = applied (pos 0x12344) 0xd2a00000 refl (refl, tt, λ e. refl) refl (lit< tt) tt refl refl
 
 offset_low : IsRelocated names.R_AARCH64_TLSLE_MOVW_TPREL_G0_NC (following 4 thread)
     (0x0 ∷ 0x0 ∷ 0x80 ∷ 0xf2 ∷ []) (0x80 ∷ 0x68 ∷ 0x84 ∷ 0xf2 ∷ [])
-offset_low =
-    relocated _ _ _ (pos 0x12344) 0xf2800000 refl refl (lit≤ tt) (refl, tt, λ e. refl)
-    (tt, lit< tt, tt) refl refl
+offset_low = applied (pos 0x12344) 0xf2800000 refl (refl, tt, λ e. refl) refl (lit< tt) tt refl refl
 
 offset_page : IsRelocated names.R_AARCH64_TLSIE_ADR_GOTTPREL_PAGE21 (with_entry 0x411018 thread)
     (0x0 ∷ 0x0 ∷ 0x0 ∷ 0x90 ∷ []) (0x80 ∷ 0x0 ∷ 0x0 ∷ 0xb0 ∷ [])
-offset_page =
-    relocated _ _ _ (pos 0x11000) 0x90000000 refl refl (lit≤ tt) (refl, tt, λ e. refl)
-    ((omega (arith, ints), omega (arith, ints)), lit< tt, tt) refl refl
+offset_page = applied (pos 0x11000) 0x90000000 refl (refl, tt, λ e. refl) refl (lit< tt) tt refl refl
 
 offset_load : IsRelocated names.R_AARCH64_TLSIE_LD64_GOTTPREL_LO12_NC (following 4 (with_entry 0x411018 thread))
     (0x0 ∷ 0x0 ∷ 0x40 ∷ 0xf9 ∷ []) (0x0 ∷ 0xc ∷ 0x40 ∷ 0xf9 ∷ [])
-offset_load =
-    relocated _ _ _ (pos 0x411018) 0xf9400000 refl refl (lit≤ tt) (refl, tt, λ e. refl)
-    (tt, lit< tt, tt) refl refl
+offset_load = applied (pos 0x411018) 0xf9400000 refl (refl, tt, λ e. refl) refl (lit< tt) tt refl refl
 
 branch_on : IsRelocated names.R_AARCH64_JUMP26 jump
     (0x0 ∷ 0x0 ∷ 0x0 ∷ 0x14 ∷ []) (0x1 ∷ 0x0 ∷ 0x0 ∷ 0x14 ∷ [])
-branch_on =
-    relocated _ _ _ (pos 0x4) 0x14000000 refl refl (lit≤ tt) (refl, tt, λ e. refl)
-    ((omega (arith, ints), omega (arith, ints)), lit< tt, tt) refl refl
+branch_on = applied (pos 0x4) 0x14000000 refl (refl, tt, λ e. refl) refl (lit< tt) tt refl refl
 
 call_on : IsRelocated names.R_AARCH64_CALL26 link_jump
     (0x0 ∷ 0x0 ∷ 0x0 ∷ 0x94 ∷ []) (0x1 ∷ 0x0 ∷ 0x0 ∷ 0x94 ∷ [])
-call_on =
-    relocated _ _ _ (pos 0x4) 0x94000000 refl refl (lit≤ tt) (refl, tt, λ e. refl)
-    ((omega (arith, ints), omega (arith, ints)), lit< tt, tt) refl refl
+call_on = applied (pos 0x4) 0x94000000 refl (refl, tt, λ e. refl) refl (lit< tt) tt refl refl
 
 -- ---- programs
 
@@ -279,52 +238,30 @@ k3 = with_register 2 (half 0) k2
 abbrev k4 : Kinds
 k4 = with_register 2 same k3
 
-load_small : AreAddresses load
-load_small = addresses load (lit< tt) (lit< tt) (lit< tt) (lit< tt) (lit< tt) (lit< tt)
-
 abbrev pair_of_sum : List ℕ
 pair_of_sum = 0 ∷ 0 ∷ 0 ∷ 0x90 ∷ 0 ∷ 0 ∷ 0 ∷ 0x91 ∷ []
 
 abbrev nop_adr : List ℕ
 nop_adr = 0x1f ∷ 0x20 ∷ 0x03 ∷ 0xd5 ∷ 0 ∷ 0 ∷ 0 ∷ 0x10 ∷ []
 
+pair : (Is : ℕ → Type 0) (first second : List ℕ) → AreOfOneRegister (word_of first) (word_of second)
+    → Is (word_of second) → IsPair Is load (seen s0) first second
+pair Is first second one is = record { small = small load refl; at = refl; one_register = one; second_is = is }
+
 load_is : IsPair IsLdr64 load (seen s0) adrp_x0 ldr_x0
 load_is =
-    record {
-      small = load_small;
-      at = refl;
-      one_register = record {
-        first = refl;
-        into_own_source = record { same = refl; not_31 = λ e. omega arith };
-        register = refl;
-      };
-      second_is = refl;
-    }
+    pair IsLdr64 adrp_x0 ldr_x0 (record {
+      first = refl;
+      into_own_source = record { same = refl; not_31 = λ e. omega arith };
+      register = refl;
+    }) refl
 
-sum_is : IsPair IsAdd64 load (seen s0) adrp_x0 add_x0
-sum_is =
+sum_of_one : AreOfOneRegister 0x90000000 0x91000000
+sum_of_one =
     record {
-      small = load_small;
-      at = refl;
-      one_register = record {
-        first = refl;
-        into_own_source = record { same = refl; not_31 = λ e. omega arith };
-        register = refl;
-      };
-      second_is = refl;
-    }
-
-pair_is_sum : IsPair IsAdd64 load (seen s0) pair_of_sum (drop 4 pair_of_sum)
-pair_is_sum =
-    record {
-      small = load_small;
-      at = refl;
-      one_register = record {
-        first = refl;
-        into_own_source = record { same = refl; not_31 = λ e. omega arith };
-        register = refl;
-      };
-      second_is = refl;
+      first = refl;
+      into_own_source = record { same = refl; not_31 = λ e. omega arith };
+      register = refl;
     }
 
 p1 : Groups → Group (of_link (link c1)) 2 known s0 k1 s1
@@ -336,21 +273,21 @@ p1 g =
 p2 : Groups → Group (of_link (link c1)) 1 k1 s1 k2 s2
 p2 g =
     g.high_halves c1 0 high k1 s1 (1 ∷ 0 ∷ 0 ∷ 0x90 ∷ []) (1 ∷ 0 ∷ 0xa0 ∷ 0xd2 ∷ [])
-    (addresses high (lit< tt) (lit< tt) (lit< tt) (lit< tt) (lit< tt) (lit< tt)) refl refl refl refl
+    (small high refl) refl refl refl refl
     (λ e. omega arith) refl (has _ _ _ _ _ high_page refl) (has _ _ _ _ _ high_move refl)
 
 p3 : Groups → Other (of_link (link c1)) k2 s2 k3 s3
 p3 g =
     g.others c1 k2 k3 s2 s3 refl refl
     (λ t agree. subst (λ o. IsSomeAnd o (Agree (link c1) k3 s3))
-    (sym (ap (λ a. machine others c1.old (go_to a t)) agree.pc))
+    (sym (ap (λ a. does others c1.old 0x40000c (go_to a t)) agree.pc))
     (agree_put (link c1) k2 s2 t 2 (half 0) 0x411000 (t.registers 1) 0x400010 0x400010 agree
     (lit< tt) refl (agree.registers 1)))
 
 p4 : Groups → Group (of_link (link c1)) 1 k3 s3 k4 s4
 p4 g =
     g.low_halves c1 0 low k3 s3 (0x42 ∷ 0 ∷ 0x40 ∷ 0xf9 ∷ []) (2 ∷ 0 ∷ 0x80 ∷ 0xf2 ∷ [])
-    (addresses low (lit< tt) (lit< tt) (lit< tt) (lit< tt) (lit< tt) (lit< tt)) refl refl refl refl
+    (small low refl) refl refl refl refl
     (record { same = refl; not_31 = λ e. omega arith }) refl refl refl refl
     (has _ _ _ _ _ low_load refl) (has _ _ _ _ _ low_move refl)
 
@@ -383,7 +320,7 @@ nop_and_adr : Groups → IsAddress old_sum (second_adr 0xd503201f) 1
 nop_and_adr g =
     let c = code old_sum (second_adr 0xd503201f) in
     runs old_sum (second_adr 0xd503201f) 0x420120 1 2 2 (λ r. r 0 ≡ 0x420120) k1 there
-    (group 0 2 0 _ _ _ _ _ _ (g.nop_and_adr.0 c load known s0 pair_of_sum nop_adr pair_is_sum
+    (group 0 2 0 _ _ _ _ _ _ (g.nop_and_adr.0 c load known s0 pair_of_sum nop_adr (pair IsAdd64 pair_of_sum add_x0 sum_of_one refl)
     refl (has _ _ _ _ _ pair_page refl) (has _ _ _ _ _ symbol_low refl) refl (has _ _ _ _ _
     near_second refl)) (ends _ _)) refl (λ t. refl) addresses_end.0 addresses_end.2
 
@@ -400,37 +337,34 @@ adr_and_nop : Groups → IsAddress old_sum first_adr 1
 adr_and_nop g =
     runs old_sum first_adr 0x420120 1 2 2 (λ r. r 0 ≡ 0x420120) k1 there
     (group 0 2 0 _ _ _ _ _ _ (g.adr_and_nop.0 (code old_sum first_adr) load known s0 adrp_x0
-    add_x0 adr_x0 nop sum_is refl refl (has _ _ _ _ _ symbol_page refl) (has _ _ _ _ _ symbol_low
+    add_x0 adr_x0 nop (pair IsAdd64 adrp_x0 add_x0 sum_of_one refl) refl refl (has _ _ _ _ _ symbol_page refl) (has _ _ _ _ _ symbol_low
     refl) (has _ _ _ _ _ near_first refl) refl) (ends _ _)) refl (λ t. refl) addresses_end.0
     addresses_end.3
 
 -- the `adrp` of both, by old's code
 page_is : (t : State) → t.pc ≡ 0x400000
-    → machine others (words old_sum) t ≡ Some (put 0 0x420000 0x400004 t)
+    → does others (words old_sum) 0x400000 t ≡ Some (put 0 0x420000 0x400004 t)
 unfolding place_sum
-page_is t at = ap (λ a. machine others (words old_sum) (go_to a t)) at
+page_is t at = ap (λ a. does others (words old_sum) 0x400000 (go_to a t)) at
 
 entry_page_is : (t : State) → t.pc ≡ 0x400000
-    → machine others (words old_load) t ≡ Some (put 0 0x411000 0x400004 t)
+    → does others (words old_load) 0x400000 t ≡ Some (put 0 0x411000 0x400004 t)
 unfolding place_sum
-entry_page_is t at = ap (λ a. machine others (words old_load) (go_to a t)) at
+entry_page_is t at = ap (λ a. does others (words old_load) 0x400000 (go_to a t)) at
 
 other_adrp : Groups → (old new : List ℕ) (v : ℕ)
-    → loaded 4 (words old) 0x400000 ≡ loaded 4 (words new) 0x400000
-    → ((t : State) → t.pc ≡ 0x400000 → machine others (words old) t ≡ Some (put 0 v 0x400004 t))
+    → does others (words old) 0x400000 ≡ does others (words new) 0x400000
+    → ((t : State) → t.pc ≡ 0x400000 → does others (words old) 0x400000 t ≡ Some (put 0 v 0x400004 t))
     → Other (of_link (link (code old new))) known s0 k1 (put 0 v 0x400004 s0)
-other_adrp g old new v word goes =
-    g.others (code old new) known k1 s0 (put 0 v 0x400004 s0) word (goes s0 refl)
+other_adrp g old new v alike goes =
+    g.others (code old new) known k1 s0 (put 0 v 0x400004 s0) alike (goes s0 refl)
     (λ t agree.
-    holds_of (machine others (words old) t) (Agree (link (code old new)) k1 (put 0 v 0x400004 s0))
+    holds_of (does others (words old) 0x400000 t) (Agree (link (code old new)) k1 (put 0 v 0x400004 s0))
     (put 0 v 0x400004 t) (goes t agree.pc)
     (agree_put (link (code old new)) known s0 t 0 same v v 0x400004 0x400004 agree (lit< tt) refl refl))
 
 abbrev after_one : Operands
 after_one = following 4 load
-
-after_one_small : AreAddresses after_one
-after_one_small = addresses after_one (lit< tt) (lit< tt) (lit< tt) (lit< tt) (lit< tt) (lit< tt)
 
 add_to_adr : Groups → IsAddress old_sum (second_adr 0x90000100) 2
 add_to_adr g =
@@ -438,7 +372,7 @@ add_to_adr g =
     runs old_sum (second_adr 0x90000100) 0x420120 2 2 2 (λ r. r 0 ≡ 0x420120) (with_register 0 same k1) (put 0 0x420120 0x400008 u)
     (other 1 1 _ _ _ _ _ _ (other_adrp g old_sum (second_adr 0x90000100) 0x420000 refl page_is)
     (group 0 1 0 _ _ _ _ _ _ (g.add_to_adr (code old_sum (second_adr 0x90000100)) after_one k1 u
-    add_x0 adr_x0 after_one_small refl refl (λ e. omega arith) refl refl (has _ _ _ _ _
+    add_x0 adr_x0 (small after_one refl) refl refl (λ e. omega arith) refl refl (has _ _ _ _ _
     symbol_low refl) (has _ _ _ _ _ near_second refl)) (ends _ _))) refl (λ t. refl)
     addresses_end.0 addresses_end.4
 
@@ -448,7 +382,7 @@ ldr_to_adr g =
     runs old_load (second_adr 0xb0000080) 0x420120 2 2 2 (λ r. r 0 ≡ 0x420120) (with_register 0 same k1) (put 0 0x420120 0x400008 u)
     (other 1 1 _ _ _ _ _ _ (other_adrp g old_load (second_adr 0xb0000080) 0x411000 refl
     entry_page_is) (group 0 1 0 _ _ _ _ _ _ ((g.ldr_to_adr (code old_load (second_adr
-    0xb0000080)) after_one k1 u ldr_x0 (0 ∷ 0 ∷ 0x40 ∷ 0x70 ∷ []) after_one_small refl refl refl
+    0xb0000080)) after_one k1 u ldr_x0 (0 ∷ 0 ∷ 0x40 ∷ 0x70 ∷ []) (small after_one refl) refl refl refl
     refl refl (has _ _ _ _ _ entry_low refl) (has _ _ _ _ _ near_load refl)).0 (λ e. omega
     arith)) (ends _ _))) refl (λ t. refl) addresses_end.1 addresses_end.5
 
@@ -501,7 +435,7 @@ the_descriptor : (new : List ℕ)
     add_x0 blr_x1
 the_descriptor new =
     record {
-      small = addresses thread (lit< tt) (lit< tt) (lit< tt) (lit< tt) (lit< tt) (lit< tt);
+      small = small thread refl;
       at = refl;
       instructions = record {
         adrp_opcode = refl;
@@ -588,11 +522,9 @@ branches g =
     let s = starting 0 in
     let u = go_to 0x400004 s in
     runs old_branches passed 0 2 2 2 (λ r. r 0 ≡ 0) (with_register 30 anything known) (put 30 0x400008 0x400008 u)
-    (group 1 1 1 _ _ _ _ _ _ (g.branches.0 c jump known s (0 ∷ 0 ∷ 0 ∷ 0x14 ∷ []) nop (addresses
-    jump (lit< tt) (lit< tt) (lit< tt) (lit< tt) (lit< tt) (lit< tt)) refl refl refl refl (has _
+    (group 1 1 1 _ _ _ _ _ _ (g.branches.0 c jump known s (0 ∷ 0 ∷ 0 ∷ 0x14 ∷ []) nop (small jump refl) refl refl refl refl (has _
     _ _ _ _ branch_on refl) refl) (group 0 1 0 _ _ _ _ _ _ (g.branches.1 c link_jump known u (0 ∷
-    0 ∷ 0 ∷ 0x94 ∷ []) nop (addresses link_jump (lit< tt) (lit< tt) (lit< tt) (lit< tt) (lit< tt)
-    (lit< tt)) refl refl refl refl (has _ _ _ _ _ call_on refl) refl) (ends _ _))) refl (λ t.
+    0 ∷ 0 ∷ 0x94 ∷ []) nop (small link_jump refl) refl refl refl refl (has _ _ _ _ _ call_on refl) refl) (ends _ _))) refl (λ t.
     refl) branches_end.0 branches_end.1
 
 pub is_worked : Groups → IsWorked

@@ -1,36 +1,16 @@
 -- `adrp` with an instruction that has the offset in the page.
 use Rattle.std.proofs.Common.{◌≡◌, ◌≢◌, ℕ, ◌^◌, ◌<◌, sym, ◌∙◌, ap, List, pos, ◌*ℤ◌, ◌+ℤ◌, Some, take, drop, [], ◌∷◌, ◌+◌, ◌*◌, refl, arith}
-use Rattle.linker_laws.proofs.Imports.{w32, from_le_bytes, to_le_bytes, w64, from_le_bytes-to_le_bytes_4, aarch64_form, nop, rn_of, page, Adr, Add, LdSt, Operands}
+use Rattle.linker_laws.proofs.Imports.{w32, from_le_bytes, to_le_bytes, w64, from_le_bytes-to_le_bytes_4, word_of_front, aarch64_form, nop, rn_of, page, Adr, Add, LdSt, Operands}
 use Rattle.linker_laws.specs.AArch64RelocationLaws.{page_and_offset}
 use Rattle.linker_laws.specs.Schemes.{IsAddress}
 use Rattle.linker_laws.proofs.Sums.{once}
 use Rattle.linker_laws.specs.AArch64RewriteLaws.{word_of}
 use Rattle.linker_laws.specs.AArch64Machine.{State, step, in_64_bits, load_64, adrp_address, loaded, added, add, ldr, adr_address}
 use Rattle.linker_laws.proofs.AArch64Steps.{set, step_adrp, step_ldr, step_add, in_two_steps, loaded_from, address_is, read_back}
+use Rattle.linker_laws.proofs.Words.{back_word, front_pair}
 use Rattle.linker_laws.proofs.AArch64Words.{IsAdrOf, IsInstructionOf, decodes_adrp}
 
 -- ---- words of bytes
-
-front_word : (xs : List ℕ) → word_of (take 4 xs) ≡ word_of xs
-front_word [] = refl
-front_word (a ∷ []) = refl
-front_word (a ∷ b ∷ []) = refl
-front_word (a ∷ b ∷ c ∷ []) = refl
-front_word (a ∷ b ∷ c ∷ d ∷ xs) = refl
-
-front_pair : (xs : List ℕ) → word_of (take 8 xs) ≡ word_of xs
-front_pair [] = refl
-front_pair (a ∷ []) = refl
-front_pair (a ∷ b ∷ []) = refl
-front_pair (a ∷ b ∷ c ∷ []) = refl
-front_pair (a ∷ b ∷ c ∷ d ∷ xs) = refl
-
-back_word : (xs : List ℕ) → word_of (drop 4 (take 8 xs)) ≡ word_of (drop 4 xs)
-back_word [] = refl
-back_word (a ∷ []) = refl
-back_word (a ∷ b ∷ []) = refl
-back_word (a ∷ b ∷ c ∷ []) = refl
-back_word (a ∷ b ∷ c ∷ d ∷ xs) = front_word xs
 
 -- the words of `nop` and of what stands after it
 first_word : (r : ℕ) → r < 2 ^ 32 → word_of (to_le_bytes w64 (nop + r * 2 ^ 32)) ≡ nop
@@ -60,14 +40,14 @@ pair_made f before after small is =
 pub word_is : (n : ℕ) (bytes : List ℕ) → n < 2 ^ 32 → take 4 bytes ≡ to_le_bytes w32 n
     → word_of bytes ≡ n
 word_is n bytes small is =
-    sym (front_word bytes) ∙ ap (from_le_bytes w32) is ∙ from_le_bytes-to_le_bytes_4 n small
+    sym (word_of_front bytes) ∙ ap (from_le_bytes w32) is ∙ from_le_bytes-to_le_bytes_4 n small
 
 pub word_made : (f : ℕ → ℕ) (before after : List ℕ) → f (word_of before) < 2 ^ 32
     → take 4 after ≡ to_le_bytes w32 (f (word_of (take 4 before)))
     → word_of after ≡ f (word_of before)
 word_made f before after small is =
     word_is (f (word_of before)) after small
-    (is ∙ ap (λ x. to_le_bytes w32 (f x)) (front_word before))
+    (is ∙ ap (λ x. to_le_bytes w32 (f x)) (word_of_front before))
 
 -- what `ldr` of register n, which `adrp` has written, loads
 pub entry_loaded : (o : Operands) (n x y entry : ℕ) (s : State) → rn_of y ≡ n → s.pc ≡ o.place

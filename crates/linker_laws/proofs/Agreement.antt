@@ -1,10 +1,10 @@
 -- States that agree, after a register is written, and at other addresses.
 use Rattle.std.proofs.Common.{◌≡◌, ℕ, suc, ◌-◌, ◌^◌, ◌<◌, Bool, true, false, refl, sym, ◌∙◌, ap, subst, eqb-true, Some, arith, inl, inr}
-use Rattle.std.specs.Prelude.{if◌then◌else◌, ◌==◌, ◌⊎◌}
+use Rattle.std.specs.Prelude.{IsSomeAnd, if◌then◌else◌, ◌&&◌, ◌==◌, ◌⊎◌}
 use Rattle.linker_laws.specs.Machine.{loaded}
-use Rattle.linker_laws.specs.Simulation.{State, Link, Kind, Kinds, AreOf, AreStored, Agree, Group, anything, of_link, run, same}
-use Rattle.linker_laws.specs.Changes.{ChangesOpen, put, go_to, with_register}
-use Rattle.linker_laws.proofs.CoveredRuns.{holds_of}
+use Rattle.linker_laws.specs.Simulation.{State, Program, Link, Kind, Kinds, AreOf, AreStored, Agree, Group, Other, anything, of_link, run, same}
+use Rattle.linker_laws.specs.Changes.{ChangesOpen, OthersAgree, put, go_to, with_register}
+use Rattle.linker_laws.proofs.CoveredRuns.{holds_of, once, run_first}
 
 pick : (l : Link) (b : Bool) (k k' : Kind) (x x' y y' : ℕ) → AreOf l 8 k x y → AreOf l 8 k' x' y'
     → AreOf l 8 (if b then k else k') (if b then x else x') (if b then y else y')
@@ -16,6 +16,18 @@ pick_old : (l : Link) (b : Bool) (k k' : Kind) (x x' y : ℕ) → (b ≡ true �
     → AreOf l 8 k' x' y → AreOf l 8 (if b then k else k') (if b then x else x') y
 pick_old l true k k' x x' y here there = here refl
 pick_old l false k k' x x' y here there = there
+
+-- what was written last counts
+pub last_counts : (n u v a b : ℕ) (s : State) → put n v b (put n u a s) ≡ put n v b s
+last_counts n u v a b s = λ i. record s { pc = b; registers = λ m. by (m == n) (s.registers m) i }
+  where
+    by : (c : Bool) (r : ℕ) → (if c then v else (if c then u else r)) ≡ (if c then v else r)
+    by true r = refl
+    by false r = refl
+
+pub both_true : (a b : Bool) → a ≡ true → b ≡ true → (a && b) ≡ true
+both_true true b e f = f
+both_true false b e f = e
 
 pub agree_go : (l : Link) (k : Kinds) (s t : State) (next next' : ℕ) → Agree l k s t
     → next < 2 ^ 64 → next' ≡ l.moved next → Agree l k (go_to next s) (go_to next' t)
@@ -98,6 +110,14 @@ unchanged k s =
       outside = refl;
     }
 
+-- a group for which new executes some instructions
+pub group_of : (l : Link) (n more : ℕ) {k k' : Kinds} {s s' : State}
+    → run (suc more) (l.machine l.old) s ≡ Some s'
+    → ((t : State) → Agree l k s t → IsSomeAnd (run (suc n) (l.machine l.new) t) (Agree l k' s'))
+    → Group (of_link l) (suc n) k s k' s'
+group_of l n more goes new =
+    record { more = more; old_goes = goes; new_goes = new; forward = λ none. absurd (omega (arith, none)) }
+
 -- Instructions of new leave a number in a register, and so do those of old, which may change what
 -- may be anything then.
 pub value_group : (l : Link) (n more : ℕ) (k k' : Kinds) (s s' : State) (r v next : ℕ)
@@ -116,4 +136,36 @@ value_group l n more k k' s s' r v next small goes changes new_goes =
           (agree_open l (with_register r same k) k' (put r v next s) s' (put r v (l.moved next) t)
           (agree_put l k s t r same v v next (l.moved next) agree small refl refl) changes);
       forward = λ none. omega arith;
+    }
+
+-- another instruction, by what new's does where old's state is moved
+pub another : (l : Link) {k k' : Kinds} {s s' : State} → l.machine l.old s ≡ Some s'
+    → ((t : State) → Agree l k s t
+    → IsSomeAnd (l.machine l.new (go_to (l.moved s.pc) t)) (Agree l k' s'))
+    → Other (of_link l) k s k' s'
+another l {k} {k'} {s} {s'} goes new =
+    record {
+      old_goes = goes;
+      new_goes = λ t agree. subst (λ p. IsSomeAnd (l.machine l.new (go_to p t)) (Agree l k' s')) (sym agree.pc) (new t agree);
+    }
+
+-- the same of a group of one instruction
+pub one : (l : Link) {k k' : Kinds} {s s' : State} → Other (of_link l) k s k' s'
+    → Group (of_link l) 1 k s k' s'
+one l {k} {k'} {s} {s'} o =
+    record {
+      more = 0;
+      old_goes = run_first 0 (l.machine l.old) s s' (Some s') o.old_goes refl;
+      new_goes = λ t agree. once (l.machine l.new) t (Agree l k' s') (o.new_goes t agree);
+      forward = λ none. absurd (omega (arith, none));
+    }
+
+pub others_agree : (does : (ℕ → ℕ) → ℕ → Program) (l : Link)
+    → ((code : ℕ → ℕ) (s : State) → l.machine code s ≡ does code s.pc s) → OthersAgree does l
+others_agree does l is k k' s s' alike goes keeps =
+    record {
+      old_goes = is l.old s ∙ goes;
+      new_goes = λ t agree.
+          subst (λ o. IsSomeAnd o (Agree l k' s'))
+          (ap (λ p. p t) alike ∙ ap (λ a. does l.new a t) (sym agree.pc) ∙ sym (is l.new t)) (keeps t agree);
     }

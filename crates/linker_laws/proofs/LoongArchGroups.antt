@@ -1,6 +1,6 @@
 -- LoongArch's groups.
 use Rattle.std.proofs.Common.{◌≡◌, ◌≢◌, ℕ, suc, ◌+◌, ◌-◌, ◌*◌, ◌/◌, ◌^◌, ◌<◌, Bool, true, false, refl, sym, ◌∙◌, ap, ap₂, subst, arith, List, drop, Some, pos, ◌+ℤ◌, ◌*ℤ◌, inl, inr, not, ℤ, w64}
-use Rattle.linker_laws.proofs.Imports.{◌==◌, ◌&&◌, if◌then◌else◌, nat_lt, IsSomeAnd, cast_signed, cond-true, cond-false, cases_lt, eq-eqb, lt-ltb, le-ltb, ne_eqb, or_shifted, field, signed, RowIsWithin, IsWithin, loongarch_form, page, pcalau12i, loongarch_row, InstructionWritten, difference_64, sum_64, LoongArch64, Operands, Branch26, Shift5, IsCall, IsLowOfDescriptor, rj_of, signed_12, signed_32}
+use Rattle.linker_laws.proofs.Imports.{◌==◌, ◌&&◌, if◌then◌else◌, nat_lt, IsSomeAnd, cast_signed, cond-true, cond-false, cases_lt, eq-eqb, lt-ltb, le-ltb, ne_eqb, or_shifted, field, signed, RowIsWithin, IsWithin, loongarch_form, page, pcalau12i, loongarch_row, InstructionWritten, difference_64, sum_64, LoongArch64, Operands, Branch26, Shift10, Shift5, IsCall, IsLowOfDescriptor, rj_of, signed_12, signed_32}
 use Rattle.linker_elf.specs.Choices.{ValueIsWithin}
 use Rattle.linker_elf.specs.declared.loongarch64.relocations.LoongArch64Relocation.{LoongArch64Relocation}
 use Rattle.linker_elf.specs.declared.loongarch64.relocations.LoongArch64Relocation.TheVariants as names
@@ -17,7 +17,7 @@ use Rattle.linker_laws.specs.Schemes.{AreAddresses, IsAddress, entry_and_addend,
 use Rattle.linker_laws.specs.Simulation.{State, Agree, AreOf, Group, Kind, Kinds, anything, half, of_link, run, same}
 use Rattle.linker_laws.proofs.AArch64Pairs.{word_made}
 use Rattle.linker_laws.proofs.AArch64Steps.{address_is}
-use Rattle.linker_laws.proofs.Agreement.{agree_go, agree_open, agree_put, agree_put_old}
+use Rattle.linker_laws.proofs.Agreement.{agree_go, agree_open, agree_put, agree_put_old, both_true, group_of, last_counts, others_agree}
 use Rattle.linker_laws.proofs.CoveredRuns.{holds_of, run_first}
 use Rattle.linker_laws.proofs.Instructions.{relative}
 use Rattle.linker_laws.proofs.LoongArchCalls.{branch_after, call_is, decodes_b, decodes_bl, decodes_far, decodes_jirl, new_first, new_second, target_is}
@@ -28,7 +28,7 @@ use Rattle.linker_laws.proofs.LoongArchSteps.{set}
 use Rattle.linker_laws.proofs.LoongArchWords.{IsHigh, IsLow, high_after, low_after, low12_is}
 use Rattle.linker_laws.proofs.RiscVGroups.{counts}
 use Rattle.linker_laws.proofs.Sums.{difference_below, sum_below, eight}
-use Rattle.linker_utils.specs.LoongArchRewrites.{IsCallOfDescriptor, IsLd, IsLoadOfDescriptor, IsPcalau12i, rd_of, unsigned_12}
+use Rattle.linker_utils.specs.LoongArchRewrites.{IsAddi, IsCallOfDescriptor, IsLd, IsLoadOfDescriptor, IsPcalau12i, rd_of, unsigned_12}
 use Rattle.linker_utils.specs.declared.loongarch64.rewrites.RewriteKind.TheVariants as kinds
 
 -- ---- states
@@ -85,14 +85,6 @@ still_seen p s n v next small =
   where
     by : (r : ℕ) → (if 32 + r == n then v else s.registers (32 + r)) ≡ s.registers (32 + r)
     by r = cond-false (32 + r == n) v (s.registers (32 + r)) (ne_eqb (32 + r) n (λ e. omega arith))
-
--- what was written last counts
-last_counts : (n u v a b : ℕ) (s : State) → put n v b (put n u a s) ≡ put n v b s
-last_counts n u v a b s = λ i. record s { pc = b; registers = λ m. by (m == n) (s.registers m) i }
-  where
-    by : (c : Bool) (r : ℕ) → (if c then v else (if c then u else r)) ≡ (if c then v else r)
-    by true r = refl
-    by false r = refl
 
 below_32 : (word : ℕ) → rd_of word < 32
 below_32 word = omega arith
@@ -180,16 +172,11 @@ both_set : (c : Code) (x y : Operands) (k : Kinds) (s : State) (kind : Kind) (n 
     → AreOf (link c) 8 kind u v
     → Group (of_link (link c)) 1 k s (with_unless_zero n kind k) (put_unless_zero n u (sum_64 x.place 4) s)
 both_set c x y k s kind n u v wx wy at small old new first second are =
-    record {
-      more = 0;
-      old_goes = sets c.processor c.old s x.place wx n u at.at old small first;
-      new_goes = λ t agree.
-          let here = agree.pc ∙ ap c.moved at.at ∙ sym at.place in
-          holds_of (run 1 (machine c.processor c.new) t) _ (put_unless_zero n v (sum_64 y.place 4) t)
-          (sets c.processor c.new t y.place wy n v here new small (second t agree here))
-          (both_write c k s t n (sum_64 x.place 4) agree (sum_below x.place 4) kind u v (sum_64 y.place 4) at.next are);
-      forward = λ none. omega arith;
-    }
+    group_of (link c) 0 0 (sets c.processor c.old s x.place wx n u at.at old small first) (λ t agree.
+    let here = agree.pc ∙ ap c.moved at.at ∙ sym at.place in
+    holds_of (run 1 (machine c.processor c.new) t) _ (put_unless_zero n v (sum_64 y.place 4) t)
+    (sets c.processor c.new t y.place wy n v here new small (second t agree here))
+    (both_write c k s t n (sum_64 x.place 4) agree (sum_below x.place 4) kind u v (sum_64 y.place 4) at.next are))
 
 -- New has a `nop`.
 old_sets : (c : Code) (k : Kinds) (s : State) (n u wx wy : ℕ) → IsFollowed c 4 4 s → n < 32
@@ -197,16 +184,11 @@ old_sets : (c : Code) (k : Kinds) (s : State) (n u wx wy : ℕ) → IsFollowed c
     → step wx (seen c.processor s) ≡ Some (leaves n u (seen c.processor s))
     → Group (of_link (link c)) 1 k s (with_unless_zero n anything k) (put_unless_zero n u (sum_64 s.pc 4) s)
 old_sets c k s n u wx wy next small old new nop first =
-    record {
-      more = 0;
-      old_goes = sets c.processor c.old s s.pc wx n u refl old small first;
-      new_goes = λ t agree.
-          let after = sum_64 (c.moved s.pc) 4 in
-          holds_of (run 1 (machine c.processor c.new) t) _ (go_to after t)
-          (passes c.processor c.new t (c.moved s.pc) wy agree.pc new nop)
-          (old_writes c k s t n (sum_64 s.pc 4) agree (sum_below s.pc 4) u after next);
-      forward = λ none. omega arith;
-    }
+    group_of (link c) 0 0 (sets c.processor c.old s s.pc wx n u refl old small first) (λ t agree.
+    let after = sum_64 (c.moved s.pc) 4 in
+    holds_of (run 1 (machine c.processor c.new) t) _ (go_to after t)
+    (passes c.processor c.new t (c.moved s.pc) wy agree.pc new nop)
+    (old_writes c k s t n (sum_64 s.pc 4) agree (sum_below s.pc 4) u after next))
 
 -- New has nothing.
 nothing_left : (c : Code) (k : Kinds) (s : State) (n u wx : ℕ) → AreDeleted c 4 s → n < 32
@@ -229,10 +211,6 @@ nothing_left c k s n u wx d small old first =
     advances false = omega arith
 
 -- ---- high halves
-
-both_true : (a b : Bool) → a ≡ true → b ≡ true → (a && b) ≡ true
-both_true true b e f = f
-both_true false b e f = e
 
 -- a `pcalau12i` with a relocation
 pub record MakesPage (n : ℕ) (x : Operands) (word : ℕ) : Type 0 where
@@ -482,15 +460,10 @@ module _ (c : Code) (s : State) (jirl : List ℕ) (is : IsCallOfDescriptor (word
 pub are_descriptor_calls : groups.CallOfDescriptorToNop
 are_descriptor_calls jirl nop is made c s next new offset executes k k' s' small held old returns changes =
     let after = sum_64 (c.moved s.pc) 4 in
-    record {
-      more = executes;
-      old_goes = called c s jirl is offset executes k k' s' small old returns;
-      new_goes = λ t agree.
-          holds_of (run 1 (machine c.processor c.new) t) (Agree (link c) k' s') (go_to after t)
-          (passes c.processor c.new t (c.moved s.pc) (word_of nop) agree.pc new (nop_is jirl nop made))
-          (agreed c s jirl is offset executes k k' s' small t agree (held t agree) changes after next);
-      forward = λ none. omega arith;
-    }
+    group_of (link c) 0 executes (called c s jirl is offset executes k k' s' small old returns) (λ t agree.
+    holds_of (run 1 (machine c.processor c.new) t) (Agree (link c) k' s') (go_to after t)
+    (passes c.processor c.new t (c.moved s.pc) (word_of nop) agree.pc new (nop_is jirl nop made))
+    (agreed c s jirl is offset executes k k' s' small t agree (held t agree) changes after next))
 
 pub are_deleted_descriptor_calls : groups.CallOfDescriptorIsDeleted
 are_deleted_descriptor_calls c s jirl d is offset executes k k' s' small held old returns changes =
@@ -549,26 +522,22 @@ are_low_offsets x y low base of is made b c k k' s at one fits there held old st
     subst (λ m. IsWithin (Some signed_12) (cast_signed w64 m)) numbers fits in
     let sum = sum_64 (s.registers 2) (thread_offset x) in
     let action = λ (r : State). uses p a n sum r in
-    record {
-      more = 0;
-      old_goes =
-          once p c.old s (action s)
-          (goes p c.old s x.place (word_of old.relocated) (loongarch_machine.go_on (used a n sum (seen p s))) at.at old.stands
-          (step_action (word_of old.relocated) op n (seen p s) l.opcode is l.rd_is
-          ∙ ap (λ v. Some (loongarch_machine.go_on (used a n v (seen p s))))
-          (offset_sum x low old.relocated (seen p s) (rj_of (word_of low)) (s.registers 2) fits_x old.applied l.rj_is there)));
-      new_goes = λ t agree.
-          holds_of (run 1 (machine p c.new) t) (Agree (link c) k' (action s)) (action t)
-          (once p c.new t (action t)
-          (goes p c.new t y.place (word_of of) (loongarch_machine.go_on (used a n sum (seen p t)))
-          (agree.pc ∙ ap c.moved at.at ∙ sym at.place) stands
-          (step_action (word_of of) op n (seen p t) m.opcode is m.rd_is
-          ∙ ap (λ v. Some (loongarch_machine.go_on (used a n v (seen p t))))
-          (offset_sum y base of (seen p t) 2 (s.registers 2) fits b m.rj_is (held t agree)
-          ∙ ap (sum_64 (s.registers 2)) (sym one)))))
-          (keeps t agree);
-      forward = λ none. omega arith;
-    }
+    group_of (link c) 0 0
+    (once p c.old s (action s)
+    (goes p c.old s x.place (word_of old.relocated) (loongarch_machine.go_on (used a n sum (seen p s))) at.at old.stands
+    (step_action (word_of old.relocated) op n (seen p s) l.opcode is l.rd_is
+    ∙ ap (λ v. Some (loongarch_machine.go_on (used a n v (seen p s))))
+    (offset_sum x low old.relocated (seen p s) (rj_of (word_of low)) (s.registers 2) fits_x old.applied l.rj_is there))))
+    (λ t agree.
+    holds_of (run 1 (machine p c.new) t) (Agree (link c) k' (action s)) (action t)
+    (once p c.new t (action t)
+    (goes p c.new t y.place (word_of of) (loongarch_machine.go_on (used a n sum (seen p t)))
+    (agree.pc ∙ ap c.moved at.at ∙ sym at.place) stands
+    (step_action (word_of of) op n (seen p t) m.opcode is m.rd_is
+    ∙ ap (λ v. Some (loongarch_machine.go_on (used a n v (seen p t))))
+    (offset_sum y base of (seen p t) 2 (s.registers 2) fits b m.rj_is (held t agree)
+    ∙ ap (sum_64 (s.registers 2)) (sym one)))))
+    (keeps t agree))
 
 -- ---- addresses by two instructions
 
@@ -580,15 +549,10 @@ addresses : (c : Code) (n m : ℕ) (x y : Operands) (k : Kinds) (s : State) (kin
     → run (suc n) (machine c.processor c.new) t ≡ Some (put r v (sum_64 y.place m) t))
     → Group (of_link (link c)) (suc n) k s (with_register r kind k) (put r u (sum_64 x.place 8) s)
 addresses c n m x y k s kind r u v at are old new =
-    record {
-      more = 1;
-      old_goes = old;
-      new_goes = λ t agree.
-          holds_of (run (suc n) (machine c.processor c.new) t) _ (put r v (sum_64 y.place m) t)
-          (new t (agree.pc ∙ ap c.moved at.at ∙ sym at.place))
-          (agree_put (link c) k s t r kind u v (sum_64 x.place 8) (sum_64 y.place m) agree (sum_below x.place 8) at.next are);
-      forward = λ none. absurd (omega (arith, none));
-    }
+    group_of (link c) n 1 (old) (λ t agree.
+    holds_of (run (suc n) (machine c.processor c.new) t) _ (put r v (sum_64 y.place m) t)
+    (new t (agree.pc ∙ ap c.moved at.at ∙ sym at.place))
+    (agree_put (link c) k s t r kind u v (sum_64 x.place 8) (sum_64 y.place m) agree (sum_below x.place 8) at.next are))
 
 -- `pcalau12i rd` and `ld.d rd, rd` of an entry that holds the address
 load_goes : relocation_laws.RelativeAddresses → (c : Code) (x : Operands) (s : State) (pcala ld : List ℕ)
@@ -666,72 +630,65 @@ are_near_loads relative_laws branches c x y k s pcala ld pcaddi pair l made smal
     (near_after n _ pcala pcaddi near.relocated one.register made near.applied.written) one.into_own_source.not_zero
     (below_32 (word_of ld)) here near.stands (branches.3 y small y.place pcaddi near.relocated near.applied tt))
 
-pub are_near_sums : relocation_laws.RelativeAddresses → relocation_laws.Branches → groups.AddressToPcaddi
-are_near_sums relative_laws branches c x y k s pcala addi pcaddi pair l made small near kind at are =
+-- Addresses by two instructions become one by `pcaddi`, by what relocations wrote.
+near_sum : (c : Code) (x y : Operands) (k : Kinds) (s : State) (pcala addi pcaddi high low near : List ℕ) (u v : ℕ)
+    {a b d : ℤ} → IsPair IsAddi pcala addi → IsRewritten kinds.PcalaToPcaddi pcala pcaddi
+    → InstructionWritten (LoongArch64 Shift5) (record { start = 12; end = 32 }) a pcala high
+    → InstructionWritten (LoongArch64 Shift10) (record { start = 0; end = 12 }) b addi low
+    → InstructionWritten (LoongArch64 Shift5) (record { start = 2; end = 22 }) d pcaddi near
+    → Stands c.old x.place high → Stands c.old (sum_64 x.place 4) low → Stands c.new y.place near
+    → IsAddress (pcalau12i x.place (word_of high) +ℤ signed 12 (field (word_of low) 10 22)) u
+    → IsAddress (pos y.place +ℤ ((loongarch_form Shift5).machine (word_of near) *ℤ pos 4)) v
+    → (kind : Kind) → AreBefore c 8 4 x y s → AreOf (link c) 8 kind u v
+    → Group (of_link (link c)) 1 k s (with_register (rd_of (word_of addi)) kind k)
+    (put (rd_of (word_of addi)) u (sum_64 x.place 8) s)
+near_sum c x y k s pcala addi pcaddi high low near u v {a} {b} {d} pair made wa wb wd stands stands' stands_near leads leads_near kind at are =
     let one = pair.one_register in
+    let some = one.into_own_source.not_zero in
     let n = rd_of (word_of addi) in
+    addresses c 0 4 x y k s kind n u v at are
+    (sum_goes c.old c.processor x s n u high low (high_after 12 0x0d n a pcala high wa one.first one.register)
+    (low_after 0x00b n n b addi low wb pair.second_is refl one.into_own_source.same) some (below_32 (word_of addi)) at.at
+    stands stands' leads)
+    (λ t here.
+    near_goes c.new c.processor y t n v near (near_after n d pcala pcaddi near one.register made wd) some
+    (below_32 (word_of addi)) here stands_near leads_near)
+
+pub are_near_sums : relocation_laws.RelativeAddresses → relocation_laws.Branches → groups.AddressToPcaddi
+are_near_sums relative_laws branches c x y k s pcala addi pcaddi pair l made small near =
     let op = pair.second_is in
     let a = l.high.applied in
-    addresses c 0 4 x y k s kind n (symbol_address x) (symbol_address y) at are
-    (sum_goes c.old c.processor x s n (symbol_address x) l.high.relocated l.low.relocated
-    (high_after 12 0x0d n _ pcala l.high.relocated a.written one.first one.register)
-    (low_after 0x00b n n _ addi l.low.relocated
-    (low_written l.low.applied.value addi l.low.relocated op l.low.applied.written) op refl one.into_own_source.same)
-    one.into_own_source.not_zero (below_32 (word_of addi)) at.at l.high.stands l.low.stands
+    near_sum c x y k s pcala addi pcaddi l.high.relocated l.low.relocated near.relocated (symbol_address x)
+    (symbol_address y) pair made a.written
+    (low_written l.low.applied.value addi l.low.relocated op l.low.applied.written) near.applied.written
+    l.high.stands l.low.stands near.stands
     (relative_laws.0 x l.small x.place pcala l.high.relocated a (subst (ValueIsWithin signed_32) a.value_is l.fits)
-    (sum_64 x.place 4) addi l.low.relocated l.low.applied (ap not (no_jirl (word_of addi) op))))
-    (λ t here.
-    near_goes c.new c.processor y t n (symbol_address y) near.relocated
-    (near_after n _ pcala pcaddi near.relocated one.register made near.applied.written) one.into_own_source.not_zero
-    (below_32 (word_of addi)) here near.stands (branches.3 y small y.place pcaddi near.relocated near.applied tt))
+    (sum_64 x.place 4) addi l.low.relocated l.low.applied (ap not (no_jirl (word_of addi) op)))
+    (branches.3 y small y.place pcaddi near.relocated near.applied tt)
 
 pub are_near_entries : relocation_laws.RelativeAddresses → relocation_laws.Branches → groups.EntriesToPcaddi
 are_near_entries relative_laws branches = (
-  λ c x y k s pcala addi pcaddi pair l made small near kind at are.
-      let one = pair.one_register in
-      let n = rd_of (word_of addi) in
+  λ c x y k s pcala addi pcaddi pair l made small near.
       let a = l.high.applied in
-      addresses c 0 4 x y k s kind n (entry_and_addend x) (entry_and_addend y) at are
-      (sum_goes c.old c.processor x s n (entry_and_addend x) l.high.relocated l.low.relocated
-      (high_after 12 0x0d n _ pcala l.high.relocated a.written one.first one.register)
-      (low_after 0x00b n n _ addi l.low.relocated l.low.applied.written pair.second_is refl one.into_own_source.same)
-      one.into_own_source.not_zero (below_32 (word_of addi)) at.at l.high.stands l.low.stands
+      near_sum c x y k s pcala addi pcaddi l.high.relocated l.low.relocated near.relocated (entry_and_addend x)
+      (entry_and_addend y) pair made a.written l.low.applied.written near.applied.written l.high.stands l.low.stands near.stands
       (relative_laws.2 x l.small x.place pcala l.high.relocated a (subst (ValueIsWithin signed_32) a.value_is l.fits)
-      (sum_64 x.place 4) addi l.low.relocated l.low.applied tt))
-      (λ t here.
-      near_goes c.new c.processor y t n (entry_and_addend y) near.relocated
-      (near_after n _ pcala pcaddi near.relocated one.register made near.applied.written) one.into_own_source.not_zero
-      (below_32 (word_of addi)) here near.stands (branches.4 y small y.place pcaddi near.relocated near.applied tt)),
-  λ c x y k s pcala addi pcaddi pair l made small near kind at are.
-      let one = pair.one_register in
-      let n = rd_of (word_of addi) in
+      (sum_64 x.place 4) addi l.low.relocated l.low.applied tt)
+      (branches.4 y small y.place pcaddi near.relocated near.applied tt),
+  λ c x y k s pcala addi pcaddi pair l made small near.
       let a = l.high.applied in
-      addresses c 0 4 x y k s kind n (entry_and_addend x) (entry_and_addend y) at are
-      (sum_goes c.old c.processor x s n (entry_and_addend x) l.high.relocated l.low.relocated
-      (high_after 12 0x0d n _ pcala l.high.relocated a.written one.first one.register)
-      (low_after 0x00b n n _ addi l.low.relocated l.low.applied.written pair.second_is refl one.into_own_source.same)
-      one.into_own_source.not_zero (below_32 (word_of addi)) at.at l.high.stands l.low.stands
+      near_sum c x y k s pcala addi pcaddi l.high.relocated l.low.relocated near.relocated (entry_and_addend x)
+      (entry_and_addend y) pair made a.written l.low.applied.written near.applied.written l.high.stands l.low.stands near.stands
       (relative_laws.3 x l.small x.place pcala l.high.relocated a (subst (ValueIsWithin signed_32) a.value_is l.fits)
-      (sum_64 x.place 4) addi l.low.relocated l.low.applied tt))
-      (λ t here.
-      near_goes c.new c.processor y t n (entry_and_addend y) near.relocated
-      (near_after n _ pcala pcaddi near.relocated one.register made near.applied.written) one.into_own_source.not_zero
-      (below_32 (word_of addi)) here near.stands (branches.5 y small y.place pcaddi near.relocated near.applied tt)),
-  λ c x y k s pcala addi pcaddi pair l made small near kind at are.
-      let one = pair.one_register in
-      let n = rd_of (word_of addi) in
+      (sum_64 x.place 4) addi l.low.relocated l.low.applied tt)
+      (branches.5 y small y.place pcaddi near.relocated near.applied tt),
+  λ c x y k s pcala addi pcaddi pair l made small near.
       let a = l.high.applied in
-      addresses c 0 4 x y k s kind n (entry_and_addend x) (entry_and_addend y) at are
-      (sum_goes c.old c.processor x s n (entry_and_addend x) l.high.relocated l.low.relocated
-      (high_after 12 0x0d n _ pcala l.high.relocated a.written one.first one.register)
-      (low_after 0x00b n n _ addi l.low.relocated l.low.applied.written pair.second_is refl one.into_own_source.same)
-      one.into_own_source.not_zero (below_32 (word_of addi)) at.at l.high.stands l.low.stands
+      near_sum c x y k s pcala addi pcaddi l.high.relocated l.low.relocated near.relocated (entry_and_addend x)
+      (entry_and_addend y) pair made a.written l.low.applied.written near.applied.written l.high.stands l.low.stands near.stands
       (relative_laws.5 x l.small x.place pcala l.high.relocated a (subst (ValueIsWithin signed_32) a.value_is l.fits)
-      (sum_64 x.place 4) addi l.low.relocated l.low.applied tt))
-      (λ t here.
-      near_goes c.new c.processor y t n (entry_and_addend y) near.relocated
-      (near_after n _ pcala pcaddi near.relocated one.register made near.applied.written) one.into_own_source.not_zero
-      (below_32 (word_of addi)) here near.stands (branches.6 y small y.place pcaddi near.relocated near.applied tt)),
+      (sum_64 x.place 4) addi l.low.relocated l.low.applied tt)
+      (branches.6 y small y.place pcaddi near.relocated near.applied tt),
 )
 
 -- ---- calls
@@ -789,32 +746,28 @@ are_calls calls branches = (
       let word = word_made (λ _. 0x54000000) call branch (omega arith) made in
       let op : w / 2 ^ 26 ≡ 0x15 =
       branch_after _ branch new.relocated new.applied.written ∙ (let e : word_of branch / 2 ^ 26 ≡ 0x15 = omega arith in e) in
-      record {
-        more = 1;
-        old_goes =
-            call_goes calls c 1 x s (put 1 (sum_64 x.place 8) (plt_address x) s1) call of small at.at is r stands stands_after
-            (wrote p s1 1 (sum_64 s1.pc 4) (plt_address x) (omega arith)
-            ∙ ap (λ a. put 1 a (plt_address x) s1) (ap (λ a. sum_64 (sum_64 a 4) 4) at.at ∙ eight x.place));
-        new_goes = λ t agree.
-            let here = agree.pc ∙ ap c.moved at.at ∙ sym at.place in
-            holds_of (run 1 (machine p c.new) t) _ (put 1 (sum_64 y.place 4) (plt_address y) t)
-            (once p c.new t (put 1 (sum_64 y.place 4) (plt_address y) t)
-            (goes p c.new t y.place w
-            (loongarch_machine.go_to (plt_address y) (loongarch_machine.with_register 1 (sum_64 t.pc 4) (seen p t))) here new.stands
-            (ap (λ i. execute i w (seen p t)) (decodes_bl w op)
-            ∙ ap (λ a. Some (loongarch_machine.go_to a (loongarch_machine.with_register 1 (sum_64 t.pc 4) (seen p t))))
-            (branch_leads branches y (seen p t) branch new.relocated new_small here new.applied))
-            ∙ ap Some (wrote p t 1 (sum_64 t.pc 4) (plt_address y) (omega arith)
-            ∙ ap (λ a. put 1 (sum_64 a 4) (plt_address y) t) here)))
-            (agree_put (link c) (with_register n anything k) (put n far s.pc s) t 1 (of_place (sum_64 x.place 8))
-            (sum_64 x.place 8) (sum_64 y.place 4) (plt_address x) (plt_address y)
-            (agree_put_old (link c) k s t n anything far s.pc agree agree.small agree.pc tt)
-            (sum_below x.plt_entry _) target (
-              counts (sum_64 x.place 8) (sum_64 x.place 8) refl (sum_below x.place 8),
-              counts (c.moved (sum_64 x.place 8)) (sum_64 y.place 4) (sym at.next) (sum_below y.place 4),
-            ));
-        forward = λ none. absurd (omega (arith, none));
-      },
+      group_of (link c) 0 1
+      (call_goes calls c 1 x s (put 1 (sum_64 x.place 8) (plt_address x) s1) call of small at.at is r stands stands_after
+      (wrote p s1 1 (sum_64 s1.pc 4) (plt_address x) (omega arith)
+      ∙ ap (λ a. put 1 a (plt_address x) s1) (ap (λ a. sum_64 (sum_64 a 4) 4) at.at ∙ eight x.place)))
+      (λ t agree.
+      let here = agree.pc ∙ ap c.moved at.at ∙ sym at.place in
+      holds_of (run 1 (machine p c.new) t) _ (put 1 (sum_64 y.place 4) (plt_address y) t)
+      (once p c.new t (put 1 (sum_64 y.place 4) (plt_address y) t)
+      (goes p c.new t y.place w
+      (loongarch_machine.go_to (plt_address y) (loongarch_machine.with_register 1 (sum_64 t.pc 4) (seen p t))) here new.stands
+      (ap (λ i. execute i w (seen p t)) (decodes_bl w op)
+      ∙ ap (λ a. Some (loongarch_machine.go_to a (loongarch_machine.with_register 1 (sum_64 t.pc 4) (seen p t))))
+      (branch_leads branches y (seen p t) branch new.relocated new_small here new.applied))
+      ∙ ap Some (wrote p t 1 (sum_64 t.pc 4) (plt_address y) (omega arith)
+      ∙ ap (λ a. put 1 (sum_64 a 4) (plt_address y) t) here)))
+      (agree_put (link c) (with_register n anything k) (put n far s.pc s) t 1 (of_place (sum_64 x.place 8))
+      (sum_64 x.place 8) (sum_64 y.place 4) (plt_address x) (plt_address y)
+      (agree_put_old (link c) k s t n anything far s.pc agree agree.small agree.pc tt)
+      (sum_below x.plt_entry _) target (
+        counts (sum_64 x.place 8) (sum_64 x.place 8) refl (sum_below x.place 8),
+        counts (c.moved (sum_64 x.place 8)) (sum_64 y.place 4) (sym at.next) (sum_below y.place 4),
+      ))),
   λ c x y k s call of branch small new_small at target is made r stands stands_after new.
       let p = c.processor in
       let n = rd_of (word_of call) in
@@ -824,36 +777,24 @@ are_calls calls branches = (
       let word = word_made (λ _. 0x50000000) call branch (omega arith) made in
       let op : w / 2 ^ 26 ≡ 0x14 =
       branch_after _ branch new.relocated new.applied.written ∙ (let e : word_of branch / 2 ^ 26 ≡ 0x14 = omega arith in e) in
-      record {
-        more = 1;
-        old_goes =
-            call_goes calls c 0 x s (put n far (plt_address x) s) call of small at.at is r stands stands_after
-            (went p s1 (plt_address x));
-        new_goes = λ t agree.
-            let here = agree.pc ∙ ap c.moved at.at ∙ sym at.place in
-            holds_of (run 1 (machine p c.new) t) _ (go_to (plt_address y) t)
-            (once p c.new t (go_to (plt_address y) t)
-            (goes p c.new t y.place w (loongarch_machine.go_to (plt_address y) (seen p t)) here new.stands
-            (ap (λ i. execute i w (seen p t)) (decodes_b w op)
-            ∙ ap (λ a. Some (loongarch_machine.go_to a (seen p t)))
-            (branch_leads branches y (seen p t) branch new.relocated new_small here new.applied))
-            ∙ ap Some (went p t (plt_address y))))
-            (agree_put_old (link c) k (go_to (plt_address x) s) (go_to (plt_address y) t) n anything far (plt_address x)
-            (agree_go (link c) k s t (plt_address x) (plt_address y) agree (sum_below x.plt_entry _) target)
-            (sum_below x.plt_entry _) target tt);
-        forward = λ none. absurd (omega (arith, none));
-      },
+      group_of (link c) 0 1
+      (call_goes calls c 0 x s (put n far (plt_address x) s) call of small at.at is r stands stands_after
+      (went p s1 (plt_address x)))
+      (λ t agree.
+      let here = agree.pc ∙ ap c.moved at.at ∙ sym at.place in
+      holds_of (run 1 (machine p c.new) t) _ (go_to (plt_address y) t)
+      (once p c.new t (go_to (plt_address y) t)
+      (goes p c.new t y.place w (loongarch_machine.go_to (plt_address y) (seen p t)) here new.stands
+      (ap (λ i. execute i w (seen p t)) (decodes_b w op)
+      ∙ ap (λ a. Some (loongarch_machine.go_to a (seen p t)))
+      (branch_leads branches y (seen p t) branch new.relocated new_small here new.applied))
+      ∙ ap Some (went p t (plt_address y))))
+      (agree_put_old (link c) k (go_to (plt_address x) s) (go_to (plt_address y) t) n anything far (plt_address x)
+      (agree_go (link c) k s t (plt_address x) (plt_address y) agree (sum_below x.plt_entry _) target)
+      (sum_below x.plt_entry _) target tt)),
 )
 
 -- ---- other instructions
 
 pub are_others : groups.Others
-are_others c k k' s s' same_word first keeps =
-    record {
-      old_goes = first;
-      new_goes = λ t agree.
-          subst (λ o. IsSomeAnd o (Agree (link c) k' s'))
-          (ap (λ w. executed c.processor.others w t (step w (seen c.processor t)))
-          (same_word ∙ ap (loaded 4 c.new) (sym agree.pc)))
-          (keeps t agree);
-    }
+are_others c = others_agree (groups.does c.processor) (link c) (λ code s. refl)

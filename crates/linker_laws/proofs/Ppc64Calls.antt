@@ -1,5 +1,5 @@
 -- PowerPC64: what takes the place of a `nop` after a call.
-use Rattle.std.proofs.Common.{◌≡◌, ℕ, ◌^◌, ◌<◌, refl, sym, ◌∙◌, ap, arith, List, [], ◌∷◌, take, drop, Some, true}
+use Rattle.std.proofs.Common.{◌≡◌, ℕ, ◌^◌, ◌<◌, refl, sym, ◌∙◌, ap, arith, List, take, drop, Some, true}
 use Rattle.linker_laws.proofs.Imports.{◌&&◌, ◌==◌, and_parts, eqb-true, field, is_call, opcode_of, sum_64}
 use Rattle.linker_base.specs.Form.{place_sum}
 use Rattle.linker_utils.specs.Ppc64Rewrites.{nop, two_words}
@@ -8,27 +8,7 @@ use Rattle.linker_laws.specs.Ppc64RewriteLaws.{IsRewritten, word_of}
 use Rattle.linker_utils.specs.declared.ppc64.rewrites.RewriteKind.TheVariants as kinds
 use Rattle.linker_laws.specs.Ppc64Machine.{State, Formats, step, write, go_on}
 use Rattle.linker_laws.proofs.Ppc64Words.{step_nop}
-
-front : (xs : List ℕ) → word_of (take 8 xs) ≡ word_of xs
-front [] = refl
-front (a ∷ []) = refl
-front (a ∷ b ∷ []) = refl
-front (a ∷ b ∷ c ∷ []) = refl
-front (a ∷ b ∷ c ∷ d ∷ xs) = refl
-
-front_word : (xs : List ℕ) → word_of (take 4 xs) ≡ word_of xs
-front_word [] = refl
-front_word (a ∷ []) = refl
-front_word (a ∷ b ∷ []) = refl
-front_word (a ∷ b ∷ c ∷ []) = refl
-front_word (a ∷ b ∷ c ∷ d ∷ xs) = refl
-
-pub back : (xs : List ℕ) → word_of (drop 4 (take 8 xs)) ≡ word_of (drop 4 xs)
-back [] = refl
-back (a ∷ []) = refl
-back (a ∷ b ∷ []) = refl
-back (a ∷ b ∷ c ∷ []) = refl
-back (a ∷ b ∷ c ∷ d ∷ xs) = front_word xs
+use Rattle.linker_laws.proofs.Words.{back_word, front_pair}
 
 first_of : (a b : ℕ) → a < 2 ^ 32 → b < 2 ^ 32 → word_of (two_words a b) ≡ a
 first_of a b small below = omega arith
@@ -39,12 +19,12 @@ second_of a b small below = omega arith
 -- the words of what a rewrite leaves as two words
 pub first_made : (after : List ℕ) (a b : ℕ) → a < 2 ^ 32 → b < 2 ^ 32 → take 8 after ≡ two_words a b
     → word_of after ≡ a
-first_made after a b small below made = sym (front after) ∙ ap word_of made ∙ first_of a b small below
+first_made after a b small below made = sym (front_pair after) ∙ ap word_of made ∙ first_of a b small below
 
 pub second_made : (after : List ℕ) (a b : ℕ) → a < 2 ^ 32 → b < 2 ^ 32 → take 8 after ≡ two_words a b
     → word_of (drop 4 after) ≡ b
 second_made after a b small below made =
-    sym (back after) ∙ ap (λ xs. word_of (drop 4 xs)) made ∙ second_of a b small below
+    sym (back_word after) ∙ ap (λ xs. word_of (drop 4 xs)) made ∙ second_of a b small below
 
 restored_step : (f : Formats) (s : State)
     → step f 0xe8410018 s ≡ Some (go_on (write 2 (loaded 8 s.memory (sum_64 (s.registers 1) 24)) s))
@@ -59,7 +39,7 @@ restores_toc f s call restored small is made =
     let parts = and_parts (opcode_of (word_of call) == 18 && field (word_of call) 0 2 == 1)
     (word_of (drop 4 call) == nop) is in
     let made_words : take 8 restored ≡ two_words (word_of call) 0xe8410018 =
-    made ∙ ap (λ w. two_words w 0xe8410018) (front call) in (
+    made ∙ ap (λ w. two_words w 0xe8410018) (front_pair call) in (
       step_nop f (word_of (drop 4 call)) s (eqb-true _ _ parts.1),
       ap (λ w. step f w s) (second_made restored (word_of call) 0xe8410018 small (omega arith) made_words)
           ∙ restored_step f s,

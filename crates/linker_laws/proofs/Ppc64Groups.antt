@@ -14,7 +14,7 @@ use Rattle.linker_laws.specs.Ppc64RewriteLaws.{IsRelocated, IsRewritten, LowHalf
 use Rattle.linker_laws.specs.Schemes.{AreAddresses, symbol_address}
 use Rattle.linker_laws.specs.Simulation.{State, Agree, AreOf, Group, Kind, Kinds, anything, half, of_link, run, same}
 use Rattle.linker_laws.proofs.AArch64Pairs.{word_is, word_made}
-use Rattle.linker_laws.proofs.Agreement.{agree_go, agree_put, agree_put_old, value_group, unchanged as nothing_changes}
+use Rattle.linker_laws.proofs.Agreement.{agree_go, agree_put, agree_put_old, both_true, group_of, last_counts, others_agree, unchanged as nothing_changes, value_group}
 use Rattle.linker_laws.proofs.CoveredRuns.{holds_of, run_first}
 use Rattle.linker_laws.proofs.Ppc64Addresses.{ld_parts, reads_ds, same_parts, some_of}
 use Rattle.linker_laws.proofs.Ppc64Apart.{Does, High, IsBase, Keeps, base_some, general_leads, got_leads, module_leads, offset_leads, toc_leads}
@@ -114,14 +114,6 @@ still_seen s n v next small =
       link = cond-false (64 == n) v (s.registers 64) (ne_eqb 64 n (λ e. omega arith)) i;
     }
 
--- what was written last counts
-last_counts : (n u v a b : ℕ) (s : State) → put n v b (put n u a s) ≡ put n v b s
-last_counts n u v a b s = λ i. record s { pc = b; registers = λ m. by (m == n) (s.registers m) i }
-  where
-    by : (c : Bool) (r : ℕ) → (if c then v else (if c then u else r)) ≡ (if c then v else r)
-    by true r = refl
-    by false r = refl
-
 -- A register has the number that is written.
 unchanged : (n v next : ℕ) (s : State) → s.registers n ≡ v → put n v next s ≡ go_to next s
 unchanged n v next s is = λ i. record s { pc = next; registers = λ m. by m i }
@@ -173,10 +165,6 @@ once p code s t first = run_first 0 (machine p code) s t (Some t) first refl
 
 -- ---- groups of one instruction
 
-both_true : (a b : Bool) → a ≡ true → b ≡ true → (a && b) ≡ true
-both_true true b e f = f
-both_true false b e f = e
-
 are_half : (c : Code) (h u v : ℕ) → AreHalves c h u v → AreOf (link c) 8 (half h) u v
 are_half c h u v are =
     both_true (u == c.old_half h) (v == c.new_half h) (eq-eqb _ _ (sym are.0)) (eq-eqb _ _ (sym are.1))
@@ -192,35 +180,25 @@ leaves : (c : Code) (k : Kinds) (s : State) (n r : ℕ) (kind : Kind) (u v : ℕ
     → ((t : State) → Agree (link c) k s t → machine c.processor c.new t ≡ Some (put r v (sum_64 t.pc n) t))
     → AreOf (link c) 8 kind u v → Leaves n c k s r kind u
 leaves c k s n r kind u v first second are =
-    record {
-      more = 0;
-      old_goes = once c.processor c.old s (put r u (sum_64 s.pc n) s) first;
-      new_goes = λ t agree.
-          holds_of (run 1 (machine c.processor c.new) t) _ (put r v (sum_64 t.pc n) t)
-          (once c.processor c.new t (put r v (sum_64 t.pc n) t) (second t agree))
-          (agree_put (link c) k s t r kind u v (sum_64 s.pc n) (sum_64 t.pc n) agree (sum_below s.pc n)
-          (ap (λ p. sum_64 p n) agree.pc) are);
-      forward = λ none. omega arith;
-    }
+    group_of (link c) 0 0 (once c.processor c.old s (put r u (sum_64 s.pc n) s) first) (λ t agree.
+    holds_of (run 1 (machine c.processor c.new) t) _ (put r v (sum_64 t.pc n) t)
+    (once c.processor c.new t (put r v (sum_64 t.pc n) t) (second t agree))
+    (agree_put (link c) k s t r kind u v (sum_64 s.pc n) (sum_64 t.pc n) agree (sum_below s.pc n)
+    (ap (λ p. sum_64 p n) agree.pc) are))
 
 -- New has a `nop`.
 leaves_old : (c : Code) (k : Kinds) (s : State) (r u x : ℕ)
     → machine c.processor c.old s ≡ Some (put r u (sum_64 s.pc 4) s) → loaded 4 c.new s.pc ≡ x → x ≡ nop
     → Leaves 4 c k s r anything u
 leaves_old c k s r u x first stands blank =
-    record {
-      more = 0;
-      old_goes = once c.processor c.old s (put r u (sum_64 s.pc 4) s) first;
-      new_goes = λ t agree.
-          let next = sum_64 s.pc 4 in
-          holds_of (run 1 (machine c.processor c.new) t) _ (go_to (sum_64 t.pc 4) t)
-          (once c.processor c.new t (go_to (sum_64 t.pc 4) t)
-          (passes c.processor c.new t x (ap (loaded 4 c.new) agree.pc ∙ stands) blank))
-          (agree_put_old (link c) k (go_to next s) (go_to (sum_64 t.pc 4) t) r anything u next
-          (agree_go (link c) k s t next (sum_64 t.pc 4) agree (sum_below s.pc 4) (ap (λ p. sum_64 p 4) agree.pc))
-          (sum_below s.pc 4) (ap (λ p. sum_64 p 4) agree.pc) tt);
-      forward = λ none. omega arith;
-    }
+    group_of (link c) 0 0 (once c.processor c.old s (put r u (sum_64 s.pc 4) s) first) (λ t agree.
+    let next = sum_64 s.pc 4 in
+    holds_of (run 1 (machine c.processor c.new) t) _ (go_to (sum_64 t.pc 4) t)
+    (once c.processor c.new t (go_to (sum_64 t.pc 4) t)
+    (passes c.processor c.new t x (ap (loaded 4 c.new) agree.pc ∙ stands) blank))
+    (agree_put_old (link c) k (go_to next s) (go_to (sum_64 t.pc 4) t) r anything u next
+    (agree_go (link c) k s t next (sum_64 t.pc 4) agree (sum_below s.pc 4) (ap (λ p. sum_64 p 4) agree.pc))
+    (sum_below s.pc 4) (ap (λ p. sum_64 p 4) agree.pc) tt))
 
 -- ---- high halves
 
@@ -378,18 +356,15 @@ uses : (c : Code) (how : Use) (word address : ℕ) (k : Kinds) (s : State) (x y 
     → Uses c how word address k s
 uses c how word address k s x y old new first second k' keeps =
     let p = c.processor in
-    record {
-      more = 0;
-      old_goes = once p c.old s (used p how word address s)
-          (goes p c.old s x (go_on (how.does p.formats word address (seen s))) old first);
-      new_goes = λ t agree.
-          holds_of (run 1 (machine p c.new) t) _ (used p how word address t)
-          (once p c.new t (used p how word address t)
-          (goes p c.new t y (go_on (how.does p.formats word address (seen t))) (ap (loaded 4 c.new) agree.pc ∙ new)
-          (second t agree)))
-          (keeps t agree);
-      forward = λ none. omega arith;
-    }
+    group_of (link c) 0 0
+    (once p c.old s (used p how word address s)
+    (goes p c.old s x (go_on (how.does p.formats word address (seen s))) old first))
+    (λ t agree.
+    holds_of (run 1 (machine p c.new) t) _ (used p how word address t)
+    (once p c.new t (used p how word address t)
+    (goes p c.new t y (go_on (how.does p.formats word address (seen t))) (ap (loaded 4 c.new) agree.pc ∙ new)
+    (second t agree)))
+    (keeps t agree))
 
 -- A sum keeps agreement.
 pub sum_keeps : (c : Code) (k : Kinds) (s t : State) (test : ℕ → Bool) (word address : ℕ) → Agree (link c) k s t
@@ -916,10 +891,5 @@ are_toc call restored is made c k s old new holds =
     refl)
 
 pub are_others : groups.Others
-are_others c k k' s s' alike old_goes keeps =
-    record {
-      old_goes = old_goes;
-      new_goes = λ t agree.
-          subst (λ n. IsSomeAnd (execute c.processor n t) (Agree (link c) k' s'))
-          (ap (instruction_at c.old) agree.pc ∙ alike ∙ ap (instruction_at c.new) (sym agree.pc)) (keeps t agree);
-    }
+are_others c =
+    others_agree (λ code at. execute c.processor (instruction_at code at)) (link c) (λ code s. refl)

@@ -12,7 +12,8 @@ use Rattle.linker_laws.specs.Ppc64Groups as groups
 use Rattle.linker_laws.specs.Ppc64RewriteLaws as laws
 use Rattle.linker_laws.specs.Ppc64Machine.{State, Formats, base, step_prefixed, write, go_to}
 use Rattle.linker_laws.proofs.AArch64Words.{field_kept}
-use Rattle.linker_laws.proofs.Ppc64Calls.{first_made, second_made, back}
+use Rattle.linker_laws.proofs.Words.{back_word}
+use Rattle.linker_laws.proofs.Ppc64Calls.{first_made, second_made}
 use Rattle.linker_laws.proofs.RiscVMachine.{times_one, address_is}
 use Rattle.linker_laws.proofs.Words.{two_words}
 
@@ -122,7 +123,7 @@ pub paddi_parts : (pld paddi : List ℕ) → laws.IsRewritten kinds.PldToPaddi p
 paddi_parts pld paddi made =
     let rt = laws.prefixed_target pld in
     let turned : li_of rt < 2 ^ 32 = omega arith in
-    let made_words = made ∙ ap (λ w. both_words 0x06100000 (li_of (rt_of w))) (back pld) in
+    let made_words = made ∙ ap (λ w. both_words 0x06100000 (li_of (rt_of w))) (back_word pld) in
     let p1 = first_made paddi 0x06100000 (li_of rt) (omega arith) turned made_words in
     let p2 = second_made paddi 0x06100000 (li_of rt) (omega arith) turned made_words in
     of_words 0x06100000 (li_of rt) (prefixed_of paddi) 0x184 14 rt 0

@@ -15,7 +15,8 @@ use Rattle.linker_laws.specs.Schemes.{AreAddresses, symbol_address}
 use Rattle.linker_laws.proofs.AArch64Pairs.{word_made}
 use Rattle.linker_laws.proofs.Ppc64Accesses.{step_access, indexed_parts, below, indexed_word_parts, is_direct, step_word}
 use Rattle.linker_laws.proofs.Ppc64Apart.{Does, base_some}
-use Rattle.linker_laws.proofs.Ppc64Calls.{back, first_made, second_made}
+use Rattle.linker_laws.proofs.Words.{back_word}
+use Rattle.linker_laws.proofs.Ppc64Calls.{first_made, second_made}
 use Rattle.linker_laws.proofs.Ppc64LowHalves.{whole_from}
 use Rattle.linker_laws.proofs.Ppc64Offsets.{SumSteps, accesses_sum, adds_sum, words_sum}
 use Rattle.linker_laws.proofs.Ppc64Prefixed.{HasPrefixedParts, of_words}
@@ -57,7 +58,7 @@ over_thread n before over small made =
     let register : rt < 32 = omega arith in
     let word : addi_of_thread n rt < 2 ^ 32 = omega (arith, small, register) in
     let is = made_words over 0x06000000 (addi_of_thread n rt) (omega arith) word
-    (made ∙ ap (λ w. both_words 0x06000000 (addi_of_thread n (rt_of w))) (back before)) in
+    (made ∙ ap (λ w. both_words 0x06000000 (addi_of_thread n (rt_of w))) (back_word before)) in
     record {
       number_is = is;
       parts = of_words 0x06000000 (addi_of_thread n rt) (prefixed_of over) 0x180 14 rt 13 is (omega arith) word refl
@@ -72,7 +73,7 @@ loads_thread before pld made =
     let register : rt < 32 = omega arith in
     let word : ld_of rt < 2 ^ 32 = omega (arith, register) in
     let is = made_words pld 0x04100000 (ld_of rt) (omega arith) word
-    (made ∙ ap (λ w. both_words 0x04100000 (ld_of (rt_of w))) (back before)) in
+    (made ∙ ap (λ w. both_words 0x04100000 (ld_of (rt_of w))) (back_word before)) in
     of_words 0x04100000 (ld_of rt) (prefixed_of pld) 0x104 57 rt 0 is (omega arith) word refl
     (omega (arith, register)) (omega (arith, register)) (omega (arith, register))
 

@@ -1,6 +1,6 @@
 -- RISC-V's groups.
 use Rattle.std.proofs.Common.{Bool, add-one, zero, ◌≡◌, ◌≢◌, ℕ, suc, ◌+◌, ◌-◌, ◌*◌, ◌%◌, ◌^◌, ◌<◌, ◌≤◌, true, false, refl, sym, ◌∙◌, ap, ap₂, subst, arith, List, [], ◌∷◌, length, take, drop, Some, le_refl, w64, pos, ◌+ℤ◌, ◌-ℤ◌, ℤ, inl, inr}
-use Rattle.linker_laws.proofs.Imports.{◌==◌, if◌then◌else◌, nat_lt, option_map, IsSomeAnd, IsTrue, w16, w32, cast_signed, from_le_bytes, int_rem_euclid, cond-true, cond-false, cases_lt, lt-ltb, le-ltb, ne_eqb, ints, field, signed, rewritten, low_12_bounds, IsWithin, riscv_form, riscv_places, pair_row, riscv_row, difference_64, sum_64, RelocationKind, Absolute, TpOff, PltRelative, RelocationKindInfo, Operands, UType, IType, SType, CluiType, CjType, JType, UiType, IsCallPair, funct3_of, word_of_front, rewrites_word, with_rs1}
+use Rattle.linker_laws.proofs.Imports.{◌==◌, if◌then◌else◌, nat_lt, option_map, IsSomeAnd, IsTrue, w16, w32, cast_signed, from_le_bytes, int_rem_euclid, cond-true, cond-false, cases_lt, lt-ltb, le-ltb, ne_eqb, ints, field, signed, rewritten, low_12_bounds, IsWithin, riscv_form, riscv_places, pair_row, riscv_row, difference_64, sum_64, RelocationKind, Absolute, TpOff, PltRelative, RelocationKindInfo, Operands, UType, IType, SType, CluiType, CjType, JType, UiType, IsCallPair, funct3_of, word_of_front, rewrites_word, with_rs1, IsApplied}
 use Rattle.std.specs.Prelude.{Option, sum, ⊤}
 use Rattle.linker_base.specs.Form.{place_sum}
 use Rattle.linker_elf.specs.declared.elf.RelocationKind.TheVariants.{GotRelative, GotTpOff, Relative, RelativeRiscVLow12, TlsDesc}
@@ -8,7 +8,7 @@ use Rattle.linker_elf.specs.declared.riscv64.relocations.RiscVRelocation.TheVari
 use Rattle.linker_laws.specs.Changes.{go_to, put, with_register}
 use Rattle.linker_laws.specs.Machine.{AreBytes, loaded, moved, wrapped}
 use Rattle.linker_laws.specs.RiscVGroups as groups
-use Rattle.linker_laws.specs.RiscVGroups.{AreBefore, AreDeleted, Code, Has, Stands, bytes_at, continued, instruction_at, left, link, machine, seen, LowPartOf, upper_from, uses}
+use Rattle.linker_laws.specs.RiscVGroups.{AreBefore, AreDeleted, Code, Has, Stands, bytes_at, continued, instruction_at, left, link, machine, seen, LowPartOf, upper, upper_from, uses}
 use Rattle.linker_laws.specs.RiscVMachine.{Action, Hart, Instruction, action_of, add, adds, adds_word, auipc, executed, goes_to, i_type, jal, jumps, load_number, loads, loads_float, lui, of_half, of_word, register, rs1_of, rs2_of, s_type, step, stores, stores_float, sums, used, with_action, with_integer, with_number}
 use Rattle.linker_laws.specs.RiscVRelocationLaws.{AbsoluteAddresses, DescriptorAddresses, EntryAddresses, RelativeAddresses, ThreadAddresses, even}
 use Rattle.linker_laws.specs.RiscVRewriteLaws.{action_at, after_rewrite, IsLoadFromGot, IsLow12, low_row, of_entry, offset_row, t0, thread_offset, word_of}
@@ -16,7 +16,7 @@ use Rattle.linker_laws.specs.Schemes.{AreAddresses, entry_and_addend, plt_addres
 use Rattle.linker_laws.specs.Simulation.{State, Program, Agree, AreOf, Group, Kind, Kinds, anything, of_link, run, same}
 use Rattle.linker_laws.proofs.AArch64Moves.{distance_is}
 use Rattle.linker_laws.proofs.AArch64Steps.{in_two_steps}
-use Rattle.linker_laws.proofs.Agreement.{agree_open, agree_put, agree_put_old, unchanged, value_group}
+use Rattle.linker_laws.proofs.Agreement.{agree_open, agree_put, agree_put_old, group_of, last_counts, others_agree, unchanged, value_group}
 use Rattle.linker_laws.proofs.CoveredRuns.{holds_of, run_first, run_on}
 use Rattle.linker_laws.proofs.RiscVDescriptors.{load_word, lui_word, sum_word, upper_long, upper_word, call_word, low_long as low_long_word, made_word, ten, whole_number}
 use Rattle.linker_laws.proofs.RiscVHighParts.{IsFormulaOf, absolute_is, high_20, is_zero, low_12_number, near, no_high_part, of_address, of_offset, same_immediates, short_decodes, short_low, short_register, short_stands, upper_stands}
@@ -94,6 +94,50 @@ puts p s n i rd v next small goes leaves =
 pub once : (p : Program) (s t : State) → p s ≡ Some t → run 1 p s ≡ Some t
 once p s t goes = run_first 0 p s t (Some t) goes refl
 
+-- instructions to which a relocation was applied, by their bytes before and after
+module _ (others : List ℕ → Program) (code : ℕ → ℕ) (s : State) (kind : RelocationKind) (o : Operands)
+    (before after : List ℕ) (at next rd : ℕ) (here : s.pc ≡ at) (goes_on : sum_64 at 4 ≡ next)
+    (stands : Stands 4 code at after) (register_is : rd_of (word_of before) ≡ rd) where
+  small : rd < 32
+  small = subst (λ r. r < 32) register_is (below_32 (word_of before))
+
+  writes : (i : Instruction) (v v' : ℕ) → field (word_of after) 0 2 ≡ 3 → of_word (word_of after) ≡ Some i
+      → executed 4 i (seen s) ≡ goes_to (sum_64 s.pc 4) (with_integer rd v' (seen s)) → v' ≡ v
+      → machine others code s ≡ Some (put rd v next s)
+  writes i v v' long is leaves equal =
+      puts (machine others code) s 4 i rd v next small (word_goes others code s at after i here stands long is)
+      (leaves ∙ ap₂ (λ p v. goes_to (sum_64 p 4) (with_integer rd v (seen s))) here equal
+      ∙ ap (λ n. goes_to n (with_integer rd v (seen s))) goes_on)
+
+  lui_goes : (v : ℕ) → IsApplied (pair_row kind 32 UType) o before after → opcode_of (word_of before) ≡ 0x37
+      → upper after ≡ v → machine others code s ≡ Some (put rd v next s)
+  lui_goes v a op =
+      writes _ v (upper after) (upper_long kind o before after a 0x37 refl op)
+      (lui_word kind o before after a rd op register_is) refl
+
+  auipc_goes : IsApplied (pair_row kind 32 UType) o before after → opcode_of (word_of before) ≡ 0x17
+      → machine others code s ≡ Some (put rd (upper_from at after) next s)
+  auipc_goes a op =
+      writes _ (upper_from at after) (upper_from s.pc after) (upper_long kind o before after a 0x17 refl op)
+      (upper_word kind o before after a rd op register_is) refl (ap (λ p. upper_from p after) here)
+
+  abbrev added : ℕ → ℕ
+  added rs1 = moved (register (seen s) rs1) ((riscv_form IType).machine (word_of after))
+
+  sum_goes : (rs1 v : ℕ) → IsApplied (pair_row kind 32 IType) o before after → opcode_of (word_of before) ≡ 0x13
+      → funct3_of (word_of before) ≡ 0 → rs1_of (word_of before) ≡ rs1 → added rs1 ≡ v
+      → machine others code s ≡ Some (put rd v next s)
+  sum_goes rs1 v a op f from =
+      writes _ v (added rs1) (low_long_word kind o before after a 0x13 refl op)
+      (sum_word kind o before after a rd rs1 op f register_is from) refl
+
+  load_goes : (rs1 v : ℕ) → IsApplied (pair_row kind 32 IType) o before after → opcode_of (word_of before) ≡ 0x03
+      → funct3_of (word_of before) ≡ 3 → rs1_of (word_of before) ≡ rs1
+      → load_number 3 (loaded 8 s.memory (added rs1)) ≡ v → machine others code s ≡ Some (put rd v next s)
+  load_goes rs1 v a op f from =
+      writes _ v (load_number 3 (loaded 8 s.memory (added rs1))) (low_long_word kind o before after a 0x03 refl op)
+      (load_word kind o before after a rd rs1 op f register_is from) refl
+
 -- ---- deleted instructions
 
 pub nothing_left : (c : Code) (k : Kinds) (s : State) (rd v : ℕ) → AreDeleted c 4 s
@@ -119,18 +163,13 @@ lui_goes_away kind number of c x k s bytes d is low h =
     let n = number x in
     let below = of.1 x in
     let a = h.applied.applied in
-    let i = (riscv_form UType).machine (word_of h.relocated) in
     let small = d.small in
-    let none : wrapped i ≡ 0 =
+    let none : upper h.relocated ≡ 0 =
     ap (λ m. wrapped (signed 32 m)) (upper_stands kind x n bytes h.relocated a below (of.0 UType x)
     ∙ no_high_part n below (low_12_number n below low)) in
     let next : sum_64 s.pc 4 ≡ s.pc + 4 = omega (arith, small) in
     nothing_left c k s rd 0 d
-    (puts (machine c.others c.old) s 4 (lui rd i) rd 0 (s.pc + 4) (below_32 (word_of bytes))
-    (word_goes c.others c.old s s.pc h.relocated (lui rd i) refl h.stands
-    (upper_long kind x bytes h.relocated a 0x37 refl is)
-    (lui_word kind x bytes h.relocated a rd is refl))
-    (ap₂ (λ v n. goes_to n (with_integer rd v (seen s))) none next))
+    (lui_goes c.others c.old s kind x bytes h.relocated s.pc _ rd refl next h.stands refl 0 a is none)
 
 pub are_high_parts : groups.LuiIsDeleted
 are_high_parts c x k s bytes d m = lui_goes_away Absolute symbol_address of_address c x k s bytes d
@@ -197,11 +236,7 @@ are_luis_to_clui c x y k s bytes at m one high old new =
     short_register y before' new.relocated a' len' low_bits function some not_sp high' ∙ register' in
     value_group (link c) 0 0 k _ s _ rd (wrapped i) (sum_64 x.place 4) (sum_below x.place 4)
     (once (machine c.others c.old) s (put rd (wrapped i) (sum_64 x.place 4) s)
-    (puts (machine c.others c.old) s 4 (lui rd i) rd (wrapped i) (sum_64 x.place 4) (below_32 (word_of bytes))
-    (word_goes c.others c.old s x.place old.relocated (lui rd i) at.at old.stands
-    (upper_long Absolute x bytes old.relocated a 0x37 refl is)
-    (lui_word Absolute x bytes old.relocated a rd is refl))
-    (ap (λ p. goes_to (sum_64 p 4) (with_integer rd (wrapped i) (seen s))) at.at)))
+    (lui_goes c.others c.old s Absolute x bytes old.relocated x.place _ rd at.at refl old.stands refl (wrapped i) a is refl))
     (unchanged _ _)
     (λ t agree.
     let here = agree.pc ∙ ap c.moved at.at ∙ sym at.place in
@@ -241,11 +276,7 @@ are_cluis_to_cli c x y k s bytes clui at m is one low old stands =
     ∙ no_high_part n below (low_12_number n below low)) in
     value_group (link c) 0 0 k _ s _ rd 0 (sum_64 x.place 4) (sum_below x.place 4)
     (once (machine c.others c.old) s (put rd 0 (sum_64 x.place 4) s)
-    (puts (machine c.others c.old) s 4 (lui rd i) rd 0 (sum_64 x.place 4) (below_32 (word_of bytes))
-    (word_goes c.others c.old s x.place old.relocated (lui rd i) at.at old.stands
-    (upper_long Absolute x bytes old.relocated a 0x37 refl is)
-    (lui_word Absolute x bytes old.relocated a rd is refl))
-    (ap₂ (λ p v. goes_to (sum_64 p 4) (with_integer rd v (seen s))) at.at none)))
+    (lui_goes c.others c.old s Absolute x bytes old.relocated x.place _ rd at.at refl old.stands refl 0 a is none))
     (unchanged _ _)
     (λ t agree.
     let here = agree.pc ∙ ap c.moved at.at ∙ sym at.place in
@@ -270,23 +301,19 @@ low_group : (c : Code) (a : Action) (x y : Operands) (k k' : Kinds) (s : State) 
     → ((t : State) → Agree (link c) k s t → Agree (link c) k' (uses a word m s) (uses a word m t))
     → Group (of_link (link c)) 1 k s k' (uses a word m s)
 low_group c a x y k k' s word m b rs1 rd0 rs20 i i' bytes bytes' at here here' low low' is is' one_use sum sum' keeps =
-    record {
-      more = 0;
-      old_goes =
-          once (machine c.others c.old) s (uses a word m s)
-          (word_goes c.others c.old s x.place bytes (sums a rd0 rs1 rs20 i) at.at here low is
-          ∙ ap (λ m. Some (left s (used 4 a rd0 rs20 m (seen s)))) sum
-          ∙ ap (λ h. Some (left s h)) (one_use (seen s)));
-      new_goes = λ t agree.
-          holds_of (run 1 (machine c.others c.new) t) (Agree (link c) k' (uses a word m s)) (uses a word m t)
-          (once (machine c.others c.new) t (uses a word m t)
-          (word_goes c.others c.new t y.place bytes' (sums a rd0 b rs20 i')
-          (agree.pc ∙ ap c.moved at.at ∙ sym at.place) here' low' is'
-          ∙ ap (λ m. Some (left t (used 4 a rd0 rs20 m (seen t)))) (sum' t agree)
-          ∙ ap (λ h. Some (left t h)) (one_use (seen t))))
-          (keeps t agree);
-      forward = λ none. omega arith;
-    }
+    group_of (link c) 0 0
+    (once (machine c.others c.old) s (uses a word m s)
+    (word_goes c.others c.old s x.place bytes (sums a rd0 rs1 rs20 i) at.at here low is
+    ∙ ap (λ m. Some (left s (used 4 a rd0 rs20 m (seen s)))) sum
+    ∙ ap (λ h. Some (left s h)) (one_use (seen s))))
+    (λ t agree.
+    holds_of (run 1 (machine c.others c.new) t) (Agree (link c) k' (uses a word m s)) (uses a word m t)
+    (once (machine c.others c.new) t (uses a word m t)
+    (word_goes c.others c.new t y.place bytes' (sums a rd0 b rs20 i')
+    (agree.pc ∙ ap c.moved at.at ∙ sym at.place) here' low' is'
+    ∙ ap (λ m. Some (left t (used 4 a rd0 rs20 m (seen t)))) (sum' t agree)
+    ∙ ap (λ h. Some (left t h)) (one_use (seen t))))
+    (keeps t agree))
 
 -- the relocation of a low part, by its kind
 abbrev pub row_of : RelocationKind → Action → Option RelocationKindInfo
@@ -559,20 +586,15 @@ module _ (c : Code) (x y : Operands) (k : Kinds) (s : State) (call : List ℕ) (
       × (run (suc m) (machine c.others c.new) t ≡ Some (put l (sum_64 y.place n) target u)))
       → groups.IsCall c (suc m) x k s call old.relocated
   call_group m goes =
-      record {
-        more = 1;
-        old_goes = pair_goes c.others c.old x s call sx at.at pair some old;
-        new_goes = λ t agree.
-            let new = goes t (agree.pc ∙ ap c.moved at.at ∙ sym at.place) agree in
-            holds_of (run (suc m) (machine c.others c.new) t) _ (put l (sum_64 y.place n) target new.0) new.2
-            (agree_put (link c) (with_register base anything k) (put base v s.pc s) new.0 l
-            (groups.of_place (sum_64 x.place 8)) (sum_64 x.place 8) (sum_64 y.place n) (even plt_address x) target
-            new.1 (even_below (plt_address x) (sum_below x.plt_entry _)) leads (
-              counts (sum_64 x.place 8) (sum_64 x.place 8) refl (sum_below x.place 8),
-              counts (c.moved (sum_64 x.place 8)) (sum_64 y.place n) (sym at.next) (sum_below y.place n),
-            ));
-        forward = λ none. omega arith;
-      }
+      group_of (link c) m 1 (pair_goes c.others c.old x s call sx at.at pair some old) (λ t agree.
+      let new = goes t (agree.pc ∙ ap c.moved at.at ∙ sym at.place) agree in
+      holds_of (run (suc m) (machine c.others c.new) t) _ (put l (sum_64 y.place n) target new.0) new.2
+      (agree_put (link c) (with_register base anything k) (put base v s.pc s) new.0 l
+      (groups.of_place (sum_64 x.place 8)) (sum_64 x.place 8) (sum_64 y.place n) (even plt_address x) target
+      new.1 (even_below (plt_address x) (sum_below x.plt_entry _)) leads (
+        counts (sum_64 x.place 8) (sum_64 x.place 8) refl (sum_below x.place 8),
+        counts (c.moved (sum_64 x.place 8)) (sum_64 y.place n) (sym at.next) (sum_below y.place n),
+      )))
     where
       even_below : (a : ℕ) → a < 2 ^ 64 → a - a % 2 < 2 ^ 64
       even_below a small = omega arith
@@ -675,7 +697,7 @@ are_rewritten_calls call = (
 -- ---- loads from the GOT
 
 -- Old has the address in rY.
-load_goes : EntryAddresses → (c : Code) (x : Operands) (s : State) (auipc_bytes ld : List ℕ) → s.pc ≡ x.place
+pair_loads : EntryAddresses → (c : Code) (x : Operands) (s : State) (auipc_bytes ld : List ℕ) → s.pc ≡ x.place
     → AreAddresses x → IsLoadFromGot (word_of auipc_bytes) (word_of ld)
     → loaded 8 s.memory (entry_and_addend x) ≡ symbol_address x
     → (old : Has 4 c.old x.place (riscv_row names.R_RISCV_GOT_HI20) x auipc_bytes)
@@ -683,7 +705,7 @@ load_goes : EntryAddresses → (c : Code) (x : Operands) (s : State) (auipc_byte
     → run 2 (machine c.others c.old) s
     ≡ Some (put (rd_of (word_of ld)) (symbol_address x) (sum_64 x.place 8)
     (put (rd_of (word_of auipc_bytes)) (upper_from x.place old.relocated) (sum_64 x.place 4) s))
-load_goes entries c x s auipc_bytes ld at sx is holds old old_ld =
+pair_loads entries c x s auipc_bytes ld at sx is holds old old_ld =
     let x1 = rd_of (word_of auipc_bytes) in
     let y1 = rd_of (word_of ld) in
     let a1 = old.applied.applied in
@@ -701,17 +723,10 @@ load_goes entries c x s auipc_bytes ld at sx is holds old old_ld =
     ∙ ap (λ n. load_number 3 (loaded 8 s.memory n)) loads_from ∙ ap (load_number 3) holds
     ∙ whole_number (symbol_address x) (sum_below x.symbol _) in
     run_first 1 p s s1 _
-    (puts p s 4 (auipc x1 u) x1 v (sum_64 x.place 4) (below_32 (word_of auipc_bytes))
-    (word_goes c.others c.old s x.place old.relocated (auipc x1 u) at old.stands
-    (upper_long GotRelative x auipc_bytes old.relocated a1 0x17 refl is.first)
-    (upper_word GotRelative x auipc_bytes old.relocated a1 x1 is.first refl))
-    (ap (λ p. goes_to (sum_64 p 4) (with_integer x1 (moved p u) (seen s))) at))
+    (auipc_goes c.others c.old s GotRelative x auipc_bytes old.relocated x.place _ x1 at refl old.stands refl a1 is.first)
     (once p s1 (put y1 (symbol_address x) (sum_64 x.place 8) s1)
-    (puts p s1 4 (sums (loads 3) y1 x1 0 i) y1 (symbol_address x) (sum_64 x.place 8) (below_32 (word_of ld))
-    (word_goes c.others c.old s1 (sum_64 x.place 4) old_ld.relocated (sums (loads 3) y1 x1 0 i) refl old_ld.stands
-    (low_long_word RelativeRiscVLow12 (of_entry x) ld old_ld.relocated a2 0x03 refl is.second.0)
-    (load_word RelativeRiscVLow12 (of_entry x) ld old_ld.relocated a2 y1 x1 is.second.0 is.second.1 refl is.base))
-    (ap₂ (λ v n. goes_to n (with_integer y1 v (seen s1))) value (eight x.place))))
+    (load_goes c.others c.old s1 RelativeRiscVLow12 (of_entry x) ld old_ld.relocated (sum_64 x.place 4) _ y1 refl
+    (eight x.place) old_ld.stands refl x1 (symbol_address x) a2 is.second.0 is.second.1 is.base value))
 
 -- the `addi` of a `ld`
 abbrev IsAddiOf : ℕ → ℕ → ℕ → Type 0
@@ -752,33 +767,21 @@ are_loads entries relative c x y k kind s auipc_bytes ld sx sy at inside is hold
     moved_twice y.place u' i'
     ∙ address_is _ _ (relative.0 y sy y.place auipc_bytes new.relocated a3 tt y.place before' new_ld.relocated a4 tt) in
     let q = machine c.others c.new in
-    record {
-      more = 1;
-      old_goes = load_goes entries c x s auipc_bytes ld at.at sx is holds old old_ld;
-      new_goes = λ t agree.
-          let here = agree.pc ∙ ap c.moved at.at ∙ sym at.place in
-          let t1 = put x1 v' (sum_64 y.place 4) t in
-          let value' : moved (register (seen t1) x1) i' ≡ symbol_address y =
-          ap (λ n. moved n i') (written x1 v' (seen t) is.not_zero) ∙ leads in
-          holds_of (run 2 q t) _ (put y1 (symbol_address y) (sum_64 y.place 8) t1)
-          (run_first 1 q t t1 _
-          (puts q t 4 (auipc x1 u') x1 v' (sum_64 y.place 4) (below_32 (word_of auipc_bytes))
-          (word_goes c.others c.new t y.place new.relocated (auipc x1 u') here new.stands
-          (upper_long Relative y auipc_bytes new.relocated a3 0x17 refl is.first)
-          (upper_word Relative y auipc_bytes new.relocated a3 x1 is.first refl))
-          (ap (λ p. goes_to (sum_64 p 4) (with_integer x1 (moved p u') (seen t))) here))
-          (once q t1 (put y1 (symbol_address y) (sum_64 y.place 8) t1)
-          (puts q t1 4 (sums adds y1 x1 0 i') y1 (symbol_address y) (sum_64 y.place 8) (below_32 (word_of ld))
-          (word_goes c.others c.new t1 (sum_64 y.place 4) new_ld.relocated (sums adds y1 x1 0 i') refl new_ld.stands
-          (low_long_word RelativeRiscVLow12 y before' new_ld.relocated a4 0x13 refl (addi.0))
-          (sum_word RelativeRiscVLow12 y before' new_ld.relocated a4 y1 x1 (addi.0) (addi.1) (addi.2) (addi.3 ∙ is.base)))
-          (ap₂ (λ v n. goes_to n (with_integer y1 v (seen t1))) value' (eight y.place)))))
-          (agree_put (link c) (with_register x1 anything k) (put x1 v s.pc s) (put x1 v' t.pc t) y1 kind
-          (symbol_address x) (symbol_address y) (sum_64 x.place 8) (sum_64 y.place 8)
-          (agree_put (link c) k s t x1 anything v v' s.pc t.pc agree agree.small agree.pc tt)
-          (sum_below x.place 8) at.next are);
-      forward = λ none. omega arith;
-    }
+    group_of (link c) 1 1 (pair_loads entries c x s auipc_bytes ld at.at sx is holds old old_ld) (λ t agree.
+    let here = agree.pc ∙ ap c.moved at.at ∙ sym at.place in
+    let t1 = put x1 v' (sum_64 y.place 4) t in
+    let value' : moved (register (seen t1) x1) i' ≡ symbol_address y =
+    ap (λ n. moved n i') (written x1 v' (seen t) is.not_zero) ∙ leads in
+    holds_of (run 2 q t) _ (put y1 (symbol_address y) (sum_64 y.place 8) t1)
+    (run_first 1 q t t1 _
+    (auipc_goes c.others c.new t Relative y auipc_bytes new.relocated y.place _ x1 here refl new.stands refl a3 is.first)
+    (once q t1 (put y1 (symbol_address y) (sum_64 y.place 8) t1)
+    (sum_goes c.others c.new t1 RelativeRiscVLow12 y before' new_ld.relocated (sum_64 y.place 4) _ y1 refl
+    (eight y.place) new_ld.stands addi.2 x1 (symbol_address y) a4 addi.0 addi.1 (addi.3 ∙ is.base) value')))
+    (agree_put (link c) (with_register x1 anything k) (put x1 v s.pc s) (put x1 v' t.pc t) y1 kind
+    (symbol_address x) (symbol_address y) (sum_64 x.place 8) (sum_64 y.place 8)
+    (agree_put (link c) k s t x1 anything v v' s.pc t.pc agree agree.small agree.pc tt)
+    (sum_below x.place 8) at.next are))
 
 pub are_fixed_addresses : EntryAddresses → AbsoluteAddresses → groups.GotToFixedAddress
 are_fixed_addresses entries absolute c x y k s auipc_bytes ld at load sy one new new_ld =
@@ -806,33 +809,21 @@ are_fixed_addresses entries absolute c x y k s auipc_bytes ld at load sy one new
     (absolute.0.0 y sy y.place before new.relocated a1 tt y.place before' new_ld.relocated a2 tt)
     ∙ (let e : difference_64 (symbol_address y) 0 ≡ symbol_address y = omega (arith, below) in e) ∙ sym one in
     let q = machine c.others c.new in
-    record {
-      more = 1;
-      old_goes = load_goes entries c x s auipc_bytes ld at.at load.small is load.entry load.high load.low;
-      new_goes = λ t agree.
-          let here = agree.pc ∙ ap c.moved at.at ∙ sym at.place in
-          let t1 = put x1 (wrapped u) (sum_64 y.place 4) t in
-          let value' : moved (register (seen t1) x1) i ≡ n =
-          ap (λ n. moved n i) (written x1 (wrapped u) (seen t) is.not_zero) ∙ value in
-          holds_of (run 2 q t) _ (put y1 n (sum_64 y.place 8) t1)
-          (run_first 1 q t t1 _
-          (puts q t 4 (lui x1 u) x1 (wrapped u) (sum_64 y.place 4) (below_32 (word_of auipc_bytes))
-          (word_goes c.others c.new t y.place new.relocated (lui x1 u) here new.stands
-          (upper_long Absolute y before new.relocated a1 0x37 refl op)
-          (lui_word Absolute y before new.relocated a1 x1 op rd))
-          (ap (λ p. goes_to (sum_64 p 4) (with_integer x1 (wrapped u) (seen t))) here))
-          (once q t1 (put y1 n (sum_64 y.place 8) t1)
-          (puts q t1 4 (sums adds y1 x1 0 i) y1 n (sum_64 y.place 8) (below_32 (word_of ld))
-          (word_goes c.others c.new t1 (sum_64 y.place 4) new_ld.relocated (sums adds y1 x1 0 i) refl new_ld.stands
-          (low_long_word Absolute y before' new_ld.relocated a2 0x13 refl (addi.0))
-          (sum_word Absolute y before' new_ld.relocated a2 y1 x1 (addi.0) (addi.1) (addi.2) (addi.3 ∙ is.base)))
-          (ap₂ (λ v n. goes_to n (with_integer y1 v (seen t1))) value' (eight y.place)))))
-          (agree_put (link c) (with_register x1 anything k) (put x1 v s.pc s) (put x1 (wrapped u) t.pc t) y1 same
-          n n (sum_64 x.place 8) (sum_64 y.place 8)
-          (agree_put (link c) k s t x1 anything v (wrapped u) s.pc t.pc agree agree.small agree.pc tt)
-          (sum_below x.place 8) at.next refl);
-      forward = λ none. omega arith;
-    }
+    group_of (link c) 1 1 (pair_loads entries c x s auipc_bytes ld at.at load.small is load.entry load.high load.low) (λ t agree.
+    let here = agree.pc ∙ ap c.moved at.at ∙ sym at.place in
+    let t1 = put x1 (wrapped u) (sum_64 y.place 4) t in
+    let value' : moved (register (seen t1) x1) i ≡ n =
+    ap (λ n. moved n i) (written x1 (wrapped u) (seen t) is.not_zero) ∙ value in
+    holds_of (run 2 q t) _ (put y1 n (sum_64 y.place 8) t1)
+    (run_first 1 q t t1 _
+    (lui_goes c.others c.new t Absolute y before new.relocated y.place _ x1 here refl new.stands rd (wrapped u) a1 op refl)
+    (once q t1 (put y1 n (sum_64 y.place 8) t1)
+    (sum_goes c.others c.new t1 Absolute y before' new_ld.relocated (sum_64 y.place 4) _ y1 refl
+    (eight y.place) new_ld.stands addi.2 x1 n a2 addi.0 addi.1 (addi.3 ∙ is.base) value')))
+    (agree_put (link c) (with_register x1 anything k) (put x1 v s.pc s) (put x1 (wrapped u) t.pc t) y1 same
+    n n (sum_64 x.place 8) (sum_64 y.place 8)
+    (agree_put (link c) k s t x1 anything v (wrapped u) s.pc t.pc agree agree.small agree.pc tt)
+    (sum_below x.place 8) at.next refl))
 
 pub are_low_addresses : EntryAddresses → groups.GotToLowAddress
 are_low_addresses entries c x y k s auipc_bytes ld at load one is_low new =
@@ -860,24 +851,16 @@ are_low_addresses entries c x y k s auipc_bytes ld at load one is_low new =
     ∙ low_sum 0 o (o % 2 ^ 32 % 4096) below (low_12_number o below is_low) refl
     ∙ (let e : sum_64 0 o ≡ o = omega (arith, below) in e) ∙ sym one in
     let q = machine c.others c.new in
-    record {
-      more = 1;
-      old_goes = load_goes entries c x s auipc_bytes ld at.at load.small load.instructions load.entry load.high load.low;
-      new_goes = λ t agree.
-          let here = agree.pc ∙ ap c.moved at.at ∙ sym at.place in
-          holds_of (run 1 q t) _ (put y1 n (sum_64 y.place 4) t)
-          (once q t (put y1 n (sum_64 y.place 4) t)
-          (puts q t 4 (sums adds y1 0 0 i) y1 n (sum_64 y.place 4) (below_32 (word_of ld))
-          (word_goes c.others c.new t y.place new.relocated (sums adds y1 0 0 i) here new.stands
-          (low_long_word Absolute y before new.relocated a 0x13 refl op)
-          (sum_word Absolute y before new.relocated a y1 0 op f rd rs1))
-          (ap₂ (λ p v. goes_to (sum_64 p 4) (with_integer y1 v (seen t))) here value)))
-          (agree_put (link c) (with_register x1 anything k) (put x1 v s.pc s) t y1 same
-          n n (sum_64 x.place 8) (sum_64 y.place 4)
-          (agree_put_old (link c) k s t x1 anything v s.pc agree agree.small agree.pc tt)
-          (sum_below x.place 8) at.next refl);
-      forward = λ none. omega arith;
-    }
+    group_of (link c) 0 1
+    (pair_loads entries c x s auipc_bytes ld at.at load.small load.instructions load.entry load.high load.low) (λ t agree.
+    let here = agree.pc ∙ ap c.moved at.at ∙ sym at.place in
+    holds_of (run 1 q t) _ (put y1 n (sum_64 y.place 4) t)
+    (once q t (put y1 n (sum_64 y.place 4) t)
+    (sum_goes c.others c.new t Absolute y before new.relocated y.place _ y1 here refl new.stands rd 0 n a op f rs1 value))
+    (agree_put (link c) (with_register x1 anything k) (put x1 v s.pc s) t y1 same
+    n n (sum_64 x.place 8) (sum_64 y.place 4)
+    (agree_put_old (link c) k s t x1 anything v s.pc agree agree.small agree.pc tt)
+    (sum_below x.place 8) at.next refl))
 
 -- ---- TLS descriptors
 
@@ -932,23 +915,13 @@ descriptor_goes descriptors c x offset k s k' s' auipc_bytes ld addi jalr d =
     ∙ (let e : f - f % 2 ≡ f = omega (arith, is_even) in e) in
     let w4 = ws.fourth in
     run_first 3 p s s1 _
-    (puts p s 4 (auipc X u) X v (sum_64 x.place 4) (below_32 (word_of auipc_bytes))
-    (word_goes c.others c.old s x.place d.high.relocated (auipc X u) d.at d.high.stands
-    (upper_long TlsDesc x auipc_bytes d.high.relocated a1 0x17 refl ws.first)
-    (upper_word TlsDesc x auipc_bytes d.high.relocated a1 X ws.first refl))
-    (ap (λ p. goes_to (sum_64 p 4) (with_integer X (moved p u) (seen s))) d.at))
+    (auipc_goes c.others c.old s TlsDesc x auipc_bytes d.high.relocated x.place _ X d.at refl d.high.stands refl a1 ws.first)
     (run_first 2 p s1 s2 _
-    (puts p s1 4 (sums (loads 3) Y X 0 i) Y f (sum_64 x.place 8) (below_32 (word_of ld))
-    (word_goes c.others c.old s1 (sum_64 x.place 4) d.low.relocated (sums (loads 3) Y X 0 i) refl d.low.stands
-    (low_long_word TlsDesc x ld d.low.relocated a2 0x03 refl ws.second.0)
-    (load_word TlsDesc x ld d.low.relocated a2 Y X ws.second.0 ws.second.1 refl ws.base_of_ld))
-    (ap₂ (λ v n. goes_to n (with_integer Y v (seen s1))) loaded_is (eight x.place)))
+    (load_goes c.others c.old s1 TlsDesc x ld d.low.relocated (sum_64 x.place 4) _ Y refl (eight x.place) d.low.stands refl
+    X f a2 ws.second.0 ws.second.1 ws.base_of_ld loaded_is)
     (run_first 1 p s2 s3 _
-    (puts p s2 4 (sums adds a0 X 0 j) a0 entry (sum_64 x.place 12) (omega arith)
-    (word_goes c.others c.old s2 (sum_64 x.place 8) d.sum.relocated (sums adds a0 X 0 j) refl d.sum.stands
-    (low_long_word TlsDesc x addi d.sum.relocated a3 0x13 refl ws.third.0)
-    (sum_word TlsDesc x addi d.sum.relocated a3 10 X ws.third.0 ws.third.1 ws.third.2 ws.base_of_addi))
-    (ap₂ (λ v n. goes_to n (with_integer a0 v (seen s2))) (ap (λ n. moved n j) base2 ∙ passes) (twelve x.place)))
+    (sum_goes c.others c.old s2 TlsDesc x addi d.sum.relocated (sum_64 x.place 8) _ a0 refl (twelve x.place) d.sum.stands
+    ws.third.2 X entry a3 ws.third.0 ws.third.1 ws.base_of_addi (ap (λ n. moved n j) base2 ∙ passes))
     (once p s3 s4
     (puts p s3 4 (sums jumps t0 Y 0 (pos 0)) t0 (sum_64 x.place 16) f (omega arith)
     (word_goes c.others c.old s3 (sum_64 x.place 12) jalr (sums jumps t0 Y 0 (pos 0)) refl d.call
@@ -971,14 +944,6 @@ nop_goes c t at instruction here m stands =
     (word_goes c.others c.new t at bytes (sums adds 0 0 0 (pos 0)) here stands (ap (λ n. field n 0 2) w)
     (ap of_word w))
     (ap (λ p. goes_to (sum_64 p 4) (with_integer 0 0 (seen t))) here)
-
--- what was written last counts
-last_counts : (n u v a b : ℕ) (s : State) → put n v b (put n u a s) ≡ put n v b s
-last_counts n u v a b s = λ i. record s { pc = b; registers = λ m. by (m == n) (s.registers m) i }
-  where
-    by : (c : Bool) (r : ℕ) → (if c then v else (if c then u else r)) ≡ (if c then v else r)
-    by true r = refl
-    by false r = refl
 
 -- new runs n nops, and agrees but for its pc and register 0
 pub record Passes (c : Code) (n start : ℕ) (k : Kinds) (s t : State) : Type 0 where
@@ -1093,18 +1058,12 @@ are_to_local_exec descriptors thread c n at x y k k' s s' auipc_bytes ld addi ja
     (λ before_nops t agree memory here.
     let t1 = put 10 (wrapped u) (sum_64 at 4) t in
     run_first 1 q t t1 _
-    (puts q t 4 (lui 10 u) 10 (wrapped u) (sum_64 at 4) (omega arith)
-    (word_goes c.others c.new t at high.relocated (lui 10 u) here high.stands
-    (upper_long TpOff y before high.relocated a1 0x37 refl (ap opcode_of w1))
-    (lui_word TpOff y before high.relocated a1 10 (ap opcode_of w1) (ap rd_of w1)))
-    (ap (λ p. goes_to (sum_64 p 4) (with_integer 10 (wrapped u) (seen t))) here))
+    (lui_goes c.others c.new t TpOff y before high.relocated at _ 10 here refl high.stands (ap rd_of w1) (wrapped u) a1
+    (ap opcode_of w1) refl)
     (once q t1 (put 10 offset (sum_64 at 8) t1)
-    (puts q t1 4 (sums adds 10 10 0 l) 10 offset (sum_64 at 8) (omega arith)
-    (word_goes c.others c.new t1 (sum_64 at 4) low.relocated (sums adds 10 10 0 l) refl low.stands
-    (low_long_word TpOff y before' low.relocated a2 0x13 refl (ap opcode_of w2))
-    (sum_word TpOff y before' low.relocated a2 10 10 (ap opcode_of w2) (ap funct3_of w2) (ap rd_of w2) (ap rs1_of w2)))
-    (ap₂ (λ v n. goes_to n (with_integer 10 v (seen t1)))
-    (ap (λ n. moved n l) (written 10 (wrapped u) (seen t) ten) ∙ value) (eight at)))
+    (sum_goes c.others c.new t1 TpOff y before' low.relocated (sum_64 at 4) _ 10 refl (eight at) low.stands (ap rd_of w2) 10
+    offset a2 (ap opcode_of w2) (ap funct3_of w2) (ap rs1_of w2)
+    (ap (λ n. moved n l) (written 10 (wrapped u) (seen t) ten) ∙ value))
     ∙ ap Some (last_counts 10 (wrapped u) offset (sum_64 at 4) (sum_64 at 8) t)))
 
 pub are_to_short_local_exec : DescriptorAddresses → groups.DescriptorToShortLocalExec
@@ -1123,11 +1082,8 @@ are_to_short_local_exec descriptors c n at x y k k' s s' auipc_bytes ld addi jal
     descriptor_group descriptors c n 0 (thread_offset x) at x k k' s s' auipc_bytes ld addi jalr d nops
     (λ before_nops t agree memory here.
     once q t (put 10 (thread_offset x) (sum_64 at 4) t)
-    (puts q t 4 (sums adds 10 0 0 l) 10 (thread_offset x) (sum_64 at 4) (omega arith)
-    (word_goes c.others c.new t at low.relocated (sums adds 10 0 0 l) here low.stands
-    (low_long_word TpOff y before' low.relocated a2 0x13 refl (ap opcode_of w2))
-    (sum_word TpOff y before' low.relocated a2 10 0 (ap opcode_of w2) (ap funct3_of w2) (ap rd_of w2) (ap rs1_of w2)))
-    (ap₂ (λ p v. goes_to (sum_64 p 4) (with_integer 10 v (seen t))) here value)))
+    (sum_goes c.others c.new t TpOff y before' low.relocated at _ 10 here refl low.stands (ap rd_of w2) 0
+    (thread_offset x) a2 (ap opcode_of w2) (ap funct3_of w2) (ap rs1_of w2) value))
 
 pub are_to_initial_exec : DescriptorAddresses → EntryAddresses → groups.DescriptorToInitialExec
 are_to_initial_exec descriptors entries c n offset x y k k' s s' auipc_bytes ld addi jalr d sy wide holds nops long_addi long_jalr high low =
@@ -1148,30 +1104,18 @@ are_to_initial_exec descriptors entries c n offset x y k k' s s' auipc_bytes ld 
     (λ before_nops t agree memory here.
     let t1 = put 10 v (sum_64 y.place 4) t in
     run_first 1 q t t1 _
-    (puts q t 4 (auipc 10 u) 10 v (sum_64 y.place 4) (omega arith)
-    (word_goes c.others c.new t y.place high.relocated (auipc 10 u) here high.stands
-    (upper_long GotTpOff y before high.relocated a1 0x17 refl (ap opcode_of w1))
-    (upper_word GotTpOff y before high.relocated a1 10 (ap opcode_of w1) (ap rd_of w1)))
-    (ap (λ p. goes_to (sum_64 p 4) (with_integer 10 (moved p u) (seen t))) here))
+    (auipc_goes c.others c.new t GotTpOff y before high.relocated y.place _ 10 here refl high.stands (ap rd_of w1) a1
+    (ap opcode_of w1))
     (once q t1 (put 10 offset (sum_64 y.place 8) t1)
-    (puts q t1 4 (sums (loads 3) 10 10 0 l) 10 offset (sum_64 y.place 8) (omega arith)
-    (word_goes c.others c.new t1 (sum_64 y.place 4) low.relocated (sums (loads 3) 10 10 0 l) refl low.stands
-    (low_long_word RelativeRiscVLow12 (of_entry y) before' low.relocated a2 0x03 refl (ap opcode_of w2))
-    (load_word RelativeRiscVLow12 (of_entry y) before' low.relocated a2 10 10 (ap opcode_of w2) (ap funct3_of w2) (ap rd_of w2) (ap rs1_of w2)))
-    (ap₂ (λ v n. goes_to n (with_integer 10 v (seen t1)))
+    (load_goes c.others c.new t1 RelativeRiscVLow12 (of_entry y) before' low.relocated (sum_64 y.place 4) _ 10 refl
+    (eight y.place) low.stands (ap rd_of w2) 10 offset a2 (ap opcode_of w2) (ap funct3_of w2) (ap rs1_of w2)
     (ap (λ n. load_number 3 (loaded 8 t.memory n)) (ap (λ n. moved n l) (written 10 v (seen t) ten) ∙ leads)
     ∙ ap (λ m. load_number 3 (loaded 8 m (entry_and_addend y))) memory
-    ∙ ap (load_number 3) (holds before_nops agree) ∙ whole_number offset wide) (eight y.place)))
+    ∙ ap (load_number 3) (holds before_nops agree) ∙ whole_number offset wide))
     ∙ ap Some (last_counts 10 v offset (sum_64 y.place 4) (sum_64 y.place 8) t)))
 
 -- ---- other instructions
 
 pub are_others : groups.Others
-are_others c k k' s s' same_bytes goes keeps =
-    record {
-      old_goes = goes;
-      new_goes = λ t agree.
-          subst (λ o. IsSomeAnd o (Agree (link c) k' s'))
-          (ap (λ b. continued c.others b t (step b (seen t))) (same_bytes ∙ ap (instruction_at c.new) (sym agree.pc)))
-          (keeps t agree);
-    }
+are_others c =
+    others_agree (λ code at. groups.does c.others (instruction_at code at)) (link c) (λ code s. refl)

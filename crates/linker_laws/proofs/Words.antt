@@ -1,10 +1,10 @@
 -- Words and halves of bytes, and what writing an immediate keeps of them.
 use Rattle.std.proofs.Common.{◌≡◌, ℕ, ◌+◌, ◌-◌, ◌*◌, ◌^◌, ◌<◌, ◌≤◌, Bool, true, false, refl, ◌∙◌, ap, arith, List, [], ◌∷◌, ◌++◌, length, take, drop, ℤ, pos, int_lt, subst, Some}
-use Rattle.linker_laws.proofs.Imports.{w16, w32, w64, from_le_bytes, to_le_bytes, bit_at, agree_below, append_assoc, drop_at, from_le_bytes-to_le_bytes_4, field, window_of, is_placed, rewritten, replaces, BitRange, same_fields, InstructionWritten, riscv_form, RiscV, RiscVInstruction}
+use Rattle.linker_laws.proofs.Imports.{w16, w32, w64, from_le_bytes, to_le_bytes, bit_at, agree_below, append_assoc, drop_at, from_le_bytes-to_le_bytes_4, field, window_of, is_placed, rewritten, replaces, BitRange, same_fields, InstructionWritten, riscv_form, RiscV, RiscVInstruction, word_of_front}
 use Rattle.std.proofs.lemmas.Bool.{agree_below_at}
 use Rattle.std.proofs.lemmas.List.{length-take}
 use Rattle.std.proofs.lemmas.Nat.{from_le_bytes-to_le_bytes_2}
-use Rattle.linker_laws.specs.Machine.{AreBytes}
+use Rattle.linker_laws.specs.Machine.{AreBytes, word_of}
 
 -- ---- words
 
@@ -77,3 +77,19 @@ module _ (f : RiscVInstruction) (bits : BitRange) (v : ℤ) (before after : List
       (ap (is_placed ((riscv_form f).places w.clear)) (let e : i ≡ s + (i - s) = omega arith in e)
       ∙ agree_below_at (λ j. is_placed ((riscv_form f).places w.clear) (s + j)) (λ _. false) n
       (i - s) outside (omega arith)))
+
+-- ---- the words of 8 bytes
+
+pub front_pair : (xs : List ℕ) → word_of (take 8 xs) ≡ word_of xs
+front_pair [] = refl
+front_pair (a ∷ []) = refl
+front_pair (a ∷ b ∷ []) = refl
+front_pair (a ∷ b ∷ c ∷ []) = refl
+front_pair (a ∷ b ∷ c ∷ d ∷ xs) = refl
+
+pub back_word : (xs : List ℕ) → word_of (drop 4 (take 8 xs)) ≡ word_of (drop 4 xs)
+back_word [] = refl
+back_word (a ∷ []) = refl
+back_word (a ∷ b ∷ []) = refl
+back_word (a ∷ b ∷ c ∷ []) = refl
+back_word (a ∷ b ∷ c ∷ d ∷ xs) = word_of_front xs

@@ -1,6 +1,6 @@
 -- x86-64's groups.
 use Rattle.std.proofs.Common.{◌≡◌, ℕ, zero, suc, ◌+◌, ◌-◌, ◌*◌, ◌^◌, ◌<◌, ◌≤◌, refl, sym, ◌∙◌, ap, ap₂, subst, arith, Bool, true, false, List, [], ◌∷◌, take, drop, Some, IsSomeAnd, inl, inr, length, get_or, lit≤, eqb-true, eq-eqb, true≢false}
-use Rattle.linker_laws.proofs.Imports.{cond-true, cond-false, le-ltb, lt-ltb, ◌==◌, ◌&&◌, nat_lt, if◌then◌else◌, sum_64, difference_64, Operands, X86_64Relocation, rewritten, x86_64_relocation_after, Original, x86_64_rewrite}
+use Rattle.linker_laws.proofs.Imports.{and_parts, cond-true, cond-false, le-ltb, lt-ltb, ◌==◌, ◌&&◌, nat_lt, if◌then◌else◌, sum_64, difference_64, Operands, X86_64Relocation, rewritten, x86_64_relocation_after, Original, x86_64_rewrite}
 use Rattle.std.specs.Int.{byte_at}
 use Rattle.linker_laws.specs.Changes.{go_to, put, with_register}
 use Rattle.linker_laws.specs.Machine.{Memory}
@@ -14,7 +14,7 @@ use Rattle.linker_laws.specs.X86RewriteLaws.{thread_offset}
 use Rattle.linker_elf.specs.declared.x86_64.relocations.X86_64Relocation.TheVariants as names
 use Rattle.linker_utils.specs.declared.x86_64.rewrites.RewriteKind.{RewriteKind}
 use Rattle.linker_utils.specs.declared.x86_64.rewrites.RewriteKind.TheVariants.{SkipTlsDescCall, TlsDescToInitialExec, TlsDescToLocalExec}
-use Rattle.linker_laws.proofs.Agreement.{agree_go, agree_open, agree_put, agree_put_old}
+use Rattle.linker_laws.proofs.Agreement.{agree_go, agree_open, agree_put, agree_put_old, both_true, group_of, others_agree}
 use Rattle.linker_laws.proofs.CoveredRuns.{holds_of, once, run_first}
 use Rattle.linker_laws.proofs.X86Branches.{Leads}
 use Rattle.linker_laws.proofs.X86Branches as branches
@@ -116,15 +116,11 @@ module _ (c : Code) (m : ℕ) (s : State)
       (k : Kinds) (known : ℕ → Kind) → KeepsRegisters c k s known s'
       → Group (of_link (link c)) 1 k s (record k { registers = known }) s')
   one_group =
-      holds_of (machine c.others c.old s) _ s' old_goes (λ k known keeps. record {
-        more = 0;
-        old_goes = run_first 0 (machine c.others c.old) s s' (Some s') old_goes refl;
-        new_goes = λ t agree.
-            once (machine c.others c.new) t (Agree (link c) (record k { registers = known }) s')
-            (holds_of (machine c.others c.new t) _ (v k known keeps t agree)
-            (new_goes k known keeps t agree) (agree_after k known keeps t agree));
-        forward = λ none. omega arith;
-      })
+      holds_of (machine c.others c.old s) _ s' old_goes (λ k known keeps. group_of (link c) 0 0
+      (run_first 0 (machine c.others c.old) s s' (Some s') old_goes refl) (λ t agree.
+      once (machine c.others c.new) t (Agree (link c) (record k { registers = known }) s')
+      (holds_of (machine c.others c.new t) _ (v k known keeps t agree)
+      (new_goes k known keeps t agree) (agree_after k known keeps t agree))))
 
 pub are_groups : (n : ℕ) (instructions : List Original) (name : X86_64Relocation) (kind : RewriteKind)
     (held : Operands → ℕ) → n + 4 ≤ 15 → Replaced n instructions name kind held
@@ -215,42 +211,38 @@ is_call c o s small by holds k k' stack registers memory =
     let l = by holds in
     let next = sum_64 s.pc 6 in
     let s' = called o.symbol next s in
-    record {
-      more = 0;
-      old_goes =
-          run_first 0 (machine c.others c.old) s s' (Some s')
-          (goes c.others (bytes_at 15 c.old s.pc) s
-          (record { instruction = call (indirect l.from); size = 6 }) l.was
-          ∙ ap (λ p. Some (called p next s)) l.loads) refl;
-      new_goes = λ t agree.
-          let t' = called o.symbol next t in
-          let equal : s.registers 4 ≡ t.registers 4 =
-          subst (λ kind. AreOf (link c) 8 kind (s.registers 4) (t.registers 4)) stack
-          (agree.registers 4) in
-          let put = agree_put (link c) k s t 4 same (difference_64 (s.registers 4) 8)
-          (difference_64 (t.registers 4) 8) o.symbol o.symbol agree small refl
-          (ap (λ r. difference_64 r 8) equal) in
-          once (machine c.others c.new) t (Agree (link c) k' s')
-          (holds_of (machine c.others c.new t) _ t'
-          (ap (λ a. machine c.others c.new (record t { pc = a })) agree.pc
-          ∙ goes c.others (bytes_at 15 c.new s.pc) (record t { pc = s.pc })
-          (record { instruction = call (direct l.to); size = 6 }) l.is
-          ∙ ap (λ p. Some (called p next t)) l.leads)
-          (record {
-            small = small;
-            pc = refl;
-            registers = λ r.
-                subst (λ kind. AreOf (link c) 8 kind (s'.registers r) (t'.registers r))
-                (still_same k stack r ∙ ap (λ f. f r) (sym registers)) (put.registers r);
-            memory = λ a below.
-                subst (λ x. AreStored (link c) (k'.memory a) s'.memory
-                (store_8 (difference_64 x 8) next t.memory) a) equal
-                (pushed c k k' s t (difference_64 (s.registers 4) 8) next a (agree.memory a below)
-                (memory a below));
-            outside = agree.outside;
-          }));
-      forward = λ none. omega arith;
-    }
+    group_of (link c) 0 0
+    (run_first 0 (machine c.others c.old) s s' (Some s')
+    (goes c.others (bytes_at 15 c.old s.pc) s
+    (record { instruction = call (indirect l.from); size = 6 }) l.was
+    ∙ ap (λ p. Some (called p next s)) l.loads) refl)
+    (λ t agree.
+    let t' = called o.symbol next t in
+    let equal : s.registers 4 ≡ t.registers 4 =
+    subst (λ kind. AreOf (link c) 8 kind (s.registers 4) (t.registers 4)) stack
+    (agree.registers 4) in
+    let put = agree_put (link c) k s t 4 same (difference_64 (s.registers 4) 8)
+    (difference_64 (t.registers 4) 8) o.symbol o.symbol agree small refl
+    (ap (λ r. difference_64 r 8) equal) in
+    once (machine c.others c.new) t (Agree (link c) k' s')
+    (holds_of (machine c.others c.new t) _ t'
+    (ap (λ a. machine c.others c.new (record t { pc = a })) agree.pc
+    ∙ goes c.others (bytes_at 15 c.new s.pc) (record t { pc = s.pc })
+    (record { instruction = call (direct l.to); size = 6 }) l.is
+    ∙ ap (λ p. Some (called p next t)) l.leads)
+    (record {
+      small = small;
+      pc = refl;
+      registers = λ r.
+          subst (λ kind. AreOf (link c) 8 kind (s'.registers r) (t'.registers r))
+          (still_same k stack r ∙ ap (λ f. f r) (sym registers)) (put.registers r);
+      memory = λ a below.
+          subst (λ x. AreStored (link c) (k'.memory a) s'.memory
+          (store_8 (difference_64 x 8) next t.memory) a) equal
+          (pushed c k k' s t (difference_64 (s.registers 4) 8) next a (agree.memory a below)
+          (memory a below));
+      outside = agree.outside;
+    })))
 
 is_jump : (c : Code) (o : Operands) (s : State) → o.symbol < 2 ^ 64
     → (load 8 (seen s) o.got_entry ≡ o.symbol
@@ -258,23 +250,19 @@ is_jump : (c : Code) (o : Operands) (s : State) → o.symbol < 2 ^ 64
 is_jump c o s small by holds k =
     let l = by holds in
     let s' = go_to o.symbol s in
-    record {
-      more = 0;
-      old_goes =
-          run_first 0 (machine c.others c.old) s s' (Some s')
-          (goes c.others (bytes_at 15 c.old s.pc) s
-          (record { instruction = jump (indirect l.from); size = 6 }) l.was
-          ∙ ap (λ p. Some (go_to p s)) l.loads) refl;
-      new_goes = λ t agree.
-          once (machine c.others c.new) t (Agree (link c) k s')
-          (holds_of (machine c.others c.new t) _ (go_to o.symbol t)
-          (ap (λ a. machine c.others c.new (record t { pc = a })) agree.pc
-          ∙ goes c.others (bytes_at 15 c.new s.pc) (record t { pc = s.pc })
-          (record { instruction = jump (direct l.to); size = 5 }) l.is
-          ∙ ap (λ p. Some (go_to p t)) l.leads)
-          (agree_go (link c) k s t o.symbol o.symbol agree small refl));
-      forward = λ none. omega arith;
-    }
+    group_of (link c) 0 0
+    (run_first 0 (machine c.others c.old) s s' (Some s')
+    (goes c.others (bytes_at 15 c.old s.pc) s
+    (record { instruction = jump (indirect l.from); size = 6 }) l.was
+    ∙ ap (λ p. Some (go_to p s)) l.loads) refl)
+    (λ t agree.
+    once (machine c.others c.new) t (Agree (link c) k s')
+    (holds_of (machine c.others c.new t) _ (go_to o.symbol t)
+    (ap (λ a. machine c.others c.new (record t { pc = a })) agree.pc
+    ∙ goes c.others (bytes_at 15 c.new s.pc) (record t { pc = s.pc })
+    (record { instruction = jump (direct l.to); size = 5 }) l.is
+    ∙ ap (λ p. Some (go_to p t)) l.leads)
+    (agree_go (link c) k s t o.symbol o.symbol agree small refl)))
 
 pub are_branches : groups.Branches
 are_branches = (
@@ -290,14 +278,6 @@ are_branches = (
 
 -- ---- descriptors
 
-pub both_true : (a b : Bool) → a ≡ true → b ≡ true → (a && b) ≡ true
-both_true true b e f = f
-both_true false b e f = e
-
-second_true : (a b : Bool) → (a && b) ≡ true → b ≡ true
-second_true true b e = e
-second_true false b e = absurd (true≢false (sym e))
-
 is_lea : (n : ℕ) (register_of : List ℕ → ℕ) (Makes : Code → Kinds → State → Operands → ℕ → Type 0)
     (c : Code) (o : Operands) (s : State) (number : x86_machine.State → ℕ)
     → AreLea (n + 4) (bytes_at 15 c.old s.pc) (bytes_at 15 c.new s.pc) register_of o (seen s) number
@@ -308,28 +288,24 @@ is_lea n register_of Makes c o s number l made h k descriptor makes =
     let next = sum_64 s.pc (n + 4) in
     subst (λ r. Group (of_link (link c)) 1 k s (with_register r (half h) k) (put r o.got_entry next s))
     (sym l.in_code)
-    (record {
-      more = 0;
-      old_goes =
-          run_first 0 (machine c.others c.old) s (put l.r o.got_entry next s) _
-          (goes c.others (bytes_at 15 c.old s.pc) s
-          (record { instruction = lea 64 l.r l.f; size = n + 4 }) l.was
-          ∙ ap (λ x. Some (put l.r x next s)) l.leads) refl;
-      new_goes = λ t agree.
-          let at = record t { pc = s.pc } in
-          once (machine c.others c.new) t (Agree (link c) (with_register l.r (half h) k)
-          (put l.r o.got_entry next s))
-          (holds_of (machine c.others c.new t) _ (put l.r (number (seen at)) next t)
-          (ap (λ a. machine c.others c.new (record t { pc = a })) agree.pc
-          ∙ goes c.others (bytes_at 15 c.new s.pc) at
-          (record { instruction = operate MOV 64 (register l.r) l.from; size = n + 4 }) l.is
-          ∙ ap (λ x. Some (put l.r x next t)) (l.value (seen at) refl))
-          (agree_put (link c) k s t l.r (half h) o.got_entry (number (seen at)) next next agree
-          (below_64 s.pc (n + 4)) refl
-          (both_true (o.got_entry == c.old_half h) (number (seen at) == c.new_half h)
-          (eq-eqb _ _ (sym descriptor)) (eq-eqb _ _ (made k (c.new_half h) makes t agree)))));
-      forward = λ none. omega arith;
-    })
+    (group_of (link c) 0 0
+    (run_first 0 (machine c.others c.old) s (put l.r o.got_entry next s) _
+    (goes c.others (bytes_at 15 c.old s.pc) s
+    (record { instruction = lea 64 l.r l.f; size = n + 4 }) l.was
+    ∙ ap (λ x. Some (put l.r x next s)) l.leads) refl)
+    (λ t agree.
+    let at = record t { pc = s.pc } in
+    once (machine c.others c.new) t (Agree (link c) (with_register l.r (half h) k)
+    (put l.r o.got_entry next s))
+    (holds_of (machine c.others c.new t) _ (put l.r (number (seen at)) next t)
+    (ap (λ a. machine c.others c.new (record t { pc = a })) agree.pc
+    ∙ goes c.others (bytes_at 15 c.new s.pc) at
+    (record { instruction = operate MOV 64 (register l.r) l.from; size = n + 4 }) l.is
+    ∙ ap (λ x. Some (put l.r x next t)) (l.value (seen at) refl))
+    (agree_put (link c) k s t l.r (half h) o.got_entry (number (seen at)) next next agree
+    (below_64 s.pc (n + 4)) refl
+    (both_true (o.got_entry == c.old_half h) (number (seen at) == c.new_half h)
+    (eq-eqb _ _ (sym descriptor)) (eq-eqb _ _ (made k (c.new_half h) makes t agree)))))))
 
 to_offset : (n : ℕ) (name : X86_64Relocation) (register_of : List ℕ → ℕ) → n + 4 ≤ 15
     → LeaOf n name register_of (TlsDescToLocalExec n) (λ operands. operands) (λ o t. thread_offset o)
@@ -376,29 +352,25 @@ are_descriptor_calls c s calls at bytes matches old new h executes k k' s' has r
     (drop at (rewritten (x86_64_rewrite SkipTlsDescCall) calls at))
     (starts 2 c.new s.pc (drop at (rewritten (x86_64_rewrite SkipTlsDescCall) calls at)) (lit≤ tt) new)
     (drop (at + 2) calls, leas.nop_code calls at matches) in
-    record {
-      more = executes;
-      old_goes =
-          run_first executes (machine c.others c.old) s
-          (called (load 8 (seen s) (s.registers 0)) next s) (Some s')
-          (goes c.others (bytes_at 15 c.old s.pc) s
-          (record { instruction = call (through 0); size = 2 }) (ap decode was.1)) returns;
-      new_goes = λ t agree.
-          let number : t.registers 0 ≡ c.new_half h =
-          eqb-true _ _ (second_true (s.registers 0 == c.old_half h) (t.registers 0 == c.new_half h)
-          (subst (λ kind. AreOf (link c) 8 kind (s.registers 0) (t.registers 0)) has
-          (agree.registers 0))) in
-          once (machine c.others c.new) t (Agree (link c) k' s')
-          (holds_of (machine c.others c.new t) _ (go_to next t)
-          (ap (λ a. machine c.others c.new (record t { pc = a })) agree.pc
-          ∙ goes c.others (bytes_at 15 c.new s.pc) (record t { pc = s.pc })
-          (record { instruction = nop; size = 2 }) (ap decode is.1))
-          (agree_open (link c) (with_register 0 same k) k' (put 0 (c.new_half h) next s) s' (go_to next t)
-          (agree_put_old (link c) k (go_to next s) (go_to next t) 0 same (c.new_half h) next
-          (agree_go (link c) k s t next next agree (below_64 s.pc 2) refl) (below_64 s.pc 2) refl
-          (sym number)) changes));
-      forward = λ none. omega arith;
-    }
+    group_of (link c) 0 executes
+    (run_first executes (machine c.others c.old) s
+    (called (load 8 (seen s) (s.registers 0)) next s) (Some s')
+    (goes c.others (bytes_at 15 c.old s.pc) s
+    (record { instruction = call (through 0); size = 2 }) (ap decode was.1)) returns)
+    (λ t agree.
+    let number : t.registers 0 ≡ c.new_half h =
+    eqb-true _ _ (and_parts (s.registers 0 == c.old_half h) (t.registers 0 == c.new_half h)
+    (subst (λ kind. AreOf (link c) 8 kind (s.registers 0) (t.registers 0)) has
+    (agree.registers 0))).1 in
+    once (machine c.others c.new) t (Agree (link c) k' s')
+    (holds_of (machine c.others c.new t) _ (go_to next t)
+    (ap (λ a. machine c.others c.new (record t { pc = a })) agree.pc
+    ∙ goes c.others (bytes_at 15 c.new s.pc) (record t { pc = s.pc })
+    (record { instruction = nop; size = 2 }) (ap decode is.1))
+    (agree_open (link c) (with_register 0 same k) k' (put 0 (c.new_half h) next s) s' (go_to next t)
+    (agree_put_old (link c) k (go_to next s) (go_to next t) 0 same (c.new_half h) next
+    (agree_go (link c) k s t next next agree (below_64 s.pc 2) refl) (below_64 s.pc 2) refl
+    (sym number)) changes)))
   where
     begins_with : (x y : ℕ) (code before : List ℕ) → take 2 code ≡ take 2 before
         → (rest : List ℕ) × (before ≡ x ∷ y ∷ rest) → (rest : List ℕ) × (code ≡ x ∷ y ∷ rest)
@@ -413,12 +385,4 @@ are_descriptor_calls c s calls at bytes matches old new h executes k k' s' has r
 -- ---- others
 
 pub are_others : Others
-are_others c k k' s s' alike old_goes keeps =
-    record {
-      old_goes = old_goes;
-      new_goes = λ t agree.
-          subst (λ o. IsSomeAnd o (Agree (link c) k' s'))
-          (ap (λ a. does c.others (bytes_at 15 c.old a) t) agree.pc
-          ∙ ap (λ p. p t) alike ∙ ap (λ a. does c.others (bytes_at 15 c.new a) t) (sym agree.pc))
-          (keeps t agree);
-    }
+are_others c = others_agree (λ code at. does c.others (bytes_at 15 code at)) (link c) (λ code s. refl)

@@ -7,13 +7,13 @@ use Rattle.linker_laws.specs.Simulation.{State, Kind, Kinds, Agree, AreOf, Group
 use Rattle.linker_laws.specs.X86Groups.{Code, GeneralDynamic, HasPointer, LocalDynamic, ModuleCall, Returns, Stands, ToInitialExec, ToLocalExec, bytes_at, HasThreadPointer, ToLocalExecLarge, is_flag, left, link, machine, seen}
 use Rattle.linker_laws.specs.X86Machine.{ADD, decode, execute, extended, lea, lea_from, load, load_thread, nop, operate, register, relative}
 use Rattle.linker_laws.specs.X86RewriteLaws.{IsBefore, IsRelocatedBy, thread_offset}
-use Rattle.linker_laws.proofs.Agreement.{agree_open, agree_put}
+use Rattle.linker_laws.proofs.Agreement.{agree_open, agree_put, both_true, group_of, last_counts}
 use Rattle.linker_laws.proofs.CoveredRuns.{holds_of, run_first, run_on}
 use Rattle.linker_laws.proofs.Sums.{difference_below}
 use Rattle.linker_laws.proofs.X86Codes.{inside}
 use Rattle.linker_laws.proofs.X86Decoding.{IsBegun, begun}
 use Rattle.linker_laws.proofs.X86Fields.{tls_entry_field, tls_module_row, tls_pair_row}
-use Rattle.linker_laws.proofs.X86Groups.{below_64, both_true, goes, one_on, starts, take_bytes}
+use Rattle.linker_laws.proofs.X86Groups.{below_64, goes, one_on, starts, take_bytes}
 use Rattle.linker_laws.proofs.X86LargeThreads as larges
 use Rattle.linker_laws.proofs.X86LocalDynamic as dynamic
 use Rattle.linker_laws.proofs.X86Sections.{code_after, original_code}
@@ -56,14 +56,6 @@ opened (b ∷ first) (c ∷ bytes) e =
     (more.0, ap₂ (λ x xs. x ∷ xs) (ap (λ xs. get_or xs 0 0) e) more.1)
 
 -- ---- states
-
--- what was written last counts
-last_counts : (n u v a b : ℕ) (s : State) → put n v b (put n u a s) ≡ put n v b s
-last_counts n u v a b s = λ i. record s { pc = b; registers = λ m. by (m == n) (s.registers m) i }
-  where
-    by : (c : Bool) (r : ℕ) → (if c then v else (if c then u else r)) ≡ (if c then v else r)
-    by true r = refl
-    by false r = refl
 
 -- new alone changes registers that may be anything
 agree_new : (l : Link) (k : Kinds) (s t u : State) → Agree l k s t → u.pc ≡ t.pc → u.memory ≡ t.memory
@@ -109,23 +101,19 @@ call_group : (c : Code) (o : Operands) (m n more : ℕ) (kind : Kind) (address n
     → Group (of_link (link c)) (suc more) k s k' s'
 call_group c o m n more kind address number k k' s s' argument returns are leaves =
     let next = sum_64 s.pc n in
-    record {
-      more = returns.executes;
-      old_goes =
-          run_first returns.executes (machine c.others c.old) s (put 7 o.got_entry (sum_64 s.pc m) s)
-          (Some s')
-          (goes c.others (bytes_at 15 c.old s.pc) s
-          (record { instruction = lea 64 7 argument.f; size = m }) argument.is
-          ∙ ap (λ x. Some (put 7 x (sum_64 s.pc m) s)) argument.leads) returns.returns;
-      new_goes = λ t agree.
-          let l = leaves t agree in
-          holds_of (run (suc more) (machine c.others c.new) t) (Agree (link c) k' s') l.state l.goes_there
-          (agree_new (link c) k' s' (put 0 number next t) l.state
-          (agree_open (link c) (with_register 0 kind k) k' (put 0 address next s) s' (put 0 number next t)
-          (agree_put (link c) k s t 0 kind address number next next agree (below_64 s.pc n) refl are)
-          returns.changes) l.pc l.memory l.outside l.registers);
-      forward = λ none. omega arith;
-    }
+    group_of (link c) more returns.executes
+    (run_first returns.executes (machine c.others c.old) s (put 7 o.got_entry (sum_64 s.pc m) s)
+    (Some s')
+    (goes c.others (bytes_at 15 c.old s.pc) s
+    (record { instruction = lea 64 7 argument.f; size = m }) argument.is
+    ∙ ap (λ x. Some (put 7 x (sum_64 s.pc m) s)) argument.leads) returns.returns)
+    (λ t agree.
+    let l = leaves t agree in
+    holds_of (run (suc more) (machine c.others c.new) t) (Agree (link c) k' s') l.state l.goes_there
+    (agree_new (link c) k' s' (put 0 number next t) l.state
+    (agree_open (link c) (with_register 0 kind k) k' (put 0 address next s) s' (put 0 number next t)
+    (agree_put (link c) k s t 0 kind address number next next agree (below_64 s.pc n) refl are)
+    returns.changes) l.pc l.memory l.outside l.registers))
 
 -- `mov %fs:0, %rax` of a number of bytes
 moves : (c : Code) (t : State) (a m : ℕ) → t.pc ≡ a

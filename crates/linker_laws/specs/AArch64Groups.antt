@@ -7,10 +7,10 @@ use Rattle.linker_laws.specs.AArch64Machine as aarch64_machine
 use Rattle.linker_laws.specs.AArch64Machine.{is_b, is_bl, load_64, step}
 use Rattle.linker_laws.specs.AArch64RewriteLaws.{IsPair, IsRelocated, IsRewritten, following}
 use Rattle.linker_laws.specs.AArch64RewriteLaws.{thread_offset, with_entry, word_of}
-use Rattle.linker_laws.specs.Changes.{ChangesOpen, go_to, put, with_register}
+use Rattle.linker_laws.specs.Changes.{ChangesOpen, OthersAgree, go_to, put, with_register}
 use Rattle.linker_laws.specs.Machine.{loaded}
 use Rattle.linker_laws.specs.Schemes.{AreAddresses, plt_address, symbol_address}
-use Rattle.linker_laws.specs.Simulation.{State, Program, Machine, Link, Kinds, Agree, Other, Group}
+use Rattle.linker_laws.specs.Simulation.{State, Program, Machine, Link, Kinds, Agree, Group}
 use Rattle.linker_laws.specs.Simulation.{anything, half, of_link, run, same}
 use Rattle.linker_utils.specs.AArch64Rewrites.{AreOfDescriptor, IsAdd64, IsAdrp, IsIntoOwnSource}
 use Rattle.linker_utils.specs.AArch64Rewrites.{IsLdr64}
@@ -35,10 +35,11 @@ executed others word s None = others word s
 executed others word s (Some u) =
     Some (record s { pc = u.pc; registers = u.registers; memory = u.memory })
 
+abbrev pub does : (ℕ → Program) → (ℕ → ℕ) → ℕ → Program
+does others code at s = let word = loaded 4 code at in executed others word s (step word (seen s))
+
 abbrev pub machine : (ℕ → Program) → Machine
-machine others bytes s =
-    let word = loaded 4 bytes s.pc in
-    executed others word s (step word (seen s))
+machine others code s = does others code s.pc s
 
 pub record Code : Type 0 where
   -- what any other instruction does, by its word
@@ -273,15 +274,8 @@ WeakBranches =
 
 -- ---- other instructions
 
--- One that has the same word in both. In old's code alone: whatever state agrees before it, it
--- leaves one that agrees after it.
 abbrev pub Others : Type 0
-Others =
-    (c : Code) (k k' : Kinds) (s s' : State) → loaded 4 c.old s.pc ≡ loaded 4 c.new s.pc
-    → machine c.others c.old s ≡ Some s'
-    → ((t : State) → Agree (link c) k s t
-    → IsSomeAnd (machine c.others c.old t) (Agree (link c) k' s'))
-    → Other (of_link (link c)) k s k' s'
+Others = (c : Code) → OthersAgree (does c.others) (link c)
 
 pub record Groups : Type 0 where
   pub loads : GotToAddress

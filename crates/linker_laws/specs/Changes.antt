@@ -1,7 +1,8 @@
 -- States and kinds after a change.
-use Rattle.std.specs.Prelude.{ℕ, ◌==◌, if◌then◌else◌, ◌≡◌, ◌<◌, ◌^◌, ◌-◌, ◌⊎◌}
+use Rattle.std.specs.Prelude.{ℕ, ◌==◌, if◌then◌else◌, ◌≡◌, ◌<◌, ◌^◌, ◌-◌, ◌⊎◌, Some, IsSomeAnd}
 use Rattle.linker_laws.specs.Machine.{loaded}
-use Rattle.linker_laws.specs.Simulation.{State, Kind, Kinds, Stored, anything}
+use Rattle.linker_laws.specs.Simulation.{State, Program, Link, Kind, Kinds, Stored, Agree, Other}
+use Rattle.linker_laws.specs.Simulation.{anything, of_link}
 
 -- an address is next
 abbrev pub go_to : ℕ → State → State
@@ -30,3 +31,12 @@ pub record ChangesOpen (k : Kinds) (s : State) (k' : Kinds) (s' : State) : Type 
       ⊎ ((k'.registers r ≡ k.registers r) × (s'.registers r ≡ s.registers r))
   pub memory : (a : ℕ) → a < 2 ^ 64 → IsKept (k.memory a) (k'.memory a) a s s'
   pub outside : s'.outside ≡ s.outside
+
+-- Another instruction is the same in both: what a machine does with the code there is. By old's
+-- code alone, whatever state agrees before it, it leaves one that agrees after it.
+abbrev pub OthersAgree : ((ℕ → ℕ) → ℕ → Program) → Link → Type 0
+OthersAgree does l =
+    (k k' : Kinds) (s s' : State) → does l.old s.pc ≡ does l.new (l.moved s.pc)
+    → does l.old s.pc s ≡ Some s'
+    → ((t : State) → Agree l k s t → IsSomeAnd (does l.old s.pc t) (Agree l k' s'))
+    → Other (of_link l) k s k' s'

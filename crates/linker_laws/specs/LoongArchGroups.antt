@@ -6,7 +6,7 @@ use Rattle.linker_base.specs.declared.rewrite.DeletedBytes.{DeletedBytes}
 use Rattle.linker_laws.specs.Imports.{RowIsWithin, loongarch_row, sum_64, Operands}
 use Rattle.linker_laws.specs.Imports.{LoongArch64Relocation, adds_low12, rj_of, RewriteKind}
 use Rattle.linker_elf.specs.declared.loongarch64.relocations.LoongArch64Relocation.TheVariants as names
-use Rattle.linker_laws.specs.Changes.{ChangesOpen, go_to, put, with_register}
+use Rattle.linker_laws.specs.Changes.{ChangesOpen, OthersAgree, go_to, put, with_register}
 use Rattle.linker_laws.specs.LoongArchMachine as loongarch_machine
 use Rattle.linker_laws.specs.LoongArchMachine.{Action, action_of, far_address, go_on, step, used}
 use Rattle.linker_laws.specs.LoongArchRewriteLaws.{Fits32, IsPair, IsRelocated, IsRewritten}
@@ -16,7 +16,7 @@ use Rattle.linker_laws.specs.Machine.{Relocated, loaded}
 use Rattle.linker_laws.specs.RiscVGroups.{of_place}
 use Rattle.linker_laws.specs.Schemes.{AreAddresses, entry_and_addend, plt_address, symbol_address}
 use Rattle.linker_laws.specs.Simulation.{State, Program, Machine, Link, Kind, Kinds}
-use Rattle.linker_laws.specs.Simulation.{Agree, AreOf, Group, Other, anything, half, of_link, run}
+use Rattle.linker_laws.specs.Simulation.{Agree, AreOf, Group, anything, half, of_link, run}
 use Rattle.linker_laws.specs.Simulation.{same}
 use Rattle.linker_utils.specs.LoongArchRewrites.{IsAddTp, IsAddi, IsCall, IsCallOfDescriptor, IsLd}
 use Rattle.linker_utils.specs.LoongArchRewrites.{IsLoadOfDescriptor, IsLowOfDescriptor, IsLu12i}
@@ -61,10 +61,11 @@ abbrev pub executed : (ℕ → Program) → ℕ → State → Option loongarch_m
 executed others word s None = others word s
 executed others word s (Some u) = Some (left s u)
 
+abbrev pub does : Processor → (ℕ → ℕ) → ℕ → Program
+does p code at s = let word = loaded 4 code at in executed p.others word s (step word (seen p s))
+
 abbrev pub machine : Processor → Machine
-machine p code s =
-    let word = loaded 4 code s.pc in
-    executed p.others word s (step word (seen p s))
+machine p code s = does p code s.pc s
 
 pub record Code : Type 0 where
   pub processor : Processor
@@ -468,16 +469,8 @@ Calls =
 
 -- ---- other instructions
 
--- One that has the same word in both. By it, whatever state agrees before it, it leaves one that
--- agrees after it.
 abbrev pub Others : Type 0
-Others =
-    (c : Code) (k k' : Kinds) (s s' : State) → let word = loaded 4 c.old s.pc in
-    word ≡ loaded 4 c.new (c.moved s.pc) → machine c.processor c.old s ≡ Some s'
-    → ((t : State) → Agree (link c) k s t
-    → IsSomeAnd (executed c.processor.others word t (step word (seen c.processor t)))
-    (Agree (link c) k' s'))
-    → Other (of_link (link c)) k s k' s'
+Others = (c : Code) → OthersAgree (does c.processor) (link c)
 
 pub record Groups : Type 0 where
   pub got : GotToAddress

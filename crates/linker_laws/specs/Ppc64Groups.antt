@@ -7,7 +7,7 @@ use Rattle.linker_laws.specs.Imports.{ppc64_form, sum_64, Operands, Ppc64Instruc
 use Rattle.linker_laws.specs.Imports.{Ds, Ppc64Relocation, access_of, opcode_of, ppc64_rewrite}
 use Rattle.linker_laws.specs.Imports.{ra_of, rt_of}
 use Rattle.linker_elf.specs.declared.ppc64.relocations.Ppc64Relocation.TheVariants as names
-use Rattle.linker_laws.specs.Changes.{ChangesOpen, go_to, put, with_register}
+use Rattle.linker_laws.specs.Changes.{ChangesOpen, OthersAgree, go_to, put, with_register}
 use Rattle.linker_laws.specs.Machine.{loaded, moved}
 use Rattle.linker_laws.specs.Ppc64Machine as ppc64_machine
 use Rattle.linker_laws.specs.Ppc64Machine.{Formats, access_with, go_on, shifted_sum, step}
@@ -20,7 +20,7 @@ use Rattle.linker_laws.specs.Ppc64RewriteLaws.{indexed_access, is_d_over, is_ds_
 use Rattle.linker_laws.specs.Ppc64RewriteLaws.{prefixed_target, thread_offset, word_of}
 use Rattle.linker_laws.specs.Schemes.{AreAddresses, symbol_address}
 use Rattle.linker_laws.specs.Simulation.{State, Program, Machine, Link, Kind, Kinds, Agree, Group}
-use Rattle.linker_laws.specs.Simulation.{Other, anything, half, of_link, run, same}
+use Rattle.linker_laws.specs.Simulation.{anything, half, of_link, run, same}
 use Rattle.linker_utils.specs.Ppc64Rewrites.{is_add_of_thread, is_addi, is_addi_of_toc}
 use Rattle.linker_utils.specs.Ppc64Rewrites.{is_addis_of_entry, is_addis_of_toc, is_addis_over}
 use Rattle.linker_utils.specs.Ppc64Rewrites.{is_bl, is_call, is_indexed, is_indexed_any}
@@ -562,16 +562,9 @@ RestoresToc call restored =
 
 -- ---- other instructions
 
--- One that is the same in both. In old's code alone: whatever state agrees before it, it leaves one
--- that agrees after it.
 abbrev pub Others : Type 0
 Others =
-    (c : Code) (k k' : Kinds) (s s' : State)
-    → instruction_at c.old s.pc ≡ instruction_at c.new s.pc
-    → machine c.processor c.old s ≡ Some s'
-    → ((t : State) → Agree (link c) k s t
-    → IsSomeAnd (machine c.processor c.old t) (Agree (link c) k' s'))
-    → Other (of_link (link c)) k s k' s'
+    (c : Code) → OthersAgree (λ code at. execute c.processor (instruction_at code at)) (link c)
 
 pub record Groups : Type 0 where
   pub high_halves : HighHalfToNop

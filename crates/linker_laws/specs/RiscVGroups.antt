@@ -10,7 +10,7 @@ use Rattle.linker_laws.specs.Imports.{riscv_relocation, riscv_row, difference_64
 use Rattle.linker_laws.specs.Imports.{RelocationKindInfo, Operands, UType, RiscVRelocation, rd_of}
 use Rattle.linker_laws.specs.Imports.{a0}
 use Rattle.linker_elf.specs.declared.riscv64.relocations.RiscVRelocation.TheVariants as names
-use Rattle.linker_laws.specs.Changes.{ChangesOpen, put, with_register}
+use Rattle.linker_laws.specs.Changes.{ChangesOpen, OthersAgree, put, with_register}
 use Rattle.linker_laws.specs.Machine.{Relocated, loaded, moved, wrapped}
 use Rattle.linker_laws.specs.RiscVMachine.{Action, Hart, register, rs1_of, rs2_of, step, used}
 use Rattle.linker_laws.specs.RiscVMachine.{adds, adds_word, bytes_of, jumps, loads, loads_float}
@@ -23,7 +23,7 @@ use Rattle.linker_laws.specs.RiscVRewriteLaws.{low_row, of_entry, offset_row, t0
 use Rattle.linker_laws.specs.RiscVRewriteLaws.{word_of}
 use Rattle.linker_laws.specs.Schemes.{AreAddresses, entry_and_addend, plt_address, symbol_address}
 use Rattle.linker_laws.specs.Simulation.{State, Program, Machine, Link, Kind, Kinds}
-use Rattle.linker_laws.specs.Simulation.{Agree, AreOf, Group, Other, anything, code as counted}
+use Rattle.linker_laws.specs.Simulation.{Agree, AreOf, Group, anything, code as counted}
 use Rattle.linker_laws.specs.Simulation.{of_link, run, same}
 use Rattle.linker_riscv64.specs.RiscVCalls.{IsCallPair}
 use Rattle.linker_utils.specs.RiscVRewrites.{IsAddTp, IsLui, half_at, riscv_matches, tp}
@@ -66,10 +66,11 @@ abbrev pub continued : (List ℕ → Program) → List ℕ → State → Option 
 continued others bytes s None = others bytes s
 continued others bytes s (Some h) = Some (left s h)
 
+abbrev pub does : (List ℕ → Program) → List ℕ → Program
+does others bytes s = continued others bytes s (step bytes (seen s))
+
 abbrev pub machine : (List ℕ → Program) → Machine
-machine others code s =
-    let bytes = instruction_at code s.pc in
-    continued others bytes s (step bytes (seen s))
+machine others code s = does others (instruction_at code s.pc) s
 
 pub record Code : Type 0 where
   -- what any other instruction does, by its bytes
@@ -499,17 +500,8 @@ DescriptorToInitialExec =
 
 -- ---- other instructions
 
--- One that has the same bytes in both. By these: whatever state agrees before it, it leaves one
--- that agrees after it.
 abbrev pub Others : Type 0
-Others =
-    (c : Code) (k k' : Kinds) (s s' : State)
-    → instruction_at c.old s.pc ≡ instruction_at c.new (c.moved s.pc)
-    → machine c.others c.old s ≡ Some s'
-    → ((t : State) → Agree (link c) k s t
-    → let bytes = instruction_at c.old s.pc in
-    IsSomeAnd (continued c.others bytes t (step bytes (seen t))) (Agree (link c) k' s'))
-    → Other (of_link (link c)) k s k' s'
+Others = (c : Code) → OthersAgree (λ code at. does c.others (instruction_at code at)) (link c)
 
 pub record Groups : Type 0 where
   pub short_high_parts : LuiBecomesClui

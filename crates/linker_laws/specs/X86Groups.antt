@@ -9,10 +9,10 @@ use Rattle.linker_laws.specs.Imports.{x86_64_row, Operands, X86_64Relocation}
 use Rattle.linker_base.specs.Rewrite.{offset_after}
 use Rattle.linker_elf.specs.Choices.{operands_after}
 use Rattle.linker_elf.specs.declared.x86_64.relocations.X86_64Relocation.TheVariants as names
-use Rattle.linker_laws.specs.Changes.{ChangesOpen, go_to, put, with_register}
+use Rattle.linker_laws.specs.Changes.{ChangesOpen, OthersAgree, go_to, put, with_register}
 use Rattle.linker_laws.specs.Schemes.{AreAddresses}
 use Rattle.linker_laws.specs.Simulation.{State, Program, Machine, Link, Kind, Kinds, Stored, Agree}
-use Rattle.linker_laws.specs.Simulation.{AreOf, Group, Other, anything, half, of_link, run, same}
+use Rattle.linker_laws.specs.Simulation.{AreOf, Group, anything, half, of_link, run, same}
 use Rattle.linker_laws.specs.SimulationWorked.{of_byte}
 use Rattle.linker_laws.specs.X86Machine as x86_machine
 use Rattle.linker_laws.specs.X86Machine.{Flags, Operation, Instruction, Decoded, MOV, operate}
@@ -449,16 +449,8 @@ BlockOffsets =
 
 -- ---- other instructions
 
--- One that is the same in both. Whatever state agrees before it, it leaves one that agrees after
--- it.
 abbrev pub Others : Type 0
-Others =
-    (c : Code) (k k' : Kinds) (s s' : State)
-    → does c.others (bytes_at 15 c.old s.pc) ≡ does c.others (bytes_at 15 c.new s.pc)
-    → machine c.others c.old s ≡ Some s'
-    → ((t : State) → Agree (link c) k s t
-    → IsSomeAnd (machine c.others c.old t) (Agree (link c) k' s'))
-    → Other (of_link (link c)) k s k' s'
+Others = (c : Code) → OthersAgree (λ code at. does c.others (bytes_at 15 code at)) (link c)
 
 pub record Groups : Type 0 where
   pub loads : LoadsOfAddresses
