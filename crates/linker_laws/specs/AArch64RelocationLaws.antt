@@ -3,11 +3,9 @@
 use Rattle.std.specs.Prelude.{ℕ, [], ◌∷◌, ℤ, pos, ◌+◌, ◌+ℤ◌, ◌-ℤ◌, ◌*ℤ◌, ◌^◌, ◌==◌, ◌&&◌, not}
 use Rattle.std.specs.Int.{bit_at, int_rem_euclid}
 use Rattle.linker_laws.specs.Imports.{aarch64_form, shift_of, aarch64_row, page, Adr, Add, LdSt}
-use Rattle.linker_laws.specs.Imports.{JumpCall, Movnz, Signed, Operands, AArch64Relocation}
-use Rattle.linker_elf.specs.Relocate.{is_movk}
+use Rattle.linker_laws.specs.Imports.{JumpCall, Movnz, Signed, Operands, AArch64Relocation, is_movk}
 use Rattle.linker_elf.specs.declared.aarch64.forms.AArch64Instruction.{AArch64Instruction}
-use Rattle.linker_elf.specs.declared.aarch64.forms.AArch64Instruction.TheVariants.{Ldr}
-use Rattle.linker_elf.specs.declared.aarch64.forms.AArch64Instruction.TheVariants.{LdrRegister}
+use Rattle.linker_elf.specs.declared.aarch64.forms.AArch64Instruction.TheVariants.{Ldr, LdrRegister}
 use Rattle.linker_elf.specs.declared.aarch64.forms.AArch64Instruction.TheVariants.{TstBr, Bcond}
 use Rattle.linker_elf.specs.declared.aarch64.forms.AArch64Instruction.TheVariants.{Movkz}
 use Rattle.linker_elf.specs.declared.aarch64.relocations.AArch64Relocation.TheVariants as names

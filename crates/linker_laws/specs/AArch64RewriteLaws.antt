@@ -1,10 +1,7 @@
 -- AArch64: bytes of instructions, as rewrites and relocations leave them.
 use Rattle.std.specs.Prelude.{◌≡◌, ℕ, List, drop, None, ⊤, ◌-◌, Option, Some, IsSomeAnd}
 use Rattle.linker_laws.specs.Imports.{Rewrite, rewritten, aarch64_row, AArch64Relocation, Operands}
-use Rattle.linker_laws.specs.Imports.{IsApplied}
-use Rattle.linker_base.specs.Rewrite.{IsRewritable}
-use Rattle.linker_utils.specs.AArch64Rewrites.{aarch64_rewrite}
-use Rattle.linker_utils.specs.AArch64Rewrites.{AreOfOneRegister}
+use Rattle.linker_laws.specs.Imports.{IsApplied, IsRewritable, aarch64_rewrite, AreOfOneRegister}
 use Rattle.linker_utils.specs.declared.aarch64.rewrites.RewriteKind.{RewriteKind}
 use Rattle.linker_laws.specs.Schemes.{AreAddresses}
 pub use Rattle.linker_laws.specs.Machine.{BeginsRewritten, word_of}

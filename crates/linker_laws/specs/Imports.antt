@@ -1,16 +1,16 @@
 -- The names of other crates that several files of definitions here use.
 pub use Rattle.linker_base.specs.Bits.{field, signed}
-pub use Rattle.linker_base.specs.Rewrite.{Rewrite, rewritten}
+pub use Rattle.linker_base.specs.Rewrite.{Rewrite, rewritten, IsRewritable, offset_after}
 pub use Rattle.linker_elf.specs.AArch64.{aarch64_form, shift_of}
 pub use Rattle.linker_elf.specs.AArch64Relocations.{aarch64_row}
 pub use Rattle.linker_elf.specs.Applied.{IsApplied}
 pub use Rattle.linker_elf.specs.Choices.{RowIsWithin, low_12_bounds}
-pub use Rattle.linker_elf.specs.Elf.{IsWithin}
+pub use Rattle.linker_elf.specs.Elf.{IsWithin, bit_bounds, relocation_form}
 pub use Rattle.linker_elf.specs.LoongArch.{loongarch_form, page, pcalau12i}
 pub use Rattle.linker_elf.specs.LoongArchRelocations.{loongarch_row}
 pub use Rattle.linker_elf.specs.Ppc64.{ppc64_form}
 pub use Rattle.linker_elf.specs.Ppc64Relocations.{ppc64_row}
-pub use Rattle.linker_elf.specs.Relocate.{number_of_bytes, ppc64_reads}
+pub use Rattle.linker_elf.specs.Relocate.{number_of_bytes, ppc64_reads, is_jirl, is_movk}
 pub use Rattle.linker_elf.specs.RiscV.{riscv_form}
 pub use Rattle.linker_elf.specs.RiscVRelocations.{clui_row, riscv_relocation, riscv_row}
 pub use Rattle.linker_elf.specs.Value.{difference_64, sum_64}
@@ -36,8 +36,9 @@ pub use Rattle.linker_elf.specs.declared.riscv64.forms.RiscVInstruction.TheVaria
 pub use Rattle.linker_elf.specs.declared.riscv64.relocations.RiscVRelocation.{RiscVRelocation}
 pub use Rattle.linker_elf.specs.declared.x86_64.relocations.X86_64Relocation.{X86_64Relocation}
 pub use Rattle.linker_riscv64.specs.RiscVFields.{funct3_of, rd_of}
-pub use Rattle.linker_utils.specs.AArch64Rewrites.{rn_of}
+pub use Rattle.linker_utils.specs.AArch64Rewrites.{rn_of, aarch64_rewrite, AreOfOneRegister}
 pub use Rattle.linker_utils.specs.LoongArchRewrites.{adds_low12, rj_of}
 pub use Rattle.linker_utils.specs.Ppc64Rewrites.{access_of, opcode_of, ppc64_rewrite, ra_of, rt_of}
 pub use Rattle.linker_utils.specs.RiscVRewrites.{a0}
 pub use Rattle.linker_utils.specs.declared.loongarch64.rewrites.RewriteKind.{RewriteKind}
+pub use Rattle.std.specs.List.{All}

@@ -1,7 +1,7 @@
 -- LoongArch: rewritten instructions are groups of the simulation. Code gets shorter, so what is
 -- old's and what is new's stand at places of their own.
 use Rattle.std.specs.Prelude.{◌≡◌, ℕ, ◌+◌, ◌-◌, ◌/◌, ◌^◌, ◌<◌, ◌==◌, ◌&&◌, nat_lt, if◌then◌else◌}
-use Rattle.std.specs.Prelude.{List, drop, Option, Some, None, IsSomeAnd, IsTrue, ⊤}
+use Rattle.std.specs.Prelude.{List, drop, Option, Some, None, IsTrue, ⊤}
 use Rattle.linker_base.specs.declared.rewrite.DeletedBytes.{DeletedBytes}
 use Rattle.linker_laws.specs.Imports.{RowIsWithin, loongarch_row, sum_64, Operands}
 use Rattle.linker_laws.specs.Imports.{LoongArch64Relocation, adds_low12, rj_of, RewriteKind}
@@ -15,13 +15,12 @@ use Rattle.linker_laws.specs.LoongArchRewriteLaws.{thread_offset, word_of}
 use Rattle.linker_laws.specs.Machine.{Relocated, loaded}
 use Rattle.linker_laws.specs.RiscVGroups.{of_place}
 use Rattle.linker_laws.specs.Schemes.{AreAddresses, entry_and_addend, plt_address, symbol_address}
-use Rattle.linker_laws.specs.Simulation.{State, Program, Machine, Link, Kind, Kinds}
-use Rattle.linker_laws.specs.Simulation.{Agree, AreOf, Group, anything, half, of_link, run}
-use Rattle.linker_laws.specs.Simulation.{same}
+use Rattle.linker_laws.specs.Simulation.{State, Program, Machine, Link, Kind, Kinds, Agree, AreOf}
+use Rattle.linker_laws.specs.Simulation.{Group, anything, half, of_link, run, same}
 use Rattle.linker_utils.specs.LoongArchRewrites.{IsAddTp, IsAddi, IsCall, IsCallOfDescriptor, IsLd}
 use Rattle.linker_utils.specs.LoongArchRewrites.{IsLoadOfDescriptor, IsLowOfDescriptor, IsLu12i}
-use Rattle.linker_utils.specs.LoongArchRewrites.{IsPcalau12i, loongarch_deleted, rd_of}
-use Rattle.linker_utils.specs.LoongArchRewrites.{signed_12, tp, unsigned_12}
+use Rattle.linker_utils.specs.LoongArchRewrites.{IsPcalau12i, loongarch_deleted, rd_of, signed_12}
+use Rattle.linker_utils.specs.LoongArchRewrites.{tp, unsigned_12}
 use Rattle.linker_utils.specs.declared.loongarch64.rewrites.RewriteKind.TheVariants as kinds
 
 -- ---- the machine

@@ -1,8 +1,8 @@
 -- LoongArch: what the instructions of the rewrites do (LoongArch Reference Manual, volume 1). Any
 -- address can be read and written, and code is apart from memory.
-use Rattle.std.specs.Prelude.{ℕ, pos, ◌+ℤ◌, ◌*ℤ◌, ◌*◌, ◌/◌, ◌%◌, ◌^◌, ◌==◌, List, []}
-use Rattle.std.specs.Prelude.{◌∷◌, Option, Some, None, IsSomeAnd, ◌≡◌, Bool, false, bit_or}
-use Rattle.std.specs.Prelude.{bit_and, if◌then◌else◌}
+use Rattle.std.specs.Prelude.{ℕ, pos, ◌+ℤ◌, ◌*ℤ◌, ◌*◌, ◌/◌, ◌%◌, ◌^◌, ◌==◌, List, [], ◌∷◌, Option}
+use Rattle.std.specs.Prelude.{Some, None, IsSomeAnd, ◌≡◌, Bool, false, bit_or, bit_and}
+use Rattle.std.specs.Prelude.{if◌then◌else◌}
 use Rattle.linker_laws.specs.Imports.{field, signed, loongarch_form, pcalau12i, adds_low12, rj_of}
 use Rattle.linker_laws.specs.Imports.{sum_64, Shift5, Branch26}
 use Rattle.linker_utils.specs.LoongArchRewrites.{rd_of}

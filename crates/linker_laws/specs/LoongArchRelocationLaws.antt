@@ -4,17 +4,16 @@ use Rattle.std.specs.Prelude.{ℕ, [], ◌∷◌, ℤ, pos, ◌+◌, ◌*◌, �
 use Rattle.std.specs.Int.{int_rem_euclid}
 use Rattle.linker_laws.specs.Imports.{field, signed, pcalau12i, loongarch_form, loongarch_row}
 use Rattle.linker_laws.specs.Imports.{Shift5, Branch26, Signed, Operands, LoongArch64Relocation}
+use Rattle.linker_laws.specs.Imports.{is_jirl}
 use Rattle.linker_elf.specs.LoongArch.{upper_and_lower_value, reach}
-use Rattle.linker_elf.specs.Relocate.{is_jirl}
 use Rattle.linker_elf.specs.declared.loongarch64.forms.LoongArch64Instruction.{LoongArch64Instruction}
 use Rattle.linker_elf.specs.declared.loongarch64.forms.LoongArch64Instruction.TheVariants.{Shift10}
 use Rattle.linker_elf.specs.declared.loongarch64.forms.LoongArch64Instruction.TheVariants.{Branch21}
 use Rattle.linker_elf.specs.declared.loongarch64.relocations.LoongArch64Relocation.TheVariants as names
 use Rattle.linker_laws.specs.Differences.{AddsDistance, AddsDistance6}
 use Rattle.linker_laws.specs.Schemes.{HoldsDistance, without_low, Step, here, anywhere, next}
-use Rattle.linker_laws.specs.Schemes.{of_bits, of_words, Law, Adds}
-use Rattle.linker_laws.specs.Schemes.{symbol_address, plt_address, entry_and_addend, zero}
-use Rattle.linker_laws.specs.Schemes.{place, tls_base}
+use Rattle.linker_laws.specs.Schemes.{of_bits, of_words, Law, Adds, symbol_address, plt_address}
+use Rattle.linker_laws.specs.Schemes.{entry_and_addend, zero, place, tls_base}
 
 abbrev pub row_here : LoongArch64Relocation → Step
 row_here name = here (loongarch_row name)

@@ -1,9 +1,8 @@
 -- What the machines have in common: sums of 64 bits, bytes of memory, and code to which a
 -- relocation was applied.
-use Rattle.std.specs.Prelude.{ℕ, zero, suc, ◌+◌, ◌*◌, ◌^◌, ◌<◌, ℤ, pos, ◌+ℤ◌, nat_lt, List}
-use Rattle.std.specs.Prelude.{length, ◌≡◌, take, Option, IsSomeAnd, All, if◌then◌else◌}
+use Rattle.std.specs.Prelude.{ℕ, zero, suc, ◌+◌, ◌*◌, ◌^◌, ◌<◌, ℤ, pos, ◌+ℤ◌, nat_lt, List, length}
+use Rattle.std.specs.Prelude.{◌≡◌, take, Option, IsSomeAnd, All, if◌then◌else◌, unsigned_abs}
 use Rattle.std.specs.Int.{int_rem_euclid, w32, w64, cast_unsigned, from_le_bytes}
-use Rattle.std.specs.Prelude.{unsigned_abs}
 use Rattle.linker_laws.specs.Imports.{field, signed, sum_64, difference_64, RelocationKindInfo}
 use Rattle.linker_laws.specs.Imports.{Operands, IsApplied, Rewrite}
 

@@ -1,8 +1,8 @@
 -- PowerPC64: rewritten instructions are groups of the simulation, each by itself, whatever stands
 -- before it. No code moves.
 use Rattle.std.specs.Prelude.{◌≡◌, ℕ, zero, suc, ◌+◌, ◌-◌, ◌*◌, ◌^◌, ◌<◌, ◌==◌, ◌&&◌, nat_lt, Bool}
-use Rattle.std.specs.Prelude.{if◌then◌else◌, List, drop, Option, Some, None, IsSomeAnd, IsTrue}
-use Rattle.std.specs.Prelude.{⊤, true}
+use Rattle.std.specs.Prelude.{if◌then◌else◌, List, drop, Option, Some, None, IsTrue, ⊤}
+use Rattle.std.specs.Prelude.{true}
 use Rattle.linker_laws.specs.Imports.{ppc64_form, sum_64, Operands, Ppc64Instruction, Branch24, D}
 use Rattle.linker_laws.specs.Imports.{Ds, Ppc64Relocation, access_of, opcode_of, ppc64_rewrite}
 use Rattle.linker_laws.specs.Imports.{ra_of, rt_of}
@@ -13,11 +13,11 @@ use Rattle.linker_laws.specs.Ppc64Machine as ppc64_machine
 use Rattle.linker_laws.specs.Ppc64Machine.{Formats, access_with, go_on, shifted_sum, step}
 use Rattle.linker_laws.specs.Ppc64Machine.{step_prefixed, word_access_with}
 use Rattle.linker_laws.specs.Ppc64RewriteLaws.{HaveSameAccess, IsRelocated, IsRewritten, Leads}
-use Rattle.linker_laws.specs.Ppc64RewriteLaws.{address_read, is_vector_over_base}
-use Rattle.linker_laws.specs.Ppc64RewriteLaws.{LowHalfLeads, Use, accesses, adds, ds_access}
-use Rattle.linker_laws.specs.Ppc64RewriteLaws.{entry_from_toc, four_on, from_thread, from_toc}
-use Rattle.linker_laws.specs.Ppc64RewriteLaws.{indexed_access, is_d_over, is_ds_over_base}
-use Rattle.linker_laws.specs.Ppc64RewriteLaws.{prefixed_target, thread_offset, word_of}
+use Rattle.linker_laws.specs.Ppc64RewriteLaws.{address_read, is_vector_over_base, LowHalfLeads, Use}
+use Rattle.linker_laws.specs.Ppc64RewriteLaws.{accesses, adds, ds_access, entry_from_toc, four_on}
+use Rattle.linker_laws.specs.Ppc64RewriteLaws.{from_thread, from_toc, indexed_access, is_d_over}
+use Rattle.linker_laws.specs.Ppc64RewriteLaws.{is_ds_over_base, prefixed_target, thread_offset}
+use Rattle.linker_laws.specs.Ppc64RewriteLaws.{word_of}
 use Rattle.linker_laws.specs.Schemes.{AreAddresses, symbol_address}
 use Rattle.linker_laws.specs.Simulation.{State, Program, Machine, Link, Kind, Kinds, Agree, Group}
 use Rattle.linker_laws.specs.Simulation.{anything, half, of_link, run, same}

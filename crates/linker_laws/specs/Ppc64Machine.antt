@@ -2,13 +2,11 @@
 -- "Branch Facility", "Fixed-Point Facility" and "Floating-Point Facility"). Any address can be read
 -- and written, and code is apart from memory. None of the instructions changes the condition
 -- register.
-use Rattle.std.specs.Prelude.{ℕ, ◌-◌, ◌*◌, ◌/◌, ◌^◌, ◌==◌, ◌&&◌, nat_lt}
-use Rattle.std.specs.Prelude.{if◌then◌else◌, pos, ◌*ℤ◌}
+use Rattle.std.specs.Prelude.{ℕ, ◌-◌, ◌*◌, ◌/◌, ◌^◌, ◌==◌, ◌&&◌, nat_lt, if◌then◌else◌, pos, ◌*ℤ◌}
 use Rattle.std.specs.Prelude.{Option, Some, None}
 use Rattle.linker_laws.specs.Imports.{field, ppc64_form, opcode_of, rt_of, ra_of, access_of, sum_64}
 use Rattle.linker_laws.specs.Imports.{D, Ds, Branch24, Prefixed}
-use Rattle.linker_utils.specs.Ppc64Rewrites.{is_access, is_word_access}
-use Rattle.linker_utils.specs.Ppc64Rewrites.{rb_of, nop}
+use Rattle.linker_utils.specs.Ppc64Rewrites.{is_access, is_word_access, rb_of, nop}
 use Rattle.linker_laws.specs.Machine.{Memory, moved, extended, loaded, stored}
 
 -- ---- the state

@@ -6,8 +6,8 @@ use Rattle.linker_laws.specs.Imports.{D, Ds, Branch24, Prefixed, Operands, Ppc64
 use Rattle.linker_elf.specs.declared.ppc64.forms.Ppc64Instruction.TheVariants.{Branch14}
 use Rattle.linker_elf.specs.declared.ppc64.relocations.Ppc64Relocation.TheVariants as names
 use Rattle.linker_laws.specs.Schemes.{HoldsDistance, without_low, here, anywhere, moved_on, Law}
-use Rattle.linker_laws.specs.Schemes.{Adds, symbol_address, plt_address}
-use Rattle.linker_laws.specs.Schemes.{entry_address, zero, place, got_base, tls_base}
+use Rattle.linker_laws.specs.Schemes.{Adds, symbol_address, plt_address, entry_address, zero, place}
+use Rattle.linker_laws.specs.Schemes.{got_base, tls_base}
 
 -- ---- halves ("addis", "addi", "ori"; ABI, "@ha", "@hi" and "@l")
 

@@ -1,11 +1,8 @@
 -- PowerPC64: what laws of rewritten instructions are stated by: their bytes, the addresses that
 -- they lead to, and what they do with an address.
-use Rattle.std.specs.Prelude.{◌≡◌, ℕ, Bool, ◌==◌, ◌&&◌, not, List}
-use Rattle.std.specs.Prelude.{IsSomeAnd, drop, if◌then◌else◌}
+use Rattle.std.specs.Prelude.{◌≡◌, ℕ, Bool, ◌==◌, ◌&&◌, not, List, IsSomeAnd, drop, if◌then◌else◌}
 use Rattle.std.specs.Int.{w64, from_le_bytes}
-use Rattle.linker_utils.specs.Ppc64Rewrites.{is_d_access}
-use Rattle.linker_utils.specs.Ppc64Rewrites.{is_ds_access}
-use Rattle.linker_utils.specs.Ppc64Rewrites.{is_vector_access}
+use Rattle.linker_utils.specs.Ppc64Rewrites.{is_d_access, is_ds_access, is_vector_access}
 use Rattle.linker_laws.specs.Imports.{ppc64_row, ppc64_reads, ppc64_rewrite, opcode_of, rt_of}
 use Rattle.linker_laws.specs.Imports.{ra_of, access_of, field, sum_64, difference_64, Operands}
 use Rattle.linker_laws.specs.Imports.{Ppc64Instruction, D, Ds, Ppc64Relocation, IsApplied}
@@ -15,10 +12,8 @@ pub use Rattle.linker_laws.specs.Machine.{word_of}
 pub use Rattle.linker_laws.specs.Schemes.{thread_offset}
 use Rattle.linker_laws.specs.Schemes.{symbol_address}
 use Rattle.linker_laws.specs.Machine.{BeginsRewritten, moved}
-use Rattle.linker_laws.specs.Ppc64Machine.{State, Formats, base}
-use Rattle.linker_laws.specs.Ppc64Machine.{write, access_with, Access}
-use Rattle.linker_laws.specs.Ppc64Machine.{accessed}
-use Rattle.linker_laws.specs.Ppc64Machine.{loads, loads_signed, stores, word_access_with}
+use Rattle.linker_laws.specs.Ppc64Machine.{State, Formats, base, write, access_with, Access}
+use Rattle.linker_laws.specs.Ppc64Machine.{accessed, loads, loads_signed, stores, word_access_with}
 
 -- ---- instructions as bytes
 

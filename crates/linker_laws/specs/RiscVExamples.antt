@@ -1,9 +1,9 @@
 -- RISC-V: words that LLVM's assembler wrote, as instructions, and what some instructions leave of a
 -- hart (RISC-V unprivileged ISA; its sections are named in `RiscVMachine`).
 use Rattle.std.specs.Prelude.{◌≡◌, ℕ, ◌*◌, ◌%◌, List, [], ◌∷◌, pos, negsuc, Some, None}
-use Rattle.linker_laws.specs.RiscVMachine.{Hart, register, Instruction, lui, auipc, jal, sums}
-use Rattle.linker_laws.specs.RiscVMachine.{adds, adds_word, jumps, loads, stores, loads_float}
-use Rattle.linker_laws.specs.RiscVMachine.{fetched, executed, Runs}
+use Rattle.linker_laws.specs.RiscVMachine.{Hart, register, Instruction, lui, auipc, jal, sums, adds}
+use Rattle.linker_laws.specs.RiscVMachine.{adds_word, jumps, loads, stores, loads_float, fetched}
+use Rattle.linker_laws.specs.RiscVMachine.{executed, Runs}
 
 -- ---- words
 
@@ -15,39 +15,25 @@ IsHalf bytes i = fetched bytes ≡ Some (2, i)
 
 abbrev pub Words : Type 0
 Words =
-    -- lui a0, 0x12345
-    IsWord (0x37 ∷ 0x55 ∷ 0x34 ∷ 0x12 ∷ []) (lui 10 (pos 0x12345000))
-    -- auipc ra, 1
-    × IsWord (0x97 ∷ 0x10 ∷ 0x00 ∷ 0x00 ∷ []) (auipc 1 (pos 0x1000))
-    -- jal ra, 8
-    × IsWord (0xef ∷ 0x00 ∷ 0x80 ∷ 0x00 ∷ []) (jal 1 (pos 8))
-    -- jalr ra, -4(t1)
-    × IsWord (0xe7 ∷ 0x00 ∷ 0xc3 ∷ 0xff ∷ []) (sums jumps 1 6 0 (negsuc 3))
-    -- addiw a0, a1, 1
-    × IsWord (0x1b ∷ 0x85 ∷ 0x15 ∷ 0x00 ∷ []) (sums adds_word 10 11 0 (pos 1))
-    -- lbu a0, 8(sp)
-    × IsWord (0x03 ∷ 0x45 ∷ 0x81 ∷ 0x00 ∷ []) (sums (loads 4) 10 2 0 (pos 8))
-    -- sd a0, -8(s0)
-    × IsWord (0x23 ∷ 0x3c ∷ 0xa4 ∷ 0xfe ∷ []) (sums (stores 3) 0 8 10 (negsuc 7))
+    IsWord (0x37 ∷ 0x55 ∷ 0x34 ∷ 0x12 ∷ []) (lui 10 (pos 0x12345000))  -- lui a0, 0x12345
+    × IsWord (0x97 ∷ 0x10 ∷ 0x00 ∷ 0x00 ∷ []) (auipc 1 (pos 0x1000))  -- auipc ra, 1
+    × IsWord (0xef ∷ 0x00 ∷ 0x80 ∷ 0x00 ∷ []) (jal 1 (pos 8))  -- jal ra, 8
+    × IsWord (0xe7 ∷ 0x00 ∷ 0xc3 ∷ 0xff ∷ []) (sums jumps 1 6 0 (negsuc 3))  -- jalr ra, -4(t1)
+    × IsWord (0x1b ∷ 0x85 ∷ 0x15 ∷ 0x00 ∷ []) (sums adds_word 10 11 0 (pos 1))  -- addiw a0, a1, 1
+    × IsWord (0x03 ∷ 0x45 ∷ 0x81 ∷ 0x00 ∷ []) (sums (loads 4) 10 2 0 (pos 8))  -- lbu a0, 8(sp)
+    × IsWord (0x23 ∷ 0x3c ∷ 0xa4 ∷ 0xfe ∷ []) (sums (stores 3) 0 8 10 (negsuc 7))  -- sd a0, -8(s0)
     -- flw fa0, 4(a0)
     × IsWord (0x07 ∷ 0x25 ∷ 0x45 ∷ 0x00 ∷ []) (sums (loads_float 2) 10 10 0 (pos 4))
 
 abbrev pub Halves : Type 0
 Halves =
-    -- c.nop
-    IsHalf (0x01 ∷ 0x00 ∷ []) (sums adds 0 0 0 (pos 0))
-    -- c.lui a0, 31
-    × IsHalf (0x7d ∷ 0x65 ∷ []) (lui 10 (pos 0x1f000))
-    -- c.lui a0, 0xfffff
-    × IsHalf (0x7d ∷ 0x75 ∷ []) (lui 10 (negsuc 4095))
-    -- c.j -2
-    × IsHalf (0xfd ∷ 0xbf ∷ []) (jal 0 (negsuc 1))
-    -- c.li a0, 0
-    × IsHalf (0x01 ∷ 0x45 ∷ []) (sums adds 10 0 0 (pos 0))
-    -- c.li t6, -32
-    × IsHalf (0x81 ∷ 0x5f ∷ []) (sums adds 31 0 0 (negsuc 31))
-    -- `c.lui` with the immediate 0 is none
-    × (fetched (0x01 ∷ 0x65 ∷ []) ≡ None)
+    IsHalf (0x01 ∷ 0x00 ∷ []) (sums adds 0 0 0 (pos 0))  -- c.nop
+    × IsHalf (0x7d ∷ 0x65 ∷ []) (lui 10 (pos 0x1f000))  -- c.lui a0, 31
+    × IsHalf (0x7d ∷ 0x75 ∷ []) (lui 10 (negsuc 4095))  -- c.lui a0, 0xfffff
+    × IsHalf (0xfd ∷ 0xbf ∷ []) (jal 0 (negsuc 1))  -- c.j -2
+    × IsHalf (0x01 ∷ 0x45 ∷ []) (sums adds 10 0 0 (pos 0))  -- c.li a0, 0
+    × IsHalf (0x81 ∷ 0x5f ∷ []) (sums adds 31 0 0 (negsuc 31))  -- c.li t6, -32
+    × (fetched (0x01 ∷ 0x65 ∷ []) ≡ None)  -- `c.lui` with the immediate 0 is none
 
 -- ---- execution
 
@@ -67,8 +53,7 @@ Leaves i r number = register (executed 4 i some_hart) r ≡ number
 
 abbrev pub Execution : Type 0
 Execution =
-    -- x0 stays 0
-    Leaves (lui 0 (pos 0x1000)) 0 0
+    Leaves (lui 0 (pos 0x1000)) 0 0  -- x0 stays 0
     -- sums are modulo 2 ^ 64, and `addiw` extends bit 31
     × Leaves (sums adds 5 0 0 (negsuc 0)) 5 0xffffffffffffffff
     × Leaves (sums adds_word 5 1 0 (pos 0x7fffff00)) 5 0xffffffff80000000
@@ -99,7 +84,5 @@ abbrev pub Sequences : Type 0
 Sequences =
     -- auipc ra, 2; jalr ra, 16(ra)
     Leads 2 (0x97 ∷ 0x20 ∷ 0x00 ∷ 0x00 ∷ 0xe7 ∷ 0x80 ∷ 0x00 ∷ 0x01 ∷ []) 0x3010 0x1008
-    -- jal ra, 0x2010
-    × Leads 1 (0xef ∷ 0x20 ∷ 0x00 ∷ 0x01 ∷ []) 0x3010 0x1004
-    -- c.nop; c.j -2
-    × Leads 2 (0x01 ∷ 0x00 ∷ 0xfd ∷ 0xbf ∷ []) 0x1000 0x100
+    × Leads 1 (0xef ∷ 0x20 ∷ 0x00 ∷ 0x01 ∷ []) 0x3010 0x1004  -- jal ra, 0x2010
+    × Leads 2 (0x01 ∷ 0x00 ∷ 0xfd ∷ 0xbf ∷ []) 0x1000 0x100  -- c.nop; c.j -2

@@ -1,9 +1,8 @@
 -- RISC-V: rewritten instructions are groups of the simulation. Code gets shorter, so what is old's
 -- and what is new's stand at places of their own.
 use Rattle.std.specs.Prelude.{◌≡◌, ◌≢◌, ℕ, zero, suc, ◌+◌, ◌-◌, ◌*◌, ◌^◌, ◌<◌, ◌≤◌, ◌%◌, ◌==◌}
-use Rattle.std.specs.Prelude.{false, nat_lt}
-use Rattle.std.specs.Prelude.{if◌then◌else◌, List, [], ◌∷◌, take, drop, length, Option, Some, None}
-use Rattle.std.specs.Prelude.{IsSomeAnd, ⊤, ◌⊎◌}
+use Rattle.std.specs.Prelude.{false, nat_lt, if◌then◌else◌, List, [], ◌∷◌, take, drop, length}
+use Rattle.std.specs.Prelude.{Option, Some, None, IsSomeAnd, ⊤, ◌⊎◌}
 use Rattle.std.specs.Int.{w16, w64, cast_signed, from_le_bytes}
 use Rattle.linker_laws.specs.Imports.{low_12_bounds, IsWithin, riscv_form, clui_row}
 use Rattle.linker_laws.specs.Imports.{riscv_relocation, riscv_row, difference_64, sum_64}
@@ -12,19 +11,17 @@ use Rattle.linker_laws.specs.Imports.{a0}
 use Rattle.linker_elf.specs.declared.riscv64.relocations.RiscVRelocation.TheVariants as names
 use Rattle.linker_laws.specs.Changes.{ChangesOpen, OthersAgree, put, with_register}
 use Rattle.linker_laws.specs.Machine.{Relocated, loaded, moved, wrapped}
-use Rattle.linker_laws.specs.RiscVMachine.{Action, Hart, register, rs1_of, rs2_of, step, used}
-use Rattle.linker_laws.specs.RiscVMachine.{adds, adds_word, bytes_of, jumps, loads, loads_float}
-use Rattle.linker_laws.specs.RiscVMachine.{stores, stores_float}
+use Rattle.linker_laws.specs.RiscVMachine.{Action, Hart, register, rs1_of, rs2_of, step, used, adds}
+use Rattle.linker_laws.specs.RiscVMachine.{adds_word, bytes_of, jumps, loads, loads_float, stores}
+use Rattle.linker_laws.specs.RiscVMachine.{stores_float}
 use Rattle.linker_laws.specs.RiscVRelocationLaws.{even}
 use Rattle.linker_laws.specs.RiscVRewriteLaws.{AreOfDescriptor, HaveOneOffset, HaveOneTarget}
 use Rattle.linker_laws.specs.RiscVRewriteLaws.{IsLoadFromGot, IsLow12, IsLowOffset, action_at}
-use Rattle.linker_laws.specs.RiscVRewriteLaws.{after_rewrite}
-use Rattle.linker_laws.specs.RiscVRewriteLaws.{low_row, of_entry, offset_row, t0, thread_offset}
-use Rattle.linker_laws.specs.RiscVRewriteLaws.{word_of}
+use Rattle.linker_laws.specs.RiscVRewriteLaws.{after_rewrite, low_row, of_entry, offset_row, t0}
+use Rattle.linker_laws.specs.RiscVRewriteLaws.{thread_offset, word_of}
 use Rattle.linker_laws.specs.Schemes.{AreAddresses, entry_and_addend, plt_address, symbol_address}
-use Rattle.linker_laws.specs.Simulation.{State, Program, Machine, Link, Kind, Kinds}
-use Rattle.linker_laws.specs.Simulation.{Agree, AreOf, Group, anything, code as counted}
-use Rattle.linker_laws.specs.Simulation.{of_link, run, same}
+use Rattle.linker_laws.specs.Simulation.{State, Program, Machine, Link, Kind, Kinds, Agree, AreOf}
+use Rattle.linker_laws.specs.Simulation.{Group, anything, code as counted, of_link, run, same}
 use Rattle.linker_riscv64.specs.RiscVCalls.{IsCallPair}
 use Rattle.linker_utils.specs.RiscVRewrites.{IsAddTp, IsLui, half_at, riscv_matches, tp}
 use Rattle.linker_utils.specs.declared.riscv64.rewrites.RewriteKind.{RewriteKind}

@@ -1,13 +1,14 @@
 -- RISC-V: what the instructions do that the rewrites read or write (RISC-V unprivileged ISA; the
 -- sections are named below). Immediates are what the forms read. Any address can be read and
 -- written, and code is apart from memory.
-use Rattle.std.specs.Prelude.{◌≡◌, ℕ, zero, suc, ◌+◌, ◌-◌, ◌*◌, ◌%◌, ◌^◌, ◌==◌, ◌&&◌, ◌||◌}
-use Rattle.std.specs.Prelude.{nat_lt, nat_le, if◌then◌else◌, List, length, drop, ℤ, pos}
-use Rattle.std.specs.Prelude.{Option, Some, None, option_map, Bool, not}
+use Rattle.std.specs.Prelude.{◌≡◌, ℕ, zero, suc, ◌+◌, ◌-◌, ◌*◌, ◌%◌, ◌^◌, ◌==◌, ◌&&◌, ◌||◌, nat_lt}
+use Rattle.std.specs.Prelude.{nat_le, if◌then◌else◌, List, length, drop, ℤ, pos, Option, Some, None}
+use Rattle.std.specs.Prelude.{option_map, Bool, not}
 use Rattle.std.specs.Int.{w16, w32, from_le_bytes}
 use Rattle.linker_laws.specs.Imports.{field, signed, riscv_form, funct3_of, rd_of, sum_64}
 use Rattle.linker_laws.specs.Imports.{difference_64, UType, IType, SType, JType, CjType, CluiType}
 use Rattle.linker_riscv64.specs.RiscVFields.{opcode_of}
+pub use Rattle.linker_riscv64.specs.RiscVFields.{rs1_of, rs2_of}
 use Rattle.linker_laws.specs.Machine.{Memory, moved, wrapped, extended, loaded, stored}
 
 -- ---- the state ("Programmers' Model for Base Integer ISA", "F Register State")
@@ -62,13 +63,6 @@ pub data Instruction : Type 0 where
   jal : (rd : ℕ) (offset : ℤ) → Instruction
   add : (rd rs1 rs2 : ℕ) → Instruction
   sums : Action → (rd rs1 rs2 : ℕ) (immediate : ℤ) → Instruction
-
--- the source registers, bits 15 to 19 and 20 to 24
-abbrev pub rs1_of : ℕ → ℕ
-rs1_of word = field word 15 20
-
-abbrev pub rs2_of : ℕ → ℕ
-rs2_of word = field word 20 25
 
 -- an instruction with an immediate of I-type, and one of S-type
 abbrev pub i_type : Action → ℕ → Option Instruction

@@ -6,14 +6,12 @@ use Rattle.linker_laws.specs.Imports.{riscv_form, riscv_relocation, riscv_row, c
 use Rattle.linker_laws.specs.Imports.{RelocationKindInfo, UType, IType, SType, JType, CjType}
 use Rattle.linker_laws.specs.Imports.{CluiType, Operands, RiscVRelocation}
 use Rattle.linker_elf.specs.declared.riscv64.forms.RiscVInstruction.{RiscVInstruction}
-use Rattle.linker_elf.specs.declared.riscv64.forms.RiscVInstruction.TheVariants.{BType}
-use Rattle.linker_elf.specs.declared.riscv64.forms.RiscVInstruction.TheVariants.{CbType}
+use Rattle.linker_elf.specs.declared.riscv64.forms.RiscVInstruction.TheVariants.{BType, CbType}
 use Rattle.linker_elf.specs.declared.riscv64.forms.RiscVInstruction.TheVariants.{UiType}
 use Rattle.linker_elf.specs.declared.riscv64.relocations.RiscVRelocation.TheVariants as names
 use Rattle.linker_laws.specs.Differences.{AddsDistance, SetsDistance, SetsDistance6}
 use Rattle.linker_laws.specs.Schemes.{HoldsDistance, Step, here, Law, Adds, symbol_address}
-use Rattle.linker_laws.specs.Schemes.{plt_address}
-use Rattle.linker_laws.specs.Schemes.{entry_and_addend, zero, place, tls_base}
+use Rattle.linker_laws.specs.Schemes.{plt_address, entry_and_addend, zero, place, tls_base}
 
 -- ---- an upper and a low part ("LUI", "AUIPC", "ADDI"; psABI, "Absolute Addresses", "PC-Relative
 -- Symbol Addresses", "Local Exec", "Initial Exec", "Global Dynamic", "TLS Descriptors")

@@ -1,22 +1,19 @@
 -- RISC-V: what laws of rewrites name.
-use Rattle.std.specs.Prelude.{◌≡◌, ℕ, List}
-use Rattle.std.specs.Prelude.{Option, Some, ◌≢◌}
+use Rattle.std.specs.Prelude.{◌≡◌, ℕ, List, Option, Some, ◌≢◌}
 use Rattle.std.specs.Int.{w64, cast_signed}
 use Rattle.linker_laws.specs.Imports.{rewritten, low_12_bounds, IsWithin, a0, funct3_of, rd_of}
 use Rattle.linker_laws.specs.Imports.{riscv_row, RelocationKindInfo, Operands}
 use Rattle.linker_elf.specs.Choices.{symbol_and_addend}
-use Rattle.linker_utils.specs.RiscVRewrites.{riscv_rewrite}
+use Rattle.linker_utils.specs.RiscVRewrites.{riscv_rewrite, IsAuipc, IsLd, IsAddiToA0}
+use Rattle.linker_utils.specs.RiscVRewrites.{IsCallOfDescriptor}
 use Rattle.linker_riscv64.specs.RiscVCalls.{word_at}
 use Rattle.linker_riscv64.specs.RiscVFields.{opcode_of}
-use Rattle.linker_utils.specs.RiscVRewrites.{IsAuipc, IsLd, IsAddiToA0}
-use Rattle.linker_utils.specs.RiscVRewrites.{IsCallOfDescriptor}
 use Rattle.linker_elf.specs.declared.riscv64.relocations.RiscVRelocation.TheVariants as names
 use Rattle.linker_utils.specs.declared.riscv64.rewrites.RewriteKind.{RewriteKind}
 pub use Rattle.linker_laws.specs.Machine.{word_of}
 pub use Rattle.linker_laws.specs.Schemes.{thread_offset}
 use Rattle.linker_laws.specs.Schemes.{symbol_address}
-use Rattle.linker_laws.specs.RiscVMachine.{Action}
-use Rattle.linker_laws.specs.RiscVMachine.{stores, stores_float, action_of, rs1_of}
+use Rattle.linker_laws.specs.RiscVMachine.{Action, stores, stores_float, action_of, rs1_of}
 
 -- the section after a rewrite at an offset
 abbrev pub after_rewrite : RewriteKind → List ℕ → ℕ → List ℕ

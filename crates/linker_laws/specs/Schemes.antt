@@ -4,8 +4,7 @@ use Rattle.std.specs.Prelude.{◌+ℤ◌, ◌*ℤ◌, ◌+◌, ◌*◌, ◌%◌,
 use Rattle.std.specs.Int.{w64, cast_unsigned, int_rem_euclid}
 use Rattle.linker_base.specs.Form.{window_of}
 use Rattle.linker_laws.specs.Imports.{IsApplied, IsWithin, number_of_bytes, sum_64, difference_64}
-use Rattle.linker_laws.specs.Imports.{RelocationKindInfo, Operands}
-use Rattle.linker_elf.specs.Elf.{bit_bounds, relocation_form}
+use Rattle.linker_laws.specs.Imports.{RelocationKindInfo, Operands, bit_bounds, relocation_form}
 use Rattle.linker_elf.specs.declared.elf.RelocationSize.{RelocationSize}
 use Rattle.linker_elf.specs.declared.elf.RelocationSize.TheVariants.{ByteSize, BitMasking}
 use Rattle.linker_elf.specs.declared.elf.Sign.{Sign}

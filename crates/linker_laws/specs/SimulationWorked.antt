@@ -1,12 +1,10 @@
 -- A small program of which every premise holds: groups and numbers of each kind, and both runs
 -- computed to the end.
-use Rattle.std.specs.Prelude.{◌≡◌, ℕ, ◌+◌, ◌-◌, ◌/◌, ◌%◌, ◌^◌, ◌==◌, nat_le, if◌then◌else◌}
-use Rattle.std.specs.Prelude.{◌&&◌, List, [], ◌∷◌, Option, Some, None, IsSomeAnd, nat_lt}
-use Rattle.std.specs.Prelude.{slice_get}
+use Rattle.std.specs.Prelude.{◌≡◌, ℕ, ◌+◌, ◌-◌, ◌/◌, ◌%◌, ◌^◌, ◌==◌, nat_le, if◌then◌else◌, ◌&&◌}
+use Rattle.std.specs.Prelude.{List, [], ◌∷◌, Option, Some, None, IsSomeAnd, nat_lt, slice_get}
 use Rattle.std.specs.Option.{unwrap_or}
-use Rattle.linker_laws.specs.Simulation.{State, Machine, Link, Kind, code, same}
-use Rattle.linker_laws.specs.Simulation.{anything, Stored, Kinds, Agree, of_link, run, Covered}
-use Rattle.linker_laws.specs.Simulation.{Stops}
+use Rattle.linker_laws.specs.Simulation.{State, Machine, Link, Kind, code, same, anything, Stored}
+use Rattle.linker_laws.specs.Simulation.{Kinds, Agree, of_link, run, Covered, Stops}
 use Rattle.linker_laws.specs.Changes.{put, go_to, with_register}
 use Rattle.linker_laws.specs.Chains.{Chain, one, followed_by, of_chain}
 

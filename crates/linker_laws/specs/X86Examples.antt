@@ -2,15 +2,14 @@
 -- these instructions, LLVM 22 those with REX2 and with EVEX, and GNU objdump reads those with
 -- `data16 data16` so. A processor made these results and flags of two numbers.
 use Rattle.std.specs.Prelude.{◌≡◌, ℕ, zero, suc, ◌+◌, ◌*◌, ◌/◌, ◌%◌, ◌==◌, ◌&&◌, Bool, true, false}
-use Rattle.std.specs.Prelude.{if◌then◌else◌, List, [], ◌∷◌, map}
-use Rattle.std.specs.Prelude.{length, IsTrue, IsSomeAnd, Some, None}
+use Rattle.std.specs.Prelude.{if◌then◌else◌, List, [], ◌∷◌, map, length, IsTrue, IsSomeAnd, Some}
+use Rattle.std.specs.Prelude.{None}
 use Rattle.linker_laws.specs.X86Machine.{Operation, MOV, ADD, OR, ADC, SBB, AND, SUB, XOR, CMP}
 use Rattle.linker_laws.specs.X86Machine.{TEST, Instruction, operate, operate_into as into, lea}
 use Rattle.linker_laws.specs.X86Machine.{lea_from, load_thread, call, jump, nop, direct, indirect}
 use Rattle.linker_laws.specs.X86Machine.{through, Operand, register as reg, relative, immediate}
-use Rattle.linker_laws.specs.X86Machine.{decode, step}
-use Rattle.linker_laws.specs.X86Machine.{Flags, State, result, flags_after, bit_of, load}
-use Rattle.linker_laws.specs.X86Machine.{writes}
+use Rattle.linker_laws.specs.X86Machine.{decode, step, Flags, State, result, flags_after, bit_of}
+use Rattle.linker_laws.specs.X86Machine.{load, writes}
 
 -- ---- bytes
 

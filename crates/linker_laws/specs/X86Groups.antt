@@ -3,10 +3,8 @@
 use Rattle.std.specs.Prelude.{◌≡◌, ℕ, zero, suc, ◌+◌, ◌-◌, ◌^◌, ◌<◌, ◌≤◌, ◌==◌, ◌&&◌, ◌⊎◌, Bool}
 use Rattle.std.specs.Prelude.{true, false, not, nat_le, nat_lt, if◌then◌else◌, List, [], ◌∷◌, take}
 use Rattle.std.specs.Prelude.{drop, Option, Some, None, IsSomeAnd, IsTrue, ⊤}
-use Rattle.std.specs.List.{All}
 use Rattle.linker_laws.specs.Imports.{rewritten, IsApplied, number_of_bytes, sum_64, difference_64}
-use Rattle.linker_laws.specs.Imports.{x86_64_row, Operands, X86_64Relocation}
-use Rattle.linker_base.specs.Rewrite.{offset_after}
+use Rattle.linker_laws.specs.Imports.{x86_64_row, Operands, X86_64Relocation, All, offset_after}
 use Rattle.linker_elf.specs.Choices.{operands_after}
 use Rattle.linker_elf.specs.declared.x86_64.relocations.X86_64Relocation.TheVariants as names
 use Rattle.linker_laws.specs.Changes.{ChangesOpen, OthersAgree, go_to, put, with_register}

@@ -1,9 +1,9 @@
 -- x86-64: what instructions do that rewrites are for, and those that they leave (Intel 64 and IA-32
 -- Architectures Software Developer's Manual, volume 2, "Instruction Format" and the page of each
 -- instruction). Code isn't part of the memory here.
-use Rattle.std.specs.Prelude.{ℕ, zero, suc, ◌+◌, ◌-◌, ◌*◌, ◌/◌, ◌%◌, ◌^◌, ◌==◌, ◌&&◌, Bool}
-use Rattle.std.specs.Prelude.{true, false, not, if◌then◌else◌, nat_lt, List, [], ◌∷◌, Option, Some}
-use Rattle.std.specs.Prelude.{None, bit_and, bit_or, bit_xor}
+use Rattle.std.specs.Prelude.{ℕ, zero, suc, ◌+◌, ◌-◌, ◌*◌, ◌/◌, ◌%◌, ◌^◌, ◌==◌, ◌&&◌, Bool, true}
+use Rattle.std.specs.Prelude.{false, not, if◌then◌else◌, nat_lt, List, [], ◌∷◌, Option, Some, None}
+use Rattle.std.specs.Prelude.{bit_and, bit_or, bit_xor}
 use Rattle.std.specs.Int.{w64, bit_at, byte_at, cast_unsigned}
 use Rattle.linker_laws.specs.Imports.{field, signed, number_of_bytes, sum_64, difference_64}
 

@@ -1,9 +1,7 @@
 -- x86-64: the bytes of code, as rewrites and relocations leave them.
-use Rattle.std.specs.Prelude.{◌≡◌, ℕ, ◌^◌, ◌<◌, ◌++◌, IsSomeAnd, List, take, drop}
-use Rattle.std.specs.Prelude.{neg_ℤ, pos}
-use Rattle.std.specs.List.{All}
+use Rattle.std.specs.Prelude.{◌≡◌, ℕ, ◌^◌, ◌<◌, ◌++◌, IsSomeAnd, List, take, drop, neg_ℤ, pos}
 use Rattle.linker_laws.specs.Imports.{difference_64, x86_64_row, RelocationKindInfo, Operands}
-use Rattle.linker_laws.specs.Imports.{X86_64Relocation, IsApplied}
+use Rattle.linker_laws.specs.Imports.{X86_64Relocation, IsApplied, All}
 use Rattle.linker_laws.specs.Schemes.{AreAddresses}
 use Rattle.linker_laws.specs.X86Machine.{State}
 
