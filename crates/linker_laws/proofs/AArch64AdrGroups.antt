@@ -1,7 +1,5 @@
 -- AArch64's groups that become `adr`.
-use Rattle.std.proofs.Common.{◌≡◌, ◌≢◌, ℕ, ◌+◌, ◌%◌, ◌/◌, ◌^◌, ◌<◌, refl, sym, ◌∙◌, ap, arith, List, Some, pos, ◌+ℤ◌, ◌*ℤ◌, drop, eqb-true}
-use Rattle.linker_laws.proofs.Imports.{bit_at, bit_and, ints, field, aarch64_form, page, sum_64, Add, LdSt, Operands, IsAdd64, IsIntoOwnSource, nop, rd_of}
-use Rattle.std.proofs.lemmas.Nat.{and_le_r}
+use Rattle.linker_laws.proofs.Imports.{◌≡◌, ◌≢◌, ℕ, ◌+◌, ◌%◌, ◌/◌, ◌^◌, ◌<◌, refl, sym, ◌∙◌, ap, arith, List, Some, pos, ◌+ℤ◌, ◌*ℤ◌, drop, eqb-true, bit_at, bit_and, ints, field, aarch64_form, page, sum_64, Add, LdSt, Operands, IsAdd64, IsIntoOwnSource, nop, rd_of, and_le_r, go_to, put, loaded, AreAddresses, IsAddress, symbol_address, State, Program, Kinds, run}
 use Rattle.linker_elf.specs.declared.aarch64.relocations.AArch64Relocation.TheVariants as names
 use Rattle.linker_laws.specs.AArch64Groups.{Code, Has, Leaves, OfPages, Stands, executed, link, machine, seen}
 use Rattle.linker_laws.specs.AArch64Groups as groups
@@ -9,11 +7,7 @@ use Rattle.linker_laws.specs.AArch64Machine.{added, execute, go_on, in_64_bits, 
 use Rattle.linker_laws.specs.AArch64Machine as aarch64_machine
 use Rattle.linker_laws.specs.AArch64RelocationLaws as relocation_laws
 use Rattle.linker_laws.specs.AArch64RewriteLaws.{IsPair, IsRelocated, IsRewritten, following, word_of}
-use Rattle.linker_laws.specs.Changes.{go_to, put}
-use Rattle.linker_laws.specs.Machine.{loaded}
-use Rattle.linker_laws.specs.Schemes.{AreAddresses, IsAddress, symbol_address}
-use Rattle.linker_laws.specs.Simulation.{State, Program, Kinds, run}
-use Rattle.linker_laws.proofs.AArch64Groups.{below_32, below_64, load_goes, nop_goes, sets, sets_at, sets_twice}
+use Rattle.linker_laws.proofs.AArch64Groups.{below_32, load_goes, nop_goes, sets, sets_at, sets_twice}
 use Rattle.linker_laws.proofs.AArch64Near.{near_after, near_here, small_after}
 use Rattle.linker_laws.proofs.AArch64Pages.{IsUnsigned, offset_reads}
 use Rattle.linker_laws.proofs.AArch64Pairs.{adds_pair, adr_is, pair_made, word_is, word_made}
@@ -22,7 +16,7 @@ use Rattle.linker_laws.proofs.AArch64Words.{IsAdrOf, IsMadeAdr, add_after, adr_a
 use Rattle.linker_laws.proofs.Agreement.{agree_go, group_of, unchanged, value_group}
 use Rattle.linker_laws.proofs.CoveredRuns.{holds_of, run_first}
 use Rattle.linker_laws.proofs.Instructions.{unbiased}
-use Rattle.linker_laws.proofs.Sums.{lifted_is, once, sum_below, eight}
+use Rattle.linker_laws.proofs.Sums.{lifted_is, once, sum_below, eight, page_parts}
 use Rattle.linker_utils.specs.declared.aarch64.rewrites.RewriteKind.TheVariants as kinds
 
 -- a word under a mask
@@ -135,7 +129,7 @@ nop_and_adr_by literals c o k s both made adrp1 p is_made first stands d leads n
     let one = p.one_register in
     let words = made_second (rd_of (word_of (drop 4 both))) both made is_made one.register in
     value_group (link c) 1 1 k _ s _ (rd_of (word_of (drop 4 both))) (symbol_address o)
-    (sum_64 o.place 8) (below_64 o.place 8)
+    (sum_64 o.place 8) (sum_below o.place 8)
     (sum_goes c.others c.old o s adrp1 (drop 4 both) p.at first stands p.second_is one.into_own_source d
     leads)
     (unchanged _ _)
@@ -169,7 +163,7 @@ are_load_to_nop_and_adr entries literals c o k s adrp ldr both made p holds same
     let one = p.one_register in
     let n = rd_of (word_of ldr) in
     let words = made_second n both made is_made (ap rd_of same ∙ one.register) in
-    value_group (link c) 1 1 k _ s _ n (symbol_address o) (sum_64 o.place 8) (below_64 o.place 8)
+    value_group (link c) 1 1 k _ s _ n (symbol_address o) (sum_64 o.place 8) (sum_below o.place 8)
     (load_goes entries c.others c.old o s adrp ldr p holds adrp1 ldr1)
     (unchanged _ _)
     (λ t agree.
@@ -192,7 +186,7 @@ adr_and_nop_by literals c o k s adrp add made after adrp1 p is_made is_nop first
     let was = adr_of_adrp (word_of adrp)
     (masked_field (word_of adrp) 0x9f000000 0x90000000 24 29 one.first refl) in
     value_group (link c) 1 1 k _ s _ (rd_of (word_of add)) (symbol_address o) (sum_64 o.place 8)
-    (below_64 o.place 8)
+    (sum_below o.place 8)
     (sum_goes c.others c.old o s adrp1 add p.at first stands p.second_is one.into_own_source d leads)
     (unchanged _ _)
     (λ t agree.
@@ -221,10 +215,6 @@ are_adr_and_nop relative literals = (
 
 -- ---- one instruction
 
--- a page and the rest
-parts : (g t : ℕ) → g < 2 ^ 64 → t ≡ g → (page g + t % 2 ^ 12) % 2 ^ 64 ≡ g
-parts g t small same = omega arith
-
 add_is : IsUnsigned Add
 add_is = (refl, refl, refl, λ c x. refl)
 
@@ -244,7 +234,7 @@ page_and_rest o add after a =
     let z = pos (page g) +ℤ pos (t % 2 ^ 12) in
     ap (λ k. in_64_bits (pos (page g) +ℤ k)) (sym (once ((aarch64_form Add).machine (word_of after))) ∙ l)
     ∙ address_is z _ (lifted_is z 0 (page g + t % 2 ^ 12) (omega (arith, ints)))
-    ∙ parts g t small (unbiased g small)
+    ∙ ap (λ t. (page g + t % 2 ^ 12) % 2 ^ 64) (unbiased g small) ∙ page_parts g small
 
 -- the entry's address
 entry_and_rest : (o : Operands) → AreAddresses o → (ldr after : List ℕ)
@@ -259,7 +249,7 @@ entry_and_rest o small ldr after a =
     let z = pos (page o.got_entry) +ℤ pos (t % 2 ^ 12) in
     ap (λ k. in_64_bits (pos (page o.got_entry) +ℤ k)) l
     ∙ address_is z _ (lifted_is z 0 (page o.got_entry + t % 2 ^ 12) (omega (arith, ints)))
-    ∙ parts o.got_entry t small.got_entry same
+    ∙ ap (λ t. (page o.got_entry + t % 2 ^ 12) % 2 ^ 64) same ∙ page_parts o.got_entry small.got_entry
 
 pub are_add_to_adr : relocation_laws.Literals → groups.AddToAdr
 are_add_to_adr literals c o k s add made small at is named has is_made old new =
@@ -275,7 +265,7 @@ are_add_to_adr literals c o k s add made small at is named has is_made old new =
     ap (λ r. in_64_bits (pos (s.registers r) +ℤ (aarch64_form Add).machine x)) after.rn_is
     ∙ ap (λ p. in_64_bits (pos p +ℤ (aarch64_form Add).machine x)) has
     ∙ page_and_rest o add old.relocated old.applied in
-    value_group (link c) 0 0 k _ s _ d (symbol_address o) (sum_64 o.place 4) (below_64 o.place 4)
+    value_group (link c) 0 0 k _ s _ d (symbol_address o) (sum_64 o.place 4) (sum_below o.place 4)
     (sets_at c.others c.old s o.place x d (symbol_address o) at old.stands
     (step_add x d (seen s) after.decodes after.rd_is ∙ ap (λ v. Some (set d v (seen s))) sum))
     (unchanged _ _)
@@ -301,7 +291,7 @@ are_ldr_to_adr literals c o k s ldr made small at is has holds is_made old new =
     ∙ ap (λ p. load_64 s.memory (in_64_bits (pos p +ℤ ((aarch64_form LdSt).machine x *ℤ pos 8)))) has
     ∙ ap (load_64 s.memory) (entry_and_rest o small ldr old.relocated old.applied) ∙ holds in
     let next = sum_64 o.place 4 in (
-      λ named. value_group (link c) 0 0 k _ s _ d (symbol_address o) next (below_64 o.place 4)
+      λ named. value_group (link c) 0 0 k _ s _ d (symbol_address o) next (sum_below o.place 4)
           (sets_at c.others c.old s o.place x d (symbol_address o) at old.stands
           (step_ldr x d (seen s) after.decodes after.rd_is named
           ∙ ap (λ v. Some (set d v (seen s))) value))
@@ -322,7 +312,7 @@ are_ldr_to_adr literals c o k s ldr made small at is has holds is_made old new =
           (goes c.others c.new t y v (agree.pc ∙ at) new.stands
           (ap (λ i. execute i y (seen t)) (decodes_adr y a.opcode a.top)
           ∙ ap (λ r. Some (go_on (write_x r v (seen t)))) (a.rd_is ∙ adr.rd_is ∙ zero_register)))
-          (agree_go (link c) k s t next next agree (below_64 o.place 4) refl)),
+          (agree_go (link c) k s t next next agree (sum_below o.place 4) refl)),
     )
   where
     -- an instruction that writes XZR

@@ -1,24 +1,19 @@
 -- AArch64's groups of TLS descriptors.
-use Rattle.std.proofs.Common.{◌≡◌, ℕ, suc, ◌+◌, ◌^◌, ◌<◌, Bool, true, false, refl, sym, ◌∙◌, ap, ap₂, subst, arith, cond, eqb, List, Some, pos, ◌+ℤ◌}
-use Rattle.linker_laws.proofs.Imports.{cond-false, cond-true, eq-eqb, ne_eqb, aarch64_form, sum_64, Add, Operands, IsAdrp, IsLdr64, nop, rd_of, rn_of}
+use Rattle.linker_laws.proofs.Imports.{◌≡◌, ℕ, ◌+◌, ◌^◌, ◌<◌, Bool, true, false, refl, sym, ◌∙◌, ap, ap₂, subst, arith, cond, eqb, List, Some, pos, ◌+ℤ◌, cond-false, cond-true, eq-eqb, ne_eqb, aarch64_form, sum_64, Add, Operands, IsAdrp, IsLdr64, nop, rd_of, rn_of, go_to, put, loaded, AreAddresses, State, Program, Kinds, Agree, Group, of_link, run, suc-add}
 use Rattle.linker_laws.specs.AArch64Groups.{Code, Descriptor, EndsInNops, called, executed, link, machine, seen}
 use Rattle.linker_laws.specs.AArch64Groups as groups
 use Rattle.linker_laws.specs.AArch64Machine.{added, adrp_address, in_64_bits, load_64, step}
 use Rattle.linker_laws.specs.AArch64Machine as aarch64_machine
 use Rattle.linker_laws.specs.AArch64RelocationLaws as relocation_laws
 use Rattle.linker_laws.specs.AArch64RewriteLaws.{with_entry, word_of}
-use Rattle.linker_laws.specs.Changes.{go_to, put}
-use Rattle.linker_laws.specs.Machine.{loaded}
-use Rattle.linker_laws.specs.Schemes.{AreAddresses}
-use Rattle.linker_laws.specs.Simulation.{State, Program, Kinds, Agree, Group, of_link, run}
-use Rattle.linker_laws.proofs.AArch64Groups.{below_32, below_64, nop_goes, sets, sets_twice, still_seen}
+use Rattle.linker_laws.proofs.AArch64Groups.{below_32, nop_goes, sets, sets_twice, still_seen}
 use Rattle.linker_laws.proofs.AArch64Moves.{offset_moves}
 use Rattle.linker_laws.proofs.AArch64Pairs.{adds_up, loads, word_is}
 use Rattle.linker_laws.proofs.AArch64Steps.{step_add, step_blr, step_ldr}
 use Rattle.linker_laws.proofs.AArch64Words.{add_after, adr_of_register, adrp_after, blr_of, ldr_of_register_after, masked_field, of_registers}
 use Rattle.linker_laws.proofs.Agreement.{value_group}
 use Rattle.linker_laws.proofs.CoveredRuns.{run_first, run_on}
-use Rattle.linker_laws.proofs.Sums.{eight, three_words}
+use Rattle.linker_laws.proofs.Sums.{eight, sum_on, three_words, sum_below}
 
 -- ---- the call
 
@@ -133,15 +128,9 @@ end_in_nops c o t v add blr nop1 nop2 is =
     (nop_goes c.others c.new u (sum_64 o.place 8) (word_of nop1) refl is.first
     (word_is nop nop1 (omega arith) is.first_made))
     (run_first 0 p w (go_to (sum_64 w.pc 4) w) _
-    (nop_goes c.others c.new w (sum_64 o.place 12) (word_of nop2) (twelve o.place) is.second
+    (nop_goes c.others c.new w (sum_64 o.place 12) (word_of nop2) (sum_on o.place 8 4) is.second
     (word_is nop nop2 (omega arith) is.second_made))
-    (ap (λ a. Some (put 0 v a t)) (sixteen o.place)))
-  where
-    twelve : (a : ℕ) → sum_64 (sum_64 a 8) 4 ≡ sum_64 a 12
-    twelve a = omega arith
-
-    sixteen : (a : ℕ) → sum_64 (sum_64 (sum_64 a 8) 4) 4 ≡ sum_64 a 16
-    sixteen a = omega arith
+    (ap (λ a. Some (put 0 v a t)) (ap (λ a. sum_64 a 4) (sum_on o.place 8 4) ∙ sum_on o.place 12 4)))
 
 -- The function returns after the sequence, and new leaves the same in X0.
 group_of : relocation_laws.EntryAddresses → (c : Code) (o : Operands) (v : ℕ) (k k' : Kinds)
@@ -151,17 +140,14 @@ group_of : relocation_laws.EntryAddresses → (c : Code) (o : Operands) (v : ℕ
     → run 2 (machine c.others c.new) t ≡ Some (put 0 v (sum_64 o.place 8) t))
     → Group (of_link (link c)) 4 k s k' s'
 group_of entries c o v k k' s s' adrp ldr add blr nop1 nop2 d ends leaves =
-    value_group (link c) 3 (3 + d.executes) k k' s s' 0 v (sum_64 o.place 16) (below_64 o.place 16)
-    (subst (λ n. run n (machine c.others c.old) s ≡ Some s') (after_four d.executes)
+    value_group (link c) 3 (3 + d.executes) k k' s s' 0 v (sum_64 o.place 16) (sum_below o.place 16)
+    (subst (λ n. run n (machine c.others c.old) s ≡ Some s') (suc-add 3 d.executes)
     (run_on 4 d.executes (machine c.others c.old) s (called o (rd_of (word_of ldr)) s) (Some s')
     (descriptor_goes entries c o v k s k' s' adrp ldr add blr d) d.returns))
     d.changes
     (λ t agree.
     run_on 2 2 (machine c.others c.new) t _ _ (leaves t agree)
     (end_in_nops c o t v add blr nop1 nop2 ends))
-  where
-    after_four : (n : ℕ) → 4 + n ≡ suc (3 + n)
-    after_four n = omega arith
 
 pub are_to_local_exec : relocation_laws.EntryAddresses → relocation_laws.ThreadMoves
     → groups.DescriptorToLocalExec

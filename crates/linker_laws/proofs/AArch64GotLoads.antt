@@ -1,14 +1,11 @@
 -- Loads of addresses from the GOT, and what takes their place, each from a state of its own.
-use Rattle.std.proofs.Common.{◌≡◌, ℕ, ◌∙◌, arith, List, refl, ◌+◌}
-use Rattle.linker_laws.proofs.Imports.{field, sum_64, Operands, IsLdr64, rd_of, rn_of, LdrToAdd}
+use Rattle.linker_laws.proofs.Imports.{◌≡◌, ℕ, ◌∙◌, arith, List, refl, ◌+◌, field, sum_64, Operands, IsLdr64, rd_of, rn_of, LdrToAdd, AreAddresses, symbol_address, AreOfOneRegister}
 use Rattle.linker_elf.specs.declared.aarch64.relocations.AArch64Relocation.TheVariants as names
 use Rattle.linker_laws.specs.AArch64Machine.{State, load_64}
 use Rattle.linker_laws.specs.AArch64RelocationLaws as relocation_laws
 use Rattle.linker_laws.specs.AArch64RewriteLaws.{IsRelocated, IsRewritten, following, word_of}
-use Rattle.linker_laws.specs.Schemes.{AreAddresses, symbol_address}
 use Rattle.linker_laws.proofs.AArch64Pairs.{Loads, Adds, loads, adds_pair, word_made}
 use Rattle.linker_laws.proofs.AArch64Words.{adr_of_register, of_registers, adrp_after, ldr_after, add_after}
-use Rattle.linker_utils.specs.AArch64Rewrites.{AreOfOneRegister}
 
 pub got_loads : relocation_laws.EntryAddresses → (o : Operands) (s : State) (adrp ldr : List ℕ)
     → AreAddresses o → s.pc ≡ o.place → AreOfOneRegister (word_of adrp) (word_of ldr)

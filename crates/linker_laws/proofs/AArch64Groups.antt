@@ -1,16 +1,11 @@
 -- AArch64's groups.
-use Rattle.std.proofs.Common.{◌≡◌, ℕ, ◌^◌, ◌<◌, Bool, true, false, refl, sym, ◌∙◌, ap, ap₂, subst, arith, List, Some, eqb, cond, ◌/◌, eqb-true, true≢false}
-use Rattle.linker_laws.proofs.Imports.{and_parts, cond-false, eq-eqb, ne_eqb, IsSomeAnd, ◌==◌, ◌&&◌, page, sum_64, Operands, IsLdr64, nop, rd_of, ReplaceWithNop}
+use Rattle.linker_laws.proofs.Imports.{◌≡◌, ℕ, ◌^◌, ◌<◌, refl, sym, ◌∙◌, ap, ap₂, subst, arith, List, Some, eqb, ◌/◌, eqb-true, and_parts, cond-false, eq-eqb, ne_eqb, ◌==◌, page, sum_64, Operands, IsLdr64, nop, rd_of, ReplaceWithNop, go_to, put, loaded, symbol_address, State, Program, Agree, AreOf, anything, run, half}
 use Rattle.linker_elf.specs.declared.aarch64.relocations.AArch64Relocation.TheVariants as names
 use Rattle.linker_laws.specs.AArch64Groups.{Has, does, seen, executed, machine, link, Others}
 use Rattle.linker_laws.specs.AArch64Groups as groups
 use Rattle.linker_laws.specs.AArch64Machine.{branch_target, execute, load_64, moved, step}
 use Rattle.linker_laws.specs.AArch64RelocationLaws as relocation_laws
 use Rattle.linker_laws.specs.AArch64RewriteLaws.{IsPair, IsRewritten, following, word_of, thread_offset}
-use Rattle.linker_laws.specs.Changes.{go_to, put}
-use Rattle.linker_laws.specs.Machine.{loaded}
-use Rattle.linker_laws.specs.Schemes.{symbol_address}
-use Rattle.linker_laws.specs.Simulation.{State, Program, Agree, AreOf, anything, run, half}
 use Rattle.linker_laws.proofs.AArch64GotLoads.{got_loads, got_adds}
 use Rattle.linker_laws.proofs.AArch64Halves.{HasHigh, high_steps, low_steps}
 use Rattle.linker_laws.proofs.AArch64Pairs.{word_is}
@@ -18,7 +13,7 @@ use Rattle.linker_laws.proofs.AArch64Steps.{branch_leads, set}
 use Rattle.linker_laws.proofs.AArch64Words.{branch_after, decodes_b, decodes_bl}
 use Rattle.linker_laws.proofs.Agreement.{agree_go, agree_put, agree_put_old, both_true, group_of, last_counts, others_agree, unchanged, value_group}
 use Rattle.linker_laws.proofs.CoveredRuns.{run_first, holds_of}
-use Rattle.linker_laws.proofs.Sums.{eight}
+use Rattle.linker_laws.proofs.Sums.{eight, sum_below}
 
 -- ---- runs
 
@@ -56,9 +51,6 @@ sets_twice others bytes s place x y n u v value at small here after first second
 pub below_32 : (word : ℕ) → rd_of word < 32
 below_32 word = omega arith
 
-pub below_64 : (a b : ℕ) → sum_64 a b < 2 ^ 64
-below_64 a b = omega arith
-
 -- ---- loads
 
 -- `adrp xN` and `ldr xN, [xN]` of an entry that holds the address
@@ -79,7 +71,7 @@ load_goes entries others code o s adrp ldr p holds first second =
 pub are_loads : relocation_laws.RelativeAddresses → relocation_laws.EntryAddresses → groups.GotToAddress
 are_loads relative entries c o k s adrp ldr add p holds made adrp1 ldr1 adrp2 add2 =
     let n = rd_of (word_of ldr) in
-    value_group (link c) 1 1 k _ s _ n (symbol_address o) (sum_64 o.place 8) (below_64 o.place 8)
+    value_group (link c) 1 1 k _ s _ n (symbol_address o) (sum_64 o.place 8) (sum_below o.place 8)
     (load_goes entries c.others c.old o s adrp ldr p holds adrp1 ldr1)
     (unchanged _ _)
     (λ t agree.
@@ -116,7 +108,7 @@ are_high_halves c h o k s adrp movz small at entry offset is named made adrp1 mo
     (sets_at c.others c.new t o.place (word_of movz1.relocated) n v (agree.pc ∙ at) movz1.stands
     steps.second)
     (agree_put (link c) k s t n (half h) (page o.got_entry) v next next agree
-    (below_64 o.place 4) refl
+    (sum_below o.place 4) refl
     (both_true (page o.got_entry == page (c.entry h)) (v / 2 ^ 16 == c.offset h / 2 ^ 16)
     (eq-eqb _ _ (ap page (sym entry)))
     (eq-eqb _ _ (steps.bits_are ∙ ap (λ d. d / 2 ^ 16) (sym offset))))))
@@ -125,7 +117,7 @@ pub are_low_halves : groups.LowHalfToMovk
 are_low_halves c h o k s ldr movk small at entry offset is own made holds known has ldr1 movk1 =
     let n = rd_of (word_of ldr) in
     let d = thread_offset o in
-    value_group (link c) 0 0 k _ s _ n d (sum_64 o.place 4) (below_64 o.place 4)
+    value_group (link c) 0 0 k _ s _ n d (sum_64 o.place 4) (sum_below o.place 4)
     (sets_at c.others c.old s o.place (word_of ldr1.relocated) n d at ldr1.stands
     (low_steps o (seen s) (record (seen s) { registers = λ m. d }) ldr movk small is own holds
     (record { page_is = has; bits_are = refl }) made ldr1.relocated movk1.relocated ldr1.applied
@@ -180,7 +172,7 @@ are_branches laws = (
       (λ t agree.
       holds_of (run 1 (machine c.others c.new) t) _ (go_to (sum_64 o.place 4) t)
       (goes_on c.others c.new t o.place branch made (agree.pc ∙ at) rewritten new)
-      (agree_go (link c) k s t (sum_64 o.place 4) (sum_64 o.place 4) agree (below_64 o.place 4)
+      (agree_go (link c) k s t (sum_64 o.place 4) (sum_64 o.place 4) agree (sum_below o.place 4)
       refl)),
   λ c o k s branch made small at next is rewritten on new.
       let x = word_of on.relocated in
@@ -197,7 +189,7 @@ are_branches laws = (
       holds_of (run 1 (machine c.others c.new) t) _ (go_to n t)
       (goes_on c.others c.new t o.place branch made (agree.pc ∙ at) rewritten new)
       (agree_put_old (link c) k (go_to n s) (go_to n t) 30 anything n n
-      (agree_go (link c) k s t n n agree (below_64 o.place 4) refl) (below_64 o.place 4) refl tt)),
+      (agree_go (link c) k s t n n agree (sum_below o.place 4) refl) (sum_below o.place 4) refl tt)),
 )
 
 pub are_others : Others

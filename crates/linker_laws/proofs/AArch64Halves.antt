@@ -1,13 +1,11 @@
 -- The halves of initial-exec, each by itself.
-use Rattle.std.proofs.Common.{◌≢◌, ◌≡◌, ℕ, ◌+◌, ◌-◌, ◌*◌, ◌/◌, ◌%◌, ◌^◌, ◌<◌, refl, sym, ◌∙◌, ap, subst, arith, List, eqb, ℤ, pos, ◌+ℤ◌, ◌*ℤ◌, Some}
-use Rattle.linker_laws.proofs.Imports.{not, ◌&&◌, nat_lt, w64, cast_signed, bit_at, int_rem_euclid, eq-eqb, ne_eqb, cond-false, ints, int_rem_euclid_is, field, IsAdrp, IsIntoOwnSource, IsLdr64, rd_of, MovkXn, MovzXnLsl16, aarch64_form, shift_of, bits_from, bit_bounds, page, is_movk, sum_64, difference_64, Adr, LdrRegister, LdSt, Movkz, Movnz, AArch64, TpOff, Signed, Operands, plain_written, aarch64_rows}
+use Rattle.linker_laws.proofs.Imports.{◌≢◌, ◌≡◌, ℕ, ◌+◌, ◌-◌, ◌*◌, ◌/◌, ◌%◌, ◌^◌, ◌<◌, refl, sym, ◌∙◌, ap, subst, arith, List, eqb, ℤ, pos, ◌+ℤ◌, ◌*ℤ◌, Some, not, ◌&&◌, nat_lt, w64, cast_signed, bit_at, int_rem_euclid, eq-eqb, ne_eqb, cond-false, ints, int_rem_euclid_is, field, IsAdrp, IsIntoOwnSource, IsLdr64, rd_of, MovkXn, MovzXnLsl16, aarch64_form, shift_of, bits_from, bit_bounds, page, is_movk, sum_64, difference_64, Adr, LdrRegister, LdSt, Movkz, Movnz, AArch64, TpOff, Signed, Operands, plain_written, aarch64_rows, AreAddresses, symbol_address, tls_base}
 use Rattle.linker_elf.specs.declared.aarch64.relocations.AArch64Relocation.TheVariants as names
 use Rattle.linker_laws.specs.AArch64RelocationLaws.{movk, movn_or_movz}
-use Rattle.linker_laws.specs.Schemes.{AreAddresses, symbol_address, tls_base}
 use Rattle.linker_laws.proofs.Instructions.{reads_bits, field_sum, relative, symbol_from_tls, unbiased}
 use Rattle.linker_laws.proofs.AArch64WideMoves.{movn_first}
 use Rattle.linker_laws.proofs.AArch64Pages.{offset_reads, IsUnsigned}
-use Rattle.linker_laws.proofs.Sums.{sum_below, difference_below, page_halves_sum, taken_off, cast_is, euclid, lift, lifted_is}
+use Rattle.linker_laws.proofs.Sums.{sum_below, difference_below, page_halves_sum, taken_off, cast_is, euclid, lift, lifted_is, page_below, page_parts}
 use Rattle.linker_laws.specs.AArch64RewriteLaws.{word_of, thread_offset, IsRelocated}
 use Rattle.linker_laws.specs.AArch64RewriteLaws as aarch64_laws
 use Rattle.linker_laws.specs.AArch64Machine.{State, step, in_64_bits, moved, with_moved, read_x, loaded, load_64}
@@ -37,9 +35,6 @@ page_of_entry o small adrp after a =
     (page_below t (sum_below o.got_entry 0)) (parts t (sum_below o.got_entry 0)))
     ∙ ap page same
   where
-    page_below : (t : ℕ) → t < 2 ^ 64 → page t < 2 ^ 64
-    page_below t small = omega arith
-
     parts : (t : ℕ) → t < 2 ^ 64 → (page t + sum_64 t 0 % 2 ^ 12) % 2 ^ 64 ≡ t
     parts t small = omega arith
 
@@ -166,10 +161,7 @@ entry_of_page o small ldr after a =
     let z = pos (page o.got_entry) +ℤ pos (t % 2 ^ 12) in
     ap (λ k. in_64_bits (pos (page o.got_entry) +ℤ k)) l
     ∙ address_is z _ (lifted_is z 0 (page o.got_entry + t % 2 ^ 12) (omega (arith, ints)))
-    ∙ whole o.got_entry t small.got_entry same
-  where
-    whole : (g t : ℕ) → g < 2 ^ 64 → t ≡ g → (page g + t % 2 ^ 12) % 2 ^ 64 ≡ g
-    whole g t small same = omega arith
+    ∙ ap (λ t. (page o.got_entry + t % 2 ^ 12) % 2 ^ 64) same ∙ page_parts o.got_entry small.got_entry
 
 -- Register n has what a high half of the variable makes: in the object's run the page of the GOT
 -- entry, and in the new one a number that has the offset's bits from 16 up.

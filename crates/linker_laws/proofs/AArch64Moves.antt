@@ -1,10 +1,8 @@
 -- The moves of an offset from the thread pointer.
-use Rattle.std.proofs.Common.{◌≡◌, ◌≢◌, ℕ, ◌+◌, ◌-◌, ◌*◌, ◌%◌, ◌^◌, ◌<◌, refl, sym, ◌∙◌, ap, subst, arith, List, eqb, ℤ, pos, ◌+ℤ◌, ◌*ℤ◌, ◌-ℤ◌, Some, unsigned_abs}
-use Rattle.linker_laws.proofs.Imports.{◌&&◌, not, nat_lt, false, field, is_movk, AArch64, TpOff, plain_written, bit_at, int_rem_euclid, eq-eqb, ne_eqb, cond-false, ints, int_rem_euclid_is, aarch64_form, shift_of, rd_of, sum_64, difference_64, Movkz, Movnz, Operands}
+use Rattle.linker_laws.proofs.Imports.{◌≡◌, ◌≢◌, ℕ, ◌+◌, ◌-◌, ◌*◌, ◌%◌, ◌^◌, ◌<◌, refl, sym, ◌∙◌, ap, subst, arith, List, eqb, ℤ, pos, ◌+ℤ◌, ◌*ℤ◌, ◌-ℤ◌, Some, unsigned_abs, ◌&&◌, not, nat_lt, false, field, is_movk, AArch64, TpOff, plain_written, bit_at, int_rem_euclid, eq-eqb, ne_eqb, cond-false, ints, int_rem_euclid_is, aarch64_form, shift_of, rd_of, sum_64, difference_64, Movkz, Movnz, Operands, IsAddress, AreAddresses, symbol_address}
 use Rattle.linker_elf.specs.declared.aarch64.relocations.AArch64Relocation.TheVariants as names
 use Rattle.linker_laws.specs.AArch64RelocationLaws.{movk, movn_or_movz}
 use Rattle.linker_laws.specs.AArch64RelocationLaws as relocation_laws
-use Rattle.linker_laws.specs.Schemes.{IsAddress, AreAddresses, symbol_address}
 use Rattle.linker_laws.proofs.Sums.{lift, lifted_is, sum_below}
 use Rattle.linker_laws.specs.AArch64RewriteLaws.{word_of, following, IsRelocated, thread_offset}
 use Rattle.linker_laws.specs.AArch64Machine.{State, step, in_64_bits, moved, with_moved, read_x}

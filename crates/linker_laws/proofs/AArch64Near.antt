@@ -1,9 +1,7 @@
 -- Where `adr` reaches an address, its page is near.
-use Rattle.std.proofs.Common.{◌≡◌, ℕ, ◌^◌, ◌<◌, ◌≤◌, ◌-◌, ◌⊎◌, inl, inr, sym, ◌∙◌, ap, subst, arith, ℤ, pos, ◌+ℤ◌, Some}
-use Rattle.linker_laws.proofs.Imports.{w64, cast_signed, cases_lt, ints, to_z_pos, cast_negative, IsWithin, bit_bounds, page, difference_64, sum_64, Signed, Operands}
+use Rattle.linker_laws.proofs.Imports.{◌≡◌, ℕ, ◌^◌, ◌<◌, ◌≤◌, ◌-◌, ◌⊎◌, inl, inr, sym, ◌∙◌, ap, subst, arith, ℤ, pos, ◌+ℤ◌, Some, w64, cast_signed, cases_lt, ints, to_z_pos, cast_negative, IsWithin, bit_bounds, page, difference_64, sum_64, Signed, Operands, AreAddresses, symbol_address}
 use Rattle.linker_laws.proofs.Sums.{difference_below, sum_below}
 use Rattle.linker_laws.specs.AArch64RewriteLaws.{following}
-use Rattle.linker_laws.specs.Schemes.{AreAddresses, symbol_address}
 
 -- a number of 64 bits in two's complement
 in_two_ways : (n : ℕ) → n < 2 ^ 64

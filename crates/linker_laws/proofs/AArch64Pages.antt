@@ -1,11 +1,7 @@
 -- Pages and offsets in them, of AArch64.
-use Rattle.std.proofs.Common.{◌≡◌, ℕ, ◌+◌, ◌-◌, ◌*◌, ◌/◌, ◌%◌, ◌^◌, ◌<◌, ◌≤◌, Bool, true, refl, sym, ◌∙◌, ap, subst, arith, List, [], ◌∷◌, leb, ℤ, pos, ◌+ℤ◌, ◌*ℤ◌, Option, Some}
-use Rattle.linker_laws.proofs.Imports.{w64, cast_signed, leb-true, bit_bounds, Signed, mod_below, pow_pos, pow-add, field, window_of, is_sound_layout, low_of, high_of, aarch64_form, aarch64_layout, IsWithin, page, reach_of, value_of, sum_64, difference_64, AArch64Instruction, Adr, Add, AllowedRange, PageMask, AArch64, RelocationKind, RelocationKindInfo, Operands, IsApplied}
+use Rattle.linker_laws.proofs.Imports.{◌≡◌, ℕ, ◌+◌, ◌-◌, ◌*◌, ◌/◌, ◌%◌, ◌^◌, ◌<◌, ◌≤◌, Bool, true, refl, sym, ◌∙◌, ap, subst, arith, List, [], ◌∷◌, leb, ℤ, pos, ◌+ℤ◌, ◌*ℤ◌, Option, Some, w64, cast_signed, leb-true, bit_bounds, Signed, mod_below, pow_pos, pow-add, field, window_of, is_sound_layout, low_of, high_of, aarch64_form, aarch64_layout, IsWithin, page, reach_of, value_of, sum_64, difference_64, AArch64Instruction, Adr, Add, AllowedRange, PageMask, AArch64, RelocationKind, RelocationKindInfo, Operands, IsApplied, place_sum, subst_below, AreAddresses, Law, Premise, PremiseHolds, none}
 use Rattle.std.proofs.Math.Arith.{mod-mul}
-use Rattle.linker_base.specs.Form.{place_sum}
-use Rattle.linker_base.proofs.Immediates.{subst_below}
 use Rattle.linker_laws.specs.AArch64RelocationLaws.{got_page, page_and_offset}
-use Rattle.linker_laws.specs.Schemes.{AreAddresses, Law, Premise, PremiseHolds, none}
 use Rattle.linker_laws.proofs.Instructions.{FirstHasNumber, HasNumber, IsNumber, IsSmall, absolute, first_step, row_of, is_read, reads_bits, field_sum, multiple, step_of}
 use Rattle.linker_laws.proofs.Applied.{sound_written}
 use Rattle.linker_laws.proofs.Sums.{halves_sum, page_halves_sum, sum_below, difference_below}

@@ -1,8 +1,6 @@
 -- `adrp` with an instruction that has the offset in the page.
-use Rattle.std.proofs.Common.{◌≡◌, ◌≢◌, ℕ, ◌^◌, ◌<◌, sym, ◌∙◌, ap, List, pos, ◌*ℤ◌, ◌+ℤ◌, Some, take, drop, [], ◌∷◌, ◌+◌, ◌*◌, refl, arith}
-use Rattle.linker_laws.proofs.Imports.{w32, from_le_bytes, to_le_bytes, w64, from_le_bytes-to_le_bytes_4, word_of_front, aarch64_form, nop, rn_of, page, Adr, Add, LdSt, Operands}
+use Rattle.linker_laws.proofs.Imports.{◌≡◌, ◌≢◌, ℕ, ◌^◌, ◌<◌, sym, ◌∙◌, ap, List, pos, ◌*ℤ◌, ◌+ℤ◌, Some, take, drop, ◌+◌, ◌*◌, arith, w32, from_le_bytes, to_le_bytes, w64, from_le_bytes-to_le_bytes_4, word_of_front, aarch64_form, nop, rn_of, page, Adr, Add, LdSt, Operands, IsAddress}
 use Rattle.linker_laws.specs.AArch64RelocationLaws.{page_and_offset}
-use Rattle.linker_laws.specs.Schemes.{IsAddress}
 use Rattle.linker_laws.proofs.Sums.{once}
 use Rattle.linker_laws.specs.AArch64RewriteLaws.{word_of}
 use Rattle.linker_laws.specs.AArch64Machine.{State, step, in_64_bits, load_64, adrp_address, loaded, added, add, ldr, adr_address}

@@ -1,7 +1,5 @@
 -- Steps of AArch64's instructions.
-use Rattle.std.proofs.Common.{◌≡◌, ◌≢◌, ℕ, ◌+◌, ◌%◌, ◌^◌, sym, ◌∙◌, ap, arith, List, [], ◌∷◌, eqb, ℤ, pos, ◌+ℤ◌, ◌*ℤ◌, Some, None, unsigned_abs}
-use Rattle.linker_laws.proofs.Imports.{eq-eqb, ne_eqb, cond-true, cond-false, ints, rd_of, rn_of, aarch64_form, JumpCall, LdSt, Operands}
-use Rattle.linker_laws.specs.Schemes.{IsAddress, plt_address}
+use Rattle.linker_laws.proofs.Imports.{◌≡◌, ◌≢◌, ℕ, ◌+◌, ◌%◌, ◌^◌, sym, ◌∙◌, ap, arith, List, [], ◌∷◌, eqb, ℤ, pos, ◌+ℤ◌, ◌*ℤ◌, Some, None, unsigned_abs, eq-eqb, ne_eqb, cond-true, cond-false, ints, rd_of, rn_of, aarch64_form, JumpCall, LdSt, Operands, IsAddress, plt_address}
 use Rattle.linker_laws.proofs.Sums.{lift, lifted_is}
 use Rattle.linker_laws.specs.AArch64Machine.{State, step, run, decode, in_64_bits, write_x, write_x_or_sp, go_on, next_pc, continue, execute, adrp, adr, add, ldr, adrp_address, adr_address, added, loaded, load_64, movn_or_movz, movk_64, moved, with_moved, blr, branch_target, go_to, read_x}
 

@@ -1,13 +1,7 @@
 -- Moves of 16 bits of AArch64.
-use Rattle.std.proofs.Common.{◌≡◌, ℕ, ◌+◌, ◌-◌, ◌*◌, ◌/◌, ◌%◌, ◌^◌, ◌<◌, ◌≤◌, Bool, true, false, refl, sym, ◌∙◌, ap, subst, arith, List, [], ◌∷◌, ℤ, pos, negsuc, ◌+ℤ◌, ◌-ℤ◌, ◌*ℤ◌, Option, Some, None, suc, unsigned_abs, eqb, ltb, not, true, false, Bool}
-use Rattle.linker_laws.proofs.Imports.{◌==◌, ◌&&◌, w32, w64, bit_at, cast_signed, from_le_bytes, int_rem_euclid, and_parts, eqb-true, ints, int_rem_euclid_is, mod_below, pow_pos, pow-add, div-add-mod', field, BitRange, aarch64_form, shift_of, bits_from, AgreesInReach, IsWithin, reach_of, is_movk, stays_movk, value_of, sum_64, Movkz, Movnz, AllowedRange, PageMask, AArch64, RelocationKind, RelocationKindInfo, Operands, taken_is_field, IsApplied}
-use Rattle.std.proofs.lemmas.Nat.{div-mul-add}
+use Rattle.linker_laws.proofs.Imports.{◌≡◌, ℕ, ◌+◌, ◌-◌, ◌*◌, ◌/◌, ◌%◌, ◌^◌, ◌<◌, ◌≤◌, Bool, true, false, refl, sym, ◌∙◌, ap, subst, arith, List, [], ◌∷◌, ℤ, pos, negsuc, ◌+ℤ◌, ◌-ℤ◌, ◌*ℤ◌, Option, Some, None, suc, unsigned_abs, eqb, ltb, not, true, false, Bool, ◌==◌, ◌&&◌, w32, w64, bit_at, cast_signed, from_le_bytes, int_rem_euclid, and_parts, eqb-true, ints, int_rem_euclid_is, mod_below, pow_pos, pow-add, div-add-mod', field, BitRange, aarch64_form, shift_of, bits_from, AgreesInReach, IsWithin, reach_of, is_movk, stays_movk, value_of, sum_64, Movkz, Movnz, AllowedRange, PageMask, AArch64, RelocationKind, RelocationKindInfo, Operands, taken_is_field, IsApplied, div-mul-add, IsSameModulo, IsSameIn, aarch64_reads, MoveReads, IsAddress, AreAddresses, Law, Premise, PremiseHolds, of_words, none, number_at}
 use Rattle.std.proofs.Math.Nat.{mul-add-mod_self_right}
-use Rattle.linker_base.specs.Form.{IsSameModulo}
-use Rattle.linker_elf.specs.Agrees.{IsSameIn, aarch64_reads}
-use Rattle.linker_elf.specs.Relocate.{MoveReads}
 use Rattle.linker_laws.specs.AArch64RelocationLaws.{movk, movz, movn_or_movz}
-use Rattle.linker_laws.specs.Schemes.{IsAddress, AreAddresses, Law, Premise, PremiseHolds, of_words, none, number_at}
 use Rattle.linker_laws.proofs.Applied.{value_is, reads, taken_bits}
 use Rattle.linker_laws.proofs.Instructions.{HasNumber, IsNumber, first_step, row_of, is_read, reads_bits, field_sum, step_of}
 use Rattle.linker_laws.proofs.Sums.{halves_sum, lift, lifted_is, euclid, small_cast}

@@ -1,12 +1,6 @@
 -- Words of AArch64 to which a relocation was applied, and which instructions they are.
-use Rattle.std.proofs.Common.{◌≡◌, ◌≢◌, ℕ, ◌+◌, ◌-◌, ◌/◌, ◌^◌, ◌<◌, ◌≤◌, Bool, true, false, refl, sym, ◌∙◌, ap, subst, arith, List, [], ◌∷◌, ◌++◌, ltb, leb, eqb, inl, inr, min, ◌%◌}
-use Rattle.linker_laws.proofs.Imports.{◌&&◌, ◌||◌, bit_and, bit_at, w32, from_le_bytes, and_parts, or_cases, ltb-true, leb-true, ne_eqb, cond-true, cond-false, eq-eqb, eqb-true, field, ImmediateBit, is_placed, BitsWritten, BitRange, same_fields, rd_of, rn_of, shift_of, IsAdrp, IsLdr64, InstructionWritten, ored_cleared, bits_taken, with_bit_31_if, Adr, Add, LdSt, LdrRegister, Movnz, Movkz, JumpCall, AArch64, high_kept, same_window}
-use Rattle.std.specs.Prelude.{ℤ, pos, int_lt, ◌*◌}
-use Rattle.std.proofs.lemmas.Bool.{or_from}
+use Rattle.linker_laws.proofs.Imports.{◌≡◌, ◌≢◌, ℕ, ◌+◌, ◌-◌, ◌/◌, ◌^◌, ◌<◌, ◌≤◌, Bool, true, false, refl, sym, ◌∙◌, ap, subst, arith, List, [], ◌∷◌, ◌++◌, ltb, leb, eqb, inl, inr, min, ◌%◌, ◌&&◌, ◌||◌, bit_and, bit_at, w32, from_le_bytes, and_parts, or_cases, ltb-true, leb-true, ne_eqb, cond-true, cond-false, eq-eqb, eqb-true, field, ImmediateBit, is_placed, BitsWritten, BitRange, same_fields, rd_of, rn_of, shift_of, IsAdrp, IsLdr64, InstructionWritten, ored_cleared, bits_taken, with_bit_31_if, Adr, Add, LdSt, LdrRegister, Movnz, Movkz, JumpCall, AArch64, high_kept, same_window, ℤ, pos, int_lt, ◌*◌, or_from, or_bits_to, bit_at_run, movn_opcode, movz_opcode, movk_opcode, imm16_places, move_opcode, moved_bits}
 use Rattle.std.proofs.lemmas.Nat.Bits.{bit_at_and, bit_at-lt, bit_at_ones}
-use Rattle.linker_base.specs.Form.{or_bits_to}
-use Rattle.linker_base.proofs.Fields.{bit_at_run}
-use Rattle.linker_elf.specs.AArch64.{movn_opcode, movz_opcode, movk_opcode, imm16_places, move_opcode, moved_bits}
 use Rattle.linker_elf.specs.Inner.Runs.{words_below}
 use Rattle.linker_laws.specs.AArch64Machine.{decode, is_adr, adrp, adr, add, ldr, Instruction, movn_or_movz, movk_64, blr, bl, b}
 

@@ -1,9 +1,5 @@
 -- States that agree, after a register is written, and at other addresses.
-use Rattle.std.proofs.Common.{◌≡◌, ℕ, suc, ◌-◌, ◌^◌, ◌<◌, Bool, true, false, refl, sym, ◌∙◌, ap, subst, eqb-true, Some, arith, inl, inr}
-use Rattle.std.specs.Prelude.{IsSomeAnd, if◌then◌else◌, ◌&&◌, ◌==◌, ◌⊎◌}
-use Rattle.linker_laws.specs.Machine.{loaded}
-use Rattle.linker_laws.specs.Simulation.{State, Program, Link, Kind, Kinds, AreOf, AreStored, Agree, Group, Other, anything, of_link, run, same}
-use Rattle.linker_laws.specs.Changes.{ChangesOpen, OthersAgree, put, go_to, with_register}
+use Rattle.linker_laws.proofs.Imports.{◌≡◌, ℕ, suc, ◌-◌, ◌^◌, ◌<◌, Bool, true, false, refl, sym, ◌∙◌, ap, subst, eqb-true, Some, arith, inl, inr, IsSomeAnd, if◌then◌else◌, ◌&&◌, ◌==◌, ◌⊎◌, loaded, State, Program, Link, Kind, Kinds, AreOf, AreStored, Agree, Group, Other, anything, of_link, run, same, ChangesOpen, OthersAgree, put, go_to, with_register}
 use Rattle.linker_laws.proofs.CoveredRuns.{holds_of, once, run_first}
 
 pick : (l : Link) (b : Bool) (k k' : Kind) (x x' y y' : ℕ) → AreOf l 8 k x y → AreOf l 8 k' x' y'

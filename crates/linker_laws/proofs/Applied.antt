@@ -1,15 +1,7 @@
 -- What the machine reads of an instruction to which a relocation was applied.
-use Rattle.std.proofs.Common.{false, FitsSigned, ◌≡◌, ℕ, ◌-◌, ◌%◌, ◌^◌, ◌<◌, ◌≤◌, true, refl, sym, ◌∙◌, ap, subst, arith, List, ℤ, pos, Option, Some, None, int_lt, unsigned_abs, Bool, eqb}
-use Rattle.linker_laws.proofs.Imports.{aarch64_layout, eqb-true, w64, cast_signed, cast_unsigned, int_rem_euclid, of_z-to_z, field, signed, window_of, BitsWritten, BitRange, is_sound_layout, layout_laid, low_of, high_of, always_clear, aarch64_form, bits_from, AgreesInReach, IsWithin, relocation_form, relocation_layout, loongarch_form, ppc64_form, reach_of, InstructionWritten, SizeHolds, bits_taken, IsAligned, ppc64_reads, places_cleared, IsWritten, stays_movk, is_low_jump, RelocationKind, riscv_form, value_of, AArch64Instruction, Movnz, Shift10, D, Ds, RelocationInstruction, AArch64, RiscV, Ppc64, LoongArch64, RelocationKindInfo, BitMasking, UiType, Operands, layout_check, taken_is_field, taken_below, IsApplied}
-use Rattle.linker_base.specs.Form.{place_sum, Written, IsClear}
-use Rattle.linker_elf.specs.Relocate.{SizeReads, IsInUnits}
-use Rattle.linker_elf.specs.declared.aarch64.forms.AArch64Instruction.TheVariants.{MachOLow12}
-use Rattle.linker_elf.proofs.Agreement.{layout_agrees}
-use Rattle.linker_elf.proofs.Clearing.{clear_after}
+use Rattle.linker_laws.proofs.Imports.{false, FitsSigned, ◌≡◌, ℕ, ◌-◌, ◌%◌, ◌^◌, ◌<◌, ◌≤◌, true, refl, sym, ◌∙◌, ap, subst, arith, List, ℤ, pos, Option, Some, None, int_lt, unsigned_abs, Bool, eqb, aarch64_layout, eqb-true, w64, cast_signed, cast_unsigned, int_rem_euclid, of_z-to_z, field, signed, window_of, BitsWritten, BitRange, is_sound_layout, layout_laid, low_of, high_of, always_clear, aarch64_form, bits_from, AgreesInReach, IsWithin, relocation_form, relocation_layout, loongarch_form, ppc64_form, reach_of, InstructionWritten, SizeHolds, bits_taken, IsAligned, ppc64_reads, places_cleared, IsWritten, stays_movk, is_low_jump, RelocationKind, riscv_form, value_of, AArch64Instruction, Movnz, Shift10, D, Ds, RelocationInstruction, AArch64, RiscV, Ppc64, LoongArch64, RelocationKindInfo, BitMasking, UiType, Operands, layout_check, taken_is_field, taken_below, IsApplied, place_sum, Written, IsClear, SizeReads, IsInUnits, MachOLow12, layout_agrees, clear_after, row_reads_in_reach, plain_written as rows_written, taken_in_units}
 use Rattle.linker_elf.proofs.Halves.{row_holds}
-use Rattle.linker_elf.proofs.Relocated.{row_reads_in_reach, plain_written as rows_written}
 use Rattle.linker_elf.proofs.Placed.{reads_as}
-use Rattle.linker_elf.proofs.Taken.{taken_in_units}
 use Rattle.linker_laws.proofs.Sums.{small_cast, cast_low}
 
 abbrev number_or_zero : Option ℤ → ℤ

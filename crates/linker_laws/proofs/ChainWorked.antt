@@ -1,12 +1,10 @@
 -- The worked chain.
-use Rattle.std.proofs.Common.{◌≡◌, ◌≢◌, ℕ, ◌+◌, ◌-◌, ◌^◌, ◌<◌, ◌≤◌, Bool, true, false, refl, true≢false, Some, arith, ap, ap₂, sym, ◌∙◌, subst, lit<, leb-true}
-use Rattle.linker_laws.proofs.Imports.{ne_eqb, cond-false, eq-eqb, IsSomeAnd, if◌then◌else◌, ◌==◌, nat_le}
-use Rattle.linker_laws.specs.Simulation.{State, Link, Kinds, AreStored, Agree, run, same, half, anything, Other, Group, Covered, ends, other, group, of_link}
-use Rattle.linker_laws.specs.Changes.{put, go_to, with_register}
+use Rattle.linker_laws.proofs.Imports.{◌≡◌, ◌≢◌, ℕ, ◌+◌, ◌-◌, ◌^◌, ◌<◌, ◌≤◌, Bool, true, false, refl, Some, arith, ap, ap₂, sym, ◌∙◌, subst, lit<, leb-true, ne_eqb, cond-false, IsSomeAnd, if◌then◌else◌, ◌==◌, nat_le, State, Link, Kinds, AreStored, Agree, run, same, half, anything, Other, Group, Covered, ends, other, group, of_link, put, go_to, with_register}
 use Rattle.linker_laws.specs.SimulationWorked.{machine, put_out, with_byte, of_byte, rewritten, packed, chain, all_same, with_entry, IsChainWorked}
 use Rattle.linker_laws.specs.Chains.{of_chain}
 use Rattle.linker_laws.proofs.CoveredRuns.{run_first, same_value, composes}
 use Rattle.linker_laws.proofs.Agreement.{agree_put, agree_put_old, another, one}
+use Rattle.linker_laws.proofs.SimulationWorked.{apart}
 
 -- ---- the first link
 
@@ -118,15 +116,6 @@ whole =
     composes (of_link rewritten) (of_link packed) (λ s. refl) 2 k0 k2 all_same h2 s0 s3
     (record { q = 2; p = 3; m = 3; first = first; second = second; forward = λ e. lit< tt })
 
-old_ends : IsSomeAnd (run 3 (machine rewritten.old) (with_entry 7)) (λ s. s.outside 0 ≡ 7)
-old_ends = refl
-
-new_ends : IsSomeAnd (run 2 (machine packed.new) (with_entry 0x99)) (λ s. s.outside 0 ≡ 7)
-new_ends = refl
-
-apart : (a v : ℕ) → (a == v) ≡ false → a ≢ v
-apart a v e is = true≢false (sym (eq-eqb a v is) ∙ e)
-
 between : Agree rewritten k0 s0 (with_entry 0x99)
 between = record { small = lit< tt; pc = refl; registers = λ r. refl; memory = λ a below. by a (a == 0xf0) refl; outside = refl }
   where
@@ -174,6 +163,6 @@ is_chain_worked =
       state = s3;
       agree = (with_entry 0x99, between, last);
       covered = group 0 2 0 _ _ _ _ _ _ whole (ends _ _);
-      old_ends = old_ends;
-      new_ends = new_ends;
+      old_ends = refl;
+      new_ends = refl;
     }

@@ -1,7 +1,5 @@
 -- Covered runs are followed, and comparisons compose.
-use Rattle.std.proofs.Common.{◌≡◌, ℕ, zero, suc, ◌+◌, ◌*◌, ◌^◌, ◌<◌, ◌≤◌, sym, ◌∙◌, ap, subst, refl, Option, Some, None, arith, zero-add, suc-add, le_refl, subst₂, inl, inr, add_assoc, add-one, true≢false, pred, ◌-◌, suc-le-suc}
-use Rattle.std.specs.Prelude.{◌⊎◌, IsSomeAnd, option_and_then, is_some, true, IsSome, unwrap_or, false}
-use Rattle.linker_laws.specs.Simulation.{State, Program, Comparison, run, Covered, ends, other, group, Stops, IsRun, Follows, StopsToo, GoesOnToo, Simulates, CoversRuns, Following, IsCovered, Next, by_other, by_group, stopping, uncovered}
+use Rattle.linker_laws.proofs.Imports.{◌≡◌, ℕ, zero, suc, ◌+◌, ◌*◌, ◌^◌, ◌<◌, ◌≤◌, sym, ◌∙◌, ap, subst, refl, Option, Some, None, arith, zero-add, suc-add, le_refl, subst₂, inl, inr, add_assoc, add-one, true≢false, pred, ◌-◌, suc-le-suc, ◌⊎◌, IsSomeAnd, option_and_then, is_some, true, IsSome, unwrap_or, false, State, Program, Comparison, run, Covered, ends, other, group, Stops, IsRun, Follows, StopsToo, GoesOnToo, Simulates, CoversRuns, Following, IsCovered, Next, by_other, by_group, stopping, uncovered}
 use Rattle.linker_laws.specs.Chains.{both, Compose}
 
 -- ---- what an option holds

@@ -1,10 +1,6 @@
 -- What two relocations of one place leave there.
-use Rattle.std.proofs.Common.{◌≡◌, ℕ, zero, suc, ◌+◌, ◌-◌, ◌*◌, ◌%◌, ◌^◌, ◌<◌, ◌≤◌, Bool, refl, sym, ◌∙◌, ap, arith, List, inl, inr, pos, negsuc, ◌+ℤ◌, ◌-ℤ◌, Option, Some, unsigned_abs}
-use Rattle.linker_laws.proofs.Imports.{w64, cast_signed, cast_unsigned, int_rem_euclid, cases_lt, ints, to_z_pos, field, number_of_bytes, value_of, sum_64, difference_64, AllowedRange, PageMask, RelocationKindInfo, Operands, rem_rem, cast_negative, IsApplied}
-use Rattle.linker_elf.specs.declared.elf.RelocationKind.TheVariants.{AbsoluteSet, AbsoluteSetWord6, AbsoluteAddition, AbsoluteAdditionWord6, AbsoluteSubtraction, AbsoluteSubtractionWord6}
-use Rattle.linker_base.proofs.Fields.{mod_mod}
+use Rattle.linker_laws.proofs.Imports.{◌≡◌, ℕ, zero, suc, ◌+◌, ◌-◌, ◌*◌, ◌%◌, ◌^◌, ◌<◌, ◌≤◌, Bool, refl, sym, ◌∙◌, ap, arith, List, inl, inr, pos, negsuc, ◌+ℤ◌, ◌-ℤ◌, Option, Some, unsigned_abs, w64, cast_signed, cast_unsigned, int_rem_euclid, cases_lt, ints, to_z_pos, field, number_of_bytes, value_of, sum_64, difference_64, AllowedRange, PageMask, RelocationKindInfo, Operands, rem_rem, cast_negative, IsApplied, AbsoluteSet, AbsoluteSetWord6, AbsoluteAddition, AbsoluteAdditionWord6, AbsoluteSubtraction, AbsoluteSubtractionWord6, mod_mod, IsAddress, symbol_address}
 use Rattle.linker_laws.specs.Differences.{AddsDistance, AddsDistance6, SetsDistance, SetsDistance6}
-use Rattle.linker_laws.specs.Schemes.{IsAddress, symbol_address}
 use Rattle.linker_laws.proofs.Fields.{bytes_of, held}
 use Rattle.linker_laws.proofs.Instructions.{absolute}
 use Rattle.linker_laws.proofs.Sums.{goes, cast_low, lifted_is, sum_below}

@@ -1,11 +1,6 @@
 -- The law of a field of whole bytes.
-use Rattle.std.proofs.Common.{◌≡◌, ℕ, zero, suc, ◌+◌, ◌*◌, ◌%◌, ◌^◌, ◌<◌, Bool, true, sym, ◌∙◌, ap, subst, arith, List, [], ◌∷◌, ℤ, pos, ◌+ℤ◌, ◌*ℤ◌, Option, Some, unsigned_abs}
-use Rattle.linker_laws.proofs.Imports.{w64, cast_signed, int_rem_euclid, bits_from, IsWithin, reach_of, number_of_bytes, SizeNumber, value_of, AllowedRange, PageMask, RelocationKind, RelocationKindInfo, ByteSize, Operands, rem_below, row_number, IsApplied}
+use Rattle.linker_laws.proofs.Imports.{◌≡◌, ℕ, zero, suc, ◌+◌, ◌*◌, ◌%◌, ◌^◌, ◌<◌, Bool, true, sym, ◌∙◌, ap, subst, arith, List, [], ◌∷◌, ℤ, pos, ◌+ℤ◌, ◌*ℤ◌, Option, Some, unsigned_abs, w64, cast_signed, int_rem_euclid, bits_from, IsWithin, reach_of, number_of_bytes, SizeNumber, value_of, AllowedRange, PageMask, RelocationKind, RelocationKindInfo, ByteSize, Operands, rem_below, row_number, IsApplied, Sign, number_of, whole_number, number_agrees, reaches, from_zero, AreAddresses, Law, none, of_values}
 use Rattle.std.proofs.Math.Nat.{mod-eq_of_lt}
-use Rattle.linker_base.specs.Form.{Sign, number_of}
-use Rattle.linker_elf.specs.Relocate.{whole_number}
-use Rattle.linker_elf.proofs.Agreement.{number_agrees, reaches, from_zero}
-use Rattle.linker_laws.specs.Schemes.{AreAddresses, Law, none, of_values}
 use Rattle.linker_laws.proofs.Applied.{fits, value_is}
 use Rattle.linker_laws.proofs.Instructions.{IsNumber, first_step}
 use Rattle.linker_laws.proofs.Sums.{goes, cast_low, cast_is, once}

@@ -1,8 +1,6 @@
 -- The law of one instruction, over all rows of one field.
-use Rattle.std.proofs.Common.{◌≡◌, ℕ, ◌-◌, ◌%◌, ◌^◌, ◌<◌, ◌≤◌, ◌&&◌, Bool, true, sym, ◌∙◌, ap, subst, arith, List, [], ◌∷◌, ℤ, pos, ◌+ℤ◌, ◌*ℤ◌, Option, Some, ltb, leb, eqb, ◌||◌, inl, inr}
-use Rattle.linker_laws.proofs.Imports.{w64, cast_signed, cast_unsigned, and_parts, or_cases, ltb-true, leb-true, eqb-true, field, window_of, BitRange, is_sound_layout, low_of, high_of, bits_from, IsWithin, relocation_form, relocation_layout, reach_of, IsAligned, value_of, sum_64, difference_64, AllowedRange, PageMask, RelocationInstruction, RelocationKind, RelocationKindInfo, BitMasking, Operands, layout_check, IsApplied}
-use Rattle.linker_base.specs.Form.{place_sum}
-use Rattle.linker_laws.specs.Schemes.{IsAddress, AreAddresses, Law, Premise, Step, none, symbol_address, plt_address, entry_and_addend, entry_address, place, got_base, tls_base, zero, size_and_addend}
+use Rattle.linker_laws.proofs.Imports.{◌≡◌, ℕ, ◌-◌, ◌%◌, ◌^◌, ◌<◌, ◌≤◌, ◌&&◌, Bool, true, sym, ◌∙◌, ap, subst, arith, List, [], ◌∷◌, ℤ, pos, ◌+ℤ◌, ◌*ℤ◌, Option, Some, ltb, leb, eqb, ◌||◌, inl, inr, w64, cast_signed, cast_unsigned, and_parts, or_cases, ltb-true, leb-true, eqb-true, field, window_of, BitRange, is_sound_layout, low_of, high_of, bits_from, IsWithin, relocation_form, relocation_layout, reach_of, IsAligned, value_of, sum_64, difference_64, AllowedRange, PageMask, RelocationInstruction, RelocationKind, RelocationKindInfo, BitMasking, Operands, layout_check, IsApplied, place_sum, IsAddress, AreAddresses, Law, Premise, Step, none, symbol_address, plt_address, entry_and_addend, entry_address, place, got_base, tls_base, size_and_addend}
+use Rattle.linker_laws.specs.Schemes.{zero}
 use Rattle.linker_laws.proofs.Applied.{insn_reads, is_plain, begins, fits, value_is, reads_within, aligned_low, stands, taken_bits, sound_written}
 use Rattle.linker_laws.proofs.Sums.{Leads, difference_leads, itself_leads, sum_below, difference_below, multiple_part}
 

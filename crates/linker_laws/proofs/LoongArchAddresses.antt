@@ -1,13 +1,6 @@
 -- Addresses of LoongArch in parts.
 use Rattle.linker_laws.proofs.Sums.{high_sum, halves_sum, page_halves_sum, signed_12, sum_below, goes, difference_below, once}
-use Rattle.linker_elf.proofs.RowsAgree.{shift5_sum}
-use Rattle.linker_laws.specs.Schemes.{without_low, AreAddresses, Law, place, Premise, PremiseHolds, none, of_values, of_words}
-use Rattle.std.proofs.Common.{◌≡◌, ℕ, ◌+◌, ◌-◌, ◌*◌, ◌/◌, ◌%◌, ◌^◌, ◌<◌, Bool, refl, sym, ◌∙◌, ap, subst, true, false, arith, List, [], ◌∷◌, ℤ, pos, ◌+ℤ◌, ◌-ℤ◌, ◌*ℤ◌, inl, inr, Option, Some}
-use Rattle.linker_laws.proofs.Imports.{w64, cast_signed, int_rem_euclid, ints, int_rem_euclid_is, mod_below, pow_pos, field, signed, window_of, replaced, consecutive_bits_sum, signed_cases, bits_from, IsWithin, bit_bounds, loongarch_form, page, reach, value_of, sum_64, difference_64, AllowedRange, PageMask, Shift5, Shift10, Call36, LoongArch64, RelocationKind, Signed, Operands, shift5_places, page_and_distance, IsApplied, plain_written, AgreesInReach, is_jirl, is_low_jump, taken_below}
-use Rattle.linker_base.specs.Form.{place_sum}
-use Rattle.linker_elf.specs.LoongArch.{high_distance}
-use Rattle.linker_elf.proofs.LoongArch.{shift10_low_sum, shift10_low_field}
-use Rattle.linker_elf.proofs.LoongArchAddresses.{made, first_of_five, high_of_five, five_from}
+use Rattle.linker_laws.proofs.Imports.{◌≡◌, ℕ, ◌+◌, ◌-◌, ◌*◌, ◌/◌, ◌%◌, ◌^◌, ◌<◌, Bool, refl, sym, ◌∙◌, ap, subst, true, false, arith, List, [], ◌∷◌, ℤ, pos, ◌+ℤ◌, ◌-ℤ◌, ◌*ℤ◌, inl, inr, Option, Some, w64, cast_signed, int_rem_euclid, ints, int_rem_euclid_is, mod_below, pow_pos, field, signed, window_of, signed_cases, bits_from, IsWithin, bit_bounds, loongarch_form, page, reach, value_of, sum_64, difference_64, AllowedRange, PageMask, Shift5, Shift10, Call36, LoongArch64, RelocationKind, Signed, Operands, page_and_distance, IsApplied, plain_written, AgreesInReach, is_jirl, is_low_jump, taken_below, shift5_sum, without_low, AreAddresses, Law, place, Premise, PremiseHolds, none, of_values, of_words, high_distance, shift10_low_sum, shift10_low_field, made, first_of_five, high_of_five, five_from}
 use Rattle.linker_laws.specs.LoongArchRelocationLaws.{five, four, page_and_jump, page_and_low, upper_and_or}
 use Rattle.linker_laws.proofs.Applied.{holds, reads, value_is, taken_bits}
 use Rattle.linker_laws.proofs.Rounded.{IsRounded}
@@ -96,149 +89,15 @@ abbrev IsPlainBy : RelocationKind → Premise → Type 0
 IsPlainBy kind premise =
     (x : ℕ) (v : ℤ) → PremiseHolds premise x v → is_low_jump (LoongArch64 Shift10) kind x ≡ false
 
-pub page_pairs : {target : Operands → ℕ} → IsSmall target
-    → (operands : Operands → ℕ → Operands)
-    → {kind : RelocationKind} {mask : Option PageMask} {range : AllowedRange} {a : ℕ}
-    {bias : Option ℕ} {thunkable implicit : Bool}
-    {kind2 : RelocationKind} {mask2 : Option PageMask} {range2 : AllowedRange} {a2 : ℕ}
-    {bias2 : Option ℕ} {thunkable2 implicit2 : Bool}
-    → FirstHasNumber (row_of kind 12 32 (LoongArch64 Shift5) mask range a bias thunkable implicit) (page_distance target)
-    → HasNumber (row_of kind2 0 12 (LoongArch64 Shift10) mask2 range2 a2 bias2 thunkable2 implicit2) operands
-    (absolute target)
-    → (premise : Premise) → IsPlainBy kind2 premise
-    → Law
-    (first_step (row_of kind 12 32 (LoongArch64 Shift5) mask range a bias thunkable implicit) (of_values (bit_bounds 32 Signed))
-    ∷ step_of (row_of kind2 0 12 (LoongArch64 Shift10) mask2 range2 a2 bias2 thunkable2 implicit2) operands premise
-    ∷ []) page_and_low target
-page_pairs {target} to operands e e2 premise plain =
-    λ o small at before after step within at2 before2 after2 step2 any2.
-    let m = page_distance target o in
-    let t = target o in
-    let below = difference_below (page (sum_64 t 0x800)) (page o.place) in
-    let h = high_reads _ _ _ _ _ _ _ o before after step within m below (e o small) in
-    let l = low_field _ 0 _ _ _ _ _ _ _ before2 after2 step2 (sum_64 t 0) (sum_below t 0)
-    (omega arith) (e2 o small at2) (plain _ _ any2) in
-    ap (λ z. int_rem_euclid
-    (z +ℤ signed 12 (field (window_of (loongarch_form Shift10) after2) 10 22)) (pos (2 ^ 64)))
-    (page_and_distance o.place (field (window_of (loongarch_form Shift5) after) 5 25))
-    ∙ page_halves_sum 0x800 o.place t m
-    (signed 20 (field (window_of (loongarch_form Shift5) after) 5 25))
-    (signed 12 (field (window_of (loongarch_form Shift10) after2) 10 22)) (omega arith)
-    (to o small) small.place refl h
-    (rounded_low t (field (window_of (loongarch_form Shift10) after2) 10 22) l)
-
--- with the low part of a `jirl`, which is a multiple of 4
-pub page_jumps : {target : Operands → ℕ} → IsSmall target
-    → (operands : Operands → ℕ → Operands)
-    → {kind : RelocationKind} {mask : Option PageMask} {range : AllowedRange} {a : ℕ}
-    {bias : Option ℕ} {thunkable implicit : Bool}
-    {kind2 : RelocationKind} {mask2 : Option PageMask} {range2 : AllowedRange} {a2 : ℕ}
-    {bias2 : Option ℕ} {thunkable2 implicit2 : Bool}
-    → FirstHasNumber (row_of kind 12 32 (LoongArch64 Shift5) mask range a bias thunkable implicit) (page_distance target)
-    → HasNumber (row_of kind2 0 12 (LoongArch64 Shift10) mask2 range2 a2 bias2 thunkable2 implicit2) operands
-    (absolute target)
-    → AgreesInReach false (row_of kind2 0 12 (LoongArch64 Shift10) mask2 range2 a2 bias2
-    thunkable2 implicit2)
-    → ((x : ℕ) → is_jirl x ≡ true → is_low_jump (LoongArch64 Shift10) kind2 x ≡ true)
-    → Law
-    (first_step (row_of kind 12 32 (LoongArch64 Shift5) mask range a bias thunkable implicit) (of_values (bit_bounds 32 Signed))
-    ∷ step_of (row_of kind2 0 12 (LoongArch64 Shift10) mask2 range2 a2 bias2 thunkable2 implicit2) operands (of_words is_jirl)
-    ∷ []) page_and_jump target
-page_jumps {target} to operands e e2 agrees jumps =
-    λ o small at before after step within at2 before2 after2 step2 jump.
-    let m = page_distance target o in
-    let t = target o in
-    let n = sum_64 t 0 in
-    let below = difference_below (page (sum_64 t 0x800)) (page o.place) in
-    let h = high_reads _ _ _ _ _ _ _ o before after step within m below (e o small) in
-    let is = value_is _ (operands o at2) before2 after2 step2 (cast_signed w64 n) (e2 o small at2) in
-    let l = (reads _ (operands o at2) before2 after2 step2 n (sum_below t 0) is false agrees).jump
-    (jumps (window_of (loongarch_form Shift10) before2) jump) in
-    let bits = taken_bits (record { start = 0; end = 12 }) n step2.value (sum_below t 0) is in
-    let low : (loongarch_form Shift10).machine (window_of (loongarch_form Shift10) after2) *ℤ pos 4
-    ≡ signed 12 (field n 0 12) = l ∙ ap (signed 12) bits in
-    ap (λ z. int_rem_euclid
-    (z +ℤ ((loongarch_form Shift10).machine (window_of (loongarch_form Shift10) after2) *ℤ pos 4))
-    (pos (2 ^ 64)))
-    (page_and_distance o.place (field (window_of (loongarch_form Shift5) after) 5 25))
-    ∙ page_halves_sum 0x800 o.place t m
-    (signed 20 (field (window_of (loongarch_form Shift5) after) 5 25))
-    ((loongarch_form Shift10).machine (window_of (loongarch_form Shift10) after2) *ℤ pos 4)
-    (omega arith) (to o small) small.place refl h
-    (ap (λ z. z +ℤ pos 0x800) low ∙ rounded_low t (field n 0 12) refl)
-
 regroup : (p : ℕ) (a b : ℤ) → pos p +ℤ (a +ℤ b) ≡ (pos p +ℤ a) +ℤ b
 regroup p a b = omega (arith, ints)
 
--- `lu12i.w` and `ori`
-pub two_parts : {begin target number : Operands → ℕ} → IsNumber begin target number
-    → IsRounded 0 number number
-    → (operands : Operands → ℕ → Operands)
-    → {kind : RelocationKind} {mask : Option PageMask} {range : AllowedRange} {a : ℕ}
-    {bias : Option ℕ} {thunkable implicit : Bool}
-    {kind2 : RelocationKind} {mask2 : Option PageMask} {range2 : AllowedRange} {a2 : ℕ}
-    {bias2 : Option ℕ} {thunkable2 implicit2 : Bool}
-    → FirstHasNumber (row_of kind 12 32 (LoongArch64 Shift5) mask range a bias thunkable implicit) (number)
-    → HasNumber (row_of kind2 0 12 (LoongArch64 Shift10) mask2 range2 a2 bias2 thunkable2 implicit2) operands
-    (number)
-    → IsPlainBy kind2 none
-    → Law
-    (first_step (row_of kind 12 32 (LoongArch64 Shift5) mask range a bias thunkable implicit) (of_values (bit_bounds 32 Signed))
-    ∷ step_of (row_of kind2 0 12 (LoongArch64 Shift10) mask2 range2 a2 bias2 thunkable2 implicit2) operands none
-    ∷ []) (λ o x y. pos (begin o) +ℤ upper_and_or x y) target
-two_parts {begin} {target} {number} leads rounds operands e e2 plain =
-    λ o small at before after step within at2 before2 after2 step2 any2.
-    let n = number o in
-    let numbers = leads o small in
-    let x = window_of (loongarch_form Shift5) after in
-    let y = window_of (loongarch_form Shift10) after2 in
-    let h = high_reads _ _ _ _ _ _ _ o before after step within n numbers.below (e o small) in
-    let l = low_field _ 0 _ _ _ _ _ _ _ before2 after2 step2 n numbers.below (omega arith)
-    (e2 o small at2) (plain _ step2.value tt) in
-    let low : field y 10 22 ≡ n % 2 ^ 12 = l ∙ omega arith in
-    ap (λ z. int_rem_euclid z (pos (2 ^ 64)))
-    (regroup (begin o) (signed 20 (field x 5 25) *ℤ pos 4096) (pos (field y 10 22)))
-    ∙ halves_sum 12 0 (begin o) (target o) n n (signed 20 (field x 5 25)) (pos (field y 10 22))
-    (omega arith) (omega arith) numbers.small numbers.below numbers.leads (rounds o small) h
-    (ap (λ k. pos k +ℤ pos 0) low ∙ ap pos (omega arith))
-
--- the same with rounding, and a low part in two's complement
 rounded_remainder : (n m l : ℕ) → l ≡ field n 0 12 → m ≡ sum_64 n 0x800
     → signed 12 l +ℤ pos 0x800 ≡ pos (m % 2 ^ 12)
 rounded_remainder n m l e is =
     let low : l ≡ n % 2 ^ 12 = e ∙ omega arith in
     ap (λ k. signed 12 k +ℤ pos 0x800) low ∙ signed_12 (n % 2 ^ 12) (omega arith)
     ∙ ap pos (let same : (n % 2 ^ 12 + 0x800) % 2 ^ 12 ≡ m % 2 ^ 12 = omega arith in same)
-
-pub rounded_parts : {begin target number rounded : Operands → ℕ} → IsNumber begin target number
-    → IsRounded 0x800 number rounded
-    → (operands : Operands → ℕ → Operands)
-    → {kind : RelocationKind} {mask : Option PageMask} {range : AllowedRange} {a : ℕ}
-    {bias : Option ℕ} {thunkable implicit : Bool}
-    {kind2 : RelocationKind} {mask2 : Option PageMask} {range2 : AllowedRange} {a2 : ℕ}
-    {bias2 : Option ℕ} {thunkable2 implicit2 : Bool}
-    → FirstHasNumber (row_of kind 12 32 (LoongArch64 Shift5) mask range a bias thunkable implicit) rounded
-    → HasNumber (row_of kind2 0 12 (LoongArch64 Shift10) mask2 range2 a2 bias2 thunkable2 implicit2) operands number
-    → IsPlainBy kind2 none
-    → Law
-    (first_step (row_of kind 12 32 (LoongArch64 Shift5) mask range a bias thunkable implicit) (of_values (bit_bounds 32 Signed))
-    ∷ step_of (row_of kind2 0 12 (LoongArch64 Shift10) mask2 range2 a2 bias2 thunkable2 implicit2) operands none
-    ∷ []) (λ o x y. (pos (begin o) +ℤ (signed 20 (field x 5 25) *ℤ pos 4096)) +ℤ signed 12 (field y 10 22)) target
-rounded_parts {begin} {target} {number} {rounded} leads rounds operands e e2 plain =
-    λ o small at before after step within at2 before2 after2 step2 any2.
-    let n = number o in
-    let numbers = leads o small in
-    let is = rounds o small in
-    let below : rounded o < 2 ^ 64 = subst (λ k. k < 2 ^ 64) (sym is) (sum_below n 0x800) in
-    let x = window_of (loongarch_form Shift5) after in
-    let y = window_of (loongarch_form Shift10) after2 in
-    let h = high_reads _ _ _ _ _ _ _ o before after step within (rounded o) below (e o small) in
-    let l = low_field _ 0 _ _ _ _ _ _ _ before2 after2 step2 n numbers.below (omega arith)
-    (e2 o small at2) (plain _ step2.value tt) in
-    halves_sum 12 0x800 (begin o) (target o) n (rounded o) (signed 20 (field x 5 25))
-    (signed 12 (field y 10 22))
-    (omega arith) (omega arith) numbers.small numbers.below numbers.leads is h
-    (rounded_remainder n (rounded o) (field y 10 22) l is)
 
 -- a high part alone
 pub high_parts : {begin number : Operands → ℕ} → IsSmall begin
@@ -260,8 +119,6 @@ high_parts {begin} {number} from target r is e = λ o small at before after high
     high_sum 12 r (begin o) (target o) (number o)
     (signed 20 (field (window_of (loongarch_form Shift5) after) 5 25)) (omega arith) (from o small)
     same h
-
--- ---- four and five instructions
 
 low_32 : (f l : ℕ) → f < 2 ^ 20 → l < 2 ^ 12
     → int_rem_euclid ((signed 20 f *ℤ pos 4096) +ℤ pos l) (pos (2 ^ 32)) ≡ pos (f * 4096 + l)
@@ -294,48 +151,6 @@ four_of f l m u n below ef el em eu =
     ∙ ap (λ k. field n 12 32 * 4096 + field n 0 12 + (2 ^ 32 * field n 32 52 + 2 ^ 52 * k)) eu
     ∙ parts_of n below in sum)
 
-pub four_parts : {begin target number : Operands → ℕ} → IsNumber begin target number
-    → (operands2 operands3 operands4 : Operands → ℕ → Operands)
-    → {kind : RelocationKind} {mask : Option PageMask} {range : AllowedRange} {a : ℕ}
-    {bias : Option ℕ} {thunkable implicit : Bool}
-    {kind2 : RelocationKind} {mask2 : Option PageMask} {range2 : AllowedRange} {a2 : ℕ}
-    {bias2 : Option ℕ} {thunkable2 implicit2 : Bool}
-    {kind3 : RelocationKind} {mask3 : Option PageMask} {range3 : AllowedRange} {a3 : ℕ}
-    {bias3 : Option ℕ} {thunkable3 implicit3 : Bool}
-    {kind4 : RelocationKind} {mask4 : Option PageMask} {range4 : AllowedRange} {a4 : ℕ}
-    {bias4 : Option ℕ} {thunkable4 implicit4 : Bool}
-    → FirstHasNumber (row_of kind 12 32 (LoongArch64 Shift5) mask range a bias thunkable implicit) number
-    → HasNumber (row_of kind2 0 12 (LoongArch64 Shift10) mask2 range2 a2 bias2 thunkable2 implicit2) operands2 number
-    → HasNumber (row_of kind3 32 52 (LoongArch64 Shift5) mask3 range3 a3 bias3 thunkable3 implicit3) operands3 number
-    → HasNumber (row_of kind4 52 64 (LoongArch64 Shift10) mask4 range4 a4 bias4 thunkable4 implicit4) operands4 number
-    → IsPlainBy kind2 none → IsPlainBy kind4 none
-    → Law
-    (first_step (row_of kind 12 32 (LoongArch64 Shift5) mask range a bias thunkable implicit) none
-    ∷ step_of (row_of kind2 0 12 (LoongArch64 Shift10) mask2 range2 a2 bias2 thunkable2 implicit2) operands2 none
-    ∷ step_of (row_of kind3 32 52 (LoongArch64 Shift5) mask3 range3 a3 bias3 thunkable3 implicit3) operands3 none
-    ∷ step_of (row_of kind4 52 64 (LoongArch64 Shift10) mask4 range4 a4 bias4 thunkable4 implicit4) operands4 none
-    ∷ []) (λ o x y z u. pos (begin o) +ℤ four x y z u) target
-four_parts {begin} {target} {number} leads operands2 operands3 operands4 e e2 e3 e4 plain upper =
-    λ o small at before after step any at2 before2 after2 step2 any2 at3 before3 after3 step3 any3
-    at4 before4 after4 step4 any4.
-    let n = number o in
-    let numbers = leads o small in
-    let there = numbers.leads in
-    let f = high_field _ 12 _ _ _ _ _ _ _ before after step n numbers.below (omega arith)
-    (e o small) in
-    let l = low_field _ 0 _ _ _ _ _ _ _ before2 after2 step2 n numbers.below (omega arith)
-    (e2 o small at2) (plain _ step2.value tt) in
-    let m = high_field _ 32 _ _ _ _ _ _ _ before3 after3 step3 n numbers.below (omega arith)
-    (e3 o small at3) in
-    let u = low_field _ 52 _ _ _ _ _ _ _ before4 after4 step4 n numbers.below (omega arith)
-    (e4 o small at4) (upper _ step4.value tt) in
-    ap (λ z. int_rem_euclid (pos (begin o) +ℤ z) (pos (2 ^ 64)))
-    (four_of (field (window_of (loongarch_form Shift5) after) 5 25)
-    (field (window_of (loongarch_form Shift10) after2) 10 22)
-    (field (window_of (loongarch_form Shift5) after3) 5 25)
-    (field (window_of (loongarch_form Shift10) after4) 10 22) n numbers.below f l m u)
-    ∙ ap pos there
-
 -- the number of the high parts, by the place of the first instruction
 abbrev pub far_distance : (Operands → ℕ) → Operands → ℕ
 far_distance target o = high_distance (sum_64 (target o) 0) (sum_64 o.place 8)
@@ -355,54 +170,194 @@ fourth_is_far : (target : Operands → ℕ) (o : Operands)
     → fourth_distance target o ≡ far_distance target o
 fourth_is_far target o = ap (high_distance (sum_64 (target o) 0)) (fourth_pc o.place)
 
-pub five_parts : {target : Operands → ℕ} → IsSmall target
-    → (operands2 operands3 operands4 : Operands → ℕ → Operands)
-    → {kind : RelocationKind} {mask : Option PageMask} {range : AllowedRange} {a : ℕ}
+-- ---- laws
+
+module _ {kind : RelocationKind} {mask : Option PageMask} {range : AllowedRange} {a : ℕ}
     {bias : Option ℕ} {thunkable implicit : Bool}
     {kind2 : RelocationKind} {mask2 : Option PageMask} {range2 : AllowedRange} {a2 : ℕ}
-    {bias2 : Option ℕ} {thunkable2 implicit2 : Bool}
-    {kind3 : RelocationKind} {mask3 : Option PageMask} {range3 : AllowedRange} {a3 : ℕ}
-    {bias3 : Option ℕ} {thunkable3 implicit3 : Bool}
-    {kind4 : RelocationKind} {mask4 : Option PageMask} {range4 : AllowedRange} {a4 : ℕ}
-    {bias4 : Option ℕ} {thunkable4 implicit4 : Bool}
-    → FirstHasNumber (row_of kind 12 32 (LoongArch64 Shift5) mask range a bias thunkable implicit) (page_distance target)
-    → HasNumber (row_of kind2 0 12 (LoongArch64 Shift10) mask2 range2 a2 bias2 thunkable2 implicit2) operands2 (absolute target)
-    → HasNumber (row_of kind3 32 52 (LoongArch64 Shift5) mask3 range3 a3 bias3 thunkable3 implicit3) operands3 (far_distance target)
-    → HasNumber (row_of kind4 52 64 (LoongArch64 Shift10) mask4 range4 a4 bias4 thunkable4 implicit4) operands4 (fourth_distance target)
-    → (premise : Premise) → IsPlainBy kind2 premise → IsPlainBy kind4 none
-    → Law
-    (first_step (row_of kind 12 32 (LoongArch64 Shift5) mask range a bias thunkable implicit) none
-    ∷ step_of (row_of kind2 0 12 (LoongArch64 Shift10) mask2 range2 a2 bias2 thunkable2 implicit2) operands2 premise
-    ∷ step_of (row_of kind3 32 52 (LoongArch64 Shift5) mask3 range3 a3 bias3 thunkable3 implicit3) operands3 none
-    ∷ step_of (row_of kind4 52 64 (LoongArch64 Shift10) mask4 range4 a4 bias4 thunkable4 implicit4) operands4 none
-    ∷ []) five target
-five_parts {target} to operands2 operands3 operands4 e e2 e3 e4 premise plain upper =
-    λ o small at before after step any at2 before2 after2 step2 any2 at3 before3 after3 step3 any3
-    at4 before4 after4 step4 any4.
-    let t = target o in
-    let h = far_distance target o in
-    let below = far_below target o in
-    let same : sum_64 t 0 ≡ t = unbiased t (to o small) in
-    let f = high_field _ 12 _ _ _ _ _ _ _ before after step (page_distance target o)
-    (difference_below (page (sum_64 t 0x800)) (page o.place)) (omega arith) (e o small) in
-    let l = low_field _ 0 _ _ _ _ _ _ _ before2 after2 step2 (sum_64 t 0) (sum_below t 0)
-    (omega arith) (e2 o small at2) (plain _ _ any2) in
-    let m = high_field _ 32 _ _ _ _ _ _ _ before3 after3 step3 h below (omega arith)
-    (e3 o small at3) in
-    let u = low_field _ 52 _ _ _ _ _ _ _ before4 after4 step4 h below (omega arith)
-    (e4 o small at4 ∙ ap (λ n. Some (cast_signed w64 n)) (fourth_is_far target o))
-    (upper _ step4.value tt) in
-    let pc = o.place in
-    five_from pc (field (window_of (loongarch_form Shift5) after) 5 25)
-    (field (window_of (loongarch_form Shift10) after2) 10 22)
-    (field (window_of (loongarch_form Shift5) after3) 5 25)
-    (field (window_of (loongarch_form Shift10) after4) 10 22)
-    (first_of_five pc t) (field t 0 12) (field (high_of_five pc t) 32 52)
-    (field (high_of_five pc t) 52 64)
-    f (l ∙ ap (λ k. field k 0 12) same)
-    (m ∙ ap (λ k. field (high_distance k (sum_64 pc 8)) 32 52) same)
-    (u ∙ ap (λ k. field (high_distance k (sum_64 pc 8)) 52 64) same)
-    ∙ made pc t small.place (to o small)
+    {bias2 : Option ℕ} {thunkable2 implicit2 : Bool} where
+  pub page_pairs : {target : Operands → ℕ} → IsSmall target → (operands : Operands → ℕ → Operands)
+      → FirstHasNumber (row_of kind 12 32 (LoongArch64 Shift5) mask range a bias thunkable implicit) (page_distance target)
+      → HasNumber (row_of kind2 0 12 (LoongArch64 Shift10) mask2 range2 a2 bias2 thunkable2 implicit2) operands (absolute target)
+      → (premise : Premise) → IsPlainBy kind2 premise
+      → Law (first_step (row_of kind 12 32 (LoongArch64 Shift5) mask range a bias thunkable implicit) (of_values (bit_bounds 32 Signed))
+      ∷ step_of (row_of kind2 0 12 (LoongArch64 Shift10) mask2 range2 a2 bias2 thunkable2 implicit2) operands premise ∷ [])
+      page_and_low target
+  page_pairs {target} to operands e e2 premise plain =
+      λ o small at before after step within at2 before2 after2 step2 any2.
+      let m = page_distance target o in
+      let t = target o in
+      let below = difference_below (page (sum_64 t 0x800)) (page o.place) in
+      let h = high_reads _ _ _ _ _ _ _ o before after step within m below (e o small) in
+      let l = low_field _ 0 _ _ _ _ _ _ _ before2 after2 step2 (sum_64 t 0) (sum_below t 0)
+      (omega arith) (e2 o small at2) (plain _ _ any2) in
+      ap (λ z. int_rem_euclid
+      (z +ℤ signed 12 (field (window_of (loongarch_form Shift10) after2) 10 22)) (pos (2 ^ 64)))
+      (page_and_distance o.place (field (window_of (loongarch_form Shift5) after) 5 25))
+      ∙ page_halves_sum 0x800 o.place t m
+      (signed 20 (field (window_of (loongarch_form Shift5) after) 5 25))
+      (signed 12 (field (window_of (loongarch_form Shift10) after2) 10 22)) (omega arith)
+      (to o small) small.place refl h
+      (rounded_low t (field (window_of (loongarch_form Shift10) after2) 10 22) l)
+
+  -- with the low part of a `jirl`, which is a multiple of 4
+  pub page_jumps : {target : Operands → ℕ} → IsSmall target → (operands : Operands → ℕ → Operands)
+      → FirstHasNumber (row_of kind 12 32 (LoongArch64 Shift5) mask range a bias thunkable implicit) (page_distance target)
+      → HasNumber (row_of kind2 0 12 (LoongArch64 Shift10) mask2 range2 a2 bias2 thunkable2 implicit2) operands (absolute target)
+      → AgreesInReach false (row_of kind2 0 12 (LoongArch64 Shift10) mask2 range2 a2 bias2 thunkable2 implicit2)
+      → ((x : ℕ) → is_jirl x ≡ true → is_low_jump (LoongArch64 Shift10) kind2 x ≡ true)
+      → Law
+      (first_step (row_of kind 12 32 (LoongArch64 Shift5) mask range a bias thunkable implicit) (of_values (bit_bounds 32 Signed))
+      ∷ step_of (row_of kind2 0 12 (LoongArch64 Shift10) mask2 range2 a2 bias2 thunkable2 implicit2) operands (of_words is_jirl) ∷ [])
+      page_and_jump target
+  page_jumps {target} to operands e e2 agrees jumps =
+      λ o small at before after step within at2 before2 after2 step2 jump.
+      let m = page_distance target o in
+      let t = target o in
+      let n = sum_64 t 0 in
+      let below = difference_below (page (sum_64 t 0x800)) (page o.place) in
+      let h = high_reads _ _ _ _ _ _ _ o before after step within m below (e o small) in
+      let is = value_is _ (operands o at2) before2 after2 step2 (cast_signed w64 n) (e2 o small at2) in
+      let l = (reads _ (operands o at2) before2 after2 step2 n (sum_below t 0) is false agrees).jump
+      (jumps (window_of (loongarch_form Shift10) before2) jump) in
+      let bits = taken_bits (record { start = 0; end = 12 }) n step2.value (sum_below t 0) is in
+      let low : (loongarch_form Shift10).machine (window_of (loongarch_form Shift10) after2) *ℤ pos 4
+      ≡ signed 12 (field n 0 12) = l ∙ ap (signed 12) bits in
+      ap (λ z. int_rem_euclid
+      (z +ℤ ((loongarch_form Shift10).machine (window_of (loongarch_form Shift10) after2) *ℤ pos 4))
+      (pos (2 ^ 64)))
+      (page_and_distance o.place (field (window_of (loongarch_form Shift5) after) 5 25))
+      ∙ page_halves_sum 0x800 o.place t m
+      (signed 20 (field (window_of (loongarch_form Shift5) after) 5 25))
+      ((loongarch_form Shift10).machine (window_of (loongarch_form Shift10) after2) *ℤ pos 4)
+      (omega arith) (to o small) small.place refl h
+      (ap (λ z. z +ℤ pos 0x800) low ∙ rounded_low t (field n 0 12) refl)
+
+  -- `lu12i.w` and `ori`
+  pub two_parts : {begin target number : Operands → ℕ} → IsNumber begin target number
+      → IsRounded 0 number number → (operands : Operands → ℕ → Operands)
+      → FirstHasNumber (row_of kind 12 32 (LoongArch64 Shift5) mask range a bias thunkable implicit) number
+      → HasNumber (row_of kind2 0 12 (LoongArch64 Shift10) mask2 range2 a2 bias2 thunkable2 implicit2) operands number → IsPlainBy kind2 none
+      → Law (first_step (row_of kind 12 32 (LoongArch64 Shift5) mask range a bias thunkable implicit) (of_values (bit_bounds 32 Signed))
+      ∷ step_of (row_of kind2 0 12 (LoongArch64 Shift10) mask2 range2 a2 bias2 thunkable2 implicit2) operands none ∷ [])
+      (λ o x y. pos (begin o) +ℤ upper_and_or x y) target
+  two_parts {begin} {target} {number} leads rounds operands e e2 plain =
+      λ o small at before after step within at2 before2 after2 step2 any2.
+      let n = number o in
+      let numbers = leads o small in
+      let x = window_of (loongarch_form Shift5) after in
+      let y = window_of (loongarch_form Shift10) after2 in
+      let h = high_reads _ _ _ _ _ _ _ o before after step within n numbers.below (e o small) in
+      let l = low_field _ 0 _ _ _ _ _ _ _ before2 after2 step2 n numbers.below (omega arith)
+      (e2 o small at2) (plain _ step2.value tt) in
+      let low : field y 10 22 ≡ n % 2 ^ 12 = l ∙ omega arith in
+      ap (λ z. int_rem_euclid z (pos (2 ^ 64)))
+      (regroup (begin o) (signed 20 (field x 5 25) *ℤ pos 4096) (pos (field y 10 22)))
+      ∙ halves_sum 12 0 (begin o) (target o) n n (signed 20 (field x 5 25)) (pos (field y 10 22))
+      (omega arith) (omega arith) numbers.small numbers.below numbers.leads (rounds o small) h
+      (ap (λ k. pos k +ℤ pos 0) low ∙ ap pos (omega arith))
+
+  -- the same with rounding, and a low part in two's complement
+  pub rounded_parts : {begin target number rounded : Operands → ℕ} → IsNumber begin target number
+      → IsRounded 0x800 number rounded → (operands : Operands → ℕ → Operands)
+      → FirstHasNumber (row_of kind 12 32 (LoongArch64 Shift5) mask range a bias thunkable implicit) rounded
+      → HasNumber (row_of kind2 0 12 (LoongArch64 Shift10) mask2 range2 a2 bias2 thunkable2 implicit2) operands number → IsPlainBy kind2 none
+      → Law (first_step (row_of kind 12 32 (LoongArch64 Shift5) mask range a bias thunkable implicit) (of_values (bit_bounds 32 Signed))
+      ∷ step_of (row_of kind2 0 12 (LoongArch64 Shift10) mask2 range2 a2 bias2 thunkable2 implicit2) operands none ∷ [])
+      (λ o x y. (pos (begin o) +ℤ (signed 20 (field x 5 25) *ℤ pos 4096)) +ℤ signed 12 (field y 10 22)) target
+  rounded_parts {begin} {target} {number} {rounded} leads rounds operands e e2 plain =
+      λ o small at before after step within at2 before2 after2 step2 any2.
+      let n = number o in
+      let numbers = leads o small in
+      let is = rounds o small in
+      let below : rounded o < 2 ^ 64 = subst (λ k. k < 2 ^ 64) (sym is) (sum_below n 0x800) in
+      let x = window_of (loongarch_form Shift5) after in
+      let y = window_of (loongarch_form Shift10) after2 in
+      let h = high_reads _ _ _ _ _ _ _ o before after step within (rounded o) below (e o small) in
+      let l = low_field _ 0 _ _ _ _ _ _ _ before2 after2 step2 n numbers.below (omega arith)
+      (e2 o small at2) (plain _ step2.value tt) in
+      halves_sum 12 0x800 (begin o) (target o) n (rounded o) (signed 20 (field x 5 25))
+      (signed 12 (field y 10 22))
+      (omega arith) (omega arith) numbers.small numbers.below numbers.leads is h
+      (rounded_remainder n (rounded o) (field y 10 22) l is)
+
+  -- of four and five instructions
+  module _ {kind3 : RelocationKind} {mask3 : Option PageMask} {range3 : AllowedRange} {a3 : ℕ}
+      {bias3 : Option ℕ} {thunkable3 implicit3 : Bool}
+      {kind4 : RelocationKind} {mask4 : Option PageMask} {range4 : AllowedRange} {a4 : ℕ}
+      {bias4 : Option ℕ} {thunkable4 implicit4 : Bool} where
+    pub four_parts : {begin target number : Operands → ℕ} → IsNumber begin target number
+        → (operands2 operands3 operands4 : Operands → ℕ → Operands)
+        → FirstHasNumber (row_of kind 12 32 (LoongArch64 Shift5) mask range a bias thunkable implicit) number
+        → HasNumber (row_of kind2 0 12 (LoongArch64 Shift10) mask2 range2 a2 bias2 thunkable2 implicit2) operands2 number
+        → HasNumber (row_of kind3 32 52 (LoongArch64 Shift5) mask3 range3 a3 bias3 thunkable3 implicit3) operands3 number
+        → HasNumber (row_of kind4 52 64 (LoongArch64 Shift10) mask4 range4 a4 bias4 thunkable4 implicit4) operands4 number
+        → IsPlainBy kind2 none → IsPlainBy kind4 none
+        → Law
+        (first_step (row_of kind 12 32 (LoongArch64 Shift5) mask range a bias thunkable implicit) none
+        ∷ step_of (row_of kind2 0 12 (LoongArch64 Shift10) mask2 range2 a2 bias2 thunkable2 implicit2) operands2 none
+        ∷ step_of (row_of kind3 32 52 (LoongArch64 Shift5) mask3 range3 a3 bias3 thunkable3 implicit3) operands3 none
+        ∷ step_of (row_of kind4 52 64 (LoongArch64 Shift10) mask4 range4 a4 bias4 thunkable4 implicit4) operands4 none ∷ []) (λ o x y z u. pos (begin o) +ℤ four x y z u) target
+    four_parts {begin} {target} {number} leads operands2 operands3 operands4 e e2 e3 e4 plain upper =
+        λ o small at before after step any at2 before2 after2 step2 any2 at3 before3 after3 step3 any3
+        at4 before4 after4 step4 any4.
+        let n = number o in
+        let numbers = leads o small in
+        let there = numbers.leads in
+        let f = high_field _ 12 _ _ _ _ _ _ _ before after step n numbers.below (omega arith)
+        (e o small) in
+        let l = low_field _ 0 _ _ _ _ _ _ _ before2 after2 step2 n numbers.below (omega arith)
+        (e2 o small at2) (plain _ step2.value tt) in
+        let m = high_field _ 32 _ _ _ _ _ _ _ before3 after3 step3 n numbers.below (omega arith)
+        (e3 o small at3) in
+        let u = low_field _ 52 _ _ _ _ _ _ _ before4 after4 step4 n numbers.below (omega arith)
+        (e4 o small at4) (upper _ step4.value tt) in
+        ap (λ z. int_rem_euclid (pos (begin o) +ℤ z) (pos (2 ^ 64)))
+        (four_of (field (window_of (loongarch_form Shift5) after) 5 25)
+        (field (window_of (loongarch_form Shift10) after2) 10 22)
+        (field (window_of (loongarch_form Shift5) after3) 5 25)
+        (field (window_of (loongarch_form Shift10) after4) 10 22) n numbers.below f l m u)
+        ∙ ap pos there
+
+    pub five_parts : {target : Operands → ℕ} → IsSmall target
+        → (operands2 operands3 operands4 : Operands → ℕ → Operands)
+        → FirstHasNumber (row_of kind 12 32 (LoongArch64 Shift5) mask range a bias thunkable implicit) (page_distance target)
+        → HasNumber (row_of kind2 0 12 (LoongArch64 Shift10) mask2 range2 a2 bias2 thunkable2 implicit2) operands2 (absolute target)
+        → HasNumber (row_of kind3 32 52 (LoongArch64 Shift5) mask3 range3 a3 bias3 thunkable3 implicit3) operands3 (far_distance target)
+        → HasNumber (row_of kind4 52 64 (LoongArch64 Shift10) mask4 range4 a4 bias4 thunkable4 implicit4) operands4 (fourth_distance target)
+        → (premise : Premise) → IsPlainBy kind2 premise → IsPlainBy kind4 none
+        → Law
+        (first_step (row_of kind 12 32 (LoongArch64 Shift5) mask range a bias thunkable implicit) none
+        ∷ step_of (row_of kind2 0 12 (LoongArch64 Shift10) mask2 range2 a2 bias2 thunkable2 implicit2) operands2 premise
+        ∷ step_of (row_of kind3 32 52 (LoongArch64 Shift5) mask3 range3 a3 bias3 thunkable3 implicit3) operands3 none
+        ∷ step_of (row_of kind4 52 64 (LoongArch64 Shift10) mask4 range4 a4 bias4 thunkable4 implicit4) operands4 none ∷ []) five target
+    five_parts {target} to operands2 operands3 operands4 e e2 e3 e4 premise plain upper =
+        λ o small at before after step any at2 before2 after2 step2 any2 at3 before3 after3 step3 any3
+        at4 before4 after4 step4 any4.
+        let t = target o in
+        let h = far_distance target o in
+        let below = far_below target o in
+        let same : sum_64 t 0 ≡ t = unbiased t (to o small) in
+        let f = high_field _ 12 _ _ _ _ _ _ _ before after step (page_distance target o)
+        (difference_below (page (sum_64 t 0x800)) (page o.place)) (omega arith) (e o small) in
+        let l = low_field _ 0 _ _ _ _ _ _ _ before2 after2 step2 (sum_64 t 0) (sum_below t 0)
+        (omega arith) (e2 o small at2) (plain _ _ any2) in
+        let m = high_field _ 32 _ _ _ _ _ _ _ before3 after3 step3 h below (omega arith)
+        (e3 o small at3) in
+        let u = low_field _ 52 _ _ _ _ _ _ _ before4 after4 step4 h below (omega arith)
+        (e4 o small at4 ∙ ap (λ n. Some (cast_signed w64 n)) (fourth_is_far target o))
+        (upper _ step4.value tt) in
+        let pc = o.place in
+        five_from pc (field (window_of (loongarch_form Shift5) after) 5 25)
+        (field (window_of (loongarch_form Shift10) after2) 10 22)
+        (field (window_of (loongarch_form Shift5) after3) 5 25)
+        (field (window_of (loongarch_form Shift10) after4) 10 22)
+        (first_of_five pc t) (field t 0 12) (field (high_of_five pc t) 32 52)
+        (field (high_of_five pc t) 52 64)
+        f (l ∙ ap (λ k. field k 0 12) same)
+        (m ∙ ap (λ k. field (high_distance k (sum_64 pc 8)) 32 52) same)
+        (u ∙ ap (λ k. field (high_distance k (sum_64 pc 8)) 52 64) same)
+        ∙ made pc t small.place (to o small)
 
 -- ---- a call
 

@@ -1,13 +1,9 @@
 -- Calls of LoongArch, by two instructions and by one.
-use Rattle.std.proofs.Common.{◌≡◌, ◌≢◌, ℕ, ◌/◌, ◌^◌, ◌<◌, refl, ◌∙◌, ap, arith, List, ◌++◌, drop, ℤ, pos, ◌+ℤ◌, ◌*ℤ◌, eqb, if◌then◌else◌}
-use Rattle.linker_laws.proofs.Imports.{w64, from_le_bytes, ne_eqb, cond-true, cond-false, ints, length-drop, All-drop, field, signed, bits_to, reach, IsCall, adds_low12, loongarch_row, rj_of, InstructionWritten, ored_cleared, LoongArch64, Operands, Branch26, Call36}
-use Rattle.linker_elf.specs.LoongArch.{call36_high, call36_low}
+use Rattle.linker_laws.proofs.Imports.{◌≡◌, ◌≢◌, ℕ, ◌/◌, ◌^◌, ◌<◌, refl, ◌∙◌, ap, arith, List, ◌++◌, drop, ℤ, pos, ◌+ℤ◌, ◌*ℤ◌, eqb, if◌then◌else◌, w64, from_le_bytes, ne_eqb, cond-true, cond-false, ints, length-drop, All-drop, field, signed, bits_to, reach, IsCall, adds_low12, loongarch_row, rj_of, InstructionWritten, ored_cleared, LoongArch64, Operands, Branch26, Call36, call36_high, call36_low, IsAddress, plt_address, wrapped, Relocated}
 use Rattle.linker_elf.specs.declared.loongarch64.relocations.LoongArch64Relocation.TheVariants as names
 use Rattle.linker_utils.specs.LoongArchRewrites.{rd_of}
-use Rattle.linker_laws.specs.Schemes.{IsAddress, plt_address}
 use Rattle.linker_laws.specs.LoongArchRewriteLaws.{word_of, pair}
 use Rattle.linker_laws.specs.LoongArchMachine.{State, decode, far_address, register_target, pcaddu_18, jirl, b, bl}
-use Rattle.linker_laws.specs.Machine.{wrapped, Relocated}
 use Rattle.linker_laws.proofs.AArch64Steps.{address_is, in_two_steps}
 use Rattle.linker_laws.proofs.AArch64Words.{field_kept, top_kept}
 use Rattle.linker_laws.proofs.Words.{two_words, word_below}

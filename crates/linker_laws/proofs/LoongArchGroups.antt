@@ -1,20 +1,14 @@
 -- LoongArch's groups.
-use Rattle.std.proofs.Common.{◌≡◌, ◌≢◌, ℕ, suc, ◌+◌, ◌-◌, ◌*◌, ◌/◌, ◌^◌, ◌<◌, Bool, true, false, refl, sym, ◌∙◌, ap, ap₂, subst, arith, List, drop, Some, pos, ◌+ℤ◌, ◌*ℤ◌, inl, inr, not, ℤ, w64}
-use Rattle.linker_laws.proofs.Imports.{◌==◌, ◌&&◌, if◌then◌else◌, nat_lt, IsSomeAnd, cast_signed, cond-true, cond-false, cases_lt, eq-eqb, lt-ltb, le-ltb, ne_eqb, or_shifted, field, signed, RowIsWithin, IsWithin, loongarch_form, page, pcalau12i, loongarch_row, InstructionWritten, difference_64, sum_64, LoongArch64, Operands, Branch26, Shift10, Shift5, IsCall, IsLowOfDescriptor, rj_of, signed_12, signed_32}
-use Rattle.linker_elf.specs.Choices.{ValueIsWithin}
+use Rattle.linker_laws.proofs.Imports.{◌≡◌, ◌≢◌, ℕ, suc, ◌+◌, ◌-◌, ◌*◌, ◌/◌, ◌^◌, ◌<◌, Bool, true, false, refl, sym, ◌∙◌, ap, ap₂, subst, arith, List, drop, Some, pos, ◌+ℤ◌, ◌*ℤ◌, inl, inr, not, ℤ, w64, ◌==◌, if◌then◌else◌, nat_lt, cast_signed, cond-true, cond-false, cases_lt, eq-eqb, lt-ltb, le-ltb, ne_eqb, or_shifted, field, signed, RowIsWithin, IsWithin, loongarch_form, page, pcalau12i, loongarch_row, InstructionWritten, difference_64, sum_64, LoongArch64, Operands, Branch26, Shift10, Shift5, IsCall, IsLowOfDescriptor, rj_of, signed_12, signed_32, ValueIsWithin, ChangesOpen, go_to, put, with_register, Relocated, loaded, wrapped, AreAddresses, IsAddress, entry_and_addend, plt_address, symbol_address, tls_base, State, Agree, AreOf, Group, Kind, Kinds, anything, half, of_link, run, same}
 use Rattle.linker_elf.specs.declared.loongarch64.relocations.LoongArch64Relocation.{LoongArch64Relocation}
 use Rattle.linker_elf.specs.declared.loongarch64.relocations.LoongArch64Relocation.TheVariants as names
-use Rattle.linker_laws.specs.Changes.{ChangesOpen, go_to, put, with_register}
 use Rattle.linker_laws.specs.LoongArchGroups as groups
 use Rattle.linker_laws.specs.LoongArchGroups.{AreBefore, AreDeleted, Code, HighHalf, IsFollowed, LowHalfIf, LowOfDescriptor, Processor, Stands, executed, left, link, machine, seen, uses, put_unless_zero, register, with_unless_zero}
 use Rattle.linker_laws.specs.LoongArchMachine as loongarch_machine
 use Rattle.linker_laws.specs.LoongArchMachine.{action_of, added, branch_target, execute, far_address, read, register_target, step, used}
 use Rattle.linker_laws.specs.LoongArchRelocationLaws as relocation_laws
 use Rattle.linker_laws.specs.LoongArchRewriteLaws.{Fits32, IsPair, IsRelocated, IsRewritten, high_offset, near_entry, thread_offset, word_of}
-use Rattle.linker_laws.specs.Machine.{Relocated, loaded, wrapped}
 use Rattle.linker_laws.specs.RiscVGroups.{of_place}
-use Rattle.linker_laws.specs.Schemes.{AreAddresses, IsAddress, entry_and_addend, plt_address, symbol_address, tls_base}
-use Rattle.linker_laws.specs.Simulation.{State, Agree, AreOf, Group, Kind, Kinds, anything, half, of_link, run, same}
 use Rattle.linker_laws.proofs.AArch64Pairs.{word_made}
 use Rattle.linker_laws.proofs.AArch64Steps.{address_is}
 use Rattle.linker_laws.proofs.Agreement.{agree_go, agree_open, agree_put, agree_put_old, both_true, group_of, last_counts, others_agree}

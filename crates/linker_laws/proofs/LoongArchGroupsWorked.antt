@@ -1,15 +1,10 @@
 -- The worked program of LoongArch.
-use Rattle.std.proofs.Common.{◌≡◌, ℕ, ◌+◌, ◌-◌, ◌<◌, Bool, true, false, refl, sym, ◌∙◌, ap, arith, [], ◌∷◌, lit<, lit≤, pos, eqb-true, true≢false}
-use Rattle.linker_laws.proofs.Imports.{◌&&◌, ◌==◌, IsSomeAnd, nat_lt, min, cond-false, cond-true, ltb-true, ints, Operands}
-use Rattle.linker_base.specs.Form.{place_sum}
+use Rattle.linker_laws.proofs.Imports.{◌≡◌, ℕ, ◌+◌, ◌-◌, ◌<◌, Bool, true, false, refl, sym, ◌∙◌, ap, arith, [], ◌∷◌, lit<, pos, eqb-true, ◌==◌, IsSomeAnd, nat_lt, min, cond-false, cond-true, ltb-true, ints, Operands, place_sum, put, with_register, loaded, Agree, Group, Kinds, State, anything, ends, group, half, of_link, run, same, and_parts}
 use Rattle.linker_elf.specs.declared.loongarch64.relocations.LoongArch64Relocation.TheVariants as names
-use Rattle.linker_laws.specs.Changes.{put, with_register}
 use Rattle.linker_laws.specs.LoongArchGroups.{Groups, NewHas, executed, link, machine, seen}
 use Rattle.linker_laws.specs.LoongArchGroupsWorked.{EndsAt, IsWorked, code, moved, new, old, starting}
 use Rattle.linker_laws.specs.LoongArchMachine.{step}
 use Rattle.linker_laws.specs.LoongArchRewriteLaws.{IsRelocated, following}
-use Rattle.linker_laws.specs.Machine.{loaded}
-use Rattle.linker_laws.specs.Simulation.{Agree, Group, Kinds, State, anything, ends, group, half, of_link, run, same}
 use Rattle.linker_laws.specs.SimulationWorked.{all_same, words}
 use Rattle.linker_laws.proofs.Relocated.{nothing, small, applied}
 
@@ -162,12 +157,8 @@ p4 g =
     (small low refl) (record { at = refl; place = refl; next = refl }) refl refl refl has
     (record { relocated = 0xc7 ∷ 0x40 ∷ 0xc0 ∷ 0x28 ∷ []; applied = load_is; stands = refl }) refl
   where
-    second : (a b : Bool) → (a && b) ≡ true → b ≡ true
-    second true b e = e
-    second false b e = absurd (true≢false (sym e))
-
     has : NewHas code k3 s3 6 0x54000
-    has t agree = eqb-true (t.registers 6) 0x54000 (second true (t.registers 6 == 0x54000) (agree.registers 6))
+    has t agree = eqb-true (t.registers 6) 0x54000 (and_parts true (t.registers 6 == 0x54000) (agree.registers 6)).1
 
 old_end : IsSomeAnd (run 5 (machine code.processor (words old)) starting) (EndsAt 0x10014)
 unfolding place_sum

@@ -1,18 +1,13 @@
 -- Instructions of initial-exec and of descriptors of LoongArch.
-use Rattle.std.proofs.Common.{◌≡◌, ℕ, ◌+◌, ◌*◌, ◌/◌, ◌%◌, ◌^◌, ◌<◌, Bool, refl, sym, ◌∙◌, ap, arith, List, ℤ, pos, ◌+ℤ◌, ◌-ℤ◌, ◌*ℤ◌, Option, Some}
-use Rattle.linker_laws.proofs.Imports.{w64, cast_signed, int_rem_euclid, ints, or_shifted, field, signed, replaced, consecutive_bits_sum, bits_from, IsWithin, bit_bounds, page, pcalau12i, value_of, sum_64, difference_64, AllowedRange, PageMask, LoongArch64, RelocationKind, Signed, Operands, Shift5, shift5_places, page_and_distance, IsLowOfDescriptor, IsApplied}
+use Rattle.linker_laws.proofs.Imports.{◌≡◌, ℕ, ◌+◌, ◌*◌, ◌/◌, ◌%◌, ◌^◌, ◌<◌, Bool, refl, sym, ◌∙◌, ap, arith, List, ℤ, pos, ◌+ℤ◌, ◌-ℤ◌, ◌*ℤ◌, Option, Some, w64, cast_signed, int_rem_euclid, ints, or_shifted, field, signed, bits_from, IsWithin, bit_bounds, page, pcalau12i, value_of, sum_64, difference_64, AllowedRange, PageMask, LoongArch64, RelocationKind, Signed, Operands, Shift5, page_and_distance, IsLowOfDescriptor, IsApplied, shift5_sum, IsAddress, AreAddresses, symbol_address, entry_and_addend, tls_base, wrapped, loaded}
 use Rattle.std.specs.Int.RustNames.{bit_or}
-use Rattle.linker_base.specs.Form.{place_sum}
 use Rattle.linker_elf.specs.declared.loongarch64.relocations.LoongArch64Relocation.TheVariants as names
-use Rattle.linker_elf.proofs.RowsAgree.{shift5_sum}
-use Rattle.linker_laws.specs.Schemes.{IsAddress, AreAddresses, symbol_address, entry_and_addend, tls_base}
 use Rattle.linker_laws.proofs.Applied.{value_is, taken_bits}
 use Rattle.linker_laws.proofs.Instructions.{row_of, reads_bits, relative, unbiased}
 use Rattle.linker_laws.proofs.LoongArchAddresses.{page_distance}
-use Rattle.linker_laws.proofs.Sums.{sum_below, difference_below, page_halves_sum, taken_off, plus, cast_is, cast_low, euclid, lifted_is, signed_12}
+use Rattle.linker_laws.proofs.Sums.{sum_below, difference_below, page_halves_sum, taken_off, plus, cast_is, cast_low, euclid, lifted_is, signed_12, page_below, page_parts}
 use Rattle.linker_laws.specs.LoongArchRewriteLaws.{word_of, thread_offset, high_offset, near_page, IsRelocated}
 use Rattle.linker_laws.specs.LoongArchMachine.{State, step, execute, read, write, go_on, page_address, high_part, sum_of, ored}
-use Rattle.linker_laws.specs.Machine.{wrapped, loaded}
 use Rattle.linker_laws.proofs.AArch64Steps.{address_is}
 use Rattle.linker_laws.proofs.LoongArchSteps.{loaded_of}
 use Rattle.linker_laws.proofs.LoongArchWords.{IsHigh, IsLow, decodes_page, decodes_high, decodes_sum, decodes_load, decodes_or, low_after, low_is}
@@ -53,19 +48,13 @@ page_made {kind} {mask} {range} {a} {bias} {thunkable} {implicit} o small e befo
     let more : IsAddress (z +ℤ pos k) x0 =
     ap (λ y. int_rem_euclid y (pos (2 ^ 64))) (sym (regroup z k)) ∙ plus (z +ℤ (pos k -ℤ pos 0x800)) t 0x800 sum in
     ap wrapped (page_and_distance o.place f)
-    ∙ address_is z (page x0) (taken_off z k x0 (page x0) more (page_below x0 (sum_below t 0x800)) (parts x0 (sum_below t 0x800)))
+    ∙ address_is z (page x0) (taken_off z k x0 (page x0) more (page_below x0 (sum_below t 0x800)) (page_parts x0 (sum_below t 0x800)))
   where
     back : (k : ℕ) → (pos k -ℤ pos 0x800) +ℤ pos 0x800 ≡ pos k
     back k = omega (arith, ints)
 
     regroup : (z : ℤ) (k : ℕ) → (z +ℤ (pos k -ℤ pos 0x800)) +ℤ pos 0x800 ≡ z +ℤ pos k
     regroup z k = omega (arith, ints)
-
-    page_below : (t : ℕ) → t < 2 ^ 64 → page t < 2 ^ 64
-    page_below t small = omega arith
-
-    parts : (t : ℕ) → t < 2 ^ 64 → (page t + t % 2 ^ 12) % 2 ^ 64 ≡ t
-    parts t small = omega arith
 
 -- what leads from that page to the address
 from_page : (t : ℕ) → t < 2 ^ 64 → wrapped (pos (near_page t) +ℤ signed 12 (t % 2 ^ 12)) ≡ t
@@ -113,13 +102,7 @@ high_made {kind} {mask} {range} {a} {bias} {thunkable} {implicit} o d below e be
     ∙ ap (λ l. (bits_from 12 w *ℤ pos (2 ^ 12)) +ℤ l) (sym (cast_low d 12 below (omega arith)))
     ∙ euclid w 12 in
     let there : IsAddress (z +ℤ pos (d % 2 ^ 12)) d = ap (λ y. int_rem_euclid y (pos (2 ^ 64))) sum ∙ cast_is d below in
-    address_is z (page d) (taken_off z (d % 2 ^ 12) d (page d) there (page_below d below) (parts d below))
-  where
-    page_below : (t : ℕ) → t < 2 ^ 64 → page t < 2 ^ 64
-    page_below t small = omega arith
-
-    parts : (t : ℕ) → t < 2 ^ 64 → (page t + t % 2 ^ 12) % 2 ^ 64 ≡ t
-    parts t small = omega arith
+    address_is z (page d) (taken_off z (d % 2 ^ 12) d (page d) there (page_below d below) (page_parts d below))
 
 -- `ori` of the low part
 or_low : (d : ℕ) → bit_or (page d) (d % 2 ^ 12) ≡ d

@@ -1,14 +1,11 @@
 -- Instructions of an offset of 12 bits from the thread pointer.
-use Rattle.std.proofs.Common.{◌≡◌, ℕ, ◌+◌, ◌-◌, ◌/◌, ◌%◌, ◌^◌, ◌<◌, true, refl, sym, ◌∙◌, ap, subst, arith, List, eqb, ℤ, pos, ◌+ℤ◌, Some, inl, inr}
-use Rattle.linker_laws.proofs.Imports.{w64, cast_signed, cond-true, cond-false, ints, to_z_pos, field, signed, sum_64, difference_64, Operands, RowIsWithin, IsWithin, page, signed_32, signed_12, loongarch_row, adds_low12, rj_of}
+use Rattle.linker_laws.proofs.Imports.{◌≡◌, ℕ, ◌+◌, ◌-◌, ◌/◌, ◌%◌, ◌^◌, ◌<◌, true, refl, sym, ◌∙◌, ap, subst, arith, List, eqb, ℤ, pos, ◌+ℤ◌, Some, inl, inr, w64, cast_signed, cond-true, cond-false, ints, to_z_pos, field, signed, sum_64, difference_64, Operands, RowIsWithin, IsWithin, page, signed_32, signed_12, loongarch_row, adds_low12, rj_of, AreAddresses, symbol_address, wrapped}
 use Rattle.linker_elf.specs.declared.loongarch64.relocations.LoongArch64Relocation.TheVariants as names
 use Rattle.linker_utils.specs.LoongArchRewrites.{rd_of}
-use Rattle.linker_laws.specs.Schemes.{AreAddresses, symbol_address}
 use Rattle.linker_laws.proofs.Applied.{value_is, taken_bits}
 use Rattle.linker_laws.specs.LoongArchRewriteLaws.{word_of, thread_offset}
 use Rattle.linker_laws.specs.LoongArchRewriteLaws as laws
 use Rattle.linker_laws.specs.LoongArchMachine.{State, step, read, go_on, decode, execute, high_part, sum_of, add_d, action_of, used}
-use Rattle.linker_laws.specs.Machine.{wrapped}
 use Rattle.linker_laws.proofs.LoongArchHalves.{high_made}
 use Rattle.linker_laws.proofs.LoongArchSteps.{written}
 use Rattle.linker_laws.proofs.LoongArchWords.{not_high, decodes_action, low_is}

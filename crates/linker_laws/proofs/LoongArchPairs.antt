@@ -1,14 +1,10 @@
 -- Pairs of LoongArch's instructions, and `pcaddi`.
-use Rattle.std.proofs.Common.{◌≡◌, ◌≢◌, ℕ, ◌+◌, ◌/◌, ◌^◌, ◌<◌, refl, ◌∙◌, ap, subst, arith, [], ◌∷◌, pos, ◌+ℤ◌, ◌*ℤ◌, Some, ◌≤ℤ◌, ◌<ℤ◌, inl, inr, ℤ, List, eqb, false}
-use Rattle.linker_laws.proofs.Imports.{w64, cast_signed, cases_lt, ints, to_z_pos, field, signed, pcalau12i, loongarch_form, rj_of, is_jirl, IsWritten, InstructionWritten, LoongArch64, BitMasking, plain_written, Operands, Shift5, Shift10, cast_negative}
+use Rattle.linker_laws.proofs.Imports.{◌≡◌, ◌≢◌, ℕ, ◌+◌, ◌/◌, ◌^◌, ◌<◌, refl, ◌∙◌, ap, subst, arith, [], ◌∷◌, pos, ◌+ℤ◌, ◌*ℤ◌, Some, ◌≤ℤ◌, ◌<ℤ◌, inl, inr, ℤ, List, eqb, false, w64, cast_signed, cases_lt, ints, to_z_pos, field, signed, pcalau12i, loongarch_form, rj_of, is_jirl, IsWritten, InstructionWritten, LoongArch64, BitMasking, plain_written, Operands, Shift5, Shift10, cast_negative, AbsoluteLowPart, IsAddress, wrapped, loaded}
 use Rattle.linker_utils.specs.LoongArchRewrites.{rd_of}
-use Rattle.linker_elf.specs.declared.elf.RelocationKind.TheVariants.{AbsoluteLowPart}
 use Rattle.linker_utils.specs.declared.loongarch64.rewrites.RewriteKind.TheVariants as kinds
-use Rattle.linker_laws.specs.Schemes.{IsAddress}
 use Rattle.linker_laws.specs.LoongArchRewriteLaws.{word_of}
 use Rattle.linker_laws.specs.LoongArchRewriteLaws as laws
 use Rattle.linker_laws.specs.LoongArchMachine.{State, step, run, page_address, near_address, sum_of}
-use Rattle.linker_laws.specs.Machine.{wrapped, loaded}
 use Rattle.linker_laws.proofs.AArch64Pairs.{word_made}
 use Rattle.linker_laws.proofs.AArch64Steps.{address_is}
 use Rattle.linker_laws.proofs.LoongArchSteps.{set, step_page, step_near, step_sum, step_load, loaded_of, sum_is}

@@ -1,10 +1,6 @@
 -- Words of LoongArch to which a relocation was applied, and which instructions they are.
-use Rattle.std.proofs.Common.{◌≡◌, ◌≢◌, ℕ, ◌+◌, ◌-◌, ◌/◌, ◌%◌, ◌^◌, ◌<◌, ◌≤◌, ◌⊎◌, inl, inr, refl, max, sym, ◌∙◌, ap, subst, arith, List, [], eqb, ltb, if◌then◌else◌, ℤ, true, false}
-use Rattle.linker_laws.proofs.Imports.{◌==◌, ◌&&◌, ◌||◌, nat_le, bit_at, w32, from_le_bytes, All-nil, ne_eqb, cond-true, cond-false, or_cases, and_parts, eqb-true, leb-true, field, ImmediateBit, BitsWritten, bit_for, placed_bit, adds_low12, rj_of, InstructionWritten, bits_taken, ored_cleared, Shift5, Shift10, LoongArch64, high_kept, same_window, shift5_places}
-use Rattle.std.proofs.lemmas.Bool.{false_from_ne_true}
-use Rattle.linker_base.specs.Form.{ored}
+use Rattle.linker_laws.proofs.Imports.{◌≡◌, ◌≢◌, ℕ, ◌+◌, ◌-◌, ◌/◌, ◌%◌, ◌^◌, ◌<◌, ◌≤◌, ◌⊎◌, inl, inr, refl, max, sym, ◌∙◌, ap, subst, arith, List, [], eqb, ltb, if◌then◌else◌, ℤ, true, false, ◌==◌, ◌&&◌, ◌||◌, nat_le, bit_at, w32, from_le_bytes, All-nil, ne_eqb, cond-true, cond-false, or_cases, and_parts, eqb-true, leb-true, field, ImmediateBit, BitsWritten, bit_for, placed_bit, adds_low12, rj_of, InstructionWritten, bits_taken, ored_cleared, Shift5, Shift10, LoongArch64, high_kept, same_window, shift5_places, false_from_ne_true, ored, shift10_places, shift10_field}
 use Rattle.linker_utils.specs.LoongArchRewrites.{rd_of}
-use Rattle.linker_elf.proofs.LoongArch.{shift10_places, shift10_field}
 use Rattle.linker_laws.specs.LoongArchMachine.{decode, pcalau_12, pcadd_2, lu12i_w, sums, action_of, adds, loads, ori}
 use Rattle.linker_laws.proofs.AArch64Words.{field_kept, top_kept}
 

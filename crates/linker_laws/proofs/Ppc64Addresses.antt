@@ -1,6 +1,5 @@
 -- PowerPC64: addresses from the TOC pointer.
-use Rattle.std.proofs.Common.{◌≡◌, ◌≢◌, ℕ, refl, sym, ◌∙◌, ap, true, cond, ◌-◌, ◌%◌}
-use Rattle.linker_laws.proofs.Imports.{◌&&◌, ◌||◌, ◌==◌, not, and_parts, eqb-true, false≢true, field, ppc64_form, is_ld, is_add_of_thread, is_over_thread, opcode_of, rt_of, ra_of, rb_of, ppc64_reads, Ds}
+use Rattle.linker_laws.proofs.Imports.{◌≡◌, ◌≢◌, ℕ, refl, sym, ◌∙◌, ap, true, cond, ◌-◌, ◌%◌, ◌&&◌, ◌||◌, ◌==◌, not, and_parts, eqb-true, false≢true, field, ppc64_form, is_ld, is_add_of_thread, is_over_thread, opcode_of, rt_of, ra_of, rb_of, ppc64_reads, Ds}
 use Rattle.linker_laws.proofs.Ppc64Words.{HasParts}
 
 pub some_of : (n : ℕ) → not (n == 0) ≡ true → n ≢ 0

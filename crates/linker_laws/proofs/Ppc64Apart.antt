@@ -1,10 +1,7 @@
 -- PowerPC64: instructions that stand apart, each in two runs.
-use Rattle.std.proofs.Common.{◌≡◌, ◌≢◌, ℕ, ◌*◌, ◌^◌, List, eqb, pos, ◌*ℤ◌, Some}
-use Rattle.linker_laws.proofs.Imports.{cond-false, ne_eqb, ppc64_form, Operands, D, Ds, Ppc64Relocation, opcode_of, rt_of, ra_of}
+use Rattle.linker_laws.proofs.Imports.{◌≡◌, ◌≢◌, ℕ, ◌*◌, ◌^◌, List, eqb, pos, ◌*ℤ◌, Some, cond-false, ne_eqb, ppc64_form, Operands, D, Ds, Ppc64Relocation, opcode_of, rt_of, ra_of, AreAddresses, symbol_address, moved}
 use Rattle.linker_elf.specs.declared.ppc64.relocations.Ppc64Relocation.TheVariants as names
 use Rattle.linker_laws.specs.Ppc64RelocationLaws as relocation_laws
-use Rattle.linker_laws.specs.Schemes.{AreAddresses, symbol_address}
-use Rattle.linker_laws.specs.Machine.{moved}
 use Rattle.linker_laws.specs.Ppc64RewriteLaws.{word_of, IsRelocated}
 use Rattle.linker_laws.specs.Ppc64RewriteLaws as laws
 use Rattle.linker_laws.specs.Ppc64Machine.{State, Formats, base, step, go_on}

@@ -1,9 +1,6 @@
 -- PowerPC64: what takes the place of a `nop` after a call.
-use Rattle.std.proofs.Common.{◌≡◌, ℕ, ◌^◌, ◌<◌, refl, sym, ◌∙◌, ap, arith, List, take, drop, Some, true}
-use Rattle.linker_laws.proofs.Imports.{◌&&◌, ◌==◌, and_parts, eqb-true, field, is_call, opcode_of, sum_64}
-use Rattle.linker_base.specs.Form.{place_sum}
+use Rattle.linker_laws.proofs.Imports.{◌≡◌, ℕ, ◌^◌, ◌<◌, refl, sym, ◌∙◌, ap, arith, List, take, drop, Some, true, ◌&&◌, ◌==◌, and_parts, eqb-true, field, is_call, opcode_of, sum_64, place_sum, loaded}
 use Rattle.linker_utils.specs.Ppc64Rewrites.{nop, two_words}
-use Rattle.linker_laws.specs.Machine.{loaded}
 use Rattle.linker_laws.specs.Ppc64RewriteLaws.{IsRewritten, word_of}
 use Rattle.linker_utils.specs.declared.ppc64.rewrites.RewriteKind.TheVariants as kinds
 use Rattle.linker_laws.specs.Ppc64Machine.{State, Formats, step, write, go_on}

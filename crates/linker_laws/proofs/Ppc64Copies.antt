@@ -1,15 +1,11 @@
 -- PowerPC64: one instruction of a thread-local sequence by itself, and arguments that are copied.
-use Rattle.std.proofs.Common.{◌≡◌, ℕ, ◌+◌, ◌*◌, ◌/◌, ◌^◌, ◌<◌, ◌%◌, refl, ◌∙◌, ap, arith, List, ℤ, pos, ◌*ℤ◌, ◌+ℤ◌}
-use Rattle.linker_laws.proofs.Imports.{ints, signed, replaced, consecutive_bits_sum, ppc64_form, sum_64, Operands, D, addis_of_thread}
-use Rattle.linker_base.specs.Form.{place_sum}
+use Rattle.linker_laws.proofs.Imports.{◌≡◌, ℕ, ◌+◌, ◌*◌, ◌/◌, ◌^◌, ◌<◌, ◌%◌, refl, ◌∙◌, ap, arith, List, ℤ, pos, ◌*ℤ◌, ◌+ℤ◌, ints, signed, replaced, consecutive_bits_sum, ppc64_form, sum_64, Operands, D, addis_of_thread, place_sum, symbol_address, AreAddresses, moved}
 use Rattle.linker_laws.specs.Ppc64RelocationLaws as relocation_laws
-use Rattle.linker_laws.specs.Schemes.{symbol_address, AreAddresses}
 use Rattle.linker_elf.specs.declared.ppc64.relocations.Ppc64Relocation.TheVariants as names
-use Rattle.linker_laws.proofs.Sums.{sum_below}
-use Rattle.linker_laws.specs.Machine.{moved}
+use Rattle.linker_laws.proofs.Sums.{sum_below, wrapped_is}
 use Rattle.linker_laws.specs.Ppc64RewriteLaws.{word_of, thread_offset}
 use Rattle.linker_laws.specs.Ppc64RewriteLaws as laws
-use Rattle.linker_laws.proofs.Ppc64Words.{HasParts, sum_from, wrapped_is}
+use Rattle.linker_laws.proofs.Ppc64Words.{HasParts, sum_from}
 
 -- ---- what is left
 

@@ -1,16 +1,12 @@
 -- PowerPC64: the TOC pointer at the entry of a function.
-use Rattle.std.proofs.Common.{◌≡◌, ℕ, ◌^◌, refl, ◌∙◌, ap, arith, List, Some, true, pos, ◌*ℤ◌, ◌+ℤ◌}
-use Rattle.linker_laws.proofs.Imports.{eqb-true, field, ppc64_form, Operands, D}
+use Rattle.linker_laws.proofs.Imports.{◌≡◌, ℕ, ◌^◌, refl, ◌∙◌, ap, arith, List, Some, true, pos, ◌*ℤ◌, ◌+ℤ◌, eqb-true, field, ppc64_form, Operands, D, AreAddresses, symbol_address, IsAddress, moved, is_addi_of_toc, is_addis_of_entry}
 use Rattle.linker_elf.specs.declared.ppc64.relocations.Ppc64Relocation.TheVariants as names
 use Rattle.linker_laws.specs.Ppc64RelocationLaws as relocation_laws
-use Rattle.linker_laws.specs.Schemes.{AreAddresses, symbol_address, IsAddress}
-use Rattle.linker_laws.specs.Machine.{moved}
 use Rattle.linker_laws.specs.Ppc64RewriteLaws.{IsRelocated, IsRewritten, four_on, word_of}
 use Rattle.linker_laws.specs.Ppc64Machine.{State, Formats, base, step}
 use Rattle.linker_laws.proofs.AArch64Pairs.{word_made}
 use Rattle.linker_laws.proofs.Ppc64Addresses.{same_parts}
 use Rattle.linker_laws.proofs.Ppc64Words.{HasParts, d_after, sum_leads, set, base_back, step_addis, step_addi}
-use Rattle.linker_utils.specs.Ppc64Rewrites.{is_addi_of_toc, is_addis_of_entry}
 use Rattle.linker_utils.specs.declared.ppc64.rewrites.RewriteKind.TheVariants as kinds
 
 -- the parts of `addis 2,b` and of `addi 2,2`

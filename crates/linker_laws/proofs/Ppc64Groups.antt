@@ -1,9 +1,6 @@
 -- PowerPC64's groups.
-use Rattle.std.proofs.Common.{◌≡◌, ◌≢◌, ℕ, suc, ◌+◌, ◌-◌, ◌*◌, ◌^◌, ◌<◌, ◌≤◌, Bool, true, false, refl, sym, ◌∙◌, ap, subst, subst₂, arith, List, drop, take, ◌/◌, Some, pos, ◌+ℤ◌, ◌*ℤ◌, inl, inr, not, eqb, true≢false}
-use Rattle.linker_laws.proofs.Imports.{IsTrue, ◌==◌, ◌&&◌, if◌then◌else◌, nat_lt, is_some, IsSomeAnd, and_parts, cond-true, cond-false, cases_lt, eq-eqb, eqb-true, lt-ltb, le-ltb, ne_eqb, eqb_tells, ints, field, ppc64_form, sum_64, Operands, Ppc64Instruction, Branch24, D, Ds, Prefixed, Ppc64Relocation, addi_of_thread, is_addi, is_call, is_ld, is_pla, is_pld, addis_of_thread, opcode_of, ra_of, registers_of, rt_of, RewriteKind}
+use Rattle.linker_laws.proofs.Imports.{◌≡◌, ◌≢◌, ℕ, suc, ◌+◌, ◌-◌, ◌*◌, ◌^◌, ◌<◌, ◌≤◌, Bool, true, false, refl, sym, ◌∙◌, ap, subst, subst₂, arith, List, drop, take, ◌/◌, Some, pos, ◌+ℤ◌, ◌*ℤ◌, inl, inr, not, eqb, true≢false, IsTrue, ◌==◌, if◌then◌else◌, nat_lt, is_some, and_parts, cond-true, cond-false, cases_lt, eq-eqb, eqb-true, lt-ltb, le-ltb, ne_eqb, eqb_tells, ints, field, ppc64_form, sum_64, Operands, Ppc64Instruction, Branch24, D, Ds, Prefixed, Ppc64Relocation, addi_of_thread, is_addi, is_call, is_ld, is_pla, is_pld, addis_of_thread, opcode_of, ra_of, registers_of, rt_of, RewriteKind, go_to, put, with_register, loaded, moved, AreAddresses, symbol_address, State, Agree, AreOf, Group, Kind, Kinds, anything, half, of_link, run, same}
 use Rattle.linker_elf.specs.declared.ppc64.relocations.Ppc64Relocation.TheVariants as names
-use Rattle.linker_laws.specs.Changes.{go_to, put, with_register}
-use Rattle.linker_laws.specs.Machine.{loaded, moved}
 use Rattle.linker_laws.specs.Ppc64Groups as groups
 use Rattle.linker_laws.specs.Ppc64Groups.{AreHalves, Code, Has, Leaves, Processor, Returns, Stands, Takes, Uses, called, executed, execute, high_part, instruction_at, is_prefix, left, link, machine, seen, used}
 use Rattle.linker_laws.specs.Ppc64Machine as ppc64_machine
@@ -11,8 +8,6 @@ use Rattle.linker_laws.specs.Ppc64Machine.{Formats, base, by_opcode, go_on, shif
 use Rattle.linker_laws.specs.Ppc64RelocationLaws as relocation_laws
 use Rattle.linker_laws.specs.Ppc64RewriteLaws as laws
 use Rattle.linker_laws.specs.Ppc64RewriteLaws.{IsRelocated, IsRewritten, LowHalfLeads, Use, from_thread, prefixed_of, prefixed_target, thread_offset, word_of}
-use Rattle.linker_laws.specs.Schemes.{AreAddresses, symbol_address}
-use Rattle.linker_laws.specs.Simulation.{State, Agree, AreOf, Group, Kind, Kinds, anything, half, of_link, run, same}
 use Rattle.linker_laws.proofs.AArch64Pairs.{word_is, word_made}
 use Rattle.linker_laws.proofs.Agreement.{agree_go, agree_put, agree_put_old, both_true, group_of, last_counts, others_agree, unchanged as nothing_changes, value_group}
 use Rattle.linker_laws.proofs.CoveredRuns.{holds_of, run_first}
@@ -25,9 +20,9 @@ use Rattle.linker_laws.proofs.Ppc64LowHalves.{OverSteps, steps}
 use Rattle.linker_laws.proofs.Ppc64Offsets.{OffsetSteps, accesses_offset, adds_offset, words_offset}
 use Rattle.linker_laws.proofs.Ppc64Prefixed.{HasPrefixedParts, paddi_parts, paddi_sets, pld_parts, pld_sets, prefixed_after, set_8, step_paddi, step_paddi_over, step_pld}
 use Rattle.linker_laws.proofs.Ppc64PrefixedThreads.{VariableSteps, access_to_direct, displacement_is, general_entry, loads_thread, module_entry, offset_entry, over_thread, pla_parts, sum_to_move, variable_there}
-use Rattle.linker_laws.proofs.Ppc64Words.{HasParts, d_after, ds_after, set, step_addi, step_bl, step_ld, step_nop, wrapped_is}
+use Rattle.linker_laws.proofs.Ppc64Words.{HasParts, d_after, ds_after, set, step_addi, step_bl, step_ld, step_nop}
 use Rattle.linker_laws.proofs.RiscVMachine.{address_is, times_one}
-use Rattle.linker_laws.proofs.Sums.{sum_below, eight}
+use Rattle.linker_laws.proofs.Sums.{sum_below, eight, wrapped_is}
 use Rattle.linker_laws.proofs.Words.{two_words}
 use Rattle.linker_utils.specs.Ppc64Rewrites.{is_addis_over, two_words as two_words_of, nop}
 use Rattle.linker_utils.specs.declared.ppc64.rewrites.RewriteKind.TheVariants as kinds

@@ -1,15 +1,10 @@
 -- The worked program of PowerPC64.
-use Rattle.std.proofs.Common.{◌≡◌, ℕ, ◌^◌, ◌<◌, Bool, true, false, refl, sym, subst, ap, [], ◌∷◌, lit<, lit≤, pos, List, arith, eqb-true, true≢false}
-use Rattle.linker_laws.proofs.Imports.{and_parts, ◌==◌, IsSomeAnd, Operands, D, Ds, is_add_of_thread, is_addi}
-use Rattle.linker_base.specs.Form.{place_sum}
+use Rattle.linker_laws.proofs.Imports.{◌≡◌, ℕ, ◌^◌, ◌<◌, true, false, refl, sym, subst, ap, [], ◌∷◌, lit<, pos, List, eqb-true, and_parts, ◌==◌, IsSomeAnd, Operands, D, Ds, is_add_of_thread, is_addi, place_sum, put, with_register, AreAddresses, Agree, Group, Kinds, State, anything, ends, group, half, of_link, run, same}
 use Rattle.linker_elf.specs.declared.ppc64.relocations.Ppc64Relocation.TheVariants as names
-use Rattle.linker_laws.specs.Changes.{put, with_register}
 use Rattle.linker_laws.specs.Ppc64Groups.{Groups, Leaves, Low, NewLeads, execute, high_part, instruction_at, link, machine, used}
 use Rattle.linker_laws.specs.Ppc64GroupsWorked.{IsWorked, code, new, old, starting}
 use Rattle.linker_laws.specs.SimulationWorked.{all_same, words}
 use Rattle.linker_laws.specs.Ppc64RewriteLaws.{IsRelocated, LowHalfLeads, adds, entry_from_toc, from_thread, from_toc}
-use Rattle.linker_laws.specs.Schemes.{AreAddresses}
-use Rattle.linker_laws.specs.Simulation.{Agree, Group, Kinds, State, anything, ends, group, half, of_link, run, same}
 use Rattle.linker_laws.proofs.Relocated.{applied}
 use Rattle.linker_laws.proofs.Ppc64Groups.{sum_keeps}
 

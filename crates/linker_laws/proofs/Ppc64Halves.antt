@@ -1,9 +1,6 @@
 -- Halves of PowerPC64.
-use Rattle.std.proofs.Common.{◌-◌, ◌≡◌, ℕ, ◌+◌, ◌%◌, ◌^◌, ◌<◌, Bool, true, refl, sym, ◌∙◌, ap, subst, arith, List, [], ◌∷◌, ℤ, pos, ◌+ℤ◌, ◌*ℤ◌, Option, Some}
-use Rattle.linker_laws.proofs.Imports.{w64, cast_signed, field, signed, window_of, replaced, consecutive_bits_sum, IsWithin, ppc64_form, reach_of, ppc64_reads, value_of, sum_64, difference_64, AllowedRange, PageMask, Ppc64Instruction, D, Ds, Ppc64, RelocationKind, Operands, IsApplied}
-use Rattle.linker_base.specs.Form.{place_sum}
+use Rattle.linker_laws.proofs.Imports.{◌-◌, ◌≡◌, ℕ, ◌+◌, ◌%◌, ◌^◌, ◌<◌, Bool, true, refl, sym, ◌∙◌, ap, subst, arith, List, [], ◌∷◌, ℤ, pos, ◌+ℤ◌, ◌*ℤ◌, Option, Some, w64, cast_signed, field, signed, window_of, replaced, consecutive_bits_sum, IsWithin, ppc64_form, reach_of, ppc64_reads, value_of, sum_64, difference_64, AllowedRange, PageMask, Ppc64Instruction, D, Ds, Ppc64, RelocationKind, Operands, IsApplied, place_sum, AreAddresses, Law, none, without_low}
 use Rattle.linker_laws.specs.Ppc64RelocationLaws.{adjusted, unadjusted}
-use Rattle.linker_laws.specs.Schemes.{AreAddresses, Law, none, without_low}
 use Rattle.linker_laws.proofs.Applied.{fits, value_is, taken_bits, ds_stands}
 use Rattle.linker_laws.proofs.Instructions.{HasNumber, IsNumber, IsSmall, first_step, row_of, step_of, is_read, reads_bits, field_sum, multiple}
 use Rattle.linker_laws.proofs.Rounded.{IsRounded}

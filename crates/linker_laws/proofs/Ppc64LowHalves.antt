@@ -1,12 +1,8 @@
 -- PowerPC64: instructions with a low half over the base of the high half, each in two runs.
-use Rattle.std.proofs.Common.{◌≡◌, ℕ, ◌+◌, ◌%◌, ◌^◌, ◌<◌, refl, sym, true, ◌∙◌, ap, arith, List, ℤ, pos, ◌+ℤ◌, ◌*ℤ◌, Some}
-use Rattle.linker_laws.proofs.Imports.{◌==◌, not, and_parts, eqb-true, ints, field, ppc64_form, ppc64_reads, sum_64, difference_64, Operands, Ppc64Instruction, D, Ds, Ppc64Relocation, opcode_of, rt_of, ra_of, is_addi, is_ds_access, RewriteKind}
+use Rattle.linker_laws.proofs.Imports.{◌≡◌, ℕ, ◌+◌, ◌%◌, ◌^◌, ◌<◌, refl, sym, true, ◌∙◌, ap, arith, List, ℤ, pos, ◌+ℤ◌, ◌*ℤ◌, Some, ◌==◌, not, and_parts, eqb-true, ints, field, ppc64_form, ppc64_reads, sum_64, difference_64, Operands, Ppc64Instruction, D, Ds, Ppc64Relocation, opcode_of, rt_of, ra_of, is_addi, is_ds_access, RewriteKind, over_base, is_vector_access, AreAddresses, symbol_address, IsAddress, moved}
 use Rattle.linker_elf.specs.declared.ppc64.relocations.Ppc64Relocation.TheVariants as names
-use Rattle.linker_utils.specs.Ppc64Rewrites.{over_base, is_vector_access}
 use Rattle.linker_utils.specs.declared.ppc64.rewrites.RewriteKind.TheVariants as kinds
 use Rattle.linker_laws.specs.Ppc64RelocationLaws as relocation_laws
-use Rattle.linker_laws.specs.Schemes.{AreAddresses, symbol_address, IsAddress}
-use Rattle.linker_laws.specs.Machine.{moved}
 use Rattle.linker_laws.specs.Ppc64RewriteLaws.{word_of, IsRelocated, IsRewritten, at_place, access_number, ds_access, is_d_over, is_ds_over_base}
 use Rattle.linker_laws.specs.Ppc64Groups as groups
 use Rattle.linker_laws.specs.Ppc64RewriteLaws as laws
@@ -15,9 +11,9 @@ use Rattle.linker_laws.proofs.AArch64Pairs.{word_made}
 use Rattle.linker_laws.proofs.Ppc64Accesses.{step_access, d_access_parts, ds_parts, step_word}
 use Rattle.linker_laws.proofs.Ppc64Addresses.{same_parts, some_of}
 use Rattle.linker_laws.proofs.Ppc64Apart.{Does, IsBase, Keeps, base_some}
-use Rattle.linker_laws.proofs.Ppc64Words.{HasParts, d_after, ds_after, set, step_addi, wrapped_is}
+use Rattle.linker_laws.proofs.Ppc64Words.{HasParts, d_after, ds_after, set, step_addi}
 use Rattle.linker_laws.proofs.RiscVMachine.{address_is}
-use Rattle.linker_laws.proofs.Sums.{lift, sum_below}
+use Rattle.linker_laws.proofs.Sums.{lift, sum_below, wrapped_is}
 
 -- The whole distance leads from another begin to what is as far from there.
 pub whole_from : (begin target t : ℕ) (a : ℤ) → begin < 2 ^ 64 → target < 2 ^ 64

@@ -1,17 +1,13 @@
 -- PowerPC64: instructions of thread-local sequences of prefixed code, each in two runs.
-use Rattle.std.proofs.Common.{◌≡◌, ℕ, ◌+◌, ◌*◌, ◌/◌, ◌%◌, ◌^◌, ◌<◌, refl, sym, ◌∙◌, ap, subst, arith, List, eqb, ℤ, pos, ◌+ℤ◌, Some, drop, take, inl, inr, Bool, true, false}
-use Rattle.linker_laws.proofs.Imports.{◌&&◌, ◌==◌, if◌then◌else◌, and_parts, or_cases, cases_Bool, eqb-true, cond-true, cond-false, eq-eqb, eqb_tells, ints, field, signed, bits_to, replaced, consecutive_bits_sum, ppc64_form, sum_64, Operands, D, Ds, Prefixed, opcode_of, rt_of, ra_of, rb_of, access_of, registers_of, addi_of_thread, by_displacement, by_word_displacement, is_access, is_add_of_thread, is_indexed, is_indexed_word, is_pla, is_word_access, RewriteKind}
-use Rattle.linker_base.specs.Form.{place_sum}
+use Rattle.linker_laws.proofs.Imports.{◌≡◌, ℕ, ◌+◌, ◌*◌, ◌/◌, ◌%◌, ◌^◌, ◌<◌, refl, sym, ◌∙◌, ap, subst, arith, List, eqb, ℤ, pos, ◌+ℤ◌, Some, drop, take, inl, inr, Bool, true, false, ◌&&◌, ◌==◌, if◌then◌else◌, and_parts, or_cases, cases_Bool, eqb-true, cond-true, cond-false, eq-eqb, eqb_tells, ints, field, signed, bits_to, replaced, consecutive_bits_sum, ppc64_form, sum_64, Operands, D, Ds, Prefixed, opcode_of, rt_of, ra_of, rb_of, access_of, registers_of, addi_of_thread, by_displacement, by_word_displacement, is_access, is_add_of_thread, is_indexed, is_indexed_word, is_pla, is_word_access, RewriteKind, place_sum, moved, AreAddresses, symbol_address}
 use Rattle.linker_base.proofs.Places.{sums}
 use Rattle.linker_elf.specs.declared.ppc64.relocations.Ppc64Relocation.TheVariants as names
 use Rattle.linker_utils.specs.Ppc64Rewrites.{nop, direct, ld_of, is_indexed_any, move_of, to_move, two_words as both_words}
 use Rattle.linker_utils.specs.declared.ppc64.rewrites.RewriteKind.TheVariants as kinds
-use Rattle.linker_laws.specs.Machine.{moved}
 use Rattle.linker_laws.specs.Ppc64Machine.{State, Formats, Access, accessed, access_with, write, by_opcode, execute, go_on, step, word_access_with}
 use Rattle.linker_laws.specs.Ppc64RelocationLaws as relocation_laws
 use Rattle.linker_laws.specs.Ppc64RewriteLaws.{IsRelocated, accesses, adds, from_thread, prefixed_of, word_of}
 use Rattle.linker_laws.specs.Ppc64RewriteLaws as laws
-use Rattle.linker_laws.specs.Schemes.{AreAddresses, symbol_address}
 use Rattle.linker_laws.proofs.AArch64Pairs.{word_made}
 use Rattle.linker_laws.proofs.Ppc64Accesses.{step_access, indexed_parts, below, indexed_word_parts, is_direct, step_word}
 use Rattle.linker_laws.proofs.Ppc64Apart.{Does, base_some}
@@ -20,9 +16,9 @@ use Rattle.linker_laws.proofs.Ppc64Calls.{first_made, second_made}
 use Rattle.linker_laws.proofs.Ppc64LowHalves.{whole_from}
 use Rattle.linker_laws.proofs.Ppc64Offsets.{SumSteps, accesses_sum, adds_sum, words_sum}
 use Rattle.linker_laws.proofs.Ppc64Prefixed.{HasPrefixedParts, of_words}
-use Rattle.linker_laws.proofs.Ppc64Words.{set, step_nop, wrapped_is}
+use Rattle.linker_laws.proofs.Ppc64Words.{set, step_nop}
 use Rattle.linker_laws.proofs.RiscVMachine.{address_is, times_one}
-use Rattle.linker_laws.proofs.Sums.{sum_below}
+use Rattle.linker_laws.proofs.Sums.{sum_below, wrapped_is}
 use Rattle.linker_laws.proofs.Words.{two_words}
 
 -- ---- their words

@@ -1,10 +1,6 @@
 -- Numbers of 64 bits of PowerPC64 by parts of 16 bits.
-use Rattle.std.proofs.Common.{◌≡◌, ℕ, ◌+◌, ◌-◌, ◌*◌, ◌/◌, ◌%◌, ◌^◌, ◌<◌, Bool, refl, sym, ◌∙◌, ap, subst, arith, List, [], ◌∷◌, pos, Option, Some}
-use Rattle.linker_laws.proofs.Imports.{w64, cast_signed, mod_below, pow_pos, field, window_of, replaced, consecutive_bits_sum, ppc64_form, ppc64_reads, value_of, AllowedRange, PageMask, Ppc64Instruction, D, Ppc64, RelocationKind, Operands, IsApplied, sum_64}
-use Rattle.linker_base.specs.Form.{place_sum}
-use Rattle.linker_elf.specs.declared.ppc64.forms.Ppc64Instruction.TheVariants.{DUnsigned}
+use Rattle.linker_laws.proofs.Imports.{◌≡◌, ℕ, ◌+◌, ◌-◌, ◌*◌, ◌/◌, ◌%◌, ◌^◌, ◌<◌, Bool, refl, sym, ◌∙◌, ap, subst, arith, List, [], ◌∷◌, pos, Option, Some, w64, cast_signed, mod_below, pow_pos, field, window_of, replaced, consecutive_bits_sum, ppc64_form, ppc64_reads, value_of, AllowedRange, PageMask, Ppc64Instruction, D, Ppc64, RelocationKind, Operands, IsApplied, sum_64, place_sum, DUnsigned, Law, none}
 use Rattle.linker_laws.specs.Ppc64RelocationLaws.{adjusted_quarters, unadjusted_quarters, upper_parts}
-use Rattle.linker_laws.specs.Schemes.{Law, none}
 use Rattle.linker_laws.proofs.Ppc64Halves.{ReadsLow, adjusted_low, d_field}
 use Rattle.linker_laws.proofs.Rounded.{IsRounded}
 use Rattle.linker_laws.proofs.Instructions.{FirstHasNumber, HasNumber, IsNumber, first_step, row_of, field_sum, step_of}

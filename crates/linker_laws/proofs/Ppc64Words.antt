@@ -1,10 +1,7 @@
 -- Words of PowerPC64 to which a relocation was applied, and the steps of their instructions.
-use Rattle.std.proofs.Common.{◌≡◌, ◌≢◌, ℕ, ◌+◌, ◌*◌, ◌%◌, ◌^◌, ◌<◌, refl, sym, ◌∙◌, ap, arith, List, [], eqb, ℤ, pos, ◌+ℤ◌, ◌*ℤ◌, Some}
-use Rattle.linker_laws.proofs.Imports.{w32, from_le_bytes, eq-eqb, ne_eqb, cond-true, cond-false, ints, field, bits_to, BitRange, ppc64_form, opcode_of, rt_of, ra_of, rb_of, InstructionWritten, sum_64, difference_64, Ppc64, Branch24, D, Ds}
+use Rattle.linker_laws.proofs.Imports.{◌≡◌, ◌≢◌, ℕ, ◌+◌, ◌*◌, ◌%◌, ◌^◌, ◌<◌, refl, sym, ◌∙◌, ap, arith, List, [], eqb, ℤ, pos, ◌+ℤ◌, ◌*ℤ◌, Some, w32, from_le_bytes, eq-eqb, ne_eqb, cond-true, cond-false, ints, field, bits_to, BitRange, ppc64_form, opcode_of, rt_of, ra_of, rb_of, InstructionWritten, sum_64, difference_64, Ppc64, Branch24, D, Ds, IsAddress, moved, wrapped, loaded}
 use Rattle.linker_utils.specs.Ppc64Rewrites.{nop}
-use Rattle.linker_laws.specs.Schemes.{IsAddress}
-use Rattle.linker_laws.proofs.Sums.{lift, lifted_is}
-use Rattle.linker_laws.specs.Machine.{moved, wrapped, loaded}
+use Rattle.linker_laws.proofs.Sums.{lift, wrapped_is}
 use Rattle.linker_laws.specs.Ppc64Machine.{State, Formats, step, execute, by_opcode, of_58, base, write, go_on, go_to, next_pc, shifted_sum, d_address, ds_address}
 use Rattle.linker_laws.proofs.AArch64Words.{field_kept}
 use Rattle.linker_laws.proofs.RiscVMachine.{address_is, moved_twice}
@@ -48,9 +45,6 @@ pub sum_leads : (t target : ℕ) (a b : ℤ) → IsAddress ((pos t +ℤ a) +ℤ 
 sum_leads t target a b h =
     moved_twice t a b ∙ ap wrapped (let e : pos t +ℤ (a +ℤ b) ≡ (pos t +ℤ a) +ℤ b = omega (arith, ints) in e)
     ∙ address_is _ _ h
-
-pub wrapped_is : (z : ℤ) (t n : ℕ) → z +ℤ pos (t * 2 ^ 64) ≡ pos n → wrapped z ≡ n % 2 ^ 64
-wrapped_is z t n e = address_is z _ (lifted_is z t n e)
 
 -- The same halves lead from another begin to what is as far from there.
 pub sum_from : (begin target t : ℕ) (a b : ℤ) → begin < 2 ^ 64 → target < 2 ^ 64

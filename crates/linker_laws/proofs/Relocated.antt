@@ -1,15 +1,10 @@
 -- Relocations of a program that is given: by computation, what they write is what their rows say.
-use Rattle.std.proofs.Common.{◌≡◌, ◌≢◌, ℕ, zero, suc, ◌+◌, ◌-◌, ◌^◌, ◌<◌, ◌≤◌, Bool, true, false, refl, sym, ◌∙◌, Option, None, int_lt, length, ℤ, subst, arith, drop, Some, ◌*◌, List, [], ◌∷◌, pos, true≢false, eqb-true, inl, inr, ltb-true, leb, leb-true, leb-false}
-use Rattle.linker_laws.proofs.Imports.{and_parts, cond-false, ◌==◌, ◌&&◌, ◌||◌, ◌⊎◌, bit_at, eq-eqb, All-nil, All-cons, BitsWritten, ImmediateBit, bit_for, is_placed, placed_bit, window_of, IsApplied, IsWithin, reach_of, relocation_form, InstructionWritten, bits_taken, places_cleared, with_bit_31_if, value_of, AllowedRange, BitRange, PageMask, RelocationInstruction, RelocationKind, RelocationKindInfo, Operands}
+use Rattle.linker_laws.proofs.Imports.{◌≡◌, ◌≢◌, ℕ, zero, suc, ◌+◌, ◌-◌, ◌^◌, ◌<◌, ◌≤◌, Bool, true, false, refl, sym, ◌∙◌, Option, None, int_lt, length, ℤ, subst, arith, drop, Some, ◌*◌, List, [], ◌∷◌, pos, true≢false, eqb-true, inl, inr, ltb-true, leb, leb-true, leb-false, and_parts, cond-false, ◌==◌, ◌&&◌, ◌||◌, ◌⊎◌, bit_at, eq-eqb, All-nil, All-cons, BitsWritten, ImmediateBit, bit_for, is_placed, placed_bit, window_of, IsApplied, IsWithin, reach_of, relocation_form, InstructionWritten, bits_taken, places_cleared, with_bit_31_if, value_of, AllowedRange, BitRange, PageMask, RelocationInstruction, RelocationKind, RelocationKindInfo, Operands, byte_len, HoldsBits, IsAccepted, IsEncoded, IsMultiple, IsReached, bits_at, insn_at, is_32_bit_move, is_supported, number_placed, value_at, window_len, le_yes, AreAddresses}
 use Rattle.std.specs.Prelude.{All, nat_le, nat_lt}
-use Rattle.std.specs.Int.{byte_len}
 use Rattle.std.proofs.lemmas.Nat.Bits.{bit_at_above}
-use Rattle.linker_elf.specs.Relocate.{HoldsBits, IsAccepted, IsEncoded, IsMultiple, IsReached, bits_at, insn_at, is_32_bit_move, is_supported, number_placed, value_at, window_len}
-use Rattle.linker_elf.proofs.Agreement.{le_yes}
 use Rattle.std.proofs.lemmas.Float.{T_from_true}
 use Rattle.std.specs.Int.Signed.{le_z, lt_z, lt_z_yes}
 use Rattle.linker_laws.proofs.Instructions.{row_of}
-use Rattle.linker_laws.specs.Schemes.{AreAddresses}
 use Rattle.linker_laws.specs.SimulationWorked.{entry}
 
 -- ---- bits that are written, by computation

@@ -1,9 +1,7 @@
 -- Upper and low parts of RISC-V, and calls.
-use Rattle.std.proofs.Common.{◌≡◌, ℕ, ◌-◌, ◌*◌, ◌%◌, ◌^◌, Bool, refl, sym, ◌∙◌, ap, subst, arith, [], ◌∷◌, ℤ, pos, ◌+ℤ◌, ◌-ℤ◌, Option, Some, int_lt, unsigned_abs}
-use Rattle.linker_laws.proofs.Imports.{w64, cast_signed, int_rem_euclid, ints, int_rem_euclid_is, window_of, BitRange, SizeHolds, InstructionWritten, riscv_form, value_of, AllowedRange, PageMask, RiscV, RelocationKind, BitMasking, RiscVInstruction, UiType, Operands}
-use Rattle.linker_elf.specs.Relocate.{IsCompletedBy, RiscVHolds}
+use Rattle.linker_laws.proofs.Imports.{◌≡◌, ℕ, ◌-◌, ◌*◌, ◌%◌, ◌^◌, Bool, refl, sym, ◌∙◌, ap, subst, arith, [], ◌∷◌, ℤ, pos, ◌+ℤ◌, ◌-ℤ◌, Option, Some, int_lt, unsigned_abs, w64, cast_signed, int_rem_euclid, ints, int_rem_euclid_is, window_of, BitRange, SizeHolds, InstructionWritten, riscv_form, value_of, AllowedRange, PageMask, RiscV, RelocationKind, BitMasking, RiscVInstruction, UiType, Operands, IsCompletedBy, IsAddress, Law, none, place}
+use Rattle.linker_elf.specs.Relocate.{RiscVHolds}
 use Rattle.linker_laws.specs.RiscVRelocationLaws.{without_bit_0, even, upper_and_low}
-use Rattle.linker_laws.specs.Schemes.{IsAddress, Law, none, place}
 use Rattle.linker_laws.proofs.Applied.{value_is, holds}
 use Rattle.linker_laws.proofs.Instructions.{IsNumber, first_step, row_of, step_of}
 use Rattle.linker_laws.proofs.Sums.{goes, lift, lifted_is}

@@ -1,13 +1,9 @@
 -- RISC-V: what loads, stores and sums leave of states that agree.
-use Rattle.std.proofs.Common.{◌≡◌, ◌⊎◌, ℕ, zero, suc, ◌+◌, ◌-◌, ◌*◌, ◌%◌, ◌^◌, ◌<◌, ◌≤◌, refl, sym, ◌∙◌, ap, ap₂, subst, arith, inl, inr, pos, true≢false, ℤ}
-use Rattle.linker_laws.proofs.Imports.{int_rem_euclid, ◌==◌, if◌then◌else◌, nat_lt, cond-false, cond-true, cases_lt, le-ltb, lt-ltb, ne_eqb, rem_below, difference_64, sum_64}
-use Rattle.linker_laws.specs.Changes.{put, with_register}
-use Rattle.linker_laws.specs.Machine.{Memory, extended, loaded, stored}
+use Rattle.linker_laws.proofs.Imports.{◌≡◌, ◌⊎◌, ℕ, zero, suc, ◌+◌, ◌-◌, ◌*◌, ◌%◌, ◌^◌, ◌<◌, ◌≤◌, refl, sym, ◌∙◌, ap, ap₂, subst, arith, inl, inr, pos, true≢false, ℤ, int_rem_euclid, ◌==◌, if◌then◌else◌, nat_lt, cond-false, cond-true, cases_lt, le-ltb, lt-ltb, ne_eqb, rem_below, difference_64, sum_64, put, with_register, Memory, extended, loaded, stored, State, Agree, AreOf, AreStored, Kind, Kinds, anything, code, half, same}
 use Rattle.linker_laws.specs.RiscVGroups as groups
 use Rattle.linker_laws.specs.RiscVGroups.{AreApart, BeginsAt, Code, HasRoom, left, link, seen, with_stored}
 use Rattle.linker_laws.specs.RiscVGroups.AreUsed.{as_loaded, as_loaded_float, as_stored, as_stored_float, as_sum, as_target, as_whole, as_word}
 use Rattle.linker_laws.specs.RiscVMachine.{boxed, bytes_of, goes_to, load_number, register, rs2_of, with_float, with_integer}
-use Rattle.linker_laws.specs.Simulation.{State, Agree, AreOf, AreStored, Kind, Kinds, anything, code, half, same}
 use Rattle.linker_laws.proofs.Agreement.{agree_put}
 use Rattle.linker_laws.proofs.RiscVDescriptors.{whole_number}
 use Rattle.linker_laws.proofs.RiscVGroups.{below_32, counts, wrote}

@@ -1,19 +1,12 @@
 -- RISC-V's groups.
-use Rattle.std.proofs.Common.{Bool, add-one, zero, ◌≡◌, ◌≢◌, ℕ, suc, ◌+◌, ◌-◌, ◌*◌, ◌%◌, ◌^◌, ◌<◌, ◌≤◌, true, false, refl, sym, ◌∙◌, ap, ap₂, subst, arith, List, [], ◌∷◌, length, take, drop, Some, le_refl, w64, pos, ◌+ℤ◌, ◌-ℤ◌, ℤ, inl, inr}
-use Rattle.linker_laws.proofs.Imports.{◌==◌, if◌then◌else◌, nat_lt, option_map, IsSomeAnd, IsTrue, w16, w32, cast_signed, from_le_bytes, int_rem_euclid, cond-true, cond-false, cases_lt, lt-ltb, le-ltb, ne_eqb, ints, field, signed, rewritten, low_12_bounds, IsWithin, riscv_form, riscv_places, pair_row, riscv_row, difference_64, sum_64, RelocationKind, Absolute, TpOff, PltRelative, RelocationKindInfo, Operands, UType, IType, SType, CluiType, CjType, JType, UiType, IsCallPair, funct3_of, word_of_front, rewrites_word, with_rs1, IsApplied}
-use Rattle.std.specs.Prelude.{Option, sum, ⊤}
-use Rattle.linker_base.specs.Form.{place_sum}
-use Rattle.linker_elf.specs.declared.elf.RelocationKind.TheVariants.{GotRelative, GotTpOff, Relative, RelativeRiscVLow12, TlsDesc}
+use Rattle.linker_laws.proofs.Imports.{Bool, add-one, zero, ◌≡◌, ◌≢◌, ℕ, suc, ◌+◌, ◌-◌, ◌*◌, ◌%◌, ◌^◌, ◌<◌, ◌≤◌, true, false, refl, sym, ◌∙◌, ap, ap₂, subst, arith, List, [], ◌∷◌, length, take, drop, Some, le_refl, w64, pos, ◌+ℤ◌, ◌-ℤ◌, ℤ, inl, inr, ◌==◌, if◌then◌else◌, nat_lt, option_map, IsSomeAnd, IsTrue, w16, w32, cast_signed, from_le_bytes, int_rem_euclid, cond-true, cond-false, cases_lt, lt-ltb, le-ltb, ne_eqb, ints, field, signed, rewritten, low_12_bounds, IsWithin, riscv_form, riscv_places, pair_row, riscv_row, difference_64, sum_64, RelocationKind, Absolute, TpOff, PltRelative, RelocationKindInfo, Operands, UType, IType, SType, CluiType, CjType, JType, UiType, IsCallPair, funct3_of, word_of_front, rewrites_word, with_rs1, IsApplied, Option, sum, ⊤, place_sum, GotRelative, GotTpOff, Relative, TlsDesc, go_to, put, with_register, AreBytes, loaded, moved, wrapped, AreAddresses, entry_and_addend, plt_address, symbol_address, State, Program, Agree, AreOf, Group, Kind, Kinds, anything, of_link, run, same, suc-add}
+use Rattle.linker_elf.specs.declared.elf.RelocationKind.TheVariants.{RelativeRiscVLow12}
 use Rattle.linker_elf.specs.declared.riscv64.relocations.RiscVRelocation.TheVariants as names
-use Rattle.linker_laws.specs.Changes.{go_to, put, with_register}
-use Rattle.linker_laws.specs.Machine.{AreBytes, loaded, moved, wrapped}
 use Rattle.linker_laws.specs.RiscVGroups as groups
 use Rattle.linker_laws.specs.RiscVGroups.{AreBefore, AreDeleted, Code, Has, Stands, bytes_at, continued, instruction_at, left, link, machine, seen, LowPartOf, upper, upper_from, uses}
 use Rattle.linker_laws.specs.RiscVMachine.{Action, Hart, Instruction, action_of, add, adds, adds_word, auipc, executed, goes_to, i_type, jal, jumps, load_number, loads, loads_float, lui, of_half, of_word, register, rs1_of, rs2_of, s_type, step, stores, stores_float, sums, used, with_action, with_integer, with_number}
 use Rattle.linker_laws.specs.RiscVRelocationLaws.{AbsoluteAddresses, DescriptorAddresses, EntryAddresses, RelativeAddresses, ThreadAddresses, even}
 use Rattle.linker_laws.specs.RiscVRewriteLaws.{action_at, after_rewrite, IsLoadFromGot, IsLow12, low_row, of_entry, offset_row, t0, thread_offset, word_of}
-use Rattle.linker_laws.specs.Schemes.{AreAddresses, entry_and_addend, plt_address, symbol_address}
-use Rattle.linker_laws.specs.Simulation.{State, Program, Agree, AreOf, Group, Kind, Kinds, anything, of_link, run, same}
 use Rattle.linker_laws.proofs.AArch64Moves.{distance_is}
 use Rattle.linker_laws.proofs.AArch64Steps.{in_two_steps}
 use Rattle.linker_laws.proofs.Agreement.{agree_open, agree_put, agree_put_old, group_of, last_counts, others_agree, unchanged, value_group}
@@ -23,7 +16,7 @@ use Rattle.linker_laws.proofs.RiscVHighParts.{IsFormulaOf, absolute_is, high_20,
 use Rattle.linker_laws.proofs.RiscVJumps.{high_decodes, high_long, jump_leads, low_decodes, low_long, pair_base, pair_leads, pair_link, pair_register, same_destination, same_opcode, short_jump_function, short_jump_leads, short_jump_low}
 use Rattle.linker_laws.proofs.RiscVLowParts.{IsBased, clear_0, clear_7, clear_12, clear_15, clear_20, i_kept, i_stands, is_action, low_sum, over_tp, over_zero, s_kept, s_stands, some_action, word_there}
 use Rattle.linker_laws.proofs.RiscVMachine.{address_is, fetched_half, fetched_word, is_cj, is_jal, is_long, is_sum, moved_twice, other, written}
-use Rattle.linker_laws.proofs.Sums.{lifted_is, sum_below, eight}
+use Rattle.linker_laws.proofs.Sums.{lifted_is, sum_below, sum_on, eight}
 use Rattle.linker_laws.proofs.Words.{half_of_bytes, put_there, word_below, word_of_bytes}
 use Rattle.linker_riscv64.specs.RiscVFields.{opcode_of, rd_of}
 use Rattle.linker_utils.proofs.RiscVRewrites.{half_of_front}
@@ -864,12 +857,6 @@ are_low_addresses entries c x y k s auipc_bytes ld at load one is_low new =
 
 -- ---- TLS descriptors
 
-twelve : (a : ℕ) → sum_64 (sum_64 a 8) 4 ≡ sum_64 a 12
-twelve a = omega arith
-
-sixteen : (a : ℕ) → sum_64 (sum_64 a 12) 4 ≡ sum_64 a 16
-sixteen a = omega arith
-
 -- The sequence ends at the function.
 descriptor_goes : DescriptorAddresses → (c : Code) (x : Operands) (offset : ℕ) (k : Kinds) (s : State)
     (k' : Kinds) (s' : State) (auipc_bytes ld addi jalr : List ℕ)
@@ -920,7 +907,7 @@ descriptor_goes descriptors c x offset k s k' s' auipc_bytes ld addi jalr d =
     (load_goes c.others c.old s1 TlsDesc x ld d.low.relocated (sum_64 x.place 4) _ Y refl (eight x.place) d.low.stands refl
     X f a2 ws.second.0 ws.second.1 ws.base_of_ld loaded_is)
     (run_first 1 p s2 s3 _
-    (sum_goes c.others c.old s2 TlsDesc x addi d.sum.relocated (sum_64 x.place 8) _ a0 refl (twelve x.place) d.sum.stands
+    (sum_goes c.others c.old s2 TlsDesc x addi d.sum.relocated (sum_64 x.place 8) _ a0 refl (sum_on x.place 8 4) d.sum.stands
     ws.third.2 X entry a3 ws.third.0 ws.third.1 ws.base_of_addi (ap (λ n. moved n j) base2 ∙ passes))
     (once p s3 s4
     (puts p s3 4 (sums jumps t0 Y 0 (pos 0)) t0 (sum_64 x.place 16) f (omega arith)
@@ -929,7 +916,7 @@ descriptor_goes descriptors c x offset k s k' s' auipc_bytes ld addi jalr d =
     (call_word (word_of jalr) Y w4.0 w4.1 w4.2 ws.base_of_jalr w4.3))
     (ap (λ n. goes_to (moved n (pos 0) - moved n (pos 0) % 2)
     (with_integer t0 (sum_64 (sum_64 x.place 12) 4) (seen s3))) function3
-    ∙ ap₂ (λ n r. goes_to n (with_integer t0 r (seen s3))) target (sixteen x.place))))))
+    ∙ ap₂ (λ n r. goes_to n (with_integer t0 r (seen s3))) target (sum_on x.place 12 4))))))
 
 -- nops do nothing: x0 keeps nothing
 nop_goes : (c : Code) (t : State) (at : ℕ) (instruction : List ℕ) → t.pc ≡ at
@@ -1018,7 +1005,7 @@ descriptor_group descriptors c n m offset at x k k' s s' auipc_bytes ld addi jal
     record {
       more = 3 + d.executes;
       old_goes =
-          subst (λ n. run n (machine c.others c.old) s ≡ Some s') (after_four d.executes)
+          subst (λ n. run n (machine c.others c.old) s ≡ Some s') (suc-add 3 d.executes)
           (run_on 4 d.executes (machine c.others c.old) s _ (Some s')
           (descriptor_goes descriptors c x offset k s k' s' auipc_bytes ld addi jalr d) d.returns);
       new_goes = λ t agree.
@@ -1033,9 +1020,6 @@ descriptor_group descriptors c n m offset at x k k' s s' auipc_bytes ld addi jal
           (sum_64 x.place 16) next p.agree (sum_below x.place 16) nops.next refl) d.changes);
       forward = λ none. absurd (omega (arith, none));
     }
-  where
-    after_four : (n : ℕ) → 4 + n ≡ suc (3 + n)
-    after_four n = omega arith
 
 pub are_to_local_exec : DescriptorAddresses → ThreadAddresses → groups.DescriptorToLocalExec
 are_to_local_exec descriptors thread c n at x y k k' s s' auipc_bytes ld addi jalr d sy one nops long_addi long_jalr high low =

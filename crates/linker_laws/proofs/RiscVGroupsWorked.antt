@@ -1,17 +1,11 @@
 -- The worked program of RISC-V.
-use Rattle.std.proofs.Common.{◌≡◌, ℕ, ◌+◌, ◌-◌, ◌^◌, ◌<◌, ◌≤◌, Bool, true, false, refl, sym, ◌∙◌, ap, subst, arith, List, [], ◌∷◌, length, Option, lit<, lit≤, pos, Some, inr}
-use Rattle.linker_laws.proofs.Imports.{IsSomeAnd, nat_lt, min, cond-false, cond-true, ltb-true, ints, IsApplied, riscv_row, difference_64, sum_64, RelocationKindInfo, Operands}
-use Rattle.std.specs.Prelude.{◌%◌, unsigned_abs}
-use Rattle.linker_base.specs.Form.{place_sum}
+use Rattle.linker_laws.proofs.Imports.{◌≡◌, ℕ, ◌+◌, ◌-◌, ◌^◌, ◌<◌, ◌≤◌, Bool, true, false, refl, sym, ◌∙◌, ap, subst, arith, List, [], ◌∷◌, length, Option, lit<, lit≤, pos, Some, inr, IsSomeAnd, nat_lt, min, cond-false, cond-true, ltb-true, ints, IsApplied, riscv_row, difference_64, sum_64, RelocationKindInfo, Operands, ◌%◌, unsigned_abs, place_sum, put, with_register, moved as plus, Agree, Group, Kinds, Other, State, anything, ends, group, of_link, other, run, same}
 use Rattle.linker_elf.specs.declared.riscv64.relocations.RiscVRelocation.TheVariants as names
-use Rattle.linker_laws.specs.Changes.{put, with_register}
-use Rattle.linker_laws.specs.Machine.{moved as plus}
 use Rattle.linker_laws.specs.RiscVGroups.{Groups, Has, Stands, continued, instruction_at, link, machine, HasRoom, left, of_place, seen, uses, with_stored}
 use Rattle.linker_laws.specs.RiscVGroups.AreUsed.{as_stored, as_sum}
 use Rattle.linker_laws.specs.RiscVGroupsWorked.{EndsAt, IsWorked, code, moved, new, old, others, starting}
 use Rattle.linker_laws.specs.RiscVMachine.{adds, goes_to, stores, step, with_integer}
 use Rattle.linker_laws.specs.RiscVRewriteLaws.{after_rewrite, of_entry}
-use Rattle.linker_laws.specs.Simulation.{Agree, Group, Kinds, Other, State, anything, ends, group, of_link, other, run, same}
 use Rattle.linker_utils.specs.declared.riscv64.rewrites.RewriteKind.TheVariants as kinds
 use Rattle.linker_laws.specs.SimulationWorked.{all_same, words}
 use Rattle.linker_laws.proofs.Relocated.{nothing, small, all_small, are_bytes, applied}

@@ -1,15 +1,10 @@
 -- What `lui` and `c.lui` put in a register, once their relocations are applied.
-use Rattle.std.proofs.Common.{◌≡◌, ◌≢◌, ℕ, zero, suc, ◌+◌, ◌-◌, ◌*◌, ◌/◌, ◌%◌, ◌^◌, ◌<◌, ◌≤◌, false, refl, sym, ◌∙◌, ap, subst, arith, List, length, ℤ, pos, negsuc, Some, None, inl, inr, ◌⊎◌, if◌then◌else◌, w64, Option}
-use Rattle.linker_laws.proofs.Imports.{◌==◌, ◌&&◌, ◌||◌, not, w16, w32, from_le_bytes, cast_signed, cases_lt, ints, to_z_pos, field, signed, BitRange, signed_cases, low_12_bounds, IsWithin, riscv_form, riscv_places, pair_row, sum_64, difference_64, value_of, RelocationKind, Absolute, TpOff, RiscVInstruction, Operands, UType, CluiType, CjType, cast_negative, IsApplied}
-use Rattle.linker_base.specs.Form.{place_sum}
-use Rattle.linker_elf.specs.Reach.{clui_bounds}
+use Rattle.linker_laws.proofs.Imports.{◌≡◌, ◌≢◌, ℕ, zero, suc, ◌+◌, ◌-◌, ◌*◌, ◌/◌, ◌%◌, ◌^◌, ◌<◌, ◌≤◌, false, refl, sym, ◌∙◌, ap, subst, arith, List, length, ℤ, pos, negsuc, Some, None, inl, inr, ◌⊎◌, if◌then◌else◌, w64, Option, ◌==◌, ◌&&◌, ◌||◌, not, w16, w32, from_le_bytes, cast_signed, cases_lt, ints, to_z_pos, field, signed, BitRange, signed_cases, low_12_bounds, IsWithin, riscv_form, riscv_places, pair_row, sum_64, difference_64, value_of, RelocationKind, Absolute, TpOff, RiscVInstruction, Operands, UType, CluiType, CjType, cast_negative, IsApplied, place_sum, clui_bounds, symbol_address, wrapped}
 use Rattle.linker_riscv64.specs.RiscVFields.{rd_of}
 use Rattle.linker_elf.proofs.RiscV.{u_laid, clui_laid}
-use Rattle.linker_laws.specs.Schemes.{symbol_address}
 use Rattle.linker_laws.proofs.Applied.{value_is, taken_bits}
 use Rattle.linker_laws.proofs.Instructions.{unbiased}
 use Rattle.linker_laws.proofs.Sums.{sum_below}
-use Rattle.linker_laws.specs.Machine.{wrapped}
 use Rattle.linker_laws.specs.RiscVRewriteLaws.{IsLow12, thread_offset}
 use Rattle.linker_laws.specs.RiscVMachine.{lui, sums, jal, of_half, of_clui, Instruction, adds, cli_immediate}
 use Rattle.linker_laws.proofs.Words.{kept_field}

@@ -1,16 +1,10 @@
 -- The instructions that add a low part do the same with x0 as their base.
-use Rattle.std.proofs.Common.{◌≡◌, ℕ, ◌+◌, ◌-◌, ◌*◌, ◌%◌, ◌^◌, ◌<◌, ◌≤◌, Bool, true, false, refl, sym, ◌∙◌, ap, subst, arith, List, length, drop, ◌++◌, ℤ, pos, ◌-ℤ◌, ◌+ℤ◌, Option, Some, None, inl, inr, ◌⊎◌, if◌then◌else◌, w64, int_lt}
-use Rattle.linker_laws.proofs.Imports.{◌==◌, ◌&&◌, ◌||◌, nat_lt, IsTrue, w32, from_le_bytes, to_le_bytes, cast_signed, and_parts, eqb-true, agree_below, ints, length-drop, field, signed, is_placed, rewritten, BitRange, layout_laid, always_clear, signed_cases, bits_taken, riscv_form, riscv_places, rewrites_word, with_rs1, RelocationKind, funct3_of, pair_row, sum_64, value_of, Operands, UType, IType, SType, JType, word_of_front, IsApplied}
-use Rattle.std.proofs.lemmas.Bool.{cond_both}
-use Rattle.linker_base.specs.Form.{place_sum}
-use Rattle.linker_elf.specs.RiscV.{riscv_layout}
+use Rattle.linker_laws.proofs.Imports.{◌≡◌, ℕ, ◌+◌, ◌-◌, ◌*◌, ◌%◌, ◌^◌, ◌<◌, ◌≤◌, Bool, true, false, refl, sym, ◌∙◌, ap, subst, arith, List, length, drop, ◌++◌, ℤ, pos, ◌-ℤ◌, ◌+ℤ◌, Option, Some, None, inl, inr, ◌⊎◌, if◌then◌else◌, w64, int_lt, ◌==◌, ◌&&◌, ◌||◌, nat_lt, IsTrue, w32, from_le_bytes, to_le_bytes, cast_signed, and_parts, eqb-true, agree_below, ints, length-drop, field, signed, is_placed, rewritten, BitRange, layout_laid, always_clear, signed_cases, bits_taken, riscv_form, riscv_places, rewrites_word, with_rs1, RelocationKind, funct3_of, pair_row, sum_64, value_of, Operands, UType, IType, SType, JType, word_of_front, IsApplied, cond_both, place_sum, riscv_layout, word_at, AreBytes, moved}
 use Rattle.linker_utils.specs.declared.riscv64.rewrites.RewriteKind.{RewriteKind}
-use Rattle.linker_riscv64.specs.RiscVCalls.{word_at}
 use Rattle.linker_riscv64.specs.RiscVFields.{opcode_of, rd_of}
 use Rattle.linker_utils.specs.RiscVRewrites.{adds_low12}
 use Rattle.linker_utils.specs.declared.riscv64.rewrites.RewriteKind.TheVariants as kinds
 use Rattle.linker_laws.proofs.Applied.{value_is, taken_bits}
-use Rattle.linker_laws.specs.Machine.{AreBytes, moved}
 use Rattle.linker_laws.specs.RiscVRewriteLaws.{after_rewrite}
 use Rattle.linker_laws.specs.RiscVMachine.{Action, adds, adds_word, jumps, loads, stores, loads_float, stores_float, lui, auipc, jal, rs1_of, rs2_of, action_of, with_action, of_word, is_add, add}
 use Rattle.linker_laws.proofs.RiscVMachine.{wrapped_is, written}

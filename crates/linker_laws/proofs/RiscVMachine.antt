@@ -1,14 +1,10 @@
 -- What RISC-V's instructions are, by their bits, and what they leave.
-use Rattle.std.proofs.Common.{◌≡◌, ◌≢◌, ℕ, ◌+◌, ◌-◌, ◌*◌, ◌/◌, ◌%◌, ◌^◌, ◌<◌, ◌≤◌, Bool, true, false, refl, sym, ◌∙◌, ap, arith, List, length, drop, ℤ, pos, negsuc, ◌+ℤ◌, ◌*ℤ◌, unsigned_abs, Option, Some, None, if◌then◌else◌}
-use Rattle.linker_laws.proofs.Imports.{◌==◌, ◌&&◌, nat_le, not, option_map, w16, w32, from_le_bytes, le-leb, ints, field, signed, replaced, consecutive_bits_sum, riscv_form, riscv_places, funct3_of, sum_64, difference_64, UType, IType, CjType, CluiType, JType, UiType}
-use Rattle.linker_base.specs.Form.{place_sum}
-use Rattle.linker_elf.specs.RiscV.{ui_high, ui_low}
+use Rattle.linker_laws.proofs.Imports.{◌≡◌, ◌≢◌, ℕ, ◌+◌, ◌-◌, ◌*◌, ◌/◌, ◌%◌, ◌^◌, ◌<◌, ◌≤◌, Bool, true, false, refl, sym, ◌∙◌, ap, arith, List, length, drop, ℤ, pos, negsuc, ◌+ℤ◌, ◌*ℤ◌, unsigned_abs, Option, Some, None, if◌then◌else◌, ◌==◌, ◌&&◌, nat_le, not, option_map, w16, w32, from_le_bytes, le-leb, ints, field, signed, replaced, consecutive_bits_sum, riscv_form, riscv_places, funct3_of, sum_64, difference_64, UType, IType, CjType, CluiType, JType, UiType, place_sum, ui_high, ui_low, IsAddress, wrapped, moved}
 use Rattle.linker_riscv64.specs.RiscVFields.{opcode_of, rd_of}
-use Rattle.linker_laws.specs.Schemes.{IsAddress}
 use Rattle.linker_laws.specs.RiscVRelocationLaws.{without_bit_0}
 use Rattle.linker_laws.proofs.RiscV.{bit_cleared}
-use Rattle.linker_laws.proofs.Sums.{lift, lifted_is}
-use Rattle.linker_laws.specs.Machine.{wrapped, moved}
+use Rattle.linker_laws.proofs.Sums.{lift}
+pub use Rattle.linker_laws.proofs.Sums.{wrapped_is}
 use Rattle.linker_laws.specs.RiscVMachine.{Hart, register, with_integer, Instruction, lui, auipc, jal, sums, jumps, rs1_of, rs2_of, action_of, with_action, add, adds, cli_immediate, of_clui, of_word, of_half, executed, sized, fetched, Steps}
 use Rattle.linker_laws.proofs.Words.{same_low_two}
 
@@ -20,9 +16,6 @@ is_address (negsuc n) = refl
 
 pub address_is : (z : ℤ) (t : ℕ) → IsAddress z t → wrapped z ≡ t
 address_is z t e = ap unsigned_abs e
-
-pub wrapped_is : (z : ℤ) (t n : ℕ) → z +ℤ pos (t * 2 ^ 64) ≡ pos n → wrapped z ≡ n % 2 ^ 64
-wrapped_is z t n e = ap unsigned_abs (lifted_is z t n e)
 
 -- a sum in two steps
 pub moved_twice : (n : ℕ) (a b : ℤ) → moved (moved n a) b ≡ moved n (a +ℤ b)

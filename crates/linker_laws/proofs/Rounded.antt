@@ -1,7 +1,5 @@
 -- Numbers that are rounded before they are taken apart.
-use Rattle.std.proofs.Common.{◌≡◌, ℕ, ◌^◌, ◌<◌, arith}
-use Rattle.linker_laws.proofs.Imports.{sum_64, difference_64, Operands}
-use Rattle.linker_laws.specs.Schemes.{AreAddresses}
+use Rattle.linker_laws.proofs.Imports.{◌≡◌, ℕ, ◌^◌, ◌<◌, arith, sum_64, difference_64, Operands, AreAddresses}
 use Rattle.linker_laws.proofs.Instructions.{IsSmall, relative, absolute}
 
 abbrev pub rounded_relative : ℕ → (Operands → ℕ) → (Operands → ℕ) → Operands → ℕ

@@ -1,18 +1,10 @@
 -- The worked program.
-use Rattle.std.proofs.Common.{◌≡◌, ◌≢◌, ℕ, ◌+◌, ◌-◌, ◌%◌, ◌^◌, ◌<◌, Bool, true, false, refl, arith, ap, ap₂, sym, ◌∙◌, subst, subst₂, true≢false, lit<, add-zero, pos, unsigned_abs, eqb-true, leb-true, leb-false}
-use Rattle.std.proofs.lemmas.Bool.{ne_eqb, cond-false, cond-true, eq-eqb}
-use Rattle.std.specs.Prelude.{IsSomeAnd, if◌then◌else◌, ◌==◌, nat_le, [], ◌∷◌}
-use Rattle.linker_laws.specs.Machine.{Memory, loaded}
-use Rattle.linker_laws.specs.Simulation.{State, Kind, Kinds, AreOf, AreStored, Agree, run, same, half, code, anything, Other, Group, Covered, ends, other, group, Stops, of_link}
+use Rattle.linker_laws.proofs.Imports.{◌≡◌, ◌≢◌, ℕ, ◌+◌, ◌-◌, ◌%◌, ◌^◌, ◌<◌, Bool, true, false, refl, arith, ap, ap₂, sym, ◌∙◌, subst, subst₂, true≢false, lit<, add-zero, pos, unsigned_abs, eqb-true, leb-true, leb-false, ne_eqb, cond-false, cond-true, eq-eqb, IsSomeAnd, if◌then◌else◌, ◌==◌, nat_le, [], ◌∷◌, Memory, loaded, State, Kind, Kinds, AreOf, AreStored, Agree, same, half, code, anything, Other, Group, Covered, ends, other, group, Stops, of_link, put, go_to, with_register}
 use Rattle.linker_laws.specs.SimulationWorked.{IsWorked, machine, link, first_old, first_new, put_byte, put_out, with_byte, case_less_base, first_known, of_byte, new_address}
-use Rattle.linker_laws.specs.Changes.{put, go_to, with_register}
 use Rattle.linker_laws.proofs.CoveredRuns.{once}
 use Rattle.linker_laws.proofs.Agreement.{agree_put, agree_put_old, agree_go, another, one}
 
 -- ---- memory of bytes
-
-of_one : (m : Memory) (a : ℕ) → loaded 1 m a ≡ m a
-of_one m a = add-zero (m a)
 
 -- no other byte moves to where one above the code is
 stays : (a v : ℕ) → 0x24 < v → new_address a ≡ v → a ≡ v
@@ -42,7 +34,7 @@ follows_code a =
     by false false false true e f g h is = let small = leb-true a 0x24 h in omega arith
     by false false false false e f g h is = let large = leb-false a 0x24 h in omega arith
 
-apart : (a v : ℕ) → (a == v) ≡ false → a ≢ v
+pub apart : (a v : ℕ) → (a == v) ≡ false → a ≢ v
 apart a v e is = true≢false (sym (eq-eqb a v is) ∙ e)
 
 -- a byte after another is written

@@ -1,8 +1,6 @@
 -- Sums of addresses modulo 2 ^ 64, of numbers in parts.
-use Rattle.std.proofs.Common.{FitsSigned, ◌≡◌, ℕ, suc, ◌+◌, ◌-◌, ◌*◌, ◌/◌, ◌%◌, ◌^◌, ◌<◌, refl, sym, ◌∙◌, ap, subst, arith, inl, inr, ℤ, pos, negsuc, ◌+ℤ◌, ◌*ℤ◌, unsigned_abs}
-use Rattle.linker_laws.proofs.Imports.{w64, cast_signed, int_rem_euclid, cases_lt, ints, int_rem_euclid_is, to_z_pos, mod_below, pow_pos, div-add-mod', signed, signed_cases, bits_from, page, sum_64, difference_64, rem_rem, cast_negative}
+use Rattle.linker_laws.proofs.Imports.{FitsSigned, ◌≡◌, ℕ, suc, ◌+◌, ◌-◌, ◌*◌, ◌/◌, ◌%◌, ◌^◌, ◌<◌, refl, sym, ◌∙◌, ap, subst, arith, inl, inr, ℤ, pos, negsuc, ◌+ℤ◌, ◌*ℤ◌, unsigned_abs, w64, cast_signed, int_rem_euclid, cases_lt, ints, int_rem_euclid_is, to_z_pos, mod_below, pow_pos, div-add-mod', signed, signed_cases, bits_from, page, sum_64, difference_64, rem_rem, cast_negative, IsAddress, wrapped}
 use Rattle.std.proofs.Math.Facts.{sfits_to_z}
-use Rattle.linker_laws.specs.Schemes.{IsAddress}
 
 -- ---- addresses of sums
 
@@ -25,6 +23,9 @@ pub lifted_is : (z : ℤ) (times number : ℕ) → z +ℤ pos (times * 2 ^ 64) �
     → IsAddress z (number % 2 ^ 64)
 lifted_is z times number e =
     int_rem_euclid_is z (pos (2 ^ 64)) (2 ^ 64) times number (omega arith) refl e
+
+pub wrapped_is : (z : ℤ) (t n : ℕ) → z +ℤ pos (t * 2 ^ 64) ≡ pos n → wrapped z ≡ n % 2 ^ 64
+wrapped_is z t n e = ap unsigned_abs (lifted_is z t n e)
 
 pub plus : (z : ℤ) (t m : ℕ) → IsAddress z t → IsAddress (z +ℤ pos m) ((t + m) % 2 ^ 64)
 plus z t m h =
@@ -190,6 +191,12 @@ halves_sum k r p s n m h low short rounding small below leads is e f =
     back : (t l : ℕ) → t < 2 ^ 64 → l < 2 ^ 64 → (difference_64 t l + l) % 2 ^ 64 ≡ t
     back t l small below = omega arith
 
+pub page_below : (t : ℕ) → t < 2 ^ 64 → page t < 2 ^ 64
+page_below t small = omega arith
+
+pub page_parts : (t : ℕ) → t < 2 ^ 64 → (page t + t % 2 ^ 12) % 2 ^ 64 ≡ t
+page_parts t small = omega arith
+
 -- The page of a place, the distance to the page of a rounded target, and a low part from which the
 -- rounding is taken off.
 pub page_halves_sum : (r p s m : ℕ) (h low : ℤ) → r < 2 ^ 64 → s < 2 ^ 64 → p < 2 ^ 64
@@ -203,7 +210,7 @@ page_halves_sum r p s m h low rounding small place is e f =
     subst (λ y. y < 2 ^ 64) (sym is) (difference_below (page x) (page p)) in
     low_part (pos (page p) +ℤ (h *ℤ pos 4096)) low (page x) r (x % 2 ^ 12) s
     (multiple_part 12 (page p) m (page x) h (omega arith) m_below (leads x p m x_below place is) e
-    (pages x p m x_below place is) (below x x_below)) f small (parts x x_below)
+    (pages x p m x_below place is) (page_below x x_below)) f small (sym (page_parts x x_below))
   where
     leads : (x p m : ℕ) → x < 2 ^ 64 → p < 2 ^ 64 → m ≡ difference_64 (page x) (page p)
         → Leads (page p) m (page x)
@@ -212,12 +219,6 @@ page_halves_sum r p s m h low rounding small place is e f =
     pages : (x p m : ℕ) → x < 2 ^ 64 → p < 2 ^ 64 → m ≡ difference_64 (page x) (page p)
         → m % 2 ^ 12 ≡ 0
     pages x p m small place is = omega arith
-
-    below : (x : ℕ) → x < 2 ^ 64 → page x < 2 ^ 64
-    below x small = omega arith
-
-    parts : (x : ℕ) → x < 2 ^ 64 → x ≡ (page x + x % 2 ^ 12) % 2 ^ 64
-    parts x small = omega arith
 
 -- ---- a high part alone
 
@@ -242,6 +243,9 @@ high_sum k r p s n h short place is e =
     there t l small below = omega arith
 
 -- ---- words that follow one another
+
+pub sum_on : (a m n : ℕ) → sum_64 (sum_64 a m) n ≡ sum_64 a (m + n)
+sum_on a m n = omega arith
 
 pub eight : (a : ℕ) → sum_64 (sum_64 a 4) 4 ≡ sum_64 a 8
 eight a = omega arith

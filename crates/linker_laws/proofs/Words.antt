@@ -1,10 +1,5 @@
 -- Words and halves of bytes, and what writing an immediate keeps of them.
-use Rattle.std.proofs.Common.{◌≡◌, ℕ, ◌+◌, ◌-◌, ◌*◌, ◌^◌, ◌<◌, ◌≤◌, Bool, true, false, refl, ◌∙◌, ap, arith, List, [], ◌∷◌, ◌++◌, length, take, drop, ℤ, pos, int_lt, subst, Some}
-use Rattle.linker_laws.proofs.Imports.{w16, w32, w64, from_le_bytes, to_le_bytes, bit_at, agree_below, append_assoc, drop_at, from_le_bytes-to_le_bytes_4, field, window_of, is_placed, rewritten, replaces, BitRange, same_fields, InstructionWritten, riscv_form, RiscV, RiscVInstruction, word_of_front}
-use Rattle.std.proofs.lemmas.Bool.{agree_below_at}
-use Rattle.std.proofs.lemmas.List.{length-take}
-use Rattle.std.proofs.lemmas.Nat.{from_le_bytes-to_le_bytes_2}
-use Rattle.linker_laws.specs.Machine.{AreBytes, word_of}
+use Rattle.linker_laws.proofs.Imports.{◌≡◌, ℕ, ◌+◌, ◌-◌, ◌*◌, ◌^◌, ◌<◌, ◌≤◌, Bool, true, false, refl, ◌∙◌, ap, arith, List, [], ◌∷◌, ◌++◌, length, take, drop, ℤ, pos, int_lt, subst, Some, w16, w32, w64, from_le_bytes, to_le_bytes, bit_at, agree_below, append_assoc, drop_at, from_le_bytes-to_le_bytes_4, field, window_of, is_placed, rewritten, replaces, BitRange, same_fields, InstructionWritten, riscv_form, RiscV, RiscVInstruction, word_of_front, agree_below_at, length-take, from_le_bytes-to_le_bytes_2, AreBytes, word_of}
 
 -- ---- words
 

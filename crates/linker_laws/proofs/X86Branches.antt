@@ -1,6 +1,5 @@
 -- Branches through the GOT, and direct ones.
-use Rattle.std.proofs.Common.{◌≡◌, ℕ, ◌-◌, ◌^◌, ◌<◌, ◌≤◌, List, [], ◌∷◌, take, drop, sym, ◌∙◌, ap, arith, subst, Some}
-use Rattle.linker_laws.proofs.Imports.{w64, cast_unsigned, All-drop, rewritten, number_of_bytes, sum_64, difference_64, x86_64_rewrite, original, byte, field4, x86_64_originals, Operands, IsApplied}
+use Rattle.linker_laws.proofs.Imports.{◌≡◌, ℕ, ◌-◌, ◌^◌, ◌<◌, ◌≤◌, List, [], ◌∷◌, take, drop, sym, ◌∙◌, ap, arith, subst, Some, w64, cast_unsigned, All-drop, rewritten, number_of_bytes, sum_64, difference_64, x86_64_rewrite, original, byte, field4, x86_64_originals, Operands, IsApplied}
 use Rattle.linker_elf.specs.declared.x86_64.relocations.X86_64Relocation.TheVariants as names
 use Rattle.linker_utils.specs.declared.x86_64.rewrites.RewriteKind.TheVariants as kinds
 use Rattle.linker_laws.proofs.Sums.{difference_below}

@@ -1,8 +1,6 @@
 -- What bytes of x86-64's instructions say, before and after a rewrite.
-use Rattle.std.proofs.Common.{◌*◌, ◌≡◌, ℕ, zero, suc, ◌+◌, ◌^◌, ◌<◌, List, [], ◌∷◌, Bool, true, false, not, ◌&&◌, ◌||◌, refl, sym, ◌∙◌, ap, arith, bit_and, eqb, inl, inr, subst}
-use Rattle.linker_laws.proofs.Imports.{cases_lt, eqb-true, and_parts, false≢true, bit_at, All, All-head, All-tail, begins, byte, rip_operand, rex, rex2, field4}
+use Rattle.linker_laws.proofs.Imports.{◌*◌, ◌≡◌, ℕ, zero, suc, ◌+◌, ◌^◌, ◌<◌, List, [], ◌∷◌, Bool, true, false, not, ◌&&◌, ◌||◌, refl, sym, ◌∙◌, ap, arith, bit_and, eqb, inl, inr, subst, cases_lt, eqb-true, and_parts, false≢true, bit_at, All, All-head, All-tail, begins, byte, rip_operand, rex, rex2, field4, evex_registers}
 use Rattle.linker_utils.specs.X86Rewrites as x86
-use Rattle.linker_utils.specs.X86Rewrites.{evex_registers}
 use Rattle.linker_laws.specs.X86Machine.{is_relative, is_register, is_rex, reg_of, rm_of, is_map_4, evex_reg, evex_rm}
 
 -- ---- tests of all bytes

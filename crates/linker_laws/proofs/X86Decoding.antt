@@ -1,7 +1,5 @@
 -- How instructions are decoded before and after a rewrite.
-use Rattle.std.proofs.Common.{◌≡◌, ℕ, zero, suc, ◌+◌, ◌∙◌, List, [], ◌∷◌, ◌++◌, take, drop, length, ap, ap₂, refl, arith, true, Some, None, Option, suc-add, IsSomeAnd, IsTrue, subst, eqb, get_or, ◌-◌}
-use Rattle.linker_laws.proofs.Imports.{w64, bit_at, from_le_bytes, cond-true, cond-false, rewritten, offset_after, operands_after, number_of_bytes, sum_64, Operands, X86_64Relocation, x86_64_relocation_after, Original, is_one_at, x86_64_matches, x86_64_rewrite}
-use Rattle.std.specs.Prelude.{replicate}
+use Rattle.linker_laws.proofs.Imports.{◌≡◌, ℕ, zero, suc, ◌+◌, ◌∙◌, List, [], ◌∷◌, ◌++◌, take, drop, length, ap, ap₂, refl, arith, true, Some, None, Option, suc-add, IsSomeAnd, IsTrue, subst, eqb, get_or, ◌-◌, w64, bit_at, from_le_bytes, cond-true, cond-false, rewritten, offset_after, operands_after, number_of_bytes, sum_64, Operands, X86_64Relocation, x86_64_relocation_after, Original, is_one_at, x86_64_matches, x86_64_rewrite, replicate}
 use Rattle.linker_utils.specs.X86Rewrites as x86
 use Rattle.linker_laws.specs.X86Groups.{sets_flags}
 use Rattle.linker_laws.specs.X86Machine.{Prefix, Operation, Instruction, State, decode, decode_opcode, decode_modrm, decode_relative, on_immediate, rex_prefix, rex2_prefix, immediate_operation, is_relative, is_register, reg_of, sized, operate, register, immediate, is_rex, execute, load}

@@ -1,13 +1,10 @@
 -- The `lea` and the call of a descriptor of x86-64, each by itself.
-use Rattle.std.proofs.Common.{◌≡◌, ℕ, ◌+◌, ◌-◌, ◌*◌, ◌%◌, ◌^◌, ◌<◌, List, [], ◌∷◌, take, drop, refl, sym, ◌∙◌, IsTrue, ap₂, ap, arith, subst, pos, Some, IsSomeAnd, eqb, cond, bit_and, true, false, ◌++◌, append_assoc, length-take, length, min}
-use Rattle.linker_laws.proofs.Imports.{◌&&◌, ◌||◌, not, w64, bit_at, cast_unsigned, All, eqb-true, and_parts, false≢true, drop_at, All-drop, All-head, All-tail, rewritten, offset_after, operands_after, number_of_bytes, sum_64, difference_64, Operands, X86_64Relocation, IsApplied, x86_64_matches, is_one_at, x86_64_rewrite, begins, byte, rip_operand, with_rex, with_rex2, x86_64_relocation_after}
+use Rattle.linker_laws.proofs.Imports.{◌≡◌, ℕ, ◌+◌, ◌-◌, ◌*◌, ◌%◌, ◌^◌, ◌<◌, List, [], ◌∷◌, take, drop, refl, sym, ◌∙◌, IsTrue, ap₂, ap, arith, subst, pos, Some, IsSomeAnd, eqb, cond, bit_and, true, false, ◌++◌, append_assoc, length-take, length, min, ◌&&◌, ◌||◌, not, w64, bit_at, cast_unsigned, All, eqb-true, and_parts, false≢true, drop_at, All-drop, All-head, All-tail, rewritten, offset_after, operands_after, number_of_bytes, sum_64, difference_64, Operands, X86_64Relocation, IsApplied, x86_64_matches, is_one_at, x86_64_rewrite, begins, byte, rip_operand, with_rex, with_rex2, x86_64_relocation_after, lea_of_descriptor, rex_w, rex2_w, AreAddresses}
 use Rattle.linker_elf.specs.declared.x86_64.relocations.X86_64Relocation.TheVariants as names
 use Rattle.linker_utils.specs.X86Rewrites as x86
-use Rattle.linker_utils.specs.X86Rewrites.{lea_of_descriptor, rex_w, rex2_w}
 use Rattle.linker_utils.specs.declared.x86_64.rewrites.RewriteKind.{RewriteKind}
 use Rattle.linker_utils.specs.declared.x86_64.rewrites.RewriteKind.TheVariants as kinds
 use Rattle.linker_laws.proofs.Sums.{difference_below, sum_zero}
-use Rattle.linker_laws.specs.Schemes.{AreAddresses}
 use Rattle.linker_laws.specs.X86RewriteLaws.{IsBefore, IsRelocated, thread_offset}
 use Rattle.linker_laws.specs.X86Machine.{State, Operand, load, extended, decode, lea, operate, MOV, register, relative, immediate, operand_value, reg_of, rex_prefix, rex2_prefix, is_relative}
 use Rattle.linker_laws.specs.X86Groups.{reg_after_rex, reg_after_rex2}

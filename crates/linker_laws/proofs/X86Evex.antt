@@ -1,8 +1,6 @@
 -- Operations with EVEX, on a number from the GOT and on an immediate.
-use Rattle.std.proofs.Common.{◌≡◌, ℕ, ◌+◌, ◌-◌, ◌*◌, ◌%◌, ◌^◌, ◌<◌, ◌≤◌, List, [], ◌∷◌, ◌++◌, drop, take, refl, sym, ◌∙◌, ap, arith, Some, inl, inr, IsTrue, Bool, true, false, not, ◌&&◌, ◌||◌, eqb, bit_and, bit_or}
-use Rattle.linker_laws.proofs.Imports.{bit_at, and_parts, or_cases, eqb-true, cond-true, cond-false, or-false, All-drop, field, rewritten, IsRewritable, number_of_bytes, sum_64, absolute, evex_operand, Original, is_one_at, is_at, Operands}
+use Rattle.linker_laws.proofs.Imports.{◌≡◌, ℕ, ◌+◌, ◌-◌, ◌*◌, ◌%◌, ◌^◌, ◌<◌, ◌≤◌, List, [], ◌∷◌, ◌++◌, drop, take, refl, sym, ◌∙◌, ap, arith, Some, inl, inr, IsTrue, Bool, true, false, not, ◌&&◌, ◌||◌, eqb, bit_and, bit_or, bit_at, and_parts, or_cases, eqb-true, cond-true, cond-false, or-false, All-drop, field, rewritten, IsRewritable, number_of_bytes, sum_64, absolute, evex_operand, Original, is_one_at, is_at, Operands, with_evex, evex_any_v, evex_new_destination, evex_no_v, evex_same_destination, legacy_or_evex}
 use Rattle.linker_utils.specs.X86Rewrites as x86
-use Rattle.linker_utils.specs.X86Rewrites.{with_evex, evex_any_v, evex_new_destination, evex_no_v, evex_same_destination, legacy_or_evex}
 use Rattle.linker_laws.proofs.Sums.{difference_below}
 use Rattle.linker_laws.specs.X86RewriteLaws.{IsBefore, IsRelocatedBy, thread_offset}
 use Rattle.linker_laws.specs.X86Machine.{State, Operation, ADD, OR, ADC, SBB, AND, XOR, load, extended, reg_of, rm_of, evex_prefix, operate_into, register, relative, immediate, decode, is_relative, is_register, operation_of, immediate_operation, is_evex, is_map_4, has_no_index, has_zeros, is_in_map_4, is_without_flags, destination_of, v_register, on_evex, evex_modrm, into, Operand, Prefix}

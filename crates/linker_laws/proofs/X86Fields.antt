@@ -1,11 +1,7 @@
 -- What relocated fields come to, as numbers modulo 2 ^ 64.
-use Rattle.std.proofs.Common.{◌≡◌, ℕ, ◌+◌, ◌-◌, ◌*◌, ◌%◌, ◌^◌, refl, sym, ◌∙◌, ap, arith, List, ℤ, pos, negsuc, ◌+ℤ◌, ◌*ℤ◌, inl, inr, unsigned_abs, Some, true}
-use Rattle.linker_laws.proofs.Imports.{w64, cast_signed, cast_unsigned, int_rem_euclid, ints, signed, unsigned, twos_complement, signed_cases, number_of_bytes, reach_of, sum_64, value_of, RelocationKind, RelocationKindInfo, Operands, IsApplied}
-use Rattle.linker_base.proofs.Fields.{cast_rem}
+use Rattle.linker_laws.proofs.Imports.{◌≡◌, ℕ, ◌+◌, ◌-◌, ◌*◌, ◌%◌, ◌^◌, refl, sym, ◌∙◌, ap, arith, List, ℤ, pos, ◌+ℤ◌, ◌*ℤ◌, inl, inr, unsigned_abs, Some, true, w64, cast_signed, int_rem_euclid, ints, signed, unsigned, twos_complement, signed_cases, number_of_bytes, reach_of, sum_64, value_of, RelocationKind, RelocationKindInfo, Operands, IsApplied, cast_rem, reaches, IsAddress, AreAddresses, symbol_address, entry_and_addend}
 use Rattle.linker_elf.specs.Rows.{bytes_row, signed_row, unsigned_row}
 use Rattle.linker_elf.specs.declared.elf.RelocationKind.TheVariants as values
-use Rattle.linker_elf.proofs.Agreement.{reaches}
-use Rattle.linker_laws.specs.Schemes.{IsAddress, AreAddresses, symbol_address, entry_and_addend}
 use Rattle.linker_laws.proofs.Fields.{IsValue, field_adds, whole_field_adds}
 use Rattle.linker_laws.proofs.Instructions.{IsNumber, symbol_from_place, symbol_from_tls, symbol_itself, entry_and_addend_from_place}
 use Rattle.linker_laws.proofs.Sums.{lifted_is}

@@ -1,11 +1,6 @@
 -- x86-64's groups.
-use Rattle.std.proofs.Common.{◌≡◌, ℕ, zero, suc, ◌+◌, ◌-◌, ◌*◌, ◌^◌, ◌<◌, ◌≤◌, refl, sym, ◌∙◌, ap, ap₂, subst, arith, Bool, true, false, List, [], ◌∷◌, take, drop, Some, IsSomeAnd, inl, inr, length, get_or, lit≤, eqb-true, eq-eqb, true≢false}
-use Rattle.linker_laws.proofs.Imports.{and_parts, cond-true, cond-false, le-ltb, lt-ltb, ◌==◌, ◌&&◌, nat_lt, if◌then◌else◌, sum_64, difference_64, Operands, X86_64Relocation, rewritten, x86_64_relocation_after, Original, x86_64_rewrite}
-use Rattle.std.specs.Int.{byte_at}
-use Rattle.linker_laws.specs.Changes.{go_to, put, with_register}
-use Rattle.linker_laws.specs.Machine.{Memory}
+use Rattle.linker_laws.proofs.Imports.{◌≡◌, ℕ, zero, suc, ◌+◌, ◌-◌, ◌*◌, ◌^◌, ◌<◌, ◌≤◌, refl, sym, ◌∙◌, ap, ap₂, subst, arith, Bool, true, false, List, [], ◌∷◌, take, drop, Some, IsSomeAnd, inl, inr, length, get_or, lit≤, eqb-true, eq-eqb, and_parts, cond-true, cond-false, le-ltb, lt-ltb, ◌==◌, ◌&&◌, nat_lt, if◌then◌else◌, sum_64, difference_64, Operands, X86_64Relocation, rewritten, x86_64_relocation_after, Original, x86_64_rewrite, byte_at, go_to, put, with_register, Memory, State, Program, Kind, Kinds, Agree, AreOf, AreStored, Group, half, of_link, same}
 use Rattle.linker_laws.specs.Machine as shared
-use Rattle.linker_laws.specs.Simulation.{State, Program, Kind, Kinds, Agree, AreOf, AreStored, Group, half, of_link, same}
 use Rattle.linker_laws.specs.X86Groups.{Code, IsApart, IsCall, IsJump, IsKnownAfter, Others, KeepsRegisters, Reads, Stands, bytes_at, called, does, executed, flag, is_flag, left, link, machine, seen, CallOfDescriptor, IsLea, LeaOfDescriptor, LeaToEntry, LeaToOffset, LoadsNumber, MakesOffset, reg_after_rex, reg_after_rex2}
 use Rattle.linker_laws.specs.X86Groups as groups
 use Rattle.linker_laws.specs.X86Machine as x86_machine
@@ -21,6 +16,7 @@ use Rattle.linker_laws.proofs.X86Branches as branches
 use Rattle.linker_laws.proofs.X86Decoding.{Replaced, Replaces, map_some}
 use Rattle.linker_laws.proofs.X86Descriptors.{AreLea, LeaOf}
 use Rattle.linker_laws.proofs.X86Descriptors as leas
+use Rattle.linker_laws.proofs.Sums.{sum_below}
 
 -- ---- bytes of code
 
@@ -38,9 +34,6 @@ pub goes : (others : List ℕ → Program) (bytes : List ℕ) (s : State) (d : D
     → does others bytes s
     ≡ Some (left d.instruction s (execute d.instruction (sum_64 s.pc d.size) (seen s)))
 goes others bytes s d is = ap (executed others bytes s) is
-
-pub below_64 : (a b : ℕ) → sum_64 a b < 2 ^ 64
-below_64 a b = omega arith
 
 -- ---- one instruction for another
 
@@ -103,7 +96,7 @@ module _ (c : Code) (m : ℕ) (s : State)
         (goes c.others (bytes_at 15 c.old s.pc) (between s t)
         (record { instruction = g.instruction; size = m }) g.was) (keeps t agree) in
         record {
-          small = subst (λ p. p < 2 ^ 64) (sym at_next) (below_64 s.pc m);
+          small = subst (λ p. p < 2 ^ 64) (sym at_next) (sum_below s.pc m);
           pc = g.goes_on ∙ sym at_next;
           registers = λ r. subst (AreOf (link c) 8 (known r) (s'.registers r)) (same_registers r)
               (kept r);
@@ -303,7 +296,7 @@ is_lea n register_of Makes c o s number l made h k descriptor makes =
     (record { instruction = operate MOV 64 (register l.r) l.from; size = n + 4 }) l.is
     ∙ ap (λ x. Some (put l.r x next t)) (l.value (seen at) refl))
     (agree_put (link c) k s t l.r (half h) o.got_entry (number (seen at)) next next agree
-    (below_64 s.pc (n + 4)) refl
+    (sum_below s.pc (n + 4)) refl
     (both_true (o.got_entry == c.old_half h) (number (seen at) == c.new_half h)
     (eq-eqb _ _ (sym descriptor)) (eq-eqb _ _ (made k (c.new_half h) makes t agree)))))))
 
@@ -369,7 +362,7 @@ are_descriptor_calls c s calls at bytes matches old new h executes k k' s' has r
     (record { instruction = nop; size = 2 }) (ap decode is.1))
     (agree_open (link c) (with_register 0 same k) k' (put 0 (c.new_half h) next s) s' (go_to next t)
     (agree_put_old (link c) k (go_to next s) (go_to next t) 0 same (c.new_half h) next
-    (agree_go (link c) k s t next next agree (below_64 s.pc 2) refl) (below_64 s.pc 2) refl
+    (agree_go (link c) k s t next next agree (sum_below s.pc 2) refl) (sum_below s.pc 2) refl
     (sym number)) changes)))
   where
     begins_with : (x y : ℕ) (code before : List ℕ) → take 2 code ≡ take 2 before

@@ -1,13 +1,7 @@
 -- The worked program of x86-64.
-use Rattle.std.proofs.Common.{◌≡◌, ℕ, ◌+◌, ◌-◌, ◌*◌, ◌^◌, ◌<◌, Bool, true, false, refl, sym, ◌∙◌, ◌≤◌, ap, ap₂, subst, arith, List, [], ◌∷◌, ◌++◌, length, take, drop, ℤ, Some, lit<, lit≤, pos, negsuc, inl, inr, ltb-true, ltb-false}
-use Rattle.linker_laws.proofs.Imports.{◌&&◌, ◌||◌, ◌==◌, IsSomeAnd, nat_le, nat_lt, if◌then◌else◌, cond-false, cond-true, eqb-true, le-leb, lt-ltb, ints, IsWritten, RelocationKindInfo, difference_64, value_of, Operands}
-use Rattle.std.specs.Prelude.{neg_ℤ}
+use Rattle.linker_laws.proofs.Imports.{◌≡◌, ℕ, ◌+◌, ◌-◌, ◌*◌, ◌^◌, ◌<◌, Bool, true, false, refl, sym, ◌∙◌, ◌≤◌, ap, ap₂, subst, arith, List, [], ◌∷◌, ◌++◌, take, drop, ℤ, Some, lit<, lit≤, pos, negsuc, inl, inr, ltb-true, ltb-false, ◌&&◌, ◌||◌, ◌==◌, IsSomeAnd, nat_le, nat_lt, if◌then◌else◌, cond-false, cond-true, eqb-true, le-leb, lt-ltb, IsWritten, RelocationKindInfo, difference_64, value_of, Operands, neg_ℤ, HoldsBits, IsEncoded, IsMultiple, AreAddresses, IsKept, put, with_register, Agree, AreOf, Group, Kinds, State, anything, ends, group, half, of_link, same}
 use Rattle.std.specs.Option.{unwrap_or}
-use Rattle.linker_elf.specs.Relocate.{HoldsBits, IsEncoded, IsMultiple}
 use Rattle.linker_laws.proofs.Relocated.{accepted_by, all_small, are_bytes, is_accepted, small}
-use Rattle.linker_laws.specs.Schemes.{AreAddresses}
-use Rattle.linker_laws.specs.Changes.{IsKept, put, with_register}
-use Rattle.linker_laws.specs.Simulation.{Agree, AreOf, Group, Kinds, State, anything, ends, group, half, of_link, same}
 use Rattle.linker_laws.specs.X86Groups.{Groups, IsKnownAfter, KeepsRegisters, bytes_at, called, does, link, machine}
 use Rattle.linker_laws.specs.X86Machine as x86_machine
 use Rattle.linker_laws.specs.X86RewriteLaws.{IsBefore, IsRelocatedBy}

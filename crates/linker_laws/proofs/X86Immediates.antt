@@ -1,9 +1,6 @@
 -- Operations on a number from the GOT, and on an immediate.
-use Rattle.std.proofs.Common.{◌≡◌, ℕ, suc, ◌+◌, ◌-◌, ◌*◌, ◌%◌, ◌^◌, ◌<◌, List, [], ◌∷◌, ◌++◌, drop, take, refl, sym, ◌∙◌, ap, arith, Some, subst, inl, inr, IsTrue, true, pos, length, eqb, cond, get_or, drop-cons}
-use Rattle.linker_laws.proofs.Imports.{w64, cast_unsigned, All-drop, rewritten, IsRewritable, Rewrite, RelocationKindInfo, Original, number_of_bytes, sum_64, difference_64, absolute, operand, prefixed_operand, original, rip_operand, with_rex, rex, with_rex2, rex2, is_one_at, Operands, IsApplied}
+use Rattle.linker_laws.proofs.Imports.{◌≡◌, ℕ, suc, ◌+◌, ◌-◌, ◌*◌, ◌%◌, ◌^◌, ◌<◌, List, [], ◌∷◌, ◌++◌, drop, take, refl, sym, ◌∙◌, ap, arith, Some, subst, inl, inr, IsTrue, true, pos, length, eqb, cond, get_or, drop-cons, w64, cast_unsigned, All-drop, rewritten, IsRewritable, Rewrite, RelocationKindInfo, Original, number_of_bytes, sum_64, difference_64, absolute, operand, prefixed_operand, original, rip_operand, with_rex, rex, with_rex2, rex2, is_one_at, Operands, IsApplied, plain, AreAddresses}
 use Rattle.linker_utils.specs.X86Rewrites as x86
-use Rattle.linker_utils.specs.X86Rewrites.{plain}
-use Rattle.linker_laws.specs.Schemes.{AreAddresses}
 use Rattle.linker_laws.proofs.Sums.{difference_below, sum_zero}
 use Rattle.linker_laws.specs.X86Groups.{is_arithmetic, sets_flags}
 use Rattle.linker_laws.specs.X86RewriteLaws.{IsBefore, IsRelocatedBy, thread_offset}

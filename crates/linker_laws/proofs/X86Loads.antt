@@ -1,9 +1,7 @@
 -- Loads of addresses from the GOT, and `lea`.
-use Rattle.std.proofs.Common.{◌≡◌, ℕ, ◌+◌, ◌-◌, ◌^◌, ◌<◌, List, [], ◌∷◌, take, drop, refl, sym, ◌∙◌, ap, ap₂, arith, Some, subst, inl, inr, eqb, ℤ, if◌then◌else◌}
-use Rattle.linker_laws.proofs.Imports.{w64, cast_unsigned, bit_at, All-drop, cases_Bool, cond-true, cond-false, number_of_bytes, sum_64, difference_64, operands_after, x86_64_rewrite, rewritten, legacy, original, rip_operand, with_rex, rex, with_rex2, rex2, Operands, IsApplied}
+use Rattle.linker_laws.proofs.Imports.{◌≡◌, ℕ, ◌+◌, ◌-◌, ◌^◌, ◌<◌, List, [], ◌∷◌, take, drop, refl, sym, ◌∙◌, ap, ap₂, arith, Some, subst, inl, inr, eqb, ℤ, if◌then◌else◌, w64, cast_unsigned, bit_at, All-drop, cases_Bool, cond-true, cond-false, number_of_bytes, sum_64, difference_64, operands_after, x86_64_rewrite, rewritten, legacy, original, rip_operand, with_rex, rex, with_rex2, rex2, Operands, IsApplied, AreAddresses}
 use Rattle.linker_elf.specs.declared.x86_64.relocations.X86_64Relocation.TheVariants as names
 use Rattle.linker_utils.specs.declared.x86_64.rewrites.RewriteKind.TheVariants as kinds
-use Rattle.linker_laws.specs.Schemes.{AreAddresses}
 use Rattle.linker_laws.specs.X86RewriteLaws.{IsBefore, address}
 use Rattle.linker_laws.specs.X86Machine.{State, load, extended, reg_of, rex_prefix, no_prefix, MOV, rex2_prefix, operate, register, relative, lea, decode}
 use Rattle.linker_laws.proofs.X86Bytes.{on_relative, after_rex, after_rex2}

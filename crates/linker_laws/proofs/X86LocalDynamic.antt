@@ -1,7 +1,5 @@
 -- Local-dynamic TLS: the argument of the call, and offsets in a module's block.
-use Rattle.std.proofs.Common.{◌≡◌, ℕ, ◌^◌, ◌<◌, List, [], ◌∷◌, ◌∙◌, ap, arith}
-use Rattle.linker_laws.proofs.Imports.{w64, cast_unsigned, IsApplied, number_of_bytes, sum_64, difference_64, Operands}
-use Rattle.linker_laws.specs.Schemes.{AreAddresses, symbol_address}
+use Rattle.linker_laws.proofs.Imports.{◌≡◌, ℕ, ◌^◌, ◌<◌, List, [], ◌∷◌, ◌∙◌, ap, arith, w64, cast_unsigned, IsApplied, number_of_bytes, sum_64, difference_64, Operands, AreAddresses, symbol_address}
 use Rattle.linker_laws.specs.X86Groups.{BlockOffsets}
 use Rattle.linker_laws.specs.X86Machine.{State, extended}
 use Rattle.linker_laws.specs.X86RewriteLaws.{IsBefore}

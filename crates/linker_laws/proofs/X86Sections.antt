@@ -1,8 +1,6 @@
 -- The code in a section before and after a rewrite.
-use Rattle.std.proofs.Common.{◌≡◌, ℕ, ◌+◌, ◌-◌, ◌≤◌, List, ◌++◌, length, take, drop, sym, ◌∙◌, ap, arith, append_assoc, Some}
-use Rattle.std.proofs.lemmas.List.{take-append-drop, length-take-le}
+use Rattle.linker_laws.proofs.Imports.{◌≡◌, ℕ, ◌+◌, ◌-◌, ◌≤◌, List, ◌++◌, length, take, drop, sym, ◌∙◌, ap, arith, append_assoc, Some, take-append-drop, length-take-le, Rewrite, rewritten}
 use Rattle.std.proofs.Math.Seq.{take-append-add, drop-append-add}
-use Rattle.linker_base.specs.Rewrite.{Rewrite, rewritten}
 
 -- what follows the first bytes, of which the rest is replaced from further bytes on
 code_following : (front d rest : List ℕ) (n k : ℕ)

@@ -1,24 +1,19 @@
 -- x86-64's groups of general- and local-dynamic TLS.
-use Rattle.std.proofs.Common.{◌≡◌, ℕ, zero, suc, ◌+◌, ◌-◌, ◌%◌, ◌^◌, ◌<◌, ◌≤◌, refl, sym, ◌∙◌, ap, ap₂, subst, arith, Bool, true, false, List, [], ◌∷◌, ◌++◌, take, drop, Some, inl, inr, length, get_or, lit≤, pos}
-use Rattle.linker_laws.proofs.Imports.{w64, cast_unsigned, ◌==◌, ◌⊎◌, if◌then◌else◌, cases_Bool, cond-false, eq-eqb, or-false, rewritten, IsApplied, number_of_bytes, sum_64, difference_64, Operands, byte, field4, is_at, lea_rdi, puts, x86_64_rewrite}
-use Rattle.linker_laws.specs.Changes.{go_to, put, with_register}
-use Rattle.linker_laws.specs.Schemes.{AreAddresses}
-use Rattle.linker_laws.specs.Simulation.{State, Kind, Kinds, Agree, AreOf, Group, Link, anything, AreStored, half, of_link, run, same}
+use Rattle.linker_laws.proofs.Imports.{◌≡◌, ℕ, zero, suc, ◌+◌, ◌-◌, ◌%◌, ◌^◌, ◌<◌, ◌≤◌, refl, sym, ◌∙◌, ap, ap₂, subst, arith, List, [], ◌∷◌, ◌++◌, take, drop, Some, inl, inr, length, get_or, lit≤, pos, w64, cast_unsigned, ◌==◌, ◌⊎◌, cases_Bool, cond-false, eq-eqb, or-false, rewritten, IsApplied, number_of_bytes, sum_64, difference_64, Operands, byte, field4, is_at, lea_rdi, puts, x86_64_rewrite, go_to, put, with_register, AreAddresses, State, Kind, Kinds, Agree, AreOf, Group, Link, anything, AreStored, half, of_link, run, same, original as original_at}
 use Rattle.linker_laws.specs.X86Groups.{Code, GeneralDynamic, HasPointer, LocalDynamic, ModuleCall, Returns, Stands, ToInitialExec, ToLocalExec, bytes_at, HasThreadPointer, ToLocalExecLarge, is_flag, left, link, machine, seen}
 use Rattle.linker_laws.specs.X86Machine.{ADD, decode, execute, extended, lea, lea_from, load, load_thread, nop, operate, register, relative}
 use Rattle.linker_laws.specs.X86RewriteLaws.{IsBefore, IsRelocatedBy, thread_offset}
 use Rattle.linker_laws.proofs.Agreement.{agree_open, agree_put, both_true, group_of, last_counts}
 use Rattle.linker_laws.proofs.CoveredRuns.{holds_of, run_first, run_on}
-use Rattle.linker_laws.proofs.Sums.{difference_below}
+use Rattle.linker_laws.proofs.Sums.{difference_below, sum_on, sum_below}
 use Rattle.linker_laws.proofs.X86Codes.{inside}
 use Rattle.linker_laws.proofs.X86Decoding.{IsBegun, begun}
 use Rattle.linker_laws.proofs.X86Fields.{tls_entry_field, tls_module_row, tls_pair_row}
-use Rattle.linker_laws.proofs.X86Groups.{below_64, goes, one_on, starts, take_bytes}
+use Rattle.linker_laws.proofs.X86Groups.{goes, one_on, starts, take_bytes}
 use Rattle.linker_laws.proofs.X86LargeThreads as larges
 use Rattle.linker_laws.proofs.X86LocalDynamic as dynamic
 use Rattle.linker_laws.proofs.X86Sections.{code_after, original_code}
 use Rattle.linker_laws.proofs.X86Threads.{added, argument, begins_with_lea, codes, from_second, itself, lea_bytes, load_bytes, offset_field, offset_from, plain_lea_bytes, pointer, starts_with}
-use Rattle.linker_utils.specs.X86Rewrites.{original as original_at}
 use Rattle.linker_utils.specs.declared.x86_64.rewrites.RewriteKind.TheVariants as kinds
 
 -- ---- bytes of code
@@ -34,7 +29,7 @@ steps (suc n) a = steps n (sum_64 a 1)
 
 steps_are : (n a : ℕ) → a < 2 ^ 64 → steps n a ≡ sum_64 a n
 steps_are zero a small = omega arith
-steps_are (suc n) a small = steps_are n (sum_64 a 1) (below_64 a 1) ∙ one_on a n
+steps_are (suc n) a small = steps_are n (sum_64 a 1) (sum_below a 1) ∙ one_on a n
 
 skip : (m n : ℕ) (code : ℕ → ℕ) (a : ℕ) → drop m (bytes_at (plus m n) code a) ≡ bytes_at n code (steps m a)
 skip zero n code a = refl
@@ -112,7 +107,7 @@ call_group c o m n more kind address number k k' s s' argument returns are leave
     holds_of (run (suc more) (machine c.others c.new) t) (Agree (link c) k' s') l.state l.goes_there
     (agree_new (link c) k' s' (put 0 number next t) l.state
     (agree_open (link c) (with_register 0 kind k) k' (put 0 address next s) s' (put 0 number next t)
-    (agree_put (link c) k s t 0 kind address number next next agree (below_64 s.pc n) refl are)
+    (agree_put (link c) k s t 0 kind address number next next agree (sum_below s.pc n) refl are)
     returns.changes) l.pc l.memory l.outside l.registers))
 
 -- `mov %fs:0, %rax` of a number of bytes
@@ -235,9 +230,6 @@ by_got = (
       ∙ ap (take 13) (put_code section original o shape 13 bytes (λ o. o + 5))) refl (λ rest. refl) pointer is),
 )
 
-twenty_two : (a : ℕ) → sum_64 (sum_64 a 13) 9 ≡ sum_64 a 22
-twenty_two a = omega arith
-
 in_large_model : ModuleCall 22 2 kinds.TlsLdToLocalExec64
 in_large_model = (
   refl,
@@ -264,7 +256,7 @@ in_large_model = (
             (run_first 0 (machine c.others c.new) t1 _ _
             (moves c t1 (sum_64 s.pc 13) 9 refl (ap decode second.1)
             (record { small = has.0.small; word = has.0.word }))
-            (ap (λ a. Some (put 0 (t.registers 38) a t)) (twenty_two s.pc)));
+            (ap (λ a. Some (put 0 (t.registers 38) a t)) (sum_on s.pc 13 9)));
         pc = refl;
         memory = refl;
         outside = refl;
@@ -276,9 +268,6 @@ pub are_module_calls : LocalDynamic
 are_module_calls = (by_plt, by_got, in_large_model)
 
 -- ---- general-dynamic
-
-sixteen : (a : ℕ) → sum_64 (sum_64 a 9) 7 ≡ sum_64 a 16
-sixteen a = omega arith
 
 -- the `lea` with a prefix
 general_argument : (section old rest bytes : List ℕ) (o : ℕ) (c : Code) (operands : Operands) (s : State)
@@ -335,7 +324,7 @@ to_variable offset rest c s t stands leads small here thread equal =
     (sum_64 (sum_64 s.pc 9) 7) t)
     ∙ ap₂ (λ x a. Some (put 0 x a t))
     (offset_from fs (extended f') offset (ap (λ f. extended f % 2 ^ 64) b.field ∙ leads)
-    ∙ ap (λ fs. sum_64 fs offset) equal) (sixteen s.pc)))
+    ∙ ap (λ fs. sum_64 fs offset) equal) (sum_on s.pc 9 7)))
 
 to_local_exec : ToLocalExec
 to_local_exec c s section old new o operands before there matches was is at at' k k' s' pointer any returns =
@@ -397,15 +386,12 @@ to_local_exec_large c s section old new o operands before there matches was is a
           (run_first 0 (machine c.others c.new) t2 _ _
           (goes c.others (bytes_at 15 c.new (sum_64 s.pc 16)) t2
           (record { instruction = nop; size = 6 }) (ap decode third.1))
-          (ap (λ a. Some (put 0 address a t)) (sixteen_and_six s.pc)));
+          (ap (λ a. Some (put 0 address a t)) (sum_on s.pc 16 6)));
       pc = refl;
       memory = refl;
       outside = refl;
       registers = λ r. inr refl;
     })
-  where
-    sixteen_and_six : (a : ℕ) → sum_64 (sum_64 a 16) 6 ≡ sum_64 a 22
-    sixteen_and_six a = omega arith
 
 to_initial_exec : ToInitialExec
 to_initial_exec entry small c s section old new o operands before there matches was is at at' k k' s' pointer
@@ -456,7 +442,7 @@ to_initial_exec entry small c s section old new o operands before there matches 
           (run_first 0 (machine c.others c.new) t1 _ _
           (goes c.others (bytes_at 15 c.new (sum_64 s.pc 9)) t1
           (record { instruction = add; size = 7 }) (ap decode b.is)) refl);
-      pc = sixteen s.pc;
+      pc = sum_on s.pc 9 7;
       memory = refl;
       outside = refl;
       registers = λ r. elim (cases_Bool (is_flag r)) [

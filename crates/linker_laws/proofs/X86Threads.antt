@@ -1,7 +1,5 @@
 -- General-dynamic and local-exec TLS.
-use Rattle.std.proofs.Common.{◌≡◌, ℕ, ◌+◌, ◌-◌, ◌%◌, ◌^◌, ◌<◌, ◌≤◌, List, [], ◌∷◌, ◌++◌, map, take, drop, sym, ◌∙◌, ap, arith, refl, pos, true, false, eqb, bit_and, IsTrue, inl, inr, leb, ◌&&◌, ◌||◌, ℤ, Some}
-use Rattle.linker_laws.proofs.Imports.{IsApplied, w64, cast_unsigned, All, and_parts, false≢true, leb-true, or_cases, or-false, All-head, All-tail, All-drop, rewritten, number_of_bytes, sum_64, difference_64, puts, begins, byte, is_at, is_one_at, original, field4, lea_rdi, Original, Operands}
-use Rattle.linker_utils.specs.X86Rewrites.{general_dynamic}
+use Rattle.linker_laws.proofs.Imports.{◌≡◌, ℕ, ◌+◌, ◌-◌, ◌%◌, ◌^◌, ◌<◌, ◌≤◌, List, [], ◌∷◌, ◌++◌, map, take, drop, sym, ◌∙◌, ap, arith, refl, pos, true, false, eqb, bit_and, IsTrue, inl, inr, leb, ◌&&◌, ◌||◌, ℤ, Some, IsApplied, w64, cast_unsigned, All, and_parts, false≢true, leb-true, or_cases, or-false, All-head, All-tail, All-drop, rewritten, number_of_bytes, sum_64, difference_64, puts, begins, byte, is_at, is_one_at, original, field4, lea_rdi, Original, Operands, general_dynamic}
 use Rattle.linker_laws.specs.X86RewriteLaws.{IsBefore, thread_offset}
 use Rattle.linker_laws.specs.X86Groups.{HasThreadPointer}
 use Rattle.linker_laws.specs.X86Machine.{State, load, extended}

@@ -1,7 +1,5 @@
 -- Operations whose operands are the same numbers.
-use Rattle.std.proofs.Common.{◌≡◌, ℕ, ◌+◌, ◌*◌, ◌/◌, ◌%◌, ◌^◌, ◌<◌, sym, ◌∙◌, ap, arith, inl, inr, ◌⊎◌, subst, Bool, if◌then◌else◌}
-use Rattle.std.proofs.lemmas.Nat.{and_comm}
-use Rattle.linker_elf.specs.Value.{sum_64}
+use Rattle.linker_laws.proofs.Imports.{◌≡◌, ℕ, ◌+◌, ◌*◌, ◌/◌, ◌%◌, ◌^◌, ◌<◌, sym, ◌∙◌, ap, arith, inl, inr, ◌⊎◌, subst, Bool, if◌then◌else◌, and_comm, sum_64}
 use Rattle.linker_laws.specs.X86Machine.{State, Operation, MOV, TEST, register, relative, immediate, operate, execute, perform, operand_value, load, extended, logic_flags, lea, with_register, operate_into, result, flags_after}
 
 abbrev execute_lea : ℕ → ℕ → ℕ → ℕ → State → State

@@ -1,9 +1,7 @@
 -- The laws of LoongArch.
-use Rattle.linker_laws.proofs.Imports.{bits_from, w64, cast_signed, window_of, loongarch_form, Shift10, sum_64, difference_64, Operands, is_jirl}
-use Rattle.std.proofs.Common.{refl, ap, sym, ◌∙◌, arith, true, false, not, Bool, ◌≡◌, ◌^◌, ◌<◌, ℕ}
+use Rattle.linker_laws.proofs.Imports.{refl, ap, sym, ◌∙◌, arith, true, not, ◌≡◌, ◌^◌, ◌<◌, ℕ, bits_from, w64, cast_signed, window_of, loongarch_form, Shift10, sum_64, difference_64, Operands, is_jirl, loongarch_rows, symbol_address, entry_and_addend, tls_base, place, AreAddresses, none, of_words}
+use Rattle.linker_laws.specs.Schemes.{zero}
 use Rattle.linker_elf.specs.declared.loongarch64.relocations.LoongArch64Relocation.TheVariants.{R_LARCH_B16, R_LARCH_PCALA_LO12}
-use Rattle.linker_elf.proofs.RowsAgree.{loongarch_rows}
-use Rattle.linker_laws.specs.Schemes.{symbol_address, entry_and_addend, tls_base, place, zero, AreAddresses, none, of_words}
 use Rattle.linker_laws.proofs.Applied.{reads, value_is, aligned_low}
 use Rattle.linker_laws.proofs.Differences.{adds_distance, adds_distance_6}
 use Rattle.linker_laws.proofs.Rounded.{relative_rounds, unrounded}
@@ -12,10 +10,7 @@ use Rattle.linker_laws.proofs.Instructions.{adds, symbol_from_place, plt_from_pl
 use Rattle.linker_laws.proofs.LoongArchAddresses.{page_pairs, page_jumps, two_parts, rounded_parts, four_parts, five_parts, calls_far, high_parts}
 use Rattle.linker_laws.proofs.Sums.{difference_below, sum_below, multiple_part}
 use Rattle.linker_laws.proofs.relocations.loongarch64.Goals as goal
-
-is_false : (is : Bool) → not is ≡ true → is ≡ false
-is_false true h = cc
-is_false false h = refl
+use Rattle.linker_laws.proofs.X86Bytes.{is_false}
 
 pub returns-clause-relative : goal.returns-clause-relative
 returns-clause-relative c = (

@@ -1,10 +1,6 @@
 -- The laws of AArch64.
-use Rattle.std.proofs.Common.{◌≡◌, ℕ, ◌+◌, refl, ◌∙◌, ap, arith, drop, take, length, ◌++◌, subst, Some, ◌-◌, List}
+use Rattle.linker_laws.proofs.Imports.{◌≡◌, ℕ, ◌+◌, refl, ◌∙◌, ap, arith, drop, take, length, ◌++◌, subst, Some, ◌-◌, List, length-take-le, append_assoc, Rewrite, ReplaceWithNop, MovzXnLsl16, MovkXn, LdrToAdd, place_sum, rewrite_window, NoOp, MovzX0Lsl16, MovkX0, AdrpToAdr, AdrpX0, LdrX0, AddToAdr, LdrToAdr, AdrpAddToNopAdr}
 use Rattle.std.proofs.Math.Seq.{drop-append_seam, take-append_seam}
-use Rattle.linker_laws.proofs.Imports.{length-take-le, append_assoc, Rewrite, ReplaceWithNop, MovzXnLsl16, MovkXn, LdrToAdd}
-use Rattle.linker_base.specs.Form.{place_sum}
-use Rattle.linker_base.specs.Rewrite.{rewrite_window}
-use Rattle.linker_utils.specs.declared.aarch64.rewrites.RewriteKind.TheVariants.{NoOp, MovzX0Lsl16, MovkX0, AdrpToAdr, AdrpX0, LdrX0, AddToAdr, LdrToAdr, AdrpAddToNopAdr}
 use Rattle.linker_laws.specs.AArch64RewriteLaws.{BeginsRewrittenAt}
 use Rattle.linker_laws.specs.AArch64RewriteLaws as aarch64_laws
 use Rattle.linker_laws.proofs.rewrites.aarch64.Goals as goal
